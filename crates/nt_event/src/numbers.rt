@@ -1,0 +1,25 @@
+//! Places in a script's lists, each from 0.
+
+/// A processor, below the script's count of processors.
+#[derive(Clone, Copy, PartialEq, Eq, PartialOrd, Ord, Debug)]
+pub struct CpuNo(pub u8);
+
+/// A place in the script's list of threads.
+#[derive(Clone, Copy, PartialEq, Eq, PartialOrd, Ord, Debug)]
+pub struct ThreadNo(pub u16);
+
+/// A place in the script's list of DPC objects.
+#[derive(Clone, Copy, PartialEq, Eq, PartialOrd, Ord, Debug)]
+pub struct DpcNo(pub u16);
+
+/// A place in the script's list of APC objects.
+#[derive(Clone, Copy, PartialEq, Eq, PartialOrd, Ord, Debug)]
+pub struct ApcNo(pub u16);
+
+/// A place in the script's list of timers.
+#[derive(Clone, Copy, PartialEq, Eq, PartialOrd, Ord, Debug)]
+pub struct TimerNo(pub u16);
+
+/// A place in the script's list of routines.
+#[derive(Clone, Copy, PartialEq, Eq, PartialOrd, Ord, Debug)]
+pub struct RoutineNo(pub u16);
