@@ -3,16 +3,25 @@
 // where the object tells them, and counts of bytes and of faults.
 #![tactic(auto)]
 
+mod calls;
 mod error;
 mod gate;
+mod memory_sink;
+mod memory_source;
 mod reading;
 mod sink;
 mod source;
+mod streams;
+#[cfg(test)]
+mod tests;
 mod writing;
 
 pub use error::{Failed, ReadRefusal, WriteFault};
 pub use gate::{Gate, OpenGate};
+pub use memory_sink::MemorySink;
+pub use memory_source::MemorySource;
 pub use reading::read_all;
 pub use sink::Sink;
 pub use source::Source;
+pub use streams::{StdSink, StdSource};
 pub use writing::write_all;
