@@ -1,5 +1,5 @@
 // The whole input as one list of bytes.
-ghost use Rattle.std.specs.Prelude.{◌≡◌, ◌≢◌, ◌+◌, ◌<◌, ◌≤◌, List, ℕ, take, drop, vec_len, Ok, Err, IsErrOf, IfOk, OnOk, OnErr};
+ghost use Rattle.std.specs.Prelude.{◌≡◌, ◌≢◌, ◌+◌, ◌<◌, ◌≤◌, List, ℕ, take, drop, vec_len, Ok, Err, IsErrOf, IfOk, IfSome, OnOk, OnErr};
 ghost use Rattle.std.specs.Io.KnownBytes.{prepend_known, IsAtEnd};
 ghost use Rattle.nt_outside.specs.Bytes.{moved, IsLonger};
 ghost use Rattle.nt_outside.specs.Counts.{last_count, counted, Rose, RoseBy};
@@ -21,6 +21,7 @@ pub fn read_all<S: Source>(
     source: &mut S,
     limit: usize,
 ) -> Result<Vec<u8>, ReadRefusal>
+    ensures whole { IfOk result (λ v. IfSome (S.left source.old) (λ left. v.items ≡ left)) }
     ensures bytes { IfOk result (λ v. S.left source.old ≡ prepend_known v.items (S.left source.new)) }
     ensures end { OnOk result (IsAtEnd (S.left source.new)) }
     ensures limit { IfOk result (λ v. vec_len v ≤ limit) }

@@ -127,5 +127,12 @@ fn standard_streams(rt: HostRuntime) -> Result<(), Fail> {
 
 #[test]
 fn open_gate() {
-    OpenGate.pass(0, 0);
+    pass_all(&OpenGate);
+}
+
+// Passes a gate that workers on several threads share.
+fn pass_all<G: Gate + Sync>(gate: &G) {
+    for cpu in 0..8 {
+        gate.pass(cpu, 160_000);
+    }
 }
