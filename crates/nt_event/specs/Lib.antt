@@ -21,3 +21,4 @@ pub mod Eligible
 pub mod Fate
 pub mod LaneStates
 pub mod Laws
+pub mod Acting
