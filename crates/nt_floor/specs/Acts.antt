@@ -73,15 +73,6 @@ pub record IsActed (s : Script) (f : Found) (st : Stand) (job : Job) (a : Acted)
   pub due_fits : IfSome a.due (λ due. due < 2 ^ 51)
   pub told : (c : ℕ) → c < 16 → value_at a.told.value c ≡ raised (asks_in s st a.event.what f.lanes st.cpu c) a.number (told_over f.told (what_lanes s st a.event.what f.lanes) st.cpu c)
 
--- these are the states, where they are told
-abbrev pub Tells : Option Lanes → Lanes → Type 0
-Tells None l = Unit {0}
-Tells (Some m) l = m ≡ l
-
--- the asks of the event that an act made
-abbrev pub acted_asks : Script → Found → Stand → Acted → CpuNo → ℕ → Bool
-acted_asks s f st a p c = asks_in s st a.event.what f.lanes p c
-
 -- ---- refusals
 
 -- why no event was made: nothing is to be done, of an idle processor that has no ordinary DPC and a ready thread; or the
