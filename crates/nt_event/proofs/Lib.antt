@@ -3,3 +3,5 @@ pub mod Moves
 pub mod Options
 pub mod Steps
 pub mod Turns
+pub mod Levels
+pub mod Running
