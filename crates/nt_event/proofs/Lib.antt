@@ -1,2 +1,7 @@
 pub mod Tables
 pub mod Moves
+pub mod Options
+pub mod Steps
+pub mod Turns
+pub mod Levels
+pub mod Running

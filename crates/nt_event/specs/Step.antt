@@ -18,7 +18,7 @@ use Rattle.nt_event.specs.Jobs.{job_event, may_switch, next_what}
 use Rattle.nt_event.specs.Lanes.{Lanes, lanes_at}
 use Rattle.nt_event.specs.Own.{Own, own_of, standing_in}
 use Rattle.nt_event.specs.Requests.{asks}
-use Rattle.nt_event.specs.Words.{value_at, when}
+use Rattle.nt_event.specs.Words.{cpu, thread, value_at, when}
 
 -- ---- an event
 
@@ -26,6 +26,10 @@ abbrev pub thread_field : What → Option ThreadNo → Option ThreadNo
 thread_field (Switch t status) r = Some t
 thread_field (Look x) r = None
 thread_field w r = r
+
+abbrev pub is_look : What → Bool
+is_look (Look r) = true
+is_look w = false
 
 -- the event without its level
 abbrev pub unleveled : CpuNo → What → Frames → Event
