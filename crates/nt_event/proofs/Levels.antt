@@ -21,7 +21,7 @@ use Rattle.nt_event.specs.Routines.{rundown_of}
 use Rattle.nt_event.specs.Step.{IsLegal, event_at, is_look, level_field, unleveled}
 use Rattle.nt_event.specs.Words.{head_of, is_by, is_of, table, table_from, thread}
 use Rattle.nt_event.proofs.Moves.{frames_move}
-use Rattle.nt_event.proofs.Steps.{named, step_gives}
+use Rattle.nt_event.proofs.Steps.{step_gives}
 
 -- the level of the innermost frame of a part
 head_level : List Frame → Option ℕ

@@ -5,3 +5,5 @@ pub mod Steps
 pub mod Turns
 pub mod Levels
 pub mod Running
+pub mod OwnPart
+pub mod Robin

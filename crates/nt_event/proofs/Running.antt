@@ -27,7 +27,7 @@ use Rattle.nt_event.specs.Script.{has_thread}
 use Rattle.nt_event.specs.Step.{IsLegal, IsRun, step, thread_field, turn_at}
 use Rattle.nt_event.specs.Words.{is_by, is_of, is_thread, thread}
 use Rattle.nt_event.proofs.Options.{both}
-use Rattle.nt_event.proofs.Steps.{Gives, named, step_gives, switch_gives}
+use Rattle.nt_event.proofs.Steps.{Gives, step_gives, switch_gives}
 use Rattle.nt_event.proofs.Tables.{get_or-table}
 
 -- ---- what an event leaves of a thread's frames

@@ -1,6 +1,7 @@
 -- Laws over the definitions, each the contract of a function in laws.rt.
-use Rattle.std.specs.Prelude.{List, Some, [], false, if◌then◌else◌, length, true, ℕ, ◌∷◌, ◌≡◌}
+use Rattle.std.specs.Prelude.{List, Ok, Some, [], false, if◌then◌else◌, length, true, ℕ, ◌∷◌, ◌≡◌}
 use Rattle.nt_event.specs.declared.events.Event.{Event}
+use Rattle.nt_event.specs.declared.events.Turn.{Turn}
 use Rattle.nt_event.specs.declared.frames.Body.TheVariants.{Base as OnBase}
 use Rattle.nt_event.specs.declared.frames.Frame.{Frame}
 use Rattle.nt_event.specs.declared.numbers.CpuNo.{CpuNo}
@@ -11,9 +12,10 @@ use Rattle.nt_event.specs.Lanes.{lanes_after, lanes_at}
 use Rattle.nt_event.specs.Own.{own_after_event, own_of}
 use Rattle.nt_event.specs.Regions.{stand_at}
 use Rattle.nt_event.specs.Requests.{asks, told}
+use Rattle.nt_event.specs.Robin.{robin}
 use Rattle.nt_event.specs.Routines.{cpu_of}
 use Rattle.nt_event.specs.Script.{has_thread}
-use Rattle.nt_event.specs.Step.{IsLegal, IsRun, is_look, turns}
+use Rattle.nt_event.specs.Step.{IsLegal, IsRun, is_look, step, turn_of, turns}
 use Rattle.nt_event.specs.Words.{is_of}
 
 -- what a processor keeps moves as the history does
@@ -45,3 +47,11 @@ HasBase t (f ∷ (g ∷ fs)) = IsInner f × HasBase t (g ∷ fs)
 -- in a run, the thread that runs on a processor is one of its own, and has its base frame
 abbrev pub RunningHasBase : Type 0
 RunningHasBase = (s : Script) (limit : ℕ) (p : CpuNo) (t : ThreadNo) (past : List Event) → IsRun s limit past → running p past ≡ Some t → ((cpu_of s t).0 ≡ p.0) × (has_thread s t ≡ true) × HasBase t (thread_part (frames_of s p past))
+
+-- a run goes on by a step, and the event has the turn that gave it
+abbrev pub RunGrows : Type 0
+RunGrows = (s : Script) (limit : ℕ) (t : Turn) (past : List Event) (e : Event) → IsRun s limit past → step s limit t past ≡ Ok e → IsRun s limit (e ∷ past) × (turn_of e ≡ t)
+
+-- the turn of the robin rule is accepted
+abbrev pub RobinIsAccepted : Type 0
+RobinIsAccepted = (s : Script) (limit : ℕ) (past : List Event) (t : Turn) → IsRun s limit past → robin s limit past ≡ Some t → (e : Event) × (step s limit t past ≡ Ok e)
