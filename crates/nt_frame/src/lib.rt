@@ -1,0 +1,4 @@
+//! Frames.
+#![tactic(auto)]
+
+mod part;
