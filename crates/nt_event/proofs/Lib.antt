@@ -7,3 +7,4 @@ pub mod Levels
 pub mod Running
 pub mod OwnPart
 pub mod Robin
+pub mod Settled

@@ -376,7 +376,7 @@ robin_of_accepted s limit p past r below =
     holds_when (λ t. Accepts s limit t past) (not (is_cut limit (own_of s (cpu p) past))) _ (λ h. robin_at_accepted s limit (cpu p) past r (lt-ltb p s.cpus below) (not_true (is_cut limit (own_of s (cpu p) past)) h))
 
 -- the one after p in the cycle
-cycle_below : (s : Script) (p : ℕ) → p < s.cpus → (if suc p == s.cpus then 0 else suc p) < s.cpus
+pub cycle_below : (s : Script) (p : ℕ) → p < s.cpus → (if suc p == s.cpus then 0 else suc p) < s.cpus
 cycle_below s p h = go (suc p == s.cpus) refl
   where
     go : (b : Bool) → (suc p == s.cpus) ≡ b → (if b then 0 else suc p) < s.cpus

@@ -216,7 +216,7 @@ unnamed_by s limit p t e past (Switch u st) k b own g x =
     absurd (not_itself t (subst (λ (o : Option ThreadNo). is_thread o t ≡ false) (named ∙ ap (λ (v : ThreadNo). Some v) same) b))
 unnamed_by s limit p t e past w k b own g x = kept w (running p past) t refl x
 
-same_cpu : (e : Event) (p : CpuNo) → is_of e p ≡ true → e.cpu ≡ p
+pub same_cpu : (e : Event) (p : CpuNo) → is_of e p ≡ true → e.cpu ≡ p
 same_cpu e p h =
     let n : e.cpu.0 ≡ p.0 = eqb-true e.cpu.0 p.0 h in ap (λ (k : ℕ). record { 0 = k }) n
 

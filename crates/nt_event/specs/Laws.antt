@@ -1,5 +1,5 @@
 -- Laws over the definitions, each the contract of a function in laws.rt.
-use Rattle.std.specs.Prelude.{List, Ok, Some, [], false, if◌then◌else◌, length, true, ℕ, ◌∷◌, ◌≡◌}
+use Rattle.std.specs.Prelude.{List, None, Ok, Some, [], false, if◌then◌else◌, length, true, ℕ, ◌↔◌, ◌∷◌, ◌≡◌, ◌≤◌}
 use Rattle.nt_event.specs.declared.events.Event.{Event}
 use Rattle.nt_event.specs.declared.events.Turn.{Turn}
 use Rattle.nt_event.specs.declared.frames.Body.TheVariants.{Base as OnBase}
@@ -11,8 +11,8 @@ use Rattle.nt_event.specs.Frames.{due_of, frames_of, is_base_body, level_in, run
 use Rattle.nt_event.specs.Lanes.{lanes_after, lanes_at}
 use Rattle.nt_event.specs.Own.{own_after_event, own_of}
 use Rattle.nt_event.specs.Regions.{stand_at}
-use Rattle.nt_event.specs.Requests.{asks, told}
-use Rattle.nt_event.specs.Robin.{robin}
+use Rattle.nt_event.specs.Requests.{asked, asks, seen, told}
+use Rattle.nt_event.specs.Robin.{is_settled, robin}
 use Rattle.nt_event.specs.Routines.{cpu_of}
 use Rattle.nt_event.specs.Script.{has_thread}
 use Rattle.nt_event.specs.Step.{IsLegal, IsRun, is_look, step, turn_of, turns}
@@ -55,3 +55,11 @@ RunGrows = (s : Script) (limit : ℕ) (t : Turn) (past : List Event) (e : Event)
 -- the turn of the robin rule is accepted
 abbrev pub RobinIsAccepted : Type 0
 RobinIsAccepted = (s : Script) (limit : ℕ) (past : List Event) (t : Turn) → IsRun s limit past → robin s limit past ≡ Some t → (e : Event) × (step s limit t past ≡ Ok e)
+
+-- in a run, what was noticed was asked
+abbrev pub SeenWasAsked : Type 0
+SeenWasAsked = (s : Script) (limit : ℕ) (p : CpuNo) (c : ℕ) (past : List Event) → IsRun s limit past → seen s p c past ≤ asked s p c past
+
+-- in a run, the robin rule has no turn exactly where the history is settled
+abbrev pub RobinEndsSettled : Type 0
+RobinEndsSettled = (s : Script) (limit : ℕ) (past : List Event) → IsRun s limit past → (robin s limit past ≡ None) ↔ (is_settled s limit past ≡ true)

@@ -1,5 +1,5 @@
 //! Laws over the definitions. Each function's contract is a law; the functions do nothing.
-ghost use Rattle.nt_event.specs.Laws.{OwnMoves, LanesMove, TurnsDecide, RunGrows, LevelsHold, RunningHasBase, RobinIsAccepted};
+ghost use Rattle.nt_event.specs.Laws.{OwnMoves, LanesMove, TurnsDecide, RunGrows, LevelsHold, RunningHasBase, RobinIsAccepted, SeenWasAsked, RobinEndsSettled};
 
 /// What a processor keeps moves as the history does: an event of its own changes it as the definitions of the step say, by the
 /// event's number, its due time, its asks and what its lanes tell; an event of another processor leaves it.
@@ -35,4 +35,14 @@ pub fn running_has_base()
 /// In a run the turn of the robin rule is accepted.
 pub fn robin_is_accepted()
     ensures { RobinIsAccepted }
+{}
+
+/// In a run what a processor noticed of a class was asked for it.
+pub fn seen_was_asked()
+    ensures { SeenWasAsked }
+{}
+
+/// In a run the robin rule has no turn exactly where the history is settled.
+pub fn robin_ends_settled()
+    ensures { RobinEndsSettled }
 {}
