@@ -1,5 +1,5 @@
 -- What a script declares, and when it fits: it meets the limits, and each number in it names a thing of its list.
-use Rattle.std.specs.Prelude.{ℕ, ◌+◌, Bool, true, false, ◌&&◌, ◌||◌, not, ◌==◌, nat_lt, nat_le, List, [], ◌∷◌, length, sum_by, find, Option, option_map, is_some, is_none}
+use Rattle.std.specs.Prelude.{ℕ, Bool, true, ◌&&◌, ◌||◌, not, ◌==◌, nat_lt, nat_le, List, [], ◌∷◌, length, sum_by, find, Option, option_map, is_some, is_none}
 use Rattle.std.specs.List.{list_all, list_any}
 use Rattle.std.specs.Option.{option_map_or}
 use Rattle.nt_event.specs.declared.numbers.CpuNo.{CpuNo}
@@ -66,13 +66,13 @@ command_count = sum_by (λ r. length r.commands)
 abbrev pub meets_limits : Script → Bool
 meets_limits s =
     nat_le 1 s.cpus && nat_le s.cpus 64
-        && where_given (λ depth. nat_le depth 256) s.depth
-        && nat_le (length s.threads) 64
-        && nat_le (length s.timers) 64
-        && nat_le (length s.dpcs) 256
-        && nat_le (length s.apcs) 256
-        && nat_le (length s.routines) 256
-        && nat_le (command_count s.routines) 8192
+    && where_given (λ depth. nat_le depth 256) s.depth
+    && nat_le (length s.threads) 64
+    && nat_le (length s.timers) 64
+    && nat_le (length s.dpcs) 256
+    && nat_le (length s.apcs) 256
+    && nat_le (length s.routines) 256
+    && nat_le (command_count s.routines) 8192
 
 abbrev pub isr_fits : Script → Isr → Bool
 isr_fits s isr = has_cpu s isr.cpu && is_isr_level isr.level && has_routine s isr.routine
@@ -104,9 +104,9 @@ apc_has_its_routines User normal rundown = is_some normal
 abbrev pub apc_fits : Script → ApcDecl → Bool
 apc_fits s a =
     has_thread s a.thread && has_routine s a.kernel
-        && where_given (has_routine s) a.normal
-        && where_given (has_routine s) a.rundown
-        && apc_has_its_routines a.kind a.normal a.rundown
+    && where_given (has_routine s) a.normal
+    && where_given (has_routine s) a.rundown
+    && apc_has_its_routines a.kind a.normal a.rundown
 
 -- each number in a command names a thing of its list, and `interrupt` requests a level that it may
 abbrev pub command_fits : Script → Command → Bool
@@ -130,10 +130,10 @@ routine_fits s r = list_all (command_fits s) r.commands
 abbrev pub fits : Script → Bool
 fits s =
     meets_limits s
-        && list_all (isr_fits s) s.isrs
-        && isrs_differ s.isrs
-        && list_all (dpc_fits s) s.dpcs
-        && list_all (timer_fits s) s.timers
-        && list_all (thread_fits s) s.threads
-        && list_all (apc_fits s) s.apcs
-        && list_all (routine_fits s) s.routines
+    && list_all (isr_fits s) s.isrs
+    && isrs_differ s.isrs
+    && list_all (dpc_fits s) s.dpcs
+    && list_all (timer_fits s) s.timers
+    && list_all (thread_fits s) s.threads
+    && list_all (apc_fits s) s.apcs
+    && list_all (routine_fits s) s.routines

@@ -30,29 +30,61 @@ pub enum Begun {
 #[derive(Clone, Copy, PartialEq, Eq, Debug)]
 pub enum What {
     /// A routine calls a command.
-    Call { frame: u64, command: Command, reply: Reply },
+    Call {
+        frame: u64,
+        command: Command,
+        reply: Reply,
+    },
     /// The processor notices requests.
-    Look { rises: Rises },
+    Look {
+        rises: Rises,
+    },
     /// A routine begins.
-    Begin { begun: Begun, from: u64 },
+    Begin {
+        begun: Begun,
+        from: u64,
+    },
     /// An APC goes on from its kernel routine to its normal routine.
-    Normal { frame: u64 },
+    Normal {
+        frame: u64,
+    },
     /// A routine ends.
-    End { frame: u64 },
+    End {
+        frame: u64,
+    },
     /// A timer or delay expires.
-    Expire { key: TimerKey, from: u64 },
+    Expire {
+        key: TimerKey,
+        from: u64,
+    },
     /// An expired timer inserts its DPC object.
-    Fire { dpc: DpcNo, reply: Reply },
+    Fire {
+        dpc: DpcNo,
+        reply: Reply,
+    },
     /// The processor has served a class: 0 threaded DPCs, 1 kernel APCs, 2 dispatch.
-    Clean { class: u8 },
+    Clean {
+        class: u8,
+    },
     /// A thread is taken up, with the status of the wait that ended, if any.
-    Switch { thread: ThreadNo, status: Option<u32> },
+    Switch {
+        thread: ThreadNo,
+        status: Option<u32>,
+    },
     /// A wait that a kernel APC interrupted is taken up again.
-    Rewait { frame: u64, reply: Reply },
+    Rewait {
+        frame: u64,
+        reply: Reply,
+    },
     /// A thread that ends gives up a user APC.
-    Flush { apc: ApcNo, from: u64 },
+    Flush {
+        apc: ApcNo,
+        from: u64,
+    },
     /// A thread is gone.
-    Gone { thread: ThreadNo },
+    Gone {
+        thread: ThreadNo,
+    },
     /// The processor has nothing to do.
     Rest,
 }

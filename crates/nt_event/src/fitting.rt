@@ -3,13 +3,18 @@ ghost use Rattle.std.specs.Prelude.{◌≡◌, nat_le};
 ghost use Rattle.std.specs.List.{list_all};
 ghost use Rattle.nt_event.specs.Script as spec;
 
-use crate::{ApcDecl, ApcKind, ApcNo, Command, CpuNo, DpcDecl, DpcNo, Isr, Level, Routine, RoutineNo, Script, ThreadDecl, ThreadNo, TimerDecl, TimerNo};
+use crate::{
+    ApcDecl, ApcKind, ApcNo, Command, CpuNo, DpcDecl, DpcNo, Isr, Level, Routine, RoutineNo,
+    Script, ThreadDecl, ThreadNo, TimerDecl, TimerNo,
+};
 
 pub(crate) fn isr_in(isrs: &[Isr], cpu: CpuNo, level: Level) -> Option<RoutineNo>
     ensures { result ≡ spec.isr_of isrs.now cpu level }
 {
     let level = level.number();
-    isrs.iter().find(|isr| isr.cpu.0 == cpu.0 && isr.level.number() == level).map(|isr| isr.routine)
+    isrs.iter()
+        .find(|isr| isr.cpu.0 == cpu.0 && isr.level.number() == level)
+        .map(|isr| isr.routine)
 }
 
 fn has_cpu(script: &Script, cpu: CpuNo) -> bool
@@ -125,7 +130,8 @@ fn stands_in(isrs: &[Isr], cpu: CpuNo, level: Level) -> bool
     ensures { result ≡ spec.stands_in isrs.now cpu level }
 {
     let level = level.number();
-    isrs.iter().any(|isr| isr.cpu.0 == cpu.0 && isr.level.number() == level)
+    isrs.iter()
+        .any(|isr| isr.cpu.0 == cpu.0 && isr.level.number() == level)
 }
 
 pub(crate) fn isrs_differ(isrs: &[Isr]) -> bool
@@ -217,7 +223,9 @@ fn command_fits(script: &Script, command: &Command) -> bool
     ensures { result ≡ spec.command_fits script.now command.now }
 {
     match command {
-        Command::Queue(dpc) | Command::Unqueue(dpc) | Command::SetImportance(dpc, _) => has_dpc(script, *dpc),
+        Command::Queue(dpc) | Command::Unqueue(dpc) | Command::SetImportance(dpc, _) => has_dpc(
+            script, *dpc,
+        ),
         Command::SetTarget(dpc, target) => has_dpc(script, *dpc) && target_fits(script, *target),
         Command::SetTimer(timer, _, _) | Command::CancelTimer(timer) => has_timer(script, *timer),
         Command::InsertApc(apc) | Command::RemoveApc(apc) => has_apc(script, *apc),

@@ -14,6 +14,8 @@ mod lists;
 mod numbers;
 mod plans;
 mod scripts;
+#[cfg(test)]
+mod tests;
 
 pub use commands::{ApcKind, Command, Importance, Mode, Refusal, Regions, Reply, TimerKey};
 pub use events::{Begun, Event, History, Rises, ScheduleKind, Turn, What};

@@ -1,5 +1,8 @@
 //! Scripts: what is declared, and when a script fits.
-use crate::fitting::{apcs_fit, dpcs_fit, isr_in, isrs_differ, isrs_fit, meets_limits, routines_fit, threads_fit, timers_fit};
+use crate::fitting::{
+    apcs_fit, dpcs_fit, isr_in, isrs_differ, isrs_fit, meets_limits, routines_fit, threads_fit,
+    timers_fit,
+};
 use crate::{ApcKind, Command, CpuNo, DpcNo, Items, RoutineNo, ThreadNo};
 use nt_level::Level;
 
