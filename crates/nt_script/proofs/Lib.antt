@@ -17,3 +17,4 @@ pub mod Both
 pub mod Kept
 pub mod Soundness
 pub mod Contract
+pub mod Printed
