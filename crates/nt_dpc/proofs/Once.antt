@@ -77,10 +77,10 @@ length-filter-each_once d count (x ∷ xs) h =
 
 -- ---- what taking an entry out leaves
 
-without_cons_yes : (d : DpcNo) (x : Insert) (xs : List Insert) → is_of_dpc d x ≡ true → without_dpc d (x ∷ xs) ≡ without_dpc d xs
+pub without_cons_yes : (d : DpcNo) (x : Insert) (xs : List Insert) → is_of_dpc d x ≡ true → without_dpc d (x ∷ xs) ≡ without_dpc d xs
 without_cons_yes d x xs e = rw e
 
-without_cons_no : (d : DpcNo) (x : Insert) (xs : List Insert) → is_of_dpc d x ≡ false → without_dpc d (x ∷ xs) ≡ x ∷ without_dpc d xs
+pub without_cons_no : (d : DpcNo) (x : Insert) (xs : List Insert) → is_of_dpc d x ≡ false → without_dpc d (x ∷ xs) ≡ x ∷ without_dpc d xs
 without_cons_no d x xs e = rw e
 
 holds_cons : (d e : DpcNo) (x : Insert) (xs : List Insert) → is_of_dpc d x ≡ false → holds_dpc d (without_dpc e xs) ≡ false → (b : Bool) → is_of_dpc e x ≡ b → holds_dpc d (without_dpc e (x ∷ xs)) ≡ false

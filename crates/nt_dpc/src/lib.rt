@@ -14,8 +14,13 @@
 #![tactic(auto)]
 
 mod entries;
+mod laws;
 mod objects;
 mod queues;
 
+pub use laws::{
+    ask_is_the_events, first_by_number, object_calls_are_events, one_entry_each,
+    queue_calls_are_events, removed_is_gone,
+};
 pub use objects::DpcObject;
 pub use queues::{DpcQueue, Inserted};
