@@ -8,3 +8,4 @@ pub mod Running
 pub mod OwnPart
 pub mod Robin
 pub mod Settled
+pub mod Chosen

@@ -276,7 +276,7 @@ next_ready_taken s p last l =
     holds_or (λ t. may_take s p t l ≡ true) (find (is_after last) (ready s p l)) (head_of (ready s p l)) (find_ready s p l (is_after last) (ready s p l) all) (λ e. head_ready s p l (ready s p l) all)
 
 -- where there is none, no thread is ready
-none_ready : (s : Script) (p : CpuNo) (last : Option ThreadNo) (l : Lanes) → next_ready s p last l ≡ None → is_null (ready s p l) ≡ true
+pub none_ready : (s : Script) (p : CpuNo) (last : Option ThreadNo) (l : Lanes) → next_ready s p last l ≡ None → is_null (ready s p l) ≡ true
 none_ready s p last l h = go (ready s p l) h
   where
     go : (ts : List ThreadNo) → option_or (find (is_after last) ts) (head_of ts) ≡ None → is_null ts ≡ true
