@@ -9,3 +9,4 @@ pub mod OwnPart
 pub mod Robin
 pub mod Settled
 pub mod Chosen
+pub mod Known
