@@ -37,13 +37,13 @@ none_of_false : (o : Option Task) → is_some o ≡ false → o ≡ None
 none_of_false None h = refl
 none_of_false (Some t) h = cc
 
-switch_parts : (o : Option ThreadNo) (a m : Bool) → (is_none o && (a && not m)) ≡ true → (o ≡ None) × (a ≡ true) × (m ≡ false)
+pub switch_parts : (o : Option ThreadNo) (a m : Bool) → (is_none o && (a && not m)) ≡ true → (o ≡ None) × (a ≡ true) × (m ≡ false)
 switch_parts None true false h = (refl, refl, refl)
 switch_parts None true true h = cc
 switch_parts None false m h = cc
 switch_parts (Some t) a m h = cc
 
-null_head : (fs : List Frame) → is_null fs ≡ true → head_of fs ≡ None
+pub null_head : (fs : List Frame) → is_null fs ≡ true → head_of fs ≡ None
 null_head [] h = refl
 null_head (f ∷ fs) h = cc
 

@@ -226,7 +226,7 @@ must_known s p x l =
 frame_stands : (p : CpuNo) (x : Own) (f : Frame) → GoesOn x f → (standing_in p x).frame ≡ f.name
 frame_stands p x f g = ap (λ (o : Option Frame). option_map_or (λ f. f.name) o 0) g.inner
 
-again_known : (p : CpuNo) (x : Own) (f : Frame) → GoesOn x f → (standing_in p x).again ≡ f.again
+pub again_known : (p : CpuNo) (x : Own) (f : Frame) → GoesOn x f → (standing_in p x).again ≡ f.again
 again_known p x f g = again_stands p x.frames x.sweep f g.inner
 
 rewait_known : (s : Script) (p : CpuNo) (x : Own) (l : Lanes) (f : Frame) → GoesOn x f → Good s p x l (Shared RewaitJob)

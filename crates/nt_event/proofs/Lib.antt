@@ -10,3 +10,7 @@ pub mod Robin
 pub mod Settled
 pub mod Chosen
 pub mod Known
+pub mod Agree
+pub mod Stops
+pub mod Facts
+pub mod UserApcs
