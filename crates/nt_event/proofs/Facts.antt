@@ -34,7 +34,7 @@ use Rattle.nt_event.specs.Frames.{Frames, at_name, called, due_of, frames_of, is
 use Rattle.nt_event.specs.Jobs.{must}
 use Rattle.nt_event.specs.Lanes.{Lanes, lanes_at}
 use Rattle.nt_event.specs.Laws.{Agrees, Says, level_of}
-use Rattle.nt_event.specs.Own.{Own, made, own_of, standing_in}
+use Rattle.nt_event.specs.Own.{Own, own_of, standing_in}
 use Rattle.nt_event.specs.Regions.{regions_of, stand_at}
 use Rattle.nt_event.specs.Routines.{cpu_of, kind_of}
 use Rattle.nt_event.specs.Step.{IsLegal, IsRun, step, thread_field, turn_at}
@@ -45,7 +45,7 @@ use Rattle.nt_event.proofs.Agree.{Ends, named_ends, runs_as, says_ended, says_sa
 use Rattle.nt_event.proofs.Chosen.{null_head, switch_parts}
 use Rattle.nt_event.proofs.Known.{Known, again_known, legal_known}
 use Rattle.nt_event.proofs.Running.{frames_when, is_switch, not_itself, part_of_running, running_here, running_own, same_cpu, same_thread, taken, thread_named, unnamed_by}
-use Rattle.nt_event.proofs.Steps.{Gives, named, switch_gives}
+use Rattle.nt_event.proofs.Steps.{Gives, switch_gives}
 use Rattle.nt_event.proofs.Stops.{NoneAgain, blocked_call, is_wait, none_again, rewait_on_thread, yield_call}
 use Rattle.nt_event.proofs.Turns.{is_next}
 
@@ -69,11 +69,11 @@ wait_keeps due (Delay m a u) h =
     record { level = λ f. refl; crit = λ f. refl; guard = λ f. refl; body = λ f. refl }
 wait_keeps due c h = cc
 
-rewait_keeps : (y : Reply) → KeepsRegions (rewaited y)
+pub rewait_keeps : (y : Reply) → KeepsRegions (rewaited y)
 rewait_keeps y =
     record { level = λ f. refl; crit = λ f. refl; guard = λ f. refl; body = λ f. refl }
 
-named_level : (n : ℕ) (g : Frame → Frame) (fs : List Frame) → KeepsRegions g → level_of (at_name n g fs) ≡ level_of fs
+pub named_level : (n : ℕ) (g : Frame → Frame) (fs : List Frame) → KeepsRegions g → level_of (at_name n g fs) ≡ level_of fs
 named_level n g [] k = refl
 named_level n g (f ∷ fs) k = go (f.name == n)
   where
@@ -172,7 +172,7 @@ made_doing s n st (Begin (Apc a) from) x h k = taken_doing (kind_of s a) a x
 made_doing s n st (End f) x h k = ended_doing st.body x
 made_doing s n st w x h k = refl
 
-if_none : (b : Bool) (r : Option ThreadNo) → b ≡ false → (if b then None else r) ≡ r
+pub if_none : (b : Bool) (r : Option ThreadNo) → b ≡ false → (if b then None else r) ≡ r
 if_none true r h = cc
 if_none false r h = refl
 

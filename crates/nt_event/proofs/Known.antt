@@ -46,7 +46,7 @@ use Rattle.nt_event.specs.Regions.{regions_of}
 use Rattle.nt_event.specs.Routines.{next_command}
 use Rattle.nt_event.specs.Step.{IsLegal, step, turn_at}
 use Rattle.nt_event.specs.Timers.{SetKey, first_due}
-use Rattle.nt_event.specs.Words.{apc, dpc, is_null, thread, value_at, when}
+use Rattle.nt_event.specs.Words.{is_null, value_at, when}
 use Rattle.nt_event.proofs.Options.{Holds, both, holds_at, holds_else, holds_find, holds_map, holds_or, holds_then, holds_when, when_gives}
 use Rattle.nt_event.proofs.Robin.{Comes, again_stands, frame_has, or_yes}
 use Rattle.nt_event.proofs.Steps.{Gives, next_gives}
@@ -202,7 +202,7 @@ threaded_known s p x l may =
     holds_else (Known s p x l) (begin_first ThreadedPart (queue_at l p)) (Clean 0) (holds_map (Known s p x l) (begin_dpc ThreadedPart) (first_dpc ThreadedPart (queue_at l p).pending) (λ i e. (may, record { insert = i; first = e; dpc = refl; number = refl }))) (λ e. inr (inr (refl, may, map_none (begin_dpc ThreadedPart) (first_dpc ThreadedPart (queue_at l p).pending) e)))
 
 -- a task whose event, if it comes, is known
-abbrev Good : Script → CpuNo → Own → Lanes → Task → Type 0
+abbrev pub Good : Script → CpuNo → Own → Lanes → Task → Type 0
 Good s p x l t = Holds (Known s p x l) (task_event s (standing_in p x) l t)
 
 interrupt_known : (s : Script) (p : CpuNo) (x : Own) (l : Lanes) → Holds (Good s p x l) (interrupt_task x)
@@ -334,7 +334,7 @@ idle_known s p x l quiet none =
     let low : level_at x < 2 = let e = level_none x none in omega (arith, e) in
     holds_or (Known s p x l) (begin_first OrdinaryPart (queue_at l p)) (when (is_null (ready s p l)) (Some Rest)) (begin_known s p x l low) (λ e. holds_when (Known s p x l) (is_null (ready s p l)) (Some Rest) (λ h. record { quiet = quiet; none = none; empty = map_none (begin_dpc OrdinaryPart) (first_dpc OrdinaryPart (queue_at l p).pending) e; unready = h }))
 
-task_known : (s : Script) (p : CpuNo) (x : Own) (l : Lanes) → Holds (Good s p x l) (task s p x)
+pub task_known : (s : Script) (p : CpuNo) (x : Own) (l : Lanes) → Holds (Good s p x l) (task s p x)
 task_known s p x l =
     holds_or (Good s p x l) (must_task x) _ (must_known s p x l) (λ e. holds_or (Good s p x l) (option_and_then (frame_task s p x) (innermost x.frames)) (idle_task x) (holds_then (Good s p x l) (frame_task s p x) (innermost x.frames) (λ f k. frame_known s p x l f (record { quiet = e; inner = k }))) (λ k. holds_when (Good s p x l) (not (x.rested && is_none x.frames.running)) (Some (Shared IdleJob)) (λ h. idle_known s p x l e (then_none s p x (innermost x.frames) k))))
 

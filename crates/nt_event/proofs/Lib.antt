@@ -14,3 +14,4 @@ pub mod Agree
 pub mod Stops
 pub mod Facts
 pub mod UserApcs
+pub mod Shared

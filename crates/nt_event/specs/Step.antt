@@ -29,7 +29,7 @@ use Rattle.nt_event.specs.Own.{Own, own_of, standing_in}
 use Rattle.nt_event.specs.Requests.{asks}
 use Rattle.nt_event.specs.Routines.{rundown_of}
 use Rattle.nt_event.specs.Threads.{doing_level}
-use Rattle.nt_event.specs.Words.{cpu, is_blocked, thread, value_at, when}
+use Rattle.nt_event.specs.Words.{is_blocked, value_at, when}
 
 -- ---- an event
 
