@@ -89,11 +89,11 @@ switched_calm n t st (f ∷ fs) h = (resumed_calm st f h.0, h.1)
 
 -- ---- calls
 
-next_test : (b : Bool) (r : Refusal) (o : Option Refusal) → refuse b r o ≡ None → o ≡ None
+pub next_test : (b : Bool) (r : Refusal) (o : Option Refusal) → refuse b r o ≡ None → o ≡ None
 next_test true r o h = cc
 next_test false r o h = h
 
-not_above_gives : (n level : ℕ) → not_above n level None ≡ None → level ≤ n
+pub not_above_gives : (n level : ℕ) → not_above n level None ≡ None → level ≤ n
 not_above_gives n level h = ltb-false n level (refuse_none (nat_lt n level) TooHigh None h)
 
 -- an accepted wait is called at APC_LEVEL or below

@@ -262,7 +262,7 @@ runs_unnamed s limit p t e past own b g h = go e.what refl
         absurd (not_itself t (subst (λ (o : Option ThreadNo). is_thread o t ≡ false) named b))
 
 -- the facts after an event
-facts_made : (s : Script) (t : ThreadNo) (e : Event) (past : List Event) (b : Bool) → is_of_thread s t e ≡ b → facts s t (e ∷ past) ≡ named_facts s t (length past) e.what (if b then made_facts s (length past) (stand_at s e.cpu past) e.what (facts s t past) else facts s t past)
+pub facts_made : (s : Script) (t : ThreadNo) (e : Event) (past : List Event) (b : Bool) → is_of_thread s t e ≡ b → facts s t (e ∷ past) ≡ named_facts s t (length past) e.what (if b then made_facts s (length past) (stand_at s e.cpu past) e.what (facts s t past) else facts s t past)
 facts_made s t e past b h =
     ap (λ (c : Bool). named_facts s t (length past) e.what (if c then made_facts s (length past) (stand_at s e.cpu past) e.what (facts s t past) else facts s t past)) h
 

@@ -17,3 +17,5 @@ pub mod UserApcs
 pub mod Names
 pub mod Calm
 pub mod Shared
+pub mod Leaving
+pub mod Allowed

@@ -18,7 +18,7 @@ use Rattle.nt_event.specs.declared.numbers.ThreadNo.{ThreadNo}
 use Rattle.nt_event.specs.declared.scripts.Script.{Script}
 use Rattle.nt_event.specs.Frames.{at_name, called, done_to, due_of, end_on_thread, flushed, is_base_body, left, new_frame, normal_of, own_after, own_frames, resumed, rewaited, thread_after, thread_frames, time, without}
 use Rattle.nt_event.specs.Routines.{kind_of, rundown_of}
-use Rattle.nt_event.specs.Words.{is_by, is_of, thread}
+use Rattle.nt_event.specs.Words.{is_by, is_of}
 use Rattle.nt_event.proofs.Running.{frames_when}
 
 -- ---- names

@@ -2,7 +2,7 @@
 use Rattle.std.proofs.Common.{ap, inl, inr, subst, sym, ◌∙◌}
 use Rattle.std.proofs.lemmas.Bool.{both_ways, eq-eqb, eqb-true, ltb-true}
 use Rattle.std.specs.Option.{option_map_or, option_or}
-use Rattle.std.specs.Prelude.{Bool, List, None, Option, Some, [], false, find, if◌then◌else◌, is_none, is_some, length, not, option_and_then, option_map, refl, true, ℕ, ◌&&◌, ◌-◌, ◌==◌, ◌∷◌, ◌≡◌, ◌⊎◌}
+use Rattle.std.specs.Prelude.{Bool, List, None, Option, Some, [], false, find, if◌then◌else◌, is_none, is_some, length, not, option_and_then, option_map, refl, true, ℕ, ◌&&◌, ◌-◌, ◌==◌, ◌∷◌, ◌≡◌}
 use Rattle.nt_event.specs.declared.commands.ApcKind.TheVariants.{User as UserApc}
 use Rattle.nt_event.specs.declared.commands.Command.{Command}
 use Rattle.nt_event.specs.declared.commands.Command.TheVariants.{Delay, EnterCrit, EnterGuard, LeaveCrit, LeaveGuard, Lower, Queue, Raise, StartWait, ToUser, Yield}
@@ -47,7 +47,7 @@ use Rattle.nt_event.specs.Step.{IsRun, event_at, level_field, thread_field, unle
 use Rattle.nt_event.specs.Threads.{ThreadFacts, doing_level, ended_status, is_ready, ready_doing, start_facts}
 use Rattle.nt_event.specs.Timers.{first_due, timers_at}
 use Rattle.nt_event.specs.Waits.{facts}
-use Rattle.nt_event.specs.Words.{cpu, head_of, is_blocked, is_by, is_null, is_thread, table, tail_of, thread, value_at, when}
+use Rattle.nt_event.specs.Words.{head_of, is_blocked, is_by, is_null, is_thread, table, tail_of, thread, value_at, when}
 use Rattle.nt_event.proofs.Calm.{AllCalm, all_calm, leaving_low}
 use Rattle.nt_event.proofs.Chosen.{null_head, switch_parts}
 use Rattle.nt_event.proofs.Facts.{agree, if_none, level_on_thread, named_level, rewait_keeps}
@@ -56,7 +56,6 @@ use Rattle.nt_event.proofs.Options.{Holds, both, holds_at, holds_else, holds_map
 use Rattle.nt_event.proofs.OwnPart.{AllOwn, all_own, is_own_body}
 use Rattle.nt_event.proofs.Robin.{Comes, next_ready_taken}
 use Rattle.nt_event.proofs.Running.{part_of_running, running_has_base, running_here}
-use Rattle.nt_event.proofs.Steps.{named}
 use Rattle.nt_event.proofs.Stops.{blocked_call, none_again, rewait_on_thread, yield_call}
 use Rattle.nt_event.proofs.Tables.{get_or-table, table-same}
 use Rattle.nt_event.proofs.Turns.{NextTask, is_chosen, task_next}
@@ -184,7 +183,7 @@ abbrev Runs : Script → CpuNo → List Event → Type 0
 Runs s p past = (t : ThreadNo) × (running p past ≡ Some t)
 
 -- an innermost frame on a thread's part has a running thread
-thread_runs : (x : Frames) (f : Frame) → innermost x ≡ Some f → is_null x.own ≡ true → Comes x.running
+pub thread_runs : (x : Frames) (f : Frame) → innermost x ≡ Some f → is_null x.own ≡ true → Comes x.running
 thread_runs x f h n = go x.running refl
   where
     go : (r : Option ThreadNo) → x.running ≡ r → Comes x.running
@@ -194,7 +193,7 @@ thread_runs x f h n = go x.running refl
         let b : head_of {A = Frame} [] ≡ Some f = subst (λ (fs : List Frame). head_of fs ≡ Some f) (none_part x e) a in
         cc
 
-part_head : (x : Frames) (f : Frame) → innermost x ≡ Some f → is_null x.own ≡ true → head_of (thread_part x) ≡ Some f
+pub part_head : (x : Frames) (f : Frame) → innermost x ≡ Some f → is_null x.own ≡ true → head_of (thread_part x) ≡ Some f
 part_head x f h n =
     sym (ap (λ (o : Option Frame). option_or o (head_of (thread_part x))) (null_head x.own n)) ∙ h
 
@@ -220,7 +219,7 @@ apc_tells s limit p past a from f r h n =
     let k = thread_runs (frames_of s p past) f h n in
     thread_level s limit p past k.0 (Begin (Apc a) from) r k.1 refl k.1 n
 
-on_thread_frame : (x : Frames) → is_on_thread x ≡ true → Comes (innermost x)
+pub on_thread_frame : (x : Frames) → is_on_thread x ≡ true → Comes (innermost x)
 on_thread_frame x h = go (thread_part x) refl
   where
     k : (is_null x.own ≡ true) × (not (is_null (thread_part x)) ≡ true)
@@ -342,7 +341,7 @@ rewait_tells s limit p past n y r k = go (is_blocked y) refl
 -- ---- ends
 
 -- the innermost frame stands on the running thread's part, since nothing else stands on the own part
-not_own : (s : Script) (p : CpuNo) (past : List Event) (f : Frame) → innermost (frames_of s p past) ≡ Some f → is_own_body f.body ≡ false → is_null (own_frames p past) ≡ true
+pub not_own : (s : Script) (p : CpuNo) (past : List Event) (f : Frame) → innermost (frames_of s p past) ≡ Some f → is_own_body f.body ≡ false → is_null (own_frames p past) ≡ true
 not_own s p past f h b = go (own_frames p past) refl (all_own p past)
   where
     go : (fs : List Frame) → own_frames p past ≡ fs → AllOwn fs → is_null fs ≡ true
@@ -391,7 +390,7 @@ user_not_own b h = cc
 
 -- ---- the thread's end
 
-leaving_null : (s : Script) (p : CpuNo) (past : List Event) (f : Frame) → innermost (frames_of s p past) ≡ Some f → f.leaving ≡ true → is_null (own_frames p past) ≡ true
+pub leaving_null : (s : Script) (p : CpuNo) (past : List Event) (f : Frame) → innermost (frames_of s p past) ≡ Some f → f.leaving ≡ true → is_null (own_frames p past) ≡ true
 leaving_null s p past f h l = go (own_frames p past) refl (all_own p past)
   where
     go : (fs : List Frame) → own_frames p past ≡ fs → AllOwn fs → is_null fs ≡ true

@@ -1,6 +1,6 @@
 -- What a turn gives after a history, and runs.
 use Rattle.std.specs.List.{list_any}
-use Rattle.std.specs.Prelude.{Bool, Err, List, None, Ok, Option, Result, Some, [], false, if◌then◌else◌, is_some, length, map, nat_le, nat_lt, not, reverse, suc, true, ℕ, ◌&&◌, ◌+◌, ◌==◌, ◌||◌, ◌∷◌, ◌≡◌}
+use Rattle.std.specs.Prelude.{Bool, Err, List, None, Ok, Option, Result, Some, [], false, length, map, nat_le, nat_lt, not, reverse, suc, true, ℕ, ◌&&◌, ◌+◌, ◌==◌, ◌||◌, ◌∷◌, ◌≡◌}
 use Rattle.nt_event.specs.declared.events.Event.{Event}
 use Rattle.nt_event.specs.declared.events.Rises.{Rises}
 use Rattle.nt_event.specs.declared.events.ScheduleKind.{ScheduleKind}
@@ -18,7 +18,7 @@ use Rattle.nt_event.specs.Jobs.{job_event, may_switch, next_what}
 use Rattle.nt_event.specs.Lanes.{Lanes, lanes_at}
 use Rattle.nt_event.specs.Own.{Own, own_of, standing_in}
 use Rattle.nt_event.specs.Requests.{asks}
-use Rattle.nt_event.specs.Words.{cpu, thread, value_at, when}
+use Rattle.nt_event.specs.Words.{value_at, when}
 
 -- ---- an event
 

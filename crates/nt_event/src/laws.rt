@@ -1,6 +1,6 @@
 //! Laws over the definitions. Each function's contract is a law; the functions do nothing.
 ghost use Rattle.nt_event.specs.Laws.{OwnMoves, LanesMove, TurnsDecide, RunGrows, LevelsHold, RunningHasBase, RobinIsAccepted, SeenWasAsked, RobinEndsSettled, ChosenIsItsTurn, ChosenComes, FactsAgree};
-ghost use Rattle.nt_event.specs.Acting.{EventsAgree};
+ghost use Rattle.nt_event.specs.Acting.{EventsAgree, ProcessorsStand, JobsAllowed};
 
 /// What a processor keeps moves as the history does: an event of its own changes it as the definitions of the step say, by the
 /// event's number, its due time, its asks and what its lanes tell; an event of another processor leaves it.
@@ -68,4 +68,14 @@ pub fn facts_agree()
 /// its level too.
 pub fn events_agree()
     ensures { EventsAgree }
+{}
+
+/// In a run a processor stands as its lanes say: the thread that runs on it is one of its own, and its facts say that it runs.
+pub fn processors_stand()
+    ensures { ProcessorsStand }
+{}
+
+/// In a run a job that is due is allowed where its processor stands.
+pub fn jobs_allowed()
+    ensures { JobsAllowed }
 {}
