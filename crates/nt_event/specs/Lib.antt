@@ -17,3 +17,8 @@ pub mod Commands
 pub mod Jobs
 pub mod Step
 pub mod Robin
+pub mod Eligible
+pub mod Fate
+pub mod LaneStates
+pub mod Laws
+pub mod Acting

@@ -1,6 +1,6 @@
 -- Regions: what holds back the kernel APCs of a thread, and where a processor stands.
 use Rattle.std.specs.List.{list_any}
-use Rattle.std.specs.Option.{option_map_or}
+use Rattle.std.specs.Option.{option_map_or, option_or}
 use Rattle.std.specs.Prelude.{Bool, List, [], false, if◌then◌else◌, not, option_and_then, option_map, sum_by, ℕ, ◌&&◌, ◌==◌, ◌||◌, ◌∷◌}
 use Rattle.nt_event.specs.declared.commands.Command.TheVariants.{SetTimer}
 use Rattle.nt_event.specs.declared.commands.Regions.{Regions}
@@ -13,7 +13,7 @@ use Rattle.nt_event.specs.declared.jobs.Stand.{Stand}
 use Rattle.nt_event.specs.declared.numbers.CpuNo.{CpuNo}
 use Rattle.nt_event.specs.declared.scripts.Script.{Script}
 use Rattle.nt_event.specs.Frames.{Frames, frames_of, innermost, is_normal_apc_body, level_in, thread_part}
-use Rattle.nt_event.specs.Words.{is_answer, is_null, is_of, tail_of}
+use Rattle.nt_event.specs.Words.{head_of, is_answer, is_null, is_of, tail_of}
 
 -- how often the thread's open frames have entered a region of the kind and not left it
 abbrev pub crit_of : List Frame → ℕ
@@ -32,6 +32,15 @@ regions_of fs = record { crit = crit_of fs; guard = guard_of fs; busy = busy_of 
 -- the regions of the running thread once the innermost frame has ended
 abbrev pub below_in : Frames → Regions
 below_in x = regions_of (if is_null x.own then tail_of (thread_part x) else thread_part x)
+
+-- the level of the first frame of an own part, else of a thread's part
+abbrev pub first_level : List Frame → List Frame → ℕ
+first_level own part = option_map_or (λ f. f.level) (option_or (head_of own) (head_of part)) 0
+
+-- the level once the innermost frame has ended
+abbrev pub after_in : Frames → ℕ
+after_in x =
+    if is_null x.own then first_level [] (tail_of (thread_part x)) else first_level (tail_of x.own) (thread_part x)
 
 -- a region is entered
 abbrev pub is_open : Regions → Bool
@@ -62,7 +71,7 @@ owes_sweep p (e ∷ past) = if is_of e p then sweep_after e.what (owes_sweep p p
 
 abbrev pub stand_of : CpuNo → Frames → Bool → Stand
 stand_of p x sweep =
-    record { cpu = p; thread = x.running; frame = option_map_or (λ f. f.name) (innermost x) 0; body = option_map (λ f. f.body) (innermost x); level = level_in x; regions = regions_of (thread_part x); below = below_in x; again = option_and_then (λ f. f.again) (innermost x); sweep = sweep }
+    record { cpu = p; thread = x.running; frame = option_map_or (λ f. f.name) (innermost x) 0; body = option_map (λ f. f.body) (innermost x); level = level_in x; regions = regions_of (thread_part x); below = below_in x; after = after_in x; again = option_and_then (λ f. f.again) (innermost x); sweep = sweep }
 
 abbrev pub stand_at : Script → CpuNo → List Event → Stand
 stand_at s p past = stand_of p (frames_of s p past) (owes_sweep p past)

@@ -71,6 +71,8 @@ pub struct Stand {
     pub regions: Regions,
     /// The same once the innermost frame has ended.
     pub below: Regions,
+    /// The level once the innermost frame has ended.
+    pub after: Level,
     /// The wait that the innermost frame has to take up again.
     pub again: Option<Again>,
     /// Whether the processor owes a sweep of the timers.

@@ -13,6 +13,7 @@ mod fitting;
 mod frames;
 mod inserts;
 mod jobs;
+pub mod laws;
 mod lists;
 mod numbers;
 mod plans;
