@@ -19,6 +19,8 @@
 
 mod answers;
 mod state;
+#[cfg(test)]
+mod tests;
 
 pub use answers::{
     AlertAnswer, ApcAnswer, STATUS_ALERTED, STATUS_KERNEL_APC, STATUS_SUCCESS, STATUS_USER_APC,
