@@ -25,7 +25,7 @@ use Rattle.nt_thread.specs.Quiet.{IsQuiet, NothingBehind, QuietDoing, takes_user
 
 -- ---- options
 
-none-from : {X : Type 0} (o : Option X) → is_some o ≡ false → o ≡ None
+pub none-from : {X : Type 0} (o : Option X) → is_some o ≡ false → o ≡ None
 none-from None h = refl
 none-from (Some x) h = absurd (true≢false h)
 

@@ -18,6 +18,7 @@
 #![tactic(auto)]
 
 mod answers;
+pub mod laws;
 mod state;
 #[cfg(test)]
 mod tests;
