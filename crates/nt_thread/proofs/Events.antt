@@ -1,5 +1,5 @@
 -- What an event leaves of a thread's facts is what one call leaves: one lemma for each kind of event.
-use Rattle.std.proofs.Common.{◌≡◌, ◌&&◌, ◌==◌, Bool, None, Option, Some, ap, false, if◌then◌else◌, is_some, refl, sym, true, ◌∙◌, ℕ}
+use Rattle.std.proofs.Common.{◌≡◌, ◌&&◌, ◌==◌, Bool, None, Option, Some, ap, false, if◌then◌else◌, refl, true, ◌∙◌, ℕ}
 use Rattle.nt_event.specs.Apcs.{without_apc}
 use Rattle.nt_event.specs.Routines.{kind_of, owner_of}
 use Rattle.nt_event.specs.Threads.{ThreadFacts}

@@ -1,6 +1,6 @@
 -- Inserts and removals keep that nothing is deliverable behind a block.
-use Rattle.std.proofs.Common.{◌≡◌, Bool, List, None, Option, Some, ap, cond, false, if◌then◌else◌, is_some, refl, reverse, sym, true, ◌∙◌, ◌&&◌, ◌||◌, ◌==◌, ℕ, [], ◌∷◌, not, subst, option_map}
-use Rattle.std.proofs.lemmas.Bool.{and_left, and_parts, false≢true, true≢false}
+use Rattle.std.proofs.Common.{◌≡◌, Bool, List, None, Option, Some, ap, cond, false, if◌then◌else◌, is_some, refl, reverse, sym, true, ◌∙◌, ◌&&◌, ◌||◌, ◌==◌, ℕ, [], ◌∷◌, not, subst}
+use Rattle.std.proofs.lemmas.Bool.{false≢true, true≢false}
 use Rattle.std.specs.Bool.{OnTrue}
 use Rattle.std.specs.List.{filter, find}
 use Rattle.std.specs.Option.{option_or}
@@ -21,7 +21,7 @@ use Rattle.nt_event.specs.declared.threads.Doing.{Doing}
 use Rattle.nt_event.specs.declared.threads.Doing.TheVariants.{Blocked as IsBlocked, Gone as IsGone, Ready as IsReady, Running as IsRunning}
 use Rattle.nt_event.specs.declared.threads.Waiting.{Waiting}
 use Rattle.nt_thread.specs.Endings.{ended_by}
-use Rattle.nt_thread.specs.Quiet.{IsQuiet, NothingBehind, QuietDoing, takes_user}
+use Rattle.nt_thread.specs.Quiet.{IsQuiet, NothingBehind, QuietDoing}
 
 -- ---- options
 

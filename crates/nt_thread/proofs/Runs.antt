@@ -1,10 +1,10 @@
 -- Each call keeps that nothing is deliverable behind a block.
-use Rattle.std.proofs.Common.{◌≡◌, ◌∷◌, ◌&&◌, Bool, List, None, Option, Some, [], ap, cond, false, if◌then◌else◌, is_some, not, refl, subst, sym, true, ◌∙◌, ℕ, ◌==◌}
-use Rattle.std.proofs.lemmas.Bool.{false≢true, true≢false}
-use Rattle.nt_event.specs.Apcs.{ApcQueues, closed_apcs, deliverable, first_user, has_user, takes, with_apc, without_apc}
+use Rattle.std.proofs.Common.{◌≡◌, ◌∷◌, ◌&&◌, Bool, List, [], false, if◌then◌else◌, is_some, not, refl, subst, true, ℕ, ◌==◌}
+use Rattle.std.proofs.lemmas.Bool.{false≢true}
+use Rattle.nt_event.specs.Apcs.{closed_apcs, deliverable, has_user, takes, with_apc, without_apc}
 use Rattle.nt_event.specs.Routines.{is_kernel_kind}
 use Rattle.nt_event.specs.Threads.{ThreadFacts, ended, ends_by_alert, ends_by_apc, ends_by_expiry, ends_by_release, is_alerted, is_gone, set_alerted}
-use Rattle.nt_event.specs.Waits.{alert_facts, alert_taken, alert_tested, answered, apc_taken, expiry_facts, insert_facts, is_satisfied, left_facts, release_facts, wait_reply, waited}
+use Rattle.nt_event.specs.Waits.{alert_facts, alert_tested, answered, apc_taken, expiry_facts, insert_facts, is_satisfied, left_facts, release_facts, wait_reply, waited}
 use Rattle.nt_event.specs.Words.{alerted, is_user, kernel_apc, satisfied, user_apc}
 use Rattle.nt_event.specs.declared.commands.ApcKind.{ApcKind}
 use Rattle.nt_event.specs.declared.commands.ApcKind.TheVariants.{Normal as NormalApc, Special as SpecialApc, User as UserApc}
@@ -16,10 +16,9 @@ use Rattle.nt_event.specs.declared.inserts.Pick.{Pick}
 use Rattle.nt_event.specs.declared.numbers.ApcNo.{ApcNo}
 use Rattle.nt_event.specs.declared.threads.Doing.{Doing}
 use Rattle.nt_event.specs.declared.threads.Doing.TheVariants.{Blocked as IsBlocked, Gone as IsGone, Ready as IsReady, Running as IsRunning}
-use Rattle.nt_event.specs.declared.threads.Waiting.{Waiting}
 use Rattle.nt_thread.proofs.Quiet.{none-from, quiet-added, quiet-without}
 use Rattle.nt_thread.specs.Laws.{BlocksAreQuiet}
-use Rattle.nt_thread.specs.Quiet.{IsQuiet, NothingBehind, QuietDoing, takes_user}
+use Rattle.nt_thread.specs.Quiet.{IsQuiet, NothingBehind, QuietDoing}
 use Rattle.nt_thread.specs.Runs.{Act, Alerts, EndsDelay, GivesWay, Goes, Inserts, Leaves, Releases, Removes, Resumes, Takes, TestsAlert, Wait, Waits, after, facts_of}
 
 -- ---- what changes neither what it is doing nor its APCs

@@ -11,6 +11,21 @@ const FREE: Regions = Regions {
     busy: false,
 };
 
+const ALERT_ENDS: AlertAnswer = AlertAnswer {
+    was: false,
+    ended: true,
+};
+
+const ALERT_IS_FIRST: AlertAnswer = AlertAnswer {
+    was: false,
+    ended: false,
+};
+
+const ALERT_IS_SECOND: AlertAnswer = AlertAnswer {
+    was: true,
+    ended: false,
+};
+
 /// What is done to a running thread before it waits.
 #[derive(Clone, Copy)]
 struct Before {
@@ -155,101 +170,66 @@ fn a_mark_ends_a_plain_user_wait(rt: HostRuntime) {
 }
 
 #[test]
-fn what_ends_a_blocked_wait(rt: HostRuntime) {
+fn a_release_ends_a_wait_and_no_delay(rt: HostRuntime) {
     let mut thread = running(rt.alloc()).expect(&rt, "memory");
-    let alertable = wait(Mode::User, true);
-
-    assert_eq!(rt;
-        thread.wait(alertable, FREE, Level::APC),
-        WaitAnswer::Blocked
-    );
+    let plain = wait(Mode::Kernel, false);
+    assert_eq!(rt; thread.wait(plain, FREE, Level::APC), WaitAnswer::Blocked);
     assert_eq!(rt; thread.level(), Level::APC);
     assert!(rt; !thread.end_delay(9));
     assert!(rt; thread.release());
     assert!(rt; thread.is_ready());
     assert_eq!(rt; thread.resume(), Some(STATUS_SUCCESS));
     assert!(rt; thread.is_running());
+}
 
-    assert_eq!(rt;
-        thread.wait(alertable, FREE, Level::PASSIVE),
-        WaitAnswer::Blocked
-    );
-    assert_eq!(rt;
-        thread.alert(Mode::User),
-        AlertAnswer {
-            was: false,
-            ended: true
-        }
-    );
-    assert_eq!(rt;
-        thread.alert(Mode::User),
-        AlertAnswer {
-            was: false,
-            ended: false
-        }
-    );
-    assert_eq!(rt;
-        thread.alert(Mode::User),
-        AlertAnswer {
-            was: true,
-            ended: false
-        }
-    );
-    if thread.is_ready() {
-        assert_eq!(rt; thread.resume(), Some(STATUS_ALERTED));
-    }
-    assert!(rt; thread.test_alert(Mode::User));
-
-    assert_eq!(rt;
-        thread.wait(alertable, FREE, Level::PASSIVE),
-        WaitAnswer::Blocked
-    );
-    assert_eq!(rt;
-        thread.apc_answer(ApcNo(1), ApcKind::User),
-        ApcAnswer {
-            yes: true,
-            ended: true
-        }
-    );
-    assert_eq!(rt;
-        thread.apc(ApcNo(1), ApcKind::User, 20),
-        ApcAnswer {
-            yes: true,
-            ended: true
-        }
-    );
-    if thread.is_ready() {
-        assert_eq!(rt; thread.resume(), Some(STATUS_USER_APC));
-    }
-    assert!(rt; thread.unapc(ApcNo(1)));
-    assert!(rt; !thread.unapc(ApcNo(1)));
-
+#[test]
+fn a_delay_ends_under_its_own_number(rt: HostRuntime) {
+    let mut thread = running(rt.alloc()).expect(&rt, "memory");
     let delay = WaitSpec {
-        mode: Mode::Kernel,
-        alertable: false,
         reached: Some(false),
-        set: 30,
+        ..wait(Mode::Kernel, false)
     };
     assert_eq!(rt;
         thread.wait(delay, FREE, Level::PASSIVE),
         WaitAnswer::Blocked
     );
     assert!(rt; !thread.release());
-    assert!(rt; !thread.end_delay(29));
-    assert!(rt; thread.end_delay(30));
-    if thread.is_ready() {
-        assert_eq!(rt; thread.resume(), Some(STATUS_SUCCESS));
-    }
+    assert!(rt; !thread.end_delay(8));
+    assert!(rt; thread.end_delay(9));
+    assert!(rt; !thread.end_delay(9));
+}
 
-    // the release that ended no wait
-    assert_eq!(rt;
-        thread.wait(alertable, FREE, Level::PASSIVE),
-        WaitAnswer::Now(STATUS_SUCCESS)
-    );
+#[test]
+fn an_alert_ends_an_alertable_wait_of_its_mode(rt: HostRuntime) {
+    let mut thread = running(rt.alloc()).expect(&rt, "memory");
+    let alertable = wait(Mode::User, true);
     assert_eq!(rt;
         thread.wait(alertable, FREE, Level::PASSIVE),
         WaitAnswer::Blocked
     );
+    assert_eq!(rt; thread.alert(Mode::User), ALERT_ENDS);
+    assert_eq!(rt; thread.alert(Mode::User), ALERT_IS_FIRST);
+    assert_eq!(rt; thread.alert(Mode::User), ALERT_IS_SECOND);
+    assert!(rt; thread.test_alert(Mode::User));
+    assert!(rt; !thread.test_alert(Mode::User));
+}
+
+#[test]
+fn a_user_apc_ends_an_alertable_user_wait(rt: HostRuntime) {
+    let mut thread = running(rt.alloc()).expect(&rt, "memory");
+    let alertable = wait(Mode::User, true);
+    let ends = ApcAnswer {
+        yes: true,
+        ended: true,
+    };
+    assert_eq!(rt;
+        thread.wait(alertable, FREE, Level::PASSIVE),
+        WaitAnswer::Blocked
+    );
+    assert_eq!(rt; thread.apc_answer(ApcNo(1), ApcKind::User), ends);
+    assert_eq!(rt; thread.apc(ApcNo(1), ApcKind::User, 20), ends);
+    assert!(rt; thread.unapc(ApcNo(1)));
+    assert!(rt; !thread.unapc(ApcNo(1)));
 }
 
 #[test]
