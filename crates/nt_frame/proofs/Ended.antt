@@ -96,7 +96,7 @@ normal_is_not_own (Threaded d) o q = cc
 normal_is_not_own (Base t) o q = cc
 normal_is_not_own (Rundown a) o q = cc
 
-normal_is_on_thread : (f : Frame) (x : Frames) → AreNested x → innermost x ≡ Some f → may_go_on x ≡ true → is_null x.own ≡ true
+pub normal_is_on_thread : (f : Frame) (x : Frames) → AreNested x → innermost x ≡ Some f → may_go_on x ≡ true → is_null x.own ≡ true
 normal_is_on_thread f x h k m = go (is_null x.own) refl
   where
     n : has_normal f.body ≡ true

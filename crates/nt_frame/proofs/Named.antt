@@ -53,11 +53,11 @@ pub on_running_is : (g : List Frame → List Frame) (r : Option ThreadNo) (x : F
 on_running_is g None x = refl
 on_running_is g (Some t) x = refl
 
-changed_by : (t g : List Frame → List Frame) (r : Option ThreadNo) (parts : List (List Frame)) → t (option_map_or (frames_in parts) r []) ≡ g (option_map_or (frames_in parts) r []) → changed t r parts ≡ changed g r parts
+pub changed_by : (t g : List Frame → List Frame) (r : Option ThreadNo) (parts : List (List Frame)) → t (option_map_or (frames_in parts) r []) ≡ g (option_map_or (frames_in parts) r []) → changed t r parts ≡ changed g r parts
 changed_by t g None parts e = refl
 changed_by t g (Some u) parts e = ap (λ (fs : List Frame). set parts u.0 fs) e
 
-changed_stays : (t : List Frame → List Frame) (r : Option ThreadNo) (parts : List (List Frame)) → t (option_map_or (frames_in parts) r []) ≡ option_map_or (frames_in parts) r [] → changed t r parts ≡ parts
+pub changed_stays : (t : List Frame → List Frame) (r : Option ThreadNo) (parts : List (List Frame)) → t (option_map_or (frames_in parts) r []) ≡ option_map_or (frames_in parts) r [] → changed t r parts ≡ parts
 changed_stays t None parts e = refl
 changed_stays t (Some u) parts e = ap (λ (fs : List Frame). set parts u.0 fs) e ∙ set-get_or parts u.0 []
 
