@@ -5,6 +5,7 @@ mod frame;
 mod frames;
 mod part;
 mod parts;
+mod refusals;
 mod view;
 
 pub use frames::Frames;
