@@ -31,7 +31,7 @@ tail_newer : (fs : List Frame) (parts : List (List Frame)) → AreNewer fs parts
 tail_newer [] parts n = tt
 tail_newer (f ∷ fs) parts n = n.1
 
-tail_sum : (c : Frame → ℕ) (fs : List Frame) → sum_by c fs < 2 ^ 32 → sum_by c (tail_of fs) < 2 ^ 32
+pub tail_sum : (c : Frame → ℕ) (fs : List Frame) → sum_by c fs < 2 ^ 32 → sum_by c (tail_of fs) < 2 ^ 32
 tail_sum c [] h = h
 tail_sum c (f ∷ fs) h = omega (arith, h, sum_by-cons c f fs)
 
@@ -68,26 +68,6 @@ closed_on x t h l e =
 pub stopped_nested : (x : Frames) → AreNested x → AreNested (record x { running = None })
 stopped_nested x h = record { own = h.own; threads = h.threads; running = tt; newer = h.newer }
 
--- ---- the regions of the running thread after a change of its part
-
-pub thread_part_changed : (g : List Frame → List Frame) (x : Frames) → AreNested x → g [] ≡ [] → thread_part (on_running g x.running x) ≡ g (thread_part x)
-thread_part_changed g x h z = go x.running refl
-  where
-    go : (r : Option ThreadNo) → x.running ≡ r → thread_part (on_running g r x) ≡ g (option_map_or (frames_in x.threads) r [])
-    go None e = rw e (sym z)
-    go (Some t) e =
-        let b : t.0 < length x.threads = rw e at h.running in
-        rw e (get_or-set_same x.threads t.0 (g (frames_in x.threads t)) [] b)
-
-pub regions_below : (x : Frames) → AreNested x → regions_in (without_innermost x) ≡ below_in x
-regions_below x h = go x.own refl
-  where
-    go : (os : List Frame) → x.own ≡ os → regions_in (on_part (not (is_null os)) tail_of x) ≡ regions_of (if is_null os then tail_of (thread_part x) else thread_part x)
-    go [] e = ap regions_of (thread_part_changed tail_of x h refl)
-    go (f ∷ fs) e = refl
-
--- ---- what an APC that goes on to its normal routine gives up
-
 normal_is_not_own : (b : Body) → is_own b ≡ true → has_normal b ≡ true → ⊥
 normal_is_not_own (Apc a kind) o q = cc
 normal_is_not_own (Int l) o q = cc
@@ -105,18 +85,3 @@ normal_is_on_thread f x h k m = go (is_null x.own) refl
     go : (b : Bool) → is_null x.own ≡ b → b ≡ true
     go true e = refl
     go false e = absurd (normal_is_not_own f.body (rw e at (innermost_frame f x h k).part) n)
-
-given_up : (r : Regions) (f : Frame) (fs : List Frame) → head_of fs ≡ Some f → some_came_to_0 r (regions_of (at_head (λ _. normal_of f) fs)) ≡ some_came_to_0 r (regions_of (tail_of fs))
-given_up r f [] h = cc
-given_up r f (y ∷ ys) h =
-    let c : crit_of (normal_of f ∷ ys) ≡ crit_of ys = omega (arith, sum_by-cons (λ z. z.crit) (normal_of f) ys) in
-    let g : guard_of (normal_of f ∷ ys) ≡ guard_of ys = omega (arith, sum_by-cons (λ z. z.guard) (normal_of f) ys) in
-    rw (c, g)
-
-pub normal_regions : (r : Regions) (f : Frame) (x : Frames) → AreNested x → innermost x ≡ Some f → may_go_on x ≡ true → some_came_to_0 r (regions_in (at_innermost (λ _. normal_of f) x)) ≡ some_came_to_0 r (below_in x)
-normal_regions r f x h k m = go x.own refl (normal_is_on_thread f x h k m) k
-  where
-    go : (os : List Frame) → x.own ≡ os → is_null os ≡ true → option_or (head_of os) (head_of (thread_part x)) ≡ Some f → some_came_to_0 r (regions_in (on_part (not (is_null os)) (at_head (λ _. normal_of f)) x)) ≡ some_came_to_0 r (regions_of (if is_null os then tail_of (thread_part x) else thread_part x))
-    go [] e n q =
-        rw (thread_part_changed (at_head (λ _. normal_of f)) x h refl) (given_up r f (thread_part x) q)
-    go (y ∷ ys) e n q = cc

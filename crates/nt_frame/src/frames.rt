@@ -1,10 +1,8 @@
 //! The frames of one processor and its threads.
-ghost use Rattle.std.specs.Prelude.{◌≡◌, ◌<◌, ◌≤◌, ◌↔◌, ◌+◌, ◌==◌, [], true, IsTrue, IsSome, IsOk, IfOk, IfErr, OnOk, OnErr, Some, None, length, option_map, false};
+ghost use Rattle.std.specs.Prelude.{◌≡◌, ◌<◌, ◌≤◌, ◌↔◌, ◌+◌, ◌==◌, [], true, IsTrue, IsSome, IsOk, IfOk, IfErr, OnOk, OnErr, Some, None, length, option_map, not, false};
 ghost use Rattle.std.specs.Option.{ForSome};
-ghost use Rattle.nt_event.specs.declared.commands.Command.{Command};
-ghost use Rattle.nt_event.specs.declared.frames.Region.{Region};
-ghost use Rattle.nt_event.specs.Frames.{done_to, frames_in, innermost, left, level_in, normal_of};
-ghost use Rattle.nt_event.specs.Words.{head_of};
+ghost use Rattle.nt_event.specs.Frames.{done_to, frames_in, innermost, is_on_thread as on_thread_part, left, level_in, normal_of};
+ghost use Rattle.nt_event.specs.Words.{head_of, is_null};
 ghost use Rattle.nt_event.specs.Regions.{below_in, some_came_to_0};
 ghost use Rattle.nt_frame.specs.Changes.{at_innermost, begun, closed, no_frames, without_innermost};
 ghost use Rattle.nt_frame.specs.Nesting.{AreNamedBelow, AreNested};
@@ -13,11 +11,12 @@ ghost use Rattle.nt_frame.specs.Views.{view_of};
 
 use crate::FrameView;
 
-use crate::frame::{at_normal, base, is_own, leaving, new_frame};
+use crate::frame::{at_normal, is_own, leaving, new_frame};
 use crate::part::{Part, is_normal_apc};
 use crate::parts;
+use crate::refusals::refusal;
 
-use nt_event::{Again, Body, CpuNo, Frame, Refusal, Region, Regions, ThreadNo};
+use nt_event::{Again, Body, Command, CpuNo, Frame, Refusal, Region, Regions, ThreadNo};
 use nt_level::Level;
 use std::alloc::{AllocError, Global};
 use std::marker::Model;
@@ -94,6 +93,54 @@ impl Frames {
         }
     }
 
+    /// The regions of the running thread once the innermost frame has ended.
+    pub fn below(&self) -> Regions
+        ensures { result ≡ below_in self.now }
+    {
+        if !self.own.is_empty() {
+            return self.regions();
+        }
+        let part = match self.running {
+            Some(t) => self.threads.get(t.0 as usize),
+            None => None,
+        };
+        match part {
+            Some(part) => part.regions_below(),
+            None => self.regions(),
+        }
+    }
+
+    /// Whether a frame stands on the processor's own part.
+    pub fn has_own(&self) -> bool
+        ensures { result ≡ not (is_null self.now.own) }
+    {
+        !self.own.is_empty()
+    }
+
+    /// Whether the innermost frame stands on the running thread's part.
+    pub fn is_on_thread(&self) -> bool
+        ensures { result ≡ on_thread_part self.now }
+    {
+        self.own.is_empty() && self.top().is_some()
+    }
+
+    /// Why this command would be refused in the innermost frame, if it would: the first test that fails, in the order of the
+    /// refusals' numbers. Where there is no frame, no thread calls it.
+    pub fn refusal(&self, command: &Command) -> Option<Refusal>
+        ensures { result ≡ refusal_in command.now self.now }
+    {
+        let Some(frame) = self.top() else {
+            return Some(Refusal::NotThread);
+        };
+        refusal(
+            frame.level,
+            !self.own.is_empty(),
+            &self.regions(),
+            &frame,
+            command,
+        )
+    }
+
     /// The newest frame of the own part, else that of the running thread.
     pub fn innermost(&self) -> Option<FrameView>
         ensures view { result ≡ option_map view_of (innermost self.now) }
@@ -134,12 +181,12 @@ impl Frames {
         ensures asks { result ≡ some_came_to_0 (regions_in self.old) (below_in self.old) }
         ensures phase { self.new ≡ at_innermost normal_of self.old }
     {
-        let before = self.regions();
+        let asks = came_to_0(&self.regions(), &self.below());
         let Some(frame) = self.top() else {
             unreachable!()
         };
         self.set_innermost(at_normal(&frame));
-        came_to_0(&before, &self.regions())
+        asks
     }
 
     /// The innermost routine ends, and its frame with it: the level below comes back, and the regions that it entered are given
@@ -150,12 +197,12 @@ impl Frames {
         ensures asks { result ≡ end_asks_apc self.old }
         ensures ended { self.new ≡ without_innermost self.old }
     {
-        let before = self.regions();
         let Some(frame) = self.top() else {
             unreachable!()
         };
+        let asks = is_normal_apc(&frame.body) || came_to_0(&self.regions(), &self.below());
         self.drop_innermost();
-        is_normal_apc(&frame.body) || came_to_0(&before, &self.regions())
+        asks
     }
 
     /// Raises the level of the innermost frame. NotGreater exactly where it is above `l`.
@@ -166,12 +213,7 @@ impl Frames {
         ensures ok { OnOk result (self.new ≡ at_innermost (done_to (Command.Raise l)) self.old) }
         ensures same { OnErr result (self.new ≡ self.old) }
     {
-        let Some(frame) = self.top() else {
-            unreachable!()
-        };
-        if l.number() < frame.level.number() {
-            return Err(Refusal::NotGreater);
-        }
+        let frame = self.accepted(&Command::Raise(l))?;
         self.set_innermost(Frame { level: l, ..frame });
         Ok(())
     }
@@ -185,15 +227,7 @@ impl Frames {
         ensures ok { OnOk result (self.new ≡ at_innermost (done_to (Command.Lower l)) self.old) }
         ensures same { OnErr result (self.new ≡ self.old) }
     {
-        let Some(frame) = self.top() else {
-            unreachable!()
-        };
-        if frame.level.number() < l.number() {
-            return Err(Refusal::NotLess);
-        }
-        if l.number() < base(&frame).number() {
-            return Err(Refusal::BelowBase);
-        }
+        let frame = self.accepted(&Command::Lower(l))?;
         self.set_innermost(Frame { level: l, ..frame });
         Ok(())
     }
@@ -207,7 +241,7 @@ impl Frames {
         ensures ok { OnOk result (self.new ≡ at_innermost (done_to (enter_of r)) self.old) }
         ensures same { OnErr result (self.new ≡ self.old) }
     {
-        let frame = self.region_frame()?;
+        let frame = self.accepted(&enter_command(r))?;
         self.set_innermost(match r {
             Region::Crit => Frame {
                 crit: frame.crit + 1,
@@ -231,10 +265,7 @@ impl Frames {
         ensures ok { OnOk result (self.new ≡ at_innermost (done_to (leave_of r)) self.old) }
         ensures same { OnErr result (self.new ≡ self.old) }
     {
-        let frame = self.region_frame()?;
-        if entered(r, frame.crit, frame.guard) == 0 {
-            return Err(Refusal::NotEntered);
-        }
+        let frame = self.accepted(&leave_command(r))?;
         let before = self.regions();
         self.set_innermost(match r {
             Region::Crit => Frame {
@@ -246,7 +277,7 @@ impl Frames {
                 ..frame
             },
         });
-        Ok(entered(r, before.crit, before.guard) == 1)
+        Ok(count(r, &before) == 1)
     }
 
     /// The thread runs from here on.
@@ -338,23 +369,18 @@ impl Frames {
         }
     }
 
-    /// The frame whose count of regions a command changes.
-    fn region_frame(&self) -> Result<Frame, Refusal>
+    /// The innermost frame, where it may call the command.
+    fn accepted(&self, command: &Command) -> Result<Frame, Refusal>
         ensures frame { IfOk result (λ f. innermost self.now ≡ Some f) }
-        ensures thread { OnOk result (self.now.own ≡ []) }
-        ensures low { OnOk result (level_in self.now ≤ 1) }
-        ensures enter { IfErr result (λ why. (r : Region) → refusal_in (enter_of r) self.now ≡ Some why) }
-        ensures leave { IfErr result (λ why. (r : Region) → refusal_in (leave_of r) self.now ≡ Some why) }
+        ensures when { OnOk result (refusal_in command.now self.now ≡ None) }
+        ensures why { IfErr result (λ why. refusal_in command.now self.now ≡ Some why) }
         ensures nested { AreNested self.now }
     {
-        if !self.own.is_empty() {
-            return Err(Refusal::NotThread);
-        }
         let frame = self.top().ok_or(Refusal::NotThread)?;
-        if Level::APC.number() < frame.level.number() {
-            return Err(Refusal::TooHigh);
+        match self.refusal(command) {
+            Some(why) => Err(why),
+            None => Ok(frame),
         }
-        Ok(frame)
     }
 
     fn set_innermost(&mut self, frame: Frame)
@@ -387,12 +413,30 @@ fn came_to_0(before: &Regions, now: &Regions) -> bool
     before.crit != 0 && now.crit == 0 || before.guard != 0 && now.guard == 0
 }
 
-/// The count of this kind of region.
-fn entered(r: Region, crit: u32, guard: u32) -> u32
-    ensures { result ≡ count_of r (record { crit = crit; guard = guard; busy = false }) }
+/// How often regions of the kind are entered.
+fn count(r: Region, regions: &Regions) -> u32
+    ensures { result ≡ count_of r regions.now }
 {
     match r {
-        Region::Crit => crit,
-        Region::Guard => guard,
+        Region::Crit => regions.crit,
+        Region::Guard => regions.guard,
+    }
+}
+
+fn enter_command(r: Region) -> Command
+    ensures { result ≡ enter_of r }
+{
+    match r {
+        Region::Crit => Command::EnterCrit,
+        Region::Guard => Command::EnterGuard,
+    }
+}
+
+fn leave_command(r: Region) -> Command
+    ensures { result ≡ leave_of r }
+{
+    match r {
+        Region::Crit => Command::LeaveCrit,
+        Region::Guard => Command::LeaveGuard,
     }
 }
