@@ -13,7 +13,7 @@ use Rattle.nt_frame.proofs.Events.{changed}
 
 -- ---- one part
 
-same_name : (n : ℕ) → (n == n) ≡ true
+pub same_name : (n : ℕ) → (n == n) ≡ true
 same_name n = grind (arith, nat_tests)
 
 other_name : (a n : ℕ) → a + 1 ≤ n → (a == n) ≡ false
