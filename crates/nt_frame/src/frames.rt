@@ -1,11 +1,11 @@
 //! The frames of one processor and its threads.
-ghost use Rattle.std.specs.Prelude.{◌≡◌, ◌<◌, ◌≤◌, ◌↔◌, ◌+◌, ◌==◌, [], true, IsTrue, IsSome, IsOk, IfOk, IfErr, OnOk, OnErr, Some, None, length, option_map, not, false};
+ghost use Rattle.std.specs.Prelude.{◌≡◌, ◌<◌, ◌≤◌, ◌↔◌, ◌+◌, ◌==◌, [], true, IsTrue, IsSome, IsOk, IfOk, IfErr, OnOk, OnErr, Some, None, length, option_copied, option_map, IfSome, not, false};
 ghost use Rattle.std.specs.Option.{ForSome};
 ghost use Rattle.nt_event.specs.Frames.{done_to, frames_in, innermost, is_on_thread as on_thread_part, left, level_in, normal_of};
 ghost use Rattle.nt_event.specs.Words.{head_of, is_null};
 ghost use Rattle.nt_event.specs.Regions.{below_in, some_came_to_0};
 ghost use Rattle.nt_frame.specs.Changes.{at_innermost, begun, closed, no_frames, without_innermost};
-ghost use Rattle.nt_frame.specs.Nesting.{AreNamedBelow, AreNested};
+ghost use Rattle.nt_frame.specs.Nesting.{AreNamedBelow, AreNested, IsThreadPart};
 ghost use Rattle.nt_frame.specs.Rules.{count_of, end_asks_apc, enter_of, is_at_base, is_leaving, leave_of, may_begin, may_go_on, refusal_in, regions_in};
 ghost use Rattle.nt_frame.specs.Views.{view_of};
 
@@ -20,6 +20,12 @@ use nt_event::{Again, Body, Command, CpuNo, Frame, Refusal, Region, Regions, Thr
 use nt_level::Level;
 use std::alloc::{AllocError, Global};
 use std::marker::Model;
+
+const NO_REGIONS: Regions = Regions {
+    crit: 0,
+    guard: 0,
+    busy: false,
+};
 
 /// The frames of one processor: those on its own part, and those of each thread.
 #[derive(Drop, Debug)]
@@ -79,17 +85,9 @@ impl Frames {
     pub fn regions(&self) -> Regions
         ensures { result ≡ regions_in self.now }
     {
-        let part = match self.running {
-            Some(t) => self.threads.get(t.0 as usize),
-            None => None,
-        };
-        match part {
+        match self.running_part() {
             Some(part) => part.regions(),
-            None => Regions {
-                crit: 0,
-                guard: 0,
-                busy: false,
-            },
+            None => NO_REGIONS,
         }
     }
 
@@ -100,13 +98,9 @@ impl Frames {
         if !self.own.is_empty() {
             return self.regions();
         }
-        let part = match self.running {
-            Some(t) => self.threads.get(t.0 as usize),
-            None => None,
-        };
-        match part {
+        match self.running_part() {
             Some(part) => part.regions_below(),
-            None => self.regions(),
+            None => NO_REGIONS,
         }
     }
 
@@ -353,18 +347,17 @@ impl Frames {
     {
         match self.own.innermost() {
             Some(frame) => Some(frame),
-            None => match self.running {
-                Some(t) => self.newest(t),
-                None => None,
-            },
+            None => self.running_part()?.innermost(),
         }
     }
 
-    fn newest(&self, t: ThreadNo) -> Option<Frame>
-        ensures { result ≡ head_of (frames_in self.now.threads t) }
+    /// The part of the running thread.
+    fn running_part(&self) -> Option<&Part<4>>
+        ensures value { option_copied result ≡ option_map (frames_in self.now.threads) self.now.running }
+        ensures part { IfSome result (λ part. IsThreadPart part.now) }
     {
-        match self.threads.get(t.0 as usize) {
-            Some(part) => part.innermost(),
+        match self.running {
+            Some(t) => self.threads.get(t.0 as usize),
             None => None,
         }
     }
