@@ -1,6 +1,7 @@
 //! Frames.
 #![tactic(auto)]
 
+mod calls;
 mod frame;
 mod frames;
 mod part;
@@ -8,5 +9,6 @@ mod parts;
 mod refusals;
 mod view;
 
+pub use calls::{FrameAnswer, FrameCall, perform, perform_all};
 pub use frames::Frames;
 pub use view::FrameView;
