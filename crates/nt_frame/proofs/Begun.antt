@@ -1,5 +1,5 @@
 -- A routine that may begin here finds room, and the frames stay nested.
-use Rattle.std.proofs.Common.{◌≡◌, ℕ, ◌+◌, ◌<◌, ◌≤◌, ◌^◌, Bool, true, false, not, ◌&&◌, ◌||◌, ◌==◌, nat_lt, Option, None, Some, is_none, List, [], ◌∷◌, All, get_or, length, arith, sym, ◌∙◌, ap, subst, refl, lit<, lit≤,}
+use Rattle.std.proofs.Common.{◌≡◌, ℕ, ◌+◌, ◌<◌, ◌≤◌, ◌^◌, Bool, true, false, not, ◌&&◌, ◌||◌, ◌==◌, nat_lt, Option, None, Some, is_none, List, [], ◌∷◌, All, get_or, length, arith, sym, ◌∙◌, ap, subst, refl, lit<, lit≤}
 use Rattle.std.proofs.lemmas.List.Sums.{sum_by-cons}
 use Rattle.std.specs.Option.{option_map_or, option_or}
 use Rattle.nt_event.specs.declared.commands.ApcKind.{ApcKind}
@@ -24,7 +24,7 @@ use Rattle.nt_frame.specs.Nesting.{AreNamedBelow, AreNested, AreNewer, IsFrame, 
 use Rattle.nt_frame.specs.Rules.{is_leaving, may_begin, refusal_in, regions_in}
 use Rattle.nt_frame.proofs.Nested.{on_own_nested, on_running_nested, thread_part_nested}
 use Rattle.nt_frame.proofs.Ranks.{below_apc, below_dpc, below_int, below_normal, length-under, rank_bounds, thread_rank_bound}
-use Rattle.nt_frame.proofs.Tests.{and_left, and_right, lt_is, none_is, null_is, zero_is}
+use Rattle.nt_frame.proofs.Booleans.{and_left, and_right, lt_is, none_is, null_is, zero_is}
 
 -- ---- the new frame
 

@@ -71,7 +71,7 @@ answer_to _ x = Done
 -- ---- lists of calls, in their order
 
 -- each call's condition holds where the calls before it leave the frames
-abbrev pub MayCallAll : List FrameCall → Frames → Type 0
+unfoldable pub MayCallAll : List FrameCall → Frames → Type 0
 MayCallAll [] x = Unit {0}
 MayCallAll (c ∷ cs) x = MayCall c x × MayCallAll cs (left_by c x)
 

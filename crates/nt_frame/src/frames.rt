@@ -9,13 +9,10 @@ ghost use Rattle.nt_frame.specs.Nesting.{AreNamedBelow, AreNested, IsThreadPart}
 ghost use Rattle.nt_frame.specs.Rules.{count_of, end_asks_apc, enter_of, is_at_base, is_leaving, leave_of, may_begin, may_go_on, refusal_in, regions_in};
 ghost use Rattle.nt_frame.specs.Views.{view_of};
 
-use crate::FrameView;
-
 use crate::frame::{at_normal, is_own, leaving, new_frame};
 use crate::part::{Part, is_normal_apc};
-use crate::parts;
 use crate::refusals::refusal;
-
+use crate::{FrameView, parts};
 use nt_event::{Again, Body, Command, CpuNo, Frame, Refusal, Region, Regions, ThreadNo};
 use nt_level::Level;
 use std::alloc::{AllocError, Global};

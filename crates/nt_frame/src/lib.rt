@@ -7,6 +7,8 @@ mod frames;
 mod part;
 mod parts;
 mod refusals;
+#[cfg(test)]
+mod tests;
 mod view;
 
 pub use calls::{FrameAnswer, FrameCall, perform, perform_all};
