@@ -14,4 +14,6 @@ pub mod Agree
 pub mod Stops
 pub mod Facts
 pub mod UserApcs
+pub mod Names
+pub mod Calm
 pub mod Shared

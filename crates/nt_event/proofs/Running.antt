@@ -51,7 +51,7 @@ called_body due (Delay m a u) y f = refl
 called_body due c Done f = done_body c f
 called_body due c y f = refl
 
-called_leaving : (due : Option ℕ) (c : Command) (y : Reply) (f : Frame) → (called due c y f).leaving ≡ f.leaving
+pub called_leaving : (due : Option ℕ) (c : Command) (y : Reply) (f : Frame) → (called due c y f).leaving ≡ f.leaving
 called_leaving due (StartWait m a) y f = refl
 called_leaving due (Delay m a u) y f = refl
 called_leaving due c Done f = done_leaving c f

@@ -1,4 +1,4 @@
--- In a run the event of a job is told by where its processor stands and the states of the lanes alone.
+-- In a run the event of a job that is due is told by where its processor stands and the states of the lanes alone.
 use Rattle.std.proofs.Common.{ap, inl, inr, subst, sym, ◌∙◌}
 use Rattle.std.proofs.lemmas.Bool.{both_ways, eq-eqb, eqb-true, ltb-true}
 use Rattle.std.specs.Option.{option_map_or, option_or}
@@ -31,6 +31,7 @@ use Rattle.nt_event.specs.declared.numbers.ThreadNo.{ThreadNo}
 use Rattle.nt_event.specs.declared.scripts.Script.{Script}
 use Rattle.nt_event.specs.declared.threads.Doing.{Doing}
 use Rattle.nt_event.specs.declared.threads.Doing.TheVariants.{Ready as IsReady}
+use Rattle.nt_event.specs.Acting.{IsDue, acted_event, acted_level}
 use Rattle.nt_event.specs.Apcs.{first_user}
 use Rattle.nt_event.specs.Commands.{needs_lane, reply}
 use Rattle.nt_event.specs.Frames.{Frames, at_name, called, end_on_thread, flushed, frames_after, frames_in, frames_of, innermost, is_base_body, is_on_thread, is_user_apc_body, level_in, own_after, own_frames, rewaited, running, running_after, switched_to, thread_after, thread_frames, thread_if, thread_part, without}
@@ -39,14 +40,15 @@ use Rattle.nt_event.specs.Lanes.{Lanes, facts_at, facts_of, lanes_at, queue_at}
 use Rattle.nt_event.specs.Laws.{HasBase, Says, level_of}
 use Rattle.nt_event.specs.Own.{Own, own_of}
 use Rattle.nt_event.specs.Queues.{first_dpc}
-use Rattle.nt_event.specs.Regions.{owes_sweep, stand_at}
+use Rattle.nt_event.specs.Regions.{after_in, first_level, owes_sweep, stand_at}
 use Rattle.nt_event.specs.Routines.{cpu_of, next_command, rundown_of}
 use Rattle.nt_event.specs.Script.{has_thread}
-use Rattle.nt_event.specs.Step.{IsAllowed, IsRun, called_level, event_at, level_after, level_field, shared_event, thread_field, unleveled}
+use Rattle.nt_event.specs.Step.{IsRun, event_at, level_field, thread_field, unleveled}
 use Rattle.nt_event.specs.Threads.{ThreadFacts, doing_level, ended_status, is_ready, ready_doing, start_facts}
 use Rattle.nt_event.specs.Timers.{first_due, timers_at}
 use Rattle.nt_event.specs.Waits.{facts}
-use Rattle.nt_event.specs.Words.{head_of, is_blocked, is_by, is_null, is_thread, table, thread, value_at, when}
+use Rattle.nt_event.specs.Words.{cpu, head_of, is_blocked, is_by, is_null, is_thread, table, tail_of, thread, value_at, when}
+use Rattle.nt_event.proofs.Calm.{AllCalm, all_calm, leaving_low}
 use Rattle.nt_event.proofs.Chosen.{null_head, switch_parts}
 use Rattle.nt_event.proofs.Facts.{agree, if_none, level_on_thread, named_level, rewait_keeps}
 use Rattle.nt_event.proofs.Known.{Deliverable, Good, Known, KnownBegin, KnownCall, KnownRewait, KnownRundown, task_known}
@@ -54,10 +56,11 @@ use Rattle.nt_event.proofs.Options.{Holds, both, holds_at, holds_else, holds_map
 use Rattle.nt_event.proofs.OwnPart.{AllOwn, all_own, is_own_body}
 use Rattle.nt_event.proofs.Robin.{Comes, next_ready_taken}
 use Rattle.nt_event.proofs.Running.{part_of_running, running_has_base, running_here}
+use Rattle.nt_event.proofs.Steps.{named}
 use Rattle.nt_event.proofs.Stops.{blocked_call, none_again, rewait_on_thread, yield_call}
 use Rattle.nt_event.proofs.Tables.{get_or-table, table-same}
 use Rattle.nt_event.proofs.Turns.{NextTask, is_chosen, task_next}
-use Rattle.nt_event.proofs.UserApcs.{UserBelow, touser_low, user_below}
+use Rattle.nt_event.proofs.UserApcs.{touser_low}
 
 -- ---- what a job of the next event is known by, beside its event
 
@@ -108,7 +111,7 @@ task_is s p x =
 
 -- the event says the level that its processor has after it
 abbrev Tells : Script → CpuNo → List Event → What → Type 0
-Tells s p past w = level_field w (frames_after s 0 None (unleveled p w (frames_of s p past)) (frames_of s p past)) ≡ level_after s (stand_at s p past) (lanes_at s past) w
+Tells s p past w = level_field w (frames_after s 0 None (unleveled p w (frames_of s p past)) (frames_of s p past)) ≡ acted_level (stand_at s p past) (lanes_at s past) w
 
 -- the running thread's part after an event that names it
 part_after : (s : Script) (due : Option ℕ) (e : Event) (x : Frames) (t : ThreadNo) → has_thread s t ≡ true → running_after e.what x.running ≡ Some t → is_by e t ≡ true → thread_part (frames_after s 0 due e x) ≡ thread_after s 0 due e.what (frames_in x.threads t)
@@ -263,14 +266,14 @@ goes_running : (f : ℕ) (c : Command) (y : Reply) (r : Option ThreadNo) → hal
 goes_running f Yield Done r h = cc
 goes_running f c y r h = if_none (is_blocked y) r h
 
-halts_level : (st : Stand) (c : Command) (y : Reply) → halts c y ≡ true → called_level st c y ≡ 0
-halts_level st Yield Done h = refl
-halts_level st c Blocked h = refl
-halts_level st c y h = cc
+halts_level : (st : Stand) (l : Lanes) (f : ℕ) (c : Command) (y : Reply) → halts c y ≡ true → acted_level st l (Call f c y) ≡ 0
+halts_level st l f Yield Done h = refl
+halts_level st l f c Blocked h = refl
+halts_level st l f c y h = cc
 
-goes_level : (st : Stand) (c : Command) (y : Reply) → halts c y ≡ false → called_level st c y ≡ st.level
-goes_level st Yield Done h = cc
-goes_level st c y h = go (is_blocked y) h
+goes_level : (st : Stand) (l : Lanes) (f : ℕ) (c : Command) (y : Reply) → halts c y ≡ false → acted_level st l (Call f c y) ≡ st.level
+goes_level st l f Yield Done h = cc
+goes_level st l f c y h = go (is_blocked y) h
   where
     go : (b : Bool) → b ≡ false → (if b then 0 else st.level) ≡ st.level
     go true h = cc
@@ -314,12 +317,12 @@ call_tells s limit p past n c y r k lane = go (halts c y) (is_null (own_frames p
     go : (b o : Bool) → halts c y ≡ b → is_null (own_frames p past) ≡ o → Tells s p past (Call n c y)
     go true o a e =
         let null : is_null (own_frames p past) ≡ true = halts_null s p (own_of s p past) (lanes_at s past) n c y k a in
-        stop_level s p past (Call n c y) (halts_running n c y (running p past) a) (null_after null) ∙ sym (halts_level (stand_at s p past) c y a)
+        stop_level s p past (Call n c y) (halts_running n c y (running p past) a) (null_after null) ∙ sym (halts_level (stand_at s p past) (lanes_at s past) n c y a)
     go false true a e =
         let t = thread_runs (frames_of s p past) k.frame k.goes_on.inner e in
-        thread_level s limit p past t.0 (Call n c y) r t.1 refl (goes_running n c y (running p past) a ∙ t.1) (null_after e) ∙ (named_lane_level n None c y (thread_part (frames_of s p past)) lane ∙ (sym (level_on_thread (frames_of s p past) (thread_part (frames_of s p past)) e refl) ∙ sym (goes_level (stand_at s p past) c y a)))
+        thread_level s limit p past t.0 (Call n c y) r t.1 refl (goes_running n c y (running p past) a ∙ t.1) (null_after e) ∙ (named_lane_level n None c y (thread_part (frames_of s p past)) lane ∙ (sym (level_on_thread (frames_of s p past) (thread_part (frames_of s p past)) e refl) ∙ sym (goes_level (stand_at s p past) (lanes_at s past) n c y a)))
     go false false a e =
-        own_call_level n c y (frames_of s p past) (frames_after s 0 None (unleveled p (Call n c y) (frames_of s p past)) (frames_of s p past)) (own_frames p past) refl refl e lane ∙ sym (goes_level (stand_at s p past) c y a)
+        own_call_level n c y (frames_of s p past) (frames_after s 0 None (unleveled p (Call n c y) (frames_of s p past)) (frames_of s p past)) (own_frames p past) refl refl e lane ∙ sym (goes_level (stand_at s p past) (lanes_at s past) n c y a)
 
 -- ---- a wait that is taken up again
 
@@ -354,32 +357,29 @@ without_null : (n : ℕ) (fs : List Frame) → is_null fs ≡ true → is_null (
 without_null n [] h = refl
 without_null n (f ∷ fs) h = cc
 
--- the end of a base frame leaves it at PASSIVE_LEVEL, and that of a user APC the frame that it stands on
-end_level : (t : ThreadNo) (n : ℕ) (f : Frame) (fs : List Frame) → head_of fs ≡ Some f → n ≡ f.name → (is_base_body f.body ≡ true) ⊎ (is_user_apc_body f.body ≡ true) → HasBase t fs → UserBelow fs → level_of (end_on_thread n fs) ≡ 0
-end_level t n f [] h e k b u = cc
-end_level t n f (g ∷ []) h e k b u =
+-- the end of a base frame leaves it at PASSIVE_LEVEL, and that of another frame the one that it stands on
+end_level : (t : ThreadNo) (n : ℕ) (f : Frame) (fs : List Frame) → head_of fs ≡ Some f → n ≡ f.name → HasBase t fs → level_of (end_on_thread n fs) ≡ first_level [] (tail_of fs)
+end_level t n f [] h e b = cc
+end_level t n f (g ∷ []) h e b =
     let same : g ≡ f = cc in
     let named : (g.name == n) ≡ true = eq-eqb g.name n (ap (λ (x : Frame). x.name) same ∙ sym e) in
     let base : is_base_body g.body ≡ true = ap is_base_body b in
     rw (named, base) refl
-end_level t n f (g ∷ (x ∷ fs)) h e (inl k) b u =
-    let same : g ≡ f = cc in
-    let base : is_base_body g.body ≡ true = ap (λ (x : Frame). is_base_body x.body) same ∙ k in
-    absurd (both_ways (is_base_body g.body) b.0.0 base)
-end_level t n f (g ∷ (x ∷ fs)) h e (inr k) b u =
+end_level t n f (g ∷ (x ∷ fs)) h e b =
     let same : g ≡ f = cc in
     let named : (g.name == n) ≡ true = eq-eqb g.name n (ap (λ (x : Frame). x.name) same ∙ sym e) in
-    let user : is_user_apc_body g.body ≡ true = ap (λ (x : Frame). is_user_apc_body x.body) same ∙ k in
-    rw (named, b.0.0) (u.0 user)
+    rw (named, b.0.0) refl
 
-end_tells : (s : Script) (limit : ℕ) (p : CpuNo) (past : List Event) (n : ℕ) (f : Frame) → IsRun s limit past → innermost (frames_of s p past) ≡ Some f → n ≡ f.name → is_own_body f.body ≡ false → (is_base_body f.body ≡ true) ⊎ (is_user_apc_body f.body ≡ true) → Tells s p past (End n)
-end_tells s limit p past n f r h e own k =
+after_null : (x : Frames) → is_null x.own ≡ true → after_in x ≡ first_level [] (tail_of (thread_part x))
+after_null x h =
+    ap (λ (b : Bool). if b then first_level [] (tail_of (thread_part x)) else first_level (tail_of x.own) (thread_part x)) h
+
+end_tells : (s : Script) (limit : ℕ) (p : CpuNo) (past : List Event) (n : ℕ) (f : Frame) → IsRun s limit past → innermost (frames_of s p past) ≡ Some f → n ≡ f.name → is_own_body f.body ≡ false → Tells s p past (End n)
+end_tells s limit p past n f r h e own =
     let null : is_null (own_frames p past) ≡ true = not_own s p past f h own in
     let t = thread_runs (frames_of s p past) f h null in
     let b = running_has_base s limit p t.0 past r t.1 in
-    let part : thread_part (frames_of s p past) ≡ thread_frames s p t.0 past = part_of_running s p t.0 past b.1 t.1 in
-    let user : UserBelow (thread_part (frames_of s p past)) = subst UserBelow (sym part) (user_below s limit p t.0 past r) in
-    thread_level s limit p past t.0 (End n) r t.1 refl t.1 (without_null n (own_frames p past) null) ∙ end_level t.0 n f (thread_part (frames_of s p past)) (part_head (frames_of s p past) f h null) e k b.2 user
+    thread_level s limit p past t.0 (End n) r t.1 refl t.1 (without_null n (own_frames p past) null) ∙ (end_level t.0 n f (thread_part (frames_of s p past)) (part_head (frames_of s p past) f h null) e b.2 ∙ sym (after_null (frames_of s p past) null))
 
 base_not_own : (b : Body) → is_base_body b ≡ true → is_own_body b ≡ false
 base_not_own (OnBase t) h = refl
@@ -402,14 +402,17 @@ leaving_null s p past f h l = go (own_frames p past) refl (all_own p past)
         let no : f.leaving ≡ false = ap (λ (g : Frame). g.leaving) (sym same) ∙ o.0.1 in
         absurd (both_ways f.leaving no l)
 
-flush_level : (n : ℕ) (a : ApcNo) (o : Option RoutineNo) (fs : List Frame) (level : ℕ) → level_of fs ≡ level → level_of (flushed n a o fs) ≡ (if is_some o then 0 else level)
-flush_level n a None fs level h = h
-flush_level n a (Some r) fs level h = refl
+flush_level : (n : ℕ) (a : ApcNo) (o : Option RoutineNo) (fs : List Frame) → level_of fs ≡ 0 → level_of (flushed n a o fs) ≡ 0
+flush_level n a None fs h = h
+flush_level n a (Some r) fs h = refl
 
 flush_tells : (s : Script) (limit : ℕ) (p : CpuNo) (past : List Event) (a : ApcNo) (from : ℕ) (t : ThreadNo) → IsRun s limit past → KnownRundown (own_of s p past) t → Tells s p past (Flush a from)
 flush_tells s limit p past a from t r k =
     let null : is_null (own_frames p past) ≡ true = leaving_null s p past k.frame k.goes_on.inner k.leaving in
-    thread_level s limit p past t (Flush a from) r k.thread refl k.thread null ∙ flush_level 0 a (rundown_of s a) (thread_part (frames_of s p past)) (level_in (frames_of s p past)) (sym (level_on_thread (frames_of s p past) (thread_part (frames_of s p past)) null refl))
+    let b = running_here s limit p t past r k.thread in
+    let part : thread_part (frames_of s p past) ≡ thread_frames s p t past = part_of_running s p t past b.0 k.thread in
+    let low : level_of (thread_part (frames_of s p past)) ≡ 0 = leaving_low k.frame (thread_part (frames_of s p past)) (part_head (frames_of s p past) k.frame k.goes_on.inner null) k.leaving (subst AllCalm (sym part) (all_calm s limit p t past r)) in
+    thread_level s limit p past t (Flush a from) r k.thread refl k.thread null ∙ flush_level 0 a (rundown_of s a) (thread_part (frames_of s p past)) low
 
 gone_tells : (s : Script) (p : CpuNo) (past : List Event) (t : ThreadNo) → KnownRundown (own_of s p past) t → Tells s p past (Gone t)
 gone_tells s p past t k =
@@ -495,9 +498,9 @@ next_job_tells s limit p past RewaitJob r n is =
 next_job_tells s limit p past ToUserJob r n is =
     holds_else (KnownTells s p past) (option_map begin_apc (user_due (facts_of (lanes_at s past) (running p past)))) (Call (stand_at s p past).frame ToUser Done) (holds_map (KnownTells s p past) begin_apc (user_due (facts_of (lanes_at s past) (running p past))) (λ x e k. begin_tells s limit p past x.apc x.number r k)) (λ e k. call_tells s limit p past _ ToUser Done r k refl)
 next_job_tells s limit p past UserEndJob r n is =
-    λ k. end_tells s limit p past (stand_at s p past).frame is.0 r is.1 (named_stand s p past is.0 is.1) (user_not_own is.0.body is.2) (inr is.2)
+    λ k. end_tells s limit p past (stand_at s p past).frame is.0 r is.1 (named_stand s p past is.0 is.1) (user_not_own is.0.body is.2)
 next_job_tells s limit p past LeaveJob r n is =
-    λ k. end_tells s limit p past (stand_at s p past).frame is.0 r is.1 (named_stand s p past is.0 is.1) (base_not_own is.0.body is.2) (inl is.2)
+    λ k. end_tells s limit p past (stand_at s p past).frame is.0 r is.1 (named_stand s p past is.0 is.1) (base_not_own is.0.body is.2)
 next_job_tells s limit p past RundownJob r n is =
     holds_map (KnownTells s p past) (rundown_event (lanes_at s past)) (running p past) (λ t e. holds_else (KnownTells s p past) (option_map (λ x. Flush x.apc x.number) (first_user (facts_at (lanes_at s past) t).apcs)) (Gone t) (holds_map (KnownTells s p past) (λ x. Flush x.apc x.number) (first_user (facts_at (lanes_at s past) t).apcs) (λ x m k. flush_tells s limit p past x.apc x.number k.0 r k.1)) (λ m k. gone_tells s p past t k.0))
 
@@ -519,12 +522,13 @@ pick_job_tells s limit p past last r may =
     let l : Lanes = lanes_at s past in
     holds_or (Tells s p past) (option_map (λ t. switch_event t l) (next_ready s p last l)) (idle_event s (stand_at s p past) l) (holds_map (Tells s p past) (λ t. switch_event t l) (next_ready s p last l) (λ t e. switch_tells s limit p past t r may (holds_at (λ t. may_take s p t l ≡ true) (next_ready s p last l) t (next_ready_taken s p last l) e))) (λ e. idle_tells s p past)
 
-job_tells : (s : Script) (limit : ℕ) (p : CpuNo) (past : List Event) (j : Job) → IsRun s limit past → IsAllowed s p (own_of s p past) j → Holds (Tells s p past) (job_event s (stand_at s p past) (lanes_at s past) j)
-job_tells s limit p past (SwitchJob t) r a = switch_job_tells s limit p past t r a
-job_tells s limit p past (PickJob last) r a = pick_job_tells s limit p past last r a
-job_tells s limit p past j r a = task_tells s limit p past j r a
+job_tells : (s : Script) (limit : ℕ) (p : CpuNo) (past : List Event) (j : Job) → IsRun s limit past → IsDue s p (own_of s p past) j → Holds (Tells s p past) (job_event s (stand_at s p past) (lanes_at s past) j)
+job_tells s limit p past j r (inl a) = task_tells s limit p past j r a
+job_tells s limit p past (SwitchJob t) r (inr a) = switch_job_tells s limit p past t r a.1
+job_tells s limit p past (PickJob last) r (inr a) = pick_job_tells s limit p past last r a.1
+job_tells s limit p past j r (inr a) = cc
 
-pub shared_is_told : (s : Script) (limit : ℕ) (p : CpuNo) (past : List Event) (j : Job) (w : What) → IsRun s limit past → IsAllowed s p (own_of s p past) j → job_event s (stand_at s p past) (lanes_at s past) j ≡ Some w → event_at s p w (frames_of s p past) ≡ shared_event s (stand_at s p past) (lanes_at s past) w
-shared_is_told s limit p past j w r a h =
+pub events_agree : (s : Script) (limit : ℕ) (p : CpuNo) (j : Job) (w : What) (past : List Event) → IsRun s limit past → IsDue s p (own_of s p past) j → job_event s (stand_at s p past) (lanes_at s past) j ≡ Some w → event_at s p w (frames_of s p past) ≡ acted_event (stand_at s p past) (lanes_at s past) w
+events_agree s limit p j w past r a h =
     let level : Tells s p past w = holds_at (Tells s p past) (job_event s (stand_at s p past) (lanes_at s past) j) w (job_tells s limit p past j r a) h in
     ap (λ (n : ℕ). record { cpu = p; thread = thread_field w (running p past); level = n; what = w }) level

@@ -111,7 +111,7 @@ done_again (Raise l) f = refl
 done_again c f = refl
 
 -- a call that is no accepted wait keeps it
-effect_again : (due : Option ℕ) (c : Command) (y : Reply) (f : Frame) → (is_wait c ≡ false) ⊎ (is_refused y ≡ true) → (called due c y f).again ≡ f.again
+pub effect_again : (due : Option ℕ) (c : Command) (y : Reply) (f : Frame) → (is_wait c ≡ false) ⊎ (is_refused y ≡ true) → (called due c y f).again ≡ f.again
 effect_again due (StartWait m a) y f (inl h) = cc
 effect_again due (StartWait m a) (Refused r) f (inr h) = refl
 effect_again due (StartWait m a) y f (inr h) = cc

@@ -6,14 +6,13 @@ use Rattle.nt_event.specs.declared.events.Turn.{Turn}
 use Rattle.nt_event.specs.declared.events.What.{What}
 use Rattle.nt_event.specs.declared.frames.Body.TheVariants.{Base as OnBase}
 use Rattle.nt_event.specs.declared.frames.Frame.{Frame}
-use Rattle.nt_event.specs.declared.jobs.Job.{Job}
 use Rattle.nt_event.specs.declared.numbers.CpuNo.{CpuNo}
 use Rattle.nt_event.specs.declared.numbers.ThreadNo.{ThreadNo}
 use Rattle.nt_event.specs.declared.scripts.Script.{Script}
 use Rattle.nt_event.specs.declared.threads.Doing.{Doing}
 use Rattle.nt_event.specs.declared.threads.Doing.TheVariants.{Blocked as IsBlocked, Gone as IsGone, Ready as IsReady, Running as IsRunning}
 use Rattle.nt_event.specs.Frames.{due_of, frames_of, is_base_body, level_in, running, thread_frames, thread_part, time}
-use Rattle.nt_event.specs.Jobs.{chosen_what, job_event, rests}
+use Rattle.nt_event.specs.Jobs.{chosen_what, rests}
 use Rattle.nt_event.specs.Lanes.{lanes_after, lanes_at}
 use Rattle.nt_event.specs.Own.{own_after_event, own_of}
 use Rattle.nt_event.specs.Regions.{regions_of, stand_at}
@@ -21,7 +20,7 @@ use Rattle.nt_event.specs.Requests.{asked, asks, seen, told}
 use Rattle.nt_event.specs.Robin.{go_on_turn, is_settled, robin}
 use Rattle.nt_event.specs.Routines.{cpu_of}
 use Rattle.nt_event.specs.Script.{has_thread}
-use Rattle.nt_event.specs.Step.{IsAllowed, IsLegal, IsRun, event_at, is_cut, is_look, shared_event, step, turn_of, turns}
+use Rattle.nt_event.specs.Step.{IsLegal, IsRun, event_at, is_cut, is_look, step, turn_of, turns}
 use Rattle.nt_event.specs.Waits.{facts}
 use Rattle.nt_event.specs.Words.{head_of, is_of}
 
@@ -97,7 +96,3 @@ Agrees s t past = Says (facts s t past).doing (thread_frames s (cpu_of s t) t pa
 -- and, blocked, the regions with which it stopped; one that is gone has no frame
 abbrev pub FactsAgree : Type 0
 FactsAgree = (s : Script) (limit : ℕ) (t : ThreadNo) (past : List Event) → IsRun s limit past → Agrees s t past
-
--- in a run, the event of a job is told by where its processor stands and the states of the lanes alone
-abbrev pub SharedIsTold : Type 0
-SharedIsTold = (s : Script) (limit : ℕ) (p : CpuNo) (past : List Event) (j : Job) (w : What) → IsRun s limit past → IsAllowed s p (own_of s p past) j → job_event s (stand_at s p past) (lanes_at s past) j ≡ Some w → event_at s p w (frames_of s p past) ≡ shared_event s (stand_at s p past) (lanes_at s past) w

@@ -1,12 +1,6 @@
 -- What a turn gives after a history, and runs.
 use Rattle.std.specs.List.{list_any}
 use Rattle.std.specs.Prelude.{Bool, Err, List, None, Ok, Option, Result, Some, [], false, if◌then◌else◌, is_some, length, map, nat_le, nat_lt, not, reverse, suc, true, ℕ, ◌&&◌, ◌+◌, ◌==◌, ◌||◌, ◌∷◌, ◌≡◌}
-use Rattle.nt_event.specs.declared.commands.Command.{Command}
-use Rattle.nt_event.specs.declared.commands.Command.TheVariants.{Yield}
-use Rattle.nt_event.specs.declared.commands.Reply.{Reply}
-use Rattle.nt_event.specs.declared.commands.Reply.TheVariants.{Done}
-use Rattle.nt_event.specs.declared.events.Begun.{Begun}
-use Rattle.nt_event.specs.declared.events.Begun.TheVariants.{Apc, Dpc, Int, Threaded}
 use Rattle.nt_event.specs.declared.events.Event.{Event}
 use Rattle.nt_event.specs.declared.events.Rises.{Rises}
 use Rattle.nt_event.specs.declared.events.ScheduleKind.{ScheduleKind}
@@ -14,22 +8,17 @@ use Rattle.nt_event.specs.declared.events.ScheduleKind.TheVariants.{BadChoice, B
 use Rattle.nt_event.specs.declared.events.Turn.{Turn}
 use Rattle.nt_event.specs.declared.events.Turn.TheVariants.{Look as LookTurn, Next, Switch as SwitchTurn}
 use Rattle.nt_event.specs.declared.events.What.{What}
-use Rattle.nt_event.specs.declared.events.What.TheVariants.{Begin, Call, End, Flush, Gone, Look, Rewait, Switch}
-use Rattle.nt_event.specs.declared.jobs.Job.{Job}
-use Rattle.nt_event.specs.declared.jobs.Job.TheVariants.{Pick as PickJob, Switch as SwitchJob}
-use Rattle.nt_event.specs.declared.jobs.Stand.{Stand}
-use Rattle.nt_event.specs.declared.jobs.Task.TheVariants.{Shared}
+use Rattle.nt_event.specs.declared.events.What.TheVariants.{Look, Switch}
+use Rattle.nt_event.specs.declared.jobs.Job.TheVariants.{Switch as SwitchJob}
 use Rattle.nt_event.specs.declared.numbers.CpuNo.{CpuNo}
 use Rattle.nt_event.specs.declared.numbers.ThreadNo.{ThreadNo}
 use Rattle.nt_event.specs.declared.scripts.Script.{Script}
 use Rattle.nt_event.specs.Frames.{Frames, frames_after, level_in}
-use Rattle.nt_event.specs.Jobs.{job_event, may_switch, next_what, task}
-use Rattle.nt_event.specs.Lanes.{Lanes, facts_at, lanes_at}
+use Rattle.nt_event.specs.Jobs.{job_event, may_switch, next_what}
+use Rattle.nt_event.specs.Lanes.{Lanes, lanes_at}
 use Rattle.nt_event.specs.Own.{Own, own_of, standing_in}
 use Rattle.nt_event.specs.Requests.{asks}
-use Rattle.nt_event.specs.Routines.{rundown_of}
-use Rattle.nt_event.specs.Threads.{doing_level}
-use Rattle.nt_event.specs.Words.{is_blocked, value_at, when}
+use Rattle.nt_event.specs.Words.{cpu, thread, value_at, when}
 
 -- ---- an event
 
@@ -55,40 +44,6 @@ level_field w x = level_in x
 abbrev pub event_at : Script → CpuNo → What → Frames → Event
 event_at s p w x =
     record (unleveled p w x) { level = level_field w (frames_after s 0 None (unleveled p w x) x) }
-
--- ---- an event of a job, by where its processor stands and the states of the lanes
-
--- the level after a call of a command that touches lanes: a thread that blocks or yields leaves its processor without frames
-abbrev pub called_level : Stand → Command → Reply → ℕ
-called_level st Yield Done = 0
-called_level st c y = if is_blocked y then 0 else st.level
-
-abbrev pub begun_level : Begun → ℕ
-begun_level (Int level) = level
-begun_level (Dpc d) = 2
-begun_level (Threaded d) = 0
-begun_level (Apc a) = 1
-
--- the level after it; a user APC ends on a base frame at PASSIVE_LEVEL
-abbrev pub level_after : Script → Stand → Lanes → What → ℕ
-level_after s st l (Call f c y) = called_level st c y
-level_after s st l (Begin b from) = begun_level b
-level_after s st l (Switch t status) = doing_level (facts_at l t).doing
-level_after s st l (Rewait f y) = if is_blocked y then 0 else st.level
-level_after s st l (Flush a from) = if is_some (rundown_of s a) then 0 else st.level
-level_after s st l (End f) = 0
-level_after s st l (Gone t) = 0
-level_after s st l w = st.level
-
-abbrev pub shared_event : Script → Stand → Lanes → What → Event
-shared_event s st l w =
-    record { cpu = st.cpu; thread = thread_field w st.thread; level = level_after s st l w; what = w }
-
--- the job is the one that the next event needs, or a choice of thread where a Switch may be made
-abbrev pub IsAllowed : Script → CpuNo → Own → Job → Type 0
-IsAllowed s p x (SwitchJob t) = may_switch x ≡ true
-IsAllowed s p x (PickJob last) = may_switch x ≡ true
-IsAllowed s p x j = task s p x ≡ Some (Shared j)
 
 abbrev pub event_or : Script → CpuNo → Own → ScheduleKind → Option What → Result Event ScheduleKind
 event_or s p x k None = Err k

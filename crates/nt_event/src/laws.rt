@@ -1,5 +1,6 @@
 //! Laws over the definitions. Each function's contract is a law; the functions do nothing.
-ghost use Rattle.nt_event.specs.Laws.{OwnMoves, LanesMove, TurnsDecide, RunGrows, LevelsHold, RunningHasBase, RobinIsAccepted, SeenWasAsked, RobinEndsSettled, ChosenIsItsTurn, ChosenComes, FactsAgree, SharedIsTold};
+ghost use Rattle.nt_event.specs.Laws.{OwnMoves, LanesMove, TurnsDecide, RunGrows, LevelsHold, RunningHasBase, RobinIsAccepted, SeenWasAsked, RobinEndsSettled, ChosenIsItsTurn, ChosenComes, FactsAgree};
+ghost use Rattle.nt_event.specs.Acting.{EventsAgree};
 
 /// What a processor keeps moves as the history does: an event of its own changes it as the definitions of the step say, by the
 /// event's number, its due time, its asks and what its lanes tell; an event of another processor leaves it.
@@ -63,7 +64,8 @@ pub fn facts_agree()
     ensures { FactsAgree }
 {}
 
-/// In a run the event of a job is told by where its processor stands and the states of the lanes alone: its thread and its level too.
-pub fn shared_is_told()
-    ensures { SharedIsTold }
+/// In a run the event of a job that is due is told by where its processor stands and the states of the lanes alone: its thread and
+/// its level too.
+pub fn events_agree()
+    ensures { EventsAgree }
 {}
