@@ -1,0 +1,181 @@
+//! A text as lines, and a line as fields.
+ghost use Rattle.std.specs.Prelude.{◌≡◌, ◌≤◌, ℕ, length, drop, option_map, slice_get, Some, None, ◌∷◌, [], IfNone};
+ghost use Rattle.std.specs.List.{position, list_all};
+ghost use Rattle.std.specs.Option.{option_map_or};
+ghost use Rattle.nt_text.specs.Lines.{is_byte, parts, fields, is_printable, row_of, first, rest};
+
+use crate::kind::ScriptKind;
+use std::marker::Model;
+
+/// Where the byte stands first.
+fn place_of(byte: u8, bytes: &[u8]) -> Option<usize>
+    ensures { result ≡ position (is_byte byte) bytes.now }
+{
+    bytes.iter().position(|b| *b == byte)
+}
+
+/// The part before the first such byte, and what comes after it, where there is one.
+fn cut(byte: u8, bytes: &[u8]) -> (&[u8], Option<&[u8]>)
+    ensures parts { parts byte bytes.now ≡ result.0.now ∷ option_map_or (λ r. parts byte r.now) result.1 [] }
+    ensures whole { IfNone result.1 (result.0.now ≡ bytes.now) }
+{
+    match place_of(byte, bytes) {
+        Some(end) => (&bytes[..end], Some(&bytes[end + 1..])),
+        None => (bytes, None),
+    }
+}
+
+/// How many fields a line has: one more than it has spaces.
+#[tactic(auto, using(crate::proofs::Cuts::counts))]
+fn field_count(line: &[u8]) -> usize
+    ensures { result ≡ length (fields line.now) }
+{
+    line.iter().filter(|b| **b == b' ').count() + 1
+}
+
+/// A line of a text.
+#[derive(Clone, Copy)]
+pub struct Line<'a> {
+    /// Its bytes without its end.
+    pub bytes: &'a [u8],
+    /// Whether byte 10 stood behind it. Only the last line of a text may lack it.
+    pub ended: bool,
+}
+
+/// Whether all bytes are 32 to 126.
+fn is_printable(bytes: &[u8]) -> bool
+    ensures { result ≡ list_all is_printable bytes.now }
+{
+    bytes.iter().all(|b| 32 <= *b && *b <= 126)
+}
+
+impl<'a> Line<'a> {
+    /// The fields of the line.
+    ///
+    /// NotAscii exactly where a byte outside 32 to 126 stands in it; else NoEnd exactly where its end is missing.
+    pub fn fields(&self) -> Result<Fields<'a>, ScriptKind>
+        ensures { result ≡ row_of (self.now.bytes.now, self.now.ended) }
+    {
+        if !is_printable(self.bytes) {
+            return Err(ScriptKind::NotAscii);
+        }
+        if !self.ended {
+            return Err(ScriptKind::NoEnd);
+        }
+        Ok(Fields::new(self.bytes))
+    }
+}
+
+/// The lines of a text that are left, in order. Contracts see the list of them, each with whether it was ended.
+#[derive(Drop)]
+pub struct Lines<'a> {
+    rest: &'a [u8],
+}
+
+impl<'a> Model for Lines<'a> {
+    ghost use Rattle.std.specs.Prelude.{List, ℕ, Bool};
+    ghost use Rattle.nt_text.specs.Lines.{lines};
+
+    ghost Value = { List (List ℕ × Bool) };
+
+    ghost view = { λ a. lines a.rest.now };
+}
+
+impl<'a> Lines<'a> {
+    ghost use Rattle.nt_text.specs.Lines.{lines};
+
+    /// All lines of a text. Bytes behind the last byte 10, where there are any, are a line that isn't ended.
+    #[tactic(auto, using(crate::proofs::Cuts::few_lines))]
+    pub fn new(bytes: &'a [u8]) -> Lines<'a>
+        ensures lines { result ≡ lines bytes.now }
+        ensures few { length result ≤ length bytes.now }
+    {
+        Lines { rest: bytes }
+    }
+
+    /// Takes the first line that is left. None exactly where none is.
+    pub fn next(&mut self) -> Option<Line<'a>>
+        ensures line { option_map (λ l. (l.bytes.now, l.ended)) result ≡ slice_get self.old 0 }
+        ensures rest { self.new ≡ drop 1 self.old }
+    {
+        let text = self.rest;
+        if text.is_empty() {
+            return None;
+        }
+        let (bytes, rest) = cut(b'\n', text);
+        match rest {
+            Some(rest) => {
+                self.rest = rest;
+                Some(Line { bytes, ended: true })
+            }
+            None => {
+                self.rest = &[];
+                Some(Line {
+                    bytes: text,
+                    ended: false,
+                })
+            }
+        }
+    }
+}
+
+/// The fields of a line that are left, in order. Contracts see the list of them.
+///
+/// An empty line is one empty field, and two spaces side by side have an empty field between them.
+#[derive(Drop)]
+pub struct Fields<'a> {
+    rest: Option<&'a [u8]>,
+}
+
+impl<'a> Model for Fields<'a> {
+    ghost use Rattle.std.specs.Prelude.{List, ℕ, []};
+    ghost use Rattle.std.specs.Option.{option_map_or};
+    ghost use Rattle.nt_text.specs.Lines.{fields};
+
+    ghost Value = { List (List ℕ) };
+
+    ghost view = { λ a. option_map_or (λ r. fields r.now) a.rest [] };
+}
+
+impl<'a> Fields<'a> {
+    ghost use Rattle.nt_text.specs.Lines.{fields};
+
+    /// All fields of a line, whatever its bytes are.
+    pub fn new(line: &'a [u8]) -> Fields<'a>
+        ensures { result ≡ fields line.now }
+    {
+        Fields { rest: Some(line) }
+    }
+
+    /// Takes the first field that is left. None exactly where none is.
+    pub fn next(&mut self) -> Option<&'a [u8]>
+        ensures field { option_map (λ f. f.now) result ≡ slice_get self.old 0 }
+        ensures rest { self.new ≡ drop 1 self.old }
+    {
+        let rest = self.rest?;
+        let (field, rest) = cut(b' ', rest);
+        self.rest = rest;
+        Some(field)
+    }
+
+    /// The next field, or an empty one where none is left.
+    pub fn take(&mut self) -> &'a [u8]
+        ensures field { result.now ≡ first self.old }
+        ensures rest { self.new ≡ rest self.old }
+    {
+        match self.next() {
+            Some(field) => field,
+            None => &[],
+        }
+    }
+
+    /// How many fields are left.
+    pub fn count(&self) -> usize
+        ensures { result ≡ length self.now }
+    {
+        match self.rest {
+            Some(rest) => field_count(rest),
+            None => 0,
+        }
+    }
+}
