@@ -1,0 +1,340 @@
+-- What holds of what was read, and what a line adds to it.
+use Rattle.std.proofs.Common.{◌≡◌, ℕ, suc, ◌≤◌, Bool, true, false, cond, List, [], ◌∷◌, ◌++◌, length, map, Option, Some, None, Ok, Err, refl, sym, ◌∙◌, ap, arith}
+use Rattle.std.specs.Prelude.{◌==◌, nat_lt}
+use Rattle.std.proofs.lemmas.List.{append-nil, map-append, length-append}
+use Rattle.nt_text.specs.declared.kind.ScriptKind.TheVariants.{BadNumber, TooMany}
+use Rattle.nt_text.specs.declared.kind.What10.TheVariants as what
+use Rattle.nt_event.specs.declared.commands.Command.{Command}
+use Rattle.nt_event.specs.declared.scripts.Isr.{Isr}
+use Rattle.nt_event.specs.declared.scripts.DpcDecl.{DpcDecl}
+use Rattle.nt_event.specs.declared.scripts.TimerDecl.{TimerDecl}
+use Rattle.nt_event.specs.declared.scripts.ThreadDecl.{ThreadDecl}
+use Rattle.nt_event.specs.declared.scripts.ApcDecl.{ApcDecl}
+use Rattle.nt_script.specs.declared.words.Word.TheVariants as word
+use Rattle.nt_script.specs.declared.words.Place.{Place}
+use Rattle.nt_script.specs.declared.words.Place.TheVariants.{Start, HasCpus, HasDepth, HasThreaded, InIsrs, InDpcs, InTimers, InThreads, InApcs, InRoutines, InRoutine}
+use Rattle.nt_script.specs.declared.walk.Walk.{Walk}
+use Rattle.nt_script.specs.NameLists.{NameLists}
+use Rattle.nt_script.specs.Words.{text_of, order}
+use Rattle.nt_script.specs.Slots.{on_off_text}
+use Rattle.nt_script.specs.Reading.{put_cpus, with_cpus, with_depth, with_threaded, with_isr, with_dpc, with_timer, with_thread, with_apc, with_routine, with_exit, with_command}
+use Rattle.nt_script.specs.Text.{Row, command_row, number_row, depth_rows, threaded_rows, header_rows, isr_row, dpc_row, timer_row, thread_row, apc_row, exit_row}
+use Rattle.nt_script.proofs.SoFar.{heads_at, has_head, heads, isrs, dpcs, timers, threads, apcs, routines, so_far, grow_heads, grow_isrs, grow_dpcs, grow_timers, grow_threads, grow_apcs, grow_routines, declared_more, none_declared, none_opened, routine_more, command_more, exit_more}
+
+-- nothing stands there of the parts behind the place with this number
+pub record Later (k : ℕ) (w : Walk) : Type 0 where
+  pub depth : k ≤ 1 → w.script.depth ≡ None
+  pub threaded : k ≤ 2 → w.script.threaded ≡ None
+  pub isrs : k ≤ 3 → w.script.isrs ≡ []
+  pub dpcs : k ≤ 4 → (w.names.dpcs ≡ []) × (w.script.dpcs ≡ [])
+  pub timers : k ≤ 5 → (w.names.timers ≡ []) × (w.script.timers ≡ [])
+  pub threads : k ≤ 6 → (w.names.threads ≡ []) × (w.script.threads ≡ [])
+  pub apcs : k ≤ 7 → (w.names.apcs ≡ []) × (w.script.apcs ≡ [])
+  pub routines : k ≤ 8 → (w.names.routines ≡ []) × (w.script.routines ≡ [])
+  pub closed : k ≤ 9 → (w.body ≡ []) × (length w.names.routines ≡ length w.script.routines)
+  pub opened : k ≡ 10 → length w.names.routines ≡ suc (length w.script.routines)
+
+pub record Good (w : Walk) : Type 0 where
+  pub dpcs : length w.names.dpcs ≡ length w.script.dpcs
+  pub timers : length w.names.timers ≡ length w.script.timers
+  pub threads : length w.names.threads ≡ length w.script.threads
+  pub apcs : length w.names.apcs ≡ length w.script.apcs
+  pub later : Later (order w.place) w
+
+-- behind the lines from this number to that
+abbrev pub Between : ℕ → ℕ → Place → Type 0
+Between low high p = (low ≤ order p) × (order p ≤ high)
+
+one_longer : {A B : Type 0} (xs : List A) (ys : List B) (x : A) (y : B) → length xs ≡ length ys → length (xs ++ x ∷ []) ≡ length (ys ++ y ∷ [])
+one_longer xs ys x y e = omega (arith, e, length-append xs (x ∷ []), length-append ys (y ∷ []))
+
+one_more : {A : Type 0} (xs : List A) (x : A) (n : ℕ) → length xs ≡ n → length (xs ++ x ∷ []) ≡ suc n
+one_more xs x n e = omega (arith, e, length-append xs (x ∷ []))
+
+no_isrs : (all : NameLists) (w : Walk) → w.script.isrs ≡ [] → isrs all w ≡ []
+no_isrs all w e = rw e refl
+
+-- ---- the head
+
+at_start : (p : Place) (n : ℕ) (d : Option ℕ) (t : Option Bool) → order p ≤ 0 → heads_at p n d t ≡ []
+at_start Start n d t h = refl
+at_start HasCpus n d t h = absurd (omega (arith, h))
+at_start HasDepth n d t h = absurd (omega (arith, h))
+at_start HasThreaded n d t h = absurd (omega (arith, h))
+at_start InIsrs n d t h = absurd (omega (arith, h))
+at_start InDpcs n d t h = absurd (omega (arith, h))
+at_start InTimers n d t h = absurd (omega (arith, h))
+at_start InThreads n d t h = absurd (omega (arith, h))
+at_start InApcs n d t h = absurd (omega (arith, h))
+at_start InRoutines n d t h = absurd (omega (arith, h))
+at_start InRoutine n d t h = absurd (omega (arith, h))
+
+pub put_cpus_ok : (w : Walk) (n : ℕ) (new : Walk) → put_cpus w n ≡ Ok new → with_cpus w n ≡ new
+put_cpus_ok w n new e = go (n == 0) (nat_lt 8 n) e
+  where
+    go : (z big : Bool) → cond z (Err BadNumber) (cond big (Err (TooMany what.Cpus)) (Ok (with_cpus w n))) ≡ Ok new → with_cpus w n ≡ new
+    go true big e = absurd cc
+    go false true e = absurd cc
+    go false false e = cc
+
+cpus_later : (w : Walk) (n : ℕ) → Between 0 0 w.place → Good w → Later 1 (with_cpus w n)
+cpus_later w n at g = record {
+  depth = λ h. g.later.depth (omega (arith, at.1));
+  threaded = λ h. g.later.threaded (omega (arith, at.1));
+  isrs = λ h. g.later.isrs (omega (arith, at.1));
+  dpcs = λ h. g.later.dpcs (omega (arith, at.1));
+  timers = λ h. g.later.timers (omega (arith, at.1));
+  threads = λ h. g.later.threads (omega (arith, at.1));
+  apcs = λ h. g.later.apcs (omega (arith, at.1));
+  routines = λ h. g.later.routines (omega (arith, at.1));
+  closed = λ h. g.later.closed (omega (arith, at.1));
+  opened = λ h. absurd (omega (arith, h));
+}
+
+pub cpus_good : (w : Walk) (n : ℕ) → Between 0 0 w.place → Good w → Good (with_cpus w n)
+cpus_good w n at g = record { dpcs = g.dpcs; timers = g.timers; threads = g.threads; apcs = g.apcs; later = cpus_later w n at g }
+
+pub cpus_taken : (all : NameLists) (w : Walk) (n : ℕ) → Between 0 0 w.place → Good w → so_far all (with_cpus w n) ≡ so_far all w ++ number_row word.Cpus n ∷ []
+cpus_taken all w n at g =
+    let none = at_start w.place w.script.cpus w.script.depth w.script.threaded at.1 in
+    grow_heads (heads w.place w) (heads HasCpus (with_cpus w n)) (isrs all w) (dpcs all w) (timers all w) (threads all w) (apcs all w) (routines all w) (number_row word.Cpus n ∷ [])
+    (rw (none, g.later.depth (omega (arith, at.1)), g.later.threaded (omega (arith, at.1))) refl)
+    (no_isrs all w (g.later.isrs (omega (arith, at.1)))) (none_declared (dpc_row all) w.names.dpcs w.script.dpcs (g.later.dpcs (omega (arith, at.1))).0) (none_declared (timer_row all) w.names.timers w.script.timers (g.later.timers (omega (arith, at.1))).0) (none_declared (thread_row all) w.names.threads w.script.threads (g.later.threads (omega (arith, at.1))).0) (none_declared (apc_row all) w.names.apcs w.script.apcs (g.later.apcs (omega (arith, at.1))).0) (none_opened all w.body w.names.routines w.script.routines (g.later.routines (omega (arith, at.1))).0)
+
+depth_later : (w : Walk) (n : ℕ) → Between 1 1 w.place → Good w → Later 2 (with_depth w n)
+depth_later w n at g = record {
+  depth = λ h. absurd (omega (arith, h));
+  threaded = λ h. g.later.threaded (omega (arith, at.1));
+  isrs = λ h. g.later.isrs (omega (arith, at.1));
+  dpcs = λ h. g.later.dpcs (omega (arith, at.1));
+  timers = λ h. g.later.timers (omega (arith, at.1));
+  threads = λ h. g.later.threads (omega (arith, at.1));
+  apcs = λ h. g.later.apcs (omega (arith, at.1));
+  routines = λ h. g.later.routines (omega (arith, at.1));
+  closed = λ h. g.later.closed (omega (arith, at.1));
+  opened = λ h. absurd (omega (arith, h));
+}
+
+pub depth_good : (w : Walk) (n : ℕ) → Between 1 1 w.place → Good w → Good (with_depth w n)
+depth_good w n at g = record { dpcs = g.dpcs; timers = g.timers; threads = g.threads; apcs = g.apcs; later = depth_later w n at g }
+
+pub depth_taken : (all : NameLists) (w : Walk) (n : ℕ) → Between 1 1 w.place → Good w → so_far all (with_depth w n) ≡ so_far all w ++ number_row word.Depth n ∷ []
+depth_taken all w n at g =
+    let there = has_head w.place w.script.cpus w.script.depth w.script.threaded at.0 in
+    grow_heads (heads w.place w) (heads HasDepth (with_depth w n)) (isrs all w) (dpcs all w) (timers all w) (threads all w) (apcs all w) (routines all w) (number_row word.Depth n ∷ [])
+    (rw (there, g.later.depth (omega (arith, at.1)), g.later.threaded (omega (arith, at.1))) refl)
+    (no_isrs all w (g.later.isrs (omega (arith, at.1)))) (none_declared (dpc_row all) w.names.dpcs w.script.dpcs (g.later.dpcs (omega (arith, at.1))).0) (none_declared (timer_row all) w.names.timers w.script.timers (g.later.timers (omega (arith, at.1))).0) (none_declared (thread_row all) w.names.threads w.script.threads (g.later.threads (omega (arith, at.1))).0) (none_declared (apc_row all) w.names.apcs w.script.apcs (g.later.apcs (omega (arith, at.1))).0) (none_opened all w.body w.names.routines w.script.routines (g.later.routines (omega (arith, at.1))).0)
+
+threaded_later : (w : Walk) (on : Bool) → Between 1 2 w.place → Good w → Later 3 (with_threaded w on)
+threaded_later w on at g = record {
+  depth = λ h. absurd (omega (arith, h));
+  threaded = λ h. absurd (omega (arith, h));
+  isrs = λ h. g.later.isrs (omega (arith, at.1));
+  dpcs = λ h. g.later.dpcs (omega (arith, at.1));
+  timers = λ h. g.later.timers (omega (arith, at.1));
+  threads = λ h. g.later.threads (omega (arith, at.1));
+  apcs = λ h. g.later.apcs (omega (arith, at.1));
+  routines = λ h. g.later.routines (omega (arith, at.1));
+  closed = λ h. g.later.closed (omega (arith, at.1));
+  opened = λ h. absurd (omega (arith, h));
+}
+
+pub threaded_good : (w : Walk) (on : Bool) → Between 1 2 w.place → Good w → Good (with_threaded w on)
+threaded_good w on at g = record { dpcs = g.dpcs; timers = g.timers; threads = g.threads; apcs = g.apcs; later = threaded_later w on at g }
+
+-- a last row of the head
+last_head : (h : Row) (rows : List Row) (r : Row) → h ∷ (rows ++ r ∷ []) ≡ (h ∷ (rows ++ [])) ++ r ∷ []
+last_head h rows r = rw (append-nil rows) refl
+
+pub threaded_taken : (all : NameLists) (w : Walk) (on : Bool) → Between 1 2 w.place → Good w → so_far all (with_threaded w on) ≡ so_far all w ++ (text_of word.Threaded ∷ on_off_text on ∷ []) ∷ []
+threaded_taken all w on at g =
+    let there = has_head w.place w.script.cpus w.script.depth w.script.threaded at.0 in
+    let row = text_of word.Threaded ∷ on_off_text on ∷ [] in
+    grow_heads (heads w.place w) (heads HasThreaded (with_threaded w on)) (isrs all w) (dpcs all w) (timers all w) (threads all w) (apcs all w) (routines all w) (row ∷ [])
+    (rw (there, g.later.threaded (omega (arith, at.1))) (last_head (number_row word.Cpus w.script.cpus) (depth_rows w.script.depth) row))
+    (no_isrs all w (g.later.isrs (omega (arith, at.1)))) (none_declared (dpc_row all) w.names.dpcs w.script.dpcs (g.later.dpcs (omega (arith, at.1))).0) (none_declared (timer_row all) w.names.timers w.script.timers (g.later.timers (omega (arith, at.1))).0) (none_declared (thread_row all) w.names.threads w.script.threads (g.later.threads (omega (arith, at.1))).0) (none_declared (apc_row all) w.names.apcs w.script.apcs (g.later.apcs (omega (arith, at.1))).0) (none_opened all w.body w.names.routines w.script.routines (g.later.routines (omega (arith, at.1))).0)
+
+-- ---- the parts
+
+isr_later : (w : Walk) (x : Isr) → Between 1 4 w.place → Good w → Later 4 (with_isr w x)
+isr_later w x at g = record {
+  depth = λ h. absurd (omega (arith, h));
+  threaded = λ h. absurd (omega (arith, h));
+  isrs = λ h. absurd (omega (arith, h));
+  dpcs = λ h. g.later.dpcs (omega (arith, at.1));
+  timers = λ h. g.later.timers (omega (arith, at.1));
+  threads = λ h. g.later.threads (omega (arith, at.1));
+  apcs = λ h. g.later.apcs (omega (arith, at.1));
+  routines = λ h. g.later.routines (omega (arith, at.1));
+  closed = λ h. g.later.closed (omega (arith, at.1));
+  opened = λ h. absurd (omega (arith, h));
+}
+
+pub isr_good : (w : Walk) (x : Isr) → Between 1 4 w.place → Good w → Good (with_isr w x)
+isr_good w x at g = record { dpcs = g.dpcs; timers = g.timers; threads = g.threads; apcs = g.apcs; later = isr_later w x at g }
+
+pub isr_taken : (all : NameLists) (w : Walk) (x : Isr) → Between 1 4 w.place → Good w → so_far all (with_isr w x) ≡ so_far all w ++ isr_row all x ∷ []
+isr_taken all w x at g =
+    grow_isrs (heads w.place w) (heads InIsrs w) (isrs all w) (isrs all (with_isr w x)) (dpcs all w) (timers all w) (threads all w) (apcs all w) (routines all w) (isr_row all x ∷ []) (sym (has_head w.place w.script.cpus w.script.depth w.script.threaded at.0)) (map-append (isr_row all) w.script.isrs (x ∷ []))
+    (none_declared (dpc_row all) w.names.dpcs w.script.dpcs (g.later.dpcs (omega (arith, at.1))).0) (none_declared (timer_row all) w.names.timers w.script.timers (g.later.timers (omega (arith, at.1))).0) (none_declared (thread_row all) w.names.threads w.script.threads (g.later.threads (omega (arith, at.1))).0) (none_declared (apc_row all) w.names.apcs w.script.apcs (g.later.apcs (omega (arith, at.1))).0) (none_opened all w.body w.names.routines w.script.routines (g.later.routines (omega (arith, at.1))).0)
+
+dpc_later : (w : Walk) (name : List ℕ) (x : DpcDecl) → Between 1 5 w.place → Good w → Later 5 (with_dpc w name x)
+dpc_later w name x at g = record {
+  depth = λ h. absurd (omega (arith, h));
+  threaded = λ h. absurd (omega (arith, h));
+  isrs = λ h. absurd (omega (arith, h));
+  dpcs = λ h. absurd (omega (arith, h));
+  timers = λ h. g.later.timers (omega (arith, at.1));
+  threads = λ h. g.later.threads (omega (arith, at.1));
+  apcs = λ h. g.later.apcs (omega (arith, at.1));
+  routines = λ h. g.later.routines (omega (arith, at.1));
+  closed = λ h. g.later.closed (omega (arith, at.1));
+  opened = λ h. absurd (omega (arith, h));
+}
+
+pub dpc_good : (w : Walk) (name : List ℕ) (x : DpcDecl) → Between 1 5 w.place → Good w → Good (with_dpc w name x)
+dpc_good w name x at g = record { dpcs = one_longer w.names.dpcs w.script.dpcs name x g.dpcs; timers = g.timers; threads = g.threads; apcs = g.apcs; later = dpc_later w name x at g }
+
+pub dpc_taken : (all : NameLists) (w : Walk) (name : List ℕ) (x : DpcDecl) → Between 1 5 w.place → Good w → so_far all (with_dpc w name x) ≡ so_far all w ++ dpc_row all name x ∷ []
+dpc_taken all w name x at g =
+    grow_dpcs (heads w.place w) (heads InDpcs w) (isrs all w) (dpcs all w) (dpcs all (with_dpc w name x)) (timers all w) (threads all w) (apcs all w) (routines all w) (dpc_row all name x ∷ []) (sym (has_head w.place w.script.cpus w.script.depth w.script.threaded at.0)) (declared_more (dpc_row all) w.names.dpcs w.script.dpcs name x g.dpcs)
+    (none_declared (timer_row all) w.names.timers w.script.timers (g.later.timers (omega (arith, at.1))).0) (none_declared (thread_row all) w.names.threads w.script.threads (g.later.threads (omega (arith, at.1))).0) (none_declared (apc_row all) w.names.apcs w.script.apcs (g.later.apcs (omega (arith, at.1))).0) (none_opened all w.body w.names.routines w.script.routines (g.later.routines (omega (arith, at.1))).0)
+
+timer_later : (w : Walk) (name : List ℕ) (x : TimerDecl) → Between 1 6 w.place → Good w → Later 6 (with_timer w name x)
+timer_later w name x at g = record {
+  depth = λ h. absurd (omega (arith, h));
+  threaded = λ h. absurd (omega (arith, h));
+  isrs = λ h. absurd (omega (arith, h));
+  dpcs = λ h. absurd (omega (arith, h));
+  timers = λ h. absurd (omega (arith, h));
+  threads = λ h. g.later.threads (omega (arith, at.1));
+  apcs = λ h. g.later.apcs (omega (arith, at.1));
+  routines = λ h. g.later.routines (omega (arith, at.1));
+  closed = λ h. g.later.closed (omega (arith, at.1));
+  opened = λ h. absurd (omega (arith, h));
+}
+
+pub timer_good : (w : Walk) (name : List ℕ) (x : TimerDecl) → Between 1 6 w.place → Good w → Good (with_timer w name x)
+timer_good w name x at g = record { dpcs = g.dpcs; timers = one_longer w.names.timers w.script.timers name x g.timers; threads = g.threads; apcs = g.apcs; later = timer_later w name x at g }
+
+pub timer_taken : (all : NameLists) (w : Walk) (name : List ℕ) (x : TimerDecl) → Between 1 6 w.place → Good w → so_far all (with_timer w name x) ≡ so_far all w ++ timer_row all name x ∷ []
+timer_taken all w name x at g =
+    grow_timers (heads w.place w) (heads InTimers w) (isrs all w) (dpcs all w) (timers all w) (timers all (with_timer w name x)) (threads all w) (apcs all w) (routines all w) (timer_row all name x ∷ []) (sym (has_head w.place w.script.cpus w.script.depth w.script.threaded at.0)) (declared_more (timer_row all) w.names.timers w.script.timers name x g.timers)
+    (none_declared (thread_row all) w.names.threads w.script.threads (g.later.threads (omega (arith, at.1))).0) (none_declared (apc_row all) w.names.apcs w.script.apcs (g.later.apcs (omega (arith, at.1))).0) (none_opened all w.body w.names.routines w.script.routines (g.later.routines (omega (arith, at.1))).0)
+
+thread_later : (w : Walk) (name : List ℕ) (x : ThreadDecl) → Between 1 7 w.place → Good w → Later 7 (with_thread w name x)
+thread_later w name x at g = record {
+  depth = λ h. absurd (omega (arith, h));
+  threaded = λ h. absurd (omega (arith, h));
+  isrs = λ h. absurd (omega (arith, h));
+  dpcs = λ h. absurd (omega (arith, h));
+  timers = λ h. absurd (omega (arith, h));
+  threads = λ h. absurd (omega (arith, h));
+  apcs = λ h. g.later.apcs (omega (arith, at.1));
+  routines = λ h. g.later.routines (omega (arith, at.1));
+  closed = λ h. g.later.closed (omega (arith, at.1));
+  opened = λ h. absurd (omega (arith, h));
+}
+
+pub thread_good : (w : Walk) (name : List ℕ) (x : ThreadDecl) → Between 1 7 w.place → Good w → Good (with_thread w name x)
+thread_good w name x at g = record { dpcs = g.dpcs; timers = g.timers; threads = one_longer w.names.threads w.script.threads name x g.threads; apcs = g.apcs; later = thread_later w name x at g }
+
+pub thread_taken : (all : NameLists) (w : Walk) (name : List ℕ) (x : ThreadDecl) → Between 1 7 w.place → Good w → so_far all (with_thread w name x) ≡ so_far all w ++ thread_row all name x ∷ []
+thread_taken all w name x at g =
+    grow_threads (heads w.place w) (heads InThreads w) (isrs all w) (dpcs all w) (timers all w) (threads all w) (threads all (with_thread w name x)) (apcs all w) (routines all w) (thread_row all name x ∷ []) (sym (has_head w.place w.script.cpus w.script.depth w.script.threaded at.0)) (declared_more (thread_row all) w.names.threads w.script.threads name x g.threads)
+    (none_declared (apc_row all) w.names.apcs w.script.apcs (g.later.apcs (omega (arith, at.1))).0) (none_opened all w.body w.names.routines w.script.routines (g.later.routines (omega (arith, at.1))).0)
+
+apc_later : (w : Walk) (name : List ℕ) (x : ApcDecl) → Between 1 8 w.place → Good w → Later 8 (with_apc w name x)
+apc_later w name x at g = record {
+  depth = λ h. absurd (omega (arith, h));
+  threaded = λ h. absurd (omega (arith, h));
+  isrs = λ h. absurd (omega (arith, h));
+  dpcs = λ h. absurd (omega (arith, h));
+  timers = λ h. absurd (omega (arith, h));
+  threads = λ h. absurd (omega (arith, h));
+  apcs = λ h. absurd (omega (arith, h));
+  routines = λ h. g.later.routines (omega (arith, at.1));
+  closed = λ h. g.later.closed (omega (arith, at.1));
+  opened = λ h. absurd (omega (arith, h));
+}
+
+pub apc_good : (w : Walk) (name : List ℕ) (x : ApcDecl) → Between 1 8 w.place → Good w → Good (with_apc w name x)
+apc_good w name x at g = record { dpcs = g.dpcs; timers = g.timers; threads = g.threads; apcs = one_longer w.names.apcs w.script.apcs name x g.apcs; later = apc_later w name x at g }
+
+pub apc_taken : (all : NameLists) (w : Walk) (name : List ℕ) (x : ApcDecl) → Between 1 8 w.place → Good w → so_far all (with_apc w name x) ≡ so_far all w ++ apc_row all name x ∷ []
+apc_taken all w name x at g =
+    grow_apcs (heads w.place w) (heads InApcs w) (isrs all w) (dpcs all w) (timers all w) (threads all w) (apcs all w) (apcs all (with_apc w name x)) (routines all w) (apc_row all name x ∷ []) (sym (has_head w.place w.script.cpus w.script.depth w.script.threaded at.0)) (declared_more (apc_row all) w.names.apcs w.script.apcs name x g.apcs)
+    (none_opened all w.body w.names.routines w.script.routines (g.later.routines (omega (arith, at.1))).0)
+
+routine_later : (w : Walk) (name : List ℕ) → Between 1 9 w.place → Good w → Later 10 (with_routine w name)
+routine_later w name at g = record {
+  depth = λ h. absurd (omega (arith, h));
+  threaded = λ h. absurd (omega (arith, h));
+  isrs = λ h. absurd (omega (arith, h));
+  dpcs = λ h. absurd (omega (arith, h));
+  timers = λ h. absurd (omega (arith, h));
+  threads = λ h. absurd (omega (arith, h));
+  apcs = λ h. absurd (omega (arith, h));
+  routines = λ h. absurd (omega (arith, h));
+  closed = λ h. absurd (omega (arith, h));
+  opened = λ h. one_more w.names.routines name (length w.script.routines) (g.later.closed (omega (arith, at.1))).1;
+}
+
+pub routine_good : (w : Walk) (name : List ℕ) → Between 1 9 w.place → Good w → Good (with_routine w name)
+routine_good w name at g = record { dpcs = g.dpcs; timers = g.timers; threads = g.threads; apcs = g.apcs; later = routine_later w name at g }
+
+pub routine_taken : (all : NameLists) (w : Walk) (name : List ℕ) → Between 1 9 w.place → Good w → so_far all (with_routine w name) ≡ so_far all w ++ (text_of word.Routine ∷ name ∷ []) ∷ []
+routine_taken all w name at g =
+    let l = g.later.closed (omega (arith, at.1)) in
+    grow_routines (heads w.place w) (heads InRoutine w) (isrs all w) (dpcs all w) (timers all w) (threads all w) (apcs all w) (routines all w) (routines all (with_routine w name)) ((text_of word.Routine ∷ name ∷ []) ∷ []) (sym (has_head w.place w.script.cpus w.script.depth w.script.threaded at.0))
+    (rw l.0 (routine_more all w.names.routines w.script.routines name l.1))
+
+-- in a routine
+inside : (w : Walk) → Between 10 10 w.place → Good w → length w.names.routines ≡ suc (length w.script.routines)
+inside w at g = g.later.opened (omega (arith, at.0, at.1))
+
+exit_later : (w : Walk) → Between 10 10 w.place → Good w → Later 9 (with_exit w)
+exit_later w at g = record {
+  depth = λ h. absurd (omega (arith, h));
+  threaded = λ h. absurd (omega (arith, h));
+  isrs = λ h. absurd (omega (arith, h));
+  dpcs = λ h. absurd (omega (arith, h));
+  timers = λ h. absurd (omega (arith, h));
+  threads = λ h. absurd (omega (arith, h));
+  apcs = λ h. absurd (omega (arith, h));
+  routines = λ h. absurd (omega (arith, h));
+  closed = λ h. (refl, inside w at g ∙ sym (one_more w.script.routines (record { commands = w.body }) (length w.script.routines) refl));
+  opened = λ h. absurd (omega (arith, h));
+}
+
+pub exit_good : (w : Walk) → Between 10 10 w.place → Good w → Good (with_exit w)
+exit_good w at g = record { dpcs = g.dpcs; timers = g.timers; threads = g.threads; apcs = g.apcs; later = exit_later w at g }
+
+pub exit_taken : (all : NameLists) (w : Walk) → Between 10 10 w.place → Good w → so_far all (with_exit w) ≡ so_far all w ++ exit_row ∷ []
+exit_taken all w at g =
+    let low : 1 ≤ order w.place = omega (arith, at.0) in
+    grow_routines (heads w.place w) (heads InRoutines w) (isrs all w) (dpcs all w) (timers all w) (threads all w) (apcs all w) (routines all w) (routines all (with_exit w)) (exit_row ∷ []) (sym (has_head w.place w.script.cpus w.script.depth w.script.threaded low)) (exit_more all w.body w.names.routines w.script.routines (inside w at g))
+
+pub command_good : (w : Walk) (c : Command) → Between 10 10 w.place → Good w → Good (with_command w c)
+command_good w c at g = record {
+  dpcs = g.dpcs;
+  timers = g.timers;
+  threads = g.threads;
+  apcs = g.apcs;
+  later = record {
+    depth = λ h. absurd (omega (arith, h, at.0));
+    threaded = λ h. absurd (omega (arith, h, at.0));
+    isrs = λ h. absurd (omega (arith, h, at.0));
+    dpcs = λ h. absurd (omega (arith, h, at.0));
+    timers = λ h. absurd (omega (arith, h, at.0));
+    threads = λ h. absurd (omega (arith, h, at.0));
+    apcs = λ h. absurd (omega (arith, h, at.0));
+    routines = λ h. absurd (omega (arith, h, at.0));
+    closed = λ h. absurd (omega (arith, h, at.0));
+    opened = λ h. inside w at g;
+  };
+}
+
+pub command_taken : (all : NameLists) (w : Walk) (c : Command) → Between 10 10 w.place → Good w → so_far all (with_command w c) ≡ so_far all w ++ command_row all c ∷ []
+command_taken all w c at g =
+    grow_routines (heads w.place w) (heads w.place w) (isrs all w) (dpcs all w) (timers all w) (threads all w) (apcs all w) (routines all w) (routines all (with_command w c)) (command_row all c ∷ []) refl (command_more all w.body w.names.routines w.script.routines c (inside w at g))

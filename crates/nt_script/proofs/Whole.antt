@@ -1,0 +1,255 @@
+-- A text that is read is the text of what is read.
+use Rattle.std.proofs.Common.{◌≡◌, ℕ, ◌+◌, ◌≤◌, Bool, List, [], ◌∷◌, ◌++◌, false, true, length, map, Some, Result, Ok, Err, refl, sym, ◌∙◌, ap, subst, append_assoc, arith}
+use Rattle.std.specs.Prelude.{nat_lt, is_some, is_none}
+use Rattle.std.proofs.lemmas.Bool.{ltb-true}
+use Rattle.std.proofs.lemmas.List.{append-nil, length-append}
+use Rattle.nt_text.specs.declared.kind.ScriptKind.{ScriptKind}
+use Rattle.nt_text.specs.Lines.{row_of, line_of, lines, fields, rows_text}
+use Rattle.nt_text.specs.Fields.{is_name}
+use Rattle.nt_text.proofs.Rows.{row_takes, row_fields, lines_takes}
+use Rattle.nt_text.specs.declared.kind.ScriptKind.TheVariants.{NameTwice, TooMany}
+use Rattle.nt_text.specs.declared.kind.What10.TheVariants as what
+use Rattle.nt_text.specs.Lines.{first, rest}
+use Rattle.nt_event.specs.declared.commands.Command.{Command}
+use Rattle.nt_event.specs.declared.scripts.Isr.{Isr}
+use Rattle.nt_event.specs.declared.scripts.DpcDecl.{DpcDecl}
+use Rattle.nt_event.specs.declared.scripts.TimerDecl.{TimerDecl}
+use Rattle.nt_event.specs.declared.scripts.ThreadDecl.{ThreadDecl}
+use Rattle.nt_event.specs.declared.scripts.ApcDecl.{ApcDecl}
+use Rattle.nt_event.specs.Script.{isr_of as isr_routine}
+use Rattle.nt_script.specs.declared.words.Word.{Word}
+use Rattle.nt_script.specs.declared.words.Word.TheVariants as word
+use Rattle.nt_script.specs.declared.walk.Walk.{Walk}
+use Rattle.nt_script.specs.declared.words.Place.{Place}
+use Rattle.nt_script.specs.declared.words.Place.TheVariants.{Start, HasCpus, HasDepth, HasThreaded, InIsrs, InDpcs, InTimers, InThreads, InApcs, InRoutines, InRoutine}
+use Rattle.nt_script.specs.declared.walk.Input.{Input}
+use Rattle.nt_script.specs.declared.names.Kind.{Kind}
+use Rattle.nt_script.specs.declared.names.Kind.TheVariants as kind
+use Rattle.nt_script.specs.NameLists.{NameLists, no_names, meaning, with_name}
+use Rattle.nt_script.specs.Words.{word_of, declaring, order}
+use Rattle.nt_script.specs.Results.{◌>>=◌, ok_if}
+use Rattle.nt_script.specs.Slots.{read_number, read_on_off, new_name}
+use Rattle.nt_script.specs.Commands.{command_of}
+use Rattle.nt_script.specs.Declarations.{isr_of, dpc_of, timer_of, thread_of, apc_of}
+use Rattle.nt_script.specs.Reading.{names_after, names_from, start, put_cpus, with_cpus, with_depth, with_threaded, with_isr, with_dpc, with_timer, with_thread, with_apc, with_routine, with_exit, with_command, act, step, finish, line_step, go_on, walk, reading}
+use Rattle.nt_script.specs.Text.{Row, header_rows, input_rows, text, routine_rows}
+use Rattle.nt_script.proofs.Results.{bind_ok, ok_if_ok}
+use Rattle.nt_script.proofs.UsedNames.{AreFew, new_name_takes}
+use Rattle.nt_script.proofs.SoFar.{so_far, has_head, heads, isrs, dpcs, timers, threads, apcs, routines, joined, all_ended}
+use Rattle.nt_script.proofs.Taken.{At, declared_ok, step_ok}
+use Rattle.nt_script.proofs.Steps.{Good, put_cpus_ok, cpus_good, depth_good, threaded_good, isr_good, dpc_good, timer_good, thread_good, apc_good, routine_good, exit_good, command_good}
+use Rattle.nt_script.proofs.Acts.{ok, ok_is, step_taken}
+
+-- ---- the names, with no look at the names that are used
+
+pub record Named (w : Walk) (row : Row) (new : Walk) : Type 0 where
+  pub names : names_after w.names row ≡ new.names
+  pub few : AreFew new.names
+  pub good : Good new
+
+-- a name that is new is added
+new_declared : (k : Kind) (names : NameLists) (row : Row) (wd : Word) (name : List ℕ) → word_of (first row) ≡ Some wd → declaring wd ≡ Some k → first (rest row) ≡ name → is_name name ≡ true → is_some (meaning name names) ≡ false → names_after names row ≡ with_name k name names
+new_declared k names row wd name is dk same named none = rw (is, dk, same, named, none) refl
+
+fits_more : {A : Type 0} (xs : List A) (x : A) (n most : ℕ) → length xs ≡ n → nat_lt n most ≡ true → length (xs ++ x ∷ []) ≤ most
+fits_more xs x n most e t = let lt = ltb-true n most t in omega (arith, e, lt, length-append xs (x ∷ []))
+
+act_named : (all : NameLists) (w : Walk) (wd : Word) (row : Row) (new : Walk) → word_of (first row) ≡ Some wd → At w.place wd → act all w wd (rest row) ≡ Ok new → Good w → AreFew w.names → Named w row new
+act_named all w word.Cpus row new is at e good few =
+    let b = bind_ok (read_number 4294967295 (first (rest row))) (put_cpus w) new e in
+    subst (Named w row) (put_cpus_ok w b.value new b.then) (record { names = rw is refl; few = few; good = cpus_good w b.value at good })
+act_named all w word.Depth row new is at e good few =
+    let b = bind_ok (read_number 256 (first (rest row))) (λ n. ok (with_depth w n)) new e in
+    subst (Named w row) (ok_is (with_depth w b.value) new b.then) (record { names = rw is refl; few = few; good = depth_good w b.value at good })
+act_named all w word.Threaded row new is at e good few =
+    let b = bind_ok (read_on_off (first (rest row))) (λ on. ok (with_threaded w on)) new e in
+    subst (Named w row) (ok_is (with_threaded w b.value) new b.then) (record { names = rw is refl; few = few; good = threaded_good w b.value at good })
+act_named all w word.Isr row new is at e good few =
+    let b = bind_ok (isr_of all w.script.cpus (rest row)) (λ isr. ok_if (is_none (isr_routine w.script.isrs isr.cpu isr.level)) (with_isr w isr) NameTwice) new e in
+    let o = ok_if_ok (is_none (isr_routine w.script.isrs b.value.cpu b.value.level)) (with_isr w b.value) NameTwice new b.then in
+    subst (Named w row) o.1 (record { names = rw is refl; few = few; good = isr_good w b.value at good })
+act_named all w (word.Dpc b) row new is at e good few =
+    let put : List ℕ → DpcDecl → Result Walk ScriptKind = λ name x. ok_if (nat_lt (length w.script.dpcs) 256) (with_dpc w name x) (TooMany what.Dpcs) in
+    let d = declared_ok w.names (dpc_of all b) put (rest row) new e in
+    let o = ok_if_ok (nat_lt (length w.script.dpcs) 256) (with_dpc w d.name d.thing) (TooMany what.Dpcs) new d.made in
+    subst (Named w row) o.1 (record {
+      names = new_declared kind.Dpc w.names row (word.Dpc b) d.name is refl d.first_is d.named d.none;
+      few = record { dpcs = fits_more w.names.dpcs d.name (length w.script.dpcs) 256 good.dpcs o.0; timers = few.timers; threads = few.threads; apcs = few.apcs; routines = few.routines };
+      good = dpc_good w d.name d.thing at good;
+    })
+act_named all w word.Timer row new is at e good few =
+    let put : List ℕ → TimerDecl → Result Walk ScriptKind = λ name x. ok_if (nat_lt (length w.script.timers) 64) (with_timer w name x) (TooMany what.Timers) in
+    let d = declared_ok w.names (timer_of all) put (rest row) new e in
+    let o = ok_if_ok (nat_lt (length w.script.timers) 64) (with_timer w d.name d.thing) (TooMany what.Timers) new d.made in
+    subst (Named w row) o.1 (record {
+      names = new_declared kind.Timer w.names row word.Timer d.name is refl d.first_is d.named d.none;
+      few = record { dpcs = few.dpcs; timers = fits_more w.names.timers d.name (length w.script.timers) 64 good.timers o.0; threads = few.threads; apcs = few.apcs; routines = few.routines };
+      good = timer_good w d.name d.thing at good;
+    })
+act_named all w word.Thread row new is at e good few =
+    let put : List ℕ → ThreadDecl → Result Walk ScriptKind = λ name x. ok_if (nat_lt (length w.script.threads) 64) (with_thread w name x) (TooMany what.Threads) in
+    let d = declared_ok w.names (thread_of all w.script.cpus) put (rest row) new e in
+    let o = ok_if_ok (nat_lt (length w.script.threads) 64) (with_thread w d.name d.thing) (TooMany what.Threads) new d.made in
+    subst (Named w row) o.1 (record {
+      names = new_declared kind.Thread w.names row word.Thread d.name is refl d.first_is d.named d.none;
+      few = record { dpcs = few.dpcs; timers = few.timers; threads = fits_more w.names.threads d.name (length w.script.threads) 64 good.threads o.0; apcs = few.apcs; routines = few.routines };
+      good = thread_good w d.name d.thing at good;
+    })
+act_named all w (word.Apc k) row new is at e good few =
+    let put : List ℕ → ApcDecl → Result Walk ScriptKind = λ name x. ok_if (nat_lt (length w.script.apcs) 256) (with_apc w name x) (TooMany what.Apcs) in
+    let d = declared_ok w.names (apc_of all k) put (rest row) new e in
+    let o = ok_if_ok (nat_lt (length w.script.apcs) 256) (with_apc w d.name d.thing) (TooMany what.Apcs) new d.made in
+    subst (Named w row) o.1 (record {
+      names = new_declared kind.Apc w.names row (word.Apc k) d.name is refl d.first_is d.named d.none;
+      few = record { dpcs = few.dpcs; timers = few.timers; threads = few.threads; apcs = fits_more w.names.apcs d.name (length w.script.apcs) 256 good.apcs o.0; routines = few.routines };
+      good = apc_good w d.name d.thing at good;
+    })
+act_named all w word.Routine row new is at e good few =
+    let b = bind_ok (new_name w.names (first (rest row))) (λ (name : List ℕ). ok_if (nat_lt (length w.script.routines) 256) (with_routine w name) (TooMany what.Routines)) new e in
+    let o = ok_if_ok (nat_lt (length w.script.routines) 256) (with_routine w b.value) (TooMany what.Routines) new b.then in
+    let f = (new_name_takes w.names).fits (first (rest row)) b.value b.is in
+    let same = (new_name_takes w.names).shown (first (rest row)) b.value b.is in
+    let l = good.later.closed at.1 in
+    subst (Named w row) o.1 (record {
+      names = new_declared kind.Routine w.names row word.Routine b.value is refl same f.0 f.1;
+      few = record { dpcs = few.dpcs; timers = few.timers; threads = few.threads; apcs = few.apcs; routines = fits_more w.names.routines b.value (length w.script.routines) 256 l.1 o.0 };
+      good = routine_good w b.value at good;
+    })
+act_named all w word.Exit row new is at e good few =
+    subst (Named w row) (ok_is (with_exit w) new e) (record { names = rw is refl; few = few; good = exit_good w at good })
+act_named all w (word.Call verb) row new is at e good few =
+    let b = bind_ok (command_of all w.script.cpus verb (rest row)) (λ c. ok_if (nat_lt w.commands 8192) (with_command w c) (TooMany what.Commands)) new e in
+    let o = ok_if_ok (nat_lt w.commands 8192) (with_command w b.value) (TooMany what.Commands) new b.then in
+    subst (Named w row) o.1 (record { names = rw is refl; few = few; good = command_good w b.value at good })
+
+pub step_named : (all : NameLists) (w : Walk) (row : Row) (new : Walk) → step all w row ≡ Ok new → Good w → AreFew w.names → Named w row new
+step_named all w row new e good few =
+    let l = step_ok all w row new e in
+    act_named all w l.word row new l.is l.at l.acts good few
+
+-- ---- all lines
+
+abbrev TextLine : Type 0
+TextLine = List ℕ × Bool
+
+abbrev done : Input → Result Input (ℕ × ScriptKind)
+done input = Ok input
+
+-- the walk went on
+pub record Went (all : NameLists) (w : Walk) (n : ℕ) (line : TextLine) (more : List TextLine) (input : Input) : Type 0 where
+  pub new : Walk
+  pub row : Row
+  pub line_is : line ≡ line_of row
+  pub fields_are : fields line.0 ≡ row
+  pub steps : step all w row ≡ Ok new
+  pub goes_on : walk all new (n + 1) more ≡ Ok input
+
+pub went : (all : NameLists) (w : Walk) (n : ℕ) (line : TextLine) (more : List TextLine) (input : Input) → walk all w n (line ∷ more) ≡ Ok input → Went all w n line more input
+went all w n line more input e = go (line_step all w line) refl e
+  where
+    go : (r : Result Walk ScriptKind) → line_step all w line ≡ r → go_on n r (λ new. walk all new (n + 1) more) ≡ Ok input → Went all w n line more input
+    go (Err kind) is e = absurd cc
+    go (Ok new) is e =
+        let b = bind_ok (row_of line) (step all w) new is in
+        record { new = new; row = b.value; line_is = row_takes line b.value b.is; fields_are = row_fields line b.value b.is; steps = b.then; goes_on = e }
+
+-- where the walk ends
+pub record Ends (w : Walk) (ls : List TextLine) (input : Input) : Type 0 where
+  pub last : Walk
+  pub number : ℕ
+  pub finishes : finish last.place last number ≡ Ok input
+  pub names : names_from w.names ls ≡ last.names
+  pub few : AreFew last.names
+  pub good : Good last
+
+pub ends : (all : NameLists) (w : Walk) (n : ℕ) (ls : List TextLine) (input : Input) → walk all w n ls ≡ Ok input → Good w → AreFew w.names → Ends w ls input
+ends all w n [] input e good few = record { last = w; number = n; finishes = e; names = refl; few = few; good = good }
+ends all w n (line ∷ more) input e good few =
+    let t = went all w n line more input e in
+    let s = step_named all w t.row t.new t.steps good few in
+    let r = ends all t.new (n + 1) more input t.goes_on s.good s.few in
+    record { last = r.last; number = r.number; finishes = r.finishes; names = rw (t.fields_are, s.names) r.names; few = r.few; good = r.good }
+
+record Rows (all : NameLists) (w : Walk) (ls : List TextLine) (input : Input) : Type 0 where
+  pub rows : List Row
+  pub lines_are : ls ≡ map line_of rows
+  pub last : Walk
+  pub number : ℕ
+  pub finishes : finish last.place last number ≡ Ok input
+  pub good : Good last
+  pub rows_are : so_far all last ≡ so_far all w ++ rows
+
+rows_of : (all : NameLists) → AreFew all → (w : Walk) (n : ℕ) (ls : List TextLine) (input : Input) → walk all w n ls ≡ Ok input → Good w → AreFew w.names → Rows all w ls input
+rows_of all few w n [] input e good named = record { rows = []; lines_are = refl; last = w; number = n; finishes = e; good = good; rows_are = sym (append-nil (so_far all w)) }
+rows_of all few w n (line ∷ more) input e good named =
+    let t = went all w n line more input e in
+    let s = step_named all w t.row t.new t.steps good named in
+    let r = rows_of all few t.new (n + 1) more input t.goes_on s.good s.few in
+    record {
+      rows = t.row ∷ r.rows;
+      lines_are = ap (λ (l : TextLine). l ∷ more) t.line_is ∙ ap (λ (ls : List TextLine). line_of t.row ∷ ls) r.lines_are;
+      last = r.last;
+      number = r.number;
+      finishes = r.finishes;
+      good = r.good;
+      rows_are = r.rows_are ∙ ap (λ (rows : List Row). rows ++ r.rows) (step_taken all few w t.row t.new t.steps good) ∙ append_assoc (so_far all w) (t.row ∷ []) r.rows;
+    }
+
+abbrev pub made : Walk → Input
+made w = record { script = w.script; names = w.names }
+
+done_is : (x y : Input) → done x ≡ Ok y → x ≡ y
+done_is x y e = cc
+
+-- what the end of a walk gives
+pub record Finished (p : Place) (w : Walk) (input : Input) : Type 0 where
+  pub made_is : made w ≡ input
+  pub low : 1 ≤ order p
+  pub high : order p ≤ 9
+
+pub finished : (p : Place) (w : Walk) (n : ℕ) (input : Input) → finish p w n ≡ Ok input → Finished p w input
+finished Start w n input e = absurd cc
+finished HasCpus w n input e = record { made_is = done_is (made w) input e; low = omega arith; high = omega arith }
+finished HasDepth w n input e = record { made_is = done_is (made w) input e; low = omega arith; high = omega arith }
+finished HasThreaded w n input e = record { made_is = done_is (made w) input e; low = omega arith; high = omega arith }
+finished InIsrs w n input e = record { made_is = done_is (made w) input e; low = omega arith; high = omega arith }
+finished InDpcs w n input e = record { made_is = done_is (made w) input e; low = omega arith; high = omega arith }
+finished InTimers w n input e = record { made_is = done_is (made w) input e; low = omega arith; high = omega arith }
+finished InThreads w n input e = record { made_is = done_is (made w) input e; low = omega arith; high = omega arith }
+finished InApcs w n input e = record { made_is = done_is (made w) input e; low = omega arith; high = omega arith }
+finished InRoutines w n input e = record { made_is = done_is (made w) input e; low = omega arith; high = omega arith }
+finished InRoutine w n input e = absurd cc
+
+joined_same : (h h' i d t s a o o' : List Row) → h ≡ h' → o ≡ o' → joined h i d t s a o ≡ joined h' i d t s a o'
+joined_same h h' i d t s a o o' eh eo = rw (eh, eo) refl
+
+closing : (all : NameLists) (w : Walk) → all ≡ w.names → 1 ≤ order w.place → length w.names.routines ≡ length w.script.routines → so_far all w ≡ input_rows (made w)
+closing all w ea low el =
+    let head = has_head w.place w.script.cpus w.script.depth w.script.threaded low in
+    let own : so_far w.names w ≡ input_rows (made w) = joined_same (heads w.place w) (header_rows w.script.cpus w.script.depth w.script.threaded) (isrs w.names w) (dpcs w.names w) (timers w.names w) (threads w.names w) (apcs w.names w) (routines w.names w) (routine_rows w.names w.names.routines w.script.routines) head (all_ended w.names w.names.routines w.script.routines w.body el) in
+    subst (λ (names : NameLists). so_far names w ≡ input_rows (made w)) (sym ea) own
+
+pub good_start : Good start
+good_start = record {
+  dpcs = refl;
+  timers = refl;
+  threads = refl;
+  apcs = refl;
+  later = record { depth = λ h. refl; threaded = λ h. refl; isrs = λ h. refl; dpcs = λ h. (refl, refl); timers = λ h. (refl, refl); threads = λ h. (refl, refl); apcs = λ h. (refl, refl); routines = λ h. (refl, refl); closed = λ h. (refl, refl); opened = λ h. absurd (omega (arith, h)) };
+}
+
+pub few_none : AreFew no_names
+few_none = record { dpcs = omega arith; timers = omega arith; threads = omega arith; apcs = omega arith; routines = omega arith }
+
+-- a text that is read as an input is the text of the input
+pub reading_takes : (bytes : List ℕ) (input : Input) → reading bytes ≡ Ok input → bytes ≡ text input
+reading_takes bytes input e =
+    let all = names_from no_names (lines bytes) in
+    let names = ends all start 1 (lines bytes) input e good_start few_none in
+    let few : AreFew all = subst AreFew (sym names.names) names.few in
+    let r = rows_of all few start 1 (lines bytes) input e good_start few_none in
+    let f = finished r.last.place r.last r.number input r.finishes in
+    let g = finished names.last.place names.last names.number input names.finishes in
+    let same : all ≡ r.last.names = names.names ∙ ap (λ (i : Input). i.names) g.made_is ∙ sym (ap (λ (i : Input). i.names) f.made_is) in
+    let are : r.rows ≡ input_rows input = sym r.rows_are ∙ closing all r.last same f.low (r.good.later.closed f.high).1 ∙ ap input_rows f.made_is in
+    lines_takes bytes r.rows r.lines_are ∙ ap rows_text are

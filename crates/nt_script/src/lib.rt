@@ -1,0 +1,27 @@
+//! Scripts as text: what a driver writer declares, one line each.
+//!
+//! [`read`] answers the script and the names of a text, or the first bad line and what is wrong with it. [`print`] gives the
+//! one text that `read` reads as an input. The grammar is a relation between an input and a whole list of bytes
+//! (`specs::Text`: the rows of an input, and which inputs are sound); reading is a function of the bytes (`specs::Reading`);
+//! two laws say that each undoes the other. [`split_at`] finds where another text begins behind a script.
+//!
+//! The lines of a script come in the order of [`Place`]: `cpus`, `depth`, `threaded`, then interrupt routines, DPC objects,
+//! timers, threads, APC objects and routines with their commands. The whole grammar is this project's own (profile).
+#![tactic(auto)]
+
+mod column;
+mod commands;
+mod declarations;
+mod names;
+mod printing;
+mod reading;
+mod slots;
+mod walk;
+mod words;
+
+pub use names::{Kind, Named, Names};
+pub use nt_text::{ScriptKind, What10};
+pub use printing::print;
+pub use reading::{ScriptRefusal, one_text, read};
+pub use walk::Input;
+pub use words::{Place, Verb, Word, word_of};

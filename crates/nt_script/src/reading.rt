@@ -1,0 +1,107 @@
+//! Reading a whole script.
+ghost use Rattle.std.specs.Prelude.{◌≡◌, ◌≤◌, length, OnOk, IfOk, Ok};
+ghost use Rattle.nt_text.specs.Lines.{lines, fields};
+ghost use Rattle.nt_script.specs.NameLists.{no_names};
+ghost use Rattle.nt_script.specs.Reading.{names_after, names_from, start, walk, reading};
+ghost use Rattle.nt_script.specs.Gives.{GivesInput};
+ghost use Rattle.nt_script.specs.Text.{text};
+ghost use Rattle.nt_script.specs.Sound.{IsSound, IsTextOf};
+ghost use Rattle.nt_script.specs.declared.walk.Input.{Input};
+
+use crate::names::Names;
+use crate::walk::{Input, Stop, Walk};
+use crate::words::word_of;
+use nt_text::{Fields, Lines, ScriptKind, name};
+use std::alloc::{AllocError, Global};
+use thiserror::Error;
+
+/// Why a text is not taken.
+#[derive(Clone, Copy, PartialEq, Eq, Debug, Error)]
+pub enum ScriptRefusal {
+    /// The least bad line, counted from 1, and what is wrong with it.
+    #[error("line {line}: {}", .kind.name())]
+    Bad { line: u32, kind: ScriptKind },
+    /// No memory is left.
+    #[error("no memory")]
+    NoMemory,
+}
+
+/// Adds the name that a line declares, if any: its first word is of a line that declares, and its second field is a name.
+fn note_name(alloc: Global, names: &mut Names, line: &[u8]) -> Result<(), AllocError>
+    ensures { OnOk result (names.new ≡ names_after names.old (fields line.now)) }
+{
+    let mut row = Fields::new(line);
+    if let Some(word) = word_of(row.take()) {
+        if let Some(kind) = word.declares() {
+            if let Some(name) = name(row.take()) {
+                names.declare(alloc, kind, name)?;
+            }
+        }
+    }
+    Ok(())
+}
+
+/// The names that the lines of a text declare, wherever they stand.
+fn names_of(alloc: Global, bytes: &[u8]) -> Result<Names, AllocError>
+    ensures { IfOk result (λ names. names ≡ names_from no_names (lines bytes.now)) }
+{
+    let mut names = Names::new(alloc);
+    let mut lines = Lines::new(bytes);
+    while let Some(line) = lines.next() {
+        note_name(alloc, &mut names, line.bytes)?;
+    }
+    Ok(names)
+}
+
+/// The script of a text whose lines declare these names.
+fn read_with(alloc: Global, all: &Names, bytes: &[u8]) -> Result<Input, ScriptRefusal>
+    requires { length bytes.now ≤ 33554432 }
+    ensures { GivesInput result (walk all.now start 1 (lines bytes.now)) }
+{
+    let mut walk = Walk::new(alloc);
+    let mut lines = Lines::new(bytes);
+    let mut at: u32 = 1;
+    while let Some(line) = lines.next() {
+        match walk.line(alloc, all, &line) {
+            Ok(()) => {}
+            Err(Stop::NoMemory) => return Err(ScriptRefusal::NoMemory),
+            Err(Stop::Bad(kind)) => return Err(ScriptRefusal::Bad { line: at, kind }),
+        }
+        at += 1;
+    }
+    walk.finish(at)
+}
+
+/// Two walks along the lines: one for the names, one for all else.
+fn read_all(alloc: Global, bytes: &[u8]) -> Result<Input, ScriptRefusal>
+    requires { length bytes.now ≤ 33554432 }
+    ensures { GivesInput result (reading bytes.now) }
+{
+    match names_of(alloc, bytes) {
+        Ok(all) => read_with(alloc, &all, bytes),
+        Err(_) => Err(ScriptRefusal::NoMemory),
+    }
+}
+
+/// The input whose text the bytes are, or the least bad line and what is wrong with it.
+///
+/// Ok exactly where the bytes are the text of a sound input, with that input; `Bad` else. `NoMemory` may come at any call.
+pub fn read(alloc: Global, bytes: &[u8]) -> Result<Input, ScriptRefusal>
+    requires { length bytes.now ≤ 33554432 }
+
+    // What is answered is a sound input, and the bytes are its text.
+    ensures found { IfOk result (IsTextOf bytes.now) }
+
+    // The input of a text is answered, and no other input and no bad line.
+    ensures only { (input : Input) → IsTextOf bytes.now input → GivesInput result (Ok input) }
+
+    // Which line is refused, and why.
+    ensures exact { GivesInput result (reading bytes.now) }
+{
+    read_all(alloc, bytes)
+}
+
+/// Each input has one text, and no two sound inputs have the same.
+pub fn one_text()
+    ensures { (a b : Input) → IsSound a → IsSound b → text a ≡ text b → a ≡ b }
+{}

@@ -1,0 +1,326 @@
+//! Reading a script line by line.
+use crate::commands::command;
+use crate::names::{Kind, Names};
+use crate::reading::ScriptRefusal;
+use crate::words::{Place, Verb, Word, word_of};
+use crate::{declarations, slots};
+use nt_event::{ApcKind, Command, Items, Routine, Script};
+use nt_text::{Fields, Line, ScriptKind, What10};
+use std::alloc::{AllocError, Global};
+use std::mem;
+
+/// A script and the names of its things.
+#[derive(Drop)]
+pub struct Input {
+    /// What is declared.
+    pub script: Script,
+    /// The names, in the order of the script's lists.
+    pub names: Names,
+}
+
+/// What was read so far.
+#[derive(Drop)]
+pub struct Walk {
+    /// The script, without the routine whose `exit` has not come.
+    pub script: Script,
+    /// The names that the lines before declare.
+    pub names: Names,
+    /// The commands of the routine whose `exit` has not come.
+    pub body: Items<Command>,
+    /// How many commands there are in all routines.
+    pub commands: u32,
+    /// What was read last.
+    pub place: Place,
+}
+
+/// Why a line is not taken.
+#[derive(Debug, Drop)]
+pub enum Stop {
+    /// No memory is left.
+    NoMemory,
+    /// The line is bad.
+    Bad(ScriptKind),
+}
+
+impl From<AllocError> for Stop {
+    ghost use Rattle.std.specs.Prelude.{◌≡◌};
+    ghost use Rattle.nt_script.specs.declared.walk.Stop.TheVariants.{NoMemory};
+
+    ghost from_gives = { λ _ e. e ≡ NoMemory };
+
+    fn from(_e: AllocError) -> Stop {
+        Stop::NoMemory
+    }
+}
+
+impl From<ScriptKind> for Stop {
+    ghost use Rattle.std.specs.Prelude.{◌≡◌};
+    ghost use Rattle.nt_script.specs.declared.walk.Stop.TheVariants.{Bad};
+
+    ghost from_gives = { λ kind e. e ≡ Bad kind };
+
+    fn from(kind: ScriptKind) -> Stop {
+        Stop::Bad(kind)
+    }
+}
+
+impl Walk {
+    ghost use Rattle.std.specs.Prelude.{◌≡◌, []};
+    ghost use Rattle.nt_script.specs.Words.{word_of};
+    ghost use Rattle.nt_script.specs.NameLists.{no_names};
+    ghost use Rattle.nt_script.specs.Reading.{start, word_at, step, act, line_step, finish};
+    ghost use Rattle.nt_script.specs.Gives.{Gives, GivesInput};
+
+    /// Nothing was read.
+    pub fn new(alloc: Global) -> Walk
+        ensures { result ≡ start }
+    {
+        Walk {
+            script: Script {
+                cpus: 1,
+                depth: None,
+                threaded: None,
+                isrs: Items::new(alloc),
+                dpcs: Items::new(alloc),
+                timers: Items::new(alloc),
+                threads: Items::new(alloc),
+                apcs: Items::new(alloc),
+                routines: Items::new(alloc),
+            },
+            names: Names::new(alloc),
+            body: Items::new(alloc),
+            commands: 0,
+            place: Place::Start,
+        }
+    }
+
+    /// The input, where the text may end here. `line` is the number of the line behind the last.
+    pub fn finish(self, line: u32) -> Result<Input, ScriptRefusal>
+        ensures { GivesInput result (finish self.place self line) }
+    {
+        let Walk {
+            script,
+            names,
+            body: _,
+            commands: _,
+            place,
+        } = self;
+        match place {
+            Place::Start => Err(ScriptRefusal::Bad {
+                line,
+                kind: ScriptKind::NoCpus,
+            }),
+            Place::InRoutine => Err(ScriptRefusal::Bad {
+                line,
+                kind: ScriptKind::NoEnd,
+            }),
+            _ => Ok(Input { script, names }),
+        }
+    }
+
+    /// Takes a line. `all` are the names that the lines of the whole text declare.
+    pub fn line(&mut self, alloc: Global, all: &Names, line: &Line) -> Result<(), Stop>
+        ensures { Gives result self.new (line_step all.now self.old (line.now.bytes.now, line.now.ended)) }
+    {
+        let mut row = line.fields()?;
+        self.step(alloc, all, &mut row)
+    }
+
+    /// Takes the fields of a line: its word, then how many fields there are, then each field.
+    fn step(&mut self, alloc: Global, all: &Names, row: &mut Fields) -> Result<(), Stop>
+        ensures { Gives result self.new (step all.now self.old row.old) }
+    {
+        let word = self.word(row.take())?;
+        let there = row.count();
+        if there < word.arity() {
+            return Err(Stop::Bad(ScriptKind::MissingField));
+        }
+        if there > word.arity() {
+            return Err(Stop::Bad(ScriptKind::ExtraField));
+        }
+        self.act(alloc, all, word, row)
+    }
+
+    /// The word of a line at this place.
+    fn word(&self, field: &[u8]) -> Result<Word, ScriptKind>
+        ensures { result ≡ word_at self.now.place (word_of field.now) }
+    {
+        let misplaced = match self.place {
+            Place::Start => ScriptKind::NoCpus,
+            _ => ScriptKind::UnknownWord,
+        };
+        match word_of(field) {
+            Some(word) => {
+                if word.stands(self.place) {
+                    Ok(word)
+                } else {
+                    Err(misplaced)
+                }
+            }
+            None => Err(misplaced),
+        }
+    }
+
+    /// Takes the fields behind a word that may stand here.
+    fn act(&mut self, alloc: Global, all: &Names, word: Word, args: &mut Fields) -> Result<(), Stop>
+        ensures { Gives result self.new (act all.now self.old word args.old) }
+    {
+        match word {
+            Word::Cpus => self.cpus(args),
+            Word::Depth => self.depth(args),
+            Word::Threaded => self.threaded(args),
+            Word::Isr => self.isr(all, args),
+            Word::Dpc { threaded } => self.dpc(alloc, all, threaded, args),
+            Word::Timer => self.timer(alloc, all, args),
+            Word::Thread => self.thread(alloc, all, args),
+            Word::Apc(kind) => self.apc(alloc, all, kind, args),
+            Word::Routine => self.routine(alloc, args),
+            Word::Exit => self.exit(alloc),
+            Word::Call(verb) => self.command(all, verb, args),
+        }
+    }
+
+    fn cpus(&mut self, args: &mut Fields) -> Result<(), Stop>
+        ensures { Gives result self.new (act no_names self.old Word.Cpus args.old) }
+    {
+        let n = slots::number(args.take(), u32::MAX)?;
+        if n == 0 {
+            return Err(Stop::Bad(ScriptKind::BadNumber));
+        }
+        if n > 8 {
+            return Err(Stop::Bad(ScriptKind::TooMany(What10::Cpus)));
+        }
+        self.script.cpus = n as u8;
+        self.place = Place::HasCpus;
+        Ok(())
+    }
+
+    fn depth(&mut self, args: &mut Fields) -> Result<(), Stop>
+        ensures { Gives result self.new (act no_names self.old Word.Depth args.old) }
+    {
+        self.script.depth = Some(slots::number(args.take(), 256)?);
+        self.place = Place::HasDepth;
+        Ok(())
+    }
+
+    fn threaded(&mut self, args: &mut Fields) -> Result<(), Stop>
+        ensures { Gives result self.new (act no_names self.old Word.Threaded args.old) }
+    {
+        self.script.threaded = Some(slots::on_off(args.take())?);
+        self.place = Place::HasThreaded;
+        Ok(())
+    }
+
+    fn isr(&mut self, all: &Names, args: &mut Fields) -> Result<(), Stop>
+        ensures { Gives result self.new (act all.now self.old Word.Isr args.old) }
+    {
+        let isr = declarations::isr(all, self.script.cpus, args)?;
+        if self.script.isr_of(isr.cpu, isr.level).is_some() {
+            return Err(Stop::Bad(ScriptKind::NameTwice));
+        }
+        self.script.isrs.push(isr)?;
+        self.place = Place::InIsrs;
+        Ok(())
+    }
+
+    fn dpc(
+        &mut self,
+        alloc: Global,
+        all: &Names,
+        threaded: bool,
+        args: &mut Fields,
+    ) -> Result<(), Stop>
+        ensures { Gives result self.new (act all.now self.old (Word.Dpc threaded) args.old) }
+    {
+        let name = slots::new_name(&self.names, args.take())?;
+        let dpc = declarations::dpc(all, threaded, args)?;
+        if self.script.dpcs.len() >= 256 {
+            return Err(Stop::Bad(ScriptKind::TooMany(What10::Dpcs)));
+        }
+        self.script.dpcs.push(dpc)?;
+        self.names.add(alloc, Kind::Dpc, name)?;
+        self.place = Place::InDpcs;
+        Ok(())
+    }
+
+    fn timer(&mut self, alloc: Global, all: &Names, args: &mut Fields) -> Result<(), Stop>
+        ensures { Gives result self.new (act all.now self.old Word.Timer args.old) }
+    {
+        let name = slots::new_name(&self.names, args.take())?;
+        let timer = declarations::timer(all, args)?;
+        if self.script.timers.len() >= 64 {
+            return Err(Stop::Bad(ScriptKind::TooMany(What10::Timers)));
+        }
+        self.script.timers.push(timer)?;
+        self.names.add(alloc, Kind::Timer, name)?;
+        self.place = Place::InTimers;
+        Ok(())
+    }
+
+    fn thread(&mut self, alloc: Global, all: &Names, args: &mut Fields) -> Result<(), Stop>
+        ensures { Gives result self.new (act all.now self.old Word.Thread args.old) }
+    {
+        let name = slots::new_name(&self.names, args.take())?;
+        let thread = declarations::thread(all, self.script.cpus, args)?;
+        if self.script.threads.len() >= 64 {
+            return Err(Stop::Bad(ScriptKind::TooMany(What10::Threads)));
+        }
+        self.script.threads.push(thread)?;
+        self.names.add(alloc, Kind::Thread, name)?;
+        self.place = Place::InThreads;
+        Ok(())
+    }
+
+    fn apc(
+        &mut self,
+        alloc: Global,
+        all: &Names,
+        kind: ApcKind,
+        args: &mut Fields,
+    ) -> Result<(), Stop>
+        ensures { Gives result self.new (act all.now self.old (Word.Apc kind) args.old) }
+    {
+        let name = slots::new_name(&self.names, args.take())?;
+        let apc = declarations::apc(all, kind, args)?;
+        if self.script.apcs.len() >= 256 {
+            return Err(Stop::Bad(ScriptKind::TooMany(What10::Apcs)));
+        }
+        self.script.apcs.push(apc)?;
+        self.names.add(alloc, Kind::Apc, name)?;
+        self.place = Place::InApcs;
+        Ok(())
+    }
+
+    fn routine(&mut self, alloc: Global, args: &mut Fields) -> Result<(), Stop>
+        ensures { Gives result self.new (act no_names self.old Word.Routine args.old) }
+    {
+        let name = slots::new_name(&self.names, args.take())?;
+        if self.script.routines.len() >= 256 {
+            return Err(Stop::Bad(ScriptKind::TooMany(What10::Routines)));
+        }
+        self.names.add(alloc, Kind::Routine, name)?;
+        self.place = Place::InRoutine;
+        Ok(())
+    }
+
+    fn exit(&mut self, alloc: Global) -> Result<(), Stop>
+        ensures { Gives result self.new (act no_names self.old Word.Exit []) }
+    {
+        let commands = mem::replace(&mut self.body, Items::new(alloc));
+        self.script.routines.push(Routine { commands })?;
+        self.place = Place::InRoutines;
+        Ok(())
+    }
+
+    fn command(&mut self, all: &Names, verb: Verb, args: &mut Fields) -> Result<(), Stop>
+        ensures { Gives result self.new (act all.now self.old (Word.Call verb) args.old) }
+    {
+        let command = command(all, self.script.cpus, verb, args)?;
+        if self.commands >= 8192 {
+            return Err(Stop::Bad(ScriptKind::TooMany(What10::Commands)));
+        }
+        self.body.push(command)?;
+        self.commands += 1;
+        Ok(())
+    }
+}
