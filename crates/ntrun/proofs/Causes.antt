@@ -1,5 +1,5 @@
 -- When each status comes, from what a call finds and how it is written.
-use Rattle.std.proofs.Common.{◌≡◌, ◌≢◌, ◌∙◌, ℕ, ◌+◌, ◌<◌, ◌≤◌, List, [], ◌++◌, length, Option, Some, None, Result, Ok, IsSome, refl, sym, ap, subst, arith, append-nil, min}
+use Rattle.std.proofs.Common.{◌≡◌, ◌≢◌, ◌∙◌, ℕ, ◌+◌, ◌<◌, ◌≤◌, List, ◌++◌, length, Option, Some, None, Result, Ok, IsSome, refl, sym, ap, subst, arith, append-nil}
 use Rattle.std.specs.Prelude.{is_some, false}
 use Rattle.std.proofs.Math.Nat.{min-le_left}
 use Rattle.std.specs.Io.KnownBytes.{prepend_known, IsAtEnd}
@@ -8,7 +8,7 @@ use Rattle.nt_outside.specs.Counts.{Rose, counted, last_count}
 use Rattle.nt_text.specs.declared.kind.ScriptKind.{ScriptKind}
 use Rattle.ntrun.specs.declared.status.Status.{Status}
 use Rattle.ntrun.specs.declared.status.Status.TheVariants as exit
-use Rattle.ntrun.specs.Outcome.{Supply, Store, Gave, IsSupplied, IsFound, IsFoundIn, IsWritten, IsAnswered, ComesExactly, HasCause, IsRun, refusal, refusal_of, input_limit}
+use Rattle.ntrun.specs.Outcome.{Supply, Store, Gave, IsSupplied, IsFound, IsWritten, IsAnswered, HasCause, IsRun, refusal, refusal_of, input_limit}
 use Rattle.ntrun.specs.Unbuilt.{first_unbuilt}
 use Rattle.nt_script.specs.declared.walk.Input.{Input}
 use Rattle.ntrun.specs.Words.{IsForm}
@@ -153,17 +153,17 @@ causes words so sn ko kn status a =
       few = λ long write. few_else words so sn a.found a.text a.cause (λ e. long (same write ∙ e));
       too_long = λ bytes form s. record {
         only = λ e. let found = at exit.TooLong (λ w. cc) e in which words so sn bytes exit.TooLong found.0 form s found.1;
-        always = λ long memory write. same write ∙ which_long bytes a.found (which words so sn bytes a.found a.text form s a.cause) long (λ e. memory (same write ∙ e))
+        always = λ long memory write. same write ∙ which_long bytes a.found (which words so sn bytes a.found a.text form s a.cause) long (λ e. memory (same write ∙ e));
       };
       script = λ bytes form s few. record {
         only = λ e. let found = at exit.Script (λ w. cc) e in (which words so sn bytes exit.Script found.0 form s found.1).1;
-        always = λ bad memory write. same write ∙ which_refused bytes a.found (which words so sn bytes a.found a.text form s a.cause) few bad (λ e. memory (same write ∙ e))
+        always = λ bad memory write. same write ∙ which_refused bytes a.found (which words so sn bytes a.found a.text form s a.cause) few bad (λ e. memory (same write ∙ e));
       };
       ok = λ bytes form s few. record {
         only = λ e. let found = at exit.Ok (λ w. cc) e in (which words so sn bytes exit.Ok found.0 form s found.1).1;
-        always = λ good memory write. same write ∙ which_reported bytes a.found (which words so sn bytes a.found a.text form s a.cause) few good (λ e. memory (same write ∙ e))
+        always = λ good memory write. same write ∙ which_reported bytes a.found (which words so sn bytes a.found a.text form s a.cause) few good (λ e. memory (same write ∙ e));
       };
       write = λ e. faulted status a.found a.text ko kn a.written e;
       never_schedule = λ e. (at exit.Schedule (λ w. cc) e).1.1.2;
-      never_illegal = λ e. (at exit.Illegal (λ w. cc) e).1.1.2
+      never_illegal = λ e. (at exit.Illegal (λ w. cc) e).1.1.2;
     }

@@ -1,5 +1,5 @@
 -- A list of one text.
-use Rattle.std.proofs.Common.{Global, ◌≡◌, ◌∙◌, ℕ, ◌≤◌, ◌<◌, List, [], ◌∷◌, length, map, get_or, refl, ap, sym, arith}
+use Rattle.std.proofs.Common.{Global, ◌≡◌, ◌∙◌, ℕ, ◌≤◌, ◌<◌, List, [], ◌∷◌, length, map, get_or, ap, sym, arith}
 use Rattle.std.specs.Prelude.{String, string_bytes}
 
 pub one_word : (words : List (String Global)) (w : String Global) → 1 ≤ length words → length words < 2 → w ≡ get_or words 0 w → map string_bytes words ≡ string_bytes w ∷ []

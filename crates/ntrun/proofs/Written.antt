@@ -1,5 +1,5 @@
 -- How an answer is written.
-use Rattle.std.proofs.Common.{◌≡◌, ◌≢◌, ◌∙◌, sym, List, ℕ, refl}
+use Rattle.std.proofs.Common.{◌≡◌, ◌≢◌, List, ℕ, refl}
 use Rattle.std.specs.Io.KnownBytes.{append_known}
 use Rattle.ntrun.specs.declared.status.Status.{Status}
 use Rattle.ntrun.specs.declared.status.Status.TheVariants as exit

@@ -1,5 +1,5 @@
 -- Events of a script: each number in an event names a thing of the script's list.
-use Rattle.std.specs.Prelude.{ℕ, Bool, true, false, ◌&&◌, List}
+use Rattle.std.specs.Prelude.{Bool, true, ◌&&◌, List}
 use Rattle.std.specs.List.{list_all}
 use Rattle.nt_event.specs.declared.scripts.Script.{Script}
 use Rattle.nt_event.specs.declared.commands.TimerKey.{TimerKey}

@@ -6,7 +6,7 @@ use Rattle.nt_text.specs.Fields.{number_up_to}
 use Rattle.nt_script.specs.declared.words.Verb.{Verb}
 use Rattle.nt_script.specs.declared.words.Verb.TheVariants as verb
 use Rattle.nt_script.specs.declared.words.Word.{Word}
-use Rattle.nt_script.specs.declared.words.Word.TheVariants.{Cpus, Depth, Threaded, Isr, Dpc, Timer, Thread, Apc, Routine, Exit, Call}
+use Rattle.nt_script.specs.declared.words.Word.TheVariants.{Cpus, Dpc, Thread, Routine, Exit, Call}
 use Rattle.nt_script.specs.Text.{Row}
 use Rattle.nt_script.specs.Words.{word_of}
 

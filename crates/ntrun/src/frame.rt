@@ -16,7 +16,13 @@ pub(crate) struct Frame {
 
 impl Frame {
     pub(crate) fn new(name: u64, routine: RoutineNo, base: Level) -> Frame {
-        Frame { name, routine, place: 0, base, level: base }
+        Frame {
+            name,
+            routine,
+            place: 0,
+            base,
+            level: base,
+        }
     }
 
     /// KeRaiseIrql.

@@ -11,7 +11,10 @@ ghost use Rattle.ntrun.specs.Machine.{thread_of};
 
 use crate::frame::Frame;
 use crate::queue::Queue;
-use nt_event::{Begun, Command, CpuNo, DpcNo, Event, History, Items, Level, Reply, RoutineNo, Script, ThreadNo, What};
+use nt_event::{
+    Begun, Command, CpuNo, DpcNo, Event, History, Items, Level, Reply, RoutineNo, Script, ThreadNo,
+    What,
+};
 use std::alloc::{AllocError, Global};
 
 /// Where the thread stands.
@@ -53,7 +56,10 @@ pub(crate) fn run(alloc: Global, script: &Script, turns: u32) -> Result<History,
             break;
         }
     }
-    Ok(History { turns, events: Items::from_vec(events) })
+    Ok(History {
+        turns,
+        events: Items::from_vec(events),
+    })
 }
 
 /// Whether the processor has nothing more to do.
@@ -69,7 +75,11 @@ fn commands_of(script: &Script, routine: RoutineNo) -> Option<&[Command]>
 {
     let routines = script.routines.as_slice();
     let place = routine.0 as usize;
-    if place < routines.len() { Some(routines[place].commands.as_slice()) } else { None }
+    if place < routines.len() {
+        Some(routines[place].commands.as_slice())
+    } else {
+        None
+    }
 }
 
 /// The command at a place, if there are so many.
@@ -79,7 +89,11 @@ fn command_in<'s>(script: &Script, commands: &'s [Command], place: usize) -> Opt
     ensures fits { IfSome result (λ c. command_fits script.now c.now ≡ true) }
     ensures place { OnSome result (place + 1 < 2 ^ 64) }
 {
-    if place < commands.len() { Some(&commands[place]) } else { None }
+    if place < commands.len() {
+        Some(&commands[place])
+    } else {
+        None
+    }
 }
 
 /// The routine's command at a place, if it has so many.
@@ -92,7 +106,12 @@ fn command_at(script: &Script, routine: RoutineNo, place: usize) -> Option<&Comm
 }
 
 /// Calls the routine's next command; None where it has no more.
-fn go_on(script: &Script, frame: &mut Frame, queue: &mut Queue, number: u64) -> Result<Option<What>, AllocError>
+fn go_on(
+    script: &Script,
+    frame: &mut Frame,
+    queue: &mut Queue,
+    number: u64,
+) -> Result<Option<What>, AllocError>
     requires script { fits script.now ≡ true }
     requires queue { All (λ i. has_dpc script.now i.dpc ≡ true) queue.old.inserts.items }
     ensures call { IfOk result (λ call. IfSome call (λ w. what_fits script.now w ≡ true)) }
@@ -109,7 +128,11 @@ fn go_on(script: &Script, frame: &mut Frame, queue: &mut Queue, number: u64) -> 
         // A note. A script with a command of a later stage does not come here.
         _ => Reply::Done,
     };
-    Ok(Some(What::Call { frame: frame.name, command: *command, reply }))
+    Ok(Some(What::Call {
+        frame: frame.name,
+        command: *command,
+        reply,
+    }))
 }
 
 impl<'s> Machine<'s> {
@@ -119,7 +142,11 @@ impl<'s> Machine<'s> {
     {
         Machine {
             script,
-            thread: if script.threads.is_empty() { Thread::Absent } else { Thread::Ready(ThreadNo(0)) },
+            thread: if script.threads.is_empty() {
+                Thread::Absent
+            } else {
+                Thread::Ready(ThreadNo(0))
+            },
             dpc: None,
             queue: Queue::new(alloc),
         }
@@ -139,7 +166,9 @@ impl<'s> Machine<'s> {
     {
         match self.thread {
             Thread::Absent => None,
-            Thread::Ready(thread) | Thread::Running(thread, _) | Thread::Leaving(thread) => Some(thread),
+            Thread::Ready(thread) | Thread::Running(thread, _) | Thread::Leaving(thread) => Some(
+                thread,
+            ),
         }
     }
 
@@ -153,7 +182,12 @@ impl<'s> Machine<'s> {
         let thread = self.thread();
         let what = self.act(number)?;
         let is_last = rests(&what);
-        let event = Event { cpu: CpuNo(0), thread, level: self.level(), what };
+        let event = Event {
+            cpu: CpuNo(0),
+            thread,
+            level: self.level(),
+            what,
+        };
         events.extend_from_slice(&[event])?;
         Ok(is_last)
     }
@@ -186,7 +220,10 @@ impl<'s> Machine<'s> {
         };
         let routine = self.script.dpcs.as_slice()[insert.dpc.0 as usize].routine;
         self.dpc = Some(Frame::new(number, routine, Level::DISPATCH));
-        What::Begin { begun: Begun::Dpc(insert.dpc), from: insert.number }
+        What::Begin {
+            begun: Begun::Dpc(insert.dpc),
+            from: insert.number,
+        }
     }
 
     fn act_in_thread(&mut self, number: u64) -> Result<What, AllocError>
@@ -199,7 +236,10 @@ impl<'s> Machine<'s> {
                 let thread = *thread;
                 let routine = self.script.threads.as_slice()[thread.0 as usize].routine;
                 self.thread = Thread::Running(thread, Frame::new(number, routine, Level::PASSIVE));
-                Ok(What::Switch { thread, status: None })
+                Ok(What::Switch {
+                    thread,
+                    status: None,
+                })
             }
             Thread::Running(thread, frame) => {
                 let thread = *thread;

@@ -24,6 +24,9 @@ pub use top::{ntrun, plain};
 pub use unbuilt::first_unbuilt;
 pub use words::is_live;
 
+#[cfg(test)]
+mod tests;
+
 use nt_outside::{OpenGate, StdSink, StdSource};
 use std::alloc::AllocError;
 use std::process::ExitCode;
@@ -40,7 +43,13 @@ fn main(rt: HostRuntime) -> ExitCode {
     let mut source = StdSource::new(rt.stdin());
     let mut sink = StdSink::new(rt.stdout());
     let status = match given_words(&rt) {
-        Ok(words) => ntrun(rt.alloc(), words.as_slice(), &mut source, &mut sink, &OpenGate),
+        Ok(words) => ntrun(
+            rt.alloc(),
+            words.as_slice(),
+            &mut source,
+            &mut sink,
+            &OpenGate,
+        ),
         Err(error) if error.kind() == io::ErrorKind::OutOfMemory => top::starved(&mut sink),
         // Words that are no text are no form.
         Err(_) => ntrun(rt.alloc(), &[], &mut source, &mut sink, &OpenGate),

@@ -56,8 +56,19 @@ pub(crate) fn starved<K: Sink>(sink: &mut K) -> Status
     write(&no_memory(), sink)
 }
 
-/// The program for all words that are no live form.
-pub fn plain<S: Source, K: Sink>(alloc: Global, words: &[String], source: &mut S, sink: &mut K) -> Status
+/// The program for all words that are no live form: `words` are those behind the program's name. It waits for nobody and returns.
+///
+/// In this order: `Usage` exactly where the words are no form, and then nothing is read; `Read` only where the source's count of
+/// faults rose; `TooLong` exactly where more than 33,554,432 bytes were taken; `Script` exactly where the reader refuses a line,
+/// or, where it refuses none, a later stage builds one; else `Ok` and the report of a history of the script. Want of memory,
+/// `Memory`, may come at any place behind the first. The text or line of the status is written whole by one `write_all`; where
+/// that fails, `Write`, and a front part of it stands.
+pub fn plain<S: Source, K: Sink>(
+    alloc: Global,
+    words: &[String],
+    source: &mut S,
+    sink: &mut K,
+) -> Status
     requires { is_live (map string_bytes words.now) ≡ false }
     ensures answered { IsAnswered (map string_bytes words.now) (supply (S.left source.old) (S.taken source.old) (S.faults source.old)) (supply (S.left source.new) (S.taken source.new) (S.faults source.new)) (store (K.held sink.old) (K.faults sink.old)) (store (K.held sink.new) (K.faults sink.new)) result }
     ensures causes { HasCause (map string_bytes words.now) (supply (S.left source.old) (S.taken source.old) (S.faults source.old)) (supply (S.left source.new) (S.taken source.new) (S.faults source.new)) (store (K.held sink.old) (K.faults sink.old)) (store (K.held sink.new) (K.faults sink.new)) result }
@@ -69,7 +80,13 @@ pub fn plain<S: Source, K: Sink>(alloc: Global, words: &[String], source: &mut S
 /// The program: words are those behind its name, and what it writes goes to the sink.
 ///
 /// It may wait where [`is_live`](crate::is_live) holds of the words.
-pub fn ntrun<S: Source, K: Sink, G: Gate>(alloc: Global, words: &[String], source: &mut S, sink: &mut K, _gate: &G) -> Status
+pub fn ntrun<S: Source, K: Sink, G: Gate>(
+    alloc: Global,
+    words: &[String],
+    source: &mut S,
+    sink: &mut K,
+    _gate: &G,
+) -> Status
     ensures answered { IsAnswered (map string_bytes words.now) (supply (S.left source.old) (S.taken source.old) (S.faults source.old)) (supply (S.left source.new) (S.taken source.new) (S.faults source.new)) (store (K.held sink.old) (K.faults sink.old)) (store (K.held sink.new) (K.faults sink.new)) result }
     ensures causes { HasCause (map string_bytes words.now) (supply (S.left source.old) (S.taken source.old) (S.faults source.old)) (supply (S.left source.new) (S.taken source.new) (S.faults source.new)) (store (K.held sink.old) (K.faults sink.old)) (store (K.held sink.new) (K.faults sink.new)) result }
 {

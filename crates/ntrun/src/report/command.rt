@@ -47,7 +47,11 @@ fn put_target(out: &mut Vec<u8>, target: Option<CpuNo>) -> Result<(), AllocError
 }
 
 /// Adds a command, each field with a space before it.
-pub(super) fn put_command(out: &mut Vec<u8>, input: &Input, command: &Command) -> Result<(), AllocError>
+pub(super) fn put_command(
+    out: &mut Vec<u8>,
+    input: &Input,
+    command: &Command,
+) -> Result<(), AllocError>
     requires sound { IsSound input.now }
     requires fits { command_fits input.now.script command.now ≡ true }
     ensures { OnOk result (out.new.items ≡ out.old.items ++ spaced (command_row input.now.names command.now)) }

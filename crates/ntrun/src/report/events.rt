@@ -11,8 +11,8 @@ ghost use Rattle.ntrun.specs.Report.{spaced, show_running, begun_row, key_row, s
 
 use super::command::put_command;
 use super::fields::{put_field, put_number, put_processor, put_replied, put_status, put_used};
-use nt_event::{ApcKind, ApcNo, Begun, Event, ThreadNo, TimerKey, What};
 use itoa::Buffer;
+use nt_event::{ApcKind, ApcNo, Begun, Event, ThreadNo, TimerKey, What};
 use nt_script::Input;
 use std::alloc::AllocError;
 
@@ -97,7 +97,11 @@ fn put_what(out: &mut Vec<u8>, input: &Input, what: &What) -> Result<(), AllocEr
     ensures { OnOk result (out.new.items ≡ out.old.items ++ spaced (what_row input.now what.now)) }
 {
     match what {
-        What::Call { frame, command, reply } => {
+        What::Call {
+            frame,
+            command,
+            reply,
+        } => {
             put_field(out, b"call")?;
             put_number(out, *frame)?;
             put_command(out, input, command)?;
@@ -181,7 +185,11 @@ fn put_event(out: &mut Vec<u8>, input: &Input, number: u64, event: &Event) -> Re
 }
 
 /// Adds the lines of the events, in order. A look has none.
-pub(super) fn put_events(out: &mut Vec<u8>, input: &Input, events: &[Event]) -> Result<(), AllocError>
+pub(super) fn put_events(
+    out: &mut Vec<u8>,
+    input: &Input,
+    events: &[Event],
+) -> Result<(), AllocError>
     requires sound { IsSound input.now }
     requires fit { events_fit input.now.script events.now ≡ true }
     ensures { OnOk result (out.new.items ≡ out.old.items ++ rows_text (event_rows input.now 0 events.now)) }

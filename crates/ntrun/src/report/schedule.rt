@@ -89,7 +89,11 @@ fn put_turns(out: &mut Vec<u8>, input: &Input, events: &[Event]) -> Result<(), A
 }
 
 /// Adds the schedule.
-pub(super) fn put_schedule(out: &mut Vec<u8>, input: &Input, history: &History) -> Result<(), AllocError>
+pub(super) fn put_schedule(
+    out: &mut Vec<u8>,
+    input: &Input,
+    history: &History,
+) -> Result<(), AllocError>
     requires sound { IsSound input.now }
     requires fit { events_fit input.now.script history.now.events ≡ true }
     ensures { OnOk result (out.new.items ≡ out.old.items ++ rows_text (schedule_rows input.now.names history.now)) }

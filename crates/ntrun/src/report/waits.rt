@@ -31,8 +31,20 @@ fn inserted(what: &What) -> Option<Object>
     ensures { (s : Script) → what_fits s what.now ≡ true → IfSome result (λ x. object_fits s x ≡ true) }
 {
     match what {
-        What::Call { command: Command::Queue(dpc), reply: Reply::Yes, .. } | What::Fire { dpc, reply: Reply::Yes } => Some(Object::Dpc(*dpc)),
-        What::Call { command: Command::InsertApc(apc), reply: Reply::Yes, .. } => Some(Object::Apc(*apc)),
+        What::Call {
+            command: Command::Queue(dpc),
+            reply: Reply::Yes,
+            ..
+        }
+        | What::Fire {
+            dpc,
+            reply: Reply::Yes,
+        } => Some(Object::Dpc(*dpc)),
+        What::Call {
+            command: Command::InsertApc(apc),
+            reply: Reply::Yes,
+            ..
+        } => Some(Object::Apc(*apc)),
         _ => None,
     }
 }
@@ -40,8 +52,15 @@ fn inserted(what: &What) -> Option<Object>
 /// The insert that an event uses up: the object and the number of the event that inserted it.
 fn used_up(what: &What) -> Option<(Object, u64)> {
     match what {
-        What::Begin { begun: Begun::Dpc(dpc) | Begun::Threaded(dpc), from } => Some((Object::Dpc(*dpc), *from)),
-        What::Begin { begun: Begun::Apc(apc), from } | What::Flush { apc, from } => Some((Object::Apc(*apc), *from)),
+        What::Begin {
+            begun: Begun::Dpc(dpc) | Begun::Threaded(dpc),
+            from,
+        } => Some((Object::Dpc(*dpc), *from)),
+        What::Begin {
+            begun: Begun::Apc(apc),
+            from,
+        }
+        | What::Flush { apc, from } => Some((Object::Apc(*apc), *from)),
         _ => None,
     }
 }
@@ -77,7 +96,10 @@ pub(super) fn waiting(alloc: Global, events: &[Event]) -> Result<Vec<Insert>, Al
     let mut inserts = Vec::new(alloc);
     for (number, event) in events.iter().enumerate() {
         if let Some(object) = still_waits(event, used[number]) {
-            inserts.push(Insert { number: number as u64, object })?;
+            inserts.push(Insert {
+                number: number as u64,
+                object,
+            })?;
         }
     }
     Ok(inserts)
@@ -122,7 +144,11 @@ fn put_wait(out: &mut Vec<u8>, input: &Input, insert: Insert) -> Result<(), Allo
 }
 
 /// Adds the lines of the inserts that still wait.
-pub(super) fn put_waits(out: &mut Vec<u8>, input: &Input, inserts: &[Insert]) -> Result<(), AllocError>
+pub(super) fn put_waits(
+    out: &mut Vec<u8>,
+    input: &Input,
+    inserts: &[Insert],
+) -> Result<(), AllocError>
     requires sound { IsSound input.now }
     requires fit { inserts_fit input.now.script inserts.now ≡ true }
     ensures { OnOk result (out.new.items ≡ out.old.items ++ rows_text (map (wait_row input.now.names) inserts.now)) }

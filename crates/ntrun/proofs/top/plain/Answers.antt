@@ -1,5 +1,4 @@
 use Rattle.ntrun.specs.Answer.{text_of}
-use Rattle.ntrun.specs.Outcome.{supply, store}
 use Rattle.ntrun.proofs.Causes.{causes}
 use Rattle.ntrun.proofs.Written.{found_is_no_fault}
 use Rattle.ntrun.proofs.top.plain.Goals as goal

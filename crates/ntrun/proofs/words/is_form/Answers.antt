@@ -1,4 +1,4 @@
-use Rattle.std.proofs.Common.{◌≡◌, ◌∙◌, sym, codes, string_bytes}
+use Rattle.std.proofs.Common.{◌∙◌, sym, codes, string_bytes}
 use Rattle.ntrun.proofs.OneWord.{one_word, is_one}
 use Rattle.ntrun.proofs.words.is_form.Goals as goal
 
