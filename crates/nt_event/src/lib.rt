@@ -10,17 +10,26 @@
 mod commands;
 mod events;
 mod fitting;
+mod frames;
+mod inserts;
+mod jobs;
+pub mod laws;
 mod lists;
 mod numbers;
 mod plans;
 mod scripts;
 #[cfg(test)]
 mod tests;
+mod threads;
 
 pub use commands::{ApcKind, Command, Importance, Mode, Refusal, Regions, Reply, TimerKey};
 pub use events::{Begun, Event, History, Rises, ScheduleKind, Turn, What};
+pub use frames::{Again, Body, Frame, Region};
+pub use inserts::{Insert, Part, Pick, Setting, Standing};
+pub use jobs::{Job, Lane, Stand, Task};
 pub use lists::Items;
 pub use nt_level::Level;
 pub use numbers::{ApcNo, CpuNo, DpcNo, RoutineNo, ThreadNo, TimerNo};
 pub use plans::Plan;
 pub use scripts::{ApcDecl, DpcDecl, Isr, Routine, Script, ThreadDecl, TimerDecl};
+pub use threads::{Doing, Waiting};

@@ -1,0 +1,4 @@
+pub mod Firsts
+pub mod Inserts
+pub mod Reversed
+pub mod Views

@@ -1,0 +1,6 @@
+pub mod Reversed
+pub mod Once
+pub mod First
+pub mod Pending
+pub mod Numbered
+pub mod Events

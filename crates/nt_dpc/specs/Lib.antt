@@ -1,0 +1,4 @@
+pub mod Objects
+pub mod Queues
+pub mod Changes
+pub mod Laws

@@ -1,0 +1,37 @@
+-- DPC objects as contracts see them.
+use Rattle.std.specs.Prelude.{Bool, None, Some, if◌then◌else◌, option_map, Option, ℕ}
+use Rattle.nt_event.specs.declared.inserts.Insert.{Insert}
+use Rattle.nt_event.specs.declared.inserts.Part.{Part}
+use Rattle.nt_event.specs.declared.inserts.Part.TheVariants.{Ordinary as OrdinaryPart, Threaded as ThreadedPart}
+use Rattle.nt_event.specs.declared.inserts.Standing.{Standing}
+use Rattle.nt_event.specs.declared.numbers.CpuNo.{CpuNo}
+use Rattle.nt_event.specs.declared.numbers.DpcNo.{DpcNo}
+use Rattle.nt_event.specs.Objects.{ObjectState, start_object}
+use Rattle.nt_event.specs.Queues.{is_high}
+
+-- a DPC object: its number, the part of a queue in which it stands, and its state
+pub record ObjectFacts : Type 0 where
+  pub dpc : DpcNo
+  pub part : Part
+  pub state : ObjectState
+
+abbrev pub part_if : Bool → Part
+part_if threaded = if threaded then ThreadedPart else OrdinaryPart
+
+-- Medium, no target, not queued
+abbrev pub new_object : DpcNo → Bool → ObjectFacts
+new_object d threaded = record { dpc = d; part = part_if threaded; state = start_object }
+
+-- the processor in whose queue the object stands
+abbrev pub standing_cpu : ObjectFacts → Option CpuNo
+standing_cpu o = option_map (λ x. x.queue) o.state.standing
+
+abbrev pub queued_at : Standing → ObjectFacts → ObjectFacts
+queued_at x o = record o { state = record o.state { standing = Some x } }
+
+abbrev pub unqueued : ObjectFacts → ObjectFacts
+unqueued o = record o { state = record o.state { standing = None } }
+
+-- the entry that an insert of the object by the event of this number makes
+abbrev pub entry_of : ℕ → ObjectFacts → Insert
+entry_of n o = record { dpc = o.dpc; number = n; part = o.part; high = is_high o.state.importance }

@@ -1,0 +1,10 @@
+pub mod Tables
+pub mod Moves
+pub mod Options
+pub mod Steps
+pub mod Turns
+pub mod Levels
+pub mod Running
+pub mod OwnPart
+pub mod Robin
+pub mod Settled

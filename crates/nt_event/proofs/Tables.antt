@@ -1,0 +1,52 @@
+-- Tables: their elements, and when two are equal.
+use Rattle.std.proofs.Common.{add-zero, ap, arith, sym, ◌∙◌}
+use Rattle.std.proofs.lemmas.Grind.{same_number_lists}
+use Rattle.std.specs.Prelude.{List, [], get_or, length, refl, suc, zero, ℕ, ◌+◌, ◌<◌, ◌∷◌, ◌≡◌}
+use Rattle.nt_event.specs.Words.{table, table_from}
+
+pub get_or-table_from : {A : Type 0} (k n i : ℕ) (f : ℕ → A) (d : A) → i < n → get_or (table_from k n f) i d ≡ f (k + i)
+unfolding table_from
+get_or-table_from k zero i f d h = absurd (omega arith)
+get_or-table_from k (suc n) zero f d h = ap f (omega arith)
+get_or-table_from k (suc n) (suc i) f d h =
+    get_or-table_from (suc k) n i f d (omega arith) ∙ ap f (omega arith)
+
+pub get_or-table : {A : Type 0} (n i : ℕ) (f : ℕ → A) (d : A) → i < n → get_or (table n f) i d ≡ f i
+get_or-table n i f d h = get_or-table_from 0 n i f d h ∙ ap f (omega arith)
+
+pub table_from-same : {A : Type 0} (k n : ℕ) (f g : ℕ → A) → ((i : ℕ) → i < n → f (k + i) ≡ g (k + i)) → table_from k n f ≡ table_from k n g
+unfolding table_from
+table_from-same k zero f g h = refl
+table_from-same {A} k (suc n) f g h =
+    let here : f k ≡ g k = rw add-zero at (h 0 (omega arith)) in
+    let rest : table_from (suc k) n f ≡ table_from (suc k) n g = table_from-same (suc k) n f g (λ i l. next i l) in
+    cc
+  where
+    next : (i : ℕ) → i < n → f (suc k + i) ≡ g (suc k + i)
+    next i l = let e : k + suc i ≡ suc k + i = omega arith in rw e at (h (suc i) (omega arith))
+
+pub table-same : {A : Type 0} (n : ℕ) (f g : ℕ → A) → ((i : ℕ) → i < n → f i ≡ g i) → table n f ≡ table n g
+table-same n f g h = table_from-same 0 n f g (λ i l. let e : 0 + i ≡ i = omega arith in rw e (h i l))
+
+pub length-table_from : {A : Type 0} (k n : ℕ) (f : ℕ → A) → length (table_from k n f) ≡ n
+unfolding table_from
+length-table_from k zero f = refl
+length-table_from k (suc n) f = ap suc (length-table_from (suc k) n f)
+
+-- a list whose elements are those of a function is its table
+pub is_table : (xs : List ℕ) (n : ℕ) (f : ℕ → ℕ) → length xs ≡ n → ((i : ℕ) → i < n → get_or xs i 0 ≡ f i) → xs ≡ table n f
+is_table xs n f l h =
+    same_number_lists xs (table n f) (l ∙ sym (length-table_from 0 n f)) (λ i k. let j : i < n = omega (arith, l) in h i j ∙ sym (get_or-table n i f 0 j))
+
+-- the table of a list's elements is the list
+pub table_from-self : {A : Type 0} (d : A) (k : ℕ) (xs : List A) (f : ℕ → A) → ((i : ℕ) → i < length xs → f (k + i) ≡ get_or xs i d) → table_from k (length xs) f ≡ xs
+unfolding table_from
+table_from-self d k [] f h = refl
+table_from-self {A} d k (x ∷ xs) f h =
+    let here : f k ≡ x = rw add-zero at (h 0 (omega arith)) in
+    let rest : table_from (suc k) (length xs) f ≡ xs = table_from-self d (suc k) xs f (λ i l. let a : suc k + i ≡ k + suc i = omega arith in rw a (h (suc i) (omega arith))) in
+    cc
+
+pub table-self : {A : Type 0} (d : A) (n : ℕ) (xs : List A) (f : ℕ → A) → length xs ≡ n → ((i : ℕ) → i < n → f i ≡ get_or xs i d) → table n f ≡ xs
+table-self d n xs f l h =
+    rw (← l) (table_from-self d 0 xs f (λ i k. let a : 0 + i ≡ i = omega arith in rw a (h i (omega arith))))

@@ -1,0 +1,124 @@
+-- Jobs under lanes: the whole event that a job makes, by where its processor stands and the states of the lanes alone, and
+-- what holds of a processor and a job in a run.
+use Rattle.std.specs.Prelude.{Bool, IfSome, IsSome, IsTrue, List, Some, false, if◌then◌else◌, length, true, ℕ, ◌<◌, ◌≡◌, ◌≤◌, ◌⊎◌}
+use Rattle.nt_event.specs.declared.commands.Command.{Command}
+use Rattle.nt_event.specs.declared.commands.Command.TheVariants.{Delay, StartWait, TestAlert, Yield}
+use Rattle.nt_event.specs.declared.commands.Reply.TheVariants.{Done}
+use Rattle.nt_event.specs.declared.events.Begun.TheVariants.{Apc, Dpc, Int, Threaded}
+use Rattle.nt_event.specs.declared.events.Event.{Event}
+use Rattle.nt_event.specs.declared.events.What.{What}
+use Rattle.nt_event.specs.declared.events.What.TheVariants.{Begin, Call, End, Flush, Gone, Rest, Rewait, Switch}
+use Rattle.nt_event.specs.declared.jobs.Job.{Job}
+use Rattle.nt_event.specs.declared.jobs.Job.TheVariants.{Apcs as ApcsJob, Call as CallJob, Leave as LeaveJob, Pick as PickJob, Rewait as RewaitJob, Rundown as RundownJob, Switch as SwitchJob, ToUser as ToUserJob, UserEnd as UserEndJob}
+use Rattle.nt_event.specs.declared.jobs.Stand.{Stand}
+use Rattle.nt_event.specs.declared.jobs.Task.TheVariants.{Shared}
+use Rattle.nt_event.specs.declared.numbers.CpuNo.{CpuNo}
+use Rattle.nt_event.specs.declared.numbers.ThreadNo.{ThreadNo}
+use Rattle.nt_event.specs.declared.scripts.Script.{Script}
+use Rattle.nt_event.specs.Apcs.{has_kernel}
+use Rattle.nt_event.specs.Commands.{needs_lane}
+use Rattle.nt_event.specs.Jobs.{job_event, may_switch, task}
+use Rattle.nt_event.specs.Lanes.{Lanes, facts_at, lanes_at}
+use Rattle.nt_event.specs.Own.{Own, own_of}
+use Rattle.nt_event.specs.Regions.{stand_at}
+use Rattle.nt_event.specs.Routines.{cpu_of}
+use Rattle.nt_event.specs.Step.{IsRun, event_at, thread_field}
+use Rattle.nt_event.specs.Frames.{frames_of}
+use Rattle.nt_event.specs.Threads.{doing_level}
+use Rattle.nt_event.specs.Words.{is_blocked}
+use Rattle.nt_event.specs.declared.threads.Doing.TheVariants.{Running as IsRunning}
+
+-- ---- the event
+
+-- the level after an event that touches lanes, or is one of those that a job may give
+abbrev pub acted_level : Stand → Lanes → What → ℕ
+acted_level st l (Call f Yield Done) = 0
+acted_level st l (Call f c y) = if is_blocked y then 0 else st.level
+acted_level st l (Begin (Int level) from) = level
+acted_level st l (Begin (Dpc d) from) = 2
+acted_level st l (Begin (Threaded d) from) = 0
+acted_level st l (Begin (Apc a) from) = 1
+acted_level st l (Switch t status) = doing_level (facts_at l t).doing
+acted_level st l (Rewait f y) = if is_blocked y then 0 else st.level
+acted_level st l (End f) = st.after
+acted_level st l (Flush a from) = 0
+acted_level st l (Gone t) = 0
+acted_level st l w = st.level
+
+-- the event of a processor that stands so
+abbrev pub acted_event : Stand → Lanes → What → Event
+acted_event st l w = record { cpu = st.cpu; thread = thread_field w st.thread; level = acted_level st l w; what = w }
+
+-- ---- what holds of a processor in a run
+
+-- the thread that runs on a processor is one of its own, and its facts say that it runs
+pub record RunsThere (s : Script) (l : Lanes) (st : Stand) (t : ThreadNo) : Type 0 where
+  pub named : t.0 < length s.threads
+  pub own : cpu_of s t ≡ st.cpu
+  pub runs : (facts_at l t).doing ≡ IsRunning
+
+abbrev pub IsStanding : Script → Lanes → Stand → Type 0
+IsStanding s l st = IfSome st.thread (λ t. RunsThere s l st t)
+
+-- ---- what holds of a job that is to be done
+
+-- a thread runs, at a level of at most n
+pub record InThread (n : ℕ) (st : Stand) : Type 0 where
+  pub thread : IsSome st.thread
+  pub level : st.level ≤ n
+
+-- a thread ends that takes no more APCs, and all its kernel APCs are delivered
+pub record IsLeaving (l : Lanes) (t : ThreadNo) : Type 0 where
+  pub leaving : (facts_at l t).leaving ≡ true
+  pub delivered : has_kernel (facts_at l t).apcs ≡ false
+
+pub record EndsThread (l : Lanes) (st : Stand) : Type 0 where
+  pub thread : IsSome st.thread
+  pub leaves : IfSome st.thread (λ t. IsLeaving l t)
+
+pub record TakesUp (st : Stand) : Type 0 where
+  pub thread : IsSome st.thread
+  pub level : st.level ≤ 1
+  pub wait : IsSome st.again
+
+-- a command that is called under lanes: a wait, a delay, a test of an alert or a yield is called in a thread
+abbrev pub IsCallable : Stand → Command → Type 0
+IsCallable st (StartWait m a) = InThread 1 st
+IsCallable st (Delay m a units) = InThread 1 st
+IsCallable st (TestAlert m) = InThread 2 st
+IsCallable st Yield = InThread 1 st
+IsCallable st c = Unit {0}
+
+abbrev pub IsAllowed : Lanes → Stand → Job → Type 0
+IsAllowed l st (CallJob c) = IsTrue (needs_lane c) × IsCallable st c
+IsAllowed l st ApcsJob = InThread 0 st
+IsAllowed l st RewaitJob = TakesUp st
+IsAllowed l st ToUserJob = InThread 0 st
+IsAllowed l st UserEndJob = IsSome st.thread
+IsAllowed l st LeaveJob = IsSome st.thread
+IsAllowed l st RundownJob = EndsThread l st
+IsAllowed l st job = Unit {0}
+
+-- the choice of a thread
+abbrev pub is_choice : Job → Bool
+is_choice (SwitchJob t) = true
+is_choice (PickJob last) = true
+is_choice job = false
+
+-- the job is what the processor has to do next, or a choice of a thread where one may be made
+abbrev pub IsDue : Script → CpuNo → Own → Job → Type 0
+IsDue s p x job = (task s p x ≡ Some (Shared job)) ⊎ ((is_choice job ≡ true) × (may_switch x ≡ true))
+
+-- ---- laws
+
+-- in a run each processor stands so
+abbrev pub ProcessorsStand : Type 0
+ProcessorsStand = (s : Script) (limit : ℕ) (p : CpuNo) (past : List Event) → IsRun s limit past → IsStanding s (lanes_at s past) (stand_at s p past)
+
+-- in a run a job that is due is allowed
+abbrev pub JobsAllowed : Type 0
+JobsAllowed = (s : Script) (limit : ℕ) (p : CpuNo) (job : Job) (past : List Event) → IsRun s limit past → IsDue s p (own_of s p past) job → IsAllowed (lanes_at s past) (stand_at s p past) job
+
+-- in a run the event of a job that is due is the one that the processor's frames give
+abbrev pub EventsAgree : Type 0
+EventsAgree = (s : Script) (limit : ℕ) (p : CpuNo) (job : Job) (w : What) (past : List Event) → IsRun s limit past → IsDue s p (own_of s p past) job → job_event s (stand_at s p past) (lanes_at s past) job ≡ Some w → event_at s p w (frames_of s p past) ≡ acted_event (stand_at s p past) (lanes_at s past) w

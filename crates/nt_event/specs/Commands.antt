@@ -1,0 +1,92 @@
+-- Commands: where each is refused, what it replies, and whether it touches a lane.
+use Rattle.std.specs.Prelude.{Bool, None, Option, Some, false, nat_le, nat_lt, not, true, ℕ, ◌&&◌, ◌+◌, ◌==◌}
+use Rattle.nt_event.specs.declared.commands.Command.{Command}
+use Rattle.nt_event.specs.declared.commands.Command.TheVariants.{Alert, CancelTimer, Clock, Delay, EnterCrit, EnterGuard, InsertApc, Interrupt, LeaveCrit, LeaveGuard, Lower, Note, Queue, Raise, Release, RemoveApc, SetImportance, SetTarget, SetTimer, StartWait, TestAlert, ToUser, Unqueue, Yield}
+use Rattle.nt_event.specs.declared.commands.Refusal.{Refusal}
+use Rattle.nt_event.specs.declared.commands.Refusal.TheVariants.{BelowBase, NotBase, NotEntered, NotGreater, NotLess, NotThread, RegionsOpen, TooHigh}
+use Rattle.nt_event.specs.declared.commands.Regions.{Regions}
+use Rattle.nt_event.specs.declared.commands.Reply.{Reply}
+use Rattle.nt_event.specs.declared.commands.Reply.TheVariants.{Done}
+use Rattle.nt_event.specs.declared.frames.Frame.{Frame}
+use Rattle.nt_event.specs.declared.jobs.Stand.{Stand}
+use Rattle.nt_event.specs.declared.scripts.Script.{Script}
+use Rattle.nt_event.specs.Apcs.{is_inserted, takes}
+use Rattle.nt_event.specs.Frames.{base_of, is_base_body}
+use Rattle.nt_event.specs.Lanes.{Lanes, facts_at, facts_of, object_at}
+use Rattle.nt_event.specs.Objects.{is_queued}
+use Rattle.nt_event.specs.Regions.{is_open}
+use Rattle.nt_event.specs.Routines.{owner_of}
+use Rattle.nt_event.specs.Threads.{ends_by_release, is_alerted, is_gone}
+use Rattle.nt_event.specs.Timers.{is_set_timer}
+use Rattle.nt_event.specs.Waits.{wait_reply}
+use Rattle.nt_event.specs.Words.{yes_if}
+
+-- the first test that fails
+abbrev pub refuse : Bool → Refusal → Option Refusal → Option Refusal
+refuse true r next = Some r
+refuse false r next = next
+
+-- called at a level not above n
+abbrev pub not_above : ℕ → ℕ → Option Refusal → Option Refusal
+not_above n level next = refuse (nat_lt n level) TooHigh next
+
+-- the refusal of a command at this level, where the innermost frame stands on the processor's own part or not, and its
+-- thread is in these regions; the tests are made in the order of the refusals' numbers
+abbrev pub refusal : ℕ → Bool → Regions → Frame → Command → Option Refusal
+refusal level own r f (Raise l) = refuse (nat_lt l level) NotGreater None
+refusal level own r f (Lower l) = refuse (nat_lt level l) NotLess (refuse (nat_lt l (base_of f)) BelowBase None)
+refusal level own r f (Queue d) = None
+refusal level own r f (Unqueue d) = None
+refusal level own r f (SetImportance d i) = None
+refusal level own r f (SetTarget d t) = None
+refusal level own r f (SetTimer t due period) = not_above 2 level None
+refusal level own r f (CancelTimer t) = not_above 2 level None
+refusal level own r f (InsertApc a) = not_above 2 level None
+refusal level own r f (RemoveApc a) = not_above 2 level None
+refusal level own r f EnterCrit = refuse own NotThread (not_above 1 level None)
+refusal level own r f EnterGuard = refuse own NotThread (not_above 1 level None)
+refusal level own r f LeaveCrit = refuse own NotThread (not_above 1 level (refuse (f.crit == 0) NotEntered None))
+refusal level own r f LeaveGuard = refuse own NotThread (not_above 1 level (refuse (f.guard == 0) NotEntered None))
+refusal level own r f (StartWait m a) = refuse own NotThread (not_above 1 level None)
+refusal level own r f (Delay m a units) = refuse own NotThread (not_above 1 level None)
+refusal level own r f (Release t) = not_above 2 level None
+refusal level own r f (Alert t m) = not_above 2 level None
+refusal level own r f (TestAlert m) = refuse own NotThread (not_above 2 level None)
+refusal level own r f (Interrupt p l) = None
+refusal level own r f (Clock units) = None
+refusal level own r f ToUser =
+    refuse own NotThread (refuse (not (is_base_body f.body)) NotBase (not_above 0 level (refuse (is_open r) RegionsOpen None)))
+refusal level own r f Yield = refuse own NotThread (not_above 1 level None)
+refusal level own r f (Note n) = None
+
+-- a due time is reached
+abbrev pub is_reached : ℕ → ℕ → Bool
+is_reached now due = nat_le due now
+
+-- the reply to a command that isn't refused, by where the processor stands and the states of the lanes
+abbrev pub reply : Script → Stand → Lanes → Command → Reply
+reply s st l (Queue d) = yes_if (not (is_queued (object_at l d)))
+reply s st l (Unqueue d) = yes_if (is_queued (object_at l d))
+reply s st l (SetTimer t due period) = yes_if (is_set_timer l.timers t)
+reply s st l (CancelTimer t) = yes_if (is_set_timer l.timers t)
+reply s st l (InsertApc a) = yes_if (takes a (facts_at l (owner_of s a)).apcs)
+reply s st l (RemoveApc a) = yes_if (is_inserted a (facts_at l (owner_of s a)).apcs)
+reply s st l (StartWait m a) = wait_reply (facts_of l st.thread) st.regions st.level m a None
+reply s st l (Delay m a units) =
+    wait_reply (facts_of l st.thread) st.regions st.level m a (Some (is_reached l.timers.now (l.timers.now + units)))
+reply s st l (Release t) = yes_if (ends_by_release (facts_at l t))
+reply s st l (Alert t m) = yes_if (not (is_gone (facts_at l t)) && is_alerted m (facts_at l t))
+reply s st l (TestAlert m) = yes_if (is_alerted m (facts_of l st.thread))
+reply s st l c = Done
+
+-- the command touches a lane where it isn't refused
+abbrev pub needs_lane : Command → Bool
+needs_lane (Raise level) = false
+needs_lane (Lower level) = false
+needs_lane EnterCrit = false
+needs_lane EnterGuard = false
+needs_lane LeaveCrit = false
+needs_lane LeaveGuard = false
+needs_lane (Interrupt p level) = false
+needs_lane (Note n) = false
+needs_lane c = true

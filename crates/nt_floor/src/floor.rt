@@ -1,0 +1,68 @@
+//! Events that touch lanes.
+use crate::words::Words;
+use nt_event::{Event, Job, Rises, Stand};
+
+/// What one act made.
+#[derive(Clone, Copy, PartialEq, Eq, Debug)]
+pub struct Acted {
+    /// The event's number.
+    pub number: u64,
+    pub event: Event,
+    /// The due time of the delay that the event calls, below 2^51.
+    pub due: Option<u64>,
+    /// Per class, the greatest request for this processor that the touched lanes tell, the event's own among them; 0 is none.
+    pub told: Rises,
+}
+
+/// Why no event was made.
+#[derive(Clone, Copy, PartialEq, Eq, Debug)]
+pub enum ActRefusal {
+    /// Idle, with no ordinary DPC queued and a thread ready.
+    NothingToDo,
+    /// A switch to a thread that is not this processor's, or not ready.
+    BadChoice,
+    /// No memory was found.
+    NoMemory,
+}
+
+/// Makes events that touch what several processors share.
+pub trait Floor: Words {
+    ghost use Rattle.std.specs.Prelude.{◌≡◌, ◌<◌, ◌≤◌, ℕ, true, IfErr, IfOk, IsTrue, OnErr, IsErrOf};
+    ghost use Rattle.nt_event.specs.declared.events.Event.{Event};
+    ghost use Rattle.nt_event.specs.declared.scripts.Script.{Script};
+    ghost use Rattle.nt_event.specs.Words.{value_at};
+    ghost use Rattle.nt_floor.specs.Acts.{Found, IsActed, IsMet, IsRefused, StandFits, job_fits};
+    ghost use Rattle.nt_floor.specs.Views.{IsMoved, IsUnmoved, Tells};
+
+    /// The script.
+    ghost script: { Self → Script };
+
+    /// The event of this number was made in these states of its lanes.
+    ghost found: { Self → ℕ → Event → Found → Type 0 };
+
+    /// These are the last states that it knows of the lanes of its last job.
+    ghost shows: { Self → Found → Type 0 };
+
+    /// Makes the event of a job for a processor that stands so, and marks exactly its asks.
+    ///
+    /// The event is the one of the job in the states that were found; where the floor tells its states, it is made in those, and they
+    /// are afterwards what the event leaves of them. After a refusal no event was made. A floor that is alone finds memory.
+    fn act(&mut self, job: Job, stand: Stand) -> Result<Acted, ActRefusal>
+        requires room { 1 ≤ (Self.view self.old).left }
+        requires job { IsTrue (job_fits (script self.old) job) }
+        requires stand { StandFits (script self.old) stand }
+        requires met { IsMet (script self.old) (Self.view self.old).states stand job }
+
+        ensures event { IfOk result (λ a. (f : Found) × found self.new a.number a.event f × (IsActed (script self.old) f stand job a × IsMoved (script self.old) a.number a.event stand f (Self.view self.old) (Self.view self.new))) }
+        ensures told { IfOk result (λ a. (c : ℕ) → c < 16 → value_at a.told.value c ≤ (Self.view self.new).value stand.cpu c) }
+
+        ensures cause { IfErr result (λ r. (f : Found) × shows self.new f × (Tells (Self.view self.old).states f.lanes × IsRefused (script self.old) f stand job r)) }
+        ensures refused { OnErr result (IsUnmoved (Self.view self.old) (Self.view self.new)) }
+        ensures memory { (Self.view self.old).alone ≡ true → IsErrOf result ActRefusal.NoMemory → ⊥ }
+
+        ensures script { script self.new ≡ script self.old }
+        ensures grows { Self.grows self.old self.new };
+
+    /// What was found stays found.
+    ghost found_later: { (x y : Self) (n : ℕ) (e : Event) (f : Found) → Self.grows x y → found x n e f → found y n e f };
+}

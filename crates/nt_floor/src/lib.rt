@@ -1,0 +1,13 @@
+//! Words and floors: where a processor draws the numbers of its events, marks and looks at requests, and makes the events that touch
+//! what several processors share.
+//!
+//! The traits serve a floor in memory, for one thread, and a floor over locked lanes. So their clauses speak of what a value knows:
+//! the states that an event was made in are told by `found`, and where a floor tells its states, they are these.
+#![tactic(auto)]
+
+mod floor;
+mod words;
+
+pub use floor::{ActRefusal, Acted, Floor};
+pub use nt_event::{Job, Stand};
+pub use words::Words;

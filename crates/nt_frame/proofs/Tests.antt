@@ -1,0 +1,32 @@
+-- What tests say.
+use Rattle.std.proofs.Common.{◌≡◌, ℕ, ◌<◌, ◌≤◌, ◌≢◌, Bool, true, false, not, ◌&&◌, ◌||◌, ◌==◌, nat_lt, nat_le, List, [], ◌∷◌, Option, None, Some, is_none, refl, arith}
+use Rattle.std.proofs.lemmas.Bool.{ltb-true}
+use Rattle.std.proofs.lemmas.Bool.Decides.{nat_tests}
+use Rattle.nt_event.specs.Script.{is_isr_level}
+use Rattle.nt_event.specs.Words.{is_null}
+
+pub and_left : (a b : Bool) → (a && b) ≡ true → a ≡ true
+and_left true b h = refl
+and_left false b h = h
+
+pub and_right : (a b : Bool) → (a && b) ≡ true → b ≡ true
+and_right true b h = h
+and_right false b h = cc
+
+pub null_is : {A : Type 0} (xs : List A) → is_null xs ≡ true → xs ≡ []
+null_is [] h = refl
+null_is (x ∷ xs) h = cc
+
+pub none_is : {A : Type 0} (o : Option A) → is_none o ≡ true → o ≡ None
+none_is None h = refl
+none_is (Some x) h = cc
+
+pub lt_is : (a b : ℕ) → nat_lt a b ≡ true → a < b
+lt_is a b h = ltb-true a b h
+
+pub zero_is : (a : ℕ) → (a == 0) ≡ true → a ≡ 0
+zero_is a h = grind (arith, nat_tests)
+
+-- the levels of interrupts are 3 to 11, 13 and 14
+pub isr_level_is : (l : ℕ) → is_isr_level l ≡ true → (3 ≤ l) × (l ≤ 14) × (l ≢ 12)
+isr_level_is l h = (grind (arith, nat_tests), grind (arith, nat_tests), λ e. absurd (cc))

@@ -1,0 +1,4 @@
+pub mod Changes
+pub mod Rules
+pub mod Nesting
+pub mod Views

@@ -1,0 +1,69 @@
+-- Where a routine may begin, and which commands the frames refuse.
+use Rattle.std.specs.Option.{option_map_or}
+use Rattle.std.specs.Prelude.{Bool, None, Option, Some, false, is_none, nat_lt, not, ℕ, ◌&&◌, ◌==◌, ◌||◌, ◌≤◌}
+use Rattle.nt_event.specs.declared.commands.ApcKind.TheVariants.{User as UserApc}
+use Rattle.nt_event.specs.declared.commands.Command.{Command}
+use Rattle.nt_event.specs.declared.commands.Command.TheVariants.{EnterCrit, EnterGuard, LeaveCrit, LeaveGuard, ToUser}
+use Rattle.nt_event.specs.declared.commands.Refusal.{Refusal}
+use Rattle.nt_event.specs.declared.commands.Refusal.TheVariants.{NotThread}
+use Rattle.nt_event.specs.declared.commands.Regions.{Regions}
+use Rattle.nt_event.specs.declared.frames.Body.{Body}
+use Rattle.nt_event.specs.declared.frames.Body.TheVariants.{Apc, Base, Dpc, Int, Rundown, Threaded}
+use Rattle.nt_event.specs.declared.frames.Region.{Region}
+use Rattle.nt_event.specs.declared.frames.Region.TheVariants.{Crit, Guard}
+use Rattle.nt_event.specs.Apcs.{lets_through}
+use Rattle.nt_event.specs.Commands.{refusal}
+use Rattle.nt_event.specs.Frames.{Frames, innermost, is_base_body, is_normal_apc_body, is_on_thread, level_in, thread_part}
+use Rattle.nt_event.specs.Regions.{below_in, is_open, regions_of, some_came_to_0}
+use Rattle.nt_event.specs.Script.{is_isr_level}
+use Rattle.nt_event.specs.Words.{is_null, is_thread}
+
+-- the regions of the running thread
+abbrev pub regions_in : Frames → Regions
+regions_in x = regions_of (thread_part x)
+
+-- the refusal of a command called in the innermost frame; where there is none, no thread calls it
+abbrev pub refusal_in : Command → Frames → Option Refusal
+refusal_in c x =
+    option_map_or (λ f. refusal (level_in x) (not (is_null x.own)) (regions_in x) f c) (innermost x) (Some NotThread)
+
+-- the command that enters a region, and the one that leaves it
+abbrev pub enter_of : Region → Command
+enter_of Crit = EnterCrit
+enter_of Guard = EnterGuard
+
+abbrev pub leave_of : Region → Command
+leave_of Crit = LeaveCrit
+leave_of Guard = LeaveGuard
+
+-- how often regions of the kind are entered and not left
+abbrev pub count_of : Region → Regions → ℕ
+count_of Crit r = r.crit
+count_of Guard r = r.guard
+
+-- the innermost frame is the base of a leaving thread
+abbrev pub is_leaving : Frames → Bool
+is_leaving x = option_map_or (λ f. f.leaving) (innermost x) false
+
+-- the innermost frame is a base
+abbrev pub is_at_base : Frames → Bool
+is_at_base x = option_map_or (λ f. is_base_body f.body) (innermost x) false
+
+-- a routine may begin here, as far as the frames tell: an interrupt above the level; a DPC below DISPATCH_LEVEL; a threaded
+-- DPC at PASSIVE_LEVEL with no frame on the own part (profile); a kernel APC at PASSIVE_LEVEL in a thread whose regions let
+-- it through; a user APC where the base routine stands at `touser`; the base of a thread that was just taken up for the first
+-- time; a rundown routine in a leaving thread
+abbrev pub may_begin : Body → Frames → Bool
+may_begin (Int level) x = is_isr_level level && nat_lt (level_in x) level
+may_begin (Dpc d) x = nat_lt (level_in x) 2
+may_begin (Threaded d) x = (level_in x == 0) && is_null x.own
+may_begin (Apc a UserApc) x = is_none (refusal_in ToUser x)
+may_begin (Apc a kind) x = is_on_thread x && ((level_in x == 0) && lets_through (regions_in x) kind)
+may_begin (Base t) x = is_thread x.running t && (is_null x.own && is_null (thread_part x))
+may_begin (Rundown a) x = is_leaving x
+
+-- the end of the innermost frame, which is no base, asks for class 1: it is a normal kernel APC, or its regions held back
+-- kernel APCs
+abbrev pub end_asks_apc : Frames → Bool
+end_asks_apc x =
+    option_map_or (λ f. is_normal_apc_body f.body) (innermost x) false || some_came_to_0 (regions_in x) (below_in x)

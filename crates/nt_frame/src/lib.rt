@@ -1,0 +1,11 @@
+//! Frames.
+#![tactic(auto)]
+
+mod frame;
+mod frames;
+mod part;
+mod parts;
+mod view;
+
+pub use frames::Frames;
+pub use view::FrameView;

@@ -1,0 +1,79 @@
+-- The worked row regions.
+use Rattle.std.specs.Prelude.{List, None, Some, [], ◌∷◌}
+use Rattle.nt_event.specs.declared.commands.ApcKind.TheVariants.{Normal as NormalApc, Special as SpecialApc}
+use Rattle.nt_event.specs.declared.commands.Command.TheVariants.{EnterCrit, EnterGuard, InsertApc, LeaveCrit, LeaveGuard}
+use Rattle.nt_event.specs.declared.commands.Reply.TheVariants.{Done, Yes}
+use Rattle.nt_event.specs.declared.events.Begun.TheVariants.{Apc}
+use Rattle.nt_event.specs.declared.events.Event.{Event}
+use Rattle.nt_event.specs.declared.events.What.TheVariants.{Begin, Call, Clean, End, Gone, Normal, Rest, Switch}
+use Rattle.nt_event.specs.declared.numbers.ApcNo.{ApcNo}
+use Rattle.nt_event.specs.declared.numbers.RoutineNo.{RoutineNo}
+use Rattle.nt_event.specs.declared.numbers.ThreadNo.{ThreadNo}
+use Rattle.nt_event.specs.declared.scripts.Script.{Script}
+use Rattle.nt_event.specs.Words.{apc, cpu, routine, thread}
+use Rattle.nt_rows.specs.Rows.{event, runs}
+
+abbrev pub main : ThreadNo
+main = thread 0
+
+abbrev pub n : ApcNo
+n = apc 0
+
+abbrev pub s : ApcNo
+s = apc 1
+
+abbrev pub body : RoutineNo
+body = routine 0
+
+abbrev pub q : RoutineNo
+q = routine 1
+
+-- the script
+abbrev pub script : Script
+script =
+    record {
+      cpus = 1;
+      depth = None;
+      threaded = None;
+      isrs = [];
+      dpcs = [];
+      timers = [];
+      threads = (record { cpu = cpu 0; routine = body }) ∷ [];
+      apcs = (record { kind = NormalApc; thread = main; kernel = q; normal = Some q; rundown = None }) ∷ (record { kind = SpecialApc; thread = main; kernel = q; normal = None; rundown = None }) ∷ [];
+      routines = (runs (EnterCrit ∷ (InsertApc n) ∷ (InsertApc s) ∷ LeaveCrit ∷ EnterGuard ∷ (InsertApc s) ∷ (InsertApc n) ∷ LeaveGuard ∷ [])) ∷ (runs ([])) ∷ [];
+    }
+
+-- its robin run, the oldest event first
+abbrev pub history : List Event
+history =
+    event 0 (Some main) 0 (Switch main None) ∷
+    event 0 (Some main) 0 (Call 0 (EnterCrit) Done) ∷
+    event 0 (Some main) 0 (Call 0 (InsertApc n) Yes) ∷
+    event 0 (Some main) 0 (Clean 1) ∷
+    event 0 (Some main) 0 (Call 0 (InsertApc s) Yes) ∷
+    event 0 (Some main) 1 (Begin (Apc s) 4) ∷
+    event 0 (Some main) 0 (End 5) ∷
+    event 0 (Some main) 0 (Clean 1) ∷
+    event 0 (Some main) 0 (Call 0 (LeaveCrit) Done) ∷
+    event 0 (Some main) 1 (Begin (Apc n) 2) ∷
+    event 0 (Some main) 0 (Normal 9) ∷
+    event 0 (Some main) 0 (Clean 1) ∷
+    event 0 (Some main) 0 (End 9) ∷
+    event 0 (Some main) 0 (Clean 1) ∷
+    event 0 (Some main) 0 (Call 0 (EnterGuard) Done) ∷
+    event 0 (Some main) 0 (Call 0 (InsertApc s) Yes) ∷
+    event 0 (Some main) 0 (Clean 1) ∷
+    event 0 (Some main) 0 (Call 0 (InsertApc n) Yes) ∷
+    event 0 (Some main) 0 (Clean 1) ∷
+    event 0 (Some main) 0 (Call 0 (LeaveGuard) Done) ∷
+    event 0 (Some main) 1 (Begin (Apc s) 15) ∷
+    event 0 (Some main) 0 (End 20) ∷
+    event 0 (Some main) 1 (Begin (Apc n) 17) ∷
+    event 0 (Some main) 0 (Normal 22) ∷
+    event 0 (Some main) 0 (Clean 1) ∷
+    event 0 (Some main) 0 (End 22) ∷
+    event 0 (Some main) 0 (Clean 1) ∷
+    event 0 (Some main) 0 (End 0) ∷
+    event 0 (Some main) 0 (Gone main) ∷
+    event 0 None 0 Rest ∷
+    []

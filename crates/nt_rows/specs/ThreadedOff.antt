@@ -1,0 +1,55 @@
+-- The worked row threaded-off.
+use Rattle.std.specs.Prelude.{List, None, Some, [], false, true, ◌∷◌}
+use Rattle.nt_event.specs.declared.commands.Command.TheVariants.{Lower, Queue, Raise}
+use Rattle.nt_event.specs.declared.commands.Reply.TheVariants.{Done, Yes}
+use Rattle.nt_event.specs.declared.events.Begun.TheVariants.{Dpc}
+use Rattle.nt_event.specs.declared.events.Event.{Event}
+use Rattle.nt_event.specs.declared.events.What.TheVariants.{Begin, Call, Clean, End, Gone, Rest, Switch}
+use Rattle.nt_event.specs.declared.numbers.DpcNo.{DpcNo}
+use Rattle.nt_event.specs.declared.numbers.RoutineNo.{RoutineNo}
+use Rattle.nt_event.specs.declared.numbers.ThreadNo.{ThreadNo}
+use Rattle.nt_event.specs.declared.scripts.Script.{Script}
+use Rattle.nt_event.specs.Words.{cpu, dpc, routine, thread}
+use Rattle.nt_rows.specs.Rows.{event, runs}
+
+abbrev pub w : DpcNo
+w = dpc 0
+
+abbrev pub main : ThreadNo
+main = thread 0
+
+abbrev pub body : RoutineNo
+body = routine 0
+
+abbrev pub q : RoutineNo
+q = routine 1
+
+-- the script
+abbrev pub script : Script
+script =
+    record {
+      cpus = 1;
+      depth = None;
+      threaded = Some false;
+      isrs = [];
+      dpcs = (record { threaded = true; routine = q }) ∷ [];
+      timers = [];
+      threads = (record { cpu = cpu 0; routine = body }) ∷ [];
+      apcs = [];
+      routines = (runs ((Raise 1) ∷ (Queue w) ∷ (Lower 0) ∷ [])) ∷ (runs ([])) ∷ [];
+    }
+
+-- its robin run, the oldest event first
+abbrev pub history : List Event
+history =
+    event 0 (Some main) 0 (Switch main None) ∷
+    event 0 (Some main) 1 (Call 0 (Raise 1) Done) ∷
+    event 0 (Some main) 1 (Call 0 (Queue w) Yes) ∷
+    event 0 (Some main) 2 (Begin (Dpc w) 2) ∷
+    event 0 (Some main) 1 (End 3) ∷
+    event 0 (Some main) 1 (Clean 2) ∷
+    event 0 (Some main) 0 (Call 0 (Lower 0) Done) ∷
+    event 0 (Some main) 0 (End 0) ∷
+    event 0 (Some main) 0 (Gone main) ∷
+    event 0 None 0 Rest ∷
+    []

@@ -1,0 +1,54 @@
+-- The worked row user-apcs-plain.
+use Rattle.std.specs.Prelude.{List, None, Some, [], false, ◌∷◌}
+use Rattle.nt_event.specs.declared.commands.ApcKind.TheVariants.{User as UserApc}
+use Rattle.nt_event.specs.declared.commands.Command.TheVariants.{InsertApc, StartWait, ToUser}
+use Rattle.nt_event.specs.declared.commands.Mode.TheVariants.{User}
+use Rattle.nt_event.specs.declared.commands.Reply.TheVariants.{Blocked, Yes}
+use Rattle.nt_event.specs.declared.events.Event.{Event}
+use Rattle.nt_event.specs.declared.events.What.TheVariants.{Call, Rest, Switch}
+use Rattle.nt_event.specs.declared.numbers.ApcNo.{ApcNo}
+use Rattle.nt_event.specs.declared.numbers.RoutineNo.{RoutineNo}
+use Rattle.nt_event.specs.declared.numbers.ThreadNo.{ThreadNo}
+use Rattle.nt_event.specs.declared.scripts.Script.{Script}
+use Rattle.nt_event.specs.Words.{apc, cpu, routine, thread}
+use Rattle.nt_rows.specs.Rows.{event, runs}
+
+abbrev pub main : ThreadNo
+main = thread 0
+
+abbrev pub u1 : ApcNo
+u1 = apc 0
+
+abbrev pub u2 : ApcNo
+u2 = apc 1
+
+abbrev pub body : RoutineNo
+body = routine 0
+
+abbrev pub q : RoutineNo
+q = routine 1
+
+-- the script
+abbrev pub script : Script
+script =
+    record {
+      cpus = 1;
+      depth = None;
+      threaded = None;
+      isrs = [];
+      dpcs = [];
+      timers = [];
+      threads = (record { cpu = cpu 0; routine = body }) ∷ [];
+      apcs = (record { kind = UserApc; thread = main; kernel = q; normal = Some q; rundown = None }) ∷ (record { kind = UserApc; thread = main; kernel = q; normal = Some q; rundown = None }) ∷ [];
+      routines = (runs ((InsertApc u1) ∷ (InsertApc u2) ∷ (StartWait User false) ∷ ToUser ∷ [])) ∷ (runs ([])) ∷ [];
+    }
+
+-- its robin run, the oldest event first
+abbrev pub history : List Event
+history =
+    event 0 (Some main) 0 (Switch main None) ∷
+    event 0 (Some main) 0 (Call 0 (InsertApc u1) Yes) ∷
+    event 0 (Some main) 0 (Call 0 (InsertApc u2) Yes) ∷
+    event 0 (Some main) 0 (Call 0 (StartWait User false) Blocked) ∷
+    event 0 None 0 Rest ∷
+    []

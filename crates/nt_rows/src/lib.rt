@@ -1,0 +1,170 @@
+//! Worked rows: scripts whose robin runs were worked out by hand, beside what the definitions give.
+//!
+//! Each function here is a law without parameters or body: its contract says that the script fits, that the robin run that the
+//! definitions of nt_event give for it from nothing is this history, event for event, and that the history is settled. The prover
+//! computes each from the definitions. So a definition that says something else than was meant is refused by a row.
+#![tactic(auto)]
+
+ghost use Rattle.nt_rows.specs.Rows.{IsWorked, IsReplayed, IsUnfinished};
+ghost use Rattle.nt_rows.specs.Alerts as alerts_row;
+ghost use Rattle.nt_rows.specs.BusyTarget as busy_target_row;
+ghost use Rattle.nt_rows.specs.Delay as delay_row;
+ghost use Rattle.nt_rows.specs.DepthLimit as depth_limit_row;
+ghost use Rattle.nt_rows.specs.DriverInUse as driver_in_use_row;
+ghost use Rattle.nt_rows.specs.IdleTarget as idle_target_row;
+ghost use Rattle.nt_rows.specs.ImportanceOrder as importance_order_row;
+ghost use Rattle.nt_rows.specs.InterruptInInterrupt as interrupt_in_interrupt_row;
+ghost use Rattle.nt_rows.specs.InterruptOtherProcessor as interrupt_other_processor_row;
+ghost use Rattle.nt_rows.specs.LatePeriodicTimer as late_periodic_timer_row;
+ghost use Rattle.nt_rows.specs.LowerBelowBase as lower_below_base_row;
+ghost use Rattle.nt_rows.specs.NestedInterrupts as nested_interrupts_row;
+ghost use Rattle.nt_rows.specs.OneService as one_service_row;
+ghost use Rattle.nt_rows.specs.QueueUnqueue as queue_unqueue_row;
+ghost use Rattle.nt_rows.specs.RaiseQueueLower as raise_queue_lower_row;
+ghost use Rattle.nt_rows.specs.RefusedLevels as refused_levels_row;
+ghost use Rattle.nt_rows.specs.Regions as regions_row;
+ghost use Rattle.nt_rows.specs.RestNoticesALane as rest_notices_a_lane_row;
+ghost use Rattle.nt_rows.specs.Rundown as rundown_row;
+ghost use Rattle.nt_rows.specs.ThreadedDpc as threaded_dpc_row;
+ghost use Rattle.nt_rows.specs.ThreadedOff as threaded_off_row;
+ghost use Rattle.nt_rows.specs.TimersExpire as timers_expire_row;
+ghost use Rattle.nt_rows.specs.UserApcsAlertable as user_apcs_alertable_row;
+ghost use Rattle.nt_rows.specs.UserApcsPlain as user_apcs_plain_row;
+ghost use Rattle.nt_rows.specs.WaitAndKernelApc as wait_and_kernel_apc_row;
+
+// ---- Levels and frames
+
+/// A thread raises to DISPATCH_LEVEL, queues a DPC and lowers: the DPC runs before the thread goes on.
+pub fn raise_queue_lower()
+    ensures { IsWorked raise_queue_lower_row.script 10000 raise_queue_lower_row.history }
+{}
+
+/// A raise to a lower level and a lower to a higher one are refused, and the script goes on.
+pub fn refused_levels()
+    ensures { IsWorked refused_levels_row.script 10000 refused_levels_row.history }
+{}
+
+/// A DPC that lowers below DISPATCH_LEVEL is refused.
+pub fn lower_below_base()
+    ensures { IsWorked lower_below_base_row.script 10000 lower_below_base_row.history }
+{}
+
+/// A device interrupt is interrupted by a higher one, queues a DPC, and that inserts a kernel APC.
+pub fn nested_interrupts()
+    ensures { IsWorked nested_interrupts_row.script 10000 nested_interrupts_row.history }
+{}
+
+/// Two requests of one level before service give one service.
+pub fn one_service()
+    ensures { IsWorked one_service_row.script 10000 one_service_row.history }
+{}
+
+/// An interrupt routine requests a higher and a lower interrupt.
+pub fn interrupt_in_interrupt()
+    ensures { IsWorked interrupt_in_interrupt_row.script 10000 interrupt_in_interrupt_row.history }
+{}
+
+/// A thread requests an interrupt on another processor, which notices it by a look.
+pub fn interrupt_other_processor()
+    ensures { IsWorked interrupt_other_processor_row.script 10000 interrupt_other_processor_row.history }
+{}
+
+// ---- DPC objects
+
+/// High importance goes to the front of the queue, the others to the back.
+pub fn importance_order()
+    ensures { IsWorked importance_order_row.script 10000 importance_order_row.history }
+{}
+
+/// DPCs of low importance wait until the queue is deeper than the limit.
+pub fn depth_limit()
+    ensures { IsWorked depth_limit_row.script 10000 depth_limit_row.history }
+{}
+
+/// An insert for another processor that is not idle asks for nothing, and runs when that processor has no thread.
+pub fn busy_target()
+    ensures { IsWorked busy_target_row.script 10000 busy_target_row.history }
+{}
+
+/// An insert for an idle processor asks it to dispatch.
+pub fn idle_target()
+    ensures { IsWorked idle_target_row.script 10000 idle_target_row.history }
+{}
+
+/// An object is queued once, and is removed once.
+pub fn queue_unqueue()
+    ensures { IsWorked queue_unqueue_row.script 10000 queue_unqueue_row.history }
+{}
+
+/// A threaded DPC runs at PASSIVE_LEVEL.
+pub fn threaded_dpc()
+    ensures { IsWorked threaded_dpc_row.script 10000 threaded_dpc_row.history }
+{}
+
+/// With threaded DPCs switched off it is an ordinary DPC.
+pub fn threaded_off()
+    ensures { IsWorked threaded_off_row.script 10000 threaded_off_row.history }
+{}
+
+/// A Rest that itself notices a threaded DPC, by the lane of its queue: the processor has more to do, and without those turns the
+/// history is unfinished.
+pub fn rest_notices_a_lane()
+    ensures replayed { IsReplayed rest_notices_a_lane_row.script 10000 rest_notices_a_lane_row.schedule rest_notices_a_lane_row.history }
+    ensures unfinished { IsUnfinished rest_notices_a_lane_row.script 10000 rest_notices_a_lane_row.unfinished }
+{}
+
+// ---- Waits, regions and APCs
+
+/// Critical and guarded regions hold back kernel APCs.
+pub fn regions()
+    ensures { IsWorked regions_row.script 10000 regions_row.history }
+{}
+
+/// A kernel APC interrupts a wait, which is taken up again.
+pub fn wait_and_kernel_apc()
+    ensures { IsWorked wait_and_kernel_apc_row.script 10000 wait_and_kernel_apc_row.history }
+{}
+
+/// A user APC ends an alertable wait, and the others follow it.
+pub fn user_apcs_alertable()
+    ensures { IsWorked user_apcs_alertable_row.script 10000 user_apcs_alertable_row.history }
+{}
+
+/// A user APC does not end a plain wait, and both inserts are left waiting.
+pub fn user_apcs_plain()
+    ensures { IsWorked user_apcs_plain_row.script 10000 user_apcs_plain_row.history }
+{}
+
+/// An alert ends an alertable wait; a second one sets the flag.
+pub fn alerts()
+    ensures { IsWorked alerts_row.script 10000 alerts_row.history }
+{}
+
+/// A thread that ends has its kernel APCs delivered and its user APCs flushed.
+pub fn rundown()
+    ensures { IsWorked rundown_row.script 10000 rundown_row.history }
+{}
+
+// ---- Timers and delays
+
+/// Timers expire in order of due time; one is cancelled by a DPC.
+pub fn timers_expire()
+    ensures { IsWorked timers_expire_row.script 10000 timers_expire_row.history }
+{}
+
+/// A periodic timer that is late expires once and is set anew from then.
+pub fn late_periodic_timer()
+    ensures { IsWorked late_periodic_timer_row.script 10000 late_periodic_timer_row.history }
+{}
+
+/// A delay ends by the clock.
+pub fn delay()
+    ensures { IsWorked delay_row.script 10000 delay_row.history }
+{}
+
+// ---- A driver in use
+
+/// A driver in ordinary use: interrupt, DPC, completion APC, a timer that limits the request.
+pub fn driver_in_use()
+    ensures { IsWorked driver_in_use_row.script 10000 driver_in_use_row.history }
+{}

@@ -1,0 +1,392 @@
+//! The state of one thread.
+ghost use Rattle.std.specs.Bool.{OnFalse, OnTrue};
+ghost use Rattle.std.specs.Prelude.{◌≡◌, ◌<◌, ◌&&◌, ◌||◌, ◌↔◌, IfOk, IfNone, IfSome, IsTrue, None, is_some, not, option_map, ℕ};
+ghost use Rattle.nt_event.specs.Apcs as queues;
+ghost use Rattle.nt_event.specs.Jobs.{user_due as due_of};
+ghost use Rattle.nt_event.specs.Threads as spec;
+ghost use Rattle.nt_event.specs.Waits as waits;
+ghost use Rattle.nt_event.specs.Words.{alerted, is_user, kernel_apc, satisfied, user_apc};
+ghost use Rattle.nt_event.specs.declared.threads.Doing.{Doing};
+ghost use Rattle.nt_thread.specs.Quiet.{NothingBehind};
+ghost use Rattle.nt_thread.specs.Replies.{reply_of};
+
+use crate::answers::{
+    AlertAnswer, ApcAnswer, STATUS_ALERTED, STATUS_KERNEL_APC, STATUS_SUCCESS, STATUS_USER_APC,
+    WaitAnswer, WaitSpec,
+};
+use nt_apc::ApcQueues;
+use nt_event::{ApcKind, ApcNo, Doing, Level, Mode, Pick, Regions, Waiting};
+use std::alloc::{AllocError, Global};
+use std::marker::Model;
+
+/// The state of one thread.
+///
+/// Contracts see what it is doing, its alerted flags, the user-pending mark, the released mark, whether its base routine has
+/// ended, and its APCs.
+#[derive(Drop)]
+pub struct ThreadState {
+    doing: Doing,
+    alerted_kernel: bool,
+    alerted_user: bool,
+    marked: bool,
+    released: bool,
+    leaving: bool,
+    apcs: ApcQueues,
+}
+
+impl Model for ThreadState {
+    ghost use Rattle.nt_event.specs.Threads.{ThreadFacts};
+    ghost use Rattle.nt_thread.specs.Quiet.{QuietDoing};
+
+    ghost Value = { ThreadFacts };
+
+    ghost view = { λ a. record { doing = a.doing; alerted_kernel = a.alerted_kernel; alerted_user = a.alerted_user; marked = a.marked; released = a.released; leaving = a.leaving; apcs = a.apcs } };
+
+    ghost invariant = { λ a. QuietDoing a.doing a.apcs };
+}
+
+impl ThreadState {
+    /// A thread that has not run: ready, with no flags, no APCs and open doors. Room is taken for its `apcs` APC objects, and no
+    /// later call takes memory.
+    pub fn new(alloc: Global, apcs: u32) -> Result<ThreadState, AllocError>
+        ensures { IfOk result (λ x. x ≡ spec.start_facts) }
+    {
+        Ok(ThreadState {
+            doing: Doing::Ready {
+                level: Level::PASSIVE,
+                status: None,
+            },
+            alerted_kernel: false,
+            alerted_user: false,
+            marked: false,
+            released: false,
+            leaving: false,
+            apcs: ApcQueues::new(alloc, apcs)?,
+        })
+    }
+
+    // ---- what it is doing
+
+    /// Whether it may be taken up.
+    pub fn is_ready(&self) -> bool
+        ensures answer { result ≡ spec.is_ready self.now }
+        ensures quiet { NothingBehind self.now }
+    {
+        matches!(&self.doing, Doing::Ready { .. })
+    }
+
+    /// Whether it runs.
+    pub fn is_running(&self) -> bool
+        ensures answer { IsTrue result ↔ (self.now.doing ≡ Doing.Running) }
+        ensures quiet { NothingBehind self.now }
+    {
+        matches!(&self.doing, Doing::Running)
+    }
+
+    /// Whether its base routine has ended and it is not gone.
+    pub fn is_leaving(&self) -> bool
+        ensures answer { result ≡ self.now.leaving }
+        ensures quiet { NothingBehind self.now }
+    {
+        self.leaving
+    }
+
+    /// Whether it is gone.
+    pub fn is_gone(&self) -> bool
+        ensures answer { result ≡ spec.is_gone self.now }
+        ensures quiet { NothingBehind self.now }
+    {
+        matches!(&self.doing, Doing::Gone)
+    }
+
+    /// The level of a thread that doesn't run: the one at which it last blocked or gave way, PASSIVE before its first run.
+    pub fn level(&self) -> Level
+        ensures { result ≡ spec.doing_level self.now.doing }
+    {
+        match &self.doing {
+            Doing::Ready { level, .. } => *level,
+            Doing::Blocked(waiting) => waiting.level,
+            Doing::Running | Doing::Gone => Level::PASSIVE,
+        }
+    }
+
+    /// The thread is taken up. Answers the status of the wait that ended, None at the first run and after a yield.
+    pub fn resume(&mut self) -> Option<u32>
+        requires { IsTrue (spec.is_ready self.old) }
+        ensures status { result ≡ spec.ended_status self.old }
+        ensures after { self.new ≡ record self.old { doing = Doing.Running } }
+    {
+        let status = match &self.doing {
+            Doing::Ready { status, .. } => *status,
+            _ => None,
+        };
+        self.doing = Doing::Running;
+        status
+    }
+
+    /// The running thread gives way at this level: it is ready, and its next [`ThreadState::resume`] has no status.
+    pub fn give_way(&mut self, level: Level)
+        ensures { self.new ≡ record self.old { doing = Doing.Ready level None } }
+    {
+        self.doing = Doing::Ready {
+            level,
+            status: None,
+        };
+    }
+
+    // ---- waits
+
+    /// The running thread waits, at this level and in these regions. The tests at a wait are made in their order, and what the
+    /// one that holds sets or clears is done; where none holds, the thread is blocked from here on. A wait that is taken up
+    /// again is the same call.
+    pub fn wait(&mut self, w: WaitSpec, regions: Regions, level: Level) -> WaitAnswer
+        ensures answer { reply_of result ≡ waits.wait_reply self.old regions level w.mode w.alertable w.reached }
+        ensures after { self.new ≡ waits.waited w.set regions level w.mode w.alertable (is_some w.reached) (reply_of result) self.old }
+        ensures quiet { NothingBehind self.new }
+    {
+        let answer = self.wait_answer(w, regions, level);
+        match answer {
+            WaitAnswer::Now(status) => self.leave_wait(status, w),
+            WaitAnswer::Blocked => {
+                self.doing = Doing::Blocked(Waiting {
+                    event: w.set,
+                    mode: w.mode,
+                    alertable: w.alertable,
+                    delay: w.reached.is_some(),
+                    level,
+                    regions,
+                });
+            }
+        }
+        answer
+    }
+
+    /// What [`ThreadState::wait`] would answer now, whatever `w.set` is.
+    pub fn wait_answer(&self, w: WaitSpec, regions: Regions, level: Level) -> WaitAnswer
+        ensures { reply_of result ≡ waits.wait_reply self.now regions level w.mode w.alertable w.reached }
+    {
+        if self.apcs.deliverable(regions, level).is_some() {
+            return WaitAnswer::Now(STATUS_KERNEL_APC);
+        }
+        if self.is_satisfied(w.reached) {
+            return WaitAnswer::Now(STATUS_SUCCESS);
+        }
+        if self.takes_alert(w) {
+            return WaitAnswer::Now(STATUS_ALERTED);
+        }
+        if self.takes_user_apc(w) {
+            return WaitAnswer::Now(STATUS_USER_APC);
+        }
+        if self.takes_kernel_alert(w) {
+            return WaitAnswer::Now(STATUS_ALERTED);
+        }
+        if self.takes_mark(w) {
+            return WaitAnswer::Now(STATUS_USER_APC);
+        }
+        WaitAnswer::Blocked
+    }
+
+    fn is_satisfied(&self, reached: Option<bool>) -> bool
+        ensures { result ≡ waits.is_satisfied self.now reached }
+    {
+        reached.unwrap_or(self.released)
+    }
+
+    /// Alertable, and the alerted flag of its mode is set.
+    fn takes_alert(&self, w: WaitSpec) -> bool
+        ensures { result ≡ (w.alertable && spec.is_alerted w.mode self.now) }
+    {
+        w.alertable && self.is_alerted(w.mode)
+    }
+
+    /// Alertable, of user mode, and a user APC is queued.
+    fn takes_user_apc(&self, w: WaitSpec) -> bool
+        ensures { result ≡ (w.alertable && (is_user w.mode && queues.has_user self.now.apcs)) }
+    {
+        w.alertable && w.mode == Mode::User && self.apcs.user_first().is_some()
+    }
+
+    /// Alertable, and the kernel alerted flag is set.
+    fn takes_kernel_alert(&self, w: WaitSpec) -> bool
+        ensures { result ≡ (w.alertable && self.now.alerted_kernel) }
+    {
+        w.alertable && self.alerted_kernel
+    }
+
+    /// Plain, of user mode, and the user-pending mark is set.
+    fn takes_mark(&self, w: WaitSpec) -> bool
+        ensures { result ≡ (not w.alertable && (is_user w.mode && self.now.marked)) }
+    {
+        !w.alertable && w.mode == Mode::User && self.marked
+    }
+
+    fn is_alerted(&self, m: Mode) -> bool
+        ensures { result ≡ spec.is_alerted m self.now }
+    {
+        match m {
+            Mode::Kernel => self.alerted_kernel,
+            Mode::User => self.alerted_user,
+        }
+    }
+
+    fn set_alerted(&mut self, m: Mode, flag: bool)
+        ensures { self.new ≡ spec.set_alerted m flag self.old }
+    {
+        match m {
+            Mode::Kernel => self.alerted_kernel = flag,
+            Mode::User => self.alerted_user = flag,
+        }
+    }
+
+    /// What a wait that has this status and didn't block sets or clears.
+    fn leave_wait(&mut self, status: u32, w: WaitSpec)
+        ensures { self.new ≡ waits.answered status w.mode w.alertable (is_some w.reached) self.old }
+    {
+        if status == STATUS_SUCCESS {
+            if w.reached.is_none() {
+                self.released = false;
+            }
+        } else if status == STATUS_ALERTED {
+            self.take_alert(w.mode);
+        } else if status == STATUS_USER_APC && w.alertable {
+            self.marked = true;
+        }
+    }
+
+    /// Clears the alerted flag that ends a wait of this mode.
+    fn take_alert(&mut self, m: Mode)
+        ensures { self.new ≡ waits.alert_taken m self.old }
+    {
+        if self.is_alerted(m) {
+            self.set_alerted(m, false);
+        } else {
+            self.alerted_kernel = false;
+        }
+    }
+
+    // ---- what ends a wait
+
+    /// The wait ends with this status: the thread is ready, and [`ThreadState::resume`] gives the status.
+    fn end_wait(&mut self, status: u32)
+        ensures { self.new ≡ spec.ended status self.old }
+    {
+        let level = self.level();
+        self.doing = Doing::Ready {
+            level,
+            status: Some(status),
+        };
+    }
+
+    /// The wait in which it is blocked.
+    fn waiting(&self) -> Option<Waiting>
+        ensures { result ≡ spec.waiting self.now }
+    {
+        match &self.doing {
+            Doing::Blocked(waiting) => Some(*waiting),
+            _ => None,
+        }
+    }
+
+    /// Ends a wait that isn't a delay; else sets the released mark, unless the thread is gone. True exactly where it ended a wait.
+    pub fn release(&mut self) -> bool
+        ensures answer { result ≡ spec.ends_by_release self.old }
+        ensures after { self.new ≡ waits.release_facts self.old }
+    {
+        let ended = self.waits_for_release();
+        if ended {
+            self.end_wait(STATUS_SUCCESS);
+        } else if !self.is_gone() {
+            self.released = true;
+        }
+        ended
+    }
+
+    fn waits_for_release(&self) -> bool
+        ensures { result ≡ spec.ends_by_release self.now }
+    {
+        match &self.doing {
+            Doing::Blocked(waiting) => !waiting.delay,
+            _ => false,
+        }
+    }
+
+    /// The delay that was set under this number is over. True exactly where the thread was blocked in it.
+    pub fn end_delay(&mut self, set: u64) -> bool
+        ensures answer { result ≡ spec.ends_by_expiry set self.old }
+        ensures after { self.new ≡ waits.expiry_facts set self.old }
+    {
+        let ended = self.waits_for_expiry(set);
+        if ended {
+            self.end_wait(STATUS_SUCCESS);
+        }
+        ended
+    }
+
+    fn waits_for_expiry(&self, set: u64) -> bool
+        ensures { result ≡ spec.ends_by_expiry set self.now }
+    {
+        match &self.doing {
+            Doing::Blocked(waiting) => waiting.delay && waiting.event == set,
+            _ => false,
+        }
+    }
+
+    /// Alerts the thread for this mode: where the flag was clear, an alertable wait whose mode isn't below ends, else the flag is
+    /// set. For a gone thread both answers are false and nothing changes.
+    pub fn alert(&mut self, m: Mode) -> AlertAnswer
+        ensures was { result.was ≡ (not (spec.is_gone self.old) && spec.is_alerted m self.old) }
+        ensures ended { result.ended ≡ (not (spec.is_gone self.old) && spec.ends_by_alert m self.old) }
+        ensures after { self.new ≡ waits.alert_facts m self.old }
+    {
+        if self.is_gone() {
+            return AlertAnswer {
+                was: false,
+                ended: false,
+            };
+        }
+        let was = self.is_alerted(m);
+        let ended = self.waits_for_alert(m);
+        if ended {
+            self.end_wait(STATUS_ALERTED);
+        } else {
+            self.set_alerted(m, true);
+        }
+        AlertAnswer { was, ended }
+    }
+
+    fn waits_for_alert(&self, m: Mode) -> bool
+        ensures { result ≡ spec.ends_by_alert m self.now }
+    {
+        match &self.doing {
+            Doing::Blocked(waiting) => {
+                !self.is_alerted(m) && waiting.alertable && is_not_below(waiting.mode, m)
+            }
+            _ => false,
+        }
+    }
+
+    /// Tests the alerted flag of this mode, and clears it. Where it was clear, for user mode with a user APC queued, the
+    /// user-pending mark is set. True exactly where the flag was set.
+    pub fn test_alert(&mut self, m: Mode) -> bool
+        ensures answer { result ≡ spec.is_alerted m self.old }
+        ensures after { self.new ≡ waits.alert_tested m self.old }
+    {
+        let was = self.is_alerted(m);
+        if was {
+            self.set_alerted(m, false);
+        } else if m == Mode::User && self.apcs.user_first().is_some() {
+            self.marked = true;
+        }
+        was
+    }
+}
+
+/// Whether the mode of a wait is not below that of an alert: kernel is below user.
+fn is_not_below(wait: Mode, alert: Mode) -> bool
+    ensures { result ≡ spec.not_below wait alert }
+{
+    match wait {
+        Mode::Kernel => alert == Mode::Kernel,
+        Mode::User => true,
+    }
+}
