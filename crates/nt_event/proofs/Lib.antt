@@ -1,2 +1,9 @@
 pub mod Tables
 pub mod Moves
+pub mod Options
+pub mod Steps
+pub mod Turns
+pub mod Levels
+pub mod Running
+pub mod OwnPart
+pub mod Robin

@@ -1,14 +1,21 @@
 -- Laws over the definitions, each the contract of a function in laws.rt.
-use Rattle.std.specs.Prelude.{List, if◌then◌else◌, length, ℕ, ◌∷◌, ◌≡◌}
+use Rattle.std.specs.Prelude.{List, Ok, Some, [], false, if◌then◌else◌, length, true, ℕ, ◌∷◌, ◌≡◌}
 use Rattle.nt_event.specs.declared.events.Event.{Event}
+use Rattle.nt_event.specs.declared.events.Turn.{Turn}
+use Rattle.nt_event.specs.declared.frames.Body.TheVariants.{Base as OnBase}
+use Rattle.nt_event.specs.declared.frames.Frame.{Frame}
 use Rattle.nt_event.specs.declared.numbers.CpuNo.{CpuNo}
+use Rattle.nt_event.specs.declared.numbers.ThreadNo.{ThreadNo}
 use Rattle.nt_event.specs.declared.scripts.Script.{Script}
-use Rattle.nt_event.specs.Frames.{due_of, time}
+use Rattle.nt_event.specs.Frames.{due_of, frames_of, is_base_body, level_in, running, thread_part, time}
 use Rattle.nt_event.specs.Lanes.{lanes_after, lanes_at}
 use Rattle.nt_event.specs.Own.{own_after_event, own_of}
 use Rattle.nt_event.specs.Regions.{stand_at}
 use Rattle.nt_event.specs.Requests.{asks, told}
-use Rattle.nt_event.specs.Step.{IsRun, turns}
+use Rattle.nt_event.specs.Robin.{robin}
+use Rattle.nt_event.specs.Routines.{cpu_of}
+use Rattle.nt_event.specs.Script.{has_thread}
+use Rattle.nt_event.specs.Step.{IsLegal, IsRun, is_look, step, turn_of, turns}
 use Rattle.nt_event.specs.Words.{is_of}
 
 -- what a processor keeps moves as the history does
@@ -22,3 +29,29 @@ LanesMove = (s : Script) (e : Event) (past : List Event) → lanes_at s (e ∷ p
 -- two runs of the same turns are equal
 abbrev pub TurnsDecide : Type 0
 TurnsDecide = (s : Script) (limit : ℕ) (h k : List Event) → IsRun s limit h → IsRun s limit k → turns h ≡ turns k → h ≡ k
+
+-- an event but a Look names the level that its processor has after it
+abbrev pub LevelsHold : Type 0
+LevelsHold = (s : Script) (limit : ℕ) (e : Event) (past : List Event) → IsLegal s limit e past → is_look e.what ≡ false → level_in (frames_of s e.cpu (e ∷ past)) ≡ e.level
+
+-- a frame of an APC or a rundown routine: it is no base, and its thread isn't leaving by it
+abbrev pub IsInner : Frame → Type 0
+IsInner f = (is_base_body f.body ≡ false) × (f.leaving ≡ false)
+
+-- the frames of a thread are its base frame, and the others begun on it
+abbrev pub HasBase : ThreadNo → List Frame → Type 0
+HasBase t [] = ⊥
+HasBase t (f ∷ []) = f.body ≡ OnBase t
+HasBase t (f ∷ (g ∷ fs)) = IsInner f × HasBase t (g ∷ fs)
+
+-- in a run, the thread that runs on a processor is one of its own, and has its base frame
+abbrev pub RunningHasBase : Type 0
+RunningHasBase = (s : Script) (limit : ℕ) (p : CpuNo) (t : ThreadNo) (past : List Event) → IsRun s limit past → running p past ≡ Some t → ((cpu_of s t).0 ≡ p.0) × (has_thread s t ≡ true) × HasBase t (thread_part (frames_of s p past))
+
+-- a run goes on by a step, and the event has the turn that gave it
+abbrev pub RunGrows : Type 0
+RunGrows = (s : Script) (limit : ℕ) (t : Turn) (past : List Event) (e : Event) → IsRun s limit past → step s limit t past ≡ Ok e → IsRun s limit (e ∷ past) × (turn_of e ≡ t)
+
+-- the turn of the robin rule is accepted
+abbrev pub RobinIsAccepted : Type 0
+RobinIsAccepted = (s : Script) (limit : ℕ) (past : List Event) (t : Turn) → IsRun s limit past → robin s limit past ≡ Some t → (e : Event) × (step s limit t past ≡ Ok e)

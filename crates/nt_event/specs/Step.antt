@@ -27,6 +27,10 @@ thread_field (Switch t status) r = Some t
 thread_field (Look x) r = None
 thread_field w r = r
 
+abbrev pub is_look : What → Bool
+is_look (Look r) = true
+is_look w = false
+
 -- the event without its level
 abbrev pub unleveled : CpuNo → What → Frames → Event
 unleveled p w x = record { cpu = p; thread = thread_field w x.running; level = 0; what = w }
