@@ -1,26 +1,19 @@
 -- What the events of the machine leave of an object and of a queue is what the calls leave.
-use Rattle.std.proofs.Common.{◌≡◌, Bool, true, false, List, [], ◌∷◌, Option, Some, None, ℕ, ap, cond, eq-eqb, eqb, nat_lt, refl, sym, ◌∙◌, ◌+◌}
-use Rattle.nt_event.specs.declared.commands.Command.TheVariants.{Queue, SetImportance, SetTarget, Unqueue}
-use Rattle.nt_event.specs.declared.commands.Importance.{Importance}
-use Rattle.nt_event.specs.declared.commands.Reply.TheVariants.{Done, Yes}
-use Rattle.nt_event.specs.declared.events.Begun.TheVariants.{Dpc, Threaded}
-use Rattle.nt_event.specs.declared.events.What.{What}
-use Rattle.nt_event.specs.declared.events.What.TheVariants.{Begin, Call, Fire, Rest, Switch}
-use Rattle.nt_event.specs.declared.inserts.Insert.{Insert}
+use Rattle.std.proofs.Common.{◌≡◌, Bool, true, false, List, ◌∷◌, Some, None, ℕ, cond, eq-eqb, eqb, nat_lt, refl, ◌+◌}
+use Rattle.nt_event.specs.declared.commands.Command.TheVariants.{Unqueue}
+use Rattle.nt_event.specs.declared.commands.Reply.TheVariants.{Yes}
+use Rattle.nt_event.specs.declared.events.What.TheVariants.{Call}
 use Rattle.nt_event.specs.declared.inserts.Part.{Part}
 use Rattle.nt_event.specs.declared.inserts.Part.TheVariants.{Ordinary as OrdinaryPart, Threaded as ThreadedPart}
-use Rattle.nt_event.specs.declared.inserts.Standing.{Standing}
 use Rattle.nt_event.specs.declared.numbers.CpuNo.{CpuNo}
-use Rattle.nt_event.specs.declared.numbers.DpcNo.{DpcNo}
 use Rattle.nt_event.specs.declared.scripts.Script.{Script}
-use Rattle.nt_event.specs.Lanes.{Lanes, object_at, queue_at}
-use Rattle.nt_event.specs.Objects.{ObjectState, importance_after, is_dpc, is_queued, object_after, object_in, queue_for, target_after}
-use Rattle.nt_event.specs.Queues.{QueueState, add_insert, depth_of, drop_insert, first_dpc, idle_after, insert_asks, is_high, is_in, is_of_dpc, left_queue, new_insert, pending_after, queue_after, without_dpc}
-use Rattle.nt_event.specs.Requests.{Ask, ask, ask_if, dpc_asks, queue_asks}
-use Rattle.nt_event.specs.Routines.{depth_limit, part_of}
+use Rattle.nt_event.specs.Objects.{ObjectState, queue_for}
+use Rattle.nt_event.specs.Queues.{QueueState, add_insert, depth_of, drop_insert, insert_asks, without_dpc}
+use Rattle.nt_event.specs.Requests.{ask_if, dpc_asks}
+use Rattle.nt_event.specs.Routines.{depth_limit}
 use Rattle.nt_dpc.specs.Laws.{AskIsTheEvents, IsObject, ObjectCallsAreEvents, QueueCallsAreEvents, asks_on}
-use Rattle.nt_dpc.specs.Objects.{ObjectFacts, entry_of, queued_at, unqueued}
-use Rattle.nt_dpc.specs.Queues.{QueueFacts, asked_class, asks_dispatch, class_in, with_entry, with_idle, without_entry}
+use Rattle.nt_dpc.specs.Objects.{ObjectFacts, entry_of}
+use Rattle.nt_dpc.specs.Queues.{QueueFacts, class_in}
 
 same : (n : ℕ) → eqb n n ≡ true
 same n = eq-eqb n n refl
@@ -36,7 +29,7 @@ object_calls_are_events =
       fire = λ o n by q e. rw (same o.dpc.0, e);
       unqueue = λ o n f by. rw (same o.dpc.0);
       begin_dpc = λ o n from by. rw (same o.dpc.0);
-      begin_threaded = λ o n from by. rw (same o.dpc.0)
+      begin_threaded = λ o n from by. rw (same o.dpc.0);
     }
 
 -- ---- queues
@@ -60,7 +53,7 @@ queue_calls_are_events =
       begin_dpc = λ s objects d q n from. rw (same q.cpu.0);
       begin_threaded = λ s objects d q n from. rw (same q.cpu.0);
       rest = λ s objects q n. rw (same q.cpu.0);
-      switch = λ s objects q n t status. rw (same q.cpu.0)
+      switch = λ s objects q n t status. rw (same q.cpu.0);
     }
 
 -- ---- asks

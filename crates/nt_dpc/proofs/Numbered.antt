@@ -1,11 +1,9 @@
 -- The first of a part of a list whose numbers fall: the High one of greatest number, else the one of least number.
-use Rattle.std.proofs.Common.{◌≡◌, ◌≤◌, ◌<◌, ◌⊎◌, ◌&&◌, Bool, true, false, List, [], ◌∷◌, ◌++◌, Option, Some, None, ℕ, ap, arith, cond, inl, inr, refl, reverse, subst, sym, ◌∙◌}
+use Rattle.std.proofs.Common.{◌≡◌, ◌≤◌, ◌<◌, ◌⊎◌, Bool, true, false, List, [], ◌∷◌, Option, Some, None, ℕ, ap, arith, cond, inl, inr, refl, reverse, sym, ◌∙◌}
 use Rattle.nt_event.specs.declared.inserts.Insert.{Insert}
-use Rattle.nt_event.specs.declared.inserts.Part.{Part}
-use Rattle.nt_event.specs.Queues.{first_dpc, is_high_in, is_in, is_of_dpc, without_dpc}
 use Rattle.std.specs.List.{find}
 use Rattle.std.specs.Option.{option_or}
-use Rattle.std.proofs.lemmas.Bool.{and_from, and_parts, false≢true}
+use Rattle.std.proofs.lemmas.Bool.{false≢true}
 use Rattle.std.proofs.lemmas.List.{reverse-append}
 use Rattle.std.proofs.lemmas.List.Folds.{find-append}
 
@@ -81,6 +79,7 @@ find_last p (z ∷ xs) f = rw (find-reverse p z xs) (go p z xs f (find p (revers
     at_head : (p : Insert → Bool) (z : Insert) (xs : List Insert) → Falls (z ∷ xs) → ((y : Insert) → Stands y xs → p y ≡ false) → (b : Bool) → p z ≡ b → LastIsLeast p (z ∷ xs) (cond b (Some z) None)
     at_head p z xs f none true k = record { stands = inl refl; passes = k; least = λ y at t. elim at [ inl e ↦ rw (ap (λ (w : Insert). w.number) e) (omega arith) | inr later ↦ absurd (false≢true (sym (none y later) ∙ t)) ] }
     at_head p z xs f none false k = λ y at. elim at [ inl e ↦ rw e k | inr later ↦ none y later ]
+
     go : (p : Insert → Bool) (z : Insert) (xs : List Insert) → Falls (z ∷ xs) → (o : Option Insert) → LastIsLeast p xs o → (b : Bool) → p z ≡ b → LastIsLeast p (z ∷ xs) (option_or o (find p (z ∷ [])))
     go p z xs f (Some x) h b k = record { stands = inr h.stands; passes = h.passes; least = λ y at t. elim at [ inl e ↦ rw (ap (λ (w : Insert). w.number) e) (let l = below_at z.number xs x f.0 h.stands in omega arith) | inr later ↦ h.least y later t ] }
     go p z xs f None h b k = rw k (at_head p z xs f h b k)
@@ -94,6 +93,7 @@ find_last_stands p (z ∷ xs) x h =
     at_head : (b : Bool) (z x : Insert) (xs : List Insert) → cond b (Some z) None ≡ Some x → Stands x (z ∷ xs)
     at_head true z x xs h = inl (cc)
     at_head false z x xs h = absurd (cc)
+
     go : (p : Insert → Bool) (z : Insert) (xs : List Insert) (x : Insert) (o : Option Insert) → (o ≡ Some x → Stands x xs) → option_or o (find p (z ∷ [])) ≡ Some x → Stands x (z ∷ xs)
     go p z xs x (Some y) rest h = inr (rest h)
     go p z xs x None rest h = at_head (p z) z x xs h

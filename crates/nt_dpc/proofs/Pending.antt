@@ -1,5 +1,5 @@
 -- The pending inserts after a list of changes: which they are, that their numbers fall, that an object has at most one.
-use Rattle.std.proofs.Common.{◌≡◌, ◌≤◌, ◌<◌, ◌⊎◌, ◌&&◌, Bool, true, false, List, [], ◌∷◌, Option, Some, None, ℕ, ap, arith, cond, eqb, inl, inr, refl, reverse, sym, ◌∙◌}
+use Rattle.std.proofs.Common.{◌≡◌, ◌<◌, Bool, true, false, List, [], ◌∷◌, Option, Some, None, ℕ, ap, arith, inl, inr, refl, reverse, sym, ◌∙◌}
 use Rattle.nt_event.specs.declared.inserts.Insert.{Insert}
 use Rattle.nt_event.specs.declared.inserts.Part.{Part}
 use Rattle.nt_event.specs.declared.numbers.CpuNo.{CpuNo}
@@ -8,9 +8,9 @@ use Rattle.nt_event.specs.Queues.{first_dpc, is_high_in, is_in, is_of_dpc, witho
 use Rattle.nt_dpc.specs.Changes.{AddedBelow, AllAccepted, Change, Added, Idled, IsFirst, IsPending, NumbersRise, Removed, Taken, after_changes}
 use Rattle.nt_dpc.specs.Laws.{FirstByNumber, OneEntryEach, RemovedIsGone}
 use Rattle.nt_dpc.specs.Queues.{EachOnceBelow, QueueFacts, holds_dpc, new_queue}
-use Rattle.nt_dpc.proofs.Numbered.{AllBelow, Falls, Stands, IsLeast, LastIsLeast, find_greatest, find_last, find_last_stands, find_none, find_stands}
+use Rattle.nt_dpc.proofs.Numbered.{AllBelow, Falls, Stands, LastIsLeast, find_greatest, find_last, find_last_stands, find_none, find_stands}
 use Rattle.nt_dpc.proofs.Once.{each_once-without, without_cons_no, without_cons_yes}
-use Rattle.std.specs.List.{find, list_any}
+use Rattle.std.specs.List.{find}
 use Rattle.std.specs.Option.{MatchOption, option_or}
 use Rattle.std.proofs.lemmas.Bool.{and_parts, eq-eqb, false≢true, or_left, or_right}
 
@@ -110,8 +110,9 @@ first_of part past xs f to from = go (find (is_high_in part) xs) refl
           in_part = h.passes;
           newest_high = λ high y at t. absurd (false≢true (sym (find_none (is_high_in part) xs y none (from y at)) ∙ t));
           none_high = λ high y at. find_none (is_high_in part) xs y none (from y at);
-          oldest = λ high y at t. h.least y (from y at) t
+          oldest = λ high y at t. h.least y (from y at) t;
         }
+
     go : (o : Option Insert) → find (is_high_in part) xs ≡ o → MatchOption (option_or o (find (is_in part) (reverse xs))) ((y : Insert) → IsPending y past → is_in part y ≡ false) (λ x. IsFirst part x past)
     go None e = low (find (is_in part) (reverse xs)) (find_last (is_in part) xs f) e
     go (Some x) e =
@@ -122,7 +123,7 @@ first_of part past xs f to from = go (find (is_high_in part) xs) refl
           in_part = high.1;
           newest_high = λ h y at t. find_greatest (is_high_in part) xs x y f e (from y at) t;
           none_high = λ h. absurd (false≢true (sym h ∙ high.0));
-          oldest = λ h. absurd (false≢true (sym h ∙ high.0))
+          oldest = λ h. absurd (false≢true (sym h ∙ high.0));
         }
 
 pub first_by_number : FirstByNumber

@@ -169,10 +169,10 @@ impl DpcQueue {
         ensures queue { self.new ≡ without_entry d.old.dpc self.old }
         ensures object { d.new ≡ unqueued d.old }
     {
-        let Some((_, number)) = self.first(part) else {
+        let Some((first, number)) = self.first(part) else {
             unreachable!()
         };
-        self.take_out(d.no());
+        self.take_out(first);
         d.leave();
         number
     }

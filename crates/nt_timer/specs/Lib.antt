@@ -1,0 +1,4 @@
+pub mod Settings
+pub mod First
+pub mod Changes
+pub mod Laws
