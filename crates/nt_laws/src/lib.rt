@@ -1,0 +1,12 @@
+//! Laws over whole runs of the machine. Each function's contract is a law; the functions do nothing.
+//!
+//! The definitions stand in nt_event; a run is a history each of whose events is the one that its turn gives.
+#![tactic(auto)]
+
+ghost use Rattle.nt_laws.specs.Locality.{ChangesOwnLanesOnly};
+
+/// An event changes the states of its own lanes only: what stands in a lane that it doesn't touch, and what that lane tells of
+/// requests, stays.
+pub fn an_event_changes_its_own_lanes_only()
+    ensures { ChangesOwnLanesOnly }
+{}
