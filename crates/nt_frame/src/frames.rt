@@ -306,10 +306,9 @@ impl Frames {
         requires { IsTrue (is_leaving self.old) }
         ensures { self.new ≡ closed self.old }
     {
-        if let Some(t) = self.running {
+        if let Some(t) = self.running.take() {
             parts::clear(&mut self.threads, t);
         }
-        self.running = None;
     }
 
     /// Sets the wait that the innermost frame has to take up again.
