@@ -1,5 +1,5 @@
 -- What each event leaves of the frames is what its calls leave.
-use Rattle.std.proofs.Common.{◌≡◌, ℕ, ◌+◌, ◌<◌, ◌==◌, Bool, true, false, not, Option, None, Some, if◌then◌else◌, List, [], ◌∷◌, length, arith, sym, ◌∙◌, ap, refl}
+use Rattle.std.proofs.Common.{◌≡◌, ℕ, ◌+◌, ◌<◌, ◌==◌, Bool, true, false, not, Option, None, Some, if◌then◌else◌, List, [], ◌∷◌, ◌++◌, length, arith, sym, ◌∙◌, ap, refl}
 use Rattle.std.proofs.lemmas.Bool.Decides.{nat_tests}
 use Rattle.std.specs.Option.{option_map_or}
 use Rattle.nt_event.specs.declared.commands.Command.{Command}
@@ -12,15 +12,18 @@ use Rattle.nt_event.specs.declared.events.What.{What}
 use Rattle.nt_event.specs.declared.events.What.TheVariants.{Begin, Call, Clean, End, Expire, Fire, Flush, Gone, Look, Normal, Rest, Rewait, Switch}
 use Rattle.nt_event.specs.declared.frames.Frame.{Frame}
 use Rattle.nt_event.specs.declared.numbers.ApcNo.{ApcNo}
+use Rattle.nt_event.specs.declared.numbers.CpuNo.{CpuNo}
 use Rattle.nt_event.specs.declared.numbers.RoutineNo.{RoutineNo}
 use Rattle.nt_event.specs.declared.numbers.ThreadNo.{ThreadNo}
 use Rattle.nt_event.specs.declared.scripts.Script.{Script}
-use Rattle.nt_event.specs.Frames.{Frames, again_after, called, done_to, frames_after, frames_in, innermost, is_base_body, resumed, rewaited, running_after}
+use Rattle.nt_event.specs.Frames.{Frames, again_after, called, done_to, due_of, frames_after, frames_of, time, frames_in, innermost, is_base_body, resumed, rewaited, running_after}
 use Rattle.nt_event.specs.Routines.{rundown_of}
-use Rattle.nt_event.specs.Words.{head_of, kernel_apc}
+use Rattle.nt_event.specs.Words.{head_of, is_of, kernel_apc}
+use Rattle.nt_event.proofs.Moves.{frames_move, frames_stay}
+use Rattle.nt_frame.specs.declared.calls.FrameCall.{FrameCall}
 use Rattle.nt_frame.specs.Calls.{commanded, left_by, left_by_all}
-use Rattle.nt_frame.specs.Changes.{at_innermost}
-use Rattle.nt_frame.specs.EventCalls.{EventsAreCalls, Fits, IsInnermost, IsMade, Replies, calls_of, command_calls, rewait_calls, status_calls, switch_calls, thread_of}
+use Rattle.nt_frame.specs.Changes.{at_innermost, no_frames}
+use Rattle.nt_frame.specs.EventCalls.{EachIsMade, EventsAreCalls, HistoriesAreCalls, calls_in, Fits, IsInnermost, IsMade, Replies, calls_of, command_calls, rewait_calls, status_calls, switch_calls, thread_of}
 use Rattle.nt_frame.specs.Rules.{is_at_base, refusal_in}
 use Rattle.nt_frame.proofs.After.{after_apc, after_clean, after_dpc, after_end, after_end_base, after_expire, after_fire, after_first_switch, after_flush, after_gone, after_int, after_look, after_normal, after_rest, after_rewait, after_rundown, after_switch, after_threaded, taken}
 use Rattle.nt_frame.proofs.Commands.{advanced, awaiting, call_by, call_delay, call_delay_blocked, call_own, call_plain, call_wait, call_wait_blocked, call_yield, rewait_blocked, stays}
@@ -160,3 +163,25 @@ events_are_calls s n due e x h = go e.what refl h.thread h.fits
     go (Flush a from) k t f = flush_case s n due e x a from (rundown_of s a) refl (ours t) k
     go (Gone u) k t f = after_gone s n due e x u (ours t) k
     go Rest k t f = after_rest s n due e x (ours t) k
+
+-- ---- whole histories
+
+left_by_all-append : (cs ds : List FrameCall) (x : Frames) → left_by_all (cs ++ ds) x ≡ left_by_all ds (left_by_all cs x)
+left_by_all-append [] ds x = refl
+left_by_all-append (c ∷ cs) ds x = left_by_all-append cs ds (left_by c x)
+
+history_step : (s : Script) (p : CpuNo) (e : Event) (past : List Event) (b : Bool) → is_of e p ≡ b → EachIsMade s p (e ∷ past) → frames_of s p past ≡ left_by_all (calls_in s p past) (no_frames (length s.threads)) → frames_of s p (e ∷ past) ≡ left_by_all (calls_in s p (e ∷ past)) (no_frames (length s.threads))
+history_step s p e past true b h old =
+    let now : List FrameCall = calls_of s (length past) (due_of e.what (time past)) e.what (frames_of s p past) in
+    let here : calls_in s p (e ∷ past) ≡ calls_in s p past ++ now = rw b in
+    frames_move s p e past b
+    ∙ events_are_calls s (length past) (due_of e.what (time past)) e (frames_of s p past) (h.0 b)
+    ∙ ap (left_by_all now) old
+    ∙ sym (left_by_all-append (calls_in s p past) now (no_frames (length s.threads)))
+    ∙ ap (λ (cs : List FrameCall). left_by_all cs (no_frames (length s.threads))) (sym here)
+history_step s p e past false b h old = frames_stay s p e past b ∙ old ∙ rw b
+
+pub histories_are_calls : HistoriesAreCalls
+histories_are_calls s p [] h = refl
+histories_are_calls s p (e ∷ past) h =
+    history_step s p e past (is_of e p) refl h (histories_are_calls s p past h.1)

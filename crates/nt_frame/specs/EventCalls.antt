@@ -1,6 +1,6 @@
 -- The calls that a processor makes for an event of its own.
 use Rattle.std.specs.Option.{option_map_or}
-use Rattle.std.specs.Prelude.{Bool, List, None, Option, Some, [], false, if◌then◌else◌, is_none, length, not, true, ℕ, ◌&&◌, ◌<◌, ◌==◌, ◌∷◌, ◌≡◌}
+use Rattle.std.specs.Prelude.{Bool, List, None, Option, Some, [], false, if◌then◌else◌, is_none, length, not, true, ℕ, ◌&&◌, ◌++◌, ◌<◌, ◌==◌, ◌∷◌, ◌≡◌}
 use Rattle.nt_event.specs.declared.commands.Command.{Command}
 use Rattle.nt_event.specs.declared.commands.Command.TheVariants.{Delay, EnterCrit, EnterGuard, LeaveCrit, LeaveGuard, Lower as LowerCommand, Raise as RaiseCommand, StartWait, Yield}
 use Rattle.nt_event.specs.declared.commands.Reply.{Reply}
@@ -15,14 +15,16 @@ use Rattle.nt_event.specs.declared.frames.Body.{Body}
 use Rattle.nt_event.specs.declared.frames.Body.TheVariants.{Apc, Base, Dpc, Int, Rundown, Threaded}
 use Rattle.nt_event.specs.declared.frames.Frame.{Frame}
 use Rattle.nt_event.specs.declared.frames.Region.TheVariants.{Crit, Guard}
+use Rattle.nt_event.specs.declared.numbers.CpuNo.{CpuNo}
 use Rattle.nt_event.specs.declared.numbers.ThreadNo.{ThreadNo}
 use Rattle.nt_event.specs.declared.scripts.Script.{Script}
-use Rattle.nt_event.specs.Frames.{Frames, again_after, frames_after, frames_in, innermost}
+use Rattle.nt_event.specs.Frames.{Frames, again_after, due_of, frames_after, frames_in, frames_of, innermost, time}
 use Rattle.nt_event.specs.Routines.{kind_of, rundown_of}
-use Rattle.nt_event.specs.Words.{is_null, kernel_apc}
+use Rattle.nt_event.specs.Words.{is_of, kernel_apc}
 use Rattle.nt_frame.specs.declared.calls.FrameCall.{FrameCall}
 use Rattle.nt_frame.specs.declared.calls.FrameCall.TheVariants.{AdvancePlace, Begin, EndBase, Enter, Finish, Gone, Leave, Lower, Normal, Raise, SetAgain, SwitchAway, SwitchTo}
 use Rattle.nt_frame.specs.Calls.{MayCallAll, left_by_all}
+use Rattle.nt_frame.specs.Changes.{no_frames}
 use Rattle.nt_frame.specs.Nesting.{AreNested}
 use Rattle.nt_frame.specs.Rules.{is_at_base, may_go_on, refusal_in}
 
@@ -116,3 +118,21 @@ pub record IsMade (s : Script) (e : Event) (x : Frames) : Type 0 where
 abbrev pub EventsAreCalls : Type 0
 EventsAreCalls =
     (s : Script) (n : ℕ) (due : Option ℕ) (e : Event) (x : Frames) → IsMade s e x → frames_after s n due e x ≡ left_by_all (calls_of s n due e.what x) x
+
+-- ---- whole histories
+
+-- the calls that a processor makes for its events in a history, in their order
+abbrev pub calls_in : Script → CpuNo → List Event → List FrameCall
+calls_in s p [] = []
+calls_in s p (e ∷ past) =
+    if is_of e p then calls_in s p past ++ calls_of s (length past) (due_of e.what (time past)) e.what (frames_of s p past) else calls_in s p past
+
+-- each event of the processor is one that it may make where its frames are those of the history before
+abbrev pub EachIsMade : Script → CpuNo → List Event → Type 0
+EachIsMade s p [] = Unit {0}
+EachIsMade s p (e ∷ past) = (is_of e p ≡ true → IsMade s e (frames_of s p past)) × EachIsMade s p past
+
+-- the frames of a history are what its calls leave, beginning with none
+abbrev pub HistoriesAreCalls : Type 0
+HistoriesAreCalls =
+    (s : Script) (p : CpuNo) (past : List Event) → EachIsMade s p past → frames_of s p past ≡ left_by_all (calls_in s p past) (no_frames (length s.threads))

@@ -18,6 +18,7 @@
 mod calls;
 mod frame;
 mod frames;
+mod laws;
 mod part;
 mod parts;
 mod refusals;
@@ -27,6 +28,7 @@ mod view;
 
 pub use calls::{FrameAnswer, FrameCall, perform, perform_all};
 pub use frames::Frames;
+pub use laws::{events_are_calls, histories_are_calls};
 pub use nt_event::{Again, Body, Region};
 pub use refusals::refusal;
 pub use view::FrameView;
