@@ -1,11 +1,11 @@
 -- What a call leaves of the frames, as the methods of `Frames` make it: the effect of the command, then the place.
-use Rattle.std.proofs.Common.{◌≡◌, ℕ, ◌+◌, ◌<◌, ◌==◌, Bool, true, false, not, Option, None, Some, if◌then◌else◌, List, [], length, sym, ◌∙◌, ap, refl}
+use Rattle.std.proofs.Common.{◌≡◌, ℕ, ◌+◌, ◌<◌, ◌==◌, Bool, true, false, Option, None, Some, if◌then◌else◌, [], length, sym, ◌∙◌, ap, refl}
 use Rattle.nt_event.specs.declared.commands.Command.{Command}
 use Rattle.nt_event.specs.declared.commands.Command.TheVariants.{Alert, CancelTimer, Clock, Delay, EnterCrit, EnterGuard, InsertApc, Interrupt, LeaveCrit, LeaveGuard, Lower, Note, Queue, Raise, Release, RemoveApc, SetImportance, SetTarget, SetTimer, StartWait, TestAlert, ToUser, Unqueue, Yield}
 use Rattle.nt_event.specs.declared.commands.Mode.{Mode}
 use Rattle.nt_event.specs.declared.commands.Refusal.{Refusal}
 use Rattle.nt_event.specs.declared.commands.Reply.{Reply}
-use Rattle.nt_event.specs.declared.commands.Reply.TheVariants.{Blocked, Done, No, Refused, Status, Yes}
+use Rattle.nt_event.specs.declared.commands.Reply.TheVariants.{Blocked, Done, Refused, Status}
 use Rattle.nt_event.specs.declared.events.Event.{Event}
 use Rattle.nt_event.specs.declared.events.What.TheVariants.{Call, Rewait, Switch}
 use Rattle.nt_event.specs.declared.frames.Again.{Again}
@@ -17,7 +17,6 @@ use Rattle.nt_event.specs.declared.scripts.Script.{Script}
 use Rattle.nt_event.specs.Frames.{Frames, again_after, called, done_to, frames_after, frames_in, innermost, resumed, rewaited, running_after}
 use Rattle.nt_event.specs.Words.{head_of, is_blocked, is_done, kernel_apc}
 use Rattle.nt_frame.specs.Changes.{at_innermost}
-use Rattle.nt_frame.specs.Nesting.{AreNested}
 use Rattle.nt_frame.specs.Rules.{enter_of, leave_of}
 use Rattle.nt_frame.proofs.After.{after_call, after_rewait, after_switch, taken}
 use Rattle.nt_frame.proofs.Events.{IsOurs}

@@ -1,11 +1,11 @@
 -- What each event leaves of the frames is what its calls leave.
-use Rattle.std.proofs.Common.{◌≡◌, ℕ, ◌+◌, ◌<◌, ◌==◌, Bool, true, false, not, Option, None, Some, if◌then◌else◌, List, [], ◌∷◌, ◌++◌, length, arith, sym, ◌∙◌, ap, refl}
+use Rattle.std.proofs.Common.{◌≡◌, ℕ, ◌<◌, ◌==◌, Bool, true, false, Option, None, Some, List, [], ◌∷◌, ◌++◌, length, arith, sym, ◌∙◌, ap, refl}
 use Rattle.std.proofs.lemmas.Bool.Decides.{nat_tests}
 use Rattle.std.specs.Option.{option_map_or}
 use Rattle.nt_event.specs.declared.commands.Command.{Command}
-use Rattle.nt_event.specs.declared.commands.Command.TheVariants.{Alert, CancelTimer, Clock, Delay, EnterCrit, EnterGuard, InsertApc, Interrupt, LeaveCrit, LeaveGuard, Lower, Note, Queue, Raise, Release, RemoveApc, SetImportance, SetTarget, SetTimer, StartWait, TestAlert, ToUser, Unqueue, Yield}
+use Rattle.nt_event.specs.declared.commands.Command.TheVariants.{Delay, EnterCrit, EnterGuard, LeaveCrit, LeaveGuard, Lower, Raise, StartWait, Yield}
 use Rattle.nt_event.specs.declared.commands.Reply.{Reply}
-use Rattle.nt_event.specs.declared.commands.Reply.TheVariants.{Blocked, Done, No, Refused, Status, Yes}
+use Rattle.nt_event.specs.declared.commands.Reply.TheVariants.{Blocked, Done, Status}
 use Rattle.nt_event.specs.declared.events.Begun.TheVariants.{Apc as BeginApc, Dpc as BeginDpc, Int as BeginInt, Threaded as BeginThreaded}
 use Rattle.nt_event.specs.declared.events.Event.{Event}
 use Rattle.nt_event.specs.declared.events.What.{What}
@@ -16,17 +16,17 @@ use Rattle.nt_event.specs.declared.numbers.CpuNo.{CpuNo}
 use Rattle.nt_event.specs.declared.numbers.RoutineNo.{RoutineNo}
 use Rattle.nt_event.specs.declared.numbers.ThreadNo.{ThreadNo}
 use Rattle.nt_event.specs.declared.scripts.Script.{Script}
-use Rattle.nt_event.specs.Frames.{Frames, again_after, called, done_to, due_of, frames_after, frames_of, time, frames_in, innermost, is_base_body, resumed, rewaited, running_after}
+use Rattle.nt_event.specs.Frames.{Frames, done_to, due_of, frames_after, frames_of, time, frames_in, innermost, is_base_body, resumed, rewaited}
 use Rattle.nt_event.specs.Routines.{rundown_of}
 use Rattle.nt_event.specs.Words.{head_of, is_of, kernel_apc}
 use Rattle.nt_event.proofs.Moves.{frames_move, frames_stay}
 use Rattle.nt_frame.specs.declared.calls.FrameCall.{FrameCall}
 use Rattle.nt_frame.specs.Calls.{commanded, left_by, left_by_all}
 use Rattle.nt_frame.specs.Changes.{at_innermost, no_frames}
-use Rattle.nt_frame.specs.EventCalls.{EachIsMade, EventsAreCalls, HistoriesAreCalls, calls_in, Fits, IsInnermost, IsMade, Replies, calls_of, command_calls, rewait_calls, status_calls, switch_calls, thread_of}
+use Rattle.nt_frame.specs.EventCalls.{EachIsMade, EventsAreCalls, HistoriesAreCalls, calls_in, Fits, IsInnermost, Replies, calls_of, command_calls, rewait_calls, status_calls, switch_calls, thread_of}
 use Rattle.nt_frame.specs.Rules.{is_at_base, refusal_in}
 use Rattle.nt_frame.proofs.After.{after_apc, after_clean, after_dpc, after_end, after_end_base, after_expire, after_fire, after_first_switch, after_flush, after_gone, after_int, after_look, after_normal, after_rest, after_rewait, after_rundown, after_switch, after_threaded, taken}
-use Rattle.nt_frame.proofs.Commands.{advanced, awaiting, call_by, call_delay, call_delay_blocked, call_own, call_plain, call_wait, call_wait_blocked, call_yield, rewait_blocked, stays}
+use Rattle.nt_frame.proofs.Commands.{advanced, awaiting, call_by, call_delay, call_delay_blocked, call_own, call_wait, call_wait_blocked, call_yield, rewait_blocked, stays}
 use Rattle.nt_frame.proofs.Events.{IsOurs}
 use Rattle.nt_frame.proofs.Tasks.{base_here}
 use Rattle.nt_frame.proofs.Twice.{at_innermost_by, at_innermost_id, running-at_innermost}

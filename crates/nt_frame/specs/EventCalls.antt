@@ -1,10 +1,10 @@
 -- The calls that a processor makes for an event of its own.
 use Rattle.std.specs.Option.{option_map_or}
-use Rattle.std.specs.Prelude.{Bool, List, None, Option, Some, [], false, if◌then◌else◌, is_none, length, not, true, ℕ, ◌&&◌, ◌++◌, ◌<◌, ◌==◌, ◌∷◌, ◌≡◌}
+use Rattle.std.specs.Prelude.{List, None, Option, Some, [], false, if◌then◌else◌, length, true, ℕ, ◌++◌, ◌<◌, ◌==◌, ◌∷◌, ◌≡◌}
 use Rattle.nt_event.specs.declared.commands.Command.{Command}
 use Rattle.nt_event.specs.declared.commands.Command.TheVariants.{Delay, EnterCrit, EnterGuard, LeaveCrit, LeaveGuard, Lower as LowerCommand, Raise as RaiseCommand, StartWait, Yield}
 use Rattle.nt_event.specs.declared.commands.Reply.{Reply}
-use Rattle.nt_event.specs.declared.commands.Reply.TheVariants.{Blocked, Done, No, Refused, Status, Yes}
+use Rattle.nt_event.specs.declared.commands.Reply.TheVariants.{Blocked, Done, Status}
 use Rattle.nt_event.specs.declared.events.Begun.{Begun}
 use Rattle.nt_event.specs.declared.events.Begun.TheVariants.{Apc as BeginApc, Dpc as BeginDpc, Int as BeginInt, Threaded as BeginThreaded}
 use Rattle.nt_event.specs.declared.events.Event.{Event}
@@ -23,7 +23,7 @@ use Rattle.nt_event.specs.Routines.{kind_of, rundown_of}
 use Rattle.nt_event.specs.Words.{is_of, kernel_apc}
 use Rattle.nt_frame.specs.declared.calls.FrameCall.{FrameCall}
 use Rattle.nt_frame.specs.declared.calls.FrameCall.TheVariants.{AdvancePlace, Begin, EndBase, Enter, Finish, Gone, Leave, Lower, Normal, Raise, SetAgain, SwitchAway, SwitchTo}
-use Rattle.nt_frame.specs.Calls.{MayCallAll, left_by_all}
+use Rattle.nt_frame.specs.Calls.{left_by_all}
 use Rattle.nt_frame.specs.Changes.{no_frames}
 use Rattle.nt_frame.specs.Nesting.{AreNested}
 use Rattle.nt_frame.specs.Rules.{is_at_base, may_go_on, refusal_in}
