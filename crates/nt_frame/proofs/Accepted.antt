@@ -1,22 +1,13 @@
 -- What it says of the innermost frame that a command isn't refused.
-use Rattle.std.proofs.Common.{◌≡◌, ℕ, ◌+◌, ◌<◌, ◌≤◌, ◌==◌, Bool, true, false, not, nat_lt, Option, None, Some, List, [], ◌∷◌, arith, sym, ◌∙◌, ap, refl}
+use Rattle.std.proofs.Common.{◌≡◌, ℕ, ◌≤◌, Bool, true, false, nat_lt, Option, None, Some, arith, refl}
 use Rattle.std.proofs.lemmas.Bool.Decides.{nat_tests}
-use Rattle.std.proofs.lemmas.List.Sums.{sum_by-cons}
-use Rattle.std.specs.List.{sum_by}
-use Rattle.std.specs.Option.{option_map_or, option_or}
-use Rattle.nt_event.specs.declared.commands.Command.{Command}
 use Rattle.nt_event.specs.declared.commands.Command.TheVariants.{Lower, Raise}
 use Rattle.nt_event.specs.declared.commands.Refusal.{Refusal}
-use Rattle.nt_event.specs.declared.commands.Refusal.TheVariants.{NotEntered, NotGreater, NotThread, TooHigh}
-use Rattle.nt_event.specs.declared.commands.Regions.{Regions}
+use Rattle.nt_event.specs.declared.commands.Refusal.TheVariants.{NotGreater}
 use Rattle.nt_event.specs.declared.frames.Frame.{Frame}
-use Rattle.nt_event.specs.declared.frames.Region.{Region}
-use Rattle.nt_event.specs.declared.frames.Region.TheVariants.{Crit, Guard}
-use Rattle.nt_event.specs.Commands.{not_above, refusal, refuse}
-use Rattle.nt_event.specs.Frames.{Frames, base_of, innermost, level_in, thread_part}
-use Rattle.nt_event.specs.Regions.{crit_of, guard_of}
-use Rattle.nt_event.specs.Words.{head_of, is_null}
-use Rattle.nt_frame.specs.Rules.{count_of, enter_of, leave_of, refusal_in, regions_in}
+use Rattle.nt_event.specs.Commands.{refuse}
+use Rattle.nt_event.specs.Frames.{Frames, base_of, innermost}
+use Rattle.nt_frame.specs.Rules.{refusal_in}
 
 -- the first test didn't fail, and the later ones didn't
 passed : (t : Bool) (why : Refusal) (next : Option Refusal) → refuse t why next ≡ None → t ≡ false

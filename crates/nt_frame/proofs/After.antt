@@ -1,15 +1,13 @@
 -- What each kind of event leaves of the frames is what these calls leave.
-use Rattle.std.proofs.Common.{◌≡◌, ℕ, ◌+◌, ◌<◌, ◌≤◌, ◌==◌, Bool, true, false, not, Option, None, Some, IfSome, List, [], ◌∷◌, length, set, arith, sym, ◌∙◌, ap, refl, get_or}
-use Rattle.std.specs.Option.{option_map_or, option_or}
+use Rattle.std.proofs.Common.{◌≡◌, ℕ, ◌<◌, Bool, true, false, not, Option, None, Some, List, [], ◌∷◌, length, set, sym, ◌∙◌, ap, refl}
+use Rattle.std.specs.Option.{option_or}
 use Rattle.nt_event.specs.declared.commands.Command.{Command}
 use Rattle.nt_event.specs.declared.commands.Reply.{Reply}
 use Rattle.nt_event.specs.declared.commands.TimerKey.{TimerKey}
 use Rattle.nt_event.specs.declared.events.Begun.TheVariants.{Apc as BeginApc, Dpc as BeginDpc, Int as BeginInt, Threaded as BeginThreaded}
 use Rattle.nt_event.specs.declared.events.Event.{Event}
 use Rattle.nt_event.specs.declared.events.Rises.{Rises}
-use Rattle.nt_event.specs.declared.events.What.{What}
 use Rattle.nt_event.specs.declared.events.What.TheVariants.{Begin, Call, Clean, End, Expire, Fire, Flush, Gone, Look, Normal, Rest, Rewait, Switch}
-use Rattle.nt_event.specs.declared.frames.Body.{Body}
 use Rattle.nt_event.specs.declared.frames.Body.TheVariants.{Apc, Base, Dpc, Int, Rundown, Threaded}
 use Rattle.nt_event.specs.declared.frames.Frame.{Frame}
 use Rattle.nt_event.specs.declared.numbers.ApcNo.{ApcNo}
@@ -17,17 +15,16 @@ use Rattle.nt_event.specs.declared.numbers.DpcNo.{DpcNo}
 use Rattle.nt_event.specs.declared.numbers.RoutineNo.{RoutineNo}
 use Rattle.nt_event.specs.declared.numbers.ThreadNo.{ThreadNo}
 use Rattle.nt_event.specs.declared.scripts.Script.{Script}
-use Rattle.nt_event.specs.Frames.{Frames, at_head, at_name, called, end_on_thread, frames_after, frames_in, innermost, is_base_body, left, new_frame, normal_of, own_after, resumed, rewaited, running_after, switched_to, thread_after, thread_part, without}
+use Rattle.nt_event.specs.Frames.{Frames, at_head, at_name, called, end_on_thread, frames_after, frames_in, innermost, is_base_body, left, new_frame, normal_of, resumed, rewaited, running_after, switched_to, thread_after, thread_part, without}
 use Rattle.nt_event.specs.Routines.{kind_of, rundown_of}
 use Rattle.nt_event.specs.Words.{head_of, is_null, tail_of}
-use Rattle.nt_frame.specs.Changes.{at_innermost, begun, closed, on_innermost_part, on_part, on_running, without_innermost}
-use Rattle.nt_frame.specs.Nesting.{AreNested, AreNewer, IsPart, next_name}
-use Rattle.nt_frame.specs.Rules.{is_at_base, is_leaving, may_go_on}
+use Rattle.nt_frame.specs.Changes.{at_innermost, begun, closed, on_innermost_part, on_part, without_innermost}
+use Rattle.nt_frame.specs.Nesting.{AreNested}
+use Rattle.nt_frame.specs.Rules.{may_go_on}
 use Rattle.nt_frame.proofs.Begun.{base_is_not_own}
 use Rattle.nt_frame.proofs.Changed.{innermost_frame}
 use Rattle.nt_frame.proofs.Ended.{normal_is_on_thread}
 use Rattle.nt_frame.proofs.Events.{IsOurs, changed, changed_same, frames_after_is, threads_after}
-use Rattle.nt_frame.proofs.Kept.{innermost_test}
 use Rattle.nt_frame.proofs.Named.{at_name_head, at_name_older, changed_by, changed_stays, end_base_head, end_head, end_older, named_change, on_running_is, thread_change, without_head}
 use Rattle.nt_frame.proofs.Booleans.{null_is}
 

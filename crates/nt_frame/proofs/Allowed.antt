@@ -1,5 +1,5 @@
 -- The conditions of a list of calls, as a test that computes.
-use Rattle.std.proofs.Common.{◌≡◌, ℕ, ◌<◌, ◌≤◌, Bool, true, false, not, ◌&&◌, nat_le, nat_lt, Option, None, Some, IsSome, is_none, is_some, List, [], ◌∷◌, All, get_or, length, arith, sym, ◌∙◌, ap, refl}
+use Rattle.std.proofs.Common.{◌≡◌, ℕ, ◌<◌, ◌≤◌, Bool, true, false, not, ◌&&◌, nat_le, nat_lt, Option, None, Some, is_none, is_some, List, [], ◌∷◌, All, get_or, length, arith, refl}
 use Rattle.std.proofs.lemmas.List.Sums.{AllPass-from_list_all}
 use Rattle.std.proofs.lemmas.Bool.Decides.{nat_tests}
 use Rattle.std.specs.List.{list_all}
@@ -9,7 +9,7 @@ use Rattle.nt_event.specs.Frames.{Frames, innermost}
 use Rattle.nt_frame.specs.declared.calls.FrameCall.{FrameCall}
 use Rattle.nt_frame.specs.declared.calls.FrameCall.TheVariants.{AdvancePlace, Begin, EndBase, Enter, Finish, Gone, Leave, Lower, Normal, Raise, SetAgain, SwitchAway, SwitchTo}
 use Rattle.nt_frame.specs.Calls.{MayCall, MayCallAll, left_by}
-use Rattle.nt_frame.specs.Nesting.{AreNamedBelow, next_name}
+use Rattle.nt_frame.specs.Nesting.{next_name}
 use Rattle.nt_frame.specs.Rules.{count_of, is_at_base, is_leaving, may_begin, may_go_on, regions_in}
 use Rattle.nt_frame.proofs.Booleans.{and_left, and_right, lt_is, none_is}
 

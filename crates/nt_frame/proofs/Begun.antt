@@ -1,8 +1,7 @@
 -- A routine that may begin here finds room, and the frames stay nested.
-use Rattle.std.proofs.Common.{◌≡◌, ℕ, ◌+◌, ◌<◌, ◌≤◌, ◌^◌, Bool, true, false, not, ◌&&◌, ◌||◌, ◌==◌, nat_lt, Option, None, Some, is_none, List, [], ◌∷◌, All, get_or, length, arith, sym, ◌∙◌, ap, subst, refl, lit<, lit≤}
+use Rattle.std.proofs.Common.{◌≡◌, ℕ, ◌<◌, ◌≤◌, Bool, true, false, not, ◌||◌, ◌==◌, nat_lt, Option, None, Some, is_none, List, [], ◌∷◌, length, arith, subst, refl, lit<}
 use Rattle.std.proofs.lemmas.List.Sums.{sum_by-cons}
 use Rattle.std.specs.Option.{option_map_or, option_or}
-use Rattle.nt_event.specs.declared.commands.ApcKind.{ApcKind}
 use Rattle.nt_event.specs.declared.commands.ApcKind.TheVariants.{Normal, Special, User}
 use Rattle.nt_event.specs.declared.commands.Command.TheVariants.{ToUser}
 use Rattle.nt_event.specs.declared.commands.Refusal.{Refusal}
@@ -14,17 +13,16 @@ use Rattle.nt_event.specs.declared.frames.Body.{Body}
 use Rattle.nt_event.specs.declared.frames.Body.TheVariants.{Apc, Base, Dpc, Int, Rundown, Threaded}
 use Rattle.nt_event.specs.declared.frames.Frame.{Frame}
 use Rattle.nt_event.specs.declared.numbers.ThreadNo.{ThreadNo}
-use Rattle.nt_event.specs.Apcs.{lets_through}
-use Rattle.nt_event.specs.Frames.{Frames, base_level, base_of, frames_in, innermost, is_apc_body, is_base_body, is_normal_apc_body, is_on_thread, level_in, new_frame, thread_part}
-use Rattle.nt_event.specs.Regions.{busy_of, crit_of, guard_of, regions_of}
+use Rattle.nt_event.specs.Frames.{Frames, base_of, frames_in, is_apc_body, is_base_body, is_normal_apc_body, is_on_thread, level_in, new_frame, thread_part}
+use Rattle.nt_event.specs.Regions.{busy_of}
 use Rattle.nt_event.specs.Script.{is_isr_level}
 use Rattle.nt_event.specs.Words.{head_of, is_null}
 use Rattle.nt_frame.specs.Changes.{begun, is_own, on_part, on_running, on_thread}
-use Rattle.nt_frame.specs.Nesting.{AreNamedBelow, AreNested, AreNewer, IsFrame, IsOver, IsPart, IsThreadPart, has_isr_level, is_special_body, next_name, rank}
-use Rattle.nt_frame.specs.Rules.{is_leaving, may_begin, refusal_in, regions_in}
+use Rattle.nt_frame.specs.Nesting.{AreNamedBelow, AreNested, IsFrame, IsOver, IsPart, IsThreadPart, has_isr_level, is_special_body, next_name, rank}
+use Rattle.nt_frame.specs.Rules.{may_begin, regions_in}
 use Rattle.nt_frame.proofs.Nested.{on_own_nested, on_running_nested, thread_part_nested}
 use Rattle.nt_frame.proofs.Ranks.{below_apc, below_dpc, below_int, below_normal, length-under, rank_bounds, thread_rank_bound}
-use Rattle.nt_frame.proofs.Booleans.{and_left, and_right, lt_is, none_is, null_is, zero_is}
+use Rattle.nt_frame.proofs.Booleans.{and_left, and_right, lt_is, zero_is}
 
 -- ---- the new frame
 

@@ -1,8 +1,8 @@
 -- What a layer above keeps of the frames: names below a number, as many parts as threads, no waits on the own part.
-use Rattle.std.proofs.Common.{◌≡◌, ℕ, ◌+◌, ◌<◌, ◌≤◌, Bool, true, false, not, Option, None, Some, IfSome, List, [], ◌∷◌, All, get_or, length, set, arith, sym, ◌∙◌, ap, refl}
+use Rattle.std.proofs.Common.{◌≡◌, ℕ, ◌+◌, ◌<◌, ◌≤◌, Bool, true, false, not, Option, None, Some, List, [], ◌∷◌, get_or, length, arith, sym, ◌∙◌, refl}
 use Rattle.std.proofs.lemmas.List.{length-set}
 use Rattle.std.proofs.lemmas.List.Elements.{All-from_get_or, All-set}
-use Rattle.std.specs.Option.{option_map_or, option_or}
+use Rattle.std.specs.Option.{option_or}
 use Rattle.nt_event.specs.declared.frames.Again.{Again}
 use Rattle.nt_event.specs.declared.frames.Body.{Body}
 use Rattle.nt_event.specs.declared.frames.Frame.{Frame}
@@ -10,9 +10,8 @@ use Rattle.nt_event.specs.declared.numbers.ThreadNo.{ThreadNo}
 use Rattle.nt_event.specs.Frames.{Frames, at_head, frames_in, innermost, new_frame, thread_part}
 use Rattle.nt_event.specs.Words.{head_of, is_null, tail_of}
 use Rattle.nt_event.proofs.Tables.{get_or-table, length-table_from}
-use Rattle.nt_frame.specs.Changes.{at_innermost, begun, closed, is_own, no_frames, on_innermost_part, on_part, on_running, without_innermost}
+use Rattle.nt_frame.specs.Changes.{at_innermost, begun, closed, is_own, no_frames, on_part, on_running, without_innermost}
 use Rattle.nt_frame.specs.Nesting.{AreNamedBelow, AreNested, HaveNoWaits, IsPart, next_name}
-use Rattle.nt_frame.proofs.Nested.{thread_part_nested}
 
 -- ---- names below a number
 

@@ -1,5 +1,5 @@
 -- Frames stay nested when the innermost one changes.
-use Rattle.std.proofs.Common.{◌≡◌, ℕ, ◌+◌, ◌-◌, ◌<◌, ◌≤◌, ◌^◌, Bool, true, false, not, Option, None, Some, List, [], ◌∷◌, All, get_or, length, arith, sym, ◌∙◌, ap, refl, ◌==◌}
+use Rattle.std.proofs.Common.{◌≡◌, ℕ, ◌+◌, ◌<◌, ◌≤◌, ◌^◌, Bool, true, false, not, Option, None, Some, List, [], ◌∷◌, arith, ap, refl}
 use Rattle.std.specs.List.{sum_by}
 use Rattle.std.proofs.lemmas.List.Sums.{sum_by-cons}
 use Rattle.std.specs.Option.{option_map_or, option_or}
@@ -9,7 +9,7 @@ use Rattle.nt_event.specs.Frames.{Frames, at_head, base_of, frames_in, innermost
 use Rattle.nt_event.specs.Regions.{crit_of, guard_of}
 use Rattle.nt_event.specs.Words.{head_of, is_null}
 use Rattle.nt_frame.specs.Changes.{at_innermost, on_part, on_running}
-use Rattle.nt_frame.specs.Nesting.{AreNested, AreNewer, IsFrame, IsOver, IsPart, IsThreadPart, is_special_body, next_name, rank}
+use Rattle.nt_frame.specs.Nesting.{AreNested, AreNewer, IsFrame, IsOver, IsPart, IsThreadPart, is_special_body}
 use Rattle.nt_frame.proofs.Nested.{on_own_nested, on_running_nested, thread_part_nested}
 
 -- ---- the innermost frame is known

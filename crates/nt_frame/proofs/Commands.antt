@@ -1,11 +1,11 @@
 -- What a call leaves of the frames, as the methods of `Frames` make it: the effect of the command, then the place.
-use Rattle.std.proofs.Common.{◌≡◌, ℕ, ◌+◌, ◌<◌, ◌==◌, Bool, true, false, not, Option, None, Some, if◌then◌else◌, List, [], length, sym, ◌∙◌, ap, refl}
+use Rattle.std.proofs.Common.{◌≡◌, ℕ, ◌+◌, ◌<◌, ◌==◌, Bool, true, false, Option, None, Some, if◌then◌else◌, [], length, sym, ◌∙◌, ap, refl}
 use Rattle.nt_event.specs.declared.commands.Command.{Command}
 use Rattle.nt_event.specs.declared.commands.Command.TheVariants.{Alert, CancelTimer, Clock, Delay, EnterCrit, EnterGuard, InsertApc, Interrupt, LeaveCrit, LeaveGuard, Lower, Note, Queue, Raise, Release, RemoveApc, SetImportance, SetTarget, SetTimer, StartWait, TestAlert, ToUser, Unqueue, Yield}
 use Rattle.nt_event.specs.declared.commands.Mode.{Mode}
 use Rattle.nt_event.specs.declared.commands.Refusal.{Refusal}
 use Rattle.nt_event.specs.declared.commands.Reply.{Reply}
-use Rattle.nt_event.specs.declared.commands.Reply.TheVariants.{Blocked, Done, No, Refused, Status, Yes}
+use Rattle.nt_event.specs.declared.commands.Reply.TheVariants.{Blocked, Done, Refused, Status}
 use Rattle.nt_event.specs.declared.events.Event.{Event}
 use Rattle.nt_event.specs.declared.events.What.TheVariants.{Call, Rewait, Switch}
 use Rattle.nt_event.specs.declared.frames.Again.{Again}
@@ -17,7 +17,6 @@ use Rattle.nt_event.specs.declared.scripts.Script.{Script}
 use Rattle.nt_event.specs.Frames.{Frames, again_after, called, done_to, frames_after, frames_in, innermost, resumed, rewaited, running_after}
 use Rattle.nt_event.specs.Words.{head_of, is_blocked, is_done, kernel_apc}
 use Rattle.nt_frame.specs.Changes.{at_innermost}
-use Rattle.nt_frame.specs.Nesting.{AreNested}
 use Rattle.nt_frame.specs.Rules.{enter_of, leave_of}
 use Rattle.nt_frame.proofs.After.{after_call, after_rewait, after_switch, taken}
 use Rattle.nt_frame.proofs.Events.{IsOurs}
@@ -36,10 +35,17 @@ abbrev pub stopped : Frames → Frames
 stopped x = record x { running = None }
 
 -- the running thread stays: so the record of what is left has it as it was
-stays : (x y : Frames) (r : Option ThreadNo) → r ≡ y.running → x.running ≡ y.running → record x { running = r } ≡ x
+pub stays : (x y : Frames) (r : Option ThreadNo) → r ≡ y.running → x.running ≡ y.running → record x { running = r } ≡ x
 stays x y r e k = ap (λ (q : Option ThreadNo). record x { running = q }) (e ∙ sym k)
 
 -- ---- calls that change the place alone
+
+-- a call that changes nothing of the frame but its place, and lets the thread run
+pub call_by : (s : Script) (n : ℕ) (due : Option ℕ) (e : Event) (x : Frames) (f : Frame) (c : Command) (y : Reply) → IsOurs s e x → innermost x ≡ Some f → e.what ≡ Call f.name c y → ((g : Frame) → called due c y g ≡ advanced g) → running_after (Call f.name c y) x.running ≡ x.running → frames_after s n due e x ≡ at_innermost advanced x
+call_by s n due e x f c y h q k place runs =
+    after_call s n due e x f c y h q k
+    ∙ ap (λ (z : Frames). record z { running = running_after (Call f.name c y) x.running }) (at_innermost_by (called due c y) advanced x place)
+    ∙ stays (at_innermost advanced x) x (running_after (Call f.name c y) x.running) runs (running-at_innermost advanced x)
 
 refused_call : (due : Option ℕ) (c : Command) (why : Refusal) (f : Frame) → called due c (Refused why) f ≡ advanced f
 refused_call due (StartWait m a) why f = refl
@@ -53,9 +59,7 @@ refused_runs n _ why r = refl
 -- a refused command changes the place alone
 pub call_refused : (s : Script) (n : ℕ) (due : Option ℕ) (e : Event) (x : Frames) (f : Frame) (c : Command) (why : Refusal) → IsOurs s e x → innermost x ≡ Some f → e.what ≡ Call f.name c (Refused why) → frames_after s n due e x ≡ at_innermost advanced x
 call_refused s n due e x f c why h q k =
-    after_call s n due e x f c (Refused why) h q k
-    ∙ ap (λ (y : Frames). record y { running = running_after (Call f.name c (Refused why)) x.running }) (at_innermost_by (called due c (Refused why)) advanced x (refused_call due c why))
-    ∙ stays (at_innermost advanced x) x (running_after (Call f.name c (Refused why)) x.running) (refused_runs f.name c why x.running) (running-at_innermost advanced x)
+    call_by s n due e x f c (Refused why) h q k (refused_call due c why) (refused_runs f.name c why x.running)
 
 -- the commands that change nothing of their frame but its place, and let their thread run
 abbrev pub is_plain : Command → Bool
@@ -107,9 +111,7 @@ plain_runs n _ y r p b = rw b
 -- one that changes nothing else of its frame, and doesn't block
 pub call_plain : (s : Script) (n : ℕ) (due : Option ℕ) (e : Event) (x : Frames) (f : Frame) (c : Command) (y : Reply) → IsOurs s e x → innermost x ≡ Some f → is_plain c ≡ true → is_blocked y ≡ false → e.what ≡ Call f.name c y → frames_after s n due e x ≡ at_innermost advanced x
 call_plain s n due e x f c y h q p b k =
-    after_call s n due e x f c y h q k
-    ∙ ap (λ (z : Frames). record z { running = running_after (Call f.name c y) x.running }) (at_innermost_by (called due c y) advanced x (plain_call due c y p))
-    ∙ stays (at_innermost advanced x) x (running_after (Call f.name c y) x.running) (plain_runs f.name c y x.running p b) (running-at_innermost advanced x)
+    call_by s n due e x f c y h q k (plain_call due c y p) (plain_runs f.name c y x.running p b)
 
 -- ---- levels and regions: `raise`, `lower`, `enter`, `leave`
 

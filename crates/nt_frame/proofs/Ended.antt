@@ -1,22 +1,18 @@
 -- Frames stay nested where the innermost one ends or a thread is gone.
-use Rattle.std.proofs.Common.{◌≡◌, ℕ, ◌+◌, ◌<◌, ◌≤◌, ◌^◌, Bool, true, false, not, ◌&&◌, Option, None, Some, List, [], ◌∷◌, All, get_or, length, set, arith, sym, ◌∙◌, ap, subst, refl, lit<}
-use Rattle.std.proofs.lemmas.List.{length-set, get_or-set_same}
+use Rattle.std.proofs.Common.{◌≡◌, ℕ, ◌<◌, ◌^◌, Bool, true, false, not, ◌&&◌, Option, None, Some, List, [], ◌∷◌, arith, subst, refl, lit<}
 use Rattle.std.proofs.lemmas.List.Sums.{sum_by-cons}
-use Rattle.std.specs.Prelude.{if◌then◌else◌}
 use Rattle.std.specs.List.{sum_by}
 use Rattle.std.specs.Option.{option_map_or, option_or}
-use Rattle.nt_event.specs.declared.commands.Regions.{Regions}
 use Rattle.nt_event.specs.declared.frames.Body.{Body}
 use Rattle.nt_event.specs.declared.frames.Body.TheVariants.{Apc, Base, Dpc, Int, Rundown, Threaded}
 use Rattle.nt_event.specs.declared.frames.Frame.{Frame}
 use Rattle.nt_event.specs.declared.numbers.ThreadNo.{ThreadNo}
-use Rattle.nt_event.specs.Frames.{Frames, at_head, frames_in, innermost, normal_of, thread_part}
+use Rattle.nt_event.specs.Frames.{Frames, innermost, thread_part}
 use Rattle.nt_event.specs.Jobs.{has_normal}
-use Rattle.nt_event.specs.Regions.{below_in, crit_of, guard_of, regions_of, some_came_to_0}
 use Rattle.nt_event.specs.Words.{head_of, is_null, tail_of}
-use Rattle.nt_frame.specs.Changes.{at_innermost, closed, is_own, on_part, on_running, on_thread, without_innermost}
+use Rattle.nt_frame.specs.Changes.{closed, is_own, on_part, on_running, on_thread, without_innermost}
 use Rattle.nt_frame.specs.Nesting.{AreNested, AreNewer, IsPart, IsThreadPart}
-use Rattle.nt_frame.specs.Rules.{is_leaving, may_go_on, regions_in}
+use Rattle.nt_frame.specs.Rules.{is_leaving, may_go_on}
 use Rattle.nt_frame.proofs.Begun.{base_is_not_own}
 use Rattle.nt_frame.proofs.Changed.{innermost_frame}
 use Rattle.nt_frame.proofs.Kept.{innermost_test}

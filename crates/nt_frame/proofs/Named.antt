@@ -1,14 +1,14 @@
 -- An event names the innermost frame: what it does by this name to the parts is done to the innermost frame alone.
-use Rattle.std.proofs.Common.{◌≡◌, ℕ, ◌+◌, ◌<◌, ◌≤◌, ◌==◌, Bool, true, false, not, if◌then◌else◌, Option, None, Some, List, [], ◌∷◌, All, get_or, length, set, arith, sym, ◌∙◌, ap, refl}
+use Rattle.std.proofs.Common.{◌≡◌, ℕ, ◌+◌, ◌≤◌, ◌==◌, true, false, Option, None, Some, List, [], ◌∷◌, All, set, arith, ◌∙◌, ap, refl}
 use Rattle.std.proofs.lemmas.Bool.Decides.{nat_tests}
 use Rattle.std.proofs.lemmas.List.{set-get_or}
 use Rattle.std.specs.Option.{option_map_or, option_or}
 use Rattle.nt_event.specs.declared.frames.Frame.{Frame}
 use Rattle.nt_event.specs.declared.numbers.ThreadNo.{ThreadNo}
-use Rattle.nt_event.specs.Frames.{Frames, at_head, at_name, end_on_thread, ended_on_thread, frames_in, innermost, is_base_body, left, thread_part, without}
+use Rattle.nt_event.specs.Frames.{Frames, at_head, at_name, end_on_thread, frames_in, innermost, is_base_body, left, thread_part, without}
 use Rattle.nt_event.specs.Words.{head_of, is_null, tail_of}
-use Rattle.nt_frame.specs.Changes.{on_innermost_part, on_part, on_running}
-use Rattle.nt_frame.specs.Nesting.{AreNested, AreNewer, next_name}
+use Rattle.nt_frame.specs.Changes.{on_innermost_part, on_running}
+use Rattle.nt_frame.specs.Nesting.{AreNested, next_name}
 use Rattle.nt_frame.proofs.Events.{changed}
 
 -- ---- one part

@@ -1,14 +1,13 @@
 -- Frames stay nested when a part changes.
-use Rattle.std.proofs.Common.{◌≡◌, ℕ, ◌+◌, ◌<◌, ◌≤◌, ◌^◌, Bool, true, false, not, Option, None, Some, List, [], ◌∷◌, All, get_or, length, set, arith, sym, ◌∙◌, ap, refl, lit<}
+use Rattle.std.proofs.Common.{◌≡◌, ℕ, ◌<◌, true, Option, None, Some, List, [], arith, refl, lit<}
 use Rattle.std.proofs.lemmas.List.{length-set}
 use Rattle.std.proofs.lemmas.List.Elements.{All-set, All-from_get_or}
 use Rattle.std.specs.Option.{option_map_or}
 use Rattle.nt_event.specs.declared.frames.Frame.{Frame}
 use Rattle.nt_event.specs.declared.numbers.ThreadNo.{ThreadNo}
 use Rattle.nt_event.specs.Frames.{Frames, frames_in, thread_part}
-use Rattle.nt_event.specs.Words.{is_null, table}
 use Rattle.nt_event.proofs.Tables.{get_or-table, length-table_from}
-use Rattle.nt_frame.specs.Changes.{no_frames, on_innermost_part, on_part, on_running}
+use Rattle.nt_frame.specs.Changes.{no_frames, on_part, on_running}
 use Rattle.nt_frame.specs.Nesting.{AreNested, AreNewer, IsPart, IsThreadPart}
 
 empty_part : IsThreadPart []

@@ -1,6 +1,6 @@
 -- Calls that change the frames of a processor, and lists of them.
 use Rattle.std.specs.Option.{ForSome}
-use Rattle.std.specs.Prelude.{Bool, IsSome, IsTrue, List, None, Option, Some, [], false, length, ℕ, ◌+◌, ◌<◌, ◌==◌, ◌∷◌, ◌≡◌}
+use Rattle.std.specs.Prelude.{IsSome, IsTrue, List, None, Option, Some, [], false, length, ◌+◌, ◌<◌, ◌==◌, ◌∷◌, ◌≡◌}
 use Rattle.nt_event.specs.declared.commands.Command.{Command}
 use Rattle.nt_event.specs.declared.commands.Command.TheVariants.{Lower as LowerCommand, Raise as RaiseCommand}
 use Rattle.nt_event.specs.declared.commands.Refusal.{Refusal}

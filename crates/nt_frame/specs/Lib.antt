@@ -1,5 +1,6 @@
 pub mod Calls
 pub mod Changes
-pub mod Rules
+pub mod EventCalls
 pub mod Nesting
+pub mod Rules
 pub mod Views

@@ -1,6 +1,6 @@
 -- Where a routine may begin, and which commands the frames refuse.
 use Rattle.std.specs.Option.{option_map_or}
-use Rattle.std.specs.Prelude.{Bool, None, Option, Some, false, is_none, nat_lt, not, ℕ, ◌&&◌, ◌==◌, ◌||◌, ◌≤◌}
+use Rattle.std.specs.Prelude.{Bool, Option, Some, false, is_none, nat_lt, not, ℕ, ◌&&◌, ◌==◌, ◌||◌}
 use Rattle.nt_event.specs.declared.commands.ApcKind.TheVariants.{User as UserApc}
 use Rattle.nt_event.specs.declared.commands.Command.{Command}
 use Rattle.nt_event.specs.declared.commands.Command.TheVariants.{EnterCrit, EnterGuard, LeaveCrit, LeaveGuard, ToUser}
@@ -15,7 +15,7 @@ use Rattle.nt_event.specs.Apcs.{lets_through}
 use Rattle.nt_event.specs.Commands.{refusal}
 use Rattle.nt_event.specs.Frames.{Frames, innermost, is_base_body, is_normal_apc_body, is_on_thread, level_in, thread_part}
 use Rattle.nt_event.specs.Jobs.{has_normal}
-use Rattle.nt_event.specs.Regions.{below_in, is_open, regions_of, some_came_to_0}
+use Rattle.nt_event.specs.Regions.{below_in, regions_of, some_came_to_0}
 use Rattle.nt_event.specs.Script.{is_isr_level}
 use Rattle.nt_event.specs.Words.{is_null, is_thread}
 

@@ -1,9 +1,9 @@
 //! The frames of one processor and its threads.
-ghost use Rattle.std.specs.Prelude.{◌≡◌, ◌<◌, ◌≤◌, ◌↔◌, ◌+◌, ◌==◌, [], true, IsTrue, IsSome, IsOk, IfOk, IfErr, OnOk, OnErr, Some, None, length, option_copied, option_map, IfSome, not, false};
+ghost use Rattle.std.specs.Prelude.{◌≡◌, ◌<◌, ◌↔◌, ◌+◌, ◌==◌, false, not, length, option_copied, option_map, IsTrue, IsSome, IsOk, IfSome, IfOk, IfErr, OnOk, OnErr};
 ghost use Rattle.std.specs.Option.{ForSome};
 ghost use Rattle.nt_event.specs.Frames.{done_to, frames_in, innermost, is_on_thread as on_thread_part, left, level_in, normal_of};
-ghost use Rattle.nt_event.specs.Words.{head_of, is_null};
 ghost use Rattle.nt_event.specs.Regions.{below_in, some_came_to_0};
+ghost use Rattle.nt_event.specs.Words.{is_null};
 ghost use Rattle.nt_frame.specs.Changes.{at_innermost, begun, closed, no_frames, without_innermost};
 ghost use Rattle.nt_frame.specs.Nesting.{AreNamedBelow, AreNested, IsThreadPart};
 ghost use Rattle.nt_frame.specs.Rules.{count_of, end_asks_apc, enter_of, is_at_base, is_leaving, leave_of, may_begin, may_go_on, refusal_in, regions_in};
@@ -25,8 +25,12 @@ const NO_REGIONS: Regions = Regions {
 };
 
 /// The frames of one processor: those on its own part, and those of each thread.
+///
+/// Contracts see the lists of frames, the innermost first, and the running thread. Profile: at most 13 frames stand on the own
+/// part and 4 on a thread's; the conditions of [`Frames::begin`] see to it.
 #[derive(Drop, Debug)]
 pub struct Frames {
+    /// Whose frames these are, for `Debug` alone.
     cpu: CpuNo,
     own: Part<13>,
     running: Option<ThreadNo>,
@@ -132,7 +136,8 @@ impl Frames {
         )
     }
 
-    /// The newest frame of the own part, else that of the running thread.
+    /// The newest frame of the own part, else that of the running thread. `nested` is what every value keeps: how its frames
+    /// stand over each other.
     pub fn innermost(&self) -> Option<FrameView>
         ensures view { result ≡ option_map view_of (innermost self.now) }
         ensures nested { AreNested self.now }
@@ -150,7 +155,10 @@ impl Frames {
 
     /// A routine begins, in a frame that this number names: that of the event which begins it.
     ///
-    /// The rules let such a frame begin here, and the number is above that of every frame before.
+    /// The rules let such a routine begin here (`may_begin`): an interrupt above the level; a DPC below DISPATCH_LEVEL; a threaded
+    /// DPC at PASSIVE_LEVEL with no frame on the own part; a kernel APC at PASSIVE_LEVEL in a thread whose regions let it through; a
+    /// user APC where `touser` would be accepted; the base of a thread that was just taken up and has no frame; a rundown routine in
+    /// a leaving thread. The number is above the names of all frames.
     pub fn begin(&mut self, body: Body, n: u64)
         requires rules { IsTrue (may_begin body self.old) }
         requires number { AreNamedBelow n self.old }
@@ -306,10 +314,9 @@ impl Frames {
         requires { IsTrue (is_leaving self.old) }
         ensures { self.new ≡ closed self.old }
     {
-        if let Some(t) = self.running {
+        if let Some(t) = self.running.take() {
             parts::clear(&mut self.threads, t);
         }
-        self.running = None;
     }
 
     /// Sets the wait that the innermost frame has to take up again.

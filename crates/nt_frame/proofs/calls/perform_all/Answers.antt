@@ -1,4 +1,4 @@
-use Rattle.std.proofs.Common.{◌≡◌, arith, rules, sym, true, is_ok}
+use Rattle.std.proofs.Common.{◌≡◌, arith, sym, true, is_ok}
 use Rattle.nt_frame.proofs.Runs.{going_next, may_next}
 use Rattle.nt_frame.proofs.calls.perform_all.Goals as goal
 

@@ -1,5 +1,5 @@
-use Rattle.std.proofs.Common.{◌+◌, ◌<◌, arith, sym}
-use Rattle.nt_frame.specs.Rules.{count_of, regions_in}
+use Rattle.std.proofs.Common.{◌+◌, ◌<◌, arith}
+use Rattle.nt_frame.specs.Rules.{regions_in}
 use Rattle.nt_frame.proofs.Kept.{crit_nested, guard_nested}
 use Rattle.nt_frame.proofs.frames.Frames.enter.Goals as goal
 use Rattle.nt_frame.proofs.frames.Frames.enter.Goals.{in-Crit, in-Guard}

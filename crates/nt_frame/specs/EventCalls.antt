@@ -1,0 +1,138 @@
+-- The calls that a processor makes for an event of its own.
+use Rattle.std.specs.Option.{option_map_or}
+use Rattle.std.specs.Prelude.{List, None, Option, Some, [], false, if◌then◌else◌, length, true, ℕ, ◌++◌, ◌<◌, ◌==◌, ◌∷◌, ◌≡◌}
+use Rattle.nt_event.specs.declared.commands.Command.{Command}
+use Rattle.nt_event.specs.declared.commands.Command.TheVariants.{Delay, EnterCrit, EnterGuard, LeaveCrit, LeaveGuard, Lower as LowerCommand, Raise as RaiseCommand, StartWait, Yield}
+use Rattle.nt_event.specs.declared.commands.Reply.{Reply}
+use Rattle.nt_event.specs.declared.commands.Reply.TheVariants.{Blocked, Done, Status}
+use Rattle.nt_event.specs.declared.events.Begun.{Begun}
+use Rattle.nt_event.specs.declared.events.Begun.TheVariants.{Apc as BeginApc, Dpc as BeginDpc, Int as BeginInt, Threaded as BeginThreaded}
+use Rattle.nt_event.specs.declared.events.Event.{Event}
+use Rattle.nt_event.specs.declared.events.What.{What}
+use Rattle.nt_event.specs.declared.events.What.TheVariants.{Begin as BeginEvent, Call as CallEvent, End as EndEvent, Flush as FlushEvent, Gone as GoneEvent, Look as LookEvent, Normal as NormalEvent, Rewait as RewaitEvent, Switch as SwitchEvent}
+use Rattle.nt_event.specs.declared.frames.Again.{Again}
+use Rattle.nt_event.specs.declared.frames.Body.{Body}
+use Rattle.nt_event.specs.declared.frames.Body.TheVariants.{Apc, Base, Dpc, Int, Rundown, Threaded}
+use Rattle.nt_event.specs.declared.frames.Frame.{Frame}
+use Rattle.nt_event.specs.declared.frames.Region.TheVariants.{Crit, Guard}
+use Rattle.nt_event.specs.declared.numbers.CpuNo.{CpuNo}
+use Rattle.nt_event.specs.declared.numbers.ThreadNo.{ThreadNo}
+use Rattle.nt_event.specs.declared.scripts.Script.{Script}
+use Rattle.nt_event.specs.Frames.{Frames, again_after, due_of, frames_after, frames_in, frames_of, innermost, time}
+use Rattle.nt_event.specs.Routines.{kind_of, rundown_of}
+use Rattle.nt_event.specs.Words.{is_of, kernel_apc}
+use Rattle.nt_frame.specs.declared.calls.FrameCall.{FrameCall}
+use Rattle.nt_frame.specs.declared.calls.FrameCall.TheVariants.{AdvancePlace, Begin, EndBase, Enter, Finish, Gone, Leave, Lower, Normal, Raise, SetAgain, SwitchAway, SwitchTo}
+use Rattle.nt_frame.specs.Calls.{left_by_all}
+use Rattle.nt_frame.specs.Changes.{no_frames}
+use Rattle.nt_frame.specs.Nesting.{AreNested}
+use Rattle.nt_frame.specs.Rules.{is_at_base, may_go_on, refusal_in}
+
+-- what begins
+abbrev pub body_of : Script → Begun → Body
+body_of s (BeginInt level) = Int level
+body_of s (BeginDpc d) = Dpc d
+body_of s (BeginThreaded d) = Threaded d
+body_of s (BeginApc a) = Apc a (kind_of s a)
+
+-- a wait that ended with this status is taken up again only where a kernel APC interrupted it
+abbrev pub status_calls : Option ℕ → List FrameCall
+status_calls None = []
+status_calls (Some status) = if status == kernel_apc then [] else (SetAgain None ∷ [])
+
+abbrev pub wait_calls : Again → Reply → List FrameCall
+wait_calls w Blocked = SetAgain (Some w) ∷ AdvancePlace ∷ SwitchAway ∷ []
+wait_calls w (Status status) = SetAgain (again_after (Status status) (Some w) None) ∷ AdvancePlace ∷ []
+wait_calls w _ = AdvancePlace ∷ []
+
+-- a called command with this reply, whose due time this is; a refused one changes the place alone
+abbrev pub command_calls : Option ℕ → Command → Reply → List FrameCall
+command_calls due (RaiseCommand level) Done = Raise level ∷ AdvancePlace ∷ []
+command_calls due (LowerCommand level) Done = Lower level ∷ AdvancePlace ∷ []
+command_calls due EnterCrit Done = Enter Crit ∷ AdvancePlace ∷ []
+command_calls due EnterGuard Done = Enter Guard ∷ AdvancePlace ∷ []
+command_calls due LeaveCrit Done = Leave Crit ∷ AdvancePlace ∷ []
+command_calls due LeaveGuard Done = Leave Guard ∷ AdvancePlace ∷ []
+command_calls due Yield Done = AdvancePlace ∷ SwitchAway ∷ []
+command_calls due (StartWait m a) y = wait_calls (record { mode = m; alertable = a; due = None }) y
+command_calls due (Delay m a units) y = wait_calls (record { mode = m; alertable = a; due = due }) y
+command_calls due c y = AdvancePlace ∷ []
+
+abbrev pub rewait_calls : Reply → List FrameCall
+rewait_calls Blocked = SwitchAway ∷ []
+rewait_calls (Status status) = status_calls (Some status)
+rewait_calls y = []
+
+-- the first Switch to a thread begins its base frame
+abbrev pub switch_calls : ℕ → ThreadNo → Option ℕ → List Frame → List FrameCall
+switch_calls n t status [] = SwitchTo t ∷ Begin (Base t) n ∷ []
+switch_calls n t status (f ∷ fs) = SwitchTo t ∷ status_calls status
+
+-- the calls for the event of this number and due time, where the frames are these
+abbrev pub calls_of : Script → ℕ → Option ℕ → What → Frames → List FrameCall
+calls_of s n due (BeginEvent b from) x = Begin (body_of s b) n ∷ []
+calls_of s n due (CallEvent f c y) x = command_calls due c y
+calls_of s n due (NormalEvent f) x = Normal ∷ []
+calls_of s n due (EndEvent f) x = if is_at_base x then (EndBase ∷ []) else (Finish ∷ [])
+calls_of s n due (SwitchEvent t status) x = switch_calls n t status (frames_in x.threads t)
+calls_of s n due (RewaitEvent f y) x = rewait_calls y
+calls_of s n due (FlushEvent a from) x = option_map_or (λ r. Begin (Rundown a) n ∷ []) (rundown_of s a) []
+calls_of s n due (GoneEvent t) x = Gone ∷ []
+calls_of s n due w x = []
+
+-- ---- the events that a processor makes where its frames are these
+
+-- the routine that runs is the one that the event names
+abbrev pub IsInnermost : ℕ → Frames → Type 0
+IsInnermost name x = option_map_or (λ f. f.name == name) (innermost x) false ≡ true
+
+-- a command that is done isn't refused, and only waits block
+abbrev pub Replies : Command → Reply → Frames → Type 0
+Replies (StartWait m a) y x = Unit {0}
+Replies (Delay m a units) y x = Unit {0}
+Replies c Blocked x = ⊥
+Replies c Done x = refusal_in c x ≡ None
+Replies c y x = Unit {0}
+
+abbrev pub thread_of : What → Option ThreadNo → Option ThreadNo
+thread_of (SwitchEvent t status) r = Some t
+thread_of (LookEvent r) k = None
+thread_of w r = r
+
+abbrev pub Fits : What → Frames → Type 0
+Fits (CallEvent f c y) x = IsInnermost f x × Replies c y x
+Fits (RewaitEvent f y) x = IsInnermost f x × (x.own ≡ [])
+Fits (NormalEvent f) x = IsInnermost f x × (may_go_on x ≡ true)
+Fits (EndEvent f) x = IsInnermost f x
+Fits (SwitchEvent t status) x = (t.0 < length x.threads) × (x.own ≡ [])
+Fits w x = Unit {0}
+
+-- the event is one that a processor may make where its frames are these
+pub record IsMade (s : Script) (e : Event) (x : Frames) : Type 0 where
+  pub nested : AreNested x
+  pub threads : length x.threads ≡ length s.threads
+  pub thread : e.thread ≡ thread_of e.what x.running
+  pub fits : Fits e.what x
+
+-- what each event leaves of the frames is what its calls leave
+abbrev pub EventsAreCalls : Type 0
+EventsAreCalls =
+    (s : Script) (n : ℕ) (due : Option ℕ) (e : Event) (x : Frames) → IsMade s e x → frames_after s n due e x ≡ left_by_all (calls_of s n due e.what x) x
+
+-- ---- whole histories
+
+-- the calls that a processor makes for its events in a history, in their order
+abbrev pub calls_in : Script → CpuNo → List Event → List FrameCall
+calls_in s p [] = []
+calls_in s p (e ∷ past) =
+    if is_of e p then calls_in s p past ++ calls_of s (length past) (due_of e.what (time past)) e.what (frames_of s p past) else calls_in s p past
+
+-- each event of the processor is one that it may make where its frames are those of the history before
+abbrev pub EachIsMade : Script → CpuNo → List Event → Type 0
+EachIsMade s p [] = Unit {0}
+EachIsMade s p (e ∷ past) = (is_of e p ≡ true → IsMade s e (frames_of s p past)) × EachIsMade s p past
+
+-- the frames of a history are what its calls leave, beginning with none
+abbrev pub HistoriesAreCalls : Type 0
+HistoriesAreCalls =
+    (s : Script) (p : CpuNo) (past : List Event) → EachIsMade s p past → frames_of s p past ≡ left_by_all (calls_in s p past) (no_frames (length s.threads))
