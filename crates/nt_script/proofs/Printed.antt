@@ -16,7 +16,7 @@ use Rattle.nt_script.specs.Text.{Row, header_rows, isr_row, dpc_row, timer_row, 
 use Rattle.nt_script.specs.Sound.{IsSound}
 use Rattle.nt_script.proofs.Soundness.{sound_fits}
 
-all_at : {A : Type 0} (P : A → Type 0) (xs : List A) → AllByRecursion P xs → All P xs
+pub all_at : {A : Type 0} (P : A → Type 0) (xs : List A) → AllByRecursion P xs → All P xs
 all_at P [] h k d lt = absurd (omega arith)
 all_at P (x ∷ xs) h zero d lt = h.0
 all_at P (x ∷ xs) h (suc k) d lt = all_at P xs h.1 k d (omega arith)
