@@ -30,5 +30,5 @@ pub use splitting::{Split, split_at};
 pub use walk::Input;
 pub use words::{Place, Verb, Word, word_of};
 
-//TEST
-//TESTS
+#[cfg(test)]
+mod tests;
