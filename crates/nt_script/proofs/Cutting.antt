@@ -9,7 +9,7 @@ use Rattle.std.proofs.lemmas.List.{append-nil, length-append, map-append}
 use Rattle.std.proofs.lemmas.List.Folds.{list_any-append}
 use Rattle.std.proofs.lemmas.List.Splits.{slice_split_none, slice_split_at, join_with_byte-slice_split}
 use Rattle.nt_text.specs.Lines.{is_byte, parts, lines, lines_of_parts}
-use Rattle.nt_text.proofs.Cuts.{more_lines, few_lines}
+use Rattle.nt_text.proofs.Cuts.{more_lines}
 use Rattle.nt_script.specs.declared.splitting.Split.{Split}
 use Rattle.nt_script.specs.Splitting.{begins, first_begins, split_from, Splits}
 use Rattle.nt_script.proofs.Printed.{all_at}

@@ -1,5 +1,5 @@
 -- What is put line by line is the whole text.
-use Rattle.std.proofs.Common.{◌≡◌, ℕ, zero, suc, ◌<◌, List, [], ◌∷◌, ◌++◌, length, map, sym, ◌∙◌, ap, refl, subst, append_assoc, arith}
+use Rattle.std.proofs.Common.{◌≡◌, ℕ, zero, suc, List, [], ◌∷◌, ◌++◌, map, sym, ◌∙◌, ap, refl, subst, append_assoc, arith}
 use Rattle.std.specs.Prelude.{All}
 use Rattle.std.specs.List.{AllByRecursion}
 use Rattle.std.proofs.lemmas.Grind.{flat_map-append}
@@ -12,7 +12,7 @@ use Rattle.nt_event.specs.declared.scripts.ApcDecl.{ApcDecl}
 use Rattle.nt_event.specs.declared.scripts.Routine.{Routine}
 use Rattle.nt_script.specs.declared.walk.Input.{Input}
 use Rattle.nt_script.specs.Fits.{IsrFits, ThreadFits, ApcFits, CommandFits}
-use Rattle.nt_script.specs.Text.{Row, header_rows, isr_row, dpc_row, timer_row, thread_row, apc_row, declared_rows, routine_rows, input_rows, text}
+use Rattle.nt_script.specs.Text.{Row, header_rows, isr_row, dpc_row, timer_row, thread_row, apc_row, declared_rows, routine_rows, text}
 use Rattle.nt_script.specs.Sound.{IsSound}
 use Rattle.nt_script.proofs.Soundness.{sound_fits}
 

@@ -1,5 +1,5 @@
 -- Fields behind a word: what is read is spelled so, and what is spelled so is read.
-use Rattle.std.proofs.Common.{◌≡◌, ℕ, ◌<◌, ◌≤◌, Bool, true, false, List, [], ◌∷◌, ◌++◌, length, Option, Some, None, Result, Ok, refl, sym, ◌∙◌, subst, arith, lit<}
+use Rattle.std.proofs.Common.{◌≡◌, ℕ, ◌<◌, ◌≤◌, Bool, List, [], ◌∷◌, length, Option, Some, None, Result, Ok, refl, sym, subst, arith, lit<}
 use Rattle.std.specs.Prelude.{IfSome}
 use Rattle.nt_text.specs.declared.kind.ScriptKind.{ScriptKind}
 use Rattle.nt_event.specs.declared.numbers.DpcNo.{DpcNo}
@@ -21,7 +21,7 @@ use Rattle.nt_script.specs.declared.words.Verb.TheVariants as verb
 use Rattle.nt_script.specs.declared.words.Word.{Word}
 use Rattle.nt_script.specs.declared.words.Word.TheVariants as word
 use Rattle.nt_script.specs.NameLists.{NameLists, show_dpc, show_timer, show_thread, show_apc, show_routine}
-use Rattle.nt_script.specs.Words.{verb_arity, arity}
+use Rattle.nt_script.specs.Words.{verb_arity}
 use Rattle.nt_script.specs.Results.{◌>>=◌}
 use Rattle.nt_script.specs.Slots.{dash, read_dpc, read_timer, read_thread, read_apc, read_routine, read_timer_dpc, read_rundown}
 use Rattle.nt_script.specs.Commands.{read1, read2, read3, read4, command_of}
