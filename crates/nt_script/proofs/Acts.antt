@@ -1,5 +1,5 @@
 -- A line that is taken is the next row of what was read.
-use Rattle.std.proofs.Common.{◌≡◌, ℕ, suc, Bool, List, [], ◌∷◌, ◌++◌, length, Result, Ok, refl, sym, ◌∙◌, ap, lit<}
+use Rattle.std.proofs.Common.{◌≡◌, ℕ, suc, List, [], ◌∷◌, ◌++◌, length, Result, Ok, refl, sym, ◌∙◌, ap, lit<}
 use Rattle.std.specs.Prelude.{nat_lt, is_none}
 use Rattle.std.proofs.lemmas.List.{nil_from_length}
 use Rattle.nt_text.specs.declared.kind.ScriptKind.{ScriptKind}
@@ -8,8 +8,6 @@ use Rattle.nt_text.specs.declared.kind.What10.TheVariants as what
 use Rattle.nt_text.specs.Lines.{first, rest}
 use Rattle.nt_event.specs.declared.commands.ApcKind.{ApcKind}
 use Rattle.nt_event.specs.declared.commands.ApcKind.TheVariants.{Special, Normal, User}
-use Rattle.nt_event.specs.declared.commands.Command.{Command}
-use Rattle.nt_event.specs.declared.scripts.Isr.{Isr}
 use Rattle.nt_event.specs.declared.scripts.DpcDecl.{DpcDecl}
 use Rattle.nt_event.specs.declared.scripts.TimerDecl.{TimerDecl}
 use Rattle.nt_event.specs.declared.scripts.ThreadDecl.{ThreadDecl}
@@ -20,7 +18,7 @@ use Rattle.nt_script.specs.declared.words.Word.TheVariants as word
 use Rattle.nt_script.specs.declared.walk.Walk.{Walk}
 use Rattle.nt_script.specs.NameLists.{NameLists}
 use Rattle.nt_script.specs.Words.{text_of, arity}
-use Rattle.nt_script.specs.Results.{◌>>=◌, ok_if}
+use Rattle.nt_script.specs.Results.{ok_if}
 use Rattle.nt_script.specs.Slots.{read_number, read_on_off, new_name}
 use Rattle.nt_script.specs.Commands.{command_of}
 use Rattle.nt_script.specs.Declarations.{isr_of, dpc_of, timer_of, thread_of, apc_of}

@@ -1,5 +1,5 @@
 -- The text of an input is read as the input: one line after the other.
-use Rattle.std.proofs.Common.{◌≡◌, ℕ, suc, ◌+◌, ◌<◌, ◌≤◌, Bool, true, false, List, [], ◌∷◌, ◌++◌, length, map, Option, Some, None, Result, Ok, refl, sym, ◌∙◌, ap, subst, append_assoc, add-zero, arith, lit<}
+use Rattle.std.proofs.Common.{◌≡◌, ℕ, suc, ◌+◌, ◌<◌, ◌≤◌, Bool, true, false, List, [], ◌∷◌, ◌++◌, length, map, Some, None, Result, Ok, refl, sym, ◌∙◌, ap, subst, append_assoc, add-zero, arith, lit<}
 use Rattle.std.specs.Prelude.{decimal, is_none, nat_lt}
 use Rattle.std.specs.List.{AllByRecursion, sum_by}
 use Rattle.std.proofs.lemmas.Bool.{lt-ltb, le-ltb, ne_eqb}
@@ -9,7 +9,6 @@ use Rattle.nt_text.specs.declared.kind.ScriptKind.{ScriptKind}
 use Rattle.nt_text.specs.declared.kind.ScriptKind.TheVariants.{TooMany}
 use Rattle.nt_text.specs.declared.kind.What10.TheVariants as what
 use Rattle.nt_text.specs.Fields.{is_name}
-use Rattle.nt_event.specs.declared.commands.ApcKind.{ApcKind}
 use Rattle.nt_event.specs.declared.commands.ApcKind.TheVariants.{Special, Normal, User}
 use Rattle.nt_event.specs.declared.commands.Command.{Command}
 use Rattle.nt_event.specs.declared.scripts.Script.{Script}
@@ -24,11 +23,11 @@ use Rattle.nt_script.specs.declared.words.Verb.TheVariants as verb
 use Rattle.nt_script.specs.declared.words.Word.{Word}
 use Rattle.nt_script.specs.declared.words.Word.TheVariants as word
 use Rattle.nt_script.specs.declared.words.Place.{Place}
-use Rattle.nt_script.specs.declared.words.Place.TheVariants.{Start, HasCpus, HasDepth, HasThreaded, InIsrs, InDpcs, InTimers, InThreads, InApcs, InRoutines, InRoutine}
+use Rattle.nt_script.specs.declared.words.Place.TheVariants.{InIsrs, InDpcs, InTimers, InThreads, InApcs, InRoutine}
 use Rattle.nt_script.specs.declared.walk.Walk.{Walk}
 use Rattle.nt_script.specs.Places.{place}
 use Rattle.nt_script.specs.NameLists.{NameLists, meaning}
-use Rattle.nt_script.specs.Words.{word_of, text_of, arity, order}
+use Rattle.nt_script.specs.Words.{word_of, text_of, arity}
 use Rattle.nt_script.specs.Results.{ok_if}
 use Rattle.nt_script.specs.Slots.{new_name, on_off_text}
 use Rattle.nt_script.specs.Declarations.{dpc_of, timer_of, thread_of, apc_of}
@@ -37,7 +36,7 @@ use Rattle.nt_script.specs.Fits.{IsrFits, DpcFits, TimerFits, ThreadFits, ApcFit
 use Rattle.nt_script.specs.Text.{Row, number_row, isr_args, isr_row, dpc_args, dpc_row, timer_args, timer_row, thread_args, thread_row, apc_args, apc_row, declared_rows, command_verb, command_args, command_row, begun_rows, exit_row, routine_rows}
 use Rattle.nt_script.specs.Sound.{AreNew}
 use Rattle.nt_script.proofs.Fields.{number_again, on_off_again}
-use Rattle.nt_script.proofs.Spelled.{AreRead, apc_fields, command_again, args_count, isr_again, dpc_again, timer_again, thread_again, apc_again, apc_count}
+use Rattle.nt_script.proofs.Spelled.{AreRead, command_again, args_count, isr_again, dpc_again, timer_again, thread_again, apc_again, apc_count}
 use Rattle.nt_script.proofs.Found.{nowhere_both}
 use Rattle.nt_script.proofs.Pairs.{no_pair}
 use Rattle.nt_script.proofs.Taken.{At, at_again}

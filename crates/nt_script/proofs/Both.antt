@@ -1,5 +1,5 @@
 -- The text of an input is read as the input: all parts together.
-use Rattle.std.proofs.Common.{◌≡◌, ℕ, ◌+◌, ◌≤◌, Bool, List, [], ◌∷◌, ◌++◌, length, map, Option, Some, None, Result, Ok, refl, sym, ◌∙◌, ap, subst, arith}
+use Rattle.std.proofs.Common.{◌≡◌, ℕ, ◌+◌, ◌≤◌, Bool, List, [], ◌∷◌, ◌++◌, map, Option, Some, None, Result, Ok, refl, sym, ◌∙◌, ap, subst, arith}
 use Rattle.std.specs.Prelude.{IfSome}
 use Rattle.std.specs.List.{join_with_byte}
 use Rattle.std.proofs.lemmas.List.{append-nil}
@@ -7,15 +7,13 @@ use Rattle.nt_text.specs.declared.kind.ScriptKind.{ScriptKind}
 use Rattle.nt_text.specs.Lines.{AllRows, line_of, fields}
 use Rattle.nt_text.proofs.Rows.{fields_again, row_again, lines_again}
 use Rattle.nt_event.specs.declared.scripts.Script.{Script}
-use Rattle.nt_script.specs.declared.words.Word.TheVariants as word
 use Rattle.nt_script.specs.declared.words.Place.{Place}
 use Rattle.nt_script.specs.declared.words.Place.TheVariants.{Start, HasCpus, HasDepth, HasThreaded, InIsrs, InDpcs, InTimers, InThreads, InApcs, InRoutines, InRoutine}
 use Rattle.nt_script.specs.declared.walk.Walk.{Walk}
 use Rattle.nt_script.specs.declared.walk.Input.{Input}
 use Rattle.nt_script.specs.NameLists.{NameLists, no_names}
-use Rattle.nt_script.specs.Words.{order}
 use Rattle.nt_script.specs.Reading.{finish, walk, names_after, names_from, start, reading}
-use Rattle.nt_script.specs.Text.{Row, number_row, depth_rows, threaded_rows, isr_row, dpc_row, timer_row, thread_row, apc_row, declared_rows, routine_rows, input_rows, text}
+use Rattle.nt_script.specs.Text.{Row, depth_rows, threaded_rows, isr_row, dpc_row, timer_row, thread_row, apc_row, declared_rows, routine_rows, input_rows, text}
 use Rattle.nt_script.specs.Sound.{AreNew}
 use Rattle.nt_script.proofs.UsedNames.{AreFew}
 use Rattle.nt_script.proofs.Fit.{Fit}

@@ -9,9 +9,6 @@ use Rattle.nt_text.specs.Fields.{is_name_byte, is_name}
 use Rattle.nt_text.proofs.Decimals.{decimal_field, range_field}
 use Rattle.nt_event.specs.declared.numbers.CpuNo.{CpuNo}
 use Rattle.nt_event.specs.declared.numbers.DpcNo.{DpcNo}
-use Rattle.nt_event.specs.declared.numbers.TimerNo.{TimerNo}
-use Rattle.nt_event.specs.declared.numbers.ThreadNo.{ThreadNo}
-use Rattle.nt_event.specs.declared.numbers.ApcNo.{ApcNo}
 use Rattle.nt_event.specs.declared.numbers.RoutineNo.{RoutineNo}
 use Rattle.nt_event.specs.declared.commands.ApcKind.{ApcKind}
 use Rattle.nt_event.specs.declared.commands.ApcKind.TheVariants.{Special, Normal, User}
@@ -23,7 +20,6 @@ use Rattle.nt_event.specs.declared.commands.Command.{Command}
 use Rattle.nt_event.specs.declared.commands.Command.TheVariants as cmd
 use Rattle.nt_event.specs.declared.scripts.Routine.{Routine}
 use Rattle.nt_event.specs.declared.scripts.Isr.{Isr}
-use Rattle.nt_event.specs.declared.scripts.DpcDecl.{DpcDecl}
 use Rattle.nt_event.specs.declared.scripts.TimerDecl.{TimerDecl}
 use Rattle.nt_event.specs.declared.scripts.ThreadDecl.{ThreadDecl}
 use Rattle.nt_event.specs.declared.scripts.ApcDecl.{ApcDecl}
@@ -31,7 +27,7 @@ use Rattle.nt_script.specs.declared.walk.Input.{Input}
 use Rattle.nt_script.specs.NameLists.{NameLists, show_dpc, show_routine}
 use Rattle.nt_script.specs.Slots.{dash, importance_text, mode_text, alertable_text, on_off_text}
 use Rattle.nt_script.specs.Fits.{IsrFits, DpcFits, TimerFits, ThreadFits, ApcFits, CommandFits}
-use Rattle.nt_script.specs.Text.{Row, show_cpu, show_unless, show_target, depth_rows, threaded_rows, header_rows, isr_row, dpc_row, timer_row, thread_row, normal_args, rundown_args, apc_args, apc_row, declared_rows, command_row, begun_rows, exit_row, routine_rows, input_rows}
+use Rattle.nt_script.specs.Text.{Row, show_cpu, show_unless, show_target, depth_rows, threaded_rows, header_rows, isr_row, dpc_row, timer_row, thread_row, normal_args, rundown_args, apc_row, declared_rows, command_row, begun_rows, exit_row, routine_rows, input_rows}
 use Rattle.nt_script.specs.Sound.{AreNew}
 use Rattle.nt_script.proofs.Found.{NamesFit, is_new}
 use Rattle.nt_script.proofs.Fit.{Fit}

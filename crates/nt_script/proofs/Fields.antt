@@ -1,5 +1,5 @@
 -- A field that is read is spelled so, and what is spelled so is read: numbers and words.
-use Rattle.std.proofs.Common.{◌≡◌, ℕ, ◌+◌, ◌^◌, ◌<◌, ◌≤◌, Bool, true, false, cond, eqb, List, [], ◌∷◌, Option, Some, None, Result, Ok, Err, refl, sym, ◌∙◌, ap, subst, arith, lit<}
+use Rattle.std.proofs.Common.{◌≡◌, ℕ, ◌+◌, ◌^◌, ◌<◌, ◌≤◌, Bool, true, false, cond, eqb, List, [], ◌∷◌, Option, Some, None, Result, Ok, Err, refl, ◌∙◌, ap, subst, arith, lit<}
 use Rattle.std.specs.Prelude.{codes, decimal, nat_lt, IfSome, find}
 use Rattle.std.specs.Str.{bytes_eq}
 use Rattle.std.proofs.lemmas.Bool.{ltb-true, lt-ltb, and_right}
@@ -16,7 +16,7 @@ use Rattle.nt_event.specs.declared.commands.Mode.{Mode}
 use Rattle.nt_event.specs.declared.commands.Mode.TheVariants.{Kernel, User}
 use Rattle.nt_event.specs.Script.{is_requested_level, is_isr_level}
 use Rattle.nt_script.specs.declared.slots.TheConstants.{IMPORTANCES}
-use Rattle.nt_script.specs.Results.{◌>>=◌, or_error, ok_if}
+use Rattle.nt_script.specs.Results.{◌>>=◌, ok_if}
 use Rattle.nt_script.specs.Slots.{own, read_number, read_level, read_interrupt, read_isr_level, read_cpu, read_unless, read_target, importance_text, read_importance, mode_text, read_mode, flag_text, read_flag, alertable_text, read_alertable, on_off_text, read_on_off}
 use Rattle.nt_script.specs.Text.{show_cpu, show_unless, show_target}
 use Rattle.nt_script.proofs.Results.{bind_ok, or_error_ok, ok_if_ok}

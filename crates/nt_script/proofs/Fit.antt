@@ -1,5 +1,5 @@
 -- An input whose numbers name things that have names: what the laws go by.
-use Rattle.std.proofs.Common.{◌≡◌, ℕ, ◌≤◌, true, List, length}
+use Rattle.std.proofs.Common.{◌≡◌, ◌≤◌, true, length}
 use Rattle.std.specs.Prelude.{IfSome}
 use Rattle.std.specs.List.{AllByRecursion}
 use Rattle.nt_event.specs.Script.{isrs_differ, command_count}

@@ -1,5 +1,5 @@
 -- What is read fits.
-use Rattle.std.proofs.Common.{◌≡◌, ℕ, zero, suc, ◌+◌, ◌<◌, ◌≤◌, Bool, true, false, cond, List, [], ◌∷◌, ◌++◌, length, Option, Some, None, Result, Ok, Err, refl, sym, ◌∙◌, ap, subst, append_assoc, arith, lit<}
+use Rattle.std.proofs.Common.{◌≡◌, ℕ, zero, suc, ◌+◌, ◌≤◌, Bool, true, false, cond, List, [], ◌∷◌, ◌++◌, length, Option, Some, None, Result, Ok, Err, refl, sym, ◌∙◌, ap, subst, append_assoc, arith, lit<}
 use Rattle.std.specs.Prelude.{nat_lt, ◌==◌, is_some, is_none, option_map, IfSome}
 use Rattle.std.specs.Str.{bytes_eq}
 use Rattle.std.specs.List.{AllByRecursion, sum_by, position_from}
@@ -11,10 +11,8 @@ use Rattle.nt_text.specs.declared.kind.ScriptKind.TheVariants.{NameTwice, TooMan
 use Rattle.nt_text.specs.declared.kind.What10.TheVariants as what
 use Rattle.nt_text.specs.Lines.{lines, first, rest}
 use Rattle.nt_text.specs.Fields.{is_name}
-use Rattle.nt_event.specs.declared.commands.ApcKind.{ApcKind}
 use Rattle.nt_event.specs.declared.commands.Command.{Command}
 use Rattle.nt_event.specs.declared.scripts.Routine.{Routine}
-use Rattle.nt_event.specs.declared.scripts.Isr.{Isr}
 use Rattle.nt_event.specs.declared.scripts.DpcDecl.{DpcDecl}
 use Rattle.nt_event.specs.declared.scripts.TimerDecl.{TimerDecl}
 use Rattle.nt_event.specs.declared.scripts.ThreadDecl.{ThreadDecl}
@@ -22,13 +20,12 @@ use Rattle.nt_event.specs.declared.scripts.ApcDecl.{ApcDecl}
 use Rattle.nt_event.specs.Script.{isrs_differ, command_count, isr_of as isr_routine}
 use Rattle.nt_script.specs.declared.words.Word.{Word}
 use Rattle.nt_script.specs.declared.words.Word.TheVariants as word
-use Rattle.nt_script.specs.declared.words.Place.{Place}
 use Rattle.nt_script.specs.declared.walk.Walk.{Walk}
 use Rattle.nt_script.specs.declared.walk.Input.{Input}
 use Rattle.nt_script.specs.Places.{place}
 use Rattle.nt_script.specs.NameLists.{NameLists, no_names, meaning, dpc_at, timer_at, thread_at, apc_at, routine_at, or_else}
 use Rattle.nt_script.specs.Words.{arity, order}
-use Rattle.nt_script.specs.Results.{◌>>=◌, ok_if}
+use Rattle.nt_script.specs.Results.{ok_if}
 use Rattle.nt_script.specs.Slots.{read_number, read_on_off, new_name}
 use Rattle.nt_script.specs.Commands.{command_of}
 use Rattle.nt_script.specs.Declarations.{isr_of, dpc_of, timer_of, thread_of, apc_of}

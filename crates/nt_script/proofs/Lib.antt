@@ -18,3 +18,4 @@ pub mod Kept
 pub mod Soundness
 pub mod Contract
 pub mod Printed
+pub mod Cutting

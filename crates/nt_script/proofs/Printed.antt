@@ -1,5 +1,5 @@
 -- What is put line by line is the whole text.
-use Rattle.std.proofs.Common.{◌≡◌, ℕ, zero, suc, ◌<◌, List, [], ◌∷◌, ◌++◌, length, map, sym, ◌∙◌, ap, refl, subst, append_assoc, arith}
+use Rattle.std.proofs.Common.{◌≡◌, ℕ, zero, suc, List, [], ◌∷◌, ◌++◌, map, sym, ◌∙◌, ap, refl, subst, append_assoc, arith}
 use Rattle.std.specs.Prelude.{All}
 use Rattle.std.specs.List.{AllByRecursion}
 use Rattle.std.proofs.lemmas.Grind.{flat_map-append}
@@ -12,11 +12,11 @@ use Rattle.nt_event.specs.declared.scripts.ApcDecl.{ApcDecl}
 use Rattle.nt_event.specs.declared.scripts.Routine.{Routine}
 use Rattle.nt_script.specs.declared.walk.Input.{Input}
 use Rattle.nt_script.specs.Fits.{IsrFits, ThreadFits, ApcFits, CommandFits}
-use Rattle.nt_script.specs.Text.{Row, header_rows, isr_row, dpc_row, timer_row, thread_row, apc_row, declared_rows, routine_rows, input_rows, text}
+use Rattle.nt_script.specs.Text.{Row, header_rows, isr_row, dpc_row, timer_row, thread_row, apc_row, declared_rows, routine_rows, text}
 use Rattle.nt_script.specs.Sound.{IsSound}
 use Rattle.nt_script.proofs.Soundness.{sound_fits}
 
-all_at : {A : Type 0} (P : A → Type 0) (xs : List A) → AllByRecursion P xs → All P xs
+pub all_at : {A : Type 0} (P : A → Type 0) (xs : List A) → AllByRecursion P xs → All P xs
 all_at P [] h k d lt = absurd (omega arith)
 all_at P (x ∷ xs) h zero d lt = h.0
 all_at P (x ∷ xs) h (suc k) d lt = all_at P xs h.1 k d (omega arith)

@@ -1,29 +1,23 @@
 -- An input is sound exactly where it fits.
 use Rattle.std.proofs.Common.{◌≡◌, ℕ, ◌<◌, ◌≤◌, Bool, true, List, [], ◌∷◌, length, Option, Some, None, refl, arith, inl, inr}
-use Rattle.std.specs.Prelude.{◌&&◌, ◌||◌, ◌==◌, nat_le, nat_lt, IfSome, IsTrue}
+use Rattle.std.specs.Prelude.{◌&&◌, ◌==◌, nat_le, nat_lt, IfSome}
 use Rattle.std.specs.List.{AllByRecursion, list_all}
 use Rattle.std.proofs.lemmas.Bool.{and_parts, and_from, or_cases, ltb-true, lt-ltb, leb-true, le-leb, eqb-true}
-use Rattle.nt_event.specs.declared.numbers.CpuNo.{CpuNo}
 use Rattle.nt_event.specs.declared.numbers.DpcNo.{DpcNo}
-use Rattle.nt_event.specs.declared.numbers.TimerNo.{TimerNo}
-use Rattle.nt_event.specs.declared.numbers.ThreadNo.{ThreadNo}
-use Rattle.nt_event.specs.declared.numbers.ApcNo.{ApcNo}
 use Rattle.nt_event.specs.declared.numbers.RoutineNo.{RoutineNo}
 use Rattle.nt_event.specs.declared.commands.Command.{Command}
 use Rattle.nt_event.specs.declared.commands.Command.TheVariants as cmd
 use Rattle.nt_event.specs.declared.scripts.Script.{Script}
 use Rattle.nt_event.specs.declared.scripts.Routine.{Routine}
 use Rattle.nt_event.specs.declared.scripts.Isr.{Isr}
-use Rattle.nt_event.specs.declared.scripts.DpcDecl.{DpcDecl}
 use Rattle.nt_event.specs.declared.scripts.TimerDecl.{TimerDecl}
 use Rattle.nt_event.specs.declared.scripts.ThreadDecl.{ThreadDecl}
 use Rattle.nt_event.specs.declared.scripts.ApcDecl.{ApcDecl}
-use Rattle.nt_event.specs.Script.{has_cpu, has_thread, has_dpc, has_routine, where_given, is_requested_level, is_isr_level, command_count, meets_limits, isr_fits, isrs_differ, dpc_fits, timer_fits, thread_fits, apc_has_its_routines, apc_fits, command_fits, routine_fits, fits}
+use Rattle.nt_event.specs.Script.{has_cpu, has_thread, has_dpc, has_routine, where_given, is_requested_level, is_isr_level, command_count, meets_limits, isr_fits, isrs_differ, dpc_fits, timer_fits, thread_fits, apc_has_its_routines, apc_fits, command_fits, routine_fits}
 use Rattle.nt_script.specs.declared.walk.Input.{Input}
 use Rattle.nt_script.specs.NameLists.{NameLists}
 use Rattle.nt_script.specs.Fits.{IsrFits, DpcFits, TimerFits, ThreadFits, ApcFits, CommandFits}
 use Rattle.nt_script.specs.Sound.{HasRange, IsSound}
-use Rattle.nt_script.proofs.UsedNames.{AreFew}
 use Rattle.nt_script.proofs.Found.{names_fit, all_new}
 use Rattle.nt_script.proofs.Fit.{Fit}
 

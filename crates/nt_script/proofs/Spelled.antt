@@ -1,5 +1,5 @@
 -- Fields behind a word: what is read is spelled so, and what is spelled so is read.
-use Rattle.std.proofs.Common.{◌≡◌, ℕ, ◌<◌, ◌≤◌, Bool, true, false, List, [], ◌∷◌, ◌++◌, length, Option, Some, None, Result, Ok, refl, sym, ◌∙◌, subst, arith, lit<}
+use Rattle.std.proofs.Common.{◌≡◌, ℕ, ◌<◌, ◌≤◌, Bool, List, [], ◌∷◌, length, Option, Some, None, Result, Ok, refl, sym, subst, arith, lit<}
 use Rattle.std.specs.Prelude.{IfSome}
 use Rattle.nt_text.specs.declared.kind.ScriptKind.{ScriptKind}
 use Rattle.nt_event.specs.declared.numbers.DpcNo.{DpcNo}
@@ -21,7 +21,7 @@ use Rattle.nt_script.specs.declared.words.Verb.TheVariants as verb
 use Rattle.nt_script.specs.declared.words.Word.{Word}
 use Rattle.nt_script.specs.declared.words.Word.TheVariants as word
 use Rattle.nt_script.specs.NameLists.{NameLists, show_dpc, show_timer, show_thread, show_apc, show_routine}
-use Rattle.nt_script.specs.Words.{verb_arity, arity}
+use Rattle.nt_script.specs.Words.{verb_arity}
 use Rattle.nt_script.specs.Results.{◌>>=◌}
 use Rattle.nt_script.specs.Slots.{dash, read_dpc, read_timer, read_thread, read_apc, read_routine, read_timer_dpc, read_rundown}
 use Rattle.nt_script.specs.Commands.{read1, read2, read3, read4, command_of}
@@ -43,11 +43,11 @@ pub record Spells {A : Type 0} (word_for : A → Word) (args_for : A → Row) (F
 abbrev ok : {A : Type 0} → A → Result A ScriptKind
 ok x = Ok x
 
-ok_same : {C : Type 0} (x y : C) (r : Result C ScriptKind) → r ≡ Ok y → r ≡ Ok x → x ≡ y
-ok_same x y r p q = let both : ok x ≡ ok y = sym q ∙ p in cc
+ok_is : {C : Type 0} (x y : C) → ok x ≡ Ok y → x ≡ y
+ok_is x y e = cc
 
 takes0 : {C : Type 0} (P : Row → C → Type 0) (made : C) → P [] made → (args : Row) (c : C) → ok made ≡ Ok c → length args ≡ 0 → P args c
-takes0 P made good [] c e len = subst (P []) (ok_same made c (ok made) e refl) good
+takes0 P made good [] c e len = subst (P []) (ok_is made c e) good
 takes0 P made good (a ∷ args) c e len = absurd (omega arith)
 
 pub takes1 : {C A : Type 0} {read : List ℕ → Result A ScriptKind} {show : A → List ℕ} {Fits : A → Type 0} → Takes read show Fits
@@ -59,7 +59,7 @@ takes1 {C = C} {A = A} {read = read} {show = show} t P make good (a ∷ []) c e 
     let made : C = make b.value in
     let s0 : P (show b.value ∷ []) made = good b.value (t.fits a b.value b.is) in
     let s1 : P (a ∷ []) made = subst (λ (f : List ℕ). P (f ∷ []) made) (sym (t.shown a b.value b.is)) s0 in
-    subst (P (a ∷ [])) (ok_same made c (ok made) b.then refl) s1
+    subst (P (a ∷ [])) (ok_is made c b.then) s1
 takes1 t P make good (a ∷ more ∷ args) c e len = absurd (omega arith)
 
 pub takes2 : {C A B : Type 0} {read : List ℕ → Result A ScriptKind} {show : A → List ℕ} {Fits : A → Type 0} {read' : List ℕ → Result B ScriptKind} {show' : B → List ℕ} {Fits' : B → Type 0} → Takes read show Fits → Takes read' show' Fits'
@@ -74,7 +74,7 @@ takes2 {C = C} {A = A} {B = B} {read = read} {show = show} {read' = read'} {show
     let s0 : P (show b.value ∷ show' d.value ∷ []) made = good b.value d.value (t.fits a b.value b.is) (u.fits a' d.value d.is) in
     let s1 : P (a ∷ show' d.value ∷ []) made = subst (λ (f : List ℕ). P (f ∷ show' d.value ∷ []) made) (sym (t.shown a b.value b.is)) s0 in
     let s2 : P (a ∷ a' ∷ []) made = subst (λ (f : List ℕ). P (a ∷ f ∷ []) made) (sym (u.shown a' d.value d.is)) s1 in
-    subst (P (a ∷ a' ∷ [])) (ok_same made c (ok made) d.then refl) s2
+    subst (P (a ∷ a' ∷ [])) (ok_is made c d.then) s2
 takes2 t u P make good (a ∷ a' ∷ more ∷ args) c e len = absurd (omega arith)
 
 pub takes3 : {C A B D : Type 0} {read : List ℕ → Result A ScriptKind} {show : A → List ℕ} {Fits : A → Type 0} {read' : List ℕ → Result B ScriptKind} {show' : B → List ℕ} {Fits' : B → Type 0} {read'' : List ℕ → Result D ScriptKind} {show'' : D → List ℕ} {Fits'' : D → Type 0} → Takes read show Fits → Takes read' show' Fits' → Takes read'' show'' Fits''
@@ -92,7 +92,7 @@ takes3 {C = C} {A = A} {B = B} {D = D} {read = read} {show = show} {read' = read
     let s1 : P (a ∷ show' d.value ∷ show'' g.value ∷ []) made = subst (λ (f : List ℕ). P (f ∷ show' d.value ∷ show'' g.value ∷ []) made) (sym (t.shown a b.value b.is)) s0 in
     let s2 : P (a ∷ a' ∷ show'' g.value ∷ []) made = subst (λ (f : List ℕ). P (a ∷ f ∷ show'' g.value ∷ []) made) (sym (u.shown a' d.value d.is)) s1 in
     let s3 : P (a ∷ a' ∷ a'' ∷ []) made = subst (λ (f : List ℕ). P (a ∷ a' ∷ f ∷ []) made) (sym (v.shown a'' g.value g.is)) s2 in
-    subst (P (a ∷ a' ∷ a'' ∷ [])) (ok_same made c (ok made) g.then refl) s3
+    subst (P (a ∷ a' ∷ a'' ∷ [])) (ok_is made c g.then) s3
 takes3 t u v P make good (a ∷ a' ∷ a'' ∷ more ∷ args) c e len = absurd (omega arith)
 
 pub takes4 : {C A B D E : Type 0} {read : List ℕ → Result A ScriptKind} {show : A → List ℕ} {Fits : A → Type 0} {read' : List ℕ → Result B ScriptKind} {show' : B → List ℕ} {Fits' : B → Type 0} {read'' : List ℕ → Result D ScriptKind} {show'' : D → List ℕ} {Fits'' : D → Type 0} {read''' : List ℕ → Result E ScriptKind} {show''' : E → List ℕ} {Fits''' : E → Type 0} → Takes read show Fits → Takes read' show' Fits' → Takes read'' show'' Fits'' → Takes read''' show''' Fits'''
@@ -113,7 +113,7 @@ takes4 {C = C} {A = A} {B = B} {D = D} {E = E} {read = read} {show = show} {read
     let s2 : P (a ∷ a' ∷ show'' g.value ∷ show''' i.value ∷ []) made = subst (λ (f : List ℕ). P (a ∷ f ∷ show'' g.value ∷ show''' i.value ∷ []) made) (sym (u.shown a' d.value d.is)) s1 in
     let s3 : P (a ∷ a' ∷ a'' ∷ show''' i.value ∷ []) made = subst (λ (f : List ℕ). P (a ∷ a' ∷ f ∷ show''' i.value ∷ []) made) (sym (v.shown a'' g.value g.is)) s2 in
     let s4 : P (a ∷ a' ∷ a'' ∷ a''' ∷ []) made = subst (λ (f : List ℕ). P (a ∷ a' ∷ a'' ∷ f ∷ []) made) (sym (w.shown a''' i.value i.is)) s3 in
-    subst (P (a ∷ a' ∷ a'' ∷ a''' ∷ [])) (ok_same made c (ok made) i.then refl) s4
+    subst (P (a ∷ a' ∷ a'' ∷ a''' ∷ [])) (ok_is made c i.then) s4
 takes4 t u v w P make good (a ∷ a' ∷ a'' ∷ a''' ∷ more ∷ args) c e len = absurd (omega arith)
 
 -- ---- what is read

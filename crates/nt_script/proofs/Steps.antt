@@ -1,5 +1,5 @@
 -- What holds of what was read, and what a line adds to it.
-use Rattle.std.proofs.Common.{◌≡◌, ℕ, suc, ◌≤◌, Bool, true, false, cond, List, [], ◌∷◌, ◌++◌, length, map, Option, Some, None, Ok, Err, refl, sym, ◌∙◌, ap, arith}
+use Rattle.std.proofs.Common.{◌≡◌, ℕ, suc, ◌≤◌, Bool, true, false, cond, List, [], ◌∷◌, ◌++◌, length, Option, None, Ok, Err, refl, sym, ◌∙◌, arith}
 use Rattle.std.specs.Prelude.{◌==◌, nat_lt}
 use Rattle.std.proofs.lemmas.List.{append-nil, map-append, length-append}
 use Rattle.nt_text.specs.declared.kind.ScriptKind.TheVariants.{BadNumber, TooMany}
@@ -18,7 +18,7 @@ use Rattle.nt_script.specs.NameLists.{NameLists}
 use Rattle.nt_script.specs.Words.{text_of, order}
 use Rattle.nt_script.specs.Slots.{on_off_text}
 use Rattle.nt_script.specs.Reading.{put_cpus, with_cpus, with_depth, with_threaded, with_isr, with_dpc, with_timer, with_thread, with_apc, with_routine, with_exit, with_command}
-use Rattle.nt_script.specs.Text.{Row, command_row, number_row, depth_rows, threaded_rows, header_rows, isr_row, dpc_row, timer_row, thread_row, apc_row, exit_row}
+use Rattle.nt_script.specs.Text.{Row, command_row, number_row, depth_rows, isr_row, dpc_row, timer_row, thread_row, apc_row, exit_row}
 use Rattle.nt_script.proofs.SoFar.{heads_at, has_head, heads, isrs, dpcs, timers, threads, apcs, routines, so_far, grow_heads, grow_isrs, grow_dpcs, grow_timers, grow_threads, grow_apcs, grow_routines, declared_more, none_declared, none_opened, routine_more, command_more, exit_more}
 
 -- nothing stands there of the parts behind the place with this number

@@ -1,10 +1,9 @@
 -- A name that is read is that of the thing, and a thing's name is read as the thing.
-use Rattle.std.proofs.Common.{◌≡◌, ℕ, suc, ◌+◌, ◌<◌, ◌≤◌, Bool, true, false, cond, List, [], ◌∷◌, length, get_or, Option, Some, None, Result, Ok, Err, refl, sym, ◌∙◌, ap, arith}
+use Rattle.std.proofs.Common.{◌≡◌, ℕ, suc, ◌+◌, ◌<◌, ◌≤◌, Bool, true, false, cond, List, [], ◌∷◌, length, get_or, Option, Some, None, Ok, Err, refl, sym, ◌∙◌, ap, arith}
 use Rattle.std.specs.Prelude.{option_map, is_some, IfSome}
 use Rattle.std.specs.Str.{bytes_eq}
 use Rattle.std.specs.List.{position_from}
 use Rattle.std.proofs.lemmas.Bool.{lt-ltb}
-use Rattle.nt_text.specs.declared.kind.ScriptKind.{ScriptKind}
 use Rattle.nt_text.specs.declared.kind.ScriptKind.TheVariants.{BadName, UnknownName, NameTwice}
 use Rattle.nt_text.specs.Fields.{is_name}
 use Rattle.nt_event.specs.declared.numbers.DpcNo.{DpcNo}
@@ -16,7 +15,7 @@ use Rattle.nt_script.specs.declared.names.Named.{Named}
 use Rattle.nt_script.specs.declared.names.Named.TheVariants as named
 use Rattle.nt_script.specs.Places.{place}
 use Rattle.nt_script.specs.NameLists.{NameLists, meaning, number, dpc_at, timer_at, thread_at, apc_at, routine_at, or_else, show_dpc, show_timer, show_thread, show_apc, show_routine}
-use Rattle.nt_script.specs.Results.{◌>>=◌, or_error}
+use Rattle.nt_script.specs.Results.{or_error}
 use Rattle.nt_script.specs.Slots.{dash, used, as_dpc, as_timer, as_thread, as_apc, as_routine, read_dpc, read_timer, read_thread, read_apc, read_routine, read_timer_dpc, read_rundown, new_name}
 use Rattle.nt_script.specs.Text.{show_unless}
 use Rattle.nt_script.proofs.Results.{bind_ok, or_error_ok}

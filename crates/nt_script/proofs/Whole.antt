@@ -10,8 +10,6 @@ use Rattle.nt_text.proofs.Rows.{row_takes, row_fields, lines_takes}
 use Rattle.nt_text.specs.declared.kind.ScriptKind.TheVariants.{NameTwice, TooMany}
 use Rattle.nt_text.specs.declared.kind.What10.TheVariants as what
 use Rattle.nt_text.specs.Lines.{first, rest}
-use Rattle.nt_event.specs.declared.commands.Command.{Command}
-use Rattle.nt_event.specs.declared.scripts.Isr.{Isr}
 use Rattle.nt_event.specs.declared.scripts.DpcDecl.{DpcDecl}
 use Rattle.nt_event.specs.declared.scripts.TimerDecl.{TimerDecl}
 use Rattle.nt_event.specs.declared.scripts.ThreadDecl.{ThreadDecl}
@@ -27,11 +25,11 @@ use Rattle.nt_script.specs.declared.names.Kind.{Kind}
 use Rattle.nt_script.specs.declared.names.Kind.TheVariants as kind
 use Rattle.nt_script.specs.NameLists.{NameLists, no_names, meaning, with_name}
 use Rattle.nt_script.specs.Words.{word_of, declaring, order}
-use Rattle.nt_script.specs.Results.{◌>>=◌, ok_if}
+use Rattle.nt_script.specs.Results.{ok_if}
 use Rattle.nt_script.specs.Slots.{read_number, read_on_off, new_name}
 use Rattle.nt_script.specs.Commands.{command_of}
 use Rattle.nt_script.specs.Declarations.{isr_of, dpc_of, timer_of, thread_of, apc_of}
-use Rattle.nt_script.specs.Reading.{names_after, names_from, start, put_cpus, with_cpus, with_depth, with_threaded, with_isr, with_dpc, with_timer, with_thread, with_apc, with_routine, with_exit, with_command, act, step, finish, line_step, go_on, walk, reading}
+use Rattle.nt_script.specs.Reading.{names_after, names_from, start, put_cpus, with_depth, with_threaded, with_isr, with_dpc, with_timer, with_thread, with_apc, with_routine, with_exit, with_command, act, step, finish, line_step, go_on, walk, reading}
 use Rattle.nt_script.specs.Text.{Row, header_rows, input_rows, text, routine_rows}
 use Rattle.nt_script.proofs.Results.{bind_ok, ok_if_ok}
 use Rattle.nt_script.proofs.UsedNames.{AreFew, new_name_takes}

@@ -10,3 +10,4 @@ pub mod Gives
 pub mod Text
 pub mod Sound
 pub mod Fits
+pub mod Splitting

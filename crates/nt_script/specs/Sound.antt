@@ -7,7 +7,7 @@ use Rattle.nt_event.specs.declared.commands.Command.TheVariants.{Raise, Lower, S
 use Rattle.nt_event.specs.Script.{fits}
 use Rattle.nt_script.specs.declared.walk.Input.{Input}
 use Rattle.nt_script.specs.Places.{place}
-use Rattle.nt_script.specs.NameLists.{NameLists, all_names}
+use Rattle.nt_script.specs.NameLists.{all_names}
 use Rattle.nt_script.specs.Text.{text}
 
 -- each is a name, and differs from all before it

@@ -1,10 +1,10 @@
 -- The one text of an input, as rows of fields.
-use Rattle.std.specs.Prelude.{ℕ, Bool, List, [], ◌∷◌, ◌++◌, map, Option, Some, None, codes, decimal}
+use Rattle.std.specs.Prelude.{ℕ, Bool, List, [], ◌∷◌, ◌++◌, map, Option, Some, None, decimal}
 use Rattle.nt_text.specs.Lines.{rows_text}
 use Rattle.nt_event.specs.declared.numbers.CpuNo.{CpuNo}
 use Rattle.nt_event.specs.declared.numbers.RoutineNo.{RoutineNo}
 use Rattle.nt_event.specs.declared.commands.ApcKind.{ApcKind}
-use Rattle.nt_event.specs.declared.commands.ApcKind.TheVariants.{Special, Normal, User}
+use Rattle.nt_event.specs.declared.commands.ApcKind.TheVariants.{User}
 use Rattle.nt_event.specs.declared.commands.Command.{Command}
 use Rattle.nt_event.specs.declared.commands.Command.TheVariants as cmd
 use Rattle.nt_event.specs.declared.scripts.Routine.{Routine}

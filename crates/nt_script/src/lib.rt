@@ -12,16 +12,23 @@
 mod column;
 mod commands;
 mod declarations;
+mod laws;
 mod names;
 mod printing;
 mod reading;
 mod slots;
+mod splitting;
 mod walk;
 mod words;
 
+pub use laws::{one_text, texts_both_ways};
 pub use names::{Kind, Named, Names};
 pub use nt_text::{ScriptKind, What10};
 pub use printing::print;
-pub use reading::{ScriptRefusal, one_text, read};
+pub use reading::{ScriptRefusal, read};
+pub use splitting::{Split, split_at};
 pub use walk::Input;
 pub use words::{Place, Verb, Word, word_of};
+
+#[cfg(test)]
+mod tests;

@@ -4,8 +4,7 @@ ghost use Rattle.nt_text.specs.Lines.{lines, fields};
 ghost use Rattle.nt_script.specs.NameLists.{no_names};
 ghost use Rattle.nt_script.specs.Reading.{names_after, names_from, start, walk, reading};
 ghost use Rattle.nt_script.specs.Gives.{GivesInput};
-ghost use Rattle.nt_script.specs.Text.{text};
-ghost use Rattle.nt_script.specs.Sound.{IsSound, IsTextOf};
+ghost use Rattle.nt_script.specs.Sound.{IsTextOf};
 ghost use Rattle.nt_script.specs.declared.walk.Input.{Input};
 
 use crate::names::Names;
@@ -100,8 +99,3 @@ pub fn read(alloc: Global, bytes: &[u8]) -> Result<Input, ScriptRefusal>
 {
     read_all(alloc, bytes)
 }
-
-/// Each input has one text, and no two sound inputs have the same.
-pub fn one_text()
-    ensures { (a b : Input) → IsSound a → IsSound b → text a ≡ text b → a ≡ b }
-{}
