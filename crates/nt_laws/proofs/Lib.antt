@@ -1,1 +1,9 @@
 pub mod Untouched
+pub mod LeavingFacts
+pub mod Pending
+pub mod ThreadFrames
+pub mod Rundown
+pub mod RundownSteps
+pub mod RundownRun
+pub mod Leaves
+pub mod Deliveries

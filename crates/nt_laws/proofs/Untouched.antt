@@ -42,11 +42,11 @@ use Rattle.nt_event.specs.Words.{cpu, dpc, is_answer, is_of, table, table_from, 
 use Rattle.nt_event.proofs.Options.{both}
 use Rattle.nt_event.proofs.Tables.{get_or-table, table-same}
 
-get_or_past : {A : Type 0} (k n i : ℕ) (f : ℕ → A) (d : A) → n ≤ i → get_or (table_from k n f) i d ≡ d
+pub past_table : {A : Type 0} (k n i : ℕ) (f : ℕ → A) (d : A) → n ≤ i → get_or (table_from k n f) i d ≡ d
 unfolding table_from
-get_or_past k zero i f d h = refl
-get_or_past k (suc n) zero f d h = absurd (omega (arith, h))
-get_or_past k (suc n) (suc i) f d h = get_or_past (suc k) n i f d (omega (arith, h))
+past_table k zero i f d h = refl
+past_table k (suc n) zero f d h = absurd (omega (arith, h))
+past_table k (suc n) (suc i) f d h = past_table (suc k) n i f d (omega (arith, h))
 
 -- two tables are read alike at a place where their functions agree
 read_same : {A : Type 0} (n i : ℕ) (f g : ℕ → A) (d : A) → (i < n → f i ≡ g i) → get_or (table n f) i d ≡ get_or (table n g) i d
@@ -56,7 +56,7 @@ read_same n i f g d h = go (nat_lt i n) refl
     go true e =
         let l : i < n = ltb-true i n e in get_or-table n i f d l ∙ (h l ∙ sym (get_or-table n i g d l))
     go false e =
-        let l : n ≤ i = ltb-false i n e in get_or_past 0 n i f d l ∙ sym (get_or_past 0 n i g d l)
+        let l : n ≤ i = ltb-false i n e in past_table 0 n i f d l ∙ sym (past_table 0 n i g d l)
 
 first_false : (a b : Bool) → (a || b) ≡ false → a ≡ false
 first_false false b h = refl

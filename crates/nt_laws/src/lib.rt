@@ -3,7 +3,13 @@
 //! The definitions stand in nt_event; a run is a history each of whose events is the one that its turn gives.
 #![tactic(auto)]
 
+ghost use Rattle.nt_laws.specs.Deliveries.{DeliveriesAreEligible};
 ghost use Rattle.nt_laws.specs.Locality.{ChangesOwnLanesOnly};
+
+/// Deliveries are eligible: each Begin, Expire and Flush of a run delivers a request that was eligible just before it.
+pub fn deliveries_are_eligible()
+    ensures { DeliveriesAreEligible }
+{}
 
 /// An event changes the states of its own lanes only: what stands in a lane that it doesn't touch, and what that lane tells of
 /// requests, stays.
