@@ -65,4 +65,7 @@ pub trait Floor: Words {
 
     /// What was found stays found.
     ghost found_later: { (x y : Self) (n : ℕ) (e : Event) (f : Found) → Self.grows x y → found x n e f → found y n e f };
+
+    /// It stays a floor of the same script.
+    ghost script_stays: { (x y : Self) → Self.grows x y → script y ≡ script x };
 }
