@@ -7,3 +7,4 @@ pub mod RundownSteps
 pub mod RundownRun
 pub mod Leaves
 pub mod Deliveries
+pub mod Local

@@ -1,11 +1,30 @@
 -- Locality: an event reads and changes only what its processor keeps and the lanes that it touches.
-use Rattle.std.specs.Prelude.{List, false, ◌∷◌, ◌≡◌}
+use Rattle.std.specs.Prelude.{Bool, List, Ok, [], false, true, ℕ, ◌∷◌, ◌≡◌}
 use Rattle.nt_event.specs.declared.events.Event.{Event}
+use Rattle.nt_event.specs.declared.events.Turn.{Turn}
+use Rattle.nt_event.specs.declared.events.Turn.TheVariants.{Look as LookTurn}
 use Rattle.nt_event.specs.declared.jobs.Lane.{Lane}
 use Rattle.nt_event.specs.declared.scripts.Script.{Script}
 use Rattle.nt_event.specs.LaneStates.{lane_state}
-use Rattle.nt_event.specs.Lanes.{touches}
+use Rattle.nt_event.specs.Lanes.{lanes_of, touches}
+use Rattle.nt_event.specs.Own.{own_of}
+use Rattle.nt_event.specs.Step.{IsRun, cpu_at, step}
 
 -- an event that doesn't touch a lane of the script leaves what stands in it, and what it tells of requests
 abbrev pub ChangesOwnLanesOnly : Type 0
 ChangesOwnLanesOnly = (s : Script) (x : Lane) (e : Event) (past : List Event) → touches s x e past ≡ false → lane_state s x (e ∷ past) ≡ lane_state s x past
+
+-- two histories have the same states on each of these lanes
+abbrev pub SameOnEach : Script → List Event → List Event → List Lane → Type 0
+SameOnEach s h k [] = Unit {0}
+SameOnEach s h k (x ∷ xs) = (lane_state s x h ≡ lane_state s x k) × SameOnEach s h k xs
+
+-- the turn makes the next event, or takes up a thread
+abbrev pub makes : Turn → Bool
+makes (LookTurn p r) = false
+makes t = true
+
+-- the event of a turn Next or Switch is determined by what its processor keeps and the states of the lanes that it touches: where
+-- two runs agree on these, the turn gives the same event after both
+abbrev pub StepIsLocal : Type 0
+StepIsLocal = (s : Script) (limit : ℕ) (h k : List Event) (t : Turn) (e : Event) → IsRun s limit h → IsRun s limit k → makes t ≡ true → own_of s (cpu_at t) h ≡ own_of s (cpu_at t) k → step s limit t h ≡ Ok e → SameOnEach s h k (lanes_of s e h) → step s limit t k ≡ Ok e

@@ -4,7 +4,7 @@
 #![tactic(auto)]
 
 ghost use Rattle.nt_laws.specs.Deliveries.{DeliveriesAreEligible};
-ghost use Rattle.nt_laws.specs.Locality.{ChangesOwnLanesOnly};
+ghost use Rattle.nt_laws.specs.Locality.{ChangesOwnLanesOnly, StepIsLocal};
 
 /// Deliveries are eligible: each Begin, Expire and Flush of a run delivers a request that was eligible just before it.
 pub fn deliveries_are_eligible()
@@ -15,4 +15,10 @@ pub fn deliveries_are_eligible()
 /// requests, stays.
 pub fn an_event_changes_its_own_lanes_only()
     ensures { ChangesOwnLanesOnly }
+{}
+
+/// The event of a turn Next or Switch is determined by what its processor keeps and the states of the lanes that it touches: where
+/// two runs of one turn limit agree on these, the turn gives the same event after both.
+pub fn step_is_local()
+    ensures { StepIsLocal }
 {}
