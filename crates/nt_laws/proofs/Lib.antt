@@ -7,3 +7,6 @@ pub mod RundownSteps
 pub mod RundownRun
 pub mod Leaves
 pub mod Deliveries
+pub mod FatesElements
+pub mod FatesPicks
+pub mod FatesDeliveries
