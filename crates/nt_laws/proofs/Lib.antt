@@ -8,3 +8,6 @@ pub mod RundownRun
 pub mod Leaves
 pub mod Deliveries
 pub mod Local
+pub mod FatesElements
+pub mod FatesPicks
+pub mod FatesDeliveries

@@ -150,7 +150,7 @@ shrinks_without a q =
 shrinks_as : (q : ApcQueues) (x : ThreadFacts) → x.apcs ≡ q → Shrinks q x.apcs
 shrinks_as q x e = subst (Shrinks q) (sym e) (shrinks_same q)
 
-if_apcs : (b : Bool) (x y : ThreadFacts) (q : ApcQueues) → x.apcs ≡ q → y.apcs ≡ q → (if b then x else y).apcs ≡ q
+pub if_apcs : (b : Bool) (x y : ThreadFacts) (q : ApcQueues) → x.apcs ≡ q → y.apcs ≡ q → (if b then x else y).apcs ≡ q
 if_apcs true x y q h k = h
 if_apcs false x y q h k = k
 
@@ -158,7 +158,7 @@ set_apcs : (m : Mode) (b : Bool) (x : ThreadFacts) → (set_alerted m b x).apcs 
 set_apcs KernelMode b x = refl
 set_apcs UserMode b x = refl
 
-tested_apcs : (m : Mode) (x : ThreadFacts) → (alert_tested m x).apcs ≡ x.apcs
+pub tested_apcs : (m : Mode) (x : ThreadFacts) → (alert_tested m x).apcs ≡ x.apcs
 tested_apcs m x =
     if_apcs (is_alerted m x) (set_alerted m false x) (if is_user m && has_user x.apcs then record x { marked = true } else x) x.apcs (set_apcs m false x) (if_apcs (is_user m && has_user x.apcs) (record x { marked = true }) x x.apcs refl refl)
 
@@ -166,12 +166,12 @@ answered_apcs : (st : ℕ) (m : Mode) (a delay : Bool) (x : ThreadFacts) → (an
 answered_apcs st m a delay x =
     if_apcs (st == satisfied) (if delay then x else record x { released = false }) (if st == alerted then alert_taken m x else (if (st == user_apc) && a then record x { marked = true } else x)) x.apcs (if_apcs delay x (record x { released = false }) x.apcs refl refl) (if_apcs (st == alerted) (alert_taken m x) (if (st == user_apc) && a then record x { marked = true } else x) x.apcs (set_apcs (if is_alerted m x then m else KernelMode) false x) (if_apcs ((st == user_apc) && a) (record x { marked = true }) x x.apcs refl refl))
 
-waited_apcs : (n : ℕ) (r : Regions) (level : ℕ) (m : Mode) (a delay : Bool) (y : Reply) (x : ThreadFacts) → (waited n r level m a delay y x).apcs ≡ x.apcs
+pub waited_apcs : (n : ℕ) (r : Regions) (level : ℕ) (m : Mode) (a delay : Bool) (y : Reply) (x : ThreadFacts) → (waited n r level m a delay y x).apcs ≡ x.apcs
 waited_apcs n r level m a delay (Status st) x = answered_apcs st m a delay x
 waited_apcs n r level m a delay Blocked x = refl
 waited_apcs n r level m a delay y x = refl
 
-again_apcs : (n : ℕ) (r : Regions) (level : ℕ) (o : Option Again) (y : Reply) (x : ThreadFacts) → (waited_again n r level o y x).apcs ≡ x.apcs
+pub again_apcs : (n : ℕ) (r : Regions) (level : ℕ) (o : Option Again) (y : Reply) (x : ThreadFacts) → (waited_again n r level o y x).apcs ≡ x.apcs
 again_apcs n r level None y x = refl
 again_apcs n r level (Some w) y x = waited_apcs n r level w.mode w.alertable (is_some w.due) y x
 
@@ -209,13 +209,13 @@ if_shrinks : (b : Bool) (x y : ThreadFacts) → Shrinks x.apcs y.apcs → Shrink
 if_shrinks true x y h = h
 if_shrinks false x y h = shrinks_same x.apcs
 
-release_apcs : (x : ThreadFacts) → (release_facts x).apcs ≡ x.apcs
+pub release_apcs : (x : ThreadFacts) → (release_facts x).apcs ≡ x.apcs
 release_apcs x = if_apcs (ends_by_release x) (ended satisfied x) (if is_gone x then x else record x { released = true }) x.apcs refl (if_apcs (is_gone x) x (record x { released = true }) x.apcs refl refl)
 
-alert_apcs : (m : Mode) (x : ThreadFacts) → (alert_facts m x).apcs ≡ x.apcs
+pub alert_apcs : (m : Mode) (x : ThreadFacts) → (alert_facts m x).apcs ≡ x.apcs
 alert_apcs m x = if_apcs (is_gone x) x (if ends_by_alert m x then ended alerted x else set_alerted m true x) x.apcs refl (if_apcs (ends_by_alert m x) (ended alerted x) (set_alerted m true x) x.apcs refl (set_apcs m true x))
 
-expiry_apcs : (from : ℕ) (x : ThreadFacts) → (expiry_facts from x).apcs ≡ x.apcs
+pub expiry_apcs : (from : ℕ) (x : ThreadFacts) → (expiry_facts from x).apcs ≡ x.apcs
 expiry_apcs from x = if_apcs (ends_by_expiry from x) (ended satisfied x) x x.apcs refl refl
 
 no_insert : (b : Bool) → b ≡ false → (x y : ThreadFacts) → (if b then y else x) ≡ x
@@ -237,7 +237,7 @@ shrinks_then : (a b c : ApcQueues) → Shrinks a b → Shrinks b c → Shrinks a
 shrinks_then a b c h k = record { kernel = λ x. k.kernel (h.kernel x); closed = λ x. k.closed (h.closed x) }
 
 -- in a run nothing is inserted where the thread takes no more APCs
-yes_if_true : (b : Bool) → yes_if b ≡ Yes → b ≡ true
+pub yes_if_true : (b : Bool) → yes_if b ≡ Yes → b ≡ true
 yes_if_true true h = refl
 yes_if_true false h = cc
 

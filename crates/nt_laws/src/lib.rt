@@ -3,8 +3,12 @@
 //! The definitions stand in nt_event; a run is a history each of whose events is the one that its turn gives.
 #![tactic(auto)]
 
+mod fates;
+
 ghost use Rattle.nt_laws.specs.Deliveries.{DeliveriesAreEligible};
 ghost use Rattle.nt_laws.specs.Locality.{ChangesOwnLanesOnly, StepIsLocal};
+
+pub use fates::a_delivery_names_a_pending_insert;
 
 /// Deliveries are eligible: each Begin, Expire and Flush of a run delivers a request that was eligible just before it.
 pub fn deliveries_are_eligible()

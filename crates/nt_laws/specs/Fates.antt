@@ -1,0 +1,40 @@
+-- The fate of inserts in a run.
+use Rattle.std.specs.List.{Contains}
+use Rattle.std.specs.Prelude.{List, Some, ℕ, ◌∷◌, ◌≡◌}
+use Rattle.nt_event.specs.declared.events.Begun.TheVariants.{Apc, Dpc, Threaded}
+use Rattle.nt_event.specs.declared.events.Event.{Event}
+use Rattle.nt_event.specs.declared.events.What.{What}
+use Rattle.nt_event.specs.declared.events.What.TheVariants.{Begin, Flush}
+use Rattle.nt_event.specs.declared.inserts.Insert.{Insert}
+use Rattle.nt_event.specs.declared.inserts.Pick.{Pick}
+use Rattle.nt_event.specs.declared.numbers.ApcNo.{ApcNo}
+use Rattle.nt_event.specs.declared.numbers.CpuNo.{CpuNo}
+use Rattle.nt_event.specs.declared.numbers.DpcNo.{DpcNo}
+use Rattle.nt_event.specs.declared.numbers.ThreadNo.{ThreadNo}
+use Rattle.nt_event.specs.declared.scripts.Script.{Script}
+use Rattle.nt_event.specs.Frames.{running}
+use Rattle.nt_event.specs.Queues.{pending}
+use Rattle.nt_event.specs.Routines.{owner_of}
+use Rattle.nt_event.specs.Step.{IsRun}
+use Rattle.nt_event.specs.Waits.{facts}
+
+-- the insert of the DPC object at this number is pending in the queue of p
+abbrev pub DpcIsPending : Script → CpuNo → DpcNo → ℕ → List Event → Type 0
+DpcIsPending s p d n past = (x : Insert) × Contains (pending s p past) x × (x.dpc ≡ d) × (x.number ≡ n)
+
+-- the insert of the APC object at this number is pending at the thread
+abbrev pub ApcIsPending : Script → ThreadNo → ApcNo → ℕ → List Event → Type 0
+ApcIsPending s t a n past =
+    (x : Pick) × Contains (facts s t past).apcs.pending x × (x.apc ≡ a) × (x.number ≡ n)
+
+-- what an event of p delivers is pending: a DPC in the queue of p, an APC at its own thread, which runs on p
+abbrev pub NamesPending : Script → CpuNo → What → List Event → Type 0
+NamesPending s p (Begin (Dpc d) from) past = DpcIsPending s p d from past
+NamesPending s p (Begin (Threaded d) from) past = DpcIsPending s p d from past
+NamesPending s p (Begin (Apc a) from) past = (running p past ≡ Some (owner_of s a)) × ApcIsPending s (owner_of s a) a from past
+NamesPending s p (Flush a from) past = (running p past ≡ Some (owner_of s a)) × ApcIsPending s (owner_of s a) a from past
+NamesPending s p w past = Unit {0}
+
+-- in a run each Begin of a DPC or APC and each Flush names an insert of its object that was pending just before it
+abbrev pub DeliveriesNamePendingInserts : Type 0
+DeliveriesNamePendingInserts = (s : Script) (limit : ℕ) (e : Event) (past : List Event) → IsRun s limit (e ∷ past) → NamesPending s e.cpu e.what past
