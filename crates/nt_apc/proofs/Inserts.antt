@@ -1,5 +1,5 @@
 -- The list of pending inserts keeps each object once: pushes, removals and its length.
-use Rattle.std.proofs.Common.{◌+◌, inl, inr, ◌≡◌, ◌<◌, ◌≤◌, ◌||◌, Bool, true, false, ℕ, List, [], ◌∷◌, ◌++◌, length, not, None, Option, Some, refl, sym, ◌∙◌, ap, arith, eqb, take, drop, suc, subst}
+use Rattle.std.proofs.Common.{◌+◌, inl, inr, ◌≡◌, ◌<◌, ◌≤◌, ◌||◌, Bool, true, false, ℕ, List, [], ◌∷◌, ◌++◌, length, not, None, Some, refl, sym, ◌∙◌, ap, arith, eqb, suc, subst}
 use Rattle.std.proofs.Math.Numerals.{one-add}
 use Rattle.std.proofs.lemmas.Bool.{cases_lt, eqb-false, eqb-true, false≢true, le-ltb, lt-ltb, ne_eqb, or_cases, or_from, or_parts}
 use Rattle.std.proofs.lemmas.List.Folds.{list_any-append}

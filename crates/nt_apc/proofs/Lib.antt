@@ -1,4 +1,5 @@
 pub mod Firsts
 pub mod Inserts
+pub mod Least
 pub mod Reversed
 pub mod Views

@@ -1,2 +1,4 @@
 pub mod Objects
 pub mod Firsts
+pub mod Runs
+pub mod Laws

@@ -15,6 +15,7 @@
 #![tactic(auto)]
 
 mod items;
+pub mod laws;
 mod queues;
 #[cfg(test)]
 mod tests;

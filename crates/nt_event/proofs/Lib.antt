@@ -8,3 +8,14 @@ pub mod Running
 pub mod OwnPart
 pub mod Robin
 pub mod Settled
+pub mod Chosen
+pub mod Known
+pub mod Agree
+pub mod Stops
+pub mod Facts
+pub mod UserApcs
+pub mod Names
+pub mod Calm
+pub mod Shared
+pub mod Leaving
+pub mod Allowed

@@ -110,7 +110,7 @@ frame_comes s st l p x f again leaves =
     holds_or (EventOf s st l) (rewait_task f) _ (holds_when (EventOf s st l) (is_some f.again) (Some (Shared RewaitJob)) (λ h. rewait_comes s st l f again h)) (λ e. holds_or (EventOf s st l) (rundown_task f) _ (holds_when (EventOf s st l) f.leaving (Some (Shared RundownJob)) (λ h. rundown_comes s st l (leaves h))) (λ k. holds_or (EventOf s st l) (command_task x f (next_command s p f)) _ (command_comes s st l x f (next_command s p f)) (λ k2. holds_or (EventOf s st l) (normal_task f) _ (holds_when (EventOf s st l) (f.kernel_phase && has_normal f.body) (Some (Alone (Normal f.name))) (λ h. (_, refl))) (λ k3. end_comes s st l f.name f.body))))
 
 -- a frame always has something to do
-frame_has : (s : Script) (p : CpuNo) (x : Own) (f : Frame) → Comes (frame_task s p x f)
+pub frame_has : (s : Script) (p : CpuNo) (x : Own) (f : Frame) → Comes (frame_task s p x f)
 frame_has s p x f =
     comes_or (rewait_task f) _ (comes_or (rundown_task f) _ (comes_or (command_task x f (next_command s p f)) _ (comes_or (normal_task f) _ (_, refl))))
 
@@ -132,7 +132,7 @@ innermost_stands x f h own leaving = go x.own x.running refl refl
         cc
     go [] (Some t) a b = (t, b)
 
-again_stands : (p : CpuNo) (x : Frames) (sweep : Bool) (f : Frame) → innermost x ≡ Some f → (stand_of p x sweep).again ≡ f.again
+pub again_stands : (p : CpuNo) (x : Frames) (sweep : Bool) (f : Frame) → innermost x ≡ Some f → (stand_of p x sweep).again ≡ f.again
 again_stands p x sweep f h = ap (λ (o : Option Frame). option_and_then (λ g. g.again) o) h
 
 -- a processor without frames has no running thread
@@ -276,7 +276,7 @@ next_ready_taken s p last l =
     holds_or (λ t. may_take s p t l ≡ true) (find (is_after last) (ready s p l)) (head_of (ready s p l)) (find_ready s p l (is_after last) (ready s p l) all) (λ e. head_ready s p l (ready s p l) all)
 
 -- where there is none, no thread is ready
-none_ready : (s : Script) (p : CpuNo) (last : Option ThreadNo) (l : Lanes) → next_ready s p last l ≡ None → is_null (ready s p l) ≡ true
+pub none_ready : (s : Script) (p : CpuNo) (last : Option ThreadNo) (l : Lanes) → next_ready s p last l ≡ None → is_null (ready s p l) ≡ true
 none_ready s p last l h = go (ready s p l) h
   where
     go : (ts : List ThreadNo) → option_or (find (is_after last) ts) (head_of ts) ≡ None → is_null ts ≡ true
@@ -289,7 +289,7 @@ none_ready s p last l h = go (ready s p l) h
 
 -- ---- looks
 
-or_yes : (a b : Bool) → b ≡ true → (a || b) ≡ true
+pub or_yes : (a b : Bool) → b ≡ true → (a || b) ≡ true
 or_yes true b h = refl
 or_yes false b h = h
 

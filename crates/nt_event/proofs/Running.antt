@@ -51,7 +51,7 @@ called_body due (Delay m a u) y f = refl
 called_body due c Done f = done_body c f
 called_body due c y f = refl
 
-called_leaving : (due : Option ℕ) (c : Command) (y : Reply) (f : Frame) → (called due c y f).leaving ≡ f.leaving
+pub called_leaving : (due : Option ℕ) (c : Command) (y : Reply) (f : Frame) → (called due c y f).leaving ≡ f.leaving
 called_leaving due (StartWait m a) y f = refl
 called_leaving due (Delay m a u) y f = refl
 called_leaving due c Done f = done_leaving c f
@@ -135,7 +135,7 @@ switched_based t n st (f ∷ fs) (inr h) = head_based t (resumed st) f fs (resum
 
 -- ---- the thread that an event names
 
-thread_named : (s : Script) (limit : ℕ) (e : Event) (past : List Event) → IsLegal s limit e past → e.thread ≡ thread_field e.what (running e.cpu past)
+pub thread_named : (s : Script) (limit : ℕ) (e : Event) (past : List Event) → IsLegal s limit e past → e.thread ≡ thread_field e.what (running e.cpu past)
 thread_named s limit e past h = sym (ap (λ (f : Event). f.thread) (step_gives s limit e past h))
 
 -- an event but a Switch leaves the thread that ran, or none
@@ -148,7 +148,7 @@ kept (Rewait f Blocked) r t n h = cc
 kept w r t n h = h
 
 -- a thread that a Switch takes is one of the processor's
-taken : (s : Script) (limit : ℕ) (p : CpuNo) (t : ThreadNo) (past : List Event) (e : Event) → Gives (step s limit (SwitchTurn p t) past) e → (has_thread s t ≡ true) × ((cpu_of s t).0 ≡ p.0)
+pub taken : (s : Script) (limit : ℕ) (p : CpuNo) (t : ThreadNo) (past : List Event) (e : Event) → Gives (step s limit (SwitchTurn p t) past) e → (has_thread s t ≡ true) × ((cpu_of s t).0 ≡ p.0)
 taken s limit p t past e h =
     let k = switch_gives s limit p t past e h in
     let a = both (has_thread s t) _ k.1 in
@@ -182,16 +182,16 @@ pub record Based (s : Script) (p : CpuNo) (t : ThreadNo) (past : List Event) : T
   pub or_none : (thread_frames s p t past ≡ []) ⊎ HasBase t (thread_frames s p t past)
   pub running : running p past ≡ Some t → HasBase t (thread_frames s p t past)
 
-same_thread : (o : Option ThreadNo) (t : ThreadNo) → is_thread o t ≡ true → o ≡ Some t
+pub same_thread : (o : Option ThreadNo) (t : ThreadNo) → is_thread o t ≡ true → o ≡ Some t
 same_thread None t h = cc
 same_thread (Some u) t h =
     let n : u.0 ≡ t.0 = eqb-true u.0 t.0 h in ap (λ (k : ℕ). Some (record { 0 = k })) n
 
-not_itself : (t : ThreadNo) → is_thread (Some t) t ≡ false → ⊥
+pub not_itself : (t : ThreadNo) → is_thread (Some t) t ≡ false → ⊥
 not_itself t h = let k : (t.0 == t.0) ≡ true = eq-eqb t.0 t.0 refl in cc
 
 -- what an event of p leaves, where the event names the thread or doesn't
-frames_when : (s : Script) (p : CpuNo) (t : ThreadNo) (e : Event) (past : List Event) (b : Bool) → is_of e p ≡ true → is_by e t ≡ b → thread_frames s p t (e ∷ past) ≡ thread_if b s (length past) (due_of e.what (time past)) e.what (thread_frames s p t past)
+pub frames_when : (s : Script) (p : CpuNo) (t : ThreadNo) (e : Event) (past : List Event) (b : Bool) → is_of e p ≡ true → is_by e t ≡ b → thread_frames s p t (e ∷ past) ≡ thread_if b s (length past) (due_of e.what (time past)) e.what (thread_frames s p t past)
 frames_when s p t e past b own k = rw (own, k) refl
 
 -- the event names the thread: it takes it up, ends it, or was made while it ran
@@ -209,7 +209,7 @@ named_by s p t n due fs r w k or run =
     let h : HasBase t (thread_after s n due w fs) = after_based t s n due w fs refl refl (run k) in (inr h, λ x. h)
 
 -- the event doesn't name the thread: it doesn't take it up
-unnamed_by : (s : Script) (limit : ℕ) (p : CpuNo) (t : ThreadNo) (e : Event) (past : List Event) (w : What) → e.what ≡ w → is_by e t ≡ false → is_of e p ≡ true → IsLegal s limit e past → running_after w (running p past) ≡ Some t → running p past ≡ Some t
+pub unnamed_by : (s : Script) (limit : ℕ) (p : CpuNo) (t : ThreadNo) (e : Event) (past : List Event) (w : What) → e.what ≡ w → is_by e t ≡ false → is_of e p ≡ true → IsLegal s limit e past → running_after w (running p past) ≡ Some t → running p past ≡ Some t
 unnamed_by s limit p t e past (Switch u st) k b own g x =
     let same : u ≡ t = cc in
     let named : e.thread ≡ Some u = thread_named s limit e past g ∙ ap (λ (w : What). thread_field w (running e.cpu past)) k in
@@ -220,7 +220,7 @@ pub same_cpu : (e : Event) (p : CpuNo) → is_of e p ≡ true → e.cpu ≡ p
 same_cpu e p h =
     let n : e.cpu.0 ≡ p.0 = eqb-true e.cpu.0 p.0 h in ap (λ (k : ℕ). record { 0 = k }) n
 
-running_own : (p : CpuNo) (e : Event) (past : List Event) → is_of e p ≡ true → running p (e ∷ past) ≡ running_after e.what (running p past)
+pub running_own : (p : CpuNo) (e : Event) (past : List Event) → is_of e p ≡ true → running p (e ∷ past) ≡ running_after e.what (running p past)
 running_own p e past h = rw h
 
 based_named : (s : Script) (limit : ℕ) (p : CpuNo) (t : ThreadNo) (e : Event) (past : List Event) → is_of e p ≡ true → is_by e t ≡ true → IsLegal s limit e past → Based s p t past → Based s p t (e ∷ past)

@@ -52,13 +52,13 @@ is_next w = true
 abbrev IsNext : What → Type 0
 IsNext w = is_next w ≡ true
 
-abbrev is_chosen : Job → Bool
+abbrev pub is_chosen : Job → Bool
 is_chosen (PickJob last) = true
 is_chosen (SwitchJob t) = true
 is_chosen j = false
 
 -- a task that makes no choice of thread
-abbrev NextTask : Task → Type 0
+abbrev pub NextTask : Task → Type 0
 NextTask (Alone w) = IsNext w
 NextTask (Shared j) = is_chosen j ≡ false
 

@@ -7,7 +7,7 @@ use Rattle.nt_event.specs.declared.commands.Reply.TheVariants.{Done}
 use Rattle.nt_event.specs.declared.events.Begun.TheVariants.{Apc, Dpc, Int, Threaded}
 use Rattle.nt_event.specs.declared.events.Event.{Event}
 use Rattle.nt_event.specs.declared.events.What.{What}
-use Rattle.nt_event.specs.declared.events.What.TheVariants.{Begin, Call, End, Flush, Gone, Rest, Rewait, Switch}
+use Rattle.nt_event.specs.declared.events.What.TheVariants.{Begin, Call, End, Flush, Gone, Rewait, Switch}
 use Rattle.nt_event.specs.declared.jobs.Job.{Job}
 use Rattle.nt_event.specs.declared.jobs.Job.TheVariants.{Apcs as ApcsJob, Call as CallJob, Leave as LeaveJob, Pick as PickJob, Rewait as RewaitJob, Rundown as RundownJob, Switch as SwitchJob, ToUser as ToUserJob, UserEnd as UserEndJob}
 use Rattle.nt_event.specs.declared.jobs.Stand.{Stand}
@@ -15,18 +15,17 @@ use Rattle.nt_event.specs.declared.jobs.Task.TheVariants.{Shared}
 use Rattle.nt_event.specs.declared.numbers.CpuNo.{CpuNo}
 use Rattle.nt_event.specs.declared.numbers.ThreadNo.{ThreadNo}
 use Rattle.nt_event.specs.declared.scripts.Script.{Script}
-use Rattle.nt_event.specs.Apcs.{has_kernel}
+use Rattle.nt_event.specs.declared.threads.Doing.TheVariants.{Running as IsRunning}
 use Rattle.nt_event.specs.Commands.{needs_lane}
+use Rattle.nt_event.specs.Frames.{frames_of}
 use Rattle.nt_event.specs.Jobs.{job_event, may_switch, task}
 use Rattle.nt_event.specs.Lanes.{Lanes, facts_at, lanes_at}
 use Rattle.nt_event.specs.Own.{Own, own_of}
 use Rattle.nt_event.specs.Regions.{stand_at}
 use Rattle.nt_event.specs.Routines.{cpu_of}
 use Rattle.nt_event.specs.Step.{IsRun, event_at, thread_field}
-use Rattle.nt_event.specs.Frames.{frames_of}
 use Rattle.nt_event.specs.Threads.{doing_level}
 use Rattle.nt_event.specs.Words.{is_blocked}
-use Rattle.nt_event.specs.declared.threads.Doing.TheVariants.{Running as IsRunning}
 
 -- ---- the event
 
@@ -67,14 +66,10 @@ pub record InThread (n : ℕ) (st : Stand) : Type 0 where
   pub thread : IsSome st.thread
   pub level : st.level ≤ n
 
--- a thread ends that takes no more APCs, and all its kernel APCs are delivered
-pub record IsLeaving (l : Lanes) (t : ThreadNo) : Type 0 where
-  pub leaving : (facts_at l t).leaving ≡ true
-  pub delivered : has_kernel (facts_at l t).apcs ≡ false
-
+-- a thread runs whose base routine has ended
 pub record EndsThread (l : Lanes) (st : Stand) : Type 0 where
   pub thread : IsSome st.thread
-  pub leaves : IfSome st.thread (λ t. IsLeaving l t)
+  pub leaves : IfSome st.thread (λ t. (facts_at l t).leaving ≡ true)
 
 pub record TakesUp (st : Stand) : Type 0 where
   pub thread : IsSome st.thread

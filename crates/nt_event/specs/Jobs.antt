@@ -247,3 +247,7 @@ rests x = x.rested && not (must x)
 abbrev pub chosen_task : Script → CpuNo → Own → Option Task
 chosen_task s p x =
     if rests x then None else (if may_switch x then Some (Shared (PickJob x.took)) else task s p x)
+
+-- the event that it makes so
+abbrev pub chosen_what : Script → CpuNo → Own → Lanes → Option What
+chosen_what s p x l = option_and_then (task_event s (standing_in p x) l) (chosen_task s p x)

@@ -1,22 +1,28 @@
 -- Laws over the definitions, each the contract of a function in laws.rt.
-use Rattle.std.specs.Prelude.{List, None, Ok, Some, [], false, if◌then◌else◌, length, true, ℕ, ◌↔◌, ◌∷◌, ◌≡◌, ◌≤◌}
+use Rattle.std.specs.Option.{option_map_or}
+use Rattle.std.specs.Prelude.{List, None, Ok, Some, [], false, if◌then◌else◌, is_some, length, nat_lt, not, true, ℕ, ◌↔◌, ◌∷◌, ◌≡◌, ◌≤◌}
 use Rattle.nt_event.specs.declared.events.Event.{Event}
 use Rattle.nt_event.specs.declared.events.Turn.{Turn}
+use Rattle.nt_event.specs.declared.events.What.{What}
 use Rattle.nt_event.specs.declared.frames.Body.TheVariants.{Base as OnBase}
 use Rattle.nt_event.specs.declared.frames.Frame.{Frame}
 use Rattle.nt_event.specs.declared.numbers.CpuNo.{CpuNo}
 use Rattle.nt_event.specs.declared.numbers.ThreadNo.{ThreadNo}
 use Rattle.nt_event.specs.declared.scripts.Script.{Script}
-use Rattle.nt_event.specs.Frames.{due_of, frames_of, is_base_body, level_in, running, thread_part, time}
+use Rattle.nt_event.specs.declared.threads.Doing.{Doing}
+use Rattle.nt_event.specs.declared.threads.Doing.TheVariants.{Blocked as IsBlocked, Gone as IsGone, Ready as IsReady, Running as IsRunning}
+use Rattle.nt_event.specs.Frames.{due_of, frames_of, is_base_body, level_in, running, thread_frames, thread_part, time}
+use Rattle.nt_event.specs.Jobs.{chosen_what, rests}
 use Rattle.nt_event.specs.Lanes.{lanes_after, lanes_at}
 use Rattle.nt_event.specs.Own.{own_after_event, own_of}
-use Rattle.nt_event.specs.Regions.{stand_at}
+use Rattle.nt_event.specs.Regions.{regions_of, stand_at}
 use Rattle.nt_event.specs.Requests.{asked, asks, seen, told}
-use Rattle.nt_event.specs.Robin.{is_settled, robin}
+use Rattle.nt_event.specs.Robin.{go_on_turn, is_settled, robin}
 use Rattle.nt_event.specs.Routines.{cpu_of}
 use Rattle.nt_event.specs.Script.{has_thread}
-use Rattle.nt_event.specs.Step.{IsLegal, IsRun, is_look, step, turn_of, turns}
-use Rattle.nt_event.specs.Words.{is_of}
+use Rattle.nt_event.specs.Step.{IsLegal, IsRun, event_at, is_cut, is_look, step, turn_of, turns}
+use Rattle.nt_event.specs.Waits.{facts}
+use Rattle.nt_event.specs.Words.{head_of, is_of}
 
 -- what a processor keeps moves as the history does
 abbrev pub OwnMoves : Type 0
@@ -63,3 +69,30 @@ SeenWasAsked = (s : Script) (limit : ℕ) (p : CpuNo) (c : ℕ) (past : List Eve
 -- in a run, the robin rule has no turn exactly where the history is settled
 abbrev pub RobinEndsSettled : Type 0
 RobinEndsSettled = (s : Script) (limit : ℕ) (past : List Event) → IsRun s limit past → (robin s limit past ≡ None) ↔ (is_settled s limit past ≡ true)
+
+-- in a run, what an uncut processor that picks its threads itself does is what the robin rule's turn of it gives, but for looks
+abbrev pub ChosenIsItsTurn : Type 0
+ChosenIsItsTurn = (s : Script) (limit : ℕ) (p : CpuNo) (past : List Event) (w : What) → IsRun s limit past → nat_lt p.0 s.cpus ≡ true → is_cut limit (own_of s p past) ≡ false → chosen_what s p (own_of s p past) (lanes_at s past) ≡ Some w → step s limit (go_on_turn s p (own_of s p past) (lanes_at s past)) past ≡ Ok (event_at s p w (frames_of s p past))
+
+-- and there is such an event exactly where the processor doesn't rest
+abbrev pub ChosenComes : Type 0
+ChosenComes = (s : Script) (limit : ℕ) (p : CpuNo) (past : List Event) → IsRun s limit past → is_some (chosen_what s p (own_of s p past) (lanes_at s past)) ≡ not (rests (own_of s p past))
+
+-- the level of the innermost frame of a thread
+abbrev pub level_of : List Frame → ℕ
+level_of fs = option_map_or (λ f. f.level) (head_of fs) 0
+
+-- what the facts say of the frames, where the thread runs or not
+abbrev pub Says : Doing → List Frame → Type 0 → Type 0
+Says IsRunning fs runs = runs
+Says (IsReady level st) fs runs = (runs → ⊥) × (level ≡ level_of fs)
+Says (IsBlocked w) fs runs = (runs → ⊥) × (w.level ≡ level_of fs) × (w.regions ≡ regions_of fs)
+Says IsGone fs runs = (runs → ⊥) × (fs ≡ [])
+
+abbrev pub Agrees : Script → ThreadNo → List Event → Type 0
+Agrees s t past = Says (facts s t past).doing (thread_frames s (cpu_of s t) t past) (running (cpu_of s t) past ≡ Some t)
+
+-- in a run, the facts of each thread agree with its frames: it runs where they say so, and one that doesn't run has the level
+-- and, blocked, the regions with which it stopped; one that is gone has no frame
+abbrev pub FactsAgree : Type 0
+FactsAgree = (s : Script) (limit : ℕ) (t : ThreadNo) (past : List Event) → IsRun s limit past → Agrees s t past

@@ -1,5 +1,6 @@
 //! Laws over the definitions. Each function's contract is a law; the functions do nothing.
-ghost use Rattle.nt_event.specs.Laws.{OwnMoves, LanesMove, TurnsDecide, RunGrows, LevelsHold, RunningHasBase, RobinIsAccepted, SeenWasAsked, RobinEndsSettled};
+ghost use Rattle.nt_event.specs.Laws.{OwnMoves, LanesMove, TurnsDecide, RunGrows, LevelsHold, RunningHasBase, RobinIsAccepted, SeenWasAsked, RobinEndsSettled, ChosenIsItsTurn, ChosenComes, FactsAgree};
+ghost use Rattle.nt_event.specs.Acting.{EventsAgree, ProcessorsStand, JobsAllowed};
 
 /// What a processor keeps moves as the history does: an event of its own changes it as the definitions of the step say, by the
 /// event's number, its due time, its asks and what its lanes tell; an event of another processor leaves it.
@@ -45,4 +46,36 @@ pub fn seen_was_asked()
 /// In a run the robin rule has no turn exactly where the history is settled.
 pub fn robin_ends_settled()
     ensures { RobinEndsSettled }
+{}
+
+/// In a run, what an uncut processor that picks its threads itself does is what the robin rule's turn of it gives, but for looks.
+pub fn chosen_is_its_turn()
+    ensures { ChosenIsItsTurn }
+{}
+
+/// In a run, a processor that picks its threads itself has something to do exactly where it does not rest.
+pub fn chosen_comes()
+    ensures { ChosenComes }
+{}
+
+/// In a run the facts of each thread agree with its frames: it runs where its facts say so, one that does not run has the level
+/// and, blocked, the regions with which it stopped, and one that is gone has no frame.
+pub fn facts_agree()
+    ensures { FactsAgree }
+{}
+
+/// In a run the event of a job that is due is told by where its processor stands and the states of the lanes alone: its thread and
+/// its level too.
+pub fn events_agree()
+    ensures { EventsAgree }
+{}
+
+/// In a run a processor stands as its lanes say: the thread that runs on it is one of its own, and its facts say that it runs.
+pub fn processors_stand()
+    ensures { ProcessorsStand }
+{}
+
+/// In a run a job that is due is allowed where its processor stands.
+pub fn jobs_allowed()
+    ensures { JobsAllowed }
 {}

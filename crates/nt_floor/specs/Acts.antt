@@ -1,6 +1,6 @@
 -- What one event under lanes is and leaves, by the states of the lanes that it was made in.
 use Rattle.std.specs.List.{list_any}
-use Rattle.std.specs.Prelude.{Bool, IfSome, IsTrue, List, None, Option, Some, [], max, true, ℕ, ◌&&◌, ◌<◌, ◌^◌, ◌∷◌, ◌≡◌}
+use Rattle.std.specs.Prelude.{All, Bool, IfSome, IsTrue, List, None, Option, Some, [], max, true, ℕ, ◌&&◌, ◌<◌, ◌^◌, ◌∷◌, ◌≡◌}
 use Rattle.nt_event.specs.declared.events.What.{What}
 use Rattle.nt_event.specs.declared.jobs.Job.{Job}
 use Rattle.nt_event.specs.declared.jobs.Job.TheVariants.{Call as CallJob, Fire as FireJob, Idle as IdleJob, Switch as SwitchJob}
@@ -13,6 +13,7 @@ use Rattle.nt_event.specs.Frames.{due_of}
 use Rattle.nt_event.specs.Jobs.{job_event}
 use Rattle.nt_event.specs.Lanes.{Lanes, same_lane, what_lanes}
 use Rattle.nt_event.specs.Requests.{asks_in, raised}
+use Rattle.nt_event.specs.Routines.{kind_of}
 use Rattle.nt_event.specs.Script.{command_fits, has_cpu, has_dpc, has_thread}
 use Rattle.nt_event.specs.Words.{value_at}
 use Rattle.nt_floor.specs.declared.floor.ActRefusal.{ActRefusal}
@@ -59,16 +60,22 @@ told_over told (x ∷ xs) p c = max (told x p c) (told_over told xs p c)
 abbrev pub is_among : Lane → List Lane → Bool
 is_among x lanes = list_any (same_lane x) lanes
 
+-- each pending APC of each thread has the kind that the script gives its object
+abbrev pub KindsFit : Script → Lanes → Type 0
+KindsFit s l = All (λ x. All (λ pick. pick.kind ≡ kind_of s pick.apc) x.apcs.pending) l.threads
+
 -- what the lanes tell after the event of this number: those that it touches know its asks
 abbrev pub told_after : Script → ℕ → Stand → What → Found → Told
 told_after s n st w f x p c =
     raised (is_among x (what_lanes s st w f.lanes) && asks_in s st w f.lanes p c) n (f.told x p c)
 
--- the answer of an act that found these states: the event is the one of the job there; its due time, if it calls a delay; and
--- per class the greatest value that the touched lanes tell for the processor, the event's own asks among them
+-- the answer of an act that found these states: the event is the one of the job there; the APCs that are pending there are of
+-- their objects' kinds; the event's due time, if it calls a delay; and per class the greatest value that the touched lanes
+-- tell for the processor, the event's own asks among them
 pub record IsActed (s : Script) (f : Found) (st : Stand) (job : Job) (a : Acted) : Type 0 where
   pub what : job_event s st f.lanes job ≡ Some a.event.what
   pub event : a.event ≡ acted_event st f.lanes a.event.what
+  pub kinds : KindsFit s f.lanes
   pub due : a.due ≡ due_of a.event.what f.lanes.timers.now
   pub due_fits : IfSome a.due (λ due. due < 2 ^ 51)
   pub told : (c : ℕ) → c < 16 → value_at a.told.value c ≡ raised (asks_in s st a.event.what f.lanes st.cpu c) a.number (told_over f.told (what_lanes s st a.event.what f.lanes) st.cpu c)

@@ -1,5 +1,5 @@
 -- What contracts see of words and floors, and what each call does to it.
-use Rattle.std.specs.Prelude.{Bool, IfSome, Option, if◌then◌else◌, max, true, ℕ, ◌&&◌, ◌+◌, ◌<◌, ◌==◌, ◌||◌, ◌≡◌, ◌≤◌}
+use Rattle.std.specs.Prelude.{Bool, IfSome, Option, if◌then◌else◌, max, true, ℕ, ◌&&◌, ◌+◌, ◌<◌, ◌==◌, ◌^◌, ◌||◌, ◌≡◌, ◌≤◌}
 use Rattle.nt_event.specs.declared.events.Event.{Event}
 use Rattle.nt_event.specs.declared.jobs.Lane.{Lane}
 use Rattle.nt_event.specs.declared.jobs.Stand.{Stand}
@@ -43,10 +43,11 @@ pub record SameFloor (v w : View) : Type 0 where
   pub states : w.states ≡ v.states
   pub told : (x : Lane) (p : CpuNo) (c : ℕ) → HasWord v p c → w.told x p c ≡ v.told x p c
 
--- the number of an event was drawn: not below the least next one, and exactly it where nobody else draws
+-- the number of an event was drawn: not below the least next one, and exactly it where nobody else draws; its ask fits 64 bits
 pub record IsDrawn (n : ℕ) (e : Event) (v w : View) : Type 0 where
   pub least : v.next ≤ n
   pub exact : v.alone ≡ true → n ≡ v.next
+  pub fits : n + 1 < 2 ^ 64
   pub next : w.next ≡ n + 1
   pub left : w.left + 1 ≡ v.left
   pub lists : w.lists ≡ with_draw n e v.lists

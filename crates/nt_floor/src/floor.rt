@@ -54,7 +54,7 @@ pub trait Floor: Words {
         requires met { IsMet (script self.old) (Self.view self.old).states stand job }
 
         ensures event { IfOk result (λ a. (f : Found) × found self.new a.number a.event f × (IsActed (script self.old) f stand job a × IsMoved (script self.old) a.number a.event stand f (Self.view self.old) (Self.view self.new))) }
-        ensures told { IfOk result (λ a. (c : ℕ) → c < 16 → value_at a.told.value c ≤ (Self.view self.new).value stand.cpu c) }
+        ensures told { IfOk result (λ a. (c : ℕ) → c < 16 → (value_at a.told.value c ≤ (Self.view self.new).value stand.cpu c) × (value_at a.told.value c ≤ (Self.view self.new).next)) }
 
         ensures cause { IfErr result (λ r. (f : Found) × shows self.new f × (Tells (Self.view self.old).states f.lanes × IsRefused (script self.old) f stand job r)) }
         ensures refused { OnErr result (IsUnmoved (Self.view self.old) (Self.view self.new)) }

@@ -1,5 +1,5 @@
 -- A routine that may begin here finds room, and the frames stay nested.
-use Rattle.std.proofs.Common.{◌≡◌, ℕ, ◌+◌, ◌<◌, ◌≤◌, ◌^◌, Bool, true, false, not, ◌&&◌, ◌||◌, ◌==◌, nat_lt, Option, None, Some, is_none, List, [], ◌∷◌, All, get_or, length, arith, sym, ◌∙◌, ap, refl, lit<, lit≤,}
+use Rattle.std.proofs.Common.{◌≡◌, ℕ, ◌+◌, ◌<◌, ◌≤◌, ◌^◌, Bool, true, false, not, ◌&&◌, ◌||◌, ◌==◌, nat_lt, Option, None, Some, is_none, List, [], ◌∷◌, All, get_or, length, arith, sym, ◌∙◌, ap, subst, refl, lit<, lit≤}
 use Rattle.std.proofs.lemmas.List.Sums.{sum_by-cons}
 use Rattle.std.specs.Option.{option_map_or, option_or}
 use Rattle.nt_event.specs.declared.commands.ApcKind.{ApcKind}
@@ -19,12 +19,12 @@ use Rattle.nt_event.specs.Frames.{Frames, base_level, base_of, frames_in, innerm
 use Rattle.nt_event.specs.Regions.{busy_of, crit_of, guard_of, regions_of}
 use Rattle.nt_event.specs.Script.{is_isr_level}
 use Rattle.nt_event.specs.Words.{head_of, is_null}
-use Rattle.nt_frame.specs.Changes.{begun, is_own, on_part}
+use Rattle.nt_frame.specs.Changes.{begun, is_own, on_part, on_running, on_thread}
 use Rattle.nt_frame.specs.Nesting.{AreNamedBelow, AreNested, AreNewer, IsFrame, IsOver, IsPart, IsThreadPart, has_isr_level, is_special_body, next_name, rank}
 use Rattle.nt_frame.specs.Rules.{is_leaving, may_begin, refusal_in, regions_in}
 use Rattle.nt_frame.proofs.Nested.{on_own_nested, on_running_nested, thread_part_nested}
 use Rattle.nt_frame.proofs.Ranks.{below_apc, below_dpc, below_int, below_normal, length-under, rank_bounds, thread_rank_bound}
-use Rattle.nt_frame.proofs.Tests.{and_left, and_right, lt_is, none_is, null_is, zero_is}
+use Rattle.nt_frame.proofs.Booleans.{and_left, and_right, lt_is, none_is, null_is, zero_is}
 
 -- ---- the new frame
 
@@ -196,6 +196,11 @@ thread_begun n b x h m k o =
       crit = omega (arith, p.crit, sum_by-cons (λ f. f.crit) (new_frame n b) (thread_part x));
       guard = omega (arith, p.guard, sum_by-cons (λ f. f.guard) (new_frame n b) (thread_part x));
     })
+
+-- the same on the part of the thread that runs
+pub begun_on : (n : ℕ) (b : Body) (x : Frames) (t : ThreadNo) → AreNested x → may_begin b x ≡ true → AreNamedBelow n x → is_own b ≡ false → x.running ≡ Some t → AreNested (on_thread (λ fs. new_frame n b ∷ fs) t x)
+begun_on n b x t h m k o e =
+    subst (λ (r : Option ThreadNo). AreNested (on_running (λ fs. new_frame n b ∷ fs) r x)) e (thread_begun n b x h m k o)
 
 pub begun_nested : (n : ℕ) (b : Body) (x : Frames) → AreNested x → may_begin b x ≡ true → AreNamedBelow n x → AreNested (begun n b x)
 begun_nested n b x h m k = go (is_own b) refl

@@ -10,8 +10,7 @@ use Rattle.nt_event.specs.Frames.{base_level, is_apc_body, is_normal_apc_body}
 use Rattle.nt_event.specs.Script.{is_isr_level}
 use Rattle.nt_frame.specs.Changes.{is_own}
 use Rattle.nt_frame.specs.Nesting.{IsFrame, IsOver, IsPart, has_isr_level, is_special_body, rank}
-use Rattle.nt_frame.proofs.Tests.{isr_level_is}
-
+use Rattle.nt_frame.proofs.Booleans.{isr_level_is}
 
 int_rank_bounds : (l : ℕ) → (3 ≤ l) × (l ≤ 14) × (l ≡ 12 → ⊥) → (3 ≤ (if nat_lt l 12 then l else (l - 1))) × ((if nat_lt l 12 then l else (l - 1)) ≤ 13)
 int_rank_bounds l h = (grind (arith, nat_tests), grind (arith, nat_tests))

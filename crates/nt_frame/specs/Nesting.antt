@@ -1,5 +1,5 @@
 -- How frames stand over each other, and what this says of their number.
-use Rattle.std.specs.Prelude.{Bool, List, [], All, IfSome, false, if◌then◌else◌, length, nat_lt, true, ℕ, ◌+◌, ◌-◌, ◌<◌, ◌^◌, ◌∷◌, ◌≡◌, ◌≤◌}
+use Rattle.std.specs.Prelude.{Bool, List, None, [], All, IfSome, false, if◌then◌else◌, length, nat_lt, true, ℕ, ◌+◌, ◌-◌, ◌<◌, ◌^◌, ◌∷◌, ◌≡◌, ◌≤◌}
 use Rattle.nt_event.specs.declared.commands.ApcKind.{ApcKind}
 use Rattle.nt_event.specs.declared.commands.ApcKind.TheVariants.{Normal, Special, User}
 use Rattle.nt_event.specs.declared.frames.Body.{Body}
@@ -78,3 +78,8 @@ pub record AreNested (x : Frames) : Type 0 where
   pub threads : All IsThreadPart x.threads
   pub running : IfSome x.running (λ t. t.0 < length x.threads)
   pub newer : AreNewer x.own x.threads
+
+-- no frame of the own part has a wait to take up
+abbrev pub HaveNoWaits : List Frame → Type 0
+HaveNoWaits [] = Unit {0}
+HaveNoWaits (f ∷ fs) = (f.again ≡ None) × HaveNoWaits fs

@@ -14,6 +14,7 @@ use Rattle.nt_event.specs.declared.frames.Region.TheVariants.{Crit, Guard}
 use Rattle.nt_event.specs.Apcs.{lets_through}
 use Rattle.nt_event.specs.Commands.{refusal}
 use Rattle.nt_event.specs.Frames.{Frames, innermost, is_base_body, is_normal_apc_body, is_on_thread, level_in, thread_part}
+use Rattle.nt_event.specs.Jobs.{has_normal}
 use Rattle.nt_event.specs.Regions.{below_in, is_open, regions_of, some_came_to_0}
 use Rattle.nt_event.specs.Script.{is_isr_level}
 use Rattle.nt_event.specs.Words.{is_null, is_thread}
@@ -48,6 +49,10 @@ is_leaving x = option_map_or (λ f. f.leaving) (innermost x) false
 -- the innermost frame is a base
 abbrev pub is_at_base : Frames → Bool
 is_at_base x = option_map_or (λ f. is_base_body f.body) (innermost x) false
+
+-- the innermost frame is an APC in its kernel routine, with a normal routine behind it
+abbrev pub may_go_on : Frames → Bool
+may_go_on x = option_map_or (λ f. f.kernel_phase && has_normal f.body) (innermost x) false
 
 -- a routine may begin here, as far as the frames tell: an interrupt above the level; a DPC below DISPATCH_LEVEL; a threaded
 -- DPC at PASSIVE_LEVEL with no frame on the own part (profile); a kernel APC at PASSIVE_LEVEL in a thread whose regions let

@@ -1,23 +1,28 @@
 //! The frames of one processor and its threads.
-ghost use Rattle.std.specs.Prelude.{◌≡◌, ◌<◌, ◌↔◌, ◌+◌, IsTrue, IsSome, IsOk, IfOk, IfErr, OnOk, OnErr, Some, None, length, option_map, false};
+ghost use Rattle.std.specs.Prelude.{◌≡◌, ◌<◌, ◌≤◌, ◌↔◌, ◌+◌, ◌==◌, [], true, IsTrue, IsSome, IsOk, IfOk, IfErr, OnOk, OnErr, Some, None, length, option_copied, option_map, IfSome, not, false};
 ghost use Rattle.std.specs.Option.{ForSome};
-ghost use Rattle.nt_event.specs.Commands.{refusal};
-ghost use Rattle.nt_event.specs.Frames.{base_of, done_to, frames_in, innermost, left, level_in, normal_of};
-ghost use Rattle.nt_event.specs.Words.{head_of};
+ghost use Rattle.nt_event.specs.Frames.{done_to, frames_in, innermost, is_on_thread as on_thread_part, left, level_in, normal_of};
+ghost use Rattle.nt_event.specs.Words.{head_of, is_null};
 ghost use Rattle.nt_event.specs.Regions.{below_in, some_came_to_0};
 ghost use Rattle.nt_frame.specs.Changes.{at_innermost, begun, closed, no_frames, without_innermost};
-ghost use Rattle.nt_frame.specs.Nesting.{AreNamedBelow, AreNested};
-ghost use Rattle.nt_frame.specs.Rules.{count_of, end_asks_apc, enter_of, is_at_base, is_leaving, leave_of, may_begin, refusal_in, regions_in};
+ghost use Rattle.nt_frame.specs.Nesting.{AreNamedBelow, AreNested, IsThreadPart};
+ghost use Rattle.nt_frame.specs.Rules.{count_of, end_asks_apc, enter_of, is_at_base, is_leaving, leave_of, may_begin, may_go_on, refusal_in, regions_in};
 ghost use Rattle.nt_frame.specs.Views.{view_of};
 
-use crate::FrameView;
-
-use crate::part::Part;
-
-use nt_event::{CpuNo, Frame, Regions, ThreadNo};
+use crate::frame::{at_normal, is_own, leaving, new_frame};
+use crate::part::{Part, is_normal_apc};
+use crate::refusals::refusal;
+use crate::{FrameView, parts};
+use nt_event::{Again, Body, Command, CpuNo, Frame, Refusal, Region, Regions, ThreadNo};
 use nt_level::Level;
 use std::alloc::{AllocError, Global};
 use std::marker::Model;
+
+const NO_REGIONS: Regions = Regions {
+    crit: 0,
+    guard: 0,
+    busy: false,
+};
 
 /// The frames of one processor: those on its own part, and those of each thread.
 #[derive(Drop, Debug)]
@@ -77,18 +82,54 @@ impl Frames {
     pub fn regions(&self) -> Regions
         ensures { result ≡ regions_in self.now }
     {
-        let part = match self.running {
-            Some(t) => self.threads.get(t.0 as usize),
-            None => None,
-        };
-        match part {
+        match self.running_part() {
             Some(part) => part.regions(),
-            None => Regions {
-                crit: 0,
-                guard: 0,
-                busy: false,
-            },
+            None => NO_REGIONS,
         }
+    }
+
+    /// The regions of the running thread once the innermost frame has ended.
+    pub fn below(&self) -> Regions
+        ensures { result ≡ below_in self.now }
+    {
+        if !self.own.is_empty() {
+            return self.regions();
+        }
+        match self.running_part() {
+            Some(part) => part.regions_below(),
+            None => NO_REGIONS,
+        }
+    }
+
+    /// Whether a frame stands on the processor's own part.
+    pub fn has_own(&self) -> bool
+        ensures { result ≡ not (is_null self.now.own) }
+    {
+        !self.own.is_empty()
+    }
+
+    /// Whether the innermost frame stands on the running thread's part.
+    pub fn is_on_thread(&self) -> bool
+        ensures { result ≡ on_thread_part self.now }
+    {
+        self.own.is_empty() && self.top().is_some()
+    }
+
+    /// Why this command would be refused in the innermost frame, if it would: the first test that fails, in the order of the
+    /// refusals' numbers. Where there is no frame, no thread calls it.
+    pub fn refusal(&self, command: &Command) -> Option<Refusal>
+        ensures { result ≡ refusal_in command.now self.now }
+    {
+        let Some(frame) = self.top() else {
+            return Some(Refusal::NotThread);
+        };
+        refusal(
+            frame.level,
+            !self.own.is_empty(),
+            &self.regions(),
+            &frame,
+            command,
+        )
     }
 
     /// The newest frame of the own part, else that of the running thread.
@@ -107,25 +148,285 @@ impl Frames {
         })
     }
 
+    /// A routine begins, in a frame that this number names: that of the event which begins it.
+    ///
+    /// The rules let such a frame begin here, and the number is above that of every frame before.
+    pub fn begin(&mut self, body: Body, n: u64)
+        requires rules { IsTrue (may_begin body self.old) }
+        requires number { AreNamedBelow n self.old }
+        ensures { self.new ≡ begun n body self.old }
+    {
+        let own = is_own(&body);
+        let frame = new_frame(n, body);
+        if own {
+            self.own.push(frame);
+        } else if let Some(t) = self.running {
+            parts::push(&mut self.threads, t, frame);
+        }
+    }
+
+    /// An APC goes on from its kernel routine to its normal routine, and gives up the regions that its kernel routine entered.
+    /// True exactly where this asks for kernel APCs: a count of the thread's regions came to 0.
+    pub fn normal(&mut self) -> bool
+        requires { IsTrue (may_go_on self.old) }
+        ensures asks { result ≡ some_came_to_0 (regions_in self.old) (below_in self.old) }
+        ensures phase { self.new ≡ at_innermost normal_of self.old }
+    {
+        let asks = came_to_0(&self.regions(), &self.below());
+        let Some(frame) = self.top() else {
+            unreachable!()
+        };
+        self.set_innermost(at_normal(&frame));
+        asks
+    }
+
+    /// The innermost routine ends, and its frame with it: the level below comes back, and the regions that it entered are given
+    /// up. True exactly where this asks for kernel APCs: a normal kernel APC ended, or a count of the thread's regions came to 0.
+    pub fn finish(&mut self) -> bool
+        requires frame { IsSome (innermost self.old) }
+        requires no_base { is_at_base self.old ≡ false }
+        ensures asks { result ≡ end_asks_apc self.old }
+        ensures ended { self.new ≡ without_innermost self.old }
+    {
+        let Some(frame) = self.top() else {
+            unreachable!()
+        };
+        let asks = is_normal_apc(&frame.body) || came_to_0(&self.regions(), &self.below());
+        self.drop_innermost();
+        asks
+    }
+
+    /// Raises the level of the innermost frame. NotGreater exactly where it is above `l`.
+    pub fn raise(&mut self, l: Level) -> Result<(), Refusal>
+        requires { IsSome (innermost self.old) }
+        ensures when { IsOk result ↔ (refusal_in (Command.Raise l) self.old ≡ None) }
+        ensures why { IfErr result (λ r. refusal_in (Command.Raise l) self.old ≡ Some r) }
+        ensures ok { OnOk result (self.new ≡ at_innermost (done_to (Command.Raise l)) self.old) }
+        ensures same { OnErr result (self.new ≡ self.old) }
+    {
+        let frame = self.accepted(&Command::Raise(l))?;
+        self.set_innermost(Frame { level: l, ..frame });
+        Ok(())
+    }
+
+    /// Lowers the level of the innermost frame. NotLess exactly where it is below `l`, else BelowBase exactly where `l` is below
+    /// the level at which the present routine began.
+    pub fn lower(&mut self, l: Level) -> Result<(), Refusal>
+        requires { IsSome (innermost self.old) }
+        ensures when { IsOk result ↔ (refusal_in (Command.Lower l) self.old ≡ None) }
+        ensures why { IfErr result (λ r. refusal_in (Command.Lower l) self.old ≡ Some r) }
+        ensures ok { OnOk result (self.new ≡ at_innermost (done_to (Command.Lower l)) self.old) }
+        ensures same { OnErr result (self.new ≡ self.old) }
+    {
+        let frame = self.accepted(&Command::Lower(l))?;
+        self.set_innermost(Frame { level: l, ..frame });
+        Ok(())
+    }
+
+    /// The running thread enters a region, which counts for its innermost frame. NotThread exactly where that stands on no
+    /// thread's part, else TooHigh exactly above APC_LEVEL.
+    pub fn enter(&mut self, r: Region) -> Result<(), Refusal>
+        requires { count_of r (regions_in self.old) < 4294967295 }
+        ensures when { IsOk result ↔ (refusal_in (enter_of r) self.old ≡ None) }
+        ensures why { IfErr result (λ why. refusal_in (enter_of r) self.old ≡ Some why) }
+        ensures ok { OnOk result (self.new ≡ at_innermost (done_to (enter_of r)) self.old) }
+        ensures same { OnErr result (self.new ≡ self.old) }
+    {
+        let frame = self.accepted(&enter_command(r))?;
+        self.set_innermost(match r {
+            Region::Crit => Frame {
+                crit: frame.crit + 1,
+                ..frame
+            },
+            Region::Guard => Frame {
+                guard: frame.guard + 1,
+                ..frame
+            },
+        });
+        Ok(())
+    }
+
+    /// The running thread leaves a region that its innermost frame entered. NotThread exactly where that stands on no thread's
+    /// part, else TooHigh exactly above APC_LEVEL, else NotEntered exactly where the frame has no open entry of the kind. True
+    /// exactly where the thread's count of the kind came to 0, which asks for kernel APCs.
+    pub fn leave(&mut self, r: Region) -> Result<bool, Refusal>
+        ensures when { IsOk result ↔ (refusal_in (leave_of r) self.old ≡ None) }
+        ensures why { IfErr result (λ why. refusal_in (leave_of r) self.old ≡ Some why) }
+        ensures asks { IfOk result (λ asks. asks ≡ (count_of r (regions_in self.old) == 1)) }
+        ensures ok { OnOk result (self.new ≡ at_innermost (done_to (leave_of r)) self.old) }
+        ensures same { OnErr result (self.new ≡ self.old) }
+    {
+        let frame = self.accepted(&leave_command(r))?;
+        let before = self.regions();
+        self.set_innermost(match r {
+            Region::Crit => Frame {
+                crit: frame.crit - 1,
+                ..frame
+            },
+            Region::Guard => Frame {
+                guard: frame.guard - 1,
+                ..frame
+            },
+        });
+        Ok(count(r, &before) == 1)
+    }
+
+    /// The thread runs from here on.
+    pub fn switch_to(&mut self, t: ThreadNo)
+        requires idle { self.old.running ≡ None }
+        requires thread { t.0 < length self.old.threads }
+        ensures { self.new ≡ record self.old { running = Some t } }
+    {
+        self.running = Some(t);
+    }
+
+    /// The running thread runs no more: it blocks or gives way. Its frames stay.
+    pub fn switch_away(&mut self)
+        requires { IsSome self.old.running }
+        ensures { self.new ≡ record self.old { running = None } }
+    {
+        self.running = None;
+    }
+
+    /// The base routine of the running thread ends: the frame stays until [`Frames::gone`], at PASSIVE_LEVEL and with its regions
+    /// given up.
+    pub fn end_base(&mut self)
+        requires base { IsTrue (is_at_base self.old) }
+        requires runs { is_leaving self.old ≡ false }
+        ensures { self.new ≡ at_innermost left self.old }
+    {
+        let Some(frame) = self.top() else {
+            unreachable!()
+        };
+        self.set_innermost(leaving(&frame));
+    }
+
+    /// The running thread is gone: its base frame is closed, and no thread runs.
+    pub fn gone(&mut self)
+        requires { IsTrue (is_leaving self.old) }
+        ensures { self.new ≡ closed self.old }
+    {
+        if let Some(t) = self.running {
+            parts::clear(&mut self.threads, t);
+        }
+        self.running = None;
+    }
+
+    /// Sets the wait that the innermost frame has to take up again.
+    pub fn set_again(&mut self, a: Option<Again>)
+        requires { IsSome (innermost self.old) }
+        ensures { self.new ≡ at_innermost (λ f. record f { again = a }) self.old }
+    {
+        let Some(frame) = self.top() else {
+            unreachable!()
+        };
+        self.set_innermost(Frame { again: a, ..frame });
+    }
+
+    /// The innermost frame's routine has called one more command.
+    pub fn advance_place(&mut self)
+        requires frame { IsSome (innermost self.old) }
+        requires place { ForSome (innermost self.old) (λ f. f.place < 4294967295) }
+        ensures { self.new ≡ at_innermost (λ f. record f { place = f.place + 1 }) self.old }
+    {
+        let Some(frame) = self.top() else {
+            unreachable!()
+        };
+        self.set_innermost(Frame {
+            place: frame.place + 1,
+            ..frame
+        });
+    }
+
     fn top(&self) -> Option<Frame>
         ensures value { result ≡ innermost self.now }
         ensures nested { AreNested self.now }
     {
         match self.own.innermost() {
             Some(frame) => Some(frame),
-            None => match self.running {
-                Some(t) => self.newest(t),
-                None => None,
-            },
+            None => self.running_part()?.innermost(),
         }
     }
 
-    fn newest(&self, t: ThreadNo) -> Option<Frame>
-        ensures { result ≡ head_of (frames_in self.now.threads t) }
+    /// The part of the running thread.
+    fn running_part(&self) -> Option<&Part<4>>
+        ensures value { option_copied result ≡ option_map (frames_in self.now.threads) self.now.running }
+        ensures part { IfSome result (λ part. IsThreadPart part.now) }
     {
-        match self.threads.get(t.0 as usize) {
-            Some(part) => part.innermost(),
+        match self.running {
+            Some(t) => self.threads.get(t.0 as usize),
             None => None,
         }
+    }
+
+    /// The innermost frame, where it may call the command.
+    fn accepted(&self, command: &Command) -> Result<Frame, Refusal>
+        ensures frame { IfOk result (λ f. innermost self.now ≡ Some f) }
+        ensures when { OnOk result (refusal_in command.now self.now ≡ None) }
+        ensures why { IfErr result (λ why. refusal_in command.now self.now ≡ Some why) }
+        ensures nested { AreNested self.now }
+    {
+        let frame = self.top().ok_or(Refusal::NotThread)?;
+        match self.refusal(command) {
+            Some(why) => Err(why),
+            None => Ok(frame),
+        }
+    }
+
+    fn set_innermost(&mut self, frame: Frame)
+        requires { AreNested (at_innermost (λ _. frame) self.old) }
+        ensures { self.new ≡ at_innermost (λ _. frame) self.old }
+    {
+        if !self.own.is_empty() {
+            self.own.set_innermost(frame);
+        } else if let Some(t) = self.running {
+            parts::set_innermost(&mut self.threads, t, frame);
+        }
+    }
+
+    fn drop_innermost(&mut self)
+        ensures ended { self.new ≡ without_innermost self.old }
+        ensures nested { AreNested self.old }
+    {
+        if !self.own.is_empty() {
+            self.own.pop();
+        } else if let Some(t) = self.running {
+            parts::pop(&mut self.threads, t);
+        }
+    }
+}
+
+/// Whether a count of regions that wasn't 0 is 0 now.
+fn came_to_0(before: &Regions, now: &Regions) -> bool
+    ensures { result ≡ some_came_to_0 before.now now.now }
+{
+    before.crit != 0 && now.crit == 0 || before.guard != 0 && now.guard == 0
+}
+
+/// How often regions of the kind are entered.
+fn count(r: Region, regions: &Regions) -> u32
+    ensures { result ≡ count_of r regions.now }
+{
+    match r {
+        Region::Crit => regions.crit,
+        Region::Guard => regions.guard,
+    }
+}
+
+fn enter_command(r: Region) -> Command
+    ensures { result ≡ enter_of r }
+{
+    match r {
+        Region::Crit => Command::EnterCrit,
+        Region::Guard => Command::EnterGuard,
+    }
+}
+
+fn leave_command(r: Region) -> Command
+    ensures { result ≡ leave_of r }
+{
+    match r {
+        Region::Crit => Command::LeaveCrit,
+        Region::Guard => Command::LeaveGuard,
     }
 }

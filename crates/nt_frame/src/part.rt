@@ -83,6 +83,15 @@ impl<const ROOM: usize> Part<ROOM> {
     {
         regions(self.frames.as_slice())
     }
+
+    /// The regions of the thread whose part this is, once its innermost frame has ended.
+    pub fn regions_below(&self) -> Regions
+        requires crit { crit_of self.now < 2 ^ 32 }
+        requires guard { guard_of self.now < 2 ^ 32 }
+        ensures { result ≡ regions_of (tail_of self.now) }
+    {
+        regions(outer(self.frames.as_slice()))
+    }
 }
 
 /// Whether it is a normal kernel APC.
@@ -102,6 +111,13 @@ fn regions(frames: &[Frame]) -> Regions
         guard: guard(frames),
         busy: is_busy(frames),
     }
+}
+
+/// All frames but the innermost.
+fn outer(frames: &[Frame]) -> &[Frame]
+    ensures { reverse result.now ≡ tail_of (reverse frames.now) }
+{
+    &frames[..frames.len().saturating_sub(1)]
 }
 
 fn crit(frames: &[Frame]) -> u32

@@ -1,2 +1,6 @@
+pub mod Endings
+pub mod Laws
 pub mod Quiet
 pub mod Replies
+pub mod Rows
+pub mod Runs

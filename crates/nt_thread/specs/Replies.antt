@@ -1,5 +1,4 @@
 -- What the answers of a thread say as replies.
-use Rattle.std.specs.Prelude.{Bool, false, true, ◌&&◌}
 use Rattle.nt_event.specs.declared.commands.Reply.{Reply}
 use Rattle.nt_event.specs.declared.commands.Reply.TheVariants.{Blocked, Status}
 use Rattle.nt_thread.specs.declared.answers.WaitAnswer.{WaitAnswer}

@@ -1,12 +1,14 @@
 //! The state of one thread.
 ghost use Rattle.std.specs.Bool.{OnFalse, OnTrue};
-ghost use Rattle.std.specs.Prelude.{◌≡◌, ◌<◌, ◌&&◌, ◌||◌, ◌↔◌, IfOk, IfNone, IfSome, IsTrue, None, is_some, not, option_map, ℕ};
+ghost use Rattle.std.specs.Prelude.{◌≡◌, ◌<◌, ◌&&◌, ◌||◌, ◌↔◌, IfOk, IfNone, IfSome, IsTrue, None, false, if◌then◌else◌, is_some, not, option_map, true, ℕ};
 ghost use Rattle.nt_event.specs.Apcs as queues;
 ghost use Rattle.nt_event.specs.Jobs.{user_due as due_of};
 ghost use Rattle.nt_event.specs.Threads as spec;
 ghost use Rattle.nt_event.specs.Waits as waits;
 ghost use Rattle.nt_event.specs.Words.{alerted, is_user, kernel_apc, satisfied, user_apc};
+ghost use Rattle.nt_event.specs.declared.numbers.ApcNo.{ApcNo as Apc};
 ghost use Rattle.nt_event.specs.declared.threads.Doing.{Doing};
+ghost use Rattle.nt_thread.specs.Endings.{ended_by};
 ghost use Rattle.nt_thread.specs.Quiet.{NothingBehind};
 ghost use Rattle.nt_thread.specs.Replies.{reply_of};
 
@@ -378,6 +380,188 @@ impl ThreadState {
             self.marked = true;
         }
         was
+    }
+
+    // ---- APCs
+
+    /// Inserts the APC object, under the number `n` of the inserting event. Not `yes` exactly where the object is inserted already
+    /// or the thread no longer takes APCs, and then nothing changes. A kernel APC that is deliverable then ends a wait inwardly
+    /// with STATUS_KERNEL_APC; a user APC ends an alertable user wait, or a plain one where the user-pending mark is set, with
+    /// STATUS_USER_APC, and sets the mark.
+    ///
+    /// The numbers of a thread's inserts rise: `n` is meant to be above each number that was inserted here before.
+    pub fn apc(&mut self, a: ApcNo, k: ApcKind, n: u64) -> ApcAnswer
+        requires { a.0 < 256 }
+        ensures yes { result.yes ≡ queues.takes a self.old.apcs }
+        ensures ended { result.ended ≡ (queues.takes a self.old.apcs && spec.ends_by_apc (record { apc = a; kind = k; number = n }) self.old) }
+        ensures after { OnTrue result.yes (self.new ≡ waits.insert_facts (record { apc = a; kind = k; number = n }) self.old) }
+        ensures same { OnFalse result.yes (self.new ≡ self.old) }
+        ensures quiet { NothingBehind self.new }
+    {
+        let answer = self.apc_answer(a, k);
+        if answer.yes {
+            let pick = Pick {
+                apc: a,
+                kind: k,
+                number: n,
+            };
+            self.accept(pick, answer.ended);
+        }
+        answer
+    }
+
+    /// The insert is accepted, and ends the wait or doesn't.
+    fn accept(&mut self, pick: Pick, ended: bool)
+        requires open_for { queues.takes pick.apc self.old.apcs ≡ true }
+        requires below { pick.apc.0 < 256 }
+        requires ends { ended ≡ spec.ends_by_apc pick self.old }
+        requires quiet { NothingBehind self.old }
+        ensures after { self.new ≡ waits.insert_facts pick self.old }
+        ensures quiet { NothingBehind self.new }
+    {
+        self.end_where(ended, pick.kind);
+        let _ = self.apcs.insert(pick.apc, pick.kind, pick.number);
+    }
+
+    fn end_where(&mut self, ended: bool, k: ApcKind)
+        ensures { self.new ≡ (if ended then ended_by k self.old else self.old) }
+    {
+        if ended {
+            self.end_by_apc(k);
+        }
+    }
+
+    /// What [`ThreadState::apc`] would answer now.
+    pub fn apc_answer(&self, a: ApcNo, k: ApcKind) -> ApcAnswer
+        ensures yes { result.yes ≡ queues.takes a self.now.apcs }
+        ensures ended { (n : ℕ) → result.ended ≡ (queues.takes a self.now.apcs && spec.ends_by_apc (record { apc = a; kind = k; number = n }) self.now) }
+        ensures quiet { NothingBehind self.now }
+    {
+        let yes = self.apcs.open_for(a);
+        ApcAnswer {
+            yes,
+            ended: yes && self.waits_for_apc(k),
+        }
+    }
+
+    /// Whether an APC of this kind ends the wait once it is inserted.
+    fn waits_for_apc(&self, k: ApcKind) -> bool
+        ensures { (a : Apc) (n : ℕ) → result ≡ spec.ends_by_apc (record { apc = a; kind = k; number = n }) self.now }
+    {
+        match k {
+            ApcKind::User => self.waits_for_user(),
+            _ => self.waits_for_kernel(k),
+        }
+    }
+
+    fn waits_for_user(&self) -> bool
+        ensures { result ≡ spec.ends_by_user self.now }
+    {
+        match &self.doing {
+            Doing::Blocked(waiting) => {
+                waiting.mode == Mode::User && (waiting.alertable || self.marked)
+            }
+            _ => false,
+        }
+    }
+
+    fn waits_for_kernel(&self, k: ApcKind) -> bool
+        ensures { (a : Apc) (n : ℕ) → result ≡ spec.ends_by_kernel (queues.with_apc (record { apc = a; kind = k; number = n }) self.now.apcs) self.now }
+    {
+        match &self.doing {
+            Doing::Blocked(waiting) => {
+                self.apcs
+                    .deliverable_with(k, waiting.regions, waiting.level)
+            }
+            _ => false,
+        }
+    }
+
+    /// The wait ends by an APC of this kind, which is not inserted yet.
+    fn end_by_apc(&mut self, k: ApcKind)
+        ensures { self.new ≡ ended_by k self.old }
+    {
+        match k {
+            ApcKind::User => {
+                self.end_wait(STATUS_USER_APC);
+                self.marked = true;
+            }
+            _ => self.end_wait(STATUS_KERNEL_APC),
+        }
+    }
+
+    /// Takes the APC object out. True exactly where it was inserted.
+    pub fn unapc(&mut self, a: ApcNo) -> bool
+        ensures answer { result ≡ queues.is_inserted a self.old.apcs }
+        ensures after { self.new ≡ record self.old { apcs = queues.without_apc a self.old.apcs } }
+        ensures same { OnFalse result (self.new ≡ self.old) }
+    {
+        self.apcs.remove(a)
+    }
+
+    /// The first kernel APC, where a thread at this level and in these regions lets it through.
+    pub fn deliverable(&self, regions: Regions, level: Level) -> Option<Pick>
+        ensures { result ≡ queues.deliverable self.now.apcs regions level }
+    {
+        self.apcs.deliverable(regions, level)
+    }
+
+    /// The user APC that is due on the way to user mode: the first one, where the user-pending mark is set.
+    pub fn user_due(&self) -> Option<Pick>
+        ensures { result ≡ due_of self.now }
+    {
+        if self.marked {
+            self.apcs.user_first()
+        } else {
+            None
+        }
+    }
+
+    /// Whether a kernel APC is queued.
+    pub fn has_kernel(&self) -> bool
+        ensures { result ≡ queues.has_kernel self.now.apcs }
+    {
+        self.apcs.has_kernel()
+    }
+
+    /// The running thread begins the APC: it is no longer queued, and a user one clears the user-pending mark. The pick is meant to
+    /// be one that [`ThreadState::deliverable`] or [`ThreadState::user_due`] answered on this state.
+    pub fn take(&mut self, p: Pick)
+        ensures { self.new ≡ waits.apc_taken p.kind p.apc self.old }
+    {
+        self.apcs.take(p);
+        if p.kind == ApcKind::User {
+            self.marked = false;
+        }
+    }
+
+    // ---- rundown
+
+    /// The base routine of the running thread has ended: it is leaving, and takes no more APCs.
+    pub fn leave(&mut self)
+        ensures { self.new ≡ waits.left_facts self.old }
+    {
+        self.leaving = true;
+        self.apcs.close_doors();
+    }
+
+    /// Takes out the first user APC of a leaving thread, and answers it with the number of its insert. None exactly where there is
+    /// none.
+    pub fn flush(&mut self) -> Option<(ApcNo, u64)>
+        ensures answer { result ≡ option_map (λ x. (x.apc, x.number)) (queues.first_user self.old.apcs) }
+        ensures after { IfSome result (λ y. self.new ≡ record self.old { apcs = queues.without_apc y.0 self.old.apcs }) }
+        ensures none { IfNone result (self.new ≡ self.old) }
+    {
+        self.apcs.flush_next()
+    }
+
+    /// The leaving thread is gone. Its user APCs have been flushed.
+    pub fn gone(&mut self)
+        requires { queues.first_user self.old.apcs ≡ None }
+        ensures { self.new ≡ record self.old { doing = Doing.Gone; leaving = false } }
+    {
+        self.doing = Doing::Gone;
+        self.leaving = false;
     }
 }
 

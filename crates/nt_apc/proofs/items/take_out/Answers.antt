@@ -1,4 +1,4 @@
-use Rattle.std.proofs.Common.{None, Some, false, not, sym, ◌∙◌, ap, subst, ◌≡◌, ℕ, List}
+use Rattle.std.proofs.Common.{None, Some, not, sym, ◌∙◌, ap, subst, ◌≡◌, ℕ, List}
 use Rattle.std.specs.List.{filter, position, remove}
 use Rattle.nt_event.specs.Apcs.{is_of_apc}
 use Rattle.nt_event.specs.declared.inserts.Pick.{Pick}

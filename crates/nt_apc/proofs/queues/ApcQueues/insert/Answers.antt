@@ -1,4 +1,4 @@
-use Rattle.std.proofs.Common.{true, sym, ◌∙◌}
+use Rattle.std.proofs.Common.{sym, ◌∙◌}
 use Rattle.nt_apc.proofs.Views.{fresh-from_takes}
 use Rattle.nt_apc.proofs.queues.ApcQueues.insert.Goals as goal
 

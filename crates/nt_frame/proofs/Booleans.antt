@@ -13,6 +13,10 @@ pub and_right : (a b : Bool) → (a && b) ≡ true → b ≡ true
 and_right true b h = h
 and_right false b h = cc
 
+pub and_both : (a b : Bool) → a ≡ true → b ≡ true → (a && b) ≡ true
+and_both true b h k = k
+and_both false b h k = h
+
 pub null_is : {A : Type 0} (xs : List A) → is_null xs ≡ true → xs ≡ []
 null_is [] h = refl
 null_is (x ∷ xs) h = cc

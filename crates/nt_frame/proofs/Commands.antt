@@ -1,0 +1,225 @@
+-- What a call leaves of the frames, as the methods of `Frames` make it: the effect of the command, then the place.
+use Rattle.std.proofs.Common.{◌≡◌, ℕ, ◌+◌, ◌<◌, ◌==◌, Bool, true, false, not, Option, None, Some, if◌then◌else◌, List, [], length, sym, ◌∙◌, ap, refl}
+use Rattle.nt_event.specs.declared.commands.Command.{Command}
+use Rattle.nt_event.specs.declared.commands.Command.TheVariants.{Alert, CancelTimer, Clock, Delay, EnterCrit, EnterGuard, InsertApc, Interrupt, LeaveCrit, LeaveGuard, Lower, Note, Queue, Raise, Release, RemoveApc, SetImportance, SetTarget, SetTimer, StartWait, TestAlert, ToUser, Unqueue, Yield}
+use Rattle.nt_event.specs.declared.commands.Mode.{Mode}
+use Rattle.nt_event.specs.declared.commands.Refusal.{Refusal}
+use Rattle.nt_event.specs.declared.commands.Reply.{Reply}
+use Rattle.nt_event.specs.declared.commands.Reply.TheVariants.{Blocked, Done, No, Refused, Status, Yes}
+use Rattle.nt_event.specs.declared.events.Event.{Event}
+use Rattle.nt_event.specs.declared.events.What.TheVariants.{Call, Rewait, Switch}
+use Rattle.nt_event.specs.declared.frames.Again.{Again}
+use Rattle.nt_event.specs.declared.frames.Frame.{Frame}
+use Rattle.nt_event.specs.declared.frames.Region.{Region}
+use Rattle.nt_event.specs.declared.frames.Region.TheVariants.{Crit, Guard}
+use Rattle.nt_event.specs.declared.numbers.ThreadNo.{ThreadNo}
+use Rattle.nt_event.specs.declared.scripts.Script.{Script}
+use Rattle.nt_event.specs.Frames.{Frames, again_after, called, done_to, frames_after, frames_in, innermost, resumed, rewaited, running_after}
+use Rattle.nt_event.specs.Words.{head_of, is_blocked, is_done, kernel_apc}
+use Rattle.nt_frame.specs.Changes.{at_innermost}
+use Rattle.nt_frame.specs.Nesting.{AreNested}
+use Rattle.nt_frame.specs.Rules.{enter_of, leave_of}
+use Rattle.nt_frame.proofs.After.{after_call, after_rewait, after_switch, taken}
+use Rattle.nt_frame.proofs.Events.{IsOurs}
+use Rattle.nt_frame.proofs.Twice.{at_innermost-at_innermost, at_innermost_by, at_innermost_id, running-at_innermost}
+
+-- one more command of the routine is called: `advance_place`
+abbrev pub advanced : Frame → Frame
+advanced f = record f { place = f.place + 1 }
+
+-- a wait is set to be taken up again: `set_again`
+abbrev pub awaiting : Option Again → Frame → Frame
+awaiting a f = record f { again = a }
+
+-- the thread runs no more: `switch_away`
+abbrev pub stopped : Frames → Frames
+stopped x = record x { running = None }
+
+-- the running thread stays: so the record of what is left has it as it was
+stays : (x y : Frames) (r : Option ThreadNo) → r ≡ y.running → x.running ≡ y.running → record x { running = r } ≡ x
+stays x y r e k = ap (λ (q : Option ThreadNo). record x { running = q }) (e ∙ sym k)
+
+-- ---- calls that change the place alone
+
+refused_call : (due : Option ℕ) (c : Command) (why : Refusal) (f : Frame) → called due c (Refused why) f ≡ advanced f
+refused_call due (StartWait m a) why f = refl
+refused_call due (Delay m a units) why f = refl
+refused_call due _ why f = refl
+
+refused_runs : (n : ℕ) (c : Command) (why : Refusal) (r : Option ThreadNo) → running_after (Call n c (Refused why)) r ≡ r
+refused_runs n Yield why r = refl
+refused_runs n _ why r = refl
+
+-- a refused command changes the place alone
+pub call_refused : (s : Script) (n : ℕ) (due : Option ℕ) (e : Event) (x : Frames) (f : Frame) (c : Command) (why : Refusal) → IsOurs s e x → innermost x ≡ Some f → e.what ≡ Call f.name c (Refused why) → frames_after s n due e x ≡ at_innermost advanced x
+call_refused s n due e x f c why h q k =
+    after_call s n due e x f c (Refused why) h q k
+    ∙ ap (λ (y : Frames). record y { running = running_after (Call f.name c (Refused why)) x.running }) (at_innermost_by (called due c (Refused why)) advanced x (refused_call due c why))
+    ∙ stays (at_innermost advanced x) x (running_after (Call f.name c (Refused why)) x.running) (refused_runs f.name c why x.running) (running-at_innermost advanced x)
+
+-- the commands that change nothing of their frame but its place, and let their thread run
+abbrev pub is_plain : Command → Bool
+is_plain (Raise level) = false
+is_plain (Lower level) = false
+is_plain EnterCrit = false
+is_plain EnterGuard = false
+is_plain LeaveCrit = false
+is_plain LeaveGuard = false
+is_plain (StartWait m a) = false
+is_plain (Delay m a units) = false
+is_plain Yield = false
+is_plain _ = true
+
+plain_place : (b : Bool) (f : Frame) → record (if b then f else f) { place = f.place + 1 } ≡ advanced f
+plain_place true f = refl
+plain_place false f = refl
+
+plain_call : (due : Option ℕ) (c : Command) (y : Reply) → is_plain c ≡ true → (f : Frame) → called due c y f ≡ advanced f
+plain_call due (Raise level) y p f = cc
+plain_call due (Lower level) y p f = cc
+plain_call due EnterCrit y p f = cc
+plain_call due EnterGuard y p f = cc
+plain_call due LeaveCrit y p f = cc
+plain_call due LeaveGuard y p f = cc
+plain_call due (StartWait m a) y p f = cc
+plain_call due (Delay m a units) y p f = cc
+plain_call due Yield y p f = cc
+plain_call due (Queue d) y p f = plain_place (is_done y) f
+plain_call due (Unqueue d) y p f = plain_place (is_done y) f
+plain_call due (SetImportance d i) y p f = plain_place (is_done y) f
+plain_call due (SetTarget d t) y p f = plain_place (is_done y) f
+plain_call due (SetTimer t u v) y p f = plain_place (is_done y) f
+plain_call due (CancelTimer t) y p f = plain_place (is_done y) f
+plain_call due (InsertApc a) y p f = plain_place (is_done y) f
+plain_call due (RemoveApc a) y p f = plain_place (is_done y) f
+plain_call due (Release t) y p f = plain_place (is_done y) f
+plain_call due (Alert t m) y p f = plain_place (is_done y) f
+plain_call due (TestAlert m) y p f = plain_place (is_done y) f
+plain_call due (Interrupt q l) y p f = plain_place (is_done y) f
+plain_call due (Clock units) y p f = plain_place (is_done y) f
+plain_call due ToUser y p f = plain_place (is_done y) f
+plain_call due (Note m) y p f = plain_place (is_done y) f
+
+plain_runs : (n : ℕ) (c : Command) (y : Reply) (r : Option ThreadNo) → is_plain c ≡ true → is_blocked y ≡ false → running_after (Call n c y) r ≡ r
+plain_runs n Yield y r p b = cc
+plain_runs n _ y r p b = rw b
+
+-- one that changes nothing else of its frame, and doesn't block
+pub call_plain : (s : Script) (n : ℕ) (due : Option ℕ) (e : Event) (x : Frames) (f : Frame) (c : Command) (y : Reply) → IsOurs s e x → innermost x ≡ Some f → is_plain c ≡ true → is_blocked y ≡ false → e.what ≡ Call f.name c y → frames_after s n due e x ≡ at_innermost advanced x
+call_plain s n due e x f c y h q p b k =
+    after_call s n due e x f c y h q k
+    ∙ ap (λ (z : Frames). record z { running = running_after (Call f.name c y) x.running }) (at_innermost_by (called due c y) advanced x (plain_call due c y p))
+    ∙ stays (at_innermost advanced x) x (running_after (Call f.name c y) x.running) (plain_runs f.name c y x.running p b) (running-at_innermost advanced x)
+
+-- ---- levels and regions: `raise`, `lower`, `enter`, `leave`
+
+-- the commands of levels and regions
+abbrev pub is_frames_own : Command → Bool
+is_frames_own (Raise level) = true
+is_frames_own (Lower level) = true
+is_frames_own EnterCrit = true
+is_frames_own EnterGuard = true
+is_frames_own LeaveCrit = true
+is_frames_own LeaveGuard = true
+is_frames_own _ = false
+
+own_call : (due : Option ℕ) (c : Command) → is_frames_own c ≡ true → (f : Frame) → called due c Done f ≡ advanced (done_to c f)
+own_call due (Raise level) p f = refl
+own_call due (Lower level) p f = refl
+own_call due EnterCrit p f = refl
+own_call due EnterGuard p f = refl
+own_call due LeaveCrit p f = refl
+own_call due LeaveGuard p f = refl
+own_call due _ p f = cc
+
+own_runs : (n : ℕ) (c : Command) (r : Option ThreadNo) → is_frames_own c ≡ true → running_after (Call n c Done) r ≡ r
+own_runs n Yield r p = cc
+own_runs n _ r p = refl
+
+pub call_own : (s : Script) (n : ℕ) (due : Option ℕ) (e : Event) (x : Frames) (f : Frame) (c : Command) → IsOurs s e x → innermost x ≡ Some f → is_frames_own c ≡ true → e.what ≡ Call f.name c Done → frames_after s n due e x ≡ at_innermost advanced (at_innermost (done_to c) x)
+call_own s n due e x f c h q p k =
+    after_call s n due e x f c Done h q k
+    ∙ ap (λ (z : Frames). record z { running = running_after (Call f.name c Done) x.running }) (at_innermost_by (called due c Done) (λ g. advanced (done_to c g)) x (own_call due c p))
+    ∙ stays (at_innermost (λ g. advanced (done_to c g)) x) x (running_after (Call f.name c Done) x.running) (own_runs f.name c x.running p) (running-at_innermost (λ g. advanced (done_to c g)) x)
+    ∙ sym (at_innermost-at_innermost advanced (done_to c) x h.nested)
+
+-- the commands that enter and leave a region are such
+pub enter_is_own : (r : Region) → is_frames_own (enter_of r) ≡ true
+enter_is_own Crit = refl
+enter_is_own Guard = refl
+
+pub leave_is_own : (r : Region) → is_frames_own (leave_of r) ≡ true
+leave_is_own Crit = refl
+leave_is_own Guard = refl
+
+-- ---- waits: `set_again`, `advance_place` and, where it blocks, `switch_away`; a yield likewise
+
+pub call_yield : (s : Script) (n : ℕ) (due : Option ℕ) (e : Event) (x : Frames) (f : Frame) → IsOurs s e x → innermost x ≡ Some f → e.what ≡ Call f.name Yield Done → frames_after s n due e x ≡ stopped (at_innermost advanced x)
+call_yield s n due e x f h q k = after_call s n due e x f Yield Done h q k
+
+-- the wait that a call of `wait` leaves to be taken up where it isn't refused, and that of a delay with this due time
+abbrev pub wait_of : Mode → Bool → Option ℕ → Again
+wait_of m a due = record { mode = m; alertable = a; due = due }
+
+again_status : (st : ℕ) (w old : Option Again) → again_after (Status st) w old ≡ again_after (Status st) w None
+again_status st w old = refl
+
+pub call_wait : (s : Script) (n : ℕ) (due : Option ℕ) (e : Event) (x : Frames) (f : Frame) (m : Mode) (a : Bool) (st : ℕ) → IsOurs s e x → innermost x ≡ Some f → e.what ≡ Call f.name (StartWait m a) (Status st) → frames_after s n due e x ≡ at_innermost advanced (at_innermost (awaiting (again_after (Status st) (Some (wait_of m a None)) None)) x)
+call_wait s n due e x f m a st h q k =
+    after_call s n due e x f (StartWait m a) (Status st) h q k
+    ∙ stays (at_innermost (called due (StartWait m a) (Status st)) x) x x.running refl (running-at_innermost (called due (StartWait m a) (Status st)) x)
+    ∙ sym (at_innermost-at_innermost advanced (awaiting (again_after (Status st) (Some (wait_of m a None)) None)) x h.nested)
+
+pub call_wait_blocked : (s : Script) (n : ℕ) (due : Option ℕ) (e : Event) (x : Frames) (f : Frame) (m : Mode) (a : Bool) → IsOurs s e x → innermost x ≡ Some f → e.what ≡ Call f.name (StartWait m a) Blocked → frames_after s n due e x ≡ stopped (at_innermost advanced (at_innermost (awaiting (Some (wait_of m a None))) x))
+call_wait_blocked s n due e x f m a h q k =
+    after_call s n due e x f (StartWait m a) Blocked h q k
+    ∙ ap stopped (sym (at_innermost-at_innermost advanced (awaiting (Some (wait_of m a None))) x h.nested))
+
+pub call_delay : (s : Script) (n : ℕ) (due : Option ℕ) (e : Event) (x : Frames) (f : Frame) (m : Mode) (a : Bool) (units st : ℕ) → IsOurs s e x → innermost x ≡ Some f → e.what ≡ Call f.name (Delay m a units) (Status st) → frames_after s n due e x ≡ at_innermost advanced (at_innermost (awaiting (again_after (Status st) (Some (wait_of m a due)) None)) x)
+call_delay s n due e x f m a units st h q k =
+    after_call s n due e x f (Delay m a units) (Status st) h q k
+    ∙ stays (at_innermost (called due (Delay m a units) (Status st)) x) x x.running refl (running-at_innermost (called due (Delay m a units) (Status st)) x)
+    ∙ sym (at_innermost-at_innermost advanced (awaiting (again_after (Status st) (Some (wait_of m a due)) None)) x h.nested)
+
+pub call_delay_blocked : (s : Script) (n : ℕ) (due : Option ℕ) (e : Event) (x : Frames) (f : Frame) (m : Mode) (a : Bool) (units : ℕ) → IsOurs s e x → innermost x ≡ Some f → e.what ≡ Call f.name (Delay m a units) Blocked → frames_after s n due e x ≡ stopped (at_innermost advanced (at_innermost (awaiting (Some (wait_of m a due))) x))
+call_delay_blocked s n due e x f m a units h q k =
+    after_call s n due e x f (Delay m a units) Blocked h q k
+    ∙ ap stopped (sym (at_innermost-at_innermost advanced (awaiting (Some (wait_of m a due))) x h.nested))
+
+-- ---- a wait that is taken up again
+
+-- interrupted once more: nothing changes
+pub rewait_again : (s : Script) (n : ℕ) (due : Option ℕ) (e : Event) (x : Frames) (f : Frame) → IsOurs s e x → innermost x ≡ Some f → x.own ≡ [] → e.what ≡ Rewait f.name (Status kernel_apc) → frames_after s n due e x ≡ x
+rewait_again s n due e x f h q o k =
+    after_rewait s n due e x f (Status kernel_apc) h q o k
+    ∙ stays (at_innermost (rewaited (Status kernel_apc)) x) x x.running refl (running-at_innermost (rewaited (Status kernel_apc)) x)
+    ∙ at_innermost_id x
+
+-- over: `set_again` to None
+pub rewait_over : (s : Script) (n : ℕ) (due : Option ℕ) (e : Event) (x : Frames) (f : Frame) (st : ℕ) → IsOurs s e x → innermost x ≡ Some f → x.own ≡ [] → (st == kernel_apc) ≡ false → e.what ≡ Rewait f.name (Status st) → frames_after s n due e x ≡ at_innermost (awaiting None) x
+rewait_over s n due e x f st h q o b k =
+    after_rewait s n due e x f (Status st) h q o k
+    ∙ stays (at_innermost (rewaited (Status st)) x) x x.running refl (running-at_innermost (rewaited (Status st)) x)
+    ∙ at_innermost_by (rewaited (Status st)) (awaiting None) x (λ g. ap (λ (w : Option Again). record g { again = w }) (rw b))
+
+-- blocked once more: `switch_away`
+pub rewait_blocked : (s : Script) (n : ℕ) (due : Option ℕ) (e : Event) (x : Frames) (f : Frame) → IsOurs s e x → innermost x ≡ Some f → x.own ≡ [] → e.what ≡ Rewait f.name Blocked → frames_after s n due e x ≡ stopped x
+rewait_blocked s n due e x f h q o k =
+    after_rewait s n due e x f Blocked h q o k ∙ ap stopped (at_innermost_id x)
+
+-- ---- a thread that is taken up with its frames
+
+-- with no status, or with that of a kernel APC: `switch_to` alone
+pub switch_on : (s : Script) (n : ℕ) (due : Option ℕ) (e : Event) (x : Frames) (t : ThreadNo) (f : Frame) → length x.threads ≡ length s.threads → t.0 < length x.threads → x.own ≡ [] → e.thread ≡ Some t → e.what ≡ Switch t None → head_of (frames_in x.threads t) ≡ Some f → frames_after s n due e x ≡ taken t x
+switch_on s n due e x t f l b o i k q =
+    after_switch s n due e x t None f l b o i k q ∙ at_innermost_id (taken t x)
+
+pub switch_again : (s : Script) (n : ℕ) (due : Option ℕ) (e : Event) (x : Frames) (t : ThreadNo) (f : Frame) → length x.threads ≡ length s.threads → t.0 < length x.threads → x.own ≡ [] → e.thread ≡ Some t → e.what ≡ Switch t (Some kernel_apc) → head_of (frames_in x.threads t) ≡ Some f → frames_after s n due e x ≡ taken t x
+switch_again s n due e x t f l b o i k q =
+    after_switch s n due e x t (Some kernel_apc) f l b o i k q ∙ at_innermost_id (taken t x)
+
+-- with another status the wait is over: `set_again` to None
+pub switch_over : (s : Script) (n : ℕ) (due : Option ℕ) (e : Event) (x : Frames) (t : ThreadNo) (st : ℕ) (f : Frame) → length x.threads ≡ length s.threads → t.0 < length x.threads → x.own ≡ [] → e.thread ≡ Some t → (st == kernel_apc) ≡ false → e.what ≡ Switch t (Some st) → head_of (frames_in x.threads t) ≡ Some f → frames_after s n due e x ≡ at_innermost (awaiting None) (taken t x)
+switch_over s n due e x t st f l b o i z k q =
+    after_switch s n due e x t (Some st) f l b o i k q
+    ∙ at_innermost_by (resumed (Some st)) (awaiting None) (taken t x) (λ g. ap (λ (w : Option Again). record g { again = w }) (rw z))

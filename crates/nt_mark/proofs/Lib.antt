@@ -1,0 +1,10 @@
+pub mod Sums
+pub mod Drawing
+pub mod Reach
+pub mod Asking
+pub mod Noting
+pub mod Dealing
+pub mod Sharing
+pub mod Opening
+pub mod Ending
+pub mod Gathering

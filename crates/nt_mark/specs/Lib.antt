@@ -1,0 +1,5 @@
+pub mod LaneState
+pub mod Views
+pub mod Rule
+pub mod Names
+pub mod Closing

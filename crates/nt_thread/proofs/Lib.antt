@@ -1,0 +1,4 @@
+pub mod Events
+pub mod Quiet
+pub mod Rows
+pub mod Runs

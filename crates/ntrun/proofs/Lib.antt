@@ -1,0 +1,6 @@
+mod Lists
+mod Rows
+mod OneWord
+mod Found
+mod Written
+mod Causes

@@ -1,0 +1,33 @@
+-- How an answer is written.
+use Rattle.std.proofs.Common.{◌≡◌, ◌≢◌, List, ℕ, refl}
+use Rattle.std.specs.Io.KnownBytes.{append_known}
+use Rattle.ntrun.specs.declared.status.Status.{Status}
+use Rattle.ntrun.specs.declared.status.Status.TheVariants as exit
+use Rattle.ntrun.specs.Outcome.{Supply, Store, IsFound, IsWritten}
+
+-- the text was added and the status is that of the answer
+pub written_whole : (status : Status) (text : List ℕ) (old new : Store) → status ≢ exit.Write → new.held ≡ append_known old.held text → IsWritten status text old new status
+written_whole exit.Ok text old new other added = (refl, added)
+written_whole exit.Usage text old new other added = (refl, added)
+written_whole exit.Script text old new other added = (refl, added)
+written_whole exit.Schedule text old new other added = (refl, added)
+written_whole exit.Read text old new other added = (refl, added)
+written_whole exit.Write text old new other added = absurd (other refl)
+written_whole exit.Memory text old new other added = (refl, added)
+written_whole exit.TooLong text old new other added = (refl, added)
+written_whole exit.Illegal text old new other added = (refl, added)
+
+-- a fault of the sink is never found before the writing
+found_before : (words : List (List ℕ)) (old new : Supply) (status : Status) (text : List ℕ) → IsFound words old new status text → status ≡ exit.Write → ⊥
+found_before words old new exit.Ok text found e = cc
+found_before words old new exit.Usage text found e = cc
+found_before words old new exit.Script text found e = cc
+found_before words old new exit.Schedule text found e = cc
+found_before words old new exit.Read text found e = cc
+found_before words old new exit.Write text found e = found.1.2
+found_before words old new exit.Memory text found e = cc
+found_before words old new exit.TooLong text found e = cc
+found_before words old new exit.Illegal text found e = cc
+
+pub found_is_no_fault : (words : List (List ℕ)) (old new : Supply) (status : Status) (text : List ℕ) → IsFound words old new status text → status ≢ exit.Write
+found_is_no_fault words old new status text found = found_before words old new status text found

@@ -1,0 +1,58 @@
+//! `ntrun` decides, as the Windows NT kernel on x64 does, when deferred work may run.
+//!
+//! `ntrun run` reads a script of driver calls from standard input, runs it, and writes a report of every step to standard
+//! output. In this stage a script has one processor, at most one thread, DPC objects, and routines with the commands `raise`,
+//! `lower`, `queue` and `note`; a line of a later stage is refused.
+//!
+//! [`ntrun`] is the whole program over a source, a sink and a gate; `main` gives it the standard streams. The bytes of the
+//! source are read whole and are a script (`nt_script`), the private `machine` makes its run, a history of events, `report`
+//! makes the text of the history, and that is written. `specs/Outcome.antt` says when each status comes and what is written.
+#![tactic(auto)]
+
+mod answer;
+mod frame;
+mod machine;
+mod queue;
+mod report;
+mod status;
+mod top;
+mod unbuilt;
+mod words;
+
+pub use status::Status;
+pub use top::{ntrun, plain};
+pub use unbuilt::first_unbuilt;
+pub use words::is_live;
+
+#[cfg(test)]
+mod tests;
+
+use nt_outside::{OpenGate, StdSink, StdSource};
+use std::alloc::AllocError;
+use std::process::ExitCode;
+use std::rt::Env;
+use std::{env, io};
+
+/// The words behind the program's name.
+fn given_words<R: Env + AllocGlobal>(rt: &R) -> io::Result<Vec<String>> {
+    let words = env::args(rt)?.skip(1).collect(rt.alloc())?;
+    Ok(words)
+}
+
+fn main(rt: HostRuntime) -> ExitCode {
+    let mut source = StdSource::new(rt.stdin());
+    let mut sink = StdSink::new(rt.stdout());
+    let status = match given_words(&rt) {
+        Ok(words) => ntrun(
+            rt.alloc(),
+            words.as_slice(),
+            &mut source,
+            &mut sink,
+            &OpenGate,
+        ),
+        Err(error) if error.kind() == io::ErrorKind::OutOfMemory => top::starved(&mut sink),
+        // Words that are no text are no form.
+        Err(_) => ntrun(rt.alloc(), &[], &mut source, &mut sink, &OpenGate),
+    };
+    ExitCode::from(status.number())
+}

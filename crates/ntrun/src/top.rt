@@ -1,0 +1,94 @@
+//! The top call: from the words and the bytes in to the bytes out.
+ghost use Rattle.std.specs.Prelude.{◌≡◌, ◌≢◌, false, map, string_bytes};
+ghost use Rattle.ntrun.specs.Answer.{text_of};
+ghost use Rattle.ntrun.specs.Outcome.{supply, store, memory_line, IsFound, IsWritten, IsAnswered, HasCause};
+ghost use Rattle.ntrun.specs.Words.{is_live};
+
+use crate::answer::{Answer, Text, find_in, no_memory};
+use crate::status::Status;
+use crate::words::is_form;
+use nt_outside::{Gate, ReadRefusal, Sink, Source, WriteFault, read_all, write_all};
+use std::alloc::Global;
+
+/// The most bytes that an input may have.
+const INPUT_LIMIT: usize = 33_554_432;
+
+fn line(status: Status, text: &'static str) -> Answer
+    ensures status { result.status ≡ status }
+    ensures text { text_of result.text ≡ text.now }
+{
+    Answer {
+        status,
+        text: Text::Line(text),
+    }
+}
+
+/// What is found from the words and the source. Where the words are no form, nothing is read.
+fn find<S: Source>(alloc: Global, words: &[String], source: &mut S) -> Answer
+    ensures { IsFound (map string_bytes words.now) (supply (S.left source.old) (S.taken source.old) (S.faults source.old)) (supply (S.left source.new) (S.taken source.new) (S.faults source.new)) result.status (text_of result.text) }
+{
+    if !is_form(words) {
+        return line(Status::Usage, "usage: ntrun run\n");
+    }
+    match read_all(alloc, source, INPUT_LIMIT) {
+        Ok(bytes) => find_in(alloc, bytes.as_slice()),
+        Err(ReadRefusal::Fault) => line(Status::Read, "read fault\n"),
+        Err(ReadRefusal::TooLong) => line(Status::TooLong, "input too long\n"),
+        Err(ReadRefusal::NoMemory) => no_memory(),
+    }
+}
+
+/// Writes the text of an answer.
+fn write<K: Sink>(answer: &Answer, sink: &mut K) -> Status
+    requires { answer.now.status ≢ Status.Write }
+    ensures { IsWritten answer.now.status (text_of answer.now.text) (store (K.held sink.old) (K.faults sink.old)) (store (K.held sink.new) (K.faults sink.new)) result }
+{
+    match write_all(sink, answer.text.as_bytes()) {
+        Ok(()) => answer.status,
+        Err(WriteFault) => Status::Write,
+    }
+}
+
+/// The line and status of want of memory.
+pub(crate) fn starved<K: Sink>(sink: &mut K) -> Status
+    ensures { IsWritten Status.Memory memory_line (store (K.held sink.old) (K.faults sink.old)) (store (K.held sink.new) (K.faults sink.new)) result }
+{
+    write(&no_memory(), sink)
+}
+
+/// The program for all words that are no live form: `words` are those behind the program's name. It waits for nobody and returns.
+///
+/// In this order: `Usage` exactly where the words are no form, and then nothing is read; `Read` only where the source's count of
+/// faults rose; `TooLong` exactly where more than 33,554,432 bytes were taken; `Script` exactly where the reader refuses a line,
+/// or, where it refuses none, a later stage builds one; else `Ok` and the report of a history of the script. Want of memory,
+/// `Memory`, may come at any place behind the first. The text or line of the status is written whole by one `write_all`; where
+/// that fails, `Write`, and a front part of it stands.
+pub fn plain<S: Source, K: Sink>(
+    alloc: Global,
+    words: &[String],
+    source: &mut S,
+    sink: &mut K,
+) -> Status
+    requires { is_live (map string_bytes words.now) ≡ false }
+    ensures answered { IsAnswered (map string_bytes words.now) (supply (S.left source.old) (S.taken source.old) (S.faults source.old)) (supply (S.left source.new) (S.taken source.new) (S.faults source.new)) (store (K.held sink.old) (K.faults sink.old)) (store (K.held sink.new) (K.faults sink.new)) result }
+    ensures causes { HasCause (map string_bytes words.now) (supply (S.left source.old) (S.taken source.old) (S.faults source.old)) (supply (S.left source.new) (S.taken source.new) (S.faults source.new)) (store (K.held sink.old) (K.faults sink.old)) (store (K.held sink.new) (K.faults sink.new)) result }
+{
+    let answer = find(alloc, words, source);
+    write(&answer, sink)
+}
+
+/// The program: words are those behind its name, and what it writes goes to the sink.
+///
+/// It may wait where [`is_live`](crate::is_live) holds of the words.
+pub fn ntrun<S: Source, K: Sink, G: Gate>(
+    alloc: Global,
+    words: &[String],
+    source: &mut S,
+    sink: &mut K,
+    _gate: &G,
+) -> Status
+    ensures answered { IsAnswered (map string_bytes words.now) (supply (S.left source.old) (S.taken source.old) (S.faults source.old)) (supply (S.left source.new) (S.taken source.new) (S.faults source.new)) (store (K.held sink.old) (K.faults sink.old)) (store (K.held sink.new) (K.faults sink.new)) result }
+    ensures causes { HasCause (map string_bytes words.now) (supply (S.left source.old) (S.taken source.old) (S.faults source.old)) (supply (S.left source.new) (S.taken source.new) (S.faults source.new)) (store (K.held sink.old) (K.faults sink.old)) (store (K.held sink.new) (K.faults sink.new)) result }
+{
+    plain(alloc, words, source, sink)
+}
