@@ -6,8 +6,9 @@
 //! that was inserted last, else the one that was inserted first. [`DpcQueue::insert`] tells too which interrupt the queue's
 //! processor is asked for, by the object's importance, the depth of the queue and whether the processor is idle.
 //!
-//! Contracts see an object as [`ObjectFacts`](DpcObject) and a queue as its processor, its room, its depth limit and the very
-//! state of the machine's definitions: the pending inserts, the newest first, and the idle mark.
+//! Contracts see an object as its number, its part and the state of the machine's definitions: importance, target and where its
+//! entry stands. They see a queue as its processor, its room, its depth limit and the state of the same definitions: the pending
+//! inserts, the newest first, and the idle mark.
 //!
 //! Sources: Windows Internals, "Deferred procedure call interrupts"; the driver documentation, "Introduction to DPC Objects",
 //! "KeInsertQueueDpc", "KeRemoveQueueDpc", "KeSetImportanceDpc", "KeSetTargetProcessorDpc", "KeInitializeThreadedDpc".
