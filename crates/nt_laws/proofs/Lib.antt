@@ -8,3 +8,4 @@ pub mod RundownRun
 pub mod Leaves
 pub mod Deliveries
 pub mod Local
+pub mod Left

@@ -4,7 +4,7 @@
 #![tactic(auto)]
 
 ghost use Rattle.nt_laws.specs.Deliveries.{DeliveriesAreEligible};
-ghost use Rattle.nt_laws.specs.Locality.{ChangesOwnLanesOnly, StepIsLocal};
+ghost use Rattle.nt_laws.specs.Locality.{ChangesOwnLanesOnly, EventLeavesTheSame, StepIsLocal};
 
 /// Deliveries are eligible: each Begin, Expire and Flush of a run delivers a request that was eligible just before it.
 pub fn deliveries_are_eligible()
@@ -21,4 +21,10 @@ pub fn an_event_changes_its_own_lanes_only()
 /// two runs of one turn limit agree on these, the turn gives the same event after both.
 pub fn step_is_local()
     ensures { StepIsLocal }
+{}
+
+/// An event that two runs of one length go on by, where they agree on what its processor keeps and on the lanes that it touches, asks
+/// for the same after both, touches the same lanes, leaves the same states on them, and its processor keeps the same.
+pub fn an_event_leaves_the_same()
+    ensures { EventLeavesTheSame }
 {}
