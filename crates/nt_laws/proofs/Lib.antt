@@ -9,3 +9,4 @@ pub mod Leaves
 pub mod Deliveries
 pub mod Local
 pub mod Left
+pub mod OwnParts

@@ -1,16 +1,18 @@
 -- Locality: an event reads and changes only what its processor keeps and the lanes that it touches.
-use Rattle.std.specs.Prelude.{Bool, List, Ok, [], false, length, true, ℕ, ◌∷◌, ◌≡◌}
+use Rattle.std.specs.Prelude.{Bool, List, Ok, Option, [], false, if◌then◌else◌, length, true, ℕ, ◌<◌, ◌∷◌, ◌≡◌}
 use Rattle.nt_event.specs.declared.events.Event.{Event}
 use Rattle.nt_event.specs.declared.events.Turn.{Turn}
 use Rattle.nt_event.specs.declared.events.Turn.TheVariants.{Look as LookTurn}
 use Rattle.nt_event.specs.declared.jobs.Lane.{Lane}
 use Rattle.nt_event.specs.declared.numbers.CpuNo.{CpuNo}
 use Rattle.nt_event.specs.declared.scripts.Script.{Script}
+use Rattle.nt_event.specs.Frames.{due_of, time}
 use Rattle.nt_event.specs.LaneStates.{lane_state}
 use Rattle.nt_event.specs.Lanes.{lanes_of, touches}
 use Rattle.nt_event.specs.Own.{own_of}
-use Rattle.nt_event.specs.Requests.{asks}
+use Rattle.nt_event.specs.Requests.{asks, seen, served}
 use Rattle.nt_event.specs.Step.{IsRun, cpu_at, step}
+use Rattle.nt_event.specs.Words.{is_of}
 
 -- an event that doesn't touch a lane of the script leaves what stands in it, and what it tells of requests
 abbrev pub ChangesOwnLanesOnly : Type 0
@@ -48,3 +50,22 @@ pub record LeavesAlike (s : Script) (h k : List Event) (e : Event) : Type 0 wher
 
 abbrev pub EventLeavesTheSame : Type 0
 EventLeavesTheSame = (s : Script) (limit : ℕ) (h k : List Event) (e : Event) → Alike s limit h k e → LeavesAlike s h k e
+
+-- ---- what a processor keeps is its part of the history
+
+-- an event of a processor with its number and, of a delay that it calls, its due time
+pub record Made : Type 0 where
+  pub number : ℕ
+  pub event : Event
+  pub due : Option ℕ
+
+-- the part of the history that is the processor's, the newest event first
+abbrev pub own_part : CpuNo → List Event → List Made
+own_part p [] = []
+own_part p (e ∷ past) =
+    if is_of e p then (record { number = length past; event = e; due = due_of e.what (time past) } ∷ own_part p past) else own_part p past
+
+-- what a processor keeps is determined by its part of the history, with the due times of the delays that it called, and by what it
+-- has seen and served of each class
+abbrev pub KeepsItsPart : Type 0
+KeepsItsPart = (s : Script) (p : CpuNo) (h k : List Event) → own_part p h ≡ own_part p k → ((c : ℕ) → c < 16 → seen s p c h ≡ seen s p c k) → ((c : ℕ) → c < 16 → served s p c h ≡ served s p c k) → own_of s p h ≡ own_of s p k

@@ -4,7 +4,7 @@
 #![tactic(auto)]
 
 ghost use Rattle.nt_laws.specs.Deliveries.{DeliveriesAreEligible};
-ghost use Rattle.nt_laws.specs.Locality.{ChangesOwnLanesOnly, EventLeavesTheSame, StepIsLocal};
+ghost use Rattle.nt_laws.specs.Locality.{ChangesOwnLanesOnly, EventLeavesTheSame, KeepsItsPart, StepIsLocal};
 
 /// Deliveries are eligible: each Begin, Expire and Flush of a run delivers a request that was eligible just before it.
 pub fn deliveries_are_eligible()
@@ -27,4 +27,10 @@ pub fn step_is_local()
 /// for the same after both, touches the same lanes, leaves the same states on them, and its processor keeps the same.
 pub fn an_event_leaves_the_same()
     ensures { EventLeavesTheSame }
+{}
+
+/// What a processor keeps is determined by its part of the history, with the due times of the delays that it called, and by what it has
+/// seen and served of each class.
+pub fn a_processor_keeps_its_part()
+    ensures { KeepsItsPart }
 {}
