@@ -11,3 +11,5 @@ pub mod Local
 pub mod FatesElements
 pub mod FatesPicks
 pub mod FatesDeliveries
+pub mod Left
+pub mod OwnParts

@@ -63,19 +63,19 @@ use Rattle.nt_laws.specs.Locality.{SameOnEach, makes}
 
 -- ---- what a lane's state tells
 
-object_same : (s : Script) (h k : List Event) (d : DpcNo) → lane_state s (ObjectLane d) h ≡ lane_state s (ObjectLane d) k → object_at (lanes_at s h) d ≡ object_at (lanes_at s k) d
+pub object_same : (s : Script) (h k : List Event) (d : DpcNo) → lane_state s (ObjectLane d) h ≡ lane_state s (ObjectLane d) k → object_at (lanes_at s h) d ≡ object_at (lanes_at s k) d
 object_same s h k d e = same _ _ (ap (λ (x : LaneState). x.content) e)
   where
     same : (a b : ObjectState) → OfObject a ≡ OfObject b → a ≡ b
     same a b q = cc
 
-queue_same : (s : Script) (h k : List Event) (p : CpuNo) → lane_state s (QueueLane p) h ≡ lane_state s (QueueLane p) k → queue_at (lanes_at s h) p ≡ queue_at (lanes_at s k) p
+pub queue_same : (s : Script) (h k : List Event) (p : CpuNo) → lane_state s (QueueLane p) h ≡ lane_state s (QueueLane p) k → queue_at (lanes_at s h) p ≡ queue_at (lanes_at s k) p
 queue_same s h k p e = same _ _ (ap (λ (x : LaneState). x.content) e)
   where
     same : (a b : QueueState) → OfQueue a ≡ OfQueue b → a ≡ b
     same a b q = cc
 
-timers_same : (s : Script) (h k : List Event) → lane_state s TimersLane h ≡ lane_state s TimersLane k → (lanes_at s h).timers ≡ (lanes_at s k).timers
+pub timers_same : (s : Script) (h k : List Event) → lane_state s TimersLane h ≡ lane_state s TimersLane k → (lanes_at s h).timers ≡ (lanes_at s k).timers
 timers_same s h k e = same _ _ (ap (λ (x : LaneState). x.content) e)
   where
     same : (a b : Timers) → OfTimers a ≡ OfTimers b → a ≡ b
@@ -109,7 +109,7 @@ threads_lane s h k p e = same _ _ (ap (λ (x : LaneState). x.content) e)
     same a b q = cc
 
 -- the facts of each thread of the processor
-facts_same : (s : Script) (h k : List Event) (p : CpuNo) (t : ThreadNo) → lane_state s (ThreadsLane p) h ≡ lane_state s (ThreadsLane p) k → (cpu_of s t).0 ≡ p.0 → facts_at (lanes_at s h) t ≡ facts_at (lanes_at s k) t
+pub facts_same : (s : Script) (h k : List Event) (p : CpuNo) (t : ThreadNo) → lane_state s (ThreadsLane p) h ≡ lane_state s (ThreadsLane p) k → (cpu_of s t).0 ≡ p.0 → facts_at (lanes_at s h) t ≡ facts_at (lanes_at s k) t
 facts_same s h k p t e c = go (nat_lt t.0 (length s.threads)) refl
   where
     go : (b : Bool) → nat_lt t.0 (length s.threads) ≡ b → facts_at (lanes_at s h) t ≡ facts_at (lanes_at s k) t
@@ -152,7 +152,7 @@ wait_accepted x r level m a o =
 
 -- where two histories have the same states on the lanes of a command, the reply is the same
 module _ (s : Script) (h k : List Event) (st : Stand) (run : (t : ThreadNo) → st.thread ≡ Some t → (cpu_of s t).0 ≡ st.cpu.0) where
-  own_facts : lane_state s (ThreadsLane st.cpu) h ≡ lane_state s (ThreadsLane st.cpu) k → facts_of (lanes_at s h) st.thread ≡ facts_of (lanes_at s k) st.thread
+  pub own_facts : lane_state s (ThreadsLane st.cpu) h ≡ lane_state s (ThreadsLane st.cpu) k → facts_of (lanes_at s h) st.thread ≡ facts_of (lanes_at s k) st.thread
   own_facts e = go st.thread refl
     where
       go : (o : Option ThreadNo) → st.thread ≡ o → facts_of (lanes_at s h) o ≡ facts_of (lanes_at s k) o
@@ -441,11 +441,11 @@ step_names s limit t past kind o w below uncut u c =
     rw (below, uncut) (u ∙ ap (event_or s (cpu_at t) (own_of s (cpu_at t) past) kind) c)
 
 -- the running thread is the processor's own
-own_runs : (s : Script) (limit : ℕ) (p : CpuNo) (past : List Event) → IsRun s limit past → (t : ThreadNo) → running p past ≡ Some t → (cpu_of s t).0 ≡ p.0
+pub own_runs : (s : Script) (limit : ℕ) (p : CpuNo) (past : List Event) → IsRun s limit past → (t : ThreadNo) → running p past ≡ Some t → (cpu_of s t).0 ≡ p.0
 own_runs s limit p past r t h = (running_here s limit p t past r h).1
 
 -- the lanes of an event, by where its processor stood
-lanes_named : (s : Script) (h k : List Event) (p : CpuNo) (w : What) (e : Event) → event_at s p w (frames_of s p h) ≡ e → SameOnEach s h k (lanes_of s e h) → SameOnEach s h k (what_lanes s (stand_at s p h) w (lanes_at s h))
+pub lanes_named : (s : Script) (h k : List Event) (p : CpuNo) (w : What) (e : Event) → event_at s p w (frames_of s p h) ≡ e → SameOnEach s h k (lanes_of s e h) → SameOnEach s h k (what_lanes s (stand_at s p h) w (lanes_at s h))
 lanes_named s h k p w e i q = subst (λ (e : Event). SameOnEach s h k (lanes_of s e h)) (sym i) q
 
 -- the next event

@@ -49,7 +49,7 @@ past_table k (suc n) zero f d h = absurd (omega (arith, h))
 past_table k (suc n) (suc i) f d h = past_table (suc k) n i f d (omega (arith, h))
 
 -- two tables are read alike at a place where their functions agree
-read_same : {A : Type 0} (n i : ℕ) (f g : ℕ → A) (d : A) → (i < n → f i ≡ g i) → get_or (table n f) i d ≡ get_or (table n g) i d
+pub read_same : {A : Type 0} (n i : ℕ) (f g : ℕ → A) (d : A) → (i < n → f i ≡ g i) → get_or (table n f) i d ≡ get_or (table n g) i d
 read_same n i f g d h = go (nat_lt i n) refl
   where
     go : (b : Bool) → nat_lt i n ≡ b → get_or (table n f) i d ≡ get_or (table n g) i d
@@ -174,7 +174,7 @@ facts_untouched s q t e past own h =
         made_untouched s (stand_at s e.cpu past) e.what (lanes_at s past) q (length past) (facts s t past) (eq-eqb e.cpu.0 q.0 (here ∙ own)) h
 
 -- the threads of a processor, one by one
-threads_same : (s : Script) (p : CpuNo) (n : ℕ) (xs : List ThreadDecl) (l m : Lanes) → ((i : ℕ) → slice_get s.threads (n + i) ≡ slice_get xs i) → ((t : ThreadNo) → (cpu_of s t).0 ≡ p.0 → facts_at l t ≡ facts_at m t) → threads_from p n xs l ≡ threads_from p n xs m
+pub threads_same : (s : Script) (p : CpuNo) (n : ℕ) (xs : List ThreadDecl) (l m : Lanes) → ((i : ℕ) → slice_get s.threads (n + i) ≡ slice_get xs i) → ((t : ThreadNo) → (cpu_of s t).0 ≡ p.0 → facts_at l t ≡ facts_at m t) → threads_from p n xs l ≡ threads_from p n xs m
 threads_same s p n [] l m h k = refl
 threads_same s p n (x ∷ xs) l m h k =
     go (x.cpu.0 == p.0) refl (threads_same s p (suc n) xs l m next k)

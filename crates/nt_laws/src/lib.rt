@@ -6,7 +6,7 @@
 mod fates;
 
 ghost use Rattle.nt_laws.specs.Deliveries.{DeliveriesAreEligible};
-ghost use Rattle.nt_laws.specs.Locality.{ChangesOwnLanesOnly, StepIsLocal};
+ghost use Rattle.nt_laws.specs.Locality.{ChangesOwnLanesOnly, EventLeavesTheSame, KeepsItsPart, StepIsLocal};
 
 pub use fates::a_delivery_names_a_pending_insert;
 
@@ -25,4 +25,16 @@ pub fn an_event_changes_its_own_lanes_only()
 /// two runs of one turn limit agree on these, the turn gives the same event after both.
 pub fn step_is_local()
     ensures { StepIsLocal }
+{}
+
+/// An event that two runs of one length go on by, where they agree on what its processor keeps and on the lanes that it touches, asks
+/// for the same after both, touches the same lanes, leaves the same states on them, and its processor keeps the same.
+pub fn an_event_leaves_the_same()
+    ensures { EventLeavesTheSame }
+{}
+
+/// What a processor keeps is determined by its part of the history, with the due times of the delays that it called, and by what it has
+/// seen and served of each class.
+pub fn a_processor_keeps_its_part()
+    ensures { KeepsItsPart }
 {}
