@@ -10,3 +10,4 @@ pub mod Deliveries
 pub mod FatesElements
 pub mod FatesPicks
 pub mod FatesDeliveries
+pub mod FatesRemovals
