@@ -13,3 +13,4 @@ pub mod FatesPicks
 pub mod FatesDeliveries
 pub mod Left
 pub mod OwnParts
+pub mod FatesRemovals

@@ -1,10 +1,11 @@
 -- The fate of inserts in a run.
 use Rattle.std.specs.List.{Contains}
-use Rattle.std.specs.Prelude.{List, Some, ℕ, ◌∷◌, ◌≡◌}
+use Rattle.std.specs.Prelude.{List, Some, false, is_some, true, ℕ, ◌∷◌, ◌≡◌}
+use Rattle.nt_event.specs.declared.commands.Command.TheVariants.{RemoveApc, Unqueue}
 use Rattle.nt_event.specs.declared.events.Begun.TheVariants.{Apc, Dpc, Threaded}
 use Rattle.nt_event.specs.declared.events.Event.{Event}
 use Rattle.nt_event.specs.declared.events.What.{What}
-use Rattle.nt_event.specs.declared.events.What.TheVariants.{Begin, Flush}
+use Rattle.nt_event.specs.declared.events.What.TheVariants.{Begin, Call, Flush}
 use Rattle.nt_event.specs.declared.inserts.Insert.{Insert}
 use Rattle.nt_event.specs.declared.inserts.Pick.{Pick}
 use Rattle.nt_event.specs.declared.numbers.ApcNo.{ApcNo}
@@ -12,11 +13,15 @@ use Rattle.nt_event.specs.declared.numbers.CpuNo.{CpuNo}
 use Rattle.nt_event.specs.declared.numbers.DpcNo.{DpcNo}
 use Rattle.nt_event.specs.declared.numbers.ThreadNo.{ThreadNo}
 use Rattle.nt_event.specs.declared.scripts.Script.{Script}
+use Rattle.nt_event.specs.Apcs.{is_inserted}
 use Rattle.nt_event.specs.Frames.{running}
+use Rattle.nt_event.specs.Objects.{standing}
 use Rattle.nt_event.specs.Queues.{pending}
 use Rattle.nt_event.specs.Routines.{owner_of}
+use Rattle.nt_event.specs.Script.{has_dpc, has_thread}
 use Rattle.nt_event.specs.Step.{IsRun}
 use Rattle.nt_event.specs.Waits.{facts}
+use Rattle.nt_event.specs.Words.{is_refused, yes_if}
 
 -- the insert of the DPC object at this number is pending in the queue of p
 abbrev pub DpcIsPending : Script → CpuNo → DpcNo → ℕ → List Event → Type 0
@@ -38,3 +43,13 @@ NamesPending s p w past = Unit {0}
 -- in a run each Begin of a DPC or APC and each Flush names an insert of its object that was pending just before it
 abbrev pub DeliveriesNamePendingInserts : Type 0
 DeliveriesNamePendingInserts = (s : Script) (limit : ℕ) (e : Event) (past : List Event) → IsRun s limit (e ∷ past) → NamesPending s e.cpu e.what past
+
+-- a removal of an object of the script that isn't refused answers yes exactly where the object is inserted, and else no
+abbrev pub RemovalTells : Script → What → List Event → Type 0
+RemovalTells s (Call f (Unqueue d) y) past = has_dpc s d ≡ true → is_refused y ≡ false → y ≡ yes_if (is_some (standing d past))
+RemovalTells s (Call f (RemoveApc a) y) past = has_thread s (owner_of s a) ≡ true → is_refused y ≡ false → y ≡ yes_if (is_inserted a (facts s (owner_of s a) past).apcs)
+RemovalTells s w past = Unit {0}
+
+-- in a run each removal tells whether its object was inserted just before it
+abbrev pub RemovalsTell : Type 0
+RemovalsTell = (s : Script) (limit : ℕ) (e : Event) (past : List Event) → IsRun s limit (e ∷ past) → RemovalTells s e.what past

@@ -1,9 +1,15 @@
 //! The fate of inserts in a run: what a delivery or a removal finds pending.
 
-ghost use Rattle.nt_laws.specs.Fates.{DeliveriesNamePendingInserts};
+ghost use Rattle.nt_laws.specs.Fates.{DeliveriesNamePendingInserts, RemovalsTell};
 
 /// A delivery names a pending insert: each Begin of a DPC or an APC and each Flush of a run names an insert of its object that
 /// was pending just before it, a DPC's in the queue of its processor, an APC's at the thread that runs there.
 pub fn a_delivery_names_a_pending_insert()
     ensures { DeliveriesNamePendingInserts }
+{}
+
+/// A removal answers yes exactly where there was one: an `unqueue` or `unapc` of a run that isn't refused answers yes exactly
+/// where its object was inserted just before it, and else no.
+pub fn a_removal_answers_yes_exactly_where_there_was_one()
+    ensures { RemovalsTell }
 {}

@@ -8,7 +8,9 @@ mod fates;
 ghost use Rattle.nt_laws.specs.Deliveries.{DeliveriesAreEligible};
 ghost use Rattle.nt_laws.specs.Locality.{ChangesOwnLanesOnly, EventLeavesTheSame, KeepsItsPart, StepIsLocal};
 
-pub use fates::a_delivery_names_a_pending_insert;
+pub use fates::{
+    a_delivery_names_a_pending_insert, a_removal_answers_yes_exactly_where_there_was_one,
+};
 
 /// Deliveries are eligible: each Begin, Expire and Flush of a run delivers a request that was eligible just before it.
 pub fn deliveries_are_eligible()
