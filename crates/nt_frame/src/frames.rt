@@ -1,9 +1,10 @@
 //! The frames of one processor and its threads.
 ghost use Rattle.std.specs.Prelude.{◌≡◌, ◌<◌, ◌↔◌, ◌+◌, ◌==◌, false, not, length, option_copied, option_map, IsTrue, IsSome, IsOk, IfSome, IfOk, IfErr, OnOk, OnErr};
-ghost use Rattle.std.specs.Option.{ForSome};
+ghost use Rattle.std.specs.Option.{ForSome, option_map_or, option_or};
+ghost use Rattle.nt_event.specs.Frames.{thread_part};
 ghost use Rattle.nt_event.specs.Frames.{done_to, frames_in, innermost, is_on_thread as on_thread_part, left, level_in, normal_of};
-ghost use Rattle.nt_event.specs.Regions.{below_in, some_came_to_0};
-ghost use Rattle.nt_event.specs.Words.{is_null};
+ghost use Rattle.nt_event.specs.Regions.{after_in, below_in, some_came_to_0};
+ghost use Rattle.nt_event.specs.Words.{is_null, head_of};
 ghost use Rattle.nt_frame.specs.Changes.{at_innermost, begun, closed, no_frames, without_innermost};
 ghost use Rattle.nt_frame.specs.Nesting.{AreNamedBelow, AreNested, IsThreadPart};
 ghost use Rattle.nt_frame.specs.Rules.{count_of, end_asks_apc, enter_of, is_at_base, is_leaving, leave_of, may_begin, may_go_on, refusal_in, regions_in};
@@ -102,6 +103,19 @@ impl Frames {
         match self.running_part() {
             Some(part) => part.regions_below(),
             None => NO_REGIONS,
+        }
+    }
+
+    /// The level once the innermost frame has ended.
+    pub fn after(&self) -> Level
+        ensures { result ≡ after_in self.now }
+    {
+        if !self.own.is_empty() {
+            return first_level(self.own.second(), self.outermost_running());
+        }
+        match self.running_part() {
+            Some(part) => first_level(None, part.second()),
+            None => Level::PASSIVE,
         }
     }
 
@@ -345,7 +359,8 @@ impl Frames {
         });
     }
 
-    fn top(&self) -> Option<Frame>
+    /// The innermost frame.
+    pub fn top(&self) -> Option<Frame>
         ensures value { result ≡ innermost self.now }
         ensures nested { AreNested self.now }
     {
@@ -353,6 +368,13 @@ impl Frames {
             Some(frame) => Some(frame),
             None => self.running_part()?.innermost(),
         }
+    }
+
+    /// The innermost frame of the running thread's part.
+    fn outermost_running(&self) -> Option<Frame>
+        ensures { result ≡ head_of (thread_part self.now) }
+    {
+        self.running_part()?.innermost()
     }
 
     /// The part of the running thread.
@@ -435,5 +457,18 @@ fn leave_command(r: Region) -> Command
     match r {
         Region::Crit => Command::LeaveCrit,
         Region::Guard => Command::LeaveGuard,
+    }
+}
+
+/// The level of the first of these frames, else of the second; PASSIVE_LEVEL where there is neither.
+fn first_level(first: Option<Frame>, second: Option<Frame>) -> Level
+    ensures { result ≡ option_map_or (λ f. f.level) (option_or first second) 0 }
+{
+    match first {
+        Some(frame) => frame.level,
+        None => match second {
+            Some(frame) => frame.level,
+            None => Level::PASSIVE,
+        },
     }
 }

@@ -47,6 +47,13 @@ impl<const ROOM: usize> Part<ROOM> {
         self.frames.last().copied()
     }
 
+    /// The frame under the innermost one.
+    pub fn second(&self) -> Option<Frame>
+        ensures { result ≡ head_of (tail_of self.now) }
+    {
+        outer(self.frames.as_slice()).last().copied()
+    }
+
     pub fn push(&mut self, frame: Frame)
         requires { length self.old < ROOM }
         ensures { self.new ≡ frame ∷ self.old }

@@ -1,0 +1,179 @@
+-- What holds of the task that a processor has to do next.
+use Rattle.std.proofs.Common.{ap, arith, subst, sym, ◌∙◌}
+use Rattle.std.proofs.lemmas.Bool.Decides.{nat_tests}
+use Rattle.std.specs.List.{list_all}
+use Rattle.std.specs.Option.{option_map_or, option_or}
+use Rattle.std.specs.Prelude.{Bool, IfSome, IsTrue, List, None, Option, Some, [], false, find, if◌then◌else◌, is_none, is_some, length, nat_lt, not, option_and_then, option_map, refl, slice_get, true, ℕ, ◌&&◌, ◌-◌, ◌<◌, ◌==◌, ◌||◌, ◌∷◌, ◌≡◌}
+use Rattle.nt_event.specs.declared.commands.ApcKind.TheVariants.{Normal as NormalApc, Special as SpecialApc, User as UserApc}
+use Rattle.nt_event.specs.declared.commands.Command.{Command}
+use Rattle.nt_event.specs.declared.commands.Command.TheVariants.{Delay, Interrupt, LeaveCrit, LeaveGuard, StartWait, ToUser}
+use Rattle.nt_event.specs.declared.commands.Refusal.{Refusal}
+use Rattle.nt_event.specs.declared.commands.Reply.{Reply}
+use Rattle.nt_event.specs.declared.commands.Reply.TheVariants.{Done, Refused}
+use Rattle.nt_event.specs.declared.events.Begun.TheVariants.{Int}
+use Rattle.nt_event.specs.declared.events.What.{What}
+use Rattle.nt_event.specs.declared.events.What.TheVariants.{Begin, Call, End, Normal}
+use Rattle.nt_event.specs.declared.frames.Body.{Body}
+use Rattle.nt_event.specs.declared.frames.Body.TheVariants.{Apc as OnApc, Base as OnBase}
+use Rattle.nt_event.specs.declared.frames.Frame.{Frame}
+use Rattle.nt_event.specs.declared.jobs.Job.{Job}
+use Rattle.nt_event.specs.declared.jobs.Job.TheVariants.{Apcs as ApcsJob, Call as CallJob, Drain as DrainJob, Fire as FireJob, Idle as IdleJob, Leave as LeaveJob, Pick as PickJob, Rewait as RewaitJob, Rundown as RundownJob, Switch as SwitchJob, Threaded as ThreadedJob, ToUser as ToUserJob, UserEnd as UserEndJob}
+use Rattle.nt_event.specs.declared.jobs.Stand.{Stand}
+use Rattle.nt_event.specs.declared.jobs.Task.{Task}
+use Rattle.nt_event.specs.declared.jobs.Task.TheVariants.{Alone, Shared}
+use Rattle.nt_event.specs.declared.numbers.CpuNo.{CpuNo}
+use Rattle.nt_event.specs.declared.numbers.DpcNo.{DpcNo}
+use Rattle.nt_event.specs.declared.numbers.RoutineNo.{RoutineNo}
+use Rattle.nt_event.specs.declared.scripts.Routine.{Routine}
+use Rattle.nt_event.specs.declared.scripts.Script.{Script}
+use Rattle.nt_event.specs.Commands.{needs_lane, refusal}
+use Rattle.nt_event.specs.Frames.{Frames, innermost, thread_part}
+use Rattle.nt_event.specs.Jobs.{call_task, command_task, end_task, fire_task, frame_task, has_normal, idle_task, interrupt_classes, interrupt_task, level_at, may_apcs, may_drain, may_interrupt, may_switch, may_threaded, must_task, normal_task, rewait_task, rundown_task, task}
+use Rattle.nt_event.specs.Own.{Own, standing_in}
+use Rattle.nt_event.specs.Regions.{regions_of, some_came_to_0}
+use Rattle.nt_event.specs.Routines.{commands_of, next_command, routine_of}
+use Rattle.nt_event.specs.Script.{command_fits, fits, has_cpu, has_dpc, is_requested_level, routine_fits}
+use Rattle.nt_event.specs.Words.{is_null, is_refused, value_at, when}
+use Rattle.nt_event.proofs.Options.{Holds, both, holds_map, holds_or, holds_then, holds_when}
+use Rattle.nt_frame.specs.Rules.{is_leaving, may_go_on, refusal_in, regions_in}
+use Rattle.nt_frame.proofs.Tasks.{int_may_begin, leaving_here, normal_here, refusal_here}
+use Rattle.nt_cpu.specs.Alone.{MayBe, alone_asks, ask_when, call_asks, ends_alone, is_alone}
+use Rattle.nt_cpu.specs.GoodTasks.{Awaits, Calls, GoodJob, GoodTask, Runs}
+use Rattle.nt_cpu.specs.Fits.{Allow, IsAt, may_call, may_reply}
+use Rattle.nt_cpu.specs.Sound.{IsSound}
+use Rattle.nt_cpu.specs.States.{CpuState}
+use Rattle.nt_cpu.proofs.Kept.{each}
+
+-- ---- the script's commands fit
+
+in_routine : (s : Script) (r : Option RoutineNo) (i : ℕ) (k : Command) → fits s ≡ true → slice_get (commands_of s r) i ≡ Some k → command_fits s k ≡ true
+in_routine s None i k h e = absurd cc
+in_routine s (Some r) i k h e = go (slice_get s.routines r.0) refl e
+  where
+    go : (o : Option Routine) → slice_get s.routines r.0 ≡ o → slice_get (option_map_or (λ x. x.commands) o []) i ≡ Some k → command_fits s k ≡ true
+    go None p q = absurd cc
+    go (Some x) p q =
+        each (command_fits s) x.commands i k (each (routine_fits s) s.routines r.0 x (both _ _ h).1 p) q
+
+pub next_fits : (s : Script) (p : CpuNo) (f : Frame) (k : Command) → fits s ≡ true → next_command s p f ≡ Some k → command_fits s k ≡ true
+next_fits s p f k h e = go f.leaving e
+  where
+    go : (b : Bool) → (if b then None else slice_get (commands_of s (routine_of s p f.body f.kernel_phase)) f.place) ≡ Some k → command_fits s k ≡ true
+    go true q = absurd cc
+    go false q = in_routine s (routine_of s p f.body f.kernel_phase) f.place k h q
+
+-- ---- what an event that touches no lane asks for
+
+asks_own : (c : CpuState) (b : Bool) (k : ℕ) → IsSound c → IfSome (ask_when b c.cpu k) (λ a. a.cpu.0 < c.script.cpus)
+asks_own c true k h = let p = h.cpu in grind (arith, nat_tests)
+asks_own c false k h = tt
+
+refused_asks : (st : Stand) (k : Command) (r : Refusal) → call_asks st k (Refused r) ≡ None
+refused_asks st LeaveCrit r = refl
+refused_asks st LeaveGuard r = refl
+refused_asks st (Interrupt q l) r = refl
+refused_asks st _ r = refl
+
+asks_called : (c : CpuState) (k : Command) → IsSound c → command_fits c.script k ≡ true → IfSome (call_asks (standing_in c.cpu c.own) k Done) (λ a. a.cpu.0 < c.script.cpus)
+asks_called c LeaveCrit h f = asks_own c _ 1 h
+asks_called c LeaveGuard h f = asks_own c _ 1 h
+asks_called c (Interrupt q l) h f =
+    let p = (both (has_cpu c.script q) (is_requested_level l) f).0 in grind (arith, nat_tests)
+asks_called c _ h f = tt
+
+-- ---- the cases
+
+at_frame : (f : Frame) (c : CpuState) → innermost c.own.frames ≡ Some f → IsAt f.name c.own.frames
+at_frame f c k = record { frame = f; is = k; name = refl }
+
+reply_done : (k : Command) → needs_lane k ≡ false → may_reply k Done ≡ true
+reply_done (StartWait m a) h = absurd cc
+reply_done (Delay m a u) h = absurd cc
+reply_done _ h = refl
+
+pub accepted_call : (k : Command) (y : Reply) (x : Frames) → refusal_in k x ≡ None → may_reply k y ≡ true → may_call k y x ≡ true
+accepted_call k y x a r = go (is_refused y)
+  where
+    go : (b : Bool) → (b || (is_none (refusal_in k x) && may_reply k y)) ≡ true
+    go true = refl
+    go false = rw (a, r) refl
+
+lane_free : (k : Command) → needs_lane k ≡ false → (not (needs_lane k) && true) ≡ true
+lane_free k h = rw h refl
+
+call_good : (c : CpuState) (f : Frame) (k : Command) (r : Option Refusal) → IsSound c → innermost c.own.frames ≡ Some f → refusal_in k c.own.frames ≡ r → command_fits c.script k ≡ true → GoodTask c (call_task f k r)
+call_good c f k (Some r) h i e q = record {
+  alone = refl;
+  allow = (at_frame f c i, refl);
+  asks = rw (refused_asks (standing_in c.cpu c.own) k r) tt;
+}
+call_good c f ToUser None h i e q = record { frame = f; is = i; accepted = e; fits = q }
+call_good c f k None h i e q = go (needs_lane k) refl
+  where
+    go : (b : Bool) → needs_lane k ≡ b → GoodTask c (if b then Shared (CallJob k) else Alone (Call f.name k Done))
+    go true n = record { frame = f; is = i; accepted = e; fits = q }
+    go false n = record {
+      alone = lane_free k n;
+      allow = (at_frame f c i, accepted_call k Done c.own.frames e (reply_done k n));
+      asks = asks_called c k h q;
+    }
+
+command_good : (c : CpuState) (f : Frame) → IsSound c → innermost c.own.frames ≡ Some f → Holds (GoodTask c) (command_task c.own f (next_command c.script c.cpu f))
+command_good c f h i = go (next_command c.script c.cpu f) refl
+  where
+    go : (o : Option Command) → next_command c.script c.cpu f ≡ o → Holds (GoodTask c) (command_task c.own f o)
+    go None e = tt
+    go (Some k) e =
+        call_good c f k (refusal (level_at c.own) (not (is_null c.own.frames.own)) (regions_of (thread_part c.own.frames)) f k) h i (refusal_here k f c.own.frames i) (next_fits c.script c.cpu f k h.script e)
+
+end_good : (c : CpuState) (f : Frame) → IsSound c → innermost c.own.frames ≡ Some f → f.leaving ≡ false → GoodTask c (end_task f.name f.body)
+end_good c f h i l = go f.body refl
+  where
+    go : (b : Body) → f.body ≡ b → GoodTask c (end_task f.name b)
+    go (OnBase t) e = record { frame = f; is = i; leaving = l }
+    go (OnApc a UserApc) e = record { frame = f; is = i; leaving = l }
+    go _ e = record {
+      alone = rw (i, e) refl;
+      allow = (at_frame f c i, leaving_here f c.own.frames i ∙ l);
+      asks = asks_own c _ 1 h;
+    }
+
+frame_good : (c : CpuState) (f : Frame) → IsSound c → innermost c.own.frames ≡ Some f → Holds (GoodTask c) (frame_task c.script c.cpu c.own f)
+frame_good c f h i =
+    holds_or (GoodTask c) (rewait_task f) _ (holds_when (GoodTask c) (is_some f.again) _ (λ a. record { frame = f; is = i; again = a })) (λ _. holds_or (GoodTask c) (rundown_task f) _ (holds_when (GoodTask c) f.leaving _ (λ a. leaving_here f c.own.frames i ∙ a)) (λ l. holds_or (GoodTask c) (command_task c.own f (next_command c.script c.cpu f)) _ (command_good c f h i) (λ _. holds_or (GoodTask c) (normal_task f) _ (holds_when (GoodTask c) (f.kernel_phase && has_normal f.body) _ (λ a. record { alone = refl; allow = (at_frame f c i, normal_here f c.own.frames i ∙ a); asks = asks_own c _ 1 h })) (λ _. end_good c f h i (stays f.leaving l)))))
+  where
+    stays : (b : Bool) → when b (Some (Shared RundownJob)) ≡ None → b ≡ false
+    stays true e = absurd cc
+    stays false e = refl
+
+interrupt_good : (c : CpuState) → Holds (GoodTask c) (interrupt_task c.own)
+interrupt_good c =
+    holds_map (GoodTask c) (λ k. Alone (Begin (Int k) (value_at c.own.seen k - 1))) (find (may_interrupt c.own) interrupt_classes) (λ k e. record { alone = refl; allow = int_may_begin c.own k e; asks = tt })
+
+must_good : (c : CpuState) → IsSound c → Holds (GoodTask c) (must_task c.own)
+must_good c h =
+    holds_or (GoodTask c) (fire_task c.own) _ (fired c.own.fire h.fire) (λ _. holds_or (GoodTask c) (interrupt_task c.own) _ (interrupt_good c) (λ _. holds_or (GoodTask c) (when (may_drain c.own) (Some (Shared DrainJob))) _ (holds_when (GoodTask c) (may_drain c.own) _ (λ a. a)) (λ _. holds_or (GoodTask c) (when (may_apcs c.own) (Some (Shared ApcsJob))) _ (holds_when (GoodTask c) (may_apcs c.own) _ (λ a. a)) (λ _. holds_when (GoodTask c) (may_threaded c.own) _ (λ a. a)))))
+  where
+    fired : (o : Option DpcNo) → IfSome o (λ d. IsTrue (has_dpc c.script d)) → Holds (GoodTask c) (option_map (λ d. Shared (FireJob d)) o)
+    fired None k = tt
+    fired (Some d) k = k
+
+-- each frame has a task
+frame_has : (a b k d : Option Task) (e : Task) → option_or a (option_or b (option_or k (option_or d (Some e)))) ≡ None → ⊥
+frame_has None None None None e h = cc
+frame_has None None None (Some x) e h = cc
+frame_has None None (Some x) d e h = cc
+frame_has None (Some x) k d e h = cc
+frame_has (Some x) b k d e h = cc
+
+no_frame : (c : CpuState) → option_and_then (frame_task c.script c.cpu c.own) (innermost c.own.frames) ≡ None → innermost c.own.frames ≡ None
+no_frame c = go (innermost c.own.frames)
+  where
+    go : (o : Option Frame) → option_and_then (frame_task c.script c.cpu c.own) o ≡ None → o ≡ None
+    go None e = refl
+    go (Some f) e =
+        absurd (frame_has (rewait_task f) (rundown_task f) (command_task c.own f (next_command c.script c.cpu f)) (normal_task f) (end_task f.name f.body) e)
+
+pub task_good : (c : CpuState) → IsSound c → Holds (GoodTask c) (task c.script c.cpu c.own)
+task_good c h =
+    holds_or (GoodTask c) (must_task c.own) _ (must_good c h) (λ _. holds_or (GoodTask c) (option_and_then (frame_task c.script c.cpu c.own) (innermost c.own.frames)) _ (holds_then (GoodTask c) (frame_task c.script c.cpu c.own) (innermost c.own.frames) (λ f i. frame_good c f h i)) (λ e. holds_when (GoodTask c) (not (c.own.rested && is_none c.own.frames.running)) _ (λ _. no_frame c e)))

@@ -1,0 +1,140 @@
+-- What holds of a processor at any time holds after each event.
+use Rattle.std.proofs.Common.{ap, arith, subst, sym, ◌∙◌}
+use Rattle.std.proofs.lemmas.List.Sums.{AllPass-from_list_all}
+use Rattle.std.proofs.lemmas.Option.{get_or_from_slice_get, slice_get_within}
+use Rattle.std.specs.List.{list_all}
+use Rattle.std.specs.Prelude.{All, Bool, IfSome, IsTrue, List, None, Option, Some, [], false, if◌then◌else◌, is_none, length, not, option_and_then, refl, slice_get, true, ℕ, ◌&&◌, ◌+◌, ◌<◌, ◌==◌, ◌^◌, ◌||◌, ◌∷◌, ◌≡◌, ◌≤◌}
+use Rattle.nt_event.specs.declared.commands.Command.{Command}
+use Rattle.nt_event.specs.declared.commands.Command.TheVariants.{Delay, EnterCrit, EnterGuard, LeaveCrit, LeaveGuard, Lower, Raise, StartWait}
+use Rattle.nt_event.specs.declared.commands.Reply.{Reply}
+use Rattle.nt_event.specs.declared.commands.Reply.TheVariants.{Blocked, Done, No, Refused, Status, Yes}
+use Rattle.nt_event.specs.declared.commands.TimerKey.TheVariants.{Delay as OfDelay, Timer as OfTimer}
+use Rattle.nt_event.specs.declared.events.Begun.TheVariants.{Apc, Dpc, Int, Threaded}
+use Rattle.nt_event.specs.declared.events.What.{What}
+use Rattle.nt_event.specs.declared.events.What.TheVariants.{Begin, Call, Clean, End, Expire, Fire, Flush, Gone, Look, Normal, Rest, Rewait, Switch}
+use Rattle.nt_event.specs.declared.frames.Again.{Again}
+use Rattle.nt_event.specs.declared.frames.Frame.{Frame}
+use Rattle.nt_event.specs.declared.numbers.DpcNo.{DpcNo}
+use Rattle.nt_event.specs.declared.numbers.TimerNo.{TimerNo}
+use Rattle.nt_event.specs.declared.scripts.Script.{Script}
+use Rattle.nt_event.specs.declared.scripts.TimerDecl.{TimerDecl}
+use Rattle.nt_event.specs.Frames.{Frames, again_after, at_name, called, done_to, innermost, own_after, without}
+use Rattle.nt_event.specs.Own.{fire_after}
+use Rattle.nt_event.specs.Routines.{dpc_of}
+use Rattle.nt_event.specs.Script.{fits, has_dpc, timer_fits, where_given}
+use Rattle.nt_event.specs.Words.{is_done, is_refused}
+use Rattle.nt_event.proofs.Options.{both}
+use Rattle.nt_frame.specs.Nesting.{HaveNoWaits}
+use Rattle.nt_frame.specs.Rules.{refusal_in}
+use Rattle.nt_cpu.specs.Fits.{Allow, may_call, may_reply}
+
+-- no frame of the own part has a wait
+
+waits_at_name : (m : ℕ) (g : Frame → Frame) (fs : List Frame) → ((f : Frame) → f.again ≡ None → (g f).again ≡ None) → HaveNoWaits fs → HaveNoWaits (at_name m g fs)
+waits_at_name m g [] k h = tt
+waits_at_name m g (f ∷ fs) k h = (go (f.name == m), h.1)
+  where
+    go : (b : Bool) → (if b then g f else f).again ≡ None
+    go true = k f h.0
+    go false = h.0
+
+waits_without : (m : ℕ) (fs : List Frame) → HaveNoWaits fs → HaveNoWaits (without m fs)
+waits_without m [] h = tt
+waits_without m (f ∷ fs) h = go (f.name == m)
+  where
+    go : (b : Bool) → HaveNoWaits (if b then fs else (f ∷ fs))
+    go true = h.1
+    go false = h
+
+-- a refused call, or one of no wait, sets no wait
+abbrev pub is_wait : Command → Bool
+is_wait (StartWait m a) = true
+is_wait (Delay m a u) = true
+is_wait _ = false
+
+wait_none : (y : Reply) (m : Option Again) (old : Option Again) → is_refused y ≡ true → old ≡ None → again_after y m old ≡ None
+wait_none (Refused r) m old h k = k
+wait_none Done m old h k = absurd cc
+wait_none Yes m old h k = absurd cc
+wait_none No m old h k = absurd cc
+wait_none (Status st) m old h k = absurd cc
+wait_none Blocked m old h k = absurd cc
+
+done_again : (c : Command) (f : Frame) → (done_to c f).again ≡ f.again
+done_again (Raise l) f = refl
+done_again (Lower l) f = refl
+done_again EnterCrit f = refl
+done_again EnterGuard f = refl
+done_again LeaveCrit f = refl
+done_again LeaveGuard f = refl
+done_again _ f = refl
+
+sets_none : (due : Option ℕ) (c : Command) (y : Reply) (f : Frame) → (is_wait c ≡ true → is_refused y ≡ true) → f.again ≡ None → (called due c y f).again ≡ None
+sets_none due (StartWait m a) y f h k = wait_none y _ f.again (h refl) k
+sets_none due (Delay m a u) y f h k = wait_none y _ f.again (h refl) k
+sets_none due c y f h k = go (is_done y)
+  where
+    go : (b : Bool) → (if b then done_to c f else f).again ≡ None
+    go true = done_again c f ∙ k
+    go false = k
+
+-- a wait that is called by a routine of the own part is refused
+own_refuses : (c : Command) (x : Frames) (g : Frame) (gs : List Frame) → x.own ≡ g ∷ gs → is_wait c ≡ true → is_none (refusal_in c x) ≡ false
+own_refuses (StartWait m a) x g gs e h = rw e refl
+own_refuses (Delay m a u) x g gs e h = rw e refl
+own_refuses _ x g gs e h = absurd cc
+
+is_refused_there : (c : Command) (y : Reply) (x : Frames) (g : Frame) (gs : List Frame) → x.own ≡ g ∷ gs → may_call c y x ≡ true → is_wait c ≡ true → is_refused y ≡ true
+is_refused_there c y x g gs e m h =
+    let n : is_none (refusal_in c x) ≡ false = own_refuses c x g gs e h in go (is_refused y) refl (rw n at m)
+  where
+    go : (b : Bool) → is_refused y ≡ b → (b || (false && may_reply c y)) ≡ true → is_refused y ≡ true
+    go true q k = q
+    go false q k = absurd cc
+
+waits_call : (m : ℕ) (due : Option ℕ) (f : ℕ) (c : Command) (y : Reply) (x : Frames) → may_call c y x ≡ true → HaveNoWaits x.own → HaveNoWaits (at_name f (called due c y) x.own)
+waits_call m due f c y x a h = go x.own refl
+  where
+    go : (fs : List Frame) → x.own ≡ fs → HaveNoWaits (at_name f (called due c y) x.own)
+    go [] e = rw e tt
+    go (g ∷ gs) e =
+        waits_at_name f (called due c y) x.own (λ q k. sets_none due c y q (is_refused_there c y x g gs e a) k) h
+
+pub waits_after : (s : Script) (m : ℕ) (due : Option ℕ) (w : What) (x : Frames) → Allow s w x → HaveNoWaits x.own → HaveNoWaits (own_after m due w x.own)
+waits_after s m due (Begin (Int l) from) x a h = (refl, h)
+waits_after s m due (Begin (Dpc d) from) x a h = (refl, h)
+waits_after s m due (Begin (Threaded d) from) x a h = (refl, h)
+waits_after s m due (Begin (Apc p) from) x a h = h
+waits_after s m due (Call f c y) x a h = waits_call m due f c y x a.1 h
+waits_after s m due (End f) x a h = waits_without f x.own h
+waits_after s m due _ x a h = h
+
+-- ---- what a script that fits has
+
+pub each : {A : Type 0} (p : A → Bool) (xs : List A) (i : ℕ) (x : A) → list_all p xs ≡ true → slice_get xs i ≡ Some x → p x ≡ true
+each p xs i x h e =
+    let b : i < length xs = slice_get_within xs i x e in
+    subst (λ (y : _). p y ≡ true) (get_or_from_slice_get xs i x x e) (AllPass-from_list_all p xs h i x b)
+
+pub fits_timer : (s : Script) (t : TimerNo) (x : TimerDecl) → fits s ≡ true → slice_get s.timers t.0 ≡ Some x → timer_fits s x ≡ true
+fits_timer s t x h e =
+    let a = both _ _ h in
+    let b = both _ _ a.0 in
+    let c = both _ _ b.0 in
+    let d = both _ _ c.0 in
+    each (timer_fits s) s.timers t.0 x d.1 e
+
+-- the DPC that is to be fired is one of the script's
+pub fire_kept : (s : Script) (w : What) (old : Option DpcNo) → IsTrue (fits s) → IfSome old (λ d. IsTrue (has_dpc s d)) → IfSome (fire_after s w old) (λ d. IsTrue (has_dpc s d))
+fire_kept s (Expire (OfTimer t) from) old h k = go (slice_get s.timers t.0) refl
+  where
+    given : (o : Option DpcNo) → where_given (has_dpc s) o ≡ true → IfSome o (λ d. IsTrue (has_dpc s d))
+    given None q = tt
+    given (Some d) q = q
+
+    go : (o : Option TimerDecl) → slice_get s.timers t.0 ≡ o → IfSome (option_and_then (λ x. x.dpc) o) (λ d. IsTrue (has_dpc s d))
+    go None e = tt
+    go (Some x) e = given x.dpc (fits_timer s t x h e)
+fire_kept s (Expire (OfDelay t) from) old h k = tt
+fire_kept s (Fire d y) old h k = tt
+fire_kept s _ old h k = k

@@ -1,0 +1,14 @@
+pub mod Served
+pub mod FramesLeft
+pub mod Applied
+pub mod Small
+pub mod Kept
+pub mod Taken
+pub mod Alones
+pub mod Noticed
+pub mod DueTasks
+pub mod ActedEvents
+pub mod SharedEvents
+pub mod LanesKept
+pub mod AloneMoves
+pub mod TurnsTaken

@@ -1,0 +1,52 @@
+-- What an event leaves of the values served.
+use Rattle.std.proofs.Common.{arith, ap, sym, ◌∙◌}
+use Rattle.std.proofs.lemmas.Bool.Decides.{nat_tests}
+use Rattle.std.proofs.lemmas.List.{get_or-set_other, get_or-set_same, length-set}
+use Rattle.std.specs.Prelude.{Bool, List, None, Option, Some, false, get_or, if◌then◌else◌, length, refl, set, true, ℕ, ◌<◌, ◌==◌, ◌≡◌, ◌≢◌, ◌≤◌}
+use Rattle.nt_event.specs.declared.events.Begun.{Begun}
+use Rattle.nt_event.specs.declared.events.Begun.TheVariants.{Apc, Dpc, Int, Threaded}
+use Rattle.nt_event.specs.declared.events.What.{What}
+use Rattle.nt_event.specs.declared.events.What.TheVariants.{Begin, Clean}
+use Rattle.nt_event.specs.Requests.{served_after}
+use Rattle.nt_event.specs.Words.{table, value_at}
+use Rattle.nt_event.proofs.Tables.{is_table, table-same}
+use Rattle.nt_cpu.specs.Due.{served_class}
+
+-- sixteen values are their table
+pub values_table : (xs : List ℕ) → length xs ≡ 16 → xs ≡ table 16 (λ c. value_at xs c)
+values_table xs l = is_table xs 16 (λ c. value_at xs c) l (λ i h. refl)
+
+-- one of sixteen values written
+pub set_table : (xs : List ℕ) (k v : ℕ) → length xs ≡ 16 → k < 16 → set xs k v ≡ table 16 (λ c. if k == c then v else value_at xs c)
+set_table xs k v l h =
+    is_table (set xs k v) 16 (λ c. if k == c then v else value_at xs c) (length-set xs k v ∙ l) (λ i b. go i (k == i) refl)
+  where
+    go : (i : ℕ) (b : Bool) → (k == i) ≡ b → get_or (set xs k v) i 0 ≡ (if b then v else value_at xs i)
+    go i true e =
+        let j : i ≡ k = grind (arith, nat_tests) in rw j (get_or-set_same xs k v 0 (omega (arith, l)))
+    go i false e = let n : i ≢ k = λ j. grind (arith, nat_tests) in get_or-set_other xs k i v 0 n
+
+-- an event serves its class, and no other
+pub serves_class : (w : What) (c seen old : ℕ) → served_class w ≡ None → served_after w c seen old ≡ old
+serves_class (Clean class) c seen old h = absurd cc
+serves_class (Begin (Int level) from) c seen old h = absurd cc
+serves_class _ c seen old h = refl
+
+-- an event that serves no class leaves the values
+pub serves_none : (w : What) (seen xs : List ℕ) → length xs ≡ 16 → served_class w ≡ None → xs ≡ table 16 (λ c. served_after w c (value_at seen c) (value_at xs c))
+serves_none w seen xs l h =
+    values_table xs l ∙ table-same 16 _ _ (λ c b. sym (serves_class w c (value_at seen c) (value_at xs c) h))
+
+-- a class above 15 is none of them
+pub serves_far : (xs ys : List ℕ) (k : ℕ) → length xs ≡ 16 → 16 ≤ k → xs ≡ table 16 (λ c. if k == c then value_at ys c else value_at xs c)
+serves_far xs ys k l h =
+    values_table xs l ∙ table-same 16 _ _ (λ c b. let e : (k == c) ≡ false = grind (arith, nat_tests) in rw e)
+
+-- the value of a class of another sixteen
+pub set_value : (xs ys : List ℕ) (k : ℕ) → length xs ≡ 16 → k < 16 → set xs k (value_at ys k) ≡ table 16 (λ c. if k == c then value_at ys c else value_at xs c)
+set_value xs ys k l h =
+    set_table xs k (value_at ys k) l h ∙ table-same 16 _ _ (λ c b. go c (k == c) refl)
+  where
+    go : (c : ℕ) (b : Bool) → (k == c) ≡ b → (if b then value_at ys k else value_at xs c) ≡ (if b then value_at ys c else value_at xs c)
+    go c true e = ap (value_at ys) (grind (arith, nat_tests))
+    go c false e = refl

@@ -1,0 +1,85 @@
+-- What is left of a processor after an event.
+use Rattle.std.proofs.Common.{ap, arith, max, sym, ◌∙◌}
+use Rattle.std.proofs.lemmas.List.Elements.{All-head}
+use Rattle.std.specs.Option.{option_map_or, option_or}
+use Rattle.std.specs.Prelude.{Bool, IfSome, List, None, Option, Some, [], length, refl, ℕ, ◌+◌, ◌<◌, ◌^◌, ◌∷◌, ◌≡◌, ◌≤◌}
+use Rattle.nt_event.specs.declared.events.Event.{Event}
+use Rattle.nt_event.specs.declared.frames.Frame.{Frame}
+use Rattle.nt_event.specs.declared.numbers.DpcNo.{DpcNo}
+use Rattle.nt_event.specs.declared.numbers.ThreadNo.{ThreadNo}
+use Rattle.nt_event.specs.declared.scripts.Script.{Script}
+use Rattle.nt_event.specs.Frames.{Frames, frames_after, frames_in, innermost, thread_if, thread_part}
+use Rattle.nt_event.specs.Own.{Own, fire_after, is_rest, took_after}
+use Rattle.nt_event.specs.Regions.{sweep_after}
+use Rattle.nt_event.specs.Requests.{served_after}
+use Rattle.nt_event.specs.Words.{head_of, is_by, table, thread, value_at}
+use Rattle.nt_event.proofs.Tables.{get_or-table, length-table_from, table-same}
+use Rattle.nt_frame.specs.Nesting.{AreNested}
+use Rattle.nt_cpu.specs.Fits.{Allow}
+use Rattle.nt_cpu.specs.Leaves.{own_with}
+use Rattle.nt_cpu.specs.Sound.{AreSmall, IsSmall, IsSmallPart, IsSound}
+use Rattle.nt_cpu.specs.States.{CpuState}
+use Rattle.nt_cpu.proofs.Kept.{fire_kept, waits_after}
+use Rattle.nt_cpu.proofs.Small.{part_nil, part_of, small_after}
+
+-- the innermost frame is small
+pub innermost_small : (n : ℕ) (x : Frames) (f : Frame) → AreSmall n x → innermost x ≡ Some f → IsSmall n f
+innermost_small n x f h k = go x.own refl k
+  where
+    part : (r : Option ThreadNo) → IsSmallPart n (option_map_or (frames_in x.threads) r [])
+    part None = part_nil n
+    part (Some t) = part_of n x.threads t.0 h.threads
+
+    on_thread : (fs : List Frame) → thread_part x ≡ fs → head_of fs ≡ Some f → IsSmall n f
+    on_thread [] e q = absurd cc
+    on_thread (g ∷ gs) e q =
+        let i : g ≡ f = cc in
+        let p : IsSmallPart n (g ∷ gs) = rw (← e) (part x.running) in
+        rw (← i) (All-head (IsSmall n) g gs p.frames)
+
+    go : (os : List Frame) → x.own ≡ os → option_or (head_of os) (head_of (thread_part x)) ≡ Some f → IsSmall n f
+    go [] e q = on_thread (thread_part x) refl q
+    go (g ∷ gs) e q =
+        let i : g ≡ f = cc in
+        rw (← i) (All-head (IsSmall n) g gs (rw e at h.own))
+
+-- the record of what is left, field by field
+pub left_is : (c : CpuState) (n : ℕ) (due : Option ℕ) (e : Event) (told : List ℕ) (fs : Frames) (seen served : List ℕ) (rested : Bool) (took : Option ThreadNo) (fire : Option DpcNo) (sweep : Bool) → fs ≡ frames_after c.script n due e c.own.frames → seen ≡ table 16 (λ k. max (value_at c.own.seen k) (value_at told k)) → served ≡ table 16 (λ k. served_after e.what k (value_at seen k) (value_at c.own.served k)) → rested ≡ is_rest e.what → took ≡ took_after e.what c.own.took → fire ≡ fire_after c.script e.what c.own.fire → sweep ≡ sweep_after e.what c.own.sweep → record c { own = record { made = c.own.made + 1; frames = fs; seen = seen; served = served; rested = rested; took = took; fire = fire; sweep = sweep } } ≡ record c { own = own_with c.script n due e (λ k. max (value_at c.own.seen k) (value_at told k)) c.own }
+left_is c n due e told fs seen served rested took fire sweep a b d r t f w =
+    λ i. record c { own = record { made = c.own.made + 1; frames = a i; seen = b i; served = s i; rested = r i; took = t i; fire = f i; sweep = w i } }
+  where
+    value : (k : ℕ) → k < 16 → value_at seen k ≡ max (value_at c.own.seen k) (value_at told k)
+    value k h =
+        ap (λ (xs : List ℕ). value_at xs k) b ∙ get_or-table 16 k (λ k. max (value_at c.own.seen k) (value_at told k)) 0 h
+
+    s : served ≡ table 16 (λ k. served_after e.what k (max (value_at c.own.seen k) (value_at told k)) (value_at c.own.served k))
+    s =
+        d ∙ table-same 16 _ _ (λ k h. ap (λ (v : ℕ). served_after e.what k v (value_at c.own.served k)) (value k h))
+
+-- what holds of a processor at any time holds after an event that its frames allow
+pub sound_after : (c : CpuState) (n : ℕ) (due : Option ℕ) (e : Event) (seen : ℕ → ℕ) → IsSound c → c.own.made < c.limit → IfSome due (λ d. d < 2 ^ 51) → Allow c.script e.what c.own.frames → AreNested (frames_after c.script n due e c.own.frames) → IsSound (record c { own = own_with c.script n due e seen c.own })
+sound_after c n due e seen h m d a nested = record {
+  script = h.script;
+  cpu = h.cpu;
+  limit = h.limit;
+  made = omega arith;
+  seen = length-table_from 0 16 seen;
+  served = length-table_from 0 16 (λ k. served_after e.what k (seen k) (value_at c.own.served k));
+  threads = length-table_from 0 (length c.script.threads) (λ t. thread_if (is_by e (thread t)) c.script n due e.what (frames_in c.own.frames.threads (thread t)));
+  nested = nested;
+  small = small_after c.script c.own.made n due e c.own.frames d h.small;
+  waits = waits_after c.script n due e.what c.own.frames a h.waits;
+  fire = fire_kept c.script e.what c.own.fire h.script h.fire;
+}
+
+-- only the values of the sixteen classes matter
+pub own_with_same : (s : Script) (n : ℕ) (due : Option ℕ) (e : Event) (f g : ℕ → ℕ) (x : Own) → ((k : ℕ) → k < 16 → f k ≡ g k) → own_with s n due e f x ≡ own_with s n due e g x
+own_with_same s n due e f g x h =
+    λ i. record { made = x.made + 1; frames = frames_after s n due e x.frames; seen = seen i; served = served i; rested = is_rest e.what; took = took_after e.what x.took; fire = fire_after s e.what x.fire; sweep = sweep_after e.what x.sweep }
+  where
+    seen : table 16 f ≡ table 16 g
+    seen = table-same 16 f g h
+
+    served : table 16 (λ k. served_after e.what k (f k) (value_at x.served k)) ≡ table 16 (λ k. served_after e.what k (g k) (value_at x.served k))
+    served =
+        table-same 16 _ _ (λ k b. ap (λ (v : ℕ). served_after e.what k v (value_at x.served k)) (h k b))

@@ -1,0 +1,93 @@
+-- What a turn gives.
+use Rattle.std.proofs.Common.{ap, arith, inl, inr, subst, sym, ◌∙◌}
+use Rattle.std.specs.Prelude.{Bool, Err, None, Ok, Option, Result, Some, false, if◌then◌else◌, not, option_and_then, option_map, refl, true, ℕ, ◌&&◌, ◌<◌, ◌≡◌, ◌≤◌, ◌⊎◌}
+use Rattle.nt_event.specs.declared.events.Event.{Event}
+use Rattle.nt_event.specs.declared.events.Turn.{Turn}
+use Rattle.nt_event.specs.declared.events.Turn.TheVariants.{Look as LookTurn, Next, Switch as SwitchTurn}
+use Rattle.nt_event.specs.declared.events.What.{What}
+use Rattle.nt_event.specs.declared.events.What.TheVariants.{Look}
+use Rattle.nt_event.specs.declared.jobs.Job.{Job}
+use Rattle.nt_event.specs.declared.jobs.Job.TheVariants.{Switch as SwitchJob}
+use Rattle.nt_event.specs.declared.jobs.Task.{Task}
+use Rattle.nt_event.specs.declared.jobs.Task.TheVariants.{Alone, Shared}
+use Rattle.nt_event.specs.Acting.{IsDue, acted_event, is_choice}
+use Rattle.nt_event.specs.Jobs.{job_event, may_switch, task}
+use Rattle.nt_event.specs.Lanes.{Lanes}
+use Rattle.nt_event.specs.Own.{Own, standing_in}
+use Rattle.nt_event.specs.Script.{has_thread}
+use Rattle.nt_event.specs.Step.{event_at, is_cut}
+use Rattle.nt_event.specs.Words.{value_at, when}
+use Rattle.nt_event.proofs.Options.{Holds, both, holds_at, holds_when, when_gives}
+use Rattle.nt_floor.specs.Acts.{Found}
+use Rattle.nt_floor.specs.Views.{IsMoved, View}
+use Rattle.nt_cpu.specs.Alone.{IsAlone, MayBe, alone_event}
+use Rattle.nt_cpu.specs.GoodTasks.{GoodJob, GoodTask}
+use Rattle.nt_cpu.specs.Sound.{IsSound}
+use Rattle.nt_cpu.specs.States.{CpuState}
+use Rattle.nt_cpu.specs.Turns.{IsShared, IsTurnRefused, IsTurned, Serves, acts, event_or_refusal, is_shared, rises, task_makes, turn_gives, turn_refusal, turn_task}
+use Rattle.nt_cpu.specs.declared.turn.TurnRefusal.{TurnRefusal}
+use Rattle.nt_cpu.specs.declared.turn.TurnRefusal.TheVariants.{NoMemory, NothingToDo}
+use Rattle.nt_cpu.proofs.Alones.{event_alone}
+use Rattle.nt_cpu.proofs.AloneMoves.{alone_left, alone_moved, found_by, tells_before}
+use Rattle.nt_cpu.proofs.DueTasks.{task_good}
+
+-- what holds of the task of a turn
+pub turn_good : (c : CpuState) (t : Turn) → IsSound c → Holds (GoodTask c) (turn_task c.script c.cpu c.own t)
+turn_good c (Next q) h = task_good c h
+turn_good c (LookTurn q r) h =
+    holds_when (GoodTask c) (rises r.value c.own.seen) (Some (Alone (Look r))) (λ _. record { alone = refl; allow = tt; asks = tt })
+turn_good c (SwitchTurn q t) h =
+    holds_when (GoodTask c) (may_switch c.own && has_thread c.script t) (Some (Shared (SwitchJob t))) (λ a. both (may_switch c.own) (has_thread c.script t) a)
+
+-- its job is due
+pub turn_due : (c : CpuState) (t : Turn) (job : Job) → turn_task c.script c.cpu c.own t ≡ Some (Shared job) → IsDue c.script c.cpu c.own job
+turn_due c (Next q) job e = inl e
+turn_due c (LookTurn q r) job e =
+    let a : Some (Alone (Look r)) ≡ Some (Shared job) = (when_gives (rises r.value c.own.seen) (Some (Alone (Look r))) (Shared job) e).1 in
+    absurd cc
+turn_due c (SwitchTurn q t) job e =
+    let a = when_gives (may_switch c.own && has_thread c.script t) (Some (Shared (SwitchJob t))) (Shared job) e in
+    let b : Some (Shared (SwitchJob t)) ≡ Some (Shared job) = a.1 in
+    let i : SwitchJob t ≡ job = cc in
+    inr (subst (λ (j : Job). is_choice j ≡ true) i refl, (both (may_switch c.own) (has_thread c.script t) a.0).0)
+
+-- ---- what is given
+
+gives_task : (c : CpuState) (l : Lanes) (t : Turn) → is_cut c.limit c.own ≡ false → turn_gives c l t ≡ event_or_refusal (turn_refusal t) (option_and_then (task_makes c.script c.cpu c.own l) (turn_task c.script c.cpu c.own t))
+gives_task c l t h = rw h refl
+
+pub gives_none : (c : CpuState) (l : Lanes) (t : Turn) → is_cut c.limit c.own ≡ false → turn_task c.script c.cpu c.own t ≡ None → turn_gives c l t ≡ Err (turn_refusal t)
+gives_none c l t h e = gives_task c l t h ∙ rw e refl
+
+pub gives_alone : (c : CpuState) (l : Lanes) (t : Turn) (w : What) → is_cut c.limit c.own ≡ false → turn_task c.script c.cpu c.own t ≡ Some (Alone w) → turn_gives c l t ≡ Ok (event_at c.script c.cpu w c.own.frames)
+gives_alone c l t w h e = gives_task c l t h ∙ rw e refl
+
+pub gives_shared : (c : CpuState) (l : Lanes) (t : Turn) (job : Job) → is_cut c.limit c.own ≡ false → turn_task c.script c.cpu c.own t ≡ Some (Shared job) → turn_gives c l t ≡ event_or_refusal (turn_refusal t) (option_map (acted_event (standing_in c.cpu c.own) l) (job_event c.script (standing_in c.cpu c.own) l job))
+gives_shared c l t job h e = gives_task c l t h ∙ rw e refl
+
+-- ---- the answers
+
+pub cut_refused : (c : CpuState) (t : Turn) (v : View) → is_cut c.limit c.own ≡ true → IsTurnRefused c t (found_by c v) NothingToDo v
+cut_refused c t v h = record { cause = inr (rw h refl); told = tells_before c.script v.states }
+
+pub cut_acts : (c : CpuState) (t : Turn) → is_cut c.limit c.own ≡ true → acts c t ≡ true → ⊥
+cut_acts c t h k = let a = rw h at k in cc
+
+pub none_refused : (c : CpuState) (t : Turn) (r : TurnRefusal) (v : View) → is_cut c.limit c.own ≡ false → turn_task c.script c.cpu c.own t ≡ None → r ≡ turn_refusal t → IsTurnRefused c t (found_by c v) r v
+none_refused c t r v h e k = record {
+  cause = inr (gives_none c (found_by c v).lanes t h e ∙ ap (λ (x : TurnRefusal). Err x) (sym k));
+  told = tells_before c.script v.states;
+}
+
+pub alone_acts : (c : CpuState) (t : Turn) (o : Option Task) → turn_task c.script c.cpu c.own t ≡ o → is_shared o ≡ false → acts c t ≡ true → ⊥
+alone_acts c t o e n k =
+    let a = both (not (is_cut c.limit c.own)) (is_shared (turn_task c.script c.cpu c.own t)) k in
+    let b : is_shared o ≡ true = rw e at a.1 in
+    cc
+
+pub alone_turned : (c d : CpuState) (t : Turn) (w : What) (e : Event) (n : ℕ) (v u z : View) → IsSound c → Serves c v → is_cut c.limit c.own ≡ false → turn_task c.script c.cpu c.own t ≡ Some (Alone w) → e ≡ alone_event c.cpu w c.own.frames → IsAlone c d w n v u z → IsTurned c d t (found_by c v) n e v z
+alone_turned c d t w e n v u z s h k q i a =
+    let m : MayBe c w = holds_at (GoodTask c) (turn_task c.script c.cpu c.own t) (Alone w) (turn_good c t s) q in
+    let below : (k : ℕ) → k < 16 → value_at c.own.seen k ≤ n = λ k b. let x = h.below k b in let y = a.drawn.least in omega arith in
+    let x : IsTurned c d t (found_by c v) n (alone_event c.cpu w c.own.frames) v z = record { event = gives_alone c (found_by c v).lanes t w k q ∙ ap (λ (x : Event). Ok x) (event_alone c.script c.cpu w c.own.frames s.nested s.threads m.alone m.allow); state = a.state ∙ ap (λ (x : Own). record c { own = x }) (alone_left c w n v s m below); floor = alone_moved c d w n v u z h m a } in
+    subst (λ (x : Event). IsTurned c d t (found_by c v) n x v z) (sym i) x

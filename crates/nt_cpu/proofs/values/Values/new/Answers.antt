@@ -1,0 +1,7 @@
+use Rattle.std.proofs.Common.{refl}
+use Rattle.nt_event.specs.Words.{table_from}
+use Rattle.nt_cpu.proofs.values.Values.new.Goals as goal
+
+pub returns : goal.returns
+unfolding table_from
+returns c = refl

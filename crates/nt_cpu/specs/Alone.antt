@@ -1,0 +1,118 @@
+-- Events that touch no lane: which they are, their level, and what they ask for, by where their processor stands.
+use Rattle.std.specs.Prelude.{Bool, IfSome, List, None, Option, Some, [], false, if◌then◌else◌, max, not, option_map, true, ℕ, ◌&&◌, ◌+◌, ◌<◌, ◌==◌, ◌||◌, ◌∷◌, ◌≡◌}
+use Rattle.nt_event.specs.declared.commands.ApcKind.TheVariants.{User as UserApc}
+use Rattle.nt_event.specs.declared.commands.Command.{Command}
+use Rattle.nt_event.specs.declared.commands.Command.TheVariants.{Interrupt, LeaveCrit, LeaveGuard, Lower, Raise}
+use Rattle.nt_event.specs.declared.commands.Reply.{Reply}
+use Rattle.nt_event.specs.declared.commands.Reply.TheVariants.{Done}
+use Rattle.nt_event.specs.declared.events.Begun.TheVariants.{Int}
+use Rattle.nt_event.specs.declared.events.What.{What}
+use Rattle.nt_event.specs.declared.events.What.TheVariants.{Begin, Call, End, Look, Normal}
+use Rattle.nt_event.specs.declared.frames.Body.{Body}
+use Rattle.nt_event.specs.declared.frames.Body.TheVariants.{Apc as OnApc, Base as OnBase}
+use Rattle.nt_event.specs.declared.jobs.Stand.{Stand}
+use Rattle.nt_event.specs.declared.numbers.CpuNo.{CpuNo}
+use Rattle.nt_event.specs.declared.scripts.Script.{Script}
+use Rattle.nt_event.specs.Commands.{needs_lane}
+use Rattle.nt_event.specs.Frames.{Frames, innermost, is_normal_apc_body, level_in}
+use Rattle.nt_event.specs.Regions.{after_in, some_came_to_0}
+use Rattle.nt_event.specs.Requests.{Ask}
+use Rattle.nt_event.specs.Words.{is_done, is_refused, value_at}
+use Rattle.nt_event.specs.declared.events.Event.{Event}
+use Rattle.nt_event.specs.Own.{Own, standing_in}
+use Rattle.nt_event.specs.Step.{thread_field}
+use Rattle.nt_floor.specs.Views.{IsDrawn, IsMarked, View}
+use Rattle.nt_cpu.specs.declared.alone.Asked.{Asked}
+use Rattle.nt_cpu.specs.Fits.{Allow}
+use Rattle.nt_cpu.specs.Leaves.{own_with}
+use Rattle.nt_cpu.specs.States.{CpuState}
+
+-- the end of the frame touches no lane: it is neither a base nor a user APC
+abbrev pub ends_alone : Option Body → Bool
+ends_alone (Some (OnBase t)) = false
+ends_alone (Some (OnApc a UserApc)) = false
+ends_alone (Some b) = true
+ends_alone None = false
+
+-- the event touches no lane, of a processor in whose innermost frame this runs
+abbrev pub is_alone : Option Body → What → Bool
+is_alone b (Call f c y) = is_refused y || (not (needs_lane c) && is_done y)
+is_alone b (Begin (Int level) from) = true
+is_alone b (Normal f) = true
+is_alone b (End f) = ends_alone b
+is_alone b (Look r) = true
+is_alone b w = false
+
+-- the processor's level after it
+abbrev pub call_level : Command → Reply → ℕ → ℕ
+call_level (Raise level) Done old = level
+call_level (Lower level) Done old = level
+call_level c y old = old
+
+abbrev pub alone_level : What → Frames → ℕ
+alone_level (Call f c y) x = call_level c y (level_in x)
+alone_level (Begin (Int level) from) x = level
+alone_level (Normal f) x = 0
+alone_level (End f) x = after_in x
+alone_level (Look r) x = 0
+alone_level w x = level_in x
+
+-- ---- what it asks for: nothing, or a class of a processor
+
+abbrev pub ask_when : Bool → CpuNo → ℕ → Option Asked
+ask_when true p c = Some (record { cpu = p; class = c })
+ask_when false p c = None
+
+abbrev pub call_asks : Stand → Command → Reply → Option Asked
+call_asks st LeaveCrit Done = ask_when (st.regions.crit == 1) st.cpu 1
+call_asks st LeaveGuard Done = ask_when (st.regions.guard == 1) st.cpu 1
+call_asks st (Interrupt q level) Done = Some (record { cpu = q; class = level })
+call_asks st c y = None
+
+abbrev pub is_normal_end : Option Body → Bool
+is_normal_end (Some b) = is_normal_apc_body b
+is_normal_end None = false
+
+abbrev pub alone_asks : Stand → What → Option Asked
+alone_asks st (Call f c y) = call_asks st c y
+alone_asks st (Normal f) = ask_when (some_came_to_0 st.regions st.below) st.cpu 1
+alone_asks st (End f) = ask_when (is_normal_end st.body || some_came_to_0 st.regions st.below) st.cpu 1
+alone_asks st w = None
+
+abbrev pub as_list : Option Asked → List Ask
+as_list None = []
+as_list (Some a) = record { cpu = a.cpu; class = a.class } ∷ []
+
+-- ---- what it leaves
+
+-- its event was marked as asking for this
+abbrev pub IsMarkedFor : Option Asked → ℕ → View → View → Type 0
+IsMarkedFor None n v w = w ≡ v
+IsMarkedFor (Some a) n v w = IsMarked a.cpu a.class n v w
+
+-- what is noticed of a class beside what was seen: the values of a Look, and the processor's own ask
+abbrev pub noticed : CpuNo → What → Option Asked → ℕ → ℕ → ℕ
+noticed p (Look r) a n k = value_at r.value k
+noticed p w None n k = 0
+noticed p w (Some a) n k = if (a.cpu.0 == p.0) && (a.class == k) then n + 1 else 0
+
+-- the event of a processor with these frames
+abbrev pub alone_event : CpuNo → What → Frames → Event
+alone_event p w x = record { cpu = p; thread = thread_field w x.running; level = alone_level w x; what = w }
+
+-- what the processor keeps after its event of this number
+abbrev pub alone_then : CpuState → ℕ → What → Own
+alone_then c n w =
+    own_with c.script n None (alone_event c.cpu w c.own.frames) (λ k. max (value_at c.own.seen k) (noticed c.cpu w (alone_asks (standing_in c.cpu c.own) w) n k)) c.own
+
+-- an event that touches no lane happened under this number: it was drawn, and marked as asking for what it asks
+pub record IsAlone (c d : CpuState) (w : What) (n : ℕ) (v u z : View) : Type 0 where
+  pub drawn : IsDrawn n (alone_event c.cpu w c.own.frames) v u
+  pub marked : IsMarkedFor (alone_asks (standing_in c.cpu c.own) w) n u z
+  pub state : d ≡ record c { own = alone_then c n w }
+
+-- the processor may make it
+pub record MayBe (c : CpuState) (w : What) : Type 0 where
+  pub alone : is_alone (option_map (λ f. f.body) (innermost c.own.frames)) w ≡ true
+  pub allow : Allow c.script w c.own.frames
+  pub asks : IfSome (alone_asks (standing_in c.cpu c.own) w) (λ a. a.cpu.0 < c.script.cpus)

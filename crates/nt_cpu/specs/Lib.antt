@@ -1,0 +1,9 @@
+pub mod States
+pub mod Due
+pub mod Fits
+pub mod Leaves
+pub mod Alone
+pub mod GoodTasks
+pub mod Sound
+pub mod Turns
+pub mod Insides

@@ -1,0 +1,38 @@
+-- What holds of a processor at any time.
+use Rattle.std.specs.Prelude.{All, IfSome, IsTrue, List, length, ℕ, ◌<◌, ◌^◌, ◌≡◌, ◌≤◌}
+use Rattle.nt_event.specs.declared.frames.Frame.{Frame}
+use Rattle.nt_event.specs.declared.scripts.Script.{Script}
+use Rattle.nt_event.specs.Frames.{Frames}
+use Rattle.nt_event.specs.Own.{Own}
+use Rattle.nt_event.specs.Regions.{crit_of, guard_of}
+use Rattle.nt_event.specs.Script.{fits, has_cpu, has_dpc}
+use Rattle.nt_frame.specs.Nesting.{AreNested, HaveNoWaits}
+use Rattle.nt_cpu.specs.States.{CpuState}
+
+-- the frame called no more commands than this, and a delay that it has to take up is due below 2 ^ 51
+pub record IsSmall (n : ℕ) (f : Frame) : Type 0 where
+  pub place : f.place ≤ n
+  pub due : IfSome f.again (λ w. IfSome w.due (λ due. due < 2 ^ 51))
+
+-- the frames of a thread did so, and entered no more regions
+pub record IsSmallPart (n : ℕ) (fs : List Frame) : Type 0 where
+  pub frames : All (IsSmall n) fs
+  pub crit : crit_of fs ≤ n
+  pub guard : guard_of fs ≤ n
+
+pub record AreSmall (n : ℕ) (x : Frames) : Type 0 where
+  pub own : All (IsSmall n) x.own
+  pub threads : All (IsSmallPart n) x.threads
+
+pub record IsSound (c : CpuState) : Type 0 where
+  pub script : IsTrue (fits c.script)
+  pub cpu : IsTrue (has_cpu c.script c.cpu)
+  pub limit : c.limit ≤ 20000
+  pub made : c.own.made ≤ c.limit
+  pub seen : length c.own.seen ≡ 16
+  pub served : length c.own.served ≡ 16
+  pub threads : length c.own.frames.threads ≡ length c.script.threads
+  pub nested : AreNested c.own.frames
+  pub small : AreSmall c.own.made c.own.frames
+  pub waits : HaveNoWaits c.own.frames.own
+  pub fire : IfSome c.own.fire (λ d. IsTrue (has_dpc c.script d))

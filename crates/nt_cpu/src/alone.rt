@@ -1,0 +1,212 @@
+//! Events that touch no lane.
+ghost use Rattle.std.specs.Prelude.{◌≡◌, ◌<◌, ◌≤◌, ◌+◌, ◌^◌, ℕ, IfSome};
+ghost use Rattle.nt_event.specs.Own.{standing_in};
+ghost use Rattle.nt_event.specs.Regions.{some_came_to_0};
+ghost use Rattle.nt_event.specs.Step.{thread_field};
+ghost use Rattle.nt_event.specs.Words.{value_at};
+ghost use Rattle.nt_floor.specs.Views.{HasWord, View};
+ghost use Rattle.nt_frame.specs.Nesting.{AreNamedBelow};
+ghost use Rattle.nt_cpu.specs.Sound.{IsSound};
+ghost use Rattle.nt_cpu.specs.Alone.{IsAlone, IsMarkedFor, MayBe, alone_asks, alone_event, alone_level, ask_when as asked_when, call_asks as call_asks_of, call_level as call_level_of, is_normal_end as ends_normal, noticed as noticed_of};
+
+use crate::cpu::Cpu;
+use nt_event::{
+    ApcKind, Begun, Body, Command, CpuNo, Event, Level, Regions, Reply, Rises, Stand, ThreadNo,
+    What,
+};
+use nt_floor::Words;
+
+/// A class of a processor for which an event asks.
+#[derive(Clone, Copy, PartialEq, Eq, Debug)]
+pub struct Asked {
+    pub cpu: CpuNo,
+    pub class: u8,
+}
+
+fn ask_when(test: bool, cpu: CpuNo, class: u8) -> Option<Asked>
+    requires { class < 16 }
+    ensures asks { result ≡ asked_when test cpu class }
+    ensures class { IfSome result (λ a. a.class < 16) }
+{
+    if test {
+        Some(Asked { cpu, class })
+    } else {
+        None
+    }
+}
+
+/// Whether a count that was not 0 is 0 now.
+fn came_to_0(before: Regions, now: Regions) -> bool
+    ensures { result ≡ some_came_to_0 before now }
+{
+    (before.crit != 0 && now.crit == 0) || (before.guard != 0 && now.guard == 0)
+}
+
+/// What the call of a command asks for.
+fn call_asks(stand: &Stand, command: &Command, reply: &Reply) -> Option<Asked>
+    ensures asks { result ≡ call_asks_of stand.now command.now reply.now }
+    ensures class { IfSome result (λ a. a.class < 16) }
+{
+    if !matches!(reply, Reply::Done) {
+        return None;
+    }
+    match command {
+        Command::LeaveCrit => ask_when(stand.regions.crit == 1, stand.cpu, 1),
+        Command::LeaveGuard => ask_when(stand.regions.guard == 1, stand.cpu, 1),
+        Command::Interrupt(cpu, level) => Some(Asked {
+            cpu: *cpu,
+            class: level.number(),
+        }),
+        _ => None,
+    }
+}
+
+/// Whether a normal kernel APC ends.
+fn is_normal_end(body: &Option<Body>) -> bool
+    ensures { result ≡ ends_normal body.now }
+{
+    matches!(body, Some(Body::Apc(_, ApcKind::Normal)))
+}
+
+/// What an event that touches no lane asks for.
+fn asks(stand: &Stand, what: &What) -> Option<Asked>
+    ensures asks { result ≡ alone_asks stand.now what.now }
+    ensures class { IfSome result (λ a. a.class < 16) }
+{
+    match what {
+        What::Call { command, reply, .. } => call_asks(stand, command, reply),
+        What::Normal { .. } => ask_when(came_to_0(stand.regions, stand.below), stand.cpu, 1),
+        What::End { .. } => {
+            let given_up = came_to_0(stand.regions, stand.below);
+            ask_when(is_normal_end(&stand.body) || given_up, stand.cpu, 1)
+        }
+        _ => None,
+    }
+}
+
+/// The level after the call of a command.
+fn call_level(command: &Command, reply: &Reply, old: Level) -> Level
+    ensures { result ≡ call_level_of command.now reply.now old }
+{
+    if !matches!(reply, Reply::Done) {
+        return old;
+    }
+    match command {
+        Command::Raise(level) | Command::Lower(level) => *level,
+        _ => old,
+    }
+}
+
+/// The thread that an event names.
+fn thread(what: &What, running: Option<ThreadNo>) -> Option<ThreadNo>
+    ensures { result ≡ thread_field what.now running }
+{
+    match what {
+        What::Switch { thread, .. } => Some(*thread),
+        What::Look { .. } => None,
+        _ => running,
+    }
+}
+
+/// What is noticed beside what was seen: the values of a look, and the processor's own ask.
+fn noticed(cpu: CpuNo, what: &What, asked: Option<Asked>, n: u64) -> Rises
+    requires fits { n + 1 < 2 ^ 64 }
+    requires class { IfSome asked (λ a. a.class < 16) }
+    ensures { (k : ℕ) → k < 16 → value_at result.value k ≡ noticed_of cpu what.now asked n k }
+{
+    if let What::Look { rises } = what {
+        return *rises;
+    }
+    let mut value = [0; 16];
+    if let Some(asked) = asked {
+        if asked.cpu.0 == cpu.0 {
+            value[asked.class as usize] = n + 1;
+        }
+    }
+    Rises { value }
+}
+
+/// Marks the event of this number as asking for this.
+fn mark<W: Words>(words: &mut W, asked: Option<Asked>, n: u64)
+    requires word { IfSome asked (λ a. HasWord (W.view words.old) a.cpu a.class) }
+    requires mine { W.drew words.old n }
+    ensures marked { IsMarkedFor asked n (W.view words.old) (W.view words.new) }
+    ensures grows { W.grows words.old words.new }
+{
+    if let Some(asked) = asked {
+        words.mark(asked.cpu, asked.class, n);
+    }
+}
+
+impl<'s> Cpu<'s> {
+    /// Where the processor stands.
+    pub(crate) fn standing(&self) -> Stand
+        ensures stand { result ≡ standing_in self.now.cpu self.now.own }
+        ensures sound { IsSound self.now }
+    {
+        let top = self.frames.top();
+        let (frame, body, again) = match top {
+            Some(frame) => (frame.name, Some(frame.body), frame.again),
+            None => (0, None, None),
+        };
+        Stand {
+            cpu: self.cpu,
+            thread: self.frames.running(),
+            frame,
+            body,
+            level: self.frames.level(),
+            regions: self.frames.regions(),
+            below: self.frames.below(),
+            after: self.frames.after(),
+            again,
+            sweep: self.sweep,
+        }
+    }
+
+    /// The processor's level after an event that touches no lane.
+    fn level_after(&self, what: &What) -> Level
+        ensures { result ≡ alone_level what.now self.now.own.frames }
+    {
+        match what {
+            What::Call { command, reply, .. } => call_level(command, reply, self.frames.level()),
+            What::Begin {
+                begun: Begun::Int(level),
+                ..
+            } => *level,
+            What::Normal { .. } | What::Look { .. } => Level::PASSIVE,
+            What::End { .. } => self.frames.after(),
+            _ => self.frames.level(),
+        }
+    }
+
+    /// Makes the event that does this and touches no lane: draws its number, and marks what it asks for.
+    pub(crate) fn make_alone<W: Words>(&mut self, words: &mut W, what: &What) -> Event
+        requires room { self.old.own.made < self.old.limit }
+        requires left { 1 ≤ (W.view words.old).left }
+        requires cpus { (W.view words.old).cpus ≡ self.old.script.cpus }
+        requires named { AreNamedBelow (W.view words.old).next self.old.own.frames }
+        requires may { MayBe self.old what.now }
+        ensures event { result ≡ alone_event self.old.cpu what.now self.old.own.frames }
+        ensures made { (n : ℕ) × (u : View) × IsAlone self.old self.new what.now n (W.view words.old) u (W.view words.new) }
+        ensures grows { W.grows words.old words.new }
+    {
+        let event = self.event(what);
+        let asked = asks(&self.standing(), what);
+        let n = words.draw(&event);
+        mark(words, asked, n);
+        self.take_up(&event, n, None, &noticed(self.cpu, what, asked, n));
+        event
+    }
+
+    /// The event that does this and touches no lane.
+    fn event(&self, what: &What) -> Event
+        ensures { result ≡ alone_event self.now.cpu what.now self.now.own.frames }
+    {
+        Event {
+            cpu: self.cpu,
+            thread: thread(what, self.frames.running()),
+            level: self.level_after(what),
+            what: *what,
+        }
+    }
+}

@@ -1,0 +1,287 @@
+//! What an event leaves of the frames.
+ghost use Rattle.std.specs.Prelude.{◌≡◌, ◌<◌, [], IsSome, IsTrue, Some, None, if◌then◌else◌, length, is_some, false, true};
+ghost use Rattle.std.specs.Option.{ForSome};
+ghost use Rattle.nt_event.specs.declared.events.What.{What};
+ghost use Rattle.nt_event.specs.declared.frames.Body.{Body};
+ghost use Rattle.nt_event.specs.declared.frames.Region.{Region};
+ghost use Rattle.nt_event.specs.Frames.{again_after, called, done_to, effect as effect_of, frames_after, frames_in, innermost, left, rewaited, resumed, running_after};
+ghost use Rattle.nt_event.specs.Routines.{kind_of as kind_in, rundown_of};
+ghost use Rattle.nt_event.specs.Step.{thread_field};
+ghost use Rattle.nt_event.specs.Words.{is_null, is_blocked as blocks, is_done as done, is_refused as refused};
+ghost use Rattle.nt_frame.specs.Changes.{at_innermost, begun, without_innermost};
+ghost use Rattle.nt_frame.specs.Nesting.{AreNamedBelow, AreNested};
+ghost use Rattle.nt_frame.specs.Rules.{count_of, is_at_base, is_leaving, refusal_in, regions_in};
+ghost use Rattle.nt_frame.proofs.Commands.{is_frames_own as is_own_command};
+ghost use Rattle.nt_frame.proofs.After.{taken};
+ghost use Rattle.nt_cpu.specs.Fits.{Allow, body_of as begun_body, is_wait_reply, may_call, stops as stops_of};
+
+use nt_event::{
+    Again, ApcKind, ApcNo, Begun, Body, Command, Event, Region, Reply, Script, ThreadNo, What,
+};
+use nt_frame::Frames;
+
+/// The status of a wait that a kernel APC interrupts (STATUS_KERNEL_APC).
+const KERNEL_APC: u32 = 0x100;
+
+fn is_refused(reply: &Reply) -> bool
+    ensures { result ≡ refused reply.now }
+{
+    matches!(reply, Reply::Refused(_))
+}
+
+fn is_blocked(reply: &Reply) -> bool
+    ensures { result ≡ blocks reply.now }
+{
+    matches!(reply, Reply::Blocked)
+}
+
+fn is_done(reply: &Reply) -> bool
+    ensures { result ≡ done reply.now }
+{
+    matches!(reply, Reply::Done)
+}
+
+/// A command that is done changes the innermost frame's level, or a count of its regions.
+fn do_command(frames: &mut Frames, command: &Command)
+    requires frame { IsSome (innermost frames.old) }
+    requires may { is_own_command command.now ≡ true → refusal_in command.now frames.old ≡ None }
+    requires room { (r : Region) → count_of r (regions_in frames.old) < 4294967295 }
+    ensures { frames.new ≡ at_innermost (done_to command.now) frames.old }
+{
+    match command {
+        Command::Raise(level) => {
+            if frames.raise(*level).is_err() {
+                unreachable!()
+            }
+        }
+        Command::Lower(level) => {
+            if frames.lower(*level).is_err() {
+                unreachable!()
+            }
+        }
+        Command::EnterCrit => {
+            if frames.enter(Region::Crit).is_err() {
+                unreachable!()
+            }
+        }
+        Command::EnterGuard => {
+            if frames.enter(Region::Guard).is_err() {
+                unreachable!()
+            }
+        }
+        Command::LeaveCrit => {
+            if frames.leave(Region::Crit).is_err() {
+                unreachable!()
+            }
+        }
+        Command::LeaveGuard => {
+            if frames.leave(Region::Guard).is_err() {
+                unreachable!()
+            }
+        }
+        _ => {}
+    }
+}
+
+/// A wait that blocks, or that a kernel APC interrupts, is kept to be taken up; another one is over.
+fn set_wait(frames: &mut Frames, wait: Again, reply: &Reply)
+    requires { IsSome (innermost frames.old) }
+    ensures { frames.new ≡ at_innermost (λ f. record f { again = again_after reply.now (Some wait) f.again }) frames.old }
+{
+    match reply {
+        Reply::Status(status) => {
+            if *status == KERNEL_APC {
+                frames.set_again(Some(wait));
+            } else {
+                frames.set_again(None);
+            }
+        }
+        Reply::Blocked => frames.set_again(Some(wait)),
+        _ => {}
+    }
+}
+
+/// What a call with this reply does to its frame, beside its place.
+fn take_effect(frames: &mut Frames, command: &Command, reply: &Reply, due: Option<u64>)
+    requires frame { IsSome (innermost frames.old) }
+    requires may { IsTrue (may_call command.now reply.now frames.old) }
+    requires room { (r : Region) → count_of r (regions_in frames.old) < 4294967295 }
+    ensures { frames.new ≡ at_innermost (effect_of due command.now reply.now) frames.old }
+{
+    match command {
+        Command::StartWait(mode, alertable) => {
+            let wait = Again {
+                mode: *mode,
+                alertable: *alertable,
+                due: None,
+            };
+            set_wait(frames, wait, reply);
+        }
+        Command::Delay(mode, alertable, _) => {
+            let wait = Again {
+                mode: *mode,
+                alertable: *alertable,
+                due,
+            };
+            set_wait(frames, wait, reply);
+        }
+        _ => {
+            if is_done(reply) {
+                do_command(frames, command);
+            }
+        }
+    }
+}
+
+/// Whether the thread that calls the command runs no more.
+fn stops(command: &Command, reply: &Reply) -> bool
+    ensures { result ≡ stops_of command.now reply.now }
+{
+    is_blocked(reply) || matches!(command, Command::Yield) && is_done(reply)
+}
+
+/// The innermost frame calls a command.
+fn call(frames: &mut Frames, command: &Command, reply: &Reply, due: Option<u64>)
+    requires nested { AreNested frames.old }
+    requires frame { IsSome (innermost frames.old) }
+    requires place { ForSome (innermost frames.old) (λ f. f.place < 4294967295) }
+    requires may { IsTrue (may_call command.now reply.now frames.old) }
+    requires room { (r : Region) → count_of r (regions_in frames.old) < 4294967295 }
+    ensures { frames.new ≡ record (at_innermost (called due command.now reply.now) frames.old) { running = running_after (What.Call 0 command.now reply.now) frames.old.running } }
+{
+    take_effect(frames, command, reply, due);
+    frames.advance_place();
+    if stops(command, reply) {
+        frames.switch_away();
+    }
+}
+
+/// The innermost frame takes up its wait again.
+fn rewait(frames: &mut Frames, reply: &Reply)
+    requires frame { IsSome (innermost frames.old) }
+    requires thread { frames.old.own ≡ [] }
+    requires reply { IsTrue (is_wait_reply reply.now) }
+    ensures { frames.new ≡ record (at_innermost (rewaited reply.now) frames.old) { running = running_after (What.Rewait 0 reply.now) frames.old.running } }
+{
+    match reply {
+        Reply::Status(status) => {
+            if *status != KERNEL_APC {
+                frames.set_again(None);
+            }
+        }
+        Reply::Blocked => frames.switch_away(),
+        _ => {}
+    }
+}
+
+/// The innermost frame ends; a base stays until its thread is gone.
+fn end(frames: &mut Frames)
+    requires frame { IsSome (innermost frames.old) }
+    requires runs { is_leaving frames.old ≡ false }
+    ensures { frames.new ≡ (if is_at_base frames.old then at_innermost left frames.old else without_innermost frames.old) }
+{
+    if is_base(frames) {
+        frames.end_base();
+    } else {
+        let _ = frames.finish();
+    }
+}
+
+fn is_base(frames: &Frames) -> bool
+    ensures { result ≡ is_at_base frames.now }
+{
+    match frames.top() {
+        Some(frame) => matches!(&frame.body, Body::Base(_)),
+        None => false,
+    }
+}
+
+/// The status of the wait that ended: only an interrupted one is to be taken up again.
+fn resume(frames: &mut Frames, status: Option<u32>)
+    requires { IsSome (innermost frames.old) }
+    ensures { frames.new ≡ at_innermost (resumed status) frames.old }
+{
+    if let Some(status) = status {
+        if status != KERNEL_APC {
+            frames.set_again(None);
+        }
+    }
+}
+
+/// A thread is taken up; the first time its base routine begins.
+fn switch(frames: &mut Frames, thread: ThreadNo, status: Option<u32>, n: u64)
+    requires own { frames.old.own ≡ [] }
+    requires idle { frames.old.running ≡ None }
+    requires thread { thread.0 < length frames.old.threads }
+    requires number { AreNamedBelow n frames.old }
+    ensures { frames.new ≡ (if is_null (frames_in frames.old.threads thread) then begun n (Body.Base thread) (taken thread frames.old) else at_innermost (resumed status) (taken thread frames.old)) }
+{
+    frames.switch_to(thread);
+    if frames.is_on_thread() {
+        resume(frames, status);
+    } else {
+        frames.begin(Body::Base(thread), n);
+    }
+}
+
+/// A flushed APC begins its rundown routine, where it has one.
+fn flush(frames: &mut Frames, script: &Script, apc: ApcNo, n: u64)
+    requires leaving { IsTrue (is_leaving frames.old) }
+    requires number { AreNamedBelow n frames.old }
+    ensures { frames.new ≡ (if is_some (rundown_of script.now apc) then begun n (Body.Rundown apc) frames.old else frames.old) }
+{
+    let rundown = match script.apcs.as_slice().get(apc.0 as usize) {
+        Some(decl) => decl.rundown,
+        None => None,
+    };
+    if rundown.is_some() {
+        frames.begin(Body::Rundown(apc), n);
+    }
+}
+
+/// What a Begin begins.
+fn body_of(script: &Script, begun: &Begun) -> Body
+    ensures { result ≡ begun_body script.now begun.now }
+{
+    match begun {
+        Begun::Int(level) => Body::Int(*level),
+        Begun::Dpc(dpc) => Body::Dpc(*dpc),
+        Begun::Threaded(dpc) => Body::Threaded(*dpc),
+        Begun::Apc(apc) => Body::Apc(*apc, kind_of(script, *apc)),
+    }
+}
+
+fn kind_of(script: &Script, apc: ApcNo) -> ApcKind
+    ensures { result ≡ kind_in script.now apc }
+{
+    match script.apcs.as_slice().get(apc.0 as usize) {
+        Some(decl) => decl.kind,
+        None => ApcKind::Special,
+    }
+}
+
+/// What the event of this number leaves of the frames of its processor.
+pub fn apply(frames: &mut Frames, script: &Script, event: &Event, n: u64, due: Option<u64>)
+    requires nested { AreNested frames.old }
+    requires threads { length frames.old.threads ≡ length script.now.threads }
+    requires number { AreNamedBelow n frames.old }
+    requires place { ForSome (innermost frames.old) (λ f. f.place < 4294967295) }
+    requires room { (r : Region) → count_of r (regions_in frames.old) < 4294967295 }
+    requires thread { event.now.thread ≡ thread_field event.now.what frames.old.running }
+    requires allow { Allow script.now event.now.what frames.old }
+    ensures { frames.new ≡ frames_after script.now n due event.now frames.old }
+{
+    match &event.what {
+        What::Call { command, reply, .. } => call(frames, command, reply, due),
+        What::Begin { begun, .. } => frames.begin(body_of(script, begun), n),
+        What::Normal { .. } => {
+            let _ = frames.normal();
+        }
+        What::End { .. } => end(frames),
+        What::Switch { thread, status } => switch(frames, *thread, *status, n),
+        What::Rewait { reply, .. } => rewait(frames, reply),
+        What::Flush { apc, .. } => flush(frames, script, *apc, n),
+        What::Gone { .. } => frames.gone(),
+        _ => {}
+    }
+}

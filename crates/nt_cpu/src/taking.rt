@@ -1,0 +1,43 @@
+//! What an event leaves of a processor.
+ghost use Rattle.std.specs.Prelude.{◌≡◌, ◌<◌, ◌^◌, IfSome, max};
+ghost use Rattle.nt_event.specs.Step.{thread_field};
+ghost use Rattle.nt_event.specs.Words.{value_at};
+ghost use Rattle.nt_frame.specs.Nesting.{AreNamedBelow, AreNested};
+ghost use Rattle.nt_cpu.specs.Fits.{Allow};
+ghost use Rattle.nt_cpu.specs.Leaves.{own_with};
+
+use crate::cpu::Cpu;
+use crate::framing::apply;
+use crate::keeping::{fire_after, is_rest, serve, sweep_after, took_after};
+use nt_event::{Event, Rises};
+use nt_frame::Frames;
+
+/// The frames are nested, as their type keeps them.
+fn nested(frames: &Frames)
+    ensures { AreNested frames.now }
+{
+    let _ = frames.top();
+}
+
+impl<'s> Cpu<'s> {
+    /// The event of this number and due time happened, and these values were told beside it.
+    pub(crate) fn take_up(&mut self, event: &Event, n: u64, due: Option<u64>, told: &Rises)
+        requires room { self.old.own.made < self.old.limit }
+        requires number { AreNamedBelow n self.old.own.frames }
+        requires due { IfSome due (λ d. d < 2 ^ 51) }
+        requires thread { event.now.thread ≡ thread_field event.now.what self.old.own.frames.running }
+        requires allow { Allow self.old.script event.now.what self.old.own.frames }
+        ensures { self.new ≡ record self.old { own = own_with self.old.script n due event.now (λ c. max (value_at self.old.own.seen c) (value_at told.now.value c)) self.old.own } }
+    {
+        apply(&mut self.frames, self.script, event, n, due);
+        nested(&self.frames);
+        let what = &event.what;
+        self.made += 1;
+        self.seen.raise(told);
+        serve(&mut self.served, &self.seen, what);
+        self.rested = is_rest(what);
+        self.took = took_after(what, self.took);
+        self.fire = fire_after(self.script, what, self.fire);
+        self.sweep = sweep_after(what, self.sweep);
+    }
+}

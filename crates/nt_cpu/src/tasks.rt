@@ -1,0 +1,227 @@
+//! What a processor has to do next, as far as it knows alone.
+ghost use Rattle.std.specs.Prelude.{◌≡◌, ◌<◌, IfSome, find, not};
+ghost use Rattle.nt_event.specs.Commands.{refusal as refusal_of};
+ghost use Rattle.nt_event.specs.Frames.{level_in, thread_part};
+ghost use Rattle.nt_event.specs.Jobs.{call_task as call_of, chosen_task as chosen_of, command_task as command_of, end_task as end_of, fire_task as fire_of, frame_task as frame_of, has_normal as goes_on, idle_task as idle_of, interrupt_classes, interrupt_task as interrupt_of, is_due as due_in, level_at, may_apcs as apcs_in, may_drain as drain_in, may_interrupt, may_switch as switch_in, may_threaded as threaded_in, must as must_in, must_task as must_of, normal_task as normal_of, rests as rests_in, rewait_task as rewait_of, rundown_task as rundown_of, task as task_of};
+ghost use Rattle.nt_event.specs.Routines.{next_command as next_of};
+ghost use Rattle.nt_event.specs.Regions.{regions_of};
+ghost use Rattle.nt_event.specs.Words.{is_null, value_at};
+
+use crate::cpu::Cpu;
+use crate::due::{due_interrupt, is_due};
+use crate::routines::{needs_lane, next_command, refusal};
+use nt_event::{ApcKind, Begun, Body, Command, Frame, Job, Level, Refusal, Reply, Task, What};
+use nt_frame::Frames;
+
+impl<'s> Cpu<'s> {
+    fn level(&self) -> Level
+        ensures { result ≡ level_at self.now.own }
+    {
+        self.frames.level()
+    }
+
+    fn is_due(&self, class: u8) -> bool
+        requires { class < 16 }
+        ensures { result ≡ due_in self.now.own class }
+    {
+        is_due(&self.seen, &self.served, class)
+    }
+
+    /// An expired timer's DPC is to be inserted.
+    fn fire_task(&self) -> Option<Task>
+        ensures { result ≡ fire_of self.now.own }
+    {
+        match self.fire {
+            Some(dpc) => Some(Task::Shared(Job::Fire(dpc))),
+            None => None,
+        }
+    }
+
+    fn due_interrupt(&self) -> Option<u8>
+        ensures value { result ≡ find (may_interrupt self.now.own) interrupt_classes }
+        ensures class { IfSome result (λ c. c < 16) }
+        ensures asked { IfSome result (λ c. 0 < value_at self.now.own.seen c) }
+    {
+        due_interrupt(self.level().number(), &self.seen, &self.served)
+    }
+
+    /// The greatest interrupt that is pending and above the level begins, with the number of the ask that it serves.
+    fn interrupt_task(&self) -> Option<Task>
+        ensures { result ≡ interrupt_of self.now.own }
+    {
+        let class = self.due_interrupt()?;
+        match Level::new(class) {
+            Some(level) => {
+                let from = self.seen.get(class) - 1;
+                Some(Task::Alone(What::Begin {
+                    begun: Begun::Int(level),
+                    from,
+                }))
+            }
+            None => unreachable!(),
+        }
+    }
+
+    /// DPCs and timers, below DISPATCH_LEVEL.
+    fn may_drain(&self) -> bool
+        ensures { result ≡ drain_in self.now.own }
+    {
+        self.level().number() < 2 && (self.is_due(2) || self.sweep)
+    }
+
+    /// Kernel APCs, at PASSIVE_LEVEL in a thread.
+    fn may_apcs(&self) -> bool
+        ensures { result ≡ apcs_in self.now.own }
+    {
+        self.level().number() == 0 && (self.frames.is_on_thread() && self.is_due(1))
+    }
+
+    /// Threaded DPCs, at PASSIVE_LEVEL with no frame on the own part (profile).
+    fn may_threaded(&self) -> bool
+        ensures { result ≡ threaded_in self.now.own }
+    {
+        self.level().number() == 0 && (!self.frames.has_own() && self.is_due(0))
+    }
+
+    /// What it must do before it goes on.
+    fn must_task(&self) -> Option<Task>
+        ensures { result ≡ must_of self.now.own }
+    {
+        let fire = self.fire_task();
+        if fire.is_some() {
+            return fire;
+        }
+        let interrupt = self.interrupt_task();
+        if interrupt.is_some() {
+            return interrupt;
+        }
+        if self.may_drain() {
+            return Some(Task::Shared(Job::Drain));
+        }
+        if self.may_apcs() {
+            return Some(Task::Shared(Job::Apcs));
+        }
+        if self.may_threaded() {
+            return Some(Task::Shared(Job::Threaded));
+        }
+        None
+    }
+
+    fn must(&self) -> bool
+        ensures { result ≡ must_in self.now.own }
+    {
+        self.must_task().is_some()
+    }
+
+    /// Whether no thread runs, no frame stands on the own part and nothing must be done.
+    pub(crate) fn is_free(&self) -> bool
+        ensures { result ≡ switch_in self.now.own }
+    {
+        self.frames.running().is_none() && (!self.frames.has_own() && !self.must())
+    }
+
+    /// The next command of the innermost frame is refused, called alone, or a job.
+    fn command_task(&self, frame: &Frame) -> Option<Task>
+        ensures { result ≡ command_of self.now.own frame.now (next_of self.now.script self.now.cpu frame.now) }
+    {
+        match next_command(self.script, self.cpu, frame) {
+            Some(command) => Some(call_in(&self.frames, frame, &command)),
+            None => None,
+        }
+    }
+
+    /// What the innermost frame has to do.
+    fn frame_task(&self, frame: &Frame) -> Option<Task>
+        ensures { result ≡ frame_of self.now.script self.now.cpu self.now.own frame.now }
+    {
+        if frame.again.is_some() {
+            return Some(Task::Shared(Job::Rewait));
+        }
+        if frame.leaving {
+            return Some(Task::Shared(Job::Rundown));
+        }
+        let command = self.command_task(frame);
+        if command.is_some() {
+            return command;
+        }
+        if frame.kernel_phase && has_normal(&frame.body) {
+            return Some(Task::Alone(What::Normal { frame: frame.name }));
+        }
+        Some(end_task(frame))
+    }
+
+    /// At rest with no running thread there is nothing to do; else ordinary DPCs, a needed Switch, or Rest.
+    fn idle_task(&self) -> Option<Task>
+        ensures { result ≡ idle_of self.now.own }
+    {
+        if !(self.rested && self.frames.running().is_none()) {
+            Some(Task::Shared(Job::Idle))
+        } else {
+            None
+        }
+    }
+
+    /// What it has to do next, or None where there is nothing.
+    pub(crate) fn task(&self) -> Option<Task>
+        ensures { result ≡ task_of self.now.script self.now.cpu self.now.own }
+    {
+        let must = self.must_task();
+        if must.is_some() {
+            return must;
+        }
+        match self.frames.top() {
+            Some(frame) => self.frame_task(&frame),
+            None => self.idle_task(),
+        }
+    }
+}
+
+/// The call of this command in this innermost frame.
+fn call_in(frames: &Frames, frame: &Frame, command: &Command) -> Task
+    ensures { result ≡ call_of frame.now command.now (refusal_of (level_in frames.now) (not (is_null frames.now.own)) (regions_of (thread_part frames.now)) frame.now command.now) }
+{
+    let refusal = refusal(frames.level(), frames, frame, command);
+    call_task(frame, command, refusal)
+}
+
+fn call_task(frame: &Frame, command: &Command, refusal: Option<Refusal>) -> Task
+    ensures { result ≡ call_of frame.now command.now refusal }
+{
+    let reply = match refusal {
+        Some(refusal) => Reply::Refused(refusal),
+        None => {
+            if matches!(command, Command::ToUser) {
+                return Task::Shared(Job::ToUser);
+            }
+            if needs_lane(command) {
+                return Task::Shared(Job::Call(*command));
+            }
+            Reply::Done
+        }
+    };
+    Task::Alone(What::Call {
+        frame: frame.name,
+        command: *command,
+        reply,
+    })
+}
+
+/// Whether it is an APC that goes on to a normal routine.
+fn has_normal(body: &Body) -> bool
+    ensures { result ≡ goes_on body.now }
+{
+    matches!(
+        body,
+        Body::Apc(_, ApcKind::Normal) | Body::Apc(_, ApcKind::User)
+    )
+}
+
+fn end_task(frame: &Frame) -> Task
+    ensures { result ≡ end_of frame.now.name frame.now.body }
+{
+    match &frame.body {
+        Body::Base(_) => Task::Shared(Job::Leave),
+        Body::Apc(_, ApcKind::User) => Task::Shared(Job::UserEnd),
+        _ => Task::Alone(What::End { frame: frame.name }),
+    }
+}

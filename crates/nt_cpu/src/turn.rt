@@ -1,0 +1,118 @@
+//! Turns.
+ghost use Rattle.std.specs.Prelude.{◌≡◌, ◌&&◌, ℕ, true, IfErr, IfOk, IsErrOf, OnErr, Some};
+ghost use Rattle.nt_event.specs.Step.{cpu_at, is_cut};
+ghost use Rattle.nt_floor.specs.Acts.{Found};
+ghost use Rattle.nt_floor.specs.Views.{IsUnmoved};
+ghost use Rattle.nt_cpu.specs.Sound.{IsSound};
+ghost use Rattle.nt_event.specs.declared.events.What.{What};
+ghost use Rattle.nt_event.specs.declared.jobs.Job.{Job};
+ghost use Rattle.nt_event.specs.declared.jobs.Task.{Task};
+ghost use Rattle.nt_event.specs.Jobs.{may_switch as switch_in};
+ghost use Rattle.nt_event.specs.Script.{has_thread};
+ghost use Rattle.nt_event.specs.Words.{when};
+ghost use Rattle.nt_cpu.specs.declared.turn.TurnRefusal.{TurnRefusal};
+ghost use Rattle.nt_cpu.specs.Turns.{IsTurned, IsTurnRefused, Serves, acts, rises as rises_in, turn_refusal as refusal_of, turn_task as task_of};
+
+use crate::cpu::Cpu;
+use crate::looks::rise;
+use nt_event::{Event, Job, Rises, Task, ThreadNo, Turn, What};
+use nt_floor::{ActRefusal, Floor};
+
+/// Why a turn made no event.
+#[derive(Clone, Copy, PartialEq, Eq, Debug)]
+pub enum TurnRefusal {
+    /// The processor has no next event, or made as many as it may.
+    NothingToDo,
+    /// A look in which no value rises, or one that is not above what was seen.
+    BadLook,
+    /// A switch to a thread that cannot be taken up, or where none can.
+    BadChoice,
+    /// No memory was found.
+    NoMemory,
+}
+
+/// The refusal of a turn that gives no event.
+fn turn_refusal(turn: &Turn) -> TurnRefusal
+    ensures { result ≡ refusal_of turn.now }
+{
+    match turn {
+        Turn::Next(_) => TurnRefusal::NothingToDo,
+        Turn::Look(_, _) => TurnRefusal::BadLook,
+        Turn::Switch(_, _) => TurnRefusal::BadChoice,
+    }
+}
+
+impl<'s> Cpu<'s> {
+    /// Whether it made as many events as it may.
+    pub(crate) fn is_cut(&self) -> bool
+        ensures cut { result ≡ is_cut self.now.limit self.now.own }
+        ensures sound { IsSound self.now }
+    {
+        self.limit <= self.made
+    }
+
+    /// What a turn has it do, or None where the turn is refused.
+    fn turn_task(&self, turn: &Turn) -> Option<Task>
+        ensures { result ≡ task_of self.now.script self.now.cpu self.now.own turn.now }
+    {
+        match turn {
+            Turn::Next(_) => self.task(),
+            Turn::Look(_, rises) => self.look_task(rises),
+            Turn::Switch(_, thread) => self.switch_task(*thread),
+        }
+    }
+
+    /// A look, where some value rises and each that does is above what was seen.
+    fn look_task(&self, rises: &Rises) -> Option<Task>
+        ensures { result ≡ when (rises_in rises.now.value self.now.own.seen) (Some (Task.Alone (What.Look rises.now))) }
+    {
+        if rise(rises, &self.seen) {
+            Some(Task::Alone(What::Look { rises: *rises }))
+        } else {
+            None
+        }
+    }
+
+    /// A switch, where one may be made and the script has the thread.
+    fn switch_task(&self, thread: ThreadNo) -> Option<Task>
+        ensures { result ≡ when (switch_in self.now.own && has_thread self.now.script thread) (Some (Task.Shared (Job.Switch thread))) }
+    {
+        if self.is_free() && (thread.0 as usize) < self.script.threads.len() {
+            Some(Task::Shared(Job::Switch(thread)))
+        } else {
+            None
+        }
+    }
+
+    /// Takes the turn: makes its event, or answers why there is none; then nothing changed but what the floor learned.
+    ///
+    /// The turn names this processor, and the values of a look were asked for. The floor is of this script, and serves the processor:
+    /// a number may be drawn unless the processor is cut, and where the floor tells its states, the processor stands in them.
+    /// NothingToDo comes where the processor is cut, and for a turn Next where it rests or has to choose a thread; BadLook where
+    /// no value rises or one is not above what was seen; BadChoice where the thread cannot be taken or no choice may be made.
+    /// NoMemory comes from a floor that is not alone.
+    pub fn turn<F: Floor>(&mut self, floor: &mut F, choice: Turn) -> Result<Event, TurnRefusal>
+        requires names { cpu_at choice ≡ self.old.cpu }
+        requires script { F.script floor.old ≡ self.old.script }
+        requires serves { Serves self.old (F.view floor.old) }
+        ensures ok { IfOk result (λ e. (f : Found) × (n : ℕ) × (IsTurned self.old self.new choice f n e (F.view floor.old) (F.view floor.new) × (acts self.old choice ≡ true → F.found floor.new n e f))) }
+        ensures err { IfErr result (λ r. (f : Found) × (IsTurnRefused self.old choice f r (F.view floor.old) × (acts self.old choice ≡ true → F.shows floor.new f))) }
+        ensures same { OnErr result ((self.new ≡ self.old) × IsUnmoved (F.view floor.old) (F.view floor.new)) }
+        ensures memory { (F.view floor.old).alone ≡ true → IsErrOf result TurnRefusal.NoMemory → ⊥ }
+        ensures script { F.script floor.new ≡ F.script floor.old }
+        ensures grows { F.grows floor.old floor.new }
+    {
+        if self.is_cut() {
+            return Err(TurnRefusal::NothingToDo);
+        }
+        match self.turn_task(&choice) {
+            Some(Task::Alone(what)) => Ok(self.make_alone(floor, &what)),
+            Some(Task::Shared(job)) => match self.make_shared(floor, job) {
+                Ok(event) => Ok(event),
+                Err(ActRefusal::NoMemory) => Err(TurnRefusal::NoMemory),
+                Err(_) => Err(turn_refusal(&choice)),
+            },
+            None => Err(turn_refusal(&choice)),
+        }
+    }
+}

@@ -1,0 +1,69 @@
+//! A value for each request class.
+ghost use Rattle.std.specs.Prelude.{◌≡◌, ◌<◌, ℕ, length, max, slice_set};
+ghost use Rattle.nt_event.specs.Words.{table, value_at};
+
+use nt_event::Rises;
+use std::marker::Model;
+
+/// A value for each of the classes 0 to 15.
+#[derive(Drop, Debug)]
+pub struct Values {
+    values: [u64; 16],
+}
+
+impl Model for Values {
+    ghost use Rattle.std.specs.Prelude.{ℕ, List};
+
+    ghost Value = { List ℕ };
+
+    ghost view = { λ a. a.values };
+}
+
+impl Values {
+    /// Each value is 0.
+    pub fn new() -> Self
+        ensures { result ≡ table 16 (λ c. 0) }
+    {
+        Values { values: [0; 16] }
+    }
+
+    /// The value of a class.
+    pub fn get(&self, class: u8) -> u64
+        requires { class < 16 }
+        ensures { result ≡ value_at self.now class }
+    {
+        self.values[class as usize]
+    }
+
+    /// The greater one of each two values.
+    pub fn raise(&mut self, rises: &Rises)
+        ensures { self.new ≡ table 16 (λ c. max (value_at self.old c) (value_at rises.now.value c)) }
+    {
+        raise(&mut self.values, &rises.value);
+    }
+
+    /// The value of this class is the other's.
+    pub fn serve(&mut self, class: u8, seen: &Values)
+        requires { class < 16 }
+        ensures { self.new ≡ slice_set self.old class (value_at seen.now class) }
+    {
+        self.values[class as usize] = seen.get(class);
+    }
+
+    /// The values.
+    pub fn rises(&self) -> Rises
+        ensures { result.value ≡ self.now }
+    {
+        Rises { value: self.values }
+    }
+}
+
+fn raise(values: &mut [u64; 16], rises: &[u64; 16])
+    ensures { values.new ≡ table 16 (λ c. max (value_at values.old c) (value_at rises.now c)) }
+{
+    for i in 0..16 {
+        if values[i] < rises[i] {
+            values[i] = rises[i];
+        }
+    }
+}
