@@ -177,3 +177,19 @@ no_frame c = go (innermost c.own.frames)
 pub task_good : (c : CpuState) → IsSound c → Holds (GoodTask c) (task c.script c.cpu c.own)
 task_good c h =
     holds_or (GoodTask c) (must_task c.own) _ (must_good c h) (λ _. holds_or (GoodTask c) (option_and_then (frame_task c.script c.cpu c.own) (innermost c.own.frames)) _ (holds_then (GoodTask c) (frame_task c.script c.cpu c.own) (innermost c.own.frames) (λ f i. frame_good c f h i)) (λ e. holds_when (GoodTask c) (not (c.own.rested && is_none c.own.frames.running)) _ (λ _. no_frame c e)))
+
+or_frame : (a b k d : Option Task) (e : Task) (o : Option Task) → option_or (option_or a (option_or b (option_or k (option_or d (Some e))))) o ≡ option_or a (option_or b (option_or k (option_or d (Some e))))
+or_frame None None None None e o = refl
+or_frame None None None (Some x) e o = refl
+or_frame None None (Some x) d e o = refl
+or_frame None (Some x) k d e o = refl
+or_frame (Some x) b k d e o = refl
+
+-- where nothing must be done, the innermost frame says what is next
+pub task_of_frame : (s : Script) (p : CpuNo) (x : Own) (f : Frame) → must_task x ≡ None → innermost x.frames ≡ Some f → task s p x ≡ frame_task s p x f
+task_of_frame s p x f m i =
+    rw (m, i) (or_frame (rewait_task f) (rundown_task f) (command_task x f (next_command s p f)) (normal_task f) (end_task f.name f.body) (idle_task x))
+
+pub none_of : {A : Type 0} (o : Option A) → is_some o ≡ false → o ≡ None
+none_of None h = refl
+none_of (Some x) h = absurd cc

@@ -12,3 +12,6 @@ pub mod SharedEvents
 pub mod LanesKept
 pub mod AloneMoves
 pub mod TurnsTaken
+pub mod Based
+pub mod Starts
+pub mod CoreSteps

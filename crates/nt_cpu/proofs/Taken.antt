@@ -12,6 +12,7 @@ use Rattle.nt_event.specs.Frames.{Frames, frames_after, frames_in, innermost, th
 use Rattle.nt_event.specs.Own.{Own, fire_after, is_rest, took_after}
 use Rattle.nt_event.specs.Regions.{sweep_after}
 use Rattle.nt_event.specs.Requests.{served_after}
+use Rattle.nt_event.specs.Step.{thread_field}
 use Rattle.nt_event.specs.Words.{head_of, is_by, table, thread, value_at}
 use Rattle.nt_event.proofs.Tables.{get_or-table, length-table_from, table-same}
 use Rattle.nt_frame.specs.Nesting.{AreNested}
@@ -19,6 +20,7 @@ use Rattle.nt_cpu.specs.Fits.{Allow}
 use Rattle.nt_cpu.specs.Leaves.{own_with}
 use Rattle.nt_cpu.specs.Sound.{AreSmall, IsSmall, IsSmallPart, IsSound}
 use Rattle.nt_cpu.specs.States.{CpuState}
+use Rattle.nt_cpu.proofs.Based.{based_after}
 use Rattle.nt_cpu.proofs.Kept.{fire_kept, waits_after}
 use Rattle.nt_cpu.proofs.Small.{part_nil, part_of, small_after}
 
@@ -57,8 +59,8 @@ left_is c n due e told fs seen served rested took fire sweep a b d r t f w =
         d ∙ table-same 16 _ _ (λ k h. ap (λ (v : ℕ). served_after e.what k v (value_at c.own.served k)) (value k h))
 
 -- what holds of a processor at any time holds after an event that its frames allow
-pub sound_after : (c : CpuState) (n : ℕ) (due : Option ℕ) (e : Event) (seen : ℕ → ℕ) → IsSound c → c.own.made < c.limit → IfSome due (λ d. d < 2 ^ 51) → Allow c.script e.what c.own.frames → AreNested (frames_after c.script n due e c.own.frames) → IsSound (record c { own = own_with c.script n due e seen c.own })
-sound_after c n due e seen h m d a nested = record {
+pub sound_after : (c : CpuState) (n : ℕ) (due : Option ℕ) (e : Event) (seen : ℕ → ℕ) → IsSound c → c.own.made < c.limit → IfSome due (λ d. d < 2 ^ 51) → e.thread ≡ thread_field e.what c.own.frames.running → Allow c.script e.what c.own.frames → AreNested (frames_after c.script n due e c.own.frames) → IsSound (record c { own = own_with c.script n due e seen c.own })
+sound_after c n due e seen h m d t a nested = record {
   script = h.script;
   cpu = h.cpu;
   limit = h.limit;
@@ -68,6 +70,7 @@ sound_after c n due e seen h m d a nested = record {
   threads = length-table_from 0 (length c.script.threads) (λ t. thread_if (is_by e (thread t)) c.script n due e.what (frames_in c.own.frames.threads (thread t)));
   nested = nested;
   small = small_after c.script c.own.made n due e c.own.frames d h.small;
+  based = based_after c.script n due e c.own.frames h.threads t (rw (length-table_from {A = List Frame} 0 (length c.script.threads) (λ t. thread_if (is_by e (thread t)) c.script n due e.what (frames_in c.own.frames.threads (thread t))), ← h.threads) at nested.running) h.based;
   waits = waits_after c.script n due e.what c.own.frames a h.waits;
   fire = fire_kept c.script e.what c.own.fire h.script h.fire;
 }

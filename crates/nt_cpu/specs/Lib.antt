@@ -6,4 +6,5 @@ pub mod Alone
 pub mod GoodTasks
 pub mod Sound
 pub mod Turns
+pub mod Runs
 pub mod Insides

@@ -1,8 +1,8 @@
 -- What holds of a processor at any time.
-use Rattle.std.specs.Prelude.{All, IfSome, IsTrue, List, length, ℕ, ◌<◌, ◌^◌, ◌≡◌, ◌≤◌}
+use Rattle.std.specs.Prelude.{All, IfSome, IsTrue, List, [], length, true, ℕ, ◌<◌, ◌^◌, ◌∷◌, ◌≡◌, ◌≤◌, ◌⊎◌}
 use Rattle.nt_event.specs.declared.frames.Frame.{Frame}
 use Rattle.nt_event.specs.declared.scripts.Script.{Script}
-use Rattle.nt_event.specs.Frames.{Frames}
+use Rattle.nt_event.specs.Frames.{Frames, frames_in, is_base_body}
 use Rattle.nt_event.specs.Own.{Own}
 use Rattle.nt_event.specs.Regions.{crit_of, guard_of}
 use Rattle.nt_event.specs.Script.{fits, has_cpu, has_dpc}
@@ -24,6 +24,17 @@ pub record AreSmall (n : ℕ) (x : Frames) : Type 0 where
   pub own : All (IsSmall n) x.own
   pub threads : All (IsSmallPart n) x.threads
 
+-- the last frame of the part is a base, and there is one
+abbrev pub EndsInBase : List Frame → Type 0
+EndsInBase [] = ⊥
+EndsInBase (f ∷ []) = is_base_body f.body ≡ true
+EndsInBase (f ∷ g ∷ fs) = EndsInBase (g ∷ fs)
+
+-- a thread has no frame, or its base under the others; and a running thread has one
+pub record AreBased (x : Frames) : Type 0 where
+  pub parts : All (λ fs. (fs ≡ []) ⊎ EndsInBase fs) x.threads
+  pub runs : IfSome x.running (λ t. EndsInBase (frames_in x.threads t))
+
 pub record IsSound (c : CpuState) : Type 0 where
   pub script : IsTrue (fits c.script)
   pub cpu : IsTrue (has_cpu c.script c.cpu)
@@ -34,5 +45,6 @@ pub record IsSound (c : CpuState) : Type 0 where
   pub threads : length c.own.frames.threads ≡ length c.script.threads
   pub nested : AreNested c.own.frames
   pub small : AreSmall c.own.made c.own.frames
+  pub based : AreBased c.own.frames
   pub waits : HaveNoWaits c.own.frames.own
   pub fire : IfSome c.own.fire (λ d. IsTrue (has_dpc c.script d))

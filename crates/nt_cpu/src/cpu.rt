@@ -1,8 +1,12 @@
 //! What a processor keeps.
-ghost use Rattle.std.specs.Prelude.{◌≡◌, ◌<◌, ◌≤◌, IfOk, IsTrue};
+ghost use Rattle.std.specs.Prelude.{◌≡◌, ◌≤◌, ◌&&◌, [], IfOk, IsTrue, length, not};
+ghost use Rattle.nt_event.specs.Jobs.{may_switch as switch_in, rests as rests_in};
+ghost use Rattle.nt_event.specs.Own.{own_of};
+ghost use Rattle.nt_event.specs.Script.{fits, has_cpu};
+ghost use Rattle.nt_event.specs.Step.{is_cut};
 
 use crate::values::Values;
-use nt_event::{CpuNo, DpcNo, Script, ThreadNo};
+use nt_event::{CpuNo, DpcNo, Rises, Script, ThreadNo};
 use nt_frame::Frames;
 use std::alloc::{AllocError, Global};
 use std::marker::Model;
@@ -36,10 +40,75 @@ impl<'s> Model for Cpu<'s> {
 }
 
 impl<'s> Cpu<'s> {
+    /// A processor of the script that has made no event and may make this many.
+    ///
+    /// The script fits, the processor is one of its, and the limit is at most 20,000.
+    pub fn new(
+        alloc: Global,
+        script: &'s Script,
+        cpu: CpuNo,
+        turns: u32,
+    ) -> Result<Cpu<'s>, AllocError>
+        requires script { IsTrue (fits script.now) }
+        requires cpu { IsTrue (has_cpu script.now cpu) }
+        requires turns { turns ≤ 20000 }
+        ensures { IfOk result (λ c. c ≡ record { script = script.now; cpu = cpu; limit = turns; own = own_of script.now cpu [] }) }
+    {
+        Ok(Cpu {
+            script,
+            cpu,
+            limit: turns,
+            made: 0,
+            frames: Frames::new(alloc, cpu, thread_count(script))?,
+            seen: Values::new(),
+            served: Values::new(),
+            rested: false,
+            took: None,
+            fire: None,
+            sweep: false,
+        })
+    }
+
     /// How many events it made.
     pub fn made(&self) -> u32
         ensures { result ≡ self.now.own.made }
     {
         self.made
     }
+
+    /// Per class, the greatest request that it has noticed; a request is one more than the number of the event that asked.
+    pub fn seen(&self) -> Rises
+        ensures { result.value ≡ self.now.own.seen }
+    {
+        self.seen.rises()
+    }
+
+    /// The thread that it took up last.
+    pub fn took(&self) -> Option<ThreadNo>
+        ensures { result ≡ self.now.own.took }
+    {
+        self.took
+    }
+
+    /// Whether its last event is Rest and nothing must be done.
+    pub fn rests(&self) -> bool
+        ensures { result ≡ rests_in self.now.own }
+    {
+        self.rested && !self.must()
+    }
+
+    /// Whether it may take up a thread: it is not cut, no thread runs, no frame stands on its own part, and nothing must be done.
+    pub fn may_switch(&self) -> bool
+        ensures { result ≡ (not (is_cut self.now.limit self.now.own) && switch_in self.now.own) }
+    {
+        !self.is_cut() && self.is_free()
+    }
+}
+
+/// How many threads the script has.
+fn thread_count(script: &Script) -> u32
+    requires { IsTrue (fits script.now) }
+    ensures { result ≡ length script.now.threads }
+{
+    script.threads.len() as u32
 }

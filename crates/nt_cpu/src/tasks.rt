@@ -107,7 +107,7 @@ impl<'s> Cpu<'s> {
         None
     }
 
-    fn must(&self) -> bool
+    pub(crate) fn must(&self) -> bool
         ensures { result ≡ must_in self.now.own }
     {
         self.must_task().is_some()

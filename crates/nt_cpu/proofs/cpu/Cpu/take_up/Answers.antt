@@ -1,6 +1,7 @@
 use Rattle.std.proofs.Common.{ap, arith, max, subst, sym, ◌∙◌}
 use Rattle.std.specs.Prelude.{ℕ, ◌<◌, ◌≡◌, ◌≤◌}
 use Rattle.nt_event.specs.Frames.{Frames}
+use Rattle.nt_event.specs.Step.{thread_field}
 use Rattle.nt_event.specs.Words.{value_at}
 use Rattle.nt_frame.specs.Nesting.{AreNested}
 use Rattle.nt_cpu.specs.Fits.{Allow}
@@ -27,8 +28,9 @@ invariant_of-self c =
     let e = left_is i c.args.n c.args.due c.args.event.now c.args.told.now.value c.apply.new.frames c.raise.new.self c.serve.new.served c.is_rest-self-inside.result c.took_after-self-inside.result c.fire_after-self-inside.result c.sweep_after-self-inside.result c.apply.ensures c.raise.ensures c.serve.ensures c.is_rest-self-inside.ensures c.took_after-self-inside.ensures c.fire_after-self-inside.ensures c.sweep_after-self-inside.ensures in
     let room = subst (λ (x : CpuState). x.own.made < x.limit) v c.requires.room in
     let allow = subst (λ (x : CpuState). Allow x.script c.args.event.now.what x.own.frames) v c.requires.allow in
+    let thread = subst (λ (x : CpuState). c.args.event.now.thread ≡ thread_field c.args.event.now.what x.own.frames.running) v c.requires.thread in
     let nested = subst (λ (x : Frames). AreNested x) c.apply.ensures c.nested.ensures in
-    subst (λ (x : CpuState). IsSound x) (sym e) (sound_after i c.args.n c.args.due c.args.event.now (λ k. max (value_at i.own.seen k) (value_at c.args.told.now.value k)) c.self.invariant room c.requires.due allow nested)
+    subst (λ (x : CpuState). IsSound x) (sym e) (sound_after i c.args.n c.args.due c.args.event.now (λ k. max (value_at i.own.seen k) (value_at c.args.told.now.value k)) c.self.invariant room c.requires.due thread allow nested)
 
 pub returns : goal.returns
 returns c =

@@ -1,0 +1,23 @@
+-- A processor that has made no event.
+use Rattle.std.proofs.Common.{ap, arith, inl, subst, sym, ◌∙◌}
+use Rattle.std.proofs.lemmas.List.Elements.{All-from_get_or, All-nil}
+use Rattle.std.specs.Prelude.{All, IsTrue, List, None, [], false, length, refl, ℕ, ◌<◌, ◌≡◌, ◌≤◌, ◌⊎◌}
+use Rattle.nt_event.specs.declared.frames.Frame.{Frame}
+use Rattle.nt_event.specs.declared.numbers.CpuNo.{CpuNo}
+use Rattle.nt_event.specs.declared.scripts.Script.{Script}
+use Rattle.nt_event.specs.Frames.{Frames}
+use Rattle.nt_event.specs.Script.{fits, has_cpu}
+use Rattle.nt_event.specs.Words.{table}
+use Rattle.nt_event.proofs.Tables.{get_or-table, length-table_from}
+use Rattle.nt_frame.specs.Changes.{no_frames}
+use Rattle.nt_frame.proofs.Nested.{nested_start}
+use Rattle.nt_cpu.specs.Sound.{AreBased, AreSmall, EndsInBase, IsSmall, IsSmallPart, IsSound}
+use Rattle.nt_cpu.proofs.Small.{part_nil}
+
+each_empty : (P : List Frame → Type 0) (n : ℕ) → P [] → All P (no_frames n).threads
+each_empty P n h =
+    All-from_get_or P _ [] (λ i b. let k : i < n = omega (arith, length-table_from {A = List Frame} 0 n (λ _. [])) in rw (get_or-table {A = List Frame} n i (λ _. []) [] k) h)
+
+pub sound_start : (s : Script) (p : CpuNo) (n : ℕ) (fs : Frames) (seen served : List ℕ) → IsTrue (fits s) → IsTrue (has_cpu s p) → n ≤ 20000 → fs ≡ no_frames (length s.threads) → seen ≡ table 16 (λ c. 0) → served ≡ table 16 (λ c. 0) → IsSound (record { script = s; cpu = p; limit = n; own = record { made = 0; frames = fs; seen = seen; served = served; rested = false; took = None; fire = None; sweep = false } })
+sound_start s p n fs seen served f q l e a b =
+    rw (e) (record { script = f; cpu = q; limit = l; made = omega arith; seen = ap (λ (xs : List ℕ). length xs) a ∙ length-table_from 0 16 (λ c. 0); served = ap (λ (xs : List ℕ). length xs) b ∙ length-table_from 0 16 (λ c. 0); threads = length-table_from {A = List Frame} 0 (length s.threads) (λ _. []); nested = nested_start (length s.threads); small = record { own = All-nil (IsSmall 0); threads = each_empty (IsSmallPart 0) (length s.threads) (part_nil 0) }; based = record { parts = each_empty (λ fs. (fs ≡ []) ⊎ EndsInBase fs) (length s.threads) (inl refl); runs = tt }; waits = tt; fire = tt })
