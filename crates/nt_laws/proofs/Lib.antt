@@ -11,3 +11,5 @@ pub mod FatesElements
 pub mod FatesPicks
 pub mod FatesDeliveries
 pub mod FatesRemovals
+pub mod FatesNumbers
+pub mod FatesAgree

@@ -1,6 +1,6 @@
 -- The fate of inserts in a run.
 use Rattle.std.specs.List.{Contains}
-use Rattle.std.specs.Prelude.{List, Some, false, is_some, true, ℕ, ◌∷◌, ◌≡◌}
+use Rattle.std.specs.Prelude.{List, None, Option, Some, [], false, filter, if◌then◌else◌, is_some, map, true, ℕ, ◌==◌, ◌∷◌, ◌≡◌}
 use Rattle.nt_event.specs.declared.commands.Command.TheVariants.{RemoveApc, Unqueue}
 use Rattle.nt_event.specs.declared.events.Begun.TheVariants.{Apc, Dpc, Threaded}
 use Rattle.nt_event.specs.declared.events.Event.{Event}
@@ -8,6 +8,7 @@ use Rattle.nt_event.specs.declared.events.What.{What}
 use Rattle.nt_event.specs.declared.events.What.TheVariants.{Begin, Call, Flush}
 use Rattle.nt_event.specs.declared.inserts.Insert.{Insert}
 use Rattle.nt_event.specs.declared.inserts.Pick.{Pick}
+use Rattle.nt_event.specs.declared.inserts.Standing.{Standing}
 use Rattle.nt_event.specs.declared.numbers.ApcNo.{ApcNo}
 use Rattle.nt_event.specs.declared.numbers.CpuNo.{CpuNo}
 use Rattle.nt_event.specs.declared.numbers.DpcNo.{DpcNo}
@@ -16,7 +17,7 @@ use Rattle.nt_event.specs.declared.scripts.Script.{Script}
 use Rattle.nt_event.specs.Apcs.{is_inserted}
 use Rattle.nt_event.specs.Frames.{running}
 use Rattle.nt_event.specs.Objects.{standing}
-use Rattle.nt_event.specs.Queues.{pending}
+use Rattle.nt_event.specs.Queues.{is_of_dpc, pending}
 use Rattle.nt_event.specs.Routines.{owner_of}
 use Rattle.nt_event.specs.Script.{has_dpc, has_thread}
 use Rattle.nt_event.specs.Step.{IsRun}
@@ -53,3 +54,20 @@ RemovalTells s w past = Unit {0}
 -- in a run each removal tells whether its object was inserted just before it
 abbrev pub RemovalsTell : Type 0
 RemovalsTell = (s : Script) (limit : ℕ) (e : Event) (past : List Event) → IsRun s limit (e ∷ past) → RemovalTells s e.what past
+
+-- the numbers of the object's inserts among these
+abbrev pub numbers_of : DpcNo → List Insert → List ℕ
+numbers_of d xs = map (λ x. x.number) (filter (is_of_dpc d) xs)
+
+-- the number of a pending insert that stands in the queue of p, as a list
+abbrev pub numbers_at : CpuNo → Option Standing → List ℕ
+numbers_at p None = []
+numbers_at p (Some x) = if x.queue.0 == p.0 then x.number ∷ [] else []
+
+-- in a run queues and objects agree: a queue has of each object of the script the one insert that stands there, or none
+abbrev pub QueuesAgreeWithObjects : Type 0
+QueuesAgreeWithObjects = (s : Script) (limit : ℕ) (d : DpcNo) (past : List Event) → IsRun s limit past → has_dpc s d ≡ true → (p : CpuNo) → numbers_of d (pending s p past) ≡ numbers_at p (standing d past)
+
+-- in a run two pending inserts of one object of the script are in the same queue and have the same number
+abbrev pub AtMostOnePendingInsert : Type 0
+AtMostOnePendingInsert = (s : Script) (limit : ℕ) (d : DpcNo) (past : List Event) → IsRun s limit past → has_dpc s d ≡ true → (p q : CpuNo) (n m : ℕ) → DpcIsPending s p d n past → DpcIsPending s q d m past → (p.0 ≡ q.0) × (n ≡ m)

@@ -9,7 +9,8 @@ ghost use Rattle.nt_laws.specs.Deliveries.{DeliveriesAreEligible};
 ghost use Rattle.nt_laws.specs.Locality.{ChangesOwnLanesOnly};
 
 pub use fates::{
-    a_delivery_names_a_pending_insert, a_removal_answers_yes_exactly_where_there_was_one,
+    a_delivery_names_a_pending_insert, a_dpc_object_has_at_most_one_pending_insert,
+    a_removal_answers_yes_exactly_where_there_was_one, queues_and_objects_agree,
 };
 
 /// Deliveries are eligible: each Begin, Expire and Flush of a run delivers a request that was eligible just before it.
