@@ -13,3 +13,5 @@ pub mod FatesDeliveries
 pub mod FatesRemovals
 pub mod FatesNumbers
 pub mod FatesAgree
+pub mod FatesWaiting
+pub mod FatesOnce

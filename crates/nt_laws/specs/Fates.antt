@@ -1,6 +1,6 @@
 -- The fate of inserts in a run.
 use Rattle.std.specs.List.{Contains}
-use Rattle.std.specs.Prelude.{List, None, Option, Some, [], false, filter, if◌then◌else◌, is_some, map, true, ℕ, ◌==◌, ◌∷◌, ◌≡◌}
+use Rattle.std.specs.Prelude.{Bool, List, None, Option, Some, [], false, filter, if◌then◌else◌, is_some, length, map, true, ℕ, ◌&&◌, ◌<◌, ◌==◌, ◌∷◌, ◌≡◌}
 use Rattle.nt_event.specs.declared.commands.Command.TheVariants.{RemoveApc, Unqueue}
 use Rattle.nt_event.specs.declared.events.Begun.TheVariants.{Apc, Dpc, Threaded}
 use Rattle.nt_event.specs.declared.events.Event.{Event}
@@ -15,6 +15,7 @@ use Rattle.nt_event.specs.declared.numbers.DpcNo.{DpcNo}
 use Rattle.nt_event.specs.declared.numbers.ThreadNo.{ThreadNo}
 use Rattle.nt_event.specs.declared.scripts.Script.{Script}
 use Rattle.nt_event.specs.Apcs.{is_inserted}
+use Rattle.nt_event.specs.Fate.{ApcThing, DpcThing, StillWaits, Thing, fate_of}
 use Rattle.nt_event.specs.Frames.{running}
 use Rattle.nt_event.specs.Objects.{standing}
 use Rattle.nt_event.specs.Queues.{is_of_dpc, pending}
@@ -71,3 +72,24 @@ QueuesAgreeWithObjects = (s : Script) (limit : ℕ) (d : DpcNo) (past : List Eve
 -- in a run two pending inserts of one object of the script are in the same queue and have the same number
 abbrev pub AtMostOnePendingInsert : Type 0
 AtMostOnePendingInsert = (s : Script) (limit : ℕ) (d : DpcNo) (past : List Event) → IsRun s limit past → has_dpc s d ≡ true → (p q : CpuNo) (n m : ℕ) → DpcIsPending s p d n past → DpcIsPending s q d m past → (p.0 ≡ q.0) × (n ≡ m)
+
+-- the event delivers the insert of the thing at this number: it is a Begin or Flush that names it
+abbrev pub delivers : Thing → ℕ → What → Bool
+delivers (DpcThing d) n (Begin (Dpc x) from) = (x.0 == d.0) && (from == n)
+delivers (DpcThing d) n (Begin (Threaded x) from) = (x.0 == d.0) && (from == n)
+delivers (ApcThing a) n (Begin (Apc x) from) = (x.0 == a.0) && (from == n)
+delivers (ApcThing a) n (Flush x from) = (x.0 == a.0) && (from == n)
+delivers thing n w = false
+
+-- where it is a DPC object, the script has it
+abbrev pub is_declared : Script → Thing → Bool
+is_declared s (DpcThing d) = has_dpc s d
+is_declared s (ApcThing a) = true
+
+-- in a run what an event delivers is an earlier insert that no event before it began, removed or flushed
+abbrev pub DeliveredInsertsWait : Type 0
+DeliveredInsertsWait = (s : Script) (limit : ℕ) (e : Event) (past : List Event) (thing : Thing) (n : ℕ) → IsRun s limit (e ∷ past) → is_declared s thing ≡ true → delivers thing n e.what ≡ true → (n < length past) × (fate_of thing n past ≡ StillWaits)
+
+-- in a run no event delivers an insert that an earlier one delivered
+abbrev pub NoInsertIsDeliveredTwice : Type 0
+NoInsertIsDeliveredTwice = (s : Script) (limit : ℕ) (e : Event) (past : List Event) (thing : Thing) (n : ℕ) → IsRun s limit (e ∷ past) → is_declared s thing ≡ true → delivers thing n e.what ≡ true → (f : Event) → Contains past f → delivers thing n f.what ≡ false

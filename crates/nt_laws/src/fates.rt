@@ -1,6 +1,6 @@
 //! The fate of inserts in a run: what a delivery or a removal finds pending.
 
-ghost use Rattle.nt_laws.specs.Fates.{AtMostOnePendingInsert, DeliveriesNamePendingInserts, QueuesAgreeWithObjects, RemovalsTell};
+ghost use Rattle.nt_laws.specs.Fates.{AtMostOnePendingInsert, DeliveredInsertsWait, DeliveriesNamePendingInserts, NoInsertIsDeliveredTwice, QueuesAgreeWithObjects, RemovalsTell};
 
 /// A delivery names a pending insert: each Begin of a DPC or an APC and each Flush of a run names an insert of its object that
 /// was pending just before it, a DPC's in the queue of its processor, an APC's at the thread that runs there.
@@ -24,4 +24,15 @@ pub fn queues_and_objects_agree()
 /// queue and have the same number.
 pub fn a_dpc_object_has_at_most_one_pending_insert()
     ensures { AtMostOnePendingInsert }
+{}
+
+/// What is delivered waits: what a Begin of a DPC or an APC or a Flush of a run names is an earlier insert that no event before
+/// it began, removed or flushed.
+pub fn what_is_delivered_waits()
+    ensures { DeliveredInsertsWait }
+{}
+
+/// No insert is delivered twice: no two Begins or Flushes of a run name the same insert of an object.
+pub fn no_insert_is_delivered_twice()
+    ensures { NoInsertIsDeliveredTwice }
 {}
