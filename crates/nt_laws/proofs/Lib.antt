@@ -15,3 +15,4 @@ pub mod FatesNumbers
 pub mod FatesAgree
 pub mod FatesWaiting
 pub mod FatesOnce
+pub mod FatesApcs

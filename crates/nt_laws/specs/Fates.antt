@@ -1,6 +1,6 @@
 -- The fate of inserts in a run.
 use Rattle.std.specs.List.{Contains}
-use Rattle.std.specs.Prelude.{Bool, List, None, Option, Some, [], false, filter, if◌then◌else◌, is_some, length, map, true, ℕ, ◌&&◌, ◌<◌, ◌==◌, ◌∷◌, ◌≡◌}
+use Rattle.std.specs.Prelude.{Bool, List, None, Option, Some, [], false, filter, if◌then◌else◌, is_some, length, map, true, ℕ, ◌&&◌, ◌<◌, ◌==◌, ◌∷◌, ◌≡◌, ◌≤◌}
 use Rattle.nt_event.specs.declared.commands.Command.TheVariants.{RemoveApc, Unqueue}
 use Rattle.nt_event.specs.declared.events.Begun.TheVariants.{Apc, Dpc, Threaded}
 use Rattle.nt_event.specs.declared.events.Event.{Event}
@@ -14,7 +14,7 @@ use Rattle.nt_event.specs.declared.numbers.CpuNo.{CpuNo}
 use Rattle.nt_event.specs.declared.numbers.DpcNo.{DpcNo}
 use Rattle.nt_event.specs.declared.numbers.ThreadNo.{ThreadNo}
 use Rattle.nt_event.specs.declared.scripts.Script.{Script}
-use Rattle.nt_event.specs.Apcs.{is_inserted}
+use Rattle.nt_event.specs.Apcs.{is_inserted, is_of_apc}
 use Rattle.nt_event.specs.Fate.{ApcThing, DpcThing, StillWaits, Thing, fate_of}
 use Rattle.nt_event.specs.Frames.{running}
 use Rattle.nt_event.specs.Objects.{standing}
@@ -93,3 +93,11 @@ DeliveredInsertsWait = (s : Script) (limit : ℕ) (e : Event) (past : List Event
 -- in a run no event delivers an insert that an earlier one delivered
 abbrev pub NoInsertIsDeliveredTwice : Type 0
 NoInsertIsDeliveredTwice = (s : Script) (limit : ℕ) (e : Event) (past : List Event) (thing : Thing) (n : ℕ) → IsRun s limit (e ∷ past) → is_declared s thing ≡ true → delivers thing n e.what ≡ true → (f : Event) → Contains past f → delivers thing n f.what ≡ false
+
+-- in a run an APC object whose thread the script has stands at most once among the pending ones of its thread
+abbrev pub ApcStandsAtMostOnce : Type 0
+ApcStandsAtMostOnce = (s : Script) (limit : ℕ) (a : ApcNo) (past : List Event) → IsRun s limit past → has_thread s (owner_of s a) ≡ true → length (filter (is_of_apc a) (facts s (owner_of s a) past).apcs.pending) ≤ 1
+
+-- in a run two pending inserts of such an object are at the same thread and have the same number
+abbrev pub AtMostOnePendingApc : Type 0
+AtMostOnePendingApc = (s : Script) (limit : ℕ) (a : ApcNo) (past : List Event) → IsRun s limit past → has_thread s (owner_of s a) ≡ true → (t u : ThreadNo) (n m : ℕ) → ApcIsPending s t a n past → ApcIsPending s u a m past → (t.0 ≡ u.0) × (n ≡ m)

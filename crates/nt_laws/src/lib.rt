@@ -10,8 +10,9 @@ ghost use Rattle.nt_laws.specs.Locality.{ChangesOwnLanesOnly};
 
 pub use fates::{
     a_delivery_names_a_pending_insert, a_dpc_object_has_at_most_one_pending_insert,
-    a_removal_answers_yes_exactly_where_there_was_one, no_insert_is_delivered_twice,
-    queues_and_objects_agree, what_is_delivered_waits,
+    a_removal_answers_yes_exactly_where_there_was_one,
+    an_apc_object_has_at_most_one_pending_insert, an_apc_object_stands_at_most_once,
+    no_insert_is_delivered_twice, queues_and_objects_agree, what_is_delivered_waits,
 };
 
 /// Deliveries are eligible: each Begin, Expire and Flush of a run delivers a request that was eligible just before it.
