@@ -37,7 +37,7 @@ same_object s d x past has e =
     ap (λ (n : ℕ). object_in (objects_at s past) (record { 0 = n })) e ∙ object_there s d past has
 
 -- an object whose insert is answered by yes had none
-was_none : (s : Script) (d x : DpcNo) (past : List Event) → has_dpc s d ≡ true → Yes ≡ yes_if (not (is_queued (object_in (objects_at s past) x))) → x.0 ≡ d.0 → standing d past ≡ None
+pub was_none : (s : Script) (d x : DpcNo) (past : List Event) → has_dpc s d ≡ true → Yes ≡ yes_if (not (is_queued (object_in (objects_at s past) x))) → x.0 ≡ d.0 → standing d past ≡ None
 was_none s d x past has y e =
     is_none_of (standing d past) (ap is_queued (sym (same_object s d x past has e)) ∙ not_true (is_queued (object_in (objects_at s past) x)) (yes_if_true (not (is_queued (object_in (objects_at s past) x))) (sym y)))
 

@@ -41,7 +41,7 @@ dropped_other d x (y ∷ ys) h =
     go false false e f ih =
         cons_numbers d y (without_dpc x ys) false f ∙ (ih ∙ sym (cons_numbers d y ys false f))
 
-placed : (p : CpuNo) (x : Standing) (c : Bool) → (x.queue.0 == p.0) ≡ c → numbers_at p (Some x) ≡ (if c then (x.number ∷ []) else [])
+pub placed : (p : CpuNo) (x : Standing) (c : Bool) → (x.queue.0 == p.0) ≡ c → numbers_at p (Some x) ≡ (if c then (x.number ∷ []) else [])
 placed p x true e = rw e refl
 placed p x false e = rw e refl
 

@@ -34,7 +34,7 @@ use Rattle.nt_laws.proofs.FatesPicks.{PutsPick, made_picks, named_picks, picks_a
 pub waits_on : (thing : Thing) (n : ℕ) (e : Event) (past : List Event) → fate_of thing n past ≡ StillWaits → (nat_lt n (length past) && uses_up thing n e.what) ≡ false → fate_of thing n (e ∷ past) ≡ StillWaits
 waits_on thing n e past h k = rw (h, k) refl
 
-no_test : (a b : Bool) → a ≡ false → (a && b) ≡ false
+pub no_test : (a b : Bool) → a ≡ false → (a && b) ≡ false
 no_test true b h = cc
 no_test false b h = refl
 
@@ -63,7 +63,7 @@ still_waits_on thing n e past w h =
 
 -- ---- DPC objects
 
-unused_dpc : (d : DpcNo) (n : ℕ) (w : What) → is_dpc (used_up_dpc w) d ≡ false → uses_up (DpcThing d) n w ≡ false
+pub unused_dpc : (d : DpcNo) (n : ℕ) (w : What) → is_dpc (used_up_dpc w) d ≡ false → uses_up (DpcThing d) n w ≡ false
 unused_dpc d n (Begin (Dpc x) from) h = no_test (x.0 == d.0) (from == n) h
 unused_dpc d n (Begin (Threaded x) from) h = no_test (x.0 == d.0) (from == n) h
 unused_dpc d n (Call f (Unqueue x) Yes) h = h

@@ -16,3 +16,4 @@ pub mod FatesAgree
 pub mod FatesWaiting
 pub mod FatesOnce
 pub mod FatesApcs
+pub mod ReadingsPending

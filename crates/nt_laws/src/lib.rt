@@ -4,6 +4,7 @@
 #![tactic(auto)]
 
 mod fates;
+mod readings;
 
 ghost use Rattle.nt_laws.specs.Deliveries.{DeliveriesAreEligible};
 ghost use Rattle.nt_laws.specs.Locality.{ChangesOwnLanesOnly};
@@ -14,6 +15,7 @@ pub use fates::{
     an_apc_object_has_at_most_one_pending_insert, an_apc_object_stands_at_most_once,
     no_insert_is_delivered_twice, queues_and_objects_agree, what_is_delivered_waits,
 };
+pub use readings::pending_is_inserted_and_not_used_up;
 
 /// Deliveries are eligible: each Begin, Expire and Flush of a run delivers a request that was eligible just before it.
 pub fn deliveries_are_eligible()
