@@ -4,7 +4,7 @@ use Rattle.std.proofs.lemmas.List.{reverse-append}
 use Rattle.std.proofs.lemmas.List.Elements.{Contains-append_cases, Contains-append_right, Contains-get_or, Contains-push_cases}
 use Rattle.std.specs.List.{Contains}
 use Rattle.std.specs.Option.{option_or}
-use Rattle.std.specs.Prelude.{Bool, List, None, Option, Some, [], cond, false, filter, find, refl, reverse, true, ◌∷◌, ◌≡◌, ◌⊎◌}
+use Rattle.std.specs.Prelude.{Bool, List, None, Option, Some, [], cond, false, filter, find, map, refl, reverse, true, ◌∷◌, ◌≡◌, ◌⊎◌}
 
 pub contains_none : {X A : Type 0} (x : X) → Contains [] x → A
 contains_none x h = absurd (omega (arith, h.1))
@@ -80,3 +80,19 @@ found_contains {X} test (y ∷ xs) x h =
 pub or_gives : {X : Type 0} (a b : Option X) (x : X) → option_or a b ≡ Some x → (a ≡ Some x) ⊎ (b ≡ Some x)
 or_gives None b x h = inr h
 or_gives (Some y) b x h = inl h
+
+pub contains_mapped : {X Y : Type 0} (f : X → Y) (xs : List X) (x : X) → Contains xs x → Contains (map f xs) (f x)
+contains_mapped f [] x h = contains_none x h
+contains_mapped f (y ∷ xs) x h =
+    elim (contains_cases y xs x h) [
+      | inl same ↦ subst (λ z. Contains (map f (y ∷ xs)) (f z)) same (contains_here (f y) (map f xs))
+      | inr there ↦ contains_there (f y) (map f xs) (f x) (contains_mapped f xs x there)
+    ]
+
+pub mapped_contains : {X Y : Type 0} (f : X → Y) (xs : List X) (z : Y) → Contains (map f xs) z → (x : X) × Contains xs x × (f x ≡ z)
+mapped_contains f [] z h = contains_none z h
+mapped_contains f (y ∷ xs) z h =
+    elim (contains_cases (f y) (map f xs) z h) [
+      | inl same ↦ (y, contains_here y xs, same)
+      | inr there ↦ let r = mapped_contains f xs z there in (r.0, contains_there y xs r.0 r.1, r.2)
+    ]

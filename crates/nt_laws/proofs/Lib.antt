@@ -14,3 +14,9 @@ pub mod FatesDeliveries
 pub mod Left
 pub mod OwnParts
 pub mod FatesRemovals
+pub mod FatesNumbers
+pub mod FatesAgree
+pub mod FatesWaiting
+pub mod FatesOnce
+pub mod FatesApcs
+pub mod ReadingsPending

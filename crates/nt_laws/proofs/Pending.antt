@@ -100,7 +100,7 @@ kernel_normal SpecialApc a = cc
 kernel_normal NormalApc a = cc
 kernel_normal UserApc a = refl
 
-is_none_of : {A : Type 0} (o : Option A) → is_some o ≡ false → o ≡ None
+pub is_none_of : {A : Type 0} (o : Option A) → is_some o ≡ false → o ≡ None
 is_none_of None h = refl
 is_none_of (Some x) h = cc
 

@@ -1,6 +1,6 @@
 -- The fate of inserts in a run.
 use Rattle.std.specs.List.{Contains}
-use Rattle.std.specs.Prelude.{List, Some, false, is_some, true, ℕ, ◌∷◌, ◌≡◌}
+use Rattle.std.specs.Prelude.{Bool, List, None, Option, Some, [], false, filter, if◌then◌else◌, is_some, length, map, true, ℕ, ◌&&◌, ◌<◌, ◌==◌, ◌∷◌, ◌≡◌, ◌≤◌}
 use Rattle.nt_event.specs.declared.commands.Command.TheVariants.{RemoveApc, Unqueue}
 use Rattle.nt_event.specs.declared.events.Begun.TheVariants.{Apc, Dpc, Threaded}
 use Rattle.nt_event.specs.declared.events.Event.{Event}
@@ -8,15 +8,17 @@ use Rattle.nt_event.specs.declared.events.What.{What}
 use Rattle.nt_event.specs.declared.events.What.TheVariants.{Begin, Call, Flush}
 use Rattle.nt_event.specs.declared.inserts.Insert.{Insert}
 use Rattle.nt_event.specs.declared.inserts.Pick.{Pick}
+use Rattle.nt_event.specs.declared.inserts.Standing.{Standing}
 use Rattle.nt_event.specs.declared.numbers.ApcNo.{ApcNo}
 use Rattle.nt_event.specs.declared.numbers.CpuNo.{CpuNo}
 use Rattle.nt_event.specs.declared.numbers.DpcNo.{DpcNo}
 use Rattle.nt_event.specs.declared.numbers.ThreadNo.{ThreadNo}
 use Rattle.nt_event.specs.declared.scripts.Script.{Script}
-use Rattle.nt_event.specs.Apcs.{is_inserted}
+use Rattle.nt_event.specs.Apcs.{is_inserted, is_of_apc}
+use Rattle.nt_event.specs.Fate.{ApcThing, DpcThing, StillWaits, Thing, fate_of}
 use Rattle.nt_event.specs.Frames.{running}
 use Rattle.nt_event.specs.Objects.{standing}
-use Rattle.nt_event.specs.Queues.{pending}
+use Rattle.nt_event.specs.Queues.{is_of_dpc, pending}
 use Rattle.nt_event.specs.Routines.{owner_of}
 use Rattle.nt_event.specs.Script.{has_dpc, has_thread}
 use Rattle.nt_event.specs.Step.{IsRun}
@@ -53,3 +55,49 @@ RemovalTells s w past = Unit {0}
 -- in a run each removal tells whether its object was inserted just before it
 abbrev pub RemovalsTell : Type 0
 RemovalsTell = (s : Script) (limit : ℕ) (e : Event) (past : List Event) → IsRun s limit (e ∷ past) → RemovalTells s e.what past
+
+-- the numbers of the object's inserts among these
+abbrev pub numbers_of : DpcNo → List Insert → List ℕ
+numbers_of d xs = map (λ x. x.number) (filter (is_of_dpc d) xs)
+
+-- the number of a pending insert that stands in the queue of p, as a list
+abbrev pub numbers_at : CpuNo → Option Standing → List ℕ
+numbers_at p None = []
+numbers_at p (Some x) = if x.queue.0 == p.0 then x.number ∷ [] else []
+
+-- in a run queues and objects agree: a queue has of each object of the script the one insert that stands there, or none
+abbrev pub QueuesAgreeWithObjects : Type 0
+QueuesAgreeWithObjects = (s : Script) (limit : ℕ) (d : DpcNo) (past : List Event) → IsRun s limit past → has_dpc s d ≡ true → (p : CpuNo) → numbers_of d (pending s p past) ≡ numbers_at p (standing d past)
+
+-- in a run two pending inserts of one object of the script are in the same queue and have the same number
+abbrev pub AtMostOnePendingInsert : Type 0
+AtMostOnePendingInsert = (s : Script) (limit : ℕ) (d : DpcNo) (past : List Event) → IsRun s limit past → has_dpc s d ≡ true → (p q : CpuNo) (n m : ℕ) → DpcIsPending s p d n past → DpcIsPending s q d m past → (p.0 ≡ q.0) × (n ≡ m)
+
+-- the event delivers the insert of the thing at this number: it is a Begin or Flush that names it
+abbrev pub delivers : Thing → ℕ → What → Bool
+delivers (DpcThing d) n (Begin (Dpc x) from) = (x.0 == d.0) && (from == n)
+delivers (DpcThing d) n (Begin (Threaded x) from) = (x.0 == d.0) && (from == n)
+delivers (ApcThing a) n (Begin (Apc x) from) = (x.0 == a.0) && (from == n)
+delivers (ApcThing a) n (Flush x from) = (x.0 == a.0) && (from == n)
+delivers thing n w = false
+
+-- where it is a DPC object, the script has it
+abbrev pub is_declared : Script → Thing → Bool
+is_declared s (DpcThing d) = has_dpc s d
+is_declared s (ApcThing a) = true
+
+-- in a run what an event delivers is an earlier insert that no event before it began, removed or flushed
+abbrev pub DeliveredInsertsWait : Type 0
+DeliveredInsertsWait = (s : Script) (limit : ℕ) (e : Event) (past : List Event) (thing : Thing) (n : ℕ) → IsRun s limit (e ∷ past) → is_declared s thing ≡ true → delivers thing n e.what ≡ true → (n < length past) × (fate_of thing n past ≡ StillWaits)
+
+-- in a run no event delivers an insert that an earlier one delivered
+abbrev pub NoInsertIsDeliveredTwice : Type 0
+NoInsertIsDeliveredTwice = (s : Script) (limit : ℕ) (e : Event) (past : List Event) (thing : Thing) (n : ℕ) → IsRun s limit (e ∷ past) → is_declared s thing ≡ true → delivers thing n e.what ≡ true → (f : Event) → Contains past f → delivers thing n f.what ≡ false
+
+-- in a run an APC object whose thread the script has stands at most once among the pending ones of its thread
+abbrev pub ApcStandsAtMostOnce : Type 0
+ApcStandsAtMostOnce = (s : Script) (limit : ℕ) (a : ApcNo) (past : List Event) → IsRun s limit past → has_thread s (owner_of s a) ≡ true → length (filter (is_of_apc a) (facts s (owner_of s a) past).apcs.pending) ≤ 1
+
+-- in a run two pending inserts of such an object are at the same thread and have the same number
+abbrev pub AtMostOnePendingApc : Type 0
+AtMostOnePendingApc = (s : Script) (limit : ℕ) (a : ApcNo) (past : List Event) → IsRun s limit past → has_thread s (owner_of s a) ≡ true → (t u : ThreadNo) (n m : ℕ) → ApcIsPending s t a n past → ApcIsPending s u a m past → (t.0 ≡ u.0) × (n ≡ m)
