@@ -15,3 +15,4 @@ pub mod TurnsTaken
 pub mod Based
 pub mod Starts
 pub mod CoreSteps
+pub mod CoreMoves
