@@ -17,3 +17,4 @@ pub mod FatesWaiting
 pub mod FatesOnce
 pub mod FatesApcs
 pub mod ReadingsPending
+pub mod ReadingsFirst
