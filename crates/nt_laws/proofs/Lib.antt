@@ -18,3 +18,4 @@ pub mod FatesOnce
 pub mod FatesApcs
 pub mod ReadingsPending
 pub mod ReadingsFirst
+pub mod ReadingsApcs

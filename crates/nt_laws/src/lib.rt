@@ -16,7 +16,8 @@ pub use fates::{
     no_insert_is_delivered_twice, queues_and_objects_agree, what_is_delivered_waits,
 };
 pub use readings::{
-    pending_is_inserted_and_not_used_up, the_first_of_a_part_is_by_importance_and_number,
+    a_pending_apc_is_inserted_and_not_used_up, pending_is_inserted_and_not_used_up,
+    the_first_of_a_part_is_by_importance_and_number,
 };
 
 /// Deliveries are eligible: each Begin, Expire and Flush of a run delivers a request that was eligible just before it.
