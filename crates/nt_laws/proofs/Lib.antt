@@ -19,3 +19,4 @@ pub mod FatesApcs
 pub mod ReadingsPending
 pub mod ReadingsFirst
 pub mod ReadingsApcs
+pub mod FatesOwners

@@ -20,7 +20,7 @@ use Rattle.nt_event.specs.Frames.{running}
 use Rattle.nt_event.specs.Objects.{standing}
 use Rattle.nt_event.specs.Queues.{is_of_dpc, pending}
 use Rattle.nt_event.specs.Routines.{owner_of}
-use Rattle.nt_event.specs.Script.{has_dpc, has_thread}
+use Rattle.nt_event.specs.Script.{fits, has_apc, has_dpc, has_thread}
 use Rattle.nt_event.specs.Step.{IsRun}
 use Rattle.nt_event.specs.Waits.{facts}
 use Rattle.nt_event.specs.Words.{is_refused, yes_if}
@@ -101,3 +101,7 @@ ApcStandsAtMostOnce = (s : Script) (limit : ℕ) (a : ApcNo) (past : List Event)
 -- in a run two pending inserts of such an object are at the same thread and have the same number
 abbrev pub AtMostOnePendingApc : Type 0
 AtMostOnePendingApc = (s : Script) (limit : ℕ) (a : ApcNo) (past : List Event) → IsRun s limit past → has_thread s (owner_of s a) ≡ true → (t u : ThreadNo) (n m : ℕ) → ApcIsPending s t a n past → ApcIsPending s u a m past → (t.0 ≡ u.0) × (n ≡ m)
+
+-- in a script that fits, the thread of each of its APC objects is one of its threads
+abbrev pub ApcsHaveTheirThreads : Type 0
+ApcsHaveTheirThreads = (s : Script) (a : ApcNo) → fits s ≡ true → has_apc s a ≡ true → has_thread s (owner_of s a) ≡ true
