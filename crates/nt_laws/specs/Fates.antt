@@ -86,7 +86,8 @@ abbrev pub is_declared : Script → Thing → Bool
 is_declared s (DpcThing d) = has_dpc s d
 is_declared s (ApcThing a) = true
 
--- in a run what an event delivers is an earlier insert that no event before it began, removed or flushed
+-- in a run the number that a delivery names is an earlier one, and no event before the delivery began, removed or flushed the
+-- object's insert of that number
 abbrev pub DeliveredInsertsWait : Type 0
 DeliveredInsertsWait = (s : Script) (limit : ℕ) (e : Event) (past : List Event) (thing : Thing) (n : ℕ) → IsRun s limit (e ∷ past) → is_declared s thing ≡ true → delivers thing n e.what ≡ true → (n < length past) × (fate_of thing n past ≡ StillWaits)
 

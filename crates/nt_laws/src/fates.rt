@@ -26,8 +26,8 @@ pub fn a_dpc_object_has_at_most_one_pending_insert()
     ensures { AtMostOnePendingInsert }
 {}
 
-/// What is delivered waits: what a Begin of a DPC or an APC or a Flush of a run names is an earlier insert that no event before
-/// it began, removed or flushed.
+/// What is delivered waits: the number that a Begin of a DPC or an APC or a Flush of a run names is an earlier one, and no event
+/// before it began, removed or flushed the object's insert of that number.
 pub fn what_is_delivered_waits()
     ensures { DeliveredInsertsWait }
 {}
