@@ -103,7 +103,7 @@ not_without a b xs x h i e =
     cc
 
 -- what is pending after an event was not used up by it
-unused_apc : (s : Script) (limit : ℕ) (a : ApcNo) (e : Event) (past : List Event) (x : Pick) → IsRun s limit (e ∷ past) → Contains (picks_after s (owner_of s a) (length past) (is_of_thread s (owner_of s a) e) e.what (facts s (owner_of s a) past).apcs.pending) x → x.apc ≡ a → uses_up (ApcThing a) x.number e.what ≡ false
+pub unused_apc : (s : Script) (limit : ℕ) (a : ApcNo) (e : Event) (past : List Event) (x : Pick) → IsRun s limit (e ∷ past) → Contains (picks_after s (owner_of s a) (length past) (is_of_thread s (owner_of s a) e) e.what (facts s (owner_of s a) past).apcs.pending) x → x.apc ≡ a → uses_up (ApcThing a) x.number e.what ≡ false
 unused_apc s limit a e past x r h i = go e.what refl h
   where
     t : ThreadNo
@@ -144,7 +144,7 @@ unused_apc s limit a e past x r h i = go e.what refl h
         removed f b (b.0 == a.0) (if is_of_thread s (owner_of s a) e then made_picks (Call f (RemoveApc b) Yes) (facts s (owner_of s a) past).apcs.pending else (facts s (owner_of s a) past).apcs.pending) refl h
     go w k h = refl
 
-put_number : (s : Script) (t : ThreadNo) (n : ℕ) (w : What) (x : Pick) → PutsPick s t n w x → n ≡ x.number
+pub put_number : (s : Script) (t : ThreadNo) (n : ℕ) (w : What) (x : Pick) → PutsPick s t n w x → n ≡ x.number
 put_number s t n (Call f (InsertApc a) Yes) x h = ap (λ (x : Pick). x.number) (sym h.1)
 put_number s t n w x h = absurd h
 

@@ -20,3 +20,6 @@ pub mod FatesWaiting
 pub mod FatesOnce
 pub mod FatesApcs
 pub mod ReadingsPending
+pub mod ReadingsFirst
+pub mod ReadingsApcs
+pub mod FatesOwners

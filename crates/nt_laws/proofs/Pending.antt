@@ -62,11 +62,11 @@ pub find_reverse : {A : Type 0} (test : A → Bool) (x : A) (xs : List A) → fi
 find_reverse test x xs =
     ap (find test) (reverse-append (x ∷ []) xs) ∙ find_append test (reverse xs) (x ∷ [])
 
-or_none_parts : {A : Type 0} (a b : Option A) → option_or a b ≡ None → (a ≡ None) × (b ≡ None)
+pub or_none_parts : {A : Type 0} (a b : Option A) → option_or a b ≡ None → (a ≡ None) × (b ≡ None)
 or_none_parts None b h = (refl, h)
 or_none_parts (Some x) b h = cc
 
-cond_none : {A : Type 0} (b : Bool) (x : A) → cond b (Some x) None ≡ None → b ≡ false
+pub cond_none : {A : Type 0} (b : Bool) (x : A) → cond b (Some x) None ≡ None → b ≡ false
 cond_none true x h = cc
 cond_none false x h = refl
 

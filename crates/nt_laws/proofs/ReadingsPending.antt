@@ -34,7 +34,7 @@ use Rattle.nt_laws.proofs.FatesWaiting.{unused_dpc}
 
 -- ---- what stands was inserted and not used up
 
-none_yet : (thing : Thing) (n : ℕ) (past : List Event) → length past ≤ n → NoneUsesUp thing n past
+pub none_yet : (thing : Thing) (n : ℕ) (past : List Event) → length past ≤ n → NoneUsesUp thing n past
 none_yet thing n [] h = tt
 none_yet thing n (e ∷ past) h =
     (λ l. absurd (omega (arith, h, l)), none_yet thing n past (omega (arith, h)))

@@ -20,7 +20,7 @@ use Rattle.nt_event.specs.Frames.{running}
 use Rattle.nt_event.specs.Objects.{standing}
 use Rattle.nt_event.specs.Queues.{is_of_dpc, pending}
 use Rattle.nt_event.specs.Routines.{owner_of}
-use Rattle.nt_event.specs.Script.{has_dpc, has_thread}
+use Rattle.nt_event.specs.Script.{fits, has_apc, has_dpc, has_thread}
 use Rattle.nt_event.specs.Step.{IsRun}
 use Rattle.nt_event.specs.Waits.{facts}
 use Rattle.nt_event.specs.Words.{is_refused, yes_if}
@@ -86,7 +86,8 @@ abbrev pub is_declared : Script → Thing → Bool
 is_declared s (DpcThing d) = has_dpc s d
 is_declared s (ApcThing a) = true
 
--- in a run what an event delivers is an earlier insert that no event before it began, removed or flushed
+-- in a run the number that a delivery names is an earlier one, and no event before the delivery began, removed or flushed the
+-- object's insert of that number
 abbrev pub DeliveredInsertsWait : Type 0
 DeliveredInsertsWait = (s : Script) (limit : ℕ) (e : Event) (past : List Event) (thing : Thing) (n : ℕ) → IsRun s limit (e ∷ past) → is_declared s thing ≡ true → delivers thing n e.what ≡ true → (n < length past) × (fate_of thing n past ≡ StillWaits)
 
@@ -101,3 +102,7 @@ ApcStandsAtMostOnce = (s : Script) (limit : ℕ) (a : ApcNo) (past : List Event)
 -- in a run two pending inserts of such an object are at the same thread and have the same number
 abbrev pub AtMostOnePendingApc : Type 0
 AtMostOnePendingApc = (s : Script) (limit : ℕ) (a : ApcNo) (past : List Event) → IsRun s limit past → has_thread s (owner_of s a) ≡ true → (t u : ThreadNo) (n m : ℕ) → ApcIsPending s t a n past → ApcIsPending s u a m past → (t.0 ≡ u.0) × (n ≡ m)
+
+-- in a script that fits, the thread of each of its APC objects is one of its threads
+abbrev pub ApcsHaveTheirThreads : Type 0
+ApcsHaveTheirThreads = (s : Script) (a : ApcNo) → fits s ≡ true → has_apc s a ≡ true → has_thread s (owner_of s a) ≡ true

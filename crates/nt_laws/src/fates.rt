@@ -1,6 +1,6 @@
 //! The fate of inserts in a run: what a delivery or a removal finds pending.
 
-ghost use Rattle.nt_laws.specs.Fates.{ApcStandsAtMostOnce, AtMostOnePendingApc, AtMostOnePendingInsert, DeliveredInsertsWait, DeliveriesNamePendingInserts, NoInsertIsDeliveredTwice, QueuesAgreeWithObjects, RemovalsTell};
+ghost use Rattle.nt_laws.specs.Fates.{ApcStandsAtMostOnce, ApcsHaveTheirThreads, AtMostOnePendingApc, AtMostOnePendingInsert, DeliveredInsertsWait, DeliveriesNamePendingInserts, NoInsertIsDeliveredTwice, QueuesAgreeWithObjects, RemovalsTell};
 
 /// A delivery names a pending insert: each Begin of a DPC or an APC and each Flush of a run names an insert of its object that
 /// was pending just before it, a DPC's in the queue of its processor, an APC's at the thread that runs there.
@@ -26,8 +26,8 @@ pub fn a_dpc_object_has_at_most_one_pending_insert()
     ensures { AtMostOnePendingInsert }
 {}
 
-/// What is delivered waits: what a Begin of a DPC or an APC or a Flush of a run names is an earlier insert that no event before
-/// it began, removed or flushed.
+/// What is delivered waits: the number that a Begin of a DPC or an APC or a Flush of a run names is an earlier one, and no event
+/// before it began, removed or flushed the object's insert of that number.
 pub fn what_is_delivered_waits()
     ensures { DeliveredInsertsWait }
 {}
@@ -47,4 +47,10 @@ pub fn an_apc_object_stands_at_most_once()
 /// have the same number.
 pub fn an_apc_object_has_at_most_one_pending_insert()
     ensures { AtMostOnePendingApc }
+{}
+
+/// APCs have their threads: in a script that fits, the thread of each of its APC objects is one of its threads, so the laws over
+/// an APC object whose thread the script has hold of each of them.
+pub fn apcs_have_their_threads()
+    ensures { ApcsHaveTheirThreads }
 {}

@@ -13,9 +13,13 @@ pub use fates::{
     a_delivery_names_a_pending_insert, a_dpc_object_has_at_most_one_pending_insert,
     a_removal_answers_yes_exactly_where_there_was_one,
     an_apc_object_has_at_most_one_pending_insert, an_apc_object_stands_at_most_once,
-    no_insert_is_delivered_twice, queues_and_objects_agree, what_is_delivered_waits,
+    apcs_have_their_threads, no_insert_is_delivered_twice, queues_and_objects_agree,
+    what_is_delivered_waits,
 };
-pub use readings::pending_is_inserted_and_not_used_up;
+pub use readings::{
+    a_pending_apc_is_inserted_and_not_used_up, pending_is_inserted_and_not_used_up,
+    the_first_of_a_part_is_by_importance_and_number,
+};
 
 /// Deliveries are eligible: each Begin, Expire and Flush of a run delivers a request that was eligible just before it.
 pub fn deliveries_are_eligible()
