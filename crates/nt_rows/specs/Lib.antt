@@ -24,3 +24,7 @@ pub mod TimersExpire
 pub mod UserApcsAlertable
 pub mod UserApcsPlain
 pub mod WaitAndKernelApc
+pub mod KernelApcBeforeSatisfied
+pub mod NormalInNormal
+pub mod ReleasedOnce
+pub mod SwitchAsksAgain

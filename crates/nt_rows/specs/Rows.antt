@@ -52,3 +52,9 @@ pub record IsReplayed (s : Script) (limit : ℕ) (schedule : List Turn) (history
 pub record IsUnfinished (s : Script) (limit : ℕ) (schedule : List Turn) : Type 0 where
   pub all : length (made_by s limit schedule []) ≡ length schedule
   pub unsettled : is_settled s limit (made_by s limit schedule []) ≡ false
+
+-- the script fits, and these turns make this beginning of a run, the oldest event first, none of them refused
+pub record IsMade (s : Script) (limit : ℕ) (schedule : List Turn) (history : List Event) : Type 0 where
+  pub fits : fits s ≡ true
+  pub run : made_by s limit schedule [] ≡ reverse history
+  pub all : turns (reverse history) ≡ schedule

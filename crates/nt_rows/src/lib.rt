@@ -5,7 +5,7 @@
 //! computes each from the definitions. So a definition that says something else than was meant is refused by a row.
 #![tactic(auto)]
 
-ghost use Rattle.nt_rows.specs.Rows.{IsWorked, IsReplayed, IsUnfinished};
+ghost use Rattle.nt_rows.specs.Rows.{IsWorked, IsReplayed, IsUnfinished, IsMade};
 ghost use Rattle.nt_rows.specs.Alerts as alerts_row;
 ghost use Rattle.nt_rows.specs.BusyTarget as busy_target_row;
 ghost use Rattle.nt_rows.specs.Delay as delay_row;
@@ -31,6 +31,10 @@ ghost use Rattle.nt_rows.specs.TimersExpire as timers_expire_row;
 ghost use Rattle.nt_rows.specs.UserApcsAlertable as user_apcs_alertable_row;
 ghost use Rattle.nt_rows.specs.UserApcsPlain as user_apcs_plain_row;
 ghost use Rattle.nt_rows.specs.WaitAndKernelApc as wait_and_kernel_apc_row;
+ghost use Rattle.nt_rows.specs.KernelApcBeforeSatisfied as kernel_apc_before_satisfied_row;
+ghost use Rattle.nt_rows.specs.NormalInNormal as normal_in_normal_row;
+ghost use Rattle.nt_rows.specs.ReleasedOnce as released_once_row;
+ghost use Rattle.nt_rows.specs.SwitchAsksAgain as switch_asks_again_row;
 
 // ---- Levels and frames
 
@@ -143,6 +147,26 @@ pub fn alerts()
 /// A thread that ends has its kernel APCs delivered and its user APCs flushed.
 pub fn rundown()
     ensures { IsWorked rundown_row.script 10000 rundown_row.history }
+{}
+
+/// A normal kernel APC waits for the one in progress.
+pub fn normal_in_normal()
+    ensures { IsWorked normal_in_normal_row.script 10000 normal_in_normal_row.history }
+{}
+
+/// A kernel APC for a thread that does not run, whose request was served meanwhile, is delivered once the thread is taken up.
+pub fn switch_asks_again()
+    ensures { IsWorked switch_asks_again_row.script 10000 switch_asks_again_row.history }
+{}
+
+/// A release that ends no wait satisfies the next wait, and that one alone.
+pub fn released_once()
+    ensures { IsWorked released_once_row.script 10000 released_once_row.history }
+{}
+
+/// At a delay whose due time is reached already, a deliverable kernel APC is tested first.
+pub fn kernel_apc_before_satisfied()
+    ensures { IsMade kernel_apc_before_satisfied_row.script 10000 kernel_apc_before_satisfied_row.schedule kernel_apc_before_satisfied_row.history }
 {}
 
 // ---- Timers and delays

@@ -1,0 +1,7 @@
+use Rattle.std.proofs.Common.{refl}
+use Rattle.nt_event.specs.Words.{table_from}
+use Rattle.nt_rows.proofs.kernel_apc_before_satisfied.Goals as goal
+
+pub returns : goal.returns
+unfolding table_from
+returns c = record { fits = refl; run = refl; all = refl }
