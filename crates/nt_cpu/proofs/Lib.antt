@@ -19,3 +19,5 @@ pub mod CoreMoves
 pub mod LooksMade
 pub mod NamesLeft
 pub mod NeverIdle
+pub mod Knowing
+pub mod StepsMade

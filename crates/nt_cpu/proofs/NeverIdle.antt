@@ -14,6 +14,7 @@ use Rattle.nt_event.specs.declared.frames.Body.TheVariants.{Apc as OnApc, Base a
 use Rattle.nt_event.specs.declared.frames.Frame.{Frame}
 use Rattle.nt_event.specs.declared.jobs.Job.{Job}
 use Rattle.nt_event.specs.declared.jobs.Job.TheVariants.{Apcs as ApcsJob, Call as CallJob, Drain as DrainJob, Fire as FireJob, Idle as IdleJob, Pick as PickJob, Rewait as RewaitJob, Rundown as RundownJob, Switch as SwitchJob, Threaded as ThreadedJob}
+use Rattle.nt_event.specs.declared.jobs.Stand.{Stand}
 use Rattle.nt_event.specs.declared.jobs.Task.{Task}
 use Rattle.nt_event.specs.declared.jobs.Task.TheVariants.{Alone, Shared}
 use Rattle.nt_event.specs.declared.numbers.CpuNo.{CpuNo}
@@ -30,6 +31,9 @@ use Rattle.nt_event.specs.Words.{head_of, is_null, value_at, when}
 use Rattle.nt_event.proofs.Options.{Holds, holds_at, holds_map, holds_or, holds_then, holds_when}
 use Rattle.nt_cpu.specs.Sound.{AreBased, EndsInBase, IsSound}
 use Rattle.nt_cpu.specs.States.{CpuState}
+use Rattle.nt_floor.specs.declared.floor.ActRefusal.{ActRefusal}
+use Rattle.nt_floor.specs.declared.floor.ActRefusal.TheVariants.{BadChoice, NoMemory, NothingToDo}
+use Rattle.nt_floor.specs.Acts.{Found, IsRefused}
 use Rattle.nt_cpu.specs.GoodTasks.{GoodTask}
 use Rattle.nt_cpu.proofs.DueTasks.{no_frame, task_good}
 
@@ -168,3 +172,10 @@ none_rests c h e = resting (rests c.own) refl e
             busy None a k =
                 idle (option_and_then (frame_task c.script c.cpu c.own) (innermost c.own.frames)) a refl k
             busy (Some x) a k = cc
+
+-- a floor refuses such a job for want of memory alone
+pub refused_memory : (s : Script) (f : Found) (st : Stand) (job : Job) (r : ActRefusal) → is_refusable job ≡ false → IsRefused s f st job r → r ≡ NoMemory
+refused_memory s f st IdleJob r h k = absurd cc
+refused_memory s f st (SwitchJob t) r h k = absurd cc
+refused_memory s f st _ NoMemory h k = refl
+refused_memory s f st _ _ h k = absurd k

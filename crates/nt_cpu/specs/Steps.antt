@@ -67,6 +67,11 @@ pub record LooksBelow (n : ℕ) (p : CpuNo) (answers : List ℕ) (v u : View) : 
 abbrev pub AllLooked : CpuNo → List ℕ → View → View → Type 0
 AllLooked p answers v u = LooksBelow 15 p answers v u
 
+-- unless the processor is cut, it looked once at each used class, with these answers; else at none
+pub record AreLooked (c : CpuState) (answers : List ℕ) (v u : View) : Type 0 where
+  pub cut : is_cut c.limit c.own ≡ true → u ≡ v
+  pub looks : is_cut c.limit c.own ≡ false → AllLooked c.cpu answers v u
+
 -- ---- the step
 
 -- what the processor has to do after looks with these answers: a Look at what rose above the values seen, else what it chooses
@@ -89,7 +94,22 @@ LocalLeaves c d (LocalDid e) u w = (n : ℕ) × (y : View) × IsAlone c d e.what
 LocalLeaves c d r u w = (d ≡ c) × (w ≡ u)
 
 pub record IsStepped (c d : CpuState) (answers : List ℕ) (r : Local) (v u w : View) : Type 0 where
-  pub cut : is_cut c.limit c.own ≡ true → u ≡ v
-  pub looks : is_cut c.limit c.own ≡ false → AllLooked c.cpu answers v u
+  pub looked : AreLooked c answers v u
   pub answer : r ≡ local_gives c answers
   pub left : LocalLeaves c d r u w
+
+-- ---- steps under lanes
+
+-- the words know what the processor has seen, and its frames are named below their least next number
+pub record Knows (c : CpuState) (v : View) : Type 0 where
+  pub known : (k : ℕ) → k < 16 → value_at c.own.seen k ≤ v.value c.cpu k
+  pub below : (k : ℕ) → k < 16 → value_at c.own.seen k ≤ v.next
+  pub named : AreNamedBelow v.next c.own.frames
+
+-- what an advance left, after looks with these answers: its event touched no lane; or a floor made it, as told by `found`; or it
+-- rests and no request rose; or it is cut
+abbrev pub Advanced : CpuState → CpuState → List ℕ → (ℕ → Event → Found → Type 0) → Turned → View → View → Type 0
+Advanced c d answers found (Did e) u w =
+    ((local_gives c answers ≡ LocalDid e) × LocalLeaves c d (LocalDid e) u w) ⊎ ((job : Job) × (local_gives c answers ≡ NeedsLane job) × ((f : Found) × (n : ℕ) × (IsShared c d job f n e u w × found n e f)))
+Advanced c d answers found Quiet u w = (local_gives c answers ≡ LocalQuiet) × (d ≡ c) × (w ≡ u)
+Advanced c d answers found Cut u w = (local_gives c answers ≡ LocalCut) × (d ≡ c) × (w ≡ u)
