@@ -22,10 +22,10 @@ use Rattle.nt_cpu.specs.Sound.{IsSound}
 use Rattle.nt_cpu.specs.States.{CpuState}
 use Rattle.nt_cpu.specs.Steps.{AllLooked, IsStepped, LocalLeaves, local_answer, local_gives, local_task}
 use Rattle.nt_cpu.specs.declared.steps.Local.{Local}
-use Rattle.nt_cpu.specs.declared.steps.Local.TheVariants.{Cut, Did, NeedsLane}
+use Rattle.nt_cpu.specs.declared.steps.Local.TheVariants.{Cut, Did, NeedsLane, Quiet}
 use Rattle.nt_cpu.proofs.Alones.{event_alone}
 use Rattle.nt_cpu.proofs.Knowing.{rises_known}
-use Rattle.nt_cpu.proofs.NeverIdle.{chosen_good}
+use Rattle.nt_cpu.proofs.NeverIdle.{chosen_good, none_rests}
 
 -- what holds of what it has to do
 pub step_good : (c : CpuState) (xs : List ℕ) → IsSound c → Holds (GoodTask c) (local_task c xs)
@@ -68,6 +68,7 @@ pub step_alone : (c d : CpuState) (xs : List ℕ) (w : What) (e : Event) (n : �
 step_alone c d xs w e n v u y z h t q l f a = record {
   looked = record { cut = λ k. absurd (let x = rw t at k in cc); looks = λ k. l };
   answer = ap Did (f ∙ sym (event_alone c.script c.cpu w c.own.frames h.nested h.threads may.alone may.allow)) ∙ (ap (local_answer c) (sym q) ∙ ap (λ (b : Bool). if b then Cut else local_answer c (local_task c xs)) (sym t));
+  quiet = λ k. absurd cc;
   left = (n, y, subst (λ (x : What). IsAlone c d x n u y z) (sym (ap (λ (x : Event). x.what) f)) a);
 }
   where
@@ -91,3 +92,19 @@ needed_job c xs job e = cut (is_cut c.limit c.own) refl e
     cut true t q = cc
     cut false t q =
         (t, behind (is_behind c.own (value_at xs)) (answers (local_task c xs) q))
+
+-- it is quiet where nothing rose and it rests
+quiet_rests : (c : CpuState) (xs : List ℕ) → IsSound c → local_task c xs ≡ None → rests c.own ≡ true
+quiet_rests c xs h e = go (is_behind c.own (value_at xs)) e
+  where
+    go : (b : Bool) → (if b then Some (Alone (Look (record { value = look_values c.own (value_at xs) }))) else chosen_task c.script c.cpu c.own) ≡ None → rests c.own ≡ true
+    go true q = cc
+    go false q = none_rests c h q
+
+pub step_none : (c : CpuState) (xs : List ℕ) (v u : View) → IsSound c → is_cut c.limit c.own ≡ false → local_task c xs ≡ None → AllLooked c.cpu xs v u → IsStepped c c xs Quiet v u u
+step_none c xs v u h t q l = record {
+  looked = record { cut = λ k. absurd (let x = rw t at k in cc); looks = λ k. l };
+  answer = ap (local_answer c) (sym q) ∙ ap (λ (b : Bool). if b then Cut else local_answer c (local_task c xs)) (sym t);
+  quiet = λ k. quiet_rests c xs h q;
+  left = (refl, refl);
+}

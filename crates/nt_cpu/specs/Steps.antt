@@ -6,7 +6,7 @@ use Rattle.nt_event.specs.declared.jobs.Job.{Job}
 use Rattle.nt_event.specs.declared.jobs.Task.{Task}
 use Rattle.nt_event.specs.declared.jobs.Task.TheVariants.{Alone, Shared}
 use Rattle.nt_event.specs.declared.numbers.CpuNo.{CpuNo}
-use Rattle.nt_event.specs.Jobs.{chosen_task}
+use Rattle.nt_event.specs.Jobs.{chosen_task, rests}
 use Rattle.nt_event.specs.Own.{Own}
 use Rattle.nt_event.specs.Robin.{is_behind, look_values}
 use Rattle.nt_event.specs.Step.{event_at, is_cut}
@@ -93,9 +93,11 @@ abbrev pub LocalLeaves : CpuState → CpuState → Local → View → View → T
 LocalLeaves c d (LocalDid e) u w = (n : ℕ) × (y : View) × IsAlone c d e.what n u y w
 LocalLeaves c d r u w = (d ≡ c) × (w ≡ u)
 
+-- after the looks the answer is what they and the processor's state give; it is Quiet only where the processor rests
 pub record IsStepped (c d : CpuState) (answers : List ℕ) (r : Local) (v u w : View) : Type 0 where
   pub looked : AreLooked c answers v u
   pub answer : r ≡ local_gives c answers
+  pub quiet : r ≡ LocalQuiet → rests c.own ≡ true
   pub left : LocalLeaves c d r u w
 
 -- ---- steps under lanes
@@ -111,5 +113,5 @@ pub record Knows (c : CpuState) (v : View) : Type 0 where
 abbrev pub Advanced : CpuState → CpuState → List ℕ → (ℕ → Event → Found → Type 0) → Turned → View → View → Type 0
 Advanced c d answers found (Did e) u w =
     ((local_gives c answers ≡ LocalDid e) × LocalLeaves c d (LocalDid e) u w) ⊎ ((job : Job) × (local_gives c answers ≡ NeedsLane job) × ((f : Found) × (n : ℕ) × (IsShared c d job f n e u w × found n e f)))
-Advanced c d answers found Quiet u w = (local_gives c answers ≡ LocalQuiet) × (d ≡ c) × (w ≡ u)
+Advanced c d answers found Quiet u w = (local_gives c answers ≡ LocalQuiet) × (rests c.own ≡ true) × (d ≡ c) × (w ≡ u)
 Advanced c d answers found Cut u w = (local_gives c answers ≡ LocalCut) × (d ≡ c) × (w ≡ u)

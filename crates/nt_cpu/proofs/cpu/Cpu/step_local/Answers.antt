@@ -1,5 +1,5 @@
 use Rattle.std.proofs.Common.{ap, subst, sym, ◌∙◌}
-use Rattle.std.specs.Prelude.{List, Some, false, ℕ, ◌<◌, ◌≡◌}
+use Rattle.std.specs.Prelude.{List, None, Some, false, ℕ, ◌<◌, ◌≡◌}
 use Rattle.nt_event.specs.declared.jobs.Task.TheVariants.{Alone, Shared}
 use Rattle.nt_event.specs.declared.numbers.CpuNo.{CpuNo}
 use Rattle.nt_event.specs.Step.{is_cut}
@@ -9,7 +9,7 @@ use Rattle.nt_cpu.specs.GoodTasks.{GoodTask}
 use Rattle.nt_cpu.specs.States.{CpuState}
 use Rattle.nt_cpu.specs.Steps.{AllLooked, local_task}
 use Rattle.nt_cpu.proofs.Knowing.{has_words, knows_alone, knows_looked, knows_of, serves_looked}
-use Rattle.nt_cpu.proofs.StepsMade.{look_known, step_alone, step_good}
+use Rattle.nt_cpu.proofs.StepsMade.{look_known, step_alone, step_good, step_none}
 use Rattle.nt_cpu.proofs.cpu.Cpu.step_local.Goals as goal
 
 pub make_alone-requires-clause-may : goal.make_alone-requires-clause-may
@@ -79,3 +79,14 @@ returns-in-Some-Shared-clause-knows g c =
     let u = g.W.Words.view c.look_all-answers.new.words in
     let looks = subst (λ (p : CpuNo). AllLooked p xs v u) (ap (λ (x : CpuState). x.cpu) c.self.view_is) c.look_all-answers.ensures.looks in
     knows_looked s xs v u here (knows_of s v c.requires.serves) looks
+
+pub returns-in-None-clause-step : goal.returns-in-None-clause-step
+returns-in-None-clause-step g c =
+    let s : CpuState = c.args.self.now in
+    let xs = c.look_all-answers.result in
+    let v = g.W.Words.view c.args.words.now in
+    let u = g.W.Words.view c.look_all-answers.new.words in
+    let looks = subst (λ (p : CpuNo). AllLooked p xs v u) (ap (λ (x : CpuState). x.cpu) c.self.view_is) c.look_all-answers.ensures.looks in
+    let cut : is_cut s.limit s.own ≡ false = sym c.is_cut.ensures ∙ c.if-is_cut.false in
+    let task : local_task s xs ≡ None = sym c.local_task.ensures ∙ c.in-None.is in
+    (xs, u, step_none s xs v u c.sound.ensures cut task looks)
