@@ -21,3 +21,4 @@ pub mod NamesLeft
 pub mod NeverIdle
 pub mod Knowing
 pub mod StepsMade
+pub mod Rooms
