@@ -72,7 +72,7 @@ marked_marks None n u z h k q d w =
 marked_marks (Some a) n u z h k q d w =
     h.marked k q d w ∙ ap (λ (b : Bool). u.marked k q d || ((k == n) && b)) (same_word a q d)
 
-marked_value : (a : Option Asked) (n : ℕ) (u z : View) → IsMarkedFor a n u z → (q : CpuNo) (d : ℕ) → HasWord u q d → z.value q d ≡ (if asked_for a q d then max (u.value q d) (n + 1) else u.value q d)
+pub marked_value : (a : Option Asked) (n : ℕ) (u z : View) → IsMarkedFor a n u z → (q : CpuNo) (d : ℕ) → HasWord u q d → z.value q d ≡ (if asked_for a q d then max (u.value q d) (n + 1) else u.value q d)
 marked_value None n u z h q d w = ap (λ (x : View). x.value q d) h
 marked_value (Some a) n u z h q d w =
     h.value q d w ∙ ap (λ (b : Bool). if b then max (u.value q d) (n + 1) else u.value q d) (same_word a q d)
@@ -87,7 +87,7 @@ pub record Stays (v z : View) : Type 0 where
   pub next : z.next ≡ v.next
   pub left : z.left ≡ v.left
 
-marked_stays : (a : Option Asked) (n : ℕ) (u z : View) → IsMarkedFor a n u z → Stays u z
+pub marked_stays : (a : Option Asked) (n : ℕ) (u z : View) → IsMarkedFor a n u z → Stays u z
 marked_stays None n u z h = record {
   cpus = ap (λ (x : View). x.cpus) h;
   alone = ap (λ (x : View). x.alone) h;

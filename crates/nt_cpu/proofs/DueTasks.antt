@@ -166,7 +166,7 @@ frame_has None None (Some x) d e h = cc
 frame_has None (Some x) k d e h = cc
 frame_has (Some x) b k d e h = cc
 
-no_frame : (c : CpuState) → option_and_then (frame_task c.script c.cpu c.own) (innermost c.own.frames) ≡ None → innermost c.own.frames ≡ None
+pub no_frame : (c : CpuState) → option_and_then (frame_task c.script c.cpu c.own) (innermost c.own.frames) ≡ None → innermost c.own.frames ≡ None
 no_frame c = go (innermost c.own.frames)
   where
     go : (o : Option Frame) → option_and_then (frame_task c.script c.cpu c.own) o ≡ None → o ≡ None

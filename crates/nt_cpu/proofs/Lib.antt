@@ -16,3 +16,9 @@ pub mod Based
 pub mod Starts
 pub mod CoreSteps
 pub mod CoreMoves
+pub mod LooksMade
+pub mod NamesLeft
+pub mod NeverIdle
+pub mod Knowing
+pub mod StepsMade
+pub mod Rooms

@@ -8,3 +8,4 @@ pub mod Sound
 pub mod Turns
 pub mod Runs
 pub mod Insides
+pub mod Steps

@@ -6,7 +6,6 @@ ghost use Rattle.nt_event.specs.Step.{thread_field};
 ghost use Rattle.nt_event.specs.Words.{value_at};
 ghost use Rattle.nt_floor.specs.Views.{HasWord, View};
 ghost use Rattle.nt_frame.specs.Nesting.{AreNamedBelow};
-ghost use Rattle.nt_cpu.specs.Sound.{IsSound};
 ghost use Rattle.nt_cpu.specs.Alone.{IsAlone, IsMarkedFor, MayBe, alone_asks, alone_event, alone_level, ask_when as asked_when, call_asks as call_asks_of, call_level as call_level_of, is_normal_end as ends_normal, noticed as noticed_of};
 
 use crate::cpu::Cpu;
@@ -141,8 +140,7 @@ fn mark<W: Words>(words: &mut W, asked: Option<Asked>, n: u64)
 impl<'s> Cpu<'s> {
     /// Where the processor stands.
     pub(crate) fn standing(&self) -> Stand
-        ensures stand { result ≡ standing_in self.now.cpu self.now.own }
-        ensures sound { IsSound self.now }
+        ensures { result ≡ standing_in self.now.cpu self.now.own }
     {
         let top = self.frames.top();
         let (frame, body, again) = match top {

@@ -4,6 +4,7 @@ ghost use Rattle.nt_event.specs.Jobs.{may_switch as switch_in, rests as rests_in
 ghost use Rattle.nt_event.specs.Own.{own_of};
 ghost use Rattle.nt_event.specs.Script.{fits, has_cpu};
 ghost use Rattle.nt_event.specs.Step.{is_cut};
+ghost use Rattle.nt_cpu.specs.Sound.{IsSound};
 
 use crate::values::Values;
 use nt_event::{CpuNo, DpcNo, Rises, Script, ThreadNo};
@@ -67,6 +68,13 @@ impl<'s> Cpu<'s> {
             fire: None,
             sweep: false,
         })
+    }
+
+    /// What holds of it at any time, for the calls that make a step of it.
+    pub(crate) fn sound(&self)
+        ensures { IsSound self.now }
+    {
+        let _script = self.script;
     }
 
     /// How many events it made.

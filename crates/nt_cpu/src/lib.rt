@@ -19,10 +19,12 @@ mod keeping;
 mod looks;
 mod routines;
 mod shared;
+mod steps;
 mod taking;
 mod tasks;
 mod turn;
 mod values;
 
 pub use cpu::Cpu;
+pub use steps::{Local, Turned};
 pub use turn::TurnRefusal;

@@ -7,7 +7,7 @@ use crate::values::Values;
 use nt_event::Rises;
 
 /// Whether one of the values rises.
-fn some_rises(values: &[u64]) -> bool
+pub fn some_rises(values: &[u64]) -> bool
     ensures { result ≡ list_any (λ v. nat_lt 0 v) values.now }
 {
     values.iter().any(|value| 0 < *value)

@@ -6,6 +6,7 @@ ghost use Rattle.nt_floor.specs.declared.floor.ActRefusal.{ActRefusal};
 ghost use Rattle.nt_floor.specs.Acts.{Found, IsRefused};
 ghost use Rattle.nt_floor.specs.Views.{IsUnmoved, Tells};
 ghost use Rattle.nt_cpu.specs.GoodTasks.{GoodJob};
+ghost use Rattle.nt_cpu.specs.Steps.{Knows};
 ghost use Rattle.nt_cpu.specs.Turns.{IsShared, Serves};
 
 use crate::cpu::Cpu;
@@ -28,9 +29,11 @@ impl<'s> Cpu<'s> {
         ensures err { IfErr result (λ r. (f : Found) × F.shows floor.new f × (Tells (F.view floor.old).states f.lanes × IsRefused self.old.script f (standing_in self.old.cpu self.old.own) job r)) }
         ensures same { OnErr result ((self.new ≡ self.old) × IsUnmoved (F.view floor.old) (F.view floor.new)) }
         ensures memory { (F.view floor.old).alone ≡ true → IsErrOf result ActRefusal.NoMemory → ⊥ }
+        ensures knows { Knows self.new (F.view floor.new) }
         ensures script { F.script floor.new ≡ F.script floor.old }
         ensures grows { F.grows floor.old floor.new }
     {
+        self.sound();
         let acted = floor.act(job, self.standing())?;
         self.take_up(&acted.event, acted.number, acted.due, &acted.told);
         Ok(acted.event)

@@ -9,9 +9,9 @@ ghost use Rattle.nt_event.specs.Words.{is_null, value_at};
 
 use crate::cpu::Cpu;
 use crate::due::{due_interrupt, is_due};
-use crate::routines::{needs_lane, next_command, refusal};
+use crate::routines::{needs_lane, next_command};
 use nt_event::{ApcKind, Begun, Body, Command, Frame, Job, Level, Refusal, Reply, Task, What};
-use nt_frame::Frames;
+use nt_frame::{Frames, refusal};
 
 impl<'s> Cpu<'s> {
     fn level(&self) -> Level
@@ -180,8 +180,9 @@ impl<'s> Cpu<'s> {
 fn call_in(frames: &Frames, frame: &Frame, command: &Command) -> Task
     ensures { result ≡ call_of frame.now command.now (refusal_of (level_in frames.now) (not (is_null frames.now.own)) (regions_of (thread_part frames.now)) frame.now command.now) }
 {
-    let refusal = refusal(frames.level(), frames, frame, command);
-    call_task(frame, command, refusal)
+    let regions = frames.regions();
+    let refused = refusal(frames.level(), frames.has_own(), &regions, frame, command);
+    call_task(frame, command, refused)
 }
 
 fn call_task(frame: &Frame, command: &Command, refusal: Option<Refusal>) -> Task

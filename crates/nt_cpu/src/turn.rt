@@ -3,7 +3,6 @@ ghost use Rattle.std.specs.Prelude.{◌≡◌, ◌&&◌, ℕ, true, IfErr, IfOk,
 ghost use Rattle.nt_event.specs.Step.{cpu_at, is_cut};
 ghost use Rattle.nt_floor.specs.Acts.{Found};
 ghost use Rattle.nt_floor.specs.Views.{IsUnmoved};
-ghost use Rattle.nt_cpu.specs.Sound.{IsSound};
 ghost use Rattle.nt_event.specs.declared.events.What.{What};
 ghost use Rattle.nt_event.specs.declared.jobs.Job.{Job};
 ghost use Rattle.nt_event.specs.declared.jobs.Task.{Task};
@@ -45,8 +44,7 @@ fn turn_refusal(turn: &Turn) -> TurnRefusal
 impl<'s> Cpu<'s> {
     /// Whether it made as many events as it may.
     pub(crate) fn is_cut(&self) -> bool
-        ensures cut { result ≡ is_cut self.now.limit self.now.own }
-        ensures sound { IsSound self.now }
+        ensures { result ≡ is_cut self.now.limit self.now.own }
     {
         self.limit <= self.made
     }
@@ -102,6 +100,7 @@ impl<'s> Cpu<'s> {
         ensures script { F.script floor.new ≡ F.script floor.old }
         ensures grows { F.grows floor.old floor.new }
     {
+        self.sound();
         if self.is_cut() {
             return Err(TurnRefusal::NothingToDo);
         }

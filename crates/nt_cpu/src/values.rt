@@ -1,5 +1,5 @@
 //! A value for each request class.
-ghost use Rattle.std.specs.Prelude.{◌≡◌, ◌<◌, ℕ, length, max, slice_set};
+ghost use Rattle.std.specs.Prelude.{◌≡◌, ◌<◌, ℕ, if◌then◌else◌, length, max, nat_lt, slice_set};
 ghost use Rattle.nt_event.specs.Words.{table, value_at};
 
 use nt_event::Rises;
@@ -50,6 +50,15 @@ impl Values {
         self.values[class as usize] = seen.get(class);
     }
 
+    /// Which of these values are above these of the same class; 0 for the others.
+    pub fn below(&self, values: &[u64; 16]) -> Rises
+        ensures { result.value ≡ table 16 (λ c. if nat_lt (value_at self.now c) (value_at values.now c) then value_at values.now c else 0) }
+    {
+        Rises {
+            value: above(values, &self.values),
+        }
+    }
+
     /// The values.
     pub fn rises(&self) -> Rises
         ensures { result.value ≡ self.now }
@@ -66,4 +75,16 @@ fn raise(values: &mut [u64; 16], rises: &[u64; 16])
             values[i] = rises[i];
         }
     }
+}
+
+fn above(values: &[u64; 16], seen: &[u64; 16]) -> [u64; 16]
+    ensures { result ≡ table 16 (λ c. if nat_lt (value_at seen.now c) (value_at values.now c) then value_at values.now c else 0) }
+{
+    let mut rises = [0; 16];
+    for i in 0..16 {
+        if seen[i] < values[i] {
+            rises[i] = values[i];
+        }
+    }
+    rises
 }

@@ -1,0 +1,130 @@
+-- Steps that a processor chooses by itself: the looks before them, and what they are.
+use Rattle.std.specs.Prelude.{Bool, IfSome, List, None, Option, Some, [], false, if◌then◌else◌, nat_le, nat_lt, not, suc, true, zero, ℕ, ◌&&◌, ◌++◌, ◌+◌, ◌<◌, ◌==◌, ◌∷◌, ◌≡◌, ◌≤◌, ◌⊎◌}
+use Rattle.nt_event.specs.declared.events.Event.{Event}
+use Rattle.nt_event.specs.declared.events.What.TheVariants.{Look as LookEvent}
+use Rattle.nt_event.specs.declared.jobs.Job.{Job}
+use Rattle.nt_event.specs.declared.jobs.Task.{Task}
+use Rattle.nt_event.specs.declared.jobs.Task.TheVariants.{Alone, Shared}
+use Rattle.nt_event.specs.declared.numbers.CpuNo.{CpuNo}
+use Rattle.nt_event.specs.Jobs.{chosen_task, rests}
+use Rattle.nt_event.specs.Own.{Own}
+use Rattle.nt_event.specs.Robin.{is_behind, look_values}
+use Rattle.nt_event.specs.Step.{event_at, is_cut}
+use Rattle.nt_event.specs.Words.{value_at}
+use Rattle.nt_floor.specs.Acts.{Found}
+use Rattle.nt_floor.specs.Lists.{Lists, Look}
+use Rattle.nt_floor.specs.Views.{HasWord, SameFloor, View}
+use Rattle.nt_frame.specs.Nesting.{AreNamedBelow}
+use Rattle.nt_cpu.specs.Alone.{IsAlone}
+use Rattle.nt_cpu.specs.States.{CpuState}
+use Rattle.nt_cpu.specs.Turns.{IsShared}
+use Rattle.nt_cpu.specs.declared.steps.Local.{Local}
+use Rattle.nt_cpu.specs.declared.steps.Local.TheVariants.{Cut as LocalCut, Did as LocalDid, NeedsLane, Quiet as LocalQuiet}
+use Rattle.nt_cpu.specs.declared.steps.Turned.{Turned}
+use Rattle.nt_cpu.specs.declared.steps.Turned.TheVariants.{Cut, Did, Quiet}
+
+-- ---- looks
+
+-- the classes that are used: 0 to 11, 13 and 14
+abbrev pub is_used : ℕ → Bool
+is_used k = not (k == 12)
+
+abbrev pub look_if : Bool → CpuNo → ℕ → ℕ → List Look
+look_if true p k v = record { cpu = p; class = k; value = v } ∷ []
+look_if false p k v = []
+
+-- one look at each used class below n of the processor, in order, with these answers
+abbrev pub looks_below : CpuNo → ℕ → List ℕ → List Look
+looks_below p zero answers = []
+looks_below p (suc k) answers = looks_below p k answers ++ look_if (is_used k) p k (value_at answers k)
+
+-- these looks were made, where they are told
+abbrev pub with_looks : List Look → Option Lists → Option Lists
+with_looks looks None = None
+with_looks looks (Some l) = Some (record l { looks = l.looks ++ looks })
+
+-- the word of class k of q was looked at
+abbrev pub was_looked : CpuNo → ℕ → CpuNo → ℕ → Bool
+was_looked p n q k = (q.0 == p.0) && (nat_lt k n && is_used k)
+
+-- exactly the used classes below n of the processor were looked at, each once and in order, with these answers (0 for the others):
+-- each at least the value that was known, and exactly it where nobody else marks
+pub record LooksBelow (n : ℕ) (p : CpuNo) (answers : List ℕ) (v u : View) : Type 0 where
+  pub lists : u.lists ≡ with_looks (looks_below p n answers) v.lists
+  pub least : (k : ℕ) → k < n → is_used k ≡ true → v.value p k ≤ value_at answers k
+  pub exact : v.alone ≡ true → (k : ℕ) → k < n → is_used k ≡ true → value_at answers k ≡ v.value p k
+  pub others : (k : ℕ) → is_used k ≡ false → value_at answers k ≡ 0
+  pub later : (k : ℕ) → n ≤ k → value_at answers k ≡ 0
+  pub value : (q : CpuNo) (k : ℕ) → HasWord v q k → u.value q k ≡ (if was_looked p n q k then value_at answers k else v.value q k)
+  pub next : v.next ≤ u.next
+  pub most : (k : ℕ) → k < n → value_at answers k ≤ u.next
+  pub next_exact : v.alone ≡ true → u.next ≡ v.next
+  pub left : u.left ≡ v.left
+  pub marked : (j : ℕ) (q : CpuNo) (k : ℕ) → HasWord v q k → u.marked j q k ≡ v.marked j q k
+  pub same : SameFloor v u
+
+-- one look at each used class
+abbrev pub AllLooked : CpuNo → List ℕ → View → View → Type 0
+AllLooked p answers v u = LooksBelow 15 p answers v u
+
+-- unless the processor is cut, it looked once at each used class, with these answers; else at none
+pub record AreLooked (c : CpuState) (answers : List ℕ) (v u : View) : Type 0 where
+  pub cut : is_cut c.limit c.own ≡ true → u ≡ v
+  pub looks : is_cut c.limit c.own ≡ false → AllLooked c.cpu answers v u
+
+-- ---- the step
+
+-- what the processor has to do after looks with these answers: a Look at what rose above the values seen, else what it chooses
+abbrev pub local_task : CpuState → List ℕ → Option Task
+local_task c answers =
+    if is_behind c.own (value_at answers) then Some (Alone (LookEvent (record { value = look_values c.own (value_at answers) }))) else chosen_task c.script c.cpu c.own
+
+-- the answer of a step
+abbrev pub local_answer : CpuState → Option Task → Local
+local_answer c None = LocalQuiet
+local_answer c (Some (Alone w)) = LocalDid (event_at c.script c.cpu w c.own.frames)
+local_answer c (Some (Shared job)) = NeedsLane job
+
+abbrev pub local_gives : CpuState → List ℕ → Local
+local_gives c answers = if is_cut c.limit c.own then LocalCut else local_answer c (local_task c answers)
+
+-- what a step leaves, by its answer: its event happened, or nothing
+abbrev pub LocalLeaves : CpuState → CpuState → Local → View → View → Type 0
+LocalLeaves c d (LocalDid e) u w = (n : ℕ) × (y : View) × IsAlone c d e.what n u y w
+LocalLeaves c d r u w = (d ≡ c) × (w ≡ u)
+
+-- after the looks the answer is what they and the processor's state give; it is Quiet only where the processor rests
+pub record IsStepped (c d : CpuState) (answers : List ℕ) (r : Local) (v u w : View) : Type 0 where
+  pub looked : AreLooked c answers v u
+  pub answer : r ≡ local_gives c answers
+  pub quiet : r ≡ LocalQuiet → rests c.own ≡ true
+  pub left : LocalLeaves c d r u w
+
+-- ---- steps under lanes
+
+-- the words know what the processor has seen, and its frames are named below their least next number
+pub record Knows (c : CpuState) (v : View) : Type 0 where
+  pub known : (k : ℕ) → k < 16 → value_at c.own.seen k ≤ v.value c.cpu k
+  pub below : (k : ℕ) → k < 16 → value_at c.own.seen k ≤ v.next
+  pub named : AreNamedBelow v.next c.own.frames
+
+-- as many numbers may be drawn as the processor may still make events
+abbrev pub HasRoom : CpuState → View → Type 0
+HasRoom c v = c.limit ≤ v.left + c.own.made
+
+-- the same processor, over the same words: a number was drawn for each event that it made
+pub record GoesOn (c d : CpuState) (v w : View) : Type 0 where
+  pub script : d.script ≡ c.script
+  pub cpu : d.cpu ≡ c.cpu
+  pub limit : d.limit ≡ c.limit
+  pub count : w.left + d.own.made ≡ v.left + c.own.made
+  pub cpus : w.cpus ≡ v.cpus
+  pub alone : w.alone ≡ v.alone
+
+-- what an advance left, after looks with these answers: its event touched no lane; or a floor made it, as told by `found`; or it
+-- rests and no request rose; or it is cut
+abbrev pub Advanced : CpuState → CpuState → List ℕ → (ℕ → Event → Found → Type 0) → Turned → View → View → Type 0
+Advanced c d answers found (Did e) u w =
+    ((local_gives c answers ≡ LocalDid e) × LocalLeaves c d (LocalDid e) u w) ⊎ ((job : Job) × (local_gives c answers ≡ NeedsLane job) × ((f : Found) × (n : ℕ) × (IsShared c d job f n e u w × found n e f)))
+Advanced c d answers found Quiet u w = (local_gives c answers ≡ LocalQuiet) × (rests c.own ≡ true) × (d ≡ c) × (w ≡ u)
+Advanced c d answers found Cut u w = (local_gives c answers ≡ LocalCut) × (d ≡ c) × (w ≡ u)

@@ -1,0 +1,168 @@
+//! Steps that a processor chooses by itself.
+ghost use Rattle.std.specs.Prelude.{◌≡◌, ◌<◌, ◌≤◌, ℕ, List, false, true, IfOk, IfErr, OnErr, IsErr, Some, length};
+ghost use Rattle.nt_event.specs.Jobs.{chosen_task as chosen_of};
+ghost use Rattle.nt_event.specs.Robin.{look_values};
+ghost use Rattle.nt_event.specs.Step.{is_cut};
+ghost use Rattle.nt_event.specs.Words.{value_at};
+ghost use Rattle.nt_event.specs.declared.jobs.Job.{Job};
+ghost use Rattle.nt_event.specs.declared.jobs.Task.{Task};
+ghost use Rattle.nt_floor.specs.Acts.{Found};
+ghost use Rattle.nt_floor.specs.Views.{IsUnmoved, View};
+ghost use Rattle.nt_cpu.specs.declared.steps.Local.{Local};
+ghost use Rattle.nt_cpu.specs.Steps.{Advanced, AllLooked, AreLooked, IsStepped, Knows, local_task as local_of};
+ghost use Rattle.nt_cpu.specs.Turns.{IsShared, Serves};
+
+use crate::cpu::Cpu;
+use crate::looks::some_rises;
+use nt_event::{CpuNo, Event, Job, Rises, Task, What};
+use nt_floor::{Floor, Words};
+use std::alloc::AllocError;
+
+/// The classes of requests are below this number; 12 of them is not used.
+const CLASSES: u8 = 15;
+
+/// The class that is not used.
+const UNUSED: u8 = 12;
+
+/// What a step did without a floor.
+#[derive(Clone, Copy, PartialEq, Eq, Debug)]
+pub enum Local {
+    /// It made this event.
+    Did(Event),
+    /// The next event needs a floor, for this job.
+    NeedsLane(Job),
+    /// The processor rests, and no request rose.
+    Quiet,
+    /// The processor made as many events as it may.
+    Cut,
+}
+
+/// What a step did.
+#[derive(Clone, Copy, PartialEq, Eq, Debug)]
+pub enum Turned {
+    /// It made this event.
+    Did(Event),
+    /// The processor rests, and no request rose.
+    Quiet,
+    /// The processor made as many events as it may.
+    Cut,
+}
+
+/// Looks once at each used class of the processor, in order. The answers by class; 0 for a class that is not used.
+fn look_all<W: Words>(words: &mut W, cpu: CpuNo) -> [u64; 16]
+    requires { cpu.0 < (W.view words.old).cpus }
+    ensures looks { AllLooked cpu result (W.view words.old) (W.view words.new) }
+    ensures grows { W.grows words.old words.new }
+{
+    let mut answers = [0; 16];
+    for class in 0..CLASSES {
+        if class != UNUSED {
+            answers[class as usize] = words.look(cpu, class);
+        }
+    }
+    answers
+}
+
+impl<'s> Cpu<'s> {
+    /// The answers that are above what was seen; 0 for the other classes.
+    fn rises(&self, answers: &[u64; 16]) -> Rises
+        ensures { result.value ≡ look_values self.now.own (value_at answers.now) }
+    {
+        self.seen.below(answers)
+    }
+
+    /// What it chooses to do: nothing where it rests; a ready thread where one may be taken up; else what is next.
+    fn chosen_task(&self) -> Option<Task>
+        ensures { result ≡ chosen_of self.now.script self.now.cpu self.now.own }
+    {
+        if self.rests() {
+            None
+        } else if self.is_free() {
+            Some(Task::Shared(Job::Pick(self.took)))
+        } else {
+            self.task()
+        }
+    }
+
+    /// What it has to do after looks with these answers.
+    fn local_task(&self, answers: &[u64; 16]) -> Option<Task>
+        ensures { result ≡ local_of self.now answers.now }
+    {
+        let rises = self.rises(answers);
+        if some_rises(&rises.value) {
+            Some(Task::Alone(What::Look { rises }))
+        } else {
+            self.chosen_task()
+        }
+    }
+
+    /// Makes its next event where that touches no lane, and else tells what it needs; it waits for nobody.
+    ///
+    /// Unless the processor is cut, it first looks once at each used class of requests. Where a look gave more than the value seen,
+    /// the event is a Look with exactly these values. Else, where it rests, the answer is Quiet.
+    pub fn step_local<W: Words>(&mut self, words: &mut W) -> Local
+        requires serves { Serves self.old (W.view words.old) }
+        ensures step { (answers : List ℕ) × (u : View) × IsStepped self.old self.new answers result (W.view words.old) u (W.view words.new) }
+        ensures lane { (job : Job) → result ≡ Local.NeedsLane job → Serves self.new (W.view words.new) }
+        ensures knows { Knows self.new (W.view words.new) }
+        ensures grows { W.grows words.old words.new }
+    {
+        self.sound();
+        if self.is_cut() {
+            return Local::Cut;
+        }
+        let answers = look_all(words, self.cpu);
+        match self.local_task(&answers) {
+            None => Local::Quiet,
+            Some(Task::Alone(what)) => Local::Did(self.make_alone(words, &what)),
+            Some(Task::Shared(job)) => Local::NeedsLane(job),
+        }
+    }
+
+    /// Has the floor make the event of the job that [`Cpu::step_local`] told.
+    ///
+    /// A floor that is alone finds memory. After NoMemory no event was made and the processor is as before.
+    pub fn step_lane<F: Floor>(&mut self, floor: &mut F, job: Job) -> Result<Event, AllocError>
+        requires uncut { is_cut self.old.limit self.old.own ≡ false }
+        requires job { chosen_of self.old.script self.old.cpu self.old.own ≡ Some (Task.Shared job) }
+        requires script { F.script floor.old ≡ self.old.script }
+        requires serves { Serves self.old (F.view floor.old) }
+        ensures ok { IfOk result (λ e. (f : Found) × (n : ℕ) × (IsShared self.old self.new job f n e (F.view floor.old) (F.view floor.new) × F.found floor.new n e f)) }
+        ensures same { OnErr result ((self.new ≡ self.old) × IsUnmoved (F.view floor.old) (F.view floor.new)) }
+        ensures memory { (F.view floor.old).alone ≡ true → IsErr result → ⊥ }
+        ensures script { F.script floor.new ≡ F.script floor.old }
+        ensures knows { Knows self.new (F.view floor.new) }
+        ensures grows { F.grows floor.old floor.new }
+    {
+        self.sound();
+        match self.make_shared(floor, job) {
+            Ok(event) => Ok(event),
+            Err(_) => Err(AllocError),
+        }
+    }
+
+    /// Makes its next event: looks, and then the event alone or with the floor; it takes up a ready thread where one may be taken.
+    ///
+    /// Quiet comes where the processor rests and no look gave more than the value seen; Cut where it made as many events as it may.
+    /// After NoMemory no event was made and the processor is as before; the floor has the looks more.
+    pub fn advance<F: Floor>(&mut self, floor: &mut F) -> Result<Turned, AllocError>
+        requires script { F.script floor.old ≡ self.old.script }
+        requires serves { Serves self.old (F.view floor.old) }
+        ensures ok { IfOk result (λ r. (answers : List ℕ) × (u : View) × (AreLooked self.old answers (F.view floor.old) u × Advanced self.old self.new answers (F.found floor.new) r u (F.view floor.new))) }
+        ensures same { OnErr result ((self.new ≡ self.old) × ((answers : List ℕ) × (u : View) × (AreLooked self.old answers (F.view floor.old) u × IsUnmoved u (F.view floor.new)))) }
+        ensures memory { (F.view floor.old).alone ≡ true → IsErr result → ⊥ }
+        ensures script { F.script floor.new ≡ F.script floor.old }
+        ensures knows { Knows self.new (F.view floor.new) }
+        ensures grows { F.grows floor.old floor.new }
+    {
+        match self.step_local(floor) {
+            Local::Did(event) => Ok(Turned::Did(event)),
+            Local::NeedsLane(job) => match self.step_lane(floor, job) {
+                Ok(event) => Ok(Turned::Did(event)),
+                Err(error) => Err(error),
+            },
+            Local::Quiet => Ok(Turned::Quiet),
+            Local::Cut => Ok(Turned::Cut),
+        }
+    }
+}
