@@ -23,3 +23,5 @@ pub mod ReadingsPending
 pub mod ReadingsFirst
 pub mod ReadingsApcs
 pub mod FatesOwners
+pub mod ReadingsSeen
+pub mod ReadingsServed

@@ -2,3 +2,5 @@ pub mod Locality
 pub mod Deliveries
 pub mod Fates
 pub mod Readings
+pub mod Positions
+pub mod ReadingsSeen

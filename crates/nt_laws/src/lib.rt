@@ -18,6 +18,7 @@ pub use fates::{
 };
 pub use readings::{
     a_pending_apc_is_inserted_and_not_used_up, pending_is_inserted_and_not_used_up,
+    seen_is_the_greatest_that_was_noticed, served_is_what_was_seen_at_the_last_service,
     the_first_of_a_part_is_by_importance_and_number,
 };
 

@@ -1,5 +1,6 @@
 //! Readings of the definitions by positions in the history.
 
+ghost use Rattle.nt_laws.specs.ReadingsSeen.{SeenIsGreatestNoticed, ServedIsSeenAtLastService};
 ghost use Rattle.nt_laws.specs.Readings.{FirstIsByImportanceAndNumber, PendingApcIsInsertedAndNotUsedUp, PendingIsInsertedAndNotUsedUp};
 
 /// Pending means inserted and not used up: in every run, an insert of a DPC object of the script is pending in a queue exactly
@@ -18,4 +19,17 @@ pub fn the_first_of_a_part_is_by_importance_and_number()
 /// the event of its number made it and no later event begins, flushes or removes it.
 pub fn a_pending_apc_is_inserted_and_not_used_up()
     ensures { PendingApcIsInsertedAndNotUsedUp }
+{}
+
+/// Seen is what was noticed: in a run, what a processor has seen of a class is the greatest n + 1 over the events n that ask for
+/// the class on it and that it noticed, else 0. It noticed the event where it made it, where a Look of it has a value of at least
+/// n + 1 in the class, or where a later event of it touches a lane that the event touches.
+pub fn seen_is_the_greatest_that_was_noticed()
+    ensures { SeenIsGreatestNoticed }
+{}
+
+/// Served is what was seen at the last service: in a run, what a processor has served of a class is what it had seen just after its
+/// last Clean of the class, for the classes 0 to 2, or just after the last Begin of the class's interrupt on it, for the others, else 0.
+pub fn served_is_what_was_seen_at_the_last_service()
+    ensures { ServedIsSeenAtLastService }
 {}
