@@ -25,3 +25,4 @@ pub mod ReadingsApcs
 pub mod FatesOwners
 pub mod ReadingsSeen
 pub mod ReadingsServed
+pub mod ReadingsFrames

@@ -4,3 +4,4 @@ pub mod Fates
 pub mod Readings
 pub mod Positions
 pub mod ReadingsSeen
+pub mod ReadingsFrames

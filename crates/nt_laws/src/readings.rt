@@ -1,5 +1,6 @@
 //! Readings of the definitions by positions in the history.
 
+ghost use Rattle.nt_laws.specs.ReadingsFrames.{InnermostIsGreatest, OwnFramesAreOpen, RunningIsLastSwitched, ThreadFramesAreOpen};
 ghost use Rattle.nt_laws.specs.ReadingsSeen.{SeenIsGreatestNoticed, ServedIsSeenAtLastService};
 ghost use Rattle.nt_laws.specs.Readings.{FirstIsByImportanceAndNumber, PendingApcIsInsertedAndNotUsedUp, PendingIsInsertedAndNotUsedUp};
 
@@ -32,4 +33,10 @@ pub fn seen_is_the_greatest_that_was_noticed()
 /// last Clean of the class, for the classes 0 to 2, or just after the last Begin of the class's interrupt on it, for the others, else 0.
 pub fn served_is_what_was_seen_at_the_last_service()
     ensures { ServedIsSeenAtLastService }
+{}
+
+/// The frames of an own part are the open ones: in a run they are exactly those of interrupts, DPCs and threaded DPCs that an event
+/// of the processor began and no later End names, by name and body, the greatest number first.
+pub fn own_frames_are_the_open_ones()
+    ensures { OwnFramesAreOpen }
 {}
