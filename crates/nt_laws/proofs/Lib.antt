@@ -26,3 +26,4 @@ pub mod FatesOwners
 pub mod ReadingsSeen
 pub mod ReadingsServed
 pub mod ReadingsFrames
+pub mod ReadingsThreads

@@ -17,6 +17,7 @@ pub use fates::{
     what_is_delivered_waits,
 };
 pub use readings::{
+    thread_frames_are_the_open_ones,
     own_frames_are_the_open_ones,
     a_pending_apc_is_inserted_and_not_used_up, pending_is_inserted_and_not_used_up,
     seen_is_the_greatest_that_was_noticed, served_is_what_was_seen_at_the_last_service,

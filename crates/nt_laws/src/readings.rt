@@ -40,3 +40,10 @@ pub fn served_is_what_was_seen_at_the_last_service()
 pub fn own_frames_are_the_open_ones()
     ensures { OwnFramesAreOpen }
 {}
+
+/// The frames of a thread's part are the open ones: in a run they are exactly the base frame that the first Switch to the thread
+/// began, until its Gone, and the others that its Begins and Flushes began, until their Ends, by name and body, the greatest number
+/// first.
+pub fn thread_frames_are_the_open_ones()
+    ensures { ThreadFramesAreOpen }
+{}
