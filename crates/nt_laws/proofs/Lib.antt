@@ -27,3 +27,4 @@ pub mod ReadingsSeen
 pub mod ReadingsServed
 pub mod ReadingsFrames
 pub mod ReadingsThreads
+pub mod ReadingsInnermost

@@ -17,6 +17,7 @@ pub use fates::{
     what_is_delivered_waits,
 };
 pub use readings::{
+    the_innermost_frame_is_the_newest_open_one, the_running_thread_was_switched_to_last,
     thread_frames_are_the_open_ones,
     own_frames_are_the_open_ones,
     a_pending_apc_is_inserted_and_not_used_up, pending_is_inserted_and_not_used_up,

@@ -47,3 +47,15 @@ pub fn own_frames_are_the_open_ones()
 pub fn thread_frames_are_the_open_ones()
     ensures { ThreadFramesAreOpen }
 {}
+
+/// The running thread is the one of the processor's last Switch, where no later event of the processor stops it: a Gone, a wait that
+/// blocked or a `yield` that was done.
+pub fn the_running_thread_was_switched_to_last()
+    ensures { RunningIsLastSwitched }
+{}
+
+/// The innermost frame is the open one of greatest number: in a run, the open frame of greatest number on the processor's own part,
+/// else the one of greatest number on the part of the thread that runs there, and none exactly where there is none.
+pub fn the_innermost_frame_is_the_newest_open_one()
+    ensures { InnermostIsGreatest }
+{}
