@@ -28,3 +28,5 @@ pub mod ReadingsServed
 pub mod ReadingsFrames
 pub mod ReadingsThreads
 pub mod ReadingsInnermost
+pub mod ReadingsFates
+pub mod ReadingsFirstApcs

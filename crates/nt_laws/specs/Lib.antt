@@ -5,3 +5,5 @@ pub mod Readings
 pub mod Positions
 pub mod ReadingsSeen
 pub mod ReadingsFrames
+pub mod ReadingsFates
+pub mod ReadingsFirstApcs

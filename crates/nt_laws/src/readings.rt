@@ -1,5 +1,7 @@
 //! Readings of the definitions by positions in the history.
 
+ghost use Rattle.nt_laws.specs.ReadingsFirstApcs.{FirstApcsAreByKindAndNumber, PendingApcsFall};
+ghost use Rattle.nt_laws.specs.ReadingsFates.{FateIsFirstUse, InsertsAreListed, WaitingIsPending};
 ghost use Rattle.nt_laws.specs.ReadingsFrames.{InnermostIsGreatest, OwnFramesAreOpen, RunningIsLastSwitched, ThreadFramesAreOpen};
 ghost use Rattle.nt_laws.specs.ReadingsSeen.{SeenIsGreatestNoticed, ServedIsSeenAtLastService};
 ghost use Rattle.nt_laws.specs.Readings.{FirstIsByImportanceAndNumber, PendingApcIsInsertedAndNotUsedUp, PendingIsInsertedAndNotUsedUp};
@@ -58,4 +60,32 @@ pub fn the_running_thread_was_switched_to_last()
 /// else the one of greatest number on the part of the thread that runs there, and none exactly where there is none.
 pub fn the_innermost_frame_is_the_newest_open_one()
     ensures { InnermostIsGreatest }
+{}
+
+/// The fate of an insert is what the first later event that uses it up says: begun by it where it is a Begin, flushed where it is a
+/// Flush, removed where it is a call; it waits where no later event uses it up. No other fate is its.
+pub fn the_fate_is_the_first_use()
+    ensures { FateIsFirstUse }
+{}
+
+/// The inserts of a history are those that its events made, and the waiting ones are those of them that no later event uses up.
+pub fn inserts_are_listed()
+    ensures { InsertsAreListed }
+{}
+
+/// Waiting is pending: in a run an insert of a DPC object of the script, or of an APC object whose thread the script has, waits exactly
+/// where it is pending in the queue of a processor, or at its thread.
+pub fn an_insert_waits_where_it_is_pending()
+    ensures { WaitingIsPending }
+{}
+
+/// The pending APCs of a thread stand by their numbers, the greatest first, and each number is an earlier event's.
+pub fn pending_apcs_stand_by_number()
+    ensures { PendingApcsFall }
+{}
+
+/// The first kernel APC of a thread is the pending special one of least number, else the pending normal one of least number, and the
+/// first user APC is the pending user one of least number; there is none exactly where none is pending.
+pub fn the_first_apcs_are_by_kind_and_number()
+    ensures { FirstApcsAreByKindAndNumber }
 {}
