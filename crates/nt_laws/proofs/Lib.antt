@@ -30,3 +30,4 @@ pub mod ReadingsThreads
 pub mod ReadingsInnermost
 pub mod ReadingsFates
 pub mod ReadingsFirstApcs
+pub mod ReadingsRegions

@@ -7,3 +7,4 @@ pub mod ReadingsSeen
 pub mod ReadingsFrames
 pub mod ReadingsFates
 pub mod ReadingsFirstApcs
+pub mod ReadingsRegions

@@ -17,6 +17,7 @@ pub use fates::{
     what_is_delivered_waits,
 };
 pub use readings::{
+    regions_are_enters_less_leaves,
     pending_apcs_stand_by_number, the_first_apcs_are_by_kind_and_number,
     the_fate_is_the_first_use, inserts_are_listed, an_insert_waits_where_it_is_pending,
     the_innermost_frame_is_the_newest_open_one, the_running_thread_was_switched_to_last,

@@ -1,5 +1,6 @@
 //! Readings of the definitions by positions in the history.
 
+ghost use Rattle.nt_laws.specs.ReadingsRegions.{RegionsAreCounted};
 ghost use Rattle.nt_laws.specs.ReadingsFirstApcs.{FirstApcsAreByKindAndNumber, PendingApcsFall};
 ghost use Rattle.nt_laws.specs.ReadingsFates.{FateIsFirstUse, InsertsAreListed, WaitingIsPending};
 ghost use Rattle.nt_laws.specs.ReadingsFrames.{InnermostIsGreatest, OwnFramesAreOpen, RunningIsLastSwitched, ThreadFramesAreOpen};
@@ -88,4 +89,11 @@ pub fn pending_apcs_stand_by_number()
 /// first user APC is the pending user one of least number; there is none exactly where none is pending.
 pub fn the_first_apcs_are_by_kind_and_number()
     ensures { FirstApcsAreByKindAndNumber }
+{}
+
+/// The regions of a thread are counted: in a run, each of its open frames has entered what its accepted enters less its accepted leaves
+/// in its present phase say, its critical and guarded regions are the sums of these, and a normal kernel APC is in progress exactly
+/// where a frame of one is open.
+pub fn regions_are_enters_less_leaves()
+    ensures { RegionsAreCounted }
 {}
