@@ -31,3 +31,5 @@ pub mod ReadingsInnermost
 pub mod ReadingsFates
 pub mod ReadingsFirstApcs
 pub mod ReadingsRegions
+pub mod ReadingsDeliverable
+pub mod ReadingsTimers

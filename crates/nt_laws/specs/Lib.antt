@@ -8,3 +8,4 @@ pub mod ReadingsFrames
 pub mod ReadingsFates
 pub mod ReadingsFirstApcs
 pub mod ReadingsRegions
+pub mod ReadingsTimers

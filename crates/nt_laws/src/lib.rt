@@ -17,6 +17,8 @@ pub use fates::{
     what_is_delivered_waits,
 };
 pub use readings::{
+    a_timer_is_set_by_its_last_set_event, a_delay_is_set_by_the_last_that_blocked, the_first_due_key_is_least,
+    an_apc_is_deliverable_by_level_and_regions,
     regions_are_enters_less_leaves,
     pending_apcs_stand_by_number, the_first_apcs_are_by_kind_and_number,
     the_fate_is_the_first_use, inserts_are_listed, an_insert_waits_where_it_is_pending,

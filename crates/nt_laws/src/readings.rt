@@ -1,6 +1,7 @@
 //! Readings of the definitions by positions in the history.
 
-ghost use Rattle.nt_laws.specs.ReadingsRegions.{RegionsAreCounted};
+ghost use Rattle.nt_laws.specs.ReadingsTimers.{DelaysAreSetLast, FirstDueKeyIsLeast, TimersAreSetLast};
+ghost use Rattle.nt_laws.specs.ReadingsRegions.{DeliverableByRegions, RegionsAreCounted};
 ghost use Rattle.nt_laws.specs.ReadingsFirstApcs.{FirstApcsAreByKindAndNumber, PendingApcsFall};
 ghost use Rattle.nt_laws.specs.ReadingsFates.{FateIsFirstUse, InsertsAreListed, WaitingIsPending};
 ghost use Rattle.nt_laws.specs.ReadingsFrames.{InnermostIsGreatest, OwnFramesAreOpen, RunningIsLastSwitched, ThreadFramesAreOpen};
@@ -96,4 +97,29 @@ pub fn the_first_apcs_are_by_kind_and_number()
 /// where a frame of one is open.
 pub fn regions_are_enters_less_leaves()
     ensures { RegionsAreCounted }
+{}
+
+/// Deliverable is by level and regions: an APC is the deliverable one of a thread with these frames exactly where it is the thread's
+/// first kernel APC, the innermost frame has level 0, no guarded region is entered and, for a normal one, no critical region is
+/// entered and no normal kernel APC is in progress.
+pub fn an_apc_is_deliverable_by_level_and_regions()
+    ensures { DeliverableByRegions }
+{}
+
+/// A timer is set by its last set event: a `settimer` that was answered, or an expiry of it with a period, where it was neither
+/// cancelled nor expired since; it is due the named time, or the period, after the time of that event.
+pub fn a_timer_is_set_by_its_last_set_event()
+    ensures { TimersAreSetLast }
+{}
+
+/// A thread's delay is set by its last one that blocked, where it has not expired since: a call of `delay`, due its units after the
+/// time of the call, or the wait that was taken up again, with the old due time.
+pub fn a_delay_is_set_by_the_last_that_blocked()
+    ensures { DelaysAreSetLast }
+{}
+
+/// The first due key is the least by due time and number of the set event of the keys that are set and due, and there is none exactly
+/// where none is.
+pub fn the_first_due_key_is_least()
+    ensures { FirstDueKeyIsLeast }
 {}
