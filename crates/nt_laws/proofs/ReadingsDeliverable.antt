@@ -1,8 +1,7 @@
 -- The first kernel APC of a thread is deliverable where its level and regions let it through.
-use Rattle.std.proofs.Common.{ap, inl, inr, subst, sym, ◌∙◌}
+use Rattle.std.proofs.Common.{ap, inl, inr, subst, ◌∙◌}
 use Rattle.std.proofs.lemmas.Bool.{eq-eqb, eqb-true}
-use Rattle.std.specs.Option.{option_or}
-use Rattle.std.specs.Prelude.{Bool, List, None, Option, Some, false, find, not, option_and_then, refl, reverse, true, ℕ, ◌&&◌, ◌==◌, ◌↔◌, ◌≡◌, ◌⊎◌}
+use Rattle.std.specs.Prelude.{Bool, List, None, Option, Some, false, find, not, option_and_then, refl, reverse, true, ◌&&◌, ◌==◌, ◌↔◌, ◌≡◌, ◌⊎◌}
 use Rattle.nt_event.specs.declared.commands.ApcKind.{ApcKind}
 use Rattle.nt_event.specs.declared.commands.ApcKind.TheVariants.{Normal as NormalApc, Special as SpecialApc, User as UserApc}
 use Rattle.nt_event.specs.declared.commands.Regions.{Regions}

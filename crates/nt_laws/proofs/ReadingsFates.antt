@@ -1,12 +1,11 @@
 -- The fate of each insert is decided by the first later event that uses it up; in a run it waits exactly where it is pending.
 use Rattle.std.proofs.Common.{ap, arith, inl, inr, subst, sym, ◌∙◌}
-use Rattle.std.proofs.lemmas.Bool.{both_ways, eq-eqb, lt-ltb, ltb-false, ltb-true}
+use Rattle.std.proofs.lemmas.Bool.{lt-ltb, ltb-false, ltb-true}
 use Rattle.std.proofs.lemmas.List.Elements.{Contains-append_cases, Contains-append_left, Contains-append_right}
 use Rattle.std.specs.List.{Contains}
-use Rattle.std.specs.Prelude.{Bool, List, None, Option, Some, [], false, if◌then◌else◌, length, nat_lt, refl, true, ℕ, ◌&&◌, ◌++◌, ◌<◌, ◌∷◌, ◌↔◌, ◌≡◌, ◌≤◌, ◌⊎◌}
-use Rattle.nt_event.specs.declared.commands.Command.TheVariants.{InsertApc, Queue, RemoveApc, Unqueue}
+use Rattle.std.specs.Prelude.{Bool, List, None, Option, Some, [], false, if◌then◌else◌, length, nat_lt, refl, true, ℕ, ◌&&◌, ◌<◌, ◌∷◌, ◌↔◌, ◌≡◌, ◌⊎◌}
+use Rattle.nt_event.specs.declared.commands.Command.TheVariants.{InsertApc, Queue}
 use Rattle.nt_event.specs.declared.commands.Reply.TheVariants.{Yes}
-use Rattle.nt_event.specs.declared.events.Begun.TheVariants.{Apc, Dpc, Threaded}
 use Rattle.nt_event.specs.declared.events.Event.{Event}
 use Rattle.nt_event.specs.declared.events.What.{What}
 use Rattle.nt_event.specs.declared.events.What.TheVariants.{Begin, Call, Fire, Flush}
@@ -19,7 +18,6 @@ use Rattle.nt_event.specs.Objects.{inserted_dpc, queue_for, target_of}
 use Rattle.nt_event.specs.Routines.{owner_of}
 use Rattle.nt_event.specs.Step.{IsRun}
 use Rattle.nt_laws.specs.Fates.{ApcIsPending, DpcIsPending}
-use Rattle.nt_laws.specs.Positions.{At}
 use Rattle.nt_laws.specs.Readings.{IsApcInsertedAt, IsInsertedAt, NoneUsesUp}
 use Rattle.nt_laws.specs.ReadingsFates.{IsFate, IsFirstUse, IsInsert, IsPending, ListsInserts, begins, calls, flushes, is_known}
 use Rattle.nt_laws.proofs.FatesElements.{contains_cases, contains_here, contains_kept, contains_none, kept_contains}

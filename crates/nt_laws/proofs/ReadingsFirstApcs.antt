@@ -2,7 +2,7 @@
 use Rattle.std.proofs.Common.{ap, arith, inl, inr, subst, sym, ◌∙◌}
 use Rattle.std.specs.List.{Contains}
 use Rattle.std.specs.Option.{option_or}
-use Rattle.std.specs.Prelude.{Bool, List, None, Option, Some, [], cond, false, filter, find, if◌then◌else◌, length, refl, reverse, suc, true, ℕ, ◌<◌, ◌==◌, ◌∷◌, ◌≡◌, ◌≤◌, ◌⊎◌}
+use Rattle.std.specs.Prelude.{Bool, List, None, Option, Some, [], cond, false, filter, find, if◌then◌else◌, length, refl, reverse, suc, true, ℕ, ◌<◌, ◌==◌, ◌∷◌, ◌≡◌, ◌≤◌}
 use Rattle.nt_event.specs.declared.commands.ApcKind.{ApcKind}
 use Rattle.nt_event.specs.declared.commands.ApcKind.TheVariants.{Normal as NormalApc, Special as SpecialApc, User as UserApc}
 use Rattle.nt_event.specs.declared.commands.Command.TheVariants.{InsertApc, RemoveApc}
@@ -14,12 +14,12 @@ use Rattle.nt_event.specs.declared.events.What.TheVariants.{Begin, Call, Flush}
 use Rattle.nt_event.specs.declared.inserts.Pick.{Pick}
 use Rattle.nt_event.specs.declared.numbers.ThreadNo.{ThreadNo}
 use Rattle.nt_event.specs.declared.scripts.Script.{Script}
-use Rattle.nt_event.specs.Apcs.{first_kernel, first_of_kind, first_user, is_of_kind}
+use Rattle.nt_event.specs.Apcs.{first_kernel, first_user, is_of_kind}
 use Rattle.nt_event.specs.Routines.{owner_of}
 use Rattle.nt_event.specs.Waits.{facts, is_of_thread, new_pick}
-use Rattle.nt_laws.specs.ReadingsFirstApcs.{HasNoneOfKind, IsFirstKernel, IsFirstUser, IsLeastOfKind, PicksFall}
+use Rattle.nt_laws.specs.ReadingsFirstApcs.{IsFirstKernel, IsFirstUser, IsLeastOfKind, PicksFall}
 use Rattle.nt_laws.proofs.FatesElements.{contains_cases, contains_none, found_contains, reversed_contains}
-use Rattle.nt_laws.proofs.FatesPicks.{made_picks, named_picks, picks_after, picks_move, without_pick}
+use Rattle.nt_laws.proofs.FatesPicks.{made_picks, named_picks, picks_move, without_pick}
 use Rattle.nt_laws.proofs.Pending.{cond_none, find_reverse, or_none_parts}
 
 -- ---- the numbers fall

@@ -1,7 +1,7 @@
 -- In a run, the frames on a processor's own part are exactly the open ones there.
 use Rattle.std.proofs.Common.{ap, arith, inl, inr, subst, sym, ◌∙◌}
 use Rattle.std.proofs.lemmas.Bool.{both_ways, eq-eqb, eqb-true}
-use Rattle.std.specs.Option.{option_map_or, option_or}
+use Rattle.std.specs.Option.{option_or}
 use Rattle.std.specs.Prelude.{Bool, List, None, Option, Some, [], false, if◌then◌else◌, length, option_map, refl, suc, true, ℕ, ◌<◌, ◌==◌, ◌∷◌, ◌≡◌, ◌≤◌, ◌⊎◌}
 use Rattle.nt_event.specs.declared.commands.Command.{Command}
 use Rattle.nt_event.specs.declared.commands.Command.TheVariants.{Delay, Raise, StartWait}
@@ -10,16 +10,15 @@ use Rattle.nt_event.specs.declared.commands.Reply.TheVariants.{Done}
 use Rattle.nt_event.specs.declared.events.Begun.TheVariants.{Apc, Dpc, Int, Threaded}
 use Rattle.nt_event.specs.declared.events.Event.{Event}
 use Rattle.nt_event.specs.declared.events.What.{What}
-use Rattle.nt_event.specs.declared.events.What.TheVariants.{Begin, Call, End, Flush, Gone, Look, Normal, Rewait, Switch}
+use Rattle.nt_event.specs.declared.events.What.TheVariants.{Begin, Call, End, Flush, Gone, Normal, Rewait, Switch}
 use Rattle.nt_event.specs.declared.frames.Body.{Body}
 use Rattle.nt_event.specs.declared.frames.Body.TheVariants.{Apc as OnApc, Base as OnBase, Dpc as OnDpc, Int as OnInt, Rundown as OnRundown, Threaded as OnThreaded}
 use Rattle.nt_event.specs.declared.frames.Frame.{Frame}
-use Rattle.nt_event.specs.declared.numbers.ApcNo.{ApcNo}
 use Rattle.nt_event.specs.declared.numbers.CpuNo.{CpuNo}
 use Rattle.nt_event.specs.declared.numbers.RoutineNo.{RoutineNo}
 use Rattle.nt_event.specs.declared.numbers.ThreadNo.{ThreadNo}
 use Rattle.nt_event.specs.declared.scripts.Script.{Script}
-use Rattle.nt_event.specs.Frames.{Frames, at_name, called, done_to, due_of, end_on_thread, flushed, frames_of, innermost, is_base_body, left, new_frame, normal_of, own_after, own_frames, resumed, rewaited, running, switched_to, thread_after, thread_frames, thread_part, time, without}
+use Rattle.nt_event.specs.Frames.{at_name, called, done_to, due_of, end_on_thread, flushed, frames_of, is_base_body, left, normal_of, own_after, own_frames, resumed, rewaited, running, thread_after, thread_frames, thread_part, time, without}
 use Rattle.nt_event.specs.Lanes.{lanes_at}
 use Rattle.nt_event.specs.Own.{own_of}
 use Rattle.nt_event.specs.Routines.{kind_of, rundown_of}
@@ -29,7 +28,7 @@ use Rattle.nt_event.proofs.Known.{Known, KnownEnd, legal_known}
 use Rattle.nt_event.proofs.Running.{frames_when, part_of_running, running_here, same_cpu, same_thread, thread_named}
 use Rattle.nt_event.proofs.Shared.{part_head, thread_runs}
 use Rattle.nt_event.proofs.Turns.{is_next}
-use Rattle.nt_laws.specs.Positions.{At, EachAfter}
+use Rattle.nt_laws.specs.Positions.{At}
 use Rattle.nt_laws.specs.ReadingsFrames.{EachNamed, Falls, HasFrame, IsNotEnded, IsOpenOwn, Lists, begun_inner, begun_own, ends_frame, switches_to}
 use Rattle.nt_laws.proofs.ReadingsSeen.{at_before}
 use Rattle.nt_laws.proofs.ReadingsServed.{none_after}

@@ -19,7 +19,7 @@ use Rattle.nt_event.specs.Step.{IsRun}
 use Rattle.nt_event.specs.Words.{head_of, is_of}
 use Rattle.nt_event.proofs.Running.{part_of_running, running_here}
 use Rattle.nt_laws.specs.Positions.{At, EachAfter}
-use Rattle.nt_laws.specs.ReadingsFrames.{EachNamed, Falls, HasFrame, HasNone, IsGreatest, IsInnermost, IsLastSwitched, IsOpenOn, IsOpenOwn, Lists, is_switch_event, stops_thread, switches_to}
+use Rattle.nt_laws.specs.ReadingsFrames.{Falls, HasFrame, HasNone, IsGreatest, IsInnermost, IsLastSwitched, IsOpenOn, IsOpenOwn, Lists, is_switch_event, stops_thread, switches_to}
 use Rattle.nt_laws.proofs.ReadingsFrames.{own_lists}
 use Rattle.nt_laws.proofs.ReadingsSeen.{at_before}
 use Rattle.nt_laws.proofs.ReadingsServed.{none_after}

@@ -3,9 +3,7 @@ use Rattle.std.proofs.Common.{ap, arith, inl, inr, subst, sym, ◌∙◌}
 use Rattle.std.proofs.lemmas.Bool.{both_ways, eq-eqb, eqb-true, le-ltb, lt-ltb, ltb-false, ltb-true}
 use Rattle.std.specs.List.{list_any}
 use Rattle.std.specs.Option.{option_or}
-use Rattle.std.specs.Prelude.{Bool, List, None, Option, Some, [], false, fold, if◌then◌else◌, length, nat_lt, not, refl, suc, sum_by, true, zero, ℕ, ◌&&◌, ◌+◌, ◌-◌, ◌<◌, ◌==◌, ◌||◌, ◌∷◌, ◌↔◌, ◌≡◌, ◌≤◌, ◌⊎◌}
-use Rattle.nt_event.specs.declared.commands.ApcKind.{ApcKind}
-use Rattle.nt_event.specs.declared.commands.ApcKind.TheVariants.{Normal as NormalApc, Special as SpecialApc, User as UserApc}
+use Rattle.std.specs.Prelude.{Bool, List, None, Option, Some, [], false, fold, if◌then◌else◌, length, nat_lt, not, refl, suc, true, zero, ℕ, ◌&&◌, ◌+◌, ◌-◌, ◌<◌, ◌==◌, ◌||◌, ◌∷◌, ◌≡◌, ◌≤◌, ◌⊎◌}
 use Rattle.nt_event.specs.declared.commands.Command.{Command}
 use Rattle.nt_event.specs.declared.commands.Command.TheVariants.{Delay, EnterCrit, EnterGuard, LeaveCrit, LeaveGuard, Raise, StartWait}
 use Rattle.nt_event.specs.declared.commands.Refusal.TheVariants.{NotEntered, NotThread, TooHigh}
@@ -20,12 +18,11 @@ use Rattle.nt_event.specs.declared.frames.Body.TheVariants.{Apc as OnApc, Base a
 use Rattle.nt_event.specs.declared.frames.Frame.{Frame}
 use Rattle.nt_event.specs.declared.frames.Region.{Region}
 use Rattle.nt_event.specs.declared.frames.Region.TheVariants.{Crit, Guard}
-use Rattle.nt_event.specs.declared.inserts.Pick.{Pick}
 use Rattle.nt_event.specs.declared.numbers.CpuNo.{CpuNo}
 use Rattle.nt_event.specs.declared.numbers.RoutineNo.{RoutineNo}
 use Rattle.nt_event.specs.declared.numbers.ThreadNo.{ThreadNo}
 use Rattle.nt_event.specs.declared.scripts.Script.{Script}
-use Rattle.nt_event.specs.Frames.{at_name, called, due_of, end_on_thread, flushed, frames_of, innermost, is_base_body, is_normal_apc_body, left, new_frame, normal_of, own_frames, resumed, rewaited, running, switched_to, thread_after, thread_frames, thread_part, time}
+use Rattle.nt_event.specs.Frames.{at_name, called, due_of, end_on_thread, flushed, frames_of, innermost, is_base_body, is_normal_apc_body, left, new_frame, normal_of, own_frames, rewaited, running, switched_to, thread_after, thread_frames, thread_part, time}
 use Rattle.nt_event.specs.Jobs.{level_at}
 use Rattle.nt_event.specs.Lanes.{Lanes, lanes_at}
 use Rattle.nt_event.specs.Own.{Own, own_of}
@@ -39,9 +36,9 @@ use Rattle.nt_event.proofs.Running.{part_of_running, running_here, same_thread, 
 use Rattle.nt_event.proofs.Shared.{part_head, thread_runs}
 use Rattle.nt_event.proofs.Stops.{call_accepted, refuse_none}
 use Rattle.nt_event.proofs.Turns.{is_next}
-use Rattle.nt_laws.specs.ReadingsFrames.{EachNamed, Falls, HasFrame, IsOpenOn, Lists, begun_inner, switches_to}
-use Rattle.nt_laws.specs.ReadingsRegions.{EachFrame, IsCounted, IsNet, RegionsCounted, count_after, entered, exited, has_done, is_enter, is_leave, net_of, phase_of, renews}
-use Rattle.nt_laws.proofs.ReadingsFrames.{IsOwnBegin, IsThreadBegin, at_both, each_map, falls_from, inner_not_switch, keep_called, own_apart, own_begun, thread_begun, thread_falls}
+use Rattle.nt_laws.specs.ReadingsFrames.{EachNamed, Falls, HasFrame, IsOpenOn, begun_inner, switches_to}
+use Rattle.nt_laws.specs.ReadingsRegions.{EachFrame, IsCounted, IsNet, RegionsCounted, count_after, entered, exited, has_done, is_enter, is_leave, phase_of, renews}
+use Rattle.nt_laws.proofs.ReadingsFrames.{IsOwnBegin, IsThreadBegin, at_both, each_map, inner_not_switch, keep_called, own_apart, own_begun, thread_begun, thread_falls}
 use Rattle.nt_laws.proofs.ReadingsThreads.{part_moves, part_of, part_same, thread_lists}
 
 -- ---- phases and counts

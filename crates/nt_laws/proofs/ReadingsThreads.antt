@@ -1,7 +1,7 @@
 -- In a run, the frames on a thread's part are exactly the open ones there.
 use Rattle.std.proofs.Common.{ap, arith, inl, inr, subst, sym, ◌∙◌}
 use Rattle.std.proofs.lemmas.Bool.{both_ways, eq-eqb, eqb-true}
-use Rattle.std.specs.Prelude.{Bool, List, None, Option, Some, [], false, if◌then◌else◌, length, option_map, refl, true, ℕ, ◌&&◌, ◌<◌, ◌==◌, ◌∷◌, ◌≡◌, ◌≤◌, ◌⊎◌}
+use Rattle.std.specs.Prelude.{Bool, List, None, Option, Some, [], false, if◌then◌else◌, length, option_map, refl, true, ℕ, ◌&&◌, ◌<◌, ◌==◌, ◌∷◌, ◌≡◌, ◌⊎◌}
 use Rattle.nt_event.specs.declared.commands.Command.TheVariants.{Yield}
 use Rattle.nt_event.specs.declared.commands.Reply.TheVariants.{Blocked, Done}
 use Rattle.nt_event.specs.declared.events.Begun.TheVariants.{Apc}
@@ -12,16 +12,15 @@ use Rattle.nt_event.specs.declared.events.What.TheVariants.{Begin, Call, End, Fl
 use Rattle.nt_event.specs.declared.frames.Body.{Body}
 use Rattle.nt_event.specs.declared.frames.Body.TheVariants.{Apc as OnApc, Base as OnBase, Rundown as OnRundown}
 use Rattle.nt_event.specs.declared.frames.Frame.{Frame}
-use Rattle.nt_event.specs.declared.numbers.ApcNo.{ApcNo}
 use Rattle.nt_event.specs.declared.numbers.CpuNo.{CpuNo}
 use Rattle.nt_event.specs.declared.numbers.RoutineNo.{RoutineNo}
 use Rattle.nt_event.specs.declared.numbers.ThreadNo.{ThreadNo}
 use Rattle.nt_event.specs.declared.scripts.Script.{Script}
 use Rattle.nt_event.specs.declared.threads.Doing.{Doing}
 use Rattle.nt_event.specs.declared.threads.Doing.TheVariants.{Blocked as IsBlocked, Gone as IsGone, Running as IsRunning}
-use Rattle.nt_event.specs.Frames.{called, due_of, end_on_thread, flushed, frames_of, is_base_body, left, new_frame, normal_of, own_frames, resumed, rewaited, running, running_after, switched_to, thread_after, thread_frames, thread_part, time}
-use Rattle.nt_event.specs.Lanes.{facts_at, lanes_at}
-use Rattle.nt_event.specs.Laws.{Agrees, HasBase}
+use Rattle.nt_event.specs.Frames.{called, due_of, end_on_thread, flushed, frames_of, is_base_body, left, normal_of, own_frames, rewaited, running, running_after, thread_after, thread_frames, thread_part, time}
+use Rattle.nt_event.specs.Lanes.{lanes_at}
+use Rattle.nt_event.specs.Laws.{HasBase}
 use Rattle.nt_event.specs.Own.{own_of}
 use Rattle.nt_event.specs.Regions.{stand_at}
 use Rattle.nt_event.specs.Routines.{cpu_of, kind_of, rundown_of}
@@ -29,18 +28,18 @@ use Rattle.nt_event.specs.Script.{has_thread}
 use Rattle.nt_event.specs.Step.{IsLegal, IsRun, step, thread_field, turn_at}
 use Rattle.nt_event.specs.Threads.{ThreadFacts, is_ready, ready_doing}
 use Rattle.nt_event.specs.Waits.{facts, is_of_thread, made_facts, named_facts}
-use Rattle.nt_event.specs.Words.{head_of, is_by, is_null, is_of, is_thread}
+use Rattle.nt_event.specs.Words.{head_of, is_by, is_of, is_thread}
 use Rattle.nt_event.proofs.Agree.{Ends, named_ends, runs_as}
 use Rattle.nt_event.proofs.Calm.{ran}
 use Rattle.nt_event.proofs.Facts.{agree, facts_made, named_here}
 use Rattle.nt_event.proofs.Known.{Known, KnownRundown, legal_known}
 use Rattle.nt_event.proofs.Options.{both}
-use Rattle.nt_event.proofs.Running.{frames_when, part_of_running, running_has_base, running_here, same_cpu, same_thread, thread_named}
+use Rattle.nt_event.proofs.Running.{frames_when, part_of_running, running_has_base, same_cpu, same_thread, thread_named}
 use Rattle.nt_event.proofs.Shared.{leaving_null, part_head}
 use Rattle.nt_event.proofs.Steps.{Gives, switch_gives}
 use Rattle.nt_event.proofs.Turns.{is_next}
 use Rattle.nt_laws.specs.Positions.{At, EachAfter, Everywhere, Somewhere}
-use Rattle.nt_laws.specs.ReadingsFrames.{EachNamed, Falls, HasFrame, IsFirstSwitch, IsNotEnded, IsOpenBase, IsOpenInner, IsOpenOn, Lists, begun_inner, ends_frame, ends_thread, switches_to}
+use Rattle.nt_laws.specs.ReadingsFrames.{EachNamed, Falls, HasFrame, IsFirstSwitch, IsOpenInner, IsOpenOn, Lists, begun_inner, ends_frame, ends_thread, switches_to}
 use Rattle.nt_laws.proofs.ReadingsFrames.{Heads, IsEnder, IsOwnBegin, IsThreadBegin, at_both, each_below, each_end, each_head, each_map, ender, has_at_name, inner_not_switch, keep_called, keep_normal, keep_resumed, keep_rewaited, own_apart, own_begun, switch_self, thread_after_each, thread_begun, thread_falls}
 use Rattle.nt_laws.proofs.ReadingsSeen.{at_before}
 use Rattle.nt_laws.proofs.ReadingsServed.{none_after}

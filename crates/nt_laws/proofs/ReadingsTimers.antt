@@ -1,8 +1,8 @@
 -- A key is set by its last set event, and the first due key is the least of those that are set and due.
 use Rattle.std.proofs.Common.{ap, arith, inl, inr, subst, sym, ◌∙◌}
-use Rattle.std.proofs.lemmas.Bool.{eq-eqb, eqb-true}
+use Rattle.std.proofs.lemmas.Bool.{eqb-true}
 use Rattle.std.proofs.lemmas.List.{get_or_past}
-use Rattle.std.specs.Prelude.{Bool, List, MatchOption, None, Option, Some, [], false, get_or, if◌then◌else◌, length, nat_lt, option_and_then, refl, suc, true, zero, ℕ, ◌&&◌, ◌+◌, ◌<◌, ◌==◌, ◌∷◌, ◌↔◌, ◌≡◌, ◌≤◌, ◌⊎◌}
+use Rattle.std.specs.Prelude.{Bool, List, MatchOption, None, Option, Some, [], false, if◌then◌else◌, length, nat_lt, refl, suc, true, zero, ℕ, ◌+◌, ◌<◌, ◌==◌, ◌∷◌, ◌↔◌, ◌≡◌, ◌≤◌, ◌⊎◌}
 use Rattle.std.proofs.lemmas.Bool.{ltb-false, ltb-true}
 use Rattle.nt_event.specs.declared.commands.Command.TheVariants.{CancelTimer, Delay, SetTimer}
 use Rattle.nt_event.specs.declared.commands.Reply.TheVariants.{Blocked, Yes}
@@ -18,15 +18,15 @@ use Rattle.nt_event.specs.declared.numbers.TimerNo.{TimerNo}
 use Rattle.nt_event.specs.declared.scripts.Script.{Script}
 use Rattle.nt_event.specs.Frames.{time}
 use Rattle.nt_event.specs.Regions.{stand_at}
-use Rattle.nt_event.specs.Timers.{SetKey, blocked_after, delay_after, delay_set, delay_setting, expired_delay, first_due, renewed, setting_in, timer_after, timer_setting, timers_at}
+use Rattle.nt_event.specs.Timers.{SetKey, blocked_after, delay_set, delay_setting, expired_delay, first_due, renewed, setting_in, timer_after, timer_setting, timers_at}
 use Rattle.nt_event.specs.Waits.{is_of_thread}
 use Rattle.nt_event.specs.Words.{table, thread, timer}
 use Rattle.nt_event.proofs.Tables.{get_or-table, length-table_from}
-use Rattle.nt_timer.specs.Laws.{IsFirstDue, IsNotEarlier}
+use Rattle.nt_timer.specs.Laws.{IsFirstDue}
 use Rattle.nt_timer.specs.Settings.{setting_at}
 use Rattle.nt_timer.proofs.Order.{first_due_is_first}
 use Rattle.nt_laws.specs.Positions.{At, EachAfter}
-use Rattle.nt_laws.specs.ReadingsTimers.{IsDelaySet, IsDelaySetBy, IsFirstDueKey, IsKeySet, IsNotLater, IsPeriod, IsTimerSet, IsTimerSetBy, LeavesDelay, LeavesTimer, blocked_due, cancels_timer, due_blocked, expires_delay, expires_timer, named_due, named_period, sets_timer}
+use Rattle.nt_laws.specs.ReadingsTimers.{IsDelaySet, IsDelaySetBy, IsFirstDueKey, IsKeySet, IsPeriod, IsTimerSet, IsTimerSetBy, LeavesDelay, LeavesTimer, blocked_due, cancels_timer, due_blocked, expires_delay, expires_timer, named_due, named_period, sets_timer}
 use Rattle.nt_laws.proofs.ReadingsSeen.{at_before}
 use Rattle.nt_laws.proofs.ReadingsServed.{none_after}
 

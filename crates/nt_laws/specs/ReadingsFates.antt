@@ -1,6 +1,6 @@
 -- The fate of each insert, by positions in the history.
 use Rattle.std.specs.List.{Contains}
-use Rattle.std.specs.Prelude.{Bool, List, Some, false, length, true, ℕ, ◌<◌, ◌∷◌, ◌↔◌, ◌≡◌}
+use Rattle.std.specs.Prelude.{Bool, List, Some, false, length, true, ℕ, ◌<◌, ◌↔◌, ◌≡◌}
 use Rattle.nt_event.specs.declared.events.Event.{Event}
 use Rattle.nt_event.specs.declared.events.What.{What}
 use Rattle.nt_event.specs.declared.events.What.TheVariants.{Begin, Call, Flush}
