@@ -33,3 +33,4 @@ pub mod ReadingsFirstApcs
 pub mod ReadingsRegions
 pub mod ReadingsDeliverable
 pub mod ReadingsTimers
+pub mod ReadingsDeclared

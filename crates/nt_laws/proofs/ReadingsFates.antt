@@ -168,7 +168,7 @@ thing_dpc (Fire x Yes) d h = let same : x ≡ d = cc in ap (λ (d : DpcNo). Some
 thing_dpc (Call f (InsertApc a) Yes) d h = cc
 thing_dpc w d h = cc
 
-dpc_thing : (w : What) (d : DpcNo) → inserted_dpc w ≡ Some d → inserted_thing w ≡ Some (DpcThing d)
+pub dpc_thing : (w : What) (d : DpcNo) → inserted_dpc w ≡ Some d → inserted_thing w ≡ Some (DpcThing d)
 dpc_thing (Call f (Queue x) Yes) d h = let same : x ≡ d = cc in ap (λ (d : DpcNo). Some (DpcThing d)) same
 dpc_thing (Fire x Yes) d h = let same : x ≡ d = cc in ap (λ (d : DpcNo). Some (DpcThing d)) same
 dpc_thing w d h = cc
@@ -178,17 +178,17 @@ insert_at d n [] h = absurd h
 insert_at d n (e ∷ past) (inl h) = (queue_for (target_of d past) e.cpu, inl (h.0, thing_dpc e.what d h.1, refl))
 insert_at d n (e ∷ past) (inr h) = let k = insert_at d n past h in (k.0, inr k.1)
 
-at_insert : (p : CpuNo) (d : DpcNo) (n : ℕ) (past : List Event) → IsInsertedAt p d n past → IsInsert (DpcThing d) n past
+pub at_insert : (p : CpuNo) (d : DpcNo) (n : ℕ) (past : List Event) → IsInsertedAt p d n past → IsInsert (DpcThing d) n past
 at_insert p d n [] h = absurd h
 at_insert p d n (e ∷ past) (inl h) = inl (h.0, dpc_thing e.what d h.1)
 at_insert p d n (e ∷ past) (inr h) = inr (at_insert p d n past h)
 
-apc_at : (a : ApcNo) (n : ℕ) (past : List Event) → IsInsert (ApcThing a) n past → IsApcInsertedAt a n past
+pub apc_at : (a : ApcNo) (n : ℕ) (past : List Event) → IsInsert (ApcThing a) n past → IsApcInsertedAt a n past
 apc_at a n [] h = h
 apc_at a n (e ∷ past) (inl h) = inl h
 apc_at a n (e ∷ past) (inr h) = inr (apc_at a n past h)
 
-at_apc : (a : ApcNo) (n : ℕ) (past : List Event) → IsApcInsertedAt a n past → IsInsert (ApcThing a) n past
+pub at_apc : (a : ApcNo) (n : ℕ) (past : List Event) → IsApcInsertedAt a n past → IsInsert (ApcThing a) n past
 at_apc a n [] h = h
 at_apc a n (e ∷ past) (inl h) = inl h
 at_apc a n (e ∷ past) (inr h) = inr (at_apc a n past h)

@@ -9,3 +9,4 @@ pub mod ReadingsFates
 pub mod ReadingsFirstApcs
 pub mod ReadingsRegions
 pub mod ReadingsTimers
+pub mod ReadingsDeclared

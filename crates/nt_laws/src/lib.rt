@@ -19,11 +19,11 @@ pub use fates::{
 pub use readings::{
     a_delay_is_set_by_the_last_that_blocked, a_pending_apc_is_inserted_and_not_used_up,
     a_timer_is_set_by_its_last_set_event, an_apc_is_deliverable_by_level_and_regions,
-    an_insert_waits_where_it_is_pending, inserts_are_listed, own_frames_are_the_open_ones,
-    pending_apcs_stand_by_number, pending_is_inserted_and_not_used_up,
-    regions_are_enters_less_leaves, seen_is_the_greatest_that_was_noticed,
-    served_is_what_was_seen_at_the_last_service, the_fate_is_the_first_use,
-    the_first_apcs_are_by_kind_and_number, the_first_due_key_is_least,
+    an_insert_waits_where_it_is_pending, called_commands_fit, inserts_are_listed,
+    inserts_of_a_fitting_script, own_frames_are_the_open_ones, pending_apcs_stand_by_number,
+    pending_is_inserted_and_not_used_up, regions_are_enters_less_leaves,
+    seen_is_the_greatest_that_was_noticed, served_is_what_was_seen_at_the_last_service,
+    the_fate_is_the_first_use, the_first_apcs_are_by_kind_and_number, the_first_due_key_is_least,
     the_first_of_a_part_is_by_importance_and_number, the_innermost_frame_is_the_newest_open_one,
     the_running_thread_was_switched_to_last, thread_frames_are_the_open_ones,
 };

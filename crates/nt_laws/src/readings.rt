@@ -1,5 +1,6 @@
 //! Readings of the definitions by positions in the history.
 
+ghost use Rattle.nt_laws.specs.ReadingsDeclared.{CallsFit, InsertsOfFittingScripts};
 ghost use Rattle.nt_laws.specs.ReadingsTimers.{DelaysAreSetLast, FirstDueKeyIsLeast, TimersAreSetLast};
 ghost use Rattle.nt_laws.specs.ReadingsRegions.{DeliverableByRegions, RegionsAreCounted};
 ghost use Rattle.nt_laws.specs.ReadingsFirstApcs.{FirstApcsAreByKindAndNumber, PendingApcsFall};
@@ -122,4 +123,15 @@ pub fn a_delay_is_set_by_the_last_that_blocked()
 /// where none is.
 pub fn the_first_due_key_is_least()
     ensures { FirstDueKeyIsLeast }
+{}
+
+/// In a run of a script that fits, each command that is called names things that the script has.
+pub fn called_commands_fit()
+    ensures { CallsFit }
+{}
+
+/// In a run of a script that fits, the laws over inserts hold of every object: the object of each insert, or its thread, is one of the
+/// script; what is pending was inserted and not used up, and waits; an object has at most one pending insert.
+pub fn inserts_of_a_fitting_script()
+    ensures { InsertsOfFittingScripts }
 {}
