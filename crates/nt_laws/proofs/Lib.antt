@@ -30,7 +30,9 @@ pub mod ReadingsThreads
 pub mod ReadingsInnermost
 pub mod ReadingsFates
 pub mod ReadingsFirstApcs
+pub mod ReadingsFollow
 pub mod ReadingsRegions
 pub mod ReadingsDeliverable
 pub mod ReadingsTimers
 pub mod ReadingsDeclared
+pub mod ReadingsPhases

@@ -10,3 +10,4 @@ pub mod ReadingsFirstApcs
 pub mod ReadingsRegions
 pub mod ReadingsTimers
 pub mod ReadingsDeclared
+pub mod ReadingsPhases

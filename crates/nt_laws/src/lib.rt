@@ -17,6 +17,8 @@ pub use fates::{
     what_is_delivered_waits,
 };
 pub use readings::{
+    a_wait_is_taken_up_as_it_was_called,
+    frames_are_told_by_their_present_phase,
     a_delay_is_set_by_the_last_that_blocked, a_pending_apc_is_inserted_and_not_used_up,
     a_timer_is_set_by_its_last_set_event, an_apc_is_deliverable_by_level_and_regions,
     an_insert_waits_where_it_is_pending, called_commands_fit, inserts_are_listed,

@@ -1,5 +1,6 @@
 //! Readings of the definitions by positions in the history.
 
+ghost use Rattle.nt_laws.specs.ReadingsPhases.{FramesAreTold, WaitsAreTakenUpAsCalled};
 ghost use Rattle.nt_laws.specs.ReadingsDeclared.{CallsFit, InsertsOfFittingScripts};
 ghost use Rattle.nt_laws.specs.ReadingsTimers.{DelaysAreSetLast, FirstDueKeyIsLeast, TimersAreSetLast};
 ghost use Rattle.nt_laws.specs.ReadingsRegions.{DeliverableByRegions, RegionsAreCounted};
@@ -134,4 +135,17 @@ pub fn called_commands_fit()
 /// script; what is pending was inserted and not used up, and waits; an object has at most one pending insert.
 pub fn inserts_of_a_fitting_script()
     ensures { InsertsOfFittingScripts }
+{}
+
+/// Each open frame is told by the events of its present phase: in a run its level is that of its last accepted `raise` or `lower` in it,
+/// else its base level; its place is the count of its calls in it; it is in its kernel routine exactly where it is an APC's and has no
+/// Normal; a wait to take up is the last that it called in it, with that call's mode, kind and due time.
+pub fn frames_are_told_by_their_present_phase()
+    ensures { FramesAreTold }
+{}
+
+/// A wait is taken up as it was called: in a run a Rewait takes up the last wait or delay that its frame called in its present phase,
+/// with that call's mode, kind and due time.
+pub fn a_wait_is_taken_up_as_it_was_called()
+    ensures { WaitsAreTakenUpAsCalled }
 {}
