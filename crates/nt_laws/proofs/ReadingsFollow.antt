@@ -31,7 +31,7 @@ use Rattle.nt_event.proofs.Stops.{NoneAgain, none_again}
 use Rattle.nt_event.proofs.Turns.{is_next}
 use Rattle.nt_laws.specs.ReadingsFrames.{EachNamed, Falls, begun_inner, begun_own, switches_to}
 use Rattle.nt_laws.specs.ReadingsRegions.{EachFrame}
-use Rattle.nt_laws.proofs.ReadingsFrames.{IsOwnBegin, IsThreadBegin, at_both, each_map, falls_from, inner_not_switch, own_apart, own_begun, own_falls, thread_begun, thread_falls}
+use Rattle.nt_laws.proofs.ReadingsFrames.{IsOwnBegin, IsThreadBegin, at_both, each_map, inner_not_switch, own_apart, own_begun, own_falls, thread_begun, thread_falls}
 use Rattle.nt_laws.proofs.ReadingsThreads.{part_moves, part_of, part_same}
 
 pub not_equal : (m n : ℕ) → (m ≡ n → ⊥) → (m == n) ≡ false

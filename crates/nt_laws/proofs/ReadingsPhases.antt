@@ -1,7 +1,7 @@
 -- In a run each open frame has the level, place, phase and wait that the events of its present phase tell.
 use Rattle.std.proofs.Common.{ap, arith, inl, inr, subst, sym, ◌∙◌}
 use Rattle.std.proofs.lemmas.Bool.{both_ways, eq-eqb, lt-ltb}
-use Rattle.std.specs.Prelude.{Bool, List, None, Option, Some, [], false, if◌then◌else◌, length, nat_lt, refl, suc, true, ℕ, ◌&&◌, ◌+◌, ◌<◌, ◌==◌, ◌∷◌, ◌≡◌, ◌≤◌, ◌⊎◌}
+use Rattle.std.specs.Prelude.{Bool, List, None, Option, Some, false, if◌then◌else◌, length, refl, suc, true, ℕ, ◌+◌, ◌<◌, ◌==◌, ◌∷◌, ◌≡◌, ◌≤◌, ◌⊎◌}
 use Rattle.nt_event.specs.declared.commands.Command.{Command}
 use Rattle.nt_event.specs.declared.commands.Command.TheVariants.{Delay, Lower, Raise, StartWait}
 use Rattle.nt_event.specs.declared.commands.Reply.{Reply}
@@ -16,23 +16,23 @@ use Rattle.nt_event.specs.declared.frames.Frame.{Frame}
 use Rattle.nt_event.specs.declared.numbers.CpuNo.{CpuNo}
 use Rattle.nt_event.specs.declared.numbers.ThreadNo.{ThreadNo}
 use Rattle.nt_event.specs.declared.scripts.Script.{Script}
-use Rattle.nt_event.specs.Frames.{again_after, base_level, base_of, called, done_to, due_of, is_apc_body, is_base_body, left, new_frame, normal_of, resumed, rewaited, thread_frames, time}
+use Rattle.nt_event.specs.Frames.{again_after, base_level, base_of, called, due_of, is_apc_body, is_base_body, left, new_frame, normal_of, resumed, rewaited, thread_frames, time}
 use Rattle.nt_event.specs.Jobs.{has_normal}
 use Rattle.nt_event.specs.Lanes.{lanes_at}
 use Rattle.nt_event.specs.Own.{own_of}
 use Rattle.nt_event.specs.Regions.{stand_at}
 use Rattle.nt_event.specs.Routines.{cpu_of}
 use Rattle.nt_event.specs.Step.{IsRun}
-use Rattle.nt_event.specs.Words.{is_done, kernel_apc}
+use Rattle.nt_event.specs.Words.{kernel_apc}
 use Rattle.nt_event.proofs.Known.{Known, KnownRewait, again_known, legal_known}
 use Rattle.nt_event.proofs.Running.{running_here}
 use Rattle.nt_event.proofs.Turns.{is_next}
 use Rattle.nt_laws.specs.Positions.{At, EachAfter}
-use Rattle.nt_laws.specs.ReadingsPhases.{FramesTold, IsLastWait, IsLeveled, IsPhased, IsPlaced, IsTold, IsWaited, is_call_of, is_normal_of, is_wait_reply, level_set, wait_called}
+use Rattle.nt_laws.specs.ReadingsPhases.{FramesTold, IsLastWait, IsLeveled, IsPhased, IsTold, IsWaited, is_call_of, is_normal_of, is_wait_reply, level_set, wait_called}
 use Rattle.nt_laws.specs.ReadingsRegions.{EachFrame, count_after, phase_of, renews}
 use Rattle.nt_laws.proofs.ReadingsFollow.{Follows, IsAside, IsNamer, each_own, each_part, namer, not_equal}
 use Rattle.nt_laws.proofs.ReadingsFrames.{keep_called}
-use Rattle.nt_laws.proofs.ReadingsRegions.{IsSilent, count_none, count_silent, phase_below, phase_new, phase_silent, silent}
+use Rattle.nt_laws.proofs.ReadingsRegions.{count_none, count_silent, phase_below, phase_new, phase_silent, silent}
 use Rattle.nt_laws.proofs.ReadingsServed.{none_after}
 
 -- ---- phases

@@ -1,45 +1,38 @@
 -- In a run, the regions of a thread are the accepted enters less the accepted leaves of its open frames.
 use Rattle.std.proofs.Common.{ap, arith, inl, inr, subst, sym, ◌∙◌}
-use Rattle.std.proofs.lemmas.Bool.{both_ways, eq-eqb, eqb-true, le-ltb, lt-ltb, ltb-false, ltb-true}
+use Rattle.std.proofs.lemmas.Bool.{eq-eqb, le-ltb, lt-ltb, ltb-false, ltb-true}
 use Rattle.std.specs.List.{list_any}
-use Rattle.std.specs.Option.{option_or}
-use Rattle.std.specs.Prelude.{Bool, List, None, Option, Some, [], false, fold, if◌then◌else◌, length, nat_lt, not, refl, suc, true, zero, ℕ, ◌&&◌, ◌+◌, ◌-◌, ◌<◌, ◌==◌, ◌||◌, ◌∷◌, ◌≡◌, ◌≤◌, ◌⊎◌}
+use Rattle.std.specs.Prelude.{Bool, List, None, Option, Some, [], false, fold, if◌then◌else◌, length, nat_lt, not, refl, suc, true, zero, ℕ, ◌&&◌, ◌+◌, ◌-◌, ◌<◌, ◌==◌, ◌||◌, ◌∷◌, ◌≡◌, ◌≤◌}
 use Rattle.nt_event.specs.declared.commands.Command.{Command}
 use Rattle.nt_event.specs.declared.commands.Command.TheVariants.{Delay, EnterCrit, EnterGuard, LeaveCrit, LeaveGuard, Raise, StartWait}
 use Rattle.nt_event.specs.declared.commands.Refusal.TheVariants.{NotEntered, NotThread, TooHigh}
 use Rattle.nt_event.specs.declared.commands.Reply.{Reply}
 use Rattle.nt_event.specs.declared.commands.Reply.TheVariants.{Done}
-use Rattle.nt_event.specs.declared.events.Begun.TheVariants.{Apc}
 use Rattle.nt_event.specs.declared.events.Event.{Event}
 use Rattle.nt_event.specs.declared.events.What.{What}
-use Rattle.nt_event.specs.declared.events.What.TheVariants.{Begin, Call, End, Flush, Gone, Normal, Rewait, Switch}
+use Rattle.nt_event.specs.declared.events.What.TheVariants.{Call, End, Normal, Rewait, Switch}
 use Rattle.nt_event.specs.declared.frames.Body.{Body}
-use Rattle.nt_event.specs.declared.frames.Body.TheVariants.{Apc as OnApc, Base as OnBase, Rundown as OnRundown}
 use Rattle.nt_event.specs.declared.frames.Frame.{Frame}
 use Rattle.nt_event.specs.declared.frames.Region.{Region}
 use Rattle.nt_event.specs.declared.frames.Region.TheVariants.{Crit, Guard}
 use Rattle.nt_event.specs.declared.numbers.CpuNo.{CpuNo}
-use Rattle.nt_event.specs.declared.numbers.RoutineNo.{RoutineNo}
 use Rattle.nt_event.specs.declared.numbers.ThreadNo.{ThreadNo}
 use Rattle.nt_event.specs.declared.scripts.Script.{Script}
-use Rattle.nt_event.specs.Frames.{at_name, called, resumed, due_of, end_on_thread, flushed, frames_of, innermost, is_base_body, is_normal_apc_body, left, new_frame, normal_of, own_frames, rewaited, running, switched_to, thread_after, thread_frames, thread_part, time}
+use Rattle.nt_event.specs.Frames.{called, resumed, due_of, is_normal_apc_body, new_frame, thread_frames, time}
 use Rattle.nt_event.specs.Jobs.{level_at}
 use Rattle.nt_event.specs.Lanes.{Lanes, lanes_at}
 use Rattle.nt_event.specs.Own.{Own, own_of}
 use Rattle.nt_event.specs.Regions.{busy_of}
-use Rattle.nt_event.specs.Routines.{cpu_of, kind_of, rundown_of}
-use Rattle.nt_event.specs.Step.{IsRun, thread_field}
-use Rattle.nt_event.specs.Words.{head_of, is_by, is_done, is_null, is_thread}
+use Rattle.nt_event.specs.Routines.{cpu_of}
+use Rattle.nt_event.specs.Step.{IsRun}
+use Rattle.nt_event.specs.Words.{is_done, is_null}
 use Rattle.nt_event.proofs.Calm.{next_test}
-use Rattle.nt_event.proofs.Known.{Known, KnownCall, KnownEnd, KnownNormal, legal_known}
-use Rattle.nt_event.proofs.Running.{part_of_running, running_here, same_thread, thread_named}
-use Rattle.nt_event.proofs.Shared.{part_head, thread_runs}
+use Rattle.nt_event.proofs.Known.{KnownCall}
 use Rattle.nt_event.proofs.Stops.{call_accepted, refuse_none}
-use Rattle.nt_event.proofs.Turns.{is_next}
-use Rattle.nt_laws.specs.ReadingsFrames.{EachNamed, Falls, HasFrame, IsOpenOn, begun_inner, switches_to}
+use Rattle.nt_laws.specs.ReadingsFrames.{EachNamed, HasFrame, IsOpenOn}
 use Rattle.nt_laws.specs.ReadingsRegions.{EachFrame, IsCounted, IsNet, RegionsCounted, count_after, entered, exited, has_done, is_enter, is_leave, phase_of, renews}
 use Rattle.nt_laws.proofs.ReadingsFollow.{Follows, IsAside, each_part, not_equal}
-use Rattle.nt_laws.proofs.ReadingsFrames.{IsOwnBegin, IsThreadBegin, at_both, each_map, inner_not_switch, keep_called, own_apart, own_begun, thread_begun, thread_falls}
+use Rattle.nt_laws.proofs.ReadingsFrames.{keep_called}
 use Rattle.nt_laws.proofs.ReadingsThreads.{part_of, thread_lists}
 
 -- ---- phases and counts

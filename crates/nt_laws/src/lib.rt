@@ -17,11 +17,10 @@ pub use fates::{
     what_is_delivered_waits,
 };
 pub use readings::{
-    a_wait_is_taken_up_as_it_was_called,
-    frames_are_told_by_their_present_phase,
     a_delay_is_set_by_the_last_that_blocked, a_pending_apc_is_inserted_and_not_used_up,
-    a_timer_is_set_by_its_last_set_event, an_apc_is_deliverable_by_level_and_regions,
-    an_insert_waits_where_it_is_pending, called_commands_fit, inserts_are_listed,
+    a_timer_is_set_by_its_last_set_event, a_wait_is_taken_up_as_it_was_called,
+    an_apc_is_deliverable_by_level_and_regions, an_insert_waits_where_it_is_pending,
+    called_commands_fit, frames_are_told_by_their_present_phase, inserts_are_listed,
     inserts_of_a_fitting_script, own_frames_are_the_open_ones, pending_apcs_stand_by_number,
     pending_is_inserted_and_not_used_up, regions_are_enters_less_leaves,
     seen_is_the_greatest_that_was_noticed, served_is_what_was_seen_at_the_last_service,
