@@ -1,19 +1,25 @@
 //! Readings of the definitions by positions in the history.
 
-ghost use Rattle.nt_laws.specs.ReadingsPhases.{FramesAreTold, WaitsAreTakenUpAsCalled};
-ghost use Rattle.nt_laws.specs.ReadingsDeclared.{CallsFit, InsertsOfFittingScripts};
-ghost use Rattle.nt_laws.specs.ReadingsTimers.{DelaysAreSetLast, FirstDueKeyIsLeast, TimersAreSetLast};
-ghost use Rattle.nt_laws.specs.ReadingsRegions.{DeliverableByRegions, RegionsAreCounted};
-ghost use Rattle.nt_laws.specs.ReadingsFirstApcs.{FirstApcsAreByKindAndNumber, PendingApcsFall};
-ghost use Rattle.nt_laws.specs.ReadingsFates.{FateIsFirstUse, InsertsAreListed, WaitingIsPending};
-ghost use Rattle.nt_laws.specs.ReadingsFrames.{InnermostIsGreatest, OwnFramesAreOpen, RunningIsLastSwitched, ThreadFramesAreOpen};
-ghost use Rattle.nt_laws.specs.ReadingsSeen.{SeenIsGreatestNoticed, ServedIsSeenAtLastService};
 ghost use Rattle.nt_laws.specs.Readings.{FirstIsByImportanceAndNumber, PendingApcIsInsertedAndNotUsedUp, PendingIsInsertedAndNotUsedUp};
+ghost use Rattle.nt_laws.specs.ReadingsDeclared.{CallsFit, InsertsOfFittingScripts};
+ghost use Rattle.nt_laws.specs.ReadingsFates.{FateIsFirstUse, InsertsAreListed, WaitingIsPending};
+ghost use Rattle.nt_laws.specs.ReadingsFirstApcs.{FirstApcsAreByKindAndNumber, PendingApcsFall};
+ghost use Rattle.nt_laws.specs.ReadingsFrames.{InnermostIsGreatest, OwnFramesAreOpen, RunningIsLastSwitched, ThreadFramesAreOpen};
+ghost use Rattle.nt_laws.specs.ReadingsPhases.{FramesAreTold, WaitsAreTakenUpAsCalled};
+ghost use Rattle.nt_laws.specs.ReadingsRegions.{DeliverableByRegions, RegionsAreCounted};
+ghost use Rattle.nt_laws.specs.ReadingsSeen.{SeenIsGreatestNoticed, ServedIsSeenAtLastService};
+ghost use Rattle.nt_laws.specs.ReadingsTimers.{DelaysAreSetLast, FirstDueKeyIsLeast, TimersAreSetLast};
 
 /// Pending means inserted and not used up: in every run, an insert of a DPC object of the script is pending in a queue exactly
 /// where the event of its number put it there and no later event begins or removes it.
 pub fn pending_is_inserted_and_not_used_up()
     ensures { PendingIsInsertedAndNotUsedUp }
+{}
+
+/// The same of APCs: in every run, an insert of an APC object whose thread the script has is pending at that thread exactly where
+/// the event of its number made it and no later event begins, flushes or removes it.
+pub fn a_pending_apc_is_inserted_and_not_used_up()
+    ensures { PendingApcIsInsertedAndNotUsedUp }
 {}
 
 /// The first of a part is the pending insert of High importance of greatest number, else the pending one of least number, and
@@ -22,10 +28,43 @@ pub fn the_first_of_a_part_is_by_importance_and_number()
     ensures { FirstIsByImportanceAndNumber }
 {}
 
-/// The same of APCs: in every run, an insert of an APC object whose thread the script has is pending at that thread exactly where
-/// the event of its number made it and no later event begins, flushes or removes it.
-pub fn a_pending_apc_is_inserted_and_not_used_up()
-    ensures { PendingApcIsInsertedAndNotUsedUp }
+/// The pending APCs of a thread stand by their numbers, the greatest first, and each number is an earlier event's.
+pub fn pending_apcs_stand_by_number()
+    ensures { PendingApcsFall }
+{}
+
+/// The first kernel APC of a thread is the pending special one of least number, else the pending normal one of least number, and the
+/// first user APC is the pending user one of least number; there is none exactly where none is pending.
+pub fn the_first_apcs_are_by_kind_and_number()
+    ensures { FirstApcsAreByKindAndNumber }
+{}
+
+/// The fate of an insert is what the first later event that uses it up says: begun by it where it is a Begin, flushed where it is a
+/// Flush, removed where it is a call; it waits where no later event uses it up. No other fate is its.
+pub fn the_fate_is_the_first_use()
+    ensures { FateIsFirstUse }
+{}
+
+/// The inserts of a history are those that its events made, and the waiting ones are those of them that no later event uses up.
+pub fn inserts_are_listed()
+    ensures { InsertsAreListed }
+{}
+
+/// Waiting is pending: in a run an insert of a DPC object of the script, or of an APC object whose thread the script has, waits exactly
+/// where it is pending in the queue of a processor, or at its thread.
+pub fn an_insert_waits_where_it_is_pending()
+    ensures { WaitingIsPending }
+{}
+
+/// In a run of a script that fits, each command that is called names things that the script has.
+pub fn called_commands_fit()
+    ensures { CallsFit }
+{}
+
+/// In a run of a script that fits, the laws over inserts hold of every object: the object of each insert, or its thread, is one of the
+/// script; what is pending was inserted and not used up, and waits; an object has at most one pending insert.
+pub fn inserts_of_a_fitting_script()
+    ensures { InsertsOfFittingScripts }
 {}
 
 /// Seen is what was noticed: in a run, what a processor has seen of a class is the greatest n + 1 over the events n that ask for
@@ -66,32 +105,17 @@ pub fn the_innermost_frame_is_the_newest_open_one()
     ensures { InnermostIsGreatest }
 {}
 
-/// The fate of an insert is what the first later event that uses it up says: begun by it where it is a Begin, flushed where it is a
-/// Flush, removed where it is a call; it waits where no later event uses it up. No other fate is its.
-pub fn the_fate_is_the_first_use()
-    ensures { FateIsFirstUse }
+/// Each open frame is told by the events of its present phase: in a run its level is that of its last accepted `raise` or `lower` in it,
+/// else its base level; its place is the count of its calls in it; it is in its kernel routine exactly where it is an APC's and has no
+/// Normal; a wait to take up is the last that it called in it, with that call's mode, kind and due time.
+pub fn frames_are_told_by_their_present_phase()
+    ensures { FramesAreTold }
 {}
 
-/// The inserts of a history are those that its events made, and the waiting ones are those of them that no later event uses up.
-pub fn inserts_are_listed()
-    ensures { InsertsAreListed }
-{}
-
-/// Waiting is pending: in a run an insert of a DPC object of the script, or of an APC object whose thread the script has, waits exactly
-/// where it is pending in the queue of a processor, or at its thread.
-pub fn an_insert_waits_where_it_is_pending()
-    ensures { WaitingIsPending }
-{}
-
-/// The pending APCs of a thread stand by their numbers, the greatest first, and each number is an earlier event's.
-pub fn pending_apcs_stand_by_number()
-    ensures { PendingApcsFall }
-{}
-
-/// The first kernel APC of a thread is the pending special one of least number, else the pending normal one of least number, and the
-/// first user APC is the pending user one of least number; there is none exactly where none is pending.
-pub fn the_first_apcs_are_by_kind_and_number()
-    ensures { FirstApcsAreByKindAndNumber }
+/// A wait is taken up as it was called: in a run a Rewait takes up the last wait or delay that its frame called in its present phase,
+/// with that call's mode, kind and due time.
+pub fn a_wait_is_taken_up_as_it_was_called()
+    ensures { WaitsAreTakenUpAsCalled }
 {}
 
 /// The regions of a thread are counted: in a run, each of its open frames has entered what its accepted enters less its accepted leaves
@@ -124,28 +148,4 @@ pub fn a_delay_is_set_by_the_last_that_blocked()
 /// where none is.
 pub fn the_first_due_key_is_least()
     ensures { FirstDueKeyIsLeast }
-{}
-
-/// In a run of a script that fits, each command that is called names things that the script has.
-pub fn called_commands_fit()
-    ensures { CallsFit }
-{}
-
-/// In a run of a script that fits, the laws over inserts hold of every object: the object of each insert, or its thread, is one of the
-/// script; what is pending was inserted and not used up, and waits; an object has at most one pending insert.
-pub fn inserts_of_a_fitting_script()
-    ensures { InsertsOfFittingScripts }
-{}
-
-/// Each open frame is told by the events of its present phase: in a run its level is that of its last accepted `raise` or `lower` in it,
-/// else its base level; its place is the count of its calls in it; it is in its kernel routine exactly where it is an APC's and has no
-/// Normal; a wait to take up is the last that it called in it, with that call's mode, kind and due time.
-pub fn frames_are_told_by_their_present_phase()
-    ensures { FramesAreTold }
-{}
-
-/// A wait is taken up as it was called: in a run a Rewait takes up the last wait or delay that its frame called in its present phase,
-/// with that call's mode, kind and due time.
-pub fn a_wait_is_taken_up_as_it_was_called()
-    ensures { WaitsAreTakenUpAsCalled }
 {}
