@@ -1,0 +1,45 @@
+-- What is left at the close: in a settled run, nothing that a processor which isn't cut had still to do.
+use Rattle.std.specs.List.{Contains}
+use Rattle.std.specs.Prelude.{List, [], false, nat_lt, true, ℕ, ◌<◌, ◌≡◌}
+use Rattle.nt_event.specs.declared.events.Event.{Event}
+use Rattle.nt_event.specs.declared.inserts.Insert.{Insert}
+use Rattle.nt_event.specs.declared.inserts.Part.TheVariants.{Ordinary as OrdinaryPart, Threaded as ThreadedPart}
+use Rattle.nt_event.specs.declared.numbers.CpuNo.{CpuNo}
+use Rattle.nt_event.specs.declared.scripts.Script.{Script}
+use Rattle.nt_event.specs.Eligible.{Request, eligible}
+use Rattle.nt_event.specs.Own.{own_of, rested}
+use Rattle.nt_event.specs.Queues.{is_in, pending}
+use Rattle.nt_event.specs.Requests.{asked, served}
+use Rattle.nt_event.specs.Robin.{is_settled}
+use Rattle.nt_event.specs.Step.{IsRun, is_cut}
+
+-- the class was asked for on the processor, and no event of it since served the class
+abbrev pub IsWanted : Script → CpuNo → ℕ → List Event → Type 0
+IsWanted s p c past = served s p c past < asked s p c past
+
+-- the run is settled, and p is a processor of the script that isn't cut
+pub record IsClosed (s : Script) (limit : ℕ) (p : CpuNo) (past : List Event) : Type 0 where
+  pub run : IsRun s limit past
+  pub settled : is_settled s limit past ≡ true
+  pub named : nat_lt p.0 s.cpus ≡ true
+  pub uncut : is_cut limit (own_of s p past) ≡ false
+
+-- ---- what an open demand is asked for by
+
+-- in a run, while a threaded DPC is pending in the queue of p, class 0 is wanted there
+abbrev pub ThreadedIsWanted : Type 0
+ThreadedIsWanted = (s : Script) (limit : ℕ) (p : CpuNo) (x : Insert) (past : List Event) → IsRun s limit past → nat_lt p.0 s.cpus ≡ true → Contains (pending s p past) x → is_in ThreadedPart x ≡ true → IsWanted s p 0 past
+
+-- in a run, while p rests with an ordinary DPC pending in its queue, class 2 is wanted there
+abbrev pub OrdinaryIsWanted : Type 0
+OrdinaryIsWanted = (s : Script) (limit : ℕ) (p : CpuNo) (x : Insert) (past : List Event) → IsRun s limit past → nat_lt p.0 s.cpus ≡ true → rested p past ≡ true → Contains (pending s p past) x → is_in OrdinaryPart x ≡ true → IsWanted s p 2 past
+
+-- ---- at the close
+
+-- no request may be delivered
+abbrev pub NothingIsEligible : Type 0
+NothingIsEligible = (s : Script) (limit : ℕ) (p : CpuNo) (past : List Event) (r : Request) → IsClosed s limit p past → eligible s p r past ≡ false
+
+-- no DPC is pending
+abbrev pub NoDpcIsLeft : Type 0
+NoDpcIsLeft = (s : Script) (limit : ℕ) (p : CpuNo) (past : List Event) → IsClosed s limit p past → pending s p past ≡ []
