@@ -1,3 +1,7 @@
 pub mod Wanted
 pub mod Rests
 pub mod PendingDpcs
+pub mod AtRest
+pub mod Closed
+pub mod Woken
+pub mod ReadyThreads

@@ -1,17 +1,24 @@
 -- What is left at the close: in a settled run, nothing that a processor which isn't cut had still to do.
 use Rattle.std.specs.List.{Contains}
-use Rattle.std.specs.Prelude.{List, [], false, nat_lt, true, ℕ, ◌<◌, ◌≡◌}
+use Rattle.std.specs.Prelude.{Bool, List, [], false, nat_lt, true, ℕ, ◌<◌, ◌≡◌}
 use Rattle.nt_event.specs.declared.events.Event.{Event}
 use Rattle.nt_event.specs.declared.inserts.Insert.{Insert}
 use Rattle.nt_event.specs.declared.inserts.Part.TheVariants.{Ordinary as OrdinaryPart, Threaded as ThreadedPart}
 use Rattle.nt_event.specs.declared.numbers.CpuNo.{CpuNo}
+use Rattle.nt_event.specs.declared.numbers.ThreadNo.{ThreadNo}
 use Rattle.nt_event.specs.declared.scripts.Script.{Script}
+use Rattle.nt_event.specs.declared.threads.Doing.{Doing}
+use Rattle.nt_event.specs.declared.threads.Doing.TheVariants.{Blocked as IsBlocked, Gone as IsGone}
 use Rattle.nt_event.specs.Eligible.{Request, eligible}
 use Rattle.nt_event.specs.Own.{own_of, rested}
 use Rattle.nt_event.specs.Queues.{is_in, pending}
 use Rattle.nt_event.specs.Requests.{asked, served}
 use Rattle.nt_event.specs.Robin.{is_settled}
+use Rattle.nt_event.specs.Routines.{cpu_of}
+use Rattle.nt_event.specs.Script.{has_thread}
 use Rattle.nt_event.specs.Step.{IsRun, is_cut}
+use Rattle.nt_event.specs.Threads.{is_ready}
+use Rattle.nt_event.specs.Waits.{facts}
 
 -- the class was asked for on the processor, and no event of it since served the class
 abbrev pub IsWanted : Script → CpuNo → ℕ → List Event → Type 0
@@ -34,6 +41,10 @@ ThreadedIsWanted = (s : Script) (limit : ℕ) (p : CpuNo) (x : Insert) (past : L
 abbrev pub OrdinaryIsWanted : Type 0
 OrdinaryIsWanted = (s : Script) (limit : ℕ) (p : CpuNo) (x : Insert) (past : List Event) → IsRun s limit past → nat_lt p.0 s.cpus ≡ true → rested p past ≡ true → Contains (pending s p past) x → is_in OrdinaryPart x ≡ true → IsWanted s p 2 past
 
+-- in a run, while p rests with a thread of its own ready, class 2 is wanted there
+abbrev pub ReadyIsWanted : Type 0
+ReadyIsWanted = (s : Script) (limit : ℕ) (p : CpuNo) (t : ThreadNo) (past : List Event) → IsRun s limit past → has_thread s t ≡ true → (cpu_of s t).0 ≡ p.0 → rested p past ≡ true → is_ready (facts s t past) ≡ true → IsWanted s p 2 past
+
 -- ---- at the close
 
 -- no request may be delivered
@@ -43,3 +54,13 @@ NothingIsEligible = (s : Script) (limit : ℕ) (p : CpuNo) (past : List Event) (
 -- no DPC is pending
 abbrev pub NoDpcIsLeft : Type 0
 NoDpcIsLeft = (s : Script) (limit : ℕ) (p : CpuNo) (past : List Event) → IsClosed s limit p past → pending s p past ≡ []
+
+-- it is neither ready nor running
+abbrev pub is_stopped : Doing → Bool
+is_stopped (IsBlocked w) = true
+is_stopped IsGone = true
+is_stopped _ = false
+
+-- each thread of the processor is blocked or gone
+abbrev pub NoThreadIsLeft : Type 0
+NoThreadIsLeft = (s : Script) (limit : ℕ) (p : CpuNo) (t : ThreadNo) (past : List Event) → IsClosed s limit p past → has_thread s t ≡ true → (cpu_of s t).0 ≡ p.0 → is_stopped (facts s t past).doing ≡ true

@@ -3,7 +3,7 @@
 //! The definitions stand in nt_event. A history is settled where each processor is cut or rests and has seen what was asked.
 #![tactic(auto)]
 
-ghost use Rattle.nt_close.specs.Close.{OrdinaryIsWanted, ThreadedIsWanted};
+ghost use Rattle.nt_close.specs.Close.{NoDpcIsLeft, NoThreadIsLeft, NothingIsEligible, OrdinaryIsWanted, ReadyIsWanted, ThreadedIsWanted};
 
 /// A pending threaded DPC is wanted: in every run, while one is pending in the queue of a processor of the script, class 0 was asked for
 /// there and no event of the processor has served it since.
@@ -15,4 +15,25 @@ pub fn a_pending_threaded_dpc_is_wanted()
 /// class 2 was asked for there and no event of the processor has served it since.
 pub fn a_pending_ordinary_dpc_is_wanted_at_rest()
     ensures { OrdinaryIsWanted }
+{}
+
+/// A ready thread is wanted at rest: in every run, while a thread is ready whose processor rests, class 2 was asked for there and no event of
+/// the processor has served it since.
+pub fn a_ready_thread_is_wanted_at_rest()
+    ensures { ReadyIsWanted }
+{}
+
+/// Nothing is eligible at the close: in a settled run, no request may be delivered on a processor of the script that isn't cut.
+pub fn nothing_is_eligible()
+    ensures { NothingIsEligible }
+{}
+
+/// No DPC is left at the close: in a settled run, no DPC is pending in the queue of a processor of the script that isn't cut.
+pub fn no_dpc_is_left()
+    ensures { NoDpcIsLeft }
+{}
+
+/// No thread is left at the close: in a settled run, each thread of a processor that isn't cut is blocked or gone.
+pub fn no_thread_is_left()
+    ensures { NoThreadIsLeft }
 {}
