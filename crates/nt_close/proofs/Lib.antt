@@ -5,3 +5,4 @@ pub mod AtRest
 pub mod Closed
 pub mod Woken
 pub mod ReadyThreads
+pub mod Quiet

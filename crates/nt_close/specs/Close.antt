@@ -9,6 +9,7 @@ use Rattle.nt_event.specs.declared.numbers.ThreadNo.{ThreadNo}
 use Rattle.nt_event.specs.declared.scripts.Script.{Script}
 use Rattle.nt_event.specs.declared.threads.Doing.{Doing}
 use Rattle.nt_event.specs.declared.threads.Doing.TheVariants.{Blocked as IsBlocked, Gone as IsGone}
+use Rattle.nt_event.specs.declared.threads.Waiting.{Waiting}
 use Rattle.nt_event.specs.Eligible.{Request, eligible}
 use Rattle.nt_event.specs.Own.{own_of, rested}
 use Rattle.nt_event.specs.Queues.{is_in, pending}
@@ -19,6 +20,7 @@ use Rattle.nt_event.specs.Script.{has_thread}
 use Rattle.nt_event.specs.Step.{IsRun, is_cut}
 use Rattle.nt_event.specs.Threads.{is_ready}
 use Rattle.nt_event.specs.Waits.{facts}
+use Rattle.nt_thread.specs.Quiet.{IsQuiet}
 
 -- the class was asked for on the processor, and no event of it since served the class
 abbrev pub IsWanted : Script → CpuNo → ℕ → List Event → Type 0
@@ -64,3 +66,8 @@ is_stopped _ = false
 -- each thread of the processor is blocked or gone
 abbrev pub NoThreadIsLeft : Type 0
 NoThreadIsLeft = (s : Script) (limit : ℕ) (p : CpuNo) (t : ThreadNo) (past : List Event) → IsClosed s limit p past → has_thread s t ≡ true → (cpu_of s t).0 ≡ p.0 → is_stopped (facts s t past).doing ≡ true
+
+-- in a run, at the close as at any time, a thread that is blocked in a wait has no kernel APC that is deliverable at the level and in
+-- the regions of the wait, and where it is an alertable wait of user mode no user APC
+abbrev pub NothingWaitsBehindABlock : Type 0
+NothingWaitsBehindABlock = (s : Script) (limit : ℕ) (t : ThreadNo) (w : Waiting) (past : List Event) → IsRun s limit past → has_thread s t ≡ true → (facts s t past).doing ≡ IsBlocked w → IsQuiet w (facts s t past).apcs

@@ -3,7 +3,7 @@
 //! The definitions stand in nt_event. A history is settled where each processor is cut or rests and has seen what was asked.
 #![tactic(auto)]
 
-ghost use Rattle.nt_close.specs.Close.{NoDpcIsLeft, NoThreadIsLeft, NothingIsEligible, OrdinaryIsWanted, ReadyIsWanted, ThreadedIsWanted};
+ghost use Rattle.nt_close.specs.Close.{NoDpcIsLeft, NoThreadIsLeft, NothingIsEligible, NothingWaitsBehindABlock, OrdinaryIsWanted, ReadyIsWanted, ThreadedIsWanted};
 
 /// A pending threaded DPC is wanted: in every run, while one is pending in the queue of a processor of the script, class 0 was asked for
 /// there and no event of the processor has served it since.
@@ -36,4 +36,10 @@ pub fn no_dpc_is_left()
 /// No thread is left at the close: in a settled run, each thread of a processor that isn't cut is blocked or gone.
 pub fn no_thread_is_left()
     ensures { NoThreadIsLeft }
+{}
+
+/// Nothing waits behind a block: in every run, so in a settled one too, a thread that is blocked in a wait has no kernel APC that is
+/// deliverable at the level and in the regions of the wait, and where the wait is an alertable one of user mode no user APC.
+pub fn nothing_waits_behind_a_block()
+    ensures { NothingWaitsBehindABlock }
 {}
