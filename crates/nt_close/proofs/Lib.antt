@@ -6,3 +6,5 @@ pub mod Closed
 pub mod Woken
 pub mod ReadyThreads
 pub mod Quiet
+pub mod DueKeys
+pub mod Owed

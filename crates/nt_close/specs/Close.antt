@@ -1,6 +1,6 @@
 -- What is left at the close: in a settled run, nothing that a processor which isn't cut had still to do.
 use Rattle.std.specs.List.{Contains}
-use Rattle.std.specs.Prelude.{Bool, List, [], false, nat_lt, true, ℕ, ◌<◌, ◌≡◌}
+use Rattle.std.specs.Prelude.{Bool, List, None, Some, [], false, nat_lt, true, ℕ, ◌<◌, ◌≡◌, ◌⊎◌}
 use Rattle.nt_event.specs.declared.events.Event.{Event}
 use Rattle.nt_event.specs.declared.inserts.Insert.{Insert}
 use Rattle.nt_event.specs.declared.inserts.Part.TheVariants.{Ordinary as OrdinaryPart, Threaded as ThreadedPart}
@@ -13,12 +13,14 @@ use Rattle.nt_event.specs.declared.threads.Waiting.{Waiting}
 use Rattle.nt_event.specs.Eligible.{Request, eligible}
 use Rattle.nt_event.specs.Own.{own_of, rested}
 use Rattle.nt_event.specs.Queues.{is_in, pending}
+use Rattle.nt_event.specs.Regions.{owes_sweep}
 use Rattle.nt_event.specs.Requests.{asked, served}
 use Rattle.nt_event.specs.Robin.{is_settled}
 use Rattle.nt_event.specs.Routines.{cpu_of}
 use Rattle.nt_event.specs.Script.{has_thread}
 use Rattle.nt_event.specs.Step.{IsRun, is_cut}
 use Rattle.nt_event.specs.Threads.{is_ready}
+use Rattle.nt_event.specs.Timers.{SetKey, first_due, timers_at}
 use Rattle.nt_event.specs.Waits.{facts}
 use Rattle.nt_thread.specs.Quiet.{IsQuiet}
 
@@ -47,6 +49,16 @@ OrdinaryIsWanted = (s : Script) (limit : ℕ) (p : CpuNo) (x : Insert) (past : L
 abbrev pub ReadyIsWanted : Type 0
 ReadyIsWanted = (s : Script) (limit : ℕ) (p : CpuNo) (t : ThreadNo) (past : List Event) → IsRun s limit past → has_thread s t ≡ true → (cpu_of s t).0 ≡ p.0 → rested p past ≡ true → is_ready (facts s t past) ≡ true → IsWanted s p 2 past
 
+-- some processor of the script wants class 13, that of the clock interrupt, or owes a sweep of the timers
+pub record IsOwed (s : Script) (past : List Event) : Type 0 where
+  pub cpu : CpuNo
+  pub named : nat_lt cpu.0 s.cpus ≡ true
+  pub why : IsWanted s cpu 13 past ⊎ (owes_sweep cpu past ≡ true)
+
+-- in a run, while a key is due, a sweep is owed or asked for
+abbrev pub DueKeyIsOwed : Type 0
+DueKeyIsOwed = (s : Script) (limit : ℕ) (k : SetKey) (past : List Event) → IsRun s limit past → first_due (timers_at s past) ≡ Some k → IsOwed s past
+
 -- ---- at the close
 
 -- no request may be delivered
@@ -71,3 +83,7 @@ NoThreadIsLeft = (s : Script) (limit : ℕ) (p : CpuNo) (t : ThreadNo) (past : L
 -- the regions of the wait, and where it is an alertable wait of user mode no user APC
 abbrev pub NothingWaitsBehindABlock : Type 0
 NothingWaitsBehindABlock = (s : Script) (limit : ℕ) (t : ThreadNo) (w : Waiting) (past : List Event) → IsRun s limit past → has_thread s t ≡ true → (facts s t past).doing ≡ IsBlocked w → IsQuiet w (facts s t past).apcs
+
+-- no key is due, where no processor of the script is cut
+abbrev pub NoDueKeyIsLeft : Type 0
+NoDueKeyIsLeft = (s : Script) (limit : ℕ) (past : List Event) → IsRun s limit past → is_settled s limit past ≡ true → ((p : CpuNo) → nat_lt p.0 s.cpus ≡ true → is_cut limit (own_of s p past) ≡ false) → first_due (timers_at s past) ≡ None

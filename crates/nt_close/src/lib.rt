@@ -3,7 +3,7 @@
 //! The definitions stand in nt_event. A history is settled where each processor is cut or rests and has seen what was asked.
 #![tactic(auto)]
 
-ghost use Rattle.nt_close.specs.Close.{NoDpcIsLeft, NoThreadIsLeft, NothingIsEligible, NothingWaitsBehindABlock, OrdinaryIsWanted, ReadyIsWanted, ThreadedIsWanted};
+ghost use Rattle.nt_close.specs.Close.{DueKeyIsOwed, NoDpcIsLeft, NoDueKeyIsLeft, NoThreadIsLeft, NothingIsEligible, NothingWaitsBehindABlock, OrdinaryIsWanted, ReadyIsWanted, ThreadedIsWanted};
 
 /// A pending threaded DPC is wanted: in every run, while one is pending in the queue of a processor of the script, class 0 was asked for
 /// there and no event of the processor has served it since.
@@ -21,6 +21,12 @@ pub fn a_pending_ordinary_dpc_is_wanted_at_rest()
 /// the processor has served it since.
 pub fn a_ready_thread_is_wanted_at_rest()
     ensures { ReadyIsWanted }
+{}
+
+/// A due key is owed: in every run, while a timer or a delay is due, some processor of the script owes a sweep of the timers, or class 13,
+/// that of the clock interrupt, was asked for there and no event of the processor has served it since.
+pub fn a_due_key_is_owed()
+    ensures { DueKeyIsOwed }
 {}
 
 /// Nothing is eligible at the close: in a settled run, no request may be delivered on a processor of the script that isn't cut.
@@ -42,4 +48,10 @@ pub fn no_thread_is_left()
 /// deliverable at the level and in the regions of the wait, and where the wait is an alertable one of user mode no user APC.
 pub fn nothing_waits_behind_a_block()
     ensures { NothingWaitsBehindABlock }
+{}
+
+/// A due key is left only where a processor is cut: in a settled run in which no processor of the script is cut, no timer and no delay is
+/// due.
+pub fn a_due_key_is_left_only_where_a_processor_is_cut()
+    ensures { NoDueKeyIsLeft }
 {}
