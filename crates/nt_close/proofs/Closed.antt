@@ -1,9 +1,9 @@
 -- At the close, nothing is eligible on a processor that isn't cut, and no DPC is pending there.
 use Rattle.std.proofs.Common.{ap, arith, subst, sym, ◌∙◌}
 use Rattle.std.proofs.lemmas.Bool.{lt-ltb}
-use Rattle.std.specs.List.{Contains, list_any}
+use Rattle.std.specs.List.{Contains}
 use Rattle.std.specs.Option.{option_map_or}
-use Rattle.std.specs.Prelude.{Bool, List, None, Option, Some, [], false, nat_lt, not, refl, suc, true, zero, ℕ, ◌&&◌, ◌==◌, ◌∷◌, ◌≡◌}
+use Rattle.std.specs.Prelude.{Bool, List, Option, [], false, nat_lt, not, refl, suc, true, zero, ℕ, ◌&&◌, ◌∷◌, ◌≡◌}
 use Rattle.nt_event.specs.declared.events.Event.{Event}
 use Rattle.nt_event.specs.declared.frames.Frame.{Frame}
 use Rattle.nt_event.specs.declared.inserts.Insert.{Insert}
@@ -14,17 +14,17 @@ use Rattle.nt_event.specs.declared.numbers.DpcNo.{DpcNo}
 use Rattle.nt_event.specs.declared.numbers.ThreadNo.{ThreadNo}
 use Rattle.nt_event.specs.declared.scripts.Script.{Script}
 use Rattle.nt_event.specs.Eligible.{DpcRequest, ExpiryRequest, FlushRequest, IntRequest, KernelApcRequest, Request, ThreadedRequest, UserApcRequest, eligible, is_at_base, is_first_dpc, is_interrupt_level}
-use Rattle.nt_event.specs.Frames.{frames_in, frames_of, innermost, is_base_body, is_on_thread, own_frames, running, thread_part}
-use Rattle.nt_event.specs.Jobs.{interrupt_classes, is_due, level_at}
+use Rattle.nt_event.specs.Frames.{frames_in, frames_of, is_base_body, is_on_thread, own_frames, thread_part}
+use Rattle.nt_event.specs.Jobs.{is_due}
 use Rattle.nt_event.specs.Lanes.{lanes_at, queue_at}
 use Rattle.nt_event.specs.Own.{own_of}
-use Rattle.nt_event.specs.Queues.{QueueState, first_dpc, is_in, is_of_dpc, pending, queue_of, same_part}
+use Rattle.nt_event.specs.Queues.{first_dpc, is_of_dpc, pending, same_part}
 use Rattle.nt_event.specs.Regions.{owes_sweep}
 use Rattle.nt_event.specs.Words.{is_null}
 use Rattle.nt_laws.proofs.FatesDeliveries.{queue_there}
 use Rattle.nt_laws.proofs.FatesElements.{contains_here}
 use Rattle.nt_close.specs.Close.{IsClosed}
-use Rattle.nt_close.proofs.AtRest.{IsAtRest, closed_rests, no_interrupt, no_sweep, none_wanted_0, none_wanted_2, rest_inner, rest_level}
+use Rattle.nt_close.proofs.AtRest.{IsAtRest, closed_rests, no_interrupt, no_sweep, none_wanted_0, none_wanted_2, rest_inner}
 use Rattle.nt_close.proofs.PendingDpcs.{ordinary_wanted, threaded_wanted}
 
 -- ---- no DPC is pending

@@ -1,40 +1,38 @@
 -- In a run, while a key is due, some processor wants the clock interrupt or owes a sweep of the timers.
 use Rattle.std.proofs.Common.{ap, arith, inl, inr, subst, sym, ◌∙◌}
-use Rattle.std.proofs.lemmas.Bool.{eq-eqb, eqb-true, le-leb, lt-ltb, ltb-false, ltb-true}
+use Rattle.std.proofs.lemmas.Bool.{eq-eqb, eqb-true, le-leb, ltb-false, ltb-true}
 use Rattle.std.proofs.lemmas.List.{get_or_past}
-use Rattle.std.specs.Prelude.{Bool, List, MatchOption, None, Option, Some, [], false, get_or, if◌then◌else◌, is_some, length, nat_le, nat_lt, not, option_and_then, option_map, refl, true, ℕ, ◌&&◌, ◌+◌, ◌<◌, ◌==◌, ◌||◌, ◌∷◌, ◌≡◌, ◌≤◌, ◌⊎◌}
-use Rattle.nt_event.specs.declared.commands.Command.{Command}
-use Rattle.nt_event.specs.declared.commands.Command.TheVariants.{CancelTimer, Clock, Delay, SetTimer}
+use Rattle.std.specs.Prelude.{Bool, List, MatchOption, None, Option, Some, false, get_or, if◌then◌else◌, is_some, length, nat_lt, not, option_map, refl, true, ℕ, ◌&&◌, ◌+◌, ◌<◌, ◌==◌, ◌∷◌, ◌≡◌, ◌≤◌, ◌⊎◌}
+use Rattle.nt_event.specs.declared.commands.Command.TheVariants.{Clock, Delay, SetTimer}
 use Rattle.nt_event.specs.declared.commands.Mode.{Mode}
 use Rattle.nt_event.specs.declared.commands.Regions.{Regions}
 use Rattle.nt_event.specs.declared.commands.Reply.{Reply}
-use Rattle.nt_event.specs.declared.commands.Reply.TheVariants.{Blocked, Done, Status, Yes}
+use Rattle.nt_event.specs.declared.commands.Reply.TheVariants.{Blocked, Done, Status}
 use Rattle.nt_event.specs.declared.commands.TimerKey.{TimerKey}
 use Rattle.nt_event.specs.declared.commands.TimerKey.TheVariants.{Delay as OfDelay, Timer as OfTimer}
 use Rattle.nt_event.specs.declared.events.Begun.TheVariants.{Int}
 use Rattle.nt_event.specs.declared.events.Event.{Event}
 use Rattle.nt_event.specs.declared.events.What.{What}
-use Rattle.nt_event.specs.declared.events.What.TheVariants.{Begin, Call, Clean, Expire, Rewait}
-use Rattle.nt_event.specs.declared.frames.Again.{Again}
+use Rattle.nt_event.specs.declared.events.What.TheVariants.{Begin, Call, Clean, Expire}
 use Rattle.nt_event.specs.declared.inserts.Setting.{Setting}
 use Rattle.nt_event.specs.declared.numbers.CpuNo.{CpuNo}
-use Rattle.nt_event.specs.declared.numbers.ThreadNo.{ThreadNo}
 use Rattle.nt_event.specs.declared.numbers.TimerNo.{TimerNo}
 use Rattle.nt_event.specs.declared.scripts.Script.{Script}
 use Rattle.nt_event.specs.Apcs.{deliverable}
 use Rattle.nt_event.specs.Commands.{is_reached}
-use Rattle.nt_event.specs.Frames.{time, time_after}
+use Rattle.nt_event.specs.Frames.{time}
 use Rattle.nt_event.specs.Lanes.{facts_of, lanes_at}
-use Rattle.nt_event.specs.Own.{own_of, standing_in}
+use Rattle.nt_event.specs.Own.{own_of}
 use Rattle.nt_event.specs.Regions.{owes_sweep, stand_at, sweep_after}
 use Rattle.nt_event.specs.Requests.{asks, serves}
 use Rattle.nt_event.specs.Step.{IsLegal, IsRun}
-use Rattle.nt_event.specs.Threads.{ThreadFacts, is_alerted}
-use Rattle.nt_event.specs.Timers.{SetKey, Timers, blocked_after, delay_set, delay_setting, expired_delay, first_due, setting_in, timer_after, timer_setting, timers_at}
-use Rattle.nt_event.specs.Waits.{is_of_thread, wait_reply}
+use Rattle.nt_event.specs.Threads.{ThreadFacts}
+use Rattle.nt_event.specs.Timers.{SetKey, delay_setting, first_due, timer_setting, timers_at}
+use Rattle.nt_event.specs.Waits.{wait_reply}
 use Rattle.nt_event.specs.Words.{is_answer, is_of, kernel_apc, satisfied, thread, timer, when}
-use Rattle.nt_event.proofs.Known.{Known, KnownCall, KnownClean, KnownRewait, again_known, legal_known}
+use Rattle.nt_event.proofs.Known.{Known, KnownCall, KnownClean, KnownRewait, legal_known}
 use Rattle.nt_event.proofs.Options.{both}
+use Rattle.nt_event.proofs.Robin.{or_yes}
 use Rattle.nt_event.proofs.Running.{same_cpu}
 use Rattle.nt_event.proofs.Stops.{call_accepted}
 use Rattle.nt_event.proofs.Tables.{get_or-table, length-table_from}
@@ -123,16 +121,8 @@ owes_own s limit e past g h =
 
 -- a processor goes on to owe its sweep but after its Clean of class 2
 sweep_keeps : (w : What) → (w ≡ Clean 2 → ⊥) → sweep_after w true ≡ true
-sweep_keeps (Begin (Int level) from) h = or_true (level == 13)
-  where
-    or_true : (b : Bool) → (b || true) ≡ true
-    or_true true = refl
-    or_true false = refl
-sweep_keeps (Call f (SetTimer t due period) y) h = or_true (is_answer y && (due == 0))
-  where
-    or_true : (b : Bool) → (b || true) ≡ true
-    or_true true = refl
-    or_true false = refl
+sweep_keeps (Begin (Int level) from) h = or_yes (level == 13) true refl
+sweep_keeps (Call f (SetTimer t due period) y) h = or_yes (is_answer y && (due == 0)) true refl
 sweep_keeps (Clean c) h = go (c == 2) refl
   where
     go : (b : Bool) → (c == 2) ≡ b → (not b && true) ≡ true
@@ -232,7 +222,6 @@ pub delay_blocks : {A : Type 0} (s : Script) (limit : ℕ) (e : Event) (past : L
 delay_blocks s limit e past f m a units g i d =
     let known : KnownCall s e.cpu (own_of s e.cpu past) (lanes_at s past) f (Delay m a units) Blocked = subst (λ (w : What). is_next w ≡ true → Known s e.cpu (own_of s e.cpu past) (lanes_at s past) w) i (legal_known s limit e past g) refl in
     let replied = (call_accepted s e.cpu (own_of s e.cpu past) (lanes_at s past) f (Delay m a units) Blocked known refl).1 in
-    let st = stand_at s e.cpu past in
     reached_answers (facts_of (lanes_at s past) (stand_at s e.cpu past).thread) (stand_at s e.cpu past).regions (stand_at s e.cpu past).level m a (is_reached (time past) (time past + units)) (le-leb (time past + units) (time past) d) (sym replied)
 
 pub rewait_blocks : {A : Type 0} (s : Script) (e : Event) (past : List Event) (f due : ℕ) → (k : KnownRewait e.cpu (own_of s e.cpu past) (lanes_at s past) f Blocked) → k.wait.due ≡ Some due → due ≤ time past → A

@@ -1,5 +1,5 @@
 -- A due key is owed: by induction over the run; and at the close one is left only where a processor is cut.
-use Rattle.std.proofs.Common.{ap, arith, inl, inr, subst, sym, ◌∙◌}
+use Rattle.std.proofs.Common.{ap, arith, inl, inr, subst, ◌∙◌}
 use Rattle.std.specs.Prelude.{Bool, List, None, Option, Some, [], false, if◌then◌else◌, length, nat_lt, option_and_then, refl, true, ℕ, ◌&&◌, ◌+◌, ◌==◌, ◌∷◌, ◌≡◌, ◌≤◌, ◌⊎◌}
 use Rattle.nt_event.specs.declared.commands.Command.TheVariants.{CancelTimer, Clock, Delay, SetTimer}
 use Rattle.nt_event.specs.declared.commands.Reply.{Reply}
@@ -29,7 +29,7 @@ use Rattle.nt_event.proofs.Options.{both}
 use Rattle.nt_event.proofs.Turns.{is_next}
 use Rattle.nt_close.specs.Close.{IsClosed, IsOwed, IsWanted}
 use Rattle.nt_close.proofs.AtRest.{closed_rests, no_sweep, none_wanted_13}
-use Rattle.nt_close.proofs.DueKeys.{IsDueAt, clock_owes, delay_blocks, due_before, expiry_owes, first_is_due, has_key, rewait_blocks, set_at, set_owes}
+use Rattle.nt_close.proofs.DueKeys.{IsDueAt, clock_owes, delay_blocks, due_before, expiry_owes, first_is_due, has_key, rewait_blocks, set_owes}
 
 -- ---- timers
 

@@ -1,8 +1,8 @@
 -- In a run, pending DPCs are asked for: a threaded one always, an ordinary one where its processor rests.
 use Rattle.std.proofs.Common.{ap, arith, inl, inr, subst, sym, ◌∙◌}
-use Rattle.std.proofs.lemmas.Bool.{both_ways, eq-eqb, eqb-true, ltb-true}
+use Rattle.std.proofs.lemmas.Bool.{both_ways, eq-eqb, eqb-true}
 use Rattle.std.specs.List.{Contains, list_any}
-use Rattle.std.specs.Prelude.{Bool, List, None, Option, Some, [], false, filter, if◌then◌else◌, length, nat_lt, not, refl, true, ℕ, ◌&&◌, ◌+◌, ◌==◌, ◌||◌, ◌∷◌, ◌≡◌, ◌⊎◌}
+use Rattle.std.specs.Prelude.{Bool, List, None, Option, Some, [], false, if◌then◌else◌, length, nat_lt, not, refl, true, ℕ, ◌+◌, ◌==◌, ◌∷◌, ◌≡◌, ◌⊎◌}
 use Rattle.nt_event.specs.declared.commands.Command.TheVariants.{Queue}
 use Rattle.nt_event.specs.declared.commands.Importance.{Importance}
 use Rattle.nt_event.specs.declared.commands.Importance.TheVariants.{High, Low, Medium, MediumHigh}
@@ -16,15 +16,15 @@ use Rattle.nt_event.specs.declared.inserts.Part.TheVariants.{Ordinary as Ordinar
 use Rattle.nt_event.specs.declared.numbers.CpuNo.{CpuNo}
 use Rattle.nt_event.specs.declared.numbers.DpcNo.{DpcNo}
 use Rattle.nt_event.specs.declared.scripts.Script.{Script}
-use Rattle.nt_event.specs.Lanes.{Lanes, lanes_at, object_at, queue_at}
+use Rattle.nt_event.specs.Lanes.{lanes_at, object_at, queue_at}
 use Rattle.nt_event.specs.Objects.{ObjectState, inserted_dpc, object_in, objects_at, queue_for, used_up_dpc}
 use Rattle.nt_event.specs.Own.{own_of, rested}
-use Rattle.nt_event.specs.Queues.{QueueState, add_insert, depth_of, drop_insert, first_dpc, insert_asks, is_idle, is_in, is_of_dpc, is_queue, left_queue, new_insert, pending, queue_of, same_part, without_dpc}
+use Rattle.nt_event.specs.Queues.{QueueState, add_insert, depth_of, drop_insert, first_dpc, insert_asks, is_in, is_of_dpc, is_queue, left_queue, new_insert, pending, same_part, without_dpc}
 use Rattle.nt_event.specs.Regions.{stand_at}
 use Rattle.nt_event.specs.Requests.{ask, ask_if, asks, dpc_asks, is_ask, queue_asks, serves, what_asks}
 use Rattle.nt_event.specs.Routines.{depth_limit, part_of}
 use Rattle.nt_event.specs.Step.{IsLegal, IsRun}
-use Rattle.nt_event.specs.Words.{cpu, is_of}
+use Rattle.nt_event.specs.Words.{is_of}
 use Rattle.nt_event.proofs.Known.{Known, KnownClean}
 use Rattle.nt_event.proofs.Turns.{is_next}
 use Rattle.nt_laws.specs.Readings.{IsFirst}
@@ -121,12 +121,6 @@ new_threaded : (s : Script) (limit : ℕ) (p : CpuNo) (e : Event) (past : List E
 new_threaded s limit p e past x r t k =
     asks_wanted s limit p 0 e past r (λ o. inserts_serve 0 e.what k.dpc k.inserted) (inserts_ask s p 0 e past k.dpc k.inserted asked)
   where
-    l : Lanes
-    l = lanes_at s past
-
-    q : CpuNo
-    q = queue_for (object_at (lanes_at s past) k.dpc).target e.cpu
-
     asked : list_any (is_ask p 0) (queue_asks s k.dpc e.cpu (lanes_at s past)) ≡ true
     asked =
         ap (λ (part : Part). list_any (is_ask p 0) (dpc_asks s part (object_at (lanes_at s past) k.dpc) e.cpu (queue_for (object_at (lanes_at s past) k.dpc).target e.cpu) (queue_at (lanes_at s past) (queue_for (object_at (lanes_at s past) k.dpc).target e.cpu)))) (new_part s p e past ThreadedPart x k t) ∙ asked_one (queue_for (object_at (lanes_at s past) k.dpc).target e.cpu) p 0 k.queue

@@ -4,13 +4,11 @@ use Rattle.std.proofs.lemmas.Bool.{eqb-true}
 use Rattle.std.specs.Option.{option_map_or}
 use Rattle.std.specs.Prelude.{Bool, List, None, Option, Some, [], false, if◌then◌else◌, is_some, length, option_map, refl, true, ℕ, ◌&&◌, ◌+◌, ◌==◌, ◌∷◌, ◌≡◌}
 use Rattle.nt_event.specs.declared.commands.ApcKind.TheVariants.{User as UserApc}
-use Rattle.nt_event.specs.declared.commands.Command.{Command}
 use Rattle.nt_event.specs.declared.commands.Command.TheVariants.{Alert, Delay, InsertApc, Release, RemoveApc, StartWait, TestAlert, Yield}
-use Rattle.nt_event.specs.declared.commands.Mode.{Mode}
 use Rattle.nt_event.specs.declared.commands.Mode.TheVariants.{User as UserMode}
 use Rattle.nt_event.specs.declared.commands.Refusal.{Refusal}
 use Rattle.nt_event.specs.declared.commands.Reply.{Reply}
-use Rattle.nt_event.specs.declared.commands.Reply.TheVariants.{Done, Refused, Yes}
+use Rattle.nt_event.specs.declared.commands.Reply.TheVariants.{Done, Yes}
 use Rattle.nt_event.specs.declared.commands.TimerKey.TheVariants.{Delay as OfDelay}
 use Rattle.nt_event.specs.declared.events.Begun.TheVariants.{Apc}
 use Rattle.nt_event.specs.declared.events.Event.{Event}
@@ -30,9 +28,9 @@ use Rattle.nt_event.specs.Apcs.{takes}
 use Rattle.nt_event.specs.Commands.{is_reached}
 use Rattle.nt_event.specs.Frames.{running}
 use Rattle.nt_event.specs.Lanes.{facts_at, facts_of, lanes_at}
-use Rattle.nt_event.specs.Own.{own_of, standing_in}
+use Rattle.nt_event.specs.Own.{own_of}
 use Rattle.nt_event.specs.Regions.{stand_at}
-use Rattle.nt_event.specs.Routines.{kind_of, owner_of}
+use Rattle.nt_event.specs.Routines.{owner_of}
 use Rattle.nt_event.specs.Script.{has_thread}
 use Rattle.nt_event.specs.Step.{IsLegal, IsRun, thread_field}
 use Rattle.nt_event.specs.Threads.{ThreadFacts, start_facts}
@@ -96,9 +94,6 @@ runs_there s limit t e past w has g of k field =
 made_quiet : (s : Script) (limit : ℕ) (t : ThreadNo) (e : Event) (past : List Event) → has_thread s t ≡ true → IsLegal s limit e past → is_of_thread s t e ≡ true → NothingBehind (facts s t past) → (w : What) → e.what ≡ w → NothingBehind (made_facts s (length past) (stand_at s e.cpu past) w (facts s t past))
 made_quiet s limit t e past has g of h w k = go w k
   where
-    x : ThreadFacts
-    x = facts s t past
-
     known : (w : What) → e.what ≡ w → is_next w ≡ true → Known s e.cpu (own_of s e.cpu past) (lanes_at s past) w
     known w k =
         subst (λ (w : What). is_next w ≡ true → Known s e.cpu (own_of s e.cpu past) (lanes_at s past) w) k (legal_known s limit e past g)

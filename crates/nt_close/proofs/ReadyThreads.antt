@@ -1,8 +1,8 @@
 -- In a run, a processor that rests with a ready thread is asked to switch; and at the close no thread is left ready or running.
-use Rattle.std.proofs.Common.{ap, arith, subst, sym, ◌∙◌}
+use Rattle.std.proofs.Common.{ap, arith, sym, ◌∙◌}
 use Rattle.std.proofs.lemmas.Bool.{both_ways, eq-eqb, ltb-true}
 use Rattle.std.specs.Option.{option_map_or}
-use Rattle.std.specs.Prelude.{Bool, List, None, Option, Some, [], false, if◌then◌else◌, length, nat_lt, refl, slice_get, suc, true, zero, ℕ, ◌&&◌, ◌+◌, ◌<◌, ◌==◌, ◌∷◌, ◌≡◌}
+use Rattle.std.specs.Prelude.{Bool, List, None, Option, Some, [], false, if◌then◌else◌, length, refl, slice_get, suc, true, zero, ℕ, ◌&&◌, ◌+◌, ◌<◌, ◌==◌, ◌∷◌, ◌≡◌}
 use Rattle.nt_event.specs.declared.events.Event.{Event}
 use Rattle.nt_event.specs.declared.events.What.TheVariants.{Rest}
 use Rattle.nt_event.specs.declared.numbers.CpuNo.{CpuNo}
@@ -19,8 +19,8 @@ use Rattle.nt_event.specs.Own.{rested}
 use Rattle.nt_event.specs.Regions.{stand_at}
 use Rattle.nt_event.specs.Routines.{cpu_of}
 use Rattle.nt_event.specs.Script.{has_thread}
-use Rattle.nt_event.specs.Step.{IsLegal, IsRun}
-use Rattle.nt_event.specs.Threads.{ThreadFacts, is_ready, ready_doing}
+use Rattle.nt_event.specs.Step.{IsRun}
+use Rattle.nt_event.specs.Threads.{is_ready, ready_doing}
 use Rattle.nt_event.specs.Waits.{facts, is_of_thread, named_facts}
 use Rattle.nt_event.specs.Words.{cpu, is_by, is_null, is_of, thread}
 use Rattle.nt_event.proofs.Facts.{agree}
@@ -30,7 +30,7 @@ use Rattle.nt_close.specs.Close.{IsClosed, IsWanted, is_stopped}
 use Rattle.nt_close.proofs.AtRest.{IsAtRest, closed_rests, none_wanted_2, second_fails}
 use Rattle.nt_close.proofs.Rests.{known_rest, rested_other, rested_own}
 use Rattle.nt_close.proofs.Wanted.{asks_wanted, stays_wanted}
-use Rattle.nt_close.proofs.Woken.{Wakes, woken_asks}
+use Rattle.nt_close.proofs.Woken.{woken_asks}
 
 -- where no thread of p is listed as ready, none is
 none_ready : (p : CpuNo) (n : ℕ) (xs : List ThreadDecl) (l : Lanes) (i : ℕ) → is_null (ready_from p n xs l) ≡ true → i < length xs → ((option_map_or (λ (x : ThreadDecl). x.cpu) (slice_get xs i) (cpu 0)).0 == p.0) ≡ true → is_ready (facts_at l (thread (n + i))) ≡ false

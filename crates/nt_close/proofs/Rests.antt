@@ -1,7 +1,7 @@
 -- In a run a processor that rests has no frame and runs no thread, and its queue is idle.
-use Rattle.std.proofs.Common.{ap, arith, subst, sym, ◌∙◌}
+use Rattle.std.proofs.Common.{ap, subst, ◌∙◌}
 use Rattle.std.specs.Option.{option_map_or, option_or}
-use Rattle.std.specs.Prelude.{Bool, List, None, Option, Some, [], false, if◌then◌else◌, length, refl, true, ℕ, ◌∷◌, ◌≡◌}
+use Rattle.std.specs.Prelude.{Bool, List, None, Option, Some, [], false, refl, true, ℕ, ◌∷◌, ◌≡◌}
 use Rattle.nt_event.specs.declared.events.Event.{Event}
 use Rattle.nt_event.specs.declared.events.What.{What}
 use Rattle.nt_event.specs.declared.events.What.TheVariants.{Rest}
@@ -9,11 +9,11 @@ use Rattle.nt_event.specs.declared.frames.Frame.{Frame}
 use Rattle.nt_event.specs.declared.numbers.CpuNo.{CpuNo}
 use Rattle.nt_event.specs.declared.numbers.ThreadNo.{ThreadNo}
 use Rattle.nt_event.specs.declared.scripts.Script.{Script}
-use Rattle.nt_event.specs.Frames.{due_of, frames_in, frames_of, innermost, own_after, own_frames, running, running_after, thread_part, time}
+use Rattle.nt_event.specs.Frames.{frames_in, frames_of, innermost, own_frames, running, thread_part}
 use Rattle.nt_event.specs.Lanes.{lanes_at}
 use Rattle.nt_event.specs.Laws.{HasBase}
 use Rattle.nt_event.specs.Own.{is_rest, own_of, rested}
-use Rattle.nt_event.specs.Queues.{idle_after, is_idle}
+use Rattle.nt_event.specs.Queues.{is_idle}
 use Rattle.nt_event.specs.Step.{IsLegal, IsRun}
 use Rattle.nt_event.specs.Words.{head_of, is_of}
 use Rattle.nt_event.proofs.Known.{Known, KnownRest}

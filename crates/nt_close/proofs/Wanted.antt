@@ -1,8 +1,8 @@
 -- In a run a class that was asked for is wanted until an event of its processor serves it.
-use Rattle.std.proofs.Common.{ap, arith, subst, sym, ◌∙◌}
+use Rattle.std.proofs.Common.{ap, arith, subst, ◌∙◌}
 use Rattle.std.proofs.lemmas.Bool.{eqb-true}
 use Rattle.std.specs.List.{list_any}
-use Rattle.std.specs.Prelude.{Bool, List, [], false, if◌then◌else◌, length, refl, suc, true, zero, ℕ, ◌+◌, ◌<◌, ◌==◌, ◌||◌, ◌∷◌, ◌≡◌, ◌≤◌}
+use Rattle.std.specs.Prelude.{Bool, List, false, length, refl, suc, true, zero, ℕ, ◌+◌, ◌==◌, ◌∷◌, ◌≡◌, ◌≤◌}
 use Rattle.nt_event.specs.declared.events.Begun.TheVariants.{Int}
 use Rattle.nt_event.specs.declared.events.Event.{Event}
 use Rattle.nt_event.specs.declared.events.What.{What}
@@ -12,7 +12,7 @@ use Rattle.nt_event.specs.declared.scripts.Script.{Script}
 use Rattle.nt_event.specs.Jobs.{interrupt_classes}
 use Rattle.nt_event.specs.Lanes.{lanes_at}
 use Rattle.nt_event.specs.Own.{own_of}
-use Rattle.nt_event.specs.Requests.{asked, asks, seen, served, served_after, serves}
+use Rattle.nt_event.specs.Requests.{asked, asks, served, serves}
 use Rattle.nt_event.specs.Step.{IsLegal, IsRun}
 use Rattle.nt_event.specs.Words.{is_of}
 use Rattle.nt_event.proofs.Known.{Known, legal_known}

@@ -1,9 +1,9 @@
 -- In a run, an event that ends the wait of another processor's thread asks for class 2 there.
 use Rattle.std.proofs.Common.{ap, subst, sym, ◌∙◌}
-use Rattle.std.proofs.lemmas.Bool.{both_ways, eq-eqb, eqb-true}
+use Rattle.std.proofs.lemmas.Bool.{eq-eqb, eqb-true}
 use Rattle.std.specs.List.{list_any}
 use Rattle.std.specs.Option.{option_map_or}
-use Rattle.std.specs.Prelude.{Bool, List, None, Option, Some, false, if◌then◌else◌, is_some, length, not, refl, true, ℕ, ◌&&◌, ◌++◌, ◌==◌, ◌||◌, ◌∷◌, ◌≡◌}
+use Rattle.std.specs.Prelude.{Bool, List, None, Option, Some, false, if◌then◌else◌, is_some, length, not, refl, true, ℕ, ◌&&◌, ◌++◌, ◌==◌, ◌≡◌}
 use Rattle.nt_apc.proofs.Firsts.{deliverable-with}
 use Rattle.nt_event.specs.declared.commands.Command.{Command}
 use Rattle.nt_event.specs.declared.commands.Command.TheVariants.{Alert, InsertApc, Release, RemoveApc}
@@ -29,8 +29,8 @@ use Rattle.nt_event.specs.Regions.{stand_at}
 use Rattle.nt_event.specs.Requests.{ask, ask_if, asks, is_ask, what_asks}
 use Rattle.nt_event.specs.Routines.{cpu_of, is_kernel_kind, kind_of, owner_of}
 use Rattle.nt_event.specs.Script.{has_thread}
-use Rattle.nt_event.specs.Step.{IsLegal, IsRun}
-use Rattle.nt_event.specs.Threads.{ThreadFacts, ended, ends_by_alert, ends_by_apc, ends_by_expiry, ends_by_kernel, ends_by_release, ends_by_user, is_alerted, is_gone, is_ready, set_alerted, waiting}
+use Rattle.nt_event.specs.Step.{IsLegal}
+use Rattle.nt_event.specs.Threads.{ThreadFacts, ended, ends_by_alert, ends_by_apc, ends_by_expiry, ends_by_release, ends_by_user, is_alerted, is_gone, is_ready, set_alerted, waiting}
 use Rattle.nt_event.specs.Waits.{alert_facts, expiry_facts, facts, insert_facts, named_facts, new_pick, release_facts}
 use Rattle.nt_event.specs.Words.{alerted, is_answer, is_refused, kernel_apc, satisfied, user_apc, yes_if}
 use Rattle.nt_event.proofs.Known.{Known, KnownCall, legal_known}

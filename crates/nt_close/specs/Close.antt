@@ -24,7 +24,7 @@ use Rattle.nt_event.specs.Timers.{SetKey, first_due, timers_at}
 use Rattle.nt_event.specs.Waits.{facts}
 use Rattle.nt_thread.specs.Quiet.{IsQuiet}
 
--- the class was asked for on the processor, and no event of it since served the class
+-- the class was asked for on the processor, and no event that served the class there had noticed this yet
 abbrev pub IsWanted : Script → CpuNo → ℕ → List Event → Type 0
 IsWanted s p c past = served s p c past < asked s p c past
 
@@ -35,13 +35,13 @@ pub record IsClosed (s : Script) (limit : ℕ) (p : CpuNo) (past : List Event) :
   pub named : nat_lt p.0 s.cpus ≡ true
   pub uncut : is_cut limit (own_of s p past) ≡ false
 
--- ---- what an open demand is asked for by
+-- ---- what is still to be done is wanted
 
--- in a run, while a threaded DPC is pending in the queue of p, class 0 is wanted there
+-- in a run, while a threaded DPC is pending in the queue of p, class 0, that of threaded DPCs, is wanted there
 abbrev pub ThreadedIsWanted : Type 0
 ThreadedIsWanted = (s : Script) (limit : ℕ) (p : CpuNo) (x : Insert) (past : List Event) → IsRun s limit past → nat_lt p.0 s.cpus ≡ true → Contains (pending s p past) x → is_in ThreadedPart x ≡ true → IsWanted s p 0 past
 
--- in a run, while p rests with an ordinary DPC pending in its queue, class 2 is wanted there
+-- in a run, while p rests with an ordinary DPC pending in its queue, class 2, that of the dispatch interrupt, is wanted there
 abbrev pub OrdinaryIsWanted : Type 0
 OrdinaryIsWanted = (s : Script) (limit : ℕ) (p : CpuNo) (x : Insert) (past : List Event) → IsRun s limit past → nat_lt p.0 s.cpus ≡ true → rested p past ≡ true → Contains (pending s p past) x → is_in OrdinaryPart x ≡ true → IsWanted s p 2 past
 
@@ -61,11 +61,11 @@ DueKeyIsOwed = (s : Script) (limit : ℕ) (k : SetKey) (past : List Event) → I
 
 -- ---- at the close
 
--- no request may be delivered
+-- no request may be delivered on the processor
 abbrev pub NothingIsEligible : Type 0
 NothingIsEligible = (s : Script) (limit : ℕ) (p : CpuNo) (past : List Event) (r : Request) → IsClosed s limit p past → eligible s p r past ≡ false
 
--- no DPC is pending
+-- no DPC is pending in its queue
 abbrev pub NoDpcIsLeft : Type 0
 NoDpcIsLeft = (s : Script) (limit : ℕ) (p : CpuNo) (past : List Event) → IsClosed s limit p past → pending s p past ≡ []
 

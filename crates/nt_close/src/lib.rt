@@ -5,26 +5,26 @@
 
 ghost use Rattle.nt_close.specs.Close.{DueKeyIsOwed, NoDpcIsLeft, NoDueKeyIsLeft, NoThreadIsLeft, NothingIsEligible, NothingWaitsBehindABlock, OrdinaryIsWanted, ReadyIsWanted, ThreadedIsWanted};
 
-/// A pending threaded DPC is wanted: in every run, while one is pending in the queue of a processor of the script, class 0 was asked for
-/// there and no event of the processor has served it since.
+/// A pending threaded DPC is wanted: in every run, while one is pending in the queue of a processor of the script, class 0, that of
+/// threaded DPCs, was asked for there, and no event that served the class had noticed this yet.
 pub fn a_pending_threaded_dpc_is_wanted()
     ensures { ThreadedIsWanted }
 {}
 
 /// A pending ordinary DPC is wanted at rest: in every run, while one is pending in the queue of a processor of the script that rests,
-/// class 2 was asked for there and no event of the processor has served it since.
+/// class 2, that of the dispatch interrupt, was asked for there, and no event that served the class had noticed this yet.
 pub fn a_pending_ordinary_dpc_is_wanted_at_rest()
     ensures { OrdinaryIsWanted }
 {}
 
-/// A ready thread is wanted at rest: in every run, while a thread is ready whose processor rests, class 2 was asked for there and no event of
-/// the processor has served it since.
+/// A ready thread is wanted at rest: in every run, while a thread is ready whose processor rests, class 2 was asked for there, and no event that
+/// served the class had noticed this yet.
 pub fn a_ready_thread_is_wanted_at_rest()
     ensures { ReadyIsWanted }
 {}
 
 /// A due key is owed: in every run, while a timer or a delay is due, some processor of the script owes a sweep of the timers, or class 13,
-/// that of the clock interrupt, was asked for there and no event of the processor has served it since.
+/// that of the clock interrupt, was asked for there, and no event that served the class had noticed this yet.
 pub fn a_due_key_is_owed()
     ensures { DueKeyIsOwed }
 {}
