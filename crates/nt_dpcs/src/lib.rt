@@ -1,0 +1,8 @@
+//! The DPC objects and queues of a script.
+#![tactic(auto)]
+
+mod changes;
+mod dpcs;
+mod pairs;
+
+pub use dpcs::Dpcs;
