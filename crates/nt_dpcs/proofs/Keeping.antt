@@ -1,0 +1,1 @@
+-- The objects and queues of a script are kept by each change of a pair.

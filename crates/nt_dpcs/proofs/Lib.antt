@@ -1,0 +1,4 @@
+pub mod Places
+pub mod Holding
+pub mod Agreeing
+pub mod Keeping
