@@ -2,3 +2,4 @@ pub mod Places
 pub mod Holding
 pub mod Agreeing
 pub mod Keeping
+pub mod Leaving
