@@ -21,7 +21,7 @@ use Rattle.nt_dpcs.specs.Changes.{inserted_at, removed_at, with_object, with_que
 use Rattle.nt_dpcs.specs.Lanes.{DpcLanes, queue_in}
 
 -- the processor in whose queue an object stands
-abbrev stand_of : ObjectState → Option CpuNo
+abbrev pub stand_of : ObjectState → Option CpuNo
 stand_of o = option_map (λ at. at.queue) o.standing
 
 same_dpc : (d e : DpcNo) → eqb d.0 e.0 ≡ true → d ≡ e
@@ -69,7 +69,7 @@ agree_pair x d p o q a f =
       stands = λ e r. stands_set x d p o q a f e r (eqb d.0 e.0) (eqb p.0 r.0) refl refl;
     }
 
-unqueued_nowhere : (o : ObjectState) (r : CpuNo) → is_queued o ≡ false → is_queue (stand_of o) r ≡ false
+pub unqueued_nowhere : (o : ObjectState) (r : CpuNo) → is_queued o ≡ false → is_queue (stand_of o) r ≡ false
 unqueued_nowhere o r h = go o.standing h
   where
     go : (s : Option Standing) → is_some s ≡ false → is_queue (option_map (λ at. at.queue) s) r ≡ false

@@ -108,10 +108,10 @@ pub record ArePlaces (os : List ObjectFacts) (qs : List QueueFacts) (d : DpcNo) 
 
 -- ---- an insert
 
-abbrev inserted_object : ℕ → CpuNo → DpcNo → List ObjectFacts → List QueueFacts → ObjectFacts
+abbrev pub inserted_object : ℕ → CpuNo → DpcNo → List ObjectFacts → List QueueFacts → ObjectFacts
 inserted_object n p d os qs = queued_at (record { queue = (queue_facts qs p).cpu; number = n }) (object_facts os d)
 
-abbrev inserted_queue : ℕ → CpuNo → DpcNo → List ObjectFacts → List QueueFacts → QueueFacts
+abbrev pub inserted_queue : ℕ → CpuNo → DpcNo → List ObjectFacts → List QueueFacts → QueueFacts
 inserted_queue n p d os qs = with_entry (entry_of n (object_facts os d)) (queue_facts qs p)
 
 entry_is : (s : Script) (os : List ObjectFacts) (qs : List QueueFacts) (n : ℕ) (d : DpcNo) → AreKept s os qs → d.0 < length os → entry_of n (object_facts os d) ≡ new_insert s d n (object_in (lanes_of s os qs).objects d)
@@ -135,7 +135,7 @@ inserted_kept s os qs n p d a at free =
 
 -- ---- a removal, or a take
 
-abbrev removed_queue : CpuNo → DpcNo → List ObjectFacts → List QueueFacts → QueueFacts
+abbrev pub removed_queue : CpuNo → DpcNo → List ObjectFacts → List QueueFacts → QueueFacts
 removed_queue p d os qs = without_entry (object_facts os d).dpc (queue_facts qs p)
 
 pub removed_seen : (s : Script) (os : List ObjectFacts) (qs : List QueueFacts) (p : CpuNo) (d : DpcNo) → AreKept s os qs → ArePlaces os qs d p → lanes_of s (set os d.0 (unqueued (object_facts os d))) (set qs p.0 (removed_queue p d os qs)) ≡ removed_at p d (lanes_of s os qs)
@@ -155,7 +155,7 @@ removed_kept s os qs p d a at here =
 
 -- ---- the importance or the target of an object
 
-abbrev important : Importance → DpcNo → List ObjectFacts → ObjectFacts
+abbrev pub important : Importance → DpcNo → List ObjectFacts → ObjectFacts
 important i d os = record (object_facts os d) { state = record (object_facts os d).state { importance = i } }
 
 pub important_seen : (s : Script) (os : List ObjectFacts) (qs : List QueueFacts) (d : DpcNo) (i : Importance) → lanes_of s (set os d.0 (important i d os)) qs ≡ with_object d (record (object_in (lanes_of s os qs).objects d) { importance = i }) (lanes_of s os qs)
@@ -166,7 +166,7 @@ pub important_kept : (s : Script) (os : List ObjectFacts) (qs : List QueueFacts)
 important_kept s os qs d i a l =
     kept_object s os qs d (important i d os) (with_object d (record (object_in (lanes_of s os qs).objects d) { importance = i }) (lanes_of s os qs)) a (record { place = l; dpc = refl; part = refl }) (important_seen s os qs d i) (agree_object (lanes_of s os qs) d (record (object_in (lanes_of s os qs).objects d) { importance = i }) a.agree (in_objects os d l) (a.agree.target d) refl)
 
-abbrev targeted : Option CpuNo → DpcNo → List ObjectFacts → ObjectFacts
+abbrev pub targeted : Option CpuNo → DpcNo → List ObjectFacts → ObjectFacts
 targeted t d os = record (object_facts os d) { state = record (object_facts os d).state { target = t } }
 
 pub targeted_seen : (s : Script) (os : List ObjectFacts) (qs : List QueueFacts) (d : DpcNo) (t : Option CpuNo) → lanes_of s (set os d.0 (targeted t d os)) qs ≡ with_object d (record (object_in (lanes_of s os qs).objects d) { target = t }) (lanes_of s os qs)

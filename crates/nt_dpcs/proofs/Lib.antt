@@ -3,3 +3,4 @@ pub mod Holding
 pub mod Agreeing
 pub mod Keeping
 pub mod Leaving
+pub mod Seeing

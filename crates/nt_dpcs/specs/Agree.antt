@@ -1,12 +1,12 @@
 -- What holds of the objects and queues of a script at any time.
-use Rattle.std.specs.Prelude.{IfSome, List, get_or, false, length, map, option_map, ◌<◌, ◌≡◌}
+use Rattle.std.specs.Prelude.{IfSome, List, false, get_or, length, map, option_map, slice_get, ℕ, ◌&&◌, ◌<◌, ◌≡◌}
 use Rattle.nt_event.specs.declared.numbers.CpuNo.{CpuNo}
 use Rattle.nt_event.specs.declared.numbers.DpcNo.{DpcNo}
 use Rattle.nt_event.specs.declared.scripts.Script.{Script}
 use Rattle.nt_event.specs.Objects.{object_in}
 use Rattle.nt_event.specs.Queues.{is_queue}
-use Rattle.nt_event.specs.Routines.{depth_limit, part_of}
-use Rattle.nt_event.specs.Words.{cpu, dpc}
+use Rattle.nt_event.specs.Routines.{depth_limit, is_declared_threaded, part_of, threaded_on}
+use Rattle.nt_event.specs.Words.{cpu, dpc, table}
 use Rattle.nt_dpc.specs.Objects.{ObjectFacts, new_object}
 use Rattle.nt_dpc.specs.Queues.{QueueFacts, holds_dpc, new_queue}
 use Rattle.nt_dpcs.specs.Lanes.{DpcLanes, queue_in}
@@ -35,6 +35,15 @@ pub record IsQueueOf (s : Script) (p : CpuNo) (q : QueueFacts) : Type 0 where
   pub cpu : q.cpu ≡ p
   pub count : q.count ≡ length s.dpcs
   pub limit : q.limit ≡ depth_limit s
+
+-- the first n objects of the script before any event
+abbrev pub new_objects : Script → ℕ → List ObjectFacts
+new_objects s n =
+    table n (λ d. new_object (dpc d) (threaded_on s && is_declared_threaded (slice_get s.dpcs d)))
+
+-- the queues of its first n processors
+abbrev pub new_queues : Script → ℕ → List QueueFacts
+new_queues s n = table n (λ p. new_queue (cpu p) (length s.dpcs) (depth_limit s))
 
 abbrev pub lanes_of : Script → List ObjectFacts → List QueueFacts → DpcLanes
 lanes_of s os qs = record { script = s; objects = map (λ o. o.state) os; queues = map (λ q. q.state) qs }

@@ -3,6 +3,7 @@
 
 mod changes;
 mod dpcs;
+mod making;
 mod pairs;
 
 pub use dpcs::Dpcs;
