@@ -4,3 +4,4 @@ pub mod Agreeing
 pub mod Keeping
 pub mod Leaving
 pub mod Seeing
+pub mod Starting

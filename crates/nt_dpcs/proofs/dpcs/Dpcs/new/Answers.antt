@@ -1,13 +1,9 @@
+use Rattle.std.proofs.Common.{◌∙◌}
+use Rattle.nt_dpcs.proofs.Starting.{kept_start, new_is_start}
 use Rattle.nt_dpcs.proofs.dpcs.Dpcs.new.Goals as goal
 
-pub objects-requires : goal.objects-requires
-objects-requires c = ?
-
-pub queues-requires : goal.queues-requires
-queues-requires c = ?
-
 pub invariant_of-result : goal.invariant_of-result
-invariant_of-result c = ?
+invariant_of-result c = rw (c.in_ok-objects.ensures, c.in_ok-queues.ensures) (kept_start c.args.script.now)
 
-pub returns-in_ok-queues : goal.returns-in_ok-queues
-returns-in_ok-queues c = ?
+pub returns : goal.returns
+returns c = rw (c.in_ok-objects.ensures, c.in_ok-queues.ensures) (new_is_start c.args.script.now)
