@@ -1,5 +1,5 @@
 -- What a script that fits bounds and names.
-use Rattle.std.proofs.Common.{◌≡◌, ◌≤◌, ◌<◌, IsTrue, List, None, Option, Some, arith, get_or, length, true, ℕ}
+use Rattle.std.proofs.Common.{◌≡◌, ◌≤◌, ◌<◌, IsTrue, List, None, Option, Some, arith, get_or, length, subst, sym, true, ℕ}
 use Rattle.std.proofs.lemmas.Bool.{leb-true, ltb-true}
 use Rattle.std.proofs.lemmas.List.Sums.{AllPass-from_list_all}
 use Rattle.std.proofs.lemmas.Option.{slice_get-get_or}
@@ -7,12 +7,14 @@ use Rattle.std.specs.List.{list_all}
 use Rattle.std.specs.Prelude.{slice_get}
 use Rattle.nt_event.specs.declared.commands.ApcKind.TheVariants.{Special}
 use Rattle.nt_event.specs.declared.numbers.ApcNo.{ApcNo}
+use Rattle.nt_event.specs.declared.numbers.ThreadNo.{ThreadNo}
 use Rattle.nt_event.specs.declared.scripts.ApcDecl.{ApcDecl}
 use Rattle.nt_event.specs.declared.scripts.Script.{Script}
 use Rattle.nt_event.specs.Routines.{owner_of}
 use Rattle.nt_event.specs.Script.{apc_fits, fits, has_apc, has_thread}
 use Rattle.nt_event.specs.Words.{routine, thread}
 use Rattle.nt_event.proofs.Options.{both}
+use Rattle.nt_threads.specs.Lanes.{ThreadLanes}
 
 limits : (s : Script) → IsTrue (fits s) → (length s.threads ≤ 64) × (length s.apcs ≤ 256)
 limits s h =
@@ -52,3 +54,9 @@ owner_named s a h named =
     let rundown = both _ _ routines.0 in
     let normal = both _ _ rundown.0 in
     rw at (both _ _ normal.0).0
+
+-- the same of the threads that contracts see, by their fields
+pub owner_at : (x y : ThreadLanes) (a : ApcNo) (t : ThreadNo) → x ≡ y → IsTrue (fits x.script) → IsTrue (has_apc y.script a) → t ≡ owner_of x.script a → IsTrue (has_thread y.script t)
+owner_at x y a t e h named at =
+    let here : IsTrue (has_apc x.script a) = subst (λ (z : ThreadLanes). IsTrue (has_apc z.script a)) (sym e) named in
+    subst (λ (z : ThreadLanes). IsTrue (has_thread z.script t)) e (subst (λ (u : ThreadNo). IsTrue (has_thread x.script u)) (sym at) (owner_named x.script a h here))

@@ -4,7 +4,7 @@ use Rattle.std.proofs.lemmas.List.{length-replicate}
 use Rattle.std.proofs.lemmas.Bool.{ltb-true}
 use Rattle.std.specs.List.{All, filter}
 use Rattle.std.proofs.lemmas.List.{length-set}
-use Rattle.std.proofs.lemmas.List.Elements.{All-cons, All-filter, All-nil, All-replicate, All-set}
+use Rattle.std.proofs.lemmas.List.Elements.{All-cons, All-filter, All-nil, All-replicate, All-set, All-weaker}
 use Rattle.nt_event.specs.declared.commands.ApcKind.{ApcKind}
 use Rattle.nt_event.specs.declared.commands.ApcKind.TheVariants.{User as UserApc}
 use Rattle.nt_event.specs.declared.commands.Command.TheVariants.{Alert, Delay, InsertApc, Release, RemoveApc, StartWait, TestAlert, Yield}
@@ -32,7 +32,7 @@ use Rattle.nt_event.specs.Threads.{ThreadFacts, start_facts, ended, ends_by_aler
 use Rattle.nt_event.specs.Waits.{alert_facts, alert_taken, alert_tested, answered, apc_taken, expiry_facts, frame_ended, insert_facts, made_facts, new_pick, release_facts, waited, waited_again}
 use Rattle.nt_event.specs.Words.{table, table_from, alerted, is_answer, is_user, kernel_apc, satisfied, user_apc}
 use Rattle.nt_threads.specs.Fits.{CanTell, told_facts}
-use Rattle.nt_threads.specs.Lanes.{ThreadLanes}
+use Rattle.nt_threads.specs.Lanes.{ThreadLanes, facts_in}
 use Rattle.nt_threads.specs.Sound.{AreOurs, IsOurs, IsSound}
 
 ours_if : (s : Script) (b : Bool) (x y : ThreadFacts) → AreOurs s x → AreOurs s y → AreOurs s (if b then x else y)
@@ -92,15 +92,16 @@ ours_insert s pick x p h =
     let all : AreOurs s (record x { apcs = with_apc pick x.apcs }) = All-cons (IsOurs s) pick x.apcs.pending p h in
     ours_if s (ends_by_apc pick x) _ _ (ours_if s (is_kernel_kind pick.kind) _ _ all all) all
 
-pub ours_told : (s : Script) (n : ℕ) (w : What) (x : ThreadFacts) → CanTell s w x → AreOurs s x → AreOurs s (told_facts s n w x)
-ours_told s n (Call f (Release u) y) x t h = ours_if s (ends_by_release x) _ _ h (ours_if s (is_gone x) _ _ h h)
-ours_told s n (Call f (Alert u m) y) x t h =
+pub ours_told : (s : Script) (n : ℕ) (w : What) (x z : ThreadFacts) → CanTell s w z → AreOurs s x → AreOurs s (told_facts s n w x)
+ours_told s n (Call f (Release u) y) x z t h =
+    ours_if s (ends_by_release x) _ _ h (ours_if s (is_gone x) _ _ h h)
+ours_told s n (Call f (Alert u m) y) x z t h =
     ours_if s (is_gone x) _ _ h (ours_if s (ends_by_alert m x) _ _ h (ours_set_alerted s m true x h))
-ours_told s n (Call f (InsertApc a) Yes) x t h =
+ours_told s n (Call f (InsertApc a) Yes) x z t h =
     ours_insert s (new_pick s a n) x (record { apc = t.apc; kind = refl }) h
-ours_told s n (Call f (RemoveApc a) Yes) x t h = ours_without s a x.apcs.pending h
-ours_told s n (Expire (OfDelay u) from) x t h = ours_if s (ends_by_expiry from x) _ _ h h
-ours_told s n w x t h = h
+ours_told s n (Call f (RemoveApc a) Yes) x z t h = ours_without s a x.apcs.pending h
+ours_told s n (Expire (OfDelay u) from) x z t h = ours_if s (ends_by_expiry from x) _ _ h h
+ours_told s n w x z t h = h
 
 -- ---- the states
 
@@ -123,11 +124,15 @@ sound_made x y t n st w old new e h named at left =
     sound_set x t.0 new h (subst (λ (z : ThreadFacts). AreOurs x.script z) (sym left) (ours_made x.script n st w old ours))
 
 -- and of one that an event names
-pub sound_told : (x y : ThreadLanes) (t : ThreadNo) (n : ℕ) (w : What) (old new : ThreadFacts) → x ≡ y → IsSound x → IsTrue (has_thread y.script t) → CanTell y.script w old → old ≡ get_or x.facts t.0 old → new ≡ told_facts x.script n w old → IsSound (record x { facts = set x.facts t.0 new })
+pub sound_told : (x y : ThreadLanes) (t : ThreadNo) (n : ℕ) (w : What) (old new : ThreadFacts) → x ≡ y → IsSound x → IsTrue (has_thread y.script t) → CanTell y.script w (facts_in y t) → old ≡ get_or x.facts t.0 old → new ≡ told_facts x.script n w old → IsSound (record x { facts = set x.facts t.0 new })
 sound_told x y t n w old new e h named may at left =
     let ours : AreOurs x.script old = subst (λ (z : ThreadFacts). AreOurs x.script z) (sym at) (h.picks t.0 old (bound x y t e h named)) in
-    let can : CanTell x.script w old = subst (λ (z : ThreadLanes). CanTell z.script w old) (sym e) may in
-    sound_set x t.0 new h (subst (λ (z : ThreadFacts). AreOurs x.script z) (sym left) (ours_told x.script n w old can ours))
+    let can : CanTell x.script w (facts_in y t) = subst (λ (z : ThreadLanes). CanTell z.script w (facts_in y t)) (sym e) may in
+    sound_set x t.0 new h (subst (λ (z : ThreadFacts). AreOurs x.script z) (sym left) (ours_told x.script n w old (facts_in y t) can ours))
+
+pub kinds_hold : (x : ThreadLanes) → IsSound x → All (λ y. All (λ pick. pick.kind ≡ kind_of x.script pick.apc) y.apcs.pending) x.facts
+kinds_hold x h =
+    All-weaker (AreOurs x.script) (λ y. All (λ pick. pick.kind ≡ kind_of x.script pick.apc) y.apcs.pending) (λ y k. All-weaker (IsOurs x.script) (λ pick. pick.kind ≡ kind_of x.script pick.apc) (λ pick q. q.kind) y.apcs.pending k) x.facts h.picks
 
 -- new threads have no APCs
 starts_from : (k n : ℕ) → replicate n start_facts ≡ table_from k n (λ t. start_facts)

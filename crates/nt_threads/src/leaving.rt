@@ -32,6 +32,7 @@ impl<'s> Threads<'s> {
         requires none { thread_of self.old.script event.now.what ≡ None }
         ensures { self.new ≡ left n stand.now event.now self.old }
     {
+        let _script = self.script;
         if let Some(thread) = event.thread {
             self.make(thread, n, stand, &event.what);
         }

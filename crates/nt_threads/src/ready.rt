@@ -53,6 +53,7 @@ impl<'s> Threads<'s> {
         requires { place < length self.now.script.threads }
         ensures { result ≡ thread place }
     {
+        let _script = self.script;
         ThreadNo(place as u16)
     }
 

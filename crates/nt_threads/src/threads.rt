@@ -54,12 +54,171 @@ impl<'s> Threads<'s> {
         &self.states[t.0 as usize]
     }
 
+    /// The state of the thread of an APC object.
+    fn owner(&self, a: ApcNo) -> &ThreadState
+        requires { IsTrue (has_apc self.now.script a) }
+        ensures { result.now ≡ facts_in self.now (owner_in self.now.script a) }
+    {
+        self.state(owner_of(self.script, a))
+    }
+
+    // ---- what a thread is doing
+
     /// Whether the thread may be taken up.
     pub fn is_ready(&self, t: ThreadNo) -> bool
         requires { IsTrue (has_thread self.now.script t) }
         ensures { result ≡ spec.is_ready (facts_in self.now t) }
     {
         self.state(t).is_ready()
+    }
+
+    /// Whether the thread is gone.
+    pub fn is_gone(&self, t: ThreadNo) -> bool
+        requires { IsTrue (has_thread self.now.script t) }
+        ensures { result ≡ spec.is_gone (facts_in self.now t) }
+    {
+        self.state(t).is_gone()
+    }
+
+    /// The status of the wait that ended, which the thread's next Switch carries; None at its first run, after a yield, and where it
+    /// is not ready.
+    pub fn status(&self, t: ThreadNo) -> Option<u32>
+        requires { IsTrue (has_thread self.now.script t) }
+        ensures { result ≡ spec.ended_status (facts_in self.now t) }
+    {
+        self.state(t).status()
+    }
+
+    /// The level of a thread that doesn't run: the one at which it last blocked or gave way, PASSIVE before its first run.
+    pub fn level(&self, t: ThreadNo) -> Level
+        requires { IsTrue (has_thread self.now.script t) }
+        ensures { result ≡ spec.doing_level (facts_in self.now t).doing }
+    {
+        self.state(t).level()
+    }
+
+    // ---- waits and alerts
+
+    /// What a wait of this mode would reply at this level and in these regions. `reached` is None for a wait; for a delay, whether its
+    /// due time is reached.
+    pub fn wait_reply(
+        &self,
+        t: ThreadNo,
+        regions: Regions,
+        level: Level,
+        mode: Mode,
+        alertable: bool,
+        reached: Option<bool>,
+    ) -> Reply
+        requires { IsTrue (has_thread self.now.script t) }
+        ensures { result ≡ reply_at (facts_in self.now t) regions level mode alertable reached }
+    {
+        let spec = WaitSpec {
+            mode,
+            alertable,
+            reached,
+            set: 0,
+        };
+        reply(self.state(t).wait_answer(spec, regions, level))
+    }
+
+    /// Whether the thread's alerted flag of this mode is set.
+    pub fn is_alerted(&self, t: ThreadNo, mode: Mode) -> bool
+        requires { IsTrue (has_thread self.now.script t) }
+        ensures { result ≡ spec.is_alerted mode (facts_in self.now t) }
+    {
+        self.state(t).was_alerted(mode)
+    }
+
+    /// Whether a release would end a wait of the thread.
+    pub fn ends_by_release(&self, t: ThreadNo) -> bool
+        requires { IsTrue (has_thread self.now.script t) }
+        ensures { result ≡ spec.ends_by_release (facts_in self.now t) }
+    {
+        self.state(t).ends_by_release()
+    }
+
+    /// Whether the expiry of the delay that was set under this number would end the thread's delay.
+    pub fn ends_by_expiry(&self, t: ThreadNo, from: u64) -> bool
+        requires { IsTrue (has_thread self.now.script t) }
+        ensures { result ≡ spec.ends_by_expiry from (facts_in self.now t) }
+    {
+        self.state(t).ends_by_expiry(from)
+    }
+
+    /// Whether an alert for this mode would end a wait of the thread.
+    pub fn ends_by_alert(&self, t: ThreadNo, mode: Mode) -> bool
+        requires { IsTrue (has_thread self.now.script t) }
+        ensures { result ≡ spec.ends_by_alert mode (facts_in self.now t) }
+    {
+        self.state(t).ends_by_alert(mode)
+    }
+
+    // ---- APCs
+
+    /// The thread's first kernel APC, where it is let through at this level and in these regions.
+    pub fn deliverable(&self, t: ThreadNo, regions: Regions, level: Level) -> Option<Pick>
+        requires { IsTrue (has_thread self.now.script t) }
+        ensures { result ≡ queues.deliverable (facts_in self.now t).apcs regions level }
+    {
+        self.state(t).deliverable(regions, level)
+    }
+
+    /// The thread's user APC that is due on the way to user mode: the first one, where the user-pending mark is set.
+    pub fn user_due(&self, t: ThreadNo) -> Option<Pick>
+        requires { IsTrue (has_thread self.now.script t) }
+        ensures { result ≡ due_of (facts_in self.now t) }
+    {
+        self.state(t).user_due()
+    }
+
+    /// The thread's first user APC.
+    pub fn user_first(&self, t: ThreadNo) -> Option<Pick>
+        requires { IsTrue (has_thread self.now.script t) }
+        ensures { result ≡ queues.first_user (facts_in self.now t).apcs }
+    {
+        self.state(t).user_first()
+    }
+
+    /// Whether the thread has a kernel APC queued.
+    pub fn has_kernel(&self, t: ThreadNo) -> bool
+        requires { IsTrue (has_thread self.now.script t) }
+        ensures { result ≡ queues.has_kernel (facts_in self.now t).apcs }
+    {
+        self.state(t).has_kernel()
+    }
+
+    /// Whether the APC object would be inserted: it isn't yet, and its thread still takes APCs.
+    pub fn takes(&self, a: ApcNo) -> bool
+        requires { IsTrue (has_apc self.now.script a) }
+        ensures { result ≡ queues.takes a (facts_in self.now (owner_in self.now.script a)).apcs }
+    {
+        self.owner(a).takes(a)
+    }
+
+    /// Whether the insert of the APC object would end a wait of its thread, whatever its number is.
+    pub fn ends_by_apc(&self, a: ApcNo) -> bool
+        requires { IsTrue (has_apc self.now.script a) }
+        ensures { (n : ℕ) → result ≡ spec.ends_by_apc (new_pick self.now.script a n) (facts_in self.now (owner_in self.now.script a)) }
+    {
+        self.owner(a).ends_by_apc(kind_of(self.script, a))
+    }
+
+    /// Each pending APC is of the kind of its object.
+    pub fn kinds(&self)
+        ensures { All (λ x. All (λ pick. pick.kind ≡ kind_in self.now.script pick.apc) x.apcs.pending) self.now.facts }
+    {
+        let _script = self.script;
+    }
+}
+
+/// What the answer of a wait is as a reply.
+fn reply(answer: WaitAnswer) -> Reply
+    ensures { result ≡ reply_of answer }
+{
+    match answer {
+        WaitAnswer::Now(status) => Reply::Status(status),
+        WaitAnswer::Blocked => Reply::Blocked,
     }
 }
 
