@@ -1,5 +1,6 @@
 //! The text of an input, line by line.
 ghost use Rattle.std.specs.Prelude.{◌≡◌, ◌<◌, ◌≤◌, ◌∷◌, ◌++◌, [], length, map, decimal, All, OnOk, IfOk};
+ghost use Rattle.std.specs.List.{join_with_byte};
 ghost use Rattle.nt_text.specs.Lines.{row_text, rows_text};
 ghost use Rattle.nt_script.specs.Slots.{own, dash};
 ghost use Rattle.nt_script.specs.Words.{text_of};
@@ -76,15 +77,15 @@ fn verb_of(command: &Command) -> Verb
     }
 }
 
-/// Adds the line of a command.
-fn put_command(
+/// Adds a command: its word and what stands behind it, with one space between two fields and no line end.
+pub fn put_command(
     out: &mut Vec<u8>,
     names: &Names,
     cpus: u8,
     command: &Command,
 ) -> Result<(), AllocError>
     requires { CommandFits names.now cpus command.now }
-    ensures { OnOk result (out.new.items ≡ out.old.items ++ row_text (command_row names.now command.now)) }
+    ensures { OnOk result (out.new.items ≡ out.old.items ++ join_with_byte 32 (command_row names.now command.now)) }
 {
     out.extend_from_slice(verb_of(command).text())?;
     match command {
@@ -158,7 +159,6 @@ fn put_command(
             put_number(out, *number)?;
         }
     }
-    out.push(b'\n')?;
     Ok(())
 }
 
@@ -303,6 +303,7 @@ fn put_commands(
 {
     for command in commands {
         put_command(out, names, cpus, command)?;
+        out.push(b'\n')?;
     }
     Ok(())
 }
