@@ -177,6 +177,12 @@ no_turn_is_done input (Next p) h = refl
 no_turn_is_done input (Look p r) h = refl
 no_turn_is_done input (Switch p t) h = refl
 
+abbrev schedule : ℕ → List Turn → Schedule
+schedule n xs = record { turns = n; list = xs }
+
+schedule_same : (s r : Schedule) → s.turns ≡ r.turns → s.list ≡ r.list → s ≡ r
+schedule_same s r turns list = ap (λ (n : ℕ). schedule n s.list) turns ∙ ap (λ (xs : List Turn). schedule r.turns xs) list
+
 pub turns_one : (input : Input) → IsSound input → (s r : Schedule) → IsPlain input.script s → IsPlain input.script r → schedule_rows input.names s ≡ schedule_rows input.names r → s ≡ r
 unfolding is_done first_byte
 turns_one input sound s r h k e =
@@ -190,8 +196,7 @@ turns_one input sound s r h k e =
     let same : s.list ≡ r.list = map_one P row (turn_one input sound) s.list r.list h.turns k.turns lists in
     let most = h.limit.1 in
     let most2 = k.limit.1 in
-    let turns : s.turns ≡ r.turns = decimal_one s.turns r.turns (omega (arith, most)) (omega (arith, most2)) limit in
-    cc
+    schedule_same s r (decimal_one s.turns r.turns (omega (arith, most)) (omega (arith, most2)) limit) same
 
 pub one_schedule : (bytes : List ℕ) (input : Input) (s r : Schedule) → IsTextOf bytes input s → IsTextOf bytes input r → s ≡ r
 one_schedule bytes input s r h k =
