@@ -1,0 +1,7 @@
+mod CutRows
+mod Counted
+mod Fates
+mod Tables
+mod WaitRows
+mod OneEvent
+mod OneReport
