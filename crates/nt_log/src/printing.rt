@@ -96,11 +96,7 @@ fn put_limit(out: &mut Vec<u8>, turns: u32) -> Result<(), AllocError>
 }
 
 /// Adds the text of a schedule to another text. An error is want of memory, and the text may then have more at its end.
-pub fn put_schedule(
-    out: &mut Vec<u8>,
-    input: &Input,
-    schedule: &Schedule,
-) -> Result<(), AllocError>
+pub fn put_schedule(out: &mut Vec<u8>, input: &Input, schedule: &Schedule) -> Result<(), AllocError>
     requires sound { IsSound input.now }
     requires fit { turns_fit input.now.script schedule.now.list ≡ true }
     ensures { OnOk result (out.new.items ≡ out.old.items ++ schedule_text input.now schedule.now) }

@@ -44,8 +44,7 @@ fn is_printed_as(alloc: Global, input: &Input, text: &[u8]) -> Result<bool, Allo
 
 #[test]
 fn a_schedule_is_printed(rt: HostRuntime) -> Result<(), Fail> {
-    let text =
-        b"schedule 20\nnext 0\nlook 1 2=7 13=18446744073709551615\nswitch 1 main\ndone\n";
+    let text = b"schedule 20\nnext 0\nlook 1 2=7 13=18446744073709551615\nswitch 1 main\ndone\n";
     let is_same = match read(rt.alloc(), b"cpus 2\nthread main 1 r\nroutine r\nexit\n") {
         Ok(input) => {
             !input.script.threads.is_empty() && is_printed_as(rt.alloc(), &input, text)?

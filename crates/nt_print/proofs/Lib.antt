@@ -3,5 +3,6 @@ mod Counted
 mod Fates
 mod Tables
 mod WaitRows
+mod Turns
 mod OneEvent
 mod OneReport

@@ -73,7 +73,7 @@ events_one input k n (e ∷ es) (f ∷ fs) h g t r =
     let turn : turn_of e ≡ turn_of f = cc in
     let turns : map turn_of es ≡ map turn_of fs = cc in
     let split : (if is_look e.what then [] else event_row input n e ∷ []) ++ event_rows input (n + 1) es ≡ (if is_look f.what then [] else event_row input n f ∷ []) ++ event_rows input (n + 1) fs =
-        ap (λ (a : List Row). a ++ event_rows input (n + 1) es) (sym (line_split input n e e.what)) ∙ r ∙ ap (λ (a : List Row). a ++ event_rows input (n + 1) fs) (line_split input n f f.what) in
+    ap (λ (a : List Row). a ++ event_rows input (n + 1) es) (sym (line_split input n e e.what)) ∙ r ∙ ap (λ (a : List Row). a ++ event_rows input (n + 1) fs) (line_split input n f f.what) in
     go (is_look e.what) (is_look f.what) refl refl turn split (λ rest. events_one input k (n + 1) es fs h.1 g.1 turns rest)
   where
     go : (a b : Bool) → is_look e.what ≡ a → is_look f.what ≡ b → turn_of e ≡ turn_of f → (if a then [] else event_row input n e ∷ []) ++ event_rows input (n + 1) es ≡ (if b then [] else event_row input n f ∷ []) ++ event_rows input (n + 1) fs → (event_rows input (n + 1) es ≡ event_rows input (n + 1) fs → es ≡ fs) → e ∷ es ≡ f ∷ fs
@@ -264,12 +264,14 @@ report_clean : (input : Input) → IsSound input → (h : History) → IsPlain i
 report_clean input sound h p =
     let k = known input sound in
     let few = p.few in
-    let cpus = k.fit.cpus.1 in
-    ((refl, tt), rows_from (event_rows input 0 h.events) (cut_rows h 0 input.script.cpus ++ (wait_rows input.names (reverse h.events) ++ schedule_rows input.names (schedule_of h))) (events_clean input k 0 h.events (omega (arith, few)) p.events)
-    (rows_from (cut_rows h 0 input.script.cpus) (wait_rows input.names (reverse h.events) ++ schedule_rows input.names (schedule_of h)) (cuts_clean h 0 input.script.cpus (omega (arith, cpus)))
-    (rows_from (wait_rows input.names (reverse h.events)) (schedule_rows input.names (schedule_of h))
-    (waits_clean input k (reverse h.events) (omega (arith, few, length-reverse h.events)) (all_reverse (EventIsPlain input.script) h.events p.events))
-    (schedule_clean input sound (schedule_of h) (schedule_plain input k h p)))))
+    let cpus = k.fit.cpus.1 in (
+      (refl, tt),
+      rows_from (event_rows input 0 h.events) (cut_rows h 0 input.script.cpus ++ (wait_rows input.names (reverse h.events) ++ schedule_rows input.names (schedule_of h))) (events_clean input k 0 h.events (omega (arith, few)) p.events)
+          (rows_from (cut_rows h 0 input.script.cpus) (wait_rows input.names (reverse h.events) ++ schedule_rows input.names (schedule_of h)) (cuts_clean h 0 input.script.cpus (omega (arith, cpus)))
+          (rows_from (wait_rows input.names (reverse h.events)) (schedule_rows input.names (schedule_of h))
+          (waits_clean input k (reverse h.events) (omega (arith, few, length-reverse h.events)) (all_reverse (EventIsPlain input.script) h.events p.events))
+          (schedule_clean input sound (schedule_of h) (schedule_plain input k h p)))),
+    )
 
 -- the lines before the schedule
 front : Input → History → List Row

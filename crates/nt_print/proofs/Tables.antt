@@ -9,7 +9,7 @@ use Rattle.nt_event.specs.declared.events.Event.{Event}
 use Rattle.nt_event.specs.declared.scripts.Script.{Script}
 use Rattle.nt_event.specs.Fate.{ApcThing, DpcThing, Inserted, Thing, fate_of, inserted_thing, still_waits}
 use Rattle.nt_print.specs.declared.uses.Uses.{Uses}
-use Rattle.nt_print.specs.Uses.{AreUses, HasPlace, TellsNamed, TellsRemovals, apcs_after, dpcs_after, inserted_at, is_it, is_left, last_removal, named_by, names_it, put_at, removal_at, removed_by, removes_it, same_thing, thing_fits, was_named, with_named}
+use Rattle.nt_print.specs.Uses.{AreUses, HasPlace, TellsNamed, TellsRemovals, apcs_after, dpcs_after, inserted_at, is_it, is_left, last_removal, named_by, names_it, put_at, removal_at, removed_by, removes_it, same_thing, thing_fits, waits_at, was_named, with_named}
 use Rattle.nt_print.proofs.Fates.{waits_exactly}
 
 -- ---- the events up to one more
@@ -88,7 +88,7 @@ named_step events k e table lt len is tells n thing at =
     let past : List Event = reverse (take k events) in
     let here = marked events k (named_by e.what) table n thing (was_named thing n past) (omega (arith, lt, len)) at (tells n thing at) in
     let more : was_named thing n (e ∷ past) ≡ (was_named thing n past || (nat_lt n k && names_it (named_by e.what) thing n)) =
-        ap (λ (m : ℕ). was_named thing n past || (nat_lt n m && names_it (named_by e.what) thing n)) (past_length events k (omega (arith, lt))) in
+    ap (λ (m : ℕ). was_named thing n past || (nat_lt n m && names_it (named_by e.what) thing n)) (past_length events k (omega (arith, lt))) in
     here ∙ sym more ∙ ap (λ (p : List Event). was_named thing n p) (sym (past_more events k e lt is))
 
 pub named_next : (events : List Event) (k : ℕ) (e : Event) (table new : List Bool) → k < length events → length table ≡ length events → e ≡ get_or events k e → TellsNamed events (reverse (take k events)) table → new ≡ with_named events k (named_by e.what) table
@@ -191,3 +191,15 @@ left_exactly s events uses n thing u at fits =
 -- a part that was written is all of the list
 pub written : {X : Type 0} (n : ℕ) (new others : List X) → length new ≡ n → take n (new ++ others) ≡ new
 written n new others l = subst (λ (m : ℕ). take m (new ++ others) ≡ new) l (take-append_seam new others)
+
+-- ---- what the event of a number inserts, where it waits
+
+pub waits_yes : (s : Script) (events : List Event) (uses : Uses) (n : ℕ) (thing : Thing) → AreUses s events uses → Some thing ≡ inserted_at events n → thing_fits s thing ≡ true → is_left uses n thing ≡ true → Some thing ≡ waits_at (reverse events) n (inserted_at events n)
+waits_yes s events uses n thing u at fits left =
+    let waits : still_waits (fate_of thing n (reverse events)) ≡ true = sym (left_exactly s events uses n thing u (sym at) fits) ∙ left in
+    subst (λ (o : Option Thing). Some thing ≡ waits_at (reverse events) n o) at (rw waits refl)
+
+pub waits_no : (s : Script) (events : List Event) (uses : Uses) (n : ℕ) (thing : Thing) → AreUses s events uses → Some thing ≡ inserted_at events n → thing_fits s thing ≡ true → is_left uses n thing ≡ false → None ≡ waits_at (reverse events) n (inserted_at events n)
+waits_no s events uses n thing u at fits left =
+    let gone : still_waits (fate_of thing n (reverse events)) ≡ false = sym (left_exactly s events uses n thing u (sym at) fits) ∙ left in
+    subst (λ (o : Option Thing). None ≡ waits_at (reverse events) n o) at (rw gone refl)

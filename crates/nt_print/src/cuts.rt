@@ -48,12 +48,7 @@ fn put_cut(out: &mut Vec<u8>, cpu: u8) -> Result<(), AllocError>
 }
 
 /// Adds the line of a processor, where it made as many events as it may.
-fn put_cut_of(
-    out: &mut Vec<u8>,
-    cpu: u8,
-    count: usize,
-    history: &History,
-) -> Result<(), AllocError>
+fn put_cut_of(out: &mut Vec<u8>, cpu: u8, count: usize, history: &History) -> Result<(), AllocError>
     requires { count ≡ made cpu history.now.events }
     ensures { OnOk result (out.new.items ≡ out.old.items ++ rows_text (cut_of history.now cpu)) }
 {

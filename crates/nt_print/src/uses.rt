@@ -77,11 +77,7 @@ fn note_removals(dpcs: &mut [usize], apcs: &mut [usize], events: &[Event])
 }
 
 /// What the events of a history of a script used up.
-pub(crate) fn uses_of(
-    alloc: Global,
-    script: &Script,
-    events: &[Event],
-) -> Result<Uses, AllocError>
+pub(crate) fn uses_of(alloc: Global, script: &Script, events: &[Event]) -> Result<Uses, AllocError>
     ensures { IfOk result (λ u. AreUses script.now events.now u) }
 {
     let mut named = vec![in alloc; false; events.len()]?;
