@@ -48,23 +48,23 @@ name_bytes_field : (bs : List ℕ) → list_all is_name_byte bs ≡ true → is_
 name_bytes_field [] e = refl
 name_bytes_field (c ∷ cs) e = let p = and_parts (is_name_byte c) (list_all is_name_byte cs) e in and_from (nat_le 33 c && nat_le c 126) (is_field cs) (name_byte_field c p.0) (name_bytes_field cs p.1)
 
-name_field : (f : List ℕ) → is_name f ≡ true → is_field f ≡ true
+pub name_field : (f : List ℕ) → is_name f ≡ true → is_field f ≡ true
 name_field f e = name_bytes_field f (and_parts (not (length f == 0) && nat_le (length f) 16) (list_all is_name_byte f) e).1
 
 rows_both : (a b : List Row) → AllRows a → AllRows b → AllRows (a ++ b)
 rows_both [] b p q = q
 rows_both (r ∷ a) b p q = (p.0, rows_both a b p.1 q)
 
-dpc_field : (names : NameLists) (fit : NamesFit names) (i : ℕ) → i < length names.dpcs → is_field (get_or names.dpcs i []) ≡ true
+pub dpc_field : (names : NameLists) (fit : NamesFit names) (i : ℕ) → i < length names.dpcs → is_field (get_or names.dpcs i []) ≡ true
 dpc_field names fit i lt = name_field (get_or names.dpcs i []) (is_new [] names.dpcs i fit.dpcs lt).0
 
-timer_field : (names : NameLists) (fit : NamesFit names) (i : ℕ) → i < length names.timers → is_field (get_or names.timers i []) ≡ true
+pub timer_field : (names : NameLists) (fit : NamesFit names) (i : ℕ) → i < length names.timers → is_field (get_or names.timers i []) ≡ true
 timer_field names fit i lt = name_field (get_or names.timers i []) (is_new names.dpcs names.timers i fit.timers lt).0
 
-thread_field : (names : NameLists) (fit : NamesFit names) (i : ℕ) → i < length names.threads → is_field (get_or names.threads i []) ≡ true
+pub thread_field : (names : NameLists) (fit : NamesFit names) (i : ℕ) → i < length names.threads → is_field (get_or names.threads i []) ≡ true
 thread_field names fit i lt = name_field (get_or names.threads i []) (is_new (names.dpcs ++ names.timers) names.threads i fit.threads lt).0
 
-apc_field : (names : NameLists) (fit : NamesFit names) (i : ℕ) → i < length names.apcs → is_field (get_or names.apcs i []) ≡ true
+pub apc_field : (names : NameLists) (fit : NamesFit names) (i : ℕ) → i < length names.apcs → is_field (get_or names.apcs i []) ≡ true
 apc_field names fit i lt = name_field (get_or names.apcs i []) (is_new ((names.dpcs ++ names.timers) ++ names.threads) names.apcs i fit.apcs lt).0
 
 routine_field : (names : NameLists) (fit : NamesFit names) (i : ℕ) → i < length names.routines → is_field (get_or names.routines i []) ≡ true
@@ -105,7 +105,7 @@ on_off_field false = refl
 
 -- ---- lines
 
-command_clean : (names : NameLists) (fit : NamesFit names) (cpus : ℕ) → cpus ≤ 8 → (c : Command) → CommandFits names cpus c → IsRow (command_row names c)
+pub command_clean : (names : NameLists) (fit : NamesFit names) (cpus : ℕ) → cpus ≤ 8 → (c : Command) → CommandFits names cpus c → IsRow (command_row names c)
 command_clean names fit cpus few (cmd.Raise level) h = (refl, (decimal_field level (omega (arith, h)), tt))
 command_clean names fit cpus few (cmd.Lower level) h = (refl, (decimal_field level (omega (arith, h)), tt))
 command_clean names fit cpus few (cmd.Queue d) h = (refl, (dpc_field names fit d.0 h, tt))

@@ -17,5 +17,6 @@ pub mod Both
 pub mod Kept
 pub mod Soundness
 pub mod Contract
+pub mod CommandNames
 pub mod Printed
 pub mod Cutting

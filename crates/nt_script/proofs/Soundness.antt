@@ -105,7 +105,7 @@ isr_level_low l e =
 -- ---- one thing
 
 -- there are as many names as things
-record Counts (s : Script) (names : NameLists) : Type 0 where
+pub record Counts (s : Script) (names : NameLists) : Type 0 where
   pub dpcs : length names.dpcs ≡ length s.dpcs
   pub timers : length names.timers ≡ length s.timers
   pub threads : length names.threads ≡ length s.threads
@@ -165,7 +165,7 @@ apc_to s names cs x h =
     (and_from (has_thread s x.thread && has_routine s x.kernel && where_given (has_routine s) x.normal) (where_given (has_routine s) x.rundown)
     (and_from (has_thread s x.thread && has_routine s x.kernel) (where_given (has_routine s) x.normal) (and_from (has_thread s x.thread) (has_routine s x.kernel) t k) n) d) h.routines
 
-command_from : (s : Script) (names : NameLists) → Counts s names → (c : Command) → command_fits s c ≡ true → HasRange c → CommandFits names s.cpus c
+pub command_from : (s : Script) (names : NameLists) → Counts s names → (c : Command) → command_fits s c ≡ true → HasRange c → CommandFits names s.cpus c
 command_from s names cs (cmd.Raise level) e h = h
 command_from s names cs (cmd.Lower level) e h = h
 command_from s names cs (cmd.Queue d) e h = below d.0 (length names.dpcs) (length s.dpcs) cs.dpcs e

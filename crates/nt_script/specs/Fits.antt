@@ -54,3 +54,17 @@ CommandFits names cpus (cmd.Clock units) = (units ≤ 4294967295)
 CommandFits names cpus cmd.ToUser = Unit {0}
 CommandFits names cpus cmd.Yield = Unit {0}
 CommandFits names cpus (cmd.Note number) = (number ≤ 4294967295)
+
+-- what the line of a command names has a name
+abbrev pub CommandNamed : NameLists → Command → Type 0
+CommandNamed names (cmd.Queue d) = d.0 < length names.dpcs
+CommandNamed names (cmd.Unqueue d) = d.0 < length names.dpcs
+CommandNamed names (cmd.SetImportance d importance) = d.0 < length names.dpcs
+CommandNamed names (cmd.SetTarget d target) = d.0 < length names.dpcs
+CommandNamed names (cmd.SetTimer t due period) = t.0 < length names.timers
+CommandNamed names (cmd.CancelTimer t) = t.0 < length names.timers
+CommandNamed names (cmd.InsertApc a) = a.0 < length names.apcs
+CommandNamed names (cmd.RemoveApc a) = a.0 < length names.apcs
+CommandNamed names (cmd.Release t) = t.0 < length names.threads
+CommandNamed names (cmd.Alert t mode) = t.0 < length names.threads
+CommandNamed names _ = Unit {0}

@@ -24,7 +24,7 @@ mod words;
 pub use laws::{one_text, texts_both_ways};
 pub use names::{Kind, Named, Names};
 pub use nt_text::{ScriptKind, What10};
-pub use printing::print;
+pub use printing::{print, put_command};
 pub use reading::{ScriptRefusal, read};
 pub use splitting::{Split, split_at};
 pub use walk::Input;

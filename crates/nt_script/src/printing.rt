@@ -1,10 +1,11 @@
 //! The text of an input, line by line.
 ghost use Rattle.std.specs.Prelude.{◌≡◌, ◌<◌, ◌≤◌, ◌∷◌, ◌++◌, [], length, map, decimal, All, OnOk, IfOk};
+ghost use Rattle.std.specs.List.{join_with_byte};
 ghost use Rattle.nt_text.specs.Lines.{row_text, rows_text};
 ghost use Rattle.nt_script.specs.Slots.{own, dash};
 ghost use Rattle.nt_script.specs.Words.{text_of};
 ghost use Rattle.nt_script.specs.NameLists.{show_dpc, show_timer, show_thread, show_apc, show_routine};
-ghost use Rattle.nt_script.specs.Fits.{IsrFits, DpcFits, TimerFits, ThreadFits, ApcFits, CommandFits};
+ghost use Rattle.nt_script.specs.Fits.{IsrFits, DpcFits, TimerFits, ThreadFits, ApcFits, CommandFits, CommandNamed};
 ghost use Rattle.nt_script.specs.Text.{show_target, show_unless, command_verb, command_row, header_rows, isr_row, dpc_row, timer_row, thread_row, apc_row, declared_rows, begun_rows, exit_row, routine_rows, text};
 ghost use Rattle.nt_script.specs.Sound.{IsSound};
 
@@ -76,15 +77,10 @@ fn verb_of(command: &Command) -> Verb
     }
 }
 
-/// Adds the line of a command.
-fn put_command(
-    out: &mut Vec<u8>,
-    names: &Names,
-    cpus: u8,
-    command: &Command,
-) -> Result<(), AllocError>
-    requires { CommandFits names.now cpus command.now }
-    ensures { OnOk result (out.new.items ≡ out.old.items ++ row_text (command_row names.now command.now)) }
+/// Adds a command: its word and what stands behind it, with one space between two fields and no line end.
+pub fn put_command(out: &mut Vec<u8>, names: &Names, command: &Command) -> Result<(), AllocError>
+    requires { CommandNamed names.now command.now }
+    ensures { OnOk result (out.new.items ≡ out.old.items ++ join_with_byte 32 (command_row names.now command.now)) }
 {
     out.extend_from_slice(verb_of(command).text())?;
     match command {
@@ -158,7 +154,6 @@ fn put_command(
             put_number(out, *number)?;
         }
     }
-    out.push(b'\n')?;
     Ok(())
 }
 
@@ -292,6 +287,7 @@ fn put_routine(
     Ok(())
 }
 
+#[tactic(auto, using(crate::proofs::CommandNames::fits_named))]
 fn put_commands(
     out: &mut Vec<u8>,
     names: &Names,
@@ -302,7 +298,8 @@ fn put_commands(
     ensures { OnOk result (out.new.items ≡ out.old.items ++ rows_text (map (command_row names.now) commands.now)) }
 {
     for command in commands {
-        put_command(out, names, cpus, command)?;
+        put_command(out, names, command)?;
+        out.push(b'\n')?;
     }
     Ok(())
 }

@@ -1,5 +1,4 @@
 mod Lists
-mod Rows
 mod OneWord
 mod Found
 mod Written

@@ -1,5 +1,5 @@
 -- What each element of a list passes, the element at a place passes.
-use Rattle.std.proofs.Common.{◌≡◌, ℕ, ◌<◌, Bool, true, false, List, length, get_or, refl, ap, ◌∙◌}
+use Rattle.std.proofs.Common.{◌≡◌, ℕ, ◌<◌, Bool, true, false, List, length, get_or, refl}
 use Rattle.std.specs.List.{list_all}
 use Rattle.std.proofs.lemmas.List.Folds.{list_all_at}
 
@@ -9,6 +9,3 @@ passes_at p xs i d h lt = go (p (get_or xs i d)) refl
     go : (b : Bool) → p (get_or xs i d) ≡ b → b ≡ true
     go true e = refl
     go false e = let no : list_all p xs ≡ false = list_all_at p xs i d lt e in cc
-
-pub passes_read : {X : Type 0} (p : X → Bool) (xs : List X) (i : ℕ) (x : X) → list_all p xs ≡ true → i < length xs → x ≡ get_or xs i x → p x ≡ true
-passes_read p xs i x h lt e = ap p e ∙ passes_at p xs i x h lt

@@ -1,6 +1,4 @@
-pub mod Fitting
 pub mod Machine
-pub mod Report
 pub mod Status
 pub mod Words
 pub mod Unbuilt

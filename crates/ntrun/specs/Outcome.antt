@@ -9,11 +9,10 @@ use Rattle.nt_text.specs.Kinds.{kind_number, kind_name, thing_name}
 use Rattle.nt_event.specs.declared.events.History.{History}
 use Rattle.nt_script.specs.declared.walk.Input.{Input}
 use Rattle.nt_script.specs.Reading.{reading}
-use Rattle.ntrun.specs.declared.report.waits.Insert.{Insert}
 use Rattle.ntrun.specs.declared.status.Status.{Status}
 use Rattle.ntrun.specs.declared.status.Status.TheVariants as exit
-use Rattle.ntrun.specs.Fitting.{events_fit}
-use Rattle.ntrun.specs.Report.{report_text}
+use Rattle.nt_print.specs.Fitting.{events_fit}
+use Rattle.nt_print.specs.Report.{report_text}
 use Rattle.ntrun.specs.Unbuilt.{first_unbuilt}
 use Rattle.ntrun.specs.Words.{IsForm}
 
@@ -90,8 +89,7 @@ pub record IsReport (input : Input) (text : List ℕ) : Type 0 where
   pub turns : history.turns ≡ turn_limit
   pub few : length history.events ≤ turn_limit
   pub fits : events_fit input.script history.events ≡ true
-  pub waits : List Insert
-  pub is : text ≡ report_text input history waits
+  pub is : text ≡ report_text input history
 
 -- the bytes are a script that the machine runs, and the text is such a report
 pub record IsRun (bytes text : List ℕ) : Type 0 where

@@ -7,9 +7,9 @@ ghost use Rattle.ntrun.specs.Answer.{text_of};
 ghost use Rattle.ntrun.specs.Outcome.{refusal, kind_text, script_line, memory_line, IsReport, IsRefused, IsReported, IsFoundIn};
 
 use crate::machine::run;
-use crate::report::report;
 use crate::status::Status;
 use crate::unbuilt::first_unbuilt;
+use nt_print::report;
 use nt_script::{Input, ScriptKind, ScriptRefusal, read};
 use std::alloc::{AllocError, Global};
 

@@ -6,7 +6,7 @@
 ghost use Rattle.std.specs.Prelude.{◌≡◌, ◌≤◌, ◌<◌, ◌+◌, ◌^◌, true, length, All, IfOk, IfSome, OnSome, vec_len};
 ghost use Rattle.std.specs.List.{list_all};
 ghost use Rattle.nt_event.specs.Script.{fits, where_given, has_thread, has_dpc, command_fits};
-ghost use Rattle.ntrun.specs.Fitting.{what_fits, event_fits, events_fit};
+ghost use Rattle.nt_print.specs.Fitting.{what_fits, event_fits, events_fit};
 ghost use Rattle.ntrun.specs.Machine.{thread_of};
 
 use crate::frame::Frame;

@@ -5,7 +5,7 @@
 //! `lower`, `queue` and `note`; a line of a later stage is refused.
 //!
 //! [`ntrun`] is the whole program over a source, a sink and a gate; `main` gives it the standard streams. The bytes of the
-//! source are read whole and are a script (`nt_script`), the private `machine` makes its run, a history of events, `report`
+//! source are read whole and are a script (`nt_script`), the private `machine` makes its run, a history of events, `nt_print`
 //! makes the text of the history, and that is written. `specs/Outcome.antt` says when each status comes and what is written.
 #![tactic(auto)]
 
@@ -13,7 +13,6 @@ mod answer;
 mod frame;
 mod machine;
 mod queue;
-mod report;
 mod status;
 mod top;
 mod unbuilt;

@@ -1,5 +1,5 @@
 use Rattle.std.proofs.Common.{◌≡◌, ◌≤◌, true, vec_len}
-use Rattle.ntrun.specs.Fitting.{events_fit}
+use Rattle.nt_print.specs.Fitting.{events_fit}
 use Rattle.ntrun.proofs.machine.run.Given as goal
 
 abbrev pub invariant-loop-number : goal.invariant-loop-number

@@ -1,0 +1,96 @@
+-- At the close, nothing is eligible on a processor that isn't cut, and no DPC is pending there.
+use Rattle.std.proofs.Common.{ap, arith, subst, sym, ◌∙◌}
+use Rattle.std.proofs.lemmas.Bool.{lt-ltb}
+use Rattle.std.specs.List.{Contains}
+use Rattle.std.specs.Option.{option_map_or}
+use Rattle.std.specs.Prelude.{Bool, List, Option, [], false, nat_lt, not, refl, suc, true, zero, ℕ, ◌&&◌, ◌∷◌, ◌≡◌}
+use Rattle.nt_event.specs.declared.events.Event.{Event}
+use Rattle.nt_event.specs.declared.frames.Frame.{Frame}
+use Rattle.nt_event.specs.declared.inserts.Insert.{Insert}
+use Rattle.nt_event.specs.declared.inserts.Part.{Part}
+use Rattle.nt_event.specs.declared.inserts.Part.TheVariants.{Ordinary as OrdinaryPart, Threaded as ThreadedPart}
+use Rattle.nt_event.specs.declared.numbers.CpuNo.{CpuNo}
+use Rattle.nt_event.specs.declared.numbers.DpcNo.{DpcNo}
+use Rattle.nt_event.specs.declared.numbers.ThreadNo.{ThreadNo}
+use Rattle.nt_event.specs.declared.scripts.Script.{Script}
+use Rattle.nt_event.specs.Eligible.{DpcRequest, ExpiryRequest, FlushRequest, IntRequest, KernelApcRequest, Request, ThreadedRequest, UserApcRequest, eligible, is_at_base, is_first_dpc, is_interrupt_level}
+use Rattle.nt_event.specs.Frames.{frames_in, frames_of, is_base_body, is_on_thread, own_frames, thread_part}
+use Rattle.nt_event.specs.Jobs.{is_due}
+use Rattle.nt_event.specs.Lanes.{lanes_at, queue_at}
+use Rattle.nt_event.specs.Own.{own_of}
+use Rattle.nt_event.specs.Queues.{first_dpc, is_of_dpc, pending, same_part}
+use Rattle.nt_event.specs.Regions.{owes_sweep}
+use Rattle.nt_event.specs.Words.{is_null}
+use Rattle.nt_laws.proofs.FatesDeliveries.{queue_there}
+use Rattle.nt_laws.proofs.FatesElements.{contains_here}
+use Rattle.nt_close.specs.Close.{IsClosed}
+use Rattle.nt_close.proofs.AtRest.{IsAtRest, closed_rests, no_interrupt, no_sweep, none_wanted_0, none_wanted_2, rest_inner}
+use Rattle.nt_close.proofs.PendingDpcs.{ordinary_wanted, threaded_wanted}
+
+-- ---- no DPC is pending
+
+pub no_dpc_is_left : (s : Script) (limit : ℕ) (p : CpuNo) (past : List Event) → IsClosed s limit p past → pending s p past ≡ []
+no_dpc_is_left s limit p past k = go (pending s p past) refl
+  where
+    there : (x : Insert) (xs : List Insert) → pending s p past ≡ x ∷ xs → Contains (pending s p past) x
+    there x xs e = subst (λ (ys : List Insert). Contains ys x) (sym e) (contains_here x xs)
+
+    one : (x : Insert) → Contains (pending s p past) x → (part : Part) → x.part ≡ part → ⊥
+    one x c OrdinaryPart e =
+        none_wanted_2 s p past (closed_rests s limit p past k) (ordinary_wanted s limit p x past k.run k.named (closed_rests s limit p past k).rested c (ap (same_part OrdinaryPart) e))
+    one x c ThreadedPart e =
+        none_wanted_0 s p past (closed_rests s limit p past k) (threaded_wanted s limit p x past k.run k.named c (ap (same_part ThreadedPart) e))
+
+    go : (xs : List Insert) → pending s p past ≡ xs → pending s p past ≡ []
+    go [] e = e
+    go (x ∷ xs) e = absurd (one x (there x xs e) x.part refl)
+
+none_first : (s : Script) (limit : ℕ) (p : CpuNo) (part : Part) (d : DpcNo) (past : List Event) → IsClosed s limit p past → is_first_dpc part d (queue_at (lanes_at s past) p) ≡ false
+none_first s limit p part d past k =
+    ap (is_first_dpc part d) (queue_there s p past k.named) ∙ ap (λ (xs : List Insert). option_map_or (is_of_dpc d) (first_dpc part xs) false) (no_dpc_is_left s limit p past k)
+
+-- ---- nothing is eligible
+
+fails_first : (a b : Bool) → a ≡ false → (a && b) ≡ false
+fails_first true b h = cc
+fails_first false b h = refl
+
+fails_second : (a b : Bool) → b ≡ false → (a && b) ≡ false
+fails_second true b h = h
+fails_second false b h = refl
+
+tested_then : (a b : Bool) → (a ≡ true → b ≡ false) → (a && b) ≡ false
+tested_then true b h = h refl
+tested_then false b h = refl
+
+above_0 : (c : ℕ) → is_interrupt_level c ≡ true → nat_lt 0 c ≡ true
+above_0 zero h = h
+above_0 (suc c) h = lt-ltb 0 (suc c) (omega arith)
+
+no_part : (s : Script) (p : CpuNo) (past : List Event) → IsAtRest s p past → thread_part (frames_of s p past) ≡ []
+no_part s p past k =
+    ap (λ (o : Option ThreadNo). option_map_or (frames_in (frames_of s p past).threads) o []) k.clear.running
+
+not_at_base : (s : Script) (p : CpuNo) (past : List Event) → IsAtRest s p past → is_at_base (own_of s p past) ≡ false
+not_at_base s p past k =
+    ap (λ (o : Option Frame). option_map_or (λ f. is_base_body f.body) o false) (rest_inner s p past k)
+
+not_on_thread : (s : Script) (p : CpuNo) (past : List Event) → IsAtRest s p past → is_on_thread (frames_of s p past) ≡ false
+not_on_thread s p past k =
+    fails_second (is_null (own_frames p past)) _ (ap (λ (fs : List Frame). not (is_null fs)) (no_part s p past k))
+
+pub nothing_is_eligible : (s : Script) (limit : ℕ) (p : CpuNo) (past : List Event) (r : Request) → IsClosed s limit p past → eligible s p r past ≡ false
+nothing_is_eligible s limit p past (IntRequest level) k =
+    tested_then (is_interrupt_level level) _ (λ i. fails_first (is_due (own_of s p past) level) _ (no_interrupt s p level past (closed_rests s limit p past k) i (above_0 level i)))
+nothing_is_eligible s limit p past (ExpiryRequest key) k =
+    fails_first (owes_sweep p past) _ (no_sweep s p past (closed_rests s limit p past k))
+nothing_is_eligible s limit p past (DpcRequest d) k =
+    fails_first (is_first_dpc OrdinaryPart d (queue_at (lanes_at s past) p)) _ (none_first s limit p OrdinaryPart d past k)
+nothing_is_eligible s limit p past (ThreadedRequest d) k =
+    fails_first (is_first_dpc ThreadedPart d (queue_at (lanes_at s past) p)) _ (none_first s limit p ThreadedPart d past k)
+nothing_is_eligible s limit p past (KernelApcRequest a) k =
+    fails_first (is_on_thread (frames_of s p past)) _ (not_on_thread s p past (closed_rests s limit p past k))
+nothing_is_eligible s limit p past (UserApcRequest a) k =
+    fails_second _ _ (fails_first (is_at_base (own_of s p past)) _ (not_at_base s p past (closed_rests s limit p past k)))
+nothing_is_eligible s limit p past (FlushRequest a) k =
+    fails_second _ _ (fails_second _ _ (fails_first (is_at_base (own_of s p past)) _ (not_at_base s p past (closed_rests s limit p past k))))

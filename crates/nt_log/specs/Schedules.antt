@@ -1,0 +1,102 @@
+-- The text of a schedule, as rows of fields: the turn limit, a line for each turn, and the end.
+use Rattle.std.specs.Prelude.{◌≡◌, ℕ, ◌+◌, ◌<◌, ◌≤◌, Bool, true, false, ◌&&◌, ◌||◌, not, nat_le, List, [], ◌∷◌, ◌++◌, length, map, codes, decimal, ◌==◌, if◌then◌else◌}
+use Rattle.std.specs.List.{AllByRecursion, list_all, list_any}
+use Rattle.nt_text.specs.Lines.{rows_text}
+use Rattle.nt_event.specs.declared.numbers.CpuNo.{CpuNo}
+use Rattle.nt_event.specs.declared.events.History.{History}
+use Rattle.nt_event.specs.declared.events.Rises.{Rises}
+use Rattle.nt_event.specs.declared.events.Turn.{Turn}
+use Rattle.nt_event.specs.declared.events.Turn.TheVariants.{Next, Look, Switch}
+use Rattle.nt_event.specs.declared.scripts.Script.{Script}
+use Rattle.nt_event.specs.Script.{has_thread}
+use Rattle.nt_event.specs.Step.{turn_of}
+use Rattle.nt_script.specs.declared.walk.Input.{Input}
+use Rattle.nt_script.specs.NameLists.{NameLists, show_thread}
+use Rattle.nt_script.specs.Sound.{IsSound}
+use Rattle.nt_script.specs.Text.{Row, show_cpu}
+use Rattle.nt_log.specs.declared.schedules.Schedule.{Schedule}
+
+-- the schedule of a history: its limit and the turn of each event
+abbrev pub schedule_of : History → Schedule
+schedule_of h = record { turns = h.turns; list = map turn_of h.events }
+
+-- ---- which schedules have a text
+
+-- a switch takes a thread of the script
+abbrev pub turn_fits : Script → Turn → Bool
+turn_fits s (Switch p t) = has_thread s t
+turn_fits s _ = true
+
+abbrev pub turns_fit : Script → List Turn → Bool
+turns_fit s turns = list_all (turn_fits s) turns
+
+-- classes that a processor is asked in: software levels, devices, the clock, and inter-processor interrupts
+abbrev pub is_class : ℕ → Bool
+is_class c = nat_le c 11 || (c == 13) || (c == 14)
+
+-- the values, of which the first is of this class, rise in such classes only
+abbrev pub rise_in_classes : ℕ → List ℕ → Bool
+rise_in_classes class [] = true
+rise_in_classes class (v ∷ vs) = (v == 0 || is_class class) && rise_in_classes (class + 1) vs
+
+-- a value for each class, of which one at least rises, and only those of such classes
+pub record AreRises (r : Rises) : Type 0 where
+  pub classes : length r.value ≡ 16
+  pub some : list_any (λ v. not (v == 0)) r.value ≡ true
+  pub used : rise_in_classes 0 r.value ≡ true
+  pub range : AllByRecursion (λ v. v ≤ 18446744073709551615) r.value
+
+abbrev pub TurnIsPlain : Script → Turn → Type 0
+TurnIsPlain s (Next p) = p.0 ≤ 63
+TurnIsPlain s (Look p rises) = (p.0 ≤ 63) × AreRises rises
+TurnIsPlain s (Switch p t) = (p.0 ≤ 63) × (t.0 < length s.threads)
+
+-- a schedule that a text may have: each switch takes a thread of the script, processors are at most 63, looks have values in
+-- classes only, and there are not too many turns. Profile.
+pub record IsPlain (s : Script) (schedule : Schedule) : Type 0 where
+  pub turns : AllByRecursion (TurnIsPlain s) schedule.list
+  pub few : length schedule.list ≤ 160000
+  pub limit : (1 ≤ schedule.turns) × (schedule.turns ≤ 20000)
+
+-- ---- its lines
+
+-- a class and the value that rises in it
+abbrev pub rise_field : ℕ → ℕ → List ℕ
+rise_field class value = decimal class ++ 61 ∷ decimal value
+
+-- the values that rise, of which the first is of this class
+abbrev pub rises_row : ℕ → List ℕ → Row
+rises_row class [] = []
+rises_row class (value ∷ values) = if value == 0 then rises_row (class + 1) values else rise_field class value ∷ rises_row (class + 1) values
+
+abbrev pub turn_word : Turn → List ℕ
+turn_word (Next p) = codes "next"
+turn_word (Look p rises) = codes "look"
+turn_word (Switch p t) = codes "switch"
+
+-- what stands behind the word of a turn
+abbrev pub turn_fields : NameLists → Turn → Row
+turn_fields names (Next p) = show_cpu p ∷ []
+turn_fields names (Look p rises) = show_cpu p ∷ rises_row 0 rises.value
+turn_fields names (Switch p t) = show_cpu p ∷ show_thread names t ∷ []
+
+abbrev pub turn_row : NameLists → Turn → Row
+turn_row names t = turn_word t ∷ turn_fields names t
+
+abbrev pub limit_row : ℕ → Row
+limit_row turns = codes "schedule" ∷ decimal turns ∷ []
+
+abbrev pub done_row : Row
+done_row = codes "done" ∷ []
+
+abbrev pub schedule_rows : NameLists → Schedule → List Row
+schedule_rows names s = limit_row s.turns ∷ (map (turn_row names) s.list ++ done_row ∷ [])
+
+abbrev pub schedule_text : Input → Schedule → List ℕ
+schedule_text input s = rows_text (schedule_rows input.names s)
+
+-- the bytes are the text of the schedule, for the script of a sound input
+pub record IsTextOf (bytes : List ℕ) (input : Input) (s : Schedule) : Type 0 where
+  pub sound : IsSound input
+  pub plain : IsPlain input.script s
+  pub text : bytes ≡ schedule_text input s

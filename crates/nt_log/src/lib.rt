@@ -1,0 +1,21 @@
+//! Schedules: which processor makes which step, and their text.
+//!
+//! A [`Schedule`] is a turn limit and a list of turns; [`turns_of`] gives that of a history. Its text is the line
+//! `schedule N`, a line for each turn, `next P`, `switch P THREAD` or `look P C=V ..`, and the line `done`;
+//! [`print_schedule`] gives it, and [`put_schedule`] adds it to another text. The definition of the text is in
+//! `specs::Schedules`. The whole grammar is this project's own (profile).
+//!
+//! [`put_field`] and [`put_number`] add fields of a line to a text.
+#![tactic(auto)]
+
+mod fields;
+mod laws;
+mod printing;
+mod schedules;
+#[cfg(test)]
+mod tests;
+
+pub use fields::{put_field, put_number};
+pub use laws::texts_are_schedules;
+pub use printing::{print_schedule, put_schedule};
+pub use schedules::{Schedule, turn_of, turns_of};

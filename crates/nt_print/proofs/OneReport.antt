@@ -1,0 +1,330 @@
+-- A text is the report of one history.
+use Rattle.std.proofs.Common.{◌≡◌, ◌∙◌, ℕ, zero, suc, ◌+◌, ◌^◌, ◌<◌, ◌≤◌, Bool, true, false, List, [], ◌∷◌, ◌++◌, length, get_or, map, reverse, Option, Some, None, refl, sym, ap, subst, append_assoc, append-nil, arith, rules}
+use Rattle.std.specs.Prelude.{IfSome, codes, decimal, filter, nat_le, ◌==◌, if◌then◌else◌}
+use Rattle.std.specs.Char.{is_ascii_digit}
+use Rattle.std.specs.List.{AllByRecursion, list_all}
+use Rattle.std.specs.Str.{all_ascii_digits}
+use Rattle.std.proofs.lemmas.Bool.{and_parts, leb-true, ltb-true, ne_eqb}
+use Rattle.std.proofs.lemmas.Fmt.{decimal_nonempty, digits_decimal}
+use Rattle.std.proofs.lemmas.List.{length-map, length-reverse, reverse-append}
+use Rattle.std.proofs.lemmas.List.Elements.{filter-append}
+use Rattle.std.proofs.lemmas.Str.Parse.{IsNumeralModel, numerals_by_fold}
+use Rattle.nt_text.specs.Lines.{AllRows, IsRow, is_field}
+use Rattle.nt_text.proofs.Decimals.{decimal_field, read_on}
+use Rattle.nt_event.specs.declared.commands.Command.TheVariants.{InsertApc, Queue}
+use Rattle.nt_event.specs.declared.commands.Reply.TheVariants.{Yes}
+use Rattle.nt_event.specs.declared.events.Event.{Event}
+use Rattle.nt_event.specs.declared.events.History.{History}
+use Rattle.nt_event.specs.declared.events.Turn.{Turn}
+use Rattle.nt_event.specs.declared.events.Turn.TheVariants.{Look as LookTurn}
+use Rattle.nt_event.specs.declared.events.What.{What}
+use Rattle.nt_event.specs.declared.events.What.TheVariants.{Call, Fire, Look, Switch}
+use Rattle.nt_event.specs.declared.numbers.CpuNo.{CpuNo}
+use Rattle.nt_event.specs.declared.scripts.Script.{Script}
+use Rattle.nt_event.specs.Fate.{ApcThing, DpcThing, Inserted, Thing, fate_of, inserted_by, inserted_thing, inserts, still_waits, waiting_inserts}
+use Rattle.nt_event.specs.Step.{turn_at, turn_of}
+use Rattle.nt_script.specs.declared.walk.Input.{Input}
+use Rattle.nt_script.specs.NameLists.{NameLists}
+use Rattle.nt_script.specs.Sound.{IsSound}
+use Rattle.nt_script.specs.Text.{Row}
+use Rattle.nt_log.specs.declared.schedules.Schedule.{Schedule}
+use Rattle.nt_log.specs.Schedules.{IsPlain as OfTurns, TurnIsPlain, limit_row, schedule_of, schedule_rows}
+use Rattle.nt_log.proofs.OneRow.{all_map, map_rows, row_from, rows_from, rows_one, split_one}
+use Rattle.nt_log.proofs.OneSchedule.{schedule_clean, turns_one}
+use Rattle.nt_print.specs.Conditions.{EventIsPlain, IsPlain, IsReportOf, LookIsBare, WhatInRange}
+use Rattle.nt_print.specs.Fitting.{what_fits}
+use Rattle.nt_print.specs.Report.{cut_of, cut_row, cut_rows, event_row, event_rows, line_rows, made, report_rows, thing_row, wait_fields, wait_row, wait_rows}
+use Rattle.nt_print.specs.Uses.{thing_fits}
+use Rattle.nt_print.proofs.OneEvent.{Fits, Known, apc_clean, dpc_clean, event_clean, event_one, event_parts, event_same, is_look, known}
+
+-- ---- lines of events
+
+line_split : (input : Input) (n : ℕ) (e : Event) (w : What) → line_rows input n e w ≡ (if is_look w then [] else event_row input n e ∷ [])
+line_split input n e (Look rises) = refl
+line_split input n e w = refl
+
+turn_look : Turn → Bool
+turn_look (LookTurn p r) = true
+turn_look _ = false
+
+look_turn : (p : CpuNo) (w : What) → turn_look (turn_at p w) ≡ is_look w
+unfolding turn_look
+look_turn p (Look rises) = refl
+look_turn p w = refl
+
+look_same : (e f : Event) → turn_of e ≡ turn_of f → is_look e.what ≡ is_look f.what
+look_same e f t = sym (look_turn e.cpu e.what) ∙ ap turn_look t ∙ look_turn f.cpu f.what
+
+bare_one : (e f : Event) (w v : What) → e.what ≡ w → f.what ≡ v → is_look w ≡ true → is_look v ≡ true → LookIsBare e w → LookIsBare f v → turn_at e.cpu w ≡ turn_at f.cpu v → e ≡ f
+bare_one e f (Look r) (Look q) i j l m h k t =
+    let cpu : e.cpu ≡ f.cpu = cc in
+    let rises : r ≡ q = cc in
+    let what : e.what ≡ f.what = cc in
+    let thread : e.thread ≡ f.thread = h.0 ∙ sym k.0 in
+    event_same e f cpu thread (h.1 ∙ sym k.1) what
+bare_one e f (Look r) v i j l m h k t = absurd cc
+bare_one e f w v i j l m h k t = absurd cc
+
+events_one : (input : Input) → Known input → (n : ℕ) (es fs : List Event) → AllByRecursion (EventIsPlain input.script) es → AllByRecursion (EventIsPlain input.script) fs → map turn_of es ≡ map turn_of fs → event_rows input n es ≡ event_rows input n fs → es ≡ fs
+events_one input k n [] [] h g t r = refl
+events_one input k n [] (f ∷ fs) h g t r = absurd cc
+events_one input k n (e ∷ es) [] h g t r = absurd cc
+events_one input k n (e ∷ es) (f ∷ fs) h g t r =
+    let turn : turn_of e ≡ turn_of f = cc in
+    let turns : map turn_of es ≡ map turn_of fs = cc in
+    let split : (if is_look e.what then [] else event_row input n e ∷ []) ++ event_rows input (n + 1) es ≡ (if is_look f.what then [] else event_row input n f ∷ []) ++ event_rows input (n + 1) fs =
+    ap (λ (a : List Row). a ++ event_rows input (n + 1) es) (sym (line_split input n e e.what)) ∙ r ∙ ap (λ (a : List Row). a ++ event_rows input (n + 1) fs) (line_split input n f f.what) in
+    go (is_look e.what) (is_look f.what) refl refl turn split (λ rest. events_one input k (n + 1) es fs h.1 g.1 turns rest)
+  where
+    go : (a b : Bool) → is_look e.what ≡ a → is_look f.what ≡ b → turn_of e ≡ turn_of f → (if a then [] else event_row input n e ∷ []) ++ event_rows input (n + 1) es ≡ (if b then [] else event_row input n f ∷ []) ++ event_rows input (n + 1) fs → (event_rows input (n + 1) es ≡ event_rows input (n + 1) fs → es ≡ fs) → e ∷ es ≡ f ∷ fs
+    go true true i j t r more =
+        let head : e ≡ f = bare_one e f e.what f.what refl refl i j h.0.1.2 g.0.1.2 t in
+        let rest : es ≡ fs = more r in
+        cc
+    go false false i j t r more =
+        let row : event_row input n e ≡ event_row input n f = cc in
+        let others : event_rows input (n + 1) es ≡ event_rows input (n + 1) fs = cc in
+        let head : e ≡ f = event_one input k n e f h.0 g.0 i j row in
+        let rest : es ≡ fs = more others in
+        cc
+    go true false i j t r more = let same = look_same e f t in absurd cc
+    go false true i j t r more = let same = look_same e f t in absurd cc
+
+events_clean : (input : Input) → Known input → (n : ℕ) (es : List Event) → n + length es < 2 ^ 64 → AllByRecursion (EventIsPlain input.script) es → AllRows (event_rows input n es)
+events_clean input k n [] few h = tt
+events_clean input k n (e ∷ es) few h =
+    rows_from (line_rows input n e e.what) (event_rows input (n + 1) es) (subst AllRows (sym (line_split input n e e.what)) (go (is_look e.what))) (events_clean input k (n + 1) es (omega (arith, few)) h.1)
+  where
+    go : (b : Bool) → AllRows (if b then [] else event_row input n e ∷ [])
+    go true = tt
+    go false = (event_clean input k n e (omega (arith, few)) h.0, tt)
+
+-- ---- which line a row is
+
+-- the first byte of a row
+initial : Row → ℕ
+initial row = get_or (get_or row 0 []) 0 0
+
+is_numbered : Row → Bool
+is_numbered row = is_ascii_digit (initial row)
+
+own : IsNumeralModel (λ ds. all_ascii_digits ds ≡ true) (read_on 0)
+own = numerals_by_fold _ (search rules) read_on (search rules)
+
+first_digit : (ds : List ℕ) → all_ascii_digits ds ≡ true → 0 < length ds → is_ascii_digit (get_or ds 0 0) ≡ true
+first_digit [] h l = absurd (omega (arith, l))
+first_digit (c ∷ cs) h l = (and_parts (is_ascii_digit c) (all_ascii_digits cs) h).0
+
+is_schedule : Row → Bool
+is_schedule row = initial row == 115
+
+abbrev IsOther : Row → Type 0
+IsOther row = (is_numbered row ≡ false) × (is_schedule row ≡ false)
+
+number_is_numbered : (input : Input) (n : ℕ) (e : Event) → n < 2 ^ 64 → is_numbered (event_row input n e) ≡ true
+unfolding is_numbered initial
+number_is_numbered input n e lt = first_digit (decimal n) (digits_decimal own n lt) (decimal_nonempty n lt)
+
+events_numbered : (input : Input) (n : ℕ) (es : List Event) → n + length es < 2 ^ 64 → AllByRecursion (λ z. is_numbered z ≡ true) (event_rows input n es)
+events_numbered input n [] few = tt
+events_numbered input n (e ∷ es) few =
+    subst (λ (a : List Row). AllByRecursion (λ z. is_numbered z ≡ true) (a ++ event_rows input (n + 1) es)) (sym (line_split input n e e.what)) (go (is_look e.what) (events_numbered input (n + 1) es (omega (arith, few))))
+  where
+    go : (b : Bool) → AllByRecursion (λ z. is_numbered z ≡ true) (event_rows input (n + 1) es) → AllByRecursion (λ z. is_numbered z ≡ true) ((if b then [] else event_row input n e ∷ []) ++ event_rows input (n + 1) es)
+    go true h = h
+    go false h = (number_is_numbered input n e (omega (arith, few)), h)
+
+no_schedule : (row : Row) → is_numbered row ≡ true → is_schedule row ≡ false
+unfolding is_numbered is_schedule
+no_schedule row h =
+    let p = and_parts (nat_le 48 (initial row)) (nat_le (initial row) 57) h in
+    let most = leb-true (initial row) 57 p.1 in
+    ne_eqb (initial row) 115 (λ z. omega (arith, most))
+
+-- ---- lists
+
+all_append : {X : Type 0} (P : X → Type 0) (a b : List X) → AllByRecursion P a → AllByRecursion P b → AllByRecursion P (a ++ b)
+all_append P [] b h k = k
+all_append P (x ∷ a) b h k = (h.0, all_append P a b h.1 k)
+
+all_to : {X : Type 0} (P Q : X → Type 0) → ((x : X) → P x → Q x) → (xs : List X) → AllByRecursion P xs → AllByRecursion Q xs
+all_to P Q f [] h = tt
+all_to P Q f (x ∷ xs) h = (f x h.0, all_to P Q f xs h.1)
+
+all_reverse : {X : Type 0} (P : X → Type 0) (xs : List X) → AllByRecursion P xs → AllByRecursion P (reverse xs)
+all_reverse P [] h = tt
+all_reverse P (x ∷ xs) h = subst (AllByRecursion P) (sym (reverse-append (x ∷ []) xs)) (all_append P (reverse xs) (x ∷ []) (all_reverse P xs h.1) (h.0, tt))
+
+all_filter : {X : Type 0} (P : X → Type 0) (p : X → Bool) (xs : List X) → AllByRecursion P xs → AllByRecursion P (filter p xs)
+all_filter P p [] h = tt
+all_filter P p (x ∷ xs) h = go (p x) (all_filter P p xs h.1)
+  where
+    go : (b : Bool) → AllByRecursion P (filter p xs) → AllByRecursion P (if b then x ∷ filter p xs else filter p xs)
+    go true more = (h.0, more)
+    go false more = more
+
+filter_all : {X : Type 0} (p : X → Bool) (xs : List X) → AllByRecursion (λ z. p z ≡ true) xs → filter p xs ≡ xs
+filter_all p [] h = refl
+filter_all p (x ∷ xs) h = rw h.0 (ap (λ ys. x ∷ ys) (filter_all p xs h.1))
+
+filter_none : {X : Type 0} (p : X → Bool) (xs : List X) → AllByRecursion (λ z. p z ≡ false) xs → filter p xs ≡ []
+filter_none p [] h = refl
+filter_none p (x ∷ xs) h = rw h.0 (filter_none p xs h.1)
+
+-- ---- lines of processors that were cut
+
+cut_other : (p : ℕ) → IsOther (cut_row p)
+unfolding is_numbered is_schedule initial
+cut_other p = (refl, refl)
+
+cuts_other : (h : History) (p n : ℕ) → AllByRecursion IsOther (cut_rows h p n)
+cuts_other h p zero = tt
+cuts_other h p (suc n) = all_append IsOther (cut_of h p) (cut_rows h (p + 1) n) (go (made p h.events == h.turns)) (cuts_other h (p + 1) n)
+  where
+    go : (b : Bool) → AllByRecursion IsOther (if b then cut_row p ∷ [] else [])
+    go true = (cut_other p, tt)
+    go false = tt
+
+cuts_clean : (h : History) (p n : ℕ) → p + n < 2 ^ 64 → AllRows (cut_rows h p n)
+cuts_clean h p zero few = tt
+cuts_clean h p (suc n) few = rows_from (cut_of h p) (cut_rows h (p + 1) n) (go (made p h.events == h.turns)) (cuts_clean h (p + 1) n (omega (arith, few)))
+  where
+    go : (b : Bool) → AllRows (if b then cut_row p ∷ [] else [])
+    go true = ((refl, (decimal_field p (omega (arith, few)), tt)), tt)
+    go false = tt
+
+-- ---- lines of inserts that wait
+
+wait_other : (names : NameLists) (i : Inserted) → IsOther (wait_row names i)
+unfolding is_numbered is_schedule initial
+wait_other names i = (refl, refl)
+
+waits_other : (names : NameLists) (xs : List Inserted) → AllByRecursion IsOther (map (wait_row names) xs)
+waits_other names [] = tt
+waits_other names (x ∷ xs) = (wait_other names x, waits_other names xs)
+
+abbrev WaitIsPlain : Script → Inserted → Type 0
+WaitIsPlain s i = (i.number < 2 ^ 64) × (thing_fits s i.thing ≡ true)
+
+pub inserted_fits : (s : Script) (w : What) → what_fits s w ≡ true → IfSome (inserted_thing w) (λ x. thing_fits s x ≡ true)
+inserted_fits s (Call f (Queue d) Yes) h = h
+inserted_fits s (Call f (InsertApc a) Yes) h = h
+inserted_fits s (Fire d Yes) h = h
+inserted_fits s w h = tt
+
+inserts_plain : (s : Script) (past : List Event) → length past < 2 ^ 64 → AllByRecursion (EventIsPlain s) past → AllByRecursion (WaitIsPlain s) (inserts past)
+inserts_plain s [] few h = tt
+inserts_plain s (e ∷ past) few h =
+    all_append (WaitIsPlain s) (inserts past) (inserted_by (length past) (inserted_thing e.what)) (inserts_plain s past (omega (arith, few)) h.1) (go (inserted_thing e.what) (inserted_fits s e.what (event_parts s e h.0.0).what))
+  where
+    go : (o : Option Thing) → IfSome o (λ x. thing_fits s x ≡ true) → AllByRecursion (WaitIsPlain s) (inserted_by (length past) o)
+    go None h = tt
+    go (Some thing) h = ((omega (arith, few), h), tt)
+
+wait_clean : (input : Input) → Known input → (i : Inserted) → WaitIsPlain input.script i → IsRow (wait_row input.names i)
+wait_clean input k i h = row_from (codes "waits") (wait_fields input.names i) refl (rw (decimal_field i.number h.0, go i.thing h.1) refl)
+  where
+    go : (x : Thing) → thing_fits input.script x ≡ true → list_all is_field (thing_row input.names x) ≡ true
+    go (DpcThing d) h = rw (dpc_clean input k d h) refl
+    go (ApcThing a) h = rw (apc_clean input k a h) refl
+
+waits_clean : (input : Input) → Known input → (past : List Event) → length past < 2 ^ 64 → AllByRecursion (EventIsPlain input.script) past → AllRows (wait_rows input.names past)
+waits_clean input k past few h =
+    map_rows (WaitIsPlain input.script) (wait_row input.names) (wait_clean input k) (waiting_inserts past) (all_filter (WaitIsPlain input.script) (λ x. still_waits (fate_of x.thing x.number past)) (inserts past) (inserts_plain input.script past few h))
+
+-- ---- the schedule
+
+turn_plain : (input : Input) → Known input → (e : Event) → EventIsPlain input.script e → TurnIsPlain input.script (turn_of e)
+turn_plain input k e h = go e.what p.what h.1.1
+  where
+    p : Fits input.script e
+    p = event_parts input.script e h.0
+
+    few : e.cpu.0 ≤ 63
+    few = let lt = ltb-true e.cpu.0 input.script.cpus p.cpu in let most = k.fit.cpus.1 in omega (arith, lt, most)
+
+    go : (w : What) → what_fits input.script w ≡ true → WhatInRange w → TurnIsPlain input.script (turn_at e.cpu w)
+    go (Look rises) f r = (few, r)
+    go (Switch t status) f r = (few, ltb-true t.0 (length input.script.threads) f)
+    go w f r = few
+
+schedule_plain : (input : Input) → Known input → (h : History) → IsPlain input.script h → OfTurns input.script (schedule_of h)
+schedule_plain input k h p = record {
+  turns = all_map (EventIsPlain input.script) (TurnIsPlain input.script) turn_of (turn_plain input k) h.events p.events;
+  few = let few = p.few in omega (arith, few, length-map h.events turn_of);
+  limit = p.limit;
+}
+
+-- ---- the whole
+
+regroup : {X : Type 0} (a b c d : List X) → a ++ (b ++ (c ++ d)) ≡ (a ++ (b ++ c)) ++ d
+regroup a b c d = ap (λ xs. a ++ xs) (sym (append_assoc b c d)) ∙ sym (append_assoc a (b ++ c) d)
+
+report_clean : (input : Input) → IsSound input → (h : History) → IsPlain input.script h → AllRows (report_rows input h)
+report_clean input sound h p =
+    let k = known input sound in
+    let few = p.few in
+    let cpus = k.fit.cpus.1 in (
+      (refl, tt),
+      rows_from (event_rows input 0 h.events) (cut_rows h 0 input.script.cpus ++ (wait_rows input.names (reverse h.events) ++ schedule_rows input.names (schedule_of h))) (events_clean input k 0 h.events (omega (arith, few)) p.events)
+          (rows_from (cut_rows h 0 input.script.cpus) (wait_rows input.names (reverse h.events) ++ schedule_rows input.names (schedule_of h)) (cuts_clean h 0 input.script.cpus (omega (arith, cpus)))
+          (rows_from (wait_rows input.names (reverse h.events)) (schedule_rows input.names (schedule_of h))
+          (waits_clean input k (reverse h.events) (omega (arith, few, length-reverse h.events)) (all_reverse (EventIsPlain input.script) h.events p.events))
+          (schedule_clean input sound (schedule_of h) (schedule_plain input k h p)))),
+    )
+
+-- the lines before the schedule
+front : Input → History → List Row
+front input h = event_rows input 0 h.events ++ (cut_rows h 0 input.script.cpus ++ wait_rows input.names (reverse h.events))
+
+others_other : (input : Input) (h : History) → AllByRecursion IsOther (cut_rows h 0 input.script.cpus ++ wait_rows input.names (reverse h.events))
+others_other input h = all_append IsOther (cut_rows h 0 input.script.cpus) (wait_rows input.names (reverse h.events)) (cuts_other h 0 input.script.cpus) (waits_other input.names (waiting_inserts (reverse h.events)))
+
+front_before : (input : Input) (h : History) → length h.events ≤ 160000 → AllByRecursion (λ z. is_schedule z ≡ false) (front input h)
+unfolding front
+front_before input h few =
+    all_append (λ z. is_schedule z ≡ false) (event_rows input 0 h.events) _
+    (all_to (λ z. is_numbered z ≡ true) (λ z. is_schedule z ≡ false) no_schedule (event_rows input 0 h.events) (events_numbered input 0 h.events (omega (arith, few))))
+    (all_to IsOther (λ z. is_schedule z ≡ false) (λ z o. o.1) _ (others_other input h))
+
+front_events : (input : Input) (h : History) → length h.events ≤ 160000 → filter is_numbered (front input h) ≡ event_rows input 0 h.events
+unfolding front
+front_events input h few =
+    filter-append is_numbered (event_rows input 0 h.events) (cut_rows h 0 input.script.cpus ++ wait_rows input.names (reverse h.events))
+    ∙ ap (λ (a : List Row). a ++ filter is_numbered (cut_rows h 0 input.script.cpus ++ wait_rows input.names (reverse h.events))) (filter_all is_numbered (event_rows input 0 h.events) (events_numbered input 0 h.events (omega (arith, few))))
+    ∙ ap (λ (a : List Row). event_rows input 0 h.events ++ a) (filter_none is_numbered _ (all_to IsOther (λ z. is_numbered z ≡ false) (λ z o. o.0) _ (others_other input h)))
+    ∙ append-nil (event_rows input 0 h.events)
+
+report_front : (input : Input) (h : History) → report_rows input h ≡ (codes "report" ∷ []) ∷ (front input h ++ schedule_rows input.names (schedule_of h))
+unfolding front
+report_front input h = ap (λ (rows : List Row). (codes "report" ∷ []) ∷ rows) (regroup (event_rows input 0 h.events) (cut_rows h 0 input.script.cpus) (wait_rows input.names (reverse h.events)) (schedule_rows input.names (schedule_of h)))
+
+limit_is_schedule : (n : ℕ) → is_schedule (limit_row n) ≡ true
+unfolding is_schedule initial
+limit_is_schedule n = refl
+
+abbrev history : ℕ → List Event → History
+history n es = record { turns = n; events = es }
+
+history_same : (h g : History) → h.turns ≡ g.turns → h.events ≡ g.events → h ≡ g
+history_same h g turns events = ap (λ (n : ℕ). history n h.events) turns ∙ ap (λ (es : List Event). history g.turns es) events
+
+rows_same : (input : Input) → IsSound input → (h g : History) → IsPlain input.script h → IsPlain input.script g → report_rows input h ≡ report_rows input g → h ≡ g
+rows_same input sound h g p q e =
+    let k = known input sound in
+    let cut : (codes "report" ∷ []) ∷ (front input h ++ schedule_rows input.names (schedule_of h)) ≡ (codes "report" ∷ []) ∷ (front input g ++ schedule_rows input.names (schedule_of g)) = sym (report_front input h) ∙ e ∙ report_front input g in
+    let both = tails _ _ cut in
+    let parts = split_one is_schedule (front input h) (front input g) (limit_row h.turns) (limit_row g.turns) _ _ (front_before input h p.few) (front_before input g q.few) (limit_is_schedule h.turns) (limit_is_schedule g.turns) both in
+    let schedules : schedule_of h ≡ schedule_of g = turns_one input sound (schedule_of h) (schedule_of g) (schedule_plain input k h p) (schedule_plain input k g q) parts.1 in
+    let rows : event_rows input 0 h.events ≡ event_rows input 0 g.events = sym (front_events input h p.few) ∙ ap (filter is_numbered) parts.0 ∙ front_events input g q.few in
+    let turns : h.turns ≡ g.turns = ap (λ (s : Schedule). s.turns) schedules in
+    let list : map turn_of h.events ≡ map turn_of g.events = ap (λ (s : Schedule). s.list) schedules in
+    history_same h g turns (events_one input k 0 h.events g.events p.events q.events list rows)
+  where
+    tails : {x : Row} (a b : List Row) → x ∷ a ≡ x ∷ b → a ≡ b
+    tails a b e = cc
+
+pub one_history : (bytes : List ℕ) (input : Input) (h g : History) → IsReportOf bytes input h → IsReportOf bytes input g → h ≡ g
+one_history bytes input h g p q =
+    rows_same input p.sound h g p.plain q.plain
+    (rows_one (report_rows input h) (report_rows input g) (report_clean input p.sound h p.plain) (report_clean input p.sound g q.plain) (sym p.text ∙ q.text))

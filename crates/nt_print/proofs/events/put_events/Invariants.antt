@@ -1,0 +1,7 @@
+use Rattle.std.proofs.Common.{◌≡◌, ◌++◌, drop}
+use Rattle.nt_text.specs.Lines.{rows_text}
+use Rattle.nt_print.specs.Report.{event_rows}
+use Rattle.nt_print.proofs.events.put_events.Given as goal
+
+abbrev pub invariant-loop-number : goal.invariant-loop-number
+invariant-loop-number l = l.out.items ++ rows_text (event_rows l.input l.number (drop l.number l.events)) ≡ l.fn.out.items ++ rows_text (event_rows l.input 0 l.events)

@@ -1,0 +1,7 @@
+use Rattle.std.proofs.Common.{◌≡◌, ◌++◌, reverse, take}
+use Rattle.nt_text.specs.Lines.{rows_text}
+use Rattle.nt_print.proofs.WaitRows.{waits_so_far}
+use Rattle.nt_print.proofs.waits.put_waits.Given as goal
+
+abbrev pub invariant-loop-number : goal.invariant-loop-number
+invariant-loop-number l = l.out.items ≡ l.fn.out.items ++ rows_text (waits_so_far l.input.names (reverse l.events) (reverse (take l.number l.events)))

@@ -1,0 +1,5 @@
+pub mod Fitting
+pub mod Report
+pub mod Conditions
+pub mod Counts
+pub mod Uses

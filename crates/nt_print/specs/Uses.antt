@@ -1,0 +1,138 @@
+-- What uses up inserts, as the printer keeps it: which inserts a Begin or Flush named, and where each object was removed last.
+use Rattle.std.specs.Prelude.{◌≡◌, ℕ, ◌<◌, Bool, true, false, ◌&&◌, ◌||◌, ◌==◌, not, nat_lt, List, [], ◌∷◌, length, map, get_or, slice_set, reverse, Option, Some, None, if◌then◌else◌}
+use Rattle.nt_event.specs.declared.commands.Command.TheVariants.{RemoveApc, Unqueue}
+use Rattle.nt_event.specs.declared.commands.Reply.TheVariants.{Yes}
+use Rattle.nt_event.specs.declared.events.Begun.TheVariants.{Apc, Dpc, Threaded}
+use Rattle.nt_event.specs.declared.events.Event.{Event}
+use Rattle.nt_event.specs.declared.events.What.{What}
+use Rattle.nt_event.specs.declared.events.What.TheVariants.{Begin, Call, Flush}
+use Rattle.nt_event.specs.declared.scripts.Script.{Script}
+use Rattle.nt_event.specs.Fate.{ApcThing, DpcThing, Inserted, Thing, fate_of, inserted_thing, still_waits}
+use Rattle.nt_event.specs.Script.{has_apc, has_dpc}
+use Rattle.nt_print.specs.declared.inserts.Insert.{Insert}
+use Rattle.nt_print.specs.declared.inserts.Object.{Object}
+use Rattle.nt_print.specs.declared.inserts.Object.TheVariants as object
+use Rattle.nt_print.specs.declared.uses.Uses.{Uses}
+
+-- ---- things
+
+abbrev pub thing_of : Object → Thing
+thing_of (object.Dpc d) = DpcThing d
+thing_of (object.Apc a) = ApcThing a
+
+abbrev pub inserted_of : Insert → Inserted
+inserted_of i = record { number = i.number; thing = thing_of i.object }
+
+abbrev pub thing_fits : Script → Thing → Bool
+thing_fits s (DpcThing d) = has_dpc s d
+thing_fits s (ApcThing a) = has_apc s a
+
+abbrev pub same_thing : Thing → Thing → Bool
+same_thing (DpcThing x) (DpcThing d) = x.0 == d.0
+same_thing (ApcThing x) (ApcThing a) = x.0 == a.0
+same_thing _ _ = false
+
+-- the thing is the one that was found
+abbrev pub is_it : Thing → Option Thing → Bool
+is_it x None = false
+is_it x (Some thing) = same_thing x thing
+
+-- ---- what an event uses up
+
+-- the insert that a Begin or Flush names
+abbrev pub named_by : What → Option Inserted
+named_by (Begin (Dpc x) from) = Some (record { number = from; thing = DpcThing x })
+named_by (Begin (Threaded x) from) = Some (record { number = from; thing = DpcThing x })
+named_by (Begin (Apc x) from) = Some (record { number = from; thing = ApcThing x })
+named_by (Flush x from) = Some (record { number = from; thing = ApcThing x })
+named_by _ = None
+
+-- what is removed with reply yes
+abbrev pub removed_by : What → Option Thing
+removed_by (Call f (Unqueue x) Yes) = Some (DpcThing x)
+removed_by (Call f (RemoveApc x) Yes) = Some (ApcThing x)
+removed_by _ = None
+
+-- the insert that is named is this one
+abbrev pub names_it : Option Inserted → Thing → ℕ → Bool
+names_it None thing n = false
+names_it (Some i) thing n = same_thing i.thing thing && (i.number == n)
+
+-- the thing that is removed is this one
+abbrev pub removes_it : Option Thing → Thing → Bool
+removes_it None thing = false
+removes_it (Some x) thing = same_thing x thing
+
+-- ---- what the events so far used up; the newest comes first
+
+-- a later Begin or Flush named the insert
+abbrev pub was_named : Thing → ℕ → List Event → Bool
+was_named thing n [] = false
+was_named thing n (e ∷ past) = was_named thing n past || (nat_lt n (length past) && names_it (named_by e.what) thing n)
+
+-- the number of the last event that removed the thing, or 0
+abbrev pub last_removal : Thing → List Event → ℕ
+last_removal thing [] = 0
+last_removal thing (e ∷ past) = if removes_it (removed_by e.what) thing then length past else last_removal thing past
+
+-- ---- tables
+
+-- what the event of each number inserts
+abbrev pub inserted_at : List Event → ℕ → Option Thing
+inserted_at events n = get_or (map (λ e. inserted_thing e.what) events) n None
+
+-- the table tells, for each insert, whether it was named
+abbrev pub TellsNamed : List Event → List Event → List Bool → Type 0
+TellsNamed events past table = (n : ℕ) (thing : Thing) → inserted_at events n ≡ Some thing → get_or table n false ≡ was_named thing n past
+
+-- the table when an event of this number named an insert
+abbrev pub with_named : List Event → ℕ → Option Inserted → List Bool → List Bool
+with_named events k None table = table
+with_named events k (Some i) table = if nat_lt i.number k && is_it i.thing (inserted_at events i.number) then slice_set table i.number true else table
+
+-- the tables tell where each object was removed last
+pub record TellsRemovals (past : List Event) (dpc_table apc_table : List ℕ) : Type 0 where
+  pub dpcs : (d : ℕ) → d < length dpc_table → get_or dpc_table d 0 ≡ last_removal (DpcThing (record { 0 = d })) past
+  pub apcs : (a : ℕ) → a < length apc_table → get_or apc_table a 0 ≡ last_removal (ApcThing (record { 0 = a })) past
+
+-- a number at a place, where the table has it
+abbrev pub put_at : List ℕ → ℕ → ℕ → List ℕ
+put_at table place k = if nat_lt place (length table) then slice_set table place k else table
+
+-- the tables when an event of this number removed a thing
+abbrev pub dpcs_after : ℕ → Option Thing → List ℕ → List ℕ
+dpcs_after k (Some (DpcThing x)) table = put_at table x.0 k
+dpcs_after k _ table = table
+
+abbrev pub apcs_after : ℕ → Option Thing → List ℕ → List ℕ
+apcs_after k (Some (ApcThing x)) table = put_at table x.0 k
+apcs_after k _ table = table
+
+-- the tables of all events of a script
+pub record AreUses (s : Script) (events : List Event) (uses : Uses) : Type 0 where
+  pub named : length uses.named.items ≡ length events
+  pub dpcs : length uses.dpcs.items ≡ length s.dpcs
+  pub apcs : length uses.apcs.items ≡ length s.apcs
+  pub tells_named : TellsNamed events (reverse events) uses.named.items
+  pub tells_removals : TellsRemovals (reverse events) uses.dpcs.items uses.apcs.items
+
+-- the tables have a place for the thing
+abbrev pub HasPlace : Uses → Thing → Type 0
+HasPlace uses (DpcThing d) = d.0 < length uses.dpcs.items
+HasPlace uses (ApcThing a) = a.0 < length uses.apcs.items
+
+-- where the tables tell that the thing was removed last
+abbrev pub removal_at : Uses → Thing → ℕ
+removal_at uses (DpcThing d) = get_or uses.dpcs.items d.0 0
+removal_at uses (ApcThing a) = get_or uses.apcs.items a.0 0
+
+-- the tables tell that no event used up the insert
+abbrev pub is_left : Uses → ℕ → Thing → Bool
+is_left uses n thing = not (get_or uses.named.items n false) && not (nat_lt n (removal_at uses thing))
+
+-- ---- what waits
+
+-- what the event of this number inserts, where it still waits at the end
+abbrev pub waits_at : List Event → ℕ → Option Thing → Option Thing
+waits_at past n None = None
+waits_at past n (Some thing) = if still_waits (fate_of thing n past) then Some thing else None

@@ -1,0 +1,225 @@
+//! The lines of events.
+ghost use Rattle.std.specs.Prelude.{◌≡◌, ◌++◌, ◌<◌, ◌∷◌, [], true, OnOk, length};
+ghost use Rattle.std.specs.List.{slice_get};
+ghost use Rattle.nt_text.specs.Lines.{row_text, rows_text};
+ghost use Rattle.nt_event.specs.Script.{where_given, has_thread, has_dpc, has_timer, has_apc, command_fits};
+ghost use Rattle.nt_script.specs.Sound.{IsSound};
+ghost use Rattle.nt_script.specs.Text.{command_row, command_args};
+ghost use Rattle.nt_script.specs.Words.{verb_text};
+ghost use Rattle.nt_print.specs.Fitting.{begun_fits, key_fits, what_fits, event_fits, events_fit};
+ghost use Rattle.nt_log.specs.Fields.{spaced};
+ghost use Rattle.nt_print.specs.Report.{show_running, begun_row, key_row, status_row, kind_of, kind_word, what_row, event_fields, event_row, event_rows, line_rows};
+
+use crate::fields::{put_processor, put_replied, put_status, put_used};
+use itoa::Buffer;
+use nt_event::{ApcKind, ApcNo, Begun, Command, Event, ThreadNo, TimerKey, What};
+use nt_log::{put_field, put_number};
+use nt_script::{Input, put_command};
+use std::alloc::AllocError;
+
+/// Adds the thread that runs, or a dash.
+fn put_running(out: &mut Vec<u8>, input: &Input, thread: Option<ThreadNo>) -> Result<(), AllocError>
+    requires sound { IsSound input.now }
+    requires fits { where_given (has_thread input.now.script) thread ≡ true }
+    ensures { OnOk result (out.new.items ≡ out.old.items ++ spaced (show_running input.now.names thread ∷ [])) }
+{
+    match thread {
+        Some(thread) => put_field(out, input.names.thread(thread).as_bytes()),
+        None => put_field(out, b"-"),
+    }
+}
+
+/// The word of an APC object's kind.
+fn kind_word(kind: ApcKind) -> &'static [u8]
+    ensures { result.now ≡ kind_word kind }
+{
+    match kind {
+        ApcKind::Special => b"special",
+        ApcKind::Normal => b"normal",
+        ApcKind::User => b"user",
+    }
+}
+
+fn kind_of(input: &Input, apc: ApcNo) -> &'static [u8]
+    ensures { result.now ≡ kind_of (slice_get input.now.script.apcs apc.0) }
+{
+    match input.script.apcs.as_slice().get(apc.0 as usize) {
+        Some(decl) => kind_word(decl.kind),
+        None => b"",
+    }
+}
+
+fn put_begun(out: &mut Vec<u8>, input: &Input, begun: &Begun) -> Result<(), AllocError>
+    requires sound { IsSound input.now }
+    requires fits { begun_fits input.now.script begun.now ≡ true }
+    ensures { OnOk result (out.new.items ≡ out.old.items ++ spaced (begun_row input.now begun.now)) }
+{
+    match begun {
+        Begun::Int(level) => {
+            put_field(out, b"int")?;
+            put_number(out, u64::from(level.number()))
+        }
+        Begun::Dpc(dpc) => {
+            put_field(out, b"dpc")?;
+            put_field(out, input.names.dpc(*dpc).as_bytes())
+        }
+        Begun::Threaded(dpc) => {
+            put_field(out, b"threaded")?;
+            put_field(out, input.names.dpc(*dpc).as_bytes())
+        }
+        Begun::Apc(apc) => {
+            put_field(out, kind_of(input, *apc))?;
+            put_field(out, input.names.apc(*apc).as_bytes())
+        }
+    }
+}
+
+fn put_key(out: &mut Vec<u8>, input: &Input, key: TimerKey) -> Result<(), AllocError>
+    requires sound { IsSound input.now }
+    requires fits { key_fits input.now.script key ≡ true }
+    ensures { OnOk result (out.new.items ≡ out.old.items ++ spaced (key_row input.now.names key)) }
+{
+    match key {
+        TimerKey::Timer(timer) => {
+            put_field(out, b"timer")?;
+            put_field(out, input.names.timer(timer).as_bytes())
+        }
+        TimerKey::Delay(thread) => {
+            put_field(out, b"delay")?;
+            put_field(out, input.names.thread(thread).as_bytes())
+        }
+    }
+}
+
+/// Adds a command as it stands in a script.
+fn put_called(out: &mut Vec<u8>, input: &Input, command: &Command) -> Result<(), AllocError>
+    requires sound { IsSound input.now }
+    requires fits { command_fits input.now.script command.now ≡ true }
+    ensures { OnOk result (out.new.items ≡ out.old.items ++ spaced (command_row input.now.names command.now)) }
+{
+    out.push(b' ')?;
+    put_command(out, &input.names, command)?;
+    Ok(())
+}
+
+/// Adds what an event other than a look did.
+fn put_what(out: &mut Vec<u8>, input: &Input, what: &What) -> Result<(), AllocError>
+    requires sound { IsSound input.now }
+    requires fits { what_fits input.now.script what.now ≡ true }
+    ensures { OnOk result (out.new.items ≡ out.old.items ++ spaced (what_row input.now what.now)) }
+{
+    match what {
+        What::Call {
+            frame,
+            command,
+            reply,
+        } => {
+            put_field(out, b"call")?;
+            put_number(out, *frame)?;
+            put_called(out, input, command)?;
+            put_replied(out, *reply)
+        }
+        What::Look { .. } => Ok(()),
+        What::Begin { begun, from } => {
+            put_field(out, b"begin")?;
+            put_begun(out, input, begun)?;
+            put_used(out, *from)
+        }
+        What::Normal { frame } => {
+            put_field(out, b"normal")?;
+            put_number(out, *frame)
+        }
+        What::End { frame } => {
+            put_field(out, b"end")?;
+            put_number(out, *frame)
+        }
+        What::Expire { key, from } => {
+            put_field(out, b"expire")?;
+            put_key(out, input, *key)?;
+            put_used(out, *from)
+        }
+        What::Fire { dpc, reply } => {
+            put_field(out, b"fire")?;
+            put_field(out, input.names.dpc(*dpc).as_bytes())?;
+            put_replied(out, *reply)
+        }
+        What::Clean { class } => {
+            put_field(out, b"clean")?;
+            put_number(out, u64::from(*class))
+        }
+        What::Switch { thread, status } => {
+            put_field(out, b"switch")?;
+            put_field(out, input.names.thread(*thread).as_bytes())?;
+            match status {
+                Some(status) => put_status(out, *status),
+                None => Ok(()),
+            }
+        }
+        What::Rewait { frame, reply } => {
+            put_field(out, b"rewait")?;
+            put_number(out, *frame)?;
+            put_replied(out, *reply)
+        }
+        What::Flush { apc, from } => {
+            put_field(out, b"flush")?;
+            put_field(out, input.names.apc(*apc).as_bytes())?;
+            put_used(out, *from)
+        }
+        What::Gone { thread } => {
+            put_field(out, b"gone")?;
+            put_field(out, input.names.thread(*thread).as_bytes())
+        }
+        What::Rest => put_field(out, b"rest"),
+    }
+}
+
+/// Adds what stands behind an event's number.
+fn put_event_fields(out: &mut Vec<u8>, input: &Input, event: &Event) -> Result<(), AllocError>
+    requires sound { IsSound input.now }
+    requires fits { event_fits input.now.script event.now ≡ true }
+    ensures { OnOk result (out.new.items ≡ out.old.items ++ spaced (event_fields input.now event.now)) }
+{
+    put_processor(out, u64::from(event.cpu.0))?;
+    put_running(out, input, event.thread)?;
+    put_number(out, u64::from(event.level.number()))?;
+    put_what(out, input, &event.what)
+}
+
+fn put_event(out: &mut Vec<u8>, input: &Input, number: u64, event: &Event) -> Result<(), AllocError>
+    requires sound { IsSound input.now }
+    requires fits { event_fits input.now.script event.now ≡ true }
+    ensures { OnOk result (out.new.items ≡ out.old.items ++ row_text (event_row input.now number event.now)) }
+{
+    out.extend_from_slice(Buffer::new().format(number).as_bytes())?;
+    put_event_fields(out, input, event)?;
+    out.push(b'\n')?;
+    Ok(())
+}
+
+/// Adds the lines of the events, in order. A look has none.
+pub(crate) fn put_events(
+    out: &mut Vec<u8>,
+    input: &Input,
+    events: &[Event],
+) -> Result<(), AllocError>
+    requires sound { IsSound input.now }
+    requires fit { events_fit input.now.script events.now ≡ true }
+    ensures { OnOk result (out.new.items ≡ out.old.items ++ rows_text (event_rows input.now 0 events.now)) }
+{
+    for (number, event) in events.iter().enumerate() {
+        put_line(out, input, number as u64, event)?;
+    }
+    Ok(())
+}
+
+/// Adds the line of an event, where it has one.
+fn put_line(out: &mut Vec<u8>, input: &Input, number: u64, event: &Event) -> Result<(), AllocError>
+    requires sound { IsSound input.now }
+    requires fits { event_fits input.now.script event.now ≡ true }
+    ensures { OnOk result (out.new.items ≡ out.old.items ++ rows_text (line_rows input.now number event.now event.now.what)) }
+{
+    match event.what {
+        What::Look { .. } => Ok(()),
+        _ => put_event(out, input, number, event),
+    }
+}

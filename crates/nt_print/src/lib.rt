@@ -1,0 +1,22 @@
+//! Reports: a history as text.
+//!
+//! [`report`] gives the one text of a history of a script: a line for each event but a look, a line `cut pP` for each processor
+//! that made as many events as it may, a line `waits N dpc D` or `waits N apc A` for each insert that no event uses up, and the
+//! schedule of the history (`nt_log`). The definition of the text is in `specs::Report`; what waits is the definition of the
+//! fate of inserts (`nt_event::specs::Fate`). The whole grammar is this project's own (profile).
+//!
+//! Printing is linear in the history: one walk counts the events of the processors, one notes which inserts are used up, and
+//! each line looks into those tables.
+#![tactic(auto)]
+
+mod cuts;
+mod events;
+mod fields;
+mod inserts;
+mod laws;
+mod printing;
+mod uses;
+mod waits;
+
+pub use laws::reports_are_histories;
+pub use printing::report;

@@ -1,0 +1,31 @@
+//! The whole report.
+ghost use Rattle.std.specs.Prelude.{◌≡◌, true, IfOk};
+ghost use Rattle.nt_script.specs.Sound.{IsSound};
+ghost use Rattle.nt_print.specs.Fitting.{events_fit};
+ghost use Rattle.nt_print.specs.Report.{report_text};
+
+use crate::cuts::put_cuts;
+use crate::events::put_events;
+use crate::uses::uses_of;
+use crate::waits::put_waits;
+use nt_event::History;
+use nt_log::{put_schedule, turns_of};
+use nt_script::Input;
+use std::alloc::{AllocError, Global};
+
+/// The report of a history, whose events name things of the input's script. An error is want of memory.
+pub fn report(alloc: Global, input: &Input, history: &History) -> Result<Vec<u8>, AllocError>
+    requires sound { IsSound input.now }
+    requires fit { events_fit input.now.script history.now.events ≡ true }
+    ensures { IfOk result (λ text. text.items ≡ report_text input.now history.now) }
+{
+    let events = history.events.as_slice();
+    let uses = uses_of(alloc, &input.script, events)?;
+    let schedule = turns_of(alloc, history)?;
+    let mut out = Vec::from_slice(alloc, b"report\n")?;
+    put_events(&mut out, input, events)?;
+    put_cuts(alloc, &mut out, input.script.cpus, history)?;
+    put_waits(&mut out, input, events, &uses)?;
+    put_schedule(&mut out, input, &schedule)?;
+    Ok(out)
+}

@@ -1,0 +1,99 @@
+//! The lines of the inserts that still wait at the end.
+ghost use Rattle.std.specs.Prelude.{◌≡◌, ◌++◌, ◌<◌, ◌∷◌, [], true, OnOk, map, reverse, length};
+ghost use Rattle.nt_text.specs.Lines.{row_text, rows_text};
+ghost use Rattle.nt_event.specs.Fate.{inserted_by};
+ghost use Rattle.nt_script.specs.Sound.{IsSound};
+ghost use Rattle.nt_log.specs.Fields.{spaced};
+ghost use Rattle.nt_print.specs.Fitting.{events_fit};
+ghost use Rattle.nt_print.specs.Report.{thing_row, wait_fields, wait_row, wait_rows};
+ghost use Rattle.nt_print.specs.Uses.{thing_of, inserted_of, inserted_at, thing_fits, waits_at, AreUses};
+
+use crate::inserts::{Insert, Object};
+use crate::uses::{Uses, waiting};
+use nt_event::Event;
+use nt_log::{put_field, put_number};
+use nt_script::Input;
+use std::alloc::AllocError;
+
+fn put_object(out: &mut Vec<u8>, input: &Input, object: Object) -> Result<(), AllocError>
+    requires sound { IsSound input.now }
+    requires fits { thing_fits input.now.script (thing_of object) ≡ true }
+    ensures { OnOk result (out.new.items ≡ out.old.items ++ spaced (thing_row input.now.names (thing_of object))) }
+{
+    match object {
+        Object::Dpc(dpc) => {
+            put_field(out, b"dpc")?;
+            put_field(out, input.names.dpc(dpc).as_bytes())
+        }
+        Object::Apc(apc) => {
+            put_field(out, b"apc")?;
+            put_field(out, input.names.apc(apc).as_bytes())
+        }
+    }
+}
+
+fn put_wait_fields(out: &mut Vec<u8>, input: &Input, insert: Insert) -> Result<(), AllocError>
+    requires sound { IsSound input.now }
+    requires fits { thing_fits input.now.script (thing_of insert.object) ≡ true }
+    ensures { OnOk result (out.new.items ≡ out.old.items ++ spaced (wait_fields input.now.names (inserted_of insert))) }
+{
+    put_number(out, insert.number)?;
+    put_object(out, input, insert.object)
+}
+
+/// Adds the line of an insert that still waits.
+fn put_wait(out: &mut Vec<u8>, input: &Input, insert: Insert) -> Result<(), AllocError>
+    requires sound { IsSound input.now }
+    requires fits { thing_fits input.now.script (thing_of insert.object) ≡ true }
+    ensures { OnOk result (out.new.items ≡ out.old.items ++ row_text (wait_row input.now.names (inserted_of insert))) }
+{
+    out.extend_from_slice(b"waits")?;
+    put_wait_fields(out, input, insert)?;
+    out.push(b'\n')?;
+    Ok(())
+}
+
+/// Adds the line of the event of this number, where it is an insert that still waits.
+fn put_wait_of(
+    out: &mut Vec<u8>,
+    input: &Input,
+    events: &[Event],
+    uses: &Uses,
+    number: usize,
+) -> Result<(), AllocError>
+    requires sound { IsSound input.now }
+    requires fit { events_fit input.now.script events.now ≡ true }
+    requires uses { AreUses input.now.script events.now uses.now }
+    requires number { number < length events.now }
+    ensures { OnOk result (out.new.items ≡ out.old.items ++ rows_text (map (wait_row input.now.names) (inserted_by number (waits_at (reverse events.now) number (inserted_at events.now number))))) }
+{
+    match waiting(&input.script, events, uses, number) {
+        Some(object) => put_wait(
+            out,
+            input,
+            Insert {
+                number: number as u64,
+                object,
+            },
+        ),
+        None => Ok(()),
+    }
+}
+
+/// Adds the lines of the inserts that still wait, by ascending number.
+pub(crate) fn put_waits(
+    out: &mut Vec<u8>,
+    input: &Input,
+    events: &[Event],
+    uses: &Uses,
+) -> Result<(), AllocError>
+    requires sound { IsSound input.now }
+    requires fit { events_fit input.now.script events.now ≡ true }
+    requires uses { AreUses input.now.script events.now uses.now }
+    ensures { OnOk result (out.new.items ≡ out.old.items ++ rows_text (wait_rows input.now.names (reverse events.now))) }
+{
+    for number in 0..events.len() {
+        put_wait_of(out, input, events, uses, number)?;
+    }
+    Ok(())
+}

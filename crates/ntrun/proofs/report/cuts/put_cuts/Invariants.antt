@@ -1,7 +1,0 @@
-use Rattle.std.proofs.Common.{◌≡◌, ◌++◌, ◌-◌}
-use Rattle.nt_text.specs.Lines.{rows_text}
-use Rattle.ntrun.specs.Report.{cut_rows}
-use Rattle.ntrun.proofs.report.cuts.put_cuts.Given as goal
-
-abbrev pub invariant-loop-cpu : goal.invariant-loop-cpu
-invariant-loop-cpu l = l.out.items ++ rows_text (cut_rows l.history l.cpu (l.cpus - l.cpu)) ≡ l.fn.out.items ++ rows_text (cut_rows l.history 0 l.cpus)

@@ -1,7 +1,0 @@
-use Rattle.std.proofs.Common.{decimal, rules}
-use Rattle.ntrun.proofs.Rows.{line_put}
-use Rattle.ntrun.specs.Report.{event_fields}
-use Rattle.ntrun.proofs.report.events.put_event.Goals as goal
-
-pub returns : goal.returns
-returns c = line_put _ _ _ _ (decimal c.args.number) (event_fields c.args.input.now c.args.event.now) (search rules) c.in_ok-put_event_fields.ensures c.in_ok-push.ensures.items
