@@ -1,0 +1,6 @@
+mod Allows
+mod Left
+mod Numbers
+mod Ours
+mod Over
+mod Readies

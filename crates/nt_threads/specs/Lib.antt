@@ -1,0 +1,4 @@
+pub mod Fits
+pub mod Insides
+pub mod Lanes
+pub mod Sound
