@@ -1,0 +1,7 @@
+pub mod Knowns
+pub mod ForDpcs
+pub mod ForThreads
+pub mod ForTimers
+pub mod TimersLeft
+pub mod AllLeft
+pub mod DueKeys
