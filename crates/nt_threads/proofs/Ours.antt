@@ -1,140 +1,93 @@
--- Each pending APC stays one of the script's.
-use Rattle.std.proofs.Common.{◌≡◌, ◌∷◌, ◌<◌, Bool, IsTrue, List, Option, None, Some, ap, arith, false, get_or, if◌then◌else◌, is_some, length, not, refl, replicate, set, subst, suc, sym, true, zero, ℕ, ◌&&◌, ◌==◌, ◌∙◌}
-use Rattle.std.proofs.lemmas.List.{length-replicate}
-use Rattle.std.proofs.lemmas.Bool.{ltb-true}
-use Rattle.std.specs.List.{All, filter}
-use Rattle.std.proofs.lemmas.List.{length-set}
-use Rattle.std.proofs.lemmas.List.Elements.{All-cons, All-filter, All-nil, All-replicate, All-set, All-weaker}
-use Rattle.nt_event.specs.declared.commands.ApcKind.{ApcKind}
-use Rattle.nt_event.specs.declared.commands.ApcKind.TheVariants.{User as UserApc}
-use Rattle.nt_event.specs.declared.commands.Command.TheVariants.{Alert, Delay, InsertApc, Release, RemoveApc, StartWait, TestAlert, Yield}
-use Rattle.nt_event.specs.declared.commands.Mode.{Mode}
-use Rattle.nt_event.specs.declared.commands.Mode.TheVariants.{Kernel as KernelMode, User as UserMode}
-use Rattle.nt_event.specs.declared.commands.Regions.{Regions}
-use Rattle.nt_event.specs.declared.commands.Reply.{Reply}
-use Rattle.nt_event.specs.declared.commands.Reply.TheVariants.{Blocked, Done, Status, Yes}
-use Rattle.nt_event.specs.declared.commands.TimerKey.TheVariants.{Delay as OfDelay}
+-- What an event leaves of the states is as sound as they were.
+use Rattle.std.proofs.Common.{◌≡◌, ◌∷◌, ◌<◌, Bool, IsTrue, List, Option, None, Some, ap, arith, eqb, false, get_or, if◌then◌else◌, length, not, refl, replicate, set, subst, suc, sym, true, zero, ℕ, ◌==◌, ◌∙◌}
+use Rattle.std.proofs.lemmas.Bool.{eqb-false, eqb-true, ltb-true}
+use Rattle.std.proofs.lemmas.List.{get_or-set_other, get_or-set_same, length-replicate, length-set}
+use Rattle.std.proofs.lemmas.List.Elements.{All-cons, All-filter, All-from_get_or, All-nil, All-weaker}
+use Rattle.std.specs.List.{All}
+use Rattle.nt_event.specs.declared.commands.Command.TheVariants.{InsertApc, RemoveApc}
+use Rattle.nt_event.specs.declared.commands.Reply.TheVariants.{Yes}
 use Rattle.nt_event.specs.declared.events.Begun.TheVariants.{Apc}
 use Rattle.nt_event.specs.declared.events.What.{What}
-use Rattle.nt_event.specs.declared.events.What.TheVariants.{Begin, Call, End, Expire, Flush, Gone, Rewait, Switch}
-use Rattle.nt_event.specs.declared.frames.Again.{Again}
+use Rattle.nt_event.specs.declared.events.What.TheVariants.{Begin, Call, End, Flush}
 use Rattle.nt_event.specs.declared.frames.Body.{Body}
-use Rattle.nt_event.specs.declared.frames.Body.TheVariants.{Apc as OnApc, Base as OnBase}
-use Rattle.nt_event.specs.declared.inserts.Pick.{Pick}
+use Rattle.nt_event.specs.declared.frames.Body.TheVariants.{Base as OnBase}
 use Rattle.nt_event.specs.declared.jobs.Stand.{Stand}
 use Rattle.nt_event.specs.declared.numbers.ApcNo.{ApcNo}
 use Rattle.nt_event.specs.declared.numbers.ThreadNo.{ThreadNo}
 use Rattle.nt_event.specs.declared.scripts.Script.{Script}
-use Rattle.nt_event.specs.Apcs.{has_user, is_of_apc, with_apc}
-use Rattle.nt_event.specs.Routines.{is_kernel_kind, kind_of}
+use Rattle.nt_event.specs.Apcs.{ApcQueues, is_of_apc, without_apc}
+use Rattle.nt_event.specs.Routines.{kind_of, owner_of}
 use Rattle.nt_event.specs.Script.{fits, has_thread}
-use Rattle.nt_event.specs.Threads.{ThreadFacts, start_facts, ended, ends_by_alert, ends_by_apc, ends_by_expiry, ends_by_release, is_alerted, is_gone, set_alerted}
-use Rattle.nt_event.specs.Waits.{alert_facts, alert_taken, alert_tested, answered, apc_taken, expiry_facts, frame_ended, insert_facts, made_facts, new_pick, release_facts, waited, waited_again}
-use Rattle.nt_event.specs.Words.{table, table_from, alerted, is_answer, is_user, kernel_apc, satisfied, user_apc}
-use Rattle.nt_threads.specs.Fits.{CanTell, told_facts}
+use Rattle.nt_event.specs.Threads.{ThreadFacts, start_facts}
+use Rattle.nt_event.specs.Waits.{made_facts, new_pick}
+use Rattle.nt_event.specs.Words.{table, table_from}
+use Rattle.nt_threads.specs.Fits.{CanMake, CanTell, named_thread, told_facts}
 use Rattle.nt_threads.specs.Lanes.{ThreadLanes, facts_in}
 use Rattle.nt_threads.specs.Sound.{AreOurs, IsOurs, IsSound}
+use Rattle.nt_threads.proofs.Changed.{ended_queue, made_changes, made_queue, told_changes, told_queue}
 
-ours_if : (s : Script) (b : Bool) (x y : ThreadFacts) → AreOurs s x → AreOurs s y → AreOurs s (if b then x else y)
-ours_if s true x y h k = h
-ours_if s false x y h k = k
+some_thread : (u t : ThreadNo) → Some u ≡ Some t → u ≡ t
+some_thread u t h = cc
 
-ours_without : (s : Script) (a : ApcNo) (xs : List Pick) → All (IsOurs s) xs → All (IsOurs s) (filter (λ x. not (is_of_apc a x)) xs)
-ours_without s a xs h = All-filter (λ x. not (is_of_apc a x)) (IsOurs s) xs h
+ours_without : (s : Script) (t : ThreadNo) (a : ApcNo) (q : ApcQueues) → AreOurs s t q → AreOurs s t (without_apc a q)
+ours_without s t a q h = All-filter (λ x. not (is_of_apc a x)) (IsOurs s t) q.pending h
 
--- ---- what the thread makes
+ours_ended : (s : Script) (t : ThreadNo) (b : Option Body) (q : ApcQueues) → AreOurs s t q → AreOurs s t (ended_queue b q)
+ours_ended s t (Some (OnBase u)) q h = h
+ours_ended s t b q h = h
 
-ours_set_alerted : (s : Script) (m : Mode) (b : Bool) (x : ThreadFacts) → AreOurs s x → AreOurs s (set_alerted m b x)
-ours_set_alerted s KernelMode b x h = h
-ours_set_alerted s UserMode b x h = h
+ours_made : (s : Script) (t : ThreadNo) (st : Stand) (w : What) (q : ApcQueues) → AreOurs s t q → AreOurs s t (made_queue st w q)
+ours_made s t st (Begin (Apc a) from) q h = ours_without s t a q h
+ours_made s t st (Flush a from) q h = ours_without s t a q h
+ours_made s t st (End f) q h = ours_ended s t st.body q h
+ours_made s t st w q h = h
 
-ours_tested : (s : Script) (m : Mode) (x : ThreadFacts) → AreOurs s x → AreOurs s (alert_tested m x)
-ours_tested s m x h =
-    ours_if s (is_alerted m x) _ _ (ours_set_alerted s m false x h) (ours_if s (is_user m && has_user x.apcs) _ _ h h)
-
-ours_answered : (s : Script) (st : ℕ) (m : Mode) (a delay : Bool) (x : ThreadFacts) → AreOurs s x → AreOurs s (answered st m a delay x)
-ours_answered s st m a delay x h =
-    ours_if s (st == satisfied) _ _ (ours_if s delay _ _ h h) (ours_if s (st == alerted) _ _ (ours_set_alerted s (if is_alerted m x then m else KernelMode) false x h) (ours_if s ((st == user_apc) && a) _ _ h h))
-
-ours_waited : (s : Script) (n : ℕ) (r : Regions) (level : ℕ) (m : Mode) (a delay : Bool) (y : Reply) (x : ThreadFacts) → AreOurs s x → AreOurs s (waited n r level m a delay y x)
-ours_waited s n r level m a delay (Status st) x h = ours_answered s st m a delay x h
-ours_waited s n r level m a delay Blocked x h = h
-ours_waited s n r level m a delay y x h = h
-
-ours_again : (s : Script) (n : ℕ) (r : Regions) (level : ℕ) (o : Option Again) (y : Reply) (x : ThreadFacts) → AreOurs s x → AreOurs s (waited_again n r level o y x)
-ours_again s n r level None y x h = h
-ours_again s n r level (Some w) y x h = ours_waited s n r level w.mode w.alertable (is_some w.due) y x h
-
-ours_taken : (s : Script) (k : ApcKind) (a : ApcNo) (x : ThreadFacts) → AreOurs s x → AreOurs s (apc_taken k a x)
-ours_taken s UserApc a x h = ours_without s a x.apcs.pending h
-ours_taken s k a x h = ours_without s a x.apcs.pending h
-
-ours_ended : (s : Script) (b : Option Body) (x : ThreadFacts) → AreOurs s x → AreOurs s (frame_ended b x)
-ours_ended s (Some (OnBase t)) x h = h
-ours_ended s (Some (OnApc a UserApc)) x h = ours_tested s UserMode x h
-ours_ended s b x h = h
-
-pub ours_made : (s : Script) (n : ℕ) (st : Stand) (w : What) (x : ThreadFacts) → AreOurs s x → AreOurs s (made_facts s n st w x)
-ours_made s n st (Call f (StartWait m a) y) x h = ours_waited s n st.regions st.level m a false y x h
-ours_made s n st (Call f (Delay m a units) y) x h = ours_waited s n st.regions st.level m a true y x h
-ours_made s n st (Rewait f y) x h = ours_again s n st.regions st.level st.again y x h
-ours_made s n st (Call f (TestAlert m) y) x h = ours_if s (is_answer y) _ _ (ours_tested s m x h) h
-ours_made s n st (Call f Yield Done) x h = h
-ours_made s n st (Begin (Apc a) from) x h = ours_taken s (kind_of s a) a x h
-ours_made s n st (End f) x h = ours_ended s st.body x h
-ours_made s n st (Flush a from) x h = ours_without s a x.apcs.pending h
-ours_made s n st w x h = h
-
--- ---- what names the thread
-
-ours_insert : (s : Script) (pick : Pick) (x : ThreadFacts) → IsOurs s pick → AreOurs s x → AreOurs s (insert_facts pick x)
-ours_insert s pick x p h =
-    let all : AreOurs s (record x { apcs = with_apc pick x.apcs }) = All-cons (IsOurs s) pick x.apcs.pending p h in
-    ours_if s (ends_by_apc pick x) _ _ (ours_if s (is_kernel_kind pick.kind) _ _ all all) all
-
-pub ours_told : (s : Script) (n : ℕ) (w : What) (x z : ThreadFacts) → CanTell s w z → AreOurs s x → AreOurs s (told_facts s n w x)
-ours_told s n (Call f (Release u) y) x z t h =
-    ours_if s (ends_by_release x) _ _ h (ours_if s (is_gone x) _ _ h h)
-ours_told s n (Call f (Alert u m) y) x z t h =
-    ours_if s (is_gone x) _ _ h (ours_if s (ends_by_alert m x) _ _ h (ours_set_alerted s m true x h))
-ours_told s n (Call f (InsertApc a) Yes) x z t h =
-    ours_insert s (new_pick s a n) x (record { apc = t.apc; kind = refl }) h
-ours_told s n (Call f (RemoveApc a) Yes) x z t h = ours_without s a x.apcs.pending h
-ours_told s n (Expire (OfDelay u) from) x z t h = ours_if s (ends_by_expiry from x) _ _ h h
-ours_told s n w x z t h = h
+ours_told : (s : Script) (t : ThreadNo) (n : ℕ) (w : What) (z : ThreadFacts) (q : ApcQueues) → named_thread s w ≡ Some t → CanTell s w z → AreOurs s t q → AreOurs s t (told_queue s n w q)
+ours_told s t n (Call f (InsertApc a) Yes) z q e may h =
+    All-cons (IsOurs s t) (new_pick s a n) q.pending (record { apc = may.apc; kind = refl; owner = some_thread (owner_of s a) t e }) h
+ours_told s t n (Call f (RemoveApc a) Yes) z q e may h = ours_without s t a q h
+ours_told s t n w z q e may h = h
 
 -- ---- the states
 
-pub sound_set : (x : ThreadLanes) (i : ℕ) (y : ThreadFacts) → IsSound x → AreOurs x.script y → IsSound (record x { facts = set x.facts i y })
-sound_set x i y h k = record {
+-- the facts of a thread where those of one are written
+pub set_facts : (x : ThreadLanes) (t u : ThreadNo) (y : ThreadFacts) (b : Bool) → t.0 < length x.facts → eqb t.0 u.0 ≡ b → facts_in (record x { facts = set x.facts t.0 y }) u ≡ (if b then y else facts_in x u)
+set_facts x t u y true h e =
+    subst (λ (k : ℕ). get_or (set x.facts t.0 y) k start_facts ≡ y) (eqb-true t.0 u.0 e) (get_or-set_same x.facts t.0 y start_facts h)
+set_facts x t u y false h e =
+    get_or-set_other x.facts t.0 u.0 y start_facts (λ k. eqb-false t.0 u.0 e (sym k))
+
+same_number : (t u : ThreadNo) → t.0 ≡ u.0 → t ≡ u
+same_number t u h = λ i. record { 0 = h i }
+
+sound_set : (x : ThreadLanes) (t : ThreadNo) (y : ThreadFacts) → IsSound x → t.0 < length x.facts → AreOurs x.script t y.apcs → IsSound (record x { facts = set x.facts t.0 y })
+sound_set x t y h b k = record {
   script = h.script;
-  threads = length-set x.facts i y ∙ h.threads;
-  picks = All-set (AreOurs x.script) x.facts i y k h.picks;
-}
+  threads = length-set x.facts t.0 y ∙ h.threads;
+  picks = λ u. go u (eqb t.0 u.0) refl;
+} where
+  go : (u : ThreadNo) (c : Bool) → eqb t.0 u.0 ≡ c → AreOurs x.script u (facts_in (record x { facts = set x.facts t.0 y }) u).apcs
+  go u true e =
+      let mine : AreOurs x.script u y.apcs = subst (λ (v : ThreadNo). AreOurs x.script v y.apcs) (same_number t u (eqb-true t.0 u.0 e)) k in
+      subst (λ (z : ThreadFacts). AreOurs x.script u z.apcs) (sym (set_facts x t u y true b e)) mine
+  go u false e = subst (λ (z : ThreadFacts). AreOurs x.script u z.apcs) (sym (set_facts x t u y false b e)) (h.picks u)
 
-bound : (x y : ThreadLanes) (t : ThreadNo) → x ≡ y → IsSound x → IsTrue (has_thread y.script t) → t.0 < length x.facts
-bound x y t e h named =
-    let here : has_thread x.script t ≡ true = subst (λ (z : ThreadLanes). has_thread z.script t ≡ true) (sym e) named in
-    omega (arith, ltb-true, h.threads, here)
+-- a thread makes an event
+pub sound_made : (x : ThreadLanes) (t : ThreadNo) (n : ℕ) (st : Stand) (w : What) → IsSound x → t.0 < length x.facts → IsSound (record x { facts = set x.facts t.0 (made_facts x.script n st w (facts_in x t)) })
+sound_made x t n st w h b =
+    sound_set x t (made_facts x.script n st w (facts_in x t)) h b (subst (λ (q : ApcQueues). AreOurs x.script t q) (sym (made_changes x.script n st w (facts_in x t))) (ours_made x.script t st w (facts_in x t).apcs (h.picks t)))
 
--- the state of a thread that makes an event
-pub sound_made : (x y : ThreadLanes) (t : ThreadNo) (n : ℕ) (st : Stand) (w : What) (old new : ThreadFacts) → x ≡ y → IsSound x → IsTrue (has_thread y.script t) → old ≡ get_or x.facts t.0 old → new ≡ made_facts x.script n st w old → IsSound (record x { facts = set x.facts t.0 new })
-sound_made x y t n st w old new e h named at left =
-    let ours : AreOurs x.script old = subst (λ (z : ThreadFacts). AreOurs x.script z) (sym at) (h.picks t.0 old (bound x y t e h named)) in
-    sound_set x t.0 new h (subst (λ (z : ThreadFacts). AreOurs x.script z) (sym left) (ours_made x.script n st w old ours))
-
--- and of one that an event names
-pub sound_told : (x y : ThreadLanes) (t : ThreadNo) (n : ℕ) (w : What) (old new : ThreadFacts) → x ≡ y → IsSound x → IsTrue (has_thread y.script t) → CanTell y.script w (facts_in y t) → old ≡ get_or x.facts t.0 old → new ≡ told_facts x.script n w old → IsSound (record x { facts = set x.facts t.0 new })
-sound_told x y t n w old new e h named may at left =
-    let ours : AreOurs x.script old = subst (λ (z : ThreadFacts). AreOurs x.script z) (sym at) (h.picks t.0 old (bound x y t e h named)) in
-    let can : CanTell x.script w (facts_in y t) = subst (λ (z : ThreadLanes). CanTell z.script w (facts_in y t)) (sym e) may in
-    sound_set x t.0 new h (subst (λ (z : ThreadFacts). AreOurs x.script z) (sym left) (ours_told x.script n w old (facts_in y t) can ours))
+-- an event names a thread
+pub sound_told : (x : ThreadLanes) (t : ThreadNo) (n : ℕ) (w : What) → IsSound x → t.0 < length x.facts → named_thread x.script w ≡ Some t → CanTell x.script w (facts_in x t) → IsSound (record x { facts = set x.facts t.0 (told_facts x.script n w (facts_in x t)) })
+sound_told x t n w h b e may =
+    sound_set x t (told_facts x.script n w (facts_in x t)) h b (subst (λ (q : ApcQueues). AreOurs x.script t q) (sym (told_changes x.script n w (facts_in x t))) (ours_told x.script t n w (facts_in x t) (facts_in x t).apcs e may (h.picks t)))
 
 pub kinds_hold : (x : ThreadLanes) → IsSound x → All (λ y. All (λ pick. pick.kind ≡ kind_of x.script pick.apc) y.apcs.pending) x.facts
 kinds_hold x h =
-    All-weaker (AreOurs x.script) (λ y. All (λ pick. pick.kind ≡ kind_of x.script pick.apc) y.apcs.pending) (λ y k. All-weaker (IsOurs x.script) (λ pick. pick.kind ≡ kind_of x.script pick.apc) (λ pick q. q.kind) y.apcs.pending k) x.facts h.picks
+    All-from_get_or (λ y. All (λ pick. pick.kind ≡ kind_of x.script pick.apc) y.apcs.pending) x.facts start_facts (λ i k. All-weaker (IsOurs x.script (record { 0 = i })) (λ pick. pick.kind ≡ kind_of x.script pick.apc) (λ pick q. q.kind) (get_or x.facts i start_facts).apcs.pending (h.picks (record { 0 = i })))
 
--- new threads have no APCs
+-- ---- new threads have no APCs
+
 starts_from : (k n : ℕ) → replicate n start_facts ≡ table_from k n (λ t. start_facts)
 unfolding table_from
 starts_from k zero = refl
@@ -143,12 +96,14 @@ starts_from k (suc n) = ap (λ (xs : List ThreadFacts). start_facts ∷ xs) (sta
 pub starts : (n : ℕ) → replicate n start_facts ≡ table n (λ t. start_facts)
 starts n = starts_from 0 n
 
-ours_start : (s : Script) → AreOurs s start_facts
-ours_start s = All-nil (IsOurs s)
+pub start_at : (n i : ℕ) → get_or (replicate n start_facts) i start_facts ≡ start_facts
+start_at zero i = refl
+start_at (suc n) zero = refl
+start_at (suc n) (suc i) = start_at n i
 
-pub sound_start : (s : Script) (xs : List ThreadFacts) (n : ℕ) → IsTrue (fits s) → xs ≡ replicate n start_facts → n ≡ length s.threads → IsSound (record { script = s; facts = xs })
-sound_start s xs n f h k = record {
+pub sound_start : (s : Script) (n : ℕ) → IsTrue (fits s) → n ≡ length s.threads → IsSound (record { script = s; facts = replicate n start_facts })
+sound_start s n f k = record {
   script = f;
-  threads = ap length h ∙ (length-replicate n start_facts ∙ k);
-  picks = subst (λ (ys : List ThreadFacts). All (AreOurs s) ys) (sym h) (All-replicate (AreOurs s) n start_facts (ours_start s));
+  threads = length-replicate n start_facts ∙ k;
+  picks = λ t. subst (λ (y : ThreadFacts). AreOurs s t y.apcs) (sym (start_at n t.0)) (All-nil (IsOurs s t));
 }

@@ -7,6 +7,7 @@ ghost use Rattle.nt_threads.specs.Lanes.{facts_in, left};
 
 use crate::Threads;
 use crate::making::make;
+use crate::marks::mark;
 use crate::telling::{named_thread, tell};
 use nt_event::{Event, Stand, ThreadNo, What};
 
@@ -41,18 +42,22 @@ impl<'s> Threads<'s> {
     /// The state of the thread that makes the event changes.
     fn make(&mut self, t: ThreadNo, n: u64, stand: &Stand, what: &What)
         requires thread { IsTrue (has_thread self.old.script t) }
+        requires none { thread_of self.old.script what.now ≡ None }
         requires may { CanMake stand.now what.now (facts_in self.old t) }
         ensures { self.new ≡ record self.old { facts = set self.old.facts t.0 (made_facts self.old.script n stand.now what.now (facts_in self.old t)) } }
     {
         make(&mut self.states[t.0 as usize], self.script, n, stand, what);
+        mark(&mut self.inserted, what);
     }
 
     /// The state of the thread that the event names changes.
     fn tell(&mut self, t: ThreadNo, n: u64, what: &What)
         requires thread { IsTrue (has_thread self.old.script t) }
+        requires named { thread_of self.old.script what.now ≡ Some t }
         requires may { CanTell self.old.script what.now (facts_in self.old t) }
         ensures { self.new ≡ record self.old { facts = set self.old.facts t.0 (told_facts self.old.script n what.now (facts_in self.old t)) } }
     {
         tell(&mut self.states[t.0 as usize], self.script, n, what);
+        mark(&mut self.inserted, what);
     }
 }

@@ -6,8 +6,8 @@
 //!
 //! Contracts see the script and the list of the threads' facts in the definitions of the machine (`nt_event`, `Threads` and
 //! `Waits`). Each call answers what they say of it, and `leave` leaves for each thread what they say that the event leaves.
-//! Three facts hold whenever a value can be used (`IsSound`): the script fits, there is a state for each of its threads, and each
-//! pending APC is of an object of the script and of its kind.
+//! These facts hold whenever a value can be used (`IsSound`): the script fits, there is a state for each of its threads, and each
+//! pending APC of a thread is of an object of the script, of its kind and its thread.
 //!
 //! Sources: Windows Internals, "Asynchronous procedure calls", "Dispatcher objects" and "Thread scheduling"; the driver
 //! documentation, "Waits and APCs". Profile: the ready thread of least number above the one that was taken last is next.
@@ -15,6 +15,7 @@
 
 mod leaving;
 mod making;
+mod marks;
 mod ready;
 mod script;
 mod telling;

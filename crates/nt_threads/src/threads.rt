@@ -1,7 +1,7 @@
 //! The states of a script's threads, and what they answer.
 ghost use Rattle.std.specs.Bool.{OnFalse};
 ghost use Rattle.std.specs.List.{All};
-ghost use Rattle.std.specs.Prelude.{◌≡◌, ◌&&◌, ◌==◌, ◌<◌, IfOk, IsTrue, length, replicate, ℕ};
+ghost use Rattle.std.specs.Prelude.{◌≡◌, ◌&&◌, ◌==◌, ◌<◌, IfOk, IsTrue, false, length, replicate, ℕ};
 ghost use Rattle.nt_event.specs.Apcs as queues;
 ghost use Rattle.nt_event.specs.Jobs.{user_due as due_of};
 ghost use Rattle.nt_event.specs.Routines.{kind_of as kind_in, owner_of as owner_in};
@@ -22,6 +22,8 @@ use std::marker::Model;
 pub struct Threads<'s> {
     pub(crate) script: &'s Script,
     pub(crate) states: Vec<ThreadState>,
+    /// For each APC object of the script, whether it is inserted.
+    pub(crate) inserted: Vec<bool>,
 }
 
 impl<'s> Model for Threads<'s> {
@@ -43,7 +45,12 @@ impl<'s> Threads<'s> {
         ensures { IfOk result (λ x. x ≡ start script.now) }
     {
         let states = start_states(alloc, script.threads.len(), script.apcs.len() as u32)?;
-        Ok(Threads { script, states })
+        let inserted = no_marks(alloc, script.apcs.len())?;
+        Ok(Threads {
+            script,
+            states,
+            inserted,
+        })
     }
 
     /// The state of a thread.
@@ -196,6 +203,14 @@ impl<'s> Threads<'s> {
         self.owner(a).takes(a)
     }
 
+    /// Whether the APC object is inserted.
+    pub fn is_inserted(&self, a: ApcNo) -> bool
+        requires { IsTrue (has_apc self.now.script a) }
+        ensures { result ≡ queues.is_inserted a (facts_in self.now (owner_in self.now.script a)).apcs }
+    {
+        self.inserted[a.0 as usize]
+    }
+
     /// Whether the insert of the APC object would end a wait of its thread, whatever its number is.
     pub fn ends_by_apc(&self, a: ApcNo) -> bool
         requires { IsTrue (has_apc self.now.script a) }
@@ -231,4 +246,11 @@ fn start_states(alloc: Global, threads: usize, apcs: u32) -> Result<Vec<ThreadSt
         states.push(ThreadState::new(alloc, apcs)?)?;
     }
     Ok(states)
+}
+
+/// The marks of so many APC objects, none of which is inserted.
+fn no_marks(alloc: Global, apcs: usize) -> Result<Vec<bool>, AllocError>
+    ensures { IfOk result (λ v. v.items ≡ replicate apcs false) }
+{
+    vec![in alloc; false; apcs]
 }
