@@ -5,3 +5,4 @@ pub mod ForTimers
 pub mod TimersLeft
 pub mod AllLeft
 pub mod DueKeys
+pub mod StartStates
