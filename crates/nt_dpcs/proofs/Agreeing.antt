@@ -1,16 +1,14 @@
 -- Objects and queues agree after each change.
-use Rattle.std.proofs.Common.{Bool, List, Option, Some, None, ap, arith, cond, eqb, eq-eqb, false, get_or, length, option_map, refl, set, subst, sym, true, ℕ, ◌<◌, ◌∙◌, ◌∷◌, ◌≡◌, ◌||◌, []}
+use Rattle.std.proofs.Common.{Bool, Option, Some, None, ap, eqb, eq-eqb, false, length, option_map, refl, set, true, ℕ, ◌<◌, ◌∙◌, ◌∷◌, ◌≡◌}
 use Rattle.std.specs.Option.{is_some}
-use Rattle.std.specs.Prelude.{IfSome, IsTrue}
-use Rattle.std.proofs.lemmas.Bool.{eqb-false, eqb-true, false≢true, ne_eqb}
+use Rattle.std.specs.Prelude.{IfSome}
+use Rattle.std.proofs.lemmas.Bool.{eqb-true}
 use Rattle.std.proofs.lemmas.List.{length-set}
-use Rattle.nt_event.specs.declared.inserts.Insert.{Insert}
 use Rattle.nt_event.specs.declared.inserts.Standing.{Standing}
 use Rattle.nt_event.specs.declared.numbers.CpuNo.{CpuNo}
 use Rattle.nt_event.specs.declared.numbers.DpcNo.{DpcNo}
-use Rattle.nt_event.specs.declared.scripts.Script.{Script}
-use Rattle.nt_event.specs.Objects.{ObjectState, is_queued, object_in, queue_for, start_object}
-use Rattle.nt_event.specs.Queues.{QueueState, is_of_dpc, is_queue, new_insert, start_queue, without_dpc}
+use Rattle.nt_event.specs.Objects.{ObjectState, is_queued, object_in, start_object}
+use Rattle.nt_event.specs.Queues.{QueueState, is_queue, new_insert, start_queue, without_dpc}
 use Rattle.nt_event.specs.Words.{cpu, dpc}
 use Rattle.nt_dpc.proofs.Once.{holds-without_same}
 use Rattle.nt_dpc.specs.Queues.{holds_dpc}

@@ -1,7 +1,6 @@
 -- Entries of an object in a queue.
-use Rattle.std.proofs.Common.{inl, inr, Bool, List, Option, Some, None, ap, eqb, eq-eqb, false, reverse, refl, sym, true, ℕ, ◌∙◌, ◌∷◌, ◌≡◌, ◌||◌, []}
-use Rattle.std.proofs.lemmas.Bool.{eqb-false, eqb-true, false≢true, ne_eqb, or_left, or_right}
-use Rattle.std.specs.List.{list_any}
+use Rattle.std.proofs.Common.{inl, inr, Bool, List, Some, ap, eqb, eq-eqb, false, refl, sym, true, ◌∙◌, ◌∷◌, ◌≡◌, ◌||◌, []}
+use Rattle.std.proofs.lemmas.Bool.{eqb-false, eqb-true, ne_eqb, or_left, or_right}
 use Rattle.nt_event.specs.declared.inserts.Insert.{Insert}
 use Rattle.nt_event.specs.declared.inserts.Part.{Part}
 use Rattle.nt_event.specs.declared.numbers.DpcNo.{DpcNo}

@@ -1,16 +1,14 @@
 -- The objects and queues of a script are kept by each change of a pair, and contracts see the change.
-use Rattle.std.proofs.Common.{Bool, List, Option, Some, None, ap, arith, eqb, false, get_or, length, map, option_map, refl, set, subst, sym, true, ℕ, ◌<◌, ◌∙◌, ◌∷◌, ◌≡◌, []}
+use Rattle.std.proofs.Common.{Bool, List, Option, Some, None, ap, arith, eqb, false, length, map, option_map, refl, set, subst, sym, true, ℕ, ◌<◌, ◌∙◌, ◌∷◌, ◌≡◌}
 use Rattle.std.specs.Prelude.{IfSome}
-use Rattle.std.proofs.lemmas.Bool.{eqb-false, eqb-true}
+use Rattle.std.proofs.lemmas.Bool.{eqb-true}
 use Rattle.std.proofs.lemmas.List.{length-map, length-set, map-set}
 use Rattle.nt_event.specs.declared.commands.Importance.{Importance}
-use Rattle.nt_event.specs.declared.inserts.Insert.{Insert}
 use Rattle.nt_event.specs.declared.numbers.CpuNo.{CpuNo}
 use Rattle.nt_event.specs.declared.numbers.DpcNo.{DpcNo}
 use Rattle.nt_event.specs.declared.scripts.Script.{Script}
 use Rattle.nt_event.specs.Objects.{ObjectState, is_queued, object_in}
 use Rattle.nt_event.specs.Queues.{QueueState, is_high, is_queue, new_insert, without_dpc}
-use Rattle.nt_event.specs.Routines.{part_of}
 use Rattle.nt_event.specs.Words.{cpu, dpc}
 use Rattle.nt_dpc.specs.Objects.{ObjectFacts, entry_of, new_object, queued_at, standing_cpu, unqueued}
 use Rattle.nt_dpc.specs.Queues.{QueueFacts, new_queue, with_entry, with_idle, without_entry}

@@ -1,14 +1,13 @@
 -- What an event leaves of objects and queues is what its change leaves.
-use Rattle.std.proofs.Common.{inl, inr, Bool, List, None, Option, Some, ap, arith, cond, eq-eqb, eqb, false, get_or, length, not, nat_lt, option_map, refl, set, subst, sym, true, ℕ, ◌<◌, ◌∙◌, ◌∷◌, ◌≡◌, ◌≤◌}
+use Rattle.std.proofs.Common.{inl, inr, Bool, List, None, Option, Some, ap, arith, cond, eq-eqb, eqb, false, get_or, length, not, option_map, refl, set, subst, sym, true, ℕ, ◌<◌, ◌∙◌, ◌∷◌, ◌≡◌}
 use Rattle.std.specs.Option.{is_some}
-use Rattle.std.specs.Prelude.{IfSome, IsTrue}
-use Rattle.std.proofs.lemmas.Bool.{cases_lt, eqb-false, eqb-true, false≢true, lt-ltb}
+use Rattle.std.specs.Prelude.{IsTrue}
+use Rattle.std.proofs.lemmas.Bool.{cases_lt, eqb-true, false≢true, lt-ltb}
 use Rattle.std.proofs.lemmas.List.{get_or_past, length-set}
 use Rattle.nt_event.proofs.Tables.{table-self}
 use Rattle.nt_event.specs.declared.commands.Command.TheVariants.{Queue, SetImportance as SetImportanceCall, SetTarget as SetTargetCall, Unqueue}
 use Rattle.nt_event.specs.declared.commands.Importance.{Importance}
-use Rattle.nt_event.specs.declared.commands.Reply.{Reply}
-use Rattle.nt_event.specs.declared.commands.Reply.TheVariants.{Done, No, Yes}
+use Rattle.nt_event.specs.declared.commands.Reply.TheVariants.{Done, Yes}
 use Rattle.nt_event.specs.declared.events.Begun.TheVariants.{Dpc, Threaded}
 use Rattle.nt_event.specs.declared.events.What.{What}
 use Rattle.nt_event.specs.declared.events.What.TheVariants.{Begin, Call, Fire, Rest as RestEvent, Switch}
@@ -19,19 +18,18 @@ use Rattle.nt_event.specs.declared.inserts.Standing.{Standing}
 use Rattle.nt_event.specs.declared.numbers.CpuNo.{CpuNo}
 use Rattle.nt_event.specs.declared.numbers.DpcNo.{DpcNo}
 use Rattle.nt_event.specs.declared.numbers.ThreadNo.{ThreadNo}
-use Rattle.nt_event.specs.declared.scripts.Script.{Script}
 use Rattle.nt_event.specs.Jobs.{begin_dpc, begin_first}
 use Rattle.nt_event.specs.Objects.{ObjectState, is_queued, object_after, object_in, queue_for, start_object}
 use Rattle.nt_event.specs.Queues.{QueueState, first_dpc, is_queue, new_insert, queue_after, start_queue, without_dpc}
-use Rattle.nt_event.specs.Script.{has_cpu, has_dpc}
+use Rattle.nt_event.specs.Script.{has_dpc}
 use Rattle.nt_event.specs.Words.{cpu, dpc, table, yes_if}
 use Rattle.nt_dpc.specs.Queues.{holds_dpc}
 use Rattle.nt_dpcs.proofs.Holding.{first_holds}
 use Rattle.nt_dpcs.proofs.Places.{read_other, read_same}
 use Rattle.nt_dpcs.specs.Agree.{Agrees}
 use Rattle.nt_dpcs.specs.Changes.{MayChange, change_of, changed, inserted_at, removed_at, removed_from, with_object, with_queue}
-use Rattle.nt_dpcs.specs.declared.changes.Change.TheVariants.{Insert as InsertChange, Nothing, Remove, Rest, Run, SetImportance, SetTarget, Take}
-use Rattle.nt_dpcs.specs.Lanes.{AnswersInsert, AnswersRemoval, DpcLanes, IsDoneTo, MayLeave, left, queue_in}
+use Rattle.nt_dpcs.specs.declared.changes.Change.TheVariants.{Take}
+use Rattle.nt_dpcs.specs.Lanes.{DpcLanes, MayLeave, left, queue_in}
 
 -- ---- tables in which one place changes, or none
 

@@ -1,5 +1,5 @@
 -- Elements of lists: after one is written, and through a map.
-use Rattle.std.proofs.Common.{Bool, List, ap, eqb, false, get_or, length, map, refl, set, suc, sym, true, zero, ℕ, ◌<◌, ◌∙◌, ◌∷◌, ◌≡◌, []}
+use Rattle.std.proofs.Common.{List, eqb, false, get_or, length, map, refl, set, suc, sym, true, zero, ℕ, ◌<◌, ◌∷◌, ◌≡◌, []}
 use Rattle.std.proofs.lemmas.Bool.{eqb-false, eqb-true}
 use Rattle.std.proofs.lemmas.Grind.{get_or-set_at}
 use Rattle.std.proofs.lemmas.List.{get_or-set_other}

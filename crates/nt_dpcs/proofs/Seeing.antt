@@ -1,5 +1,5 @@
 -- What contracts see of the objects and queues that are kept, before and after each change.
-use Rattle.std.proofs.Common.{inl, inr, Bool, List, None, Option, Some, ap, arith, eq-eqb, false, get_or, length, map, option_map, refl, set, subst, sym, true, ℕ, ◌<◌, ◌∙◌, ◌∷◌, ◌≡◌}
+use Rattle.std.proofs.Common.{inl, inr, Bool, List, None, Option, Some, ap, arith, eq-eqb, false, get_or, length, option_map, refl, set, subst, sym, true, ℕ, ◌<◌, ◌∙◌, ◌≡◌}
 use Rattle.std.specs.Prelude.{IfSome, IsTrue}
 use Rattle.std.proofs.lemmas.Bool.{cases_lt, false≢true, lt-ltb, ltb-true}
 use Rattle.std.proofs.lemmas.List.{get_or_default, get_or_past, length-map}
@@ -18,7 +18,7 @@ use Rattle.nt_event.specs.Script.{has_cpu, has_dpc}
 use Rattle.nt_event.specs.Words.{cpu, dpc}
 use Rattle.nt_dpc.proofs.Events.{ask_is_the_events}
 use Rattle.nt_dpc.specs.Laws.{IsObject, asks_on}
-use Rattle.nt_dpc.specs.Objects.{ObjectFacts, new_object, standing_cpu, unqueued}
+use Rattle.nt_dpc.specs.Objects.{ObjectFacts, new_object, unqueued}
 use Rattle.nt_dpc.specs.Queues.{MayInsert, QueueFacts, StandsHereOrNowhere, StandsHere, asked_class, holds_dpc, new_queue, with_idle}
 use Rattle.nt_dpcs.proofs.Agreeing.{stand_of, unqueued_nowhere}
 use Rattle.nt_dpcs.proofs.Holding.{first_holds}

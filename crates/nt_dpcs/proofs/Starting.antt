@@ -1,5 +1,5 @@
 -- The objects and queues of a script before any event.
-use Rattle.std.proofs.Common.{inl, inr, false, List, ap, arith, add-one, length, map, refl, subst, suc, sym, zero, get_or, ℕ, ◌+◌, ◌++◌, ◌<◌, ◌≤◌, ◌∙◌, ◌∷◌, ◌≡◌, ◌&&◌, []}
+use Rattle.std.proofs.Common.{inl, inr, false, List, ap, arith, add-one, length, map, refl, subst, suc, sym, zero, get_or, ℕ, ◌+◌, ◌++◌, ◌<◌, ◌∙◌, ◌∷◌, ◌≡◌, ◌&&◌, []}
 use Rattle.std.specs.Prelude.{IfSome, slice_get}
 use Rattle.std.proofs.lemmas.Bool.{cases_lt}
 use Rattle.std.proofs.lemmas.List.{get_or_past}
@@ -15,7 +15,7 @@ use Rattle.nt_dpc.specs.Objects.{ObjectFacts, new_object}
 use Rattle.nt_dpc.specs.Queues.{QueueFacts, holds_dpc, new_queue}
 use Rattle.nt_dpcs.proofs.Agreeing.{stand_of}
 use Rattle.nt_dpcs.specs.Agree.{Agrees, AreKept, IsObjectOf, IsQueueOf, lanes_of, new_objects, new_queues, object_facts, queue_facts}
-use Rattle.nt_dpcs.specs.Lanes.{DpcLanes, queue_in, start}
+use Rattle.nt_dpcs.specs.Lanes.{queue_in, start}
 
 -- ---- tables
 

@@ -1,5 +1,5 @@
 -- The objects and queues of a script as contracts see them, what an event leaves of them, and when it may be made.
-use Rattle.std.specs.Prelude.{IfSome, IsTrue, List, Option, Some, [], get_or, length, not, ℕ, ◌≡◌}
+use Rattle.std.specs.Prelude.{IfSome, IsTrue, List, Some, [], get_or, length, not, ℕ, ◌≡◌}
 use Rattle.nt_event.specs.declared.commands.Command.TheVariants.{Queue, SetImportance, SetTarget, Unqueue}
 use Rattle.nt_event.specs.declared.commands.Reply.{Reply}
 use Rattle.nt_event.specs.declared.commands.Reply.TheVariants.{Done}

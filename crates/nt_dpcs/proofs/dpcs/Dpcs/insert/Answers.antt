@@ -1,8 +1,7 @@
-use Rattle.std.proofs.Common.{ap, sym, ◌∙◌}
+use Rattle.std.proofs.Common.{ap, ◌∙◌}
 use Rattle.nt_event.specs.declared.numbers.CpuNo.{CpuNo}
 use Rattle.nt_dpcs.proofs.Seeing.{AreSeen, insert_place, insert_seen, places}
 use Rattle.nt_dpcs.specs.Changes.{inserted_at}
-use Rattle.nt_dpcs.specs.Lanes.{DpcLanes}
 use Rattle.nt_dpcs.proofs.dpcs.Dpcs.insert.Goals as goal
 
 pub insert-requires-clause-place : goal.insert-requires-clause-place

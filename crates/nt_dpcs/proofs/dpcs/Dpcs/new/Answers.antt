@@ -1,4 +1,3 @@
-use Rattle.std.proofs.Common.{◌∙◌}
 use Rattle.nt_dpcs.proofs.Starting.{kept_start, new_is_start}
 use Rattle.nt_dpcs.proofs.dpcs.Dpcs.new.Goals as goal
 
