@@ -1,22 +1,18 @@
 -- What the events that fit ask of the one thread that changes.
-use Rattle.std.proofs.Common.{◌≡◌, ◌∙◌, ◌<◌, Bool, IfSome, IsSome, IsSomeAnd, IsTrue, None, Option, Some, arith, length, refl, subst, sym, true, ℕ}
+use Rattle.std.proofs.Common.{◌≡◌, IfSome, IsSomeAnd, IsTrue, Option, Some, length, refl, subst}
 use Rattle.std.proofs.lemmas.Bool.{lt-ltb}
-use Rattle.nt_event.specs.declared.commands.ApcKind.TheVariants.{User as UserApc}
 use Rattle.nt_event.specs.declared.commands.Command.TheVariants.{Alert, Delay, InsertApc, Release, RemoveApc, StartWait, TestAlert, Yield}
 use Rattle.nt_event.specs.declared.commands.TimerKey.TheVariants.{Delay as OfDelay}
 use Rattle.nt_event.specs.declared.events.Begun.TheVariants.{Apc}
-use Rattle.nt_event.specs.declared.events.Event.{Event}
 use Rattle.nt_event.specs.declared.events.What.{What}
-use Rattle.nt_event.specs.declared.events.What.TheVariants.{Begin, Call, End, Expire, Flush, Gone, Look, Rewait, Switch}
+use Rattle.nt_event.specs.declared.events.What.TheVariants.{Begin, Call, Expire, Flush, Gone, Look, Rewait, Switch}
 use Rattle.nt_event.specs.declared.jobs.Stand.{Stand}
-use Rattle.nt_event.specs.declared.numbers.ApcNo.{ApcNo}
 use Rattle.nt_event.specs.declared.numbers.ThreadNo.{ThreadNo}
-use Rattle.nt_event.specs.declared.scripts.Script.{Script}
 use Rattle.nt_event.specs.Routines.{cpu_of, owner_of}
-use Rattle.nt_event.specs.Script.{fits, has_apc, has_thread}
+use Rattle.nt_event.specs.Script.{fits, has_thread}
 use Rattle.nt_event.specs.Step.{thread_field}
 use Rattle.nt_event.specs.Threads.{ThreadFacts}
-use Rattle.nt_threads.specs.Fits.{CanMake, CanTell, InThread, MayLeave, RunsHere, WhatFits, named_thread}
+use Rattle.nt_threads.specs.Fits.{CanMake, CanTell, InThread, RunsHere, WhatFits, named_thread}
 use Rattle.nt_threads.specs.Lanes.{ThreadLanes, facts_in}
 use Rattle.nt_threads.proofs.Numbers.{owner_named}
 

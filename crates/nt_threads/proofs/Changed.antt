@@ -1,5 +1,5 @@
 -- What an event leaves of the APC queue of the thread that it changes.
-use Rattle.std.proofs.Common.{◌≡◌, Bool, Option, None, Some, ap, false, if◌then◌else◌, is_some, not, refl, true, ℕ, ◌&&◌, ◌==◌, ◌∙◌}
+use Rattle.std.proofs.Common.{◌≡◌, Bool, Option, None, Some, false, if◌then◌else◌, is_some, refl, true, ℕ, ◌&&◌, ◌==◌}
 use Rattle.nt_event.specs.declared.commands.ApcKind.{ApcKind}
 use Rattle.nt_event.specs.declared.commands.ApcKind.TheVariants.{User as UserApc}
 use Rattle.nt_event.specs.declared.commands.Command.TheVariants.{Alert, Delay, InsertApc, Release, RemoveApc, StartWait, TestAlert, Yield}
@@ -11,7 +11,7 @@ use Rattle.nt_event.specs.declared.commands.Reply.TheVariants.{Blocked, Done, St
 use Rattle.nt_event.specs.declared.commands.TimerKey.TheVariants.{Delay as OfDelay}
 use Rattle.nt_event.specs.declared.events.Begun.TheVariants.{Apc}
 use Rattle.nt_event.specs.declared.events.What.{What}
-use Rattle.nt_event.specs.declared.events.What.TheVariants.{Begin, Call, End, Expire, Flush, Gone, Rewait, Switch}
+use Rattle.nt_event.specs.declared.events.What.TheVariants.{Begin, Call, End, Expire, Flush, Gone, Rewait}
 use Rattle.nt_event.specs.declared.frames.Again.{Again}
 use Rattle.nt_event.specs.declared.frames.Body.{Body}
 use Rattle.nt_event.specs.declared.frames.Body.TheVariants.{Apc as OnApc, Base as OnBase}
@@ -22,7 +22,7 @@ use Rattle.nt_event.specs.declared.scripts.Script.{Script}
 use Rattle.nt_event.specs.Apcs.{ApcQueues, closed_apcs, has_user, with_apc, without_apc}
 use Rattle.nt_event.specs.Routines.{is_kernel_kind, kind_of}
 use Rattle.nt_event.specs.Threads.{ThreadFacts, ended, ends_by_alert, ends_by_apc, ends_by_expiry, ends_by_release, is_alerted, is_gone, set_alerted}
-use Rattle.nt_event.specs.Waits.{alert_facts, alert_taken, alert_tested, answered, apc_taken, expiry_facts, frame_ended, insert_facts, made_facts, new_pick, release_facts, waited, waited_again}
+use Rattle.nt_event.specs.Waits.{alert_taken, alert_tested, answered, apc_taken, frame_ended, insert_facts, made_facts, new_pick, waited, waited_again}
 use Rattle.nt_event.specs.Words.{alerted, is_answer, is_user, kernel_apc, satisfied, user_apc}
 use Rattle.nt_threads.specs.Fits.{told_facts}
 

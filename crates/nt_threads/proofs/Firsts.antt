@@ -1,5 +1,5 @@
 -- What holds of each pending APC of a thread holds of the one that is due.
-use Rattle.std.proofs.Common.{◌≡◌, ◌∷◌, [], Bool, List, Option, None, Some, cond, false, inl, inr, refl, reverse, true, ℕ, ◌&&◌, ◌==◌}
+use Rattle.std.proofs.Common.{◌∷◌, [], Bool, List, Option, Some, cond, false, inl, inr, reverse, true, ℕ, ◌&&◌, ◌==◌}
 use Rattle.std.proofs.lemmas.List.{reverse-append}
 use Rattle.std.proofs.lemmas.List.Elements.{All-head, All-nil, All-push, All-tail}
 use Rattle.std.specs.List.{All}

@@ -1,11 +1,10 @@
 -- An event leaves one thread changed: the one that it names, or else the one that makes it.
-use Rattle.std.proofs.Common.{◌≡◌, ◌∙◌, ◌∷◌, ◌<◌, Bool, IsTrue, List, None, Option, Some, ap, arith, eqb, false, get_or, if◌then◌else◌, length, refl, set, subst, sym, true, ℕ, ◌&&◌, ◌==◌}
+use Rattle.std.proofs.Common.{◌≡◌, ◌∙◌, ◌<◌, Bool, List, None, Some, ap, arith, eqb, false, get_or, if◌then◌else◌, length, refl, set, subst, sym, true, ℕ, ◌&&◌, ◌==◌}
 use Rattle.std.proofs.lemmas.Bool.{and_right, eq-eqb, eqb-false, eqb-true}
 use Rattle.std.proofs.lemmas.List.{get_or-set_other, get_or-set_same, length-set}
 use Rattle.nt_event.specs.declared.commands.Command.TheVariants.{Alert, InsertApc, Release, RemoveApc}
-use Rattle.nt_event.specs.declared.commands.Mode.{Mode}
 use Rattle.nt_event.specs.declared.commands.Reply.{Reply}
-use Rattle.nt_event.specs.declared.commands.Reply.TheVariants.{No, Yes}
+use Rattle.nt_event.specs.declared.commands.Reply.TheVariants.{Yes}
 use Rattle.nt_event.specs.declared.commands.TimerKey.TheVariants.{Delay as OfDelay}
 use Rattle.nt_event.specs.declared.events.Event.{Event}
 use Rattle.nt_event.specs.declared.events.What.{What}
@@ -13,9 +12,9 @@ use Rattle.nt_event.specs.declared.events.What.TheVariants.{Call, Expire}
 use Rattle.nt_event.specs.declared.jobs.Stand.{Stand}
 use Rattle.nt_event.specs.declared.numbers.ThreadNo.{ThreadNo}
 use Rattle.nt_event.specs.declared.scripts.Script.{Script}
-use Rattle.nt_event.specs.Apcs.{is_inserted, takes, without_apc}
+use Rattle.nt_event.specs.Apcs.{without_apc}
 use Rattle.nt_event.specs.Routines.{cpu_of, owner_of}
-use Rattle.nt_event.specs.Threads.{ThreadFacts, ends_by_release, is_alerted, is_gone, start_facts}
+use Rattle.nt_event.specs.Threads.{ThreadFacts, ends_by_release, start_facts}
 use Rattle.nt_event.specs.Waits.{alert_facts, expiry_facts, facts_after, insert_facts, is_of_thread, made_facts, named_facts, new_pick, release_facts}
 use Rattle.nt_event.specs.Words.{is_answer, is_of, is_thread, table, thread, yes_if}
 use Rattle.nt_event.proofs.Tables.{table-self}

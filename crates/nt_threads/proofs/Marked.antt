@@ -1,15 +1,14 @@
 -- The marks of the APC objects say which are inserted, after each event.
-use Rattle.std.proofs.Common.{◌≡◌, ◌∷◌, ◌<◌, [], Bool, IsTrue, List, Option, None, Some, ap, eqb, false, get_or, if◌then◌else◌, length, not, refl, replicate, set, subst, suc, sym, true, zero, ℕ, ◌==◌, ◌||◌, ◌∙◌}
+use Rattle.std.proofs.Common.{◌≡◌, ◌<◌, Bool, IsTrue, List, Option, None, Some, ap, eqb, false, get_or, if◌then◌else◌, length, not, refl, replicate, set, subst, suc, sym, true, zero, ℕ, ◌==◌, ◌||◌, ◌∙◌}
 use Rattle.std.proofs.lemmas.Bool.{eqb-false, eqb-true, false≢true, ltb-true}
 use Rattle.std.proofs.lemmas.List.{get_or-set_other, get_or-set_same, length-replicate, length-set}
 use Rattle.std.proofs.lemmas.Map.Views.{any-filter_same}
 use Rattle.std.specs.List.{All}
-use Rattle.nt_event.specs.declared.commands.Command.TheVariants.{Alert, InsertApc, Release, RemoveApc}
+use Rattle.nt_event.specs.declared.commands.Command.TheVariants.{InsertApc, RemoveApc}
 use Rattle.nt_event.specs.declared.commands.Reply.TheVariants.{Yes}
-use Rattle.nt_event.specs.declared.commands.TimerKey.TheVariants.{Delay as OfDelay}
 use Rattle.nt_event.specs.declared.events.Begun.TheVariants.{Apc}
 use Rattle.nt_event.specs.declared.events.What.{What}
-use Rattle.nt_event.specs.declared.events.What.TheVariants.{Begin, Call, End, Expire, Flush}
+use Rattle.nt_event.specs.declared.events.What.TheVariants.{Begin, Call, End, Flush}
 use Rattle.nt_event.specs.declared.frames.Body.{Body}
 use Rattle.nt_event.specs.declared.frames.Body.TheVariants.{Base as OnBase}
 use Rattle.nt_event.specs.declared.inserts.Pick.{Pick}

@@ -1,9 +1,8 @@
 -- What a script that fits bounds and names.
-use Rattle.std.proofs.Common.{◌≡◌, ◌≤◌, ◌<◌, IsTrue, List, None, Option, Some, arith, get_or, length, subst, sym, true, ℕ}
+use Rattle.std.proofs.Common.{◌≡◌, ◌≤◌, ◌<◌, IsTrue, None, Some, get_or, length, subst, sym, true}
 use Rattle.std.proofs.lemmas.Bool.{leb-true, ltb-true}
 use Rattle.std.proofs.lemmas.List.Sums.{AllPass-from_list_all}
 use Rattle.std.proofs.lemmas.Option.{slice_get-get_or}
-use Rattle.std.specs.List.{list_all}
 use Rattle.std.specs.Prelude.{slice_get}
 use Rattle.nt_event.specs.declared.commands.ApcKind.TheVariants.{Special}
 use Rattle.nt_event.specs.declared.numbers.ApcNo.{ApcNo}

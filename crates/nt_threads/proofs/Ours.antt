@@ -1,6 +1,6 @@
 -- What an event leaves of the states is as sound as they were.
-use Rattle.std.proofs.Common.{◌≡◌, ◌∷◌, ◌<◌, Bool, IsTrue, List, Option, None, Some, ap, arith, eqb, false, get_or, if◌then◌else◌, length, not, refl, replicate, set, subst, suc, sym, true, zero, ℕ, ◌==◌, ◌∙◌}
-use Rattle.std.proofs.lemmas.Bool.{eqb-false, eqb-true, ltb-true}
+use Rattle.std.proofs.Common.{◌≡◌, ◌∷◌, ◌<◌, Bool, IsTrue, List, Option, Some, ap, eqb, false, get_or, if◌then◌else◌, length, not, refl, replicate, set, subst, suc, sym, true, zero, ℕ, ◌∙◌}
+use Rattle.std.proofs.lemmas.Bool.{eqb-false, eqb-true}
 use Rattle.std.proofs.lemmas.List.{get_or-set_other, get_or-set_same, length-replicate, length-set}
 use Rattle.std.proofs.lemmas.List.Elements.{All-cons, All-filter, All-from_get_or, All-nil, All-weaker}
 use Rattle.std.specs.List.{All}
@@ -17,11 +17,11 @@ use Rattle.nt_event.specs.declared.numbers.ThreadNo.{ThreadNo}
 use Rattle.nt_event.specs.declared.scripts.Script.{Script}
 use Rattle.nt_event.specs.Apcs.{ApcQueues, is_of_apc, without_apc}
 use Rattle.nt_event.specs.Routines.{kind_of, owner_of}
-use Rattle.nt_event.specs.Script.{fits, has_thread}
+use Rattle.nt_event.specs.Script.{fits}
 use Rattle.nt_event.specs.Threads.{ThreadFacts, start_facts}
 use Rattle.nt_event.specs.Waits.{made_facts, new_pick}
 use Rattle.nt_event.specs.Words.{table, table_from}
-use Rattle.nt_threads.specs.Fits.{CanMake, CanTell, named_thread, told_facts}
+use Rattle.nt_threads.specs.Fits.{CanTell, named_thread, told_facts}
 use Rattle.nt_threads.specs.Lanes.{ThreadLanes, facts_in}
 use Rattle.nt_threads.specs.Sound.{AreOurs, IsOurs, IsSound}
 use Rattle.nt_threads.proofs.Changed.{ended_queue, made_changes, made_queue, told_changes, told_queue}

@@ -1,5 +1,5 @@
 -- The reply of a delay tells what its due time was: where it is that the delay is over, the time was reached.
-use Rattle.std.proofs.Common.{◌≡◌, ◌∙◌, Bool, Option, None, Some, ap, false, if◌then◌else◌, is_some, not, refl, subst, sym, true, ℕ, ◌&&◌}
+use Rattle.std.proofs.Common.{◌≡◌, ◌∙◌, Bool, Option, None, Some, ap, false, if◌then◌else◌, is_some, not, refl, sym, true, ℕ, ◌&&◌}
 use Rattle.nt_event.specs.declared.commands.Mode.{Mode}
 use Rattle.nt_event.specs.declared.commands.Regions.{Regions}
 use Rattle.nt_event.specs.declared.commands.Reply.{Reply}

@@ -1,5 +1,5 @@
 -- The next ready thread is found in one pass.
-use Rattle.std.proofs.Common.{◌≡◌, ◌∙◌, ◌∷◌, ◌<◌, [], Bool, List, None, Option, Some, ap, arith, drop, false, get_or, if◌then◌else◌, is_some, length, not, refl, suc, sym, true, ℕ, ◌&&◌, ◌==◌}
+use Rattle.std.proofs.Common.{◌≡◌, ◌∙◌, ◌∷◌, [], Bool, List, None, Option, Some, ap, false, if◌then◌else◌, is_some, not, refl, suc, true, ℕ, ◌&&◌, ◌==◌}
 use Rattle.std.specs.Option.{option_or}
 use Rattle.std.specs.Prelude.{find}
 use Rattle.nt_event.specs.declared.numbers.CpuNo.{CpuNo}
@@ -7,7 +7,7 @@ use Rattle.nt_event.specs.declared.numbers.ThreadNo.{ThreadNo}
 use Rattle.nt_event.specs.declared.scripts.ThreadDecl.{ThreadDecl}
 use Rattle.nt_event.specs.Jobs.{is_after, ready_from}
 use Rattle.nt_event.specs.Lanes.{Lanes, facts_at}
-use Rattle.nt_event.specs.Threads.{ThreadFacts, is_ready, start_facts}
+use Rattle.nt_event.specs.Threads.{is_ready}
 use Rattle.nt_event.specs.Words.{head_of, is_null, thread}
 
 -- what is left of the pass from this number on, where `first` is the first one so far

@@ -1,7 +1,7 @@
 use Rattle.std.proofs.Common.{subst, sym, ◌∙◌}
 use Rattle.std.specs.Prelude.{length, ◌≡◌}
 use Rattle.nt_threads.specs.Lanes.{ThreadLanes}
-use Rattle.nt_threads.proofs.Allows.{MakesHere, can_make, makes_here}
+use Rattle.nt_threads.proofs.Allows.{can_make, makes_here}
 use Rattle.nt_threads.proofs.Left.{left_made, left_none}
 use Rattle.nt_threads.proofs.threads.Threads.make_event.Goals as goal
 
