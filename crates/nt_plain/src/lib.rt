@@ -1,0 +1,4 @@
+//! The floor in memory, for one thread.
+#![tactic(auto)]
+
+mod states;
