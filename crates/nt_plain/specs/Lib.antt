@@ -1,0 +1,5 @@
+pub mod AllStates
+pub mod States
+pub mod Places
+pub mod Given
+pub mod Made

@@ -1,0 +1,36 @@
+-- Where the value of a processor and class, the marks of an event, and the value that a lane tells stand in the lists.
+use Rattle.std.specs.Int.{bit_at}
+use Rattle.std.specs.Prelude.{Bool, List, get_or, if◌then◌else◌, true, ℕ, ◌*◌, ◌+◌, ◌==◌}
+use Rattle.nt_event.specs.declared.jobs.Lane.{Lane}
+use Rattle.nt_event.specs.declared.jobs.Lane.TheVariants.{Object as ObjectLane, Queue as QueueLane, Threads as ThreadsLane, Timers as TimersLane}
+use Rattle.nt_event.specs.declared.numbers.CpuNo.{CpuNo}
+use Rattle.nt_event.specs.declared.scripts.Script.{Script}
+use Rattle.nt_event.specs.Lanes.{lane_number}
+use Rattle.nt_event.specs.Script.{has_cpu, has_dpc}
+
+-- the lane is one of the script's
+abbrev pub has_lane : Script → Lane → Bool
+has_lane s (ObjectLane d) = has_dpc s d
+has_lane s (QueueLane p) = has_cpu s p
+has_lane s (ThreadsLane p) = has_cpu s p
+has_lane s TimersLane = true
+
+abbrev pub word_place : CpuNo → ℕ → ℕ
+word_place p c = 16 * p.0 + c
+
+-- the row of a processor among those of an event, or of a lane
+abbrev pub row_of : ℕ → ℕ → CpuNo → ℕ
+row_of cpus n p = n * cpus + p.0
+
+abbrev pub value_in : List ℕ → CpuNo → ℕ → ℕ
+value_in asked p c = get_or asked (word_place p c) 0
+
+-- each row of marks is a number with a bit for each class
+abbrev pub is_marked : ℕ → List ℕ → ℕ → CpuNo → ℕ → Bool
+is_marked cpus marks n p c = bit_at (get_or marks (row_of cpus n p) 0) c == 1
+
+abbrev pub told_place : Script → Lane → CpuNo → ℕ → ℕ
+told_place s x p c = row_of s.cpus (lane_number s x) p * 16 + c
+
+abbrev pub told_in : Script → List ℕ → Lane → CpuNo → ℕ → ℕ
+told_in s told x p c = if has_lane s x then get_or told (told_place s x p c) 0 else 0
