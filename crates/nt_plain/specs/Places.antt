@@ -32,5 +32,9 @@ is_marked cpus marks n p c = bit_at (get_or marks (row_of cpus n p) 0) c == 1
 abbrev pub told_place : Script → Lane → CpuNo → ℕ → ℕ
 told_place s x p c = row_of s.cpus (lane_number s x) p * 16 + c
 
+abbrev pub row_value : Script → List ℕ → Lane → CpuNo → ℕ → ℕ
+row_value s told x p c = get_or told (told_place s x p c) 0
+
+-- what a lane tells; one that isn't the script's tells nothing
 abbrev pub told_in : Script → List ℕ → Lane → CpuNo → ℕ → ℕ
-told_in s told x p c = if has_lane s x then get_or told (told_place s x p c) 0 else 0
+told_in s told x p c = if has_lane s x then row_value s told x p c else 0

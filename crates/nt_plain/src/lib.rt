@@ -7,6 +7,7 @@
 #![tactic(auto)]
 
 mod marks;
+mod places;
 mod plain;
 mod requests;
 mod states;

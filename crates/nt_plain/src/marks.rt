@@ -2,10 +2,10 @@
 ghost use Rattle.std.specs.Prelude.{◌≡◌, ◌==◌, ◌+◌, ◌*◌, ◌<◌, ◌≤◌, ◌^◌, All, IfOk, get_or, length, replicate, set};
 ghost use Rattle.std.specs.Int.{bit_at};
 ghost use Rattle.nt_plain.specs.Made.{marked_all, marked_in, with_bit};
-ghost use Rattle.nt_plain.specs.Places.{row_of};
+ghost use Rattle.nt_plain.specs.Places.{row_of as row_place};
 
+use crate::places::row_of;
 use crate::states::Ask;
-use nt_event::CpuNo;
 use std::alloc::{AllocError, Global};
 use std::marker::Model;
 
@@ -49,5 +49,17 @@ impl Marks {
     {
         let old = self.rows[row];
         self.rows[row] = old | (1 << class);
+    }
+
+    /// Marks the event of a number for these requests.
+    pub(crate) fn mark_all(&mut self, cpus: u8, n: u64, asks: &[Ask])
+        requires rows { All (λ a. row_place cpus n a.cpu < length self.old) asks.now }
+        requires room { length self.old < 2 ^ 32 }
+        requires classes { All (λ a. a.class < 16) asks.now }
+        ensures { self.new ≡ marked_all cpus n asks.now self.old }
+    {
+        for ask in asks {
+            self.mark(row_of(cpus, n as usize, ask.cpu()), ask.class());
+        }
     }
 }

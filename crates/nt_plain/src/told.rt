@@ -1,7 +1,14 @@
 //! What the lanes tell of requests.
-ghost use Rattle.std.specs.Prelude.{◌≡◌, ◌+◌, ◌*◌, ◌<◌, ◌≤◌, ◌^◌, IfOk, get_or, length, max, replicate, set};
+ghost use Rattle.std.specs.Prelude.{◌≡◌, ◌+◌, ◌*◌, ◌<◌, ◌≤◌, ◌^◌, All, IfOk, get_or, length, max, replicate, set};
+ghost use Rattle.nt_event.specs.Lanes.{lane_number as number_of};
 ghost use Rattle.nt_event.specs.Words.{table, value_at};
+ghost use Rattle.nt_floor.specs.Acts.{told_over};
+ghost use Rattle.nt_plain.specs.Made.{tell_lane, tell_lanes};
+ghost use Rattle.nt_plain.specs.Places.{row_of as row_place, row_value, told_place};
 
+use crate::places::{lane_number, row_of};
+use crate::states::Ask;
+use nt_event::{CpuNo, Lane, Script};
 use std::alloc::{AllocError, Global};
 use std::marker::Model;
 
@@ -44,6 +51,47 @@ impl ToldValues {
         ensures { values.new ≡ table 16 (λ c. max (get_or self.now (row * 16 + c) 0) (value_at values.old c)) }
     {
         raise_by(values, &self.values[row * 16..row * 16 + 16]);
+    }
+
+    /// What these lanes tell for a processor: for each class the greatest value.
+    pub(crate) fn over(&self, script: &Script, lanes: &[Lane], p: CpuNo) -> [u64; 16]
+        requires rows { All (λ x. row_place script.now.cpus (number_of script.now x) p * 16 + 16 ≤ length self.now) lanes.now }
+        requires numbers { All (λ x. number_of script.now x < 2 ^ 32) lanes.now }
+        requires room { length self.now < 2 ^ 32 }
+        ensures { result ≡ table 16 (λ c. told_over (row_value script.now self.now) lanes.now p c) }
+    {
+        let mut values = [0; 16];
+        for lane in lanes {
+            let row = row_of(script.cpus, lane_number(script, *lane), p);
+            self.raise(row, &mut values);
+        }
+        values
+    }
+
+    /// Each of these lanes tells of these requests with a value.
+    pub(crate) fn tell(&mut self, script: &Script, lanes: &[Lane], asks: &[Ask], to: u64)
+        requires places { All (λ x. All (λ a. told_place script.now x a.cpu a.class < length self.old) asks.now) lanes.now }
+        requires numbers { All (λ x. number_of script.now x < 2 ^ 32) lanes.now }
+        requires room { length self.old < 2 ^ 32 }
+        ensures { self.new ≡ tell_lanes script.now to lanes.now asks.now self.old }
+    {
+        for lane in lanes {
+            self.tell_lane(script, *lane, asks, to);
+        }
+    }
+
+    /// The lane tells of these requests with a value.
+    fn tell_lane(&mut self, script: &Script, lane: Lane, asks: &[Ask], to: u64)
+        requires places { All (λ a. told_place script.now lane a.cpu a.class < length self.old) asks.now }
+        requires number { number_of script.now lane < 2 ^ 32 }
+        requires room { length self.old < 2 ^ 32 }
+        ensures { self.new ≡ tell_lane script.now to lane asks.now self.old }
+    {
+        let number = lane_number(script, lane);
+        for ask in asks {
+            let row = row_of(script.cpus, number, ask.cpu());
+            self.put(row, ask.class(), to);
+        }
     }
 }
 
