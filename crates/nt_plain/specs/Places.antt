@@ -1,19 +1,11 @@
 -- Where the value of a processor and class, the marks of an event, and the value that a lane tells stand in the lists.
 use Rattle.std.specs.Int.{bit_at}
-use Rattle.std.specs.Prelude.{Bool, List, get_or, if◌then◌else◌, true, ℕ, ◌*◌, ◌+◌, ◌==◌}
+use Rattle.std.specs.Prelude.{Bool, List, get_or, if◌then◌else◌, ℕ, ◌*◌, ◌+◌, ◌==◌}
 use Rattle.nt_event.specs.declared.jobs.Lane.{Lane}
-use Rattle.nt_event.specs.declared.jobs.Lane.TheVariants.{Object as ObjectLane, Queue as QueueLane, Threads as ThreadsLane, Timers as TimersLane}
 use Rattle.nt_event.specs.declared.numbers.CpuNo.{CpuNo}
 use Rattle.nt_event.specs.declared.scripts.Script.{Script}
 use Rattle.nt_event.specs.Lanes.{lane_number}
-use Rattle.nt_event.specs.Script.{has_cpu, has_dpc}
-
--- the lane is one of the script's
-abbrev pub has_lane : Script → Lane → Bool
-has_lane s (ObjectLane d) = has_dpc s d
-has_lane s (QueueLane p) = has_cpu s p
-has_lane s (ThreadsLane p) = has_cpu s p
-has_lane s TimersLane = true
+use Rattle.nt_plain.specs.LaneLists.{lane_fits}
 
 abbrev pub word_place : CpuNo → ℕ → ℕ
 word_place p c = 16 * p.0 + c
@@ -37,4 +29,4 @@ row_value s told x p c = get_or told (told_place s x p c) 0
 
 -- what a lane tells; one that isn't the script's tells nothing
 abbrev pub told_in : Script → List ℕ → Lane → CpuNo → ℕ → ℕ
-told_in s told x p c = if has_lane s x then row_value s told x p c else 0
+told_in s told x p c = if lane_fits s x then row_value s told x p c else 0

@@ -1,11 +1,12 @@
 //! The marks: for each event and processor, the classes that the event was marked for.
 ghost use Rattle.std.specs.Prelude.{◌≡◌, ◌==◌, ◌+◌, ◌*◌, ◌<◌, ◌≤◌, ◌^◌, All, IfOk, get_or, length, replicate, set};
 ghost use Rattle.std.specs.Int.{bit_at};
+ghost use Rattle.nt_plain.specs.LaneLists.{as_asks};
 ghost use Rattle.nt_plain.specs.Made.{marked_all, marked_in, with_bit};
 ghost use Rattle.nt_plain.specs.Places.{row_of as row_place};
 
 use crate::places::row_of;
-use crate::states::Ask;
+use crate::states::Asked;
 use std::alloc::{AllocError, Global};
 use std::marker::Model;
 
@@ -52,14 +53,14 @@ impl Marks {
     }
 
     /// Marks the event of a number for these requests.
-    pub(crate) fn mark_all(&mut self, cpus: u8, n: u64, asks: &[Ask])
+    pub(crate) fn mark_all(&mut self, cpus: u8, n: u64, asks: &[Asked])
         requires rows { All (λ a. row_place cpus n a.cpu < length self.old) asks.now }
         requires room { length self.old < 2 ^ 32 }
         requires classes { All (λ a. a.class < 16) asks.now }
-        ensures { self.new ≡ marked_all cpus n asks.now self.old }
+        ensures { self.new ≡ marked_all cpus n (as_asks asks.now) self.old }
     {
         for ask in asks {
-            self.mark(row_of(cpus, n as usize, ask.cpu()), ask.class());
+            self.mark(row_of(cpus, n as usize, ask.cpu), ask.class);
         }
     }
 }

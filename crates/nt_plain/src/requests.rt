@@ -1,9 +1,10 @@
 //! The request words: for each processor and class the greatest request so far.
 ghost use Rattle.std.specs.Prelude.{◌≡◌, ◌+◌, ◌*◌, ◌<◌, ◌≤◌, ◌^◌, All, IfOk, length, replicate};
+ghost use Rattle.nt_plain.specs.LaneLists.{as_asks};
 ghost use Rattle.nt_plain.specs.Made.{raised_word, raised_words};
 ghost use Rattle.nt_plain.specs.Places.{value_in, word_place};
 
-use crate::states::Ask;
+use crate::states::Asked;
 use nt_event::CpuNo;
 use std::alloc::{AllocError, Global};
 use std::marker::Model;
@@ -51,12 +52,12 @@ impl RequestWords {
     }
 
     /// Raises the words of these requests to a value.
-    pub(crate) fn raise_all(&mut self, asks: &[Ask], to: u64)
+    pub(crate) fn raise_all(&mut self, asks: &[Asked], to: u64)
         requires { All (λ a. word_place a.cpu a.class < length self.old) asks.now }
-        ensures { self.new ≡ raised_words to asks.now self.old }
+        ensures { self.new ≡ raised_words to (as_asks asks.now) self.old }
     {
         for ask in asks {
-            self.raise(ask.cpu(), ask.class(), to);
+            self.raise(ask.cpu, ask.class, to);
         }
     }
 }

@@ -1,77 +1,26 @@
 //! The states of all lanes.
-ghost use Rattle.std.specs.Prelude.{◌≡◌, ◌+◌, ◌-◌, ◌<◌, ◌≤◌, ◌^◌, All, IfErr, IfOk, IfSome, IsTrue, Some, [], true};
-ghost use Rattle.nt_event.specs.Acting.{IsAllowed, IsStanding, acted_event};
+ghost use Rattle.std.specs.Prelude.{◌≡◌, ◌+◌, ◌-◌, ◌<◌, ◌≤◌, ◌^◌, All, IfErr, IfOk, IfSome, IsErrOf, IsTrue, Some, []};
+ghost use Rattle.nt_event.specs.Acting.{acted_event};
 ghost use Rattle.nt_event.specs.Frames.{due_of};
 ghost use Rattle.nt_event.specs.Jobs.{job_event, next_ready};
 ghost use Rattle.nt_event.specs.Lanes.{lanes_after, lanes_at, what_lanes};
 ghost use Rattle.nt_event.specs.Requests.{what_asks};
-ghost use Rattle.nt_event.specs.Script.{fits, has_cpu};
-ghost use Rattle.nt_floor.specs.declared.floor.ActRefusal.TheVariants.{NoMemory};
-ghost use Rattle.nt_floor.specs.Acts.{Found, IsRefused, KindsFit, StandFits, Told, job_fits};
-ghost use Rattle.nt_plain.specs.Given.{IsGiven};
-ghost use Rattle.nt_plain.specs.Places.{has_lane};
+ghost use Rattle.nt_event.specs.Script.{fits, has_thread};
+ghost use Rattle.nt_floor.specs.declared.floor.ActRefusal.{ActRefusal};
+ghost use Rattle.nt_floor.specs.Acts.{Found, IsRefused, KindsFit};
+ghost use Rattle.nt_plain.specs.Given.{IsGiven, MayDo};
+ghost use Rattle.nt_plain.specs.LaneLists.{AskFits, LaneFits};
 
+mod asking;
+
+pub(crate) use asking::{Asked, Asks};
 use nt_event::{CpuNo, Event, Job, Lane, Script, Stand, ThreadNo, What};
 use nt_floor::ActRefusal;
 use std::alloc::{AllocError, Global};
 use std::marker::Model;
 
 #[derive(Clone, Copy, Debug)]
-enum Never {}
-
-/// A request for a class of a processor.
-#[derive(Clone, Copy, Debug)]
-pub(crate) struct Ask {
-    cpu: CpuNo,
-    class: u8,
-}
-
-impl Model for Ask {
-    ghost use Rattle.nt_event.specs.Requests.{Ask};
-
-    ghost Value = { Ask };
-
-    ghost view = { λ a. record { cpu = a.cpu; class = a.class } };
-
-    ghost inverse = { λ a. record { cpu = a.cpu; class = a.class } };
-}
-
-impl Ask {
-    pub(crate) fn cpu(&self) -> CpuNo
-        ensures { result ≡ self.now.cpu }
-    {
-        self.cpu
-    }
-
-    pub(crate) fn class(&self) -> u8
-        ensures { result ≡ self.now.class }
-    {
-        self.class
-    }
-}
-
-/// The requests of an event, at most two.
-#[derive(Drop, Debug)]
-pub(crate) struct Asks {
-    never: Never,
-}
-
-impl Model for Asks {
-    ghost use Rattle.std.specs.Prelude.{List, []};
-    ghost use Rattle.nt_event.specs.Requests.{Ask};
-
-    ghost Value = { List Ask };
-
-    ghost view = { λ a. [] };
-}
-
-impl Asks {
-    pub(crate) fn as_slice(&self) -> &[Ask]
-        ensures { result.now ≡ self.now }
-    {
-        match self.never {}
-    }
-}
+pub(crate) enum Never {}
 
 /// The lanes of an event, at most three.
 #[derive(Drop, Debug)]
@@ -123,73 +72,71 @@ impl<'s> States<'s> {
         Err(AllocError)
     }
 
-    /// The event of a job, or why there is none.
+    /// The event of the job for a processor that stands so.
     pub(crate) fn decide(&self, job: &Job, stand: &Stand) -> Result<What, ActRefusal>
-        requires fits { IsTrue (job_fits self.now.script job.now) }
-        requires stand { StandFits self.now.script stand.now }
-        requires standing { IsStanding self.now.script self.now.lanes stand.now }
-        requires allowed { IsAllowed self.now.lanes stand.now job.now }
-        ensures ok { IfOk result (λ w. job_event self.now.script stand.now self.now.lanes job.now ≡ Some w) }
-        ensures err { IfErr result (λ r. (told : Told) → IsRefused self.now.script (record { lanes = self.now.lanes; told = told }) stand.now job.now r) }
-        ensures memory { IfErr result (λ r. r ≡ NoMemory → ⊥) }
+        requires { MayDo self.now stand.now job.now }
+        ensures event { IfOk result (λ w. job_event self.now.script stand.now self.now.lanes job.now ≡ Some w) }
+        ensures given { IfOk result (λ w. IsGiven self.now stand.now w) }
+        ensures refused { IfErr result (λ r. (f : Found) → f.lanes ≡ self.now.lanes → IsRefused self.now.script f stand.now job.now r) }
+        ensures memory { IsErrOf result ActRefusal.NoMemory → ⊥ }
     {
         match self.never {}
     }
 
-    /// The event with its processor, thread and level.
+    /// The event that does this, of a processor that stands so.
     pub(crate) fn event(&self, stand: &Stand, what: &What) -> Event
-        requires { IsGiven self.now.script self.now.lanes stand.now what.now }
+        requires { IsGiven self.now stand.now what.now }
         ensures { result ≡ acted_event stand.now self.now.lanes what.now }
     {
         match self.never {}
     }
 
-    /// The due time of a delay that is called.
+    /// The due time of the delay that the event calls.
     pub(crate) fn due(&self, what: &What) -> Option<u64>
-        ensures value { result ≡ due_of what.now self.now.lanes.timers.now }
-        ensures bound { IfSome result (λ due. due < 2 ^ 51) }
+        ensures due { result ≡ due_of what.now self.now.lanes.timers.now }
+        ensures fits { IfSome result (λ due. due < 2 ^ 51) }
     {
         match self.never {}
     }
 
-    /// The lanes that it touches.
+    /// The lanes that an event touches, of a processor that stands so.
     pub(crate) fn touched(&self, stand: &Stand, what: &What) -> Touched
-        requires { IsGiven self.now.script self.now.lanes stand.now what.now }
-        ensures value { result ≡ what_lanes self.now.script stand.now what.now self.now.lanes }
-        ensures named { All (λ x. IsTrue (has_lane self.now.script x)) result }
+        requires { IsGiven self.now stand.now what.now }
+        ensures lanes { result ≡ what_lanes self.now.script stand.now what.now self.now.lanes }
+        ensures named { All (LaneFits self.now.script) result }
     {
         match self.never {}
     }
 
-    /// What it asks for.
+    /// What an event asks for, of a processor that stands so.
     pub(crate) fn asks(&self, stand: &Stand, what: &What) -> Asks
-        requires { IsGiven self.now.script self.now.lanes stand.now what.now }
-        ensures value { result ≡ what_asks self.now.script stand.now what.now self.now.lanes }
-        ensures named { All (λ a. IsTrue (has_cpu self.now.script a.cpu) × (a.class < 16)) result }
+        requires { IsGiven self.now stand.now what.now }
+        ensures asks { result ≡ what_asks self.now.script stand.now what.now self.now.lanes }
+        ensures named { All (AskFits self.now.script) result }
     {
         match self.never {}
     }
 
-    /// The next ready thread of a processor.
+    /// The thread of the processor that is taken up next, after this one in a cycle; None exactly where none is ready.
     pub(crate) fn next_ready(&self, p: CpuNo, after: Option<ThreadNo>) -> Option<ThreadNo>
-        ensures { result ≡ next_ready self.now.script p after self.now.lanes }
+        ensures next { result ≡ next_ready self.now.script p after self.now.lanes }
+        ensures named { IfSome result (λ t. IsTrue (has_thread self.now.script t)) }
     {
         match self.never {}
     }
 
-    /// The states that the event leaves.
+    /// What the event of this number leaves, which a job gave a processor that stood so.
     pub(crate) fn leave(&mut self, n: u64, stand: &Stand, event: &Event)
-        requires given { IsGiven self.old.script self.old.lanes stand.now event.now.what }
+        requires given { IsGiven self.old stand.now event.now.what }
         requires event { event.now ≡ acted_event stand.now self.old.lanes event.now.what }
         requires time { self.old.lanes.timers.now + 2 ^ 32 ≤ 2 ^ 50 }
-        ensures script { self.new.script ≡ self.old.script }
-        ensures lanes { self.new.lanes ≡ lanes_after self.old.script n stand.now event.now self.old.lanes }
+        ensures lanes { self.new ≡ record self.old { lanes = lanes_after self.old.script n stand.now event.now self.old.lanes } }
         ensures time { self.new.lanes.timers.now ≤ self.old.lanes.timers.now + (2 ^ 32 - 1) }
     {
         match self.never {}
     }
 
-    /// Pending APCs are of their objects' kinds.
+    /// The APCs that are pending are of their objects' kinds.
     pub(crate) fn kinds(&self)
         ensures { KindsFit self.now.script self.now.lanes }
     {

@@ -3,11 +3,12 @@ ghost use Rattle.std.specs.Prelude.{◌≡◌, ◌+◌, ◌*◌, ◌<◌, ◌≤
 ghost use Rattle.nt_event.specs.Lanes.{lane_number as number_of};
 ghost use Rattle.nt_event.specs.Words.{table, value_at};
 ghost use Rattle.nt_floor.specs.Acts.{told_over};
+ghost use Rattle.nt_plain.specs.LaneLists.{as_asks};
 ghost use Rattle.nt_plain.specs.Made.{tell_lane, tell_lanes};
 ghost use Rattle.nt_plain.specs.Places.{row_of as row_place, row_value, told_place};
 
 use crate::places::{lane_number, row_of};
-use crate::states::Ask;
+use crate::states::Asked;
 use nt_event::{CpuNo, Lane, Script};
 use std::alloc::{AllocError, Global};
 use std::marker::Model;
@@ -69,11 +70,11 @@ impl ToldValues {
     }
 
     /// Each of these lanes tells of these requests with a value.
-    pub(crate) fn tell(&mut self, script: &Script, lanes: &[Lane], asks: &[Ask], to: u64)
+    pub(crate) fn tell(&mut self, script: &Script, lanes: &[Lane], asks: &[Asked], to: u64)
         requires places { All (λ x. All (λ a. told_place script.now x a.cpu a.class < length self.old) asks.now) lanes.now }
         requires numbers { All (λ x. number_of script.now x < 2 ^ 32) lanes.now }
         requires room { length self.old < 2 ^ 32 }
-        ensures { self.new ≡ tell_lanes script.now to lanes.now asks.now self.old }
+        ensures { self.new ≡ tell_lanes script.now to lanes.now (as_asks asks.now) self.old }
     {
         for lane in lanes {
             self.tell_lane(script, *lane, asks, to);
@@ -81,16 +82,16 @@ impl ToldValues {
     }
 
     /// The lane tells of these requests with a value.
-    fn tell_lane(&mut self, script: &Script, lane: Lane, asks: &[Ask], to: u64)
+    fn tell_lane(&mut self, script: &Script, lane: Lane, asks: &[Asked], to: u64)
         requires places { All (λ a. told_place script.now lane a.cpu a.class < length self.old) asks.now }
         requires number { number_of script.now lane < 2 ^ 32 }
         requires room { length self.old < 2 ^ 32 }
-        ensures { self.new ≡ tell_lane script.now to lane asks.now self.old }
+        ensures { self.new ≡ tell_lane script.now to lane (as_asks asks.now) self.old }
     {
         let number = lane_number(script, lane);
         for ask in asks {
-            let row = row_of(script.cpus, number, ask.cpu());
-            self.put(row, ask.class(), to);
+            let row = row_of(script.cpus, number, ask.cpu);
+            self.put(row, ask.class, to);
         }
     }
 }
