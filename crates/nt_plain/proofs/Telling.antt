@@ -13,7 +13,7 @@ use Rattle.nt_floor.specs.Acts.{Told, told_over}
 use Rattle.nt_plain.specs.Made.{tell_lane, tell_lanes}
 use Rattle.nt_plain.specs.Places.{row_of, row_value, told_place}
 
-length-tell_lane : (s : Script) (to : ℕ) (x : Lane) (asks : List Ask) (told : List ℕ) → length (tell_lane s to x asks told) ≡ length told
+pub length-tell_lane : (s : Script) (to : ℕ) (x : Lane) (asks : List Ask) (told : List ℕ) → length (tell_lane s to x asks told) ≡ length told
 length-tell_lane s to x [] told = refl
 length-tell_lane s to x (a ∷ asks) told =
     length-tell_lane s to x asks (set told (told_place s x a.cpu a.class) to) ∙ length-set told (told_place s x a.cpu a.class) to

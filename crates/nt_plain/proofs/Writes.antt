@@ -7,13 +7,13 @@ use Rattle.std.specs.Int.{bit_at}
 use Rattle.std.specs.List.{list_any}
 use Rattle.std.specs.Prelude.{All, Bool, List, [], false, if◌then◌else◌, max, refl, suc, true, ℕ, ◌&&◌, ◌*◌, ◌+◌, ◌<◌, ◌==◌, ◌||◌, ◌∷◌, ◌≡◌, ◌≤◌, ◌⊎◌}
 use Rattle.nt_event.specs.declared.numbers.CpuNo.{CpuNo}
-use Rattle.nt_event.specs.Requests.{Ask, is_ask}
+use Rattle.nt_event.specs.Requests.{Ask, is_ask, raised}
 use Rattle.nt_plain.specs.Made.{marked_all, marked_in, raised_word, raised_words, with_bit}
 use Rattle.nt_plain.specs.Places.{is_marked, row_of, value_in, word_place}
 use Rattle.nt_plain.proofs.Apart.{below_rows, same_row, same_word}
 
 -- the processor is below the count, and the class one of the sixteen
-pub record AskFits (cpus : ℕ) (a : Ask) : Type 0 where
+pub record AskWithin (cpus : ℕ) (a : Ask) : Type 0 where
   pub cpu : a.cpu.0 < cpus
   pub class : a.class < 16
 
@@ -22,6 +22,10 @@ all_head P x xs h = h 0 x (omega arith)
 
 pub all_tail : {A : Type 0} (P : A → Type 0) (x : A) (xs : List A) → All P (x ∷ xs) → All P xs
 all_tail P x xs h k d l = h (suc k) d (omega arith)
+
+pub as_raised : (b : Bool) (n old : ℕ) → (if b then n + 1 else old) ≡ raised b n old
+as_raised true n old = refl
+as_raised false n old = refl
 
 either : (b : Bool) (x : ℕ) → (if b then x else x) ≡ x
 either true x = refl
@@ -65,7 +69,7 @@ is_ask_false q d a h e f = go (and_cases (a.cpu.0 == q.0) (a.class == d) h)
 -- ---- words
 
 -- the word of a processor and class after one request
-pub word_one : (cpus to : ℕ) (a : Ask) (xs : List ℕ) (q : CpuNo) (d : ℕ) → length xs ≡ 16 * cpus → AskFits cpus a → d < 16 → value_in (raised_word to a.cpu a.class xs) q d ≡ (if is_ask q d a then max (value_in xs q d) to else value_in xs q d)
+pub word_one : (cpus to : ℕ) (a : Ask) (xs : List ℕ) (q : CpuNo) (d : ℕ) → length xs ≡ 16 * cpus → AskWithin cpus a → d < 16 → value_in (raised_word to a.cpu a.class xs) q d ≡ (if is_ask q d a then max (value_in xs q d) to else value_in xs q d)
 word_one cpus to a xs q d len fits k = go (is_ask q d a) refl
   where
     go : (b : Bool) → is_ask q d a ≡ b → value_in (raised_word to a.cpu a.class xs) q d ≡ (if b then max (value_in xs q d) to else value_in xs q d)
@@ -85,13 +89,13 @@ one_more false more old new to all low one next =
     next (omega (arith, one)) ∙ ap (λ (v : ℕ). if more then to else v) one
 
 -- after several requests with a value that no word is above
-pub words_after : (cpus to : ℕ) (asks : List Ask) (xs : List ℕ) (q : CpuNo) (d : ℕ) → length xs ≡ 16 * cpus → All (AskFits cpus) asks → d < 16 → value_in xs q d ≤ to → value_in (raised_words to asks xs) q d ≡ (if list_any (is_ask q d) asks then to else value_in xs q d)
+pub words_after : (cpus to : ℕ) (asks : List Ask) (xs : List ℕ) (q : CpuNo) (d : ℕ) → length xs ≡ 16 * cpus → All (AskWithin cpus) asks → d < 16 → value_in xs q d ≤ to → value_in (raised_words to asks xs) q d ≡ (if list_any (is_ask q d) asks then to else value_in xs q d)
 words_after cpus to [] xs q d len fits k low = refl
 words_after cpus to (a ∷ asks) xs q d len fits k low =
     let ys : List ℕ = raised_word to a.cpu a.class xs in
     let size : length ys ≡ 16 * cpus = length-set xs (word_place a.cpu a.class) (max (value_in xs a.cpu a.class) to) ∙ len in
-    let one : value_in ys q d ≡ (if is_ask q d a then max (value_in xs q d) to else value_in xs q d) = word_one cpus to a xs q d len (all_head (AskFits cpus) a asks fits) k in
-    let next : value_in ys q d ≤ to → value_in (raised_words to asks ys) q d ≡ (if list_any (is_ask q d) asks then to else value_in ys q d) = words_after cpus to asks ys q d size (all_tail (AskFits cpus) a asks fits) k in
+    let one : value_in ys q d ≡ (if is_ask q d a then max (value_in xs q d) to else value_in xs q d) = word_one cpus to a xs q d len (all_head (AskWithin cpus) a asks fits) k in
+    let next : value_in ys q d ≤ to → value_in (raised_words to asks ys) q d ≡ (if list_any (is_ask q d) asks then to else value_in ys q d) = words_after cpus to asks ys q d size (all_tail (AskWithin cpus) a asks fits) k in
     one_more (is_ask q d a) (list_any (is_ask q d) asks) (value_in xs q d) (value_in ys q d) to (value_in (raised_words to asks ys) q d) low one next
 
 -- ---- marks
@@ -104,7 +108,7 @@ bit_after c d x h false e =
     rw (bit_at_set_other w16 x c h d (λ k. eqb-false c d e (sym k))) (sym (or_false (eqb (bit_at x d) 1)))
 
 -- the marks of an event and processor after one more
-pub mark_one : (cpus limit n : ℕ) (a : Ask) (marks : List ℕ) (k : ℕ) (q : CpuNo) (d : ℕ) → length marks ≡ limit * cpus → n < limit → AskFits cpus a → q.0 < cpus → is_marked cpus (marked_in cpus n a.cpu a.class marks) k q d ≡ (is_marked cpus marks k q d || ((k == n) && is_ask q d a))
+pub mark_one : (cpus limit n : ℕ) (a : Ask) (marks : List ℕ) (k : ℕ) (q : CpuNo) (d : ℕ) → length marks ≡ limit * cpus → n < limit → AskWithin cpus a → q.0 < cpus → is_marked cpus (marked_in cpus n a.cpu a.class marks) k q d ≡ (is_marked cpus marks k q d || ((k == n) && is_ask q d a))
 mark_one cpus limit n a marks k q d len low fits in_range = go (k == n) refl (a.cpu.0 == q.0) refl
   where
     away : (row_of cpus k q ≡ row_of cpus n a.cpu → ⊥) → is_marked cpus (marked_in cpus n a.cpu a.class marks) k q d ≡ (is_marked cpus marks k q d || false)
@@ -123,9 +127,9 @@ mark_one cpus limit n a marks k q d len low fits in_range = go (k == n) refl (a.
         rw (at, get_or-set_same marks (row_of cpus k q) (with_bit a.class (get_or marks (row_of cpus k q) 0)) 0 room) (bit_after a.class d (get_or marks (row_of cpus k q) 0) fits.class (a.class == d) refl)
 
 -- after several
-pub marks_after : (cpus limit n : ℕ) (asks : List Ask) (marks : List ℕ) (k : ℕ) (q : CpuNo) (d : ℕ) → length marks ≡ limit * cpus → n < limit → All (AskFits cpus) asks → q.0 < cpus → is_marked cpus (marked_all cpus n asks marks) k q d ≡ (is_marked cpus marks k q d || ((k == n) && list_any (is_ask q d) asks))
+pub marks_after : (cpus limit n : ℕ) (asks : List Ask) (marks : List ℕ) (k : ℕ) (q : CpuNo) (d : ℕ) → length marks ≡ limit * cpus → n < limit → All (AskWithin cpus) asks → q.0 < cpus → is_marked cpus (marked_all cpus n asks marks) k q d ≡ (is_marked cpus marks k q d || ((k == n) && list_any (is_ask q d) asks))
 marks_after cpus limit n [] marks k q d len low fits in_range = over_nothing (is_marked cpus marks k q d) (k == n)
 marks_after cpus limit n (a ∷ asks) marks k q d len low fits in_range =
     let new : List ℕ = marked_in cpus n a.cpu a.class marks in
     let size : length new ≡ limit * cpus = length-set marks (row_of cpus n a.cpu) (with_bit a.class (get_or marks (row_of cpus n a.cpu) 0)) ∙ len in
-    marks_after cpus limit n asks new k q d size low (all_tail (AskFits cpus) a asks fits) in_range ∙ (ap (λ (b : Bool). b || ((k == n) && list_any (is_ask q d) asks)) (mark_one cpus limit n a marks k q d len low (all_head (AskFits cpus) a asks fits) in_range) ∙ regroup (is_marked cpus marks k q d) (k == n) (is_ask q d a) (list_any (is_ask q d) asks))
+    marks_after cpus limit n asks new k q d size low (all_tail (AskWithin cpus) a asks fits) in_range ∙ (ap (λ (b : Bool). b || ((k == n) && list_any (is_ask q d) asks)) (mark_one cpus limit n a marks k q d len low (all_head (AskWithin cpus) a asks fits) in_range) ∙ regroup (is_marked cpus marks k q d) (k == n) (is_ask q d a) (list_any (is_ask q d) asks))
