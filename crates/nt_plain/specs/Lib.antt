@@ -4,3 +4,4 @@ pub mod Places
 pub mod Given
 pub mod LaneLists
 pub mod Made
+pub mod Insides

@@ -9,6 +9,7 @@ use Rattle.nt_event.specs.declared.scripts.Script.{Script}
 use Rattle.nt_event.specs.Acting.{acted_event}
 use Rattle.nt_event.specs.Lanes.{Lanes, lane_count, lanes_after, what_lanes}
 use Rattle.nt_event.specs.Requests.{Ask, what_asks}
+use Rattle.nt_plain.specs.AllStates.{AllStates}
 use Rattle.nt_plain.specs.Places.{row_of, told_in, told_place, value_in, word_place}
 use Rattle.nt_plain.specs.States.{PlainState}
 
@@ -61,6 +62,10 @@ tell_lanes s to [] asks told = told
 tell_lanes s to (x ∷ lanes) asks told = tell_lanes s to lanes asks (tell_lane s to x asks told)
 
 -- ---- calls
+
+-- the states of the lanes of a floor
+abbrev pub states_of : PlainState → AllStates
+states_of f = record { script = f.script; lanes = f.lanes }
 
 abbrev pub drawn : PlainState → PlainState
 drawn f = record f { next = f.next + 1 }

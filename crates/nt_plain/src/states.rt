@@ -72,6 +72,13 @@ impl<'s> States<'s> {
         Err(AllocError)
     }
 
+    /// The script.
+    pub(crate) fn script(&self) -> &'s Script
+        ensures { result.now ≡ self.now.script }
+    {
+        match self.never {}
+    }
+
     /// The event of the job for a processor that stands so.
     pub(crate) fn decide(&self, job: &Job, stand: &Stand) -> Result<What, ActRefusal>
         requires { MayDo self.now stand.now job.now }
