@@ -6,6 +6,7 @@
 //! Contracts see it as one record of numbers and lists, and each value, mark and state as a question about that record.
 #![tactic(auto)]
 
+mod floor;
 mod marks;
 mod places;
 mod plain;
