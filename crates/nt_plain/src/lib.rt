@@ -7,6 +7,7 @@
 #![tactic(auto)]
 
 mod floor;
+mod making;
 mod marks;
 mod places;
 mod plain;

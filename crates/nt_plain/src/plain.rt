@@ -21,12 +21,12 @@ use std::marker::Model;
 #[derive(Drop)]
 pub struct PlainFloor<'s> {
     /// How many numbers may be drawn in all.
-    limit: u64,
-    next: u64,
-    asked: RequestWords,
-    marks: Marks,
-    states: States<'s>,
-    told: ToldValues,
+    pub(crate) limit: u64,
+    pub(crate) next: u64,
+    pub(crate) asked: RequestWords,
+    pub(crate) marks: Marks,
+    pub(crate) states: States<'s>,
+    pub(crate) told: ToldValues,
 }
 
 impl<'s> Model for PlainFloor<'s> {

@@ -12,44 +12,19 @@ ghost use Rattle.nt_plain.specs.Given.{IsGiven, MayDo};
 ghost use Rattle.nt_plain.specs.LaneLists.{AskFits, LaneFits};
 
 mod asking;
+mod touching;
 
 pub(crate) use asking::{Asked, Asks};
+pub(crate) use touching::Touched;
 use nt_event::{CpuNo, Event, Job, Lane, Script, Stand, ThreadNo, What};
 use nt_floor::ActRefusal;
 use std::alloc::{AllocError, Global};
 use std::marker::Model;
 
-#[derive(Clone, Copy, Debug)]
-pub(crate) enum Never {}
-
-/// The lanes of an event, at most three.
-#[derive(Drop, Debug)]
-pub(crate) struct Touched {
-    never: Never,
-}
-
-impl Model for Touched {
-    ghost use Rattle.std.specs.Prelude.{List, []};
-    ghost use Rattle.nt_event.specs.declared.jobs.Lane.{Lane};
-
-    ghost Value = { List Lane };
-
-    ghost view = { λ a. [] };
-}
-
-impl Touched {
-    pub(crate) fn as_slice(&self) -> &[Lane]
-        ensures { result.now ≡ self.now }
-    {
-        match self.never {}
-    }
-}
-
 /// The states of all lanes.
-#[derive(Drop, Debug)]
+#[derive(Drop)]
 pub(crate) struct States<'s> {
     script: &'s Script,
-    never: Never,
 }
 
 impl<'s> Model for States<'s> {
@@ -76,7 +51,7 @@ impl<'s> States<'s> {
     pub(crate) fn script(&self) -> &'s Script
         ensures { result.now ≡ self.now.script }
     {
-        match self.never {}
+        unreachable!()
     }
 
     /// The event of the job for a processor that stands so.
@@ -87,7 +62,7 @@ impl<'s> States<'s> {
         ensures refused { IfErr result (λ r. (f : Found) → f.lanes ≡ self.now.lanes → IsRefused self.now.script f stand.now job.now r) }
         ensures memory { IsErrOf result ActRefusal.NoMemory → ⊥ }
     {
-        match self.never {}
+        unreachable!()
     }
 
     /// The event that does this, of a processor that stands so.
@@ -95,7 +70,7 @@ impl<'s> States<'s> {
         requires { IsGiven self.now stand.now what.now }
         ensures { result ≡ acted_event stand.now self.now.lanes what.now }
     {
-        match self.never {}
+        unreachable!()
     }
 
     /// The due time of the delay that the event calls.
@@ -103,7 +78,7 @@ impl<'s> States<'s> {
         ensures due { result ≡ due_of what.now self.now.lanes.timers.now }
         ensures fits { IfSome result (λ due. due < 2 ^ 51) }
     {
-        match self.never {}
+        unreachable!()
     }
 
     /// The lanes that an event touches, of a processor that stands so.
@@ -112,7 +87,7 @@ impl<'s> States<'s> {
         ensures lanes { result ≡ what_lanes self.now.script stand.now what.now self.now.lanes }
         ensures named { All (LaneFits self.now.script) result }
     {
-        match self.never {}
+        unreachable!()
     }
 
     /// What an event asks for, of a processor that stands so.
@@ -121,7 +96,7 @@ impl<'s> States<'s> {
         ensures asks { result ≡ what_asks self.now.script stand.now what.now self.now.lanes }
         ensures named { All (AskFits self.now.script) result }
     {
-        match self.never {}
+        unreachable!()
     }
 
     /// The thread of the processor that is taken up next, after this one in a cycle; None exactly where none is ready.
@@ -129,7 +104,7 @@ impl<'s> States<'s> {
         ensures next { result ≡ next_ready self.now.script p after self.now.lanes }
         ensures named { IfSome result (λ t. IsTrue (has_thread self.now.script t)) }
     {
-        match self.never {}
+        unreachable!()
     }
 
     /// What the event of this number leaves, which a job gave a processor that stood so.
@@ -140,13 +115,13 @@ impl<'s> States<'s> {
         ensures lanes { self.new ≡ record self.old { lanes = lanes_after self.old.script n stand.now event.now self.old.lanes } }
         ensures time { self.new.lanes.timers.now ≤ self.old.lanes.timers.now + (2 ^ 32 - 1) }
     {
-        match self.never {}
+        unreachable!()
     }
 
     /// The APCs that are pending are of their objects' kinds.
     pub(crate) fn kinds(&self)
         ensures { KindsFit self.now.script self.now.lanes }
     {
-        match self.never {}
+        unreachable!()
     }
 }

@@ -2,7 +2,6 @@
 ghost use Rattle.std.specs.Prelude.{◌≡◌};
 ghost use Rattle.nt_plain.specs.LaneLists.{as_asks};
 
-use super::Never;
 use nt_event::CpuNo;
 use std::marker::Model;
 
@@ -16,16 +15,21 @@ pub(crate) struct Asked {
 /// What an event asks for: at most two classes.
 #[derive(Drop)]
 pub(crate) struct Asks {
-    never: Never,
+    asks: [Asked; 2],
+    count: usize,
 }
 
 impl Model for Asks {
-    ghost use Rattle.std.specs.Prelude.{List, []};
+    ghost use Rattle.std.specs.Prelude.{◌≤◌, List, take};
     ghost use Rattle.nt_event.specs.Requests.{Ask};
 
     ghost Value = { List Ask };
 
-    ghost view = { λ a. [] };
+    ghost use Rattle.nt_plain.specs.LaneLists.{as_asks};
+
+    ghost view = { λ a. as_asks (take a.count a.asks) };
+
+    ghost invariant = { λ a. a.count ≤ 2 };
 }
 
 impl Asks {
@@ -33,6 +37,6 @@ impl Asks {
     pub(crate) fn as_slice(&self) -> &[Asked]
         ensures { as_asks result.now ≡ self.now }
     {
-        match self.never {}
+        &self.asks[..self.count]
     }
 }
