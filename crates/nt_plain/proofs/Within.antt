@@ -17,7 +17,7 @@ use Rattle.nt_event.proofs.Tables.{get_or-table, table-same}
 use Rattle.nt_floor.specs.Acts.{told_over}
 use Rattle.nt_plain.specs.declared.states.asking.Asked.{Asked}
 use Rattle.nt_plain.specs.LaneLists.{AskFits, LaneFits, as_ask, as_asks, lane_fits}
-use Rattle.nt_plain.specs.Places.{row_of, row_value, told_in, told_place}
+use Rattle.nt_plain.specs.Places.{row_of, row_value, told_in, told_place, word_place}
 use Rattle.nt_plain.specs.States.{PlainState}
 use Rattle.nt_plain.proofs.Apart.{below_rows, below_values}
 use Rattle.nt_plain.proofs.Tells.{number_below}
@@ -91,3 +91,13 @@ own_told s told lanes asks p n to over own fits number e f =
 pub told_of : (f : PlainState) (st : Stand) (w : What) (s : Script) (slice lanes : List Lane) (asked : List Asked) (asks : List Ask) (over own : List ℕ) → s ≡ f.script → slice ≡ lanes → lanes ≡ what_lanes f.script st w f.lanes → as_asks asked ≡ asks → asks ≡ what_asks f.script st w f.lanes → All (LaneFits f.script) lanes → over ≡ table 16 (λ c. told_over (row_value s f.told) slice st.cpu c) → own ≡ table 16 (λ c. if list_any (is_ask st.cpu c) (as_asks asked) then f.next + 1 else value_at over c) → own ≡ table 16 (λ c. raised (asks_in f.script st w f.lanes st.cpu c) f.next (told_over (told_in f.script f.told) (what_lanes f.script st w f.lanes) st.cpu c))
 told_of f st w s slice lanes asked asks over own script same_lanes touched same_asks requests fits e o =
     own_told f.script f.told (what_lanes f.script st w f.lanes) (what_asks f.script st w f.lanes) st.cpu f.next (f.next + 1) over own (subst (λ (l : List Lane). All (LaneFits f.script) l) touched fits) refl (e ∙ (ap (λ (t : Script). table 16 (λ c. told_over (row_value t f.told) slice st.cpu c)) script ∙ ap (λ (l : List Lane). table 16 (λ c. told_over (row_value f.script f.told) l st.cpu c)) (same_lanes ∙ touched))) (o ∙ ap (λ (l : List Ask). table 16 (λ c. if list_any (is_ask st.cpu c) l then f.next + 1 else value_at over c)) (same_asks ∙ requests))
+
+pub words_within : (s : Script) (words : List ℕ) (asked : List Asked) (asks : List Ask) → length words ≡ 16 * s.cpus → as_asks asked ≡ asks → All (AskFits s) asks → All (λ a. word_place a.cpu a.class < length words) asked
+words_within s words asked asks len e within k d l =
+    let ask = each_asked (AskWithin s.cpus) asked asks e (all_within s asks within) k d l in
+    omega (arith, len, ask.cpu, ask.class)
+
+pub marks_within : (s t : Script) (limit n : ℕ) (marks : List ℕ) (asked : List Asked) (asks : List Ask) → length marks ≡ limit * s.cpus → n < limit → t ≡ s → as_asks asked ≡ asks → All (AskFits s) asks → All (λ a. row_of t.cpus n a.cpu < length marks) asked
+marks_within s t limit n marks asked asks len low script e within k d l =
+    let ask = each_asked (AskWithin s.cpus) asked asks e (all_within s asks within) k d l in
+    rw (len, script) (below_rows s.cpus limit n (get_or asked k d).cpu.0 low ask.cpu)

@@ -10,6 +10,8 @@ use Rattle.nt_event.specs.Acting.{acted_event}
 use Rattle.nt_event.specs.Lanes.{Lanes, lane_count, lanes_after, what_lanes}
 use Rattle.nt_event.specs.Requests.{Ask, what_asks}
 use Rattle.nt_plain.specs.AllStates.{AllStates}
+use Rattle.nt_plain.specs.Given.{IsGiven}
+use Rattle.nt_plain.specs.LaneLists.{AskFits, LaneFits}
 use Rattle.nt_plain.specs.Places.{row_of, told_in, told_place, value_in, word_place}
 use Rattle.nt_plain.specs.States.{PlainState}
 
@@ -78,3 +80,12 @@ marked p c n f =
 abbrev pub made : Stand → What → PlainState → PlainState
 made st w f =
     record f { next = f.next + 1; asked = raised_words (f.next + 1) (what_asks f.script st w f.lanes) f.asked; marks = marked_all f.script.cpus f.next (what_asks f.script st w f.lanes) f.marks; lanes = lanes_after f.script f.next st (acted_event st f.lanes w) f.lanes; told = tell_lanes f.script (f.next + 1) (what_lanes f.script st w f.lanes) (what_asks f.script st w f.lanes) f.told }
+
+-- an event that a job gives, with the lanes that it touches and what it asks for
+pub record IsPlanned (f : PlainState) (st : Stand) (w : What) (xs : List Lane) (ys : List Ask) : Type 0 where
+  pub given : IsGiven (states_of f) st w
+  pub room : f.next < f.limit
+  pub lanes : xs ≡ what_lanes f.script st w f.lanes
+  pub asks : ys ≡ what_asks f.script st w f.lanes
+  pub lanes_named : All (LaneFits f.script) xs
+  pub asks_named : All (AskFits f.script) ys
