@@ -5,3 +5,6 @@ pub mod Given
 pub mod LaneLists
 pub mod Made
 pub mod Insides
+pub mod Sound
+pub mod Kept
+pub mod Timed

@@ -563,6 +563,68 @@ impl ThreadState {
         self.doing = Doing::Gone;
         self.leaving = false;
     }
+
+    // ---- questions, for a caller that asks and leaves the state as it is
+
+    /// The status of the wait that ended, which the next [`ThreadState::resume`] answers; None at the first run, after a yield, and
+    /// where the thread is not ready.
+    pub fn status(&self) -> Option<u32>
+        ensures { result ≡ spec.ended_status self.now }
+    {
+        match &self.doing {
+            Doing::Ready { status, .. } => *status,
+            _ => None,
+        }
+    }
+
+    /// Whether the alerted flag of this mode is set.
+    pub fn was_alerted(&self, m: Mode) -> bool
+        ensures { result ≡ spec.is_alerted m self.now }
+    {
+        self.is_alerted(m)
+    }
+
+    /// Whether [`ThreadState::release`] would end a wait.
+    pub fn ends_by_release(&self) -> bool
+        ensures { result ≡ spec.ends_by_release self.now }
+    {
+        self.waits_for_release()
+    }
+
+    /// Whether [`ThreadState::end_delay`] would end the wait.
+    pub fn ends_by_expiry(&self, set: u64) -> bool
+        ensures { result ≡ spec.ends_by_expiry set self.now }
+    {
+        self.waits_for_expiry(set)
+    }
+
+    /// Whether an alert for this mode would end the wait.
+    pub fn ends_by_alert(&self, m: Mode) -> bool
+        ensures { result ≡ spec.ends_by_alert m self.now }
+    {
+        self.waits_for_alert(m)
+    }
+
+    /// Whether an APC of this kind would end the wait once it is inserted, whichever object it is and under whichever number.
+    pub fn ends_by_apc(&self, k: ApcKind) -> bool
+        ensures { (a : Apc) (n : ℕ) → result ≡ spec.ends_by_apc (record { apc = a; kind = k; number = n }) self.now }
+    {
+        self.waits_for_apc(k)
+    }
+
+    /// Whether the APC object would be inserted: it isn't yet, and the thread still takes APCs.
+    pub fn takes(&self, a: ApcNo) -> bool
+        ensures { result ≡ queues.takes a self.now.apcs }
+    {
+        self.apcs.open_for(a)
+    }
+
+    /// The first user APC.
+    pub fn user_first(&self) -> Option<Pick>
+        ensures { result ≡ queues.first_user self.now.apcs }
+    {
+        self.apcs.user_first()
+    }
 }
 
 /// Whether the mode of a wait is not below that of an alert: kernel is below user.

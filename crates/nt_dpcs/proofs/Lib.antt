@@ -1,0 +1,7 @@
+pub mod Places
+pub mod Holding
+pub mod Agreeing
+pub mod Keeping
+pub mod Leaving
+pub mod Seeing
+pub mod Starting

@@ -1,0 +1,4 @@
+pub mod Lanes
+pub mod Changes
+pub mod Agree
+pub mod Insides

@@ -1,0 +1,10 @@
+mod Allows
+mod Changed
+mod Firsts
+mod Left
+mod Marked
+mod Numbers
+mod Ours
+mod Over
+mod Readies
+mod Whole
