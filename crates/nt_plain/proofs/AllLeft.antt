@@ -8,9 +8,7 @@ use Rattle.nt_event.specs.declared.numbers.CpuNo.{CpuNo}
 use Rattle.nt_event.specs.declared.scripts.Script.{Script}
 use Rattle.nt_event.specs.Acting.{acted_event}
 use Rattle.nt_event.specs.Lanes.{lanes_after}
-
 use Rattle.nt_event.specs.Timers.{Timers, timers_after}
-
 use Rattle.nt_dpcs.specs.Lanes as dpcs
 use Rattle.nt_dpcs.specs.Lanes.{DpcLanes}
 use Rattle.nt_threads.specs.Fits.{MayLeave}

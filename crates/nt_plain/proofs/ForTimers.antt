@@ -2,7 +2,6 @@
 use Rattle.std.proofs.Common.{ap, arith, sym, ◌∙◌}
 use Rattle.std.proofs.lemmas.Bool.{eq-eqb, ltb-true}
 use Rattle.std.specs.Prelude.{IfSome, IsTrue, None, Option, Some, length, refl, ℕ, ◌<◌, ◌≡◌}
-
 use Rattle.nt_event.specs.declared.commands.Command.{Command}
 use Rattle.nt_event.specs.declared.commands.Command.TheVariants.{Delay, SetTimer}
 use Rattle.nt_event.specs.declared.commands.Reply.{Reply}
