@@ -1,0 +1,10 @@
+pub mod AllStates
+pub mod States
+pub mod Places
+pub mod Given
+pub mod LaneLists
+pub mod Made
+pub mod Insides
+pub mod Sound
+pub mod Kept
+pub mod Timed

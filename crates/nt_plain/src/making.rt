@@ -1,0 +1,97 @@
+//! The event of a job, and what it leaves of the floor.
+ghost use Rattle.std.specs.Prelude.{◌≡◌, ◌<◌, ◌^◌, All, IfErr, IfOk, IfSome, IsErrOf, Some};
+ghost use Rattle.nt_event.specs.Acting.{acted_event};
+ghost use Rattle.nt_event.specs.Frames.{due_of};
+ghost use Rattle.nt_event.specs.Jobs.{job_event};
+ghost use Rattle.nt_event.specs.Lanes.{what_lanes};
+ghost use Rattle.nt_event.specs.Requests.{asks_in, raised, what_asks};
+ghost use Rattle.nt_event.specs.Words.{table};
+ghost use Rattle.nt_floor.specs.declared.floor.ActRefusal.{ActRefusal};
+ghost use Rattle.nt_floor.specs.Acts.{Found, IsRefused, KindsFit, told_over};
+ghost use Rattle.nt_plain.specs.Given.{IsGiven, MayDo};
+ghost use Rattle.nt_plain.specs.LaneLists.{AskFits, LaneFits};
+ghost use Rattle.nt_plain.specs.Made.{IsPlanned, made, states_of};
+ghost use Rattle.nt_plain.specs.Places.{told_in};
+
+use crate::plain::PlainFloor;
+use crate::states::{Asks, Touched};
+use crate::told::tell_own;
+use nt_event::{Event, Job, Rises, Stand, What};
+use nt_floor::{ActRefusal, Acted};
+
+impl<'s> PlainFloor<'s> {
+    /// The event of the job for a processor that stands so, or why there is none.
+    pub(crate) fn decide(&self, job: &Job, stand: &Stand) -> Result<What, ActRefusal>
+        requires { MayDo (states_of self.now) stand.now job.now }
+        ensures event { IfOk result (λ w. job_event self.now.script stand.now self.now.lanes job.now ≡ Some w) }
+        ensures given { IfOk result (λ w. IsGiven (states_of self.now) stand.now w) }
+        ensures refused { IfErr result (λ r. (f : Found) → f.lanes ≡ self.now.lanes → IsRefused self.now.script f stand.now job.now r) }
+        ensures memory { IsErrOf result ActRefusal.NoMemory → ⊥ }
+    {
+        self.states.decide(job, stand)
+    }
+
+    /// The pending APCs are of their objects' kinds.
+    pub(crate) fn kinds(&self)
+        ensures { KindsFit self.now.script self.now.lanes }
+    {
+        self.states.kinds();
+    }
+
+    /// Makes this event of a processor that stands so.
+    pub(crate) fn make(&mut self, stand: &Stand, what: &What) -> Acted
+        requires given { IsGiven (states_of self.old) stand.now what.now }
+        requires room { self.old.next < self.old.limit }
+        ensures number { result.number ≡ self.old.next }
+        ensures event { result.event ≡ acted_event stand.now self.old.lanes what.now }
+        ensures due { result.due ≡ due_of what.now self.old.lanes.timers.now }
+        ensures due_fits { IfSome result.due (λ due. due < 2 ^ 51) }
+        ensures told { result.told.value ≡ table 16 (λ c. raised (asks_in self.old.script stand.now what.now self.old.lanes stand.now.cpu c) self.old.next (told_over (told_in self.old.script self.old.told) (what_lanes self.old.script stand.now what.now self.old.lanes) stand.now.cpu c)) }
+        ensures lanes_named { All (LaneFits self.old.script) (what_lanes self.old.script stand.now what.now self.old.lanes) }
+        ensures asks_named { All (AskFits self.old.script) (what_asks self.old.script stand.now what.now self.old.lanes) }
+        ensures state { self.new ≡ made stand.now what.now self.old }
+    {
+        let number = self.next;
+        let event = self.states.event(stand, what);
+        let due = self.states.due(what);
+        let lanes = self.states.touched(stand, what);
+        let asks = self.states.asks(stand, what);
+        let told = self.told_by(stand, what, &lanes, &asks);
+        self.leave(stand, &event, &lanes, &asks);
+        Acted {
+            number,
+            event,
+            due,
+            told,
+        }
+    }
+
+    /// What the lanes that an event touches tell for its processor, its own requests among it.
+    fn told_by(&self, stand: &Stand, what: &What, lanes: &Touched, asks: &Asks) -> Rises
+        requires { IsPlanned self.now stand.now what.now lanes.now asks.now }
+        ensures { result.value ≡ table 16 (λ c. raised (asks_in self.now.script stand.now what.now self.now.lanes stand.now.cpu c) self.now.next (told_over (told_in self.now.script self.now.told) (what_lanes self.now.script stand.now what.now self.now.lanes) stand.now.cpu c)) }
+    {
+        let _what = what;
+        let script = self.states.script();
+        let mut value = self.told.over(script, lanes.as_slice(), stand.cpu);
+        tell_own(&mut value, asks.as_slice(), stand.cpu, self.next + 1);
+        Rises { value }
+    }
+
+    /// What the event leaves of the floor.
+    fn leave(&mut self, stand: &Stand, event: &Event, lanes: &Touched, asks: &Asks)
+        requires planned { IsPlanned self.old stand.now event.now.what lanes.now asks.now }
+        requires event { event.now ≡ acted_event stand.now self.old.lanes event.now.what }
+        ensures { self.new ≡ made stand.now event.now.what self.old }
+    {
+        let number = self.next;
+        let script = self.states.script();
+        let touched = lanes.as_slice();
+        let asked = asks.as_slice();
+        self.next = number + 1;
+        self.asked.raise_all(asked, number + 1);
+        self.marks.mark_all(script.cpus, number, asked);
+        self.told.tell(script, touched, asked, number + 1);
+        self.states.leave(number, stand, event);
+    }
+}

@@ -1,0 +1,70 @@
+//! The request words: for each processor and class the greatest request so far.
+ghost use Rattle.std.specs.Prelude.{◌≡◌, ◌+◌, ◌*◌, ◌<◌, ◌≤◌, ◌^◌, All, IfOk, length, replicate};
+ghost use Rattle.nt_plain.specs.LaneLists.{as_asks};
+ghost use Rattle.nt_plain.specs.Made.{raised_word, raised_words};
+ghost use Rattle.nt_plain.specs.Places.{value_in, word_place};
+
+use crate::states::Asked;
+use nt_event::CpuNo;
+use std::alloc::{AllocError, Global};
+use std::marker::Model;
+
+/// A word for each processor and class, 16 a processor. A request is one more than the number of the event that asks; 0 is none.
+#[derive(Drop, Debug)]
+pub(crate) struct RequestWords {
+    values: Vec<u64>,
+}
+
+impl Model for RequestWords {
+    ghost use Rattle.std.specs.Prelude.{List, ℕ};
+
+    ghost Value = { List ℕ };
+
+    ghost view = { λ a. a.values.items };
+}
+
+impl RequestWords {
+    /// No request, for so many processors.
+    pub(crate) fn new(alloc: Global, cpus: u8) -> Result<RequestWords, AllocError>
+        ensures { IfOk result (λ x. x ≡ replicate (16 * cpus) 0) }
+    {
+        let count = 16 * usize::from(cpus);
+        let values = vec![in alloc; 0u64; count]?;
+        Ok(RequestWords { values })
+    }
+
+    /// The word of a processor and class.
+    pub(crate) fn get(&self, p: CpuNo, class: u8) -> u64
+        requires { word_place p class < length self.now }
+        ensures { result ≡ value_in self.now p class }
+    {
+        self.values[place(p, class)]
+    }
+
+    /// Raises the word of a processor and class to a value.
+    pub(crate) fn raise(&mut self, p: CpuNo, class: u8, to: u64)
+        requires { word_place p class < length self.old }
+        ensures { self.new ≡ raised_word to p class self.old }
+    {
+        let at = place(p, class);
+        let old = self.values[at];
+        self.values[at] = old.max(to);
+    }
+
+    /// Raises the words of these requests to a value.
+    pub(crate) fn raise_all(&mut self, asks: &[Asked], to: u64)
+        requires { All (λ a. word_place a.cpu a.class < length self.old) asks.now }
+        ensures { self.new ≡ raised_words to (as_asks asks.now) self.old }
+    {
+        for ask in asks {
+            self.raise(ask.cpu, ask.class, to);
+        }
+    }
+}
+
+/// Where the word stands.
+fn place(p: CpuNo, class: u8) -> usize
+    ensures { result ≡ word_place p class }
+{
+    16 * usize::from(p.0) + usize::from(class)
+}

@@ -1,0 +1,132 @@
+//! The states of all lanes in memory: DPC objects and queues, threads, and timers.
+ghost use Rattle.std.specs.Prelude.{◌≡◌, [], IfOk, IfSome, IsTrue, length};
+ghost use Rattle.nt_event.specs.Jobs as jobs;
+ghost use Rattle.nt_event.specs.Lanes.{lanes_at};
+ghost use Rattle.nt_event.specs.Script.{fits, has_thread};
+ghost use Rattle.nt_floor.specs.Acts.{KindsFit};
+ghost use Rattle.nt_plain.specs.AllStates.{dpcs_of, threads_of};
+ghost use Rattle.nt_plain.specs.Sound.{IsSound};
+
+mod asking;
+mod deciding;
+mod leaving;
+mod making;
+mod places;
+mod replies;
+mod timing;
+mod touching;
+
+use nt_dpcs::Dpcs;
+use nt_event::{CpuNo, Script, ThreadNo};
+use nt_threads::Threads;
+use nt_timer::TimerQueue;
+use std::alloc::{AllocError, Global};
+use std::marker::Model;
+
+pub(crate) use asking::{Asked, Asks};
+pub(crate) use touching::Touched;
+
+/// The states of all lanes of a script. They have their room from the start: no call but [`States::new`] takes memory.
+#[derive(Drop)]
+pub(crate) struct States<'s> {
+    script: &'s Script,
+    dpcs: Dpcs<'s>,
+    threads: Threads<'s>,
+    timers: TimerQueue,
+}
+
+impl<'s> Model for States<'s> {
+    ghost use Rattle.nt_plain.specs.AllStates.{AllStates};
+
+    ghost Value = { AllStates };
+
+    ghost use Rattle.nt_plain.specs.Kept.{IsKept, states_in};
+
+    ghost view = { states_in };
+
+    ghost invariant = { IsKept };
+}
+
+impl<'s> States<'s> {
+    /// The states before any event. The script fits.
+    pub(crate) fn new(alloc: Global, script: &'s Script) -> Result<States<'s>, AllocError>
+        requires { IsTrue (fits script.now) }
+        ensures { IfOk result (λ x. x ≡ record { script = script.now; lanes = lanes_at script.now [] }) }
+    {
+        let dpcs = Dpcs::new(alloc, script)?;
+        let threads = Threads::new(alloc, script)?;
+        let timers = TimerQueue::new(alloc, timer_count(script), thread_count(script))?;
+        Ok(States {
+            script,
+            dpcs,
+            threads,
+            timers,
+        })
+    }
+
+    /// What holds of them at any time, for the calls that speak of their parts.
+    fn sound(&self)
+        ensures { IsSound self.now }
+    {
+        let _script = self.script;
+    }
+
+    /// The script.
+    pub(crate) fn script(&self) -> &'s Script
+        ensures { result.now ≡ self.now.script }
+    {
+        self.script
+    }
+
+    /// The DPC objects and queues.
+    fn dpcs(&self) -> &Dpcs<'s>
+        ensures { result.now ≡ dpcs_of self.now }
+    {
+        &self.dpcs
+    }
+
+    /// The threads.
+    fn threads(&self) -> &Threads<'s>
+        ensures { result.now ≡ threads_of self.now }
+    {
+        &self.threads
+    }
+
+    /// The time, the timers and the delays.
+    fn timers(&self) -> &TimerQueue
+        ensures { result.now ≡ self.now.lanes.timers }
+    {
+        &self.timers
+    }
+
+    /// The thread of the processor that is taken up next, after this one in a cycle; None exactly where none is ready.
+    pub(crate) fn next_ready(&self, p: CpuNo, after: Option<ThreadNo>) -> Option<ThreadNo>
+        ensures next { result ≡ jobs.next_ready self.now.script p after self.now.lanes }
+        ensures named { IfSome result (λ t. IsTrue (has_thread self.now.script t)) }
+    {
+        self.threads().next_ready(p, after)
+    }
+
+    /// The APCs that are pending are of their objects' kinds.
+    pub(crate) fn kinds(&self)
+        ensures { KindsFit self.now.script self.now.lanes }
+    {
+        self.threads().kinds();
+    }
+}
+
+/// How many timers the script has.
+fn timer_count(script: &Script) -> u32
+    requires { IsTrue (fits script.now) }
+    ensures { result ≡ length script.now.timers }
+{
+    script.timers.len() as u32
+}
+
+/// How many threads the script has.
+fn thread_count(script: &Script) -> u32
+    requires { IsTrue (fits script.now) }
+    ensures { result ≡ length script.now.threads }
+{
+    script.threads.len() as u32
+}
