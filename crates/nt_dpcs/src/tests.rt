@@ -48,9 +48,9 @@ fn reply(yes: bool) -> Reply
 }
 
 /// The processor calls `queue`; whether the object is inserted.
-fn queue(dpcs: &mut Dpcs, n: u64, by: CpuNo, d: DpcNo) -> bool
+fn queue(dpcs: &mut Dpcs, n: u64, p: CpuNo, d: DpcNo) -> bool
     requires objects { (length dpcs.old.script.dpcs ≡ 3) × (d.0 < 3) }
-    requires cpus { (dpcs.old.script.cpus ≡ 2) × (by.0 < 2) }
+    requires cpus { (dpcs.old.script.cpus ≡ 2) × (p.0 < 2) }
     ensures objects { length dpcs.new.script.dpcs ≡ 3 }
     ensures cpus { dpcs.new.script.cpus ≡ 2 }
 {
@@ -60,7 +60,7 @@ fn queue(dpcs: &mut Dpcs, n: u64, by: CpuNo, d: DpcNo) -> bool
         command: Command::Queue(d),
         reply: reply(yes),
     };
-    dpcs.leave(n, by, &call);
+    dpcs.leave(n, p, &call);
     yes
 }
 

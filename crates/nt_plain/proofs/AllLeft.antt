@@ -1,6 +1,6 @@
 -- What the calls leave of all states is what the event leaves.
 use Rattle.std.proofs.Common.{ap, subst, sym, ◌∙◌}
-use Rattle.std.specs.Prelude.{length, refl, ℕ, ◌≡◌}
+use Rattle.std.specs.Prelude.{ℕ, ◌≡◌}
 use Rattle.nt_event.specs.declared.events.Event.{Event}
 use Rattle.nt_event.specs.declared.events.What.{What}
 use Rattle.nt_event.specs.declared.jobs.Stand.{Stand}
@@ -8,9 +8,7 @@ use Rattle.nt_event.specs.declared.numbers.CpuNo.{CpuNo}
 use Rattle.nt_event.specs.declared.scripts.Script.{Script}
 use Rattle.nt_event.specs.Acting.{acted_event}
 use Rattle.nt_event.specs.Lanes.{lanes_after}
-
-use Rattle.nt_event.specs.Timers.{Timers, timers_after}
-
+use Rattle.nt_event.specs.Timers.{timers_after}
 use Rattle.nt_dpcs.specs.Lanes as dpcs
 use Rattle.nt_dpcs.specs.Lanes.{DpcLanes}
 use Rattle.nt_threads.specs.Fits.{MayLeave}

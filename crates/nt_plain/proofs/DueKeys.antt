@@ -1,13 +1,13 @@
 -- A key that expires is one of a timer or a thread of the script.
 use Rattle.std.proofs.Common.{arith}
 use Rattle.std.proofs.lemmas.Bool.{lt-ltb}
-use Rattle.std.specs.Prelude.{IsTrue, List, None, Option, Some, [], get_or, length, option_map, suc, zero, ℕ, ◌<◌, ◌∷◌, ◌≡◌}
+use Rattle.std.specs.Prelude.{IsTrue, List, Option, Some, [], length, option_map, suc, zero, ℕ, ◌<◌, ◌∷◌, ◌≡◌}
 use Rattle.nt_event.specs.declared.commands.TimerKey.{TimerKey}
 use Rattle.nt_event.specs.declared.commands.TimerKey.TheVariants.{Delay as OfDelay, Timer as OfTimer}
 use Rattle.nt_event.specs.declared.events.What.TheVariants.{Expire}
 use Rattle.nt_event.specs.declared.inserts.Setting.{Setting}
 use Rattle.nt_event.specs.Timers.{setting_in}
-use Rattle.nt_timer.specs.Settings.{due_entry, setting_at}
+use Rattle.nt_timer.specs.Settings.{due_entry}
 use Rattle.nt_timer.proofs.Among.{due_setting}
 use Rattle.nt_plain.specs.AllStates.{AllStates}
 use Rattle.nt_plain.specs.Given.{what_fits}

@@ -1,7 +1,7 @@
 -- What the event of a job says of threads is so.
 use Rattle.std.proofs.Common.{ap}
 use Rattle.std.proofs.lemmas.Bool.{eqb-true}
-use Rattle.std.specs.Prelude.{Bool, IfSome, IsSome, IsSomeAnd, IsTrue, None, Option, Some, is_some, option_map, refl, true, ℕ, ◌&&◌, ◌+◌, ◌==◌, ◌≡◌}
+use Rattle.std.specs.Prelude.{IfSome, IsSome, IsSomeAnd, IsTrue, None, Option, Some, is_some, option_map, refl, ℕ, ◌&&◌, ◌+◌, ◌==◌, ◌≡◌}
 use Rattle.nt_event.specs.declared.commands.ApcKind.TheVariants.{User as UserApc}
 use Rattle.nt_event.specs.declared.commands.Command.{Command}
 use Rattle.nt_event.specs.declared.commands.Command.TheVariants.{Alert, Delay, InsertApc, Release, RemoveApc, StartWait, TestAlert, Yield}

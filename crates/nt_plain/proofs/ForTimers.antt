@@ -1,12 +1,11 @@
 -- What the event of a job says of the timers is so.
 use Rattle.std.proofs.Common.{ap, arith, sym, ◌∙◌}
 use Rattle.std.proofs.lemmas.Bool.{eq-eqb, ltb-true}
-use Rattle.std.specs.Prelude.{IfSome, IsTrue, None, Option, Some, length, refl, ℕ, ◌<◌, ◌≡◌}
-
+use Rattle.std.specs.Prelude.{IfSome, None, Option, Some, length, refl, ℕ, ◌<◌, ◌≡◌}
 use Rattle.nt_event.specs.declared.commands.Command.{Command}
 use Rattle.nt_event.specs.declared.commands.Command.TheVariants.{Delay, SetTimer}
 use Rattle.nt_event.specs.declared.commands.Reply.{Reply}
-use Rattle.nt_event.specs.declared.commands.Reply.TheVariants.{Blocked, Done, No, Refused, Status, Yes}
+use Rattle.nt_event.specs.declared.commands.Reply.TheVariants.{Blocked}
 use Rattle.nt_event.specs.declared.events.Event.{Event}
 use Rattle.nt_event.specs.declared.events.What.{What}
 use Rattle.nt_event.specs.declared.events.What.TheVariants.{Call, Expire, Rewait}
@@ -15,7 +14,6 @@ use Rattle.nt_event.specs.declared.numbers.CpuNo.{CpuNo}
 use Rattle.nt_event.specs.declared.numbers.ThreadNo.{ThreadNo}
 use Rattle.nt_event.specs.Acting.{IsStanding, RunsThere, acted_event}
 use Rattle.nt_event.specs.Routines.{cpu_of}
-use Rattle.nt_timer.specs.Laws.{IsSized}
 use Rattle.nt_plain.specs.AllStates.{AllStates}
 use Rattle.nt_plain.specs.Given.{IsGiven}
 use Rattle.nt_plain.specs.Sound.{IsSound}

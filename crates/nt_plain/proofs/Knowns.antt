@@ -1,13 +1,13 @@
 -- What the event of a job is known by.
 use Rattle.std.proofs.Common.{ap, inl, inr, ◌∙◌}
 use Rattle.std.specs.Option.{option_or}
-use Rattle.std.specs.Prelude.{Bool, IsSome, IsTrue, List, None, Option, Some, is_some, option_map, refl, true, unwrap_or, ℕ, ◌≡◌, ◌≤◌, ◌⊎◌}
+use Rattle.std.specs.Prelude.{IsSome, IsTrue, None, Option, Some, option_map, refl, true, unwrap_or, ℕ, ◌≡◌, ◌≤◌, ◌⊎◌}
 use Rattle.nt_event.specs.declared.commands.Command.{Command}
 use Rattle.nt_event.specs.declared.commands.Command.TheVariants.{Queue, ToUser}
 use Rattle.nt_event.specs.declared.commands.Reply.{Reply}
 use Rattle.nt_event.specs.declared.commands.Reply.TheVariants.{Done}
 use Rattle.nt_event.specs.declared.commands.TimerKey.{TimerKey}
-use Rattle.nt_event.specs.declared.events.Begun.TheVariants.{Apc, Dpc, Int, Threaded}
+use Rattle.nt_event.specs.declared.events.Begun.TheVariants.{Apc, Dpc, Threaded}
 use Rattle.nt_event.specs.declared.events.What.{What}
 use Rattle.nt_event.specs.declared.events.What.TheVariants.{Begin, Call, Clean, End, Expire, Fire, Flush, Gone, Rest, Rewait, Switch}
 use Rattle.nt_event.specs.declared.frames.Again.{Again}
@@ -22,14 +22,13 @@ use Rattle.nt_event.specs.declared.numbers.DpcNo.{DpcNo}
 use Rattle.nt_event.specs.declared.numbers.ThreadNo.{ThreadNo}
 use Rattle.nt_event.specs.Acting.{IsCallable}
 use Rattle.nt_event.specs.Apcs.{deliverable, first_user}
-use Rattle.nt_event.specs.Commands.{is_reached, reply}
+use Rattle.nt_event.specs.Commands.{reply}
 use Rattle.nt_event.specs.Jobs.{begin_apc, begin_dpc, begin_first, expire_key, idle_event, job_event, may_take, next_ready, ready, rewait_reply, rundown_event, switch_event, user_due}
 use Rattle.nt_event.specs.Lanes.{facts_at, facts_of, queue_at}
 use Rattle.nt_event.specs.Queues.{first_dpc}
 use Rattle.nt_event.specs.Script.{command_fits, has_dpc}
-use Rattle.nt_event.specs.Threads.{ThreadFacts, ended_status}
+use Rattle.nt_event.specs.Threads.{ended_status}
 use Rattle.nt_event.specs.Timers.{SetKey, first_due}
-use Rattle.nt_event.specs.Waits.{wait_reply}
 use Rattle.nt_event.specs.Words.{is_null, when}
 use Rattle.nt_event.proofs.Options.{Holds, holds_at, holds_else, holds_map, holds_or, holds_when, when_gives}
 use Rattle.nt_event.proofs.Robin.{next_ready_taken}

@@ -1,13 +1,12 @@
 -- What an event leaves of the timers is what the calls leave.
-use Rattle.std.proofs.Common.{arith, ◌∙◌}
+use Rattle.std.proofs.Common.{◌∙◌}
 use Rattle.std.proofs.lemmas.Bool.{and_right}
 use Rattle.std.specs.Prelude.{Bool, IfSome, None, Option, Some, cond, false, length, option_and_then, refl, true, ℕ, ◌+◌, ◌≡◌}
 use Rattle.nt_event.specs.declared.commands.Command.{Command}
 use Rattle.nt_event.specs.declared.commands.Command.TheVariants.{CancelTimer, Clock, Delay, SetTimer}
 use Rattle.nt_event.specs.declared.commands.Mode.{Mode}
 use Rattle.nt_event.specs.declared.commands.Reply.{Reply}
-use Rattle.nt_event.specs.declared.commands.Reply.TheVariants.{Blocked, Done, No, Refused, Status, Yes}
-use Rattle.nt_event.specs.declared.commands.TimerKey.TheVariants.{Delay as OfDelay, Timer as OfTimer}
+use Rattle.nt_event.specs.declared.commands.Reply.TheVariants.{Blocked, Done, No, Yes}
 use Rattle.nt_event.specs.declared.events.Event.{Event}
 use Rattle.nt_event.specs.declared.events.What.{What}
 use Rattle.nt_event.specs.declared.events.What.TheVariants.{Call, Expire, Rewait}
@@ -22,9 +21,9 @@ use Rattle.nt_event.specs.Frames.{time_after}
 use Rattle.nt_event.specs.Routines.{cpu_of}
 use Rattle.nt_event.specs.Timers.{Timers, delay_after, setting_in, timer_after, timers_after}
 use Rattle.nt_event.specs.Waits.{is_of_thread}
-use Rattle.nt_event.specs.Words.{is_of, table, thread, timer}
+use Rattle.nt_event.specs.Words.{is_of, thread, timer}
 use Rattle.nt_event.proofs.Tables.{length-table_from, table-self}
-use Rattle.nt_timer.specs.Laws.{IsMadeBy, IsSized}
+use Rattle.nt_timer.specs.Laws.{IsSized}
 use Rattle.nt_timer.proofs.Events.{timer_calls_are_events}
 use Rattle.nt_plain.specs.Timed.{CallMayTime, IsMaker, MayTime, call_timed, delayed, timed}
 

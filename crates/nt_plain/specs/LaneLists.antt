@@ -1,5 +1,5 @@
 -- The lanes that an event touches and the classes that it asks for, as lists; when they name things of the script.
-use Rattle.std.specs.Prelude.{Bool, IsTrue, List, map, false, true, ℕ, ◌<◌, ◌≡◌}
+use Rattle.std.specs.Prelude.{Bool, IsTrue, List, map, false, true, ◌<◌, ◌≡◌}
 use Rattle.nt_event.specs.declared.commands.Command.{Command}
 use Rattle.nt_event.specs.declared.commands.Command.TheVariants.{Queue}
 use Rattle.nt_event.specs.declared.commands.Reply.{Reply}

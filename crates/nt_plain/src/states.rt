@@ -16,14 +16,13 @@ mod replies;
 mod timing;
 mod touching;
 
+pub(crate) use asking::{Asked, Asks};
 use nt_dpcs::Dpcs;
 use nt_event::{CpuNo, Script, ThreadNo};
 use nt_threads::Threads;
 use nt_timer::TimerQueue;
 use std::alloc::{AllocError, Global};
 use std::marker::Model;
-
-pub(crate) use asking::{Asked, Asks};
 pub(crate) use touching::Touched;
 
 /// The states of all lanes of a script. They have their room from the start: no call but [`States::new`] takes memory.

@@ -17,7 +17,8 @@ ghost use Rattle.nt_plain.specs.LaneLists.{AskFits, InsertIsFree, as_asks};
 use super::States;
 use super::places::{cpu_of, kind_of, owner_of};
 use nt_event::{
-    ApcKind, ApcNo, Body, Command, CpuNo, DpcNo, Mode, Regions, Reply, Stand, ThreadNo, TimerKey, What,
+    ApcKind, ApcNo, Body, Command, CpuNo, DpcNo, Mode, Regions, Reply, Stand, ThreadNo, TimerKey,
+    What,
 };
 use std::marker::Model;
 

@@ -17,9 +17,7 @@ ghost use Rattle.nt_plain.specs.Given.{IsGiven, MayDo, what_fits};
 
 use super::States;
 use super::places::runner;
-use nt_event::{
-    Begun, Command, CpuNo, DpcNo, Job, Part, Pick, Reply, Stand, ThreadNo, What,
-};
+use nt_event::{Begun, Command, CpuNo, DpcNo, Job, Part, Pick, Reply, Stand, ThreadNo, What};
 use nt_floor::ActRefusal;
 
 /// A DPC of the part begins.

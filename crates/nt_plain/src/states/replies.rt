@@ -57,8 +57,14 @@ impl<'s> States<'s> {
         requires runs { IsSome stand.now.thread }
         ensures { result ≡ wait_reply (facts_of self.now.lanes stand.now.thread) stand.now.regions stand.now.level mode alertable reached }
     {
-        self.threads()
-            .wait_reply(runner(stand), stand.regions, stand.level, mode, alertable, reached)
+        self.threads().wait_reply(
+            runner(stand),
+            stand.regions,
+            stand.level,
+            mode,
+            alertable,
+            reached,
+        )
     }
 
     /// Whether a delay of so many units is over at once.

@@ -12,7 +12,8 @@ ghost use Rattle.nt_plain.specs.LaneLists.{LaneFits};
 use super::States;
 use super::places::{cpu_of, owner_of};
 use nt_event::{
-    ApcKind, ApcNo, Begun, Body, Command, CpuNo, DpcNo, Lane, Reply, Stand, ThreadNo, TimerKey, What,
+    ApcKind, ApcNo, Begun, Body, Command, CpuNo, DpcNo, Lane, Reply, Stand, ThreadNo, TimerKey,
+    What,
 };
 use std::marker::Model;
 
@@ -217,10 +218,8 @@ impl<'s> States<'s> {
                 Touched::one(Lane::Timers)
             }
             Command::InsertApc(a) | Command::RemoveApc(a) => self.apc_lanes(*a),
-            Command::StartWait(_, _)
-            | Command::TestAlert(_)
-            | Command::ToUser
-            | Command::Yield => Touched::one(Lane::Threads(p)),
+            Command::StartWait(_, _) | Command::TestAlert(_) | Command::ToUser | Command::Yield =>
+                Touched::one(Lane::Threads(p)),
             Command::Delay(_, _, _) => Touched::two(Lane::Threads(p), Lane::Timers),
             Command::Release(t) | Command::Alert(t, _) => self.thread_lanes(*t),
             _ => Touched::none(),
