@@ -1,9 +1,8 @@
 -- The robin rule, by what the processors keep and the floor tells.
-use Rattle.std.proofs.Common.{ap, arith, subst, sym, ◌∙◌}
-use Rattle.std.proofs.lemmas.Bool.Decides.{nat_tests}
+use Rattle.std.proofs.Common.{ap, arith, sym, ◌∙◌}
 use Rattle.std.specs.List.{list_any}
 use Rattle.std.specs.Option.{option_or}
-use Rattle.std.specs.Prelude.{Bool, Err, List, None, Ok, Option, Some, [], false, get_or, if◌then◌else◌, is_some, length, nat_lt, not, refl, reverse, suc, true, zero, ℕ, ◌+◌, ◌-◌, ◌<◌, ◌==◌, ◌∷◌, ◌≡◌, ◌≤◌}
+use Rattle.std.specs.Prelude.{Bool, Err, List, None, Option, Some, false, if◌then◌else◌, is_some, nat_lt, not, refl, suc, true, ℕ, ◌<◌, ◌≡◌}
 use Rattle.nt_event.specs.declared.events.Event.{Event}
 use Rattle.nt_event.specs.declared.events.ScheduleKind.{ScheduleKind}
 use Rattle.nt_event.specs.declared.events.Turn.{Turn}
@@ -20,12 +19,10 @@ use Rattle.nt_event.specs.Words.{cpu, value_at, when}
 use Rattle.nt_event.proofs.Robin.{robin_accepted}
 use Rattle.nt_event.proofs.Settled.{robin_ends_settled}
 use Rattle.nt_event.proofs.Tables.{table-same}
-use Rattle.nt_floor.specs.Views.{HasWord}
 use Rattle.nt_cpu.specs.Runs.{Follows, state_of}
 use Rattle.nt_cpu.specs.States.{CpuState}
 use Rattle.nt_plain.specs.States.{PlainState, view_of}
 use Rattle.nt_core.specs.Cycles.{next_cpu}
-use Rattle.nt_core.specs.Sound.{IsSound}
 
 -- ---- the turn of one processor
 

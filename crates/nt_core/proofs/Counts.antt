@@ -6,7 +6,7 @@ use Rattle.nt_event.specs.declared.events.Event.{Event}
 use Rattle.nt_event.specs.declared.numbers.CpuNo.{CpuNo}
 use Rattle.nt_event.specs.declared.scripts.Script.{Script}
 use Rattle.nt_event.specs.Own.{made, own_of}
-use Rattle.nt_event.specs.Step.{IsLegal, IsRun, cpu_at, is_cut, turn_of}
+use Rattle.nt_event.specs.Step.{IsLegal, IsRun, is_cut, turn_of}
 use Rattle.nt_event.specs.Words.{cpu, is_of}
 use Rattle.nt_event.proofs.Robin.{cpu_below}
 use Rattle.nt_event.proofs.Running.{same_cpu}

@@ -1,7 +1,7 @@
 -- One turn of a list after another.
 use Rattle.std.proofs.Common.{add-one, ap, drop, sym, ◌∙◌}
 use Rattle.std.proofs.lemmas.List.{drop_all, drop_more}
-use Rattle.std.specs.Prelude.{Bool, Err, List, Ok, Result, [], false, get_or, if◌then◌else◌, length, suc, true, ℕ, ◌+◌, ◌<◌, ◌∷◌, ◌≡◌, ◌≤◌}
+use Rattle.std.specs.Prelude.{Bool, Err, List, Ok, Result, false, get_or, if◌then◌else◌, length, suc, true, ℕ, ◌+◌, ◌<◌, ◌∷◌, ◌≡◌, ◌≤◌}
 use Rattle.nt_event.specs.declared.events.Event.{Event}
 use Rattle.nt_event.specs.declared.events.ScheduleKind.{ScheduleKind}
 use Rattle.nt_event.specs.declared.events.ScheduleKind.TheVariants.{Unfinished}
@@ -9,7 +9,7 @@ use Rattle.nt_event.specs.declared.events.Turn.{Turn}
 use Rattle.nt_event.specs.declared.scripts.Script.{Script}
 use Rattle.nt_event.specs.Robin.{is_settled}
 use Rattle.nt_event.specs.Step.{step}
-use Rattle.nt_core.specs.Replays.{Refused, goes_on, refused_at, replayed_from}
+use Rattle.nt_core.specs.Replays.{goes_on, refused_at, replayed_from}
 
 next_turn : (s : Script) (limit n : ℕ) (past : List Event) (list : List Turn) (t : Turn) → n < length list → t ≡ get_or list n t → replayed_from s limit n past (drop n list) ≡ goes_on n (step s limit t past) (λ e. replayed_from s limit (suc n) (e ∷ past) (drop (n + 1) list))
 next_turn s limit n past list t h i =

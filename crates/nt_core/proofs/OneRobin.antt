@@ -1,12 +1,10 @@
 -- There is one settled run of the robin rule.
 use Rattle.std.proofs.Common.{ap, arith, sym, ◌∙◌}
-use Rattle.std.specs.Prelude.{List, None, Ok, Option, Result, Some, [], length, refl, suc, true, zero, ℕ, ◌+◌, ◌∷◌, ◌≡◌}
+use Rattle.std.specs.Prelude.{List, [], length, refl, suc, true, zero, ℕ, ◌+◌, ◌∷◌, ◌≡◌}
 use Rattle.nt_event.specs.declared.events.Event.{Event}
-use Rattle.nt_event.specs.declared.events.ScheduleKind.{ScheduleKind}
-use Rattle.nt_event.specs.declared.events.Turn.{Turn}
 use Rattle.nt_event.specs.declared.scripts.Script.{Script}
 use Rattle.nt_event.specs.Robin.{IsRobin, grown, is_settled, robin, robin_grown, run_fuel}
-use Rattle.nt_event.specs.Step.{IsRun, step, turn_of}
+use Rattle.nt_event.specs.Step.{IsRun}
 use Rattle.nt_event.proofs.Settled.{robin_ends_settled}
 use Rattle.nt_core.specs.Laws.{IsWholeRobin}
 

@@ -1,7 +1,7 @@
 -- Replays are settled runs.
 use Rattle.std.proofs.Common.{ap, subst, sym, ◌∙◌}
 use Rattle.std.proofs.lemmas.List.{append-nil, append_assoc, map_push, reverse-append}
-use Rattle.std.specs.Prelude.{Bool, Err, List, Ok, Result, [], false, if◌then◌else◌, length, map, refl, reverse, suc, true, zero, ℕ, ◌++◌, ◌∷◌, ◌≡◌}
+use Rattle.std.specs.Prelude.{Bool, Err, List, Ok, Result, [], false, if◌then◌else◌, length, map, refl, reverse, suc, true, ℕ, ◌++◌, ◌∷◌, ◌≡◌}
 use Rattle.nt_event.specs.declared.events.Event.{Event}
 use Rattle.nt_event.specs.declared.events.ScheduleKind.{ScheduleKind}
 use Rattle.nt_event.specs.declared.events.ScheduleKind.TheVariants.{Unfinished}
@@ -10,7 +10,7 @@ use Rattle.nt_event.specs.declared.scripts.Script.{Script}
 use Rattle.nt_event.specs.Robin.{is_settled}
 use Rattle.nt_event.specs.Step.{IsRun, step, turn_of, turns}
 use Rattle.nt_event.proofs.Turns.{run_grows, turn_same}
-use Rattle.nt_core.specs.Replays.{Refused, goes_on, refused_at, replayed, replayed_from}
+use Rattle.nt_core.specs.Replays.{goes_on, refused_at, replayed, replayed_from}
 
 -- the turns of a history with one more event
 turns_more : (e : Event) (past : List Event) → turns (e ∷ past) ≡ turns past ++ turn_of e ∷ []

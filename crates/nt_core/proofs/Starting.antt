@@ -1,6 +1,6 @@
 -- The machine before the first event.
 use Rattle.std.proofs.Common.{ap, add-one, arith, subst, sym, ◌∙◌}
-use Rattle.std.specs.Prelude.{IsTrue, List, Some, [], length, refl, suc, zero, ℕ, ◌*◌, ◌++◌, ◌+◌, ◌<◌, ◌∷◌, ◌≡◌, ◌≤◌}
+use Rattle.std.specs.Prelude.{IsTrue, List, Some, [], refl, suc, zero, ℕ, ◌*◌, ◌++◌, ◌+◌, ◌∷◌, ◌≡◌, ◌≤◌}
 use Rattle.nt_event.specs.declared.events.Event.{Event}
 use Rattle.nt_event.specs.declared.scripts.Script.{Script}
 use Rattle.nt_event.specs.Script.{fits}

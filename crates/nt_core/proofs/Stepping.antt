@@ -1,23 +1,20 @@
 -- A turn of a processor is the step of the history, and everything follows the longer history.
-use Rattle.std.proofs.Common.{ap, arith, inl, inr, subst, sym, ◌∙◌}
+use Rattle.std.proofs.Common.{ap, arith, inl, inr, sym, ◌∙◌}
 use Rattle.std.proofs.lemmas.Bool.Decides.{nat_tests}
 use Rattle.std.proofs.lemmas.List.{get_or-set_other, get_or-set_same, length-set}
-use Rattle.std.specs.Prelude.{Bool, Err, List, None, Ok, Option, Result, Some, [], false, get_or, length, nat_lt, not, refl, set, suc, true, zero, ℕ, ◌*◌, ◌+◌, ◌<◌, ◌==◌, ◌∷◌, ◌≡◌, ◌≢◌, ◌≤◌, ◌⊎◌}
+use Rattle.std.specs.Prelude.{Bool, Err, List, Ok, Some, false, get_or, length, nat_lt, not, refl, set, true, ℕ, ◌<◌, ◌==◌, ◌∷◌, ◌≡◌, ◌≢◌, ◌≤◌, ◌⊎◌}
 use Rattle.nt_event.specs.declared.events.Event.{Event}
-use Rattle.nt_event.specs.declared.events.ScheduleKind.{ScheduleKind}
-use Rattle.nt_event.specs.declared.events.ScheduleKind.TheVariants.{BadChoice as BadChoiceKind, BadLook as BadLookKind, NoSuchCpu, NothingToDo as NothingToDoKind}
+use Rattle.nt_event.specs.declared.events.ScheduleKind.TheVariants.{BadLook as BadLookKind, NoSuchCpu, NothingToDo as NothingToDoKind}
 use Rattle.nt_event.specs.declared.events.Turn.{Turn}
 use Rattle.nt_event.specs.declared.events.Turn.TheVariants.{Look as LookTurn, Next, Switch as SwitchTurn}
-use Rattle.nt_event.specs.declared.events.What.{What}
 use Rattle.nt_event.specs.declared.events.What.TheVariants.{Look}
 use Rattle.nt_event.specs.declared.numbers.CpuNo.{CpuNo}
 use Rattle.nt_event.specs.declared.scripts.Script.{Script}
 use Rattle.nt_event.specs.Lanes.{Lanes, lanes_at}
 use Rattle.nt_event.specs.Own.{own_of}
-use Rattle.nt_event.specs.Step.{IsRun, cpu_at, event_or, is_cut, is_good_look, refused_if, step, uncut_step}
-use Rattle.nt_event.specs.Words.{cpu, table, when}
+use Rattle.nt_event.specs.Step.{IsRun, cpu_at, event_or, is_cut, refused_if, step, uncut_step}
+use Rattle.nt_event.specs.Words.{cpu, when}
 use Rattle.nt_event.proofs.Tables.{get_or-table, length-table_from, table-self}
-use Rattle.nt_event.proofs.Turns.{run_grows}
 use Rattle.nt_floor.specs.Acts.{Found}
 use Rattle.nt_floor.specs.Views.{View}
 use Rattle.nt_cpu.specs.Runs.{Follows, is_asked, state_of}

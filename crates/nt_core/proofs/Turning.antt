@@ -1,13 +1,13 @@
 -- A turn of a sound machine.
 use Rattle.std.proofs.Common.{ap, arith, set, subst, sym, ◌∙◌}
 use Rattle.std.proofs.lemmas.List.{set-get_or}
-use Rattle.std.specs.Prelude.{Err, List, Ok, Some, false, get_or, length, refl, suc, true, ℕ, ◌*◌, ◌+◌, ◌<◌, ◌∷◌, ◌≡◌, ◌≤◌}
+use Rattle.std.specs.Prelude.{Err, List, Ok, false, get_or, refl, true, ℕ, ◌<◌, ◌∷◌, ◌≡◌, ◌≤◌}
 use Rattle.nt_event.specs.declared.events.Event.{Event}
 use Rattle.nt_event.specs.declared.events.Turn.{Turn}
 use Rattle.nt_event.specs.declared.numbers.CpuNo.{CpuNo}
 use Rattle.nt_event.specs.declared.scripts.Script.{Script}
 use Rattle.nt_event.specs.Own.{own_of}
-use Rattle.nt_event.specs.Step.{IsRun, cpu_at, is_cut, step}
+use Rattle.nt_event.specs.Step.{cpu_at, is_cut, step}
 use Rattle.nt_event.proofs.Turns.{run_grows}
 use Rattle.nt_floor.specs.Acts.{Found}
 use Rattle.nt_floor.specs.Views.{IsUnmoved, View}

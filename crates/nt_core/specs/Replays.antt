@@ -1,5 +1,5 @@
 -- The history that a list of turns makes, or why there is none.
-use Rattle.std.specs.Prelude.{Bool, Err, List, Ok, Result, [], if◌then◌else◌, suc, ℕ, ◌∷◌}
+use Rattle.std.specs.Prelude.{Err, List, Ok, Result, [], if◌then◌else◌, suc, ℕ, ◌∷◌}
 use Rattle.nt_event.specs.declared.events.Event.{Event}
 use Rattle.nt_event.specs.declared.events.ScheduleKind.{ScheduleKind}
 use Rattle.nt_event.specs.declared.events.ScheduleKind.TheVariants.{Unfinished}

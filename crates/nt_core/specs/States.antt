@@ -1,5 +1,5 @@
 -- What contracts see of the pure machine.
-use Rattle.std.specs.Prelude.{List, [], ℕ, ◌∷◌}
+use Rattle.std.specs.Prelude.{List, ℕ, ◌∷◌}
 use Rattle.nt_event.specs.declared.events.Event.{Event}
 use Rattle.nt_event.specs.declared.scripts.Script.{Script}
 

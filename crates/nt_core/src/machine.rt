@@ -18,7 +18,7 @@ use std::alloc::{AllocError, Global};
 use std::marker::Model;
 
 /// A machine that runs a script by turns, with a limit on the events of each processor.
-#[derive(Drop, Debug)]
+#[derive(Drop)]
 pub struct Core<'s> {
     pub(crate) script: &'s Script,
     pub(crate) limit: u32,

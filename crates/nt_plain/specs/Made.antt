@@ -9,6 +9,7 @@ use Rattle.nt_event.specs.declared.scripts.Script.{Script}
 use Rattle.nt_event.specs.Acting.{acted_event}
 use Rattle.nt_event.specs.Lanes.{Lanes, lane_count, lanes_after, what_lanes}
 use Rattle.nt_event.specs.Requests.{Ask, what_asks}
+use Rattle.nt_floor.specs.Acts.{Found}
 use Rattle.nt_plain.specs.AllStates.{AllStates}
 use Rattle.nt_plain.specs.Given.{IsGiven}
 use Rattle.nt_plain.specs.LaneLists.{AskFits, LaneFits}
@@ -75,6 +76,10 @@ drawn f = record f { next = f.next + 1 }
 abbrev pub marked : CpuNo → ℕ → ℕ → PlainState → PlainState
 marked p c n f =
     record f { asked = raised_word (n + 1) p c f.asked; marks = marked_in f.script.cpus n p c f.marks }
+
+-- the states in which a floor makes its next event, and what the lanes tell then
+abbrev pub found_of : PlainState → Found
+found_of f = record { lanes = f.lanes; told = λ x p c. told_in f.script f.told x p c }
 
 -- what the event under lanes of a processor that stands so leaves
 abbrev pub made : Stand → What → PlainState → PlainState

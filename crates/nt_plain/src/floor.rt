@@ -1,7 +1,7 @@
 //! The floor in memory as words and as a floor.
 use crate::plain::PlainFloor;
-use nt_event::{CpuNo, Event};
-use nt_floor::Words;
+use nt_event::{CpuNo, Event, Job, Stand};
+use nt_floor::{ActRefusal, Acted, Floor, Words};
 
 impl<'s> Words for PlainFloor<'s> {
     ghost use Rattle.std.specs.Prelude.{◌≡◌, ◌<◌, ◌≤◌};
@@ -34,5 +34,29 @@ impl<'s> Words for PlainFloor<'s> {
     fn look(&mut self, p: CpuNo, class: u8) -> u64 {
         self.kept();
         self.word(p, class)
+    }
+}
+
+impl<'s> Floor for PlainFloor<'s> {
+    ghost use Rattle.std.specs.Prelude.{◌≡◌};
+    ghost use Rattle.std.proofs.Common.{◌∙◌};
+
+    ghost script = { λ x. x.script };
+
+    ghost found = { λ x n e f. Unit {0} };
+
+    ghost shows = { λ x f. Unit {0} };
+
+    ghost found_later = { λ x y n e f g h. h };
+
+    ghost script_stays = { λ x y g. g.1 };
+
+    fn act(&mut self, job: Job, stand: Stand) -> Result<Acted, ActRefusal> {
+        self.kept();
+        self.kinds();
+        match self.decide(&job, &stand) {
+            Ok(what) => Ok(self.make(&stand, &what)),
+            Err(refusal) => Err(refusal),
+        }
     }
 }

@@ -13,6 +13,8 @@ mod places;
 mod plain;
 mod requests;
 mod states;
+#[cfg(test)]
+mod tests;
 mod told;
 
 pub use plain::PlainFloor;

@@ -45,11 +45,7 @@ impl<'s> PlainFloor<'s> {
     /// A floor of the script on which nothing happened, where each processor may make this many events.
     ///
     /// The script fits, there are at most 20,000 turns, and at most 160,000 numbers in all.
-    pub fn new(
-        alloc: Global,
-        script: &'s Script,
-        turns: u32,
-    ) -> Result<PlainFloor<'s>, AllocError>
+    pub fn new(alloc: Global, script: &'s Script, turns: u32) -> Result<PlainFloor<'s>, AllocError>
         requires script { IsTrue (fits script.now) }
         requires turns { turns ≤ 20000 }
         requires limit { script.now.cpus * turns ≤ 160000 }

@@ -23,7 +23,7 @@ pub(crate) struct ToldValues {
 
 impl Model for ToldValues {
     ghost use Rattle.std.specs.List.{list_any};
-ghost use Rattle.std.specs.Prelude.{List, ℕ};
+    ghost use Rattle.std.specs.Prelude.{List, ℕ};
 
     ghost Value = { List ℕ };
 

@@ -1,4 +1,4 @@
-use Rattle.std.proofs.Common.{drop, length, ◌≡◌}
+use Rattle.std.proofs.Common.{drop, ◌≡◌}
 use Rattle.nt_core.specs.Asking.{are_marked}
 use Rattle.nt_plain.specs.States.{view_of}
 use Rattle.nt_core.proofs.asking.were_asked.Given as goal
