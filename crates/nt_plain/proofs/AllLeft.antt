@@ -8,11 +8,7 @@ use Rattle.nt_event.specs.declared.numbers.CpuNo.{CpuNo}
 use Rattle.nt_event.specs.declared.scripts.Script.{Script}
 use Rattle.nt_event.specs.Acting.{acted_event}
 use Rattle.nt_event.specs.Lanes.{lanes_after}
-<<<<<<< HEAD
 use Rattle.nt_event.specs.Timers.{timers_after}
-=======
-use Rattle.nt_event.specs.Timers.{Timers, timers_after}
->>>>>>> b9325dcefb403f2fc93dec7fcbb7602613f8329c
 use Rattle.nt_dpcs.specs.Lanes as dpcs
 use Rattle.nt_dpcs.specs.Lanes.{DpcLanes}
 use Rattle.nt_threads.specs.Fits.{MayLeave}

@@ -1,11 +1,7 @@
 -- What the event of a job says of the timers is so.
 use Rattle.std.proofs.Common.{ap, arith, sym, ◌∙◌}
 use Rattle.std.proofs.lemmas.Bool.{eq-eqb, ltb-true}
-<<<<<<< HEAD
 use Rattle.std.specs.Prelude.{IfSome, None, Option, Some, length, refl, ℕ, ◌<◌, ◌≡◌}
-=======
-use Rattle.std.specs.Prelude.{IfSome, IsTrue, None, Option, Some, length, refl, ℕ, ◌<◌, ◌≡◌}
->>>>>>> b9325dcefb403f2fc93dec7fcbb7602613f8329c
 use Rattle.nt_event.specs.declared.commands.Command.{Command}
 use Rattle.nt_event.specs.declared.commands.Command.TheVariants.{Delay, SetTimer}
 use Rattle.nt_event.specs.declared.commands.Reply.{Reply}
