@@ -12,8 +12,6 @@ mod fields;
 mod laws;
 mod printing;
 mod schedules;
-#[cfg(test)]
-mod tests;
 
 pub use fields::{put_field, put_number};
 pub use laws::texts_are_schedules;

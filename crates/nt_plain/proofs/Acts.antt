@@ -1,8 +1,7 @@
 -- What an act answers and does to the view of a floor.
-use Rattle.std.proofs.Common.{ap, arith, get_or, refl, subst, sym, ◌∙◌}
+use Rattle.std.proofs.Common.{ap, arith, refl, sym, ◌∙◌}
 use Rattle.std.proofs.lemmas.Bool.{ltb-true}
-use Rattle.std.specs.List.{list_any}
-use Rattle.std.specs.Prelude.{All, Bool, IfSome, IsTrue, List, None, Some, [], false, max, true, ℕ, ◌&&◌, ◌+◌, ◌-◌, ◌<◌, ◌^◌, ◌∷◌, ◌≡◌, ◌≤◌}
+use Rattle.std.specs.Prelude.{All, Bool, IfSome, IsTrue, List, None, Some, [], false, true, ℕ, ◌+◌, ◌-◌, ◌<◌, ◌^◌, ◌∷◌, ◌≡◌, ◌≤◌}
 use Rattle.nt_event.specs.declared.events.Event.{Event}
 use Rattle.nt_event.specs.declared.events.What.{What}
 use Rattle.nt_event.specs.declared.jobs.Job.{Job}
@@ -13,16 +12,16 @@ use Rattle.nt_event.specs.Acting.{acted_event}
 use Rattle.nt_event.specs.Frames.{due_of}
 use Rattle.nt_event.specs.Jobs.{job_event}
 use Rattle.nt_event.specs.Lanes.{what_lanes}
-use Rattle.nt_event.specs.Requests.{Ask, asks_in, is_ask, raised, what_asks}
+use Rattle.nt_event.specs.Requests.{Ask, asks_in, raised, what_asks}
 use Rattle.nt_event.specs.Script.{has_cpu}
 use Rattle.nt_event.specs.Words.{table, value_at}
 use Rattle.nt_event.proofs.Tables.{get_or-table}
 use Rattle.nt_floor.specs.declared.floor.Acted.{Acted}
 use Rattle.nt_floor.specs.Acts.{IsActed, KindsFit, Told, told_over}
-use Rattle.nt_floor.specs.Lists.{Lists, with_marks}
-use Rattle.nt_floor.specs.Views.{HasWord, IsMoved, IsUnmoved}
+use Rattle.nt_floor.specs.Lists.{with_marks}
+use Rattle.nt_floor.specs.Views.{IsMoved, IsUnmoved}
 use Rattle.nt_plain.specs.LaneLists.{AskFits, LaneFits}
-use Rattle.nt_plain.specs.Made.{IsKept, found_of, made, raised_words}
+use Rattle.nt_plain.specs.Made.{IsKept, found_of, made}
 use Rattle.nt_plain.specs.Places.{told_in, value_in}
 use Rattle.nt_plain.specs.States.{PlainState, view_of}
 use Rattle.nt_plain.proofs.Tells.{told_after_event}

@@ -1,5 +1,5 @@
 -- A row of a list, read by itself.
-use Rattle.std.proofs.Common.{ap, arith, drop, get_or, max, take, ◌∙◌}
+use Rattle.std.proofs.Common.{ap, arith, drop, get_or, max, ◌∙◌}
 use Rattle.std.proofs.lemmas.List.{get_or-drop, get_or-take}
 use Rattle.std.specs.List.{slice_range}
 use Rattle.std.specs.Prelude.{List, ℕ, ◌+◌, ◌-◌, ◌<◌, ◌≡◌}

@@ -1,5 +1,5 @@
 -- What a list of requests leaves of the told values, read by lane, processor and class.
-use Rattle.std.proofs.Common.{ap, arith, get_or, inl, inr, length, set, sym, ◌∙◌}
+use Rattle.std.proofs.Common.{ap, arith, inl, inr, length, set, sym, ◌∙◌}
 use Rattle.std.proofs.lemmas.Bool.{and_cases, and_parts, eqb-false, eqb-true, ltb-true}
 use Rattle.std.proofs.lemmas.List.{length-set}
 use Rattle.std.specs.List.{list_any}

@@ -4,9 +4,9 @@ use Rattle.std.proofs.lemmas.Bool.{cases_eq, eq-eqb, eqb-true, ne_eqb}
 use Rattle.std.specs.Prelude.{Bool, false, if◌then◌else◌, max, refl, true, ℕ, ◌&&◌, ◌+◌, ◌-◌, ◌<◌, ◌==◌, ◌||◌, ◌≡◌, ◌≤◌, ◌⊎◌}
 use Rattle.nt_event.specs.declared.events.Event.{Event}
 use Rattle.nt_event.specs.declared.numbers.CpuNo.{CpuNo}
-use Rattle.nt_event.specs.Requests.{Ask, is_ask}
-use Rattle.nt_floor.specs.Views.{HasWord, IsDrawn, IsLooked, IsMarked, SameFloor, is_word}
-use Rattle.nt_plain.specs.Made.{IsKept, drawn, marked, marked_in, raised_word}
+use Rattle.nt_event.specs.Requests.{is_ask}
+use Rattle.nt_floor.specs.Views.{HasWord, IsDrawn, IsLooked, IsMarked, is_word}
+use Rattle.nt_plain.specs.Made.{IsKept, drawn, marked}
 use Rattle.nt_plain.specs.Places.{is_marked, value_in}
 use Rattle.nt_plain.specs.States.{PlainState, view_of}
 use Rattle.nt_plain.proofs.Writes.{AskWithin, mark_one, word_one}

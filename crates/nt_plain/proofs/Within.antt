@@ -1,10 +1,10 @@
 -- Lanes and requests of the script stand within the lists of a floor.
-use Rattle.std.proofs.Common.{ap, arith, drop, length, subst, sym, ◌∙◌}
+use Rattle.std.proofs.Common.{ap, arith, drop, length, subst, ◌∙◌}
 use Rattle.std.proofs.Math.Nat.{mul-le-mul_right}
 use Rattle.std.proofs.lemmas.Bool.{ltb-true}
 use Rattle.std.proofs.lemmas.List.{drop_all, get_or-map, length-map}
 use Rattle.std.specs.List.{list_any}
-use Rattle.std.specs.Prelude.{All, Bool, List, [], get_or, if◌then◌else◌, map, max, refl, true, ℕ, ◌*◌, ◌+◌, ◌<◌, ◌^◌, ◌∷◌, ◌≡◌, ◌≤◌}
+use Rattle.std.specs.Prelude.{All, List, [], get_or, if◌then◌else◌, refl, true, ℕ, ◌*◌, ◌+◌, ◌<◌, ◌^◌, ◌∷◌, ◌≡◌, ◌≤◌}
 use Rattle.nt_event.specs.declared.events.What.{What}
 use Rattle.nt_event.specs.declared.jobs.Lane.{Lane}
 use Rattle.nt_event.specs.declared.jobs.Stand.{Stand}

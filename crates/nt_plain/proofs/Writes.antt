@@ -1,9 +1,8 @@
 -- What a list of requests leaves of the words, the marks and the told values.
 use Rattle.std.proofs.Common.{ap, arith, eqb, get_or, inl, inr, length, set, sym, w16, ◌∙◌}
-use Rattle.std.proofs.Math.Nat.{mul-le-mul_right}
 use Rattle.std.proofs.lemmas.Bool.{and_cases, and_parts, eqb-false, eqb-true}
-use Rattle.std.proofs.lemmas.List.{get_or_past, get_or-set_other, get_or-set_same, length-set}
-use Rattle.std.proofs.lemmas.Nat.Bits.{bit_at-zero, bit_at_set_other, bit_at_set_same}
+use Rattle.std.proofs.lemmas.List.{get_or-set_other, get_or-set_same, length-set}
+use Rattle.std.proofs.lemmas.Nat.Bits.{bit_at_set_other, bit_at_set_same}
 use Rattle.std.specs.Int.{bit_at}
 use Rattle.std.specs.List.{list_any}
 use Rattle.std.specs.Prelude.{All, Bool, List, [], false, if◌then◌else◌, max, refl, suc, true, ℕ, ◌&&◌, ◌*◌, ◌+◌, ◌<◌, ◌==◌, ◌||◌, ◌∷◌, ◌≡◌, ◌≤◌, ◌⊎◌}
@@ -126,12 +125,6 @@ mark_one cpus limit n a marks k q d len low fits in_range = go (k == n) refl (a.
         let at : row_of cpus n a.cpu ≡ row_of cpus k q = rw (num, cpu) refl in
         let room : row_of cpus k q < length marks = rw (len, num) (below_rows cpus limit n q.0 low in_range) in
         rw (at, get_or-set_same marks (row_of cpus k q) (with_bit a.class (get_or marks (row_of cpus k q) 0)) 0 room) (bit_after a.class d (get_or marks (row_of cpus k q) 0) fits.class (a.class == d) refl)
-
--- a number that may not be drawn has no mark
-pub no_mark : (cpus limit n : ℕ) (marks : List ℕ) (p : CpuNo) (c : ℕ) → length marks ≡ limit * cpus → limit ≤ n → false ≡ is_marked cpus marks n p c
-no_mark cpus limit n marks p c len past =
-    let rows : limit * cpus ≤ n * cpus = mul-le-mul_right cpus past in
-    rw (get_or_past marks (row_of cpus n p) 0 (omega (arith, rows, len)), bit_at-zero c) refl
 
 -- after several
 pub marks_after : (cpus limit n : ℕ) (asks : List Ask) (marks : List ℕ) (k : ℕ) (q : CpuNo) (d : ℕ) → length marks ≡ limit * cpus → n < limit → All (AskWithin cpus) asks → q.0 < cpus → is_marked cpus (marked_all cpus n asks marks) k q d ≡ (is_marked cpus marks k q d || ((k == n) && list_any (is_ask q d) asks))

@@ -7,7 +7,7 @@ use Rattle.nt_event.specs.declared.jobs.Stand.{Stand}
 use Rattle.nt_event.specs.declared.numbers.CpuNo.{CpuNo}
 use Rattle.nt_event.specs.declared.scripts.Script.{Script}
 use Rattle.nt_event.specs.Acting.{acted_event}
-use Rattle.nt_event.specs.Lanes.{Lanes, lane_count, lanes_after, what_lanes}
+use Rattle.nt_event.specs.Lanes.{lane_count, lanes_after, what_lanes}
 use Rattle.nt_event.specs.Requests.{Ask, what_asks}
 use Rattle.nt_floor.specs.Acts.{Found}
 use Rattle.nt_plain.specs.AllStates.{AllStates}

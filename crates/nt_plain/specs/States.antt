@@ -1,5 +1,5 @@
 -- What contracts see of a floor in memory.
-use Rattle.std.specs.Prelude.{Bool, List, None, Some, [], false, true, ℕ, ◌*◌, ◌-◌, ◌≡◌}
+use Rattle.std.specs.Prelude.{List, None, Some, [], false, true, ℕ, ◌*◌, ◌-◌, ◌≡◌}
 use Rattle.nt_event.specs.declared.jobs.Lane.{Lane}
 use Rattle.nt_event.specs.declared.numbers.CpuNo.{CpuNo}
 use Rattle.nt_event.specs.declared.scripts.Script.{Script}

@@ -1,5 +1,5 @@
 //! The floor in memory, and the calls on its parts.
-ghost use Rattle.std.specs.Prelude.{◌≡◌, ◌*◌, ◌+◌, ◌<◌, ◌≤◌, ◌^◌, All, IfErr, IfOk, IfSome, IsErrOf, IsTrue, false, ◌↔◌};
+ghost use Rattle.std.specs.Prelude.{◌≡◌, ◌*◌, ◌+◌, ◌<◌, ◌≤◌, IfOk, IsTrue, false, ◌↔◌};
 ghost use Rattle.nt_event.specs.Jobs.{next_ready};
 ghost use Rattle.nt_event.specs.Lanes as lanes;
 ghost use Rattle.nt_event.specs.Script.{fits};

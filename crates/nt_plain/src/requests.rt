@@ -1,5 +1,5 @@
 //! The request words: for each processor and class the greatest request so far.
-ghost use Rattle.std.specs.Prelude.{◌≡◌, ◌+◌, ◌*◌, ◌<◌, ◌≤◌, ◌^◌, All, IfOk, length, replicate};
+ghost use Rattle.std.specs.Prelude.{◌≡◌, ◌+◌, ◌*◌, ◌<◌, All, IfOk, length, replicate};
 ghost use Rattle.nt_plain.specs.LaneLists.{as_asks};
 ghost use Rattle.nt_plain.specs.Made.{raised_word, raised_words};
 ghost use Rattle.nt_plain.specs.Places.{value_in, word_place};

@@ -1,4 +1,4 @@
-use Rattle.std.proofs.Common.{subst, sym, ◌<◌, ◌≡◌}
+use Rattle.std.proofs.Common.{subst, sym, ◌≡◌}
 use Rattle.std.proofs.lemmas.Bool.{ltb-true}
 use Rattle.nt_event.specs.Lanes.{what_lanes}
 use Rattle.nt_event.specs.Requests.{asks_in, raised}

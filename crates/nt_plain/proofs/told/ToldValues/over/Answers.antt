@@ -1,5 +1,3 @@
-use Rattle.std.proofs.Common.{max}
-use Rattle.nt_event.specs.Words.{table, value_at}
 use Rattle.nt_floor.specs.Acts.{told_over}
 use Rattle.nt_event.proofs.Tables.{is_table}
 use Rattle.nt_plain.specs.Places.{row_value}
