@@ -74,6 +74,7 @@ impl<'s> Core<'s> {
     /// A machine of the script with an empty history, where each processor may make this many events. All memory is taken here.
     ///
     /// The script fits, and `turns` is 1 to 20,000 and at most 160,000 in all processors together.
+    #[tactic(auto, using(crate::proofs::Starting::start_sound))]
     pub fn new(alloc: Global, script: &'s Script, turns: u32) -> Result<Core<'s>, AllocError>
         requires script { IsTrue (fits script.now) }
         requires turns { (1 ≤ turns) × (turns ≤ 20000) }
