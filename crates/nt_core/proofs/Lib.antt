@@ -8,3 +8,5 @@ pub mod Starting
 pub mod Holding
 pub mod Turning
 pub mod Listing
+pub mod Newest
+pub mod Ending
