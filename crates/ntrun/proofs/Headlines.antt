@@ -1,5 +1,6 @@
 -- The headline for `run`, from what the call answered and the laws of runs.
 use Rattle.std.proofs.Common.{subst, sym}
+use Rattle.std.specs.Io.KnownBytes.{append_known}
 use Rattle.std.specs.List.{Contains}
 use Rattle.std.specs.Prelude.{Bool, List, Some, [], false, nat_lt, refl, reverse, true, ℕ, ◌∷◌, ◌≡◌}
 use Rattle.nt_event.specs.declared.events.Event.{Event}

@@ -1,5 +1,6 @@
 -- The events of a run of a script that fits name things of the script, so its history has a report.
 use Rattle.std.proofs.Common.{ap, sym, ◌∙◌}
+use Rattle.std.proofs.lemmas.List.{reverse-append}
 use Rattle.std.proofs.lemmas.List.Folds.{list_all-append}
 use Rattle.std.specs.List.{list_all}
 use Rattle.std.specs.Prelude.{Bool, List, [], false, refl, reverse, true, ℕ, ◌&&◌, ◌∷◌, ◌≡◌}
@@ -20,7 +21,7 @@ use Rattle.nt_print.specs.Fitting.{event_fits, events_fit, what_fits}
 all_reversed : {X : Type 0} (p : X → Bool) (xs : List X) → list_all p (reverse xs) ≡ list_all p xs
 all_reversed p [] = refl
 all_reversed p (x ∷ xs) =
-    ap (list_all p) (reverse-cons x xs) ∙ (list_all-append p (reverse xs) (x ∷ []) ∙ swapped (p x) (list_all p (reverse xs)) (list_all p xs) (all_reversed p xs))
+    ap (list_all p) (reverse-append (x ∷ []) xs) ∙ (list_all-append p (reverse xs) (x ∷ []) ∙ swapped (p x) (list_all p (reverse xs)) (list_all p xs) (all_reversed p xs))
   where
     swapped : (a b c : Bool) → b ≡ c → (b && (a && true)) ≡ (a && c)
     swapped true true c h = h
