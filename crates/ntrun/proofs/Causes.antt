@@ -8,8 +8,7 @@ use Rattle.nt_outside.specs.Counts.{Rose, counted, last_count}
 use Rattle.nt_text.specs.declared.kind.ScriptKind.{ScriptKind}
 use Rattle.ntrun.specs.declared.status.Status.{Status}
 use Rattle.ntrun.specs.declared.status.Status.TheVariants as exit
-use Rattle.ntrun.specs.Outcome.{Supply, Store, Gave, IsSupplied, IsFound, IsWritten, IsAnswered, HasCause, IsRun, refusal, refusal_of, input_limit}
-use Rattle.ntrun.specs.Unbuilt.{first_unbuilt}
+use Rattle.ntrun.specs.Outcome.{Supply, Store, Gave, IsSupplied, IsFound, IsWritten, IsAnswered, HasCause, IsReportFor, refusal, refusal_of, input_limit}
 use Rattle.nt_script.specs.declared.walk.Input.{Input}
 use Rattle.ntrun.specs.Words.{IsForm}
 
@@ -80,8 +79,8 @@ Which bytes exit.TooLong = input_limit < length bytes
 Which bytes exit.Memory = Unit {0}
 Which bytes _ = ⊥
 
-run_refuses_none : (bytes text : List ℕ) → IsRun bytes text → refusal bytes ≡ None
-run_refuses_none bytes text r = ap (λ (x : Result Input (ℕ × ScriptKind)). refusal_of x (first_unbuilt bytes)) r.read ∙ ap (λ (o : Option ℕ). refusal_of (Ok r.input) o) r.built
+run_refuses_none : (bytes text : List ℕ) → IsReportFor bytes text → refusal bytes ≡ None
+run_refuses_none bytes text r = ap refusal_of r.read
 
 gave_told : (bytes told : List ℕ) (so sn : Supply) → Gave bytes so sn → IsSupplied told so sn → bytes ≡ told
 gave_told bytes told so sn g s = same_bytes bytes told so.left sn.left s.left g.left g.end

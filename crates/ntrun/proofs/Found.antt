@@ -1,13 +1,11 @@
 -- What is found in the bytes of an input, from what each part of the call answers.
 use Rattle.std.proofs.Common.{◌≡◌, ◌∙◌, ℕ, List, Option, Some, None, Result, Ok, Err, ap}
 use Rattle.nt_text.specs.declared.kind.ScriptKind.{ScriptKind}
-use Rattle.nt_text.specs.declared.kind.ScriptKind.TheVariants.{UnknownWord}
 use Rattle.nt_script.specs.declared.walk.Input.{Input}
 use Rattle.nt_script.specs.Reading.{reading}
 use Rattle.ntrun.specs.declared.status.Status.{Status}
 use Rattle.ntrun.specs.declared.status.Status.TheVariants as exit
 use Rattle.ntrun.specs.Outcome.{refusal, refusal_of, IsRefused, IsReported, IsFoundIn}
-use Rattle.ntrun.specs.Unbuilt.{first_unbuilt}
 
 pub refused_in : (bytes : List ℕ) (line : ℕ) (kind : ScriptKind) (status : Status) (text : List ℕ) → refusal bytes ≡ Some (line, kind) → IsRefused line kind status text → IsFoundIn bytes status text
 refused_in bytes line kind exit.Ok text r h = absurd h
@@ -20,21 +18,17 @@ refused_in bytes line kind exit.Memory text r h = h
 refused_in bytes line kind exit.TooLong text r h = absurd h
 refused_in bytes line kind exit.Illegal text r h = absurd h
 
-pub reported_in : (bytes : List ℕ) (input : Input) (status : Status) (text : List ℕ) → reading bytes ≡ Ok input → first_unbuilt bytes ≡ None → IsReported input status text → IsFoundIn bytes status text
-reported_in bytes input exit.Ok text read built h = record { input = input; read = read; built = built; report = h }
-reported_in bytes input exit.Usage text read built h = absurd h
-reported_in bytes input exit.Script text read built h = absurd h
-reported_in bytes input exit.Schedule text read built h = absurd h
-reported_in bytes input exit.Read text read built h = absurd h
-reported_in bytes input exit.Write text read built h = absurd h
-reported_in bytes input exit.Memory text read built h = h
-reported_in bytes input exit.TooLong text read built h = absurd h
-reported_in bytes input exit.Illegal text read built h = absurd h
-
--- the line that a later stage builds is refused, where the reader refuses none
-pub unbuilt_refused : (bytes : List ℕ) (input : Input) (line : ℕ) → reading bytes ≡ Ok input → first_unbuilt bytes ≡ Some line → refusal bytes ≡ Some (line, UnknownWord)
-unbuilt_refused bytes input line read unbuilt = ap (λ (r : Result Input (ℕ × ScriptKind)). refusal_of r (first_unbuilt bytes)) read ∙ ap (λ (o : Option ℕ). refusal_of (Ok input) o) unbuilt
+pub reported_in : (bytes : List ℕ) (input : Input) (status : Status) (text : List ℕ) → reading bytes ≡ Ok input → IsReported input status text → IsFoundIn bytes status text
+reported_in bytes input exit.Ok text read h = record { input = input; read = read; report = h }
+reported_in bytes input exit.Usage text read h = absurd h
+reported_in bytes input exit.Script text read h = absurd h
+reported_in bytes input exit.Schedule text read h = absurd h
+reported_in bytes input exit.Read text read h = absurd h
+reported_in bytes input exit.Write text read h = absurd h
+reported_in bytes input exit.Memory text read h = h
+reported_in bytes input exit.TooLong text read h = absurd h
+reported_in bytes input exit.Illegal text read h = absurd h
 
 -- the line that the reader refuses
 pub bad_refused : (bytes : List ℕ) (line : ℕ) (kind : ScriptKind) → reading bytes ≡ Err (line, kind) → refusal bytes ≡ Some (line, kind)
-bad_refused bytes line kind read = ap (λ (r : Result Input (ℕ × ScriptKind)). refusal_of r (first_unbuilt bytes)) read
+bad_refused bytes line kind read = ap refusal_of read

@@ -1,5 +1,6 @@
-mod Lists
 mod OneWord
 mod Found
 mod Written
 mod Causes
+mod Plain
+mod Headlines

@@ -1,6 +1,5 @@
-pub mod Machine
 pub mod Status
 pub mod Words
-pub mod Unbuilt
 pub mod Outcome
+pub mod Headline
 pub mod Answer

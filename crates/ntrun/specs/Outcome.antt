@@ -1,19 +1,20 @@
 -- What a call of the program finds out, what it writes, and when each status comes.
-use Rattle.std.specs.Prelude.{◌≡◌, ◌≢◌, ℕ, ◌+◌, ◌<◌, ◌≤◌, true, IsSome, List, [], ◌∷◌, ◌++◌, length, Option, Some, None, Result, Ok, Err, codes, decimal}
+use Rattle.std.specs.Prelude.{◌≡◌, ◌≢◌, ℕ, ◌+◌, ◌<◌, ◌≤◌, true, IsSome, List, [], ◌∷◌, ◌++◌, length, Option, Some, None, Result, Ok, Err, codes, decimal, reverse}
 use Rattle.std.specs.Io.KnownBytes.{append_known, prepend_known, IsAtEnd}
 use Rattle.nt_outside.specs.Bytes.{IsLonger, AddsFrontOf}
 use Rattle.nt_outside.specs.Counts.{counted, Rose, RoseBy}
 use Rattle.nt_text.specs.declared.kind.ScriptKind.{ScriptKind}
-use Rattle.nt_text.specs.declared.kind.ScriptKind.TheVariants.{UnknownWord, TooMany}
+use Rattle.nt_text.specs.declared.kind.ScriptKind.TheVariants.{TooMany}
 use Rattle.nt_text.specs.Kinds.{kind_number, kind_name, thing_name}
 use Rattle.nt_event.specs.declared.events.History.{History}
+use Rattle.nt_event.specs.declared.scripts.Script.{Script}
+use Rattle.nt_event.specs.Robin.{IsRobin, is_settled}
+use Rattle.nt_event.specs.Step.{IsRun}
 use Rattle.nt_script.specs.declared.walk.Input.{Input}
 use Rattle.nt_script.specs.Reading.{reading}
 use Rattle.ntrun.specs.declared.status.Status.{Status}
 use Rattle.ntrun.specs.declared.status.Status.TheVariants as exit
-use Rattle.nt_print.specs.Fitting.{events_fit}
 use Rattle.nt_print.specs.Report.{report_text}
-use Rattle.ntrun.specs.Unbuilt.{first_unbuilt}
 use Rattle.ntrun.specs.Words.{IsForm}
 
 -- ---- the outside, as a call finds or leaves it
@@ -74,28 +75,31 @@ script_line line kind = codes "script line " ++ (decimal line ++ (codes ": " ++ 
 
 -- ---- what is found
 
--- the line that is refused and why: the reader's, else the least one that a later stage builds
-abbrev pub refusal_of : Result Input (ℕ × ScriptKind) → Option ℕ → Option (ℕ × ScriptKind)
-refusal_of (Err bad) unbuilt = Some bad
-refusal_of (Ok input) (Some line) = Some (line, UnknownWord)
-refusal_of (Ok input) None = None
+-- the line that the reader refuses, and why
+abbrev pub refusal_of : Result Input (ℕ × ScriptKind) → Option (ℕ × ScriptKind)
+refusal_of (Err bad) = Some bad
+refusal_of (Ok input) = None
 
 abbrev pub refusal : List ℕ → Option (ℕ × ScriptKind)
-refusal bytes = refusal_of (reading bytes) (first_unbuilt bytes)
+refusal bytes = refusal_of (reading bytes)
 
--- the text is the report of a history of the input's script
+-- the history is the run of the script by the robin rule, to its end
+pub record IsRobinRun (s : Script) (h : History) : Type 0 where
+  pub turns : h.turns ≡ turn_limit
+  pub run : IsRun s turn_limit (reverse h.events)
+  pub robin : IsRobin s turn_limit (reverse h.events)
+  pub settled : is_settled s turn_limit (reverse h.events) ≡ true
+
+-- the text is the report of the robin run of the input's script
 pub record IsReport (input : Input) (text : List ℕ) : Type 0 where
   pub history : History
-  pub turns : history.turns ≡ turn_limit
-  pub few : length history.events ≤ turn_limit
-  pub fits : events_fit input.script history.events ≡ true
+  pub run : IsRobinRun input.script history
   pub is : text ≡ report_text input history
 
--- the bytes are a script that the machine runs, and the text is such a report
-pub record IsRun (bytes text : List ℕ) : Type 0 where
+-- the bytes are a script, and the text is the report of its robin run
+pub record IsReportFor (bytes text : List ℕ) : Type 0 where
   pub input : Input
   pub read : reading bytes ≡ Ok input
-  pub built : first_unbuilt bytes ≡ None
   pub report : IsReport input text
 
 -- the bytes are refused at this line, or the text is that of want of memory
@@ -111,7 +115,7 @@ IsReported input _ text = ⊥
 
 -- what is found in the bytes of an input, and its text
 abbrev pub IsFoundIn : List ℕ → Status → List ℕ → Type 0
-IsFoundIn bytes exit.Ok text = IsRun bytes text
+IsFoundIn bytes exit.Ok text = IsReportFor bytes text
 IsFoundIn bytes exit.Script text = (line : ℕ) × ((kind : ScriptKind) × (refusal bytes ≡ Some (line, kind)) × (text ≡ script_line line kind))
 IsFoundIn bytes exit.Memory text = text ≡ memory_line
 IsFoundIn bytes _ text = ⊥

@@ -6,9 +6,8 @@ ghost use Rattle.nt_script.specs.Reading.{reading};
 ghost use Rattle.ntrun.specs.Answer.{text_of};
 ghost use Rattle.ntrun.specs.Outcome.{refusal, kind_text, script_line, memory_line, IsReport, IsRefused, IsReported, IsFoundIn};
 
-use crate::machine::run;
 use crate::status::Status;
-use crate::unbuilt::first_unbuilt;
+use nt_core::run;
 use nt_print::report;
 use nt_script::{Input, ScriptKind, ScriptRefusal, read};
 use std::alloc::{AllocError, Global};
@@ -86,7 +85,7 @@ fn refused(alloc: Global, line: u32, kind: ScriptKind) -> Answer
     }
 }
 
-/// The report of the input's run.
+/// The report of the input's run by the robin rule.
 fn run_report(alloc: Global, input: &Input) -> Result<Vec<u8>, AllocError>
     requires { IsSound input.now }
     ensures { IfOk result (λ text. IsReport input.now text.items) }
@@ -95,7 +94,7 @@ fn run_report(alloc: Global, input: &Input) -> Result<Vec<u8>, AllocError>
     report(alloc, input, &history)
 }
 
-/// What is answered where the bytes are a script of this stage.
+/// What is answered where the bytes are a script.
 fn reported(alloc: Global, input: &Input) -> Answer
     requires { IsSound input.now }
     ensures { IsReported input.now result.status (text_of result.text) }
@@ -115,10 +114,7 @@ pub(crate) fn find_in(alloc: Global, bytes: &[u8]) -> Answer
     ensures { IsFoundIn bytes.now result.status (text_of result.text) }
 {
     match read(alloc, bytes) {
-        Ok(input) => match first_unbuilt(bytes) {
-            Some(line) => refused(alloc, line, ScriptKind::UnknownWord),
-            None => reported(alloc, &input),
-        },
+        Ok(input) => reported(alloc, &input),
         Err(ScriptRefusal::Bad { line, kind }) => refused(alloc, line, kind),
         Err(ScriptRefusal::NoMemory) => no_memory(),
     }

@@ -1,26 +1,23 @@
 //! `ntrun` decides, as the Windows NT kernel on x64 does, when deferred work may run.
 //!
-//! `ntrun run` reads a script of driver calls from standard input, runs it, and writes a report of every step to standard
-//! output. In this stage a script has one processor, at most one thread, DPC objects, and routines with the commands `raise`,
-//! `lower`, `queue` and `note`; a line of a later stage is refused.
+//! `ntrun run` reads a script of driver calls and interrupts for one to eight processors from standard input, runs it in a fixed
+//! order, and writes a report of every step and delivery to standard output, with the schedule taken.
 //!
 //! [`ntrun`] is the whole program over a source, a sink and a gate; `main` gives it the standard streams. The bytes of the
-//! source are read whole and are a script (`nt_script`), the private `machine` makes its run, a history of events, `nt_print`
-//! makes the text of the history, and that is written. `specs/Outcome.antt` says when each status comes and what is written.
+//! source are read whole and are a script (`nt_script`), `nt_core` makes its run by the robin rule, a history of events,
+//! `nt_print` makes the text of the history, and that is written. `specs/Outcome.antt` says when each status comes and what is
+//! written, and `specs/Headline.antt` what that promises.
 #![tactic(auto)]
 
 mod answer;
-mod frame;
-mod machine;
-mod queue;
+mod headline;
 mod status;
 mod top;
-mod unbuilt;
 mod words;
 
+pub use headline::the_report_is_that_of_the_robin_run;
 pub use status::Status;
 pub use top::{ntrun, plain};
-pub use unbuilt::first_unbuilt;
 pub use words::is_live;
 
 #[cfg(test)]

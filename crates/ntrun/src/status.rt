@@ -9,7 +9,7 @@ pub enum Status {
     Ok,
     /// The words are no form of the command line.
     Usage,
-    /// The script has no reading, or a word that is not built yet.
+    /// The script has no reading.
     Script,
     /// The schedule's turns make no settled run.
     Schedule,

@@ -1,27 +1,15 @@
 //! The worked rows over sources and sinks in memory.
-use crate::{Status, first_unbuilt, is_live, ntrun, plain};
+mod rows;
+
+use crate::{Status, is_live, ntrun, plain};
 use nt_outside::{MemorySink, MemorySource, OpenGate};
+use rows::ROWS;
 use std::alloc::Global;
 use std::test::Fail;
 
 /// A thread raises the level, inserts a DPC object and lowers the level, and the DPC runs before the thread goes on.
 const RAISE_QUEUE_LOWER: &str =
     "cpus 1\ndpc d work\nthread main 0 body\nroutine work\nnote 7\nexit\nroutine body\nraise 2\nqueue d\nlower 0\nexit\n";
-
-const RAISE_QUEUE_LOWER_REPORT: &str =
-    "report\n0 p0 main 0 switch main\n1 p0 main 2 call 0 raise 2 -> done\n2 p0 main 2 call 0 queue d -> yes\n3 p0 main 0 call 0 lower 0 -> done\n4 p0 main 2 begin dpc d of 2\n5 p0 main 2 call 4 note 7 -> done\n6 p0 main 0 end 4\n7 p0 main 0 clean 2\n8 p0 main 0 end 0\n9 p0 main 0 gone main\n10 p0 - 0 rest\nschedule 10000\nswitch 0 main\nnext 0\nnext 0\nnext 0\nnext 0\nnext 0\nnext 0\nnext 0\nnext 0\nnext 0\nnext 0\ndone\n";
-
-const REFUSED_LEVELS: &str =
-    "cpus 1\nthread main 0 body\nroutine body\nraise 2\nraise 1\nlower 3\nexit\nroutine q\nexit\n";
-
-const REFUSED_LEVELS_REPORT: &str =
-    "report\n0 p0 main 0 switch main\n1 p0 main 2 call 0 raise 2 -> done\n2 p0 main 2 call 0 raise 1 -> refused 5 NotGreater\n3 p0 main 2 call 0 lower 3 -> refused 6 NotLess\n4 p0 main 0 end 0\n5 p0 main 0 gone main\n6 p0 - 0 rest\nschedule 10000\nswitch 0 main\nnext 0\nnext 0\nnext 0\nnext 0\nnext 0\nnext 0\ndone\n";
-
-const LOWER_BELOW_BASE: &str =
-    "cpus 1\ndpc d work\nthread main 0 body\nroutine work\nlower 1\nexit\nroutine body\nraise 2\nqueue d\nlower 0\nexit\n";
-
-const LOWER_BELOW_BASE_REPORT: &str =
-    "report\n0 p0 main 0 switch main\n1 p0 main 2 call 0 raise 2 -> done\n2 p0 main 2 call 0 queue d -> yes\n3 p0 main 0 call 0 lower 0 -> done\n4 p0 main 2 begin dpc d of 2\n5 p0 main 2 call 4 lower 1 -> refused 7 BelowBase\n6 p0 main 0 end 4\n7 p0 main 0 clean 2\n8 p0 main 0 end 0\n9 p0 main 0 gone main\n10 p0 - 0 rest\nschedule 10000\nswitch 0 main\nnext 0\nnext 0\nnext 0\nnext 0\nnext 0\nnext 0\nnext 0\nnext 0\nnext 0\nnext 0\ndone\n";
 
 /// A DPC that inserts itself again and again.
 const SELF_QUEUING: &str =
@@ -47,21 +35,33 @@ fn program(
     Ok((status, written))
 }
 
+/// The bytes that a row stands for.
+fn unfolded(alloc: Global, row: &str) -> Result<Vec<u8>, Fail> {
+    let mut text = Vec::new(alloc);
+    for byte in row.as_bytes() {
+        text.push(match *byte {
+            b'/' => b'\n',
+            b'~' => b'\t',
+            other => other,
+        })?;
+    }
+    Ok(text)
+}
+
+/// A row whose text is no report is that of a refused script.
 #[test]
-fn reports_are_written_byte_for_byte(rt: HostRuntime) -> Result<(), Fail> {
-    let rows = [
-        (RAISE_QUEUE_LOWER, RAISE_QUEUE_LOWER_REPORT),
-        (REFUSED_LEVELS, REFUSED_LEVELS_REPORT),
-        (LOWER_BELOW_BASE, LOWER_BELOW_BASE_REPORT),
-        (
-            "cpus 1\n",
-            "report\n0 p0 - 0 rest\nschedule 10000\nnext 0\ndone\n",
-        ),
-    ];
-    for (script, report) in rows {
-        let (status, written) = program(rt.alloc(), &["run"], script.as_bytes(), &[], 65536, &[])?;
-        assert_eq!(rt; status, Status::Ok, "on {script}");
-        assert_eq!(rt; written.as_slice(), report.as_bytes(), "on {script}");
+fn worked_rows_are_written_byte_for_byte(rt: HostRuntime) -> Result<(), Fail> {
+    for row in &ROWS {
+        let script = unfolded(rt.alloc(), row.script)?;
+        let text = unfolded(rt.alloc(), row.text)?;
+        let (status, written) = program(rt.alloc(), &["run"], script.as_slice(), &[], 65536, &[])?;
+        let wanted = if row.text.starts_with("report/") {
+            Status::Ok
+        } else {
+            Status::Script
+        };
+        assert_eq!(rt; status, wanted, "on {}", row.name);
+        assert_eq!(rt; written.as_slice(), text.as_slice(), "on {}", row.name);
     }
     Ok(())
 }
@@ -141,57 +141,6 @@ fn faults_of_source_and_sink(rt: HostRuntime) -> Result<(), Fail> {
         assert_eq!(rt; found.0, status);
         assert_eq!(rt; found.1.as_slice(), text.as_bytes());
     }
-    Ok(())
-}
-
-#[test]
-fn scripts_are_refused(rt: HostRuntime) -> Result<(), Fail> {
-    let rows = [
-        ("", "script line 1: 9 NoCpus\n"),
-        ("cpus 9\n", "script line 1: 10 TooMany cpus\n"),
-        (
-            "cpus 1\nroutine a\nraise 02\nexit\n",
-            "script line 3: 5 BadNumber\n",
-        ),
-        ("cpus 1\nroutine a\nraise 2", "script line 3: 11 NoEnd\n"),
-        // What a later stage builds.
-        ("cpus 2\n", "script line 1: 2 UnknownWord\n"),
-        ("cpus 1\ndepth 4\n", "script line 2: 2 UnknownWord\n"),
-        ("cpus 1\nthreaded off\n", "script line 2: 2 UnknownWord\n"),
-        (
-            "cpus 1\nisr 0 5 r\nroutine r\nexit\n",
-            "script line 2: 2 UnknownWord\n",
-        ),
-        (
-            "cpus 1\ndpc e r\ntdpc d r\nroutine r\nexit\n",
-            "script line 3: 2 UnknownWord\n",
-        ),
-        ("cpus 1\ntimer t -\n", "script line 2: 2 UnknownWord\n"),
-        (
-            "cpus 1\nthread a 0 r\nthread b 0 r\nroutine r\nexit\n",
-            "script line 3: 2 UnknownWord\n",
-        ),
-        (
-            "cpus 1\nthread a 0 r\nspecial s a r\nroutine r\nexit\n",
-            "script line 3: 2 UnknownWord\n",
-        ),
-        (
-            "cpus 1\nroutine r\nnote 1\nyield\nclock 1\nexit\n",
-            "script line 4: 2 UnknownWord\n",
-        ),
-        // The reader's refusal comes first, wherever its line stands.
-        (
-            "cpus 2\nroutine r\njump\nexit\n",
-            "script line 3: 2 UnknownWord\n",
-        ),
-    ];
-    for (script, line) in rows {
-        let (status, written) = program(rt.alloc(), &["run"], script.as_bytes(), &[], 65536, &[])?;
-        assert_eq!(rt; status, Status::Script, "on {script}");
-        assert_eq!(rt; written.as_slice(), line.as_bytes(), "on {script}");
-    }
-    assert_eq!(rt; first_unbuilt(RAISE_QUEUE_LOWER.as_bytes()), None);
-    assert_eq!(rt; first_unbuilt(b"cpus 1\nroutine r\nunqueue d\n"), Some(3));
     Ok(())
 }
 

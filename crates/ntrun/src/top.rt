@@ -59,9 +59,9 @@ pub(crate) fn starved<K: Sink>(sink: &mut K) -> Status
 /// The program for all words that are no live form: `words` are those behind the program's name. It waits for nobody and returns.
 ///
 /// In this order: `Usage` exactly where the words are no form, and then nothing is read; `Read` only where the source's count of
-/// faults rose; `TooLong` exactly where more than 33,554,432 bytes were taken; `Script` exactly where the reader refuses a line,
-/// or, where it refuses none, a later stage builds one; else `Ok` and the report of a history of the script. Want of memory,
-/// `Memory`, may come at any place behind the first. The text or line of the status is written whole by one `write_all`; where
+/// faults rose; `TooLong` exactly where more than 33,554,432 bytes were taken; `Script` exactly where the reader refuses a line;
+/// else `Ok` and the report of the script's run by the robin rule. Want of memory, `Memory`, may come at any place behind the
+/// first. The text or line of the status is written whole by one `write_all`; where
 /// that fails, `Write`, and a front part of it stands.
 pub fn plain<S: Source, K: Sink>(
     alloc: Global,

@@ -1,0 +1,13 @@
+use Rattle.std.proofs.Common.{ap, arith, ◌∙◌}
+use Rattle.std.specs.Prelude.{List}
+use Rattle.nt_event.specs.Robin.{look_value}
+use Rattle.nt_event.specs.Words.{value_at}
+use Rattle.nt_event.proofs.Tables.{is_table}
+use Rattle.nt_plain.specs.States.{view_of}
+use Rattle.std.specs.Prelude.{if◌then◌else◌, nat_lt}
+use Rattle.nt_core.proofs.robins.look_values.Goals as goal
+
+pub returns : goal.returns
+returns c =
+    let asked = (view_of c.args.floor.now).value c.args.p in
+    is_table c.loop-class.value 16 (look_value c.args.cpu.now.own asked) c.loop-class.invariant.len (λ k h. c.loop-class.invariant.low k (omega arith) ∙ ap (λ (xs : List _). if nat_lt (value_at xs k) (asked k) then asked k else 0) c.seen-seen.ensures)

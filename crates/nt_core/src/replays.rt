@@ -1,0 +1,55 @@
+//! Replays of lists of turns.
+ghost use Rattle.std.specs.Prelude.{◌≡◌, ◌≤◌, ◌*◌, IfErr, IfOk, IsTrue, Ok, length, reverse};
+ghost use Rattle.nt_event.specs.Script.{fits};
+ghost use Rattle.nt_core.specs.Refusals.{IsReplayRefused};
+ghost use Rattle.nt_core.specs.Replays.{replayed};
+ghost use Rattle.nt_core.specs.declared.refusals.ScheduleRefusal.{ScheduleRefusal};
+
+use crate::machine::Core;
+use crate::refusals::ScheduleRefusal;
+use nt_event::{History, ScheduleKind, Script, Turn};
+use std::alloc::Global;
+
+impl<'s> Core<'s> {
+    /// The refusal of the next turn, or of the end.
+    fn bad(&self, kind: ScheduleKind) -> ScheduleRefusal
+        ensures { result ≡ ScheduleRefusal.Bad (length self.now.past) kind }
+    {
+        ScheduleRefusal::Bad {
+            at: self.events.len() as u32,
+            kind,
+        }
+    }
+}
+
+/// The run that a list of turns stands for, where each processor may make this many events.
+///
+/// The script fits, and `turns` is 1 to 20,000 and at most 160,000 in all processors together. The first turn that is refused is told
+/// with its place, from 0, and its kind; Unfinished comes where all turns were taken and the history isn't settled, with their number.
+pub fn replay(
+    alloc: Global,
+    script: &Script,
+    turns: u32,
+    list: &[Turn],
+) -> Result<History, ScheduleRefusal>
+    requires script { IsTrue (fits script.now) }
+    requires turns { (1 ≤ turns) × (turns ≤ 20000) }
+    requires all { script.now.cpus * turns ≤ 160000 }
+    ensures turns { IfOk result (λ h. h.turns ≡ turns) }
+    ensures ok { IfOk result (λ h. replayed script.now turns list.now ≡ Ok (reverse h.events)) }
+    ensures err { IfErr result (λ r. IsReplayRefused script.now turns list.now r) }
+{
+    let mut core = match Core::new(alloc, script, turns) {
+        Ok(core) => core,
+        Err(_) => return Err(ScheduleRefusal::NoMemory),
+    };
+    for turn in list {
+        if let Err(refusal) = core.turn(*turn) {
+            return Err(core.bad(refusal.kind()));
+        }
+    }
+    if !core.settled() {
+        return Err(core.bad(ScheduleKind::Unfinished));
+    }
+    Ok(core.finish())
+}

@@ -1,0 +1,46 @@
+//! The run of the robin rule.
+ghost use Rattle.std.specs.Prelude.{◌≡◌, ◌≤◌, ◌*◌, IfOk, IsTrue, Some, reverse, true};
+ghost use Rattle.nt_event.specs.Robin.{IsRobin, is_settled, robin as robin_in};
+ghost use Rattle.nt_event.specs.Script.{fits};
+ghost use Rattle.nt_event.specs.Step.{IsRun, turn_of};
+ghost use Rattle.nt_core.specs.States.{with_event};
+
+use crate::machine::Core;
+use nt_event::{Event, History, Script, Turn};
+use std::alloc::{AllocError, Global};
+
+impl<'s> Core<'s> {
+    /// Takes the turn of the robin rule.
+    fn follow(&mut self, turn: Turn) -> Event
+        requires { robin_in self.old.script self.old.limit self.old.past ≡ Some turn }
+        ensures turn { turn_of result ≡ turn }
+        ensures event { self.new ≡ with_event result self.old }
+    {
+        self.is_run();
+        match self.turn(turn) {
+            Ok(event) => event,
+            Err(_) => unreachable!(),
+        }
+    }
+}
+
+/// The run of the script by the robin rule, to its end, where each processor may make this many events.
+///
+/// The script fits, and `turns` is 1 to 20,000 and at most 160,000 in all processors together. Memory is taken before the first event.
+pub fn run(alloc: Global, script: &Script, turns: u32) -> Result<History, AllocError>
+    requires script { IsTrue (fits script.now) }
+    requires turns { (1 ≤ turns) × (turns ≤ 20000) }
+    requires all { script.now.cpus * turns ≤ 160000 }
+    ensures turns { IfOk result (λ h. h.turns ≡ turns) }
+    ensures run { IfOk result (λ h. IsRun script.now turns (reverse h.events)) }
+    ensures robin { IfOk result (λ h. IsRobin script.now turns (reverse h.events)) }
+    ensures settled { IfOk result (λ h. is_settled script.now turns (reverse h.events) ≡ true) }
+{
+    let mut core = Core::new(alloc, script, turns)?;
+    while let Some(turn) = core.robin() {
+        let _ = core.follow(turn);
+        core.is_run();
+    }
+    core.is_run();
+    Ok(core.finish())
+}
