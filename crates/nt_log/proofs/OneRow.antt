@@ -1,11 +1,11 @@
 -- A text has one list of rows, and a field one meaning.
-use Rattle.std.proofs.Common.{◌≡◌, ◌∙◌, ℕ, suc, ◌+◌, ◌^◌, ◌<◌, ◌≤◌, Bool, true, false, cond, List, [], ◌∷◌, ◌++◌, length, get_or, map, Result, Ok, Err, refl, sym, ap, arith}
-use Rattle.std.specs.Prelude.{All, decimal, not, ◌&&◌, ◌==◌, nat_le, nat_lt}
+use Rattle.std.proofs.Common.{◌≡◌, ◌∙◌, ℕ, ◌^◌, ◌<◌, ◌≤◌, Bool, true, false, cond, List, [], ◌∷◌, ◌++◌, length, map, Result, Ok, refl, sym, ap, arith}
+use Rattle.std.specs.Prelude.{decimal, ◌&&◌, nat_le, nat_lt}
 use Rattle.std.specs.Char.{digit_value}
 use Rattle.std.specs.Fmt.{digits}
-use Rattle.std.specs.List.{AllByRecursion, filter, list_all, slice_split}
+use Rattle.std.specs.List.{AllByRecursion, list_all}
 use Rattle.std.specs.Str.Parse.{AllDigits, digits_value}
-use Rattle.std.proofs.lemmas.Bool.{and_from, and_parts, eqb-true, le-leb, leb-true, le-ltb, ltb-true, ne_eqb}
+use Rattle.std.proofs.lemmas.Bool.{and_from, and_parts, le-leb, leb-true, le-ltb}
 use Rattle.std.proofs.lemmas.Fmt.{decimal_is_IsNumeral, digits_is_IsNumeral}
 use Rattle.nt_text.specs.Lines.{AllRows, IsRow, is_field, line_of, lines, row_of, rows_text}
 use Rattle.nt_text.proofs.Rows.{lines_again, row_again}

@@ -1,10 +1,10 @@
 -- A text is the text of one schedule.
-use Rattle.std.proofs.Common.{◌≡◌, ◌∙◌, ℕ, zero, suc, ◌+◌, ◌^◌, ◌<◌, ◌≤◌, Bool, true, false, cond, List, [], ◌∷◌, ◌++◌, length, get_or, map, Ok, refl, sym, ap, subst, arith, rules}
-use Rattle.std.specs.Prelude.{All, codes, decimal, ◌&&◌, ◌==◌, nat_le, if◌then◌else◌}
+use Rattle.std.proofs.Common.{◌≡◌, ◌∙◌, ℕ, zero, suc, ◌+◌, ◌^◌, ◌<◌, ◌≤◌, Bool, true, false, List, [], ◌∷◌, ◌++◌, length, get_or, map, refl, sym, ap, arith, rules}
+use Rattle.std.specs.Prelude.{All, decimal, ◌&&◌, ◌==◌, nat_le, if◌then◌else◌}
 use Rattle.std.specs.Char.{is_ascii_digit}
-use Rattle.std.specs.List.{AllByRecursion, join_with_byte, list_all}
+use Rattle.std.specs.List.{AllByRecursion, list_all}
 use Rattle.std.specs.Str.{all_ascii_digits}
-use Rattle.std.proofs.lemmas.Bool.{and_from, and_parts, eqb-false, eqb-true, leb-true, ne_eqb}
+use Rattle.std.proofs.lemmas.Bool.{and_from, and_parts, eqb-true, leb-true, ne_eqb}
 use Rattle.std.proofs.lemmas.Fmt.{digits_decimal}
 use Rattle.std.proofs.lemmas.List.Folds.{list_all-append}
 use Rattle.std.proofs.lemmas.List.Splits.{slice_split_at, slice_split_none}
@@ -26,7 +26,7 @@ use Rattle.nt_script.proofs.Clean.{thread_field}
 use Rattle.nt_script.proofs.Found.{are_read}
 use Rattle.nt_script.proofs.Soundness.{sound_fits}
 use Rattle.nt_log.specs.declared.schedules.Schedule.{Schedule}
-use Rattle.nt_log.specs.Schedules.{AreRises, IsPlain, IsTextOf, TurnIsPlain, done_row, limit_row, rise_field, rises_row, schedule_rows, schedule_text, turn_row}
+use Rattle.nt_log.specs.Schedules.{IsPlain, IsTextOf, TurnIsPlain, done_row, limit_row, rise_field, rises_row, schedule_rows, turn_row}
 use Rattle.nt_log.proofs.OneRow.{decimal_one, map_one, map_rows, all_map, read_one, row_from, rows_from, rows_one, split_one}
 
 -- ---- things

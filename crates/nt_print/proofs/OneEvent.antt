@@ -1,6 +1,6 @@
 -- The row of an event is the row of no other.
-use Rattle.std.proofs.Common.{◌≡◌, ◌≢◌, ◌∙◌, ℕ, ◌+◌, ◌*◌, ◌^◌, ◌<◌, ◌≤◌, Bool, true, false, List, [], ◌∷◌, ◌++◌, length, get_or, Option, Some, None, Result, Ok, refl, sym, ap, arith}
-use Rattle.std.specs.Prelude.{codes, decimal, ◌&&◌, ◌==◌, nat_le, nat_lt}
+use Rattle.std.proofs.Common.{◌≡◌, ◌≢◌, ◌∙◌, ℕ, ◌+◌, ◌*◌, ◌^◌, ◌<◌, Bool, true, false, List, [], ◌++◌, length, get_or, Option, Some, None, Result, Ok, refl, sym, ap, arith}
+use Rattle.std.specs.Prelude.{decimal, ◌&&◌, nat_lt}
 use Rattle.std.specs.List.{list_all, slice_get}
 use Rattle.std.proofs.lemmas.Bool.{and_from, and_parts, ltb-true}
 use Rattle.std.proofs.lemmas.List.Folds.{list_all-append}
@@ -32,7 +32,6 @@ use Rattle.nt_event.specs.Numbered.{refusal_name, refusal_number}
 use Rattle.nt_event.specs.Script.{command_fits, has_apc, has_cpu, has_dpc, has_thread, has_timer, where_given}
 use Rattle.nt_script.specs.declared.walk.Input.{Input}
 use Rattle.nt_script.specs.declared.words.Verb.{Verb}
-use Rattle.nt_script.specs.declared.words.Word.{Word}
 use Rattle.nt_script.specs.declared.words.Word.TheVariants as word
 use Rattle.nt_script.specs.Commands.{command_of}
 use Rattle.nt_script.specs.Fits.{CommandFits}
@@ -50,7 +49,7 @@ use Rattle.nt_script.proofs.Spelled.{AreRead, args_count, command_again}
 use Rattle.nt_log.proofs.OneRow.{decimal_one, hexadecimal_field, hexadecimal_one, parts_one, read_one, row_from, row_to}
 use Rattle.nt_print.specs.Conditions.{BegunInRange, EventIsPlain, IsWord, ReplyInRange, StatusInRange, WhatInRange}
 use Rattle.nt_print.specs.Fitting.{begun_fits, event_fits, key_fits, what_fits}
-use Rattle.nt_print.specs.Report.{begun_row, event_fields, event_row, hexadecimal, key_row, kind_of, kind_word, replied, reply_row, show_processor, show_running, status_row, used, what_row}
+use Rattle.nt_print.specs.Report.{begun_row, event_fields, event_row, hexadecimal, key_row, kind_of, kind_word, replied, show_processor, show_running, status_row, used, what_row}
 
 -- ---- numbers and names
 

@@ -1,4 +1,4 @@
-use Rattle.std.proofs.Common.{◌≡◌, ◌∙◌, List, ap, arith, reverse, sym, take}
+use Rattle.std.proofs.Common.{◌∙◌, List, ap, arith, reverse, sym}
 use Rattle.std.proofs.lemmas.List.{take_all}
 use Rattle.nt_event.specs.declared.events.Event.{Event}
 use Rattle.nt_print.specs.Uses.{named_by, was_named, with_named}

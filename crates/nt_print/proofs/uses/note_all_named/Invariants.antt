@@ -1,4 +1,4 @@
-use Rattle.std.proofs.Common.{◌≡◌, length, reverse, take}
+use Rattle.std.proofs.Common.{reverse, take}
 use Rattle.nt_print.specs.Uses.{TellsNamed}
 use Rattle.nt_print.proofs.uses.note_all_named.Given as goal
 

@@ -1,4 +1,4 @@
-use Rattle.std.proofs.Common.{◌≡◌, ◌∙◌, ap, arith, sym}
+use Rattle.std.proofs.Common.{◌∙◌, ap, arith, sym}
 use Rattle.nt_event.specs.declared.events.Event.{Event}
 use Rattle.nt_print.specs.Uses.{apcs_after, dpcs_after, removed_by}
 use Rattle.nt_print.proofs.Tables.{removals_next}
