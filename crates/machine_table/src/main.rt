@@ -1,0 +1,156 @@
+//! What the pure machine makes of scripts that are given in a table, one case a line: the turn limit, `|`, and a script in which
+//! `/` stands for the end of a line. That script is run by the robin rule; where another `|` and a list of turns follow, in the
+//! words of schedules with `/` between two, these turns are replayed. What is written is the report of the history, with `/` for
+//! the end of a line, or why the turns have no history. What is wanted stands in `stdout`: rows that were worked out by hand.
+#![tactic(auto)]
+
+ghost use Rattle.std.specs.Prelude.{◌≤◌, IfSome};
+ghost use Rattle.nt_script.specs.Sound.{IsSound};
+
+mod turns;
+
+use crate::turns::turns_of;
+use nt_core::{ScheduleRefusal, replay, run};
+use nt_event::{ScheduleKind, Turn};
+use nt_print::report;
+use nt_script::{Input, ScriptRefusal, read};
+use std::alloc::{AllocError, Global};
+use std::io;
+
+/// A case of the table.
+#[derive(Drop)]
+struct Case<'a> {
+    /// How many events each processor may make.
+    limit: u32,
+    script: &'a str,
+    /// The turns that are replayed, if any are given.
+    list: Option<&'a str>,
+    ghost some: { 1 ≤ limit },
+    ghost few: { limit ≤ 20000 },
+}
+
+/// What became of a case.
+#[derive(Drop)]
+enum Outcome {
+    /// A history, and this is its report.
+    Report(Vec<u8>),
+    /// The turns have no history.
+    Refused { at: u32, kind: ScheduleKind },
+    /// The script is refused.
+    NoReading,
+    /// The line is no case.
+    BadLine,
+}
+
+fn limit_of(word: &str) -> Option<u32>
+    ensures { IfSome result (λ n. (1 ≤ n) × (n ≤ 20000)) }
+{
+    let limit = word.parse::<u32>().ok()?;
+    if limit < 1 || limit > 20_000 {
+        return None;
+    }
+    Some(limit)
+}
+
+fn case_of(entry: &str) -> Option<Case<'_>> {
+    let (word, rest) = entry.split_once('|')?;
+    let limit = limit_of(word)?;
+    match rest.split_once('|') {
+        Some((script, list)) => Some(Case {
+            limit,
+            script,
+            list: Some(list),
+        }),
+        None => Some(Case {
+            limit,
+            script: rest,
+            list: None,
+        }),
+    }
+}
+
+/// The bytes, with each of the one kind changed to the other.
+fn changed(alloc: Global, bytes: &[u8], from: u8, to: u8) -> Result<Vec<u8>, AllocError> {
+    let mut text = Vec::new(alloc);
+    for byte in bytes {
+        text.push(if *byte == from { to } else { *byte })?;
+    }
+    Ok(text)
+}
+
+/// The report of the run by the robin rule.
+fn run_outcome(alloc: Global, input: &Input, limit: u32) -> Result<Outcome, AllocError>
+    requires sound { IsSound input.now }
+    requires some { 1 ≤ limit }
+    requires few { limit ≤ 20000 }
+{
+    let history = run(alloc, &input.script, limit)?;
+    Ok(Outcome::Report(report(alloc, input, &history)?))
+}
+
+/// The report of the turns' history, or why there is none.
+fn replay_outcome(
+    alloc: Global,
+    input: &Input,
+    limit: u32,
+    list: &[Turn],
+) -> Result<Outcome, AllocError>
+    requires sound { IsSound input.now }
+    requires some { 1 ≤ limit }
+    requires few { limit ≤ 20000 }
+{
+    match replay(alloc, &input.script, limit, list) {
+        Ok(history) => Ok(Outcome::Report(report(alloc, input, &history)?)),
+        Err(ScheduleRefusal::Bad { at, kind }) => Ok(Outcome::Refused { at, kind }),
+        Err(ScheduleRefusal::NoMemory) => Err(AllocError),
+    }
+}
+
+fn read_outcome(alloc: Global, case: &Case<'_>, input: &Input) -> Result<Outcome, AllocError>
+    requires sound { IsSound input.now }
+{
+    let Some(list) = case.list else {
+        return run_outcome(alloc, input, case.limit);
+    };
+    match turns_of(alloc, &input.names, list)? {
+        Some(turns) => replay_outcome(alloc, input, case.limit, turns.as_slice()),
+        None => Ok(Outcome::BadLine),
+    }
+}
+
+fn case_outcome(alloc: Global, case: &Case<'_>) -> Result<Outcome, AllocError> {
+    let text = changed(alloc, case.script.as_bytes(), b'/', b'\n')?;
+    if text.len() > 33_554_432 {
+        return Ok(Outcome::BadLine);
+    }
+    match read(alloc, text.as_slice()) {
+        Ok(input) => read_outcome(alloc, case, &input),
+        Err(ScriptRefusal::Bad { .. }) => Ok(Outcome::NoReading),
+        Err(ScriptRefusal::NoMemory) => Err(AllocError),
+    }
+}
+
+fn entry_outcome(alloc: Global, entry: &str) -> Result<Outcome, AllocError> {
+    match case_of(entry) {
+        Some(case) => case_outcome(alloc, &case),
+        None => Ok(Outcome::BadLine),
+    }
+}
+
+fn main(rt: HostRuntime) -> io::Result<()> {
+    for line in rt.lines(rt.alloc()) {
+        let entry = line?;
+        match entry_outcome(rt.alloc(), entry.as_str())? {
+            Outcome::Report(text) => {
+                let row = changed(rt.alloc(), text.as_slice(), b'\n', b'/')?;
+                println!(rt; "{}", String::from_utf8_lossy(rt.alloc(), row.as_slice())?)?
+            }
+            Outcome::Refused { at, kind } => {
+                println!(rt; "schedule turn {at}: {} {}", kind.number(), kind.name())?
+            }
+            Outcome::NoReading => println!(rt; "no reading")?,
+            Outcome::BadLine => println!(rt; "bad line")?,
+        }
+    }
+    Ok(())
+}
