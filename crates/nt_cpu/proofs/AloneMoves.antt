@@ -2,7 +2,7 @@
 use Rattle.std.proofs.Common.{ap, arith, subst, sym, ◌∙◌}
 use Rattle.std.proofs.lemmas.Bool.Decides.{nat_tests}
 use Rattle.std.specs.List.{list_any}
-use Rattle.std.specs.Prelude.{Bool, IfSome, List, None, Option, Some, [], false, if◌then◌else◌, length, max, option_map, refl, true, ℕ, ◌&&◌, ◌+◌, ◌<◌, ◌==◌, ◌||◌, ◌∷◌, ◌≡◌, ◌≤◌}
+use Rattle.std.specs.Prelude.{Bool, IfSome, List, None, Option, Some, [], false, if◌then◌else◌, length, map, max, option_map, refl, true, ℕ, ◌&&◌, ◌+◌, ◌<◌, ◌==◌, ◌||◌, ◌∷◌, ◌≡◌, ◌≤◌}
 use Rattle.nt_event.specs.declared.events.Event.{Event}
 use Rattle.nt_event.specs.declared.events.What.{What}
 use Rattle.nt_event.specs.declared.events.What.TheVariants.{Look}
@@ -11,7 +11,7 @@ use Rattle.nt_event.specs.declared.jobs.Stand.{Stand}
 use Rattle.nt_event.specs.declared.numbers.CpuNo.{CpuNo}
 use Rattle.nt_event.specs.declared.scripts.Script.{Script}
 use Rattle.nt_event.specs.Frames.{due_of, frames_after, innermost}
-use Rattle.nt_event.specs.Lanes.{Lanes, lanes_after, lanes_at, what_lanes}
+use Rattle.nt_event.specs.Lanes.{Lanes, lane_number, lanes_after, lanes_at, what_lanes}
 use Rattle.nt_event.specs.Own.{Own, own_after_event, standing_in}
 use Rattle.nt_event.specs.Requests.{asks_in, is_ask, looked, raised, seen_after, what_asks}
 use Rattle.nt_event.specs.Objects.{object_of}
@@ -126,6 +126,11 @@ have_states s past = record {
   delays = length-table_from 0 (length s.threads) (λ t. delay_setting s (thread t) past);
 }
 
+-- the states that are told, or the opening ones, have one for each thing of the script
+pub told_have : (c : CpuState) (states : Option Lanes) → IfSome states (λ l. StandsIn c l) → HaveStates c.script (told_states c.script states)
+told_have c None h = have_states c.script []
+told_have c (Some l) h = h.lanes
+
 -- what is left of the states is what they were
 states_kept : (c : CpuState) (states : Option Lanes) (n : ℕ) (e : Event) → IfSome states (λ l. StandsIn c l) → is_alone (standing_in c.cpu c.own).body e.what ≡ true → lanes_after c.script n (standing_in c.cpu c.own) e (told_states c.script states) ≡ told_states c.script states
 states_kept c None n e h b =
@@ -140,6 +145,10 @@ raise_value false alone n old h = refl
 never_less : (b : Bool) (n old : ℕ) → old ≤ (if b then max old (n + 1) else old)
 never_less true n old = omega arith
 never_less false n old = omega arith
+
+at_least : (b : Bool) (n old : ℕ) → b ≡ true → n + 1 ≤ (if b then max old (n + 1) else old)
+at_least true n old h = omega arith
+at_least false n old h = cc
 
 pub alone_moved : (c d : CpuState) (w : What) (n : ℕ) (v u z : View) → Serves c v → MayBe c w → IsAlone c d w n v u z → IsMoved c.script n (alone_event c.cpu w c.own.frames) (standing_in c.cpu c.own) (found_by c v) v z
 alone_moved c d w n v u z h m i =
@@ -161,10 +170,11 @@ alone_moved c d w n v u z h m i =
       least = (least, omega arith);
       exact = λ e. (g.exact e, next);
       left = ap (λ (x : ℕ). x + 1) y.left ∙ g.left;
-      lists = marked_lists a n u z i.marked ∙ ap (λ (x : Option Lists). with_marks n (as_list a) x) g.lists ∙ ap (λ (x : List _). with_marks n x (with_draw n (alone_event c.cpu w c.own.frames) v.lists)) (sym asks);
+      lists = marked_lists a n u z i.marked ∙ ap (λ (x : Option Lists). with_marks n (as_list a) x) g.lists ∙ ap (λ (x : List _). with_marks n x (with_draw n (alone_event c.cpu w c.own.frames) [] v.lists)) (sym asks) ∙ ap (λ (x : List Lane). with_marks n (what_asks c.script st w l) (with_draw n (alone_event c.cpu w c.own.frames) (map (lane_number c.script) x) v.lists)) (sym lanes);
       marked = λ k q b e. marked_marks a n u z i.marked k q b (word q b e) ∙ (ap (λ (x : Bool). x || ((k == n) && asked_for a q b)) (g.marked k q b e) ∙ ap (λ (x : Bool). v.marked k q b || ((k == n) && x)) (asked q b));
       value = λ t q k e. marked_value a n u z i.marked q k (word q k e) ∙ (ap (λ (x : ℕ). if asked_for a q k then max x (n + 1) else x) (g.value q k e) ∙ (let o = h.values t q k e in raise_value (asked_for a q k) true n (v.value q k) (omega arith) ∙ ap (λ (x : Bool). raised x n (v.value q k)) (asked q k)));
       never_falls = λ q k e. rw (marked_value a n u z i.marked q k (word q k e), g.value q k e) (never_less (asked_for a q k) n (v.value q k));
+      asked = λ q k e h. rw (marked_value a n u z i.marked q k (word q k e)) (at_least (asked_for a q k) n (u.value q k) (asked q k ∙ h));
       before = tells_before c.script v.states;
       after = tells_after c.script v.states z.states (lanes_after c.script n st (alone_event c.cpu w c.own.frames) l) (y.states ∙ g.same.states) kept;
       told_before = λ t x q k e. refl;

@@ -11,7 +11,7 @@ use Rattle.nt_floor.specs.Acts.{Found}
 use Rattle.nt_floor.specs.Views.{IsUnmoved, View}
 use Rattle.nt_cpu.specs.Alone.{IsAlone, alone_asks}
 use Rattle.nt_cpu.specs.States.{CpuState}
-use Rattle.nt_cpu.specs.Steps.{AreLooked, GoesOn, HasRoom, IsStepped, Knows, LocalLeaves}
+use Rattle.nt_cpu.specs.Steps.{AreLooked, GoesOn, HasRoom, IsApart, IsStepped, Knows, LocalLeaves}
 use Rattle.nt_cpu.specs.Turns.{IsShared, Serves}
 use Rattle.nt_cpu.specs.declared.steps.Local.{Local}
 use Rattle.nt_cpu.specs.declared.steps.Local.TheVariants.{Cut, Did, NeedsLane, Quiet}
@@ -70,6 +70,11 @@ goes_alone c d w n v u z h =
       alone = m.alone ∙ h.drawn.same.alone;
     })
 
+-- the same, as a step tells it
+pub goes_apart : (c d : CpuState) (f : Found) (n : ℕ) (e : Event) (v w : View) → IsApart c d f n e v w → GoesOn c d v w
+goes_apart c d f n e v w h =
+    rw h.state (record { script = refl; cpu = refl; limit = refl; count = let a = h.floor.left in omega arith; cpus = h.floor.cpus; alone = h.floor.alone })
+
 -- after an event under lanes
 pub goes_shared : (c d : CpuState) (job : Job) (f : Found) (n : ℕ) (e : Event) (v w : View) → IsShared c d job f n e v w → GoesOn c d v w
 goes_shared c d job f n e v w h =
@@ -92,7 +97,7 @@ goes_stepped c d xs r v u w h =
     goes_through c c d v u w (looks_go c xs v u h.looked) (left r h.left)
   where
     left : (r : Local) → LocalLeaves c d r u w → GoesOn c d u w
-    left (Did e) m = goes_alone c d e.what m.0 u m.1 w m.2
+    left (Did e) m = goes_apart c d m.0 m.1 e u w m.2
     left (NeedsLane job) m = goes_same c d u w m.0 m.1
     left Quiet m = goes_same c d u w m.0 m.1
     left Cut m = goes_same c d u w m.0 m.1

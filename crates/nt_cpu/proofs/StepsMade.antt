@@ -1,5 +1,5 @@
 -- What a step does that a processor chooses.
-use Rattle.std.proofs.Common.{ap, subst, sym, ◌∙◌}
+use Rattle.std.proofs.Common.{ap, arith, subst, sym, ◌∙◌}
 use Rattle.std.specs.Prelude.{Bool, List, None, Option, Some, false, if◌then◌else◌, refl, true, ℕ, ◌<◌, ◌≡◌, ◌≤◌}
 use Rattle.nt_event.specs.declared.events.Event.{Event}
 use Rattle.nt_event.specs.declared.events.Rises.{Rises}
@@ -10,6 +10,7 @@ use Rattle.nt_event.specs.declared.jobs.Job.TheVariants.{Pick as PickJob}
 use Rattle.nt_event.specs.declared.jobs.Task.{Task}
 use Rattle.nt_event.specs.declared.jobs.Task.TheVariants.{Alone, Shared}
 use Rattle.nt_event.specs.Jobs.{chosen_task, may_switch, rests, task}
+use Rattle.nt_event.specs.Own.{Own, standing_in}
 use Rattle.nt_event.specs.Robin.{is_behind, look_values}
 use Rattle.nt_event.specs.Step.{event_at, is_cut}
 use Rattle.nt_event.specs.Words.{value_at}
@@ -20,10 +21,12 @@ use Rattle.nt_cpu.specs.Alone.{IsAlone, MayBe, alone_event}
 use Rattle.nt_cpu.specs.GoodTasks.{GoodTask}
 use Rattle.nt_cpu.specs.Sound.{IsSound}
 use Rattle.nt_cpu.specs.States.{CpuState}
-use Rattle.nt_cpu.specs.Steps.{AllLooked, IsStepped, LocalLeaves, local_answer, local_gives, local_task}
+use Rattle.nt_cpu.specs.Steps.{AllLooked, IsApart, IsStepped, LocalLeaves, local_answer, local_gives, local_task}
+use Rattle.nt_cpu.specs.Turns.{Serves}
 use Rattle.nt_cpu.specs.declared.steps.Local.{Local}
 use Rattle.nt_cpu.specs.declared.steps.Local.TheVariants.{Cut, Did, NeedsLane, Quiet}
-use Rattle.nt_cpu.proofs.Alones.{event_alone}
+use Rattle.nt_cpu.proofs.AloneMoves.{alone_left, alone_moved, found_by, told_have}
+use Rattle.nt_cpu.proofs.Alones.{event_alone, lanes_alone}
 use Rattle.nt_cpu.proofs.Knowing.{rises_known}
 use Rattle.nt_cpu.proofs.NeverIdle.{chosen_good, none_rests}
 
@@ -64,16 +67,27 @@ look_known c xs v u w b l e r f k q =
     subst (λ (ys : List ℕ). (value_at ys k ≤ u.value c.cpu k) × (value_at ys k ≤ u.next)) (sym x) (rises_known c xs v u b l k q)
 
 -- its event is the one that the definitions name
-pub step_alone : (c d : CpuState) (xs : List ℕ) (w : What) (e : Event) (n : ℕ) (v u y z : View) → IsSound c → is_cut c.limit c.own ≡ false → local_task c xs ≡ Some (Alone w) → AllLooked c.cpu xs v u → e ≡ alone_event c.cpu w c.own.frames → IsAlone c d w n u y z → IsStepped c d xs (Did e) v u z
-step_alone c d xs w e n v u y z h t q l f a = record {
+pub step_alone : (c d : CpuState) (xs : List ℕ) (w : What) (e : Event) (n : ℕ) (v u y z : View) → IsSound c → Serves c u → is_cut c.limit c.own ≡ false → local_task c xs ≡ Some (Alone w) → AllLooked c.cpu xs v u → e ≡ alone_event c.cpu w c.own.frames → IsAlone c d w n u y z → IsStepped c d xs (Did e) v u z
+step_alone c d xs w e n v u y z h o t q l f a = record {
   looked = record { cut = λ k. absurd (let x = rw t at k in cc); looks = λ k. l };
   answer = ap Did (f ∙ sym (event_alone c.script c.cpu w c.own.frames h.nested h.threads may.alone may.allow)) ∙ (ap (local_answer c) (sym q) ∙ ap (λ (b : Bool). if b then Cut else local_answer c (local_task c xs)) (sym t));
   quiet = λ k. absurd cc;
-  left = (n, y, subst (λ (x : What). IsAlone c d x n u y z) (sym (ap (λ (x : Event). x.what) f)) a);
+  left = (found_by c u, n, subst (λ (x : Event). IsApart c d (found_by c u) n x u z) (sym f) apart);
 }
   where
     may : MayBe c w
     may = holds_at (GoodTask c) (local_task c xs) (Alone w) (step_good c xs h) q
+
+    below : (k : ℕ) → k < 16 → value_at c.own.seen k ≤ n
+    below k b = let x = o.below k b in let y = a.drawn.least in omega arith
+
+    apart : IsApart c d (found_by c u) n (alone_event c.cpu w c.own.frames) u z
+    apart = record {
+      lanes = lanes_alone c.script (standing_in c.cpu c.own) w (found_by c u).lanes may.alone;
+      states = told_have c u.states o.stands;
+      state = a.state ∙ ap (λ (x : Own). record c { own = x }) (alone_left c w n u h may below);
+      floor = alone_moved c d w n u y z o may a;
+    }
 
 -- the job that a step needs is the one it chooses
 pub needed_job : (c : CpuState) (xs : List ℕ) (job : Job) → NeedsLane job ≡ local_gives c xs → (is_cut c.limit c.own ≡ false) × (chosen_task c.script c.cpu c.own ≡ Some (Shared job))

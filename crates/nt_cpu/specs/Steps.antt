@@ -3,21 +3,22 @@ use Rattle.std.specs.Prelude.{Bool, IfSome, List, None, Option, Some, [], false,
 use Rattle.nt_event.specs.declared.events.Event.{Event}
 use Rattle.nt_event.specs.declared.events.What.TheVariants.{Look as LookEvent}
 use Rattle.nt_event.specs.declared.jobs.Job.{Job}
+use Rattle.nt_event.specs.declared.jobs.Stand.{Stand}
 use Rattle.nt_event.specs.declared.jobs.Task.{Task}
 use Rattle.nt_event.specs.declared.jobs.Task.TheVariants.{Alone, Shared}
 use Rattle.nt_event.specs.declared.numbers.CpuNo.{CpuNo}
 use Rattle.nt_event.specs.Jobs.{chosen_task, rests}
-use Rattle.nt_event.specs.Own.{Own}
+use Rattle.nt_event.specs.Lanes.{what_lanes}
+use Rattle.nt_event.specs.Own.{Own, standing_in}
 use Rattle.nt_event.specs.Robin.{is_behind, look_values}
 use Rattle.nt_event.specs.Step.{event_at, is_cut}
 use Rattle.nt_event.specs.Words.{value_at}
 use Rattle.nt_floor.specs.Acts.{Found}
 use Rattle.nt_floor.specs.Lists.{Lists, Look}
-use Rattle.nt_floor.specs.Views.{HasWord, SameFloor, View}
+use Rattle.nt_floor.specs.Views.{HasWord, IsMoved, SameFloor, View}
 use Rattle.nt_frame.specs.Nesting.{AreNamedBelow}
-use Rattle.nt_cpu.specs.Alone.{IsAlone}
 use Rattle.nt_cpu.specs.States.{CpuState}
-use Rattle.nt_cpu.specs.Turns.{IsShared}
+use Rattle.nt_cpu.specs.Turns.{HaveStates, IsShared, state_then}
 use Rattle.nt_cpu.specs.declared.steps.Local.{Local}
 use Rattle.nt_cpu.specs.declared.steps.Local.TheVariants.{Cut as LocalCut, Did as LocalDid, NeedsLane, Quiet as LocalQuiet}
 use Rattle.nt_cpu.specs.declared.steps.Turned.{Turned}
@@ -88,9 +89,16 @@ local_answer c (Some (Shared job)) = NeedsLane job
 abbrev pub local_gives : CpuState → List ℕ → Local
 local_gives c answers = if is_cut c.limit c.own then LocalCut else local_answer c (local_task c answers)
 
+-- an event that touches no lane happened under this number; what states were found doesn't matter
+pub record IsApart (c d : CpuState) (f : Found) (n : ℕ) (e : Event) (v w : View) : Type 0 where
+  pub lanes : what_lanes c.script (standing_in c.cpu c.own) e.what f.lanes ≡ []
+  pub states : HaveStates c.script f.lanes
+  pub state : d ≡ state_then c f n e
+  pub floor : IsMoved c.script n e (standing_in c.cpu c.own) f v w
+
 -- what a step leaves, by its answer: its event happened, or nothing
 abbrev pub LocalLeaves : CpuState → CpuState → Local → View → View → Type 0
-LocalLeaves c d (LocalDid e) u w = (n : ℕ) × (y : View) × IsAlone c d e.what n u y w
+LocalLeaves c d (LocalDid e) u w = (f : Found) × (n : ℕ) × IsApart c d f n e u w
 LocalLeaves c d r u w = (d ≡ c) × (w ≡ u)
 
 -- after the looks the answer is what they and the processor's state give; it is Quiet only where the processor rests
@@ -123,8 +131,8 @@ pub record GoesOn (c d : CpuState) (v w : View) : Type 0 where
 
 -- what an advance left, after looks with these answers: its event touched no lane; or a floor made it, as told by `found`; or it
 -- rests and no request rose; or it is cut
-abbrev pub Advanced : CpuState → CpuState → List ℕ → (ℕ → Event → Found → Type 0) → Turned → View → View → Type 0
+abbrev pub Advanced : CpuState → CpuState → List ℕ → (ℕ → Event → Stand → Found → Type 0) → Turned → View → View → Type 0
 Advanced c d answers found (Did e) u w =
-    ((local_gives c answers ≡ LocalDid e) × LocalLeaves c d (LocalDid e) u w) ⊎ ((job : Job) × (local_gives c answers ≡ NeedsLane job) × ((f : Found) × (n : ℕ) × (IsShared c d job f n e u w × found n e f)))
+    ((local_gives c answers ≡ LocalDid e) × LocalLeaves c d (LocalDid e) u w) ⊎ ((job : Job) × (local_gives c answers ≡ NeedsLane job) × ((f : Found) × (n : ℕ) × (IsShared c d job f n e u w × found n e (standing_in c.cpu c.own) f)))
 Advanced c d answers found Quiet u w = (local_gives c answers ≡ LocalQuiet) × (rests c.own ≡ true) × (d ≡ c) × (w ≡ u)
 Advanced c d answers found Cut u w = (local_gives c answers ≡ LocalCut) × (d ≡ c) × (w ≡ u)

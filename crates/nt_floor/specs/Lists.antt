@@ -4,10 +4,11 @@ use Rattle.nt_event.specs.declared.events.Event.{Event}
 use Rattle.nt_event.specs.declared.numbers.CpuNo.{CpuNo}
 use Rattle.nt_event.specs.Requests.{Ask}
 
--- an event was drawn under this number
+-- an event was drawn under this number, touching the lanes of these numbers
 pub record Draw : Type 0 where
   pub number : ℕ
   pub event : Event
+  pub lanes : List ℕ
 
 -- the event of this number was marked as asking for a class of a processor
 pub record Mark : Type 0 where
@@ -26,9 +27,9 @@ pub record Lists : Type 0 where
   pub marks : List Mark
   pub looks : List Look
 
-abbrev pub with_draw : ℕ → Event → Option Lists → Option Lists
-with_draw n e None = None
-with_draw n e (Some l) = Some (record l { draws = l.draws ++ record { number = n; event = e } ∷ [] })
+abbrev pub with_draw : ℕ → Event → List ℕ → Option Lists → Option Lists
+with_draw n e lanes None = None
+with_draw n e lanes (Some l) = Some (record l { draws = l.draws ++ record { number = n; event = e; lanes = lanes } ∷ [] })
 
 abbrev pub with_mark : CpuNo → ℕ → ℕ → Option Lists → Option Lists
 with_mark p c n None = None

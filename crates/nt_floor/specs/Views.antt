@@ -1,11 +1,11 @@
 -- What contracts see of words and floors, and what each call does to it.
-use Rattle.std.specs.Prelude.{Bool, IfSome, Option, if◌then◌else◌, max, true, ℕ, ◌&&◌, ◌+◌, ◌<◌, ◌==◌, ◌^◌, ◌||◌, ◌≡◌, ◌≤◌}
+use Rattle.std.specs.Prelude.{Bool, IfSome, Option, [], map, if◌then◌else◌, max, true, ℕ, ◌&&◌, ◌+◌, ◌<◌, ◌==◌, ◌^◌, ◌||◌, ◌≡◌, ◌≤◌}
 use Rattle.nt_event.specs.declared.events.Event.{Event}
 use Rattle.nt_event.specs.declared.jobs.Lane.{Lane}
 use Rattle.nt_event.specs.declared.jobs.Stand.{Stand}
 use Rattle.nt_event.specs.declared.numbers.CpuNo.{CpuNo}
 use Rattle.nt_event.specs.declared.scripts.Script.{Script}
-use Rattle.nt_event.specs.Lanes.{Lanes, lanes_after}
+use Rattle.nt_event.specs.Lanes.{Lanes, lane_number, lanes_after, what_lanes}
 use Rattle.nt_event.specs.Requests.{asks_in, raised, what_asks}
 use Rattle.nt_floor.specs.Acts.{Found, Told, told_after}
 use Rattle.nt_floor.specs.Lists.{Lists, with_draw, with_look, with_mark, with_marks}
@@ -50,7 +50,7 @@ pub record IsDrawn (n : ℕ) (e : Event) (v w : View) : Type 0 where
   pub fits : n + 1 < 2 ^ 64
   pub next : w.next ≡ n + 1
   pub left : w.left + 1 ≡ v.left
-  pub lists : w.lists ≡ with_draw n e v.lists
+  pub lists : w.lists ≡ with_draw n e [] v.lists
   pub value : (p : CpuNo) (c : ℕ) → HasWord v p c → w.value p c ≡ v.value p c
   pub marked : (k : ℕ) (p : CpuNo) (c : ℕ) → HasWord v p c → w.marked k p c ≡ v.marked k p c
   pub same : SameFloor v w
@@ -88,10 +88,11 @@ pub record IsMoved (s : Script) (n : ℕ) (e : Event) (st : Stand) (f : Found) (
   pub least : (v.next ≤ n) × (n + 1 ≤ w.next)
   pub exact : v.alone ≡ true → (n ≡ v.next) × (w.next ≡ n + 1)
   pub left : w.left + 1 ≡ v.left
-  pub lists : w.lists ≡ with_marks n (what_asks s st e.what f.lanes) (with_draw n e v.lists)
+  pub lists : w.lists ≡ with_marks n (what_asks s st e.what f.lanes) (with_draw n e (map (lane_number s) (what_lanes s st e.what f.lanes)) v.lists)
   pub marked : (k : ℕ) (q : CpuNo) (c : ℕ) → HasWord v q c → w.marked k q c ≡ (v.marked k q c || ((k == n) && asks_in s st e.what f.lanes q c))
   pub value : v.alone ≡ true → (q : CpuNo) (c : ℕ) → HasWord v q c → w.value q c ≡ raised (asks_in s st e.what f.lanes q c) n (v.value q c)
   pub never_falls : (q : CpuNo) (c : ℕ) → HasWord v q c → v.value q c ≤ w.value q c
+  pub asked : (q : CpuNo) (c : ℕ) → HasWord v q c → asks_in s st e.what f.lanes q c ≡ true → n + 1 ≤ w.value q c
   pub before : Tells v.states f.lanes
   pub after : Tells w.states (lanes_after s n st e f.lanes)
   pub told_before : v.alone ≡ true → (x : Lane) (q : CpuNo) (c : ℕ) → HasWord v q c → v.told x q c ≡ f.told x q c

@@ -29,6 +29,7 @@ pub enum ActRefusal {
 pub trait Floor: Words {
     ghost use Rattle.std.specs.Prelude.{◌≡◌, ◌<◌, ◌≤◌, ℕ, true, IfErr, IfOk, IsTrue, OnErr, IsErrOf};
     ghost use Rattle.nt_event.specs.declared.events.Event.{Event};
+    ghost use Rattle.nt_event.specs.declared.jobs.Stand.{Stand};
     ghost use Rattle.nt_event.specs.declared.scripts.Script.{Script};
     ghost use Rattle.nt_event.specs.Words.{value_at};
     ghost use Rattle.nt_floor.specs.Acts.{Found, IsActed, IsMet, IsRefused, StandFits, job_fits};
@@ -37,8 +38,8 @@ pub trait Floor: Words {
     /// The script.
     ghost script: { Self → Script };
 
-    /// The event of this number was made in these states of its lanes.
-    ghost found: { Self → ℕ → Event → Found → Type 0 };
+    /// The event of this number was made by a processor that stood so, in these states of its lanes.
+    ghost found: { Self → ℕ → Event → Stand → Found → Type 0 };
 
     /// These are the last states that it knows of the lanes of its last job.
     ghost shows: { Self → Found → Type 0 };
@@ -53,7 +54,7 @@ pub trait Floor: Words {
         requires stand { StandFits (script self.old) stand }
         requires met { IsMet (script self.old) (Self.view self.old).states stand job }
 
-        ensures event { IfOk result (λ a. (f : Found) × found self.new a.number a.event f × (IsActed (script self.old) f stand job a × IsMoved (script self.old) a.number a.event stand f (Self.view self.old) (Self.view self.new))) }
+        ensures event { IfOk result (λ a. (f : Found) × found self.new a.number a.event stand f × (IsActed (script self.old) f stand job a × IsMoved (script self.old) a.number a.event stand f (Self.view self.old) (Self.view self.new))) }
         ensures told { IfOk result (λ a. (c : ℕ) → c < 16 → (value_at a.told.value c ≤ (Self.view self.new).value stand.cpu c) × (value_at a.told.value c ≤ (Self.view self.new).next)) }
 
         ensures cause { IfErr result (λ r. (f : Found) × shows self.new f × (Tells (Self.view self.old).states f.lanes × IsRefused (script self.old) f stand job r)) }
@@ -64,7 +65,7 @@ pub trait Floor: Words {
         ensures grows { Self.grows self.old self.new };
 
     /// What was found stays found.
-    ghost found_later: { (x y : Self) (n : ℕ) (e : Event) (f : Found) → Self.grows x y → found x n e f → found y n e f };
+    ghost found_later: { (x y : Self) (n : ℕ) (e : Event) (st : Stand) (f : Found) → Self.grows x y → found x n e st f → found y n e st f };
 
     /// It stays a floor of the same script.
     ghost script_stays: { (x y : Self) → Self.grows x y → script y ≡ script x };

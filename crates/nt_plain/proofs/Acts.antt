@@ -57,6 +57,11 @@ rises : (b : Bool) (n old new : ℕ) → old ≤ n → new ≡ raised b n old �
 rises true n old new h e = omega (arith, e)
 rises false n old new h e = omega (arith, e)
 
+-- what is asked for is raised to the event's ask
+raised_here : (b : Bool) (n old new : ℕ) → b ≡ true → new ≡ raised b n old → n + 1 ≤ new
+raised_here true n old new h e = omega (arith, e)
+raised_here false n old new h e = cc
+
 word_after : (f : PlainState) (st : Stand) (w : What) (q : CpuNo) (c : ℕ) → IsKept f → All (AskFits f.script) (what_asks f.script st w f.lanes) → q.0 < f.script.cpus → c < 16 → value_in (made st w f).asked q c ≡ raised (asks_in f.script st w f.lanes q c) f.next (value_in f.asked q c)
 word_after f st w q c kept named h k =
     let low : value_in f.asked q c ≤ f.next = kept.asked q c h k in
@@ -74,6 +79,7 @@ moved f st w kept room lanes_named asks_named =
       marked = λ k q c h. marks_after f.script.cpus f.limit f.next (what_asks f.script st w f.lanes) f.marks k q c kept.marks_length (omega arith) (all_within f.script (what_asks f.script st w f.lanes) asks_named) h.0;
       value = λ h q c k. word_after f st w q c kept asks_named k.0 k.1;
       never_falls = λ q c k. rises (asks_in f.script st w f.lanes q c) f.next (value_in f.asked q c) (value_in (made st w f).asked q c) (kept.asked q c k.0 k.1) (word_after f st w q c kept asks_named k.0 k.1);
+      asked = λ q c k a. raised_here (asks_in f.script st w f.lanes q c) f.next (value_in f.asked q c) (value_in (made st w f).asked q c) a (word_after f st w q c kept asks_named k.0 k.1);
       before = refl;
       after = refl;
       told_before = λ h x q c k. refl;

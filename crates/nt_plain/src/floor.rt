@@ -43,11 +43,11 @@ impl<'s> Floor for PlainFloor<'s> {
 
     ghost script = { λ x. x.script };
 
-    ghost found = { λ x n e f. Unit {0} };
+    ghost found = { λ x n e st f. Unit {0} };
 
     ghost shows = { λ x f. Unit {0} };
 
-    ghost found_later = { λ x y n e f g h. h };
+    ghost found_later = { λ x y n e st f g h. h };
 
     ghost script_stays = { λ x y g. g.1 };
 

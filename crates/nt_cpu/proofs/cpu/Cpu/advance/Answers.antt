@@ -1,7 +1,10 @@
-use Rattle.std.proofs.Common.{ap, sym, ◌∙◌}
+use Rattle.std.proofs.Common.{ap, inr, subst, sym, ◌∙◌}
 use Rattle.std.specs.Prelude.{refl, ◌≡◌}
 use Rattle.nt_event.specs.Jobs.{chosen_task}
+use Rattle.nt_event.specs.Own.{standing_in}
+use Rattle.nt_floor.specs.Views.{View}
 use Rattle.nt_cpu.specs.States.{CpuState}
+use Rattle.nt_cpu.specs.Turns.{IsShared}
 use Rattle.nt_cpu.proofs.StepsMade.{needed_job}
 use Rattle.nt_cpu.proofs.cpu.Cpu.advance.Goals as goal
 
@@ -47,3 +50,13 @@ returns-in-Quiet-clause-script g c =
 pub returns-in-Cut-clause-script : goal.returns-in-Cut-clause-script
 returns-in-Cut-clause-script g c =
     g.met.F.Floor.script_stays c.args.floor.now c.step_local.new.words c.step_local.ensures.grows
+
+pub returns-in-Ok-clause-ok : goal.returns-in-Ok-clause-ok
+returns-in-Ok-clause-ok g c =
+    let m = c.in-NeedsLane.ensures.step in
+    let k = c.in-Ok.ensures.ok in
+    let w = g.F.Words.view c.step_lane.new.floor in
+    let d : CpuState = c.step_lane.new.self in
+    let seen = subst (λ (v : View). IsShared c.step_local.new.self d c.in-NeedsLane.job k.0 k.1 c.in-Ok.event v w) m.2.left.1 k.2.0 in
+    let same = subst (λ (x : CpuState). IsShared x d c.in-NeedsLane.job k.0 k.1 c.in-Ok.event m.1 w × g.F.Floor.found c.step_lane.new.floor k.1 c.in-Ok.event (standing_in x.cpu x.own) k.0) m.2.left.0 (seen, k.2.1) in
+    (m.0, m.1, (m.2.looked, inr (c.in-NeedsLane.job, sym m.2.answer, (k.0, k.1, same))))

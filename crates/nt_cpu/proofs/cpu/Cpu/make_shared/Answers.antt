@@ -50,7 +50,7 @@ returns-clause-ok g c =
           state = c.take_up.ensures ∙ ap (λ (x : Own). record s { own = x }) (acted_left s c.args.job e.0 a c.sound.ensures c.requires.good below i);
           floor = m;
         },
-        e.1,
+        subst (λ (st : Stand). g.F.Floor.found c.act.new.self a.number a.event st e.0) c.standing.ensures e.1,
       ),
     )
 

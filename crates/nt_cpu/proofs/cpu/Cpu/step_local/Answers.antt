@@ -40,7 +40,7 @@ returns-in-Some-Alone-clause-step g c =
     let task : local_task s xs ≡ Some (Alone w) = sym c.local_task.ensures ∙ (c.in-Some-Alone.is ∙ ap Some c.in-Some-Alone.field-0-is) in
     let looks = subst (λ (p : CpuNo). AllLooked p xs v u) (ap (λ (x : CpuState). x.cpu) c.self.view_is) c.look_all-answers.ensures.looks in
     let m = c.make_alone.ensures.made in
-    (xs, u, step_alone s c.make_alone.new.self xs w c.make_alone.result m.0 v u m.1 (g.W.Words.view c.make_alone.new.words) c.sound.ensures cut task looks c.make_alone.ensures.event m.2)
+    (xs, u, step_alone s c.make_alone.new.self xs w c.make_alone.result m.0 v u m.1 (g.W.Words.view c.make_alone.new.words) c.sound.ensures (serves_looked s xs v u (has_words s v c.sound.ensures c.requires.serves.cpus) c.requires.serves looks) cut task looks c.make_alone.ensures.event m.2)
 
 pub returns-in-Some-Alone-clause-knows : goal.returns-in-Some-Alone-clause-knows
 returns-in-Some-Alone-clause-knows g c =
