@@ -7,7 +7,7 @@ use Rattle.std.specs.List.{find}
 use Rattle.std.specs.Option.{option_or}
 use Rattle.nt_apc.specs.Firsts.{kind_with, may_begin}
 use Rattle.nt_event.specs.Apcs.{ApcQueues, deliverable, first_kernel, first_of_kind, is_of_kind, lets_through, same_kind, with_apc}
-use Rattle.nt_event.specs.Words.{when}
+use Rattle.nt_event.specs.Lists.{when}
 use Rattle.nt_event.specs.declared.commands.ApcKind.{ApcKind}
 use Rattle.nt_event.specs.declared.commands.ApcKind.TheVariants.{Normal as NormalApc, Special as SpecialApc, User as UserApc}
 use Rattle.nt_event.specs.declared.commands.Regions.{Regions}

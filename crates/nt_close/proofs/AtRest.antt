@@ -19,7 +19,8 @@ use Rattle.nt_event.specs.Regions.{owes_sweep}
 use Rattle.nt_event.specs.Requests.{asked, seen, served}
 use Rattle.nt_event.specs.Robin.{has_seen, is_done_with}
 use Rattle.nt_event.specs.Step.{IsRun, is_cut}
-use Rattle.nt_event.specs.Words.{cpu, is_null, table_from, value_at, when}
+use Rattle.nt_event.specs.Numbers.{cpu}
+use Rattle.nt_event.specs.Lists.{is_null, table_from, value_at, when}
 use Rattle.nt_event.proofs.Options.{both}
 use Rattle.nt_event.proofs.Tables.{get_or-table}
 use Rattle.nt_close.specs.Close.{IsClosed, IsWanted}

@@ -20,9 +20,9 @@ use Rattle.nt_event.specs.Lanes.{lanes_at, queue_at}
 use Rattle.nt_event.specs.Own.{own_of}
 use Rattle.nt_event.specs.Queues.{first_dpc, is_of_dpc, pending, same_part}
 use Rattle.nt_event.specs.Regions.{owes_sweep}
-use Rattle.nt_event.specs.Words.{is_null}
-use Rattle.nt_laws.proofs.FatesDeliveries.{queue_there}
-use Rattle.nt_laws.proofs.FatesElements.{contains_here}
+use Rattle.nt_event.specs.Lists.{is_null}
+use Rattle.nt_runs.proofs.Pending.{queue_there}
+use Rattle.nt_event.proofs.Elements.{contains_here}
 use Rattle.nt_close.specs.Close.{IsClosed}
 use Rattle.nt_close.proofs.AtRest.{IsAtRest, closed_rests, no_interrupt, no_sweep, none_wanted_0, none_wanted_2, rest_inner}
 use Rattle.nt_close.proofs.PendingDpcs.{ordinary_wanted, threaded_wanted}

@@ -29,15 +29,17 @@ use Rattle.nt_event.specs.Step.{IsLegal, IsRun}
 use Rattle.nt_event.specs.Threads.{ThreadFacts}
 use Rattle.nt_event.specs.Timers.{SetKey, delay_setting, first_due, timer_setting, timers_at}
 use Rattle.nt_event.specs.Waits.{wait_reply}
-use Rattle.nt_event.specs.Words.{is_answer, is_of, kernel_apc, satisfied, thread, timer, when}
-use Rattle.nt_event.proofs.Known.{Known, KnownCall, KnownClean, KnownRewait, legal_known}
+use Rattle.nt_event.specs.Replies.{is_answer, kernel_apc, satisfied}
+use Rattle.nt_event.specs.Numbers.{is_of, thread, timer}
+use Rattle.nt_event.specs.Lists.{when}
+use Rattle.nt_runs.proofs.Known.{Known, KnownCall, KnownClean, KnownRewait, legal_known}
 use Rattle.nt_event.proofs.Options.{both}
-use Rattle.nt_event.proofs.Robin.{or_yes}
-use Rattle.nt_event.proofs.Running.{same_cpu}
-use Rattle.nt_event.proofs.Stops.{call_accepted}
+use Rattle.nt_runs.proofs.Robin.{or_yes}
+use Rattle.nt_runs.proofs.Running.{same_cpu}
+use Rattle.nt_runs.proofs.Stops.{call_accepted}
 use Rattle.nt_event.proofs.Tables.{get_or-table, length-table_from}
-use Rattle.nt_event.proofs.Turns.{is_next}
-use Rattle.nt_laws.proofs.FatesDeliveries.{legal_cpu}
+use Rattle.nt_runs.proofs.Turns.{is_next}
+use Rattle.nt_runs.proofs.Pending.{legal_cpu}
 use Rattle.nt_timer.proofs.Order.{first_due_is_first}
 use Rattle.nt_timer.specs.Laws.{IsFirstDue}
 use Rattle.nt_timer.specs.Settings.{setting_at}

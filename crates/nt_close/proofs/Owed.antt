@@ -23,10 +23,10 @@ use Rattle.nt_event.specs.Robin.{is_settled}
 use Rattle.nt_event.specs.Step.{IsRun, is_cut}
 use Rattle.nt_event.specs.Timers.{SetKey, blocked_after, delay_set, delay_setting, expired_delay, first_due, timer_after, timer_setting, timers_at}
 use Rattle.nt_event.specs.Waits.{is_of_thread}
-use Rattle.nt_event.specs.Words.{is_answer}
-use Rattle.nt_event.proofs.Known.{Known, KnownRewait, again_known, legal_known}
+use Rattle.nt_event.specs.Replies.{is_answer}
+use Rattle.nt_runs.proofs.Known.{Known, KnownRewait, again_known, legal_known}
 use Rattle.nt_event.proofs.Options.{both}
-use Rattle.nt_event.proofs.Turns.{is_next}
+use Rattle.nt_runs.proofs.Turns.{is_next}
 use Rattle.nt_close.specs.Close.{IsClosed, IsOwed, IsWanted}
 use Rattle.nt_close.proofs.AtRest.{closed_rests, no_sweep, none_wanted_13}
 use Rattle.nt_close.proofs.DueKeys.{IsDueAt, clock_owes, delay_blocks, due_before, expiry_owes, first_is_due, has_key, rewait_blocks, set_owes}

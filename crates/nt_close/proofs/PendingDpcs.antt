@@ -24,13 +24,13 @@ use Rattle.nt_event.specs.Regions.{stand_at}
 use Rattle.nt_event.specs.Requests.{ask, ask_if, asks, dpc_asks, is_ask, queue_asks, serves, what_asks}
 use Rattle.nt_event.specs.Routines.{depth_limit, part_of}
 use Rattle.nt_event.specs.Step.{IsLegal, IsRun}
-use Rattle.nt_event.specs.Words.{is_of}
-use Rattle.nt_event.proofs.Known.{Known, KnownClean}
-use Rattle.nt_event.proofs.Turns.{is_next}
-use Rattle.nt_laws.specs.Readings.{IsFirst}
-use Rattle.nt_laws.proofs.FatesDeliveries.{queue_there}
-use Rattle.nt_laws.proofs.FatesElements.{contains_cases, contains_none, kept_contains}
-use Rattle.nt_laws.proofs.ReadingsFirst.{first_is_first}
+use Rattle.nt_event.specs.Numbers.{is_of}
+use Rattle.nt_runs.proofs.Known.{Known, KnownClean}
+use Rattle.nt_runs.proofs.Turns.{is_next}
+use Rattle.nt_runs.specs.First.{IsFirst}
+use Rattle.nt_runs.proofs.Pending.{queue_there}
+use Rattle.nt_event.proofs.Elements.{contains_cases, contains_none, kept_contains}
+use Rattle.nt_runs.proofs.First.{first_is_first}
 use Rattle.nt_close.specs.Close.{IsWanted}
 use Rattle.nt_close.proofs.Rests.{known_rest, rested_idle, rested_other, rested_own}
 use Rattle.nt_close.proofs.Wanted.{asks_wanted, known_here, serves_clean, stays_wanted}

@@ -35,14 +35,15 @@ use Rattle.nt_event.specs.Script.{has_thread}
 use Rattle.nt_event.specs.Step.{IsLegal, IsRun, thread_field}
 use Rattle.nt_event.specs.Threads.{ThreadFacts, start_facts}
 use Rattle.nt_event.specs.Waits.{alert_facts, alert_tested, expiry_facts, facts, frame_ended, insert_facts, is_of_thread, made_facts, named_facts, new_pick, release_facts, wait_reply, waited, waited_again}
-use Rattle.nt_event.specs.Words.{is_answer, is_by, is_of}
-use Rattle.nt_event.proofs.Known.{Known, KnownCall, KnownRewait, again_known, legal_known, refusal_in, reply_or}
+use Rattle.nt_event.specs.Replies.{is_answer}
+use Rattle.nt_event.specs.Numbers.{is_by, is_of}
+use Rattle.nt_runs.proofs.Known.{Known, KnownCall, KnownRewait, again_known, legal_known, refusal_in, reply_or}
 use Rattle.nt_event.proofs.Options.{both}
-use Rattle.nt_event.proofs.Running.{same_thread, thread_named}
-use Rattle.nt_event.proofs.Stops.{call_accepted}
-use Rattle.nt_event.proofs.Turns.{is_next}
-use Rattle.nt_laws.proofs.Pending.{yes_if_true}
-use Rattle.nt_laws.proofs.RundownSteps.{facts_there}
+use Rattle.nt_runs.proofs.Running.{same_thread, thread_named}
+use Rattle.nt_runs.proofs.Stops.{call_accepted}
+use Rattle.nt_runs.proofs.Turns.{is_next}
+use Rattle.nt_runs.proofs.Pending.{yes_if_true}
+use Rattle.nt_runs.proofs.Rundown.Steps.{facts_there}
 use Rattle.nt_thread.proofs.Events.{facts-by}
 use Rattle.nt_thread.proofs.Runs.{quiet-after}
 use Rattle.nt_thread.specs.Quiet.{IsQuiet, NothingBehind, QuietDoing}

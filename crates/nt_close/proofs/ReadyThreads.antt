@@ -14,7 +14,7 @@ use Rattle.nt_event.specs.declared.threads.Doing.TheVariants.{Blocked as IsBlock
 use Rattle.nt_event.specs.Frames.{running, thread_frames}
 use Rattle.nt_event.specs.Jobs.{ready, ready_from}
 use Rattle.nt_event.specs.Lanes.{Lanes, facts_at, lanes_at}
-use Rattle.nt_event.specs.Laws.{Says}
+use Rattle.nt_runs.specs.Laws.{Says}
 use Rattle.nt_event.specs.Own.{rested}
 use Rattle.nt_event.specs.Regions.{stand_at}
 use Rattle.nt_event.specs.Routines.{cpu_of}
@@ -22,9 +22,10 @@ use Rattle.nt_event.specs.Script.{has_thread}
 use Rattle.nt_event.specs.Step.{IsRun}
 use Rattle.nt_event.specs.Threads.{is_ready, ready_doing}
 use Rattle.nt_event.specs.Waits.{facts, is_of_thread, named_facts}
-use Rattle.nt_event.specs.Words.{cpu, is_by, is_null, is_of, thread}
-use Rattle.nt_event.proofs.Facts.{agree}
-use Rattle.nt_laws.proofs.RundownSteps.{facts_there}
+use Rattle.nt_event.specs.Numbers.{cpu, is_by, is_of, thread}
+use Rattle.nt_event.specs.Lists.{is_null}
+use Rattle.nt_runs.proofs.Facts.{agree}
+use Rattle.nt_runs.proofs.Rundown.Steps.{facts_there}
 use Rattle.nt_thread.proofs.Events.{facts-by, facts-named}
 use Rattle.nt_close.specs.Close.{IsClosed, IsWanted, is_stopped}
 use Rattle.nt_close.proofs.AtRest.{IsAtRest, closed_rests, none_wanted_2, second_fails}

@@ -11,14 +11,15 @@ use Rattle.nt_event.specs.declared.numbers.ThreadNo.{ThreadNo}
 use Rattle.nt_event.specs.declared.scripts.Script.{Script}
 use Rattle.nt_event.specs.Frames.{frames_in, frames_of, innermost, own_frames, running, thread_part}
 use Rattle.nt_event.specs.Lanes.{lanes_at}
-use Rattle.nt_event.specs.Laws.{HasBase}
+use Rattle.nt_runs.specs.Laws.{HasBase}
 use Rattle.nt_event.specs.Own.{is_rest, own_of, rested}
 use Rattle.nt_event.specs.Queues.{is_idle}
 use Rattle.nt_event.specs.Step.{IsLegal, IsRun}
-use Rattle.nt_event.specs.Words.{head_of, is_of}
-use Rattle.nt_event.proofs.Known.{Known, KnownRest}
-use Rattle.nt_event.proofs.Running.{running_has_base}
-use Rattle.nt_event.proofs.Turns.{is_next}
+use Rattle.nt_event.specs.Lists.{head_of}
+use Rattle.nt_event.specs.Numbers.{is_of}
+use Rattle.nt_runs.proofs.Known.{Known, KnownRest}
+use Rattle.nt_runs.proofs.Running.{running_has_base}
+use Rattle.nt_runs.proofs.Turns.{is_next}
 use Rattle.nt_close.proofs.Wanted.{known_here}
 
 pub record IsClear (p : CpuNo) (past : List Event) : Type 0 where

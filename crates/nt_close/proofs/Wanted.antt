@@ -14,12 +14,12 @@ use Rattle.nt_event.specs.Lanes.{lanes_at}
 use Rattle.nt_event.specs.Own.{own_of}
 use Rattle.nt_event.specs.Requests.{asked, asks, served, serves}
 use Rattle.nt_event.specs.Step.{IsLegal, IsRun}
-use Rattle.nt_event.specs.Words.{is_of}
-use Rattle.nt_event.proofs.Known.{Known, legal_known}
-use Rattle.nt_event.proofs.Running.{same_cpu}
-use Rattle.nt_event.proofs.Settled.{asked_below, asked_grows, seen_below}
-use Rattle.nt_event.proofs.Turns.{is_next}
-use Rattle.nt_laws.proofs.Rundown.{served_below}
+use Rattle.nt_event.specs.Numbers.{is_of}
+use Rattle.nt_runs.proofs.Known.{Known, legal_known}
+use Rattle.nt_runs.proofs.Running.{same_cpu}
+use Rattle.nt_runs.proofs.Settled.{asked_below, asked_grows, seen_below}
+use Rattle.nt_runs.proofs.Turns.{is_next}
+use Rattle.nt_runs.proofs.Rundown.{served_below}
 use Rattle.nt_close.specs.Close.{IsWanted}
 
 -- what is served was asked for

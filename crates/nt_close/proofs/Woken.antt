@@ -32,13 +32,13 @@ use Rattle.nt_event.specs.Script.{has_thread}
 use Rattle.nt_event.specs.Step.{IsLegal}
 use Rattle.nt_event.specs.Threads.{ThreadFacts, ended, ends_by_alert, ends_by_apc, ends_by_expiry, ends_by_release, ends_by_user, is_alerted, is_gone, is_ready, set_alerted, waiting}
 use Rattle.nt_event.specs.Waits.{alert_facts, expiry_facts, facts, insert_facts, named_facts, new_pick, release_facts}
-use Rattle.nt_event.specs.Words.{alerted, is_answer, is_refused, kernel_apc, satisfied, user_apc, yes_if}
-use Rattle.nt_event.proofs.Known.{Known, KnownCall, legal_known}
+use Rattle.nt_event.specs.Replies.{alerted, is_answer, is_refused, kernel_apc, satisfied, user_apc, yes_if}
+use Rattle.nt_runs.proofs.Known.{Known, KnownCall, legal_known}
 use Rattle.nt_event.proofs.Options.{both, not_true}
-use Rattle.nt_event.proofs.Robin.{or_yes}
-use Rattle.nt_event.proofs.Stops.{call_accepted}
-use Rattle.nt_event.proofs.Turns.{is_next}
-use Rattle.nt_laws.proofs.RundownSteps.{facts_there}
+use Rattle.nt_runs.proofs.Robin.{or_yes}
+use Rattle.nt_runs.proofs.Stops.{call_accepted}
+use Rattle.nt_runs.proofs.Turns.{is_next}
+use Rattle.nt_runs.proofs.Rundown.Steps.{facts_there}
 
 -- ---- tests
 

@@ -15,9 +15,10 @@ use Rattle.nt_event.specs.Own.{Own, own_of}
 use Rattle.nt_event.specs.Requests.{asked}
 use Rattle.nt_event.specs.Robin.{go_on_turn, is_settled, look_value, look_values, robin, robin_at, robin_from, robin_of}
 use Rattle.nt_event.specs.Step.{IsRun, is_cut, step}
-use Rattle.nt_event.specs.Words.{cpu, value_at, when}
-use Rattle.nt_event.proofs.Robin.{robin_accepted}
-use Rattle.nt_event.proofs.Settled.{robin_ends_settled}
+use Rattle.nt_event.specs.Numbers.{cpu}
+use Rattle.nt_event.specs.Lists.{value_at, when}
+use Rattle.nt_runs.proofs.Robin.{robin_accepted}
+use Rattle.nt_runs.proofs.Settled.{robin_ends_settled}
 use Rattle.nt_event.proofs.Tables.{table-same}
 use Rattle.nt_cpu.specs.Runs.{Follows, state_of}
 use Rattle.nt_cpu.specs.States.{CpuState}

@@ -7,10 +7,10 @@ use Rattle.nt_event.specs.declared.numbers.CpuNo.{CpuNo}
 use Rattle.nt_event.specs.declared.scripts.Script.{Script}
 use Rattle.nt_event.specs.Own.{made, own_of}
 use Rattle.nt_event.specs.Step.{IsLegal, IsRun, is_cut, turn_of}
-use Rattle.nt_event.specs.Words.{cpu, is_of}
-use Rattle.nt_event.proofs.Robin.{cpu_below}
-use Rattle.nt_event.proofs.Running.{same_cpu}
-use Rattle.nt_event.proofs.Steps.{cpu_at-turn_at, step_uncut}
+use Rattle.nt_event.specs.Numbers.{cpu, is_of}
+use Rattle.nt_runs.proofs.Robin.{cpu_below}
+use Rattle.nt_runs.proofs.Running.{same_cpu}
+use Rattle.nt_runs.proofs.Steps.{cpu_at-turn_at, step_uncut}
 
 -- how many events the first n processors made
 unfoldable made_below : ℕ → List Event → ℕ

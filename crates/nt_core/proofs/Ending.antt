@@ -7,7 +7,7 @@ use Rattle.nt_event.specs.declared.events.Turn.{Turn}
 use Rattle.nt_event.specs.declared.scripts.Script.{Script}
 use Rattle.nt_event.specs.Robin.{is_settled, robin}
 use Rattle.nt_event.specs.Step.{IsRun, step}
-use Rattle.nt_event.proofs.Settled.{robin_ends_settled}
+use Rattle.nt_runs.proofs.Settled.{robin_ends_settled}
 use Rattle.nt_core.specs.Replays.{replayed, replayed_from}
 use Rattle.nt_core.specs.States.{CoreState, with_event}
 use Rattle.nt_core.proofs.Listing.{turn_taken}

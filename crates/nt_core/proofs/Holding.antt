@@ -4,7 +4,7 @@ use Rattle.std.specs.Prelude.{List, get_or, length, ℕ, ◌<◌, ◌≡◌}
 use Rattle.nt_event.specs.declared.events.Event.{Event}
 use Rattle.nt_event.specs.declared.numbers.CpuNo.{CpuNo}
 use Rattle.nt_event.specs.declared.scripts.Script.{Script}
-use Rattle.nt_event.specs.Words.{cpu}
+use Rattle.nt_event.specs.Numbers.{cpu}
 use Rattle.nt_event.proofs.Tables.{get_or-table, length-table_from}
 use Rattle.nt_cpu.specs.Runs.{state_of}
 use Rattle.nt_cpu.specs.States.{CpuState}

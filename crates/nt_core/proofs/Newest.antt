@@ -6,7 +6,7 @@ use Rattle.nt_event.specs.declared.events.Event.{Event}
 use Rattle.nt_event.specs.declared.scripts.Script.{Script}
 use Rattle.nt_event.specs.Robin.{first_cpu}
 use Rattle.nt_event.specs.Step.{IsRun}
-use Rattle.nt_event.proofs.Robin.{cpu_below}
+use Rattle.nt_runs.proofs.Robin.{cpu_below}
 use Rattle.nt_core.specs.Cycles.{next_cpu}
 
 first_is : (s : Script) (past : List Event) (d : Event) → 0 < length past → first_cpu s past ≡ next_cpu s (get_or past 0 d).cpu.0

@@ -5,7 +5,7 @@ use Rattle.nt_event.specs.declared.events.Event.{Event}
 use Rattle.nt_event.specs.declared.scripts.Script.{Script}
 use Rattle.nt_event.specs.Robin.{IsRobin, grown, is_settled, robin, robin_grown, run_fuel}
 use Rattle.nt_event.specs.Step.{IsRun}
-use Rattle.nt_event.proofs.Settled.{robin_ends_settled}
+use Rattle.nt_runs.proofs.Settled.{robin_ends_settled}
 use Rattle.nt_core.specs.Laws.{IsWholeRobin}
 
 -- one more event of the rule

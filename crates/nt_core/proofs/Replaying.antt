@@ -9,7 +9,7 @@ use Rattle.nt_event.specs.declared.events.Turn.{Turn}
 use Rattle.nt_event.specs.declared.scripts.Script.{Script}
 use Rattle.nt_event.specs.Robin.{is_settled}
 use Rattle.nt_event.specs.Step.{IsRun, step, turn_of, turns}
-use Rattle.nt_event.proofs.Turns.{run_grows, turn_same}
+use Rattle.nt_runs.proofs.Turns.{run_grows, turn_same}
 use Rattle.nt_core.specs.Replays.{goes_on, refused_at, replayed, replayed_from}
 
 -- the turns of a history with one more event

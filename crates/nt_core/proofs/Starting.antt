@@ -4,7 +4,7 @@ use Rattle.std.specs.Prelude.{IsTrue, List, Some, [], refl, suc, zero, ℕ, ◌*
 use Rattle.nt_event.specs.declared.events.Event.{Event}
 use Rattle.nt_event.specs.declared.scripts.Script.{Script}
 use Rattle.nt_event.specs.Script.{fits}
-use Rattle.nt_event.specs.Words.{table, table_from}
+use Rattle.nt_event.specs.Lists.{table, table_from}
 use Rattle.nt_cpu.specs.Runs.{Follows}
 use Rattle.nt_cpu.specs.States.{CpuState}
 use Rattle.nt_plain.specs.States.{IsFresh, PlainState, view_of}

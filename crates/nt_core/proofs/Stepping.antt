@@ -13,7 +13,8 @@ use Rattle.nt_event.specs.declared.scripts.Script.{Script}
 use Rattle.nt_event.specs.Lanes.{Lanes, lanes_at}
 use Rattle.nt_event.specs.Own.{own_of}
 use Rattle.nt_event.specs.Step.{IsRun, cpu_at, event_or, is_cut, refused_if, step, uncut_step}
-use Rattle.nt_event.specs.Words.{cpu, when}
+use Rattle.nt_event.specs.Numbers.{cpu}
+use Rattle.nt_event.specs.Lists.{when}
 use Rattle.nt_event.proofs.Tables.{get_or-table, length-table_from, table-self}
 use Rattle.nt_floor.specs.Acts.{Found}
 use Rattle.nt_floor.specs.Views.{View}

@@ -8,7 +8,7 @@ use Rattle.nt_event.specs.declared.numbers.CpuNo.{CpuNo}
 use Rattle.nt_event.specs.declared.scripts.Script.{Script}
 use Rattle.nt_event.specs.Own.{own_of}
 use Rattle.nt_event.specs.Step.{cpu_at, is_cut, step}
-use Rattle.nt_event.proofs.Turns.{run_grows}
+use Rattle.nt_runs.proofs.Turns.{run_grows}
 use Rattle.nt_floor.specs.Acts.{Found}
 use Rattle.nt_floor.specs.Views.{IsUnmoved, View}
 use Rattle.nt_cpu.specs.Runs.{is_asked, state_of}

@@ -4,7 +4,8 @@ use Rattle.nt_event.specs.declared.events.Event.{Event}
 use Rattle.nt_event.specs.declared.scripts.Script.{Script}
 use Rattle.nt_event.specs.Script.{fits}
 use Rattle.nt_event.specs.Step.{IsRun}
-use Rattle.nt_event.specs.Words.{cpu, table}
+use Rattle.nt_event.specs.Numbers.{cpu}
+use Rattle.nt_event.specs.Lists.{table}
 use Rattle.nt_cpu.specs.Runs.{Follows, state_of}
 use Rattle.nt_cpu.specs.States.{CpuState}
 use Rattle.nt_plain.specs.States.{PlainState, view_of}

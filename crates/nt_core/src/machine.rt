@@ -3,7 +3,7 @@ ghost use Rattle.std.specs.Prelude.{◌≡◌, ◌≤◌, ◌<◌, ◌*◌, [], 
 ghost use Rattle.nt_event.specs.Own.{own_of};
 ghost use Rattle.nt_event.specs.Script.{fits};
 ghost use Rattle.nt_event.specs.Step.{IsRun, cpu_at as cpu_of_turn, is_cut as is_cut_in, step};
-ghost use Rattle.nt_event.specs.Words.{cpu as cpu_no};
+ghost use Rattle.nt_event.specs.Numbers.{cpu as cpu_no};
 ghost use Rattle.nt_cpu.specs.Runs.{is_asked as was_asked_for};
 ghost use Rattle.nt_core.specs.Refusals.{kind_of};
 ghost use Rattle.nt_core.specs.Sound.{cpus_of};

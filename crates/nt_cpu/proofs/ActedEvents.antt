@@ -42,9 +42,10 @@ use Rattle.nt_event.specs.Script.{has_thread}
 use Rattle.nt_event.specs.Threads.{ThreadFacts, ends_by_release, is_alerted, is_gone, is_ready, start_facts}
 use Rattle.nt_event.specs.Timers.{first_due, is_set_timer}
 use Rattle.nt_event.specs.Waits.{is_satisfied, wait_reply}
-use Rattle.nt_event.specs.Words.{alerted, is_blocked, is_null, is_user, kernel_apc, satisfied, user_apc, when, yes_if}
+use Rattle.nt_event.specs.Replies.{alerted, is_blocked, is_user, kernel_apc, satisfied, user_apc, yes_if}
+use Rattle.nt_event.specs.Lists.{is_null, when}
 use Rattle.nt_event.proofs.Options.{Holds, both, holds_else, holds_find, holds_map, holds_more, holds_or, holds_then, holds_at, holds_when, when_gives}
-use Rattle.nt_event.proofs.Robin.{next_ready_taken}
+use Rattle.nt_event.proofs.Ready.{next_ready_taken}
 use Rattle.nt_floor.specs.Acts.{KindsFit}
 use Rattle.nt_frame.specs.Rules.{is_leaving, may_begin, refusal_in, regions_in}
 use Rattle.nt_frame.proofs.Below.{awaiting_is_on_thread}

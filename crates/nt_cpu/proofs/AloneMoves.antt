@@ -18,7 +18,8 @@ use Rattle.nt_event.specs.Objects.{object_of}
 use Rattle.nt_event.specs.Queues.{queue_of}
 use Rattle.nt_event.specs.Timers.{delay_setting, timer_setting}
 use Rattle.nt_event.specs.Waits.{facts}
-use Rattle.nt_event.specs.Words.{cpu, dpc, thread, timer, value_at}
+use Rattle.nt_event.specs.Numbers.{cpu, dpc, thread, timer}
+use Rattle.nt_event.specs.Lists.{value_at}
 use Rattle.nt_event.proofs.Tables.{length-table_from}
 use Rattle.nt_floor.specs.Acts.{Found, told_after, told_over}
 use Rattle.nt_floor.specs.Lists.{Lists, with_draw, with_mark, with_marks}

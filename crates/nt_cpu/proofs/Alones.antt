@@ -25,7 +25,8 @@ use Rattle.nt_event.specs.Lanes.{Lanes, command_lanes, end_lanes, what_lanes}
 use Rattle.nt_event.specs.Regions.{after_in, some_came_to_0, stand_of}
 use Rattle.nt_event.specs.Requests.{Ask, ask_if, command_asks, end_asks, what_asks}
 use Rattle.nt_event.specs.Step.{event_at, level_field, thread_field, unleveled}
-use Rattle.nt_event.specs.Words.{head_of, is_done, is_null, is_refused, tail_of}
+use Rattle.nt_event.specs.Lists.{head_of, is_null, tail_of}
+use Rattle.nt_event.specs.Replies.{is_done, is_refused}
 use Rattle.nt_event.proofs.Options.{both, not_true}
 use Rattle.nt_frame.specs.Changes.{at_innermost, begun, on_running, without_innermost}
 use Rattle.nt_frame.specs.Nesting.{AreNested}

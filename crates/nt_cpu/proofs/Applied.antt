@@ -17,7 +17,7 @@ use Rattle.nt_event.specs.declared.scripts.Script.{Script}
 use Rattle.nt_event.specs.Frames.{Frames, called, frames_after, frames_in, innermost, is_base_body, left, normal_of, resumed, rewaited, running_after}
 use Rattle.nt_event.specs.Routines.{rundown_of}
 use Rattle.nt_event.specs.Step.{thread_field}
-use Rattle.nt_event.specs.Words.{head_of, is_null}
+use Rattle.nt_event.specs.Lists.{head_of, is_null}
 use Rattle.nt_frame.specs.Changes.{at_innermost, begun, closed, without_innermost}
 use Rattle.nt_frame.specs.Nesting.{AreNested}
 use Rattle.nt_frame.specs.Rules.{is_at_base, may_go_on}

@@ -19,8 +19,9 @@ use Rattle.nt_event.specs.declared.scripts.Script.{Script}
 use Rattle.nt_event.specs.Frames.{Frames, at_name, called, end_on_thread, ended_on_thread, flushed, frames_after, frames_in, is_base_body, left, new_frame, normal_of, rewaited, resumed, running_after, switched_to, thread_after, thread_if}
 use Rattle.nt_event.specs.Routines.{kind_of, rundown_of}
 use Rattle.nt_event.specs.Step.{thread_field}
-use Rattle.nt_event.specs.Words.{is_by, is_thread, table, thread}
-use Rattle.nt_event.proofs.Running.{Keeps, called_keeps, normal_keeps, rewaited_keeps, resumed_keeps, same_thread}
+use Rattle.nt_event.specs.Numbers.{is_by, is_thread, thread}
+use Rattle.nt_event.specs.Lists.{table}
+use Rattle.nt_runs.proofs.Running.{Keeps, called_keeps, normal_keeps, rewaited_keeps, resumed_keeps, same_thread}
 use Rattle.nt_event.proofs.Tables.{get_or-table, length-table_from}
 use Rattle.nt_cpu.specs.Sound.{AreBased, EndsInBase}
 

@@ -21,7 +21,8 @@ use Rattle.nt_event.specs.Own.{Own, own_after_event, own_of, standing_in}
 use Rattle.nt_event.specs.Regions.{stand_at}
 use Rattle.nt_event.specs.Requests.{asked, asks, asks_in, raised, seen_after, told, told_by, told_by_all}
 use Rattle.nt_event.specs.Step.{event_at, is_cut}
-use Rattle.nt_event.specs.Words.{is_of, value_at}
+use Rattle.nt_event.specs.Numbers.{is_of}
+use Rattle.nt_event.specs.Lists.{value_at}
 use Rattle.nt_event.proofs.Moves.{lanes_move, own_moves_here, own_stays}
 use Rattle.nt_floor.specs.Acts.{Found, Told, is_among, told_after, told_over}
 use Rattle.nt_floor.specs.Views.{HasWord, IsMoved, View}

@@ -31,12 +31,13 @@ use Rattle.nt_event.specs.Regions.{stand_at}
 use Rattle.nt_event.specs.Requests.{asked, asks, asks_in, raised, seen, told, told_by, told_by_all}
 use Rattle.nt_event.specs.Script.{has_thread}
 use Rattle.nt_event.specs.Step.{IsRun, cpu_at, event_at, event_or, good_rises, is_cut, is_good_look, refused_if, step, uncut_step, was_asked}
-use Rattle.nt_event.specs.Words.{is_of, table, thread, value_at, when}
-use Rattle.nt_event.proofs.Shared.{events_agree}
-use Rattle.nt_event.proofs.Allowed.{jobs_allowed, processors_stand}
+use Rattle.nt_event.specs.Numbers.{is_of, thread}
+use Rattle.nt_event.specs.Lists.{table, value_at, when}
+use Rattle.nt_runs.proofs.Shared.{events_agree}
+use Rattle.nt_runs.proofs.Allowed.{jobs_allowed, processors_stand}
 use Rattle.nt_event.proofs.Moves.{lanes_move, own_moves_here, own_stays}
-use Rattle.nt_event.proofs.Names.{AllBelow, all_named}
-use Rattle.nt_event.proofs.Settled.{asked_below, seen_below}
+use Rattle.nt_runs.proofs.Names.{AllBelow, all_named}
+use Rattle.nt_runs.proofs.Settled.{asked_below, seen_below}
 use Rattle.nt_event.proofs.Tables.{get_or-table, length-table_from}
 use Rattle.nt_floor.specs.Acts.{Found, Told, is_among, told_after, told_over}
 use Rattle.nt_floor.specs.Views.{HasWord, IsMoved, View}

@@ -33,7 +33,8 @@ use Rattle.nt_event.specs.Own.{Own, standing_in}
 use Rattle.nt_event.specs.Regions.{regions_of, some_came_to_0}
 use Rattle.nt_event.specs.Routines.{commands_of, next_command, routine_of}
 use Rattle.nt_event.specs.Script.{command_fits, fits, has_cpu, has_dpc, is_requested_level, routine_fits}
-use Rattle.nt_event.specs.Words.{is_null, is_refused, value_at, when}
+use Rattle.nt_event.specs.Lists.{is_null, value_at, when}
+use Rattle.nt_event.specs.Replies.{is_refused}
 use Rattle.nt_event.proofs.Options.{Holds, both, holds_map, holds_or, holds_then, holds_when}
 use Rattle.nt_frame.specs.Rules.{is_leaving, may_go_on, refusal_in, regions_in}
 use Rattle.nt_frame.proofs.Tasks.{int_may_begin, leaving_here, normal_here, refusal_here}

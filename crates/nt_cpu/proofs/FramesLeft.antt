@@ -11,7 +11,8 @@ use Rattle.nt_event.specs.declared.events.What.TheVariants.{Call}
 use Rattle.nt_event.specs.declared.frames.Frame.{Frame}
 use Rattle.nt_event.specs.declared.numbers.ThreadNo.{ThreadNo}
 use Rattle.nt_event.specs.Frames.{Frames, at_head, called, done_to, effect, frames_in, innermost, running_after, thread_part}
-use Rattle.nt_event.specs.Words.{head_of, is_done, is_null}
+use Rattle.nt_event.specs.Lists.{head_of, is_null}
+use Rattle.nt_event.specs.Replies.{is_done}
 use Rattle.nt_frame.specs.Changes.{at_innermost, on_part, on_running}
 use Rattle.nt_frame.specs.Nesting.{AreNested}
 use Rattle.nt_frame.proofs.Commands.{advanced, is_frames_own}

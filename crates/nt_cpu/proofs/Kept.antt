@@ -22,7 +22,7 @@ use Rattle.nt_event.specs.Frames.{Frames, again_after, at_name, called, done_to,
 use Rattle.nt_event.specs.Own.{fire_after}
 use Rattle.nt_event.specs.Routines.{dpc_of}
 use Rattle.nt_event.specs.Script.{fits, has_dpc, timer_fits, where_given}
-use Rattle.nt_event.specs.Words.{is_done, is_refused}
+use Rattle.nt_event.specs.Replies.{is_done, is_refused}
 use Rattle.nt_event.proofs.Options.{both}
 use Rattle.nt_frame.specs.Nesting.{HaveNoWaits}
 use Rattle.nt_frame.specs.Rules.{refusal_in}

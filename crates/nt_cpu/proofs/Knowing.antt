@@ -10,7 +10,7 @@ use Rattle.nt_event.specs.declared.numbers.CpuNo.{CpuNo}
 use Rattle.nt_event.specs.Lanes.{Lanes}
 use Rattle.nt_event.specs.Own.{Own, standing_in}
 use Rattle.nt_event.specs.Robin.{look_value, look_values}
-use Rattle.nt_event.specs.Words.{table, value_at}
+use Rattle.nt_event.specs.Lists.{table, value_at}
 use Rattle.nt_event.proofs.Tables.{get_or-table}
 use Rattle.nt_floor.specs.Views.{HasWord, IsMoved, IsUnmoved, View}
 use Rattle.nt_frame.specs.Nesting.{AreNamedBelow}

@@ -27,7 +27,8 @@ use Rattle.nt_event.specs.Queues.{QueueState, idle_after, queue_after, start_que
 use Rattle.nt_event.specs.Threads.{ThreadFacts, start_facts}
 use Rattle.nt_event.specs.Timers.{Timers, blocked_after, delay_after, expired_delay, setting_in, timer_after, timers_after}
 use Rattle.nt_event.specs.Waits.{facts_after, frame_ended, is_of_thread, made_facts, named_facts}
-use Rattle.nt_event.specs.Words.{cpu, dpc, table, thread, timer}
+use Rattle.nt_event.specs.Numbers.{cpu, dpc, thread, timer}
+use Rattle.nt_event.specs.Lists.{table}
 use Rattle.nt_event.proofs.Tables.{table-self}
 use Rattle.nt_cpu.specs.Alone.{ends_alone, is_alone}
 use Rattle.nt_cpu.specs.Turns.{HaveStates}

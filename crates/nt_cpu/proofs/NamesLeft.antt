@@ -18,7 +18,8 @@ use Rattle.nt_event.specs.declared.numbers.ThreadNo.{ThreadNo}
 use Rattle.nt_event.specs.declared.scripts.Script.{Script}
 use Rattle.nt_event.specs.Frames.{Frames, at_name, called, done_to, end_on_thread, ended_on_thread, flushed, frames_after, frames_in, is_base_body, left, normal_of, own_after, resumed, rewaited, switched_to, thread_after, thread_if, without}
 use Rattle.nt_event.specs.Routines.{rundown_of}
-use Rattle.nt_event.specs.Words.{is_by, is_done, thread}
+use Rattle.nt_event.specs.Numbers.{is_by, thread}
+use Rattle.nt_event.specs.Replies.{is_done}
 use Rattle.nt_event.proofs.Tables.{get_or-table, length-table_from}
 use Rattle.nt_frame.specs.Nesting.{AreNamedBelow, AreNested, IsPart, next_name}
 

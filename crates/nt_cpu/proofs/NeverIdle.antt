@@ -27,7 +27,7 @@ use Rattle.nt_event.specs.Jobs.{call_task, chosen_task, command_task, end_task, 
 use Rattle.nt_event.specs.Own.{Own}
 use Rattle.nt_event.specs.Regions.{regions_of}
 use Rattle.nt_event.specs.Routines.{next_command}
-use Rattle.nt_event.specs.Words.{head_of, is_null, value_at, when}
+use Rattle.nt_event.specs.Lists.{head_of, is_null, value_at, when}
 use Rattle.nt_event.proofs.Options.{Holds, holds_at, holds_map, holds_or, holds_then, holds_when}
 use Rattle.nt_cpu.specs.Sound.{AreBased, EndsInBase, IsSound}
 use Rattle.nt_cpu.specs.States.{CpuState}

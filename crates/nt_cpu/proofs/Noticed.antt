@@ -7,7 +7,7 @@ use Rattle.nt_event.specs.declared.events.Rises.{Rises}
 use Rattle.nt_event.specs.declared.events.What.{What}
 use Rattle.nt_event.specs.declared.events.What.TheVariants.{Look}
 use Rattle.nt_event.specs.declared.numbers.CpuNo.{CpuNo}
-use Rattle.nt_event.specs.Words.{table, table_from, value_at}
+use Rattle.nt_event.specs.Lists.{table, table_from, value_at}
 use Rattle.nt_event.proofs.Tables.{get_or-table}
 use Rattle.nt_cpu.specs.Alone.{noticed}
 use Rattle.nt_cpu.specs.declared.alone.Asked.{Asked}

@@ -8,7 +8,7 @@ use Rattle.nt_event.specs.declared.events.Begun.TheVariants.{Apc, Dpc, Int, Thre
 use Rattle.nt_event.specs.declared.events.What.{What}
 use Rattle.nt_event.specs.declared.events.What.TheVariants.{Begin, Clean}
 use Rattle.nt_event.specs.Requests.{served_after}
-use Rattle.nt_event.specs.Words.{table, value_at}
+use Rattle.nt_event.specs.Lists.{table, value_at}
 use Rattle.nt_event.proofs.Tables.{is_table, table-same}
 use Rattle.nt_cpu.specs.Due.{served_class}
 

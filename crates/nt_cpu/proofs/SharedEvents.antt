@@ -17,7 +17,7 @@ use Rattle.nt_event.specs.Lanes.{Lanes, what_lanes}
 use Rattle.nt_event.specs.Own.{Own, standing_in}
 use Rattle.nt_event.specs.Requests.{asks_in, looked, raised, seen_after}
 use Rattle.nt_event.specs.Script.{has_thread}
-use Rattle.nt_event.specs.Words.{value_at}
+use Rattle.nt_event.specs.Lists.{value_at}
 use Rattle.nt_event.proofs.Options.{Holds, holds_at}
 use Rattle.nt_floor.specs.declared.floor.Acted.{Acted}
 use Rattle.nt_floor.specs.Acts.{Found, IsActed, IsMet, StandFits, told_over}

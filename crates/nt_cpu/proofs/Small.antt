@@ -24,7 +24,9 @@ use Rattle.nt_event.specs.declared.scripts.Script.{Script}
 use Rattle.nt_event.specs.Frames.{Frames, again_after, at_name, called, done_to, effect, end_on_thread, ended_on_thread, flushed, frames_after, frames_in, is_base_body, left, new_frame, normal_of, own_after, resumed, rewaited, switched_to, thread_after, thread_if, without}
 use Rattle.nt_event.specs.Regions.{crit_of, guard_of}
 use Rattle.nt_event.specs.Routines.{rundown_of}
-use Rattle.nt_event.specs.Words.{is_by, is_done, kernel_apc, table, thread}
+use Rattle.nt_event.specs.Numbers.{is_by, thread}
+use Rattle.nt_event.specs.Replies.{is_done, kernel_apc}
+use Rattle.nt_event.specs.Lists.{table}
 use Rattle.nt_event.proofs.Tables.{get_or-table, length-table_from}
 use Rattle.nt_cpu.specs.Sound.{AreSmall, IsSmall, IsSmallPart}
 

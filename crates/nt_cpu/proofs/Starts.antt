@@ -7,7 +7,7 @@ use Rattle.nt_event.specs.declared.numbers.CpuNo.{CpuNo}
 use Rattle.nt_event.specs.declared.scripts.Script.{Script}
 use Rattle.nt_event.specs.Frames.{Frames}
 use Rattle.nt_event.specs.Script.{fits, has_cpu}
-use Rattle.nt_event.specs.Words.{table}
+use Rattle.nt_event.specs.Lists.{table}
 use Rattle.nt_event.proofs.Tables.{get_or-table, length-table_from}
 use Rattle.nt_frame.specs.Changes.{no_frames}
 use Rattle.nt_frame.proofs.Nested.{nested_start}

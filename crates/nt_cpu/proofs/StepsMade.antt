@@ -13,9 +13,9 @@ use Rattle.nt_event.specs.Jobs.{chosen_task, may_switch, rests, task}
 use Rattle.nt_event.specs.Own.{Own, standing_in}
 use Rattle.nt_event.specs.Robin.{is_behind, look_values}
 use Rattle.nt_event.specs.Step.{event_at, is_cut}
-use Rattle.nt_event.specs.Words.{value_at}
+use Rattle.nt_event.specs.Lists.{value_at}
 use Rattle.nt_event.proofs.Options.{Holds, holds_at}
-use Rattle.nt_event.proofs.Turns.{NextTask, task_next}
+use Rattle.nt_runs.proofs.Turns.{NextTask, task_next}
 use Rattle.nt_floor.specs.Views.{View}
 use Rattle.nt_cpu.specs.Alone.{IsAlone, MayBe, alone_event}
 use Rattle.nt_cpu.specs.GoodTasks.{GoodTask}

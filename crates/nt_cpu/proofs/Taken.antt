@@ -13,7 +13,8 @@ use Rattle.nt_event.specs.Own.{Own, fire_after, is_rest, took_after}
 use Rattle.nt_event.specs.Regions.{sweep_after}
 use Rattle.nt_event.specs.Requests.{served_after}
 use Rattle.nt_event.specs.Step.{thread_field}
-use Rattle.nt_event.specs.Words.{head_of, is_by, table, thread, value_at}
+use Rattle.nt_event.specs.Lists.{head_of, table, value_at}
+use Rattle.nt_event.specs.Numbers.{is_by, thread}
 use Rattle.nt_event.proofs.Tables.{get_or-table, length-table_from, table-same}
 use Rattle.nt_frame.specs.Nesting.{AreNested}
 use Rattle.nt_cpu.specs.Fits.{Allow}

@@ -16,7 +16,7 @@ use Rattle.nt_event.specs.Lanes.{Lanes}
 use Rattle.nt_event.specs.Own.{Own, standing_in}
 use Rattle.nt_event.specs.Script.{has_thread}
 use Rattle.nt_event.specs.Step.{event_at, is_cut}
-use Rattle.nt_event.specs.Words.{value_at, when}
+use Rattle.nt_event.specs.Lists.{value_at, when}
 use Rattle.nt_event.proofs.Options.{Holds, both, holds_at, holds_when, when_gives}
 use Rattle.nt_floor.specs.Acts.{Found}
 use Rattle.nt_floor.specs.Views.{IsMoved, View}

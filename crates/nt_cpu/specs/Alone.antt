@@ -17,7 +17,8 @@ use Rattle.nt_event.specs.Commands.{needs_lane}
 use Rattle.nt_event.specs.Frames.{Frames, innermost, is_normal_apc_body, level_in}
 use Rattle.nt_event.specs.Regions.{after_in, some_came_to_0}
 use Rattle.nt_event.specs.Requests.{Ask}
-use Rattle.nt_event.specs.Words.{is_done, is_refused, value_at}
+use Rattle.nt_event.specs.Replies.{is_done, is_refused}
+use Rattle.nt_event.specs.Lists.{value_at}
 use Rattle.nt_event.specs.declared.events.Event.{Event}
 use Rattle.nt_event.specs.Own.{Own, standing_in}
 use Rattle.nt_event.specs.Step.{thread_field}

@@ -14,7 +14,7 @@ use Rattle.nt_event.specs.declared.frames.Frame.{Frame}
 use Rattle.nt_event.specs.declared.scripts.Script.{Script}
 use Rattle.nt_event.specs.Frames.{Frames, innermost}
 use Rattle.nt_event.specs.Routines.{kind_of}
-use Rattle.nt_event.specs.Words.{is_blocked, is_done, is_refused}
+use Rattle.nt_event.specs.Replies.{is_blocked, is_done, is_refused}
 use Rattle.nt_frame.specs.Rules.{is_leaving, may_begin, may_go_on, refusal_in}
 
 -- what a Begin begins

@@ -6,7 +6,7 @@ use Rattle.nt_event.specs.Frames.{frames_after}
 use Rattle.nt_event.specs.Own.{Own, fire_after, is_rest, took_after}
 use Rattle.nt_event.specs.Regions.{sweep_after}
 use Rattle.nt_event.specs.Requests.{served_after}
-use Rattle.nt_event.specs.Words.{table, value_at}
+use Rattle.nt_event.specs.Lists.{table, value_at}
 
 -- where these values are seen after it
 abbrev pub own_with : Script → ℕ → Option ℕ → Event → (ℕ → ℕ) → Own → Own

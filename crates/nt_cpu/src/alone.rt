@@ -3,7 +3,7 @@ ghost use Rattle.std.specs.Prelude.{◌≡◌, ◌<◌, ◌≤◌, ◌+◌, ◌^
 ghost use Rattle.nt_event.specs.Own.{standing_in};
 ghost use Rattle.nt_event.specs.Regions.{some_came_to_0};
 ghost use Rattle.nt_event.specs.Step.{thread_field};
-ghost use Rattle.nt_event.specs.Words.{value_at};
+ghost use Rattle.nt_event.specs.Lists.{value_at};
 ghost use Rattle.nt_floor.specs.Views.{HasWord, View};
 ghost use Rattle.nt_frame.specs.Nesting.{AreNamedBelow};
 ghost use Rattle.nt_cpu.specs.Alone.{IsAlone, IsMarkedFor, MayBe, alone_asks, alone_event, alone_level, ask_when as asked_when, call_asks as call_asks_of, call_level as call_level_of, is_normal_end as ends_normal, noticed as noticed_of};

@@ -4,7 +4,8 @@ ghost use Rattle.nt_cpu.specs.Due.{served_class as class_of};
 ghost use Rattle.nt_event.specs.Own.{fire_after as fire_left, is_rest as rests, took_after as took_left};
 ghost use Rattle.nt_event.specs.Regions.{sweep_after as sweep_left};
 ghost use Rattle.nt_event.specs.Requests.{served_after};
-ghost use Rattle.nt_event.specs.Words.{is_answer as answers, table, value_at};
+ghost use Rattle.nt_event.specs.Replies.{is_answer as answers};
+ghost use Rattle.nt_event.specs.Lists.{table, value_at};
 
 use crate::values::Values;
 use nt_event::{Begun, Command, DpcNo, Reply, Script, ThreadNo, TimerKey, What};

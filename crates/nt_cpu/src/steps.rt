@@ -4,7 +4,7 @@ ghost use Rattle.nt_event.specs.Jobs.{chosen_task as chosen_of};
 ghost use Rattle.nt_event.specs.Robin.{look_values};
 ghost use Rattle.nt_event.specs.Own.{standing_in};
 ghost use Rattle.nt_event.specs.Step.{is_cut};
-ghost use Rattle.nt_event.specs.Words.{value_at};
+ghost use Rattle.nt_event.specs.Lists.{value_at};
 ghost use Rattle.nt_event.specs.declared.jobs.Job.{Job};
 ghost use Rattle.nt_event.specs.declared.jobs.Task.{Task};
 ghost use Rattle.nt_floor.specs.Acts.{Found};

@@ -1,7 +1,7 @@
 //! What an event leaves of a processor.
 ghost use Rattle.std.specs.Prelude.{◌≡◌, ◌<◌, ◌^◌, IfSome, max};
 ghost use Rattle.nt_event.specs.Step.{thread_field};
-ghost use Rattle.nt_event.specs.Words.{value_at};
+ghost use Rattle.nt_event.specs.Lists.{value_at};
 ghost use Rattle.nt_frame.specs.Nesting.{AreNamedBelow, AreNested};
 ghost use Rattle.nt_cpu.specs.Fits.{Allow};
 ghost use Rattle.nt_cpu.specs.Leaves.{own_with};

@@ -9,7 +9,7 @@ ghost use Rattle.nt_event.specs.declared.jobs.Job.{Job};
 ghost use Rattle.nt_event.specs.declared.jobs.Task.{Task};
 ghost use Rattle.nt_event.specs.Jobs.{may_switch as switch_in};
 ghost use Rattle.nt_event.specs.Script.{has_thread};
-ghost use Rattle.nt_event.specs.Words.{when};
+ghost use Rattle.nt_event.specs.Lists.{when};
 ghost use Rattle.nt_cpu.specs.declared.turn.TurnRefusal.{TurnRefusal};
 ghost use Rattle.nt_cpu.specs.Turns.{IsTurned, IsTurnRefused, Serves, acts, rises as rises_in, turn_refusal as refusal_of, turn_task as task_of};
 

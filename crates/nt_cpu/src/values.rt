@@ -1,6 +1,6 @@
 //! A value for each request class.
 ghost use Rattle.std.specs.Prelude.{◌≡◌, ◌<◌, ℕ, if◌then◌else◌, length, max, nat_lt, slice_set};
-ghost use Rattle.nt_event.specs.Words.{table, value_at};
+ghost use Rattle.nt_event.specs.Lists.{table, value_at};
 
 use nt_event::Rises;
 use std::marker::Model;

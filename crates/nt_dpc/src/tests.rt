@@ -1,6 +1,6 @@
 //! What no clause says: the worked examples and the table of asks, by the calls themselves.
 ghost use Rattle.std.specs.Prelude.{◌≡◌, IfOk};
-ghost use Rattle.nt_event.specs.Words.{cpu};
+ghost use Rattle.nt_event.specs.Numbers.{cpu};
 ghost use Rattle.nt_dpc.specs.Queues.{new_queue, with_idle};
 
 use crate::{DpcObject, DpcQueue, Inserted};

@@ -14,7 +14,8 @@ use Rattle.nt_event.specs.Requests.{asks, seen, seen_after, served, served_after
 use Rattle.nt_event.specs.Threads.{start_facts}
 use Rattle.nt_event.specs.Timers.{delay_after, delay_setting, setting_in, timer_after, timer_setting, timers_after, timers_at}
 use Rattle.nt_event.specs.Waits.{facts, facts_after}
-use Rattle.nt_event.specs.Words.{cpu, dpc, is_by, is_of, table, thread, timer, value_at}
+use Rattle.nt_event.specs.Numbers.{cpu, dpc, is_by, is_of, thread, timer}
+use Rattle.nt_event.specs.Lists.{table, value_at}
 use Rattle.nt_event.proofs.Tables.{get_or-table, table-same}
 
 -- ---- lanes

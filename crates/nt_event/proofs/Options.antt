@@ -2,7 +2,7 @@
 use Rattle.std.proofs.Common.{subst}
 use Rattle.std.specs.Option.{option_or}
 use Rattle.std.specs.Prelude.{Bool, List, None, Option, Some, [], cond, false, find, not, option_and_then, option_map, refl, true, unwrap_or, ◌&&◌, ◌∷◌, ◌≡◌}
-use Rattle.nt_event.specs.Words.{when}
+use Rattle.nt_event.specs.Lists.{when}
 
 abbrev pub Holds : {A : Type 0} → (A → Type 0) → Option A → Type 0
 Holds P None = Unit {0}

@@ -2,7 +2,7 @@
 use Rattle.std.proofs.Common.{add-zero, ap, arith, sym, ◌∙◌}
 use Rattle.std.proofs.lemmas.Grind.{same_number_lists}
 use Rattle.std.specs.Prelude.{List, [], get_or, length, refl, suc, zero, ℕ, ◌+◌, ◌<◌, ◌∷◌, ◌≡◌}
-use Rattle.nt_event.specs.Words.{table, table_from}
+use Rattle.nt_event.specs.Lists.{table, table_from}
 
 pub get_or-table_from : {A : Type 0} (k n i : ℕ) (f : ℕ → A) (d : A) → i < n → get_or (table_from k n f) i d ≡ f (k + i)
 unfolding table_from

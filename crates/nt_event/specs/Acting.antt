@@ -25,7 +25,7 @@ use Rattle.nt_event.specs.Regions.{stand_at}
 use Rattle.nt_event.specs.Routines.{cpu_of}
 use Rattle.nt_event.specs.Step.{IsRun, event_at, thread_field}
 use Rattle.nt_event.specs.Threads.{doing_level}
-use Rattle.nt_event.specs.Words.{is_blocked}
+use Rattle.nt_event.specs.Replies.{is_blocked}
 
 -- ---- the event
 
@@ -103,17 +103,3 @@ is_choice job = false
 -- the job is what the processor has to do next, or a choice of a thread where one may be made
 abbrev pub IsDue : Script → CpuNo → Own → Job → Type 0
 IsDue s p x job = (task s p x ≡ Some (Shared job)) ⊎ ((is_choice job ≡ true) × (may_switch x ≡ true))
-
--- ---- laws
-
--- in a run each processor stands so
-abbrev pub ProcessorsStand : Type 0
-ProcessorsStand = (s : Script) (limit : ℕ) (p : CpuNo) (past : List Event) → IsRun s limit past → IsStanding s (lanes_at s past) (stand_at s p past)
-
--- in a run a job that is due is allowed
-abbrev pub JobsAllowed : Type 0
-JobsAllowed = (s : Script) (limit : ℕ) (p : CpuNo) (job : Job) (past : List Event) → IsRun s limit past → IsDue s p (own_of s p past) job → IsAllowed (lanes_at s past) (stand_at s p past) job
-
--- in a run the event of a job that is due is the one that the processor's frames give
-abbrev pub EventsAgree : Type 0
-EventsAgree = (s : Script) (limit : ℕ) (p : CpuNo) (job : Job) (w : What) (past : List Event) → IsRun s limit past → IsDue s p (own_of s p past) job → job_event s (stand_at s p past) (lanes_at s past) job ≡ Some w → event_at s p w (frames_of s p past) ≡ acted_event (stand_at s p past) (lanes_at s past) w

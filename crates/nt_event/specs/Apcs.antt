@@ -8,7 +8,7 @@ use Rattle.nt_event.specs.declared.commands.ApcKind.TheVariants.{Normal as Norma
 use Rattle.nt_event.specs.declared.commands.Regions.{Regions}
 use Rattle.nt_event.specs.declared.inserts.Pick.{Pick}
 use Rattle.nt_event.specs.declared.numbers.ApcNo.{ApcNo}
-use Rattle.nt_event.specs.Words.{when}
+use Rattle.nt_event.specs.Lists.{when}
 
 -- the pending inserts, the greatest number first, and whether the thread no longer takes any
 pub record ApcQueues : Type 0 where

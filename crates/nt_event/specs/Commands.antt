@@ -19,7 +19,7 @@ use Rattle.nt_event.specs.Routines.{owner_of}
 use Rattle.nt_event.specs.Threads.{ends_by_release, is_alerted, is_gone}
 use Rattle.nt_event.specs.Timers.{is_set_timer}
 use Rattle.nt_event.specs.Waits.{wait_reply}
-use Rattle.nt_event.specs.Words.{yes_if}
+use Rattle.nt_event.specs.Replies.{yes_if}
 
 -- the first test that fails
 abbrev pub refuse : Bool → Refusal → Option Refusal → Option Refusal

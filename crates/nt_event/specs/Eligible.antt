@@ -32,7 +32,7 @@ use Rattle.nt_event.specs.Queues.{QueueState, first_dpc, is_of_dpc}
 use Rattle.nt_event.specs.Regions.{regions_of}
 use Rattle.nt_event.specs.Routines.{kind_of, next_command}
 use Rattle.nt_event.specs.Timers.{first_due}
-use Rattle.nt_event.specs.Words.{is_null}
+use Rattle.nt_event.specs.Lists.{is_null}
 
 pub data Request : Type 0 where
   IntRequest : ℕ → Request

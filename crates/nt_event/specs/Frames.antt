@@ -22,7 +22,9 @@ use Rattle.nt_event.specs.declared.numbers.RoutineNo.{RoutineNo}
 use Rattle.nt_event.specs.declared.numbers.ThreadNo.{ThreadNo}
 use Rattle.nt_event.specs.declared.scripts.Script.{Script}
 use Rattle.nt_event.specs.Routines.{kind_of, rundown_of}
-use Rattle.nt_event.specs.Words.{head_of, is_blocked, is_by, is_done, is_null, is_of, kernel_apc, table, thread}
+use Rattle.nt_event.specs.Lists.{head_of, is_null, table}
+use Rattle.nt_event.specs.Replies.{is_blocked, is_done, kernel_apc}
+use Rattle.nt_event.specs.Numbers.{is_by, is_of, thread}
 
 -- a new interrupt runs at its own level, a DPC at DISPATCH_LEVEL, an APC's kernel routine at APC_LEVEL, the others at
 -- PASSIVE_LEVEL (driver documentation, "Managing Hardware Priorities")

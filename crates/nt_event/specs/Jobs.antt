@@ -39,7 +39,8 @@ use Rattle.nt_event.specs.Script.{has_thread}
 use Rattle.nt_event.specs.Threads.{ThreadFacts, ended_status, is_ready}
 use Rattle.nt_event.specs.Timers.{SetKey, first_due}
 use Rattle.nt_event.specs.Waits.{wait_reply}
-use Rattle.nt_event.specs.Words.{head_of, is_null, thread, value_at, when}
+use Rattle.nt_event.specs.Lists.{head_of, is_null, value_at, when}
+use Rattle.nt_event.specs.Numbers.{thread}
 
 -- ---- where the processor stands
 

@@ -14,7 +14,8 @@ use Rattle.nt_event.specs.Queues.{QueueState}
 use Rattle.nt_event.specs.Requests.{asks_in, raised, told_by}
 use Rattle.nt_event.specs.Threads.{ThreadFacts}
 use Rattle.nt_event.specs.Timers.{Timers}
-use Rattle.nt_event.specs.Words.{cpu, is_of, table, thread, value_at}
+use Rattle.nt_event.specs.Numbers.{cpu, is_of, thread}
+use Rattle.nt_event.specs.Lists.{table, value_at}
 
 -- the facts of the threads of p, from this number on
 abbrev pub threads_from : CpuNo → ℕ → List ThreadDecl → Lanes → List ThreadFacts

@@ -30,7 +30,9 @@ use Rattle.nt_event.specs.Routines.{cpu_of, owner_of}
 use Rattle.nt_event.specs.Threads.{ThreadFacts, start_facts}
 use Rattle.nt_event.specs.Timers.{Timers, timers_after, timers_at}
 use Rattle.nt_event.specs.Waits.{facts, facts_after}
-use Rattle.nt_event.specs.Words.{cpu, dpc, is_refused, is_yes, table, thread}
+use Rattle.nt_event.specs.Numbers.{cpu, dpc, thread}
+use Rattle.nt_event.specs.Replies.{is_refused, is_yes}
+use Rattle.nt_event.specs.Lists.{table}
 
 pub record Lanes : Type 0 where
   pub objects : List ObjectState

@@ -1,6 +1,8 @@
 pub mod Numbered
 pub mod Script
-pub mod Words
+pub mod Numbers
+pub mod Lists
+pub mod Replies
 pub mod Routines
 pub mod Frames
 pub mod Regions
@@ -20,5 +22,4 @@ pub mod Robin
 pub mod Eligible
 pub mod Fate
 pub mod LaneStates
-pub mod Laws
 pub mod Acting

@@ -12,7 +12,8 @@ use Rattle.nt_event.specs.declared.inserts.Standing.{Standing}
 use Rattle.nt_event.specs.declared.numbers.CpuNo.{CpuNo}
 use Rattle.nt_event.specs.declared.numbers.DpcNo.{DpcNo}
 use Rattle.nt_event.specs.declared.scripts.Script.{Script}
-use Rattle.nt_event.specs.Words.{dpc, table}
+use Rattle.nt_event.specs.Numbers.{dpc}
+use Rattle.nt_event.specs.Lists.{table}
 
 -- driver documentation, "KeSetImportanceDpc": Medium is the first setting
 abbrev pub importance_after : DpcNo → What → Importance → Importance

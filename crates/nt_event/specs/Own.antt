@@ -13,7 +13,8 @@ use Rattle.nt_event.specs.Frames.{Frames, frames_after, frames_of}
 use Rattle.nt_event.specs.Regions.{owes_sweep, stand_of, sweep_after}
 use Rattle.nt_event.specs.Requests.{asked, seen, seen_after, served, served_after, told}
 use Rattle.nt_event.specs.Routines.{dpc_of}
-use Rattle.nt_event.specs.Words.{is_of, table, value_at}
+use Rattle.nt_event.specs.Numbers.{is_of}
+use Rattle.nt_event.specs.Lists.{table, value_at}
 
 -- how many events the processor has made
 abbrev pub made : CpuNo → List Event → ℕ

@@ -14,7 +14,7 @@ use Rattle.nt_event.specs.declared.numbers.DpcNo.{DpcNo}
 use Rattle.nt_event.specs.declared.scripts.Script.{Script}
 use Rattle.nt_event.specs.Objects.{ObjectState, inserted_dpc, object_in, objects_at, queue_for, used_up_dpc}
 use Rattle.nt_event.specs.Routines.{part_of}
-use Rattle.nt_event.specs.Words.{is_of}
+use Rattle.nt_event.specs.Numbers.{is_of}
 
 abbrev pub is_high : Importance → Bool
 is_high High = true

@@ -13,7 +13,9 @@ use Rattle.nt_event.specs.declared.jobs.Stand.{Stand}
 use Rattle.nt_event.specs.declared.numbers.CpuNo.{CpuNo}
 use Rattle.nt_event.specs.declared.scripts.Script.{Script}
 use Rattle.nt_event.specs.Frames.{Frames, frames_of, innermost, is_normal_apc_body, level_in, thread_part}
-use Rattle.nt_event.specs.Words.{head_of, is_answer, is_null, is_of, tail_of}
+use Rattle.nt_event.specs.Lists.{head_of, is_null, tail_of}
+use Rattle.nt_event.specs.Replies.{is_answer}
+use Rattle.nt_event.specs.Numbers.{is_of}
 
 -- how often the thread's open frames have entered a region of the kind and not left it
 abbrev pub crit_of : List Frame → ℕ

@@ -30,7 +30,8 @@ use Rattle.nt_event.specs.Regions.{some_came_to_0, stand_at}
 use Rattle.nt_event.specs.Routines.{cpu_of, depth_limit, is_kernel_kind, kind_of, owner_of, part_of}
 use Rattle.nt_event.specs.Threads.{ends_by_alert, ends_by_apc, ends_by_expiry, is_gone}
 use Rattle.nt_event.specs.Waits.{new_pick}
-use Rattle.nt_event.specs.Words.{is_of, value_at}
+use Rattle.nt_event.specs.Numbers.{is_of}
+use Rattle.nt_event.specs.Lists.{value_at}
 
 pub record Ask : Type 0 where
   pub cpu : CpuNo

@@ -14,7 +14,8 @@ use Rattle.nt_event.specs.Lanes.{Lanes, lanes_at}
 use Rattle.nt_event.specs.Own.{Own, own_of}
 use Rattle.nt_event.specs.Requests.{asked}
 use Rattle.nt_event.specs.Step.{is_cut, step, turn_of}
-use Rattle.nt_event.specs.Words.{cpu, table, value_at, when}
+use Rattle.nt_event.specs.Numbers.{cpu}
+use Rattle.nt_event.specs.Lists.{table, value_at, when}
 
 -- the value of a look in a class: the greatest asked one where it isn't seen yet, else 0
 abbrev pub look_value : Own → (ℕ → ℕ) → ℕ → ℕ

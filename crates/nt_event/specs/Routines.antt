@@ -19,7 +19,7 @@ use Rattle.nt_event.specs.declared.scripts.ApcDecl.{ApcDecl}
 use Rattle.nt_event.specs.declared.scripts.DpcDecl.{DpcDecl}
 use Rattle.nt_event.specs.declared.scripts.Script.{Script}
 use Rattle.nt_event.specs.Script.{isr_of}
-use Rattle.nt_event.specs.Words.{cpu, thread}
+use Rattle.nt_event.specs.Numbers.{cpu, thread}
 
 -- threaded DPCs are on where the script doesn't switch them off (Windows Internals, "Threaded DPCs")
 abbrev pub threaded_on : Script → Bool

@@ -18,7 +18,7 @@ use Rattle.nt_event.specs.Jobs.{job_event, may_switch, next_what}
 use Rattle.nt_event.specs.Lanes.{Lanes, lanes_at}
 use Rattle.nt_event.specs.Own.{Own, own_of, standing_in}
 use Rattle.nt_event.specs.Requests.{asks}
-use Rattle.nt_event.specs.Words.{value_at, when}
+use Rattle.nt_event.specs.Lists.{value_at, when}
 
 -- ---- an event
 

@@ -9,7 +9,7 @@ use Rattle.nt_event.specs.declared.threads.Doing.TheVariants.{Blocked as IsBlock
 use Rattle.nt_event.specs.declared.threads.Waiting.{Waiting}
 use Rattle.nt_event.specs.Apcs.{ApcQueues, deliverable, start_apcs, with_apc}
 use Rattle.nt_event.specs.Routines.{is_kernel_kind}
-use Rattle.nt_event.specs.Words.{is_user}
+use Rattle.nt_event.specs.Replies.{is_user}
 
 -- what the thread is doing, its alerted flags, the user-pending mark, the released mark, whether its base routine has ended,
 -- and its APCs

@@ -17,7 +17,9 @@ use Rattle.nt_event.specs.declared.scripts.Script.{Script}
 use Rattle.nt_event.specs.Frames.{time, time_after}
 use Rattle.nt_event.specs.Regions.{stand_at}
 use Rattle.nt_event.specs.Waits.{is_of_thread}
-use Rattle.nt_event.specs.Words.{is_answer, table, thread, timer}
+use Rattle.nt_event.specs.Replies.{is_answer}
+use Rattle.nt_event.specs.Lists.{table}
+use Rattle.nt_event.specs.Numbers.{thread, timer}
 
 -- the time, and for each timer and each thread's delay that is set, when it is due
 pub record Timers : Type 0 where

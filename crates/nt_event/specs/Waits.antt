@@ -26,7 +26,8 @@ use Rattle.nt_event.specs.Apcs.{closed_apcs, deliverable, has_user, with_apc, wi
 use Rattle.nt_event.specs.Regions.{stand_at}
 use Rattle.nt_event.specs.Routines.{cpu_of, is_kernel_kind, kind_of, owner_of}
 use Rattle.nt_event.specs.Threads.{ThreadFacts, ended, ends_by_alert, ends_by_apc, ends_by_expiry, ends_by_release, is_alerted, is_gone, set_alerted, start_facts}
-use Rattle.nt_event.specs.Words.{alerted, is_answer, is_by, is_of, is_user, kernel_apc, satisfied, user_apc}
+use Rattle.nt_event.specs.Replies.{alerted, is_answer, is_user, kernel_apc, satisfied, user_apc}
+use Rattle.nt_event.specs.Numbers.{is_by, is_of}
 
 -- the wait is satisfied: the released mark is set, and of a delay, its due time is reached (profile)
 abbrev pub is_satisfied : ThreadFacts → Option Bool → Bool

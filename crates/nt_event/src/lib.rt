@@ -13,7 +13,6 @@ mod fitting;
 mod frames;
 mod inserts;
 mod jobs;
-pub mod laws;
 mod lists;
 mod numbers;
 mod plans;

@@ -31,7 +31,7 @@ pub trait Floor: Words {
     ghost use Rattle.nt_event.specs.declared.events.Event.{Event};
     ghost use Rattle.nt_event.specs.declared.jobs.Stand.{Stand};
     ghost use Rattle.nt_event.specs.declared.scripts.Script.{Script};
-    ghost use Rattle.nt_event.specs.Words.{value_at};
+    ghost use Rattle.nt_event.specs.Lists.{value_at};
     ghost use Rattle.nt_floor.specs.Acts.{Found, IsActed, IsMet, IsRefused, StandFits, job_fits};
     ghost use Rattle.nt_floor.specs.Views.{IsMoved, IsUnmoved, Tells};
 

@@ -17,7 +17,7 @@ use Rattle.nt_event.specs.declared.numbers.ThreadNo.{ThreadNo}
 use Rattle.nt_event.specs.declared.scripts.Script.{Script}
 use Rattle.nt_event.specs.Frames.{Frames, at_head, at_name, called, end_on_thread, frames_after, frames_in, innermost, is_base_body, left, new_frame, normal_of, resumed, rewaited, running_after, switched_to, thread_after, thread_part, without}
 use Rattle.nt_event.specs.Routines.{kind_of, rundown_of}
-use Rattle.nt_event.specs.Words.{head_of, is_null, tail_of}
+use Rattle.nt_event.specs.Lists.{head_of, is_null, tail_of}
 use Rattle.nt_frame.specs.Changes.{at_innermost, begun, closed, on_innermost_part, on_part, without_innermost}
 use Rattle.nt_frame.specs.Nesting.{AreNested}
 use Rattle.nt_frame.specs.Rules.{may_go_on}

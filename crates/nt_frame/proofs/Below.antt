@@ -8,7 +8,7 @@ use Rattle.nt_event.specs.declared.frames.Body.{Body}
 use Rattle.nt_event.specs.declared.frames.Frame.{Frame}
 use Rattle.nt_event.specs.declared.numbers.ThreadNo.{ThreadNo}
 use Rattle.nt_event.specs.Frames.{Frames, at_head, frames_in, innermost, new_frame, thread_part}
-use Rattle.nt_event.specs.Words.{head_of, is_null, tail_of}
+use Rattle.nt_event.specs.Lists.{head_of, is_null, tail_of}
 use Rattle.nt_event.proofs.Tables.{get_or-table, length-table_from}
 use Rattle.nt_frame.specs.Changes.{at_innermost, begun, closed, is_own, no_frames, on_part, on_running, without_innermost}
 use Rattle.nt_frame.specs.Nesting.{AreNamedBelow, AreNested, HaveNoWaits, IsPart, next_name}

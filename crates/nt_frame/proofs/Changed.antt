@@ -7,7 +7,7 @@ use Rattle.nt_event.specs.declared.frames.Frame.{Frame}
 use Rattle.nt_event.specs.declared.numbers.ThreadNo.{ThreadNo}
 use Rattle.nt_event.specs.Frames.{Frames, at_head, base_of, frames_in, innermost, is_apc_body, is_base_body, thread_part}
 use Rattle.nt_event.specs.Regions.{crit_of, guard_of}
-use Rattle.nt_event.specs.Words.{head_of, is_null}
+use Rattle.nt_event.specs.Lists.{head_of, is_null}
 use Rattle.nt_frame.specs.Changes.{at_innermost, on_part, on_running}
 use Rattle.nt_frame.specs.Nesting.{AreNested, AreNewer, IsFrame, IsOver, IsPart, IsThreadPart, is_special_body}
 use Rattle.nt_frame.proofs.Nested.{on_own_nested, on_running_nested, thread_part_nested}

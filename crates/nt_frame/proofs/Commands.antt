@@ -15,7 +15,8 @@ use Rattle.nt_event.specs.declared.frames.Region.TheVariants.{Crit, Guard}
 use Rattle.nt_event.specs.declared.numbers.ThreadNo.{ThreadNo}
 use Rattle.nt_event.specs.declared.scripts.Script.{Script}
 use Rattle.nt_event.specs.Frames.{Frames, again_after, called, done_to, frames_after, frames_in, innermost, resumed, rewaited, running_after}
-use Rattle.nt_event.specs.Words.{head_of, is_blocked, is_done, kernel_apc}
+use Rattle.nt_event.specs.Lists.{head_of}
+use Rattle.nt_event.specs.Replies.{is_blocked, is_done, kernel_apc}
 use Rattle.nt_frame.specs.Changes.{at_innermost}
 use Rattle.nt_frame.specs.Rules.{enter_of, leave_of}
 use Rattle.nt_frame.proofs.After.{after_call, after_rewait, after_switch, taken}

@@ -9,7 +9,7 @@ use Rattle.nt_event.specs.declared.frames.Frame.{Frame}
 use Rattle.nt_event.specs.declared.numbers.ThreadNo.{ThreadNo}
 use Rattle.nt_event.specs.Frames.{Frames, innermost, thread_part}
 use Rattle.nt_event.specs.Jobs.{has_normal}
-use Rattle.nt_event.specs.Words.{head_of, is_null, tail_of}
+use Rattle.nt_event.specs.Lists.{head_of, is_null, tail_of}
 use Rattle.nt_frame.specs.Changes.{closed, is_own, on_part, on_running, on_thread, without_innermost}
 use Rattle.nt_frame.specs.Nesting.{AreNested, AreNewer, IsPart, IsThreadPart}
 use Rattle.nt_frame.specs.Rules.{is_leaving, may_go_on}

@@ -18,7 +18,9 @@ use Rattle.nt_event.specs.declared.numbers.ThreadNo.{ThreadNo}
 use Rattle.nt_event.specs.declared.scripts.Script.{Script}
 use Rattle.nt_event.specs.Frames.{Frames, done_to, due_of, frames_after, frames_of, time, frames_in, innermost, is_base_body, resumed, rewaited}
 use Rattle.nt_event.specs.Routines.{rundown_of}
-use Rattle.nt_event.specs.Words.{head_of, is_of, kernel_apc}
+use Rattle.nt_event.specs.Lists.{head_of}
+use Rattle.nt_event.specs.Numbers.{is_of}
+use Rattle.nt_event.specs.Replies.{kernel_apc}
 use Rattle.nt_event.proofs.Moves.{frames_move, frames_stay}
 use Rattle.nt_frame.specs.declared.calls.FrameCall.{FrameCall}
 use Rattle.nt_frame.specs.Calls.{commanded, left_by, left_by_all}

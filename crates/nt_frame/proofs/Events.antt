@@ -8,7 +8,8 @@ use Rattle.nt_event.specs.declared.frames.Frame.{Frame}
 use Rattle.nt_event.specs.declared.numbers.ThreadNo.{ThreadNo}
 use Rattle.nt_event.specs.declared.scripts.Script.{Script}
 use Rattle.nt_event.specs.Frames.{Frames, frames_after, frames_in, own_after, running_after, thread_after, thread_if}
-use Rattle.nt_event.specs.Words.{is_thread, table, thread}
+use Rattle.nt_event.specs.Numbers.{is_thread, thread}
+use Rattle.nt_event.specs.Lists.{table}
 use Rattle.nt_event.proofs.Tables.{table-self}
 use Rattle.nt_frame.specs.Nesting.{AreNested}
 

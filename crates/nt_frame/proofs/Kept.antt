@@ -9,7 +9,7 @@ use Rattle.nt_event.specs.declared.frames.Frame.{Frame}
 use Rattle.nt_event.specs.Frames.{Frames, base_level, base_of, innermost, is_base_body, left, normal_of, thread_part}
 use Rattle.nt_event.specs.Jobs.{has_normal}
 use Rattle.nt_event.specs.Regions.{crit_of, guard_of}
-use Rattle.nt_event.specs.Words.{is_null}
+use Rattle.nt_event.specs.Lists.{is_null}
 use Rattle.nt_frame.specs.Changes.{at_innermost}
 use Rattle.nt_frame.specs.Nesting.{AreNested, IsFrame, IsThreadPart, is_special_body}
 use Rattle.nt_frame.specs.Rules.{is_at_base, may_go_on}

@@ -4,7 +4,7 @@ use Rattle.std.proofs.lemmas.List.{reverse-append, reverse-reverse}
 use Rattle.std.proofs.Math.Seq.{set-append_seam, take-append_seam}
 use Rattle.nt_event.specs.declared.frames.Frame.{Frame}
 use Rattle.nt_event.specs.Frames.{at_head}
-use Rattle.nt_event.specs.Words.{tail_of}
+use Rattle.nt_event.specs.Lists.{tail_of}
 
 set_at_seam : (us : List Frame) (y f : Frame) → reverse (set (us ++ y ∷ []) (length (us ++ y ∷ []) - 1) f) ≡ f ∷ reverse us
 set_at_seam us y f =

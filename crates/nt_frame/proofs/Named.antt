@@ -6,7 +6,7 @@ use Rattle.std.specs.Option.{option_map_or, option_or}
 use Rattle.nt_event.specs.declared.frames.Frame.{Frame}
 use Rattle.nt_event.specs.declared.numbers.ThreadNo.{ThreadNo}
 use Rattle.nt_event.specs.Frames.{Frames, at_head, at_name, end_on_thread, frames_in, innermost, is_base_body, left, thread_part, without}
-use Rattle.nt_event.specs.Words.{head_of, is_null, tail_of}
+use Rattle.nt_event.specs.Lists.{head_of, is_null, tail_of}
 use Rattle.nt_frame.specs.Changes.{on_innermost_part, on_running}
 use Rattle.nt_frame.specs.Nesting.{AreNested, next_name}
 use Rattle.nt_frame.proofs.Events.{changed}

@@ -1,6 +1,6 @@
 -- Tables with the same value at each place.
 use Rattle.std.proofs.Common.{◌≡◌, ℕ, zero, suc, ◌+◌, List, [], ◌∷◌, ◌++◌, ap, add-one, refl}
-use Rattle.nt_event.specs.Words.{table, table_from}
+use Rattle.nt_event.specs.Lists.{table, table_from}
 
 same_more_from : {A : Type 0} (k n : ℕ) (x : A) → table_from k n (λ _. x) ++ x ∷ [] ≡ table_from k (suc n) (λ _. x)
 unfolding table_from

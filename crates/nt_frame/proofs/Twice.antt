@@ -4,7 +4,7 @@ use Rattle.std.proofs.lemmas.List.{get_or-set_same, set-get_or, set-set}
 use Rattle.nt_event.specs.declared.frames.Frame.{Frame}
 use Rattle.nt_event.specs.declared.numbers.ThreadNo.{ThreadNo}
 use Rattle.nt_event.specs.Frames.{Frames, at_head, frames_in}
-use Rattle.nt_event.specs.Words.{is_null}
+use Rattle.nt_event.specs.Lists.{is_null}
 use Rattle.nt_frame.specs.Changes.{at_innermost, on_part, on_running}
 use Rattle.nt_frame.specs.Nesting.{AreNested}
 use Rattle.nt_frame.proofs.Events.{changed}

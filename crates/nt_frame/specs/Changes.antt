@@ -5,7 +5,7 @@ use Rattle.nt_event.specs.declared.frames.Body.TheVariants.{Dpc, Int, Threaded}
 use Rattle.nt_event.specs.declared.frames.Frame.{Frame}
 use Rattle.nt_event.specs.declared.numbers.ThreadNo.{ThreadNo}
 use Rattle.nt_event.specs.Frames.{Frames, at_head, frames_in, new_frame}
-use Rattle.nt_event.specs.Words.{is_null, tail_of, table}
+use Rattle.nt_event.specs.Lists.{is_null, tail_of, table}
 
 -- interrupts, DPCs and threaded DPCs run on the processor's own part, the others on a thread's
 abbrev pub is_own : Body → Bool

@@ -20,7 +20,8 @@ use Rattle.nt_event.specs.declared.numbers.ThreadNo.{ThreadNo}
 use Rattle.nt_event.specs.declared.scripts.Script.{Script}
 use Rattle.nt_event.specs.Frames.{Frames, again_after, due_of, frames_after, frames_in, frames_of, innermost, time}
 use Rattle.nt_event.specs.Routines.{kind_of, rundown_of}
-use Rattle.nt_event.specs.Words.{is_of, kernel_apc}
+use Rattle.nt_event.specs.Numbers.{is_of}
+use Rattle.nt_event.specs.Replies.{kernel_apc}
 use Rattle.nt_frame.specs.declared.calls.FrameCall.{FrameCall}
 use Rattle.nt_frame.specs.declared.calls.FrameCall.TheVariants.{AdvancePlace, Begin, EndBase, Enter, Finish, Gone, Leave, Lower, Normal, Raise, SetAgain, SwitchAway, SwitchTo}
 use Rattle.nt_frame.specs.Calls.{left_by_all}

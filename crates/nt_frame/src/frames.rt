@@ -1,10 +1,9 @@
 //! The frames of one processor and its threads.
 ghost use Rattle.std.specs.Prelude.{◌≡◌, ◌<◌, ◌↔◌, ◌+◌, ◌==◌, false, not, length, option_copied, option_map, IsTrue, IsSome, IsOk, IfSome, IfOk, IfErr, OnOk, OnErr};
 ghost use Rattle.std.specs.Option.{ForSome, option_map_or, option_or};
-ghost use Rattle.nt_event.specs.Frames.{thread_part};
-ghost use Rattle.nt_event.specs.Frames.{done_to, frames_in, innermost, is_on_thread as on_thread_part, left, level_in, normal_of};
+ghost use Rattle.nt_event.specs.Frames.{thread_part, done_to, frames_in, innermost, is_on_thread as on_thread_part, left, level_in, normal_of};
 ghost use Rattle.nt_event.specs.Regions.{after_in, below_in, some_came_to_0};
-ghost use Rattle.nt_event.specs.Words.{is_null, head_of};
+ghost use Rattle.nt_event.specs.Lists.{is_null, head_of};
 ghost use Rattle.nt_frame.specs.Changes.{at_innermost, begun, closed, no_frames, without_innermost};
 ghost use Rattle.nt_frame.specs.Nesting.{AreNamedBelow, AreNested, IsThreadPart};
 ghost use Rattle.nt_frame.specs.Rules.{count_of, end_asks_apc, enter_of, is_at_base, is_leaving, leave_of, may_begin, may_go_on, refusal_in, regions_in};

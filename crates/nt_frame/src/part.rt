@@ -2,7 +2,7 @@
 ghost use Rattle.std.specs.Prelude.{◌≡◌, ◌<◌, ◌^◌, [], ◌∷◌, length, reverse, vec_capacity, IfOk};
 ghost use Rattle.nt_event.specs.Frames.{at_head, is_normal_apc_body};
 ghost use Rattle.nt_event.specs.Regions.{busy_of, crit_of, guard_of, regions_of};
-ghost use Rattle.nt_event.specs.Words.{head_of, is_null, tail_of};
+ghost use Rattle.nt_event.specs.Lists.{head_of, is_null, tail_of};
 
 use nt_event::{ApcKind, Body, Frame, Regions};
 use std::alloc::{AllocError, Global};

@@ -1,7 +1,7 @@
 //! The parts of the threads.
 ghost use Rattle.std.specs.Prelude.{◌≡◌, ◌<◌, [], ◌∷◌, length, set, vec_len};
 ghost use Rattle.nt_event.specs.Frames.{at_head, frames_in};
-ghost use Rattle.nt_event.specs.Words.{tail_of};
+ghost use Rattle.nt_event.specs.Lists.{tail_of};
 
 use crate::part::Part;
 use nt_event::{Frame, ThreadNo};

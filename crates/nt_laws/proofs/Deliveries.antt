@@ -27,7 +27,7 @@ use Rattle.nt_event.specs.Eligible.{ExpiryRequest, FlushRequest, IntRequest, Ker
 use Rattle.nt_event.specs.Frames.{frames_of, innermost, is_base_body, is_on_thread, own_frames, running, thread_frames, thread_part}
 use Rattle.nt_event.specs.Jobs.{is_due, level_at, user_due}
 use Rattle.nt_event.specs.Lanes.{Lanes, facts_at, facts_of, lanes_at, queue_at}
-use Rattle.nt_event.specs.Laws.{HasBase}
+use Rattle.nt_runs.specs.Laws.{HasBase}
 use Rattle.nt_event.specs.Own.{Own, own_of}
 use Rattle.nt_event.specs.Queues.{QueueState, is_of_dpc}
 use Rattle.nt_event.specs.Regions.{regions_of}
@@ -37,19 +37,19 @@ use Rattle.nt_event.specs.Step.{IsRun}
 use Rattle.nt_event.specs.Threads.{ThreadFacts, start_facts}
 use Rattle.nt_event.specs.Timers.{SetKey, first_due}
 use Rattle.nt_event.specs.Waits.{facts}
-use Rattle.nt_event.specs.Words.{head_of, is_null}
-use Rattle.nt_event.proofs.Calm.{next_test}
-use Rattle.nt_event.proofs.Known.{Deliverable, Known, KnownBegin, KnownInsert, KnownInterrupt, KnownKey, KnownPick, KnownRundown, KnownToUser, legal_known}
-use Rattle.nt_event.proofs.Leaving.{leaves_as, leaving_base}
+use Rattle.nt_event.specs.Lists.{head_of, is_null}
+use Rattle.nt_runs.proofs.Calm.{next_test}
+use Rattle.nt_runs.proofs.Known.{Deliverable, Known, KnownBegin, KnownInsert, KnownInterrupt, KnownKey, KnownPick, KnownRundown, KnownToUser, legal_known}
+use Rattle.nt_runs.proofs.Leaving.{leaves_as, leaving_base}
 use Rattle.nt_event.proofs.Options.{Holds, both, holds_at, when_gives}
-use Rattle.nt_event.proofs.Running.{running_has_base, running_here}
-use Rattle.nt_event.proofs.Shared.{leaving_null, part_head}
-use Rattle.nt_event.proofs.Stops.{null_of, refuse_none}
-use Rattle.nt_event.proofs.Turns.{is_next}
+use Rattle.nt_runs.proofs.Running.{running_has_base, running_here}
+use Rattle.nt_runs.proofs.Shared.{leaving_null, part_head}
+use Rattle.nt_runs.proofs.Stops.{null_of, refuse_none}
+use Rattle.nt_runs.proofs.Turns.{is_next}
 use Rattle.nt_laws.proofs.Leaves.{leaves}
-use Rattle.nt_laws.proofs.Pending.{no_kernel}
-use Rattle.nt_laws.proofs.RundownRun.{KernelPick, deliverable_fits, facts_fit_of, first_user_fits}
-use Rattle.nt_laws.proofs.RundownSteps.{Stands, facts_there, first_frame, flush_quiet, stands}
+use Rattle.nt_runs.proofs.Pending.{no_kernel}
+use Rattle.nt_runs.proofs.Rundown.Run.{KernelPick, deliverable_fits, facts_fit_of, first_user_fits}
+use Rattle.nt_runs.proofs.Rundown.Steps.{Stands, facts_there, first_frame, flush_quiet, stands}
 
 all_true : (a b : Bool) → a ≡ true → b ≡ true → (a && b) ≡ true
 all_true true b h k = k

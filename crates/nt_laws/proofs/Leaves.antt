@@ -15,14 +15,14 @@ use Rattle.nt_event.specs.Script.{has_thread}
 use Rattle.nt_event.specs.Step.{IsLegal, IsRun, thread_field}
 use Rattle.nt_event.specs.Threads.{ThreadFacts}
 use Rattle.nt_event.specs.Waits.{facts, made_facts, named_facts}
-use Rattle.nt_event.specs.Words.{is_by}
-use Rattle.nt_event.proofs.Calm.{ran}
-use Rattle.nt_event.proofs.Running.{called_keeps, normal_keeps, rewaited_keeps, same_thread, thread_named}
-use Rattle.nt_event.proofs.Turns.{is_next}
-use Rattle.nt_laws.proofs.LeavingFacts.{is_end}
-use Rattle.nt_laws.proofs.Rundown.{Leaves, leaves_unnamed, unnamed_leaving}
-use Rattle.nt_laws.proofs.RundownRun.{after, before, begun, changed, cleaned, ended_frame, flushes, interrupted, kept, own, switched}
-use Rattle.nt_laws.proofs.RundownSteps.{Stands, stands}
+use Rattle.nt_event.specs.Numbers.{is_by}
+use Rattle.nt_runs.proofs.Calm.{ran}
+use Rattle.nt_runs.proofs.Running.{called_keeps, normal_keeps, rewaited_keeps, same_thread, thread_named}
+use Rattle.nt_runs.proofs.Turns.{is_next}
+use Rattle.nt_runs.proofs.Leaving.Facts.{is_end}
+use Rattle.nt_runs.proofs.Rundown.{Leaves, leaves_unnamed, unnamed_leaving}
+use Rattle.nt_runs.proofs.Rundown.Run.{after, before, begun, changed, cleaned, ended_frame, flushes, interrupted, kept, own, switched}
+use Rattle.nt_runs.proofs.Rundown.Steps.{Stands, stands}
 
 no_leave : {A : Type 0} → false ≡ true → A
 no_leave h = cc

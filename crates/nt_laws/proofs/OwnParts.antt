@@ -9,9 +9,9 @@ use Rattle.nt_event.specs.Own.{fire, fire_after, is_rest, made, own_of, rested, 
 use Rattle.nt_event.specs.Regions.{owes_sweep, sweep_after}
 use Rattle.nt_event.specs.Requests.{seen, served}
 use Rattle.nt_event.specs.Step.{step}
-use Rattle.nt_event.specs.Words.{is_by, is_of, thread}
+use Rattle.nt_event.specs.Numbers.{is_by, is_of, thread}
 use Rattle.nt_event.proofs.Tables.{table-same}
-use Rattle.nt_laws.proofs.RundownRun.{after}
+use Rattle.nt_runs.proofs.Rundown.Run.{after}
 use Rattle.nt_laws.specs.Locality.{Made, own_part}
 
 -- ---- by the events of the part

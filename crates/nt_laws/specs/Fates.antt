@@ -23,7 +23,7 @@ use Rattle.nt_event.specs.Routines.{owner_of}
 use Rattle.nt_event.specs.Script.{fits, has_apc, has_dpc, has_thread}
 use Rattle.nt_event.specs.Step.{IsRun}
 use Rattle.nt_event.specs.Waits.{facts}
-use Rattle.nt_event.specs.Words.{is_refused, yes_if}
+use Rattle.nt_event.specs.Replies.{is_refused, yes_if}
 
 -- the insert of the DPC object at this number is pending in the queue of p
 abbrev pub DpcIsPending : Script → CpuNo → DpcNo → ℕ → List Event → Type 0

@@ -1,13 +1,4 @@
 pub mod Locality
 pub mod Deliveries
 pub mod Fates
-pub mod Readings
-pub mod Positions
-pub mod ReadingsSeen
-pub mod ReadingsFrames
-pub mod ReadingsFates
-pub mod ReadingsFirstApcs
-pub mod ReadingsRegions
-pub mod ReadingsTimers
-pub mod ReadingsDeclared
-pub mod ReadingsPhases
+pub mod Named

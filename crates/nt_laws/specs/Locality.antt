@@ -12,7 +12,7 @@ use Rattle.nt_event.specs.Lanes.{lanes_of, touches}
 use Rattle.nt_event.specs.Own.{own_of}
 use Rattle.nt_event.specs.Requests.{asks, seen, served}
 use Rattle.nt_event.specs.Step.{IsRun, cpu_at, step}
-use Rattle.nt_event.specs.Words.{is_of}
+use Rattle.nt_event.specs.Numbers.{is_of}
 
 -- an event that doesn't touch a lane of the script leaves what stands in it, and what it tells of requests
 abbrev pub ChangesOwnLanesOnly : Type 0

@@ -3,30 +3,18 @@
 //! The definitions stand in nt_event; a run is a history each of whose events is the one that its turn gives.
 #![tactic(auto)]
 
-mod fates;
-mod readings;
+mod inserts;
 
 ghost use Rattle.nt_laws.specs.Deliveries.{DeliveriesAreEligible};
+ghost use Rattle.nt_laws.specs.Named.{EventsOfARunFit};
 ghost use Rattle.nt_laws.specs.Locality.{ChangesOwnLanesOnly, EventLeavesTheSame, KeepsItsPart, StepIsLocal};
 
-pub use fates::{
+pub use inserts::{
     a_delivery_names_a_pending_insert, a_dpc_object_has_at_most_one_pending_insert,
     a_removal_answers_yes_exactly_where_there_was_one,
     an_apc_object_has_at_most_one_pending_insert, an_apc_object_stands_at_most_once,
     apcs_have_their_threads, no_insert_is_delivered_twice, queues_and_objects_agree,
     what_is_delivered_waits,
-};
-pub use readings::{
-    a_delay_is_set_by_the_last_that_blocked, a_pending_apc_is_inserted_and_not_used_up,
-    a_timer_is_set_by_its_last_set_event, a_wait_is_taken_up_as_it_was_called,
-    an_apc_is_deliverable_by_level_and_regions, an_insert_waits_where_it_is_pending,
-    called_commands_fit, frames_are_told_by_their_present_phase, inserts_are_listed,
-    inserts_of_a_fitting_script, own_frames_are_the_open_ones, pending_apcs_stand_by_number,
-    pending_is_inserted_and_not_used_up, regions_are_enters_less_leaves,
-    seen_is_the_greatest_that_was_noticed, served_is_what_was_seen_at_the_last_service,
-    the_fate_is_the_first_use, the_first_apcs_are_by_kind_and_number, the_first_due_key_is_least,
-    the_first_of_a_part_is_by_importance_and_number, the_innermost_frame_is_the_newest_open_one,
-    the_running_thread_was_switched_to_last, thread_frames_are_the_open_ones,
 };
 
 /// Deliveries are eligible: each Begin, Expire and Flush of a run delivers a request that was eligible just before it.
@@ -56,4 +44,11 @@ pub fn an_event_leaves_the_same()
 /// seen and served of each class.
 pub fn a_processor_keeps_its_part()
     ensures { KeepsItsPart }
+{}
+
+/// The events of a run fit: of a script that fits, each event of a run names processors, threads, objects and timers of the
+/// script, classes and levels that are used, and earlier events; and a look has no thread, level 0, and a value. Whoever writes an
+/// event as text needs this: each name that is written exists, and each number has few digits.
+pub fn events_of_a_run_fit()
+    ensures { EventsOfARunFit }
 {}

@@ -16,7 +16,7 @@ use Rattle.nt_event.specs.declared.events.Turn.{Turn}
 use Rattle.nt_event.specs.declared.events.Turn.TheVariants.{Next, Look, Switch}
 use Rattle.nt_event.specs.declared.numbers.CpuNo.{CpuNo}
 use Rattle.nt_event.specs.declared.numbers.ThreadNo.{ThreadNo}
-use Rattle.nt_event.specs.Words.{cpu}
+use Rattle.nt_event.specs.Numbers.{cpu}
 use Rattle.nt_script.specs.declared.walk.Input.{Input}
 use Rattle.nt_script.specs.NameLists.{show_thread}
 use Rattle.nt_script.specs.Slots.{read_thread}

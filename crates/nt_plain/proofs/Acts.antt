@@ -14,7 +14,7 @@ use Rattle.nt_event.specs.Jobs.{job_event}
 use Rattle.nt_event.specs.Lanes.{what_lanes}
 use Rattle.nt_event.specs.Requests.{Ask, asks_in, raised, what_asks}
 use Rattle.nt_event.specs.Script.{has_cpu}
-use Rattle.nt_event.specs.Words.{table, value_at}
+use Rattle.nt_event.specs.Lists.{table, value_at}
 use Rattle.nt_event.proofs.Tables.{get_or-table}
 use Rattle.nt_floor.specs.declared.floor.Acted.{Acted}
 use Rattle.nt_floor.specs.Acts.{IsActed, KindsFit, Told, told_over}

@@ -9,11 +9,11 @@ use Rattle.nt_event.specs.declared.scripts.Script.{Script}
 use Rattle.nt_event.specs.Acting.{acted_event}
 use Rattle.nt_event.specs.Lanes.{lanes_after}
 use Rattle.nt_event.specs.Timers.{timers_after}
-use Rattle.nt_dpcs.specs.Lanes as dpcs
-use Rattle.nt_dpcs.specs.Lanes.{DpcLanes}
-use Rattle.nt_threads.specs.Fits.{MayLeave}
-use Rattle.nt_threads.specs.Lanes as threads
-use Rattle.nt_threads.specs.Lanes.{ThreadLanes}
+use Rattle.nt_dpc_lanes.specs.Lanes as dpcs
+use Rattle.nt_dpc_lanes.specs.Lanes.{DpcLanes}
+use Rattle.nt_thread_lanes.specs.Fits.{MayLeave}
+use Rattle.nt_thread_lanes.specs.Lanes as threads
+use Rattle.nt_thread_lanes.specs.Lanes.{ThreadLanes}
 use Rattle.nt_plain.specs.declared.states.States.TheInside.{Inside}
 use Rattle.nt_plain.specs.AllStates.{AllStates, dpcs_of, threads_of}
 use Rattle.nt_plain.specs.Given.{IsGiven}

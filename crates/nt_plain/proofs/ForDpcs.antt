@@ -10,7 +10,7 @@ use Rattle.nt_event.specs.declared.jobs.Stand.{Stand}
 use Rattle.nt_event.specs.declared.numbers.CpuNo.{CpuNo}
 use Rattle.nt_event.specs.Script.{has_cpu, has_dpc, where_given}
 use Rattle.nt_event.proofs.Options.{both}
-use Rattle.nt_dpcs.specs.Lanes.{MayLeave}
+use Rattle.nt_dpc_lanes.specs.Lanes.{MayLeave}
 use Rattle.nt_plain.specs.AllStates.{AllStates, dpcs_of}
 use Rattle.nt_plain.proofs.Knowns.{KnownCall, Knows}
 

@@ -21,9 +21,9 @@ use Rattle.nt_event.specs.Lanes.{facts_at, facts_of}
 use Rattle.nt_event.specs.Routines.{cpu_of}
 use Rattle.nt_event.specs.Script.{has_thread}
 use Rattle.nt_event.specs.Threads.{ThreadFacts, is_alerted, is_ready}
-use Rattle.nt_event.specs.Words.{yes_if}
+use Rattle.nt_event.specs.Replies.{yes_if}
 use Rattle.nt_event.proofs.Options.{both}
-use Rattle.nt_threads.specs.Fits.{Begins, Delays, EndFits, Flushes, MayLeave, RunsHere, TakesUp, Waits, WhatFits}
+use Rattle.nt_thread_lanes.specs.Fits.{Begins, Delays, EndFits, Flushes, MayLeave, RunsHere, TakesUp, Waits, WhatFits}
 use Rattle.nt_plain.specs.AllStates.{AllStates, threads_of}
 use Rattle.nt_plain.specs.Given.{IsGiven, what_fits}
 use Rattle.nt_plain.proofs.Knowns.{KnownCall, KnownRewait, KnownSwitch, Knows, knows}

@@ -29,9 +29,9 @@ use Rattle.nt_event.specs.Queues.{first_dpc}
 use Rattle.nt_event.specs.Script.{command_fits, has_dpc}
 use Rattle.nt_event.specs.Threads.{ended_status}
 use Rattle.nt_event.specs.Timers.{SetKey, first_due}
-use Rattle.nt_event.specs.Words.{is_null, when}
+use Rattle.nt_event.specs.Lists.{is_null, when}
 use Rattle.nt_event.proofs.Options.{Holds, holds_at, holds_else, holds_map, holds_or, holds_when, when_gives}
-use Rattle.nt_event.proofs.Robin.{next_ready_taken}
+use Rattle.nt_event.proofs.Ready.{next_ready_taken}
 use Rattle.nt_timer.specs.Settings.{due_entry}
 use Rattle.nt_plain.specs.AllStates.{AllStates}
 use Rattle.nt_plain.specs.Given.{IsGiven, MayDo}

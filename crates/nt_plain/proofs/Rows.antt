@@ -3,7 +3,7 @@ use Rattle.std.proofs.Common.{ap, arith, drop, get_or, max, ◌∙◌}
 use Rattle.std.proofs.lemmas.List.{get_or-drop, get_or-take}
 use Rattle.std.specs.List.{slice_range}
 use Rattle.std.specs.Prelude.{List, ℕ, ◌+◌, ◌-◌, ◌<◌, ◌≡◌}
-use Rattle.nt_event.specs.Words.{table, value_at}
+use Rattle.nt_event.specs.Lists.{table, value_at}
 use Rattle.nt_event.proofs.Tables.{table-same}
 
 in_row : (xs : List ℕ) (at i : ℕ) → i < 16 → get_or (slice_range xs at (at + 16)) i 0 ≡ get_or xs (at + i) 0

@@ -7,7 +7,7 @@ use Rattle.nt_event.specs.declared.numbers.CpuNo.{CpuNo}
 use Rattle.nt_event.specs.declared.scripts.Script.{Script}
 use Rattle.nt_event.specs.Lanes.{lane_number}
 use Rattle.nt_event.specs.Requests.{Ask}
-use Rattle.nt_event.specs.Words.{table, value_at}
+use Rattle.nt_event.specs.Lists.{table, value_at}
 use Rattle.nt_event.proofs.Tables.{get_or-table}
 use Rattle.nt_floor.specs.Acts.{Told, told_over}
 use Rattle.nt_plain.specs.Made.{tell_lane, tell_lanes}

@@ -21,7 +21,7 @@ use Rattle.nt_event.specs.Frames.{time_after}
 use Rattle.nt_event.specs.Routines.{cpu_of}
 use Rattle.nt_event.specs.Timers.{Timers, delay_after, setting_in, timer_after, timers_after}
 use Rattle.nt_event.specs.Waits.{is_of_thread}
-use Rattle.nt_event.specs.Words.{is_of, thread, timer}
+use Rattle.nt_event.specs.Numbers.{is_of, thread, timer}
 use Rattle.nt_event.proofs.Tables.{length-table_from, table-self}
 use Rattle.nt_timer.specs.Laws.{IsSized}
 use Rattle.nt_timer.proofs.Events.{timer_calls_are_events}

@@ -12,7 +12,7 @@ use Rattle.nt_event.specs.declared.numbers.CpuNo.{CpuNo}
 use Rattle.nt_event.specs.declared.scripts.Script.{Script}
 use Rattle.nt_event.specs.Lanes.{lane_count, lane_number, what_lanes}
 use Rattle.nt_event.specs.Requests.{Ask, asks_in, is_ask, raised, what_asks}
-use Rattle.nt_event.specs.Words.{table, value_at}
+use Rattle.nt_event.specs.Lists.{table, value_at}
 use Rattle.nt_event.proofs.Tables.{get_or-table, table-same}
 use Rattle.nt_floor.specs.Acts.{told_over}
 use Rattle.nt_plain.specs.declared.states.asking.Asked.{Asked}

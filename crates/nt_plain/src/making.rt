@@ -5,7 +5,7 @@ ghost use Rattle.nt_event.specs.Frames.{due_of};
 ghost use Rattle.nt_event.specs.Jobs.{job_event};
 ghost use Rattle.nt_event.specs.Lanes.{what_lanes};
 ghost use Rattle.nt_event.specs.Requests.{asks_in, raised, what_asks};
-ghost use Rattle.nt_event.specs.Words.{table};
+ghost use Rattle.nt_event.specs.Lists.{table};
 ghost use Rattle.nt_floor.specs.declared.floor.ActRefusal.{ActRefusal};
 ghost use Rattle.nt_floor.specs.Acts.{Found, IsRefused, KindsFit, told_over};
 ghost use Rattle.nt_plain.specs.Given.{IsGiven, MayDo};

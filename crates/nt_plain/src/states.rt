@@ -17,9 +17,9 @@ mod timing;
 mod touching;
 
 pub(crate) use asking::{Asked, Asks};
-use nt_dpcs::Dpcs;
+use nt_dpc_lanes::Dpcs;
 use nt_event::{CpuNo, Script, ThreadNo};
-use nt_threads::Threads;
+use nt_thread_lanes::Threads;
 use nt_timer::TimerQueue;
 use std::alloc::{AllocError, Global};
 use std::marker::Model;

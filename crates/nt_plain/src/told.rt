@@ -3,7 +3,7 @@ ghost use Rattle.std.specs.List.{list_any};
 ghost use Rattle.std.specs.Prelude.{◌≡◌, ◌+◌, ◌*◌, ◌<◌, ◌≤◌, ◌^◌, All, IfOk, get_or, if◌then◌else◌, length, max, replicate, set};
 ghost use Rattle.nt_event.specs.Lanes.{lane_number as number_of};
 ghost use Rattle.nt_event.specs.Requests.{is_ask};
-ghost use Rattle.nt_event.specs.Words.{table, value_at};
+ghost use Rattle.nt_event.specs.Lists.{table, value_at};
 ghost use Rattle.nt_floor.specs.Acts.{told_over};
 ghost use Rattle.nt_plain.specs.LaneLists.{as_asks};
 ghost use Rattle.nt_plain.specs.Made.{tell_lane, tell_lanes};

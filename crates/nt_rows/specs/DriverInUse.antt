@@ -13,7 +13,7 @@ use Rattle.nt_event.specs.declared.numbers.RoutineNo.{RoutineNo}
 use Rattle.nt_event.specs.declared.numbers.ThreadNo.{ThreadNo}
 use Rattle.nt_event.specs.declared.numbers.TimerNo.{TimerNo}
 use Rattle.nt_event.specs.declared.scripts.Script.{Script}
-use Rattle.nt_event.specs.Words.{apc, cpu, dpc, routine, thread, timer}
+use Rattle.nt_event.specs.Numbers.{apc, cpu, dpc, routine, thread, timer}
 use Rattle.nt_rows.specs.Rows.{event, looks, runs}
 
 abbrev pub d : DpcNo

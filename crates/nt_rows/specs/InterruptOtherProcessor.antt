@@ -8,7 +8,7 @@ use Rattle.nt_event.specs.declared.events.What.TheVariants.{Begin, Call, End, Go
 use Rattle.nt_event.specs.declared.numbers.RoutineNo.{RoutineNo}
 use Rattle.nt_event.specs.declared.numbers.ThreadNo.{ThreadNo}
 use Rattle.nt_event.specs.declared.scripts.Script.{Script}
-use Rattle.nt_event.specs.Words.{cpu, routine, thread}
+use Rattle.nt_event.specs.Numbers.{cpu, routine, thread}
 use Rattle.nt_rows.specs.Rows.{event, looks, runs}
 
 abbrev pub a : ThreadNo

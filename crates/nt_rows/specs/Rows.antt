@@ -12,7 +12,8 @@ use Rattle.nt_event.specs.declared.scripts.Script.{Script}
 use Rattle.nt_event.specs.Robin.{grown, is_settled, run_fuel}
 use Rattle.nt_event.specs.Script.{fits}
 use Rattle.nt_event.specs.Step.{step, turns}
-use Rattle.nt_event.specs.Words.{cpu, table}
+use Rattle.nt_event.specs.Numbers.{cpu}
+use Rattle.nt_event.specs.Lists.{table}
 
 -- a routine of these commands
 abbrev pub runs : List Command → Routine

@@ -11,7 +11,7 @@ use Rattle.nt_event.specs.declared.numbers.ApcNo.{ApcNo}
 use Rattle.nt_event.specs.declared.numbers.RoutineNo.{RoutineNo}
 use Rattle.nt_event.specs.declared.numbers.ThreadNo.{ThreadNo}
 use Rattle.nt_event.specs.declared.scripts.Script.{Script}
-use Rattle.nt_event.specs.Words.{apc, cpu, routine, thread}
+use Rattle.nt_event.specs.Numbers.{apc, cpu, routine, thread}
 use Rattle.nt_rows.specs.Rows.{event, runs}
 
 abbrev pub a : ThreadNo

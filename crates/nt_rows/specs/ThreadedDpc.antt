@@ -9,7 +9,7 @@ use Rattle.nt_event.specs.declared.numbers.DpcNo.{DpcNo}
 use Rattle.nt_event.specs.declared.numbers.RoutineNo.{RoutineNo}
 use Rattle.nt_event.specs.declared.numbers.ThreadNo.{ThreadNo}
 use Rattle.nt_event.specs.declared.scripts.Script.{Script}
-use Rattle.nt_event.specs.Words.{cpu, dpc, routine, thread}
+use Rattle.nt_event.specs.Numbers.{cpu, dpc, routine, thread}
 use Rattle.nt_rows.specs.Rows.{event, runs}
 
 abbrev pub w : DpcNo

@@ -4,7 +4,7 @@ use Rattle.nt_event.specs.Apcs.{without_apc}
 use Rattle.nt_event.specs.Routines.{kind_of, owner_of}
 use Rattle.nt_event.specs.Threads.{ThreadFacts}
 use Rattle.nt_event.specs.Waits.{alert_facts, alert_tested, apc_taken, expiry_facts, facts_after, frame_ended, insert_facts, is_of_thread, left_facts, made_facts, named_facts, new_pick, release_facts, waited, waited_again}
-use Rattle.nt_event.specs.Words.{is_answer, yes_if}
+use Rattle.nt_event.specs.Replies.{is_answer, yes_if}
 use Rattle.nt_event.specs.declared.commands.ApcKind.TheVariants.{User as UserApc}
 use Rattle.nt_event.specs.declared.commands.Command.TheVariants.{Alert, Delay, InsertApc, Release, RemoveApc, StartWait, TestAlert, Yield}
 use Rattle.nt_event.specs.declared.commands.Mode.{Mode}

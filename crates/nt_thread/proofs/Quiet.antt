@@ -11,7 +11,7 @@ use Rattle.nt_apc.specs.Firsts.{kind_with, may_begin}
 use Rattle.nt_event.specs.Apcs.{ApcQueues, deliverable, first_kernel, first_of_kind, first_user, is_of_apc, is_of_kind, same_kind, takes, with_apc, without_apc}
 use Rattle.nt_event.specs.Routines.{is_kernel_kind}
 use Rattle.nt_event.specs.Threads.{ThreadFacts, ends_by_apc, ends_by_kernel, ends_by_user}
-use Rattle.nt_event.specs.Words.{is_user}
+use Rattle.nt_event.specs.Replies.{is_user}
 use Rattle.nt_event.specs.declared.commands.ApcKind.{ApcKind}
 use Rattle.nt_event.specs.declared.commands.ApcKind.TheVariants.{Normal as NormalApc, Special as SpecialApc, User as UserApc}
 use Rattle.nt_event.specs.declared.commands.Regions.{Regions}

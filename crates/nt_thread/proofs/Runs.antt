@@ -5,7 +5,7 @@ use Rattle.nt_event.specs.Apcs.{closed_apcs, deliverable, has_user, takes, with_
 use Rattle.nt_event.specs.Routines.{is_kernel_kind}
 use Rattle.nt_event.specs.Threads.{ThreadFacts, ended, ends_by_alert, ends_by_apc, ends_by_expiry, ends_by_release, is_alerted, is_gone, set_alerted}
 use Rattle.nt_event.specs.Waits.{alert_facts, alert_tested, answered, apc_taken, expiry_facts, insert_facts, is_satisfied, left_facts, release_facts, wait_reply, waited}
-use Rattle.nt_event.specs.Words.{alerted, is_user, kernel_apc, satisfied, user_apc}
+use Rattle.nt_event.specs.Replies.{alerted, is_user, kernel_apc, satisfied, user_apc}
 use Rattle.nt_event.specs.declared.commands.ApcKind.{ApcKind}
 use Rattle.nt_event.specs.declared.commands.ApcKind.TheVariants.{Normal as NormalApc, Special as SpecialApc, User as UserApc}
 use Rattle.nt_event.specs.declared.commands.Mode.{Mode}

@@ -3,7 +3,7 @@ use Rattle.std.specs.Prelude.{true}
 use Rattle.nt_event.specs.declared.commands.ApcKind.{ApcKind}
 use Rattle.nt_event.specs.declared.commands.ApcKind.TheVariants.{User as UserApc}
 use Rattle.nt_event.specs.Threads.{ThreadFacts, ended}
-use Rattle.nt_event.specs.Words.{kernel_apc, user_apc}
+use Rattle.nt_event.specs.Replies.{kernel_apc, user_apc}
 
 -- profile: a user APC that ends a wait sets the user-pending mark
 abbrev pub ended_by : ApcKind → ThreadFacts → ThreadFacts

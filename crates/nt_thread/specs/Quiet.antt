@@ -5,7 +5,7 @@ use Rattle.nt_event.specs.declared.threads.Doing.TheVariants.{Blocked as IsBlock
 use Rattle.nt_event.specs.declared.threads.Waiting.{Waiting}
 use Rattle.nt_event.specs.Apcs.{ApcQueues, deliverable, first_user}
 use Rattle.nt_event.specs.Threads.{ThreadFacts}
-use Rattle.nt_event.specs.Words.{is_user}
+use Rattle.nt_event.specs.Replies.{is_user}
 
 -- an alertable wait of user mode
 abbrev pub takes_user : Waiting → Bool

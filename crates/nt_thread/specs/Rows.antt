@@ -1,15 +1,14 @@
 -- What sets and what clears each flag of a thread, and the flag that a whole run of calls leaves.
-use Rattle.std.specs.Prelude.{Bool, List, [], false, if◌then◌else◌, is_none, not, true, ◌&&◌, ◌==◌, ◌∷◌}
+use Rattle.std.specs.Prelude.{Bool, List, [], false, if◌then◌else◌, is_none, not, true, ◌&&◌, ◌==◌, ◌∷◌, ℕ}
 use Rattle.nt_event.specs.declared.commands.Mode.{Mode}
 use Rattle.nt_event.specs.declared.commands.Mode.TheVariants.{Kernel as KernelMode, User as UserMode}
 use Rattle.nt_event.specs.declared.commands.Reply.{Reply}
 use Rattle.nt_event.specs.declared.commands.Reply.TheVariants.{Status}
-use Rattle.std.specs.Prelude.{ℕ}
 use Rattle.nt_event.specs.Apcs.{has_user, takes}
 use Rattle.nt_event.specs.Routines.{is_kernel_kind}
 use Rattle.nt_event.specs.Threads.{ThreadFacts, ends_by_alert, ends_by_apc, ends_by_release, is_alerted, is_gone}
 use Rattle.nt_event.specs.Waits.{wait_reply}
-use Rattle.nt_event.specs.Words.{alerted, is_user, satisfied, user_apc}
+use Rattle.nt_event.specs.Replies.{alerted, is_user, satisfied, user_apc}
 use Rattle.nt_thread.specs.Runs.{Act, Alerts, Goes, Inserts, Leaves, Releases, Takes, TestsAlert, Wait, Waits, facts_of}
 
 abbrev pub same_mode : Mode → Mode → Bool

@@ -5,7 +5,7 @@ ghost use Rattle.nt_event.specs.Apcs as queues;
 ghost use Rattle.nt_event.specs.Jobs.{user_due as due_of};
 ghost use Rattle.nt_event.specs.Threads as spec;
 ghost use Rattle.nt_event.specs.Waits as waits;
-ghost use Rattle.nt_event.specs.Words.{alerted, is_user, kernel_apc, satisfied, user_apc};
+ghost use Rattle.nt_event.specs.Replies.{alerted, is_user, kernel_apc, satisfied, user_apc};
 ghost use Rattle.nt_event.specs.declared.numbers.ApcNo.{ApcNo as Apc};
 ghost use Rattle.nt_event.specs.declared.threads.Doing.{Doing};
 ghost use Rattle.nt_thread.specs.Endings.{ended_by};

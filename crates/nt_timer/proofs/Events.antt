@@ -17,7 +17,9 @@ use Rattle.nt_event.specs.declared.numbers.TimerNo.{TimerNo}
 use Rattle.nt_event.specs.declared.scripts.Script.{Script}
 use Rattle.nt_event.specs.Timers.{Timers, blocked_after, delay_after, expired_delay, renewed, setting_in, timer_after, timers_after}
 use Rattle.nt_event.specs.Waits.{is_of_thread}
-use Rattle.nt_event.specs.Words.{is_answer, is_of, table, table_from, thread, timer}
+use Rattle.nt_event.specs.Replies.{is_answer}
+use Rattle.nt_event.specs.Numbers.{is_of, thread, timer}
+use Rattle.nt_event.specs.Lists.{table, table_from}
 use Rattle.nt_event.proofs.Tables.{table-self}
 use Rattle.nt_timer.specs.Laws.{IsMadeBy, IsSized, TimerCallsAreEvents}
 use Rattle.nt_timer.specs.Settings.{due_at, expired, with_setting}

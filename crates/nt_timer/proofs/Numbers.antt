@@ -4,7 +4,7 @@ use Rattle.nt_event.specs.declared.commands.TimerKey.{TimerKey}
 use Rattle.nt_event.specs.declared.commands.TimerKey.TheVariants.{Delay as OfDelay, Timer as OfTimer}
 use Rattle.nt_event.specs.declared.inserts.Setting.{Setting}
 use Rattle.nt_event.specs.Timers.{Timers, renewed, setting_in}
-use Rattle.nt_event.specs.Words.{thread, timer}
+use Rattle.nt_event.specs.Numbers.{thread, timer}
 use Rattle.nt_timer.specs.Changes.{Advanced, Cancelled, Change, Delayed, Expired, NumberedBelow, Set, after_changes}
 use Rattle.nt_timer.specs.Laws.{NumbersTellKeys}
 use Rattle.nt_timer.specs.Settings.{due_at, new_timers, setting_after, setting_at, with_setting}

@@ -4,7 +4,7 @@ use Rattle.nt_event.specs.declared.commands.TimerKey.{TimerKey}
 use Rattle.nt_event.specs.declared.commands.TimerKey.TheVariants.{Delay as OfDelay, Timer as OfTimer}
 use Rattle.nt_event.specs.declared.inserts.Setting.{Setting}
 use Rattle.nt_event.specs.Timers.{SetKey, Timers, earlier, first_due, is_due_key, is_earlier, keyed, set_keys, setting_in}
-use Rattle.nt_event.specs.Words.{thread, timer}
+use Rattle.nt_event.specs.Numbers.{thread, timer}
 use Rattle.nt_timer.specs.Laws.{FirstDueIsFirst, IsFirstDue, IsNotEarlier}
 use Rattle.nt_timer.specs.Settings.{setting_at}
 use Rattle.nt_timer.proofs.Among.{Among, first_due_among, set_key_is_set}

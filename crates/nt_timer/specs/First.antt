@@ -4,7 +4,7 @@ use Rattle.nt_event.specs.declared.commands.TimerKey.{TimerKey}
 use Rattle.nt_event.specs.declared.commands.TimerKey.TheVariants.{Delay as OfDelay, Timer as OfTimer}
 use Rattle.nt_event.specs.declared.inserts.Setting.{Setting}
 use Rattle.nt_event.specs.Timers.{SetKey, earlier, is_due_key}
-use Rattle.nt_event.specs.Words.{thread, timer}
+use Rattle.nt_event.specs.Numbers.{thread, timer}
 use Rattle.nt_timer.specs.declared.first.Table.{Table}
 use Rattle.nt_timer.specs.declared.first.Table.TheVariants.{Delays, Timers}
 

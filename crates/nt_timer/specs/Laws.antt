@@ -16,7 +16,8 @@ use Rattle.nt_event.specs.declared.numbers.TimerNo.{TimerNo}
 use Rattle.nt_event.specs.declared.scripts.Script.{Script}
 use Rattle.nt_event.specs.Timers.{SetKey, Timers, first_due, timers_after, timers_at}
 use Rattle.nt_event.specs.Routines.{cpu_of}
-use Rattle.nt_event.specs.Words.{is_answer, is_of}
+use Rattle.nt_event.specs.Replies.{is_answer}
+use Rattle.nt_event.specs.Numbers.{is_of}
 use Rattle.nt_timer.specs.Changes.{Change, NumbersRise, after_changes}
 use Rattle.nt_timer.specs.Settings.{due_at, expired, new_timers, setting_at, with_setting}
 

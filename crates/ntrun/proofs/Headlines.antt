@@ -13,7 +13,7 @@ use Rattle.nt_event.specs.Fate.Fate.{StillWaits}
 use Rattle.nt_event.specs.Own.{own_of}
 use Rattle.nt_event.specs.Step.{IsRun, is_cut}
 use Rattle.nt_laws.proofs.Deliveries.{deliveries_are_eligible}
-use Rattle.nt_laws.proofs.FatesElements.{contains_kept, kept_contains}
+use Rattle.nt_event.proofs.Elements.{contains_kept, kept_contains}
 use Rattle.nt_close.proofs.Closed.{nothing_is_eligible}
 use Rattle.ntrun.specs.declared.status.Status.{Status}
 use Rattle.ntrun.specs.declared.status.Status.TheVariants as exit

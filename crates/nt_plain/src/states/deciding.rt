@@ -6,7 +6,7 @@ ghost use Rattle.nt_event.specs.Jobs as jobs;
 ghost use Rattle.nt_event.specs.Lanes.{queue_at};
 ghost use Rattle.nt_event.specs.Script.{command_fits, has_cpu, has_dpc, has_thread};
 ghost use Rattle.nt_event.specs.Timers.{first_due};
-ghost use Rattle.nt_event.specs.Words.{is_null};
+ghost use Rattle.nt_event.specs.Lists.{is_null};
 ghost use Rattle.nt_event.specs.declared.jobs.Job.{Job};
 ghost use Rattle.nt_event.specs.declared.inserts.Part.{Part as PartOf};
 ghost use Rattle.nt_event.specs.declared.scripts.Script.{Script};

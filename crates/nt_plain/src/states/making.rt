@@ -6,7 +6,7 @@ ghost use Rattle.nt_event.specs.Lanes.{Lanes, facts_at};
 ghost use Rattle.nt_event.specs.Script.{has_thread};
 ghost use Rattle.nt_event.specs.Step.{thread_field};
 ghost use Rattle.nt_event.specs.Threads.{doing_level};
-ghost use Rattle.nt_event.specs.Words.{is_blocked as blocks};
+ghost use Rattle.nt_event.specs.Replies.{is_blocked as blocks};
 ghost use Rattle.nt_event.specs.declared.events.What.{What};
 ghost use Rattle.nt_event.specs.declared.jobs.Stand.{Stand};
 ghost use Rattle.nt_plain.specs.Given.{IsGiven};

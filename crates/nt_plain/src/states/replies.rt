@@ -6,7 +6,7 @@ ghost use Rattle.nt_event.specs.Lanes.{facts_at, facts_of};
 ghost use Rattle.nt_event.specs.Script.{command_fits, has_thread};
 ghost use Rattle.nt_event.specs.Threads.{is_alerted, is_gone};
 ghost use Rattle.nt_event.specs.Waits.{wait_reply};
-ghost use Rattle.nt_event.specs.Words.{yes_if as yes_of};
+ghost use Rattle.nt_event.specs.Replies.{yes_if as yes_of};
 ghost use Rattle.nt_floor.specs.Acts.{StandFits};
 
 use super::States;

@@ -3,7 +3,7 @@ ghost use Rattle.std.specs.Prelude.{◌≡◌, ◌∷◌, All, IsTrue, [], if◌
 ghost use Rattle.nt_event.specs.Lanes as lanes;
 ghost use Rattle.nt_event.specs.Routines as routines;
 ghost use Rattle.nt_event.specs.Script.{command_fits, has_apc, has_cpu, has_dpc};
-ghost use Rattle.nt_event.specs.Words.{is_refused as refuses, is_yes as says_yes};
+ghost use Rattle.nt_event.specs.Replies.{is_refused as refuses, is_yes as says_yes};
 ghost use Rattle.nt_event.specs.declared.jobs.Lane.{Lane};
 ghost use Rattle.nt_floor.specs.Acts.{StandFits};
 ghost use Rattle.nt_plain.specs.Given.{IsGiven};

@@ -1,5 +1,5 @@
 use Rattle.std.proofs.Common.{refl}
-use Rattle.nt_event.specs.Words.{table_from}
+use Rattle.nt_event.specs.Lists.{table_from}
 use Rattle.nt_rows.proofs.queue_unqueue.Goals as goal
 
 pub returns : goal.returns

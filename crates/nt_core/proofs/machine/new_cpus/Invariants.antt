@@ -1,6 +1,7 @@
 use Rattle.std.proofs.Common.{vec_capacity, vec_len, ◌≡◌, ◌≤◌}
 use Rattle.std.specs.Prelude.{[]}
-use Rattle.nt_event.specs.Words.{cpu, table}
+use Rattle.nt_event.specs.Numbers.{cpu}
+use Rattle.nt_event.specs.Lists.{table}
 use Rattle.nt_cpu.specs.Runs.{state_of}
 use Rattle.nt_core.proofs.machine.new_cpus.Given as goal
 

@@ -1,10 +1,9 @@
 use Rattle.std.proofs.Common.{ap, arith, ◌∙◌}
-use Rattle.std.specs.Prelude.{List}
+use Rattle.std.specs.Prelude.{List, if◌then◌else◌, nat_lt}
 use Rattle.nt_event.specs.Robin.{look_value}
-use Rattle.nt_event.specs.Words.{value_at}
+use Rattle.nt_event.specs.Lists.{value_at}
 use Rattle.nt_event.proofs.Tables.{is_table}
 use Rattle.nt_plain.specs.States.{view_of}
-use Rattle.std.specs.Prelude.{if◌then◌else◌, nat_lt}
 use Rattle.nt_core.proofs.robins.look_values.Goals as goal
 
 pub returns : goal.returns

@@ -1,5 +1,5 @@
 use Rattle.std.proofs.Common.{arith, max}
-use Rattle.nt_event.specs.Words.{value_at}
+use Rattle.nt_event.specs.Lists.{value_at}
 use Rattle.nt_event.proofs.Tables.{is_table}
 use Rattle.nt_cpu.proofs.values.raise.Goals as goal
 

@@ -1,5 +1,5 @@
 use Rattle.std.proofs.Common.{refl}
-use Rattle.nt_event.specs.Words.{table_from}
+use Rattle.nt_event.specs.Lists.{table_from}
 use Rattle.nt_frame.proofs.Allowed.{calls_allowed}
 use Rattle.nt_frame.proofs.tests.threads_come_and_go.Goals as goal
 

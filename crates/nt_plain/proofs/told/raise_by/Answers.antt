@@ -1,5 +1,5 @@
 use Rattle.std.proofs.Common.{arith, get_or, max}
-use Rattle.nt_event.specs.Words.{value_at}
+use Rattle.nt_event.specs.Lists.{value_at}
 use Rattle.nt_event.proofs.Tables.{is_table}
 use Rattle.nt_plain.proofs.told.raise_by.Goals as goal
 

@@ -1,4 +1,4 @@
-use Rattle.nt_event.proofs.Turns.{turn_same}
+use Rattle.nt_runs.proofs.Turns.{turn_same}
 use Rattle.nt_core.proofs.Choosing.{never_refused}
 use Rattle.nt_core.proofs.machine.Core.follow.Goals as goal
 

@@ -2,7 +2,7 @@ use Rattle.std.proofs.Common.{ap, max, subst, sym, ◌∙◌}
 use Rattle.std.specs.Prelude.{None, Option, ℕ, ◌+◌, ◌<◌, ◌≡◌}
 use Rattle.nt_event.specs.declared.events.Event.{Event}
 use Rattle.nt_event.specs.declared.jobs.Stand.{Stand}
-use Rattle.nt_event.specs.Words.{value_at}
+use Rattle.nt_event.specs.Lists.{value_at}
 use Rattle.nt_floor.specs.Views.{IsDrawn}
 use Rattle.nt_cpu.specs.Alone.{IsMarkedFor, alone_asks, alone_event, noticed}
 use Rattle.nt_cpu.specs.Leaves.{own_with}

@@ -2,7 +2,7 @@ use Rattle.std.proofs.Common.{ap, arith, max, subst, sym, ◌∙◌}
 use Rattle.std.specs.Prelude.{ℕ, ◌<◌, ◌≡◌, ◌≤◌}
 use Rattle.nt_event.specs.Frames.{Frames}
 use Rattle.nt_event.specs.Step.{thread_field}
-use Rattle.nt_event.specs.Words.{value_at}
+use Rattle.nt_event.specs.Lists.{value_at}
 use Rattle.nt_frame.specs.Nesting.{AreNested}
 use Rattle.nt_cpu.specs.Fits.{Allow}
 use Rattle.nt_cpu.specs.Insides.{state_in}

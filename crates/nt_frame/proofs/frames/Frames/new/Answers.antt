@@ -1,4 +1,4 @@
-use Rattle.nt_event.specs.Words.{table_from}
+use Rattle.nt_event.specs.Lists.{table_from}
 use Rattle.nt_frame.proofs.Nested.{nested_start}
 use Rattle.nt_frame.proofs.Tables.{table-same_more}
 use Rattle.nt_frame.proofs.frames.Frames.new.Goals as goal

@@ -2,7 +2,7 @@ use Rattle.std.proofs.Common.{subst, sym, ◌≡◌}
 use Rattle.std.proofs.lemmas.Bool.{ltb-true}
 use Rattle.nt_event.specs.Lanes.{what_lanes}
 use Rattle.nt_event.specs.Requests.{asks_in, raised}
-use Rattle.nt_event.specs.Words.{table}
+use Rattle.nt_event.specs.Lists.{table}
 use Rattle.nt_floor.specs.Acts.{told_over}
 use Rattle.nt_plain.specs.Insides.{state_in}
 use Rattle.nt_plain.specs.LaneLists.{AskFits}

@@ -1,5 +1,5 @@
 use Rattle.std.proofs.Common.{drop, length, max, ℕ, ◌<◌, ◌≡◌}
-use Rattle.nt_event.specs.Words.{value_at}
+use Rattle.nt_event.specs.Lists.{value_at}
 use Rattle.nt_floor.specs.Acts.{told_over}
 use Rattle.nt_plain.specs.Places.{row_value}
 use Rattle.nt_plain.proofs.told.ToldValues.over.Given as goal

@@ -1,0 +1,11 @@
+use Rattle.nt_event.specs.Lists.{table_from}
+use Rattle.nt_dpc_lanes.proofs.Starting.{table_more}
+use Rattle.nt_dpc_lanes.proofs.making.queues.Goals as goal
+
+pub loop-i-init : goal.loop-i-init
+unfolding table_from
+loop-i-init c = c.in_ok-queues.ensures.items
+
+pub loop-i-preserved : goal.loop-i-preserved
+loop-i-preserved c =
+    rw (c.in_ok-push.ensures.items, c.loop-i.invariant, c.in_ok-new.ensures, c.len-count.ensures, c.unwrap_or-limit.ensures) (table_more _ _)

@@ -1,6 +1,0 @@
-use Rattle.nt_dpcs.proofs.Seeing.{standing_in}
-use Rattle.nt_dpcs.proofs.dpcs.Dpcs.standing.Goals as goal
-
-pub returns-clause-cpu : goal.returns-clause-cpu
-returns-clause-cpu c =
-    rw (c.standing.ensures, c.object.ensures.state) (standing_in _ _ c.agree.ensures)

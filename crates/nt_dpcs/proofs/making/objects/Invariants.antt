@@ -1,6 +1,0 @@
-use Rattle.std.proofs.Common.{◌≡◌}
-use Rattle.nt_dpcs.specs.Agree.{new_objects}
-use Rattle.nt_dpcs.proofs.making.objects.Given as goal
-
-abbrev pub invariant-loop-i : goal.invariant-loop-i
-invariant-loop-i l = l.objects.items ≡ new_objects l.fn.script l.i

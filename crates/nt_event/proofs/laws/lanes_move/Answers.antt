@@ -1,5 +1,0 @@
-use Rattle.nt_event.proofs.Moves.{lanes_move}
-use Rattle.nt_event.proofs.laws.lanes_move.Goals as goal
-
-pub returns : goal.returns
-returns c = lanes_move

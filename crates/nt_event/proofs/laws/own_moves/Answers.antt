@@ -1,5 +1,0 @@
-use Rattle.nt_event.proofs.Moves.{own_moves}
-use Rattle.nt_event.proofs.laws.own_moves.Goals as goal
-
-pub returns : goal.returns
-returns c = own_moves

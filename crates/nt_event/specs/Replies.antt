@@ -1,0 +1,52 @@
+-- Replies: which are done, yes, an answer, blocked or refused; and the statuses of waits.
+use Rattle.std.specs.Prelude.{Bool, false, true, ℕ}
+use Rattle.nt_event.specs.declared.commands.Mode.{Mode}
+use Rattle.nt_event.specs.declared.commands.Mode.TheVariants.{Kernel as KernelMode, User as UserMode}
+use Rattle.nt_event.specs.declared.commands.Reply.{Reply}
+use Rattle.nt_event.specs.declared.commands.Reply.TheVariants.{Blocked, Done, No, Refused, Yes}
+
+abbrev pub is_done : Reply → Bool
+is_done Done = true
+is_done _ = false
+
+abbrev pub is_yes : Reply → Bool
+is_yes Yes = true
+is_yes _ = false
+
+-- yes or no
+abbrev pub is_answer : Reply → Bool
+is_answer Yes = true
+is_answer No = true
+is_answer _ = false
+
+abbrev pub is_blocked : Reply → Bool
+is_blocked Blocked = true
+is_blocked _ = false
+
+abbrev pub is_refused : Reply → Bool
+is_refused (Refused r) = true
+is_refused _ = false
+
+abbrev pub yes_if : Bool → Reply
+yes_if true = Yes
+yes_if false = No
+
+-- STATUS_SUCCESS: the wait is satisfied, or the delay is over
+abbrev pub satisfied : ℕ
+satisfied = 0
+
+-- STATUS_USER_APC
+abbrev pub user_apc : ℕ
+user_apc = 192
+
+-- STATUS_KERNEL_APC
+abbrev pub kernel_apc : ℕ
+kernel_apc = 256
+
+-- STATUS_ALERTED
+abbrev pub alerted : ℕ
+alerted = 257
+
+abbrev pub is_user : Mode → Bool
+is_user UserMode = true
+is_user KernelMode = false

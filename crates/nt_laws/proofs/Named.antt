@@ -1,0 +1,6 @@
+-- What the events of a run name.
+pub mod Settings
+pub mod Asked
+pub mod Inserted
+pub mod Declared
+pub mod EventsFit

@@ -1,5 +1,0 @@
-use Rattle.nt_laws.proofs.FatesDeliveries.{deliveries_name_pending_inserts}
-use Rattle.nt_laws.proofs.fates.a_delivery_names_a_pending_insert.Goals as goal
-
-pub returns : goal.returns
-returns c = deliveries_name_pending_inserts

@@ -1,5 +1,0 @@
-use Rattle.nt_laws.proofs.FatesOnce.{delivered_inserts_wait}
-use Rattle.nt_laws.proofs.fates.what_is_delivered_waits.Goals as goal
-
-pub returns : goal.returns
-returns c = delivered_inserts_wait

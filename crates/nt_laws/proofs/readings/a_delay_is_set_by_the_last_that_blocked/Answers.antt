@@ -1,5 +1,0 @@
-use Rattle.nt_laws.proofs.ReadingsTimers.{delays_set_last}
-use Rattle.nt_laws.proofs.readings.a_delay_is_set_by_the_last_that_blocked.Goals as goal
-
-pub returns : goal.returns
-returns c = delays_set_last

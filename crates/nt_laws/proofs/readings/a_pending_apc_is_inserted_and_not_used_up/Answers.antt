@@ -1,5 +1,0 @@
-use Rattle.nt_laws.proofs.ReadingsApcs.{pending_apc_reads}
-use Rattle.nt_laws.proofs.readings.a_pending_apc_is_inserted_and_not_used_up.Goals as goal
-
-pub returns : goal.returns
-returns c = pending_apc_reads

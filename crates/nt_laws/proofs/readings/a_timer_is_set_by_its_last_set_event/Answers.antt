@@ -1,5 +1,0 @@
-use Rattle.nt_laws.proofs.ReadingsTimers.{timers_set_last}
-use Rattle.nt_laws.proofs.readings.a_timer_is_set_by_its_last_set_event.Goals as goal
-
-pub returns : goal.returns
-returns c = timers_set_last

@@ -1,5 +1,0 @@
-use Rattle.nt_laws.proofs.ReadingsPhases.{taken_up}
-use Rattle.nt_laws.proofs.readings.a_wait_is_taken_up_as_it_was_called.Goals as goal
-
-pub returns : goal.returns
-returns c = taken_up

@@ -1,5 +1,0 @@
-use Rattle.nt_laws.proofs.ReadingsDeliverable.{deliverable_by_regions}
-use Rattle.nt_laws.proofs.readings.an_apc_is_deliverable_by_level_and_regions.Goals as goal
-
-pub returns : goal.returns
-returns c = deliverable_by_regions

@@ -1,5 +1,0 @@
-use Rattle.nt_laws.proofs.ReadingsFates.{waiting_is_pending}
-use Rattle.nt_laws.proofs.readings.an_insert_waits_where_it_is_pending.Goals as goal
-
-pub returns : goal.returns
-returns c = waiting_is_pending

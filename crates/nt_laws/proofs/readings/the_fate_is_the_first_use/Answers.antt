@@ -1,5 +1,0 @@
-use Rattle.nt_laws.proofs.ReadingsFates.{fate_is_first_use}
-use Rattle.nt_laws.proofs.readings.the_fate_is_the_first_use.Goals as goal
-
-pub returns : goal.returns
-returns c = fate_is_first_use

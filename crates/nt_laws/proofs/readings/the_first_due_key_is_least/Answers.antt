@@ -1,5 +1,0 @@
-use Rattle.nt_laws.proofs.ReadingsTimers.{first_due_least}
-use Rattle.nt_laws.proofs.readings.the_first_due_key_is_least.Goals as goal
-
-pub returns : goal.returns
-returns c = first_due_least

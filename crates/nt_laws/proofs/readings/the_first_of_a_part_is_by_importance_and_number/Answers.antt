@@ -1,5 +1,0 @@
-use Rattle.nt_laws.proofs.ReadingsFirst.{first_is_first}
-use Rattle.nt_laws.proofs.readings.the_first_of_a_part_is_by_importance_and_number.Goals as goal
-
-pub returns : goal.returns
-returns c = first_is_first

@@ -1,5 +1,0 @@
-use Rattle.nt_laws.proofs.ReadingsInnermost.{innermost_greatest}
-use Rattle.nt_laws.proofs.readings.the_innermost_frame_is_the_newest_open_one.Goals as goal
-
-pub returns : goal.returns
-returns c = innermost_greatest

@@ -1,5 +1,0 @@
-pub mod Declared
-pub mod Inserted
-pub mod Settings
-pub mod Asked
-pub mod EventsFit

@@ -1,0 +1,15 @@
+pub mod Pending
+pub mod Apcs
+pub mod Seen
+pub mod Served
+pub mod Frames
+pub mod Threads
+pub mod Innermost
+pub mod Fates
+pub mod FirstApcs
+pub mod Follow
+pub mod Regions
+pub mod Deliverable
+pub mod Timers
+pub mod Declared
+pub mod Phases

@@ -1,0 +1,10 @@
+pub mod Positions
+pub mod Inserts
+pub mod Seen
+pub mod Frames
+pub mod Fates
+pub mod FirstApcs
+pub mod Regions
+pub mod Timers
+pub mod Declared
+pub mod Phases

@@ -1,0 +1,282 @@
+-- What holds of each open frame of a thread in a run, where every change of a frame keeps it.
+use Rattle.std.proofs.Common.{ap, arith, subst, sym, ◌∙◌}
+use Rattle.std.proofs.lemmas.Bool.{eqb-true, ltb-false}
+use Rattle.std.specs.Option.{option_map_or, option_or}
+use Rattle.std.specs.Prelude.{Bool, List, None, Option, Some, [], false, if◌then◌else◌, length, nat_lt, refl, true, ℕ, ◌==◌, ◌∷◌, ◌≡◌, ◌≤◌}
+use Rattle.nt_event.specs.declared.commands.ApcKind.{ApcKind}
+use Rattle.nt_event.specs.declared.commands.ApcKind.TheVariants.{Normal as NormalApc, Special as SpecialApc, User as UserApc}
+use Rattle.nt_event.specs.declared.commands.Command.{Command}
+use Rattle.nt_event.specs.declared.commands.Command.TheVariants.{Delay, Lower, Raise, StartWait}
+use Rattle.nt_event.specs.declared.commands.Refusal.TheVariants.{BelowBase, NotGreater, NotLess}
+use Rattle.nt_event.specs.declared.commands.Reply.{Reply}
+use Rattle.nt_event.specs.declared.commands.Reply.TheVariants.{Done}
+use Rattle.nt_event.specs.declared.events.Begun.TheVariants.{Apc}
+use Rattle.nt_event.specs.declared.events.Event.{Event}
+use Rattle.nt_event.specs.declared.events.What.{What}
+use Rattle.nt_event.specs.declared.events.What.TheVariants.{Begin, Call, End, Flush, Gone, Normal, Rewait, Switch}
+use Rattle.nt_event.specs.declared.frames.Body.{Body}
+use Rattle.nt_event.specs.declared.frames.Body.TheVariants.{Apc as OnApc, Base as OnBase, Dpc as OnDpc, Int as OnInt, Rundown as OnRundown, Threaded as OnThreaded}
+use Rattle.nt_event.specs.declared.frames.Frame.{Frame}
+use Rattle.nt_event.specs.declared.numbers.ApcNo.{ApcNo}
+use Rattle.nt_event.specs.declared.numbers.CpuNo.{CpuNo}
+use Rattle.nt_event.specs.declared.numbers.RoutineNo.{RoutineNo}
+use Rattle.nt_event.specs.declared.numbers.ThreadNo.{ThreadNo}
+use Rattle.nt_event.specs.declared.scripts.Script.{Script}
+use Rattle.nt_event.specs.Commands.{refuse}
+use Rattle.nt_event.specs.Frames.{at_name, base_level, base_of, called, done_to, due_of, end_on_thread, flushed, frames_of, is_base_body, left, new_frame, normal_of, resumed, rewaited, running, switched_to, thread_after, thread_frames, thread_part, time}
+use Rattle.nt_event.specs.Jobs.{has_normal, level_at}
+use Rattle.nt_event.specs.Lanes.{Lanes, lanes_at}
+use Rattle.nt_event.specs.Own.{Own, own_of}
+use Rattle.nt_event.specs.Routines.{kind_of, rundown_of}
+use Rattle.nt_event.specs.Step.{IsLegal, IsRun}
+use Rattle.nt_event.specs.Lists.{head_of}
+use Rattle.nt_event.specs.Numbers.{is_by, is_of}
+use Rattle.nt_runs.proofs.Calm.{next_test, ran}
+use Rattle.nt_runs.proofs.Known.{Known, KnownCall, KnownNormal, legal_known}
+use Rattle.nt_runs.proofs.Names.{Apart, Named, all_named}
+use Rattle.nt_runs.proofs.OwnPart.{AllOwn, all_own, is_own_body}
+use Rattle.nt_runs.proofs.Running.{called_keeps, frames_when, part_of_running, running_here, same_cpu}
+use Rattle.nt_runs.proofs.Stops.{call_accepted, refuse_none}
+use Rattle.nt_runs.proofs.Turns.{is_next}
+
+-- ---- a property of frames that each event of a run keeps
+
+pub record Kept (P : Frame → Type 0) : Type 0 where
+  pub base : (n : ℕ) (t : ThreadNo) → P (new_frame n (OnBase t))
+  pub apc : (n : ℕ) (a : ApcNo) (k : ApcKind) → P (new_frame n (OnApc a k))
+  pub rundown : (n : ℕ) (a : ApcNo) → P (new_frame n (OnRundown a))
+  pub resumed : (st : Option ℕ) (f : Frame) → P f → P (resumed st f)
+  pub rewaited : (y : Reply) (f : Frame) → P f → P (rewaited y f)
+  pub left : (f : Frame) → is_base_body f.body ≡ true → P f → P (left f)
+  pub normal : (f : Frame) → has_normal f.body ≡ true → P f → P (normal_of f)
+  pub called : (s : Script) (p : CpuNo) (x : Own) (l : Lanes) (n : ℕ) (due : Option ℕ) (c : Command) (y : Reply) (k : KnownCall s p x l n c y) → P k.frame → P (called due c y k.frame)
+
+abbrev pub Each : (Frame → Type 0) → List Frame → Type 0
+Each P [] = Unit {0}
+Each P (f ∷ fs) = P f × Each P fs
+
+module _ (P : Frame → Type 0) (k : Kept P) where
+  named_each : (n : ℕ) (g : Frame → Frame) (fs : List Frame) → ((f : Frame) → P f → P (g f)) → Each P fs → Each P (at_name n g fs)
+  named_each n g [] i h = h
+  named_each n g (f ∷ fs) i h = (go (f.name == n), h.1)
+    where
+      go : (b : Bool) → P (if b then g f else f)
+      go true = i f h.0
+      go false = h.0
+
+  end_each : (n : ℕ) (fs : List Frame) → Each P fs → Each P (end_on_thread n fs)
+  end_each n [] h = h
+  end_each n (f ∷ fs) h = go (f.name == n) (is_base_body f.body) refl
+    where
+      go : (b c : Bool) → is_base_body f.body ≡ c → Each P (if b then (if c then (left f ∷ fs) else fs) else (f ∷ fs))
+      go true true e = (k.left f e h.0, h.1)
+      go true false e = h.1
+      go false c e = h
+
+  flushed_each : (n : ℕ) (a : ApcNo) (o : Option RoutineNo) (fs : List Frame) → Each P fs → Each P (flushed n a o fs)
+  flushed_each n a None fs h = h
+  flushed_each n a (Some r) fs h = (k.rundown n a, h)
+
+  switched_each : (n : ℕ) (t : ThreadNo) (st : Option ℕ) (fs : List Frame) → Each P fs → Each P (switched_to n t st fs)
+  switched_each n t st [] h = (k.base n t, tt)
+  switched_each n t st (f ∷ fs) h = (k.resumed st f h.0, h.1)
+
+  -- the innermost frame of the thread's part is the one that calls, or has another name
+  call_each : (s : Script) (p : CpuNo) (x : Own) (l : Lanes) (n m : ℕ) (due : Option ℕ) (c : Command) (y : Reply) (fs : List Frame) → KnownCall s p x l n c y → thread_part x.frames ≡ fs → Named m x.frames.own fs → Each P fs → Each P (at_name n (called due c y) fs)
+  call_each s p x l n m due c y [] q e d h = h
+  call_each s p x l n m due c y (f ∷ fs) q e d h = go x.frames.own refl d.apart
+    where
+      go : (gs : List Frame) → x.frames.own ≡ gs → Apart gs (f ∷ fs) → Each P (at_name n (called due c y) (f ∷ fs))
+      go [] o a =
+          let first : option_or (head_of {A = Frame} []) (head_of (f ∷ fs)) ≡ Some q.frame = subst (λ (hs : List Frame). option_or (head_of {A = Frame} []) (head_of hs) ≡ Some q.frame) e (subst (λ (gs : List Frame). option_or (head_of gs) (head_of (thread_part x.frames)) ≡ Some q.frame) o q.goes_on.inner) in
+          let same : q.frame ≡ f = cc in
+          let after : P (called due c y f) = subst (λ (g : Frame). P (called due c y g)) same (k.called s p x l n due c y q (subst P (sym same) h.0)) in
+          (either (f.name == n) after, h.1)
+        where
+          either : (b : Bool) → P (called due c y f) → P (if b then called due c y f else f)
+          either true z = z
+          either false z = h.0
+      go (g ∷ gs) o a =
+          let first : option_or (head_of (g ∷ gs)) (head_of (thread_part x.frames)) ≡ Some q.frame = subst (λ (gs : List Frame). option_or (head_of gs) (head_of (thread_part x.frames)) ≡ Some q.frame) o q.goes_on.inner in
+          let same : g ≡ q.frame = cc in
+          let name : g.name ≡ n = ap (λ (z : Frame). z.name) same ∙ sym q.name in
+          (other (f.name == n) refl (λ z. a.0.0 (z ∙ sym name)), h.1)
+        where
+          other : (b : Bool) → (f.name == n) ≡ b → (f.name ≡ n → ⊥) → P (if b then called due c y f else f)
+          other true z differ = absurd (differ (eqb-true f.name n z))
+          other false z differ = h.0
+
+  -- an APC goes on to its normal routine
+  normal_each : (s : Script) (p : CpuNo) (x : Own) (n : ℕ) (fs : List Frame) → KnownNormal s p x n → AllOwn x.frames.own → thread_part x.frames ≡ fs → Each P fs → Each P (at_name n normal_of fs)
+  normal_each s p x n [] q own e h = h
+  normal_each s p x n (f ∷ fs) q own e h = go x.frames.own refl own
+    where
+      no_own : (b : Body) → has_normal b ≡ true → is_own_body b ≡ true → ⊥
+      no_own (OnApc a kind) u v = cc
+      no_own (OnInt l) u v = cc
+      no_own (OnDpc d) u v = cc
+      no_own (OnThreaded d) u v = cc
+      no_own (OnBase t) u v = cc
+      no_own (OnRundown a) u v = cc
+
+      go : (gs : List Frame) → x.frames.own ≡ gs → AllOwn gs → Each P (at_name n normal_of (f ∷ fs))
+      go [] o a =
+          let first : option_or (head_of {A = Frame} []) (head_of (f ∷ fs)) ≡ Some q.frame = subst (λ (hs : List Frame). option_or (head_of {A = Frame} []) (head_of hs) ≡ Some q.frame) e (subst (λ (gs : List Frame). option_or (head_of gs) (head_of (thread_part x.frames)) ≡ Some q.frame) o q.goes_on.inner) in
+          let same : q.frame ≡ f = cc in
+          (either (f.name == n) (k.normal f (ap (λ (z : Frame). has_normal z.body) (sym same) ∙ q.normal) h.0), h.1)
+        where
+          either : (b : Bool) → P (normal_of f) → P (if b then normal_of f else f)
+          either true z = z
+          either false z = h.0
+      go (g ∷ gs) o a =
+          let first : option_or (head_of (g ∷ gs)) (head_of (thread_part x.frames)) ≡ Some q.frame = subst (λ (gs : List Frame). option_or (head_of gs) (head_of (thread_part x.frames)) ≡ Some q.frame) o q.goes_on.inner in
+          let same : g ≡ q.frame = cc in
+          absurd (no_own q.frame.body q.normal (ap (λ (z : Frame). is_own_body z.body) (sym same) ∙ a.0.0))
+
+  after_each : (s : Script) (p : CpuNo) (x : Own) (l : Lanes) (n m : ℕ) (due : Option ℕ) (w : What) (fs : List Frame) → (is_next w ≡ true → Known s p x l w × (thread_part x.frames ≡ fs)) → AllOwn x.frames.own → Named m x.frames.own fs → Each P fs → Each P (thread_after s n due w fs)
+  after_each s p x l n m due (Switch t st) fs q own d h = switched_each n t st fs h
+  after_each s p x l n m due (Begin (Apc a) from) fs q own d h = (k.apc n a (kind_of s a), h)
+  after_each s p x l n m due (Flush a from) fs q own d h = flushed_each n a (rundown_of s a) fs h
+  after_each s p x l n m due (Call f c y) fs q own d h =
+      let z = q refl in call_each s p x l f m due c y fs z.0 z.1 d h
+  after_each s p x l n m due (Rewait f y) fs q own d h = named_each f (rewaited y) fs (k.rewaited y) h
+  after_each s p x l n m due (Normal f) fs q own d h = let z = q refl in normal_each s p x f fs z.0 own z.1 h
+  after_each s p x l n m due (End f) fs q own d h = end_each f fs h
+  after_each s p x l n m due (Gone t) fs q own d h = tt
+  after_each s p x l n m due w fs q own d h = h
+
+  each_step : (s : Script) (limit : ℕ) (p : CpuNo) (t : ThreadNo) (e : Event) (past : List Event) (own by : Bool) → is_of e p ≡ own → is_by e t ≡ by → IsLegal s limit e past → IsRun s limit past → Each P (thread_frames s p t past) → Each P (thread_frames s p t (e ∷ past))
+  each_step s limit p t e past false by o b g r ih =
+      let moved : thread_frames s p t (e ∷ past) ≡ thread_frames s p t past = rw o in subst (Each P) (sym moved) ih
+  each_step s limit p t e past true false o b g r ih =
+      let moved : thread_frames s p t (e ∷ past) ≡ thread_frames s p t past = frames_when s p t e past false o b in
+      subst (Each P) (sym moved) ih
+  each_step s limit p t e past true true o b g r ih =
+      let moved : thread_frames s p t (e ∷ past) ≡ thread_after s (length past) (due_of e.what (time past)) e.what (thread_frames s p t past) = frames_when s p t e past true o b in
+      subst (Each P) (sym moved) (after_each s p (own_of s p past) (lanes_at s past) (length past) (length past) (due_of e.what (time past)) e.what (thread_frames s p t past) known (all_own p past) (all_named s p t past) ih)
+    where
+      known : is_next e.what ≡ true → Known s p (own_of s p past) (lanes_at s past) e.what × (thread_part (frames_of s p past) ≡ thread_frames s p t past)
+      known n =
+          let run : running p past ≡ Some t = ran s limit p t e past o b g n in
+          let h = running_here s limit p t past r run in
+          (subst (λ (q : CpuNo). Known s q (own_of s q past) (lanes_at s past) e.what) (same_cpu e p o) (legal_known s limit e past g n), part_of_running s p t past h.0 run)
+
+  pub each_frame : (s : Script) (limit : ℕ) (p : CpuNo) (t : ThreadNo) (past : List Event) → IsRun s limit past → Each P (thread_frames s p t past)
+  each_frame s limit p t [] r = tt
+  each_frame s limit p t (e ∷ past) r =
+      each_step s limit p t e past (is_of e p) (is_by e t) refl refl r.0 r.1 (each_frame s limit p t past r.1)
+
+-- ---- what is kept
+
+abbrev pub is_special : Body → Bool
+is_special (OnApc a SpecialApc) = true
+is_special b = false
+
+-- a special kernel APC stays in its kernel routine, at APC_LEVEL or above
+abbrev pub Special : Frame → Type 0
+Special f = is_special f.body ≡ true → (1 ≤ f.level) × (f.kernel_phase ≡ true)
+
+-- a leaving base frame has entered no region
+abbrev pub GaveUp : Frame → Type 0
+GaveUp f = f.leaving ≡ true → (f.crit ≡ 0) × (f.guard ≡ 0)
+
+abbrev pub Sound : Frame → Type 0
+Sound f = Special f × GaveUp f × (is_own_body f.body ≡ false)
+
+no_bool : {A : Type 0} → false ≡ true → A
+no_bool h = cc
+
+new_special : (n : ℕ) (b : Body) → Special (new_frame n b)
+new_special n (OnApc a SpecialApc) h = (omega arith, refl)
+new_special n (OnApc a NormalApc) h = no_bool h
+new_special n (OnApc a UserApc) h = no_bool h
+new_special n (OnInt l) h = no_bool h
+new_special n (OnDpc d) h = no_bool h
+new_special n (OnThreaded d) h = no_bool h
+new_special n (OnBase t) h = no_bool h
+new_special n (OnRundown a) h = no_bool h
+
+not_normal : (b : Body) → has_normal b ≡ true → is_special b ≡ true → ⊥
+not_normal (OnApc a SpecialApc) h k = cc
+not_normal (OnApc a NormalApc) h k = cc
+not_normal (OnApc a UserApc) h k = cc
+not_normal (OnInt l) h k = cc
+not_normal (OnDpc d) h k = cc
+not_normal (OnThreaded d) h k = cc
+not_normal (OnBase t) h k = cc
+not_normal (OnRundown a) h k = cc
+
+not_base : (b : Body) → is_base_body b ≡ true → is_special b ≡ true → ⊥
+not_base (OnBase t) h k = cc
+not_base (OnApc a kind) h k = cc
+not_base (OnInt l) h k = cc
+not_base (OnDpc d) h k = cc
+not_base (OnThreaded d) h k = cc
+not_base (OnRundown a) h k = cc
+
+done_phase : (c : Command) (f : Frame) → (done_to c f).kernel_phase ≡ f.kernel_phase
+done_phase (Raise l) f = refl
+done_phase c f = refl
+
+called_phase : (due : Option ℕ) (c : Command) (y : Reply) (f : Frame) → (called due c y f).kernel_phase ≡ f.kernel_phase
+called_phase due (StartWait m a) y f = refl
+called_phase due (Delay m a u) y f = refl
+called_phase due c Done f = done_phase c f
+called_phase due c y f = refl
+
+special_base : (f : Frame) → is_special f.body ≡ true → f.kernel_phase ≡ true → base_of f ≡ 1
+special_base f h k = go f.body f.kernel_phase h k
+  where
+    go : (b : Body) (q : Bool) → is_special b ≡ true → q ≡ true → base_level b q ≡ 1
+    go (OnApc a SpecialApc) true h k = refl
+    go (OnApc a SpecialApc) false h k = cc
+    go (OnApc a NormalApc) q h k = cc
+    go (OnApc a UserApc) q h k = cc
+    go (OnInt l) q h k = cc
+    go (OnDpc d) q h k = cc
+    go (OnThreaded d) q h k = cc
+    go (OnBase t) q h k = cc
+    go (OnRundown a) q h k = cc
+
+-- an accepted raise isn't below the level, and an accepted lower not below the base level
+called_level : (s : Script) (p : CpuNo) (x : Own) (l : Lanes) (n : ℕ) (due : Option ℕ) (c : Command) (y : Reply) → (k : KnownCall s p x l n c y) → 1 ≤ k.frame.level → base_of k.frame ≡ 1 → 1 ≤ (called due c y k.frame).level
+called_level s p x l n due (Raise m) Done k h b =
+    let a = (call_accepted s p x l n (Raise m) Done k refl).0 in
+    let z : level_at x ≤ m = ltb-false m (level_at x) (refuse_none (nat_lt m (level_at x)) NotGreater None a) in
+    let e : level_at x ≡ k.frame.level = ap (λ (o : Option Frame). option_map_or (λ f. f.level) o 0) k.goes_on.inner in
+    omega (arith, h, z, e)
+called_level s p x l n due (Lower m) Done k h b =
+    let a = (call_accepted s p x l n (Lower m) Done k refl).0 in
+    let c = next_test (nat_lt (level_at x) m) NotLess (refuse (nat_lt m (base_of k.frame)) BelowBase None) a in
+    let z : base_of k.frame ≤ m = ltb-false m (base_of k.frame) (refuse_none (nat_lt m (base_of k.frame)) BelowBase None c) in
+    omega (arith, z, b)
+called_level s p x l n due (StartWait m a) y k h b = h
+called_level s p x l n due (Delay m a u) y k h b = h
+called_level s p x l n due c Done k h b = h
+called_level s p x l n due c y k h b = h
+
+called_special : (s : Script) (p : CpuNo) (x : Own) (l : Lanes) (n : ℕ) (due : Option ℕ) (c : Command) (y : Reply) (k : KnownCall s p x l n c y) → Special k.frame → Special (called due c y k.frame)
+called_special s p x l n due c y k h q =
+    let body : is_special k.frame.body ≡ true = ap is_special (sym ((called_keeps due c y).body k.frame)) ∙ q in
+    let z = h body in
+    (called_level s p x l n due c y k z.0 (special_base k.frame body z.1), called_phase due c y k.frame ∙ z.1)
+
+resumed_special : (st : Option ℕ) (f : Frame) → Sound f → Sound (resumed st f)
+resumed_special None f h = h
+resumed_special (Some x) f h = h
+
+-- each frame of a thread in a run is sound
+sound_kept : Kept Sound
+sound_kept = record {
+  base = λ n t. (new_special n (OnBase t), λ h. no_bool h, refl);
+  apc = λ n a k. (new_special n (OnApc a k), λ h. no_bool h, refl);
+  rundown = λ n a. (new_special n (OnRundown a), λ h. no_bool h, refl);
+  resumed = resumed_special;
+  rewaited = λ y f h. h;
+  left = λ f b h. (λ q. absurd (not_base f.body b q), λ q. (refl, refl), h.2);
+  normal = λ f n h. (λ q. absurd (not_normal f.body n q), λ q. (refl, refl), h.2);
+  called = λ s p x l n due c y k h. (called_special s p x l n due c y k h.0, λ q. no_bool (sym k.leaving ∙ (sym ((called_keeps due c y).leaving k.frame) ∙ q)), ap is_own_body ((called_keeps due c y).body k.frame) ∙ h.2);
+}
+
+pub sound_frames : (s : Script) (limit : ℕ) (p : CpuNo) (t : ThreadNo) (past : List Event) → IsRun s limit past → Each Sound (thread_frames s p t past)
+sound_frames s limit p t past r = each_frame Sound sound_kept s limit p t past r

@@ -1,0 +1,184 @@
+-- Which events a processor may make in these states of the threads: what a job gives there.
+use Rattle.std.specs.Prelude.{Bool, IfSome, IsSome, IsSomeAnd, IsTrue, None, Option, Some, false, if◌then◌else◌, is_some, length, not, ℕ, ◌&&◌, ◌<◌, ◌==◌, ◌≡◌, ◌≤◌, ◌⊎◌}
+use Rattle.nt_event.specs.declared.commands.ApcKind.TheVariants.{User as UserApc}
+use Rattle.nt_event.specs.declared.commands.Command.TheVariants.{Alert, Delay, InsertApc, Release, RemoveApc, StartWait, TestAlert, Yield}
+use Rattle.nt_event.specs.declared.commands.Mode.{Mode}
+use Rattle.nt_event.specs.declared.commands.Reply.{Reply}
+use Rattle.nt_event.specs.declared.commands.Reply.TheVariants.{Done, Status, Yes}
+use Rattle.nt_event.specs.declared.commands.TimerKey.TheVariants.{Delay as OfDelay}
+use Rattle.nt_event.specs.declared.events.Begun.TheVariants.{Apc}
+use Rattle.nt_event.specs.declared.events.Event.{Event}
+use Rattle.nt_event.specs.declared.events.What.{What}
+use Rattle.nt_event.specs.declared.events.What.TheVariants.{Begin, Call, End, Expire, Flush, Gone, Rewait, Switch}
+use Rattle.nt_event.specs.declared.frames.Again.{Again}
+use Rattle.nt_event.specs.declared.frames.Body.{Body}
+use Rattle.nt_event.specs.declared.frames.Body.TheVariants.{Apc as OnApc, Base as OnBase}
+use Rattle.nt_event.specs.declared.inserts.Pick.{Pick}
+use Rattle.nt_event.specs.declared.jobs.Stand.{Stand}
+use Rattle.nt_event.specs.declared.numbers.ApcNo.{ApcNo}
+use Rattle.nt_event.specs.declared.numbers.ThreadNo.{ThreadNo}
+use Rattle.nt_event.specs.declared.scripts.Script.{Script}
+use Rattle.nt_event.specs.declared.threads.Doing.TheVariants.{Running as IsRunning}
+use Rattle.nt_event.specs.Apcs.{deliverable, first_user, is_inserted, takes, without_apc}
+use Rattle.nt_event.specs.Jobs.{user_due}
+use Rattle.nt_event.specs.Routines.{cpu_of, owner_of}
+use Rattle.nt_event.specs.Script.{has_apc, has_thread}
+use Rattle.nt_event.specs.Step.{thread_field}
+use Rattle.nt_event.specs.Threads.{ThreadFacts, ended_status, ends_by_release, is_alerted, is_gone, is_ready}
+use Rattle.nt_event.specs.Waits.{alert_facts, expiry_facts, insert_facts, new_pick, release_facts, wait_reply}
+use Rattle.nt_event.specs.Replies.{satisfied, yes_if}
+use Rattle.nt_thread_lanes.specs.Lanes.{ThreadLanes, facts_in}
+
+-- ---- of a thread that makes the event, by its facts
+
+-- a wait at this level answers so
+pub record Waits (st : Stand) (m : Mode) (alertable : Bool) (y : Reply) (facts : ThreadFacts) : Type 0 where
+  pub level : st.level ≤ 1
+  pub reply : y ≡ wait_reply facts st.regions st.level m alertable None
+
+-- a delay does so, its due time being reached or not
+pub record Delays (st : Stand) (m : Mode) (alertable : Bool) (y : Reply) (facts : ThreadFacts) : Type 0 where
+  pub level : st.level ≤ 1
+  pub reached : Bool
+  pub reply : y ≡ wait_reply facts st.regions st.level m alertable (Some reached)
+
+-- a wait that is taken up again does so: of a delay, its due time being reached or not
+pub record TakesUp (st : Stand) (y : Reply) (facts : ThreadFacts) : Type 0 where
+  pub level : st.level ≤ 1
+  pub wait : Again
+  pub kept : st.again ≡ Some wait
+  pub reached : Option Bool
+  pub kind : is_some reached ≡ is_some wait.due
+  pub reply : y ≡ wait_reply facts st.regions st.level wait.mode wait.alertable reached
+
+-- the insert of the APC object, of this number, is the one that is due
+pub record Begins (st : Stand) (a : ApcNo) (from : ℕ) (facts : ThreadFacts) : Type 0 where
+  pub pick : Pick
+  pub due : (deliverable facts.apcs st.regions st.level ≡ Some pick) ⊎ (user_due facts ≡ Some pick)
+  pub apc : pick.apc ≡ a
+  pub number : pick.number ≡ from
+
+-- it is the first user APC
+pub record Flushes (a : ApcNo) (from : ℕ) (facts : ThreadFacts) : Type 0 where
+  pub pick : Pick
+  pub first : first_user facts.apcs ≡ Some pick
+  pub apc : pick.apc ≡ a
+  pub number : pick.number ≡ from
+
+-- the thread whose facts these are may make the event
+abbrev pub CanMake : Stand → What → ThreadFacts → Type 0
+CanMake st (Switch t status) facts = IsTrue (is_ready facts) × (status ≡ ended_status facts)
+CanMake st (Call f (StartWait m a) y) facts = Waits st m a y facts
+CanMake st (Call f (Delay m a units) y) facts = Delays st m a y facts
+CanMake st (Call f (TestAlert m) y) facts = y ≡ yes_if (is_alerted m facts)
+CanMake st (Call f Yield y) facts = y ≡ Done
+CanMake st (Rewait f y) facts = TakesUp st y facts
+CanMake st (Begin (Apc a) from) facts = Begins st a from facts
+CanMake st (Flush a from) facts = Flushes a from facts
+CanMake st (Gone t) facts = first_user facts.apcs ≡ None
+CanMake st w facts = Unit {0}
+
+-- ---- of a thread that the event names, whoever makes it
+
+-- the thread that it names: the one that is released or alerted, the APC object's, or the one whose delay expires
+abbrev pub named_thread : Script → What → Option ThreadNo
+named_thread s (Call f (Release u) y) = Some u
+named_thread s (Call f (Alert u m) y) = Some u
+named_thread s (Call f (InsertApc a) y) = Some (owner_of s a)
+named_thread s (Call f (RemoveApc a) y) = Some (owner_of s a)
+named_thread s (Expire (OfDelay u) from) = Some u
+named_thread s w = None
+
+-- the object is one of the script's, and the reply is this answer
+pub record Tells (s : Script) (a : ApcNo) (yes : Bool) (y : Reply) : Type 0 where
+  pub apc : IsTrue (has_apc s a)
+  pub reply : y ≡ yes_if yes
+
+-- the reply is the one that the facts of the named thread give
+abbrev pub CanTell : Script → What → ThreadFacts → Type 0
+CanTell s (Call f (Release u) y) facts = y ≡ yes_if (ends_by_release facts)
+CanTell s (Call f (Alert u m) y) facts = y ≡ yes_if (not (is_gone facts) && is_alerted m facts)
+CanTell s (Call f (InsertApc a) y) facts = Tells s a (takes a facts.apcs) y
+CanTell s (Call f (RemoveApc a) y) facts = Tells s a (is_inserted a facts.apcs) y
+CanTell s w facts = Unit {0}
+
+-- what the event of this number leaves of the facts of the thread that it names
+abbrev pub told_facts : Script → ℕ → What → ThreadFacts → ThreadFacts
+told_facts s n (Call f (Release u) y) facts = release_facts facts
+told_facts s n (Call f (Alert u m) y) facts = alert_facts m facts
+told_facts s n (Call f (InsertApc a) Yes) facts = insert_facts (new_pick s a n) facts
+told_facts s n (Call f (RemoveApc a) Yes) facts = record facts { apcs = without_apc a facts.apcs }
+told_facts s n (Expire (OfDelay u) from) facts = expiry_facts from facts
+told_facts s n w facts = facts
+
+-- ---- a reply tells whether a delay's due time was reached
+
+-- it was where the reply is that the delay is over
+abbrev pub is_over : Reply → Bool
+is_over (Status status) = status == satisfied
+is_over y = false
+
+-- of a delay
+abbrev pub over_if : Bool → Reply → Option Bool
+over_if delay y = if delay then Some (is_over y) else None
+
+-- ---- of all threads
+
+-- a thread runs on the processor, and this holds of its facts
+abbrev pub InThread : ThreadLanes → Stand → (ThreadFacts → Type 0) → Type 0
+InThread x st P = IsSomeAnd st.thread (λ t. P (facts_in x t))
+
+-- the thread is one of the script's, and this holds of its facts
+pub record OfThread (x : ThreadLanes) (t : ThreadNo) (P : ThreadFacts → Type 0) : Type 0 where
+  pub named : IsTrue (has_thread x.script t)
+  pub facts : P (facts_in x t)
+
+-- the base routine of a thread, or a user APC, ends in a thread
+abbrev pub EndFits : Stand → Option Body → Type 0
+EndFits st (Some (OnBase t)) = IsSome st.thread
+EndFits st (Some (OnApc a UserApc)) = IsSome st.thread
+EndFits st body = Unit {0}
+
+-- a ready thread of the processor, with its status
+pub record Takes (x : ThreadLanes) (st : Stand) (t : ThreadNo) (status : Option ℕ) : Type 0 where
+  pub named : IsTrue (has_thread x.script t)
+  pub own : cpu_of x.script t ≡ st.cpu
+  pub ready : IsTrue (is_ready (facts_in x t))
+  pub ended : status ≡ ended_status (facts_in x t)
+
+-- the running thread, which has no user APC
+pub record Goes (x : ThreadLanes) (st : Stand) (t : ThreadNo) : Type 0 where
+  pub runs : st.thread ≡ Some t
+  pub flushed : first_user (facts_in x t).apcs ≡ None
+
+-- the event is one that a job gives in these states
+abbrev pub WhatFits : ThreadLanes → Stand → What → Type 0
+WhatFits x st (Switch t status) = Takes x st t status
+WhatFits x st (Call f (StartWait m a) y) = InThread x st (Waits st m a y)
+WhatFits x st (Call f (Delay m a units) y) = InThread x st (Delays st m a y)
+WhatFits x st (Call f (TestAlert m) y) = InThread x st (λ facts. y ≡ yes_if (is_alerted m facts))
+WhatFits x st (Call f Yield y) = InThread x st (λ facts. y ≡ Done)
+WhatFits x st (Rewait f y) = InThread x st (TakesUp st y)
+WhatFits x st (Begin (Apc a) from) = InThread x st (Begins st a from)
+WhatFits x st (Flush a from) = InThread x st (Flushes a from)
+WhatFits x st (Gone t) = Goes x st t
+WhatFits x st (End f) = EndFits st st.body
+WhatFits x st (Call f (Release u) y) = OfThread x u (λ facts. y ≡ yes_if (ends_by_release facts))
+WhatFits x st (Call f (Alert u m) y) = OfThread x u (λ facts. y ≡ yes_if (not (is_gone facts) && is_alerted m facts))
+WhatFits x st (Call f (InsertApc a) y) = Tells x.script a (takes a (facts_in x (owner_of x.script a)).apcs) y
+WhatFits x st (Call f (RemoveApc a) y) = Tells x.script a (is_inserted a (facts_in x (owner_of x.script a)).apcs) y
+WhatFits x st (Expire (OfDelay u) from) = IsTrue (has_thread x.script u)
+WhatFits x st w = Unit {0}
+
+-- the running thread is one of the script's and of the processor, and its facts say that it runs
+pub record RunsHere (x : ThreadLanes) (st : Stand) (t : ThreadNo) : Type 0 where
+  pub named : t.0 < length x.script.threads
+  pub own : cpu_of x.script t ≡ st.cpu
+  pub runs : (facts_in x t).doing ≡ IsRunning
+
+-- the event may be made by a processor that stands so, in these states
+pub record MayLeave (x : ThreadLanes) (st : Stand) (e : Event) : Type 0 where
+  pub cpu : e.cpu ≡ st.cpu
+  pub thread : e.thread ≡ thread_field e.what st.thread
+  pub stands : IfSome st.thread (RunsHere x st)
+  pub what : WhatFits x st e.what

@@ -1,0 +1,77 @@
+//! What an event leaves of the thread that it names.
+ghost use Rattle.std.specs.Prelude.{◌≡◌, ◌≤◌, IsTrue, length, ℕ};
+ghost use Rattle.nt_event.specs.declared.events.What.TheVariants.{Call};
+ghost use Rattle.nt_event.specs.Replies.{is_yes as accepts};
+ghost use Rattle.nt_thread_lanes.specs.Fits.{CanTell, named_thread as thread_of, told_facts};
+
+use crate::script::{kind_of, owner_of};
+use nt_event::{Command, Reply, Script, ThreadNo, TimerKey, What};
+use nt_thread::ThreadState;
+
+/// The thread that the event names: the one that is released or alerted, the APC object's, or the one whose delay expires.
+pub fn named_thread(script: &Script, what: &What) -> Option<ThreadNo>
+    ensures { result ≡ thread_of script.now what.now }
+{
+    match what {
+        What::Call { command, .. } => match command {
+            Command::Release(t) | Command::Alert(t, _) => Some(*t),
+            Command::InsertApc(a) | Command::RemoveApc(a) => Some(owner_of(script, *a)),
+            _ => None,
+        },
+        What::Expire {
+            key: TimerKey::Delay(t),
+            ..
+        } => Some(*t),
+        _ => None,
+    }
+}
+
+/// Changes the state of the thread that the event names, by the event's number.
+pub fn tell(state: &mut ThreadState, script: &Script, n: u64, what: &What)
+    requires apcs { length script.now.apcs ≤ 256 }
+    requires may { CanTell script.now what.now state.old }
+    ensures { state.new ≡ told_facts script.now n what.now state.old }
+{
+    match what {
+        What::Call { command, reply, .. } => tell_call(state, script, n, command, reply),
+        What::Expire {
+            key: TimerKey::Delay(_),
+            from,
+        } => {
+            let _ = state.end_delay(*from);
+        }
+        _ => {}
+    }
+}
+
+fn tell_call(state: &mut ThreadState, script: &Script, n: u64, command: &Command, reply: &Reply)
+    requires apcs { length script.now.apcs ≤ 256 }
+    requires may { CanTell script.now (Call 0 command.now reply.now) state.old }
+    ensures { (f : ℕ) → state.new ≡ told_facts script.now n (Call f command.now reply.now) state.old }
+{
+    match command {
+        Command::Release(_) => {
+            let _ = state.release();
+        }
+        Command::Alert(_, mode) => {
+            let _ = state.alert(*mode);
+        }
+        Command::InsertApc(a) => {
+            if is_yes(reply) {
+                let _ = state.apc(*a, kind_of(script, *a), n);
+            }
+        }
+        Command::RemoveApc(a) => {
+            if is_yes(reply) {
+                let _ = state.unapc(*a);
+            }
+        }
+        _ => {}
+    }
+}
+
+fn is_yes(reply: &Reply) -> bool
+    ensures { result ≡ accepts reply.now }
+{
+    matches!(reply, Reply::Yes)
+}

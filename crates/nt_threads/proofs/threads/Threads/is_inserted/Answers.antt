@@ -1,7 +1,0 @@
-use Rattle.nt_threads.specs.Insides.{lanes_in}
-use Rattle.nt_threads.proofs.Whole.{mark_tells}
-use Rattle.nt_threads.proofs.threads.Threads.is_inserted.Goals as goal
-
-pub returns : goal.returns
-returns c =
-    mark_tells (lanes_in c.self.inside) c.args.self.now c.self.inside.inserted.items c.args.a c.index.result.now c.self.view_is c.self.invariant.marked c.requires c.index.ensures
