@@ -14,7 +14,6 @@ use Rattle.nt_event.specs.Queues.{first_dpc, is_high_in, is_in, pending}
 use Rattle.nt_event.specs.Routines.{owner_of}
 use Rattle.nt_event.specs.Script.{has_dpc, has_thread}
 use Rattle.nt_event.specs.Step.{IsRun}
-use Rattle.nt_laws.specs.Fates.{ApcIsPending, DpcIsPending}
 
 -- x is the High one of greatest number among the inserts of the part
 abbrev pub IsGreatestHigh : Part → List Insert → Insert → Type 0

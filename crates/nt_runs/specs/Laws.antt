@@ -12,7 +12,7 @@ use Rattle.nt_event.specs.declared.scripts.Script.{Script}
 use Rattle.nt_event.specs.declared.threads.Doing.{Doing}
 use Rattle.nt_event.specs.declared.threads.Doing.TheVariants.{Blocked as IsBlocked, Gone as IsGone, Ready as IsReady, Running as IsRunning}
 use Rattle.nt_event.specs.Frames.{due_of, frames_of, is_base_body, level_in, running, thread_frames, thread_part, time}
-use Rattle.nt_event.specs.Jobs.{chosen_what, rests}
+use Rattle.nt_event.specs.Jobs.{chosen_what, rests, job_event}
 use Rattle.nt_event.specs.Lanes.{lanes_after, lanes_at}
 use Rattle.nt_event.specs.Own.{own_after_event, own_of}
 use Rattle.nt_event.specs.Regions.{regions_of, stand_at}
@@ -24,6 +24,8 @@ use Rattle.nt_event.specs.Step.{IsLegal, IsRun, event_at, is_cut, is_look, step,
 use Rattle.nt_event.specs.Waits.{facts}
 use Rattle.nt_event.specs.Lists.{head_of}
 use Rattle.nt_event.specs.Numbers.{is_of}
+use Rattle.nt_event.specs.declared.jobs.Job.{Job}
+use Rattle.nt_event.specs.Acting.{IsAllowed, IsDue, IsStanding, acted_event}
 
 -- what a processor keeps moves as the history does
 abbrev pub OwnMoves : Type 0
