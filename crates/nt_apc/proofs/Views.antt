@@ -7,7 +7,7 @@ use Rattle.nt_event.specs.Apcs.{ApcQueues, is_inserted, is_of_apc, takes, withou
 use Rattle.nt_event.specs.declared.inserts.Pick.{Pick}
 use Rattle.nt_event.specs.declared.numbers.ApcNo.{ApcNo}
 use Rattle.nt_apc.proofs.Inserts.{filter-none}
-use Rattle.nt_apc.proofs.Reversed.{filter-reverse, list_any-reverse}
+use Rattle.nt_event.proofs.Reversed.{filter-reverse, list_any-reverse}
 
 abbrev pub seen : List Pick → Bool → ApcQueues
 seen xs closed = record { pending = reverse xs; closed = closed }

@@ -24,7 +24,8 @@ queues_of (act ∷ past) = after act (queues_of past)
 -- the act uses up a pending insert of the object
 abbrev pub uses : ApcNo → Act → Bool
 uses a (Uses b) = a.0 == b.0
-uses a _ = false
+uses a (Inserts x) = false
+uses a Closes = false
 
 -- each insert has a number below this one
 abbrev pub NumbersBelow : ℕ → List Act → Type 0

@@ -9,7 +9,8 @@ use Rattle.nt_event.specs.Objects.{is_queued}
 use Rattle.nt_dpc.specs.Objects.{ObjectFacts}
 use Rattle.nt_dpc.specs.Queues.{EachOnceBelow, QueueFacts, StandsHere, StandsHereOrNowhere, holds_dpc, without_entry}
 use Rattle.std.specs.Option.{is_some}
-use Rattle.nt_dpc.proofs.Reversed.{filter-reverse, remove-only}
+use Rattle.nt_event.proofs.Reversed.{filter-reverse}
+use Rattle.nt_dpc.proofs.Removed.{remove-only}
 use Rattle.std.specs.List.{AllByRecursion, IsDistinct, filter, list_any, position, remove}
 use Rattle.std.proofs.lemmas.List.{length-reverse}
 use Rattle.std.proofs.lemmas.List.Quantifiers.{position-Some}

@@ -5,7 +5,7 @@ use Rattle.nt_event.specs.declared.inserts.Part.{Part}
 use Rattle.nt_event.specs.declared.numbers.CpuNo.{CpuNo}
 use Rattle.nt_event.specs.declared.numbers.DpcNo.{DpcNo}
 use Rattle.nt_event.specs.Queues.{first_dpc, is_high_in, is_in, is_of_dpc, without_dpc}
-use Rattle.nt_dpc.specs.Changes.{AddedBelow, AllAccepted, Change, Added, Idled, IsFirst, IsPending, NumbersRise, Removed, Taken, after_changes}
+use Rattle.nt_dpc.specs.Changes.{AddedBelow, AllAccepted, QueueChange, Added, Idled, IsFirst, IsPending, NumbersRise, Removed, Taken, after_changes}
 use Rattle.nt_dpc.specs.Laws.{FirstByNumber, OneEntryEach, RemovedIsGone}
 use Rattle.nt_dpc.specs.Queues.{EachOnceBelow, QueueFacts, holds_dpc, new_queue}
 use Rattle.nt_dpc.proofs.Numbered.{AllBelow, Falls, Stands, LastIsLeast, find_greatest, find_last, find_last_stands, find_none, find_stands}
@@ -40,7 +40,7 @@ without-stands d x (y ∷ ys) h at = go d x y ys h (without-stands d x ys h) at 
 
 -- ---- the list after the changes is that of the pending inserts
 
-pub stands_pending : (p : CpuNo) (count limit : ℕ) (past : List Change) (x : Insert) → Stands x (after_changes (new_queue p count limit) past).state.pending → IsPending x past
+pub stands_pending : (p : CpuNo) (count limit : ℕ) (past : List QueueChange) (x : Insert) → Stands x (after_changes (new_queue p count limit) past).state.pending → IsPending x past
 stands_pending p count limit [] x at = at
 stands_pending p count limit (Added y ∷ past) x (inl e) = inl e
 stands_pending p count limit (Added y ∷ past) x (inr at) = inr (stands_pending p count limit past x at)
@@ -50,7 +50,7 @@ stands_pending p count limit (Taken d ∷ past) x at =
     let r = stands-without d x (after_changes (new_queue p count limit) past).state.pending at in (r.0, stands_pending p count limit past x r.1)
 stands_pending p count limit (Idled idle ∷ past) x at = stands_pending p count limit past x at
 
-pub pending_stands : (p : CpuNo) (count limit : ℕ) (past : List Change) (x : Insert) → IsPending x past → Stands x (after_changes (new_queue p count limit) past).state.pending
+pub pending_stands : (p : CpuNo) (count limit : ℕ) (past : List QueueChange) (x : Insert) → IsPending x past → Stands x (after_changes (new_queue p count limit) past).state.pending
 pending_stands p count limit [] x h = h
 pending_stands p count limit (Added y ∷ past) x (inl e) = inl e
 pending_stands p count limit (Added y ∷ past) x (inr h) = inr (pending_stands p count limit past x h)
@@ -78,7 +78,7 @@ falls-without d (x ∷ xs) h = go d x xs h (falls-without d xs h.1) (is_of_dpc d
     go d x xs h rest true k = rw (without_cons_yes d x xs k) rest
     go d x xs h rest false k = rw (without_cons_no d x xs k) (below-without d x.number xs h.0, rest)
 
-added_below : (p : CpuNo) (count limit n : ℕ) (past : List Change) → AddedBelow n past → AllBelow n (after_changes (new_queue p count limit) past).state.pending
+added_below : (p : CpuNo) (count limit n : ℕ) (past : List QueueChange) → AddedBelow n past → AllBelow n (after_changes (new_queue p count limit) past).state.pending
 added_below p count limit n [] h = tt
 added_below p count limit n (Added x ∷ past) h = (h.0, added_below p count limit n past h.1)
 added_below p count limit n (Removed d ∷ past) h =
@@ -87,7 +87,7 @@ added_below p count limit n (Taken d ∷ past) h =
     below-without d n (after_changes (new_queue p count limit) past).state.pending (added_below p count limit n past h)
 added_below p count limit n (Idled idle ∷ past) h = added_below p count limit n past h
 
-falls : (p : CpuNo) (count limit : ℕ) (past : List Change) → NumbersRise past → Falls (after_changes (new_queue p count limit) past).state.pending
+falls : (p : CpuNo) (count limit : ℕ) (past : List QueueChange) → NumbersRise past → Falls (after_changes (new_queue p count limit) past).state.pending
 falls p count limit [] h = tt
 falls p count limit (Added x ∷ past) h = (added_below p count limit x.number past h.0, falls p count limit past h.1)
 falls p count limit (Removed d ∷ past) h =
@@ -99,7 +99,7 @@ falls p count limit (Idled idle ∷ past) h = falls p count limit past h
 -- ---- the first of a part
 
 -- the first of a part of a list, where a fact holds of exactly what stands in it
-first_of : (part : Part) (past : List Change) (xs : List Insert) → Falls xs → ((x : Insert) → Stands x xs → IsPending x past) → ((x : Insert) → IsPending x past → Stands x xs) → MatchOption (first_dpc part xs) ((y : Insert) → IsPending y past → is_in part y ≡ false) (λ x. IsFirst part x past)
+first_of : (part : Part) (past : List QueueChange) (xs : List Insert) → Falls xs → ((x : Insert) → Stands x xs → IsPending x past) → ((x : Insert) → IsPending x past → Stands x xs) → MatchOption (first_dpc part xs) ((y : Insert) → IsPending y past → is_in part y ≡ false) (λ x. IsFirst part x past)
 first_of part past xs f to from = go (find (is_high_in part) xs) refl
   where
     low : (o : Option Insert) → LastIsLeast (is_in part) xs o → find (is_high_in part) xs ≡ None → MatchOption o ((y : Insert) → IsPending y past → is_in part y ≡ false) (λ x. IsFirst part x past)
@@ -138,21 +138,21 @@ first_stands part xs x h = go (find (is_high_in part) xs) refl h
     go (Some y) e h = (find_stands (is_high_in part) xs x (e ∙ h)).0
 
 pub removed_is_gone : RemovedIsGone
-removed_is_gone q past d part x =
+removed_is_gone q past d part =
     let xs = (after_changes q past).state.pending in
-    let gone : first_dpc part (without_dpc d xs) ≡ Some x → is_of_dpc d x ≡ false = λ h. (stands-without d x xs (first_stands part (without_dpc d xs) x h)).0 in
+    let gone : (x : Insert) → first_dpc part (without_dpc d xs) ≡ Some x → is_of_dpc d x ≡ false = λ x h. (stands-without d x xs (first_stands part (without_dpc d xs) x h)).0 in
     (gone, gone)
 
 -- ---- one entry each
 
-count_stays : (q : QueueFacts) (past : List Change) → (after_changes q past).count ≡ q.count
+count_stays : (q : QueueFacts) (past : List QueueChange) → (after_changes q past).count ≡ q.count
 count_stays q [] = refl
 count_stays q (Added x ∷ past) = count_stays q past
 count_stays q (Removed d ∷ past) = count_stays q past
 count_stays q (Taken d ∷ past) = count_stays q past
 count_stays q (Idled idle ∷ past) = count_stays q past
 
-pub each_once : (p : CpuNo) (count limit : ℕ) (past : List Change) → AllAccepted (new_queue p count limit) past → EachOnceBelow count (after_changes (new_queue p count limit) past).state.pending
+pub each_once : (p : CpuNo) (count limit : ℕ) (past : List QueueChange) → AllAccepted (new_queue p count limit) past → EachOnceBelow count (after_changes (new_queue p count limit) past).state.pending
 each_once p count limit [] h = tt
 each_once p count limit (Added x ∷ past) h =
     let below : x.dpc.0 < (after_changes (new_queue p count limit) past).count = h.0.0 in

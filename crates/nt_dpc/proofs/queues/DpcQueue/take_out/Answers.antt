@@ -4,7 +4,8 @@ use Rattle.nt_event.specs.declared.inserts.Insert.{Insert}
 use Rattle.nt_event.specs.Queues.{is_of_dpc, without_dpc}
 use Rattle.nt_dpc.specs.Queues.{QueueFacts}
 use Rattle.nt_dpc.proofs.Once.{each_once-without, reverse-remove, without_entry_none}
-use Rattle.nt_dpc.proofs.Reversed.{list_any-position, list_any-reverse}
+use Rattle.nt_event.proofs.Reversed.{list_any-reverse}
+use Rattle.nt_dpc.proofs.Removed.{list_any-position}
 use Rattle.nt_dpc.proofs.queues.DpcQueue.take_out.Goals as goal
 
 removed : (c : goal.After-remove) → reverse c.remove.new.self.items ≡ without_dpc c.args.d (reverse c.self.inside.items.items)

@@ -1,4 +1,4 @@
--- The reversed list, and a list without the one element that passes a test.
+-- A list without the one element that passes a test, and the place of the first that does.
 use Rattle.std.proofs.Common.{◌≡◌, ◌≤◌, ◌<◌, ◌||◌, ℕ, Bool, true, false, cond, List, [], ◌∷◌, ◌++◌, Option, Some, None, ltb, ◌+◌, reverse, length, get_or, not, refl, sym, ◌∙◌, ap, append-nil, arith, suc, zero}
 use Rattle.std.specs.List.{count_by, filter, find, list_any, position, position_or_len, remove}
 use Rattle.std.specs.Option.{is_some}
@@ -7,40 +7,6 @@ use Rattle.std.proofs.lemmas.List.Folds.{list_any-append}
 use Rattle.std.proofs.lemmas.List.{reverse-append, length-reverse}
 use Rattle.std.proofs.lemmas.List.Sums.{length-filter}
 use Rattle.std.proofs.lemmas.List.Elements.{filter-append}
-
-filter-one : {X : Type 0} (p : X → Bool) (x : X) (b : Bool) (xs : List X) → p x ≡ b → reverse (filter p xs) ++ filter p (x ∷ []) ≡ reverse (cond b (x ∷ filter p xs) (filter p xs))
-filter-one p x true xs e = rw e (sym (reverse-append (x ∷ []) (filter p xs)))
-filter-one p x false xs e = rw e (append-nil (reverse (filter p xs)))
-
-pub filter-reverse : {X : Type 0} (p : X → Bool) (xs : List X) → filter p (reverse xs) ≡ reverse (filter p xs)
-filter-reverse p [] = refl
-filter-reverse {X} p (x ∷ xs) =
-    rw (reverse-append (x ∷ []) xs) (filter-append p (reverse xs) (x ∷ []) ∙ ap (λ (ys : List X). ys ++ filter p (x ∷ [])) (filter-reverse p xs) ∙ filter-one p x (p x) xs refl)
-
-pub count_by-reverse : {X : Type 0} (p : X → Bool) (xs : List X) → count_by p (reverse xs) ≡ count_by p xs
-count_by-reverse p xs =
-    sym (length-filter p (reverse xs)) ∙ ap length (filter-reverse p xs) ∙ length-reverse (filter p xs) ∙ length-filter p xs
-
-pub list_any-reverse : {X : Type 0} (p : X → Bool) (xs : List X) → list_any p (reverse xs) ≡ list_any p xs
-list_any-reverse p [] = refl
-list_any-reverse {X} p (x ∷ xs) =
-    rw (reverse-append (x ∷ []) xs) (list_any-append p (reverse xs) (x ∷ []) ∙ ap (λ (b : Bool). b || list_any p (x ∷ [])) (list_any-reverse p xs) ∙ turned (list_any p xs) (p x))
-  where
-    turned : (a b : Bool) → (a || (b || false)) ≡ (b || a)
-    turned true true = refl
-    turned true false = refl
-    turned false true = refl
-    turned false false = refl
-
-pub is_some-find : {X : Type 0} (p : X → Bool) (xs : List X) → is_some (find p xs) ≡ list_any p xs
-is_some-find p [] = refl
-is_some-find p (x ∷ xs) = found (p x) x (find p xs) (list_any p xs) (is_some-find p xs)
-  where
-    found : {X : Type 0} (b : Bool) (x : X) (rest : Option X) (any : Bool) → is_some rest ≡ any → is_some (cond b (Some x) rest) ≡ (b || any)
-    found true x rest any h = refl
-    found false x rest any h = h
-
--- ---- the one element that passes, taken out
 
 pub none_passes : {X : Type 0} (p : X → Bool) (xs : List X) → length (filter p xs) ≡ 0 → filter (λ x. not (p x)) xs ≡ xs
 none_passes p [] h = refl
