@@ -13,10 +13,11 @@ use Rattle.nt_event.specs.Numbers.{cpu, dpc}
 use Rattle.nt_dpc.proofs.Once.{holds-without_same}
 use Rattle.nt_dpc.specs.Queues.{holds_dpc}
 use Rattle.nt_dpc_lanes.proofs.Holding.{holds_without_other}
-use Rattle.nt_dpc_lanes.proofs.Places.{read_other, read_same}
+use Rattle.nt_event.proofs.Written.{read_other, read_same}
 use Rattle.nt_dpc_lanes.specs.Agree.{Agrees}
 use Rattle.nt_dpc_lanes.specs.Changes.{inserted_at, removed_at, with_object, with_queue}
 use Rattle.nt_dpc_lanes.specs.Lanes.{DpcLanes, queue_in}
+use Rattle.nt_dpc.specs.Objects.{standing_nowhere}
 
 -- the processor in whose queue an object stands
 abbrev pub stand_of : ObjectState → Option CpuNo
@@ -85,7 +86,7 @@ stands_once (Some x) p r h k = rw (eqb-true x.queue.0 p.0 h) k
 
 pub agree_removed : (x : DpcLanes) (p : CpuNo) (d : DpcNo) → Agrees x → d.0 < length x.objects → p.0 < length x.queues → is_queue (stand_of (object_in x.objects d)) p ≡ true → Agrees (removed_at p d x)
 agree_removed x p d a l m at =
-    agree_pair x d p (record (object_in x.objects d) { standing = None }) (record (queue_in x.queues p) { pending = without_dpc d (queue_in x.queues p).pending }) a (record { object = l; queue = m; target = a.target d; here = holds-without_same d (queue_in x.queues p).pending; elsewhere = λ r h. a.stands d r ∙ stands_once (object_in x.objects d).standing p r at h; others = λ e h. holds_without_other d e (queue_in x.queues p).pending h })
+    agree_pair x d p (standing_nowhere (object_in x.objects d)) (record (queue_in x.queues p) { pending = without_dpc d (queue_in x.queues p).pending }) a (record { object = l; queue = m; target = a.target d; here = holds-without_same d (queue_in x.queues p).pending; elsewhere = λ r h. a.stands d r ∙ stands_once (object_in x.objects d).standing p r at h; others = λ e h. holds_without_other d e (queue_in x.queues p).pending h })
 
 -- ---- an object alone is written
 

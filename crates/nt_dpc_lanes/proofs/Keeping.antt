@@ -13,10 +13,12 @@ use Rattle.nt_event.specs.Numbers.{cpu, dpc}
 use Rattle.nt_dpc.specs.Objects.{ObjectFacts, entry_of, new_object, queued_at, standing_cpu, unqueued}
 use Rattle.nt_dpc.specs.Queues.{QueueFacts, new_queue, with_entry, with_idle, without_entry}
 use Rattle.nt_dpc_lanes.proofs.Agreeing.{agree_inserted, agree_object, agree_queue, agree_removed}
-use Rattle.nt_dpc_lanes.proofs.Places.{read_map, read_other, read_same}
+use Rattle.nt_event.proofs.Written.{read_map, read_other, read_same}
 use Rattle.nt_dpc_lanes.specs.Agree.{Agrees, AreKept, IsObjectOf, IsQueueOf, lanes_of, object_facts, queue_facts}
 use Rattle.nt_dpc_lanes.specs.Changes.{inserted_at, removed_at, with_object, with_queue}
 use Rattle.nt_dpc_lanes.specs.Lanes.{DpcLanes, queue_in}
+use Rattle.nt_dpc.specs.Objects.{with_importance, with_target}
+use Rattle.nt_dpc.specs.Queues.{set_idle}
 
 -- ---- what contracts see
 
@@ -156,31 +158,31 @@ removed_kept s os qs p d a at here =
 abbrev pub important : Importance → DpcNo → List ObjectFacts → ObjectFacts
 important i d os = record (object_facts os d) { state = record (object_facts os d).state { importance = i } }
 
-pub important_seen : (s : Script) (os : List ObjectFacts) (qs : List QueueFacts) (d : DpcNo) (i : Importance) → lanes_of s (set os d.0 (important i d os)) qs ≡ with_object d (record (object_in (lanes_of s os qs).objects d) { importance = i }) (lanes_of s os qs)
+pub important_seen : (s : Script) (os : List ObjectFacts) (qs : List QueueFacts) (d : DpcNo) (i : Importance) → lanes_of s (set os d.0 (important i d os)) qs ≡ with_object d (with_importance i (object_in (lanes_of s os qs).objects d)) (lanes_of s os qs)
 important_seen s os qs d i =
-    object_set s os qs d (important i d os) ∙ ap (λ (o : ObjectState). with_object d (record o { importance = i }) (lanes_of s os qs)) (sym (object_state s os qs d))
+    object_set s os qs d (important i d os) ∙ ap (λ (o : ObjectState). with_object d (with_importance i o) (lanes_of s os qs)) (sym (object_state s os qs d))
 
 pub important_kept : (s : Script) (os : List ObjectFacts) (qs : List QueueFacts) (d : DpcNo) (i : Importance) → AreKept s os qs → d.0 < length os → AreKept s (set os d.0 (important i d os)) qs
 important_kept s os qs d i a l =
-    kept_object s os qs d (important i d os) (with_object d (record (object_in (lanes_of s os qs).objects d) { importance = i }) (lanes_of s os qs)) a (record { place = l; dpc = refl; part = refl }) (important_seen s os qs d i) (agree_object (lanes_of s os qs) d (record (object_in (lanes_of s os qs).objects d) { importance = i }) a.agree (in_objects os d l) (a.agree.target d) refl)
+    kept_object s os qs d (important i d os) (with_object d (with_importance i (object_in (lanes_of s os qs).objects d)) (lanes_of s os qs)) a (record { place = l; dpc = refl; part = refl }) (important_seen s os qs d i) (agree_object (lanes_of s os qs) d (with_importance i (object_in (lanes_of s os qs).objects d)) a.agree (in_objects os d l) (a.agree.target d) refl)
 
 abbrev pub targeted : Option CpuNo → DpcNo → List ObjectFacts → ObjectFacts
 targeted t d os = record (object_facts os d) { state = record (object_facts os d).state { target = t } }
 
-pub targeted_seen : (s : Script) (os : List ObjectFacts) (qs : List QueueFacts) (d : DpcNo) (t : Option CpuNo) → lanes_of s (set os d.0 (targeted t d os)) qs ≡ with_object d (record (object_in (lanes_of s os qs).objects d) { target = t }) (lanes_of s os qs)
+pub targeted_seen : (s : Script) (os : List ObjectFacts) (qs : List QueueFacts) (d : DpcNo) (t : Option CpuNo) → lanes_of s (set os d.0 (targeted t d os)) qs ≡ with_object d (with_target t (object_in (lanes_of s os qs).objects d)) (lanes_of s os qs)
 targeted_seen s os qs d t =
-    object_set s os qs d (targeted t d os) ∙ ap (λ (o : ObjectState). with_object d (record o { target = t }) (lanes_of s os qs)) (sym (object_state s os qs d))
+    object_set s os qs d (targeted t d os) ∙ ap (λ (o : ObjectState). with_object d (with_target t o) (lanes_of s os qs)) (sym (object_state s os qs d))
 
 pub targeted_kept : (s : Script) (os : List ObjectFacts) (qs : List QueueFacts) (d : DpcNo) (t : Option CpuNo) → AreKept s os qs → d.0 < length os → IfSome t (λ p. p.0 < s.cpus) → AreKept s (set os d.0 (targeted t d os)) qs
 targeted_kept s os qs d t a l h =
-    kept_object s os qs d (targeted t d os) (with_object d (record (object_in (lanes_of s os qs).objects d) { target = t }) (lanes_of s os qs)) a (record { place = l; dpc = refl; part = refl }) (targeted_seen s os qs d t) (agree_object (lanes_of s os qs) d (record (object_in (lanes_of s os qs).objects d) { target = t }) a.agree (in_objects os d l) h refl)
+    kept_object s os qs d (targeted t d os) (with_object d (with_target t (object_in (lanes_of s os qs).objects d)) (lanes_of s os qs)) a (record { place = l; dpc = refl; part = refl }) (targeted_seen s os qs d t) (agree_object (lanes_of s os qs) d (with_target t (object_in (lanes_of s os qs).objects d)) a.agree (in_objects os d l) h refl)
 
 -- ---- the idle mark of a queue
 
-pub idle_seen : (s : Script) (os : List ObjectFacts) (qs : List QueueFacts) (p : CpuNo) (idle : Bool) → lanes_of s os (set qs p.0 (with_idle idle (queue_facts qs p))) ≡ with_queue p (record (queue_in (lanes_of s os qs).queues p) { idle = idle }) (lanes_of s os qs)
+pub idle_seen : (s : Script) (os : List ObjectFacts) (qs : List QueueFacts) (p : CpuNo) (idle : Bool) → lanes_of s os (set qs p.0 (with_idle idle (queue_facts qs p))) ≡ with_queue p (set_idle idle (queue_in (lanes_of s os qs).queues p)) (lanes_of s os qs)
 idle_seen s os qs p idle =
-    queue_set s os qs p (with_idle idle (queue_facts qs p)) ∙ ap (λ (q : QueueState). with_queue p (record q { idle = idle }) (lanes_of s os qs)) (sym (queue_state s os qs p))
+    queue_set s os qs p (with_idle idle (queue_facts qs p)) ∙ ap (λ (q : QueueState). with_queue p (set_idle idle q) (lanes_of s os qs)) (sym (queue_state s os qs p))
 
 pub idle_kept : (s : Script) (os : List ObjectFacts) (qs : List QueueFacts) (p : CpuNo) (idle : Bool) → AreKept s os qs → p.0 < length qs → AreKept s os (set qs p.0 (with_idle idle (queue_facts qs p)))
 idle_kept s os qs p idle a l =
-    kept_queue s os qs p (with_idle idle (queue_facts qs p)) (with_queue p (record (queue_in (lanes_of s os qs).queues p) { idle = idle }) (lanes_of s os qs)) a (record { place = l; cpu = refl; count = refl; limit = refl }) (idle_seen s os qs p idle) (agree_queue (lanes_of s os qs) p (record (queue_in (lanes_of s os qs).queues p) { idle = idle }) a.agree (in_queues qs p l) refl)
+    kept_queue s os qs p (with_idle idle (queue_facts qs p)) (with_queue p (set_idle idle (queue_in (lanes_of s os qs).queues p)) (lanes_of s os qs)) a (record { place = l; cpu = refl; count = refl; limit = refl }) (idle_seen s os qs p idle) (agree_queue (lanes_of s os qs) p (set_idle idle (queue_in (lanes_of s os qs).queues p)) a.agree (in_queues qs p l) refl)

@@ -4,7 +4,10 @@ use Rattle.std.specs.Option.{is_some}
 use Rattle.std.specs.Prelude.{IsTrue}
 use Rattle.std.proofs.lemmas.Bool.{cases_lt, eqb-true, false≢true, lt-ltb}
 use Rattle.std.proofs.lemmas.List.{get_or_past, length-set}
+use Rattle.nt_event.proofs.Booleans.{either_way, same}
 use Rattle.nt_event.proofs.Tables.{table-self}
+use Rattle.nt_dpc.specs.Objects.{standing_at, standing_nowhere, with_importance, with_target}
+use Rattle.nt_dpc.specs.Queues.{add_entry, drop_entry, set_idle}
 use Rattle.nt_event.specs.declared.commands.Command.TheVariants.{Queue, SetImportance as SetImportanceCall, SetTarget as SetTargetCall, Unqueue}
 use Rattle.nt_event.specs.declared.commands.Importance.{Importance}
 use Rattle.nt_event.specs.declared.commands.Reply.TheVariants.{Done, Yes}
@@ -27,25 +30,11 @@ use Rattle.nt_event.specs.Lists.{table}
 use Rattle.nt_event.specs.Replies.{yes_if}
 use Rattle.nt_dpc.specs.Queues.{holds_dpc}
 use Rattle.nt_dpc_lanes.proofs.Holding.{first_holds}
-use Rattle.nt_dpc_lanes.proofs.Places.{read_other, read_same}
+use Rattle.nt_event.proofs.Written.{table_set}
 use Rattle.nt_dpc_lanes.specs.Agree.{Agrees}
 use Rattle.nt_dpc_lanes.specs.Changes.{MayChange, change_of, changed, inserted_at, removed_at, removed_from, with_object, with_queue}
 use Rattle.nt_dpc_lanes.specs.declared.changes.Change.TheVariants.{Take}
 use Rattle.nt_dpc_lanes.specs.Lanes.{DpcLanes, MayLeave, left, queue_in}
-
--- ---- tables in which one place changes, or none
-
-set_reads : {A : Type 0} (xs : List A) (t i : ℕ) (v d : A) (f : ℕ → A) → i < length xs → (eqb t i ≡ true → f i ≡ v) → (eqb t i ≡ false → f i ≡ get_or xs i d) → (b : Bool) → eqb t i ≡ b → f i ≡ get_or (set xs t v) i d
-set_reads xs t i v d f h same other true e = same e ∙ sym (read_same xs t i v d e (let at = eqb-true t i e in omega arith))
-set_reads xs t i v d f h same other false e = other e ∙ sym (read_other xs t i v d e)
-
-table_set : {A : Type 0} (xs : List A) (n t : ℕ) (v d : A) (f : ℕ → A) → length xs ≡ n → ((i : ℕ) → eqb t i ≡ true → f i ≡ v) → ((i : ℕ) → eqb t i ≡ false → f i ≡ get_or xs i d) → table n f ≡ set xs t v
-table_set xs n t v d f l same other =
-    table-self d n (set xs t v) f (length-set xs t v ∙ l) (λ i h. set_reads xs t i v d f (omega arith) (same i) (other i) (eqb t i) refl)
-
-either_way : {A : Type 0} (b : Bool) (x : A) → cond b x x ≡ x
-either_way true x = refl
-either_way false x = refl
 
 abbrev objects_left : ℕ → CpuNo → What → DpcLanes → List ObjectState
 objects_left n by w x = table (length x.script.dpcs) (λ d. object_after (dpc d) n by w (object_in x.objects (dpc d)))
@@ -95,15 +84,12 @@ nothing_left x n by w a o q =
 
 -- ---- an insert: a call of `queue` or a Fire, with reply yes
 
-same : (n : ℕ) → eqb n n ≡ true
-same n = eq-eqb n n refl
-
 abbrev object_inserted : ℕ → CpuNo → DpcNo → DpcLanes → ObjectState
-object_inserted n p d x = record (object_in x.objects d) { standing = Some (record { queue = p; number = n }) }
+object_inserted n p d x = standing_at (record { queue = p; number = n }) (object_in x.objects d)
 
 abbrev queue_inserted : ℕ → CpuNo → DpcNo → DpcLanes → QueueState
 queue_inserted n p d x =
-    record (queue_in x.queues p) { pending = new_insert x.script d n (object_in x.objects d) ∷ (queue_in x.queues p).pending }
+    add_entry (new_insert x.script d n (object_in x.objects d)) (queue_in x.queues p)
 
 queued_left : (x : DpcLanes) (n f : ℕ) (by : CpuNo) (d : DpcNo) → Agrees x → left n by (Call f (Queue d) Yes) x ≡ inserted_at n (queue_for (object_in x.objects d).target by) d x
 queued_left x n f by d a =
@@ -124,10 +110,10 @@ fired_left x n by d a =
 -- ---- an insert is used up: a call of `unqueue` with reply yes, or its DPC begins
 
 abbrev object_removed : DpcNo → DpcLanes → ObjectState
-object_removed d x = record (object_in x.objects d) { standing = None }
+object_removed d x = standing_nowhere (object_in x.objects d)
 
 abbrev queue_removed : CpuNo → DpcNo → DpcLanes → QueueState
-queue_removed p d x = record (queue_in x.queues p) { pending = without_dpc d (queue_in x.queues p).pending }
+queue_removed p d x = drop_entry d (queue_in x.queues p)
 
 unqueued_left : (x : DpcLanes) (n f : ℕ) (by : CpuNo) (d : DpcNo) (at : Standing) → Agrees x → (object_in x.objects d).standing ≡ Some at → left n by (Call f (Unqueue d) Yes) x ≡ removed_at at.queue d x
 unqueued_left x n f by d at a e =
@@ -153,32 +139,32 @@ threaded_left x n from by d a =
 
 -- ---- importance, target, idle mark
 
-important_left : (x : DpcLanes) (n f : ℕ) (by : CpuNo) (d : DpcNo) (i : Importance) → Agrees x → left n by (Call f (SetImportanceCall d i) Done) x ≡ with_object d (record (object_in x.objects d) { importance = i }) x
+important_left : (x : DpcLanes) (n f : ℕ) (by : CpuNo) (d : DpcNo) (i : Importance) → Agrees x → left n by (Call f (SetImportanceCall d i) Done) x ≡ with_object d (with_importance i (object_in x.objects d)) x
 important_left x n f by d i a =
     let w : What = Call f (SetImportanceCall d i) Done in
-    both_left x n by w (set x.objects d.0 (record (object_in x.objects d) { importance = i })) x.queues
-    (object_left x n by w d (record (object_in x.objects d) { importance = i }) a (rw (same d.0)) (λ e o k. rw k))
+    both_left x n by w (set x.objects d.0 (with_importance i (object_in x.objects d))) x.queues
+    (object_left x n by w d (with_importance i (object_in x.objects d)) a (rw (same d.0)) (λ e o k. rw k))
     (queues_stay x n by w a (λ r q. same_idle by r q.pending q))
 
-targeted_left : (x : DpcLanes) (n f : ℕ) (by : CpuNo) (d : DpcNo) (t : Option CpuNo) → Agrees x → left n by (Call f (SetTargetCall d t) Done) x ≡ with_object d (record (object_in x.objects d) { target = t }) x
+targeted_left : (x : DpcLanes) (n f : ℕ) (by : CpuNo) (d : DpcNo) (t : Option CpuNo) → Agrees x → left n by (Call f (SetTargetCall d t) Done) x ≡ with_object d (with_target t (object_in x.objects d)) x
 targeted_left x n f by d t a =
     let w : What = Call f (SetTargetCall d t) Done in
-    both_left x n by w (set x.objects d.0 (record (object_in x.objects d) { target = t })) x.queues
-    (object_left x n by w d (record (object_in x.objects d) { target = t }) a (rw (same d.0)) (λ e o k. rw k))
+    both_left x n by w (set x.objects d.0 (with_target t (object_in x.objects d))) x.queues
+    (object_left x n by w d (with_target t (object_in x.objects d)) a (rw (same d.0)) (λ e o k. rw k))
     (queues_stay x n by w a (λ r q. same_idle by r q.pending q))
 
-rest_left : (x : DpcLanes) (n : ℕ) (by : CpuNo) → Agrees x → left n by RestEvent x ≡ with_queue by (record (queue_in x.queues by) { idle = true }) x
+rest_left : (x : DpcLanes) (n : ℕ) (by : CpuNo) → Agrees x → left n by RestEvent x ≡ with_queue by (set_idle true (queue_in x.queues by)) x
 rest_left x n by a =
-    both_left x n by RestEvent x.objects (set x.queues by.0 (record (queue_in x.queues by) { idle = true }))
+    both_left x n by RestEvent x.objects (set x.queues by.0 (set_idle true (queue_in x.queues by)))
     (objects_stay x n by RestEvent a (λ d o. refl))
-    (queue_left x n by RestEvent by (record (queue_in x.queues by) { idle = true }) a (rw (same by.0)) (λ r q k. rw k))
+    (queue_left x n by RestEvent by (set_idle true (queue_in x.queues by)) a (rw (same by.0)) (λ r q k. rw k))
 
-switch_left : (x : DpcLanes) (n : ℕ) (by : CpuNo) (t : ThreadNo) (status : Option ℕ) → Agrees x → left n by (Switch t status) x ≡ with_queue by (record (queue_in x.queues by) { idle = false }) x
+switch_left : (x : DpcLanes) (n : ℕ) (by : CpuNo) (t : ThreadNo) (status : Option ℕ) → Agrees x → left n by (Switch t status) x ≡ with_queue by (set_idle false (queue_in x.queues by)) x
 switch_left x n by t status a =
     let w : What = Switch t status in
-    both_left x n by w x.objects (set x.queues by.0 (record (queue_in x.queues by) { idle = false }))
+    both_left x n by w x.objects (set x.queues by.0 (set_idle false (queue_in x.queues by)))
     (objects_stay x n by w a (λ d o. refl))
-    (queue_left x n by w by (record (queue_in x.queues by) { idle = false }) a (rw (same by.0)) (λ r q k. rw k))
+    (queue_left x n by w by (set_idle false (queue_in x.queues by)) a (rw (same by.0)) (λ r q k. rw k))
 
 -- ---- every event
 

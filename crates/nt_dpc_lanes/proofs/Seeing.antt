@@ -27,6 +27,8 @@ use Rattle.nt_dpc_lanes.proofs.Leaving.{first_in_script}
 use Rattle.nt_dpc_lanes.specs.Agree.{Agrees, AreKept, IsObjectOf, IsQueueOf, lanes_of, object_facts, queue_facts}
 use Rattle.nt_dpc_lanes.specs.Changes.{inserted_at, removed_at, removed_from, with_object, with_queue}
 use Rattle.nt_dpc_lanes.specs.Lanes.{DpcLanes, queue_in}
+use Rattle.nt_dpc.specs.Objects.{with_importance, with_target}
+use Rattle.nt_dpc.specs.Queues.{set_idle}
 
 -- these objects and queues are kept, and contracts see this of them
 pub record AreSeen (s : Script) (os : List ObjectFacts) (qs : List QueueFacts) (x : DpcLanes) : Type 0 where
@@ -138,29 +140,29 @@ removed_is_seen s os qs x p d os2 qs2 h at here eo eq =
       seen = rw (eo, eq) (removed_seen s os qs p d h.kept at ∙ ap (removed_at p d) h.seen);
     }
 
-pub importance_seen : (s : Script) (os : List ObjectFacts) (qs : List QueueFacts) (x : DpcLanes) (d : DpcNo) (i : Importance) (os2 : List ObjectFacts) → AreSeen s os qs x → d.0 < length os → os2 ≡ set os d.0 (important i d os) → AreSeen s os2 qs (with_object d (record (object_in x.objects d) { importance = i }) x)
+pub importance_seen : (s : Script) (os : List ObjectFacts) (qs : List QueueFacts) (x : DpcLanes) (d : DpcNo) (i : Importance) (os2 : List ObjectFacts) → AreSeen s os qs x → d.0 < length os → os2 ≡ set os d.0 (important i d os) → AreSeen s os2 qs (with_object d (with_importance i (object_in x.objects d)) x)
 importance_seen s os qs x d i os2 h l e =
     record {
       kept = rw e (important_kept s os qs d i h.kept l);
-      seen = rw e (important_seen s os qs d i ∙ ap (λ (y : DpcLanes). with_object d (record (object_in y.objects d) { importance = i }) y) h.seen);
+      seen = rw e (important_seen s os qs d i ∙ ap (λ (y : DpcLanes). with_object d (with_importance i (object_in y.objects d)) y) h.seen);
     }
 
-pub target_seen : (s : Script) (os : List ObjectFacts) (qs : List QueueFacts) (x : DpcLanes) (d : DpcNo) (t : Option CpuNo) (os2 : List ObjectFacts) → AreSeen s os qs x → d.0 < length os → IfSome t (λ p. IsTrue (has_cpu x.script p)) → os2 ≡ set os d.0 (targeted t d os) → AreSeen s os2 qs (with_object d (record (object_in x.objects d) { target = t }) x)
+pub target_seen : (s : Script) (os : List ObjectFacts) (qs : List QueueFacts) (x : DpcLanes) (d : DpcNo) (t : Option CpuNo) (os2 : List ObjectFacts) → AreSeen s os qs x → d.0 < length os → IfSome t (λ p. IsTrue (has_cpu x.script p)) → os2 ≡ set os d.0 (targeted t d os) → AreSeen s os2 qs (with_object d (with_target t (object_in x.objects d)) x)
 target_seen s os qs x d t os2 h l fits e =
     record {
       kept = rw e (targeted_kept s os qs d t h.kept l (below t fits));
-      seen = rw e (targeted_seen s os qs d t ∙ ap (λ (y : DpcLanes). with_object d (record (object_in y.objects d) { target = t }) y) h.seen);
+      seen = rw e (targeted_seen s os qs d t ∙ ap (λ (y : DpcLanes). with_object d (with_target t (object_in y.objects d)) y) h.seen);
     }
   where
     below : (t : Option CpuNo) → IfSome t (λ p. IsTrue (has_cpu x.script p)) → IfSome t (λ p. p.0 < s.cpus)
     below None f = tt
     below (Some p) f = subst (λ (y : DpcLanes). p.0 < y.script.cpus) (sym h.seen) (ltb-true p.0 x.script.cpus f)
 
-pub rest_seen : (s : Script) (os : List ObjectFacts) (qs : List QueueFacts) (x : DpcLanes) (p : CpuNo) (idle : Bool) (qs2 : List QueueFacts) → AreSeen s os qs x → p.0 < length qs → qs2 ≡ set qs p.0 (with_idle idle (queue_facts qs p)) → AreSeen s os qs2 (with_queue p (record (queue_in x.queues p) { idle = idle }) x)
+pub rest_seen : (s : Script) (os : List ObjectFacts) (qs : List QueueFacts) (x : DpcLanes) (p : CpuNo) (idle : Bool) (qs2 : List QueueFacts) → AreSeen s os qs x → p.0 < length qs → qs2 ≡ set qs p.0 (with_idle idle (queue_facts qs p)) → AreSeen s os qs2 (with_queue p (set_idle idle (queue_in x.queues p)) x)
 rest_seen s os qs x p idle qs2 h l e =
     record {
       kept = rw e (idle_kept s os qs p idle h.kept l);
-      seen = rw e (idle_seen s os qs p idle ∙ ap (λ (y : DpcLanes). with_queue p (record (queue_in y.queues p) { idle = idle }) y) h.seen);
+      seen = rw e (idle_seen s os qs p idle ∙ ap (λ (y : DpcLanes). with_queue p (set_idle idle (queue_in y.queues p)) y) h.seen);
     }
 
 -- ---- where a removed object stands

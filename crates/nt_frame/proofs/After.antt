@@ -26,7 +26,7 @@ use Rattle.nt_frame.proofs.Changed.{innermost_frame}
 use Rattle.nt_frame.proofs.Ended.{normal_is_on_thread}
 use Rattle.nt_frame.proofs.Events.{IsOurs, changed, changed_same, frames_after_is, threads_after}
 use Rattle.nt_frame.proofs.Named.{at_name_head, at_name_older, changed_by, changed_stays, end_base_head, end_head, end_older, named_change, on_running_is, thread_change, without_head}
-use Rattle.nt_frame.proofs.Booleans.{null_is}
+use Rattle.nt_event.proofs.Booleans.{null_is}
 
 -- the innermost frame stands on the thread's part where the own part has none
 on_part_of : (f : Frame) (x : Frames) → x.own ≡ [] → innermost x ≡ Some f → head_of (thread_part x) ≡ Some f

@@ -22,7 +22,7 @@ use Rattle.nt_frame.specs.Nesting.{AreNamedBelow, AreNested, IsFrame, IsOver, Is
 use Rattle.nt_frame.specs.Rules.{may_begin, regions_in}
 use Rattle.nt_frame.proofs.Nested.{on_own_nested, on_running_nested, thread_part_nested}
 use Rattle.nt_frame.proofs.Ranks.{below_apc, below_dpc, below_int, below_normal, length-under, rank_bounds, thread_rank_bound}
-use Rattle.nt_frame.proofs.Booleans.{and_left, and_right, lt_is, zero_is}
+use Rattle.nt_event.proofs.Booleans.{and_left, and_right, lt_is, zero_is}
 
 -- ---- the new frame
 

@@ -16,7 +16,7 @@ use Rattle.nt_frame.specs.Rules.{is_leaving, may_go_on}
 use Rattle.nt_frame.proofs.Begun.{base_is_not_own}
 use Rattle.nt_frame.proofs.Changed.{innermost_frame}
 use Rattle.nt_frame.proofs.Kept.{innermost_test}
-use Rattle.nt_frame.proofs.Booleans.{and_right}
+use Rattle.nt_event.proofs.Booleans.{and_right}
 use Rattle.nt_frame.proofs.Nested.{on_own_nested, on_running_nested, thread_part_nested}
 
 tail_part : (own : Bool) (fs : List Frame) → IsPart own fs → IsPart own (tail_of fs)

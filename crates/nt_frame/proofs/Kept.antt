@@ -15,7 +15,7 @@ use Rattle.nt_frame.specs.Nesting.{AreNested, IsFrame, IsThreadPart, is_special_
 use Rattle.nt_frame.specs.Rules.{is_at_base, may_go_on}
 use Rattle.nt_frame.proofs.Changed.{at_innermost_nested, innermost_frame}
 use Rattle.nt_frame.proofs.Nested.{thread_part_nested}
-use Rattle.nt_frame.proofs.Booleans.{and_right}
+use Rattle.nt_event.proofs.Booleans.{and_right}
 
 pub level_nested : (f : Frame) (x : Frames) (l : ℕ) → AreNested x → innermost x ≡ Some f → base_of f ≤ l → AreNested (at_innermost (λ _. record f { level = l }) x)
 level_nested f x l h k b =

@@ -27,7 +27,11 @@ rank (Apc a kind) = apc_rank kind
 
 abbrev pub has_isr_level : Body → Bool
 has_isr_level (Int level) = is_isr_level level
-has_isr_level _ = true
+has_isr_level (Dpc d) = true
+has_isr_level (Threaded d) = true
+has_isr_level (Base t) = true
+has_isr_level (Apc a kind) = true
+has_isr_level (Rundown a) = true
 
 abbrev pub is_special_body : Body → Bool
 is_special_body (Apc a Special) = true

@@ -6,7 +6,7 @@ use Rattle.std.specs.List.{filter, find}
 use Rattle.std.specs.Option.{option_or}
 use Rattle.std.specs.Prelude.{IfNone, IfSome}
 use Rattle.nt_apc.proofs.Firsts.{deliverable-kind, deliverable-with, first-is_of_kind, first-with, kind_in}
-use Rattle.nt_apc.proofs.Reversed.{filter-reverse}
+use Rattle.nt_event.proofs.Reversed.{filter-reverse}
 use Rattle.nt_apc.specs.Firsts.{kind_with, may_begin}
 use Rattle.nt_event.specs.Apcs.{ApcQueues, deliverable, first_kernel, first_of_kind, first_user, is_of_apc, is_of_kind, same_kind, takes, with_apc, without_apc}
 use Rattle.nt_event.specs.Routines.{is_kernel_kind}

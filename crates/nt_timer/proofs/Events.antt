@@ -20,31 +20,15 @@ use Rattle.nt_event.specs.Waits.{is_of_thread}
 use Rattle.nt_event.specs.Replies.{is_answer}
 use Rattle.nt_event.specs.Numbers.{is_of, thread, timer}
 use Rattle.nt_event.specs.Lists.{table, table_from}
+use Rattle.nt_event.proofs.Booleans.{either_way}
 use Rattle.nt_event.proofs.Tables.{table-self}
+use Rattle.nt_event.proofs.Written.{table_set}
 use Rattle.nt_timer.specs.Laws.{IsMadeBy, IsSized, TimerCallsAreEvents}
 use Rattle.nt_timer.specs.Settings.{due_at, expired, with_setting}
 use Rattle.nt_event.specs.Frames.{time_after}
 use Rattle.nt_event.specs.Routines.{cpu_of}
 use Rattle.std.proofs.lemmas.Bool.{and_right, eqb-false, eqb-true}
 use Rattle.std.proofs.lemmas.List.{get_or-set_other, get_or-set_same, length-set}
-
--- ---- tables in which one place changes, or none
-
-set_reads : (xs : List (Option Setting)) (t i : ℕ) (v : Option Setting) (f : ℕ → Option Setting) → i < length xs → (eqb t i ≡ true → f i ≡ v) → (eqb t i ≡ false → f i ≡ setting_in xs i) → (b : Bool) → eqb t i ≡ b → f i ≡ get_or (set xs t v) i None
-set_reads xs t i v f h same other true e =
-    let at : t ≡ i = eqb-true t i e in
-    same e ∙ sym (subst (λ (k : ℕ). get_or (set xs k v) i None ≡ v) (sym at) (get_or-set_same xs i v None h))
-set_reads xs t i v f h same other false e =
-    other e ∙ sym (get_or-set_other xs t i v None (λ k. eqb-false t i e (sym k)))
-
--- a table whose elements are those of the list but at t is the list with that place written
-table_set : (xs : List (Option Setting)) (n t : ℕ) (v : Option Setting) (f : ℕ → Option Setting) → length xs ≡ n → ((i : ℕ) → eqb t i ≡ true → f i ≡ v) → ((i : ℕ) → eqb t i ≡ false → f i ≡ setting_in xs i) → table n f ≡ set xs t v
-table_set xs n t v f l same other =
-    table-self None n (set xs t v) f (length-set xs t v ∙ l) (λ i h. set_reads xs t i v f (omega arith) (same i) (other i) (eqb t i) refl)
-
-either_way : {A : Type 0} (b : Bool) (x : A) → cond b x x ≡ x
-either_way true x = refl
-either_way false x = refl
 
 -- ---- one table at a time: with e.what known
 
@@ -65,7 +49,7 @@ delays_stay s st e x n w size h left made =
 -- the delay that a thread's own event sets
 delays_set : (s : Script) (st : Stand) (e : Event) (x : Timers) (n due : ℕ) (t : ThreadNo) (w : What) → IsSized s x → IsMadeBy s t e → e.what ≡ w → ((u : ThreadNo) (old : Option Setting) → expired_delay u w old ≡ old) → ((old : Option Setting) → blocked_after n x.now st.again w old ≡ due_at due n 0) → table (length s.threads) (λ u. delay_after s (thread u) n x.now st.again e (setting_in x.delays u)) ≡ set x.delays t.0 (due_at due n 0)
 delays_set s st e x n due t w size made h left sets =
-    table_set x.delays (length s.threads) t.0 (due_at due n 0) (λ u. delay_after s (thread u) n x.now st.again e (setting_in x.delays u)) size.delays mine others
+    table_set x.delays (length s.threads) t.0 (due_at due n 0) None (λ u. delay_after s (thread u) n x.now st.again e (setting_in x.delays u)) size.delays mine others
   where
     mine : (i : ℕ) → eqb t.0 i ≡ true → delay_after s (thread i) n x.now st.again e (setting_in x.delays i) ≡ due_at due n 0
     mine i same =
@@ -81,13 +65,13 @@ delays_set s st e x n due t w size made h left sets =
 -- the delay that expires
 delay_expired : (s : Script) (st : Stand) (e : Event) (x : Timers) (n from : ℕ) (t : ThreadNo) → IsSized s x → e.what ≡ Expire (OfDelay t) from → table (length s.threads) (λ u. delay_after s (thread u) n x.now st.again e (setting_in x.delays u)) ≡ set x.delays t.0 None
 delay_expired s st e x n from t size h =
-    table_set x.delays (length s.threads) t.0 None (λ u. delay_after s (thread u) n x.now st.again e (setting_in x.delays u)) size.delays (λ i k. rw (h, k)) (λ i k. rw (h, k) (either_way (is_of_thread s (thread i) e) (setting_in x.delays i)))
+    table_set x.delays (length s.threads) t.0 None None (λ u. delay_after s (thread u) n x.now st.again e (setting_in x.delays u)) size.delays (λ i k. rw (h, k)) (λ i k. rw (h, k) (either_way (is_of_thread s (thread i) e) (setting_in x.delays i)))
 
 -- ---- the events
 
 timer_set : (s : Script) (e : Event) (x : Timers) (n : ℕ) (t : TimerNo) (v : Option Setting) (w : What) → IsSized s x → e.what ≡ w → ((i : ℕ) → eqb t.0 i ≡ true → timer_after (timer i) n x.now w (setting_in x.timers i) ≡ v) → ((i : ℕ) → eqb t.0 i ≡ false → timer_after (timer i) n x.now w (setting_in x.timers i) ≡ setting_in x.timers i) → table (length s.timers) (λ i. timer_after (timer i) n x.now e.what (setting_in x.timers i)) ≡ set x.timers t.0 v
 timer_set s e x n t v w size h same other =
-    table_set x.timers (length s.timers) t.0 v (λ i. timer_after (timer i) n x.now e.what (setting_in x.timers i)) size.timers (λ i k. rw h (same i k)) (λ i k. rw h (other i k))
+    table_set x.timers (length s.timers) t.0 v None (λ i. timer_after (timer i) n x.now e.what (setting_in x.timers i)) size.timers (λ i k. rw h (same i k)) (λ i k. rw h (other i k))
 
 time_stays : (e : Event) (w : What) (now : ℕ) → e.what ≡ w → time_after w now ≡ now → time_after e.what now ≡ now
 time_stays e w now h k = rw h k
