@@ -4,8 +4,8 @@ use Rattle.nt_event.specs.declared.inserts.Pick.{Pick}
 use Rattle.nt_event.specs.declared.numbers.ApcNo.{ApcNo}
 use Rattle.nt_event.specs.Apcs.{ApcQueues, closed_apcs, start_apcs, with_apc, without_apc}
 
--- what a call did: an accepted insert; a use of the object's insert, by `remove`, `take` or `flush_next`; the doors' closing.
--- The other calls, and the other answers of these, change nothing.
+-- what a call did: an accepted insert; a use of the object's insert, by `remove`, `take` or `flush_next`; the doors'
+-- closing. The other calls, and the other answers of these, change nothing.
 pub data Act : Type 0 where
   Inserts : Pick → Act
   Uses : ApcNo → Act

@@ -1,5 +1,6 @@
 -- A list without the one element that passes a test, and the place of the first that does.
-use Rattle.std.proofs.Common.{◌≡◌, ◌≤◌, ◌<◌, ◌||◌, ℕ, Bool, true, false, cond, List, [], ◌∷◌, ◌++◌, Option, Some, None, ltb, ◌+◌, reverse, length, get_or, not, refl, sym, ◌∙◌, ap, append-nil, arith, suc, zero}
+use Rattle.std.proofs.Common.{◌≡◌, ◌≤◌, ◌<◌, ◌||◌, ℕ, Bool, true, false, cond, List, [], ◌∷◌, ◌++◌, Option, Some, None, ltb, ◌+◌, reverse, length, get_or, not}
+use Rattle.std.proofs.Common.{refl, sym, ◌∙◌, ap, append-nil, arith, suc, zero}
 use Rattle.std.specs.List.{count_by, filter, find, list_any, position, position_or_len, remove}
 use Rattle.std.specs.Option.{is_some}
 use Rattle.std.proofs.lemmas.Bool.{ltb-false}
@@ -12,11 +13,13 @@ pub none_passes : {X : Type 0} (p : X → Bool) (xs : List X) → length (filter
 none_passes p [] h = refl
 none_passes p (x ∷ xs) h = step p x xs (none_passes p xs) h (p x) refl
   where
-    step : {X : Type 0} (p : X → Bool) (x : X) (xs : List X) → (length (filter p xs) ≡ 0 → filter (λ y. not (p y)) xs ≡ xs) → length (filter p (x ∷ xs)) ≡ 0 → (b : Bool) → p x ≡ b → filter (λ y. not (p y)) (x ∷ xs) ≡ x ∷ xs
+    step : {X : Type 0} (p : X → Bool) (x : X) (xs : List X) → (length (filter p xs) ≡ 0 → filter (λ y. not (p y)) xs ≡ xs) → length (filter p (x ∷ xs)) ≡ 0 →
+        (b : Bool) → p x ≡ b → filter (λ y. not (p y)) (x ∷ xs) ≡ x ∷ xs
     step p x xs rest h true k = absurd (let bad : length (x ∷ filter p xs) ≡ 0 = rw k at h in omega arith)
     step {X} p x xs rest h false k = rw k (ap (λ (ys : List X). x ∷ ys) (rest (rw k at h)))
 
-pub remove-only : {X : Type 0} (p : X → Bool) (xs : List X) (i : ℕ) → i < length xs → ((d : X) → p (get_or xs i d) ≡ true) → ((k : ℕ) (d : X) → k < i → p (get_or xs k d) ≡ false) → length (filter p xs) ≤ 1 → remove xs i ≡ filter (λ x. not (p x)) xs
+pub remove-only : {X : Type 0} (p : X → Bool) (xs : List X) (i : ℕ) → i < length xs → ((d : X) → p (get_or xs i d) ≡ true) →
+    ((k : ℕ) (d : X) → k < i → p (get_or xs k d) ≡ false) → length (filter p xs) ≤ 1 → remove xs i ≡ filter (λ x. not (p x)) xs
 remove-only p [] i l here before one = absurd (omega arith)
 remove-only {X} p (x ∷ xs) zero l here before one =
     let h : p x ≡ true = here x in
@@ -29,7 +32,8 @@ remove-only {X} p (x ∷ xs) (suc i) l here before one =
 
 -- ---- a place where none is
 
-step_none : {X : Type 0} (p : X → Bool) (x : X) (xs : List X) → (length xs ≤ position_or_len p xs → list_any p xs ≡ false) → length (x ∷ xs) ≤ position_or_len p (x ∷ xs) → (b : Bool) → p x ≡ b → list_any p (x ∷ xs) ≡ false
+step_none : {X : Type 0} (p : X → Bool) (x : X) (xs : List X) → (length xs ≤ position_or_len p xs → list_any p xs ≡ false) →
+    length (x ∷ xs) ≤ position_or_len p (x ∷ xs) → (b : Bool) → p x ≡ b → list_any p (x ∷ xs) ≡ false
 step_none p x xs rest h true k = absurd (let bad : length (x ∷ xs) ≤ 0 = rw k at h in omega arith)
 step_none p x xs rest h false k =
     rw k (rest (let far : length (x ∷ xs) ≤ 1 + position_or_len p xs = rw k at h in omega arith))

@@ -16,14 +16,15 @@ use Rattle.nt_event.specs.Objects.{ObjectState, is_queued, object_after, object_
 use Rattle.nt_event.specs.Queues.{first_dpc, is_in, is_of_dpc, queue_after}
 use Rattle.nt_event.specs.Requests.{Ask, ask, queue_asks}
 use Rattle.nt_event.specs.Routines.{depth_limit, part_of}
-use Rattle.nt_dpc.specs.Changes.{AllAccepted, IsFirst, IsPending, NumbersRise, QueueChange, Removed, Taken, after_changes}
+use Rattle.nt_dpc.specs.Changes.{AllAccepted, IsFirst, IsPending, NumbersRise, QueueChange, Removed, Taken}
+use Rattle.nt_dpc.specs.Changes.{after_changes}
 use Rattle.nt_dpc.specs.Objects.{ObjectFacts, entry_of, standing_at, standing_nowhere, with_importance, with_target}
 use Rattle.nt_dpc.specs.Queues.{QueueFacts, add_entry, asked_class, drop_entry, new_queue, set_idle}
 
 -- ---- over every list of accepted calls
 
--- where each insert has a number above those before it, the first of a part is the pending High one of greatest number, else
--- the pending one of least number; and there is none exactly where nothing of the part is pending
+-- where each insert has a number above those before it, the first of a part is the pending High one of greatest number,
+-- else the pending one of least number; and there is none exactly where nothing of the part is pending
 abbrev pub FirstByNumber : Type 0
 FirstByNumber =
     (p : CpuNo) (count limit : ℕ) (past : List QueueChange) → NumbersRise past → (part : Part) →

@@ -1,6 +1,7 @@
 -- DPC queues as contracts see them: what calls require, answer and leave.
 use Rattle.std.specs.List.{list_any}
-use Rattle.std.specs.Prelude.{Bool, List, None, Option, Some, [], false, if◌then◌else◌, nat_lt, option_map, true, ℕ, ◌+◌, ◌<◌, ◌==◌, ◌≡◌, ◌∷◌}
+use Rattle.std.specs.Prelude.{Bool, List, None, Option, Some, [], false, if◌then◌else◌, nat_lt, option_map, true, ℕ}
+use Rattle.std.specs.Prelude.{◌+◌, ◌<◌, ◌==◌, ◌≡◌, ◌∷◌}
 use Rattle.nt_event.specs.declared.inserts.Insert.{Insert}
 use Rattle.nt_event.specs.declared.inserts.Part.{Part}
 use Rattle.nt_event.specs.declared.inserts.Part.TheVariants.{Ordinary as OrdinaryPart, Threaded as ThreadedPart}
@@ -50,8 +51,8 @@ with_idle idle q = record q { state = set_idle idle q.state }
 
 -- ---- what calls require
 
--- an insert of the object by p may be called here: it is queued somewhere, or this is the queue that the insert puts it into,
--- and has no entry of it
+-- an insert of the object by p may be called here: it is queued somewhere, or this is the queue that the insert puts it
+-- into, and has no entry of it
 abbrev pub MayInsert : QueueFacts → ObjectFacts → CpuNo → Type 0
 MayInsert q o p =
     is_queued o.state ≡ false → (queue_for o.state.target p ≡ q.cpu) × (holds_dpc o.dpc q.state.pending ≡ false)

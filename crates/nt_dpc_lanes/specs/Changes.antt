@@ -1,16 +1,22 @@
 -- What an event changes of objects and queues, as one change of an object, of a queue, or of both.
-use Rattle.std.specs.Prelude.{Bool, IfSome, IsTrue, None, Option, Some, false, if◌then◌else◌, option_map, set, true, ℕ, ◌≡◌}
+use Rattle.std.specs.Prelude.{Bool, IfSome, IsTrue, None, Option, Some, false, if◌then◌else◌, option_map, set, true, ℕ}
+use Rattle.std.specs.Prelude.{◌≡◌}
 use Rattle.nt_event.specs.declared.commands.Command.{Command}
-use Rattle.nt_event.specs.declared.commands.Command.TheVariants.{Alert, CancelTimer, Clock, Delay, EnterCrit, EnterGuard}
-use Rattle.nt_event.specs.declared.commands.Command.TheVariants.{InsertApc, Interrupt, LeaveCrit, LeaveGuard, Lower, Note, Queue}
-use Rattle.nt_event.specs.declared.commands.Command.TheVariants.{Raise, Release, RemoveApc, SetImportance as SetImportanceCall}
-use Rattle.nt_event.specs.declared.commands.Command.TheVariants.{SetTarget as SetTargetCall, SetTimer, StartWait, TestAlert, ToUser}
+use Rattle.nt_event.specs.declared.commands.Command.TheVariants.{Alert, CancelTimer, Clock, Delay, EnterCrit}
+use Rattle.nt_event.specs.declared.commands.Command.TheVariants.{EnterGuard}
+use Rattle.nt_event.specs.declared.commands.Command.TheVariants.{InsertApc, Interrupt, LeaveCrit, LeaveGuard, Lower}
+use Rattle.nt_event.specs.declared.commands.Command.TheVariants.{Note, Queue}
+use Rattle.nt_event.specs.declared.commands.Command.TheVariants.{Raise, Release, RemoveApc}
+use Rattle.nt_event.specs.declared.commands.Command.TheVariants.{SetImportance as SetImportanceCall}
+use Rattle.nt_event.specs.declared.commands.Command.TheVariants.{SetTarget as SetTargetCall, SetTimer, StartWait}
+use Rattle.nt_event.specs.declared.commands.Command.TheVariants.{TestAlert, ToUser}
 use Rattle.nt_event.specs.declared.commands.Command.TheVariants.{Unqueue, Yield}
 use Rattle.nt_event.specs.declared.commands.Reply.{Reply}
 use Rattle.nt_event.specs.declared.events.Begun.{Begun}
 use Rattle.nt_event.specs.declared.events.Begun.TheVariants.{Apc, Dpc, Int, Threaded}
 use Rattle.nt_event.specs.declared.events.What.{What}
-use Rattle.nt_event.specs.declared.events.What.TheVariants.{Begin, Call, Clean, End, Expire, Fire, Flush, Gone, Look, Normal, Rest as RestEvent, Rewait, Switch}
+use Rattle.nt_event.specs.declared.events.What.TheVariants.{Begin, Call, Clean, End, Expire, Fire, Flush, Gone, Look}
+use Rattle.nt_event.specs.declared.events.What.TheVariants.{Normal, Rest as RestEvent, Rewait, Switch}
 use Rattle.nt_event.specs.declared.inserts.Part.TheVariants.{Ordinary as OrdinaryPart, Threaded as ThreadedPart}
 use Rattle.nt_event.specs.declared.inserts.Standing.{Standing}
 use Rattle.nt_event.specs.declared.numbers.CpuNo.{CpuNo}
@@ -22,7 +28,8 @@ use Rattle.nt_event.specs.Script.{has_cpu, has_dpc}
 use Rattle.nt_dpc.specs.Objects.{standing_at, standing_nowhere, with_importance, with_target}
 use Rattle.nt_dpc.specs.Queues.{add_entry, drop_entry, set_idle}
 use Rattle.nt_dpc_lanes.specs.declared.changes.Change.{Change}
-use Rattle.nt_dpc_lanes.specs.declared.changes.Change.TheVariants.{Insert, Nothing, Remove, Rest, Run, SetImportance, SetTarget, Take}
+use Rattle.nt_dpc_lanes.specs.declared.changes.Change.TheVariants.{Insert, Nothing, Remove, Rest, Run, SetImportance}
+use Rattle.nt_dpc_lanes.specs.declared.changes.Change.TheVariants.{SetTarget, Take}
 use Rattle.nt_dpc_lanes.specs.Lanes.{DpcLanes, queue_in}
 
 -- the change where the test holds, else none
@@ -113,8 +120,8 @@ changed n by Run x = with_queue by (set_idle false (queue_in x.queues by)) x
 
 -- ---- when a change may be made
 
--- the change may be made by this processor in these states. An event that may leave this (`MayLeave`) says what its reply has to
--- be; its change says only which things there have to be and how they have to stand
+-- the change may be made by this processor in these states. An event that may leave this (`MayLeave`) says what its
+-- reply has to be; its change says only which things there have to be and how they have to stand
 
 abbrev pub MayChange : DpcLanes → CpuNo → Change → Type 0
 MayChange x by (Insert d) = IsTrue (has_dpc x.script d) × (is_queued (object_in x.objects d) ≡ false)

@@ -1,16 +1,20 @@
 -- The objects and queues of a script as contracts see them, what an event leaves of them, and when it may be made.
 use Rattle.std.specs.Prelude.{IfSome, IsTrue, List, Some, [], get_or, length, not, ℕ, ◌≡◌}
 use Rattle.nt_event.specs.declared.commands.Command.{Command}
-use Rattle.nt_event.specs.declared.commands.Command.TheVariants.{Alert, CancelTimer, Clock, Delay, EnterCrit, EnterGuard}
-use Rattle.nt_event.specs.declared.commands.Command.TheVariants.{InsertApc, Interrupt, LeaveCrit, LeaveGuard, Lower, Note, Queue}
-use Rattle.nt_event.specs.declared.commands.Command.TheVariants.{Raise, Release, RemoveApc, SetImportance, SetTarget, SetTimer}
+use Rattle.nt_event.specs.declared.commands.Command.TheVariants.{Alert, CancelTimer, Clock, Delay, EnterCrit}
+use Rattle.nt_event.specs.declared.commands.Command.TheVariants.{EnterGuard}
+use Rattle.nt_event.specs.declared.commands.Command.TheVariants.{InsertApc, Interrupt, LeaveCrit, LeaveGuard, Lower}
+use Rattle.nt_event.specs.declared.commands.Command.TheVariants.{Note, Queue}
+use Rattle.nt_event.specs.declared.commands.Command.TheVariants.{Raise, Release, RemoveApc, SetImportance, SetTarget}
+use Rattle.nt_event.specs.declared.commands.Command.TheVariants.{SetTimer}
 use Rattle.nt_event.specs.declared.commands.Command.TheVariants.{StartWait, TestAlert, ToUser, Unqueue, Yield}
 use Rattle.nt_event.specs.declared.commands.Reply.{Reply}
 use Rattle.nt_event.specs.declared.commands.Reply.TheVariants.{Done}
 use Rattle.nt_event.specs.declared.events.Begun.{Begun}
 use Rattle.nt_event.specs.declared.events.Begun.TheVariants.{Apc, Dpc, Int, Threaded}
 use Rattle.nt_event.specs.declared.events.What.{What}
-use Rattle.nt_event.specs.declared.events.What.TheVariants.{Begin, Call, Clean, End, Expire, Fire, Flush, Gone, Look, Normal, Rest, Rewait, Switch}
+use Rattle.nt_event.specs.declared.events.What.TheVariants.{Begin, Call, Clean, End, Expire, Fire, Flush, Gone, Look}
+use Rattle.nt_event.specs.declared.events.What.TheVariants.{Normal, Rest, Rewait, Switch}
 use Rattle.nt_event.specs.declared.inserts.Part.TheVariants.{Ordinary as OrdinaryPart, Threaded as ThreadedPart}
 use Rattle.nt_event.specs.declared.numbers.CpuNo.{CpuNo}
 use Rattle.nt_event.specs.declared.numbers.DpcNo.{DpcNo}

@@ -57,7 +57,8 @@ closed_nested x h l =
     record { own = n.own; threads = n.threads; running = tt; newer = n.newer }
 
 -- the same where that thread is named, or none is
-pub closed_on : (x : Frames) (t : ThreadNo) → AreNested x → is_leaving x ≡ true → x.running ≡ Some t → AreNested (record (on_thread (λ _. []) t x) { running = None })
+pub closed_on : (x : Frames) (t : ThreadNo) → AreNested x → is_leaving x ≡ true → x.running ≡ Some t →
+    AreNested (record (on_thread (λ _. []) t x) { running = None })
 closed_on x t h l e =
     subst (λ (r : Option ThreadNo). AreNested (record (on_running (λ _. []) r x) { running = None })) e (closed_nested x h l)
 

@@ -9,10 +9,13 @@ use Rattle.nt_event.specs.Regions.{below_in, some_came_to_0}
 use Rattle.nt_frame.specs.declared.calls.FrameAnswer.{FrameAnswer}
 use Rattle.nt_frame.specs.declared.calls.FrameAnswer.TheVariants.{Asks, Done, Refused}
 use Rattle.nt_frame.specs.declared.calls.FrameCall.{FrameCall}
-use Rattle.nt_frame.specs.declared.calls.FrameCall.TheVariants.{AdvancePlace, Begin, EndBase, Enter, Finish, Gone, Leave, Lower, Normal, Raise, SetAgain, SwitchAway, SwitchTo}
+use Rattle.nt_frame.specs.declared.calls.FrameCall.TheVariants.{AdvancePlace, Begin, EndBase, Enter, Finish, Gone}
+use Rattle.nt_frame.specs.declared.calls.FrameCall.TheVariants.{Leave, Lower, Normal, Raise, SetAgain, SwitchAway}
+use Rattle.nt_frame.specs.declared.calls.FrameCall.TheVariants.{SwitchTo}
 use Rattle.nt_frame.specs.Changes.{at_innermost, begun, closed, without_innermost}
 use Rattle.nt_frame.specs.Nesting.{AreNamedBelow}
-use Rattle.nt_frame.specs.Rules.{count_of, end_asks_apc, enter_of, is_at_base, is_leaving, leave_of, may_begin, may_go_on, refusal_in, regions_in}
+use Rattle.nt_frame.specs.Rules.{count_of, end_asks_apc, enter_of, is_at_base, is_leaving, leave_of, may_begin}
+use Rattle.nt_frame.specs.Rules.{may_go_on, refusal_in, regions_in}
 
 -- the condition of a call, as its method requires it
 abbrev pub MayCall : FrameCall → Frames → Type 0

@@ -1,20 +1,27 @@
 -- The calls that a processor makes for an event of its own.
 use Rattle.std.specs.Option.{option_map_or}
-use Rattle.std.specs.Prelude.{List, None, Option, Some, [], false, if◌then◌else◌, length, true, ℕ, ◌++◌, ◌<◌, ◌==◌, ◌∷◌, ◌≡◌}
+use Rattle.std.specs.Prelude.{List, None, Option, Some, [], false, if◌then◌else◌, length, true, ℕ, ◌++◌, ◌<◌, ◌==◌, ◌∷◌}
+use Rattle.std.specs.Prelude.{◌≡◌}
 use Rattle.nt_event.specs.declared.commands.Command.{Command}
-use Rattle.nt_event.specs.declared.commands.Command.TheVariants.{Alert, CancelTimer, Clock, Delay, EnterCrit, EnterGuard}
+use Rattle.nt_event.specs.declared.commands.Command.TheVariants.{Alert, CancelTimer, Clock, Delay, EnterCrit}
+use Rattle.nt_event.specs.declared.commands.Command.TheVariants.{EnterGuard}
 use Rattle.nt_event.specs.declared.commands.Command.TheVariants.{InsertApc, Interrupt, LeaveCrit, LeaveGuard}
-use Rattle.nt_event.specs.declared.commands.Command.TheVariants.{Lower as LowerCommand, Note, Queue, Raise as RaiseCommand}
-use Rattle.nt_event.specs.declared.commands.Command.TheVariants.{Release, RemoveApc, SetImportance, SetTarget, SetTimer, StartWait}
+use Rattle.nt_event.specs.declared.commands.Command.TheVariants.{Lower as LowerCommand, Note, Queue}
+use Rattle.nt_event.specs.declared.commands.Command.TheVariants.{Raise as RaiseCommand}
+use Rattle.nt_event.specs.declared.commands.Command.TheVariants.{Release, RemoveApc, SetImportance, SetTarget, SetTimer}
+use Rattle.nt_event.specs.declared.commands.Command.TheVariants.{StartWait}
 use Rattle.nt_event.specs.declared.commands.Command.TheVariants.{TestAlert, ToUser, Unqueue, Yield}
 use Rattle.nt_event.specs.declared.commands.Reply.{Reply}
 use Rattle.nt_event.specs.declared.commands.Reply.TheVariants.{Blocked, Done, No, Refused, Status, Yes}
 use Rattle.nt_event.specs.declared.events.Begun.{Begun}
-use Rattle.nt_event.specs.declared.events.Begun.TheVariants.{Apc as BeginApc, Dpc as BeginDpc, Int as BeginInt, Threaded as BeginThreaded}
+use Rattle.nt_event.specs.declared.events.Begun.TheVariants.{Apc as BeginApc, Dpc as BeginDpc, Int as BeginInt}
+use Rattle.nt_event.specs.declared.events.Begun.TheVariants.{Threaded as BeginThreaded}
 use Rattle.nt_event.specs.declared.events.Event.{Event}
 use Rattle.nt_event.specs.declared.events.What.{What}
-use Rattle.nt_event.specs.declared.events.What.TheVariants.{Begin as BeginEvent, Call as CallEvent, Clean as CleanEvent, End as EndEvent}
-use Rattle.nt_event.specs.declared.events.What.TheVariants.{Expire as ExpireEvent, Fire as FireEvent, Flush as FlushEvent, Gone as GoneEvent}
+use Rattle.nt_event.specs.declared.events.What.TheVariants.{Begin as BeginEvent, Call as CallEvent, Clean as CleanEvent}
+use Rattle.nt_event.specs.declared.events.What.TheVariants.{End as EndEvent}
+use Rattle.nt_event.specs.declared.events.What.TheVariants.{Expire as ExpireEvent, Fire as FireEvent}
+use Rattle.nt_event.specs.declared.events.What.TheVariants.{Flush as FlushEvent, Gone as GoneEvent}
 use Rattle.nt_event.specs.declared.events.What.TheVariants.{Look as LookEvent, Normal as NormalEvent, Rest as RestEvent}
 use Rattle.nt_event.specs.declared.events.What.TheVariants.{Rewait as RewaitEvent, Switch as SwitchEvent}
 use Rattle.nt_event.specs.declared.frames.Again.{Again}
@@ -30,7 +37,9 @@ use Rattle.nt_event.specs.Routines.{kind_of, rundown_of}
 use Rattle.nt_event.specs.Numbers.{is_of}
 use Rattle.nt_event.specs.Replies.{is_done, kernel_apc}
 use Rattle.nt_frame.specs.declared.calls.FrameCall.{FrameCall}
-use Rattle.nt_frame.specs.declared.calls.FrameCall.TheVariants.{AdvancePlace, Begin, EndBase, Enter, Finish, Gone, Leave, Lower, Normal, Raise, SetAgain, SwitchAway, SwitchTo}
+use Rattle.nt_frame.specs.declared.calls.FrameCall.TheVariants.{AdvancePlace, Begin, EndBase, Enter, Finish, Gone}
+use Rattle.nt_frame.specs.declared.calls.FrameCall.TheVariants.{Leave, Lower, Normal, Raise, SetAgain, SwitchAway}
+use Rattle.nt_frame.specs.declared.calls.FrameCall.TheVariants.{SwitchTo}
 use Rattle.nt_frame.specs.Calls.{left_by_all}
 use Rattle.nt_frame.specs.Changes.{no_frames}
 use Rattle.nt_frame.specs.Nesting.{AreNested}
@@ -173,27 +182,30 @@ thread_of (FlushEvent a from) r = r
 thread_of (GoneEvent t) r = r
 thread_of RestEvent r = r
 
-abbrev pub Fits : What → Frames → Type 0
-Fits (CallEvent f c y) x = IsInnermost f x × Replies c y x
-Fits (RewaitEvent f y) x = IsInnermost f x × (x.own ≡ [])
-Fits (NormalEvent f) x = IsInnermost f x × (may_go_on x ≡ true)
-Fits (EndEvent f) x = IsInnermost f x
-Fits (SwitchEvent t status) x = (t.0 < length x.threads) × (x.own ≡ [])
-Fits (LookEvent r) x = Unit {0}
-Fits (BeginEvent b from) x = Unit {0}
-Fits (ExpireEvent k from) x = Unit {0}
-Fits (FireEvent d y) x = Unit {0}
-Fits (CleanEvent c) x = Unit {0}
-Fits (FlushEvent a from) x = Unit {0}
-Fits (GoneEvent t) x = Unit {0}
-Fits RestEvent x = Unit {0}
+-- what the event says of the frames is so: the routine that it names is the innermost one, its reply may come there, an
+-- APC has a normal routine left, a thread that is taken up is one of the processor's and runs over no frame of its own
+-- part
+abbrev pub EventSays : What → Frames → Type 0
+EventSays (CallEvent f c y) x = IsInnermost f x × Replies c y x
+EventSays (RewaitEvent f y) x = IsInnermost f x × (x.own ≡ [])
+EventSays (NormalEvent f) x = IsInnermost f x × (may_go_on x ≡ true)
+EventSays (EndEvent f) x = IsInnermost f x
+EventSays (SwitchEvent t status) x = (t.0 < length x.threads) × (x.own ≡ [])
+EventSays (LookEvent r) x = Unit {0}
+EventSays (BeginEvent b from) x = Unit {0}
+EventSays (ExpireEvent k from) x = Unit {0}
+EventSays (FireEvent d y) x = Unit {0}
+EventSays (CleanEvent c) x = Unit {0}
+EventSays (FlushEvent a from) x = Unit {0}
+EventSays (GoneEvent t) x = Unit {0}
+EventSays RestEvent x = Unit {0}
 
 -- the event is one that a processor may make where its frames are these
 pub record IsMade (s : Script) (e : Event) (x : Frames) : Type 0 where
   pub nested : AreNested x
   pub threads : length x.threads ≡ length s.threads
   pub thread : e.thread ≡ thread_of e.what x.running
-  pub fits : Fits e.what x
+  pub says : EventSays e.what x
 
 -- what each event leaves of the frames is what its calls leave
 abbrev pub EventsAreCalls : Type 0

@@ -79,6 +79,20 @@ fn wait(mode: Mode, alertable: bool) -> WaitSpec {
     }
 }
 
+/// Writes what would end the wait: a release, the expiry of the delay 9, an alert of each mode, an APC of each kind.
+fn write_endings(rt: HostRuntime, thread: &ThreadState) -> io::Result<()> {
+    println!(rt;
+        "  ends by release {}, expiry {}, alerts {} {}, APCs {} {} {}",
+        thread.ends_by_release(),
+        thread.ends_by_expiry(9),
+        thread.ends_by_alert(Mode::Kernel),
+        thread.ends_by_alert(Mode::User),
+        thread.ends_by_apc(ApcKind::Special),
+        thread.ends_by_apc(ApcKind::Normal),
+        thread.ends_by_apc(ApcKind::User)
+    )
+}
+
 /// What the wait would answer, and what it answers.
 fn tests_at_a_wait(rt: HostRuntime) -> io::Result<()> {
     let all = Before {
@@ -153,8 +167,11 @@ fn a_release(rt: HostRuntime) -> io::Result<()> {
     let plain = wait(Mode::Kernel, false);
     println!(rt; "  wait {:?}", thread.wait(plain, FREE, Level::APC))?;
     println!(rt; "  level {}", thread.level().number())?;
+    write_endings(rt, &thread)?;
     println!(rt; "  end delay {}", thread.end_delay(9))?;
+    println!(rt; "  status {:?}", thread.status())?;
     println!(rt; "  release {}", thread.release())?;
+    println!(rt; "  status {:?}", thread.status())?;
     println!(rt; "  ready {}", thread.is_ready())?;
     if thread.is_ready() {
         println!(rt; "  resume {:?}", thread.resume())?;
@@ -169,6 +186,7 @@ fn a_delay(rt: HostRuntime) -> io::Result<()> {
         ..wait(Mode::Kernel, false)
     };
     println!(rt; "  wait {:?}", thread.wait(delay, FREE, Level::PASSIVE))?;
+    write_endings(rt, &thread)?;
     println!(rt; "  release {}", thread.release())?;
     println!(rt; "  end delay 8 {}", thread.end_delay(8))?;
     println!(rt; "  end delay 9 {}", thread.end_delay(9))?;
@@ -179,8 +197,11 @@ fn an_alert(rt: HostRuntime) -> io::Result<()> {
     let mut thread = running(rt.alloc())?;
     let alertable = wait(Mode::User, true);
     println!(rt; "  wait {:?}", thread.wait(alertable, FREE, Level::PASSIVE))?;
+    write_endings(rt, &thread)?;
     println!(rt; "  alert {:?}", thread.alert(Mode::User))?;
+    println!(rt; "  was alerted {}", thread.was_alerted(Mode::User))?;
     println!(rt; "  alert {:?}", thread.alert(Mode::User))?;
+    println!(rt; "  was alerted {}", thread.was_alerted(Mode::User))?;
     println!(rt; "  alert {:?}", thread.alert(Mode::User))?;
     println!(rt; "  test alert {}", thread.test_alert(Mode::User))?;
     println!(rt; "  test alert {}", thread.test_alert(Mode::User))
@@ -190,8 +211,10 @@ fn a_user_apc(rt: HostRuntime) -> io::Result<()> {
     let mut thread = running(rt.alloc())?;
     let alertable = wait(Mode::User, true);
     println!(rt; "  wait {:?}", thread.wait(alertable, FREE, Level::PASSIVE))?;
+    println!(rt; "  takes {}, first {:?}", thread.takes(ApcNo(1)), thread.user_first())?;
     println!(rt; "  apc answer {:?}", thread.apc_answer(ApcNo(1), ApcKind::User))?;
     println!(rt; "  apc {:?}", thread.apc(ApcNo(1), ApcKind::User, 20))?;
+    println!(rt; "  takes {}, first {:?}", thread.takes(ApcNo(1)), thread.user_first())?;
     println!(rt; "  unapc {}", thread.unapc(ApcNo(1)))?;
     println!(rt; "  unapc {}", thread.unapc(ApcNo(1)))
 }
