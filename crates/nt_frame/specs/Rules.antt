@@ -17,7 +17,7 @@ use Rattle.nt_event.specs.Frames.{Frames, innermost, is_base_body, is_normal_apc
 use Rattle.nt_event.specs.Frames.{thread_part}
 use Rattle.nt_event.specs.Jobs.{has_normal}
 use Rattle.nt_event.specs.Regions.{below_in, regions_of, some_came_to_0}
-use Rattle.nt_event.specs.Script.{is_isr_level}
+use Rattle.nt_event.specs.Classes.{is_isr_level}
 use Rattle.nt_event.specs.Lists.{is_null}
 use Rattle.nt_event.specs.Numbers.{is_thread}
 
