@@ -7,11 +7,12 @@ use Rattle.nt_event.specs.declared.events.Begun.{Begun}
 use Rattle.nt_event.specs.declared.events.Begun.TheVariants.{Apc, Dpc, Int, Threaded}
 use Rattle.nt_event.specs.declared.events.Event.{Event}
 use Rattle.nt_event.specs.declared.events.What.{What}
-use Rattle.nt_event.specs.declared.events.What.TheVariants.{Begin, Call, Clean, End, Expire, Fire, Flush, Gone, Look, Normal, Rewait, Switch}
+use Rattle.nt_event.specs.declared.events.What.TheVariants.{Begin, Call, Clean, End, Expire, Fire, Flush, Gone, Look, Normal, Rest, Rewait, Switch}
 use Rattle.nt_event.specs.declared.scripts.Script.{Script}
-use Rattle.nt_event.specs.Classes.{is_interrupt_level}
+use Rattle.nt_event.specs.Classes.{is_interrupt_level, is_used_class, dispatch_class}
 use Rattle.nt_event.specs.Script.{command_fits, fits, has_apc, has_cpu, has_dpc, has_thread, has_timer, where_given}
 use Rattle.nt_event.specs.Step.{IsRun, is_look}
+use Rattle.nt_event.specs.Fitting.{what_fits}
 
 -- the values of a look, from this class on, rise in used classes alone
 abbrev pub values_fit : ℕ → List ℕ → Bool

@@ -41,7 +41,7 @@ use Rattle.nt_laws.proofs.Fates.Deliveries.{deliveries_name_pending_inserts}
 use Rattle.nt_runs.proofs.Pending.{legal_cpu}
 use Rattle.nt_laws.proofs.Fates.Once.{delivered_inserts_wait}
 use Rattle.nt_laws.specs.Fates.{ApcIsPending, DpcIsPending, NamesPending}
-use Rattle.nt_laws.specs.Named.{AllFit, earlier}
+use Rattle.nt_laws.specs.Named.{AllFit, earlier, keeps_to_classes}
 use Rattle.nt_event.specs.Fitting.{key_fits, what_fits}
 use Rattle.nt_laws.proofs.Named.Asked.{rises_fit}
 use Rattle.nt_laws.proofs.Named.Declared.{fire_fits, next_fits}
