@@ -19,7 +19,8 @@ abbrev pub values_fit : ℕ → List ℕ → Bool
 values_fit c [] = true
 values_fit c (v ∷ vs) = ((v == 0) || is_used_class c) && values_fit (suc c) vs
 
--- a look has a value, and values in used classes alone; an interrupt has the level of one; a Clean serves one of the first three
+-- a look has a value, and values in used classes alone; an interrupt has the level of one; a Clean serves one of the
+-- first three
 abbrev pub keeps_to_classes : What → Bool
 keeps_to_classes (Look r) = list_any (λ v. nat_lt 0 v) r.value && values_fit 0 r.value
 keeps_to_classes (Begin (Int level) from) = is_interrupt_level level
@@ -38,7 +39,8 @@ keeps_to_classes (Flush a from) = true
 keeps_to_classes (Gone t) = true
 keeps_to_classes Rest = true
 
--- the number of an earlier event that it tells: the one that began its frame, or the one whose request or setting it uses up
+-- the number of an earlier event that it tells: the one that began its frame, or the one whose request or setting it
+-- uses up
 abbrev pub earlier : What → Option ℕ
 earlier (Call f c y) = Some f
 earlier (Begin b from) = Some from
