@@ -6,7 +6,8 @@ use Rattle.nt_event.specs.declared.commands.Reply.TheVariants.{Blocked, Done, No
 use Rattle.nt_event.specs.declared.commands.TimerKey.TheVariants.{Delay as OfDelay}
 use Rattle.nt_event.specs.declared.events.Begun.TheVariants.{Apc, Int}
 use Rattle.nt_event.specs.declared.events.Event.{Event}
-use Rattle.nt_event.specs.declared.events.What.TheVariants.{Begin, Call, Clean, End, Expire, Gone, Normal, Rest, Rewait, Switch}
+use Rattle.nt_event.specs.declared.events.What.TheVariants.{Begin, Call, Clean, End, Expire, Gone, Normal, Rest,
+    Rewait, Switch}
 use Rattle.nt_event.specs.declared.numbers.ApcNo.{ApcNo}
 use Rattle.nt_event.specs.declared.numbers.RoutineNo.{RoutineNo}
 use Rattle.nt_event.specs.declared.numbers.ThreadNo.{ThreadNo}

@@ -1,7 +1,7 @@
 -- The worked row driver-in-use.
 use Rattle.std.specs.Prelude.{List, None, Some, [], false, ◌∷◌}
-use Rattle.nt_event.specs.declared.commands.ApcKind.TheVariants.{Special as SpecialApc}
-use Rattle.nt_event.specs.declared.commands.Command.TheVariants.{CancelTimer, Clock, InsertApc, Interrupt, Note, Queue, Release, SetTarget, SetTimer, StartWait}
+use Rattle.nt_event.specs.declared.commands.Command.TheVariants.{CancelTimer, Clock, InsertApc, Interrupt, Note,
+    Queue, Release, SetTarget, SetTimer, StartWait}
 use Rattle.nt_event.specs.declared.commands.Mode.TheVariants.{Kernel}
 use Rattle.nt_event.specs.declared.commands.Reply.TheVariants.{Blocked, Done, No, Status, Yes}
 use Rattle.nt_event.specs.declared.events.Begun.TheVariants.{Apc, Dpc, Int}
@@ -14,7 +14,7 @@ use Rattle.nt_event.specs.declared.numbers.ThreadNo.{ThreadNo}
 use Rattle.nt_event.specs.declared.numbers.TimerNo.{TimerNo}
 use Rattle.nt_event.specs.declared.scripts.Script.{Script}
 use Rattle.nt_event.specs.Numbers.{apc, cpu, dpc, routine, thread, timer}
-use Rattle.nt_rows.specs.Rows.{event, looks, runs}
+use Rattle.nt_rows.specs.Rows.{event, looks, runs, special_apc, thread_on}
 
 abbrev pub d : DpcNo
 d = dpc 0
@@ -59,12 +59,19 @@ script =
       cpus = 2;
       depth = None;
       threaded = None;
-      isrs = (record { cpu = cpu 0; level = 5; routine = isr5 }) ∷ [];
-      dpcs = (record { threaded = false; routine = finish }) ∷ (record { threaded = false; routine = expired }) ∷ [];
-      timers = (record { dpc = Some late }) ∷ [];
-      threads = (record { cpu = cpu 1; routine = request }) ∷ (record { cpu = cpu 0; routine = device }) ∷ [];
-      apcs = (record { kind = SpecialApc; thread = req; kernel = completed; normal = None; rundown = None }) ∷ [];
-      routines = (runs ((Queue d) ∷ [])) ∷ (runs ((InsertApc complete) ∷ (CancelTimer limit) ∷ (Release req) ∷ [])) ∷ (runs ((Note 99) ∷ [])) ∷ (runs ((SetTimer limit 100 0) ∷ (StartWait Kernel false) ∷ (Note 1) ∷ [])) ∷ (runs ((Note 2) ∷ [])) ∷ (runs ((SetTarget d (Some (cpu 1))) ∷ (Interrupt (cpu 0) 5) ∷ (Clock 5) ∷ [])) ∷ [];
+      isrs = record { cpu = cpu 0; level = 5; routine = isr5 } ∷ [];
+      dpcs = record { threaded = false; routine = finish } ∷ record { threaded = false; routine = expired } ∷ [];
+      timers = record { dpc = Some late } ∷ [];
+      threads = thread_on 1 request ∷ thread_on 0 device ∷ [];
+      apcs = special_apc req completed ∷ [];
+      routines =
+        runs (Queue d ∷ []) ∷
+        runs (InsertApc complete ∷ CancelTimer limit ∷ Release req ∷ []) ∷
+        runs (Note 99 ∷ []) ∷
+        runs (SetTimer limit 100 0 ∷ StartWait Kernel false ∷ Note 1 ∷ []) ∷
+        runs (Note 2 ∷ []) ∷
+        runs (SetTarget d (Some (cpu 1)) ∷ Interrupt (cpu 0) 5 ∷ Clock 5 ∷ []) ∷
+        [];
     }
 
 -- its robin run, the oldest event first
