@@ -36,9 +36,9 @@ script =
       threads = thread_on 0 rw ∷ thread_on 1 rx ∷ [];
       apcs = [];
       routines =
-        runs (StartWait User true ∷ TestAlert User ∷ []) ∷
-        runs (Alert w User ∷ Alert w User ∷ []) ∷
-        [];
+          runs (StartWait User true ∷ TestAlert User ∷ []) ∷
+          runs (Alert w User ∷ Alert w User ∷ []) ∷
+          [];
     }
 
 -- its robin run, the oldest event first

@@ -46,16 +46,16 @@ script =
       threads = thread_on 0 ra ∷ thread_on 1 rb ∷ [];
       apcs = user_apc a k m None ∷ [];
       routines =
-        runs (cmd.TestAlert Kernel ∷ cmd.TestAlert User ∷ cmd.StartWait Kernel true ∷ cmd.TestAlert Kernel ∷
+          runs (cmd.TestAlert Kernel ∷ cmd.TestAlert User ∷ cmd.StartWait Kernel true ∷ cmd.TestAlert Kernel ∷
           cmd.StartWait User true ∷ cmd.TestAlert User ∷ cmd.StartWait User true ∷ cmd.StartWait User false ∷
           cmd.Delay User true 5 ∷ cmd.Note 9 ∷ []) ∷
-        runs (cmd.Alert a Kernel ∷ cmd.Alert a User ∷ cmd.Alert a User ∷ cmd.Alert a Kernel ∷ cmd.InsertApc u ∷
+          runs (cmd.Alert a Kernel ∷ cmd.Alert a User ∷ cmd.Alert a User ∷ cmd.Alert a Kernel ∷ cmd.InsertApc u ∷
           cmd.Release a ∷ cmd.Release b ∷ cmd.TestAlert Kernel ∷ cmd.Alert b Kernel ∷ cmd.Alert b Kernel ∷
           cmd.TestAlert Kernel ∷ cmd.Alert b User ∷ cmd.TestAlert Kernel ∷ cmd.TestAlert User ∷
           cmd.TestAlert User ∷ []) ∷
-        runs [] ∷
-        runs (cmd.Note 1 ∷ []) ∷
-        [];
+          runs [] ∷
+          runs (cmd.Note 1 ∷ []) ∷
+          [];
     }
 
 -- its robin run, the oldest event first

@@ -43,10 +43,10 @@ script =
       threads = thread_on 0 ra ∷ thread_on 1 rb ∷ [];
       apcs = [];
       routines =
-        runs (SetTarget d (Some (cpu 1)) ∷ Queue d ∷ []) ∷
-        runs (Note 1 ∷ Note 2 ∷ Note 3 ∷ Note 4 ∷ []) ∷
-        runs [] ∷
-        [];
+          runs (SetTarget d (Some (cpu 1)) ∷ Queue d ∷ []) ∷
+          runs (Note 1 ∷ Note 2 ∷ Note 3 ∷ Note 4 ∷ []) ∷
+          runs [] ∷
+          [];
     }
 
 -- its robin run, the oldest event first

@@ -55,22 +55,22 @@ script =
       depth = None;
       threaded = None;
       isrs =
-        record { cpu = cpu 0; level = 13; routine = r13 } ∷ record { cpu = cpu 1; level = 14; routine = r14 } ∷
-        record { cpu = cpu 1; level = 3; routine = r3 } ∷ [];
+          record { cpu = cpu 0; level = 13; routine = r13 } ∷ record { cpu = cpu 1; level = 14; routine = r14 } ∷
+          record { cpu = cpu 1; level = 3; routine = r3 } ∷ [];
       dpcs = record { threaded = false; routine = rd } ∷ [];
       timers = record { dpc = Some d } ∷ record { dpc = None } ∷ [];
       threads = thread_on 0 ra ∷ thread_on 1 rb ∷ [];
       apcs = [];
       routines =
-        runs (cmd.Note 13 ∷ cmd.Queue d ∷ []) ∷
-        runs (cmd.Interrupt (cpu 1) 3 ∷ cmd.Note 14 ∷ []) ∷
-        runs (cmd.Note 3 ∷ []) ∷
-        runs (cmd.Note 2 ∷ []) ∷
-        runs (cmd.SetTimer t 0 3 ∷ cmd.SetTimer q 2 0 ∷ cmd.Clock 3 ∷ cmd.Interrupt (cpu 1) 14 ∷ cmd.SetTimer q 0 0 ∷
+          runs (cmd.Note 13 ∷ cmd.Queue d ∷ []) ∷
+          runs (cmd.Interrupt (cpu 1) 3 ∷ cmd.Note 14 ∷ []) ∷
+          runs (cmd.Note 3 ∷ []) ∷
+          runs (cmd.Note 2 ∷ []) ∷
+          runs (cmd.SetTimer t 0 3 ∷ cmd.SetTimer q 2 0 ∷ cmd.Clock 3 ∷ cmd.Interrupt (cpu 1) 14 ∷ cmd.SetTimer q 0 0 ∷
           cmd.CancelTimer q ∷ cmd.Clock 3 ∷ cmd.CancelTimer t ∷ []) ∷
-        runs (cmd.Interrupt (cpu 0) 14 ∷ cmd.Raise 14 ∷ cmd.Interrupt (cpu 1) 14 ∷ cmd.Interrupt (cpu 1) 14 ∷
+          runs (cmd.Interrupt (cpu 0) 14 ∷ cmd.Raise 14 ∷ cmd.Interrupt (cpu 1) 14 ∷ cmd.Interrupt (cpu 1) 14 ∷
           cmd.Lower 3 ∷ cmd.Lower 0 ∷ []) ∷
-        [];
+          [];
     }
 
 -- its robin run, the oldest event first

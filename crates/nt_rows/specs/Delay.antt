@@ -38,9 +38,9 @@ script =
       threads = thread_on 0 m ∷ thread_on 0 c ∷ [];
       apcs = [];
       routines =
-        runs (Delay Kernel false 3 ∷ []) ∷
-        runs (Clock 3 ∷ []) ∷
-        [];
+          runs (Delay Kernel false 3 ∷ []) ∷
+          runs (Clock 3 ∷ []) ∷
+          [];
     }
 
 -- its robin run, the oldest event first

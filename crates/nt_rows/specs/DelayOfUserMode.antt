@@ -6,8 +6,18 @@ use Rattle.nt_event.specs.declared.commands.Reply.TheVariants.{Blocked, Done, No
 use Rattle.nt_event.specs.declared.commands.TimerKey.TheVariants.{Delay as OfDelay}
 use Rattle.nt_event.specs.declared.events.Begun.TheVariants.{Apc, Int}
 use Rattle.nt_event.specs.declared.events.Event.{Event}
-use Rattle.nt_event.specs.declared.events.What.TheVariants.{Begin, Call, Clean, End, Expire, Gone, Normal, Rest,
-    Rewait, Switch}
+use Rattle.nt_event.specs.declared.events.What.TheVariants.{
+  Begin,
+  Call,
+  Clean,
+  End,
+  Expire,
+  Gone,
+  Normal,
+  Rest,
+  Rewait,
+  Switch,
+}
 use Rattle.nt_event.specs.declared.numbers.ApcNo.{ApcNo}
 use Rattle.nt_event.specs.declared.numbers.RoutineNo.{RoutineNo}
 use Rattle.nt_event.specs.declared.numbers.ThreadNo.{ThreadNo}
@@ -52,14 +62,14 @@ script =
       threads = thread_on 0 ra ∷ thread_on 1 rb ∷ [];
       apcs = user_apc a k m None ∷ special_apc a k ∷ [];
       routines =
-        runs (cmd.Delay User true 0 ∷ cmd.Delay User true 50 ∷ cmd.ToUser ∷ cmd.Delay User true 10 ∷
+          runs (cmd.Delay User true 0 ∷ cmd.Delay User true 50 ∷ cmd.ToUser ∷ cmd.Delay User true 10 ∷
           cmd.Delay User false 10 ∷ []) ∷
-        runs (cmd.Note 0 ∷ cmd.Note 0 ∷ cmd.InsertApc u ∷ cmd.Clock 5 ∷ cmd.Note 0 ∷ cmd.Note 0 ∷ cmd.Note 0 ∷
+          runs (cmd.Note 0 ∷ cmd.Note 0 ∷ cmd.InsertApc u ∷ cmd.Clock 5 ∷ cmd.Note 0 ∷ cmd.Note 0 ∷ cmd.Note 0 ∷
           cmd.Note 0 ∷ cmd.InsertApc s ∷ cmd.Clock 4 ∷ cmd.Note 0 ∷ cmd.Note 0 ∷ cmd.Note 0 ∷ cmd.Note 0 ∷
           cmd.Release a ∷ cmd.Clock 2 ∷ cmd.Clock 60 ∷ []) ∷
-        runs [] ∷
-        runs (cmd.Note 2 ∷ []) ∷
-        [];
+          runs [] ∷
+          runs (cmd.Note 2 ∷ []) ∷
+          [];
     }
 
 -- its robin run, the oldest event first

@@ -46,17 +46,17 @@ script =
       threaded = None;
       isrs = [];
       dpcs =
-        record { threaded = false; routine = q } ∷ record { threaded = false; routine = q } ∷
-        record { threaded = false; routine = q } ∷ record { threaded = false; routine = q } ∷
-        record { threaded = false; routine = q } ∷ [];
+          record { threaded = false; routine = q } ∷ record { threaded = false; routine = q } ∷
+          record { threaded = false; routine = q } ∷ record { threaded = false; routine = q } ∷
+          record { threaded = false; routine = q } ∷ [];
       timers = [];
       threads = thread_on 0 body ∷ [];
       apcs = [];
       routines =
-        runs (SetImportance d1 Low ∷ SetImportance d2 Low ∷ SetImportance d3 Low ∷ SetImportance d4 Low ∷
+          runs (SetImportance d1 Low ∷ SetImportance d2 Low ∷ SetImportance d3 Low ∷ SetImportance d4 Low ∷
           SetImportance d5 Low ∷ Queue d1 ∷ Queue d2 ∷ Queue d3 ∷ Queue d4 ∷ Queue d5 ∷ []) ∷
-        runs [] ∷
-        [];
+          runs [] ∷
+          [];
     }
 
 -- its robin run, the oldest event first

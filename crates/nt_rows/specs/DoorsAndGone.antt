@@ -55,14 +55,14 @@ script =
       threads = thread_on 0 ra ∷ thread_on 1 rb ∷ [];
       apcs = user_apc a k m (Some r) ∷ special_apc a k ∷ normal_apc a k m ∷ [];
       routines =
-        runs (cmd.InsertApc u ∷ []) ∷
-        runs (cmd.Note 0 ∷ cmd.InsertApc s ∷ cmd.InsertApc n ∷ cmd.InsertApc u ∷ cmd.Alert a User ∷ cmd.Release a ∷
+          runs (cmd.InsertApc u ∷ []) ∷
+          runs (cmd.Note 0 ∷ cmd.InsertApc s ∷ cmd.InsertApc n ∷ cmd.InsertApc u ∷ cmd.Alert a User ∷ cmd.Release a ∷
           cmd.Note 0 ∷ cmd.Note 0 ∷ cmd.Note 0 ∷ cmd.Note 0 ∷ cmd.InsertApc s ∷ cmd.RemoveApc s ∷
           cmd.Alert a Kernel ∷ cmd.Release a ∷ cmd.InsertApc u ∷ []) ∷
-        runs (cmd.Note 1 ∷ []) ∷
-        runs (cmd.Note 2 ∷ []) ∷
-        runs (cmd.Note 3 ∷ []) ∷
-        [];
+          runs (cmd.Note 1 ∷ []) ∷
+          runs (cmd.Note 2 ∷ []) ∷
+          runs (cmd.Note 3 ∷ []) ∷
+          [];
     }
 
 -- its robin run, the oldest event first

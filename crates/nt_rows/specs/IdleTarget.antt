@@ -37,9 +37,9 @@ script =
       threads = thread_on 0 ra ∷ [];
       apcs = [];
       routines =
-        runs (SetTarget d (Some (cpu 1)) ∷ Queue d ∷ []) ∷
-        runs [] ∷
-        [];
+          runs (SetTarget d (Some (cpu 1)) ∷ Queue d ∷ []) ∷
+          runs [] ∷
+          [];
     }
 
 -- its robin run, the oldest event first

@@ -43,16 +43,16 @@ script =
       threaded = None;
       isrs = [];
       dpcs =
-        record { threaded = false; routine = q } ∷ record { threaded = false; routine = q } ∷
-        record { threaded = false; routine = q } ∷ record { threaded = false; routine = q } ∷ [];
+          record { threaded = false; routine = q } ∷ record { threaded = false; routine = q } ∷
+          record { threaded = false; routine = q } ∷ record { threaded = false; routine = q } ∷ [];
       timers = [];
       threads = thread_on 0 body ∷ [];
       apcs = [];
       routines =
-        runs (Raise 15 ∷ SetImportance b High ∷ SetImportance c High ∷ SetImportance e Low ∷ Queue a ∷ Queue b ∷
+          runs (Raise 15 ∷ SetImportance b High ∷ SetImportance c High ∷ SetImportance e Low ∷ Queue a ∷ Queue b ∷
           Queue c ∷ Queue e ∷ Lower 0 ∷ []) ∷
-        runs [] ∷
-        [];
+          runs [] ∷
+          [];
     }
 
 -- its robin run, the oldest event first

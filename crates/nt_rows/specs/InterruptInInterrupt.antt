@@ -39,11 +39,11 @@ script =
       threads = thread_on 0 body ∷ [];
       apcs = [];
       routines =
-        runs (Interrupt (cpu 0) 5 ∷ []) ∷
-        runs (Interrupt (cpu 0) 9 ∷ Interrupt (cpu 0) 3 ∷ []) ∷
-        runs (Note 9 ∷ []) ∷
-        runs [] ∷
-        [];
+          runs (Interrupt (cpu 0) 5 ∷ []) ∷
+          runs (Interrupt (cpu 0) 9 ∷ Interrupt (cpu 0) 3 ∷ []) ∷
+          runs (Note 9 ∷ []) ∷
+          runs [] ∷
+          [];
     }
 
 -- its robin run, the oldest event first

@@ -30,8 +30,8 @@ script =
       threads = thread_on 0 ra ∷ [];
       apcs = [];
       routines =
-        runs (Interrupt (cpu 1) 5 ∷ []) ∷
-        [];
+          runs (Interrupt (cpu 1) 5 ∷ []) ∷
+          [];
     }
 
 -- its robin run, the oldest event first

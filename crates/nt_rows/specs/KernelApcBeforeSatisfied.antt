@@ -46,10 +46,10 @@ script =
       threads = thread_on 0 rw ∷ thread_on 1 rx ∷ [];
       apcs = special_apc w q ∷ [];
       routines =
-        runs (Delay Kernel false 0 ∷ []) ∷
-        runs (InsertApc n ∷ []) ∷
-        runs [] ∷
-        [];
+          runs (Delay Kernel false 0 ∷ []) ∷
+          runs (InsertApc n ∷ []) ∷
+          runs [] ∷
+          [];
     }
 
 -- the turns, in order: the processor of w hasn't looked when it calls

@@ -42,9 +42,9 @@ script =
       threads = thread_on 0 body ∷ [];
       apcs = [];
       routines =
-        runs (SetTimer t 1 1 ∷ Clock 3 ∷ []) ∷
-        runs [] ∷
-        [];
+          runs (SetTimer t 1 1 ∷ Clock 3 ∷ []) ∷
+          runs [] ∷
+          [];
     }
 
 -- its robin run, the oldest event first

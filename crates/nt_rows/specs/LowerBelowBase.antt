@@ -38,9 +38,9 @@ script =
       threads = thread_on 0 body ∷ [];
       apcs = [];
       routines =
-        runs (Lower 1 ∷ []) ∷
-        runs (Raise 2 ∷ Queue d ∷ Lower 0 ∷ []) ∷
-        [];
+          runs (Lower 1 ∷ []) ∷
+          runs (Raise 2 ∷ Queue d ∷ Lower 0 ∷ []) ∷
+          [];
     }
 
 -- its robin run, the oldest event first

@@ -50,12 +50,12 @@ script =
       threads = thread_on 0 body ∷ [];
       apcs = special_apc main rk ∷ [];
       routines =
-        runs (Queue d ∷ Interrupt (cpu 0) 9 ∷ []) ∷
-        runs (Note 9 ∷ []) ∷
-        runs (InsertApc s ∷ []) ∷
-        runs (Note 1 ∷ []) ∷
-        runs (Interrupt (cpu 0) 5 ∷ []) ∷
-        [];
+          runs (Queue d ∷ Interrupt (cpu 0) 9 ∷ []) ∷
+          runs (Note 9 ∷ []) ∷
+          runs (InsertApc s ∷ []) ∷
+          runs (Note 1 ∷ []) ∷
+          runs (Interrupt (cpu 0) 5 ∷ []) ∷
+          [];
     }
 
 -- its robin run, the oldest event first

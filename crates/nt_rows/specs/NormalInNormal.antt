@@ -43,10 +43,10 @@ script =
       threads = thread_on 0 body ∷ [];
       apcs = normal_apc main q r ∷ normal_apc main q q ∷ [];
       routines =
-        runs (InsertApc n ∷ []) ∷
-        runs (InsertApc m ∷ []) ∷
-        runs [] ∷
-        [];
+          runs (InsertApc n ∷ []) ∷
+          runs (InsertApc m ∷ []) ∷
+          runs [] ∷
+          [];
     }
 
 -- its robin run, the oldest event first

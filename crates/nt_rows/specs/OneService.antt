@@ -33,9 +33,9 @@ script =
       threads = thread_on 0 body ∷ [];
       apcs = [];
       routines =
-        runs (Raise 15 ∷ Interrupt (cpu 0) 5 ∷ Interrupt (cpu 0) 5 ∷ Lower 0 ∷ []) ∷
-        runs [] ∷
-        [];
+          runs (Raise 15 ∷ Interrupt (cpu 0) 5 ∷ Interrupt (cpu 0) 5 ∷ Lower 0 ∷ []) ∷
+          runs [] ∷
+          [];
     }
 
 -- its robin run, the oldest event first

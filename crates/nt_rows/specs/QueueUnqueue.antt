@@ -36,9 +36,9 @@ script =
       threads = thread_on 0 body ∷ [];
       apcs = [];
       routines =
-        runs (Raise 2 ∷ Queue d ∷ Queue d ∷ Unqueue d ∷ Unqueue d ∷ Lower 0 ∷ []) ∷
-        runs [] ∷
-        [];
+          runs (Raise 2 ∷ Queue d ∷ Queue d ∷ Unqueue d ∷ Unqueue d ∷ Lower 0 ∷ []) ∷
+          runs [] ∷
+          [];
     }
 
 -- its robin run, the oldest event first

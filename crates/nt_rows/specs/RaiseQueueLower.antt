@@ -37,9 +37,9 @@ script =
       threads = thread_on 0 body ∷ [];
       apcs = [];
       routines =
-        runs (Note 7 ∷ []) ∷
-        runs (Raise 2 ∷ Queue d ∷ Lower 0 ∷ []) ∷
-        [];
+          runs (Note 7 ∷ []) ∷
+          runs (Raise 2 ∷ Queue d ∷ Lower 0 ∷ []) ∷
+          [];
     }
 
 -- its robin run, the oldest event first

@@ -46,15 +46,15 @@ script =
       threads = thread_on 0 body ∷ [];
       apcs = normal_apc main nk nn ∷ [];
       routines =
-        runs (cmd.ToUser ∷ cmd.EnterCrit ∷ cmd.LeaveCrit ∷ cmd.LeaveGuard ∷ cmd.StartWait Kernel false ∷ []) ∷
-        runs (cmd.ToUser ∷ cmd.EnterCrit ∷ cmd.Note 7 ∷ []) ∷
-        runs (cmd.Raise 1 ∷ cmd.EnterCrit ∷ cmd.EnterGuard ∷ cmd.LeaveGuard ∷ cmd.LeaveGuard ∷ cmd.LeaveCrit ∷
+          runs (cmd.ToUser ∷ cmd.EnterCrit ∷ cmd.LeaveCrit ∷ cmd.LeaveGuard ∷ cmd.StartWait Kernel false ∷ []) ∷
+          runs (cmd.ToUser ∷ cmd.EnterCrit ∷ cmd.Note 7 ∷ []) ∷
+          runs (cmd.Raise 1 ∷ cmd.EnterCrit ∷ cmd.EnterGuard ∷ cmd.LeaveGuard ∷ cmd.LeaveGuard ∷ cmd.LeaveCrit ∷
           cmd.LeaveCrit ∷ cmd.ToUser ∷ cmd.Yield ∷ cmd.Raise 2 ∷ cmd.EnterCrit ∷ cmd.LeaveCrit ∷
           cmd.StartWait User true ∷ cmd.Delay User false 0 ∷ cmd.TestAlert User ∷ cmd.Yield ∷ cmd.ToUser ∷
           cmd.SetTimer t 9 0 ∷ cmd.CancelTimer t ∷ cmd.CancelTimer t ∷ cmd.Raise 3 ∷ cmd.TestAlert User ∷
           cmd.Lower 0 ∷ cmd.EnterCrit ∷ cmd.ToUser ∷ cmd.InsertApc n ∷ cmd.LeaveCrit ∷ cmd.EnterGuard ∷
           cmd.ToUser ∷ cmd.LeaveGuard ∷ cmd.ToUser ∷ []) ∷
-        [];
+          [];
     }
 
 -- its robin run, the oldest event first

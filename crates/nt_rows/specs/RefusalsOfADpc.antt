@@ -50,15 +50,15 @@ script =
       threads = thread_on 0 body ∷ [];
       apcs = special_apc main sk ∷ [];
       routines =
-        runs (cmd.EnterCrit ∷ cmd.EnterGuard ∷ cmd.LeaveCrit ∷ cmd.LeaveGuard ∷ cmd.StartWait Kernel false ∷
+          runs (cmd.EnterCrit ∷ cmd.EnterGuard ∷ cmd.LeaveCrit ∷ cmd.LeaveGuard ∷ cmd.StartWait Kernel false ∷
           cmd.Delay Kernel false 0 ∷ cmd.ToUser ∷ cmd.Yield ∷ cmd.TestAlert Kernel ∷ cmd.SetTimer t 5 0 ∷
           cmd.CancelTimer t ∷ cmd.InsertApc s ∷ cmd.RemoveApc s ∷ cmd.Release main ∷ cmd.Alert main Kernel ∷
           cmd.Raise 3 ∷ cmd.SetTimer t 5 0 ∷ cmd.CancelTimer t ∷ cmd.InsertApc s ∷ cmd.RemoveApc s ∷
           cmd.Release main ∷ cmd.Alert main Kernel ∷ cmd.EnterCrit ∷ cmd.Queue d ∷ cmd.Unqueue d ∷
           cmd.Interrupt (cpu 0) 5 ∷ cmd.Clock 1 ∷ cmd.Note 1 ∷ []) ∷
-        runs (cmd.Queue d ∷ cmd.TestAlert Kernel ∷ []) ∷
-        runs [] ∷
-        [];
+          runs (cmd.Queue d ∷ cmd.TestAlert Kernel ∷ []) ∷
+          runs [] ∷
+          [];
     }
 
 -- its robin run, the oldest event first

@@ -33,9 +33,9 @@ script =
       threads = thread_on 0 body ∷ [];
       apcs = [];
       routines =
-        runs (Raise 2 ∷ Raise 1 ∷ Lower 3 ∷ []) ∷
-        runs [] ∷
-        [];
+          runs (Raise 2 ∷ Raise 1 ∷ Lower 3 ∷ []) ∷
+          runs [] ∷
+          [];
     }
 
 -- its robin run, the oldest event first

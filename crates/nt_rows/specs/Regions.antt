@@ -1,7 +1,12 @@
 -- The worked row regions.
 use Rattle.std.specs.Prelude.{List, None, Some, [], ◌∷◌}
-use Rattle.nt_event.specs.declared.commands.Command.TheVariants.{EnterCrit, EnterGuard, InsertApc, LeaveCrit,
-    LeaveGuard}
+use Rattle.nt_event.specs.declared.commands.Command.TheVariants.{
+  EnterCrit,
+  EnterGuard,
+  InsertApc,
+  LeaveCrit,
+  LeaveGuard,
+}
 use Rattle.nt_event.specs.declared.commands.Reply.TheVariants.{Done, Yes}
 use Rattle.nt_event.specs.declared.events.Begun.TheVariants.{Apc}
 use Rattle.nt_event.specs.declared.events.Event.{Event}
@@ -41,10 +46,10 @@ script =
       threads = thread_on 0 body ∷ [];
       apcs = normal_apc main q q ∷ special_apc main q ∷ [];
       routines =
-        runs (EnterCrit ∷ InsertApc n ∷ InsertApc s ∷ LeaveCrit ∷ EnterGuard ∷ InsertApc s ∷ InsertApc n ∷
+          runs (EnterCrit ∷ InsertApc n ∷ InsertApc s ∷ LeaveCrit ∷ EnterGuard ∷ InsertApc s ∷ InsertApc n ∷
           LeaveGuard ∷ []) ∷
-        runs [] ∷
-        [];
+          runs [] ∷
+          [];
     }
 
 -- its robin run, the oldest event first

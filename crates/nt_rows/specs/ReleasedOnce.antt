@@ -30,8 +30,8 @@ script =
       threads = thread_on 0 body ∷ [];
       apcs = [];
       routines =
-        runs (Release main ∷ StartWait Kernel false ∷ StartWait Kernel false ∷ []) ∷
-        [];
+          runs (Release main ∷ StartWait Kernel false ∷ StartWait Kernel false ∷ []) ∷
+          [];
     }
 
 -- its robin run, the oldest event first

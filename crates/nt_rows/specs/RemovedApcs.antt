@@ -49,14 +49,14 @@ script =
       threads = thread_on 0 ra ∷ [];
       apcs = special_apc a k ∷ normal_apc a k m ∷ user_apc a k m (Some r) ∷ [];
       routines =
-        runs (cmd.EnterGuard ∷ cmd.RemoveApc s ∷ cmd.InsertApc s ∷ cmd.InsertApc s ∷ cmd.InsertApc n ∷
+          runs (cmd.EnterGuard ∷ cmd.RemoveApc s ∷ cmd.InsertApc s ∷ cmd.InsertApc s ∷ cmd.InsertApc n ∷
           cmd.InsertApc u ∷ cmd.RemoveApc s ∷ cmd.RemoveApc s ∷ cmd.RemoveApc n ∷ cmd.InsertApc n ∷
           cmd.RemoveApc u ∷ cmd.InsertApc u ∷ cmd.LeaveGuard ∷ cmd.RemoveApc n ∷ cmd.RemoveApc u ∷
           cmd.InsertApc u ∷ []) ∷
-        runs (cmd.Note 1 ∷ []) ∷
-        runs (cmd.Note 2 ∷ []) ∷
-        runs (cmd.Note 3 ∷ []) ∷
-        [];
+          runs (cmd.Note 1 ∷ []) ∷
+          runs (cmd.Note 2 ∷ []) ∷
+          runs (cmd.Note 3 ∷ []) ∷
+          [];
     }
 
 -- its robin run, the oldest event first

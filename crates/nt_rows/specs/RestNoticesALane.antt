@@ -39,9 +39,9 @@ script =
       threads = thread_on 0 ra ∷ [];
       apcs = [];
       routines =
-        runs (SetTarget w (Some (cpu 1)) ∷ Queue w ∷ []) ∷
-        runs [] ∷
-        [];
+          runs (SetTarget w (Some (cpu 1)) ∷ Queue w ∷ []) ∷
+          runs [] ∷
+          [];
     }
 
 -- the turns, in order

@@ -52,11 +52,11 @@ script =
       threads = thread_on 0 body ∷ [];
       apcs = special_apc main k ∷ user_apc main q q (Some r) ∷ user_apc main q q None ∷ user_apc main q q None ∷ [];
       routines =
-        runs (EnterGuard ∷ InsertApc s ∷ InsertApc u1 ∷ InsertApc u2 ∷ []) ∷
-        runs (InsertApc u3 ∷ []) ∷
-        runs (Note 5 ∷ []) ∷
-        runs [] ∷
-        [];
+          runs (EnterGuard ∷ InsertApc s ∷ InsertApc u1 ∷ InsertApc u2 ∷ []) ∷
+          runs (InsertApc u3 ∷ []) ∷
+          runs (Note 5 ∷ []) ∷
+          runs [] ∷
+          [];
     }
 
 -- its robin run, the oldest event first

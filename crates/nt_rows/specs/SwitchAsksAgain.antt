@@ -45,10 +45,10 @@ script =
       threads = thread_on 0 ra ∷ thread_on 0 rb ∷ [];
       apcs = special_apc b q ∷ [];
       routines =
-        runs (InsertApc n ∷ []) ∷
-        runs (Note 1 ∷ []) ∷
-        runs [] ∷
-        [];
+          runs (InsertApc n ∷ []) ∷
+          runs (Note 1 ∷ []) ∷
+          runs [] ∷
+          [];
     }
 
 -- its robin run, the oldest event first

@@ -46,20 +46,20 @@ script =
       threaded = None;
       isrs = [];
       dpcs =
-        record { threaded = false; routine = rd } ∷ record { threaded = false; routine = rd } ∷
-        record { threaded = false; routine = rd } ∷ record { threaded = false; routine = rd } ∷
-        record { threaded = true; routine = rd } ∷ [];
+          record { threaded = false; routine = rd } ∷ record { threaded = false; routine = rd } ∷
+          record { threaded = false; routine = rd } ∷ record { threaded = false; routine = rd } ∷
+          record { threaded = true; routine = rd } ∷ [];
       timers = [];
       threads = thread_on 0 ra ∷ [];
       apcs = [];
       routines =
-        runs [] ∷
-        runs (cmd.Raise 2 ∷ cmd.SetTarget d (Some (cpu 1)) ∷ cmd.SetTarget d None ∷ cmd.SetImportance d Low ∷
+          runs [] ∷
+          runs (cmd.Raise 2 ∷ cmd.SetTarget d (Some (cpu 1)) ∷ cmd.SetTarget d None ∷ cmd.SetImportance d Low ∷
           cmd.Queue d ∷ cmd.SetTarget e (Some (cpu 1)) ∷ cmd.SetImportance e MediumHigh ∷ cmd.Queue e ∷
           cmd.SetTarget f (Some (cpu 1)) ∷ cmd.SetImportance f Low ∷ cmd.Queue f ∷ cmd.SetTarget g (Some (cpu 1)) ∷
           cmd.SetImportance g High ∷ cmd.Queue g ∷ cmd.SetTarget h (Some (cpu 2)) ∷ cmd.Queue h ∷
           cmd.SetTarget h None ∷ cmd.Queue h ∷ cmd.Lower 0 ∷ []) ∷
-        [];
+          [];
     }
 
 -- its robin run, the oldest event first

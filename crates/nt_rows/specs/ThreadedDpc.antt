@@ -37,9 +37,9 @@ script =
       threads = thread_on 0 body ∷ [];
       apcs = [];
       routines =
-        runs (Raise 1 ∷ Queue w ∷ Lower 0 ∷ []) ∷
-        runs [] ∷
-        [];
+          runs (Raise 1 ∷ Queue w ∷ Lower 0 ∷ []) ∷
+          runs [] ∷
+          [];
     }
 
 -- its robin run, the oldest event first

@@ -45,10 +45,11 @@ script =
       threads = thread_on 0 ra ∷ [];
       apcs = [];
       routines =
-        runs (cmd.Note 1 ∷ []) ∷
-        runs (cmd.EnterCrit ∷ []) ∷
-        runs (cmd.SetImportance d Low ∷ cmd.Queue w ∷ cmd.Queue d ∷ cmd.SetTarget w (Some (cpu 1)) ∷ cmd.Queue w ∷ []) ∷
-        [];
+          runs (cmd.Note 1 ∷ []) ∷
+          runs (cmd.EnterCrit ∷ []) ∷
+          runs (cmd.SetImportance d Low ∷ cmd.Queue w ∷ cmd.Queue d ∷
+          cmd.SetTarget w (Some (cpu 1)) ∷ cmd.Queue w ∷ []) ∷
+          [];
     }
 
 -- its robin run, the oldest event first

@@ -48,10 +48,10 @@ script =
       threads = thread_on 0 body ∷ [];
       apcs = [];
       routines =
-        runs (Raise 2 ∷ SetTimer t 1 0 ∷ SetTimer t 2 0 ∷ Queue d1 ∷ Clock 2 ∷ Lower 0 ∷ []) ∷
-        runs (CancelTimer t ∷ []) ∷
-        runs [] ∷
-        [];
+          runs (Raise 2 ∷ SetTimer t 1 0 ∷ SetTimer t 2 0 ∷ Queue d1 ∷ Clock 2 ∷ Lower 0 ∷ []) ∷
+          runs (CancelTimer t ∷ []) ∷
+          runs [] ∷
+          [];
     }
 
 -- its robin run, the oldest event first

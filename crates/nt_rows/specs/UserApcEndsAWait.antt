@@ -50,12 +50,12 @@ script =
       threads = thread_on 0 ra ∷ thread_on 1 rb ∷ [];
       apcs = user_apc a k m None ∷ user_apc a k m None ∷ [];
       routines =
-        runs (cmd.StartWait User true ∷ cmd.ToUser ∷ cmd.Note 1 ∷ cmd.StartWait User false ∷ cmd.ToUser ∷ []) ∷
-        runs (cmd.Note 0 ∷ cmd.Note 0 ∷ cmd.Note 0 ∷ cmd.InsertApc u ∷ cmd.InsertApc v ∷ cmd.Note 0 ∷ cmd.Note 0 ∷
+          runs (cmd.StartWait User true ∷ cmd.ToUser ∷ cmd.Note 1 ∷ cmd.StartWait User false ∷ cmd.ToUser ∷ []) ∷
+          runs (cmd.Note 0 ∷ cmd.Note 0 ∷ cmd.Note 0 ∷ cmd.InsertApc u ∷ cmd.InsertApc v ∷ cmd.Note 0 ∷ cmd.Note 0 ∷
           cmd.Note 0 ∷ cmd.Note 0 ∷ cmd.Note 0 ∷ cmd.Note 0 ∷ cmd.Note 0 ∷ cmd.Note 0 ∷ cmd.Release a ∷ []) ∷
-        runs [] ∷
-        runs (cmd.Note 2 ∷ []) ∷
-        [];
+          runs [] ∷
+          runs (cmd.Note 2 ∷ []) ∷
+          [];
     }
 
 -- its robin run, the oldest event first

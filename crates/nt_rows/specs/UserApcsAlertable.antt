@@ -41,9 +41,9 @@ script =
       threads = thread_on 0 body ∷ [];
       apcs = user_apc main q q None ∷ user_apc main q q None ∷ [];
       routines =
-        runs (InsertApc u1 ∷ InsertApc u2 ∷ StartWait User true ∷ ToUser ∷ []) ∷
-        runs [] ∷
-        [];
+          runs (InsertApc u1 ∷ InsertApc u2 ∷ StartWait User true ∷ ToUser ∷ []) ∷
+          runs [] ∷
+          [];
     }
 
 -- its robin run, the oldest event first

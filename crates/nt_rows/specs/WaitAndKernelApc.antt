@@ -44,10 +44,10 @@ script =
       threads = thread_on 0 rw ∷ thread_on 1 rx ∷ [];
       apcs = normal_apc w q q ∷ [];
       routines =
-        runs (StartWait Kernel false ∷ []) ∷
-        runs (InsertApc n ∷ Release w ∷ []) ∷
-        runs [] ∷
-        [];
+          runs (StartWait Kernel false ∷ []) ∷
+          runs (InsertApc n ∷ Release w ∷ []) ∷
+          runs [] ∷
+          [];
     }
 
 -- its robin run, the oldest event first

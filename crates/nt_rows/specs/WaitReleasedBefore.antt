@@ -44,12 +44,12 @@ script =
       threads = thread_on 0 ra ∷ thread_on 1 rb ∷ [];
       apcs = special_apc a k ∷ [];
       routines =
-        runs (cmd.Note 1 ∷ cmd.Note 1 ∷ cmd.StartWait Kernel false ∷ cmd.EnterGuard ∷ cmd.InsertApc s ∷ cmd.Release a ∷
-          cmd.LeaveGuard ∷ cmd.StartWait Kernel false ∷ cmd.StartWait Kernel false ∷ []) ∷
-        runs (cmd.Release a ∷ cmd.Release a ∷ cmd.Note 2 ∷ cmd.Note 2 ∷ cmd.Note 2 ∷ cmd.Note 2 ∷ cmd.Note 2 ∷
+          runs (cmd.Note 1 ∷ cmd.Note 1 ∷ cmd.StartWait Kernel false ∷ cmd.EnterGuard ∷ cmd.InsertApc s ∷
+          cmd.Release a ∷ cmd.LeaveGuard ∷ cmd.StartWait Kernel false ∷ cmd.StartWait Kernel false ∷ []) ∷
+          runs (cmd.Release a ∷ cmd.Release a ∷ cmd.Note 2 ∷ cmd.Note 2 ∷ cmd.Note 2 ∷ cmd.Note 2 ∷ cmd.Note 2 ∷
           cmd.Note 2 ∷ cmd.Note 2 ∷ cmd.Release a ∷ cmd.Release a ∷ []) ∷
-        runs [] ∷
-        [];
+          runs [] ∷
+          [];
     }
 
 -- its robin run, the oldest event first

@@ -44,10 +44,10 @@ script =
       threads = thread_on 0 ra ∷ thread_on 0 rb ∷ thread_on 0 rb ∷ thread_on 1 rz ∷ [];
       apcs = [];
       routines =
-        runs (cmd.Note 1 ∷ cmd.Yield ∷ cmd.Note 2 ∷ cmd.Raise 1 ∷ cmd.Yield ∷ cmd.Note 3 ∷ []) ∷
-        runs (cmd.Yield ∷ cmd.Note 4 ∷ cmd.Yield ∷ []) ∷
-        runs (cmd.Yield ∷ cmd.Yield ∷ []) ∷
-        [];
+          runs (cmd.Note 1 ∷ cmd.Yield ∷ cmd.Note 2 ∷ cmd.Raise 1 ∷ cmd.Yield ∷ cmd.Note 3 ∷ []) ∷
+          runs (cmd.Yield ∷ cmd.Note 4 ∷ cmd.Yield ∷ []) ∷
+          runs (cmd.Yield ∷ cmd.Yield ∷ []) ∷
+          [];
     }
 
 -- its robin run, the oldest event first

@@ -90,7 +90,7 @@ pub fn refusals_by_level()
     ensures { IsWorked refusals_by_level_row.script 10000 refusals_by_level_row.history }
 {}
 
-/// A DPC is refused the calls of a thread and, raised above DISPATCH_LEVEL, those that stop there; some it may always call.
+/// A DPC is refused what only a thread may call and, raised above DISPATCH_LEVEL, what stops at that level too.
 pub fn refusals_of_a_dpc()
     ensures { IsWorked refusals_of_a_dpc_row.script 10000 refusals_of_a_dpc_row.history }
 {}
@@ -144,12 +144,12 @@ pub fn rest_notices_a_lane()
     ensures unfinished { IsUnfinished rest_notices_a_lane_row.script 10000 rest_notices_a_lane_row.unfinished }
 {}
 
-/// An insert goes to the target set last, or to its own processor; MediumHigh and High ask there always, Low where it idles.
+/// An insert goes to the target set last, else stays; MediumHigh and High always ask another processor, Low an idle one.
 pub fn targets_and_importance()
     ensures { IsWorked targets_and_importance_row.script 10000 targets_and_importance_row.history }
 {}
 
-/// With a depth limit of 0 an insert of low importance asks too, and a threaded DPC that is switched off runs at DISPATCH_LEVEL.
+/// With a depth limit of 0 a first DPC of low importance asks; threaded DPCs that are switched off run at DISPATCH_LEVEL.
 pub fn threaded_off_depth_0()
     ensures { IsWorked threaded_off_depth_0_row.script 10000 threaded_off_depth_0_row.history }
 {}
