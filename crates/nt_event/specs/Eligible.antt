@@ -83,7 +83,7 @@ is_eligible s p x l (ThreadedRequest d) =
 is_eligible s p x l (KernelApcRequest a) =
     is_on_thread x.frames && is_apc_pick a (deliverable (facts_of l x.frames.running).apcs (regions_of (thread_part x.frames)) (level_at x))
 is_eligible s p x l (UserApcRequest a) =
-    is_apc_pick a (first_user (facts_of l x.frames.running).apcs) && (is_at_base x && (option_map_or (is_at_touser s p x) (innermost x.frames) false && (facts_of l x.frames.running).marked))
+    is_apc_pick a (first_user (facts_of l x.frames.running).apcs) && (is_at_base x && (option_map_or (is_at_touser s p x) (innermost x.frames) false && (facts_of l x.frames.running).user_pending))
 is_eligible s p x l (FlushRequest a) =
     is_apc_pick a (first_user (facts_of l x.frames.running).apcs) && ((facts_of l x.frames.running).leaving && (is_at_base x && not (has_kernel (facts_of l x.frames.running).apcs)))
 

@@ -31,7 +31,7 @@ use Rattle.nt_event.specs.Apcs.{deliverable, first_user}
 use Rattle.nt_event.specs.Commands.{is_reached, needs_lane, refusal, reply}
 use Rattle.nt_event.specs.Frames.{innermost, is_on_thread, level_in, thread_part}
 use Rattle.nt_event.specs.Lanes.{Lanes, facts_at, facts_of, queue_at}
-use Rattle.nt_event.specs.Own.{Own, standing_in}
+use Rattle.nt_event.specs.Own.{Own, stand_in}
 use Rattle.nt_event.specs.Queues.{QueueState, first_dpc}
 use Rattle.nt_event.specs.Regions.{regions_of}
 use Rattle.nt_event.specs.Routines.{cpu_of, next_command}
@@ -200,7 +200,7 @@ rewait_reply st l w =
 
 -- the first user APC, where the mark is set and one is queued
 abbrev pub user_due : ThreadFacts → Option Pick
-user_due x = when x.marked (first_user x.apcs)
+user_due x = when x.user_pending (first_user x.apcs)
 
 abbrev pub touser_event : Stand → Lanes → What
 touser_event st l =
@@ -232,7 +232,7 @@ task_event s st l (Shared j) = job_event s st l j
 
 -- the next event of p
 abbrev pub next_what : Script → CpuNo → Own → Lanes → Option What
-next_what s p x l = option_and_then (task_event s (standing_in p x) l) (task s p x)
+next_what s p x l = option_and_then (task_event s (stand_in p x) l) (task s p x)
 
 -- ---- a choice of thread
 
@@ -251,4 +251,4 @@ chosen_task s p x =
 
 -- the event that it makes so
 abbrev pub chosen_what : Script → CpuNo → Own → Lanes → Option What
-chosen_what s p x l = option_and_then (task_event s (standing_in p x) l) (chosen_task s p x)
+chosen_what s p x l = option_and_then (task_event s (stand_in p x) l) (chosen_task s p x)

@@ -97,9 +97,9 @@ at_touser s p x k =
     let inner : is_at_touser s p x k.frame ≡ true = rw (k.command, k.accepted) refl in
     (ap (λ (o : Option Frame). option_map_or (λ f. is_base_body f.body) o false) k.goes_on.inner ∙ base, ap (λ (o : Option Frame). option_map_or (is_at_touser s p x) o false) k.goes_on.inner ∙ inner)
 
-marked_user : (x : ThreadFacts) (a : ApcNo) (from : ℕ) → KnownPick (user_due x) a from → (x.marked ≡ true) × KnownPick (first_user x.apcs) a from
+marked_user : (x : ThreadFacts) (a : ApcNo) (from : ℕ) → KnownPick (user_due x) a from → (x.user_pending ≡ true) × KnownPick (first_user x.apcs) a from
 marked_user x a from k =
-    let w = when_gives x.marked (first_user x.apcs) k.pick k.first in
+    let w = when_gives x.user_pending (first_user x.apcs) k.pick k.first in
     (w.0, record { pick = k.pick; first = w.1; apc = k.apc; number = k.number })
 
 apc_eligible : (s : Script) (p : CpuNo) (past : List Event) (a : ApcNo) (from : ℕ) → KnownBegin s p (own_of s p past) (lanes_at s past) (Apc a) from → is_eligible s p (own_of s p past) (lanes_at s past) (apc_request (kind_of s a) a) ≡ true
