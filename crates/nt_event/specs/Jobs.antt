@@ -41,6 +41,7 @@ use Rattle.nt_event.specs.Timers.{SetKey, first_due}
 use Rattle.nt_event.specs.Waits.{wait_reply}
 use Rattle.nt_event.specs.Lists.{head_of, is_null, value_at, when}
 use Rattle.nt_event.specs.Numbers.{thread}
+use Rattle.nt_event.specs.Classes.{interrupt_classes}
 
 -- ---- where the processor stands
 
@@ -56,10 +57,6 @@ is_due x c = nat_lt (value_at x.served c) (value_at x.seen c)
 -- 1: an expired timer's DPC is to be inserted
 abbrev pub fire_task : Own → Option Task
 fire_task x = option_map (λ d. Shared (FireJob d)) x.fire
-
--- interrupts, the greatest first; 12 is never requested
-abbrev pub interrupt_classes : List ℕ
-interrupt_classes = 14 ∷ 13 ∷ 11 ∷ 10 ∷ 9 ∷ 8 ∷ 7 ∷ 6 ∷ 5 ∷ 4 ∷ 3 ∷ []
 
 -- an interrupt is pending and above the level (Windows Internals, "Interrupt request levels")
 abbrev pub may_interrupt : Own → ℕ → Bool

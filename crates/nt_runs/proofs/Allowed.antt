@@ -27,7 +27,8 @@ use Rattle.nt_event.specs.declared.threads.Doing.TheVariants.{Running as IsRunni
 use Rattle.nt_event.specs.Acting.{EndsThread, InThread, IsAllowed, IsCallable, IsDue, StandHolds, RunsThere, TakesUp}
 use Rattle.nt_event.specs.Commands.{needs_lane, not_above, refuse}
 use Rattle.nt_event.specs.Frames.{frames_of, innermost, is_base_body, is_on_thread, level_in, own_frames, running, thread_frames, thread_part}
-use Rattle.nt_event.specs.Jobs.{call_task, command_task, end_task, fire_task, frame_task, has_normal, idle_task, interrupt_classes, interrupt_task, level_at, may_apcs, may_drain, may_interrupt, may_threaded, must_task, normal_task, rewait_task, rundown_task, task}
+use Rattle.nt_event.specs.Jobs.{call_task, command_task, end_task, fire_task, frame_task, has_normal, idle_task, interrupt_task, level_at, may_apcs, may_drain, may_interrupt, may_threaded, must_task, normal_task, rewait_task, rundown_task, task}
+use Rattle.nt_event.specs.Classes.{interrupt_classes}
 use Rattle.nt_event.specs.Lanes.{facts_at, lanes_at}
 use Rattle.nt_runs.specs.Laws.{level_of}
 use Rattle.nt_event.specs.Own.{Own, own_of}

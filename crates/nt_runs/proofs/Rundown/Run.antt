@@ -24,7 +24,8 @@ use Rattle.nt_event.specs.declared.numbers.ThreadNo.{ThreadNo}
 use Rattle.nt_event.specs.declared.scripts.Script.{Script}
 use Rattle.nt_event.specs.Apcs.{ApcQueues, deliverable, first_kernel, first_of_kind, first_user, has_kernel, is_of_kind, lets_through, same_kind}
 use Rattle.nt_event.specs.Frames.{at_name, due_of, end_on_thread, ended_on_thread, flushed, frames_of, innermost, is_base_body, is_normal_apc_body, is_user_apc_body, ended_base, own_frames, running, thread_after, thread_frames, thread_part, time}
-use Rattle.nt_event.specs.Jobs.{interrupt_classes, level_at}
+use Rattle.nt_event.specs.Classes.{interrupt_classes}
+use Rattle.nt_event.specs.Jobs.{level_at}
 use Rattle.nt_event.specs.Lanes.{facts_at, facts_of, lanes_at}
 use Rattle.nt_event.specs.Own.{own_of}
 use Rattle.nt_event.specs.Regions.{regions_of, some_came_to_0, stand_at}
