@@ -30,9 +30,18 @@ fn pick(apc: u16, kind: ApcKind, number: u64) -> Pick {
 fn special_before_normal(rt: HostRuntime) -> io::Result<()> {
     let mut queues = ApcQueues::new(rt.alloc(), 3)?;
     println!(rt; "  has kernel {}", queues.has_kernel())?;
-    println!(rt; "  insert 0 {}", queues.insert(ApcNo(0), ApcKind::Normal, 4))?;
-    println!(rt; "  insert 1 {}", queues.insert(ApcNo(1), ApcKind::Special, 7))?;
-    println!(rt; "  insert 2 {}", queues.insert(ApcNo(2), ApcKind::Special, 9))?;
+    println!(rt;
+        "  insert 0 {}",
+        queues.insert(ApcNo(0), ApcKind::Normal, 4)
+    )?;
+    println!(rt;
+        "  insert 1 {}",
+        queues.insert(ApcNo(1), ApcKind::Special, 7)
+    )?;
+    println!(rt;
+        "  insert 2 {}",
+        queues.insert(ApcNo(2), ApcKind::Special, 9)
+    )?;
     println!(rt; "  has kernel {}", queues.has_kernel())?;
     let order = [
         pick(1, ApcKind::Special, 7),
@@ -40,10 +49,16 @@ fn special_before_normal(rt: HostRuntime) -> io::Result<()> {
         pick(0, ApcKind::Normal, 4),
     ];
     for first in order {
-        println!(rt; "  deliverable {:?}", queues.deliverable(FREE, Level::PASSIVE))?;
+        println!(rt;
+            "  deliverable {:?}",
+            queues.deliverable(FREE, Level::PASSIVE)
+        )?;
         queues.take(first);
     }
-    println!(rt; "  deliverable {:?}", queues.deliverable(FREE, Level::PASSIVE))
+    println!(rt;
+        "  deliverable {:?}",
+        queues.deliverable(FREE, Level::PASSIVE)
+    )
 }
 
 fn once_in(rt: HostRuntime) -> io::Result<()> {

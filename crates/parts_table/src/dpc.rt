@@ -65,7 +65,10 @@ fn ordinary_inserts_ask(rt: HostRuntime) -> io::Result<()> {
             let idle = ask(rt.alloc(), importance, by, 1, true)?;
             let deep = ask(rt.alloc(), importance, by, 0, false)?;
             let both = ask(rt.alloc(), importance, by, 0, true)?;
-            println!(rt; "  {importance:?} by {}: {neither:?} {idle:?} {deep:?} {both:?}", by.0)?;
+            println!(rt;
+                "  {importance:?} by {}: {neither:?} {idle:?} {deep:?} {both:?}",
+                by.0
+            )?;
         }
     }
     Ok(())
@@ -113,11 +116,19 @@ fn once_in_and_once_out(rt: HostRuntime) -> io::Result<()> {
     let mut queue = DpcQueue::new(rt.alloc(), OWN, 1, 4)?;
     let mut d = DpcObject::new(DpcNo(0), false);
     println!(rt; "  insert {:?}", queue.insert(&mut d, OWN, 2))?;
-    println!(rt; "  standing {:?}, held {}", d.standing(), queue.holds(DpcNo(0)))?;
+    println!(rt;
+        "  standing {:?}, held {}",
+        d.standing(),
+        queue.holds(DpcNo(0))
+    )?;
     println!(rt; "  answer {:?}", queue.answer(&d, OWN))?;
     println!(rt; "  insert {:?}", queue.insert(&mut d, OWN, 3))?;
     println!(rt; "  remove {}", queue.remove(&mut d))?;
-    println!(rt; "  standing {:?}, held {}", d.standing(), queue.holds(DpcNo(0)))?;
+    println!(rt;
+        "  standing {:?}, held {}",
+        d.standing(),
+        queue.holds(DpcNo(0))
+    )?;
     println!(rt; "  remove {}", queue.remove(&mut d))
 }
 

@@ -29,9 +29,17 @@ fn write_answers(rt: HostRuntime, calls: &[FrameCall], answers: &[FrameAnswer]) 
 
 /// Writes what the frames tell.
 fn write_questions(rt: HostRuntime, frames: &Frames) -> io::Result<()> {
-    println!(rt; "  level {}, then {}", frames.level().number(), frames.after().number())?;
+    println!(rt;
+        "  level {}, then {}",
+        frames.level().number(),
+        frames.after().number()
+    )?;
     println!(rt; "  running {:?}", frames.running())?;
-    println!(rt; "  own part {}, thread's part {}", frames.has_own(), frames.is_on_thread())?;
+    println!(rt;
+        "  own part {}, thread's part {}",
+        frames.has_own(),
+        frames.is_on_thread()
+    )?;
     println!(rt; "  {:?}", frames.regions())?;
     println!(rt; "  {:?} then", frames.below())?;
     println!(rt; "  innermost {:?}", frames.innermost())

@@ -4,6 +4,7 @@
 #![tactic(auto)]
 
 mod apcs;
+mod data;
 mod dpc;
 mod dpcs;
 mod frames;
@@ -15,6 +16,7 @@ use std::io;
 /// Writes the answers of a case of a part.
 fn answer(rt: HostRuntime, part: &str, case: &str) -> io::Result<()> {
     match part {
+        "data" => data::answer(rt, case),
         "frames" => frames::answer(rt, case),
         "dpc" => dpc::answer(rt, case),
         "apcs" => apcs::answer(rt, case),

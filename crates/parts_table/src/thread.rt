@@ -131,7 +131,12 @@ fn tests_at_a_wait(rt: HostRuntime) -> io::Result<()> {
         ("from the fifth", fifth, Mode::User, true),
         ("nothing", NOTHING, Mode::User, true),
         ("from the fourth", fourth, Mode::Kernel, true),
-        ("alert and APC of user mode", of_user_mode, Mode::Kernel, true),
+        (
+            "alert and APC of user mode",
+            of_user_mode,
+            Mode::Kernel,
+            true,
+        ),
         ("from the third", third, Mode::User, false),
         ("from the second", second, Mode::User, false),
         ("from the first test", all, Mode::Kernel, false),
@@ -159,7 +164,10 @@ fn a_mark_ends_a_wait(rt: HostRuntime) -> io::Result<()> {
         kind: ApcKind::User,
         number: 2,
     });
-    println!(rt; "  wait {:?} once it is taken", thread.wait(plain, FREE, Level::PASSIVE))
+    println!(rt;
+        "  wait {:?} once it is taken",
+        thread.wait(plain, FREE, Level::PASSIVE)
+    )
 }
 
 fn a_release(rt: HostRuntime) -> io::Result<()> {
@@ -211,10 +219,21 @@ fn a_user_apc(rt: HostRuntime) -> io::Result<()> {
     let mut thread = running(rt.alloc())?;
     let alertable = wait(Mode::User, true);
     println!(rt; "  wait {:?}", thread.wait(alertable, FREE, Level::PASSIVE))?;
-    println!(rt; "  takes {}, first {:?}", thread.takes(ApcNo(1)), thread.user_first())?;
-    println!(rt; "  apc answer {:?}", thread.apc_answer(ApcNo(1), ApcKind::User))?;
+    println!(rt;
+        "  takes {}, first {:?}",
+        thread.takes(ApcNo(1)),
+        thread.user_first()
+    )?;
+    println!(rt;
+        "  apc answer {:?}",
+        thread.apc_answer(ApcNo(1), ApcKind::User)
+    )?;
     println!(rt; "  apc {:?}", thread.apc(ApcNo(1), ApcKind::User, 20))?;
-    println!(rt; "  takes {}, first {:?}", thread.takes(ApcNo(1)), thread.user_first())?;
+    println!(rt;
+        "  takes {}, first {:?}",
+        thread.takes(ApcNo(1)),
+        thread.user_first()
+    )?;
     println!(rt; "  unapc {}", thread.unapc(ApcNo(1)))?;
     println!(rt; "  unapc {}", thread.unapc(ApcNo(1)))
 }
@@ -231,13 +250,19 @@ fn an_interrupted_wait(rt: HostRuntime) -> io::Result<()> {
     if thread.is_ready() {
         println!(rt; "  resume {:?}", thread.resume())?;
     }
-    println!(rt; "  deliverable {:?}", thread.deliverable(critical, Level::PASSIVE))?;
+    println!(rt;
+        "  deliverable {:?}",
+        thread.deliverable(critical, Level::PASSIVE)
+    )?;
     thread.take(Pick {
         apc: ApcNo(0),
         kind: ApcKind::Special,
         number: 12,
     });
-    println!(rt; "  wait {:?} once it is taken", thread.wait(spec, critical, Level::PASSIVE))?;
+    println!(rt;
+        "  wait {:?} once it is taken",
+        thread.wait(spec, critical, Level::PASSIVE)
+    )?;
     println!(rt; "  release {}", thread.release())
 }
 
@@ -261,7 +286,11 @@ fn a_rundown(rt: HostRuntime) -> io::Result<()> {
     if last.is_none() {
         thread.gone();
     }
-    println!(rt; "  gone {}, leaving {}", thread.is_gone(), thread.is_leaving())?;
+    println!(rt;
+        "  gone {}, leaving {}",
+        thread.is_gone(),
+        thread.is_leaving()
+    )?;
     println!(rt; "  release {}", thread.release())?;
     println!(rt; "  alert {:?}", thread.alert(Mode::Kernel))?;
     println!(rt; "  alert {:?}", thread.alert(Mode::Kernel))
