@@ -59,7 +59,10 @@ fn of_call(command: &Command, reply: &Reply) -> Change
     match command {
         Command::Queue(d) => change_where(reply.is_yes(), Change::Insert(*d)),
         Command::Unqueue(d) => change_where(reply.is_yes(), Change::Remove(*d)),
-        Command::SetImportance(d, i) => change_where(reply.is_done(), Change::SetImportance(*d, *i)),
+        Command::SetImportance(d, i) => change_where(
+            reply.is_done(),
+            Change::SetImportance(*d, *i),
+        ),
         Command::SetTarget(d, t) => change_where(reply.is_done(), Change::SetTarget(*d, *t)),
         Command::Raise(_)
         | Command::Lower(_)
