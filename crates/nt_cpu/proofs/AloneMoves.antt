@@ -86,7 +86,7 @@ pub record Stays (v z : View) : Type 0 where
   pub states : z.states ≡ v.states
   pub told : (x : Lane) (q : CpuNo) (k : ℕ) → HasWord v q k → z.told x q k ≡ v.told x q k
   pub next : z.next ≡ v.next
-  pub left : z.left ≡ v.left
+  pub drawable : z.drawable ≡ v.drawable
 
 pub marked_stays : (a : Option Asked) (n : ℕ) (u z : View) → IsMarkedFor a n u z → Stays u z
 marked_stays None n u z h = record {
@@ -95,7 +95,7 @@ marked_stays None n u z h = record {
   states = ap (λ (x : View). x.states) h;
   told = λ y q k w. ap (λ (x : View). x.told y q k) h;
   next = ap (λ (x : View). x.next) h;
-  left = ap (λ (x : View). x.left) h;
+  drawable = ap (λ (x : View). x.drawable) h;
 }
 marked_stays (Some a) n u z h = record {
   cpus = h.same.cpus;
@@ -103,7 +103,7 @@ marked_stays (Some a) n u z h = record {
   states = h.same.states;
   told = h.same.told;
   next = h.next;
-  left = h.left;
+  drawable = h.drawable;
 }
 
 tells_after : (s : Script) (states z : Option Lanes) (m : Lanes) → z ≡ states → m ≡ told_states s states → Tells z m
@@ -170,7 +170,7 @@ alone_moved c d w n v u z h m i =
       alone = y.alone ∙ g.same.alone;
       least = (least, omega arith);
       exact = λ e. (g.exact e, next);
-      left = ap (λ (x : ℕ). x + 1) y.left ∙ g.left;
+      drawable = ap (λ (x : ℕ). x + 1) y.drawable ∙ g.drawable;
       lists = marked_lists a n u z i.marked ∙ ap (λ (x : Option Lists). with_marks n (as_list a) x) g.lists ∙ ap (λ (x : List _). with_marks n x (with_draw n (alone_event c.cpu w c.own.frames) [] v.lists)) (sym asks) ∙ ap (λ (x : List Lane). with_marks n (what_asks c.script st w l) (with_draw n (alone_event c.cpu w c.own.frames) (map (lane_number c.script) x) v.lists)) (sym lanes);
       marked = λ k q b e. marked_marks a n u z i.marked k q b (word q b e) ∙ (ap (λ (x : Bool). x || ((k == n) && asked_for a q b)) (g.marked k q b e) ∙ ap (λ (x : Bool). v.marked k q b || ((k == n) && x)) (asked q b));
       value = λ t q k e. marked_value a n u z i.marked q k (word q k e) ∙ (ap (λ (x : ℕ). if asked_for a q k then max x (n + 1) else x) (g.value q k e) ∙ (let o = h.values t q k e in raise_value (asked_for a q k) true n (v.value q k) (omega arith) ∙ ap (λ (x : Bool). raised x n (v.value q k)) (asked q k)));

@@ -71,10 +71,10 @@ stands_run s limit p past r = record {
 }
 
 -- in a run a floor that follows it serves each processor
-pub serves_run : (s : Script) (limit : ℕ) (p : CpuNo) (past : List Event) (v : View) → IsRun s limit past → p.0 < s.cpus → Follows s past v → (is_cut limit (own_of s p past) ≡ false → 1 ≤ v.left) → Serves (state_of s p limit past) v
+pub serves_run : (s : Script) (limit : ℕ) (p : CpuNo) (past : List Event) (v : View) → IsRun s limit past → p.0 < s.cpus → Follows s past v → (is_cut limit (own_of s p past) ≡ false → 1 ≤ v.drawable) → Serves (state_of s p limit past) v
 serves_run s limit p past v r b f l = record {
   cpus = f.cpus;
-  left = l;
+  drawable = l;
   known = λ k h. let e = f.value p k (word k h) in let q = seen_below s limit p k past r in let g = saw k h in omega arith;
   below = λ k h. let q = seen_below s limit p k past r in let a = asked_below s p k past in let n = f.next in let g = saw k h in omega arith;
   named = rw f.next (named_below s p past);

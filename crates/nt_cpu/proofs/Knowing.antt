@@ -71,7 +71,7 @@ knows_looked c xs v u b h l = record {
 pub serves_looked : (c : CpuState) (xs : List ℕ) (v u : View) → c.cpu.0 < v.cpus → Serves c v → AllLooked c.cpu xs v u → Serves c u
 serves_looked c xs v u b h l =
     let n = knows_looked c xs v u b (knows_of c v h) l in
-    record { cpus = l.same.cpus ∙ h.cpus; left = λ e. let x = h.left e in let y = l.left in omega arith; known = n.known; below = n.below; named = n.named; stands = rw l.same.states h.stands; values = λ t q k e. values (sym l.same.alone ∙ t) q k (let x = l.same.cpus in omega arith, e.1) }
+    record { cpus = l.same.cpus ∙ h.cpus; drawable = λ e. let x = h.drawable e in let y = l.drawable in omega arith; known = n.known; below = n.below; named = n.named; stands = rw l.same.states h.stands; values = λ t q k e. values (sym l.same.alone ∙ t) q k (let x = l.same.cpus in omega arith, e.1) }
   where
     values : v.alone ≡ true → (q : CpuNo) (k : ℕ) → HasWord v q k → u.value q k ≤ u.next
     values t q k e = go (was_looked c.cpu 15 q k) refl

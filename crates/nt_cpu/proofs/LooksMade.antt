@@ -63,7 +63,7 @@ look_more k p answers a v u w l b used c h i = record {
   next = let x = h.next in let y = i.next.0 in omega arith;
   most = λ j q. most j (j == k) refl q;
   next_exact = λ t. i.next_exact (h.same.alone ∙ t) ∙ h.next_exact t;
-  left = i.left ∙ h.left;
+  drawable = i.drawable ∙ h.drawable;
   marked = λ j q d s. i.marked j q d (word q d s) ∙ h.marked j q d s;
   same = same_through v u w h.same i.same;
 }
@@ -132,7 +132,7 @@ look_none k p answers v u used h = record {
   next = h.next;
   most = λ j q. most j (j == k) refl q;
   next_exact = h.next_exact;
-  left = h.left;
+  drawable = h.drawable;
   marked = h.marked;
   same = h.same;
 }

@@ -60,7 +60,7 @@ pub record LooksBelow (n : ℕ) (p : CpuNo) (answers : List ℕ) (v u : View) : 
   pub next : v.next ≤ u.next
   pub most : (k : ℕ) → k < n → value_at answers k ≤ u.next
   pub next_exact : v.alone ≡ true → u.next ≡ v.next
-  pub left : u.left ≡ v.left
+  pub drawable : u.drawable ≡ v.drawable
   pub marked : (j : ℕ) (q : CpuNo) (k : ℕ) → HasWord v q k → u.marked j q k ≡ v.marked j q k
   pub same : SameFloor v u
 
@@ -118,14 +118,14 @@ pub record Knows (c : CpuState) (v : View) : Type 0 where
 
 -- as many numbers may be drawn as the processor may still make events
 abbrev pub HasRoom : CpuState → View → Type 0
-HasRoom c v = c.limit ≤ v.left + c.own.made
+HasRoom c v = c.limit ≤ v.drawable + c.own.made
 
 -- the same processor, over the same words: a number was drawn for each event that it made
 pub record GoesOn (c d : CpuState) (v w : View) : Type 0 where
   pub script : d.script ≡ c.script
   pub cpu : d.cpu ≡ c.cpu
   pub limit : d.limit ≡ c.limit
-  pub count : w.left + d.own.made ≡ v.left + c.own.made
+  pub count : w.drawable + d.own.made ≡ v.drawable + c.own.made
   pub cpus : w.cpus ≡ v.cpus
   pub alone : w.alone ≡ v.alone
 

@@ -48,7 +48,7 @@ pub record StandsIn (c : CpuState) (l : Lanes) : Type 0 where
 -- are told, it stands in them. Where nobody else marks, no value is above the least next number
 pub record Serves (c : CpuState) (v : View) : Type 0 where
   pub cpus : v.cpus ≡ c.script.cpus
-  pub left : is_cut c.limit c.own ≡ false → 1 ≤ v.left
+  pub drawable : is_cut c.limit c.own ≡ false → 1 ≤ v.drawable
   pub known : (k : ℕ) → k < 16 → value_at c.own.seen k ≤ v.value c.cpu k
   pub below : (k : ℕ) → k < 16 → value_at c.own.seen k ≤ v.next
   pub named : AreNamedBelow v.next c.own.frames

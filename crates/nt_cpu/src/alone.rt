@@ -180,7 +180,7 @@ impl<'s> Cpu<'s> {
     /// Makes the event that does this and touches no lane: draws its number, and marks what it asks for.
     pub(crate) fn make_alone<W: Words>(&mut self, words: &mut W, what: &What) -> Event
         requires room { self.old.own.made < self.old.limit }
-        requires left { 1 ≤ (W.view words.old).left }
+        requires drawable { 1 ≤ (W.view words.old).drawable }
         requires cpus { (W.view words.old).cpus ≡ self.old.script.cpus }
         requires named { AreNamedBelow (W.view words.old).next self.old.own.frames }
         requires may { MayBe self.old what.now }
