@@ -56,8 +56,8 @@ pub record RunsThere (s : Script) (l : Lanes) (st : Stand) (t : ThreadNo) : Type
   pub own : cpu_of s t ≡ st.cpu
   pub runs : (facts_at l t).doing ≡ IsRunning
 
-abbrev pub IsStanding : Script → Lanes → Stand → Type 0
-IsStanding s l st = IfSome st.thread (λ t. RunsThere s l st t)
+abbrev pub StandHolds : Script → Lanes → Stand → Type 0
+StandHolds s l st = IfSome st.thread (λ t. RunsThere s l st t)
 
 -- ---- what holds of a job that is to be done
 

@@ -25,7 +25,8 @@ use Rattle.nt_event.specs.declared.scripts.Script.{Script}
 use Rattle.nt_event.specs.Apcs.{deliverable, first_user, has_kernel, is_of_apc}
 use Rattle.nt_event.specs.Commands.{refusal}
 use Rattle.nt_event.specs.Frames.{innermost, is_base_body, is_on_thread, thread_part}
-use Rattle.nt_event.specs.Jobs.{interrupt_classes, is_due, level_at}
+use Rattle.nt_event.specs.Classes.{interrupt_classes, is_interrupt_level}
+use Rattle.nt_event.specs.Jobs.{is_due, level_at}
 use Rattle.nt_event.specs.Lanes.{Lanes, facts_of, lanes_at, queue_at}
 use Rattle.nt_event.specs.Own.{Own, own_of}
 use Rattle.nt_event.specs.Queues.{QueueState, first_dpc, is_of_dpc}
@@ -55,10 +56,6 @@ is_first_dpc part d q = option_map_or (is_of_dpc d) (first_dpc part q.pending) f
 abbrev pub is_apc_pick : ApcNo → Option Pick → Bool
 is_apc_pick a pick = option_map_or (is_of_apc a) pick false
 
--- the levels of interrupts: devices, clock and inter-processor interrupts
-abbrev pub is_interrupt_level : ℕ → Bool
-is_interrupt_level level = list_any (λ c. c == level) interrupt_classes
-
 -- the innermost frame is the base of the running thread
 abbrev pub is_at_base : Own → Bool
 is_at_base x = option_map_or (λ f. is_base_body f.body) (innermost x.frames) false
@@ -83,7 +80,7 @@ is_eligible s p x l (ThreadedRequest d) =
 is_eligible s p x l (KernelApcRequest a) =
     is_on_thread x.frames && is_apc_pick a (deliverable (facts_of l x.frames.running).apcs (regions_of (thread_part x.frames)) (level_at x))
 is_eligible s p x l (UserApcRequest a) =
-    is_apc_pick a (first_user (facts_of l x.frames.running).apcs) && (is_at_base x && (option_map_or (is_at_touser s p x) (innermost x.frames) false && (facts_of l x.frames.running).marked))
+    is_apc_pick a (first_user (facts_of l x.frames.running).apcs) && (is_at_base x && (option_map_or (is_at_touser s p x) (innermost x.frames) false && (facts_of l x.frames.running).user_pending))
 is_eligible s p x l (FlushRequest a) =
     is_apc_pick a (first_user (facts_of l x.frames.running).apcs) && ((facts_of l x.frames.running).leaving && (is_at_base x && not (has_kernel (facts_of l x.frames.running).apcs)))
 

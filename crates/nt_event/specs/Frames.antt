@@ -101,8 +101,8 @@ normal_of f =
     record f { level = 0; place = 0; crit = 0; guard = 0; kernel_phase = false; again = None }
 
 -- a base frame stays until its thread is gone, at PASSIVE_LEVEL and with its regions given up (profile)
-abbrev pub left : Frame → Frame
-left f = record f { level = 0; place = 0; crit = 0; guard = 0; again = None; leaving = true }
+abbrev pub ended_base : Frame → Frame
+ended_base f = record f { level = 0; place = 0; crit = 0; guard = 0; again = None; leaving = true }
 
 -- the status of the wait that ended comes with the Switch; only an interrupted one is to be taken up again
 abbrev pub resumed : Option ℕ → Frame → Frame
@@ -129,7 +129,7 @@ without n (f ∷ fs) = if f.name == n then fs else (f ∷ fs)
 -- ends the innermost frame of a thread's part: a base frame stays and its thread is leaving
 abbrev pub ended_on_thread : List Frame → List Frame
 ended_on_thread [] = []
-ended_on_thread (f ∷ fs) = if is_base_body f.body then (left f ∷ fs) else fs
+ended_on_thread (f ∷ fs) = if is_base_body f.body then (ended_base f ∷ fs) else fs
 
 abbrev pub end_on_thread : ℕ → List Frame → List Frame
 end_on_thread n [] = []

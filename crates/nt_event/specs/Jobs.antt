@@ -31,7 +31,7 @@ use Rattle.nt_event.specs.Apcs.{deliverable, first_user}
 use Rattle.nt_event.specs.Commands.{is_reached, needs_lane, refusal, reply}
 use Rattle.nt_event.specs.Frames.{innermost, is_on_thread, level_in, thread_part}
 use Rattle.nt_event.specs.Lanes.{Lanes, facts_at, facts_of, queue_at}
-use Rattle.nt_event.specs.Own.{Own, standing_in}
+use Rattle.nt_event.specs.Own.{Own, stand_in}
 use Rattle.nt_event.specs.Queues.{QueueState, first_dpc}
 use Rattle.nt_event.specs.Regions.{regions_of}
 use Rattle.nt_event.specs.Routines.{cpu_of, next_command}
@@ -41,6 +41,7 @@ use Rattle.nt_event.specs.Timers.{SetKey, first_due}
 use Rattle.nt_event.specs.Waits.{wait_reply}
 use Rattle.nt_event.specs.Lists.{head_of, is_null, value_at, when}
 use Rattle.nt_event.specs.Numbers.{thread}
+use Rattle.nt_event.specs.Classes.{interrupt_classes}
 
 -- ---- where the processor stands
 
@@ -56,10 +57,6 @@ is_due x c = nat_lt (value_at x.served c) (value_at x.seen c)
 -- 1: an expired timer's DPC is to be inserted
 abbrev pub fire_task : Own → Option Task
 fire_task x = option_map (λ d. Shared (FireJob d)) x.fire
-
--- interrupts, the greatest first; 12 is never requested
-abbrev pub interrupt_classes : List ℕ
-interrupt_classes = 14 ∷ 13 ∷ 11 ∷ 10 ∷ 9 ∷ 8 ∷ 7 ∷ 6 ∷ 5 ∷ 4 ∷ 3 ∷ []
 
 -- an interrupt is pending and above the level (Windows Internals, "Interrupt request levels")
 abbrev pub may_interrupt : Own → ℕ → Bool
@@ -200,7 +197,7 @@ rewait_reply st l w =
 
 -- the first user APC, where the mark is set and one is queued
 abbrev pub user_due : ThreadFacts → Option Pick
-user_due x = when x.marked (first_user x.apcs)
+user_due x = when x.user_pending (first_user x.apcs)
 
 abbrev pub touser_event : Stand → Lanes → What
 touser_event st l =
@@ -232,7 +229,7 @@ task_event s st l (Shared j) = job_event s st l j
 
 -- the next event of p
 abbrev pub next_what : Script → CpuNo → Own → Lanes → Option What
-next_what s p x l = option_and_then (task_event s (standing_in p x) l) (task s p x)
+next_what s p x l = option_and_then (task_event s (stand_in p x) l) (task s p x)
 
 -- ---- a choice of thread
 
@@ -251,4 +248,4 @@ chosen_task s p x =
 
 -- the event that it makes so
 abbrev pub chosen_what : Script → CpuNo → Own → Lanes → Option What
-chosen_what s p x l = option_and_then (task_event s (standing_in p x) l) (chosen_task s p x)
+chosen_what s p x l = option_and_then (task_event s (stand_in p x) l) (chosen_task s p x)

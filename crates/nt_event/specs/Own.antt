@@ -74,5 +74,5 @@ own_after_event s n due e asked told x =
     record { made = x.made + 1; frames = frames_after s n due e x.frames; seen = table 16 (λ c. seen_after n e.what c (asked c) (told c) (value_at x.seen c)); served = table 16 (λ c. served_after e.what c (seen_after n e.what c (asked c) (told c) (value_at x.seen c)) (value_at x.served c)); rested = is_rest e.what; took = took_after e.what x.took; fire = fire_after s e.what x.fire; sweep = sweep_after e.what x.sweep }
 
 -- where the processor stands
-abbrev pub standing_in : CpuNo → Own → Stand
-standing_in p x = stand_of p x.frames x.sweep
+abbrev pub stand_in : CpuNo → Own → Stand
+stand_in p x = stand_of p x.frames x.sweep

@@ -19,6 +19,7 @@ use Rattle.nt_event.specs.declared.scripts.TimerDecl.{TimerDecl}
 use Rattle.nt_event.specs.declared.scripts.ThreadDecl.{ThreadDecl}
 use Rattle.nt_event.specs.declared.scripts.ApcDecl.{ApcDecl}
 use Rattle.nt_event.specs.declared.scripts.Routine.{Routine}
+use Rattle.nt_event.specs.Classes.{is_isr_level, is_requested_level}
 
 -- the interrupt routine's line is for this processor and level
 abbrev pub is_isr_of : CpuNo → ℕ → Isr → Bool
@@ -50,14 +51,6 @@ has_routine s r = nat_lt r.0 (length s.routines)
 -- a thing that may be left out is one of its list where it stands
 abbrev pub where_given : {A : Type 0} → (A → Bool) → Option A → Bool
 where_given has x = option_map_or has x true
-
--- levels that an interrupt request of a script may have: devices and inter-processor interrupts
-abbrev pub is_requested_level : ℕ → Bool
-is_requested_level level = (nat_le 3 level && nat_le level 11) || (level == 14)
-
--- levels that an interrupt routine may have: these and the clock
-abbrev pub is_isr_level : ℕ → Bool
-is_isr_level level = is_requested_level level || (level == 13)
 
 -- how many commands the routines have in all
 abbrev pub command_count : List Routine → ℕ

@@ -16,7 +16,7 @@ use Rattle.nt_event.specs.declared.scripts.Script.{Script}
 use Rattle.nt_event.specs.Frames.{Frames, frames_after, level_in}
 use Rattle.nt_event.specs.Jobs.{job_event, may_switch, next_what}
 use Rattle.nt_event.specs.Lanes.{Lanes, lanes_at}
-use Rattle.nt_event.specs.Own.{Own, own_of, standing_in}
+use Rattle.nt_event.specs.Own.{Own, own_of, stand_in}
 use Rattle.nt_event.specs.Requests.{asks}
 use Rattle.nt_event.specs.Lists.{value_at, when}
 
@@ -58,7 +58,7 @@ next_step s p x l = event_or s p x NothingToDo (next_what s p x l)
 -- the turn Switch takes up a thread of the processor that is ready, where none runs and nothing must be done
 abbrev pub switch_step : Script → CpuNo → ThreadNo → Own → Lanes → Result Event ScheduleKind
 switch_step s p t x l =
-    event_or s p x BadChoice (when (may_switch x) (job_event s (standing_in p x) l (SwitchJob t)))
+    event_or s p x BadChoice (when (may_switch x) (job_event s (stand_in p x) l (SwitchJob t)))
 
 -- the value is one more than the number of an earlier event that asks for the class on the processor
 abbrev pub was_asked : Script → CpuNo → ℕ → ℕ → List Event → Bool

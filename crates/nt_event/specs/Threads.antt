@@ -17,14 +17,14 @@ pub record ThreadFacts : Type 0 where
   pub doing : Doing
   pub alerted_kernel : Bool
   pub alerted_user : Bool
-  pub marked : Bool
+  pub user_pending : Bool
   pub released : Bool
   pub leaving : Bool
   pub apcs : ApcQueues
 
 abbrev pub start_facts : ThreadFacts
 start_facts =
-    record { doing = IsReady 0 None; alerted_kernel = false; alerted_user = false; marked = false; released = false; leaving = false; apcs = start_apcs }
+    record { doing = IsReady 0 None; alerted_kernel = false; alerted_user = false; user_pending = false; released = false; leaving = false; apcs = start_apcs }
 
 abbrev pub ready_doing : Doing → Bool
 ready_doing (IsReady level status) = true
@@ -94,7 +94,7 @@ ends_by_alert m x = not (is_alerted m x) && waits_as (λ w. w.alertable && not_b
 
 -- a user APC ends a user wait that is alertable, or where the user-pending mark is set (profile)
 abbrev pub ends_by_user : ThreadFacts → Bool
-ends_by_user x = waits_as (λ w. is_user w.mode && (w.alertable || x.marked)) x
+ends_by_user x = waits_as (λ w. is_user w.mode && (w.alertable || x.user_pending)) x
 
 -- a kernel APC ends a wait inwardly where, with it among the pending ones, the first one is deliverable
 abbrev pub ends_by_kernel : ApcQueues → ThreadFacts → Bool

@@ -43,7 +43,7 @@ wait_reply x r level m alertable reached =
     if alertable && is_alerted m x then Status alerted else
     if alertable && (is_user m && has_user x.apcs) then Status user_apc else
     if alertable && x.alerted_kernel then Status alerted else
-    if not alertable && (is_user m && x.marked) then Status user_apc else Blocked
+    if not alertable && (is_user m && x.user_pending) then Status user_apc else Blocked
 
 -- the alerted flag that ends a wait of this mode is cleared: the one of its mode, else the kernel one
 abbrev pub alert_taken : Mode → ThreadFacts → ThreadFacts
@@ -54,7 +54,7 @@ abbrev pub answered : ℕ → Mode → Bool → Bool → ThreadFacts → ThreadF
 answered st m alertable delay x =
     if st == satisfied then (if delay then x else record x { released = false }) else
     if st == alerted then alert_taken m x else
-    if (st == user_apc) && alertable then record x { marked = true } else x
+    if (st == user_apc) && alertable then record x { user_pending = true } else x
 
 -- what a wait leaves; where it blocks, the wait with its event's number, its level and regions
 abbrev pub waited : ℕ → Regions → ℕ → Mode → Bool → Bool → Reply → ThreadFacts → ThreadFacts
@@ -73,20 +73,20 @@ waited_again n r level (Some w) y x = waited n r level w.mode w.alertable (is_so
 abbrev pub alert_tested : Mode → ThreadFacts → ThreadFacts
 alert_tested m x =
     if is_alerted m x then set_alerted m false x else
-    if is_user m && has_user x.apcs then record x { marked = true } else x
+    if is_user m && has_user x.apcs then record x { user_pending = true } else x
 
 -- an APC begins: it is no longer pending, and a user one clears the mark
 abbrev pub apc_taken : ApcKind → ApcNo → ThreadFacts → ThreadFacts
-apc_taken UserApc a x = record x { marked = false; apcs = without_apc a x.apcs }
+apc_taken UserApc a x = record x { user_pending = false; apcs = without_apc a x.apcs }
 apc_taken _ a x = record x { apcs = without_apc a x.apcs }
 
 -- at the end of its base routine a thread takes no more APCs
-abbrev pub left_facts : ThreadFacts → ThreadFacts
-left_facts x = record x { leaving = true; apcs = closed_apcs x.apcs }
+abbrev pub leaving_facts : ThreadFacts → ThreadFacts
+leaving_facts x = record x { leaving = true; apcs = closed_apcs x.apcs }
 
 -- the end of a frame: of the base routine, of a user APC with the test of an alert for user mode, or of another one
 abbrev pub frame_ended : Option Body → ThreadFacts → ThreadFacts
-frame_ended (Some (OnBase t)) x = left_facts x
+frame_ended (Some (OnBase t)) x = leaving_facts x
 frame_ended (Some (OnApc a UserApc)) x = alert_tested UserMode x
 frame_ended _ x = x
 
@@ -123,7 +123,7 @@ alert_facts m x =
 abbrev pub insert_facts : Pick → ThreadFacts → ThreadFacts
 insert_facts pick x =
     let y : ThreadFacts = record x { apcs = with_apc pick x.apcs } in
-    if ends_by_apc pick x then (if is_kernel_kind pick.kind then ended kernel_apc y else record (ended user_apc y) { marked = true }) else y
+    if ends_by_apc pick x then (if is_kernel_kind pick.kind then ended kernel_apc y else record (ended user_apc y) { user_pending = true }) else y
 
 abbrev pub expiry_facts : ℕ → ThreadFacts → ThreadFacts
 expiry_facts from x = if ends_by_expiry from x then ended satisfied x else x
