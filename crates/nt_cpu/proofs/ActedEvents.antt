@@ -79,7 +79,7 @@ wait_chain false false false false false false = refl
 
 wait_replies : (x : ThreadFacts) (r : Regions) (level : ℕ) (m : Mode) (a : Bool) (reached : Option Bool) → is_wait_reply (wait_reply x r level m a reached) ≡ true
 wait_replies x r level m a reached =
-    wait_chain (is_some (deliverable x.apcs r level)) (is_satisfied x reached) (a && is_alerted m x) (a && (is_user m && has_user x.apcs)) (a && x.alerted_kernel) (not a && (is_user m && x.marked))
+    wait_chain (is_some (deliverable x.apcs r level)) (is_satisfied x reached) (a && is_alerted m x) (a && (is_user m && has_user x.apcs)) (a && x.alerted_kernel) (not a && (is_user m && x.user_pending))
 
 yes_unblocked : (b : Bool) → not (is_blocked (yes_if b)) ≡ true
 yes_unblocked true = refl
@@ -217,7 +217,7 @@ taken_good c l t h k m =
 user_here : (c : CpuState) (l : Lanes) → refusal_in ToUser c.own.frames ≡ None → KindsFit c.script l → Holds (GoodEvent c) (option_map begin_apc (user_due (facts_of l c.own.frames.running)))
 user_here c l a f =
     let x : ThreadFacts = facts_of l c.own.frames.running in
-    holds_map (GoodEvent c) begin_apc (user_due x) (λ pick e. let g = when_gives x.marked (first_user x.apcs) pick e in
+    holds_map (GoodEvent c) begin_apc (user_due x) (λ pick e. let g = when_gives x.user_pending (first_user x.apcs) pick e in
     let k = holds_at (λ p. (p.kind ≡ UserApc) × (kind_of c.script p.apc ≡ UserApc)) (first_user x.apcs) pick (kind_here c.script UserApc x.apcs (thread_fits c.script l c.own.frames.running f)) g.1 in
     record { allow = rw k.1 (user_may_begin c.own.frames pick.apc a); look = refl })
 

@@ -44,25 +44,7 @@ use Rattle.nt_cpu.specs.GoodTasks.{Awaits, Calls, GoodJob, GoodTask, Runs}
 use Rattle.nt_cpu.specs.Fits.{Allow, IsAt, may_call, may_reply}
 use Rattle.nt_cpu.specs.Sound.{IsSound}
 use Rattle.nt_cpu.specs.States.{CpuState}
-use Rattle.nt_cpu.proofs.Kept.{each}
-
--- ---- the script's commands fit
-
-in_routine : (s : Script) (r : Option RoutineNo) (i : ℕ) (k : Command) → fits s ≡ true → slice_get (commands_of s r) i ≡ Some k → command_fits s k ≡ true
-in_routine s None i k h e = absurd cc
-in_routine s (Some r) i k h e = go (slice_get s.routines r.0) refl e
-  where
-    go : (o : Option Routine) → slice_get s.routines r.0 ≡ o → slice_get (option_map_or (λ x. x.commands) o []) i ≡ Some k → command_fits s k ≡ true
-    go None p q = absurd cc
-    go (Some x) p q =
-        each (command_fits s) x.commands i k (each (routine_fits s) s.routines r.0 x (both _ _ h).1 p) q
-
-pub next_fits : (s : Script) (p : CpuNo) (f : Frame) (k : Command) → fits s ≡ true → next_command s p f ≡ Some k → command_fits s k ≡ true
-next_fits s p f k h e = go f.leaving e
-  where
-    go : (b : Bool) → (if b then None else slice_get (commands_of s (routine_of s p f.body f.kernel_phase)) f.place) ≡ Some k → command_fits s k ≡ true
-    go true q = absurd cc
-    go false q = in_routine s (routine_of s p f.body f.kernel_phase) f.place k h q
+use Rattle.nt_runs.proofs.Declared.{next_fits}
 
 -- ---- what an event that touches no lane asks for
 

@@ -19,7 +19,8 @@ use Rattle.nt_cpu.specs.Alone.{IsAlone, IsMarkedFor, alone_asks, alone_event, no
 use Rattle.nt_cpu.specs.Leaves.{own_with}
 use Rattle.nt_cpu.specs.Sound.{IsSound}
 use Rattle.nt_cpu.specs.States.{CpuState}
-use Rattle.nt_cpu.specs.Steps.{AllLooked, Knows, is_used, was_looked}
+use Rattle.nt_event.specs.Classes.{is_used_class}
+use Rattle.nt_cpu.specs.Steps.{AllLooked, Knows, was_looked}
 use Rattle.nt_cpu.specs.Turns.{Serves}
 use Rattle.nt_cpu.specs.declared.alone.Asked.{Asked}
 use Rattle.nt_cpu.proofs.AloneMoves.{asked_for, marked_stays, marked_value}
@@ -48,7 +49,7 @@ known_looked c xs v u b h k q = go (was_looked c.cpu 15 c.cpu k) refl
     go : (t : Bool) → was_looked c.cpu 15 c.cpu k ≡ t → v.value c.cpu k ≤ u.value c.cpu k
     go true e =
         let x : u.value c.cpu k ≡ value_at xs k = h.value c.cpu k (b, q) ∙ rw e refl in
-        let d = both_of (c.cpu.0 == c.cpu.0) (nat_lt k 15) (is_used k) e in
+        let d = both_of (c.cpu.0 == c.cpu.0) (nat_lt k 15) (is_used_class k) e in
         let l : k < 15 = (let f = d.0 in grind (arith, nat_tests)) in
         let y = h.least k l d.1 in
         omega arith
@@ -79,7 +80,7 @@ serves_looked c xs v u b h l =
         go : (d : Bool) → was_looked c.cpu 15 q k ≡ d → u.value q k ≤ u.next
         go true f =
             let x : u.value q k ≡ value_at xs k = l.value q k e ∙ rw f refl in
-            let m : k < 15 = within (q.0 == c.cpu.0) (is_used k) f in
+            let m : k < 15 = within (q.0 == c.cpu.0) (is_used_class k) f in
             let y = l.most k m in
             omega arith
           where
@@ -103,9 +104,9 @@ serves_looked c xs v u b h l =
 
 -- the answers are known
 answers_known : (c : CpuState) (xs : List ℕ) (v u : View) → c.cpu.0 < v.cpus → AllLooked c.cpu xs v u → (k : ℕ) → k < 16 → (value_at xs k ≤ u.value c.cpu k) × (value_at xs k ≤ u.next)
-answers_known c xs v u b l k q = go (nat_lt k 15) refl (is_used k) refl
+answers_known c xs v u b l k q = go (nat_lt k 15) refl (is_used_class k) refl
   where
-    go : (m : Bool) → nat_lt k 15 ≡ m → (n : Bool) → is_used k ≡ n → (value_at xs k ≤ u.value c.cpu k) × (value_at xs k ≤ u.next)
+    go : (m : Bool) → nat_lt k 15 ≡ m → (n : Bool) → is_used_class k ≡ n → (value_at xs k ≤ u.value c.cpu k) × (value_at xs k ≤ u.next)
     go true e true f =
         let i : (c.cpu.0 == c.cpu.0) ≡ true = grind (arith, nat_tests) in
         let x : u.value c.cpu k ≡ value_at xs k = l.value c.cpu k (b, q) ∙ rw (i, e, f) refl in

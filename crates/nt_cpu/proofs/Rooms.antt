@@ -89,7 +89,7 @@ looks_go c xs v u h = go (is_cut c.limit c.own) refl
   where
     go : (b : Bool) → is_cut c.limit c.own ≡ b → GoesOn c c v u
     go true e = goes_same c c v u refl (h.cut e)
-    go false e = let l = h.looks e in goes_here c v u l.left l.same.cpus l.same.alone
+    go false e = let l = h.looks e in goes_here c v u l.drawable l.same.cpus l.same.alone
 
 -- after a step of its own
 pub goes_stepped : (c d : CpuState) (xs : List ℕ) (r : Local) (v u w : View) → IsStepped c d xs r v u w → GoesOn c d v w

@@ -1,7 +1,6 @@
 //! Events that touch no lane.
 ghost use Rattle.std.specs.Prelude.{◌≡◌, ◌<◌, ◌≤◌, ◌+◌, ◌^◌, ℕ, IfSome};
 ghost use Rattle.nt_event.specs.Own.{stand_in};
-ghost use Rattle.nt_event.specs.Regions.{some_came_to_0};
 ghost use Rattle.nt_event.specs.Step.{thread_field};
 ghost use Rattle.nt_event.specs.Lists.{value_at};
 ghost use Rattle.nt_floor.specs.Views.{HasWord, View};
@@ -10,8 +9,7 @@ ghost use Rattle.nt_cpu.specs.Alone.{IsAlone, IsMarkedFor, MayBe, alone_asks, al
 
 use crate::cpu::Cpu;
 use nt_event::{
-    ApcKind, Begun, Body, Command, CpuNo, Event, Level, Regions, Reply, Rises, Stand, ThreadNo,
-    What,
+    ApcKind, Begun, Body, Command, CpuNo, Event, Level, Reply, Rises, Stand, ThreadNo, What,
 };
 use nt_floor::Words;
 
@@ -34,19 +32,12 @@ fn ask_when(test: bool, cpu: CpuNo, class: u8) -> Option<Asked>
     }
 }
 
-/// Whether a count that was not 0 is 0 now.
-fn came_to_0(before: Regions, now: Regions) -> bool
-    ensures { result ≡ some_came_to_0 before now }
-{
-    (before.crit != 0 && now.crit == 0) || (before.guard != 0 && now.guard == 0)
-}
-
 /// What the call of a command asks for.
 fn call_asks(stand: &Stand, command: &Command, reply: &Reply) -> Option<Asked>
     ensures asks { result ≡ call_asks_of stand.now command.now reply.now }
     ensures class { IfSome result (λ a. a.class < 16) }
 {
-    if !matches!(reply, Reply::Done) {
+    if !reply.is_done() {
         return None;
     }
     match command {
@@ -56,7 +47,27 @@ fn call_asks(stand: &Stand, command: &Command, reply: &Reply) -> Option<Asked>
             cpu: *cpu,
             class: level.number(),
         }),
-        _ => None,
+        Command::Raise(_)
+        | Command::Lower(_)
+        | Command::EnterCrit
+        | Command::EnterGuard
+        | Command::Note(_)
+        | Command::Queue(_)
+        | Command::Unqueue(_)
+        | Command::SetImportance(_, _)
+        | Command::SetTarget(_, _)
+        | Command::SetTimer(_, _, _)
+        | Command::CancelTimer(_)
+        | Command::InsertApc(_)
+        | Command::RemoveApc(_)
+        | Command::StartWait(_, _)
+        | Command::Delay(_, _, _)
+        | Command::Release(_)
+        | Command::Alert(_, _)
+        | Command::TestAlert(_)
+        | Command::Clock(_)
+        | Command::ToUser
+        | Command::Yield => None,
     }
 }
 
@@ -74,12 +85,24 @@ fn asks(stand: &Stand, what: &What) -> Option<Asked>
 {
     match what {
         What::Call { command, reply, .. } => call_asks(stand, command, reply),
-        What::Normal { .. } => ask_when(came_to_0(stand.regions, stand.below), stand.cpu, 1),
+        What::Normal { .. } => {
+            let given_up = stand.below.came_to_0(&stand.regions);
+            ask_when(given_up, stand.cpu, 1)
+        }
         What::End { .. } => {
-            let given_up = came_to_0(stand.regions, stand.below);
+            let given_up = stand.below.came_to_0(&stand.regions);
             ask_when(is_normal_end(&stand.body) || given_up, stand.cpu, 1)
         }
-        _ => None,
+        What::Look { .. }
+        | What::Begin { .. }
+        | What::Expire { .. }
+        | What::Fire { .. }
+        | What::Clean { .. }
+        | What::Switch { .. }
+        | What::Rewait { .. }
+        | What::Flush { .. }
+        | What::Gone { .. }
+        | What::Rest => None,
     }
 }
 
@@ -87,12 +110,33 @@ fn asks(stand: &Stand, what: &What) -> Option<Asked>
 fn call_level(command: &Command, reply: &Reply, old: Level) -> Level
     ensures { result ≡ call_level_of command.now reply.now old }
 {
-    if !matches!(reply, Reply::Done) {
+    if !reply.is_done() {
         return old;
     }
     match command {
         Command::Raise(level) | Command::Lower(level) => *level,
-        _ => old,
+        Command::EnterCrit
+        | Command::EnterGuard
+        | Command::LeaveCrit
+        | Command::LeaveGuard
+        | Command::Interrupt(_, _)
+        | Command::Note(_)
+        | Command::Queue(_)
+        | Command::Unqueue(_)
+        | Command::SetImportance(_, _)
+        | Command::SetTarget(_, _)
+        | Command::SetTimer(_, _, _)
+        | Command::CancelTimer(_)
+        | Command::InsertApc(_)
+        | Command::RemoveApc(_)
+        | Command::StartWait(_, _)
+        | Command::Delay(_, _, _)
+        | Command::Release(_)
+        | Command::Alert(_, _)
+        | Command::TestAlert(_)
+        | Command::Clock(_)
+        | Command::ToUser
+        | Command::Yield => old,
     }
 }
 

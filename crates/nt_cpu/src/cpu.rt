@@ -60,7 +60,7 @@ impl<'s> Cpu<'s> {
             cpu,
             limit: turns,
             made: 0,
-            frames: Frames::new(alloc, cpu, thread_count(script))?,
+            frames: Frames::new(alloc, cpu, script.thread_count())?,
             seen: Values::new(),
             served: Values::new(),
             rested: false,
@@ -111,12 +111,4 @@ impl<'s> Cpu<'s> {
     {
         !self.is_cut() && self.is_free()
     }
-}
-
-/// How many threads the script has.
-fn thread_count(script: &Script) -> u32
-    requires { IsTrue (fits script.now) }
-    ensures { result ≡ length script.now.threads }
-{
-    script.threads.len() as u32
 }
