@@ -2,9 +2,9 @@
 use Rattle.std.specs.List.{list_all}
 use Rattle.std.specs.Prelude.{Bool, List, true, ◌&&◌}
 use Rattle.nt_event.specs.declared.commands.TimerKey.{TimerKey}
-use Rattle.nt_event.specs.declared.commands.TimerKey.TheVariants.{Delay as OfDelay, Timer as OfTimer}
+use Rattle.nt_event.specs.declared.commands.TimerKey.TheVariants as keys
 use Rattle.nt_event.specs.declared.events.Begun.{Begun}
-use Rattle.nt_event.specs.declared.events.Begun.TheVariants.{Apc, Dpc, Int, Threaded}
+use Rattle.nt_event.specs.declared.events.Begun.TheVariants as begun
 use Rattle.nt_event.specs.declared.events.Event.{Event}
 use Rattle.nt_event.specs.declared.events.What.{What}
 use Rattle.nt_event.specs.declared.events.What.TheVariants as what
@@ -12,14 +12,14 @@ use Rattle.nt_event.specs.declared.scripts.Script.{Script}
 use Rattle.nt_event.specs.Script.{command_fits, has_apc, has_cpu, has_dpc, has_thread, has_timer, where_given}
 
 abbrev pub begun_fits : Script → Begun → Bool
-begun_fits s (Int level) = true
-begun_fits s (Dpc d) = has_dpc s d
-begun_fits s (Threaded d) = has_dpc s d
-begun_fits s (Apc a) = has_apc s a
+begun_fits s (begun.Int level) = true
+begun_fits s (begun.Dpc d) = has_dpc s d
+begun_fits s (begun.Threaded d) = has_dpc s d
+begun_fits s (begun.Apc a) = has_apc s a
 
 abbrev pub key_fits : Script → TimerKey → Bool
-key_fits s (OfTimer t) = has_timer s t
-key_fits s (OfDelay t) = has_thread s t
+key_fits s (keys.Timer t) = has_timer s t
+key_fits s (keys.Delay t) = has_thread s t
 
 abbrev pub what_fits : Script → What → Bool
 what_fits s (what.Call frame c reply) = command_fits s c

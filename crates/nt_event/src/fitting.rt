@@ -5,8 +5,8 @@ ghost use Rattle.nt_event.specs.Classes as classes;
 ghost use Rattle.nt_event.specs.Script as spec;
 
 use crate::{
-    class, limits, ApcDecl, ApcKind, ApcNo, Command, CpuNo, DpcDecl, DpcNo, Isr, Level, Routine, RoutineNo,
-    Script, ThreadDecl, ThreadNo, TimerDecl, TimerNo,
+    ApcDecl, ApcKind, ApcNo, Command, CpuNo, DpcDecl, DpcNo, Isr, Level, Routine, RoutineNo,
+    Script, ThreadDecl, ThreadNo, TimerDecl, TimerNo, class, limits,
 };
 
 pub(crate) fn isr_in(isrs: &[Isr], cpu: CpuNo, level: Level) -> Option<RoutineNo>
