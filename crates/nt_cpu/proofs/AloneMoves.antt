@@ -1,8 +1,8 @@
 -- An event that touches no lane, as its floor sees it.
-use Rattle.std.proofs.Common.{ap, arith, subst, sym, ◌∙◌}
+use Rattle.std.proofs.Common.{ap, arith, sym, ◌∙◌}
 use Rattle.std.proofs.lemmas.Bool.Decides.{nat_tests}
 use Rattle.std.specs.List.{list_any}
-use Rattle.std.specs.Prelude.{Bool, IfSome, List, None, Option, Some, [], false, if◌then◌else◌, length, map, max, option_map, refl, true, ℕ, ◌&&◌, ◌+◌, ◌<◌, ◌==◌, ◌||◌, ◌∷◌, ◌≡◌, ◌≤◌}
+use Rattle.std.specs.Prelude.{Bool, IfSome, List, None, Option, Some, [], false, if◌then◌else◌, length, map, max, refl, true, ℕ, ◌&&◌, ◌+◌, ◌<◌, ◌==◌, ◌||◌, ◌≡◌, ◌≤◌}
 use Rattle.nt_event.specs.declared.events.Event.{Event}
 use Rattle.nt_event.specs.declared.events.What.{What}
 use Rattle.nt_event.specs.declared.events.What.TheVariants.{Look}
@@ -10,9 +10,8 @@ use Rattle.nt_event.specs.declared.jobs.Lane.{Lane}
 use Rattle.nt_event.specs.declared.jobs.Stand.{Stand}
 use Rattle.nt_event.specs.declared.numbers.CpuNo.{CpuNo}
 use Rattle.nt_event.specs.declared.scripts.Script.{Script}
-use Rattle.nt_event.specs.Frames.{due_of, frames_after, innermost}
 use Rattle.nt_event.specs.Lanes.{Lanes, lane_number, lanes_after, lanes_at, what_lanes}
-use Rattle.nt_event.specs.Own.{Own, own_after_event, stand_in}
+use Rattle.nt_event.specs.Own.{stand_in}
 use Rattle.nt_event.specs.Requests.{asks_in, is_ask, looked, raised, seen_after, what_asks}
 use Rattle.nt_event.specs.Objects.{object_of}
 use Rattle.nt_event.specs.Queues.{queue_of}
@@ -21,9 +20,9 @@ use Rattle.nt_event.specs.Waits.{facts}
 use Rattle.nt_event.specs.Numbers.{cpu, dpc, thread, timer}
 use Rattle.nt_event.specs.Lists.{value_at}
 use Rattle.nt_event.proofs.Tables.{length-table_from}
-use Rattle.nt_floor.specs.Acts.{Found, told_after, told_over}
-use Rattle.nt_floor.specs.Lists.{Lists, with_draw, with_mark, with_marks}
-use Rattle.nt_floor.specs.Views.{HasWord, IsDrawn, IsMarked, IsMoved, Tells, View, is_word}
+use Rattle.nt_floor.specs.Acts.{Found, told_over}
+use Rattle.nt_floor.specs.Lists.{Lists, with_draw, with_marks}
+use Rattle.nt_floor.specs.Views.{HasWord, IsMoved, Tells, View, is_word}
 use Rattle.nt_cpu.specs.Alone.{IsAlone, IsMarkedFor, MayBe, alone_asks, alone_event, alone_then, as_list, is_alone, noticed}
 use Rattle.nt_cpu.specs.Leaves.{own_with}
 use Rattle.nt_cpu.specs.Sound.{IsSound}

@@ -1,18 +1,17 @@
 -- What the words know of a processor after looks and after its events.
 use Rattle.std.proofs.Common.{ap, arith, max, subst, sym, ◌∙◌}
 use Rattle.std.proofs.lemmas.Bool.Decides.{nat_tests}
-use Rattle.std.specs.Prelude.{Bool, IfSome, List, None, Option, Some, false, if◌then◌else◌, length, nat_lt, option_map, refl, true, ℕ, ◌&&◌, ◌+◌, ◌<◌, ◌==◌, ◌||◌, ◌≡◌, ◌≤◌}
+use Rattle.std.specs.Prelude.{Bool, List, None, Option, Some, false, if◌then◌else◌, nat_lt, refl, true, ℕ, ◌&&◌, ◌+◌, ◌<◌, ◌==◌, ◌||◌, ◌≡◌, ◌≤◌}
 use Rattle.nt_event.specs.declared.events.Event.{Event}
 use Rattle.nt_event.specs.declared.events.Rises.{Rises}
 use Rattle.nt_event.specs.declared.events.What.{What}
 use Rattle.nt_event.specs.declared.events.What.TheVariants.{Look}
 use Rattle.nt_event.specs.declared.numbers.CpuNo.{CpuNo}
-use Rattle.nt_event.specs.Lanes.{Lanes}
-use Rattle.nt_event.specs.Own.{Own, stand_in}
+use Rattle.nt_event.specs.Own.{stand_in}
 use Rattle.nt_event.specs.Robin.{look_value, look_values}
-use Rattle.nt_event.specs.Lists.{table, value_at}
+use Rattle.nt_event.specs.Lists.{value_at}
 use Rattle.nt_event.proofs.Tables.{get_or-table}
-use Rattle.nt_floor.specs.Views.{HasWord, IsMoved, IsUnmoved, View}
+use Rattle.nt_floor.specs.Views.{HasWord, IsUnmoved, View}
 use Rattle.nt_frame.specs.Nesting.{AreNamedBelow}
 use Rattle.nt_frame.proofs.Below.{below_more}
 use Rattle.nt_cpu.specs.Alone.{IsAlone, IsMarkedFor, alone_asks, alone_event, noticed}

@@ -37,7 +37,7 @@ fn call_asks(stand: &Stand, command: &Command, reply: &Reply) -> Option<Asked>
     ensures asks { result ≡ call_asks_of stand.now command.now reply.now }
     ensures class { IfSome result (λ a. a.class < 16) }
 {
-    if !reply.is_done() {
+    if !matches!(reply, Reply::Done) {
         return None;
     }
     match command {
@@ -110,7 +110,7 @@ fn asks(stand: &Stand, what: &What) -> Option<Asked>
 fn call_level(command: &Command, reply: &Reply, old: Level) -> Level
     ensures { result ≡ call_level_of command.now reply.now old }
 {
-    if !reply.is_done() {
+    if !matches!(reply, Reply::Done) {
         return old;
     }
     match command {

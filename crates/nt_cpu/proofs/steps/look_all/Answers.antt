@@ -1,8 +1,6 @@
-use Rattle.std.proofs.Common.{add-one, ap, arith, set, subst, sym, ◌∙◌}
-use Rattle.std.proofs.lemmas.Bool.Decides.{nat_tests}
+use Rattle.std.proofs.Common.{add-one, ap, set, subst, sym, ◌∙◌}
 use Rattle.std.proofs.lemmas.List.{length-set}
-use Rattle.std.specs.Prelude.{List, false, length, suc, true, ℕ, ◌+◌, ◌<◌, ◌≡◌, ◌≢◌}
-use Rattle.nt_event.specs.Classes.{is_used_class}
+use Rattle.std.specs.Prelude.{List, length, ℕ, ◌+◌}
 use Rattle.nt_cpu.specs.Steps.{LooksBelow}
 use Rattle.nt_cpu.proofs.LooksMade.{look_more, look_none}
 use Rattle.nt_cpu.proofs.steps.look_all.Goals as goal
