@@ -1,38 +1,33 @@
 -- The event of a job that is due is one that the frames allow.
-use Rattle.std.proofs.Common.{ap, arith, subst, sym, ◌∙◌}
+use Rattle.std.proofs.Common.{arith, sym, ◌∙◌}
 use Rattle.std.proofs.lemmas.Bool.Decides.{nat_tests}
 use Rattle.std.proofs.lemmas.List.{get_or_past, reverse-append}
 use Rattle.std.proofs.lemmas.List.Elements.{All-head, All-nil, All-push, All-tail}
-use Rattle.std.specs.Option.{option_map_or, option_or}
-use Rattle.std.specs.Prelude.{All, Bool, cond, IfSome, IsTrue, List, None, Option, Some, [], false, find, get_or, if◌then◌else◌, is_none, is_some, length, nat_lt, not, option_and_then, option_map, refl, reverse, true, unwrap_or, ℕ, ◌&&◌, ◌+◌, ◌<◌, ◌==◌, ◌||◌, ◌∷◌, ◌≡◌, ◌≤◌}
+use Rattle.std.specs.Option.{option_or}
+use Rattle.std.specs.Prelude.{All, Bool, cond, List, None, Option, Some, [], false, find, if◌then◌else◌, is_none, is_some, length, nat_lt, not, option_map, refl, reverse, true, ℕ, ◌&&◌, ◌+◌, ◌<◌, ◌==◌, ◌∷◌, ◌≡◌, ◌≤◌}
 use Rattle.nt_event.specs.declared.commands.ApcKind.{ApcKind}
 use Rattle.nt_event.specs.declared.commands.ApcKind.TheVariants.{Normal as NormalApc, Special as SpecialApc, User as UserApc}
 use Rattle.nt_event.specs.declared.commands.Command.{Command}
-use Rattle.nt_event.specs.declared.commands.Command.TheVariants.{Alert, CancelTimer, Delay, InsertApc, Queue, Release, RemoveApc, SetTimer, StartWait, TestAlert, ToUser, Unqueue, Yield}
+use Rattle.nt_event.specs.declared.commands.Command.TheVariants.{Alert, CancelTimer, Delay, InsertApc, Queue, Release, RemoveApc, SetTimer, StartWait, TestAlert, ToUser, Unqueue}
 use Rattle.nt_event.specs.declared.commands.Mode.{Mode}
 use Rattle.nt_event.specs.declared.commands.Regions.{Regions}
-use Rattle.nt_event.specs.declared.commands.Reply.{Reply}
-use Rattle.nt_event.specs.declared.commands.Reply.TheVariants.{Blocked, Done, No, Refused, Status, Yes}
-use Rattle.nt_event.specs.declared.events.Begun.TheVariants.{Apc, Dpc, Threaded}
+use Rattle.nt_event.specs.declared.commands.Reply.TheVariants.{Blocked, Done, Status}
 use Rattle.nt_event.specs.declared.events.What.{What}
-use Rattle.nt_event.specs.declared.events.What.TheVariants.{Begin, Call, Clean, End, Expire, Fire, Flush, Gone, Look, Rest, Rewait, Switch}
-use Rattle.nt_event.specs.declared.frames.Again.{Again}
-use Rattle.nt_event.specs.declared.frames.Body.TheVariants.{Apc as OnApc, Dpc as OnDpc, Threaded as OnThreaded}
+use Rattle.nt_event.specs.declared.events.What.TheVariants.{Call, Clean, End, Flush, Gone, Look, Rest, Rewait}
+use Rattle.nt_event.specs.declared.frames.Body.TheVariants.{Dpc as OnDpc, Threaded as OnThreaded}
 use Rattle.nt_event.specs.declared.frames.Frame.{Frame}
-use Rattle.nt_event.specs.declared.inserts.Insert.{Insert}
 use Rattle.nt_event.specs.declared.inserts.Part.TheVariants.{Ordinary as OrdinaryPart, Threaded as ThreadedPart}
 use Rattle.nt_event.specs.declared.inserts.Pick.{Pick}
 use Rattle.nt_event.specs.declared.jobs.Job.{Job}
 use Rattle.nt_event.specs.declared.jobs.Job.TheVariants.{Apcs as ApcsJob, Call as CallJob, Drain as DrainJob, Fire as FireJob, Idle as IdleJob, Leave as LeaveJob, Pick as PickJob, Rewait as RewaitJob, Rundown as RundownJob, Switch as SwitchJob, Threaded as ThreadedJob, ToUser as ToUserJob, UserEnd as UserEndJob}
 use Rattle.nt_event.specs.declared.jobs.Stand.{Stand}
-use Rattle.nt_event.specs.declared.numbers.CpuNo.{CpuNo}
 use Rattle.nt_event.specs.declared.numbers.DpcNo.{DpcNo}
 use Rattle.nt_event.specs.declared.numbers.ThreadNo.{ThreadNo}
 use Rattle.nt_event.specs.declared.scripts.Script.{Script}
 use Rattle.nt_event.specs.Apcs.{ApcQueues, deliverable, first_kernel, first_of_kind, first_user, has_user, is_inserted, is_of_kind, lets_through, same_kind, takes}
 use Rattle.nt_event.specs.Commands.{is_reached, reply}
-use Rattle.nt_event.specs.Frames.{Frames, innermost, level_in}
-use Rattle.nt_event.specs.Jobs.{apcs_event, begin_apc, begin_dpc, begin_first, drain_event, expire_key, idle_event, job_event, may_apcs, may_drain, may_switch, may_take, must, next_ready, ready, rewait_reply, rundown_event, switch_event, threaded_event, touser_event, user_due}
+use Rattle.nt_event.specs.Frames.{Frames, innermost}
+use Rattle.nt_event.specs.Jobs.{apcs_event, begin_apc, begin_dpc, begin_first, drain_event, expire_key, idle_event, job_event, may_apcs, may_drain, may_switch, may_take, must, next_ready, ready, rewait_reply, rundown_event, switch_event, user_due}
 use Rattle.nt_event.specs.Lanes.{Lanes, facts_at, facts_of, object_at, queue_at}
 use Rattle.nt_event.specs.Objects.{is_queued}
 use Rattle.nt_event.specs.Own.{Own, stand_in}
@@ -44,16 +39,16 @@ use Rattle.nt_event.specs.Timers.{first_due, is_set_timer}
 use Rattle.nt_event.specs.Waits.{is_satisfied, wait_reply}
 use Rattle.nt_event.specs.Replies.{alerted, is_blocked, is_user, kernel_apc, satisfied, user_apc, yes_if}
 use Rattle.nt_event.specs.Lists.{is_null, when}
-use Rattle.nt_event.proofs.Options.{Holds, both, holds_else, holds_find, holds_map, holds_more, holds_or, holds_then, holds_at, holds_when, when_gives}
+use Rattle.nt_event.proofs.Options.{Holds, both, holds_else, holds_map, holds_more, holds_or, holds_then, holds_at, holds_when, when_gives}
 use Rattle.nt_event.proofs.Ready.{next_ready_taken}
 use Rattle.nt_floor.specs.Acts.{KindsFit}
-use Rattle.nt_frame.specs.Rules.{is_leaving, may_begin, refusal_in, regions_in}
+use Rattle.nt_frame.specs.Rules.{is_leaving, may_begin, refusal_in}
 use Rattle.nt_frame.proofs.Below.{awaiting_is_on_thread}
 use Rattle.nt_frame.proofs.Tasks.{apc_may_begin, dpc_may_begin, idle_dpc_may_begin, leaving_here, threaded_may_begin, user_may_begin}
 use Rattle.nt_cpu.specs.Fits.{Allow, IsAt, is_wait_reply, may_reply}
 use Rattle.nt_cpu.specs.Sound.{IsSound}
 use Rattle.nt_cpu.specs.States.{CpuState}
-use Rattle.nt_cpu.specs.GoodTasks.{Awaits, Calls, GoodJob, Runs}
+use Rattle.nt_cpu.specs.GoodTasks.{Awaits, GoodJob, Runs}
 use Rattle.nt_cpu.proofs.DueTasks.{accepted_call}
 
 -- a job's event is no Look
@@ -79,7 +74,7 @@ wait_chain false false false false false false = refl
 
 wait_replies : (x : ThreadFacts) (r : Regions) (level : ℕ) (m : Mode) (a : Bool) (reached : Option Bool) → is_wait_reply (wait_reply x r level m a reached) ≡ true
 wait_replies x r level m a reached =
-    wait_chain (is_some (deliverable x.apcs r level)) (is_satisfied x reached) (a && is_alerted m x) (a && (is_user m && has_user x.apcs)) (a && x.alerted_kernel) (not a && (is_user m && x.marked))
+    wait_chain (is_some (deliverable x.apcs r level)) (is_satisfied x reached) (a && is_alerted m x) (a && (is_user m && has_user x.apcs)) (a && x.alerted_kernel) (not a && (is_user m && x.user_pending))
 
 yes_unblocked : (b : Bool) → not (is_blocked (yes_if b)) ≡ true
 yes_unblocked true = refl
@@ -217,7 +212,7 @@ taken_good c l t h k m =
 user_here : (c : CpuState) (l : Lanes) → refusal_in ToUser c.own.frames ≡ None → KindsFit c.script l → Holds (GoodEvent c) (option_map begin_apc (user_due (facts_of l c.own.frames.running)))
 user_here c l a f =
     let x : ThreadFacts = facts_of l c.own.frames.running in
-    holds_map (GoodEvent c) begin_apc (user_due x) (λ pick e. let g = when_gives x.marked (first_user x.apcs) pick e in
+    holds_map (GoodEvent c) begin_apc (user_due x) (λ pick e. let g = when_gives x.user_pending (first_user x.apcs) pick e in
     let k = holds_at (λ p. (p.kind ≡ UserApc) × (kind_of c.script p.apc ≡ UserApc)) (first_user x.apcs) pick (kind_here c.script UserApc x.apcs (thread_fits c.script l c.own.frames.running f)) g.1 in
     record { allow = rw k.1 (user_may_begin c.own.frames pick.apc a); look = refl })
 

@@ -1,32 +1,28 @@
 -- Events that a floor makes: what it asks of its caller, and what is left of the processor.
-use Rattle.std.proofs.Common.{ap, arith, max, subst, sym, ◌∙◌}
+use Rattle.std.proofs.Common.{ap, arith, max, ◌∙◌}
 use Rattle.std.proofs.lemmas.Bool.Decides.{nat_tests}
-use Rattle.std.specs.Prelude.{Bool, IfSome, IsTrue, List, None, Option, Some, false, length, option_and_then, refl, true, ℕ, ◌+◌, ◌<◌, ◌^◌, ◌≡◌, ◌≤◌}
-use Rattle.nt_event.specs.declared.events.Event.{Event}
+use Rattle.std.specs.Prelude.{Bool, IfSome, IsTrue, None, Option, Some, false, length, option_and_then, refl, true, ℕ, ◌<◌, ◌^◌, ◌≡◌, ◌≤◌}
 use Rattle.nt_event.specs.declared.events.What.{What}
 use Rattle.nt_event.specs.declared.events.What.TheVariants.{Look}
 use Rattle.nt_event.specs.declared.frames.Frame.{Frame}
 use Rattle.nt_event.specs.declared.jobs.Job.{Job}
-use Rattle.nt_event.specs.declared.jobs.Stand.{Stand}
 use Rattle.nt_event.specs.declared.numbers.ThreadNo.{ThreadNo}
-use Rattle.nt_event.specs.declared.scripts.Script.{Script}
-use Rattle.nt_event.specs.Acting.{IsDue, acted_event}
+use Rattle.nt_event.specs.Acting.{IsDue}
 use Rattle.nt_event.specs.Frames.{due_of, innermost}
 use Rattle.nt_event.specs.Jobs.{job_event}
 use Rattle.nt_event.specs.Lanes.{Lanes, what_lanes}
-use Rattle.nt_event.specs.Own.{Own, stand_in}
+use Rattle.nt_event.specs.Own.{stand_in}
 use Rattle.nt_event.specs.Requests.{asks_in, looked, raised, seen_after}
 use Rattle.nt_event.specs.Script.{has_thread}
 use Rattle.nt_event.specs.Lists.{value_at}
-use Rattle.nt_event.proofs.Options.{Holds, holds_at}
+use Rattle.nt_event.proofs.Options.{holds_at}
 use Rattle.nt_floor.specs.declared.floor.Acted.{Acted}
 use Rattle.nt_floor.specs.Acts.{Found, IsActed, IsMet, StandFits, told_over}
-use Rattle.nt_floor.specs.Views.{View}
 use Rattle.nt_cpu.specs.GoodTasks.{GoodJob}
 use Rattle.nt_cpu.specs.Leaves.{own_with}
 use Rattle.nt_cpu.specs.Sound.{IsSound}
 use Rattle.nt_cpu.specs.States.{CpuState}
-use Rattle.nt_cpu.specs.Turns.{StandsIn, own_then, state_then}
+use Rattle.nt_cpu.specs.Turns.{StandsIn, own_then}
 use Rattle.nt_cpu.proofs.ActedEvents.{GoodEvent, acted_good, is_look}
 use Rattle.nt_cpu.proofs.Taken.{innermost_small, own_with_same}
 

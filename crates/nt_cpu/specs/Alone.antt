@@ -5,14 +5,13 @@ use Rattle.nt_event.specs.declared.commands.Command.{Command}
 use Rattle.nt_event.specs.declared.commands.Command.TheVariants.{Interrupt, LeaveCrit, LeaveGuard, Lower, Raise}
 use Rattle.nt_event.specs.declared.commands.Reply.{Reply}
 use Rattle.nt_event.specs.declared.commands.Reply.TheVariants.{Done}
-use Rattle.nt_event.specs.declared.events.Begun.TheVariants.{Int}
+use Rattle.nt_event.specs.declared.events.Begun.TheVariants.{Apc, Dpc, Int, Threaded}
 use Rattle.nt_event.specs.declared.events.What.{What}
-use Rattle.nt_event.specs.declared.events.What.TheVariants.{Begin, Call, End, Look, Normal}
+use Rattle.nt_event.specs.declared.events.What.TheVariants.{Begin, Call, Clean, End, Expire, Fire, Flush, Gone, Look, Normal, Rest, Rewait, Switch}
 use Rattle.nt_event.specs.declared.frames.Body.{Body}
 use Rattle.nt_event.specs.declared.frames.Body.TheVariants.{Apc as OnApc, Base as OnBase}
 use Rattle.nt_event.specs.declared.jobs.Stand.{Stand}
 use Rattle.nt_event.specs.declared.numbers.CpuNo.{CpuNo}
-use Rattle.nt_event.specs.declared.scripts.Script.{Script}
 use Rattle.nt_event.specs.Commands.{needs_lane}
 use Rattle.nt_event.specs.Frames.{Frames, innermost, is_normal_apc_body, level_in}
 use Rattle.nt_event.specs.Regions.{after_in, some_came_to_0}
@@ -42,7 +41,17 @@ is_alone b (Begin (Int level) from) = true
 is_alone b (Normal f) = true
 is_alone b (End f) = ends_alone b
 is_alone b (Look r) = true
-is_alone b w = false
+is_alone b (Begin (Dpc d) from) = false
+is_alone b (Begin (Threaded d) from) = false
+is_alone b (Begin (Apc a) from) = false
+is_alone b (Expire key from) = false
+is_alone b (Fire d y) = false
+is_alone b (Clean class) = false
+is_alone b (Switch t status) = false
+is_alone b (Rewait f y) = false
+is_alone b (Flush a from) = false
+is_alone b (Gone t) = false
+is_alone b Rest = false
 
 -- the processor's level after it
 abbrev pub call_level : Command → Reply → ℕ → ℕ
@@ -56,7 +65,17 @@ alone_level (Begin (Int level) from) x = level
 alone_level (Normal f) x = 0
 alone_level (End f) x = after_in x
 alone_level (Look r) x = 0
-alone_level w x = level_in x
+alone_level (Begin (Dpc d) from) x = level_in x
+alone_level (Begin (Threaded d) from) x = level_in x
+alone_level (Begin (Apc a) from) x = level_in x
+alone_level (Expire key from) x = level_in x
+alone_level (Fire d y) x = level_in x
+alone_level (Clean class) x = level_in x
+alone_level (Switch t status) x = level_in x
+alone_level (Rewait f y) x = level_in x
+alone_level (Flush a from) x = level_in x
+alone_level (Gone t) x = level_in x
+alone_level Rest x = level_in x
 
 -- ---- what it asks for: nothing, or a class of a processor
 
@@ -78,7 +97,16 @@ abbrev pub alone_asks : Stand → What → Option Asked
 alone_asks st (Call f c y) = call_asks st c y
 alone_asks st (Normal f) = ask_when (some_came_to_0 st.regions st.below) st.cpu 1
 alone_asks st (End f) = ask_when (is_normal_end st.body || some_came_to_0 st.regions st.below) st.cpu 1
-alone_asks st w = None
+alone_asks st (Look r) = None
+alone_asks st (Begin b from) = None
+alone_asks st (Expire key from) = None
+alone_asks st (Fire d y) = None
+alone_asks st (Clean class) = None
+alone_asks st (Switch t status) = None
+alone_asks st (Rewait f y) = None
+alone_asks st (Flush a from) = None
+alone_asks st (Gone t) = None
+alone_asks st Rest = None
 
 abbrev pub as_list : Option Asked → List Ask
 as_list None = []

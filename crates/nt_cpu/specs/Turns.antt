@@ -1,6 +1,6 @@
 -- What a turn of a processor is and leaves.
 use Rattle.std.specs.List.{list_any}
-use Rattle.std.specs.Prelude.{Bool, Err, IfSome, IsTrue, List, None, Ok, Option, Result, Some, [], if◌then◌else◌, length, nat_lt, not, option_and_then, option_map, suc, true, ℕ, ◌&&◌, ◌==◌, ◌||◌, ◌∷◌, ◌<◌, ◌≡◌, ◌≤◌, ◌⊎◌, false}
+use Rattle.std.specs.Prelude.{Bool, Err, IfSome, List, None, Ok, Option, Result, Some, [], if◌then◌else◌, length, nat_lt, not, option_and_then, option_map, suc, true, ℕ, ◌&&◌, ◌==◌, ◌||◌, ◌∷◌, ◌<◌, ◌≡◌, ◌≤◌, ◌⊎◌, false}
 use Rattle.nt_event.specs.declared.events.Event.{Event}
 use Rattle.nt_event.specs.declared.events.Turn.{Turn}
 use Rattle.nt_event.specs.declared.events.Turn.TheVariants.{Look as LookTurn, Next, Switch as SwitchTurn}
@@ -48,7 +48,7 @@ pub record StandsIn (c : CpuState) (l : Lanes) : Type 0 where
 -- are told, it stands in them. Where nobody else marks, no value is above the least next number
 pub record Serves (c : CpuState) (v : View) : Type 0 where
   pub cpus : v.cpus ≡ c.script.cpus
-  pub left : is_cut c.limit c.own ≡ false → 1 ≤ v.left
+  pub drawable : is_cut c.limit c.own ≡ false → 1 ≤ v.drawable
   pub known : (k : ℕ) → k < 16 → value_at c.own.seen k ≤ v.value c.cpu k
   pub below : (k : ℕ) → k < 16 → value_at c.own.seen k ≤ v.next
   pub named : AreNamedBelow v.next c.own.frames

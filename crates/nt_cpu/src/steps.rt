@@ -15,15 +15,13 @@ ghost use Rattle.nt_cpu.specs.Turns.{IsShared, Serves};
 
 use crate::cpu::Cpu;
 use crate::looks::some_rises;
+use nt_event::class::is_used;
 use nt_event::{CpuNo, Event, Job, Rises, Task, What};
 use nt_floor::{Floor, Words};
 use std::alloc::AllocError;
 
-/// The classes of requests are below this number; 12 of them is not used.
+/// The classes of requests that are used are below this number.
 const CLASSES: u8 = 15;
-
-/// The class that is not used.
-const UNUSED: u8 = 12;
 
 /// What a step did without a floor.
 #[derive(Clone, Copy, PartialEq, Eq, Debug)]
@@ -57,7 +55,7 @@ fn look_all<W: Words>(words: &mut W, cpu: CpuNo) -> [u64; 16]
 {
     let mut answers = [0; 16];
     for class in 0..CLASSES {
-        if class != UNUSED {
+        if is_used(class) {
             answers[class as usize] = words.look(cpu, class);
         }
     }

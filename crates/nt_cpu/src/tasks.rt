@@ -10,7 +10,6 @@ ghost use Rattle.nt_event.specs.Lists.{is_null, value_at};
 
 use crate::cpu::Cpu;
 use crate::due::{due_interrupt, is_due};
-use crate::routines::{needs_lane, next_command};
 use nt_event::{ApcKind, Begun, Body, Command, Frame, Job, Level, Refusal, Reply, Task, What};
 use nt_frame::{Frames, refusal};
 
@@ -125,7 +124,7 @@ impl<'s> Cpu<'s> {
     fn command_task(&self, frame: &Frame) -> Option<Task>
         ensures { result ≡ command_of self.now.own frame.now (next_of self.now.script self.now.cpu frame.now) }
     {
-        match next_command(self.script, self.cpu, frame) {
+        match self.script.next_command(self.cpu, frame) {
             Some(command) => Some(call_in(&self.frames, frame, &command)),
             None => None,
         }
@@ -195,7 +194,7 @@ fn call_task(frame: &Frame, command: &Command, refusal: Option<Refusal>) -> Task
             if matches!(command, Command::ToUser) {
                 return Task::Shared(Job::ToUser);
             }
-            if needs_lane(command) {
+            if command.needs_lane() {
                 return Task::Shared(Job::Call(*command));
             }
             Reply::Done

@@ -44,7 +44,7 @@ use Rattle.nt_laws.specs.Fates.{ApcIsPending, DpcIsPending, NamesPending}
 use Rattle.nt_laws.specs.Named.{AllFit, earlier, keeps_to_classes}
 use Rattle.nt_event.specs.Fitting.{key_fits, what_fits}
 use Rattle.nt_laws.proofs.Named.Asked.{rises_fit}
-use Rattle.nt_laws.proofs.Named.Declared.{fire_fits, next_fits}
+use Rattle.nt_runs.proofs.Declared.{fire_fits, next_fits}
 use Rattle.nt_laws.proofs.Named.Inserted.{pending_fits, picks_fit}
 use Rattle.nt_laws.proofs.Named.Settings.{due_fits}
 

@@ -1,5 +1,5 @@
 use Rattle.std.proofs.Common.{ap, inr, subst, sym, ◌∙◌}
-use Rattle.std.specs.Prelude.{refl, ◌≡◌}
+use Rattle.std.specs.Prelude.{refl}
 use Rattle.nt_event.specs.Jobs.{chosen_task}
 use Rattle.nt_event.specs.Own.{stand_in}
 use Rattle.nt_floor.specs.Views.{View}

@@ -1,5 +1,5 @@
-use Rattle.std.proofs.Common.{ap, max, subst, sym, ◌∙◌}
-use Rattle.std.specs.Prelude.{None, Option, ℕ, ◌+◌, ◌<◌, ◌≡◌}
+use Rattle.std.proofs.Common.{ap, max, subst, ◌∙◌}
+use Rattle.std.specs.Prelude.{None, Option, ℕ, ◌<◌, ◌≡◌}
 use Rattle.nt_event.specs.declared.events.Event.{Event}
 use Rattle.nt_event.specs.declared.jobs.Stand.{Stand}
 use Rattle.nt_event.specs.Lists.{value_at}

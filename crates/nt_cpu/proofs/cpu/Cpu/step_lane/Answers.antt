@@ -1,5 +1,5 @@
-use Rattle.std.proofs.Common.{ap, subst, sym, ◌∙◌}
-use Rattle.std.specs.Prelude.{Err, Result, false, ◌≡◌}
+use Rattle.std.proofs.Common.{ap}
+use Rattle.std.specs.Prelude.{Err, Result}
 use Rattle.nt_event.specs.declared.events.Event.{Event}
 use Rattle.nt_event.specs.declared.jobs.Task.TheVariants.{Shared}
 use Rattle.nt_event.specs.Jobs.{chosen_task}

@@ -23,7 +23,8 @@ use Rattle.nt_event.specs.Script.{command_fits, fits, has_dpc, routine_fits, tim
 use Rattle.nt_event.specs.Numbers.{is_of}
 use Rattle.nt_event.proofs.Options.{both}
 
-each : {A : Type 0} (p : A → Bool) (xs : List A) (i : ℕ) (x : A) → list_all p xs ≡ true → slice_get xs i ≡ Some x → p x ≡ true
+-- what holds of all holds of each
+pub each : {A : Type 0} (p : A → Bool) (xs : List A) (i : ℕ) (x : A) → list_all p xs ≡ true → slice_get xs i ≡ Some x → p x ≡ true
 each p xs i x h e =
     let b : i < length xs = slice_get_within xs i x e in
     subst (λ (y : _). p y ≡ true) (get_or_from_slice_get xs i x x e) (AllPass-from_list_all p xs h i x b)
@@ -53,11 +54,12 @@ timer_declared s t x h e =
     let d = both _ _ c.0 in
     each (timer_fits s) s.timers t x d.1 e
 
-abbrev IsDeclared : Script → Option DpcNo → Type 0
+abbrev pub IsDeclared : Script → Option DpcNo → Type 0
 IsDeclared s o = IfSome o (λ d. has_dpc s d ≡ true)
 
-fired : (s : Script) (w : What) (old : Option DpcNo) → fits s ≡ true → IsDeclared s old → IsDeclared s (fire_after s w old)
-fired s (Expire (OfTimer t) from) old h k = go (slice_get s.timers t.0) refl
+-- after an event, the object that a processor has to fire is one of the script's, if it was before
+pub fire_after_fits : (s : Script) (w : What) (old : Option DpcNo) → fits s ≡ true → IsDeclared s old → IsDeclared s (fire_after s w old)
+fire_after_fits s (Expire (OfTimer t) from) old h k = go (slice_get s.timers t.0) refl
   where
     given : (o : Option DpcNo) → where_given (has_dpc s) o ≡ true → IsDeclared s o
     given None q = tt
@@ -66,9 +68,9 @@ fired s (Expire (OfTimer t) from) old h k = go (slice_get s.timers t.0) refl
     go : (o : Option TimerDecl) → slice_get s.timers t.0 ≡ o → IsDeclared s (option_and_then (λ x. x.dpc) o)
     go None e = tt
     go (Some x) e = given x.dpc (timer_declared s t.0 x h e)
-fired s (Expire (OfDelay t) from) old h k = tt
-fired s (Fire d y) old h k = tt
-fired s w old h k = k
+fire_after_fits s (Expire (OfDelay t) from) old h k = tt
+fire_after_fits s (Fire d y) old h k = tt
+fire_after_fits s w old h k = k
 
 -- the object that a processor has to fire is one of the script's
 pub fire_fits : (s : Script) (p : CpuNo) (past : List Event) → fits s ≡ true → IfSome (fire s p past) (λ d. has_dpc s d ≡ true)
@@ -76,5 +78,5 @@ fire_fits s p [] h = tt
 fire_fits s p (e ∷ past) h = go (is_of e p) (fire_fits s p past h)
   where
     go : (b : Bool) → IsDeclared s (fire s p past) → IsDeclared s (if b then fire_after s e.what (fire s p past) else fire s p past)
-    go true k = fired s e.what (fire s p past) h k
+    go true k = fire_after_fits s e.what (fire s p past) h k
     go false k = k
