@@ -9,7 +9,7 @@ use Rattle.std.proofs.lemmas.Bool.{and_from, and_parts, le-leb, leb-true, le-ltb
 use Rattle.std.proofs.lemmas.Fmt.{decimal_is_IsNumeral, digits_is_IsNumeral}
 use Rattle.nt_text.specs.Lines.{AllRows, IsRow, is_field, line_of, lines, row_of, rows_text}
 use Rattle.nt_text.proofs.Rows.{lines_again, row_again}
-use Rattle.nt_script.specs.Text.{Row}
+use Rattle.nt_text.specs.Lines.{Row}
 
 -- ---- numbers
 

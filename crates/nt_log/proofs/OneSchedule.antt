@@ -18,12 +18,13 @@ use Rattle.nt_event.specs.declared.numbers.CpuNo.{CpuNo}
 use Rattle.nt_event.specs.declared.numbers.ThreadNo.{ThreadNo}
 use Rattle.nt_event.specs.Numbers.{cpu}
 use Rattle.nt_script.specs.declared.walk.Input.{Input}
-use Rattle.nt_script.specs.NameLists.{show_thread}
-use Rattle.nt_script.specs.Slots.{read_thread}
+use Rattle.nt_line.specs.NameLists.{show_thread}
+use Rattle.nt_line.specs.Fields.{read_thread}
 use Rattle.nt_script.specs.Sound.{IsSound}
-use Rattle.nt_script.specs.Text.{Row, show_cpu}
+use Rattle.nt_text.specs.Lines.{Row}
+use Rattle.nt_line.specs.Rows.{show_cpu}
 use Rattle.nt_script.proofs.Clean.{thread_field}
-use Rattle.nt_script.proofs.Found.{are_read}
+use Rattle.nt_line.proofs.Found.{are_read}
 use Rattle.nt_script.proofs.Soundness.{sound_fits}
 use Rattle.nt_log.specs.declared.schedules.Schedule.{Schedule}
 use Rattle.nt_log.specs.Schedules.{IsPlain, IsTextOf, TurnIsPlain, done_row, limit_row, rise_field, rises_row, schedule_rows, turn_row}

@@ -10,9 +10,10 @@ use Rattle.nt_event.specs.declared.scripts.Script.{Script}
 use Rattle.nt_event.specs.Script.{has_thread}
 use Rattle.nt_event.specs.Step.{turn_of}
 use Rattle.nt_script.specs.declared.walk.Input.{Input}
-use Rattle.nt_script.specs.NameLists.{NameLists, show_thread}
+use Rattle.nt_line.specs.NameLists.{NameLists, show_thread}
 use Rattle.nt_script.specs.Sound.{IsSound}
-use Rattle.nt_script.specs.Text.{Row, show_cpu}
+use Rattle.nt_text.specs.Lines.{Row}
+use Rattle.nt_line.specs.Rows.{show_cpu}
 use Rattle.nt_log.specs.declared.schedules.Schedule.{Schedule}
 
 -- the schedule of a history: its limit and the turn of each event

@@ -31,21 +31,23 @@ use Rattle.nt_event.specs.declared.scripts.Script.{Script}
 use Rattle.nt_event.specs.Numbered.{refusal_name, refusal_number}
 use Rattle.nt_event.specs.Script.{command_fits, has_apc, has_cpu, has_dpc, has_thread, has_timer, where_given}
 use Rattle.nt_script.specs.declared.walk.Input.{Input}
-use Rattle.nt_script.specs.declared.words.Verb.{Verb}
-use Rattle.nt_script.specs.declared.words.Word.TheVariants as word
-use Rattle.nt_script.specs.Commands.{command_of}
-use Rattle.nt_script.specs.Fits.{CommandFits}
-use Rattle.nt_script.specs.NameLists.{NameLists, show_apc, show_dpc, show_thread, show_timer}
-use Rattle.nt_script.specs.Slots.{dash, read_apc, read_dpc, read_thread, read_timer}
-use Rattle.nt_script.specs.Sound.{HasRange, IsSound}
-use Rattle.nt_script.specs.Text.{Row, command_args, command_row, command_verb}
-use Rattle.nt_script.specs.Words.{text_of, verb_arity, word_of}
+use Rattle.nt_line.specs.declared.keywords.Verb.{Verb}
+use Rattle.nt_line.specs.declared.keywords.Word.TheVariants as word
+use Rattle.nt_line.specs.Commands.{command_of}
+use Rattle.nt_line.specs.Fits.{CommandFits}
+use Rattle.nt_line.specs.NameLists.{NameLists, show_apc, show_dpc, show_thread, show_timer}
+use Rattle.nt_line.specs.Fields.{dash, read_apc, read_dpc, read_thread, read_timer}
+use Rattle.nt_line.specs.Fits.{HasRange}
+use Rattle.nt_script.specs.Sound.{IsSound}
+use Rattle.nt_text.specs.Lines.{Row}
+use Rattle.nt_line.specs.Rows.{command_args, command_row, command_verb}
+use Rattle.nt_line.specs.Keywords.{text_of, verb_arity, word_of}
 use Rattle.nt_script.proofs.Again.{word_again}
 use Rattle.nt_script.proofs.Clean.{apc_field, command_clean, dpc_field, thread_field, timer_field}
 use Rattle.nt_script.proofs.Fit.{Fit}
-use Rattle.nt_script.proofs.Found.{are_read, is_new}
+use Rattle.nt_line.proofs.Found.{are_read, is_new}
 use Rattle.nt_script.proofs.Soundness.{Counts, command_from, sound_fits}
-use Rattle.nt_script.proofs.Spelled.{AreRead, args_count, command_again}
+use Rattle.nt_line.proofs.Spelled.{AreRead, args_count, command_again}
 use Rattle.nt_log.proofs.OneRow.{decimal_one, hexadecimal_field, hexadecimal_one, parts_one, read_one, row_from, row_to}
 use Rattle.nt_print.specs.Conditions.{BegunInRange, EventIsPlain, IsWord, ReplyInRange, StatusInRange, WhatInRange}
 use Rattle.nt_print.specs.Fitting.{begun_fits, event_fits, key_fits, what_fits}

@@ -24,9 +24,9 @@ use Rattle.nt_event.specs.declared.scripts.Script.{Script}
 use Rattle.nt_event.specs.Fate.{ApcThing, DpcThing, Inserted, Thing, fate_of, inserted_by, inserted_thing, inserts, still_waits, waiting_inserts}
 use Rattle.nt_event.specs.Step.{turn_at, turn_of}
 use Rattle.nt_script.specs.declared.walk.Input.{Input}
-use Rattle.nt_script.specs.NameLists.{NameLists}
+use Rattle.nt_line.specs.NameLists.{NameLists}
 use Rattle.nt_script.specs.Sound.{IsSound}
-use Rattle.nt_script.specs.Text.{Row}
+use Rattle.nt_text.specs.Lines.{Row}
 use Rattle.nt_log.specs.declared.schedules.Schedule.{Schedule}
 use Rattle.nt_log.specs.Schedules.{IsPlain as OfTurns, TurnIsPlain, limit_row, schedule_of, schedule_rows}
 use Rattle.nt_log.proofs.OneRow.{all_map, map_rows, row_from, rows_from, rows_one, split_one}

@@ -6,9 +6,9 @@ use Rattle.std.proofs.lemmas.List.Elements.{filter-append}
 use Rattle.nt_text.specs.Lines.{rows_text}
 use Rattle.nt_event.specs.declared.events.Event.{Event}
 use Rattle.nt_event.specs.Fate.{Inserted, Thing, fate_of, inserted_by, inserted_thing, inserts, still_waits}
-use Rattle.nt_script.specs.NameLists.{NameLists}
-use Rattle.nt_script.specs.Text.{Row}
-use Rattle.nt_log.proofs.RowTexts.{parts_put}
+use Rattle.nt_line.specs.NameLists.{NameLists}
+use Rattle.nt_text.specs.Lines.{Row}
+use Rattle.nt_text.proofs.RowTexts.{parts_put}
 use Rattle.nt_print.specs.Report.{wait_row}
 use Rattle.nt_print.specs.Uses.{inserted_at, waits_at}
 use Rattle.nt_print.proofs.Tables.{inserted_read, past_length, past_more}

@@ -12,7 +12,8 @@ use Rattle.nt_event.specs.declared.events.What.TheVariants.{Begin, Call, Clean, 
 use Rattle.nt_event.specs.declared.scripts.Script.{Script}
 use Rattle.nt_log.specs.Schedules.{AreRises}
 use Rattle.nt_script.specs.declared.walk.Input.{Input}
-use Rattle.nt_script.specs.Sound.{HasRange, IsSound}
+use Rattle.nt_line.specs.Fits.{HasRange}
+use Rattle.nt_script.specs.Sound.{IsSound}
 use Rattle.nt_print.specs.Fitting.{event_fits}
 use Rattle.nt_print.specs.Report.{report_text}
 

@@ -20,9 +20,10 @@ use Rattle.nt_event.specs.declared.events.History.{History}
 use Rattle.nt_event.specs.declared.events.What.{What}
 use Rattle.nt_event.specs.declared.events.What.TheVariants.{Call, Look, Begin, Normal, End, Expire, Fire, Clean, Switch, Rewait, Flush, Gone, Rest}
 use Rattle.nt_script.specs.declared.walk.Input.{Input}
-use Rattle.nt_script.specs.NameLists.{NameLists, show_dpc, show_timer, show_thread, show_apc}
-use Rattle.nt_script.specs.Text.{Row, command_row}
-use Rattle.nt_script.specs.Slots.{dash}
+use Rattle.nt_line.specs.NameLists.{NameLists, show_dpc, show_timer, show_thread, show_apc}
+use Rattle.nt_text.specs.Lines.{Row}
+use Rattle.nt_line.specs.Rows.{command_row}
+use Rattle.nt_line.specs.Fields.{dash}
 use Rattle.nt_event.specs.Fate.{ApcThing, DpcThing, Inserted, Thing, waiting_inserts}
 use Rattle.nt_log.specs.Schedules.{schedule_of, schedule_rows}
 

@@ -19,78 +19,80 @@ use Rattle.nt_event.specs.declared.scripts.TimerDecl.{TimerDecl}
 use Rattle.nt_event.specs.declared.scripts.ThreadDecl.{ThreadDecl}
 use Rattle.nt_event.specs.declared.scripts.ApcDecl.{ApcDecl}
 use Rattle.nt_event.specs.Script.{isrs_differ, isr_of as isr_routine}
-use Rattle.nt_script.specs.declared.words.Verb.TheVariants as verb
-use Rattle.nt_script.specs.declared.words.Word.{Word}
-use Rattle.nt_script.specs.declared.words.Word.TheVariants as word
-use Rattle.nt_script.specs.declared.words.Place.{Place}
-use Rattle.nt_script.specs.declared.words.Place.TheVariants.{InIsrs, InDpcs, InTimers, InThreads, InApcs, InRoutine}
+use Rattle.nt_line.specs.declared.keywords.Verb.TheVariants as verb
+use Rattle.nt_line.specs.declared.keywords.Keyword.{Keyword}
+use Rattle.nt_line.specs.declared.keywords.Keyword.TheVariants as keyword
+use Rattle.nt_line.specs.declared.keywords.Place.{Place}
+use Rattle.nt_line.specs.declared.keywords.Place.TheVariants.{InIsrs, InDpcs, InTimers, InThreads, InApcs, InRoutine}
 use Rattle.nt_script.specs.declared.walk.Walk.{Walk}
-use Rattle.nt_script.specs.Places.{place}
-use Rattle.nt_script.specs.NameLists.{NameLists, meaning}
-use Rattle.nt_script.specs.Words.{word_of, text_of, arity}
-use Rattle.nt_script.specs.Results.{ok_if}
-use Rattle.nt_script.specs.Slots.{new_name, on_off_text}
-use Rattle.nt_script.specs.Declarations.{dpc_of, timer_of, thread_of, apc_of}
+use Rattle.nt_line.specs.Places.{place}
+use Rattle.nt_line.specs.NameLists.{NameLists, meaning}
+use Rattle.nt_line.specs.Keywords.{keyword_of, text_of, arity}
+use Rattle.nt_line.specs.Results.{ok_if}
+use Rattle.nt_line.specs.Fields.{new_name, on_off_text}
+use Rattle.nt_line.specs.Declarations.{dpc_of, timer_of, thread_of, apc_of}
 use Rattle.nt_script.specs.Reading.{declaration, counted, step, act, with_cpus, with_depth, with_threaded, with_isr, with_dpc, with_timer, with_thread, with_apc, with_routine, with_exit, with_command}
-use Rattle.nt_script.specs.Fits.{IsrFits, DpcFits, TimerFits, ThreadFits, ApcFits, CommandFits}
-use Rattle.nt_script.specs.Text.{Row, number_row, isr_args, isr_row, dpc_args, dpc_row, timer_args, timer_row, thread_args, thread_row, apc_args, apc_row, declared_rows, command_verb, command_args, command_row, begun_rows, exit_row, routine_rows}
-use Rattle.nt_script.specs.Sound.{AreNew}
-use Rattle.nt_script.proofs.Fields.{number_again, on_off_again}
-use Rattle.nt_script.proofs.Spelled.{AreRead, command_again, args_count, isr_again, dpc_again, timer_again, thread_again, apc_again, apc_count}
-use Rattle.nt_script.proofs.Found.{nowhere_both}
+use Rattle.nt_line.specs.Fits.{IsrFits, DpcFits, TimerFits, ThreadFits, ApcFits, CommandFits}
+use Rattle.nt_text.specs.Lines.{Row}
+use Rattle.nt_line.specs.Rows.{number_row, isr_args, isr_row, dpc_args, dpc_row, timer_args, timer_row, thread_args, thread_row, apc_args, apc_row, command_verb, command_args, command_row}
+use Rattle.nt_script.specs.Text.{declared_rows, begun_rows, exit_row, routine_rows}
+use Rattle.nt_line.specs.NameLists.{AreNew}
+use Rattle.nt_line.proofs.FieldTexts.{number_again, on_off_again}
+use Rattle.nt_line.proofs.Spelled.{AreRead, command_again, args_count, isr_again, dpc_again, timer_again, thread_again, apc_again, apc_count}
+use Rattle.nt_line.proofs.Found.{nowhere_both}
 use Rattle.nt_script.proofs.Pairs.{no_pair}
 use Rattle.nt_script.proofs.Taken.{At, at_again}
 use Rattle.nt_script.proofs.Steps.{Between}
 use Rattle.nt_script.proofs.Acts.{apc_arity}
 
--- ---- words
+-- ---- keywords
 
-pub word_again : (w : Word) → word_of (text_of w) ≡ Some w
-unfolding word_of
-word_again word.Cpus = refl
-word_again word.Depth = refl
-word_again word.Threaded = refl
-word_again word.Isr = refl
-word_again (word.Dpc false) = refl
-word_again (word.Dpc true) = refl
-word_again word.Timer = refl
-word_again word.Thread = refl
-word_again (word.Apc Special) = refl
-word_again (word.Apc Normal) = refl
-word_again (word.Apc User) = refl
-word_again word.Routine = refl
-word_again word.Exit = refl
-word_again (word.Call verb.Raise) = refl
-word_again (word.Call verb.Lower) = refl
-word_again (word.Call verb.Queue) = refl
-word_again (word.Call verb.Unqueue) = refl
-word_again (word.Call verb.SetImportance) = refl
-word_again (word.Call verb.SetTarget) = refl
-word_again (word.Call verb.SetTimer) = refl
-word_again (word.Call verb.CancelTimer) = refl
-word_again (word.Call verb.InsertApc) = refl
-word_again (word.Call verb.RemoveApc) = refl
-word_again (word.Call verb.EnterCrit) = refl
-word_again (word.Call verb.EnterGuard) = refl
-word_again (word.Call verb.LeaveCrit) = refl
-word_again (word.Call verb.LeaveGuard) = refl
-word_again (word.Call verb.StartWait) = refl
-word_again (word.Call verb.Delay) = refl
-word_again (word.Call verb.Release) = refl
-word_again (word.Call verb.Alert) = refl
-word_again (word.Call verb.TestAlert) = refl
-word_again (word.Call verb.Interrupt) = refl
-word_again (word.Call verb.Clock) = refl
-word_again (word.Call verb.ToUser) = refl
-word_again (word.Call verb.Yield) = refl
-word_again (word.Call verb.Note) = refl
+pub keyword_again : (w : Keyword) → keyword_of (text_of w) ≡ Some w
+unfolding keyword_of
+keyword_again keyword.Cpus = refl
+keyword_again keyword.Depth = refl
+keyword_again keyword.Threaded = refl
+keyword_again keyword.Isr = refl
+keyword_again (keyword.Dpc false) = refl
+keyword_again (keyword.Dpc true) = refl
+keyword_again keyword.Timer = refl
+keyword_again keyword.Thread = refl
+keyword_again (keyword.Apc Special) = refl
+keyword_again (keyword.Apc Normal) = refl
+keyword_again (keyword.Apc User) = refl
+keyword_again keyword.Routine = refl
+keyword_again keyword.Exit = refl
+keyword_again (keyword.Call verb.Raise) = refl
+keyword_again (keyword.Call verb.Lower) = refl
+keyword_again (keyword.Call verb.Queue) = refl
+keyword_again (keyword.Call verb.Unqueue) = refl
+keyword_again (keyword.Call verb.SetImportance) = refl
+keyword_again (keyword.Call verb.SetTarget) = refl
+keyword_again (keyword.Call verb.SetTimer) = refl
+keyword_again (keyword.Call verb.CancelTimer) = refl
+keyword_again (keyword.Call verb.InsertApc) = refl
+keyword_again (keyword.Call verb.RemoveApc) = refl
+keyword_again (keyword.Call verb.EnterCrit) = refl
+keyword_again (keyword.Call verb.EnterGuard) = refl
+keyword_again (keyword.Call verb.LeaveCrit) = refl
+keyword_again (keyword.Call verb.LeaveGuard) = refl
+keyword_again (keyword.Call verb.StartWait) = refl
+keyword_again (keyword.Call verb.Delay) = refl
+keyword_again (keyword.Call verb.Release) = refl
+keyword_again (keyword.Call verb.Alert) = refl
+keyword_again (keyword.Call verb.TestAlert) = refl
+keyword_again (keyword.Call verb.Interrupt) = refl
+keyword_again (keyword.Call verb.Clock) = refl
+keyword_again (keyword.Call verb.ToUser) = refl
+keyword_again (keyword.Call verb.Yield) = refl
+keyword_again (keyword.Call verb.Note) = refl
 
 counted_again : (n : ℕ) → counted n n ≡ Ok true
 counted_again n = rw (le-ltb n n (omega arith)) refl
 
--- a row of a word that may stand there, with its fields
-step_again : (all : NameLists) (w : Walk) (wd : Word) (args : Row) → At w.place wd → length args ≡ arity wd → step all w (text_of wd ∷ args) ≡ act all w wd args
-step_again all w wd args at len = rw (word_again wd, at_again w.place wd at, len, counted_again (arity wd)) refl
+-- a row of a keyword that may stand there, with its fields
+step_again : (all : NameLists) (w : Walk) (wd : Keyword) (args : Row) → At w.place wd → length args ≡ arity wd → step all w (text_of wd ∷ args) ≡ act all w wd args
+step_again all w wd args at len = rw (keyword_again wd, at_again w.place wd at, len, counted_again (arity wd)) refl
 
 new_again : (names : NameLists) (n : List ℕ) → is_name n ≡ true → meaning n names ≡ None → new_name names n ≡ Ok n
 new_again names n named none = rw (named, none) refl
@@ -156,7 +158,7 @@ abbrev pub after_isrs : Walk → List Isr → Place → Walk
 after_isrs w xs p = record w { script = record (w.script) { isrs = xs }; place = p }
 
 isr_step : (all : NameLists) (w : Walk) (x : Isr) → AreRead all → Between 1 4 w.place → w.script.cpus ≤ 8 → IsrFits all w.script.cpus x → is_none (isr_routine w.script.isrs x.cpu x.level) ≡ true → step all w (isr_row all x) ≡ Ok (with_isr w x)
-isr_step all w x are at le fit new = step_again all w word.Isr (isr_args all x) at refl ∙ rw (isr_again all w.script.cpus are le x fit, new) refl
+isr_step all w x are at le fit new = step_again all w keyword.Isr (isr_args all x) at refl ∙ rw (isr_again all w.script.cpus are le x fit, new) refl
 
 pub isrs_run : (all : NameLists) → AreRead all → (w : Walk) → w.script.cpus ≤ 8 → (xs xs' : List Isr) (p : Place) → Between 1 4 p → AllByRecursion (IsrFits all w.script.cpus) xs → isrs_differ (xs' ++ xs) ≡ true → Steps all (after_isrs w xs' p) (map (isr_row all) xs) (after_isrs w (xs' ++ xs) (place_after xs p InIsrs))
 isrs_run all are w le [] xs' p at fit apart = rw (append-nil xs') refl
@@ -176,7 +178,7 @@ after_dpcs w ns xs p = record w { script = record (w.script) { dpcs = xs }; name
 dpc_step : (all : NameLists) (w : Walk) (n : List ℕ) (x : DpcDecl) → AreRead all → Between 1 5 w.place → is_name n ≡ true → meaning n w.names ≡ None → (DpcFits all) x → length w.script.dpcs < 256 → step all w (dpc_row all n x) ≡ Ok (with_dpc w n x)
 dpc_step all w n x are at named none fit room =
     let put : List ℕ → DpcDecl → Result Walk ScriptKind = λ name x. ok_if (nat_lt (length w.script.dpcs) 256) (with_dpc w name x) (TooMany what.Dpcs) in
-    step_again all w (word.Dpc x.threaded) (n ∷ dpc_args all x) at refl ∙ declaration_again w.names (dpc_of all x.threaded) put n (dpc_args all x) x named none (dpc_again all are x fit) ∙ rw (lt-ltb (length w.script.dpcs) 256 room) refl
+    step_again all w (keyword.Dpc x.threaded) (n ∷ dpc_args all x) at refl ∙ declaration_again w.names (dpc_of all x.threaded) put n (dpc_args all x) x named none (dpc_again all are x fit) ∙ rw (lt-ltb (length w.script.dpcs) 256 room) refl
 
 pub dpcs_run : (all : NameLists) → AreRead all → (w : Walk) → w.names.timers ≡ [] → w.names.threads ≡ [] → w.names.apcs ≡ [] → w.names.routines ≡ [] → (ns : List (List ℕ)) (xs : List DpcDecl) (ns' : List (List ℕ)) (xs' : List DpcDecl) (p : Place) → Between 1 5 p → length ns ≡ length xs → AreNew ([] ++ ns') ns → AllByRecursion (DpcFits all) xs → length xs' + length xs ≤ 256
     → Steps all (after_dpcs w ns' xs' p) (declared_rows (dpc_row all) ns xs) (after_dpcs w (ns' ++ ns) (xs' ++ xs) (place_after xs p InDpcs))
@@ -193,7 +195,7 @@ after_timers w ns xs p = record w { script = record (w.script) { timers = xs }; 
 timer_step : (all : NameLists) (w : Walk) (n : List ℕ) (x : TimerDecl) → AreRead all → Between 1 6 w.place → is_name n ≡ true → meaning n w.names ≡ None → (TimerFits all) x → length w.script.timers < 64 → step all w (timer_row all n x) ≡ Ok (with_timer w n x)
 timer_step all w n x are at named none fit room =
     let put : List ℕ → TimerDecl → Result Walk ScriptKind = λ name x. ok_if (nat_lt (length w.script.timers) 64) (with_timer w name x) (TooMany what.Timers) in
-    step_again all w word.Timer (n ∷ timer_args all x) at refl ∙ declaration_again w.names (timer_of all) put n (timer_args all x) x named none (timer_again all are x fit) ∙ rw (lt-ltb (length w.script.timers) 64 room) refl
+    step_again all w keyword.Timer (n ∷ timer_args all x) at refl ∙ declaration_again w.names (timer_of all) put n (timer_args all x) x named none (timer_again all are x fit) ∙ rw (lt-ltb (length w.script.timers) 64 room) refl
 
 pub timers_run : (all : NameLists) → AreRead all → (w : Walk) → w.names.threads ≡ [] → w.names.apcs ≡ [] → w.names.routines ≡ [] → (ns : List (List ℕ)) (xs : List TimerDecl) (ns' : List (List ℕ)) (xs' : List TimerDecl) (p : Place) → Between 1 6 p → length ns ≡ length xs → AreNew (w.names.dpcs ++ ns') ns → AllByRecursion (TimerFits all) xs → length xs' + length xs ≤ 64
     → Steps all (after_timers w ns' xs' p) (declared_rows (timer_row all) ns xs) (after_timers w (ns' ++ ns) (xs' ++ xs) (place_after xs p InTimers))
@@ -211,7 +213,7 @@ after_threads w ns xs p = record w { script = record (w.script) { threads = xs }
 thread_step : (all : NameLists) (w : Walk) (n : List ℕ) (x : ThreadDecl) → AreRead all → Between 1 7 w.place → w.script.cpus ≤ 8 → is_name n ≡ true → meaning n w.names ≡ None → (ThreadFits all w.script.cpus) x → length w.script.threads < 64 → step all w (thread_row all n x) ≡ Ok (with_thread w n x)
 thread_step all w n x are at le named none fit room =
     let put : List ℕ → ThreadDecl → Result Walk ScriptKind = λ name x. ok_if (nat_lt (length w.script.threads) 64) (with_thread w name x) (TooMany what.Threads) in
-    step_again all w word.Thread (n ∷ thread_args all x) at refl ∙ declaration_again w.names (thread_of all w.script.cpus) put n (thread_args all x) x named none (thread_again all w.script.cpus are le x fit) ∙ rw (lt-ltb (length w.script.threads) 64 room) refl
+    step_again all w keyword.Thread (n ∷ thread_args all x) at refl ∙ declaration_again w.names (thread_of all w.script.cpus) put n (thread_args all x) x named none (thread_again all w.script.cpus are le x fit) ∙ rw (lt-ltb (length w.script.threads) 64 room) refl
 
 pub threads_run : (all : NameLists) → AreRead all → (w : Walk) → w.script.cpus ≤ 8 → w.names.apcs ≡ [] → w.names.routines ≡ [] → (ns : List (List ℕ)) (xs : List ThreadDecl) (ns' : List (List ℕ)) (xs' : List ThreadDecl) (p : Place) → Between 1 7 p → length ns ≡ length xs → AreNew ((w.names.dpcs ++ w.names.timers) ++ ns') ns → AllByRecursion (ThreadFits all w.script.cpus) xs → length xs' + length xs ≤ 64
     → Steps all (after_threads w ns' xs' p) (declared_rows (thread_row all) ns xs) (after_threads w (ns' ++ ns) (xs' ++ xs) (place_after xs p InThreads))
@@ -230,7 +232,7 @@ after_apcs w ns xs p = record w { script = record (w.script) { apcs = xs }; name
 apc_step : (all : NameLists) (w : Walk) (n : List ℕ) (x : ApcDecl) → AreRead all → Between 1 8 w.place → is_name n ≡ true → meaning n w.names ≡ None → (ApcFits all) x → length w.script.apcs < 256 → step all w (apc_row all n x) ≡ Ok (with_apc w n x)
 apc_step all w n x are at named none fit room =
     let put : List ℕ → ApcDecl → Result Walk ScriptKind = λ name x. ok_if (nat_lt (length w.script.apcs) 256) (with_apc w name x) (TooMany what.Apcs) in
-    step_again all w (word.Apc x.kind) (n ∷ apc_args all x) at (rw (apc_count all are x fit, apc_arity x.kind) refl) ∙ declaration_again w.names (apc_of all x.kind) put n (apc_args all x) x named none (apc_again all are x fit) ∙ rw (lt-ltb (length w.script.apcs) 256 room) refl
+    step_again all w (keyword.Apc x.kind) (n ∷ apc_args all x) at (rw (apc_count all are x fit, apc_arity x.kind) refl) ∙ declaration_again w.names (apc_of all x.kind) put n (apc_args all x) x named none (apc_again all are x fit) ∙ rw (lt-ltb (length w.script.apcs) 256 room) refl
 
 pub apcs_run : (all : NameLists) → AreRead all → (w : Walk) → w.names.routines ≡ [] → (ns : List (List ℕ)) (xs : List ApcDecl) (ns' : List (List ℕ)) (xs' : List ApcDecl) (p : Place) → Between 1 8 p → length ns ≡ length xs → AreNew (((w.names.dpcs ++ w.names.timers) ++ w.names.threads) ++ ns') ns → AllByRecursion (ApcFits all) xs → length xs' + length xs ≤ 256
     → Steps all (after_apcs w ns' xs' p) (declared_rows (apc_row all) ns xs) (after_apcs w (ns' ++ ns) (xs' ++ xs) (place_after xs p InApcs))
@@ -251,8 +253,8 @@ after_commands w cs n p = record w { body = cs; commands = n; place = p }
 
 command_step : (all : NameLists) (w : Walk) (c : Command) → AreRead all → w.place ≡ InRoutine → w.script.cpus ≤ 8 → CommandFits all w.script.cpus c → w.commands < 8192 → step all w (command_row all c) ≡ Ok (with_command w c)
 command_step all w c are inside few fit room =
-    let at : At w.place (word.Call (command_verb c)) = rw inside (omega arith, omega arith) in
-    step_again all w (word.Call (command_verb c)) (command_args all c) at (args_count all c) ∙ rw (command_again all w.script.cpus are few c fit, lt-ltb w.commands 8192 room) refl
+    let at : At w.place (keyword.Call (command_verb c)) = rw inside (omega arith, omega arith) in
+    step_again all w (keyword.Call (command_verb c)) (command_args all c) at (args_count all c) ∙ rw (command_again all w.script.cpus are few c fit, lt-ltb w.commands 8192 room) refl
 
 commands_run : (all : NameLists) → AreRead all → (cs : List Command) (w : Walk) → w.place ≡ InRoutine → w.script.cpus ≤ 8 → AllByRecursion (CommandFits all w.script.cpus) cs → w.commands + length cs ≤ 8192
     → Steps all w (map (command_row all) cs) (after_commands w (w.body ++ cs) (w.commands + length cs) w.place)
@@ -283,11 +285,11 @@ with_routines s rs = record s { routines = rs }
 abbrev pub with_names : NameLists → List (List ℕ) → NameLists
 with_names names ns = record names { routines = ns }
 
-begin_step : (all : NameLists) (w : Walk) (n : List ℕ) → Between 1 9 w.place → is_name n ≡ true → meaning n w.names ≡ None → length w.script.routines < 256 → step all w (text_of word.Routine ∷ n ∷ []) ≡ Ok (with_routine w n)
-begin_step all w n at named none room = step_again all w word.Routine (n ∷ []) at refl ∙ rw (new_again w.names n named none, lt-ltb (length w.script.routines) 256 room) refl
+begin_step : (all : NameLists) (w : Walk) (n : List ℕ) → Between 1 9 w.place → is_name n ≡ true → meaning n w.names ≡ None → length w.script.routines < 256 → step all w (text_of keyword.Routine ∷ n ∷ []) ≡ Ok (with_routine w n)
+begin_step all w n at named none room = step_again all w keyword.Routine (n ∷ []) at refl ∙ rw (new_again w.names n named none, lt-ltb (length w.script.routines) 256 room) refl
 
 exit_step : (all : NameLists) (w : Walk) → w.place ≡ InRoutine → step all w exit_row ≡ Ok (with_exit w)
-exit_step all w inside = let at : At w.place word.Exit = rw inside (omega arith, omega arith) in step_again all w word.Exit [] at refl
+exit_step all w inside = let at : At w.place keyword.Exit = rw inside (omega arith, omega arith) in step_again all w keyword.Exit [] at refl
 
 -- one routine
 abbrev routine_read : Walk → List ℕ → List Command → Walk
@@ -329,11 +331,11 @@ routines_run all are (n ∷ ns) (r ∷ rs) w len new empty few fit count room at
 
 -- ---- the head
 
-pub cpus_step : (all : NameLists) (w : Walk) (n : ℕ) → Between 0 0 w.place → 1 ≤ n → n ≤ 8 → step all w (number_row word.Cpus n) ≡ Ok (with_cpus w n)
-cpus_step all w n at low high = step_again all w word.Cpus (decimal n ∷ []) at refl ∙ rw (number_again 4294967295 n (lit< tt) (omega arith), ne_eqb n 0 (λ z. omega arith), le-ltb 8 n high) refl
+pub cpus_step : (all : NameLists) (w : Walk) (n : ℕ) → Between 0 0 w.place → 1 ≤ n → n ≤ 8 → step all w (number_row keyword.Cpus n) ≡ Ok (with_cpus w n)
+cpus_step all w n at low high = step_again all w keyword.Cpus (decimal n ∷ []) at refl ∙ rw (number_again 4294967295 n (lit< tt) (omega arith), ne_eqb n 0 (λ z. omega arith), le-ltb 8 n high) refl
 
-pub depth_step : (all : NameLists) (w : Walk) (n : ℕ) → Between 1 1 w.place → n ≤ 256 → step all w (number_row word.Depth n) ≡ Ok (with_depth w n)
-depth_step all w n at high = step_again all w word.Depth (decimal n ∷ []) at refl ∙ rw (number_again 256 n (lit< tt) high) refl
+pub depth_step : (all : NameLists) (w : Walk) (n : ℕ) → Between 1 1 w.place → n ≤ 256 → step all w (number_row keyword.Depth n) ≡ Ok (with_depth w n)
+depth_step all w n at high = step_again all w keyword.Depth (decimal n ∷ []) at refl ∙ rw (number_again 256 n (lit< tt) high) refl
 
-pub threaded_step : (all : NameLists) (w : Walk) (on : Bool) → Between 1 2 w.place → step all w (text_of word.Threaded ∷ on_off_text on ∷ []) ≡ Ok (with_threaded w on)
-threaded_step all w on at = step_again all w word.Threaded (on_off_text on ∷ []) at refl ∙ rw (on_off_again on) refl
+pub threaded_step : (all : NameLists) (w : Walk) (on : Bool) → Between 1 2 w.place → step all w (text_of keyword.Threaded ∷ on_off_text on ∷ []) ≡ Ok (with_threaded w on)
+threaded_step all w on at = step_again all w keyword.Threaded (on_off_text on ∷ []) at refl ∙ rw (on_off_again on) refl

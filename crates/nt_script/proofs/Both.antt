@@ -7,19 +7,21 @@ use Rattle.nt_text.specs.declared.kind.ScriptKind.{ScriptKind}
 use Rattle.nt_text.specs.Lines.{AllRows, line_of, fields}
 use Rattle.nt_text.proofs.Rows.{fields_again, row_again, lines_again}
 use Rattle.nt_event.specs.declared.scripts.Script.{Script}
-use Rattle.nt_script.specs.declared.words.Place.{Place}
-use Rattle.nt_script.specs.declared.words.Place.TheVariants.{Start, HasCpus, HasDepth, HasThreaded, InIsrs, InDpcs, InTimers, InThreads, InApcs, InRoutines, InRoutine}
+use Rattle.nt_line.specs.declared.keywords.Place.{Place}
+use Rattle.nt_line.specs.declared.keywords.Place.TheVariants.{Start, HasCpus, HasDepth, HasThreaded, InIsrs, InDpcs, InTimers, InThreads, InApcs, InRoutines, InRoutine}
 use Rattle.nt_script.specs.declared.walk.Walk.{Walk}
 use Rattle.nt_script.specs.declared.walk.Input.{Input}
-use Rattle.nt_script.specs.NameLists.{NameLists, no_names}
+use Rattle.nt_line.specs.NameLists.{NameLists, no_names}
 use Rattle.nt_script.specs.Reading.{finish, walk, names_after, names_from, start, reading}
-use Rattle.nt_script.specs.Text.{Row, depth_rows, threaded_rows, isr_row, dpc_row, timer_row, thread_row, apc_row, declared_rows, routine_rows, input_rows, text}
-use Rattle.nt_script.specs.Sound.{AreNew}
-use Rattle.nt_script.proofs.UsedNames.{AreFew}
+use Rattle.nt_text.specs.Lines.{Row}
+use Rattle.nt_line.specs.Rows.{depth_rows, threaded_rows, isr_row, dpc_row, timer_row, thread_row, apc_row}
+use Rattle.nt_script.specs.Text.{declared_rows, routine_rows, input_rows, text}
+use Rattle.nt_line.specs.NameLists.{AreNew}
+use Rattle.nt_line.proofs.UsedNames.{AreFew}
 use Rattle.nt_script.proofs.Fit.{Fit}
 use Rattle.nt_script.proofs.Steps.{Good, Between}
 use Rattle.nt_script.proofs.Whole.{made, step_named, good_start, few_none}
-use Rattle.nt_script.proofs.Found.{are_read}
+use Rattle.nt_line.proofs.Found.{are_read}
 use Rattle.nt_script.proofs.Clean.{input_clean}
 use Rattle.nt_script.proofs.Again.{Steps, steps_then, place_after, Ran, cpus_step, depth_step, threaded_step, after_isrs, isrs_run, after_dpcs, dpcs_run, after_timers, timers_run, after_threads, threads_run, after_apcs, apcs_run, routines_run}
 

@@ -24,12 +24,14 @@ use Rattle.nt_event.specs.declared.scripts.TimerDecl.{TimerDecl}
 use Rattle.nt_event.specs.declared.scripts.ThreadDecl.{ThreadDecl}
 use Rattle.nt_event.specs.declared.scripts.ApcDecl.{ApcDecl}
 use Rattle.nt_script.specs.declared.walk.Input.{Input}
-use Rattle.nt_script.specs.NameLists.{NameLists, show_dpc, show_routine}
-use Rattle.nt_script.specs.Slots.{dash, importance_text, mode_text, alertable_text, on_off_text}
-use Rattle.nt_script.specs.Fits.{IsrFits, DpcFits, TimerFits, ThreadFits, ApcFits, CommandFits}
-use Rattle.nt_script.specs.Text.{Row, show_cpu, show_unless, show_target, depth_rows, threaded_rows, header_rows, isr_row, dpc_row, timer_row, thread_row, normal_args, rundown_args, apc_row, declared_rows, command_row, begun_rows, exit_row, routine_rows, input_rows}
-use Rattle.nt_script.specs.Sound.{AreNew}
-use Rattle.nt_script.proofs.Found.{NamesFit, is_new}
+use Rattle.nt_line.specs.NameLists.{NameLists, show_dpc, show_routine}
+use Rattle.nt_line.specs.Fields.{dash, importance_text, mode_text, alertable_text, on_off_text}
+use Rattle.nt_line.specs.Fits.{IsrFits, DpcFits, TimerFits, ThreadFits, ApcFits, CommandFits}
+use Rattle.nt_text.specs.Lines.{Row}
+use Rattle.nt_line.specs.Rows.{show_cpu, show_unless, show_target, depth_rows, threaded_rows, isr_row, dpc_row, timer_row, thread_row, normal_args, rundown_args, apc_row, command_row}
+use Rattle.nt_script.specs.Text.{header_rows, declared_rows, begun_rows, exit_row, routine_rows, input_rows}
+use Rattle.nt_line.specs.NameLists.{AreNew}
+use Rattle.nt_line.proofs.Found.{NamesFit, is_new}
 use Rattle.nt_script.proofs.Fit.{Fit}
 
 -- ---- fields

@@ -6,8 +6,8 @@ use Rattle.nt_event.specs.declared.commands.Command.{Command}
 use Rattle.nt_event.specs.declared.commands.Command.TheVariants as cmd
 use Rattle.nt_event.specs.Script.{has_dpc, has_cpu, where_given, command_fits}
 use Rattle.nt_script.specs.declared.walk.Input.{Input}
-use Rattle.nt_script.specs.NameLists.{NameLists}
-use Rattle.nt_script.specs.Fits.{CommandFits, CommandNamed}
+use Rattle.nt_line.specs.NameLists.{NameLists}
+use Rattle.nt_line.specs.Fits.{CommandFits, CommandNamed}
 use Rattle.nt_script.specs.Sound.{IsSound}
 
 pub fits_named : (names : NameLists) (cpus : ℕ) (c : Command) → CommandFits names cpus c → CommandNamed names c

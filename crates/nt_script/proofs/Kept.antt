@@ -18,25 +18,25 @@ use Rattle.nt_event.specs.declared.scripts.TimerDecl.{TimerDecl}
 use Rattle.nt_event.specs.declared.scripts.ThreadDecl.{ThreadDecl}
 use Rattle.nt_event.specs.declared.scripts.ApcDecl.{ApcDecl}
 use Rattle.nt_event.specs.Script.{isrs_differ, command_count, isr_of as isr_routine}
-use Rattle.nt_script.specs.declared.words.Word.{Word}
-use Rattle.nt_script.specs.declared.words.Word.TheVariants as word
+use Rattle.nt_line.specs.declared.keywords.Keyword.{Keyword}
+use Rattle.nt_line.specs.declared.keywords.Keyword.TheVariants as keyword
 use Rattle.nt_script.specs.declared.walk.Walk.{Walk}
 use Rattle.nt_script.specs.declared.walk.Input.{Input}
-use Rattle.nt_script.specs.Places.{place}
-use Rattle.nt_script.specs.NameLists.{NameLists, no_names, meaning, dpc_at, timer_at, thread_at, apc_at, routine_at, or_else}
-use Rattle.nt_script.specs.Words.{arity, order}
-use Rattle.nt_script.specs.Results.{ok_if}
-use Rattle.nt_script.specs.Slots.{read_number, read_on_off, new_name}
-use Rattle.nt_script.specs.Commands.{command_of}
-use Rattle.nt_script.specs.Declarations.{isr_of, dpc_of, timer_of, thread_of, apc_of}
+use Rattle.nt_line.specs.Places.{place}
+use Rattle.nt_line.specs.NameLists.{NameLists, no_names, meaning, dpc_at, timer_at, thread_at, apc_at, routine_at, or_else}
+use Rattle.nt_line.specs.Keywords.{arity, order}
+use Rattle.nt_line.specs.Results.{ok_if}
+use Rattle.nt_line.specs.Fields.{read_number, read_on_off, new_name}
+use Rattle.nt_line.specs.Commands.{command_of}
+use Rattle.nt_line.specs.Declarations.{isr_of, dpc_of, timer_of, thread_of, apc_of}
 use Rattle.nt_script.specs.Reading.{put_cpus, with_cpus, with_depth, with_threaded, with_isr, with_dpc, with_timer, with_thread, with_apc, with_routine, with_exit, with_command, act, start, finish, walk, names_from, reading}
-use Rattle.nt_script.specs.Fits.{IsrFits, DpcFits, TimerFits, ThreadFits, ApcFits, CommandFits}
-use Rattle.nt_script.specs.Sound.{AreNew}
-use Rattle.nt_script.proofs.Results.{bind_ok, ok_if_ok}
-use Rattle.nt_script.proofs.Fields.{number_takes}
-use Rattle.nt_script.proofs.UsedNames.{AreFew, new_name_takes}
-use Rattle.nt_script.proofs.Spelled.{apc_fields, command_takes, isr_takes, dpc_line_takes, timer_line_takes, thread_line_takes, apc_line_takes}
-use Rattle.nt_script.proofs.Found.{nowhere, NamesFit}
+use Rattle.nt_line.specs.Fits.{IsrFits, DpcFits, TimerFits, ThreadFits, ApcFits, CommandFits}
+use Rattle.nt_line.specs.NameLists.{AreNew}
+use Rattle.nt_line.proofs.Results.{bind_ok, ok_if_ok}
+use Rattle.nt_line.proofs.FieldTexts.{number_takes}
+use Rattle.nt_line.proofs.UsedNames.{AreFew, new_name_takes}
+use Rattle.nt_line.proofs.Spelled.{apc_fields, command_takes, isr_takes, dpc_line_takes, timer_line_takes, thread_line_takes, apc_line_takes}
+use Rattle.nt_line.proofs.Found.{nowhere, NamesFit}
 use Rattle.nt_script.proofs.Pairs.{one_apart}
 use Rattle.nt_script.proofs.Fit.{Fit}
 use Rattle.nt_script.proofs.Taken.{At, declared_ok, args_parts, step_ok}
@@ -152,8 +152,8 @@ one_routine rs cs n e =
     let last : sum_by f (record { commands = cs } ∷ []) ≡ 0 + length cs = refl in
     omega (arith, e, last, sum_by-append f rs (record { commands = cs } ∷ []))
 
-act_kept : (all : NameLists) → AreFew all → (w : Walk) (wd : Word) (args : List (List ℕ)) (new : Walk) → At w.place wd → length args ≡ arity wd → act all w wd args ≡ Ok new → Good w → Kept all w → Kept all new
-act_kept all few w word.Cpus args new at len e good k0 =
+act_kept : (all : NameLists) → AreFew all → (w : Walk) (wd : Keyword) (args : List (List ℕ)) (new : Walk) → At w.place wd → length args ≡ arity wd → act all w wd args ≡ Ok new → Good w → Kept all w → Kept all new
+act_kept all few w keyword.Cpus args new at len e good k0 =
     let b = bind_ok (read_number 4294967295 (first args)) (put_cpus w) new e in
     let n = b.value in
     let l = good.later in
@@ -172,7 +172,7 @@ act_kept all few w word.Cpus args new at len e good k0 =
       routines = none_all (λ (r : Routine). AllByRecursion (CommandFits all n) r.commands) w.script.routines (l.routines (omega (arith, at.1))).1;
       body = none_all (CommandFits all n) w.body (l.closed (omega (arith, at.1))).0;
     })
-act_kept all few w word.Depth args new at len e good k0 =
+act_kept all few w keyword.Depth args new at len e good k0 =
     let b = bind_ok (read_number 256 (first args)) (λ n. ok (with_depth w n)) new e in
     subst (Kept all) (ok_is (with_depth w b.value) new b.then) (record {
       cpus = λ h. k0.cpus (omega (arith, at.0));
@@ -189,7 +189,7 @@ act_kept all few w word.Depth args new at len e good k0 =
       routines = k0.routines;
       body = k0.body;
     })
-act_kept all few w word.Threaded args new at len e good k0 =
+act_kept all few w keyword.Threaded args new at len e good k0 =
     let b = bind_ok (read_on_off (first args)) (λ on. ok (with_threaded w on)) new e in
     subst (Kept all) (ok_is (with_threaded w b.value) new b.then) (record {
       cpus = λ h. k0.cpus (omega (arith, at.0));
@@ -206,7 +206,7 @@ act_kept all few w word.Threaded args new at len e good k0 =
       routines = k0.routines;
       body = k0.body;
     })
-act_kept all few w word.Isr args new at len e good k0 =
+act_kept all few w keyword.Isr args new at len e good k0 =
     let b = bind_ok (isr_of all w.script.cpus args) (λ isr. ok_if (is_none (isr_routine w.script.isrs isr.cpu isr.level)) (with_isr w isr) NameTwice) new e in
     let o = ok_if_ok (is_none (isr_routine w.script.isrs b.value.cpu b.value.level)) (with_isr w b.value) NameTwice new b.then in
     let t = isr_takes all w.script.cpus few args b.value b.is len in
@@ -225,7 +225,7 @@ act_kept all few w word.Isr args new at len e good k0 =
       routines = k0.routines;
       body = k0.body;
     })
-act_kept all few w (word.Dpc b) args new at len e good k0 =
+act_kept all few w (keyword.Dpc b) args new at len e good k0 =
     let put : List ℕ → DpcDecl → Result Walk ScriptKind = λ name x. ok_if (nat_lt (length w.script.dpcs) 256) (with_dpc w name x) (TooMany what.Dpcs) in
     let d = declared_ok w.names (dpc_of all b) put args new e in
     let o = ok_if_ok (nat_lt (length w.script.dpcs) 256) (with_dpc w d.name d.thing) (TooMany what.Dpcs) new d.made in
@@ -246,7 +246,7 @@ act_kept all few w (word.Dpc b) args new at len e good k0 =
       routines = k0.routines;
       body = k0.body;
     })
-act_kept all few w word.Timer args new at len e good k0 =
+act_kept all few w keyword.Timer args new at len e good k0 =
     let put : List ℕ → TimerDecl → Result Walk ScriptKind = λ name x. ok_if (nat_lt (length w.script.timers) 64) (with_timer w name x) (TooMany what.Timers) in
     let d = declared_ok w.names (timer_of all) put args new e in
     let o = ok_if_ok (nat_lt (length w.script.timers) 64) (with_timer w d.name d.thing) (TooMany what.Timers) new d.made in
@@ -267,7 +267,7 @@ act_kept all few w word.Timer args new at len e good k0 =
       routines = k0.routines;
       body = k0.body;
     })
-act_kept all few w word.Thread args new at len e good k0 =
+act_kept all few w keyword.Thread args new at len e good k0 =
     let put : List ℕ → ThreadDecl → Result Walk ScriptKind = λ name x. ok_if (nat_lt (length w.script.threads) 64) (with_thread w name x) (TooMany what.Threads) in
     let d = declared_ok w.names (thread_of all w.script.cpus) put args new e in
     let o = ok_if_ok (nat_lt (length w.script.threads) 64) (with_thread w d.name d.thing) (TooMany what.Threads) new d.made in
@@ -288,7 +288,7 @@ act_kept all few w word.Thread args new at len e good k0 =
       routines = k0.routines;
       body = k0.body;
     })
-act_kept all few w (word.Apc k) args new at len e good k0 =
+act_kept all few w (keyword.Apc k) args new at len e good k0 =
     let put : List ℕ → ApcDecl → Result Walk ScriptKind = λ name x. ok_if (nat_lt (length w.script.apcs) 256) (with_apc w name x) (TooMany what.Apcs) in
     let d = declared_ok w.names (apc_of all k) put args new e in
     let o = ok_if_ok (nat_lt (length w.script.apcs) 256) (with_apc w d.name d.thing) (TooMany what.Apcs) new d.made in
@@ -309,7 +309,7 @@ act_kept all few w (word.Apc k) args new at len e good k0 =
       routines = k0.routines;
       body = k0.body;
     })
-act_kept all few w word.Routine args new at len e good k0 =
+act_kept all few w keyword.Routine args new at len e good k0 =
     let b = bind_ok (new_name w.names (first args)) (λ (name : List ℕ). ok_if (nat_lt (length w.script.routines) 256) (with_routine w name) (TooMany what.Routines)) new e in
     let o = ok_if_ok (nat_lt (length w.script.routines) 256) (with_routine w b.value) (TooMany what.Routines) new b.then in
     let f = (new_name_takes w.names).fits (first args) b.value b.is in
@@ -328,7 +328,7 @@ act_kept all few w word.Routine args new at len e good k0 =
       routines = k0.routines;
       body = k0.body;
     })
-act_kept all few w word.Exit args new at len e good k0 =
+act_kept all few w keyword.Exit args new at len e good k0 =
     subst (Kept all) (ok_is (with_exit w) new e) (record {
       cpus = λ h. k0.cpus (omega (arith, at.0));
       depth = k0.depth;
@@ -344,7 +344,7 @@ act_kept all few w word.Exit args new at len e good k0 =
       routines = all_more (λ (r : Routine). AllByRecursion (CommandFits all w.script.cpus) r.commands) w.script.routines (record { commands = w.body }) k0.routines k0.body;
       body = tt;
     })
-act_kept all few w (word.Call verb) args new at len e good k0 =
+act_kept all few w (keyword.Call verb) args new at len e good k0 =
     let b = bind_ok (command_of all w.script.cpus verb args) (λ c. ok_if (nat_lt w.commands 8192) (with_command w c) (TooMany what.Commands)) new e in
     let c = b.value in
     let t = command_takes all w.script.cpus few verb args c b.is len in
@@ -403,7 +403,7 @@ sane all small w n (line ∷ more) input e good few kept =
     let t = went all w n line more input e in
     let s = step_named all w t.row t.new t.steps good few in
     let l = step_ok all w t.row t.new t.steps in
-    sane all small t.new (n + 1) more input t.goes_on s.good s.few (act_kept all small w l.word (rest t.row) t.new l.at l.count l.acts good kept)
+    sane all small t.new (n + 1) more input t.goes_on s.good s.few (act_kept all small w l.keyword (rest t.row) t.new l.at l.count l.acts good kept)
 
 -- what is read fits
 pub reading_fits : (bytes : List ℕ) (input : Input) → reading bytes ≡ Ok input → Fit input

@@ -11,8 +11,10 @@ use Rattle.nt_event.specs.declared.scripts.ThreadDecl.{ThreadDecl}
 use Rattle.nt_event.specs.declared.scripts.ApcDecl.{ApcDecl}
 use Rattle.nt_event.specs.declared.scripts.Routine.{Routine}
 use Rattle.nt_script.specs.declared.walk.Input.{Input}
-use Rattle.nt_script.specs.Fits.{IsrFits, ThreadFits, ApcFits, CommandFits}
-use Rattle.nt_script.specs.Text.{Row, header_rows, isr_row, dpc_row, timer_row, thread_row, apc_row, declared_rows, routine_rows, text}
+use Rattle.nt_line.specs.Fits.{IsrFits, ThreadFits, ApcFits, CommandFits}
+use Rattle.nt_text.specs.Lines.{Row}
+use Rattle.nt_line.specs.Rows.{isr_row, dpc_row, timer_row, thread_row, apc_row}
+use Rattle.nt_script.specs.Text.{header_rows, declared_rows, routine_rows, text}
 use Rattle.nt_script.specs.Sound.{IsSound}
 use Rattle.nt_script.proofs.Soundness.{sound_fits}
 

@@ -3,13 +3,15 @@ use Rattle.std.proofs.Common.{◌≡◌, ℕ, suc, ◌≤◌, Bool, List, [], �
 use Rattle.std.proofs.lemmas.List.{map-append, append-nil}
 use Rattle.nt_event.specs.declared.scripts.Routine.{Routine}
 use Rattle.nt_event.specs.declared.commands.Command.{Command}
-use Rattle.nt_script.specs.declared.words.Word.TheVariants as word
-use Rattle.nt_script.specs.declared.words.Place.{Place}
-use Rattle.nt_script.specs.declared.words.Place.TheVariants.{Start, HasCpus, HasDepth, HasThreaded, InIsrs, InDpcs, InTimers, InThreads, InApcs, InRoutines, InRoutine}
+use Rattle.nt_line.specs.declared.keywords.Keyword.TheVariants as keyword
+use Rattle.nt_line.specs.declared.keywords.Place.{Place}
+use Rattle.nt_line.specs.declared.keywords.Place.TheVariants.{Start, HasCpus, HasDepth, HasThreaded, InIsrs, InDpcs, InTimers, InThreads, InApcs, InRoutines, InRoutine}
 use Rattle.nt_script.specs.declared.walk.Walk.{Walk}
-use Rattle.nt_script.specs.NameLists.{NameLists}
-use Rattle.nt_script.specs.Words.{text_of, order}
-use Rattle.nt_script.specs.Text.{Row, command_row, header_rows, isr_row, dpc_row, timer_row, thread_row, apc_row, declared_rows, begun_rows, exit_row, routine_rows}
+use Rattle.nt_line.specs.NameLists.{NameLists}
+use Rattle.nt_line.specs.Keywords.{text_of, order}
+use Rattle.nt_text.specs.Lines.{Row}
+use Rattle.nt_line.specs.Rows.{command_row, isr_row, dpc_row, timer_row, thread_row, apc_row}
+use Rattle.nt_script.specs.Text.{header_rows, declared_rows, begun_rows, exit_row, routine_rows}
 
 abbrev pub heads_at : Place → ℕ → Option ℕ → Option Bool → List Row
 heads_at Start cpus depth threaded = []
@@ -101,16 +103,16 @@ pub none_opened : (all : NameLists) (body : List Command) (ns : List (List ℕ))
 none_opened all body ns rs e = rw e refl
 
 -- a routine begins
-pub routine_more : (all : NameLists) (ns : List (List ℕ)) (rs : List Routine) (n : List ℕ) → length ns ≡ length rs → open_rows all [] (ns ++ n ∷ []) rs ≡ open_rows all [] ns rs ++ (text_of word.Routine ∷ n ∷ []) ∷ []
+pub routine_more : (all : NameLists) (ns : List (List ℕ)) (rs : List Routine) (n : List ℕ) → length ns ≡ length rs → open_rows all [] (ns ++ n ∷ []) rs ≡ open_rows all [] ns rs ++ (text_of keyword.Routine ∷ n ∷ []) ∷ []
 routine_more all [] [] n e = refl
 routine_more all [] (r ∷ rs) n e = absurd (omega arith)
 routine_more all (n' ∷ ns) [] n e = absurd (omega arith)
-routine_more all (n' ∷ ns) (r ∷ rs) n e = rw (routine_more all ns rs n (omega arith)) (sym (append_assoc (begun_rows all n' r.commands ++ exit_row ∷ []) (open_rows all [] ns rs) ((text_of word.Routine ∷ n ∷ []) ∷ [])))
+routine_more all (n' ∷ ns) (r ∷ rs) n e = rw (routine_more all ns rs n (omega arith)) (sym (append_assoc (begun_rows all n' r.commands ++ exit_row ∷ []) (open_rows all [] ns rs) ((text_of keyword.Routine ∷ n ∷ []) ∷ [])))
 
 -- a command more
 pub command_more : (all : NameLists) (body : List Command) (ns : List (List ℕ)) (rs : List Routine) (c : Command) → length ns ≡ suc (length rs) → open_rows all (body ++ c ∷ []) ns rs ≡ open_rows all body ns rs ++ command_row all c ∷ []
 command_more all body [] rs c e = absurd (omega arith)
-command_more all body (n ∷ ns) [] c e = ap (λ (rows : List Row). (text_of word.Routine ∷ n ∷ []) ∷ rows) (map-append (command_row all) body (c ∷ []))
+command_more all body (n ∷ ns) [] c e = ap (λ (rows : List Row). (text_of keyword.Routine ∷ n ∷ []) ∷ rows) (map-append (command_row all) body (c ∷ []))
 command_more all body (n ∷ ns) (r ∷ rs) c e = rw (command_more all body ns rs c (omega arith)) (sym (append_assoc (begun_rows all n r.commands ++ exit_row ∷ []) (open_rows all body ns rs) (command_row all c ∷ [])))
 
 -- a routine ends

@@ -10,15 +10,17 @@ use Rattle.nt_event.specs.declared.scripts.DpcDecl.{DpcDecl}
 use Rattle.nt_event.specs.declared.scripts.TimerDecl.{TimerDecl}
 use Rattle.nt_event.specs.declared.scripts.ThreadDecl.{ThreadDecl}
 use Rattle.nt_event.specs.declared.scripts.ApcDecl.{ApcDecl}
-use Rattle.nt_script.specs.declared.words.Word.TheVariants as word
-use Rattle.nt_script.specs.declared.words.Place.{Place}
-use Rattle.nt_script.specs.declared.words.Place.TheVariants.{Start, HasCpus, HasDepth, HasThreaded, InIsrs, InDpcs, InTimers, InThreads, InApcs, InRoutines, InRoutine}
+use Rattle.nt_line.specs.declared.keywords.Keyword.TheVariants as keyword
+use Rattle.nt_line.specs.declared.keywords.Place.{Place}
+use Rattle.nt_line.specs.declared.keywords.Place.TheVariants.{Start, HasCpus, HasDepth, HasThreaded, InIsrs, InDpcs, InTimers, InThreads, InApcs, InRoutines, InRoutine}
 use Rattle.nt_script.specs.declared.walk.Walk.{Walk}
-use Rattle.nt_script.specs.NameLists.{NameLists}
-use Rattle.nt_script.specs.Words.{text_of, order}
-use Rattle.nt_script.specs.Slots.{on_off_text}
+use Rattle.nt_line.specs.NameLists.{NameLists}
+use Rattle.nt_line.specs.Keywords.{text_of, order}
+use Rattle.nt_line.specs.Fields.{on_off_text}
 use Rattle.nt_script.specs.Reading.{put_cpus, with_cpus, with_depth, with_threaded, with_isr, with_dpc, with_timer, with_thread, with_apc, with_routine, with_exit, with_command}
-use Rattle.nt_script.specs.Text.{Row, command_row, number_row, depth_rows, isr_row, dpc_row, timer_row, thread_row, apc_row, exit_row}
+use Rattle.nt_text.specs.Lines.{Row}
+use Rattle.nt_line.specs.Rows.{command_row, number_row, depth_rows, isr_row, dpc_row, timer_row, thread_row, apc_row}
+use Rattle.nt_script.specs.Text.{exit_row}
 use Rattle.nt_script.proofs.SoFar.{heads_at, has_head, heads, isrs, dpcs, timers, threads, apcs, routines, so_far, grow_heads, grow_isrs, grow_dpcs, grow_timers, grow_threads, grow_apcs, grow_routines, declared_more, none_declared, none_opened, routine_more, command_more, exit_more}
 
 -- nothing stands there of the parts behind the place with this number
@@ -94,10 +96,10 @@ cpus_later w n at g = record {
 pub cpus_good : (w : Walk) (n : ℕ) → Between 0 0 w.place → Good w → Good (with_cpus w n)
 cpus_good w n at g = record { dpcs = g.dpcs; timers = g.timers; threads = g.threads; apcs = g.apcs; later = cpus_later w n at g }
 
-pub cpus_taken : (all : NameLists) (w : Walk) (n : ℕ) → Between 0 0 w.place → Good w → so_far all (with_cpus w n) ≡ so_far all w ++ number_row word.Cpus n ∷ []
+pub cpus_taken : (all : NameLists) (w : Walk) (n : ℕ) → Between 0 0 w.place → Good w → so_far all (with_cpus w n) ≡ so_far all w ++ number_row keyword.Cpus n ∷ []
 cpus_taken all w n at g =
     let none = at_start w.place w.script.cpus w.script.depth w.script.threaded at.1 in
-    grow_heads (heads w.place w) (heads HasCpus (with_cpus w n)) (isrs all w) (dpcs all w) (timers all w) (threads all w) (apcs all w) (routines all w) (number_row word.Cpus n ∷ [])
+    grow_heads (heads w.place w) (heads HasCpus (with_cpus w n)) (isrs all w) (dpcs all w) (timers all w) (threads all w) (apcs all w) (routines all w) (number_row keyword.Cpus n ∷ [])
     (rw (none, g.later.depth (omega (arith, at.1)), g.later.threaded (omega (arith, at.1))) refl)
     (no_isrs all w (g.later.isrs (omega (arith, at.1)))) (none_declared (dpc_row all) w.names.dpcs w.script.dpcs (g.later.dpcs (omega (arith, at.1))).0) (none_declared (timer_row all) w.names.timers w.script.timers (g.later.timers (omega (arith, at.1))).0) (none_declared (thread_row all) w.names.threads w.script.threads (g.later.threads (omega (arith, at.1))).0) (none_declared (apc_row all) w.names.apcs w.script.apcs (g.later.apcs (omega (arith, at.1))).0) (none_opened all w.body w.names.routines w.script.routines (g.later.routines (omega (arith, at.1))).0)
 
@@ -118,10 +120,10 @@ depth_later w n at g = record {
 pub depth_good : (w : Walk) (n : ℕ) → Between 1 1 w.place → Good w → Good (with_depth w n)
 depth_good w n at g = record { dpcs = g.dpcs; timers = g.timers; threads = g.threads; apcs = g.apcs; later = depth_later w n at g }
 
-pub depth_taken : (all : NameLists) (w : Walk) (n : ℕ) → Between 1 1 w.place → Good w → so_far all (with_depth w n) ≡ so_far all w ++ number_row word.Depth n ∷ []
+pub depth_taken : (all : NameLists) (w : Walk) (n : ℕ) → Between 1 1 w.place → Good w → so_far all (with_depth w n) ≡ so_far all w ++ number_row keyword.Depth n ∷ []
 depth_taken all w n at g =
     let there = has_head w.place w.script.cpus w.script.depth w.script.threaded at.0 in
-    grow_heads (heads w.place w) (heads HasDepth (with_depth w n)) (isrs all w) (dpcs all w) (timers all w) (threads all w) (apcs all w) (routines all w) (number_row word.Depth n ∷ [])
+    grow_heads (heads w.place w) (heads HasDepth (with_depth w n)) (isrs all w) (dpcs all w) (timers all w) (threads all w) (apcs all w) (routines all w) (number_row keyword.Depth n ∷ [])
     (rw (there, g.later.depth (omega (arith, at.1)), g.later.threaded (omega (arith, at.1))) refl)
     (no_isrs all w (g.later.isrs (omega (arith, at.1)))) (none_declared (dpc_row all) w.names.dpcs w.script.dpcs (g.later.dpcs (omega (arith, at.1))).0) (none_declared (timer_row all) w.names.timers w.script.timers (g.later.timers (omega (arith, at.1))).0) (none_declared (thread_row all) w.names.threads w.script.threads (g.later.threads (omega (arith, at.1))).0) (none_declared (apc_row all) w.names.apcs w.script.apcs (g.later.apcs (omega (arith, at.1))).0) (none_opened all w.body w.names.routines w.script.routines (g.later.routines (omega (arith, at.1))).0)
 
@@ -146,12 +148,12 @@ threaded_good w on at g = record { dpcs = g.dpcs; timers = g.timers; threads = g
 last_head : (h : Row) (rows : List Row) (r : Row) → h ∷ (rows ++ r ∷ []) ≡ (h ∷ (rows ++ [])) ++ r ∷ []
 last_head h rows r = rw (append-nil rows) refl
 
-pub threaded_taken : (all : NameLists) (w : Walk) (on : Bool) → Between 1 2 w.place → Good w → so_far all (with_threaded w on) ≡ so_far all w ++ (text_of word.Threaded ∷ on_off_text on ∷ []) ∷ []
+pub threaded_taken : (all : NameLists) (w : Walk) (on : Bool) → Between 1 2 w.place → Good w → so_far all (with_threaded w on) ≡ so_far all w ++ (text_of keyword.Threaded ∷ on_off_text on ∷ []) ∷ []
 threaded_taken all w on at g =
     let there = has_head w.place w.script.cpus w.script.depth w.script.threaded at.0 in
-    let row = text_of word.Threaded ∷ on_off_text on ∷ [] in
+    let row = text_of keyword.Threaded ∷ on_off_text on ∷ [] in
     grow_heads (heads w.place w) (heads HasThreaded (with_threaded w on)) (isrs all w) (dpcs all w) (timers all w) (threads all w) (apcs all w) (routines all w) (row ∷ [])
-    (rw (there, g.later.threaded (omega (arith, at.1))) (last_head (number_row word.Cpus w.script.cpus) (depth_rows w.script.depth) row))
+    (rw (there, g.later.threaded (omega (arith, at.1))) (last_head (number_row keyword.Cpus w.script.cpus) (depth_rows w.script.depth) row))
     (no_isrs all w (g.later.isrs (omega (arith, at.1)))) (none_declared (dpc_row all) w.names.dpcs w.script.dpcs (g.later.dpcs (omega (arith, at.1))).0) (none_declared (timer_row all) w.names.timers w.script.timers (g.later.timers (omega (arith, at.1))).0) (none_declared (thread_row all) w.names.threads w.script.threads (g.later.threads (omega (arith, at.1))).0) (none_declared (apc_row all) w.names.apcs w.script.apcs (g.later.apcs (omega (arith, at.1))).0) (none_opened all w.body w.names.routines w.script.routines (g.later.routines (omega (arith, at.1))).0)
 
 -- ---- the parts
@@ -283,10 +285,10 @@ routine_later w name at g = record {
 pub routine_good : (w : Walk) (name : List ℕ) → Between 1 9 w.place → Good w → Good (with_routine w name)
 routine_good w name at g = record { dpcs = g.dpcs; timers = g.timers; threads = g.threads; apcs = g.apcs; later = routine_later w name at g }
 
-pub routine_taken : (all : NameLists) (w : Walk) (name : List ℕ) → Between 1 9 w.place → Good w → so_far all (with_routine w name) ≡ so_far all w ++ (text_of word.Routine ∷ name ∷ []) ∷ []
+pub routine_taken : (all : NameLists) (w : Walk) (name : List ℕ) → Between 1 9 w.place → Good w → so_far all (with_routine w name) ≡ so_far all w ++ (text_of keyword.Routine ∷ name ∷ []) ∷ []
 routine_taken all w name at g =
     let l = g.later.closed (omega (arith, at.1)) in
-    grow_routines (heads w.place w) (heads InRoutine w) (isrs all w) (dpcs all w) (timers all w) (threads all w) (apcs all w) (routines all w) (routines all (with_routine w name)) ((text_of word.Routine ∷ name ∷ []) ∷ []) (sym (has_head w.place w.script.cpus w.script.depth w.script.threaded at.0))
+    grow_routines (heads w.place w) (heads InRoutine w) (isrs all w) (dpcs all w) (timers all w) (threads all w) (apcs all w) (routines all w) (routines all (with_routine w name)) ((text_of keyword.Routine ∷ name ∷ []) ∷ []) (sym (has_head w.place w.script.cpus w.script.depth w.script.threaded at.0))
     (rw l.0 (routine_more all w.names.routines w.script.routines name l.1))
 
 -- in a routine

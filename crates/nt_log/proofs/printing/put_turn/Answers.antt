@@ -1,5 +1,5 @@
 use Rattle.std.proofs.Common.{rules}
-use Rattle.nt_log.proofs.RowTexts.{line_put}
+use Rattle.nt_text.proofs.RowTexts.{line_put}
 use Rattle.nt_log.specs.Schedules.{turn_word, turn_fields}
 use Rattle.nt_log.proofs.printing.put_turn.Goals as goal
 

@@ -1,4 +1,4 @@
-use Rattle.nt_log.proofs.RowTexts.{rows_put}
+use Rattle.nt_text.proofs.RowTexts.{rows_put}
 use Rattle.nt_print.proofs.CutRows.{cuts_go_on}
 use Rattle.nt_print.proofs.cuts.put_cuts_of.Goals as goal
 

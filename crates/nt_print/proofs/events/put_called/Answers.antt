@@ -1,8 +1,8 @@
 use Rattle.std.proofs.Common.{rules}
-use Rattle.nt_script.specs.Text.{command_args, command_verb}
-use Rattle.nt_script.specs.Words.{verb_text}
+use Rattle.nt_line.specs.Rows.{command_args, command_verb}
+use Rattle.nt_line.specs.Keywords.{verb_text}
 use Rattle.nt_script.proofs.CommandNames.{sound_named}
-use Rattle.nt_log.proofs.RowTexts.{spaced_put}
+use Rattle.nt_text.proofs.RowTexts.{spaced_put}
 use Rattle.nt_print.proofs.events.put_called.Goals as goal
 
 pub put_command-requires : goal.put_command-requires

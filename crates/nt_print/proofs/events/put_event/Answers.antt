@@ -1,5 +1,5 @@
 use Rattle.std.proofs.Common.{decimal, rules}
-use Rattle.nt_log.proofs.RowTexts.{line_put}
+use Rattle.nt_text.proofs.RowTexts.{line_put}
 use Rattle.nt_print.specs.Report.{event_fields}
 use Rattle.nt_print.proofs.events.put_event.Goals as goal
 

@@ -1,5 +1,5 @@
 use Rattle.std.proofs.Common.{codes, rules}
-use Rattle.nt_log.proofs.RowTexts.{line_put}
+use Rattle.nt_text.proofs.RowTexts.{line_put}
 use Rattle.nt_print.specs.Report.{wait_fields}
 use Rattle.nt_print.specs.Uses.{inserted_of}
 use Rattle.nt_print.proofs.waits.put_wait.Goals as goal

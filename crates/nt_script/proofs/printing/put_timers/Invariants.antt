@@ -1,6 +1,7 @@
 use Rattle.std.proofs.Common.{◌≡◌, ◌++◌, drop}
 use Rattle.nt_text.specs.Lines.{rows_text}
-use Rattle.nt_script.specs.Text.{declared_rows, timer_row}
+use Rattle.nt_line.specs.Rows.{timer_row}
+use Rattle.nt_script.specs.Text.{declared_rows}
 use Rattle.nt_script.proofs.printing.put_timers.Given as goal
 
 -- what was put and what is left is all of it
