@@ -18,7 +18,7 @@ use Rattle.nt_core.specs.Replays.{replayed}
 use Rattle.nt_core.proofs.Replaying.{replays_run}
 use Rattle.nt_laws.specs.Named as named
 use Rattle.nt_laws.proofs.Named.EventsFit.{events_of_a_run_fit}
-use Rattle.nt_print.specs.Fitting.{event_fits, events_fit, what_fits}
+use Rattle.nt_event.specs.Fitting.{event_fits, events_fit, what_fits}
 
 all_reversed : {X : Type 0} (p : X → Bool) (xs : List X) → list_all p (reverse xs) ≡ list_all p xs
 all_reversed p [] = refl

@@ -13,7 +13,8 @@ use Rattle.nt_event.specs.declared.jobs.Task.TheVariants.{Alone, Shared}
 use Rattle.nt_event.specs.declared.numbers.CpuNo.{CpuNo}
 use Rattle.nt_event.specs.declared.scripts.Script.{Script}
 use Rattle.nt_event.specs.Frames.{frames_of, innermost, own_frames}
-use Rattle.nt_event.specs.Jobs.{fire_task, interrupt_classes, interrupt_task, is_due, level_at, may_apcs, may_drain, may_interrupt, may_threaded, must, must_task, rests}
+use Rattle.nt_event.specs.Jobs.{fire_task, interrupt_task, is_due, level_at, may_apcs, may_drain, may_interrupt, may_threaded, must, must_task, rests}
+use Rattle.nt_event.specs.Classes.{interrupt_classes}
 use Rattle.nt_event.specs.Own.{Own, own_of, rested}
 use Rattle.nt_event.specs.Regions.{owes_sweep}
 use Rattle.nt_event.specs.Requests.{asked, seen, served}

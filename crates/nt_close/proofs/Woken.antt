@@ -24,7 +24,7 @@ use Rattle.nt_event.specs.declared.threads.Waiting.{Waiting}
 use Rattle.nt_event.specs.Apcs.{deliverable, with_apc}
 use Rattle.nt_event.specs.Commands.{reply}
 use Rattle.nt_event.specs.Lanes.{facts_at, lanes_at}
-use Rattle.nt_event.specs.Own.{own_of, standing_in}
+use Rattle.nt_event.specs.Own.{own_of, stand_in}
 use Rattle.nt_event.specs.Regions.{stand_at}
 use Rattle.nt_event.specs.Requests.{ask, ask_if, asks, is_ask, what_asks}
 use Rattle.nt_event.specs.Routines.{cpu_of, is_kernel_kind, kind_of, owner_of}
@@ -81,7 +81,7 @@ alert_wakes m x h k = go (is_gone x) refl k
 
 insert_wakes : (pick : Pick) (x : ThreadFacts) → is_ready x ≡ false → is_ready (insert_facts pick x) ≡ true → ends_by_apc pick x ≡ true
 insert_wakes pick x h k =
-    woken_if (ends_by_apc pick x) (record x { apcs = with_apc pick x.apcs }) (if is_kernel_kind pick.kind then ended kernel_apc (record x { apcs = with_apc pick x.apcs }) else record (ended user_apc (record x { apcs = with_apc pick x.apcs })) { marked = true }) h k
+    woken_if (ends_by_apc pick x) (record x { apcs = with_apc pick x.apcs }) (if is_kernel_kind pick.kind then ended kernel_apc (record x { apcs = with_apc pick x.apcs }) else record (ended user_apc (record x { apcs = with_apc pick x.apcs })) { user_pending = true }) h k
 
 -- whether an insert ends the wait doesn't depend on its number
 any_number : (s : Script) (a : ApcNo) (n : ℕ) (x : ThreadFacts) → ends_by_apc (new_pick s a n) x ≡ ends_by_apc (new_pick s a 0) x
@@ -128,7 +128,7 @@ own_there : (s : Script) (limit : ℕ) (p : CpuNo) (t u : ThreadNo) (past : List
 own_there s limit p t u past k h =
     ap (λ (t : ThreadNo). (cpu_of s t).0) (same_number t u h) ∙ k.own
 
-known_call : (s : Script) (limit : ℕ) (e : Event) (past : List Event) (f : ℕ) (c : Command) (y : Reply) → IsLegal s limit e past → e.what ≡ Call f c y → is_answer y ≡ true → y ≡ reply s (standing_in e.cpu (own_of s e.cpu past)) (lanes_at s past) c
+known_call : (s : Script) (limit : ℕ) (e : Event) (past : List Event) (f : ℕ) (c : Command) (y : Reply) → IsLegal s limit e past → e.what ≡ Call f c y → is_answer y ≡ true → y ≡ reply s (stand_in e.cpu (own_of s e.cpu past)) (lanes_at s past) c
 known_call s limit e past f c y g k a =
     let known : KnownCall s e.cpu (own_of s e.cpu past) (lanes_at s past) f c y = subst (λ (w : What). is_next w ≡ true → Known s e.cpu (own_of s e.cpu past) (lanes_at s past) w) k (legal_known s limit e past g) refl in
     (call_accepted s e.cpu (own_of s e.cpu past) (lanes_at s past) f c y known (not_refused y a)).1

@@ -92,8 +92,8 @@ stand_in x d p a h =
     let l : p.0 < length x.queues = queue_in_script x.queues d p (a.stands d p ∙ h) in omega (arith, a.queues)
 
 -- an object stands in the queue of a processor of the script
-pub standing_in : (x : DpcLanes) (d : DpcNo) → Agrees x → IfSome (stand_of (object_in x.objects d)) (λ p. p.0 < x.script.cpus)
-standing_in x d a = go (object_in x.objects d).standing (λ p. stand_in x d p a)
+pub queued_in : (x : DpcLanes) (d : DpcNo) → Agrees x → IfSome (stand_of (object_in x.objects d)) (λ p. p.0 < x.script.cpus)
+queued_in x d a = go (object_in x.objects d).standing (λ p. stand_in x d p a)
   where
     go : (o : Option Standing) → ((p : CpuNo) → is_queue (option_map (λ at. at.queue) o) p ≡ true → p.0 < x.script.cpus) → IfSome (option_map (λ at. at.queue) o) (λ p. p.0 < x.script.cpus)
     go None h = tt

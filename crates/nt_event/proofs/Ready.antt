@@ -34,9 +34,10 @@ use Rattle.nt_event.specs.declared.scripts.Script.{Script}
 use Rattle.nt_event.specs.declared.scripts.ThreadDecl.{ThreadDecl}
 use Rattle.nt_event.specs.Commands.{needs_lane}
 use Rattle.nt_event.specs.Frames.{Frames, frames_in, frames_of, innermost, running, thread_part}
-use Rattle.nt_event.specs.Jobs.{begin_first, call_task, command_task, end_task, fire_task, frame_task, has_normal, idle_task, interrupt_classes, interrupt_task, is_after, may_apcs, may_drain, may_interrupt, may_switch, may_take, may_threaded, must, must_task, next_ready, next_what, normal_task, ready, ready_from, rests, rewait_reply, rewait_task, rundown_task, switch_event, task, task_event}
+use Rattle.nt_event.specs.Jobs.{begin_first, call_task, command_task, end_task, fire_task, frame_task, has_normal, idle_task, interrupt_task, is_after, may_apcs, may_drain, may_interrupt, may_switch, may_take, may_threaded, must, must_task, next_ready, next_what, normal_task, ready, ready_from, rests, rewait_reply, rewait_task, rundown_task, switch_event, task, task_event}
+use Rattle.nt_event.specs.Classes.{interrupt_classes}
 use Rattle.nt_event.specs.Lanes.{Lanes, facts_at, lanes_at, queue_at}
-use Rattle.nt_event.specs.Own.{Own, own_of, rested, standing_in, took}
+use Rattle.nt_event.specs.Own.{Own, own_of, rested, stand_in, took}
 use Rattle.nt_event.specs.Regions.{stand_of}
 use Rattle.nt_event.specs.Requests.{asked, asks}
 use Rattle.nt_event.specs.Robin.{first_cpu, go_on_turn, is_behind, look_value, look_values, robin, robin_at, robin_from, robin_of, switch_or_next}

@@ -7,16 +7,21 @@
 //! Contracts see each `Items` as the list of its items, so a script or a history is a plain record of numbers and lists there.
 #![tactic(auto)]
 
+mod asking;
+pub mod class;
 mod commands;
 mod events;
 mod fitting;
 mod frames;
 mod inserts;
 mod jobs;
+pub mod limits;
 mod lists;
+mod lookups;
 mod numbers;
 mod plans;
 mod scripts;
+pub mod status;
 #[cfg(test)]
 mod tests;
 mod threads;

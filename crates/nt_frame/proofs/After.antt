@@ -15,7 +15,7 @@ use Rattle.nt_event.specs.declared.numbers.DpcNo.{DpcNo}
 use Rattle.nt_event.specs.declared.numbers.RoutineNo.{RoutineNo}
 use Rattle.nt_event.specs.declared.numbers.ThreadNo.{ThreadNo}
 use Rattle.nt_event.specs.declared.scripts.Script.{Script}
-use Rattle.nt_event.specs.Frames.{Frames, at_head, at_name, called, end_on_thread, frames_after, frames_in, innermost, is_base_body, left, new_frame, normal_of, resumed, rewaited, running_after, switched_to, thread_after, thread_part, without}
+use Rattle.nt_event.specs.Frames.{Frames, at_head, at_name, called, end_on_thread, frames_after, frames_in, innermost, is_base_body, ended_base, new_frame, normal_of, resumed, rewaited, running_after, switched_to, thread_after, thread_part, without}
 use Rattle.nt_event.specs.Routines.{kind_of, rundown_of}
 use Rattle.nt_event.specs.Lists.{head_of, is_null, tail_of}
 use Rattle.nt_frame.specs.Changes.{at_innermost, begun, closed, on_innermost_part, on_part, without_innermost}
@@ -103,11 +103,11 @@ base_is_on_thread f x h q b = null_is x.own (go (is_null x.own) refl)
     go true i = refl
     go false i = absurd (base_is_not_own f.body (rw i at (innermost_frame f x h q).part) b)
 
-pub after_end_base : (s : Script) (n : ℕ) (due : Option ℕ) (e : Event) (x : Frames) (f : Frame) → IsOurs s e x → innermost x ≡ Some f → is_base_body f.body ≡ true → e.what ≡ End f.name → frames_after s n due e x ≡ at_innermost left x
+pub after_end_base : (s : Script) (n : ℕ) (due : Option ℕ) (e : Event) (x : Frames) (f : Frame) → IsOurs s e x → innermost x ≡ Some f → is_base_body f.body ≡ true → e.what ≡ End f.name → frames_after s n due e x ≡ at_innermost ended_base x
 after_end_base s n due e x f h q b k =
     let o : x.own ≡ [] = base_is_on_thread f x h.nested q b in
     let w : without f.name x.own ≡ x.own = rw o refl in
-    frames_after_is s n due e (End f.name) x h k ∙ ap (λ (os : List Frame). record { own = os; running = x.running; threads = changed (end_on_thread f.name) x.running x.threads }) w ∙ thread_change x.running (end_on_thread f.name) (at_head left) x o (end_base_head f (thread_part x) b (on_part_of f x o q)) ∙ same_running (at_head left) x
+    frames_after_is s n due e (End f.name) x h k ∙ ap (λ (os : List Frame). record { own = os; running = x.running; threads = changed (end_on_thread f.name) x.running x.threads }) w ∙ thread_change x.running (end_on_thread f.name) (at_head ended_base) x o (end_base_head f (thread_part x) b (on_part_of f x o q)) ∙ same_running (at_head ended_base) x
 
 pub after_gone : (s : Script) (n : ℕ) (due : Option ℕ) (e : Event) (x : Frames) (t : ThreadNo) → IsOurs s e x → e.what ≡ Gone t → frames_after s n due e x ≡ closed x
 after_gone s n due e x t h k =

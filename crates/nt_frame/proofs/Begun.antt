@@ -15,7 +15,7 @@ use Rattle.nt_event.specs.declared.frames.Frame.{Frame}
 use Rattle.nt_event.specs.declared.numbers.ThreadNo.{ThreadNo}
 use Rattle.nt_event.specs.Frames.{Frames, base_of, frames_in, is_apc_body, is_base_body, is_normal_apc_body, is_on_thread, level_in, new_frame, thread_part}
 use Rattle.nt_event.specs.Regions.{busy_of}
-use Rattle.nt_event.specs.Script.{is_isr_level}
+use Rattle.nt_event.specs.Classes.{is_isr_level}
 use Rattle.nt_event.specs.Lists.{head_of, is_null}
 use Rattle.nt_frame.specs.Changes.{begun, is_own, on_part, on_running, on_thread}
 use Rattle.nt_frame.specs.Nesting.{AreNamedBelow, AreNested, IsFrame, IsOver, IsPart, IsThreadPart, has_isr_level, is_special_body, next_name, rank}

@@ -6,7 +6,7 @@ use Rattle.nt_event.specs.declared.frames.Again.{Again}
 use Rattle.nt_event.specs.declared.frames.Body.{Body}
 use Rattle.nt_event.specs.declared.frames.Body.TheVariants.{Apc, Base, Dpc, Int, Rundown, Threaded}
 use Rattle.nt_event.specs.declared.frames.Frame.{Frame}
-use Rattle.nt_event.specs.Frames.{Frames, base_level, base_of, innermost, is_base_body, left, normal_of, thread_part}
+use Rattle.nt_event.specs.Frames.{Frames, base_level, base_of, innermost, is_base_body, ended_base, normal_of, thread_part}
 use Rattle.nt_event.specs.Jobs.{has_normal}
 use Rattle.nt_event.specs.Regions.{crit_of, guard_of}
 use Rattle.nt_event.specs.Lists.{is_null}
@@ -89,9 +89,9 @@ left_base (Threaded d) k h = cc
 left_base (Apc a kind) k h = cc
 left_base (Rundown a) k h = cc
 
-pub left_nested : (f : Frame) (x : Frames) → AreNested x → innermost x ≡ Some f → is_at_base x ≡ true → AreNested (at_innermost (λ _. left f) x)
+pub left_nested : (f : Frame) (x : Frames) → AreNested x → innermost x ≡ Some f → is_at_base x ≡ true → AreNested (at_innermost (λ _. ended_base f) x)
 left_nested f x h k m =
     let p : IsFrame (not (is_null x.own)) f = innermost_frame f x h k in
     let t : IsThreadPart (thread_part x) = thread_part_nested x h in
     let b : is_base_body f.body ≡ true = innermost_test (λ y. is_base_body y.body) f x k m in
-    at_innermost_nested f (left f) x h k (record { name = refl; body = refl; level = left_base f.body f.kernel_phase b; special = p.special; phase = p.phase; leaving = λ _. b; crit = omega (arith, t.crit); guard = omega (arith, t.guard) })
+    at_innermost_nested f (ended_base f) x h k (record { name = refl; body = refl; level = left_base f.body f.kernel_phase b; special = p.special; phase = p.phase; leaving = λ _. b; crit = omega (arith, t.crit); guard = omega (arith, t.guard) })

@@ -5,7 +5,7 @@ use Rattle.std.proofs.lemmas.List.{set-get_or}
 use Rattle.std.specs.Option.{option_map_or, option_or}
 use Rattle.nt_event.specs.declared.frames.Frame.{Frame}
 use Rattle.nt_event.specs.declared.numbers.ThreadNo.{ThreadNo}
-use Rattle.nt_event.specs.Frames.{Frames, at_head, at_name, end_on_thread, frames_in, innermost, is_base_body, left, thread_part, without}
+use Rattle.nt_event.specs.Frames.{Frames, at_head, at_name, end_on_thread, frames_in, innermost, is_base_body, ended_base, thread_part, without}
 use Rattle.nt_event.specs.Lists.{head_of, is_null, tail_of}
 use Rattle.nt_frame.specs.Changes.{on_innermost_part, on_running}
 use Rattle.nt_frame.specs.Nesting.{AreNested, next_name}
@@ -38,7 +38,7 @@ end_head f [] b h = refl
 end_head f (y ∷ ys) b h =
     let e : y ≡ f = cc in rw (e, same_name f.name, b)
 
-pub end_base_head : (f : Frame) (fs : List Frame) → is_base_body f.body ≡ true → head_of fs ≡ Some f → end_on_thread f.name fs ≡ at_head left fs
+pub end_base_head : (f : Frame) (fs : List Frame) → is_base_body f.body ≡ true → head_of fs ≡ Some f → end_on_thread f.name fs ≡ at_head ended_base fs
 end_base_head f [] b h = refl
 end_base_head f (y ∷ ys) b h =
     let e : y ≡ f = cc in rw (e, same_name f.name, b)

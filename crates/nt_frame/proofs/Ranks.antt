@@ -6,7 +6,7 @@ use Rattle.nt_event.specs.declared.frames.Body.{Body}
 use Rattle.nt_event.specs.declared.frames.Body.TheVariants.{Apc, Base, Dpc, Int, Rundown, Threaded}
 use Rattle.nt_event.specs.declared.frames.Frame.{Frame}
 use Rattle.nt_event.specs.Frames.{base_level, is_normal_apc_body}
-use Rattle.nt_event.specs.Script.{is_isr_level}
+use Rattle.nt_event.specs.Classes.{is_isr_level}
 use Rattle.nt_frame.specs.Changes.{is_own}
 use Rattle.nt_frame.specs.Nesting.{IsOver, IsPart, has_isr_level, is_special_body, rank}
 use Rattle.nt_frame.proofs.Booleans.{isr_level_is}

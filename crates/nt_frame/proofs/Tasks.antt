@@ -13,10 +13,10 @@ use Rattle.nt_event.specs.declared.numbers.ThreadNo.{ThreadNo}
 use Rattle.nt_event.specs.Apcs.{lets_through}
 use Rattle.nt_event.specs.Commands.{refusal}
 use Rattle.nt_event.specs.Frames.{Frames, frames_in, innermost, is_base_body, is_on_thread, level_in}
-use Rattle.nt_event.specs.Jobs.{has_normal, interrupt_classes, level_at, may_apcs, may_drain, may_interrupt, may_threaded}
+use Rattle.nt_event.specs.Jobs.{has_normal, level_at, may_apcs, may_drain, may_interrupt, may_threaded}
+use Rattle.nt_event.specs.Classes.{interrupt_classes, is_isr_level}
 use Rattle.nt_event.specs.Own.{Own}
 use Rattle.nt_event.specs.Routines.{is_kernel_kind}
-use Rattle.nt_event.specs.Script.{is_isr_level}
 use Rattle.nt_event.specs.Lists.{is_null}
 use Rattle.nt_frame.specs.Rules.{is_at_base, is_leaving, may_begin, may_go_on, refusal_in, regions_in}
 use Rattle.nt_frame.proofs.After.{taken}

@@ -4,7 +4,7 @@ use Rattle.std.specs.Prelude.{IsSome, IsTrue, List, None, Option, Some, [], fals
 use Rattle.nt_event.specs.declared.commands.Command.{Command}
 use Rattle.nt_event.specs.declared.commands.Command.TheVariants.{Lower as LowerCommand, Raise as RaiseCommand}
 use Rattle.nt_event.specs.declared.commands.Refusal.{Refusal}
-use Rattle.nt_event.specs.Frames.{Frames, done_to, innermost, left, normal_of}
+use Rattle.nt_event.specs.Frames.{Frames, done_to, innermost, ended_base, normal_of}
 use Rattle.nt_event.specs.Regions.{below_in, some_came_to_0}
 use Rattle.nt_frame.specs.declared.calls.FrameAnswer.{FrameAnswer}
 use Rattle.nt_frame.specs.declared.calls.FrameAnswer.TheVariants.{Asks, Done, Refused}
@@ -49,7 +49,7 @@ left_by (Enter r) x = commanded (enter_of r) x
 left_by (Leave r) x = commanded (leave_of r) x
 left_by (SwitchTo t) x = record x { running = Some t }
 left_by SwitchAway x = record x { running = None }
-left_by EndBase x = at_innermost left x
+left_by EndBase x = at_innermost ended_base x
 left_by Gone x = closed x
 left_by (SetAgain a) x = at_innermost (λ f. record f { again = a }) x
 left_by AdvancePlace x = at_innermost (λ f. record f { place = f.place + 1 }) x

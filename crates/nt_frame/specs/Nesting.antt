@@ -7,7 +7,7 @@ use Rattle.nt_event.specs.declared.frames.Body.TheVariants.{Apc, Base, Dpc, Int,
 use Rattle.nt_event.specs.declared.frames.Frame.{Frame}
 use Rattle.nt_event.specs.Frames.{Frames, base_of, is_apc_body, is_base_body}
 use Rattle.nt_event.specs.Regions.{crit_of, guard_of}
-use Rattle.nt_event.specs.Script.{is_isr_level}
+use Rattle.nt_event.specs.Classes.{is_isr_level}
 use Rattle.nt_frame.specs.Changes.{is_own}
 
 -- how many frames there can be up to this one on its part. On the own part: a threaded DPC, a DPC, and an interrupt of each

@@ -16,7 +16,7 @@ use Rattle.nt_event.specs.Commands.{refusal}
 use Rattle.nt_event.specs.Frames.{Frames, innermost, is_base_body, is_normal_apc_body, is_on_thread, level_in, thread_part}
 use Rattle.nt_event.specs.Jobs.{has_normal}
 use Rattle.nt_event.specs.Regions.{below_in, regions_of, some_came_to_0}
-use Rattle.nt_event.specs.Script.{is_isr_level}
+use Rattle.nt_event.specs.Classes.{is_isr_level}
 use Rattle.nt_event.specs.Lists.{is_null}
 use Rattle.nt_event.specs.Numbers.{is_thread}
 

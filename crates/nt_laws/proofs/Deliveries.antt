@@ -23,7 +23,8 @@ use Rattle.nt_event.specs.declared.numbers.DpcNo.{DpcNo}
 use Rattle.nt_event.specs.declared.numbers.ThreadNo.{ThreadNo}
 use Rattle.nt_event.specs.declared.scripts.Script.{Script}
 use Rattle.nt_event.specs.Apcs.{first_user, has_kernel, is_of_apc}
-use Rattle.nt_event.specs.Eligible.{ExpiryRequest, FlushRequest, IntRequest, KernelApcRequest, Request, UserApcRequest, apc_request, eligible, is_apc_pick, is_at_base, is_at_touser, is_eligible, is_first_dpc, is_interrupt_level, request_of, same_key}
+use Rattle.nt_event.specs.Eligible.{ExpiryRequest, FlushRequest, IntRequest, KernelApcRequest, Request, UserApcRequest, apc_request, eligible, is_apc_pick, is_at_base, is_at_touser, is_eligible, is_first_dpc, request_of, same_key}
+use Rattle.nt_event.specs.Classes.{is_interrupt_level}
 use Rattle.nt_event.specs.Frames.{frames_of, innermost, is_base_body, is_on_thread, own_frames, running, thread_frames, thread_part}
 use Rattle.nt_event.specs.Jobs.{is_due, level_at, user_due}
 use Rattle.nt_event.specs.Lanes.{Lanes, facts_at, facts_of, lanes_at, queue_at}
@@ -97,9 +98,9 @@ at_touser s p x k =
     let inner : is_at_touser s p x k.frame ≡ true = rw (k.command, k.accepted) refl in
     (ap (λ (o : Option Frame). option_map_or (λ f. is_base_body f.body) o false) k.goes_on.inner ∙ base, ap (λ (o : Option Frame). option_map_or (is_at_touser s p x) o false) k.goes_on.inner ∙ inner)
 
-marked_user : (x : ThreadFacts) (a : ApcNo) (from : ℕ) → KnownPick (user_due x) a from → (x.marked ≡ true) × KnownPick (first_user x.apcs) a from
+marked_user : (x : ThreadFacts) (a : ApcNo) (from : ℕ) → KnownPick (user_due x) a from → (x.user_pending ≡ true) × KnownPick (first_user x.apcs) a from
 marked_user x a from k =
-    let w = when_gives x.marked (first_user x.apcs) k.pick k.first in
+    let w = when_gives x.user_pending (first_user x.apcs) k.pick k.first in
     (w.0, record { pick = k.pick; first = w.1; apc = k.apc; number = k.number })
 
 apc_eligible : (s : Script) (p : CpuNo) (past : List Event) (a : ApcNo) (from : ℕ) → KnownBegin s p (own_of s p past) (lanes_at s past) (Apc a) from → is_eligible s p (own_of s p past) (lanes_at s past) (apc_request (kind_of s a) a) ≡ true

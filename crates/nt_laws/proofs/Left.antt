@@ -29,7 +29,7 @@ use Rattle.nt_event.specs.Frames.{Frames, due_of, frames_after, frames_in, own_a
 use Rattle.nt_event.specs.LaneStates.{LaneState, OfObject, OfQueue, OfThreads, OfTimers, content, lane_state, told_table}
 use Rattle.nt_event.specs.Lanes.{Lanes, lanes_after, command_lanes, end_lanes, facts_at, insert_lanes, lane_if, lanes_at, lanes_of, object_at, queue_at, same_lane, standing_lanes, touches, what_lanes}
 use Rattle.nt_event.specs.Objects.{ObjectState, object_after, object_of, objects_at, queue_for, start_object}
-use Rattle.nt_event.specs.Own.{Own, fire_after, is_rest, own_after_event, own_of, standing_in, took_after}
+use Rattle.nt_event.specs.Own.{Own, fire_after, is_rest, own_after_event, own_of, stand_in, took_after}
 use Rattle.nt_event.specs.Queues.{QueueState, idle_after, is_idle, is_queue, new_insert, pending, pending_after, queue_after, queue_of, start_queue, without_dpc}
 use Rattle.nt_event.specs.Regions.{some_came_to_0, stand_at, sweep_after}
 use Rattle.nt_event.specs.Requests.{ask_if, asks, dpc_asks, end_asks, is_ask, queue_asks, raised, seen_after, served_after, told, told_by, told_by_all, what_asks}
@@ -99,7 +99,7 @@ leaves_the_same s limit h k e a =
     record { asks = asked; lanes = lanes; states = states_left s h k e a.length stand a.lanes asked lanes (lanes_of s e h) a.lanes; own = own }
   where
     stand : stand_at s e.cpu h ≡ stand_at s e.cpu k
-    stand = ap (λ (x : Own). standing_in e.cpu x) a.own
+    stand = ap (λ (x : Own). stand_in e.cpu x) a.own
 
     run : (t : ThreadNo) → running e.cpu h ≡ Some t → (cpu_of s t).0 ≡ e.cpu.0
     run = own_runs s limit e.cpu h a.first.1

@@ -41,7 +41,7 @@ use Rattle.nt_event.specs.Jobs.{apcs_event, begin_apc, begin_dpc, begin_first, d
 use Rattle.nt_event.specs.LaneStates.{LaneState, OfObject, OfQueue, OfThreads, OfTimers, lane_state, threads_from}
 use Rattle.nt_event.specs.Lanes.{Lanes, begin_lanes, clean_lanes, command_lanes, expire_lanes, facts_at, facts_of, lane_if, lanes_at, lanes_of, object_at, queue_at, what_lanes}
 use Rattle.nt_event.specs.Objects.{ObjectState, is_queued}
-use Rattle.nt_event.specs.Own.{Own, own_of, standing_in}
+use Rattle.nt_event.specs.Own.{Own, own_of, stand_in}
 use Rattle.nt_event.specs.Queues.{QueueState, first_dpc}
 use Rattle.nt_event.specs.Regions.{stand_at}
 use Rattle.nt_event.specs.Routines.{cpu_of, owner_of}
@@ -123,5 +123,5 @@ step_is_local s limit h k (SwitchTurn p t) e r v m own g q =
     let there = lanes_named s h k p (switch_event t l) e n.2 q in
     let given : when (may_take s p t l) (Some (switch_event t l)) ≡ Some (switch_event t l) = rw n.1 refl in
     let goes = job_goes s l (lanes_at s k) (all_threads s h) (all_threads s k) (stand_at s p h) (own_runs s limit p h r) (SwitchJob t) refl (switch_event t l) given (contents s h k (what_lanes s (stand_at s p h) (switch_event t l) l) there) in
-    same_step s limit h k (SwitchTurn p t) e BadChoice (switch_event t l) (λ x l. when (may_switch x) (job_event s (standing_in p x) l (SwitchJob t))) own a.0 a.1 n.2 (λ past. refl) (rw n.0 goes)
+    same_step s limit h k (SwitchTurn p t) e BadChoice (switch_event t l) (λ x l. when (may_switch x) (job_event s (stand_in p x) l (SwitchJob t))) own a.0 a.1 n.2 (λ past. refl) (rw n.0 goes)
 step_is_local s limit h k (LookTurn p rises) e r v m own g q = no_bool m

@@ -14,7 +14,7 @@ use Rattle.nt_event.specs.declared.commands.Importance.{Importance}
 use Rattle.nt_event.specs.declared.commands.Importance.TheVariants.{Low, Medium, MediumHigh, High}
 use Rattle.nt_event.specs.declared.commands.Mode.{Mode}
 use Rattle.nt_event.specs.declared.commands.Mode.TheVariants.{Kernel, User}
-use Rattle.nt_event.specs.Script.{is_requested_level, is_isr_level}
+use Rattle.nt_event.specs.Classes.{is_requested_level, is_isr_level}
 use Rattle.nt_line.specs.declared.fields.TheConstants.{IMPORTANCES}
 use Rattle.nt_line.specs.Results.{◌>>=◌, ok_if}
 use Rattle.nt_line.specs.Fields.{own, read_number, read_level, read_interrupt, read_isr_level, read_cpu, read_unless, read_target, importance_text, read_importance, mode_text, read_mode, flag_text, read_flag, alertable_text, read_alertable, on_off_text, read_on_off}
@@ -87,13 +87,15 @@ pub text_same : (f : List ℕ) → bytes_eq f f ≡ true
 text_same f = (bytes_eq-Decides f f).1 refl
 
 -- a thing, or a word for none
-pub unless_takes : {A : Type 0} {read : List ℕ → Result A ScriptKind} {show : A → List ℕ} {Fits : A → Type 0} (none : List ℕ) → Takes read show Fits → Takes (read_unless none read) (show_unless none show) (λ o. IfSome o Fits)
+pub unless_takes : {A : Type 0} {read : List ℕ → Result A ScriptKind} {show : A → List ℕ} {Fits : A → Type 0} (none : List ℕ) → Takes read show Fits →
+    Takes (read_unless none read) (show_unless none show) (λ o. IfSome o Fits)
 unless_takes {A = A} {read = read} {show = show} {Fits = Fits} none t = record {
   shown = λ f o e. (go f (bytes_eq f none) refl o e).0;
   fits = λ f o e. (go f (bytes_eq f none) refl o e).1;
 }
   where
-    go : (f : List ℕ) (b : Bool) → bytes_eq f none ≡ b → (o : Option A) → cond b (Ok None) (read f >>= λ x. Ok (Some x)) ≡ Ok o → (f ≡ show_unless none show o) × IfSome o Fits
+    go : (f : List ℕ) (b : Bool) → bytes_eq f none ≡ b → (o : Option A) → cond b (Ok None) (read f >>= λ x. Ok (Some x)) ≡ Ok o →
+        (f ≡ show_unless none show o) × IfSome o Fits
     go f true is None e = (same_text f none is, tt)
     go f true is (Some x) e = absurd cc
     go f false is o e =
@@ -102,7 +104,8 @@ unless_takes {A = A} {read = read} {show = show} {Fits = Fits} none t = record {
         let P : Option A → Type 0 = λ o. (f ≡ show_unless none show o) × IfSome o Fits in
         subst P some (t.shown f b.value b.is, t.fits f b.value b.is)
 
-pub unless_again : {A : Type 0} (none : List ℕ) (read : List ℕ → Result A ScriptKind) (show : A → List ℕ) (x : A) → bytes_eq (show x) none ≡ false → read (show x) ≡ Ok x → read_unless none read (show x) ≡ Ok (Some x)
+pub unless_again : {A : Type 0} (none : List ℕ) (read : List ℕ → Result A ScriptKind) (show : A → List ℕ) (x : A) → bytes_eq (show x) none ≡ false →
+    read (show x) ≡ Ok x → read_unless none read (show x) ≡ Ok (Some x)
 unless_again none read show x other e = rw (other, e) refl
 
 pub target_takes : (cpus : ℕ) → Takes (read_target cpus) show_target (λ o. IfSome o (λ p. p.0 < cpus))
@@ -125,7 +128,8 @@ find_passes p (y ∷ ys) x e = go (p y) refl e (find_passes p ys x)
 pub importance_takes : Takes read_importance importance_text (λ i. Unit {0})
 unfolding read_importance
 importance_takes = record {
-  shown = λ f i e. same_text f (importance_text i) (find_passes (λ i. bytes_eq f (importance_text i)) IMPORTANCES i (or_error_ok UnknownWord (find (λ i. bytes_eq f (importance_text i)) IMPORTANCES) i e));
+  shown = λ f i e. same_text f (importance_text i) (find_passes (λ i. bytes_eq f (importance_text i)) IMPORTANCES i
+      (or_error_ok UnknownWord (find (λ i. bytes_eq f (importance_text i)) IMPORTANCES) i e));
   fits = λ f i e. tt;
 }
 
@@ -139,7 +143,8 @@ importance_again High = refl
 pub mode_takes : Takes read_mode mode_text (λ m. Unit {0})
 mode_takes = record { shown = λ f m e. go f (bytes_eq f (codes "kernel")) (bytes_eq f (codes "user")) refl refl m e; fits = λ f m e. tt }
   where
-    go : (f : List ℕ) (b d : Bool) → bytes_eq f (codes "kernel") ≡ b → bytes_eq f (codes "user") ≡ d → (m : Mode) → cond b (Ok Kernel) (cond d (Ok User) (Err UnknownWord)) ≡ Ok m → f ≡ mode_text m
+    go : (f : List ℕ) (b d : Bool) → bytes_eq f (codes "kernel") ≡ b → bytes_eq f (codes "user") ≡ d → (m : Mode) →
+        cond b (Ok Kernel) (cond d (Ok User) (Err UnknownWord)) ≡ Ok m → f ≡ mode_text m
     go f true d p q Kernel e = same_text f (codes "kernel") p
     go f true d p q User e = absurd cc
     go f false true p q Kernel e = absurd cc
@@ -153,7 +158,8 @@ mode_again User = refl
 pub flag_takes : (on off : List ℕ) → Takes (read_flag on off) (flag_text on off) (λ m. Unit {0})
 flag_takes on off = record { shown = λ f m e. go f (bytes_eq f on) (bytes_eq f off) refl refl m e; fits = λ f m e. tt }
   where
-    go : (f : List ℕ) (b d : Bool) → bytes_eq f on ≡ b → bytes_eq f off ≡ d → (m : Bool) → cond b (Ok true) (cond d (Ok false) (Err UnknownWord)) ≡ Ok m → f ≡ flag_text on off m
+    go : (f : List ℕ) (b d : Bool) → bytes_eq f on ≡ b → bytes_eq f off ≡ d → (m : Bool) → cond b (Ok true) (cond d (Ok false) (Err UnknownWord)) ≡ Ok m → f
+        ≡ flag_text on off m
     go f true d p q true e = same_text f on p
     go f true d p q false e = absurd cc
     go f false true p q true e = absurd cc

@@ -24,15 +24,20 @@ pub nowhere : (x : List ℕ) (xs : List (List ℕ)) (k j : ℕ) → position_fro
 nowhere x [] k j e = refl
 nowhere x (n ∷ ns) k j e = go (bytes_eq x n) e (nowhere x ns (k + 1) (j + 1))
   where
-    go : (b : Bool) → cond b (Some k) (position_from (bytes_eq x) (k + 1) ns) ≡ None → (position_from (bytes_eq x) (k + 1) ns ≡ None → position_from (bytes_eq x) (j + 1) ns ≡ None) → cond b (Some j) (position_from (bytes_eq x) (j + 1) ns) ≡ None
+    go : (b : Bool) → cond b (Some k) (position_from (bytes_eq x) (k + 1) ns) ≡ None →
+        (position_from (bytes_eq x) (k + 1) ns ≡ None → position_from (bytes_eq x) (j + 1) ns ≡ None) → cond b (Some j) (position_from (bytes_eq x) (j + 1) ns)
+        ≡ None
     go true e more = absurd cc
     go false e more = more e
 
-pub nowhere_both : (x : List ℕ) (xs ys : List (List ℕ)) (k : ℕ) → position_from (bytes_eq x) k (xs ++ ys) ≡ None → (position_from (bytes_eq x) k xs ≡ None) × (place x ys ≡ None)
+pub nowhere_both : (x : List ℕ) (xs ys : List (List ℕ)) (k : ℕ) → position_from (bytes_eq x) k (xs ++ ys) ≡ None → (position_from (bytes_eq x) k xs ≡ None) ×
+    (place x ys ≡ None)
 nowhere_both x [] ys k e = (refl, nowhere x ys k 0 e)
 nowhere_both x (n ∷ ns) ys k e = go (bytes_eq x n) e (nowhere_both x ns ys (k + 1))
   where
-    go : (b : Bool) → cond b (Some k) (position_from (bytes_eq x) (k + 1) (ns ++ ys)) ≡ None → (position_from (bytes_eq x) (k + 1) (ns ++ ys) ≡ None → (position_from (bytes_eq x) (k + 1) ns ≡ None) × (place x ys ≡ None)) → (cond b (Some k) (position_from (bytes_eq x) (k + 1) ns) ≡ None) × (place x ys ≡ None)
+    go : (b : Bool) → cond b (Some k) (position_from (bytes_eq x) (k + 1) (ns ++ ys)) ≡ None →
+        (position_from (bytes_eq x) (k + 1) (ns ++ ys) ≡ None → (position_from (bytes_eq x) (k + 1) ns ≡ None) × (place x ys ≡ None)) →
+        (cond b (Some k) (position_from (bytes_eq x) (k + 1) ns) ≡ None) × (place x ys ≡ None)
     go true e more = absurd cc
     go false e more = more e
 
@@ -80,7 +85,8 @@ new_parts before (n ∷ ns) ys h =
 
 pub new_from : (before xs ys : List (List ℕ)) → AreNew before xs → AreNew (before ++ xs) ys → AreNew before (xs ++ ys)
 new_from before [] ys h k = subst (λ (b : List (List ℕ)). AreNew b ys) (append-nil before) k
-new_from before (n ∷ ns) ys h k = (h.0, h.1, new_from (before ++ n ∷ []) ns ys h.2 (subst (λ (b : List (List ℕ)). AreNew b ys) (sym (append_assoc before (n ∷ []) ns)) k))
+new_from before (n ∷ ns) ys h k = (h.0, h.1, new_from (before ++ n ∷ []) ns ys h.2
+    (subst (λ (b : List (List ℕ)). AreNew b ys) (sym (append_assoc before (n ∷ []) ns)) k))
 
 pub names_fit : (names : NameLists) → AreNew [] (all_names names) → NamesFit names
 names_fit names h =
@@ -133,23 +139,30 @@ are_named names few fit = record {
       let n = is_new ((names.dpcs ++ names.timers) ++ names.threads) names.apcs x.0 fit.apcs lt in
       let m2 = nowhere_both f (names.dpcs ++ names.timers) names.threads 0 n.1 in
       let m1 = nowhere_both f names.dpcs names.timers 0 m2.0 in
-      rw (n.0, m1.0, m1.1, m2.1, stands_here ((names.dpcs ++ names.timers) ++ names.threads) names.apcs x.0 fit.apcs lt, number_is x.0 (omega (arith, few.apcs))) refl;
+      rw (n.0, m1.0, m1.1, m2.1, stands_here ((names.dpcs ++ names.timers) ++ names.threads) names.apcs x.0 fit.apcs lt,
+          number_is x.0 (omega (arith, few.apcs))) refl;
   routines = λ x lt.
       let f = get_or names.routines x.0 [] in
       let n = is_new (((names.dpcs ++ names.timers) ++ names.threads) ++ names.apcs) names.routines x.0 fit.routines lt in
       let m3 = nowhere_both f ((names.dpcs ++ names.timers) ++ names.threads) names.apcs 0 n.1 in
       let m2 = nowhere_both f (names.dpcs ++ names.timers) names.threads 0 m3.0 in
       let m1 = nowhere_both f names.dpcs names.timers 0 m2.0 in
-      rw (n.0, m1.0, m1.1, m2.1, m3.1, stands_here (((names.dpcs ++ names.timers) ++ names.threads) ++ names.apcs) names.routines x.0 fit.routines lt, number_is x.0 (omega (arith, few.routines))) refl;
+      rw (n.0, m1.0, m1.1, m2.1, m3.1, stands_here (((names.dpcs ++ names.timers) ++ names.threads) ++ names.apcs) names.routines x.0 fit.routines lt,
+          number_is x.0 (omega (arith, few.routines))) refl;
 }
 
-optional_dpc : (names : NameLists) → NamesFit names → AreNamed names → (o : Option DpcNo) → IfSome o (λ x. x.0 < length names.dpcs) → read_unless dash (read_dpc names) (show_unless dash (show_dpc names) o) ≡ Ok o
+optional_dpc : (names : NameLists) → NamesFit names → AreNamed names → (o : Option DpcNo) → IfSome o (λ x. x.0 < length names.dpcs) →
+    read_unless dash (read_dpc names) (show_unless dash (show_dpc names) o) ≡ Ok o
 optional_dpc names fit named None h = refl
-optional_dpc names fit named (Some x) h = unless_again dash (read_dpc names) (show_dpc names) x (name_no_dash (get_or names.dpcs x.0 []) (is_new [] names.dpcs x.0 fit.dpcs h).0) (named.dpcs x h)
+optional_dpc names fit named (Some x) h = unless_again dash (read_dpc names) (show_dpc names) x
+    (name_no_dash (get_or names.dpcs x.0 []) (is_new [] names.dpcs x.0 fit.dpcs h).0) (named.dpcs x h)
 
-optional_routine : (names : NameLists) → NamesFit names → AreNamed names → (o : Option RoutineNo) → IfSome o (λ x. x.0 < length names.routines) → read_unless dash (read_routine names) (show_unless dash (show_routine names) o) ≡ Ok o
+optional_routine : (names : NameLists) → NamesFit names → AreNamed names → (o : Option RoutineNo) → IfSome o (λ x. x.0 < length names.routines) →
+    read_unless dash (read_routine names) (show_unless dash (show_routine names) o) ≡ Ok o
 optional_routine names fit named None h = refl
-optional_routine names fit named (Some x) h = unless_again dash (read_routine names) (show_routine names) x (name_no_dash (get_or names.routines x.0 []) (is_new (((names.dpcs ++ names.timers) ++ names.threads) ++ names.apcs) names.routines x.0 fit.routines h).0) (named.routines x h)
+optional_routine names fit named (Some x) h = unless_again dash (read_routine names) (show_routine names) x
+    (name_no_dash (get_or names.routines x.0 []) (is_new (((names.dpcs ++ names.timers) ++ names.threads) ++ names.apcs) names.routines x.0 fit.routines h).0)
+    (named.routines x h)
 
 pub are_read : (names : NameLists) → AreFew names → NamesFit names → AreRead names
 are_read names few fit =

@@ -13,14 +13,21 @@ use Rattle.nt_line.specs.Fields.{read_number, read_level, read_interrupt, read_c
 abbrev pub read1 : {A B : Type 0} → (List ℕ → Result A ScriptKind) → (A → B) → List (List ℕ) → Result B ScriptKind
 read1 f make args = f (first args) >>= λ x. Ok (make x)
 
-abbrev pub read2 : {A B C : Type 0} → (List ℕ → Result A ScriptKind) → (List ℕ → Result B ScriptKind) → (A → B → C) → List (List ℕ) → Result C ScriptKind
+abbrev pub read2 : {A B C : Type 0} → (List ℕ → Result A ScriptKind) → (List ℕ → Result B ScriptKind) → (A → B → C) →
+    List (List ℕ) → Result C ScriptKind
 read2 f g make args = f (first args) >>= λ x. g (first (rest args)) >>= λ y. Ok (make x y)
 
-abbrev pub read3 : {A B C D : Type 0} → (List ℕ → Result A ScriptKind) → (List ℕ → Result B ScriptKind) → (List ℕ → Result C ScriptKind) → (A → B → C → D) → List (List ℕ) → Result D ScriptKind
-read3 f g h make args = f (first args) >>= λ x. g (first (rest args)) >>= λ y. h (first (rest (rest args))) >>= λ z. Ok (make x y z)
+abbrev pub read3 : {A B C D : Type 0} → (List ℕ → Result A ScriptKind) → (List ℕ → Result B ScriptKind) →
+    (List ℕ → Result C ScriptKind) → (A → B → C → D) → List (List ℕ) → Result D ScriptKind
+read3 f g h make args =
+    f (first args) >>= λ x. g (first (rest args)) >>= λ y. h (first (rest (rest args))) >>= λ z. Ok (make x y z)
 
-abbrev pub read4 : {A B C D E : Type 0} → (List ℕ → Result A ScriptKind) → (List ℕ → Result B ScriptKind) → (List ℕ → Result C ScriptKind) → (List ℕ → Result D ScriptKind) → (A → B → C → D → E) → List (List ℕ) → Result E ScriptKind
-read4 f g h k make args = f (first args) >>= λ x. g (first (rest args)) >>= λ y. h (first (rest (rest args))) >>= λ z. k (first (rest (rest (rest args)))) >>= λ u. Ok (make x y z u)
+abbrev pub read4 : {A B C D E : Type 0} → (List ℕ → Result A ScriptKind) → (List ℕ → Result B ScriptKind) →
+    (List ℕ → Result C ScriptKind) → (List ℕ → Result D ScriptKind) → (A → B → C → D → E) → List (List ℕ) →
+    Result E ScriptKind
+read4 f g h k make args =
+    f (first args) >>= λ x. g (first (rest args)) >>= λ y. h (first (rest (rest args))) >>= λ z.
+    k (first (rest (rest (rest args)))) >>= λ u. Ok (make x y z u)
 
 -- the command of a verb and the fields behind it, by the names of the text and the count of processors
 abbrev pub command_of : NameLists → ℕ → Verb → List (List ℕ) → Result Command ScriptKind
@@ -30,7 +37,8 @@ command_of names cpus verb.Queue args = read1 (read_dpc names) cmd.Queue args
 command_of names cpus verb.Unqueue args = read1 (read_dpc names) cmd.Unqueue args
 command_of names cpus verb.SetImportance args = read2 (read_dpc names) read_importance cmd.SetImportance args
 command_of names cpus verb.SetTarget args = read2 (read_dpc names) (read_target cpus) cmd.SetTarget args
-command_of names cpus verb.SetTimer args = read3 (read_timer names) (read_number 4294967295) (read_number 4294967295) cmd.SetTimer args
+command_of names cpus verb.SetTimer args = read3 (read_timer names) (read_number 4294967295)
+    (read_number 4294967295) cmd.SetTimer args
 command_of names cpus verb.CancelTimer args = read1 (read_timer names) cmd.CancelTimer args
 command_of names cpus verb.InsertApc args = read1 (read_apc names) cmd.InsertApc args
 command_of names cpus verb.RemoveApc args = read1 (read_apc names) cmd.RemoveApc args

@@ -14,7 +14,7 @@ use Rattle.nt_event.specs.declared.commands.Importance.{Importance}
 use Rattle.nt_event.specs.declared.commands.Importance.TheVariants.{Low, Medium, MediumHigh, High}
 use Rattle.nt_event.specs.declared.commands.Mode.{Mode}
 use Rattle.nt_event.specs.declared.commands.Mode.TheVariants.{Kernel, User}
-use Rattle.nt_event.specs.Script.{is_requested_level, is_isr_level}
+use Rattle.nt_event.specs.Classes.{is_requested_level, is_isr_level}
 use Rattle.nt_line.specs.declared.names.Named.{Named}
 use Rattle.nt_line.specs.declared.names.Named.TheVariants as named
 use Rattle.nt_line.specs.declared.fields.TheConstants.{IMPORTANCES}
@@ -67,7 +67,8 @@ mode_text Kernel = codes "kernel"
 mode_text User = codes "user"
 
 abbrev pub read_mode : List ℕ → Result Mode ScriptKind
-read_mode field = if bytes_eq field (codes "kernel") then Ok Kernel else (if bytes_eq field (codes "user") then Ok User else Err UnknownWord)
+read_mode field = if bytes_eq field (codes "kernel") then Ok Kernel
+    else (if bytes_eq field (codes "user") then Ok User else Err UnknownWord)
 
 -- one of two words
 abbrev pub flag_text : List ℕ → List ℕ → Bool → List ℕ
@@ -75,7 +76,8 @@ flag_text on off true = on
 flag_text on off false = off
 
 abbrev pub read_flag : List ℕ → List ℕ → List ℕ → Result Bool ScriptKind
-read_flag on off field = if bytes_eq field on then Ok true else (if bytes_eq field off then Ok false else Err UnknownWord)
+read_flag on off field = if bytes_eq field on then Ok true
+    else (if bytes_eq field off then Ok false else Err UnknownWord)
 
 abbrev pub alertable_text : Bool → List ℕ
 alertable_text alertable = flag_text (codes "alertable") (codes "plain") alertable
@@ -138,4 +140,5 @@ read_rundown names field = read_unless dash (read_routine names) field
 
 -- a name that no line before declares
 abbrev pub new_name : NameLists → List ℕ → Result (List ℕ) ScriptKind
-new_name names field = if is_name field then (if is_some (meaning field names) then Err NameTwice else Ok field) else Err BadName
+new_name names field = if is_name field then (if is_some (meaning field names) then Err NameTwice else Ok field)
+    else Err BadName

@@ -7,11 +7,13 @@ use Rattle.nt_event.specs.declared.scripts.DpcDecl.{DpcDecl}
 use Rattle.nt_event.specs.declared.scripts.TimerDecl.{TimerDecl}
 use Rattle.nt_event.specs.declared.scripts.ThreadDecl.{ThreadDecl}
 use Rattle.nt_event.specs.declared.scripts.ApcDecl.{ApcDecl}
-use Rattle.nt_event.specs.Script.{is_requested_level, is_isr_level, apc_has_its_routines}
+use Rattle.nt_event.specs.Classes.{is_requested_level, is_isr_level}
+use Rattle.nt_event.specs.Script.{apc_has_its_routines}
 use Rattle.nt_line.specs.NameLists.{NameLists}
 
 abbrev pub IsrFits : NameLists → ℕ → Isr → Type 0
-IsrFits names cpus isr = (isr.cpu.0 < cpus) × (isr.level ≤ 15) × (is_isr_level isr.level ≡ true) × (isr.routine.0 < length names.routines)
+IsrFits names cpus isr = (isr.cpu.0 < cpus) × (isr.level ≤ 15) × (is_isr_level isr.level ≡ true) ×
+    (isr.routine.0 < length names.routines)
 
 abbrev pub DpcFits : NameLists → DpcDecl → Type 0
 DpcFits names d = d.routine.0 < length names.routines
@@ -36,7 +38,8 @@ CommandFits names cpus (cmd.Queue d) = (d.0 < length names.dpcs)
 CommandFits names cpus (cmd.Unqueue d) = (d.0 < length names.dpcs)
 CommandFits names cpus (cmd.SetImportance d importance) = (d.0 < length names.dpcs) × Unit {0}
 CommandFits names cpus (cmd.SetTarget d target) = (d.0 < length names.dpcs) × IfSome target (λ p. p.0 < cpus)
-CommandFits names cpus (cmd.SetTimer t due period) = (t.0 < length names.timers) × (due ≤ 4294967295) × (period ≤ 4294967295)
+CommandFits names cpus (cmd.SetTimer t due period) = (t.0 < length names.timers) × (due ≤ 4294967295) ×
+    (period ≤ 4294967295)
 CommandFits names cpus (cmd.CancelTimer t) = (t.0 < length names.timers)
 CommandFits names cpus (cmd.InsertApc a) = (a.0 < length names.apcs)
 CommandFits names cpus (cmd.RemoveApc a) = (a.0 < length names.apcs)

@@ -140,7 +140,8 @@ rundown_args names Normal r = []
 rundown_args names User r = show_unless dash (show_routine names) r ∷ []
 
 abbrev pub apc_args : NameLists → ApcDecl → Row
-apc_args names a = show_thread names a.thread ∷ show_routine names a.kernel ∷ (normal_args names a.normal ++ rundown_args names a.kind a.rundown)
+apc_args names a = show_thread names a.thread ∷ show_routine names a.kernel ∷
+    (normal_args names a.normal ++ rundown_args names a.kind a.rundown)
 
 abbrev pub apc_row : NameLists → List ℕ → ApcDecl → Row
 apc_row names name a = text_of (keyword.Apc a.kind) ∷ name ∷ apc_args names a

@@ -3,12 +3,12 @@ ghost use Rattle.std.specs.Prelude.{◌≡◌, ◌≤◌, find, IfOk, None};
 ghost use Rattle.std.specs.Str.{bytes_eq};
 ghost use Rattle.std.specs.Result.{result_map_both};
 ghost use Rattle.nt_line.specs.NameLists.{meaning};
-ghost use Rattle.nt_event.specs.Script.{is_requested_level, is_isr_level};
+ghost use Rattle.nt_event.specs.Classes.{is_requested_level, is_isr_level};
 ghost use Rattle.nt_line.specs.Fields.{read_number, read_level, read_interrupt, read_isr_level, read_cpu, read_target, read_importance, read_mode, read_alertable, read_on_off, read_flag, importance_text, mode_text, alertable_text, on_off_text};
 ghost use Rattle.nt_line.specs.Fields.{used, read_dpc, read_timer, read_thread, read_apc, read_routine, read_timer_dpc, read_rundown, new_name};
 
 use crate::names::{Named, Names};
-use nt_event::{ApcNo, CpuNo, DpcNo, Importance, Level, Mode, RoutineNo, ThreadNo, TimerNo};
+use nt_event::{ApcNo, CpuNo, DpcNo, Importance, Level, Mode, RoutineNo, ThreadNo, TimerNo, class};
 use nt_text::{ScriptKind, name};
 
 /// Every importance.
@@ -61,7 +61,7 @@ pub fn isr_level(field: &[u8]) -> Result<Level, ScriptKind>
     ensures { result ≡ read_isr_level field.now }
 {
     let n = number(field, 15)?;
-    if !(is_requested_level(n) || n == 13) {
+    if !(is_requested_level(n) || n == u32::from(class::CLOCK)) {
         return Err(ScriptKind::BadNumber);
     }
     Level::new(n as u8).ok_or(ScriptKind::BadNumber)

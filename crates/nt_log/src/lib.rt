@@ -16,6 +16,3 @@ pub use nt_text::{put_field, put_number};
 pub use laws::texts_are_schedules;
 pub use printing::{print_schedule, put_schedule};
 pub use schedules::{Schedule, turn_of, turns_of};
-
-#[cfg(test)]
-mod tests;

@@ -16,7 +16,7 @@ use Rattle.nt_event.specs.declared.numbers.CpuNo.{CpuNo}
 use Rattle.nt_event.specs.declared.numbers.RoutineNo.{RoutineNo}
 use Rattle.nt_event.specs.declared.numbers.ThreadNo.{ThreadNo}
 use Rattle.nt_event.specs.declared.scripts.Script.{Script}
-use Rattle.nt_event.specs.Frames.{at_name, called, due_of, end_on_thread, flushed, frames_of, innermost, is_base_body, left, new_frame, normal_of, own_after, own_frames, resumed, rewaited, running, switched_to, thread_after, thread_frames, thread_part, time, without}
+use Rattle.nt_event.specs.Frames.{at_name, called, due_of, end_on_thread, flushed, frames_of, innermost, is_base_body, ended_base, new_frame, normal_of, own_after, own_frames, resumed, rewaited, running, switched_to, thread_after, thread_frames, thread_part, time, without}
 use Rattle.nt_event.specs.Jobs.{has_normal}
 use Rattle.nt_event.specs.Lanes.{lanes_at}
 use Rattle.nt_event.specs.Own.{own_of}
@@ -62,7 +62,7 @@ pub record Follows (s : Script) (limit : ℕ) (P : List Event → Frame → Type
   pub called : (e : Event) (past : List Event) (n : ℕ) (c : Command) (y : Reply) → IsRun s limit (e ∷ past) → (x : KnownCall s e.cpu (own_of s e.cpu past) (lanes_at s past) n c y) → e.what ≡ Call n c y → x.frame.name < length past → P past x.frame → P (e ∷ past) (called (due_of e.what (time past)) c y x.frame)
   pub rewaited : (e : Event) (past : List Event) (y : Reply) (f : Frame) → e.what ≡ Rewait f.name y → f.name < length past → P past f → P (e ∷ past) (rewaited y f)
   pub normal : (e : Event) (past : List Event) (f : Frame) → e.what ≡ Normal f.name → has_normal f.body ≡ true → f.name < length past → P past f → P (e ∷ past) (normal_of f)
-  pub left : (e : Event) (past : List Event) (f : Frame) → e.what ≡ End f.name → is_base_body f.body ≡ true → f.name < length past → P past f → P (e ∷ past) (left f)
+  pub left : (e : Event) (past : List Event) (f : Frame) → e.what ≡ End f.name → is_base_body f.body ≡ true → f.name < length past → P past f → P (e ∷ past) (ended_base f)
   pub resumed : (e : Event) (past : List Event) (t : ThreadNo) (st : Option ℕ) (f : Frame) → e.what ≡ Switch t st → f.name < length past → P past f → P (e ∷ past) (resumed st f)
 
 -- ---- whose frame an event names
@@ -172,7 +172,7 @@ at_name_other n g (f ∷ fs) h = ap (λ (b : Bool). (if b then g f else f) ∷ f
 
 end_other : (n : ℕ) (fs : List Frame) → NamesNone n fs → end_on_thread n fs ≡ fs
 end_other n [] h = refl
-end_other n (f ∷ fs) h = ap (λ (b : Bool). if b then (if is_base_body f.body then (left f ∷ fs) else fs) else (f ∷ fs)) (not_equal f.name n h.0)
+end_other n (f ∷ fs) h = ap (λ (b : Bool). if b then (if is_base_body f.body then (ended_base f ∷ fs) else fs) else (f ∷ fs)) (not_equal f.name n h.0)
 
 without_other : (n : ℕ) (fs : List Frame) → NamesNone n fs → without n fs ≡ fs
 without_other n [] h = refl
@@ -236,9 +236,9 @@ module _ (s : Script) (limit : ℕ) (P : List Event → Frame → Type 0) (k : F
 
   ended_head : (e : Event) (past : List Event) (n : ℕ) (f : Frame) (fs : List Frame) → HeadIs f fs → n ≡ f.name → e.what ≡ End n → Falls (length past) fs → EachFrame (P past) fs → EachFrame (P (e ∷ past)) (end_on_thread n fs)
   ended_head e past n f fs q m w l h =
-      subst (λ (xs : List Frame). EachFrame (P (e ∷ past)) (end_on_thread n xs)) (sym q.1) (subst (λ (b : Bool). EachFrame (P (e ∷ past)) (if b then (if is_base_body f.body then (left f ∷ q.0) else q.0) else (f ∷ q.0))) (sym (eq-eqb f.name n (sym m))) (go (is_base_body f.body) refl (subst (Falls (length past)) q.1 l) (subst (EachFrame (P past)) q.1 h)))
+      subst (λ (xs : List Frame). EachFrame (P (e ∷ past)) (end_on_thread n xs)) (sym q.1) (subst (λ (b : Bool). EachFrame (P (e ∷ past)) (if b then (if is_base_body f.body then (ended_base f ∷ q.0) else q.0) else (f ∷ q.0))) (sym (eq-eqb f.name n (sym m))) (go (is_base_body f.body) refl (subst (Falls (length past)) q.1 l) (subst (EachFrame (P past)) q.1 h)))
     where
-      go : (b : Bool) → is_base_body f.body ≡ b → Falls (length past) (f ∷ q.0) → EachFrame (P past) (f ∷ q.0) → EachFrame (P (e ∷ past)) (if b then (left f ∷ q.0) else q.0)
+      go : (b : Bool) → is_base_body f.body ≡ b → Falls (length past) (f ∷ q.0) → EachFrame (P past) (f ∷ q.0) → EachFrame (P (e ∷ past)) (if b then (ended_base f ∷ q.0) else q.0)
       go true z low old =
           (k.left e past f (w ∙ ap (λ (n : ℕ). End n) m) z low.0 old.0, rest_of e past n f q.0 m (ap names w) low old)
       go false z low old = rest_of e past n f q.0 m (ap names w) low old

@@ -18,7 +18,7 @@ use Rattle.nt_event.specs.declared.numbers.CpuNo.{CpuNo}
 use Rattle.nt_event.specs.declared.numbers.RoutineNo.{RoutineNo}
 use Rattle.nt_event.specs.declared.numbers.ThreadNo.{ThreadNo}
 use Rattle.nt_event.specs.declared.scripts.Script.{Script}
-use Rattle.nt_event.specs.Frames.{at_name, called, done_to, due_of, end_on_thread, flushed, frames_of, is_base_body, left, normal_of, own_after, own_frames, resumed, rewaited, running, thread_after, thread_frames, thread_part, time, without}
+use Rattle.nt_event.specs.Frames.{at_name, called, done_to, due_of, end_on_thread, flushed, frames_of, is_base_body, ended_base, normal_of, own_after, own_frames, resumed, rewaited, running, thread_after, thread_frames, thread_part, time, without}
 use Rattle.nt_event.specs.Lanes.{lanes_at}
 use Rattle.nt_event.specs.Own.{own_of}
 use Rattle.nt_event.specs.Routines.{kind_of, rundown_of}
@@ -105,7 +105,7 @@ falls_end : (n m : ℕ) (fs : List Frame) → Falls n fs → Falls n (end_on_thr
 falls_end n m [] h = h
 falls_end n m (f ∷ fs) h = go (f.name == m) (is_base_body f.body)
   where
-    go : (b c : Bool) → Falls n (if b then (if c then (left f ∷ fs) else fs) else (f ∷ fs))
+    go : (b c : Bool) → Falls n (if b then (if c then (ended_base f ∷ fs) else fs) else (f ∷ fs))
     go true true = h
     go true false = falls_tail n f fs h
     go false c = h
@@ -196,7 +196,7 @@ pub each_end : (P : ℕ → Body → Type 0) (m : ℕ) (fs : List Frame) → Eac
 each_end P m [] h = h
 each_end P m (f ∷ fs) h = go (f.name == m) (is_base_body f.body)
   where
-    go : (b c : Bool) → EachNamed P (if b then (if c then (left f ∷ fs) else fs) else (f ∷ fs))
+    go : (b c : Bool) → EachNamed P (if b then (if c then (ended_base f ∷ fs) else fs) else (f ∷ fs))
     go true true = h
     go true false = h.1
     go false c = h

@@ -16,7 +16,7 @@ use Rattle.nt_event.specs.declared.frames.Frame.{Frame}
 use Rattle.nt_event.specs.declared.numbers.CpuNo.{CpuNo}
 use Rattle.nt_event.specs.declared.numbers.ThreadNo.{ThreadNo}
 use Rattle.nt_event.specs.declared.scripts.Script.{Script}
-use Rattle.nt_event.specs.Frames.{again_after, base_level, base_of, called, due_of, is_apc_body, is_base_body, left, new_frame, normal_of, resumed, rewaited, thread_frames, time}
+use Rattle.nt_event.specs.Frames.{again_after, base_level, base_of, called, due_of, is_apc_body, is_base_body, ended_base, new_frame, normal_of, resumed, rewaited, thread_frames, time}
 use Rattle.nt_event.specs.Jobs.{has_normal}
 use Rattle.nt_event.specs.Lanes.{lanes_at}
 use Rattle.nt_event.specs.Own.{own_of}
@@ -117,7 +117,7 @@ normal_base f h = go f.body h
     go (OnApc a kind) h = refl
     go b h = cc
 
-left_base : (f : Frame) → is_base_body f.body ≡ true → 0 ≡ base_of (left f)
+left_base : (f : Frame) → is_base_body f.body ≡ true → 0 ≡ base_of (ended_base f)
 left_base f h = go f.body h
   where
     go : (b : Body) → is_base_body b ≡ true → 0 ≡ base_level b f.kernel_phase
@@ -281,11 +281,11 @@ told_normal f e past l k n =
     no_bool : {A : Type 0} → false ≡ true → A
     no_bool q = cc
 
-told_left : (f : Frame) (e : Event) (past : List Event) → f.name < length past → e.what ≡ End f.name → is_base_body f.body ≡ true → IsTold past f → IsTold (e ∷ past) (left f)
+told_left : (f : Frame) (e : Event) (past : List Event) → f.name < length past → e.what ≡ End f.name → is_base_body f.body ≡ true → IsTold past f → IsTold (e ∷ past) (ended_base f)
 told_left f e past l k b h =
     let p = phase_anew f.name e past l (end_anew f.name e.what k) in
     let on = phased_on e past f (ap (is_normal_of f.name) k) h.phase in
-    record { level = leveled_anew f.name 0 (base_of (left f)) e past (left_base f b) p; place = placed_anew f.name (length past) (e ∷ past) p (omega arith); phase = (on.0, on.1); wait = waited_none f.name (e ∷ past) }
+    record { level = leveled_anew f.name 0 (base_of (ended_base f)) e past (left_base f b) p; place = placed_anew f.name (length past) (e ∷ past) p (omega arith); phase = (on.0, on.1); wait = waited_none f.name (e ∷ past) }
 
 told_rewaited : (y : Reply) (f : Frame) (e : Event) (past : List Event) → e.what ≡ Rewait f.name y → IsTold past f → IsTold (e ∷ past) (rewaited y f)
 told_rewaited y f e past k h =

@@ -18,7 +18,7 @@ use Rattle.nt_event.specs.declared.numbers.ThreadNo.{ThreadNo}
 use Rattle.nt_event.specs.declared.scripts.Script.{Script}
 use Rattle.nt_event.specs.declared.threads.Doing.{Doing}
 use Rattle.nt_event.specs.declared.threads.Doing.TheVariants.{Blocked as IsBlocked, Gone as IsGone, Running as IsRunning}
-use Rattle.nt_event.specs.Frames.{called, due_of, end_on_thread, flushed, frames_of, is_base_body, left, normal_of, own_frames, rewaited, running, running_after, thread_after, thread_frames, thread_part, time}
+use Rattle.nt_event.specs.Frames.{called, due_of, end_on_thread, flushed, frames_of, is_base_body, ended_base, normal_of, own_frames, rewaited, running, running_after, thread_after, thread_frames, thread_part, time}
 use Rattle.nt_event.specs.Lanes.{lanes_at}
 use Rattle.nt_runs.specs.Laws.{HasBase}
 use Rattle.nt_event.specs.Own.{own_of}
@@ -222,7 +222,7 @@ has_end : (n m : ℕ) (b : Body) (fs : List Frame) → (is_base_body b ≡ true)
 has_end n m b [] d h = h
 has_end n m b (f ∷ fs) d h = go (f.name == m) (is_base_body f.body) refl refl d h
   where
-    go : (c i : Bool) → (f.name == m) ≡ c → is_base_body f.body ≡ i → (is_base_body b ≡ true) ⊎ ((m == n) ≡ false) → HasFrame n b (f ∷ fs) → HasFrame n b (if c then (if i then (left f ∷ fs) else fs) else (f ∷ fs))
+    go : (c i : Bool) → (f.name == m) ≡ c → is_base_body f.body ≡ i → (is_base_body b ≡ true) ⊎ ((m == n) ≡ false) → HasFrame n b (f ∷ fs) → HasFrame n b (if c then (if i then (ended_base f ∷ fs) else fs) else (f ∷ fs))
     go false i q x d h = h
     go true true q x d h = h
     go true false q x d (inr h) = h

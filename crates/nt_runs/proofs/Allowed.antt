@@ -24,10 +24,11 @@ use Rattle.nt_event.specs.declared.numbers.CpuNo.{CpuNo}
 use Rattle.nt_event.specs.declared.numbers.ThreadNo.{ThreadNo}
 use Rattle.nt_event.specs.declared.scripts.Script.{Script}
 use Rattle.nt_event.specs.declared.threads.Doing.TheVariants.{Running as IsRunning}
-use Rattle.nt_event.specs.Acting.{EndsThread, InThread, IsAllowed, IsCallable, IsDue, IsStanding, RunsThere, TakesUp}
+use Rattle.nt_event.specs.Acting.{EndsThread, InThread, IsAllowed, IsCallable, IsDue, StandHolds, RunsThere, TakesUp}
 use Rattle.nt_event.specs.Commands.{needs_lane, not_above, refuse}
 use Rattle.nt_event.specs.Frames.{frames_of, innermost, is_base_body, is_on_thread, level_in, own_frames, running, thread_frames, thread_part}
-use Rattle.nt_event.specs.Jobs.{call_task, command_task, end_task, fire_task, frame_task, has_normal, idle_task, interrupt_classes, interrupt_task, level_at, may_apcs, may_drain, may_interrupt, may_threaded, must_task, normal_task, rewait_task, rundown_task, task}
+use Rattle.nt_event.specs.Jobs.{call_task, command_task, end_task, fire_task, frame_task, has_normal, idle_task, interrupt_task, level_at, may_apcs, may_drain, may_interrupt, may_threaded, must_task, normal_task, rewait_task, rundown_task, task}
+use Rattle.nt_event.specs.Classes.{interrupt_classes}
 use Rattle.nt_event.specs.Lanes.{facts_at, lanes_at}
 use Rattle.nt_runs.specs.Laws.{level_of}
 use Rattle.nt_event.specs.Own.{Own, own_of}
@@ -52,7 +53,7 @@ use Rattle.nt_runs.proofs.Stops.{NoneAgain, none_again, null_of, refuse_none}
 use Rattle.nt_event.proofs.Tables.{get_or-table}
 use Rattle.nt_runs.proofs.UserApcs.{apcs_low}
 
-pub processors_stand : (s : Script) (limit : ℕ) (p : CpuNo) (past : List Event) → IsRun s limit past → IsStanding s (lanes_at s past) (stand_at s p past)
+pub processors_stand : (s : Script) (limit : ℕ) (p : CpuNo) (past : List Event) → IsRun s limit past → StandHolds s (lanes_at s past) (stand_at s p past)
 processors_stand s limit p past r = go (running p past) refl
   where
     go : (o : Option ThreadNo) → running p past ≡ o → IfSome o (λ t. RunsThere s (lanes_at s past) (stand_at s p past) t)

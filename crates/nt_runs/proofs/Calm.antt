@@ -22,7 +22,7 @@ use Rattle.nt_event.specs.declared.numbers.RoutineNo.{RoutineNo}
 use Rattle.nt_event.specs.declared.numbers.ThreadNo.{ThreadNo}
 use Rattle.nt_event.specs.declared.scripts.Script.{Script}
 use Rattle.nt_event.specs.Commands.{not_above, refusal, refuse}
-use Rattle.nt_event.specs.Frames.{again_after, at_name, called, due_of, end_on_thread, flushed, frames_of, innermost, is_base_body, left, normal_of, resumed, rewaited, running, switched_to, thread_after, thread_frames, thread_part, time}
+use Rattle.nt_event.specs.Frames.{again_after, at_name, called, due_of, end_on_thread, flushed, frames_of, innermost, is_base_body, ended_base, normal_of, resumed, rewaited, running, switched_to, thread_after, thread_frames, thread_part, time}
 use Rattle.nt_event.specs.Jobs.{level_at}
 use Rattle.nt_event.specs.Lanes.{Lanes, lanes_at}
 use Rattle.nt_runs.specs.Laws.{level_of}
@@ -76,7 +76,7 @@ end_calm : (n : ℕ) (fs : List Frame) → AllCalm fs → AllCalm (end_on_thread
 end_calm n [] h = h
 end_calm n (f ∷ fs) h = go (f.name == n) (is_base_body f.body)
   where
-    go : (b c : Bool) → AllCalm (if b then (if c then (left f ∷ fs) else fs) else (f ∷ fs))
+    go : (b c : Bool) → AllCalm (if b then (if c then (ended_base f ∷ fs) else fs) else (f ∷ fs))
     go true true = ((λ k. refl, λ k. omega arith), h.1)
     go true false = h.1
     go false c = h

@@ -21,7 +21,7 @@ use Rattle.nt_event.specs.declared.scripts.Script.{Script}
 use Rattle.nt_event.specs.Frames.{frames_in, frames_of, innermost, running, thread_part}
 use Rattle.nt_event.specs.Jobs.{begin_first, chosen_what, frame_task, idle_event, idle_task, may_switch, may_take, must, must_task, next_ready, next_what, ready, rests, switch_event, task, task_event}
 use Rattle.nt_event.specs.Lanes.{Lanes, lanes_at, queue_at}
-use Rattle.nt_event.specs.Own.{Own, own_of, rested, standing_in, took}
+use Rattle.nt_event.specs.Own.{Own, own_of, rested, stand_in, took}
 use Rattle.nt_event.specs.Robin.{go_on_turn, switch_or_next}
 use Rattle.nt_event.specs.Step.{IsRun, cpu_at, event_at, event_or, is_cut, step, uncut_step}
 use Rattle.nt_event.specs.Lists.{head_of, is_null, when}
@@ -74,15 +74,15 @@ chosen_is_its_turn s limit p past w r below uncut h =
     turn : Bool → Turn
     turn b = if b then switch_or_next p (next_ready s p (took p past) (lanes_at s past)) else Next p
 
-    picked : (o : Option ThreadNo) → next_ready s p (took p past) (lanes_at s past) ≡ o → may_switch (own_of s p past) ≡ true → rests (own_of s p past) ≡ false → option_or (option_map (λ t. switch_event t (lanes_at s past)) o) (idle_event s (standing_in p (own_of s p past)) (lanes_at s past)) ≡ Some w → step s limit (switch_or_next p o) past ≡ Ok (event_at s p w (frames_of s p past))
+    picked : (o : Option ThreadNo) → next_ready s p (took p past) (lanes_at s past) ≡ o → may_switch (own_of s p past) ≡ true → rests (own_of s p past) ≡ false → option_or (option_map (λ t. switch_event t (lanes_at s past)) o) (idle_event s (stand_in p (own_of s p past)) (lanes_at s past)) ≡ Some w → step s limit (switch_or_next p o) past ≡ Ok (event_at s p w (frames_of s p past))
     picked (Some t) e may awake k =
         let take : may_take s p t (lanes_at s past) ≡ true = holds_at (λ t. may_take s p t (lanes_at s past) ≡ true) (next_ready s p (took p past) (lanes_at s past)) t (next_ready_taken s p (took p past) (lanes_at s past)) e in
         gives s limit (SwitchTurn p t) past BadChoice (when (may_switch (own_of s p past)) (when (may_take s p t (lanes_at s past)) (Some (switch_event t (lanes_at s past))))) w below uncut refl (rw (may, take) k)
     picked None e may awake k =
         let idle : task s p (own_of s p past) ≡ Some (Shared IdleJob) = idle_where s p past may awake in
-        gives s limit (Next p) past NothingToDo (next_what s p (own_of s p past) (lanes_at s past)) w below uncut refl (ap (λ (o : Option Task). option_and_then (task_event s (standing_in p (own_of s p past)) (lanes_at s past)) o) idle ∙ k)
+        gives s limit (Next p) past NothingToDo (next_what s p (own_of s p past) (lanes_at s past)) w below uncut refl (ap (λ (o : Option Task). option_and_then (task_event s (stand_in p (own_of s p past)) (lanes_at s past)) o) idle ∙ k)
 
-    rest : (b m : Bool) → rests (own_of s p past) ≡ b → may_switch (own_of s p past) ≡ m → option_and_then (task_event s (standing_in p (own_of s p past)) (lanes_at s past)) (if b then None else (if m then Some (Shared (PickJob (took p past))) else task s p (own_of s p past))) ≡ Some w → step s limit (if m then switch_or_next p (next_ready s p (took p past) (lanes_at s past)) else Next p) past ≡ Ok (event_at s p w (frames_of s p past))
+    rest : (b m : Bool) → rests (own_of s p past) ≡ b → may_switch (own_of s p past) ≡ m → option_and_then (task_event s (stand_in p (own_of s p past)) (lanes_at s past)) (if b then None else (if m then Some (Shared (PickJob (took p past))) else task s p (own_of s p past))) ≡ Some w → step s limit (if m then switch_or_next p (next_ready s p (took p past) (lanes_at s past)) else Next p) past ≡ Ok (event_at s p w (frames_of s p past))
     rest true m a b k = cc
     rest false true a b k = picked (next_ready s p (took p past) (lanes_at s past)) refl b a k
     rest false false a b k =
@@ -94,13 +94,13 @@ some_of o h = rw h.1 refl
 pub chosen_comes : (s : Script) (limit : ℕ) (p : CpuNo) (past : List Event) → IsRun s limit past → is_some (chosen_what s p (own_of s p past) (lanes_at s past)) ≡ not (rests (own_of s p past))
 chosen_comes s limit p past r = go (rests (own_of s p past)) (may_switch (own_of s p past)) refl refl
   where
-    picked : (o : Option ThreadNo) → next_ready s p (took p past) (lanes_at s past) ≡ o → may_switch (own_of s p past) ≡ true → rests (own_of s p past) ≡ false → is_some (option_or (option_map (λ t. switch_event t (lanes_at s past)) o) (idle_event s (standing_in p (own_of s p past)) (lanes_at s past))) ≡ true
+    picked : (o : Option ThreadNo) → next_ready s p (took p past) (lanes_at s past) ≡ o → may_switch (own_of s p past) ≡ true → rests (own_of s p past) ≡ false → is_some (option_or (option_map (λ t. switch_event t (lanes_at s past)) o) (idle_event s (stand_in p (own_of s p past)) (lanes_at s past))) ≡ true
     picked (Some t) e may awake = refl
     picked None e may awake =
         let none : is_null (ready s p (lanes_at s past)) ≡ true = none_ready s p (took p past) (lanes_at s past) e in
-        some_of (idle_event s (standing_in p (own_of s p past)) (lanes_at s past)) (comes_or (begin_first OrdinaryPart (queue_at (lanes_at s past) p)) (when (is_null (ready s p (lanes_at s past))) (Some Rest)) (comes_when (is_null (ready s p (lanes_at s past))) (Some Rest) none (_, refl)))
+        some_of (idle_event s (stand_in p (own_of s p past)) (lanes_at s past)) (comes_or (begin_first OrdinaryPart (queue_at (lanes_at s past) p)) (when (is_null (ready s p (lanes_at s past))) (Some Rest)) (comes_when (is_null (ready s p (lanes_at s past))) (Some Rest) none (_, refl)))
 
-    go : (b m : Bool) → rests (own_of s p past) ≡ b → may_switch (own_of s p past) ≡ m → is_some (option_and_then (task_event s (standing_in p (own_of s p past)) (lanes_at s past)) (if b then None else (if m then Some (Shared (PickJob (took p past))) else task s p (own_of s p past)))) ≡ not b
+    go : (b m : Bool) → rests (own_of s p past) ≡ b → may_switch (own_of s p past) ≡ m → is_some (option_and_then (task_event s (stand_in p (own_of s p past)) (lanes_at s past)) (if b then None else (if m then Some (Shared (PickJob (took p past))) else task s p (own_of s p past)))) ≡ not b
     go true m a b = refl
     go false true a b = picked (next_ready s p (took p past) (lanes_at s past)) refl b a
     go false false a b =

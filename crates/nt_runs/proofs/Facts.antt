@@ -34,7 +34,7 @@ use Rattle.nt_event.specs.Frames.{Frames, at_name, called, due_of, frames_of, is
 use Rattle.nt_event.specs.Jobs.{must}
 use Rattle.nt_event.specs.Lanes.{Lanes, lanes_at}
 use Rattle.nt_runs.specs.Laws.{Agrees, Says, level_of}
-use Rattle.nt_event.specs.Own.{Own, own_of, standing_in}
+use Rattle.nt_event.specs.Own.{Own, own_of, stand_in}
 use Rattle.nt_event.specs.Regions.{regions_of, stand_at}
 use Rattle.nt_event.specs.Routines.{cpu_of, kind_of}
 use Rattle.nt_event.specs.Step.{IsLegal, IsRun, step, thread_field, turn_at}
@@ -124,7 +124,7 @@ answered_doing st m a delay x =
     taken KernelMode = refl
     taken UserMode = refl
 
-    go : (b d c u : Bool) → (if b then (if d then x else record x { released = false }) else (if c then alert_taken m x else (if u then record x { marked = true } else x))).doing ≡ x.doing
+    go : (b d c u : Bool) → (if b then (if d then x else record x { released = false }) else (if c then alert_taken m x else (if u then record x { user_pending = true } else x))).doing ≡ x.doing
     go true true c u = refl
     go true false c u = refl
     go false d true u = taken (if is_alerted m x then m else KernelMode)
@@ -143,7 +143,7 @@ tested_doing m x = go (is_alerted m x) (is_user m && has_user x.apcs)
     set KernelMode = refl
     set UserMode = refl
 
-    go : (b c : Bool) → (if b then set_alerted m false x else (if c then record x { marked = true } else x)).doing ≡ x.doing
+    go : (b c : Bool) → (if b then set_alerted m false x else (if c then record x { user_pending = true } else x)).doing ≡ x.doing
     go true c = set m
     go false true = refl
     go false false = refl
@@ -193,7 +193,7 @@ blocked_doing : (n : ℕ) (r : Regions) (level : ℕ) (m : Mode) (a d : Bool) (f
 blocked_doing n r level m a d fs runs h k l = (h, k, l)
 
 -- a known event by which the running thread stops
-stopped : (s : Script) (p : CpuNo) (o : Own) (l : Lanes) (t : ThreadNo) (n : ℕ) (due : Option ℕ) (w : What) (fs : List Frame) (x : ThreadFacts) → stops w ≡ true → Known s p o l w → NoneAgain o.frames.own → thread_part o.frames ≡ fs → Says (made_facts s n (standing_in p o) w x).doing (thread_after s n due w fs) (running_after w (Some t) ≡ Some t)
+stopped : (s : Script) (p : CpuNo) (o : Own) (l : Lanes) (t : ThreadNo) (n : ℕ) (due : Option ℕ) (w : What) (fs : List Frame) (x : ThreadFacts) → stops w ≡ true → Known s p o l w → NoneAgain o.frames.own → thread_part o.frames ≡ fs → Says (made_facts s n (stand_in p o) w x).doing (thread_after s n due w fs) (running_after w (Some t) ≡ Some t)
 stopped s p o l t n due (Gone u) fs x h k own e = (none_runs t, refl)
 stopped s p o l t n due (Call f Yield Done) fs x h k own e =
     (none_runs t, level_on_thread o.frames fs (yield_call s p o l f k) e ∙ sym (named_level f (called due Yield Done) fs (yield_keeps due)))
@@ -204,25 +204,25 @@ stopped s p o l t n due (Call f (Delay m a u) Blocked) fs x h k own e =
     let b = blocked_call s p o l f (Delay m a u) k in
     (none_runs t, level_on_thread o.frames fs b.1 e ∙ sym (named_level f (called due (Delay m a u) Blocked) fs (wait_keeps due (Delay m a u) refl)), ap regions_of e ∙ sym (named_regions f (called due (Delay m a u) Blocked) fs (wait_keeps due (Delay m a u) refl)))
 stopped s p o l t n due (Call f c Blocked) fs x h k own e = let b = (blocked_call s p o l f c k).0 in cc
-stopped s p o l t n due (Rewait f Blocked) fs x h k own e = go (standing_in p o).again (again_known p o k.frame k.goes_on ∙ k.again)
+stopped s p o l t n due (Rewait f Blocked) fs x h k own e = go (stand_in p o).again (again_known p o k.frame k.goes_on ∙ k.again)
   where
     null : is_null o.frames.own ≡ true
     null = rewait_on_thread p o l f Blocked k own
 
-    go : (a : Option Again) → a ≡ Some k.wait → Says (waited_again n (standing_in p o).regions (standing_in p o).level a Blocked x).doing (at_name f (rewaited Blocked) fs) (None ≡ Some t)
+    go : (a : Option Again) → a ≡ Some k.wait → Says (waited_again n (stand_in p o).regions (stand_in p o).level a Blocked x).doing (at_name f (rewaited Blocked) fs) (None ≡ Some t)
     go None q = cc
     go (Some w) q =
         (none_runs t, level_on_thread o.frames fs null e ∙ sym (named_level f (rewaited Blocked) fs (rewait_keeps Blocked)), ap regions_of e ∙ sym (named_regions f (rewaited Blocked) fs (rewait_keeps Blocked)))
 stopped s p o l t n due w fs x h k own e = cc
 
 -- a known event that the running thread makes
-made_says : (s : Script) (p : CpuNo) (o : Own) (l : Lanes) (t : ThreadNo) (n : ℕ) (due : Option ℕ) (w : What) (fs : List Frame) (x : ThreadFacts) → is_switch w ≡ false → Known s p o l w → NoneAgain o.frames.own → thread_part o.frames ≡ fs → x.doing ≡ IsRunning → Says (made_facts s n (standing_in p o) w x).doing (thread_after s n due w fs) (running_after w (Some t) ≡ Some t)
+made_says : (s : Script) (p : CpuNo) (o : Own) (l : Lanes) (t : ThreadNo) (n : ℕ) (due : Option ℕ) (w : What) (fs : List Frame) (x : ThreadFacts) → is_switch w ≡ false → Known s p o l w → NoneAgain o.frames.own → thread_part o.frames ≡ fs → x.doing ≡ IsRunning → Says (made_facts s n (stand_in p o) w x).doing (thread_after s n due w fs) (running_after w (Some t) ≡ Some t)
 made_says s p o l t n due w fs x h k own e run = go (stops w) refl
   where
-    go : (b : Bool) → stops w ≡ b → Says (made_facts s n (standing_in p o) w x).doing (thread_after s n due w fs) (running_after w (Some t) ≡ Some t)
+    go : (b : Bool) → stops w ≡ b → Says (made_facts s n (stand_in p o) w x).doing (thread_after s n due w fs) (running_after w (Some t) ≡ Some t)
     go true a = stopped s p o l t n due w fs x a k own e
     go false a =
-        let d : (made_facts s n (standing_in p o) w x).doing ≡ IsRunning = made_doing s n (standing_in p o) w x a h ∙ run in
+        let d : (made_facts s n (stand_in p o) w x).doing ≡ IsRunning = made_doing s n (stand_in p o) w x a h ∙ run in
         subst (λ (d : Doing). Says d (thread_after s n due w fs) (running_after w (Some t) ≡ Some t)) (sym d) (runs_still w (Some t) a h)
 
 -- ---- each event of a run

@@ -38,9 +38,10 @@ use Rattle.nt_event.specs.declared.scripts.Script.{Script}
 use Rattle.nt_event.specs.Apcs.{deliverable, first_user}
 use Rattle.nt_event.specs.Commands.{needs_lane, refusal, reply}
 use Rattle.nt_event.specs.Frames.{innermost, thread_part}
-use Rattle.nt_event.specs.Jobs.{apcs_event, begin_apc, begin_dpc, begin_first, call_task, command_task, drain_event, end_task, expire_key, fire_task, frame_task, has_normal, idle_event, idle_task, interrupt_classes, interrupt_task, level_at, may_apcs, may_drain, may_interrupt, may_threaded, must_task, next_what, normal_task, ready, rewait_reply, rewait_task, rundown_event, rundown_task, task, task_event, threaded_event, user_due}
+use Rattle.nt_event.specs.Jobs.{apcs_event, begin_apc, begin_dpc, begin_first, call_task, command_task, drain_event, end_task, expire_key, fire_task, frame_task, has_normal, idle_event, idle_task, interrupt_task, level_at, may_apcs, may_drain, may_interrupt, may_threaded, must_task, next_what, normal_task, ready, rewait_reply, rewait_task, rundown_event, rundown_task, task, task_event, threaded_event, user_due}
+use Rattle.nt_event.specs.Classes.{interrupt_classes}
 use Rattle.nt_event.specs.Lanes.{Lanes, facts_at, facts_of, lanes_at, queue_at}
-use Rattle.nt_event.specs.Own.{Own, own_of, standing_in}
+use Rattle.nt_event.specs.Own.{Own, own_of, stand_in}
 use Rattle.nt_event.specs.Queues.{QueueState, first_dpc}
 use Rattle.nt_event.specs.Regions.{regions_of}
 use Rattle.nt_event.specs.Routines.{next_command}
@@ -72,7 +73,7 @@ pub record KnownCall (s : Script) (p : CpuNo) (x : Own) (l : Lanes) (n : ℕ) (c
   pub again : is_some frame.again ≡ false
   pub leaving : frame.leaving ≡ false
   pub command : next_command s p frame ≡ Some c
-  pub reply : y ≡ reply_or (refusal_in x frame c) (reply s (standing_in p x) l c)
+  pub reply : y ≡ reply_or (refusal_in x frame c) (reply s (stand_in p x) l c)
 
 pub record KnownInterrupt (x : Own) (c : ℕ) (from : ℕ) : Type 0 where
   pub class : list_any (λ k. k == c) interrupt_classes ≡ true
@@ -131,7 +132,7 @@ pub record KnownRewait (p : CpuNo) (x : Own) (l : Lanes) (n : ℕ) (y : Reply) :
   pub name : n ≡ frame.name
   pub wait : Again
   pub again : frame.again ≡ Some wait
-  pub reply : y ≡ rewait_reply (standing_in p x) l wait
+  pub reply : y ≡ rewait_reply (stand_in p x) l wait
 
 -- a leaving thread runs, and its base is innermost
 pub record KnownRundown (x : Own) (t : ThreadNo) : Type 0 where
@@ -165,7 +166,7 @@ Known s p x l (Begin b from) = KnownBegin s p x l b from
 Known s p x l (Normal n) = KnownNormal s p x n
 Known s p x l (End n) = KnownEnd s p x n
 Known s p x l (Expire key from) = KnownKey x l key from
-Known s p x l (Fire d y) = (x.fire ≡ Some d) × (y ≡ reply s (standing_in p x) l (Queue d))
+Known s p x l (Fire d y) = (x.fire ≡ Some d) × (y ≡ reply s (stand_in p x) l (Queue d))
 Known s p x l (Clean c) = KnownClean p x l c
 Known s p x l (Switch t st) = ⊥
 Known s p x l (Rewait n y) = KnownRewait p x l n y
@@ -187,23 +188,23 @@ or_none : {A : Type 0} (a b : Option A) → option_or a b ≡ None → (a ≡ No
 or_none None b h = (refl, h)
 or_none (Some x) b h = cc
 
-drain_known : (s : Script) (p : CpuNo) (x : Own) (l : Lanes) → level_at x < 2 → Known s p x l (drain_event (standing_in p x) l)
+drain_known : (s : Script) (p : CpuNo) (x : Own) (l : Lanes) → level_at x < 2 → Known s p x l (drain_event (stand_in p x) l)
 drain_known s p x l low =
     let keys : Option What = option_map expire_key (when x.sweep (first_due l.timers)) in
     let dpcs : Option What = begin_first OrdinaryPart (queue_at l p) in
     holds_else (Known s p x l) (option_or keys dpcs) (Clean 2) (holds_or (Known s p x l) keys dpcs (holds_map (Known s p x l) expire_key (when x.sweep (first_due l.timers)) (λ k e. let w = when_gives x.sweep (first_due l.timers) k e in record { sweep = w.0; low = low; set = k; first = w.1; key = refl; number = refl })) (λ e. begin_known s p x l low)) (λ e. let k = or_none keys dpcs e in inl (refl, low, map_none expire_key (when x.sweep (first_due l.timers)) k.0, map_none (begin_dpc OrdinaryPart) (first_dpc OrdinaryPart (queue_at l p).pending) k.1))
 
-apcs_known : (s : Script) (p : CpuNo) (x : Own) (l : Lanes) → may_apcs x ≡ true → Known s p x l (apcs_event (standing_in p x) l)
+apcs_known : (s : Script) (p : CpuNo) (x : Own) (l : Lanes) → may_apcs x ≡ true → Known s p x l (apcs_event (stand_in p x) l)
 apcs_known s p x l may =
     holds_else (Known s p x l) (option_map begin_apc (Deliverable x l)) (Clean 1) (holds_map (Known s p x l) begin_apc (Deliverable x l) (λ k e. inl (may, record { pick = k; first = e; apc = refl; number = refl }))) (λ e. inr (inl (refl, may, map_none begin_apc (Deliverable x l) e)))
 
-threaded_known : (s : Script) (p : CpuNo) (x : Own) (l : Lanes) → may_threaded x ≡ true → Known s p x l (threaded_event (standing_in p x) l)
+threaded_known : (s : Script) (p : CpuNo) (x : Own) (l : Lanes) → may_threaded x ≡ true → Known s p x l (threaded_event (stand_in p x) l)
 threaded_known s p x l may =
     holds_else (Known s p x l) (begin_first ThreadedPart (queue_at l p)) (Clean 0) (holds_map (Known s p x l) (begin_dpc ThreadedPart) (first_dpc ThreadedPart (queue_at l p).pending) (λ i e. (may, record { insert = i; first = e; dpc = refl; number = refl }))) (λ e. inr (inr (refl, may, map_none (begin_dpc ThreadedPart) (first_dpc ThreadedPart (queue_at l p).pending) e)))
 
 -- a task whose event, if it comes, is known
 abbrev pub Good : Script → CpuNo → Own → Lanes → Task → Type 0
-Good s p x l t = Holds (Known s p x l) (task_event s (standing_in p x) l t)
+Good s p x l t = Holds (Known s p x l) (task_event s (stand_in p x) l t)
 
 interrupt_known : (s : Script) (p : CpuNo) (x : Own) (l : Lanes) → Holds (Good s p x l) (interrupt_task x)
 interrupt_known s p x l =
@@ -223,15 +224,15 @@ must_known s p x l =
 
 -- ---- the innermost frame
 
-frame_stands : (p : CpuNo) (x : Own) (f : Frame) → GoesOn x f → (standing_in p x).frame ≡ f.name
+frame_stands : (p : CpuNo) (x : Own) (f : Frame) → GoesOn x f → (stand_in p x).frame ≡ f.name
 frame_stands p x f g = ap (λ (o : Option Frame). option_map_or (λ f. f.name) o 0) g.inner
 
-pub again_known : (p : CpuNo) (x : Own) (f : Frame) → GoesOn x f → (standing_in p x).again ≡ f.again
+pub again_known : (p : CpuNo) (x : Own) (f : Frame) → GoesOn x f → (stand_in p x).again ≡ f.again
 again_known p x f g = again_stands p x.frames x.sweep f g.inner
 
 rewait_known : (s : Script) (p : CpuNo) (x : Own) (l : Lanes) (f : Frame) → GoesOn x f → Good s p x l (Shared RewaitJob)
 rewait_known s p x l f g =
-    holds_map (Known s p x l) (λ w. Rewait (standing_in p x).frame (rewait_reply (standing_in p x) l w)) (standing_in p x).again (λ w e. record { frame = f; goes_on = g; name = frame_stands p x f g; wait = w; again = sym (again_known p x f g) ∙ e; reply = refl })
+    holds_map (Known s p x l) (λ w. Rewait (stand_in p x).frame (rewait_reply (stand_in p x) l w)) (stand_in p x).again (λ w e. record { frame = f; goes_on = g; name = frame_stands p x f g; wait = w; again = sym (again_known p x f g) ∙ e; reply = refl })
 
 rundown_known : (s : Script) (p : CpuNo) (x : Own) (l : Lanes) (f : Frame) → GoesOn x f → f.leaving ≡ true → Good s p x l (Shared RundownJob)
 rundown_known s p x l f g leaving =
@@ -261,26 +262,26 @@ pub record Calls (s : Script) (p : CpuNo) (x : Own) (f : Frame) (c : Command) : 
   pub leaving : f.leaving ≡ false
   pub command : next_command s p f ≡ Some c
 
-known_call : (s : Script) (p : CpuNo) (x : Own) (l : Lanes) (f : Frame) (c : Command) (n : ℕ) (y : Reply) → Calls s p x f c → n ≡ f.name → y ≡ reply_or (refusal_in x f c) (reply s (standing_in p x) l c) → KnownCall s p x l n c y
+known_call : (s : Script) (p : CpuNo) (x : Own) (l : Lanes) (f : Frame) (c : Command) (n : ℕ) (y : Reply) → Calls s p x f c → n ≡ f.name → y ≡ reply_or (refusal_in x f c) (reply s (stand_in p x) l c) → KnownCall s p x l n c y
 known_call s p x l f c n y k e r =
     record { frame = f; goes_on = k.goes_on; name = e; again = k.again; leaving = k.leaving; command = k.command; reply = r }
 
 touser_known : (s : Script) (p : CpuNo) (x : Own) (l : Lanes) (f : Frame) → Calls s p x f ToUser → refusal_in x f ToUser ≡ None → Good s p x l (Shared ToUserJob)
 touser_known s p x l f k e =
-    holds_else (Known s p x l) (option_map begin_apc (user_due (facts_of l x.frames.running))) (Call (standing_in p x).frame ToUser Done) (holds_map (Known s p x l) begin_apc (user_due (facts_of l x.frames.running)) (λ pick m. inr (record { frame = f; goes_on = k.goes_on; again = k.again; leaving = k.leaving; command = k.command; accepted = e }, record { pick = pick; first = m; apc = refl; number = refl }))) (λ m. known_call s p x l f ToUser _ _ k (frame_stands p x f k.goes_on) (rw e refl))
+    holds_else (Known s p x l) (option_map begin_apc (user_due (facts_of l x.frames.running))) (Call (stand_in p x).frame ToUser Done) (holds_map (Known s p x l) begin_apc (user_due (facts_of l x.frames.running)) (λ pick m. inr (record { frame = f; goes_on = k.goes_on; again = k.again; leaving = k.leaving; command = k.command; accepted = e }, record { pick = pick; first = m; apc = refl; number = refl }))) (λ m. known_call s p x l f ToUser _ _ k (frame_stands p x f k.goes_on) (rw e refl))
 
 call_known : (s : Script) (p : CpuNo) (x : Own) (l : Lanes) (f : Frame) (c : Command) → Calls s p x f c → Good s p x l (call_task f c (refusal_in x f c))
 call_known s p x l f c k = go c (refusal_in x f c) refl k
   where
     lane : (c : Command) → Calls s p x f c → refusal_in x f c ≡ None → (b : Bool) → needs_lane c ≡ b → Good s p x l (if b then Shared (CallJob c) else Alone (Call f.name c Done))
     lane c k e true n =
-        known_call s p x l f c _ _ k (frame_stands p x f k.goes_on) (ap (λ (o : Option Refusal). reply_or o (reply s (standing_in p x) l c)) (sym e))
+        known_call s p x l f c _ _ k (frame_stands p x f k.goes_on) (ap (λ (o : Option Refusal). reply_or o (reply s (stand_in p x) l c)) (sym e))
     lane c k e false n =
-        known_call s p x l f c _ _ k refl (sym (lane_free s (standing_in p x) l c n) ∙ ap (λ (o : Option Refusal). reply_or o (reply s (standing_in p x) l c)) (sym e))
+        known_call s p x l f c _ _ k refl (sym (lane_free s (stand_in p x) l c n) ∙ ap (λ (o : Option Refusal). reply_or o (reply s (stand_in p x) l c)) (sym e))
 
     go : (c : Command) (o : Option Refusal) → refusal_in x f c ≡ o → Calls s p x f c → Good s p x l (call_task f c o)
     go c (Some r) e k =
-        known_call s p x l f c _ _ k refl (ap (λ (o : Option Refusal). reply_or o (reply s (standing_in p x) l c)) (sym e))
+        known_call s p x l f c _ _ k refl (ap (λ (o : Option Refusal). reply_or o (reply s (stand_in p x) l c)) (sym e))
     go ToUser None e k = touser_known s p x l f k e
     go c None e k = lane c k e (needs_lane c) refl
 
@@ -296,7 +297,7 @@ normal_known s p x l f g e =
 end_known : (s : Script) (p : CpuNo) (x : Own) (l : Lanes) (f : Frame) → KnownEnd s p x f.name → GoesOn x f → Good s p x l (end_task f.name f.body)
 end_known s p x l f k g = go f.body
   where
-    shared : KnownEnd s p x (standing_in p x).frame
+    shared : KnownEnd s p x (stand_in p x).frame
     shared = subst (KnownEnd s p x) (sym (frame_stands p x f g)) k
 
     go : (b : Body) → Good s p x l (end_task f.name b)
@@ -329,7 +330,7 @@ then_none s p x (Some f) h = let k = frame_has s p x f in absurd (no (frame_task
 level_none : (x : Own) → innermost x.frames ≡ None → level_at x ≡ 0
 level_none x h = ap (λ (o : Option Frame). option_map_or (λ f. f.level) o 0) h
 
-idle_known : (s : Script) (p : CpuNo) (x : Own) (l : Lanes) → must_task x ≡ None → innermost x.frames ≡ None → Holds (Known s p x l) (idle_event s (standing_in p x) l)
+idle_known : (s : Script) (p : CpuNo) (x : Own) (l : Lanes) → must_task x ≡ None → innermost x.frames ≡ None → Holds (Known s p x l) (idle_event s (stand_in p x) l)
 idle_known s p x l quiet none =
     let low : level_at x < 2 = let e = level_none x none in omega (arith, e) in
     holds_or (Known s p x l) (begin_first OrdinaryPart (queue_at l p)) (when (is_null (ready s p l)) (Some Rest)) (begin_known s p x l low) (λ e. holds_when (Known s p x l) (is_null (ready s p l)) (Some Rest) (λ h. record { quiet = quiet; none = none; empty = map_none (begin_dpc OrdinaryPart) (first_dpc OrdinaryPart (queue_at l p).pending) e; unready = h }))
@@ -341,7 +342,7 @@ task_known s p x l =
 -- the next event of a processor is known
 pub next_known : (s : Script) (p : CpuNo) (x : Own) (l : Lanes) → Holds (Known s p x l) (next_what s p x l)
 next_known s p x l =
-    holds_then (Known s p x l) (task_event s (standing_in p x) l) (task s p x) (λ t e. holds_at (Good s p x l) (task s p x) t (task_known s p x l) e)
+    holds_then (Known s p x l) (task_event s (stand_in p x) l) (task s p x) (λ t e. holds_at (Good s p x l) (task s p x) t (task_known s p x l) e)
 
 -- a legal event but a Look or a Switch was the next one, and is known
 pub legal_known : (s : Script) (limit : ℕ) (e : Event) (past : List Event) → IsLegal s limit e past → is_next e.what ≡ true → Known s e.cpu (own_of s e.cpu past) (lanes_at s past) e.what

@@ -32,7 +32,7 @@ use Rattle.nt_event.specs.Apcs.{has_user, with_apc, without_apc}
 use Rattle.nt_event.specs.Frames.{at_name, called, due_of, end_on_thread, ended_on_thread, flushed, is_base_body, new_frame, normal_of, resumed, rewaited, running, switched_to, thread_after, thread_frames, thread_part, time}
 use Rattle.nt_event.specs.Lanes.{Lanes, lanes_at}
 use Rattle.nt_runs.specs.Laws.{HasBase}
-use Rattle.nt_event.specs.Own.{Own, own_of, standing_in}
+use Rattle.nt_event.specs.Own.{Own, own_of, stand_in}
 use Rattle.nt_event.specs.Regions.{stand_at}
 use Rattle.nt_event.specs.Routines.{cpu_of, is_kernel_kind, kind_of, owner_of, rundown_of}
 use Rattle.nt_event.specs.Step.{IsLegal, IsRun}
@@ -120,13 +120,13 @@ end_elsewhere n (f ∷ fs) h = go (f.name == n) refl
     go false e = refl
 
 -- a known end
-known_end : (s : Script) (p : CpuNo) (o : Own) (t : ThreadNo) (m n : ℕ) (fs : List Frame) (x : ThreadFacts) → KnownEnd s p o n → AllOwn o.frames.own → Named m o.frames.own fs → thread_part o.frames ≡ fs → HasBase t fs → x.leaving ≡ base_leaving fs → (frame_ended (standing_in p o).body x).leaving ≡ base_leaving (end_on_thread n fs)
+known_end : (s : Script) (p : CpuNo) (o : Own) (t : ThreadNo) (m n : ℕ) (fs : List Frame) (x : ThreadFacts) → KnownEnd s p o n → AllOwn o.frames.own → Named m o.frames.own fs → thread_part o.frames ≡ fs → HasBase t fs → x.leaving ≡ base_leaving fs → (frame_ended (stand_in p o).body x).leaving ≡ base_leaving (end_on_thread n fs)
 known_end s p o t m n fs x k own d e b l = go o.frames.own refl own d.apart
   where
-    body : (standing_in p o).body ≡ Some k.frame.body
+    body : (stand_in p o).body ≡ Some k.frame.body
     body = ap (λ (q : Option Frame). option_map (λ f. f.body) q) k.goes_on.inner
 
-    go : (gs : List Frame) → o.frames.own ≡ gs → AllOwn gs → Apart gs fs → (frame_ended (standing_in p o).body x).leaving ≡ base_leaving (end_on_thread n fs)
+    go : (gs : List Frame) → o.frames.own ≡ gs → AllOwn gs → Apart gs fs → (frame_ended (stand_in p o).body x).leaving ≡ base_leaving (end_on_thread n fs)
     go [] q a c =
         let null : is_null o.frames.own ≡ true = ap (λ (gs : List Frame). is_null gs) q in
         let first : head_of fs ≡ Some k.frame = ap (λ (hs : List Frame). head_of hs) (sym e) ∙ part_head o.frames k.frame k.goes_on.inner null in
@@ -145,14 +145,14 @@ abbrev pub LeavesAs : Script → ThreadNo → List Event → Type 0
 LeavesAs s t past = (facts s t past).leaving ≡ base_leaving (thread_frames s (cpu_of s t) t past)
 
 -- what a known event leaves of the facts and the frames of the running thread
-made_leaves : (s : Script) (p : CpuNo) (o : Own) (l : Lanes) (t : ThreadNo) (m n : ℕ) (due : Option ℕ) (w : What) (fs : List Frame) (x : ThreadFacts) → Known s p o l w → AllOwn o.frames.own → Named m o.frames.own fs → thread_part o.frames ≡ fs → HasBase t fs → x.leaving ≡ base_leaving fs → (made_facts s n (standing_in p o) w x).leaving ≡ base_leaving (thread_after s n due w fs)
+made_leaves : (s : Script) (p : CpuNo) (o : Own) (l : Lanes) (t : ThreadNo) (m n : ℕ) (due : Option ℕ) (w : What) (fs : List Frame) (x : ThreadFacts) → Known s p o l w → AllOwn o.frames.own → Named m o.frames.own fs → thread_part o.frames ≡ fs → HasBase t fs → x.leaving ≡ base_leaving fs → (made_facts s n (stand_in p o) w x).leaving ≡ base_leaving (thread_after s n due w fs)
 made_leaves s p o l t m n due (Begin (Apc a) from) fs x k own d e b h =
-    facts_made_so s n (standing_in p o) (Begin (Apc a) from) x refl ∙ (h ∙ sym (pushed_leaving t (new_frame n (OnApc a (kind_of s a))) fs b))
+    facts_made_so s n (stand_in p o) (Begin (Apc a) from) x refl ∙ (h ∙ sym (pushed_leaving t (new_frame n (OnApc a (kind_of s a))) fs b))
 made_leaves s p o l t m n due (Flush a from) fs x k own d e b h = h ∙ sym (flushed_leaving t n a (rundown_of s a) fs b)
 made_leaves s p o l t m n due (Call f c y) fs x k own d e b h =
-    facts_made_so s n (standing_in p o) (Call f c y) x refl ∙ (h ∙ sym (named_leaving f (called due c y) fs (called_keeps due c y)))
+    facts_made_so s n (stand_in p o) (Call f c y) x refl ∙ (h ∙ sym (named_leaving f (called due c y) fs (called_keeps due c y)))
 made_leaves s p o l t m n due (Rewait f y) fs x k own d e b h =
-    facts_made_so s n (standing_in p o) (Rewait f y) x refl ∙ (h ∙ sym (named_leaving f (rewaited y) fs (rewaited_keeps y)))
+    facts_made_so s n (stand_in p o) (Rewait f y) x refl ∙ (h ∙ sym (named_leaving f (rewaited y) fs (rewaited_keeps y)))
 made_leaves s p o l t m n due (Normal f) fs x k own d e b h = h ∙ sym (named_leaving f normal_of fs normal_keeps)
 made_leaves s p o l t m n due (End f) fs x k own d e b h = known_end s p o t m f fs x k own d e b h
 made_leaves s p o l t m n due (Gone u) fs x k own d e b h = refl

@@ -16,7 +16,7 @@ use Rattle.nt_event.specs.declared.numbers.CpuNo.{CpuNo}
 use Rattle.nt_event.specs.declared.numbers.RoutineNo.{RoutineNo}
 use Rattle.nt_event.specs.declared.numbers.ThreadNo.{ThreadNo}
 use Rattle.nt_event.specs.declared.scripts.Script.{Script}
-use Rattle.nt_event.specs.Frames.{at_name, called, done_to, due_of, end_on_thread, flushed, is_base_body, left, new_frame, normal_of, own_after, own_frames, resumed, rewaited, thread_after, thread_frames, time, without}
+use Rattle.nt_event.specs.Frames.{at_name, called, done_to, due_of, end_on_thread, flushed, is_base_body, ended_base, new_frame, normal_of, own_after, own_frames, resumed, rewaited, thread_after, thread_frames, time, without}
 use Rattle.nt_event.specs.Routines.{kind_of, rundown_of}
 use Rattle.nt_event.specs.Numbers.{is_by, is_of}
 use Rattle.nt_runs.proofs.Running.{frames_when}
@@ -95,8 +95,8 @@ within_end : (n : ℕ) (fs : List Frame) → Within (end_on_thread n fs) fs
 within_end n [] = within_same []
 within_end n (f ∷ fs) = go (f.name == n) (is_base_body f.body)
   where
-    go : (b c : Bool) → Within (if b then (if c then (left f ∷ fs) else fs) else (f ∷ fs)) (f ∷ fs)
-    go true true = within_head left f fs refl
+    go : (b c : Bool) → Within (if b then (if c then (ended_base f ∷ fs) else fs) else (f ∷ fs)) (f ∷ fs)
+    go true true = within_head ended_base f fs refl
     go true false = within_tail f fs
     go false c = within_same (f ∷ fs)
 

@@ -164,11 +164,11 @@ set_apcs UserMode b x = refl
 
 pub tested_apcs : (m : Mode) (x : ThreadFacts) → (alert_tested m x).apcs ≡ x.apcs
 tested_apcs m x =
-    if_apcs (is_alerted m x) (set_alerted m false x) (if is_user m && has_user x.apcs then record x { marked = true } else x) x.apcs (set_apcs m false x) (if_apcs (is_user m && has_user x.apcs) (record x { marked = true }) x x.apcs refl refl)
+    if_apcs (is_alerted m x) (set_alerted m false x) (if is_user m && has_user x.apcs then record x { user_pending = true } else x) x.apcs (set_apcs m false x) (if_apcs (is_user m && has_user x.apcs) (record x { user_pending = true }) x x.apcs refl refl)
 
 answered_apcs : (st : ℕ) (m : Mode) (a delay : Bool) (x : ThreadFacts) → (answered st m a delay x).apcs ≡ x.apcs
 answered_apcs st m a delay x =
-    if_apcs (st == satisfied) (if delay then x else record x { released = false }) (if st == alerted then alert_taken m x else (if (st == user_apc) && a then record x { marked = true } else x)) x.apcs (if_apcs delay x (record x { released = false }) x.apcs refl refl) (if_apcs (st == alerted) (alert_taken m x) (if (st == user_apc) && a then record x { marked = true } else x) x.apcs (set_apcs (if is_alerted m x then m else KernelMode) false x) (if_apcs ((st == user_apc) && a) (record x { marked = true }) x x.apcs refl refl))
+    if_apcs (st == satisfied) (if delay then x else record x { released = false }) (if st == alerted then alert_taken m x else (if (st == user_apc) && a then record x { user_pending = true } else x)) x.apcs (if_apcs delay x (record x { released = false }) x.apcs refl refl) (if_apcs (st == alerted) (alert_taken m x) (if (st == user_apc) && a then record x { user_pending = true } else x) x.apcs (set_apcs (if is_alerted m x then m else KernelMode) false x) (if_apcs ((st == user_apc) && a) (record x { user_pending = true }) x x.apcs refl refl))
 
 pub waited_apcs : (n : ℕ) (r : Regions) (level : ℕ) (m : Mode) (a delay : Bool) (y : Reply) (x : ThreadFacts) → (waited n r level m a delay y x).apcs ≡ x.apcs
 waited_apcs n r level m a delay (Status st) x = answered_apcs st m a delay x
@@ -287,7 +287,7 @@ legal_shrinks s limit t e past g has closed = go (is_of_thread s t e) refl
 with_closed : (pick : Pick) (x : ThreadFacts) → (insert_facts pick x).apcs.closed ≡ x.apcs.closed
 with_closed pick x = go (ends_by_apc pick x) (is_kernel_kind pick.kind)
   where
-    go : (b k : Bool) → (if b then (if k then ended kernel_apc (record x { apcs = with_apc pick x.apcs }) else record (ended user_apc (record x { apcs = with_apc pick x.apcs })) { marked = true }) else record x { apcs = with_apc pick x.apcs }).apcs.closed ≡ x.apcs.closed
+    go : (b k : Bool) → (if b then (if k then ended kernel_apc (record x { apcs = with_apc pick x.apcs }) else record (ended user_apc (record x { apcs = with_apc pick x.apcs })) { user_pending = true }) else record x { apcs = with_apc pick x.apcs }).apcs.closed ≡ x.apcs.closed
     go true true = refl
     go true false = refl
     go false k = refl
@@ -376,7 +376,7 @@ insert_kinds s a n x h = go (ends_by_apc (new_pick s a n) x) (is_kernel_kind (ki
     y : ThreadFacts
     y = record x { apcs = with_apc (new_pick s a n) x.apcs }
 
-    go : (b k : Bool) → KindsFit s (if b then (if k then ended kernel_apc (record x { apcs = with_apc (new_pick s a n) x.apcs }) else record (ended user_apc (record x { apcs = with_apc (new_pick s a n) x.apcs })) { marked = true }) else record x { apcs = with_apc (new_pick s a n) x.apcs }).apcs.pending
+    go : (b k : Bool) → KindsFit s (if b then (if k then ended kernel_apc (record x { apcs = with_apc (new_pick s a n) x.apcs }) else record (ended user_apc (record x { apcs = with_apc (new_pick s a n) x.apcs })) { user_pending = true }) else record x { apcs = with_apc (new_pick s a n) x.apcs }).apcs.pending
     go true true = (refl, h)
     go true false = (refl, h)
     go false k = (refl, h)

@@ -34,10 +34,11 @@ use Rattle.nt_event.specs.declared.scripts.Script.{Script}
 use Rattle.nt_event.specs.declared.scripts.ThreadDecl.{ThreadDecl}
 use Rattle.nt_event.specs.Commands.{needs_lane}
 use Rattle.nt_event.specs.Frames.{Frames, frames_in, frames_of, innermost, running, thread_part}
-use Rattle.nt_event.specs.Jobs.{begin_first, call_task, command_task, end_task, fire_task, frame_task, has_normal, idle_task, interrupt_classes, interrupt_task, is_after, may_apcs, may_drain, may_interrupt, may_switch, may_take, may_threaded, must, must_task, next_ready, next_what, normal_task, ready, ready_from, rests, rewait_reply, rewait_task, rundown_task, switch_event, task, task_event}
+use Rattle.nt_event.specs.Jobs.{begin_first, call_task, command_task, end_task, fire_task, frame_task, has_normal, idle_task, interrupt_task, is_after, may_apcs, may_drain, may_interrupt, may_switch, may_take, may_threaded, must, must_task, next_ready, next_what, normal_task, ready, ready_from, rests, rewait_reply, rewait_task, rundown_task, switch_event, task, task_event}
+use Rattle.nt_event.specs.Classes.{interrupt_classes}
 use Rattle.nt_event.specs.Lanes.{Lanes, facts_at, lanes_at, queue_at}
 use Rattle.nt_runs.specs.Laws.{HasBase}
-use Rattle.nt_event.specs.Own.{Own, own_of, rested, standing_in, took}
+use Rattle.nt_event.specs.Own.{Own, own_of, rested, stand_in, took}
 use Rattle.nt_event.specs.Regions.{stand_of}
 use Rattle.nt_event.specs.Requests.{asked, asks}
 use Rattle.nt_event.specs.Robin.{first_cpu, go_on_turn, is_behind, look_value, look_values, robin, robin_at, robin_from, robin_of, switch_or_next}
@@ -173,11 +174,11 @@ may_where (Some t) a m f h q = cc
 -- ---- the next event
 
 -- nothing must be done, and there is no frame: the processor is idle
-idle_comes : (s : Script) (limit : ℕ) (p : CpuNo) (past : List Event) → IsRun s limit past → must_task (own_of s p past) ≡ None → innermost (frames_of s p past) ≡ None → rests (own_of s p past) ≡ false → (may_switch (own_of s p past) ≡ true → is_null (ready s p (lanes_at s past)) ≡ true) → Comes (option_and_then (task_event s (standing_in p (own_of s p past)) (lanes_at s past)) (idle_task (own_of s p past)))
+idle_comes : (s : Script) (limit : ℕ) (p : CpuNo) (past : List Event) → IsRun s limit past → must_task (own_of s p past) ≡ None → innermost (frames_of s p past) ≡ None → rests (own_of s p past) ≡ false → (may_switch (own_of s p past) ≡ true → is_null (ready s p (lanes_at s past)) ≡ true) → Comes (option_and_then (task_event s (stand_in p (own_of s p past)) (lanes_at s past)) (idle_task (own_of s p past)))
 idle_comes s limit p past r m h n w =
     let x : Own = own_of s p past in
     let l : Lanes = lanes_at s past in
-    let st : Stand = standing_in p x in
+    let st : Stand = stand_in p x in
     let free : running p past ≡ None = no_thread s limit p past r h in
     let quiet : must x ≡ false = ap (λ (o : Option Task). is_some o) m in
     let both : (rested p past && true) ≡ false = rw quiet at n in
@@ -192,7 +193,7 @@ task_must : (s : Script) (limit : ℕ) (p : CpuNo) (past : List Event) (t : Task
 task_must s limit p past t m =
     let x : Own = own_of s p past in
     let l : Lanes = lanes_at s past in
-    let st : Stand = standing_in p x in
+    let st : Stand = stand_in p x in
     let task_is : task s p x ≡ Some t = ap (λ (o : Option Task). option_or o (option_or (option_and_then (frame_task s p x) (innermost x.frames)) (idle_task x))) m in
     comes_then (task_event s st l) (task s p x) t task_is (holds_at (EventOf s st l) (must_task x) t (must_comes s st l x) m)
 
@@ -200,7 +201,7 @@ task_frame : (s : Script) (p : CpuNo) (past : List Event) (f : Frame) → must_t
 task_frame s p past f m h =
     let x : Own = own_of s p past in
     let l : Lanes = lanes_at s past in
-    let st : Stand = standing_in p x in
+    let st : Stand = stand_in p x in
     let t = frame_has s p x f in
     let framed : option_and_then (frame_task s p x) (innermost x.frames) ≡ Some t.0 = ap (λ (o : Option Frame). option_and_then (frame_task s p x) o) h ∙ t.1 in
     let task_is : task s p x ≡ Some t.0 = ap (λ (o : Option Task). option_or o (option_or (option_and_then (frame_task s p x) (innermost x.frames)) (idle_task x))) m ∙ ap (λ (o : Option Task). option_or o (idle_task x)) framed in
@@ -210,7 +211,7 @@ task_idle : (s : Script) (limit : ℕ) (p : CpuNo) (past : List Event) → IsRun
 task_idle s limit p past r m h n w =
     let x : Own = own_of s p past in
     let task_is : task s p x ≡ idle_task x = ap (λ (o : Option Task). option_or o (option_or (option_and_then (frame_task s p x) (innermost x.frames)) (idle_task x))) m ∙ ap (λ (o : Option Frame). option_or (option_and_then (frame_task s p x) o) (idle_task x)) h in
-    subst (λ (o : Option Task). Comes (option_and_then (task_event s (standing_in p x) (lanes_at s past)) o)) (sym task_is) (idle_comes s limit p past r m h n w)
+    subst (λ (o : Option Task). Comes (option_and_then (task_event s (stand_in p x) (lanes_at s past)) o)) (sym task_is) (idle_comes s limit p past r m h n w)
 
 -- a processor that doesn't rest has a next event, or a thread to take up
 pub next_comes : (s : Script) (limit : ℕ) (p : CpuNo) (past : List Event) → IsRun s limit past → rests (own_of s p past) ≡ false → (may_switch (own_of s p past) ≡ true → is_null (ready s p (lanes_at s past)) ≡ true) → Comes (next_what s p (own_of s p past) (lanes_at s past))

@@ -20,7 +20,7 @@ use Rattle.nt_event.specs.declared.numbers.CpuNo.{CpuNo}
 use Rattle.nt_event.specs.declared.numbers.RoutineNo.{RoutineNo}
 use Rattle.nt_event.specs.declared.numbers.ThreadNo.{ThreadNo}
 use Rattle.nt_event.specs.declared.scripts.Script.{Script}
-use Rattle.nt_event.specs.Frames.{at_name, called, done_to, due_of, end_on_thread, ended_on_thread, flushed, frames_in, frames_of, is_base_body, left, new_frame, normal_of, resumed, rewaited, running, running_after, switched_to, thread_after, thread_frames, thread_if, thread_part, time}
+use Rattle.nt_event.specs.Frames.{at_name, called, done_to, due_of, end_on_thread, ended_on_thread, flushed, frames_in, frames_of, is_base_body, ended_base, new_frame, normal_of, resumed, rewaited, running, running_after, switched_to, thread_after, thread_frames, thread_if, thread_part, time}
 use Rattle.nt_runs.specs.Laws.{HasBase, IsInner}
 use Rattle.nt_event.specs.Routines.{cpu_of, kind_of, rundown_of}
 use Rattle.nt_event.specs.Script.{has_thread}
@@ -90,9 +90,9 @@ begun_based t f (g ∷ fs) i h = (i, h)
 
 ended_based : (t : ThreadNo) (fs : List Frame) → HasBase t fs → HasBase t (ended_on_thread fs)
 ended_based t [] h = h
-ended_based t (f ∷ []) h = subst (λ (b : Body). HasBase t (if is_base_body b then (left f ∷ []) else [])) (sym h) h
+ended_based t (f ∷ []) h = subst (λ (b : Body). HasBase t (if is_base_body b then (ended_base f ∷ []) else [])) (sym h) h
 ended_based t (f ∷ (g ∷ fs)) h =
-    subst (λ (b : Bool). HasBase t (if b then (left f ∷ g ∷ fs) else (g ∷ fs))) (sym h.0.0) h.1
+    subst (λ (b : Bool). HasBase t (if b then (ended_base f ∷ g ∷ fs) else (g ∷ fs))) (sym h.0.0) h.1
 
 end_based : (t : ThreadNo) (n : ℕ) (fs : List Frame) → HasBase t fs → HasBase t (end_on_thread n fs)
 end_based t n [] h = h

@@ -35,7 +35,8 @@ use Rattle.nt_event.specs.Acting.{IsDue, acted_event, acted_level}
 use Rattle.nt_event.specs.Apcs.{first_user}
 use Rattle.nt_event.specs.Commands.{needs_lane, reply}
 use Rattle.nt_event.specs.Frames.{Frames, at_name, called, end_on_thread, flushed, frames_after, frames_in, frames_of, innermost, is_base_body, is_on_thread, is_user_apc_body, level_in, own_after, own_frames, rewaited, running, running_after, switched_to, thread_after, thread_frames, thread_if, thread_part, without}
-use Rattle.nt_event.specs.Jobs.{begin_apc, begin_dpc, begin_first, call_task, command_task, end_task, expire_key, fire_task, frame_task, has_normal, idle_event, idle_task, interrupt_classes, interrupt_task, job_event, level_at, may_apcs, may_drain, may_interrupt, may_switch, may_take, may_threaded, must, must_task, next_ready, normal_task, ready, rewait_reply, rewait_task, rundown_event, rundown_task, switch_event, task, user_due}
+use Rattle.nt_event.specs.Jobs.{begin_apc, begin_dpc, begin_first, call_task, command_task, end_task, expire_key, fire_task, frame_task, has_normal, idle_event, idle_task, interrupt_task, job_event, level_at, may_apcs, may_drain, may_interrupt, may_switch, may_take, may_threaded, must, must_task, next_ready, normal_task, ready, rewait_reply, rewait_task, rundown_event, rundown_task, switch_event, task, user_due}
+use Rattle.nt_event.specs.Classes.{interrupt_classes}
 use Rattle.nt_event.specs.Lanes.{Lanes, facts_at, facts_of, lanes_at, queue_at}
 use Rattle.nt_runs.specs.Laws.{HasBase, Says, level_of}
 use Rattle.nt_event.specs.Own.{Own, own_of}

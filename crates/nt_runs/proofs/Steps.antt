@@ -16,7 +16,7 @@ use Rattle.nt_event.specs.declared.scripts.Script.{Script}
 use Rattle.nt_event.specs.Frames.{Frames, frames_of}
 use Rattle.nt_event.specs.Jobs.{job_event, may_switch, may_take, next_what, switch_event}
 use Rattle.nt_event.specs.Lanes.{Lanes, lanes_at}
-use Rattle.nt_event.specs.Own.{Own, own_of, standing_in}
+use Rattle.nt_event.specs.Own.{Own, own_of, stand_in}
 use Rattle.nt_event.specs.Step.{IsLegal, cpu_at, event_at, event_or, is_cut, is_good_look, refused_if, step, turn_at, turn_of, uncut_step}
 use Rattle.nt_event.specs.Lists.{when}
 use Rattle.nt_event.proofs.Options.{when_gives}
@@ -50,7 +50,7 @@ pub switch_gives : (s : Script) (limit : ℕ) (p : CpuNo) (t : ThreadNo) (past :
 switch_gives s limit p t past e h =
     let x : Own = own_of s p past in
     let l : Lanes = lanes_at s past in
-    let k = event_gives s p x BadChoice (when (may_switch x) (job_event s (standing_in p x) l (SwitchJob t))) e (step_uncut s limit (SwitchTurn p t) past e h).2 in
+    let k = event_gives s p x BadChoice (when (may_switch x) (job_event s (stand_in p x) l (SwitchJob t))) e (step_uncut s limit (SwitchTurn p t) past e h).2 in
     let a = when_gives (may_switch x) (when (may_take s p t l) (Some (switch_event t l))) k.0 k.1 in
     let b = when_gives (may_take s p t l) (Some (switch_event t l)) k.0 a.1 in
     let c : switch_event t l ≡ k.0 = same_some (switch_event t l) k.0 b.1 in

@@ -21,7 +21,7 @@ use Rattle.nt_event.specs.Commands.{refusal, refuse, reply}
 use Rattle.nt_event.specs.Frames.{at_name, called, done_to, due_of, own_after, own_frames, thread_part, time, without}
 use Rattle.nt_event.specs.Jobs.{level_at}
 use Rattle.nt_event.specs.Lanes.{Lanes, lanes_at}
-use Rattle.nt_event.specs.Own.{Own, own_of, standing_in}
+use Rattle.nt_event.specs.Own.{Own, own_of, stand_in}
 use Rattle.nt_event.specs.Regions.{regions_of}
 use Rattle.nt_event.specs.Step.{IsRun}
 use Rattle.nt_event.specs.Lists.{head_of, is_null}
@@ -83,8 +83,8 @@ not_refused : (o : Option Refusal) (y z : Reply) → y ≡ reply_or o z → is_r
 not_refused None y z e h = (refl, e)
 not_refused (Some r) y z e h = let k : is_refused (Refused r) ≡ false = subst (λ (v : Reply). is_refused v ≡ false) e h in cc
 
-pub call_accepted : (s : Script) (p : CpuNo) (x : Own) (l : Lanes) (n : ℕ) (c : Command) (y : Reply) → (k : KnownCall s p x l n c y) → is_refused y ≡ false → (refusal_in x k.frame c ≡ None) × (y ≡ reply s (standing_in p x) l c)
-call_accepted s p x l n c y k h = not_refused (refusal_in x k.frame c) y (reply s (standing_in p x) l c) k.reply h
+pub call_accepted : (s : Script) (p : CpuNo) (x : Own) (l : Lanes) (n : ℕ) (c : Command) (y : Reply) → (k : KnownCall s p x l n c y) → is_refused y ≡ false → (refusal_in x k.frame c ≡ None) × (y ≡ reply s (stand_in p x) l c)
+call_accepted s p x l n c y k h = not_refused (refusal_in x k.frame c) y (reply s (stand_in p x) l c) k.reply h
 
 pub null_of : (b : Bool) → not b ≡ false → b ≡ true
 null_of true h = refl
@@ -94,7 +94,7 @@ null_of false h = cc
 pub blocked_call : (s : Script) (p : CpuNo) (x : Own) (l : Lanes) (n : ℕ) (c : Command) → KnownCall s p x l n c Blocked → (is_wait c ≡ true) × (is_null x.frames.own ≡ true)
 blocked_call s p x l n c k =
     let a = call_accepted s p x l n c Blocked k refl in
-    let w : is_wait c ≡ true = reply_blocked s (standing_in p x) l c (sym a.1) in
+    let w : is_wait c ≡ true = reply_blocked s (stand_in p x) l c (sym a.1) in
     (w, null_of (is_null x.frames.own) (accepted_on_thread (level_at x) (not (is_null x.frames.own)) (regions_of (thread_part x.frames)) k.frame c (wait_is_thread_call c w) a.0))
 
 pub yield_call : (s : Script) (p : CpuNo) (x : Own) (l : Lanes) (n : ℕ) → KnownCall s p x l n Yield Done → is_null x.frames.own ≡ true

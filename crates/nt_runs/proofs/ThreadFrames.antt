@@ -23,7 +23,7 @@ use Rattle.nt_event.specs.declared.numbers.RoutineNo.{RoutineNo}
 use Rattle.nt_event.specs.declared.numbers.ThreadNo.{ThreadNo}
 use Rattle.nt_event.specs.declared.scripts.Script.{Script}
 use Rattle.nt_event.specs.Commands.{refuse}
-use Rattle.nt_event.specs.Frames.{at_name, base_level, base_of, called, done_to, due_of, end_on_thread, flushed, frames_of, is_base_body, left, new_frame, normal_of, resumed, rewaited, running, switched_to, thread_after, thread_frames, thread_part, time}
+use Rattle.nt_event.specs.Frames.{at_name, base_level, base_of, called, done_to, due_of, end_on_thread, flushed, frames_of, is_base_body, ended_base, new_frame, normal_of, resumed, rewaited, running, switched_to, thread_after, thread_frames, thread_part, time}
 use Rattle.nt_event.specs.Jobs.{has_normal, level_at}
 use Rattle.nt_event.specs.Lanes.{Lanes, lanes_at}
 use Rattle.nt_event.specs.Own.{Own, own_of}
@@ -47,7 +47,7 @@ pub record Kept (P : Frame → Type 0) : Type 0 where
   pub rundown : (n : ℕ) (a : ApcNo) → P (new_frame n (OnRundown a))
   pub resumed : (st : Option ℕ) (f : Frame) → P f → P (resumed st f)
   pub rewaited : (y : Reply) (f : Frame) → P f → P (rewaited y f)
-  pub left : (f : Frame) → is_base_body f.body ≡ true → P f → P (left f)
+  pub left : (f : Frame) → is_base_body f.body ≡ true → P f → P (ended_base f)
   pub normal : (f : Frame) → has_normal f.body ≡ true → P f → P (normal_of f)
   pub called : (s : Script) (p : CpuNo) (x : Own) (l : Lanes) (n : ℕ) (due : Option ℕ) (c : Command) (y : Reply) (k : KnownCall s p x l n c y) → P k.frame → P (called due c y k.frame)
 
@@ -68,7 +68,7 @@ module _ (P : Frame → Type 0) (k : Kept P) where
   end_each n [] h = h
   end_each n (f ∷ fs) h = go (f.name == n) (is_base_body f.body) refl
     where
-      go : (b c : Bool) → is_base_body f.body ≡ c → Each P (if b then (if c then (left f ∷ fs) else fs) else (f ∷ fs))
+      go : (b c : Bool) → is_base_body f.body ≡ c → Each P (if b then (if c then (ended_base f ∷ fs) else fs) else (f ∷ fs))
       go true true e = (k.left f e h.0, h.1)
       go true false e = h.1
       go false c e = h

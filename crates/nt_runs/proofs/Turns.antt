@@ -31,9 +31,10 @@ use Rattle.nt_event.specs.declared.scripts.Script.{Script}
 use Rattle.nt_event.specs.Apcs.{deliverable, first_user}
 use Rattle.nt_event.specs.Commands.{needs_lane}
 use Rattle.nt_event.specs.Frames.{innermost}
-use Rattle.nt_event.specs.Jobs.{begin_apc, begin_dpc, begin_first, call_task, command_task, end_task, expire_key, fire_task, frame_task, has_normal, idle_event, idle_task, interrupt_classes, interrupt_task, job_event, may_apcs, may_drain, may_interrupt, may_threaded, must_task, next_what, normal_task, ready, rewait_reply, rewait_task, rundown_event, rundown_task, task, task_event, user_due}
+use Rattle.nt_event.specs.Jobs.{begin_apc, begin_dpc, begin_first, call_task, command_task, end_task, expire_key, fire_task, frame_task, has_normal, idle_event, idle_task, interrupt_task, job_event, may_apcs, may_drain, may_interrupt, may_threaded, must_task, next_what, normal_task, ready, rewait_reply, rewait_task, rundown_event, rundown_task, task, task_event, user_due}
+use Rattle.nt_event.specs.Classes.{interrupt_classes}
 use Rattle.nt_event.specs.Lanes.{Lanes, facts_at, facts_of, lanes_at, queue_at}
-use Rattle.nt_event.specs.Own.{Own, own_of, standing_in}
+use Rattle.nt_event.specs.Own.{Own, own_of, stand_in}
 use Rattle.nt_event.specs.Queues.{QueueState, first_dpc}
 use Rattle.nt_event.specs.Routines.{next_command}
 use Rattle.nt_event.specs.Step.{IsRun, step, turn_at, turn_of, turns}
@@ -126,11 +127,11 @@ task_next s p x =
 
 pub next_is_next : (s : Script) (p : CpuNo) (x : Own) (l : Lanes) → Holds (λ w. is_next w ≡ true) (next_what s p x l)
 next_is_next s p x l =
-    holds_then IsNext (task_event s (standing_in p x) l) (task s p x) (λ t e. events t (holds_at NextTask (task s p x) t (task_next s p x) e))
+    holds_then IsNext (task_event s (stand_in p x) l) (task s p x) (λ t e. events t (holds_at NextTask (task s p x) t (task_next s p x) e))
   where
-    events : (t : Task) → NextTask t → Holds IsNext (task_event s (standing_in p x) l t)
+    events : (t : Task) → NextTask t → Holds IsNext (task_event s (stand_in p x) l t)
     events (Alone w) h = h
-    events (Shared j) h = job_next s (standing_in p x) l j h
+    events (Shared j) h = job_next s (stand_in p x) l j h
 
 -- ---- turns
 

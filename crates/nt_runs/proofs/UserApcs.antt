@@ -17,7 +17,7 @@ use Rattle.nt_event.specs.declared.numbers.RoutineNo.{RoutineNo}
 use Rattle.nt_event.specs.declared.numbers.ThreadNo.{ThreadNo}
 use Rattle.nt_event.specs.declared.scripts.Script.{Script}
 use Rattle.nt_event.specs.Commands.{not_above, refuse}
-use Rattle.nt_event.specs.Frames.{Frames, at_name, called, due_of, end_on_thread, flushed, frames_of, is_base_body, is_on_thread, is_user_apc_body, left, new_frame, normal_of, resumed, rewaited, running, switched_to, thread_after, thread_frames, thread_part, time}
+use Rattle.nt_event.specs.Frames.{Frames, at_name, called, due_of, end_on_thread, flushed, frames_of, is_base_body, is_on_thread, is_user_apc_body, ended_base, new_frame, normal_of, resumed, rewaited, running, switched_to, thread_after, thread_frames, thread_part, time}
 use Rattle.nt_event.specs.Jobs.{level_at, may_apcs}
 use Rattle.nt_event.specs.Lanes.{Lanes, lanes_at}
 use Rattle.nt_runs.specs.Laws.{level_of}
@@ -69,14 +69,14 @@ end_user n (f ∷ fs) h = go (f.name == n) (is_base_body f.body) refl
     base (OnBase t) h = refl
     base b h = cc
 
-    left_user : is_base_body f.body ≡ true → UserBelow (left f ∷ fs)
+    left_user : is_base_body f.body ≡ true → UserBelow (ended_base f ∷ fs)
     left_user e = go fs h
       where
-        go : (fs : List Frame) → UserBelow (f ∷ fs) → UserBelow (left f ∷ fs)
+        go : (fs : List Frame) → UserBelow (f ∷ fs) → UserBelow (ended_base f ∷ fs)
         go [] h = tt
         go (g ∷ fs) h = (λ u. let no : is_user_apc_body f.body ≡ false = base f.body e in absurd (both_ways (is_user_apc_body f.body) no u), h.1)
 
-    go : (b c : Bool) → is_base_body f.body ≡ c → UserBelow (if b then (if c then (left f ∷ fs) else fs) else (f ∷ fs))
+    go : (b c : Bool) → is_base_body f.body ≡ c → UserBelow (if b then (if c then (ended_base f ∷ fs) else fs) else (f ∷ fs))
     go true true e = left_user e
     go true false e = tail_user f fs h
     go false c e = h

@@ -25,7 +25,7 @@ use Rattle.nt_event.specs.Waits.{facts}
 use Rattle.nt_event.specs.Lists.{head_of}
 use Rattle.nt_event.specs.Numbers.{is_of}
 use Rattle.nt_event.specs.declared.jobs.Job.{Job}
-use Rattle.nt_event.specs.Acting.{IsAllowed, IsDue, IsStanding, acted_event}
+use Rattle.nt_event.specs.Acting.{IsAllowed, IsDue, StandHolds, acted_event}
 
 -- what a processor keeps moves as the history does
 abbrev pub OwnMoves : Type 0
@@ -102,7 +102,7 @@ FactsAgree = (s : Script) (limit : ℕ) (t : ThreadNo) (past : List Event) → I
 
 -- in a run each processor stands so
 abbrev pub ProcessorsStand : Type 0
-ProcessorsStand = (s : Script) (limit : ℕ) (p : CpuNo) (past : List Event) → IsRun s limit past → IsStanding s (lanes_at s past) (stand_at s p past)
+ProcessorsStand = (s : Script) (limit : ℕ) (p : CpuNo) (past : List Event) → IsRun s limit past → StandHolds s (lanes_at s past) (stand_at s p past)
 
 -- in a run a job that is due is allowed
 abbrev pub JobsAllowed : Type 0

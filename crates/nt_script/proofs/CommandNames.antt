@@ -46,7 +46,8 @@ sound_named input s (cmd.Lower level) h = tt
 sound_named input s (cmd.Queue d) h = below d.0 (length input.names.dpcs) (length input.script.dpcs) s.dpcs h
 sound_named input s (cmd.Unqueue d) h = below d.0 (length input.names.dpcs) (length input.script.dpcs) s.dpcs h
 sound_named input s (cmd.SetImportance d importance) h = below d.0 (length input.names.dpcs) (length input.script.dpcs) s.dpcs h
-sound_named input s (cmd.SetTarget d target) h = below d.0 (length input.names.dpcs) (length input.script.dpcs) s.dpcs (and_parts (has_dpc input.script d) (where_given (has_cpu input.script) target) h).0
+sound_named input s (cmd.SetTarget d target) h = below d.0 (length input.names.dpcs) (length input.script.dpcs) s.dpcs
+    (and_parts (has_dpc input.script d) (where_given (has_cpu input.script) target) h).0
 sound_named input s (cmd.SetTimer t due period) h = below t.0 (length input.names.timers) (length input.script.timers) s.timers h
 sound_named input s (cmd.CancelTimer t) h = below t.0 (length input.names.timers) (length input.script.timers) s.timers h
 sound_named input s (cmd.InsertApc a) h = below a.0 (length input.names.apcs) (length input.script.apcs) s.apcs h

@@ -39,7 +39,8 @@ at_ok p (Some v) wd e =
     (ap (λ (u : Keyword). Some u) r.1, subst (At p) r.1 (leb-true (earliest v) (order p) b.0, leb-true (order p) (latest v) b.1))
 
 pub at_again : (p : Place) (wd : Keyword) → At p wd → keyword_at p (Some wd) ≡ Ok wd
-at_again p wd h = let b : stands p wd ≡ true = and_from (nat_le (earliest wd) (order p)) (nat_le (order p) (latest wd)) (le-leb (earliest wd) (order p) h.0) (le-leb (order p) (latest wd) h.1) in rw b refl
+at_again p wd h = let b : stands p wd ≡ true = and_from (nat_le (earliest wd) (order p)) (nat_le (order p) (latest wd)) (le-leb (earliest wd) (order p) h.0)
+    (le-leb (order p) (latest wd) h.1) in rw b refl
 
 first_keyword : (f : List ℕ) (w : Keyword) → keyword_of f ≡ Some w → f ≡ text_of w
 unfolding keyword_of
@@ -48,7 +49,8 @@ first_keyword f w e = same_text f (text_of w) (find_passes (λ w. bytes_eq f (te
 counted_ok : (there wanted : ℕ) (b : Bool) → counted there wanted ≡ Ok b → there ≡ wanted
 counted_ok there wanted b e = go (nat_lt there wanted) (nat_lt wanted there) refl refl e
   where
-    go : (x y : Bool) → nat_lt there wanted ≡ x → nat_lt wanted there ≡ y → cond x (Err MissingField) (cond y (Err ExtraField) (Ok true)) ≡ Ok b → there ≡ wanted
+    go : (x y : Bool) → nat_lt there wanted ≡ x → nat_lt wanted there ≡ y → cond x (Err MissingField) (cond y (Err ExtraField) (Ok true)) ≡ Ok b → there
+        ≡ wanted
     go true y p q e = absurd cc
     go false true p q e = absurd cc
     go false false p q e = let low = ltb-false there wanted p in let high = ltb-false wanted there q in omega arith
@@ -110,15 +112,18 @@ pub record Line (all : NameLists) (w : Walk) (row : Row) (new : Walk) : Type 0 w
 
 pub step_ok : (all : NameLists) (w : Walk) (row : Row) (new : Walk) → step all w row ≡ Ok new → Line all w row new
 step_ok all w row new e =
-    let b = bind_ok (keyword_at w.place (keyword_of (first row))) (λ (keyword : Keyword). counted (length (rest row)) (arity keyword) >>= λ (b : Bool). act all w keyword (rest row)) new e in
+    let b = bind_ok (keyword_at w.place (keyword_of (first row)))
+        (λ (keyword : Keyword). counted (length (rest row)) (arity keyword) >>= λ (b : Bool). act all w keyword (rest row)) new e in
     let keyword = b.value in
     let o = at_ok w.place (keyword_of (first row)) keyword b.is in
     let k = bind_ok (counted (length (rest row)) (arity keyword)) (λ (b : Bool). act all w keyword (rest row)) new b.then in
-    record { keyword = keyword; is = o.0; row_is = row_parts row keyword (first_keyword (first row) keyword o.0); at = o.1; count = counted_ok (length (rest row)) (arity keyword) k.value k.is; acts = k.then }
+    record { keyword = keyword; is = o.0; row_is = row_parts row keyword (first_keyword (first row) keyword o.0); at = o.1;
+        count = counted_ok (length (rest row)) (arity keyword) k.value k.is; acts = k.then }
 
 -- ---- a name and what it is the name of
 
-pub record Declared {A : Type 0} (names : NameLists) (read : Row → Result A ScriptKind) (put : List ℕ → A → Result Walk ScriptKind) (args : Row) (new : Walk) : Type 0 where
+pub record Declared {A : Type 0} (names : NameLists) (read : Row → Result A ScriptKind) (put : List ℕ → A → Result Walk ScriptKind) (args : Row)
+    (new : Walk) : Type 0 where
   pub name : List ℕ
   pub thing : A
   pub first_is : first args ≡ name
@@ -127,12 +132,14 @@ pub record Declared {A : Type 0} (names : NameLists) (read : Row → Result A Sc
   pub read_is : read (rest args) ≡ Ok thing
   pub made : put name thing ≡ Ok new
 
-pub declared_ok : {A : Type 0} (names : NameLists) (read : Row → Result A ScriptKind) (put : List ℕ → A → Result Walk ScriptKind) (args : Row) (new : Walk) → declaration names read put args ≡ Ok new → Declared names read put args new
+pub declared_ok : {A : Type 0} (names : NameLists) (read : Row → Result A ScriptKind) (put : List ℕ → A → Result Walk ScriptKind) (args : Row) (new : Walk) →
+    declaration names read put args ≡ Ok new → Declared names read put args new
 declared_ok {A = A} names read put args new e =
     let b = bind_ok (new_name names (first args)) (λ (name : List ℕ). read (rest args) >>= λ (x : A). put name x) new e in
     let t = new_name_takes names in
     let d = bind_ok (read (rest args)) (λ (x : A). put b.value x) new b.then in
-    record { name = b.value; thing = d.value; first_is = t.shown (first args) b.value b.is; named = (t.fits (first args) b.value b.is).0; none = (t.fits (first args) b.value b.is).1; read_is = d.is; made = d.then }
+    record { name = b.value; thing = d.value; first_is = t.shown (first args) b.value b.is; named = (t.fits (first args) b.value b.is).0;
+        none = (t.fits (first args) b.value b.is).1; read_is = d.is; made = d.then }
 
 -- some fields are the first one and the others
 pub args_parts : (args : Row) (n : ℕ) → length args ≡ suc n → (args ≡ first args ∷ rest args) × (length (rest args) ≡ n)

@@ -1,17 +1,14 @@
 -- Which inputs have a text.
-use Rattle.std.specs.Prelude.{◌≡◌, ℕ, ◌≤◌, true, List, [], ◌∷◌, ◌++◌, length, None, IsTrue}
+use Rattle.std.specs.Prelude.{◌≡◌, ℕ, ◌≤◌, List, [], length, IsTrue}
 use Rattle.std.specs.List.{AllByRecursion}
-use Rattle.nt_text.specs.Fields.{is_name}
-use Rattle.nt_event.specs.declared.commands.Command.{Command}
-use Rattle.nt_event.specs.declared.commands.Command.TheVariants.{Raise, Lower, SetTimer, Delay, Clock, Note}
 use Rattle.nt_event.specs.Script.{fits}
+use Rattle.nt_line.specs.Fits.{HasRange}
+use Rattle.nt_line.specs.NameLists.{AreNew, all_names}
 use Rattle.nt_script.specs.declared.walk.Input.{Input}
-use Rattle.nt_line.specs.Places.{place}
-use Rattle.nt_line.specs.NameLists.{all_names}
 use Rattle.nt_script.specs.Text.{text}
 
--- an input that has a text: its script fits and has at most 8 processors, there are as many names of each kind as things, and
--- each is a name and all are different
+-- an input that has a text: its script fits and has at most 8 processors, there are as many names of each kind as
+-- things, and each is a name and all are different
 pub record IsSound (input : Input) : Type 0 where
   pub fits : IsTrue (fits input.script)
   pub cpus : input.script.cpus ≤ 8

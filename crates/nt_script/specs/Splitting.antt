@@ -13,8 +13,8 @@ abbrev pub first_begins : List ℕ → List (List ℕ × Bool) → Bool
 first_begins keyword [] = false
 first_begins keyword (line ∷ more) = begins keyword line
 
--- the bytes from `at` on begin with the line of this number: the lines of both parts are the lines of the whole, the line before
--- which the text is cut has the keyword as its first field, and no line before does
+-- the bytes from `at` on begin with the line of this number: the lines of both parts are the lines of the whole, the
+-- line before which the text is cut has the keyword as its first field, and no line before does
 pub record Splits (keyword bytes : List ℕ) (at line : ℕ) : Type 0 where
   pub whole : lines (take at bytes) ++ lines (drop at bytes) ≡ lines bytes
   pub number : length (lines (take at bytes)) + 1 ≡ line
@@ -24,4 +24,5 @@ pub record Splits (keyword bytes : List ℕ) (at line : ℕ) : Type 0 where
 -- the first line with this keyword among lines of which the first has this number and begins at this byte
 abbrev pub split_from : List ℕ → ℕ → ℕ → List (List ℕ × Bool) → Option (ℕ × ℕ)
 split_from keyword at n [] = None
-split_from keyword at n (line ∷ more) = if begins keyword line then Some (at, n) else split_from keyword (at + (length line.0 + 1)) (n + 1) more
+split_from keyword at n (line ∷ more) = if begins keyword line then Some (at, n)
+    else split_from keyword (at + (length line.0 + 1)) (n + 1) more

@@ -1,6 +1,7 @@
 //! The text of an input, line by line.
 ghost use Rattle.std.specs.Prelude.{◌≡◌, ◌<◌, ◌≤◌, ◌∷◌, ◌++◌, [], length, map, All, OnOk, IfOk};
 ghost use Rattle.nt_text.specs.Lines.{row_text, rows_text};
+ghost use Rattle.nt_line.specs.declared.keywords.Keyword.TheVariants as keyword;
 ghost use Rattle.nt_line.specs.Keywords.{text_of};
 ghost use Rattle.nt_line.specs.NameLists.{show_routine};
 ghost use Rattle.nt_line.specs.Fits.{IsrFits, DpcFits, TimerFits, ThreadFits, ApcFits, CommandFits};
@@ -38,6 +39,14 @@ fn put_field_line(out: &mut Vec<u8>, keyword: Keyword, field: &[u8]) -> Result<(
     Ok(())
 }
 
+/// Adds the first line of a routine.
+fn put_begin(out: &mut Vec<u8>, names: &Names, r: RoutineNo) -> Result<(), AllocError>
+    requires { r.0 < length names.now.routines }
+    ensures { OnOk result (out.new.items ≡ out.old.items ++ row_text (text_of keyword.Routine ∷ show_routine names.now r ∷ [])) }
+{
+    put_field_line(out, Keyword::Routine, names.routine(r).as_bytes())
+}
+
 /// Adds the last line of a routine.
 fn put_exit(out: &mut Vec<u8>) -> Result<(), AllocError>
     ensures { OnOk result (out.new.items ≡ out.old.items ++ row_text exit_row) }
@@ -59,7 +68,7 @@ fn put_routine(
     requires fits { All (CommandFits names.now cpus) commands.now }
     ensures { OnOk result (out.new.items ≡ out.old.items ++ rows_text (begun_rows names.now (show_routine names.now r) commands.now ++ exit_row ∷ [])) }
 {
-    put_field_line(out, Keyword::Routine, names.routine(r).as_bytes())?;
+    put_begin(out, names, r)?;
     put_commands(out, names, cpus, commands)?;
     put_exit(out)?;
     Ok(())
@@ -168,6 +177,13 @@ fn put_routines(
     Ok(())
 }
 
+/// Adds the line of the processors.
+fn put_cpus(out: &mut Vec<u8>, cpus: u8) -> Result<(), AllocError>
+    ensures { OnOk result (out.new.items ≡ out.old.items ++ row_text (number_row keyword.Cpus cpus)) }
+{
+    put_number_line(out, Keyword::Cpus, u64::from(cpus))
+}
+
 /// Adds the line of the depth, where one is given.
 fn put_depth(out: &mut Vec<u8>, depth: Option<u32>) -> Result<(), AllocError>
     ensures { OnOk result (out.new.items ≡ out.old.items ++ rows_text (depth_rows depth)) }
@@ -192,7 +208,7 @@ fn put_threaded(out: &mut Vec<u8>, threaded: Option<bool>) -> Result<(), AllocEr
 fn put_header(out: &mut Vec<u8>, script: &Script) -> Result<(), AllocError>
     ensures { OnOk result (out.new.items ≡ out.old.items ++ rows_text (header_rows script.now.cpus script.now.depth script.now.threaded)) }
 {
-    put_number_line(out, Keyword::Cpus, u64::from(script.cpus))?;
+    put_cpus(out, script.cpus)?;
     put_depth(out, script.depth)?;
     put_threaded(out, script.threaded)?;
     Ok(())

@@ -1,6 +1,6 @@
 //! Reading a script line by line.
 use crate::reading::ScriptRefusal;
-use nt_event::{ApcKind, Command, Items, Routine, Script};
+use nt_event::{ApcKind, Command, Items, Routine, Script, limits};
 use nt_line::{Keyword, Kind, Names, Place, Verb, command, declarations, fields, keyword_of};
 use nt_text::{Fields, Line, ScriptKind, What10};
 use std::alloc::{AllocError, Global};
@@ -201,7 +201,7 @@ impl Walk {
     fn depth(&mut self, args: &mut Fields) -> Result<(), Stop>
         ensures { Gives result self.new (act no_names self.old Keyword.Depth args.old) }
     {
-        self.script.depth = Some(fields::number(args.take(), 256)?);
+        self.script.depth = Some(fields::number(args.take(), limits::DEPTH)?);
         self.place = Place::HasDepth;
         Ok(())
     }
@@ -237,7 +237,7 @@ impl Walk {
     {
         let name = fields::new_name(&self.names, args.take())?;
         let dpc = declarations::dpc(all, threaded, args)?;
-        if self.script.dpcs.len() >= 256 {
+        if self.script.dpcs.len() >= limits::DPCS {
             return Err(Stop::Bad(ScriptKind::TooMany(What10::Dpcs)));
         }
         self.script.dpcs.push(dpc)?;
@@ -251,7 +251,7 @@ impl Walk {
     {
         let name = fields::new_name(&self.names, args.take())?;
         let timer = declarations::timer(all, args)?;
-        if self.script.timers.len() >= 64 {
+        if self.script.timers.len() >= limits::TIMERS {
             return Err(Stop::Bad(ScriptKind::TooMany(What10::Timers)));
         }
         self.script.timers.push(timer)?;
@@ -265,7 +265,7 @@ impl Walk {
     {
         let name = fields::new_name(&self.names, args.take())?;
         let thread = declarations::thread(all, self.script.cpus, args)?;
-        if self.script.threads.len() >= 64 {
+        if self.script.threads.len() >= limits::THREADS {
             return Err(Stop::Bad(ScriptKind::TooMany(What10::Threads)));
         }
         self.script.threads.push(thread)?;
@@ -285,7 +285,7 @@ impl Walk {
     {
         let name = fields::new_name(&self.names, args.take())?;
         let apc = declarations::apc(all, kind, args)?;
-        if self.script.apcs.len() >= 256 {
+        if self.script.apcs.len() >= limits::APCS {
             return Err(Stop::Bad(ScriptKind::TooMany(What10::Apcs)));
         }
         self.script.apcs.push(apc)?;
@@ -298,7 +298,7 @@ impl Walk {
         ensures { Gives result self.new (act no_names self.old Keyword.Routine args.old) }
     {
         let name = fields::new_name(&self.names, args.take())?;
-        if self.script.routines.len() >= 256 {
+        if self.script.routines.len() >= limits::ROUTINES {
             return Err(Stop::Bad(ScriptKind::TooMany(What10::Routines)));
         }
         self.names.add(alloc, Kind::Routine, name)?;
@@ -319,7 +319,7 @@ impl Walk {
         ensures { Gives result self.new (act all.now self.old (Keyword.Call verb) args.old) }
     {
         let command = command(all, self.script.cpus, verb, args)?;
-        if self.commands >= 8192 {
+        if self.commands >= limits::COMMANDS as u32 {
             return Err(Stop::Bad(ScriptKind::TooMany(What10::Commands)));
         }
         self.body.push(command)?;

@@ -3,7 +3,7 @@ use Rattle.std.proofs.Common.{◌≡◌, ◌&&◌, ◌==◌, Bool, None, Option,
 use Rattle.nt_event.specs.Apcs.{without_apc}
 use Rattle.nt_event.specs.Routines.{kind_of, owner_of}
 use Rattle.nt_event.specs.Threads.{ThreadFacts}
-use Rattle.nt_event.specs.Waits.{alert_facts, alert_tested, apc_taken, expiry_facts, facts_after, frame_ended, insert_facts, is_of_thread, left_facts, made_facts, named_facts, new_pick, release_facts, waited, waited_again}
+use Rattle.nt_event.specs.Waits.{alert_facts, alert_tested, apc_taken, expiry_facts, facts_after, frame_ended, insert_facts, is_of_thread, leaving_facts, made_facts, named_facts, new_pick, release_facts, waited, waited_again}
 use Rattle.nt_event.specs.Replies.{is_answer, yes_if}
 use Rattle.nt_event.specs.declared.commands.ApcKind.TheVariants.{User as UserApc}
 use Rattle.nt_event.specs.declared.commands.Command.TheVariants.{Alert, Delay, InsertApc, Release, RemoveApc, StartWait, TestAlert, Yield}
@@ -76,7 +76,7 @@ pub facts-begin : (s : Script) (t : ThreadNo) (n : ℕ) (st : Stand) (e : Event)
 facts-begin s t n st e x a from what of = facts-by s t n st e x (Begin (Apc a) from) true what of
 
 -- `leave`
-pub facts-leave : (s : Script) (t : ThreadNo) (n : ℕ) (st : Stand) (e : Event) (x : ThreadFacts) (f : ℕ) (u : ThreadNo) → e.what ≡ End f → st.body ≡ Some (OnBase u) → is_of_thread s t e ≡ true → facts_after s t n st e x ≡ left_facts x
+pub facts-leave : (s : Script) (t : ThreadNo) (n : ℕ) (st : Stand) (e : Event) (x : ThreadFacts) (f : ℕ) (u : ThreadNo) → e.what ≡ End f → st.body ≡ Some (OnBase u) → is_of_thread s t e ≡ true → facts_after s t n st e x ≡ leaving_facts x
 facts-leave s t n st e x f u what body of = facts-by s t n st e x (End f) true what of ∙ ap (λ (b : Option Body). frame_ended b x) body
 
 -- `test_alert` for user mode

@@ -65,7 +65,7 @@ blocked-added pick w x d h e = go (is_kernel_kind pick.kind) refl where
   kernel : ends_by_kernel (with_apc pick x.apcs) x ≡ false → is_some (deliverable (with_apc pick x.apcs) w.regions w.level) ≡ false
   kernel f = rw d at f
 
-  user : ends_by_user x ≡ false → (is_user w.mode && (w.alertable || x.marked)) ≡ false
+  user : ends_by_user x ≡ false → (is_user w.mode && (w.alertable || x.user_pending)) ≡ false
   user f = rw d at f
 
   refused : (u a m : Bool) → (u && (a || m)) ≡ false → (u && a) ≡ false
@@ -80,7 +80,7 @@ blocked-added pick w x d h e = go (is_kernel_kind pick.kind) refl where
   }
   go false k = record {
     kernel = none-from _ (deliverable-with_user pick x.apcs w.regions w.level (user-kind pick.kind k) ∙ some-of-none _ h.kernel);
-    user = λ t. absurd (false≢true (sym (refused (is_user w.mode) w.alertable x.marked (user (rw k at e))) ∙ t));
+    user = λ t. absurd (false≢true (sym (refused (is_user w.mode) w.alertable x.user_pending (user (rw k at e))) ∙ t));
   }
 
 -- an insert that ends no wait

@@ -21,7 +21,7 @@ BlocksAreQuiet = (acts : List Act) (w : Waiting) → (facts_of acts).doing ≡ I
 -- each flag is what the last call that sets or clears it left
 pub record FlagsAreLastLeft (acts : List Act) : Type 0 where
   pub alerted : (m : Mode) → is_alerted m (facts_of acts) ≡ last_left (sets_alert m) (clears_alert m) acts
-  pub marked : (facts_of acts).marked ≡ last_left sets_mark clears_mark acts
+  pub user_pending : (facts_of acts).user_pending ≡ last_left sets_mark clears_mark acts
   pub released : (facts_of acts).released ≡ last_left sets_released clears_released acts
   pub leaving : (facts_of acts).leaving ≡ last_left sets_leaving clears_leaving acts
 

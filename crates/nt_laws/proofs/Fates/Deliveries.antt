@@ -75,7 +75,7 @@ deliverable_pending q r level x h = go (first_kernel q) refl h
 
 user_due_pending : (x : ThreadFacts) (y : Pick) → user_due x ≡ Some y → Contains x.apcs.pending y
 user_due_pending x y h =
-    kind_pending UserApc x.apcs y (when_gives x.marked (first_user x.apcs) y h).1
+    kind_pending UserApc x.apcs y (when_gives x.user_pending (first_user x.apcs) y h).1
 
 -- ---- where they are pending
 

@@ -78,7 +78,7 @@ made_so s n st w x = refl
 insert_picks : (pick : Pick) (x : ThreadFacts) → (insert_facts pick x).apcs.pending ≡ pick ∷ x.apcs.pending
 insert_picks pick x = go (ends_by_apc pick x) (is_kernel_kind pick.kind)
   where
-    go : (b k : Bool) → (if b then (if k then ended kernel_apc (record x { apcs = with_apc pick x.apcs }) else record (ended user_apc (record x { apcs = with_apc pick x.apcs })) { marked = true }) else record x { apcs = with_apc pick x.apcs }).apcs.pending ≡ pick ∷ x.apcs.pending
+    go : (b k : Bool) → (if b then (if k then ended kernel_apc (record x { apcs = with_apc pick x.apcs }) else record (ended user_apc (record x { apcs = with_apc pick x.apcs })) { user_pending = true }) else record x { apcs = with_apc pick x.apcs }).apcs.pending ≡ pick ∷ x.apcs.pending
     go true true = refl
     go true false = refl
     go false k = refl

@@ -27,13 +27,15 @@ use Rattle.nt_event.specs.Queues.{QueueState, depth_of, insert_asks}
 use Rattle.nt_event.specs.Regions.{some_came_to_0, stand_at}
 use Rattle.nt_event.specs.Requests.{Ask, ask_if, asks, command_asks, dpc_asks, end_asks, is_ask, what_asks}
 use Rattle.nt_event.specs.Routines.{cpu_of, depth_limit, is_kernel_kind, kind_of, owner_of, part_of}
-use Rattle.nt_event.specs.Script.{command_fits, has_cpu, is_requested_level}
+use Rattle.nt_event.specs.Script.{command_fits, has_cpu}
+use Rattle.nt_event.specs.Classes.{is_requested_level, is_used_class}
 use Rattle.nt_event.specs.Step.{good_rises, was_asked}
 use Rattle.nt_event.specs.Threads.{ends_by_apc, ends_by_expiry}
 use Rattle.nt_event.specs.Waits.{new_pick}
 use Rattle.nt_event.specs.Lists.{value_at}
 use Rattle.nt_event.proofs.Options.{both}
-use Rattle.nt_laws.specs.Named.{AllFit, is_used_class, values_fit, what_fits}
+use Rattle.nt_laws.specs.Named.{AllFit, values_fit}
+use Rattle.nt_event.specs.Fitting.{what_fits}
 
 abbrev AreUsed : List Ask → Type 0
 AreUsed [] = Unit {0}

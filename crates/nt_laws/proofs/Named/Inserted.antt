@@ -20,7 +20,8 @@ use Rattle.nt_event.specs.Script.{has_apc, has_dpc}
 use Rattle.nt_event.specs.Waits.{facts, is_of_thread}
 use Rattle.nt_event.proofs.Elements.{contains_none, contains_cases, kept_contains}
 use Rattle.nt_laws.proofs.Fates.Picks.{PutsPick, picks_after, picks_kept, picks_move}
-use Rattle.nt_laws.specs.Named.{AllFit, what_fits}
+use Rattle.nt_laws.specs.Named.{AllFit}
+use Rattle.nt_event.specs.Fitting.{what_fits}
 
 -- ---- DPCs
 

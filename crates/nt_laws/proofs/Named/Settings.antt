@@ -25,7 +25,7 @@ use Rattle.nt_event.specs.Numbers.{thread, timer}
 use Rattle.nt_event.proofs.Tables.{get_or-table, length-table_from}
 use Rattle.nt_timer.specs.Settings.{setting_at}
 use Rattle.nt_timer.proofs.Among.{first_due_among, set_key_is_set}
-use Rattle.nt_laws.specs.Named.{key_fits}
+use Rattle.nt_event.specs.Fitting.{key_fits}
 
 abbrev SetBelow : ℕ → Option Setting → Type 0
 SetBelow n o = IfSome o (λ x. x.number < n)

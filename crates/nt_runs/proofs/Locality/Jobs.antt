@@ -135,7 +135,7 @@ not_refused_if false = refl
 
 wait_accepted : (x : ThreadFacts) (r : Regions) (level : ℕ) (m : Mode) (a : Bool) (o : Option Bool) → is_refused (wait_reply x r level m a o) ≡ false
 wait_accepted x r level m a o =
-    ifs (is_some (deliverable x.apcs r level)) (is_satisfied x o) (a && is_alerted m x) (a && (is_user m && has_user x.apcs)) (a && x.alerted_kernel) (not a && (is_user m && x.marked))
+    ifs (is_some (deliverable x.apcs r level)) (is_satisfied x o) (a && is_alerted m x) (a && (is_user m && has_user x.apcs)) (a && x.alerted_kernel) (not a && (is_user m && x.user_pending))
   where
     ifs : (a b c d e f : Bool) → is_refused (if a then Status kernel_apc else (if b then Status satisfied else (if c then Status alerted else (if d then Status user_apc else (if e then Status alerted else (if f then Status user_apc else Blocked)))))) ≡ false
     ifs true b c d e f = refl

@@ -23,8 +23,9 @@ use Rattle.nt_event.specs.declared.numbers.RoutineNo.{RoutineNo}
 use Rattle.nt_event.specs.declared.numbers.ThreadNo.{ThreadNo}
 use Rattle.nt_event.specs.declared.scripts.Script.{Script}
 use Rattle.nt_event.specs.Apcs.{ApcQueues, deliverable, first_kernel, first_of_kind, first_user, has_kernel, is_of_kind, lets_through, same_kind}
-use Rattle.nt_event.specs.Frames.{at_name, due_of, end_on_thread, ended_on_thread, flushed, frames_of, innermost, is_base_body, is_normal_apc_body, is_user_apc_body, left, own_frames, running, thread_after, thread_frames, thread_part, time}
-use Rattle.nt_event.specs.Jobs.{interrupt_classes, level_at}
+use Rattle.nt_event.specs.Frames.{at_name, due_of, end_on_thread, ended_on_thread, flushed, frames_of, innermost, is_base_body, is_normal_apc_body, is_user_apc_body, ended_base, own_frames, running, thread_after, thread_frames, thread_part, time}
+use Rattle.nt_event.specs.Classes.{interrupt_classes}
+use Rattle.nt_event.specs.Jobs.{level_at}
 use Rattle.nt_event.specs.Lanes.{facts_at, facts_of, lanes_at}
 use Rattle.nt_event.specs.Own.{own_of}
 use Rattle.nt_event.specs.Regions.{regions_of, some_came_to_0, stand_at}
@@ -329,8 +330,8 @@ module _ (s : Script) (limit : ℕ) (t : ThreadNo) (e : Event) (past : List Even
             sym (own_leaving f.body (facts s t past) (stays (own_frames (cpu_of s t) past) refl (all_own (cpu_of s t) past) (all_named s (cpu_of s t) t past).apart).1) ∙ (ap (λ (x : ThreadFacts). x.leaving) (sym (ended_facts n k f h)) ∙ l)
 
     -- the base frame: the thread is leaving from here on
-    ended_base : (n : ℕ) → e.what ≡ End n → (f : Frame) → innermost (frames_of s (cpu_of s t) past) ≡ Some f → n ≡ f.name → head_of (thread_frames s (cpu_of s t) t past) ≡ Some f → (u : ThreadNo) → f.body ≡ OnBase u → Leaves s t (e ∷ past)
-    ended_base n k f h m first u body =
+    base_ended : (n : ℕ) → e.what ≡ End n → (f : Frame) → innermost (frames_of s (cpu_of s t) past) ≡ Some f → n ≡ f.name → head_of (thread_frames s (cpu_of s t) t past) ≡ Some f → (u : ThreadNo) → f.body ≡ OnBase u → Leaves s t (e ∷ past)
+    base_ended n k f h m first u body =
         record { serving = ap (Runs is_user_apc_body) now ∙ ap (λ (b : Body). is_user_apc_body b || false) body; rundown = λ q. no_rundown (sym (ap (Runs is_rundown) now ∙ ap (λ (b : Body). is_rundown b || false) body) ∙ q); pending = λ q. pending (has_kernel (facts s t past).apcs) refl }
       where
         base : is_base_body f.body ≡ true
@@ -342,10 +343,10 @@ module _ (s : Script) (limit : ℕ) (t : ThreadNo) (e : Event) (past : List Even
         named : (f.name == n) ≡ true
         named = eq-eqb f.name n (sym m)
 
-        ends : end_on_thread n (f ∷ []) ≡ left f ∷ []
+        ends : end_on_thread n (f ∷ []) ≡ ended_base f ∷ []
         ends = rw (named, base) refl
 
-        now : thread_frames s (cpu_of s t) t (e ∷ past) ≡ left f ∷ []
+        now : thread_frames s (cpu_of s t) t (e ∷ past) ≡ ended_base f ∷ []
         now = frames (End n) k ∙ (ap (end_on_thread n) alone ∙ ends)
 
         no_rundown : false ≡ true → NoKernel (facts s t (e ∷ past)).apcs.pending
@@ -417,7 +418,7 @@ module _ (s : Script) (limit : ℕ) (t : ThreadNo) (e : Event) (past : List Even
         q = known (End n) k refl
 
         body : head_of (thread_frames s (cpu_of s t) t past) ≡ Some q.frame → (b : Body) → q.frame.body ≡ b → Leaves s t (e ∷ past)
-        body first (OnBase u) h = ended_base n k q.frame q.goes_on.inner q.name first u h
+        body first (OnBase u) h = base_ended n k q.frame q.goes_on.inner q.name first u h
         body first b h = ended_inner n k q.frame q.goes_on.inner q.name first (ap is_base_body h) l ih
 
         own_part : (o : Bool) → is_null (own_frames (cpu_of s t) past) ≡ o → Leaves s t (e ∷ past)

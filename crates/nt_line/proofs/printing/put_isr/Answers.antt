@@ -6,4 +6,5 @@ use Rattle.nt_line.specs.Rows.{isr_args}
 use Rattle.nt_line.proofs.printing.put_isr.Goals as goal
 
 pub returns : goal.returns
-returns c = line_put _ _ _ _ (text_of keyword.Isr) (isr_args c.args.names.now c.args.isr.now) (search rules) c.in_ok-put_isr_args.ensures c.in_ok-push.ensures.items
+returns c = line_put _ _ _ _ (text_of keyword.Isr) (isr_args c.args.names.now c.args.isr.now)
+    (search rules) c.in_ok-put_isr_args.ensures c.in_ok-push.ensures.items

@@ -7,4 +7,5 @@ use Rattle.nt_line.specs.Rows.{thread_args}
 use Rattle.nt_line.proofs.printing.put_thread.Goals as goal
 
 pub returns : goal.returns
-returns c = line_put _ _ _ _ (text_of keyword.Thread) (show_thread c.args.names.now c.args.t ∷ thread_args c.args.names.now c.args.thread.now) (search rules) c.in_ok-put_thread_args.ensures c.in_ok-push.ensures.items
+returns c = line_put _ _ _ _ (text_of keyword.Thread) (show_thread c.args.names.now c.args.t ∷ thread_args c.args.names.now c.args.thread.now)
+    (search rules) c.in_ok-put_thread_args.ensures c.in_ok-push.ensures.items

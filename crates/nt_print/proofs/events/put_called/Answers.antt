@@ -9,4 +9,5 @@ pub put_command-requires : goal.put_command-requires
 put_command-requires c = sound_named c.args.input.now c.requires.sound c.args.command.now c.requires.fits
 
 pub returns : goal.returns
-returns c = spaced_put _ _ _ (verb_text (command_verb c.args.command.now)) (command_args c.args.input.now.names c.args.command.now) (search rules) c.in_ok-put_command.ensures
+returns c = spaced_put _ _ _ (verb_text (command_verb c.args.command.now)) (command_args c.args.input.now.names c.args.command.now)
+    (search rules) c.in_ok-put_command.ensures

@@ -4,4 +4,5 @@ use Rattle.nt_print.specs.Report.{event_fields}
 use Rattle.nt_print.proofs.events.put_event.Goals as goal
 
 pub returns : goal.returns
-returns c = line_put _ _ _ _ (decimal c.args.number) (event_fields c.args.input.now c.args.event.now) (search rules) c.in_ok-put_event_fields.ensures c.in_ok-push.ensures.items
+returns c = line_put _ _ _ _ (decimal c.args.number) (event_fields c.args.input.now c.args.event.now)
+    (search rules) c.in_ok-put_event_fields.ensures c.in_ok-push.ensures.items

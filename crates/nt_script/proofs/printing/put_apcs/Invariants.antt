@@ -6,4 +6,5 @@ use Rattle.nt_script.proofs.printing.put_apcs.Given as goal
 
 -- what was put and what is left is all of it
 abbrev pub invariant-loop-i : goal.invariant-loop-i
-invariant-loop-i l = l.out.items ++ rows_text (declared_rows (apc_row l.names) (drop l.i l.names.apcs) (drop l.i l.apcs)) ≡ l.fn.out.items ++ rows_text (declared_rows (apc_row l.names) l.names.apcs l.apcs)
+invariant-loop-i l = l.out.items ++ rows_text (declared_rows (apc_row l.names) (drop l.i l.names.apcs) (drop l.i l.apcs)) ≡ l.fn.out.items
+    ++ rows_text (declared_rows (apc_row l.names) l.names.apcs l.apcs)

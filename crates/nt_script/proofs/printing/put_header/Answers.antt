@@ -10,4 +10,4 @@ returns c =
     let depth = depth_rows c.args.script.now.depth in
     let threaded = threaded_rows c.args.script.now.threaded in
     let more = parts_put _ _ _ depth threaded c.in_ok-put_depth.ensures c.in_ok-put_threaded.ensures in
-    parts_put _ _ _ (head ∷ []) (depth ++ threaded) (one_row _ _ head c.in_ok-put_number_line.ensures) more
+    parts_put _ _ _ (head ∷ []) (depth ++ threaded) (one_row _ _ head c.in_ok-put_cpus.ensures) more

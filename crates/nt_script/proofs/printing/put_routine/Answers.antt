@@ -13,4 +13,4 @@ returns c =
     let head = text_of keyword.Routine ∷ show_routine names c.args.r ∷ [] in
     let commands = map (command_row names) c.args.commands.now in
     let more = parts_put _ _ _ commands (exit_row ∷ []) c.in_ok-put_commands.ensures (one_row _ _ exit_row c.in_ok-put_exit.ensures) in
-    parts_put _ _ _ (head ∷ []) (commands ++ exit_row ∷ []) (one_row _ _ head c.in_ok-put_field_line.ensures) more
+    parts_put _ _ _ (head ∷ []) (commands ++ exit_row ∷ []) (one_row _ _ head c.in_ok-put_begin.ensures) more

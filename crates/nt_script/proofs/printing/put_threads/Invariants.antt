@@ -6,4 +6,5 @@ use Rattle.nt_script.proofs.printing.put_threads.Given as goal
 
 -- what was put and what is left is all of it
 abbrev pub invariant-loop-i : goal.invariant-loop-i
-invariant-loop-i l = l.out.items ++ rows_text (declared_rows (thread_row l.names) (drop l.i l.names.threads) (drop l.i l.threads)) ≡ l.fn.out.items ++ rows_text (declared_rows (thread_row l.names) l.names.threads l.threads)
+invariant-loop-i l = l.out.items ++ rows_text (declared_rows (thread_row l.names) (drop l.i l.names.threads) (drop l.i l.threads)) ≡ l.fn.out.items
+    ++ rows_text (declared_rows (thread_row l.names) l.names.threads l.threads)
