@@ -7,18 +7,20 @@ use Rattle.nt_event.specs.declared.events.Begun.{Begun}
 use Rattle.nt_event.specs.declared.events.Begun.TheVariants.{Apc, Dpc, Int, Threaded}
 use Rattle.nt_event.specs.declared.events.Event.{Event}
 use Rattle.nt_event.specs.declared.events.What.{What}
-use Rattle.nt_event.specs.declared.events.What.TheVariants.{Begin, Call, Clean, End, Expire, Fire, Flush, Gone, Look, Normal, Rewait, Switch}
+use Rattle.nt_event.specs.declared.events.What.TheVariants.{Begin, Call, Clean, End, Expire, Fire, Flush, Gone, Look, Normal, Rest, Rewait, Switch}
 use Rattle.nt_event.specs.declared.scripts.Script.{Script}
-use Rattle.nt_event.specs.Classes.{is_interrupt_level}
+use Rattle.nt_event.specs.Classes.{is_interrupt_level, is_used_class, dispatch_class}
 use Rattle.nt_event.specs.Script.{command_fits, fits, has_apc, has_cpu, has_dpc, has_thread, has_timer, where_given}
 use Rattle.nt_event.specs.Step.{IsRun, is_look}
+use Rattle.nt_event.specs.Fitting.{what_fits}
 
 -- the values of a look, from this class on, rise in used classes alone
 abbrev pub values_fit : ℕ → List ℕ → Bool
 values_fit c [] = true
 values_fit c (v ∷ vs) = ((v == 0) || is_used_class c) && values_fit (suc c) vs
 
--- a look has a value, and values in used classes alone; an interrupt has the level of one; a Clean serves one of the first three
+-- a look has a value, and values in used classes alone; an interrupt has the level of one; a Clean serves one of the
+-- first three
 abbrev pub keeps_to_classes : What → Bool
 keeps_to_classes (Look r) = list_any (λ v. nat_lt 0 v) r.value && values_fit 0 r.value
 keeps_to_classes (Begin (Int level) from) = is_interrupt_level level
@@ -37,7 +39,8 @@ keeps_to_classes (Flush a from) = true
 keeps_to_classes (Gone t) = true
 keeps_to_classes Rest = true
 
--- the number of an earlier event that it tells: the one that began its frame, or the one whose request or setting it uses up
+-- the number of an earlier event that it tells: the one that began its frame, or the one whose request or setting it
+-- uses up
 abbrev pub earlier : What → Option ℕ
 earlier (Call f c y) = Some f
 earlier (Begin b from) = Some from
