@@ -1,7 +1,7 @@
 -- Jobs under lanes: the whole event that a job makes, by where its processor stands and the states of the lanes alone,
 -- and
 -- what holds of a processor and a job in a run.
-use Rattle.std.specs.Prelude.{Bool, IfSome, IsSome, IsTrue, List, Some, false, if◌then◌else◌, length, true, ℕ, ◌<◌, ◌≡◌, ◌≤◌, ◌⊎◌}
+use Rattle.std.specs.Prelude.{Bool, IfSome, IsSome, IsTrue, Some, false, if◌then◌else◌, length, true, ℕ, ◌<◌, ◌≡◌, ◌≤◌, ◌⊎◌}
 use Rattle.nt_event.specs.declared.commands.Command.{Command}
 use Rattle.nt_event.specs.declared.commands.Command.TheVariants as cmd
 use Rattle.nt_event.specs.declared.commands.Reply.TheVariants.{Done}
@@ -18,13 +18,11 @@ use Rattle.nt_event.specs.declared.numbers.ThreadNo.{ThreadNo}
 use Rattle.nt_event.specs.declared.scripts.Script.{Script}
 use Rattle.nt_event.specs.declared.threads.Doing.TheVariants.{Running as IsRunning}
 use Rattle.nt_event.specs.Commands.{needs_lane}
-use Rattle.nt_event.specs.Frames.{frames_of}
-use Rattle.nt_event.specs.Jobs.{job_event, may_switch, task}
-use Rattle.nt_event.specs.Lanes.{Lanes, facts_at, lanes_at}
-use Rattle.nt_event.specs.Own.{Own, own_of}
-use Rattle.nt_event.specs.Regions.{stand_at}
+use Rattle.nt_event.specs.Jobs.{may_switch, task}
+use Rattle.nt_event.specs.Lanes.{Lanes, facts_at}
+use Rattle.nt_event.specs.Own.{Own}
 use Rattle.nt_event.specs.Routines.{cpu_of}
-use Rattle.nt_event.specs.Step.{IsRun, event_at, thread_field}
+use Rattle.nt_event.specs.Step.{thread_field}
 use Rattle.nt_event.specs.Threads.{doing_level}
 use Rattle.nt_event.specs.Replies.{is_blocked}
 

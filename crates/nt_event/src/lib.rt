@@ -22,8 +22,6 @@ mod numbers;
 mod plans;
 mod scripts;
 pub mod status;
-#[cfg(test)]
-mod tests;
 mod threads;
 
 pub use commands::{ApcKind, Command, Importance, Mode, Refusal, Regions, Reply, TimerKey};

@@ -34,7 +34,7 @@ fn base_level(body: &Body, kernel_phase: bool) -> Level
         Body::Int(level) => *level,
         Body::Dpc(_) => Level::DISPATCH,
         Body::Apc(_, _) if kernel_phase => Level::APC,
-        _ => Level::PASSIVE,
+        Body::Threaded(_) | Body::Apc(_, _) | Body::Rundown(_) | Body::Base(_) => Level::PASSIVE,
     }
 }
 

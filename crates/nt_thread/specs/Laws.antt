@@ -6,7 +6,8 @@ use Rattle.nt_event.specs.declared.threads.Waiting.{Waiting}
 use Rattle.nt_event.specs.Apcs.{deliverable, first_user}
 use Rattle.nt_event.specs.Threads.{is_alerted}
 use Rattle.nt_thread.specs.Quiet.{takes_user}
-use Rattle.nt_thread.specs.Rows.{clears_alert, clears_leaving, clears_mark, clears_released, last_left, sets_alert, sets_leaving, sets_mark, sets_released}
+use Rattle.nt_thread.specs.Rows.{clears_alert, clears_leaving, clears_mark, clears_released, last_left, sets_alert}
+use Rattle.nt_thread.specs.Rows.{sets_leaving, sets_mark, sets_released}
 use Rattle.nt_thread.specs.Runs.{Act, facts_of}
 
 -- a blocked thread has no deliverable kernel APC, and in an alertable user wait no user APC
