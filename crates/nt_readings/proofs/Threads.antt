@@ -459,7 +459,7 @@ part_end : (s : Script) (t : ThreadNo) (e : Event) (past : List Event) (g : ℕ)
     EachNamed (IsOpenOn s t past) fs → EachNamed (IsOpenOn s t (e ∷ past)) (end_on_thread g fs)
 part_end s t e past g [] k f d h = tt
 part_end s t e past g (x ∷ fs) k f d h =
-    subst (λ (c : Bool). EachNamed (IsOpenOn s t (e ∷ past)) (if c then (if is_base_body x.body then (left x ∷ fs) else fs) else (x ∷ fs)))
+    subst (λ (c : Bool). EachNamed (IsOpenOn s t (e ∷ past)) (if c then (if is_base_body x.body then (ended_base x ∷ fs) else fs) else (x ∷ fs)))
     (sym (eq-eqb x.name g name)) (go (is_base_body x.body) refl)
   where
     name : x.name ≡ g
