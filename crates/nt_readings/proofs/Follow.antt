@@ -30,7 +30,7 @@ use Rattle.nt_runs.proofs.Running.{part_of_running, running_here, same_cpu, same
 use Rattle.nt_runs.proofs.Shared.{part_head, thread_runs}
 use Rattle.nt_runs.proofs.Stops.{NoneAgain, none_again}
 use Rattle.nt_runs.proofs.Turns.{is_next}
-use Rattle.nt_readings.specs.Frames.{EachNamed, Falls, begun_inner, begun_own, switches_to}
+use Rattle.nt_readings.specs.Frames.{EachNamed, NamesFall, begun_inner, begun_own, switches_to}
 use Rattle.nt_readings.specs.Regions.{EachFrame}
 use Rattle.nt_readings.proofs.Frames.{IsOwnBegin, IsThreadBegin, at_both, each_map, inner_not_switch, own_apart, own_begun, own_falls, thread_begun, thread_falls}
 use Rattle.nt_readings.proofs.Threads.{part_moves, part_of, part_same}
@@ -208,13 +208,13 @@ others w n fs k h =
     same : (v : ℕ) → names w ≡ Some v → v ≡ n
     same v q = let z : Some v ≡ Some n = sym q ∙ k in cc
 
-below_each : (n : ℕ) (P : ℕ → Body → Type 0) (fs : List Frame) → Falls n fs → ((m : ℕ) (b : Body) → m < n → P m b) → EachNamed P fs
+below_each : (n : ℕ) (P : ℕ → Body → Type 0) (fs : List Frame) → NamesFall n fs → ((m : ℕ) (b : Body) → m < n → P m b) → EachNamed P fs
 below_each n P [] f h = tt
 below_each n P (x ∷ fs) f h =
     let l = f.0 in (h x.name x.body f.0, below_each x.name P fs f.1 (λ m b k. h m b (omega (arith, k, l))))
 
 -- those that stand below the one that it names
-lower : (w : What) (f : Frame) (fs : List Frame) → names w ≡ Some f.name → Falls f.name fs → EachNamed (λ m b. IsAside m w) fs
+lower : (w : What) (f : Frame) (fs : List Frame) → names w ≡ Some f.name → NamesFall f.name fs → EachNamed (λ m b. IsAside m w) fs
 lower w f fs k h =
     below_each f.name (λ m b. IsAside m w) fs h (λ m b l v q e. let z = same v q in absurd (omega (arith, l, e, z)))
   where
@@ -231,7 +231,7 @@ none_named w (f ∷ fs) k = (λ v q e. none v (sym k ∙ q), none_named w fs k)
 -- ---- the frames after an event
 
 module _ (s : Script) (limit : ℕ) (P : List Event → Frame → Type 0) (k : Follows s limit P) where
-  kept_all : (e : Event) (past : List Event) (n : ℕ) (fs : List Frame) → n ≤ length past → Falls n fs → EachNamed (λ m b. IsAside m e.what) fs →
+  kept_all : (e : Event) (past : List Event) (n : ℕ) (fs : List Frame) → n ≤ length past → NamesFall n fs → EachNamed (λ m b. IsAside m e.what) fs →
       EachFrame (P past) fs → EachFrame (P (e ∷ past)) fs
   kept_all e past n [] l f a h = tt
   kept_all e past n (x ∷ fs) l f a h =
@@ -240,9 +240,9 @@ module _ (s : Script) (limit : ℕ) (P : List Event → Frame → Type 0) (k : F
 
   -- the innermost frame changes, those below it stay
   named_head : (e : Event) (past : List Event) (n : ℕ) (g : Frame → Frame) (f : Frame) (fs : List Frame) → HeadIs f fs → n ≡ f.name → names e.what ≡ Some n →
-      Falls (length past) fs → EachFrame (P past) fs → (f.name < length past → P past f → P (e ∷ past) (g f)) → EachFrame (P (e ∷ past)) (at_name n g fs)
+      NamesFall (length past) fs → EachFrame (P past) fs → (f.name < length past → P past f → P (e ∷ past) (g f)) → EachFrame (P (e ∷ past)) (at_name n g fs)
   named_head e past n g f fs q m w l h step =
-      let low = subst (Falls (length past)) q.1 l in
+      let low = subst (NamesFall (length past)) q.1 l in
       let b = low.0 in
       let old = subst (EachFrame (P past)) q.1 h in
       let all : EachFrame (P (e ∷ past)) (g f ∷ q.0) = (
@@ -253,38 +253,39 @@ module _ (s : Script) (limit : ℕ) (P : List Event → Frame → Type 0) (k : F
       subst (λ (xs : List Frame). EachFrame (P (e ∷ past)) (at_name n g xs)) (sym q.1) (subst (EachFrame (P (e ∷ past))) (sym it) all)
 
   other_name : (e : Event) (past : List Event) (n : ℕ) (g : Frame → Frame) (f : Frame) (fs : List Frame) → NamesNone f.name fs → n ≡ f.name → names e.what
-      ≡ Some n → Falls (length past) fs → EachFrame (P past) fs → EachFrame (P (e ∷ past)) (at_name n g fs)
+      ≡ Some n → NamesFall (length past) fs → EachFrame (P past) fs → EachFrame (P (e ∷ past)) (at_name n g fs)
   other_name e past n g f fs d m w l h =
       subst (EachFrame (P (e ∷ past))) (sym (ap (λ (v : ℕ). at_name v g fs) m ∙ at_name_other f.name g fs d))
       (kept_all e past (length past) fs (omega arith) l (others e.what f.name fs (w ∙ ap (λ (n : ℕ). Some n) m) d) h)
 
-  rest_of : (e : Event) (past : List Event) (n : ℕ) (f : Frame) (fs : List Frame) → n ≡ f.name → names e.what ≡ Some n → Falls (length past) (f ∷ fs) →
+  rest_of : (e : Event) (past : List Event) (n : ℕ) (f : Frame) (fs : List Frame) → n ≡ f.name → names e.what ≡ Some n → NamesFall (length past) (f ∷ fs) →
       EachFrame (P past) (f ∷ fs) → EachFrame (P (e ∷ past)) fs
   rest_of e past n f fs m w l h =
       let b = l.0 in
       kept_all e past f.name fs (omega (arith, b)) l.1 (lower e.what f fs (w ∙ ap (λ (n : ℕ). Some n) m) l.1) h.1
 
-  ended_head : (e : Event) (past : List Event) (n : ℕ) (f : Frame) (fs : List Frame) → HeadIs f fs → n ≡ f.name → e.what ≡ End n → Falls (length past) fs →
+  ended_head : (e : Event) (past : List Event) (n : ℕ) (f : Frame) (fs : List Frame) → HeadIs f fs → n ≡ f.name → e.what ≡ End n → NamesFall (length past) fs →
       EachFrame (P past) fs → EachFrame (P (e ∷ past)) (end_on_thread n fs)
   ended_head e past n f fs q m w l h =
       subst (λ (xs : List Frame). EachFrame (P (e ∷ past)) (end_on_thread n xs)) (sym q.1)
       (subst (λ (b : Bool). EachFrame (P (e ∷ past)) (if b then (if is_base_body f.body then (ended_base f ∷ q.0) else q.0) else (f ∷ q.0)))
-      (sym (eq-eqb f.name n (sym m))) (go (is_base_body f.body) refl (subst (Falls (length past)) q.1 l) (subst (EachFrame (P past)) q.1 h)))
+      (sym (eq-eqb f.name n (sym m))) (go (is_base_body f.body) refl (subst (NamesFall (length past)) q.1 l) (subst (EachFrame (P past)) q.1 h)))
     where
-      go : (b : Bool) → is_base_body f.body ≡ b → Falls (length past) (f ∷ q.0) → EachFrame (P past) (f ∷ q.0) →
+      go : (b : Bool) → is_base_body f.body ≡ b → NamesFall (length past) (f ∷ q.0) → EachFrame (P past) (f ∷ q.0) →
           EachFrame (P (e ∷ past)) (if b then (ended_base f ∷ q.0) else q.0)
       go true z low old =
           (k.left e past f (w ∙ ap (λ (n : ℕ). End n) m) z low.0 old.0, rest_of e past n f q.0 m (ap names w) low old)
       go false z low old = rest_of e past n f q.0 m (ap names w) low old
 
-  dropped_head : (e : Event) (past : List Event) (n : ℕ) (f : Frame) (fs : List Frame) → HeadIs f fs → n ≡ f.name → e.what ≡ End n → Falls (length past) fs →
+  dropped_head : (e : Event) (past : List Event) (n : ℕ) (f : Frame) (fs : List Frame) → HeadIs f fs → n ≡ f.name → e.what ≡ End n →
+      NamesFall (length past) fs →
       EachFrame (P past) fs → EachFrame (P (e ∷ past)) (without n fs)
   dropped_head e past n f fs q m w l h =
       subst (λ (xs : List Frame). EachFrame (P (e ∷ past)) (without n xs)) (sym q.1)
       (subst (λ (b : Bool). EachFrame (P (e ∷ past)) (if b then q.0 else (f ∷ q.0))) (sym (eq-eqb f.name n (sym m)))
-      (rest_of e past n f q.0 m (ap names w) (subst (Falls (length past)) q.1 l) (subst (EachFrame (P past)) q.1 h)))
+      (rest_of e past n f q.0 m (ap names w) (subst (NamesFall (length past)) q.1 l) (subst (EachFrame (P past)) q.1 h)))
 
-  switched : (e : Event) (past : List Event) (t : ThreadNo) (st : Option ℕ) (fs : List Frame) → e.what ≡ Switch t st → Falls (length past) fs →
+  switched : (e : Event) (past : List Event) (t : ThreadNo) (st : Option ℕ) (fs : List Frame) → e.what ≡ Switch t st → NamesFall (length past) fs →
       EachFrame (P past) fs → EachFrame (P (e ∷ past)) (switched_to (length past) t st fs)
   switched e past t st [] w l h = (k.begun e past (OnBase t) (ap names w), tt)
   switched e past t st (f ∷ fs) w l h =
@@ -293,7 +294,7 @@ module _ (s : Script) (limit : ℕ) (P : List Event → Frame → Type 0) (k : F
 
   -- ---- an event of the thread
 
-  part_kept : (t : ThreadNo) (e : Event) (past : List Event) → IsRun s limit (e ∷ past) → Falls (length past) (part_of s t past) →
+  part_kept : (t : ThreadNo) (e : Event) (past : List Event) → IsRun s limit (e ∷ past) → NamesFall (length past) (part_of s t past) →
       EachFrame (P past) (part_of s t past) → EachFrame (P (e ∷ past)) (thread_after s (length past) (due_of e.what (time past)) e.what (part_of s t past))
   part_kept t e past r l h = go e.what refl
     where

@@ -2,11 +2,9 @@
 use Rattle.std.proofs.Common.{ap, arith, inl, inr, subst, sym, ◌∙◌}
 use Rattle.std.proofs.lemmas.Bool.{both_ways, eq-eqb, eqb-true}
 use Rattle.std.specs.Option.{option_or}
-use Rattle.std.specs.Prelude.{Bool, List, None, Option, Some, [], false, if◌then◌else◌, length, option_map, refl, suc, true, ℕ, ◌<◌, ◌==◌, ◌∷◌, ◌≡◌, ◌≤◌, ◌⊎◌}
+use Rattle.std.specs.Prelude.{Bool, List, None, Option, Some, [], false, if◌then◌else◌, length, option_map, refl, suc, true, ℕ, ◌<◌, ◌==◌, ◌∷◌, ◌≡◌, ◌⊎◌}
 use Rattle.nt_event.specs.declared.commands.Command.{Command}
-use Rattle.nt_event.specs.declared.commands.Command.TheVariants.{Delay, Raise, StartWait}
 use Rattle.nt_event.specs.declared.commands.Reply.{Reply}
-use Rattle.nt_event.specs.declared.commands.Reply.TheVariants.{Done}
 use Rattle.nt_event.specs.declared.events.Begun.TheVariants.{Apc, Dpc, Int, Threaded}
 use Rattle.nt_event.specs.declared.events.Event.{Event}
 use Rattle.nt_event.specs.declared.events.What.{What}
@@ -18,7 +16,7 @@ use Rattle.nt_event.specs.declared.numbers.CpuNo.{CpuNo}
 use Rattle.nt_event.specs.declared.numbers.RoutineNo.{RoutineNo}
 use Rattle.nt_event.specs.declared.numbers.ThreadNo.{ThreadNo}
 use Rattle.nt_event.specs.declared.scripts.Script.{Script}
-use Rattle.nt_event.specs.Frames.{at_name, called, done_to, due_of, end_on_thread, flushed, frames_of, is_base_body, ended_base, normal_of, own_after, own_frames, resumed, rewaited, running, thread_after, thread_frames, thread_part, time, without}
+use Rattle.nt_event.specs.Frames.{at_name, called, due_of, end_on_thread, flushed, frames_of, is_base_body, ended_base, normal_of, own_after, own_frames, resumed, rewaited, running, thread_after, thread_frames, thread_part, time, without}
 use Rattle.nt_event.specs.Lanes.{lanes_at}
 use Rattle.nt_event.specs.Own.{own_of}
 use Rattle.nt_event.specs.Routines.{kind_of, rundown_of}
@@ -26,11 +24,13 @@ use Rattle.nt_event.specs.Step.{IsLegal, IsRun, thread_field}
 use Rattle.nt_event.specs.Lists.{head_of, is_null}
 use Rattle.nt_event.specs.Numbers.{is_by, is_of}
 use Rattle.nt_runs.proofs.Known.{Known, KnownEnd, legal_known}
-use Rattle.nt_runs.proofs.Running.{frames_when, part_of_running, running_here, same_cpu, same_thread, thread_named}
+use Rattle.nt_runs.proofs.Falling.{falls_from}
+use Rattle.nt_runs.proofs.Names.{called_name}
+use Rattle.nt_runs.proofs.Running.{called_body, frames_when, part_of_running, running_here, same_cpu, same_thread, thread_named}
 use Rattle.nt_runs.proofs.Shared.{part_head, thread_runs}
 use Rattle.nt_runs.proofs.Turns.{is_next}
 use Rattle.nt_readings.specs.Positions.{At}
-use Rattle.nt_readings.specs.Frames.{EachNamed, Falls, HasFrame, IsNotEnded, IsOpenOwn, Lists, begun_inner, begun_own, ends_frame, switches_to}
+use Rattle.nt_readings.specs.Frames.{EachNamed, NamesFall, HasFrame, IsNotEnded, IsOpenOwn, Lists, begun_inner, begun_own, ends_frame, switches_to}
 use Rattle.nt_readings.proofs.Seen.{at_before}
 use Rattle.nt_readings.proofs.Served.{none_after}
 
@@ -39,26 +39,6 @@ use Rattle.nt_readings.proofs.Served.{none_after}
 pub record Keeping (g : Frame → Frame) : Type 0 where
   pub name : (f : Frame) → (g f).name ≡ f.name
   pub body : (f : Frame) → (g f).body ≡ f.body
-
-done_name : (c : Command) (f : Frame) → (done_to c f).name ≡ f.name
-done_name (Raise l) f = refl
-done_name c f = refl
-
-done_body : (c : Command) (f : Frame) → (done_to c f).body ≡ f.body
-done_body (Raise l) f = refl
-done_body c f = refl
-
-called_name : (due : Option ℕ) (c : Command) (y : Reply) (f : Frame) → (called due c y f).name ≡ f.name
-called_name due (StartWait m a) y f = refl
-called_name due (Delay m a u) y f = refl
-called_name due c Done f = done_name c f
-called_name due c y f = refl
-
-called_body : (due : Option ℕ) (c : Command) (y : Reply) (f : Frame) → (called due c y f).body ≡ f.body
-called_body due (StartWait m a) y f = refl
-called_body due (Delay m a u) y f = refl
-called_body due c Done f = done_body c f
-called_body due c y f = refl
 
 pub keep_called : (due : Option ℕ) (c : Command) (y : Reply) → Keeping (called due c y)
 keep_called due c y = record { name = called_name due c y; body = called_body due c y }
@@ -75,94 +55,93 @@ keep_resumed (Some x) = record { name = λ f. refl; body = λ f. refl }
 
 -- ---- the names fall
 
-pub falls_from : (n m : ℕ) (fs : List Frame) → n ≤ m → Falls n fs → Falls m fs
-falls_from n m [] h f = tt
-falls_from n m (x ∷ fs) h f = let k = f.0 in (omega (arith, h, k), f.1)
+falls_head : (n : ℕ) (g : Frame → Frame) (f : Frame) (fs : List Frame) → (g f).name ≡ f.name → NamesFall n (f ∷ fs) → NamesFall n (g f ∷ fs)
+falls_head n g f fs e h = (subst (λ (m : ℕ). m < n) (sym e) h.0, subst (λ (m : ℕ). NamesFall m fs) (sym e) h.1)
 
-falls_head : (n : ℕ) (g : Frame → Frame) (f : Frame) (fs : List Frame) → (g f).name ≡ f.name → Falls n (f ∷ fs) → Falls n (g f ∷ fs)
-falls_head n g f fs e h = (subst (λ (m : ℕ). m < n) (sym e) h.0, subst (λ (m : ℕ). Falls m fs) (sym e) h.1)
-
-falls_named : (n m : ℕ) (g : Frame → Frame) (fs : List Frame) → Keeping g → Falls n fs → Falls n (at_name m g fs)
+falls_named : (n m : ℕ) (g : Frame → Frame) (fs : List Frame) → Keeping g → NamesFall n fs → NamesFall n (at_name m g fs)
 falls_named n m g [] k h = h
 falls_named n m g (f ∷ fs) k h = go (f.name == m)
   where
-    go : (b : Bool) → Falls n ((if b then g f else f) ∷ fs)
+    go : (b : Bool) → NamesFall n ((if b then g f else f) ∷ fs)
     go true = falls_head n g f fs (k.name f) h
     go false = h
 
-falls_tail : (n : ℕ) (f : Frame) (fs : List Frame) → Falls n (f ∷ fs) → Falls n fs
-falls_tail n f fs h = let l = h.0 in falls_from f.name n fs (omega (arith, l)) h.1
+falls_tail : (n : ℕ) (f : Frame) (fs : List Frame) → NamesFall n (f ∷ fs) → NamesFall n fs
+falls_tail n f fs h = let l = h.0 in falls_from Frame (λ (f : Frame). f.name) f.name n fs (omega (arith, l)) h.1
 
-falls_without : (n m : ℕ) (fs : List Frame) → Falls n fs → Falls n (without m fs)
+falls_without : (n m : ℕ) (fs : List Frame) → NamesFall n fs → NamesFall n (without m fs)
 falls_without n m [] h = h
 falls_without n m (f ∷ fs) h = go (f.name == m)
   where
-    go : (b : Bool) → Falls n (if b then fs else (f ∷ fs))
+    go : (b : Bool) → NamesFall n (if b then fs else (f ∷ fs))
     go true = falls_tail n f fs h
     go false = h
 
-falls_end : (n m : ℕ) (fs : List Frame) → Falls n fs → Falls n (end_on_thread m fs)
+falls_end : (n m : ℕ) (fs : List Frame) → NamesFall n fs → NamesFall n (end_on_thread m fs)
 falls_end n m [] h = h
 falls_end n m (f ∷ fs) h = go (f.name == m) (is_base_body f.body)
   where
-    go : (b c : Bool) → Falls n (if b then (if c then (ended_base f ∷ fs) else fs) else (f ∷ fs))
+    go : (b c : Bool) → NamesFall n (if b then (if c then (ended_base f ∷ fs) else fs) else (f ∷ fs))
     go true true = h
     go true false = falls_tail n f fs h
     go false c = h
 
-own_after_falls : (n : ℕ) (due : Option ℕ) (w : What) (fs : List Frame) → Falls n fs → Falls (suc n) (own_after n due w fs)
+own_after_falls : (n : ℕ) (due : Option ℕ) (w : What) (fs : List Frame) → NamesFall n fs → NamesFall (suc n) (own_after n due w fs)
 own_after_falls n due (Begin (Int l) from) fs h = (omega arith, h)
 own_after_falls n due (Begin (Dpc d) from) fs h = (omega arith, h)
 own_after_falls n due (Begin (Threaded d) from) fs h = (omega arith, h)
 own_after_falls n due (Call f c y) fs h =
-    falls_from n (suc n) (at_name f (called due c y) fs) (omega arith) (falls_named n f (called due c y) fs (keep_called due c y) h)
-own_after_falls n due (End f) fs h = falls_from n (suc n) (without f fs) (omega arith) (falls_without n f fs h)
-own_after_falls n due w fs h = falls_from n (suc n) fs (omega arith) h
+    falls_from Frame (λ (f : Frame). f.name) n (suc n) (at_name f (called due c y) fs) (omega arith)
+    (falls_named n f (called due c y) fs (keep_called due c y) h)
+own_after_falls n due (End f) fs h = falls_from Frame (λ (f : Frame). f.name) n (suc n) (without f fs) (omega arith) (falls_without n f fs h)
+own_after_falls n due w fs h = falls_from Frame (λ (f : Frame). f.name) n (suc n) fs (omega arith) h
 
-pub own_falls : (p : CpuNo) (past : List Event) → Falls (length past) (own_frames p past)
+pub own_falls : (p : CpuNo) (past : List Event) → NamesFall (length past) (own_frames p past)
 own_falls p [] = tt
 own_falls p (e ∷ past) = go (is_of e p) (own_falls p past)
   where
-    go : (b : Bool) → Falls (length past) (own_frames p past) →
-        Falls (suc (length past)) (if b then own_after (length past) (due_of e.what (time past)) e.what (own_frames p past) else own_frames p past)
+    go : (b : Bool) → NamesFall (length past) (own_frames p past) →
+        NamesFall (suc (length past)) (if b then own_after (length past) (due_of e.what (time past)) e.what (own_frames p past) else own_frames p past)
     go true h = own_after_falls (length past) (due_of e.what (time past)) e.what (own_frames p past) h
-    go false h = falls_from (length past) (suc (length past)) (own_frames p past) (omega arith) h
+    go false h = falls_from Frame (λ (f : Frame). f.name) (length past) (suc (length past)) (own_frames p past) (omega arith) h
 
-thread_after_falls : (s : Script) (n : ℕ) (due : Option ℕ) (w : What) (fs : List Frame) → Falls n fs → Falls (suc n) (thread_after s n due w fs)
+thread_after_falls : (s : Script) (n : ℕ) (due : Option ℕ) (w : What) (fs : List Frame) → NamesFall n fs → NamesFall (suc n) (thread_after s n due w fs)
 thread_after_falls s n due (Switch t st) [] h = (omega arith, tt)
 thread_after_falls s n due (Switch t st) (f ∷ fs) h =
-    falls_from n (suc n) (resumed st f ∷ fs) (omega arith) (falls_head n (resumed st) f fs ((keep_resumed st).name f) h)
+    falls_from Frame (λ (f : Frame). f.name) n (suc n) (resumed st f ∷ fs) (omega arith) (falls_head n (resumed st) f fs ((keep_resumed st).name f) h)
 thread_after_falls s n due (Begin (Apc a) from) fs h = (omega arith, h)
 thread_after_falls s n due (Flush a from) fs h = go (rundown_of s a)
   where
-    go : (o : Option RoutineNo) → Falls (suc n) (flushed n a o fs)
-    go None = falls_from n (suc n) fs (omega arith) h
+    go : (o : Option RoutineNo) → NamesFall (suc n) (flushed n a o fs)
+    go None = falls_from Frame (λ (f : Frame). f.name) n (suc n) fs (omega arith) h
     go (Some r) = (omega arith, h)
 thread_after_falls s n due (Call f c y) fs h =
-    falls_from n (suc n) (at_name f (called due c y) fs) (omega arith) (falls_named n f (called due c y) fs (keep_called due c y) h)
+    falls_from Frame (λ (f : Frame). f.name) n (suc n) (at_name f (called due c y) fs) (omega arith)
+    (falls_named n f (called due c y) fs (keep_called due c y) h)
 thread_after_falls s n due (Rewait f y) fs h =
-    falls_from n (suc n) (at_name f (rewaited y) fs) (omega arith) (falls_named n f (rewaited y) fs (keep_rewaited y) h)
+    falls_from Frame (λ (f : Frame). f.name) n (suc n) (at_name f (rewaited y) fs) (omega arith) (falls_named n f (rewaited y) fs (keep_rewaited y) h)
 thread_after_falls s n due (Normal f) fs h =
-    falls_from n (suc n) (at_name f normal_of fs) (omega arith) (falls_named n f normal_of fs keep_normal h)
-thread_after_falls s n due (End f) fs h = falls_from n (suc n) (end_on_thread f fs) (omega arith) (falls_end n f fs h)
+    falls_from Frame (λ (f : Frame). f.name) n (suc n) (at_name f normal_of fs) (omega arith) (falls_named n f normal_of fs keep_normal h)
+thread_after_falls s n due (End f) fs h = falls_from Frame (λ (f : Frame). f.name) n (suc n) (end_on_thread f fs) (omega arith) (falls_end n f fs h)
 thread_after_falls s n due (Gone t) fs h = tt
-thread_after_falls s n due w fs h = falls_from n (suc n) fs (omega arith) h
+thread_after_falls s n due w fs h = falls_from Frame (λ (f : Frame). f.name) n (suc n) fs (omega arith) h
 
-pub thread_falls : (s : Script) (p : CpuNo) (t : ThreadNo) (past : List Event) → Falls (length past) (thread_frames s p t past)
+pub thread_falls : (s : Script) (p : CpuNo) (t : ThreadNo) (past : List Event) → NamesFall (length past) (thread_frames s p t past)
 thread_falls s p t [] = tt
 thread_falls s p t (e ∷ past) = go (is_of e p) (is_by e t) refl refl (thread_falls s p t past)
   where
-    go : (b c : Bool) → is_of e p ≡ b → is_by e t ≡ c → Falls (length past) (thread_frames s p t past) →
-        Falls (suc (length past)) (thread_frames s p t (e ∷ past))
+    go : (b c : Bool) → is_of e p ≡ b → is_by e t ≡ c → NamesFall (length past) (thread_frames s p t past) →
+        NamesFall (suc (length past)) (thread_frames s p t (e ∷ past))
     go true true o k h =
-        subst (Falls (suc (length past))) (sym (frames_when s p t e past true o k))
+        subst (NamesFall (suc (length past))) (sym (frames_when s p t e past true o k))
         (thread_after_falls s (length past) (due_of e.what (time past)) e.what (thread_frames s p t past) h)
     go true false o k h =
-        subst (Falls (suc (length past))) (sym (frames_when s p t e past false o k))
-        (falls_from (length past) (suc (length past)) (thread_frames s p t past) (omega arith) h)
+        subst (NamesFall (suc (length past))) (sym (frames_when s p t e past false o k))
+        (falls_from Frame (λ (f : Frame). f.name) (length past) (suc (length past)) (thread_frames s p t past) (omega arith) h)
     go false c o k h =
         let moved : thread_frames s p t (e ∷ past) ≡ thread_frames s p t past = rw o in
-        subst (Falls (suc (length past))) (sym moved) (falls_from (length past) (suc (length past)) (thread_frames s p t past) (omega arith) h)
+        subst (NamesFall (suc (length past))) (sym moved)
+        (falls_from Frame (λ (f : Frame). f.name) (length past) (suc (length past)) (thread_frames s p t past) (omega arith) h)
 
 -- ---- what holds of each frame, by its name and body
 
@@ -170,10 +149,10 @@ pub each_map : (P Q : ℕ → Body → Type 0) (fs : List Frame) → ((n : ℕ) 
 each_map P Q [] f h = tt
 each_map P Q (x ∷ fs) f h = (f x.name x.body h.0, each_map P Q fs f h.1)
 
-pub each_below : (P : ℕ → Body → Type 0) (n : ℕ) (fs : List Frame) → Falls n fs → EachNamed P fs → EachNamed (λ m b. P m b × (m < n)) fs
+pub each_below : (P : ℕ → Body → Type 0) (n : ℕ) (fs : List Frame) → NamesFall n fs → EachNamed P fs → EachNamed (λ m b. P m b × (m < n)) fs
 each_below P n [] f h = tt
 each_below P n (x ∷ fs) f h =
-    let l = f.0 in ((h.0, f.0), each_below P n fs (falls_from x.name n fs (omega (arith, l)) f.1) h.1)
+    let l = f.0 in ((h.0, f.0), each_below P n fs (falls_from Frame (λ (f : Frame). f.name) x.name n fs (omega (arith, l)) f.1) h.1)
 
 -- a frame that stands for another of its name and body
 pub keep_at : (P : ℕ → Body → Type 0) (g : Frame → Frame) (f : Frame) → Keeping g → P f.name f.body → P (g f).name (g f).body
@@ -390,7 +369,7 @@ foreign s limit p e past n b (End g) r o k h = go (g == n) refl
     go true q = absurd (no (eqb-true g n q) (ender s limit g e past r k))
 foreign s limit p e past n b w r o k h = refl
 
-own_end : (p : CpuNo) (e : Event) (past : List Event) (g : ℕ) (fs : List Frame) → e.what ≡ End g → Falls (length past) fs → ((fs ≡ []) ⊎ Heads g fs) →
+own_end : (p : CpuNo) (e : Event) (past : List Event) (g : ℕ) (fs : List Frame) → e.what ≡ End g → NamesFall (length past) fs → ((fs ≡ []) ⊎ Heads g fs) →
     EachNamed (IsOpenOwn p past) fs → EachNamed (IsOpenOwn p (e ∷ past)) (without g fs)
 own_end p e past g [] k f d h = tt
 own_end p e past g (x ∷ fs) k f (inl d) h = cc

@@ -20,7 +20,7 @@ use Rattle.nt_event.specs.Lists.{head_of}
 use Rattle.nt_event.specs.Numbers.{is_of}
 use Rattle.nt_runs.proofs.Running.{part_of_running, running_here}
 use Rattle.nt_readings.specs.Positions.{At, EachAfter}
-use Rattle.nt_readings.specs.Frames.{Falls, HasFrame, HasNone, IsGreatest, IsInnermost, IsLastSwitched, IsOpenOn, IsOpenOwn, Lists, is_switch_event, stops_thread, switches_to}
+use Rattle.nt_readings.specs.Frames.{NamesFall, HasFrame, HasNone, IsGreatest, IsInnermost, IsLastSwitched, IsOpenOn, IsOpenOwn, Lists, is_switch_event, stops_thread, switches_to}
 use Rattle.nt_readings.proofs.Frames.{own_lists}
 use Rattle.nt_readings.proofs.Seen.{at_before}
 use Rattle.nt_readings.proofs.Served.{none_after}
@@ -95,7 +95,7 @@ running_is_last p t past = (λ h. running_switched p t past h, λ h. switched_ru
 
 -- ---- the innermost frame
 
-has_below : (m n : ℕ) (b : Body) (fs : List Frame) → Falls n fs → HasFrame m b fs → m < n
+has_below : (m n : ℕ) (b : Body) (fs : List Frame) → NamesFall n fs → HasFrame m b fs → m < n
 has_below m n b [] f h = absurd h
 has_below m n b (x ∷ fs) f (inl h) = let l = f.0 in let k = h.0 in omega (arith, l, k)
 has_below m n b (x ∷ fs) f (inr h) = let l = f.0 in let k = has_below m x.name b fs f.1 h in omega (arith, l, k)

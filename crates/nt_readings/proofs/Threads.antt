@@ -40,7 +40,7 @@ use Rattle.nt_runs.proofs.Shared.{leaving_null, part_head}
 use Rattle.nt_runs.proofs.Steps.{Gives, switch_gives}
 use Rattle.nt_runs.proofs.Turns.{is_next}
 use Rattle.nt_readings.specs.Positions.{At, EachAfter, Everywhere, Somewhere}
-use Rattle.nt_readings.specs.Frames.{EachNamed, Falls, HasFrame, IsFirstSwitch, IsOpenInner, IsOpenOn, Lists, begun_inner, ends_frame, ends_thread, switches_to}
+use Rattle.nt_readings.specs.Frames.{EachNamed, NamesFall, HasFrame, IsFirstSwitch, IsOpenInner, IsOpenOn, Lists, begun_inner, ends_frame, ends_thread, switches_to}
 use Rattle.nt_readings.proofs.Frames.{Heads, IsEnder, IsOwnBegin, IsThreadBegin, at_both, each_below, each_end, each_head, each_map, ender, has_at_name, inner_not_switch, keep_called, keep_normal, keep_resumed, keep_rewaited, own_apart, own_begun, switch_self, thread_after_each, thread_begun, thread_falls}
 use Rattle.nt_readings.proofs.Seen.{at_before}
 use Rattle.nt_readings.proofs.Served.{none_after}
@@ -455,7 +455,7 @@ goes_on s limit t e past n b (End g) r i k h = go (g == n) refl
 goes_on s limit t e past n b w r i k h = refl
 
 -- the End of the thread's own innermost frame
-part_end : (s : Script) (t : ThreadNo) (e : Event) (past : List Event) (g : ℕ) (fs : List Frame) → e.what ≡ End g → Falls (length past) fs → Heads g fs →
+part_end : (s : Script) (t : ThreadNo) (e : Event) (past : List Event) (g : ℕ) (fs : List Frame) → e.what ≡ End g → NamesFall (length past) fs → Heads g fs →
     EachNamed (IsOpenOn s t past) fs → EachNamed (IsOpenOn s t (e ∷ past)) (end_on_thread g fs)
 part_end s t e past g [] k f d h = tt
 part_end s t e past g (x ∷ fs) k f d h =

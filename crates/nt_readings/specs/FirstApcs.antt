@@ -1,6 +1,6 @@
 -- The first APCs of a thread, by kind and number.
 use Rattle.std.specs.List.{Contains}
-use Rattle.std.specs.Prelude.{List, None, Option, Some, [], false, length, true, ℕ, ◌<◌, ◌∷◌, ◌≡◌, ◌≤◌, ◌⊎◌}
+use Rattle.std.specs.Prelude.{List, None, Option, Some, false, length, true, ℕ, ◌≡◌, ◌≤◌, ◌⊎◌}
 use Rattle.nt_event.specs.declared.commands.ApcKind.{ApcKind}
 use Rattle.nt_event.specs.declared.commands.ApcKind.TheVariants.{Normal as NormalApc, Special as SpecialApc, User as UserApc}
 use Rattle.nt_event.specs.declared.events.Event.{Event}
@@ -9,11 +9,11 @@ use Rattle.nt_event.specs.declared.numbers.ThreadNo.{ThreadNo}
 use Rattle.nt_event.specs.declared.scripts.Script.{Script}
 use Rattle.nt_event.specs.Apcs.{first_kernel, first_user, is_of_kind}
 use Rattle.nt_event.specs.Waits.{facts}
+use Rattle.nt_runs.specs.Falling.{Falls}
 
 -- the numbers fall, from below the bound
 abbrev pub PicksFall : ℕ → List Pick → Type 0
-PicksFall n [] = Unit {0}
-PicksFall n (x ∷ xs) = (x.number < n) × PicksFall x.number xs
+PicksFall n xs = Falls (λ (x : Pick). x.number) n xs
 
 -- the pending APCs of a thread stand by their numbers, the greatest first, each an earlier event's
 abbrev pub PendingApcsFall : Type 0

@@ -1,5 +1,5 @@
 -- Open frames and the innermost one, by positions in the history. A frame is named by the event that began it.
-use Rattle.std.specs.Prelude.{Bool, List, None, Option, Some, [], false, length, option_map, true, ℕ, ◌<◌, ◌==◌, ◌∷◌, ◌↔◌, ◌≡◌, ◌≤◌, ◌⊎◌}
+use Rattle.std.specs.Prelude.{Bool, List, None, Option, Some, [], false, length, option_map, true, ℕ, ◌==◌, ◌∷◌, ◌↔◌, ◌≡◌, ◌≤◌, ◌⊎◌}
 use Rattle.nt_event.specs.declared.commands.Command.TheVariants.{Yield}
 use Rattle.nt_event.specs.declared.commands.Reply.TheVariants.{Blocked, Done}
 use Rattle.nt_event.specs.declared.events.Begun.TheVariants.{Apc, Dpc, Int, Threaded}
@@ -17,6 +17,7 @@ use Rattle.nt_event.specs.Routines.{cpu_of, kind_of, rundown_of}
 use Rattle.nt_event.specs.Step.{IsRun}
 use Rattle.nt_event.specs.Numbers.{is_by, is_of}
 use Rattle.nt_readings.specs.Positions.{At, EachAfter, Everywhere}
+use Rattle.nt_runs.specs.Falling.{Falls}
 
 -- ---- what begins and ends a frame
 
@@ -87,15 +88,14 @@ HasFrame n b [] = ⊥
 HasFrame n b (f ∷ fs) = ((f.name ≡ n) × (f.body ≡ b)) ⊎ HasFrame n b fs
 
 -- the names fall, from below the bound
-abbrev pub Falls : ℕ → List Frame → Type 0
-Falls n [] = Unit {0}
-Falls n (f ∷ fs) = (f.name < n) × Falls f.name fs
+abbrev pub NamesFall : ℕ → List Frame → Type 0
+NamesFall n fs = Falls (λ (f : Frame). f.name) n fs
 
 -- the frames are exactly those of which P holds, the greatest number first; all are below the bound
 pub record Lists (P : ℕ → Body → Type 0) (n : ℕ) (fs : List Frame) : Type 0 where
   pub each : EachNamed P fs
   pub all : (m : ℕ) (b : Body) → P m b → HasFrame m b fs
-  pub falls : Falls n fs
+  pub falls : NamesFall n fs
 
 -- in a run the frames on a processor's own part are exactly the open ones there, the greatest number first
 abbrev pub OwnFramesAreOpen : Type 0

@@ -1,8 +1,6 @@
 -- Readings of the definitions by positions: the number of an event is the count of those before it.
-use Rattle.std.specs.List.{Contains}
-use Rattle.std.specs.Prelude.{List, None, Option, Some, [], false, length, true, ℕ, ◌<◌, ◌∷◌, ◌↔◌, ◌≡◌, ◌≤◌, ◌⊎◌}
+use Rattle.std.specs.Prelude.{List, Some, [], false, length, true, ℕ, ◌<◌, ◌∷◌, ◌↔◌, ◌≡◌, ◌⊎◌}
 use Rattle.nt_event.specs.declared.events.Event.{Event}
-use Rattle.nt_event.specs.declared.inserts.Insert.{Insert}
 use Rattle.nt_event.specs.declared.inserts.Part.{Part}
 use Rattle.nt_event.specs.declared.numbers.ApcNo.{ApcNo}
 use Rattle.nt_event.specs.declared.numbers.CpuNo.{CpuNo}
@@ -10,7 +8,7 @@ use Rattle.nt_event.specs.declared.numbers.DpcNo.{DpcNo}
 use Rattle.nt_event.specs.declared.scripts.Script.{Script}
 use Rattle.nt_event.specs.Fate.{ApcThing, DpcThing, Thing, inserted_thing, uses_up}
 use Rattle.nt_event.specs.Objects.{inserted_dpc, queue_for, target_of}
-use Rattle.nt_event.specs.Queues.{first_dpc, is_high_in, is_in, pending}
+use Rattle.nt_event.specs.Queues.{first_dpc, pending}
 use Rattle.nt_event.specs.Routines.{owner_of}
 use Rattle.nt_event.specs.Script.{has_dpc, has_thread}
 use Rattle.nt_event.specs.Step.{IsRun}

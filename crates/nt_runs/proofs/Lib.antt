@@ -18,6 +18,7 @@ pub mod Leaving
 pub mod Allowed
 pub mod Untouched
 pub mod Pending
+pub mod Falling
 pub mod First
 pub mod ThreadFrames
 pub mod Rundown

@@ -48,17 +48,17 @@ new_among n (f ∷ fs) h = (λ e. absurd (omega (arith, h.0, e)), new_among n fs
 abbrev Naming : (Frame → Frame) → Type 0
 Naming g = (f : Frame) → (g f).name ≡ f.name
 
-done_name : (c : Command) (f : Frame) → (done_to c f).name ≡ f.name
+pub done_name : (c : Command) (f : Frame) → (done_to c f).name ≡ f.name
 done_name (Raise l) f = refl
 done_name c f = refl
 
-called_name : (due : Option ℕ) (c : Command) (y : Reply) (f : Frame) → (called due c y f).name ≡ f.name
+pub called_name : (due : Option ℕ) (c : Command) (y : Reply) (f : Frame) → (called due c y f).name ≡ f.name
 called_name due (StartWait m a) y f = refl
 called_name due (Delay m a u) y f = refl
 called_name due c Done f = done_name c f
 called_name due c y f = refl
 
-resumed_name : (st : Option ℕ) (f : Frame) → (resumed st f).name ≡ f.name
+pub resumed_name : (st : Option ℕ) (f : Frame) → (resumed st f).name ≡ f.name
 resumed_name None f = refl
 resumed_name (Some x) f = refl
 

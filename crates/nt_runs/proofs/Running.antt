@@ -37,7 +37,7 @@ pub record Keeps (g : Frame → Frame) : Type 0 where
   pub body : (f : Frame) → (g f).body ≡ f.body
   pub leaving : (f : Frame) → (g f).leaving ≡ f.leaving
 
-done_body : (c : Command) (f : Frame) → (done_to c f).body ≡ f.body
+pub done_body : (c : Command) (f : Frame) → (done_to c f).body ≡ f.body
 done_body (Raise l) f = refl
 done_body c f = refl
 
@@ -45,7 +45,7 @@ done_leaving : (c : Command) (f : Frame) → (done_to c f).leaving ≡ f.leaving
 done_leaving (Raise l) f = refl
 done_leaving c f = refl
 
-called_body : (due : Option ℕ) (c : Command) (y : Reply) (f : Frame) → (called due c y f).body ≡ f.body
+pub called_body : (due : Option ℕ) (c : Command) (y : Reply) (f : Frame) → (called due c y f).body ≡ f.body
 called_body due (StartWait m a) y f = refl
 called_body due (Delay m a u) y f = refl
 called_body due c Done f = done_body c f

@@ -1,19 +1,9 @@
 -- What is answered as the first of a part of a DPC queue.
 use Rattle.std.specs.List.{Contains}
-use Rattle.std.specs.Prelude.{List, None, Option, Some, [], false, length, true, ℕ, ◌<◌, ◌∷◌, ◌↔◌, ◌≡◌, ◌≤◌, ◌⊎◌}
-use Rattle.nt_event.specs.declared.events.Event.{Event}
+use Rattle.std.specs.Prelude.{List, None, Option, Some, false, true, ◌≡◌, ◌≤◌, ◌⊎◌}
 use Rattle.nt_event.specs.declared.inserts.Insert.{Insert}
 use Rattle.nt_event.specs.declared.inserts.Part.{Part}
-use Rattle.nt_event.specs.declared.numbers.ApcNo.{ApcNo}
-use Rattle.nt_event.specs.declared.numbers.CpuNo.{CpuNo}
-use Rattle.nt_event.specs.declared.numbers.DpcNo.{DpcNo}
-use Rattle.nt_event.specs.declared.scripts.Script.{Script}
-use Rattle.nt_event.specs.Fate.{ApcThing, DpcThing, Thing, inserted_thing, uses_up}
-use Rattle.nt_event.specs.Objects.{inserted_dpc, queue_for, target_of}
-use Rattle.nt_event.specs.Queues.{first_dpc, is_high_in, is_in, pending}
-use Rattle.nt_event.specs.Routines.{owner_of}
-use Rattle.nt_event.specs.Script.{has_dpc, has_thread}
-use Rattle.nt_event.specs.Step.{IsRun}
+use Rattle.nt_event.specs.Queues.{is_high_in, is_in}
 
 -- x is the High one of greatest number among the inserts of the part
 abbrev pub IsGreatestHigh : Part → List Insert → Insert → Type 0
