@@ -12,7 +12,7 @@ use Rattle.nt_event.specs.declared.numbers.CpuNo.{CpuNo}
 use Rattle.nt_event.specs.declared.scripts.Script.{Script}
 use Rattle.nt_event.specs.Frames.{due_of, frames_after, innermost}
 use Rattle.nt_event.specs.Lanes.{Lanes, lane_number, lanes_after, lanes_at, what_lanes}
-use Rattle.nt_event.specs.Own.{Own, own_after_event, standing_in}
+use Rattle.nt_event.specs.Own.{Own, own_after_event, stand_in}
 use Rattle.nt_event.specs.Requests.{asks_in, is_ask, looked, raised, seen_after, what_asks}
 use Rattle.nt_event.specs.Objects.{object_of}
 use Rattle.nt_event.specs.Queues.{queue_of}
@@ -133,11 +133,11 @@ told_have c None h = have_states c.script []
 told_have c (Some l) h = h.lanes
 
 -- what is left of the states is what they were
-states_kept : (c : CpuState) (states : Option Lanes) (n : ℕ) (e : Event) → IfSome states (λ l. StandsIn c l) → is_alone (standing_in c.cpu c.own).body e.what ≡ true → lanes_after c.script n (standing_in c.cpu c.own) e (told_states c.script states) ≡ told_states c.script states
+states_kept : (c : CpuState) (states : Option Lanes) (n : ℕ) (e : Event) → IfSome states (λ l. StandsIn c l) → is_alone (stand_in c.cpu c.own).body e.what ≡ true → lanes_after c.script n (stand_in c.cpu c.own) e (told_states c.script states) ≡ told_states c.script states
 states_kept c None n e h b =
-    lanes_kept c.script n (standing_in c.cpu c.own) e (lanes_at c.script []) (have_states c.script []) b
+    lanes_kept c.script n (stand_in c.cpu c.own) e (lanes_at c.script []) (have_states c.script []) b
 states_kept c (Some l) n e h b =
-    lanes_kept c.script n (standing_in c.cpu c.own) e l h.lanes b
+    lanes_kept c.script n (stand_in c.cpu c.own) e l h.lanes b
 
 raise_value : (b alone : Bool) (n old : ℕ) → old ≤ n → (if b then max old (n + 1) else old) ≡ raised b n old
 raise_value true alone n old h = omega arith
@@ -151,9 +151,9 @@ at_least : (b : Bool) (n old : ℕ) → b ≡ true → n + 1 ≤ (if b then max 
 at_least true n old h = omega arith
 at_least false n old h = cc
 
-pub alone_moved : (c d : CpuState) (w : What) (n : ℕ) (v u z : View) → Serves c v → MayBe c w → IsAlone c d w n v u z → IsMoved c.script n (alone_event c.cpu w c.own.frames) (standing_in c.cpu c.own) (found_by c v) v z
+pub alone_moved : (c d : CpuState) (w : What) (n : ℕ) (v u z : View) → Serves c v → MayBe c w → IsAlone c d w n v u z → IsMoved c.script n (alone_event c.cpu w c.own.frames) (stand_in c.cpu c.own) (found_by c v) v z
 alone_moved c d w n v u z h m i =
-    let st : Stand = standing_in c.cpu c.own in
+    let st : Stand = stand_in c.cpu c.own in
     let a : Option Asked = alone_asks st w in
     let l : Lanes = told_states c.script v.states in
     let g = i.drawn in
@@ -207,7 +207,7 @@ noticed_seen p w (Some a) n k old h l = noticed_of_ask ((a.cpu.0 == p.0) && (a.c
 
 pub alone_left : (c : CpuState) (w : What) (n : ℕ) (v : View) → IsSound c → MayBe c w → ((k : ℕ) → k < 16 → value_at c.own.seen k ≤ n) → alone_then c n w ≡ own_then c (found_by c v) n (alone_event c.cpu w c.own.frames)
 alone_left c w n v s m b =
-    let st : Stand = standing_in c.cpu c.own in
+    let st : Stand = stand_in c.cpu c.own in
     let e : Event = alone_event c.cpu w c.own.frames in
     let a : Option Asked = alone_asks st w in
     let l : Lanes = told_states c.script v.states in

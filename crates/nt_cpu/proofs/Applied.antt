@@ -14,7 +14,7 @@ use Rattle.nt_event.specs.declared.numbers.ApcNo.{ApcNo}
 use Rattle.nt_event.specs.declared.numbers.RoutineNo.{RoutineNo}
 use Rattle.nt_event.specs.declared.numbers.ThreadNo.{ThreadNo}
 use Rattle.nt_event.specs.declared.scripts.Script.{Script}
-use Rattle.nt_event.specs.Frames.{Frames, called, frames_after, frames_in, innermost, is_base_body, left, normal_of, resumed, rewaited, running_after}
+use Rattle.nt_event.specs.Frames.{Frames, called, frames_after, frames_in, innermost, is_base_body, ended_base, normal_of, resumed, rewaited, running_after}
 use Rattle.nt_event.specs.Routines.{rundown_of}
 use Rattle.nt_event.specs.Step.{thread_field}
 use Rattle.nt_event.specs.Lists.{head_of, is_null}
@@ -60,7 +60,7 @@ pub left_normal : (s : Script) (n : ℕ) (due : Option ℕ) (e : Event) (x z : F
 left_normal s n due e x z f o k a g h =
     h ∙ sym (after_normal s n due e x a.frame (ours s e (Normal f) x o k refl) a.is g (k ∙ ap Normal (sym a.name)))
 
-pub left_end : (s : Script) (n : ℕ) (due : Option ℕ) (e : Event) (x z : Frames) (f : ℕ) → Occurs s e x → e.what ≡ End f → IsAt f x → z ≡ (if is_at_base x then at_innermost left x else without_innermost x) → z ≡ frames_after s n due e x
+pub left_end : (s : Script) (n : ℕ) (due : Option ℕ) (e : Event) (x z : Frames) (f : ℕ) → Occurs s e x → e.what ≡ End f → IsAt f x → z ≡ (if is_at_base x then at_innermost ended_base x else without_innermost x) → z ≡ frames_after s n due e x
 left_end s n due e x z f o k a h = go (is_base_body a.frame.body) refl
   where
     base : is_at_base x ≡ is_base_body a.frame.body

@@ -16,7 +16,7 @@ use Rattle.nt_event.specs.declared.numbers.ApcNo.{ApcNo}
 use Rattle.nt_event.specs.declared.numbers.RoutineNo.{RoutineNo}
 use Rattle.nt_event.specs.declared.numbers.ThreadNo.{ThreadNo}
 use Rattle.nt_event.specs.declared.scripts.Script.{Script}
-use Rattle.nt_event.specs.Frames.{Frames, at_name, called, end_on_thread, ended_on_thread, flushed, frames_after, frames_in, is_base_body, left, new_frame, normal_of, rewaited, resumed, running_after, switched_to, thread_after, thread_if}
+use Rattle.nt_event.specs.Frames.{Frames, at_name, called, end_on_thread, ended_on_thread, flushed, frames_after, frames_in, is_base_body, ended_base, new_frame, normal_of, rewaited, resumed, running_after, switched_to, thread_after, thread_if}
 use Rattle.nt_event.specs.Routines.{kind_of, rundown_of}
 use Rattle.nt_event.specs.Step.{thread_field}
 use Rattle.nt_event.specs.Numbers.{is_by, is_thread, thread}
@@ -48,8 +48,8 @@ ended_ends f fs h = go (is_base_body f.body) refl
     rest [] k e = cc
     rest (g ∷ gs) k e = k
 
-    go : (b : Bool) → is_base_body f.body ≡ b → EndsInBase (if b then (left f ∷ fs) else fs)
-    go true e = head_ends left f fs (λ g. refl) h
+    go : (b : Bool) → is_base_body f.body ≡ b → EndsInBase (if b then (ended_base f ∷ fs) else fs)
+    go true e = head_ends ended_base f fs (λ g. refl) h
     go false e = rest fs h e
 
 end_ends : (n : ℕ) (fs : List Frame) → EndsInBase fs → EndsInBase (end_on_thread n fs)

@@ -17,7 +17,7 @@ use Rattle.nt_event.specs.Acting.{acted_event}
 use Rattle.nt_event.specs.Frames.{due_of, time}
 use Rattle.nt_event.specs.Jobs.{job_event}
 use Rattle.nt_event.specs.Lanes.{Lanes, lanes_after, lanes_at, lanes_of, touches, what_lanes}
-use Rattle.nt_event.specs.Own.{Own, own_after_event, own_of, standing_in}
+use Rattle.nt_event.specs.Own.{Own, own_after_event, own_of, stand_in}
 use Rattle.nt_event.specs.Regions.{stand_at}
 use Rattle.nt_event.specs.Requests.{asked, asks, asks_in, raised, seen_after, told, told_by, told_by_all}
 use Rattle.nt_event.specs.Step.{event_at, is_cut}
@@ -38,12 +38,12 @@ use Rattle.nt_cpu.proofs.Taken.{own_with_same}
 task_cpu : (s : Script) (p : CpuNo) (x : Own) (l : Lanes) (t : Task) (e : Event) → task_makes s p x l t ≡ Some e → e.cpu ≡ p
 task_cpu s p x l (Alone w) e h =
     let i : event_at s p w x.frames ≡ e = cc in ap (λ (y : Event). y.cpu) (sym i)
-task_cpu s p x l (Shared job) e h = go (job_event s (standing_in p x) l job) h
+task_cpu s p x l (Shared job) e h = go (job_event s (stand_in p x) l job) h
   where
-    go : (o : Option What) → option_map (acted_event (standing_in p x) l) o ≡ Some e → e.cpu ≡ p
+    go : (o : Option What) → option_map (acted_event (stand_in p x) l) o ≡ Some e → e.cpu ≡ p
     go None k = absurd cc
     go (Some w) k =
-        let i : acted_event (standing_in p x) l w ≡ e = cc in ap (λ (y : Event). y.cpu) (sym i)
+        let i : acted_event (stand_in p x) l w ≡ e = cc in ap (λ (y : Event). y.cpu) (sym i)
 
 pub gives_cpu : (c : CpuState) (l : Lanes) (t : Turn) (e : Event) → turn_gives c l t ≡ Ok e → e.cpu ≡ c.cpu
 gives_cpu c l t e h = cut (is_cut c.limit c.own) h

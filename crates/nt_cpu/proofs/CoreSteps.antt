@@ -26,7 +26,7 @@ use Rattle.nt_event.specs.Acting.{IsDue, acted_event}
 use Rattle.nt_event.specs.Frames.{due_of, frames_of, own_frames, thread_frames, time}
 use Rattle.nt_event.specs.Jobs.{job_event, may_switch, task, task_event}
 use Rattle.nt_event.specs.Lanes.{Lanes, lanes_after, lanes_at, lanes_of, touches, what_lanes}
-use Rattle.nt_event.specs.Own.{Own, own_after_event, own_of, standing_in}
+use Rattle.nt_event.specs.Own.{Own, own_after_event, own_of, stand_in}
 use Rattle.nt_event.specs.Regions.{stand_at}
 use Rattle.nt_event.specs.Requests.{asked, asks, asks_in, raised, seen, told, told_by, told_by_all}
 use Rattle.nt_event.specs.Script.{has_thread}

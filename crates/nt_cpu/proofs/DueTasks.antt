@@ -28,11 +28,12 @@ use Rattle.nt_event.specs.declared.scripts.Routine.{Routine}
 use Rattle.nt_event.specs.declared.scripts.Script.{Script}
 use Rattle.nt_event.specs.Commands.{needs_lane, refusal}
 use Rattle.nt_event.specs.Frames.{Frames, innermost, thread_part}
-use Rattle.nt_event.specs.Jobs.{call_task, command_task, end_task, fire_task, frame_task, has_normal, idle_task, interrupt_classes, interrupt_task, level_at, may_apcs, may_drain, may_interrupt, may_switch, may_threaded, must_task, normal_task, rewait_task, rundown_task, task}
-use Rattle.nt_event.specs.Own.{Own, standing_in}
+use Rattle.nt_event.specs.Jobs.{call_task, command_task, end_task, fire_task, frame_task, has_normal, idle_task, interrupt_task, level_at, may_apcs, may_drain, may_interrupt, may_switch, may_threaded, must_task, normal_task, rewait_task, rundown_task, task}
+use Rattle.nt_event.specs.Classes.{interrupt_classes, is_requested_level}
+use Rattle.nt_event.specs.Own.{Own, stand_in}
 use Rattle.nt_event.specs.Regions.{regions_of, some_came_to_0}
 use Rattle.nt_event.specs.Routines.{commands_of, next_command, routine_of}
-use Rattle.nt_event.specs.Script.{command_fits, fits, has_cpu, has_dpc, is_requested_level, routine_fits}
+use Rattle.nt_event.specs.Script.{command_fits, fits, has_cpu, has_dpc, routine_fits}
 use Rattle.nt_event.specs.Lists.{is_null, value_at, when}
 use Rattle.nt_event.specs.Replies.{is_refused}
 use Rattle.nt_event.proofs.Options.{Holds, both, holds_map, holds_or, holds_then, holds_when}
@@ -75,7 +76,7 @@ refused_asks st LeaveGuard r = refl
 refused_asks st (Interrupt q l) r = refl
 refused_asks st _ r = refl
 
-asks_called : (c : CpuState) (k : Command) → IsSound c → command_fits c.script k ≡ true → IfSome (call_asks (standing_in c.cpu c.own) k Done) (λ a. a.cpu.0 < c.script.cpus)
+asks_called : (c : CpuState) (k : Command) → IsSound c → command_fits c.script k ≡ true → IfSome (call_asks (stand_in c.cpu c.own) k Done) (λ a. a.cpu.0 < c.script.cpus)
 asks_called c LeaveCrit h f = asks_own c _ 1 h
 asks_called c LeaveGuard h f = asks_own c _ 1 h
 asks_called c (Interrupt q l) h f =
@@ -106,7 +107,7 @@ call_good : (c : CpuState) (f : Frame) (k : Command) (r : Option Refusal) → Is
 call_good c f k (Some r) h i e q = record {
   alone = refl;
   allow = (at_frame f c i, refl);
-  asks = rw (refused_asks (standing_in c.cpu c.own) k r) tt;
+  asks = rw (refused_asks (stand_in c.cpu c.own) k r) tt;
 }
 call_good c f ToUser None h i e q = record { frame = f; is = i; accepted = e; fits = q }
 call_good c f k None h i e q = go (needs_lane k) refl

@@ -8,7 +8,7 @@ use Rattle.nt_event.specs.declared.events.What.{What}
 use Rattle.nt_event.specs.declared.events.What.TheVariants.{Look}
 use Rattle.nt_event.specs.declared.numbers.CpuNo.{CpuNo}
 use Rattle.nt_event.specs.Lanes.{Lanes}
-use Rattle.nt_event.specs.Own.{Own, standing_in}
+use Rattle.nt_event.specs.Own.{Own, stand_in}
 use Rattle.nt_event.specs.Robin.{look_value, look_values}
 use Rattle.nt_event.specs.Lists.{table, value_at}
 use Rattle.nt_event.proofs.Tables.{get_or-table}
@@ -193,7 +193,7 @@ own_noticed p w a n k u y b m e r = go w a refl refl
 -- after an event that touches no lane
 pub knows_alone : (c d : CpuState) (w : What) (n : ℕ) (u y z : View) → IsSound c → c.cpu.0 < u.cpus → Knows c u → IsAlone c d w n u y z → ((r : Rises) → w ≡ Look r → (k : ℕ) → k < 16 → (value_at r.value k ≤ u.value c.cpu k) × (value_at r.value k ≤ u.next)) → Knows d z
 knows_alone c d w n u y z s b h a r =
-    let asked : Option Asked = alone_asks (standing_in c.cpu c.own) w in
+    let asked : Option Asked = alone_asks (stand_in c.cpu c.own) w in
     let e : Event = alone_event c.cpu w c.own.frames in
     let g = a.drawn in
     let next : z.next ≡ n + 1 = (marked_stays asked n y z a.marked).next ∙ g.next in

@@ -23,7 +23,8 @@ use Rattle.nt_event.specs.declared.scripts.Script.{Script}
 use Rattle.nt_event.specs.Acting.{IsDue, is_choice}
 use Rattle.nt_event.specs.Commands.{needs_lane, refusal}
 use Rattle.nt_event.specs.Frames.{Frames, frames_in, innermost, thread_part}
-use Rattle.nt_event.specs.Jobs.{call_task, chosen_task, command_task, end_task, fire_task, frame_task, has_normal, idle_task, interrupt_classes, interrupt_task, level_at, may_apcs, may_drain, may_interrupt, may_switch, may_threaded, must, must_task, normal_task, rests, rewait_task, rundown_task, task}
+use Rattle.nt_event.specs.Jobs.{call_task, chosen_task, command_task, end_task, fire_task, frame_task, has_normal, idle_task, interrupt_task, level_at, may_apcs, may_drain, may_interrupt, may_switch, may_threaded, must, must_task, normal_task, rests, rewait_task, rundown_task, task}
+use Rattle.nt_event.specs.Classes.{interrupt_classes}
 use Rattle.nt_event.specs.Own.{Own}
 use Rattle.nt_event.specs.Regions.{regions_of}
 use Rattle.nt_event.specs.Routines.{next_command}

@@ -5,7 +5,7 @@ use Rattle.std.specs.Prelude.{Bool, List, None, false, refl, true, ℕ, ◌+◌,
 use Rattle.nt_event.specs.declared.events.Event.{Event}
 use Rattle.nt_event.specs.declared.events.What.{What}
 use Rattle.nt_event.specs.declared.jobs.Job.{Job}
-use Rattle.nt_event.specs.Own.{standing_in}
+use Rattle.nt_event.specs.Own.{stand_in}
 use Rattle.nt_event.specs.Step.{is_cut}
 use Rattle.nt_floor.specs.Acts.{Found}
 use Rattle.nt_floor.specs.Views.{IsUnmoved, View}
@@ -60,7 +60,7 @@ goes_same c d u w e f = rw (e, f) (goes_here c u u refl refl refl)
 -- after an event that touches no lane
 pub goes_alone : (c d : CpuState) (w : What) (n : ℕ) (v u z : View) → IsAlone c d w n v u z → GoesOn c d v z
 goes_alone c d w n v u z h =
-    let m = marked_stays (alone_asks (standing_in c.cpu c.own) w) n u z h.marked in
+    let m = marked_stays (alone_asks (stand_in c.cpu c.own) w) n u z h.marked in
     rw h.state (record {
       script = refl;
       cpu = refl;

@@ -21,7 +21,7 @@ use Rattle.nt_event.specs.declared.numbers.ApcNo.{ApcNo}
 use Rattle.nt_event.specs.declared.numbers.RoutineNo.{RoutineNo}
 use Rattle.nt_event.specs.declared.numbers.ThreadNo.{ThreadNo}
 use Rattle.nt_event.specs.declared.scripts.Script.{Script}
-use Rattle.nt_event.specs.Frames.{Frames, again_after, at_name, called, done_to, effect, end_on_thread, ended_on_thread, flushed, frames_after, frames_in, is_base_body, left, new_frame, normal_of, own_after, resumed, rewaited, switched_to, thread_after, thread_if, without}
+use Rattle.nt_event.specs.Frames.{Frames, again_after, at_name, called, done_to, effect, end_on_thread, ended_on_thread, flushed, frames_after, frames_in, is_base_body, ended_base, new_frame, normal_of, own_after, resumed, rewaited, switched_to, thread_after, thread_if, without}
 use Rattle.nt_event.specs.Regions.{crit_of, guard_of}
 use Rattle.nt_event.specs.Routines.{rundown_of}
 use Rattle.nt_event.specs.Numbers.{is_by, thread}
@@ -112,7 +112,7 @@ resumed_grows n (Some st) f h = rewaited_grows n (Status st) f h
 normal_grows : (n : ℕ) (f : Frame) → IsSmall n f → Grows n f (normal_of f)
 normal_grows n f h = record { small = record { place = omega arith; due = tt }; crit = omega arith; guard = omega arith }
 
-left_grows : (n : ℕ) (f : Frame) → IsSmall n f → Grows n f (left f)
+left_grows : (n : ℕ) (f : Frame) → IsSmall n f → Grows n f (ended_base f)
 left_grows n f h = record { small = record { place = omega arith; due = tt }; crit = omega arith; guard = omega arith }
 
 new_small : (n m : ℕ) (b : Body) → IsSmall n (new_frame m b)
@@ -215,8 +215,8 @@ part_ended n (f ∷ fs) h = go (is_base_body f.body)
     s : IsSmall n f
     s = All-head (IsSmall n) f fs h.frames
 
-    go : (b : Bool) → IsSmallPart (n + 1) (if b then (left f ∷ fs) else fs)
-    go true = part_head n f (left f) fs (left_grows n f s) h
+    go : (b : Bool) → IsSmallPart (n + 1) (if b then (ended_base f ∷ fs) else fs)
+    go true = part_head n f (ended_base f) fs (left_grows n f s) h
     go false = part_tail n f fs h
 
 part_end : (n m : ℕ) (fs : List Frame) → IsSmallPart n fs → IsSmallPart (n + 1) (end_on_thread m fs)

@@ -10,7 +10,7 @@ use Rattle.nt_event.specs.declared.jobs.Job.TheVariants.{Pick as PickJob}
 use Rattle.nt_event.specs.declared.jobs.Task.{Task}
 use Rattle.nt_event.specs.declared.jobs.Task.TheVariants.{Alone, Shared}
 use Rattle.nt_event.specs.Jobs.{chosen_task, may_switch, rests, task}
-use Rattle.nt_event.specs.Own.{Own, standing_in}
+use Rattle.nt_event.specs.Own.{Own, stand_in}
 use Rattle.nt_event.specs.Robin.{is_behind, look_values}
 use Rattle.nt_event.specs.Step.{event_at, is_cut}
 use Rattle.nt_event.specs.Lists.{value_at}
@@ -83,7 +83,7 @@ step_alone c d xs w e n v u y z h o t q l f a = record {
 
     apart : IsApart c d (found_by c u) n (alone_event c.cpu w c.own.frames) u z
     apart = record {
-      lanes = lanes_alone c.script (standing_in c.cpu c.own) w (found_by c u).lanes may.alone;
+      lanes = lanes_alone c.script (stand_in c.cpu c.own) w (found_by c u).lanes may.alone;
       states = told_have c u.states o.stands;
       state = a.state ∙ ap (λ (x : Own). record c { own = x }) (alone_left c w n u h may below);
       floor = alone_moved c d w n u y z o may a;

@@ -13,7 +13,7 @@ use Rattle.nt_event.specs.declared.jobs.Task.TheVariants.{Alone, Shared}
 use Rattle.nt_event.specs.Acting.{IsDue, acted_event, is_choice}
 use Rattle.nt_event.specs.Jobs.{job_event, may_switch, task}
 use Rattle.nt_event.specs.Lanes.{Lanes}
-use Rattle.nt_event.specs.Own.{Own, standing_in}
+use Rattle.nt_event.specs.Own.{Own, stand_in}
 use Rattle.nt_event.specs.Script.{has_thread}
 use Rattle.nt_event.specs.Step.{event_at, is_cut}
 use Rattle.nt_event.specs.Lists.{value_at, when}
@@ -62,7 +62,7 @@ gives_none c l t h e = gives_task c l t h ∙ rw e refl
 pub gives_alone : (c : CpuState) (l : Lanes) (t : Turn) (w : What) → is_cut c.limit c.own ≡ false → turn_task c.script c.cpu c.own t ≡ Some (Alone w) → turn_gives c l t ≡ Ok (event_at c.script c.cpu w c.own.frames)
 gives_alone c l t w h e = gives_task c l t h ∙ rw e refl
 
-pub gives_shared : (c : CpuState) (l : Lanes) (t : Turn) (job : Job) → is_cut c.limit c.own ≡ false → turn_task c.script c.cpu c.own t ≡ Some (Shared job) → turn_gives c l t ≡ event_or_refusal (turn_refusal t) (option_map (acted_event (standing_in c.cpu c.own) l) (job_event c.script (standing_in c.cpu c.own) l job))
+pub gives_shared : (c : CpuState) (l : Lanes) (t : Turn) (job : Job) → is_cut c.limit c.own ≡ false → turn_task c.script c.cpu c.own t ≡ Some (Shared job) → turn_gives c l t ≡ event_or_refusal (turn_refusal t) (option_map (acted_event (stand_in c.cpu c.own) l) (job_event c.script (stand_in c.cpu c.own) l job))
 gives_shared c l t job h e = gives_task c l t h ∙ rw e refl
 
 -- ---- the answers

@@ -20,7 +20,7 @@ use Rattle.nt_event.specs.Requests.{Ask}
 use Rattle.nt_event.specs.Replies.{is_done, is_refused}
 use Rattle.nt_event.specs.Lists.{value_at}
 use Rattle.nt_event.specs.declared.events.Event.{Event}
-use Rattle.nt_event.specs.Own.{Own, standing_in}
+use Rattle.nt_event.specs.Own.{Own, stand_in}
 use Rattle.nt_event.specs.Step.{thread_field}
 use Rattle.nt_floor.specs.Views.{IsDrawn, IsMarked, View}
 use Rattle.nt_cpu.specs.declared.alone.Asked.{Asked}
@@ -104,16 +104,16 @@ alone_event p w x = record { cpu = p; thread = thread_field w x.running; level =
 -- what the processor keeps after its event of this number
 abbrev pub alone_then : CpuState → ℕ → What → Own
 alone_then c n w =
-    own_with c.script n None (alone_event c.cpu w c.own.frames) (λ k. max (value_at c.own.seen k) (noticed c.cpu w (alone_asks (standing_in c.cpu c.own) w) n k)) c.own
+    own_with c.script n None (alone_event c.cpu w c.own.frames) (λ k. max (value_at c.own.seen k) (noticed c.cpu w (alone_asks (stand_in c.cpu c.own) w) n k)) c.own
 
 -- an event that touches no lane happened under this number: it was drawn, and marked as asking for what it asks
 pub record IsAlone (c d : CpuState) (w : What) (n : ℕ) (v u z : View) : Type 0 where
   pub drawn : IsDrawn n (alone_event c.cpu w c.own.frames) v u
-  pub marked : IsMarkedFor (alone_asks (standing_in c.cpu c.own) w) n u z
+  pub marked : IsMarkedFor (alone_asks (stand_in c.cpu c.own) w) n u z
   pub state : d ≡ record c { own = alone_then c n w }
 
 -- the processor may make it
 pub record MayBe (c : CpuState) (w : What) : Type 0 where
   pub alone : is_alone (option_map (λ f. f.body) (innermost c.own.frames)) w ≡ true
   pub allow : Allow c.script w c.own.frames
-  pub asks : IfSome (alone_asks (standing_in c.cpu c.own) w) (λ a. a.cpu.0 < c.script.cpus)
+  pub asks : IfSome (alone_asks (stand_in c.cpu c.own) w) (λ a. a.cpu.0 < c.script.cpus)

@@ -9,7 +9,7 @@ use Rattle.nt_event.specs.declared.jobs.Task.TheVariants.{Alone, Shared}
 use Rattle.nt_event.specs.declared.numbers.CpuNo.{CpuNo}
 use Rattle.nt_event.specs.Jobs.{chosen_task, rests}
 use Rattle.nt_event.specs.Lanes.{what_lanes}
-use Rattle.nt_event.specs.Own.{Own, standing_in}
+use Rattle.nt_event.specs.Own.{Own, stand_in}
 use Rattle.nt_event.specs.Robin.{is_behind, look_values}
 use Rattle.nt_event.specs.Step.{event_at, is_cut}
 use Rattle.nt_event.specs.Lists.{value_at}
@@ -91,10 +91,10 @@ local_gives c answers = if is_cut c.limit c.own then LocalCut else local_answer 
 
 -- an event that touches no lane happened under this number; what states were found doesn't matter
 pub record IsApart (c d : CpuState) (f : Found) (n : ℕ) (e : Event) (v w : View) : Type 0 where
-  pub lanes : what_lanes c.script (standing_in c.cpu c.own) e.what f.lanes ≡ []
+  pub lanes : what_lanes c.script (stand_in c.cpu c.own) e.what f.lanes ≡ []
   pub states : HaveStates c.script f.lanes
   pub state : d ≡ state_then c f n e
-  pub floor : IsMoved c.script n e (standing_in c.cpu c.own) f v w
+  pub floor : IsMoved c.script n e (stand_in c.cpu c.own) f v w
 
 -- what a step leaves, by its answer: its event happened, or nothing
 abbrev pub LocalLeaves : CpuState → CpuState → Local → View → View → Type 0
@@ -133,6 +133,6 @@ pub record GoesOn (c d : CpuState) (v w : View) : Type 0 where
 -- rests and no request rose; or it is cut
 abbrev pub Advanced : CpuState → CpuState → List ℕ → (ℕ → Event → Stand → Found → Type 0) → Turned → View → View → Type 0
 Advanced c d answers found (Did e) u w =
-    ((local_gives c answers ≡ LocalDid e) × LocalLeaves c d (LocalDid e) u w) ⊎ ((job : Job) × (local_gives c answers ≡ NeedsLane job) × ((f : Found) × (n : ℕ) × (IsShared c d job f n e u w × found n e (standing_in c.cpu c.own) f)))
+    ((local_gives c answers ≡ LocalDid e) × LocalLeaves c d (LocalDid e) u w) ⊎ ((job : Job) × (local_gives c answers ≡ NeedsLane job) × ((f : Found) × (n : ℕ) × (IsShared c d job f n e u w × found n e (stand_in c.cpu c.own) f)))
 Advanced c d answers found Quiet u w = (local_gives c answers ≡ LocalQuiet) × (rests c.own ≡ true) × (d ≡ c) × (w ≡ u)
 Advanced c d answers found Cut u w = (local_gives c answers ≡ LocalCut) × (d ≡ c) × (w ≡ u)

@@ -1,6 +1,6 @@
 //! Events that touch no lane.
 ghost use Rattle.std.specs.Prelude.{◌≡◌, ◌<◌, ◌≤◌, ◌+◌, ◌^◌, ℕ, IfSome};
-ghost use Rattle.nt_event.specs.Own.{standing_in};
+ghost use Rattle.nt_event.specs.Own.{stand_in};
 ghost use Rattle.nt_event.specs.Regions.{some_came_to_0};
 ghost use Rattle.nt_event.specs.Step.{thread_field};
 ghost use Rattle.nt_event.specs.Lists.{value_at};
@@ -140,7 +140,7 @@ fn mark<W: Words>(words: &mut W, asked: Option<Asked>, n: u64)
 impl<'s> Cpu<'s> {
     /// Where the processor stands.
     pub(crate) fn standing(&self) -> Stand
-        ensures { result ≡ standing_in self.now.cpu self.now.own }
+        ensures { result ≡ stand_in self.now.cpu self.now.own }
     {
         let top = self.frames.top();
         let (frame, body, again) = match top {

@@ -4,7 +4,7 @@ ghost use Rattle.std.specs.Option.{ForSome};
 ghost use Rattle.nt_event.specs.declared.events.What.{What};
 ghost use Rattle.nt_event.specs.declared.frames.Body.{Body};
 ghost use Rattle.nt_event.specs.declared.frames.Region.{Region};
-ghost use Rattle.nt_event.specs.Frames.{again_after, called, done_to, effect as effect_of, frames_after, frames_in, innermost, left, rewaited, resumed, running_after};
+ghost use Rattle.nt_event.specs.Frames.{again_after, called, done_to, effect as effect_of, frames_after, frames_in, innermost, ended_base, rewaited, resumed, running_after};
 ghost use Rattle.nt_event.specs.Routines.{kind_of as kind_in, rundown_of};
 ghost use Rattle.nt_event.specs.Step.{thread_field};
 ghost use Rattle.nt_event.specs.Lists.{is_null};
@@ -179,7 +179,7 @@ fn rewait(frames: &mut Frames, reply: &Reply)
 fn end(frames: &mut Frames)
     requires frame { IsSome (innermost frames.old) }
     requires runs { is_leaving frames.old ≡ false }
-    ensures { frames.new ≡ (if is_at_base frames.old then at_innermost left frames.old else without_innermost frames.old) }
+    ensures { frames.new ≡ (if is_at_base frames.old then at_innermost ended_base frames.old else without_innermost frames.old) }
 {
     if is_base(frames) {
         frames.end_base();

@@ -2,7 +2,7 @@
 ghost use Rattle.std.specs.Prelude.{◌≡◌, ◌<◌, ◌≤◌, ℕ, List, false, true, IfOk, IfErr, OnErr, IsErr, Some, length};
 ghost use Rattle.nt_event.specs.Jobs.{chosen_task as chosen_of};
 ghost use Rattle.nt_event.specs.Robin.{look_values};
-ghost use Rattle.nt_event.specs.Own.{standing_in};
+ghost use Rattle.nt_event.specs.Own.{stand_in};
 ghost use Rattle.nt_event.specs.Step.{is_cut};
 ghost use Rattle.nt_event.specs.Lists.{value_at};
 ghost use Rattle.nt_event.specs.declared.jobs.Job.{Job};
@@ -128,7 +128,7 @@ impl<'s> Cpu<'s> {
         requires job { chosen_of self.old.script self.old.cpu self.old.own ≡ Some (Task.Shared job) }
         requires script { F.script floor.old ≡ self.old.script }
         requires serves { Serves self.old (F.view floor.old) }
-        ensures ok { IfOk result (λ e. (f : Found) × (n : ℕ) × (IsShared self.old self.new job f n e (F.view floor.old) (F.view floor.new) × F.found floor.new n e (standing_in self.old.cpu self.old.own) f)) }
+        ensures ok { IfOk result (λ e. (f : Found) × (n : ℕ) × (IsShared self.old self.new job f n e (F.view floor.old) (F.view floor.new) × F.found floor.new n e (stand_in self.old.cpu self.old.own) f)) }
         ensures same { OnErr result ((self.new ≡ self.old) × IsUnmoved (F.view floor.old) (F.view floor.new)) }
         ensures memory { (F.view floor.old).alone ≡ true → IsErr result → ⊥ }
         ensures script { F.script floor.new ≡ F.script floor.old }

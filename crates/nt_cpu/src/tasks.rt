@@ -2,7 +2,8 @@
 ghost use Rattle.std.specs.Prelude.{◌≡◌, ◌<◌, IfSome, find, not};
 ghost use Rattle.nt_event.specs.Commands.{refusal as refusal_of};
 ghost use Rattle.nt_event.specs.Frames.{level_in, thread_part};
-ghost use Rattle.nt_event.specs.Jobs.{call_task as call_of, chosen_task as chosen_of, command_task as command_of, end_task as end_of, fire_task as fire_of, frame_task as frame_of, has_normal as goes_on, idle_task as idle_of, interrupt_classes, interrupt_task as interrupt_of, is_due as due_in, level_at, may_apcs as apcs_in, may_drain as drain_in, may_interrupt, may_switch as switch_in, may_threaded as threaded_in, must as must_in, must_task as must_of, normal_task as normal_of, rests as rests_in, rewait_task as rewait_of, rundown_task as rundown_of, task as task_of};
+ghost use Rattle.nt_event.specs.Jobs.{call_task as call_of, chosen_task as chosen_of, command_task as command_of, end_task as end_of, fire_task as fire_of, frame_task as frame_of, has_normal as goes_on, idle_task as idle_of, interrupt_task as interrupt_of, is_due as due_in, level_at, may_apcs as apcs_in, may_drain as drain_in, may_interrupt, may_switch as switch_in, may_threaded as threaded_in, must as must_in, must_task as must_of, normal_task as normal_of, rests as rests_in, rewait_task as rewait_of, rundown_task as rundown_of, task as task_of};
+ghost use Rattle.nt_event.specs.Classes.{interrupt_classes};
 ghost use Rattle.nt_event.specs.Routines.{next_command as next_of};
 ghost use Rattle.nt_event.specs.Regions.{regions_of};
 ghost use Rattle.nt_event.specs.Lists.{is_null, value_at};

@@ -7,7 +7,7 @@ use Rattle.nt_event.specs.declared.events.What.TheVariants.{Begin, Call, Expire,
 use Rattle.nt_event.specs.declared.jobs.Job.{Job}
 use Rattle.nt_event.specs.declared.jobs.Stand.{Stand}
 use Rattle.nt_event.specs.declared.scripts.Script.{Script}
-use Rattle.nt_event.specs.Acting.{IsAllowed, IsStanding}
+use Rattle.nt_event.specs.Acting.{IsAllowed, StandHolds}
 use Rattle.nt_event.specs.Jobs.{job_event}
 use Rattle.nt_event.specs.Script.{command_fits, has_dpc, has_thread, has_timer}
 use Rattle.nt_floor.specs.Acts.{StandFits, job_fits}
@@ -29,7 +29,7 @@ what_fits s w = true
 pub record MayDo (x : AllStates) (st : Stand) (j : Job) : Type 0 where
   pub job : IsTrue (job_fits x.script j)
   pub stand : StandFits x.script st
-  pub stands : IsStanding x.script x.lanes st
+  pub stands : StandHolds x.script x.lanes st
   pub allowed : IsAllowed x.lanes st j
 
 -- the event is the one of some job that may be done, and names things of the script

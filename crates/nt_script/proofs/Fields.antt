@@ -14,7 +14,7 @@ use Rattle.nt_event.specs.declared.commands.Importance.{Importance}
 use Rattle.nt_event.specs.declared.commands.Importance.TheVariants.{Low, Medium, MediumHigh, High}
 use Rattle.nt_event.specs.declared.commands.Mode.{Mode}
 use Rattle.nt_event.specs.declared.commands.Mode.TheVariants.{Kernel, User}
-use Rattle.nt_event.specs.Script.{is_requested_level, is_isr_level}
+use Rattle.nt_event.specs.Classes.{is_requested_level, is_isr_level}
 use Rattle.nt_script.specs.declared.slots.TheConstants.{IMPORTANCES}
 use Rattle.nt_script.specs.Results.{◌>>=◌, ok_if}
 use Rattle.nt_script.specs.Slots.{own, read_number, read_level, read_interrupt, read_isr_level, read_cpu, read_unless, read_target, importance_text, read_importance, mode_text, read_mode, flag_text, read_flag, alertable_text, read_alertable, on_off_text, read_on_off}

@@ -7,7 +7,8 @@ use Rattle.nt_event.specs.declared.scripts.DpcDecl.{DpcDecl}
 use Rattle.nt_event.specs.declared.scripts.TimerDecl.{TimerDecl}
 use Rattle.nt_event.specs.declared.scripts.ThreadDecl.{ThreadDecl}
 use Rattle.nt_event.specs.declared.scripts.ApcDecl.{ApcDecl}
-use Rattle.nt_event.specs.Script.{is_requested_level, is_isr_level, apc_has_its_routines}
+use Rattle.nt_event.specs.Classes.{is_requested_level, is_isr_level}
+use Rattle.nt_event.specs.Script.{apc_has_its_routines}
 use Rattle.nt_script.specs.NameLists.{NameLists}
 
 abbrev pub IsrFits : NameLists → ℕ → Isr → Type 0

@@ -14,7 +14,7 @@ use Rattle.nt_event.specs.declared.commands.Importance.{Importance}
 use Rattle.nt_event.specs.declared.commands.Importance.TheVariants.{Low, Medium, MediumHigh, High}
 use Rattle.nt_event.specs.declared.commands.Mode.{Mode}
 use Rattle.nt_event.specs.declared.commands.Mode.TheVariants.{Kernel, User}
-use Rattle.nt_event.specs.Script.{is_requested_level, is_isr_level}
+use Rattle.nt_event.specs.Classes.{is_requested_level, is_isr_level}
 use Rattle.nt_script.specs.declared.names.Named.{Named}
 use Rattle.nt_script.specs.declared.names.Named.TheVariants as named
 use Rattle.nt_script.specs.declared.slots.TheConstants.{IMPORTANCES}

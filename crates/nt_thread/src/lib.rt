@@ -20,8 +20,6 @@
 mod answers;
 pub mod laws;
 mod state;
-#[cfg(test)]
-mod tests;
 
 pub use answers::{
     AlertAnswer, ApcAnswer, STATUS_ALERTED, STATUS_KERNEL_APC, STATUS_SUCCESS, STATUS_USER_APC,

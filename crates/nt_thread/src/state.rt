@@ -30,7 +30,7 @@ pub struct ThreadState {
     doing: Doing,
     alerted_kernel: bool,
     alerted_user: bool,
-    marked: bool,
+    user_pending: bool,
     released: bool,
     leaving: bool,
     apcs: ApcQueues,
@@ -42,7 +42,7 @@ impl Model for ThreadState {
 
     ghost Value = { ThreadFacts };
 
-    ghost view = { λ a. record { doing = a.doing; alerted_kernel = a.alerted_kernel; alerted_user = a.alerted_user; marked = a.marked; released = a.released; leaving = a.leaving; apcs = a.apcs } };
+    ghost view = { λ a. record { doing = a.doing; alerted_kernel = a.alerted_kernel; alerted_user = a.alerted_user; user_pending = a.user_pending; released = a.released; leaving = a.leaving; apcs = a.apcs } };
 
     ghost invariant = { λ a. QuietDoing a.doing a.apcs };
 }
@@ -60,7 +60,7 @@ impl ThreadState {
             },
             alerted_kernel: false,
             alerted_user: false,
-            marked: false,
+            user_pending: false,
             released: false,
             leaving: false,
             apcs: ApcQueues::new(alloc, apcs)?,
@@ -217,9 +217,9 @@ impl ThreadState {
 
     /// Plain, of user mode, and the user-pending mark is set.
     fn takes_mark(&self, w: WaitSpec) -> bool
-        ensures { result ≡ (not w.alertable && (is_user w.mode && self.now.marked)) }
+        ensures { result ≡ (not w.alertable && (is_user w.mode && self.now.user_pending)) }
     {
-        !w.alertable && w.mode == Mode::User && self.marked
+        !w.alertable && w.mode == Mode::User && self.user_pending
     }
 
     fn is_alerted(&self, m: Mode) -> bool
@@ -251,7 +251,7 @@ impl ThreadState {
         } else if status == STATUS_ALERTED {
             self.take_alert(w.mode);
         } else if status == STATUS_USER_APC && w.alertable {
-            self.marked = true;
+            self.user_pending = true;
         }
     }
 
@@ -377,7 +377,7 @@ impl ThreadState {
         if was {
             self.set_alerted(m, false);
         } else if m == Mode::User && self.apcs.user_first().is_some() {
-            self.marked = true;
+            self.user_pending = true;
         }
         was
     }
@@ -459,7 +459,7 @@ impl ThreadState {
     {
         match &self.doing {
             Doing::Blocked(waiting) => {
-                waiting.mode == Mode::User && (waiting.alertable || self.marked)
+                waiting.mode == Mode::User && (waiting.alertable || self.user_pending)
             }
             _ => false,
         }
@@ -484,7 +484,7 @@ impl ThreadState {
         match k {
             ApcKind::User => {
                 self.end_wait(STATUS_USER_APC);
-                self.marked = true;
+                self.user_pending = true;
             }
             _ => self.end_wait(STATUS_KERNEL_APC),
         }
@@ -510,7 +510,7 @@ impl ThreadState {
     pub fn user_due(&self) -> Option<Pick>
         ensures { result ≡ due_of self.now }
     {
-        if self.marked {
+        if self.user_pending {
             self.apcs.user_first()
         } else {
             None
@@ -531,7 +531,7 @@ impl ThreadState {
     {
         self.apcs.take(p);
         if p.kind == ApcKind::User {
-            self.marked = false;
+            self.user_pending = false;
         }
     }
 
@@ -539,7 +539,7 @@ impl ThreadState {
 
     /// The base routine of the running thread has ended: it is leaving, and takes no more APCs.
     pub fn leave(&mut self)
-        ensures { self.new ≡ waits.left_facts self.old }
+        ensures { self.new ≡ waits.leaving_facts self.old }
     {
         self.leaving = true;
         self.apcs.close_doors();

@@ -43,7 +43,7 @@ of_deliverable P q r level h =
     holds_then P (λ x. when ((level == 0) && lets_through r x.kind) (Some x)) (first_kernel q) (λ x e. holds_when P ((level == 0) && lets_through r x.kind) (Some x) (λ a. holds_at P (first_kernel q) x (of_kernel P q h) e))
 
 of_user_due : (P : Pick → Type 0) (x : ThreadFacts) → All P x.apcs.pending → Holds P (user_due x)
-of_user_due P x h = holds_when P x.marked (first_user x.apcs) (λ a. of_kind P UserApc x.apcs h)
+of_user_due P x h = holds_when P x.user_pending (first_user x.apcs) (λ a. of_kind P UserApc x.apcs h)
 
 -- the insert that begins
 pub begins_one : (P : Pick → Type 0) (st : Stand) (a : ApcNo) (from : ℕ) (x : ThreadFacts) (b : Begins st a from x) → All P x.apcs.pending → P b.pick

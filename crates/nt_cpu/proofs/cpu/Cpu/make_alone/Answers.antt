@@ -22,7 +22,7 @@ returns-clause-made g c =
     let asked = c.asks-asked.ensures.asks ∙ ap (λ (st : Stand). alone_asks st w) c.standing.ensures in
     let told = c.noticed.ensures in
     let cpu = ap (λ (x : CpuState). x.cpu) c.take_up.view_is in
-    let same : (k : ℕ) → k < 16 → max (value_at s.own.seen k) (value_at c.noticed.result.value k) ≡ max (value_at s.own.seen k) (noticed s.cpu w (alone_asks (Rattle.nt_event.specs.Own.standing_in s.cpu s.own) w) n k) = λ k b. ap (λ (y : ℕ). max (value_at s.own.seen k) y) (told k b ∙ (ap (λ (p : _). noticed p w c.asks-asked.result n k) cpu ∙ ap (λ (a : Option Asked). noticed s.cpu w a n k) asked)) in (
+    let same : (k : ℕ) → k < 16 → max (value_at s.own.seen k) (value_at c.noticed.result.value k) ≡ max (value_at s.own.seen k) (noticed s.cpu w (alone_asks (Rattle.nt_event.specs.Own.stand_in s.cpu s.own) w) n k) = λ k b. ap (λ (y : ℕ). max (value_at s.own.seen k) y) (told k b ∙ (ap (λ (p : _). noticed p w c.asks-asked.result n k) cpu ∙ ap (λ (a : Option Asked). noticed s.cpu w a n k) asked)) in (
       n,
       u,
       record {
