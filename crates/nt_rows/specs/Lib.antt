@@ -40,3 +40,4 @@ pub mod WaitReleasedBefore
 pub mod DoorsAndGone
 pub mod YieldTakesTurns
 pub mod DelayOfUserMode
+pub mod ReleaseEndsAWait

@@ -1,12 +1,6 @@
 -- The worked row regions.
 use Rattle.std.specs.Prelude.{List, None, Some, [], ◌∷◌}
-use Rattle.nt_event.specs.declared.commands.Command.TheVariants.{
-  EnterCrit,
-  EnterGuard,
-  InsertApc,
-  LeaveCrit,
-  LeaveGuard,
-}
+use Rattle.nt_event.specs.declared.commands.Command.TheVariants as cmd
 use Rattle.nt_event.specs.declared.commands.Reply.TheVariants.{Done, Yes}
 use Rattle.nt_event.specs.declared.events.Begun.TheVariants.{Apc}
 use Rattle.nt_event.specs.declared.events.Event.{Event}
@@ -46,8 +40,8 @@ script =
       threads = thread_on 0 body ∷ [];
       apcs = normal_apc main q q ∷ special_apc main q ∷ [];
       routines =
-          runs (EnterCrit ∷ InsertApc n ∷ InsertApc s ∷ LeaveCrit ∷ EnterGuard ∷ InsertApc s ∷ InsertApc n ∷
-          LeaveGuard ∷ []) ∷
+          runs (cmd.EnterCrit ∷ cmd.InsertApc n ∷ cmd.InsertApc s ∷ cmd.LeaveCrit ∷ cmd.EnterGuard ∷
+          cmd.InsertApc s ∷ cmd.InsertApc n ∷ cmd.LeaveGuard ∷ []) ∷
           runs [] ∷
           [];
     }
@@ -56,25 +50,25 @@ script =
 abbrev pub history : List Event
 history =
     event 0 (Some main) 0 (Switch main None) ∷
-    event 0 (Some main) 0 (Call 0 (EnterCrit) Done) ∷
-    event 0 (Some main) 0 (Call 0 (InsertApc n) Yes) ∷
+    event 0 (Some main) 0 (Call 0 cmd.EnterCrit Done) ∷
+    event 0 (Some main) 0 (Call 0 (cmd.InsertApc n) Yes) ∷
     event 0 (Some main) 0 (Clean 1) ∷
-    event 0 (Some main) 0 (Call 0 (InsertApc s) Yes) ∷
+    event 0 (Some main) 0 (Call 0 (cmd.InsertApc s) Yes) ∷
     event 0 (Some main) 1 (Begin (Apc s) 4) ∷
     event 0 (Some main) 0 (End 5) ∷
     event 0 (Some main) 0 (Clean 1) ∷
-    event 0 (Some main) 0 (Call 0 (LeaveCrit) Done) ∷
+    event 0 (Some main) 0 (Call 0 cmd.LeaveCrit Done) ∷
     event 0 (Some main) 1 (Begin (Apc n) 2) ∷
     event 0 (Some main) 0 (Normal 9) ∷
     event 0 (Some main) 0 (Clean 1) ∷
     event 0 (Some main) 0 (End 9) ∷
     event 0 (Some main) 0 (Clean 1) ∷
-    event 0 (Some main) 0 (Call 0 (EnterGuard) Done) ∷
-    event 0 (Some main) 0 (Call 0 (InsertApc s) Yes) ∷
+    event 0 (Some main) 0 (Call 0 cmd.EnterGuard Done) ∷
+    event 0 (Some main) 0 (Call 0 (cmd.InsertApc s) Yes) ∷
     event 0 (Some main) 0 (Clean 1) ∷
-    event 0 (Some main) 0 (Call 0 (InsertApc n) Yes) ∷
+    event 0 (Some main) 0 (Call 0 (cmd.InsertApc n) Yes) ∷
     event 0 (Some main) 0 (Clean 1) ∷
-    event 0 (Some main) 0 (Call 0 (LeaveGuard) Done) ∷
+    event 0 (Some main) 0 (Call 0 cmd.LeaveGuard Done) ∷
     event 0 (Some main) 1 (Begin (Apc s) 15) ∷
     event 0 (Some main) 0 (End 20) ∷
     event 0 (Some main) 1 (Begin (Apc n) 17) ∷

@@ -63,7 +63,7 @@ script =
 abbrev pub history : List Event
 history =
     event 0 (Some main) 0 (Switch main None) ∷
-    event 0 (Some main) 0 (Call 0 (EnterGuard) Done) ∷
+    event 0 (Some main) 0 (Call 0 EnterGuard Done) ∷
     event 0 (Some main) 0 (Call 0 (InsertApc s) Yes) ∷
     event 0 (Some main) 0 (Clean 1) ∷
     event 0 (Some main) 0 (Call 0 (InsertApc u1) Yes) ∷

@@ -59,7 +59,7 @@ history =
     event 0 (Some main) 1 (Begin (Apc u2) 2) ∷
     event 0 (Some main) 0 (Normal 7) ∷
     event 0 (Some main) 0 (End 7) ∷
-    event 0 (Some main) 0 (Call 0 (ToUser) Done) ∷
+    event 0 (Some main) 0 (Call 0 ToUser Done) ∷
     event 0 (Some main) 0 (End 0) ∷
     event 0 (Some main) 0 (Gone main) ∷
     event 0 None 0 Rest ∷

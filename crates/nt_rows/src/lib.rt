@@ -46,6 +46,7 @@ ghost use Rattle.nt_rows.specs.AlertsOfBothModes as alerts_of_both_modes_row;
 ghost use Rattle.nt_rows.specs.WaitReleasedBefore as wait_released_before_row;
 ghost use Rattle.nt_rows.specs.DoorsAndGone as doors_and_gone_row;
 ghost use Rattle.nt_rows.specs.YieldTakesTurns as yield_takes_turns_row;
+ghost use Rattle.nt_rows.specs.ReleaseEndsAWait as release_ends_a_wait_row;
 ghost use Rattle.nt_rows.specs.DelayOfUserMode as delay_of_user_mode_row;
 
 // ---- Levels and frames
@@ -224,6 +225,11 @@ pub fn alerts_of_both_modes()
 /// Several releases before a wait satisfy one wait, also where a kernel APC is delivered between.
 pub fn wait_released_before()
     ensures { IsWorked wait_released_before_row.script 10000 wait_released_before_row.history }
+{}
+
+/// A release ends any wait and a kernel alert one of user mode; an APC held back and an alert of a higher mode end none.
+pub fn release_ends_a_wait()
+    ensures { IsWorked release_ends_a_wait_row.script 10000 release_ends_a_wait_row.history }
 {}
 
 /// A thread that ends takes no more APCs, and a call on one that is gone answers no.
