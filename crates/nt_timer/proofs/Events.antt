@@ -1,5 +1,5 @@
 -- What the events of the machine leave of the timers is what the calls leave.
-use Rattle.std.proofs.Common.{◌≡◌, ◌<◌, ◌+◌, Bool, true, false, List, ◌∷◌, Option, Some, None, ℕ, ap, arith, cond, eqb, get_or, length, replicate, refl, set}
+use Rattle.std.proofs.Common.{◌≡◌, ◌+◌, Bool, true, false, List, ◌∷◌, Option, Some, None, ℕ, ap, cond, eqb, length, replicate, refl, set}
 use Rattle.std.proofs.Common.{subst, suc, sym, zero, ◌∙◌}
 use Rattle.nt_event.specs.declared.commands.Command.TheVariants.{CancelTimer, Clock, Delay, SetTimer}
 use Rattle.nt_event.specs.declared.commands.Mode.{Mode}
@@ -28,8 +28,7 @@ use Rattle.nt_timer.specs.Laws.{IsMadeBy, IsSized, TimerCallsAreEvents}
 use Rattle.nt_timer.specs.Settings.{due_at, expired, with_setting}
 use Rattle.nt_event.specs.Frames.{time_after}
 use Rattle.nt_event.specs.Routines.{cpu_of}
-use Rattle.std.proofs.lemmas.Bool.{and_right, eqb-false, eqb-true}
-use Rattle.std.proofs.lemmas.List.{get_or-set_other, get_or-set_same, length-set}
+use Rattle.std.proofs.lemmas.Bool.{and_right, eqb-true}
 
 -- ---- one table at a time: with e.what known
 
