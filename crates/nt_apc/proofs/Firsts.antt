@@ -66,7 +66,7 @@ kinds-with x s n special normal = go x.kind refl s n special normal where
 pub kernel-with : (x : Pick) (q : ApcQueues) → kind_in (first_kernel (with_apc x q)) ≡ kind_with x.kind (kind_in (first_kernel q))
 kernel-with x q =
     rw (first-with SpecialApc x q, first-with NormalApc x q) (kinds-with x (first_of_kind SpecialApc q) (first_of_kind NormalApc q)
-        (first-is_of_kind SpecialApc q) (first-is_of_kind NormalApc q))
+    (first-is_of_kind SpecialApc q) (first-is_of_kind NormalApc q))
 
 -- whether the first one is deliverable rests on its kind alone
 pub deliverable-kind : (q : ApcQueues) (r : Regions) (level : ℕ) → is_some (deliverable q r level) ≡ may_begin r level (kind_in (first_kernel q))

@@ -67,8 +67,11 @@ remove-object a (x ∷ xs) h = go (is_of_apc a x) refl (remove-object a xs h.2) 
 
 lt-suc : (a b : ℕ) → nat_lt (suc a) (suc b) ≡ nat_lt a b
 lt-suc a b =
-    elim (cases_lt a b) [ inl h ↦ lt-ltb (suc a) (suc b) (omega arith) ∙ sym (lt-ltb a b h) | inr h ↦ le-ltb (suc a) (suc b) (omega arith)
-        ∙ sym (le-ltb a b h) ]
+    elim (cases_lt a b) [
+      | inl h ↦ lt-ltb (suc a) (suc b) (omega arith) ∙ sym (lt-ltb a b h)
+      | inr h ↦ le-ltb (suc a) (suc b) (omega arith)
+          ∙ sym (le-ltb a b h)
+    ]
 
 place-any : {X : Type 0} (t : X → Bool) (xs : List X) → nat_lt (position_or_len t xs) (length xs) ≡ list_any t xs
 place-any t [] = refl
@@ -132,6 +135,6 @@ pub objects-room : (a : ApcNo) (xs : List Pick) → AreObjects xs → list_any (
 unfolding IsDistinct
 objects-room a xs h fresh small =
     let one : (q : ℕ) → list_any (eqb q) (a.0 ∷ numbers xs) ≡ true → q < 256 = λ q e. elim
-        (or_cases (eqb q a.0) (list_any (eqb q) (numbers xs)) e) [ inl here ↦ below q a.0 small here | inr later ↦ all-below xs h q later ] in
+    (or_cases (eqb q a.0) (list_any (eqb q) (numbers xs)) e) [ inl here ↦ below q a.0 small here | inr later ↦ all-below xs h q later ] in
     let most : suc (length (numbers xs)) ≤ 256 = length-le_from_distinct_below (a.0 ∷ numbers xs) 256 (apart a xs fresh, distinct xs h) one in
     omega (arith, length-numbers xs)

@@ -24,7 +24,7 @@ pub seen-without : (a : ApcNo) (xs ys : List Pick) (closed : Bool) (q : ApcQueue
     seen ys closed ≡ without_apc a q
 seen-without a xs ys closed q e out =
     ap (λ (zs : List Pick). seen zs closed) out ∙ ap (λ (zs : List Pick). let r : ApcQueues = record { pending = zs; closed = closed } in r)
-        (sym (filter-reverse (λ x. not (is_of_apc a x)) xs)) ∙ ap (λ (x : ApcQueues). without_apc a x) e
+    (sym (filter-reverse (λ x. not (is_of_apc a x)) xs)) ∙ ap (λ (x : ApcQueues). without_apc a x) e
 
 pub seen-same : (a : ApcNo) (xs ys : List Pick) (closed : Bool) (q : ApcQueues) (b : Bool) → seen xs closed ≡ q → ys ≡ filter (λ x. not (is_of_apc a x)) xs →
     b ≡ list_any (is_of_apc a) xs → OnFalse b (seen ys closed ≡ q)

@@ -22,5 +22,5 @@ pub record IsLeast (kind : ApcKind) (x : Pick) (acts : List Act) : Type 0 where
 abbrev pub FirstsAreLeast : Type 0
 FirstsAreLeast =
     (acts : List Act) → NumbersRise acts → (kind : ApcKind) →
-        MatchOption (first_of_kind kind (queues_of acts)) ((y : Pick) → IsPending y acts → y.kind ≢ kind)
-        (λ x. IsLeast kind x acts)
+    MatchOption (first_of_kind kind (queues_of acts)) ((y : Pick) → IsPending y acts → y.kind ≢ kind)
+    (λ x. IsLeast kind x acts)

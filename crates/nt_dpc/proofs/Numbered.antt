@@ -83,15 +83,24 @@ find_last p (z ∷ xs) f = rw (find-reverse p z xs) (go p z xs f (find p (revers
   where
     at_head : (p : Insert → Bool) (z : Insert) (xs : List Insert) → Falls (z ∷ xs) → ((y : Insert) → Stands y xs → p y ≡ false) → (b : Bool) → p z ≡ b →
         LastIsLeast p (z ∷ xs) (cond b (Some z) None)
-    at_head p z xs f none true k = record { stands = inl refl; passes = k;
-        least = λ y at t. elim at [ inl e ↦ rw (ap (λ (w : Insert). w.number) e) (omega arith) | inr later ↦ absurd (false≢true (sym (none y later) ∙ t)) ] }
+    at_head p z xs f none true k = record {
+      stands = inl refl;
+      passes = k;
+      least = λ y at t. elim at [ inl e ↦ rw (ap (λ (w : Insert). w.number) e) (omega arith) | inr later ↦ absurd (false≢true (sym (none y later) ∙ t)) ];
+    }
     at_head p z xs f none false k = λ y at. elim at [ inl e ↦ rw e k | inr later ↦ none y later ]
 
     go : (p : Insert → Bool) (z : Insert) (xs : List Insert) → Falls (z ∷ xs) → (o : Option Insert) → LastIsLeast p xs o → (b : Bool) → p z ≡ b →
         LastIsLeast p (z ∷ xs) (option_or o (find p (z ∷ [])))
-    go p z xs f (Some x) h b k = record { stands = inr h.stands; passes = h.passes;
-        least = λ y at t. elim at [ inl e ↦ rw (ap (λ (w : Insert). w.number) e)
-        (let l = below_at z.number xs x f.0 h.stands in omega arith) | inr later ↦ h.least y later t ] }
+    go p z xs f (Some x) h b k = record {
+      stands = inr h.stands;
+      passes = h.passes;
+      least = λ y at t. elim at [
+        | inl e ↦ rw (ap (λ (w : Insert). w.number) e)
+            (let l = below_at z.number xs x f.0 h.stands in omega arith)
+        | inr later ↦ h.least y later t
+      ];
+    }
     go p z xs f None h b k = rw k (at_head p z xs f h b k)
 
 -- what a find in the reversed list gives stands in the list

@@ -134,7 +134,7 @@ pub reverse-remove : (d : DpcNo) (count : ℕ) (xs : List Insert) (i : ℕ) (y :
     reverse (remove xs i) ≡ without_dpc d (reverse xs)
 reverse-remove d count xs i y h e =
     let at : (y : Insert) → (i < length xs) × (is_of_dpc d (get_or xs i y) ≡ true) ×
-        ((k : ℕ) → k < i → is_of_dpc d (get_or xs k y) ≡ false) = λ y. position-Some (is_of_dpc d) xs i y e in
+    ((k : ℕ) → k < i → is_of_dpc d (get_or xs k y) ≡ false) = λ y. position-Some (is_of_dpc d) xs i y e in
     let few : length (filter (is_of_dpc d) (reverse xs)) ≤ 1 = length-filter-each_once d count (reverse xs) h in
     let one : length (filter (is_of_dpc d) xs) ≤ 1 = omega (arith, length-reverse (filter (is_of_dpc d) xs), ap length (filter-reverse (is_of_dpc d) xs)) in
     ap reverse (remove-only (is_of_dpc d) xs i (at y).0 (λ z. (at z).1) (λ k z m. (at z).2 k m) one) ∙ sym (filter-reverse (λ x. not (is_of_dpc d x)) xs)

@@ -140,7 +140,7 @@ first_of part past xs f to from = go (find (is_high_in part) xs) refl
 pub first_by_number : FirstByNumber
 first_by_number p count limit past h part =
     first_of part past (after_changes (new_queue p count limit) past).state.pending (falls p count limit past h) (stands_pending p count limit past)
-        (pending_stands p count limit past)
+    (pending_stands p count limit past)
 
 pub first_stands : (part : Part) (xs : List Insert) (x : Insert) → first_dpc part xs ≡ Some x → Stands x xs
 first_stands part xs x h = go (find (is_high_in part) xs) refl h
@@ -153,7 +153,7 @@ pub removed_is_gone : RemovedIsGone
 removed_is_gone q past d part =
     let xs = (after_changes q past).state.pending in
     let gone : (x : Insert) → first_dpc part (without_dpc d xs) ≡ Some x →
-        is_of_dpc d x ≡ false = λ x h. (stands-without d x xs (first_stands part (without_dpc d xs) x h)).0 in
+    is_of_dpc d x ≡ false = λ x h. (stands-without d x xs (first_stands part (without_dpc d xs) x h)).0 in
     (gone, gone)
 
 -- ---- one entry each
@@ -195,4 +195,4 @@ only count (z ∷ xs) x y h (inr at) (inr to) e = only count xs x y h.2 at to e
 pub one_entry_each : OneEntryEach
 one_entry_each p count limit past h x y at to e =
     only count (after_changes (new_queue p count limit) past).state.pending x y (each_once p count limit past h) (pending_stands p count limit past x at)
-        (pending_stands p count limit past y to) e
+    (pending_stands p count limit past y to) e

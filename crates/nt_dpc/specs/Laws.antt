@@ -29,7 +29,7 @@ abbrev pub FirstByNumber : Type 0
 FirstByNumber =
     (p : CpuNo) (count limit : ℕ) (past : List QueueChange) → NumbersRise past → (part : Part) →
     MatchOption (first_dpc part (after_changes (new_queue p count limit) past).state.pending)
-      ((y : Insert) → IsPending y past → is_in part y ≡ false) (λ x. IsFirst part x past)
+    ((y : Insert) → IsPending y past → is_in part y ≡ false) (λ x. IsFirst part x past)
 
 -- an object has at most one pending insert
 abbrev pub OneEntryEach : Type 0
@@ -57,39 +57,40 @@ pub record IsObject (s : Script) (objects : List ObjectState) (o : ObjectFacts) 
 -- what an event that touches an object leaves of it is what the call leaves
 pub record ObjectCallsAreEvents : Type 0 where
   pub importance : (o : ObjectFacts) (n f : ℕ) (by : CpuNo) (i : Importance) →
-    object_after o.dpc n by (Call f (SetImportance o.dpc i) Done) o.state ≡ with_importance i o.state
+      object_after o.dpc n by (Call f (SetImportance o.dpc i) Done) o.state ≡ with_importance i o.state
   pub target : (o : ObjectFacts) (n f : ℕ) (by : CpuNo) (t : Option CpuNo) →
-    object_after o.dpc n by (Call f (SetTarget o.dpc t) Done) o.state ≡ with_target t o.state
+      object_after o.dpc n by (Call f (SetTarget o.dpc t) Done) o.state ≡ with_target t o.state
   pub queue : (o : ObjectFacts) (n f : ℕ) (by q : CpuNo) → queue_for o.state.target by ≡ q →
-    object_after o.dpc n by (Call f (Queue o.dpc) Yes) o.state ≡ standing_at (record { queue = q; number = n }) o.state
+      object_after o.dpc n by (Call f (Queue o.dpc) Yes) o.state ≡ standing_at
+      (record { queue = q; number = n }) o.state
   pub fire : (o : ObjectFacts) (n : ℕ) (by q : CpuNo) → queue_for o.state.target by ≡ q →
-    object_after o.dpc n by (Fire o.dpc Yes) o.state ≡ standing_at (record { queue = q; number = n }) o.state
+      object_after o.dpc n by (Fire o.dpc Yes) o.state ≡ standing_at (record { queue = q; number = n }) o.state
   pub unqueue : (o : ObjectFacts) (n f : ℕ) (by : CpuNo) →
-    object_after o.dpc n by (Call f (Unqueue o.dpc) Yes) o.state ≡ standing_nowhere o.state
+      object_after o.dpc n by (Call f (Unqueue o.dpc) Yes) o.state ≡ standing_nowhere o.state
   pub begin_dpc : (o : ObjectFacts) (n from : ℕ) (by : CpuNo) →
-    object_after o.dpc n by (Begin (Dpc o.dpc) from) o.state ≡ standing_nowhere o.state
+      object_after o.dpc n by (Begin (Dpc o.dpc) from) o.state ≡ standing_nowhere o.state
   pub begin_threaded : (o : ObjectFacts) (n from : ℕ) (by : CpuNo) →
-    object_after o.dpc n by (Begin (Threaded o.dpc) from) o.state ≡ standing_nowhere o.state
+      object_after o.dpc n by (Begin (Threaded o.dpc) from) o.state ≡ standing_nowhere o.state
 
 -- what an event that touches a queue leaves of it is what the call leaves
 pub record QueueCallsAreEvents : Type 0 where
   pub queue : (s : Script) (objects : List ObjectState) (o : ObjectFacts) (q : QueueFacts) (n f : ℕ) (by : CpuNo) →
-    IsObject s objects o → queue_for o.state.target by ≡ q.cpu →
-    queue_after s q.cpu n by (Call f (Queue o.dpc) Yes) objects q.state ≡ add_entry (entry_of n o) q.state
+      IsObject s objects o → queue_for o.state.target by ≡ q.cpu →
+      queue_after s q.cpu n by (Call f (Queue o.dpc) Yes) objects q.state ≡ add_entry (entry_of n o) q.state
   pub fire : (s : Script) (objects : List ObjectState) (o : ObjectFacts) (q : QueueFacts) (n : ℕ) (by : CpuNo) →
-    IsObject s objects o → queue_for o.state.target by ≡ q.cpu →
-    queue_after s q.cpu n by (Fire o.dpc Yes) objects q.state ≡ add_entry (entry_of n o) q.state
+      IsObject s objects o → queue_for o.state.target by ≡ q.cpu →
+      queue_after s q.cpu n by (Fire o.dpc Yes) objects q.state ≡ add_entry (entry_of n o) q.state
   pub unqueue : (s : Script) (objects : List ObjectState) (o : ObjectFacts) (q : QueueFacts) (n f m : ℕ) (by : CpuNo) →
-    IsObject s objects o → o.state.standing ≡ Some (record { queue = q.cpu; number = m }) →
-    queue_after s q.cpu n by (Call f (Unqueue o.dpc) Yes) objects q.state ≡ drop_entry o.dpc q.state
+      IsObject s objects o → o.state.standing ≡ Some (record { queue = q.cpu; number = m }) →
+      queue_after s q.cpu n by (Call f (Unqueue o.dpc) Yes) objects q.state ≡ drop_entry o.dpc q.state
   pub begin_dpc : (s : Script) (objects : List ObjectState) (d : DpcNo) (q : QueueFacts) (n from : ℕ) →
-    queue_after s q.cpu n q.cpu (Begin (Dpc d) from) objects q.state ≡ drop_entry d q.state
+      queue_after s q.cpu n q.cpu (Begin (Dpc d) from) objects q.state ≡ drop_entry d q.state
   pub begin_threaded : (s : Script) (objects : List ObjectState) (d : DpcNo) (q : QueueFacts) (n from : ℕ) →
-    queue_after s q.cpu n q.cpu (Begin (Threaded d) from) objects q.state ≡ drop_entry d q.state
+      queue_after s q.cpu n q.cpu (Begin (Threaded d) from) objects q.state ≡ drop_entry d q.state
   pub rest : (s : Script) (objects : List ObjectState) (q : QueueFacts) (n : ℕ) →
-    queue_after s q.cpu n q.cpu Rest objects q.state ≡ set_idle true q.state
+      queue_after s q.cpu n q.cpu Rest objects q.state ≡ set_idle true q.state
   pub switch : (s : Script) (objects : List ObjectState) (q : QueueFacts) (n : ℕ) (t : ThreadNo) (status : Option ℕ) →
-    queue_after s q.cpu n q.cpu (Switch t status) objects q.state ≡ set_idle false q.state
+      queue_after s q.cpu n q.cpu (Switch t status) objects q.state ≡ set_idle false q.state
 
 abbrev pub asks_on : CpuNo → Option ℕ → List Ask
 asks_on p None = []

@@ -8,6 +8,7 @@ use Rattle.nt_event.specs.declared.inserts.Part.TheVariants.{Ordinary as Ordinar
 use Rattle.nt_event.specs.declared.inserts.Standing.{Standing}
 use Rattle.nt_event.specs.declared.numbers.CpuNo.{CpuNo}
 use Rattle.nt_event.specs.declared.numbers.DpcNo.{DpcNo}
+use Rattle.nt_event.specs.Classes.{dispatch_class, threaded_class}
 use Rattle.nt_event.specs.Objects.{is_queued, queue_for}
 use Rattle.nt_event.specs.Queues.{QueueState, depth_of, first_dpc, insert_asks, is_of_dpc, start_queue, without_dpc}
 use Rattle.nt_dpc.specs.Objects.{ObjectFacts, entry_of}
@@ -77,8 +78,8 @@ abbrev pub first_entry : Part → QueueFacts → Option (DpcNo × ℕ)
 first_entry part q = option_map (λ x. (x.dpc, x.number)) (first_dpc part q.state.pending)
 
 abbrev pub class_in : Part → Bool → Option ℕ
-class_in ThreadedPart asks = Some 0
-class_in OrdinaryPart asks = if asks then Some 2 else None
+class_in ThreadedPart asks = Some threaded_class
+class_in OrdinaryPart asks = if asks then Some dispatch_class else None
 
 -- whether an ordinary insert of the object by p asks for a dispatch interrupt
 abbrev pub asks_dispatch : QueueFacts → ObjectFacts → CpuNo → Bool

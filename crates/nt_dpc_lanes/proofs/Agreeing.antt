@@ -81,9 +81,15 @@ pub agree_inserted : (x : DpcLanes) (n : ℕ) (p : CpuNo) (d : DpcNo) → Agrees
     is_queued (object_in x.objects d) ≡ false → Agrees (inserted_at n p d x)
 agree_inserted x n p d a l m free =
     agree_pair x d p (record (object_in x.objects d) { standing = Some (record { queue = p; number = n }) })
-        (record (queue_in x.queues p) { pending = new_insert x.script d n (object_in x.objects d) ∷ (queue_in x.queues p).pending }) a
-        (record { object = l; queue = m; target = a.target d; here = rw (eq-eqb d.0 d.0 refl, eq-eqb p.0 p.0 refl);
-        elsewhere = λ r h. rw h (a.stands d r ∙ unqueued_nowhere (object_in x.objects d) r free); others = λ e h. rw h })
+    (record (queue_in x.queues p) { pending = new_insert x.script d n (object_in x.objects d) ∷ (queue_in x.queues p).pending }) a
+    (record {
+      object = l;
+      queue = m;
+      target = a.target d;
+      here = rw (eq-eqb d.0 d.0 refl, eq-eqb p.0 p.0 refl);
+      elsewhere = λ r h. rw h (a.stands d r ∙ unqueued_nowhere (object_in x.objects d) r free);
+      others = λ e h. rw h;
+    })
 
 -- an object that stands in the queue of p stands in no other one
 stands_once : (s : Option Standing) (p r : CpuNo) → is_queue (option_map (λ at. at.queue) s) p ≡ true → eqb p.0 r.0 ≡ false →
@@ -95,8 +101,15 @@ pub agree_removed : (x : DpcLanes) (p : CpuNo) (d : DpcNo) → Agrees x → d.0 
     is_queue (stand_of (object_in x.objects d)) p ≡ true → Agrees (removed_at p d x)
 agree_removed x p d a l m at =
     agree_pair x d p (standing_nowhere (object_in x.objects d)) (record (queue_in x.queues p) { pending = without_dpc d (queue_in x.queues p).pending }) a
-        (record { object = l; queue = m; target = a.target d; here = holds-without_same d (queue_in x.queues p).pending; elsewhere = λ r h. a.stands d r
-        ∙ stands_once (object_in x.objects d).standing p r at h; others = λ e h. holds_without_other d e (queue_in x.queues p).pending h })
+    (record {
+      object = l;
+      queue = m;
+      target = a.target d;
+      here = holds-without_same d (queue_in x.queues p).pending;
+      elsewhere = λ r h. a.stands d r
+          ∙ stands_once (object_in x.objects d).standing p r at h;
+      others = λ e h. holds_without_other d e (queue_in x.queues p).pending h;
+    })
 
 -- ---- an object alone is written
 

@@ -132,20 +132,26 @@ inserted_queue n p d os qs = with_entry (entry_of n (object_facts os d)) (queue_
 entry_is : (s : Script) (os : List ObjectFacts) (qs : List QueueFacts) (n : ℕ) (d : DpcNo) → AreKept s os qs → d.0 < length os →
     entry_of n (object_facts os d) ≡ new_insert s d n (object_in (lanes_of s os qs).objects d)
 entry_is s os qs n d a l =
-    rw (object_state s os qs d) (λ i. record { dpc = (a.object d l).dpc i; number = n; part = (a.object d l).part i;
-        high = is_high (object_facts os d).state.importance })
+    rw (object_state s os qs d) (λ i. record {
+      dpc = (a.object d l).dpc i;
+      number = n;
+      part = (a.object d l).part i;
+      high = is_high (object_facts os d).state.importance;
+    })
 
 pub inserted_seen : (s : Script) (os : List ObjectFacts) (qs : List QueueFacts) (n : ℕ) (p : CpuNo) (d : DpcNo) → AreKept s os qs → ArePlaces os qs d p →
     lanes_of s (set os d.0 (inserted_object n p d os qs)) (set qs p.0 (inserted_queue n p d os qs)) ≡ inserted_at n p d (lanes_of s os qs)
 inserted_seen s os qs n p d a at =
     both_set s os qs d p (inserted_object n p d os qs) (inserted_queue n p d os qs)
-        ∙ (λ i. with_object d (object i) (with_queue p (queue i) (lanes_of s os qs)))
+    ∙ (λ i. with_object d (object i) (with_queue p (queue i) (lanes_of s os qs)))
   where
     object : (inserted_object n p d os qs).state ≡ record (object_in (lanes_of s os qs).objects d) { standing = Some (record { queue = p; number = n }) }
     object = rw (object_state s os qs d, (a.queue p at.queue).cpu)
 
-    queue : (inserted_queue n p d os qs).state ≡ record (queue_in (lanes_of s os qs).queues p) { pending = new_insert s d n
-        (object_in (lanes_of s os qs).objects d) ∷ (queue_in (lanes_of s os qs).queues p).pending }
+    queue : (inserted_queue n p d os qs).state ≡ record (queue_in (lanes_of s os qs).queues p) {
+      pending = new_insert s d n
+          (object_in (lanes_of s os qs).objects d) ∷ (queue_in (lanes_of s os qs).queues p).pending;
+    }
     queue = rw (queue_state s os qs p, entry_is s os qs n d a at.object)
 
 pub inserted_kept : (s : Script) (os : List ObjectFacts) (qs : List QueueFacts) (n : ℕ) (p : CpuNo) (d : DpcNo) → AreKept s os qs → ArePlaces os qs d p →
@@ -153,8 +159,8 @@ pub inserted_kept : (s : Script) (os : List ObjectFacts) (qs : List QueueFacts) 
 inserted_kept s os qs n p d a at free =
     let f : is_queued (object_in (lanes_of s os qs).objects d) ≡ false = rw (object_state s os qs d) free in
     kept_both s os qs d p (inserted_object n p d os qs) (inserted_queue n p d os qs) (inserted_at n p d (lanes_of s os qs)) a
-        (record { place = at.object; dpc = refl; part = refl }) (record { place = at.queue; cpu = refl; count = refl; limit = refl })
-        (inserted_seen s os qs n p d a at) (agree_inserted (lanes_of s os qs) n p d a.agree (in_objects os d at.object) (in_queues qs p at.queue) f)
+    (record { place = at.object; dpc = refl; part = refl }) (record { place = at.queue; cpu = refl; count = refl; limit = refl })
+    (inserted_seen s os qs n p d a at) (agree_inserted (lanes_of s os qs) n p d a.agree (in_objects os d at.object) (in_queues qs p at.queue) f)
 
 -- ---- a removal, or a take
 
@@ -169,8 +175,10 @@ removed_seen s os qs p d a at =
     object : (unqueued (object_facts os d)).state ≡ record (object_in (lanes_of s os qs).objects d) { standing = None }
     object = rw (object_state s os qs d)
 
-    queue : (removed_queue p d os qs).state ≡ record (queue_in (lanes_of s os qs).queues p) { pending = without_dpc d
-        (queue_in (lanes_of s os qs).queues p).pending }
+    queue : (removed_queue p d os qs).state ≡ record (queue_in (lanes_of s os qs).queues p) {
+      pending = without_dpc d
+          (queue_in (lanes_of s os qs).queues p).pending;
+    }
     queue = rw (queue_state s os qs p, (a.object d at.object).dpc)
 
 pub removed_kept : (s : Script) (os : List ObjectFacts) (qs : List QueueFacts) (p : CpuNo) (d : DpcNo) → AreKept s os qs → ArePlaces os qs d p →
@@ -178,8 +186,8 @@ pub removed_kept : (s : Script) (os : List ObjectFacts) (qs : List QueueFacts) (
 removed_kept s os qs p d a at here =
     let h : is_queue (option_map (λ x. x.queue) (object_in (lanes_of s os qs).objects d).standing) p ≡ true = rw (object_state s os qs d) here in
     kept_both s os qs d p (unqueued (object_facts os d)) (removed_queue p d os qs) (removed_at p d (lanes_of s os qs)) a
-        (record { place = at.object; dpc = refl; part = refl }) (record { place = at.queue; cpu = refl; count = refl; limit = refl })
-        (removed_seen s os qs p d a at) (agree_removed (lanes_of s os qs) p d a.agree (in_objects os d at.object) (in_queues qs p at.queue) h)
+    (record { place = at.object; dpc = refl; part = refl }) (record { place = at.queue; cpu = refl; count = refl; limit = refl })
+    (removed_seen s os qs p d a at) (agree_removed (lanes_of s os qs) p d a.agree (in_objects os d at.object) (in_queues qs p at.queue) h)
 
 -- ---- the importance or the target of an object
 
@@ -195,8 +203,8 @@ pub important_kept : (s : Script) (os : List ObjectFacts) (qs : List QueueFacts)
     AreKept s (set os d.0 (important i d os)) qs
 important_kept s os qs d i a l =
     kept_object s os qs d (important i d os) (with_object d (with_importance i (object_in (lanes_of s os qs).objects d)) (lanes_of s os qs)) a
-        (record { place = l; dpc = refl; part = refl }) (important_seen s os qs d i)
-        (agree_object (lanes_of s os qs) d (with_importance i (object_in (lanes_of s os qs).objects d)) a.agree (in_objects os d l) (a.agree.target d) refl)
+    (record { place = l; dpc = refl; part = refl }) (important_seen s os qs d i)
+    (agree_object (lanes_of s os qs) d (with_importance i (object_in (lanes_of s os qs).objects d)) a.agree (in_objects os d l) (a.agree.target d) refl)
 
 abbrev pub targeted : Option CpuNo → DpcNo → List ObjectFacts → ObjectFacts
 targeted t d os = record (object_facts os d) { state = record (object_facts os d).state { target = t } }
@@ -210,8 +218,8 @@ pub targeted_kept : (s : Script) (os : List ObjectFacts) (qs : List QueueFacts) 
     IfSome t (λ p. p.0 < s.cpus) → AreKept s (set os d.0 (targeted t d os)) qs
 targeted_kept s os qs d t a l h =
     kept_object s os qs d (targeted t d os) (with_object d (with_target t (object_in (lanes_of s os qs).objects d)) (lanes_of s os qs)) a
-        (record { place = l; dpc = refl; part = refl }) (targeted_seen s os qs d t)
-        (agree_object (lanes_of s os qs) d (with_target t (object_in (lanes_of s os qs).objects d)) a.agree (in_objects os d l) h refl)
+    (record { place = l; dpc = refl; part = refl }) (targeted_seen s os qs d t)
+    (agree_object (lanes_of s os qs) d (with_target t (object_in (lanes_of s os qs).objects d)) a.agree (in_objects os d l) h refl)
 
 -- ---- the idle mark of a queue
 
@@ -219,11 +227,11 @@ pub idle_seen : (s : Script) (os : List ObjectFacts) (qs : List QueueFacts) (p :
     lanes_of s os (set qs p.0 (with_idle idle (queue_facts qs p))) ≡ with_queue p (set_idle idle (queue_in (lanes_of s os qs).queues p)) (lanes_of s os qs)
 idle_seen s os qs p idle =
     queue_set s os qs p (with_idle idle (queue_facts qs p)) ∙ ap (λ (q : QueueState). with_queue p (set_idle idle q) (lanes_of s os qs))
-        (sym (queue_state s os qs p))
+    (sym (queue_state s os qs p))
 
 pub idle_kept : (s : Script) (os : List ObjectFacts) (qs : List QueueFacts) (p : CpuNo) (idle : Bool) → AreKept s os qs → p.0 < length qs →
     AreKept s os (set qs p.0 (with_idle idle (queue_facts qs p)))
 idle_kept s os qs p idle a l =
     kept_queue s os qs p (with_idle idle (queue_facts qs p)) (with_queue p (set_idle idle (queue_in (lanes_of s os qs).queues p)) (lanes_of s os qs)) a
-        (record { place = l; cpu = refl; count = refl; limit = refl }) (idle_seen s os qs p idle)
-        (agree_queue (lanes_of s os qs) p (set_idle idle (queue_in (lanes_of s os qs).queues p)) a.agree (in_queues qs p l) refl)
+    (record { place = l; cpu = refl; count = refl; limit = refl }) (idle_seen s os qs p idle)
+    (agree_queue (lanes_of s os qs) p (set_idle idle (queue_in (lanes_of s os qs).queues p)) a.agree (in_queues qs p l) refl)

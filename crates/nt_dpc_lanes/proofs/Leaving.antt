@@ -53,13 +53,13 @@ objects_stay : (x : DpcLanes) (n : ℕ) (by : CpuNo) (w : What) → Agrees x →
     objects_left n by w x ≡ x.objects
 objects_stay x n by w a stays =
     table-self start_object (length x.script.dpcs) x.objects (λ d. object_after (dpc d) n by w (object_in x.objects (dpc d))) a.objects
-        (λ i l. stays (dpc i) (object_in x.objects (dpc i)))
+    (λ i l. stays (dpc i) (object_in x.objects (dpc i)))
 
 object_left : (x : DpcLanes) (n : ℕ) (by : CpuNo) (w : What) (d : DpcNo) (v : ObjectState) → Agrees x → object_after d n by w (object_in x.objects d) ≡ v →
     ((e : DpcNo) (o : ObjectState) → eqb d.0 e.0 ≡ false → object_after e n by w o ≡ o) → objects_left n by w x ≡ set x.objects d.0 v
 object_left x n by w d v a here others =
     table_set x.objects (length x.script.dpcs) d.0 v start_object (λ e. object_after (dpc e) n by w (object_in x.objects (dpc e))) a.objects mine
-        (λ i k. others (dpc i) (object_in x.objects (dpc i)) k)
+    (λ i k. others (dpc i) (object_in x.objects (dpc i)) k)
   where
     mine : (i : ℕ) → eqb d.0 i ≡ true → object_after (dpc i) n by w (object_in x.objects (dpc i)) ≡ v
     mine i k = subst (λ (j : ℕ). object_after (dpc j) n by w (object_in x.objects (dpc j)) ≡ v) (eqb-true d.0 i k) here
@@ -70,21 +70,23 @@ queues_stay : (x : DpcLanes) (n : ℕ) (by : CpuNo) (w : What) → Agrees x → 
     queues_left n by w x ≡ x.queues
 queues_stay x n by w a stays =
     table-self start_queue x.script.cpus x.queues (λ p. queue_after x.script (cpu p) n by w x.objects (queue_in x.queues (cpu p))) a.queues
-        (λ i l. stays (cpu i) (queue_in x.queues (cpu i)))
+    (λ i l. stays (cpu i) (queue_in x.queues (cpu i)))
 
 queue_left : (x : DpcLanes) (n : ℕ) (by : CpuNo) (w : What) (p : CpuNo) (v : QueueState) → Agrees x →
     queue_after x.script p n by w x.objects (queue_in x.queues p) ≡ v → ((r : CpuNo) (q : QueueState) → eqb p.0 r.0 ≡ false →
     queue_after x.script r n by w x.objects q ≡ q) → queues_left n by w x ≡ set x.queues p.0 v
 queue_left x n by w p v a here others =
     table_set x.queues x.script.cpus p.0 v start_queue (λ r. queue_after x.script (cpu r) n by w x.objects (queue_in x.queues (cpu r))) a.queues mine
-        (λ i k. others (cpu i) (queue_in x.queues (cpu i)) k)
+    (λ i k. others (cpu i) (queue_in x.queues (cpu i)) k)
   where
     mine : (i : ℕ) → eqb p.0 i ≡ true → queue_after x.script (cpu i) n by w x.objects (queue_in x.queues (cpu i)) ≡ v
     mine i k = subst (λ (j : ℕ). queue_after x.script (cpu j) n by w x.objects (queue_in x.queues (cpu j)) ≡ v) (eqb-true p.0 i k) here
 
 -- the idle mark, where the event isn't one that changes it
-same_idle : (by p : CpuNo) (xs : List Insert) (q : QueueState) → (let y : QueueState = record { pending = xs;
-    idle = cond (eqb by.0 p.0) q.idle q.idle } in y) ≡ record q { pending = xs }
+same_idle : (by p : CpuNo) (xs : List Insert) (q : QueueState) → (let y : QueueState = record {
+  pending = xs;
+  idle = cond (eqb by.0 p.0) q.idle q.idle;
+} in y) ≡ record q { pending = xs }
 same_idle by p xs q = λ i. record { pending = xs; idle = either_way (eqb by.0 p.0) q.idle i }
 
 both_left : (x : DpcLanes) (n : ℕ) (by : CpuNo) (w : What) (os : List ObjectState) (qs : List QueueState) → objects_left n by w x ≡ os →
@@ -127,8 +129,8 @@ queued_left x n f by d a =
     both_left x n by w (set x.objects d.0 (object_inserted n p d x)) (set x.queues p.0 (queue_inserted n p d x))
     (object_left x n by w d (object_inserted n p d x) a (object_calls_are_events.queue (object_there d x) n f by p refl) (λ e o k. rw k))
     (queue_left x n by w p (queue_inserted n p d x) a
-        (queue_calls_are_events.queue x.script x.objects (object_there d x) (queue_there p x) n f by (is_there d x) refl)
-        (λ r q k. rw k (same_idle by r q.pending q)))
+    (queue_calls_are_events.queue x.script x.objects (object_there d x) (queue_there p x) n f by (is_there d x) refl)
+    (λ r q k. rw k (same_idle by r q.pending q)))
 
 fired_left : (x : DpcLanes) (n : ℕ) (by : CpuNo) (d : DpcNo) → Agrees x →
     left n by (Fire d Yes) x ≡ inserted_at n (queue_for (object_in x.objects d).target by) d x
@@ -138,8 +140,8 @@ fired_left x n by d a =
     both_left x n by w (set x.objects d.0 (object_inserted n p d x)) (set x.queues p.0 (queue_inserted n p d x))
     (object_left x n by w d (object_inserted n p d x) a (object_calls_are_events.fire (object_there d x) n by p refl) (λ e o k. rw k))
     (queue_left x n by w p (queue_inserted n p d x) a
-        (queue_calls_are_events.fire x.script x.objects (object_there d x) (queue_there p x) n by (is_there d x) refl)
-        (λ r q k. rw k (same_idle by r q.pending q)))
+    (queue_calls_are_events.fire x.script x.objects (object_there d x) (queue_there p x) n by (is_there d x) refl)
+    (λ r q k. rw k (same_idle by r q.pending q)))
 
 -- ---- an insert is used up: a call of `unqueue` with reply yes, or its DPC begins
 
@@ -157,8 +159,8 @@ unqueued_left x n f by d at a e =
     both_left x n by w (set x.objects d.0 (object_removed d x)) (set x.queues p.0 (queue_removed p d x))
     (object_left x n by w d (object_removed d x) a (object_calls_are_events.unqueue (object_there d x) n f by) (λ e o k. rw k))
     (queue_left x n by w p (queue_removed p d x) a
-        (queue_calls_are_events.unqueue x.script x.objects (object_there d x) (queue_there p x) n f at.number by (is_there d x) e)
-        (λ r q k. rw (e, k) (same_idle by r q.pending q)))
+    (queue_calls_are_events.unqueue x.script x.objects (object_there d x) (queue_there p x) n f at.number by (is_there d x) e)
+    (λ r q k. rw (e, k) (same_idle by r q.pending q)))
 
 dpc_left : (x : DpcLanes) (n from : ℕ) (by : CpuNo) (d : DpcNo) → Agrees x → left n by (Begin (Dpc d) from) x ≡ removed_at by d x
 dpc_left x n from by d a =
@@ -196,7 +198,8 @@ rest_left : (x : DpcLanes) (n : ℕ) (by : CpuNo) → Agrees x → left n by Res
 rest_left x n by a =
     both_left x n by RestEvent x.objects (set x.queues by.0 (set_idle true (queue_in x.queues by)))
     (objects_stay x n by RestEvent a (λ d o. refl))
-    (queue_left x n by RestEvent by (set_idle true (queue_in x.queues by)) a (queue_calls_are_events.rest x.script x.objects (queue_there by x) n) (λ r q k. rw k))
+    (queue_left x n by RestEvent by (set_idle true (queue_in x.queues by)) a (queue_calls_are_events.rest x.script x.objects (queue_there by x) n)
+    (λ r q k. rw k))
 
 switch_left : (x : DpcLanes) (n : ℕ) (by : CpuNo) (t : ThreadNo) (status : Option ℕ) → Agrees x →
     left n by (Switch t status) x ≡ with_queue by (set_idle false (queue_in x.queues by)) x
@@ -204,7 +207,8 @@ switch_left x n by t status a =
     let w : What = Switch t status in
     both_left x n by w x.objects (set x.queues by.0 (set_idle false (queue_in x.queues by)))
     (objects_stay x n by w a (λ d o. refl))
-    (queue_left x n by w by (set_idle false (queue_in x.queues by)) a (queue_calls_are_events.switch x.script x.objects (queue_there by x) n t status) (λ r q k. rw k))
+    (queue_left x n by w by (set_idle false (queue_in x.queues by)) a (queue_calls_are_events.switch x.script x.objects (queue_there by x) n t status)
+    (λ r q k. rw k))
 
 -- ---- every event
 

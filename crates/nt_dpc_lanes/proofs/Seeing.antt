@@ -241,7 +241,7 @@ pub insert_place : (s : Script) (os : List ObjectFacts) (qs : List QueueFacts) (
 insert_place s os qs x d by p h t l free to =
     let r : IsTrue (has_cpu x.script p) = lt-ltb p.0 x.script.cpus l in
     may_insert x d by p (object_facts os d) (queue_facts qs p) (seen_agree s os qs x h) free to (seen_object s os qs x d h)
-        (object_of_script s os qs x d h t).dpc (seen_queue s os qs x p h) (queue_of_script s os qs x p h r).cpu
+    (object_of_script s os qs x d h t).dpc (seen_queue s os qs x p h) (queue_of_script s os qs x p h r).cpu
 
 -- what a removal of one object from one queue requires
 pub remove_place : (s : Script) (os : List ObjectFacts) (qs : List QueueFacts) (x : DpcLanes) (d : DpcNo) (p : CpuNo) → AreSeen s os qs x →
@@ -249,4 +249,4 @@ pub remove_place : (s : Script) (os : List ObjectFacts) (qs : List QueueFacts) (
 remove_place s os qs x d p h t l at =
     let r : IsTrue (has_cpu x.script p) = lt-ltb p.0 x.script.cpus l in
     stands_here x d p (object_facts os d) (queue_facts qs p) (seen_agree s os qs x h) at (seen_object s os qs x d h) (object_of_script s os qs x d h t).dpc
-        (seen_queue s os qs x p h) (queue_of_script s os qs x p h r).cpu
+    (seen_queue s os qs x p h) (queue_of_script s os qs x p h r).cpu

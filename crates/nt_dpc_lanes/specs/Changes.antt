@@ -96,7 +96,7 @@ with_queue p q x = record x { queues = set x.queues p.0 q }
 abbrev pub inserted_at : ℕ → CpuNo → DpcNo → DpcLanes → DpcLanes
 inserted_at n p d x =
     with_object d (standing_at (record { queue = p; number = n }) (object_in x.objects d))
-      (with_queue p (add_entry (new_insert x.script d n (object_in x.objects d)) (queue_in x.queues p)) x)
+    (with_queue p (add_entry (new_insert x.script d n (object_in x.objects d)) (queue_in x.queues p)) x)
 
 -- the object isn't queued, and the queue of p has no entry of it
 abbrev pub removed_at : CpuNo → DpcNo → DpcLanes → DpcLanes

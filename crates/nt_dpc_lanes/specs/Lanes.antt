@@ -46,7 +46,7 @@ abbrev pub left : ℕ → CpuNo → What → DpcLanes → DpcLanes
 left n by w x =
     record x {
       objects = table (length x.script.dpcs) (λ d. object_after (dpc d) n by w (object_in x.objects (dpc d)));
-      queues = table x.script.cpus (λ p. queue_after x.script (cpu p) n by w x.objects (queue_in x.queues (cpu p)))
+      queues = table x.script.cpus (λ p. queue_after x.script (cpu p) n by w x.objects (queue_in x.queues (cpu p)));
     }
 
 -- ---- when an event may be made

@@ -1,6 +1,5 @@
 //! What an event changes of objects and queues.
 ghost use Rattle.std.specs.Prelude.{◌≡◌};
-ghost use Rattle.nt_event.specs.Replies.{is_done, is_yes};
 ghost use Rattle.nt_dpc_lanes.specs.Changes.{begin_change, call_change, change_of as change_in, change_where as change_if};
 
 use nt_event::{Begun, Command, CpuNo, DpcNo, Importance, Part, Reply, What};
@@ -33,7 +32,7 @@ pub fn change_of(what: &What) -> Change
     match what {
         What::Call { command, reply, .. } => of_call(command, reply),
         What::Begin { begun, .. } => of_begin(begun),
-        What::Fire { dpc, reply } => change_where(is_yes(reply), Change::Insert(*dpc)),
+        What::Fire { dpc, reply } => change_where(reply.is_yes(), Change::Insert(*dpc)),
         What::Switch { .. } => Change::Run,
         What::Rest => Change::Rest,
         What::Look { .. }
@@ -54,26 +53,17 @@ fn change_where(holds: bool, change: Change) -> Change
     if holds { change } else { Change::Nothing }
 }
 
-fn is_yes(reply: &Reply) -> bool
-    ensures { result ≡ is_yes reply.now }
-{
-    matches!(reply, Reply::Yes)
-}
-
-fn is_done(reply: &Reply) -> bool
-    ensures { result ≡ is_done reply.now }
-{
-    matches!(reply, Reply::Done)
-}
-
 fn of_call(command: &Command, reply: &Reply) -> Change
     ensures { result ≡ call_change command.now reply.now }
 {
     match command {
-        Command::Queue(d) => change_where(is_yes(reply), Change::Insert(*d)),
-        Command::Unqueue(d) => change_where(is_yes(reply), Change::Remove(*d)),
-        Command::SetImportance(d, i) => change_where(is_done(reply), Change::SetImportance(*d, *i)),
-        Command::SetTarget(d, t) => change_where(is_done(reply), Change::SetTarget(*d, *t)),
+        Command::Queue(d) => change_where(reply.is_yes(), Change::Insert(*d)),
+        Command::Unqueue(d) => change_where(reply.is_yes(), Change::Remove(*d)),
+        Command::SetImportance(d, i) => change_where(
+            reply.is_done(),
+            Change::SetImportance(*d, *i),
+        ),
+        Command::SetTarget(d, t) => change_where(reply.is_done(), Change::SetTarget(*d, *t)),
         Command::Raise(_)
         | Command::Lower(_)
         | Command::SetTimer(_, _, _)

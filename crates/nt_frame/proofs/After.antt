@@ -45,8 +45,11 @@ same_running g x = go (not (is_null x.own)) x.running
 
 -- ---- begun: `begin`
 
-same_threads : (os : List Frame) (r : Option ThreadNo) (x : Frames) → record { own = os; running = r;
-    threads = changed (λ fs. fs) x.running x.threads } ≡ record x { own = os; running = r }
+same_threads : (os : List Frame) (r : Option ThreadNo) (x : Frames) → record {
+  own = os;
+  running = r;
+  threads = changed (λ fs. fs) x.running x.threads;
+} ≡ record x { own = os; running = r }
 same_threads os r x =
     ap (λ (ts : List (List Frame)). record { own = os; running = r; threads = ts }) (changed_same x.running x.threads)
 
@@ -75,14 +78,14 @@ pub after_rundown : (s : Script) (n : ℕ) (due : Option ℕ) (e : Event) (x : F
     e.what ≡ Flush a from → rundown_of s a ≡ Some r → frames_after s n due e x ≡ begun n (Rundown a) x
 after_rundown s n due e x a from r h k q =
     frames_after_is s n due e (Flush a from) x h k ∙ ap (λ (ts : List (List Frame)). record { own = x.own; running = x.running; threads = ts })
-        (changed_by (thread_after s n due (Flush a from)) (λ fs. new_frame n (Rundown a) ∷ fs) x.running x.threads (rw q))
-        ∙ sym (on_running_is (λ fs. new_frame n (Rundown a) ∷ fs) x.running x)
+    (changed_by (thread_after s n due (Flush a from)) (λ fs. new_frame n (Rundown a) ∷ fs) x.running x.threads (rw q))
+    ∙ sym (on_running_is (λ fs. new_frame n (Rundown a) ∷ fs) x.running x)
 
 pub after_flush : (s : Script) (n : ℕ) (due : Option ℕ) (e : Event) (x : Frames) (a : ApcNo) (from : ℕ) → IsOurs s e x → e.what ≡ Flush a from →
     rundown_of s a ≡ None → frames_after s n due e x ≡ x
 after_flush s n due e x a from h k q =
     frames_after_is s n due e (Flush a from) x h k ∙ ap (λ (ts : List (List Frame)). record { own = x.own; running = x.running; threads = ts })
-        (changed_stays (thread_after s n due (Flush a from)) x.running x.threads (rw q))
+    (changed_stays (thread_after s n due (Flush a from)) x.running x.threads (rw q))
 
 -- ---- called
 
@@ -91,15 +94,15 @@ pub after_call : (s : Script) (n : ℕ) (due : Option ℕ) (e : Event) (x : Fram
     e.what ≡ Call f.name c y → frames_after s n due e x ≡ record (at_innermost (called due c y) x) { running = running_after (Call f.name c y) x.running }
 after_call s n due e x f c y h q k =
     frames_after_is s n due e (Call f.name c y) x h k ∙ named_change (running_after (Call f.name c y) x.running) f (at_name f.name (called due c y))
-        (at_name f.name (called due c y)) (at_head (called due c y)) x h.nested q refl (at_name_head (called due c y) f) (at_name_head (called due c y) f)
-        (at_name_older (called due c y) f.name)
+    (at_name f.name (called due c y)) (at_head (called due c y)) x h.nested q refl (at_name_head (called due c y) f) (at_name_head (called due c y) f)
+    (at_name_older (called due c y) f.name)
 
 -- the innermost frame, which stands on the thread's part, takes up its wait again
 pub after_rewait : (s : Script) (n : ℕ) (due : Option ℕ) (e : Event) (x : Frames) (f : Frame) (y : Reply) → IsOurs s e x → innermost x ≡ Some f → x.own ≡ [] →
     e.what ≡ Rewait f.name y → frames_after s n due e x ≡ record (at_innermost (rewaited y) x) { running = running_after (Rewait f.name y) x.running }
 after_rewait s n due e x f y h q o k =
     frames_after_is s n due e (Rewait f.name y) x h k ∙ thread_change (running_after (Rewait f.name y) x.running) (at_name f.name (rewaited y))
-        (at_head (rewaited y)) x o (at_name_head (rewaited y) f (thread_part x) (on_part_of f x o q))
+    (at_head (rewaited y)) x o (at_name_head (rewaited y) f (thread_part x) (on_part_of f x o q))
 
 -- ---- gone on and ended: `normal`, `finish`, `end_base`, `gone`
 
@@ -108,13 +111,13 @@ pub after_normal : (s : Script) (n : ℕ) (due : Option ℕ) (e : Event) (x : Fr
 after_normal s n due e x f h q m k =
     let o : x.own ≡ [] = null_is x.own (normal_is_on_thread f x h.nested q m) in
     frames_after_is s n due e (Normal f.name) x h k ∙ thread_change x.running (at_name f.name normal_of) (at_head normal_of) x o
-        (at_name_head normal_of f (thread_part x) (on_part_of f x o q)) ∙ same_running (at_head normal_of) x
+    (at_name_head normal_of f (thread_part x) (on_part_of f x o q)) ∙ same_running (at_head normal_of) x
 
 pub after_end : (s : Script) (n : ℕ) (due : Option ℕ) (e : Event) (x : Frames) (f : Frame) → IsOurs s e x → innermost x ≡ Some f →
     is_base_body f.body ≡ false → e.what ≡ End f.name → frames_after s n due e x ≡ without_innermost x
 after_end s n due e x f h q b k =
     frames_after_is s n due e (End f.name) x h k ∙ named_change x.running f (without f.name) (end_on_thread f.name) tail_of x h.nested q refl (without_head f)
-        (λ fs i. end_head f fs b i) (end_older f.name) ∙ same_running tail_of x
+    (λ fs i. end_head f fs b i) (end_older f.name) ∙ same_running tail_of x
 
 -- a base frame stands on a thread's part
 base_is_on_thread : (f : Frame) (x : Frames) → AreNested x → innermost x ≡ Some f → is_base_body f.body ≡ true → x.own ≡ []
@@ -129,10 +132,13 @@ pub after_end_base : (s : Script) (n : ℕ) (due : Option ℕ) (e : Event) (x : 
 after_end_base s n due e x f h q b k =
     let o : x.own ≡ [] = base_is_on_thread f x h.nested q b in
     let w : without f.name x.own ≡ x.own = rw o refl in
-    frames_after_is s n due e (End f.name) x h k ∙ ap (λ (os : List Frame). record { own = os; running = x.running;
-        threads = changed (end_on_thread f.name) x.running x.threads }) w
-        ∙ thread_change x.running (end_on_thread f.name) (at_head ended_base) x o (end_base_head f (thread_part x) b (on_part_of f x o q))
-        ∙ same_running (at_head ended_base) x
+    frames_after_is s n due e (End f.name) x h k ∙ ap (λ (os : List Frame). record {
+      own = os;
+      running = x.running;
+      threads = changed (end_on_thread f.name) x.running x.threads;
+    }) w
+    ∙ thread_change x.running (end_on_thread f.name) (at_head ended_base) x o (end_base_head f (thread_part x) b (on_part_of f x o q))
+    ∙ same_running (at_head ended_base) x
 
 pub after_gone : (s : Script) (n : ℕ) (due : Option ℕ) (e : Event) (x : Frames) (t : ThreadNo) → IsOurs s e x → e.what ≡ Gone t →
     frames_after s n due e x ≡ closed x
@@ -176,7 +182,7 @@ switch_is : (s : Script) (n : ℕ) (due : Option ℕ) (e : Event) (x : Frames) (
     frames_after s n due e x ≡ record { own = x.own; running = Some t; threads = set x.threads t.0 (switched_to n t status (frames_in x.threads t)) }
 switch_is s n due e x t status l b i k =
     rw (k, i) (ap (λ (ts : List (List Frame)). record { own = x.own; running = Some t; threads = ts })
-        (threads_after s n due (Switch t status) (Some t) x.threads l b))
+    (threads_after s n due (Switch t status) (Some t) x.threads l b))
 
 pub after_first_switch : (s : Script) (n : ℕ) (due : Option ℕ) (e : Event) (x : Frames) (t : ThreadNo) (status : Option ℕ) →
     length x.threads ≡ length s.threads → t.0 < length x.threads → e.thread ≡ Some t → e.what ≡ Switch t status → frames_in x.threads t ≡ [] →

@@ -168,11 +168,11 @@ over_thread n (Dpc d) x h m k o = cc
 over_thread n (Threaded d) x h m k o = cc
 over_thread n (Apc a Special) x h m k o =
     over_special n a x.own (thread_part x) (and_left _ _ (and_left _ _ m)) (and_left _ _ (and_right _ _ m)) (thread_part_nested x h).part
-        (running_named n x h k)
+    (running_named n x h k)
 over_thread n (Apc a Normal) x h m k o =
     over_normal n a x.own (thread_part x) (and_left _ _ (and_left _ _ m)) (and_left _ _ (and_right _ _ m))
-        (and_right ((regions_in x).crit == 0) _ (and_right ((regions_in x).guard == 0) _ (and_right (level_in x == 0) _ (and_right (is_on_thread x) _ m))))
-        (thread_part_nested x h).part (running_named n x h k)
+    (and_right ((regions_in x).crit == 0) _ (and_right ((regions_in x).guard == 0) _ (and_right (level_in x == 0) _ (and_right (is_on_thread x) _ m))))
+    (thread_part_nested x h).part (running_named n x h k)
 over_thread n (Apc a User) x h m k o =
     over_user n a (level_in x) (regions_in x) x.own (thread_part x) m (running_named n x h k)
 over_thread n (Base t) x h m k o =
@@ -192,7 +192,7 @@ pub thread_room : (n : ℕ) (b : Body) (x : Frames) (t : ThreadNo) → AreNested
     x.running ≡ Some t → length (frames_in x.threads t) < 4
 thread_room n b x t h m k o e =
     let l : length (thread_part x) < rank b = length-under false (thread_part x) (new_frame n b) (thread_part_nested x h).part (over_thread n b x h m k o).1
-        (rank_bounds b (isr_level_of b x m)).0 in
+    (rank_bounds b (isr_level_of b x m)).0 in
     let s : length (frames_in x.threads t) < rank b = rw e at l in
     omega (arith, thread_rank_bound b o)
 

@@ -16,9 +16,11 @@ use Rattle.nt_frame.specs.Nesting.{AreNamedBelow, AreNested, HaveNoWaits, IsPart
 -- ---- names below a number
 
 pub below_start : (n : ℕ) → AreNamedBelow 0 (no_frames n)
-below_start n =
-    (omega arith, All-from_get_or (λ fs. next_name fs ≤ 0) _ [] (λ i h. let k : i < n = omega (arith, length-table_from {A = List Frame} 0 n (λ _. [])) in rw
-        (get_or-table {A = List Frame} n i (λ _. []) [] k) (omega arith)))
+below_start n = (
+  omega arith,
+  All-from_get_or (λ fs. next_name fs ≤ 0) _ [] (λ i h. let k : i < n = omega (arith, length-table_from {A = List Frame} 0 n (λ _. [])) in rw
+      (get_or-table {A = List Frame} n i (λ _. []) [] k) (omega arith)),
+)
 
 pub below_more : (m n : ℕ) (x : Frames) → m ≤ n → AreNamedBelow m x → AreNamedBelow n x
 below_more m n x l h =
@@ -66,9 +68,11 @@ below_ended n x a h = go (not (is_null x.own))
     running : (r : Option ThreadNo) → x.running ≡ r → AreNamedBelow n (on_running tail_of r x)
     running None e = h
     running (Some t) e =
-        let b : t.0 < length x.threads = rw e at a.running in
-        (h.0, All-set (λ fs. next_name fs ≤ n) x.threads t.0 (tail_of (frames_in x.threads t))
-            (name_ended n false (frames_in x.threads t) (a.threads t.0 [] b).part (h.1 t.0 [] b)) h.1)
+        let b : t.0 < length x.threads = rw e at a.running in (
+          h.0,
+          All-set (λ fs. next_name fs ≤ n) x.threads t.0 (tail_of (frames_in x.threads t))
+              (name_ended n false (frames_in x.threads t) (a.threads t.0 [] b).part (h.1 t.0 [] b)) h.1,
+        )
 
     go : (o : Bool) → AreNamedBelow n (on_part o tail_of x)
     go true = (name_ended n true x.own a.own h.0, h.1)

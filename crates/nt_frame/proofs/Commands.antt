@@ -150,9 +150,9 @@ pub call_own : (s : Script) (n : ℕ) (due : Option ℕ) (e : Event) (x : Frames
 call_own s n due e x f c h q p k =
     after_call s n due e x f c Done h q k
     ∙ ap (λ (z : Frames). record z { running = running_after (Call f.name c Done) x.running })
-        (at_innermost_by (called due c Done) (λ g. advanced (done_to c g)) x (own_call due c p))
+    (at_innermost_by (called due c Done) (λ g. advanced (done_to c g)) x (own_call due c p))
     ∙ stays (at_innermost (λ g. advanced (done_to c g)) x) x (running_after (Call f.name c Done) x.running) (own_runs f.name c x.running p)
-        (running-at_innermost (λ g. advanced (done_to c g)) x)
+    (running-at_innermost (λ g. advanced (done_to c g)) x)
     ∙ sym (at_innermost-at_innermost advanced (done_to c) x h.nested)
 
 -- the commands that enter and leave a region are such

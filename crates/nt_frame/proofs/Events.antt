@@ -38,7 +38,7 @@ threads_after s n due w None parts l b =
     table-self [] (length s.threads) parts (λ i. get_or parts i []) l (λ i h. refl)
 threads_after s n due w (Some t) parts l b =
     table-self [] (length s.threads) (set parts t.0 (thread_after s n due w (get_or parts t.0 []))) (λ i. thread_if (t.0 == i) s n due w (get_or parts i []))
-        (length-set parts t.0 _ ∙ l) (λ i h. changed_at s n due w t parts i b)
+    (length-set parts t.0 _ ∙ l) (λ i h. changed_at s n due w t parts i b)
 
 -- a part that doesn't change
 pub changed_same : (r : Option ThreadNo) (parts : List (List Frame)) → changed (λ fs. fs) r parts ≡ parts
@@ -52,8 +52,11 @@ pub record IsOurs (s : Script) (e : Event) (x : Frames) : Type 0 where
   pub thread : e.thread ≡ x.running
 
 pub frames_after_is : (s : Script) (n : ℕ) (due : Option ℕ) (e : Event) (w : What) (x : Frames) → IsOurs s e x → e.what ≡ w →
-    frames_after s n due e x ≡ record { own = own_after n due w x.own; running = running_after w x.running;
-    threads = changed (thread_after s n due w) x.running x.threads }
+    frames_after s n due e x ≡ record {
+      own = own_after n due w x.own;
+      running = running_after w x.running;
+      threads = changed (thread_after s n due w) x.running x.threads;
+    }
 frames_after_is s n due e w x h k =
     rw (k, h.thread) (ap (λ (ts : List (List Frame)). record { own = own_after n due w x.own; running = running_after w x.running; threads = ts })
-        (threads_after s n due w x.running x.threads h.threads h.nested.running))
+    (threads_after s n due w x.running x.threads h.threads h.nested.running))

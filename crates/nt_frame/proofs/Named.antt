@@ -83,7 +83,7 @@ pub thread_change : (r : Option ThreadNo) (t g : List Frame → List Frame) (x :
 thread_change r t g x o e =
     let n : is_null x.own ≡ true = rw o refl in
     rw (n, on_running_is g x.running x) (ap (λ (ts : List (List Frame)). record { own = x.own; running = r; threads = ts })
-        (changed_by t g x.running x.threads e))
+    (changed_by t g x.running x.threads e))
 
 -- a change by the innermost frame's name of both parts, of which only one has this frame
 pub named_change : (r : Option ThreadNo) (f : Frame) (o t g : List Frame → List Frame) (x : Frames) → AreNested x → innermost x ≡ Some f → o [] ≡ [] →
@@ -97,10 +97,10 @@ named_change r f o t g x h k z own thread other = go x.own refl k
     go [] e q =
         let p : o x.own ≡ x.own = rw e z in
         ap (λ (os : List Frame). record { own = os; running = r; threads = changed t x.running x.threads }) p
-            ∙ thread_change r t g x e (thread (thread_part x) q)
+        ∙ thread_change r t g x e (thread (thread_part x) q)
     go (y ∷ ys) e q =
         let p : head_of x.own ≡ Some f = rw e q in
         let n : is_null x.own ≡ false = rw e refl in
         let a : next_name (thread_part x) ≤ f.name = let b : y ≡ f = cc in rw (← b) (older y ys x h e) in
         rw (n, own x.own p) (ap (λ (ts : List (List Frame)). record { own = g x.own; running = r; threads = ts })
-            (changed_stays t x.running x.threads (other (thread_part x) a)))
+        (changed_stays t x.running x.threads (other (thread_part x) a)))

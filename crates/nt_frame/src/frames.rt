@@ -193,7 +193,7 @@ impl Frames {
         ensures asks { result ≡ some_came_to_0 (regions_in self.old) (below_in self.old) }
         ensures phase { self.new ≡ at_innermost normal_of self.old }
     {
-        let asks = came_to_0(&self.regions(), &self.below());
+        let asks = self.below().came_to_0(&self.regions());
         let Some(frame) = self.top() else {
             unreachable!()
         };
@@ -212,7 +212,7 @@ impl Frames {
         let Some(frame) = self.top() else {
             unreachable!()
         };
-        let asks = is_normal_apc(&frame.body) || came_to_0(&self.regions(), &self.below());
+        let asks = is_normal_apc(&frame.body) || self.below().came_to_0(&self.regions());
         self.drop_innermost();
         asks
     }
@@ -422,13 +422,6 @@ impl Frames {
             parts::pop(&mut self.threads, t);
         }
     }
-}
-
-/// Whether a count of regions that wasn't 0 is 0 now.
-fn came_to_0(before: &Regions, now: &Regions) -> bool
-    ensures { result ≡ some_came_to_0 before.now now.now }
-{
-    before.crit != 0 && now.crit == 0 || before.guard != 0 && now.guard == 0
 }
 
 /// How often regions of the kind are entered.

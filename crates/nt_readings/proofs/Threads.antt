@@ -478,7 +478,7 @@ part_end s t e past g (x ∷ fs) k f d h =
         (λ m b q. on_lift s t e past m b (ap (ends_thread t) k) (λ i. ap (ends_frame m) k ∙ differs m (below m q.1) (g == m) refl) q.0)
         (each_below (IsOpenOn s t past) x.name fs f.1 h.1)
 
-    go : (c : Bool) → is_base_body x.body ≡ c → EachNamed (IsOpenOn s t (e ∷ past)) (if c then (left x ∷ fs) else fs)
+    go : (c : Bool) → is_base_body x.body ≡ c → EachNamed (IsOpenOn s t (e ∷ past)) (if c then (ended_base x ∷ fs) else fs)
     go false q = rest
     go true q = (
       on_lift s t e past x.name x.body (ap (ends_thread t) k)

@@ -30,7 +30,7 @@ pub facts-by : (s : Script) (t : ThreadNo) (n : ℕ) (st : Stand) (e : Event) (x
     facts_after s t n st e x ≡ named_facts s t n w (if b then made_facts s n st w x else x)
 facts-by s t n st e x w b what of =
     ap (λ (v : What). named_facts s t n v (if is_of_thread s t e then made_facts s n st v x else x)) what
-        ∙ ap (λ (c : Bool). named_facts s t n w (if c then made_facts s n st w x else x)) of
+    ∙ ap (λ (c : Bool). named_facts s t n w (if c then made_facts s n st w x else x)) of
 
 -- an event that changes nothing of the facts of the thread that makes it
 pub facts-named : (s : Script) (t : ThreadNo) (n : ℕ) (st : Stand) (e : Event) (x : ThreadFacts) (w : What) → e.what ≡ w → made_facts s n st w x ≡ x →

@@ -141,7 +141,7 @@ find-filter_none {X} t p (x ∷ xs) h = go (t x) (p x) refl refl h (find-filter_
 first-without_none : (kind : ApcKind) (a : ApcNo) (q : ApcQueues) → first_of_kind kind q ≡ None → first_of_kind kind (without_apc a q) ≡ None
 first-without_none kind a q h =
     ap (λ (xs : List Pick). find (is_of_kind kind) xs) (sym (filter-reverse (λ x. not (is_of_apc a x)) q.pending))
-        ∙ find-filter_none (is_of_kind kind) (λ x. not (is_of_apc a x)) (reverse q.pending) h
+    ∙ find-filter_none (is_of_kind kind) (λ x. not (is_of_apc a x)) (reverse q.pending) h
 
 -- what holds back special ones holds back normal ones
 normal-held : (r : Regions) (level : ℕ) → may_begin r level (Some SpecialApc) ≡ false → may_begin r level (Some NormalApc) ≡ false

@@ -176,8 +176,8 @@ set-alerted-leaving UserMode b x = refl
 waited-leaving : (w : Wait) (y : Reply) (x : ThreadFacts) → (waited w.number w.regions w.level w.mode w.alertable (is_some w.reached) y x).leaving ≡ x.leaving
 waited-leaving w (Status st) x =
     same-if (λ z. z.leaving) (st == satisfied) x.leaving _ _ (same-if (λ z. z.leaving) (is_some w.reached) x.leaving _ _ refl refl)
-        (same-if (λ z. z.leaving) (st == alerted) x.leaving _ _ (set-alerted-leaving (if is_alerted w.mode x then w.mode else KernelMode) false x)
-        (same-if (λ z. z.leaving) ((st == user_apc) && w.alertable) x.leaving _ _ refl refl))
+    (same-if (λ z. z.leaving) (st == alerted) x.leaving _ _ (set-alerted-leaving (if is_alerted w.mode x then w.mode else KernelMode) false x)
+    (same-if (λ z. z.leaving) ((st == user_apc) && w.alertable) x.leaving _ _ refl refl))
 waited-leaving w Blocked x = refl
 waited-leaving w Done x = refl
 waited-leaving w Yes x = refl
@@ -335,25 +335,25 @@ alerted-last KernelMode [] = refl
 alerted-last UserMode [] = refl
 alerted-last m (act ∷ past) =
     alerted-after m act (facts_of past) ∙ ap (λ (old : Bool). left_by (sets_alert m act (facts_of past)) (clears_alert m act (facts_of past)) old)
-        (alerted-last m past)
+    (alerted-last m past)
 
 user_pending-last : (acts : List Act) → (facts_of acts).user_pending ≡ last_left sets_mark clears_mark acts
 user_pending-last [] = refl
 user_pending-last (act ∷ past) =
     user_pending-after act (facts_of past) ∙ ap (λ (old : Bool). left_by (sets_mark act (facts_of past)) (clears_mark act (facts_of past)) old)
-        (user_pending-last past)
+    (user_pending-last past)
 
 released-last : (acts : List Act) → (facts_of acts).released ≡ last_left sets_released clears_released acts
 released-last [] = refl
 released-last (act ∷ past) =
     released-after act (facts_of past) ∙ ap (λ (old : Bool). left_by (sets_released act (facts_of past)) (clears_released act (facts_of past)) old)
-        (released-last past)
+    (released-last past)
 
 leaving-last : (acts : List Act) → (facts_of acts).leaving ≡ last_left sets_leaving clears_leaving acts
 leaving-last [] = refl
 leaving-last (act ∷ past) =
     leaving-after act (facts_of past) ∙ ap (λ (old : Bool). left_by (sets_leaving act (facts_of past)) (clears_leaving act (facts_of past)) old)
-        (leaving-last past)
+    (leaving-last past)
 
 pub flags-last : FactsAreLastLeft
 flags-last acts = record {

@@ -36,7 +36,7 @@ quiet-if false x y h k = k
 quiet-answered : (st : ℕ) (m : Mode) (alertable delay : Bool) (x : ThreadFacts) → NothingBehind x → NothingBehind (answered st m alertable delay x)
 quiet-answered st m alertable delay x h =
     quiet-if (st == satisfied) _ _ (quiet-if delay _ _ h h) (quiet-if (st == alerted) _ _
-        (quiet-set_alerted (if is_alerted m x then m else KernelMode) false x h) (quiet-if ((st == user_apc) && alertable) _ _ h h))
+    (quiet-set_alerted (if is_alerted m x then m else KernelMode) false x h) (quiet-if ((st == user_apc) && alertable) _ _ h h))
 
 quiet-alert_tested : (m : Mode) (x : ThreadFacts) → NothingBehind x → NothingBehind (alert_tested m x)
 quiet-alert_tested m x h =
@@ -88,18 +88,24 @@ pub record Blocks (x : ThreadFacts) (w : Wait) : Type 0 where
 blocks-from : (x : ThreadFacts) (w : Wait) → wait_reply x w.regions w.level w.mode w.alertable w.reached ≡ Blocked → Blocks x w
 blocks-from x w = go (is_some (deliverable x.apcs w.regions w.level)) refl (is_satisfied x w.reached) (w.alertable && is_alerted w.mode x)
     (w.alertable && (is_user w.mode && has_user x.apcs)) refl where
-  go : (a : Bool) → is_some (deliverable x.apcs w.regions w.level) ≡ a → (b c d : Bool) → (w.alertable && (is_user w.mode && has_user x.apcs)) ≡ d →
-      (if a then Status kernel_apc else (if b then Status satisfied else
-      (if c then Status alerted else (if d then Status user_apc else (if w.alertable && x.alerted_kernel then Status alerted else
-      (if not w.alertable && (is_user w.mode && x.user_pending) then Status user_apc else Blocked)))))) ≡ Blocked → Blocks x w
-  go true e b c d f h = absurd (no-status kernel_apc h)
-  go false e true c d f h = absurd (no-status satisfied h)
-  go false e false true d f h = absurd (no-status alerted h)
-  go false e false false true f h = absurd (no-status user_apc h)
-  go false e false false false f h = record { kernel = e; user = f }
+      go : (a : Bool) → is_some (deliverable x.apcs w.regions w.level) ≡ a → (b c d : Bool) → (w.alertable && (is_user w.mode && has_user x.apcs)) ≡ d →
+          (if a then Status kernel_apc else (if b then Status satisfied else
+          (if c then Status alerted else (if d then Status user_apc else (if w.alertable && x.alerted_kernel then Status alerted else
+          (if not w.alertable && (is_user w.mode && x.user_pending) then Status user_apc else Blocked)))))) ≡ Blocked → Blocks x w
+      go true e b c d f h = absurd (no-status kernel_apc h)
+      go false e true c d f h = absurd (no-status satisfied h)
+      go false e false true d f h = absurd (no-status alerted h)
+      go false e false false true f h = absurd (no-status user_apc h)
+      go false e false false false f h = record { kernel = e; user = f }
 
-quiet-blocked : (x : ThreadFacts) (w : Wait) → Blocks x w → IsQuiet (record { event = w.number; mode = w.mode; alertable = w.alertable;
-    delay = is_some w.reached; level = w.level; regions = w.regions }) x.apcs
+quiet-blocked : (x : ThreadFacts) (w : Wait) → Blocks x w → IsQuiet (record {
+  event = w.number;
+  mode = w.mode;
+  alertable = w.alertable;
+  delay = is_some w.reached;
+  level = w.level;
+  regions = w.regions;
+}) x.apcs
 quiet-blocked x w h = record {
   kernel = none-from _ h.kernel;
   user = λ t. none-from _ (go (is_user w.mode) w.alertable (has_user x.apcs) t h.user);

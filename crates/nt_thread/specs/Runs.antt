@@ -41,7 +41,7 @@ after Resumes x = record x { doing = IsRunning }
 after (GivesWay level) x = record x { doing = IsReady level None }
 after (Waits w) x =
     waited w.number w.regions w.level w.mode w.alertable (is_some w.reached)
-        (wait_reply x w.regions w.level w.mode w.alertable w.reached) x
+    (wait_reply x w.regions w.level w.mode w.alertable w.reached) x
 after Releases x = release_facts x
 after (EndsDelay from) x = expiry_facts from x
 after (Alerts m) x = alert_facts m x

@@ -12,12 +12,9 @@ ghost use Rattle.nt_thread.specs.Endings.{ended_by};
 ghost use Rattle.nt_thread.specs.Quiet.{NothingBehind};
 ghost use Rattle.nt_thread.specs.Replies.{reply_of};
 
-use crate::answers::{
-    AlertAnswer, ApcAnswer, STATUS_ALERTED, STATUS_KERNEL_APC, STATUS_SUCCESS, STATUS_USER_APC,
-    WaitAnswer, WaitSpec,
-};
+use crate::answers::{AlertAnswer, ApcAnswer, WaitAnswer, WaitSpec};
 use nt_apc::ApcQueues;
-use nt_event::{ApcKind, ApcNo, Doing, Level, Mode, Pick, Regions, Waiting};
+use nt_event::{ApcKind, ApcNo, Doing, Level, Mode, Pick, Regions, Waiting, status};
 use std::alloc::{AllocError, Global};
 use std::marker::Model;
 
@@ -168,22 +165,22 @@ impl ThreadState {
         ensures { reply_of result ≡ waits.wait_reply self.now regions level w.mode w.alertable w.reached }
     {
         if self.apcs.deliverable(regions, level).is_some() {
-            return WaitAnswer::Now(STATUS_KERNEL_APC);
+            return WaitAnswer::Now(status::KERNEL_APC);
         }
         if self.is_satisfied(w.reached) {
-            return WaitAnswer::Now(STATUS_SUCCESS);
+            return WaitAnswer::Now(status::SUCCESS);
         }
         if self.takes_alert(w) {
-            return WaitAnswer::Now(STATUS_ALERTED);
+            return WaitAnswer::Now(status::ALERTED);
         }
         if self.takes_user_apc(w) {
-            return WaitAnswer::Now(STATUS_USER_APC);
+            return WaitAnswer::Now(status::USER_APC);
         }
         if self.takes_kernel_alert(w) {
-            return WaitAnswer::Now(STATUS_ALERTED);
+            return WaitAnswer::Now(status::ALERTED);
         }
         if self.takes_mark(w) {
-            return WaitAnswer::Now(STATUS_USER_APC);
+            return WaitAnswer::Now(status::USER_APC);
         }
         WaitAnswer::Blocked
     }
@@ -244,13 +241,13 @@ impl ThreadState {
     fn leave_wait(&mut self, status: u32, w: WaitSpec)
         ensures { self.new ≡ waits.answered status w.mode w.alertable (is_some w.reached) self.old }
     {
-        if status == STATUS_SUCCESS {
+        if status == status::SUCCESS {
             if w.reached.is_none() {
                 self.released = false;
             }
-        } else if status == STATUS_ALERTED {
+        } else if status == status::ALERTED {
             self.take_alert(w.mode);
-        } else if status == STATUS_USER_APC && w.alertable {
+        } else if status == status::USER_APC && w.alertable {
             self.user_pending = true;
         }
     }
@@ -296,7 +293,7 @@ impl ThreadState {
     {
         let ended = self.waits_for_release();
         if ended {
-            self.end_wait(STATUS_SUCCESS);
+            self.end_wait(status::SUCCESS);
         } else if !self.is_gone() {
             self.released = true;
         }
@@ -319,7 +316,7 @@ impl ThreadState {
     {
         let ended = self.waits_for_expiry(set);
         if ended {
-            self.end_wait(STATUS_SUCCESS);
+            self.end_wait(status::SUCCESS);
         }
         ended
     }
@@ -349,7 +346,7 @@ impl ThreadState {
         let was = self.is_alerted(m);
         let ended = self.waits_for_alert(m);
         if ended {
-            self.end_wait(STATUS_ALERTED);
+            self.end_wait(status::ALERTED);
         } else {
             self.set_alerted(m, true);
         }
@@ -483,10 +480,10 @@ impl ThreadState {
     {
         match k {
             ApcKind::User => {
-                self.end_wait(STATUS_USER_APC);
+                self.end_wait(status::USER_APC);
                 self.user_pending = true;
             }
-            _ => self.end_wait(STATUS_KERNEL_APC),
+            _ => self.end_wait(status::KERNEL_APC),
         }
     }
 

@@ -38,11 +38,15 @@ of_kernel : (P : Pick → Type 0) (q : ApcQueues) → All P q.pending → Holds 
 of_kernel P q h =
     holds_or P (first_of_kind SpecialApc q) (first_of_kind NormalApc q) (of_kind P SpecialApc q h) (λ _. of_kind P NormalApc q h)
 
-of_deliverable : (P : Pick → Type 0) (q : ApcQueues) (r : Regions) (level : ℕ) → All P q.pending → Holds P (deliverable q r level)
+pub of_deliverable : (P : Pick → Type 0) (q : ApcQueues) (r : Regions) (level : ℕ) → All P q.pending → Holds P (deliverable q r level)
 of_deliverable P q r level h =
     holds_then P (λ x. when ((level == 0) && lets_through r x.kind) (Some x)) (first_kernel q) (λ x e. holds_when P ((level == 0) && lets_through r x.kind) (Some x) (λ a. holds_at P (first_kernel q) x (of_kernel P q h) e))
 
-of_user_due : (P : Pick → Type 0) (x : ThreadFacts) → All P x.apcs.pending → Holds P (user_due x)
+-- the first user APC
+pub of_user : (P : Pick → Type 0) (q : ApcQueues) → All P q.pending → Holds P (first_user q)
+of_user P q h = of_kind P UserApc q h
+
+pub of_user_due : (P : Pick → Type 0) (x : ThreadFacts) → All P x.apcs.pending → Holds P (user_due x)
 of_user_due P x h = holds_when P x.user_pending (first_user x.apcs) (λ a. of_kind P UserApc x.apcs h)
 
 -- the insert that begins

@@ -157,3 +157,10 @@ left_none x n st e l named by =
         let mine : is_thread e.thread (thread i) ≡ false = rw by in
         let of : is_of_thread x.script (thread i) e ≡ false = rw mine (and_right (is_of e (cpu_of x.script (thread i))) false refl) in
         named_none x.script (thread i) n e.what _ named ∙ ap (λ (b : Bool). if b then made_facts x.script n st e.what (facts_in x (thread i)) else facts_in x (thread i)) of
+
+-- the same, by what the event does
+pub left_told_by : (x : ThreadLanes) (n : ℕ) (st : Stand) (e : Event) (t : ThreadNo) (w : What) → e.what ≡ w → length x.facts ≡ length x.script.threads → named_thread x.script w ≡ Some t → CanTell x.script w (facts_in x t) → left n st e x ≡ record x { facts = set x.facts t.0 (told_facts x.script n w (facts_in x t)) }
+left_told_by x n st e t w same l named may =
+    let here : named_thread x.script e.what ≡ Some t = rw same named in
+    let can : CanTell x.script e.what (facts_in x t) = subst (λ (v : What). CanTell x.script v (facts_in x t)) (sym same) may in
+    left_told x n st e t l here can ∙ ap (λ (v : What). record x { facts = set x.facts t.0 (told_facts x.script n v (facts_in x t)) }) same

@@ -8,3 +8,4 @@ mod Ours
 mod Over
 mod Readies
 mod Whole
+pub mod Named

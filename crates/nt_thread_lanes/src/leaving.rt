@@ -1,5 +1,7 @@
 //! Events are taken in.
 ghost use Rattle.std.specs.Prelude.{◌≡◌, IsTrue, None, Some, length, set};
+ghost use Rattle.nt_event.specs.declared.events.Event.{Event as Made};
+ghost use Rattle.nt_event.specs.declared.jobs.Stand.{Stand as Place};
 ghost use Rattle.nt_event.specs.Script.{has_thread};
 ghost use Rattle.nt_event.specs.Waits.{made_facts};
 ghost use Rattle.nt_thread_lanes.specs.Fits.{CanMake, CanTell, MayLeave, named_thread as thread_of, told_facts};
@@ -50,8 +52,21 @@ impl<'s> Threads<'s> {
         mark(&mut self.inserted, what);
     }
 
-    /// The state of the thread that the event names changes.
-    fn tell(&mut self, t: ThreadNo, n: u64, what: &What)
+    /// The state of the thread that the event names changes, and no other, whoever makes the event: all that it leaves of the threads.
+    ///
+    /// Where the maker runs is not asked, so a record in which only another processor's threads tell anything takes it too.
+    pub fn tell(&mut self, t: ThreadNo, n: u64, what: &What)
+        requires thread { IsTrue (has_thread self.old.script t) }
+        requires named { thread_of self.old.script what.now ≡ Some t }
+        requires may { CanTell self.old.script what.now (facts_in self.old t) }
+        ensures { (st : Place) (e : Made) → e.what ≡ what.now → self.new ≡ left n st e self.old }
+    {
+        let _script = self.script;
+        self.tell_thread(t, n, what);
+    }
+
+    /// The same, of the thread's facts.
+    fn tell_thread(&mut self, t: ThreadNo, n: u64, what: &What)
         requires thread { IsTrue (has_thread self.old.script t) }
         requires named { thread_of self.old.script what.now ≡ Some t }
         requires may { CanTell self.old.script what.now (facts_in self.old t) }

@@ -1,7 +1,7 @@
 //! The states of a script's threads, and what they answer.
 ghost use Rattle.std.specs.Bool.{OnFalse};
 ghost use Rattle.std.specs.List.{All};
-ghost use Rattle.std.specs.Prelude.{◌≡◌, ◌&&◌, ◌==◌, ◌<◌, IfOk, IsTrue, false, length, replicate, ℕ};
+ghost use Rattle.std.specs.Prelude.{◌≡◌, ◌&&◌, ◌==◌, ◌<◌, ◌↔◌, IfOk, IfSome, IsTrue, false, length, replicate, ℕ};
 ghost use Rattle.nt_event.specs.Apcs as queues;
 ghost use Rattle.nt_event.specs.Jobs.{user_due as due_of};
 ghost use Rattle.nt_event.specs.Routines.{kind_of as kind_in, owner_of as owner_in};
@@ -9,7 +9,9 @@ ghost use Rattle.nt_event.specs.Script.{fits, has_apc, has_thread};
 ghost use Rattle.nt_event.specs.Threads as spec;
 ghost use Rattle.nt_event.specs.Waits.{new_pick, wait_reply as reply_at};
 ghost use Rattle.nt_thread.specs.Replies.{reply_of};
+ghost use Rattle.nt_event.specs.declared.threads.Doing.TheVariants.{Running as IsRunning};
 ghost use Rattle.nt_thread_lanes.specs.Lanes.{facts_in, start};
+ghost use Rattle.nt_thread_lanes.specs.Sound.{AreOurs};
 
 use crate::script::{kind_of, owner_of};
 use nt_event::{ApcNo, Level, Mode, Pick, Regions, Reply, Script, ThreadNo};
@@ -69,6 +71,14 @@ impl<'s> Threads<'s> {
         self.state(owner_of(self.script, a))
     }
 
+    /// The thread's pending APCs are of objects of the script.
+    fn ours(&self, t: ThreadNo)
+        ensures { AreOurs self.now.script t (facts_in self.now t).apcs }
+    {
+        let _script = self.script;
+        let _thread = t;
+    }
+
     // ---- what a thread is doing
 
     /// Whether the thread may be taken up.
@@ -77,6 +87,22 @@ impl<'s> Threads<'s> {
         ensures { result ≡ spec.is_ready (facts_in self.now t) }
     {
         self.state(t).is_ready()
+    }
+
+    /// Whether the thread runs.
+    pub fn is_running(&self, t: ThreadNo) -> bool
+        requires { IsTrue (has_thread self.now.script t) }
+        ensures { IsTrue result ↔ ((facts_in self.now t).doing ≡ IsRunning) }
+    {
+        self.state(t).is_running()
+    }
+
+    /// Whether the thread's base routine has ended.
+    pub fn is_leaving(&self, t: ThreadNo) -> bool
+        requires { IsTrue (has_thread self.now.script t) }
+        ensures { result ≡ (facts_in self.now t).leaving }
+    {
+        self.state(t).is_leaving()
     }
 
     /// Whether the thread is gone.
@@ -166,24 +192,30 @@ impl<'s> Threads<'s> {
     /// The thread's first kernel APC, where it is let through at this level and in these regions.
     pub fn deliverable(&self, t: ThreadNo, regions: Regions, level: Level) -> Option<Pick>
         requires { IsTrue (has_thread self.now.script t) }
-        ensures { result ≡ queues.deliverable (facts_in self.now t).apcs regions level }
+        ensures value { result ≡ queues.deliverable (facts_in self.now t).apcs regions level }
+        ensures named { IfSome result (λ x. IsTrue (has_apc self.now.script x.apc)) }
     {
+        self.ours(t);
         self.state(t).deliverable(regions, level)
     }
 
     /// The thread's user APC that is due on the way to user mode: the first one, where the user-pending mark is set.
     pub fn user_due(&self, t: ThreadNo) -> Option<Pick>
         requires { IsTrue (has_thread self.now.script t) }
-        ensures { result ≡ due_of (facts_in self.now t) }
+        ensures value { result ≡ due_of (facts_in self.now t) }
+        ensures named { IfSome result (λ x. IsTrue (has_apc self.now.script x.apc)) }
     {
+        self.ours(t);
         self.state(t).user_due()
     }
 
     /// The thread's first user APC.
     pub fn user_first(&self, t: ThreadNo) -> Option<Pick>
         requires { IsTrue (has_thread self.now.script t) }
-        ensures { result ≡ queues.first_user (facts_in self.now t).apcs }
+        ensures value { result ≡ queues.first_user (facts_in self.now t).apcs }
+        ensures named { IfSome result (λ x. IsTrue (has_apc self.now.script x.apc)) }
     {
+        self.ours(t);
         self.state(t).user_first()
     }
 

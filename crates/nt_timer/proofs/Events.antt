@@ -39,7 +39,7 @@ timers_stay : (s : Script) (e : Event) (x : Timers) (n : ℕ) (w : What) → IsS
     table (length s.timers) (λ t. timer_after (timer t) n x.now e.what (setting_in x.timers t)) ≡ x.timers
 timers_stay s e x n w size h stays =
     table-self None (length s.timers) x.timers (λ t. timer_after (timer t) n x.now e.what (setting_in x.timers t)) size.timers
-        (λ i l. rw h (stays (timer i) x.now (setting_in x.timers i)))
+    (λ i l. rw h (stays (timer i) x.now (setting_in x.timers i)))
 
 -- the delays as they were, where the event leaves each of them, whoever makes it
 delays_stay : (s : Script) (st : Stand) (e : Event) (x : Timers) (n : ℕ) (w : What) → IsSized s x → e.what ≡ w →
@@ -52,8 +52,8 @@ delays_stay s st e x n w size h left made =
     one : (i : ℕ) → delay_after s (thread i) n x.now st.again e (setting_in x.delays i) ≡ setting_in x.delays i
     one i =
         rw h (left (thread i) (cond (is_of_thread s (thread i) e) (blocked_after n x.now st.again w (setting_in x.delays i)) (setting_in x.delays i))
-            ∙ ap (λ (o : Option Setting). cond (is_of_thread s (thread i) e) o (setting_in x.delays i)) (made x.now st.again (setting_in x.delays i))
-            ∙ either_way (is_of_thread s (thread i) e) (setting_in x.delays i))
+        ∙ ap (λ (o : Option Setting). cond (is_of_thread s (thread i) e) o (setting_in x.delays i)) (made x.now st.again (setting_in x.delays i))
+        ∙ either_way (is_of_thread s (thread i) e) (setting_in x.delays i))
 
 -- the delay that a thread's own event sets
 delays_set : (s : Script) (st : Stand) (e : Event) (x : Timers) (n due : ℕ) (t : ThreadNo) (w : What) → IsSized s x → IsMadeBy s t e → e.what ≡ w →
@@ -61,7 +61,7 @@ delays_set : (s : Script) (st : Stand) (e : Event) (x : Timers) (n due : ℕ) (t
     table (length s.threads) (λ u. delay_after s (thread u) n x.now st.again e (setting_in x.delays u)) ≡ set x.delays t.0 (due_at due n 0)
 delays_set s st e x n due t w size made h left sets =
     table_set x.delays (length s.threads) t.0 (due_at due n 0) None (λ u. delay_after s (thread u) n x.now st.again e
-        (setting_in x.delays u)) size.delays mine others
+    (setting_in x.delays u)) size.delays mine others
   where
     mine : (i : ℕ) → eqb t.0 i ≡ true → delay_after s (thread i) n x.now st.again e (setting_in x.delays i) ≡ due_at due n 0
     mine i same =
@@ -79,7 +79,7 @@ delay_expired : (s : Script) (st : Stand) (e : Event) (x : Timers) (n from : ℕ
     table (length s.threads) (λ u. delay_after s (thread u) n x.now st.again e (setting_in x.delays u)) ≡ set x.delays t.0 None
 delay_expired s st e x n from t size h =
     table_set x.delays (length s.threads) t.0 None None (λ u. delay_after s (thread u) n x.now st.again e (setting_in x.delays u)) size.delays
-        (λ i k. rw (h, k)) (λ i k. rw (h, k) (either_way (is_of_thread s (thread i) e) (setting_in x.delays i)))
+    (λ i k. rw (h, k)) (λ i k. rw (h, k) (either_way (is_of_thread s (thread i) e) (setting_in x.delays i)))
 
 -- ---- the events
 
@@ -89,7 +89,7 @@ timer_set : (s : Script) (e : Event) (x : Timers) (n : ℕ) (t : TimerNo) (v : O
     table (length s.timers) (λ i. timer_after (timer i) n x.now e.what (setting_in x.timers i)) ≡ set x.timers t.0 v
 timer_set s e x n t v w size h same other =
     table_set x.timers (length s.timers) t.0 v None (λ i. timer_after (timer i) n x.now e.what (setting_in x.timers i)) size.timers (λ i k. rw h (same i k))
-        (λ i k. rw h (other i k))
+    (λ i k. rw h (other i k))
 
 time_stays : (e : Event) (w : What) (now : ℕ) → e.what ≡ w → time_after w now ≡ now → time_after e.what now ≡ now
 time_stays e w now h k = rw h k
@@ -124,7 +124,7 @@ expire_event : (s : Script) (st : Stand) (e : Event) (x : Timers) (n from : ℕ)
 expire_event s st e x n from (OfTimer t) size h =
     let w : What = Expire (OfTimer t) from in
     let timers = timer_set s e x n t (renewed n x.now (setting_in x.timers t.0)) w size h
-        (λ i k. rw k (ap (λ (j : ℕ). renewed n x.now (setting_in x.timers j)) (sym (eqb-true t.0 i k)))) (λ i k. rw k) in
+    (λ i k. rw k (ap (λ (j : ℕ). renewed n x.now (setting_in x.timers j)) (sym (eqb-true t.0 i k)))) (λ i k. rw k) in
     let delays = delays_stay s st e x n w size h (λ u old. refl) (λ now again old. refl) in
     λ i. record { now = time_stays e w x.now h refl i; timers = timers i; delays = delays i }
 expire_event s st e x n from (OfDelay t) size h =

@@ -99,7 +99,7 @@ numbers_below timers threads n [] h c s at = absurd (none_new timers threads c s
 numbers_below timers threads n (Set t due period m ∷ past) h c s at =
     let x : Timers = after_changes (new_timers timers threads) past in
     below_write (OfTimer t) c (due_at (x.now + due) m period) m n x s (λ z e. due_number (x.now + due) m period z e) h.0
-        (numbers_below timers threads n past h.1 c s) at
+    (numbers_below timers threads n past h.1 c s) at
 numbers_below timers threads n (Cancelled t ∷ past) h c s at =
     numbers_below timers threads n past h c s (removed (OfTimer t) c (after_changes (new_timers timers threads) past) s at)
 numbers_below timers threads n (Delayed t due m ∷ past) h c s at =
@@ -130,18 +130,18 @@ numbers_tell_keys timers threads [] h a b s t at to e = absurd (none_new timers 
 numbers_tell_keys timers threads (Set u due period m ∷ past) h a b s t at to e =
     let x : Timers = after_changes (new_timers timers threads) past in
     one_write (OfTimer u) a b (due_at (x.now + due) m period) m x s t (λ z k. due_number (x.now + due) m period z k) (numbers_below timers threads m past h.0)
-        (λ old older. numbers_tell_keys timers threads past h.1 a b s t old older e) e at to
+    (λ old older. numbers_tell_keys timers threads past h.1 a b s t old older e) e at to
 numbers_tell_keys timers threads (Cancelled u ∷ past) h a b s t at to e =
     let x : Timers = after_changes (new_timers timers threads) past in
     numbers_tell_keys timers threads past h a b s t (removed (OfTimer u) a x s at) (removed (OfTimer u) b x t to) e
 numbers_tell_keys timers threads (Delayed u due m ∷ past) h a b s t at to e =
     let x : Timers = after_changes (new_timers timers threads) past in
     one_write (OfDelay u) a b (due_at due m 0) m x s t (λ z k. due_number due m 0 z k) (numbers_below timers threads m past h.0)
-        (λ old older. numbers_tell_keys timers threads past h.1 a b s t old older e) e at to
+    (λ old older. numbers_tell_keys timers threads past h.1 a b s t old older e) e at to
 numbers_tell_keys timers threads (Advanced units ∷ past) h a b s t at to e =
     let x : Timers = after_changes (new_timers timers threads) past in
     numbers_tell_keys timers threads past h a b s t (same_settings a x (x.now + units) s at) (same_settings b x (x.now + units) t to) e
 numbers_tell_keys timers threads (Expired key m ∷ past) h a b s t at to e =
     let x : Timers = after_changes (new_timers timers threads) past in
     one_write key a b (setting_after key m x) m x s t (λ z k. after_number key m x z k) (numbers_below timers threads m past h.0)
-        (λ old older. numbers_tell_keys timers threads past h.1 a b s t old older e) e at to
+    (λ old older. numbers_tell_keys timers threads past h.1 a b s t old older e) e at to

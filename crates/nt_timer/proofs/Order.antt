@@ -60,10 +60,10 @@ fold_least b [] k (inl e) = rw e (itself b.setting)
 fold_least b [] k (inr at) = absurd at
 fold_least b (z ∷ zs) k (inl e) =
     rw e (not_earlier_trans (fold earlier (earlier b z) zs).setting (earlier b z).setting b.setting (fold_least (earlier b z) zs (earlier b z) (inl refl))
-        (earlier_left b z (is_earlier z b) refl))
+    (earlier_left b z (is_earlier z b) refl))
 fold_least b (z ∷ zs) k (inr (inl e)) =
     rw e (not_earlier_trans (fold earlier (earlier b z) zs).setting (earlier b z).setting z.setting (fold_least (earlier b z) zs (earlier b z) (inl refl))
-        (earlier_right b z (is_earlier z b) refl))
+    (earlier_right b z (is_earlier z b) refl))
 fold_least b (z ∷ zs) k (inr (inr at)) = fold_least (earlier b z) zs k (inr at)
 
 reduce_least : (ks : List SetKey) (k y : SetKey) → reduce earlier ks ≡ Some k → Among y ks → IsNotEarlier k.setting y.setting
@@ -112,10 +112,10 @@ placed_among key n m (suc i) (Some y ∷ xs) x e h = inr (placed_among key (suc 
 set_among : (x : Timers) (key : TimerKey) (setting : Setting) → setting_at key x ≡ Some setting → Among (record { key = key; setting = setting }) (set_keys x)
 set_among x (OfTimer t) setting h =
     among_left (record { key = OfTimer t; setting = setting }) (keyed (λ n. OfTimer (timer n)) 0 x.timers) (keyed (λ n. OfDelay (thread n)) 0 x.delays)
-        (placed_among (λ n. OfTimer (timer n)) 0 t.0 t.0 x.timers setting (omega arith) h)
+    (placed_among (λ n. OfTimer (timer n)) 0 t.0 t.0 x.timers setting (omega arith) h)
 set_among x (OfDelay t) setting h =
     among_right (record { key = OfDelay t; setting = setting }) (keyed (λ n. OfTimer (timer n)) 0 x.timers) (keyed (λ n. OfDelay (thread n)) 0 x.delays)
-        (placed_among (λ n. OfDelay (thread n)) 0 t.0 t.0 x.delays setting (omega arith) h)
+    (placed_among (λ n. OfDelay (thread n)) 0 t.0 t.0 x.delays setting (omega arith) h)
 
 due_among : (x : Timers) (key : TimerKey) (setting : Setting) → setting_at key x ≡ Some setting → setting.due ≤ x.now →
     Among (record { key = key; setting = setting }) (filter (is_due_key x.now) (set_keys x))
@@ -132,7 +132,7 @@ found : (x : Timers) (o : Option SetKey) → first_due x ≡ o → MatchOption o
     ((key : TimerKey) (setting : Setting) → setting_at key x ≡ Some setting → x.now < setting.due) (IsFirstDue x)
 found x None e =
     λ key setting h. not_due setting.due x.now (λ due. reduce_none (filter (is_due_key x.now) (set_keys x)) (record { key = key; setting = setting }) e
-        (due_among x key setting h due)) (cases_lt x.now setting.due)
+    (due_among x key setting h due)) (cases_lt x.now setting.due)
 found x (Some k) e =
     let at = first_due_among x k e in
     record {

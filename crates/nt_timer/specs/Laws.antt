@@ -38,7 +38,7 @@ pub record IsFirstDue (x : Timers) (k : SetKey) : Type 0 where
 abbrev pub FirstDueIsFirst : Type 0
 FirstDueIsFirst =
     (x : Timers) → MatchOption (first_due x) ((key : TimerKey) (setting : Setting) → setting_at key x ≡ Some setting →
-        x.now < setting.due) (IsFirstDue x)
+    x.now < setting.due) (IsFirstDue x)
 
 -- ---- over every list of calls
 
@@ -46,8 +46,8 @@ FirstDueIsFirst =
 abbrev pub NumbersTellKeys : Type 0
 NumbersTellKeys =
     (timers threads : ℕ) (past : List Change) → NumbersRise past → (a b : TimerKey) (s t : Setting) →
-        setting_at a (after_changes (new_timers timers threads) past) ≡ Some s →
-        setting_at b (after_changes (new_timers timers threads) past) ≡ Some t → s.number ≡ t.number → a ≡ b
+    setting_at a (after_changes (new_timers timers threads) past) ≡ Some s →
+    setting_at b (after_changes (new_timers timers threads) past) ≡ Some t → s.number ≡ t.number → a ≡ b
 
 -- ---- over the events of the machine
 

@@ -1,5 +1,6 @@
 -- The conditions of a list of calls of frames, as a test that computes.
-use Rattle.std.proofs.Common.{◌≡◌, ℕ, ◌<◌, ◌≤◌, Bool, true, false, not, ◌&&◌, nat_le, nat_lt, Option, None, Some, is_none, is_some, List, [], ◌∷◌, All, get_or, length, arith, refl}
+use Rattle.std.proofs.Common.{◌≡◌, ℕ, ◌<◌, ◌≤◌, Bool, true, false, not, ◌&&◌, nat_le, nat_lt, Option, None, Some, is_none, is_some, List, [], ◌∷◌, All, get_or}
+use Rattle.std.proofs.Common.{length, arith, refl}
 use Rattle.std.proofs.lemmas.List.Sums.{AllPass-from_list_all}
 use Rattle.std.proofs.lemmas.Bool.Decides.{nat_tests}
 use Rattle.std.specs.List.{list_all}
@@ -7,7 +8,8 @@ use Rattle.std.specs.Option.{ForSome, option_map_or}
 use Rattle.nt_event.specs.declared.frames.Frame.{Frame}
 use Rattle.nt_event.specs.Frames.{Frames, innermost}
 use Rattle.nt_frame.specs.declared.calls.FrameCall.{FrameCall}
-use Rattle.nt_frame.specs.declared.calls.FrameCall.TheVariants.{AdvancePlace, Begin, EndBase, Enter, Finish, Gone, Leave, Lower, Normal, Raise, SetAgain, SwitchAway, SwitchTo}
+use Rattle.nt_frame.specs.declared.calls.FrameCall.TheVariants.{AdvancePlace, Begin, EndBase, Enter, Finish, Gone, Leave, Lower, Normal, Raise, SetAgain}
+use Rattle.nt_frame.specs.declared.calls.FrameCall.TheVariants.{SwitchAway, SwitchTo}
 use Rattle.nt_frame.specs.Calls.{MayCall, MayCallAll, left_by}
 use Rattle.nt_frame.specs.Nesting.{next_name}
 use Rattle.nt_frame.specs.Rules.{count_of, is_at_base, is_leaving, may_begin, may_go_on, regions_in}

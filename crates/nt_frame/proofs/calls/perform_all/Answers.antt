@@ -5,7 +5,7 @@ use Rattle.nt_frame.proofs.calls.perform_all.Goals as goal
 pub perform-requires : goal.perform-requires
 perform-requires c =
     may_next c.args.calls.now c.args.frames.now c.loop-call.call-index c.loop-call.answers.items c.loop-call.frames c.call-item.result
-        c.loop-call.invariant.going c.loop-call-test.true (sym c.call-item.is)
+    c.loop-call.invariant.going c.loop-call-test.true (sym c.call-item.is)
 
 pub loop-call-preserved : goal.loop-call-preserved
 loop-call-preserved c =

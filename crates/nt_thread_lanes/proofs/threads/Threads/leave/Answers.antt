@@ -1,10 +1,9 @@
-use Rattle.std.proofs.Common.{subst, sym, ◌∙◌}
-use Rattle.std.specs.Prelude.{IsTrue, Some, length, ◌≡◌}
+use Rattle.std.proofs.Common.{refl, subst, sym, ◌∙◌}
+use Rattle.std.specs.Prelude.{IsTrue, Some, ◌≡◌}
 use Rattle.nt_event.specs.Script.{fits}
 use Rattle.nt_thread_lanes.specs.Fits.{named_thread}
 use Rattle.nt_thread_lanes.specs.Lanes.{ThreadLanes}
 use Rattle.nt_thread_lanes.proofs.Allows.{names_one}
-use Rattle.nt_thread_lanes.proofs.Left.{left_told}
 use Rattle.nt_thread_lanes.proofs.threads.Threads.leave.Goals as goal
 
 pub tell-requires-clause-thread : goal.tell-requires-clause-thread
@@ -20,9 +19,4 @@ tell-requires-clause-may c =
     (names_one c.args.self.now c.args.stand.now c.args.event.now.what c.in-Some.thread fit c.requires.what named).may
 
 pub returns-in-Some : goal.returns-in-Some
-returns-in-Some c =
-    let named : named_thread c.args.self.now.script c.args.event.now.what ≡ Some c.in-Some.thread = subst (λ (x : ThreadLanes). named_thread x.script c.args.event.now.what ≡ Some c.in-Some.thread) c.self.view_is (sym c.named_thread.ensures ∙ c.in-Some.is) in
-    let fit : IsTrue (fits c.args.self.now.script) = subst (λ (x : ThreadLanes). IsTrue (fits x.script)) c.self.view_is c.self.invariant.sound.script in
-    let one = names_one c.args.self.now c.args.stand.now c.args.event.now.what c.in-Some.thread fit c.requires.what named in
-    let size : length c.args.self.now.facts ≡ length c.args.self.now.script.threads = subst (λ (x : ThreadLanes). length x.facts ≡ length x.script.threads) c.self.view_is c.self.invariant.sound.threads in
-    c.tell.ensures ∙ sym (left_told c.args.self.now c.args.n c.args.stand.now c.args.event.now c.in-Some.thread size named one.may)
+returns-in-Some c = c.tell.ensures c.args.stand.now c.args.event.now refl

@@ -1,8 +1,10 @@
-use Rattle.nt_thread_lanes.specs.Insides.{lanes_in}
-use Rattle.nt_thread_lanes.proofs.Whole.{holds_told}
+use Rattle.std.proofs.Common.{subst, sym, ◌∙◌}
+use Rattle.std.specs.Prelude.{length, ◌≡◌}
+use Rattle.nt_thread_lanes.specs.Lanes.{ThreadLanes}
+use Rattle.nt_thread_lanes.proofs.Left.{left_told_by}
 use Rattle.nt_thread_lanes.proofs.threads.Threads.tell.Goals as goal
 
-pub invariant_of-self : goal.invariant_of-self
-invariant_of-self c =
-    let h = holds_told (lanes_in c.self.inside) c.args.self.now c.args.t c.args.n c.args.what.now c.index_mut.result.now c.tell.new.state c.self.inside.inserted.items c.mark.new.inserted.items c.self.view_is (record { sound = c.self.invariant.sound; marked = c.self.invariant.marked }) c.requires.thread c.requires.named c.requires.may c.index_mut.ensures.value c.tell.ensures c.mark.ensures in
-    record { sound = h.sound; marked = h.marked }
+pub returns : goal.returns
+returns c st e same =
+    let size : length c.args.self.now.facts ≡ length c.args.self.now.script.threads = subst (λ (x : ThreadLanes). length x.facts ≡ length x.script.threads) c.self.view_is c.self.invariant.sound.threads in
+    c.tell_thread.ensures ∙ sym (left_told_by c.args.self.now c.args.n st e c.args.t c.args.what.now same size c.requires.named c.requires.may)

@@ -1,0 +1,286 @@
+//! What an event asks for.
+ghost use Rattle.std.specs.Prelude.{◌≡◌, ◌++◌, ◌&&◌, All, IsTrue, [], false, if◌then◌else◌, not};
+ghost use Rattle.nt_event.specs.Apcs.{has_kernel as has_kernel_apc};
+ghost use Rattle.nt_event.specs.Lanes.{command_lanes, end_lanes, facts_at, facts_of, insert_lanes, object_at, what_lanes};
+ghost use Rattle.nt_event.specs.Replies.{is_refused as refuses};
+ghost use Rattle.nt_event.specs.declared.jobs.Lane.TheVariants.{Threads as ThreadsLane};
+ghost use Rattle.nt_event.specs.Objects.{is_queued};
+ghost use Rattle.nt_event.specs.Regions.{some_came_to_0};
+ghost use Rattle.nt_event.specs.Requests as requests;
+ghost use Rattle.nt_event.specs.Routines as routines;
+ghost use Rattle.nt_event.specs.Script.{command_fits, has_apc, has_cpu, has_dpc, has_thread};
+ghost use Rattle.nt_event.specs.Threads.{ends_by_alert, ends_by_expiry, is_gone};
+ghost use Rattle.nt_dpc.specs.Laws.{asks_on};
+ghost use Rattle.nt_floor.specs.Acts.{StandFits};
+ghost use Rattle.nt_states.specs.Given.{IsGiven, IsTaken, RunsOwn};
+ghost use Rattle.nt_states.specs.LaneLists.{AskFits, InsertIsFree, as_asks};
+ghost use Rattle.nt_states.specs.Reads.{AreHeld};
+
+use crate::answers::LaneAnswers;
+use crate::script::{cpu_of, kind_of, owner_of, runner};
+use nt_event::{
+    ApcKind, ApcNo, Body, Command, CpuNo, DpcNo, Mode, Regions, Reply, Stand, ThreadNo, TimerKey,
+    What,
+};
+use std::marker::Model;
+
+/// A class of a processor for which an event asks.
+#[derive(Clone, Copy, PartialEq, Eq, Debug)]
+pub struct Asked {
+    pub cpu: CpuNo,
+    pub class: u8,
+}
+
+/// What an event asks for: at most two classes.
+#[derive(Drop, Debug)]
+pub struct Asks {
+    asks: [Asked; 2],
+    count: usize,
+}
+
+impl Model for Asks {
+    ghost use Rattle.std.specs.Prelude.{◌≤◌, List, take};
+    ghost use Rattle.nt_event.specs.Requests.{Ask};
+
+    ghost Value = { List Ask };
+
+    ghost use Rattle.nt_states.specs.LaneLists.{as_asks};
+
+    ghost view = { λ a. as_asks (take a.count a.asks) };
+
+    ghost invariant = { λ a. a.count ≤ 2 };
+}
+
+impl Asks {
+    fn none() -> Asks
+        ensures { result ≡ [] }
+    {
+        let unused = Asked {
+            cpu: CpuNo(0),
+            class: 0,
+        };
+        Asks {
+            asks: [unused, unused],
+            count: 0,
+        }
+    }
+
+    fn one(cpu: CpuNo, class: u8) -> Asks
+        ensures { result ≡ requests.ask cpu class }
+    {
+        let ask = Asked { cpu, class };
+        Asks {
+            asks: [ask, ask],
+            count: 1,
+        }
+    }
+
+    /// The class, where the test holds.
+    fn one_if(test: bool, cpu: CpuNo, class: u8) -> Asks
+        ensures { result ≡ requests.ask_if test cpu class }
+    {
+        if test {
+            Asks::one(cpu, class)
+        } else {
+            Asks::none()
+        }
+    }
+
+    /// Two classes of a processor, each where its test holds.
+    fn each_if(first: bool, second: bool, cpu: CpuNo, a: u8, b: u8) -> Asks
+        ensures { result ≡ requests.ask_if first cpu a ++ requests.ask_if second cpu b }
+    {
+        if first && second {
+            Asks {
+                asks: [Asked { cpu, class: a }, Asked { cpu, class: b }],
+                count: 2,
+            }
+        } else if first {
+            Asks::one(cpu, a)
+        } else {
+            Asks::one_if(second, cpu, b)
+        }
+    }
+
+    /// The class that an insert asks for, if any.
+    fn of_insert(cpu: CpuNo, class: Option<u8>) -> Asks
+        ensures { result ≡ asks_on cpu class }
+    {
+        match class {
+            Some(class) => Asks::one(cpu, class),
+            None => Asks::none(),
+        }
+    }
+
+    /// The classes in order.
+    pub fn as_slice(&self) -> &[Asked]
+        ensures { as_asks result.now ≡ self.now }
+    {
+        &self.asks[..self.count]
+    }
+}
+
+/// Whether a count that was not 0 is 0 now.
+fn came_to_0(before: Regions, now: Regions) -> bool
+    ensures { result ≡ some_came_to_0 before now }
+{
+    (before.crit != 0 && now.crit == 0) || (before.guard != 0 && now.guard == 0)
+}
+
+/// Whether APCs of the kind run in kernel mode.
+fn is_kernel_kind(kind: ApcKind) -> bool
+    ensures { result ≡ routines.is_kernel_kind kind }
+{
+    !matches!(kind, ApcKind::User)
+}
+
+/// What an event asks for, of a processor that stands so.
+pub fn event_asks<S: LaneAnswers>(states: &S, stand: &Stand, what: &What) -> Asks
+    requires given { IsGiven (S.script_of states.now) (S.lanes states.now) stand.now what.now }
+    requires held { AreHeld (S.holds states.now) (what_lanes (S.script_of states.now) stand.now what.now (S.lanes states.now)) }
+    ensures asks { result ≡ requests.what_asks (S.script_of states.now) stand.now what.now (S.lanes states.now) }
+    ensures named { All (AskFits (S.script_of states.now)) result }
+{
+    match what {
+        What::Call { command, reply, .. } => call_asks(states, stand, command, reply),
+        What::Fire {
+            dpc,
+            reply: Reply::Yes,
+        } => insert_asks(states, stand.cpu, *dpc),
+        What::Expire {
+            key: TimerKey::Delay(t),
+            from,
+        } => expiry_asks(states, *t, *from),
+        What::Switch { thread, .. } => switch_asks(states, stand.cpu, *thread),
+        What::Normal { .. } => { Asks::one_if(came_to_0(stand.regions, stand.below), stand.cpu, 1) }
+        What::End { .. } => end_asks(states, stand),
+        What::Fire { .. }
+        | What::Expire { .. }
+        | What::Look { .. }
+        | What::Begin { .. }
+        | What::Clean { .. }
+        | What::Rewait { .. }
+        | What::Flush { .. }
+        | What::Gone { .. }
+        | What::Rest => Asks::none(),
+    }
+}
+
+/// What a call asks for.
+fn call_asks<S: LaneAnswers>(states: &S, stand: &Stand, command: &Command, reply: &Reply) -> Asks
+    requires command { IsTrue (command_fits (S.script_of states.now) command.now) }
+    requires stand { StandFits (S.script_of states.now) stand.now }
+    requires insert { InsertIsFree (S.lanes states.now) command.now reply.now }
+    requires held { AreHeld (S.holds states.now) (if refuses reply.now then [] else command_lanes (S.script_of states.now) stand.now.cpu command.now reply.now (S.lanes states.now)) }
+    ensures asks { result ≡ requests.command_asks (S.script_of states.now) stand.now command.now reply.now (S.lanes states.now) }
+    ensures named { All (AskFits (S.script_of states.now)) result }
+{
+    match (command, reply) {
+        (Command::Queue(d), Reply::Yes) => insert_asks(states, stand.cpu, *d),
+        (Command::InsertApc(a), Reply::Yes) => apc_asks(states, *a),
+        (Command::LeaveCrit, Reply::Done) => { Asks::one_if(stand.regions.crit == 1, stand.cpu, 1) }
+        (Command::LeaveGuard, Reply::Done) => {
+            Asks::one_if(stand.regions.guard == 1, stand.cpu, 1)
+        }
+        (Command::Release(t), Reply::Yes) => release_asks(states, *t),
+        (Command::Alert(t, mode), Reply::No) => alert_asks(states, *t, *mode),
+        (Command::Interrupt(cpu, level), Reply::Done) => Asks::one(*cpu, level.number()),
+        (Command::Clock(_), Reply::Done) => Asks::one(stand.cpu, 13),
+        _ => Asks::none(),
+    }
+}
+
+/// What an insert of an object that is not queued asks for.
+fn insert_asks<S: LaneAnswers>(states: &S, p: CpuNo, d: DpcNo) -> Asks
+    requires object { IsTrue (has_dpc (S.script_of states.now) d) }
+    requires cpu { IsTrue (has_cpu (S.script_of states.now) p) }
+    requires free { is_queued (object_at (S.lanes states.now) d) ≡ false }
+    requires held { AreHeld (S.holds states.now) (insert_lanes p d Reply.Yes (S.lanes states.now)) }
+    ensures asks { result ≡ requests.queue_asks (S.script_of states.now) d p (S.lanes states.now) }
+    ensures named { All (AskFits (S.script_of states.now)) result }
+{
+    let class = states.ask(d, p);
+    Asks::of_insert(states.queue_for(d, p), class)
+}
+
+/// What an insert of an APC asks for.
+fn apc_asks<S: LaneAnswers>(states: &S, a: ApcNo) -> Asks
+    requires object { IsTrue (has_apc (S.script_of states.now) a) }
+    requires held { S.holds states.now (ThreadsLane (routines.cpu_of (S.script_of states.now) (routines.owner_of (S.script_of states.now) a))) }
+    ensures asks { result ≡ requests.apc_asks (S.script_of states.now) a (S.lanes states.now) }
+    ensures named { All (AskFits (S.script_of states.now)) result }
+{
+    let kernel = is_kernel_kind(kind_of(states.script(), a));
+    let cpu = cpu_of(states.script(), owner_of(states.script(), a));
+    Asks::each_if(kernel, states.ends_by_apc(a), cpu, 1, 2)
+}
+
+/// What a release that ends a wait asks for.
+fn release_asks<S: LaneAnswers>(states: &S, t: ThreadNo) -> Asks
+    ensures asks { result ≡ requests.ask (routines.cpu_of (S.script_of states.now) t) 2 }
+    ensures named { All (AskFits (S.script_of states.now)) result }
+{
+    Asks::one(cpu_of(states.script(), t), 2)
+}
+
+/// What an alert whose flag was clear asks for.
+fn alert_asks<S: LaneAnswers>(states: &S, t: ThreadNo, mode: Mode) -> Asks
+    requires thread { IsTrue (has_thread (S.script_of states.now) t) }
+    requires held { S.holds states.now (ThreadsLane (routines.cpu_of (S.script_of states.now) t)) }
+    ensures asks { result ≡ requests.ask_if (not (is_gone (facts_at (S.lanes states.now) t)) && ends_by_alert mode (facts_at (S.lanes states.now) t)) (routines.cpu_of (S.script_of states.now) t) 2 }
+    ensures named { All (AskFits (S.script_of states.now)) result }
+{
+    let ends = !states.is_gone(t) && states.ends_by_alert(t, mode);
+    Asks::one_if(ends, cpu_of(states.script(), t), 2)
+}
+
+/// What the expiry of a delay asks for.
+fn expiry_asks<S: LaneAnswers>(states: &S, t: ThreadNo, from: u64) -> Asks
+    requires thread { IsTrue (has_thread (S.script_of states.now) t) }
+    requires held { S.holds states.now (ThreadsLane (routines.cpu_of (S.script_of states.now) t)) }
+    ensures asks { result ≡ requests.ask_if (ends_by_expiry from (facts_at (S.lanes states.now) t)) (routines.cpu_of (S.script_of states.now) t) 2 }
+    ensures named { All (AskFits (S.script_of states.now)) result }
+{
+    let ends = states.ends_by_expiry(t, from);
+    Asks::one_if(ends, cpu_of(states.script(), t), 2)
+}
+
+/// What the taking up of a thread asks for.
+fn switch_asks<S: LaneAnswers>(states: &S, p: CpuNo, t: ThreadNo) -> Asks
+    requires cpu { IsTrue (has_cpu (S.script_of states.now) p) }
+    requires taken { IsTaken (S.script_of states.now) p t }
+    requires held { S.holds states.now (ThreadsLane p) }
+    ensures asks { result ≡ requests.ask_if (has_kernel_apc (facts_at (S.lanes states.now) t).apcs) p 1 }
+    ensures named { All (AskFits (S.script_of states.now)) result }
+{
+    Asks::one_if(states.has_kernel(t), p, 1)
+}
+
+/// What the end of a frame asks for.
+fn end_asks<S: LaneAnswers>(states: &S, stand: &Stand) -> Asks
+    requires stand { StandFits (S.script_of states.now) stand.now }
+    requires own { RunsOwn (S.script_of states.now) stand.now }
+    requires held { AreHeld (S.holds states.now) (end_lanes stand.now.cpu stand.now.body) }
+    ensures asks { result ≡ requests.end_asks stand.now stand.now.body (S.lanes states.now) }
+    ensures named { All (AskFits (S.script_of states.now)) result }
+{
+    let given_up = came_to_0(stand.regions, stand.below);
+    match stand.body {
+        Some(Body::Apc(_, ApcKind::Normal)) => Asks::one(stand.cpu, 1),
+        Some(Body::Base(_)) => { Asks::one_if(given_up || has_kernel(states, stand), stand.cpu, 1) }
+        _ => Asks::one_if(given_up, stand.cpu, 1),
+    }
+}
+
+/// Whether the running thread, if there is one, has a kernel APC pending.
+fn has_kernel<S: LaneAnswers>(states: &S, stand: &Stand) -> bool
+    requires stand { StandFits (S.script_of states.now) stand.now }
+    requires own { RunsOwn (S.script_of states.now) stand.now }
+    requires held { S.holds states.now (ThreadsLane stand.now.cpu) }
+    ensures { result ≡ has_kernel_apc (facts_of (S.lanes states.now) stand.now.thread).apcs }
+{
+    match stand.thread {
+        Some(_) => states.has_kernel(runner(states, stand)),
+        None => false,
+    }
+}

@@ -1,0 +1,150 @@
+//! The event of a processor, and the due time that it sets.
+ghost use Rattle.std.specs.Prelude.{◌≡◌, ◌<◌, ◌^◌, IfSome, IsSome, if◌then◌else◌, ℕ};
+ghost use Rattle.nt_event.specs.Acting as acting;
+ghost use Rattle.nt_event.specs.Frames as frames;
+ghost use Rattle.nt_event.specs.Lanes.{Lanes, facts_at, what_lanes};
+ghost use Rattle.nt_event.specs.Step.{thread_field};
+ghost use Rattle.nt_event.specs.Threads.{doing_level};
+ghost use Rattle.nt_event.specs.Replies.{is_blocked as blocks};
+ghost use Rattle.nt_event.specs.declared.events.What.{What};
+ghost use Rattle.nt_event.specs.declared.jobs.Stand.{Stand};
+ghost use Rattle.nt_event.specs.declared.jobs.Lane.TheVariants.{Threads as ThreadsLane, Timers as TimersLane};
+ghost use Rattle.nt_states.specs.Given.{IsGiven, IsTaken};
+ghost use Rattle.nt_states.specs.Reads.{AreHeld};
+
+use crate::answers::LaneAnswers;
+use nt_event::{Begun, Command, CpuNo, Event, Level, Reply, Stand, ThreadNo, What};
+
+/// Whether the thread waits.
+fn is_blocked(reply: &Reply) -> bool
+    ensures { result ≡ blocks reply.now }
+{
+    matches!(reply, Reply::Blocked)
+}
+
+/// The level after the call of a command.
+fn call_level(command: &Command, reply: &Reply, old: Level) -> Level
+    ensures { (f : ℕ) (st : Stand) (l : Lanes) → st.level ≡ old → result ≡ acting.acted_level st l (What.Call f command.now reply.now) }
+{
+    match (command, reply) {
+        (Command::Yield, Reply::Done) => Level::PASSIVE,
+        (_, Reply::Blocked) => Level::PASSIVE,
+        _ => old,
+    }
+}
+
+/// The level after a wait that is taken up again.
+fn rewait_level(reply: &Reply, old: Level) -> Level
+    ensures { result ≡ (if blocks reply.now then 0 else old) }
+{
+    if is_blocked(reply) {
+        Level::PASSIVE
+    } else {
+        old
+    }
+}
+
+/// The level after the begin of a routine.
+fn begin_level(begun: &Begun) -> Level
+    ensures { (from : ℕ) (st : Stand) (l : Lanes) → result ≡ acting.acted_level st l (What.Begin begun.now from) }
+{
+    match begun {
+        Begun::Int(level) => *level,
+        Begun::Dpc(_) => Level::DISPATCH,
+        Begun::Threaded(_) => Level::PASSIVE,
+        Begun::Apc(_) => Level::APC,
+    }
+}
+
+/// The thread that an event names.
+fn thread(what: &What, running: Option<ThreadNo>) -> Option<ThreadNo>
+    ensures { result ≡ thread_field what.now running }
+{
+    match what {
+        What::Switch { thread, .. } => Some(*thread),
+        What::Look { .. } => None,
+        What::Call { .. }
+        | What::Begin { .. }
+        | What::Normal { .. }
+        | What::End { .. }
+        | What::Expire { .. }
+        | What::Fire { .. }
+        | What::Clean { .. }
+        | What::Rewait { .. }
+        | What::Flush { .. }
+        | What::Gone { .. }
+        | What::Rest => running,
+    }
+}
+
+/// The event that does this, of a processor that stands so.
+pub fn event<S: LaneAnswers>(states: &S, stand: &Stand, what: &What) -> Event
+    requires given { IsGiven (S.script_of states.now) (S.lanes states.now) stand.now what.now }
+    requires held { AreHeld (S.holds states.now) (what_lanes (S.script_of states.now) stand.now what.now (S.lanes states.now)) }
+    ensures { result ≡ acting.acted_event stand.now (S.lanes states.now) what.now }
+{
+    Event {
+        cpu: stand.cpu,
+        thread: thread(what, stand.thread),
+        level: level(states, stand, what),
+        what: *what,
+    }
+}
+
+/// The level after it.
+fn level<S: LaneAnswers>(states: &S, stand: &Stand, what: &What) -> Level
+    requires given { IsGiven (S.script_of states.now) (S.lanes states.now) stand.now what.now }
+    requires held { AreHeld (S.holds states.now) (what_lanes (S.script_of states.now) stand.now what.now (S.lanes states.now)) }
+    ensures { result ≡ acting.acted_level stand.now (S.lanes states.now) what.now }
+{
+    match what {
+        What::Call { command, reply, .. } => call_level(command, reply, stand.level),
+        What::Begin { begun, .. } => begin_level(begun),
+        What::Switch { thread, .. } => thread_level(states, stand.cpu, *thread),
+        What::Rewait { reply, .. } => rewait_level(reply, stand.level),
+        What::End { .. } => stand.after,
+        What::Flush { .. } | What::Gone { .. } => Level::PASSIVE,
+        What::Look { .. }
+        | What::Normal { .. }
+        | What::Expire { .. }
+        | What::Fire { .. }
+        | What::Clean { .. }
+        | What::Rest => stand.level,
+    }
+}
+
+/// The level at which a thread is taken up.
+fn thread_level<S: LaneAnswers>(states: &S, p: CpuNo, t: ThreadNo) -> Level
+    requires taken { IsTaken (S.script_of states.now) p t }
+    requires held { S.holds states.now (ThreadsLane p) }
+    ensures { result ≡ doing_level (facts_at (S.lanes states.now) t).doing }
+{
+    states.level(t)
+}
+
+/// The due time of the delay that the event calls.
+pub fn due<S: LaneAnswers>(states: &S, what: &What) -> Option<u64>
+    requires held { IsSome (frames.due_of what.now 0) → S.holds states.now TimersLane }
+    ensures due { result ≡ frames.due_of what.now (S.lanes states.now).timers.now }
+    ensures fits { IfSome result (λ due. due < 2 ^ 51) }
+{
+    match what {
+        What::Call {
+            command: Command::Delay(_, _, units),
+            ..
+        } => Some(states.now() + u64::from(*units)),
+        What::Call { .. }
+        | What::Look { .. }
+        | What::Begin { .. }
+        | What::Normal { .. }
+        | What::End { .. }
+        | What::Expire { .. }
+        | What::Fire { .. }
+        | What::Clean { .. }
+        | What::Switch { .. }
+        | What::Rewait { .. }
+        | What::Flush { .. }
+        | What::Gone { .. }
+        | What::Rest => None,
+    }
+}

@@ -1,0 +1,123 @@
+//! What a command replies.
+ghost use Rattle.std.specs.Prelude.{◌≡◌, ◌&&◌, ◌+◌, IsSome, IsTrue, not};
+ghost use Rattle.nt_event.specs.Acting.{IsCallable};
+ghost use Rattle.nt_event.specs.Commands.{is_reached, reply as reply_to};
+ghost use Rattle.nt_event.specs.Lanes.{facts_at, facts_of};
+ghost use Rattle.nt_event.specs.Routines.{cpu_of};
+ghost use Rattle.nt_event.specs.Script.{command_fits, has_thread};
+ghost use Rattle.nt_event.specs.Threads.{is_alerted, is_gone};
+ghost use Rattle.nt_event.specs.Waits.{wait_reply};
+ghost use Rattle.nt_event.specs.Replies.{yes_if as yes_of};
+ghost use Rattle.nt_event.specs.declared.jobs.Lane.TheVariants.{Threads as ThreadsLane, Timers as TimersLane};
+ghost use Rattle.nt_floor.specs.Acts.{StandFits};
+ghost use Rattle.nt_states.specs.Given.{RunsOwn};
+ghost use Rattle.nt_states.specs.Reads.{AreHeld, reply_lanes};
+
+use crate::answers::LaneAnswers;
+use crate::script::runner;
+use nt_event::{Command, Mode, Reply, Stand, ThreadNo};
+
+/// Yes, where the test holds.
+pub(crate) fn yes_if(test: bool) -> Reply
+    ensures { result ≡ yes_of test }
+{
+    if test { Reply::Yes } else { Reply::No }
+}
+
+/// What a command that is not refused replies.
+pub(crate) fn reply<S: LaneAnswers>(states: &S, stand: &Stand, command: &Command) -> Reply
+    requires command { IsTrue (command_fits (S.script_of states.now) command.now) }
+    requires stand { StandFits (S.script_of states.now) stand.now }
+    requires own { RunsOwn (S.script_of states.now) stand.now }
+    requires callable { IsCallable stand.now command.now }
+    requires held { AreHeld (S.holds states.now) (reply_lanes (S.script_of states.now) stand.now.cpu command.now) }
+    ensures { result ≡ reply_to (S.script_of states.now) stand.now (S.lanes states.now) command.now }
+{
+    match command {
+        Command::Queue(d) => yes_if(!states.is_queued(*d)),
+        Command::Unqueue(d) => yes_if(states.is_queued(*d)),
+        Command::SetTimer(t, _, _) => yes_if(states.is_set(*t)),
+        Command::CancelTimer(t) => yes_if(states.is_set(*t)),
+        Command::InsertApc(a) => yes_if(states.takes(*a)),
+        Command::RemoveApc(a) => yes_if(states.is_inserted(*a)),
+        Command::StartWait(mode, alertable) => wait_reply(states, stand, *mode, *alertable, None),
+        Command::Delay(mode, alertable, units) => {
+            wait_reply(
+                states,
+                stand,
+                *mode,
+                *alertable,
+                Some(is_over(states, *units)),
+            )
+        }
+        Command::Release(t) => yes_if(states.ends_by_release(*t)),
+        Command::Alert(t, mode) => yes_if(was_alerted(states, *t, *mode)),
+        Command::TestAlert(mode) => yes_if(is_alerted(states, stand, *mode)),
+        Command::Raise(_)
+        | Command::Lower(_)
+        | Command::SetImportance(_, _)
+        | Command::SetTarget(_, _)
+        | Command::EnterCrit
+        | Command::LeaveCrit
+        | Command::EnterGuard
+        | Command::LeaveGuard
+        | Command::Interrupt(_, _)
+        | Command::Clock(_)
+        | Command::ToUser
+        | Command::Yield
+        | Command::Note(_) => Reply::Done,
+    }
+}
+
+/// What a wait of the running thread replies; of a delay, its due time is reached or not.
+pub(crate) fn wait_reply<S: LaneAnswers>(
+    states: &S,
+    stand: &Stand,
+    mode: Mode,
+    alertable: bool,
+    reached: Option<bool>,
+) -> Reply
+    requires stand { StandFits (S.script_of states.now) stand.now }
+    requires own { RunsOwn (S.script_of states.now) stand.now }
+    requires runs { IsSome stand.now.thread }
+    requires held { S.holds states.now (ThreadsLane stand.now.cpu) }
+    ensures { result ≡ wait_reply (facts_of (S.lanes states.now) stand.now.thread) stand.now.regions stand.now.level mode alertable reached }
+{
+    states.wait_reply(
+        runner(states, stand),
+        stand.regions,
+        stand.level,
+        mode,
+        alertable,
+        reached,
+    )
+}
+
+/// Whether a delay of so many units is over at once.
+fn is_over<S: LaneAnswers>(states: &S, units: u32) -> bool
+    requires { S.holds states.now TimersLane }
+    ensures { result ≡ is_reached (S.lanes states.now).timers.now ((S.lanes states.now).timers.now + units) }
+{
+    let now = states.now();
+    now + u64::from(units) <= now
+}
+
+/// Whether an alert finds the thread's flag set.
+fn was_alerted<S: LaneAnswers>(states: &S, t: ThreadNo, mode: Mode) -> bool
+    requires thread { IsTrue (has_thread (S.script_of states.now) t) }
+    requires held { S.holds states.now (ThreadsLane (cpu_of (S.script_of states.now) t)) }
+    ensures { result ≡ (not (is_gone (facts_at (S.lanes states.now) t)) && is_alerted mode (facts_at (S.lanes states.now) t)) }
+{
+    !states.is_gone(t) && states.is_alerted(t, mode)
+}
+
+/// Whether the running thread's flag is set.
+fn is_alerted<S: LaneAnswers>(states: &S, stand: &Stand, mode: Mode) -> bool
+    requires stand { StandFits (S.script_of states.now) stand.now }
+    requires own { RunsOwn (S.script_of states.now) stand.now }
+    requires runs { IsSome stand.now.thread }
+    requires held { S.holds states.now (ThreadsLane stand.now.cpu) }
+    ensures { result ≡ is_alerted mode (facts_of (S.lanes states.now) stand.now.thread) }
+{
+    states.is_alerted(runner(states, stand), mode)
+}
