@@ -65,7 +65,7 @@ uncut_below s limit p past h =
 maker_below : (s : Script) (limit : ℕ) (e : Event) (past : List Event) → IsLegal s limit e past → made e.cpu past < limit
 maker_below s limit e past h =
     uncut_below s limit e.cpu past (subst (λ (q : CpuNo). is_cut limit (own_of s q past) ≡ false) (cpu_at-turn_at e.cpu e.what)
-        (step_uncut s limit (turn_of e) past e h).1)
+    (step_uncut s limit (turn_of e) past e h).1)
 
 made_limit : (s : Script) (limit : ℕ) (p : CpuNo) (past : List Event) → IsRun s limit past → made p past ≤ limit
 made_limit s limit p [] r = omega arith

@@ -29,7 +29,7 @@ pub rest_goes_on : (s : Script) (turns n : ℕ) (list : List Turn) (x y : CoreSt
 rest_goes_on s turns n list x y d e a b r within k m =
     r
     ∙ (turn_taken s turns n x.past list (get_or list n d) e within (get_or_default list n d (get_or list n d) within)
-        (ap (λ (z : Script). step z turns (get_or list n d) x.past) (sym a) ∙ (ap (λ (l : ℕ). step x.script l (get_or list n d) x.past) (sym b) ∙ k))
+    (ap (λ (z : Script). step z turns (get_or list n d) x.past) (sym a) ∙ (ap (λ (l : ℕ). step x.script l (get_or list n d) x.past) (sym b) ∙ k))
     ∙ ap (λ (past : List Event). replayed_from s turns (n + 1) past (drop (n + 1) list)) (sym (ap (λ (z : CoreState). z.past) m)))
 
 pub one_more : (n : ℕ) (x y : CoreState) (e : Event) → length x.past ≡ n → y ≡ with_event e x → length y.past ≡ n + 1

@@ -41,7 +41,7 @@ pub asked_number : (s : Script) (q : CpuNo) (k v : ℕ) (past : List Event) → 
 asked_number s q k v [] h = refl
 asked_number s q k v (e ∷ past) h =
     swap (asks_at s (v - 1) q k past) (((v - 1) == length past) && asks s q k e past) ((v == length past + 1) && asks s q k e past)
-        (ap (λ (b : Bool). b && asks s q k e past) (same_test v (length past) h))
+    (ap (λ (b : Bool). b && asks s q k e past) (same_test v (length past) h))
     ∙ ap (λ (b : Bool). ((v == length past + 1) && asks s q k e past) || b) (asked_number s q k v past h)
 
 one_value : (s : Script) (past : List Event) (w : View) (p : CpuNo) (k x : ℕ) → Follows s past w → p.0 < s.cpus → k < 16 → ((x == 0) || w.marked (x - 1) p k)

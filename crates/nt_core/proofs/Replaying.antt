@@ -28,7 +28,7 @@ replay_through s limit [] ts r = refl
 replay_through s limit (e ∷ past) ts r =
     ap (replayed s limit) (turns_then e past ts)
     ∙ (replay_through s limit past (turn_of e ∷ ts) r.1 ∙ ap
-        (λ (x : Result Event ScheduleKind). goes_on (length past) x (λ e. replayed_from s limit (suc (length past)) (e ∷ past) ts)) r.0)
+    (λ (x : Result Event ScheduleKind). goes_on (length past) x (λ e. replayed_from s limit (suc (length past)) (e ∷ past) ts)) r.0)
 
 pub runs_replay : (s : Script) (limit : ℕ) (h : List Event) → IsRun s limit h → is_settled s limit h ≡ true → replayed s limit (turns h) ≡ Ok h
 runs_replay s limit h r d =
@@ -61,7 +61,7 @@ replay_runs s limit n past (t ∷ ts) h r e =
     go (Err k) i e ih = absurd cc
     go (Ok f) i e ih =
         subst (λ (x : List Turn). IsRunOf s limit x h) (turns_then f past ts ∙ ap (λ (u : Turn). turns past ++ u ∷ ts) (turn_same s limit t past f i))
-            (ih f (run_grows s limit t past f r i) e)
+        (ih f (run_grows s limit t past f r i) e)
 
 pub replays_run : (s : Script) (limit : ℕ) (list : List Turn) (h : List Event) → replayed s limit list ≡ Ok h → IsRunOf s limit list h
 replays_run s limit list h e = replay_runs s limit 0 [] list h tt e

@@ -33,14 +33,14 @@ pub absent_step : (s : Script) (limit : ℕ) (t : Turn) (past : List Event) → 
 absent_step s limit t past h =
     let b : nat_lt (cpu_at t).0 s.cpus ≡ false = grind (arith, nat_tests) in
     ap (λ (b : Bool). refused_if (not b) NoSuchCpu (refused_if (is_cut limit (own_of s (cpu_at t) past)) NothingToDoKind
-        (uncut_step s t (own_of s (cpu_at t) past) (lanes_at s past) past))) b
+    (uncut_step s t (own_of s (cpu_at t) past) (lanes_at s past) past))) b
 
 here_step : (s : Script) (limit : ℕ) (t : Turn) (past : List Event) → (cpu_at t).0 < s.cpus → step s limit t past
     ≡ refused_if (is_cut limit (own_of s (cpu_at t) past)) NothingToDoKind (uncut_step s t (own_of s (cpu_at t) past) (lanes_at s past) past)
 here_step s limit t past h =
     let b : nat_lt (cpu_at t).0 s.cpus ≡ true = grind (arith, nat_tests) in
     ap (λ (b : Bool). refused_if (not b) NoSuchCpu (refused_if (is_cut limit (own_of s (cpu_at t) past)) NothingToDoKind
-        (uncut_step s t (own_of s (cpu_at t) past) (lanes_at s past) past))) b
+    (uncut_step s t (own_of s (cpu_at t) past) (lanes_at s past) past))) b
 
 pub cut_step : (s : Script) (limit : ℕ) (t : Turn) (past : List Event) → (cpu_at t).0 < s.cpus → is_cut limit (own_of s (cpu_at t) past) ≡ true →
     step s limit t past ≡ Err NothingToDoKind

@@ -60,7 +60,7 @@ pub taken_sound : (s : Script) (limit : ℕ) (past : List Event) (xs : List CpuS
     IsTurned c d t y n e (view_of f) (view_of g) → g.script ≡ f.script → IsSound s limit (e ∷ past) (set xs p.0 d) g
 taken_sound s limit past xs f g t p c d y n e i b a q h m z =
     let k : IsTurned (state_of s (cpu_at t) limit past) d t y n e (view_of f) (view_of g) = subst
-        (λ (x : CpuState). IsTurned x d t y n e (view_of f) (view_of g)) h m in
+    (λ (x : CpuState). IsTurned x d t y n e (view_of f) (view_of g)) h m in
     let o : MovesOn s limit (cpu_at t) past e d (view_of g) = moves_on s limit (cpu_at t) past t y n e d (view_of f) (view_of g) g.lanes b i.follows k refl in
     record {
       script = i.script;

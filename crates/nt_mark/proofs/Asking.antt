@@ -57,10 +57,10 @@ module _ (key : Sizes) (words : List ℕ) (views : List View) (log : List Entry)
             subst (λ (a : ℕ). IsAsked (set views id w) q d a) (sym (ap (λ (k : ℕ). get_or (set words i n) k 0) e ∙ get_or-set_same words i n 0 inside))
             (subst (λ (c : ℕ). IsAsked (set views id w) q c n) its_class (subst (λ (x : CpuNo). IsAsked (set views id w) x class n) cpu asked)))
             (λ other. subst (λ (a : ℕ). IsAsked (set views id w) q d a) (sym (get_or-set_other words i (request_word q d) n 0 other))
-                (asked_more views (set views id w) marks_stay q d (get_or words (request_word q d) 0) (r.asked q d hq hd)));
+            (asked_more views (set views id w) marks_stay q d (get_or words (request_word q d) 0) (r.asked q d hq hd)));
         each = each_set (Fits key (set words i n) (set views id w) log lists) views id w fits
             (λ j u apart g. still key words (set words i n) views (set views id w) log log lists lists up marks_stay (λ k f x. x) (λ l y b. b) u (λ k h. refl)
-                (r.each j u g));
+            (r.each j u g));
       }
 
 mark_keeps : (key : Sizes) (words : List ℕ) (views : List View) (log : List Entry) (lists : List (List Note)) (id : ℕ) (v : View) (p : CpuNo) (class n : ℕ) →
@@ -83,7 +83,7 @@ mark_keeps key words views log lists id v p class n at r inside_cpus inside_clas
     let mine : IsMarked (set views id w) m = (id, w, there views id v w at, Contains-push v.marks m) in
     word_keeps key words views log lists id v w p class b at r inside_cpus inside_classes more refl refl refl keeps_marks
     (greater (λ (k : ℕ). IsAsked (set views id w) p class k) a (n + 1)
-        (asked_more views (set views id w) marks_stay p class a (r.asked p class inside_cpus inside_classes)) (inr (n, refl, mine)))
+    (asked_more views (set views id w) marks_stay p class a (r.asked p class inside_cpus inside_classes)) (inr (n, refl, mine)))
     record {
       few = old.few;
       own = old.own;
@@ -94,7 +94,7 @@ mark_keeps key words views log lists id v p class n at r inside_cpus inside_clas
       kept = old.kept;
       reached = λ t h. ⊎_elim (λ q. let x = old.reached t q in let y = up t.word in omega arith)
           (λ (is : reached_at i (n + 1) ≡ t). subst (λ (z : Reached). z.value ≤ get_or (set words i b) z.word 0) is (omega arith))
-              (Contains-push_cases v.reached (reached_at i (n + 1)) t h);
+          (Contains-push_cases v.reached (reached_at i (n + 1)) t h);
       looks = λ l h. asked_more views (set views id w) marks_stay l.cpu l.class l.value (old.looks l h);
     }
   where
@@ -122,7 +122,7 @@ marking key slots id me p class n i k at_word is inside_cpus inside_classes drew
         h.1,
         subst (λ (j : ℕ). Keeps key (set s.words j (max (get_or s.words j 0) k)) (set s.views id w) h.0 h.1) (sym at_word)
             (subst (λ (m : ℕ). Keeps key (set s.words (request_word p class) (max (get_or s.words (request_word p class) 0) m)) (set s.views id w) h.0 h.1)
-                (sym no_wrap) kept),
+            (sym no_wrap) kept),
       ),
       (refl, refl),
     )
@@ -153,11 +153,11 @@ look_keeps key words views log lists id v p class at r inside_cpus inside_classe
       reached = λ t h. ⊎_elim (λ q. let x = old.reached t q in let y = up t.word in omega arith)
           (λ q. ⊎_elim (λ (is : t ≡ reached_at i a). subst (λ (z : Reached). z.value ≤ get_or (set words i a) z.word 0) (sym is) (omega arith))
           (λ q2. subst (λ (z : Reached). z.value ≤ get_or (set words i a) z.word 0) (sym (only (reached_at step_word a) t q2)) (omega arith))
-              (first_or_rest (reached_at i a) (reached_at step_word a ∷ []) t q))
+          (first_or_rest (reached_at i a) (reached_at step_word a ∷ []) t q))
           (Contains-append_cases v.reached (reached_at i a ∷ reached_at step_word a ∷ []) t h);
       looks = λ l h. ⊎_elim (λ q. asked_more views (set views id w) marks_stay l.cpu l.class l.value (old.looks l q))
           (λ (is : look_of p class a ≡ l). subst (λ (z : Look). IsAsked (set views id w) z.cpu z.class z.value) is asked)
-              (Contains-push_cases v.looks (look_of p class a) l h);
+          (Contains-push_cases v.looks (look_of p class a) l h);
     }
 
 pub looking : {S : Type 0} (key : Sizes) (slots id : ℕ) (me : Me S View) (p : CpuNo) (class i : ℕ) → i ≡ request_word p class → p.0 < key.cpus → class ≤ 15

@@ -31,15 +31,18 @@ marks_cut : (views : List View) (id : ℕ) (v left right : View) → get_elem? v
     IsMarked (set views id left ++ right ∷ []) m
 marks_cut views id v left right at same t m = dite (ℕ_discrete m.0 id)
     (λ e.
-    let is : v ≡ m.1 = some-injective v m.1 (sym at ∙ subst (λ (k : ℕ). get_elem? views k ≡ some m.1) e m.2) in
-    (id, left, get_front (set views id left) (right ∷ []) id left (there views id v left at),
-        subst (λ (l : List Mark). Contains l t) (sym same) (subst (λ (u : View). Contains u.marks t) (sym is) m.3)))
+    let is : v ≡ m.1 = some-injective v m.1 (sym at ∙ subst (λ (k : ℕ). get_elem? views k ≡ some m.1) e m.2) in (
+      id,
+      left,
+      get_front (set views id left) (right ∷ []) id left (there views id v left at),
+      subst (λ (l : List Mark). Contains l t) (sym same) (subst (λ (u : View). Contains u.marks t) (sym is) m.3),
+    ))
     (λ other. (m.0, m.1, get_front (set views id left) (right ∷ []) m.0 m.1 (set_else views id m.0 left other ∙ m.2), m.3))
 
 module _ (key : Sizes) (words : List ℕ) (views : List View) (log : List Entry) (lists : List (List Note)) (id : ℕ) (v : View) (p q : ℕ) (ks ms : List LaneList)
     (at : get_elem? views id ≡ some v) (r : Keeps key words views log lists) (parts : p + q ≡ v.parts) (few : length v.entries ≤ key.limit * p)
     (lanes : (h : LaneList → ℕ) → sum_by h ks + sum_by h ms ≡ sum_by h v.kept) (in_ks : (k : LaneList) → Contains ks k → Contains v.kept k)
-        (in_ms : (k : LaneList) → Contains ms k → Contains v.kept k) where
+    (in_ms : (k : LaneList) → Contains ms k → Contains v.kept k) where
   cut_keeps : Keeps key words (set views id (keeping v p ks) ++ telling v q ms ∷ []) log lists
   cut_keeps =
       let left = keeping v p ks in
@@ -92,19 +95,31 @@ module _ (key : Sizes) (words : List ℕ) (views : List View) (log : List Entry)
 -- a new seat gets some of the parts
 pub splitting : {S : Type 0} (key : Sizes) (id : ℕ) (v : View) (p q : ℕ) → p + q ≡ v.parts → length v.entries ≤ key.limit * p →
     Splits (Holds {S = S} key) id v (keeping v p v.kept) (telling v q [])
-splitting key id v p q parts few s h at = (h.0, h.1, cut_keeps key s.words s.views h.0 h.1 id v p q v.kept [] at h.2 parts few (λ f. omega arith) (λ k x. x)
-    (λ k x. absurd (in_none k x)))
+splitting key id v p q parts few s h at = (
+  h.0,
+  h.1,
+  cut_keeps key s.words s.views h.0 h.1 id v p q v.kept [] at h.2 parts few (λ f. omega arith) (λ k x. x)
+      (λ k x. absurd (in_none k x)),
+)
 
 -- a new seat is told all that another knows: nothing else changes
 pub telling_all : {S : Type 0} (key : Sizes) (id : ℕ) (v : View) → Splits (Holds {S = S} key) id v v (telling v 0 [])
-telling_all key id v s h at = (h.0, h.1, cut_keeps key s.words s.views h.0 h.1 id v v.parts 0 v.kept [] at h.2 (omega arith) (h.2.each id v at).few
-    (λ f. omega arith) (λ k x. x) (λ k x. absurd (in_none k x)))
+telling_all key id v s h at = (
+  h.0,
+  h.1,
+  cut_keeps key s.words s.views h.0 h.1 id v v.parts 0 v.kept [] at h.2 (omega arith) (h.2.each id v at).few
+      (λ f. omega arith) (λ k x. x) (λ k x. absurd (in_none k x)),
+)
 
 -- a new seat gets the lane that another keeps first
 pub giving_lane : {S : Type 0} (key : Sizes) (id : ℕ) (v : View) →
     Splits (Holds {S = S} key) id v (keeping v v.parts (other_kept v.kept)) (telling v 0 (first_kept v.kept))
-giving_lane key id v s h at = (h.0, h.1, cut_keeps key s.words s.views h.0 h.1 id v v.parts 0 (other_kept v.kept) (first_kept v.kept) at h.2 (omega arith)
-    (h.2.each id v at).few (sums v.kept) (others v.kept) (firsts v.kept))
+giving_lane key id v s h at = (
+  h.0,
+  h.1,
+  cut_keeps key s.words s.views h.0 h.1 id v v.parts 0 (other_kept v.kept) (first_kept v.kept) at h.2 (omega arith)
+      (h.2.each id v at).few (sums v.kept) (others v.kept) (firsts v.kept),
+)
   where
     sums : (ks : List LaneList) (f : LaneList → ℕ) → sum_by f (other_kept ks) + sum_by f (first_kept ks) ≡ sum_by f ks
     sums [] f = refl
@@ -132,7 +147,7 @@ marks_met : (views : List View) (id other : ℕ) (v w : View) → get_elem? view
 marks_met views id other v w at apart at2 t m =
     let b = both v w in
     let first : get_elem? (set (set views id b) other spent) id ≡ some b = set_else (set views id b) other id spent (λ e. apart (sym e))
-        ∙ there views id v b at in
+    ∙ there views id v b at in
     dite (ℕ_discrete m.0 id)
     (λ e.
     let is : v ≡ m.1 = some-injective v m.1 (sym at ∙ subst (λ (k : ℕ). get_elem? views k ≡ some m.1) e m.2) in

@@ -143,11 +143,11 @@ draw_keeps key words views log lists id v e ls room at r =
             kept = old.kept;
             reached = λ t h. ⊎_elim (λ p. let a = old.reached t p in let b = up t.word in omega arith)
                 (λ (is : reached_at step_word (n + 1) ≡ t). subst (λ (z : Reached). z.value ≤ get_or (set words 0 (n + 1)) z.word 0) is (omega arith))
-                    (Contains-push_cases v.reached (reached_at step_word (n + 1)) t h);
+                (Contains-push_cases v.reached (reached_at step_word (n + 1)) t h);
             looks = λ l h. asked_more views (set views id w) marks_stay l.cpu l.class l.value (old.looks l h);
           }
           (λ j u apart g. still key words (set words 0 (n + 1)) views (set views id w) log (log ++ x ∷ []) lists lists up marks_stay log_stays (λ l y b. b) u
-              (λ k h. refl) (r.each j u g));
+          (λ k h. refl) (r.each j u g));
     }
 
 pub draws : {S : Type 0} (key : Sizes) (slots id : ℕ) (me : Me S View) (e : Event) (ls : List ℕ) (most : ℕ) → length me.0.entries < key.limit * me.0.parts →
@@ -163,7 +163,7 @@ draws key slots id me e ls most room is s h count at small =
     let kept = draw_keeps key s.words s.views h.0 h.1 id me.0 e ls room at r in
     let mine = r.each id me.0 at in
     let looks_below : (l : Look) → Contains me.0.looks l →
-        l.value ≤ n = λ l has. asked_below key s.words s.views h.0 h.1 r l.cpu l.class l.value (mine.looks l has) in (
+    l.value ≤ n = λ l has. asked_below key s.words s.views h.0 h.1 r l.cpu l.class l.value (mine.looks l has) in (
       w,
       keeps,
       tt,

@@ -47,10 +47,10 @@ whole key words views log lists r id v at parts lanes =
     none_left u.kept (omega arith) in
     let drawn_by : (h : ℕ → ℕ) → sum_by (λ (e : Entry). h e.number) v.entries ≡ sum_below h (length log) = λ h.
     sym (sum_only (λ (u : View). sum_by (λ (e : Entry). h e.number) u.entries) views id v at
-        (λ j u ne g. ap (sum_by (λ (e : Entry). h e.number)) (none_drawn j u ne g))) ∙ r.drawn_once h in
+    (λ j u ne g. ap (sum_by (λ (e : Entry). h e.number)) (none_drawn j u ne g))) ∙ r.drawn_once h in
     let kept_by : (h : ℕ → ℕ) → sum_by (λ (k : LaneList). h k.lane) v.kept ≡ sum_below h key.lanes = λ h.
     sym (sum_only (λ (u : View). sum_by (λ (k : LaneList). h k.lane) u.kept) views id v at
-        (λ j u ne g. ap (sum_by (λ (k : LaneList). h k.lane)) (none_kept j u ne g))) ∙ r.kept_once h in
+    (λ j u ne g. ap (sum_by (λ (k : LaneList). h k.lane)) (none_kept j u ne g))) ∙ r.kept_once h in
     let owned : (e : Entry) → get_elem? log e.number ≡ some e → Contains v.entries e = λ e g.
     let d = drawn_by (at_one e.number) in
     let o = one_at e.number (length log) (get_below log e.number e g) in
@@ -59,7 +59,7 @@ whole key words views log lists r id v at parts lanes =
     subst (λ (z : Entry). Contains v.entries z) same f.1 in
     let my_mark : (m : Mark) → IsMarked views m → Contains v.marks m = λ t m. dite (ℕ_discrete m.0 id)
     (λ e. let is : v ≡ m.1 = some-injective v m.1 (sym at ∙ subst (λ (k : ℕ). get_elem? views k ≡ some m.1) e m.2) in
-        subst (λ (u : View). Contains u.marks t) (sym is) m.3)
+    subst (λ (u : View). Contains u.marks t) (sym is) m.3)
     (λ ne. let e = (r.each m.0 m.1 m.2).marks t m.3 in absurd (in_none e.0 (subst (λ (q : List Entry). Contains q e.0) (none_drawn m.0 m.1 ne m.2) e.1))) in
     record {
       drawn_once = λ h. drawn_by h ∙ ap (sum_below h) (sym r.steps);

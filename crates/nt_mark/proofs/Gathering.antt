@@ -69,7 +69,7 @@ module _ {A : Type 0} (f : View → List A) (adds : (a b : View) → f (both a b
       Contains (f (seats p others keepers)) x
   in_all p others keepers w x at h = ⊎_elim
       (λ e. in_gathered (passes p others) (keeper_views keepers) x
-          (in_gathered (pass_view p) (pass_views others) x (subst (λ (z : View). Contains (f z) x) e h)))
+      (in_gathered (pass_view p) (pass_views others) x (subst (λ (z : View). Contains (f z) x) e h)))
       (λ r. ⊎_elim
       (λ a. in_gathered (passes p others) (keeper_views keepers) x (other_in_gathered (pass_view p) (pass_views others) w x a h))
       (λ b. other_in_gathered (passes p others) (keeper_views keepers) w x b h)
@@ -129,9 +129,13 @@ list_of v [] k h = absurd (in_none k h)
 list_of v (x ∷ ks) k h = ⊎_elim
     (λ e.
     let m = its_list x in
-    let has : Contains (keeper_view x).kept m.0 = subst (λ (l : List LaneList). Contains l m.0) (sym m.1) (in_first m.0 []) in
-    (m.0, Contains-append_right (gathered v (keeper_views ks)).kept (keeper_view x).kept m.0 has, m.2 ∙ ap (λ (y : Keeper). y.lane) (sym e), m.3
-        ∙ ap keeper_notes (sym e)))
+    let has : Contains (keeper_view x).kept m.0 = subst (λ (l : List LaneList). Contains l m.0) (sym m.1) (in_first m.0 []) in (
+      m.0,
+      Contains-append_right (gathered v (keeper_views ks)).kept (keeper_view x).kept m.0 has,
+      m.2 ∙ ap (λ (y : Keeper). y.lane) (sym e),
+      m.3
+          ∙ ap keeper_notes (sym e),
+    ))
     (λ r. let m = list_of v ks k r in (m.0, Contains-append_left (gathered v (keeper_views ks)).kept (keeper_view x).kept m.0 m.1, m.2, m.3))
     (first_or_rest x ks k h)
 
@@ -182,7 +186,7 @@ ends lanes p others keepers count w =
     let ms = marks_stay v keepers in
     let ls = looks_stay v keepers in
     let drawn : (h : ℕ → ℕ) → sum_by (λ (e : Entry). h e.number) v.entries ≡ sum_below h count = λ h. ap (sum_by (λ (e : Entry). h e.number)) (sym es)
-        ∙ w.drawn_once h in
+    ∙ w.drawn_once h in
     record {
       count_is = let a = drawn (λ _. 1) in let b = sum_ones v.entries in let c = ones_below count in omega arith;
       each_once = once_below (entry_numbers v.entries) count (λ h. sum_map h (λ (e : Entry). e.number) v.entries ∙ drawn h);
@@ -197,7 +201,7 @@ ends lanes p others keepers count w =
           (o.0, subst (λ (l : List Entry). Contains l o.0) es o.1, o.2, subst (λ (x : ℕ). Contains o.0.lanes x) m.2 o.3)));
       known = each_of (λ (u : View). All (Contains v.entries) u.known) views
           (λ u at. each_of (Contains v.entries) u.known (λ e h. subst (λ (l : List Entry). Contains l e) es
-              (w.known e (in_all (λ (z : View). z.known) (λ a b. refl) p others keepers u e at h))));
+          (w.known e (in_all (λ (z : View). z.known) (λ a b. refl) p others keepers u e at h))));
       prefixes = each_of (λ (u : View). All (IsOfKeeper keepers) u.prefixes) views
           (λ u at. each_of (IsOfKeeper keepers) u.prefixes
           (λ q h.
@@ -206,8 +210,12 @@ ends lanes p others keepers count w =
           (k.0, k.1, k.2 ∙ m.2, subst (λ (l : List Note). IsBeginning q.notes l) (sym k.3) m.3)));
       looks = each_of (WasAsked v) v.looks
           (λ l h. ⊎_elim (λ z. inl z)
-          (λ s. inr (s.0, s.1, subst (λ (q : List Mark). Contains q (mark_of l.cpu l.class s.0)) ms s.2,
-              (s.3.0, subst (λ (q : List Entry). Contains q s.3.0) es s.3.1, s.3.2)))
+          (λ s. inr (
+            s.0,
+            s.1,
+            subst (λ (q : List Mark). Contains q (mark_of l.cpu l.class s.0)) ms s.2,
+            (s.3.0, subst (λ (q : List Entry). Contains q s.3.0) es s.3.1, s.3.2),
+          ))
           (w.looks l (subst (λ (q : List Look). Contains q l) (sym ls) h)));
     }
 

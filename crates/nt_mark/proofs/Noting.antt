@@ -22,7 +22,7 @@ use Rattle.nt_mark.proofs.Drawing.{marks_set, asked_more, still, each_set, log_b
 -- a lane that one view keeps is kept by no other
 pub kept_apart : (key : Sizes) (words : List ℕ) (views : List View) (log : List Entry) (lists : List (List Note)) → Keeps key words views log lists
     → (i j : ℕ) (v w : View) → get_elem? views i ≡ some v → get_elem? views j ≡ some w → i ≢ j → (k m : LaneList) → Contains v.kept k → Contains w.kept m →
-        k.lane ≢ m.lane
+    k.lane ≢ m.lane
 kept_apart key words views log lists r i j v w e g ne k m hk hm same =
     let x = k.lane in
     let f : View → ℕ = λ u. sum_by (λ (q : LaneList). at_one x q.lane) u.kept in
@@ -99,7 +99,7 @@ list_bound (x ∷ xs) n r h =
 note_keeps : (key : Sizes) (words : List ℕ) (views : List View) (log : List Entry) (lists : List (List Note)) (id : ℕ) (v : View) (k : LaneList) (x : Note) →
     get_elem? views id ≡ some v
     → Keeps key words views log lists → v.kept ≡ k ∷ [] → IsAbove x.number k.notes →
-        ((e : Entry) × Contains (known_entries v) e × (e.number ≡ x.number) × Contains e.lanes k.lane)
+    ((e : Entry) × Contains (known_entries v) e × (e.number ≡ x.number) × Contains e.lanes k.lane)
     → let i = lane_word key.cpus k.lane in Keeps key (set words i (get_or words i 0 + 1)) (set views id (noted v x)) log (set lists k.lane (k.notes ++ x ∷ []))
 note_keeps key words views log lists id v k x at r keeps_one above drew =
     let i = lane_word key.cpus k.lane in
@@ -134,17 +134,17 @@ note_keeps key words views log lists id v k x at r keeps_one above drew =
       lane_words = λ y l. dite (ℕ_discrete y k.lane)
           (λ e. subst (λ (q : ℕ). get_or (set words i n) (lane_word key.cpus q) 0 ≡ length (get_or lists2 q [])) (sym e)
           (get_or-set_same words i n 0 inside ∙ (let a = r.lane_words k.lane kept_k.0 in let b = length-append k.notes (x ∷ []) in
-              let c : length (get_or lists k.lane []) ≡ length k.notes = ap length (sym kept_k.1) in let d : length (get_or lists2 k.lane [])
-              ≡ length (k.notes ++ x ∷ []) = ap length here in omega arith)))
+          let c : length (get_or lists k.lane []) ≡ length k.notes = ap length (sym kept_k.1) in let d : length (get_or lists2 k.lane [])
+          ≡ length (k.notes ++ x ∷ []) = ap length here in omega arith)))
           (λ ne. get_or-set_other words i (lane_word key.cpus y) n 0 (λ e. ne (omega arith))
-              ∙ (r.lane_words y l ∙ ap length (sym (get_or-set_other lists k.lane y (k.notes ++ x ∷ []) [] ne))));
+          ∙ (r.lane_words y l ∙ ap length (sym (get_or-set_other lists k.lane y (k.notes ++ x ∷ []) [] ne))));
       all_lists = length-set lists k.lane (k.notes ++ x ∷ []) ∙ r.all_lists;
       rise = λ y l. dite (ℕ_discrete y k.lane)
           (λ e. subst (λ (q : ℕ). IsStrictlyIncreasing (note_numbers (get_or lists2 q []))) (sym e)
           (subst (λ (q : List Note). IsStrictlyIncreasing (note_numbers q)) (sym here)
-              (rises_push k.notes x (subst (λ (q : List Note). IsStrictlyIncreasing (note_numbers q)) (sym kept_k.1) (r.rise k.lane kept_k.0)) above)))
+          (rises_push k.notes x (subst (λ (q : List Note). IsStrictlyIncreasing (note_numbers q)) (sym kept_k.1) (r.rise k.lane kept_k.0)) above)))
           (λ ne. subst (λ (q : List Note). IsStrictlyIncreasing (note_numbers q)) (sym (get_or-set_other lists k.lane y (k.notes ++ x ∷ []) [] ne))
-              (r.rise y l));
+          (r.rise y l));
       of_entries = λ y m l h. dite (ℕ_discrete y k.lane)
           (λ e.
           let h2 : Contains (k.notes ++ x ∷ []) m = subst (λ (q : List Note). Contains q m) here (subst (λ (q : ℕ). Contains (get_or lists2 q []) m) e h) in
@@ -168,7 +168,7 @@ note_keeps key words views log lists id v k x at r keeps_one above drew =
           }
           (λ j u apart g. still key words (set words i n) views (set views id w) log log lists lists2 up marks_stay (λ q f z. z) grow u
           (λ q h. get_or-set_other lists k.lane q.lane (k.notes ++ x ∷ []) [] (kept_apart key words views log lists r j id u v g at apart q k h has_k))
-              (r.each j u g));
+          (r.each j u g));
     }
 
 -- the one list that is kept, by its lane and its word
@@ -193,7 +193,7 @@ noting key slots id me k x i is_word keeps_one above drew s h count at small =
     let same : length (get_or h.1 k.lane []) ≡ length k.notes = ap length (sym kept_k.1) in
     let bound = log_bound key s.words s.views h.0 h.1 r in
     let long = list_bound (get_or h.1 k.lane []) (length h.0) (r.rise k.lane kept_k.0)
-        (λ y m. let o = r.of_entries k.lane y kept_k.0 m in let b = get_below h.0 o.0.number o.0 o.1 in let c = o.2 in omega arith) in
+    (λ y m. let o = r.of_entries k.lane y kept_k.0 m in let b = get_below h.0 o.0.number o.0 o.1 in let c = o.2 in omega arith) in
     let n = get_or s.words i 0 in
     let here : n ≡ get_or s.words i2 0 = ap (λ (j : ℕ). get_or s.words j 0) is in
     let no_wrap : (n + 1) % 18446744073709551616 ≡ get_or s.words i2 0 + 1 = let b = r.small in omega arith in

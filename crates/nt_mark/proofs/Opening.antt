@@ -125,4 +125,4 @@ AreNewKeepers-push table ks k all new x d lt =
     dite (ℕ_discrete x (length ks))
     (λ e. subst (λ (z : Keeper). IsNewKeeper table x z) (sym (get_or_push ks k d x (sym e))) (subst (λ (y : ℕ). IsNewKeeper table y k) (sym e) new))
     (λ ne. let below : x < length ks = omega arith in subst (λ (z : Keeper). IsNewKeeper table x z) (sym (get_or_append_left ks (k ∷ []) d x below))
-        (all x d below))
+    (all x d below))

@@ -160,4 +160,4 @@ pub with_number : {A : Type 0} (number : A → ℕ) (n : ℕ) (xs : List A) → 
 with_number number n [] h = absurd (in_none n h)
 with_number number n (x ∷ xs) h =
     ⊎_elim (λ e. (x, in_first x xs, sym e)) (λ r. let a = with_number number n xs r in (a.0, in_rest x xs a.0 a.1, a.2))
-        (first_or_rest (number x) (map number xs) n h)
+    (first_or_rest (number x) (map number xs) n h)

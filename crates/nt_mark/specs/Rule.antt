@@ -112,8 +112,16 @@ empty_lists cpus lane (suc n) = record { lane = lane; word = lane_word cpus lane
 
 -- the first seat has all parts and keeps all lanes
 abbrev pub opening_view : Sizes → View
-opening_view key = record { parts = key.parts; kept = empty_lists key.cpus 0 key.lanes; entries = []; marks = [];
-    looks = []; reached = []; known = []; prefixes = [] }
+opening_view key = record {
+  parts = key.parts;
+  kept = empty_lists key.cpus 0 key.lanes;
+  entries = [];
+  marks = [];
+  looks = [];
+  reached = [];
+  known = [];
+  prefixes = [];
+}
 
 abbrev pub no_table : TableId
 no_table = record { words = 0; slots = 0; views_name = 0; atom = 0; block = 0; offset = 0; slot_names = [] }

@@ -101,9 +101,10 @@ which words so sn bytes exit.Ok text form s f =
     (subst (λ (xs : List ℕ). length xs ≤ input_limit) same f.1.1.few, subst (λ (xs : List ℕ). refusal xs ≡ None) same (run_refuses_none f.1.0 text f.1.2))
 which words so sn bytes exit.Usage text form s f = absurd (f.0 form)
 which words so sn bytes exit.Script text form s f =
-    let same : f.1.0 ≡ bytes = gave_told f.1.0 bytes so sn f.1.1 s in
-    (subst (λ (xs : List ℕ). length xs ≤ input_limit) same f.1.1.few,
-        subst (λ (xs : List ℕ). IsSome (refusal xs)) same (is_some_of (refusal f.1.0) _ f.1.2.1.1))
+    let same : f.1.0 ≡ bytes = gave_told f.1.0 bytes so sn f.1.1 s in (
+      subst (λ (xs : List ℕ). length xs ≤ input_limit) same f.1.1.few,
+      subst (λ (xs : List ℕ). IsSome (refusal xs)) same (is_some_of (refusal f.1.0) _ f.1.2.1.1),
+    )
 which words so sn bytes exit.Schedule text form s f = absurd f.1.2
 which words so sn bytes exit.Read text form s f = absurd (s.no_fault f.1)
 which words so sn bytes exit.Write text form s f = absurd f.1.2
@@ -154,8 +155,11 @@ causes words so sn ko kn status a =
     let at = λ (wanted : Status) (other : status ≢ exit.Write) (e : status ≡ wanted). found_as words so sn ko kn status wanted a other e in
     let same = λ (other : status ≢ exit.Write). found_unless status a.found a.text ko kn a.written other in
     record {
-      usage = record { only = λ e. (at exit.Usage (λ w. cc) e).1.0; always = λ none memory write. same write
-          ∙ usage_else words so sn a.found a.text none a.cause };
+      usage = record {
+        only = λ e. (at exit.Usage (λ w. cc) e).1.0;
+        always = λ none memory write. same write
+            ∙ usage_else words so sn a.found a.text none a.cause;
+      };
       read = λ e. (at exit.Read (λ w. cc) e).1.1;
       many = λ e. (at exit.TooLong (λ w. cc) e).1.2;
       few = λ long write. few_else words so sn a.found a.text a.cause (λ e. long (same write ∙ e));

@@ -11,8 +11,6 @@ use nt_outside::{Gate, ReadRefusal, Sink, Source, WriteFault, read_all, write_al
 use nt_text::INPUT_LIMIT;
 use std::alloc::Global;
 
-
-
 fn line(status: Status, text: &'static str) -> Answer
     ensures status { result.status ≡ status }
     ensures text { text_of result.text ≡ text.now }

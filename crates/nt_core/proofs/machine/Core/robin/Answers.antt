@@ -12,8 +12,8 @@ returns-then-is_some c =
     let i = c.loop.counter in
     let e : s.script.cpus - i ≡ suc (s.script.cpus - (i + 1)) = omega (arith, n, t) in
     sym (c.loop.invariant.rest ∙ (ap (λ (k : ℕ). robin_from s.script s.limit k c.loop.p s.past) e
-        ∙ robin_here s.script s.limit (s.script.cpus - (i + 1)) c.loop.p s.past c.robin_of-turn.result (sym c.robin_of-turn.ensures)
-        (sym c.is_some.ensures ∙ c.if-is_some.true)))
+    ∙ robin_here s.script s.limit (s.script.cpus - (i + 1)) c.loop.p s.past c.robin_of-turn.result (sym c.robin_of-turn.ensures)
+    (sym c.is_some.ensures ∙ c.if-is_some.true)))
 
 pub loop-preserved : goal.loop-preserved
 loop-preserved c =

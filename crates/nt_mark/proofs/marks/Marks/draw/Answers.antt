@@ -11,7 +11,7 @@ pub returns-clause-numbers : goal.returns-clause-numbers
 returns-clause-numbers c =
     let v = pass_view c.args.pass.now in
     ap (λ (u : View). entry_numbers u.entries) c.draw_as.ensures.tells.1
-        ∙ map-append (λ (e : Entry). e.number) v.entries (entry c.draw_as.result c.args.event.now c.args.lanes.now ∷ [])
+    ∙ map-append (λ (e : Entry). e.number) v.entries (entry c.draw_as.result c.args.event.now c.args.lanes.now ∷ [])
 
 pub returns-clause-knows : goal.returns-clause-knows
 returns-clause-knows c =

@@ -19,5 +19,5 @@ returns-clause-step c = ap (reach step_word) c.look_as.ensures.tells.1
 pub returns-clause-others : goal.returns-clause-others
 returns-clause-others c =
     λ u ne ne_step. ap (reach u) c.look_as.ensures.tells.1
-        ∙ two_other u (request_word c.args.p c.args.class) step_word c.look_as.result (pass_view c.args.pass.now).reached (λ e. ne (sym e))
-        (λ e. ne_step (sym e))
+    ∙ two_other u (request_word c.args.p c.args.class) step_word c.look_as.result (pass_view c.args.pass.now).reached (λ e. ne (sym e))
+    (λ e. ne_step (sym e))
