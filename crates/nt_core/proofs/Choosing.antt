@@ -37,7 +37,9 @@ same_values x f g h =
     table-same 16 (look_value x f) (look_value x g) (λ k b. ap (λ (n : ℕ). if nat_lt (value_at x.seen k) n then n else 0) (h k b))
 
 -- the rule's turn of an uncut processor is what the processor and the floor give
-pub robin_found : (s : Script) (limit : ℕ) (p : CpuNo) (past : List Event) (c : CpuState) (f : PlainState) → p.0 < s.cpus → Follows s past (view_of f) → f.script ≡ s → c ≡ state_of s p limit past → is_cut limit (own_of s p past) ≡ false → robin_at f.script p c.own f.lanes ((view_of f).value p) ≡ robin_of s limit p past
+pub robin_found : (s : Script) (limit : ℕ) (p : CpuNo) (past : List Event) (c : CpuState) (f : PlainState) → p.0 < s.cpus → Follows s past (view_of f) →
+    f.script ≡ s → c ≡ state_of s p limit past → is_cut limit (own_of s p past) ≡ false → robin_at f.script p c.own f.lanes ((view_of f).value p)
+    ≡ robin_of s limit p past
 robin_found s limit p past c f b h e k u =
     let lanes : f.lanes ≡ lanes_at s past = (let i : ◌≡◌ {A = Option Lanes} (Some f.lanes) (Some (lanes_at s past)) = h.states in cc) in
     let own : c.own ≡ own_of s p past = ap (λ (x : CpuState). x.own) k in
@@ -55,11 +57,13 @@ robin_cut s limit p past u = ap (λ (z : Bool). when (not z) (robin_at s p (own_
 -- ---- the cycle
 
 -- the first of n processors has no turn
-pub robin_next : (s : Script) (limit n p : ℕ) (past : List Event) → robin_of s limit (cpu p) past ≡ None → robin_from s limit (suc n) p past ≡ robin_from s limit n (next_cpu s p) past
+pub robin_next : (s : Script) (limit n p : ℕ) (past : List Event) → robin_of s limit (cpu p) past ≡ None → robin_from s limit (suc n) p past
+    ≡ robin_from s limit n (next_cpu s p) past
 robin_next s limit n p past h = ap (λ (o : Option Turn). option_or o (robin_from s limit n (next_cpu s p) past)) h
 
 -- it has one
-pub robin_here : (s : Script) (limit n p : ℕ) (past : List Event) (o : Option Turn) → robin_of s limit (cpu p) past ≡ o → is_some o ≡ true → robin_from s limit (suc n) p past ≡ o
+pub robin_here : (s : Script) (limit n p : ℕ) (past : List Event) (o : Option Turn) → robin_of s limit (cpu p) past ≡ o → is_some o ≡ true →
+    robin_from s limit (suc n) p past ≡ o
 robin_here s limit n p past (Some t) h i = ap (λ (o : Option Turn). option_or o (robin_from s limit n (next_cpu s p) past)) h
 robin_here s limit n p past None h i = absurd cc
 
@@ -67,13 +71,15 @@ not_some : (o : Option Turn) → is_some o ≡ false → o ≡ None
 not_some None h = refl
 not_some (Some t) h = absurd cc
 
-pub robin_none : (s : Script) (limit n p : ℕ) (past : List Event) (o : Option Turn) → o ≡ robin_of s limit (cpu p) past → is_some o ≡ false → robin_from s limit (suc n) p past ≡ robin_from s limit n (next_cpu s p) past
+pub robin_none : (s : Script) (limit n p : ℕ) (past : List Event) (o : Option Turn) → o ≡ robin_of s limit (cpu p) past → is_some o ≡ false →
+    robin_from s limit (suc n) p past ≡ robin_from s limit n (next_cpu s p) past
 robin_none s limit n p past o h i = robin_next s limit n p past (sym h ∙ not_some o i)
 
 -- ---- settled
 
 -- the rule has no turn exactly where the history is settled
-pub settled_none : (s : Script) (limit : ℕ) (past : List Event) (o : Option Turn) (b : Bool) → IsRun s limit past → o ≡ robin s limit past → is_some o ≡ not b → b ≡ is_settled s limit past
+pub settled_none : (s : Script) (limit : ℕ) (past : List Event) (o : Option Turn) (b : Bool) → IsRun s limit past → o ≡ robin s limit past → is_some o
+    ≡ not b → b ≡ is_settled s limit past
 settled_none s limit past o true r h i = sym ((robin_ends_settled s limit past r).0 (sym h ∙ not_some o i))
 settled_none s limit past o false r h i = go (is_settled s limit past) refl
   where
@@ -85,5 +91,6 @@ settled_none s limit past o false r h i = go (is_settled s limit past) refl
         absurd cc
 
 -- the rule's turn is not refused
-pub never_refused : (s : Script) (limit : ℕ) (past : List Event) (t : Turn) (k : ScheduleKind) → IsRun s limit past → robin s limit past ≡ Some t → step s limit t past ≡ Err k → ⊥
+pub never_refused : (s : Script) (limit : ℕ) (past : List Event) (t : Turn) (k : ScheduleKind) → IsRun s limit past → robin s limit past ≡ Some t →
+    step s limit t past ≡ Err k → ⊥
 never_refused s limit past t k r h e = let a = robin_accepted s limit past t r h in cc

@@ -22,7 +22,8 @@ unfolding made_below
 none_made zero = refl
 none_made (suc n) = let r = none_made n in omega (arith, r)
 
-step_made : (n : ℕ) (e : Event) (past : List Event) (b : Bool) → is_of e (cpu n) ≡ b → made (cpu n) (e ∷ past) ≡ (if b then made (cpu n) past + 1 else made (cpu n) past)
+step_made : (n : ℕ) (e : Event) (past : List Event) (b : Bool) → is_of e (cpu n) ≡ b → made (cpu n) (e ∷ past)
+    ≡ (if b then made (cpu n) past + 1 else made (cpu n) past)
 step_made n e past b h = ap (λ (b : Bool). if b then made (cpu n) past + 1 else made (cpu n) past) h
 
 not_made : (n : ℕ) (e : Event) (past : List Event) → n ≤ e.cpu.0 → made_below n (e ∷ past) ≡ made_below n past
@@ -39,7 +40,8 @@ unfolding made_below
 one_made zero e past h = absurd (omega (arith, h))
 one_made (suc n) e past h = go (is_of e (cpu n)) refl (λ c. one_made n e past c)
   where
-    go : (b : Bool) → is_of e (cpu n) ≡ b → (e.cpu.0 < n → made_below n (e ∷ past) ≡ suc (made_below n past)) → made_below (suc n) (e ∷ past) ≡ suc (made_below (suc n) past)
+    go : (b : Bool) → is_of e (cpu n) ≡ b → (e.cpu.0 < n → made_below n (e ∷ past) ≡ suc (made_below n past)) → made_below (suc n) (e ∷ past)
+        ≡ suc (made_below (suc n) past)
     go true k ih =
         let c : e.cpu.0 ≡ n = grind (arith, nat_tests) in
         let m = step_made n e past true k in
@@ -62,7 +64,8 @@ uncut_below s limit p past h =
 
 maker_below : (s : Script) (limit : ℕ) (e : Event) (past : List Event) → IsLegal s limit e past → made e.cpu past < limit
 maker_below s limit e past h =
-    uncut_below s limit e.cpu past (subst (λ (q : CpuNo). is_cut limit (own_of s q past) ≡ false) (cpu_at-turn_at e.cpu e.what) (step_uncut s limit (turn_of e) past e h).1)
+    uncut_below s limit e.cpu past (subst (λ (q : CpuNo). is_cut limit (own_of s q past) ≡ false) (cpu_at-turn_at e.cpu e.what)
+    (step_uncut s limit (turn_of e) past e h).1)
 
 made_limit : (s : Script) (limit : ℕ) (p : CpuNo) (past : List Event) → IsRun s limit past → made p past ≤ limit
 made_limit s limit p [] r = omega arith
@@ -105,7 +108,8 @@ run_bounded s limit past r =
     omega (arith, c, a)
 
 -- and less, where one of them may make another
-pub uncut_room : (s : Script) (limit : ℕ) (p : CpuNo) (past : List Event) → IsRun s limit past → p.0 < s.cpus → is_cut limit (own_of s p past) ≡ false → length past < s.cpus * limit
+pub uncut_room : (s : Script) (limit : ℕ) (p : CpuNo) (past : List Event) → IsRun s limit past → p.0 < s.cpus → is_cut limit (own_of s p past) ≡ false →
+    length past < s.cpus * limit
 uncut_room s limit p past r b h =
     let c = count s limit past r in
     let a = room_below s.cpus limit p.0 past (λ q. made_limit s limit (cpu q) past r) b (uncut_below s limit p past h) in

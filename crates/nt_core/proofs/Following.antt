@@ -40,10 +40,12 @@ same_test v n h = grind (arith, nat_tests)
 pub asked_number : (s : Script) (q : CpuNo) (k v : ℕ) (past : List Event) → v ≢ 0 → asks_at s (v - 1) q k past ≡ was_asked s q k v past
 asked_number s q k v [] h = refl
 asked_number s q k v (e ∷ past) h =
-    swap (asks_at s (v - 1) q k past) (((v - 1) == length past) && asks s q k e past) ((v == length past + 1) && asks s q k e past) (ap (λ (b : Bool). b && asks s q k e past) (same_test v (length past) h))
+    swap (asks_at s (v - 1) q k past) (((v - 1) == length past) && asks s q k e past) ((v == length past + 1) && asks s q k e past)
+    (ap (λ (b : Bool). b && asks s q k e past) (same_test v (length past) h))
     ∙ ap (λ (b : Bool). ((v == length past + 1) && asks s q k e past) || b) (asked_number s q k v past h)
 
-one_value : (s : Script) (past : List Event) (w : View) (p : CpuNo) (k x : ℕ) → Follows s past w → p.0 < s.cpus → k < 16 → ((x == 0) || w.marked (x - 1) p k) ≡ ((x == 0) || was_asked s p k x past)
+one_value : (s : Script) (past : List Event) (w : View) (p : CpuNo) (k x : ℕ) → Follows s past w → p.0 < s.cpus → k < 16 → ((x == 0) || w.marked (x - 1) p k)
+    ≡ ((x == 0) || was_asked s p k x past)
 one_value s past w p k x f b h = go (x == 0) refl
   where
     go : (z : Bool) → (x == 0) ≡ z → (z || w.marked (x - 1) p k) ≡ (z || was_asked s p k x past)
@@ -55,7 +57,8 @@ one_value s past w p k x f b h = go (x == 0) refl
         f.marked (x - 1) p k i ∙ asked_number s p k x past n
 
 -- the values that the floor has marked are those that were asked for
-pub marked_asked : (s : Script) (past : List Event) (w : View) (p : CpuNo) (k : ℕ) (xs : List ℕ) → Follows s past w → p.0 < s.cpus → k + length xs ≤ 16 → are_marked w p k xs ≡ asked_rises s p k xs past
+pub marked_asked : (s : Script) (past : List Event) (w : View) (p : CpuNo) (k : ℕ) (xs : List ℕ) → Follows s past w → p.0 < s.cpus → k + length xs ≤ 16 →
+    are_marked w p k xs ≡ asked_rises s p k xs past
 marked_asked s past w p k [] f b h = refl
 marked_asked s past w p k (x ∷ xs) f b h =
     let i : k < 16 = omega (arith, h) in

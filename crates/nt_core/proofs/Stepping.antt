@@ -32,43 +32,53 @@ use Rattle.nt_core.specs.Sound.{cpus_of}
 pub absent_step : (s : Script) (limit : ℕ) (t : Turn) (past : List Event) → s.cpus ≤ (cpu_at t).0 → step s limit t past ≡ Err NoSuchCpu
 absent_step s limit t past h =
     let b : nat_lt (cpu_at t).0 s.cpus ≡ false = grind (arith, nat_tests) in
-    ap (λ (b : Bool). refused_if (not b) NoSuchCpu (refused_if (is_cut limit (own_of s (cpu_at t) past)) NothingToDoKind (uncut_step s t (own_of s (cpu_at t) past) (lanes_at s past) past))) b
+    ap (λ (b : Bool). refused_if (not b) NoSuchCpu (refused_if (is_cut limit (own_of s (cpu_at t) past)) NothingToDoKind
+    (uncut_step s t (own_of s (cpu_at t) past) (lanes_at s past) past))) b
 
-here_step : (s : Script) (limit : ℕ) (t : Turn) (past : List Event) → (cpu_at t).0 < s.cpus → step s limit t past ≡ refused_if (is_cut limit (own_of s (cpu_at t) past)) NothingToDoKind (uncut_step s t (own_of s (cpu_at t) past) (lanes_at s past) past)
+here_step : (s : Script) (limit : ℕ) (t : Turn) (past : List Event) → (cpu_at t).0 < s.cpus → step s limit t past
+    ≡ refused_if (is_cut limit (own_of s (cpu_at t) past)) NothingToDoKind (uncut_step s t (own_of s (cpu_at t) past) (lanes_at s past) past)
 here_step s limit t past h =
     let b : nat_lt (cpu_at t).0 s.cpus ≡ true = grind (arith, nat_tests) in
-    ap (λ (b : Bool). refused_if (not b) NoSuchCpu (refused_if (is_cut limit (own_of s (cpu_at t) past)) NothingToDoKind (uncut_step s t (own_of s (cpu_at t) past) (lanes_at s past) past))) b
+    ap (λ (b : Bool). refused_if (not b) NoSuchCpu (refused_if (is_cut limit (own_of s (cpu_at t) past)) NothingToDoKind
+    (uncut_step s t (own_of s (cpu_at t) past) (lanes_at s past) past))) b
 
-pub cut_step : (s : Script) (limit : ℕ) (t : Turn) (past : List Event) → (cpu_at t).0 < s.cpus → is_cut limit (own_of s (cpu_at t) past) ≡ true → step s limit t past ≡ Err NothingToDoKind
+pub cut_step : (s : Script) (limit : ℕ) (t : Turn) (past : List Event) → (cpu_at t).0 < s.cpus → is_cut limit (own_of s (cpu_at t) past) ≡ true →
+    step s limit t past ≡ Err NothingToDoKind
 cut_step s limit t past h c =
     here_step s limit t past h
     ∙ ap (λ (b : Bool). refused_if b NothingToDoKind (uncut_step s t (own_of s (cpu_at t) past) (lanes_at s past) past)) c
 
-unasked_look : (s : Script) (t : Turn) (past : List Event) → is_asked s t past ≡ false → uncut_step s t (own_of s (cpu_at t) past) (lanes_at s past) past ≡ Err BadLookKind
+unasked_look : (s : Script) (t : Turn) (past : List Event) → is_asked s t past ≡ false → uncut_step s t (own_of s (cpu_at t) past) (lanes_at s past) past
+    ≡ Err BadLookKind
 unasked_look s (Next p) past h = absurd cc
 unasked_look s (SwitchTurn p t) past h = absurd cc
 unasked_look s (LookTurn p r) past h =
     ap (λ (b : Bool). event_or s p (own_of s p past) BadLookKind (when b (Some (Look r)))) (unasked_bad s p r (own_of s p past) past h)
 
-pub unasked_step : (s : Script) (limit : ℕ) (t : Turn) (past : List Event) → (cpu_at t).0 < s.cpus → is_cut limit (own_of s (cpu_at t) past) ≡ false → is_asked s t past ≡ false → step s limit t past ≡ Err BadLookKind
+pub unasked_step : (s : Script) (limit : ℕ) (t : Turn) (past : List Event) → (cpu_at t).0 < s.cpus → is_cut limit (own_of s (cpu_at t) past) ≡ false →
+    is_asked s t past ≡ false → step s limit t past ≡ Err BadLookKind
 unasked_step s limit t past h c a =
     here_step s limit t past h
     ∙ (ap (λ (b : Bool). refused_if b NothingToDoKind (uncut_step s t (own_of s (cpu_at t) past) (lanes_at s past) past)) c ∙ unasked_look s t past a)
 
 -- ---- what the processor gives
 
-pub turned_step : (s : Script) (limit : ℕ) (t : Turn) (past : List Event) (f : Found) (n : ℕ) (e : Event) (d : CpuState) (v w : View) → IsRun s limit past → (cpu_at t).0 < s.cpus → is_asked s t past ≡ true → Follows s past v → IsTurned (state_of s (cpu_at t) limit past) d t f n e v w → step s limit t past ≡ Ok e
+pub turned_step : (s : Script) (limit : ℕ) (t : Turn) (past : List Event) (f : Found) (n : ℕ) (e : Event) (d : CpuState) (v w : View) → IsRun s limit past →
+    (cpu_at t).0 < s.cpus → is_asked s t past ≡ true → Follows s past v → IsTurned (state_of s (cpu_at t) limit past) d t f n e v w → step s limit t past ≡ Ok e
 turned_step s limit t past f n e d v w r b a h i =
     let lanes : f.lanes ≡ lanes_at s past = sym (rw h.states at i.floor.before) in
     sym (turn_is_step s limit t past r b a)
     ∙ ap as_step (ap (λ (l : Lanes). turn_gives (state_of s (cpu_at t) limit past) l t) (sym lanes) ∙ i.event)
 
-pub refused_step : (s : Script) (limit : ℕ) (t : Turn) (past : List Event) (f : Found) (k : TurnRefusal) (v : View) → IsRun s limit past → (cpu_at t).0 < s.cpus → is_asked s t past ≡ true → Follows s past v → IsTurnRefused (state_of s (cpu_at t) limit past) t f k v → (k ≡ NoMemory → ⊥) → step s limit t past ≡ Err (kind_of_refusal k)
+pub refused_step : (s : Script) (limit : ℕ) (t : Turn) (past : List Event) (f : Found) (k : TurnRefusal) (v : View) → IsRun s limit past →
+    (cpu_at t).0 < s.cpus → is_asked s t past ≡ true → Follows s past v → IsTurnRefused (state_of s (cpu_at t) limit past) t f k v → (k ≡ NoMemory → ⊥) →
+    step s limit t past ≡ Err (kind_of_refusal k)
 refused_step s limit t past f k v r b a h i m =
     let lanes : f.lanes ≡ lanes_at s past = sym (rw h.states at i.told) in
     go lanes i.cause
   where
-    go : f.lanes ≡ lanes_at s past → (k ≡ NoMemory) ⊎ (turn_gives (state_of s (cpu_at t) limit past) f.lanes t ≡ Err k) → step s limit t past ≡ Err (kind_of_refusal k)
+    go : f.lanes ≡ lanes_at s past → (k ≡ NoMemory) ⊎ (turn_gives (state_of s (cpu_at t) limit past) f.lanes t ≡ Err k) → step s limit t past
+        ≡ Err (kind_of_refusal k)
     go l (inl e) = absurd (m e)
     go l (inr e) =
         sym (turn_is_step s limit t past r b a)
@@ -80,7 +90,8 @@ cpu_stays : (s : Script) (limit : ℕ) (q : CpuNo) (past : List Event) (e : Even
 cpu_stays s limit q past e n = ap (λ (x : _). record { script = s; cpu = q; limit = limit; own = x }) (own_stays_on s q past e n)
 
 -- after the event of a processor, the others are as before
-pub cpus_move : (s : Script) (limit : ℕ) (p : CpuNo) (past : List Event) (e : Event) → e.cpu ≡ p → p.0 < s.cpus → set (cpus_of s limit past) p.0 (state_of s p limit (e ∷ past)) ≡ cpus_of s limit (e ∷ past)
+pub cpus_move : (s : Script) (limit : ℕ) (p : CpuNo) (past : List Event) (e : Event) → e.cpu ≡ p → p.0 < s.cpus →
+    set (cpus_of s limit past) p.0 (state_of s p limit (e ∷ past)) ≡ cpus_of s limit (e ∷ past)
 cpus_move s limit p past e c b =
     sym (table-self start s.cpus (set old p.0 new) (λ q. state_of s (cpu q) limit (e ∷ past)) (length-set old p.0 new ∙ long) each)
   where
@@ -113,5 +124,6 @@ cpus_move s limit p past e c b =
     each i h = by i h (i == p.0) refl
 
 -- one of the processors
-pub cpu_of_run : (s : Script) (limit : ℕ) (p : CpuNo) (past : List Event) (d : CpuState) → p.0 < s.cpus → get_or (cpus_of s limit past) p.0 d ≡ state_of s p limit past
+pub cpu_of_run : (s : Script) (limit : ℕ) (p : CpuNo) (past : List Event) (d : CpuState) → p.0 < s.cpus → get_or (cpus_of s limit past) p.0 d
+    ≡ state_of s p limit past
 cpu_of_run s limit p past d b = get_or-table s.cpus p.0 (λ q. state_of s (cpu q) limit past) d b

@@ -9,11 +9,13 @@ use Rattle.nt_core.specs.Replays.{replayed}
 
 -- a list of turns gives a history exactly where it is a settled run with these turns
 abbrev pub ReplaysAreRuns : Type 0
-ReplaysAreRuns = (s : Script) (limit : ℕ) (list : List Turn) (h : List Event) → (replayed s limit list ≡ Ok h) ↔ (IsRun s limit h × (turns h ≡ list) × (is_settled s limit h ≡ true))
+ReplaysAreRuns = (s : Script) (limit : ℕ) (list : List Turn) (h : List Event) →
+    (replayed s limit list ≡ Ok h) ↔ (IsRun s limit h × (turns h ≡ list) × (is_settled s limit h ≡ true))
 
 -- a settled run is replayed by its turns
 abbrev pub RunsReplay : Type 0
-RunsReplay = (s : Script) (limit : ℕ) (h : List Event) → IsRun s limit h → is_settled s limit h ≡ true → replayed s limit (turns h) ≡ Ok h
+RunsReplay = (s : Script) (limit : ℕ) (h : List Event) → IsRun s limit h → is_settled s limit h ≡ true →
+    replayed s limit (turns h) ≡ Ok h
 
 -- a settled run of the robin rule
 pub record IsWholeRobin (s : Script) (limit : ℕ) (h : List Event) : Type 0 where

@@ -27,6 +27,7 @@ replayed_from s limit n past [] = if is_settled s limit past then Ok past else r
 replayed_from s limit n past (t ∷ ts) =
     goes_on n (step s limit t past) (λ e. replayed_from s limit (suc n) (e ∷ past) ts)
 
--- the history of these turns where each is taken and all together settle; else the first that is refused, or Unfinished at their number
+-- the history of these turns where each is taken and all together settle; else the first that is refused, or Unfinished
+-- at their number
 abbrev pub replayed : Script → ℕ → List Turn → Result (List Event) Refused
 replayed s limit list = replayed_from s limit 0 [] list

@@ -19,7 +19,8 @@ pub record IsLimit (s : Script) (limit : ℕ) : Type 0 where
   pub each : limit ≤ 20000
   pub all : s.cpus * limit ≤ 160000
 
-pub record IsSound (s : Script) (limit : ℕ) (past : List Event) (cpus : List CpuState) (floor : PlainState) : Type 0 where
+pub record IsSound (s : Script) (limit : ℕ) (past : List Event) (cpus : List CpuState)
+    (floor : PlainState) : Type 0 where
   pub script : IsTrue (fits s)
   pub small : IsLimit s limit
   pub run : IsRun s limit past

@@ -63,7 +63,8 @@ pub record GoodEvent (c : CpuState) (w : What) : Type 0 where
 -- ---- replies
 
 -- a wait replies a status or blocks
-wait_chain : (a b c d e f : Bool) → is_wait_reply (if a then Status kernel_apc else if b then Status satisfied else if c then Status alerted else if d then Status user_apc else if e then Status alerted else if f then Status user_apc else Blocked) ≡ true
+wait_chain : (a b c d e f : Bool) → is_wait_reply (if a then Status kernel_apc else if b then Status satisfied else if c then Status alerted else if d
+    then Status user_apc else if e then Status alerted else if f then Status user_apc else Blocked) ≡ true
 wait_chain true b c d e f = refl
 wait_chain false true c d e f = refl
 wait_chain false false true d e f = refl
@@ -72,9 +73,11 @@ wait_chain false false false false true f = refl
 wait_chain false false false false false true = refl
 wait_chain false false false false false false = refl
 
-wait_replies : (x : ThreadFacts) (r : Regions) (level : ℕ) (m : Mode) (a : Bool) (reached : Option Bool) → is_wait_reply (wait_reply x r level m a reached) ≡ true
+wait_replies : (x : ThreadFacts) (r : Regions) (level : ℕ) (m : Mode) (a : Bool) (reached : Option Bool) → is_wait_reply (wait_reply x r level m a reached)
+    ≡ true
 wait_replies x r level m a reached =
-    wait_chain (is_some (deliverable x.apcs r level)) (is_satisfied x reached) (a && is_alerted m x) (a && (is_user m && has_user x.apcs)) (a && x.alerted_kernel) (not a && (is_user m && x.user_pending))
+    wait_chain (is_some (deliverable x.apcs r level)) (is_satisfied x reached) (a && is_alerted m x) (a && (is_user m && has_user x.apcs))
+    (a && x.alerted_kernel) (not a && (is_user m && x.user_pending))
 
 yes_unblocked : (b : Bool) → not (is_blocked (yes_if b)) ≡ true
 yes_unblocked true = refl
@@ -123,7 +126,8 @@ all_reverse P [] h = All-nil P
 all_reverse P (x ∷ xs) h =
     rw (reverse-append (x ∷ []) xs) (All-push P (reverse xs) x (all_reverse P xs (All-tail P x xs h)) (All-head P x xs h))
 
-found_all : {A : Type 0} (P : A → Type 0) (test : A → Bool) (x : A) (o : Option A) (b : Bool) → test x ≡ b → P x → Holds (λ x. P x × (test x ≡ true)) o → Holds (λ x. P x × (test x ≡ true)) (cond b (Some x) o)
+found_all : {A : Type 0} (P : A → Type 0) (test : A → Bool) (x : A) (o : Option A) (b : Bool) → test x ≡ b → P x → Holds (λ x. P x × (test x ≡ true)) o →
+    Holds (λ x. P x × (test x ≡ true)) (cond b (Some x) o)
 found_all P test x o true e p h = (p, e)
 found_all P test x o false e p h = h
 
@@ -139,22 +143,31 @@ same_kind_is UserApc UserApc h = refl
 same_kind_is _ _ h = absurd cc
 
 -- the pick of a kind has the kind, which is that of its object
-kind_here : (s : Script) (kind : ApcKind) (q : ApcQueues) → PicksFit s q → Holds (λ pick. (pick.kind ≡ kind) × (kind_of s pick.apc ≡ kind)) (first_of_kind kind q)
+kind_here : (s : Script) (kind : ApcKind) (q : ApcQueues) → PicksFit s q →
+    Holds (λ pick. (pick.kind ≡ kind) × (kind_of s pick.apc ≡ kind)) (first_of_kind kind q)
 kind_here s kind q h =
-    holds_more (λ x. (x.kind ≡ kind_of s x.apc) × (is_of_kind kind x ≡ true)) (λ pick. (pick.kind ≡ kind) × (kind_of s pick.apc ≡ kind)) (find (is_of_kind kind) (reverse q.pending)) (find_all (λ x. x.kind ≡ kind_of s x.apc) (is_of_kind kind) (reverse q.pending) (all_reverse (λ x. x.kind ≡ kind_of s x.apc) q.pending h)) (λ x e k. let i : x.kind ≡ kind = same_kind_is kind x.kind k.1 in (i, sym k.0 ∙ i))
+    holds_more (λ x. (x.kind ≡ kind_of s x.apc) × (is_of_kind kind x ≡ true)) (λ pick. (pick.kind ≡ kind) × (kind_of s pick.apc ≡ kind))
+    (find (is_of_kind kind) (reverse q.pending)) (find_all (λ x. x.kind ≡ kind_of s x.apc) (is_of_kind kind) (reverse q.pending)
+    (all_reverse (λ x. x.kind ≡ kind_of s x.apc) q.pending h)) (λ x e k. let i : x.kind ≡ kind = same_kind_is kind x.kind k.1 in (i, sym k.0 ∙ i))
 
 abbrev pub IsKernelPick : Script → Regions → Pick → Type 0
 IsKernelPick s r pick =
     (is_kernel_kind (kind_of s pick.apc) ≡ true) × (lets_through r (kind_of s pick.apc) ≡ true)
 
 -- the kind of the first kernel APC is that of its object
-first_here : (s : Script) (q : ApcQueues) → PicksFit s q → Holds (λ pick. (pick.kind ≡ kind_of s pick.apc) × (is_kernel_kind (kind_of s pick.apc) ≡ true)) (first_kernel q)
+first_here : (s : Script) (q : ApcQueues) → PicksFit s q →
+    Holds (λ pick. (pick.kind ≡ kind_of s pick.apc) × (is_kernel_kind (kind_of s pick.apc) ≡ true)) (first_kernel q)
 first_here s q h =
-    holds_or (λ pick. (pick.kind ≡ kind_of s pick.apc) × (is_kernel_kind (kind_of s pick.apc) ≡ true)) (first_of_kind SpecialApc q) (first_of_kind NormalApc q) (holds_more _ _ (first_of_kind SpecialApc q) (kind_here s SpecialApc q h) (λ x e k. (k.0 ∙ sym k.1, rw k.1 refl))) (λ _. holds_more _ _ (first_of_kind NormalApc q) (kind_here s NormalApc q h) (λ x e k. (k.0 ∙ sym k.1, rw k.1 refl)))
+    holds_or (λ pick. (pick.kind ≡ kind_of s pick.apc) × (is_kernel_kind (kind_of s pick.apc) ≡ true)) (first_of_kind SpecialApc q) (first_of_kind NormalApc q)
+    (holds_more _ _ (first_of_kind SpecialApc q) (kind_here s SpecialApc q h) (λ x e k. (k.0 ∙ sym k.1, rw k.1 refl)))
+    (λ _. holds_more _ _ (first_of_kind NormalApc q) (kind_here s NormalApc q h) (λ x e k. (k.0 ∙ sym k.1, rw k.1 refl)))
 
 kernel_here : (s : Script) (q : ApcQueues) (r : Regions) (level : ℕ) → PicksFit s q → Holds (IsKernelPick s r) (deliverable q r level)
 kernel_here s q r level h =
-    holds_then (IsKernelPick s r) (λ x. when ((level == 0) && lets_through r x.kind) (Some x)) (first_kernel q) (λ x e. holds_when (IsKernelPick s r) ((level == 0) && lets_through r x.kind) (Some x) (λ a. let k = holds_at (λ pick. (pick.kind ≡ kind_of s pick.apc) × (is_kernel_kind (kind_of s pick.apc) ≡ true)) (first_kernel q) x (first_here s q h) e in (k.1, rw k.0 at (both (level == 0) (lets_through r x.kind) a).1)))
+    holds_then (IsKernelPick s r) (λ x. when ((level == 0) && lets_through r x.kind) (Some x)) (first_kernel q)
+    (λ x e. holds_when (IsKernelPick s r) ((level == 0) && lets_through r x.kind) (Some x)
+    (λ a. let k = holds_at (λ pick. (pick.kind ≡ kind_of s pick.apc) × (is_kernel_kind (kind_of s pick.apc) ≡ true)) (first_kernel q) x
+    (first_here s q h) e in (k.1, rw k.0 at (both (level == 0) (lets_through r x.kind) a).1)))
 
 -- ---- the events
 
@@ -162,23 +175,34 @@ begun_dpc : (c : CpuState) (q : QueueState) → ((d : DpcNo) → may_begin (OnDp
 begun_dpc c q h =
     holds_map (GoodEvent c) (begin_dpc OrdinaryPart) (first_dpc OrdinaryPart q.pending) (λ x e. record { allow = h x.dpc; look = refl })
 
-begun_threaded : (c : CpuState) (q : QueueState) → ((d : DpcNo) → may_begin (OnThreaded d) c.own.frames ≡ true) → Holds (GoodEvent c) (begin_first ThreadedPart q)
+begun_threaded : (c : CpuState) (q : QueueState) → ((d : DpcNo) → may_begin (OnThreaded d) c.own.frames ≡ true) →
+    Holds (GoodEvent c) (begin_first ThreadedPart q)
 begun_threaded c q h =
     holds_map (GoodEvent c) (begin_dpc ThreadedPart) (first_dpc ThreadedPart q.pending) (λ x e. record { allow = h x.dpc; look = refl })
 
 drain_good : (c : CpuState) (l : Lanes) → may_drain c.own ≡ true → GoodEvent c (drain_event (stand_in c.cpu c.own) l)
 drain_good c l k =
-    holds_else (GoodEvent c) (option_or (option_map expire_key (when (stand_in c.cpu c.own).sweep (first_due l.timers))) (begin_first OrdinaryPart (queue_at l c.cpu))) (Clean 2) (holds_or (GoodEvent c) (option_map expire_key (when (stand_in c.cpu c.own).sweep (first_due l.timers))) (begin_first OrdinaryPart (queue_at l c.cpu)) (holds_map (GoodEvent c) expire_key (when (stand_in c.cpu c.own).sweep (first_due l.timers)) (λ x e. record { allow = tt; look = refl })) (λ _. begun_dpc c (queue_at l c.cpu) (λ d. dpc_may_begin c.own d k))) (λ _. record { allow = tt; look = refl })
+    holds_else (GoodEvent c) (option_or (option_map expire_key (when (stand_in c.cpu c.own).sweep (first_due l.timers)))
+    (begin_first OrdinaryPart (queue_at l c.cpu))) (Clean 2)
+    (holds_or (GoodEvent c) (option_map expire_key (when (stand_in c.cpu c.own).sweep (first_due l.timers))) (begin_first OrdinaryPart (queue_at l c.cpu))
+    (holds_map (GoodEvent c) expire_key (when (stand_in c.cpu c.own).sweep (first_due l.timers)) (λ x e. record { allow = tt; look = refl }))
+    (λ _. begun_dpc c (queue_at l c.cpu) (λ d. dpc_may_begin c.own d k))) (λ _. record { allow = tt; look = refl })
 
 apcs_good : (c : CpuState) (l : Lanes) → may_apcs c.own ≡ true → KindsFit c.script l → GoodEvent c (apcs_event (stand_in c.cpu c.own) l)
 apcs_good c l k f =
     let st : Stand = stand_in c.cpu c.own in
     let q : ApcQueues = (facts_of l st.thread).apcs in
-    holds_else (GoodEvent c) (option_map begin_apc (deliverable q st.regions st.level)) (Clean 1) (holds_map (GoodEvent c) begin_apc (deliverable q st.regions st.level) (λ x e. let i = holds_at (IsKernelPick c.script st.regions) (deliverable q st.regions st.level) x (kernel_here c.script q st.regions st.level (thread_fits c.script l st.thread f)) e in record { allow = apc_may_begin c.own x.apc (kind_of c.script x.apc) k i.0 i.1; look = refl })) (λ _. record { allow = tt; look = refl })
+    holds_else (GoodEvent c) (option_map begin_apc (deliverable q st.regions st.level)) (Clean 1)
+    (holds_map (GoodEvent c) begin_apc (deliverable q st.regions st.level)
+    (λ x e. let i = holds_at (IsKernelPick c.script st.regions) (deliverable q st.regions st.level) x
+    (kernel_here c.script q st.regions st.level (thread_fits c.script l st.thread f)) e in
+    record { allow = apc_may_begin c.own x.apc (kind_of c.script x.apc) k i.0 i.1; look = refl })) (λ _. record { allow = tt; look = refl })
 
 idle_good : (c : CpuState) (l : Lanes) → innermost c.own.frames ≡ None → Holds (GoodEvent c) (idle_event c.script (stand_in c.cpu c.own) l)
 idle_good c l k =
-    holds_or (GoodEvent c) (begin_first OrdinaryPart (queue_at l c.cpu)) (when (is_null (ready c.script c.cpu l)) (Some Rest)) (begun_dpc c (queue_at l c.cpu) (λ d. idle_dpc_may_begin c.own.frames d k)) (λ _. holds_when (GoodEvent c) (is_null (ready c.script c.cpu l)) (Some Rest) (λ _. record { allow = tt; look = refl }))
+    holds_or (GoodEvent c) (begin_first OrdinaryPart (queue_at l c.cpu)) (when (is_null (ready c.script c.cpu l)) (Some Rest))
+    (begun_dpc c (queue_at l c.cpu) (λ d. idle_dpc_may_begin c.own.frames d k))
+    (λ _. holds_when (GoodEvent c) (is_null (ready c.script c.cpu l)) (Some Rest) (λ _. record { allow = tt; look = refl }))
 
 -- where a thread may be taken up, no frame stands
 pub record IsFree (x : Frames) : Type 0 where
@@ -202,23 +226,28 @@ free x h =
     none_is None e = refl
     none_is (Some y) e = absurd cc
 
-taken_good : (c : CpuState) (l : Lanes) (t : ThreadNo) → IsSound c → may_switch c.own ≡ true → may_take c.script c.cpu t l ≡ true → GoodEvent c (switch_event t l)
+taken_good : (c : CpuState) (l : Lanes) (t : ThreadNo) → IsSound c → may_switch c.own ≡ true → may_take c.script c.cpu t l ≡ true →
+    GoodEvent c (switch_event t l)
 taken_good c l t h k m =
     let f = free c.own k in
     let a = (both (has_thread c.script t) (((cpu_of c.script t).0 == c.cpu.0) && is_ready (facts_at l t)) m).0 in
     let b : t.0 < length c.script.threads = grind (arith, nat_tests) in
     record { allow = (f.own, f.running, rw h.threads b); look = refl }
 
-user_here : (c : CpuState) (l : Lanes) → refusal_in ToUser c.own.frames ≡ None → KindsFit c.script l → Holds (GoodEvent c) (option_map begin_apc (user_due (facts_of l c.own.frames.running)))
+user_here : (c : CpuState) (l : Lanes) → refusal_in ToUser c.own.frames ≡ None → KindsFit c.script l →
+    Holds (GoodEvent c) (option_map begin_apc (user_due (facts_of l c.own.frames.running)))
 user_here c l a f =
     let x : ThreadFacts = facts_of l c.own.frames.running in
     holds_map (GoodEvent c) begin_apc (user_due x) (λ pick e. let g = when_gives x.user_pending (first_user x.apcs) pick e in
-    let k = holds_at (λ p. (p.kind ≡ UserApc) × (kind_of c.script p.apc ≡ UserApc)) (first_user x.apcs) pick (kind_here c.script UserApc x.apcs (thread_fits c.script l c.own.frames.running f)) g.1 in
+    let k = holds_at (λ p. (p.kind ≡ UserApc) × (kind_of c.script p.apc ≡ UserApc)) (first_user x.apcs) pick
+    (kind_here c.script UserApc x.apcs (thread_fits c.script l c.own.frames.running f)) g.1 in
     record { allow = rw k.1 (user_may_begin c.own.frames pick.apc a); look = refl })
 
 rundown_good : (c : CpuState) (l : Lanes) (t : ThreadNo) → is_leaving c.own.frames ≡ true → GoodEvent c (rundown_event l t)
 rundown_good c l t k =
-    holds_else (GoodEvent c) (option_map (λ x. Flush x.apc x.number) (first_user (facts_at l t).apcs)) (Gone t) (holds_map (GoodEvent c) (λ x. Flush x.apc x.number) (first_user (facts_at l t).apcs) (λ x e. record { allow = k; look = refl })) (λ _. record { allow = k; look = refl })
+    holds_else (GoodEvent c) (option_map (λ x. Flush x.apc x.number) (first_user (facts_at l t).apcs)) (Gone t)
+    (holds_map (GoodEvent c) (λ x. Flush x.apc x.number) (first_user (facts_at l t).apcs) (λ x e. record { allow = k; look = refl }))
+    (λ _. record { allow = k; look = refl })
 
 ended_good : (c : CpuState) → Runs c → GoodEvent c (End (stand_in c.cpu c.own).frame)
 ended_good c g = record {
@@ -229,26 +258,47 @@ ended_good c g = record {
 rewait_good : (c : CpuState) (l : Lanes) → IsSound c → Awaits c → Holds (GoodEvent c) (job_event c.script (stand_in c.cpu c.own) l RewaitJob)
 rewait_good c l h g =
     let st : Stand = stand_in c.cpu c.own in
-    holds_map (GoodEvent c) (λ w. Rewait st.frame (rewait_reply st l w)) st.again (λ w e. record { allow = (at_innermost_frame c g.frame g.is, awaiting_is_on_thread g.frame w c.own.frames h.waits g.is (rw g.is at e), wait_replies (facts_of l st.thread) st.regions st.level w.mode w.alertable (option_map (is_reached l.timers.now) w.due)); look = refl })
+    holds_map (GoodEvent c) (λ w. Rewait st.frame (rewait_reply st l w)) st.again
+    (λ w e. record {
+      allow = (
+        at_innermost_frame c g.frame g.is,
+        awaiting_is_on_thread g.frame w c.own.frames h.waits g.is (rw g.is at e),
+        wait_replies (facts_of l st.thread) st.regions st.level w.mode w.alertable (option_map (is_reached l.timers.now) w.due),
+      );
+      look = refl;
+    })
 
-pub acted_good : (c : CpuState) (l : Lanes) (job : Job) → IsSound c → GoodJob c job → KindsFit c.script l → Holds (GoodEvent c) (job_event c.script (stand_in c.cpu c.own) l job)
+pub acted_good : (c : CpuState) (l : Lanes) (job : Job) → IsSound c → GoodJob c job → KindsFit c.script l →
+    Holds (GoodEvent c) (job_event c.script (stand_in c.cpu c.own) l job)
 acted_good c l (CallJob k) h g f = record {
-  allow = (at_innermost_frame c g.frame g.is, accepted_call k (reply c.script (stand_in c.cpu c.own) l k) c.own.frames g.accepted (replies c.script (stand_in c.cpu c.own) l k));
+  allow = (
+    at_innermost_frame c g.frame g.is,
+    accepted_call k (reply c.script (stand_in c.cpu c.own) l k) c.own.frames g.accepted
+        (replies c.script (stand_in c.cpu c.own) l k),
+  );
   look = refl;
 }
 acted_good c l (FireJob d) h g f = record { allow = tt; look = refl }
 acted_good c l DrainJob h g f = drain_good c l g
 acted_good c l ApcsJob h g f = apcs_good c l g f
 acted_good c l ThreadedJob h g f =
-    holds_else (GoodEvent c) (begin_first ThreadedPart (queue_at l c.cpu)) (Clean 0) (begun_threaded c (queue_at l c.cpu) (λ d. threaded_may_begin c.own d g)) (λ _. record { allow = tt; look = refl })
+    holds_else (GoodEvent c) (begin_first ThreadedPart (queue_at l c.cpu)) (Clean 0) (begun_threaded c (queue_at l c.cpu) (λ d. threaded_may_begin c.own d g))
+    (λ _. record { allow = tt; look = refl })
 acted_good c l IdleJob h g f = idle_good c l g
 acted_good c l (PickJob last) h g f =
-    holds_or (GoodEvent c) (option_map (λ t. switch_event t l) (next_ready c.script c.cpu last l)) (idle_event c.script (stand_in c.cpu c.own) l) (holds_map (GoodEvent c) (λ t. switch_event t l) (next_ready c.script c.cpu last l) (λ t e. taken_good c l t h g (holds_at (λ t. may_take c.script c.cpu t l ≡ true) (next_ready c.script c.cpu last l) t (next_ready_taken c.script c.cpu last l) e))) (λ _. idle_good c l (free c.own g).innermost)
+    holds_or (GoodEvent c) (option_map (λ t. switch_event t l) (next_ready c.script c.cpu last l)) (idle_event c.script (stand_in c.cpu c.own) l)
+    (holds_map (GoodEvent c) (λ t. switch_event t l) (next_ready c.script c.cpu last l)
+    (λ t e. taken_good c l t h g (holds_at (λ t. may_take c.script c.cpu t l ≡ true) (next_ready c.script c.cpu last l) t
+    (next_ready_taken c.script c.cpu last l) e))) (λ _. idle_good c l (free c.own g).innermost)
 acted_good c l (SwitchJob t) h g f =
     holds_when (GoodEvent c) (may_take c.script c.cpu t l) (Some (switch_event t l)) (λ m. taken_good c l t h g.0 m)
 acted_good c l RewaitJob h g f = rewait_good c l h g
 acted_good c l ToUserJob h g f =
-    holds_else (GoodEvent c) (option_map begin_apc (user_due (facts_of l c.own.frames.running))) (Call (stand_in c.cpu c.own).frame ToUser Done) (user_here c l g.accepted f) (λ _. record { allow = (at_innermost_frame c g.frame g.is, accepted_call ToUser Done c.own.frames g.accepted refl); look = refl })
+    holds_else (GoodEvent c) (option_map begin_apc (user_due (facts_of l c.own.frames.running))) (Call (stand_in c.cpu c.own).frame ToUser Done)
+    (user_here c l g.accepted f) (λ _. record {
+      allow = (at_innermost_frame c g.frame g.is, accepted_call ToUser Done c.own.frames g.accepted refl);
+      look = refl;
+    })
 acted_good c l UserEndJob h g f = ended_good c g
 acted_good c l LeaveJob h g f = ended_good c g
 acted_good c l RundownJob h g f =

@@ -50,7 +50,8 @@ asked_for a q k = list_any (is_ask q k) (as_list a)
 same_word : (a : Asked) (q : CpuNo) (k : ℕ) → is_word a.cpu a.class q k ≡ (is_ask q k (record { cpu = a.cpu; class = a.class }) || false)
 same_word a q k = go (q.0 == a.cpu.0) refl (k == a.class) refl
   where
-    go : (b : Bool) → (q.0 == a.cpu.0) ≡ b → (d : Bool) → (k == a.class) ≡ d → ((q.0 == a.cpu.0) && (k == a.class)) ≡ (((a.cpu.0 == q.0) && (a.class == k)) || false)
+    go : (b : Bool) → (q.0 == a.cpu.0) ≡ b → (d : Bool) → (k == a.class) ≡ d → ((q.0 == a.cpu.0) && (k == a.class))
+        ≡ (((a.cpu.0 == q.0) && (a.class == k)) || false)
     go b e d f = grind (arith, nat_tests)
 
 marked_lists : (a : Option Asked) (n : ℕ) (u z : View) → IsMarkedFor a n u z → z.lists ≡ with_marks n (as_list a) u.lists
@@ -61,7 +62,8 @@ or_false : (b : Bool) → (b || false) ≡ b
 or_false true = refl
 or_false false = refl
 
-marked_marks : (a : Option Asked) (n : ℕ) (u z : View) → IsMarkedFor a n u z → (k : ℕ) (q : CpuNo) (d : ℕ) → HasWord u q d → z.marked k q d ≡ (u.marked k q d || ((k == n) && asked_for a q d))
+marked_marks : (a : Option Asked) (n : ℕ) (u z : View) → IsMarkedFor a n u z → (k : ℕ) (q : CpuNo) (d : ℕ) → HasWord u q d → z.marked k q d
+    ≡ (u.marked k q d || ((k == n) && asked_for a q d))
 marked_marks None n u z h k q d w =
     ap (λ (x : View). x.marked k q d) h ∙ none (u.marked k q d) (k == n)
   where
@@ -72,7 +74,8 @@ marked_marks None n u z h k q d w =
 marked_marks (Some a) n u z h k q d w =
     h.marked k q d w ∙ ap (λ (b : Bool). u.marked k q d || ((k == n) && b)) (same_word a q d)
 
-pub marked_value : (a : Option Asked) (n : ℕ) (u z : View) → IsMarkedFor a n u z → (q : CpuNo) (d : ℕ) → HasWord u q d → z.value q d ≡ (if asked_for a q d then max (u.value q d) (n + 1) else u.value q d)
+pub marked_value : (a : Option Asked) (n : ℕ) (u z : View) → IsMarkedFor a n u z → (q : CpuNo) (d : ℕ) → HasWord u q d → z.value q d
+    ≡ (if asked_for a q d then max (u.value q d) (n + 1) else u.value q d)
 marked_value None n u z h q d w = ap (λ (x : View). x.value q d) h
 marked_value (Some a) n u z h q d w =
     h.value q d w ∙ ap (λ (b : Bool). if b then max (u.value q d) (n + 1) else u.value q d) (same_word a q d)
@@ -132,7 +135,8 @@ told_have c None h = have_states c.script []
 told_have c (Some l) h = h.lanes
 
 -- what is left of the states is what they were
-states_kept : (c : CpuState) (states : Option Lanes) (n : ℕ) (e : Event) → IfSome states (λ l. StandsIn c l) → is_alone (stand_in c.cpu c.own).body e.what ≡ true → lanes_after c.script n (stand_in c.cpu c.own) e (told_states c.script states) ≡ told_states c.script states
+states_kept : (c : CpuState) (states : Option Lanes) (n : ℕ) (e : Event) → IfSome states (λ l. StandsIn c l) → is_alone (stand_in c.cpu c.own).body e.what
+    ≡ true → lanes_after c.script n (stand_in c.cpu c.own) e (told_states c.script states) ≡ told_states c.script states
 states_kept c None n e h b =
     lanes_kept c.script n (stand_in c.cpu c.own) e (lanes_at c.script []) (have_states c.script []) b
 states_kept c (Some l) n e h b =
@@ -150,7 +154,8 @@ at_least : (b : Bool) (n old : ℕ) → b ≡ true → n + 1 ≤ (if b then max 
 at_least true n old h = omega arith
 at_least false n old h = cc
 
-pub alone_moved : (c d : CpuState) (w : What) (n : ℕ) (v u z : View) → Serves c v → MayBe c w → IsAlone c d w n v u z → IsMoved c.script n (alone_event c.cpu w c.own.frames) (stand_in c.cpu c.own) (found_by c v) v z
+pub alone_moved : (c d : CpuState) (w : What) (n : ℕ) (v u z : View) → Serves c v → MayBe c w → IsAlone c d w n v u z →
+    IsMoved c.script n (alone_event c.cpu w c.own.frames) (stand_in c.cpu c.own) (found_by c v) v z
 alone_moved c d w n v u z h m i =
     let st : Stand = stand_in c.cpu c.own in
     let a : Option Asked = alone_asks st w in
@@ -161,7 +166,8 @@ alone_moved c d w n v u z h m i =
     let next : z.next ≡ n + 1 = y.next ∙ g.next in
     let asks : what_asks c.script st w l ≡ as_list a = asks_alone c.script st w l m.alone in
     let lanes : what_lanes c.script st w l ≡ [] = lanes_alone c.script st w l m.alone in
-    let kept : lanes_after c.script n st (alone_event c.cpu w c.own.frames) l ≡ l = states_kept c v.states n (alone_event c.cpu w c.own.frames) h.stands m.alone in
+    let kept : lanes_after c.script n st (alone_event c.cpu w c.own.frames) l
+    ≡ l = states_kept c v.states n (alone_event c.cpu w c.own.frames) h.stands m.alone in
     let word : (q : CpuNo) (k : ℕ) → HasWord v q k → HasWord u q k = λ q k b. let e = g.same.cpus in (omega arith, b.1) in
     let asked : (q : CpuNo) (k : ℕ) → asked_for a q k ≡ asks_in c.script st w l q k = λ q k. ap (λ (x : List _). list_any (is_ask q k) x) (sym asks) in
     record {
@@ -170,9 +176,16 @@ alone_moved c d w n v u z h m i =
       least = (least, omega arith);
       exact = λ e. (g.exact e, next);
       drawable = ap (λ (x : ℕ). x + 1) y.drawable ∙ g.drawable;
-      lists = marked_lists a n u z i.marked ∙ ap (λ (x : Option Lists). with_marks n (as_list a) x) g.lists ∙ ap (λ (x : List _). with_marks n x (with_draw n (alone_event c.cpu w c.own.frames) [] v.lists)) (sym asks) ∙ ap (λ (x : List Lane). with_marks n (what_asks c.script st w l) (with_draw n (alone_event c.cpu w c.own.frames) (map (lane_number c.script) x) v.lists)) (sym lanes);
-      marked = λ k q b e. marked_marks a n u z i.marked k q b (word q b e) ∙ (ap (λ (x : Bool). x || ((k == n) && asked_for a q b)) (g.marked k q b e) ∙ ap (λ (x : Bool). v.marked k q b || ((k == n) && x)) (asked q b));
-      value = λ t q k e. marked_value a n u z i.marked q k (word q k e) ∙ (ap (λ (x : ℕ). if asked_for a q k then max x (n + 1) else x) (g.value q k e) ∙ (let o = h.values t q k e in raise_value (asked_for a q k) true n (v.value q k) (omega arith) ∙ ap (λ (x : Bool). raised x n (v.value q k)) (asked q k)));
+      lists = marked_lists a n u z i.marked ∙ ap (λ (x : Option Lists). with_marks n (as_list a) x) g.lists
+          ∙ ap (λ (x : List _). with_marks n x (with_draw n (alone_event c.cpu w c.own.frames) [] v.lists)) (sym asks)
+          ∙ ap (λ (x : List Lane). with_marks n (what_asks c.script st w l)
+          (with_draw n (alone_event c.cpu w c.own.frames) (map (lane_number c.script) x) v.lists)) (sym lanes);
+      marked = λ k q b e. marked_marks a n u z i.marked k q b (word q b e)
+          ∙ (ap (λ (x : Bool). x || ((k == n) && asked_for a q b)) (g.marked k q b e) ∙ ap (λ (x : Bool). v.marked k q b || ((k == n) && x)) (asked q b));
+      value = λ t q k e. marked_value a n u z i.marked q k (word q k e)
+          ∙ (ap (λ (x : ℕ). if asked_for a q k then max x (n + 1) else x) (g.value q k e)
+          ∙ (let o = h.values t q k e in raise_value (asked_for a q k) true n (v.value q k) (omega arith)
+          ∙ ap (λ (x : Bool). raised x n (v.value q k)) (asked q k)));
       never_falls = λ q k e. rw (marked_value a n u z i.marked q k (word q k e), g.value q k e) (never_less (asked_for a q k) n (v.value q k));
       asked = λ q k e h. rw (marked_value a n u z i.marked q k (word q k e)) (at_least (asked_for a q k) n (u.value q k) (asked q k ∙ h));
       before = tells_before c.script v.states;
@@ -199,19 +212,28 @@ noticed_of_ask : (b : Bool) (n k old : ℕ) (w : What) → looked w k ≡ 0 → 
 noticed_of_ask true n k old w e h = omega arith
 noticed_of_ask false n k old w e h = rw e (omega arith)
 
-noticed_seen : (p : CpuNo) (w : What) (a : Option Asked) (n k old : ℕ) → AsksNone w a → old ≤ n → max old (noticed p w a n k) ≡ seen_after n w k (asked_for a p k) 0 old
+noticed_seen : (p : CpuNo) (w : What) (a : Option Asked) (n k old : ℕ) → AsksNone w a → old ≤ n → max old (noticed p w a n k)
+    ≡ seen_after n w k (asked_for a p k) 0 old
 noticed_seen p (Look r) a n k old h l = rw h (omega arith)
 noticed_seen p w None n k old h l = noticed_of_none n k old w refl
 noticed_seen p w (Some a) n k old h l = noticed_of_ask ((a.cpu.0 == p.0) && (a.class == k)) n k old w refl l
 
-pub alone_left : (c : CpuState) (w : What) (n : ℕ) (v : View) → IsSound c → MayBe c w → ((k : ℕ) → k < 16 → value_at c.own.seen k ≤ n) → alone_then c n w ≡ own_then c (found_by c v) n (alone_event c.cpu w c.own.frames)
+pub alone_left : (c : CpuState) (w : What) (n : ℕ) (v : View) → IsSound c → MayBe c w → ((k : ℕ) → k < 16 → value_at c.own.seen k ≤ n) → alone_then c n w
+    ≡ own_then c (found_by c v) n (alone_event c.cpu w c.own.frames)
 alone_left c w n v s m b =
     let st : Stand = stand_in c.cpu c.own in
     let e : Event = alone_event c.cpu w c.own.frames in
     let a : Option Asked = alone_asks st w in
     let l : Lanes = told_states c.script v.states in
     let frames = due_alone c.script n l.timers.now e c.own.frames s.nested s.threads refl m.alone m.allow in
-    let asked : (k : ℕ) → asked_for a c.cpu k ≡ asks_in c.script st w l c.cpu k = λ k. ap (λ (x : List _). list_any (is_ask c.cpu k) x) (sym (asks_alone c.script st w l m.alone)) in
-    let told : (k : ℕ) → 0 ≡ told_over v.told (what_lanes c.script st w l) c.cpu k = λ k. ap (λ (x : List Lane). told_over v.told x c.cpu k) (sym (lanes_alone c.script st w l m.alone)) in
-    own_with_same c.script n None e (λ k. max (value_at c.own.seen k) (noticed c.cpu w a n k)) (λ k. seen_after n w k (asks_in c.script st w l c.cpu k) (told_over v.told (what_lanes c.script st w l) c.cpu k) (value_at c.own.seen k)) c.own (λ k h. noticed_seen c.cpu w a n k (value_at c.own.seen k) (asks_none st w) (b k h) ∙ (ap (λ (x : Bool). seen_after n w k x 0 (value_at c.own.seen k)) (asked k) ∙ ap (λ (x : ℕ). seen_after n w k (asks_in c.script st w l c.cpu k) x (value_at c.own.seen k)) (told k)))
-    ∙ ap (λ (x : _). record (own_with c.script n None e (λ k. seen_after n w k (asks_in c.script st w l c.cpu k) (told_over v.told (what_lanes c.script st w l) c.cpu k) (value_at c.own.seen k)) c.own) { frames = x }) (sym frames)
+    let asked : (k : ℕ) → asked_for a c.cpu k ≡ asks_in c.script st w l c.cpu k = λ k. ap (λ (x : List _). list_any (is_ask c.cpu k) x)
+    (sym (asks_alone c.script st w l m.alone)) in
+    let told : (k : ℕ) → 0 ≡ told_over v.told (what_lanes c.script st w l) c.cpu k = λ k. ap (λ (x : List Lane). told_over v.told x c.cpu k)
+    (sym (lanes_alone c.script st w l m.alone)) in
+    own_with_same c.script n None e (λ k. max (value_at c.own.seen k) (noticed c.cpu w a n k))
+    (λ k. seen_after n w k (asks_in c.script st w l c.cpu k) (told_over v.told (what_lanes c.script st w l) c.cpu k) (value_at c.own.seen k)) c.own
+    (λ k h. noticed_seen c.cpu w a n k (value_at c.own.seen k) (asks_none st w) (b k h)
+    ∙ (ap (λ (x : Bool). seen_after n w k x 0 (value_at c.own.seen k)) (asked k)
+    ∙ ap (λ (x : ℕ). seen_after n w k (asks_in c.script st w l c.cpu k) x (value_at c.own.seen k)) (told k)))
+    ∙ ap (λ (x : _). record (own_with c.script n None e (λ k. seen_after n w k (asks_in c.script st w l c.cpu k)
+    (told_over v.told (what_lanes c.script st w l) c.cpu k) (value_at c.own.seen k)) c.own) { frames = x }) (sym frames)

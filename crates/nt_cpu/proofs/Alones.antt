@@ -41,7 +41,8 @@ ask_list : (b : Bool) (p : CpuNo) (k : ℕ) → ask_if b p k ≡ as_list (ask_wh
 ask_list true p k = refl
 ask_list false p k = refl
 
-asks_call : (s : Script) (st : Stand) (c : Command) (y : Reply) (l : Lanes) → (is_refused y || (not (needs_lane c) && is_done y)) ≡ true → command_asks s st c y l ≡ as_list (call_asks st c y)
+asks_call : (s : Script) (st : Stand) (c : Command) (y : Reply) (l : Lanes) → (is_refused y || (not (needs_lane c) && is_done y)) ≡ true →
+    command_asks s st c y l ≡ as_list (call_asks st c y)
 asks_call s st LeaveCrit Done l h = ask_list (st.regions.crit == 1) st.cpu 1
 asks_call s st LeaveGuard Done l h = ask_list (st.regions.guard == 1) st.cpu 1
 asks_call s st (Interrupt q level) Done l h = refl
@@ -52,7 +53,8 @@ asks_call s st (Alert t m) No l h = absurd cc
 asks_call s st (Clock u) Done l h = absurd cc
 asks_call s st _ _ l h = refl
 
-asks_end : (st : Stand) (b : Option Body) (l : Lanes) → ends_alone b ≡ true → end_asks st b l ≡ as_list (ask_when (is_normal_end b || some_came_to_0 st.regions st.below) st.cpu 1)
+asks_end : (st : Stand) (b : Option Body) (l : Lanes) → ends_alone b ≡ true → end_asks st b l
+    ≡ as_list (ask_when (is_normal_end b || some_came_to_0 st.regions st.below) st.cpu 1)
 asks_end st (Some (OnApc a NormalApc)) l h = refl
 asks_end st (Some (OnApc a UserApc)) l h = absurd cc
 asks_end st (Some (OnBase t)) l h = absurd cc
@@ -118,7 +120,8 @@ level_ended x h = go x.own refl
         let n : is_null x.own ≡ false = rw e refl in rw (n) refl
 
 -- a call that is done of a command that touches no lane
-done_frames : (s : Script) (n : ℕ) (due : Option ℕ) (e : Event) (x : Frames) (f : Frame) (c : Command) → IsOurs s e x → innermost x ≡ Some f → needs_lane c ≡ false → e.what ≡ Call f.name c Done → frames_after s n due e x ≡ at_innermost (λ g. advanced (done_to c g)) x
+done_frames : (s : Script) (n : ℕ) (due : Option ℕ) (e : Event) (x : Frames) (f : Frame) (c : Command) → IsOurs s e x → innermost x ≡ Some f → needs_lane c
+    ≡ false → e.what ≡ Call f.name c Done → frames_after s n due e x ≡ at_innermost (λ g. advanced (done_to c g)) x
 done_frames s n due e x f c o k b w = go (is_frames_own c) refl
   where
     plain : (c : Command) → is_frames_own c ≡ false → needs_lane c ≡ false → (is_plain c ≡ true) × ((g : Frame) → done_to c g ≡ g)
@@ -152,7 +155,8 @@ refused_left c No f h = absurd cc
 refused_left c Blocked f h = absurd cc
 refused_left c (Status st) f h = absurd cc
 
-pub call_frames : (s : Script) (n : ℕ) (due : Option ℕ) (e : Event) (x : Frames) (f : Frame) (c : Command) (y : Reply) → IsOurs s e x → innermost x ≡ Some f → (is_refused y || (not (needs_lane c) && is_done y)) ≡ true → e.what ≡ Call f.name c y → frames_after s n due e x ≡ at_innermost (call_left c y) x
+pub call_frames : (s : Script) (n : ℕ) (due : Option ℕ) (e : Event) (x : Frames) (f : Frame) (c : Command) (y : Reply) → IsOurs s e x → innermost x ≡ Some f →
+    (is_refused y || (not (needs_lane c) && is_done y)) ≡ true → e.what ≡ Call f.name c y → frames_after s n due e x ≡ at_innermost (call_left c y) x
 call_frames s n due e x f c (Refused r) o k b w = call_refused s n due e x f c r o k w
 call_frames s n due e x f c Done o k b w =
     done_frames s n due e x f c o k (not_true _ (both _ _ b).0) w
@@ -200,7 +204,9 @@ call_left_level c (Status st) f = sym (undone_level c (Status st) f.level refl)
 call_left_level c (Refused r) f = sym (undone_level c (Refused r) f.level refl)
 
 -- neither its due time nor its number matters to its level
-pub level_alone : (s : Script) (n : ℕ) (due : Option ℕ) (e : Event) (w : What) (x : Frames) → e.what ≡ w → AreNested x → length x.threads ≡ length s.threads → e.thread ≡ thread_field w x.running → is_alone (option_map (λ f. f.body) (innermost x)) w ≡ true → Allow s w x → level_field w (frames_after s n due e x) ≡ alone_level w x
+pub level_alone : (s : Script) (n : ℕ) (due : Option ℕ) (e : Event) (w : What) (x : Frames) → e.what ≡ w → AreNested x → length x.threads ≡ length s.threads →
+    e.thread ≡ thread_field w x.running → is_alone (option_map (λ f. f.body) (innermost x)) w ≡ true → Allow s w x → level_field w (frames_after s n due e x)
+    ≡ alone_level w x
 level_alone s n due e (Call f c y) x q h l t b a =
     let i = a.0 in
     let o : IsOurs s e x = record { nested = h; threads = l; thread = t } in
@@ -230,12 +236,15 @@ level_alone s n due e (Look r) x q h l t b a = refl
 level_alone s n due e _ x q h l t b a = absurd cc
 
 -- so it is the event that the definitions name
-pub event_alone : (s : Script) (p : CpuNo) (w : What) (x : Frames) → AreNested x → length x.threads ≡ length s.threads → is_alone (option_map (λ f. f.body) (innermost x)) w ≡ true → Allow s w x → event_at s p w x ≡ alone_event p w x
+pub event_alone : (s : Script) (p : CpuNo) (w : What) (x : Frames) → AreNested x → length x.threads ≡ length s.threads →
+    is_alone (option_map (λ f. f.body) (innermost x)) w ≡ true → Allow s w x → event_at s p w x ≡ alone_event p w x
 event_alone s p w x h l b a =
     ap (λ (k : ℕ). record (unleveled p w x) { level = k }) (level_alone s 0 None (unleveled p w x) w x refl h l refl b a)
 
 -- a due time doesn't matter to what it leaves of the frames
-pub due_alone : (s : Script) (n now : ℕ) (e : Event) (x : Frames) → AreNested x → length x.threads ≡ length s.threads → e.thread ≡ thread_field e.what x.running → is_alone (option_map (λ f. f.body) (innermost x)) e.what ≡ true → Allow s e.what x → frames_after s n (due_of e.what now) e x ≡ frames_after s n None e x
+pub due_alone : (s : Script) (n now : ℕ) (e : Event) (x : Frames) → AreNested x → length x.threads ≡ length s.threads → e.thread
+    ≡ thread_field e.what x.running → is_alone (option_map (λ f. f.body) (innermost x)) e.what ≡ true → Allow s e.what x →
+    frames_after s n (due_of e.what now) e x ≡ frames_after s n None e x
 due_alone s n now e x h l t b a = go e.what refl
   where
     none : (w : What) → e.what ≡ w → due_of w now ≡ None → frames_after s n (due_of e.what now) e x ≡ frames_after s n None e x

@@ -65,7 +65,9 @@ flush_ends n a None fs h = h
 flush_ends n a (Some r) fs h = over_based (new_frame n (OnRundown a)) fs h
 
 -- an event of the running thread, but its end, leaves it its base
-ends_after : (s : Script) (n : ℕ) (due : Option ℕ) (w : What) (r : Option ThreadNo) (t : ThreadNo) (fs : List Frame) → thread_field w r ≡ Some t → (fs ≡ []) ⊎ EndsInBase fs → (r ≡ Some t → EndsInBase fs) → ((thread_after s n due w fs ≡ []) ⊎ EndsInBase (thread_after s n due w fs)) × (running_after w r ≡ Some t → EndsInBase (thread_after s n due w fs))
+ends_after : (s : Script) (n : ℕ) (due : Option ℕ) (w : What) (r : Option ThreadNo) (t : ThreadNo) (fs : List Frame) → thread_field w r ≡ Some t → (fs ≡ []) ⊎
+    EndsInBase fs → (r ≡ Some t → EndsInBase fs) → ((thread_after s n due w fs ≡ []) ⊎ EndsInBase (thread_after s n due w fs)) ×
+    (running_after w r ≡ Some t → EndsInBase (thread_after s n due w fs))
 ends_after s n due (Switch u st) r t fs e o k =
     let h = taken fs o in (inr h, λ _. h)
   where
@@ -111,9 +113,12 @@ runs_based x t h e = rw e at h.runs
 itself : (t : ThreadNo) → is_thread (Some t) t ≡ true
 itself t = grind (arith, nat_tests)
 
-pub based_after : (s : Script) (n : ℕ) (due : Option ℕ) (e : Event) (x : Frames) → length x.threads ≡ length s.threads → e.thread ≡ thread_field e.what x.running → IfSome (running_after e.what x.running) (λ t. t.0 < length x.threads) → AreBased x → AreBased (frames_after s n due e x)
+pub based_after : (s : Script) (n : ℕ) (due : Option ℕ) (e : Event) (x : Frames) → length x.threads ≡ length s.threads → e.thread
+    ≡ thread_field e.what x.running → IfSome (running_after e.what x.running) (λ t. t.0 < length x.threads) → AreBased x → AreBased (frames_after s n due e x)
 based_after s n due e x l k b h = record {
-  parts = All-from_get_or (λ fs. (fs ≡ []) ⊎ EndsInBase fs) _ [] (λ i q. let c : i < length s.threads = omega (arith, length-table_from {A = List Frame} 0 (length s.threads) (λ t. left_of t)) in rw (get_or-table {A = List Frame} (length s.threads) i (λ t. left_of t) [] c) (part i (is_by e (thread i)) refl));
+  parts = All-from_get_or (λ fs. (fs ≡ []) ⊎ EndsInBase fs) _ []
+      (λ i q. let c : i < length s.threads = omega (arith, length-table_from {A = List Frame} 0 (length s.threads) (λ t. left_of t)) in
+      rw (get_or-table {A = List Frame} (length s.threads) i (λ t. left_of t) [] c) (part i (is_by e (thread i)) refl));
   runs = runs (running_after e.what x.running) refl b;
 }
   where
@@ -123,15 +128,19 @@ based_after s n due e x l k b h = record {
     named : (t : ThreadNo) → is_by e t ≡ true → thread_field e.what x.running ≡ Some t
     named t q = sym k ∙ same_thread e.thread t q
 
-    after : (t : ThreadNo) → is_by e t ≡ true → ((thread_after s n due e.what (frames_in x.threads t) ≡ []) ⊎ EndsInBase (thread_after s n due e.what (frames_in x.threads t))) × (running_after e.what x.running ≡ Some t → EndsInBase (thread_after s n due e.what (frames_in x.threads t)))
+    after : (t : ThreadNo) → is_by e t ≡ true → ((thread_after s n due e.what (frames_in x.threads t) ≡ []) ⊎
+        EndsInBase (thread_after s n due e.what (frames_in x.threads t))) ×
+        (running_after e.what x.running ≡ Some t → EndsInBase (thread_after s n due e.what (frames_in x.threads t)))
     after t q =
         ends_after s n due e.what x.running t (frames_in x.threads t) (named t q) (part_based x t.0 h) (runs_based x t h)
 
-    part : (i : ℕ) (b : Bool) → is_by e (thread i) ≡ b → (thread_if b s n due e.what (get_or x.threads i []) ≡ []) ⊎ EndsInBase (thread_if b s n due e.what (get_or x.threads i []))
+    part : (i : ℕ) (b : Bool) → is_by e (thread i) ≡ b → (thread_if b s n due e.what (get_or x.threads i []) ≡ []) ⊎
+        EndsInBase (thread_if b s n due e.what (get_or x.threads i []))
     part i true q = (after (thread i) q).0
     part i false q = part_based x i h
 
-    runner : (t : ThreadNo) (b : Bool) → is_by e t ≡ b → running_after e.what x.running ≡ Some t → EndsInBase (thread_if b s n due e.what (frames_in x.threads t))
+    runner : (t : ThreadNo) (b : Bool) → is_by e t ≡ b → running_after e.what x.running ≡ Some t →
+        EndsInBase (thread_if b s n due e.what (frames_in x.threads t))
     runner t true q r = (after t q).1 r
     runner t false q r = other (names_runner e.what x.running t r)
       where
@@ -142,7 +151,8 @@ based_after s n due e x l k b h = record {
             absurd (cc (itself t))
         other (inr f) = runs_based x t h f
 
-    runs : (r : Option ThreadNo) → running_after e.what x.running ≡ r → IfSome r (λ t. t.0 < length x.threads) → IfSome r (λ t. EndsInBase (frames_in (table (length s.threads) (λ t. left_of t)) t))
+    runs : (r : Option ThreadNo) → running_after e.what x.running ≡ r → IfSome r (λ t. t.0 < length x.threads) →
+        IfSome r (λ t. EndsInBase (frames_in (table (length s.threads) (λ t. left_of t)) t))
     runs None q c = tt
     runs (Some t) q c =
         rw (get_or-table {A = List Frame} (length s.threads) t.0 (λ t. left_of t) [] (omega (arith, l))) (runner t (is_by e t) refl q)

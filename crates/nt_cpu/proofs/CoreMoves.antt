@@ -52,13 +52,15 @@ gives_cpu c l t e h = cut (is_cut c.limit c.own) h
         some None q k = absurd cc
         some (Some y) q k = let i : y ≡ e = cc in task_cpu c.script c.cpu c.own l a e (q ∙ ap Some i)
 
-    cut : (b : Bool) → (if b then Err NothingToDo else event_or_refusal (turn_refusal t) (option_and_then (task_makes c.script c.cpu c.own l) (turn_task c.script c.cpu c.own t))) ≡ Ok e → e.cpu ≡ c.cpu
+    cut : (b : Bool) → (if b then Err NothingToDo else event_or_refusal (turn_refusal t)
+        (option_and_then (task_makes c.script c.cpu c.own l) (turn_task c.script c.cpu c.own t))) ≡ Ok e → e.cpu ≡ c.cpu
     cut true k = absurd cc
     cut false k = made (turn_task c.script c.cpu c.own t) k
 
 -- ---- what is told
 
-told_all : (s : Script) (past : List Event) (f : Told) (xs : List Lane) (q : CpuNo) (k : ℕ) → ((x : Lane) → f x q k ≡ told_by s x q k past) → told_over f xs q k ≡ told_by_all s xs q k past
+told_all : (s : Script) (past : List Event) (f : Told) (xs : List Lane) (q : CpuNo) (k : ℕ) → ((x : Lane) → f x q k ≡ told_by s x q k past) →
+    told_over f xs q k ≡ told_by_all s xs q k past
 told_all s past f [] q k h = refl
 told_all s past f (x ∷ xs) q k h =
     ap (λ (n : ℕ). max n (told_over f xs q k)) (h x) ∙ ap (λ (n : ℕ). max (told_by s x q k past) n) (told_all s past f xs q k h)
@@ -73,12 +75,21 @@ of_itself : (e : Event) (p : CpuNo) → e.cpu ≡ p → is_of e p ≡ true
 of_itself e p c = let h : e.cpu.0 ≡ p.0 = ap (λ (q : CpuNo). q.0) c in grind (arith, nat_tests)
 
 -- what the processor keeps moves on
-pub own_moves_on : (s : Script) (limit : ℕ) (p : CpuNo) (past : List Event) (f : Found) (n : ℕ) (e : Event) → e.cpu ≡ p → n ≡ length past → FoundIn s past f → ((x : Lane) (k : ℕ) → k < 16 → f.told x p k ≡ told_by s x p k past) → own_then (state_of s p limit past) f n e ≡ own_of s p (e ∷ past)
+pub own_moves_on : (s : Script) (limit : ℕ) (p : CpuNo) (past : List Event) (f : Found) (n : ℕ) (e : Event) → e.cpu ≡ p → n ≡ length past → FoundIn s past f →
+    ((x : Lane) (k : ℕ) → k < 16 → f.told x p k ≡ told_by s x p k past) → own_then (state_of s p limit past) f n e ≡ own_of s p (e ∷ past)
 own_moves_on s limit p past f n e c m l t =
-    ap (λ (y : Lanes). own_with s n (due_of e.what y.timers.now) e (λ k. seen_after n e.what k (asks_in s (stand_at s p past) e.what y p k) (told_over f.told (what_lanes s (stand_at s p past) e.what y) p k) (value_at (own_of s p past).seen k)) (own_of s p past)) l
-    ∙ own_with_same s n (due_of e.what (time past)) e _ _ (own_of s p past) (λ k b. ap (λ (x : ℕ). seen_after n e.what k (asks_in s (stand_at s p past) e.what (lanes_at s past) p k) x (value_at (own_of s p past).seen k)) (told_all s past f.told (what_lanes s (stand_at s p past) e.what (lanes_at s past)) p k (λ x. t x k b)))
-    ∙ ap (λ (x : ℕ). own_with s x (due_of e.what (time past)) e (λ k. seen_after x e.what k (asks_in s (stand_at s p past) e.what (lanes_at s past) p k) (told_by_all s (what_lanes s (stand_at s p past) e.what (lanes_at s past)) p k past) (value_at (own_of s p past).seen k)) (own_of s p past)) m
-    ∙ ap (λ (q : CpuNo). own_with s (length past) (due_of e.what (time past)) e (λ k. seen_after (length past) e.what k (asks_in s (stand_at s q past) e.what (lanes_at s past) p k) (told_by_all s (what_lanes s (stand_at s q past) e.what (lanes_at s past)) p k past) (value_at (own_of s p past).seen k)) (own_of s p past)) (sym c)
+    ap (λ (y : Lanes). own_with s n (due_of e.what y.timers.now) e
+    (λ k. seen_after n e.what k (asks_in s (stand_at s p past) e.what y p k) (told_over f.told (what_lanes s (stand_at s p past) e.what y) p k)
+    (value_at (own_of s p past).seen k)) (own_of s p past)) l
+    ∙ own_with_same s n (due_of e.what (time past)) e _ _ (own_of s p past)
+    (λ k b. ap (λ (x : ℕ). seen_after n e.what k (asks_in s (stand_at s p past) e.what (lanes_at s past) p k) x (value_at (own_of s p past).seen k))
+    (told_all s past f.told (what_lanes s (stand_at s p past) e.what (lanes_at s past)) p k (λ x. t x k b)))
+    ∙ ap (λ (x : ℕ). own_with s x (due_of e.what (time past)) e
+    (λ k. seen_after x e.what k (asks_in s (stand_at s p past) e.what (lanes_at s past) p k)
+    (told_by_all s (what_lanes s (stand_at s p past) e.what (lanes_at s past)) p k past) (value_at (own_of s p past).seen k)) (own_of s p past)) m
+    ∙ ap (λ (q : CpuNo). own_with s (length past) (due_of e.what (time past)) e
+    (λ k. seen_after (length past) e.what k (asks_in s (stand_at s q past) e.what (lanes_at s past) p k)
+    (told_by_all s (what_lanes s (stand_at s q past) e.what (lanes_at s past)) p k past) (value_at (own_of s p past).seen k)) (own_of s p past)) (sym c)
     ∙ sym (own_moves_here s p e past (of_itself e p c))
 
 -- the other processors keep what they kept
@@ -86,15 +97,29 @@ pub own_stays_on : (s : Script) (q : CpuNo) (past : List Event) (e : Event) → 
 own_stays_on s q past e n = own_stays s q e past (grind (arith, nat_tests))
 
 -- the floor follows the longer history, where it goes on telling its states
-pub follows_on : (s : Script) (p : CpuNo) (past : List Event) (f : Found) (n : ℕ) (e : Event) (v w : View) (m : Lanes) → e.cpu ≡ p → Follows s past v → IsMoved s n e (stand_at s p past) f v w → w.states ≡ Some m → Follows s (e ∷ past) w
+pub follows_on : (s : Script) (p : CpuNo) (past : List Event) (f : Found) (n : ℕ) (e : Event) (v w : View) (m : Lanes) → e.cpu ≡ p → Follows s past v →
+    IsMoved s n e (stand_at s p past) f v w → w.states ≡ Some m → Follows s (e ∷ past) w
 follows_on s p past f n e v w m c h i k = record {
   cpus = i.cpus ∙ h.cpus;
   alone = i.alone ∙ h.alone;
   next = (i.exact h.alone).1 ∙ (ap (λ (x : ℕ). x + 1) number ∙ add-one (length past));
   states = states;
-  told = λ x q d b. i.told_after h.alone x q d (word q d b) ∙ (found (λ y. raised (is_among x (what_lanes s (stand_at s p past) e.what y) && asks_in s (stand_at s p past) e.what y q d) n (f.told x q d)) ∙ (ap (λ (z : ℕ). raised (is_among x (what_lanes s (stand_at s p past) e.what (lanes_at s past)) && asks_in s (stand_at s p past) e.what (lanes_at s past) q d) n z) (sym (i.told_before h.alone x q d (word q d b)) ∙ h.told x q d (word q d b)) ∙ (ap (λ (z : ℕ). raised (is_among x (what_lanes s (stand_at s p past) e.what (lanes_at s past)) && asks_in s (stand_at s p past) e.what (lanes_at s past) q d) z (told_by s x q d past)) number ∙ here (λ r. raised (is_among x (what_lanes s (stand_at s r past) e.what (lanes_at s past)) && asks_in s (stand_at s r past) e.what (lanes_at s past) q d) (length past) (told_by s x q d past)))));
-  value = λ q d b. i.value h.alone q d (word q d b) ∙ (found (λ y. raised (asks_in s (stand_at s p past) e.what y q d) n (v.value q d)) ∙ (ap (λ (z : ℕ). raised (asks_in s (stand_at s p past) e.what (lanes_at s past) q d) n z) (h.value q d (word q d b)) ∙ (ap (λ (z : ℕ). raised (asks_in s (stand_at s p past) e.what (lanes_at s past) q d) z (asked s q d past)) number ∙ here (λ r. raised (asks_in s (stand_at s r past) e.what (lanes_at s past) q d) (length past) (asked s q d past)))));
-  marked = λ j q d b. i.marked j q d (word q d b) ∙ (found_bool (λ y. v.marked j q d || ((j == n) && asks_in s (stand_at s p past) e.what y q d)) ∙ (ap (λ (z : Bool). z || ((j == n) && asks_in s (stand_at s p past) e.what (lanes_at s past) q d)) (h.marked j q d (word q d b)) ∙ (ap (λ (z : ℕ). asks_at s j q d past || ((j == z) && asks_in s (stand_at s p past) e.what (lanes_at s past) q d)) number ∙ here_bool (λ r. asks_at s j q d past || ((j == length past) && asks_in s (stand_at s r past) e.what (lanes_at s past) q d)))));
+  told = λ x q d b. i.told_after h.alone x q d (word q d b)
+      ∙ (found (λ y. raised (is_among x (what_lanes s (stand_at s p past) e.what y) && asks_in s (stand_at s p past) e.what y q d) n (f.told x q d))
+      ∙ (ap (λ (z : ℕ). raised (is_among x (what_lanes s (stand_at s p past) e.what (lanes_at s past))
+      && asks_in s (stand_at s p past) e.what (lanes_at s past) q d) n z) (sym (i.told_before h.alone x q d (word q d b)) ∙ h.told x q d (word q d b))
+      ∙ (ap (λ (z : ℕ). raised (is_among x (what_lanes s (stand_at s p past) e.what (lanes_at s past))
+      && asks_in s (stand_at s p past) e.what (lanes_at s past) q d) z (told_by s x q d past)) number
+      ∙ here (λ r. raised (is_among x (what_lanes s (stand_at s r past) e.what (lanes_at s past))
+      && asks_in s (stand_at s r past) e.what (lanes_at s past) q d) (length past) (told_by s x q d past)))));
+  value = λ q d b. i.value h.alone q d (word q d b) ∙ (found (λ y. raised (asks_in s (stand_at s p past) e.what y q d) n (v.value q d))
+      ∙ (ap (λ (z : ℕ). raised (asks_in s (stand_at s p past) e.what (lanes_at s past) q d) n z) (h.value q d (word q d b))
+      ∙ (ap (λ (z : ℕ). raised (asks_in s (stand_at s p past) e.what (lanes_at s past) q d) z (asked s q d past)) number
+      ∙ here (λ r. raised (asks_in s (stand_at s r past) e.what (lanes_at s past) q d) (length past) (asked s q d past)))));
+  marked = λ j q d b. i.marked j q d (word q d b) ∙ (found_bool (λ y. v.marked j q d || ((j == n) && asks_in s (stand_at s p past) e.what y q d))
+      ∙ (ap (λ (z : Bool). z || ((j == n) && asks_in s (stand_at s p past) e.what (lanes_at s past) q d)) (h.marked j q d (word q d b))
+      ∙ (ap (λ (z : ℕ). asks_at s j q d past || ((j == z) && asks_in s (stand_at s p past) e.what (lanes_at s past) q d)) number
+      ∙ here_bool (λ r. asks_at s j q d past || ((j == length past) && asks_in s (stand_at s r past) e.what (lanes_at s past) q d)))));
 }
   where
     number : n ≡ length past
@@ -121,7 +146,9 @@ follows_on s p past f n e v w m c h i k = record {
     states : w.states ≡ Some (lanes_at s (e ∷ past))
     states =
         let a : m ≡ lanes_after s n (stand_at s p past) e f.lanes = rw k at i.after in
-        k ∙ ap (λ (y : Lanes). Some y) (a ∙ (ap (λ (y : Lanes). lanes_after s n (stand_at s p past) e y) lanes ∙ (ap (λ (z : ℕ). lanes_after s z (stand_at s p past) e (lanes_at s past)) number ∙ (ap (λ (q : CpuNo). lanes_after s (length past) (stand_at s q past) e (lanes_at s past)) (sym c) ∙ sym (lanes_move s e past)))))
+        k ∙ ap (λ (y : Lanes). Some y) (a ∙ (ap (λ (y : Lanes). lanes_after s n (stand_at s p past) e y) lanes
+        ∙ (ap (λ (z : ℕ). lanes_after s z (stand_at s p past) e (lanes_at s past)) number
+        ∙ (ap (λ (q : CpuNo). lanes_after s (length past) (stand_at s q past) e (lanes_at s past)) (sym c) ∙ sym (lanes_move s e past)))))
 
 -- ---- the whole turn
 
@@ -131,11 +158,18 @@ pub record MovesOn (s : Script) (limit : ℕ) (p : CpuNo) (past : List Event) (e
   pub state : d ≡ state_of s p limit (e ∷ past)
   pub floor : Follows s (e ∷ past) w
 
-pub moves_on : (s : Script) (limit : ℕ) (p : CpuNo) (past : List Event) (t : Turn) (f : Found) (n : ℕ) (e : Event) (d : CpuState) (v w : View) (m : Lanes) → p.0 < s.cpus → Follows s past v → IsTurned (state_of s p limit past) d t f n e v w → w.states ≡ Some m → MovesOn s limit p past e d w
+pub moves_on : (s : Script) (limit : ℕ) (p : CpuNo) (past : List Event) (t : Turn) (f : Found) (n : ℕ) (e : Event) (d : CpuState) (v w : View) (m : Lanes) →
+    p.0 < s.cpus → Follows s past v → IsTurned (state_of s p limit past) d t f n e v w → w.states ≡ Some m → MovesOn s limit p past e d w
 moves_on s limit p past t f n e d v w m b h i k =
     let c : e.cpu ≡ p = gives_cpu (state_of s p limit past) f.lanes t e i.event in
     let g = i.floor in
     let lanes : f.lanes ≡ lanes_at s past = sym (rw h.states at g.before) in
     let number : n ≡ length past = (g.exact h.alone).0 ∙ h.next in
-    let told : (x : Lane) (k : ℕ) → k < 16 → f.told x p k ≡ told_by s x p k past = λ x k q. let y : HasWord v p k = (let z = h.cpus in omega arith, q) in sym (g.told_before h.alone x p k y) ∙ h.told x p k y in
-    record { cpu = c; state = i.state ∙ ap (λ (x : Own). record { script = s; cpu = p; limit = limit; own = x }) (own_moves_on s limit p past f n e c number lanes told); floor = follows_on s p past f n e v w m c h g k }
+    let told : (x : Lane) (k : ℕ) → k < 16 → f.told x p k ≡ told_by s x p k past = λ x k q. let y : HasWord v p k = (let z = h.cpus in omega arith, q) in
+    sym (g.told_before h.alone x p k y) ∙ h.told x p k y in
+    record {
+      cpu = c;
+      state = i.state ∙ ap (λ (x : Own). record { script = s; cpu = p; limit = limit; own = x })
+          (own_moves_on s limit p past f n e c number lanes told);
+      floor = follows_on s p past f n e v w m c h g k;
+    }

@@ -54,7 +54,10 @@ next_below n (f ∷ fs) h = let b = h.0 in omega arith
 pub named_below : (s : Script) (p : CpuNo) (past : List Event) → AreNamedBelow (length past) (frames_of s p past)
 named_below s p past = (
   next_below (length past) (own_frames p past) (all_named s p (thread 0) past).own,
-  All-from_get_or (λ fs. next_name fs ≤ length past) _ [] (λ i b. let k : i < length s.threads = omega (arith, length-table_from {A = List Frame} 0 (length s.threads) (λ t. thread_frames s p (thread t) past)) in rw (get_or-table {A = List Frame} (length s.threads) i (λ t. thread_frames s p (thread t) past) [] k) (next_below (length past) (thread_frames s p (thread i) past) (all_named s p (thread i) past).thread)),
+  All-from_get_or (λ fs. next_name fs ≤ length past) _ []
+      (λ i b. let k : i < length s.threads = omega (arith, length-table_from {A = List Frame} 0 (length s.threads) (λ t. thread_frames s p (thread t) past)) in
+      rw (get_or-table {A = List Frame} (length s.threads) i (λ t. thread_frames s p (thread t) past) [] k)
+      (next_below (length past) (thread_frames s p (thread i) past) (all_named s p (thread i) past).thread)),
 )
 
 -- in a run each processor stands in the states of the lanes
@@ -66,7 +69,8 @@ stands_run s limit p past r = record {
 }
 
 -- in a run a floor that follows it serves each processor
-pub serves_run : (s : Script) (limit : ℕ) (p : CpuNo) (past : List Event) (v : View) → IsRun s limit past → p.0 < s.cpus → Follows s past v → (is_cut limit (own_of s p past) ≡ false → 1 ≤ v.drawable) → Serves (state_of s p limit past) v
+pub serves_run : (s : Script) (limit : ℕ) (p : CpuNo) (past : List Event) (v : View) → IsRun s limit past → p.0 < s.cpus → Follows s past v →
+    (is_cut limit (own_of s p past) ≡ false → 1 ≤ v.drawable) → Serves (state_of s p limit past) v
 serves_run s limit p past v r b f l = record {
   cpus = f.cpus;
   drawable = l;
@@ -92,7 +96,8 @@ split false true false true h = refl
 split false true false false h = refl
 split false false w g h = refl
 
-good_split : (s : Script) (p : CpuNo) (k : ℕ) (vs : List ℕ) (x : Own) (past : List Event) → good_rises s p k vs x past ≡ (rise_above k vs x.seen && asked_rises s p k vs past)
+good_split : (s : Script) (p : CpuNo) (k : ℕ) (vs : List ℕ) (x : Own) (past : List Event) → good_rises s p k vs x past
+    ≡ (rise_above k vs x.seen && asked_rises s p k vs past)
 good_split s p k [] x past = refl
 good_split s p k (v ∷ vs) x past =
     ap (λ (b : Bool). ((v == 0) || (nat_lt (value_at x.seen k) v && was_asked s p k v past)) && b) (good_split s p (suc k) vs x past)
@@ -107,14 +112,18 @@ and_false true = refl
 and_false false = refl
 
 -- where its values were asked for, a look is good exactly where they rise
-pub rises_good : (s : Script) (p : CpuNo) (r : Rises) (x : Own) (past : List Event) → asked_rises s p 0 r.value past ≡ true → is_good_look s p r.value x past ≡ rises r.value x.seen
+pub rises_good : (s : Script) (p : CpuNo) (r : Rises) (x : Own) (past : List Event) → asked_rises s p 0 r.value past ≡ true → is_good_look s p r.value x past
+    ≡ rises r.value x.seen
 rises_good s p r x past h =
-    ap (λ (b : Bool). list_any (λ v. nat_lt 0 v) r.value && b) (good_split s p 0 r.value x past ∙ (ap (λ (b : Bool). rise_above 0 r.value x.seen && b) h ∙ and_true (rise_above 0 r.value x.seen)))
+    ap (λ (b : Bool). list_any (λ v. nat_lt 0 v) r.value && b)
+    (good_split s p 0 r.value x past ∙ (ap (λ (b : Bool). rise_above 0 r.value x.seen && b) h ∙ and_true (rise_above 0 r.value x.seen)))
 
 -- where one was not, it is bad
-pub unasked_bad : (s : Script) (p : CpuNo) (r : Rises) (x : Own) (past : List Event) → asked_rises s p 0 r.value past ≡ false → is_good_look s p r.value x past ≡ false
+pub unasked_bad : (s : Script) (p : CpuNo) (r : Rises) (x : Own) (past : List Event) → asked_rises s p 0 r.value past ≡ false → is_good_look s p r.value x past
+    ≡ false
 unasked_bad s p r x past h =
-    ap (λ (b : Bool). list_any (λ v. nat_lt 0 v) r.value && b) (good_split s p 0 r.value x past ∙ (ap (λ (b : Bool). rise_above 0 r.value x.seen && b) h ∙ and_false (rise_above 0 r.value x.seen)))
+    ap (λ (b : Bool). list_any (λ v. nat_lt 0 v) r.value && b)
+    (good_split s p 0 r.value x past ∙ (ap (λ (b : Bool). rise_above 0 r.value x.seen && b) h ∙ and_false (rise_above 0 r.value x.seen)))
     ∙ and_false (list_any (λ v. nat_lt 0 v) r.value)
 
 -- ---- turns are steps
@@ -131,53 +140,77 @@ as_step (Ok e) = Ok e
 as_step (Err r) = Err (kind_of_refusal r)
 
 -- a job under lanes gives the event that the frames give
-job_steps : (s : Script) (limit : ℕ) (p : CpuNo) (job : Job) (k : TurnRefusal) (past : List Event) → IsRun s limit past → IsDue s p (own_of s p past) job → as_step (event_or_refusal k (option_map (acted_event (stand_at s p past) (lanes_at s past)) (job_event s (stand_at s p past) (lanes_at s past) job))) ≡ event_or s p (own_of s p past) (kind_of_refusal k) (job_event s (stand_at s p past) (lanes_at s past) job)
+job_steps : (s : Script) (limit : ℕ) (p : CpuNo) (job : Job) (k : TurnRefusal) (past : List Event) → IsRun s limit past → IsDue s p (own_of s p past) job →
+    as_step (event_or_refusal k (option_map (acted_event (stand_at s p past) (lanes_at s past)) (job_event s (stand_at s p past) (lanes_at s past) job)))
+    ≡ event_or s p (own_of s p past) (kind_of_refusal k) (job_event s (stand_at s p past) (lanes_at s past) job)
 job_steps s limit p job k past r d = go (job_event s (stand_at s p past) (lanes_at s past) job) refl
   where
-    go : (o : Option What) → job_event s (stand_at s p past) (lanes_at s past) job ≡ o → as_step (event_or_refusal k (option_map (acted_event (stand_at s p past) (lanes_at s past)) o)) ≡ event_or s p (own_of s p past) (kind_of_refusal k) o
+    go : (o : Option What) → job_event s (stand_at s p past) (lanes_at s past) job ≡ o →
+        as_step (event_or_refusal k (option_map (acted_event (stand_at s p past) (lanes_at s past)) o)) ≡ event_or s p (own_of s p past) (kind_of_refusal k) o
     go None e = refl
     go (Some w) e = ap (λ (x : Event). Ok x) (sym (events_agree s limit p job w past r d e))
 
-next_steps : (s : Script) (limit : ℕ) (p : CpuNo) (past : List Event) → IsRun s limit past → as_step (event_or_refusal NothingToDo (option_and_then (task_makes s p (own_of s p past) (lanes_at s past)) (task s p (own_of s p past)))) ≡ event_or s p (own_of s p past) NothingToDoKind (option_and_then (task_event s (stand_at s p past) (lanes_at s past)) (task s p (own_of s p past)))
+next_steps : (s : Script) (limit : ℕ) (p : CpuNo) (past : List Event) → IsRun s limit past →
+    as_step (event_or_refusal NothingToDo (option_and_then (task_makes s p (own_of s p past) (lanes_at s past)) (task s p (own_of s p past))))
+    ≡ event_or s p (own_of s p past) NothingToDoKind (option_and_then (task_event s (stand_at s p past) (lanes_at s past)) (task s p (own_of s p past)))
 next_steps s limit p past r = go (task s p (own_of s p past)) refl
   where
-    go : (o : Option Task) → task s p (own_of s p past) ≡ o → as_step (event_or_refusal NothingToDo (option_and_then (task_makes s p (own_of s p past) (lanes_at s past)) o)) ≡ event_or s p (own_of s p past) NothingToDoKind (option_and_then (task_event s (stand_at s p past) (lanes_at s past)) o)
+    go : (o : Option Task) → task s p (own_of s p past) ≡ o →
+        as_step (event_or_refusal NothingToDo (option_and_then (task_makes s p (own_of s p past) (lanes_at s past)) o))
+        ≡ event_or s p (own_of s p past) NothingToDoKind (option_and_then (task_event s (stand_at s p past) (lanes_at s past)) o)
     go None e = refl
     go (Some (Alone w)) e = refl
     go (Some (Shared job)) e = job_steps s limit p job NothingToDo past r (inl e)
 
-look_steps : (s : Script) (p : CpuNo) (r : Rises) (past : List Event) → asked_rises s p 0 r.value past ≡ true → as_step (event_or_refusal BadLook (option_and_then (task_makes s p (own_of s p past) (lanes_at s past)) (when (rises r.value (own_of s p past).seen) (Some (Alone (Look r)))))) ≡ event_or s p (own_of s p past) BadLookKind (when (is_good_look s p r.value (own_of s p past) past) (Some (Look r)))
+look_steps : (s : Script) (p : CpuNo) (r : Rises) (past : List Event) → asked_rises s p 0 r.value past ≡ true →
+    as_step (event_or_refusal BadLook (option_and_then (task_makes s p (own_of s p past) (lanes_at s past))
+    (when (rises r.value (own_of s p past).seen) (Some (Alone (Look r))))))
+    ≡ event_or s p (own_of s p past) BadLookKind (when (is_good_look s p r.value (own_of s p past) past) (Some (Look r)))
 look_steps s p r past h =
     go (rises r.value (own_of s p past).seen)
     ∙ ap (λ (b : Bool). event_or s p (own_of s p past) BadLookKind (when b (Some (Look r)))) (sym (rises_good s p r (own_of s p past) past h))
   where
-    go : (b : Bool) → as_step (event_or_refusal BadLook (option_and_then (task_makes s p (own_of s p past) (lanes_at s past)) (when b (Some (Alone (Look r)))))) ≡ event_or s p (own_of s p past) BadLookKind (when b (Some (Look r)))
+    go : (b : Bool) → as_step (event_or_refusal BadLook (option_and_then (task_makes s p (own_of s p past) (lanes_at s past))
+        (when b (Some (Alone (Look r)))))) ≡ event_or s p (own_of s p past) BadLookKind (when b (Some (Look r)))
     go true = refl
     go false = refl
 
-switch_steps : (s : Script) (limit : ℕ) (p : CpuNo) (t : ThreadNo) (past : List Event) → IsRun s limit past → as_step (event_or_refusal BadChoice (option_and_then (task_makes s p (own_of s p past) (lanes_at s past)) (when (may_switch (own_of s p past) && has_thread s t) (Some (Shared (SwitchJob t)))))) ≡ event_or s p (own_of s p past) BadChoiceKind (when (may_switch (own_of s p past)) (job_event s (stand_at s p past) (lanes_at s past) (SwitchJob t)))
+switch_steps : (s : Script) (limit : ℕ) (p : CpuNo) (t : ThreadNo) (past : List Event) → IsRun s limit past →
+    as_step (event_or_refusal BadChoice (option_and_then (task_makes s p (own_of s p past) (lanes_at s past))
+    (when (may_switch (own_of s p past) && has_thread s t) (Some (Shared (SwitchJob t))))))
+    ≡ event_or s p (own_of s p past) BadChoiceKind (when (may_switch (own_of s p past)) (job_event s (stand_at s p past) (lanes_at s past) (SwitchJob t)))
 switch_steps s limit p t past r =
     go (may_switch (own_of s p past)) refl (has_thread s t) refl
   where
-    go : (b : Bool) → may_switch (own_of s p past) ≡ b → (h : Bool) → has_thread s t ≡ h → as_step (event_or_refusal BadChoice (option_and_then (task_makes s p (own_of s p past) (lanes_at s past)) (when (b && h) (Some (Shared (SwitchJob t)))))) ≡ event_or s p (own_of s p past) BadChoiceKind (when b (job_event s (stand_at s p past) (lanes_at s past) (SwitchJob t)))
+    go : (b : Bool) → may_switch (own_of s p past) ≡ b → (h : Bool) → has_thread s t ≡ h →
+        as_step (event_or_refusal BadChoice (option_and_then (task_makes s p (own_of s p past) (lanes_at s past))
+        (when (b && h) (Some (Shared (SwitchJob t)))))) ≡ event_or s p (own_of s p past) BadChoiceKind
+        (when b (job_event s (stand_at s p past) (lanes_at s past) (SwitchJob t)))
     go true m true h = job_steps s limit p (SwitchJob t) BadChoice past r (inr (refl, m))
     go true m false h = rw h refl
     go false m h q = refl
 
 -- what the turn gives of a processor in a run is the step
-pub turn_is_step : (s : Script) (limit : ℕ) (t : Turn) (past : List Event) → IsRun s limit past → (cpu_at t).0 < s.cpus → is_asked s t past ≡ true → as_step (turn_gives (state_of s (cpu_at t) limit past) (lanes_at s past) t) ≡ step s limit t past
+pub turn_is_step : (s : Script) (limit : ℕ) (t : Turn) (past : List Event) → IsRun s limit past → (cpu_at t).0 < s.cpus → is_asked s t past ≡ true →
+    as_step (turn_gives (state_of s (cpu_at t) limit past) (lanes_at s past) t) ≡ step s limit t past
 turn_is_step s limit t past r b a =
     uncut t a (is_cut limit (own_of s (cpu_at t) past)) refl
-    ∙ ap (λ (n : Bool). refused_if (not n) NoSuchCpu (refused_if (is_cut limit (own_of s (cpu_at t) past)) NothingToDoKind (uncut_step s t (own_of s (cpu_at t) past) (lanes_at s past) past))) (sym here)
+    ∙ ap (λ (n : Bool). refused_if (not n) NoSuchCpu (refused_if (is_cut limit (own_of s (cpu_at t) past)) NothingToDoKind
+    (uncut_step s t (own_of s (cpu_at t) past) (lanes_at s past) past))) (sym here)
   where
     here : nat_lt (cpu_at t).0 s.cpus ≡ true
     here = grind (arith, nat_tests)
 
-    given : (t : Turn) → is_asked s t past ≡ true → as_step (event_or_refusal (turn_refusal t) (option_and_then (task_makes s (cpu_at t) (own_of s (cpu_at t) past) (lanes_at s past)) (turn_task s (cpu_at t) (own_of s (cpu_at t) past) t))) ≡ uncut_step s t (own_of s (cpu_at t) past) (lanes_at s past) past
+    given : (t : Turn) → is_asked s t past ≡ true → as_step
+        (event_or_refusal (turn_refusal t) (option_and_then (task_makes s (cpu_at t) (own_of s (cpu_at t) past) (lanes_at s past))
+        (turn_task s (cpu_at t) (own_of s (cpu_at t) past) t))) ≡ uncut_step s t (own_of s (cpu_at t) past) (lanes_at s past) past
     given (Next p) a = next_steps s limit p past r
     given (LookTurn p q) a = look_steps s p q past a
     given (SwitchTurn p u) a = switch_steps s limit p u past r
 
-    uncut : (t : Turn) → is_asked s t past ≡ true → (c : Bool) → is_cut limit (own_of s (cpu_at t) past) ≡ c → as_step (if c then Err NothingToDo else event_or_refusal (turn_refusal t) (option_and_then (task_makes s (cpu_at t) (own_of s (cpu_at t) past) (lanes_at s past)) (turn_task s (cpu_at t) (own_of s (cpu_at t) past) t))) ≡ refused_if c NothingToDoKind (uncut_step s t (own_of s (cpu_at t) past) (lanes_at s past) past)
+    uncut : (t : Turn) → is_asked s t past ≡ true → (c : Bool) → is_cut limit (own_of s (cpu_at t) past) ≡ c →
+        as_step (if c then Err NothingToDo else event_or_refusal (turn_refusal t)
+        (option_and_then (task_makes s (cpu_at t) (own_of s (cpu_at t) past) (lanes_at s past)) (turn_task s (cpu_at t) (own_of s (cpu_at t) past) t)))
+        ≡ refused_if c NothingToDoKind (uncut_step s t (own_of s (cpu_at t) past) (lanes_at s past) past)
     uncut t a true e = refl
     uncut t a false e = given t a

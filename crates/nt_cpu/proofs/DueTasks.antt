@@ -53,7 +53,8 @@ refused_asks st LeaveGuard r = refl
 refused_asks st (Interrupt q l) r = refl
 refused_asks st _ r = refl
 
-asks_called : (c : CpuState) (k : Command) → IsSound c → command_fits c.script k ≡ true → IfSome (call_asks (stand_in c.cpu c.own) k Done) (λ a. a.cpu.0 < c.script.cpus)
+asks_called : (c : CpuState) (k : Command) → IsSound c → command_fits c.script k ≡ true →
+    IfSome (call_asks (stand_in c.cpu c.own) k Done) (λ a. a.cpu.0 < c.script.cpus)
 asks_called c LeaveCrit h f = asks_own c _ 1 h
 asks_called c LeaveGuard h f = asks_own c _ 1 h
 asks_called c (Interrupt q l) h f =
@@ -80,7 +81,8 @@ accepted_call k y x a r = go (is_refused y)
 lane_free : (k : Command) → needs_lane k ≡ false → (not (needs_lane k) && true) ≡ true
 lane_free k h = rw h refl
 
-call_good : (c : CpuState) (f : Frame) (k : Command) (r : Option Refusal) → IsSound c → innermost c.own.frames ≡ Some f → refusal_in k c.own.frames ≡ r → command_fits c.script k ≡ true → GoodTask c (call_task f k r)
+call_good : (c : CpuState) (f : Frame) (k : Command) (r : Option Refusal) → IsSound c → innermost c.own.frames ≡ Some f → refusal_in k c.own.frames ≡ r →
+    command_fits c.script k ≡ true → GoodTask c (call_task f k r)
 call_good c f k (Some r) h i e q = record {
   alone = refl;
   allow = (at_frame f c i, refl);
@@ -97,13 +99,15 @@ call_good c f k None h i e q = go (needs_lane k) refl
       asks = asks_called c k h q;
     }
 
-command_good : (c : CpuState) (f : Frame) → IsSound c → innermost c.own.frames ≡ Some f → Holds (GoodTask c) (command_task c.own f (next_command c.script c.cpu f))
+command_good : (c : CpuState) (f : Frame) → IsSound c → innermost c.own.frames ≡ Some f →
+    Holds (GoodTask c) (command_task c.own f (next_command c.script c.cpu f))
 command_good c f h i = go (next_command c.script c.cpu f) refl
   where
     go : (o : Option Command) → next_command c.script c.cpu f ≡ o → Holds (GoodTask c) (command_task c.own f o)
     go None e = tt
     go (Some k) e =
-        call_good c f k (refusal (level_at c.own) (not (is_null c.own.frames.own)) (regions_of (thread_part c.own.frames)) f k) h i (refusal_here k f c.own.frames i) (next_fits c.script c.cpu f k h.script e)
+        call_good c f k (refusal (level_at c.own) (not (is_null c.own.frames.own)) (regions_of (thread_part c.own.frames)) f k) h i
+        (refusal_here k f c.own.frames i) (next_fits c.script c.cpu f k h.script e)
 
 end_good : (c : CpuState) (f : Frame) → IsSound c → innermost c.own.frames ≡ Some f → f.leaving ≡ false → GoodTask c (end_task f.name f.body)
 end_good c f h i l = go f.body refl
@@ -119,7 +123,12 @@ end_good c f h i l = go f.body refl
 
 frame_good : (c : CpuState) (f : Frame) → IsSound c → innermost c.own.frames ≡ Some f → Holds (GoodTask c) (frame_task c.script c.cpu c.own f)
 frame_good c f h i =
-    holds_or (GoodTask c) (rewait_task f) _ (holds_when (GoodTask c) (is_some f.again) _ (λ a. record { frame = f; is = i; again = a })) (λ _. holds_or (GoodTask c) (rundown_task f) _ (holds_when (GoodTask c) f.leaving _ (λ a. leaving_here f c.own.frames i ∙ a)) (λ l. holds_or (GoodTask c) (command_task c.own f (next_command c.script c.cpu f)) _ (command_good c f h i) (λ _. holds_or (GoodTask c) (normal_task f) _ (holds_when (GoodTask c) (f.kernel_phase && has_normal f.body) _ (λ a. record { alone = refl; allow = (at_frame f c i, normal_here f c.own.frames i ∙ a); asks = asks_own c _ 1 h })) (λ _. end_good c f h i (stays f.leaving l)))))
+    holds_or (GoodTask c) (rewait_task f) _ (holds_when (GoodTask c) (is_some f.again) _ (λ a. record { frame = f; is = i; again = a }))
+    (λ _. holds_or (GoodTask c) (rundown_task f) _ (holds_when (GoodTask c) f.leaving _ (λ a. leaving_here f c.own.frames i ∙ a))
+    (λ l. holds_or (GoodTask c) (command_task c.own f (next_command c.script c.cpu f)) _ (command_good c f h i)
+    (λ _. holds_or (GoodTask c) (normal_task f) _ (holds_when (GoodTask c) (f.kernel_phase && has_normal f.body) _
+    (λ a. record { alone = refl; allow = (at_frame f c i, normal_here f c.own.frames i ∙ a); asks = asks_own c _ 1 h }))
+    (λ _. end_good c f h i (stays f.leaving l)))))
   where
     stays : (b : Bool) → when b (Some (Shared RundownJob)) ≡ None → b ≡ false
     stays true e = absurd cc
@@ -127,11 +136,16 @@ frame_good c f h i =
 
 interrupt_good : (c : CpuState) → Holds (GoodTask c) (interrupt_task c.own)
 interrupt_good c =
-    holds_map (GoodTask c) (λ k. Alone (Begin (Int k) (value_at c.own.seen k - 1))) (find (may_interrupt c.own) interrupt_classes) (λ k e. record { alone = refl; allow = int_may_begin c.own k e; asks = tt })
+    holds_map (GoodTask c) (λ k. Alone (Begin (Int k) (value_at c.own.seen k - 1))) (find (may_interrupt c.own) interrupt_classes)
+    (λ k e. record { alone = refl; allow = int_may_begin c.own k e; asks = tt })
 
 must_good : (c : CpuState) → IsSound c → Holds (GoodTask c) (must_task c.own)
 must_good c h =
-    holds_or (GoodTask c) (fire_task c.own) _ (fired c.own.fire h.fire) (λ _. holds_or (GoodTask c) (interrupt_task c.own) _ (interrupt_good c) (λ _. holds_or (GoodTask c) (when (may_drain c.own) (Some (Shared DrainJob))) _ (holds_when (GoodTask c) (may_drain c.own) _ (λ a. a)) (λ _. holds_or (GoodTask c) (when (may_apcs c.own) (Some (Shared ApcsJob))) _ (holds_when (GoodTask c) (may_apcs c.own) _ (λ a. a)) (λ _. holds_when (GoodTask c) (may_threaded c.own) _ (λ a. a)))))
+    holds_or (GoodTask c) (fire_task c.own) _ (fired c.own.fire h.fire)
+    (λ _. holds_or (GoodTask c) (interrupt_task c.own) _ (interrupt_good c)
+    (λ _. holds_or (GoodTask c) (when (may_drain c.own) (Some (Shared DrainJob))) _ (holds_when (GoodTask c) (may_drain c.own) _ (λ a. a))
+    (λ _. holds_or (GoodTask c) (when (may_apcs c.own) (Some (Shared ApcsJob))) _ (holds_when (GoodTask c) (may_apcs c.own) _ (λ a. a))
+    (λ _. holds_when (GoodTask c) (may_threaded c.own) _ (λ a. a)))))
   where
     fired : (o : Option DpcNo) → IfSome o (λ d. IsTrue (has_dpc c.script d)) → Holds (GoodTask c) (option_map (λ d. Shared (FireJob d)) o)
     fired None k = tt
@@ -155,9 +169,13 @@ no_frame c = go (innermost c.own.frames)
 
 pub task_good : (c : CpuState) → IsSound c → Holds (GoodTask c) (task c.script c.cpu c.own)
 task_good c h =
-    holds_or (GoodTask c) (must_task c.own) _ (must_good c h) (λ _. holds_or (GoodTask c) (option_and_then (frame_task c.script c.cpu c.own) (innermost c.own.frames)) _ (holds_then (GoodTask c) (frame_task c.script c.cpu c.own) (innermost c.own.frames) (λ f i. frame_good c f h i)) (λ e. holds_when (GoodTask c) (not (c.own.rested && is_none c.own.frames.running)) _ (λ _. no_frame c e)))
+    holds_or (GoodTask c) (must_task c.own) _ (must_good c h)
+    (λ _. holds_or (GoodTask c) (option_and_then (frame_task c.script c.cpu c.own) (innermost c.own.frames)) _
+    (holds_then (GoodTask c) (frame_task c.script c.cpu c.own) (innermost c.own.frames) (λ f i. frame_good c f h i))
+    (λ e. holds_when (GoodTask c) (not (c.own.rested && is_none c.own.frames.running)) _ (λ _. no_frame c e)))
 
-or_frame : (a b k d : Option Task) (e : Task) (o : Option Task) → option_or (option_or a (option_or b (option_or k (option_or d (Some e))))) o ≡ option_or a (option_or b (option_or k (option_or d (Some e))))
+or_frame : (a b k d : Option Task) (e : Task) (o : Option Task) → option_or (option_or a (option_or b (option_or k (option_or d (Some e))))) o
+    ≡ option_or a (option_or b (option_or k (option_or d (Some e))))
 or_frame None None None None e o = refl
 or_frame None None None (Some x) e o = refl
 or_frame None None (Some x) d e o = refl

@@ -19,7 +19,8 @@ use Rattle.nt_frame.proofs.Twice.{at_innermost-at_innermost, at_innermost_by, at
 use Rattle.nt_cpu.specs.Fits.{stops}
 
 -- another command does nothing to its frame
-other_done : (c : Command) (f : Frame) → ((l : ℕ) → c ≡ Raise l → ⊥) → ((l : ℕ) → c ≡ Lower l → ⊥) → (c ≡ EnterCrit → ⊥) → (c ≡ EnterGuard → ⊥) → (c ≡ LeaveCrit → ⊥) → (c ≡ LeaveGuard → ⊥) → done_to c f ≡ f
+other_done : (c : Command) (f : Frame) → ((l : ℕ) → c ≡ Raise l → ⊥) → ((l : ℕ) → c ≡ Lower l → ⊥) → (c ≡ EnterCrit → ⊥) → (c ≡ EnterGuard → ⊥) →
+    (c ≡ LeaveCrit → ⊥) → (c ≡ LeaveGuard → ⊥) → done_to c f ≡ f
 other_done (Raise l) f a b d e g h = absurd (a l refl)
 other_done (Lower l) f a b d e g h = absurd (b l refl)
 other_done EnterCrit f a b d e g h = absurd (d refl)
@@ -32,17 +33,20 @@ other_done _ f a b d e g h = refl
 unchanged : (g : Frame → Frame) (x : Frames) → ((f : Frame) → g f ≡ f) → x ≡ at_innermost g x
 unchanged g x h = sym (at_innermost_by g (λ f. f) x h ∙ at_innermost_id x)
 
-pub other_command : (c : Command) (x : Frames) → ((l : ℕ) → c ≡ Raise l → ⊥) → ((l : ℕ) → c ≡ Lower l → ⊥) → (c ≡ EnterCrit → ⊥) → (c ≡ EnterGuard → ⊥) → (c ≡ LeaveCrit → ⊥) → (c ≡ LeaveGuard → ⊥) → x ≡ at_innermost (done_to c) x
+pub other_command : (c : Command) (x : Frames) → ((l : ℕ) → c ≡ Raise l → ⊥) → ((l : ℕ) → c ≡ Lower l → ⊥) → (c ≡ EnterCrit → ⊥) → (c ≡ EnterGuard → ⊥) →
+    (c ≡ LeaveCrit → ⊥) → (c ≡ LeaveGuard → ⊥) → x ≡ at_innermost (done_to c) x
 other_command c x a b d e g h =
     unchanged (done_to c) x (λ f. other_done c f a b d e g h)
 
 -- a call that isn't done, and no wait, does nothing to its frame but its place
-no_effect : (due : Option ℕ) (c : Command) (y : Reply) (f : Frame) → ((m : _) (a : Bool) → c ≡ StartWait m a → ⊥) → ((m : _) (a : Bool) (u : ℕ) → c ≡ Delay m a u → ⊥) → is_done y ≡ false → effect due c y f ≡ f
+no_effect : (due : Option ℕ) (c : Command) (y : Reply) (f : Frame) → ((m : _) (a : Bool) → c ≡ StartWait m a → ⊥) →
+    ((m : _) (a : Bool) (u : ℕ) → c ≡ Delay m a u → ⊥) → is_done y ≡ false → effect due c y f ≡ f
 no_effect due (StartWait m a) y f p q h = absurd (p m a refl)
 no_effect due (Delay m a u) y f p q h = absurd (q m a u refl)
 no_effect due _ y f p q h = rw h
 
-pub undone : (due : Option ℕ) (c : Command) (y : Reply) (x : Frames) → ((m : _) (a : Bool) → c ≡ StartWait m a → ⊥) → ((m : _) (a : Bool) (u : ℕ) → c ≡ Delay m a u → ⊥) → is_done y ≡ false → x ≡ at_innermost (effect due c y) x
+pub undone : (due : Option ℕ) (c : Command) (y : Reply) (x : Frames) → ((m : _) (a : Bool) → c ≡ StartWait m a → ⊥) →
+    ((m : _) (a : Bool) (u : ℕ) → c ≡ Delay m a u → ⊥) → is_done y ≡ false → x ≡ at_innermost (effect due c y) x
 undone due c y x p q h = unchanged (effect due c y) x (λ f. no_effect due c y f p q h)
 
 -- the innermost frame of a part is changed
@@ -95,10 +99,12 @@ effect_place due (Delay m a u) y f = refl
 effect_place due c y f = if_place (is_done y) (done_to c f) f (done_place c f)
 
 -- the effect of a call, and then its place
-pub then_advanced : (due : Option ℕ) (c : Command) (y : Reply) (x : Frames) → AreNested x → at_innermost advanced (at_innermost (effect due c y) x) ≡ at_innermost (called due c y) x
+pub then_advanced : (due : Option ℕ) (c : Command) (y : Reply) (x : Frames) → AreNested x → at_innermost advanced (at_innermost (effect due c y) x)
+    ≡ at_innermost (called due c y) x
 then_advanced due c y x h =
     at_innermost-at_innermost advanced (effect due c y) x h
-    ∙ at_innermost_by (λ f. advanced (effect due c y f)) (called due c y) x (λ f. ap (λ (n : ℕ). record (effect due c y f) { place = n + 1 }) (effect_place due c y f))
+    ∙ at_innermost_by (λ f. advanced (effect due c y f)) (called due c y) x
+    (λ f. ap (λ (n : ℕ). record (effect due c y f) { place = n + 1 }) (effect_place due c y f))
 
 -- who runs after a call
 pub call_runs : (n : ℕ) (c : Command) (y : Reply) (r : Option ThreadNo) → running_after (Call n c y) r ≡ (if stops c y then None else r)
@@ -125,7 +131,8 @@ some_changed g x y h e q = rw (e, innermost-at_innermost g x h) (go (innermost x
     go None k = k
     go (Some f) k = k
 
-pub place_changed : (due : Option ℕ) (c : Command) (y : Reply) (x z : Frames) (n : ℕ) → AreNested x → z ≡ at_innermost (effect due c y) x → ((f : Frame) → innermost x ≡ Some f → f.place < n) → (f : Frame) → innermost z ≡ Some f → f.place < n
+pub place_changed : (due : Option ℕ) (c : Command) (y : Reply) (x z : Frames) (n : ℕ) → AreNested x → z ≡ at_innermost (effect due c y) x →
+    ((f : Frame) → innermost x ≡ Some f → f.place < n) → (f : Frame) → innermost z ≡ Some f → f.place < n
 place_changed due c y x z n h e b f k =
     go (innermost x) refl (sym (innermost-at_innermost (effect due c y) x h) ∙ (ap innermost (sym e) ∙ k))
   where
@@ -134,15 +141,19 @@ place_changed due c y x z n h e b f k =
     go (Some g) q i =
         let j : effect due c y g ≡ f = cc in rw (← j, effect_place due c y g) (b g q)
 
-pub called_stopped : (due : Option ℕ) (c : Command) (y : Reply) (x a b d : Frames) → AreNested x → a ≡ at_innermost (effect due c y) x → b ≡ at_innermost advanced a → d ≡ record b { running = None } → stops c y ≡ true → d ≡ record (at_innermost (called due c y) x) { running = running_after (Call 0 c y) x.running }
+pub called_stopped : (due : Option ℕ) (c : Command) (y : Reply) (x a b d : Frames) → AreNested x → a ≡ at_innermost (effect due c y) x → b
+    ≡ at_innermost advanced a → d ≡ record b { running = None } → stops c y ≡ true → d
+    ≡ record (at_innermost (called due c y) x) { running = running_after (Call 0 c y) x.running }
 called_stopped due c y x a b d h p q r t =
     r
     ∙ ap (λ (z : Frames). record z { running = None }) (q ∙ (ap (at_innermost advanced) p ∙ then_advanced due c y x h))
     ∙ ap (λ (o : Option ThreadNo). record (at_innermost (called due c y) x) { running = o }) (sym (stopped_runs c y x.running t))
 
-pub called_going : (due : Option ℕ) (c : Command) (y : Reply) (x a b : Frames) → AreNested x → a ≡ at_innermost (effect due c y) x → b ≡ at_innermost advanced a → stops c y ≡ false → b ≡ record (at_innermost (called due c y) x) { running = running_after (Call 0 c y) x.running }
+pub called_going : (due : Option ℕ) (c : Command) (y : Reply) (x a b : Frames) → AreNested x → a ≡ at_innermost (effect due c y) x → b
+    ≡ at_innermost advanced a → stops c y ≡ false → b ≡ record (at_innermost (called due c y) x) { running = running_after (Call 0 c y) x.running }
 called_going due c y x a b h p q t =
     q
     ∙ ap (at_innermost advanced) p
     ∙ then_advanced due c y x h
-    ∙ ap (λ (o : Option ThreadNo). record (at_innermost (called due c y) x) { running = o }) (running-at_innermost (called due c y) x ∙ sym (going_runs c y x.running t))
+    ∙ ap (λ (o : Option ThreadNo). record (at_innermost (called due c y) x) { running = o })
+    (running-at_innermost (called due c y) x ∙ sym (going_runs c y x.running t))

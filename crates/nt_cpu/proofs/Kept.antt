@@ -19,7 +19,8 @@ use Rattle.nt_cpu.specs.Fits.{Allow, may_call, may_reply}
 
 -- no frame of the own part has a wait
 
-waits_at_name : (m : ℕ) (g : Frame → Frame) (fs : List Frame) → ((f : Frame) → f.again ≡ None → (g f).again ≡ None) → HaveNoWaits fs → HaveNoWaits (at_name m g fs)
+waits_at_name : (m : ℕ) (g : Frame → Frame) (fs : List Frame) → ((f : Frame) → f.again ≡ None → (g f).again ≡ None) → HaveNoWaits fs →
+    HaveNoWaits (at_name m g fs)
 waits_at_name m g [] k h = tt
 waits_at_name m g (f ∷ fs) k h = (go (f.name == m), h.1)
   where
@@ -73,7 +74,8 @@ own_refuses (StartWait m a) x g gs e h = rw e refl
 own_refuses (Delay m a u) x g gs e h = rw e refl
 own_refuses _ x g gs e h = absurd cc
 
-is_refused_there : (c : Command) (y : Reply) (x : Frames) (g : Frame) (gs : List Frame) → x.own ≡ g ∷ gs → may_call c y x ≡ true → is_wait c ≡ true → is_refused y ≡ true
+is_refused_there : (c : Command) (y : Reply) (x : Frames) (g : Frame) (gs : List Frame) → x.own ≡ g ∷ gs → may_call c y x ≡ true → is_wait c ≡ true →
+    is_refused y ≡ true
 is_refused_there c y x g gs e m h =
     let n : is_none (refusal_in c x) ≡ false = own_refuses c x g gs e h in go (is_refused y) refl (rw n at m)
   where
@@ -81,7 +83,8 @@ is_refused_there c y x g gs e m h =
     go true q k = q
     go false q k = absurd cc
 
-waits_call : (m : ℕ) (due : Option ℕ) (f : ℕ) (c : Command) (y : Reply) (x : Frames) → may_call c y x ≡ true → HaveNoWaits x.own → HaveNoWaits (at_name f (called due c y) x.own)
+waits_call : (m : ℕ) (due : Option ℕ) (f : ℕ) (c : Command) (y : Reply) (x : Frames) → may_call c y x ≡ true → HaveNoWaits x.own →
+    HaveNoWaits (at_name f (called due c y) x.own)
 waits_call m due f c y x a h = go x.own refl
   where
     go : (fs : List Frame) → x.own ≡ fs → HaveNoWaits (at_name f (called due c y) x.own)

@@ -71,7 +71,15 @@ knows_looked c xs v u b h l = record {
 pub serves_looked : (c : CpuState) (xs : List ℕ) (v u : View) → c.cpu.0 < v.cpus → Serves c v → AllLooked c.cpu xs v u → Serves c u
 serves_looked c xs v u b h l =
     let n = knows_looked c xs v u b (knows_of c v h) l in
-    record { cpus = l.same.cpus ∙ h.cpus; drawable = λ e. let x = h.drawable e in let y = l.drawable in omega arith; known = n.known; below = n.below; named = n.named; stands = rw l.same.states h.stands; values = λ t q k e. values (sym l.same.alone ∙ t) q k (let x = l.same.cpus in omega arith, e.1) }
+    record {
+      cpus = l.same.cpus ∙ h.cpus;
+      drawable = λ e. let x = h.drawable e in let y = l.drawable in omega arith;
+      known = n.known;
+      below = n.below;
+      named = n.named;
+      stands = rw l.same.states h.stands;
+      values = λ t q k e. values (sym l.same.alone ∙ t) q k (let x = l.same.cpus in omega arith, e.1);
+    }
   where
     values : v.alone ≡ true → (q : CpuNo) (k : ℕ) → HasWord v q k → u.value q k ≤ u.next
     values t q k e = go (was_looked c.cpu 15 q k) refl
@@ -102,7 +110,8 @@ serves_looked c xs v u b h l =
             omega arith
 
 -- the answers are known
-answers_known : (c : CpuState) (xs : List ℕ) (v u : View) → c.cpu.0 < v.cpus → AllLooked c.cpu xs v u → (k : ℕ) → k < 16 → (value_at xs k ≤ u.value c.cpu k) × (value_at xs k ≤ u.next)
+answers_known : (c : CpuState) (xs : List ℕ) (v u : View) → c.cpu.0 < v.cpus → AllLooked c.cpu xs v u → (k : ℕ) → k < 16 → (value_at xs k ≤ u.value c.cpu k) ×
+    (value_at xs k ≤ u.next)
 answers_known c xs v u b l k q = go (nat_lt k 15) refl (is_used_class k) refl
   where
     go : (m : Bool) → nat_lt k 15 ≡ m → (n : Bool) → is_used_class k ≡ n → (value_at xs k ≤ u.value c.cpu k) × (value_at xs k ≤ u.next)
@@ -118,7 +127,8 @@ answers_known c xs v u b l k q = go (nat_lt k 15) refl (is_used_class k) refl
         (omega arith, omega arith)
 
 -- the values of a look after looks are known
-pub rises_known : (c : CpuState) (xs : List ℕ) (v u : View) → c.cpu.0 < v.cpus → AllLooked c.cpu xs v u → (k : ℕ) → k < 16 → (value_at (look_values c.own (value_at xs)) k ≤ u.value c.cpu k) × (value_at (look_values c.own (value_at xs)) k ≤ u.next)
+pub rises_known : (c : CpuState) (xs : List ℕ) (v u : View) → c.cpu.0 < v.cpus → AllLooked c.cpu xs v u → (k : ℕ) → k < 16 →
+    (value_at (look_values c.own (value_at xs)) k ≤ u.value c.cpu k) × (value_at (look_values c.own (value_at xs)) k ≤ u.next)
 rises_known c xs v u b l k q =
     let a = answers_known c xs v u b l k q in
     let x = get_or-table 16 k (look_value c.own (value_at xs)) 0 q in
@@ -134,7 +144,8 @@ rises_known c xs v u b l k q =
 -- ---- events
 
 -- an event with these values seen after it, which the words know
-pub knows_left : (c : CpuState) (n : ℕ) (due : Option ℕ) (e : Event) (seen : ℕ → ℕ) (z : View) → IsSound c → AreNamedBelow n c.own.frames → n + 1 ≤ z.next → ((k : ℕ) → k < 16 → (seen k ≤ z.value c.cpu k) × (seen k ≤ z.next)) → Knows (record c { own = own_with c.script n due e seen c.own }) z
+pub knows_left : (c : CpuState) (n : ℕ) (due : Option ℕ) (e : Event) (seen : ℕ → ℕ) (z : View) → IsSound c → AreNamedBelow n c.own.frames → n + 1 ≤ z.next →
+    ((k : ℕ) → k < 16 → (seen k ≤ z.value c.cpu k) × (seen k ≤ z.next)) → Knows (record c { own = own_with c.script n due e seen c.own }) z
 knows_left c n due e seen z s a m h = record {
   known = λ k q. rw (get_or-table 16 k seen 0 q) (h k q).0;
   below = λ k q. rw (get_or-table 16 k seen 0 q) (h k q).1;
@@ -145,9 +156,16 @@ max_below : (a b n : ℕ) → a ≤ n → b ≤ n → max a b ≤ n
 max_below a b n h k = omega arith
 
 -- after an event under lanes
-pub knows_acted : (c : CpuState) (n : ℕ) (due : Option ℕ) (e : Event) (told : List ℕ) (v w : View) → IsSound c → c.cpu.0 < v.cpus → Knows c v → v.next ≤ n → n + 1 ≤ w.next → ((k : ℕ) → k < 16 → v.value c.cpu k ≤ w.value c.cpu k) → ((k : ℕ) → k < 16 → (value_at told k ≤ w.value c.cpu k) × (value_at told k ≤ w.next)) → Knows (record c { own = own_with c.script n due e (λ k. max (value_at c.own.seen k) (value_at told k)) c.own }) w
+pub knows_acted : (c : CpuState) (n : ℕ) (due : Option ℕ) (e : Event) (told : List ℕ) (v w : View) → IsSound c → c.cpu.0 < v.cpus → Knows c v → v.next ≤ n →
+    n + 1 ≤ w.next → ((k : ℕ) → k < 16 → v.value c.cpu k ≤ w.value c.cpu k) →
+    ((k : ℕ) → k < 16 → (value_at told k ≤ w.value c.cpu k) × (value_at told k ≤ w.next)) →
+    Knows (record c { own = own_with c.script n due e (λ k. max (value_at c.own.seen k) (value_at told k)) c.own }) w
 knows_acted c n due e told v w s b h l m f t =
-    knows_left c n due e (λ k. max (value_at c.own.seen k) (value_at told k)) w s (below_more v.next n c.own.frames l h.named) m (λ k q. let x = h.known k q in let y = f k q in let z = h.below k q in let i = t k q in let i0 = i.0 in let i1 = i.1 in (max_below (value_at c.own.seen k) (value_at told k) (w.value c.cpu k) (omega arith) i0, max_below (value_at c.own.seen k) (value_at told k) w.next (omega arith) i1))
+    knows_left c n due e (λ k. max (value_at c.own.seen k) (value_at told k)) w s (below_more v.next n c.own.frames l h.named) m
+    (λ k q. let x = h.known k q in let y = f k q in let z = h.below k q in let i = t k q in let i0 = i.0 in let i1 = i.1 in (
+      max_below (value_at c.own.seen k) (value_at told k) (w.value c.cpu k) (omega arith) i0,
+      max_below (value_at c.own.seen k) (value_at told k) w.next (omega arith) i1,
+    ))
 
 -- an ask of its own is known once it is marked
 ask_known : (t : Bool) (n old new : ℕ) → new ≡ (if t || false then max old (n + 1) else old) → ((if t then n + 1 else 0) ≤ new) × (old ≤ new)
@@ -164,7 +182,8 @@ pub record IsNoticed (p : CpuNo) (w : What) (a : Option Asked) (n k : ℕ) (u y 
   pub next : noticed p w a n k ≤ y.next
   pub grown : u.value p k ≤ y.value p k
 
-own_noticed : (p : CpuNo) (w : What) (a : Option Asked) (n k : ℕ) (u y : View) → HasWord u p k → IsMarkedFor a n u y → u.next ≡ n + 1 → ((r : Rises) → w ≡ Look r → (value_at r.value k ≤ u.value p k) × (value_at r.value k ≤ u.next)) → IsNoticed p w a n k u y
+own_noticed : (p : CpuNo) (w : What) (a : Option Asked) (n k : ℕ) (u y : View) → HasWord u p k → IsMarkedFor a n u y → u.next ≡ n + 1 →
+    ((r : Rises) → w ≡ Look r → (value_at r.value k ≤ u.value p k) × (value_at r.value k ≤ u.next)) → IsNoticed p w a n k u y
 own_noticed p w a n k u y b m e r = go w a refl refl
   where
     value : y.value p k ≡ (if asked_for a p k then max (u.value p k) (n + 1) else u.value p k)
@@ -186,16 +205,29 @@ own_noticed p w a n k u y b m e r = go w a refl refl
         record { value = omega arith; next = omega arith; grown = g }
     go v None f i = record { value = omega arith; next = omega arith; grown = grown (asked_for a p k) refl }
     go v (Some x) f i =
-        let z : y.value p k ≡ (if ((x.cpu.0 == p.0) && (x.class == k)) || false then max (u.value p k) (n + 1) else u.value p k) = value ∙ ap (λ (o : Option Asked). if asked_for o p k then max (u.value p k) (n + 1) else u.value p k) i in
+        let z : y.value p k ≡ (if ((x.cpu.0 == p.0) && (x.class == k)) || false then max (u.value p k) (n + 1) else u.value p k) = value
+        ∙ ap (λ (o : Option Asked). if asked_for o p k then max (u.value p k) (n + 1) else u.value p k) i in
         let g = ask_known ((x.cpu.0 == p.0) && (x.class == k)) n (u.value p k) (y.value p k) z in
         record { value = g.0; next = ask_fits ((x.cpu.0 == p.0) && (x.class == k)) n y.next next; grown = g.1 }
 
 -- after an event that touches no lane
-pub knows_alone : (c d : CpuState) (w : What) (n : ℕ) (u y z : View) → IsSound c → c.cpu.0 < u.cpus → Knows c u → IsAlone c d w n u y z → ((r : Rises) → w ≡ Look r → (k : ℕ) → k < 16 → (value_at r.value k ≤ u.value c.cpu k) × (value_at r.value k ≤ u.next)) → Knows d z
+pub knows_alone : (c d : CpuState) (w : What) (n : ℕ) (u y z : View) → IsSound c → c.cpu.0 < u.cpus → Knows c u → IsAlone c d w n u y z →
+    ((r : Rises) → w ≡ Look r → (k : ℕ) → k < 16 → (value_at r.value k ≤ u.value c.cpu k) × (value_at r.value k ≤ u.next)) → Knows d z
 knows_alone c d w n u y z s b h a r =
     let asked : Option Asked = alone_asks (stand_in c.cpu c.own) w in
     let e : Event = alone_event c.cpu w c.own.frames in
     let g = a.drawn in
     let next : z.next ≡ n + 1 = (marked_stays asked n y z a.marked).next ∙ g.next in
-    let x : Knows (record c { own = own_with c.script n None e (λ k. max (value_at c.own.seen k) (noticed c.cpu w asked n k)) c.own }) z = knows_left c n None e (λ k. max (value_at c.own.seen k) (noticed c.cpu w asked n k)) z s (below_more u.next n c.own.frames g.least h.named) (omega arith) (λ k q. let known = h.known k q in let below = h.below k q in let least = g.least in let v = g.value c.cpu k (b, q) in let word : HasWord y c.cpu k = (let m = g.same.cpus in omega arith, q) in let ys : (r : Rises) → w ≡ Look r → (value_at r.value k ≤ y.value c.cpu k) × (value_at r.value k ≤ y.next) = (λ q' f. let i = r q' f k q in let i0 = i.0 in let i1 = i.1 in let j = g.next in (omega arith, omega arith)) in let i = own_noticed c.cpu w asked n k y z word a.marked g.next ys in let i0 = i.value in let i1 = i.next in let i2 = i.grown in (max_below (value_at c.own.seen k) (noticed c.cpu w asked n k) (z.value c.cpu k) (omega arith) i0, max_below (value_at c.own.seen k) (noticed c.cpu w asked n k) z.next (omega arith) i1)) in
+    let x : Knows (record c {
+      own = own_with c.script n None e
+          (λ k. max (value_at c.own.seen k) (noticed c.cpu w asked n k)) c.own;
+    }) z = knows_left c n None e
+    (λ k. max (value_at c.own.seen k) (noticed c.cpu w asked n k)) z s (below_more u.next n c.own.frames g.least h.named) (omega arith)
+    (λ k q. let known = h.known k q in let below = h.below k q in let least = g.least in let v = g.value c.cpu k (b, q) in
+    let word : HasWord y c.cpu k = (let m = g.same.cpus in omega arith, q) in let ys : (r : Rises) → w ≡ Look r → (value_at r.value k ≤ y.value c.cpu k) ×
+    (value_at r.value k ≤ y.next) = (λ q' f. let i = r q' f k q in let i0 = i.0 in let i1 = i.1 in let j = g.next in (omega arith, omega arith)) in
+    let i = own_noticed c.cpu w asked n k y z word a.marked g.next ys in let i0 = i.value in let i1 = i.next in let i2 = i.grown in (
+      max_below (value_at c.own.seen k) (noticed c.cpu w asked n k) (z.value c.cpu k) (omega arith) i0,
+      max_below (value_at c.own.seen k) (noticed c.cpu w asked n k) z.next (omega arith) i1,
+    )) in
     subst (λ (m : CpuState). Knows m z) (sym a.state) x

@@ -119,7 +119,8 @@ object_kept b d n p w x h =
     s : (object_after d n p w x).standing ≡ x.standing
     s = rw (inserts_none b w h, uses_none b w h) refl
 
-queue_kept : (b : Option Body) (s : Script) (q : CpuNo) (n : ℕ) (p : CpuNo) (w : What) (objects : List ObjectState) (x : QueueState) → is_alone b w ≡ true → queue_after s q n p w objects x ≡ x
+queue_kept : (b : Option Body) (s : Script) (q : CpuNo) (n : ℕ) (p : CpuNo) (w : What) (objects : List ObjectState) (x : QueueState) → is_alone b w ≡ true →
+    queue_after s q n p w objects x ≡ x
 queue_kept b s q n p w objects x h =
     λ i. record { pending = k i; idle = m (p.0 == q.0) i }
   where
@@ -139,7 +140,8 @@ facts_kept s t n st e x h =
     m true = makes_none s n st e.what x h
     m false = refl
 
-delay_kept : (s : Script) (t : ThreadNo) (n now : ℕ) (st : Stand) (e : Event) (x : Option Setting) → is_alone st.body e.what ≡ true → delay_after s t n now st.again e x ≡ x
+delay_kept : (s : Script) (t : ThreadNo) (n now : ℕ) (st : Stand) (e : Event) (x : Option Setting) → is_alone st.body e.what ≡ true →
+    delay_after s t n now st.again e x ≡ x
 delay_kept s t n now st e x h =
     expires_none st.body e.what t (if is_of_thread s t e then blocked_after n now st.again e.what x else x) h
     ∙ m (is_of_thread s t e)
@@ -170,7 +172,8 @@ lanes_kept s n st e l a h = λ i. record {
 
     k : table (length s.timers) (λ t. timer_after (timer t) n l.timers.now e.what (setting_in l.timers.timers t)) ≡ l.timers.timers
     k =
-        table-self None (length s.timers) l.timers.timers _ a.timers (λ i b. keeps_timer st.body e.what (timer i) n l.timers.now (setting_in l.timers.timers i) h)
+        table-self None (length s.timers) l.timers.timers _ a.timers
+        (λ i b. keeps_timer st.body e.what (timer i) n l.timers.now (setting_in l.timers.timers i) h)
 
     d : table (length s.threads) (λ t. delay_after s (thread t) n l.timers.now st.again e (setting_in l.timers.delays t)) ≡ l.timers.delays
     d =

@@ -16,7 +16,8 @@ looks_same p (suc k) xs ys h =
     ap (λ (l : List Look). l ++ look_if (is_used_class k) p k (value_at xs k)) (looks_same p k xs ys (λ j b. h j (omega arith)))
     ∙ ap (λ (v : ℕ). looks_below p k ys ++ look_if (is_used_class k) p k v) (h k (omega arith))
 
-one_more : (p : CpuNo) (k a : ℕ) (l : List Look) (x : Option Lists) → with_look p k a (with_looks l x) ≡ with_looks (l ++ record { cpu = p; class = k; value = a } ∷ []) x
+one_more : (p : CpuNo) (k a : ℕ) (l : List Look) (x : Option Lists) → with_look p k a (with_looks l x)
+    ≡ with_looks (l ++ record { cpu = p; class = k; value = a } ∷ []) x
 one_more p k a l None = refl
 one_more p k a l (Some y) =
     ap (λ (z : List Look). Some (record y { looks = z })) (append_assoc y.looks l (record { cpu = p; class = k; value = a } ∷ []))
@@ -35,10 +36,13 @@ same_through v u w a b = record {
 
 -- ---- one look more
 
-value_more : (p q : CpuNo) (k j a : ℕ) (answers : List ℕ) (old : ℕ) → length answers ≡ 16 → k < 16 → is_used_class k ≡ true → (if is_word p k q j then a else (if was_looked p k q j then value_at answers j else old)) ≡ (if was_looked p (suc k) q j then value_at (set answers k a) j else old)
+value_more : (p q : CpuNo) (k j a : ℕ) (answers : List ℕ) (old : ℕ) → length answers ≡ 16 → k < 16 → is_used_class k ≡ true →
+    (if is_word p k q j then a else (if was_looked p k q j then value_at answers j else old))
+    ≡ (if was_looked p (suc k) q j then value_at (set answers k a) j else old)
 value_more p q k j a answers old l b u = go (q.0 == p.0) (j == k) refl
   where
-    go : (m d : Bool) → (j == k) ≡ d → (if m && d then a else (if m && (nat_lt j k && is_used_class j) then value_at answers j else old)) ≡ (if m && (nat_lt j (suc k) && is_used_class j) then value_at (set answers k a) j else old)
+    go : (m d : Bool) → (j == k) ≡ d → (if m && d then a else (if m && (nat_lt j k && is_used_class j) then value_at answers j else old))
+        ≡ (if m && (nat_lt j (suc k) && is_used_class j) then value_at (set answers k a) j else old)
     go false d e = refl
     go true true e =
         let i : j ≡ k = grind (arith, nat_tests) in
@@ -52,14 +56,17 @@ value_more p q k j a answers old l b u = go (q.0 == p.0) (j == k) refl
         same true f i = grind (arith, nat_tests)
         same false f i = grind (arith, nat_tests)
 
-pub look_more : (k : ℕ) (p : CpuNo) (answers : List ℕ) (a : ℕ) (v u w : View) → length answers ≡ 16 → k < 15 → is_used_class k ≡ true → p.0 < v.cpus → LooksBelow k p answers v u → IsLooked p k a u w → LooksBelow (suc k) p (set answers k a) v w
+pub look_more : (k : ℕ) (p : CpuNo) (answers : List ℕ) (a : ℕ) (v u w : View) → length answers ≡ 16 → k < 15 → is_used_class k ≡ true → p.0 < v.cpus →
+    LooksBelow k p answers v u → IsLooked p k a u w → LooksBelow (suc k) p (set answers k a) v w
 look_more k p answers a v u w l b used c h i = record {
-  lists = i.lists ∙ (ap (λ (x : Option Lists). with_look p k a x) h.lists ∙ (one_more p k a (looks_below p k answers) v.lists ∙ ap (λ (x : List Look). with_looks x v.lists) all));
+  lists = i.lists ∙ (ap (λ (x : Option Lists). with_look p k a x) h.lists
+      ∙ (one_more p k a (looks_below p k answers) v.lists ∙ ap (λ (x : List Look). with_looks x v.lists) all));
   least = λ j q s. least j (j == k) refl q s;
   exact = λ t j q s. exact t j (j == k) refl q s;
   others = λ j s. let d : j ≢ k = λ e. let x = rw e at s in cc in get_or-set_other answers k j a 0 d ∙ h.others j s;
   later = λ j s. let d : j ≢ k = λ e. omega arith in get_or-set_other answers k j a 0 d ∙ h.later j (omega arith);
-  value = λ q j s. i.value q j (word q j s) ∙ (ap (λ (x : ℕ). if is_word p k q j then a else x) (h.value q j s) ∙ value_more p q k j a answers (v.value q j) l (omega arith) used);
+  value = λ q j s. i.value q j (word q j s) ∙ (ap (λ (x : ℕ). if is_word p k q j then a else x) (h.value q j s)
+      ∙ value_more p q k j a answers (v.value q j) l (omega arith) used);
   next = let x = h.next in let y = i.next.0 in omega arith;
   most = λ j q. most j (j == k) refl q;
   next_exact = λ t. i.next_exact (h.same.alone ∙ t) ∙ h.next_exact t;
@@ -76,8 +83,10 @@ look_more k p answers a v u w l b used c h i = record {
 
     all : looks_below p k answers ++ record { cpu = p; class = k; value = a } ∷ [] ≡ looks_below p (suc k) (set answers k a)
     all =
-        ap (λ (x : List Look). x ++ record { cpu = p; class = k; value = a } ∷ []) (looks_same p k answers (set answers k a) (λ j q. sym (there j (λ e. omega arith))))
-        ∙ (ap (λ (y : ℕ). looks_below p k (set answers k a) ++ look_if true p k y) (sym here) ∙ ap (λ (t : Bool). looks_below p k (set answers k a) ++ look_if t p k (value_at (set answers k a) k)) (sym used))
+        ap (λ (x : List Look). x ++ record { cpu = p; class = k; value = a } ∷ [])
+        (looks_same p k answers (set answers k a) (λ j q. sym (there j (λ e. omega arith))))
+        ∙ (ap (λ (y : ℕ). looks_below p k (set answers k a) ++ look_if true p k y) (sym here)
+        ∙ ap (λ (t : Bool). looks_below p k (set answers k a) ++ look_if t p k (value_at (set answers k a) k)) (sym used))
 
     word : (q : CpuNo) (j : ℕ) → HasWord v q j → HasWord u q j
     word q j s = let x = h.same.cpus in (omega arith, s.1)
@@ -123,7 +132,8 @@ look_more k p answers a v u w l b used c h i = record {
 
 pub look_none : (k : ℕ) (p : CpuNo) (answers : List ℕ) (v u : View) → is_used_class k ≡ false → LooksBelow k p answers v u → LooksBelow (suc k) p answers v u
 look_none k p answers v u used h = record {
-  lists = h.lists ∙ ap (λ (x : List Look). with_looks x v.lists) (sym (ap (λ (t : Bool). looks_below p k answers ++ look_if t p k (value_at answers k)) used ∙ no_more (looks_below p k answers)));
+  lists = h.lists ∙ ap (λ (x : List Look). with_looks x v.lists)
+      (sym (ap (λ (t : Bool). looks_below p k answers ++ look_if t p k (value_at answers k)) used ∙ no_more (looks_below p k answers)));
   least = λ j q s. h.least j (before j q s) s;
   exact = λ t j q s. h.exact t j (before j q s) s;
   others = h.others;

@@ -94,7 +94,8 @@ next_own n due (Call f c y) fs p h = next_named n f (called due c y) fs (called_
 next_own n due (End f) fs p h = next_without n f true fs p h
 next_own n due _ fs p h = omega arith
 
-next_thread : (s : Script) (n : ℕ) (due : Option ℕ) (w : What) (fs : List Frame) → IsPart false fs → next_name fs ≤ n → next_name (thread_after s n due w fs) ≤ n + 1
+next_thread : (s : Script) (n : ℕ) (due : Option ℕ) (w : What) (fs : List Frame) → IsPart false fs → next_name fs ≤ n →
+    next_name (thread_after s n due w fs) ≤ n + 1
 next_thread s n due (Switch t st) fs p h = next_switched n t st fs h
 next_thread s n due (Begin (Apc a) from) fs p h = omega arith
 next_thread s n due (Flush a from) fs p h = next_flushed n a (rundown_of s a) fs h
@@ -105,7 +106,8 @@ next_thread s n due (End f) fs p h = next_ended n f fs p h
 next_thread s n due (Gone t) fs p h = omega arith
 next_thread s n due _ fs p h = omega arith
 
-next_if : (b : Bool) (s : Script) (n : ℕ) (due : Option ℕ) (w : What) (fs : List Frame) → IsPart false fs → next_name fs ≤ n → next_name (thread_if b s n due w fs) ≤ n + 1
+next_if : (b : Bool) (s : Script) (n : ℕ) (due : Option ℕ) (w : What) (fs : List Frame) → IsPart false fs → next_name fs ≤ n →
+    next_name (thread_if b s n due w fs) ≤ n + 1
 next_if true s n due w fs p h = next_thread s n due w fs p h
 next_if false s n due w fs p h = omega arith
 
@@ -125,10 +127,13 @@ named_part n x t a h = go (nat_lt t (length x.threads)) refl
         let l : length x.threads ≤ t = grind (arith, nat_tests) in
         rw (get_or_past x.threads t [] l) (record { part = tt; below = omega arith })
 
-pub named_after : (s : Script) (n : ℕ) (due : Option ℕ) (e : Event) (x : Frames) → AreNested x → AreNamedBelow n x → AreNamedBelow (n + 1) (frames_after s n due e x)
+pub named_after : (s : Script) (n : ℕ) (due : Option ℕ) (e : Event) (x : Frames) → AreNested x → AreNamedBelow n x →
+    AreNamedBelow (n + 1) (frames_after s n due e x)
 named_after s n due e x a h = (
   next_own n due e.what x.own a.own h.0,
-  All-from_get_or (λ fs. next_name fs ≤ n + 1) _ [] (λ i b. let k : i < length s.threads = omega (arith, length-table_from {A = List Frame} 0 (length s.threads) (λ t. thread_if (is_by e (thread t)) s n due e.what (frames_in x.threads (thread t)))) in
+  All-from_get_or (λ fs. next_name fs ≤ n + 1) _ [] (λ i b. let k : i < length s.threads = omega
+      (arith, length-table_from {A = List Frame} 0 (length s.threads) (λ t. thread_if (is_by e (thread t)) s n due e.what (frames_in x.threads (thread t)))) in
       let p = named_part n x i a h in
-      rw (get_or-table {A = List Frame} (length s.threads) i (λ t. thread_if (is_by e (thread t)) s n due e.what (frames_in x.threads (thread t))) [] k) (next_if (is_by e (thread i)) s n due e.what (get_or x.threads i []) p.part p.below)),
+      rw (get_or-table {A = List Frame} (length s.threads) i (λ t. thread_if (is_by e (thread t)) s n due e.what (frames_in x.threads (thread t))) [] k)
+      (next_if (is_by e (thread i)) s n due e.what (get_or x.threads i []) p.part p.below)),
 )

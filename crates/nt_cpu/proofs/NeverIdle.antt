@@ -65,11 +65,20 @@ end_chosen x n _ = tt
 
 frame_chosen : (s : Script) (p : CpuNo) (x : Own) (f : Frame) → Holds (IsChosen x) (frame_task s p x f)
 frame_chosen s p x f =
-    holds_or (IsChosen x) (rewait_task f) _ (holds_when (IsChosen x) (is_some f.again) (Some (Shared RewaitJob)) (λ _. tt)) (λ _. holds_or (IsChosen x) (rundown_task f) _ (holds_when (IsChosen x) f.leaving (Some (Shared RundownJob)) (λ _. tt)) (λ _. holds_or (IsChosen x) (command_task x f (next_command s p f)) _ (command_chosen x f (next_command s p f)) (λ _. holds_or (IsChosen x) (normal_task f) _ (holds_when (IsChosen x) (f.kernel_phase && has_normal f.body) (Some (Alone (Normal f.name))) (λ _. tt)) (λ _. end_chosen x f.name f.body))))
+    holds_or (IsChosen x) (rewait_task f) _ (holds_when (IsChosen x) (is_some f.again) (Some (Shared RewaitJob)) (λ _. tt))
+    (λ _. holds_or (IsChosen x) (rundown_task f) _ (holds_when (IsChosen x) f.leaving (Some (Shared RundownJob)) (λ _. tt))
+    (λ _. holds_or (IsChosen x) (command_task x f (next_command s p f)) _ (command_chosen x f (next_command s p f))
+    (λ _. holds_or (IsChosen x) (normal_task f) _ (holds_when (IsChosen x) (f.kernel_phase && has_normal f.body) (Some (Alone (Normal f.name))) (λ _. tt))
+    (λ _. end_chosen x f.name f.body))))
 
 must_chosen : (x : Own) → Holds (IsChosen x) (must_task x)
 must_chosen x =
-    holds_or (IsChosen x) (fire_task x) _ (holds_map (IsChosen x) (λ d. Shared (FireJob d)) x.fire (λ d e. tt)) (λ _. holds_or (IsChosen x) (interrupt_task x) _ (holds_map (IsChosen x) (λ k. Alone (Begin (Int k) (value_at x.seen k - 1))) (find (may_interrupt x) interrupt_classes) (λ k e. tt)) (λ _. holds_or (IsChosen x) (when (may_drain x) (Some (Shared DrainJob))) _ (holds_when (IsChosen x) (may_drain x) (Some (Shared DrainJob)) (λ _. tt)) (λ _. holds_or (IsChosen x) (when (may_apcs x) (Some (Shared ApcsJob))) _ (holds_when (IsChosen x) (may_apcs x) (Some (Shared ApcsJob)) (λ _. tt)) (λ _. holds_when (IsChosen x) (may_threaded x) (Some (Shared ThreadedJob)) (λ _. tt)))))
+    holds_or (IsChosen x) (fire_task x) _ (holds_map (IsChosen x) (λ d. Shared (FireJob d)) x.fire (λ d e. tt))
+    (λ _. holds_or (IsChosen x) (interrupt_task x) _
+    (holds_map (IsChosen x) (λ k. Alone (Begin (Int k) (value_at x.seen k - 1))) (find (may_interrupt x) interrupt_classes) (λ k e. tt))
+    (λ _. holds_or (IsChosen x) (when (may_drain x) (Some (Shared DrainJob))) _ (holds_when (IsChosen x) (may_drain x) (Some (Shared DrainJob)) (λ _. tt))
+    (λ _. holds_or (IsChosen x) (when (may_apcs x) (Some (Shared ApcsJob))) _ (holds_when (IsChosen x) (may_apcs x) (Some (Shared ApcsJob)) (λ _. tt))
+    (λ _. holds_when (IsChosen x) (may_threaded x) (Some (Shared ThreadedJob)) (λ _. tt)))))
 
 -- where no frame stands, no thread runs
 no_runner : (x : Frames) → AreBased x → head_of (thread_part x) ≡ None → x.running ≡ None
@@ -96,11 +105,16 @@ all_free a b d p q r = rw (p, q, r) refl
 free_there : (c : CpuState) → IsSound c → must_task c.own ≡ None → innermost c.own.frames ≡ None → may_switch c.own ≡ true
 free_there c h m i =
     let o = no_own c.own.frames i in
-    all_free (is_none c.own.frames.running) (is_null c.own.frames.own) (must c.own) (ap (λ (r : Option ThreadNo). is_none r) (no_runner c.own.frames h.based o.1)) (ap (λ (fs : List Frame). is_null fs) o.0) (ap (λ (t : Option Task). is_some t) m)
+    all_free (is_none c.own.frames.running) (is_null c.own.frames.own) (must c.own)
+    (ap (λ (r : Option ThreadNo). is_none r) (no_runner c.own.frames h.based o.1)) (ap (λ (fs : List Frame). is_null fs) o.0)
+    (ap (λ (t : Option Task). is_some t) m)
 
 task_chosen : (c : CpuState) → IsSound c → Holds (IsChosen c.own) (task c.script c.cpu c.own)
 task_chosen c h =
-    holds_or (IsChosen c.own) (must_task c.own) _ (must_chosen c.own) (λ m. holds_or (IsChosen c.own) (option_and_then (frame_task c.script c.cpu c.own) (innermost c.own.frames)) _ (holds_then (IsChosen c.own) (frame_task c.script c.cpu c.own) (innermost c.own.frames) (λ f i. frame_chosen c.script c.cpu c.own f)) (λ e. holds_when (IsChosen c.own) (not (c.own.rested && is_none c.own.frames.running)) (Some (Shared IdleJob)) (λ _. free_there c h m (no_frame c e))))
+    holds_or (IsChosen c.own) (must_task c.own) _ (must_chosen c.own)
+    (λ m. holds_or (IsChosen c.own) (option_and_then (frame_task c.script c.cpu c.own) (innermost c.own.frames)) _
+    (holds_then (IsChosen c.own) (frame_task c.script c.cpu c.own) (innermost c.own.frames) (λ f i. frame_chosen c.script c.cpu c.own f))
+    (λ e. holds_when (IsChosen c.own) (not (c.own.rested && is_none c.own.frames.running)) (Some (Shared IdleJob)) (λ _. free_there c h m (no_frame c e))))
 
 -- ---- what a processor chooses
 
@@ -118,13 +132,15 @@ never_refused c job h e = resting (rests c.own) e
     good (SwitchJob t) m k = absurd k
     good _ m k = refl
 
-    choosing : (b : Bool) → may_switch c.own ≡ b → (if b then Some (Shared (PickJob c.own.took)) else task c.script c.cpu c.own) ≡ Some (Shared job) → is_refusable job ≡ false
+    choosing : (b : Bool) → may_switch c.own ≡ b → (if b then Some (Shared (PickJob c.own.took)) else task c.script c.cpu c.own) ≡ Some (Shared job) →
+        is_refusable job ≡ false
     choosing true m q =
         let i : PickJob c.own.took ≡ job = cc in subst (λ (j : Job). is_refusable j ≡ false) i refl
     choosing false m q =
         good job m (holds_at (IsChosen c.own) (task c.script c.cpu c.own) (Shared job) (task_chosen c h) q)
 
-    resting : (b : Bool) → (if b then None else (if may_switch c.own then Some (Shared (PickJob c.own.took)) else task c.script c.cpu c.own)) ≡ Some (Shared job) → is_refusable job ≡ false
+    resting : (b : Bool) → (if b then None else (if may_switch c.own then Some (Shared (PickJob c.own.took)) else task c.script c.cpu c.own))
+        ≡ Some (Shared job) → is_refusable job ≡ false
     resting true q = absurd cc
     resting false q = choosing (may_switch c.own) refl q
 
@@ -132,12 +148,14 @@ never_refused c job h e = resting (rests c.own) e
 pub chosen_due : (c : CpuState) (job : Job) → chosen_task c.script c.cpu c.own ≡ Some (Shared job) → IsDue c.script c.cpu c.own job
 chosen_due c job e = resting (rests c.own) e
   where
-    choosing : (b : Bool) → may_switch c.own ≡ b → (if b then Some (Shared (PickJob c.own.took)) else task c.script c.cpu c.own) ≡ Some (Shared job) → IsDue c.script c.cpu c.own job
+    choosing : (b : Bool) → may_switch c.own ≡ b → (if b then Some (Shared (PickJob c.own.took)) else task c.script c.cpu c.own) ≡ Some (Shared job) →
+        IsDue c.script c.cpu c.own job
     choosing true m q =
         let i : PickJob c.own.took ≡ job = cc in inr (subst (λ (j : Job). is_choice j ≡ true) i refl, m)
     choosing false m q = inl q
 
-    resting : (b : Bool) → (if b then None else (if may_switch c.own then Some (Shared (PickJob c.own.took)) else task c.script c.cpu c.own)) ≡ Some (Shared job) → IsDue c.script c.cpu c.own job
+    resting : (b : Bool) → (if b then None else (if may_switch c.own then Some (Shared (PickJob c.own.took)) else task c.script c.cpu c.own))
+        ≡ Some (Shared job) → IsDue c.script c.cpu c.own job
     resting true q = absurd cc
     resting false q = choosing (may_switch c.own) refl q
 
@@ -157,7 +175,8 @@ chosen_good c h = resting (rests c.own)
 pub none_rests : (c : CpuState) → IsSound c → chosen_task c.script c.cpu c.own ≡ None → rests c.own ≡ true
 none_rests c h e = resting (rests c.own) refl e
   where
-    resting : (b : Bool) → rests c.own ≡ b → (if b then None else (if may_switch c.own then Some (Shared (PickJob c.own.took)) else task c.script c.cpu c.own)) ≡ None → rests c.own ≡ true
+    resting : (b : Bool) → rests c.own ≡ b → (if b then None else (if may_switch c.own then Some (Shared (PickJob c.own.took)) else task c.script c.cpu c.own))
+        ≡ None → rests c.own ≡ true
     resting true r q = r
     resting false r q = choosing (may_switch c.own) refl q
       where
@@ -165,11 +184,13 @@ none_rests c h e = resting (rests c.own) refl e
         choosing true m q = absurd cc
         choosing false m q = absurd (busy (must_task c.own) refl q)
           where
-            idle : (o : Option Task) → must_task c.own ≡ None → option_and_then (frame_task c.script c.cpu c.own) (innermost c.own.frames) ≡ o → option_or o (idle_task c.own) ≡ None → ⊥
+            idle : (o : Option Task) → must_task c.own ≡ None → option_and_then (frame_task c.script c.cpu c.own) (innermost c.own.frames) ≡ o →
+                option_or o (idle_task c.own) ≡ None → ⊥
             idle None a i k = let f = free_there c h a (no_frame c i) in cc
             idle (Some x) a i k = cc
 
-            busy : (o : Option Task) → must_task c.own ≡ o → option_or o (option_or (option_and_then (frame_task c.script c.cpu c.own) (innermost c.own.frames)) (idle_task c.own)) ≡ None → ⊥
+            busy : (o : Option Task) → must_task c.own ≡ o →
+                option_or o (option_or (option_and_then (frame_task c.script c.cpu c.own) (innermost c.own.frames)) (idle_task c.own)) ≡ None → ⊥
             busy None a k =
                 idle (option_and_then (frame_task c.script c.cpu c.own) (innermost c.own.frames)) a refl k
             busy (Some x) a k = cc

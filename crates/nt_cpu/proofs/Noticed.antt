@@ -22,17 +22,20 @@ zeros_table = refl
 zero_at : (k : ℕ) → k < 16 → value_at zeros k ≡ 0
 zero_at k h = ap (λ (xs : List ℕ). value_at xs k) zeros_table ∙ get_or-table 16 k (λ k. 0) 0 h
 
-asked_is : (p : CpuNo) (w : What) (a : Asked) (n k : ℕ) → ((r : Rises) → w ≡ Look r → ⊥) → noticed p w (Some a) n k ≡ (if (a.cpu.0 == p.0) && (a.class == k) then n + 1 else 0)
+asked_is : (p : CpuNo) (w : What) (a : Asked) (n k : ℕ) → ((r : Rises) → w ≡ Look r → ⊥) → noticed p w (Some a) n k
+    ≡ (if (a.cpu.0 == p.0) && (a.class == k) then n + 1 else 0)
 asked_is p (Look r) a n k h = absurd (h r refl)
 asked_is p _ a n k h = refl
 
 -- the ask of another processor is not noticed
-pub noticed_else : (p : CpuNo) (w : What) (a : Asked) (n : ℕ) → ((r : Rises) → w ≡ Look r → ⊥) → (a.cpu.0 == p.0) ≡ false → (k : ℕ) → k < 16 → value_at zeros k ≡ noticed p w (Some a) n k
+pub noticed_else : (p : CpuNo) (w : What) (a : Asked) (n : ℕ) → ((r : Rises) → w ≡ Look r → ⊥) → (a.cpu.0 == p.0) ≡ false → (k : ℕ) → k < 16 → value_at zeros k
+    ≡ noticed p w (Some a) n k
 noticed_else p w a n h e k b =
     zero_at k b ∙ (rw e refl ∙ sym (asked_is p w a n k h))
 
 -- its own is
-pub noticed_own : (p : CpuNo) (w : What) (a : Asked) (n : ℕ) → ((r : Rises) → w ≡ Look r → ⊥) → (a.cpu.0 == p.0) ≡ true → a.class < 16 → (k : ℕ) → k < 16 → value_at (set zeros a.class (n + 1)) k ≡ noticed p w (Some a) n k
+pub noticed_own : (p : CpuNo) (w : What) (a : Asked) (n : ℕ) → ((r : Rises) → w ≡ Look r → ⊥) → (a.cpu.0 == p.0) ≡ true → a.class < 16 → (k : ℕ) → k < 16 →
+    value_at (set zeros a.class (n + 1)) k ≡ noticed p w (Some a) n k
 noticed_own p w a n h e c k b =
     go (a.class == k) refl ∙ sym (asked_is p w a n k h ∙ rw e refl)
   where

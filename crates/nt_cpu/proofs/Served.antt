@@ -32,7 +32,8 @@ serves_class (Begin (Int level) from) c seen old h = absurd cc
 serves_class _ c seen old h = refl
 
 -- an event that serves no class leaves the values
-pub serves_none : (w : What) (seen xs : List ℕ) → length xs ≡ 16 → served_class w ≡ None → xs ≡ table 16 (λ c. served_after w c (value_at seen c) (value_at xs c))
+pub serves_none : (w : What) (seen xs : List ℕ) → length xs ≡ 16 → served_class w ≡ None → xs
+    ≡ table 16 (λ c. served_after w c (value_at seen c) (value_at xs c))
 serves_none w seen xs l h =
     values_table xs l ∙ table-same 16 _ _ (λ c b. sym (serves_class w c (value_at seen c) (value_at xs c) h))
 

@@ -39,12 +39,14 @@ stand_fits c h = record { cpu = h.cpu; thread = thread c.own.frames.running h.ne
     due (Some f) e = (innermost_small c.own.made c.own.frames f h.small e).due
 
 -- the floor is met by a job that is due, where it tells its states
-pub stands_met : (c : CpuState) (states : Option Lanes) (job : Job) → IfSome states (λ l. StandsIn c l) → IsDue c.script c.cpu c.own job → IsMet c.script states (stand_in c.cpu c.own) job
+pub stands_met : (c : CpuState) (states : Option Lanes) (job : Job) → IfSome states (λ l. StandsIn c l) → IsDue c.script c.cpu c.own job →
+    IsMet c.script states (stand_in c.cpu c.own) job
 stands_met c None job h d = tt
 stands_met c (Some l) job h d = (h.standing, h.jobs job d)
 
 -- what it answers is an event that the frames allow
-pub acted_fits : (c : CpuState) (job : Job) (f : Found) (a : Acted) → IsSound c → GoodJob c job → IsActed c.script f (stand_in c.cpu c.own) job a → GoodEvent c a.event.what
+pub acted_fits : (c : CpuState) (job : Job) (f : Found) (a : Acted) → IsSound c → GoodJob c job → IsActed c.script f (stand_in c.cpu c.own) job a →
+    GoodEvent c a.event.what
 acted_fits c job f a h g i =
     holds_at (GoodEvent c) (job_event c.script (stand_in c.cpu c.own) f.lanes job) a.event.what (acted_good c f.lanes job h g i.kinds) i.what
 
@@ -58,7 +60,13 @@ seen_told true n w k t old h l = omega arith
 seen_told false n w k t old h l = rw (no_look w k h) (omega arith)
 
 -- what is left of the processor
-pub acted_left : (c : CpuState) (job : Job) (f : Found) (a : Acted) → IsSound c → GoodJob c job → ((k : ℕ) → k < 16 → value_at c.own.seen k ≤ a.number) → IsActed c.script f (stand_in c.cpu c.own) job a → own_with c.script a.number a.due a.event (λ k. max (value_at c.own.seen k) (value_at a.told.value k)) c.own ≡ own_then c f a.number a.event
+pub acted_left : (c : CpuState) (job : Job) (f : Found) (a : Acted) → IsSound c → GoodJob c job → ((k : ℕ) → k < 16 → value_at c.own.seen k ≤ a.number) →
+    IsActed c.script f (stand_in c.cpu c.own) job a → own_with c.script a.number a.due a.event
+    (λ k. max (value_at c.own.seen k) (value_at a.told.value k)) c.own ≡ own_then c f a.number a.event
 acted_left c job f a h g l i =
     ap (λ (d : Option ℕ). own_with c.script a.number d a.event (λ k. max (value_at c.own.seen k) (value_at a.told.value k)) c.own) i.due
-    ∙ own_with_same c.script a.number (due_of a.event.what f.lanes.timers.now) a.event _ _ c.own (λ k b. ap (λ (v : ℕ). max (value_at c.own.seen k) v) (i.told k b) ∙ seen_told (asks_in c.script (stand_in c.cpu c.own) a.event.what f.lanes c.cpu k) a.number a.event.what k (told_over f.told (what_lanes c.script (stand_in c.cpu c.own) a.event.what f.lanes) c.cpu k) (value_at c.own.seen k) (acted_fits c job f a h g i).look (l k b))
+    ∙ own_with_same c.script a.number (due_of a.event.what f.lanes.timers.now) a.event _ _ c.own
+    (λ k b. ap (λ (v : ℕ). max (value_at c.own.seen k) v) (i.told k b)
+    ∙ seen_told (asks_in c.script (stand_in c.cpu c.own) a.event.what f.lanes c.cpu k) a.number a.event.what k
+    (told_over f.told (what_lanes c.script (stand_in c.cpu c.own) a.event.what f.lanes) c.cpu k) (value_at c.own.seen k) (acted_fits c job f a h g i).look
+    (l k b))

@@ -101,7 +101,11 @@ called_grows n due c y f d h = go (is_done y)
 
 rewaited_grows : (n : ℕ) (y : Reply) (f : Frame) → IsSmall n f → Grows n f (rewaited y f)
 rewaited_grows n y f h =
-    let p = h.place in record { small = record { place = omega arith; due = again_fits y f.again f.again h.due h.due }; crit = omega arith; guard = omega arith }
+    let p = h.place in record {
+      small = record { place = omega arith; due = again_fits y f.again f.again h.due h.due };
+      crit = omega arith;
+      guard = omega arith;
+    }
 
 resumed_grows : (n : ℕ) (st : Option ℕ) (f : Frame) → IsSmall n f → Grows n f (resumed st f)
 resumed_grows n None f h = grows_same n f h
@@ -125,7 +129,8 @@ all_head : (n : ℕ) (f g : Frame) (fs : List Frame) → Grows n f g → All (Is
 all_head n f g fs k h =
     All-cons (IsSmall (n + 1)) g fs k.small (all_more n fs (All-tail (IsSmall n) f fs h))
 
-all_at_name : (n m : ℕ) (g : Frame → Frame) (fs : List Frame) → ((f : Frame) → IsSmall n f → Grows n f (g f)) → All (IsSmall n) fs → All (IsSmall (n + 1)) (at_name m g fs)
+all_at_name : (n m : ℕ) (g : Frame → Frame) (fs : List Frame) → ((f : Frame) → IsSmall n f → Grows n f (g f)) → All (IsSmall n) fs →
+    All (IsSmall (n + 1)) (at_name m g fs)
 all_at_name n m g [] k h = All-nil (IsSmall (n + 1))
 all_at_name n m g (f ∷ fs) k h = go (f.name == m)
   where
@@ -148,7 +153,8 @@ all_new : (n m : ℕ) (b : Body) (fs : List Frame) → All (IsSmall n) fs → Al
 all_new n m b fs h =
     All-cons (IsSmall (n + 1)) (new_frame m b) fs (new_small (n + 1) m b) (all_more n fs h)
 
-small_own : (n m : ℕ) (due : Option ℕ) (w : What) (fs : List Frame) → IfSome due (λ d. d < 2 ^ 51) → All (IsSmall n) fs → All (IsSmall (n + 1)) (own_after m due w fs)
+small_own : (n m : ℕ) (due : Option ℕ) (w : What) (fs : List Frame) → IfSome due (λ d. d < 2 ^ 51) → All (IsSmall n) fs →
+    All (IsSmall (n + 1)) (own_after m due w fs)
 small_own n m due (Begin (Int l) from) fs d h = all_new n m _ fs h
 small_own n m due (Begin (Dpc x) from) fs d h = all_new n m _ fs h
 small_own n m due (Begin (Threaded x) from) fs d h = all_new n m _ fs h
@@ -195,7 +201,8 @@ part_new n m b fs h =
 pub part_nil : (n : ℕ) → IsSmallPart n []
 part_nil n = record { frames = All-nil (IsSmall n); crit = omega arith; guard = omega arith }
 
-part_at_name : (n m : ℕ) (g : Frame → Frame) (fs : List Frame) → ((f : Frame) → IsSmall n f → Grows n f (g f)) → IsSmallPart n fs → IsSmallPart (n + 1) (at_name m g fs)
+part_at_name : (n m : ℕ) (g : Frame → Frame) (fs : List Frame) → ((f : Frame) → IsSmall n f → Grows n f (g f)) → IsSmallPart n fs →
+    IsSmallPart (n + 1) (at_name m g fs)
 part_at_name n m g [] k h = part_nil (n + 1)
 part_at_name n m g (f ∷ fs) k h = go (f.name == m)
   where
@@ -234,7 +241,8 @@ part_flushed : (n m : ℕ) (a : ApcNo) (r : Option RoutineNo) (fs : List Frame) 
 part_flushed n m a None fs h = part_more n fs h
 part_flushed n m a (Some r) fs h = part_new n m _ fs h
 
-small_part : (s : Script) (n m : ℕ) (due : Option ℕ) (w : What) (fs : List Frame) → IfSome due (λ d. d < 2 ^ 51) → IsSmallPart n fs → IsSmallPart (n + 1) (thread_after s m due w fs)
+small_part : (s : Script) (n m : ℕ) (due : Option ℕ) (w : What) (fs : List Frame) → IfSome due (λ d. d < 2 ^ 51) → IsSmallPart n fs →
+    IsSmallPart (n + 1) (thread_after s m due w fs)
 small_part s n m due (Switch t st) fs d h = part_switched n m t st fs h
 small_part s n m due (Begin (Apc a) from) fs d h = part_new n m _ fs h
 small_part s n m due (Flush a from) fs d h = part_flushed n m a (rundown_of s a) fs h
@@ -248,7 +256,8 @@ small_part s n m due (End f) fs d h = part_end n f fs h
 small_part s n m due (Gone t) fs d h = part_nil (n + 1)
 small_part s n m due _ fs d h = part_more n fs h
 
-small_if : (b : Bool) (s : Script) (n m : ℕ) (due : Option ℕ) (w : What) (fs : List Frame) → IfSome due (λ d. d < 2 ^ 51) → IsSmallPart n fs → IsSmallPart (n + 1) (thread_if b s m due w fs)
+small_if : (b : Bool) (s : Script) (n m : ℕ) (due : Option ℕ) (w : What) (fs : List Frame) → IfSome due (λ d. d < 2 ^ 51) → IsSmallPart n fs →
+    IsSmallPart (n + 1) (thread_if b s m due w fs)
 small_if true s n m due w fs d h = small_part s n m due w fs d h
 small_if false s n m due w fs d h = part_more n fs h
 
@@ -261,8 +270,12 @@ part_of n parts t h = go (nat_lt t (length parts)) refl
     go false e =
         let l : length parts ≤ t = grind (arith, nat_tests) in rw (get_or_past parts t [] l) (part_nil n)
 
-pub small_after : (s : Script) (n m : ℕ) (due : Option ℕ) (e : Event) (x : Frames) → IfSome due (λ d. d < 2 ^ 51) → AreSmall n x → AreSmall (n + 1) (frames_after s m due e x)
+pub small_after : (s : Script) (n m : ℕ) (due : Option ℕ) (e : Event) (x : Frames) → IfSome due (λ d. d < 2 ^ 51) → AreSmall n x →
+    AreSmall (n + 1) (frames_after s m due e x)
 small_after s n m due e x d h = record {
   own = small_own n m due e.what x.own d h.own;
-  threads = All-from_get_or (IsSmallPart (n + 1)) _ [] (λ i b. let k : i < length s.threads = omega (arith, length-table_from {A = List Frame} 0 (length s.threads) (λ t. thread_if (is_by e (thread t)) s m due e.what (frames_in x.threads (thread t)))) in rw (get_or-table {A = List Frame} (length s.threads) i (λ t. thread_if (is_by e (thread t)) s m due e.what (frames_in x.threads (thread t))) [] k) (small_if (is_by e (thread i)) s n m due e.what (get_or x.threads i []) d (part_of n x.threads i h.threads)));
+  threads = All-from_get_or (IsSmallPart (n + 1)) _ [] (λ i b. let k : i < length s.threads = omega
+      (arith, length-table_from {A = List Frame} 0 (length s.threads) (λ t. thread_if (is_by e (thread t)) s m due e.what (frames_in x.threads (thread t)))) in
+      rw (get_or-table {A = List Frame} (length s.threads) i (λ t. thread_if (is_by e (thread t)) s m due e.what (frames_in x.threads (thread t))) [] k)
+      (small_if (is_by e (thread i)) s n m due e.what (get_or x.threads i []) d (part_of n x.threads i h.threads)));
 }

@@ -16,8 +16,38 @@ use Rattle.nt_cpu.proofs.Small.{part_nil}
 
 each_empty : (P : List Frame → Type 0) (n : ℕ) → P [] → All P (no_frames n).threads
 each_empty P n h =
-    All-from_get_or P _ [] (λ i b. let k : i < n = omega (arith, length-table_from {A = List Frame} 0 n (λ _. [])) in rw (get_or-table {A = List Frame} n i (λ _. []) [] k) h)
+    All-from_get_or P _ [] (λ i b. let k : i < n = omega (arith, length-table_from {A = List Frame} 0 n (λ _. [])) in
+    rw (get_or-table {A = List Frame} n i (λ _. []) [] k) h)
 
-pub sound_start : (s : Script) (p : CpuNo) (n : ℕ) (fs : Frames) (seen served : List ℕ) → IsTrue (fits s) → IsTrue (has_cpu s p) → n ≤ 20000 → fs ≡ no_frames (length s.threads) → seen ≡ table 16 (λ c. 0) → served ≡ table 16 (λ c. 0) → IsSound (record { script = s; cpu = p; limit = n; own = record { made = 0; frames = fs; seen = seen; served = served; rested = false; took = None; fire = None; sweep = false } })
+pub sound_start : (s : Script) (p : CpuNo) (n : ℕ) (fs : Frames) (seen served : List ℕ) → IsTrue (fits s) → IsTrue (has_cpu s p) → n ≤ 20000 → fs
+    ≡ no_frames (length s.threads) → seen ≡ table 16 (λ c. 0) → served ≡ table 16 (λ c. 0) →
+    IsSound (record {
+      script = s;
+      cpu = p;
+      limit = n;
+      own = record {
+        made = 0;
+        frames = fs;
+        seen = seen;
+        served = served;
+        rested = false;
+        took = None;
+        fire = None;
+        sweep = false;
+      };
+    })
 sound_start s p n fs seen served f q l e a b =
-    rw (e) (record { script = f; cpu = q; limit = l; made = omega arith; seen = ap (λ (xs : List ℕ). length xs) a ∙ length-table_from 0 16 (λ c. 0); served = ap (λ (xs : List ℕ). length xs) b ∙ length-table_from 0 16 (λ c. 0); threads = length-table_from {A = List Frame} 0 (length s.threads) (λ _. []); nested = nested_start (length s.threads); small = record { own = All-nil (IsSmall 0); threads = each_empty (IsSmallPart 0) (length s.threads) (part_nil 0) }; based = record { parts = each_empty (λ fs. (fs ≡ []) ⊎ EndsInBase fs) (length s.threads) (inl refl); runs = tt }; waits = tt; fire = tt })
+    rw (e) (record {
+      script = f;
+      cpu = q;
+      limit = l;
+      made = omega arith;
+      seen = ap (λ (xs : List ℕ). length xs) a ∙ length-table_from 0 16 (λ c. 0);
+      served = ap (λ (xs : List ℕ). length xs) b ∙ length-table_from 0 16 (λ c. 0);
+      threads = length-table_from {A = List Frame} 0 (length s.threads) (λ _. []);
+      nested = nested_start (length s.threads);
+      small = record { own = All-nil (IsSmall 0); threads = each_empty (IsSmallPart 0) (length s.threads) (part_nil 0) };
+      based = record { parts = each_empty (λ fs. (fs ≡ []) ⊎ EndsInBase fs) (length s.threads) (inl refl); runs = tt };
+      waits = tt;
+      fire = tt;
+    })

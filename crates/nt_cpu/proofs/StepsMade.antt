@@ -33,7 +33,8 @@ use Rattle.nt_cpu.proofs.NeverIdle.{chosen_good, none_rests}
 pub step_good : (c : CpuState) (xs : List ℕ) → IsSound c → Holds (GoodTask c) (local_task c xs)
 step_good c xs h = go (is_behind c.own (value_at xs))
   where
-    go : (b : Bool) → Holds (GoodTask c) (if b then Some (Alone (Look (record { value = look_values c.own (value_at xs) }))) else chosen_task c.script c.cpu c.own)
+    go : (b : Bool) → Holds (GoodTask c) (if b then Some (Alone (Look (record { value = look_values c.own (value_at xs) })))
+        else chosen_task c.script c.cpu c.own)
     go true = record { alone = refl; allow = tt; asks = tt }
     go false = chosen_good c h
 
@@ -47,7 +48,8 @@ chosen_look c r e = resting (rests c.own) e
         let n : NextTask (Alone (Look r)) = holds_at NextTask (task c.script c.cpu c.own) (Alone (Look r)) (task_next c.script c.cpu c.own) q in
         cc
 
-    resting : (b : Bool) → (if b then None else (if may_switch c.own then Some (Shared (PickJob c.own.took)) else task c.script c.cpu c.own)) ≡ Some (Alone (Look r)) → ⊥
+    resting : (b : Bool) → (if b then None else (if may_switch c.own then Some (Shared (PickJob c.own.took)) else task c.script c.cpu c.own))
+        ≡ Some (Alone (Look r)) → ⊥
     resting true q = cc
     resting false q = choosing (may_switch c.own) q
 
@@ -55,21 +57,25 @@ chosen_look c r e = resting (rests c.own) e
 look_made : (c : CpuState) (xs : List ℕ) (r : Rises) → local_task c xs ≡ Some (Alone (Look r)) → r.value ≡ look_values c.own (value_at xs)
 look_made c xs r e = go (is_behind c.own (value_at xs)) e
   where
-    go : (b : Bool) → (if b then Some (Alone (Look (record { value = look_values c.own (value_at xs) }))) else chosen_task c.script c.cpu c.own) ≡ Some (Alone (Look r)) → r.value ≡ look_values c.own (value_at xs)
+    go : (b : Bool) → (if b then Some (Alone (Look (record { value = look_values c.own (value_at xs) }))) else chosen_task c.script c.cpu c.own)
+        ≡ Some (Alone (Look r)) → r.value ≡ look_values c.own (value_at xs)
     go true q = cc
     go false q = absurd (chosen_look c r q)
 
 -- so they are known
-pub look_known : (c : CpuState) (xs : List ℕ) (v u : View) (w : What) → c.cpu.0 < v.cpus → AllLooked c.cpu xs v u → local_task c xs ≡ Some (Alone w) → (r : Rises) → w ≡ Look r → (k : ℕ) → k < 16 → (value_at r.value k ≤ u.value c.cpu k) × (value_at r.value k ≤ u.next)
+pub look_known : (c : CpuState) (xs : List ℕ) (v u : View) (w : What) → c.cpu.0 < v.cpus → AllLooked c.cpu xs v u → local_task c xs ≡ Some (Alone w) →
+    (r : Rises) → w ≡ Look r → (k : ℕ) → k < 16 → (value_at r.value k ≤ u.value c.cpu k) × (value_at r.value k ≤ u.next)
 look_known c xs v u w b l e r f k q =
     let x = look_made c xs r (e ∙ ap (λ (z : What). Some (Alone z)) f) in
     subst (λ (ys : List ℕ). (value_at ys k ≤ u.value c.cpu k) × (value_at ys k ≤ u.next)) (sym x) (rises_known c xs v u b l k q)
 
 -- its event is the one that the definitions name
-pub step_alone : (c d : CpuState) (xs : List ℕ) (w : What) (e : Event) (n : ℕ) (v u y z : View) → IsSound c → Serves c u → is_cut c.limit c.own ≡ false → local_task c xs ≡ Some (Alone w) → AllLooked c.cpu xs v u → e ≡ alone_event c.cpu w c.own.frames → IsAlone c d w n u y z → IsStepped c d xs (Did e) v u z
+pub step_alone : (c d : CpuState) (xs : List ℕ) (w : What) (e : Event) (n : ℕ) (v u y z : View) → IsSound c → Serves c u → is_cut c.limit c.own ≡ false →
+    local_task c xs ≡ Some (Alone w) → AllLooked c.cpu xs v u → e ≡ alone_event c.cpu w c.own.frames → IsAlone c d w n u y z → IsStepped c d xs (Did e) v u z
 step_alone c d xs w e n v u y z h o t q l f a = record {
   looked = record { cut = λ k. absurd (let x = rw t at k in cc); looks = λ k. l };
-  answer = ap Did (f ∙ sym (event_alone c.script c.cpu w c.own.frames h.nested h.threads may.alone may.allow)) ∙ (ap (local_answer c) (sym q) ∙ ap (λ (b : Bool). if b then Cut else local_answer c (local_task c xs)) (sym t));
+  answer = ap Did (f ∙ sym (event_alone c.script c.cpu w c.own.frames h.nested h.threads may.alone may.allow))
+      ∙ (ap (local_answer c) (sym q) ∙ ap (λ (b : Bool). if b then Cut else local_answer c (local_task c xs)) (sym t));
   quiet = λ k. absurd cc;
   left = (found_by c u, n, subst (λ (x : Event). IsApart c d (found_by c u) n x u z) (sym f) apart);
 }
@@ -89,7 +95,8 @@ step_alone c d xs w e n v u y z h o t q l f a = record {
     }
 
 -- the job that a step needs is the one it chooses
-pub needed_job : (c : CpuState) (xs : List ℕ) (job : Job) → NeedsLane job ≡ local_gives c xs → (is_cut c.limit c.own ≡ false) × (chosen_task c.script c.cpu c.own ≡ Some (Shared job))
+pub needed_job : (c : CpuState) (xs : List ℕ) (job : Job) → NeedsLane job ≡ local_gives c xs → (is_cut c.limit c.own ≡ false) ×
+    (chosen_task c.script c.cpu c.own ≡ Some (Shared job))
 needed_job c xs job e = cut (is_cut c.limit c.own) refl e
   where
     answers : (o : Option Task) → NeedsLane job ≡ local_answer c o → o ≡ Some (Shared job)
@@ -97,11 +104,13 @@ needed_job c xs job e = cut (is_cut c.limit c.own) refl e
     answers (Some (Alone w)) q = cc
     answers (Some (Shared j)) q = cc
 
-    behind : (b : Bool) → (if b then Some (Alone (Look (record { value = look_values c.own (value_at xs) }))) else chosen_task c.script c.cpu c.own) ≡ Some (Shared job) → chosen_task c.script c.cpu c.own ≡ Some (Shared job)
+    behind : (b : Bool) → (if b then Some (Alone (Look (record { value = look_values c.own (value_at xs) }))) else chosen_task c.script c.cpu c.own)
+        ≡ Some (Shared job) → chosen_task c.script c.cpu c.own ≡ Some (Shared job)
     behind true q = cc
     behind false q = q
 
-    cut : (b : Bool) → is_cut c.limit c.own ≡ b → NeedsLane job ≡ (if b then Cut else local_answer c (local_task c xs)) → (is_cut c.limit c.own ≡ false) × (chosen_task c.script c.cpu c.own ≡ Some (Shared job))
+    cut : (b : Bool) → is_cut c.limit c.own ≡ b → NeedsLane job ≡ (if b then Cut else local_answer c (local_task c xs)) → (is_cut c.limit c.own ≡ false) ×
+        (chosen_task c.script c.cpu c.own ≡ Some (Shared job))
     cut true t q = cc
     cut false t q =
         (t, behind (is_behind c.own (value_at xs)) (answers (local_task c xs) q))
@@ -110,11 +119,13 @@ needed_job c xs job e = cut (is_cut c.limit c.own) refl e
 quiet_rests : (c : CpuState) (xs : List ℕ) → IsSound c → local_task c xs ≡ None → rests c.own ≡ true
 quiet_rests c xs h e = go (is_behind c.own (value_at xs)) e
   where
-    go : (b : Bool) → (if b then Some (Alone (Look (record { value = look_values c.own (value_at xs) }))) else chosen_task c.script c.cpu c.own) ≡ None → rests c.own ≡ true
+    go : (b : Bool) → (if b then Some (Alone (Look (record { value = look_values c.own (value_at xs) }))) else chosen_task c.script c.cpu c.own) ≡ None →
+        rests c.own ≡ true
     go true q = cc
     go false q = none_rests c h q
 
-pub step_none : (c : CpuState) (xs : List ℕ) (v u : View) → IsSound c → is_cut c.limit c.own ≡ false → local_task c xs ≡ None → AllLooked c.cpu xs v u → IsStepped c c xs Quiet v u u
+pub step_none : (c : CpuState) (xs : List ℕ) (v u : View) → IsSound c → is_cut c.limit c.own ≡ false → local_task c xs ≡ None → AllLooked c.cpu xs v u →
+    IsStepped c c xs Quiet v u u
 step_none c xs v u h t q l = record {
   looked = record { cut = λ k. absurd (let x = rw t at k in cc); looks = λ k. l };
   answer = ap (local_answer c) (sym q) ∙ ap (λ (b : Bool). if b then Cut else local_answer c (local_task c xs)) (sym t);

@@ -48,7 +48,13 @@ innermost_small n x f h k = go x.own refl k
         rw (← i) (All-head (IsSmall n) g gs (rw e at h.own))
 
 -- the record of what is left, field by field
-pub left_is : (c : CpuState) (n : ℕ) (due : Option ℕ) (e : Event) (told : List ℕ) (fs : Frames) (seen served : List ℕ) (rested : Bool) (took : Option ThreadNo) (fire : Option DpcNo) (sweep : Bool) → fs ≡ frames_after c.script n due e c.own.frames → seen ≡ table 16 (λ k. max (value_at c.own.seen k) (value_at told k)) → served ≡ table 16 (λ k. served_after e.what k (value_at seen k) (value_at c.own.served k)) → rested ≡ is_rest e.what → took ≡ took_after e.what c.own.took → fire ≡ fire_after c.script e.what c.own.fire → sweep ≡ sweep_after e.what c.own.sweep → record c { own = record { made = c.own.made + 1; frames = fs; seen = seen; served = served; rested = rested; took = took; fire = fire; sweep = sweep } } ≡ record c { own = own_with c.script n due e (λ k. max (value_at c.own.seen k) (value_at told k)) c.own }
+pub left_is : (c : CpuState) (n : ℕ) (due : Option ℕ) (e : Event) (told : List ℕ) (fs : Frames) (seen served : List ℕ) (rested : Bool) (took : Option ThreadNo)
+    (fire : Option DpcNo) (sweep : Bool) → fs ≡ frames_after c.script n due e c.own.frames → seen
+    ≡ table 16 (λ k. max (value_at c.own.seen k) (value_at told k)) → served
+    ≡ table 16 (λ k. served_after e.what k (value_at seen k) (value_at c.own.served k)) → rested ≡ is_rest e.what → took ≡ took_after e.what c.own.took → fire
+    ≡ fire_after c.script e.what c.own.fire → sweep ≡ sweep_after e.what c.own.sweep →
+    record c { own = record { made = c.own.made + 1; frames = fs; seen = seen; served = served; rested = rested; took = took; fire = fire; sweep = sweep } }
+    ≡ record c { own = own_with c.script n due e (λ k. max (value_at c.own.seen k) (value_at told k)) c.own }
 left_is c n due e told fs seen served rested took fire sweep a b d r t f w =
     λ i. record c { own = record { made = c.own.made + 1; frames = a i; seen = b i; served = s i; rested = r i; took = t i; fire = f i; sweep = w i } }
   where
@@ -61,7 +67,9 @@ left_is c n due e told fs seen served rested took fire sweep a b d r t f w =
         d ∙ table-same 16 _ _ (λ k h. ap (λ (v : ℕ). served_after e.what k v (value_at c.own.served k)) (value k h))
 
 -- what holds of a processor at any time holds after an event that its frames allow
-pub sound_after : (c : CpuState) (n : ℕ) (due : Option ℕ) (e : Event) (seen : ℕ → ℕ) → IsSound c → c.own.made < c.limit → IfSome due (λ d. d < 2 ^ 51) → e.thread ≡ thread_field e.what c.own.frames.running → Allow c.script e.what c.own.frames → AreNested (frames_after c.script n due e c.own.frames) → IsSound (record c { own = own_with c.script n due e seen c.own })
+pub sound_after : (c : CpuState) (n : ℕ) (due : Option ℕ) (e : Event) (seen : ℕ → ℕ) → IsSound c → c.own.made < c.limit → IfSome due (λ d. d < 2 ^ 51) →
+    e.thread ≡ thread_field e.what c.own.frames.running → Allow c.script e.what c.own.frames → AreNested (frames_after c.script n due e c.own.frames) →
+    IsSound (record c { own = own_with c.script n due e seen c.own })
 sound_after c n due e seen h m d t a nested = record {
   script = h.script;
   cpu = h.cpu;
@@ -69,18 +77,34 @@ sound_after c n due e seen h m d t a nested = record {
   made = omega arith;
   seen = length-table_from 0 16 seen;
   served = length-table_from 0 16 (λ k. served_after e.what k (seen k) (value_at c.own.served k));
-  threads = length-table_from 0 (length c.script.threads) (λ t. thread_if (is_by e (thread t)) c.script n due e.what (frames_in c.own.frames.threads (thread t)));
+  threads = length-table_from 0 (length c.script.threads)
+      (λ t. thread_if (is_by e (thread t)) c.script n due e.what (frames_in c.own.frames.threads (thread t)));
   nested = nested;
   small = small_after c.script c.own.made n due e c.own.frames d h.small;
-  based = based_after c.script n due e c.own.frames h.threads t (rw (length-table_from {A = List Frame} 0 (length c.script.threads) (λ t. thread_if (is_by e (thread t)) c.script n due e.what (frames_in c.own.frames.threads (thread t))), ← h.threads) at nested.running) h.based;
+  based = based_after c.script n due e c.own.frames h.threads t
+      (rw (
+        length-table_from {A = List Frame} 0 (length c.script.threads)
+            (λ t. thread_if (is_by e (thread t)) c.script n due e.what (frames_in c.own.frames.threads (thread t))),
+        ← h.threads,
+      ) at nested.running) h.based;
   waits = waits_after c.script n due e.what c.own.frames a h.waits;
   fire = fire_after_fits c.script e.what c.own.fire h.script h.fire;
 }
 
 -- only the values of the sixteen classes matter
-pub own_with_same : (s : Script) (n : ℕ) (due : Option ℕ) (e : Event) (f g : ℕ → ℕ) (x : Own) → ((k : ℕ) → k < 16 → f k ≡ g k) → own_with s n due e f x ≡ own_with s n due e g x
+pub own_with_same : (s : Script) (n : ℕ) (due : Option ℕ) (e : Event) (f g : ℕ → ℕ) (x : Own) → ((k : ℕ) → k < 16 → f k ≡ g k) → own_with s n due e f x
+    ≡ own_with s n due e g x
 own_with_same s n due e f g x h =
-    λ i. record { made = x.made + 1; frames = frames_after s n due e x.frames; seen = seen i; served = served i; rested = is_rest e.what; took = took_after e.what x.took; fire = fire_after s e.what x.fire; sweep = sweep_after e.what x.sweep }
+    λ i. record {
+      made = x.made + 1;
+      frames = frames_after s n due e x.frames;
+      seen = seen i;
+      served = served i;
+      rested = is_rest e.what;
+      took = took_after e.what x.took;
+      fire = fire_after s e.what x.fire;
+      sweep = sweep_after e.what x.sweep;
+    }
   where
     seen : table 16 f ≡ table 16 g
     seen = table-same 16 f g h

@@ -52,16 +52,20 @@ turn_due c (SwitchTurn q t) job e =
 
 -- ---- what is given
 
-gives_task : (c : CpuState) (l : Lanes) (t : Turn) → is_cut c.limit c.own ≡ false → turn_gives c l t ≡ event_or_refusal (turn_refusal t) (option_and_then (task_makes c.script c.cpu c.own l) (turn_task c.script c.cpu c.own t))
+gives_task : (c : CpuState) (l : Lanes) (t : Turn) → is_cut c.limit c.own ≡ false → turn_gives c l t
+    ≡ event_or_refusal (turn_refusal t) (option_and_then (task_makes c.script c.cpu c.own l) (turn_task c.script c.cpu c.own t))
 gives_task c l t h = rw h refl
 
-pub gives_none : (c : CpuState) (l : Lanes) (t : Turn) → is_cut c.limit c.own ≡ false → turn_task c.script c.cpu c.own t ≡ None → turn_gives c l t ≡ Err (turn_refusal t)
+pub gives_none : (c : CpuState) (l : Lanes) (t : Turn) → is_cut c.limit c.own ≡ false → turn_task c.script c.cpu c.own t ≡ None → turn_gives c l t
+    ≡ Err (turn_refusal t)
 gives_none c l t h e = gives_task c l t h ∙ rw e refl
 
-pub gives_alone : (c : CpuState) (l : Lanes) (t : Turn) (w : What) → is_cut c.limit c.own ≡ false → turn_task c.script c.cpu c.own t ≡ Some (Alone w) → turn_gives c l t ≡ Ok (event_at c.script c.cpu w c.own.frames)
+pub gives_alone : (c : CpuState) (l : Lanes) (t : Turn) (w : What) → is_cut c.limit c.own ≡ false → turn_task c.script c.cpu c.own t ≡ Some (Alone w) →
+    turn_gives c l t ≡ Ok (event_at c.script c.cpu w c.own.frames)
 gives_alone c l t w h e = gives_task c l t h ∙ rw e refl
 
-pub gives_shared : (c : CpuState) (l : Lanes) (t : Turn) (job : Job) → is_cut c.limit c.own ≡ false → turn_task c.script c.cpu c.own t ≡ Some (Shared job) → turn_gives c l t ≡ event_or_refusal (turn_refusal t) (option_map (acted_event (stand_in c.cpu c.own) l) (job_event c.script (stand_in c.cpu c.own) l job))
+pub gives_shared : (c : CpuState) (l : Lanes) (t : Turn) (job : Job) → is_cut c.limit c.own ≡ false → turn_task c.script c.cpu c.own t ≡ Some (Shared job) →
+    turn_gives c l t ≡ event_or_refusal (turn_refusal t) (option_map (acted_event (stand_in c.cpu c.own) l) (job_event c.script (stand_in c.cpu c.own) l job))
 gives_shared c l t job h e = gives_task c l t h ∙ rw e refl
 
 -- ---- the answers
@@ -72,7 +76,8 @@ cut_refused c t v h = record { cause = inr (rw h refl); told = tells_before c.sc
 pub cut_acts : (c : CpuState) (t : Turn) → is_cut c.limit c.own ≡ true → acts c t ≡ true → ⊥
 cut_acts c t h k = let a = rw h at k in cc
 
-pub none_refused : (c : CpuState) (t : Turn) (r : TurnRefusal) (v : View) → is_cut c.limit c.own ≡ false → turn_task c.script c.cpu c.own t ≡ None → r ≡ turn_refusal t → IsTurnRefused c t (found_by c v) r v
+pub none_refused : (c : CpuState) (t : Turn) (r : TurnRefusal) (v : View) → is_cut c.limit c.own ≡ false → turn_task c.script c.cpu c.own t ≡ None → r
+    ≡ turn_refusal t → IsTurnRefused c t (found_by c v) r v
 none_refused c t r v h e k = record {
   cause = inr (gives_none c (found_by c v).lanes t h e ∙ ap (λ (x : TurnRefusal). Err x) (sym k));
   told = tells_before c.script v.states;
@@ -84,9 +89,16 @@ alone_acts c t o e n k =
     let b : is_shared o ≡ true = rw e at a.1 in
     cc
 
-pub alone_turned : (c d : CpuState) (t : Turn) (w : What) (e : Event) (n : ℕ) (v u z : View) → IsSound c → Serves c v → is_cut c.limit c.own ≡ false → turn_task c.script c.cpu c.own t ≡ Some (Alone w) → e ≡ alone_event c.cpu w c.own.frames → IsAlone c d w n v u z → IsTurned c d t (found_by c v) n e v z
+pub alone_turned : (c d : CpuState) (t : Turn) (w : What) (e : Event) (n : ℕ) (v u z : View) → IsSound c → Serves c v → is_cut c.limit c.own ≡ false →
+    turn_task c.script c.cpu c.own t ≡ Some (Alone w) → e ≡ alone_event c.cpu w c.own.frames → IsAlone c d w n v u z → IsTurned c d t (found_by c v) n e v z
 alone_turned c d t w e n v u z s h k q i a =
     let m : MayBe c w = holds_at (GoodTask c) (turn_task c.script c.cpu c.own t) (Alone w) (turn_good c t s) q in
     let below : (k : ℕ) → k < 16 → value_at c.own.seen k ≤ n = λ k b. let x = h.below k b in let y = a.drawn.least in omega arith in
-    let x : IsTurned c d t (found_by c v) n (alone_event c.cpu w c.own.frames) v z = record { event = gives_alone c (found_by c v).lanes t w k q ∙ ap (λ (x : Event). Ok x) (event_alone c.script c.cpu w c.own.frames s.nested s.threads m.alone m.allow); state = a.state ∙ ap (λ (x : Own). record c { own = x }) (alone_left c w n v s m below); floor = alone_moved c d w n v u z h m a } in
+    let x : IsTurned c d t (found_by c v) n (alone_event c.cpu w c.own.frames) v z = record {
+      event = gives_alone c (found_by c v).lanes t w k q
+          ∙ ap (λ (x : Event). Ok x) (event_alone c.script c.cpu w c.own.frames s.nested s.threads m.alone m.allow);
+      state = a.state
+          ∙ ap (λ (x : Own). record c { own = x }) (alone_left c w n v s m below);
+      floor = alone_moved c d w n v u z h m a;
+    } in
     subst (λ (x : Event). IsTurned c d t (found_by c v) n x v z) (sym i) x

@@ -132,7 +132,8 @@ alone_event p w x = record { cpu = p; thread = thread_field w x.running; level =
 -- what the processor keeps after its event of this number
 abbrev pub alone_then : CpuState → ℕ → What → Own
 alone_then c n w =
-    own_with c.script n None (alone_event c.cpu w c.own.frames) (λ k. max (value_at c.own.seen k) (noticed c.cpu w (alone_asks (stand_in c.cpu c.own) w) n k)) c.own
+    own_with c.script n None (alone_event c.cpu w c.own.frames)
+    (λ k. max (value_at c.own.seen k) (noticed c.cpu w (alone_asks (stand_in c.cpu c.own) w) n k)) c.own
 
 -- an event that touches no lane happened under this number: it was drawn, and marked as asking for what it asks
 pub record IsAlone (c d : CpuState) (w : What) (n : ℕ) (v u z : View) : Type 0 where

@@ -32,8 +32,8 @@ abbrev pub is_asked : Script → Turn → List Event → Bool
 is_asked s (LookTurn p r) past = asked_rises s p 0 r.value past
 is_asked s t past = true
 
--- a floor that is alone and tells its states follows the history: its next number, its states, what they tell of requests, its
--- words and its marks are the history's
+-- a floor that is alone and tells its states follows the history: its next number, its states, what they tell of
+-- requests, its words and its marks are the history's
 pub record Follows (s : Script) (past : List Event) (v : View) : Type 0 where
   pub cpus : v.cpus ≡ s.cpus
   pub alone : v.alone ≡ true

@@ -45,15 +45,16 @@ with_looks looks (Some l) = Some (record l { looks = l.looks ++ looks })
 abbrev pub was_looked : CpuNo → ℕ → CpuNo → ℕ → Bool
 was_looked p n q k = (q.0 == p.0) && (nat_lt k n && is_used_class k)
 
--- exactly the used classes below n of the processor were looked at, each once and in order, with these answers (0 for the others):
--- each at least the value that was known, and exactly it where nobody else marks
+-- exactly the used classes below n of the processor were looked at, each once and in order, with these answers (0 for
+-- the others): each at least the value that was known, and exactly it where nobody else marks
 pub record LooksBelow (n : ℕ) (p : CpuNo) (answers : List ℕ) (v u : View) : Type 0 where
   pub lists : u.lists ≡ with_looks (looks_below p n answers) v.lists
   pub least : (k : ℕ) → k < n → is_used_class k ≡ true → v.value p k ≤ value_at answers k
   pub exact : v.alone ≡ true → (k : ℕ) → k < n → is_used_class k ≡ true → value_at answers k ≡ v.value p k
   pub others : (k : ℕ) → is_used_class k ≡ false → value_at answers k ≡ 0
   pub later : (k : ℕ) → n ≤ k → value_at answers k ≡ 0
-  pub value : (q : CpuNo) (k : ℕ) → HasWord v q k → u.value q k ≡ (if was_looked p n q k then value_at answers k else v.value q k)
+  pub value : (q : CpuNo) (k : ℕ) → HasWord v q k → u.value q k
+      ≡ (if was_looked p n q k then value_at answers k else v.value q k)
   pub next : v.next ≤ u.next
   pub most : (k : ℕ) → k < n → value_at answers k ≤ u.next
   pub next_exact : v.alone ≡ true → u.next ≡ v.next
@@ -72,10 +73,13 @@ pub record AreLooked (c : CpuState) (answers : List ℕ) (v u : View) : Type 0 w
 
 -- ---- the step
 
--- what the processor has to do after looks with these answers: a Look at what rose above the values seen, else what it chooses
+-- what the processor has to do after looks with these answers: a Look at what rose above the values seen, else what it
+-- chooses
 abbrev pub local_task : CpuState → List ℕ → Option Task
 local_task c answers =
-    if is_behind c.own (value_at answers) then Some (Alone (LookEvent (record { value = look_values c.own (value_at answers) }))) else chosen_task c.script c.cpu c.own
+    if is_behind c.own (value_at answers) then Some
+    (Alone (LookEvent (record { value = look_values c.own (value_at answers) })))
+    else chosen_task c.script c.cpu c.own
 
 -- the answer of a step
 abbrev pub local_answer : CpuState → Option Task → Local
@@ -126,10 +130,13 @@ pub record GoesOn (c d : CpuState) (v w : View) : Type 0 where
   pub cpus : w.cpus ≡ v.cpus
   pub alone : w.alone ≡ v.alone
 
--- what an advance left, after looks with these answers: its event touched no lane; or a floor made it, as told by `found`; or it
--- rests and no request rose; or it is cut
-abbrev pub Advanced : CpuState → CpuState → List ℕ → (ℕ → Event → Stand → Found → Type 0) → Turned → View → View → Type 0
+-- what an advance left, after looks with these answers: its event touched no lane; or a floor made it, as told by
+-- `found`; or it rests and no request rose; or it is cut
+abbrev pub Advanced : CpuState → CpuState → List ℕ → (ℕ → Event → Stand → Found → Type 0) → Turned → View → View →
+    Type 0
 Advanced c d answers found (Did e) u w =
-    ((local_gives c answers ≡ LocalDid e) × LocalLeaves c d (LocalDid e) u w) ⊎ ((job : Job) × (local_gives c answers ≡ NeedsLane job) × ((f : Found) × (n : ℕ) × (IsShared c d job f n e u w × found n e (stand_in c.cpu c.own) f)))
+    ((local_gives c answers ≡ LocalDid e) × LocalLeaves c d (LocalDid e) u w) ⊎
+    ((job : Job) × (local_gives c answers ≡ NeedsLane job) ×
+    ((f : Found) × (n : ℕ) × (IsShared c d job f n e u w × found n e (stand_in c.cpu c.own) f)))
 Advanced c d answers found Quiet u w = (local_gives c answers ≡ LocalQuiet) × (rests c.own ≡ true) × (d ≡ c) × (w ≡ u)
 Advanced c d answers found Cut u w = (local_gives c answers ≡ LocalCut) × (d ≡ c) × (w ≡ u)

@@ -43,9 +43,9 @@ pub record StandsIn (c : CpuState) (l : Lanes) : Type 0 where
   pub standing : StandHolds c.script l (stand_in c.cpu c.own)
   pub jobs : (job : Job) → IsDue c.script c.cpu c.own job → IsAllowed l (stand_in c.cpu c.own) job
 
--- the words serve the processor: they have the script's processors; unless it is cut, a number may be drawn; they know what it
--- has seen; the least next number is not below it, and above the numbers that name its frames; and where the states of the lanes
--- are told, it stands in them. Where nobody else marks, no value is above the least next number
+-- the words serve the processor: they have the script's processors; unless it is cut, a number may be drawn; they know
+-- what it has seen; the least next number is not below it, and above the numbers that name its frames; and where the
+-- states of the lanes are told, it stands in them. Where nobody else marks, no value is above the least next number
 pub record Serves (c : CpuState) (v : View) : Type 0 where
   pub cpus : v.cpus ≡ c.script.cpus
   pub drawable : is_cut c.limit c.own ≡ false → 1 ≤ v.drawable
@@ -91,7 +91,9 @@ event_or_refusal r (Some e) = Ok e
 -- what the turn gives in these states of the lanes
 abbrev pub turn_gives : CpuState → Lanes → Turn → Result Event TurnRefusal
 turn_gives c l t =
-    if is_cut c.limit c.own then Err NothingToDo else event_or_refusal (turn_refusal t) (option_and_then (task_makes c.script c.cpu c.own l) (turn_task c.script c.cpu c.own t))
+    if is_cut c.limit c.own then Err NothingToDo
+    else event_or_refusal (turn_refusal t)
+    (option_and_then (task_makes c.script c.cpu c.own l) (turn_task c.script c.cpu c.own t))
 
 abbrev pub is_shared : Option Task → Bool
 is_shared (Some (Shared job)) = true
@@ -106,7 +108,9 @@ acts c t = not (is_cut c.limit c.own) && is_shared (turn_task c.script c.cpu c.o
 -- what the processor keeps after its event of this number, made in the states found
 abbrev pub own_then : CpuState → Found → ℕ → Event → Own
 own_then c f n e =
-    own_after_event c.script n (due_of e.what f.lanes.timers.now) e (λ k. asks_in c.script (stand_in c.cpu c.own) e.what f.lanes c.cpu k) (λ k. told_over f.told (what_lanes c.script (stand_in c.cpu c.own) e.what f.lanes) c.cpu k) c.own
+    own_after_event c.script n (due_of e.what f.lanes.timers.now) e
+    (λ k. asks_in c.script (stand_in c.cpu c.own) e.what f.lanes c.cpu k)
+    (λ k. told_over f.told (what_lanes c.script (stand_in c.cpu c.own) e.what f.lanes) c.cpu k) c.own
 
 abbrev pub state_then : CpuState → Found → ℕ → Event → CpuState
 state_then c f n e = record c { own = own_then c f n e }
@@ -118,7 +122,8 @@ pub record IsShared (c d : CpuState) (job : Job) (f : Found) (n : ℕ) (e : Even
   pub state : d ≡ state_then c f n e
   pub floor : IsMoved c.script n e (stand_in c.cpu c.own) f v w
 
--- the turn gave this event, under this number and in the states found; the processor and the floor are as it leaves them
+-- the turn gave this event, under this number and in the states found; the processor and the floor are as it leaves
+-- them
 pub record IsTurned (c d : CpuState) (t : Turn) (f : Found) (n : ℕ) (e : Event) (v w : View) : Type 0 where
   pub event : turn_gives c f.lanes t ≡ Ok e
   pub state : d ≡ state_then c f n e

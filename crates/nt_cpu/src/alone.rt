@@ -47,27 +47,15 @@ fn call_asks(stand: &Stand, command: &Command, reply: &Reply) -> Option<Asked>
             cpu: *cpu,
             class: level.number(),
         }),
-        Command::Raise(_)
-        | Command::Lower(_)
-        | Command::EnterCrit
-        | Command::EnterGuard
-        | Command::Note(_)
-        | Command::Queue(_)
-        | Command::Unqueue(_)
-        | Command::SetImportance(_, _)
-        | Command::SetTarget(_, _)
-        | Command::SetTimer(_, _, _)
-        | Command::CancelTimer(_)
-        | Command::InsertApc(_)
-        | Command::RemoveApc(_)
-        | Command::StartWait(_, _)
-        | Command::Delay(_, _, _)
-        | Command::Release(_)
-        | Command::Alert(_, _)
-        | Command::TestAlert(_)
-        | Command::Clock(_)
-        | Command::ToUser
-        | Command::Yield => None,
+        Command::Raise(_) | Command::Lower(_) => None,
+        Command::EnterCrit | Command::EnterGuard => None,
+        Command::Queue(_) | Command::Unqueue(_) => None,
+        Command::SetImportance(_, _) | Command::SetTarget(_, _) => None,
+        Command::SetTimer(_, _, _) | Command::CancelTimer(_) | Command::Clock(_) => None,
+        Command::InsertApc(_) | Command::RemoveApc(_) => None,
+        Command::StartWait(_, _) | Command::Delay(_, _, _) | Command::Release(_) => None,
+        Command::Alert(_, _) | Command::TestAlert(_) => None,
+        Command::ToUser | Command::Yield | Command::Note(_) => None,
     }
 }
 
@@ -115,28 +103,16 @@ fn call_level(command: &Command, reply: &Reply, old: Level) -> Level
     }
     match command {
         Command::Raise(level) | Command::Lower(level) => *level,
-        Command::EnterCrit
-        | Command::EnterGuard
-        | Command::LeaveCrit
-        | Command::LeaveGuard
-        | Command::Interrupt(_, _)
-        | Command::Note(_)
-        | Command::Queue(_)
-        | Command::Unqueue(_)
-        | Command::SetImportance(_, _)
-        | Command::SetTarget(_, _)
-        | Command::SetTimer(_, _, _)
-        | Command::CancelTimer(_)
-        | Command::InsertApc(_)
-        | Command::RemoveApc(_)
-        | Command::StartWait(_, _)
-        | Command::Delay(_, _, _)
-        | Command::Release(_)
-        | Command::Alert(_, _)
-        | Command::TestAlert(_)
-        | Command::Clock(_)
-        | Command::ToUser
-        | Command::Yield => old,
+        Command::EnterCrit | Command::EnterGuard => old,
+        Command::LeaveCrit | Command::LeaveGuard => old,
+        Command::Interrupt(_, _) | Command::Note(_) => old,
+        Command::Queue(_) | Command::Unqueue(_) => old,
+        Command::SetImportance(_, _) | Command::SetTarget(_, _) => old,
+        Command::SetTimer(_, _, _) | Command::CancelTimer(_) | Command::Clock(_) => old,
+        Command::InsertApc(_) | Command::RemoveApc(_) => old,
+        Command::StartWait(_, _) | Command::Delay(_, _, _) | Command::Release(_) => old,
+        Command::Alert(_, _) | Command::TestAlert(_) => old,
+        Command::ToUser | Command::Yield => old,
     }
 }
 

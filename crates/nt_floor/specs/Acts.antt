@@ -69,21 +69,23 @@ abbrev pub told_after : Script → ℕ → Stand → What → Found → Told
 told_after s n st w f x p c =
     raised (is_among x (what_lanes s st w f.lanes) && asks_in s st w f.lanes p c) n (f.told x p c)
 
--- the answer of an act that found these states: the event is the one of the job there; the APCs that are pending there are of
--- their objects' kinds; the event's due time, if it calls a delay; and per class the greatest value that the touched lanes
--- tell for the processor, the event's own asks among them
+-- the answer of an act that found these states: the event is the one of the job there; the APCs that are pending there
+-- are of their objects' kinds; the event's due time, if it calls a delay; and per class the greatest value that the
+-- touched lanes tell for the processor, the event's own asks among them
 pub record IsActed (s : Script) (f : Found) (st : Stand) (job : Job) (a : Acted) : Type 0 where
   pub what : job_event s st f.lanes job ≡ Some a.event.what
   pub event : a.event ≡ acted_event st f.lanes a.event.what
   pub kinds : KindsFit s f.lanes
   pub due : a.due ≡ due_of a.event.what f.lanes.timers.now
   pub due_fits : IfSome a.due (λ due. due < 2 ^ 51)
-  pub told : (c : ℕ) → c < 16 → value_at a.told.value c ≡ raised (asks_in s st a.event.what f.lanes st.cpu c) a.number (told_over f.told (what_lanes s st a.event.what f.lanes) st.cpu c)
+  pub told : (c : ℕ) → c < 16 → value_at a.told.value c
+      ≡ raised (asks_in s st a.event.what f.lanes st.cpu c) a.number
+      (told_over f.told (what_lanes s st a.event.what f.lanes) st.cpu c)
 
 -- ---- refusals
 
--- why no event was made: nothing is to be done, of an idle processor that has no ordinary DPC and a ready thread; or the
--- thread of a switch isn't the processor's, or isn't ready
+-- why no event was made: nothing is to be done, of an idle processor that has no ordinary DPC and a ready thread; or
+-- the thread of a switch isn't the processor's, or isn't ready
 abbrev pub IsRefused : Script → Found → Stand → Job → ActRefusal → Type 0
 IsRefused s f st IdleJob NothingToDo = job_event s st f.lanes IdleJob ≡ None
 IsRefused s f st (SwitchJob t) BadChoice = job_event s st f.lanes (SwitchJob t) ≡ None

@@ -29,7 +29,10 @@ pub record Lists : Type 0 where
 
 abbrev pub with_draw : ℕ → Event → List ℕ → Option Lists → Option Lists
 with_draw n e lanes None = None
-with_draw n e lanes (Some l) = Some (record l { draws = l.draws ++ record { number = n; event = e; lanes = lanes } ∷ [] })
+with_draw n e lanes (Some l) = Some (record l {
+  draws = l.draws
+      ++ record { number = n; event = e; lanes = lanes } ∷ [];
+})
 
 abbrev pub with_mark : CpuNo → ℕ → ℕ → Option Lists → Option Lists
 with_mark p c n None = None

@@ -43,7 +43,8 @@ pub record SameFloor (v w : View) : Type 0 where
   pub states : w.states ≡ v.states
   pub told : (x : Lane) (p : CpuNo) (c : ℕ) → HasWord v p c → w.told x p c ≡ v.told x p c
 
--- the number of an event was drawn: not below the least next one, and exactly it where nobody else draws; its ask fits 64 bits
+-- the number of an event was drawn: not below the least next one, and exactly it where nobody else draws; its ask fits
+-- 64 bits
 pub record IsDrawn (n : ℕ) (e : Event) (v w : View) : Type 0 where
   pub least : v.next ≤ n
   pub exact : v.alone ≡ true → n ≡ v.next
@@ -64,8 +65,10 @@ pub record IsMarked (p : CpuNo) (c n : ℕ) (v w : View) : Type 0 where
   pub next : w.next ≡ v.next
   pub drawable : w.drawable ≡ v.drawable
   pub lists : w.lists ≡ with_mark p c n v.lists
-  pub value : (q : CpuNo) (d : ℕ) → HasWord v q d → w.value q d ≡ (if is_word p c q d then max (v.value q d) (n + 1) else v.value q d)
-  pub marked : (k : ℕ) (q : CpuNo) (d : ℕ) → HasWord v q d → w.marked k q d ≡ (v.marked k q d || ((k == n) && is_word p c q d))
+  pub value : (q : CpuNo) (d : ℕ) → HasWord v q d → w.value q d
+      ≡ (if is_word p c q d then max (v.value q d) (n + 1) else v.value q d)
+  pub marked : (k : ℕ) (q : CpuNo) (d : ℕ) → HasWord v q d → w.marked k q d
+      ≡ (v.marked k q d || ((k == n) && is_word p c q d))
   pub same : SameFloor v w
 
 -- a look at the word of class c of p gave this value: at least the known one, and exactly it where nobody else marks
@@ -80,23 +83,27 @@ pub record IsLooked (p : CpuNo) (c a : ℕ) (v w : View) : Type 0 where
   pub marked : (k : ℕ) (q : CpuNo) (d : ℕ) → HasWord v q d → w.marked k q d ≡ v.marked k q d
   pub same : SameFloor v w
 
--- an event under lanes was made in the states found, by a processor that stood so: exactly its asks were marked, and where the
--- states are told they are what it leaves
+-- an event under lanes was made in the states found, by a processor that stood so: exactly its asks were marked, and
+-- where the states are told they are what it leaves
 pub record IsMoved (s : Script) (n : ℕ) (e : Event) (st : Stand) (f : Found) (v w : View) : Type 0 where
   pub cpus : w.cpus ≡ v.cpus
   pub alone : w.alone ≡ v.alone
   pub least : (v.next ≤ n) × (n + 1 ≤ w.next)
   pub exact : v.alone ≡ true → (n ≡ v.next) × (w.next ≡ n + 1)
   pub drawable : w.drawable + 1 ≡ v.drawable
-  pub lists : w.lists ≡ with_marks n (what_asks s st e.what f.lanes) (with_draw n e (map (lane_number s) (what_lanes s st e.what f.lanes)) v.lists)
-  pub marked : (k : ℕ) (q : CpuNo) (c : ℕ) → HasWord v q c → w.marked k q c ≡ (v.marked k q c || ((k == n) && asks_in s st e.what f.lanes q c))
-  pub value : v.alone ≡ true → (q : CpuNo) (c : ℕ) → HasWord v q c → w.value q c ≡ raised (asks_in s st e.what f.lanes q c) n (v.value q c)
+  pub lists : w.lists ≡ with_marks n (what_asks s st e.what f.lanes)
+      (with_draw n e (map (lane_number s) (what_lanes s st e.what f.lanes)) v.lists)
+  pub marked : (k : ℕ) (q : CpuNo) (c : ℕ) → HasWord v q c → w.marked k q c
+      ≡ (v.marked k q c || ((k == n) && asks_in s st e.what f.lanes q c))
+  pub value : v.alone ≡ true → (q : CpuNo) (c : ℕ) → HasWord v q c → w.value q c
+      ≡ raised (asks_in s st e.what f.lanes q c) n (v.value q c)
   pub never_falls : (q : CpuNo) (c : ℕ) → HasWord v q c → v.value q c ≤ w.value q c
   pub asked : (q : CpuNo) (c : ℕ) → HasWord v q c → asks_in s st e.what f.lanes q c ≡ true → n + 1 ≤ w.value q c
   pub before : Tells v.states f.lanes
   pub after : Tells w.states (lanes_after s n st e f.lanes)
   pub told_before : v.alone ≡ true → (x : Lane) (q : CpuNo) (c : ℕ) → HasWord v q c → v.told x q c ≡ f.told x q c
-  pub told_after : v.alone ≡ true → (x : Lane) (q : CpuNo) (c : ℕ) → HasWord v q c → w.told x q c ≡ told_after s n st e.what f x q c
+  pub told_after : v.alone ≡ true → (x : Lane) (q : CpuNo) (c : ℕ) → HasWord v q c → w.told x q c
+      ≡ told_after s n st e.what f x q c
 
 -- no event was made; a floor that is alone didn't change at all
 pub record IsUnmoved (v w : View) : Type 0 where

@@ -28,7 +28,8 @@ module _ (key : Sizes) (words : List ℕ) (views : List View) (log : List Entry)
     (at : get_elem? views id ≡ some v) (r : Keeps key words views log lists) (inside_cpus : p.0 < key.cpus) (inside_classes : class ≤ 15)
     (more : get_or words (request_word p class) 0 ≤ n) where
   -- a request word goes up, and the seat's parts, entries and lanes stay
-  word_keeps : w.parts ≡ v.parts → w.entries ≡ v.entries → w.kept ≡ v.kept → ((m : Mark) → Contains v.marks m → Contains w.marks m) → IsAsked (set views id w) p class n
+  word_keeps : w.parts ≡ v.parts → w.entries ≡ v.entries → w.kept ≡ v.kept → ((m : Mark) → Contains v.marks m → Contains w.marks m) →
+      IsAsked (set views id w) p class n
       → Fits key (set words (request_word p class) n) (set views id w) log lists w → Keeps key (set words (request_word p class) n) (set views id w) log lists
   word_keeps parts entries kept marks asked fits =
       let i = request_word p class in
@@ -39,9 +40,11 @@ module _ (key : Sizes) (words : List ℕ) (views : List View) (log : List Entry)
         wide = length-set words i n ∙ r.wide;
         small = r.small;
         steps = get_or-set_other words i step_word n 0 (omega arith) ∙ r.steps;
-        drawn_once = λ h. sum_same (λ (u : View). sum_by (λ (f : Entry). h f.number) u.entries) views id v w at (ap (sum_by (λ (f : Entry). h f.number)) entries) ∙ r.drawn_once h;
+        drawn_once = λ h. sum_same (λ (u : View). sum_by (λ (f : Entry). h f.number) u.entries) views id v w at
+            (ap (sum_by (λ (f : Entry). h f.number)) entries) ∙ r.drawn_once h;
         parts = sum_same (λ (u : View). u.parts) views id v w at parts ∙ r.parts;
-        kept_once = λ h. sum_same (λ (u : View). sum_by (λ (k : LaneList). h k.lane) u.kept) views id v w at (ap (sum_by (λ (k : LaneList). h k.lane)) kept) ∙ r.kept_once h;
+        kept_once = λ h. sum_same (λ (u : View). sum_by (λ (k : LaneList). h k.lane) u.kept) views id v w at (ap (sum_by (λ (k : LaneList). h k.lane)) kept)
+            ∙ r.kept_once h;
         lane_words = λ y l. get_or-set_other words i (lane_word key.cpus y) n 0 (omega arith) ∙ r.lane_words y l;
         all_lists = r.all_lists;
         rise = r.rise;
@@ -53,12 +56,15 @@ module _ (key : Sizes) (words : List ℕ) (views : List View) (log : List Entry)
             let its_class : class ≡ d = omega arith in
             subst (λ (a : ℕ). IsAsked (set views id w) q d a) (sym (ap (λ (k : ℕ). get_or (set words i n) k 0) e ∙ get_or-set_same words i n 0 inside))
             (subst (λ (c : ℕ). IsAsked (set views id w) q c n) its_class (subst (λ (x : CpuNo). IsAsked (set views id w) x class n) cpu asked)))
-            (λ other. subst (λ (a : ℕ). IsAsked (set views id w) q d a) (sym (get_or-set_other words i (request_word q d) n 0 other)) (asked_more views (set views id w) marks_stay q d (get_or words (request_word q d) 0) (r.asked q d hq hd)));
+            (λ other. subst (λ (a : ℕ). IsAsked (set views id w) q d a) (sym (get_or-set_other words i (request_word q d) n 0 other))
+            (asked_more views (set views id w) marks_stay q d (get_or words (request_word q d) 0) (r.asked q d hq hd)));
         each = each_set (Fits key (set words i n) (set views id w) log lists) views id w fits
-            (λ j u apart g. still key words (set words i n) views (set views id w) log log lists lists up marks_stay (λ k f x. x) (λ l y b. b) u (λ k h. refl) (r.each j u g));
+            (λ j u apart g. still key words (set words i n) views (set views id w) log log lists lists up marks_stay (λ k f x. x) (λ l y b. b) u (λ k h. refl)
+            (r.each j u g));
       }
 
-mark_keeps : (key : Sizes) (words : List ℕ) (views : List View) (log : List Entry) (lists : List (List Note)) (id : ℕ) (v : View) (p : CpuNo) (class n : ℕ) → get_elem? views id ≡ some v
+mark_keeps : (key : Sizes) (words : List ℕ) (views : List View) (log : List Entry) (lists : List (List Note)) (id : ℕ) (v : View) (p : CpuNo) (class n : ℕ) →
+    get_elem? views id ≡ some v
     → Keeps key words views log lists → p.0 < key.cpus → class ≤ 15 → ((e : Entry) × Contains v.entries e × (e.number ≡ n))
     → Keeps key (set words (request_word p class) (max (get_or words (request_word p class) 0) (n + 1))) (set views id (marked v p class n)) log lists
 mark_keeps key words views log lists id v p class n at r inside_cpus inside_classes drew =
@@ -76,23 +82,27 @@ mark_keeps key words views log lists id v p class n at r inside_cpus inside_clas
     let marks_stay = marks_set views id v w at keeps_marks in
     let mine : IsMarked (set views id w) m = (id, w, there views id v w at, Contains-push v.marks m) in
     word_keeps key words views log lists id v w p class b at r inside_cpus inside_classes more refl refl refl keeps_marks
-    (greater (λ (k : ℕ). IsAsked (set views id w) p class k) a (n + 1) (asked_more views (set views id w) marks_stay p class a (r.asked p class inside_cpus inside_classes)) (inr (n, refl, mine)))
+    (greater (λ (k : ℕ). IsAsked (set views id w) p class k) a (n + 1)
+    (asked_more views (set views id w) marks_stay p class a (r.asked p class inside_cpus inside_classes)) (inr (n, refl, mine)))
     record {
       few = old.few;
       own = old.own;
-      marks = λ t h. ⊎_elim (λ q. old.marks t q) (λ (is : m ≡ t). (drew.0, drew.1, drew.2 ∙ ap (λ (z : Mark). z.number) is)) (Contains-push_cases v.marks m t h);
+      marks = λ t h. ⊎_elim (λ q. old.marks t q) (λ (is : m ≡ t). (drew.0, drew.1, drew.2 ∙ ap (λ (z : Mark). z.number) is))
+          (Contains-push_cases v.marks m t h);
       known = old.known;
       prefixes = old.prefixes;
       kept = old.kept;
       reached = λ t h. ⊎_elim (λ q. let x = old.reached t q in let y = up t.word in omega arith)
-          (λ (is : reached_at i (n + 1) ≡ t). subst (λ (z : Reached). z.value ≤ get_or (set words i b) z.word 0) is (omega arith)) (Contains-push_cases v.reached (reached_at i (n + 1)) t h);
+          (λ (is : reached_at i (n + 1) ≡ t). subst (λ (z : Reached). z.value ≤ get_or (set words i b) z.word 0) is (omega arith))
+          (Contains-push_cases v.reached (reached_at i (n + 1)) t h);
       looks = λ l h. asked_more views (set views id w) marks_stay l.cpu l.class l.value (old.looks l h);
     }
   where
     greater : (P : ℕ → Type 0) (x y : ℕ) → P x → P y → P (max x y)
     greater P x y px py = dite (ℕ_discrete (max x y) x) (λ e. subst P (sym e) px) (λ ne. let e : max x y ≡ y = omega arith in subst P (sym e) py)
 
-pub marking : {S : Type 0} (key : Sizes) (slots id : ℕ) (me : Me S View) (p : CpuNo) (class n i k : ℕ) → i ≡ request_word p class → k ≡ (n + 1) % 18446744073709551616 → p.0 < key.cpus → class ≤ 15
+pub marking : {S : Type 0} (key : Sizes) (slots id : ℕ) (me : Me S View) (p : CpuNo) (class n i k : ℕ) → i ≡ request_word p class → k
+    ≡ (n + 1) % 18446744073709551616 → p.0 < key.cpus → class ≤ 15
     → ((e : Entry) × Contains me.0.entries e × (e.number ≡ n))
     → Allows (Holds {S = S} key) slots id me i (λ a. max a k) (λ a m'. Marks p class n me m')
 marking key slots id me p class n i k at_word is inside_cpus inside_classes drew s h count at small =
@@ -111,12 +121,14 @@ marking key slots id me p class n i k at_word is inside_cpus inside_classes drew
         h.0,
         h.1,
         subst (λ (j : ℕ). Keeps key (set s.words j (max (get_or s.words j 0) k)) (set s.views id w) h.0 h.1) (sym at_word)
-            (subst (λ (m : ℕ). Keeps key (set s.words (request_word p class) (max (get_or s.words (request_word p class) 0) m)) (set s.views id w) h.0 h.1) (sym no_wrap) kept),
+            (subst (λ (m : ℕ). Keeps key (set s.words (request_word p class) (max (get_or s.words (request_word p class) 0) m)) (set s.views id w) h.0 h.1)
+            (sym no_wrap) kept),
       ),
       (refl, refl),
     )
 
-look_keeps : (key : Sizes) (words : List ℕ) (views : List View) (log : List Entry) (lists : List (List Note)) (id : ℕ) (v : View) (p : CpuNo) (class : ℕ) → get_elem? views id ≡ some v
+look_keeps : (key : Sizes) (words : List ℕ) (views : List View) (log : List Entry) (lists : List (List Note)) (id : ℕ) (v : View) (p : CpuNo) (class : ℕ) →
+    get_elem? views id ≡ some v
     → Keeps key words views log lists → p.0 < key.cpus → class ≤ 15
     → let i = request_word p class in Keeps key (set words i (get_or words i 0)) (set views id (looked v p class (get_or words i 0))) log lists
 look_keeps key words views log lists id v p class at r inside_cpus inside_classes =
@@ -140,10 +152,12 @@ look_keeps key words views log lists id v p class at r inside_cpus inside_classe
       kept = old.kept;
       reached = λ t h. ⊎_elim (λ q. let x = old.reached t q in let y = up t.word in omega arith)
           (λ q. ⊎_elim (λ (is : t ≡ reached_at i a). subst (λ (z : Reached). z.value ≤ get_or (set words i a) z.word 0) (sym is) (omega arith))
-          (λ q2. subst (λ (z : Reached). z.value ≤ get_or (set words i a) z.word 0) (sym (only (reached_at step_word a) t q2)) (omega arith)) (first_or_rest (reached_at i a) (reached_at step_word a ∷ []) t q))
+          (λ q2. subst (λ (z : Reached). z.value ≤ get_or (set words i a) z.word 0) (sym (only (reached_at step_word a) t q2)) (omega arith))
+          (first_or_rest (reached_at i a) (reached_at step_word a ∷ []) t q))
           (Contains-append_cases v.reached (reached_at i a ∷ reached_at step_word a ∷ []) t h);
       looks = λ l h. ⊎_elim (λ q. asked_more views (set views id w) marks_stay l.cpu l.class l.value (old.looks l q))
-          (λ (is : look_of p class a ≡ l). subst (λ (z : Look). IsAsked (set views id w) z.cpu z.class z.value) is asked) (Contains-push_cases v.looks (look_of p class a) l h);
+          (λ (is : look_of p class a ≡ l). subst (λ (z : Look). IsAsked (set views id w) z.cpu z.class z.value) is asked)
+          (Contains-push_cases v.looks (look_of p class a) l h);
     }
 
 pub looking : {S : Type 0} (key : Sizes) (slots id : ℕ) (me : Me S View) (p : CpuNo) (class i : ℕ) → i ≡ request_word p class → p.0 < key.cpus → class ≤ 15

@@ -24,14 +24,16 @@ use Rattle.nt_mark.specs.Rule.{sum_below, IsMarked, IsAsked, IsBeginning, Fits, 
 use Rattle.nt_mark.proofs.Sums.{in_first, in_rest, sum_changed, sum_same, sum_bounded, sum_ones, get_front, ones_below, rises_at, get_below, there}
 
 -- a mark that some seat has is still there after a change of one view that keeps the marks
-pub marks_set : (views : List View) (id : ℕ) (v w : View) → get_elem? views id ≡ some v → ((m : Mark) → Contains v.marks m → Contains w.marks m) → (m : Mark) → IsMarked views m → IsMarked (set views id w) m
+pub marks_set : (views : List View) (id : ℕ) (v w : View) → get_elem? views id ≡ some v → ((m : Mark) → Contains v.marks m → Contains w.marks m) → (m : Mark) →
+    IsMarked views m → IsMarked (set views id w) m
 marks_set views id v w at more t m = dite (ℕ_discrete m.0 id)
     (λ e.
     let same : v ≡ m.1 = some-injective v m.1 (sym at ∙ subst (λ (k : ℕ). get_elem? views k ≡ some m.1) e m.2) in
     (id, w, there views id v w at, more t (subst (λ (u : View). Contains u.marks t) (sym same) m.3)))
     (λ other. (m.0, m.1, set_else views id m.0 w other ∙ m.2, m.3))
 
-pub asked_more : (views views' : List View) → ((m : Mark) → IsMarked views m → IsMarked views' m) → (p : CpuNo) (class a : ℕ) → IsAsked views p class a → IsAsked views' p class a
+pub asked_more : (views views' : List View) → ((m : Mark) → IsMarked views m → IsMarked views' m) → (p : CpuNo) (class a : ℕ) → IsAsked views p class a →
+    IsAsked views' p class a
 asked_more views views' more p class a h = ⊎_elim (λ z. inl z) (λ s. inr (s.0, s.1, more (mark_of p class s.0) s.2)) h
 
 module _ (key : Sizes) (words words' : List ℕ) (views views' : List View) (log log' : List Entry) (lists lists' : List (List Note)) where
@@ -53,11 +55,14 @@ module _ (key : Sizes) (words words' : List ℕ) (views views' : List View) (log
   }
 
 -- all views fit after a change of one
-pub each_set : (P : View → Type 0) (views : List View) (id : ℕ) (w : View) → P w → ((j : ℕ) (u : View) → j ≢ id → get_elem? views j ≡ some u → P u) → (j : ℕ) (u : View) → get_elem? (set views id w) j ≡ some u → P u
-each_set P views id w mine others j u e = ⊎_elim (λ (t : (j ≡ id) × (w ≡ u)). subst P t.1 mine) (λ (t : (j ≢ id) × (get_elem? views j ≡ some u)). others j u t.0 t.1) (at_set views id j w u e)
+pub each_set : (P : View → Type 0) (views : List View) (id : ℕ) (w : View) → P w → ((j : ℕ) (u : View) → j ≢ id → get_elem? views j ≡ some u → P u) →
+    (j : ℕ) (u : View) → get_elem? (set views id w) j ≡ some u → P u
+each_set P views id w mine others j u e = ⊎_elim (λ (t : (j ≡ id) × (w ≡ u)). subst P t.1 mine)
+    (λ (t : (j ≢ id) × (get_elem? views j ≡ some u)). others j u t.0 t.1) (at_set views id j w u e)
 
 -- no more numbers were drawn than the parts allow
-pub log_bound : (key : Sizes) (words : List ℕ) (views : List View) (log : List Entry) (lists : List (List Note)) → Keeps key words views log lists → length log ≤ key.limit * key.parts
+pub log_bound : (key : Sizes) (words : List ℕ) (views : List View) (log : List Entry) (lists : List (List Note)) → Keeps key words views log lists →
+    length log ≤ key.limit * key.parts
 log_bound key words views log lists r =
     let ones = r.drawn_once (λ _. 1) in
     let few = sum_bounded (λ (v : View). sum_by (λ (e : Entry). 1) v.entries) (λ (v : View). v.parts) key.limit views
@@ -67,7 +72,8 @@ log_bound key words views log lists r =
     omega arith
 
 -- what is known of a word is at most what it holds
-pub reach_below : (words : List ℕ) (w : ℕ) (rs : List Reached) → ((r : Reached) → Contains rs r → r.value ≤ get_or words r.word 0) → greatest w rs ≤ get_or words w 0
+pub reach_below : (words : List ℕ) (w : ℕ) (rs : List Reached) → ((r : Reached) → Contains rs r → r.value ≤ get_or words r.word 0) →
+    greatest w rs ≤ get_or words w 0
 reach_below words w [] h = zero-le
 reach_below words w (r ∷ rs) h =
     max-le (picked (ℕ_discrete r.word w)) (reach_below words w rs (λ u m. h u (in_rest r rs u m)))
@@ -77,7 +83,8 @@ reach_below words w (r ∷ rs) h =
     picked (no ne) = rw (ne_eqb r.word w ne) zero-le
 
 -- what was asked is no more than was drawn
-pub asked_below : (key : Sizes) (words : List ℕ) (views : List View) (log : List Entry) (lists : List (List Note)) → Keeps key words views log lists → (p : CpuNo) (class a : ℕ) → IsAsked views p class a → a ≤ get_or words 0 0
+pub asked_below : (key : Sizes) (words : List ℕ) (views : List View) (log : List Entry) (lists : List (List Note)) → Keeps key words views log lists →
+    (p : CpuNo) (class a : ℕ) → IsAsked views p class a → a ≤ get_or words 0 0
 asked_below key words views log lists r p class a h = ⊎_elim (λ (z : a ≡ 0). rw z zero-le)
     (λ s.
     let m = s.2 in
@@ -122,24 +129,29 @@ draw_keeps key words views log lists id v e ls room at r =
       all_lists = r.all_lists;
       rise = r.rise;
       of_entries = λ y m l h. let o = r.of_entries y m l h in (o.0, log_stays o.0.number o.0 o.1, o.2, o.3);
-      asked = λ p class c d. subst (λ (a : ℕ). IsAsked (set views id w) p class a) (sym (get_or-set_other words 0 (request_word p class) (n + 1) 0 (omega arith)))
+      asked = λ p class c d. subst (λ (a : ℕ). IsAsked (set views id w) p class a)
+          (sym (get_or-set_other words 0 (request_word p class) (n + 1) 0 (omega arith)))
           (asked_more views (set views id w) marks_stay p class (get_or words (request_word p class) 0) (r.asked p class c d));
       each = each_set (Fits key (set words 0 (n + 1)) (set views id w) (log ++ x ∷ []) lists) views id w
           record {
             few = let a = length-append v.entries (x ∷ []) in omega arith;
-            own = λ f h. ⊎_elim (λ p. log_stays f.number f (old.own f p)) (λ (is : x ≡ f). subst (λ (z : Entry). get_elem? (log ++ x ∷ []) z.number ≡ some z) is new_here) (Contains-push_cases v.entries x f h);
+            own = λ f h. ⊎_elim (λ p. log_stays f.number f (old.own f p))
+                (λ (is : x ≡ f). subst (λ (z : Entry). get_elem? (log ++ x ∷ []) z.number ≡ some z) is new_here) (Contains-push_cases v.entries x f h);
             marks = λ t h. let o = old.marks t h in (o.0, Contains-append_left v.entries (x ∷ []) o.0 o.1, o.2);
             known = λ f h. log_stays f.number f (old.known f h);
             prefixes = old.prefixes;
             kept = old.kept;
             reached = λ t h. ⊎_elim (λ p. let a = old.reached t p in let b = up t.word in omega arith)
-                (λ (is : reached_at step_word (n + 1) ≡ t). subst (λ (z : Reached). z.value ≤ get_or (set words 0 (n + 1)) z.word 0) is (omega arith)) (Contains-push_cases v.reached (reached_at step_word (n + 1)) t h);
+                (λ (is : reached_at step_word (n + 1) ≡ t). subst (λ (z : Reached). z.value ≤ get_or (set words 0 (n + 1)) z.word 0) is (omega arith))
+                (Contains-push_cases v.reached (reached_at step_word (n + 1)) t h);
             looks = λ l h. asked_more views (set views id w) marks_stay l.cpu l.class l.value (old.looks l h);
           }
-          (λ j u apart g. still key words (set words 0 (n + 1)) views (set views id w) log (log ++ x ∷ []) lists lists up marks_stay log_stays (λ l y b. b) u (λ k h. refl) (r.each j u g));
+          (λ j u apart g. still key words (set words 0 (n + 1)) views (set views id w) log (log ++ x ∷ []) lists lists up marks_stay log_stays (λ l y b. b) u
+          (λ k h. refl) (r.each j u g));
     }
 
-pub draws : {S : Type 0} (key : Sizes) (slots id : ℕ) (me : Me S View) (e : Event) (ls : List ℕ) (most : ℕ) → length me.0.entries < key.limit * me.0.parts → most ≡ key.limit * key.parts
+pub draws : {S : Type 0} (key : Sizes) (slots id : ℕ) (me : Me S View) (e : Event) (ls : List ℕ) (most : ℕ) → length me.0.entries < key.limit * me.0.parts →
+    most ≡ key.limit * key.parts
     → Allows (Holds {S = S} key) slots id me 0 (λ n. (n + 1) % 18446744073709551616) (λ n m'. Draws e ls most me n m')
 draws key slots id me e ls most room is s h count at small =
     let n = get_or s.words 0 0 in
@@ -150,7 +162,8 @@ draws key slots id me e ls most room is s h count at small =
     let no_wrap : (n + 1) % 18446744073709551616 ≡ n + 1 = let a = r.steps in let b = r.small in omega arith in
     let kept = draw_keeps key s.words s.views h.0 h.1 id me.0 e ls room at r in
     let mine = r.each id me.0 at in
-    let looks_below : (l : Look) → Contains me.0.looks l → l.value ≤ n = λ l has. asked_below key s.words s.views h.0 h.1 r l.cpu l.class l.value (mine.looks l has) in (
+    let looks_below : (l : Look) → Contains me.0.looks l →
+    l.value ≤ n = λ l has. asked_below key s.words s.views h.0 h.1 r l.cpu l.class l.value (mine.looks l has) in (
       w,
       keeps,
       tt,

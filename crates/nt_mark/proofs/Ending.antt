@@ -46,9 +46,11 @@ whole key words views log lists r id v at parts lanes =
     let theirs = sum_ones u.kept in
     none_left u.kept (omega arith) in
     let drawn_by : (h : ℕ → ℕ) → sum_by (λ (e : Entry). h e.number) v.entries ≡ sum_below h (length log) = λ h.
-    sym (sum_only (λ (u : View). sum_by (λ (e : Entry). h e.number) u.entries) views id v at (λ j u ne g. ap (sum_by (λ (e : Entry). h e.number)) (none_drawn j u ne g))) ∙ r.drawn_once h in
+    sym (sum_only (λ (u : View). sum_by (λ (e : Entry). h e.number) u.entries) views id v at
+    (λ j u ne g. ap (sum_by (λ (e : Entry). h e.number)) (none_drawn j u ne g))) ∙ r.drawn_once h in
     let kept_by : (h : ℕ → ℕ) → sum_by (λ (k : LaneList). h k.lane) v.kept ≡ sum_below h key.lanes = λ h.
-    sym (sum_only (λ (u : View). sum_by (λ (k : LaneList). h k.lane) u.kept) views id v at (λ j u ne g. ap (sum_by (λ (k : LaneList). h k.lane)) (none_kept j u ne g))) ∙ r.kept_once h in
+    sym (sum_only (λ (u : View). sum_by (λ (k : LaneList). h k.lane) u.kept) views id v at
+    (λ j u ne g. ap (sum_by (λ (k : LaneList). h k.lane)) (none_kept j u ne g))) ∙ r.kept_once h in
     let owned : (e : Entry) → get_elem? log e.number ≡ some e → Contains v.entries e = λ e g.
     let d = drawn_by (at_one e.number) in
     let o = one_at e.number (length log) (get_below log e.number e g) in
@@ -56,13 +58,15 @@ whole key words views log lists r id v at parts lanes =
     let same : f.0 ≡ e = some-injective f.0 e (sym (mine.own f.0 f.1) ∙ (ap (get_elem? log) f.2 ∙ g)) in
     subst (λ (z : Entry). Contains v.entries z) same f.1 in
     let my_mark : (m : Mark) → IsMarked views m → Contains v.marks m = λ t m. dite (ℕ_discrete m.0 id)
-    (λ e. let is : v ≡ m.1 = some-injective v m.1 (sym at ∙ subst (λ (k : ℕ). get_elem? views k ≡ some m.1) e m.2) in subst (λ (u : View). Contains u.marks t) (sym is) m.3)
+    (λ e. let is : v ≡ m.1 = some-injective v m.1 (sym at ∙ subst (λ (k : ℕ). get_elem? views k ≡ some m.1) e m.2) in
+    subst (λ (u : View). Contains u.marks t) (sym is) m.3)
     (λ ne. let e = (r.each m.0 m.1 m.2).marks t m.3 in absurd (in_none e.0 (subst (λ (q : List Entry). Contains q e.0) (none_drawn m.0 m.1 ne m.2) e.1))) in
     record {
       drawn_once = λ h. drawn_by h ∙ ap (sum_below h) (sym r.steps);
       kept_once = kept_by;
       rise = λ k h. let a = mine.kept k h in subst (λ (q : List Note). IsStrictlyIncreasing (note_numbers q)) (sym a.1) (r.rise k.lane a.0);
-      notes = λ k n h m. let a = mine.kept k h in let o = r.of_entries k.lane n a.0 (subst (λ (q : List Note). Contains q n) a.1 m) in (o.0, owned o.0 o.1, o.2, o.3);
+      notes = λ k n h m. let a = mine.kept k h in let o = r.of_entries k.lane n a.0 (subst (λ (q : List Note). Contains q n) a.1 m) in
+          (o.0, owned o.0 o.1, o.2, o.3);
       known = λ e h. owned e (mine.known e h);
       prefixes = λ q hq.
           let f = mine.prefixes q hq in

@@ -34,24 +34,29 @@ gathered_push v [] w = refl
 gathered_push v (x ∷ ws) w = ap (λ (u : View). both u x) (gathered_push v ws w)
 
 -- a pass that was taken from the end of the others, and the same of a keeper
-pub gathered_pass : (v : View) (before after : List Pass) (x : Pass) → before ≡ after ++ x ∷ [] → gathered v (pass_views before) ≡ gathered (both v (pass_view x)) (pass_views after)
+pub gathered_pass : (v : View) (before after : List Pass) (x : Pass) → before ≡ after ++ x ∷ [] → gathered v (pass_views before)
+    ≡ gathered (both v (pass_view x)) (pass_views after)
 gathered_pass v before after x is = ap (gathered v) (ap pass_views is ∙ map-append pass_view after (x ∷ [])) ∙ gathered_push v (pass_views after) (pass_view x)
 
-pub gathered_keeper : (v : View) (before after : List Keeper) (x : Keeper) → before ≡ after ++ x ∷ [] → gathered v (keeper_views before) ≡ gathered (both v (keeper_view x)) (keeper_views after)
-gathered_keeper v before after x is = ap (gathered v) (ap keeper_views is ∙ map-append keeper_view after (x ∷ [])) ∙ gathered_push v (keeper_views after) (keeper_view x)
+pub gathered_keeper : (v : View) (before after : List Keeper) (x : Keeper) → before ≡ after ++ x ∷ [] → gathered v (keeper_views before)
+    ≡ gathered (both v (keeper_view x)) (keeper_views after)
+gathered_keeper v before after x is = ap (gathered v) (ap keeper_views is ∙ map-append keeper_view after (x ∷ []))
+    ∙ gathered_push v (keeper_views after) (keeper_view x)
 
 nothing_more : {A : Type 0} (xs ys : List A) → length ys ≡ 0 → xs ++ ys ≡ xs
 nothing_more {A} xs ys none = ap (λ (l : List A). xs ++ l) (none_left ys (omega arith)) ∙ append-nil xs
 
 passes_keep_none : (v : View) (ps : List Pass) → length v.kept ≡ 0 → length (gathered v (pass_views ps)).kept ≡ 0
 passes_keep_none v [] h = h
-passes_keep_none v (p ∷ ps) h = let a = passes_keep_none v ps h in let b = p.no_lane in let c = length-append (gathered v (pass_views ps)).kept (pass_view p).kept in omega arith
+passes_keep_none v (p ∷ ps) h = let a = passes_keep_none v ps h in let b = p.no_lane in
+    let c = length-append (gathered v (pass_views ps)).kept (pass_view p).kept in omega arith
 
 -- what the first has and what another has is in what they have together
 module _ {A : Type 0} (f : View → List A) (adds : (a b : View) → f (both a b) ≡ f a ++ f b) where
   in_gathered : (v : View) (ws : List View) (x : A) → Contains (f v) x → Contains (f (gathered v ws)) x
   in_gathered v [] x h = h
-  in_gathered v (w ∷ ws) x h = subst (λ (l : List A). Contains l x) (sym (adds (gathered v ws) w)) (Contains-append_left (f (gathered v ws)) (f w) x (in_gathered v ws x h))
+  in_gathered v (w ∷ ws) x h = subst (λ (l : List A). Contains l x) (sym (adds (gathered v ws) w))
+      (Contains-append_left (f (gathered v ws)) (f w) x (in_gathered v ws x h))
 
   other_in_gathered : (v : View) (ws : List View) (w : View) (x : A) → Contains ws w → Contains (f w) x → Contains (f (gathered v ws)) x
   other_in_gathered v [] w x at h = absurd (in_none w at)
@@ -60,9 +65,11 @@ module _ {A : Type 0} (f : View → List A) (adds : (a b : View) → f (both a b
       (λ r. Contains-append_left (f (gathered v ws)) (f u) x (other_in_gathered v ws w x r h))
       (first_or_rest u ws w at))
 
-  in_all : (p : Pass) (others : List Pass) (keepers : List Keeper) (w : View) (x : A) → Contains (seat_views p others keepers) w → Contains (f w) x → Contains (f (seats p others keepers)) x
+  in_all : (p : Pass) (others : List Pass) (keepers : List Keeper) (w : View) (x : A) → Contains (seat_views p others keepers) w → Contains (f w) x →
+      Contains (f (seats p others keepers)) x
   in_all p others keepers w x at h = ⊎_elim
-      (λ e. in_gathered (passes p others) (keeper_views keepers) x (in_gathered (pass_view p) (pass_views others) x (subst (λ (z : View). Contains (f z) x) e h)))
+      (λ e. in_gathered (passes p others) (keeper_views keepers) x
+      (in_gathered (pass_view p) (pass_views others) x (subst (λ (z : View). Contains (f z) x) e h)))
       (λ r. ⊎_elim
       (λ a. in_gathered (passes p others) (keeper_views keepers) x (other_in_gathered (pass_view p) (pass_views others) w x a h))
       (λ b. other_in_gathered (passes p others) (keeper_views keepers) w x b h)
@@ -101,7 +108,8 @@ lanes_added v (k ∷ ks) =
     let b = length-append (gathered v (keeper_views ks)).kept (keeper_view k).kept in
     omega arith
 
-lane_sum : (h : ℕ → ℕ) (v : View) (ks : List Keeper) → length v.kept ≡ 0 → sum_by (λ (m : LaneList). h m.lane) (gathered v (keeper_views ks)).kept ≡ sum_by h (keeper_lanes ks)
+lane_sum : (h : ℕ → ℕ) (v : View) (ks : List Keeper) → length v.kept ≡ 0 → sum_by (λ (m : LaneList). h m.lane) (gathered v (keeper_views ks)).kept
+    ≡ sum_by h (keeper_lanes ks)
 lane_sum h v [] none = ap (sum_by (λ (m : LaneList). h m.lane)) (none_left v.kept (omega arith))
 lane_sum h v (k ∷ ks) none =
     let f : LaneList → ℕ = λ (m : LaneList). h m.lane in
@@ -115,17 +123,24 @@ lane_sum h v (k ∷ ks) none =
     let z : sum_by f [] ≡ 0 = refl in
     omega arith
 
-list_of : (v : View) (ks : List Keeper) (k : Keeper) → Contains ks k → (m : LaneList) × Contains (gathered v (keeper_views ks)).kept m × (m.lane ≡ k.lane) × (m.notes ≡ keeper_notes k)
+list_of : (v : View) (ks : List Keeper) (k : Keeper) → Contains ks k → (m : LaneList) × Contains (gathered v (keeper_views ks)).kept m × (m.lane ≡ k.lane) ×
+    (m.notes ≡ keeper_notes k)
 list_of v [] k h = absurd (in_none k h)
 list_of v (x ∷ ks) k h = ⊎_elim
     (λ e.
     let m = its_list x in
-    let has : Contains (keeper_view x).kept m.0 = subst (λ (l : List LaneList). Contains l m.0) (sym m.1) (in_first m.0 []) in
-    (m.0, Contains-append_right (gathered v (keeper_views ks)).kept (keeper_view x).kept m.0 has, m.2 ∙ ap (λ (y : Keeper). y.lane) (sym e), m.3 ∙ ap keeper_notes (sym e)))
+    let has : Contains (keeper_view x).kept m.0 = subst (λ (l : List LaneList). Contains l m.0) (sym m.1) (in_first m.0 []) in (
+      m.0,
+      Contains-append_right (gathered v (keeper_views ks)).kept (keeper_view x).kept m.0 has,
+      m.2 ∙ ap (λ (y : Keeper). y.lane) (sym e),
+      m.3
+          ∙ ap keeper_notes (sym e),
+    ))
     (λ r. let m = list_of v ks k r in (m.0, Contains-append_left (gathered v (keeper_views ks)).kept (keeper_view x).kept m.0 m.1, m.2, m.3))
     (first_or_rest x ks k h)
 
-keeper_of : (v : View) (ks : List Keeper) → length v.kept ≡ 0 → (m : LaneList) → Contains (gathered v (keeper_views ks)).kept m → (k : Keeper) × Contains ks k × (k.lane ≡ m.lane) × (keeper_notes k ≡ m.notes)
+keeper_of : (v : View) (ks : List Keeper) → length v.kept ≡ 0 → (m : LaneList) → Contains (gathered v (keeper_views ks)).kept m → (k : Keeper) ×
+    Contains ks k × (k.lane ≡ m.lane) × (keeper_notes k ≡ m.notes)
 keeper_of v [] none m h = absurd (in_none m (subst (λ (l : List LaneList). Contains l m) (none_left v.kept (omega arith)) h))
 keeper_of v (x ∷ ks) none m h = ⊎_elim
     (λ r. let k = keeper_of v ks none m r in (k.0, in_rest x ks k.0 k.1, k.2, k.3))
@@ -161,7 +176,8 @@ pub record IsEnd (lanes : ℕ) (p : Pass) (others : List Pass) (keepers : List K
   pub prefixes : All (λ (v : View). All (IsOfKeeper keepers) v.prefixes) (seat_views p others keepers)
   pub looks : All (WasAsked (passes p others)) (passes p others).looks
 
-ends : (lanes : ℕ) (p : Pass) (others : List Pass) (keepers : List Keeper) (count : ℕ) → IsWhole lanes (seats p others keepers) count → IsEnd lanes p others keepers count
+ends : (lanes : ℕ) (p : Pass) (others : List Pass) (keepers : List Keeper) (count : ℕ) → IsWhole lanes (seats p others keepers) count →
+    IsEnd lanes p others keepers count
 ends lanes p others keepers count w =
     let v = passes p others in
     let views = seat_views p others keepers in
@@ -169,7 +185,8 @@ ends lanes p others keepers count w =
     let es = entries_stay v keepers in
     let ms = marks_stay v keepers in
     let ls = looks_stay v keepers in
-    let drawn : (h : ℕ → ℕ) → sum_by (λ (e : Entry). h e.number) v.entries ≡ sum_below h count = λ h. ap (sum_by (λ (e : Entry). h e.number)) (sym es) ∙ w.drawn_once h in
+    let drawn : (h : ℕ → ℕ) → sum_by (λ (e : Entry). h e.number) v.entries ≡ sum_below h count = λ h. ap (sum_by (λ (e : Entry). h e.number)) (sym es)
+    ∙ w.drawn_once h in
     record {
       count_is = let a = drawn (λ _. 1) in let b = sum_ones v.entries in let c = ones_below count in omega arith;
       each_once = once_below (entry_numbers v.entries) count (λ h. sum_map h (λ (e : Entry). e.number) v.entries ∙ drawn h);
@@ -183,7 +200,8 @@ ends lanes p others keepers count w =
           let o = w.notes m.0 n m.1 (subst (λ (l : List Note). Contains l n) (sym m.3) hn) in
           (o.0, subst (λ (l : List Entry). Contains l o.0) es o.1, o.2, subst (λ (x : ℕ). Contains o.0.lanes x) m.2 o.3)));
       known = each_of (λ (u : View). All (Contains v.entries) u.known) views
-          (λ u at. each_of (Contains v.entries) u.known (λ e h. subst (λ (l : List Entry). Contains l e) es (w.known e (in_all (λ (z : View). z.known) (λ a b. refl) p others keepers u e at h))));
+          (λ u at. each_of (Contains v.entries) u.known (λ e h. subst (λ (l : List Entry). Contains l e) es
+          (w.known e (in_all (λ (z : View). z.known) (λ a b. refl) p others keepers u e at h))));
       prefixes = each_of (λ (u : View). All (IsOfKeeper keepers) u.prefixes) views
           (λ u at. each_of (IsOfKeeper keepers) u.prefixes
           (λ q h.
@@ -192,12 +210,18 @@ ends lanes p others keepers count w =
           (k.0, k.1, k.2 ∙ m.2, subst (λ (l : List Note). IsBeginning q.notes l) (sym k.3) m.3)));
       looks = each_of (WasAsked v) v.looks
           (λ l h. ⊎_elim (λ z. inl z)
-          (λ s. inr (s.0, s.1, subst (λ (q : List Mark). Contains q (mark_of l.cpu l.class s.0)) ms s.2, (s.3.0, subst (λ (q : List Entry). Contains q s.3.0) es s.3.1, s.3.2)))
+          (λ s. inr (
+            s.0,
+            s.1,
+            subst (λ (q : List Mark). Contains q (mark_of l.cpu l.class s.0)) ms s.2,
+            (s.3.0, subst (λ (q : List Entry). Contains q s.3.0) es s.3.1, s.3.2),
+          ))
           (w.looks l (subst (λ (q : List Look). Contains q l) (sym ls) h)));
     }
 
 -- the table at the end, with the view of the seat that took all in
-pub closes : {S : Type 0} (key : Sizes) (id : ℕ) (v : View) (p : Pass) (others : List Pass) (keepers : List Keeper) (words : List ℕ) (xs : List S) (count : ℕ) → Final (Seen (Holds {S = S} key) id v) words xs → get_elem? words 0 ≡ some count
+pub closes : {S : Type 0} (key : Sizes) (id : ℕ) (v : View) (p : Pass) (others : List Pass) (keepers : List Keeper) (words : List ℕ) (xs : List S)
+    (count : ℕ) → Final (Seen (Holds {S = S} key) id v) words xs → get_elem? words 0 ≡ some count
     → v ≡ seats p others keepers → (passes p others).parts ≡ key.parts → length keepers ≡ key.lanes → IsEnd key.lanes p others keepers count
 closes key id v p others keepers words xs count f at same parts lanes =
     let s = f.0 in

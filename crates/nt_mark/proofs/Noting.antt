@@ -21,7 +21,8 @@ use Rattle.nt_mark.proofs.Drawing.{marks_set, asked_more, still, each_set, log_b
 
 -- a lane that one view keeps is kept by no other
 pub kept_apart : (key : Sizes) (words : List ℕ) (views : List View) (log : List Entry) (lists : List (List Note)) → Keeps key words views log lists
-    → (i j : ℕ) (v w : View) → get_elem? views i ≡ some v → get_elem? views j ≡ some w → i ≢ j → (k m : LaneList) → Contains v.kept k → Contains w.kept m → k.lane ≢ m.lane
+    → (i j : ℕ) (v w : View) → get_elem? views i ≡ some v → get_elem? views j ≡ some w → i ≢ j → (k m : LaneList) → Contains v.kept k → Contains w.kept m →
+    k.lane ≢ m.lane
 kept_apart key words views log lists r i j v w e g ne k m hk hm same =
     let x = k.lane in
     let f : View → ℕ = λ u. sum_by (λ (q : LaneList). at_one x q.lane) u.kept in
@@ -95,8 +96,10 @@ list_bound (x ∷ xs) n r h =
     let c = y.2 in
     omega arith
 
-note_keeps : (key : Sizes) (words : List ℕ) (views : List View) (log : List Entry) (lists : List (List Note)) (id : ℕ) (v : View) (k : LaneList) (x : Note) → get_elem? views id ≡ some v
-    → Keeps key words views log lists → v.kept ≡ k ∷ [] → IsAbove x.number k.notes → ((e : Entry) × Contains (known_entries v) e × (e.number ≡ x.number) × Contains e.lanes k.lane)
+note_keeps : (key : Sizes) (words : List ℕ) (views : List View) (log : List Entry) (lists : List (List Note)) (id : ℕ) (v : View) (k : LaneList) (x : Note) →
+    get_elem? views id ≡ some v
+    → Keeps key words views log lists → v.kept ≡ k ∷ [] → IsAbove x.number k.notes →
+    ((e : Entry) × Contains (known_entries v) e × (e.number ≡ x.number) × Contains e.lanes k.lane)
     → let i = lane_word key.cpus k.lane in Keeps key (set words i (get_or words i 0 + 1)) (set views id (noted v x)) log (set lists k.lane (k.notes ++ x ∷ []))
 note_keeps key words views log lists id v k x at r keeps_one above drew =
     let i = lane_word key.cpus k.lane in
@@ -130,13 +133,18 @@ note_keeps key words views log lists id v k x at r keeps_one above drew =
       kept_once = λ h. sum_same (λ (u : View). sum_by (λ (q : LaneList). h q.lane) u.kept) views id v w at (sums h) ∙ r.kept_once h;
       lane_words = λ y l. dite (ℕ_discrete y k.lane)
           (λ e. subst (λ (q : ℕ). get_or (set words i n) (lane_word key.cpus q) 0 ≡ length (get_or lists2 q [])) (sym e)
-          (get_or-set_same words i n 0 inside ∙ (let a = r.lane_words k.lane kept_k.0 in let b = length-append k.notes (x ∷ []) in let c : length (get_or lists k.lane []) ≡ length k.notes = ap length (sym kept_k.1) in let d : length (get_or lists2 k.lane []) ≡ length (k.notes ++ x ∷ []) = ap length here in omega arith)))
-          (λ ne. get_or-set_other words i (lane_word key.cpus y) n 0 (λ e. ne (omega arith)) ∙ (r.lane_words y l ∙ ap length (sym (get_or-set_other lists k.lane y (k.notes ++ x ∷ []) [] ne))));
+          (get_or-set_same words i n 0 inside ∙ (let a = r.lane_words k.lane kept_k.0 in let b = length-append k.notes (x ∷ []) in
+          let c : length (get_or lists k.lane []) ≡ length k.notes = ap length (sym kept_k.1) in let d : length (get_or lists2 k.lane [])
+          ≡ length (k.notes ++ x ∷ []) = ap length here in omega arith)))
+          (λ ne. get_or-set_other words i (lane_word key.cpus y) n 0 (λ e. ne (omega arith))
+          ∙ (r.lane_words y l ∙ ap length (sym (get_or-set_other lists k.lane y (k.notes ++ x ∷ []) [] ne))));
       all_lists = length-set lists k.lane (k.notes ++ x ∷ []) ∙ r.all_lists;
       rise = λ y l. dite (ℕ_discrete y k.lane)
           (λ e. subst (λ (q : ℕ). IsStrictlyIncreasing (note_numbers (get_or lists2 q []))) (sym e)
-          (subst (λ (q : List Note). IsStrictlyIncreasing (note_numbers q)) (sym here) (rises_push k.notes x (subst (λ (q : List Note). IsStrictlyIncreasing (note_numbers q)) (sym kept_k.1) (r.rise k.lane kept_k.0)) above)))
-          (λ ne. subst (λ (q : List Note). IsStrictlyIncreasing (note_numbers q)) (sym (get_or-set_other lists k.lane y (k.notes ++ x ∷ []) [] ne)) (r.rise y l));
+          (subst (λ (q : List Note). IsStrictlyIncreasing (note_numbers q)) (sym here)
+          (rises_push k.notes x (subst (λ (q : List Note). IsStrictlyIncreasing (note_numbers q)) (sym kept_k.1) (r.rise k.lane kept_k.0)) above)))
+          (λ ne. subst (λ (q : List Note). IsStrictlyIncreasing (note_numbers q)) (sym (get_or-set_other lists k.lane y (k.notes ++ x ∷ []) [] ne))
+          (r.rise y l));
       of_entries = λ y m l h. dite (ℕ_discrete y k.lane)
           (λ e.
           let h2 : Contains (k.notes ++ x ∷ []) m = subst (λ (q : List Note). Contains q m) here (subst (λ (q : ℕ). Contains (get_or lists2 q []) m) e h) in
@@ -153,21 +161,25 @@ note_keeps key words views log lists id v k x at r keeps_one above drew =
             marks = old.marks;
             known = old.known;
             prefixes = λ q h. ((old.prefixes q h).0, grow q.notes q.lane (old.prefixes q h).1);
-            kept = λ q h. subst (λ (z : LaneList). (z.lane < key.lanes) × (z.notes ≡ get_or lists2 z.lane []) × (z.word ≡ lane_word key.cpus z.lane)) (sym (only k2 q (subst (λ (ks : List LaneList). Contains ks q) mine_kept h))) (kept_k.0, sym here, kept_k.2);
+            kept = λ q h. subst (λ (z : LaneList). (z.lane < key.lanes) × (z.notes ≡ get_or lists2 z.lane []) × (z.word ≡ lane_word key.cpus z.lane))
+                (sym (only k2 q (subst (λ (ks : List LaneList). Contains ks q) mine_kept h))) (kept_k.0, sym here, kept_k.2);
             reached = λ t h. let a = old.reached t h in let b = up t.word in omega arith;
             looks = λ l h. asked_more views (set views id w) marks_stay l.cpu l.class l.value (old.looks l h);
           }
           (λ j u apart g. still key words (set words i n) views (set views id w) log log lists lists2 up marks_stay (λ q f z. z) grow u
-          (λ q h. get_or-set_other lists k.lane q.lane (k.notes ++ x ∷ []) [] (kept_apart key words views log lists r j id u v g at apart q k h has_k)) (r.each j u g));
+          (λ q h. get_or-set_other lists k.lane q.lane (k.notes ++ x ∷ []) [] (kept_apart key words views log lists r j id u v g at apart q k h has_k))
+          (r.each j u g));
     }
 
 -- the one list that is kept, by its lane and its word
-pub kept_of : (ks : List LaneList) (x y : ℕ) → map (λ (k : LaneList). k.lane) ks ≡ x ∷ [] → map (λ (k : LaneList). k.word) ks ≡ y ∷ [] → (k : LaneList) × (ks ≡ k ∷ []) × (k.lane ≡ x) × (k.word ≡ y)
+pub kept_of : (ks : List LaneList) (x y : ℕ) → map (λ (k : LaneList). k.lane) ks ≡ x ∷ [] → map (λ (k : LaneList). k.word) ks ≡ y ∷ [] → (k : LaneList) ×
+    (ks ≡ k ∷ []) × (k.lane ≡ x) × (k.word ≡ y)
 kept_of [] x y e f = absurd (cc)
 kept_of (k ∷ []) x y e f = (k, refl, cc, cc)
 kept_of (k ∷ m ∷ ks) x y e f = absurd (cc)
 
-pub noting : {S : Type 0} (key : Sizes) (slots id : ℕ) (me : Me S View) (k : LaneList) (x : Note) (i : ℕ) → i ≡ k.word → me.0.kept ≡ k ∷ [] → IsAbove x.number k.notes
+pub noting : {S : Type 0} (key : Sizes) (slots id : ℕ) (me : Me S View) (k : LaneList) (x : Note) (i : ℕ) → i ≡ k.word → me.0.kept ≡ k ∷ [] →
+    IsAbove x.number k.notes
     → ((e : Entry) × Contains (known_entries me.0) e × (e.number ≡ x.number) × Contains e.lanes k.lane)
     → Allows (Holds {S = S} key) slots id me i (λ n. (n + 1) % 18446744073709551616) (λ n m'. Notes x me n m')
 noting key slots id me k x i is_word keeps_one above drew s h count at small =
@@ -180,7 +192,8 @@ noting key slots id me k x i is_word keeps_one above drew s h count at small =
     let word = r.lane_words k.lane kept_k.0 in
     let same : length (get_or h.1 k.lane []) ≡ length k.notes = ap length (sym kept_k.1) in
     let bound = log_bound key s.words s.views h.0 h.1 r in
-    let long = list_bound (get_or h.1 k.lane []) (length h.0) (r.rise k.lane kept_k.0) (λ y m. let o = r.of_entries k.lane y kept_k.0 m in let b = get_below h.0 o.0.number o.0 o.1 in let c = o.2 in omega arith) in
+    let long = list_bound (get_or h.1 k.lane []) (length h.0) (r.rise k.lane kept_k.0)
+    (λ y m. let o = r.of_entries k.lane y kept_k.0 m in let b = get_below h.0 o.0.number o.0 o.1 in let c = o.2 in omega arith) in
     let n = get_or s.words i 0 in
     let here : n ≡ get_or s.words i2 0 = ap (λ (j : ℕ). get_or s.words j 0) is in
     let no_wrap : (n + 1) % 18446744073709551616 ≡ get_or s.words i2 0 + 1 = let b = r.small in omega arith in

@@ -41,7 +41,8 @@ zero_at (suc n) zero = refl
 zero_at (suc n) (suc i) = zero_at n i
 
 lanes_sum : (h : ℕ → ℕ) (cpus lane n : ℕ) → sum_by (λ (k : LaneList). h k.lane) (empty_lists cpus lane n) + sum_below h lane ≡ sum_below h (lane + n)
-lanes_sum h cpus lane zero = let e : sum_below h lane ≡ sum_below h (lane + 0) = (let d : lane ≡ lane + 0 = omega arith in ap (sum_below h) d) in let z : sum_by (λ (k : LaneList). h k.lane) [] ≡ 0 = refl in omega arith
+lanes_sum h cpus lane zero = let e : sum_below h lane ≡ sum_below h (lane + 0) = (let d : lane ≡ lane + 0 = omega arith in ap (sum_below h) d) in
+    let z : sum_by (λ (k : LaneList). h k.lane) [] ≡ 0 = refl in omega arith
 lanes_sum h cpus lane (suc n) =
     let a = lanes_sum h cpus (lane + 1) n in
     let b : sum_below h (lane + 1) ≡ sum_below h lane + h lane = (let d : lane + 1 ≡ suc lane = omega arith in ap (sum_below h) d) in
@@ -59,7 +60,8 @@ empty_fits cpus lane (suc n) k h = ⊎_elim
     (omega arith, ap (λ (q : LaneList). q.notes) e, omega arith))
     (λ r. let a = empty_fits cpus (lane + 1) n k r in (let b = a.0 in omega arith, a.1, a.2)) (first_or_rest _ (empty_lists cpus (lane + 1) n) k h)
 
-pub opens : (S : Type 0) (key : Sizes) (words : List ℕ) → words ≡ replicate (1 + 16 * key.cpus + key.lanes) 0 → key.limit * key.parts ≤ most_numbers → Holds {S = S} key (opening words [] (opening_view key))
+pub opens : (S : Type 0) (key : Sizes) (words : List ℕ) → words ≡ replicate (1 + 16 * key.cpus + key.lanes) 0 → key.limit * key.parts ≤ most_numbers →
+    Holds {S = S} key (opening words [] (opening_view key))
 opens S key words is small =
     let lists = nils key.lanes in
     let zeros : (i : ℕ) → get_or words i 0 ≡ 0 = λ i. rw is (zero_at (1 + 16 * key.cpus + key.lanes) i) in (
@@ -71,7 +73,8 @@ opens S key words is small =
         steps = zeros 0;
         drawn_once = λ h. refl;
         parts = omega arith;
-        kept_once = λ h. let a = lanes_sum h key.cpus 0 key.lanes in let b : sum_below h (0 + key.lanes) ≡ sum_below h key.lanes = (let d : 0 + key.lanes ≡ key.lanes = omega arith in ap (sum_below h) d) in omega arith;
+        kept_once = λ h. let a = lanes_sum h key.cpus 0 key.lanes in let b : sum_below h (0 + key.lanes)
+            ≡ sum_below h key.lanes = (let d : 0 + key.lanes ≡ key.lanes = omega arith in ap (sum_below h) d) in omega arith;
         lane_words = λ x l. zeros (lane_word key.cpus x) ∙ ap length (sym (nil_at key.lanes x));
         all_lists = length_nils key.lanes;
         rise = λ x l. subst (λ (q : List Note). IsStrictlyIncreasing (note_numbers q)) (sym (nil_at key.lanes x)) (λ k lt. absurd (omega arith));
@@ -95,14 +98,16 @@ opens S key words is small =
     }
 
 -- what is kept after the first lane was given away, and the list of that lane
-pub next_kept : (ks : List LaneList) (cpus lane n : ℕ) → ks ≡ empty_lists cpus lane n → 0 < n → (other_kept ks ≡ empty_lists cpus (lane + 1) (n - 1)) × (first_notes (first_kept ks) ≡ [])
+pub next_kept : (ks : List LaneList) (cpus lane n : ℕ) → ks ≡ empty_lists cpus lane n → 0 < n → (other_kept ks ≡ empty_lists cpus (lane + 1) (n - 1)) ×
+    (first_notes (first_kept ks) ≡ [])
 next_kept ks cpus lane zero is pos = absurd (omega arith)
 next_kept ks cpus lane (suc n) is pos =
     let m : n ≡ suc n - 1 = omega arith in
     (ap other_kept is ∙ ap (empty_lists cpus (lane + 1)) m, ap (λ (q : List LaneList). first_notes (first_kept q)) is)
 
 -- what is left after the first lane was given away
-pub one_given : {S : Type 0} (key : Sizes) (lane n m : ℕ) (me me' : Me S View) → me ≡ (keeping (opening_view key) key.parts (empty_lists key.cpus lane n), []) → 0 < n → m ≡ n - 1
+pub one_given : {S : Type 0} (key : Sizes) (lane n m : ℕ) (me me' : Me S View) → me
+    ≡ (keeping (opening_view key) key.parts (empty_lists key.cpus lane n), []) → 0 < n → m ≡ n - 1
     → me' ≡ (keeping me.0 me.0.parts (other_kept me.0.kept), []) → me' ≡ (keeping (opening_view key) key.parts (empty_lists key.cpus (lane + 1) m), [])
 one_given {S} key lane n m me me' is pos less next =
     let rest = (next_kept me.0.kept key.cpus lane n (ap (λ (x : Me S View). x.0.kept) is) pos).0 ∙ ap (empty_lists key.cpus (lane + 1)) (sym less) in
@@ -113,9 +118,11 @@ one_given {S} key lane n m me me' is pos less next =
 pub all_empty : (cpus lane n : ℕ) → All (λ (q : LaneList). q.notes ≡ []) (empty_lists cpus lane n)
 all_empty cpus lane n k d lt = (empty_fits cpus lane n (get_or (empty_lists cpus lane n) k d) (Contains-get_or (empty_lists cpus lane n) k d lt)).1
 
-pub AreNewKeepers-push : (table : TableId) (ks : List Keeper) (k : Keeper) → AreNewKeepers table ks → IsNewKeeper table (length ks) k → AreNewKeepers table (ks ++ k ∷ [])
+pub AreNewKeepers-push : (table : TableId) (ks : List Keeper) (k : Keeper) → AreNewKeepers table ks → IsNewKeeper table (length ks) k →
+    AreNewKeepers table (ks ++ k ∷ [])
 AreNewKeepers-push table ks k all new x d lt =
     let long = length-append ks (k ∷ []) in
     dite (ℕ_discrete x (length ks))
     (λ e. subst (λ (z : Keeper). IsNewKeeper table x z) (sym (get_or_push ks k d x (sym e))) (subst (λ (y : ℕ). IsNewKeeper table y k) (sym e) new))
-    (λ ne. let below : x < length ks = omega arith in subst (λ (z : Keeper). IsNewKeeper table x z) (sym (get_or_append_left ks (k ∷ []) d x below)) (all x d below))
+    (λ ne. let below : x < length ks = omega arith in subst (λ (z : Keeper). IsNewKeeper table x z) (sym (get_or_append_left ks (k ∷ []) d x below))
+    (all x d below))

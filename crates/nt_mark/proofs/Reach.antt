@@ -28,13 +28,16 @@ one_other w u a rs ne = let h = greatest_append w rs (reached_at u a ∷ []) in 
 
 -- two values more: of the first word, of the second, or of another
 pub two_first : (w u a : ℕ) (rs : List Reached) → u ≢ w → greatest w (rs ++ reached_at w a ∷ reached_at u a ∷ []) ≡ max (greatest w rs) a
-two_first w u a rs ne = let h = greatest_append w rs (reached_at w a ∷ reached_at u a ∷ []) in let e = at_this w a (reached_at u a ∷ []) in let f = at_other w u a [] ne in let z : greatest w [] ≡ 0 = refl in omega arith
+two_first w u a rs ne = let h = greatest_append w rs (reached_at w a ∷ reached_at u a ∷ []) in let e = at_this w a (reached_at u a ∷ []) in
+    let f = at_other w u a [] ne in let z : greatest w [] ≡ 0 = refl in omega arith
 
 pub two_second : (w u a : ℕ) (rs : List Reached) → u ≢ w → greatest w (rs ++ reached_at u a ∷ reached_at w a ∷ []) ≡ max (greatest w rs) a
-two_second w u a rs ne = let h = greatest_append w rs (reached_at u a ∷ reached_at w a ∷ []) in let e = at_other w u a (reached_at w a ∷ []) ne in let f = at_this w a [] in let z : greatest w [] ≡ 0 = refl in omega arith
+two_second w u a rs ne = let h = greatest_append w rs (reached_at u a ∷ reached_at w a ∷ []) in let e = at_other w u a (reached_at w a ∷ []) ne in
+    let f = at_this w a [] in let z : greatest w [] ≡ 0 = refl in omega arith
 
 pub two_other : (w u v a : ℕ) (rs : List Reached) → u ≢ w → v ≢ w → greatest w (rs ++ reached_at u a ∷ reached_at v a ∷ []) ≡ greatest w rs
-two_other w u v a rs ne ne2 = let h = greatest_append w rs (reached_at u a ∷ reached_at v a ∷ []) in let e = at_other w u a (reached_at v a ∷ []) ne in let f = at_other w v a [] ne2 in let z : greatest w [] ≡ 0 = refl in omega arith
+two_other w u v a rs ne ne2 = let h = greatest_append w rs (reached_at u a ∷ reached_at v a ∷ []) in let e = at_other w u a (reached_at v a ∷ []) ne in
+    let f = at_other w v a [] ne2 in let z : greatest w [] ≡ 0 = refl in omega arith
 
 pub reach_both : (w : ℕ) (x y : View) → reach w (both x y) ≡ max (reach w x) (reach w y)
 reach_both w x y = greatest_append w x.reached y.reached

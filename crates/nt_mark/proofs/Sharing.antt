@@ -18,7 +18,8 @@ module _ {A : Type 0} where
   among_told a b c d x h = Contains-append_left (a ++ c) (b ++ d) x (Contains-append_right a c x h)
 
   -- whatever is in one of the first two lists is in both of the others
-  in_both : (xs ys us vs : List A) → ((x : A) → Contains xs x → Contains us x) → ((x : A) → Contains ys x → Contains us x) → ((x : A) → Contains xs x → Contains vs x) → ((x : A) → Contains ys x → Contains vs x)
+  in_both : (xs ys us vs : List A) → ((x : A) → Contains xs x → Contains us x) → ((x : A) → Contains ys x → Contains us x) →
+      ((x : A) → Contains xs x → Contains vs x) → ((x : A) → Contains ys x → Contains vs x)
       → All (λ x. Contains us x × Contains vs x) (xs ++ ys)
   in_both xs ys us vs xu yu xv yv k d lt =
       let x = get_or (xs ++ ys) k d in
@@ -53,7 +54,8 @@ module _ (v w v' w' : View) (is_v : v' ≡ both v (telling w 0 [])) (is_w : w' �
       (λ x h. subst (λ (l : List LaneList). Contains l x) W (among_own w.prefixes w.kept (known_lists v) [] x h))
 
 -- an entry of the first seat is one that the second is told
-pub told_entry : (v w v' w' : View) (e : Entry) → All (λ x. Contains (known_entries v') x × Contains (known_entries w') x) (known_entries v ++ known_entries w) → Contains v.entries e → Contains (known_entries w') e
+pub told_entry : (v w v' w' : View) (e : Entry) → All (λ x. Contains (known_entries v') x × Contains (known_entries w') x)
+    (known_entries v ++ known_entries w) → Contains v.entries e → Contains (known_entries w') e
 told_entry v w v' w' e all h =
     (All-contains (λ x. Contains (known_entries v') x × Contains (known_entries w') x) (known_entries v ++ known_entries w) e all
     (Contains-append_left (known_entries v) (known_entries w) e (Contains-append_right v.known v.entries e h))).1

@@ -65,8 +65,10 @@ module _ {A : Type 0} where
   pub sum_two : (f : A → ℕ) (xs : List A) (i j : ℕ) (v w : A) → get_elem? xs i ≡ some v → get_elem? xs j ≡ some w → i ≢ j → f v + f w ≤ sum_by f xs
   sum_two f [] i j v w e g ne = absurd (some-ne-none v (sym e))
   sum_two f (x ∷ xs) zero zero v w e g ne = absurd (ne refl)
-  sum_two f (x ∷ xs) zero (suc j) v w e g ne = let a : f x ≡ f v = ap f (some-injective x v e) in let b = sum_one f xs j w g in let c = sum_by-cons f x xs in omega arith
-  sum_two f (x ∷ xs) (suc i) zero v w e g ne = let a : f x ≡ f w = ap f (some-injective x w g) in let b = sum_one f xs i v e in let c = sum_by-cons f x xs in omega arith
+  sum_two f (x ∷ xs) zero (suc j) v w e g ne = let a : f x ≡ f v = ap f (some-injective x v e) in let b = sum_one f xs j w g in let c = sum_by-cons f x xs in
+      omega arith
+  sum_two f (x ∷ xs) (suc i) zero v w e g ne = let a : f x ≡ f w = ap f (some-injective x w g) in let b = sum_one f xs i v e in let c = sum_by-cons f x xs in
+      omega arith
   sum_two f (x ∷ xs) (suc i) (suc j) v w e g ne = let a = sum_two f xs i j v w e g (λ q. ne (ap suc q)) in let c = sum_by-cons f x xs in omega arith
 
   sum_none : (f : A → ℕ) (xs : List A) → ((j : ℕ) (u : A) → get_elem? xs j ≡ some u → f u ≡ 0) → sum_by f xs ≡ 0
@@ -74,7 +76,8 @@ module _ {A : Type 0} where
   sum_none f (y ∷ ys) h = let a = h zero y refl in let b = sum_none f ys (λ j u g. h (suc j) u g) in let c = sum_by-cons f y ys in omega arith
 
   -- the sum is what one has, where the others have none
-  pub sum_only : (f : A → ℕ) (xs : List A) (i : ℕ) (v : A) → get_elem? xs i ≡ some v → ((j : ℕ) (u : A) → j ≢ i → get_elem? xs j ≡ some u → f u ≡ 0) → sum_by f xs ≡ f v
+  pub sum_only : (f : A → ℕ) (xs : List A) (i : ℕ) (v : A) → get_elem? xs i ≡ some v → ((j : ℕ) (u : A) → j ≢ i → get_elem? xs j ≡ some u → f u ≡ 0) →
+      sum_by f xs ≡ f v
   sum_only f [] i v e h = absurd (some-ne-none v (sym e))
   sum_only f (x ∷ xs) zero v e h =
       let a = sum_none f xs (λ j u g. h (suc j) u (λ q. omega arith) g) in
@@ -156,4 +159,5 @@ some_with {A} number x (y ∷ ys) h = dite (ℕ_discrete (number y) x) (λ q. (y
 pub with_number : {A : Type 0} (number : A → ℕ) (n : ℕ) (xs : List A) → Contains (map number xs) n → (a : A) × Contains xs a × (number a ≡ n)
 with_number number n [] h = absurd (in_none n h)
 with_number number n (x ∷ xs) h =
-    ⊎_elim (λ e. (x, in_first x xs, sym e)) (λ r. let a = with_number number n xs r in (a.0, in_rest x xs a.0 a.1, a.2)) (first_or_rest (number x) (map number xs) n h)
+    ⊎_elim (λ e. (x, in_first x xs, sym e)) (λ r. let a = with_number number n xs r in (a.0, in_rest x xs a.0 a.1, a.2))
+    (first_or_rest (number x) (map number xs) n h)

@@ -40,7 +40,8 @@ seat_views p others keepers = pass_view p ∷ (pass_views others ++ keeper_views
 
 -- the prefix is one of the list of that lane's keeper
 abbrev pub IsOfKeeper : List Keeper → LaneList → Type 0
-IsOfKeeper keepers q = (k : Keeper) × Contains keepers k × (keeper_lane k ≡ q.lane) × IsBeginning q.notes (keeper_notes k)
+IsOfKeeper keepers q = (k : Keeper) × Contains keepers k × (keeper_lane k ≡ q.lane) ×
+    IsBeginning q.notes (keeper_notes k)
 
 -- the list has each number below n once, and no other
 abbrev pub IsEachOnce : ℕ → List ℕ → Type 0
@@ -52,4 +53,5 @@ IsOfEntry es lane n = (e : Entry) × Contains es e × (e.number ≡ n.number) ×
 
 -- the value is 0, or one more than a number that was drawn, and marked for this processor and class
 abbrev pub WasAsked : View → Look → Type 0
-WasAsked v l = (l.value ≡ 0) ⊎ ((n : ℕ) × (l.value ≡ n + 1) × Contains v.marks (mark_of l.cpu l.class n) × ((e : Entry) × Contains v.entries e × (e.number ≡ n)))
+WasAsked v l = (l.value ≡ 0) ⊎ ((n : ℕ) × (l.value ≡ n + 1) × Contains v.marks (mark_of l.cpu l.class n) ×
+    ((e : Entry) × Contains v.entries e × (e.number ≡ n)))

@@ -1,4 +1,5 @@
--- The states of the lanes behind one lock, as a note keeps them: nt_event's lane states. Nothing of this crate looks into one.
+-- The states of the lanes behind one lock, as a note keeps them: nt_event's lane states. Nothing of this crate looks
+-- into one.
 use Rattle.std.specs.Prelude.{[]}
 use Rattle.nt_event.specs.LaneStates.{LaneState as StateOfLane, OfObject}
 use Rattle.nt_event.specs.Objects.{start_object}

@@ -55,8 +55,10 @@ module _ (key : Sizes) (words : List ℕ) (views : List View) (log : List Entry)
     -- an entry that a view knows stands as an entry in some view
     pub known : (e : Entry) → Contains v.known e → get_elem? log e.number ≡ some e
     -- the prefix that a view knows of a lane's list is a prefix of its keeper's list
-    pub prefixes : (k : LaneList) → Contains v.prefixes k → (k.lane < key.lanes) × IsBeginning k.notes (slice_index_or lists k.lane [])
-    pub kept : (k : LaneList) → Contains v.kept k → (k.lane < key.lanes) × (k.notes ≡ slice_index_or lists k.lane []) × (k.word ≡ lane_word key.cpus k.lane)
+    pub prefixes : (k : LaneList) → Contains v.prefixes k → (k.lane < key.lanes) ×
+        IsBeginning k.notes (slice_index_or lists k.lane [])
+    pub kept : (k : LaneList) → Contains v.kept k → (k.lane < key.lanes) × (k.notes ≡ slice_index_or lists k.lane []) ×
+        (k.word ≡ lane_word key.cpus k.lane)
     -- no view knows more of a word than the word holds
     pub reached : (r : Reached) → Contains v.reached r → r.value ≤ slice_index words r.word
     -- each value looked in a request word is 0 or one more than the number of a mark on it
@@ -67,18 +69,22 @@ module _ (key : Sizes) (words : List ℕ) (views : List View) (log : List Entry)
     pub small : key.limit * key.parts ≤ most_numbers
     -- word 0 is the count of entries in all views, and entries have different numbers below it
     pub steps : slice_index words step_word ≡ length log
-    pub drawn_once : (h : ℕ → ℕ) → sum_by (λ v. sum_by (λ (e : Entry). h e.number) v.entries) views ≡ sum_below h (length log)
+    pub drawn_once : (h : ℕ → ℕ) → sum_by (λ v. sum_by (λ (e : Entry). h e.number) v.entries) views
+        ≡ sum_below h (length log)
     -- the parts of all views add up to those of the start
     pub parts : sum_by (λ v. v.parts) views ≡ key.parts
     -- each lane is kept by exactly one view, and a lane's word is the length of its keeper's list
     pub kept_once : (h : ℕ → ℕ) → sum_by (λ v. sum_by (λ (k : LaneList). h k.lane) v.kept) views ≡ sum_below h key.lanes
-    pub lane_words : (x : ℕ) → x < key.lanes → slice_index words (lane_word key.cpus x) ≡ length (slice_index_or lists x [])
+    pub lane_words : (x : ℕ) → x < key.lanes → slice_index words (lane_word key.cpus x)
+        ≡ length (slice_index_or lists x [])
     pub all_lists : length lists ≡ key.lanes
     -- the numbers on that list rise, and each is that of an entry with that lane in some view
     pub rise : (x : ℕ) → x < key.lanes → IsStrictlyIncreasing (note_numbers (slice_index_or lists x []))
-    pub of_entries : (x : ℕ) (n : Note) → x < key.lanes → Contains (slice_index_or lists x []) n → (e : Entry) × (get_elem? log e.number ≡ some e) × (e.number ≡ n.number) × Contains e.lanes x
+    pub of_entries : (x : ℕ) (n : Note) → x < key.lanes → Contains (slice_index_or lists x []) n → (e : Entry) ×
+        (get_elem? log e.number ≡ some e) × (e.number ≡ n.number) × Contains e.lanes x
     -- a request word is 0 or one more than the number of a mark on it
-    pub asked : (p : CpuNo) (class : ℕ) → p.0 < key.cpus → class ≤ 15 → IsAsked views p class (slice_index words (request_word p class))
+    pub asked : (p : CpuNo) (class : ℕ) → p.0 < key.cpus → class ≤ 15 →
+        IsAsked views p class (slice_index words (request_word p class))
     pub each : (j : ℕ) (v : View) → get_elem? views j ≡ some v → Fits v
 
 abbrev pub Holds : {S : Type 0} → Sizes → State S View → Type 0
@@ -86,7 +92,8 @@ Holds key s = (log : List Entry) × (lists : List (List Note)) × Keeps key s.wo
 
 -- what the steps tell of the seat before, the number found and the seat after
 abbrev pub Draws : {S : Type 0} → Event → List ℕ → ℕ → Me S View → ℕ → Me S View → Type 0
-Draws e lanes most m n m' = (m'.1 ≡ m.1) × (m'.0 ≡ drawn m.0 n e lanes) × (reach step_word m.0 ≤ n) × All (λ (l : Look). l.value ≤ n) m.0.looks × (n < most)
+Draws e lanes most m n m' = (m'.1 ≡ m.1) × (m'.0 ≡ drawn m.0 n e lanes) × (reach step_word m.0 ≤ n) ×
+    All (λ (l : Look). l.value ≤ n) m.0.looks × (n < most)
 
 abbrev pub Marks : {S : Type 0} → CpuNo → ℕ → ℕ → Me S View → Me S View → Type 0
 Marks p class n m m' = (m'.1 ≡ m.1) × (m'.0 ≡ marked m.0 p class n)
@@ -100,11 +107,21 @@ Notes x m n m' = (m'.1 ≡ m.1) × (m'.0 ≡ noted m.0 x) × (n ≡ length (firs
 -- n lanes from this one on, with empty lists
 abbrev pub empty_lists : ℕ → ℕ → ℕ → List LaneList
 empty_lists cpus lane zero = []
-empty_lists cpus lane (suc n) = record { lane = lane; word = lane_word cpus lane; notes = [] } ∷ empty_lists cpus (lane + 1) n
+empty_lists cpus lane (suc n) = record { lane = lane; word = lane_word cpus lane; notes = [] } ∷ empty_lists cpus
+    (lane + 1) n
 
 -- the first seat has all parts and keeps all lanes
 abbrev pub opening_view : Sizes → View
-opening_view key = record { parts = key.parts; kept = empty_lists key.cpus 0 key.lanes; entries = []; marks = []; looks = []; reached = []; known = []; prefixes = [] }
+opening_view key = record {
+  parts = key.parts;
+  kept = empty_lists key.cpus 0 key.lanes;
+  entries = [];
+  marks = [];
+  looks = [];
+  reached = [];
+  known = [];
+  prefixes = [];
+}
 
 abbrev pub no_table : TableId
 no_table = record { words = 0; slots = 0; views_name = 0; atom = 0; block = 0; offset = 0; slot_names = [] }

@@ -63,15 +63,27 @@ known_lists v = v.prefixes ++ v.kept
 
 -- after a draw
 abbrev pub drawn : View → ℕ → Event → List ℕ → View
-drawn v n e lanes = record v { entries = v.entries ++ entry n e lanes ∷ []; reached = v.reached ++ reached_at step_word (n + 1) ∷ [] }
+drawn v n e lanes = record v {
+  entries = v.entries ++ entry n e lanes ∷ [];
+  reached = v.reached
+      ++ reached_at step_word (n + 1) ∷ [];
+}
 
 -- after a mark
 abbrev pub marked : View → CpuNo → ℕ → ℕ → View
-marked v p class n = record v { marks = v.marks ++ mark_of p class n ∷ []; reached = v.reached ++ reached_at (request_word p class) (n + 1) ∷ [] }
+marked v p class n = record v {
+  marks = v.marks ++ mark_of p class n ∷ [];
+  reached = v.reached
+      ++ reached_at (request_word p class) (n + 1) ∷ [];
+}
 
 -- after a look; what was asked was drawn, so the step word has reached it too
 abbrev pub looked : View → CpuNo → ℕ → ℕ → View
-looked v p class value = record v { looks = v.looks ++ look_of p class value ∷ []; reached = v.reached ++ reached_at (request_word p class) value ∷ reached_at step_word value ∷ [] }
+looked v p class value = record v {
+  looks = v.looks ++ look_of p class value ∷ [];
+  reached = v.reached
+      ++ reached_at (request_word p class) value ∷ reached_at step_word value ∷ [];
+}
 
 -- the list that is kept first, with one note more
 abbrev pub noted_at : List LaneList → Note → List LaneList
@@ -95,7 +107,16 @@ kept_words v = map (λ (k : LaneList). k.word) v.kept
 
 -- a new seat that is told all that this one knows, with these parts and lanes
 abbrev pub telling : View → ℕ → List LaneList → View
-telling v parts kept = record { parts = parts; kept = kept; entries = []; marks = []; looks = []; reached = v.reached; known = known_entries v; prefixes = known_lists v }
+telling v parts kept = record {
+  parts = parts;
+  kept = kept;
+  entries = [];
+  marks = [];
+  looks = [];
+  reached = v.reached;
+  known = known_entries v;
+  prefixes = known_lists v;
+}
 
 -- the same seat with these parts and lanes
 abbrev pub keeping : View → ℕ → List LaneList → View

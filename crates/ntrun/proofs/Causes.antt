@@ -43,13 +43,15 @@ longer (Some xs) bytes e h = let same : xs ≡ bytes = cc in subst (λ (ys : Lis
 -- ---- each status, from what was found
 
 -- what was found, where the status is not that of a sink's fault
-found_as : (words : List (List ℕ)) (so sn : Supply) (ko kn : Store) (status wanted : Status) → IsAnswered words so sn ko kn status → status ≢ exit.Write → status ≡ wanted
+found_as : (words : List (List ℕ)) (so sn : Supply) (ko kn : Store) (status wanted : Status) → IsAnswered words so sn ko kn status → status ≢ exit.Write →
+    status ≡ wanted
     → (text : List ℕ) × IsFound words so sn wanted text
 found_as words so sn ko kn status wanted a other e =
     let same : a.found ≡ wanted = sym (found_unless status a.found a.text ko kn a.written other) ∙ e in
     (a.text, subst (λ (s : Status). IsFound words so sn s a.text) same a.cause)
 
-usage_else : (words : List (List ℕ)) (so sn : Supply) (found : Status) (text : List ℕ) → (IsForm words → ⊥) → IsFound words so sn found text → found ≡ exit.Usage
+usage_else : (words : List (List ℕ)) (so sn : Supply) (found : Status) (text : List ℕ) → (IsForm words → ⊥) → IsFound words so sn found text → found
+    ≡ exit.Usage
 usage_else words so sn exit.Ok text none f = absurd (none f.0)
 usage_else words so sn exit.Usage text none f = refl
 usage_else words so sn exit.Script text none f = absurd (none f.0)
@@ -60,7 +62,8 @@ usage_else words so sn exit.Memory text none f = absurd (none f.0)
 usage_else words so sn exit.TooLong text none f = absurd (none f.0)
 usage_else words so sn exit.Illegal text none f = absurd (none f.0)
 
-few_else : (words : List (List ℕ)) (so sn : Supply) (found : Status) (text : List ℕ) → IsFound words so sn found text → found ≢ exit.TooLong → sn.taken ≤ so.taken + input_limit
+few_else : (words : List (List ℕ)) (so sn : Supply) (found : Status) (text : List ℕ) → IsFound words so sn found text → found ≢ exit.TooLong →
+    sn.taken ≤ so.taken + input_limit
 few_else words so sn exit.Ok text f other = let g = f.1.1 in rw g.taken (few_taken so.taken _ g.few)
 few_else words so sn exit.Usage text f other = let same : sn.taken ≡ so.taken = ap (λ (s : Supply). s.taken) f.1 in omega arith
 few_else words so sn exit.Script text f other = let g = f.1.1 in rw g.taken (few_taken so.taken _ g.few)
@@ -91,14 +94,17 @@ is_some_of o x e = rw e refl
 is_none_not : {A : Type 0} {o : Option A} → o ≡ None → IsSome o → ⊥
 is_none_not {A} {o} e some = let none : is_some o ≡ false = ap is_some e in cc
 
-which : (words : List (List ℕ)) (so sn : Supply) (bytes : List ℕ) (found : Status) (text : List ℕ) → IsForm words → IsSupplied bytes so sn → IsFound words so sn found text → Which bytes found
+which : (words : List (List ℕ)) (so sn : Supply) (bytes : List ℕ) (found : Status) (text : List ℕ) → IsForm words → IsSupplied bytes so sn →
+    IsFound words so sn found text → Which bytes found
 which words so sn bytes exit.Ok text form s f =
     let same : f.1.0 ≡ bytes = gave_told f.1.0 bytes so sn f.1.1 s in
     (subst (λ (xs : List ℕ). length xs ≤ input_limit) same f.1.1.few, subst (λ (xs : List ℕ). refusal xs ≡ None) same (run_refuses_none f.1.0 text f.1.2))
 which words so sn bytes exit.Usage text form s f = absurd (f.0 form)
 which words so sn bytes exit.Script text form s f =
-    let same : f.1.0 ≡ bytes = gave_told f.1.0 bytes so sn f.1.1 s in
-    (subst (λ (xs : List ℕ). length xs ≤ input_limit) same f.1.1.few, subst (λ (xs : List ℕ). IsSome (refusal xs)) same (is_some_of (refusal f.1.0) _ f.1.2.1.1))
+    let same : f.1.0 ≡ bytes = gave_told f.1.0 bytes so sn f.1.1 s in (
+      subst (λ (xs : List ℕ). length xs ≤ input_limit) same f.1.1.few,
+      subst (λ (xs : List ℕ). IsSome (refusal xs)) same (is_some_of (refusal f.1.0) _ f.1.2.1.1),
+    )
 which words so sn bytes exit.Schedule text form s f = absurd f.1.2
 which words so sn bytes exit.Read text form s f = absurd (s.no_fault f.1)
 which words so sn bytes exit.Write text form s f = absurd f.1.2
@@ -117,7 +123,8 @@ which_long bytes exit.Memory w long other = absurd (other refl)
 which_long bytes exit.TooLong w long other = refl
 which_long bytes exit.Illegal w long other = absurd w
 
-which_refused : (bytes : List ℕ) (found : Status) → Which bytes found → length bytes ≤ input_limit → IsSome (refusal bytes) → found ≢ exit.Memory → found ≡ exit.Script
+which_refused : (bytes : List ℕ) (found : Status) → Which bytes found → length bytes ≤ input_limit → IsSome (refusal bytes) → found ≢ exit.Memory → found
+    ≡ exit.Script
 which_refused bytes exit.Ok w few bad other = absurd (is_none_not w.1 bad)
 which_refused bytes exit.Usage w few bad other = absurd w
 which_refused bytes exit.Script w few bad other = refl
@@ -128,7 +135,8 @@ which_refused bytes exit.Memory w few bad other = absurd (other refl)
 which_refused bytes exit.TooLong w few bad other = absurd (omega arith)
 which_refused bytes exit.Illegal w few bad other = absurd w
 
-which_reported : (bytes : List ℕ) (found : Status) → Which bytes found → length bytes ≤ input_limit → refusal bytes ≡ None → found ≢ exit.Memory → found ≡ exit.Ok
+which_reported : (bytes : List ℕ) (found : Status) → Which bytes found → length bytes ≤ input_limit → refusal bytes ≡ None → found ≢ exit.Memory → found
+    ≡ exit.Ok
 which_reported bytes exit.Ok w few good other = refl
 which_reported bytes exit.Usage w few good other = absurd w
 which_reported bytes exit.Script w few good other = absurd (is_none_not good w.1)
@@ -141,26 +149,34 @@ which_reported bytes exit.Illegal w few good other = absurd w
 
 -- ---- all causes
 
-pub causes : (words : List (List ℕ)) (so sn : Supply) (ko kn : Store) (status : Status) → IsAnswered words so sn ko kn status → HasCause words so sn ko kn status
+pub causes : (words : List (List ℕ)) (so sn : Supply) (ko kn : Store) (status : Status) → IsAnswered words so sn ko kn status →
+    HasCause words so sn ko kn status
 causes words so sn ko kn status a =
     let at = λ (wanted : Status) (other : status ≢ exit.Write) (e : status ≡ wanted). found_as words so sn ko kn status wanted a other e in
     let same = λ (other : status ≢ exit.Write). found_unless status a.found a.text ko kn a.written other in
     record {
-      usage = record { only = λ e. (at exit.Usage (λ w. cc) e).1.0; always = λ none memory write. same write ∙ usage_else words so sn a.found a.text none a.cause };
+      usage = record {
+        only = λ e. (at exit.Usage (λ w. cc) e).1.0;
+        always = λ none memory write. same write
+            ∙ usage_else words so sn a.found a.text none a.cause;
+      };
       read = λ e. (at exit.Read (λ w. cc) e).1.1;
       many = λ e. (at exit.TooLong (λ w. cc) e).1.2;
       few = λ long write. few_else words so sn a.found a.text a.cause (λ e. long (same write ∙ e));
       too_long = λ bytes form s. record {
         only = λ e. let found = at exit.TooLong (λ w. cc) e in which words so sn bytes exit.TooLong found.0 form s found.1;
-        always = λ long memory write. same write ∙ which_long bytes a.found (which words so sn bytes a.found a.text form s a.cause) long (λ e. memory (same write ∙ e));
+        always = λ long memory write. same write ∙ which_long bytes a.found (which words so sn bytes a.found a.text form s a.cause) long
+            (λ e. memory (same write ∙ e));
       };
       script = λ bytes form s few. record {
         only = λ e. let found = at exit.Script (λ w. cc) e in (which words so sn bytes exit.Script found.0 form s found.1).1;
-        always = λ bad memory write. same write ∙ which_refused bytes a.found (which words so sn bytes a.found a.text form s a.cause) few bad (λ e. memory (same write ∙ e));
+        always = λ bad memory write. same write ∙ which_refused bytes a.found (which words so sn bytes a.found a.text form s a.cause) few bad
+            (λ e. memory (same write ∙ e));
       };
       ok = λ bytes form s few. record {
         only = λ e. let found = at exit.Ok (λ w. cc) e in (which words so sn bytes exit.Ok found.0 form s found.1).1;
-        always = λ good memory write. same write ∙ which_reported bytes a.found (which words so sn bytes a.found a.text form s a.cause) few good (λ e. memory (same write ∙ e));
+        always = λ good memory write. same write ∙ which_reported bytes a.found (which words so sn bytes a.found a.text form s a.cause) few good
+            (λ e. memory (same write ∙ e));
       };
       write = λ e. faulted status a.found a.text ko kn a.written e;
       never_schedule = λ e. (at exit.Schedule (λ w. cc) e).1.1.2;

@@ -7,7 +7,8 @@ use Rattle.ntrun.specs.declared.status.Status.{Status}
 use Rattle.ntrun.specs.declared.status.Status.TheVariants as exit
 use Rattle.ntrun.specs.Outcome.{refusal, refusal_of, IsRefused, IsReported, IsFoundIn}
 
-pub refused_in : (bytes : List ℕ) (line : ℕ) (kind : ScriptKind) (status : Status) (text : List ℕ) → refusal bytes ≡ Some (line, kind) → IsRefused line kind status text → IsFoundIn bytes status text
+pub refused_in : (bytes : List ℕ) (line : ℕ) (kind : ScriptKind) (status : Status) (text : List ℕ) → refusal bytes ≡ Some (line, kind) →
+    IsRefused line kind status text → IsFoundIn bytes status text
 refused_in bytes line kind exit.Ok text r h = absurd h
 refused_in bytes line kind exit.Usage text r h = absurd h
 refused_in bytes line kind exit.Script text r h = (line, (kind, r, h))
@@ -18,7 +19,8 @@ refused_in bytes line kind exit.Memory text r h = h
 refused_in bytes line kind exit.TooLong text r h = absurd h
 refused_in bytes line kind exit.Illegal text r h = absurd h
 
-pub reported_in : (bytes : List ℕ) (input : Input) (status : Status) (text : List ℕ) → reading bytes ≡ Ok input → IsReported input status text → IsFoundIn bytes status text
+pub reported_in : (bytes : List ℕ) (input : Input) (status : Status) (text : List ℕ) → reading bytes ≡ Ok input → IsReported input status text →
+    IsFoundIn bytes status text
 reported_in bytes input exit.Ok text read h = record { input = input; read = read; report = h }
 reported_in bytes input exit.Usage text read h = absurd h
 reported_in bytes input exit.Script text read h = absurd h

@@ -6,7 +6,8 @@ use Rattle.ntrun.specs.declared.status.Status.TheVariants as exit
 use Rattle.ntrun.specs.Outcome.{Supply, Store, IsFound, IsWritten}
 
 -- the text was added and the status is that of the answer
-pub written_whole : (status : Status) (text : List ℕ) (old new : Store) → status ≢ exit.Write → new.held ≡ append_known old.held text → IsWritten status text old new status
+pub written_whole : (status : Status) (text : List ℕ) (old new : Store) → status ≢ exit.Write → new.held ≡ append_known old.held text →
+    IsWritten status text old new status
 written_whole exit.Ok text old new other added = (refl, added)
 written_whole exit.Usage text old new other added = (refl, added)
 written_whole exit.Script text old new other added = (refl, added)

@@ -20,18 +20,21 @@ use Rattle.ntrun.specs.Outcome.{Gave, IsAnswered, IsRobinRun, Store, Supply, tur
 -- each event that delivers a request delivers one that was eligible just before it
 abbrev pub AllEligible : Script → List Event → Type 0
 AllEligible s [] = Unit {0}
-AllEligible s (e ∷ past) = ((r : Request) → request_of s e.what ≡ Some r → eligible s e.cpu r past ≡ true) × AllEligible s past
+AllEligible s (e ∷ past) = ((r : Request) → request_of s e.what ≡ Some r → eligible s e.cpu r past ≡ true) ×
+    AllEligible s past
 
--- the insert is one of those that the report names as waiting exactly where no later event begins, removes or flushes it
+-- the insert is one of those that the report names as waiting exactly where no later event begins, removes or flushes
+-- it
 abbrev pub FateIsNamed : List Event → Inserted → Type 0
 FateIsNamed past x = Contains (waiting_inserts past) x ↔ (fate_of x.thing x.number past ≡ StillWaits)
 
 -- no request may be delivered any more, but on a processor that made as many events as it may
 abbrev pub NothingIsLeft : Script → List Event → Type 0
-NothingIsLeft s past = (p : CpuNo) (r : Request) → nat_lt p.0 s.cpus ≡ true → is_cut turn_limit (own_of s p past) ≡ false → eligible s p r past ≡ false
+NothingIsLeft s past = (p : CpuNo) (r : Request) → nat_lt p.0 s.cpus ≡ true → is_cut turn_limit (own_of s p past)
+    ≡ false → eligible s p r past ≡ false
 
--- the history of a script that was read: it is the robin run; every delivery was eligible; each accepted insert was begun, removed
--- or flushed, or is named as waiting; and nothing eligible is left but on a cut processor
+-- the history of a script that was read: it is the robin run; every delivery was eligible; each accepted insert was
+-- begun, removed or flushed, or is named as waiting; and nothing eligible is left but on a cut processor
 pub record IsActual (s : Script) (h : History) : Type 0 where
   pub run : IsRobinRun s h
   pub eligible : AllEligible s (reverse h.events)
@@ -50,4 +53,5 @@ pub record IsWhole (so sn : Supply) (ko kn : Store) : Type 0 where
 
 -- what was written with status 0 is such a report
 abbrev pub Headline : Type 0
-Headline = (words : List (List ℕ)) (so sn : Supply) (ko kn : Store) → IsAnswered words so sn ko kn exit.Ok → IsWhole so sn ko kn
+Headline = (words : List (List ℕ)) (so sn : Supply) (ko kn : Store) → IsAnswered words so sn ko kn exit.Ok →
+    IsWhole so sn ko kn

@@ -71,7 +71,8 @@ kind_text (TooMany thing) = kind_name (TooMany thing) ++ 32 ∷ thing_name thing
 kind_text kind = kind_name kind
 
 abbrev pub script_line : ℕ → ScriptKind → List ℕ
-script_line line kind = codes "script line " ++ (decimal line ++ (codes ": " ++ (decimal (kind_number kind) ++ 32 ∷ (kind_text kind ++ 10 ∷ []))))
+script_line line kind = codes "script line "
+    ++ (decimal line ++ (codes ": " ++ (decimal (kind_number kind) ++ 32 ∷ (kind_text kind ++ 10 ∷ []))))
 
 -- ---- what is found
 
@@ -116,16 +117,19 @@ IsReported input _ text = ⊥
 -- what is found in the bytes of an input, and its text
 abbrev pub IsFoundIn : List ℕ → Status → List ℕ → Type 0
 IsFoundIn bytes exit.Ok text = IsReportFor bytes text
-IsFoundIn bytes exit.Script text = (line : ℕ) × ((kind : ScriptKind) × (refusal bytes ≡ Some (line, kind)) × (text ≡ script_line line kind))
+IsFoundIn bytes exit.Script text = (line : ℕ) ×
+    ((kind : ScriptKind) × (refusal bytes ≡ Some (line, kind)) × (text ≡ script_line line kind))
 IsFoundIn bytes exit.Memory text = text ≡ memory_line
 IsFoundIn bytes _ text = ⊥
 
--- what is found from the words and the source, and its text, in the order of the tests. Want of memory may come at any place
--- behind the first one.
+-- what is found from the words and the source, and its text, in the order of the tests. Want of memory may come at any
+-- place behind the first one.
 abbrev pub IsFound : List (List ℕ) → Supply → Supply → Status → List ℕ → Type 0
 IsFound words old new exit.Usage text = (IsForm words → ⊥) × (new ≡ old) × (text ≡ usage_line)
-IsFound words old new exit.Read text = IsForm words × Rose old.faults new.faults × (new.taken ≤ old.taken + input_limit) × (text ≡ read_line)
-IsFound words old new exit.TooLong text = IsForm words × IsLonger input_limit old.left × RoseBy (input_limit + 1) old.taken new.taken × (text ≡ long_line)
+IsFound words old new exit.Read text = IsForm words × Rose old.faults new.faults ×
+    (new.taken ≤ old.taken + input_limit) × (text ≡ read_line)
+IsFound words old new exit.TooLong text = IsForm words × IsLonger input_limit old.left ×
+    RoseBy (input_limit + 1) old.taken new.taken × (text ≡ long_line)
 IsFound words old new exit.Memory text = IsForm words × (new.taken ≤ old.taken + input_limit) × (text ≡ memory_line)
 IsFound words old new status text = IsForm words × ((bytes : List ℕ) × Gave bytes old new × IsFoundIn bytes status text)
 
@@ -135,7 +139,8 @@ IsWritten found text old new exit.Write = Rose old.faults new.faults × AddsFron
 IsWritten found text old new status = (status ≡ found) × (new.held ≡ append_known old.held text)
 
 -- the whole call
-pub record IsAnswered (words : List (List ℕ)) (source_old source_new : Supply) (sink_old sink_new : Store) (status : Status) : Type 0 where
+pub record IsAnswered (words : List (List ℕ)) (source_old source_new : Supply) (sink_old sink_new : Store)
+    (status : Status) : Type 0 where
   pub found : Status
   pub text : List ℕ
   pub cause : IsFound words source_old source_new found text
@@ -154,14 +159,18 @@ pub record IsSupplied (bytes : List ℕ) (old new : Supply) : Type 0 where
   pub no_fault : Rose old.faults new.faults → ⊥
 
 -- why each status comes
-pub record HasCause (words : List (List ℕ)) (source_old source_new : Supply) (sink_old sink_new : Store) (status : Status) : Type 0 where
+pub record HasCause (words : List (List ℕ)) (source_old source_new : Supply) (sink_old sink_new : Store)
+    (status : Status) : Type 0 where
   pub usage : ComesExactly status exit.Usage (IsForm words → ⊥)
   pub read : status ≡ exit.Read → Rose source_old.faults source_new.faults
   pub many : status ≡ exit.TooLong → RoseBy (input_limit + 1) source_old.taken source_new.taken
   pub few : status ≢ exit.TooLong → status ≢ exit.Write → source_new.taken ≤ source_old.taken + input_limit
-  pub too_long : (bytes : List ℕ) → IsForm words → IsSupplied bytes source_old source_new → ComesExactly status exit.TooLong (input_limit < length bytes)
-  pub script : (bytes : List ℕ) → IsForm words → IsSupplied bytes source_old source_new → length bytes ≤ input_limit → ComesExactly status exit.Script (IsSome (refusal bytes))
-  pub ok : (bytes : List ℕ) → IsForm words → IsSupplied bytes source_old source_new → length bytes ≤ input_limit → ComesExactly status exit.Ok (refusal bytes ≡ None)
+  pub too_long : (bytes : List ℕ) → IsForm words → IsSupplied bytes source_old source_new →
+      ComesExactly status exit.TooLong (input_limit < length bytes)
+  pub script : (bytes : List ℕ) → IsForm words → IsSupplied bytes source_old source_new → length bytes ≤ input_limit →
+      ComesExactly status exit.Script (IsSome (refusal bytes))
+  pub ok : (bytes : List ℕ) → IsForm words → IsSupplied bytes source_old source_new → length bytes ≤ input_limit →
+      ComesExactly status exit.Ok (refusal bytes ≡ None)
   pub write : status ≡ exit.Write → Rose sink_old.faults sink_new.faults
   pub never_schedule : status ≢ exit.Schedule
   pub never_illegal : status ≢ exit.Illegal

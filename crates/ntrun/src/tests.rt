@@ -37,7 +37,10 @@ fn program(
 fn a_script_is_refused(rt: HostRuntime) -> Result<(), Fail> {
     let (status, written) = program(rt.alloc(), &["run"], b"cpus 9\n", &[], 65536, &[])?;
     assert_eq!(rt; status, Status::Script);
-    assert_eq!(rt; written.as_slice(), b"script line 1: 10 TooMany cpus\n".as_slice());
+    assert_eq!(rt;
+        written.as_slice(),
+        b"script line 1: 10 TooMany cpus\n".as_slice()
+    );
     Ok(())
 }
 

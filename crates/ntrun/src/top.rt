@@ -8,10 +8,8 @@ use crate::answer::{Answer, Text, find_in, no_memory};
 use crate::status::Status;
 use crate::words::is_form;
 use nt_outside::{Gate, ReadRefusal, Sink, Source, WriteFault, read_all, write_all};
+use nt_text::INPUT_LIMIT;
 use std::alloc::Global;
-
-/// The most bytes that an input may have.
-const INPUT_LIMIT: usize = 33_554_432;
 
 fn line(status: Status, text: &'static str) -> Answer
     ensures status { result.status ≡ status }

@@ -1,6 +1,6 @@
-use Rattle.std.proofs.Common.{ap, sym, ◌∙◌}
-use Rattle.nt_event.specs.Jobs.{chosen_task}
-use Rattle.nt_cpu.specs.States.{CpuState}
-use Rattle.nt_cpu.proofs.StepsMade.{needed_job}
 use Rattle.machine_table.proofs.Fresh.{fresh_serves}
-use Rattle.machine_table.proofs.stepping.by_steps.Goals as goal
+use Rattle.machine_table.proofs.stepping.by_advance.Goals as goal
+
+pub advance-requires-clause-serves : goal.advance-requires-clause-serves
+advance-requires-clause-serves c =
+    fresh_serves c.args.script.now c.args.limit _ _ c.requires.limit.0 c.requires.cpus.0 c.in_ok-cpu.ensures c.in_ok-floor.ensures

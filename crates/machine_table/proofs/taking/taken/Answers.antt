@@ -1,6 +1,6 @@
-use Rattle.nt_laws.proofs.Named.RunFits.{run_fits}
+use Rattle.machine_table.proofs.Taken.{history_fits}
 use Rattle.machine_table.proofs.taking.taken.Goals as goal
 
 pub report-requires-clause-fit : goal.report-requires-clause-fit
 report-requires-clause-fit c =
-    run_fits c.args.input.now.script _ c.finish-history.result.events c.requires.sound.fits ?
+    history_fits c.args.input.now.script c.loop-turn.core.script _ _ c.finish-history.result.events c.loop-turn.invariant.script c.requires.sound.fits c.is_run.ensures.run c.finish-history.ensures.events

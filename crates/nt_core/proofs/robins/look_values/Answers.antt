@@ -9,4 +9,5 @@ use Rattle.nt_core.proofs.robins.look_values.Goals as goal
 pub returns : goal.returns
 returns c =
     let asked = (view_of c.args.floor.now).value c.args.p in
-    is_table c.loop-class.value 16 (look_value c.args.cpu.now.own asked) c.loop-class.invariant.len (λ k h. c.loop-class.invariant.low k (omega arith) ∙ ap (λ (xs : List _). if nat_lt (value_at xs k) (asked k) then asked k else 0) c.seen-seen.ensures)
+    is_table c.loop-class.value 16 (look_value c.args.cpu.now.own asked) c.loop-class.invariant.len
+    (λ k h. c.loop-class.invariant.low k (omega arith) ∙ ap (λ (xs : List _). if nat_lt (value_at xs k) (asked k) then asked k else 0) c.seen-seen.ensures)

@@ -9,48 +9,62 @@ pub returns-in-Call : goal.returns-in-Call
 returns-in-Call c =
     let k = c.in-Call in
     let a = rw k.is at c.requires.allow in
-    left_call c.args.script.now c.args.n c.args.due c.args.event.now c.args.frames.now c.call.new.frames k.frame k.command k.reply (record { nested = c.requires.nested; threads = c.requires.threads; thread = c.requires.thread }) k.is a.0 c.call.ensures
+    left_call c.args.script.now c.args.n c.args.due c.args.event.now c.args.frames.now c.call.new.frames k.frame k.command k.reply
+    (record { nested = c.requires.nested; threads = c.requires.threads; thread = c.requires.thread }) k.is a.0 c.call.ensures
 
 pub returns-in-Begin : goal.returns-in-Begin
 returns-in-Begin c =
     let k = c.in-Begin in
-    left_begin c.args.script.now c.args.n c.args.due c.args.event.now c.args.frames.now c.begin.new.self k.begun k.from (record { nested = c.requires.nested; threads = c.requires.threads; thread = c.requires.thread }) k.is (c.begin.ensures ∙ ap (λ (b : Body). begun c.args.n b c.args.frames.now) c.body_of.ensures)
+    left_begin c.args.script.now c.args.n c.args.due c.args.event.now c.args.frames.now c.begin.new.self k.begun k.from
+    (record { nested = c.requires.nested; threads = c.requires.threads; thread = c.requires.thread }) k.is
+    (c.begin.ensures ∙ ap (λ (b : Body). begun c.args.n b c.args.frames.now) c.body_of.ensures)
 
 pub returns-in-Normal : goal.returns-in-Normal
 returns-in-Normal c =
     let k = c.in-Normal in
     let a = rw k.is at c.requires.allow in
-    left_normal c.args.script.now c.args.n c.args.due c.args.event.now c.args.frames.now c.normal.new.self k.frame (record { nested = c.requires.nested; threads = c.requires.threads; thread = c.requires.thread }) k.is a.0 a.1 c.normal.ensures.phase
+    left_normal c.args.script.now c.args.n c.args.due c.args.event.now c.args.frames.now c.normal.new.self k.frame
+    (record { nested = c.requires.nested; threads = c.requires.threads; thread = c.requires.thread }) k.is a.0 a.1 c.normal.ensures.phase
 
 pub returns-in-End : goal.returns-in-End
 returns-in-End c =
     let k = c.in-End in
     let a = rw k.is at c.requires.allow in
-    left_end c.args.script.now c.args.n c.args.due c.args.event.now c.args.frames.now c.end.new.frames k.frame (record { nested = c.requires.nested; threads = c.requires.threads; thread = c.requires.thread }) k.is a.0 c.end.ensures
+    left_end c.args.script.now c.args.n c.args.due c.args.event.now c.args.frames.now c.end.new.frames k.frame
+    (record { nested = c.requires.nested; threads = c.requires.threads; thread = c.requires.thread }) k.is a.0 c.end.ensures
 
 pub returns-in-Switch : goal.returns-in-Switch
 returns-in-Switch c =
     let k = c.in-Switch in
     let a = rw k.is at c.requires.allow in
-    left_switch c.args.script.now c.args.n c.args.due c.args.event.now c.args.frames.now c.switch.new.frames k.thread k.status (record { nested = c.requires.nested; threads = c.requires.threads; thread = c.requires.thread }) k.is a.0 a.2 c.switch.ensures
+    left_switch c.args.script.now c.args.n c.args.due c.args.event.now c.args.frames.now c.switch.new.frames k.thread k.status
+    (record { nested = c.requires.nested; threads = c.requires.threads; thread = c.requires.thread }) k.is a.0 a.2 c.switch.ensures
 
 pub returns-in-Rewait : goal.returns-in-Rewait
 returns-in-Rewait c =
     let k = c.in-Rewait in
     let a = rw k.is at c.requires.allow in
-    left_rewait c.args.script.now c.args.n c.args.due c.args.event.now c.args.frames.now c.rewait.new.frames k.frame k.reply (record { nested = c.requires.nested; threads = c.requires.threads; thread = c.requires.thread }) k.is a.0 a.1 c.rewait.ensures
+    left_rewait c.args.script.now c.args.n c.args.due c.args.event.now c.args.frames.now c.rewait.new.frames k.frame k.reply
+    (record { nested = c.requires.nested; threads = c.requires.threads; thread = c.requires.thread }) k.is a.0 a.1 c.rewait.ensures
 
 pub returns-in-Flush : goal.returns-in-Flush
 returns-in-Flush c =
     let k = c.in-Flush in
-    left_flush c.args.script.now c.args.n c.args.due c.args.event.now c.args.frames.now c.flush.new.frames k.apc k.from (record { nested = c.requires.nested; threads = c.requires.threads; thread = c.requires.thread }) k.is c.flush.ensures
+    left_flush c.args.script.now c.args.n c.args.due c.args.event.now c.args.frames.now c.flush.new.frames k.apc k.from
+    (record { nested = c.requires.nested; threads = c.requires.threads; thread = c.requires.thread }) k.is c.flush.ensures
 
 pub returns-in-Gone : goal.returns-in-Gone
 returns-in-Gone c =
     let k = c.in-Gone in
-    left_gone c.args.script.now c.args.n c.args.due c.args.event.now c.args.frames.now c.gone.new.self k.thread (record { nested = c.requires.nested; threads = c.requires.threads; thread = c.requires.thread }) k.is c.gone.ensures
+    left_gone c.args.script.now c.args.n c.args.due c.args.event.now c.args.frames.now c.gone.new.self k.thread
+    (record { nested = c.requires.nested; threads = c.requires.threads; thread = c.requires.thread }) k.is c.gone.ensures
 
 pub returns-in_default : goal.returns-in_default
 returns-in_default c =
     let d = c.in_default in
-    left_other c.args.script.now c.args.n c.args.due c.args.event.now c.args.frames.now c.args.event.now.what (record { nested = c.requires.nested; threads = c.requires.threads; thread = c.requires.thread }) refl d.not-Call d.not-Begin d.not-Normal d.not-End d.not-Switch d.not-Rewait d.not-Flush d.not-Gone
+    left_other c.args.script.now c.args.n c.args.due c.args.event.now c.args.frames.now c.args.event.now.what
+    (record {
+      nested = c.requires.nested;
+      threads = c.requires.threads;
+      thread = c.requires.thread;
+    }) refl d.not-Call d.not-Begin d.not-Normal d.not-End d.not-Switch d.not-Rewait d.not-Flush d.not-Gone

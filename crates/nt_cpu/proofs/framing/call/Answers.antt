@@ -5,7 +5,8 @@ use Rattle.nt_cpu.proofs.framing.call.Goals as goal
 
 pub advance_place-requires-clause-frame : goal.advance_place-requires-clause-frame
 advance_place-requires-clause-frame c =
-    some_changed (effect c.args.due c.args.command.now c.args.reply.now) c.args.frames.now c.take_effect.new.frames c.requires.nested c.take_effect.ensures c.requires.frame
+    some_changed
+    (effect c.args.due c.args.command.now c.args.reply.now) c.args.frames.now c.take_effect.new.frames c.requires.nested c.take_effect.ensures c.requires.frame
 
 pub advance_place-requires-clause-place : goal.advance_place-requires-clause-place
 advance_place-requires-clause-place c =

@@ -6,4 +6,5 @@ use Rattle.nt_cpu.proofs.values.above.Goals as goal
 
 pub returns : goal.returns
 returns c =
-    is_table c.loop-i.rises 16 (λ k. if nat_lt (value_at c.args.seen.now k) (value_at c.args.values.now k) then value_at c.args.values.now k else 0) c.loop-i.invariant.len (λ k h. c.loop-i.invariant.low k (omega arith))
+    is_table c.loop-i.rises 16 (λ k. if nat_lt (value_at c.args.seen.now k) (value_at c.args.values.now k) then value_at c.args.values.now k
+    else 0) c.loop-i.invariant.len (λ k h. c.loop-i.invariant.low k (omega arith))

@@ -5,4 +5,5 @@ use Rattle.nt_cpu.proofs.values.raise.Goals as goal
 
 pub returns : goal.returns
 returns c =
-    is_table c.loop-i.values 16 (λ k. max (value_at c.args.values.now k) (value_at c.args.rises.now k)) c.loop-i.invariant.len (λ k h. c.loop-i.invariant.low k (omega arith))
+    is_table c.loop-i.values 16 (λ k. max (value_at c.args.values.now k) (value_at c.args.rises.now k)) c.loop-i.invariant.len
+    (λ k h. c.loop-i.invariant.low k (omega arith))

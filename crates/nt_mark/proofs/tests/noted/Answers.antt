@@ -9,7 +9,8 @@ use Rattle.nt_mark.proofs.tests.noted.Goals as goal
 pub note-requires-clause-knows : goal.note-requires-clause-knows
 note-requires-clause-knows c =
     let d = c.requires.drew in
-    let told = told_entry (pass_view c.args.pass.now) (keeper_view c.args.keeper.now) (pass_view c.share.new.pass) (keeper_view c.share.new.keeper) d.0 c.share.ensures.entries d.1 in
+    let told = told_entry (pass_view c.args.pass.now) (keeper_view c.args.keeper.now) (pass_view c.share.new.pass)
+    (keeper_view c.share.new.keeper) d.0 c.share.ensures.entries d.1 in
     (d.0, told, d.2, subst (λ (x : ℕ). Contains d.0.lanes x) (sym c.share.ensures.same.2) d.3)
 
 pub returns-clause-last : goal.returns-clause-last

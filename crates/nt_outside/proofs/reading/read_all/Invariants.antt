@@ -19,7 +19,8 @@ pub record InRoom (count length limit : ℕ) : Type 0 where
 
 abbrev pub invariant-loop-count : goal.invariant-loop-count
 invariant-loop-count g l =
-    Taken (g.S.Source.left l.initial.source) (g.S.Source.left l.source) l.bytes.items l.count (g.S.Source.taken l.initial.source) (g.S.Source.taken l.source) (g.S.Source.faults l.initial.source) (g.S.Source.faults l.source)
+    Taken (g.S.Source.left l.initial.source) (g.S.Source.left l.source) l.bytes.items l.count (g.S.Source.taken l.initial.source) (g.S.Source.taken l.source)
+    (g.S.Source.faults l.initial.source) (g.S.Source.faults l.source)
     × InRoom l.count (vec_len l.bytes) l.limit
 
 abbrev pub decreases-loop-count : goal.decreases-loop-count

@@ -11,7 +11,8 @@ pub record Written (held_before held_now : Option (List ℕ)) (bytes : List ℕ)
   pub capped : faults_before ≤ last_count → faults_now ≤ last_count
 
 abbrev pub invariant-loop-count : goal.invariant-loop-count
-invariant-loop-count g l = Written (g.K.Sink.held l.initial.sink) (g.K.Sink.held l.sink) l.bytes l.count (g.K.Sink.faults l.initial.sink) (g.K.Sink.faults l.sink)
+invariant-loop-count g l = Written (g.K.Sink.held l.initial.sink) (g.K.Sink.held l.sink) l.bytes l.count (g.K.Sink.faults l.initial.sink)
+    (g.K.Sink.faults l.sink)
 
 abbrev pub decreases-loop-count : goal.decreases-loop-count
 decreases-loop-count g l = length l.bytes - l.count

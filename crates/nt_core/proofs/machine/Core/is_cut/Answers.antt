@@ -18,4 +18,5 @@ pub returns : goal.returns
 returns c =
     let b : c.args.cpu.0 < c.self.inside.script.now.cpus = subst (λ (x : CoreState). c.args.cpu.0 < x.script.cpus) (sym c.self.view_is) c.requires in
     let e = c.made.ensures ∙ ap (λ (x : CpuState). x.own.made) (c.index.ensures ∙ cpu_held _ _ _ _ c.args.cpu _ c.self.invariant.sound.every b) in
-    subst (λ (x : CoreState). nat_le c.self.inside.limit c.made.result ≡ is_cut x.limit (own_of x.script c.args.cpu x.past)) c.self.view_is (ap (nat_le c.self.inside.limit) e)
+    subst (λ (x : CoreState). nat_le c.self.inside.limit c.made.result ≡ is_cut x.limit (own_of x.script c.args.cpu x.past)) c.self.view_is
+    (ap (nat_le c.self.inside.limit) e)

@@ -11,7 +11,9 @@ returns-then-is_some c =
     let t = c.loop-test.true in
     let i = c.loop.counter in
     let e : s.script.cpus - i ≡ suc (s.script.cpus - (i + 1)) = omega (arith, n, t) in
-    sym (c.loop.invariant.rest ∙ (ap (λ (k : ℕ). robin_from s.script s.limit k c.loop.p s.past) e ∙ robin_here s.script s.limit (s.script.cpus - (i + 1)) c.loop.p s.past c.robin_of-turn.result (sym c.robin_of-turn.ensures) (sym c.is_some.ensures ∙ c.if-is_some.true)))
+    sym (c.loop.invariant.rest ∙ (ap (λ (k : ℕ). robin_from s.script s.limit k c.loop.p s.past) e
+    ∙ robin_here s.script s.limit (s.script.cpus - (i + 1)) c.loop.p s.past c.robin_of-turn.result (sym c.robin_of-turn.ensures)
+    (sym c.is_some.ensures ∙ c.if-is_some.true)))
 
 pub loop-preserved : goal.loop-preserved
 loop-preserved c =
@@ -21,6 +23,9 @@ loop-preserved c =
     let i = c.loop.counter in
     let e : s.script.cpus - i ≡ suc (s.script.cpus - (i + 1)) = omega (arith, n, t) in
     record {
-      rest = c.loop.invariant.rest ∙ (ap (λ (k : ℕ). robin_from s.script s.limit k c.loop.p s.past) e ∙ (robin_none s.script s.limit (s.script.cpus - (i + 1)) c.loop.p s.past c.robin_of-turn.result c.robin_of-turn.ensures (sym c.is_some.ensures ∙ c.if-is_some.false) ∙ ap (λ (p : ℕ). robin_from s.script s.limit (s.script.cpus - (i + 1)) p s.past) (sym c.after-p.ensures.next)));
+      rest = c.loop.invariant.rest ∙ (ap (λ (k : ℕ). robin_from s.script s.limit k c.loop.p s.past) e
+          ∙ (robin_none s.script s.limit (s.script.cpus - (i + 1)) c.loop.p s.past c.robin_of-turn.result c.robin_of-turn.ensures
+          (sym c.is_some.ensures ∙ c.if-is_some.false) ∙ ap (λ (p : ℕ). robin_from s.script s.limit (s.script.cpus - (i + 1)) p s.past)
+          (sym c.after-p.ensures.next)));
       below = c.after-p.ensures.below;
     }

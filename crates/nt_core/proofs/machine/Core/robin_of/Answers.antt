@@ -19,13 +19,16 @@ index-requires c =
 pub uncut_turn-requires-clause-uncut : goal.uncut_turn-requires-clause-uncut
 uncut_turn-requires-clause-uncut c =
     let b : c.args.p.0 < c.self.inside.script.now.cpus = subst (λ (x : CoreState). c.args.p.0 < x.script.cpus) (sym c.self.view_is) c.requires in
-    let u = subst (λ (x : CoreState). is_cut x.limit (own_of x.script c.args.p x.past) ≡ false) (sym c.self.view_is) (sym c.is_cut.ensures ∙ c.if-is_cut.false) in
+    let u = subst (λ (x : CoreState). is_cut x.limit (own_of x.script c.args.p x.past) ≡ false) (sym c.self.view_is)
+    (sym c.is_cut.ensures ∙ c.if-is_cut.false) in
     ap (λ (x : CpuState). is_cut x.limit x.own) (c.index.ensures ∙ cpu_held _ _ _ _ c.args.p _ c.self.invariant.sound.every b) ∙ u
 
 pub returns : goal.returns
 returns c =
     let i = c.self.invariant.sound in
     let b : c.args.p.0 < c.self.inside.script.now.cpus = subst (λ (x : CoreState). c.args.p.0 < x.script.cpus) (sym c.self.view_is) c.requires in
-    let u = subst (λ (x : CoreState). is_cut x.limit (own_of x.script c.args.p x.past) ≡ false) (sym c.self.view_is) (sym c.is_cut.ensures ∙ c.if-is_cut.false) in
-    let e = c.uncut_turn.ensures ∙ robin_found _ _ c.args.p _ c.index.result.now c.self.inside.floor b i.follows i.same (c.index.ensures ∙ cpu_held _ _ _ _ c.args.p _ i.every b) u in
+    let u = subst (λ (x : CoreState). is_cut x.limit (own_of x.script c.args.p x.past) ≡ false) (sym c.self.view_is)
+    (sym c.is_cut.ensures ∙ c.if-is_cut.false) in
+    let e = c.uncut_turn.ensures ∙ robin_found _ _ c.args.p _ c.index.result.now c.self.inside.floor b i.follows i.same
+    (c.index.ensures ∙ cpu_held _ _ _ _ c.args.p _ i.every b) u in
     subst (λ (x : CoreState). c.uncut_turn.result ≡ robin_of x.script x.limit c.args.p x.past) c.self.view_is e

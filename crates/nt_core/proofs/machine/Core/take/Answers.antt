@@ -22,59 +22,71 @@ pub index_mut-requires : goal.index_mut-requires
 index_mut-requires c =
     let n = cpus_held _ _ _ _ c.self.invariant.sound.every in
     let o = c.self.inside.cpus.ok in
-    let b : (cpu_at c.args.turn).0 < c.self.inside.script.now.cpus = subst (λ (x : CoreState). (cpu_at c.args.turn).0 < x.script.cpus) (sym c.self.view_is) c.requires.cpu in
+    let b : (cpu_at c.args.turn).0 < c.self.inside.script.now.cpus = subst (λ (x : CoreState). (cpu_at c.args.turn).0 < x.script.cpus)
+    (sym c.self.view_is) c.requires.cpu in
     let e = ap (λ (q : CpuNo). q.0) c.cpu_at-place.ensures in
     omega (arith, n, o, b, e)
 
 pub turn-requires-clause-names : goal.turn-requires-clause-names
 turn-requires-clause-names c =
-    let b : (cpu_at c.args.turn).0 < c.self.inside.script.now.cpus = subst (λ (x : CoreState). (cpu_at c.args.turn).0 < x.script.cpus) (sym c.self.view_is) c.requires.cpu in
+    let b : (cpu_at c.args.turn).0 < c.self.inside.script.now.cpus = subst (λ (x : CoreState). (cpu_at c.args.turn).0 < x.script.cpus)
+    (sym c.self.view_is) c.requires.cpu in
     let h = taker_held _ _ _ _ _ c.args.turn c.cpu_at-place.result _ _ c.self.invariant.sound b c.cpu_at-place.ensures c.index_mut.ensures.value in
     sym (ap (λ (x : CpuState). x.cpu) h)
 
 pub turn-requires-clause-script : goal.turn-requires-clause-script
 turn-requires-clause-script c =
-    let b : (cpu_at c.args.turn).0 < c.self.inside.script.now.cpus = subst (λ (x : CoreState). (cpu_at c.args.turn).0 < x.script.cpus) (sym c.self.view_is) c.requires.cpu in
+    let b : (cpu_at c.args.turn).0 < c.self.inside.script.now.cpus = subst (λ (x : CoreState). (cpu_at c.args.turn).0 < x.script.cpus)
+    (sym c.self.view_is) c.requires.cpu in
     let h = taker_held _ _ _ _ _ c.args.turn c.cpu_at-place.result _ _ c.self.invariant.sound b c.cpu_at-place.ensures c.index_mut.ensures.value in
     c.self.invariant.sound.same ∙ sym (ap (λ (x : CpuState). x.script) h)
 
 pub turn-requires-clause-serves : goal.turn-requires-clause-serves
 turn-requires-clause-serves c =
-    let b : (cpu_at c.args.turn).0 < c.self.inside.script.now.cpus = subst (λ (x : CoreState). (cpu_at c.args.turn).0 < x.script.cpus) (sym c.self.view_is) c.requires.cpu in
+    let b : (cpu_at c.args.turn).0 < c.self.inside.script.now.cpus = subst (λ (x : CoreState). (cpu_at c.args.turn).0 < x.script.cpus)
+    (sym c.self.view_is) c.requires.cpu in
     let h = taker_held _ _ _ _ _ c.args.turn c.cpu_at-place.result _ _ c.self.invariant.sound b c.cpu_at-place.ensures c.index_mut.ensures.value in
     taker_served _ _ _ _ _ c.args.turn _ c.self.invariant.sound b h
 
 pub invariant_of-self : goal.invariant_of-self
 invariant_of-self c =
     let i = c.self.invariant.sound in
-    let b : (cpu_at c.args.turn).0 < c.self.inside.script.now.cpus = subst (λ (x : CoreState). (cpu_at c.args.turn).0 < x.script.cpus) (sym c.self.view_is) c.requires.cpu in
+    let b : (cpu_at c.args.turn).0 < c.self.inside.script.now.cpus = subst (λ (x : CoreState). (cpu_at c.args.turn).0 < x.script.cpus)
+    (sym c.self.view_is) c.requires.cpu in
     let a = subst (λ (x : CoreState). is_asked x.script c.args.turn x.past ≡ true) (sym c.self.view_is) c.requires.asked in
     let h = taker_held _ _ _ _ _ c.args.turn c.cpu_at-place.result _ _ i b c.cpu_at-place.ensures c.index_mut.ensures.value in
     let m = c.in-Ok.ensures.ok in
     let more = ap reverse c.put.ensures.items ∙ reverse-append c.self.inside.events.items (c.in-Ok.event ∷ []) in
     let s = taken_sound _ _ _ _ _ c.turn.new.floor c.args.turn c.cpu_at-place.result _ c.turn.new.self m.0 m.1 c.in-Ok.event i b a c.cpu_at-place.ensures h m.2.0 c.in-Ok.ensures.script in
     record {
-      sound = subst (λ (past : List Event). IsSound c.self.inside.script.now c.self.inside.limit past (set c.self.inside.cpus.items c.cpu_at-place.result.0 c.turn.new.self) c.turn.new.floor) (sym more) s;
+      sound = subst (λ (past : List Event). IsSound c.self.inside.script.now c.self.inside.limit past
+          (set c.self.inside.cpus.items c.cpu_at-place.result.0 c.turn.new.self) c.turn.new.floor) (sym more) s;
       room = (let r = c.put.ensures.room in let q = c.self.invariant.room in omega (arith, r, q));
     }
 
 pub returns-in-Ok-clause-ok : goal.returns-in-Ok-clause-ok
 returns-in-Ok-clause-ok c =
     let i = c.self.invariant.sound in
-    let b : (cpu_at c.args.turn).0 < c.self.inside.script.now.cpus = subst (λ (x : CoreState). (cpu_at c.args.turn).0 < x.script.cpus) (sym c.self.view_is) c.requires.cpu in
+    let b : (cpu_at c.args.turn).0 < c.self.inside.script.now.cpus = subst (λ (x : CoreState). (cpu_at c.args.turn).0 < x.script.cpus)
+    (sym c.self.view_is) c.requires.cpu in
     let a = subst (λ (x : CoreState). is_asked x.script c.args.turn x.past ≡ true) (sym c.self.view_is) c.requires.asked in
     let h = taker_held _ _ _ _ _ c.args.turn c.cpu_at-place.result _ _ i b c.cpu_at-place.ensures c.index_mut.ensures.value in
     let m = c.in-Ok.ensures.ok in
     let more = ap reverse c.put.ensures.items ∙ reverse-append c.self.inside.events.items (c.in-Ok.event ∷ []) in
-    let s = taken_step _ _ _ _ _ c.args.turn _ c.turn.new.self m.0 m.1 c.in-Ok.event _ i b a h m.2.0 in
-    (subst (λ (x : CoreState). step x.script x.limit c.args.turn x.past ≡ Ok c.in-Ok.event) c.self.view_is s, longer _ _ _ _ c.in-Ok.event c.args.self.now more c.self.view_is)
+    let s = taken_step _ _ _ _ _ c.args.turn _ c.turn.new.self m.0 m.1 c.in-Ok.event _ i b a h m.2.0 in (
+      subst (λ (x : CoreState). step x.script x.limit c.args.turn x.past ≡ Ok c.in-Ok.event) c.self.view_is s,
+      longer _ _ _ _ c.in-Ok.event c.args.self.now more c.self.view_is,
+    )
 
 pub returns-in-Err-clause-err : goal.returns-in-Err-clause-err
 returns-in-Err-clause-err c =
     let i = c.self.invariant.sound in
-    let b : (cpu_at c.args.turn).0 < c.self.inside.script.now.cpus = subst (λ (x : CoreState). (cpu_at c.args.turn).0 < x.script.cpus) (sym c.self.view_is) c.requires.cpu in
+    let b : (cpu_at c.args.turn).0 < c.self.inside.script.now.cpus = subst (λ (x : CoreState). (cpu_at c.args.turn).0 < x.script.cpus)
+    (sym c.self.view_is) c.requires.cpu in
     let a = subst (λ (x : CoreState). is_asked x.script c.args.turn x.past ≡ true) (sym c.self.view_is) c.requires.asked in
     let h = taker_held _ _ _ _ _ c.args.turn c.cpu_at-place.result _ _ i b c.cpu_at-place.ensures c.index_mut.ensures.value in
     let k = c.in-Err.ensures.err in
-    let s = untaken_step _ _ _ _ _ c.args.turn _ k.0 c.in-Err.refusal i b a h k.1.0 (λ q. c.in-Err.ensures.memory refl (ap (λ (z : TurnRefusal). failed z) q)) in
-    subst (λ (x : CoreState). step x.script x.limit c.args.turn x.past ≡ Err (kind_of c.core_refusal.result)) c.self.view_is (s ∙ ap (λ (z : ScheduleKind). Err z) (sym c.core_refusal.ensures))
+    let s = untaken_step _ _ _ _ _ c.args.turn _ k.0 c.in-Err.refusal i b a h k.1.0
+    (λ q. c.in-Err.ensures.memory refl (ap (λ (z : TurnRefusal). failed z) q)) in
+    subst (λ (x : CoreState). step x.script x.limit c.args.turn x.past ≡ Err (kind_of c.core_refusal.result)) c.self.view_is
+    (s ∙ ap (λ (z : ScheduleKind). Err z) (sym c.core_refusal.ensures))

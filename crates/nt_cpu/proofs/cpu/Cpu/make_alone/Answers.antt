@@ -22,12 +22,17 @@ returns-clause-made g c =
     let asked = c.asks-asked.ensures.asks ∙ ap (λ (st : Stand). alone_asks st w) c.standing.ensures in
     let told = c.noticed.ensures in
     let cpu = ap (λ (x : CpuState). x.cpu) c.take_up.view_is in
-    let same : (k : ℕ) → k < 16 → max (value_at s.own.seen k) (value_at c.noticed.result.value k) ≡ max (value_at s.own.seen k) (noticed s.cpu w (alone_asks (Rattle.nt_event.specs.Own.stand_in s.cpu s.own) w) n k) = λ k b. ap (λ (y : ℕ). max (value_at s.own.seen k) y) (told k b ∙ (ap (λ (p : _). noticed p w c.asks-asked.result n k) cpu ∙ ap (λ (a : Option Asked). noticed s.cpu w a n k) asked)) in (
+    let same : (k : ℕ) → k < 16 → max (value_at s.own.seen k) (value_at c.noticed.result.value k)
+    ≡ max (value_at s.own.seen k) (noticed s.cpu w (alone_asks (Rattle.nt_event.specs.Own.stand_in s.cpu s.own) w) n k) = λ k b. ap
+    (λ (y : ℕ). max (value_at s.own.seen k) y) (told k b
+    ∙ (ap (λ (p : _). noticed p w c.asks-asked.result n k) cpu ∙ ap (λ (a : Option Asked). noticed s.cpu w a n k) asked)) in (
       n,
       u,
       record {
         drawn = subst (λ (e : Event). IsDrawn n e v u) c.event-event.ensures c.draw-n.ensures.drawn;
         marked = subst (λ (a : Option Asked). IsMarkedFor a n u z) asked c.mark.ensures.marked;
-        state = c.take_up-2.ensures ∙ (ap (λ (x : _). record s { own = x }) (ap (λ (e : Event). own_with s.script n None e (λ k. max (value_at s.own.seen k) (value_at c.noticed.result.value k)) s.own) c.event-event.ensures ∙ own_with_same s.script n None (alone_event s.cpu w s.own.frames) _ _ s.own same));
+        state = c.take_up-2.ensures ∙ (ap (λ (x : _). record s { own = x })
+            (ap (λ (e : Event). own_with s.script n None e (λ k. max (value_at s.own.seen k) (value_at c.noticed.result.value k)) s.own) c.event-event.ensures
+            ∙ own_with_same s.script n None (alone_event s.cpu w s.own.frames) _ _ s.own same));
       },
     )

@@ -25,4 +25,5 @@ returns-in-Err-clause-memory g c =
     let e = c.in-Err.ensures.err in
     let m = c.in-Err.ensures.memory in
     let err : ActRefusal → Result Event ActRefusal = (λ r. Err r) in
-    λ a q. m a (ap err (refused_memory s.script e.0 (stand_in s.cpu s.own) c.args.job c.in-Err.field-0 (never_refused s c.args.job c.sound.ensures c.requires.job) e.2.1))
+    λ a q. m a (ap err (refused_memory s.script e.0 (stand_in s.cpu s.own) c.args.job c.in-Err.field-0
+    (never_refused s c.args.job c.sound.ensures c.requires.job) e.2.1))

@@ -16,7 +16,8 @@ make_alone-requires-clause-may g c =
     let s : CpuState = c.args.self.now in
     let xs = c.look_all-answers.result in
     let w = c.in-Some-Alone.what in
-    holds_at (GoodTask s) (local_task s xs) (Alone w) (step_good s xs c.sound.ensures) (sym c.local_task.ensures ∙ (c.in-Some-Alone.is ∙ ap Some c.in-Some-Alone.field-0-is))
+    holds_at (GoodTask s) (local_task s xs) (Alone w) (step_good s xs c.sound.ensures)
+    (sym c.local_task.ensures ∙ (c.in-Some-Alone.is ∙ ap Some c.in-Some-Alone.field-0-is))
 
 pub returns-in-None-clause-knows : goal.returns-in-None-clause-knows
 returns-in-None-clause-knows g c =
@@ -38,8 +39,12 @@ returns-in-Some-Alone-clause-step g c =
     let cut : is_cut s.limit s.own ≡ false = sym c.is_cut.ensures ∙ c.if-is_cut.false in
     let task : local_task s xs ≡ Some (Alone w) = sym c.local_task.ensures ∙ (c.in-Some-Alone.is ∙ ap Some c.in-Some-Alone.field-0-is) in
     let looks = subst (λ (p : CpuNo). AllLooked p xs v u) (ap (λ (x : CpuState). x.cpu) c.self.view_is) c.look_all-answers.ensures.looks in
-    let m = c.make_alone.ensures.made in
-    (xs, u, step_alone s c.make_alone.new.self xs w c.make_alone.result m.0 v u m.1 (g.W.Words.view c.make_alone.new.words) c.sound.ensures (serves_looked s xs v u (has_words s v c.sound.ensures c.requires.serves.cpus) c.requires.serves looks) cut task looks c.make_alone.ensures.event m.2)
+    let m = c.make_alone.ensures.made in (
+      xs,
+      u,
+      step_alone s c.make_alone.new.self xs w c.make_alone.result m.0 v u m.1 (g.W.Words.view c.make_alone.new.words) c.sound.ensures
+          (serves_looked s xs v u (has_words s v c.sound.ensures c.requires.serves.cpus) c.requires.serves looks) cut task looks c.make_alone.ensures.event m.2,
+    )
 
 pub returns-in-Some-Alone-clause-knows : goal.returns-in-Some-Alone-clause-knows
 returns-in-Some-Alone-clause-knows g c =
@@ -53,7 +58,8 @@ returns-in-Some-Alone-clause-knows g c =
     let here = has_words s v c.sound.ensures c.requires.serves.cpus in
     let there = has_words s u c.sound.ensures (looks.same.cpus ∙ c.requires.serves.cpus) in
     let m = c.make_alone.ensures.made in
-    knows_alone s c.make_alone.new.self w m.0 u m.1 (g.W.Words.view c.make_alone.new.words) c.sound.ensures there (knows_looked s xs v u here (knows_of s v c.requires.serves) looks) m.2 (look_known s xs v u w here looks task)
+    knows_alone s c.make_alone.new.self w m.0 u m.1 (g.W.Words.view c.make_alone.new.words) c.sound.ensures there
+    (knows_looked s xs v u here (knows_of s v c.requires.serves) looks) m.2 (look_known s xs v u w here looks task)
 
 pub returns-in-Some-Alone-clause-grows : goal.returns-in-Some-Alone-clause-grows
 returns-in-Some-Alone-clause-grows g c =

@@ -30,10 +30,14 @@ invariant_of-self c =
     let allow = subst (λ (x : CpuState). Allow x.script c.args.event.now.what x.own.frames) v c.requires.allow in
     let thread = subst (λ (x : CpuState). c.args.event.now.thread ≡ thread_field c.args.event.now.what x.own.frames.running) v c.requires.thread in
     let nested = subst (λ (x : Frames). AreNested x) c.apply.ensures c.nested.ensures in
-    subst (λ (x : CpuState). IsSound x) (sym e) (sound_after i c.args.n c.args.due c.args.event.now (λ k. max (value_at i.own.seen k) (value_at c.args.told.now.value k)) c.self.invariant room c.requires.due thread allow nested)
+    subst (λ (x : CpuState). IsSound x) (sym e) (sound_after i c.args.n c.args.due c.args.event.now
+    (λ k. max (value_at i.own.seen k) (value_at c.args.told.now.value k)) c.self.invariant room c.requires.due thread allow nested)
 
 pub returns : goal.returns
 returns c =
     let i : CpuState = state_in c.self.inside in
     left_is i c.args.n c.args.due c.args.event.now c.args.told.now.value c.apply.new.frames c.raise.new.self c.serve.new.served c.is_rest-self-inside.result c.took_after-self-inside.result c.fire_after-self-inside.result c.sweep_after-self-inside.result c.apply.ensures c.raise.ensures c.serve.ensures c.is_rest-self-inside.ensures c.took_after-self-inside.ensures c.fire_after-self-inside.ensures c.sweep_after-self-inside.ensures
-    ∙ ap (λ (x : CpuState). record x { own = own_with x.script c.args.n c.args.due c.args.event.now (λ k. max (value_at x.own.seen k) (value_at c.args.told.now.value k)) x.own }) c.self.view_is
+    ∙ ap (λ (x : CpuState). record x {
+      own = own_with x.script c.args.n c.args.due c.args.event.now
+          (λ k. max (value_at x.own.seen k) (value_at c.args.told.now.value k)) x.own;
+    }) c.self.view_is

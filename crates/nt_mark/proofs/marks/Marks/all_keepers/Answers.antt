@@ -29,14 +29,16 @@ loop-lane-preserved c =
     record {
       at = k.table.0 ∙ i.at;
       me = one_given key c.loop-lane.lane n _ c.loop-lane.seat.me c.keeper-keeper.new.seat.me i.me pos (sym less) k.seat;
-      made = subst (AreNewKeepers (table_of c.args.self.now)) (sym p.items) (AreNewKeepers-push _ c.loop-lane.keepers.items c.keeper-keeper.result i.made record {
-        table_is = k.table.1 ∙ (i.at ∙ c.requires.seat.0);
-        lane_is = let a = i.count in let b = k.keeper.0 in omega arith;
-        notes = ap (λ (v : View). first_notes v.kept) k.keeper.1 ∙ next.1;
-        known = ap (λ (v : View). v.known) k.keeper.1 ∙ ap (λ m. known_entries m.0) i.me;
-        reached = ap (λ (v : View). v.reached) k.keeper.1 ∙ ap (λ m. m.0.reached) i.me;
-        prefixes = subst (All (λ (q : LaneList). q.notes ≡ [])) (sym (ap (λ (v : View). v.prefixes) k.keeper.1 ∙ ap (λ m. known_lists m.0) i.me)) (all_empty key.cpus c.loop-lane.lane n);
-      });
+      made = subst (AreNewKeepers (table_of c.args.self.now)) (sym p.items)
+          (AreNewKeepers-push _ c.loop-lane.keepers.items c.keeper-keeper.result i.made record {
+            table_is = k.table.1 ∙ (i.at ∙ c.requires.seat.0);
+            lane_is = let a = i.count in let b = k.keeper.0 in omega arith;
+            notes = ap (λ (v : View). first_notes v.kept) k.keeper.1 ∙ next.1;
+            known = ap (λ (v : View). v.known) k.keeper.1 ∙ ap (λ m. known_entries m.0) i.me;
+            reached = ap (λ (v : View). v.reached) k.keeper.1 ∙ ap (λ m. m.0.reached) i.me;
+            prefixes = subst (All (λ (q : LaneList). q.notes ≡ [])) (sym (ap (λ (v : View). v.prefixes) k.keeper.1 ∙ ap (λ m. known_lists m.0) i.me))
+                (all_empty key.cpus c.loop-lane.lane n);
+          });
       count = ap length p.items ∙ (length-append c.loop-lane.keepers.items (c.keeper-keeper.result ∷ []) ∙ (let a = i.count in omega arith));
       room = let a = i.room in let b = p.capacity in omega arith;
     }

@@ -10,7 +10,8 @@ use Rattle.nt_mark.proofs.marks.Marks.draw.Goals as goal
 pub returns-clause-numbers : goal.returns-clause-numbers
 returns-clause-numbers c =
     let v = pass_view c.args.pass.now in
-    ap (λ (u : View). entry_numbers u.entries) c.draw_as.ensures.tells.1 ∙ map-append (λ (e : Entry). e.number) v.entries (entry c.draw_as.result c.args.event.now c.args.lanes.now ∷ [])
+    ap (λ (u : View). entry_numbers u.entries) c.draw_as.ensures.tells.1
+    ∙ map-append (λ (e : Entry). e.number) v.entries (entry c.draw_as.result c.args.event.now c.args.lanes.now ∷ [])
 
 pub returns-clause-knows : goal.returns-clause-knows
 returns-clause-knows c =
@@ -20,4 +21,5 @@ returns-clause-knows c =
     omega arith
 
 pub returns-clause-others : goal.returns-clause-others
-returns-clause-others c = λ w ne. ap (reach w) c.draw_as.ensures.tells.1 ∙ one_other w step_word (c.draw_as.result + 1) (pass_view c.args.pass.now).reached (λ e. ne (sym e))
+returns-clause-others c = λ w ne. ap (reach w) c.draw_as.ensures.tells.1
+    ∙ one_other w step_word (c.draw_as.result + 1) (pass_view c.args.pass.now).reached (λ e. ne (sym e))

@@ -13,8 +13,11 @@ returns-clause-knows c =
     omega arith
 
 pub returns-clause-step : goal.returns-clause-step
-returns-clause-step c = ap (reach step_word) c.look_as.ensures.tells.1 ∙ two_second step_word (request_word c.args.p c.args.class) c.look_as.result (pass_view c.args.pass.now).reached (λ e. omega arith)
+returns-clause-step c = ap (reach step_word) c.look_as.ensures.tells.1
+    ∙ two_second step_word (request_word c.args.p c.args.class) c.look_as.result (pass_view c.args.pass.now).reached (λ e. omega arith)
 
 pub returns-clause-others : goal.returns-clause-others
 returns-clause-others c =
-    λ u ne ne_step. ap (reach u) c.look_as.ensures.tells.1 ∙ two_other u (request_word c.args.p c.args.class) step_word c.look_as.result (pass_view c.args.pass.now).reached (λ e. ne (sym e)) (λ e. ne_step (sym e))
+    λ u ne ne_step. ap (reach u) c.look_as.ensures.tells.1
+    ∙ two_other u (request_word c.args.p c.args.class) step_word c.look_as.result (pass_view c.args.pass.now).reached (λ e. ne (sym e))
+    (λ e. ne_step (sym e))

@@ -10,4 +10,5 @@ returns-clause-knows c =
     ap (reach w) c.mark_as.ensures.tells.1 ∙ one_this w (c.args.n + 1) (pass_view c.args.pass.now).reached
 
 pub returns-clause-others : goal.returns-clause-others
-returns-clause-others c = λ u ne. ap (reach u) c.mark_as.ensures.tells.1 ∙ one_other u (request_word c.args.p c.args.class) (c.args.n + 1) (pass_view c.args.pass.now).reached (λ e. ne (sym e))
+returns-clause-others c = λ u ne. ap (reach u) c.mark_as.ensures.tells.1
+    ∙ one_other u (request_word c.args.p c.args.class) (c.args.n + 1) (pass_view c.args.pass.now).reached (λ e. ne (sym e))

@@ -19,5 +19,6 @@ fetch_max-requires g c =
     let word = at ∙ (ap (λ (q : CpuNo). request_word q c.args.class) (sym e.0) ∙ ap (request_word g.D.Request.cpu) (sym e.1)) in (
       c.requires.table,
       (let k = s.wide in let a = w.0 in let b = w.1 in omega arith),
-      marking _ _ _ _ g.D.Request.cpu g.D.Request.class g.D.Request.number _ _ word (ap (λ (n : ℕ). (n + 1) % 18446744073709551616) (sym e.2)) cpu class (d.0, d.1, d.2 ∙ sym e.2),
+      marking _ _ _ _ g.D.Request.cpu g.D.Request.class g.D.Request.number _ _ word (ap (λ (n : ℕ). (n + 1) % 18446744073709551616) (sym e.2)) cpu class
+          (d.0, d.1, d.2 ∙ sym e.2),
     )

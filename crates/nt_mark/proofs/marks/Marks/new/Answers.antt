@@ -11,7 +11,8 @@ of_words-requires c =
     let f4 = c.from-4.ensures in
     let f5 = c.from-5.ensures in
     let few = c.requires.few in
-    let same_product : c.from-5.result * c.from-4.result ≡ c.args.limit * c.args.parts = (ap (λ (n : ℕ). n * c.from-4.result) f5 ∙ ap (λ (n : ℕ). c.args.limit * n) f4) in
+    let same_product : c.from-5.result * c.from-4.result
+    ≡ c.args.limit * c.args.parts = (ap (λ (n : ℕ). n * c.from-4.result) f5 ∙ ap (λ (n : ℕ). c.args.limit * n) f4) in
     let small : c.from-5.result * c.from-4.result ≤ most_numbers = omega arith in
     let h = c.in_ok-words.ensures.items_if_clones_equal in
     let same : 1 + 16 * c.from.result + c.args.lanes ≡ 1 + 16 * c.from-2.result + c.from-3.result = omega arith in
