@@ -85,8 +85,12 @@ new_parts before (n ∷ ns) ys h =
 
 pub new_from : (before xs ys : List (List ℕ)) → AreNew before xs → AreNew (before ++ xs) ys → AreNew before (xs ++ ys)
 new_from before [] ys h k = subst (λ (b : List (List ℕ)). AreNew b ys) (append-nil before) k
-new_from before (n ∷ ns) ys h k = (h.0, h.1, new_from (before ++ n ∷ []) ns ys h.2
-    (subst (λ (b : List (List ℕ)). AreNew b ys) (sym (append_assoc before (n ∷ []) ns)) k))
+new_from before (n ∷ ns) ys h k = (
+  h.0,
+  h.1,
+  new_from (before ++ n ∷ []) ns ys h.2
+      (subst (λ (b : List (List ℕ)). AreNew b ys) (sym (append_assoc before (n ∷ []) ns)) k),
+)
 
 pub names_fit : (names : NameLists) → AreNew [] (all_names names) → NamesFit names
 names_fit names h =
@@ -139,16 +143,29 @@ are_named names few fit = record {
       let n = is_new ((names.dpcs ++ names.timers) ++ names.threads) names.apcs x.0 fit.apcs lt in
       let m2 = nowhere_both f (names.dpcs ++ names.timers) names.threads 0 n.1 in
       let m1 = nowhere_both f names.dpcs names.timers 0 m2.0 in
-      rw (n.0, m1.0, m1.1, m2.1, stands_here ((names.dpcs ++ names.timers) ++ names.threads) names.apcs x.0 fit.apcs lt,
-          number_is x.0 (omega (arith, few.apcs))) refl;
+      rw (
+        n.0,
+        m1.0,
+        m1.1,
+        m2.1,
+        stands_here ((names.dpcs ++ names.timers) ++ names.threads) names.apcs x.0 fit.apcs lt,
+        number_is x.0 (omega (arith, few.apcs)),
+      ) refl;
   routines = λ x lt.
       let f = get_or names.routines x.0 [] in
       let n = is_new (((names.dpcs ++ names.timers) ++ names.threads) ++ names.apcs) names.routines x.0 fit.routines lt in
       let m3 = nowhere_both f ((names.dpcs ++ names.timers) ++ names.threads) names.apcs 0 n.1 in
       let m2 = nowhere_both f (names.dpcs ++ names.timers) names.threads 0 m3.0 in
       let m1 = nowhere_both f names.dpcs names.timers 0 m2.0 in
-      rw (n.0, m1.0, m1.1, m2.1, m3.1, stands_here (((names.dpcs ++ names.timers) ++ names.threads) ++ names.apcs) names.routines x.0 fit.routines lt,
-          number_is x.0 (omega (arith, few.routines))) refl;
+      rw (
+        n.0,
+        m1.0,
+        m1.1,
+        m2.1,
+        m3.1,
+        stands_here (((names.dpcs ++ names.timers) ++ names.threads) ++ names.apcs) names.routines x.0 fit.routines lt,
+        number_is x.0 (omega (arith, few.routines)),
+      ) refl;
 }
 
 optional_dpc : (names : NameLists) → NamesFit names → AreNamed names → (o : Option DpcNo) → IfSome o (λ x. x.0 < length names.dpcs) →

@@ -67,7 +67,7 @@ pub takes2 : {C A B : Type 0} {read : List ℕ → Result A ScriptKind} {show : 
     List ℕ} {Fits' : B → Type 0} → Takes read show Fits → Takes read' show' Fits'
     → (P : Row → C → Type 0) (make : A → B → C)
     → ((x : A) (y : B) → Fits x → Fits' y → P (show x ∷ show' y ∷ []) (make x y)) → (args : Row) (c : C) → read2 read read' make args ≡ Ok c → length args
-        ≡ 2 → P args c
+    ≡ 2 → P args c
 takes2 t u P make good [] c e len = absurd (omega arith)
 takes2 t u P make good (a ∷ []) c e len = absurd (omega arith)
 takes2 {C = C} {A = A} {B = B} {read = read} {show = show} {read' = read'} {show' = show'} t u P make good (a ∷ a' ∷ []) c e len =
@@ -85,7 +85,7 @@ pub takes3 : {C A B D : Type 0} {read : List ℕ → Result A ScriptKind} {show 
     Takes read show Fits → Takes read' show' Fits' → Takes read'' show'' Fits''
     → (P : Row → C → Type 0) (make : A → B → D → C)
     → ((x : A) (y : B) (z : D) → Fits x → Fits' y → Fits'' z → P (show x ∷ show' y ∷ show'' z ∷ []) (make x y z)) → (args : Row) (c : C) →
-        read3 read read' read'' make args ≡ Ok c → length args ≡ 3 → P args c
+    read3 read read' read'' make args ≡ Ok c → length args ≡ 3 → P args c
 takes3 t u v P make good [] c e len = absurd (omega arith)
 takes3 t u v P make good (a ∷ []) c e len = absurd (omega arith)
 takes3 t u v P make good (a ∷ a' ∷ []) c e len = absurd (omega arith)
@@ -96,9 +96,9 @@ takes3 {C = C} {A = A} {B = B} {D = D} {read = read} {show = show} {read' = read
     let g = bind_ok (read'' a'') (λ (z : D). ok (make b.value d.value z)) c d.then in
     let made : C = make b.value d.value g.value in
     let s0 : P (show b.value ∷ show' d.value ∷ show'' g.value ∷ []) made = good b.value d.value g.value (t.fits a b.value b.is) (u.fits a' d.value d.is)
-        (v.fits a'' g.value g.is) in
+    (v.fits a'' g.value g.is) in
     let s1 : P (a ∷ show' d.value ∷ show'' g.value ∷ []) made = subst (λ (f : List ℕ). P (f ∷ show' d.value ∷ show'' g.value ∷ []) made)
-        (sym (t.shown a b.value b.is)) s0 in
+    (sym (t.shown a b.value b.is)) s0 in
     let s2 : P (a ∷ a' ∷ show'' g.value ∷ []) made = subst (λ (f : List ℕ). P (a ∷ f ∷ show'' g.value ∷ []) made) (sym (u.shown a' d.value d.is)) s1 in
     let s3 : P (a ∷ a' ∷ a'' ∷ []) made = subst (λ (f : List ℕ). P (a ∷ a' ∷ f ∷ []) made) (sym (v.shown a'' g.value g.is)) s2 in
     subst (P (a ∷ a' ∷ a'' ∷ [])) (ok_is made c g.then) s3
@@ -110,7 +110,7 @@ pub takes4 : {C A B D E : Type 0} {read : List ℕ → Result A ScriptKind} {sho
     Takes read'' show'' Fits'' → Takes read''' show''' Fits'''
     → (P : Row → C → Type 0) (make : A → B → D → E → C)
     → ((x : A) (y : B) (z : D) (q : E) → Fits x → Fits' y → Fits'' z → Fits''' q → P (show x ∷ show' y ∷ show'' z ∷ show''' q ∷ []) (make x y z q)) →
-        (args : Row) (c : C) → read4 read read' read'' read''' make args ≡ Ok c → length args ≡ 4 → P args c
+    (args : Row) (c : C) → read4 read read' read'' read''' make args ≡ Ok c → length args ≡ 4 → P args c
 takes4 t u v w P make good [] c e len = absurd (omega arith)
 takes4 t u v w P make good (a ∷ []) c e len = absurd (omega arith)
 takes4 t u v w P make good (a ∷ a' ∷ []) c e len = absurd (omega arith)
@@ -123,13 +123,13 @@ takes4 {C = C} {A = A} {B = B} {D = D} {E = E} {read = read} {show = show} {read
     let i = bind_ok (read''' a''') (λ (q : E). ok (make b.value d.value g.value q)) c g.then in
     let made : C = make b.value d.value g.value i.value in
     let s0 : P (show b.value ∷ show' d.value ∷ show'' g.value ∷ show''' i.value ∷ []) made = good b.value d.value g.value i.value (t.fits a b.value b.is)
-        (u.fits a' d.value d.is) (v.fits a'' g.value g.is) (w.fits a''' i.value i.is) in
+    (u.fits a' d.value d.is) (v.fits a'' g.value g.is) (w.fits a''' i.value i.is) in
     let s1 : P (a ∷ show' d.value ∷ show'' g.value ∷ show''' i.value ∷ []) made = subst
-        (λ (f : List ℕ). P (f ∷ show' d.value ∷ show'' g.value ∷ show''' i.value ∷ []) made) (sym (t.shown a b.value b.is)) s0 in
+    (λ (f : List ℕ). P (f ∷ show' d.value ∷ show'' g.value ∷ show''' i.value ∷ []) made) (sym (t.shown a b.value b.is)) s0 in
     let s2 : P (a ∷ a' ∷ show'' g.value ∷ show''' i.value ∷ []) made = subst (λ (f : List ℕ). P (a ∷ f ∷ show'' g.value ∷ show''' i.value ∷ []) made)
-        (sym (u.shown a' d.value d.is)) s1 in
+    (sym (u.shown a' d.value d.is)) s1 in
     let s3 : P (a ∷ a' ∷ a'' ∷ show''' i.value ∷ []) made = subst (λ (f : List ℕ). P (a ∷ a' ∷ f ∷ show''' i.value ∷ []) made)
-        (sym (v.shown a'' g.value g.is)) s2 in
+    (sym (v.shown a'' g.value g.is)) s2 in
     let s4 : P (a ∷ a' ∷ a'' ∷ a''' ∷ []) made = subst (λ (f : List ℕ). P (a ∷ a' ∷ a'' ∷ f ∷ []) made) (sym (w.shown a''' i.value i.is)) s3 in
     subst (P (a ∷ a' ∷ a'' ∷ a''' ∷ [])) (ok_is made c i.then) s4
 takes4 t u v w P make good (a ∷ a' ∷ a'' ∷ a''' ∷ more ∷ args) c e len = absurd (omega arith)
@@ -254,15 +254,15 @@ pub apc_line_takes : (names : NameLists) → AreFew names → (k : ApcKind) (arg
     SpellsApc names (keyword.Apc k) args x
 apc_line_takes names few Special =
     takes2 (thread_takes names few) (routine_takes names few) (SpellsApc names (keyword.Apc Special))
-        (λ thread kernel. record { kind = Special; thread = thread; kernel = kernel; normal = None; rundown = None })
+    (λ thread kernel. record { kind = Special; thread = thread; kernel = kernel; normal = None; rundown = None })
     (λ x y h k. record { keyword = refl; spelled = refl; fits = record { thread = h; kernel = k; normal = tt; rundown = tt; routines = refl } })
 apc_line_takes names few Normal =
     takes3 (thread_takes names few) (routine_takes names few) (routine_takes names few) (SpellsApc names (keyword.Apc Normal))
-        (λ thread kernel normal. record { kind = Normal; thread = thread; kernel = kernel; normal = Some normal; rundown = None })
+    (λ thread kernel normal. record { kind = Normal; thread = thread; kernel = kernel; normal = Some normal; rundown = None })
     (λ x y z h k l. record { keyword = refl; spelled = refl; fits = record { thread = h; kernel = k; normal = l; rundown = tt; routines = refl } })
 apc_line_takes names few User =
     takes4 (thread_takes names few) (routine_takes names few) (routine_takes names few) (rundown_takes names few) (SpellsApc names (keyword.Apc User))
-        (λ thread kernel normal rundown. record { kind = User; thread = thread; kernel = kernel; normal = Some normal; rundown = rundown })
+    (λ thread kernel normal rundown. record { kind = User; thread = thread; kernel = kernel; normal = Some normal; rundown = rundown })
     (λ x y z q h k l m. record { keyword = refl; spelled = refl; fits = record { thread = h; kernel = k; normal = l; rundown = m; routines = refl } })
 
 -- ---- what is shown
@@ -348,8 +348,8 @@ thread_again names cpus are le x h = rw (cpu_again cpus x.cpu le h.0, are.routin
 apc_by : (names : NameLists) → AreRead names → (k : ApcKind) (t : ThreadNo) (r : RoutineNo) (n d : Option RoutineNo) →
     ApcFits names (record { kind = k; thread = t; kernel = r; normal = n; rundown = d })
     → (apc_of names k (apc_args names (record { kind = k; thread = t; kernel = r; normal = n; rundown = d }))
-        ≡ Ok (record { kind = k; thread = t; kernel = r; normal = n; rundown = d })) ×
-        (length (apc_args names (record { kind = k; thread = t; kernel = r; normal = n; rundown = d })) ≡ apc_fields k)
+    ≡ Ok (record { kind = k; thread = t; kernel = r; normal = n; rundown = d })) ×
+    (length (apc_args names (record { kind = k; thread = t; kernel = r; normal = n; rundown = d })) ≡ apc_fields k)
 apc_by names are Special t r None None h = (rw (are.threads t h.thread, are.routines r h.kernel) refl, refl)
 apc_by names are Special t r (Some n) d h = let e = h.routines in absurd cc
 apc_by names are Special t r None (Some d) h = let e = h.routines in absurd cc

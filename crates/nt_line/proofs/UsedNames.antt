@@ -29,7 +29,7 @@ placed_at f (n ∷ ns) k i e = go (bytes_eq f n) refl e (placed_at f ns (k + 1) 
   where
     go : (b : Bool) → bytes_eq f n ≡ b → cond b (Some k) (position_from (bytes_eq f) (k + 1) ns) ≡ Some i
         → (position_from (bytes_eq f) (k + 1) ns ≡ Some i → (j : ℕ) × (i ≡ k + 1 + j) × (j < length ns) × (f ≡ get_or ns j [])) → (j : ℕ) × (i ≡ k + j) ×
-            (j < length (n ∷ ns)) × (f ≡ get_or (n ∷ ns) j [])
+        (j < length (n ∷ ns)) × (f ≡ get_or (n ∷ ns) j [])
     go true is e more = let same : k ≡ i = cc in (0, omega arith, omega arith, same_text f n is)
     go false is e more = let r = more e in (suc r.0, omega (arith, r.1), omega (arith, r.2), r.3)
 
@@ -165,7 +165,7 @@ thread_is : (names : NameLists) → AreFew names → (f : List ℕ) (x : ThreadN
 thread_is names few f x =
     let found = thread_named (place f names.dpcs) (place f names.timers) (place f names.threads) (place f names.apcs) (place f names.routines) x in
     thing_is (λ (x : ThreadNo). named.Thread x) (λ (x : ThreadNo). x.0) as_thread names names.threads f x (omega (arith, few.threads))
-        (λ m. as_thread_ok m x) found
+    (λ m. as_thread_ok m x) found
 
 pub thread_takes : (names : NameLists) → AreFew names → Takes (read_thread names) (show_thread names) (λ x. x.0 < length names.threads)
 thread_takes names few = record { shown = λ f x e. (thread_is names few f x e).0; fits = λ f x e. (thread_is names few f x e).1 }
@@ -226,7 +226,7 @@ routine_is : (names : NameLists) → AreFew names → (f : List ℕ) (x : Routin
 routine_is names few f x =
     let found = routine_named (place f names.dpcs) (place f names.timers) (place f names.threads) (place f names.apcs) (place f names.routines) x in
     thing_is (λ (x : RoutineNo). named.Routine x) (λ (x : RoutineNo). x.0) as_routine names names.routines f x (omega (arith, few.routines))
-        (λ m. as_routine_ok m x) found
+    (λ m. as_routine_ok m x) found
 
 pub routine_takes : (names : NameLists) → AreFew names → Takes (read_routine names) (show_routine names) (λ x. x.0 < length names.routines)
 routine_takes names few = record { shown = λ f x e. (routine_is names few f x e).0; fits = λ f x e. (routine_is names few f x e).1 }
@@ -242,8 +242,10 @@ pub rundown_takes : (names : NameLists) → AreFew names →
 rundown_takes names few = unless_takes dash (routine_takes names few)
 
 pub new_name_takes : (names : NameLists) → Takes (new_name names) (λ f. f) (λ f. (is_name f ≡ true) × (is_some (meaning f names) ≡ false))
-new_name_takes names = record { shown = λ f x e. (go f x (is_name f) (is_some (meaning f names)) refl refl e).0;
-    fits = λ f x e. (go f x (is_name f) (is_some (meaning f names)) refl refl e).1 }
+new_name_takes names = record {
+  shown = λ f x e. (go f x (is_name f) (is_some (meaning f names)) refl refl e).0;
+  fits = λ f x e. (go f x (is_name f) (is_some (meaning f names)) refl refl e).1;
+}
   where
     go : (f x : List ℕ) (b there : Bool) → is_name f ≡ b → is_some (meaning f names) ≡ there → cond b (cond there (Err NameTwice) (Ok f)) (Err BadName)
         ≡ Ok x → (f ≡ x) × ((is_name x ≡ true) × (is_some (meaning x names) ≡ false))

@@ -31,8 +31,18 @@ abbrev pub apc_of : NameLists → ApcKind → List (List ℕ) → Result ApcDecl
 apc_of names Special args = read2 (read_thread names) (read_routine names)
     (λ thread kernel. record { kind = Special; thread = thread; kernel = kernel; normal = None; rundown = None }) args
 apc_of names Normal args = read3 (read_thread names) (read_routine names) (read_routine names)
-    (λ thread kernel normal. record { kind = Normal; thread = thread; kernel = kernel; normal = Some normal;
-    rundown = None }) args
+    (λ thread kernel normal. record {
+      kind = Normal;
+      thread = thread;
+      kernel = kernel;
+      normal = Some normal;
+      rundown = None;
+    }) args
 apc_of names User args = read4 (read_thread names) (read_routine names) (read_routine names) (read_rundown names)
-    (λ thread kernel normal rundown. record { kind = User; thread = thread; kernel = kernel; normal = Some normal;
-    rundown = rundown }) args
+    (λ thread kernel normal rundown. record {
+      kind = User;
+      thread = thread;
+      kernel = kernel;
+      normal = Some normal;
+      rundown = rundown;
+    }) args

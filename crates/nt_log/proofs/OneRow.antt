@@ -36,8 +36,14 @@ digit_at_most c h = go (nat_le c 126) refl
     go true e = leb-true c 126 e
     go false e =
         let above : 126 < c = grind (arith, le-leb) in
-        let no : digit_value c ≡ 36 = rw (le-ltb c 48 (omega arith), le-ltb c 58 (omega arith), le-ltb c 65 (omega arith), le-ltb c 91 (omega arith),
-            le-ltb c 97 (omega arith), le-ltb c 123 (omega arith)) refl in
+        let no : digit_value c ≡ 36 = rw (
+          le-ltb c 48 (omega arith),
+          le-ltb c 58 (omega arith),
+          le-ltb c 65 (omega arith),
+          le-ltb c 91 (omega arith),
+          le-ltb c 97 (omega arith),
+          le-ltb c 123 (omega arith),
+        ) refl in
         absurd (omega (arith, no, h))
 
 digits_field : (ds : List ℕ) → AllDigits 16 ds → is_field ds ≡ true
@@ -46,7 +52,7 @@ digits_field (c ∷ cs) h =
     let low = digit_at_least c (nat_lt c 48) _ refl h.0 in
     let high = digit_at_most c h.0 in
     and_from (nat_le 33 c && nat_le c 126) (is_field cs) (and_from (nat_le 33 c) (nat_le c 126) (le-leb 33 c (omega (arith, low))) (le-leb c 126 high))
-        (digits_field cs h.1)
+    (digits_field cs h.1)
 
 pub hexadecimal_field : (n : ℕ) → n ≤ 4294967295 → is_field (digits 16 false n) ≡ true
 hexadecimal_field n l = digits_field (digits 16 false n) (hexadecimal_number n l).0

@@ -42,7 +42,7 @@ thread_one input s t u lt lu e =
     let are = are_read input.names fit.few fit.names in
     let len = s.threads in
     read_one (read_thread input.names) (show_thread input.names t) (show_thread input.names u) t u (are.threads t (omega (arith, lt, len)))
-        (are.threads u (omega (arith, lu, len))) e
+    (are.threads u (omega (arith, lu, len))) e
 
 -- ---- values that rise
 
@@ -176,10 +176,11 @@ turn_clean input s (Switch p t) h =
 
 pub schedule_clean : (input : Input) → IsSound input → (s : Schedule) → IsPlain input.script s → AllRows (schedule_rows input.names s)
 schedule_clean input sound s plain =
-    let most = plain.limit.1 in
-    ((refl, (decimal_field s.turns (omega (arith, most)), tt)),
-        rows_from (map (turn_row input.names) s.list) (done_row ∷ [])
-        (map_rows (TurnIsPlain input.script) (turn_row input.names) (turn_clean input sound) s.list plain.turns) ((refl, tt), tt))
+    let most = plain.limit.1 in (
+      (refl, (decimal_field s.turns (omega (arith, most)), tt)),
+      rows_from (map (turn_row input.names) s.list) (done_row ∷ [])
+          (map_rows (TurnIsPlain input.script) (turn_row input.names) (turn_clean input sound) s.list plain.turns) ((refl, tt), tt),
+    )
 
 is_done : Row → Bool
 is_done row = first_byte row == 100
@@ -206,9 +207,9 @@ turns_one input sound s r h k e =
     let P = TurnIsPlain input.script in
     let row = turn_row input.names in
     let clean : (xs : List Turn) → AllByRecursion P xs →
-        AllByRecursion (λ z. is_done z ≡ false) (map row xs) = all_map P (λ z. is_done z ≡ false) row (no_turn_is_done input) in
+    AllByRecursion (λ z. is_done z ≡ false) (map row xs) = all_map P (λ z. is_done z ≡ false) row (no_turn_is_done input) in
     let lists : map row s.list ≡ map row r.list = (split_one is_done (map row s.list) (map row r.list) done_row done_row [] [] (clean s.list h.turns)
-        (clean r.list k.turns) refl refl more).0 in
+    (clean r.list k.turns) refl refl more).0 in
     let same : s.list ≡ r.list = map_one P row (turn_one input sound) s.list r.list h.turns k.turns lists in
     let most = h.limit.1 in
     let most2 = k.limit.1 in
@@ -218,4 +219,4 @@ pub one_schedule : (bytes : List ℕ) (input : Input) (s r : Schedule) → IsTex
 one_schedule bytes input s r h k =
     turns_one input h.sound s r h.plain k.plain
     (rows_one (schedule_rows input.names s) (schedule_rows input.names r) (schedule_clean input h.sound s h.plain) (schedule_clean input h.sound r k.plain)
-        (sym h.text ∙ k.text))
+    (sym h.text ∙ k.text))

@@ -12,7 +12,7 @@ mod laws;
 mod printing;
 mod schedules;
 
-pub use nt_text::{put_field, put_number};
 pub use laws::texts_are_schedules;
+pub use nt_text::{put_field, put_number};
 pub use printing::{print_schedule, put_schedule};
 pub use schedules::{Schedule, turn_of, turns_of};

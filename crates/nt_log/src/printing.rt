@@ -5,11 +5,11 @@ ghost use Rattle.nt_script.specs.Sound.{IsSound};
 ghost use Rattle.nt_text.specs.Lines.{spaced};
 ghost use Rattle.nt_log.specs.Schedules.{turn_fits, turns_fit, rise_field, rises_row, turn_word, turn_fields, turn_row, limit_row, schedule_rows, schedule_text};
 
-use nt_text::{put_field, put_number};
 use crate::schedules::Schedule;
 use itoa::Buffer;
 use nt_event::Turn;
 use nt_script::Input;
+use nt_text::{put_field, put_number};
 use std::alloc::{AllocError, Global};
 
 /// Adds a class and the value that rises in it.

@@ -37,7 +37,7 @@ count_step events k e table lt is tells p lp = go (nat_lt e.cpu.0 (length table)
             let same : e.cpu.0 ≡ p = eqb-true e.cpu.0 p by in
             let here : get_or (set table p (get_or table p 0 + 1)) p 0 ≡ get_or table p 0 + 1 = get_or-set_same table p (get_or table p 0 + 1) 0 within in
             subst (λ (m : ℕ). get_or (set table m (get_or table m 0 + 1)) p 0 ≡ get_or table p 0 + 1) (sym same) here ∙ ap (λ (m : ℕ). m + 1) (tells p within)
-                ∙ sym (made_by_it p events k e lt is by)
+            ∙ sym (made_by_it p events k e lt is by)
         mine false by = get_or-set_other table e.cpu.0 p (get_or table e.cpu.0 0 + 1) 0 (λ s. eqb-false e.cpu.0 p by (sym s)) ∙ tells p within
             ∙ sym (made_by_another p events k e lt is by)
     go false h l = other (e.cpu.0 == p) refl

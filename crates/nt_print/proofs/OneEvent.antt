@@ -70,8 +70,11 @@ pub record Known (input : Input) : Type 0 where
 pub known : (input : Input) → IsSound input → Known input
 known input s =
     let fit = sound_fits input s in
-    record { fit = fit; are = are_read input.names fit.few fit.names;
-        counts = record { dpcs = s.dpcs; timers = s.timers; threads = s.threads; apcs = s.apcs; routines = s.routines } }
+    record {
+      fit = fit;
+      are = are_read input.names fit.few fit.names;
+      counts = record { dpcs = s.dpcs; timers = s.timers; threads = s.threads; apcs = s.apcs; routines = s.routines };
+    }
 
 below : (i n m : ℕ) → n ≡ m → nat_lt i m ≡ true → i < n
 below i n m e h = let lt = ltb-true i m h in omega (arith, e, lt)
@@ -208,7 +211,7 @@ called_one input k c d r q hc hd rc rd hr hq e =
     let cpus = input.script.cpus in
     let again : command_of names cpus (command_verb c) (command_args names c) ≡ command_of names cpus (command_verb d) (command_args names d) = cc in
     let both = sym (command_again names cpus k.are k.fit.cpus.1 c (command_plain input k c hc rc)) ∙ again
-        ∙ command_again names cpus k.are k.fit.cpus.1 d (command_plain input k d hd rd) in
+    ∙ command_again names cpus k.are k.fit.cpus.1 d (command_plain input k d hd rd) in
     (ok_one both, reply_one r q hr hq parts.1)
   where
     ok_one : {E : Type 0} {c d : Command} → ◌≡◌ {A = Result Command E} (Ok c) (Ok d) → c ≡ d
@@ -219,8 +222,8 @@ called_clean : (input : Input) → Known input → (c : Command) (r : Reply) →
 called_clean input k c r h g hr =
     list_all-append is_field (command_row input.names c) (replied r)
     ∙ and_from (list_all is_field (command_row input.names c)) (list_all is_field (replied r))
-        (row_to (command_row input.names c) (command_clean input.names k.fit.names input.script.cpus k.fit.cpus.1 c (command_plain input k c h g)))
-        (reply_clean r hr)
+    (row_to (command_row input.names c) (command_clean input.names k.fit.names input.script.cpus k.fit.cpus.1 c (command_plain input k c h g)))
+    (reply_clean r hr)
 
 -- ---- what is begun
 
@@ -383,12 +386,12 @@ what_clean input k (Call f c r) h g = rw (word_field f g.0, called_clean input k
 what_clean input k (Look rises) h g = refl
 what_clean input k (Begin b n) h g =
     list_all-append is_field (begun_row input b) (used n)
-        ∙ and_from (list_all is_field (begun_row input b)) (list_all is_field (used n)) (begun_clean input k b h g.0) (used_clean n g.1)
+    ∙ and_from (list_all is_field (begun_row input b)) (list_all is_field (used n)) (begun_clean input k b h g.0) (used_clean n g.1)
 what_clean input k (Normal f) h g = rw (word_field f g) refl
 what_clean input k (End f) h g = rw (word_field f g) refl
 what_clean input k (Expire a n) h g =
     list_all-append is_field (key_row input.names a) (used n)
-        ∙ and_from (list_all is_field (key_row input.names a)) (list_all is_field (used n)) (key_clean input k a h) (used_clean n g)
+    ∙ and_from (list_all is_field (key_row input.names a)) (list_all is_field (used n)) (key_clean input k a h) (used_clean n g)
 what_clean input k (Fire d r) h g = rw (dpc_clean input k d h, reply_clean r g) refl
 what_clean input k (Clean c) h g = rw (decimal_field c (omega (arith, g))) refl
 what_clean input k (Switch t a) h g = rw (thread_clean input k t h, status_clean a g) refl
@@ -461,5 +464,9 @@ pub event_clean : (input : Input) → Known input → (n : ℕ) (e : Event) → 
 event_clean input k n e lt h =
     let p = event_parts input.script e h.0 in
     row_from (decimal n) (event_fields input e) (decimal_field n lt)
-    (rw (decimal_field e.cpu.0 (cpu_small input k e.cpu p.cpu), running_clean input k e.thread p.thread, decimal_field e.level (omega (arith, h.1.0)),
-        what_clean input k e.what p.what h.1.1) refl)
+    (rw (
+      decimal_field e.cpu.0 (cpu_small input k e.cpu p.cpu),
+      running_clean input k e.thread p.thread,
+      decimal_field e.level (omega (arith, h.1.0)),
+      what_clean input k e.what p.what h.1.1,
+    ) refl)

@@ -75,9 +75,9 @@ events_one input k n (e ∷ es) (f ∷ fs) h g t r =
     let turn : turn_of e ≡ turn_of f = cc in
     let turns : map turn_of es ≡ map turn_of fs = cc in
     let split : (if is_look e.what then [] else event_row input n e ∷ []) ++ event_rows input (n + 1) es
-        ≡ (if is_look f.what then [] else event_row input n f ∷ []) ++ event_rows input (n + 1) fs =
+    ≡ (if is_look f.what then [] else event_row input n f ∷ []) ++ event_rows input (n + 1) fs =
     ap (λ (a : List Row). a ++ event_rows input (n + 1) es) (sym (line_split input n e e.what)) ∙ r
-        ∙ ap (λ (a : List Row). a ++ event_rows input (n + 1) fs) (line_split input n f f.what) in
+    ∙ ap (λ (a : List Row). a ++ event_rows input (n + 1) fs) (line_split input n f f.what) in
     go (is_look e.what) (is_look f.what) refl refl turn split (λ rest. events_one input k (n + 1) es fs h.1 g.1 turns rest)
   where
     go : (a b : Bool) → is_look e.what ≡ a → is_look f.what ≡ b → turn_of e ≡ turn_of f → (if a then [] else event_row input n e ∷ [])
@@ -101,7 +101,7 @@ events_clean : (input : Input) → Known input → (n : ℕ) (es : List Event) �
 events_clean input k n [] few h = tt
 events_clean input k n (e ∷ es) few h =
     rows_from (line_rows input n e e.what) (event_rows input (n + 1) es) (subst AllRows (sym (line_split input n e e.what)) (go (is_look e.what)))
-        (events_clean input k (n + 1) es (omega (arith, few)) h.1)
+    (events_clean input k (n + 1) es (omega (arith, few)) h.1)
   where
     go : (b : Bool) → AllRows (if b then [] else event_row input n e ∷ [])
     go true = tt
@@ -137,7 +137,7 @@ events_numbered : (input : Input) (n : ℕ) (es : List Event) → n + length es 
 events_numbered input n [] few = tt
 events_numbered input n (e ∷ es) few =
     subst (λ (a : List Row). AllByRecursion (λ z. is_numbered z ≡ true) (a ++ event_rows input (n + 1) es)) (sym (line_split input n e e.what))
-        (go (is_look e.what) (events_numbered input (n + 1) es (omega (arith, few))))
+    (go (is_look e.what) (events_numbered input (n + 1) es (omega (arith, few))))
   where
     go : (b : Bool) → AllByRecursion (λ z. is_numbered z ≡ true) (event_rows input (n + 1) es) →
         AllByRecursion (λ z. is_numbered z ≡ true) ((if b then [] else event_row input n e ∷ []) ++ event_rows input (n + 1) es)
@@ -226,7 +226,7 @@ inserts_plain : (s : Script) (past : List Event) → length past < 2 ^ 64 → Al
 inserts_plain s [] few h = tt
 inserts_plain s (e ∷ past) few h =
     all_append (WaitIsPlain s) (inserts past) (inserted_by (length past) (inserted_thing e.what)) (inserts_plain s past (omega (arith, few)) h.1)
-        (go (inserted_thing e.what) (inserted_fits s e.what (event_parts s e h.0.0).what))
+    (go (inserted_thing e.what) (inserted_fits s e.what (event_parts s e h.0.0).what))
   where
     go : (o : Option Thing) → IfSome o (λ x. thing_fits s x ≡ true) → AllByRecursion (WaitIsPlain s) (inserted_by (length past) o)
     go None h = tt
@@ -243,7 +243,7 @@ waits_clean : (input : Input) → Known input → (past : List Event) → length
     AllRows (wait_rows input.names past)
 waits_clean input k past few h =
     map_rows (WaitIsPlain input.script) (wait_row input.names) (wait_clean input k) (waiting_inserts past)
-        (all_filter (WaitIsPlain input.script) (λ x. still_waits (fate_of x.thing x.number past)) (inserts past) (inserts_plain input.script past few h))
+    (all_filter (WaitIsPlain input.script) (λ x. still_waits (fate_of x.thing x.number past)) (inserts past) (inserts_plain input.script past few h))
 
 -- ---- the schedule
 
@@ -283,7 +283,7 @@ report_clean input sound h p =
           ++ (wait_rows input.names (reverse h.events) ++ schedule_rows input.names (schedule_of h)))
           (events_clean input k 0 h.events (omega (arith, few)) p.events)
           (rows_from (cut_rows h 0 input.script.cpus) (wait_rows input.names (reverse h.events) ++ schedule_rows input.names (schedule_of h))
-              (cuts_clean h 0 input.script.cpus (omega (arith, cpus)))
+          (cuts_clean h 0 input.script.cpus (omega (arith, cpus)))
           (rows_from (wait_rows input.names (reverse h.events)) (schedule_rows input.names (schedule_of h))
           (waits_clean input k (reverse h.events) (omega (arith, few, length-reverse h.events)) (all_reverse (EventIsPlain input.script) h.events p.events))
           (schedule_clean input sound (schedule_of h) (schedule_plain input k h p)))),
@@ -302,7 +302,7 @@ unfolding front
 front_before input h few =
     all_append (λ z. is_schedule z ≡ false) (event_rows input 0 h.events) _
     (all_to (λ z. is_numbered z ≡ true) (λ z. is_schedule z ≡ false) no_schedule (event_rows input 0 h.events)
-        (events_numbered input 0 h.events (omega (arith, few))))
+    (events_numbered input 0 h.events (omega (arith, few))))
     (all_to IsOther (λ z. is_schedule z ≡ false) (λ z o. o.1) _ (others_other input h))
 
 front_events : (input : Input) (h : History) → length h.events ≤ 160000 → filter is_numbered (front input h) ≡ event_rows input 0 h.events
@@ -310,9 +310,9 @@ unfolding front
 front_events input h few =
     filter-append is_numbered (event_rows input 0 h.events) (cut_rows h 0 input.script.cpus ++ wait_rows input.names (reverse h.events))
     ∙ ap (λ (a : List Row). a ++ filter is_numbered (cut_rows h 0 input.script.cpus ++ wait_rows input.names (reverse h.events)))
-        (filter_all is_numbered (event_rows input 0 h.events) (events_numbered input 0 h.events (omega (arith, few))))
+    (filter_all is_numbered (event_rows input 0 h.events) (events_numbered input 0 h.events (omega (arith, few))))
     ∙ ap (λ (a : List Row). event_rows input 0 h.events ++ a)
-        (filter_none is_numbered _ (all_to IsOther (λ z. is_numbered z ≡ false) (λ z o. o.0) _ (others_other input h)))
+    (filter_none is_numbered _ (all_to IsOther (λ z. is_numbered z ≡ false) (λ z o. o.0) _ (others_other input h)))
     ∙ append-nil (event_rows input 0 h.events)
 
 report_front : (input : Input) (h : History) → report_rows input h ≡ (codes "report" ∷ []) ∷ (front input h ++ schedule_rows input.names (schedule_of h))
@@ -336,14 +336,14 @@ rows_same : (input : Input) → IsSound input → (h g : History) → IsPlain in
 rows_same input sound h g p q e =
     let k = known input sound in
     let cut : (codes "report" ∷ []) ∷ (front input h ++ schedule_rows input.names (schedule_of h))
-        ≡ (codes "report" ∷ []) ∷ (front input g ++ schedule_rows input.names (schedule_of g)) = sym (report_front input h) ∙ e ∙ report_front input g in
+    ≡ (codes "report" ∷ []) ∷ (front input g ++ schedule_rows input.names (schedule_of g)) = sym (report_front input h) ∙ e ∙ report_front input g in
     let both = tails _ _ cut in
     let parts = split_one is_schedule (front input h) (front input g) (limit_row h.turns) (limit_row g.turns) _ _ (front_before input h p.few)
-        (front_before input g q.few) (limit_is_schedule h.turns) (limit_is_schedule g.turns) both in
+    (front_before input g q.few) (limit_is_schedule h.turns) (limit_is_schedule g.turns) both in
     let schedules : schedule_of h ≡ schedule_of g = turns_one input sound (schedule_of h) (schedule_of g) (schedule_plain input k h p)
-        (schedule_plain input k g q) parts.1 in
+    (schedule_plain input k g q) parts.1 in
     let rows : event_rows input 0 h.events ≡ event_rows input 0 g.events = sym (front_events input h p.few) ∙ ap (filter is_numbered) parts.0
-        ∙ front_events input g q.few in
+    ∙ front_events input g q.few in
     let turns : h.turns ≡ g.turns = ap (λ (s : Schedule). s.turns) schedules in
     let list : map turn_of h.events ≡ map turn_of g.events = ap (λ (s : Schedule). s.list) schedules in
     history_same h g turns (events_one input k 0 h.events g.events p.events q.events list rows)

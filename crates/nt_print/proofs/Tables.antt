@@ -69,7 +69,7 @@ marked events k (Some i) table n thing before l at h = go (i.number == n) refl
     go true e =
         let same : i.number ≡ n = eqb-true i.number n e in
         rw e (subst (λ (m : ℕ). get_or (if nat_lt m k && is_it i.thing (inserted_at events m) then set table m true else table) n false
-            ≡ (before || (nat_lt n k && (same_thing i.thing thing && true)))) (sym same) there)
+        ≡ (before || (nat_lt n k && (same_thing i.thing thing && true)))) (sym same) there)
     go false e =
         let apart : i.number ≡ n → n < 0 = λ s. absurd (eqb-false i.number n e s) in
         rw e (missed table i.number n (nat_lt i.number k && is_it i.thing (inserted_at events i.number)) apart ∙ h ∙ never)
@@ -174,17 +174,17 @@ pub removal_step : (events : List Event) (k : ℕ) (e : Event) (dpcs apcs : List
     → TellsRemovals (reverse (take (k + 1) events)) (dpcs_after k (removed_by e.what) dpcs) (apcs_after k (removed_by e.what) apcs)
 removal_step events k e dpcs apcs lt is tells =
     subst (λ (p : List Event). TellsRemovals p (dpcs_after k (removed_by e.what) dpcs) (apcs_after k (removed_by e.what) apcs))
-        (sym (past_more events k e lt is))
+    (sym (past_more events k e lt is))
     (removal_next e (reverse (take k events)) k dpcs apcs (past_length events k (omega (arith, lt))) tells)
 
 pub removals_next : (events : List Event) (k : ℕ) (e : Event) (dpcs apcs dpcs_new apcs_new : List ℕ) → k < length events → e ≡ get_or events k e →
     TellsRemovals (reverse (take k events)) dpcs apcs
     → dpcs_new ≡ dpcs_after k (removed_by e.what) dpcs → apcs_new ≡ apcs_after k (removed_by e.what) apcs →
-        TellsRemovals (reverse (take (k + 1) events)) dpcs_new apcs_new
+    TellsRemovals (reverse (take (k + 1) events)) dpcs_new apcs_new
 removals_next events k e dpcs apcs dpcs_new apcs_new lt is tells d a =
     let new = removal_step events k e dpcs apcs lt is tells in
     subst (λ (xs : List ℕ). TellsRemovals (reverse (take (k + 1) events)) xs apcs_new) (sym d)
-        (subst (λ (xs : List ℕ). TellsRemovals (reverse (take (k + 1) events)) (dpcs_after k (removed_by e.what) dpcs) xs) (sym a) new)
+    (subst (λ (xs : List ℕ). TellsRemovals (reverse (take (k + 1) events)) (dpcs_after k (removed_by e.what) dpcs) xs) (sym a) new)
 
 -- tables of zeros tell of no event
 pub zeros_tell : (n m : ℕ) (dpcs apcs : List ℕ) → dpcs ≡ replicate n 0 → apcs ≡ replicate m 0 → length dpcs ≡ n → length apcs ≡ m → TellsRemovals [] dpcs apcs

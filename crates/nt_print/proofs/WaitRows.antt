@@ -30,12 +30,12 @@ kept all n (Some thing) = go (still_waits (fate_of thing n all))
 
 pub waits_more : (names : NameLists) (events all : List Event) (k : ℕ) (e : Event) → k < length events → e ≡ get_or events k e
     → waits_so_far names all (reverse (take k events)) ++ map (wait_row names) (inserted_by k (waits_at all k (inserted_at events k)))
-        ≡ waits_so_far names all (reverse (take (k + 1) events))
+    ≡ waits_so_far names all (reverse (take (k + 1) events))
 waits_more names events all k e lt is =
     let past : List Event = reverse (take k events) in
     let here : List Inserted = inserted_by k (inserted_thing e.what) in
     let number : inserts (e ∷ past) ≡ inserts past ++ here = ap (λ (m : ℕ). inserts past ++ inserted_by m (inserted_thing e.what))
-        (past_length events k (omega (arith, lt))) in
+    (past_length events k (omega (arith, lt))) in
     let split : waits_so_far names all (e ∷ past) ≡ waits_so_far names all past ++ map (wait_row names) (filter (waits_in all) here) =
     ap (λ (xs : List Inserted). map (wait_row names) (filter (waits_in all) xs)) number
     ∙ ap (map (wait_row names)) (filter-append (waits_in all) (inserts past) here)
@@ -53,9 +53,9 @@ element_at (x ∷ xs) (suc k) lt = element_at xs k (omega (arith, lt))
 pub waits_put : (names : NameLists) (events : List Event) (k : ℕ) (old now next : List ℕ) → k < length events → now ≡ old
     ++ rows_text (waits_so_far names (reverse events) (reverse (take k events)))
     → next ≡ now ++ rows_text (map (wait_row names) (inserted_by k (waits_at (reverse events) k (inserted_at events k)))) → next ≡ old
-        ++ rows_text (waits_so_far names (reverse events) (reverse (take (k + 1) events)))
+    ++ rows_text (waits_so_far names (reverse events) (reverse (take (k + 1) events)))
 waits_put names events k old now next lt before line =
     let e = element_at events k lt in
     parts_put old now next (waits_so_far names (reverse events) (reverse (take k events)))
-        (map (wait_row names) (inserted_by k (waits_at (reverse events) k (inserted_at events k)))) before line
+    (map (wait_row names) (inserted_by k (waits_at (reverse events) k (inserted_at events k)))) before line
     ∙ ap (λ (rows : List Row). old ++ rows_text rows) (waits_more names events (reverse events) k e.0 lt e.1)

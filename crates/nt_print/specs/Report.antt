@@ -165,8 +165,8 @@ wait_rows names past = map (wait_row names) (waiting_inserts past)
 abbrev pub report_rows : Input → History → List Row
 report_rows input h =
     (codes "report" ∷ []) ∷ (event_rows input 0 h.events
-        ++ (cut_rows h 0 input.script.cpus
-        ++ (wait_rows input.names (reverse h.events) ++ schedule_rows input.names (schedule_of h))))
+    ++ (cut_rows h 0 input.script.cpus
+    ++ (wait_rows input.names (reverse h.events) ++ schedule_rows input.names (schedule_of h))))
 
 -- the one text of a history
 abbrev pub report_text : Input → History → List ℕ

@@ -13,8 +13,8 @@ ghost use Rattle.nt_print.specs.Report.{show_running, begun_row, key_row, status
 use crate::fields::{put_processor, put_replied, put_status, put_used};
 use itoa::Buffer;
 use nt_event::{ApcKind, ApcNo, Begun, Command, Event, ThreadNo, TimerKey, What};
-use nt_text::{put_field, put_number};
 use nt_script::{Input, put_command};
+use nt_text::{put_field, put_number};
 use std::alloc::AllocError;
 
 /// Adds the thread that runs, or a dash.

@@ -11,8 +11,8 @@ ghost use Rattle.nt_print.specs.Uses.{thing_of, inserted_of, inserted_at, thing_
 use crate::inserts::{Insert, Object};
 use crate::uses::{Uses, waiting};
 use nt_event::Event;
-use nt_text::{put_field, put_number};
 use nt_script::Input;
+use nt_text::{put_field, put_number};
 use std::alloc::AllocError;
 
 fn put_object(out: &mut Vec<u8>, input: &Input, object: Object) -> Result<(), AllocError>

@@ -60,17 +60,17 @@ act_taken all few w keyword.Cpus args new at len e good =
     let b = bind_ok (read_number 4294967295 (first args)) (put_cpus w) new e in
     let shown = (number_takes 4294967295 (lit< tt)).shown (first args) b.value b.is in
     moved all w keyword.Cpus keyword.Cpus args _ (with_cpus w b.value) new refl (one_shown args _ len shown) (put_cpus_ok w b.value new b.then)
-        (cpus_taken all w b.value at good)
+    (cpus_taken all w b.value at good)
 act_taken all few w keyword.Depth args new at len e good =
     let b = bind_ok (read_number 256 (first args)) (λ n. ok (with_depth w n)) new e in
     let shown = (number_takes 256 (lit< tt)).shown (first args) b.value b.is in
     moved all w keyword.Depth keyword.Depth args _ (with_depth w b.value) new refl (one_shown args _ len shown) (ok_is (with_depth w b.value) new b.then)
-        (depth_taken all w b.value at good)
+    (depth_taken all w b.value at good)
 act_taken all few w keyword.Threaded args new at len e good =
     let b = bind_ok (read_on_off (first args)) (λ on. ok (with_threaded w on)) new e in
     let shown = on_off_takes.shown (first args) b.value b.is in
     moved all w keyword.Threaded keyword.Threaded args _ (with_threaded w b.value) new refl (one_shown args _ len shown)
-        (ok_is (with_threaded w b.value) new b.then) (threaded_taken all w b.value at good)
+    (ok_is (with_threaded w b.value) new b.then) (threaded_taken all w b.value at good)
 act_taken all few w keyword.Isr args new at len e good =
     let b = bind_ok (isr_of all w.script.cpus args) (λ isr. ok_if (is_none (isr_routine w.script.isrs isr.cpu isr.level)) (with_isr w isr) NameTwice) new e in
     let o = ok_if_ok (is_none (isr_routine w.script.isrs b.value.cpu b.value.level)) (with_isr w b.value) NameTwice new b.then in
@@ -83,7 +83,7 @@ act_taken all few w (keyword.Dpc b) args new at len e good =
     let a = args_parts args 1 len in
     let t = dpc_line_takes all few b (rest args) d.thing d.read_is a.1 in
     moved all w (keyword.Dpc b) (dpc_keyword d.thing) args (d.name ∷ dpc_args all d.thing) (with_dpc w d.name d.thing) new t.keyword
-        (field_and args d.name (dpc_args all d.thing) a.0 d.first_is t.spelled) o.1 (dpc_taken all w d.name d.thing at good)
+    (field_and args d.name (dpc_args all d.thing) a.0 d.first_is t.spelled) o.1 (dpc_taken all w d.name d.thing at good)
 act_taken all few w keyword.Timer args new at len e good =
     let put : List ℕ → TimerDecl → Result Walk ScriptKind = λ name x. ok_if (nat_lt (length w.script.timers) 64) (with_timer w name x) (TooMany what.Timers) in
     let d = declared_ok w.names (timer_of all) put args new e in
@@ -91,16 +91,16 @@ act_taken all few w keyword.Timer args new at len e good =
     let a = args_parts args 1 len in
     let t = timer_line_takes all few (rest args) d.thing d.read_is a.1 in
     moved all w keyword.Timer (timer_keyword d.thing) args (d.name ∷ timer_args all d.thing) (with_timer w d.name d.thing) new t.keyword
-        (field_and args d.name (timer_args all d.thing) a.0 d.first_is t.spelled) o.1 (timer_taken all w d.name d.thing at good)
+    (field_and args d.name (timer_args all d.thing) a.0 d.first_is t.spelled) o.1 (timer_taken all w d.name d.thing at good)
 act_taken all few w keyword.Thread args new at len e good =
     let put : List ℕ → ThreadDecl → Result Walk ScriptKind = λ name x. ok_if (nat_lt (length w.script.threads) 64) (with_thread w name x)
-        (TooMany what.Threads) in
+    (TooMany what.Threads) in
     let d = declared_ok w.names (thread_of all w.script.cpus) put args new e in
     let o = ok_if_ok (nat_lt (length w.script.threads) 64) (with_thread w d.name d.thing) (TooMany what.Threads) new d.made in
     let a = args_parts args 2 len in
     let t = thread_line_takes all w.script.cpus few (rest args) d.thing d.read_is a.1 in
     moved all w keyword.Thread (thread_keyword d.thing) args (d.name ∷ thread_args all d.thing) (with_thread w d.name d.thing) new t.keyword
-        (field_and args d.name (thread_args all d.thing) a.0 d.first_is t.spelled) o.1 (thread_taken all w d.name d.thing at good)
+    (field_and args d.name (thread_args all d.thing) a.0 d.first_is t.spelled) o.1 (thread_taken all w d.name d.thing at good)
 act_taken all few w (keyword.Apc k) args new at len e good =
     let put : List ℕ → ApcDecl → Result Walk ScriptKind = λ name x. ok_if (nat_lt (length w.script.apcs) 256) (with_apc w name x) (TooMany what.Apcs) in
     let d = declared_ok w.names (apc_of all k) put args new e in
@@ -108,14 +108,14 @@ act_taken all few w (keyword.Apc k) args new at len e good =
     let a = args_parts args (apc_fields k) (len ∙ apc_arity k) in
     let t = apc_line_takes all few k (rest args) d.thing d.read_is a.1 in
     moved all w (keyword.Apc k) (apc_keyword d.thing) args (d.name ∷ apc_args all d.thing) (with_apc w d.name d.thing) new t.keyword
-        (field_and args d.name (apc_args all d.thing) a.0 d.first_is t.spelled) o.1 (apc_taken all w d.name d.thing at good)
+    (field_and args d.name (apc_args all d.thing) a.0 d.first_is t.spelled) o.1 (apc_taken all w d.name d.thing at good)
 act_taken all few w keyword.Routine args new at len e good =
     let b = bind_ok (new_name w.names (first args)) (λ (name : List ℕ). ok_if (nat_lt (length w.script.routines) 256) (with_routine w name)
-        (TooMany what.Routines)) new e in
+    (TooMany what.Routines)) new e in
     let o = ok_if_ok (nat_lt (length w.script.routines) 256) (with_routine w b.value) (TooMany what.Routines) new b.then in
     let shown = (new_name_takes w.names).shown (first args) b.value b.is in
     moved all w keyword.Routine keyword.Routine args (b.value ∷ []) (with_routine w b.value) new refl (one_shown args b.value len shown) o.1
-        (routine_taken all w b.value at good)
+    (routine_taken all w b.value at good)
 act_taken all few w keyword.Exit args new at len e good =
     moved all w keyword.Exit keyword.Exit args [] (with_exit w) new refl (nil_from_length args len) (ok_is (with_exit w) new e) (exit_taken all w at good)
 act_taken all few w (keyword.Call verb) args new at len e good =

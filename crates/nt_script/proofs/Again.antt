@@ -140,10 +140,10 @@ stays (x ∷ xs) p = refl
 pub part_run : {A : Type 0} (all : NameLists) (row : List ℕ → A → Row) (make : List (List ℕ) → List A → Place → Walk) (here : Place) (last : ℕ)
     (before : List (List ℕ)) (Fits : A → Type 0) (most : ℕ)
     → ((ns : List (List ℕ)) (xs : List A) (p : Place) (n : List ℕ) (x : A) → Between 1 last p → is_name n ≡ true → place n (before ++ ns) ≡ None → Fits x →
-        length xs < most → step all (make ns xs p) (row n x) ≡ Ok (make (ns ++ n ∷ []) (xs ++ x ∷ []) here))
+    length xs < most → step all (make ns xs p) (row n x) ≡ Ok (make (ns ++ n ∷ []) (xs ++ x ∷ []) here))
     → Between 1 last here
     → (ns : List (List ℕ)) (xs : List A) (ns' : List (List ℕ)) (xs' : List A) (p : Place) → Between 1 last p → length ns ≡ length xs →
-        AreNew (before ++ ns') ns → AllByRecursion Fits xs → length xs' + length xs ≤ most
+    AreNew (before ++ ns') ns → AllByRecursion Fits xs → length xs' + length xs ≤ most
     → Steps all (make ns' xs' p) (declared_rows row ns xs) (make (ns' ++ ns) (xs' ++ xs) (place_after xs p here))
 part_run all row make here last before Fits most one can [] [] ns' xs' p at len new fit room = rw (append-nil ns', append-nil xs') refl
 part_run all row make here last before Fits most one can [] (x ∷ xs) ns' xs' p at len new fit room = absurd (omega arith)
@@ -152,7 +152,7 @@ part_run all row make here last before Fits most one can (n ∷ ns) (x ∷ xs) n
     let mid = make (ns' ++ n ∷ []) (xs' ++ x ∷ []) here in
     let new' : AreNew (before ++ (ns' ++ n ∷ [])) ns = subst (λ (b : List (List ℕ)). AreNew b ns) (append_assoc before ns' (n ∷ [])) new.2 in
     let more = part_run all row make here last before Fits most one can ns xs (ns' ++ n ∷ []) (xs' ++ x ∷ []) here can (omega arith) new' fit.1
-        (more_room xs' x (length xs) most room) in (
+    (more_room xs' x (length xs) most room) in (
       mid,
       one ns' xs' p n x at new.0 new.1 fit.0 (less_room xs' (length xs) most room),
       steps_to all mid (declared_rows row ns xs) make ((ns' ++ n ∷ []) ++ ns) (ns' ++ n ∷ ns) ((xs' ++ x ∷ []) ++ xs) (xs' ++ x ∷ xs)
@@ -192,8 +192,8 @@ dpc_step : (all : NameLists) (w : Walk) (n : List ℕ) (x : DpcDecl) → AreRead
 dpc_step all w n x are at named none fit room =
     let put : List ℕ → DpcDecl → Result Walk ScriptKind = λ name x. ok_if (nat_lt (length w.script.dpcs) 256) (with_dpc w name x) (TooMany what.Dpcs) in
     step_again all w (keyword.Dpc x.threaded) (n ∷ dpc_args all x) at refl
-        ∙ declaration_again w.names (dpc_of all x.threaded) put n (dpc_args all x) x named none (dpc_again all are x fit)
-        ∙ rw (lt-ltb (length w.script.dpcs) 256 room) refl
+    ∙ declaration_again w.names (dpc_of all x.threaded) put n (dpc_args all x) x named none (dpc_again all are x fit)
+    ∙ rw (lt-ltb (length w.script.dpcs) 256 room) refl
 
 pub dpcs_run : (all : NameLists) → AreRead all → (w : Walk) → w.names.timers ≡ [] → w.names.threads ≡ [] → w.names.apcs ≡ [] → w.names.routines ≡ [] →
     (ns : List (List ℕ)) (xs : List DpcDecl) (ns' : List (List ℕ)) (xs' : List DpcDecl) (p : Place) → Between 1 5 p → length ns ≡ length xs →
@@ -214,8 +214,8 @@ timer_step : (all : NameLists) (w : Walk) (n : List ℕ) (x : TimerDecl) → Are
 timer_step all w n x are at named none fit room =
     let put : List ℕ → TimerDecl → Result Walk ScriptKind = λ name x. ok_if (nat_lt (length w.script.timers) 64) (with_timer w name x) (TooMany what.Timers) in
     step_again all w keyword.Timer (n ∷ timer_args all x) at refl
-        ∙ declaration_again w.names (timer_of all) put n (timer_args all x) x named none (timer_again all are x fit)
-        ∙ rw (lt-ltb (length w.script.timers) 64 room) refl
+    ∙ declaration_again w.names (timer_of all) put n (timer_args all x) x named none (timer_again all are x fit)
+    ∙ rw (lt-ltb (length w.script.timers) 64 room) refl
 
 pub timers_run : (all : NameLists) → AreRead all → (w : Walk) → w.names.threads ≡ [] → w.names.apcs ≡ [] → w.names.routines ≡ [] →
     (ns : List (List ℕ)) (xs : List TimerDecl) (ns' : List (List ℕ)) (xs' : List TimerDecl) (p : Place) → Between 1 6 p → length ns ≡ length xs →
@@ -236,10 +236,10 @@ thread_step : (all : NameLists) (w : Walk) (n : List ℕ) (x : ThreadDecl) → A
     meaning n w.names ≡ None → (ThreadFits all w.script.cpus) x → length w.script.threads < 64 → step all w (thread_row all n x) ≡ Ok (with_thread w n x)
 thread_step all w n x are at le named none fit room =
     let put : List ℕ → ThreadDecl → Result Walk ScriptKind = λ name x. ok_if (nat_lt (length w.script.threads) 64) (with_thread w name x)
-        (TooMany what.Threads) in
+    (TooMany what.Threads) in
     step_again all w keyword.Thread (n ∷ thread_args all x) at refl
-        ∙ declaration_again w.names (thread_of all w.script.cpus) put n (thread_args all x) x named none (thread_again all w.script.cpus are le x fit)
-        ∙ rw (lt-ltb (length w.script.threads) 64 room) refl
+    ∙ declaration_again w.names (thread_of all w.script.cpus) put n (thread_args all x) x named none (thread_again all w.script.cpus are le x fit)
+    ∙ rw (lt-ltb (length w.script.threads) 64 room) refl
 
 pub threads_run : (all : NameLists) → AreRead all → (w : Walk) → w.script.cpus ≤ 8 → w.names.apcs ≡ [] → w.names.routines ≡ [] →
     (ns : List (List ℕ)) (xs : List ThreadDecl) (ns' : List (List ℕ)) (xs' : List ThreadDecl) (p : Place) → Between 1 7 p → length ns ≡ length xs →
@@ -262,8 +262,8 @@ apc_step : (all : NameLists) (w : Walk) (n : List ℕ) (x : ApcDecl) → AreRead
 apc_step all w n x are at named none fit room =
     let put : List ℕ → ApcDecl → Result Walk ScriptKind = λ name x. ok_if (nat_lt (length w.script.apcs) 256) (with_apc w name x) (TooMany what.Apcs) in
     step_again all w (keyword.Apc x.kind) (n ∷ apc_args all x) at (rw (apc_count all are x fit, apc_arity x.kind) refl)
-        ∙ declaration_again w.names (apc_of all x.kind) put n (apc_args all x) x named none (apc_again all are x fit)
-        ∙ rw (lt-ltb (length w.script.apcs) 256 room) refl
+    ∙ declaration_again w.names (apc_of all x.kind) put n (apc_args all x) x named none (apc_again all are x fit)
+    ∙ rw (lt-ltb (length w.script.apcs) 256 room) refl
 
 pub apcs_run : (all : NameLists) → AreRead all → (w : Walk) → w.names.routines ≡ [] →
     (ns : List (List ℕ)) (xs : List ApcDecl) (ns' : List (List ℕ)) (xs' : List ApcDecl) (p : Place) → Between 1 8 p → length ns ≡ length xs →
@@ -289,7 +289,7 @@ command_step : (all : NameLists) (w : Walk) (c : Command) → AreRead all → w.
 command_step all w c are inside few fit room =
     let at : At w.place (keyword.Call (command_verb c)) = rw inside (omega arith, omega arith) in
     step_again all w (keyword.Call (command_verb c)) (command_args all c) at (args_count all c)
-        ∙ rw (command_again all w.script.cpus are few c fit, lt-ltb w.commands 8192 room) refl
+    ∙ rw (command_again all w.script.cpus are few c fit, lt-ltb w.commands 8192 room) refl
 
 commands_run : (all : NameLists) → AreRead all → (cs : List Command) (w : Walk) → w.place ≡ InRoutine → w.script.cpus ≤ 8 →
     AllByRecursion (CommandFits all w.script.cpus) cs → w.commands + length cs ≤ 8192
@@ -337,25 +337,32 @@ routine_read w n cs = with_exit (after_commands (with_routine w n) ([] ++ cs) (w
 routine_run : (all : NameLists) → AreRead all → (w : Walk) (n : List ℕ) (cs : List Command) → Between 1 9 w.place → is_name n ≡ true → meaning n w.names
     ≡ None → length w.script.routines < 256 → w.body ≡ [] → w.script.cpus ≤ 8
     → AllByRecursion (CommandFits all w.script.cpus) cs → w.commands + length cs ≤ 8192 →
-        Steps all w (begun_rows all n cs ++ exit_row ∷ []) (routine_read w n cs)
+    Steps all w (begun_rows all n cs ++ exit_row ∷ []) (routine_read w n cs)
 routine_run all are w n cs at named none room empty few fit count =
     let begun = with_routine w n in
     let ran : Steps all begun (map (command_row all) cs)
-        (after_commands begun (w.body ++ cs) (w.commands + length cs) InRoutine) = commands_run all are cs begun refl few fit count in
+    (after_commands begun (w.body ++ cs) (w.commands + length cs) InRoutine) = commands_run all are cs begun refl few fit count in
     let clean : Steps all begun (map (command_row all) cs) (after_commands begun ([] ++ cs) (w.commands + length cs) InRoutine) = subst
-        (λ (b : List Command). Steps all begun (map (command_row all) cs) (after_commands begun (b ++ cs) (w.commands + length cs) InRoutine)) empty ran in
-    let there = after_commands begun ([] ++ cs) (w.commands + length cs) InRoutine in
-    (begun, begin_step all w n at named none room, steps_then all begun (map (command_row all) cs) (exit_row ∷ []) there (with_exit there) clean
-        (with_exit there, exit_step all there refl, refl))
+    (λ (b : List Command). Steps all begun (map (command_row all) cs) (after_commands begun (b ++ cs) (w.commands + length cs) InRoutine)) empty ran in
+    let there = after_commands begun ([] ++ cs) (w.commands + length cs) InRoutine in (
+      begun,
+      begin_step all w n at named none room,
+      steps_then all begun (map (command_row all) cs) (exit_row ∷ []) there (with_exit there) clean
+          (with_exit there, exit_step all there refl, refl),
+    )
 
 pub routines_run : (all : NameLists) → AreRead all → (ns : List (List ℕ)) (rs : List Routine) (w : Walk) → length ns ≡ length rs →
     AreNew ((((w.names.dpcs ++ w.names.timers) ++ w.names.threads) ++ w.names.apcs) ++ w.names.routines) ns → w.body ≡ [] → w.script.cpus ≤ 8
     → AllByRecursion (λ r. AllByRecursion (CommandFits all w.script.cpus) r.commands) rs → w.commands + sum_by (λ r. length r.commands) rs ≤ 8192 →
-        length w.script.routines + length rs ≤ 256 → Between 1 9 w.place
+    length w.script.routines + length rs ≤ 256 → Between 1 9 w.place
     → Ran all w (routine_rows all ns rs) (with_routines w.script (w.script.routines ++ rs)) (with_names w.names (w.names.routines ++ ns))
-routines_run all are [] [] w len new empty few fit count room at = record { last = w; steps = refl;
-    script_is = ap (with_routines w.script) (sym (append-nil w.script.routines)); names_are = ap (with_names w.names) (sym (append-nil w.names.routines));
-    opens = at }
+routines_run all are [] [] w len new empty few fit count room at = record {
+  last = w;
+  steps = refl;
+  script_is = ap (with_routines w.script) (sym (append-nil w.script.routines));
+  names_are = ap (with_names w.names) (sym (append-nil w.names.routines));
+  opens = at;
+}
 routines_run all are [] (r ∷ rs) w len new empty few fit count room at = absurd (omega arith)
 routines_run all are (n ∷ ns) [] w len new empty few fit count room at = absurd (omega arith)
 routines_run all are (n ∷ ns) (r ∷ rs) w len new empty few fit count room at =
@@ -365,14 +372,14 @@ routines_run all are (n ∷ ns) (r ∷ rs) w len new empty few fit count room at
     let m1 = nowhere_both n w.names.dpcs w.names.timers 0 m2.0 in
     let none : meaning n w.names ≡ None = rw (m1.0, m1.1, m2.1, m3.1, m4.1) refl in
     let total : w.commands + (length r.commands + sum_by (λ (r : Routine). length r.commands) rs) ≤ 8192 = rw
-        (← sum_by-cons (λ (r : Routine). length r.commands) r rs) count in
+    (← sum_by-cons (λ (r : Routine). length r.commands) r rs) count in
     let one = routine_run all are w n r.commands at new.0 none (less_room w.script.routines (length rs) 256 room) empty few fit.0 (omega (arith, total)) in
     let mid = routine_read w n r.commands in
     let new' : AreNew ((((w.names.dpcs ++ w.names.timers) ++ w.names.threads) ++ w.names.apcs) ++ (w.names.routines ++ n ∷ [])) ns = subst
-        (λ (before : List (List ℕ)). AreNew before ns) (append_assoc (((w.names.dpcs ++ w.names.timers) ++ w.names.threads) ++ w.names.apcs) w.names.routines
-        (n ∷ [])) new.2 in
+    (λ (before : List (List ℕ)). AreNew before ns) (append_assoc (((w.names.dpcs ++ w.names.timers) ++ w.names.threads) ++ w.names.apcs) w.names.routines
+    (n ∷ [])) new.2 in
     let more = routines_run all are ns rs mid (omega arith) new' refl few fit.1 (omega (arith, total)) (more_room w.script.routines r (length rs) 256 room)
-        (omega arith, omega arith) in
+    (omega arith, omega arith) in
     record {
       last = more.last;
       steps = steps_then all w (begun_rows all n r.commands ++ exit_row ∷ []) (routine_rows all ns rs) mid more.last one more.steps;

@@ -98,39 +98,39 @@ parts_run input s p at =
     let p2 = place_after script.dpcs p1 InDpcs in
     let w2 = after_dpcs w1 names.dpcs script.dpcs p2 in
     let r2 : Steps names w1
-        (declared_rows
-        (dpc_row names) names.dpcs script.dpcs) w2 = dpcs_run names are w1 refl refl refl refl names.dpcs script.dpcs [] [] p1 at5 s.dpc_count s.names.dpcs
-        s.dpcs (omega (arith, s.few.dpcs, s.dpc_count)) in
+    (declared_rows
+    (dpc_row names) names.dpcs script.dpcs) w2 = dpcs_run names are w1 refl refl refl refl names.dpcs script.dpcs [] [] p1 at5 s.dpc_count s.names.dpcs
+    s.dpcs (omega (arith, s.few.dpcs, s.dpc_count)) in
     let at6 = wider p2 5 (after script.dpcs p1 InDpcs 1 5 at5 (omega arith, omega arith)) in
     let p3 = place_after script.timers p2 InTimers in
     let w3 = after_timers w2 names.timers script.timers p3 in
     let new3 : AreNew (names.dpcs ++ []) names.timers = subst (λ (b : List (List ℕ)). AreNew b names.timers) (sym (append-nil names.dpcs)) s.names.timers in
     let r3 : Steps names w2
-        (declared_rows
-        (timer_row names) names.timers script.timers) w3 = timers_run names are w2 refl refl refl names.timers script.timers [] [] p2 at6 s.timer_count new3
-        s.timers (omega (arith, s.few.timers, s.timer_count)) in
+    (declared_rows
+    (timer_row names) names.timers script.timers) w3 = timers_run names are w2 refl refl refl names.timers script.timers [] [] p2 at6 s.timer_count new3
+    s.timers (omega (arith, s.few.timers, s.timer_count)) in
     let at7 = wider p3 6 (after script.timers p2 InTimers 1 6 at6 (omega arith, omega arith)) in
     let p4 = place_after script.threads p3 InThreads in
     let w4 = after_threads w3 names.threads script.threads p4 in
     let new4 : AreNew ((names.dpcs ++ names.timers) ++ []) names.threads = subst (λ (b : List (List ℕ)). AreNew b names.threads)
-        (sym (append-nil (names.dpcs ++ names.timers))) s.names.threads in
+    (sym (append-nil (names.dpcs ++ names.timers))) s.names.threads in
     let r4 : Steps names w3
-        (declared_rows
-        (thread_row names) names.threads script.threads) w4 = threads_run names are w3 s.cpus.1 refl refl names.threads script.threads [] [] p3 at7
-        s.thread_count new4 s.threads (omega (arith, s.few.threads, s.thread_count)) in
+    (declared_rows
+    (thread_row names) names.threads script.threads) w4 = threads_run names are w3 s.cpus.1 refl refl names.threads script.threads [] [] p3 at7
+    s.thread_count new4 s.threads (omega (arith, s.few.threads, s.thread_count)) in
     let at8 = wider p4 7 (after script.threads p3 InThreads 1 7 at7 (omega arith, omega arith)) in
     let p5 = place_after script.apcs p4 InApcs in
     let w5 = after_apcs w4 names.apcs script.apcs p5 in
     let new5 : AreNew (((names.dpcs ++ names.timers) ++ names.threads) ++ []) names.apcs = subst (λ (b : List (List ℕ)). AreNew b names.apcs)
-        (sym (append-nil ((names.dpcs ++ names.timers) ++ names.threads))) s.names.apcs in
+    (sym (append-nil ((names.dpcs ++ names.timers) ++ names.threads))) s.names.apcs in
     let r5 : Steps names w4
-        (declared_rows (apc_row names) names.apcs script.apcs) w5 = apcs_run names are w4 refl names.apcs script.apcs [] [] p4 at8 s.apc_count new5 s.apcs
-        (omega (arith, s.few.apcs, s.apc_count)) in
+    (declared_rows (apc_row names) names.apcs script.apcs) w5 = apcs_run names are w4 refl names.apcs script.apcs [] [] p4 at8 s.apc_count new5 s.apcs
+    (omega (arith, s.few.apcs, s.apc_count)) in
     let at9 = wider p5 8 (after script.apcs p4 InApcs 1 8 at8 (omega arith, omega arith)) in
     let new6 : AreNew ((((names.dpcs ++ names.timers) ++ names.threads) ++ names.apcs) ++ []) names.routines = subst
-        (λ (b : List (List ℕ)). AreNew b names.routines) (sym (append-nil (((names.dpcs ++ names.timers) ++ names.threads) ++ names.apcs))) s.names.routines in
+    (λ (b : List (List ℕ)). AreNew b names.routines) (sym (append-nil (((names.dpcs ++ names.timers) ++ names.threads) ++ names.apcs))) s.names.routines in
     let r = routines_run names are names.routines script.routines w5 s.routine_count new6 refl s.cpus.1 s.routines (omega (arith, s.command_count))
-        (omega (arith, s.few.routines, s.routine_count)) at9 in
+    (omega (arith, s.few.routines, s.routine_count)) at9 in
     record {
       last = r.last;
       steps = steps_then names w0 (map (isr_row names) script.isrs)
@@ -184,13 +184,16 @@ input_run input s =
     let at1 = given script.depth HasCpus HasDepth 1 2 (omega arith, omega arith) (omega arith, omega arith) in
     let at2 = given script.threaded p1 HasThreaded 1 3 (wider p1 2 at1) (omega arith, omega arith) in
     let head = steps_then all (begun n None None HasCpus) (depth_rows script.depth) (threaded_rows script.threaded) (begun n script.depth None p1)
-        (begun n script.depth script.threaded p2) (depth_run all n script.depth s.depth) (threaded_run all n script.depth script.threaded p1 at1) in
+    (begun n script.depth script.threaded p2) (depth_run all n script.depth s.depth) (threaded_run all n script.depth script.threaded p1 at1) in
     let r = parts_run input s p2 at2 in
     record {
       last = r.last;
-      steps = (begun n None None HasCpus, cpus_step all start n (omega arith, omega arith) s.cpus.0 s.cpus.1,
-          steps_then all (begun n None None HasCpus) (depth_rows script.depth ++ threaded_rows script.threaded) (part_rows all script)
-          (begun n script.depth script.threaded p2) r.last head r.steps);
+      steps = (
+        begun n None None HasCpus,
+        cpus_step all start n (omega arith, omega arith) s.cpus.0 s.cpus.1,
+        steps_then all (begun n None None HasCpus) (depth_rows script.depth ++ threaded_rows script.threaded) (part_rows all script)
+            (begun n script.depth script.threaded p2) r.last head r.steps,
+      );
       script_is = r.script_is;
       names_are = r.names_are;
       opens = r.opens;
@@ -203,9 +206,9 @@ reading_again input s =
     let r = input_run input s in
     let clean = input_clean input s in
     let names : names_from no_names (map line_of rows) ≡ input.names = names_again input.names start r.last rows clean r.steps good_start few_none
-        ∙ r.names_are in
+    ∙ r.names_are in
     let whole : walk input.names start 1 (map line_of rows) ≡ Ok (made r.last) = walk_again input.names start r.last 1 rows clean r.steps r.opens in
     let is : made r.last ≡ input = ap (λ (s : Script). record { script = s; names = r.last.names }) r.script_is
-        ∙ ap (λ (names : NameLists). record { script = input.script; names = names }) r.names_are in
+    ∙ ap (λ (names : NameLists). record { script = input.script; names = names }) r.names_are in
     ap (λ (ls : List (List ℕ × Bool)). walk (names_from no_names ls) start 1 ls) (lines_again rows clean)
-        ∙ ap (λ (names : NameLists). walk names start 1 (map line_of rows)) names ∙ whole ∙ ap (λ (i : Input). done i) is
+    ∙ ap (λ (names : NameLists). walk names start 1 (map line_of rows)) names ∙ whole ∙ ap (λ (i : Input). done i) is

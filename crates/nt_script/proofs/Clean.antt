@@ -140,8 +140,13 @@ command_clean names fit cpus few cmd.Yield h = (refl, tt)
 command_clean names fit cpus few (cmd.Note number) h = (refl, (decimal_field number (omega (arith, h)), tt))
 
 isr_clean : (names : NameLists) (fit : NamesFit names) (cpus : ℕ) → cpus ≤ 8 → (x : Isr) → IsrFits names cpus x → IsRow (isr_row names x)
-isr_clean names fit cpus few x h = (refl, (cpu_field x.cpu cpus few h.0,
-    (decimal_field x.level (omega (arith, h.1)), (routine_field names fit x.routine.0 h.3, tt))))
+isr_clean names fit cpus few x h = (
+  refl,
+  (
+    cpu_field x.cpu cpus few h.0,
+    (decimal_field x.level (omega (arith, h.1)), (routine_field names fit x.routine.0 h.3, tt)),
+  ),
+)
 
 dpc_clean : (names : NameLists) (fit : NamesFit names) (threaded : Bool) (r : RoutineNo) (n : List ℕ) → is_name n ≡ true → r.0 < length names.routines →
     IsRow (dpc_row names n (record { threaded = threaded; routine = r }))
@@ -166,15 +171,39 @@ apc_tail_clean names fit f User (Some n) d e h g = (e, (routine_field names fit 
 
 apc_clean : (names : NameLists) (fit : NamesFit names) (k : ApcKind) (x : ApcDecl) (n : List ℕ) → x.kind ≡ k → is_name n ≡ true → ApcFits names x →
     IsRow (apc_row names n x)
-apc_clean names fit Special x n e named h = rw e (refl, (name_field n named,
-    (thread_field names fit x.thread.0 h.thread, apc_tail_clean names fit (show_routine names x.kernel) Special x.normal x.rundown
-    (routine_field names fit x.kernel.0 h.kernel) h.normal h.rundown)))
-apc_clean names fit Normal x n e named h = rw e (refl, (name_field n named,
-    (thread_field names fit x.thread.0 h.thread, apc_tail_clean names fit (show_routine names x.kernel) Normal x.normal x.rundown
-    (routine_field names fit x.kernel.0 h.kernel) h.normal h.rundown)))
-apc_clean names fit User x n e named h = rw e (refl, (name_field n named,
-    (thread_field names fit x.thread.0 h.thread, apc_tail_clean names fit (show_routine names x.kernel) User x.normal x.rundown
-    (routine_field names fit x.kernel.0 h.kernel) h.normal h.rundown)))
+apc_clean names fit Special x n e named h = rw e (
+  refl,
+  (
+    name_field n named,
+    (
+      thread_field names fit x.thread.0 h.thread,
+      apc_tail_clean names fit (show_routine names x.kernel) Special x.normal x.rundown
+          (routine_field names fit x.kernel.0 h.kernel) h.normal h.rundown,
+    ),
+  ),
+)
+apc_clean names fit Normal x n e named h = rw e (
+  refl,
+  (
+    name_field n named,
+    (
+      thread_field names fit x.thread.0 h.thread,
+      apc_tail_clean names fit (show_routine names x.kernel) Normal x.normal x.rundown
+          (routine_field names fit x.kernel.0 h.kernel) h.normal h.rundown,
+    ),
+  ),
+)
+apc_clean names fit User x n e named h = rw e (
+  refl,
+  (
+    name_field n named,
+    (
+      thread_field names fit x.thread.0 h.thread,
+      apc_tail_clean names fit (show_routine names x.kernel) User x.normal x.rundown
+          (routine_field names fit x.kernel.0 h.kernel) h.normal h.rundown,
+    ),
+  ),
+)
 
 -- ---- parts
 
@@ -218,19 +247,20 @@ input_clean input s =
     let names = input.names in
     let script = input.script in
     let few = s.cpus.1 in
-    let head : AllRows (header_rows script.cpus script.depth script.threaded) =
-        ((refl, (decimal_field script.cpus (omega arith), tt)),
-        rows_both (depth_rows script.depth) (threaded_rows script.threaded) (depth_clean script.depth s.depth) (threaded_clean script.threaded)) in
+    let head : AllRows (header_rows script.cpus script.depth script.threaded) = (
+      (refl, (decimal_field script.cpus (omega arith), tt)),
+      rows_both (depth_rows script.depth) (threaded_rows script.threaded) (depth_clean script.depth s.depth) (threaded_clean script.threaded),
+    ) in
     let isrs = all_clean (isr_row names) (IsrFits names script.cpus) (isr_clean names s.names script.cpus few) script.isrs s.isrs in
     let dpcs = declared_clean (dpc_row names) (DpcFits names)
-        (λ x n named h. dpc_clean names s.names x.threaded x.routine n named h) [] names.dpcs script.dpcs s.names.dpcs s.dpcs in
+    (λ x n named h. dpc_clean names s.names x.threaded x.routine n named h) [] names.dpcs script.dpcs s.names.dpcs s.dpcs in
     let timers = declared_clean (timer_row names) (TimerFits names) (timer_clean names s.names) names.dpcs names.timers script.timers s.names.timers s.timers in
     let threads = declared_clean (thread_row names) (ThreadFits names script.cpus) (thread_clean names s.names script.cpus few)
-        (names.dpcs ++ names.timers) names.threads script.threads s.names.threads s.threads in
+    (names.dpcs ++ names.timers) names.threads script.threads s.names.threads s.threads in
     let apcs = declared_clean (apc_row names) (ApcFits names) (λ x n named h. apc_clean names s.names x.kind x n refl named h)
-        ((names.dpcs ++ names.timers) ++ names.threads) names.apcs script.apcs s.names.apcs s.apcs in
+    ((names.dpcs ++ names.timers) ++ names.threads) names.apcs script.apcs s.names.apcs s.apcs in
     let routines = routines_clean names s.names script.cpus few
-        (((names.dpcs ++ names.timers) ++ names.threads) ++ names.apcs) names.routines script.routines s.names.routines s.routines in
+    (((names.dpcs ++ names.timers) ++ names.threads) ++ names.apcs) names.routines script.routines s.names.routines s.routines in
     all_parts (header_rows script.cpus script.depth script.threaded) (map (isr_row names) script.isrs) (declared_rows (dpc_row names) names.dpcs script.dpcs)
-        (declared_rows (timer_row names) names.timers script.timers) (declared_rows (thread_row names) names.threads script.threads)
+    (declared_rows (timer_row names) names.timers script.timers) (declared_rows (thread_row names) names.threads script.threads)
     (declared_rows (apc_row names) names.apcs script.apcs) (routine_rows names names.routines script.routines) head isrs dpcs timers threads apcs routines

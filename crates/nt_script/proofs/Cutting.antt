@@ -82,9 +82,9 @@ lines_behind : (xs : List (List ℕ)) (more : List ℕ) → AllClean xs → line
 lines_behind [] more h = refl
 lines_behind (x ∷ xs) more h =
     let regrouped : ended (x ∷ xs) ++ more ≡ x ++ 10 ∷ (ended xs ++ more) = append_assoc (x ++ 10 ∷ []) (ended xs) more
-        ∙ append_assoc x (10 ∷ []) (ended xs ++ more) in
+    ∙ append_assoc x (10 ∷ []) (ended xs ++ more) in
     rw (regrouped, slice_split_at (is_byte 10) x 10 (ended xs ++ more) (clean_at x h.0) refl, more_lines x (ended xs ++ more))
-        (ap (λ (ls : List (List ℕ × Bool)). (x, true) ∷ ls) (lines_behind xs more h.1))
+    (ap (λ (ls : List (List ℕ × Bool)). (x, true) ∷ ls) (lines_behind xs more h.1))
 
 lines_ended : (xs : List (List ℕ)) → AllClean xs → lines (ended xs) ≡ marked xs
 lines_ended xs h = ap lines (sym (append-nil (ended xs))) ∙ lines_behind xs [] h ∙ append-nil (marked xs)
@@ -138,7 +138,7 @@ at_last : (keyword : List ℕ) (xs : List (List ℕ)) (more bytes : List ℕ) (a
 at_last keyword xs more bytes at n a m eb ea en clean none first e =
     let s = here keyword xs more clean none first in
     let one : Splits keyword bytes (length (ended xs)) (length xs + 1) = subst (λ (b : List ℕ). Splits keyword b (length (ended xs)) (length xs + 1))
-        (sym eb) s in
+    (sym eb) s in
     let two : Splits keyword bytes a (length xs + 1) = subst (λ (k : ℕ). Splits keyword bytes k (length xs + 1)) (sym ea ∙ pair_0 at n a m e) one in
     subst (λ (k : ℕ). Splits keyword bytes a k) (sym en ∙ pair_1 at n a m e) two
 
@@ -167,25 +167,25 @@ found keyword (x ∷ y ∷ more) xs bytes at n a m eb ea en cx cp none e = go (b
     go : (t : Bool) → begins keyword (x, true) ≡ t → cond t (cut_at at n) (split_from keyword (at + (length x + 1)) (n + 1) (lines_of_parts (y ∷ more)))
         ≡ cut_at a m
         → (bytes ≡ ended (xs ++ x ∷ []) ++ join_with_byte 10 (y ∷ more) → at + (length x + 1) ≡ length (ended (xs ++ x ∷ [])) → n + 1
-            ≡ length (xs ++ x ∷ []) + 1 → AllClean (xs ++ x ∷ []) → AllClean (y ∷ more) → list_any (begins keyword) (marked (xs ++ x ∷ [])) ≡ false →
-            split_from keyword (at + (length x + 1)) (n + 1) (lines_of_parts (y ∷ more)) ≡ cut_at a m → Splits keyword bytes a m)
+        ≡ length (xs ++ x ∷ []) + 1 → AllClean (xs ++ x ∷ []) → AllClean (y ∷ more) → list_any (begins keyword) (marked (xs ++ x ∷ [])) ≡ false →
+        split_from keyword (at + (length x + 1)) (n + 1) (lines_of_parts (y ∷ more)) ≡ cut_at a m → Splits keyword bytes a m)
         → Splits keyword bytes a m
     go true is e on =
         let there : lines (join_with_byte 10 (x ∷ y ∷ more)) ≡ (x, true) ∷ lines_of_parts (y ∷ more) = ap lines_of_parts (parts_again x (y ∷ more) cp) in
         at_last keyword xs (join_with_byte 10 (x ∷ y ∷ more)) bytes at n a m eb ea en cx none (rw there is) e
     go false is e on =
         let grown : ended (xs ++ x ∷ []) ≡ ended xs ++ (x ++ 10 ∷ []) = flat_map-append (λ (x : List ℕ). x ++ 10 ∷ []) xs (x ∷ [])
-            ∙ ap (λ (r : List ℕ). ended xs ++ r) (append-nil (x ++ 10 ∷ [])) in
+        ∙ ap (λ (r : List ℕ). ended xs ++ r) (append-nil (x ++ 10 ∷ [])) in
         let whole : bytes ≡ ended (xs ++ x ∷ []) ++ join_with_byte 10 (y ∷ more) = eb
-            ∙ sym (ap (λ (r : List ℕ). r ++ join_with_byte 10 (y ∷ more)) grown ∙ append_assoc (ended xs) (x ++ 10 ∷ []) (join_with_byte 10 (y ∷ more))
-            ∙ ap (λ (r : List ℕ). ended xs ++ r) (append_assoc x (10 ∷ []) (join_with_byte 10 (y ∷ more)))) in
+        ∙ sym (ap (λ (r : List ℕ). r ++ join_with_byte 10 (y ∷ more)) grown ∙ append_assoc (ended xs) (x ++ 10 ∷ []) (join_with_byte 10 (y ∷ more))
+        ∙ ap (λ (r : List ℕ). ended xs ++ r) (append_assoc x (10 ∷ []) (join_with_byte 10 (y ∷ more)))) in
         let size : length (ended (xs ++ x ∷ [])) ≡ length (ended xs) + (length x + 1) = ap length grown ∙ length-append (ended xs) (x ++ 10 ∷ [])
-            ∙ ap (λ (k : ℕ). length (ended xs) + k) (length-append x (10 ∷ [])) in
+        ∙ ap (λ (k : ℕ). length (ended xs) + k) (length-append x (10 ∷ [])) in
         let marks : list_any (begins keyword) (marked (xs ++ x ∷ []))
-            ≡ false = ap (list_any (begins keyword)) (map-append (λ (x : List ℕ). (x, true)) xs (x ∷ []))
-            ∙ list_any-append (begins keyword) (marked xs) (marked (x ∷ []))
-            ∙ or_from (list_any (begins keyword) (marked xs)) (list_any (begins keyword) (marked (x ∷ []))) none
-            (or_from (begins keyword (x, true)) false is refl) in
+        ≡ false = ap (list_any (begins keyword)) (map-append (λ (x : List ℕ). (x, true)) xs (x ∷ []))
+        ∙ list_any-append (begins keyword) (marked xs) (marked (x ∷ []))
+        ∙ or_from (list_any (begins keyword) (marked xs)) (list_any (begins keyword) (marked (x ∷ []))) none
+        (or_from (begins keyword (x, true)) false is refl) in
         on whole (omega (arith, ea, size)) (omega (arith, en, length-append xs (x ∷ []))) (clean_more xs x cx cp.0) cp.1 marks e
 
 missed : (keyword : List ℕ) (at n : ℕ) (ls : List (List ℕ × Bool)) → split_from keyword at n ls ≡ None → list_any (begins keyword) ls ≡ false

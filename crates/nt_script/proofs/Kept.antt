@@ -66,8 +66,12 @@ nowhere_append n (x ∷ xs) ys k e f = go (bytes_eq n x) e (nowhere_append n xs 
 
 new_more : (before ns : List (List ℕ)) (n : List ℕ) → AreNew before ns → is_name n ≡ true → place n (before ++ ns) ≡ None → AreNew before (ns ++ n ∷ [])
 new_more before [] n h named none = (named, subst (λ (b : List (List ℕ)). place n b ≡ None) (append-nil before) none, tt)
-new_more before (m ∷ ns) n h named none = (h.0, h.1, new_more (before ++ m ∷ []) ns n h.2 named
-    (subst (λ (b : List (List ℕ)). place n b ≡ None) (sym (append_assoc before (m ∷ []) ns)) none))
+new_more before (m ∷ ns) n h named none = (
+  h.0,
+  h.1,
+  new_more (before ++ m ∷ []) ns n h.2 named
+      (subst (λ (b : List (List ℕ)). place n b ≡ None) (sym (append_assoc before (m ∷ []) ns)) none),
+)
 
 -- a name that means nothing stands in no list
 nowhere_of : (d t h a r : Option ℕ) → is_some (or_else (option_map dpc_at d)
@@ -97,56 +101,87 @@ unknown n names e =
     let t = in_neither n names.dpcs names.timers u.0 u.1 in
     let h = in_neither n (names.dpcs ++ names.timers) names.threads t u.2 in
     let a = in_neither n ((names.dpcs ++ names.timers) ++ names.threads) names.apcs h u.3 in
-    record { dpcs = u.0; timers = t; threads = h; apcs = a;
-        routines = in_neither n (((names.dpcs ++ names.timers) ++ names.threads) ++ names.apcs) names.routines a u.4 }
+    record {
+      dpcs = u.0;
+      timers = t;
+      threads = h;
+      apcs = a;
+      routines = in_neither n (((names.dpcs ++ names.timers) ++ names.threads) ++ names.apcs) names.routines a u.4;
+    }
 
 -- a new name behind those of its kind, where nothing stands in the kinds behind it
 fit_dpc : (names : NameLists) (n : List ℕ) → NamesFit names → names.timers ≡ [] → names.threads ≡ [] → names.apcs ≡ [] → names.routines ≡ [] → is_name n
     ≡ true → is_some (meaning n names) ≡ false → NamesFit (record names { dpcs = names.dpcs ++ n ∷ [] })
 fit_dpc names n fit ntimers nthreads napcs nroutines named none =
     let u = unknown n names none in
-    record { dpcs = new_more [] names.dpcs n fit.dpcs named u.dpcs; timers = rw ntimers tt; threads = rw nthreads tt; apcs = rw napcs tt;
-        routines = rw nroutines tt }
+    record {
+      dpcs = new_more [] names.dpcs n fit.dpcs named u.dpcs;
+      timers = rw ntimers tt;
+      threads = rw nthreads tt;
+      apcs = rw napcs tt;
+      routines = rw nroutines tt;
+    }
 
 fit_timer : (names : NameLists) (n : List ℕ) → NamesFit names → names.threads ≡ [] → names.apcs ≡ [] → names.routines ≡ [] → is_name n ≡ true →
     is_some (meaning n names) ≡ false → NamesFit (record names { timers = names.timers ++ n ∷ [] })
 fit_timer names n fit nthreads napcs nroutines named none =
     let u = unknown n names none in
-    record { dpcs = fit.dpcs; timers = new_more names.dpcs names.timers n fit.timers named u.timers; threads = rw nthreads tt; apcs = rw napcs tt;
-        routines = rw nroutines tt }
+    record {
+      dpcs = fit.dpcs;
+      timers = new_more names.dpcs names.timers n fit.timers named u.timers;
+      threads = rw nthreads tt;
+      apcs = rw napcs tt;
+      routines = rw nroutines tt;
+    }
 
 fit_thread : (names : NameLists) (n : List ℕ) → NamesFit names → names.apcs ≡ [] → names.routines ≡ [] → is_name n ≡ true → is_some (meaning n names) ≡ false →
     NamesFit (record names { threads = names.threads ++ n ∷ [] })
 fit_thread names n fit napcs nroutines named none =
     let u = unknown n names none in
-    record { dpcs = fit.dpcs; timers = fit.timers; threads = new_more (names.dpcs ++ names.timers) names.threads n fit.threads named u.threads;
-        apcs = rw napcs tt; routines = rw nroutines tt }
+    record {
+      dpcs = fit.dpcs;
+      timers = fit.timers;
+      threads = new_more (names.dpcs ++ names.timers) names.threads n fit.threads named u.threads;
+      apcs = rw napcs tt;
+      routines = rw nroutines tt;
+    }
 
 fit_apc : (names : NameLists) (n : List ℕ) → NamesFit names → names.routines ≡ [] → is_name n ≡ true → is_some (meaning n names) ≡ false →
     NamesFit (record names { apcs = names.apcs ++ n ∷ [] })
 fit_apc names n fit nroutines named none =
     let u = unknown n names none in
-    record { dpcs = fit.dpcs; timers = fit.timers; threads = fit.threads;
-        apcs = new_more ((names.dpcs ++ names.timers) ++ names.threads) names.apcs n fit.apcs named u.apcs; routines = rw nroutines tt }
+    record {
+      dpcs = fit.dpcs;
+      timers = fit.timers;
+      threads = fit.threads;
+      apcs = new_more ((names.dpcs ++ names.timers) ++ names.threads) names.apcs n fit.apcs named u.apcs;
+      routines = rw nroutines tt;
+    }
 
 fit_routine : (names : NameLists) (n : List ℕ) → NamesFit names → is_name n ≡ true → is_some (meaning n names) ≡ false →
     NamesFit (record names { routines = names.routines ++ n ∷ [] })
 fit_routine names n fit named none =
     let u = unknown n names none in
-    record { dpcs = fit.dpcs; timers = fit.timers; threads = fit.threads; apcs = fit.apcs;
-        routines = new_more (((names.dpcs ++ names.timers) ++ names.threads) ++ names.apcs) names.routines n fit.routines named u.routines }
+    record {
+      dpcs = fit.dpcs;
+      timers = fit.timers;
+      threads = fit.threads;
+      apcs = fit.apcs;
+      routines = new_more (((names.dpcs ++ names.timers) ++ names.threads) ++ names.apcs) names.routines n fit.routines named u.routines;
+    }
 
 -- ---- along the lines
 
 -- the commands of the routines so far, and how many there are
-record Commanded (all : NameLists) (cpus : ℕ) (done : List Routine) (body : List Command) (commands : ℕ) : Type 0 where
-  pub count : command_count done + length body ≡ commands
-  pub most : commands ≤ COMMANDS
-  pub routines : AllByRecursion (λ r. AllByRecursion (CommandFits all cpus) r.commands) done
-  pub body : AllByRecursion (CommandFits all cpus) body
+pub record Commanded (all : NameLists) (cpus : ℕ) (rs : List Routine) (cs : List Command) (n : ℕ) : Type 0 where
+  pub count : command_count rs + length cs ≡ n
+  pub most : n ≤ COMMANDS
+  pub routines : AllByRecursion (λ r. AllByRecursion (CommandFits all cpus) r.commands) rs
+  pub body : AllByRecursion (CommandFits all cpus) cs
 
 -- what is declared so far
-record Things (all : NameLists) (cpus : ℕ) (is : List Isr) (ds : List DpcDecl) (ts : List TimerDecl) (hs : List ThreadDecl) (xs : List ApcDecl) : Type 0 where
+pub record Things (all : NameLists) (cpus : ℕ) (is : List Isr) (ds : List DpcDecl) (ts : List TimerDecl) (hs : List ThreadDecl)
+    (xs : List ApcDecl) : Type 0 where
   pub apart : isrs_differ is ≡ true
   pub isrs : AllByRecursion (IsrFits all cpus) is
   pub dpcs : AllByRecursion (DpcFits all) ds
@@ -285,7 +320,7 @@ act_kept all few w keyword.Timer args new at len e good k0 =
     })
 act_kept all few w keyword.Thread args new at len e good k0 =
     let put : List ℕ → ThreadDecl → Result Walk ScriptKind = λ name x. ok_if (nat_lt (length w.script.threads) 64) (with_thread w name x)
-        (TooMany what.Threads) in
+    (TooMany what.Threads) in
     let d = declared_ok w.names (thread_of all w.script.cpus) put args new e in
     let o = ok_if_ok (nat_lt (length w.script.threads) 64) (with_thread w d.name d.thing) (TooMany what.Threads) new d.made in
     let a = args_parts args 2 len in
@@ -326,7 +361,7 @@ act_kept all few w (keyword.Apc k) args new at len e good k0 =
     })
 act_kept all few w keyword.Routine args new at len e good k0 =
     let b = bind_ok (new_name w.names (first args)) (λ (name : List ℕ). ok_if (nat_lt (length w.script.routines) 256) (with_routine w name)
-        (TooMany what.Routines)) new e in
+    (TooMany what.Routines)) new e in
     let o = ok_if_ok (nat_lt (length w.script.routines) 256) (with_routine w b.value) (TooMany what.Routines) new b.then in
     let f = (new_name_takes w.names).fits (first args) b.value b.is in
     subst (Kept all) o.1 (record {

@@ -50,8 +50,14 @@ rows_both a b = flat_map-append row_text a b
 
 parts_text : (h i d t s a o : List Row) → rows_text (h ++ (i ++ (d ++ (t ++ (s ++ (a ++ o))))))
     ≡ (((((rows_text h ++ rows_text i) ++ rows_text d) ++ rows_text t) ++ rows_text s) ++ rows_text a) ++ rows_text o
-parts_text h i d t s a o = rw (rows_both h (i ++ (d ++ (t ++ (s ++ (a ++ o))))), rows_both i (d ++ (t ++ (s ++ (a ++ o)))), rows_both d (t ++ (s ++ (a ++ o))),
-    rows_both t (s ++ (a ++ o)), rows_both s (a ++ o), rows_both a o) (simp append_assoc)
+parts_text h i d t s a o = rw (
+  rows_both h (i ++ (d ++ (t ++ (s ++ (a ++ o))))),
+  rows_both i (d ++ (t ++ (s ++ (a ++ o)))),
+  rows_both d (t ++ (s ++ (a ++ o))),
+  rows_both t (s ++ (a ++ o)),
+  rows_both s (a ++ o),
+  rows_both a o,
+) (simp append_assoc)
 
 joined : (o1 o2 o3 o4 o5 o6 o7 h i d t s a r : List ℕ) → o1 ≡ h → o2 ≡ o1 ++ i → o3 ≡ o2 ++ d → o4 ≡ o3 ++ t → o5 ≡ o4 ++ s → o6 ≡ o5 ++ a → o7 ≡ o6 ++ r → o7
     ≡ (((((h ++ i) ++ d) ++ t) ++ s) ++ a) ++ r
@@ -60,12 +66,12 @@ joined o1 o2 o3 o4 o5 o6 o7 h i d t s a r e1 e2 e3 e4 e5 e6 e7 = rw (e7, e6, e5,
 pub printed : (input : Input) (o0 o1 o2 o3 o4 o5 o6 o7 : List ℕ) (is : List Isr) (ds : List DpcDecl) (ts : List TimerDecl) (hs : List ThreadDecl)
     (apcs : List ApcDecl) (rs : List Routine)
     → is ≡ input.script.isrs → ds ≡ input.script.dpcs → ts ≡ input.script.timers → hs ≡ input.script.threads → apcs ≡ input.script.apcs → rs
-        ≡ input.script.routines
+    ≡ input.script.routines
     → o0 ≡ [] → o1 ≡ o0 ++ rows_text (header_rows input.script.cpus input.script.depth input.script.threaded) → o2 ≡ o1
-        ++ rows_text (map (isr_row input.names) is) → o3 ≡ o2 ++ rows_text (declared_rows (dpc_row input.names) input.names.dpcs ds)
+    ++ rows_text (map (isr_row input.names) is) → o3 ≡ o2 ++ rows_text (declared_rows (dpc_row input.names) input.names.dpcs ds)
     → o4 ≡ o3 ++ rows_text (declared_rows (timer_row input.names) input.names.timers ts) → o5 ≡ o4
-        ++ rows_text (declared_rows (thread_row input.names) input.names.threads hs) → o6 ≡ o5
-        ++ rows_text (declared_rows (apc_row input.names) input.names.apcs apcs)
+    ++ rows_text (declared_rows (thread_row input.names) input.names.threads hs) → o6 ≡ o5
+    ++ rows_text (declared_rows (apc_row input.names) input.names.apcs apcs)
     → o7 ≡ o6 ++ rows_text (routine_rows input.names input.names.routines rs) → o7 ≡ text input
 printed input o0 o1 o2 o3 o4 o5 o6 o7 is ds ts hs apcs rs ei ed et eh ea er e0 e1 e2 e3 e4 e5 e6 e7 =
     let names = input.names in
@@ -77,5 +83,5 @@ printed input o0 o1 o2 o3 o4 o5 o6 o7 is ds ts hs apcs rs ei ed et eh ea er e0 e
     let a = declared_rows (apc_row names) names.apcs input.script.apcs in
     let r = routine_rows names names.routines input.script.routines in
     let whole = joined o1 o2 o3 o4 o5 o6 o7 (rows_text h) (rows_text i) (rows_text d) (rows_text t) (rows_text s) (rows_text a) (rows_text r)
-        (e1 ∙ ap (λ (o : List ℕ). o ++ rows_text h) e0) (rw (← ei) e2) (rw (← ed) e3) (rw (← et) e4) (rw (← eh) e5) (rw (← ea) e6) (rw (← er) e7) in
+    (e1 ∙ ap (λ (o : List ℕ). o ++ rows_text h) e0) (rw (← ei) e2) (rw (← ed) e3) (rw (← et) e4) (rw (← eh) e5) (rw (← ea) e6) (rw (← er) e7) in
     rw (parts_text h i d t s a r) whole

@@ -155,7 +155,7 @@ timer_to s names cs x h = given_to (has_dpc s) (λ d. d.0 < length names.dpcs) (
 apc_from : (s : Script) (names : NameLists) → Counts s names → (x : ApcDecl) → apc_fits s x ≡ true → ApcFits names x
 apc_from s names cs x e =
     let f = five (has_thread s x.thread) (has_routine s x.kernel) (where_given (has_routine s) x.normal) (where_given (has_routine s) x.rundown)
-        (apc_has_its_routines x.kind x.normal x.rundown) e in
+    (apc_has_its_routines x.kind x.normal x.rundown) e in
     record {
       thread = below x.thread.0 (length names.threads) (length s.threads) cs.threads f.0;
       kernel = routine_from s names cs x.kernel f.1;
@@ -171,10 +171,10 @@ apc_to s names cs x h =
     let n = given_to (has_routine s) (λ r. r.0 < length names.routines) (routine_to s names cs) x.normal h.normal in
     let d = given_to (has_routine s) (λ r. r.0 < length names.routines) (routine_to s names cs) x.rundown h.rundown in
     and_from (has_thread s x.thread && has_routine s x.kernel && where_given (has_routine s) x.normal && where_given (has_routine s) x.rundown)
-        (apc_has_its_routines x.kind x.normal x.rundown)
+    (apc_has_its_routines x.kind x.normal x.rundown)
     (and_from (has_thread s x.thread && has_routine s x.kernel && where_given (has_routine s) x.normal) (where_given (has_routine s) x.rundown)
     (and_from (has_thread s x.thread && has_routine s x.kernel) (where_given (has_routine s) x.normal)
-        (and_from (has_thread s x.thread) (has_routine s x.kernel) t k) n) d) h.routines
+    (and_from (has_thread s x.thread) (has_routine s x.kernel) t k) n) d) h.routines
 
 pub command_from : (s : Script) (names : NameLists) → Counts s names → (c : Command) → command_fits s c ≡ true → HasRange c → CommandFits names s.cpus c
 command_from s names cs (cmd.Raise level) e h = h
@@ -210,8 +210,11 @@ command_to s names cs (cmd.Lower level) h = (refl, h)
 command_to s names cs (cmd.Queue d) h = (below_test d.0 (length names.dpcs) (length s.dpcs) cs.dpcs h, tt)
 command_to s names cs (cmd.Unqueue d) h = (below_test d.0 (length names.dpcs) (length s.dpcs) cs.dpcs h, tt)
 command_to s names cs (cmd.SetImportance d importance) h = (below_test d.0 (length names.dpcs) (length s.dpcs) cs.dpcs h.0, tt)
-command_to s names cs (cmd.SetTarget d target) h = (and_from (has_dpc s d) (where_given (has_cpu s) target)
-    (below_test d.0 (length names.dpcs) (length s.dpcs) cs.dpcs h.0) (given_to (has_cpu s) (λ p. p.0 < s.cpus) (λ p t. lt-ltb p.0 s.cpus t) target h.1), tt)
+command_to s names cs (cmd.SetTarget d target) h = (
+  and_from (has_dpc s d) (where_given (has_cpu s) target)
+      (below_test d.0 (length names.dpcs) (length s.dpcs) cs.dpcs h.0) (given_to (has_cpu s) (λ p. p.0 < s.cpus) (λ p t. lt-ltb p.0 s.cpus t) target h.1),
+  tt,
+)
 command_to s names cs (cmd.SetTimer t due period) h = (below_test t.0 (length names.timers) (length s.timers) cs.timers h.0, (h.1, h.2))
 command_to s names cs (cmd.CancelTimer t) h = (below_test t.0 (length names.timers) (length s.timers) cs.timers h, tt)
 command_to s names cs (cmd.InsertApc a) h = (below_test a.0 (length names.apcs) (length s.apcs) cs.apcs h, tt)
@@ -268,10 +271,10 @@ sound_fits input i =
     let names = input.names in
     let cs : Counts s names = record { dpcs = i.dpcs; timers = i.timers; threads = i.threads; apcs = i.apcs; routines = i.routines } in
     let f = eight (meets_limits s) (list_all (isr_fits s) s.isrs) (isrs_differ s.isrs) (list_all (dpc_fits s) s.dpcs) (list_all (timer_fits s) s.timers)
-        (list_all (thread_fits s) s.threads) (list_all (apc_fits s) s.apcs) (list_all (routine_fits s) s.routines) i.fits in
+    (list_all (thread_fits s) s.threads) (list_all (apc_fits s) s.apcs) (list_all (routine_fits s) s.routines) i.fits in
     let m = nine (nat_le 1 s.cpus) (nat_le s.cpus 64) (where_given (λ depth. nat_le depth 256) s.depth) (nat_le (length s.threads) 64)
-        (nat_le (length s.timers) 64) (nat_le (length s.dpcs) 256) (nat_le (length s.apcs) 256) (nat_le (length s.routines) 256)
-        (nat_le (command_count s.routines) 8192) f.0 in
+    (nat_le (length s.timers) 64) (nat_le (length s.dpcs) 256) (nat_le (length s.apcs) 256) (nat_le (length s.routines) 256)
+    (nat_le (command_count s.routines) 8192) f.0 in
     let at_most : (n most k : ℕ) → k ≡ n → nat_le n most ≡ true → k ≤ most = λ n most k e t. (let le = leb-true n most t in omega (arith, e, le)) in
     record {
       cpus = (leb-true 1 s.cpus m.0, i.cpus);
@@ -306,23 +309,23 @@ fit_sound input i =
     let cs : Counts s names = record { dpcs = i.dpc_count; timers = i.timer_count; threads = i.thread_count; apcs = i.apc_count; routines = i.routine_count } in
     let at_most : (n most k : ℕ) → k ≡ n → k ≤ most → nat_le n most ≡ true = λ n most k e h. le-leb n most (omega (arith, e, h)) in
     let limits : meets_limits s ≡ true = nine_from (nat_le 1 s.cpus) (nat_le s.cpus 64) (where_given (λ depth. nat_le depth 256) s.depth)
-        (nat_le (length s.threads) 64) (nat_le (length s.timers) 64) (nat_le (length s.dpcs) 256) (nat_le (length s.apcs) 256) (nat_le (length s.routines) 256)
-        (nat_le (command_count s.routines) 8192)
+    (nat_le (length s.threads) 64) (nat_le (length s.timers) 64) (nat_le (length s.dpcs) 256) (nat_le (length s.apcs) 256) (nat_le (length s.routines) 256)
+    (nat_le (command_count s.routines) 8192)
     (le-leb 1 s.cpus i.cpus.0) (le-leb s.cpus 64 (omega (arith, i.cpus.1)))
-        (given_to (λ depth. nat_le depth 256) (λ n. n ≤ 256) (λ n h. le-leb n 256 h) s.depth i.depth)
+    (given_to (λ depth. nat_le depth 256) (λ n. n ≤ 256) (λ n h. le-leb n 256 h) s.depth i.depth)
     (at_most (length s.threads) 64 (length names.threads) i.thread_count i.few.threads)
-        (at_most (length s.timers) 64 (length names.timers) i.timer_count i.few.timers) (at_most (length s.dpcs) 256 (length names.dpcs) i.dpc_count i.few.dpcs)
+    (at_most (length s.timers) 64 (length names.timers) i.timer_count i.few.timers) (at_most (length s.dpcs) 256 (length names.dpcs) i.dpc_count i.few.dpcs)
     (at_most (length s.apcs) 256 (length names.apcs) i.apc_count i.few.apcs)
-        (at_most (length s.routines) 256 (length names.routines) i.routine_count i.few.routines) (le-leb (command_count s.routines) 8192 i.command_count) in
+    (at_most (length s.routines) 256 (length names.routines) i.routine_count i.few.routines) (le-leb (command_count s.routines) 8192 i.command_count) in
     let r = routines_to s names cs s.routines i.routines in
     record {
       fits = eight_from (meets_limits s) (list_all (isr_fits s) s.isrs) (isrs_differ s.isrs) (list_all (dpc_fits s) s.dpcs) (list_all (timer_fits s) s.timers)
           (list_all (thread_fits s) s.threads) (list_all (apc_fits s) s.apcs) (list_all (routine_fits s) s.routines)
           limits (all_to (isr_fits s) (IsrFits names s.cpus) (isr_to s names cs) s.isrs i.isrs) i.apart
-              (all_to (dpc_fits s) (DpcFits names) (λ d h. routine_to s names cs d.routine h) s.dpcs i.dpcs)
-              (all_to (timer_fits s) (TimerFits names) (timer_to s names cs) s.timers i.timers)
+          (all_to (dpc_fits s) (DpcFits names) (λ d h. routine_to s names cs d.routine h) s.dpcs i.dpcs)
+          (all_to (timer_fits s) (TimerFits names) (timer_to s names cs) s.timers i.timers)
           (all_to (thread_fits s) (ThreadFits names s.cpus) (thread_to s names cs) s.threads i.threads)
-              (all_to (apc_fits s) (ApcFits names) (apc_to s names cs) s.apcs i.apcs) r.0;
+          (all_to (apc_fits s) (ApcFits names) (apc_to s names cs) s.apcs i.apcs) r.0;
       cpus = i.cpus.1;
       ranges = r.1;
       dpcs = i.dpc_count;

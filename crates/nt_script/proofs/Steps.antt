@@ -121,10 +121,10 @@ cpus_taken all w n at g =
     let no = nothing all w g in
     let none = at_start w.place w.script.cpus w.script.depth w.script.threaded at.1 in
     grow_heads (heads w.place w) (heads HasCpus (with_cpus w n)) (isrs all w) (dpcs all w) (timers all w) (threads all w) (apcs all w) (routines all w)
-        (number_row keyword.Cpus n ∷ [])
+    (number_row keyword.Cpus n ∷ [])
     (rw (none, g.later.depth (omega (arith, at.1)), g.later.threaded (omega (arith, at.1))) refl)
     (no.no_isrs (omega (arith, at.1))) (no.no_dpcs (omega (arith, at.1))) (no.no_timers (omega (arith, at.1))) (no.no_threads (omega (arith, at.1)))
-        (no.no_apcs (omega (arith, at.1))) (no.no_routines (omega (arith, at.1)))
+    (no.no_apcs (omega (arith, at.1))) (no.no_routines (omega (arith, at.1)))
 
 depth_later : (w : Walk) (n : ℕ) → Between 1 1 w.place → Good w → Later 2 (with_depth w n)
 depth_later w n at g = record {
@@ -149,10 +149,10 @@ depth_taken all w n at g =
     let no = nothing all w g in
     let there = has_head w.place w.script.cpus w.script.depth w.script.threaded at.0 in
     grow_heads (heads w.place w) (heads HasDepth (with_depth w n)) (isrs all w) (dpcs all w) (timers all w) (threads all w) (apcs all w) (routines all w)
-        (number_row keyword.Depth n ∷ [])
+    (number_row keyword.Depth n ∷ [])
     (rw (there, g.later.depth (omega (arith, at.1)), g.later.threaded (omega (arith, at.1))) refl)
     (no.no_isrs (omega (arith, at.1))) (no.no_dpcs (omega (arith, at.1))) (no.no_timers (omega (arith, at.1))) (no.no_threads (omega (arith, at.1)))
-        (no.no_apcs (omega (arith, at.1))) (no.no_routines (omega (arith, at.1)))
+    (no.no_apcs (omega (arith, at.1))) (no.no_routines (omega (arith, at.1)))
 
 threaded_later : (w : Walk) (on : Bool) → Between 1 2 w.place → Good w → Later 3 (with_threaded w on)
 threaded_later w on at g = record {
@@ -182,10 +182,10 @@ threaded_taken all w on at g =
     let there = has_head w.place w.script.cpus w.script.depth w.script.threaded at.0 in
     let row = text_of keyword.Threaded ∷ on_off_text on ∷ [] in
     grow_heads (heads w.place w) (heads HasThreaded (with_threaded w on)) (isrs all w) (dpcs all w) (timers all w) (threads all w) (apcs all w)
-        (routines all w) (row ∷ [])
+    (routines all w) (row ∷ [])
     (rw (there, g.later.threaded (omega (arith, at.1))) (last_head (number_row keyword.Cpus w.script.cpus) (depth_rows w.script.depth) row))
     (no.no_isrs (omega (arith, at.1))) (no.no_dpcs (omega (arith, at.1))) (no.no_timers (omega (arith, at.1))) (no.no_threads (omega (arith, at.1)))
-        (no.no_apcs (omega (arith, at.1))) (no.no_routines (omega (arith, at.1)))
+    (no.no_apcs (omega (arith, at.1))) (no.no_routines (omega (arith, at.1)))
 
 -- ---- the parts
 
@@ -210,10 +210,10 @@ pub isr_taken : (all : NameLists) (w : Walk) (x : Isr) → Between 1 4 w.place �
 isr_taken all w x at g =
     let no = nothing all w g in
     grow_isrs (heads w.place w) (heads InIsrs w) (isrs all w) (isrs all (with_isr w x)) (dpcs all w) (timers all w) (threads all w) (apcs all w)
-        (routines all w) (isr_row all x ∷ []) (sym (has_head w.place w.script.cpus w.script.depth w.script.threaded at.0))
-        (map-append (isr_row all) w.script.isrs (x ∷ []))
+    (routines all w) (isr_row all x ∷ []) (sym (has_head w.place w.script.cpus w.script.depth w.script.threaded at.0))
+    (map-append (isr_row all) w.script.isrs (x ∷ []))
     (no.no_dpcs (omega (arith, at.1))) (no.no_timers (omega (arith, at.1))) (no.no_threads (omega (arith, at.1))) (no.no_apcs (omega (arith, at.1)))
-        (no.no_routines (omega (arith, at.1)))
+    (no.no_routines (omega (arith, at.1)))
 
 dpc_later : (w : Walk) (name : List ℕ) (x : DpcDecl) → Between 1 5 w.place → Good w → Later 5 (with_dpc w name x)
 dpc_later w name x at g = record {
@@ -230,16 +230,21 @@ dpc_later w name x at g = record {
 }
 
 pub dpc_good : (w : Walk) (name : List ℕ) (x : DpcDecl) → Between 1 5 w.place → Good w → Good (with_dpc w name x)
-dpc_good w name x at g = record { dpcs = one_longer w.names.dpcs w.script.dpcs name x g.dpcs; timers = g.timers; threads = g.threads; apcs = g.apcs;
-    later = dpc_later w name x at g }
+dpc_good w name x at g = record {
+  dpcs = one_longer w.names.dpcs w.script.dpcs name x g.dpcs;
+  timers = g.timers;
+  threads = g.threads;
+  apcs = g.apcs;
+  later = dpc_later w name x at g;
+}
 
 pub dpc_taken : (all : NameLists) (w : Walk) (name : List ℕ) (x : DpcDecl) → Between 1 5 w.place → Good w → so_far all (with_dpc w name x) ≡ so_far all w
     ++ dpc_row all name x ∷ []
 dpc_taken all w name x at g =
     let no = nothing all w g in
     grow_dpcs (heads w.place w) (heads InDpcs w) (isrs all w) (dpcs all w) (dpcs all (with_dpc w name x)) (timers all w) (threads all w) (apcs all w)
-        (routines all w) (dpc_row all name x ∷ []) (sym (has_head w.place w.script.cpus w.script.depth w.script.threaded at.0))
-        (declared_more (dpc_row all) w.names.dpcs w.script.dpcs name x g.dpcs)
+    (routines all w) (dpc_row all name x ∷ []) (sym (has_head w.place w.script.cpus w.script.depth w.script.threaded at.0))
+    (declared_more (dpc_row all) w.names.dpcs w.script.dpcs name x g.dpcs)
     (no.no_timers (omega (arith, at.1))) (no.no_threads (omega (arith, at.1))) (no.no_apcs (omega (arith, at.1))) (no.no_routines (omega (arith, at.1)))
 
 timer_later : (w : Walk) (name : List ℕ) (x : TimerDecl) → Between 1 6 w.place → Good w → Later 6 (with_timer w name x)
@@ -257,16 +262,21 @@ timer_later w name x at g = record {
 }
 
 pub timer_good : (w : Walk) (name : List ℕ) (x : TimerDecl) → Between 1 6 w.place → Good w → Good (with_timer w name x)
-timer_good w name x at g = record { dpcs = g.dpcs; timers = one_longer w.names.timers w.script.timers name x g.timers; threads = g.threads; apcs = g.apcs;
-    later = timer_later w name x at g }
+timer_good w name x at g = record {
+  dpcs = g.dpcs;
+  timers = one_longer w.names.timers w.script.timers name x g.timers;
+  threads = g.threads;
+  apcs = g.apcs;
+  later = timer_later w name x at g;
+}
 
 pub timer_taken : (all : NameLists) (w : Walk) (name : List ℕ) (x : TimerDecl) → Between 1 6 w.place → Good w → so_far all (with_timer w name x) ≡ so_far all w
     ++ timer_row all name x ∷ []
 timer_taken all w name x at g =
     let no = nothing all w g in
     grow_timers (heads w.place w) (heads InTimers w) (isrs all w) (dpcs all w) (timers all w) (timers all (with_timer w name x)) (threads all w) (apcs all w)
-        (routines all w) (timer_row all name x ∷ []) (sym (has_head w.place w.script.cpus w.script.depth w.script.threaded at.0))
-        (declared_more (timer_row all) w.names.timers w.script.timers name x g.timers)
+    (routines all w) (timer_row all name x ∷ []) (sym (has_head w.place w.script.cpus w.script.depth w.script.threaded at.0))
+    (declared_more (timer_row all) w.names.timers w.script.timers name x g.timers)
     (no.no_threads (omega (arith, at.1))) (no.no_apcs (omega (arith, at.1))) (no.no_routines (omega (arith, at.1)))
 
 thread_later : (w : Walk) (name : List ℕ) (x : ThreadDecl) → Between 1 7 w.place → Good w → Later 7 (with_thread w name x)
@@ -284,16 +294,21 @@ thread_later w name x at g = record {
 }
 
 pub thread_good : (w : Walk) (name : List ℕ) (x : ThreadDecl) → Between 1 7 w.place → Good w → Good (with_thread w name x)
-thread_good w name x at g = record { dpcs = g.dpcs; timers = g.timers; threads = one_longer w.names.threads w.script.threads name x g.threads; apcs = g.apcs;
-    later = thread_later w name x at g }
+thread_good w name x at g = record {
+  dpcs = g.dpcs;
+  timers = g.timers;
+  threads = one_longer w.names.threads w.script.threads name x g.threads;
+  apcs = g.apcs;
+  later = thread_later w name x at g;
+}
 
 pub thread_taken : (all : NameLists) (w : Walk) (name : List ℕ) (x : ThreadDecl) → Between 1 7 w.place → Good w → so_far all (with_thread w name x)
     ≡ so_far all w ++ thread_row all name x ∷ []
 thread_taken all w name x at g =
     let no = nothing all w g in
     grow_threads (heads w.place w) (heads InThreads w) (isrs all w) (dpcs all w) (timers all w) (threads all w) (threads all (with_thread w name x))
-        (apcs all w) (routines all w) (thread_row all name x ∷ []) (sym (has_head w.place w.script.cpus w.script.depth w.script.threaded at.0))
-        (declared_more (thread_row all) w.names.threads w.script.threads name x g.threads)
+    (apcs all w) (routines all w) (thread_row all name x ∷ []) (sym (has_head w.place w.script.cpus w.script.depth w.script.threaded at.0))
+    (declared_more (thread_row all) w.names.threads w.script.threads name x g.threads)
     (no.no_apcs (omega (arith, at.1))) (no.no_routines (omega (arith, at.1)))
 
 apc_later : (w : Walk) (name : List ℕ) (x : ApcDecl) → Between 1 8 w.place → Good w → Later 8 (with_apc w name x)
@@ -311,16 +326,21 @@ apc_later w name x at g = record {
 }
 
 pub apc_good : (w : Walk) (name : List ℕ) (x : ApcDecl) → Between 1 8 w.place → Good w → Good (with_apc w name x)
-apc_good w name x at g = record { dpcs = g.dpcs; timers = g.timers; threads = g.threads; apcs = one_longer w.names.apcs w.script.apcs name x g.apcs;
-    later = apc_later w name x at g }
+apc_good w name x at g = record {
+  dpcs = g.dpcs;
+  timers = g.timers;
+  threads = g.threads;
+  apcs = one_longer w.names.apcs w.script.apcs name x g.apcs;
+  later = apc_later w name x at g;
+}
 
 pub apc_taken : (all : NameLists) (w : Walk) (name : List ℕ) (x : ApcDecl) → Between 1 8 w.place → Good w → so_far all (with_apc w name x) ≡ so_far all w
     ++ apc_row all name x ∷ []
 apc_taken all w name x at g =
     let no = nothing all w g in
     grow_apcs (heads w.place w) (heads InApcs w) (isrs all w) (dpcs all w) (timers all w) (threads all w) (apcs all w) (apcs all (with_apc w name x))
-        (routines all w) (apc_row all name x ∷ []) (sym (has_head w.place w.script.cpus w.script.depth w.script.threaded at.0))
-        (declared_more (apc_row all) w.names.apcs w.script.apcs name x g.apcs)
+    (routines all w) (apc_row all name x ∷ []) (sym (has_head w.place w.script.cpus w.script.depth w.script.threaded at.0))
+    (declared_more (apc_row all) w.names.apcs w.script.apcs name x g.apcs)
     (no.no_routines (omega (arith, at.1)))
 
 routine_later : (w : Walk) (name : List ℕ) → Between 1 9 w.place → Good w → Later 10 (with_routine w name)
@@ -345,8 +365,8 @@ pub routine_taken : (all : NameLists) (w : Walk) (name : List ℕ) → Between 1
 routine_taken all w name at g =
     let l = g.later.closed (omega (arith, at.1)) in
     grow_routines (heads w.place w) (heads InRoutine w) (isrs all w) (dpcs all w) (timers all w) (threads all w) (apcs all w) (routines all w)
-        (routines all (with_routine w name)) ((text_of keyword.Routine ∷ name ∷ []) ∷ [])
-        (sym (has_head w.place w.script.cpus w.script.depth w.script.threaded at.0))
+    (routines all (with_routine w name)) ((text_of keyword.Routine ∷ name ∷ []) ∷ [])
+    (sym (has_head w.place w.script.cpus w.script.depth w.script.threaded at.0))
     (rw l.0 (routine_more all w.names.routines w.script.routines name l.1))
 
 -- in a routine
@@ -374,8 +394,8 @@ pub exit_taken : (all : NameLists) (w : Walk) → Between 10 10 w.place → Good
 exit_taken all w at g =
     let low : 1 ≤ order w.place = omega (arith, at.0) in
     grow_routines (heads w.place w) (heads InRoutines w) (isrs all w) (dpcs all w) (timers all w) (threads all w) (apcs all w) (routines all w)
-        (routines all (with_exit w)) (exit_row ∷ []) (sym (has_head w.place w.script.cpus w.script.depth w.script.threaded low))
-        (exit_more all w.body w.names.routines w.script.routines (inside w at g))
+    (routines all (with_exit w)) (exit_row ∷ []) (sym (has_head w.place w.script.cpus w.script.depth w.script.threaded low))
+    (exit_more all w.body w.names.routines w.script.routines (inside w at g))
 
 pub command_good : (w : Walk) (c : Command) → Between 10 10 w.place → Good w → Good (with_command w c)
 command_good w c at g = record {
@@ -401,4 +421,4 @@ pub command_taken : (all : NameLists) (w : Walk) (c : Command) → Between 10 10
     ++ command_row all c ∷ []
 command_taken all w c at g =
     grow_routines (heads w.place w) (heads w.place w) (isrs all w) (dpcs all w) (timers all w) (threads all w) (apcs all w) (routines all w)
-        (routines all (with_command w c)) (command_row all c ∷ []) refl (command_more all w.body w.names.routines w.script.routines c (inside w at g))
+    (routines all (with_command w c)) (command_row all c ∷ []) refl (command_more all w.body w.names.routines w.script.routines c (inside w at g))

@@ -113,12 +113,18 @@ pub record Line (all : NameLists) (w : Walk) (row : Row) (new : Walk) : Type 0 w
 pub step_ok : (all : NameLists) (w : Walk) (row : Row) (new : Walk) → step all w row ≡ Ok new → Line all w row new
 step_ok all w row new e =
     let b = bind_ok (keyword_at w.place (keyword_of (first row)))
-        (λ (keyword : Keyword). counted (length (rest row)) (arity keyword) >>= λ (b : Bool). act all w keyword (rest row)) new e in
+    (λ (keyword : Keyword). counted (length (rest row)) (arity keyword) >>= λ (b : Bool). act all w keyword (rest row)) new e in
     let keyword = b.value in
     let o = at_ok w.place (keyword_of (first row)) keyword b.is in
     let k = bind_ok (counted (length (rest row)) (arity keyword)) (λ (b : Bool). act all w keyword (rest row)) new b.then in
-    record { keyword = keyword; is = o.0; row_is = row_parts row keyword (first_keyword (first row) keyword o.0); at = o.1;
-        count = counted_ok (length (rest row)) (arity keyword) k.value k.is; acts = k.then }
+    record {
+      keyword = keyword;
+      is = o.0;
+      row_is = row_parts row keyword (first_keyword (first row) keyword o.0);
+      at = o.1;
+      count = counted_ok (length (rest row)) (arity keyword) k.value k.is;
+      acts = k.then;
+    }
 
 -- ---- a name and what it is the name of
 
@@ -138,8 +144,15 @@ declared_ok {A = A} names read put args new e =
     let b = bind_ok (new_name names (first args)) (λ (name : List ℕ). read (rest args) >>= λ (x : A). put name x) new e in
     let t = new_name_takes names in
     let d = bind_ok (read (rest args)) (λ (x : A). put b.value x) new b.then in
-    record { name = b.value; thing = d.value; first_is = t.shown (first args) b.value b.is; named = (t.fits (first args) b.value b.is).0;
-        none = (t.fits (first args) b.value b.is).1; read_is = d.is; made = d.then }
+    record {
+      name = b.value;
+      thing = d.value;
+      first_is = t.shown (first args) b.value b.is;
+      named = (t.fits (first args) b.value b.is).0;
+      none = (t.fits (first args) b.value b.is).1;
+      read_is = d.is;
+      made = d.then;
+    }
 
 -- some fields are the first one and the others
 pub args_parts : (args : Row) (n : ℕ) → length args ≡ suc n → (args ≡ first args ∷ rest args) × (length (rest args) ≡ n)

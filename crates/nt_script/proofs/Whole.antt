@@ -67,7 +67,7 @@ act_named all w keyword.Threaded row new is at e good few =
     subst (Named w row) (ok_is (with_threaded w b.value) new b.then) (record { names = rw is refl; few = few; good = threaded_good w b.value at good })
 act_named all w keyword.Isr row new is at e good few =
     let b = bind_ok (isr_of all w.script.cpus (rest row))
-        (λ isr. ok_if (is_none (isr_routine w.script.isrs isr.cpu isr.level)) (with_isr w isr) NameTwice) new e in
+    (λ isr. ok_if (is_none (isr_routine w.script.isrs isr.cpu isr.level)) (with_isr w isr) NameTwice) new e in
     let o = ok_if_ok (is_none (isr_routine w.script.isrs b.value.cpu b.value.level)) (with_isr w b.value) NameTwice new b.then in
     subst (Named w row) o.1 (record { names = rw is refl; few = few; good = isr_good w b.value at good })
 act_named all w (keyword.Dpc b) row new is at e good few =
@@ -76,8 +76,13 @@ act_named all w (keyword.Dpc b) row new is at e good few =
     let o = ok_if_ok (nat_lt (length w.script.dpcs) 256) (with_dpc w d.name d.thing) (TooMany what.Dpcs) new d.made in
     subst (Named w row) o.1 (record {
       names = new_declared kind.Dpc w.names row (keyword.Dpc b) d.name is refl d.first_is d.named d.none;
-      few = record { dpcs = fits_more w.names.dpcs d.name (length w.script.dpcs) 256 good.dpcs o.0; timers = few.timers; threads = few.threads;
-          apcs = few.apcs; routines = few.routines };
+      few = record {
+        dpcs = fits_more w.names.dpcs d.name (length w.script.dpcs) 256 good.dpcs o.0;
+        timers = few.timers;
+        threads = few.threads;
+        apcs = few.apcs;
+        routines = few.routines;
+      };
       good = dpc_good w d.name d.thing at good;
     })
 act_named all w keyword.Timer row new is at e good few =
@@ -86,19 +91,29 @@ act_named all w keyword.Timer row new is at e good few =
     let o = ok_if_ok (nat_lt (length w.script.timers) 64) (with_timer w d.name d.thing) (TooMany what.Timers) new d.made in
     subst (Named w row) o.1 (record {
       names = new_declared kind.Timer w.names row keyword.Timer d.name is refl d.first_is d.named d.none;
-      few = record { dpcs = few.dpcs; timers = fits_more w.names.timers d.name (length w.script.timers) 64 good.timers o.0; threads = few.threads;
-          apcs = few.apcs; routines = few.routines };
+      few = record {
+        dpcs = few.dpcs;
+        timers = fits_more w.names.timers d.name (length w.script.timers) 64 good.timers o.0;
+        threads = few.threads;
+        apcs = few.apcs;
+        routines = few.routines;
+      };
       good = timer_good w d.name d.thing at good;
     })
 act_named all w keyword.Thread row new is at e good few =
     let put : List ℕ → ThreadDecl → Result Walk ScriptKind = λ name x. ok_if (nat_lt (length w.script.threads) 64) (with_thread w name x)
-        (TooMany what.Threads) in
+    (TooMany what.Threads) in
     let d = declared_ok w.names (thread_of all w.script.cpus) put (rest row) new e in
     let o = ok_if_ok (nat_lt (length w.script.threads) 64) (with_thread w d.name d.thing) (TooMany what.Threads) new d.made in
     subst (Named w row) o.1 (record {
       names = new_declared kind.Thread w.names row keyword.Thread d.name is refl d.first_is d.named d.none;
-      few = record { dpcs = few.dpcs; timers = few.timers; threads = fits_more w.names.threads d.name (length w.script.threads) 64 good.threads o.0;
-          apcs = few.apcs; routines = few.routines };
+      few = record {
+        dpcs = few.dpcs;
+        timers = few.timers;
+        threads = fits_more w.names.threads d.name (length w.script.threads) 64 good.threads o.0;
+        apcs = few.apcs;
+        routines = few.routines;
+      };
       good = thread_good w d.name d.thing at good;
     })
 act_named all w (keyword.Apc k) row new is at e good few =
@@ -107,21 +122,31 @@ act_named all w (keyword.Apc k) row new is at e good few =
     let o = ok_if_ok (nat_lt (length w.script.apcs) 256) (with_apc w d.name d.thing) (TooMany what.Apcs) new d.made in
     subst (Named w row) o.1 (record {
       names = new_declared kind.Apc w.names row (keyword.Apc k) d.name is refl d.first_is d.named d.none;
-      few = record { dpcs = few.dpcs; timers = few.timers; threads = few.threads;
-          apcs = fits_more w.names.apcs d.name (length w.script.apcs) 256 good.apcs o.0; routines = few.routines };
+      few = record {
+        dpcs = few.dpcs;
+        timers = few.timers;
+        threads = few.threads;
+        apcs = fits_more w.names.apcs d.name (length w.script.apcs) 256 good.apcs o.0;
+        routines = few.routines;
+      };
       good = apc_good w d.name d.thing at good;
     })
 act_named all w keyword.Routine row new is at e good few =
     let b = bind_ok (new_name w.names (first (rest row)))
-        (λ (name : List ℕ). ok_if (nat_lt (length w.script.routines) 256) (with_routine w name) (TooMany what.Routines)) new e in
+    (λ (name : List ℕ). ok_if (nat_lt (length w.script.routines) 256) (with_routine w name) (TooMany what.Routines)) new e in
     let o = ok_if_ok (nat_lt (length w.script.routines) 256) (with_routine w b.value) (TooMany what.Routines) new b.then in
     let f = (new_name_takes w.names).fits (first (rest row)) b.value b.is in
     let same = (new_name_takes w.names).shown (first (rest row)) b.value b.is in
     let l = good.later.closed at.1 in
     subst (Named w row) o.1 (record {
       names = new_declared kind.Routine w.names row keyword.Routine b.value is refl same f.0 f.1;
-      few = record { dpcs = few.dpcs; timers = few.timers; threads = few.threads; apcs = few.apcs;
-          routines = fits_more w.names.routines b.value (length w.script.routines) 256 l.1 o.0 };
+      few = record {
+        dpcs = few.dpcs;
+        timers = few.timers;
+        threads = few.threads;
+        apcs = few.apcs;
+        routines = fits_more w.names.routines b.value (length w.script.routines) 256 l.1 o.0;
+      };
       good = routine_good w b.value at good;
     })
 act_named all w keyword.Exit row new is at e good few =
@@ -191,8 +216,15 @@ record Rows (all : NameLists) (w : Walk) (ls : List TextLine) (input : Input) : 
 
 rows_of : (all : NameLists) → AreFew all → (w : Walk) (n : ℕ) (ls : List TextLine) (input : Input) → walk all w n ls ≡ Ok input → Good w → AreFew w.names →
     Rows all w ls input
-rows_of all few w n [] input e good named = record { rows = []; lines_are = refl; last = w; number = n; finishes = e; good = good;
-    rows_are = sym (append-nil (so_far all w)) }
+rows_of all few w n [] input e good named = record {
+  rows = [];
+  lines_are = refl;
+  last = w;
+  number = n;
+  finishes = e;
+  good = good;
+  rows_are = sym (append-nil (so_far all w));
+}
 rows_of all few w n (line ∷ more) input e good named =
     let t = went all w n line more input e in
     let s = step_named all w t.row t.new t.steps good named in
@@ -241,8 +273,8 @@ closing : (all : NameLists) (w : Walk) → all ≡ w.names → 1 ≤ order w.pla
 closing all w ea low el =
     let head = has_head w.place w.script.cpus w.script.depth w.script.threaded low in
     let own : so_far w.names w ≡ input_rows (made w) = joined_same (heads w.place w) (header_rows w.script.cpus w.script.depth w.script.threaded)
-        (isrs w.names w) (dpcs w.names w) (timers w.names w) (threads w.names w) (apcs w.names w) (routines w.names w)
-        (routine_rows w.names w.names.routines w.script.routines) head (all_ended w.names w.names.routines w.script.routines w.body el) in
+    (isrs w.names w) (dpcs w.names w) (timers w.names w) (threads w.names w) (apcs w.names w) (routines w.names w)
+    (routine_rows w.names w.names.routines w.script.routines) head (all_ended w.names w.names.routines w.script.routines w.body el) in
     subst (λ (names : NameLists). so_far names w ≡ input_rows (made w)) (sym ea) own
 
 pub good_start : Good start
@@ -251,9 +283,18 @@ good_start = record {
   timers = refl;
   threads = refl;
   apcs = refl;
-  later = record { depth = λ h. refl; threaded = λ h. refl; isrs = λ h. refl; dpcs = λ h. (refl, refl); timers = λ h. (refl, refl);
-      threads = λ h. (refl, refl); apcs = λ h. (refl, refl); routines = λ h. (refl, refl); closed = λ h. (refl, refl);
-      opened = λ h. absurd (omega (arith, h)) };
+  later = record {
+    depth = λ h. refl;
+    threaded = λ h. refl;
+    isrs = λ h. refl;
+    dpcs = λ h. (refl, refl);
+    timers = λ h. (refl, refl);
+    threads = λ h. (refl, refl);
+    apcs = λ h. (refl, refl);
+    routines = λ h. (refl, refl);
+    closed = λ h. (refl, refl);
+    opened = λ h. absurd (omega (arith, h));
+  };
 }
 
 pub few_none : AreFew no_names

@@ -52,8 +52,17 @@ names_from names (line ∷ more) = names_from (names_after names (fields line.0)
 -- nothing was read
 abbrev pub start : Walk
 start = record {
-  script = record { cpus = 1; depth = None; threaded = None; isrs = []; dpcs = []; timers = []; threads = [];
-      apcs = []; routines = [] };
+  script = record {
+    cpus = 1;
+    depth = None;
+    threaded = None;
+    isrs = [];
+    dpcs = [];
+    timers = [];
+    threads = [];
+    apcs = [];
+    routines = [];
+  };
   names = no_names;
   body = [];
   commands = 0;
@@ -73,27 +82,45 @@ abbrev pub with_isr : Walk → Isr → Walk
 with_isr w isr = record w { script = record (w.script) { isrs = w.script.isrs ++ isr ∷ [] }; place = InIsrs }
 
 abbrev pub with_dpc : Walk → List ℕ → DpcDecl → Walk
-with_dpc w name x = record w { script = record (w.script) { dpcs = w.script.dpcs ++ x ∷ [] };
-    names = with_name kind.Dpc name w.names; place = InDpcs }
+with_dpc w name x = record w {
+  script = record (w.script) { dpcs = w.script.dpcs ++ x ∷ [] };
+  names = with_name kind.Dpc name w.names;
+  place = InDpcs;
+}
 
 abbrev pub with_timer : Walk → List ℕ → TimerDecl → Walk
-with_timer w name x = record w { script = record (w.script) { timers = w.script.timers ++ x ∷ [] };
-    names = with_name kind.Timer name w.names; place = InTimers }
+with_timer w name x = record w {
+  script = record (w.script) { timers = w.script.timers ++ x ∷ [] };
+  names = with_name kind.Timer name w.names;
+  place = InTimers;
+}
 
 abbrev pub with_thread : Walk → List ℕ → ThreadDecl → Walk
-with_thread w name x = record w { script = record (w.script) { threads = w.script.threads ++ x ∷ [] };
-    names = with_name kind.Thread name w.names; place = InThreads }
+with_thread w name x = record w {
+  script = record (w.script) { threads = w.script.threads ++ x ∷ [] };
+  names = with_name kind.Thread name w.names;
+  place = InThreads;
+}
 
 abbrev pub with_apc : Walk → List ℕ → ApcDecl → Walk
-with_apc w name x = record w { script = record (w.script) { apcs = w.script.apcs ++ x ∷ [] };
-    names = with_name kind.Apc name w.names; place = InApcs }
+with_apc w name x = record w {
+  script = record (w.script) { apcs = w.script.apcs ++ x ∷ [] };
+  names = with_name kind.Apc name w.names;
+  place = InApcs;
+}
 
 abbrev pub with_routine : Walk → List ℕ → Walk
 with_routine w name = record w { names = with_name kind.Routine name w.names; place = InRoutine }
 
 abbrev pub with_exit : Walk → Walk
-with_exit w = record w { script = record (w.script) { routines = w.script.routines
-    ++ record { commands = w.body } ∷ [] }; body = []; place = InRoutines }
+with_exit w = record w {
+  script = record (w.script) {
+    routines = w.script.routines
+        ++ record { commands = w.body } ∷ [];
+  };
+  body = [];
+  place = InRoutines;
+}
 
 abbrev pub with_command : Walk → Command → Walk
 with_command w c = record w { body = w.body ++ c ∷ []; commands = w.commands + 1 }

@@ -1,6 +1,8 @@
 //! Reading a script line by line.
 use crate::reading::ScriptRefusal;
-use nt_event::{ApcKind, Command, Items, Routine, Script, limits};
+use nt_event::{
+    ApcDecl, ApcKind, Command, DpcDecl, Items, Routine, Script, ThreadDecl, TimerDecl, limits,
+};
 use nt_line::{Keyword, Kind, Names, Place, Verb, command, declarations, fields, keyword_of};
 use nt_text::{Fields, Line, ScriptKind, What10};
 use std::alloc::{AllocError, Global};
@@ -62,10 +64,14 @@ impl From<ScriptKind> for Stop {
 }
 
 impl Walk {
-    ghost use Rattle.std.specs.Prelude.{◌≡◌, []};
+    ghost use Rattle.std.specs.Prelude.{◌≡◌, [], None, length, nat_lt};
+    ghost use Rattle.nt_text.specs.declared.kind.ScriptKind.TheVariants.{TooMany};
+    ghost use Rattle.nt_text.specs.declared.kind.What10.TheVariants as what;
+    ghost use Rattle.nt_event.specs.declared.limits.TheConstants.{APCS, COMMANDS, DPCS, THREADS, TIMERS};
+    ghost use Rattle.nt_line.specs.Results.{ok_if};
     ghost use Rattle.nt_line.specs.Keywords.{keyword_of};
-    ghost use Rattle.nt_line.specs.NameLists.{no_names};
-    ghost use Rattle.nt_script.specs.Reading.{start, keyword_at, step, act, line_step, finish};
+    ghost use Rattle.nt_line.specs.NameLists.{no_names, meaning};
+    ghost use Rattle.nt_script.specs.Reading.{start, with_apc, with_command, with_dpc, with_thread, with_timer, keyword_at, step, act, line_step, finish};
     ghost use Rattle.nt_script.specs.Gives.{Gives, GivesInput};
 
     /// Nothing was read.
@@ -237,6 +243,13 @@ impl Walk {
     {
         let name = fields::new_name(&self.names, args.take())?;
         let dpc = declarations::dpc(all, threaded, args)?;
+        self.add_dpc(alloc, name, dpc)
+    }
+
+    fn add_dpc(&mut self, alloc: Global, name: &str, dpc: DpcDecl) -> Result<(), Stop>
+        requires { meaning name.now self.old.names ≡ None }
+        ensures { Gives result self.new (ok_if (nat_lt (length self.old.script.dpcs) DPCS) (with_dpc self.old name.now dpc) (TooMany what.Dpcs)) }
+    {
         if self.script.dpcs.len() >= limits::DPCS {
             return Err(Stop::Bad(ScriptKind::TooMany(What10::Dpcs)));
         }
@@ -251,6 +264,13 @@ impl Walk {
     {
         let name = fields::new_name(&self.names, args.take())?;
         let timer = declarations::timer(all, args)?;
+        self.add_timer(alloc, name, timer)
+    }
+
+    fn add_timer(&mut self, alloc: Global, name: &str, timer: TimerDecl) -> Result<(), Stop>
+        requires { meaning name.now self.old.names ≡ None }
+        ensures { Gives result self.new (ok_if (nat_lt (length self.old.script.timers) TIMERS) (with_timer self.old name.now timer) (TooMany what.Timers)) }
+    {
         if self.script.timers.len() >= limits::TIMERS {
             return Err(Stop::Bad(ScriptKind::TooMany(What10::Timers)));
         }
@@ -265,6 +285,13 @@ impl Walk {
     {
         let name = fields::new_name(&self.names, args.take())?;
         let thread = declarations::thread(all, self.script.cpus, args)?;
+        self.add_thread(alloc, name, thread)
+    }
+
+    fn add_thread(&mut self, alloc: Global, name: &str, thread: ThreadDecl) -> Result<(), Stop>
+        requires { meaning name.now self.old.names ≡ None }
+        ensures { Gives result self.new (ok_if (nat_lt (length self.old.script.threads) THREADS) (with_thread self.old name.now thread) (TooMany what.Threads)) }
+    {
         if self.script.threads.len() >= limits::THREADS {
             return Err(Stop::Bad(ScriptKind::TooMany(What10::Threads)));
         }
@@ -285,6 +312,13 @@ impl Walk {
     {
         let name = fields::new_name(&self.names, args.take())?;
         let apc = declarations::apc(all, kind, args)?;
+        self.add_apc(alloc, name, apc)
+    }
+
+    fn add_apc(&mut self, alloc: Global, name: &str, apc: ApcDecl) -> Result<(), Stop>
+        requires { meaning name.now self.old.names ≡ None }
+        ensures { Gives result self.new (ok_if (nat_lt (length self.old.script.apcs) APCS) (with_apc self.old name.now apc) (TooMany what.Apcs)) }
+    {
         if self.script.apcs.len() >= limits::APCS {
             return Err(Stop::Bad(ScriptKind::TooMany(What10::Apcs)));
         }
@@ -319,6 +353,12 @@ impl Walk {
         ensures { Gives result self.new (act all.now self.old (Keyword.Call verb) args.old) }
     {
         let command = command(all, self.script.cpus, verb, args)?;
+        self.add_command(command)
+    }
+
+    fn add_command(&mut self, command: Command) -> Result<(), Stop>
+        ensures { Gives result self.new (ok_if (nat_lt self.old.commands COMMANDS) (with_command self.old command) (TooMany what.Commands)) }
+    {
         if self.commands >= limits::COMMANDS as u32 {
             return Err(Stop::Bad(ScriptKind::TooMany(What10::Commands)));
         }

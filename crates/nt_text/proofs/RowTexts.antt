@@ -16,7 +16,7 @@ pub line_put : (old now next out f : List ℕ) (fs : Row) → now ≡ old ++ f �
 line_put old now next out f fs first others end =
     let whole : out ≡ ((old ++ f) ++ spaced fs) ++ 10 ∷ [] = end ∙ ap (λ (xs : List ℕ). xs ++ 10 ∷ []) (others ∙ ap (λ (xs : List ℕ). xs ++ spaced fs) first) in
     whole ∙ append_assoc (old ++ f) (spaced fs) (10 ∷ []) ∙ append_assoc old f (spaced fs ++ 10 ∷ [])
-        ∙ ap (λ (xs : List ℕ). old ++ xs) (sym (row_text_cons f fs))
+    ∙ ap (λ (xs : List ℕ). old ++ xs) (sym (row_text_cons f fs))
 
 -- a first field and the others behind it
 pub row_put : (old now out f : List ℕ) (fs : Row) → now ≡ old ++ f → out ≡ now ++ spaced fs → out ≡ old ++ join_with_byte 32 (f ∷ fs)
@@ -45,13 +45,13 @@ rows_put out next whole first others all split before put =
 pub parts_put : (old now next : List ℕ) (a b : List Row) → now ≡ old ++ rows_text a → next ≡ now ++ rows_text b → next ≡ old ++ rows_text (a ++ b)
 parts_put old now next a b first second =
     second ∙ ap (λ (xs : List ℕ). xs ++ rows_text b) first ∙ append_assoc old (rows_text a) (rows_text b)
-        ∙ ap (λ (xs : List ℕ). old ++ xs) (sym (rows_text-append a b))
+    ∙ ap (λ (xs : List ℕ). old ++ xs) (sym (rows_text-append a b))
 
 -- a row behind others: a space, and the row with one space between two fields
 pub spaced_put : (old now out f : List ℕ) (fs : Row) → now ≡ old ++ 32 ∷ [] → out ≡ now ++ join_with_byte 32 (f ∷ fs) → out ≡ old ++ spaced (f ∷ fs)
 spaced_put old now out f fs space row =
     row ∙ ap (λ (xs : List ℕ). xs ++ join_with_byte 32 (f ∷ fs)) space ∙ append_assoc old (32 ∷ []) (join_with_byte 32 (f ∷ fs))
-        ∙ ap (λ (xs : List ℕ). old ++ 32 ∷ xs) (joined f fs)
+    ∙ ap (λ (xs : List ℕ). old ++ 32 ∷ xs) (joined f fs)
 
 -- one row is a text of rows
 pub one_row : (old now : List ℕ) (row : Row) → now ≡ old ++ row_text row → now ≡ old ++ rows_text (row ∷ [])

@@ -19,4 +19,4 @@ returns c = printed c.args.input.now c.new-out.result.items c.put_header.new.out
     c.as_slice-3.result.now c.as_slice-4.result.now c.as_slice-5.result.now c.as_slice-6.result.now
     c.as_slice.ensures c.as_slice-2.ensures c.as_slice-3.ensures c.as_slice-4.ensures c.as_slice-5.ensures c.as_slice-6.ensures
     c.new-out.ensures.items c.in_ok-put_header.ensures c.in_ok-put_isrs.ensures c.in_ok-put_dpcs.ensures c.in_ok-put_timers.ensures c.in_ok-put_threads.ensures
-        c.in_ok-put_apcs.ensures c.in_ok-put_routines.ensures
+    c.in_ok-put_apcs.ensures c.in_ok-put_routines.ensures
