@@ -1,14 +1,23 @@
 //! What the pure machine makes of scripts that are given in a table, one case a line: the turn limit, `|`, and a script in which
 //! `/` stands for the end of a line. That script is run by the robin rule; where another `|` and a list of turns follow, in the
 //! words of schedules with `/` between two, these turns are replayed. What is written is the report of the history, with `/` for
-//! the end of a line, or why the turns have no history. What is wanted stands in `stdout`: rows that were worked out by hand.
+//! the end of a line, or why the turns have no history. Where `take` stands before the limit, a machine takes the turns one by
+//! one; then a line for each of them tells whether it is the robin rule's and whether it was taken, another one whether the
+//! history is settled, and the report follows. Where `step` stands there, the first processor makes its first event by itself, in
+//! two steps and by one; a line for each tells whether it is that of the run, and the report of the run follows. What is wanted stands in `stdout`: rows that were worked out by hand.
 #![tactic(auto)]
 
-ghost use Rattle.std.specs.Prelude.{◌≤◌, IfSome};
+ghost use Rattle.std.specs.Prelude.{◌≤◌};
 ghost use Rattle.nt_script.specs.Sound.{IsSound};
 
+mod cases;
+mod stepping;
+mod taking;
 mod turns;
 
+use crate::cases::{Case, Task, case_of};
+use crate::stepping::stepped;
+use crate::taking::taken;
 use crate::turns::turns_of;
 use nt_core::{ScheduleRefusal, replay, run};
 use nt_event::{ScheduleKind, Turn};
@@ -16,18 +25,6 @@ use nt_print::report;
 use nt_script::{Input, ScriptRefusal, read};
 use std::alloc::{AllocError, Global};
 use std::io;
-
-/// A case of the table.
-#[derive(Drop)]
-struct Case<'a> {
-    /// How many events each processor may make.
-    limit: u32,
-    script: &'a str,
-    /// The turns that are replayed, if any are given.
-    list: Option<&'a str>,
-    ghost some: { 1 ≤ limit },
-    ghost few: { limit ≤ 20000 },
-}
 
 /// What became of a case.
 #[derive(Drop)]
@@ -40,33 +37,6 @@ enum Outcome {
     NoReading,
     /// The line is no case.
     BadLine,
-}
-
-fn limit_of(word: &str) -> Option<u32>
-    ensures { IfSome result (λ n. (1 ≤ n) × (n ≤ 20000)) }
-{
-    let limit = word.parse::<u32>().ok()?;
-    if limit < 1 || limit > 20_000 {
-        return None;
-    }
-    Some(limit)
-}
-
-fn case_of(entry: &str) -> Option<Case<'_>> {
-    let (word, rest) = entry.split_once('|')?;
-    let limit = limit_of(word)?;
-    match rest.split_once('|') {
-        Some((script, list)) => Some(Case {
-            limit,
-            script,
-            list: Some(list),
-        }),
-        None => Some(Case {
-            limit,
-            script: rest,
-            list: None,
-        }),
-    }
 }
 
 /// The bytes, with each of the one kind changed to the other.
@@ -109,12 +79,20 @@ fn replay_outcome(
 fn read_outcome(alloc: Global, case: &Case<'_>, input: &Input) -> Result<Outcome, AllocError>
     requires sound { IsSound input.now }
 {
-    let Some(list) = case.list else {
-        return run_outcome(alloc, input, case.limit);
-    };
-    match turns_of(alloc, &input.names, list)? {
-        Some(turns) => replay_outcome(alloc, input, case.limit, turns.as_slice()),
-        None => Ok(Outcome::BadLine),
+    match case.task {
+        Task::Run => run_outcome(alloc, input, case.limit),
+        Task::Step => Ok(Outcome::Report(stepped(alloc, input, case.limit)?)),
+        Task::Replay(list) => match turns_of(alloc, &input.names, list)? {
+            Some(turns) => replay_outcome(alloc, input, case.limit, turns.as_slice()),
+            None => Ok(Outcome::BadLine),
+        },
+        Task::Take(list) => match turns_of(alloc, &input.names, list)? {
+            Some(turns) => {
+                let text = taken(alloc, input, case.limit, turns.as_slice())?;
+                Ok(Outcome::Report(text))
+            }
+            None => Ok(Outcome::BadLine),
+        },
     }
 }
 

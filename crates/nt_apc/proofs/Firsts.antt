@@ -1,5 +1,6 @@
 -- The first of a kind, and the first kernel APC once one more is inserted.
-use Rattle.std.proofs.Common.{◌≡◌, ◌∷◌, Bool, List, None, Option, Some, [], option_map, ap, option_and_then, cond, false, is_some, refl, reverse, sym, true, ◌∙◌, ℕ, ◌==◌, ◌&&◌}
+use Rattle.std.proofs.Common.{◌≡◌, ◌∷◌, Bool, List, None, Option, Some, [], option_map, ap, option_and_then, cond, false, is_some, refl, reverse, sym, true}
+use Rattle.std.proofs.Common.{◌∙◌, ℕ, ◌==◌, ◌&&◌}
 use Rattle.std.proofs.lemmas.Bool.{false≢true}
 use Rattle.std.proofs.lemmas.List.Folds.{find-append}
 use Rattle.std.proofs.lemmas.List.{reverse-append}
@@ -37,7 +38,8 @@ pub first-is_of_kind : (kind : ApcKind) (q : ApcQueues) (x : Pick) → first_of_
 first-is_of_kind kind q x h = kind-same kind x.kind (find-passes (is_of_kind kind) (reverse q.pending) x h)
 
 -- one more insert is the newest
-pub first-with : (kind : ApcKind) (x : Pick) (q : ApcQueues) → first_of_kind kind (with_apc x q) ≡ option_or (first_of_kind kind q) (cond (is_of_kind kind x) (Some x) None)
+pub first-with : (kind : ApcKind) (x : Pick) (q : ApcQueues) → first_of_kind kind (with_apc x q) ≡ option_or (first_of_kind kind q)
+    (cond (is_of_kind kind x) (Some x) None)
 first-with kind x q =
     ap (λ (ys : List Pick). find (is_of_kind kind) ys) (reverse-append (x ∷ []) q.pending) ∙ find-append (is_of_kind kind) (reverse q.pending) (x ∷ [])
 
@@ -45,9 +47,13 @@ abbrev pub kind_in : Option Pick → Option ApcKind
 kind_in first = option_map (λ x. x.kind) first
 
 -- the kinds of the first special and normal ones before the insert and after it
-pub kinds-with : (x : Pick) (s n : Option Pick) → ((y : Pick) → s ≡ Some y → y.kind ≡ SpecialApc) → ((y : Pick) → n ≡ Some y → y.kind ≡ NormalApc) → kind_in (option_or (option_or s (cond (is_of_kind SpecialApc x) (Some x) None)) (option_or n (cond (is_of_kind NormalApc x) (Some x) None))) ≡ kind_with x.kind (kind_in (option_or s n))
+pub kinds-with : (x : Pick) (s n : Option Pick) → ((y : Pick) → s ≡ Some y → y.kind ≡ SpecialApc) → ((y : Pick) → n ≡ Some y → y.kind ≡ NormalApc) →
+    kind_in (option_or (option_or s (cond (is_of_kind SpecialApc x) (Some x) None))
+    (option_or n (cond (is_of_kind NormalApc x) (Some x) None))) ≡ kind_with x.kind (kind_in (option_or s n))
 kinds-with x s n special normal = go x.kind refl s n special normal where
-  go : (kind : ApcKind) → x.kind ≡ kind → (s n : Option Pick) → ((y : Pick) → s ≡ Some y → y.kind ≡ SpecialApc) → ((y : Pick) → n ≡ Some y → y.kind ≡ NormalApc) → kind_in (option_or (option_or s (cond (same_kind SpecialApc kind) (Some x) None)) (option_or n (cond (same_kind NormalApc kind) (Some x) None))) ≡ kind_with kind (kind_in (option_or s n))
+  go : (kind : ApcKind) → x.kind ≡ kind → (s n : Option Pick) → ((y : Pick) → s ≡ Some y → y.kind ≡ SpecialApc) →
+      ((y : Pick) → n ≡ Some y → y.kind ≡ NormalApc) → kind_in (option_or (option_or s (cond (same_kind SpecialApc kind) (Some x) None))
+      (option_or n (cond (same_kind NormalApc kind) (Some x) None))) ≡ kind_with kind (kind_in (option_or s n))
   go SpecialApc e (Some y) n special normal = ap Some (special y refl)
   go SpecialApc e None n special normal = ap Some e
   go NormalApc e (Some y) n special normal = refl
@@ -59,7 +65,8 @@ kinds-with x s n special normal = go x.kind refl s n special normal where
 
 pub kernel-with : (x : Pick) (q : ApcQueues) → kind_in (first_kernel (with_apc x q)) ≡ kind_with x.kind (kind_in (first_kernel q))
 kernel-with x q =
-    rw (first-with SpecialApc x q, first-with NormalApc x q) (kinds-with x (first_of_kind SpecialApc q) (first_of_kind NormalApc q) (first-is_of_kind SpecialApc q) (first-is_of_kind NormalApc q))
+    rw (first-with SpecialApc x q, first-with NormalApc x q) (kinds-with x (first_of_kind SpecialApc q) (first_of_kind NormalApc q)
+    (first-is_of_kind SpecialApc q) (first-is_of_kind NormalApc q))
 
 -- whether the first one is deliverable rests on its kind alone
 pub deliverable-kind : (q : ApcQueues) (r : Regions) (level : ℕ) → is_some (deliverable q r level) ≡ may_begin r level (kind_in (first_kernel q))
@@ -72,5 +79,6 @@ deliverable-kind q r level = go (first_kernel q) where
   go None = refl
   go (Some x) = test ((level == 0) && lets_through r x.kind) x
 
-pub deliverable-with : (x : Pick) (q : ApcQueues) (r : Regions) (level : ℕ) → is_some (deliverable (with_apc x q) r level) ≡ may_begin r level (kind_with x.kind (kind_in (first_kernel q)))
+pub deliverable-with : (x : Pick) (q : ApcQueues) (r : Regions) (level : ℕ) →
+    is_some (deliverable (with_apc x q) r level) ≡ may_begin r level (kind_with x.kind (kind_in (first_kernel q)))
 deliverable-with x q r level = deliverable-kind (with_apc x q) r level ∙ ap (λ (k : Option ApcKind). may_begin r level k) (kernel-with x q)

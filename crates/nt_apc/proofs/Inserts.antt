@@ -1,5 +1,6 @@
 -- The list of pending inserts keeps each object once: pushes, removals and its length.
-use Rattle.std.proofs.Common.{◌+◌, inl, inr, ◌≡◌, ◌<◌, ◌≤◌, ◌||◌, Bool, true, false, ℕ, List, [], ◌∷◌, ◌++◌, length, not, None, Some, refl, sym, ◌∙◌, ap, arith, eqb, suc, subst}
+use Rattle.std.proofs.Common.{◌+◌, inl, inr, ◌≡◌, ◌<◌, ◌≤◌, ◌||◌, Bool, true, false, ℕ, List, [], ◌∷◌, ◌++◌, length, not, None, Some, refl, sym, ◌∙◌, ap, arith}
+use Rattle.std.proofs.Common.{eqb, suc, subst}
 use Rattle.std.proofs.Math.Numerals.{one-add}
 use Rattle.std.proofs.lemmas.Bool.{cases_lt, eqb-false, eqb-true, false≢true, le-ltb, lt-ltb, ne_eqb, or_cases, or_from, or_parts}
 use Rattle.std.proofs.lemmas.List.Folds.{list_any-append}
@@ -54,7 +55,9 @@ filter-none t (x ∷ xs) h =
 pub remove-object : (a : ApcNo) (xs : List Pick) → AreObjects xs → remove xs (position_or_len (is_of_apc a) xs) ≡ filter (λ x. not (is_of_apc a x)) xs
 remove-object a [] h = refl
 remove-object a (x ∷ xs) h = go (is_of_apc a x) refl (remove-object a xs h.2) where
-  go : (b : Bool) → is_of_apc a x ≡ b → remove xs (position_or_len (is_of_apc a) xs) ≡ filter (λ y. not (is_of_apc a y)) xs → remove (x ∷ xs) (cond (not b) (1 + position_or_len (is_of_apc a) xs) 0) ≡ cond (not b) (x ∷ filter (λ y. not (is_of_apc a y)) xs) (filter (λ y. not (is_of_apc a y)) xs)
+  go : (b : Bool) → is_of_apc a x ≡ b → remove xs (position_or_len (is_of_apc a) xs) ≡ filter (λ y. not (is_of_apc a y)) xs →
+      remove (x ∷ xs) (cond (not b) (1 + position_or_len (is_of_apc a) xs) 0) ≡ cond (not b) (x ∷ filter (λ y. not (is_of_apc a y)) xs)
+      (filter (λ y. not (is_of_apc a y)) xs)
   go true e rest =
       let same : x.apc ≡ a = ap (λ (n : ℕ). let r : ApcNo = record { 0 = n } in r) (eqb-true x.apc.0 a.0 e) in
       sym (filter-none (is_of_apc a) xs (subst (λ (b : ApcNo). list_any (is_of_apc b) xs ≡ false) same h.0))
@@ -64,12 +67,17 @@ remove-object a (x ∷ xs) h = go (is_of_apc a x) refl (remove-object a xs h.2) 
 
 lt-suc : (a b : ℕ) → nat_lt (suc a) (suc b) ≡ nat_lt a b
 lt-suc a b =
-    elim (cases_lt a b) [ inl h ↦ lt-ltb (suc a) (suc b) (omega arith) ∙ sym (lt-ltb a b h) | inr h ↦ le-ltb (suc a) (suc b) (omega arith) ∙ sym (le-ltb a b h) ]
+    elim (cases_lt a b) [
+      | inl h ↦ lt-ltb (suc a) (suc b) (omega arith) ∙ sym (lt-ltb a b h)
+      | inr h ↦ le-ltb (suc a) (suc b) (omega arith)
+          ∙ sym (le-ltb a b h)
+    ]
 
 place-any : {X : Type 0} (t : X → Bool) (xs : List X) → nat_lt (position_or_len t xs) (length xs) ≡ list_any t xs
 place-any t [] = refl
 place-any {X} t (x ∷ xs) = go (t x) (place-any t xs) where
-  go : (b : Bool) → nat_lt (position_or_len t xs) (length xs) ≡ list_any t xs → nat_lt (cond (not b) (1 + position_or_len t xs) 0) (suc (length xs)) ≡ (b || list_any t xs)
+  go : (b : Bool) → nat_lt (position_or_len t xs) (length xs) ≡ list_any t xs →
+      nat_lt (cond (not b) (1 + position_or_len t xs) 0) (suc (length xs)) ≡ (b || list_any t xs)
   go true rest = lt-ltb 0 (suc (length xs)) (omega arith)
   go false rest = rw one-add (lt-suc (position_or_len t xs) (length xs) ∙ rest)
 
@@ -77,14 +85,16 @@ pub record IsPlace {X : Type 0} (t : X → Bool) (xs : List X) (i : ℕ) : Type 
   pub any : list_any t xs ≡ true
   pub first : i ≡ position_or_len t xs
 
-place-tested : {X : Type 0} (t : X → Bool) (xs : List X) (b : Bool) (i : ℕ) → nat_lt (position_or_len t xs) (length xs) ≡ b → cond b (Some (position_or_len t xs)) None ≡ Some i → IsPlace t xs i
+place-tested : {X : Type 0} (t : X → Bool) (xs : List X) (b : Bool) (i : ℕ) → nat_lt (position_or_len t xs) (length xs) ≡ b →
+    cond b (Some (position_or_len t xs)) None ≡ Some i → IsPlace t xs i
 place-tested t xs true i e h = record { any = sym (place-any t xs) ∙ e; first = cc }
 place-tested t xs false i e h = absurd (cc)
 
 pub place-some : {X : Type 0} (t : X → Bool) (xs : List X) (i : ℕ) → position t xs ≡ Some i → IsPlace t xs i
 place-some t xs i h = place-tested t xs (nat_lt (position_or_len t xs) (length xs)) i refl h
 
-absent-tested : {X : Type 0} (t : X → Bool) (xs : List X) (b : Bool) → nat_lt (position_or_len t xs) (length xs) ≡ b → cond b (Some (position_or_len t xs)) None ≡ None → list_any t xs ≡ false
+absent-tested : {X : Type 0} (t : X → Bool) (xs : List X) (b : Bool) → nat_lt (position_or_len t xs) (length xs) ≡ b →
+    cond b (Some (position_or_len t xs)) None ≡ None → list_any t xs ≡ false
 absent-tested t xs true e h = absurd (cc)
 absent-tested t xs false e h = sym (place-any t xs) ∙ e
 
@@ -117,12 +127,14 @@ below q m h e = let same : q ≡ m = eqb-true q m e in omega arith
 
 all-below : (xs : List Pick) → AreObjects xs → (q : ℕ) → list_any (eqb q) (numbers xs) ≡ true → q < 256
 all-below [] h q e = absurd (false≢true e)
-all-below (x ∷ xs) h q e = elim (or_cases (eqb q x.apc.0) (list_any (eqb q) (numbers xs)) e) [ inl here ↦ below q x.apc.0 h.1 here | inr later ↦ all-below xs h.2 q later ]
+all-below (x ∷ xs) h q e = elim (or_cases (eqb q x.apc.0) (list_any (eqb q)
+    (numbers xs)) e) [ inl here ↦ below q x.apc.0 h.1 here | inr later ↦ all-below xs h.2 q later ]
 
 -- where one more object may be inserted there is room: at most 256 numbers are below 256
 pub objects-room : (a : ApcNo) (xs : List Pick) → AreObjects xs → list_any (is_of_apc a) xs ≡ false → a.0 < 256 → length xs < 256
 unfolding IsDistinct
 objects-room a xs h fresh small =
-    let one : (q : ℕ) → list_any (eqb q) (a.0 ∷ numbers xs) ≡ true → q < 256 = λ q e. elim (or_cases (eqb q a.0) (list_any (eqb q) (numbers xs)) e) [ inl here ↦ below q a.0 small here | inr later ↦ all-below xs h q later ] in
+    let one : (q : ℕ) → list_any (eqb q) (a.0 ∷ numbers xs) ≡ true → q < 256 = λ q e. elim
+    (or_cases (eqb q a.0) (list_any (eqb q) (numbers xs)) e) [ inl here ↦ below q a.0 small here | inr later ↦ all-below xs h q later ] in
     let most : suc (length (numbers xs)) ≤ 256 = length-le_from_distinct_below (a.0 ∷ numbers xs) 256 (apart a xs fresh, distinct xs h) one in
     omega (arith, length-numbers xs)

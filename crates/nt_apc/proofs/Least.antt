@@ -1,5 +1,6 @@
 -- The first of a kind is the pending insert of least number.
-use Rattle.std.proofs.Common.{◌≡◌, ◌≢◌, ◌++◌, ◌∷◌, ◌<◌, ◌≤◌, ◌⊎◌, Bool, List, None, Option, Some, [], ap, arith, cond, false, inl, inr, not, refl, reverse, subst, sym, true, ◌∙◌, ℕ}
+use Rattle.std.proofs.Common.{◌≡◌, ◌≢◌, ◌++◌, ◌∷◌, ◌<◌, ◌≤◌, ◌⊎◌, Bool, List, None, Option, Some, [], ap, arith, cond, false, inl, inr, not, refl, reverse}
+use Rattle.std.proofs.Common.{subst, sym, true, ◌∙◌, ℕ}
 use Rattle.std.proofs.lemmas.Bool.{false≢true, true≢false}
 use Rattle.std.proofs.lemmas.List.Elements.{All-cons, recursion_from_All}
 use Rattle.std.proofs.lemmas.List.Folds.{find-append}
@@ -67,7 +68,8 @@ pending-from_in (Uses a ∷ past) x m =
 pending-from_in (Closes ∷ past) x m = later-act x Closes past refl (pending-from_in past x m)
 
 -- the same, by the acts after the insert
-in-later : (later earlier : List Act) (x : Pick) → AllByRecursion (λ act. uses x.apc act ≡ false) later → In x (queues_of (later ++ Inserts x ∷ earlier)).pending
+in-later : (later earlier : List Act) (x : Pick) → AllByRecursion (λ act. uses x.apc act ≡ false) later →
+    In x (queues_of (later ++ Inserts x ∷ earlier)).pending
 in-later [] earlier x u = inl refl
 in-later (Inserts y ∷ later) earlier x u = inr (in-later later earlier x u.1)
 in-later (Uses a ∷ later) earlier x u =
@@ -76,7 +78,8 @@ in-later (Closes ∷ later) earlier x u = in-later later earlier x u.1
 
 pub in-from_pending : (acts : List Act) (x : Pick) → IsPending x acts → In x (queues_of acts).pending
 in-from_pending acts x h =
-    subst (λ (a : List Act). In x (queues_of a).pending) (sym h.made) (in-later h.later h.earlier x (recursion_from_All (λ act. uses x.apc act ≡ false) h.later h.unused))
+    subst (λ (a : List Act). In x (queues_of a).pending) (sym h.made) (in-later h.later h.earlier x
+    (recursion_from_All (λ act. uses x.apc act ≡ false) h.later h.unused))
 
 -- ---- numbers
 
@@ -130,17 +133,27 @@ First t xs (Some x) = IsFirst t xs x
 first-least : (t : Pick → Bool) (xs : List Pick) → Falling xs → First t xs (find t (reverse xs))
 first-least t [] h = λ y m. absurd m
 first-least t (x ∷ xs) h =
-    subst (λ (o : Option Pick). First t (x ∷ xs) o) (sym (ap (λ (ys : List Pick). find t ys) (reverse-append (x ∷ []) xs) ∙ find-append t (reverse xs) (x ∷ []))) (go (find t (reverse xs)) (t x) refl (first-least t xs h.1)) where
+    subst (λ (o : Option Pick). First t (x ∷ xs) o) (sym (ap (λ (ys : List Pick). find t ys) (reverse-append (x ∷ []) xs)
+    ∙ find-append t (reverse xs) (x ∷ []))) (go (find t (reverse xs)) (t x) refl (first-least t xs h.1)) where
       go : (o : Option Pick) (b : Bool) → t x ≡ b → First t xs o → First t (x ∷ xs) (option_or o (cond b (Some x) None))
       go (Some y) b e f = record {
         member = inr f.member;
         passes = f.passes;
-        least = λ z m p. elim m [ inl same ↦ (let here : y.number < x.number = at-in (λ w. w.number < x.number) xs y h.0 f.member in let at : x.number ≡ z.number = ap (λ (w : Pick). w.number) same in omega arith) | inr later ↦ f.least z later p ];
+        least = λ z m p. elim m [
+          | inl same ↦ (let here : y.number < x.number = at-in
+              (λ w. w.number < x.number) xs y h.0 f.member in let at : x.number ≡ z.number = ap
+              (λ (w : Pick). w.number) same in omega arith)
+          | inr later ↦ f.least z later p
+        ];
       }
       go None true e f = record {
         member = inl refl;
         passes = e;
-        least = λ z m p. elim m [ inl same ↦ (let at : x.number ≡ z.number = ap (λ (w : Pick). w.number) same in omega arith) | inr later ↦ absurd (true≢false (sym p ∙ f z later)) ];
+        least = λ z m p. elim m [
+          | inl same ↦ (let at : x.number ≡ z.number = ap (λ (w : Pick). w.number) same in omega arith)
+          | inr later ↦ absurd
+              (true≢false (sym p ∙ f z later))
+        ];
       }
       go None false e f = λ z m. elim m [ inl same ↦ (sym (ap t same) ∙ e) | inr later ↦ f z later ]
 
@@ -152,11 +165,13 @@ of-kind kind x e = ap (λ (k : ApcKind). same_kind kind k) e ∙ same kind where
   same UserApc = refl
 
 pub firsts-least : FirstsAreLeast
-firsts-least acts rise kind = go (find (is_of_kind kind) (reverse (queues_of acts).pending)) (first-least (is_of_kind kind) (queues_of acts).pending (falling-pending acts rise)) where
-  go : (o : Option Pick) → First (is_of_kind kind) (queues_of acts).pending o → MatchOption o ((y : Pick) → IsPending y acts → y.kind ≢ kind) (λ x. IsLeast kind x acts)
-  go None f = λ y m k. true≢false (sym (of-kind kind y k) ∙ f y (in-from_pending acts y m))
-  go (Some x) f = record {
-    pending = pending-from_in acts x f.member;
-    of_kind = kind-same kind x.kind f.passes;
-    least = λ y m k. f.least y (in-from_pending acts y m) (of-kind kind y k);
-  }
+firsts-least acts rise kind = go (find (is_of_kind kind) (reverse (queues_of acts).pending))
+    (first-least (is_of_kind kind) (queues_of acts).pending (falling-pending acts rise)) where
+      go : (o : Option Pick) → First (is_of_kind kind) (queues_of acts).pending o →
+          MatchOption o ((y : Pick) → IsPending y acts → y.kind ≢ kind) (λ x. IsLeast kind x acts)
+      go None f = λ y m k. true≢false (sym (of-kind kind y k) ∙ f y (in-from_pending acts y m))
+      go (Some x) f = record {
+        pending = pending-from_in acts x f.member;
+        of_kind = kind-same kind x.kind f.passes;
+        least = λ y m k. f.least y (in-from_pending acts y m) (of-kind kind y k);
+      }

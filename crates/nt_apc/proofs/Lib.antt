@@ -1,5 +1,4 @@
 pub mod Firsts
 pub mod Inserts
 pub mod Least
-pub mod Reversed
 pub mod Views

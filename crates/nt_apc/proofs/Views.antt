@@ -7,7 +7,7 @@ use Rattle.nt_event.specs.Apcs.{ApcQueues, is_inserted, is_of_apc, takes, withou
 use Rattle.nt_event.specs.declared.inserts.Pick.{Pick}
 use Rattle.nt_event.specs.declared.numbers.ApcNo.{ApcNo}
 use Rattle.nt_apc.proofs.Inserts.{filter-none}
-use Rattle.nt_apc.proofs.Reversed.{filter-reverse, list_any-reverse}
+use Rattle.nt_event.proofs.Reversed.{filter-reverse, list_any-reverse}
 
 abbrev pub seen : List Pick → Bool → ApcQueues
 seen xs closed = record { pending = reverse xs; closed = closed }
@@ -20,11 +20,14 @@ fresh-from_takes a xs closed q e h =
 pub is_inserted-seen : (a : ApcNo) (xs : List Pick) (closed : Bool) (q : ApcQueues) → seen xs closed ≡ q → list_any (is_of_apc a) xs ≡ is_inserted a q
 is_inserted-seen a xs closed q e = sym (list_any-reverse (is_of_apc a) xs) ∙ ap (λ (x : ApcQueues). is_inserted a x) e
 
-pub seen-without : (a : ApcNo) (xs ys : List Pick) (closed : Bool) (q : ApcQueues) → seen xs closed ≡ q → ys ≡ filter (λ x. not (is_of_apc a x)) xs → seen ys closed ≡ without_apc a q
+pub seen-without : (a : ApcNo) (xs ys : List Pick) (closed : Bool) (q : ApcQueues) → seen xs closed ≡ q → ys ≡ filter (λ x. not (is_of_apc a x)) xs →
+    seen ys closed ≡ without_apc a q
 seen-without a xs ys closed q e out =
-    ap (λ (zs : List Pick). seen zs closed) out ∙ ap (λ (zs : List Pick). let r : ApcQueues = record { pending = zs; closed = closed } in r) (sym (filter-reverse (λ x. not (is_of_apc a x)) xs)) ∙ ap (λ (x : ApcQueues). without_apc a x) e
+    ap (λ (zs : List Pick). seen zs closed) out ∙ ap (λ (zs : List Pick). let r : ApcQueues = record { pending = zs; closed = closed } in r)
+    (sym (filter-reverse (λ x. not (is_of_apc a x)) xs)) ∙ ap (λ (x : ApcQueues). without_apc a x) e
 
-pub seen-same : (a : ApcNo) (xs ys : List Pick) (closed : Bool) (q : ApcQueues) (b : Bool) → seen xs closed ≡ q → ys ≡ filter (λ x. not (is_of_apc a x)) xs → b ≡ list_any (is_of_apc a) xs → OnFalse b (seen ys closed ≡ q)
+pub seen-same : (a : ApcNo) (xs ys : List Pick) (closed : Bool) (q : ApcQueues) (b : Bool) → seen xs closed ≡ q → ys ≡ filter (λ x. not (is_of_apc a x)) xs →
+    b ≡ list_any (is_of_apc a) xs → OnFalse b (seen ys closed ≡ q)
 seen-same a xs ys closed q true e out h = tt
 seen-same a xs ys closed q false e out h =
     ap (λ (zs : List Pick). seen zs closed) (out ∙ filter-none (is_of_apc a) xs (sym h)) ∙ e

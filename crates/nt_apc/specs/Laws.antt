@@ -21,4 +21,6 @@ pub record IsLeast (kind : ApcKind) (x : Pick) (acts : List Act) : Type 0 where
 -- the first of a kind is the pending one of least number, and there is none exactly where none of the kind is pending
 abbrev pub FirstsAreLeast : Type 0
 FirstsAreLeast =
-    (acts : List Act) → NumbersRise acts → (kind : ApcKind) → MatchOption (first_of_kind kind (queues_of acts)) ((y : Pick) → IsPending y acts → y.kind ≢ kind) (λ x. IsLeast kind x acts)
+    (acts : List Act) → NumbersRise acts → (kind : ApcKind) →
+    MatchOption (first_of_kind kind (queues_of acts)) ((y : Pick) → IsPending y acts → y.kind ≢ kind)
+    (λ x. IsLeast kind x acts)

@@ -4,8 +4,8 @@ use Rattle.nt_event.specs.declared.inserts.Pick.{Pick}
 use Rattle.nt_event.specs.declared.numbers.ApcNo.{ApcNo}
 use Rattle.nt_event.specs.Apcs.{ApcQueues, closed_apcs, start_apcs, with_apc, without_apc}
 
--- what a call did: an accepted insert; a use of the object's insert, by `remove`, `take` or `flush_next`; the doors' closing.
--- The other calls, and the other answers of these, change nothing.
+-- what a call did: an accepted insert; a use of the object's insert, by `remove`, `take` or `flush_next`; the doors'
+-- closing. The other calls, and the other answers of these, change nothing.
 pub data Act : Type 0 where
   Inserts : Pick → Act
   Uses : ApcNo → Act
@@ -24,7 +24,8 @@ queues_of (act ∷ past) = after act (queues_of past)
 -- the act uses up a pending insert of the object
 abbrev pub uses : ApcNo → Act → Bool
 uses a (Uses b) = a.0 == b.0
-uses a _ = false
+uses a (Inserts x) = false
+uses a Closes = false
 
 -- each insert has a number below this one
 abbrev pub NumbersBelow : ℕ → List Act → Type 0

@@ -17,8 +17,6 @@
 mod items;
 pub mod laws;
 mod queues;
-#[cfg(test)]
-mod tests;
 
 pub use nt_event::{ApcKind, ApcNo, Level, Pick, Regions};
 pub use queues::{ApcQueues, MOST_OBJECTS};

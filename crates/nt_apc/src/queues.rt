@@ -191,6 +191,6 @@ fn lets_through(regions: Regions, kind: ApcKind) -> bool
 {
     match kind {
         ApcKind::Special => regions.guard == 0,
-        _ => regions.guard == 0 && regions.crit == 0 && !regions.busy,
+        ApcKind::Normal | ApcKind::User => regions.guard == 0 && regions.crit == 0 && !regions.busy,
     }
 }

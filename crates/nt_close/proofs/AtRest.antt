@@ -13,7 +13,8 @@ use Rattle.nt_event.specs.declared.jobs.Task.TheVariants.{Alone, Shared}
 use Rattle.nt_event.specs.declared.numbers.CpuNo.{CpuNo}
 use Rattle.nt_event.specs.declared.scripts.Script.{Script}
 use Rattle.nt_event.specs.Frames.{frames_of, innermost, own_frames}
-use Rattle.nt_event.specs.Jobs.{fire_task, interrupt_classes, interrupt_task, is_due, level_at, may_apcs, may_drain, may_interrupt, may_threaded, must, must_task, rests}
+use Rattle.nt_event.specs.Jobs.{fire_task, interrupt_task, is_due, level_at, may_apcs, may_drain, may_interrupt, may_threaded, must, must_task, rests}
+use Rattle.nt_event.specs.Classes.{interrupt_classes}
 use Rattle.nt_event.specs.Own.{Own, own_of, rested}
 use Rattle.nt_event.specs.Regions.{owes_sweep}
 use Rattle.nt_event.specs.Requests.{asked, seen, served}
@@ -68,7 +69,8 @@ none_of_them test [] c h a = cc
 none_of_them test (x ∷ xs) c h a =
     go (test x) (x == c) refl refl h a (λ k b. none_of_them test xs c k b)
   where
-    go : (t b : Bool) → test x ≡ t → (x == c) ≡ b → cond t (Some x) (find test xs) ≡ None → (b || list_any (λ k. k == c) xs) ≡ true → (find test xs ≡ None → list_any (λ k. k == c) xs ≡ true → test c ≡ false) → test c ≡ false
+    go : (t b : Bool) → test x ≡ t → (x == c) ≡ b → cond t (Some x) (find test xs) ≡ None → (b || list_any (λ k. k == c) xs) ≡ true →
+        (find test xs ≡ None → list_any (λ k. k == c) xs ≡ true → test c ≡ false) → test c ≡ false
     go true b e i h a ih = cc
     go false true e i h a ih =
         let n : x ≡ c = eqb-true x c i in subst (λ (k : ℕ). test k ≡ false) n e
@@ -83,11 +85,20 @@ pub record IsIdle (x : Own) : Type 0 where
 
 idle_of : (x : Own) → must_task x ≡ None → IsIdle x
 idle_of x h =
-    let a = or_none (fire_task x) (option_or (interrupt_task x) (option_or (when (may_drain x) (Some (Shared DrainJob))) (option_or (when (may_apcs x) (Some (Shared ApcsJob))) (when (may_threaded x) (Some (Shared ThreadedJob)))))) h in
-    let b = or_none (interrupt_task x) (option_or (when (may_drain x) (Some (Shared DrainJob))) (option_or (when (may_apcs x) (Some (Shared ApcsJob))) (when (may_threaded x) (Some (Shared ThreadedJob))))) a.1 in
-    let c = or_none (when (may_drain x) (Some (Shared DrainJob))) (option_or (when (may_apcs x) (Some (Shared ApcsJob))) (when (may_threaded x) (Some (Shared ThreadedJob)))) b.1 in
+    let a = or_none (fire_task x) (option_or (interrupt_task x)
+    (option_or (when (may_drain x) (Some (Shared DrainJob)))
+    (option_or (when (may_apcs x) (Some (Shared ApcsJob))) (when (may_threaded x) (Some (Shared ThreadedJob)))))) h in
+    let b = or_none (interrupt_task x) (option_or (when (may_drain x) (Some (Shared DrainJob)))
+    (option_or (when (may_apcs x) (Some (Shared ApcsJob))) (when (may_threaded x) (Some (Shared ThreadedJob))))) a.1 in
+    let c = or_none (when (may_drain x) (Some (Shared DrainJob)))
+    (option_or (when (may_apcs x) (Some (Shared ApcsJob))) (when (may_threaded x) (Some (Shared ThreadedJob)))) b.1 in
     let d = or_none (when (may_apcs x) (Some (Shared ApcsJob))) (when (may_threaded x) (Some (Shared ThreadedJob))) c.1 in
-    record { interrupts = λ k i. none_of_them (may_interrupt x) interrupt_classes k (map_none (λ c. Alone (Begin (Int c) (value_at x.seen c - 1))) (find (may_interrupt x) interrupt_classes) b.0) i; drain = when_none (may_drain x) (Shared DrainJob) c.0; threaded = when_none (may_threaded x) (Shared ThreadedJob) d.1 }
+    record {
+      interrupts = λ k i. none_of_them (may_interrupt x) interrupt_classes k
+          (map_none (λ c. Alone (Begin (Int c) (value_at x.seen c - 1))) (find (may_interrupt x) interrupt_classes) b.0) i;
+      drain = when_none (may_drain x) (Shared DrainJob) c.0;
+      threaded = when_none (may_threaded x) (Shared ThreadedJob) d.1;
+    }
 
 -- ---- at the close
 
@@ -105,7 +116,8 @@ not_true : (b : Bool) → not b ≡ true → b ≡ false
 not_true true h = cc
 not_true false h = refl
 
-rest_of : (s : Script) (limit : ℕ) (p : CpuNo) (past : List Event) → IsRun s limit past → (rests (own_of s p past) && has_seen (own_of s p past) (λ c. asked s p c past)) ≡ true → IsAtRest s p past
+rest_of : (s : Script) (limit : ℕ) (p : CpuNo) (past : List Event) → IsRun s limit past →
+    (rests (own_of s p past) && has_seen (own_of s p past) (λ c. asked s p c past)) ≡ true → IsAtRest s p past
 rest_of s limit p past r h =
     record { rested = rested_here; idle = idle_of (own_of s p past) quiet; clear = rested_clear s limit p past r rested_here; seen = seen_here }
   where
@@ -124,7 +136,8 @@ rest_of s limit p past r h =
     seen_here : (c : ℕ) → c < 16 → seen s p c past ≡ asked s p c past
     seen_here c l =
         let v : value_at (own_of s p past).seen c ≡ seen s p c past = get_or-table 16 c (λ c. seen s p c past) 0 l in
-        let e : value_at (own_of s p past).seen c ≡ asked s p c past = eqb-true (value_at (own_of s p past).seen c) (asked s p c past) (all_from 16 (λ c. value_at (own_of s p past).seen c == asked s p c past) parts.1 c l) in
+        let e : value_at (own_of s p past).seen c ≡ asked s p c past = eqb-true (value_at (own_of s p past).seen c) (asked s p c past)
+        (all_from 16 (λ c. value_at (own_of s p past).seen c == asked s p c past) parts.1 c l) in
         sym v ∙ e
 
 pub closed_rests : (s : Script) (limit : ℕ) (p : CpuNo) (past : List Event) → IsClosed s limit p past → IsAtRest s p past
@@ -147,7 +160,8 @@ served_all : (s : Script) (p : CpuNo) (c : ℕ) (past : List Event) → IsAtRest
 served_all s p c past k l d w =
     let v : value_at (own_of s p past).seen c ≡ seen s p c past = get_or-table 16 c (λ c. seen s p c past) 0 l in
     let u : value_at (own_of s p past).served c ≡ served s p c past = get_or-table 16 c (λ c. served s p c past) 0 l in
-    let n : value_at (own_of s p past).seen c ≤ value_at (own_of s p past).served c = ltb-false (value_at (own_of s p past).served c) (value_at (own_of s p past).seen c) d in
+    let n : value_at (own_of s p past).seen c ≤ value_at (own_of s p past).served c = ltb-false (value_at (own_of s p past).served c)
+    (value_at (own_of s p past).seen c) d in
     let a = k.seen c l in
     omega (arith, v, u, n, a, w)
 
@@ -156,7 +170,8 @@ low_level s p c past k h = subst (λ (n : ℕ). nat_lt n c ≡ true) (sym (rest_
 
 drained : (s : Script) (p : CpuNo) (past : List Event) → IsAtRest s p past → (is_due (own_of s p past) 2 ≡ false) × (owes_sweep p past ≡ false)
 drained s p past k =
-    neither (is_due (own_of s p past) 2) (owes_sweep p past) (second_fails (nat_lt (level_at (own_of s p past)) 2) (is_due (own_of s p past) 2 || owes_sweep p past) (low_level s p 2 past k refl) k.idle.drain)
+    neither (is_due (own_of s p past) 2) (owes_sweep p past)
+    (second_fails (nat_lt (level_at (own_of s p past)) 2) (is_due (own_of s p past) 2 || owes_sweep p past) (low_level s p 2 past k refl) k.idle.drain)
 
 pub no_sweep : (s : Script) (p : CpuNo) (past : List Event) → IsAtRest s p past → owes_sweep p past ≡ false
 no_sweep s p past k = (drained s p past k).1
@@ -175,10 +190,12 @@ none_wanted_0 s p past k w = served_all s p 0 past k (omega arith) due w
 
     due : is_due (own_of s p past) 0 ≡ false
     due =
-        second_fails (is_null (own_frames p past)) (is_due (own_of s p past) 0) null (second_fails (level_at (own_of s p past) == 0) (is_null (own_frames p past) && is_due (own_of s p past) 0) level k.idle.threaded)
+        second_fails (is_null (own_frames p past)) (is_due (own_of s p past) 0) null
+        (second_fails (level_at (own_of s p past) == 0) (is_null (own_frames p past) && is_due (own_of s p past) 0) level k.idle.threaded)
 
 -- an interrupt isn't due
-pub no_interrupt : (s : Script) (p : CpuNo) (c : ℕ) (past : List Event) → IsAtRest s p past → list_any (λ k. k == c) interrupt_classes ≡ true → nat_lt 0 c ≡ true → is_due (own_of s p past) c ≡ false
+pub no_interrupt : (s : Script) (p : CpuNo) (c : ℕ) (past : List Event) → IsAtRest s p past → list_any (λ k. k == c) interrupt_classes ≡ true → nat_lt 0 c
+    ≡ true → is_due (own_of s p past) c ≡ false
 no_interrupt s p c past k i h =
     second_fails (nat_lt (level_at (own_of s p past)) c) (is_due (own_of s p past) c) (low_level s p c past k h) (k.idle.interrupts c i)
 

@@ -13,7 +13,8 @@ use Rattle.nt_event.specs.declared.numbers.CpuNo.{CpuNo}
 use Rattle.nt_event.specs.declared.numbers.DpcNo.{DpcNo}
 use Rattle.nt_event.specs.declared.numbers.ThreadNo.{ThreadNo}
 use Rattle.nt_event.specs.declared.scripts.Script.{Script}
-use Rattle.nt_event.specs.Eligible.{DpcRequest, ExpiryRequest, FlushRequest, IntRequest, KernelApcRequest, Request, ThreadedRequest, UserApcRequest, eligible, is_at_base, is_first_dpc, is_interrupt_level}
+use Rattle.nt_event.specs.Eligible.{DpcRequest, ExpiryRequest, FlushRequest, IntRequest, KernelApcRequest, Request, ThreadedRequest, UserApcRequest, eligible, is_at_base, is_first_dpc}
+use Rattle.nt_event.specs.Classes.{is_interrupt_level}
 use Rattle.nt_event.specs.Frames.{frames_in, frames_of, is_base_body, is_on_thread, own_frames, thread_part}
 use Rattle.nt_event.specs.Jobs.{is_due}
 use Rattle.nt_event.specs.Lanes.{lanes_at, queue_at}
@@ -37,7 +38,8 @@ no_dpc_is_left s limit p past k = go (pending s p past) refl
 
     one : (x : Insert) → Contains (pending s p past) x → (part : Part) → x.part ≡ part → ⊥
     one x c OrdinaryPart e =
-        none_wanted_2 s p past (closed_rests s limit p past k) (ordinary_wanted s limit p x past k.run k.named (closed_rests s limit p past k).rested c (ap (same_part OrdinaryPart) e))
+        none_wanted_2 s p past (closed_rests s limit p past k)
+        (ordinary_wanted s limit p x past k.run k.named (closed_rests s limit p past k).rested c (ap (same_part OrdinaryPart) e))
     one x c ThreadedPart e =
         none_wanted_0 s p past (closed_rests s limit p past k) (threaded_wanted s limit p x past k.run k.named c (ap (same_part ThreadedPart) e))
 
@@ -45,9 +47,11 @@ no_dpc_is_left s limit p past k = go (pending s p past) refl
     go [] e = e
     go (x ∷ xs) e = absurd (one x (there x xs e) x.part refl)
 
-none_first : (s : Script) (limit : ℕ) (p : CpuNo) (part : Part) (d : DpcNo) (past : List Event) → IsClosed s limit p past → is_first_dpc part d (queue_at (lanes_at s past) p) ≡ false
+none_first : (s : Script) (limit : ℕ) (p : CpuNo) (part : Part) (d : DpcNo) (past : List Event) → IsClosed s limit p past →
+    is_first_dpc part d (queue_at (lanes_at s past) p) ≡ false
 none_first s limit p part d past k =
-    ap (is_first_dpc part d) (queue_there s p past k.named) ∙ ap (λ (xs : List Insert). option_map_or (is_of_dpc d) (first_dpc part xs) false) (no_dpc_is_left s limit p past k)
+    ap (is_first_dpc part d) (queue_there s p past k.named)
+    ∙ ap (λ (xs : List Insert). option_map_or (is_of_dpc d) (first_dpc part xs) false) (no_dpc_is_left s limit p past k)
 
 -- ---- nothing is eligible
 
@@ -81,7 +85,8 @@ not_on_thread s p past k =
 
 pub nothing_is_eligible : (s : Script) (limit : ℕ) (p : CpuNo) (past : List Event) (r : Request) → IsClosed s limit p past → eligible s p r past ≡ false
 nothing_is_eligible s limit p past (IntRequest level) k =
-    tested_then (is_interrupt_level level) _ (λ i. fails_first (is_due (own_of s p past) level) _ (no_interrupt s p level past (closed_rests s limit p past k) i (above_0 level i)))
+    tested_then (is_interrupt_level level) _ (λ i. fails_first (is_due (own_of s p past) level) _
+    (no_interrupt s p level past (closed_rests s limit p past k) i (above_0 level i)))
 nothing_is_eligible s limit p past (ExpiryRequest key) k =
     fails_first (owes_sweep p past) _ (no_sweep s p past (closed_rests s limit p past k))
 nothing_is_eligible s limit p past (DpcRequest d) k =

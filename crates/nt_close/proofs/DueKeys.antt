@@ -94,8 +94,13 @@ pub record IsDueAt (s : Script) (key : TimerKey) (past : List Event) : Type 0 wh
 -- where there is no first due key, none is due
 none_due : (s : Script) (key : TimerKey) (past : List Event) → IsDueAt s key past → first_due (timers_at s past) ≡ None → ⊥
 none_due s key past k e =
-    let first : MatchOption (first_due (timers_at s past)) ((key : TimerKey) (setting : Setting) → setting_at key (timers_at s past) ≡ Some setting → time past < setting.due) (IsFirstDue (timers_at s past)) = first_due_is_first (timers_at s past) in
-    let later : (key : TimerKey) (setting : Setting) → setting_at key (timers_at s past) ≡ Some setting → time past < setting.due = subst (λ (o : Option SetKey). MatchOption o ((key : TimerKey) (setting : Setting) → setting_at key (timers_at s past) ≡ Some setting → time past < setting.due) (IsFirstDue (timers_at s past))) e first in
+    let first : MatchOption (first_due (timers_at s past))
+    ((key : TimerKey) (setting : Setting) → setting_at key (timers_at s past) ≡ Some setting → time past < setting.due)
+    (IsFirstDue (timers_at s past)) = first_due_is_first (timers_at s past) in
+    let later : (key : TimerKey) (setting : Setting) → setting_at key (timers_at s past) ≡ Some setting →
+    time past < setting.due = subst (λ (o : Option SetKey). MatchOption o
+    ((key : TimerKey) (setting : Setting) → setting_at key (timers_at s past) ≡ Some setting → time past < setting.due)
+    (IsFirstDue (timers_at s past))) e first in
     let l = later key k.setting (set_there s key past k.has ∙ k.is_set) in
     let d = k.due in
     absurd (omega (arith, l, d))
@@ -103,8 +108,12 @@ none_due s key past k e =
 -- and the first due key is due
 pub first_is_due : (s : Script) (past : List Event) (k : SetKey) → first_due (timers_at s past) ≡ Some k → IsDueAt s k.key past
 first_is_due s past k e =
-    let first : MatchOption (first_due (timers_at s past)) ((key : TimerKey) (setting : Setting) → setting_at key (timers_at s past) ≡ Some setting → time past < setting.due) (IsFirstDue (timers_at s past)) = first_due_is_first (timers_at s past) in
-    let is : IsFirstDue (timers_at s past) k = subst (λ (o : Option SetKey). MatchOption o ((key : TimerKey) (setting : Setting) → setting_at key (timers_at s past) ≡ Some setting → time past < setting.due) (IsFirstDue (timers_at s past))) e first in
+    let first : MatchOption (first_due (timers_at s past))
+    ((key : TimerKey) (setting : Setting) → setting_at key (timers_at s past) ≡ Some setting → time past < setting.due)
+    (IsFirstDue (timers_at s past)) = first_due_is_first (timers_at s past) in
+    let is : IsFirstDue (timers_at s past) k = subst (λ (o : Option SetKey). MatchOption o
+    ((key : TimerKey) (setting : Setting) → setting_at key (timers_at s past) ≡ Some setting → time past < setting.due)
+    (IsFirstDue (timers_at s past))) e first in
     let has : has_key s k.key ≡ true = key_named s k.key past k.setting is.is_set in
     record { has = has; setting = k.setting; is_set = sym (set_there s k.key past has) ∙ is.is_set; due = is.due }
 
@@ -117,7 +126,8 @@ itself : (e : Event) → is_of e e.cpu ≡ true
 itself e = eq-eqb e.cpu.0 e.cpu.0 refl
 
 -- an event after which its own processor owes a sweep
-owes_own : (s : Script) (limit : ℕ) (e : Event) (past : List Event) → IsLegal s limit e past → sweep_after e.what (owes_sweep e.cpu past) ≡ true → IsOwed s (e ∷ past)
+owes_own : (s : Script) (limit : ℕ) (e : Event) (past : List Event) → IsLegal s limit e past → sweep_after e.what (owes_sweep e.cpu past) ≡ true →
+    IsOwed s (e ∷ past)
 owes_own s limit e past g h =
     record { cpu = e.cpu; named = legal_cpu s limit e past g; why = inr (sweep_own e.cpu e past (itself e) ∙ h) }
 
@@ -138,19 +148,22 @@ clean_13 s p past (inl k) = let n = k.0 in absurd (omega (arith, n))
 clean_13 s p past (inr (inl k)) = let n = k.0 in absurd (omega (arith, n))
 clean_13 s p past (inr (inr k)) = let n = k.0 in absurd (omega (arith, n))
 
-serves_13 : (s : Script) (limit : ℕ) (p : CpuNo) (e : Event) (past : List Event) → IsLegal s limit e past → is_of e p ≡ true → serves 13 e.what ≡ true → sweep_after e.what (owes_sweep e.cpu past) ≡ true
+serves_13 : (s : Script) (limit : ℕ) (p : CpuNo) (e : Event) (past : List Event) → IsLegal s limit e past → is_of e p ≡ true → serves 13 e.what ≡ true →
+    sweep_after e.what (owes_sweep e.cpu past) ≡ true
 serves_13 s limit p e past g o h = go e.what refl h
   where
     go : (w : What) → e.what ≡ w → serves 13 w ≡ true → sweep_after w (owes_sweep e.cpu past) ≡ true
     go (Clean c) i h =
         let n : c ≡ 13 = eqb-true c 13 h in
-        let k : Known s p (own_of s p past) (lanes_at s past) (Clean c) = subst (λ (w : What). is_next w ≡ true → Known s p (own_of s p past) (lanes_at s past) w) i (known_here s limit p e past o g) refl in
+        let k : Known s p (own_of s p past) (lanes_at s past) (Clean c) = subst
+        (λ (w : What). is_next w ≡ true → Known s p (own_of s p past) (lanes_at s past) w) i (known_here s limit p e past o g) refl in
         clean_13 s p past (subst (λ (c : ℕ). KnownClean p (own_of s p past) (lanes_at s past) c) n k)
     go (Begin (Int level) from) i h = rw h refl
     go w i h = cc
 
 -- what is owed stays owed, where no Clean of class 2 ends a sweep
-owed_keeps : (s : Script) (limit : ℕ) (e : Event) (past : List Event) → IsLegal s limit e past → (e.what ≡ Clean 2 → owes_sweep e.cpu past ≡ false) → IsOwed s past → IsOwed s (e ∷ past)
+owed_keeps : (s : Script) (limit : ℕ) (e : Event) (past : List Event) → IsLegal s limit e past → (e.what ≡ Clean 2 → owes_sweep e.cpu past ≡ false) →
+    IsOwed s past → IsOwed s (e ∷ past)
 owed_keeps s limit e past g clean k = go k.why
   where
     wanted : (b : Bool) → (is_of e k.cpu && serves 13 e.what) ≡ b → IsWanted s k.cpu 13 past → IsOwed s (e ∷ past)
@@ -169,7 +182,8 @@ owed_keeps s limit e past g clean k = go k.why
 
     swept : (b : Bool) → is_of e k.cpu ≡ b → owes_sweep k.cpu past ≡ true → owes_sweep k.cpu (e ∷ past) ≡ true
     swept true o w =
-        sweep_own k.cpu e past o ∙ (ap (sweep_after e.what) w ∙ sweep_keeps e.what (λ i. no (owes_sweep k.cpu past) w (ap (λ (p : CpuNo). owes_sweep p past) (sym (same_cpu e k.cpu o)) ∙ clean i)))
+        sweep_own k.cpu e past o ∙ (ap (sweep_after e.what) w
+        ∙ sweep_keeps e.what (λ i. no (owes_sweep k.cpu past) w (ap (λ (p : CpuNo). owes_sweep p past) (sym (same_cpu e k.cpu o)) ∙ clean i)))
     swept false o w = rw o w
 
     go : IsWanted s k.cpu 13 past ⊎ (owes_sweep k.cpu past ≡ true) → IsOwed s (e ∷ past)
@@ -177,7 +191,8 @@ owed_keeps s limit e past g clean k = go k.why
     go (inr w) = record { cpu = k.cpu; named = k.named; why = inr (swept (is_of e k.cpu) refl w) }
 
 -- a Clean of class 2 ends a sweep only where no key is due
-clean_ends : (s : Script) (key : TimerKey) (p : CpuNo) (past : List Event) → IsDueAt s key past → KnownClean p (own_of s p past) (lanes_at s past) 2 → owes_sweep p past ≡ false
+clean_ends : (s : Script) (key : TimerKey) (p : CpuNo) (past : List Event) → IsDueAt s key past → KnownClean p (own_of s p past) (lanes_at s past) 2 →
+    owes_sweep p past ≡ false
 clean_ends s key p past k (inl c) = go (owes_sweep p past) refl c.2
   where
     go : (b : Bool) → owes_sweep p past ≡ b → when b (first_due (timers_at s past)) ≡ None → owes_sweep p past ≡ false
@@ -187,13 +202,16 @@ clean_ends s key p past k (inr (inl c)) = let n = c.0 in absurd (omega (arith, n
 clean_ends s key p past k (inr (inr c)) = let n = c.0 in absurd (omega (arith, n))
 
 -- a key was due already, so something was owed
-pub due_before : (s : Script) (limit : ℕ) (key : TimerKey) (e : Event) (past : List Event) → IsLegal s limit e past → IsDueAt s key past → IsOwed s past → IsOwed s (e ∷ past)
+pub due_before : (s : Script) (limit : ℕ) (key : TimerKey) (e : Event) (past : List Event) → IsLegal s limit e past → IsDueAt s key past → IsOwed s past →
+    IsOwed s (e ∷ past)
 due_before s limit key e past g k h =
-    owed_keeps s limit e past g (λ i. clean_ends s key e.cpu past k (subst (λ (w : What). is_next w ≡ true → Known s e.cpu (own_of s e.cpu past) (lanes_at s past) w) i (legal_known s limit e past g) refl)) h
+    owed_keeps s limit e past g (λ i. clean_ends s key e.cpu past k
+    (subst (λ (w : What). is_next w ≡ true → Known s e.cpu (own_of s e.cpu past) (lanes_at s past) w) i (legal_known s limit e past g) refl)) h
 
 -- ---- an event that makes a key due
 
-pub clock_owes : (s : Script) (limit : ℕ) (e : Event) (past : List Event) (f units : ℕ) → IsRun s limit (e ∷ past) → e.what ≡ Call f (Clock units) Done → IsOwed s (e ∷ past)
+pub clock_owes : (s : Script) (limit : ℕ) (e : Event) (past : List Event) (f units : ℕ) → IsRun s limit (e ∷ past) → e.what ≡ Call f (Clock units) Done →
+    IsOwed s (e ∷ past)
 clock_owes s limit e past f units r i =
     record { cpu = e.cpu; named = legal_cpu s limit e past r.0; why = inl (asks_wanted s limit e.cpu 13 e past r.1 (λ o. ap (serves 13) i) asked) }
   where
@@ -201,13 +219,16 @@ clock_owes s limit e past f units r i =
     asked = let o : (e.cpu.0 == e.cpu.0) ≡ true = itself e in rw (i, o) refl
 
 -- an expiry is made in a sweep, which goes on
-pub expiry_owes : (s : Script) (limit : ℕ) (e : Event) (past : List Event) (key : TimerKey) (from : ℕ) → IsLegal s limit e past → e.what ≡ Expire key from → IsOwed s (e ∷ past)
+pub expiry_owes : (s : Script) (limit : ℕ) (e : Event) (past : List Event) (key : TimerKey) (from : ℕ) → IsLegal s limit e past → e.what ≡ Expire key from →
+    IsOwed s (e ∷ past)
 expiry_owes s limit e past key from g i =
-    let k : Known s e.cpu (own_of s e.cpu past) (lanes_at s past) (Expire key from) = subst (λ (w : What). is_next w ≡ true → Known s e.cpu (own_of s e.cpu past) (lanes_at s past) w) i (legal_known s limit e past g) refl in
+    let k : Known s e.cpu (own_of s e.cpu past) (lanes_at s past) (Expire key from) = subst
+    (λ (w : What). is_next w ≡ true → Known s e.cpu (own_of s e.cpu past) (lanes_at s past) w) i (legal_known s limit e past g) refl in
     owes_own s limit e past g (ap (λ (w : What). sweep_after w (owes_sweep e.cpu past)) i ∙ k.sweep)
 
 -- a timer that is set with due time 0 is due at once, and its processor owes a sweep
-pub set_owes : (s : Script) (limit : ℕ) (e : Event) (past : List Event) (f due period : ℕ) (t : TimerNo) (y : Reply) → IsLegal s limit e past → e.what ≡ Call f (SetTimer t due period) y → is_answer y ≡ true → due ≡ 0 → IsOwed s (e ∷ past)
+pub set_owes : (s : Script) (limit : ℕ) (e : Event) (past : List Event) (f due period : ℕ) (t : TimerNo) (y : Reply) → IsLegal s limit e past → e.what
+    ≡ Call f (SetTimer t due period) y → is_answer y ≡ true → due ≡ 0 → IsOwed s (e ∷ past)
 set_owes s limit e past f due period t y g i a d =
     owes_own s limit e past g (ap (λ (w : What). sweep_after w (owes_sweep e.cpu past)) i ∙ let z : (due == 0) ≡ true = eq-eqb due 0 d in rw (a, z) refl)
 
@@ -220,14 +241,23 @@ reached_answers {A} x r level m a true e h = go (is_some (deliverable x.apcs r l
     go false h = cc
 reached_answers x r level m a false e h = cc
 
-pub delay_blocks : {A : Type 0} (s : Script) (limit : ℕ) (e : Event) (past : List Event) (f : ℕ) (m : Mode) (a : Bool) (units : ℕ) → IsLegal s limit e past → e.what ≡ Call f (Delay m a units) Blocked → time past + units ≤ time past → A
+pub delay_blocks : {A : Type 0} (s : Script) (limit : ℕ) (e : Event) (past : List Event) (f : ℕ) (m : Mode) (a : Bool) (units : ℕ) → IsLegal s limit e past →
+    e.what ≡ Call f (Delay m a units) Blocked → time past + units ≤ time past → A
 delay_blocks s limit e past f m a units g i d =
-    let known : KnownCall s e.cpu (own_of s e.cpu past) (lanes_at s past) f (Delay m a units) Blocked = subst (λ (w : What). is_next w ≡ true → Known s e.cpu (own_of s e.cpu past) (lanes_at s past) w) i (legal_known s limit e past g) refl in
+    let known : KnownCall s e.cpu (own_of s e.cpu past) (lanes_at s past) f (Delay m a units) Blocked = subst
+    (λ (w : What). is_next w ≡ true → Known s e.cpu (own_of s e.cpu past) (lanes_at s past) w) i (legal_known s limit e past g) refl in
     let replied = (call_accepted s e.cpu (own_of s e.cpu past) (lanes_at s past) f (Delay m a units) Blocked known refl).1 in
-    reached_answers (facts_of (lanes_at s past) (stand_at s e.cpu past).thread) (stand_at s e.cpu past).regions (stand_at s e.cpu past).level m a (is_reached (time past) (time past + units)) (le-leb (time past + units) (time past) d) (sym replied)
+    reached_answers (facts_of (lanes_at s past) (stand_at s e.cpu past).thread) (stand_at s e.cpu past).regions (stand_at s e.cpu past).level m a
+    (is_reached (time past) (time past + units)) (le-leb (time past + units) (time past) d) (sym replied)
 
-pub rewait_blocks : {A : Type 0} (s : Script) (e : Event) (past : List Event) (f due : ℕ) → (k : KnownRewait e.cpu (own_of s e.cpu past) (lanes_at s past) f Blocked) → k.wait.due ≡ Some due → due ≤ time past → A
+pub rewait_blocks : {A : Type 0} (s : Script) (e : Event) (past : List Event) (f due : ℕ) →
+    (k : KnownRewait e.cpu (own_of s e.cpu past) (lanes_at s past) f Blocked) → k.wait.due ≡ Some due → due ≤ time past → A
 rewait_blocks s e past f due k o d =
-    let replied : wait_reply (facts_of (lanes_at s past) (stand_at s e.cpu past).thread) (stand_at s e.cpu past).regions (stand_at s e.cpu past).level k.wait.mode k.wait.alertable (option_map (is_reached (time past)) k.wait.due) ≡ Blocked = sym k.reply in
-    let reached : wait_reply (facts_of (lanes_at s past) (stand_at s e.cpu past).thread) (stand_at s e.cpu past).regions (stand_at s e.cpu past).level k.wait.mode k.wait.alertable (Some (is_reached (time past) due)) ≡ Blocked = subst (λ (o : Option ℕ). wait_reply (facts_of (lanes_at s past) (stand_at s e.cpu past).thread) (stand_at s e.cpu past).regions (stand_at s e.cpu past).level k.wait.mode k.wait.alertable (option_map (is_reached (time past)) o) ≡ Blocked) o replied in
-    reached_answers (facts_of (lanes_at s past) (stand_at s e.cpu past).thread) (stand_at s e.cpu past).regions (stand_at s e.cpu past).level k.wait.mode k.wait.alertable (is_reached (time past) due) (le-leb due (time past) d) reached
+    let replied : wait_reply (facts_of (lanes_at s past) (stand_at s e.cpu past).thread) (stand_at s e.cpu past).regions
+    (stand_at s e.cpu past).level k.wait.mode k.wait.alertable (option_map (is_reached (time past)) k.wait.due) ≡ Blocked = sym k.reply in
+    let reached : wait_reply (facts_of (lanes_at s past) (stand_at s e.cpu past).thread) (stand_at s e.cpu past).regions
+    (stand_at s e.cpu past).level k.wait.mode k.wait.alertable (Some (is_reached (time past) due))
+    ≡ Blocked = subst (λ (o : Option ℕ). wait_reply (facts_of (lanes_at s past) (stand_at s e.cpu past).thread) (stand_at s e.cpu past).regions
+    (stand_at s e.cpu past).level k.wait.mode k.wait.alertable (option_map (is_reached (time past)) o) ≡ Blocked) o replied in
+    reached_answers (facts_of (lanes_at s past) (stand_at s e.cpu past).thread) (stand_at s e.cpu past).regions
+    (stand_at s e.cpu past).level k.wait.mode k.wait.alertable (is_reached (time past) due) (le-leb due (time past) d) reached

@@ -33,7 +33,8 @@ use Rattle.nt_close.proofs.DueKeys.{IsDueAt, clock_owes, delay_blocks, due_befor
 
 -- ---- timers
 
-timer_step : (s : Script) (limit : ℕ) (t : TimerNo) (x : Setting) (e : Event) (past : List Event) → IsRun s limit (e ∷ past) → has_key s (OfTimer t) ≡ true → (IsDueAt s (OfTimer t) past → IsOwed s past) → timer_setting t (e ∷ past) ≡ Some x → x.due ≤ time (e ∷ past) → IsOwed s (e ∷ past)
+timer_step : (s : Script) (limit : ℕ) (t : TimerNo) (x : Setting) (e : Event) (past : List Event) → IsRun s limit (e ∷ past) → has_key s (OfTimer t) ≡ true →
+    (IsDueAt s (OfTimer t) past → IsOwed s past) → timer_setting t (e ∷ past) ≡ Some x → x.due ≤ time (e ∷ past) → IsOwed s (e ∷ past)
 timer_step s limit t x e past r has ih h d = go e.what refl h d
   where
     before : timer_setting t past ≡ Some x → x.due ≤ time past → IsOwed s (e ∷ past)
@@ -41,7 +42,9 @@ timer_step s limit t x e past r has ih h d = go e.what refl h d
         let k : IsDueAt s (OfTimer t) past = record { has = has; setting = x; is_set = h; due = d } in
         due_before s limit (OfTimer t) e past r.0 k (ih k)
 
-    set : (f due period : ℕ) (u : TimerNo) (y : Reply) (b : Bool) → (is_answer y && (u.0 == t.0)) ≡ b → e.what ≡ Call f (SetTimer u due period) y → (if b then Some (record { due = time past + due; number = length past; period = period }) else timer_setting t past) ≡ Some x → x.due ≤ time past → IsOwed s (e ∷ past)
+    set : (f due period : ℕ) (u : TimerNo) (y : Reply) (b : Bool) → (is_answer y && (u.0 == t.0)) ≡ b → e.what ≡ Call f (SetTimer u due period) y →
+        (if b then Some (record { due = time past + due; number = length past; period = period }) else timer_setting t past) ≡ Some x → x.due ≤ time past →
+        IsOwed s (e ∷ past)
     set f due period u y true q i h d =
         let same : time past + due ≡ x.due = at_due (record { due = time past + due; number = length past; period = period }) x h in
         set_owes s limit e past f due period u y r.0 i (both (is_answer y) (u.0 == t.0) q).0 (omega (arith, same, d))
@@ -54,7 +57,8 @@ timer_step s limit t x e past r has ih h d = go e.what refl h d
     cancelled true h d = cc
     cancelled false h d = before h d
 
-    go : (w : What) → e.what ≡ w → timer_after t (length past) (time past) w (timer_setting t past) ≡ Some x → x.due ≤ time_after w (time past) → IsOwed s (e ∷ past)
+    go : (w : What) → e.what ≡ w → timer_after t (length past) (time past) w (timer_setting t past) ≡ Some x → x.due ≤ time_after w (time past) →
+        IsOwed s (e ∷ past)
     go (Call f (SetTimer u due period) y) i h d =
         set f due period u y (is_answer y && (u.0 == t.0)) refl i h d
     go (Call f (CancelTimer u) Yes) i h d = cancelled (u.0 == t.0) h d
@@ -64,7 +68,8 @@ timer_step s limit t x e past r has ih h d = go e.what refl h d
 
 -- ---- delays
 
-delay_step : (s : Script) (limit : ℕ) (t : ThreadNo) (x : Setting) (e : Event) (past : List Event) → IsRun s limit (e ∷ past) → has_key s (OfDelay t) ≡ true → (IsDueAt s (OfDelay t) past → IsOwed s past) → delay_setting s t (e ∷ past) ≡ Some x → x.due ≤ time (e ∷ past) → IsOwed s (e ∷ past)
+delay_step : (s : Script) (limit : ℕ) (t : ThreadNo) (x : Setting) (e : Event) (past : List Event) → IsRun s limit (e ∷ past) → has_key s (OfDelay t) ≡ true →
+    (IsDueAt s (OfDelay t) past → IsOwed s past) → delay_setting s t (e ∷ past) ≡ Some x → x.due ≤ time (e ∷ past) → IsOwed s (e ∷ past)
 delay_step s limit t x e past r has ih h d = go e.what refl h d
   where
     before : delay_setting s t past ≡ Some x → x.due ≤ time past → IsOwed s (e ∷ past)
@@ -79,16 +84,21 @@ delay_step s limit t x e past r has ih h d = go e.what refl h d
     either true old h = h
     either false old h = h
 
-    delayed : (f units : ℕ) (a : Bool) (b : Bool) → (time past + units ≤ time past → IsOwed s (e ∷ past)) → (if b then Some (record { due = time past + units; number = length past; period = 0 }) else delay_setting s t past) ≡ Some x → x.due ≤ time past → IsOwed s (e ∷ past)
+    delayed : (f units : ℕ) (a : Bool) (b : Bool) → (time past + units ≤ time past → IsOwed s (e ∷ past)) →
+        (if b then Some (record { due = time past + units; number = length past; period = 0 }) else delay_setting s t past) ≡ Some x → x.due ≤ time past →
+        IsOwed s (e ∷ past)
     delayed f units a true k h d =
         let same : time past + units ≡ x.due = its_due (record { due = time past + units; number = length past; period = 0 }) x h in
         k (omega (arith, same, d))
     delayed f units a false k h d = before h d
 
-    rewaited : (f : ℕ) (b : Bool) → KnownRewait e.cpu (own_of s e.cpu past) (lanes_at s past) f Blocked → (if b then delay_set (length past) (option_and_then (λ w. w.due) (stand_at s e.cpu past).again) (delay_setting s t past) else delay_setting s t past) ≡ Some x → x.due ≤ time past → IsOwed s (e ∷ past)
+    rewaited : (f : ℕ) (b : Bool) → KnownRewait e.cpu (own_of s e.cpu past) (lanes_at s past) f Blocked →
+        (if b then delay_set (length past) (option_and_then (λ w. w.due) (stand_at s e.cpu past).again) (delay_setting s t past) else delay_setting s t past)
+        ≡ Some x → x.due ≤ time past → IsOwed s (e ∷ past)
     rewaited f false k h d = before h d
     rewaited f true k h d =
-        due_so k.wait.due refl (subst (λ (o : Option Again). delay_set (length past) (option_and_then (λ w. w.due) o) (delay_setting s t past) ≡ Some x) (again_known e.cpu (own_of s e.cpu past) k.frame k.goes_on ∙ k.again) h)
+        due_so k.wait.due refl (subst (λ (o : Option Again). delay_set (length past) (option_and_then (λ w. w.due) o) (delay_setting s t past) ≡ Some x)
+        (again_known e.cpu (own_of s e.cpu past) k.frame k.goes_on ∙ k.again) h)
       where
         due_so : (o : Option ℕ) → k.wait.due ≡ o → delay_set (length past) o (delay_setting s t past) ≡ Some x → IsOwed s (e ∷ past)
         due_so None q h = before h d
@@ -96,11 +106,14 @@ delay_step s limit t x e past r has ih h d = go e.what refl h d
             let same : due ≡ x.due = its_due (record { due = due; number = length past; period = 0 }) x h in
             rewait_blocks s e past f due k q (omega (arith, same, d))
 
-    go : (w : What) → e.what ≡ w → expired_delay t w (if is_of_thread s t e then blocked_after (length past) (time past) (stand_at s e.cpu past).again w (delay_setting s t past) else delay_setting s t past) ≡ Some x → x.due ≤ time_after w (time past) → IsOwed s (e ∷ past)
+    go : (w : What) → e.what ≡ w → expired_delay t w (if is_of_thread s t e
+        then blocked_after (length past) (time past) (stand_at s e.cpu past).again w (delay_setting s t past) else delay_setting s t past) ≡ Some x →
+        x.due ≤ time_after w (time past) → IsOwed s (e ∷ past)
     go (Call f (Delay m a units) Blocked) i h d =
         delayed f units a (is_of_thread s t e) (λ l. delay_blocks s limit e past f m a units r.0 i l) h d
     go (Rewait f Blocked) i h d =
-        rewaited f (is_of_thread s t e) (subst (λ (w : What). is_next w ≡ true → Known s e.cpu (own_of s e.cpu past) (lanes_at s past) w) i (legal_known s limit e past r.0) refl) h d
+        rewaited f (is_of_thread s t e) (subst (λ (w : What). is_next w ≡ true → Known s e.cpu (own_of s e.cpu past) (lanes_at s past) w) i
+        (legal_known s limit e past r.0) refl) h d
     go (Call f (Clock units) Done) i h d = clock_owes s limit e past f units r i
     go (Expire key from) i h d = expiry_owes s limit e past key from r.0 i
     go w i h d = before (either (is_of_thread s t e) (delay_setting s t past) h) d
@@ -120,7 +133,8 @@ a_due_key_is_owed s limit k past r h = due_owed s limit k.key past r (first_is_d
 
 -- ---- at the close
 
-pub no_due_key_is_left : (s : Script) (limit : ℕ) (past : List Event) → IsRun s limit past → is_settled s limit past ≡ true → ((p : CpuNo) → nat_lt p.0 s.cpus ≡ true → is_cut limit (own_of s p past) ≡ false) → first_due (timers_at s past) ≡ None
+pub no_due_key_is_left : (s : Script) (limit : ℕ) (past : List Event) → IsRun s limit past → is_settled s limit past ≡ true →
+    ((p : CpuNo) → nat_lt p.0 s.cpus ≡ true → is_cut limit (own_of s p past) ≡ false) → first_due (timers_at s past) ≡ None
 no_due_key_is_left s limit past r settled uncut = go (first_due (timers_at s past)) refl
   where
     closed : (p : CpuNo) → nat_lt p.0 s.cpus ≡ true → IsClosed s limit p past

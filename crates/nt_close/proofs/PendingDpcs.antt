@@ -44,7 +44,8 @@ pub record IsNew (s : Script) (p : CpuNo) (n : ℕ) (by : CpuNo) (w : What) (obj
   pub queue : ((queue_for (object_in objects dpc).target by).0 == p.0) ≡ true
   pub insert : new_insert s dpc n (object_in objects dpc) ≡ x
 
-dropped_contains : (p by : CpuNo) (w : What) (o : Option DpcNo) (objects : List ObjectState) (xs : List Insert) (x : Insert) → Contains (drop_insert p by w o objects xs) x → Contains xs x
+dropped_contains : (p by : CpuNo) (w : What) (o : Option DpcNo) (objects : List ObjectState) (xs : List Insert) (x : Insert) →
+    Contains (drop_insert p by w o objects xs) x → Contains xs x
 dropped_contains p by w None objects xs x h = h
 dropped_contains p by w (Some d) objects xs x h = go (is_queue (left_queue by w (object_in objects d)) p) h
   where
@@ -52,12 +53,14 @@ dropped_contains p by w (Some d) objects xs x h = go (is_queue (left_queue by w 
     go true h = (kept_contains (λ x. not (is_of_dpc d x)) xs x h).0
     go false h = h
 
-added_contains : (s : Script) (p : CpuNo) (n : ℕ) (by : CpuNo) (w : What) (o : Option DpcNo) (objects : List ObjectState) (xs : List Insert) (x : Insert) → inserted_dpc w ≡ o → Contains (add_insert s p n by o objects xs) x → IsNew s p n by w objects x ⊎ Contains xs x
+added_contains : (s : Script) (p : CpuNo) (n : ℕ) (by : CpuNo) (w : What) (o : Option DpcNo) (objects : List ObjectState) (xs : List Insert) (x : Insert) →
+    inserted_dpc w ≡ o → Contains (add_insert s p n by o objects xs) x → IsNew s p n by w objects x ⊎ Contains xs x
 added_contains s p n by w None objects xs x i h = inr h
 added_contains s p n by w (Some d) objects xs x i h =
     go ((queue_for (object_in objects d).target by).0 == p.0) refl h
   where
-    go : (b : Bool) → ((queue_for (object_in objects d).target by).0 == p.0) ≡ b → Contains (if b then (new_insert s d n (object_in objects d) ∷ xs) else xs) x → IsNew s p n by w objects x ⊎ Contains xs x
+    go : (b : Bool) → ((queue_for (object_in objects d).target by).0 == p.0) ≡ b →
+        Contains (if b then (new_insert s d n (object_in objects d) ∷ xs) else xs) x → IsNew s p n by w objects x ⊎ Contains xs x
     go true q h =
         elim (contains_cases (new_insert s d n (object_in objects d)) xs x h) [
           | inl same ↦ inl (record { dpc = d; inserted = i; queue = q; insert = same })
@@ -68,15 +71,18 @@ added_contains s p n by w (Some d) objects xs x i h =
 abbrev pub NewAt : Script → CpuNo → Event → List Event → Insert → Type 0
 NewAt s p e past x = IsNew s p (length past) e.cpu e.what (objects_at s past) x
 
-pub pending_kept : (s : Script) (p : CpuNo) (e : Event) (past : List Event) (x : Insert) → Contains (pending s p (e ∷ past)) x → NewAt s p e past x ⊎ Contains (pending s p past) x
+pub pending_kept : (s : Script) (p : CpuNo) (e : Event) (past : List Event) (x : Insert) → Contains (pending s p (e ∷ past)) x → NewAt s p e past x ⊎
+    Contains (pending s p past) x
 pending_kept s p e past x h =
-    elim (added_contains s p (length past) e.cpu e.what (inserted_dpc e.what) (objects_at s past) (drop_insert p e.cpu e.what (used_up_dpc e.what) (objects_at s past) (pending s p past)) x refl h) [
+    elim (added_contains s p (length past) e.cpu e.what (inserted_dpc e.what) (objects_at s past)
+    (drop_insert p e.cpu e.what (used_up_dpc e.what) (objects_at s past) (pending s p past)) x refl h) [
       | inl new ↦ inl new
       | inr there ↦ inr (dropped_contains p e.cpu e.what (used_up_dpc e.what) (objects_at s past) (pending s p past) x there)
     ]
 
 -- where there is no first of a part, none of the part is pending
-pub none_first : (s : Script) (p : CpuNo) (past : List Event) (part : Part) (x : Insert) → nat_lt p.0 s.cpus ≡ true → first_dpc part (queue_at (lanes_at s past) p).pending ≡ None → Contains (pending s p past) x → is_in part x ≡ false
+pub none_first : (s : Script) (p : CpuNo) (past : List Event) (part : Part) (x : Insert) → nat_lt p.0 s.cpus ≡ true →
+    first_dpc part (queue_at (lanes_at s past) p).pending ≡ None → Contains (pending s p past) x → is_in part x ≡ false
 none_first s p past part x has h c =
     let first : first_dpc part (pending s p past) ≡ None = ap (λ (q : QueueState). first_dpc part q.pending) (sym (queue_there s p past has)) ∙ h in
     subst (λ (o : Option Insert). IsFirst part (pending s p past) o) first (first_is_first s p past part) x c
@@ -84,16 +90,19 @@ none_first s p past part x has h c =
 -- ---- what an insert asks for
 
 -- an event that inserts the object asks by the table for its queue's processor
-inserts_ask : (s : Script) (p : CpuNo) (c : ℕ) (e : Event) (past : List Event) (d : DpcNo) → inserted_dpc e.what ≡ Some d → list_any (is_ask p c) (queue_asks s d e.cpu (lanes_at s past)) ≡ true → asks s p c e past ≡ true
+inserts_ask : (s : Script) (p : CpuNo) (c : ℕ) (e : Event) (past : List Event) (d : DpcNo) → inserted_dpc e.what ≡ Some d →
+    list_any (is_ask p c) (queue_asks s d e.cpu (lanes_at s past)) ≡ true → asks s p c e past ≡ true
 inserts_ask s p c e past d i a = go e.what refl i
   where
     go : (w : What) → e.what ≡ w → inserted_dpc w ≡ Some d → asks s p c e past ≡ true
     go (Call f (Queue x) Yes) k i =
         let same : x ≡ d = cc in
-        ap (λ (w : What). list_any (is_ask p c) (what_asks s (stand_at s e.cpu past) w (lanes_at s past))) k ∙ (ap (λ (x : DpcNo). list_any (is_ask p c) (queue_asks s x e.cpu (lanes_at s past))) same ∙ a)
+        ap (λ (w : What). list_any (is_ask p c) (what_asks s (stand_at s e.cpu past) w (lanes_at s past))) k
+        ∙ (ap (λ (x : DpcNo). list_any (is_ask p c) (queue_asks s x e.cpu (lanes_at s past))) same ∙ a)
     go (Fire x Yes) k i =
         let same : x ≡ d = cc in
-        ap (λ (w : What). list_any (is_ask p c) (what_asks s (stand_at s e.cpu past) w (lanes_at s past))) k ∙ (ap (λ (x : DpcNo). list_any (is_ask p c) (queue_asks s x e.cpu (lanes_at s past))) same ∙ a)
+        ap (λ (w : What). list_any (is_ask p c) (what_asks s (stand_at s e.cpu past) w (lanes_at s past))) k
+        ∙ (ap (λ (x : DpcNo). list_any (is_ask p c) (queue_asks s x e.cpu (lanes_at s past))) same ∙ a)
     go w k i = cc
 
 -- and it serves no class
@@ -111,27 +120,34 @@ part_is ThreadedPart ThreadedPart h = refl
 part_is OrdinaryPart ThreadedPart h = cc
 part_is ThreadedPart OrdinaryPart h = cc
 
-new_part : (s : Script) (p : CpuNo) (e : Event) (past : List Event) (part : Part) (x : Insert) → (k : NewAt s p e past x) → is_in part x ≡ true → part_of s k.dpc ≡ part
+new_part : (s : Script) (p : CpuNo) (e : Event) (past : List Event) (part : Part) (x : Insert) → (k : NewAt s p e past x) → is_in part x ≡ true →
+    part_of s k.dpc ≡ part
 new_part s p e past part x k h =
     ap (λ (x : Insert). x.part) k.insert ∙ part_is part x.part h
 
 -- ---- threaded DPCs
 
-new_threaded : (s : Script) (limit : ℕ) (p : CpuNo) (e : Event) (past : List Event) (x : Insert) → IsRun s limit past → is_in ThreadedPart x ≡ true → NewAt s p e past x → IsWanted s p 0 (e ∷ past)
+new_threaded : (s : Script) (limit : ℕ) (p : CpuNo) (e : Event) (past : List Event) (x : Insert) → IsRun s limit past → is_in ThreadedPart x ≡ true →
+    NewAt s p e past x → IsWanted s p 0 (e ∷ past)
 new_threaded s limit p e past x r t k =
     asks_wanted s limit p 0 e past r (λ o. inserts_serve 0 e.what k.dpc k.inserted) (inserts_ask s p 0 e past k.dpc k.inserted asked)
   where
     asked : list_any (is_ask p 0) (queue_asks s k.dpc e.cpu (lanes_at s past)) ≡ true
     asked =
-        ap (λ (part : Part). list_any (is_ask p 0) (dpc_asks s part (object_at (lanes_at s past) k.dpc) e.cpu (queue_for (object_at (lanes_at s past) k.dpc).target e.cpu) (queue_at (lanes_at s past) (queue_for (object_at (lanes_at s past) k.dpc).target e.cpu)))) (new_part s p e past ThreadedPart x k t) ∙ asked_one (queue_for (object_at (lanes_at s past) k.dpc).target e.cpu) p 0 k.queue
+        ap (λ (part : Part). list_any (is_ask p 0) (dpc_asks s part (object_at (lanes_at s past) k.dpc) e.cpu
+        (queue_for (object_at (lanes_at s past) k.dpc).target e.cpu)
+        (queue_at (lanes_at s past) (queue_for (object_at (lanes_at s past) k.dpc).target e.cpu)))) (new_part s p e past ThreadedPart x k t)
+        ∙ asked_one (queue_for (object_at (lanes_at s past) k.dpc).target e.cpu) p 0 k.queue
 
 -- a Clean of class 0 comes only where no threaded DPC is pending
-cleans_threaded : (s : Script) (p : CpuNo) (past : List Event) (x : Insert) → nat_lt p.0 s.cpus ≡ true → KnownClean p (own_of s p past) (lanes_at s past) 0 → Contains (pending s p past) x → is_in ThreadedPart x ≡ true → ⊥
+cleans_threaded : (s : Script) (p : CpuNo) (past : List Event) (x : Insert) → nat_lt p.0 s.cpus ≡ true → KnownClean p (own_of s p past) (lanes_at s past) 0 →
+    Contains (pending s p past) x → is_in ThreadedPart x ≡ true → ⊥
 cleans_threaded s p past x has (inl k) c t = let n = k.0 in absurd (omega (arith, n))
 cleans_threaded s p past x has (inr (inl k)) c t = let n = k.0 in absurd (omega (arith, n))
 cleans_threaded s p past x has (inr (inr k)) c t = both_ways (is_in ThreadedPart x) (none_first s p past ThreadedPart x has k.2 c) t
 
-serves_threaded : (s : Script) (limit : ℕ) (p : CpuNo) (e : Event) (past : List Event) (x : Insert) → nat_lt p.0 s.cpus ≡ true → IsLegal s limit e past → Contains (pending s p past) x → is_in ThreadedPart x ≡ true → is_of e p ≡ true → serves 0 e.what ≡ false
+serves_threaded : (s : Script) (limit : ℕ) (p : CpuNo) (e : Event) (past : List Event) (x : Insert) → nat_lt p.0 s.cpus ≡ true → IsLegal s limit e past →
+    Contains (pending s p past) x → is_in ThreadedPart x ≡ true → is_of e p ≡ true → serves 0 e.what ≡ false
 serves_threaded s limit p e past x has g c t o = go (serves 0 e.what) refl
   where
     go : (b : Bool) → serves 0 e.what ≡ b → serves 0 e.what ≡ false
@@ -141,7 +157,8 @@ serves_threaded s limit p e past x has g c t o = go (serves 0 e.what) refl
         let k = subst (λ (w : What). is_next w ≡ true → Known s p (own_of s p past) (lanes_at s past) w) w (known_here s limit p e past o g) in
         absurd (cleans_threaded s p past x has (k refl) c t)
 
-pub threaded_wanted : (s : Script) (limit : ℕ) (p : CpuNo) (x : Insert) (past : List Event) → IsRun s limit past → nat_lt p.0 s.cpus ≡ true → Contains (pending s p past) x → is_in ThreadedPart x ≡ true → IsWanted s p 0 past
+pub threaded_wanted : (s : Script) (limit : ℕ) (p : CpuNo) (x : Insert) (past : List Event) → IsRun s limit past → nat_lt p.0 s.cpus ≡ true →
+    Contains (pending s p past) x → is_in ThreadedPart x ≡ true → IsWanted s p 0 past
 threaded_wanted s limit p x [] r has c t = contains_none x c
 threaded_wanted s limit p x (e ∷ past) r has c t =
     elim (pending_kept s p e past x c) [
@@ -160,7 +177,8 @@ insert_wakes MediumHigh own deep idle a b = refl
 insert_wakes High own deep idle a b = refl
 
 -- an insert by another processor into an idle queue asks for class 2
-new_ordinary : (s : Script) (limit : ℕ) (p : CpuNo) (e : Event) (past : List Event) (x : Insert) → IsRun s limit past → nat_lt p.0 s.cpus ≡ true → is_of e p ≡ false → rested p past ≡ true → is_in OrdinaryPart x ≡ true → NewAt s p e past x → IsWanted s p 2 (e ∷ past)
+new_ordinary : (s : Script) (limit : ℕ) (p : CpuNo) (e : Event) (past : List Event) (x : Insert) → IsRun s limit past → nat_lt p.0 s.cpus ≡ true → is_of e p
+    ≡ false → rested p past ≡ true → is_in OrdinaryPart x ≡ true → NewAt s p e past x → IsWanted s p 2 (e ∷ past)
 new_ordinary s limit p e past x r has other rests t k =
     asks_wanted s limit p 2 e past r (λ o. inserts_serve 2 e.what k.dpc k.inserted) (inserts_ask s p 2 e past k.dpc k.inserted (by_part ∙ wakes))
   where
@@ -193,18 +211,23 @@ new_ordinary s limit p e past x r has other rests t k =
     deep : Bool
     deep = nat_lt (depth_limit s) (depth_of (queue_at (lanes_at s past) q).pending + 1)
 
-    by_part : list_any (is_ask p 2) (queue_asks s k.dpc e.cpu (lanes_at s past)) ≡ list_any (is_ask p 2) (dpc_asks s OrdinaryPart o e.cpu q (queue_at (lanes_at s past) q))
+    by_part : list_any (is_ask p 2) (queue_asks s k.dpc e.cpu (lanes_at s past))
+        ≡ list_any (is_ask p 2) (dpc_asks s OrdinaryPart o e.cpu q (queue_at (lanes_at s past) q))
     by_part =
-        ap (λ (part : Part). list_any (is_ask p 2) (dpc_asks s part (object_at (lanes_at s past) k.dpc) e.cpu (queue_for (object_at (lanes_at s past) k.dpc).target e.cpu) (queue_at (lanes_at s past) (queue_for (object_at (lanes_at s past) k.dpc).target e.cpu)))) (new_part s p e past OrdinaryPart x k t)
+        ap (λ (part : Part). list_any (is_ask p 2) (dpc_asks s part (object_at (lanes_at s past) k.dpc) e.cpu
+        (queue_for (object_at (lanes_at s past) k.dpc).target e.cpu)
+        (queue_at (lanes_at s past) (queue_for (object_at (lanes_at s past) k.dpc).target e.cpu)))) (new_part s p e past OrdinaryPart x k t)
 
     wakes : list_any (is_ask p 2) (dpc_asks s OrdinaryPart o e.cpu q (queue_at (lanes_at s past) q)) ≡ true
     wakes =
-        ap (λ (b : Bool). list_any (is_ask p 2) (ask_if b q 2)) (insert_wakes o.importance (q.0 == e.cpu.0) deep (queue_at (lanes_at s past) q).idle not_own idle) ∙ asked_one q p 2 k.queue
+        ap (λ (b : Bool). list_any (is_ask p 2) (ask_if b q 2))
+        (insert_wakes o.importance (q.0 == e.cpu.0) deep (queue_at (lanes_at s past) q).idle not_own idle) ∙ asked_one q p 2 k.queue
 
 rest_keeps : (s : Script) (p : CpuNo) (e : Event) (past : List Event) → e.what ≡ Rest → pending s p (e ∷ past) ≡ pending s p past
 rest_keeps s p e past w = rw w refl
 
-pub ordinary_wanted : (s : Script) (limit : ℕ) (p : CpuNo) (x : Insert) (past : List Event) → IsRun s limit past → nat_lt p.0 s.cpus ≡ true → rested p past ≡ true → Contains (pending s p past) x → is_in OrdinaryPart x ≡ true → IsWanted s p 2 past
+pub ordinary_wanted : (s : Script) (limit : ℕ) (p : CpuNo) (x : Insert) (past : List Event) → IsRun s limit past → nat_lt p.0 s.cpus ≡ true → rested p past
+    ≡ true → Contains (pending s p past) x → is_in OrdinaryPart x ≡ true → IsWanted s p 2 past
 ordinary_wanted s limit p x [] r has h c t = contains_none x c
 ordinary_wanted s limit p x (e ∷ past) r has h c t =
     go (is_of e p) refl (λ k there. ordinary_wanted s limit p x past r.1 has k there t)

@@ -56,7 +56,8 @@ quiet_if false x y h k = h
 -- ---- events that the thread makes
 
 -- a wait that answers by its tests, or is refused
-quiet_wait : (w : Wait) (o : Option Refusal) (x : ThreadFacts) (y : Reply) → y ≡ reply_or o (wait_reply x w.regions w.level w.mode w.alertable w.reached) → NothingBehind x → NothingBehind (waited w.number w.regions w.level w.mode w.alertable (is_some w.reached) y x)
+quiet_wait : (w : Wait) (o : Option Refusal) (x : ThreadFacts) (y : Reply) → y ≡ reply_or o (wait_reply x w.regions w.level w.mode w.alertable w.reached) →
+    NothingBehind x → NothingBehind (waited w.number w.regions w.level w.mode w.alertable (is_some w.reached) y x)
 quiet_wait w None x y e h =
     subst (λ (y : Reply). NothingBehind (waited w.number w.regions w.level w.mode w.alertable (is_some w.reached) y x)) (sym e) (quiet-after (Waits w) x h)
 quiet_wait w (Some r) x y e h =
@@ -66,19 +67,33 @@ same_some : (f : ℕ → Bool) (o : Option ℕ) → is_some (option_map f o) ≡
 same_some f None = refl
 same_some f (Some n) = refl
 
-quiet_rewait : (s : Script) (e : Event) (past : List Event) (f : ℕ) (y : Reply) (x : ThreadFacts) → facts_of (lanes_at s past) (running e.cpu past) ≡ x → KnownRewait e.cpu (own_of s e.cpu past) (lanes_at s past) f y → NothingBehind x → NothingBehind (waited_again (length past) (stand_at s e.cpu past).regions (stand_at s e.cpu past).level (stand_at s e.cpu past).again y x)
+quiet_rewait : (s : Script) (e : Event) (past : List Event) (f : ℕ) (y : Reply) (x : ThreadFacts) → facts_of (lanes_at s past) (running e.cpu past) ≡ x →
+    KnownRewait e.cpu (own_of s e.cpu past) (lanes_at s past) f y → NothingBehind x →
+    NothingBehind (waited_again (length past) (stand_at s e.cpu past).regions (stand_at s e.cpu past).level (stand_at s e.cpu past).again y x)
 quiet_rewait s e past f y x same k h =
-    subst (λ (o : Option Again). NothingBehind (waited_again (length past) (stand_at s e.cpu past).regions (stand_at s e.cpu past).level o y x)) (sym again) (subst (λ (b : Bool). NothingBehind (waited (length past) (stand_at s e.cpu past).regions (stand_at s e.cpu past).level k.wait.mode k.wait.alertable b y x)) (same_some (is_reached (lanes_at s past).timers.now) k.wait.due) (quiet_wait taken None x y replied h))
+    subst (λ (o : Option Again). NothingBehind (waited_again (length past) (stand_at s e.cpu past).regions (stand_at s e.cpu past).level o y x)) (sym again)
+    (subst (λ (b : Bool). NothingBehind (waited (length past) (stand_at s e.cpu past).regions
+    (stand_at s e.cpu past).level k.wait.mode k.wait.alertable b y x)) (same_some (is_reached (lanes_at s past).timers.now) k.wait.due)
+    (quiet_wait taken None x y replied h))
   where
     again : (stand_at s e.cpu past).again ≡ Some k.wait
     again = again_known e.cpu (own_of s e.cpu past) k.frame k.goes_on ∙ k.again
 
     taken : Wait
-    taken = record { number = length past; mode = k.wait.mode; alertable = k.wait.alertable; reached = option_map (is_reached (lanes_at s past).timers.now) k.wait.due; level = (stand_at s e.cpu past).level; regions = (stand_at s e.cpu past).regions }
+    taken = record {
+      number = length past;
+      mode = k.wait.mode;
+      alertable = k.wait.alertable;
+      reached = option_map (is_reached (lanes_at s past).timers.now) k.wait.due;
+      level = (stand_at s e.cpu past).level;
+      regions = (stand_at s e.cpu past).regions;
+    }
 
-    replied : y ≡ wait_reply x (stand_at s e.cpu past).regions (stand_at s e.cpu past).level k.wait.mode k.wait.alertable (option_map (is_reached (lanes_at s past).timers.now) k.wait.due)
+    replied : y ≡ wait_reply x (stand_at s e.cpu past).regions (stand_at s e.cpu past).level k.wait.mode k.wait.alertable
+        (option_map (is_reached (lanes_at s past).timers.now) k.wait.due)
     replied =
-        k.reply ∙ ap (λ (x : ThreadFacts). wait_reply x (stand_at s e.cpu past).regions (stand_at s e.cpu past).level k.wait.mode k.wait.alertable (option_map (is_reached (lanes_at s past).timers.now) k.wait.due)) same
+        k.reply ∙ ap (λ (x : ThreadFacts). wait_reply x (stand_at s e.cpu past).regions (stand_at s e.cpu past).level k.wait.mode k.wait.alertable
+        (option_map (is_reached (lanes_at s past).timers.now) k.wait.due)) same
 
 quiet_ended : (b : Option Body) (x : ThreadFacts) → NothingBehind x → NothingBehind (frame_ended b x)
 quiet_ended (Some (OnBase t)) x h = quiet-after Leaves x h
@@ -86,13 +101,17 @@ quiet_ended (Some (OnApc a UserApc)) x h = quiet-after (TestsAlert UserMode) x h
 quiet_ended b x h = h
 
 -- the thread runs, where an event but a Switch names it
-runs_there : (s : Script) (limit : ℕ) (t : ThreadNo) (e : Event) (past : List Event) (w : What) → has_thread s t ≡ true → IsLegal s limit e past → is_of_thread s t e ≡ true → e.what ≡ w → thread_field w (running e.cpu past) ≡ running e.cpu past → facts_of (lanes_at s past) (running e.cpu past) ≡ facts s t past
+runs_there : (s : Script) (limit : ℕ) (t : ThreadNo) (e : Event) (past : List Event) (w : What) → has_thread s t ≡ true → IsLegal s limit e past →
+    is_of_thread s t e ≡ true → e.what ≡ w → thread_field w (running e.cpu past) ≡ running e.cpu past → facts_of (lanes_at s past) (running e.cpu past)
+    ≡ facts s t past
 runs_there s limit t e past w has g of k field =
     let by : is_by e t ≡ true = (both (is_of e _) (is_by e t) of).1 in
-    let run : running e.cpu past ≡ Some t = sym field ∙ (ap (λ (w : What). thread_field w (running e.cpu past)) (sym k) ∙ (sym (thread_named s limit e past g) ∙ same_thread e.thread t by)) in
+    let run : running e.cpu past ≡ Some t = sym field ∙ (ap (λ (w : What). thread_field w (running e.cpu past)) (sym k)
+    ∙ (sym (thread_named s limit e past g) ∙ same_thread e.thread t by)) in
     ap (λ (o : Option ThreadNo). option_map_or (facts_at (lanes_at s past)) o start_facts) run ∙ facts_there s limit t past has
 
-made_quiet : (s : Script) (limit : ℕ) (t : ThreadNo) (e : Event) (past : List Event) → has_thread s t ≡ true → IsLegal s limit e past → is_of_thread s t e ≡ true → NothingBehind (facts s t past) → (w : What) → e.what ≡ w → NothingBehind (made_facts s (length past) (stand_at s e.cpu past) w (facts s t past))
+made_quiet : (s : Script) (limit : ℕ) (t : ThreadNo) (e : Event) (past : List Event) → has_thread s t ≡ true → IsLegal s limit e past → is_of_thread s t e
+    ≡ true → NothingBehind (facts s t past) → (w : What) → e.what ≡ w → NothingBehind (made_facts s (length past) (stand_at s e.cpu past) w (facts s t past))
 made_quiet s limit t e past has g of h w k = go w k
   where
     known : (w : What) → e.what ≡ w → is_next w ≡ true → Known s e.cpu (own_of s e.cpu past) (lanes_at s past) w
@@ -108,13 +127,19 @@ made_quiet s limit t e past has g of h w k = go w k
         let c : KnownCall s e.cpu (own_of s e.cpu past) (lanes_at s past) f (StartWait m a) y = known (Call f (StartWait m a) y) k refl in
         let st : Stand = stand_at s e.cpu past in
         let same = here (Call f (StartWait m a) y) k refl in
-        quiet_wait (record { number = length past; mode = m; alertable = a; reached = None; level = st.level; regions = st.regions }) (refusal_in (own_of s e.cpu past) c.frame (StartWait m a)) (facts s t past) y (c.reply ∙ ap (λ (x : ThreadFacts). reply_or (refusal_in (own_of s e.cpu past) c.frame (StartWait m a)) (wait_reply x st.regions st.level m a None)) same) h
+        quiet_wait (record { number = length past; mode = m; alertable = a; reached = None; level = st.level; regions = st.regions })
+        (refusal_in (own_of s e.cpu past) c.frame (StartWait m a)) (facts s t past) y
+        (c.reply ∙ ap (λ (x : ThreadFacts). reply_or (refusal_in (own_of s e.cpu past) c.frame (StartWait m a))
+        (wait_reply x st.regions st.level m a None)) same) h
     go (Call f (Delay m a units) y) k =
         let c : KnownCall s e.cpu (own_of s e.cpu past) (lanes_at s past) f (Delay m a units) y = known (Call f (Delay m a units) y) k refl in
         let st : Stand = stand_at s e.cpu past in
         let reached : Option Bool = Some (is_reached (lanes_at s past).timers.now ((lanes_at s past).timers.now + units)) in
         let same = here (Call f (Delay m a units) y) k refl in
-        quiet_wait (record { number = length past; mode = m; alertable = a; reached = reached; level = st.level; regions = st.regions }) (refusal_in (own_of s e.cpu past) c.frame (Delay m a units)) (facts s t past) y (c.reply ∙ ap (λ (x : ThreadFacts). reply_or (refusal_in (own_of s e.cpu past) c.frame (Delay m a units)) (wait_reply x st.regions st.level m a reached)) same) h
+        quiet_wait (record { number = length past; mode = m; alertable = a; reached = reached; level = st.level; regions = st.regions })
+        (refusal_in (own_of s e.cpu past) c.frame (Delay m a units)) (facts s t past) y
+        (c.reply ∙ ap (λ (x : ThreadFacts). reply_or (refusal_in (own_of s e.cpu past) c.frame (Delay m a units))
+        (wait_reply x st.regions st.level m a reached)) same) h
     go (Rewait f y) k =
         quiet_rewait s e past f y (facts s t past) (here (Rewait f y) k refl) (known (Rewait f y) k refl) h
     go (Call f (TestAlert m) y) k =
@@ -128,9 +153,12 @@ made_quiet s limit t e past has g of h w k = go w k
 
 -- ---- events that name the thread
 
-inserted_takes : (s : Script) (limit : ℕ) (t : ThreadNo) (e : Event) (past : List Event) (f : ℕ) (a : ApcNo) → has_thread s t ≡ true → IsLegal s limit e past → e.what ≡ Call f (InsertApc a) Yes → ((owner_of s a).0 == t.0) ≡ true → takes a (facts s t past).apcs ≡ true
+inserted_takes : (s : Script) (limit : ℕ) (t : ThreadNo) (e : Event) (past : List Event) (f : ℕ) (a : ApcNo) → has_thread s t ≡ true → IsLegal s limit e past →
+    e.what ≡ Call f (InsertApc a) Yes → ((owner_of s a).0 == t.0) ≡ true → takes a (facts s t past).apcs ≡ true
 inserted_takes s limit t e past f a has g k o =
-    ap (λ (x : ThreadFacts). takes a x.apcs) (sym there) ∙ yes_if_true (takes a (facts_at (lanes_at s past) (owner_of s a)).apcs) (sym (call_accepted s e.cpu (own_of s e.cpu past) (lanes_at s past) f (InsertApc a) Yes known refl).1)
+    ap (λ (x : ThreadFacts). takes a x.apcs) (sym there)
+    ∙ yes_if_true (takes a (facts_at (lanes_at s past) (owner_of s a)).apcs)
+    (sym (call_accepted s e.cpu (own_of s e.cpu past) (lanes_at s past) f (InsertApc a) Yes known refl).1)
   where
     known : KnownCall s e.cpu (own_of s e.cpu past) (lanes_at s past) f (InsertApc a) Yes
     known =
@@ -147,7 +175,9 @@ quiet_insert s a n x h k =
     subst (λ (b : Bool). NothingBehind (if b then insert_facts (new_pick s a n) x else x)) k (quiet-after (Inserts (new_pick s a n)) x h)
 
 -- x is what the thread's own part of the event left: for an insert, the facts before it
-named_quiet : (s : Script) (t : ThreadNo) (n : ℕ) (w : What) (x : ThreadFacts) → ((f : ℕ) (a : ApcNo) → w ≡ Call f (InsertApc a) Yes → ((owner_of s a).0 == t.0) ≡ true → takes a x.apcs ≡ true) → NothingBehind x → NothingBehind (named_facts s t n w x)
+named_quiet : (s : Script) (t : ThreadNo) (n : ℕ) (w : What) (x : ThreadFacts) →
+    ((f : ℕ) (a : ApcNo) → w ≡ Call f (InsertApc a) Yes → ((owner_of s a).0 == t.0) ≡ true → takes a x.apcs ≡ true) → NothingBehind x →
+    NothingBehind (named_facts s t n w x)
 named_quiet s t n (Call f (Release u) y) x k h =
     quiet_if (is_answer y && (u.0 == t.0)) x (release_facts x) h (quiet-after Releases x h)
 named_quiet s t n (Call f (Alert u m) y) x k h =
@@ -165,23 +195,28 @@ named_quiet s t n w x k h = h
 
 -- ---- in a run
 
-quiet_step : (s : Script) (limit : ℕ) (t : ThreadNo) (e : Event) (past : List Event) → has_thread s t ≡ true → IsLegal s limit e past → NothingBehind (facts s t past) → NothingBehind (facts s t (e ∷ past))
+quiet_step : (s : Script) (limit : ℕ) (t : ThreadNo) (e : Event) (past : List Event) → has_thread s t ≡ true → IsLegal s limit e past →
+    NothingBehind (facts s t past) → NothingBehind (facts s t (e ∷ past))
 quiet_step s limit t e past has g h = go (is_of_thread s t e) refl
   where
-    after : (b : Bool) → is_of_thread s t e ≡ b → facts s t (e ∷ past) ≡ named_facts s t (length past) e.what (if b then made_facts s (length past) (stand_at s e.cpu past) e.what (facts s t past) else facts s t past)
+    after : (b : Bool) → is_of_thread s t e ≡ b → facts s t (e ∷ past)
+        ≡ named_facts s t (length past) e.what (if b then made_facts s (length past) (stand_at s e.cpu past) e.what (facts s t past) else facts s t past)
     after b of = facts-by s t (length past) (stand_at s e.cpu past) e (facts s t past) e.what b refl of
 
     takes_here : (f : ℕ) (a : ApcNo) → e.what ≡ Call f (InsertApc a) Yes → ((owner_of s a).0 == t.0) ≡ true → takes a (facts s t past).apcs ≡ true
     takes_here f a k o = inserted_takes s limit t e past f a has g k o
 
     -- an insert changes nothing of the facts of the thread that makes it
-    takes_made : (f : ℕ) (a : ApcNo) → e.what ≡ Call f (InsertApc a) Yes → ((owner_of s a).0 == t.0) ≡ true → takes a (made_facts s (length past) (stand_at s e.cpu past) e.what (facts s t past)).apcs ≡ true
+    takes_made : (f : ℕ) (a : ApcNo) → e.what ≡ Call f (InsertApc a) Yes → ((owner_of s a).0 == t.0) ≡ true →
+        takes a (made_facts s (length past) (stand_at s e.cpu past) e.what (facts s t past)).apcs ≡ true
     takes_made f a k o =
         ap (λ (w : What). takes a (made_facts s (length past) (stand_at s e.cpu past) w (facts s t past)).apcs) k ∙ takes_here f a k o
 
     go : (b : Bool) → is_of_thread s t e ≡ b → NothingBehind (facts s t (e ∷ past))
     go true of =
-        subst (λ (x : ThreadFacts). NothingBehind x) (sym (after true of)) (named_quiet s t (length past) e.what (made_facts s (length past) (stand_at s e.cpu past) e.what (facts s t past)) takes_made (made_quiet s limit t e past has g of h e.what refl))
+        subst (λ (x : ThreadFacts). NothingBehind x) (sym (after true of))
+        (named_quiet s t (length past) e.what (made_facts s (length past) (stand_at s e.cpu past) e.what (facts s t past)) takes_made
+        (made_quiet s limit t e past has g of h e.what refl))
     go false of =
         subst (λ (x : ThreadFacts). NothingBehind x) (sym (after false of)) (named_quiet s t (length past) e.what (facts s t past) takes_here h)
 
@@ -189,6 +224,7 @@ pub quiet : (s : Script) (limit : ℕ) (t : ThreadNo) (past : List Event) → Is
 quiet s limit t [] r has = tt
 quiet s limit t (e ∷ past) r has = quiet_step s limit t e past has r.0 (quiet s limit t past r.1 has)
 
-pub nothing_waits_behind_a_block : (s : Script) (limit : ℕ) (t : ThreadNo) (w : Waiting) (past : List Event) → IsRun s limit past → has_thread s t ≡ true → (facts s t past).doing ≡ IsBlocked w → IsQuiet w (facts s t past).apcs
+pub nothing_waits_behind_a_block : (s : Script) (limit : ℕ) (t : ThreadNo) (w : Waiting) (past : List Event) → IsRun s limit past → has_thread s t ≡ true →
+    (facts s t past).doing ≡ IsBlocked w → IsQuiet w (facts s t past).apcs
 nothing_waits_behind_a_block s limit t w past r has d =
     subst (λ (d : Doing). QuietDoing d (facts s t past).apcs) d (quiet s limit t past r has)

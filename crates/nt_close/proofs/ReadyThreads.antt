@@ -34,19 +34,25 @@ use Rattle.nt_close.proofs.Wanted.{asks_wanted, stays_wanted}
 use Rattle.nt_close.proofs.Woken.{woken_asks}
 
 -- where no thread of p is listed as ready, none is
-none_ready : (p : CpuNo) (n : ℕ) (xs : List ThreadDecl) (l : Lanes) (i : ℕ) → is_null (ready_from p n xs l) ≡ true → i < length xs → ((option_map_or (λ (x : ThreadDecl). x.cpu) (slice_get xs i) (cpu 0)).0 == p.0) ≡ true → is_ready (facts_at l (thread (n + i))) ≡ false
+none_ready : (p : CpuNo) (n : ℕ) (xs : List ThreadDecl) (l : Lanes) (i : ℕ) → is_null (ready_from p n xs l) ≡ true → i < length xs →
+    ((option_map_or (λ (x : ThreadDecl). x.cpu) (slice_get xs i) (cpu 0)).0 == p.0) ≡ true → is_ready (facts_at l (thread (n + i))) ≡ false
 none_ready p n [] l i h b o = absurd (omega (arith, b))
 none_ready p n (x ∷ xs) l i h b o =
     go ((x.cpu.0 == p.0) && is_ready (facts_at l (thread n))) refl h i b o (none_ready p (suc n) xs l)
   where
-    go : (t : Bool) → ((x.cpu.0 == p.0) && is_ready (facts_at l (thread n))) ≡ t → is_null (if t then (thread n ∷ ready_from p (suc n) xs l) else ready_from p (suc n) xs l) ≡ true → (i : ℕ) → i < length (x ∷ xs) → ((option_map_or (λ (x : ThreadDecl). x.cpu) (slice_get (x ∷ xs) i) (cpu 0)).0 == p.0) ≡ true → ((i : ℕ) → is_null (ready_from p (suc n) xs l) ≡ true → i < length xs → ((option_map_or (λ (x : ThreadDecl). x.cpu) (slice_get xs i) (cpu 0)).0 == p.0) ≡ true → is_ready (facts_at l (thread (suc n + i))) ≡ false) → is_ready (facts_at l (thread (n + i))) ≡ false
+    go : (t : Bool) → ((x.cpu.0 == p.0) && is_ready (facts_at l (thread n))) ≡ t →
+        is_null (if t then (thread n ∷ ready_from p (suc n) xs l) else ready_from p (suc n) xs l) ≡ true → (i : ℕ) → i < length (x ∷ xs) →
+        ((option_map_or (λ (x : ThreadDecl). x.cpu) (slice_get (x ∷ xs) i) (cpu 0)).0 == p.0) ≡ true →
+        ((i : ℕ) → is_null (ready_from p (suc n) xs l) ≡ true → i < length xs → ((option_map_or (λ (x : ThreadDecl). x.cpu) (slice_get xs i) (cpu 0)).0 == p.0)
+        ≡ true → is_ready (facts_at l (thread (suc n + i))) ≡ false) → is_ready (facts_at l (thread (n + i))) ≡ false
     go true e h i b o ih = cc
     go false e h zero b o ih =
         let m : n + 0 ≡ n = omega arith in rw m (second_fails (x.cpu.0 == p.0) (is_ready (facts_at l (thread n))) o e)
     go false e h (suc i) b o ih = let m : n + suc i ≡ suc n + i = omega arith in rw m (ih i h (omega (arith, b)) o)
 
 -- a Rest comes only where no thread of its processor is ready
-rest_unready : (s : Script) (limit : ℕ) (p : CpuNo) (t : ThreadNo) (past : List Event) → has_thread s t ≡ true → (cpu_of s t).0 ≡ p.0 → is_null (ready s p (lanes_at s past)) ≡ true → is_ready (facts s t past) ≡ false
+rest_unready : (s : Script) (limit : ℕ) (p : CpuNo) (t : ThreadNo) (past : List Event) → has_thread s t ≡ true → (cpu_of s t).0 ≡ p.0 →
+    is_null (ready s p (lanes_at s past)) ≡ true → is_ready (facts s t past) ≡ false
 rest_unready s limit p t past has own h =
     let n : 0 + t.0 ≡ t.0 = omega arith in
     let k = none_ready p 0 s.threads (lanes_at s past) t.0 h (ltb-true t.0 (length s.threads) has) (eq-eqb (cpu_of s t).0 p.0 own) in
@@ -57,7 +63,8 @@ rest_keeps : (s : Script) (t : ThreadNo) (e : Event) (past : List Event) → e.w
 rest_keeps s t e past w = facts-named s t (length past) (stand_at s e.cpu past) e (facts s t past) Rest w refl
 
 -- an event of another processor changes the facts of a thread of p only by its name
-other_names : (s : Script) (p : CpuNo) (t : ThreadNo) (e : Event) (past : List Event) → (cpu_of s t).0 ≡ p.0 → is_of e p ≡ false → facts s t (e ∷ past) ≡ named_facts s t (length past) e.what (facts s t past)
+other_names : (s : Script) (p : CpuNo) (t : ThreadNo) (e : Event) (past : List Event) → (cpu_of s t).0 ≡ p.0 → is_of e p ≡ false → facts s t (e ∷ past)
+    ≡ named_facts s t (length past) e.what (facts s t past)
 other_names s p t e past own o =
     facts-by s t (length past) (stand_at s e.cpu past) e (facts s t past) e.what false refl not_its
   where
@@ -67,7 +74,8 @@ other_names s p t e past own o =
     not_its : is_of_thread s t e ≡ false
     not_its = ap (λ (b : Bool). b && is_by e t) elsewhere
 
-pub ready_wanted : (s : Script) (limit : ℕ) (p : CpuNo) (t : ThreadNo) (past : List Event) → IsRun s limit past → has_thread s t ≡ true → (cpu_of s t).0 ≡ p.0 → rested p past ≡ true → is_ready (facts s t past) ≡ true → IsWanted s p 2 past
+pub ready_wanted : (s : Script) (limit : ℕ) (p : CpuNo) (t : ThreadNo) (past : List Event) → IsRun s limit past → has_thread s t ≡ true → (cpu_of s t).0
+    ≡ p.0 → rested p past ≡ true → is_ready (facts s t past) ≡ true → IsWanted s p 2 past
 ready_wanted s limit p t [] r has own h k = cc
 ready_wanted s limit p t (e ∷ past) r has own h k =
     go (is_of e p) refl (λ a b. ready_wanted s limit p t past r.1 has own a b)
@@ -75,7 +83,8 @@ ready_wanted s limit p t (e ∷ past) r has own h k =
     none_of_it : {A : Type 0} → is_of e p ≡ true → is_of e p ≡ false → A
     none_of_it a b = cc
 
-    other : is_of e p ≡ false → (b : Bool) → is_ready (facts s t past) ≡ b → (rested p past ≡ true → is_ready (facts s t past) ≡ true → IsWanted s p 2 past) → IsWanted s p 2 (e ∷ past)
+    other : is_of e p ≡ false → (b : Bool) → is_ready (facts s t past) ≡ b → (rested p past ≡ true → is_ready (facts s t past) ≡ true → IsWanted s p 2 past) →
+        IsWanted s p 2 (e ∷ past)
     other o true q ih = stays_wanted s p 2 e past (λ own. none_of_it own o) (ih (rested_other p e past o h) q)
     other o false q ih =
         let named : is_ready (named_facts s t (length past) e.what (facts s t past)) ≡ true = ap is_ready (sym (other_names s p t e past own o)) ∙ k in
@@ -93,7 +102,8 @@ ready_wanted s limit p t (e ∷ past) r has own h k =
 none_runs : (t : ThreadNo) → ◌≡◌ {A = Option ThreadNo} None (Some t) → ⊥
 none_runs t h = cc
 
-pub no_thread_is_left : (s : Script) (limit : ℕ) (p : CpuNo) (t : ThreadNo) (past : List Event) → IsClosed s limit p past → has_thread s t ≡ true → (cpu_of s t).0 ≡ p.0 → is_stopped (facts s t past).doing ≡ true
+pub no_thread_is_left : (s : Script) (limit : ℕ) (p : CpuNo) (t : ThreadNo) (past : List Event) → IsClosed s limit p past → has_thread s t ≡ true →
+    (cpu_of s t).0 ≡ p.0 → is_stopped (facts s t past).doing ≡ true
 no_thread_is_left s limit p t past k has own = go (facts s t past).doing refl (agree s limit t past k.run)
   where
     rest : IsAtRest s p past

@@ -81,7 +81,8 @@ clear_other p e past o h = record { own = own_same ∙ h.own; running = running_
     running_same = rw o refl
 
 -- what is known of the Rest of a processor
-pub known_rest : (s : Script) (limit : ℕ) (p : CpuNo) (e : Event) (past : List Event) → is_of e p ≡ true → IsLegal s limit e past → e.what ≡ Rest → KnownRest s p (own_of s p past) (lanes_at s past)
+pub known_rest : (s : Script) (limit : ℕ) (p : CpuNo) (e : Event) (past : List Event) → is_of e p ≡ true → IsLegal s limit e past → e.what ≡ Rest →
+    KnownRest s p (own_of s p past) (lanes_at s past)
 known_rest s limit p e past o g w =
     subst (λ (w : What). is_next w ≡ true → Known s p (own_of s p past) (lanes_at s past) w) w (known_here s limit p e past o g) refl
 
@@ -97,7 +98,8 @@ rested_clear s limit p (e ∷ past) r h = go (is_of e p) refl (λ k. rested_clea
 
 pub clear_inner : (s : Script) (p : CpuNo) (past : List Event) → IsClear p past → innermost (frames_of s p past) ≡ None
 clear_inner s p past c =
-    ap (λ (fs : List Frame). option_or (head_of fs) (head_of (thread_part (frames_of s p past)))) c.own ∙ ap (λ (o : Option ThreadNo). head_of (option_map_or (frames_in (frames_of s p past).threads) o [])) c.running
+    ap (λ (fs : List Frame). option_or (head_of fs) (head_of (thread_part (frames_of s p past)))) c.own
+    ∙ ap (λ (o : Option ThreadNo). head_of (option_map_or (frames_in (frames_of s p past).threads) o [])) c.running
 
 -- profile: it is idle
 pub rested_idle : (p : CpuNo) (past : List Event) → rested p past ≡ true → is_idle p past ≡ true

@@ -9,7 +9,7 @@ use Rattle.nt_event.specs.declared.events.What.{What}
 use Rattle.nt_event.specs.declared.events.What.TheVariants.{Begin, Clean}
 use Rattle.nt_event.specs.declared.numbers.CpuNo.{CpuNo}
 use Rattle.nt_event.specs.declared.scripts.Script.{Script}
-use Rattle.nt_event.specs.Jobs.{interrupt_classes}
+use Rattle.nt_event.specs.Classes.{interrupt_classes}
 use Rattle.nt_event.specs.Lanes.{lanes_at}
 use Rattle.nt_event.specs.Own.{own_of}
 use Rattle.nt_event.specs.Requests.{asked, asks, served, serves}
@@ -28,19 +28,22 @@ served_asked s limit p c past r =
     let a = served_below s limit p c past r in let b = seen_below s limit p c past r in omega (arith, a, b)
 
 -- an event that doesn't serve the class, or one of another processor, leaves what is served
-served_stays : (s : Script) (p : CpuNo) (c : ℕ) (e : Event) (past : List Event) → (is_of e p ≡ true → serves c e.what ≡ false) → served s p c (e ∷ past) ≡ served s p c past
+served_stays : (s : Script) (p : CpuNo) (c : ℕ) (e : Event) (past : List Event) → (is_of e p ≡ true → serves c e.what ≡ false) → served s p c (e ∷ past)
+    ≡ served s p c past
 served_stays s p c e past h = go (is_of e p) refl
   where
     go : (b : Bool) → is_of e p ≡ b → served s p c (e ∷ past) ≡ served s p c past
     go true o = rw (o, h o) refl
     go false o = rw o refl
 
-pub stays_wanted : (s : Script) (p : CpuNo) (c : ℕ) (e : Event) (past : List Event) → (is_of e p ≡ true → serves c e.what ≡ false) → IsWanted s p c past → IsWanted s p c (e ∷ past)
+pub stays_wanted : (s : Script) (p : CpuNo) (c : ℕ) (e : Event) (past : List Event) → (is_of e p ≡ true → serves c e.what ≡ false) → IsWanted s p c past →
+    IsWanted s p c (e ∷ past)
 stays_wanted s p c e past h w =
     let x = served_stays s p c e past h in let y = asked_grows s p c e past in omega (arith, x, y, w)
 
 -- an event that asks for the class and doesn't serve it
-pub asks_wanted : (s : Script) (limit : ℕ) (p : CpuNo) (c : ℕ) (e : Event) (past : List Event) → IsRun s limit past → (is_of e p ≡ true → serves c e.what ≡ false) → asks s p c e past ≡ true → IsWanted s p c (e ∷ past)
+pub asks_wanted : (s : Script) (limit : ℕ) (p : CpuNo) (c : ℕ) (e : Event) (past : List Event) → IsRun s limit past →
+    (is_of e p ≡ true → serves c e.what ≡ false) → asks s p c e past ≡ true → IsWanted s p c (e ∷ past)
 asks_wanted s limit p c e past r h a =
     let x = served_stays s p c e past h in
     let y : asked s p c (e ∷ past) ≡ length past + 1 = rw a refl in
@@ -49,7 +52,8 @@ asks_wanted s limit p c e past r h a =
     omega (arith, x, y, z, w)
 
 -- what is known of an event of p
-pub known_here : (s : Script) (limit : ℕ) (p : CpuNo) (e : Event) (past : List Event) → is_of e p ≡ true → IsLegal s limit e past → is_next e.what ≡ true → Known s p (own_of s p past) (lanes_at s past) e.what
+pub known_here : (s : Script) (limit : ℕ) (p : CpuNo) (e : Event) (past : List Event) → is_of e p ≡ true → IsLegal s limit e past → is_next e.what ≡ true →
+    Known s p (own_of s p past) (lanes_at s past) e.what
 known_here s limit p e past o g n =
     subst (λ (q : CpuNo). Known s q (own_of s q past) (lanes_at s past) e.what) (same_cpu e p o) (legal_known s limit e past g n)
 
@@ -64,7 +68,8 @@ low_class c level l h e =
     go (suc (suc zero)) l h = h
     go (suc (suc (suc c))) l h = absurd (omega (arith, l))
 
-pub serves_clean : (s : Script) (limit : ℕ) (p : CpuNo) (c : ℕ) (e : Event) (past : List Event) → c ≤ 2 → IsLegal s limit e past → is_of e p ≡ true → serves c e.what ≡ true → e.what ≡ Clean c
+pub serves_clean : (s : Script) (limit : ℕ) (p : CpuNo) (c : ℕ) (e : Event) (past : List Event) → c ≤ 2 → IsLegal s limit e past → is_of e p ≡ true →
+    serves c e.what ≡ true → e.what ≡ Clean c
 serves_clean s limit p c e past l g o h = go e.what refl h
   where
     go : (w : What) → e.what ≡ w → serves c w ≡ true → e.what ≡ Clean c

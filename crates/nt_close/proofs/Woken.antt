@@ -24,7 +24,7 @@ use Rattle.nt_event.specs.declared.threads.Waiting.{Waiting}
 use Rattle.nt_event.specs.Apcs.{deliverable, with_apc}
 use Rattle.nt_event.specs.Commands.{reply}
 use Rattle.nt_event.specs.Lanes.{facts_at, lanes_at}
-use Rattle.nt_event.specs.Own.{own_of, standing_in}
+use Rattle.nt_event.specs.Own.{own_of, stand_in}
 use Rattle.nt_event.specs.Regions.{stand_at}
 use Rattle.nt_event.specs.Requests.{ask, ask_if, asks, is_ask, what_asks}
 use Rattle.nt_event.specs.Routines.{cpu_of, is_kernel_kind, kind_of, owner_of}
@@ -74,31 +74,37 @@ set_ready UserMode b x = refl
 alert_wakes : (m : Mode) (x : ThreadFacts) → is_ready x ≡ false → is_ready (alert_facts m x) ≡ true → (is_gone x ≡ false) × (ends_by_alert m x ≡ true)
 alert_wakes m x h k = go (is_gone x) refl k
   where
-    go : (g : Bool) → is_gone x ≡ g → is_ready (if g then x else (if ends_by_alert m x then ended alerted x else set_alerted m true x)) ≡ true → (is_gone x ≡ false) × (ends_by_alert m x ≡ true)
+    go : (g : Bool) → is_gone x ≡ g → is_ready (if g then x else (if ends_by_alert m x then ended alerted x else set_alerted m true x)) ≡ true →
+        (is_gone x ≡ false) × (ends_by_alert m x ≡ true)
     go true e k = no_ready x h k
     go false e k =
         (e, woken_if (ends_by_alert m x) (set_alerted m true x) (ended alerted x) (set_ready m true x ∙ h) k)
 
 insert_wakes : (pick : Pick) (x : ThreadFacts) → is_ready x ≡ false → is_ready (insert_facts pick x) ≡ true → ends_by_apc pick x ≡ true
 insert_wakes pick x h k =
-    woken_if (ends_by_apc pick x) (record x { apcs = with_apc pick x.apcs }) (if is_kernel_kind pick.kind then ended kernel_apc (record x { apcs = with_apc pick x.apcs }) else record (ended user_apc (record x { apcs = with_apc pick x.apcs })) { marked = true }) h k
+    woken_if (ends_by_apc pick x) (record x { apcs = with_apc pick x.apcs })
+    (if is_kernel_kind pick.kind then ended kernel_apc (record x { apcs = with_apc pick x.apcs })
+    else record (ended user_apc (record x { apcs = with_apc pick x.apcs })) { user_pending = true }) h k
 
 -- whether an insert ends the wait doesn't depend on its number
 any_number : (s : Script) (a : ApcNo) (n : ℕ) (x : ThreadFacts) → ends_by_apc (new_pick s a n) x ≡ ends_by_apc (new_pick s a 0) x
 any_number s a n x =
     ap (λ (b : Bool). if is_kernel_kind (kind_of s a) then b else ends_by_user x) (go (waiting x))
   where
-    one : (w : Waiting) → is_some (deliverable (with_apc (new_pick s a n) x.apcs) w.regions w.level) ≡ is_some (deliverable (with_apc (new_pick s a 0) x.apcs) w.regions w.level)
+    one : (w : Waiting) → is_some (deliverable (with_apc (new_pick s a n) x.apcs) w.regions w.level)
+        ≡ is_some (deliverable (with_apc (new_pick s a 0) x.apcs) w.regions w.level)
     one w =
         deliverable-with (new_pick s a n) x.apcs w.regions w.level ∙ sym (deliverable-with (new_pick s a 0) x.apcs w.regions w.level)
 
-    go : (o : Option Waiting) → option_map_or (λ w. is_some (deliverable (with_apc (new_pick s a n) x.apcs) w.regions w.level)) o false ≡ option_map_or (λ w. is_some (deliverable (with_apc (new_pick s a 0) x.apcs) w.regions w.level)) o false
+    go : (o : Option Waiting) → option_map_or (λ w. is_some (deliverable (with_apc (new_pick s a n) x.apcs) w.regions w.level)) o false
+        ≡ option_map_or (λ w. is_some (deliverable (with_apc (new_pick s a 0) x.apcs) w.regions w.level)) o false
     go None = refl
     go (Some w) = one w
 
 -- ---- what the event asks for
 
-by_what : (s : Script) (p : CpuNo) (e : Event) (past : List Event) (w : What) → e.what ≡ w → list_any (is_ask p 2) (what_asks s (stand_at s e.cpu past) w (lanes_at s past)) ≡ true → asks s p 2 e past ≡ true
+by_what : (s : Script) (p : CpuNo) (e : Event) (past : List Event) (w : What) → e.what ≡ w →
+    list_any (is_ask p 2) (what_asks s (stand_at s e.cpu past) w (lanes_at s past)) ≡ true → asks s p 2 e past ≡ true
 by_what s p e past w k h =
     ap (λ (w : What). list_any (is_ask p 2) (what_asks s (stand_at s e.cpu past) w (lanes_at s past))) k ∙ h
 
@@ -120,7 +126,8 @@ pub record Wakes (s : Script) (limit : ℕ) (p : CpuNo) (t : ThreadNo) (past : L
   pub own : (cpu_of s t).0 ≡ p.0
   pub slept : is_ready (facts s t past) ≡ false
 
-there : (s : Script) (limit : ℕ) (p : CpuNo) (t u : ThreadNo) (past : List Event) → Wakes s limit p t past → (u.0 == t.0) ≡ true → facts_at (lanes_at s past) u ≡ facts s t past
+there : (s : Script) (limit : ℕ) (p : CpuNo) (t u : ThreadNo) (past : List Event) → Wakes s limit p t past → (u.0 == t.0) ≡ true → facts_at (lanes_at s past) u
+    ≡ facts s t past
 there s limit p t u past k h =
     ap (facts_at (lanes_at s past)) (same_number t u h) ∙ facts_there s limit t past k.has
 
@@ -128,14 +135,19 @@ own_there : (s : Script) (limit : ℕ) (p : CpuNo) (t u : ThreadNo) (past : List
 own_there s limit p t u past k h =
     ap (λ (t : ThreadNo). (cpu_of s t).0) (same_number t u h) ∙ k.own
 
-known_call : (s : Script) (limit : ℕ) (e : Event) (past : List Event) (f : ℕ) (c : Command) (y : Reply) → IsLegal s limit e past → e.what ≡ Call f c y → is_answer y ≡ true → y ≡ reply s (standing_in e.cpu (own_of s e.cpu past)) (lanes_at s past) c
+known_call : (s : Script) (limit : ℕ) (e : Event) (past : List Event) (f : ℕ) (c : Command) (y : Reply) → IsLegal s limit e past → e.what ≡ Call f c y →
+    is_answer y ≡ true → y ≡ reply s (stand_in e.cpu (own_of s e.cpu past)) (lanes_at s past) c
 known_call s limit e past f c y g k a =
-    let known : KnownCall s e.cpu (own_of s e.cpu past) (lanes_at s past) f c y = subst (λ (w : What). is_next w ≡ true → Known s e.cpu (own_of s e.cpu past) (lanes_at s past) w) k (legal_known s limit e past g) refl in
+    let known : KnownCall s e.cpu (own_of s e.cpu past) (lanes_at s past) f c y = subst
+    (λ (w : What). is_next w ≡ true → Known s e.cpu (own_of s e.cpu past) (lanes_at s past) w) k (legal_known s limit e past g) refl in
     (call_accepted s e.cpu (own_of s e.cpu past) (lanes_at s past) f c y known (not_refused y a)).1
 
-released : (s : Script) (limit : ℕ) (p : CpuNo) (t u : ThreadNo) (e : Event) (past : List Event) (f : ℕ) (y : Reply) → IsLegal s limit e past → Wakes s limit p t past → e.what ≡ Call f (Release u) y → is_ready (if is_answer y && (u.0 == t.0) then release_facts (facts s t past) else facts s t past) ≡ true → asks s p 2 e past ≡ true
+released : (s : Script) (limit : ℕ) (p : CpuNo) (t u : ThreadNo) (e : Event) (past : List Event) (f : ℕ) (y : Reply) → IsLegal s limit e past →
+    Wakes s limit p t past → e.what ≡ Call f (Release u) y → is_ready (if is_answer y && (u.0 == t.0) then release_facts (facts s t past) else facts s t past)
+    ≡ true → asks s p 2 e past ≡ true
 released s limit p t u e past f y g k i r =
-    by_what s p e past (Call f (Release u) Yes) (i ∙ ap (λ (y : Reply). Call f (Release u) y) yes) (asked_there (cpu_of s u) p (own_there s limit p t u past k parts.1))
+    by_what s p e past (Call f (Release u) Yes) (i ∙ ap (λ (y : Reply). Call f (Release u) y) yes)
+    (asked_there (cpu_of s u) p (own_there s limit p t u past k parts.1))
   where
     parts : (is_answer y ≡ true) × ((u.0 == t.0) ≡ true)
     parts =
@@ -149,11 +161,15 @@ released s limit p t u e past f y g k i r =
 
     yes : y ≡ Yes
     yes =
-        known_call s limit e past f (Release u) y g i parts.0 ∙ ap yes_if (ap ends_by_release (there s limit p t u past k parts.1) ∙ release_wakes (facts s t past) k.slept wakes)
+        known_call s limit e past f (Release u) y g i parts.0
+        ∙ ap yes_if (ap ends_by_release (there s limit p t u past k parts.1) ∙ release_wakes (facts s t past) k.slept wakes)
 
-alerted_so : (s : Script) (limit : ℕ) (p : CpuNo) (t u : ThreadNo) (e : Event) (past : List Event) (f : ℕ) (m : Mode) (y : Reply) → IsLegal s limit e past → Wakes s limit p t past → e.what ≡ Call f (Alert u m) y → is_ready (if is_answer y && (u.0 == t.0) then alert_facts m (facts s t past) else facts s t past) ≡ true → asks s p 2 e past ≡ true
+alerted_so : (s : Script) (limit : ℕ) (p : CpuNo) (t u : ThreadNo) (e : Event) (past : List Event) (f : ℕ) (m : Mode) (y : Reply) → IsLegal s limit e past →
+    Wakes s limit p t past → e.what ≡ Call f (Alert u m) y → is_ready (if is_answer y && (u.0 == t.0) then alert_facts m (facts s t past) else facts s t past)
+    ≡ true → asks s p 2 e past ≡ true
 alerted_so s limit p t u e past f m y g k i r =
-    by_what s p e past (Call f (Alert u m) No) (i ∙ ap (λ (y : Reply). Call f (Alert u m) y) no) (asked_if _ (cpu_of s u) p ends (own_there s limit p t u past k parts.1))
+    by_what s p e past (Call f (Alert u m) No) (i ∙ ap (λ (y : Reply). Call f (Alert u m) y) no)
+    (asked_if _ (cpu_of s u) p ends (own_there s limit p t u past k parts.1))
   where
     parts : (is_answer y ≡ true) × ((u.0 == t.0) ≡ true)
     parts =
@@ -173,15 +189,21 @@ alerted_so s limit p t u e past f m y g k i r =
 
     no : y ≡ No
     no =
-        known_call s limit e past f (Alert u m) y g i parts.0 ∙ (ap (λ (x : ThreadFacts). yes_if (not (is_gone x) && is_alerted m x)) (there s limit p t u past k parts.1) ∙ let a = ended_by.0 in let b = clear in rw (a, b) refl)
+        known_call s limit e past f (Alert u m) y g i parts.0
+        ∙ (ap (λ (x : ThreadFacts). yes_if (not (is_gone x) && is_alerted m x)) (there s limit p t u past k parts.1) ∙ let a = ended_by.0 in
+        let b = clear in rw (a, b) refl)
 
     ends : (not (is_gone (facts_at (lanes_at s past) u)) && ends_by_alert m (facts_at (lanes_at s past) u)) ≡ true
     ends =
-        ap (λ (x : ThreadFacts). not (is_gone x) && ends_by_alert m x) (there s limit p t u past k parts.1) ∙ let a = ended_by.0 in let b = ended_by.1 in rw (a, b) refl
+        ap (λ (x : ThreadFacts). not (is_gone x) && ends_by_alert m x) (there s limit p t u past k parts.1) ∙ let a = ended_by.0 in let b = ended_by.1 in
+        rw (a, b) refl
 
-inserted : (s : Script) (limit : ℕ) (p : CpuNo) (t : ThreadNo) (e : Event) (past : List Event) (f : ℕ) (a : ApcNo) → Wakes s limit p t past → e.what ≡ Call f (InsertApc a) Yes → is_ready (if (owner_of s a).0 == t.0 then insert_facts (new_pick s a (length past)) (facts s t past) else facts s t past) ≡ true → asks s p 2 e past ≡ true
+inserted : (s : Script) (limit : ℕ) (p : CpuNo) (t : ThreadNo) (e : Event) (past : List Event) (f : ℕ) (a : ApcNo) → Wakes s limit p t past → e.what
+    ≡ Call f (InsertApc a) Yes → is_ready (if (owner_of s a).0 == t.0 then insert_facts (new_pick s a (length past)) (facts s t past) else facts s t past)
+    ≡ true → asks s p 2 e past ≡ true
 inserted s limit p t e past f a k i r =
-    by_what s p e past (Call f (InsertApc a) Yes) i (asked_too (is_kernel_kind (kind_of s a)) _ (cpu_of s (owner_of s a)) p ends (own_there s limit p t (owner_of s a) past k at))
+    by_what s p e past (Call f (InsertApc a) Yes) i (asked_too (is_kernel_kind (kind_of s a)) _ (cpu_of s (owner_of s a)) p ends
+    (own_there s limit p t (owner_of s a) past k at))
   where
     at : ((owner_of s a).0 == t.0) ≡ true
     at =
@@ -192,9 +214,11 @@ inserted s limit p t e past f a k i r =
 
     ends : ends_by_apc (new_pick s a 0) (facts_at (lanes_at s past) (owner_of s a)) ≡ true
     ends =
-        ap (λ (x : ThreadFacts). ends_by_apc (new_pick s a 0) x) (there s limit p t (owner_of s a) past k at) ∙ (sym (any_number s a (length past) (facts s t past)) ∙ insert_wakes (new_pick s a (length past)) (facts s t past) k.slept wakes)
+        ap (λ (x : ThreadFacts). ends_by_apc (new_pick s a 0) x) (there s limit p t (owner_of s a) past k at)
+        ∙ (sym (any_number s a (length past) (facts s t past)) ∙ insert_wakes (new_pick s a (length past)) (facts s t past) k.slept wakes)
 
-expired : (s : Script) (limit : ℕ) (p : CpuNo) (t u : ThreadNo) (e : Event) (past : List Event) (from : ℕ) → Wakes s limit p t past → e.what ≡ Expire (OfDelay u) from → is_ready (if u.0 == t.0 then expiry_facts from (facts s t past) else facts s t past) ≡ true → asks s p 2 e past ≡ true
+expired : (s : Script) (limit : ℕ) (p : CpuNo) (t u : ThreadNo) (e : Event) (past : List Event) (from : ℕ) → Wakes s limit p t past → e.what
+    ≡ Expire (OfDelay u) from → is_ready (if u.0 == t.0 then expiry_facts from (facts s t past) else facts s t past) ≡ true → asks s p 2 e past ≡ true
 expired s limit p t u e past from k i r =
     by_what s p e past (Expire (OfDelay u) from) i (asked_if _ (cpu_of s u) p ends (own_there s limit p t u past k at))
   where
@@ -206,13 +230,15 @@ expired s limit p t u e past from k i r =
 
     ends : ends_by_expiry from (facts_at (lanes_at s past) u) ≡ true
     ends =
-        ap (ends_by_expiry from) (there s limit p t u past k at) ∙ woken_if (ends_by_expiry from (facts s t past)) (facts s t past) (ended satisfied (facts s t past)) k.slept wakes
+        ap (ends_by_expiry from) (there s limit p t u past k at)
+        ∙ woken_if (ends_by_expiry from (facts s t past)) (facts s t past) (ended satisfied (facts s t past)) k.slept wakes
 
 removed : {A : Type 0} (b : Bool) (x y : ThreadFacts) → is_ready x ≡ false → is_ready y ≡ is_ready x → is_ready (if b then y else x) ≡ true → A
 removed true x y h e k = no_ready x h (sym e ∙ k)
 removed false x y h e k = no_ready x h k
 
-pub woken_asks : (s : Script) (limit : ℕ) (p : CpuNo) (t : ThreadNo) (e : Event) (past : List Event) → IsLegal s limit e past → Wakes s limit p t past → is_ready (named_facts s t (length past) e.what (facts s t past)) ≡ true → asks s p 2 e past ≡ true
+pub woken_asks : (s : Script) (limit : ℕ) (p : CpuNo) (t : ThreadNo) (e : Event) (past : List Event) → IsLegal s limit e past → Wakes s limit p t past →
+    is_ready (named_facts s t (length past) e.what (facts s t past)) ≡ true → asks s p 2 e past ≡ true
 woken_asks s limit p t e past g k r = go e.what refl r
   where
     go : (w : What) → e.what ≡ w → is_ready (named_facts s t (length past) w (facts s t past)) ≡ true → asks s p 2 e past ≡ true

@@ -39,15 +39,21 @@ pub record IsClosed (s : Script) (limit : ℕ) (p : CpuNo) (past : List Event) :
 
 -- in a run, while a threaded DPC is pending in the queue of p, class 0, that of threaded DPCs, is wanted there
 abbrev pub ThreadedIsWanted : Type 0
-ThreadedIsWanted = (s : Script) (limit : ℕ) (p : CpuNo) (x : Insert) (past : List Event) → IsRun s limit past → nat_lt p.0 s.cpus ≡ true → Contains (pending s p past) x → is_in ThreadedPart x ≡ true → IsWanted s p 0 past
+ThreadedIsWanted = (s : Script) (limit : ℕ) (p : CpuNo) (x : Insert) (past : List Event) → IsRun s limit past →
+    nat_lt p.0 s.cpus ≡ true → Contains (pending s p past) x → is_in ThreadedPart x ≡ true → IsWanted s p 0 past
 
--- in a run, while p rests with an ordinary DPC pending in its queue, class 2, that of the dispatch interrupt, is wanted there
+-- in a run, while p rests with an ordinary DPC pending in its queue, class 2, that of the dispatch interrupt, is wanted
+-- there
 abbrev pub OrdinaryIsWanted : Type 0
-OrdinaryIsWanted = (s : Script) (limit : ℕ) (p : CpuNo) (x : Insert) (past : List Event) → IsRun s limit past → nat_lt p.0 s.cpus ≡ true → rested p past ≡ true → Contains (pending s p past) x → is_in OrdinaryPart x ≡ true → IsWanted s p 2 past
+OrdinaryIsWanted = (s : Script) (limit : ℕ) (p : CpuNo) (x : Insert) (past : List Event) → IsRun s limit past →
+    nat_lt p.0 s.cpus ≡ true → rested p past ≡ true → Contains (pending s p past) x → is_in OrdinaryPart x ≡ true →
+    IsWanted s p 2 past
 
 -- in a run, while p rests with a thread of its own ready, class 2 is wanted there
 abbrev pub ReadyIsWanted : Type 0
-ReadyIsWanted = (s : Script) (limit : ℕ) (p : CpuNo) (t : ThreadNo) (past : List Event) → IsRun s limit past → has_thread s t ≡ true → (cpu_of s t).0 ≡ p.0 → rested p past ≡ true → is_ready (facts s t past) ≡ true → IsWanted s p 2 past
+ReadyIsWanted = (s : Script) (limit : ℕ) (p : CpuNo) (t : ThreadNo) (past : List Event) → IsRun s limit past →
+    has_thread s t ≡ true → (cpu_of s t).0 ≡ p.0 → rested p past ≡ true → is_ready (facts s t past) ≡ true →
+    IsWanted s p 2 past
 
 -- some processor of the script wants class 13, that of the clock interrupt, or owes a sweep of the timers
 pub record IsOwed (s : Script) (past : List Event) : Type 0 where
@@ -57,13 +63,15 @@ pub record IsOwed (s : Script) (past : List Event) : Type 0 where
 
 -- in a run, while a key is due, a sweep is owed or asked for
 abbrev pub DueKeyIsOwed : Type 0
-DueKeyIsOwed = (s : Script) (limit : ℕ) (k : SetKey) (past : List Event) → IsRun s limit past → first_due (timers_at s past) ≡ Some k → IsOwed s past
+DueKeyIsOwed = (s : Script) (limit : ℕ) (k : SetKey) (past : List Event) → IsRun s limit past →
+    first_due (timers_at s past) ≡ Some k → IsOwed s past
 
 -- ---- at the close
 
 -- no request may be delivered on the processor
 abbrev pub NothingIsEligible : Type 0
-NothingIsEligible = (s : Script) (limit : ℕ) (p : CpuNo) (past : List Event) (r : Request) → IsClosed s limit p past → eligible s p r past ≡ false
+NothingIsEligible = (s : Script) (limit : ℕ) (p : CpuNo) (past : List Event) (r : Request) → IsClosed s limit p past →
+    eligible s p r past ≡ false
 
 -- no DPC is pending in its queue
 abbrev pub NoDpcIsLeft : Type 0
@@ -77,13 +85,18 @@ is_stopped _ = false
 
 -- each thread of the processor is blocked or gone
 abbrev pub NoThreadIsLeft : Type 0
-NoThreadIsLeft = (s : Script) (limit : ℕ) (p : CpuNo) (t : ThreadNo) (past : List Event) → IsClosed s limit p past → has_thread s t ≡ true → (cpu_of s t).0 ≡ p.0 → is_stopped (facts s t past).doing ≡ true
+NoThreadIsLeft = (s : Script) (limit : ℕ) (p : CpuNo) (t : ThreadNo) (past : List Event) → IsClosed s limit p past →
+    has_thread s t ≡ true → (cpu_of s t).0 ≡ p.0 → is_stopped (facts s t past).doing ≡ true
 
--- in a run, at the close as at any time, a thread that is blocked in a wait has no kernel APC that is deliverable at the level and in
+-- in a run, at the close as at any time, a thread that is blocked in a wait has no kernel APC that is deliverable at
+-- the level and in
 -- the regions of the wait, and where it is an alertable wait of user mode no user APC
 abbrev pub NothingWaitsBehindABlock : Type 0
-NothingWaitsBehindABlock = (s : Script) (limit : ℕ) (t : ThreadNo) (w : Waiting) (past : List Event) → IsRun s limit past → has_thread s t ≡ true → (facts s t past).doing ≡ IsBlocked w → IsQuiet w (facts s t past).apcs
+NothingWaitsBehindABlock = (s : Script) (limit : ℕ) (t : ThreadNo) (w : Waiting) (past : List Event) →
+    IsRun s limit past → has_thread s t ≡ true → (facts s t past).doing ≡ IsBlocked w → IsQuiet w (facts s t past).apcs
 
 -- no key is due, where no processor of the script is cut
 abbrev pub NoDueKeyIsLeft : Type 0
-NoDueKeyIsLeft = (s : Script) (limit : ℕ) (past : List Event) → IsRun s limit past → is_settled s limit past ≡ true → ((p : CpuNo) → nat_lt p.0 s.cpus ≡ true → is_cut limit (own_of s p past) ≡ false) → first_due (timers_at s past) ≡ None
+NoDueKeyIsLeft = (s : Script) (limit : ℕ) (past : List Event) → IsRun s limit past → is_settled s limit past ≡ true →
+    ((p : CpuNo) → nat_lt p.0 s.cpus ≡ true → is_cut limit (own_of s p past) ≡ false) → first_due (timers_at s past)
+    ≡ None

@@ -44,8 +44,8 @@ fresh_follows s turns f h = record {
   marked = λ n q k b. h.marked n q k b;
 }
 
-pub fresh_left : (s : Script) (turns : ℕ) (f : PlainState) → IsFresh s turns f → (view_of f).left + 0 ≡ s.cpus * turns
-fresh_left s turns f h = let l = h.limit in let n = h.next in omega (arith, l, n)
+pub fresh_drawable : (s : Script) (turns : ℕ) (f : PlainState) → IsFresh s turns f → (view_of f).drawable + 0 ≡ s.cpus * turns
+fresh_drawable s turns f h = let l = h.limit in let n = h.next in omega (arith, l, n)
 
 -- a fresh machine is sound
 pub start_sound : (s : Script) (turns : ℕ) (past : List Event) (xs : List CpuState) (f : PlainState) → IsTrue (fits s) → turns ≤ 20000 → s.cpus * turns ≤ 160000 → xs ≡ cpus_of s turns [] → IsFresh s turns f → past ≡ [] → IsSound s turns past xs f
@@ -59,5 +59,5 @@ start_sound s turns past xs f fit each all h k e = subst (λ (x : List Event). I
       every = h;
       follows = fresh_follows s turns f k;
       same = k.script;
-      left = fresh_left s turns f k;
+      drawable = fresh_drawable s turns f k;
     }

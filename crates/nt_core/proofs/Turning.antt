@@ -33,10 +33,10 @@ taker_held s limit past xs f t p c d i b e h =
 
 pub taker_served : (s : Script) (limit : ℕ) (past : List Event) (xs : List CpuState) (f : PlainState) (t : Turn) (c : CpuState) → IsSound s limit past xs f → (cpu_at t).0 < s.cpus → c ≡ state_of s (cpu_at t) limit past → Serves c (view_of f)
 taker_served s limit past xs f t c i b h =
-    subst (λ (x : CpuState). Serves x (view_of f)) (sym h) (serves_run s limit (cpu_at t) past (view_of f) i.run b i.follows left)
+    subst (λ (x : CpuState). Serves x (view_of f)) (sym h) (serves_run s limit (cpu_at t) past (view_of f) i.run b i.follows drawable)
   where
-    left : is_cut limit (own_of s (cpu_at t) past) ≡ false → 1 ≤ (view_of f).left
-    left u = let r = uncut_room s limit (cpu_at t) past i.run b u in let l = i.left in omega (arith, r, l)
+    drawable : is_cut limit (own_of s (cpu_at t) past) ≡ false → 1 ≤ (view_of f).drawable
+    drawable u = let r = uncut_room s limit (cpu_at t) past i.run b u in let l = i.drawable in omega (arith, r, l)
 
 pub taken_step : (s : Script) (limit : ℕ) (past : List Event) (xs : List CpuState) (f : PlainState) (t : Turn) (c d : CpuState) (y : Found) (n : ℕ) (e : Event) (w : View) → IsSound s limit past xs f → (cpu_at t).0 < s.cpus → is_asked s t past ≡ true → c ≡ state_of s (cpu_at t) limit past → IsTurned c d t y n e (view_of f) w → step s limit t past ≡ Ok e
 taken_step s limit past xs f t c d y n e w i b a h m =
@@ -60,7 +60,7 @@ taken_sound s limit past xs f g t p c d y n e i b a q h m z =
       every = ap (λ (r : CpuNo). set xs r.0 d) q ∙ (ap (λ (ys : List CpuState). set ys (cpu_at t).0 d) i.every ∙ (ap (λ (x : CpuState). set (cpus_of s limit past) (cpu_at t).0 x) o.state ∙ cpus_move s limit (cpu_at t) past e o.cpu b));
       follows = o.floor;
       same = z ∙ i.same;
-      left = (let l = i.left in let w = m.floor.left in omega (arith, l, w));
+      drawable = (let l = i.drawable in let w = m.floor.drawable in omega (arith, l, w));
     }
 
 -- where it is refused, all still follows the history
@@ -73,7 +73,7 @@ untaken_sound s limit past xs f g p c d i h e u z =
       every = ap (λ (x : CpuState). set xs p.0 x) (e ∙ h) ∙ (set-get_or xs p.0 c ∙ i.every);
       follows = follows_still s past (view_of f) (view_of g) i.follows u;
       same = z ∙ i.same;
-      left = (let l = i.left in let w = u.left in omega (arith, l, w));
+      drawable = (let l = i.drawable in let w = u.drawable in omega (arith, l, w));
     }
 
 -- the value of a machine whose history has one more event

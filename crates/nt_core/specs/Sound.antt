@@ -27,4 +27,4 @@ pub record IsSound (s : Script) (limit : ℕ) (past : List Event) (cpus : List C
   pub follows : Follows s past (view_of floor)
   pub same : floor.script ≡ s
   -- a number may be drawn for each event that the processors may still make
-  pub left : (view_of floor).left + length past ≡ s.cpus * limit
+  pub drawable : (view_of floor).drawable + length past ≡ s.cpus * limit

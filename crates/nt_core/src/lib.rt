@@ -13,8 +13,6 @@ mod refusals;
 mod replays;
 mod robins;
 mod runs;
-#[cfg(test)]
-mod tests;
 
 pub use laws::{a_run_is_replayed_by_its_turns, one_robin_run, replays_are_runs};
 pub use machine::Core;

@@ -12,6 +12,7 @@ ghost use Rattle.nt_core.specs.States.{with_event};
 use crate::asking::were_asked;
 use crate::refusals::{CoreRefusal, core_refusal};
 use nt_cpu::Cpu;
+use nt_event::limits::{EVENTS, TURNS};
 use nt_event::{CpuNo, Event, History, Items, Script, Turn};
 use nt_plain::PlainFloor;
 use std::alloc::{AllocError, Global};
@@ -51,7 +52,7 @@ fn cpu_at(turn: &Turn) -> CpuNo
 /// The processors of the script, none of which made an event.
 fn new_cpus<'s>(alloc: Global, script: &'s Script, turns: u32) -> Result<Vec<Cpu<'s>>, AllocError>
     requires script { IsTrue (fits script.now) }
-    requires turns { turns ≤ 20000 }
+    requires turns { turns ≤ TURNS }
     ensures { IfOk result (λ v. v.items ≡ cpus_of script.now turns []) }
 {
     let mut cpus = Vec::with_capacity(alloc, script.cpus as usize)?;
@@ -77,8 +78,8 @@ impl<'s> Core<'s> {
     #[tactic(auto, using(crate::proofs::Starting::start_sound))]
     pub fn new(alloc: Global, script: &'s Script, turns: u32) -> Result<Core<'s>, AllocError>
         requires script { IsTrue (fits script.now) }
-        requires turns { (1 ≤ turns) × (turns ≤ 20000) }
-        requires all { script.now.cpus * turns ≤ 160000 }
+        requires turns { (1 ≤ turns) × (turns ≤ TURNS) }
+        requires all { script.now.cpus * turns ≤ EVENTS }
         ensures { IfOk result (λ c. c ≡ record { script = script.now; limit = turns; past = [] }) }
     {
         let count = u32::from(script.cpus) * turns;
@@ -141,7 +142,7 @@ impl<'s> Core<'s> {
     {
         match turn {
             Turn::Look(cpu, rises) => were_asked(&self.floor, *cpu, rises),
-            _ => true,
+            Turn::Next(_) | Turn::Switch(_, _) => true,
         }
     }
 

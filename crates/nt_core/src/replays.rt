@@ -7,6 +7,7 @@ ghost use Rattle.nt_core.specs.declared.refusals.ScheduleRefusal.{ScheduleRefusa
 
 use crate::machine::Core;
 use crate::refusals::ScheduleRefusal;
+use nt_event::limits::{EVENTS, TURNS};
 use nt_event::{History, ScheduleKind, Script, Turn};
 use std::alloc::Global;
 
@@ -33,8 +34,8 @@ pub fn replay(
     list: &[Turn],
 ) -> Result<History, ScheduleRefusal>
     requires script { IsTrue (fits script.now) }
-    requires turns { (1 ≤ turns) × (turns ≤ 20000) }
-    requires all { script.now.cpus * turns ≤ 160000 }
+    requires turns { (1 ≤ turns) × (turns ≤ TURNS) }
+    requires all { script.now.cpus * turns ≤ EVENTS }
     ensures turns { IfOk result (λ h. h.turns ≡ turns) }
     ensures ok { IfOk result (λ h. replayed script.now turns list.now ≡ Ok (reverse h.events)) }
     ensures err { IfErr result (λ r. IsReplayRefused script.now turns list.now r) }

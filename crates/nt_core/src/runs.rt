@@ -6,6 +6,7 @@ ghost use Rattle.nt_event.specs.Step.{IsRun, turn_of};
 ghost use Rattle.nt_core.specs.States.{with_event};
 
 use crate::machine::Core;
+use nt_event::limits::{EVENTS, TURNS};
 use nt_event::{Event, History, Script, Turn};
 use std::alloc::{AllocError, Global};
 
@@ -29,8 +30,8 @@ impl<'s> Core<'s> {
 /// The script fits, and `turns` is 1 to 20,000 and at most 160,000 in all processors together. Memory is taken before the first event.
 pub fn run(alloc: Global, script: &Script, turns: u32) -> Result<History, AllocError>
     requires script { IsTrue (fits script.now) }
-    requires turns { (1 ≤ turns) × (turns ≤ 20000) }
-    requires all { script.now.cpus * turns ≤ 160000 }
+    requires turns { (1 ≤ turns) × (turns ≤ TURNS) }
+    requires all { script.now.cpus * turns ≤ EVENTS }
     ensures turns { IfOk result (λ h. h.turns ≡ turns) }
     ensures run { IfOk result (λ h. IsRun script.now turns (reverse h.events)) }
     ensures robin { IfOk result (λ h. IsRobin script.now turns (reverse h.events)) }

@@ -1,41 +1,36 @@
 -- The event of a job that is due is one that the frames allow.
-use Rattle.std.proofs.Common.{ap, arith, subst, sym, ◌∙◌}
+use Rattle.std.proofs.Common.{arith, sym, ◌∙◌}
 use Rattle.std.proofs.lemmas.Bool.Decides.{nat_tests}
 use Rattle.std.proofs.lemmas.List.{get_or_past, reverse-append}
 use Rattle.std.proofs.lemmas.List.Elements.{All-head, All-nil, All-push, All-tail}
-use Rattle.std.specs.Option.{option_map_or, option_or}
-use Rattle.std.specs.Prelude.{All, Bool, cond, IfSome, IsTrue, List, None, Option, Some, [], false, find, get_or, if◌then◌else◌, is_none, is_some, length, nat_lt, not, option_and_then, option_map, refl, reverse, true, unwrap_or, ℕ, ◌&&◌, ◌+◌, ◌<◌, ◌==◌, ◌||◌, ◌∷◌, ◌≡◌, ◌≤◌}
+use Rattle.std.specs.Option.{option_or}
+use Rattle.std.specs.Prelude.{All, Bool, cond, List, None, Option, Some, [], false, find, if◌then◌else◌, is_none, is_some, length, nat_lt, not, option_map, refl, reverse, true, ℕ, ◌&&◌, ◌+◌, ◌<◌, ◌==◌, ◌∷◌, ◌≡◌, ◌≤◌}
 use Rattle.nt_event.specs.declared.commands.ApcKind.{ApcKind}
 use Rattle.nt_event.specs.declared.commands.ApcKind.TheVariants.{Normal as NormalApc, Special as SpecialApc, User as UserApc}
 use Rattle.nt_event.specs.declared.commands.Command.{Command}
-use Rattle.nt_event.specs.declared.commands.Command.TheVariants.{Alert, CancelTimer, Delay, InsertApc, Queue, Release, RemoveApc, SetTimer, StartWait, TestAlert, ToUser, Unqueue, Yield}
+use Rattle.nt_event.specs.declared.commands.Command.TheVariants.{Alert, CancelTimer, Delay, InsertApc, Queue, Release, RemoveApc, SetTimer, StartWait, TestAlert, ToUser, Unqueue}
 use Rattle.nt_event.specs.declared.commands.Mode.{Mode}
 use Rattle.nt_event.specs.declared.commands.Regions.{Regions}
-use Rattle.nt_event.specs.declared.commands.Reply.{Reply}
-use Rattle.nt_event.specs.declared.commands.Reply.TheVariants.{Blocked, Done, No, Refused, Status, Yes}
-use Rattle.nt_event.specs.declared.events.Begun.TheVariants.{Apc, Dpc, Threaded}
+use Rattle.nt_event.specs.declared.commands.Reply.TheVariants.{Blocked, Done, Status}
 use Rattle.nt_event.specs.declared.events.What.{What}
-use Rattle.nt_event.specs.declared.events.What.TheVariants.{Begin, Call, Clean, End, Expire, Fire, Flush, Gone, Look, Rest, Rewait, Switch}
-use Rattle.nt_event.specs.declared.frames.Again.{Again}
-use Rattle.nt_event.specs.declared.frames.Body.TheVariants.{Apc as OnApc, Dpc as OnDpc, Threaded as OnThreaded}
+use Rattle.nt_event.specs.declared.events.What.TheVariants.{Call, Clean, End, Flush, Gone, Look, Rest, Rewait}
+use Rattle.nt_event.specs.declared.frames.Body.TheVariants.{Dpc as OnDpc, Threaded as OnThreaded}
 use Rattle.nt_event.specs.declared.frames.Frame.{Frame}
-use Rattle.nt_event.specs.declared.inserts.Insert.{Insert}
 use Rattle.nt_event.specs.declared.inserts.Part.TheVariants.{Ordinary as OrdinaryPart, Threaded as ThreadedPart}
 use Rattle.nt_event.specs.declared.inserts.Pick.{Pick}
 use Rattle.nt_event.specs.declared.jobs.Job.{Job}
 use Rattle.nt_event.specs.declared.jobs.Job.TheVariants.{Apcs as ApcsJob, Call as CallJob, Drain as DrainJob, Fire as FireJob, Idle as IdleJob, Leave as LeaveJob, Pick as PickJob, Rewait as RewaitJob, Rundown as RundownJob, Switch as SwitchJob, Threaded as ThreadedJob, ToUser as ToUserJob, UserEnd as UserEndJob}
 use Rattle.nt_event.specs.declared.jobs.Stand.{Stand}
-use Rattle.nt_event.specs.declared.numbers.CpuNo.{CpuNo}
 use Rattle.nt_event.specs.declared.numbers.DpcNo.{DpcNo}
 use Rattle.nt_event.specs.declared.numbers.ThreadNo.{ThreadNo}
 use Rattle.nt_event.specs.declared.scripts.Script.{Script}
 use Rattle.nt_event.specs.Apcs.{ApcQueues, deliverable, first_kernel, first_of_kind, first_user, has_user, is_inserted, is_of_kind, lets_through, same_kind, takes}
 use Rattle.nt_event.specs.Commands.{is_reached, reply}
-use Rattle.nt_event.specs.Frames.{Frames, innermost, level_in}
-use Rattle.nt_event.specs.Jobs.{apcs_event, begin_apc, begin_dpc, begin_first, drain_event, expire_key, idle_event, job_event, may_apcs, may_drain, may_switch, may_take, must, next_ready, ready, rewait_reply, rundown_event, switch_event, threaded_event, touser_event, user_due}
+use Rattle.nt_event.specs.Frames.{Frames, innermost}
+use Rattle.nt_event.specs.Jobs.{apcs_event, begin_apc, begin_dpc, begin_first, drain_event, expire_key, idle_event, job_event, may_apcs, may_drain, may_switch, may_take, must, next_ready, ready, rewait_reply, rundown_event, switch_event, user_due}
 use Rattle.nt_event.specs.Lanes.{Lanes, facts_at, facts_of, object_at, queue_at}
 use Rattle.nt_event.specs.Objects.{is_queued}
-use Rattle.nt_event.specs.Own.{Own, standing_in}
+use Rattle.nt_event.specs.Own.{Own, stand_in}
 use Rattle.nt_event.specs.Queues.{QueueState, first_dpc}
 use Rattle.nt_event.specs.Routines.{cpu_of, is_kernel_kind, kind_of, owner_of}
 use Rattle.nt_event.specs.Script.{has_thread}
@@ -44,16 +39,16 @@ use Rattle.nt_event.specs.Timers.{first_due, is_set_timer}
 use Rattle.nt_event.specs.Waits.{is_satisfied, wait_reply}
 use Rattle.nt_event.specs.Replies.{alerted, is_blocked, is_user, kernel_apc, satisfied, user_apc, yes_if}
 use Rattle.nt_event.specs.Lists.{is_null, when}
-use Rattle.nt_event.proofs.Options.{Holds, both, holds_else, holds_find, holds_map, holds_more, holds_or, holds_then, holds_at, holds_when, when_gives}
+use Rattle.nt_event.proofs.Options.{Holds, both, holds_else, holds_map, holds_more, holds_or, holds_then, holds_at, holds_when, when_gives}
 use Rattle.nt_event.proofs.Ready.{next_ready_taken}
 use Rattle.nt_floor.specs.Acts.{KindsFit}
-use Rattle.nt_frame.specs.Rules.{is_leaving, may_begin, refusal_in, regions_in}
+use Rattle.nt_frame.specs.Rules.{is_leaving, may_begin, refusal_in}
 use Rattle.nt_frame.proofs.Below.{awaiting_is_on_thread}
 use Rattle.nt_frame.proofs.Tasks.{apc_may_begin, dpc_may_begin, idle_dpc_may_begin, leaving_here, threaded_may_begin, user_may_begin}
 use Rattle.nt_cpu.specs.Fits.{Allow, IsAt, is_wait_reply, may_reply}
 use Rattle.nt_cpu.specs.Sound.{IsSound}
 use Rattle.nt_cpu.specs.States.{CpuState}
-use Rattle.nt_cpu.specs.GoodTasks.{Awaits, Calls, GoodJob, Runs}
+use Rattle.nt_cpu.specs.GoodTasks.{Awaits, GoodJob, Runs}
 use Rattle.nt_cpu.proofs.DueTasks.{accepted_call}
 
 -- a job's event is no Look
@@ -79,7 +74,7 @@ wait_chain false false false false false false = refl
 
 wait_replies : (x : ThreadFacts) (r : Regions) (level : ℕ) (m : Mode) (a : Bool) (reached : Option Bool) → is_wait_reply (wait_reply x r level m a reached) ≡ true
 wait_replies x r level m a reached =
-    wait_chain (is_some (deliverable x.apcs r level)) (is_satisfied x reached) (a && is_alerted m x) (a && (is_user m && has_user x.apcs)) (a && x.alerted_kernel) (not a && (is_user m && x.marked))
+    wait_chain (is_some (deliverable x.apcs r level)) (is_satisfied x reached) (a && is_alerted m x) (a && (is_user m && has_user x.apcs)) (a && x.alerted_kernel) (not a && (is_user m && x.user_pending))
 
 yes_unblocked : (b : Bool) → not (is_blocked (yes_if b)) ≡ true
 yes_unblocked true = refl
@@ -102,7 +97,7 @@ replies s st l _ = refl
 
 -- ---- the innermost frame
 
-at_innermost_frame : (c : CpuState) (f : Frame) → innermost c.own.frames ≡ Some f → IsAt (standing_in c.cpu c.own).frame c.own.frames
+at_innermost_frame : (c : CpuState) (f : Frame) → innermost c.own.frames ≡ Some f → IsAt (stand_in c.cpu c.own).frame c.own.frames
 at_innermost_frame c f k = record { frame = f; is = k; name = rw k refl }
 
 -- ---- pending APCs
@@ -171,17 +166,17 @@ begun_threaded : (c : CpuState) (q : QueueState) → ((d : DpcNo) → may_begin 
 begun_threaded c q h =
     holds_map (GoodEvent c) (begin_dpc ThreadedPart) (first_dpc ThreadedPart q.pending) (λ x e. record { allow = h x.dpc; look = refl })
 
-drain_good : (c : CpuState) (l : Lanes) → may_drain c.own ≡ true → GoodEvent c (drain_event (standing_in c.cpu c.own) l)
+drain_good : (c : CpuState) (l : Lanes) → may_drain c.own ≡ true → GoodEvent c (drain_event (stand_in c.cpu c.own) l)
 drain_good c l k =
-    holds_else (GoodEvent c) (option_or (option_map expire_key (when (standing_in c.cpu c.own).sweep (first_due l.timers))) (begin_first OrdinaryPart (queue_at l c.cpu))) (Clean 2) (holds_or (GoodEvent c) (option_map expire_key (when (standing_in c.cpu c.own).sweep (first_due l.timers))) (begin_first OrdinaryPart (queue_at l c.cpu)) (holds_map (GoodEvent c) expire_key (when (standing_in c.cpu c.own).sweep (first_due l.timers)) (λ x e. record { allow = tt; look = refl })) (λ _. begun_dpc c (queue_at l c.cpu) (λ d. dpc_may_begin c.own d k))) (λ _. record { allow = tt; look = refl })
+    holds_else (GoodEvent c) (option_or (option_map expire_key (when (stand_in c.cpu c.own).sweep (first_due l.timers))) (begin_first OrdinaryPart (queue_at l c.cpu))) (Clean 2) (holds_or (GoodEvent c) (option_map expire_key (when (stand_in c.cpu c.own).sweep (first_due l.timers))) (begin_first OrdinaryPart (queue_at l c.cpu)) (holds_map (GoodEvent c) expire_key (when (stand_in c.cpu c.own).sweep (first_due l.timers)) (λ x e. record { allow = tt; look = refl })) (λ _. begun_dpc c (queue_at l c.cpu) (λ d. dpc_may_begin c.own d k))) (λ _. record { allow = tt; look = refl })
 
-apcs_good : (c : CpuState) (l : Lanes) → may_apcs c.own ≡ true → KindsFit c.script l → GoodEvent c (apcs_event (standing_in c.cpu c.own) l)
+apcs_good : (c : CpuState) (l : Lanes) → may_apcs c.own ≡ true → KindsFit c.script l → GoodEvent c (apcs_event (stand_in c.cpu c.own) l)
 apcs_good c l k f =
-    let st : Stand = standing_in c.cpu c.own in
+    let st : Stand = stand_in c.cpu c.own in
     let q : ApcQueues = (facts_of l st.thread).apcs in
     holds_else (GoodEvent c) (option_map begin_apc (deliverable q st.regions st.level)) (Clean 1) (holds_map (GoodEvent c) begin_apc (deliverable q st.regions st.level) (λ x e. let i = holds_at (IsKernelPick c.script st.regions) (deliverable q st.regions st.level) x (kernel_here c.script q st.regions st.level (thread_fits c.script l st.thread f)) e in record { allow = apc_may_begin c.own x.apc (kind_of c.script x.apc) k i.0 i.1; look = refl })) (λ _. record { allow = tt; look = refl })
 
-idle_good : (c : CpuState) (l : Lanes) → innermost c.own.frames ≡ None → Holds (GoodEvent c) (idle_event c.script (standing_in c.cpu c.own) l)
+idle_good : (c : CpuState) (l : Lanes) → innermost c.own.frames ≡ None → Holds (GoodEvent c) (idle_event c.script (stand_in c.cpu c.own) l)
 idle_good c l k =
     holds_or (GoodEvent c) (begin_first OrdinaryPart (queue_at l c.cpu)) (when (is_null (ready c.script c.cpu l)) (Some Rest)) (begun_dpc c (queue_at l c.cpu) (λ d. idle_dpc_may_begin c.own.frames d k)) (λ _. holds_when (GoodEvent c) (is_null (ready c.script c.cpu l)) (Some Rest) (λ _. record { allow = tt; look = refl }))
 
@@ -217,7 +212,7 @@ taken_good c l t h k m =
 user_here : (c : CpuState) (l : Lanes) → refusal_in ToUser c.own.frames ≡ None → KindsFit c.script l → Holds (GoodEvent c) (option_map begin_apc (user_due (facts_of l c.own.frames.running)))
 user_here c l a f =
     let x : ThreadFacts = facts_of l c.own.frames.running in
-    holds_map (GoodEvent c) begin_apc (user_due x) (λ pick e. let g = when_gives x.marked (first_user x.apcs) pick e in
+    holds_map (GoodEvent c) begin_apc (user_due x) (λ pick e. let g = when_gives x.user_pending (first_user x.apcs) pick e in
     let k = holds_at (λ p. (p.kind ≡ UserApc) × (kind_of c.script p.apc ≡ UserApc)) (first_user x.apcs) pick (kind_here c.script UserApc x.apcs (thread_fits c.script l c.own.frames.running f)) g.1 in
     record { allow = rw k.1 (user_may_begin c.own.frames pick.apc a); look = refl })
 
@@ -225,20 +220,20 @@ rundown_good : (c : CpuState) (l : Lanes) (t : ThreadNo) → is_leaving c.own.fr
 rundown_good c l t k =
     holds_else (GoodEvent c) (option_map (λ x. Flush x.apc x.number) (first_user (facts_at l t).apcs)) (Gone t) (holds_map (GoodEvent c) (λ x. Flush x.apc x.number) (first_user (facts_at l t).apcs) (λ x e. record { allow = k; look = refl })) (λ _. record { allow = k; look = refl })
 
-ended_good : (c : CpuState) → Runs c → GoodEvent c (End (standing_in c.cpu c.own).frame)
+ended_good : (c : CpuState) → Runs c → GoodEvent c (End (stand_in c.cpu c.own).frame)
 ended_good c g = record {
   allow = (at_innermost_frame c g.frame g.is, leaving_here g.frame c.own.frames g.is ∙ g.leaving);
   look = refl;
 }
 
-rewait_good : (c : CpuState) (l : Lanes) → IsSound c → Awaits c → Holds (GoodEvent c) (job_event c.script (standing_in c.cpu c.own) l RewaitJob)
+rewait_good : (c : CpuState) (l : Lanes) → IsSound c → Awaits c → Holds (GoodEvent c) (job_event c.script (stand_in c.cpu c.own) l RewaitJob)
 rewait_good c l h g =
-    let st : Stand = standing_in c.cpu c.own in
+    let st : Stand = stand_in c.cpu c.own in
     holds_map (GoodEvent c) (λ w. Rewait st.frame (rewait_reply st l w)) st.again (λ w e. record { allow = (at_innermost_frame c g.frame g.is, awaiting_is_on_thread g.frame w c.own.frames h.waits g.is (rw g.is at e), wait_replies (facts_of l st.thread) st.regions st.level w.mode w.alertable (option_map (is_reached l.timers.now) w.due)); look = refl })
 
-pub acted_good : (c : CpuState) (l : Lanes) (job : Job) → IsSound c → GoodJob c job → KindsFit c.script l → Holds (GoodEvent c) (job_event c.script (standing_in c.cpu c.own) l job)
+pub acted_good : (c : CpuState) (l : Lanes) (job : Job) → IsSound c → GoodJob c job → KindsFit c.script l → Holds (GoodEvent c) (job_event c.script (stand_in c.cpu c.own) l job)
 acted_good c l (CallJob k) h g f = record {
-  allow = (at_innermost_frame c g.frame g.is, accepted_call k (reply c.script (standing_in c.cpu c.own) l k) c.own.frames g.accepted (replies c.script (standing_in c.cpu c.own) l k));
+  allow = (at_innermost_frame c g.frame g.is, accepted_call k (reply c.script (stand_in c.cpu c.own) l k) c.own.frames g.accepted (replies c.script (stand_in c.cpu c.own) l k));
   look = refl;
 }
 acted_good c l (FireJob d) h g f = record { allow = tt; look = refl }
@@ -248,12 +243,12 @@ acted_good c l ThreadedJob h g f =
     holds_else (GoodEvent c) (begin_first ThreadedPart (queue_at l c.cpu)) (Clean 0) (begun_threaded c (queue_at l c.cpu) (λ d. threaded_may_begin c.own d g)) (λ _. record { allow = tt; look = refl })
 acted_good c l IdleJob h g f = idle_good c l g
 acted_good c l (PickJob last) h g f =
-    holds_or (GoodEvent c) (option_map (λ t. switch_event t l) (next_ready c.script c.cpu last l)) (idle_event c.script (standing_in c.cpu c.own) l) (holds_map (GoodEvent c) (λ t. switch_event t l) (next_ready c.script c.cpu last l) (λ t e. taken_good c l t h g (holds_at (λ t. may_take c.script c.cpu t l ≡ true) (next_ready c.script c.cpu last l) t (next_ready_taken c.script c.cpu last l) e))) (λ _. idle_good c l (free c.own g).innermost)
+    holds_or (GoodEvent c) (option_map (λ t. switch_event t l) (next_ready c.script c.cpu last l)) (idle_event c.script (stand_in c.cpu c.own) l) (holds_map (GoodEvent c) (λ t. switch_event t l) (next_ready c.script c.cpu last l) (λ t e. taken_good c l t h g (holds_at (λ t. may_take c.script c.cpu t l ≡ true) (next_ready c.script c.cpu last l) t (next_ready_taken c.script c.cpu last l) e))) (λ _. idle_good c l (free c.own g).innermost)
 acted_good c l (SwitchJob t) h g f =
     holds_when (GoodEvent c) (may_take c.script c.cpu t l) (Some (switch_event t l)) (λ m. taken_good c l t h g.0 m)
 acted_good c l RewaitJob h g f = rewait_good c l h g
 acted_good c l ToUserJob h g f =
-    holds_else (GoodEvent c) (option_map begin_apc (user_due (facts_of l c.own.frames.running))) (Call (standing_in c.cpu c.own).frame ToUser Done) (user_here c l g.accepted f) (λ _. record { allow = (at_innermost_frame c g.frame g.is, accepted_call ToUser Done c.own.frames g.accepted refl); look = refl })
+    holds_else (GoodEvent c) (option_map begin_apc (user_due (facts_of l c.own.frames.running))) (Call (stand_in c.cpu c.own).frame ToUser Done) (user_here c l g.accepted f) (λ _. record { allow = (at_innermost_frame c g.frame g.is, accepted_call ToUser Done c.own.frames g.accepted refl); look = refl })
 acted_good c l UserEndJob h g f = ended_good c g
 acted_good c l LeaveJob h g f = ended_good c g
 acted_good c l RundownJob h g f =

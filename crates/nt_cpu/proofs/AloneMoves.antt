@@ -1,8 +1,8 @@
 -- An event that touches no lane, as its floor sees it.
-use Rattle.std.proofs.Common.{ap, arith, subst, sym, ◌∙◌}
+use Rattle.std.proofs.Common.{ap, arith, sym, ◌∙◌}
 use Rattle.std.proofs.lemmas.Bool.Decides.{nat_tests}
 use Rattle.std.specs.List.{list_any}
-use Rattle.std.specs.Prelude.{Bool, IfSome, List, None, Option, Some, [], false, if◌then◌else◌, length, map, max, option_map, refl, true, ℕ, ◌&&◌, ◌+◌, ◌<◌, ◌==◌, ◌||◌, ◌∷◌, ◌≡◌, ◌≤◌}
+use Rattle.std.specs.Prelude.{Bool, IfSome, List, None, Option, Some, [], false, if◌then◌else◌, length, map, max, refl, true, ℕ, ◌&&◌, ◌+◌, ◌<◌, ◌==◌, ◌||◌, ◌≡◌, ◌≤◌}
 use Rattle.nt_event.specs.declared.events.Event.{Event}
 use Rattle.nt_event.specs.declared.events.What.{What}
 use Rattle.nt_event.specs.declared.events.What.TheVariants.{Look}
@@ -10,9 +10,8 @@ use Rattle.nt_event.specs.declared.jobs.Lane.{Lane}
 use Rattle.nt_event.specs.declared.jobs.Stand.{Stand}
 use Rattle.nt_event.specs.declared.numbers.CpuNo.{CpuNo}
 use Rattle.nt_event.specs.declared.scripts.Script.{Script}
-use Rattle.nt_event.specs.Frames.{due_of, frames_after, innermost}
 use Rattle.nt_event.specs.Lanes.{Lanes, lane_number, lanes_after, lanes_at, what_lanes}
-use Rattle.nt_event.specs.Own.{Own, own_after_event, standing_in}
+use Rattle.nt_event.specs.Own.{stand_in}
 use Rattle.nt_event.specs.Requests.{asks_in, is_ask, looked, raised, seen_after, what_asks}
 use Rattle.nt_event.specs.Objects.{object_of}
 use Rattle.nt_event.specs.Queues.{queue_of}
@@ -21,9 +20,9 @@ use Rattle.nt_event.specs.Waits.{facts}
 use Rattle.nt_event.specs.Numbers.{cpu, dpc, thread, timer}
 use Rattle.nt_event.specs.Lists.{value_at}
 use Rattle.nt_event.proofs.Tables.{length-table_from}
-use Rattle.nt_floor.specs.Acts.{Found, told_after, told_over}
-use Rattle.nt_floor.specs.Lists.{Lists, with_draw, with_mark, with_marks}
-use Rattle.nt_floor.specs.Views.{HasWord, IsDrawn, IsMarked, IsMoved, Tells, View, is_word}
+use Rattle.nt_floor.specs.Acts.{Found, told_over}
+use Rattle.nt_floor.specs.Lists.{Lists, with_draw, with_marks}
+use Rattle.nt_floor.specs.Views.{HasWord, IsMoved, Tells, View, is_word}
 use Rattle.nt_cpu.specs.Alone.{IsAlone, IsMarkedFor, MayBe, alone_asks, alone_event, alone_then, as_list, is_alone, noticed}
 use Rattle.nt_cpu.specs.Leaves.{own_with}
 use Rattle.nt_cpu.specs.Sound.{IsSound}
@@ -86,7 +85,7 @@ pub record Stays (v z : View) : Type 0 where
   pub states : z.states ≡ v.states
   pub told : (x : Lane) (q : CpuNo) (k : ℕ) → HasWord v q k → z.told x q k ≡ v.told x q k
   pub next : z.next ≡ v.next
-  pub left : z.left ≡ v.left
+  pub drawable : z.drawable ≡ v.drawable
 
 pub marked_stays : (a : Option Asked) (n : ℕ) (u z : View) → IsMarkedFor a n u z → Stays u z
 marked_stays None n u z h = record {
@@ -95,7 +94,7 @@ marked_stays None n u z h = record {
   states = ap (λ (x : View). x.states) h;
   told = λ y q k w. ap (λ (x : View). x.told y q k) h;
   next = ap (λ (x : View). x.next) h;
-  left = ap (λ (x : View). x.left) h;
+  drawable = ap (λ (x : View). x.drawable) h;
 }
 marked_stays (Some a) n u z h = record {
   cpus = h.same.cpus;
@@ -103,7 +102,7 @@ marked_stays (Some a) n u z h = record {
   states = h.same.states;
   told = h.same.told;
   next = h.next;
-  left = h.left;
+  drawable = h.drawable;
 }
 
 tells_after : (s : Script) (states z : Option Lanes) (m : Lanes) → z ≡ states → m ≡ told_states s states → Tells z m
@@ -133,11 +132,11 @@ told_have c None h = have_states c.script []
 told_have c (Some l) h = h.lanes
 
 -- what is left of the states is what they were
-states_kept : (c : CpuState) (states : Option Lanes) (n : ℕ) (e : Event) → IfSome states (λ l. StandsIn c l) → is_alone (standing_in c.cpu c.own).body e.what ≡ true → lanes_after c.script n (standing_in c.cpu c.own) e (told_states c.script states) ≡ told_states c.script states
+states_kept : (c : CpuState) (states : Option Lanes) (n : ℕ) (e : Event) → IfSome states (λ l. StandsIn c l) → is_alone (stand_in c.cpu c.own).body e.what ≡ true → lanes_after c.script n (stand_in c.cpu c.own) e (told_states c.script states) ≡ told_states c.script states
 states_kept c None n e h b =
-    lanes_kept c.script n (standing_in c.cpu c.own) e (lanes_at c.script []) (have_states c.script []) b
+    lanes_kept c.script n (stand_in c.cpu c.own) e (lanes_at c.script []) (have_states c.script []) b
 states_kept c (Some l) n e h b =
-    lanes_kept c.script n (standing_in c.cpu c.own) e l h.lanes b
+    lanes_kept c.script n (stand_in c.cpu c.own) e l h.lanes b
 
 raise_value : (b alone : Bool) (n old : ℕ) → old ≤ n → (if b then max old (n + 1) else old) ≡ raised b n old
 raise_value true alone n old h = omega arith
@@ -151,9 +150,9 @@ at_least : (b : Bool) (n old : ℕ) → b ≡ true → n + 1 ≤ (if b then max 
 at_least true n old h = omega arith
 at_least false n old h = cc
 
-pub alone_moved : (c d : CpuState) (w : What) (n : ℕ) (v u z : View) → Serves c v → MayBe c w → IsAlone c d w n v u z → IsMoved c.script n (alone_event c.cpu w c.own.frames) (standing_in c.cpu c.own) (found_by c v) v z
+pub alone_moved : (c d : CpuState) (w : What) (n : ℕ) (v u z : View) → Serves c v → MayBe c w → IsAlone c d w n v u z → IsMoved c.script n (alone_event c.cpu w c.own.frames) (stand_in c.cpu c.own) (found_by c v) v z
 alone_moved c d w n v u z h m i =
-    let st : Stand = standing_in c.cpu c.own in
+    let st : Stand = stand_in c.cpu c.own in
     let a : Option Asked = alone_asks st w in
     let l : Lanes = told_states c.script v.states in
     let g = i.drawn in
@@ -170,7 +169,7 @@ alone_moved c d w n v u z h m i =
       alone = y.alone ∙ g.same.alone;
       least = (least, omega arith);
       exact = λ e. (g.exact e, next);
-      left = ap (λ (x : ℕ). x + 1) y.left ∙ g.left;
+      drawable = ap (λ (x : ℕ). x + 1) y.drawable ∙ g.drawable;
       lists = marked_lists a n u z i.marked ∙ ap (λ (x : Option Lists). with_marks n (as_list a) x) g.lists ∙ ap (λ (x : List _). with_marks n x (with_draw n (alone_event c.cpu w c.own.frames) [] v.lists)) (sym asks) ∙ ap (λ (x : List Lane). with_marks n (what_asks c.script st w l) (with_draw n (alone_event c.cpu w c.own.frames) (map (lane_number c.script) x) v.lists)) (sym lanes);
       marked = λ k q b e. marked_marks a n u z i.marked k q b (word q b e) ∙ (ap (λ (x : Bool). x || ((k == n) && asked_for a q b)) (g.marked k q b e) ∙ ap (λ (x : Bool). v.marked k q b || ((k == n) && x)) (asked q b));
       value = λ t q k e. marked_value a n u z i.marked q k (word q k e) ∙ (ap (λ (x : ℕ). if asked_for a q k then max x (n + 1) else x) (g.value q k e) ∙ (let o = h.values t q k e in raise_value (asked_for a q k) true n (v.value q k) (omega arith) ∙ ap (λ (x : Bool). raised x n (v.value q k)) (asked q k)));
@@ -207,7 +206,7 @@ noticed_seen p w (Some a) n k old h l = noticed_of_ask ((a.cpu.0 == p.0) && (a.c
 
 pub alone_left : (c : CpuState) (w : What) (n : ℕ) (v : View) → IsSound c → MayBe c w → ((k : ℕ) → k < 16 → value_at c.own.seen k ≤ n) → alone_then c n w ≡ own_then c (found_by c v) n (alone_event c.cpu w c.own.frames)
 alone_left c w n v s m b =
-    let st : Stand = standing_in c.cpu c.own in
+    let st : Stand = stand_in c.cpu c.own in
     let e : Event = alone_event c.cpu w c.own.frames in
     let a : Option Asked = alone_asks st w in
     let l : Lanes = told_states c.script v.states in

@@ -1,42 +1,38 @@
 -- Events that touch no lane: their level, their asks, and the lanes.
 use Rattle.std.proofs.Common.{ap, sym, ◌∙◌}
-use Rattle.std.specs.Option.{option_map_or, option_or}
-use Rattle.std.specs.Prelude.{Bool, IsTrue, List, None, Option, Some, [], false, if◌then◌else◌, is_none, length, not, option_map, refl, true, ℕ, ◌&&◌, ◌<◌, ◌==◌, ◌||◌, ◌∷◌, ◌≡◌}
-use Rattle.nt_event.specs.declared.commands.ApcKind.TheVariants.{Normal as NormalApc, Special as SpecialApc, User as UserApc}
+use Rattle.std.specs.Prelude.{Bool, List, None, Option, Some, [], false, if◌then◌else◌, length, not, option_map, refl, true, ℕ, ◌&&◌, ◌==◌, ◌||◌, ◌∷◌, ◌≡◌}
+use Rattle.nt_event.specs.declared.commands.ApcKind.TheVariants.{Normal as NormalApc, User as UserApc}
 use Rattle.nt_event.specs.declared.commands.Command.{Command}
-use Rattle.nt_event.specs.declared.commands.Command.TheVariants.{Alert, CancelTimer, Clock, Delay, EnterCrit, EnterGuard, InsertApc, Interrupt, LeaveCrit, LeaveGuard, Lower, Note, Queue, Raise, Release, RemoveApc, SetImportance, SetTarget, SetTimer, StartWait, TestAlert, ToUser, Unqueue, Yield}
-use Rattle.nt_event.specs.declared.commands.Refusal.{Refusal}
+use Rattle.nt_event.specs.declared.commands.Command.TheVariants.{Alert, Clock, EnterCrit, EnterGuard, InsertApc, Interrupt, LeaveCrit, LeaveGuard, Lower, Note, Queue, Raise, Release}
 use Rattle.nt_event.specs.declared.commands.Reply.{Reply}
 use Rattle.nt_event.specs.declared.commands.Reply.TheVariants.{Blocked, Done, No, Refused, Status, Yes}
-use Rattle.nt_event.specs.declared.events.Begun.TheVariants.{Apc, Dpc, Int, Threaded}
+use Rattle.nt_event.specs.declared.events.Begun.TheVariants.{Int}
 use Rattle.nt_event.specs.declared.events.Event.{Event}
 use Rattle.nt_event.specs.declared.events.What.{What}
-use Rattle.nt_event.specs.declared.events.What.TheVariants.{Begin, Call, Clean, End, Expire, Fire, Flush, Gone, Look, Normal, Rest, Rewait, Switch}
+use Rattle.nt_event.specs.declared.events.What.TheVariants.{Begin, Call, End, Look, Normal}
 use Rattle.nt_event.specs.declared.frames.Body.{Body}
-use Rattle.nt_event.specs.declared.frames.Body.TheVariants.{Apc as OnApc, Base as OnBase, Dpc as OnDpc, Int as OnInt, Rundown as OnRundown, Threaded as OnThreaded}
+use Rattle.nt_event.specs.declared.frames.Body.TheVariants.{Apc as OnApc, Base as OnBase}
 use Rattle.nt_event.specs.declared.frames.Frame.{Frame}
 use Rattle.nt_event.specs.declared.jobs.Stand.{Stand}
 use Rattle.nt_event.specs.declared.numbers.CpuNo.{CpuNo}
-use Rattle.nt_event.specs.declared.numbers.ThreadNo.{ThreadNo}
 use Rattle.nt_event.specs.declared.scripts.Script.{Script}
 use Rattle.nt_event.specs.Commands.{needs_lane}
-use Rattle.nt_event.specs.Frames.{Frames, called, done_to, due_of, frames_after, innermost, is_base_body, is_normal_apc_body, level_in, normal_of, running_after, thread_part}
+use Rattle.nt_event.specs.Frames.{Frames, done_to, due_of, frames_after, innermost, is_base_body, level_in, normal_of, thread_part}
 use Rattle.nt_event.specs.Lanes.{Lanes, command_lanes, end_lanes, what_lanes}
-use Rattle.nt_event.specs.Regions.{after_in, some_came_to_0, stand_of}
-use Rattle.nt_event.specs.Requests.{Ask, ask_if, command_asks, end_asks, what_asks}
+use Rattle.nt_event.specs.Regions.{after_in, some_came_to_0}
+use Rattle.nt_event.specs.Requests.{ask_if, command_asks, end_asks, what_asks}
 use Rattle.nt_event.specs.Step.{event_at, level_field, thread_field, unleveled}
-use Rattle.nt_event.specs.Lists.{head_of, is_null, tail_of}
+use Rattle.nt_event.specs.Lists.{is_null, tail_of}
 use Rattle.nt_event.specs.Replies.{is_done, is_refused}
 use Rattle.nt_event.proofs.Options.{both, not_true}
-use Rattle.nt_frame.specs.Changes.{at_innermost, begun, on_running, without_innermost}
+use Rattle.nt_frame.specs.Changes.{at_innermost, on_running, without_innermost}
 use Rattle.nt_frame.specs.Nesting.{AreNested}
-use Rattle.nt_frame.specs.Rules.{is_at_base, is_leaving, may_go_on, refusal_in}
-use Rattle.nt_frame.proofs.After.{after_call, after_end, after_int, after_look, after_normal}
+use Rattle.nt_frame.proofs.After.{after_end, after_int, after_normal}
 use Rattle.nt_frame.proofs.Commands.{advanced, call_own, call_plain, call_refused, is_frames_own, is_plain}
 use Rattle.nt_frame.proofs.Events.{IsOurs}
 use Rattle.nt_frame.proofs.Twice.{at_innermost-at_innermost, at_innermost_by}
 use Rattle.nt_cpu.specs.Alone.{alone_asks, alone_event, alone_level, as_list, ask_when, call_asks, call_level, ends_alone, is_alone, is_normal_end}
-use Rattle.nt_cpu.specs.Fits.{Allow, IsAt}
+use Rattle.nt_cpu.specs.Fits.{Allow}
 use Rattle.nt_cpu.proofs.FramesLeft.{innermost-at_innermost, on_running_own, thread_part_changed}
 
 -- ---- asks

@@ -1,6 +1,6 @@
 -- What is done to the frames for an event is what the event leaves of them.
 use Rattle.std.proofs.Common.{ap, sym, ◌∙◌}
-use Rattle.std.specs.Prelude.{Bool, IsTrue, List, None, Option, Some, [], false, if◌then◌else◌, is_some, length, refl, true, ℕ, ◌<◌, ◌∷◌, ◌≡◌}
+use Rattle.std.specs.Prelude.{Bool, List, None, Option, Some, [], false, if◌then◌else◌, is_some, length, refl, true, ℕ, ◌<◌, ◌∷◌, ◌≡◌}
 use Rattle.nt_event.specs.declared.commands.Command.{Command}
 use Rattle.nt_event.specs.declared.commands.Reply.{Reply}
 use Rattle.nt_event.specs.declared.events.Begun.{Begun}
@@ -14,16 +14,16 @@ use Rattle.nt_event.specs.declared.numbers.ApcNo.{ApcNo}
 use Rattle.nt_event.specs.declared.numbers.RoutineNo.{RoutineNo}
 use Rattle.nt_event.specs.declared.numbers.ThreadNo.{ThreadNo}
 use Rattle.nt_event.specs.declared.scripts.Script.{Script}
-use Rattle.nt_event.specs.Frames.{Frames, called, frames_after, frames_in, innermost, is_base_body, left, normal_of, resumed, rewaited, running_after}
+use Rattle.nt_event.specs.Frames.{Frames, called, frames_after, frames_in, is_base_body, ended_base, normal_of, resumed, rewaited, running_after}
 use Rattle.nt_event.specs.Routines.{rundown_of}
 use Rattle.nt_event.specs.Step.{thread_field}
-use Rattle.nt_event.specs.Lists.{head_of, is_null}
+use Rattle.nt_event.specs.Lists.{is_null}
 use Rattle.nt_frame.specs.Changes.{at_innermost, begun, closed, without_innermost}
 use Rattle.nt_frame.specs.Nesting.{AreNested}
 use Rattle.nt_frame.specs.Rules.{is_at_base, may_go_on}
 use Rattle.nt_frame.proofs.After.{after_apc, after_call, after_clean, after_dpc, after_end, after_end_base, after_expire, after_fire, after_first_switch, after_flush, after_gone, after_int, after_look, after_normal, after_rest, after_rewait, after_rundown, after_switch, after_threaded, taken}
 use Rattle.nt_frame.proofs.Events.{IsOurs}
-use Rattle.nt_cpu.specs.Fits.{IsAt, body_of, stops}
+use Rattle.nt_cpu.specs.Fits.{IsAt, body_of}
 use Rattle.nt_cpu.proofs.FramesLeft.{call_runs}
 
 -- the event is one of the processor that has these frames
@@ -60,7 +60,7 @@ pub left_normal : (s : Script) (n : ℕ) (due : Option ℕ) (e : Event) (x z : F
 left_normal s n due e x z f o k a g h =
     h ∙ sym (after_normal s n due e x a.frame (ours s e (Normal f) x o k refl) a.is g (k ∙ ap Normal (sym a.name)))
 
-pub left_end : (s : Script) (n : ℕ) (due : Option ℕ) (e : Event) (x z : Frames) (f : ℕ) → Occurs s e x → e.what ≡ End f → IsAt f x → z ≡ (if is_at_base x then at_innermost left x else without_innermost x) → z ≡ frames_after s n due e x
+pub left_end : (s : Script) (n : ℕ) (due : Option ℕ) (e : Event) (x z : Frames) (f : ℕ) → Occurs s e x → e.what ≡ End f → IsAt f x → z ≡ (if is_at_base x then at_innermost ended_base x else without_innermost x) → z ≡ frames_after s n due e x
 left_end s n due e x z f o k a h = go (is_base_body a.frame.body) refl
   where
     base : is_at_base x ≡ is_base_body a.frame.body

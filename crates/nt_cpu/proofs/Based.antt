@@ -1,9 +1,9 @@
 -- A running thread has its base frame under the others, whatever happens.
-use Rattle.std.proofs.Common.{ap, arith, inl, inr, subst, sym, ◌∙◌}
+use Rattle.std.proofs.Common.{ap, arith, inl, inr, sym, ◌∙◌}
 use Rattle.std.proofs.lemmas.Bool.Decides.{nat_tests}
 use Rattle.std.proofs.lemmas.List.{get_or_past}
 use Rattle.std.proofs.lemmas.List.Elements.{All-from_get_or}
-use Rattle.std.specs.Prelude.{All, Bool, IfSome, List, None, Option, Some, [], false, get_or, if◌then◌else◌, length, nat_lt, refl, true, ℕ, ◌<◌, ◌==◌, ◌∷◌, ◌≡◌, ◌≤◌, ◌⊎◌}
+use Rattle.std.specs.Prelude.{Bool, IfSome, List, None, Option, Some, [], false, get_or, if◌then◌else◌, length, nat_lt, refl, true, ℕ, ◌<◌, ◌==◌, ◌∷◌, ◌≡◌, ◌≤◌, ◌⊎◌}
 use Rattle.nt_event.specs.declared.commands.Command.TheVariants.{Yield}
 use Rattle.nt_event.specs.declared.commands.Reply.TheVariants.{Blocked, Done}
 use Rattle.nt_event.specs.declared.events.Begun.TheVariants.{Apc}
@@ -16,12 +16,12 @@ use Rattle.nt_event.specs.declared.numbers.ApcNo.{ApcNo}
 use Rattle.nt_event.specs.declared.numbers.RoutineNo.{RoutineNo}
 use Rattle.nt_event.specs.declared.numbers.ThreadNo.{ThreadNo}
 use Rattle.nt_event.specs.declared.scripts.Script.{Script}
-use Rattle.nt_event.specs.Frames.{Frames, at_name, called, end_on_thread, ended_on_thread, flushed, frames_after, frames_in, is_base_body, left, new_frame, normal_of, rewaited, resumed, running_after, switched_to, thread_after, thread_if}
+use Rattle.nt_event.specs.Frames.{Frames, at_name, called, end_on_thread, ended_on_thread, flushed, frames_after, frames_in, is_base_body, ended_base, new_frame, normal_of, rewaited, resumed, running_after, switched_to, thread_after, thread_if}
 use Rattle.nt_event.specs.Routines.{kind_of, rundown_of}
 use Rattle.nt_event.specs.Step.{thread_field}
 use Rattle.nt_event.specs.Numbers.{is_by, is_thread, thread}
 use Rattle.nt_event.specs.Lists.{table}
-use Rattle.nt_runs.proofs.Running.{Keeps, called_keeps, normal_keeps, rewaited_keeps, resumed_keeps, same_thread}
+use Rattle.nt_runs.proofs.Running.{called_keeps, normal_keeps, rewaited_keeps, resumed_keeps, same_thread}
 use Rattle.nt_event.proofs.Tables.{get_or-table, length-table_from}
 use Rattle.nt_cpu.specs.Sound.{AreBased, EndsInBase}
 
@@ -48,8 +48,8 @@ ended_ends f fs h = go (is_base_body f.body) refl
     rest [] k e = cc
     rest (g ∷ gs) k e = k
 
-    go : (b : Bool) → is_base_body f.body ≡ b → EndsInBase (if b then (left f ∷ fs) else fs)
-    go true e = head_ends left f fs (λ g. refl) h
+    go : (b : Bool) → is_base_body f.body ≡ b → EndsInBase (if b then (ended_base f ∷ fs) else fs)
+    go true e = head_ends ended_base f fs (λ g. refl) h
     go false e = rest fs h e
 
 end_ends : (n : ℕ) (fs : List Frame) → EndsInBase fs → EndsInBase (end_on_thread n fs)

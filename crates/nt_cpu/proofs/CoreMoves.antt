@@ -1,14 +1,11 @@
 -- After a turn of a processor, the processors and the floor follow the longer history.
-use Rattle.std.proofs.Common.{ap, add-one, arith, subst, sym, ◌∙◌}
+use Rattle.std.proofs.Common.{ap, add-one, arith, sym, ◌∙◌}
 use Rattle.std.proofs.lemmas.Bool.Decides.{nat_tests}
-use Rattle.std.specs.List.{list_any}
-use Rattle.std.specs.Prelude.{Bool, Err, List, None, Ok, Option, Result, Some, [], false, if◌then◌else◌, length, max, option_and_then, option_map, refl, suc, true, ℕ, ◌&&◌, ◌+◌, ◌<◌, ◌==◌, ◌||◌, ◌∷◌, ◌≡◌, ◌≢◌, ◌≤◌}
+use Rattle.std.specs.Prelude.{Bool, Err, List, None, Ok, Option, Some, [], false, if◌then◌else◌, length, max, option_and_then, option_map, refl, true, ℕ, ◌&&◌, ◌+◌, ◌<◌, ◌==◌, ◌||◌, ◌∷◌, ◌≡◌, ◌≢◌}
 use Rattle.nt_event.specs.declared.events.Event.{Event}
 use Rattle.nt_event.specs.declared.events.Turn.{Turn}
 use Rattle.nt_event.specs.declared.events.What.{What}
-use Rattle.nt_event.specs.declared.jobs.Job.{Job}
 use Rattle.nt_event.specs.declared.jobs.Lane.{Lane}
-use Rattle.nt_event.specs.declared.jobs.Stand.{Stand}
 use Rattle.nt_event.specs.declared.jobs.Task.{Task}
 use Rattle.nt_event.specs.declared.jobs.Task.TheVariants.{Alone, Shared}
 use Rattle.nt_event.specs.declared.numbers.CpuNo.{CpuNo}
@@ -16,21 +13,20 @@ use Rattle.nt_event.specs.declared.scripts.Script.{Script}
 use Rattle.nt_event.specs.Acting.{acted_event}
 use Rattle.nt_event.specs.Frames.{due_of, time}
 use Rattle.nt_event.specs.Jobs.{job_event}
-use Rattle.nt_event.specs.Lanes.{Lanes, lanes_after, lanes_at, lanes_of, touches, what_lanes}
-use Rattle.nt_event.specs.Own.{Own, own_after_event, own_of, standing_in}
+use Rattle.nt_event.specs.Lanes.{Lanes, lanes_after, lanes_at, what_lanes}
+use Rattle.nt_event.specs.Own.{Own, own_of, stand_in}
 use Rattle.nt_event.specs.Regions.{stand_at}
-use Rattle.nt_event.specs.Requests.{asked, asks, asks_in, raised, seen_after, told, told_by, told_by_all}
+use Rattle.nt_event.specs.Requests.{asked, asks_in, raised, seen_after, told_by, told_by_all}
 use Rattle.nt_event.specs.Step.{event_at, is_cut}
 use Rattle.nt_event.specs.Numbers.{is_of}
 use Rattle.nt_event.specs.Lists.{value_at}
 use Rattle.nt_event.proofs.Moves.{lanes_move, own_moves_here, own_stays}
-use Rattle.nt_floor.specs.Acts.{Found, Told, is_among, told_after, told_over}
+use Rattle.nt_floor.specs.Acts.{Found, Told, is_among, told_over}
 use Rattle.nt_floor.specs.Views.{HasWord, IsMoved, View}
 use Rattle.nt_cpu.specs.Leaves.{own_with}
 use Rattle.nt_cpu.specs.Runs.{Follows, asks_at, state_of}
 use Rattle.nt_cpu.specs.States.{CpuState}
-use Rattle.nt_cpu.specs.Turns.{IsTurned, event_or_refusal, own_then, state_then, task_makes, turn_gives, turn_refusal, turn_task}
-use Rattle.nt_cpu.specs.declared.turn.TurnRefusal.{TurnRefusal}
+use Rattle.nt_cpu.specs.Turns.{IsTurned, event_or_refusal, own_then, task_makes, turn_gives, turn_refusal, turn_task}
 use Rattle.nt_cpu.specs.declared.turn.TurnRefusal.TheVariants.{NothingToDo}
 use Rattle.nt_cpu.proofs.Taken.{own_with_same}
 
@@ -38,12 +34,12 @@ use Rattle.nt_cpu.proofs.Taken.{own_with_same}
 task_cpu : (s : Script) (p : CpuNo) (x : Own) (l : Lanes) (t : Task) (e : Event) → task_makes s p x l t ≡ Some e → e.cpu ≡ p
 task_cpu s p x l (Alone w) e h =
     let i : event_at s p w x.frames ≡ e = cc in ap (λ (y : Event). y.cpu) (sym i)
-task_cpu s p x l (Shared job) e h = go (job_event s (standing_in p x) l job) h
+task_cpu s p x l (Shared job) e h = go (job_event s (stand_in p x) l job) h
   where
-    go : (o : Option What) → option_map (acted_event (standing_in p x) l) o ≡ Some e → e.cpu ≡ p
+    go : (o : Option What) → option_map (acted_event (stand_in p x) l) o ≡ Some e → e.cpu ≡ p
     go None k = absurd cc
     go (Some w) k =
-        let i : acted_event (standing_in p x) l w ≡ e = cc in ap (λ (y : Event). y.cpu) (sym i)
+        let i : acted_event (stand_in p x) l w ≡ e = cc in ap (λ (y : Event). y.cpu) (sym i)
 
 pub gives_cpu : (c : CpuState) (l : Lanes) (t : Turn) (e : Event) → turn_gives c l t ≡ Ok e → e.cpu ≡ c.cpu
 gives_cpu c l t e h = cut (is_cut c.limit c.own) h

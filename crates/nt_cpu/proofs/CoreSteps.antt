@@ -1,9 +1,9 @@
 -- One processor of a run: what a turn gives is the step, and everything moves on as the history does.
-use Rattle.std.proofs.Common.{ap, arith, inl, inr, subst, sym, ◌∙◌}
+use Rattle.std.proofs.Common.{ap, arith, inl, inr, sym, ◌∙◌}
 use Rattle.std.proofs.lemmas.Bool.Decides.{nat_tests}
 use Rattle.std.proofs.lemmas.List.Elements.{All-from_get_or}
 use Rattle.std.specs.List.{list_any}
-use Rattle.std.specs.Prelude.{All, Bool, Err, IfSome, List, None, Ok, Option, Result, Some, [], false, if◌then◌else◌, length, nat_lt, not, option_and_then, option_map, refl, suc, true, ℕ, ◌&&◌, ◌+◌, ◌<◌, ◌==◌, ◌||◌, ◌∷◌, ◌≡◌, ◌≤◌}
+use Rattle.std.specs.Prelude.{Bool, Err, List, None, Ok, Option, Result, Some, [], false, if◌then◌else◌, length, nat_lt, not, option_and_then, option_map, refl, suc, true, ℕ, ◌&&◌, ◌<◌, ◌==◌, ◌||◌, ◌∷◌, ◌≡◌, ◌≤◌}
 use Rattle.nt_event.specs.declared.events.Event.{Event}
 use Rattle.nt_event.specs.declared.events.Rises.{Rises}
 use Rattle.nt_event.specs.declared.events.ScheduleKind.{ScheduleKind}
@@ -15,36 +15,31 @@ use Rattle.nt_event.specs.declared.events.What.TheVariants.{Look}
 use Rattle.nt_event.specs.declared.frames.Frame.{Frame}
 use Rattle.nt_event.specs.declared.jobs.Job.{Job}
 use Rattle.nt_event.specs.declared.jobs.Job.TheVariants.{Switch as SwitchJob}
-use Rattle.nt_event.specs.declared.jobs.Lane.{Lane}
-use Rattle.nt_event.specs.declared.jobs.Stand.{Stand}
 use Rattle.nt_event.specs.declared.jobs.Task.{Task}
 use Rattle.nt_event.specs.declared.jobs.Task.TheVariants.{Alone, Shared}
 use Rattle.nt_event.specs.declared.numbers.CpuNo.{CpuNo}
 use Rattle.nt_event.specs.declared.numbers.ThreadNo.{ThreadNo}
 use Rattle.nt_event.specs.declared.scripts.Script.{Script}
 use Rattle.nt_event.specs.Acting.{IsDue, acted_event}
-use Rattle.nt_event.specs.Frames.{due_of, frames_of, own_frames, thread_frames, time}
+use Rattle.nt_event.specs.Frames.{frames_of, own_frames, thread_frames}
 use Rattle.nt_event.specs.Jobs.{job_event, may_switch, task, task_event}
-use Rattle.nt_event.specs.Lanes.{Lanes, lanes_after, lanes_at, lanes_of, touches, what_lanes}
-use Rattle.nt_event.specs.Own.{Own, own_after_event, own_of, standing_in}
+use Rattle.nt_event.specs.Lanes.{lanes_at}
+use Rattle.nt_event.specs.Own.{Own, own_of}
 use Rattle.nt_event.specs.Regions.{stand_at}
-use Rattle.nt_event.specs.Requests.{asked, asks, asks_in, raised, seen, told, told_by, told_by_all}
+use Rattle.nt_event.specs.Requests.{seen}
 use Rattle.nt_event.specs.Script.{has_thread}
-use Rattle.nt_event.specs.Step.{IsRun, cpu_at, event_at, event_or, good_rises, is_cut, is_good_look, refused_if, step, uncut_step, was_asked}
-use Rattle.nt_event.specs.Numbers.{is_of, thread}
-use Rattle.nt_event.specs.Lists.{table, value_at, when}
+use Rattle.nt_event.specs.Step.{IsRun, cpu_at, event_or, good_rises, is_cut, is_good_look, refused_if, step, uncut_step, was_asked}
+use Rattle.nt_event.specs.Numbers.{thread}
+use Rattle.nt_event.specs.Lists.{value_at, when}
 use Rattle.nt_runs.proofs.Shared.{events_agree}
 use Rattle.nt_runs.proofs.Allowed.{jobs_allowed, processors_stand}
-use Rattle.nt_event.proofs.Moves.{lanes_move, own_moves_here, own_stays}
 use Rattle.nt_runs.proofs.Names.{AllBelow, all_named}
 use Rattle.nt_runs.proofs.Settled.{asked_below, seen_below}
 use Rattle.nt_event.proofs.Tables.{get_or-table, length-table_from}
-use Rattle.nt_floor.specs.Acts.{Found, Told, is_among, told_after, told_over}
-use Rattle.nt_floor.specs.Views.{HasWord, IsMoved, View}
+use Rattle.nt_floor.specs.Views.{HasWord, View}
 use Rattle.nt_frame.specs.Nesting.{AreNamedBelow, next_name}
-use Rattle.nt_cpu.specs.Runs.{Follows, asked_rises, asks_at, is_asked, state_of}
-use Rattle.nt_cpu.specs.States.{CpuState}
-use Rattle.nt_cpu.specs.Turns.{HaveStates, IsTurned, Serves, StandsIn, event_or_refusal, rise_above, rises, state_then, task_makes, turn_gives, turn_refusal, turn_task}
+use Rattle.nt_cpu.specs.Runs.{Follows, asked_rises, is_asked, state_of}
+use Rattle.nt_cpu.specs.Turns.{Serves, StandsIn, event_or_refusal, rise_above, rises, task_makes, turn_gives, turn_refusal, turn_task}
 use Rattle.nt_cpu.specs.declared.turn.TurnRefusal.{TurnRefusal}
 use Rattle.nt_cpu.specs.declared.turn.TurnRefusal.TheVariants.{BadChoice, BadLook, NoMemory, NothingToDo}
 use Rattle.nt_cpu.proofs.AloneMoves.{have_states}
@@ -71,10 +66,10 @@ stands_run s limit p past r = record {
 }
 
 -- in a run a floor that follows it serves each processor
-pub serves_run : (s : Script) (limit : ℕ) (p : CpuNo) (past : List Event) (v : View) → IsRun s limit past → p.0 < s.cpus → Follows s past v → (is_cut limit (own_of s p past) ≡ false → 1 ≤ v.left) → Serves (state_of s p limit past) v
+pub serves_run : (s : Script) (limit : ℕ) (p : CpuNo) (past : List Event) (v : View) → IsRun s limit past → p.0 < s.cpus → Follows s past v → (is_cut limit (own_of s p past) ≡ false → 1 ≤ v.drawable) → Serves (state_of s p limit past) v
 serves_run s limit p past v r b f l = record {
   cpus = f.cpus;
-  left = l;
+  drawable = l;
   known = λ k h. let e = f.value p k (word k h) in let q = seen_below s limit p k past r in let g = saw k h in omega arith;
   below = λ k h. let q = seen_below s limit p k past r in let a = asked_below s p k past in let n = f.next in let g = saw k h in omega arith;
   named = rw f.next (named_below s p past);

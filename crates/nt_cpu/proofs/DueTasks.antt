@@ -1,67 +1,45 @@
 -- What holds of the task that a processor has to do next.
-use Rattle.std.proofs.Common.{ap, arith, subst, sym, ◌∙◌}
+use Rattle.std.proofs.Common.{arith, ◌∙◌}
 use Rattle.std.proofs.lemmas.Bool.Decides.{nat_tests}
-use Rattle.std.specs.List.{list_all}
-use Rattle.std.specs.Option.{option_map_or, option_or}
-use Rattle.std.specs.Prelude.{Bool, IfSome, IsTrue, List, None, Option, Some, [], false, find, if◌then◌else◌, is_none, is_some, length, nat_lt, not, option_and_then, option_map, refl, slice_get, true, ℕ, ◌&&◌, ◌-◌, ◌<◌, ◌==◌, ◌||◌, ◌∷◌, ◌≡◌}
-use Rattle.nt_event.specs.declared.commands.ApcKind.TheVariants.{Normal as NormalApc, Special as SpecialApc, User as UserApc}
+use Rattle.std.specs.Option.{option_or}
+use Rattle.std.specs.Prelude.{Bool, IfSome, IsTrue, None, Option, Some, false, find, if◌then◌else◌, is_none, is_some, not, option_and_then, option_map, refl, true, ℕ, ◌&&◌, ◌-◌, ◌<◌, ◌||◌, ◌≡◌}
+use Rattle.nt_event.specs.declared.commands.ApcKind.TheVariants.{User as UserApc}
 use Rattle.nt_event.specs.declared.commands.Command.{Command}
 use Rattle.nt_event.specs.declared.commands.Command.TheVariants.{Delay, Interrupt, LeaveCrit, LeaveGuard, StartWait, ToUser}
 use Rattle.nt_event.specs.declared.commands.Refusal.{Refusal}
 use Rattle.nt_event.specs.declared.commands.Reply.{Reply}
 use Rattle.nt_event.specs.declared.commands.Reply.TheVariants.{Done, Refused}
 use Rattle.nt_event.specs.declared.events.Begun.TheVariants.{Int}
-use Rattle.nt_event.specs.declared.events.What.{What}
-use Rattle.nt_event.specs.declared.events.What.TheVariants.{Begin, Call, End, Normal}
+use Rattle.nt_event.specs.declared.events.What.TheVariants.{Begin, Call}
 use Rattle.nt_event.specs.declared.frames.Body.{Body}
 use Rattle.nt_event.specs.declared.frames.Body.TheVariants.{Apc as OnApc, Base as OnBase}
 use Rattle.nt_event.specs.declared.frames.Frame.{Frame}
-use Rattle.nt_event.specs.declared.jobs.Job.{Job}
-use Rattle.nt_event.specs.declared.jobs.Job.TheVariants.{Apcs as ApcsJob, Call as CallJob, Drain as DrainJob, Fire as FireJob, Idle as IdleJob, Leave as LeaveJob, Pick as PickJob, Rewait as RewaitJob, Rundown as RundownJob, Switch as SwitchJob, Threaded as ThreadedJob, ToUser as ToUserJob, UserEnd as UserEndJob}
+use Rattle.nt_event.specs.declared.jobs.Job.TheVariants.{Apcs as ApcsJob, Call as CallJob, Drain as DrainJob, Fire as FireJob, Rundown as RundownJob}
 use Rattle.nt_event.specs.declared.jobs.Stand.{Stand}
 use Rattle.nt_event.specs.declared.jobs.Task.{Task}
 use Rattle.nt_event.specs.declared.jobs.Task.TheVariants.{Alone, Shared}
 use Rattle.nt_event.specs.declared.numbers.CpuNo.{CpuNo}
 use Rattle.nt_event.specs.declared.numbers.DpcNo.{DpcNo}
-use Rattle.nt_event.specs.declared.numbers.RoutineNo.{RoutineNo}
-use Rattle.nt_event.specs.declared.scripts.Routine.{Routine}
 use Rattle.nt_event.specs.declared.scripts.Script.{Script}
 use Rattle.nt_event.specs.Commands.{needs_lane, refusal}
 use Rattle.nt_event.specs.Frames.{Frames, innermost, thread_part}
-use Rattle.nt_event.specs.Jobs.{call_task, command_task, end_task, fire_task, frame_task, has_normal, idle_task, interrupt_classes, interrupt_task, level_at, may_apcs, may_drain, may_interrupt, may_switch, may_threaded, must_task, normal_task, rewait_task, rundown_task, task}
-use Rattle.nt_event.specs.Own.{Own, standing_in}
-use Rattle.nt_event.specs.Regions.{regions_of, some_came_to_0}
-use Rattle.nt_event.specs.Routines.{commands_of, next_command, routine_of}
-use Rattle.nt_event.specs.Script.{command_fits, fits, has_cpu, has_dpc, is_requested_level, routine_fits}
+use Rattle.nt_event.specs.Jobs.{call_task, command_task, end_task, fire_task, frame_task, has_normal, idle_task, interrupt_task, level_at, may_apcs, may_drain, may_interrupt, may_threaded, must_task, normal_task, rewait_task, rundown_task, task}
+use Rattle.nt_event.specs.Classes.{interrupt_classes, is_requested_level}
+use Rattle.nt_event.specs.Own.{Own, stand_in}
+use Rattle.nt_event.specs.Regions.{regions_of}
+use Rattle.nt_event.specs.Routines.{next_command}
+use Rattle.nt_event.specs.Script.{command_fits, has_cpu, has_dpc}
 use Rattle.nt_event.specs.Lists.{is_null, value_at, when}
 use Rattle.nt_event.specs.Replies.{is_refused}
 use Rattle.nt_event.proofs.Options.{Holds, both, holds_map, holds_or, holds_then, holds_when}
-use Rattle.nt_frame.specs.Rules.{is_leaving, may_go_on, refusal_in, regions_in}
+use Rattle.nt_frame.specs.Rules.{refusal_in}
 use Rattle.nt_frame.proofs.Tasks.{int_may_begin, leaving_here, normal_here, refusal_here}
-use Rattle.nt_cpu.specs.Alone.{MayBe, alone_asks, ask_when, call_asks, ends_alone, is_alone}
-use Rattle.nt_cpu.specs.GoodTasks.{Awaits, Calls, GoodJob, GoodTask, Runs}
-use Rattle.nt_cpu.specs.Fits.{Allow, IsAt, may_call, may_reply}
+use Rattle.nt_cpu.specs.Alone.{ask_when, call_asks}
+use Rattle.nt_cpu.specs.GoodTasks.{GoodTask}
+use Rattle.nt_cpu.specs.Fits.{IsAt, may_call, may_reply}
 use Rattle.nt_cpu.specs.Sound.{IsSound}
 use Rattle.nt_cpu.specs.States.{CpuState}
-use Rattle.nt_cpu.proofs.Kept.{each}
-
--- ---- the script's commands fit
-
-in_routine : (s : Script) (r : Option RoutineNo) (i : ℕ) (k : Command) → fits s ≡ true → slice_get (commands_of s r) i ≡ Some k → command_fits s k ≡ true
-in_routine s None i k h e = absurd cc
-in_routine s (Some r) i k h e = go (slice_get s.routines r.0) refl e
-  where
-    go : (o : Option Routine) → slice_get s.routines r.0 ≡ o → slice_get (option_map_or (λ x. x.commands) o []) i ≡ Some k → command_fits s k ≡ true
-    go None p q = absurd cc
-    go (Some x) p q =
-        each (command_fits s) x.commands i k (each (routine_fits s) s.routines r.0 x (both _ _ h).1 p) q
-
-pub next_fits : (s : Script) (p : CpuNo) (f : Frame) (k : Command) → fits s ≡ true → next_command s p f ≡ Some k → command_fits s k ≡ true
-next_fits s p f k h e = go f.leaving e
-  where
-    go : (b : Bool) → (if b then None else slice_get (commands_of s (routine_of s p f.body f.kernel_phase)) f.place) ≡ Some k → command_fits s k ≡ true
-    go true q = absurd cc
-    go false q = in_routine s (routine_of s p f.body f.kernel_phase) f.place k h q
+use Rattle.nt_runs.proofs.Declared.{next_fits}
 
 -- ---- what an event that touches no lane asks for
 
@@ -75,7 +53,7 @@ refused_asks st LeaveGuard r = refl
 refused_asks st (Interrupt q l) r = refl
 refused_asks st _ r = refl
 
-asks_called : (c : CpuState) (k : Command) → IsSound c → command_fits c.script k ≡ true → IfSome (call_asks (standing_in c.cpu c.own) k Done) (λ a. a.cpu.0 < c.script.cpus)
+asks_called : (c : CpuState) (k : Command) → IsSound c → command_fits c.script k ≡ true → IfSome (call_asks (stand_in c.cpu c.own) k Done) (λ a. a.cpu.0 < c.script.cpus)
 asks_called c LeaveCrit h f = asks_own c _ 1 h
 asks_called c LeaveGuard h f = asks_own c _ 1 h
 asks_called c (Interrupt q l) h f =
@@ -106,7 +84,7 @@ call_good : (c : CpuState) (f : Frame) (k : Command) (r : Option Refusal) → Is
 call_good c f k (Some r) h i e q = record {
   alone = refl;
   allow = (at_frame f c i, refl);
-  asks = rw (refused_asks (standing_in c.cpu c.own) k r) tt;
+  asks = rw (refused_asks (stand_in c.cpu c.own) k r) tt;
 }
 call_good c f ToUser None h i e q = record { frame = f; is = i; accepted = e; fits = q }
 call_good c f k None h i e q = go (needs_lane k) refl

@@ -1,21 +1,20 @@
 -- What the calls of the frames leave is what an event leaves.
 use Rattle.std.proofs.Common.{ap, sym, ◌∙◌}
 use Rattle.std.proofs.lemmas.List.{get_or-set_same}
-use Rattle.std.specs.Option.{option_or}
-use Rattle.std.specs.Prelude.{Bool, IsSome, IsTrue, List, None, Option, Some, [], false, get_or, if◌then◌else◌, is_some, length, not, option_map, refl, true, ℕ, ◌+◌, ◌<◌, ◌∷◌, ◌≡◌, ◌||◌, ◌&&◌}
+use Rattle.std.specs.Prelude.{Bool, IsSome, List, None, Option, Some, [], false, get_or, if◌then◌else◌, option_map, refl, true, ℕ, ◌+◌, ◌<◌, ◌∷◌, ◌≡◌}
 use Rattle.nt_event.specs.declared.commands.Command.{Command}
-use Rattle.nt_event.specs.declared.commands.Command.TheVariants.{Alert, CancelTimer, Clock, Delay, EnterCrit, EnterGuard, InsertApc, Interrupt, LeaveCrit, LeaveGuard, Lower, Note, Queue, Raise, Release, RemoveApc, SetImportance, SetTarget, SetTimer, StartWait, TestAlert, ToUser, Unqueue, Yield}
+use Rattle.nt_event.specs.declared.commands.Command.TheVariants.{Delay, EnterCrit, EnterGuard, LeaveCrit, LeaveGuard, Lower, Raise, StartWait, Yield}
 use Rattle.nt_event.specs.declared.commands.Reply.{Reply}
 use Rattle.nt_event.specs.declared.commands.Reply.TheVariants.{Blocked, Done, No, Refused, Status, Yes}
 use Rattle.nt_event.specs.declared.events.What.TheVariants.{Call}
 use Rattle.nt_event.specs.declared.frames.Frame.{Frame}
 use Rattle.nt_event.specs.declared.numbers.ThreadNo.{ThreadNo}
-use Rattle.nt_event.specs.Frames.{Frames, at_head, called, done_to, effect, frames_in, innermost, running_after, thread_part}
+use Rattle.nt_event.specs.Frames.{Frames, at_head, called, done_to, effect, innermost, running_after, thread_part}
 use Rattle.nt_event.specs.Lists.{head_of, is_null}
 use Rattle.nt_event.specs.Replies.{is_done}
-use Rattle.nt_frame.specs.Changes.{at_innermost, on_part, on_running}
+use Rattle.nt_frame.specs.Changes.{at_innermost, on_running}
 use Rattle.nt_frame.specs.Nesting.{AreNested}
-use Rattle.nt_frame.proofs.Commands.{advanced, is_frames_own}
+use Rattle.nt_frame.proofs.Commands.{advanced}
 use Rattle.nt_frame.proofs.Twice.{at_innermost-at_innermost, at_innermost_by, at_innermost_id, running-at_innermost}
 use Rattle.nt_cpu.specs.Fits.{stops}
 

@@ -1,29 +1,18 @@
 -- What holds of a processor at any time holds after each event.
-use Rattle.std.proofs.Common.{ap, arith, subst, sym, ◌∙◌}
-use Rattle.std.proofs.lemmas.List.Sums.{AllPass-from_list_all}
-use Rattle.std.proofs.lemmas.Option.{get_or_from_slice_get, slice_get_within}
-use Rattle.std.specs.List.{list_all}
-use Rattle.std.specs.Prelude.{All, Bool, IfSome, IsTrue, List, None, Option, Some, [], false, if◌then◌else◌, is_none, length, not, option_and_then, refl, slice_get, true, ℕ, ◌&&◌, ◌+◌, ◌<◌, ◌==◌, ◌^◌, ◌||◌, ◌∷◌, ◌≡◌, ◌≤◌}
+use Rattle.std.proofs.Common.{◌∙◌}
+use Rattle.std.specs.Prelude.{Bool, List, None, Option, [], false, if◌then◌else◌, is_none, refl, true, ℕ, ◌&&◌, ◌==◌, ◌||◌, ◌∷◌, ◌≡◌}
 use Rattle.nt_event.specs.declared.commands.Command.{Command}
 use Rattle.nt_event.specs.declared.commands.Command.TheVariants.{Delay, EnterCrit, EnterGuard, LeaveCrit, LeaveGuard, Lower, Raise, StartWait}
 use Rattle.nt_event.specs.declared.commands.Reply.{Reply}
 use Rattle.nt_event.specs.declared.commands.Reply.TheVariants.{Blocked, Done, No, Refused, Status, Yes}
-use Rattle.nt_event.specs.declared.commands.TimerKey.TheVariants.{Delay as OfDelay, Timer as OfTimer}
 use Rattle.nt_event.specs.declared.events.Begun.TheVariants.{Apc, Dpc, Int, Threaded}
 use Rattle.nt_event.specs.declared.events.What.{What}
-use Rattle.nt_event.specs.declared.events.What.TheVariants.{Begin, Call, Clean, End, Expire, Fire, Flush, Gone, Look, Normal, Rest, Rewait, Switch}
+use Rattle.nt_event.specs.declared.events.What.TheVariants.{Begin, Call, End}
 use Rattle.nt_event.specs.declared.frames.Again.{Again}
 use Rattle.nt_event.specs.declared.frames.Frame.{Frame}
-use Rattle.nt_event.specs.declared.numbers.DpcNo.{DpcNo}
-use Rattle.nt_event.specs.declared.numbers.TimerNo.{TimerNo}
 use Rattle.nt_event.specs.declared.scripts.Script.{Script}
-use Rattle.nt_event.specs.declared.scripts.TimerDecl.{TimerDecl}
-use Rattle.nt_event.specs.Frames.{Frames, again_after, at_name, called, done_to, innermost, own_after, without}
-use Rattle.nt_event.specs.Own.{fire_after}
-use Rattle.nt_event.specs.Routines.{dpc_of}
-use Rattle.nt_event.specs.Script.{fits, has_dpc, timer_fits, where_given}
+use Rattle.nt_event.specs.Frames.{Frames, again_after, at_name, called, done_to, own_after, without}
 use Rattle.nt_event.specs.Replies.{is_done, is_refused}
-use Rattle.nt_event.proofs.Options.{both}
 use Rattle.nt_frame.specs.Nesting.{HaveNoWaits}
 use Rattle.nt_frame.specs.Rules.{refusal_in}
 use Rattle.nt_cpu.specs.Fits.{Allow, may_call, may_reply}
@@ -108,33 +97,3 @@ waits_after s m due (Begin (Apc p) from) x a h = h
 waits_after s m due (Call f c y) x a h = waits_call m due f c y x a.1 h
 waits_after s m due (End f) x a h = waits_without f x.own h
 waits_after s m due _ x a h = h
-
--- ---- what a script that fits has
-
-pub each : {A : Type 0} (p : A → Bool) (xs : List A) (i : ℕ) (x : A) → list_all p xs ≡ true → slice_get xs i ≡ Some x → p x ≡ true
-each p xs i x h e =
-    let b : i < length xs = slice_get_within xs i x e in
-    subst (λ (y : _). p y ≡ true) (get_or_from_slice_get xs i x x e) (AllPass-from_list_all p xs h i x b)
-
-pub fits_timer : (s : Script) (t : TimerNo) (x : TimerDecl) → fits s ≡ true → slice_get s.timers t.0 ≡ Some x → timer_fits s x ≡ true
-fits_timer s t x h e =
-    let a = both _ _ h in
-    let b = both _ _ a.0 in
-    let c = both _ _ b.0 in
-    let d = both _ _ c.0 in
-    each (timer_fits s) s.timers t.0 x d.1 e
-
--- the DPC that is to be fired is one of the script's
-pub fire_kept : (s : Script) (w : What) (old : Option DpcNo) → IsTrue (fits s) → IfSome old (λ d. IsTrue (has_dpc s d)) → IfSome (fire_after s w old) (λ d. IsTrue (has_dpc s d))
-fire_kept s (Expire (OfTimer t) from) old h k = go (slice_get s.timers t.0) refl
-  where
-    given : (o : Option DpcNo) → where_given (has_dpc s) o ≡ true → IfSome o (λ d. IsTrue (has_dpc s d))
-    given None q = tt
-    given (Some d) q = q
-
-    go : (o : Option TimerDecl) → slice_get s.timers t.0 ≡ o → IfSome (option_and_then (λ x. x.dpc) o) (λ d. IsTrue (has_dpc s d))
-    go None e = tt
-    go (Some x) e = given x.dpc (fits_timer s t x h e)
-fire_kept s (Expire (OfDelay t) from) old h k = tt
-fire_kept s (Fire d y) old h k = tt
-fire_kept s _ old h k = k

@@ -1,25 +1,25 @@
 -- What the words know of a processor after looks and after its events.
 use Rattle.std.proofs.Common.{ap, arith, max, subst, sym, ◌∙◌}
 use Rattle.std.proofs.lemmas.Bool.Decides.{nat_tests}
-use Rattle.std.specs.Prelude.{Bool, IfSome, List, None, Option, Some, false, if◌then◌else◌, length, nat_lt, option_map, refl, true, ℕ, ◌&&◌, ◌+◌, ◌<◌, ◌==◌, ◌||◌, ◌≡◌, ◌≤◌}
+use Rattle.std.specs.Prelude.{Bool, List, None, Option, Some, false, if◌then◌else◌, nat_lt, refl, true, ℕ, ◌&&◌, ◌+◌, ◌<◌, ◌==◌, ◌||◌, ◌≡◌, ◌≤◌}
 use Rattle.nt_event.specs.declared.events.Event.{Event}
 use Rattle.nt_event.specs.declared.events.Rises.{Rises}
 use Rattle.nt_event.specs.declared.events.What.{What}
 use Rattle.nt_event.specs.declared.events.What.TheVariants.{Look}
 use Rattle.nt_event.specs.declared.numbers.CpuNo.{CpuNo}
-use Rattle.nt_event.specs.Lanes.{Lanes}
-use Rattle.nt_event.specs.Own.{Own, standing_in}
+use Rattle.nt_event.specs.Own.{stand_in}
 use Rattle.nt_event.specs.Robin.{look_value, look_values}
-use Rattle.nt_event.specs.Lists.{table, value_at}
+use Rattle.nt_event.specs.Lists.{value_at}
 use Rattle.nt_event.proofs.Tables.{get_or-table}
-use Rattle.nt_floor.specs.Views.{HasWord, IsMoved, IsUnmoved, View}
+use Rattle.nt_floor.specs.Views.{HasWord, IsUnmoved, View}
 use Rattle.nt_frame.specs.Nesting.{AreNamedBelow}
 use Rattle.nt_frame.proofs.Below.{below_more}
 use Rattle.nt_cpu.specs.Alone.{IsAlone, IsMarkedFor, alone_asks, alone_event, noticed}
 use Rattle.nt_cpu.specs.Leaves.{own_with}
 use Rattle.nt_cpu.specs.Sound.{IsSound}
 use Rattle.nt_cpu.specs.States.{CpuState}
-use Rattle.nt_cpu.specs.Steps.{AllLooked, Knows, is_used, was_looked}
+use Rattle.nt_event.specs.Classes.{is_used_class}
+use Rattle.nt_cpu.specs.Steps.{AllLooked, Knows, was_looked}
 use Rattle.nt_cpu.specs.Turns.{Serves}
 use Rattle.nt_cpu.specs.declared.alone.Asked.{Asked}
 use Rattle.nt_cpu.proofs.AloneMoves.{asked_for, marked_stays, marked_value}
@@ -48,7 +48,7 @@ known_looked c xs v u b h k q = go (was_looked c.cpu 15 c.cpu k) refl
     go : (t : Bool) → was_looked c.cpu 15 c.cpu k ≡ t → v.value c.cpu k ≤ u.value c.cpu k
     go true e =
         let x : u.value c.cpu k ≡ value_at xs k = h.value c.cpu k (b, q) ∙ rw e refl in
-        let d = both_of (c.cpu.0 == c.cpu.0) (nat_lt k 15) (is_used k) e in
+        let d = both_of (c.cpu.0 == c.cpu.0) (nat_lt k 15) (is_used_class k) e in
         let l : k < 15 = (let f = d.0 in grind (arith, nat_tests)) in
         let y = h.least k l d.1 in
         omega arith
@@ -71,7 +71,7 @@ knows_looked c xs v u b h l = record {
 pub serves_looked : (c : CpuState) (xs : List ℕ) (v u : View) → c.cpu.0 < v.cpus → Serves c v → AllLooked c.cpu xs v u → Serves c u
 serves_looked c xs v u b h l =
     let n = knows_looked c xs v u b (knows_of c v h) l in
-    record { cpus = l.same.cpus ∙ h.cpus; left = λ e. let x = h.left e in let y = l.left in omega arith; known = n.known; below = n.below; named = n.named; stands = rw l.same.states h.stands; values = λ t q k e. values (sym l.same.alone ∙ t) q k (let x = l.same.cpus in omega arith, e.1) }
+    record { cpus = l.same.cpus ∙ h.cpus; drawable = λ e. let x = h.drawable e in let y = l.drawable in omega arith; known = n.known; below = n.below; named = n.named; stands = rw l.same.states h.stands; values = λ t q k e. values (sym l.same.alone ∙ t) q k (let x = l.same.cpus in omega arith, e.1) }
   where
     values : v.alone ≡ true → (q : CpuNo) (k : ℕ) → HasWord v q k → u.value q k ≤ u.next
     values t q k e = go (was_looked c.cpu 15 q k) refl
@@ -79,7 +79,7 @@ serves_looked c xs v u b h l =
         go : (d : Bool) → was_looked c.cpu 15 q k ≡ d → u.value q k ≤ u.next
         go true f =
             let x : u.value q k ≡ value_at xs k = l.value q k e ∙ rw f refl in
-            let m : k < 15 = within (q.0 == c.cpu.0) (is_used k) f in
+            let m : k < 15 = within (q.0 == c.cpu.0) (is_used_class k) f in
             let y = l.most k m in
             omega arith
           where
@@ -103,9 +103,9 @@ serves_looked c xs v u b h l =
 
 -- the answers are known
 answers_known : (c : CpuState) (xs : List ℕ) (v u : View) → c.cpu.0 < v.cpus → AllLooked c.cpu xs v u → (k : ℕ) → k < 16 → (value_at xs k ≤ u.value c.cpu k) × (value_at xs k ≤ u.next)
-answers_known c xs v u b l k q = go (nat_lt k 15) refl (is_used k) refl
+answers_known c xs v u b l k q = go (nat_lt k 15) refl (is_used_class k) refl
   where
-    go : (m : Bool) → nat_lt k 15 ≡ m → (n : Bool) → is_used k ≡ n → (value_at xs k ≤ u.value c.cpu k) × (value_at xs k ≤ u.next)
+    go : (m : Bool) → nat_lt k 15 ≡ m → (n : Bool) → is_used_class k ≡ n → (value_at xs k ≤ u.value c.cpu k) × (value_at xs k ≤ u.next)
     go true e true f =
         let i : (c.cpu.0 == c.cpu.0) ≡ true = grind (arith, nat_tests) in
         let x : u.value c.cpu k ≡ value_at xs k = l.value c.cpu k (b, q) ∙ rw (i, e, f) refl in
@@ -193,7 +193,7 @@ own_noticed p w a n k u y b m e r = go w a refl refl
 -- after an event that touches no lane
 pub knows_alone : (c d : CpuState) (w : What) (n : ℕ) (u y z : View) → IsSound c → c.cpu.0 < u.cpus → Knows c u → IsAlone c d w n u y z → ((r : Rises) → w ≡ Look r → (k : ℕ) → k < 16 → (value_at r.value k ≤ u.value c.cpu k) × (value_at r.value k ≤ u.next)) → Knows d z
 knows_alone c d w n u y z s b h a r =
-    let asked : Option Asked = alone_asks (standing_in c.cpu c.own) w in
+    let asked : Option Asked = alone_asks (stand_in c.cpu c.own) w in
     let e : Event = alone_event c.cpu w c.own.frames in
     let g = a.drawn in
     let next : z.next ≡ n + 1 = (marked_stays asked n y z a.marked).next ∙ g.next in

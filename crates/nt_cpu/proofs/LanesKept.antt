@@ -1,15 +1,15 @@
 -- An event that touches no lane leaves the states of the lanes.
-use Rattle.std.proofs.Common.{ap, sym, ◌∙◌}
-use Rattle.std.specs.Prelude.{Bool, List, None, Option, Some, false, get_or, if◌then◌else◌, length, option_map, refl, true, ℕ, ◌<◌, ◌==◌, ◌≡◌}
-use Rattle.nt_event.specs.declared.commands.ApcKind.TheVariants.{Normal as NormalApc, Special as SpecialApc, User as UserApc}
+use Rattle.std.proofs.Common.{◌∙◌}
+use Rattle.std.specs.Prelude.{Bool, List, None, Option, Some, false, if◌then◌else◌, length, refl, true, ℕ, ◌==◌, ◌≡◌}
+use Rattle.nt_event.specs.declared.commands.ApcKind.TheVariants.{User as UserApc}
 use Rattle.nt_event.specs.declared.commands.Command.TheVariants.{Alert, CancelTimer, Clock, Delay, InsertApc, Queue, Release, RemoveApc, SetImportance, SetTarget, SetTimer, StartWait, TestAlert, Unqueue, Yield}
 use Rattle.nt_event.specs.declared.commands.Importance.{Importance}
-use Rattle.nt_event.specs.declared.commands.Reply.TheVariants.{Blocked, Done, No, Refused, Status, Yes}
+use Rattle.nt_event.specs.declared.commands.Reply.TheVariants.{Blocked, Done, No, Status, Yes}
 use Rattle.nt_event.specs.declared.commands.TimerKey.TheVariants.{Delay as OfDelay, Timer as OfTimer}
-use Rattle.nt_event.specs.declared.events.Begun.TheVariants.{Apc, Dpc, Int, Threaded}
+use Rattle.nt_event.specs.declared.events.Begun.TheVariants.{Apc, Dpc, Threaded}
 use Rattle.nt_event.specs.declared.events.Event.{Event}
 use Rattle.nt_event.specs.declared.events.What.{What}
-use Rattle.nt_event.specs.declared.events.What.TheVariants.{Begin, Call, Clean, End, Expire, Fire, Flush, Gone, Look, Normal, Rest, Rewait, Switch}
+use Rattle.nt_event.specs.declared.events.What.TheVariants.{Begin, Call, End, Expire, Fire, Flush, Gone, Rest, Rewait, Switch}
 use Rattle.nt_event.specs.declared.frames.Again.{Again}
 use Rattle.nt_event.specs.declared.frames.Body.{Body}
 use Rattle.nt_event.specs.declared.frames.Body.TheVariants.{Apc as OnApc, Base as OnBase}
@@ -25,7 +25,7 @@ use Rattle.nt_event.specs.Lanes.{Lanes, facts_at, lanes_after, object_at, queue_
 use Rattle.nt_event.specs.Objects.{ObjectState, importance_after, inserted_dpc, object_after, start_object, target_after, used_up_dpc}
 use Rattle.nt_event.specs.Queues.{QueueState, idle_after, queue_after, start_queue}
 use Rattle.nt_event.specs.Threads.{ThreadFacts, start_facts}
-use Rattle.nt_event.specs.Timers.{Timers, blocked_after, delay_after, expired_delay, setting_in, timer_after, timers_after}
+use Rattle.nt_event.specs.Timers.{blocked_after, delay_after, expired_delay, setting_in, timer_after}
 use Rattle.nt_event.specs.Waits.{facts_after, frame_ended, is_of_thread, made_facts, named_facts}
 use Rattle.nt_event.specs.Numbers.{cpu, dpc, thread, timer}
 use Rattle.nt_event.specs.Lists.{table}

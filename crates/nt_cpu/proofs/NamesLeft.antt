@@ -1,9 +1,9 @@
 -- After the event of a number each frame is named below the next one.
-use Rattle.std.proofs.Common.{ap, arith, sym, ◌∙◌}
+use Rattle.std.proofs.Common.{arith}
 use Rattle.std.proofs.lemmas.Bool.Decides.{nat_tests}
 use Rattle.std.proofs.lemmas.List.{get_or_past}
 use Rattle.std.proofs.lemmas.List.Elements.{All-from_get_or}
-use Rattle.std.specs.Prelude.{All, Bool, List, None, Option, Some, [], false, get_or, if◌then◌else◌, length, nat_lt, refl, true, ℕ, ◌+◌, ◌<◌, ◌==◌, ◌∷◌, ◌≡◌, ◌≤◌}
+use Rattle.std.specs.Prelude.{Bool, List, None, Option, Some, [], false, get_or, if◌then◌else◌, length, nat_lt, refl, true, ℕ, ◌+◌, ◌<◌, ◌==◌, ◌∷◌, ◌≡◌, ◌≤◌}
 use Rattle.nt_event.specs.declared.commands.Command.{Command}
 use Rattle.nt_event.specs.declared.commands.Command.TheVariants.{Delay, EnterCrit, EnterGuard, LeaveCrit, LeaveGuard, Lower, Raise, StartWait}
 use Rattle.nt_event.specs.declared.commands.Reply.{Reply}
@@ -16,7 +16,7 @@ use Rattle.nt_event.specs.declared.numbers.ApcNo.{ApcNo}
 use Rattle.nt_event.specs.declared.numbers.RoutineNo.{RoutineNo}
 use Rattle.nt_event.specs.declared.numbers.ThreadNo.{ThreadNo}
 use Rattle.nt_event.specs.declared.scripts.Script.{Script}
-use Rattle.nt_event.specs.Frames.{Frames, at_name, called, done_to, end_on_thread, ended_on_thread, flushed, frames_after, frames_in, is_base_body, left, normal_of, own_after, resumed, rewaited, switched_to, thread_after, thread_if, without}
+use Rattle.nt_event.specs.Frames.{Frames, at_name, called, done_to, end_on_thread, ended_on_thread, flushed, frames_after, frames_in, is_base_body, ended_base, normal_of, own_after, resumed, rewaited, switched_to, thread_after, thread_if, without}
 use Rattle.nt_event.specs.Routines.{rundown_of}
 use Rattle.nt_event.specs.Numbers.{is_by, thread}
 use Rattle.nt_event.specs.Replies.{is_done}
@@ -69,7 +69,7 @@ next_ended : (n m : ℕ) (fs : List Frame) → IsPart false fs → next_name fs 
 next_ended n m [] p h = omega arith
 next_ended n m (f ∷ fs) p h = go (f.name == m)
   where
-    ended : (b : Bool) → next_name (if b then (left f ∷ fs) else fs) ≤ n + 1
+    ended : (b : Bool) → next_name (if b then (ended_base f ∷ fs) else fs) ≤ n + 1
     ended true = omega arith
     ended false = next_tail n false f fs p h
 

@@ -1,7 +1,7 @@
 -- A processor that chooses its threads itself never has the job Idle, nor a Switch of a given thread.
-use Rattle.std.proofs.Common.{ap, inl, inr, subst, sym, ◌∙◌}
+use Rattle.std.proofs.Common.{ap, inl, inr, subst}
 use Rattle.std.specs.Option.{option_map_or, option_or}
-use Rattle.std.specs.Prelude.{Bool, IfSome, List, None, Option, Some, [], false, find, if◌then◌else◌, is_none, is_some, not, option_and_then, option_map, refl, true, ℕ, ◌&&◌, ◌-◌, ◌∷◌, ◌≡◌}
+use Rattle.std.specs.Prelude.{Bool, List, None, Option, Some, [], false, find, if◌then◌else◌, is_none, is_some, not, option_and_then, refl, true, ℕ, ◌&&◌, ◌-◌, ◌∷◌, ◌≡◌}
 use Rattle.nt_event.specs.declared.commands.ApcKind.TheVariants.{User as UserApc}
 use Rattle.nt_event.specs.declared.commands.Command.{Command}
 use Rattle.nt_event.specs.declared.commands.Command.TheVariants.{ToUser}
@@ -23,7 +23,8 @@ use Rattle.nt_event.specs.declared.scripts.Script.{Script}
 use Rattle.nt_event.specs.Acting.{IsDue, is_choice}
 use Rattle.nt_event.specs.Commands.{needs_lane, refusal}
 use Rattle.nt_event.specs.Frames.{Frames, frames_in, innermost, thread_part}
-use Rattle.nt_event.specs.Jobs.{call_task, chosen_task, command_task, end_task, fire_task, frame_task, has_normal, idle_task, interrupt_classes, interrupt_task, level_at, may_apcs, may_drain, may_interrupt, may_switch, may_threaded, must, must_task, normal_task, rests, rewait_task, rundown_task, task}
+use Rattle.nt_event.specs.Jobs.{call_task, chosen_task, command_task, end_task, fire_task, frame_task, has_normal, idle_task, interrupt_task, level_at, may_apcs, may_drain, may_interrupt, may_switch, may_threaded, must, must_task, normal_task, rests, rewait_task, rundown_task, task}
+use Rattle.nt_event.specs.Classes.{interrupt_classes}
 use Rattle.nt_event.specs.Own.{Own}
 use Rattle.nt_event.specs.Regions.{regions_of}
 use Rattle.nt_event.specs.Routines.{next_command}
@@ -32,7 +33,7 @@ use Rattle.nt_event.proofs.Options.{Holds, holds_at, holds_map, holds_or, holds_
 use Rattle.nt_cpu.specs.Sound.{AreBased, EndsInBase, IsSound}
 use Rattle.nt_cpu.specs.States.{CpuState}
 use Rattle.nt_floor.specs.declared.floor.ActRefusal.{ActRefusal}
-use Rattle.nt_floor.specs.declared.floor.ActRefusal.TheVariants.{BadChoice, NoMemory, NothingToDo}
+use Rattle.nt_floor.specs.declared.floor.ActRefusal.TheVariants.{NoMemory}
 use Rattle.nt_floor.specs.Acts.{Found, IsRefused}
 use Rattle.nt_cpu.specs.GoodTasks.{GoodTask}
 use Rattle.nt_cpu.proofs.DueTasks.{no_frame, task_good}

@@ -1,19 +1,18 @@
 -- The counts of a processor's frames grow by at most one with each event.
-use Rattle.std.proofs.Common.{ap, arith, sym, ◌∙◌}
+use Rattle.std.proofs.Common.{arith}
 use Rattle.std.proofs.lemmas.Bool.Decides.{nat_tests}
 use Rattle.std.proofs.lemmas.List.{get_or_past}
 use Rattle.std.proofs.lemmas.List.Sums.{sum_by-cons}
 use Rattle.std.proofs.lemmas.List.Elements.{All-cons, All-from_get_or, All-head, All-nil, All-tail, All-weaker}
-use Rattle.std.specs.Option.{option_map_or}
 use Rattle.std.specs.Prelude.{All, Bool, IfSome, List, None, Option, Some, [], false, get_or, if◌then◌else◌, length, nat_lt, refl, true, ℕ, ◌+◌, ◌<◌, ◌==◌, ◌^◌, ◌∷◌, ◌≡◌, ◌≤◌}
 use Rattle.nt_event.specs.declared.commands.Command.{Command}
 use Rattle.nt_event.specs.declared.commands.Command.TheVariants.{Delay, EnterCrit, EnterGuard, LeaveCrit, LeaveGuard, Lower, Raise, StartWait}
 use Rattle.nt_event.specs.declared.commands.Reply.{Reply}
-use Rattle.nt_event.specs.declared.commands.Reply.TheVariants.{Blocked, Done, No, Refused, Status, Yes}
+use Rattle.nt_event.specs.declared.commands.Reply.TheVariants.{Blocked, Status}
 use Rattle.nt_event.specs.declared.events.Begun.TheVariants.{Apc, Dpc, Int, Threaded}
 use Rattle.nt_event.specs.declared.events.Event.{Event}
 use Rattle.nt_event.specs.declared.events.What.{What}
-use Rattle.nt_event.specs.declared.events.What.TheVariants.{Begin, Call, Clean, End, Expire, Fire, Flush, Gone, Look, Normal, Rest, Rewait, Switch}
+use Rattle.nt_event.specs.declared.events.What.TheVariants.{Begin, Call, End, Flush, Gone, Normal, Rewait, Switch}
 use Rattle.nt_event.specs.declared.frames.Again.{Again}
 use Rattle.nt_event.specs.declared.frames.Body.{Body}
 use Rattle.nt_event.specs.declared.frames.Frame.{Frame}
@@ -21,12 +20,11 @@ use Rattle.nt_event.specs.declared.numbers.ApcNo.{ApcNo}
 use Rattle.nt_event.specs.declared.numbers.RoutineNo.{RoutineNo}
 use Rattle.nt_event.specs.declared.numbers.ThreadNo.{ThreadNo}
 use Rattle.nt_event.specs.declared.scripts.Script.{Script}
-use Rattle.nt_event.specs.Frames.{Frames, again_after, at_name, called, done_to, effect, end_on_thread, ended_on_thread, flushed, frames_after, frames_in, is_base_body, left, new_frame, normal_of, own_after, resumed, rewaited, switched_to, thread_after, thread_if, without}
+use Rattle.nt_event.specs.Frames.{Frames, again_after, at_name, called, done_to, end_on_thread, ended_on_thread, flushed, frames_after, frames_in, is_base_body, ended_base, new_frame, normal_of, own_after, resumed, rewaited, switched_to, thread_after, thread_if, without}
 use Rattle.nt_event.specs.Regions.{crit_of, guard_of}
 use Rattle.nt_event.specs.Routines.{rundown_of}
 use Rattle.nt_event.specs.Numbers.{is_by, thread}
 use Rattle.nt_event.specs.Replies.{is_done, kernel_apc}
-use Rattle.nt_event.specs.Lists.{table}
 use Rattle.nt_event.proofs.Tables.{get_or-table, length-table_from}
 use Rattle.nt_cpu.specs.Sound.{AreSmall, IsSmall, IsSmallPart}
 
@@ -112,7 +110,7 @@ resumed_grows n (Some st) f h = rewaited_grows n (Status st) f h
 normal_grows : (n : ℕ) (f : Frame) → IsSmall n f → Grows n f (normal_of f)
 normal_grows n f h = record { small = record { place = omega arith; due = tt }; crit = omega arith; guard = omega arith }
 
-left_grows : (n : ℕ) (f : Frame) → IsSmall n f → Grows n f (left f)
+left_grows : (n : ℕ) (f : Frame) → IsSmall n f → Grows n f (ended_base f)
 left_grows n f h = record { small = record { place = omega arith; due = tt }; crit = omega arith; guard = omega arith }
 
 new_small : (n m : ℕ) (b : Body) → IsSmall n (new_frame m b)
@@ -215,8 +213,8 @@ part_ended n (f ∷ fs) h = go (is_base_body f.body)
     s : IsSmall n f
     s = All-head (IsSmall n) f fs h.frames
 
-    go : (b : Bool) → IsSmallPart (n + 1) (if b then (left f ∷ fs) else fs)
-    go true = part_head n f (left f) fs (left_grows n f s) h
+    go : (b : Bool) → IsSmallPart (n + 1) (if b then (ended_base f ∷ fs) else fs)
+    go true = part_head n f (ended_base f) fs (left_grows n f s) h
     go false = part_tail n f fs h
 
 part_end : (n m : ℕ) (fs : List Frame) → IsSmallPart n fs → IsSmallPart (n + 1) (end_on_thread m fs)

@@ -1,5 +1,5 @@
 -- A processor that has made no event.
-use Rattle.std.proofs.Common.{ap, arith, inl, subst, sym, ◌∙◌}
+use Rattle.std.proofs.Common.{ap, arith, inl, ◌∙◌}
 use Rattle.std.proofs.lemmas.List.Elements.{All-from_get_or, All-nil}
 use Rattle.std.specs.Prelude.{All, IsTrue, List, None, [], false, length, refl, ℕ, ◌<◌, ◌≡◌, ◌≤◌, ◌⊎◌}
 use Rattle.nt_event.specs.declared.frames.Frame.{Frame}
@@ -11,7 +11,7 @@ use Rattle.nt_event.specs.Lists.{table}
 use Rattle.nt_event.proofs.Tables.{get_or-table, length-table_from}
 use Rattle.nt_frame.specs.Changes.{no_frames}
 use Rattle.nt_frame.proofs.Nested.{nested_start}
-use Rattle.nt_cpu.specs.Sound.{AreBased, AreSmall, EndsInBase, IsSmall, IsSmallPart, IsSound}
+use Rattle.nt_cpu.specs.Sound.{EndsInBase, IsSmall, IsSmallPart, IsSound}
 use Rattle.nt_cpu.proofs.Small.{part_nil}
 
 each_empty : (P : List Frame → Type 0) (n : ℕ) → P [] → All P (no_frames n).threads

@@ -10,9 +10,9 @@ use Rattle.nt_event.specs.declared.jobs.Job.TheVariants.{Pick as PickJob}
 use Rattle.nt_event.specs.declared.jobs.Task.{Task}
 use Rattle.nt_event.specs.declared.jobs.Task.TheVariants.{Alone, Shared}
 use Rattle.nt_event.specs.Jobs.{chosen_task, may_switch, rests, task}
-use Rattle.nt_event.specs.Own.{Own, standing_in}
+use Rattle.nt_event.specs.Own.{Own, stand_in}
 use Rattle.nt_event.specs.Robin.{is_behind, look_values}
-use Rattle.nt_event.specs.Step.{event_at, is_cut}
+use Rattle.nt_event.specs.Step.{is_cut}
 use Rattle.nt_event.specs.Lists.{value_at}
 use Rattle.nt_event.proofs.Options.{Holds, holds_at}
 use Rattle.nt_runs.proofs.Turns.{NextTask, task_next}
@@ -21,9 +21,8 @@ use Rattle.nt_cpu.specs.Alone.{IsAlone, MayBe, alone_event}
 use Rattle.nt_cpu.specs.GoodTasks.{GoodTask}
 use Rattle.nt_cpu.specs.Sound.{IsSound}
 use Rattle.nt_cpu.specs.States.{CpuState}
-use Rattle.nt_cpu.specs.Steps.{AllLooked, IsApart, IsStepped, LocalLeaves, local_answer, local_gives, local_task}
+use Rattle.nt_cpu.specs.Steps.{AllLooked, IsApart, IsStepped, local_answer, local_gives, local_task}
 use Rattle.nt_cpu.specs.Turns.{Serves}
-use Rattle.nt_cpu.specs.declared.steps.Local.{Local}
 use Rattle.nt_cpu.specs.declared.steps.Local.TheVariants.{Cut, Did, NeedsLane, Quiet}
 use Rattle.nt_cpu.proofs.AloneMoves.{alone_left, alone_moved, found_by, told_have}
 use Rattle.nt_cpu.proofs.Alones.{event_alone, lanes_alone}
@@ -83,7 +82,7 @@ step_alone c d xs w e n v u y z h o t q l f a = record {
 
     apart : IsApart c d (found_by c u) n (alone_event c.cpu w c.own.frames) u z
     apart = record {
-      lanes = lanes_alone c.script (standing_in c.cpu c.own) w (found_by c u).lanes may.alone;
+      lanes = lanes_alone c.script (stand_in c.cpu c.own) w (found_by c u).lanes may.alone;
       states = told_have c u.states o.stands;
       state = a.state ∙ ap (λ (x : Own). record c { own = x }) (alone_left c w n u h may below);
       floor = alone_moved c d w n u y z o may a;

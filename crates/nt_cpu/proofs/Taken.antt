@@ -1,8 +1,8 @@
 -- What is left of a processor after an event.
-use Rattle.std.proofs.Common.{ap, arith, max, sym, ◌∙◌}
+use Rattle.std.proofs.Common.{ap, arith, max, ◌∙◌}
 use Rattle.std.proofs.lemmas.List.Elements.{All-head}
 use Rattle.std.specs.Option.{option_map_or, option_or}
-use Rattle.std.specs.Prelude.{Bool, IfSome, List, None, Option, Some, [], length, refl, ℕ, ◌+◌, ◌<◌, ◌^◌, ◌∷◌, ◌≡◌, ◌≤◌}
+use Rattle.std.specs.Prelude.{Bool, IfSome, List, None, Option, Some, [], length, refl, ℕ, ◌+◌, ◌<◌, ◌^◌, ◌∷◌, ◌≡◌}
 use Rattle.nt_event.specs.declared.events.Event.{Event}
 use Rattle.nt_event.specs.declared.frames.Frame.{Frame}
 use Rattle.nt_event.specs.declared.numbers.DpcNo.{DpcNo}
@@ -22,7 +22,8 @@ use Rattle.nt_cpu.specs.Leaves.{own_with}
 use Rattle.nt_cpu.specs.Sound.{AreSmall, IsSmall, IsSmallPart, IsSound}
 use Rattle.nt_cpu.specs.States.{CpuState}
 use Rattle.nt_cpu.proofs.Based.{based_after}
-use Rattle.nt_cpu.proofs.Kept.{fire_kept, waits_after}
+use Rattle.nt_runs.proofs.Declared.{fire_after_fits}
+use Rattle.nt_cpu.proofs.Kept.{waits_after}
 use Rattle.nt_cpu.proofs.Small.{part_nil, part_of, small_after}
 
 -- the innermost frame is small
@@ -73,7 +74,7 @@ sound_after c n due e seen h m d t a nested = record {
   small = small_after c.script c.own.made n due e c.own.frames d h.small;
   based = based_after c.script n due e c.own.frames h.threads t (rw (length-table_from {A = List Frame} 0 (length c.script.threads) (λ t. thread_if (is_by e (thread t)) c.script n due e.what (frames_in c.own.frames.threads (thread t))), ← h.threads) at nested.running) h.based;
   waits = waits_after c.script n due e.what c.own.frames a h.waits;
-  fire = fire_kept c.script e.what c.own.fire h.script h.fire;
+  fire = fire_after_fits c.script e.what c.own.fire h.script h.fire;
 }
 
 -- only the values of the sixteen classes matter

@@ -1,6 +1,6 @@
 -- What a turn gives.
 use Rattle.std.proofs.Common.{ap, arith, inl, inr, subst, sym, ◌∙◌}
-use Rattle.std.specs.Prelude.{Bool, Err, None, Ok, Option, Result, Some, false, if◌then◌else◌, not, option_and_then, option_map, refl, true, ℕ, ◌&&◌, ◌<◌, ◌≡◌, ◌≤◌, ◌⊎◌}
+use Rattle.std.specs.Prelude.{Err, None, Ok, Option, Some, false, not, option_and_then, option_map, refl, true, ℕ, ◌&&◌, ◌<◌, ◌≡◌, ◌≤◌}
 use Rattle.nt_event.specs.declared.events.Event.{Event}
 use Rattle.nt_event.specs.declared.events.Turn.{Turn}
 use Rattle.nt_event.specs.declared.events.Turn.TheVariants.{Look as LookTurn, Next, Switch as SwitchTurn}
@@ -11,22 +11,21 @@ use Rattle.nt_event.specs.declared.jobs.Job.TheVariants.{Switch as SwitchJob}
 use Rattle.nt_event.specs.declared.jobs.Task.{Task}
 use Rattle.nt_event.specs.declared.jobs.Task.TheVariants.{Alone, Shared}
 use Rattle.nt_event.specs.Acting.{IsDue, acted_event, is_choice}
-use Rattle.nt_event.specs.Jobs.{job_event, may_switch, task}
+use Rattle.nt_event.specs.Jobs.{job_event, may_switch}
 use Rattle.nt_event.specs.Lanes.{Lanes}
-use Rattle.nt_event.specs.Own.{Own, standing_in}
+use Rattle.nt_event.specs.Own.{Own, stand_in}
 use Rattle.nt_event.specs.Script.{has_thread}
 use Rattle.nt_event.specs.Step.{event_at, is_cut}
-use Rattle.nt_event.specs.Lists.{value_at, when}
+use Rattle.nt_event.specs.Lists.{value_at}
 use Rattle.nt_event.proofs.Options.{Holds, both, holds_at, holds_when, when_gives}
-use Rattle.nt_floor.specs.Acts.{Found}
-use Rattle.nt_floor.specs.Views.{IsMoved, View}
+use Rattle.nt_floor.specs.Views.{View}
 use Rattle.nt_cpu.specs.Alone.{IsAlone, MayBe, alone_event}
-use Rattle.nt_cpu.specs.GoodTasks.{GoodJob, GoodTask}
+use Rattle.nt_cpu.specs.GoodTasks.{GoodTask}
 use Rattle.nt_cpu.specs.Sound.{IsSound}
 use Rattle.nt_cpu.specs.States.{CpuState}
-use Rattle.nt_cpu.specs.Turns.{IsShared, IsTurnRefused, IsTurned, Serves, acts, event_or_refusal, is_shared, rises, task_makes, turn_gives, turn_refusal, turn_task}
+use Rattle.nt_cpu.specs.Turns.{IsTurnRefused, IsTurned, Serves, acts, event_or_refusal, is_shared, rises, task_makes, turn_gives, turn_refusal, turn_task}
 use Rattle.nt_cpu.specs.declared.turn.TurnRefusal.{TurnRefusal}
-use Rattle.nt_cpu.specs.declared.turn.TurnRefusal.TheVariants.{NoMemory, NothingToDo}
+use Rattle.nt_cpu.specs.declared.turn.TurnRefusal.TheVariants.{NothingToDo}
 use Rattle.nt_cpu.proofs.Alones.{event_alone}
 use Rattle.nt_cpu.proofs.AloneMoves.{alone_left, alone_moved, found_by, tells_before}
 use Rattle.nt_cpu.proofs.DueTasks.{task_good}
@@ -62,7 +61,7 @@ gives_none c l t h e = gives_task c l t h ∙ rw e refl
 pub gives_alone : (c : CpuState) (l : Lanes) (t : Turn) (w : What) → is_cut c.limit c.own ≡ false → turn_task c.script c.cpu c.own t ≡ Some (Alone w) → turn_gives c l t ≡ Ok (event_at c.script c.cpu w c.own.frames)
 gives_alone c l t w h e = gives_task c l t h ∙ rw e refl
 
-pub gives_shared : (c : CpuState) (l : Lanes) (t : Turn) (job : Job) → is_cut c.limit c.own ≡ false → turn_task c.script c.cpu c.own t ≡ Some (Shared job) → turn_gives c l t ≡ event_or_refusal (turn_refusal t) (option_map (acted_event (standing_in c.cpu c.own) l) (job_event c.script (standing_in c.cpu c.own) l job))
+pub gives_shared : (c : CpuState) (l : Lanes) (t : Turn) (job : Job) → is_cut c.limit c.own ≡ false → turn_task c.script c.cpu c.own t ≡ Some (Shared job) → turn_gives c l t ≡ event_or_refusal (turn_refusal t) (option_map (acted_event (stand_in c.cpu c.own) l) (job_event c.script (stand_in c.cpu c.own) l job))
 gives_shared c l t job h e = gives_task c l t h ∙ rw e refl
 
 -- ---- the answers

@@ -5,14 +5,13 @@ use Rattle.nt_event.specs.declared.commands.Command.{Command}
 use Rattle.nt_event.specs.declared.commands.Command.TheVariants.{Interrupt, LeaveCrit, LeaveGuard, Lower, Raise}
 use Rattle.nt_event.specs.declared.commands.Reply.{Reply}
 use Rattle.nt_event.specs.declared.commands.Reply.TheVariants.{Done}
-use Rattle.nt_event.specs.declared.events.Begun.TheVariants.{Int}
+use Rattle.nt_event.specs.declared.events.Begun.TheVariants.{Apc, Dpc, Int, Threaded}
 use Rattle.nt_event.specs.declared.events.What.{What}
-use Rattle.nt_event.specs.declared.events.What.TheVariants.{Begin, Call, End, Look, Normal}
+use Rattle.nt_event.specs.declared.events.What.TheVariants.{Begin, Call, Clean, End, Expire, Fire, Flush, Gone, Look, Normal, Rest, Rewait, Switch}
 use Rattle.nt_event.specs.declared.frames.Body.{Body}
 use Rattle.nt_event.specs.declared.frames.Body.TheVariants.{Apc as OnApc, Base as OnBase}
 use Rattle.nt_event.specs.declared.jobs.Stand.{Stand}
 use Rattle.nt_event.specs.declared.numbers.CpuNo.{CpuNo}
-use Rattle.nt_event.specs.declared.scripts.Script.{Script}
 use Rattle.nt_event.specs.Commands.{needs_lane}
 use Rattle.nt_event.specs.Frames.{Frames, innermost, is_normal_apc_body, level_in}
 use Rattle.nt_event.specs.Regions.{after_in, some_came_to_0}
@@ -20,7 +19,7 @@ use Rattle.nt_event.specs.Requests.{Ask}
 use Rattle.nt_event.specs.Replies.{is_done, is_refused}
 use Rattle.nt_event.specs.Lists.{value_at}
 use Rattle.nt_event.specs.declared.events.Event.{Event}
-use Rattle.nt_event.specs.Own.{Own, standing_in}
+use Rattle.nt_event.specs.Own.{Own, stand_in}
 use Rattle.nt_event.specs.Step.{thread_field}
 use Rattle.nt_floor.specs.Views.{IsDrawn, IsMarked, View}
 use Rattle.nt_cpu.specs.declared.alone.Asked.{Asked}
@@ -42,7 +41,17 @@ is_alone b (Begin (Int level) from) = true
 is_alone b (Normal f) = true
 is_alone b (End f) = ends_alone b
 is_alone b (Look r) = true
-is_alone b w = false
+is_alone b (Begin (Dpc d) from) = false
+is_alone b (Begin (Threaded d) from) = false
+is_alone b (Begin (Apc a) from) = false
+is_alone b (Expire key from) = false
+is_alone b (Fire d y) = false
+is_alone b (Clean class) = false
+is_alone b (Switch t status) = false
+is_alone b (Rewait f y) = false
+is_alone b (Flush a from) = false
+is_alone b (Gone t) = false
+is_alone b Rest = false
 
 -- the processor's level after it
 abbrev pub call_level : Command → Reply → ℕ → ℕ
@@ -56,7 +65,17 @@ alone_level (Begin (Int level) from) x = level
 alone_level (Normal f) x = 0
 alone_level (End f) x = after_in x
 alone_level (Look r) x = 0
-alone_level w x = level_in x
+alone_level (Begin (Dpc d) from) x = level_in x
+alone_level (Begin (Threaded d) from) x = level_in x
+alone_level (Begin (Apc a) from) x = level_in x
+alone_level (Expire key from) x = level_in x
+alone_level (Fire d y) x = level_in x
+alone_level (Clean class) x = level_in x
+alone_level (Switch t status) x = level_in x
+alone_level (Rewait f y) x = level_in x
+alone_level (Flush a from) x = level_in x
+alone_level (Gone t) x = level_in x
+alone_level Rest x = level_in x
 
 -- ---- what it asks for: nothing, or a class of a processor
 
@@ -78,7 +97,16 @@ abbrev pub alone_asks : Stand → What → Option Asked
 alone_asks st (Call f c y) = call_asks st c y
 alone_asks st (Normal f) = ask_when (some_came_to_0 st.regions st.below) st.cpu 1
 alone_asks st (End f) = ask_when (is_normal_end st.body || some_came_to_0 st.regions st.below) st.cpu 1
-alone_asks st w = None
+alone_asks st (Look r) = None
+alone_asks st (Begin b from) = None
+alone_asks st (Expire key from) = None
+alone_asks st (Fire d y) = None
+alone_asks st (Clean class) = None
+alone_asks st (Switch t status) = None
+alone_asks st (Rewait f y) = None
+alone_asks st (Flush a from) = None
+alone_asks st (Gone t) = None
+alone_asks st Rest = None
 
 abbrev pub as_list : Option Asked → List Ask
 as_list None = []
@@ -104,16 +132,16 @@ alone_event p w x = record { cpu = p; thread = thread_field w x.running; level =
 -- what the processor keeps after its event of this number
 abbrev pub alone_then : CpuState → ℕ → What → Own
 alone_then c n w =
-    own_with c.script n None (alone_event c.cpu w c.own.frames) (λ k. max (value_at c.own.seen k) (noticed c.cpu w (alone_asks (standing_in c.cpu c.own) w) n k)) c.own
+    own_with c.script n None (alone_event c.cpu w c.own.frames) (λ k. max (value_at c.own.seen k) (noticed c.cpu w (alone_asks (stand_in c.cpu c.own) w) n k)) c.own
 
 -- an event that touches no lane happened under this number: it was drawn, and marked as asking for what it asks
 pub record IsAlone (c d : CpuState) (w : What) (n : ℕ) (v u z : View) : Type 0 where
   pub drawn : IsDrawn n (alone_event c.cpu w c.own.frames) v u
-  pub marked : IsMarkedFor (alone_asks (standing_in c.cpu c.own) w) n u z
+  pub marked : IsMarkedFor (alone_asks (stand_in c.cpu c.own) w) n u z
   pub state : d ≡ record c { own = alone_then c n w }
 
 -- the processor may make it
 pub record MayBe (c : CpuState) (w : What) : Type 0 where
   pub alone : is_alone (option_map (λ f. f.body) (innermost c.own.frames)) w ≡ true
   pub allow : Allow c.script w c.own.frames
-  pub asks : IfSome (alone_asks (standing_in c.cpu c.own) w) (λ a. a.cpu.0 < c.script.cpus)
+  pub asks : IfSome (alone_asks (stand_in c.cpu c.own) w) (λ a. a.cpu.0 < c.script.cpus)

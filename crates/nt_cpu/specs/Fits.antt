@@ -1,13 +1,13 @@
 -- Which events the frames of a processor allow.
 use Rattle.std.specs.Prelude.{Bool, IsTrue, None, Some, [], false, is_none, length, not, true, ℕ, ◌&&◌, ◌<◌, ◌||◌, ◌≡◌}
 use Rattle.nt_event.specs.declared.commands.Command.{Command}
-use Rattle.nt_event.specs.declared.commands.Command.TheVariants.{Delay, EnterCrit, EnterGuard, LeaveCrit, LeaveGuard, Lower, Raise, StartWait, Yield}
+use Rattle.nt_event.specs.declared.commands.Command.TheVariants.{Alert, CancelTimer, Clock, Delay, EnterCrit, EnterGuard, InsertApc, Interrupt, LeaveCrit, LeaveGuard, Lower, Note, Queue, Raise, Release, RemoveApc, SetImportance, SetTarget, SetTimer, StartWait, TestAlert, ToUser, Unqueue, Yield}
 use Rattle.nt_event.specs.declared.commands.Reply.{Reply}
 use Rattle.nt_event.specs.declared.commands.Reply.TheVariants.{Blocked, Done, Status}
 use Rattle.nt_event.specs.declared.events.Begun.{Begun}
 use Rattle.nt_event.specs.declared.events.Begun.TheVariants.{Apc, Dpc, Int, Threaded}
 use Rattle.nt_event.specs.declared.events.What.{What}
-use Rattle.nt_event.specs.declared.events.What.TheVariants.{Begin, Call, End, Flush, Gone, Normal, Rewait, Switch}
+use Rattle.nt_event.specs.declared.events.What.TheVariants.{Begin, Call, Clean, End, Expire, Fire, Flush, Gone, Look, Normal, Rest, Rewait, Switch}
 use Rattle.nt_event.specs.declared.frames.Body.{Body}
 use Rattle.nt_event.specs.declared.frames.Body.TheVariants.{Apc as OnApc, Dpc as OnDpc, Int as OnInt, Threaded as OnThreaded}
 use Rattle.nt_event.specs.declared.frames.Frame.{Frame}
@@ -41,7 +41,21 @@ may_reply LeaveGuard y = is_done y
 may_reply Yield y = is_done y
 may_reply (StartWait m a) y = is_wait_reply y
 may_reply (Delay m a units) y = is_wait_reply y
-may_reply c y = not (is_blocked y)
+may_reply (Interrupt q level) y = not (is_blocked y)
+may_reply (Note n) y = not (is_blocked y)
+may_reply (Queue d) y = not (is_blocked y)
+may_reply (Unqueue d) y = not (is_blocked y)
+may_reply (SetImportance d i) y = not (is_blocked y)
+may_reply (SetTarget d q) y = not (is_blocked y)
+may_reply (SetTimer t due period) y = not (is_blocked y)
+may_reply (CancelTimer t) y = not (is_blocked y)
+may_reply (InsertApc a) y = not (is_blocked y)
+may_reply (RemoveApc a) y = not (is_blocked y)
+may_reply (Release t) y = not (is_blocked y)
+may_reply (Alert t m) y = not (is_blocked y)
+may_reply (TestAlert m) y = not (is_blocked y)
+may_reply (Clock units) y = not (is_blocked y)
+may_reply ToUser y = not (is_blocked y)
 
 -- the command may be called with this reply
 abbrev pub may_call : Command → Reply → Frames → Bool
@@ -68,4 +82,8 @@ Allow s (Switch t status) x = (x.own ≡ []) × (x.running ≡ None) × (t.0 < l
 Allow s (Rewait f y) x = IsAt f x × (x.own ≡ []) × IsTrue (is_wait_reply y)
 Allow s (Flush a from) x = IsTrue (is_leaving x)
 Allow s (Gone t) x = IsTrue (is_leaving x)
-Allow s w x = Unit {0}
+Allow s (Look r) x = Unit {0}
+Allow s (Expire key from) x = Unit {0}
+Allow s (Fire d y) x = Unit {0}
+Allow s (Clean class) x = Unit {0}
+Allow s Rest x = Unit {0}

@@ -1,9 +1,7 @@
 -- What holds of a processor at any time.
 use Rattle.std.specs.Prelude.{All, IfSome, IsTrue, List, [], length, true, ℕ, ◌<◌, ◌^◌, ◌∷◌, ◌≡◌, ◌≤◌, ◌⊎◌}
 use Rattle.nt_event.specs.declared.frames.Frame.{Frame}
-use Rattle.nt_event.specs.declared.scripts.Script.{Script}
 use Rattle.nt_event.specs.Frames.{Frames, frames_in, is_base_body}
-use Rattle.nt_event.specs.Own.{Own}
 use Rattle.nt_event.specs.Regions.{crit_of, guard_of}
 use Rattle.nt_event.specs.Script.{fits, has_cpu, has_dpc}
 use Rattle.nt_frame.specs.Nesting.{AreNested, HaveNoWaits}

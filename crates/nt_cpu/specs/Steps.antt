@@ -1,5 +1,5 @@
 -- Steps that a processor chooses by itself: the looks before them, and what they are.
-use Rattle.std.specs.Prelude.{Bool, IfSome, List, None, Option, Some, [], false, if◌then◌else◌, nat_le, nat_lt, not, suc, true, zero, ℕ, ◌&&◌, ◌++◌, ◌+◌, ◌<◌, ◌==◌, ◌∷◌, ◌≡◌, ◌≤◌, ◌⊎◌}
+use Rattle.std.specs.Prelude.{Bool, List, None, Option, Some, [], false, if◌then◌else◌, nat_lt, suc, true, zero, ℕ, ◌&&◌, ◌++◌, ◌+◌, ◌<◌, ◌==◌, ◌∷◌, ◌≡◌, ◌≤◌, ◌⊎◌}
 use Rattle.nt_event.specs.declared.events.Event.{Event}
 use Rattle.nt_event.specs.declared.events.What.TheVariants.{Look as LookEvent}
 use Rattle.nt_event.specs.declared.jobs.Job.{Job}
@@ -7,9 +7,10 @@ use Rattle.nt_event.specs.declared.jobs.Stand.{Stand}
 use Rattle.nt_event.specs.declared.jobs.Task.{Task}
 use Rattle.nt_event.specs.declared.jobs.Task.TheVariants.{Alone, Shared}
 use Rattle.nt_event.specs.declared.numbers.CpuNo.{CpuNo}
+use Rattle.nt_event.specs.Classes.{is_used_class}
 use Rattle.nt_event.specs.Jobs.{chosen_task, rests}
 use Rattle.nt_event.specs.Lanes.{what_lanes}
-use Rattle.nt_event.specs.Own.{Own, standing_in}
+use Rattle.nt_event.specs.Own.{stand_in}
 use Rattle.nt_event.specs.Robin.{is_behind, look_values}
 use Rattle.nt_event.specs.Step.{event_at, is_cut}
 use Rattle.nt_event.specs.Lists.{value_at}
@@ -26,10 +27,6 @@ use Rattle.nt_cpu.specs.declared.steps.Turned.TheVariants.{Cut, Did, Quiet}
 
 -- ---- looks
 
--- the classes that are used: 0 to 11, 13 and 14
-abbrev pub is_used : ℕ → Bool
-is_used k = not (k == 12)
-
 abbrev pub look_if : Bool → CpuNo → ℕ → ℕ → List Look
 look_if true p k v = record { cpu = p; class = k; value = v } ∷ []
 look_if false p k v = []
@@ -37,7 +34,7 @@ look_if false p k v = []
 -- one look at each used class below n of the processor, in order, with these answers
 abbrev pub looks_below : CpuNo → ℕ → List ℕ → List Look
 looks_below p zero answers = []
-looks_below p (suc k) answers = looks_below p k answers ++ look_if (is_used k) p k (value_at answers k)
+looks_below p (suc k) answers = looks_below p k answers ++ look_if (is_used_class k) p k (value_at answers k)
 
 -- these looks were made, where they are told
 abbrev pub with_looks : List Look → Option Lists → Option Lists
@@ -46,21 +43,21 @@ with_looks looks (Some l) = Some (record l { looks = l.looks ++ looks })
 
 -- the word of class k of q was looked at
 abbrev pub was_looked : CpuNo → ℕ → CpuNo → ℕ → Bool
-was_looked p n q k = (q.0 == p.0) && (nat_lt k n && is_used k)
+was_looked p n q k = (q.0 == p.0) && (nat_lt k n && is_used_class k)
 
 -- exactly the used classes below n of the processor were looked at, each once and in order, with these answers (0 for the others):
 -- each at least the value that was known, and exactly it where nobody else marks
 pub record LooksBelow (n : ℕ) (p : CpuNo) (answers : List ℕ) (v u : View) : Type 0 where
   pub lists : u.lists ≡ with_looks (looks_below p n answers) v.lists
-  pub least : (k : ℕ) → k < n → is_used k ≡ true → v.value p k ≤ value_at answers k
-  pub exact : v.alone ≡ true → (k : ℕ) → k < n → is_used k ≡ true → value_at answers k ≡ v.value p k
-  pub others : (k : ℕ) → is_used k ≡ false → value_at answers k ≡ 0
+  pub least : (k : ℕ) → k < n → is_used_class k ≡ true → v.value p k ≤ value_at answers k
+  pub exact : v.alone ≡ true → (k : ℕ) → k < n → is_used_class k ≡ true → value_at answers k ≡ v.value p k
+  pub others : (k : ℕ) → is_used_class k ≡ false → value_at answers k ≡ 0
   pub later : (k : ℕ) → n ≤ k → value_at answers k ≡ 0
   pub value : (q : CpuNo) (k : ℕ) → HasWord v q k → u.value q k ≡ (if was_looked p n q k then value_at answers k else v.value q k)
   pub next : v.next ≤ u.next
   pub most : (k : ℕ) → k < n → value_at answers k ≤ u.next
   pub next_exact : v.alone ≡ true → u.next ≡ v.next
-  pub left : u.left ≡ v.left
+  pub drawable : u.drawable ≡ v.drawable
   pub marked : (j : ℕ) (q : CpuNo) (k : ℕ) → HasWord v q k → u.marked j q k ≡ v.marked j q k
   pub same : SameFloor v u
 
@@ -91,10 +88,10 @@ local_gives c answers = if is_cut c.limit c.own then LocalCut else local_answer 
 
 -- an event that touches no lane happened under this number; what states were found doesn't matter
 pub record IsApart (c d : CpuState) (f : Found) (n : ℕ) (e : Event) (v w : View) : Type 0 where
-  pub lanes : what_lanes c.script (standing_in c.cpu c.own) e.what f.lanes ≡ []
+  pub lanes : what_lanes c.script (stand_in c.cpu c.own) e.what f.lanes ≡ []
   pub states : HaveStates c.script f.lanes
   pub state : d ≡ state_then c f n e
-  pub floor : IsMoved c.script n e (standing_in c.cpu c.own) f v w
+  pub floor : IsMoved c.script n e (stand_in c.cpu c.own) f v w
 
 -- what a step leaves, by its answer: its event happened, or nothing
 abbrev pub LocalLeaves : CpuState → CpuState → Local → View → View → Type 0
@@ -118,14 +115,14 @@ pub record Knows (c : CpuState) (v : View) : Type 0 where
 
 -- as many numbers may be drawn as the processor may still make events
 abbrev pub HasRoom : CpuState → View → Type 0
-HasRoom c v = c.limit ≤ v.left + c.own.made
+HasRoom c v = c.limit ≤ v.drawable + c.own.made
 
 -- the same processor, over the same words: a number was drawn for each event that it made
 pub record GoesOn (c d : CpuState) (v w : View) : Type 0 where
   pub script : d.script ≡ c.script
   pub cpu : d.cpu ≡ c.cpu
   pub limit : d.limit ≡ c.limit
-  pub count : w.left + d.own.made ≡ v.left + c.own.made
+  pub count : w.drawable + d.own.made ≡ v.drawable + c.own.made
   pub cpus : w.cpus ≡ v.cpus
   pub alone : w.alone ≡ v.alone
 
@@ -133,6 +130,6 @@ pub record GoesOn (c d : CpuState) (v w : View) : Type 0 where
 -- rests and no request rose; or it is cut
 abbrev pub Advanced : CpuState → CpuState → List ℕ → (ℕ → Event → Stand → Found → Type 0) → Turned → View → View → Type 0
 Advanced c d answers found (Did e) u w =
-    ((local_gives c answers ≡ LocalDid e) × LocalLeaves c d (LocalDid e) u w) ⊎ ((job : Job) × (local_gives c answers ≡ NeedsLane job) × ((f : Found) × (n : ℕ) × (IsShared c d job f n e u w × found n e (standing_in c.cpu c.own) f)))
+    ((local_gives c answers ≡ LocalDid e) × LocalLeaves c d (LocalDid e) u w) ⊎ ((job : Job) × (local_gives c answers ≡ NeedsLane job) × ((f : Found) × (n : ℕ) × (IsShared c d job f n e u w × found n e (stand_in c.cpu c.own) f)))
 Advanced c d answers found Quiet u w = (local_gives c answers ≡ LocalQuiet) × (rests c.own ≡ true) × (d ≡ c) × (w ≡ u)
 Advanced c d answers found Cut u w = (local_gives c answers ≡ LocalCut) × (d ≡ c) × (w ≡ u)

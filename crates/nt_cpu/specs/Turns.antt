@@ -1,6 +1,6 @@
 -- What a turn of a processor is and leaves.
 use Rattle.std.specs.List.{list_any}
-use Rattle.std.specs.Prelude.{Bool, Err, IfSome, IsTrue, List, None, Ok, Option, Result, Some, [], if◌then◌else◌, length, nat_lt, not, option_and_then, option_map, suc, true, ℕ, ◌&&◌, ◌==◌, ◌||◌, ◌∷◌, ◌<◌, ◌≡◌, ◌≤◌, ◌⊎◌, false}
+use Rattle.std.specs.Prelude.{Bool, Err, IfSome, List, None, Ok, Option, Result, Some, [], if◌then◌else◌, length, nat_lt, not, option_and_then, option_map, suc, true, ℕ, ◌&&◌, ◌==◌, ◌||◌, ◌∷◌, ◌<◌, ◌≡◌, ◌≤◌, ◌⊎◌, false}
 use Rattle.nt_event.specs.declared.events.Event.{Event}
 use Rattle.nt_event.specs.declared.events.Turn.{Turn}
 use Rattle.nt_event.specs.declared.events.Turn.TheVariants.{Look as LookTurn, Next, Switch as SwitchTurn}
@@ -11,11 +11,11 @@ use Rattle.nt_event.specs.declared.jobs.Task.{Task}
 use Rattle.nt_event.specs.declared.jobs.Task.TheVariants.{Alone, Shared}
 use Rattle.nt_event.specs.declared.numbers.CpuNo.{CpuNo}
 use Rattle.nt_event.specs.declared.scripts.Script.{Script}
-use Rattle.nt_event.specs.Acting.{IsAllowed, IsDue, IsStanding, acted_event}
+use Rattle.nt_event.specs.Acting.{IsAllowed, IsDue, StandHolds, acted_event}
 use Rattle.nt_event.specs.Frames.{due_of}
 use Rattle.nt_event.specs.Jobs.{job_event, may_switch, task}
 use Rattle.nt_event.specs.Lanes.{Lanes, what_lanes}
-use Rattle.nt_event.specs.Own.{Own, own_after_event, standing_in}
+use Rattle.nt_event.specs.Own.{Own, own_after_event, stand_in}
 use Rattle.nt_event.specs.Requests.{asks_in}
 use Rattle.nt_event.specs.Script.{has_thread}
 use Rattle.nt_event.specs.Step.{event_at, is_cut}
@@ -40,15 +40,15 @@ pub record HaveStates (s : Script) (l : Lanes) : Type 0 where
 -- in these states of the lanes the processor stands as it keeps, and each job that is due is allowed
 pub record StandsIn (c : CpuState) (l : Lanes) : Type 0 where
   pub lanes : HaveStates c.script l
-  pub standing : IsStanding c.script l (standing_in c.cpu c.own)
-  pub jobs : (job : Job) → IsDue c.script c.cpu c.own job → IsAllowed l (standing_in c.cpu c.own) job
+  pub standing : StandHolds c.script l (stand_in c.cpu c.own)
+  pub jobs : (job : Job) → IsDue c.script c.cpu c.own job → IsAllowed l (stand_in c.cpu c.own) job
 
 -- the words serve the processor: they have the script's processors; unless it is cut, a number may be drawn; they know what it
 -- has seen; the least next number is not below it, and above the numbers that name its frames; and where the states of the lanes
 -- are told, it stands in them. Where nobody else marks, no value is above the least next number
 pub record Serves (c : CpuState) (v : View) : Type 0 where
   pub cpus : v.cpus ≡ c.script.cpus
-  pub left : is_cut c.limit c.own ≡ false → 1 ≤ v.left
+  pub drawable : is_cut c.limit c.own ≡ false → 1 ≤ v.drawable
   pub known : (k : ℕ) → k < 16 → value_at c.own.seen k ≤ v.value c.cpu k
   pub below : (k : ℕ) → k < 16 → value_at c.own.seen k ≤ v.next
   pub named : AreNamedBelow v.next c.own.frames
@@ -76,7 +76,7 @@ turn_task s p x (SwitchTurn q t) = when (may_switch x && has_thread s t) (Some (
 abbrev pub task_makes : Script → CpuNo → Own → Lanes → Task → Option Event
 task_makes s p x l (Alone w) = Some (event_at s p w x.frames)
 task_makes s p x l (Shared job) =
-    option_map (acted_event (standing_in p x) l) (job_event s (standing_in p x) l job)
+    option_map (acted_event (stand_in p x) l) (job_event s (stand_in p x) l job)
 
 -- why a turn is refused that gives no event
 abbrev pub turn_refusal : Turn → TurnRefusal
@@ -106,23 +106,23 @@ acts c t = not (is_cut c.limit c.own) && is_shared (turn_task c.script c.cpu c.o
 -- what the processor keeps after its event of this number, made in the states found
 abbrev pub own_then : CpuState → Found → ℕ → Event → Own
 own_then c f n e =
-    own_after_event c.script n (due_of e.what f.lanes.timers.now) e (λ k. asks_in c.script (standing_in c.cpu c.own) e.what f.lanes c.cpu k) (λ k. told_over f.told (what_lanes c.script (standing_in c.cpu c.own) e.what f.lanes) c.cpu k) c.own
+    own_after_event c.script n (due_of e.what f.lanes.timers.now) e (λ k. asks_in c.script (stand_in c.cpu c.own) e.what f.lanes c.cpu k) (λ k. told_over f.told (what_lanes c.script (stand_in c.cpu c.own) e.what f.lanes) c.cpu k) c.own
 
 abbrev pub state_then : CpuState → Found → ℕ → Event → CpuState
 state_then c f n e = record c { own = own_then c f n e }
 
 -- a job gave this event, under this number and in the states found; the processor and the floor are as it leaves them
 pub record IsShared (c d : CpuState) (job : Job) (f : Found) (n : ℕ) (e : Event) (v w : View) : Type 0 where
-  pub what : job_event c.script (standing_in c.cpu c.own) f.lanes job ≡ Some e.what
-  pub event : e ≡ acted_event (standing_in c.cpu c.own) f.lanes e.what
+  pub what : job_event c.script (stand_in c.cpu c.own) f.lanes job ≡ Some e.what
+  pub event : e ≡ acted_event (stand_in c.cpu c.own) f.lanes e.what
   pub state : d ≡ state_then c f n e
-  pub floor : IsMoved c.script n e (standing_in c.cpu c.own) f v w
+  pub floor : IsMoved c.script n e (stand_in c.cpu c.own) f v w
 
 -- the turn gave this event, under this number and in the states found; the processor and the floor are as it leaves them
 pub record IsTurned (c d : CpuState) (t : Turn) (f : Found) (n : ℕ) (e : Event) (v w : View) : Type 0 where
   pub event : turn_gives c f.lanes t ≡ Ok e
   pub state : d ≡ state_then c f n e
-  pub floor : IsMoved c.script n e (standing_in c.cpu c.own) f v w
+  pub floor : IsMoved c.script n e (stand_in c.cpu c.own) f v w
 
 -- the turn is refused so in the states found, or no memory was found
 pub record IsTurnRefused (c : CpuState) (t : Turn) (f : Found) (r : TurnRefusal) (v : View) : Type 0 where

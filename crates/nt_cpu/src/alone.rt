@@ -1,7 +1,6 @@
 //! Events that touch no lane.
 ghost use Rattle.std.specs.Prelude.{◌≡◌, ◌<◌, ◌≤◌, ◌+◌, ◌^◌, ℕ, IfSome};
-ghost use Rattle.nt_event.specs.Own.{standing_in};
-ghost use Rattle.nt_event.specs.Regions.{some_came_to_0};
+ghost use Rattle.nt_event.specs.Own.{stand_in};
 ghost use Rattle.nt_event.specs.Step.{thread_field};
 ghost use Rattle.nt_event.specs.Lists.{value_at};
 ghost use Rattle.nt_floor.specs.Views.{HasWord, View};
@@ -10,8 +9,7 @@ ghost use Rattle.nt_cpu.specs.Alone.{IsAlone, IsMarkedFor, MayBe, alone_asks, al
 
 use crate::cpu::Cpu;
 use nt_event::{
-    ApcKind, Begun, Body, Command, CpuNo, Event, Level, Regions, Reply, Rises, Stand, ThreadNo,
-    What,
+    ApcKind, Begun, Body, Command, CpuNo, Event, Level, Reply, Rises, Stand, ThreadNo, What,
 };
 use nt_floor::Words;
 
@@ -34,13 +32,6 @@ fn ask_when(test: bool, cpu: CpuNo, class: u8) -> Option<Asked>
     }
 }
 
-/// Whether a count that was not 0 is 0 now.
-fn came_to_0(before: Regions, now: Regions) -> bool
-    ensures { result ≡ some_came_to_0 before now }
-{
-    (before.crit != 0 && now.crit == 0) || (before.guard != 0 && now.guard == 0)
-}
-
 /// What the call of a command asks for.
 fn call_asks(stand: &Stand, command: &Command, reply: &Reply) -> Option<Asked>
     ensures asks { result ≡ call_asks_of stand.now command.now reply.now }
@@ -56,7 +47,27 @@ fn call_asks(stand: &Stand, command: &Command, reply: &Reply) -> Option<Asked>
             cpu: *cpu,
             class: level.number(),
         }),
-        _ => None,
+        Command::Raise(_)
+        | Command::Lower(_)
+        | Command::EnterCrit
+        | Command::EnterGuard
+        | Command::Note(_)
+        | Command::Queue(_)
+        | Command::Unqueue(_)
+        | Command::SetImportance(_, _)
+        | Command::SetTarget(_, _)
+        | Command::SetTimer(_, _, _)
+        | Command::CancelTimer(_)
+        | Command::InsertApc(_)
+        | Command::RemoveApc(_)
+        | Command::StartWait(_, _)
+        | Command::Delay(_, _, _)
+        | Command::Release(_)
+        | Command::Alert(_, _)
+        | Command::TestAlert(_)
+        | Command::Clock(_)
+        | Command::ToUser
+        | Command::Yield => None,
     }
 }
 
@@ -74,12 +85,24 @@ fn asks(stand: &Stand, what: &What) -> Option<Asked>
 {
     match what {
         What::Call { command, reply, .. } => call_asks(stand, command, reply),
-        What::Normal { .. } => ask_when(came_to_0(stand.regions, stand.below), stand.cpu, 1),
+        What::Normal { .. } => {
+            let given_up = stand.below.came_to_0(&stand.regions);
+            ask_when(given_up, stand.cpu, 1)
+        }
         What::End { .. } => {
-            let given_up = came_to_0(stand.regions, stand.below);
+            let given_up = stand.below.came_to_0(&stand.regions);
             ask_when(is_normal_end(&stand.body) || given_up, stand.cpu, 1)
         }
-        _ => None,
+        What::Look { .. }
+        | What::Begin { .. }
+        | What::Expire { .. }
+        | What::Fire { .. }
+        | What::Clean { .. }
+        | What::Switch { .. }
+        | What::Rewait { .. }
+        | What::Flush { .. }
+        | What::Gone { .. }
+        | What::Rest => None,
     }
 }
 
@@ -92,7 +115,28 @@ fn call_level(command: &Command, reply: &Reply, old: Level) -> Level
     }
     match command {
         Command::Raise(level) | Command::Lower(level) => *level,
-        _ => old,
+        Command::EnterCrit
+        | Command::EnterGuard
+        | Command::LeaveCrit
+        | Command::LeaveGuard
+        | Command::Interrupt(_, _)
+        | Command::Note(_)
+        | Command::Queue(_)
+        | Command::Unqueue(_)
+        | Command::SetImportance(_, _)
+        | Command::SetTarget(_, _)
+        | Command::SetTimer(_, _, _)
+        | Command::CancelTimer(_)
+        | Command::InsertApc(_)
+        | Command::RemoveApc(_)
+        | Command::StartWait(_, _)
+        | Command::Delay(_, _, _)
+        | Command::Release(_)
+        | Command::Alert(_, _)
+        | Command::TestAlert(_)
+        | Command::Clock(_)
+        | Command::ToUser
+        | Command::Yield => old,
     }
 }
 
@@ -140,7 +184,7 @@ fn mark<W: Words>(words: &mut W, asked: Option<Asked>, n: u64)
 impl<'s> Cpu<'s> {
     /// Where the processor stands.
     pub(crate) fn standing(&self) -> Stand
-        ensures { result ≡ standing_in self.now.cpu self.now.own }
+        ensures { result ≡ stand_in self.now.cpu self.now.own }
     {
         let top = self.frames.top();
         let (frame, body, again) = match top {
@@ -180,7 +224,7 @@ impl<'s> Cpu<'s> {
     /// Makes the event that does this and touches no lane: draws its number, and marks what it asks for.
     pub(crate) fn make_alone<W: Words>(&mut self, words: &mut W, what: &What) -> Event
         requires room { self.old.own.made < self.old.limit }
-        requires left { 1 ≤ (W.view words.old).left }
+        requires drawable { 1 ≤ (W.view words.old).drawable }
         requires cpus { (W.view words.old).cpus ≡ self.old.script.cpus }
         requires named { AreNamedBelow (W.view words.old).next self.old.own.frames }
         requires may { MayBe self.old what.now }

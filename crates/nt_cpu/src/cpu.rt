@@ -7,6 +7,7 @@ ghost use Rattle.nt_event.specs.Step.{is_cut};
 ghost use Rattle.nt_cpu.specs.Sound.{IsSound};
 
 use crate::values::Values;
+use nt_event::limits::TURNS;
 use nt_event::{CpuNo, DpcNo, Rises, Script, ThreadNo};
 use nt_frame::Frames;
 use std::alloc::{AllocError, Global};
@@ -52,7 +53,7 @@ impl<'s> Cpu<'s> {
     ) -> Result<Cpu<'s>, AllocError>
         requires script { IsTrue (fits script.now) }
         requires cpu { IsTrue (has_cpu script.now cpu) }
-        requires turns { turns ≤ 20000 }
+        requires turns { turns ≤ TURNS }
         ensures { IfOk result (λ c. c ≡ record { script = script.now; cpu = cpu; limit = turns; own = own_of script.now cpu [] }) }
     {
         Ok(Cpu {
@@ -60,7 +61,7 @@ impl<'s> Cpu<'s> {
             cpu,
             limit: turns,
             made: 0,
-            frames: Frames::new(alloc, cpu, thread_count(script))?,
+            frames: Frames::new(alloc, cpu, script.thread_count())?,
             seen: Values::new(),
             served: Values::new(),
             rested: false,
@@ -111,12 +112,4 @@ impl<'s> Cpu<'s> {
     {
         !self.is_cut() && self.is_free()
     }
-}
-
-/// How many threads the script has.
-fn thread_count(script: &Script) -> u32
-    requires { IsTrue (fits script.now) }
-    ensures { result ≡ length script.now.threads }
-{
-    script.threads.len() as u32
 }

@@ -1,6 +1,6 @@
 //! Which interrupt request is due.
 ghost use Rattle.std.specs.Prelude.{◌≡◌, ◌<◌, All, IfSome, find};
-ghost use Rattle.nt_event.specs.Jobs.{interrupt_classes};
+ghost use Rattle.nt_event.specs.Classes.{interrupt_classes};
 ghost use Rattle.nt_event.specs.Lists.{value_at};
 ghost use Rattle.nt_cpu.specs.Due.{is_pending, is_unserved};
 

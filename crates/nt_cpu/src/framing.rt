@@ -4,11 +4,10 @@ ghost use Rattle.std.specs.Option.{ForSome};
 ghost use Rattle.nt_event.specs.declared.events.What.{What};
 ghost use Rattle.nt_event.specs.declared.frames.Body.{Body};
 ghost use Rattle.nt_event.specs.declared.frames.Region.{Region};
-ghost use Rattle.nt_event.specs.Frames.{again_after, called, done_to, effect as effect_of, frames_after, frames_in, innermost, left, rewaited, resumed, running_after};
-ghost use Rattle.nt_event.specs.Routines.{kind_of as kind_in, rundown_of};
+ghost use Rattle.nt_event.specs.Frames.{again_after, called, done_to, effect as effect_of, frames_after, frames_in, innermost, ended_base, rewaited, resumed, running_after};
+ghost use Rattle.nt_event.specs.Routines.{rundown_of};
 ghost use Rattle.nt_event.specs.Step.{thread_field};
 ghost use Rattle.nt_event.specs.Lists.{is_null};
-ghost use Rattle.nt_event.specs.Replies.{is_blocked as blocks, is_done as done, is_refused as refused};
 ghost use Rattle.nt_frame.specs.Changes.{at_innermost, begun, without_innermost};
 ghost use Rattle.nt_frame.specs.Nesting.{AreNamedBelow, AreNested};
 ghost use Rattle.nt_frame.specs.Rules.{count_of, is_at_base, is_leaving, refusal_in, regions_in};
@@ -16,31 +15,9 @@ ghost use Rattle.nt_frame.proofs.Commands.{is_frames_own as is_own_command};
 ghost use Rattle.nt_frame.proofs.After.{taken};
 ghost use Rattle.nt_cpu.specs.Fits.{Allow, body_of as begun_body, is_wait_reply, may_call, stops as stops_of};
 
-use nt_event::{
-    Again, ApcKind, ApcNo, Begun, Body, Command, Event, Region, Reply, Script, ThreadNo, What,
-};
+use nt_event::status::KERNEL_APC;
+use nt_event::{Again, ApcNo, Begun, Body, Command, Event, Region, Reply, Script, ThreadNo, What};
 use nt_frame::Frames;
-
-/// The status of a wait that a kernel APC interrupts (STATUS_KERNEL_APC).
-const KERNEL_APC: u32 = 0x100;
-
-fn is_refused(reply: &Reply) -> bool
-    ensures { result ≡ refused reply.now }
-{
-    matches!(reply, Reply::Refused(_))
-}
-
-fn is_blocked(reply: &Reply) -> bool
-    ensures { result ≡ blocks reply.now }
-{
-    matches!(reply, Reply::Blocked)
-}
-
-fn is_done(reply: &Reply) -> bool
-    ensures { result ≡ done reply.now }
-{
-    matches!(reply, Reply::Done)
-}
 
 /// A command that is done changes the innermost frame's level, or a count of its regions.
 fn do_command(frames: &mut Frames, command: &Command)
@@ -127,7 +104,7 @@ fn take_effect(frames: &mut Frames, command: &Command, reply: &Reply, due: Optio
             set_wait(frames, wait, reply);
         }
         _ => {
-            if is_done(reply) {
+            if reply.is_done() {
                 do_command(frames, command);
             }
         }
@@ -138,7 +115,7 @@ fn take_effect(frames: &mut Frames, command: &Command, reply: &Reply, due: Optio
 fn stops(command: &Command, reply: &Reply) -> bool
     ensures { result ≡ stops_of command.now reply.now }
 {
-    is_blocked(reply) || matches!(command, Command::Yield) && is_done(reply)
+    reply.is_blocked() || matches!(command, Command::Yield) && reply.is_done()
 }
 
 /// The innermost frame calls a command.
@@ -179,7 +156,7 @@ fn rewait(frames: &mut Frames, reply: &Reply)
 fn end(frames: &mut Frames)
     requires frame { IsSome (innermost frames.old) }
     requires runs { is_leaving frames.old ≡ false }
-    ensures { frames.new ≡ (if is_at_base frames.old then at_innermost left frames.old else without_innermost frames.old) }
+    ensures { frames.new ≡ (if is_at_base frames.old then at_innermost ended_base frames.old else without_innermost frames.old) }
 {
     if is_base(frames) {
         frames.end_base();
@@ -231,11 +208,7 @@ fn flush(frames: &mut Frames, script: &Script, apc: ApcNo, n: u64)
     requires number { AreNamedBelow n frames.old }
     ensures { frames.new ≡ (if is_some (rundown_of script.now apc) then begun n (Body.Rundown apc) frames.old else frames.old) }
 {
-    let rundown = match script.apcs.as_slice().get(apc.0 as usize) {
-        Some(decl) => decl.rundown,
-        None => None,
-    };
-    if rundown.is_some() {
+    if script.rundown_of(apc).is_some() {
         frames.begin(Body::Rundown(apc), n);
     }
 }
@@ -248,16 +221,7 @@ fn body_of(script: &Script, begun: &Begun) -> Body
         Begun::Int(level) => Body::Int(*level),
         Begun::Dpc(dpc) => Body::Dpc(*dpc),
         Begun::Threaded(dpc) => Body::Threaded(*dpc),
-        Begun::Apc(apc) => Body::Apc(*apc, kind_of(script, *apc)),
-    }
-}
-
-fn kind_of(script: &Script, apc: ApcNo) -> ApcKind
-    ensures { result ≡ kind_in script.now apc }
-{
-    match script.apcs.as_slice().get(apc.0 as usize) {
-        Some(decl) => decl.kind,
-        None => ApcKind::Special,
+        Begun::Apc(apc) => Body::Apc(*apc, script.kind_of(*apc)),
     }
 }
 

@@ -4,11 +4,10 @@ ghost use Rattle.nt_cpu.specs.Due.{served_class as class_of};
 ghost use Rattle.nt_event.specs.Own.{fire_after as fire_left, is_rest as rests, took_after as took_left};
 ghost use Rattle.nt_event.specs.Regions.{sweep_after as sweep_left};
 ghost use Rattle.nt_event.specs.Requests.{served_after};
-ghost use Rattle.nt_event.specs.Replies.{is_answer as answers};
 ghost use Rattle.nt_event.specs.Lists.{table, value_at};
 
 use crate::values::Values;
-use nt_event::{Begun, Command, DpcNo, Reply, Script, ThreadNo, TimerKey, What};
+use nt_event::{Begun, Command, DpcNo, Script, ThreadNo, TimerKey, What};
 
 /// The class that the event serves, if it serves one.
 fn served_class(what: &What) -> Option<u8>
@@ -20,7 +19,21 @@ fn served_class(what: &What) -> Option<u8>
             begun: Begun::Int(level),
             ..
         } => Some(level.number()),
-        _ => None,
+        What::Begin {
+            begun: Begun::Dpc(_) | Begun::Threaded(_) | Begun::Apc(_),
+            ..
+        }
+        | What::Call { .. }
+        | What::Look { .. }
+        | What::Normal { .. }
+        | What::End { .. }
+        | What::Expire { .. }
+        | What::Fire { .. }
+        | What::Switch { .. }
+        | What::Rewait { .. }
+        | What::Flush { .. }
+        | What::Gone { .. }
+        | What::Rest => None,
     }
 }
 
@@ -57,7 +70,18 @@ pub fn took_after(what: &What, old: Option<ThreadNo>) -> Option<ThreadNo>
 {
     match what {
         What::Switch { thread, .. } => Some(*thread),
-        _ => old,
+        What::Call { .. }
+        | What::Look { .. }
+        | What::Begin { .. }
+        | What::Normal { .. }
+        | What::End { .. }
+        | What::Expire { .. }
+        | What::Fire { .. }
+        | What::Clean { .. }
+        | What::Rewait { .. }
+        | What::Flush { .. }
+        | What::Gone { .. }
+        | What::Rest => old,
     }
 }
 
@@ -69,9 +93,23 @@ pub fn fire_after(script: &Script, what: &What, old: Option<DpcNo>) -> Option<Dp
         What::Expire {
             key: TimerKey::Timer(timer),
             ..
-        } => script.timers.as_slice().get(timer.0 as usize)?.dpc,
-        What::Expire { .. } | What::Fire { .. } => None,
-        _ => old,
+        } => script.dpc_of(*timer),
+        What::Expire {
+            key: TimerKey::Delay(_),
+            ..
+        }
+        | What::Fire { .. } => None,
+        What::Call { .. }
+        | What::Look { .. }
+        | What::Begin { .. }
+        | What::Normal { .. }
+        | What::End { .. }
+        | What::Clean { .. }
+        | What::Switch { .. }
+        | What::Rewait { .. }
+        | What::Flush { .. }
+        | What::Gone { .. }
+        | What::Rest => old,
     }
 }
 
@@ -89,14 +127,8 @@ pub fn sweep_after(what: &What, old: bool) -> bool
             command: Command::SetTimer(_, due, _),
             reply,
             ..
-        } => is_answer(reply) && *due == 0 || old,
+        } => reply.is_answer() && *due == 0 || old,
         What::Clean { class } => *class != 2 && old,
         _ => old,
     }
-}
-
-fn is_answer(reply: &Reply) -> bool
-    ensures { result ≡ answers reply.now }
-{
-    matches!(reply, Reply::Yes | Reply::No)
 }

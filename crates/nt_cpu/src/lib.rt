@@ -17,7 +17,6 @@ mod due;
 mod framing;
 mod keeping;
 mod looks;
-mod routines;
 mod shared;
 mod steps;
 mod taking;

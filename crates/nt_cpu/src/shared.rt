@@ -1,7 +1,7 @@
 //! Events that touch lanes.
 ghost use Rattle.std.specs.Prelude.{◌≡◌, ◌<◌, ◌≤◌, ℕ, true, IfErr, IfOk, IsErrOf, OnErr};
 ghost use Rattle.nt_event.specs.Acting.{IsDue};
-ghost use Rattle.nt_event.specs.Own.{standing_in};
+ghost use Rattle.nt_event.specs.Own.{stand_in};
 ghost use Rattle.nt_floor.specs.declared.floor.ActRefusal.{ActRefusal};
 ghost use Rattle.nt_floor.specs.Acts.{Found, IsRefused};
 ghost use Rattle.nt_floor.specs.Views.{IsUnmoved, Tells};
@@ -25,8 +25,8 @@ impl<'s> Cpu<'s> {
         requires serves { Serves self.old (F.view floor.old) }
         requires due { IsDue self.old.script self.old.cpu self.old.own job }
         requires good { GoodJob self.old job }
-        ensures ok { IfOk result (λ e. (f : Found) × (n : ℕ) × (IsShared self.old self.new job f n e (F.view floor.old) (F.view floor.new) × F.found floor.new n e (standing_in self.old.cpu self.old.own) f)) }
-        ensures err { IfErr result (λ r. (f : Found) × F.shows floor.new f × (Tells (F.view floor.old).states f.lanes × IsRefused self.old.script f (standing_in self.old.cpu self.old.own) job r)) }
+        ensures ok { IfOk result (λ e. (f : Found) × (n : ℕ) × (IsShared self.old self.new job f n e (F.view floor.old) (F.view floor.new) × F.found floor.new n e (stand_in self.old.cpu self.old.own) f)) }
+        ensures err { IfErr result (λ r. (f : Found) × F.shows floor.new f × (Tells (F.view floor.old).states f.lanes × IsRefused self.old.script f (stand_in self.old.cpu self.old.own) job r)) }
         ensures same { OnErr result ((self.new ≡ self.old) × IsUnmoved (F.view floor.old) (F.view floor.new)) }
         ensures memory { (F.view floor.old).alone ≡ true → IsErrOf result ActRefusal.NoMemory → ⊥ }
         ensures knows { Knows self.new (F.view floor.new) }

@@ -2,7 +2,7 @@
 ghost use Rattle.std.specs.Prelude.{◌≡◌, ◌<◌, ◌≤◌, ℕ, List, false, true, IfOk, IfErr, OnErr, IsErr, Some, length};
 ghost use Rattle.nt_event.specs.Jobs.{chosen_task as chosen_of};
 ghost use Rattle.nt_event.specs.Robin.{look_values};
-ghost use Rattle.nt_event.specs.Own.{standing_in};
+ghost use Rattle.nt_event.specs.Own.{stand_in};
 ghost use Rattle.nt_event.specs.Step.{is_cut};
 ghost use Rattle.nt_event.specs.Lists.{value_at};
 ghost use Rattle.nt_event.specs.declared.jobs.Job.{Job};
@@ -15,15 +15,13 @@ ghost use Rattle.nt_cpu.specs.Turns.{IsShared, Serves};
 
 use crate::cpu::Cpu;
 use crate::looks::some_rises;
+use nt_event::class::is_used;
 use nt_event::{CpuNo, Event, Job, Rises, Task, What};
 use nt_floor::{Floor, Words};
 use std::alloc::AllocError;
 
-/// The classes of requests are below this number; 12 of them is not used.
+/// The classes of requests that are used are below this number.
 const CLASSES: u8 = 15;
-
-/// The class that is not used.
-const UNUSED: u8 = 12;
 
 /// What a step did without a floor.
 #[derive(Clone, Copy, PartialEq, Eq, Debug)]
@@ -57,7 +55,7 @@ fn look_all<W: Words>(words: &mut W, cpu: CpuNo) -> [u64; 16]
 {
     let mut answers = [0; 16];
     for class in 0..CLASSES {
-        if class != UNUSED {
+        if is_used(class) {
             answers[class as usize] = words.look(cpu, class);
         }
     }
@@ -128,7 +126,7 @@ impl<'s> Cpu<'s> {
         requires job { chosen_of self.old.script self.old.cpu self.old.own ≡ Some (Task.Shared job) }
         requires script { F.script floor.old ≡ self.old.script }
         requires serves { Serves self.old (F.view floor.old) }
-        ensures ok { IfOk result (λ e. (f : Found) × (n : ℕ) × (IsShared self.old self.new job f n e (F.view floor.old) (F.view floor.new) × F.found floor.new n e (standing_in self.old.cpu self.old.own) f)) }
+        ensures ok { IfOk result (λ e. (f : Found) × (n : ℕ) × (IsShared self.old self.new job f n e (F.view floor.old) (F.view floor.new) × F.found floor.new n e (stand_in self.old.cpu self.old.own) f)) }
         ensures same { OnErr result ((self.new ≡ self.old) × IsUnmoved (F.view floor.old) (F.view floor.new)) }
         ensures memory { (F.view floor.old).alone ≡ true → IsErr result → ⊥ }
         ensures script { F.script floor.new ≡ F.script floor.old }

@@ -2,14 +2,14 @@
 ghost use Rattle.std.specs.Prelude.{◌≡◌, ◌<◌, IfSome, find, not};
 ghost use Rattle.nt_event.specs.Commands.{refusal as refusal_of};
 ghost use Rattle.nt_event.specs.Frames.{level_in, thread_part};
-ghost use Rattle.nt_event.specs.Jobs.{call_task as call_of, chosen_task as chosen_of, command_task as command_of, end_task as end_of, fire_task as fire_of, frame_task as frame_of, has_normal as goes_on, idle_task as idle_of, interrupt_classes, interrupt_task as interrupt_of, is_due as due_in, level_at, may_apcs as apcs_in, may_drain as drain_in, may_interrupt, may_switch as switch_in, may_threaded as threaded_in, must as must_in, must_task as must_of, normal_task as normal_of, rests as rests_in, rewait_task as rewait_of, rundown_task as rundown_of, task as task_of};
+ghost use Rattle.nt_event.specs.Jobs.{call_task as call_of, chosen_task as chosen_of, command_task as command_of, end_task as end_of, fire_task as fire_of, frame_task as frame_of, has_normal as goes_on, idle_task as idle_of, interrupt_task as interrupt_of, is_due as due_in, level_at, may_apcs as apcs_in, may_drain as drain_in, may_interrupt, may_switch as switch_in, may_threaded as threaded_in, must as must_in, must_task as must_of, normal_task as normal_of, rests as rests_in, rewait_task as rewait_of, rundown_task as rundown_of, task as task_of};
+ghost use Rattle.nt_event.specs.Classes.{interrupt_classes};
 ghost use Rattle.nt_event.specs.Routines.{next_command as next_of};
 ghost use Rattle.nt_event.specs.Regions.{regions_of};
 ghost use Rattle.nt_event.specs.Lists.{is_null, value_at};
 
 use crate::cpu::Cpu;
 use crate::due::{due_interrupt, is_due};
-use crate::routines::{needs_lane, next_command};
 use nt_event::{ApcKind, Begun, Body, Command, Frame, Job, Level, Refusal, Reply, Task, What};
 use nt_frame::{Frames, refusal};
 
@@ -124,7 +124,7 @@ impl<'s> Cpu<'s> {
     fn command_task(&self, frame: &Frame) -> Option<Task>
         ensures { result ≡ command_of self.now.own frame.now (next_of self.now.script self.now.cpu frame.now) }
     {
-        match next_command(self.script, self.cpu, frame) {
+        match self.script.next_command(self.cpu, frame) {
             Some(command) => Some(call_in(&self.frames, frame, &command)),
             None => None,
         }
@@ -194,7 +194,7 @@ fn call_task(frame: &Frame, command: &Command, refusal: Option<Refusal>) -> Task
             if matches!(command, Command::ToUser) {
                 return Task::Shared(Job::ToUser);
             }
-            if needs_lane(command) {
+            if command.needs_lane() {
                 return Task::Shared(Job::Call(*command));
             }
             Reply::Done

@@ -1,6 +1,6 @@
 //! Turns.
 ghost use Rattle.std.specs.Prelude.{◌≡◌, ◌&&◌, ℕ, true, IfErr, IfOk, IsErrOf, OnErr, Some};
-ghost use Rattle.nt_event.specs.Own.{standing_in};
+ghost use Rattle.nt_event.specs.Own.{stand_in};
 ghost use Rattle.nt_event.specs.Step.{cpu_at, is_cut};
 ghost use Rattle.nt_floor.specs.Acts.{Found};
 ghost use Rattle.nt_floor.specs.Views.{IsUnmoved};
@@ -94,7 +94,7 @@ impl<'s> Cpu<'s> {
         requires names { cpu_at choice ≡ self.old.cpu }
         requires script { F.script floor.old ≡ self.old.script }
         requires serves { Serves self.old (F.view floor.old) }
-        ensures ok { IfOk result (λ e. (f : Found) × (n : ℕ) × (IsTurned self.old self.new choice f n e (F.view floor.old) (F.view floor.new) × (acts self.old choice ≡ true → F.found floor.new n e (standing_in self.old.cpu self.old.own) f))) }
+        ensures ok { IfOk result (λ e. (f : Found) × (n : ℕ) × (IsTurned self.old self.new choice f n e (F.view floor.old) (F.view floor.new) × (acts self.old choice ≡ true → F.found floor.new n e (stand_in self.old.cpu self.old.own) f))) }
         ensures err { IfErr result (λ r. (f : Found) × (IsTurnRefused self.old choice f r (F.view floor.old) × (acts self.old choice ≡ true → F.shows floor.new f))) }
         ensures same { OnErr result ((self.new ≡ self.old) × IsUnmoved (F.view floor.old) (F.view floor.new)) }
         ensures memory { (F.view floor.old).alone ≡ true → IsErrOf result TurnRefusal.NoMemory → ⊥ }

@@ -1,5 +1,6 @@
 -- What the events of the machine leave of an object and of a queue is what the calls leave.
 use Rattle.std.proofs.Common.{◌≡◌, Bool, true, false, List, ◌∷◌, Some, None, ℕ, cond, eq-eqb, eqb, nat_lt, refl, ◌+◌}
+use Rattle.nt_event.proofs.Booleans.{either_way, same}
 use Rattle.nt_event.specs.declared.commands.Command.TheVariants.{Unqueue}
 use Rattle.nt_event.specs.declared.commands.Reply.TheVariants.{Yes}
 use Rattle.nt_event.specs.declared.events.What.TheVariants.{Call}
@@ -14,9 +15,6 @@ use Rattle.nt_event.specs.Routines.{depth_limit}
 use Rattle.nt_dpc.specs.Laws.{AskIsTheEvents, IsObject, ObjectCallsAreEvents, QueueCallsAreEvents, asks_on}
 use Rattle.nt_dpc.specs.Objects.{ObjectFacts, entry_of}
 use Rattle.nt_dpc.specs.Queues.{QueueFacts, class_in}
-
-same : (n : ℕ) → eqb n n ≡ true
-same n = eq-eqb n n refl
 
 -- ---- objects
 
@@ -34,14 +32,13 @@ object_calls_are_events =
 
 -- ---- queues
 
-either_way : {A : Type 0} (b : Bool) (x : A) → cond b x x ≡ x
-either_way true x = refl
-either_way false x = refl
-
-added : (s : Script) (objects : List ObjectState) (o : ObjectFacts) (q : QueueFacts) (n : ℕ) (by : CpuNo) → IsObject s objects o → queue_for o.state.target by ≡ q.cpu → add_insert s q.cpu n by (Some o.dpc) objects q.state.pending ≡ entry_of n o ∷ q.state.pending
+added : (s : Script) (objects : List ObjectState) (o : ObjectFacts) (q : QueueFacts) (n : ℕ) (by : CpuNo) → IsObject s objects o →
+    queue_for o.state.target by ≡ q.cpu → add_insert s q.cpu n by (Some o.dpc) objects q.state.pending ≡ entry_of n o ∷ q.state.pending
 added s objects o q n by h e = rw (h.state, h.part, e, same q.cpu.0)
 
-dropped : (s : Script) (objects : List ObjectState) (o : ObjectFacts) (q : QueueFacts) (f m : ℕ) (by : CpuNo) → IsObject s objects o → o.state.standing ≡ Some (record { queue = q.cpu; number = m }) → drop_insert q.cpu by (Call f (Unqueue o.dpc) Yes) (Some o.dpc) objects q.state.pending ≡ without_dpc o.dpc q.state.pending
+dropped : (s : Script) (objects : List ObjectState) (o : ObjectFacts) (q : QueueFacts) (f m : ℕ) (by : CpuNo) → IsObject s objects o →
+    o.state.standing ≡ Some (record { queue = q.cpu; number = m }) → drop_insert q.cpu by (Call f (Unqueue o.dpc) Yes)
+    (Some o.dpc) objects q.state.pending ≡ without_dpc o.dpc q.state.pending
 dropped s objects o q f m by h e = rw (h.state, e, same q.cpu.0)
 
 pub queue_calls_are_events : QueueCallsAreEvents
@@ -58,7 +55,8 @@ queue_calls_are_events =
 
 -- ---- asks
 
-asks_of_class : (s : Script) (part : Part) (o : ObjectState) (by q : CpuNo) (x : QueueState) (limit : ℕ) → limit ≡ depth_limit s → dpc_asks s part o by q x ≡ asks_on q (class_in part (insert_asks o.importance (eqb q.0 by.0) (nat_lt limit (depth_of x.pending + 1)) x.idle))
+asks_of_class : (s : Script) (part : Part) (o : ObjectState) (by q : CpuNo) (x : QueueState) (limit : ℕ) → limit ≡ depth_limit s →
+    dpc_asks s part o by q x ≡ asks_on q (class_in part (insert_asks o.importance (eqb q.0 by.0) (nat_lt limit (depth_of x.pending + 1)) x.idle))
 asks_of_class s ThreadedPart o by q x limit e = refl
 asks_of_class s OrdinaryPart o by q x limit e =
     rw e (asked (insert_asks o.importance (eqb q.0 by.0) (nat_lt (depth_limit s) (depth_of x.pending + 1)) x.idle) q)

@@ -1,4 +1,4 @@
-pub mod Reversed
+pub mod Removed
 pub mod Once
 pub mod First
 pub mod Pending

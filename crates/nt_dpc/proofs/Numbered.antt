@@ -31,7 +31,8 @@ pub find_none : (p : Insert → Bool) (xs : List Insert) (y : Insert) → find p
 find_none p [] y h at = absurd at
 find_none p (x ∷ xs) y h at = go p x xs y (find_none p xs y) h at (p x) refl
   where
-    go : (p : Insert → Bool) (x : Insert) (xs : List Insert) (y : Insert) → (find p xs ≡ None → Stands y xs → p y ≡ false) → find p (x ∷ xs) ≡ None → Stands y (x ∷ xs) → (b : Bool) → p x ≡ b → p y ≡ false
+    go : (p : Insert → Bool) (x : Insert) (xs : List Insert) (y : Insert) → (find p xs ≡ None → Stands y xs → p y ≡ false) → find p (x ∷ xs) ≡ None →
+        Stands y (x ∷ xs) → (b : Bool) → p x ≡ b → p y ≡ false
     go p x xs y rest h at true k = absurd (let bad : Some x ≡ None = rw k at h in cc)
     go p x xs y rest h (inl e) false k = rw e k
     go p x xs y rest h (inr at) false k = rest (rw k at h) at
@@ -40,7 +41,8 @@ pub find_stands : (p : Insert → Bool) (xs : List Insert) (x : Insert) → find
 find_stands p [] x h = absurd (cc)
 find_stands p (y ∷ xs) x h = go p y xs x (find_stands p xs x) h (p y) refl
   where
-    go : (p : Insert → Bool) (y : Insert) (xs : List Insert) (x : Insert) → (find p xs ≡ Some x → Stands x xs × (p x ≡ true)) → find p (y ∷ xs) ≡ Some x → (b : Bool) → p y ≡ b → Stands x (y ∷ xs) × (p x ≡ true)
+    go : (p : Insert → Bool) (y : Insert) (xs : List Insert) (x : Insert) → (find p xs ≡ Some x → Stands x xs × (p x ≡ true)) → find p (y ∷ xs) ≡ Some x →
+        (b : Bool) → p y ≡ b → Stands x (y ∷ xs) × (p x ≡ true)
     go p y xs x rest h true k = let e : Some y ≡ Some x = rw k at h in let s : x ≡ y = cc in (inl s, rw s k)
     go p y xs x rest h false k = let r = rest (rw k at h) in (inr r.0, r.1)
 
@@ -49,8 +51,11 @@ pub find_greatest : (p : Insert → Bool) (xs : List Insert) (x y : Insert) → 
 find_greatest p [] x y f h at t = absurd at
 find_greatest p (z ∷ xs) x y f h at t = go p z xs x y f (find_greatest p xs x y f.1) h at t (p z) refl
   where
-    go : (p : Insert → Bool) (z : Insert) (xs : List Insert) (x y : Insert) → Falls (z ∷ xs) → (find p xs ≡ Some x → Stands y xs → p y ≡ true → y.number ≤ x.number) → find p (z ∷ xs) ≡ Some x → Stands y (z ∷ xs) → p y ≡ true → (b : Bool) → p z ≡ b → y.number ≤ x.number
-    go p z xs x y f rest h (inl e) t true k = let s : Some z ≡ Some x = rw k at h in let same : y ≡ x = cc in rw (ap (λ (w : Insert). w.number) same) (omega arith)
+    go : (p : Insert → Bool) (z : Insert) (xs : List Insert) (x y : Insert) → Falls (z ∷ xs) →
+        (find p xs ≡ Some x → Stands y xs → p y ≡ true → y.number ≤ x.number) → find p (z ∷ xs) ≡ Some x → Stands y (z ∷ xs) → p y ≡ true → (b : Bool) →
+        p z ≡ b → y.number ≤ x.number
+    go p z xs x y f rest h (inl e) t true k = let s : Some z ≡ Some x = rw k at h in let same : y ≡ x = cc in rw (ap (λ (w : Insert). w.number) same)
+        (omega arith)
     go p z xs x y f rest h (inr at) t true k =
         let s : Some z ≡ Some x = rw k at h in
         let same : z ≡ x = cc in
@@ -76,12 +81,26 @@ pub find_last : (p : Insert → Bool) (xs : List Insert) → Falls xs → LastIs
 find_last p [] f = λ y at. absurd at
 find_last p (z ∷ xs) f = rw (find-reverse p z xs) (go p z xs f (find p (reverse xs)) (find_last p xs f.1) (p z) refl)
   where
-    at_head : (p : Insert → Bool) (z : Insert) (xs : List Insert) → Falls (z ∷ xs) → ((y : Insert) → Stands y xs → p y ≡ false) → (b : Bool) → p z ≡ b → LastIsLeast p (z ∷ xs) (cond b (Some z) None)
-    at_head p z xs f none true k = record { stands = inl refl; passes = k; least = λ y at t. elim at [ inl e ↦ rw (ap (λ (w : Insert). w.number) e) (omega arith) | inr later ↦ absurd (false≢true (sym (none y later) ∙ t)) ] }
+    at_head : (p : Insert → Bool) (z : Insert) (xs : List Insert) → Falls (z ∷ xs) → ((y : Insert) → Stands y xs → p y ≡ false) → (b : Bool) → p z ≡ b →
+        LastIsLeast p (z ∷ xs) (cond b (Some z) None)
+    at_head p z xs f none true k = record {
+      stands = inl refl;
+      passes = k;
+      least = λ y at t. elim at [ inl e ↦ rw (ap (λ (w : Insert). w.number) e) (omega arith) | inr later ↦ absurd (false≢true (sym (none y later) ∙ t)) ];
+    }
     at_head p z xs f none false k = λ y at. elim at [ inl e ↦ rw e k | inr later ↦ none y later ]
 
-    go : (p : Insert → Bool) (z : Insert) (xs : List Insert) → Falls (z ∷ xs) → (o : Option Insert) → LastIsLeast p xs o → (b : Bool) → p z ≡ b → LastIsLeast p (z ∷ xs) (option_or o (find p (z ∷ [])))
-    go p z xs f (Some x) h b k = record { stands = inr h.stands; passes = h.passes; least = λ y at t. elim at [ inl e ↦ rw (ap (λ (w : Insert). w.number) e) (let l = below_at z.number xs x f.0 h.stands in omega arith) | inr later ↦ h.least y later t ] }
+    go : (p : Insert → Bool) (z : Insert) (xs : List Insert) → Falls (z ∷ xs) → (o : Option Insert) → LastIsLeast p xs o → (b : Bool) → p z ≡ b →
+        LastIsLeast p (z ∷ xs) (option_or o (find p (z ∷ [])))
+    go p z xs f (Some x) h b k = record {
+      stands = inr h.stands;
+      passes = h.passes;
+      least = λ y at t. elim at [
+        | inl e ↦ rw (ap (λ (w : Insert). w.number) e)
+            (let l = below_at z.number xs x f.0 h.stands in omega arith)
+        | inr later ↦ h.least y later t
+      ];
+    }
     go p z xs f None h b k = rw k (at_head p z xs f h b k)
 
 -- what a find in the reversed list gives stands in the list
@@ -94,6 +113,7 @@ find_last_stands p (z ∷ xs) x h =
     at_head true z x xs h = inl (cc)
     at_head false z x xs h = absurd (cc)
 
-    go : (p : Insert → Bool) (z : Insert) (xs : List Insert) (x : Insert) (o : Option Insert) → (o ≡ Some x → Stands x xs) → option_or o (find p (z ∷ [])) ≡ Some x → Stands x (z ∷ xs)
+    go : (p : Insert → Bool) (z : Insert) (xs : List Insert) (x : Insert) (o : Option Insert) → (o ≡ Some x → Stands x xs) →
+        option_or o (find p (z ∷ [])) ≡ Some x → Stands x (z ∷ xs)
     go p z xs x (Some y) rest h = inr (rest h)
     go p z xs x None rest h = at_head (p z) z x xs h

@@ -1,5 +1,6 @@
 -- Lists in which each object below the count has at most one entry.
-use Rattle.std.proofs.Common.{inl, inr, ◌≡◌, ◌≤◌, ◌<◌, ℕ, Bool, true, false, eqb, List, [], ◌∷◌, reverse, length, not, refl, sym, ◌∙◌, ap, arith, suc, get_or, Option, Some, None}
+use Rattle.std.proofs.Common.{inl, inr, ◌≡◌, ◌≤◌, ◌<◌, ℕ, Bool, true, false, eqb, List, [], ◌∷◌, reverse, length, not, refl, sym, ◌∙◌, ap, arith, suc, get_or}
+use Rattle.std.proofs.Common.{Option, Some, None}
 use Rattle.nt_event.specs.declared.inserts.Insert.{Insert}
 use Rattle.nt_event.specs.declared.inserts.Part.TheVariants.{Ordinary as OrdinaryPart}
 use Rattle.nt_event.specs.declared.numbers.DpcNo.{DpcNo}
@@ -9,7 +10,8 @@ use Rattle.nt_event.specs.Objects.{is_queued}
 use Rattle.nt_dpc.specs.Objects.{ObjectFacts}
 use Rattle.nt_dpc.specs.Queues.{EachOnceBelow, QueueFacts, StandsHere, StandsHereOrNowhere, holds_dpc, without_entry}
 use Rattle.std.specs.Option.{is_some}
-use Rattle.nt_dpc.proofs.Reversed.{filter-reverse, remove-only}
+use Rattle.nt_event.proofs.Reversed.{filter-reverse}
+use Rattle.nt_dpc.proofs.Removed.{remove-only}
 use Rattle.std.specs.List.{AllByRecursion, IsDistinct, filter, list_any, position, remove}
 use Rattle.std.proofs.lemmas.List.{length-reverse}
 use Rattle.std.proofs.lemmas.List.Quantifiers.{position-Some}
@@ -65,7 +67,8 @@ none_of d (x ∷ xs) h = let p = or_parts (is_of_dpc d x) (holds_dpc d xs) h in 
 same_dpc : (d e : DpcNo) (xs : List Insert) → d.0 ≡ e.0 → holds_dpc d xs ≡ holds_dpc e xs
 same_dpc d e xs h = ap (λ (n : ℕ). list_any (λ (x : Insert). eqb x.dpc.0 n) xs) h
 
-at_most_one : (d : DpcNo) (x : Insert) (xs : List Insert) → holds_dpc x.dpc xs ≡ false → length (filter (is_of_dpc d) xs) ≤ 1 → (b : Bool) → is_of_dpc d x ≡ b → length (filter (is_of_dpc d) (x ∷ xs)) ≤ 1
+at_most_one : (d : DpcNo) (x : Insert) (xs : List Insert) → holds_dpc x.dpc xs ≡ false → length (filter (is_of_dpc d) xs) ≤ 1 → (b : Bool) →
+    is_of_dpc d x ≡ b → length (filter (is_of_dpc d) (x ∷ xs)) ≤ 1
 at_most_one d x xs h rest true e =
     rw (e, none_of d xs (same_dpc d x.dpc xs (sym (eqb-true x.dpc.0 d.0 e)) ∙ h)) (omega arith)
 at_most_one d x xs h rest false e = rw e rest
@@ -83,7 +86,8 @@ without_cons_yes d x xs e = rw e
 pub without_cons_no : (d : DpcNo) (x : Insert) (xs : List Insert) → is_of_dpc d x ≡ false → without_dpc d (x ∷ xs) ≡ x ∷ without_dpc d xs
 without_cons_no d x xs e = rw e
 
-holds_cons : (d e : DpcNo) (x : Insert) (xs : List Insert) → is_of_dpc d x ≡ false → holds_dpc d (without_dpc e xs) ≡ false → (b : Bool) → is_of_dpc e x ≡ b → holds_dpc d (without_dpc e (x ∷ xs)) ≡ false
+holds_cons : (d e : DpcNo) (x : Insert) (xs : List Insert) → is_of_dpc d x ≡ false → holds_dpc d (without_dpc e xs) ≡ false → (b : Bool) → is_of_dpc e x ≡ b →
+    holds_dpc d (without_dpc e (x ∷ xs)) ≡ false
 holds_cons d e x xs h rest true k = rw (without_cons_yes e x xs k) rest
 holds_cons d e x xs h rest false k =
     rw (without_cons_no e x xs k) (or_from (is_of_dpc d x) (holds_dpc d (without_dpc e xs)) h rest)
@@ -94,7 +98,8 @@ holds-without d e (x ∷ xs) h =
     let p = or_parts (is_of_dpc d x) (holds_dpc d xs) h in
     holds_cons d e x xs p.0 (holds-without d e xs p.1) (is_of_dpc e x) refl
 
-each_once_cons : (d : DpcNo) (count : ℕ) (x : Insert) (xs : List Insert) → EachOnceBelow count (x ∷ xs) → EachOnceBelow count (without_dpc d xs) → (b : Bool) → is_of_dpc d x ≡ b → EachOnceBelow count (without_dpc d (x ∷ xs))
+each_once_cons : (d : DpcNo) (count : ℕ) (x : Insert) (xs : List Insert) → EachOnceBelow count (x ∷ xs) → EachOnceBelow count (without_dpc d xs) → (b : Bool) →
+    is_of_dpc d x ≡ b → EachOnceBelow count (without_dpc d (x ∷ xs))
 each_once_cons d count x xs h rest true k = rw (without_cons_yes d x xs k) rest
 each_once_cons d count x xs h rest false k =
     rw (without_cons_no d x xs k) (h.0, holds-without x.dpc d xs h.1, rest)
@@ -104,7 +109,8 @@ each_once-without d count [] h = tt
 each_once-without d count (x ∷ xs) h =
     each_once_cons d count x xs h (each_once-without d count xs h.2) (is_of_dpc d x) refl
 
-left_out : (d : DpcNo) (x : Insert) (xs : List Insert) → holds_dpc d (without_dpc d xs) ≡ false → (b : Bool) → is_of_dpc d x ≡ b → holds_dpc d (without_dpc d (x ∷ xs)) ≡ false
+left_out : (d : DpcNo) (x : Insert) (xs : List Insert) → holds_dpc d (without_dpc d xs) ≡ false → (b : Bool) → is_of_dpc d x ≡ b →
+    holds_dpc d (without_dpc d (x ∷ xs)) ≡ false
 left_out d x xs rest true k = rw (without_cons_yes d x xs k) rest
 left_out d x xs rest false k =
     rw (without_cons_no d x xs k) (or_from (is_of_dpc d x) (holds_dpc d (without_dpc d xs)) k rest)
@@ -124,15 +130,18 @@ without_none d (x ∷ xs) h =
 -- ---- in order of insertion
 
 -- the entry of the object at this place, taken out of the entries in order of insertion
-pub reverse-remove : (d : DpcNo) (count : ℕ) (xs : List Insert) (i : ℕ) (y : Insert) → EachOnceBelow count (reverse xs) → position (is_of_dpc d) xs ≡ Some i → reverse (remove xs i) ≡ without_dpc d (reverse xs)
+pub reverse-remove : (d : DpcNo) (count : ℕ) (xs : List Insert) (i : ℕ) (y : Insert) → EachOnceBelow count (reverse xs) → position (is_of_dpc d) xs ≡ Some i →
+    reverse (remove xs i) ≡ without_dpc d (reverse xs)
 reverse-remove d count xs i y h e =
-    let at : (y : Insert) → (i < length xs) × (is_of_dpc d (get_or xs i y) ≡ true) × ((k : ℕ) → k < i → is_of_dpc d (get_or xs k y) ≡ false) = λ y. position-Some (is_of_dpc d) xs i y e in
+    let at : (y : Insert) → (i < length xs) × (is_of_dpc d (get_or xs i y) ≡ true) ×
+    ((k : ℕ) → k < i → is_of_dpc d (get_or xs k y) ≡ false) = λ y. position-Some (is_of_dpc d) xs i y e in
     let few : length (filter (is_of_dpc d) (reverse xs)) ≤ 1 = length-filter-each_once d count (reverse xs) h in
     let one : length (filter (is_of_dpc d) xs) ≤ 1 = omega (arith, length-reverse (filter (is_of_dpc d) xs), ap length (filter-reverse (is_of_dpc d) xs)) in
     ap reverse (remove-only (is_of_dpc d) xs i (at y).0 (λ z. (at z).1) (λ k z m. (at z).2 k m) one) ∙ sym (filter-reverse (λ x. not (is_of_dpc d x)) xs)
 
 -- there is room for the entry of an object that has none
-pub room_left : (d : DpcNo) (count room : ℕ) (xs : List Insert) → EachOnceBelow count xs → count ≤ room → d.0 < count → holds_dpc d xs ≡ false → length xs < room
+pub room_left : (d : DpcNo) (count room : ℕ) (xs : List Insert) → EachOnceBelow count xs → count ≤ room → d.0 < count → holds_dpc d xs ≡ false →
+    length xs < room
 room_left d count room xs h r below new =
     let x : Insert = record { dpc = d; number = 0; part = OrdinaryPart; high = false } in
     let all : length (x ∷ xs) ≤ count = length-each_once count (x ∷ xs) (below, new, h) in omega arith

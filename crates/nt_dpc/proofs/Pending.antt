@@ -5,7 +5,7 @@ use Rattle.nt_event.specs.declared.inserts.Part.{Part}
 use Rattle.nt_event.specs.declared.numbers.CpuNo.{CpuNo}
 use Rattle.nt_event.specs.declared.numbers.DpcNo.{DpcNo}
 use Rattle.nt_event.specs.Queues.{first_dpc, is_high_in, is_in, is_of_dpc, without_dpc}
-use Rattle.nt_dpc.specs.Changes.{AddedBelow, AllAccepted, Change, Added, Idled, IsFirst, IsPending, NumbersRise, Removed, Taken, after_changes}
+use Rattle.nt_dpc.specs.Changes.{AddedBelow, AllAccepted, QueueChange, Added, Idled, IsFirst, IsPending, NumbersRise, Removed, Taken, after_changes}
 use Rattle.nt_dpc.specs.Laws.{FirstByNumber, OneEntryEach, RemovedIsGone}
 use Rattle.nt_dpc.specs.Queues.{EachOnceBelow, QueueFacts, holds_dpc, new_queue}
 use Rattle.nt_dpc.proofs.Numbered.{AllBelow, Falls, Stands, LastIsLeast, find_greatest, find_last, find_last_stands, find_none, find_stands}
@@ -20,7 +20,8 @@ stands-without : (d : DpcNo) (x : Insert) (ys : List Insert) → Stands x (witho
 stands-without d x [] at = absurd at
 stands-without d x (y ∷ ys) at = go d x y ys (stands-without d x ys) at (is_of_dpc d y) refl
   where
-    go : (d : DpcNo) (x y : Insert) (ys : List Insert) → (Stands x (without_dpc d ys) → (is_of_dpc d x ≡ false) × Stands x ys) → Stands x (without_dpc d (y ∷ ys)) → (b : Bool) → is_of_dpc d y ≡ b → (is_of_dpc d x ≡ false) × Stands x (y ∷ ys)
+    go : (d : DpcNo) (x y : Insert) (ys : List Insert) → (Stands x (without_dpc d ys) → (is_of_dpc d x ≡ false) × Stands x ys) →
+        Stands x (without_dpc d (y ∷ ys)) → (b : Bool) → is_of_dpc d y ≡ b → (is_of_dpc d x ≡ false) × Stands x (y ∷ ys)
     go d x y ys rest at true k = let r = rest (rw (without_cons_yes d y ys k) at at) in (r.0, inr r.1)
     go d x y ys rest at false k = here (rw (without_cons_no d y ys k) at at)
       where
@@ -32,7 +33,8 @@ without-stands : (d : DpcNo) (x : Insert) (ys : List Insert) → is_of_dpc d x �
 without-stands d x [] h at = absurd at
 without-stands d x (y ∷ ys) h at = go d x y ys h (without-stands d x ys h) at (is_of_dpc d y) refl
   where
-    go : (d : DpcNo) (x y : Insert) (ys : List Insert) → is_of_dpc d x ≡ false → (Stands x ys → Stands x (without_dpc d ys)) → Stands x (y ∷ ys) → (b : Bool) → is_of_dpc d y ≡ b → Stands x (without_dpc d (y ∷ ys))
+    go : (d : DpcNo) (x y : Insert) (ys : List Insert) → is_of_dpc d x ≡ false → (Stands x ys → Stands x (without_dpc d ys)) → Stands x (y ∷ ys) → (b : Bool) →
+        is_of_dpc d y ≡ b → Stands x (without_dpc d (y ∷ ys))
     go d x y ys h rest (inl e) true k = absurd (false≢true (sym h ∙ (rw e k)))
     go d x y ys h rest (inl e) false k = rw (without_cons_no d y ys k) (inl e)
     go d x y ys h rest (inr at) true k = rw (without_cons_yes d y ys k) (rest at)
@@ -40,7 +42,8 @@ without-stands d x (y ∷ ys) h at = go d x y ys h (without-stands d x ys h) at 
 
 -- ---- the list after the changes is that of the pending inserts
 
-pub stands_pending : (p : CpuNo) (count limit : ℕ) (past : List Change) (x : Insert) → Stands x (after_changes (new_queue p count limit) past).state.pending → IsPending x past
+pub stands_pending : (p : CpuNo) (count limit : ℕ) (past : List QueueChange) (x : Insert) →
+    Stands x (after_changes (new_queue p count limit) past).state.pending → IsPending x past
 stands_pending p count limit [] x at = at
 stands_pending p count limit (Added y ∷ past) x (inl e) = inl e
 stands_pending p count limit (Added y ∷ past) x (inr at) = inr (stands_pending p count limit past x at)
@@ -50,7 +53,8 @@ stands_pending p count limit (Taken d ∷ past) x at =
     let r = stands-without d x (after_changes (new_queue p count limit) past).state.pending at in (r.0, stands_pending p count limit past x r.1)
 stands_pending p count limit (Idled idle ∷ past) x at = stands_pending p count limit past x at
 
-pub pending_stands : (p : CpuNo) (count limit : ℕ) (past : List Change) (x : Insert) → IsPending x past → Stands x (after_changes (new_queue p count limit) past).state.pending
+pub pending_stands : (p : CpuNo) (count limit : ℕ) (past : List QueueChange) (x : Insert) → IsPending x past →
+    Stands x (after_changes (new_queue p count limit) past).state.pending
 pending_stands p count limit [] x h = h
 pending_stands p count limit (Added y ∷ past) x (inl e) = inl e
 pending_stands p count limit (Added y ∷ past) x (inr h) = inr (pending_stands p count limit past x h)
@@ -66,7 +70,8 @@ below-without : (d : DpcNo) (n : ℕ) (xs : List Insert) → AllBelow n xs → A
 below-without d n [] h = tt
 below-without d n (x ∷ xs) h = go d n x xs h (below-without d n xs h.1) (is_of_dpc d x) refl
   where
-    go : (d : DpcNo) (n : ℕ) (x : Insert) (xs : List Insert) → AllBelow n (x ∷ xs) → AllBelow n (without_dpc d xs) → (b : Bool) → is_of_dpc d x ≡ b → AllBelow n (without_dpc d (x ∷ xs))
+    go : (d : DpcNo) (n : ℕ) (x : Insert) (xs : List Insert) → AllBelow n (x ∷ xs) → AllBelow n (without_dpc d xs) → (b : Bool) → is_of_dpc d x ≡ b →
+        AllBelow n (without_dpc d (x ∷ xs))
     go d n x xs h rest true k = rw (without_cons_yes d x xs k) rest
     go d n x xs h rest false k = rw (without_cons_no d x xs k) (h.0, rest)
 
@@ -74,11 +79,13 @@ falls-without : (d : DpcNo) (xs : List Insert) → Falls xs → Falls (without_d
 falls-without d [] h = tt
 falls-without d (x ∷ xs) h = go d x xs h (falls-without d xs h.1) (is_of_dpc d x) refl
   where
-    go : (d : DpcNo) (x : Insert) (xs : List Insert) → Falls (x ∷ xs) → Falls (without_dpc d xs) → (b : Bool) → is_of_dpc d x ≡ b → Falls (without_dpc d (x ∷ xs))
+    go : (d : DpcNo) (x : Insert) (xs : List Insert) → Falls (x ∷ xs) → Falls (without_dpc d xs) → (b : Bool) → is_of_dpc d x ≡ b →
+        Falls (without_dpc d (x ∷ xs))
     go d x xs h rest true k = rw (without_cons_yes d x xs k) rest
     go d x xs h rest false k = rw (without_cons_no d x xs k) (below-without d x.number xs h.0, rest)
 
-added_below : (p : CpuNo) (count limit n : ℕ) (past : List Change) → AddedBelow n past → AllBelow n (after_changes (new_queue p count limit) past).state.pending
+added_below : (p : CpuNo) (count limit n : ℕ) (past : List QueueChange) → AddedBelow n past →
+    AllBelow n (after_changes (new_queue p count limit) past).state.pending
 added_below p count limit n [] h = tt
 added_below p count limit n (Added x ∷ past) h = (h.0, added_below p count limit n past h.1)
 added_below p count limit n (Removed d ∷ past) h =
@@ -87,7 +94,7 @@ added_below p count limit n (Taken d ∷ past) h =
     below-without d n (after_changes (new_queue p count limit) past).state.pending (added_below p count limit n past h)
 added_below p count limit n (Idled idle ∷ past) h = added_below p count limit n past h
 
-falls : (p : CpuNo) (count limit : ℕ) (past : List Change) → NumbersRise past → Falls (after_changes (new_queue p count limit) past).state.pending
+falls : (p : CpuNo) (count limit : ℕ) (past : List QueueChange) → NumbersRise past → Falls (after_changes (new_queue p count limit) past).state.pending
 falls p count limit [] h = tt
 falls p count limit (Added x ∷ past) h = (added_below p count limit x.number past h.0, falls p count limit past h.1)
 falls p count limit (Removed d ∷ past) h =
@@ -99,10 +106,13 @@ falls p count limit (Idled idle ∷ past) h = falls p count limit past h
 -- ---- the first of a part
 
 -- the first of a part of a list, where a fact holds of exactly what stands in it
-first_of : (part : Part) (past : List Change) (xs : List Insert) → Falls xs → ((x : Insert) → Stands x xs → IsPending x past) → ((x : Insert) → IsPending x past → Stands x xs) → MatchOption (first_dpc part xs) ((y : Insert) → IsPending y past → is_in part y ≡ false) (λ x. IsFirst part x past)
+first_of : (part : Part) (past : List QueueChange) (xs : List Insert) → Falls xs → ((x : Insert) → Stands x xs → IsPending x past) →
+    ((x : Insert) → IsPending x past → Stands x xs) → MatchOption (first_dpc part xs) ((y : Insert) → IsPending y past → is_in part y ≡ false)
+    (λ x. IsFirst part x past)
 first_of part past xs f to from = go (find (is_high_in part) xs) refl
   where
-    low : (o : Option Insert) → LastIsLeast (is_in part) xs o → find (is_high_in part) xs ≡ None → MatchOption o ((y : Insert) → IsPending y past → is_in part y ≡ false) (λ x. IsFirst part x past)
+    low : (o : Option Insert) → LastIsLeast (is_in part) xs o → find (is_high_in part) xs ≡ None →
+        MatchOption o ((y : Insert) → IsPending y past → is_in part y ≡ false) (λ x. IsFirst part x past)
     low None h none = λ y at. h y (from y at)
     low (Some x) h none =
         record {
@@ -113,7 +123,8 @@ first_of part past xs f to from = go (find (is_high_in part) xs) refl
           oldest = λ high y at t. h.least y (from y at) t;
         }
 
-    go : (o : Option Insert) → find (is_high_in part) xs ≡ o → MatchOption (option_or o (find (is_in part) (reverse xs))) ((y : Insert) → IsPending y past → is_in part y ≡ false) (λ x. IsFirst part x past)
+    go : (o : Option Insert) → find (is_high_in part) xs ≡ o → MatchOption (option_or o (find (is_in part) (reverse xs)))
+        ((y : Insert) → IsPending y past → is_in part y ≡ false) (λ x. IsFirst part x past)
     go None e = low (find (is_in part) (reverse xs)) (find_last (is_in part) xs f) e
     go (Some x) e =
         let s = find_stands (is_high_in part) xs x e in
@@ -128,7 +139,8 @@ first_of part past xs f to from = go (find (is_high_in part) xs) refl
 
 pub first_by_number : FirstByNumber
 first_by_number p count limit past h part =
-    first_of part past (after_changes (new_queue p count limit) past).state.pending (falls p count limit past h) (stands_pending p count limit past) (pending_stands p count limit past)
+    first_of part past (after_changes (new_queue p count limit) past).state.pending (falls p count limit past h) (stands_pending p count limit past)
+    (pending_stands p count limit past)
 
 pub first_stands : (part : Part) (xs : List Insert) (x : Insert) → first_dpc part xs ≡ Some x → Stands x xs
 first_stands part xs x h = go (find (is_high_in part) xs) refl h
@@ -138,21 +150,23 @@ first_stands part xs x h = go (find (is_high_in part) xs) refl h
     go (Some y) e h = (find_stands (is_high_in part) xs x (e ∙ h)).0
 
 pub removed_is_gone : RemovedIsGone
-removed_is_gone q past d part x =
+removed_is_gone q past d part =
     let xs = (after_changes q past).state.pending in
-    let gone : first_dpc part (without_dpc d xs) ≡ Some x → is_of_dpc d x ≡ false = λ h. (stands-without d x xs (first_stands part (without_dpc d xs) x h)).0 in
+    let gone : (x : Insert) → first_dpc part (without_dpc d xs) ≡ Some x →
+    is_of_dpc d x ≡ false = λ x h. (stands-without d x xs (first_stands part (without_dpc d xs) x h)).0 in
     (gone, gone)
 
 -- ---- one entry each
 
-count_stays : (q : QueueFacts) (past : List Change) → (after_changes q past).count ≡ q.count
+count_stays : (q : QueueFacts) (past : List QueueChange) → (after_changes q past).count ≡ q.count
 count_stays q [] = refl
 count_stays q (Added x ∷ past) = count_stays q past
 count_stays q (Removed d ∷ past) = count_stays q past
 count_stays q (Taken d ∷ past) = count_stays q past
 count_stays q (Idled idle ∷ past) = count_stays q past
 
-pub each_once : (p : CpuNo) (count limit : ℕ) (past : List Change) → AllAccepted (new_queue p count limit) past → EachOnceBelow count (after_changes (new_queue p count limit) past).state.pending
+pub each_once : (p : CpuNo) (count limit : ℕ) (past : List QueueChange) → AllAccepted (new_queue p count limit) past →
+    EachOnceBelow count (after_changes (new_queue p count limit) past).state.pending
 each_once p count limit [] h = tt
 each_once p count limit (Added x ∷ past) h =
     let below : x.dpc.0 < (after_changes (new_queue p count limit) past).count = h.0.0 in
@@ -180,4 +194,5 @@ only count (z ∷ xs) x y h (inr at) (inr to) e = only count xs x y h.2 at to e
 
 pub one_entry_each : OneEntryEach
 one_entry_each p count limit past h x y at to e =
-    only count (after_changes (new_queue p count limit) past).state.pending x y (each_once p count limit past h) (pending_stands p count limit past x at) (pending_stands p count limit past y to) e
+    only count (after_changes (new_queue p count limit) past).state.pending x y (each_once p count limit past h) (pending_stands p count limit past x at)
+    (pending_stands p count limit past y to) e

@@ -1,5 +1,6 @@
 -- DPC objects as contracts see them.
 use Rattle.std.specs.Prelude.{Bool, None, Some, if◌then◌else◌, option_map, Option, ℕ}
+use Rattle.nt_event.specs.declared.commands.Importance.{Importance}
 use Rattle.nt_event.specs.declared.inserts.Insert.{Insert}
 use Rattle.nt_event.specs.declared.inserts.Part.{Part}
 use Rattle.nt_event.specs.declared.inserts.Part.TheVariants.{Ordinary as OrdinaryPart, Threaded as ThreadedPart}
@@ -26,11 +27,28 @@ new_object d threaded = record { dpc = d; part = part_if threaded; state = start
 abbrev pub standing_cpu : ObjectFacts → Option CpuNo
 standing_cpu o = option_map (λ x. x.queue) o.state.standing
 
+-- ---- what a change leaves of an object's state
+
+-- its insert stands there
+abbrev pub standing_at : Standing → ObjectState → ObjectState
+standing_at x o = record o { standing = Some x }
+
+-- its insert stands nowhere
+abbrev pub standing_nowhere : ObjectState → ObjectState
+standing_nowhere o = record o { standing = None }
+
+abbrev pub with_importance : Importance → ObjectState → ObjectState
+with_importance i o = record o { importance = i }
+
+abbrev pub with_target : Option CpuNo → ObjectState → ObjectState
+with_target t o = record o { target = t }
+
+-- the same of the object that contracts see
 abbrev pub queued_at : Standing → ObjectFacts → ObjectFacts
-queued_at x o = record o { state = record o.state { standing = Some x } }
+queued_at x o = record o { state = standing_at x o.state }
 
 abbrev pub unqueued : ObjectFacts → ObjectFacts
-unqueued o = record o { state = record o.state { standing = None } }
+unqueued o = record o { state = standing_nowhere o.state }
 
 -- the entry that an insert of the object by the event of this number makes
 abbrev pub entry_of : ℕ → ObjectFacts → Insert

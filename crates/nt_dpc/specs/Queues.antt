@@ -1,12 +1,14 @@
 -- DPC queues as contracts see them: what calls require, answer and leave.
 use Rattle.std.specs.List.{list_any}
-use Rattle.std.specs.Prelude.{Bool, List, None, Option, Some, [], false, if◌then◌else◌, nat_lt, option_map, true, ℕ, ◌+◌, ◌<◌, ◌==◌, ◌≡◌, ◌∷◌}
+use Rattle.std.specs.Prelude.{Bool, List, None, Option, Some, [], false, if◌then◌else◌, nat_lt, option_map, true, ℕ}
+use Rattle.std.specs.Prelude.{◌+◌, ◌<◌, ◌==◌, ◌≡◌, ◌∷◌}
 use Rattle.nt_event.specs.declared.inserts.Insert.{Insert}
 use Rattle.nt_event.specs.declared.inserts.Part.{Part}
 use Rattle.nt_event.specs.declared.inserts.Part.TheVariants.{Ordinary as OrdinaryPart, Threaded as ThreadedPart}
 use Rattle.nt_event.specs.declared.inserts.Standing.{Standing}
 use Rattle.nt_event.specs.declared.numbers.CpuNo.{CpuNo}
 use Rattle.nt_event.specs.declared.numbers.DpcNo.{DpcNo}
+use Rattle.nt_event.specs.Classes.{dispatch_class, threaded_class}
 use Rattle.nt_event.specs.Objects.{is_queued, queue_for}
 use Rattle.nt_event.specs.Queues.{QueueState, depth_of, first_dpc, insert_asks, is_of_dpc, start_queue, without_dpc}
 use Rattle.nt_dpc.specs.Objects.{ObjectFacts, entry_of}
@@ -25,18 +27,33 @@ new_queue p count limit = record { cpu = p; count = count; limit = limit; state 
 abbrev pub holds_dpc : DpcNo → List Insert → Bool
 holds_dpc d xs = list_any (is_of_dpc d) xs
 
+-- ---- what a change leaves of a queue's state
+
+-- the entry is added
+abbrev pub add_entry : Insert → QueueState → QueueState
+add_entry x q = record q { pending = x ∷ q.pending }
+
+-- the object's entry is taken out
+abbrev pub drop_entry : DpcNo → QueueState → QueueState
+drop_entry d q = record q { pending = without_dpc d q.pending }
+
+abbrev pub set_idle : Bool → QueueState → QueueState
+set_idle idle q = record q { idle = idle }
+
+-- the same of the queue that contracts see
 abbrev pub with_entry : Insert → QueueFacts → QueueFacts
-with_entry x q = record q { state = record q.state { pending = x ∷ q.state.pending } }
+with_entry x q = record q { state = add_entry x q.state }
 
 abbrev pub without_entry : DpcNo → QueueFacts → QueueFacts
-without_entry d q = record q { state = record q.state { pending = without_dpc d q.state.pending } }
+without_entry d q = record q { state = drop_entry d q.state }
 
 abbrev pub with_idle : Bool → QueueFacts → QueueFacts
-with_idle idle q = record q { state = record q.state { idle = idle } }
+with_idle idle q = record q { state = set_idle idle q.state }
 
 -- ---- what calls require
 
--- the object is queued somewhere, or this is the queue that an insert by p puts it into, and has no entry of it
+-- an insert of the object by p may be called here: it is queued somewhere, or this is the queue that the insert puts it
+-- into, and has no entry of it
 abbrev pub MayInsert : QueueFacts → ObjectFacts → CpuNo → Type 0
 MayInsert q o p =
     is_queued o.state ≡ false → (queue_for o.state.target p ≡ q.cpu) × (holds_dpc o.dpc q.state.pending ≡ false)
@@ -61,8 +78,8 @@ abbrev pub first_entry : Part → QueueFacts → Option (DpcNo × ℕ)
 first_entry part q = option_map (λ x. (x.dpc, x.number)) (first_dpc part q.state.pending)
 
 abbrev pub class_in : Part → Bool → Option ℕ
-class_in ThreadedPart asks = Some 0
-class_in OrdinaryPart asks = if asks then Some 2 else None
+class_in ThreadedPart asks = Some threaded_class
+class_in OrdinaryPart asks = if asks then Some dispatch_class else None
 
 -- whether an ordinary insert of the object by p asks for a dispatch interrupt
 abbrev pub asks_dispatch : QueueFacts → ObjectFacts → CpuNo → Bool

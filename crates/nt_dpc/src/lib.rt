@@ -18,8 +18,6 @@ mod entries;
 mod laws;
 mod objects;
 mod queues;
-#[cfg(test)]
-mod tests;
 
 pub use laws::{
     ask_is_the_events, first_by_number, object_calls_are_events, one_entry_each,

@@ -1,7 +1,7 @@
 //! DPC objects.
 ghost use Rattle.std.specs.Prelude.{◌≡◌};
 ghost use Rattle.nt_event.specs.Objects.{is_queued, queue_for};
-ghost use Rattle.nt_dpc.specs.Objects.{entry_of, new_object, queued_at, standing_cpu, unqueued};
+ghost use Rattle.nt_dpc.specs.Objects.{entry_of, new_object, queued_at, standing_cpu, unqueued, with_importance, with_target};
 
 use nt_event::{CpuNo, DpcNo, Importance, Insert, Part, Standing};
 use std::marker::Model;
@@ -45,14 +45,14 @@ impl DpcObject {
 
     /// Sets the importance, which counts from the next insert on (profile). KeSetImportanceDpc.
     pub fn set_importance(&mut self, i: Importance)
-        ensures { self.new ≡ record self.old { state = record self.old.state { importance = i } } }
+        ensures { self.new ≡ record self.old { state = with_importance i self.old.state } }
     {
         self.importance = i;
     }
 
     /// Sets the target processor, or none, which counts from the next insert on (profile). KeSetTargetProcessorDpc.
     pub fn set_target(&mut self, t: Option<CpuNo>)
-        ensures { self.new ≡ record self.old { state = record self.old.state { target = t } } }
+        ensures { self.new ≡ record self.old { state = with_target t self.old.state } }
     {
         self.target = t;
     }

@@ -9,7 +9,7 @@ ghost use Rattle.nt_dpc.specs.Queues.{MayInsert, StandsHereOrNowhere, asked_clas
 
 use crate::entries;
 use crate::objects::DpcObject;
-use nt_event::{CpuNo, DpcNo, Insert, Part, Standing};
+use nt_event::{CpuNo, DpcNo, Insert, Part, Standing, class};
 use std::alloc::{AllocError, Global};
 use std::marker::Model;
 
@@ -111,7 +111,7 @@ impl DpcQueue {
         match d.part() {
             Part::Threaded => Inserted {
                 yes: true,
-                ask: Some(0),
+                ask: Some(class::THREADED),
                 depth,
             },
             Part::Ordinary => {
@@ -120,7 +120,7 @@ impl DpcQueue {
                 let asks = entries::insert_asks(d.importance(), own, depth > self.limit, self.idle);
                 Inserted {
                     yes: true,
-                    ask: if asks { Some(2) } else { None },
+                    ask: if asks { Some(class::DISPATCH) } else { None },
                     depth,
                 }
             }

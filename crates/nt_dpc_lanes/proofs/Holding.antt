@@ -28,6 +28,7 @@ pub holds_without_other : (d e : DpcNo) (xs : List Insert) → eqb d.0 e.0 ≡ f
 holds_without_other d e [] h = refl
 holds_without_other d e (x ∷ xs) h = go d e x xs h (holds_without_other d e xs h) (is_of_dpc d x) refl
   where
-    go : (d e : DpcNo) (x : Insert) (xs : List Insert) → eqb d.0 e.0 ≡ false → holds_dpc e (without_dpc d xs) ≡ holds_dpc e xs → (b : Bool) → is_of_dpc d x ≡ b → holds_dpc e (without_dpc d (x ∷ xs)) ≡ holds_dpc e (x ∷ xs)
+    go : (d e : DpcNo) (x : Insert) (xs : List Insert) → eqb d.0 e.0 ≡ false → holds_dpc e (without_dpc d xs) ≡ holds_dpc e xs → (b : Bool) →
+        is_of_dpc d x ≡ b → holds_dpc e (without_dpc d (x ∷ xs)) ≡ holds_dpc e (x ∷ xs)
     go d e x xs h rest true k = rw (without_cons_yes d x xs k, apart d e x h k) rest
     go d e x xs h rest false k = rw (without_cons_no d x xs k) (ap (λ (b : Bool). is_of_dpc e x || b) rest)

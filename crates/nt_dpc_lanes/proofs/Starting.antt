@@ -1,5 +1,6 @@
 -- The objects and queues of a script before any event.
-use Rattle.std.proofs.Common.{inl, inr, false, List, ap, arith, add-one, length, map, refl, subst, suc, sym, zero, get_or, ℕ, ◌+◌, ◌++◌, ◌<◌, ◌∙◌, ◌∷◌, ◌≡◌, ◌&&◌, []}
+use Rattle.std.proofs.Common.{inl, inr, false, List, ap, arith, add-one, length, map, refl, subst, suc, sym, zero, get_or, ℕ, ◌+◌, ◌++◌, ◌<◌, ◌∙◌, ◌∷◌, ◌≡◌}
+use Rattle.std.proofs.Common.{◌&&◌, []}
 use Rattle.std.specs.Prelude.{IfSome, slice_get}
 use Rattle.std.proofs.lemmas.Bool.{cases_lt}
 use Rattle.std.proofs.lemmas.List.{get_or_past}
@@ -51,7 +52,8 @@ pub new_is_start : (s : Script) → lanes_of s (new_objects s (length s.dpcs)) (
 new_is_start s = λ i. record { script = s; objects = objects i; queues = queues i }
   where
     objects : map (λ (o : ObjectFacts). o.state) (new_objects s (length s.dpcs)) ≡ table (length s.dpcs) (λ d. object_of (dpc d) [])
-    objects = map_table_from (λ (o : ObjectFacts). o.state) 0 (length s.dpcs) (λ d. new_object (dpc d) (threaded_on s && is_declared_threaded (slice_get s.dpcs d)))
+    objects = map_table_from (λ (o : ObjectFacts). o.state) 0 (length s.dpcs)
+        (λ d. new_object (dpc d) (threaded_on s && is_declared_threaded (slice_get s.dpcs d)))
 
     queues : map (λ (q : QueueFacts). q.state) (new_queues s s.cpus) ≡ table s.cpus (λ p. queue_of s (cpu p) [])
     queues = map_table_from (λ (q : QueueFacts). q.state) 0 s.cpus (λ p. new_queue (cpu p) (length s.dpcs) (depth_limit s))
@@ -68,7 +70,8 @@ agree_start s =
       objects = length-table_from 0 (length s.dpcs) (λ d. object_of (dpc d) []);
       queues = length-table_from 0 s.cpus (λ p. queue_of s (cpu p) []);
       target = λ d. subst (λ (o : ObjectState). IfSome o.target (λ p. p.0 < s.cpus)) (sym (start_objects s d)) tt;
-      stands = λ d p. ap (λ (q : QueueState). holds_dpc d q.pending) (start_queues s p) ∙ ap (λ (o : ObjectState). is_queue (stand_of o) p) (sym (start_objects s d));
+      stands = λ d p. ap (λ (q : QueueState). holds_dpc d q.pending) (start_queues s p)
+          ∙ ap (λ (o : ObjectState). is_queue (stand_of o) p) (sym (start_objects s d));
     }
 
 pub kept_start : (s : Script) → AreKept s (new_objects s (length s.dpcs)) (new_queues s s.cpus)

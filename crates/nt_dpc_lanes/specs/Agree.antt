@@ -12,13 +12,14 @@ use Rattle.nt_dpc.specs.Objects.{ObjectFacts, new_object}
 use Rattle.nt_dpc.specs.Queues.{QueueFacts, holds_dpc, new_queue}
 use Rattle.nt_dpc_lanes.specs.Lanes.{DpcLanes, queue_in}
 
--- each object and each processor of the script has its state, each target is a processor of the script, and a queue has an
--- entry of an object exactly where the object stands in it
+-- each object and each processor of the script has its state, each target is a processor of the script, and a queue has
+-- an entry of an object exactly where the object stands in it
 pub record Agrees (x : DpcLanes) : Type 0 where
   pub objects : length x.objects ≡ length x.script.dpcs
   pub queues : length x.queues ≡ x.script.cpus
   pub target : (d : DpcNo) → IfSome (object_in x.objects d).target (λ p. p.0 < x.script.cpus)
-  pub stands : (d : DpcNo) (p : CpuNo) → holds_dpc d (queue_in x.queues p).pending ≡ is_queue (option_map (λ at. at.queue) (object_in x.objects d).standing) p
+  pub stands : (d : DpcNo) (p : CpuNo) → holds_dpc d (queue_in x.queues p).pending ≡ is_queue
+      (option_map (λ at. at.queue) (object_in x.objects d).standing) p
 
 abbrev pub object_facts : List ObjectFacts → DpcNo → ObjectFacts
 object_facts os d = get_or os d.0 (new_object (dpc 0) false)

@@ -1,6 +1,6 @@
 //! What an event changes of objects and queues.
 ghost use Rattle.std.specs.Prelude.{◌≡◌};
-ghost use Rattle.nt_dpc_lanes.specs.Changes.{begin_change, call_change, change_of as change_in};
+ghost use Rattle.nt_dpc_lanes.specs.Changes.{begin_change, call_change, change_of as change_in, change_where as change_if};
 
 use nt_event::{Begun, Command, CpuNo, DpcNo, Importance, Part, Reply, What};
 
@@ -31,26 +31,59 @@ pub fn change_of(what: &What) -> Change
 {
     match what {
         What::Call { command, reply, .. } => of_call(command, reply),
-        What::Fire {
-            dpc,
-            reply: Reply::Yes,
-        } => Change::Insert(*dpc),
         What::Begin { begun, .. } => of_begin(begun),
-        What::Rest => Change::Rest,
+        What::Fire { dpc, reply } => change_where(reply.is_yes(), Change::Insert(*dpc)),
         What::Switch { .. } => Change::Run,
-        _ => Change::Nothing,
+        What::Rest => Change::Rest,
+        What::Look { .. }
+        | What::Normal { .. }
+        | What::End { .. }
+        | What::Expire { .. }
+        | What::Clean { .. }
+        | What::Rewait { .. }
+        | What::Flush { .. }
+        | What::Gone { .. } => Change::Nothing,
     }
+}
+
+/// The change where the test holds, else none.
+fn change_where(holds: bool, change: Change) -> Change
+    ensures { result ≡ change_if holds change }
+{
+    if holds { change } else { Change::Nothing }
 }
 
 fn of_call(command: &Command, reply: &Reply) -> Change
     ensures { result ≡ call_change command.now reply.now }
 {
-    match (command, reply) {
-        (Command::Queue(d), Reply::Yes) => Change::Insert(*d),
-        (Command::Unqueue(d), Reply::Yes) => Change::Remove(*d),
-        (Command::SetImportance(d, i), Reply::Done) => Change::SetImportance(*d, *i),
-        (Command::SetTarget(d, t), Reply::Done) => Change::SetTarget(*d, *t),
-        _ => Change::Nothing,
+    match command {
+        Command::Queue(d) => change_where(reply.is_yes(), Change::Insert(*d)),
+        Command::Unqueue(d) => change_where(reply.is_yes(), Change::Remove(*d)),
+        Command::SetImportance(d, i) => change_where(
+            reply.is_done(),
+            Change::SetImportance(*d, *i),
+        ),
+        Command::SetTarget(d, t) => change_where(reply.is_done(), Change::SetTarget(*d, *t)),
+        Command::Raise(_)
+        | Command::Lower(_)
+        | Command::SetTimer(_, _, _)
+        | Command::CancelTimer(_)
+        | Command::InsertApc(_)
+        | Command::RemoveApc(_)
+        | Command::EnterCrit
+        | Command::EnterGuard
+        | Command::LeaveCrit
+        | Command::LeaveGuard
+        | Command::StartWait(_, _)
+        | Command::Delay(_, _, _)
+        | Command::Release(_)
+        | Command::Alert(_, _)
+        | Command::TestAlert(_)
+        | Command::Interrupt(_, _)
+        | Command::Clock(_)
+        | Command::ToUser
+        | Command::Yield
+        | Command::Note(_) => Change::Nothing,
     }
 }
 
@@ -60,6 +93,6 @@ fn of_begin(begun: &Begun) -> Change
     match begun {
         Begun::Dpc(d) => Change::Take(Part::Ordinary, *d),
         Begun::Threaded(d) => Change::Take(Part::Threaded, *d),
-        _ => Change::Nothing,
+        Begun::Int(_) | Begun::Apc(_) => Change::Nothing,
     }
 }

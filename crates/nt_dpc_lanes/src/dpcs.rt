@@ -6,6 +6,8 @@ ghost use Rattle.nt_event.specs.Queues.{first_dpc};
 ghost use Rattle.nt_event.specs.Requests.{queue_asks};
 ghost use Rattle.nt_event.specs.Script.{fits, has_cpu, has_dpc};
 ghost use Rattle.nt_dpc.specs.Laws.{asks_on};
+ghost use Rattle.nt_dpc.specs.Objects.{with_importance, with_target};
+ghost use Rattle.nt_dpc.specs.Queues.{set_idle};
 ghost use Rattle.nt_dpc_lanes.specs.Agree.{Agrees, IsObjectOf, IsQueueOf};
 ghost use Rattle.nt_dpc_lanes.specs.Changes.{MayChange, changed, inserted_at, removed_at, removed_from, with_object, with_queue};
 ghost use Rattle.nt_dpc_lanes.specs.Lanes.{MayLeave, left, queue_in, start};
@@ -186,7 +188,7 @@ impl<'s> Dpcs<'s> {
 
     fn set_importance(&mut self, d: DpcNo, i: Importance)
         requires { IsTrue (has_dpc self.old.script d) }
-        ensures { self.new ≡ with_object d (record (object_in self.old.objects d) { importance = i }) self.old }
+        ensures { self.new ≡ with_object d (with_importance i (object_in self.old.objects d)) self.old }
     {
         pairs::set_importance(&mut self.objects, d, i);
     }
@@ -194,14 +196,14 @@ impl<'s> Dpcs<'s> {
     fn set_target(&mut self, d: DpcNo, t: Option<CpuNo>)
         requires object { IsTrue (has_dpc self.old.script d) }
         requires cpu { IfSome t (λ p. IsTrue (has_cpu self.old.script p)) }
-        ensures { self.new ≡ with_object d (record (object_in self.old.objects d) { target = t }) self.old }
+        ensures { self.new ≡ with_object d (with_target t (object_in self.old.objects d)) self.old }
     {
         pairs::set_target(&mut self.objects, d, t);
     }
 
     fn set_idle(&mut self, p: CpuNo, idle: bool)
         requires { IsTrue (has_cpu self.old.script p) }
-        ensures { self.new ≡ with_queue p (record (queue_in self.old.queues p) { idle = idle }) self.old }
+        ensures { self.new ≡ with_queue p (set_idle idle (queue_in self.old.queues p)) self.old }
     {
         pairs::set_idle(&mut self.queues, p, idle);
     }

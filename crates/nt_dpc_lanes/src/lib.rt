@@ -16,7 +16,5 @@ mod changes;
 mod dpcs;
 mod making;
 mod pairs;
-#[cfg(test)]
-mod tests;
 
 pub use dpcs::Dpcs;

@@ -1,7 +1,7 @@
 //! Changes of an object and a queue, each at its place in its list.
 ghost use Rattle.std.specs.Prelude.{◌≡◌, ◌<◌, false, true, option_map, set, Some, vec_len};
 ghost use Rattle.nt_event.specs.Objects.{is_queued};
-ghost use Rattle.nt_dpc.specs.Objects.{entry_of, queued_at, unqueued};
+ghost use Rattle.nt_dpc.specs.Objects.{entry_of, queued_at, unqueued, with_importance, with_target};
 ghost use Rattle.nt_dpc.specs.Queues.{MayInsert, StandsHereOrNowhere, first_entry, with_entry, with_idle, without_entry};
 ghost use Rattle.nt_dpc_lanes.specs.Agree.{object_facts, queue_facts};
 
@@ -59,7 +59,7 @@ pub fn take(
 /// Sets the importance of the object.
 pub fn set_importance(objects: &mut Vec<DpcObject>, d: DpcNo, i: Importance)
     requires { d.0 < vec_len objects.old }
-    ensures { objects.new.items ≡ set objects.old.items d.0 (record (object_facts objects.old.items d) { state = record (object_facts objects.old.items d).state { importance = i } }) }
+    ensures { objects.new.items ≡ set objects.old.items d.0 (record (object_facts objects.old.items d) { state = with_importance i (object_facts objects.old.items d).state }) }
 {
     objects[d.0 as usize].set_importance(i);
 }
@@ -67,7 +67,7 @@ pub fn set_importance(objects: &mut Vec<DpcObject>, d: DpcNo, i: Importance)
 /// Sets the target of the object.
 pub fn set_target(objects: &mut Vec<DpcObject>, d: DpcNo, t: Option<CpuNo>)
     requires { d.0 < vec_len objects.old }
-    ensures { objects.new.items ≡ set objects.old.items d.0 (record (object_facts objects.old.items d) { state = record (object_facts objects.old.items d).state { target = t } }) }
+    ensures { objects.new.items ≡ set objects.old.items d.0 (record (object_facts objects.old.items d) { state = with_target t (object_facts objects.old.items d).state }) }
 {
     objects[d.0 as usize].set_target(t);
 }

@@ -31,7 +31,8 @@ kept_contains test [] x h = contains_none x h
 kept_contains {X} test (y ∷ xs) x h =
     go (test y) refl h (λ k. let r = kept_contains test xs x k in (contains_there y xs x r.0, r.1))
   where
-    go : (b : Bool) → test y ≡ b → Contains (cond b (y ∷ filter test xs) (filter test xs)) x → (Contains (filter test xs) x → Contains (y ∷ xs) x × (test x ≡ true)) → Contains (y ∷ xs) x × (test x ≡ true)
+    go : (b : Bool) → test y ≡ b → Contains (cond b (y ∷ filter test xs) (filter test xs)) x →
+        (Contains (filter test xs) x → Contains (y ∷ xs) x × (test x ≡ true)) → Contains (y ∷ xs) x × (test x ≡ true)
     go false e k tail = tail k
     go true e k tail =
         elim (contains_cases y (filter test xs) x k) [
@@ -72,7 +73,8 @@ found_contains test [] x h = cc
 found_contains {X} test (y ∷ xs) x h =
     go (test y) refl h (λ k. let r = found_contains test xs x k in (contains_there y xs x r.0, r.1))
   where
-    go : (b : Bool) → test y ≡ b → cond b (Some y) (find test xs) ≡ Some x → (find test xs ≡ Some x → Contains (y ∷ xs) x × (test x ≡ true)) → Contains (y ∷ xs) x × (test x ≡ true)
+    go : (b : Bool) → test y ≡ b → cond b (Some y) (find test xs) ≡ Some x → (find test xs ≡ Some x → Contains (y ∷ xs) x × (test x ≡ true)) →
+        Contains (y ∷ xs) x × (test x ≡ true)
     go true e k ih = let same : y ≡ x = cc in (subst (Contains (y ∷ xs)) same (contains_here y xs), subst (λ (z : X). test z ≡ true) same e)
     go false e k ih = ih k
 

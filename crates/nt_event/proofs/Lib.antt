@@ -3,3 +3,6 @@ pub mod Moves
 pub mod Options
 pub mod Elements
 pub mod Ready
+pub mod Booleans
+pub mod Reversed
+pub mod Written

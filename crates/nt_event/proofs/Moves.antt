@@ -20,22 +20,34 @@ use Rattle.nt_event.proofs.Tables.{get_or-table, table-same}
 
 -- ---- lanes
 
-pub object_moves : (s : Script) (e : Event) (past : List Event) → objects_at s (e ∷ past) ≡ table (length s.dpcs) (λ d. object_after (dpc d) (length past) e.cpu e.what (object_in (objects_at s past) (dpc d)))
+pub object_moves : (s : Script) (e : Event) (past : List Event) → objects_at s (e ∷ past)
+    ≡ table (length s.dpcs) (λ d. object_after (dpc d) (length past) e.cpu e.what (object_in (objects_at s past) (dpc d)))
 object_moves s e past =
     table-same _ _ _ (λ d h. ap (object_after (dpc d) (length past) e.cpu e.what) (sym (get_or-table _ d (λ d. object_of (dpc d) past) start_object h)))
 
-pub queue_moves : (s : Script) (e : Event) (past : List Event) → table s.cpus (λ p. queue_of s (cpu p) (e ∷ past)) ≡ table s.cpus (λ p. queue_after s (cpu p) (length past) e.cpu e.what (objects_at s past) (queue_at (lanes_at s past) (cpu p)))
+pub queue_moves : (s : Script) (e : Event) (past : List Event) → table s.cpus (λ p. queue_of s (cpu p) (e ∷ past))
+    ≡ table s.cpus (λ p. queue_after s (cpu p) (length past) e.cpu e.what (objects_at s past) (queue_at (lanes_at s past) (cpu p)))
 queue_moves s e past =
-    table-same _ _ _ (λ p h. ap (queue_after s (cpu p) (length past) e.cpu e.what (objects_at s past)) (sym (get_or-table _ p (λ p. queue_of s (cpu p) past) start_queue h)))
+    table-same _ _ _ (λ p h. ap (queue_after s (cpu p) (length past) e.cpu e.what (objects_at s past))
+    (sym (get_or-table _ p (λ p. queue_of s (cpu p) past) start_queue h)))
 
-pub thread_moves : (s : Script) (e : Event) (past : List Event) → table (length s.threads) (λ t. facts s (thread t) (e ∷ past)) ≡ table (length s.threads) (λ t. facts_after s (thread t) (length past) (stand_at s e.cpu past) e (facts_at (lanes_at s past) (thread t)))
+pub thread_moves : (s : Script) (e : Event) (past : List Event) → table (length s.threads) (λ t. facts s (thread t) (e ∷ past))
+    ≡ table (length s.threads) (λ t. facts_after s (thread t) (length past) (stand_at s e.cpu past) e (facts_at (lanes_at s past) (thread t)))
 thread_moves s e past =
-    table-same _ _ _ (λ t h. ap (facts_after s (thread t) (length past) (stand_at s e.cpu past) e) (sym (get_or-table _ t (λ t. facts s (thread t) past) start_facts h)))
+    table-same _ _ _ (λ t h. ap (facts_after s (thread t) (length past) (stand_at s e.cpu past) e)
+    (sym (get_or-table _ t (λ t. facts s (thread t) past) start_facts h)))
 
-pub timers_move : (s : Script) (e : Event) (past : List Event) → timers_at s (e ∷ past) ≡ timers_after s (length past) (stand_at s e.cpu past) e (timers_at s past)
+pub timers_move : (s : Script) (e : Event) (past : List Event) → timers_at s (e ∷ past)
+    ≡ timers_after s (length past) (stand_at s e.cpu past) e (timers_at s past)
 timers_move s e past =
-    let t : table (length s.timers) (λ t. timer_setting (timer t) (e ∷ past)) ≡ table (length s.timers) (λ t. timer_after (timer t) (length past) (time past) e.what (setting_in (timers_at s past).timers t)) = table-same _ _ _ (λ t h. ap (timer_after (timer t) (length past) (time past) e.what) (sym (get_or-table _ t (λ t. timer_setting (timer t) past) None h))) in
-    let d : table (length s.threads) (λ t. delay_setting s (thread t) (e ∷ past)) ≡ table (length s.threads) (λ t. delay_after s (thread t) (length past) (time past) (stand_at s e.cpu past).again e (setting_in (timers_at s past).delays t)) = table-same _ _ _ (λ t h. ap (delay_after s (thread t) (length past) (time past) (stand_at s e.cpu past).again e) (sym (get_or-table _ t (λ t. delay_setting s (thread t) past) None h))) in
+    let t : table (length s.timers) (λ t. timer_setting (timer t) (e ∷ past))
+    ≡ table (length s.timers) (λ t. timer_after (timer t) (length past) (time past) e.what (setting_in (timers_at s past).timers t)) = table-same _ _ _
+    (λ t h. ap (timer_after (timer t) (length past) (time past) e.what) (sym (get_or-table _ t (λ t. timer_setting (timer t) past) None h))) in
+    let d : table (length s.threads) (λ t. delay_setting s (thread t) (e ∷ past))
+    ≡ table (length s.threads) (λ t. delay_after s (thread t) (length past) (time past) (stand_at s e.cpu past).again e
+    (setting_in (timers_at s past).delays t)) = table-same _ _ _
+    (λ t h. ap (delay_after s (thread t) (length past) (time past) (stand_at s e.cpu past).again e)
+    (sym (get_or-table _ t (λ t. delay_setting s (thread t) past) None h))) in
     λ i. record { now = time_after e.what (time past); timers = t i; delays = d i }
 
 pub lanes_move : (s : Script) (e : Event) (past : List Event) → lanes_at s (e ∷ past) ≡ lanes_after s (length past) (stand_at s e.cpu past) e (lanes_at s past)
@@ -44,7 +56,8 @@ lanes_move s e past =
 
 -- ---- a processor
 
-pub frames_move : (s : Script) (p : CpuNo) (e : Event) (past : List Event) → is_of e p ≡ true → frames_of s p (e ∷ past) ≡ frames_after s (length past) (due_of e.what (time past)) e (frames_of s p past)
+pub frames_move : (s : Script) (p : CpuNo) (e : Event) (past : List Event) → is_of e p ≡ true → frames_of s p (e ∷ past)
+    ≡ frames_after s (length past) (due_of e.what (time past)) e (frames_of s p past)
 frames_move s p e past h =
     λ i. record { own = f i; running = r i; threads = t i }
   where
@@ -54,8 +67,11 @@ frames_move s p e past h =
     r : running p (e ∷ past) ≡ running_after e.what (running p past)
     r = rw h
 
-    t : table (length s.threads) (λ t. thread_frames s p (thread t) (e ∷ past)) ≡ table (length s.threads) (λ t. thread_if (is_by e (thread t)) s (length past) (due_of e.what (time past)) e.what (frames_in (frames_of s p past).threads (thread t)))
-    t = simp h (table-same _ _ _ (λ t l. ap (thread_if (is_by e (thread t)) s (length past) (due_of e.what (time past)) e.what) (sym (get_or-table _ t (λ t. thread_frames s p (thread t) past) [] l))))
+    t : table (length s.threads) (λ t. thread_frames s p (thread t) (e ∷ past))
+        ≡ table (length s.threads) (λ t. thread_if (is_by e (thread t)) s (length past) (due_of e.what (time past)) e.what
+        (frames_in (frames_of s p past).threads (thread t)))
+    t = simp h (table-same _ _ _ (λ t l. ap (thread_if (is_by e (thread t)) s (length past) (due_of e.what (time past)) e.what)
+        (sym (get_or-table _ t (λ t. thread_frames s p (thread t) past) [] l))))
 
 pub frames_stay : (s : Script) (p : CpuNo) (e : Event) (past : List Event) → is_of e p ≡ false → frames_of s p (e ∷ past) ≡ frames_of s p past
 frames_stay s p e past h = simp h
@@ -63,7 +79,8 @@ frames_stay s p e past h = simp h
 pub own_stays : (s : Script) (p : CpuNo) (e : Event) (past : List Event) → is_of e p ≡ false → own_of s p (e ∷ past) ≡ own_of s p past
 own_stays s p e past h = simp h
 
-pub own_moves_here : (s : Script) (p : CpuNo) (e : Event) (past : List Event) → is_of e p ≡ true → own_of s p (e ∷ past) ≡ own_after_event s (length past) (due_of e.what (time past)) e (λ c. asks s p c e past) (λ c. told s p c e past) (own_of s p past)
+pub own_moves_here : (s : Script) (p : CpuNo) (e : Event) (past : List Event) → is_of e p ≡ true → own_of s p (e ∷ past)
+    ≡ own_after_event s (length past) (due_of e.what (time past)) e (λ c. asks s p c e past) (λ c. told s p c e past) (own_of s p past)
 own_moves_here s p e past h = λ i. record {
   made = m i;
   frames = frames_move s p e past h i;
@@ -81,14 +98,19 @@ own_moves_here s p e past h = λ i. record {
     seen_here : (c : ℕ) → seen s p c (e ∷ past) ≡ seen_after (length past) e.what c (asks s p c e past) (told s p c e past) (seen s p c past)
     seen_here c = rw h
 
-    n : table 16 (λ c. seen s p c (e ∷ past)) ≡ table 16 (λ c. seen_after (length past) e.what c (asks s p c e past) (told s p c e past) (value_at (own_of s p past).seen c))
-    n = table-same _ _ _ (λ c l. seen_here c ∙ ap (seen_after (length past) e.what c (asks s p c e past) (told s p c e past)) (sym (get_or-table 16 c (λ c. seen s p c past) 0 l)))
+    n : table 16 (λ c. seen s p c (e ∷ past)) ≡ table 16
+        (λ c. seen_after (length past) e.what c (asks s p c e past) (told s p c e past) (value_at (own_of s p past).seen c))
+    n = table-same _ _ _ (λ c l. seen_here c ∙ ap (seen_after (length past) e.what c (asks s p c e past) (told s p c e past))
+        (sym (get_or-table 16 c (λ c. seen s p c past) 0 l)))
 
     served_here : (c : ℕ) → served s p c (e ∷ past) ≡ served_after e.what c (seen s p c (e ∷ past)) (served s p c past)
     served_here c = rw h
 
-    v : table 16 (λ c. served s p c (e ∷ past)) ≡ table 16 (λ c. served_after e.what c (seen_after (length past) e.what c (asks s p c e past) (told s p c e past) (value_at (own_of s p past).seen c)) (value_at (own_of s p past).served c))
-    v = table-same _ _ _ (λ c l. served_here c ∙ (ap (λ (x : ℕ). served_after e.what c x (served s p c past)) (seen_here c) ∙ rw (get_or-table 16 c (λ c. seen s p c past) 0 l, get_or-table 16 c (λ c. served s p c past) 0 l)))
+    v : table 16 (λ c. served s p c (e ∷ past)) ≡ table 16
+        (λ c. served_after e.what c (seen_after (length past) e.what c (asks s p c e past) (told s p c e past) (value_at (own_of s p past).seen c))
+        (value_at (own_of s p past).served c))
+    v = table-same _ _ _ (λ c l. served_here c ∙ (ap (λ (x : ℕ). served_after e.what c x (served s p c past)) (seen_here c)
+        ∙ rw (get_or-table 16 c (λ c. seen s p c past) 0 l, get_or-table 16 c (λ c. served s p c past) 0 l)))
 
     d : rested p (e ∷ past) ≡ is_rest e.what
     d = rw h
@@ -103,9 +125,13 @@ own_moves_here s p e past h = λ i. record {
     w = rw h
 
 -- an event of p changes what p keeps as said, and another event doesn't
-pub own_moves : (s : Script) (p : CpuNo) (e : Event) (past : List Event) → own_of s p (e ∷ past) ≡ (if is_of e p then own_after_event s (length past) (due_of e.what (time past)) e (λ c. asks s p c e past) (λ c. told s p c e past) (own_of s p past) else own_of s p past)
+pub own_moves : (s : Script) (p : CpuNo) (e : Event) (past : List Event) → own_of s p (e ∷ past)
+    ≡ (if is_of e p then own_after_event s (length past) (due_of e.what (time past)) e (λ c. asks s p c e past) (λ c. told s p c e past) (own_of s p past)
+    else own_of s p past)
 own_moves s p e past = go (is_of e p) refl
   where
-    go : (b : Bool) → is_of e p ≡ b → own_of s p (e ∷ past) ≡ (if b then own_after_event s (length past) (due_of e.what (time past)) e (λ c. asks s p c e past) (λ c. told s p c e past) (own_of s p past) else own_of s p past)
+    go : (b : Bool) → is_of e p ≡ b → own_of s p (e ∷ past)
+        ≡ (if b then own_after_event s (length past) (due_of e.what (time past)) e (λ c. asks s p c e past) (λ c. told s p c e past) (own_of s p past)
+        else own_of s p past)
     go true h = own_moves_here s p e past h
     go false h = own_stays s p e past h

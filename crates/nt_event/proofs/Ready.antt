@@ -34,9 +34,10 @@ use Rattle.nt_event.specs.declared.scripts.Script.{Script}
 use Rattle.nt_event.specs.declared.scripts.ThreadDecl.{ThreadDecl}
 use Rattle.nt_event.specs.Commands.{needs_lane}
 use Rattle.nt_event.specs.Frames.{Frames, frames_in, frames_of, innermost, running, thread_part}
-use Rattle.nt_event.specs.Jobs.{begin_first, call_task, command_task, end_task, fire_task, frame_task, has_normal, idle_task, interrupt_classes, interrupt_task, is_after, may_apcs, may_drain, may_interrupt, may_switch, may_take, may_threaded, must, must_task, next_ready, next_what, normal_task, ready, ready_from, rests, rewait_reply, rewait_task, rundown_task, switch_event, task, task_event}
+use Rattle.nt_event.specs.Jobs.{begin_first, call_task, command_task, end_task, fire_task, frame_task, has_normal, idle_task, interrupt_task, is_after, may_apcs, may_drain, may_interrupt, may_switch, may_take, may_threaded, must, must_task, next_ready, next_what, normal_task, ready, ready_from, rests, rewait_reply, rewait_task, rundown_task, switch_event, task, task_event}
+use Rattle.nt_event.specs.Classes.{interrupt_classes}
 use Rattle.nt_event.specs.Lanes.{Lanes, facts_at, lanes_at, queue_at}
-use Rattle.nt_event.specs.Own.{Own, own_of, rested, standing_in, took}
+use Rattle.nt_event.specs.Own.{Own, own_of, rested, stand_in, took}
 use Rattle.nt_event.specs.Regions.{stand_of}
 use Rattle.nt_event.specs.Requests.{asked, asks}
 use Rattle.nt_event.specs.Robin.{first_cpu, go_on_turn, is_behind, look_value, look_values, robin, robin_at, robin_from, robin_of, switch_or_next}
@@ -51,14 +52,16 @@ abbrev AllReady : Script → CpuNo → Lanes → List ThreadNo → Type 0
 AllReady s p l [] = Unit {0}
 AllReady s p l (t ∷ ts) = (may_take s p t l ≡ true) × AllReady s p l ts
 
-takes_ready : (s : Script) (p : CpuNo) (l : Lanes) (n : ℕ) (x : ThreadDecl) → slice_get s.threads n ≡ Some x → ((x.cpu.0 == p.0) && is_ready (facts_at l (thread n))) ≡ true → may_take s p (thread n) l ≡ true
+takes_ready : (s : Script) (p : CpuNo) (l : Lanes) (n : ℕ) (x : ThreadDecl) → slice_get s.threads n ≡ Some x →
+    ((x.cpu.0 == p.0) && is_ready (facts_at l (thread n))) ≡ true → may_take s p (thread n) l ≡ true
 takes_ready s p l n x e h =
     let k = both (x.cpu.0 == p.0) (is_ready (facts_at l (thread n))) h in
     let within : nat_lt n (length s.threads) ≡ true = lt-ltb n (length s.threads) (slice_get_within s.threads n x e) in
     let own : cpu_of s (thread n) ≡ x.cpu = ap (λ (o : Option ThreadDecl). option_map_or (λ (y : ThreadDecl). y.cpu) o (cpu 0)) e in
     rw (within, own, k.0, k.1) refl
 
-ready_all : (s : Script) (p : CpuNo) (l : Lanes) (n : ℕ) (xs : List ThreadDecl) → ((i : ℕ) → slice_get s.threads (n + i) ≡ slice_get xs i) → AllReady s p l (ready_from p n xs l)
+ready_all : (s : Script) (p : CpuNo) (l : Lanes) (n : ℕ) (xs : List ThreadDecl) → ((i : ℕ) → slice_get s.threads (n + i) ≡ slice_get xs i) →
+    AllReady s p l (ready_from p n xs l)
 ready_all s p l n [] h = tt
 ready_all s p l n (x ∷ xs) h =
     go ((x.cpu.0 == p.0) && is_ready (facts_at l (thread n))) refl (ready_all s p l (suc n) xs next)
@@ -69,11 +72,13 @@ ready_all s p l n (x ∷ xs) h =
     here : slice_get s.threads n ≡ Some x
     here = let e : n + 0 ≡ n = omega arith in rw e at (h 0)
 
-    go : (b : Bool) → ((x.cpu.0 == p.0) && is_ready (facts_at l (thread n))) ≡ b → AllReady s p l (ready_from p (suc n) xs l) → AllReady s p l (if b then (thread n ∷ ready_from p (suc n) xs l) else ready_from p (suc n) xs l)
+    go : (b : Bool) → ((x.cpu.0 == p.0) && is_ready (facts_at l (thread n))) ≡ b → AllReady s p l (ready_from p (suc n) xs l) →
+        AllReady s p l (if b then (thread n ∷ ready_from p (suc n) xs l) else ready_from p (suc n) xs l)
     go true e more = (takes_ready s p l n x here e, more)
     go false e more = more
 
-find_ready : (s : Script) (p : CpuNo) (l : Lanes) (test : ThreadNo → Bool) (ts : List ThreadNo) → AllReady s p l ts → Holds (λ t. may_take s p t l ≡ true) (find test ts)
+find_ready : (s : Script) (p : CpuNo) (l : Lanes) (test : ThreadNo → Bool) (ts : List ThreadNo) → AllReady s p l ts →
+    Holds (λ t. may_take s p t l ≡ true) (find test ts)
 find_ready s p l test [] h = tt
 find_ready s p l test (t ∷ ts) h = go (test t) (find_ready s p l test ts h.1)
   where
@@ -89,4 +94,5 @@ head_ready s p l (t ∷ ts) h = h.0
 pub next_ready_taken : (s : Script) (p : CpuNo) (last : Option ThreadNo) (l : Lanes) → Holds (λ t. may_take s p t l ≡ true) (next_ready s p last l)
 next_ready_taken s p last l =
     let all : AllReady s p l (ready s p l) = ready_all s p l 0 s.threads (λ i. let e : 0 + i ≡ i = omega arith in rw e refl) in
-    holds_or (λ t. may_take s p t l ≡ true) (find (is_after last) (ready s p l)) (head_of (ready s p l)) (find_ready s p l (is_after last) (ready s p l) all) (λ e. head_ready s p l (ready s p l) all)
+    holds_or (λ t. may_take s p t l ≡ true) (find (is_after last) (ready s p l)) (head_of (ready s p l)) (find_ready s p l (is_after last) (ready s p l) all)
+    (λ e. head_ready s p l (ready s p l) all)

@@ -39,12 +39,14 @@ is_table xs n f l h =
     same_number_lists xs (table n f) (l ∙ sym (length-table_from 0 n f)) (λ i k. let j : i < n = omega (arith, l) in h i j ∙ sym (get_or-table n i f 0 j))
 
 -- the table of a list's elements is the list
-pub table_from-self : {A : Type 0} (d : A) (k : ℕ) (xs : List A) (f : ℕ → A) → ((i : ℕ) → i < length xs → f (k + i) ≡ get_or xs i d) → table_from k (length xs) f ≡ xs
+pub table_from-self : {A : Type 0} (d : A) (k : ℕ) (xs : List A) (f : ℕ → A) → ((i : ℕ) → i < length xs → f (k + i) ≡ get_or xs i d) →
+    table_from k (length xs) f ≡ xs
 unfolding table_from
 table_from-self d k [] f h = refl
 table_from-self {A} d k (x ∷ xs) f h =
     let here : f k ≡ x = rw add-zero at (h 0 (omega arith)) in
-    let rest : table_from (suc k) (length xs) f ≡ xs = table_from-self d (suc k) xs f (λ i l. let a : suc k + i ≡ k + suc i = omega arith in rw a (h (suc i) (omega arith))) in
+    let rest : table_from (suc k) (length xs) f ≡ xs = table_from-self d (suc k) xs f
+    (λ i l. let a : suc k + i ≡ k + suc i = omega arith in rw a (h (suc i) (omega arith))) in
     cc
 
 pub table-self : {A : Type 0} (d : A) (n : ℕ) (xs : List A) (f : ℕ → A) → length xs ≡ n → ((i : ℕ) → i < n → f i ≡ get_or xs i d) → table n f ≡ xs

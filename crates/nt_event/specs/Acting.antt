@@ -1,15 +1,16 @@
--- Jobs under lanes: the whole event that a job makes, by where its processor stands and the states of the lanes alone, and
+-- Jobs under lanes: the whole event that a job makes, by where its processor stands and the states of the lanes alone,
+-- and
 -- what holds of a processor and a job in a run.
-use Rattle.std.specs.Prelude.{Bool, IfSome, IsSome, IsTrue, List, Some, false, if◌then◌else◌, length, true, ℕ, ◌<◌, ◌≡◌, ◌≤◌, ◌⊎◌}
+use Rattle.std.specs.Prelude.{Bool, IfSome, IsSome, IsTrue, Some, false, if◌then◌else◌, length, true, ℕ, ◌<◌, ◌≡◌, ◌≤◌, ◌⊎◌}
 use Rattle.nt_event.specs.declared.commands.Command.{Command}
-use Rattle.nt_event.specs.declared.commands.Command.TheVariants.{Delay, StartWait, TestAlert, Yield}
+use Rattle.nt_event.specs.declared.commands.Command.TheVariants as cmd
 use Rattle.nt_event.specs.declared.commands.Reply.TheVariants.{Done}
-use Rattle.nt_event.specs.declared.events.Begun.TheVariants.{Apc, Dpc, Int, Threaded}
+use Rattle.nt_event.specs.declared.events.Begun.TheVariants as begun
 use Rattle.nt_event.specs.declared.events.Event.{Event}
 use Rattle.nt_event.specs.declared.events.What.{What}
-use Rattle.nt_event.specs.declared.events.What.TheVariants.{Begin, Call, End, Flush, Gone, Rewait, Switch}
+use Rattle.nt_event.specs.declared.events.What.TheVariants as what
 use Rattle.nt_event.specs.declared.jobs.Job.{Job}
-use Rattle.nt_event.specs.declared.jobs.Job.TheVariants.{Apcs as ApcsJob, Call as CallJob, Leave as LeaveJob, Pick as PickJob, Rewait as RewaitJob, Rundown as RundownJob, Switch as SwitchJob, ToUser as ToUserJob, UserEnd as UserEndJob}
+use Rattle.nt_event.specs.declared.jobs.Job.TheVariants as jobs
 use Rattle.nt_event.specs.declared.jobs.Stand.{Stand}
 use Rattle.nt_event.specs.declared.jobs.Task.TheVariants.{Shared}
 use Rattle.nt_event.specs.declared.numbers.CpuNo.{CpuNo}
@@ -17,13 +18,11 @@ use Rattle.nt_event.specs.declared.numbers.ThreadNo.{ThreadNo}
 use Rattle.nt_event.specs.declared.scripts.Script.{Script}
 use Rattle.nt_event.specs.declared.threads.Doing.TheVariants.{Running as IsRunning}
 use Rattle.nt_event.specs.Commands.{needs_lane}
-use Rattle.nt_event.specs.Frames.{frames_of}
-use Rattle.nt_event.specs.Jobs.{job_event, may_switch, task}
-use Rattle.nt_event.specs.Lanes.{Lanes, facts_at, lanes_at}
-use Rattle.nt_event.specs.Own.{Own, own_of}
-use Rattle.nt_event.specs.Regions.{stand_at}
+use Rattle.nt_event.specs.Jobs.{may_switch, task}
+use Rattle.nt_event.specs.Lanes.{Lanes, facts_at}
+use Rattle.nt_event.specs.Own.{Own}
 use Rattle.nt_event.specs.Routines.{cpu_of}
-use Rattle.nt_event.specs.Step.{IsRun, event_at, thread_field}
+use Rattle.nt_event.specs.Step.{thread_field}
 use Rattle.nt_event.specs.Threads.{doing_level}
 use Rattle.nt_event.specs.Replies.{is_blocked}
 
@@ -31,18 +30,23 @@ use Rattle.nt_event.specs.Replies.{is_blocked}
 
 -- the level after an event that touches lanes, or is one of those that a job may give
 abbrev pub acted_level : Stand → Lanes → What → ℕ
-acted_level st l (Call f Yield Done) = 0
-acted_level st l (Call f c y) = if is_blocked y then 0 else st.level
-acted_level st l (Begin (Int level) from) = level
-acted_level st l (Begin (Dpc d) from) = 2
-acted_level st l (Begin (Threaded d) from) = 0
-acted_level st l (Begin (Apc a) from) = 1
-acted_level st l (Switch t status) = doing_level (facts_at l t).doing
-acted_level st l (Rewait f y) = if is_blocked y then 0 else st.level
-acted_level st l (End f) = st.after
-acted_level st l (Flush a from) = 0
-acted_level st l (Gone t) = 0
-acted_level st l w = st.level
+acted_level st l (what.Call f cmd.Yield Done) = 0
+acted_level st l (what.Call f c y) = if is_blocked y then 0 else st.level
+acted_level st l (what.Begin (begun.Int level) from) = level
+acted_level st l (what.Begin (begun.Dpc d) from) = 2
+acted_level st l (what.Begin (begun.Threaded d) from) = 0
+acted_level st l (what.Begin (begun.Apc a) from) = 1
+acted_level st l (what.Switch t status) = doing_level (facts_at l t).doing
+acted_level st l (what.Rewait f y) = if is_blocked y then 0 else st.level
+acted_level st l (what.End f) = st.after
+acted_level st l (what.Flush a from) = 0
+acted_level st l (what.Gone t) = 0
+acted_level st l (what.Look r) = st.level
+acted_level st l (what.Normal f) = st.level
+acted_level st l (what.Expire key from) = st.level
+acted_level st l (what.Fire d y) = st.level
+acted_level st l (what.Clean class) = st.level
+acted_level st l what.Rest = st.level
 
 -- the event of a processor that stands so
 abbrev pub acted_event : Stand → Lanes → What → Event
@@ -56,8 +60,8 @@ pub record RunsThere (s : Script) (l : Lanes) (st : Stand) (t : ThreadNo) : Type
   pub own : cpu_of s t ≡ st.cpu
   pub runs : (facts_at l t).doing ≡ IsRunning
 
-abbrev pub IsStanding : Script → Lanes → Stand → Type 0
-IsStanding s l st = IfSome st.thread (λ t. RunsThere s l st t)
+abbrev pub StandHolds : Script → Lanes → Stand → Type 0
+StandHolds s l st = IfSome st.thread (λ t. RunsThere s l st t)
 
 -- ---- what holds of a job that is to be done
 
@@ -78,27 +82,37 @@ pub record TakesUp (st : Stand) : Type 0 where
 
 -- a command that is called under lanes: a wait, a delay, a test of an alert or a yield is called in a thread
 abbrev pub IsCallable : Stand → Command → Type 0
-IsCallable st (StartWait m a) = InThread 1 st
-IsCallable st (Delay m a units) = InThread 1 st
-IsCallable st (TestAlert m) = InThread 2 st
-IsCallable st Yield = InThread 1 st
+IsCallable st (cmd.StartWait m a) = InThread 1 st
+IsCallable st (cmd.Delay m a units) = InThread 1 st
+IsCallable st (cmd.TestAlert m) = InThread 2 st
+IsCallable st cmd.Yield = InThread 1 st
 IsCallable st c = Unit {0}
 
 abbrev pub IsAllowed : Lanes → Stand → Job → Type 0
-IsAllowed l st (CallJob c) = IsTrue (needs_lane c) × IsCallable st c
-IsAllowed l st ApcsJob = InThread 0 st
-IsAllowed l st RewaitJob = TakesUp st
-IsAllowed l st ToUserJob = InThread 0 st
-IsAllowed l st UserEndJob = IsSome st.thread
-IsAllowed l st LeaveJob = IsSome st.thread
-IsAllowed l st RundownJob = EndsThread l st
+IsAllowed l st (jobs.Call c) = IsTrue (needs_lane c) × IsCallable st c
+IsAllowed l st jobs.Apcs = InThread 0 st
+IsAllowed l st jobs.Rewait = TakesUp st
+IsAllowed l st jobs.ToUser = InThread 0 st
+IsAllowed l st jobs.UserEnd = IsSome st.thread
+IsAllowed l st jobs.Leave = IsSome st.thread
+IsAllowed l st jobs.Rundown = EndsThread l st
 IsAllowed l st job = Unit {0}
 
 -- the choice of a thread
 abbrev pub is_choice : Job → Bool
-is_choice (SwitchJob t) = true
-is_choice (PickJob last) = true
-is_choice job = false
+is_choice (jobs.Switch t) = true
+is_choice (jobs.Pick last) = true
+is_choice (jobs.Call c) = false
+is_choice (jobs.Fire d) = false
+is_choice jobs.Drain = false
+is_choice jobs.Apcs = false
+is_choice jobs.Threaded = false
+is_choice jobs.Idle = false
+is_choice jobs.Rewait = false
+is_choice jobs.ToUser = false
+is_choice jobs.UserEnd = false
+is_choice jobs.Leave = false
+is_choice jobs.Rundown = false
 
 -- the job is what the processor has to do next, or a choice of a thread where one may be made
 abbrev pub IsDue : Script → CpuNo → Own → Job → Type 0

@@ -1,7 +1,7 @@
 -- Commands: where each is refused, what it replies, and whether it touches a lane.
 use Rattle.std.specs.Prelude.{Bool, None, Option, Some, false, nat_le, nat_lt, not, true, ℕ, ◌&&◌, ◌+◌, ◌==◌}
 use Rattle.nt_event.specs.declared.commands.Command.{Command}
-use Rattle.nt_event.specs.declared.commands.Command.TheVariants.{Alert, CancelTimer, Clock, Delay, EnterCrit, EnterGuard, InsertApc, Interrupt, LeaveCrit, LeaveGuard, Lower, Note, Queue, Raise, Release, RemoveApc, SetImportance, SetTarget, SetTimer, StartWait, TestAlert, ToUser, Unqueue, Yield}
+use Rattle.nt_event.specs.declared.commands.Command.TheVariants as cmd
 use Rattle.nt_event.specs.declared.commands.Refusal.{Refusal}
 use Rattle.nt_event.specs.declared.commands.Refusal.TheVariants.{BelowBase, NotBase, NotEntered, NotGreater, NotLess, NotThread, RegionsOpen, TooHigh}
 use Rattle.nt_event.specs.declared.commands.Regions.{Regions}
@@ -33,31 +33,32 @@ not_above n level next = refuse (nat_lt n level) TooHigh next
 -- the refusal of a command at this level, where the innermost frame stands on the processor's own part or not, and its
 -- thread is in these regions; the tests are made in the order of the refusals' numbers
 abbrev pub refusal : ℕ → Bool → Regions → Frame → Command → Option Refusal
-refusal level own r f (Raise l) = refuse (nat_lt l level) NotGreater None
-refusal level own r f (Lower l) = refuse (nat_lt level l) NotLess (refuse (nat_lt l (base_of f)) BelowBase None)
-refusal level own r f (Queue d) = None
-refusal level own r f (Unqueue d) = None
-refusal level own r f (SetImportance d i) = None
-refusal level own r f (SetTarget d t) = None
-refusal level own r f (SetTimer t due period) = not_above 2 level None
-refusal level own r f (CancelTimer t) = not_above 2 level None
-refusal level own r f (InsertApc a) = not_above 2 level None
-refusal level own r f (RemoveApc a) = not_above 2 level None
-refusal level own r f EnterCrit = refuse own NotThread (not_above 1 level None)
-refusal level own r f EnterGuard = refuse own NotThread (not_above 1 level None)
-refusal level own r f LeaveCrit = refuse own NotThread (not_above 1 level (refuse (f.crit == 0) NotEntered None))
-refusal level own r f LeaveGuard = refuse own NotThread (not_above 1 level (refuse (f.guard == 0) NotEntered None))
-refusal level own r f (StartWait m a) = refuse own NotThread (not_above 1 level None)
-refusal level own r f (Delay m a units) = refuse own NotThread (not_above 1 level None)
-refusal level own r f (Release t) = not_above 2 level None
-refusal level own r f (Alert t m) = not_above 2 level None
-refusal level own r f (TestAlert m) = refuse own NotThread (not_above 2 level None)
-refusal level own r f (Interrupt p l) = None
-refusal level own r f (Clock units) = None
-refusal level own r f ToUser =
-    refuse own NotThread (refuse (not (is_base_body f.body)) NotBase (not_above 0 level (refuse (is_open r) RegionsOpen None)))
-refusal level own r f Yield = refuse own NotThread (not_above 1 level None)
-refusal level own r f (Note n) = None
+refusal level own r f (cmd.Raise l) = refuse (nat_lt l level) NotGreater None
+refusal level own r f (cmd.Lower l) = refuse (nat_lt level l) NotLess (refuse (nat_lt l (base_of f)) BelowBase None)
+refusal level own r f (cmd.Queue d) = None
+refusal level own r f (cmd.Unqueue d) = None
+refusal level own r f (cmd.SetImportance d i) = None
+refusal level own r f (cmd.SetTarget d t) = None
+refusal level own r f (cmd.SetTimer t due period) = not_above 2 level None
+refusal level own r f (cmd.CancelTimer t) = not_above 2 level None
+refusal level own r f (cmd.InsertApc a) = not_above 2 level None
+refusal level own r f (cmd.RemoveApc a) = not_above 2 level None
+refusal level own r f cmd.EnterCrit = refuse own NotThread (not_above 1 level None)
+refusal level own r f cmd.EnterGuard = refuse own NotThread (not_above 1 level None)
+refusal level own r f cmd.LeaveCrit = refuse own NotThread (not_above 1 level (refuse (f.crit == 0) NotEntered None))
+refusal level own r f cmd.LeaveGuard = refuse own NotThread (not_above 1 level (refuse (f.guard == 0) NotEntered None))
+refusal level own r f (cmd.StartWait m a) = refuse own NotThread (not_above 1 level None)
+refusal level own r f (cmd.Delay m a units) = refuse own NotThread (not_above 1 level None)
+refusal level own r f (cmd.Release t) = not_above 2 level None
+refusal level own r f (cmd.Alert t m) = not_above 2 level None
+refusal level own r f (cmd.TestAlert m) = refuse own NotThread (not_above 2 level None)
+refusal level own r f (cmd.Interrupt p l) = None
+refusal level own r f (cmd.Clock units) = None
+refusal level own r f cmd.ToUser =
+    refuse own NotThread (refuse (not (is_base_body f.body)) NotBase
+    (not_above 0 level (refuse (is_open r) RegionsOpen None)))
+refusal level own r f cmd.Yield = refuse own NotThread (not_above 1 level None)
+refusal level own r f (cmd.Note n) = None
 
 -- a due time is reached
 abbrev pub is_reached : ℕ → ℕ → Bool
@@ -65,28 +66,55 @@ is_reached now due = nat_le due now
 
 -- the reply to a command that isn't refused, by where the processor stands and the states of the lanes
 abbrev pub reply : Script → Stand → Lanes → Command → Reply
-reply s st l (Queue d) = yes_if (not (is_queued (object_at l d)))
-reply s st l (Unqueue d) = yes_if (is_queued (object_at l d))
-reply s st l (SetTimer t due period) = yes_if (is_set_timer l.timers t)
-reply s st l (CancelTimer t) = yes_if (is_set_timer l.timers t)
-reply s st l (InsertApc a) = yes_if (takes a (facts_at l (owner_of s a)).apcs)
-reply s st l (RemoveApc a) = yes_if (is_inserted a (facts_at l (owner_of s a)).apcs)
-reply s st l (StartWait m a) = wait_reply (facts_of l st.thread) st.regions st.level m a None
-reply s st l (Delay m a units) =
+reply s st l (cmd.Queue d) = yes_if (not (is_queued (object_at l d)))
+reply s st l (cmd.Unqueue d) = yes_if (is_queued (object_at l d))
+reply s st l (cmd.SetTimer t due period) = yes_if (is_set_timer l.timers t)
+reply s st l (cmd.CancelTimer t) = yes_if (is_set_timer l.timers t)
+reply s st l (cmd.InsertApc a) = yes_if (takes a (facts_at l (owner_of s a)).apcs)
+reply s st l (cmd.RemoveApc a) = yes_if (is_inserted a (facts_at l (owner_of s a)).apcs)
+reply s st l (cmd.StartWait m a) = wait_reply (facts_of l st.thread) st.regions st.level m a None
+reply s st l (cmd.Delay m a units) =
     wait_reply (facts_of l st.thread) st.regions st.level m a (Some (is_reached l.timers.now (l.timers.now + units)))
-reply s st l (Release t) = yes_if (ends_by_release (facts_at l t))
-reply s st l (Alert t m) = yes_if (not (is_gone (facts_at l t)) && is_alerted m (facts_at l t))
-reply s st l (TestAlert m) = yes_if (is_alerted m (facts_of l st.thread))
-reply s st l c = Done
+reply s st l (cmd.Release t) = yes_if (ends_by_release (facts_at l t))
+reply s st l (cmd.Alert t m) = yes_if (not (is_gone (facts_at l t)) && is_alerted m (facts_at l t))
+reply s st l (cmd.TestAlert m) = yes_if (is_alerted m (facts_of l st.thread))
+reply s st l (cmd.Raise level) = Done
+reply s st l (cmd.Lower level) = Done
+reply s st l (cmd.SetImportance d i) = Done
+reply s st l (cmd.SetTarget d q) = Done
+reply s st l cmd.EnterCrit = Done
+reply s st l cmd.EnterGuard = Done
+reply s st l cmd.LeaveCrit = Done
+reply s st l cmd.LeaveGuard = Done
+reply s st l (cmd.Interrupt q level) = Done
+reply s st l (cmd.Clock units) = Done
+reply s st l cmd.ToUser = Done
+reply s st l cmd.Yield = Done
+reply s st l (cmd.Note n) = Done
 
 -- the command touches a lane where it isn't refused
 abbrev pub needs_lane : Command → Bool
-needs_lane (Raise level) = false
-needs_lane (Lower level) = false
-needs_lane EnterCrit = false
-needs_lane EnterGuard = false
-needs_lane LeaveCrit = false
-needs_lane LeaveGuard = false
-needs_lane (Interrupt p level) = false
-needs_lane (Note n) = false
-needs_lane c = true
+needs_lane (cmd.Raise level) = false
+needs_lane (cmd.Lower level) = false
+needs_lane cmd.EnterCrit = false
+needs_lane cmd.EnterGuard = false
+needs_lane cmd.LeaveCrit = false
+needs_lane cmd.LeaveGuard = false
+needs_lane (cmd.Interrupt p level) = false
+needs_lane (cmd.Note n) = false
+needs_lane (cmd.Queue d) = true
+needs_lane (cmd.Unqueue d) = true
+needs_lane (cmd.SetImportance d i) = true
+needs_lane (cmd.SetTarget d q) = true
+needs_lane (cmd.SetTimer t due period) = true
+needs_lane (cmd.CancelTimer t) = true
+needs_lane (cmd.InsertApc a) = true
+needs_lane (cmd.RemoveApc a) = true
+needs_lane (cmd.StartWait m a) = true
+needs_lane (cmd.Delay m a units) = true
+needs_lane (cmd.Release t) = true
+needs_lane (cmd.Alert t m) = true
+needs_lane (cmd.TestAlert m) = true
+needs_lane (cmd.Clock units) = true
+needs_lane cmd.ToUser = true
+needs_lane cmd.Yield = true

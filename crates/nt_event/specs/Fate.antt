@@ -1,11 +1,11 @@
 -- The fate of inserts: each is begun, removed, flushed, or waits at the end.
 use Rattle.std.specs.Prelude.{Bool, List, None, Option, Some, [], false, filter, if◌then◌else◌, length, nat_lt, true, ℕ, ◌&&◌, ◌++◌, ◌==◌, ◌∷◌}
-use Rattle.nt_event.specs.declared.commands.Command.TheVariants.{InsertApc, Queue, RemoveApc, Unqueue}
+use Rattle.nt_event.specs.declared.commands.Command.TheVariants as cmd
 use Rattle.nt_event.specs.declared.commands.Reply.TheVariants.{Yes}
-use Rattle.nt_event.specs.declared.events.Begun.TheVariants.{Apc, Dpc, Threaded}
+use Rattle.nt_event.specs.declared.events.Begun.TheVariants as begun
 use Rattle.nt_event.specs.declared.events.Event.{Event}
 use Rattle.nt_event.specs.declared.events.What.{What}
-use Rattle.nt_event.specs.declared.events.What.TheVariants.{Begin, Call, Fire, Flush}
+use Rattle.nt_event.specs.declared.events.What.TheVariants as what
 use Rattle.nt_event.specs.declared.numbers.ApcNo.{ApcNo}
 use Rattle.nt_event.specs.declared.numbers.DpcNo.{DpcNo}
 
@@ -16,20 +16,21 @@ pub data Thing : Type 0 where
 
 -- an insert is a call of `queue` or `apc`, or a Fire, with reply yes
 abbrev pub inserted_thing : What → Option Thing
-inserted_thing (Call f (Queue d) Yes) = Some (DpcThing d)
-inserted_thing (Call f (InsertApc a) Yes) = Some (ApcThing a)
-inserted_thing (Fire d Yes) = Some (DpcThing d)
+inserted_thing (what.Call f (cmd.Queue d) Yes) = Some (DpcThing d)
+inserted_thing (what.Call f (cmd.InsertApc a) Yes) = Some (ApcThing a)
+inserted_thing (what.Fire d Yes) = Some (DpcThing d)
 inserted_thing _ = None
 
--- the event uses up the insert of this number: a Begin or Flush of the same object that names it, or a removal of the object
+-- the event uses up the insert of this number: a Begin or Flush of the same object that names it, or a removal of the
+-- object
 -- with reply yes
 abbrev pub uses_up : Thing → ℕ → What → Bool
-uses_up (DpcThing d) n (Begin (Dpc x) from) = (x.0 == d.0) && (from == n)
-uses_up (DpcThing d) n (Begin (Threaded x) from) = (x.0 == d.0) && (from == n)
-uses_up (DpcThing d) n (Call f (Unqueue x) Yes) = x.0 == d.0
-uses_up (ApcThing a) n (Begin (Apc x) from) = (x.0 == a.0) && (from == n)
-uses_up (ApcThing a) n (Flush x from) = (x.0 == a.0) && (from == n)
-uses_up (ApcThing a) n (Call f (RemoveApc x) Yes) = x.0 == a.0
+uses_up (DpcThing d) n (what.Begin (begun.Dpc x) from) = (x.0 == d.0) && (from == n)
+uses_up (DpcThing d) n (what.Begin (begun.Threaded x) from) = (x.0 == d.0) && (from == n)
+uses_up (DpcThing d) n (what.Call f (cmd.Unqueue x) Yes) = x.0 == d.0
+uses_up (ApcThing a) n (what.Begin (begun.Apc x) from) = (x.0 == a.0) && (from == n)
+uses_up (ApcThing a) n (what.Flush x from) = (x.0 == a.0) && (from == n)
+uses_up (ApcThing a) n (what.Call f (cmd.RemoveApc x) Yes) = x.0 == a.0
 uses_up _ n w = false
 
 -- with the number of the event that used it up
@@ -40,8 +41,8 @@ pub data Fate : Type 0 where
   StillWaits : Fate
 
 abbrev pub fate_by : What → ℕ → Fate
-fate_by (Begin b from) n = BegunBy n
-fate_by (Flush a from) n = FlushedBy n
+fate_by (what.Begin b from) n = BegunBy n
+fate_by (what.Flush a from) n = FlushedBy n
 fate_by w n = RemovedBy n
 
 -- the earlier fate, where there is one
@@ -53,7 +54,8 @@ first_fate x y = x
 abbrev pub fate_of : Thing → ℕ → List Event → Fate
 fate_of thing n [] = StillWaits
 fate_of thing n (e ∷ past) =
-    first_fate (fate_of thing n past) (if nat_lt n (length past) && uses_up thing n e.what then fate_by e.what (length past) else StillWaits)
+    first_fate (fate_of thing n past) (if nat_lt n (length past) && uses_up thing n e.what
+    then fate_by e.what (length past) else StillWaits)
 
 -- the inserts of a history with their numbers, ascending
 pub record Inserted : Type 0 where

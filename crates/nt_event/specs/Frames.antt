@@ -1,20 +1,21 @@
--- Frames: the routines that have begun on a processor and its threads and have not ended, and what each event leaves of them.
+-- Frames: the routines that have begun on a processor and its threads and have not ended, and what each event leaves of
+-- them.
 -- A frame is named by the number of the event that began it.
 use Rattle.std.specs.Option.{option_map_or, option_or}
 use Rattle.std.specs.Prelude.{Bool, List, None, Option, Some, [], false, get_or, if◌then◌else◌, length, not, true, ℕ, ◌&&◌, ◌+◌, ◌-◌, ◌==◌, ◌∷◌}
 use Rattle.nt_event.specs.declared.commands.ApcKind.TheVariants.{Normal as NormalApc, User as UserApc}
 use Rattle.nt_event.specs.declared.commands.Command.{Command}
-use Rattle.nt_event.specs.declared.commands.Command.TheVariants.{Clock, Delay, EnterCrit, EnterGuard, LeaveCrit, LeaveGuard, Lower, Raise, StartWait, Yield}
+use Rattle.nt_event.specs.declared.commands.Command.TheVariants as cmd
 use Rattle.nt_event.specs.declared.commands.Reply.{Reply}
-use Rattle.nt_event.specs.declared.commands.Reply.TheVariants.{Blocked, Done, Status}
+use Rattle.nt_event.specs.declared.commands.Reply.TheVariants.{Blocked, Done, No, Refused, Status, Yes}
 use Rattle.nt_event.specs.declared.events.Begun.{Begun}
-use Rattle.nt_event.specs.declared.events.Begun.TheVariants.{Apc, Dpc, Int, Threaded}
+use Rattle.nt_event.specs.declared.events.Begun.TheVariants as begun
 use Rattle.nt_event.specs.declared.events.Event.{Event}
 use Rattle.nt_event.specs.declared.events.What.{What}
-use Rattle.nt_event.specs.declared.events.What.TheVariants.{Begin, Call, End, Flush, Gone, Normal, Rewait, Switch}
+use Rattle.nt_event.specs.declared.events.What.TheVariants as what
 use Rattle.nt_event.specs.declared.frames.Again.{Again}
 use Rattle.nt_event.specs.declared.frames.Body.{Body}
-use Rattle.nt_event.specs.declared.frames.Body.TheVariants.{Apc as OnApc, Base as OnBase, Dpc as OnDpc, Int as OnInt, Rundown as OnRundown, Threaded as OnThreaded}
+use Rattle.nt_event.specs.declared.frames.Body.TheVariants as on
 use Rattle.nt_event.specs.declared.frames.Frame.{Frame}
 use Rattle.nt_event.specs.declared.numbers.ApcNo.{ApcNo}
 use Rattle.nt_event.specs.declared.numbers.CpuNo.{CpuNo}
@@ -29,29 +30,37 @@ use Rattle.nt_event.specs.Numbers.{is_by, is_of, thread}
 -- a new interrupt runs at its own level, a DPC at DISPATCH_LEVEL, an APC's kernel routine at APC_LEVEL, the others at
 -- PASSIVE_LEVEL (driver documentation, "Managing Hardware Priorities")
 abbrev pub base_level : Body → Bool → ℕ
-base_level (OnInt level) k = level
-base_level (OnDpc d) k = 2
-base_level (OnThreaded d) k = 0
-base_level (OnApc a kind) k = if k then 1 else 0
-base_level (OnBase t) k = 0
-base_level (OnRundown a) k = 0
+base_level (on.Int level) k = level
+base_level (on.Dpc d) k = 2
+base_level (on.Threaded d) k = 0
+base_level (on.Apc a kind) k = if k then 1 else 0
+base_level (on.Base t) k = 0
+base_level (on.Rundown a) k = 0
 
 -- an APC begins in its kernel routine
 abbrev pub is_apc_body : Body → Bool
-is_apc_body (OnApc a kind) = true
-is_apc_body _ = false
+is_apc_body (on.Apc a kind) = true
+is_apc_body (on.Int level) = false
+is_apc_body (on.Dpc d) = false
+is_apc_body (on.Threaded d) = false
+is_apc_body (on.Base t) = false
+is_apc_body (on.Rundown a) = false
 
 abbrev pub is_base_body : Body → Bool
-is_base_body (OnBase t) = true
-is_base_body _ = false
+is_base_body (on.Base t) = true
+is_base_body (on.Int level) = false
+is_base_body (on.Dpc d) = false
+is_base_body (on.Threaded d) = false
+is_base_body (on.Apc a kind) = false
+is_base_body (on.Rundown a) = false
 
 abbrev pub is_user_apc_body : Body → Bool
-is_user_apc_body (OnApc a UserApc) = true
+is_user_apc_body (on.Apc a UserApc) = true
 is_user_apc_body _ = false
 
 -- a normal kernel APC
 abbrev pub is_normal_apc_body : Body → Bool
-is_normal_apc_body (OnApc a NormalApc) = true
+is_normal_apc_body (on.Apc a NormalApc) = true
 is_normal_apc_body _ = false
 
 -- the frame's base level in its present phase
@@ -60,7 +69,17 @@ base_of f = base_level f.body f.kernel_phase
 
 abbrev pub new_frame : ℕ → Body → Frame
 new_frame n b =
-    record { name = n; body = b; level = base_level b (is_apc_body b); place = 0; crit = 0; guard = 0; kernel_phase = is_apc_body b; leaving = false; again = None }
+    record {
+      name = n;
+      body = b;
+      level = base_level b (is_apc_body b);
+      place = 0;
+      crit = 0;
+      guard = 0;
+      kernel_phase = is_apc_body b;
+      leaving = false;
+      again = None;
+    }
 
 -- ---- a call
 
@@ -68,23 +87,43 @@ new_frame n b =
 abbrev pub again_after : Reply → Option Again → Option Again → Option Again
 again_after (Status status) w old = if status == kernel_apc then w else None
 again_after Blocked w old = w
-again_after _ w old = old
+again_after Done w old = old
+again_after Yes w old = old
+again_after No w old = old
+again_after (Refused r) w old = old
 
 -- what an accepted command without a reply does to its frame
 abbrev pub done_to : Command → Frame → Frame
-done_to (Raise level) f = record f { level = level }
-done_to (Lower level) f = record f { level = level }
-done_to EnterCrit f = record f { crit = f.crit + 1 }
-done_to EnterGuard f = record f { guard = f.guard + 1 }
-done_to LeaveCrit f = record f { crit = f.crit - 1 }
-done_to LeaveGuard f = record f { guard = f.guard - 1 }
-done_to _ f = f
+done_to (cmd.Raise level) f = record f { level = level }
+done_to (cmd.Lower level) f = record f { level = level }
+done_to cmd.EnterCrit f = record f { crit = f.crit + 1 }
+done_to cmd.EnterGuard f = record f { guard = f.guard + 1 }
+done_to cmd.LeaveCrit f = record f { crit = f.crit - 1 }
+done_to cmd.LeaveGuard f = record f { guard = f.guard - 1 }
+done_to (cmd.Queue d) f = f
+done_to (cmd.Unqueue d) f = f
+done_to (cmd.SetImportance d i) f = f
+done_to (cmd.SetTarget d q) f = f
+done_to (cmd.SetTimer t due period) f = f
+done_to (cmd.CancelTimer t) f = f
+done_to (cmd.InsertApc a) f = f
+done_to (cmd.RemoveApc a) f = f
+done_to (cmd.StartWait m a) f = f
+done_to (cmd.Delay m a units) f = f
+done_to (cmd.Release t) f = f
+done_to (cmd.Alert t m) f = f
+done_to (cmd.TestAlert m) f = f
+done_to (cmd.Interrupt q level) f = f
+done_to (cmd.Clock units) f = f
+done_to cmd.ToUser f = f
+done_to cmd.Yield f = f
+done_to (cmd.Note n) f = f
 
 -- what a call with this due time, command and reply does to its frame, beside its place
 abbrev pub effect : Option ℕ → Command → Reply → Frame → Frame
-effect due (StartWait m a) y f =
+effect due (cmd.StartWait m a) y f =
     record f { again = again_after y (Some (record { mode = m; alertable = a; due = None })) f.again }
-effect due (Delay m a d) y f =
+effect due (cmd.Delay m a d) y f =
     record f { again = again_after y (Some (record { mode = m; alertable = a; due = due })) f.again }
 effect due c y f = if is_done y then done_to c f else f
 
@@ -101,8 +140,8 @@ normal_of f =
     record f { level = 0; place = 0; crit = 0; guard = 0; kernel_phase = false; again = None }
 
 -- a base frame stays until its thread is gone, at PASSIVE_LEVEL and with its regions given up (profile)
-abbrev pub left : Frame → Frame
-left f = record f { level = 0; place = 0; crit = 0; guard = 0; again = None; leaving = true }
+abbrev pub ended_base : Frame → Frame
+ended_base f = record f { level = 0; place = 0; crit = 0; guard = 0; again = None; leaving = true }
 
 -- the status of the wait that ended comes with the Switch; only an interrupted one is to be taken up again
 abbrev pub resumed : Option ℕ → Frame → Frame
@@ -129,7 +168,7 @@ without n (f ∷ fs) = if f.name == n then fs else (f ∷ fs)
 -- ends the innermost frame of a thread's part: a base frame stays and its thread is leaving
 abbrev pub ended_on_thread : List Frame → List Frame
 ended_on_thread [] = []
-ended_on_thread (f ∷ fs) = if is_base_body f.body then (left f ∷ fs) else fs
+ended_on_thread (f ∷ fs) = if is_base_body f.body then (ended_base f ∷ fs) else fs
 
 abbrev pub end_on_thread : ℕ → List Frame → List Frame
 end_on_thread n [] = []
@@ -139,39 +178,55 @@ end_on_thread n (f ∷ fs) = if f.name == n then ended_on_thread (f ∷ fs) else
 
 -- the event begins a routine on the processor's own part
 abbrev pub begin_own : ℕ → Begun → List Frame → List Frame
-begin_own n (Int level) fs = new_frame n (OnInt level) ∷ fs
-begin_own n (Dpc d) fs = new_frame n (OnDpc d) ∷ fs
-begin_own n (Threaded d) fs = new_frame n (OnThreaded d) ∷ fs
-begin_own n (Apc a) fs = fs
+begin_own n (begun.Int level) fs = new_frame n (on.Int level) ∷ fs
+begin_own n (begun.Dpc d) fs = new_frame n (on.Dpc d) ∷ fs
+begin_own n (begun.Threaded d) fs = new_frame n (on.Threaded d) ∷ fs
+begin_own n (begun.Apc a) fs = fs
 
 -- what the event of this number leaves of the frames on its processor's own part
 abbrev pub own_after : ℕ → Option ℕ → What → List Frame → List Frame
-own_after n due (Begin b from) fs = begin_own n b fs
-own_after n due (Call f c y) fs = at_name f (called due c y) fs
-own_after n due (End f) fs = without f fs
-own_after n due _ fs = fs
+own_after n due (what.Begin b from) fs = begin_own n b fs
+own_after n due (what.Call f c y) fs = at_name f (called due c y) fs
+own_after n due (what.End f) fs = without f fs
+own_after n due (what.Look r) fs = fs
+own_after n due (what.Normal f) fs = fs
+own_after n due (what.Expire key from) fs = fs
+own_after n due (what.Fire d y) fs = fs
+own_after n due (what.Clean class) fs = fs
+own_after n due (what.Switch t status) fs = fs
+own_after n due (what.Rewait f y) fs = fs
+own_after n due (what.Flush a from) fs = fs
+own_after n due (what.Gone t) fs = fs
+own_after n due what.Rest fs = fs
 
 -- the first Switch to a thread begins its base frame
 abbrev pub switched_to : ℕ → ThreadNo → Option ℕ → List Frame → List Frame
-switched_to n t status [] = new_frame n (OnBase t) ∷ []
+switched_to n t status [] = new_frame n (on.Base t) ∷ []
 switched_to n t status (f ∷ fs) = resumed status f ∷ fs
 
 -- a flushed APC begins a frame only where it has a rundown routine
 abbrev pub flushed : ℕ → ApcNo → Option RoutineNo → List Frame → List Frame
 flushed n a None fs = fs
-flushed n a (Some r) fs = new_frame n (OnRundown a) ∷ fs
+flushed n a (Some r) fs = new_frame n (on.Rundown a) ∷ fs
 
 -- what the event of this number leaves of the frames of the thread that it names
 abbrev pub thread_after : Script → ℕ → Option ℕ → What → List Frame → List Frame
-thread_after s n due (Switch t status) fs = switched_to n t status fs
-thread_after s n due (Begin (Apc a) from) fs = new_frame n (OnApc a (kind_of s a)) ∷ fs
-thread_after s n due (Flush a from) fs = flushed n a (rundown_of s a) fs
-thread_after s n due (Call f c y) fs = at_name f (called due c y) fs
-thread_after s n due (Rewait f y) fs = at_name f (rewaited y) fs
-thread_after s n due (Normal f) fs = at_name f normal_of fs
-thread_after s n due (End f) fs = end_on_thread f fs
-thread_after s n due (Gone t) fs = []
-thread_after s n due _ fs = fs
+thread_after s n due (what.Switch t status) fs = switched_to n t status fs
+thread_after s n due (what.Begin (begun.Apc a) from) fs = new_frame n (on.Apc a (kind_of s a)) ∷ fs
+thread_after s n due (what.Flush a from) fs = flushed n a (rundown_of s a) fs
+thread_after s n due (what.Call f c y) fs = at_name f (called due c y) fs
+thread_after s n due (what.Rewait f y) fs = at_name f (rewaited y) fs
+thread_after s n due (what.Normal f) fs = at_name f normal_of fs
+thread_after s n due (what.End f) fs = end_on_thread f fs
+thread_after s n due (what.Gone t) fs = []
+thread_after s n due (what.Look r) fs = fs
+thread_after s n due (what.Begin (begun.Int level) from) fs = fs
+thread_after s n due (what.Begin (begun.Dpc d) from) fs = fs
+thread_after s n due (what.Begin (begun.Threaded d) from) fs = fs
+thread_after s n due (what.Expire key from) fs = fs
+thread_after s n due (what.Fire d y) fs = fs
+thread_after s n due (what.Clean class) fs = fs
+thread_after s n due what.Rest fs = fs
 
 -- of a thread that the event names, or of another one
 abbrev pub thread_if : Bool → Script → ℕ → Option ℕ → What → List Frame → List Frame
@@ -180,19 +235,62 @@ thread_if false s n due w fs = fs
 
 -- the running thread is the one of the last Switch, until it is gone, blocks or yields
 abbrev pub running_after : What → Option ThreadNo → Option ThreadNo
-running_after (Switch t status) r = Some t
-running_after (Gone t) r = None
-running_after (Call f Yield Done) r = None
-running_after (Call f c y) r = if is_blocked y then None else r
-running_after (Rewait f y) r = if is_blocked y then None else r
-running_after _ r = r
+running_after (what.Switch t status) r = Some t
+running_after (what.Gone t) r = None
+running_after (what.Call f cmd.Yield Done) r = None
+running_after (what.Call f c y) r = if is_blocked y then None else r
+running_after (what.Rewait f y) r = if is_blocked y then None else r
+running_after (what.Look why) r = r
+running_after (what.Begin b from) r = r
+running_after (what.Normal f) r = r
+running_after (what.End f) r = r
+running_after (what.Expire key from) r = r
+running_after (what.Fire d y) r = r
+running_after (what.Clean class) r = r
+running_after (what.Flush a from) r = r
+running_after what.Rest r = r
 
 -- ---- the history's questions
 
 -- the time is the sum of what `clock` advanced it by
 abbrev pub time_after : What → ℕ → ℕ
-time_after (Call f (Clock units) Done) now = now + units
-time_after _ now = now
+time_after (what.Call f (cmd.Clock units) Done) now = now + units
+time_after (what.Call f (cmd.Raise level) y) now = now
+time_after (what.Call f (cmd.Lower level) y) now = now
+time_after (what.Call f (cmd.Queue d) y) now = now
+time_after (what.Call f (cmd.Unqueue d) y) now = now
+time_after (what.Call f (cmd.SetImportance d i) y) now = now
+time_after (what.Call f (cmd.SetTarget d q) y) now = now
+time_after (what.Call f (cmd.SetTimer t due period) y) now = now
+time_after (what.Call f (cmd.CancelTimer t) y) now = now
+time_after (what.Call f (cmd.InsertApc a) y) now = now
+time_after (what.Call f (cmd.RemoveApc a) y) now = now
+time_after (what.Call f cmd.EnterCrit y) now = now
+time_after (what.Call f cmd.EnterGuard y) now = now
+time_after (what.Call f cmd.LeaveCrit y) now = now
+time_after (what.Call f cmd.LeaveGuard y) now = now
+time_after (what.Call f (cmd.StartWait m a) y) now = now
+time_after (what.Call f (cmd.Delay m a units) y) now = now
+time_after (what.Call f (cmd.Release t) y) now = now
+time_after (what.Call f (cmd.Alert t m) y) now = now
+time_after (what.Call f (cmd.TestAlert m) y) now = now
+time_after (what.Call f (cmd.Interrupt q level) y) now = now
+time_after (what.Call f (cmd.Clock units) y) now = now
+time_after (what.Call f cmd.ToUser y) now = now
+time_after (what.Call f cmd.Yield y) now = now
+time_after (what.Call f (cmd.Note n) y) now = now
+time_after (what.Look r) now = now
+time_after (what.Begin b from) now = now
+time_after (what.Normal f) now = now
+time_after (what.End f) now = now
+time_after (what.Expire key from) now = now
+time_after (what.Fire d y) now = now
+time_after (what.Clean class) now = now
+time_after (what.Switch t status) now = now
+time_after (what.Rewait f y) now = now
+time_after (what.Flush a from) now = now
+time_after (what.Gone t) now = now
+time_after what.Rest now = now
 
 abbrev pub time : List Event → ℕ
 time [] = 0
@@ -200,20 +298,56 @@ time (e ∷ past) = time_after e.what (time past)
 
 -- the due time of the delay that the event calls
 abbrev pub due_of : What → ℕ → Option ℕ
-due_of (Call f (Delay m a units) y) now = Some (now + units)
-due_of _ now = None
+due_of (what.Call f (cmd.Delay m a units) y) now = Some (now + units)
+due_of (what.Call f (cmd.Raise level) y) now = None
+due_of (what.Call f (cmd.Lower level) y) now = None
+due_of (what.Call f (cmd.Queue d) y) now = None
+due_of (what.Call f (cmd.Unqueue d) y) now = None
+due_of (what.Call f (cmd.SetImportance d i) y) now = None
+due_of (what.Call f (cmd.SetTarget d q) y) now = None
+due_of (what.Call f (cmd.SetTimer t due period) y) now = None
+due_of (what.Call f (cmd.CancelTimer t) y) now = None
+due_of (what.Call f (cmd.InsertApc a) y) now = None
+due_of (what.Call f (cmd.RemoveApc a) y) now = None
+due_of (what.Call f cmd.EnterCrit y) now = None
+due_of (what.Call f cmd.EnterGuard y) now = None
+due_of (what.Call f cmd.LeaveCrit y) now = None
+due_of (what.Call f cmd.LeaveGuard y) now = None
+due_of (what.Call f (cmd.StartWait m a) y) now = None
+due_of (what.Call f (cmd.Release t) y) now = None
+due_of (what.Call f (cmd.Alert t m) y) now = None
+due_of (what.Call f (cmd.TestAlert m) y) now = None
+due_of (what.Call f (cmd.Interrupt q level) y) now = None
+due_of (what.Call f (cmd.Clock units) y) now = None
+due_of (what.Call f cmd.ToUser y) now = None
+due_of (what.Call f cmd.Yield y) now = None
+due_of (what.Call f (cmd.Note n) y) now = None
+due_of (what.Look r) now = None
+due_of (what.Begin b from) now = None
+due_of (what.Normal f) now = None
+due_of (what.End f) now = None
+due_of (what.Expire key from) now = None
+due_of (what.Fire d y) now = None
+due_of (what.Clean class) now = None
+due_of (what.Switch t status) now = None
+due_of (what.Rewait f y) now = None
+due_of (what.Flush a from) now = None
+due_of (what.Gone t) now = None
+due_of what.Rest now = None
 
 -- the frames on the own part of the processor, the innermost first
 abbrev pub own_frames : CpuNo → List Event → List Frame
 own_frames p [] = []
 own_frames p (e ∷ past) =
-    if is_of e p then own_after (length past) (due_of e.what (time past)) e.what (own_frames p past) else own_frames p past
+    if is_of e p then own_after (length past) (due_of e.what (time past)) e.what (own_frames p past)
+    else own_frames p past
 
 -- the frames of a thread, the innermost first, by the events of its processor
 abbrev pub thread_frames : Script → CpuNo → ThreadNo → List Event → List Frame
 thread_frames s p t [] = []
 thread_frames s p t (e ∷ past) =
-    if is_of e p then thread_if (is_by e t) s (length past) (due_of e.what (time past)) e.what (thread_frames s p t past) else thread_frames s p t past
+    if is_of e p then thread_if (is_by e t) s (length past) (due_of e.what (time past)) e.what
+    (thread_frames s p t past) else thread_frames s p t past
 
 -- the thread that runs on the processor
 abbrev pub running : CpuNo → List Event → Option ThreadNo
@@ -233,12 +367,21 @@ frames_in parts t = get_or parts t.0 []
 
 abbrev pub frames_of : Script → CpuNo → List Event → Frames
 frames_of s p past =
-    record { own = own_frames p past; running = running p past; threads = table (length s.threads) (λ t. thread_frames s p (thread t) past) }
+    record {
+      own = own_frames p past;
+      running = running p past;
+      threads = table (length s.threads) (λ t. thread_frames s p (thread t) past);
+    }
 
 -- what an event of the processor with this number and due time leaves of them
 abbrev pub frames_after : Script → ℕ → Option ℕ → Event → Frames → Frames
 frames_after s n due e x =
-    record { own = own_after n due e.what x.own; running = running_after e.what x.running; threads = table (length s.threads) (λ t. thread_if (is_by e (thread t)) s n due e.what (frames_in x.threads (thread t))) }
+    record {
+      own = own_after n due e.what x.own;
+      running = running_after e.what x.running;
+      threads = table (length s.threads)
+          (λ t. thread_if (is_by e (thread t)) s n due e.what (frames_in x.threads (thread t)));
+    }
 
 -- the part of the running thread
 abbrev pub thread_part : Frames → List Frame

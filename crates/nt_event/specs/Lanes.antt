@@ -4,17 +4,17 @@ use Rattle.std.specs.Option.{option_map_or}
 use Rattle.std.specs.Prelude.{Bool, List, None, Option, Some, [], false, get_or, if◌then◌else◌, is_some, length, option_and_then, true, ℕ, ◌&&◌, ◌+◌, ◌==◌, ◌∷◌}
 use Rattle.nt_event.specs.declared.commands.ApcKind.TheVariants.{User as UserApc}
 use Rattle.nt_event.specs.declared.commands.Command.{Command}
-use Rattle.nt_event.specs.declared.commands.Command.TheVariants.{Alert, CancelTimer, Clock, Delay, InsertApc, Queue, Release, RemoveApc, SetImportance, SetTarget, SetTimer, StartWait, TestAlert, ToUser, Unqueue, Yield}
+use Rattle.nt_event.specs.declared.commands.Command.TheVariants as cmd
 use Rattle.nt_event.specs.declared.commands.Reply.{Reply}
 use Rattle.nt_event.specs.declared.commands.TimerKey.{TimerKey}
-use Rattle.nt_event.specs.declared.commands.TimerKey.TheVariants.{Delay as OfDelay, Timer as OfTimer}
+use Rattle.nt_event.specs.declared.commands.TimerKey.TheVariants as keys
 use Rattle.nt_event.specs.declared.events.Begun.{Begun}
-use Rattle.nt_event.specs.declared.events.Begun.TheVariants.{Apc, Dpc, Int, Threaded}
+use Rattle.nt_event.specs.declared.events.Begun.TheVariants as begun
 use Rattle.nt_event.specs.declared.events.Event.{Event}
 use Rattle.nt_event.specs.declared.events.What.{What}
-use Rattle.nt_event.specs.declared.events.What.TheVariants.{Begin, Call, Clean, End, Expire, Fire, Flush, Gone, Rest, Rewait, Switch}
+use Rattle.nt_event.specs.declared.events.What.TheVariants as what
 use Rattle.nt_event.specs.declared.frames.Body.{Body}
-use Rattle.nt_event.specs.declared.frames.Body.TheVariants.{Apc as OnApc, Base as OnBase}
+use Rattle.nt_event.specs.declared.frames.Body.TheVariants as on
 use Rattle.nt_event.specs.declared.inserts.Standing.{Standing}
 use Rattle.nt_event.specs.declared.jobs.Lane.{Lane}
 use Rattle.nt_event.specs.declared.jobs.Lane.TheVariants.{Object as ObjectLane, Queue as QueueLane, Threads as ThreadsLane, Timers as TimersLane}
@@ -23,6 +23,7 @@ use Rattle.nt_event.specs.declared.numbers.CpuNo.{CpuNo}
 use Rattle.nt_event.specs.declared.numbers.DpcNo.{DpcNo}
 use Rattle.nt_event.specs.declared.numbers.ThreadNo.{ThreadNo}
 use Rattle.nt_event.specs.declared.scripts.Script.{Script}
+use Rattle.nt_event.specs.Classes.{apc_class, dispatch_class}
 use Rattle.nt_event.specs.Objects.{ObjectState, object_after, object_in, objects_at, queue_for}
 use Rattle.nt_event.specs.Queues.{QueueState, queue_after, queue_of, start_queue}
 use Rattle.nt_event.specs.Regions.{stand_at}
@@ -42,7 +43,12 @@ pub record Lanes : Type 0 where
 
 abbrev pub lanes_at : Script → List Event → Lanes
 lanes_at s past =
-    record { objects = objects_at s past; queues = table s.cpus (λ p. queue_of s (cpu p) past); threads = table (length s.threads) (λ t. facts s (thread t) past); timers = timers_at s past }
+    record {
+      objects = objects_at s past;
+      queues = table s.cpus (λ p. queue_of s (cpu p) past);
+      threads = table (length s.threads) (λ t. facts s (thread t) past);
+      timers = timers_at s past;
+    }
 
 abbrev pub object_at : Lanes → DpcNo → ObjectState
 object_at l d = object_in l.objects d
@@ -60,7 +66,12 @@ facts_of l t = option_map_or (facts_at l) t start_facts
 -- what the event of this number leaves of the lanes, where its processor stood so
 abbrev pub lanes_after : Script → ℕ → Stand → Event → Lanes → Lanes
 lanes_after s n st e l =
-    record { objects = table (length s.dpcs) (λ d. object_after (dpc d) n e.cpu e.what (object_at l (dpc d))); queues = table s.cpus (λ p. queue_after s (cpu p) n e.cpu e.what l.objects (queue_at l (cpu p))); threads = table (length s.threads) (λ t. facts_after s (thread t) n st e (facts_at l (thread t))); timers = timers_after s n st e l.timers }
+    record {
+      objects = table (length s.dpcs) (λ d. object_after (dpc d) n e.cpu e.what (object_at l (dpc d)));
+      queues = table s.cpus (λ p. queue_after s (cpu p) n e.cpu e.what l.objects (queue_at l (cpu p)));
+      threads = table (length s.threads) (λ t. facts_after s (thread t) n st e (facts_at l (thread t)));
+      timers = timers_after s n st e l.timers;
+    }
 
 -- ---- lanes that an event touches
 
@@ -96,59 +107,68 @@ standing_lanes (Some x) = QueueLane x.queue ∷ []
 
 -- the lanes of a command that isn't refused
 abbrev pub command_lanes : Script → CpuNo → Command → Reply → Lanes → List Lane
-command_lanes s p (Queue d) y l = insert_lanes p d y l
-command_lanes s p (Unqueue d) y l = ObjectLane d ∷ standing_lanes (object_at l d).standing
-command_lanes s p (SetImportance d i) y l = ObjectLane d ∷ []
-command_lanes s p (SetTarget d t) y l = ObjectLane d ∷ []
-command_lanes s p (SetTimer t due period) y l = TimersLane ∷ []
-command_lanes s p (CancelTimer t) y l = TimersLane ∷ []
-command_lanes s p (InsertApc a) y l = ThreadsLane (cpu_of s (owner_of s a)) ∷ []
-command_lanes s p (RemoveApc a) y l = ThreadsLane (cpu_of s (owner_of s a)) ∷ []
-command_lanes s p (StartWait m a) y l = ThreadsLane p ∷ []
-command_lanes s p (Delay m a units) y l = ThreadsLane p ∷ TimersLane ∷ []
-command_lanes s p (Release t) y l = ThreadsLane (cpu_of s t) ∷ []
-command_lanes s p (Alert t m) y l = ThreadsLane (cpu_of s t) ∷ []
-command_lanes s p (TestAlert m) y l = ThreadsLane p ∷ []
-command_lanes s p (Clock units) y l = TimersLane ∷ []
-command_lanes s p ToUser y l = ThreadsLane p ∷ []
-command_lanes s p Yield y l = ThreadsLane p ∷ []
-command_lanes s p c y l = []
+command_lanes s p (cmd.Queue d) y l = insert_lanes p d y l
+command_lanes s p (cmd.Unqueue d) y l = ObjectLane d ∷ standing_lanes (object_at l d).standing
+command_lanes s p (cmd.SetImportance d i) y l = ObjectLane d ∷ []
+command_lanes s p (cmd.SetTarget d t) y l = ObjectLane d ∷ []
+command_lanes s p (cmd.SetTimer t due period) y l = TimersLane ∷ []
+command_lanes s p (cmd.CancelTimer t) y l = TimersLane ∷ []
+command_lanes s p (cmd.InsertApc a) y l = ThreadsLane (cpu_of s (owner_of s a)) ∷ []
+command_lanes s p (cmd.RemoveApc a) y l = ThreadsLane (cpu_of s (owner_of s a)) ∷ []
+command_lanes s p (cmd.StartWait m a) y l = ThreadsLane p ∷ []
+command_lanes s p (cmd.Delay m a units) y l = ThreadsLane p ∷ TimersLane ∷ []
+command_lanes s p (cmd.Release t) y l = ThreadsLane (cpu_of s t) ∷ []
+command_lanes s p (cmd.Alert t m) y l = ThreadsLane (cpu_of s t) ∷ []
+command_lanes s p (cmd.TestAlert m) y l = ThreadsLane p ∷ []
+command_lanes s p (cmd.Clock units) y l = TimersLane ∷ []
+command_lanes s p cmd.ToUser y l = ThreadsLane p ∷ []
+command_lanes s p cmd.Yield y l = ThreadsLane p ∷ []
+command_lanes s p (cmd.Raise level) y l = []
+command_lanes s p (cmd.Lower level) y l = []
+command_lanes s p cmd.EnterCrit y l = []
+command_lanes s p cmd.EnterGuard y l = []
+command_lanes s p cmd.LeaveCrit y l = []
+command_lanes s p cmd.LeaveGuard y l = []
+command_lanes s p (cmd.Interrupt q level) y l = []
+command_lanes s p (cmd.Note n) y l = []
 
 abbrev pub begin_lanes : Stand → Begun → List Lane
-begin_lanes st (Int level) = []
-begin_lanes st (Dpc d) = ObjectLane d ∷ QueueLane st.cpu ∷ lane_if st.sweep TimersLane
-begin_lanes st (Threaded d) = ObjectLane d ∷ QueueLane st.cpu ∷ []
-begin_lanes st (Apc a) = ThreadsLane st.cpu ∷ []
+begin_lanes st (begun.Int level) = []
+begin_lanes st (begun.Dpc d) = ObjectLane d ∷ QueueLane st.cpu ∷ lane_if st.sweep TimersLane
+begin_lanes st (begun.Threaded d) = ObjectLane d ∷ QueueLane st.cpu ∷ []
+begin_lanes st (begun.Apc a) = ThreadsLane st.cpu ∷ []
 
 abbrev pub clean_lanes : Stand → ℕ → List Lane
 clean_lanes st class =
-    if class == 1 then (ThreadsLane st.cpu ∷ []) else (QueueLane st.cpu ∷ lane_if (st.sweep && (class == 2)) TimersLane)
+    if class == apc_class then (ThreadsLane st.cpu ∷ [])
+    else (QueueLane st.cpu ∷ lane_if (st.sweep && (class == dispatch_class)) TimersLane)
 
 abbrev pub expire_lanes : Script → TimerKey → List Lane
-expire_lanes s (OfTimer t) = TimersLane ∷ []
-expire_lanes s (OfDelay t) = ThreadsLane (cpu_of s t) ∷ TimersLane ∷ []
+expire_lanes s (keys.Timer t) = TimersLane ∷ []
+expire_lanes s (keys.Delay t) = ThreadsLane (cpu_of s t) ∷ TimersLane ∷ []
 
 -- the end of a base frame or of a user APC touches the processor's threads, that of another frame no lane
 abbrev pub end_lanes : CpuNo → Option Body → List Lane
-end_lanes p (Some (OnBase t)) = ThreadsLane p ∷ []
-end_lanes p (Some (OnApc a UserApc)) = ThreadsLane p ∷ []
+end_lanes p (Some (on.Base t)) = ThreadsLane p ∷ []
+end_lanes p (Some (on.Apc a UserApc)) = ThreadsLane p ∷ []
 end_lanes p _ = []
 
 -- the lanes of an event of a processor that stands so
 abbrev pub what_lanes : Script → Stand → What → Lanes → List Lane
-what_lanes s st (Call f c y) l = if is_refused y then [] else command_lanes s st.cpu c y l
-what_lanes s st (Begin b from) l = begin_lanes st b
-what_lanes s st (Clean class) l = clean_lanes st class
-what_lanes s st (Expire key from) l = expire_lanes s key
-what_lanes s st (Fire d y) l = insert_lanes st.cpu d y l
-what_lanes s st (Switch t status) l = QueueLane st.cpu ∷ ThreadsLane st.cpu ∷ []
-what_lanes s st (Rewait f y) l =
+what_lanes s st (what.Call f c y) l = if is_refused y then [] else command_lanes s st.cpu c y l
+what_lanes s st (what.Begin b from) l = begin_lanes st b
+what_lanes s st (what.Clean class) l = clean_lanes st class
+what_lanes s st (what.Expire key from) l = expire_lanes s key
+what_lanes s st (what.Fire d y) l = insert_lanes st.cpu d y l
+what_lanes s st (what.Switch t status) l = QueueLane st.cpu ∷ ThreadsLane st.cpu ∷ []
+what_lanes s st (what.Rewait f y) l =
     ThreadsLane st.cpu ∷ lane_if (is_some (option_and_then (λ w. w.due) st.again)) TimersLane
-what_lanes s st Rest l = QueueLane st.cpu ∷ ThreadsLane st.cpu ∷ []
-what_lanes s st (End f) l = end_lanes st.cpu st.body
-what_lanes s st (Flush a from) l = ThreadsLane st.cpu ∷ []
-what_lanes s st (Gone t) l = ThreadsLane st.cpu ∷ []
-what_lanes s st w l = []
+what_lanes s st what.Rest l = QueueLane st.cpu ∷ ThreadsLane st.cpu ∷ []
+what_lanes s st (what.End f) l = end_lanes st.cpu st.body
+what_lanes s st (what.Flush a from) l = ThreadsLane st.cpu ∷ []
+what_lanes s st (what.Gone t) l = ThreadsLane st.cpu ∷ []
+what_lanes s st (what.Look r) l = []
+what_lanes s st (what.Normal f) l = []
 
 abbrev pub lanes_of : Script → Event → List Event → List Lane
 lanes_of s e past = what_lanes s (stand_at s e.cpu past) e.what (lanes_at s past)

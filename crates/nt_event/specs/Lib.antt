@@ -1,5 +1,7 @@
 pub mod Numbered
+pub mod Classes
 pub mod Script
+pub mod Fitting
 pub mod Numbers
 pub mod Lists
 pub mod Replies

@@ -1,9 +1,9 @@
 -- What a processor keeps: the questions about its own part of the history.
 use Rattle.std.specs.Prelude.{Bool, List, None, Option, Some, [], false, if◌then◌else◌, true, ℕ, ◌+◌, ◌∷◌}
-use Rattle.nt_event.specs.declared.commands.TimerKey.TheVariants.{Delay as OfDelay, Timer as OfTimer}
+use Rattle.nt_event.specs.declared.commands.TimerKey.TheVariants as keys
 use Rattle.nt_event.specs.declared.events.Event.{Event}
 use Rattle.nt_event.specs.declared.events.What.{What}
-use Rattle.nt_event.specs.declared.events.What.TheVariants.{Expire, Fire, Rest, Switch}
+use Rattle.nt_event.specs.declared.events.What.TheVariants as what
 use Rattle.nt_event.specs.declared.jobs.Stand.{Stand}
 use Rattle.nt_event.specs.declared.numbers.CpuNo.{CpuNo}
 use Rattle.nt_event.specs.declared.numbers.DpcNo.{DpcNo}
@@ -22,8 +22,19 @@ made p [] = 0
 made p (e ∷ past) = if is_of e p then made p past + 1 else made p past
 
 abbrev pub is_rest : What → Bool
-is_rest Rest = true
-is_rest _ = false
+is_rest what.Rest = true
+is_rest (what.Call f c y) = false
+is_rest (what.Look r) = false
+is_rest (what.Begin b from) = false
+is_rest (what.Normal f) = false
+is_rest (what.End f) = false
+is_rest (what.Expire key from) = false
+is_rest (what.Fire d y) = false
+is_rest (what.Clean class) = false
+is_rest (what.Switch t status) = false
+is_rest (what.Rewait f y) = false
+is_rest (what.Flush a from) = false
+is_rest (what.Gone t) = false
 
 -- its last event is Rest
 abbrev pub rested : CpuNo → List Event → Bool
@@ -31,8 +42,19 @@ rested p [] = false
 rested p (e ∷ past) = if is_of e p then is_rest e.what else rested p past
 
 abbrev pub took_after : What → Option ThreadNo → Option ThreadNo
-took_after (Switch t status) old = Some t
-took_after _ old = old
+took_after (what.Switch t status) old = Some t
+took_after (what.Call f c y) old = old
+took_after (what.Look r) old = old
+took_after (what.Begin b from) old = old
+took_after (what.Normal f) old = old
+took_after (what.End f) old = old
+took_after (what.Expire key from) old = old
+took_after (what.Fire d y) old = old
+took_after (what.Clean class) old = old
+took_after (what.Rewait f y) old = old
+took_after (what.Flush a from) old = old
+took_after (what.Gone t) old = old
+took_after what.Rest old = old
 
 -- the thread that it took up last
 abbrev pub took : CpuNo → List Event → Option ThreadNo
@@ -41,17 +63,28 @@ took p (e ∷ past) = if is_of e p then took_after e.what (took p past) else too
 
 -- profile: an expiry inserts the timer's DPC by the next event but a Look of that processor
 abbrev pub fire_after : Script → What → Option DpcNo → Option DpcNo
-fire_after s (Expire (OfTimer t) from) old = dpc_of s t
-fire_after s (Expire (OfDelay t) from) old = None
-fire_after s (Fire d y) old = None
-fire_after s _ old = old
+fire_after s (what.Expire (keys.Timer t) from) old = dpc_of s t
+fire_after s (what.Expire (keys.Delay t) from) old = None
+fire_after s (what.Fire d y) old = None
+fire_after s (what.Call f c y) old = old
+fire_after s (what.Look r) old = old
+fire_after s (what.Begin b from) old = old
+fire_after s (what.Normal f) old = old
+fire_after s (what.End f) old = old
+fire_after s (what.Clean class) old = old
+fire_after s (what.Switch t status) old = old
+fire_after s (what.Rewait f y) old = old
+fire_after s (what.Flush a from) old = old
+fire_after s (what.Gone t) old = old
+fire_after s what.Rest old = old
 
 -- the DPC that it has to fire
 abbrev pub fire : Script → CpuNo → List Event → Option DpcNo
 fire s p [] = None
 fire s p (e ∷ past) = if is_of e p then fire_after s e.what (fire s p past) else fire s p past
 
--- what a processor keeps: how many events it made, its frames, what it has seen and served of each class, whether its last
+-- what a processor keeps: how many events it made, its frames, what it has seen and served of each class, whether its
+-- last
 -- event is Rest, the thread that it took last, the DPC that it has to fire, whether it owes a sweep of the timers
 pub record Own : Type 0 where
   pub made : ℕ
@@ -65,14 +98,34 @@ pub record Own : Type 0 where
 
 abbrev pub own_of : Script → CpuNo → List Event → Own
 own_of s p past =
-    record { made = made p past; frames = frames_of s p past; seen = table 16 (λ c. seen s p c past); served = table 16 (λ c. served s p c past); rested = rested p past; took = took p past; fire = fire s p past; sweep = owes_sweep p past }
+    record {
+      made = made p past;
+      frames = frames_of s p past;
+      seen = table 16 (λ c. seen s p c past);
+      served = table 16 (λ c. served s p c past);
+      rested = rested p past;
+      took = took p past;
+      fire = fire s p past;
+      sweep = owes_sweep p past;
+    }
 
--- what an event of the processor with this number and due time leaves, where it asks for these classes of the processor and
+-- what an event of the processor with this number and due time leaves, where it asks for these classes of the processor
+-- and
 -- touches lanes that tell these values
 abbrev pub own_after_event : Script → ℕ → Option ℕ → Event → (ℕ → Bool) → (ℕ → ℕ) → Own → Own
 own_after_event s n due e asked told x =
-    record { made = x.made + 1; frames = frames_after s n due e x.frames; seen = table 16 (λ c. seen_after n e.what c (asked c) (told c) (value_at x.seen c)); served = table 16 (λ c. served_after e.what c (seen_after n e.what c (asked c) (told c) (value_at x.seen c)) (value_at x.served c)); rested = is_rest e.what; took = took_after e.what x.took; fire = fire_after s e.what x.fire; sweep = sweep_after e.what x.sweep }
+    record {
+      made = x.made + 1;
+      frames = frames_after s n due e x.frames;
+      seen = table 16 (λ c. seen_after n e.what c (asked c) (told c) (value_at x.seen c));
+      served = table 16 (λ c. served_after e.what c (seen_after n e.what c (asked c) (told c) (value_at x.seen c))
+          (value_at x.served c));
+      rested = is_rest e.what;
+      took = took_after e.what x.took;
+      fire = fire_after s e.what x.fire;
+      sweep = sweep_after e.what x.sweep;
+    }
 
 -- where the processor stands
-abbrev pub standing_in : CpuNo → Own → Stand
-standing_in p x = stand_of p x.frames x.sweep
+abbrev pub stand_in : CpuNo → Own → Stand
+stand_in p x = stand_of p x.frames x.sweep

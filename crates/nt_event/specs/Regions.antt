@@ -2,16 +2,17 @@
 use Rattle.std.specs.List.{list_any}
 use Rattle.std.specs.Option.{option_map_or, option_or}
 use Rattle.std.specs.Prelude.{Bool, List, [], false, if◌then◌else◌, not, option_and_then, option_map, sum_by, ℕ, ◌&&◌, ◌==◌, ◌||◌, ◌∷◌}
-use Rattle.nt_event.specs.declared.commands.Command.TheVariants.{SetTimer}
+use Rattle.nt_event.specs.declared.commands.Command.TheVariants as cmd
 use Rattle.nt_event.specs.declared.commands.Regions.{Regions}
-use Rattle.nt_event.specs.declared.events.Begun.TheVariants.{Int}
+use Rattle.nt_event.specs.declared.events.Begun.TheVariants as begun
 use Rattle.nt_event.specs.declared.events.Event.{Event}
 use Rattle.nt_event.specs.declared.events.What.{What}
-use Rattle.nt_event.specs.declared.events.What.TheVariants.{Begin, Call, Clean}
+use Rattle.nt_event.specs.declared.events.What.TheVariants as what
 use Rattle.nt_event.specs.declared.frames.Frame.{Frame}
 use Rattle.nt_event.specs.declared.jobs.Stand.{Stand}
 use Rattle.nt_event.specs.declared.numbers.CpuNo.{CpuNo}
 use Rattle.nt_event.specs.declared.scripts.Script.{Script}
+use Rattle.nt_event.specs.Classes.{clock_class, dispatch_class}
 use Rattle.nt_event.specs.Frames.{Frames, frames_of, innermost, is_normal_apc_body, level_in, thread_part}
 use Rattle.nt_event.specs.Lists.{head_of, is_null, tail_of}
 use Rattle.nt_event.specs.Replies.{is_answer}
@@ -57,13 +58,49 @@ some_came_to_0 before now = came_to_0 before.crit now.crit || came_to_0 before.g
 
 -- ---- owed sweeps
 
--- profile: a processor owes a sweep of the timers from the beginning of a clock interrupt on it, and from its own set of a
--- timer that is due already, until its next Clean of class 2
+-- profile: a processor owes a sweep of the timers from the beginning of a clock interrupt on it, and from its own set
+-- of a
+-- timer that is due already, until its next Clean of dispatch
 abbrev pub sweep_after : What → Bool → Bool
-sweep_after (Begin (Int level) from) old = (level == 13) || old
-sweep_after (Call f (SetTimer t due period) y) old = (is_answer y && (due == 0)) || old
-sweep_after (Clean class) old = not (class == 2) && old
-sweep_after _ old = old
+sweep_after (what.Begin (begun.Int level) from) old = (level == clock_class) || old
+sweep_after (what.Call f (cmd.SetTimer t due period) y) old = (is_answer y && (due == 0)) || old
+sweep_after (what.Clean class) old = not (class == dispatch_class) && old
+sweep_after (what.Call f (cmd.Raise level) y) old = old
+sweep_after (what.Call f (cmd.Lower level) y) old = old
+sweep_after (what.Call f (cmd.Queue d) y) old = old
+sweep_after (what.Call f (cmd.Unqueue d) y) old = old
+sweep_after (what.Call f (cmd.SetImportance d i) y) old = old
+sweep_after (what.Call f (cmd.SetTarget d q) y) old = old
+sweep_after (what.Call f (cmd.CancelTimer t) y) old = old
+sweep_after (what.Call f (cmd.InsertApc a) y) old = old
+sweep_after (what.Call f (cmd.RemoveApc a) y) old = old
+sweep_after (what.Call f cmd.EnterCrit y) old = old
+sweep_after (what.Call f cmd.EnterGuard y) old = old
+sweep_after (what.Call f cmd.LeaveCrit y) old = old
+sweep_after (what.Call f cmd.LeaveGuard y) old = old
+sweep_after (what.Call f (cmd.StartWait m a) y) old = old
+sweep_after (what.Call f (cmd.Delay m a units) y) old = old
+sweep_after (what.Call f (cmd.Release t) y) old = old
+sweep_after (what.Call f (cmd.Alert t m) y) old = old
+sweep_after (what.Call f (cmd.TestAlert m) y) old = old
+sweep_after (what.Call f (cmd.Interrupt q level) y) old = old
+sweep_after (what.Call f (cmd.Clock units) y) old = old
+sweep_after (what.Call f cmd.ToUser y) old = old
+sweep_after (what.Call f cmd.Yield y) old = old
+sweep_after (what.Call f (cmd.Note n) y) old = old
+sweep_after (what.Look r) old = old
+sweep_after (what.Begin (begun.Dpc d) from) old = old
+sweep_after (what.Begin (begun.Threaded d) from) old = old
+sweep_after (what.Begin (begun.Apc a) from) old = old
+sweep_after (what.Normal f) old = old
+sweep_after (what.End f) old = old
+sweep_after (what.Expire key from) old = old
+sweep_after (what.Fire d y) old = old
+sweep_after (what.Switch t status) old = old
+sweep_after (what.Rewait f y) old = old
+sweep_after (what.Flush a from) old = old
+sweep_after (what.Gone t) old = old
+sweep_after what.Rest old = old
 
 abbrev pub owes_sweep : CpuNo → List Event → Bool
 owes_sweep p [] = false
@@ -73,7 +110,18 @@ owes_sweep p (e ∷ past) = if is_of e p then sweep_after e.what (owes_sweep p p
 
 abbrev pub stand_of : CpuNo → Frames → Bool → Stand
 stand_of p x sweep =
-    record { cpu = p; thread = x.running; frame = option_map_or (λ f. f.name) (innermost x) 0; body = option_map (λ f. f.body) (innermost x); level = level_in x; regions = regions_of (thread_part x); below = below_in x; after = after_in x; again = option_and_then (λ f. f.again) (innermost x); sweep = sweep }
+    record {
+      cpu = p;
+      thread = x.running;
+      frame = option_map_or (λ f. f.name) (innermost x) 0;
+      body = option_map (λ f. f.body) (innermost x);
+      level = level_in x;
+      regions = regions_of (thread_part x);
+      below = below_in x;
+      after = after_in x;
+      again = option_and_then (λ f. f.again) (innermost x);
+      sweep = sweep;
+    }
 
 abbrev pub stand_at : Script → CpuNo → List Event → Stand
 stand_at s p past = stand_of p (frames_of s p past) (owes_sweep p past)

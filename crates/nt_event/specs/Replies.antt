@@ -3,29 +3,48 @@ use Rattle.std.specs.Prelude.{Bool, false, true, ℕ}
 use Rattle.nt_event.specs.declared.commands.Mode.{Mode}
 use Rattle.nt_event.specs.declared.commands.Mode.TheVariants.{Kernel as KernelMode, User as UserMode}
 use Rattle.nt_event.specs.declared.commands.Reply.{Reply}
-use Rattle.nt_event.specs.declared.commands.Reply.TheVariants.{Blocked, Done, No, Refused, Yes}
+use Rattle.nt_event.specs.declared.commands.Reply.TheVariants.{Blocked, Done, No, Refused, Status, Yes}
 
 abbrev pub is_done : Reply → Bool
 is_done Done = true
-is_done _ = false
+is_done Yes = false
+is_done No = false
+is_done (Status status) = false
+is_done Blocked = false
+is_done (Refused r) = false
 
 abbrev pub is_yes : Reply → Bool
 is_yes Yes = true
-is_yes _ = false
+is_yes Done = false
+is_yes No = false
+is_yes (Status status) = false
+is_yes Blocked = false
+is_yes (Refused r) = false
 
 -- yes or no
 abbrev pub is_answer : Reply → Bool
 is_answer Yes = true
 is_answer No = true
-is_answer _ = false
+is_answer Done = false
+is_answer (Status status) = false
+is_answer Blocked = false
+is_answer (Refused r) = false
 
 abbrev pub is_blocked : Reply → Bool
 is_blocked Blocked = true
-is_blocked _ = false
+is_blocked Done = false
+is_blocked Yes = false
+is_blocked No = false
+is_blocked (Status status) = false
+is_blocked (Refused r) = false
 
 abbrev pub is_refused : Reply → Bool
 is_refused (Refused r) = true
-is_refused _ = false
+is_refused Done = false
+is_refused Yes = false
+is_refused No = false
+is_refused (Status status) = false
+is_refused Blocked = false
 
 abbrev pub yes_if : Bool → Reply
 yes_if true = Yes

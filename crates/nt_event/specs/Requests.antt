@@ -3,16 +3,16 @@ use Rattle.std.specs.List.{list_any}
 use Rattle.std.specs.Prelude.{Bool, List, Option, Some, [], false, if◌then◌else◌, length, max, nat_lt, not, true, ℕ, ◌&&◌, ◌++◌, ◌+◌, ◌==◌, ◌||◌, ◌∷◌}
 use Rattle.nt_event.specs.declared.commands.ApcKind.TheVariants.{Normal as NormalApc}
 use Rattle.nt_event.specs.declared.commands.Command.{Command}
-use Rattle.nt_event.specs.declared.commands.Command.TheVariants.{Alert, Clock, InsertApc, Interrupt, LeaveCrit, LeaveGuard, Queue, Release}
+use Rattle.nt_event.specs.declared.commands.Command.TheVariants as cmd
 use Rattle.nt_event.specs.declared.commands.Reply.{Reply}
 use Rattle.nt_event.specs.declared.commands.Reply.TheVariants.{Done, No, Yes}
-use Rattle.nt_event.specs.declared.commands.TimerKey.TheVariants.{Delay as OfDelay}
-use Rattle.nt_event.specs.declared.events.Begun.TheVariants.{Int}
+use Rattle.nt_event.specs.declared.commands.TimerKey.TheVariants as keys
+use Rattle.nt_event.specs.declared.events.Begun.TheVariants as begun
 use Rattle.nt_event.specs.declared.events.Event.{Event}
 use Rattle.nt_event.specs.declared.events.What.{What}
-use Rattle.nt_event.specs.declared.events.What.TheVariants.{Begin, Call, Clean, End, Expire, Fire, Look, Normal, Switch}
+use Rattle.nt_event.specs.declared.events.What.TheVariants as what
 use Rattle.nt_event.specs.declared.frames.Body.{Body}
-use Rattle.nt_event.specs.declared.frames.Body.TheVariants.{Apc as OnApc, Base as OnBase}
+use Rattle.nt_event.specs.declared.frames.Body.TheVariants as on
 use Rattle.nt_event.specs.declared.inserts.Part.{Part}
 use Rattle.nt_event.specs.declared.inserts.Part.TheVariants.{Ordinary as OrdinaryPart, Threaded as ThreadedPart}
 use Rattle.nt_event.specs.declared.jobs.Lane.{Lane}
@@ -22,6 +22,7 @@ use Rattle.nt_event.specs.declared.numbers.CpuNo.{CpuNo}
 use Rattle.nt_event.specs.declared.numbers.DpcNo.{DpcNo}
 use Rattle.nt_event.specs.declared.numbers.ThreadNo.{ThreadNo}
 use Rattle.nt_event.specs.declared.scripts.Script.{Script}
+use Rattle.nt_event.specs.Classes.{apc_class, clock_class, dispatch_class, threaded_class}
 use Rattle.nt_event.specs.Apcs.{has_kernel}
 use Rattle.nt_event.specs.Lanes.{Lanes, facts_at, facts_of, lanes_at, lanes_of, object_at, queue_at, touches}
 use Rattle.nt_event.specs.Objects.{ObjectState, queue_for}
@@ -44,52 +45,87 @@ abbrev pub ask_if : Bool → CpuNo → ℕ → List Ask
 ask_if true p c = ask p c
 ask_if false p c = []
 
--- an insert of a threaded DPC always asks for class 0 of its queue's processor, one of an ordinary DPC for class 2 by the
+-- an insert of a threaded DPC always asks its queue's processor for that class, one of an ordinary DPC for dispatch by
+-- the
 -- table of importance, depth after the insert and idle target (profile)
 abbrev pub dpc_asks : Script → Part → ObjectState → CpuNo → CpuNo → QueueState → List Ask
-dpc_asks s ThreadedPart o by q x = ask q 0
+dpc_asks s ThreadedPart o by q x = ask q threaded_class
 dpc_asks s OrdinaryPart o by q x =
-    ask_if (insert_asks o.importance (q.0 == by.0) (nat_lt (depth_limit s) (depth_of x.pending + 1)) x.idle) q 2
+    ask_if (insert_asks o.importance (q.0 == by.0)
+    (nat_lt (depth_limit s) (depth_of x.pending + 1)) x.idle) q dispatch_class
 
 abbrev pub queue_asks : Script → DpcNo → CpuNo → Lanes → List Ask
 queue_asks s d by l =
     let q : CpuNo = queue_for (object_at l d).target by in dpc_asks s (part_of s d) (object_at l d) by q (queue_at l q)
 
--- an insert of a kernel APC asks for class 1 of its thread's processor, one that ends a wait for class 2
+-- an insert of a kernel APC asks its thread's processor for kernel APCs, one that ends a wait for dispatch
 abbrev pub apc_asks : Script → ApcNo → Lanes → List Ask
 apc_asks s a l =
     let t : ThreadNo = owner_of s a in
-    ask_if (is_kernel_kind (kind_of s a)) (cpu_of s t) 1 ++ ask_if (ends_by_apc (new_pick s a 0) (facts_at l t)) (cpu_of s t) 2
+    ask_if (is_kernel_kind (kind_of s a)) (cpu_of s t) apc_class
+    ++ ask_if (ends_by_apc (new_pick s a 0) (facts_at l t)) (cpu_of s t) dispatch_class
 
 -- what a call asks for, by the states before it
 abbrev pub command_asks : Script → Stand → Command → Reply → Lanes → List Ask
-command_asks s st (Queue d) Yes l = queue_asks s d st.cpu l
-command_asks s st (InsertApc a) Yes l = apc_asks s a l
-command_asks s st LeaveCrit Done l = ask_if (st.regions.crit == 1) st.cpu 1
-command_asks s st LeaveGuard Done l = ask_if (st.regions.guard == 1) st.cpu 1
-command_asks s st (Release t) Yes l = ask (cpu_of s t) 2
-command_asks s st (Alert t m) No l =
-    ask_if (not (is_gone (facts_at l t)) && ends_by_alert m (facts_at l t)) (cpu_of s t) 2
-command_asks s st (Interrupt q level) Done l = ask q level
-command_asks s st (Clock units) Done l = ask st.cpu 13
-command_asks s st c y l = []
+command_asks s st (cmd.Queue d) Yes l = queue_asks s d st.cpu l
+command_asks s st (cmd.InsertApc a) Yes l = apc_asks s a l
+command_asks s st cmd.LeaveCrit Done l = ask_if (st.regions.crit == 1) st.cpu apc_class
+command_asks s st cmd.LeaveGuard Done l = ask_if (st.regions.guard == 1) st.cpu apc_class
+command_asks s st (cmd.Release t) Yes l = ask (cpu_of s t) dispatch_class
+command_asks s st (cmd.Alert t m) No l =
+    ask_if (not (is_gone (facts_at l t)) && ends_by_alert m (facts_at l t)) (cpu_of s t) dispatch_class
+command_asks s st (cmd.Interrupt q level) Done l = ask q level
+command_asks s st (cmd.Clock units) Done l = ask st.cpu clock_class
+command_asks s st (cmd.Raise level) y l = []
+command_asks s st (cmd.Lower level) y l = []
+command_asks s st (cmd.Queue d) y l = []
+command_asks s st (cmd.Unqueue d) y l = []
+command_asks s st (cmd.SetImportance d i) y l = []
+command_asks s st (cmd.SetTarget d q) y l = []
+command_asks s st (cmd.SetTimer t due period) y l = []
+command_asks s st (cmd.CancelTimer t) y l = []
+command_asks s st (cmd.InsertApc a) y l = []
+command_asks s st (cmd.RemoveApc a) y l = []
+command_asks s st cmd.EnterCrit y l = []
+command_asks s st cmd.EnterGuard y l = []
+command_asks s st cmd.LeaveCrit y l = []
+command_asks s st cmd.LeaveGuard y l = []
+command_asks s st (cmd.StartWait m a) y l = []
+command_asks s st (cmd.Delay m a units) y l = []
+command_asks s st (cmd.Release t) y l = []
+command_asks s st (cmd.Alert t m) y l = []
+command_asks s st (cmd.TestAlert m) y l = []
+command_asks s st (cmd.Interrupt q level) y l = []
+command_asks s st (cmd.Clock units) y l = []
+command_asks s st cmd.ToUser y l = []
+command_asks s st cmd.Yield y l = []
+command_asks s st (cmd.Note n) y l = []
 
 -- what the end of a frame asks for
 abbrev pub end_asks : Stand → Option Body → Lanes → List Ask
-end_asks st (Some (OnApc a NormalApc)) l = ask st.cpu 1
-end_asks st (Some (OnBase t)) l =
-    ask_if (some_came_to_0 st.regions st.below || has_kernel (facts_of l st.thread).apcs) st.cpu 1
-end_asks st b l = ask_if (some_came_to_0 st.regions st.below) st.cpu 1
+end_asks st (Some (on.Apc a NormalApc)) l = ask st.cpu apc_class
+end_asks st (Some (on.Base t)) l =
+    ask_if (some_came_to_0 st.regions st.below || has_kernel (facts_of l st.thread).apcs) st.cpu apc_class
+end_asks st b l = ask_if (some_came_to_0 st.regions st.below) st.cpu apc_class
 
 -- what an event of a processor that stands so asks for, by the states before it
 abbrev pub what_asks : Script → Stand → What → Lanes → List Ask
-what_asks s st (Call f c y) l = command_asks s st c y l
-what_asks s st (Fire d Yes) l = queue_asks s d st.cpu l
-what_asks s st (Expire (OfDelay t) from) l = ask_if (ends_by_expiry from (facts_at l t)) (cpu_of s t) 2
-what_asks s st (Switch t status) l = ask_if (has_kernel (facts_at l t).apcs) st.cpu 1
-what_asks s st (Normal f) l = ask_if (some_came_to_0 st.regions st.below) st.cpu 1
-what_asks s st (End f) l = end_asks st st.body l
-what_asks s st w l = []
+what_asks s st (what.Call f c y) l = command_asks s st c y l
+what_asks s st (what.Fire d Yes) l = queue_asks s d st.cpu l
+what_asks s st (what.Expire (keys.Delay t) from) l = ask_if (ends_by_expiry from (facts_at l t))
+    (cpu_of s t) dispatch_class
+what_asks s st (what.Switch t status) l = ask_if (has_kernel (facts_at l t).apcs) st.cpu apc_class
+what_asks s st (what.Normal f) l = ask_if (some_came_to_0 st.regions st.below) st.cpu apc_class
+what_asks s st (what.End f) l = end_asks st st.body l
+what_asks s st (what.Look r) l = []
+what_asks s st (what.Begin b from) l = []
+what_asks s st (what.Expire (keys.Timer t) from) l = []
+what_asks s st (what.Fire d y) l = []
+what_asks s st (what.Clean class) l = []
+what_asks s st (what.Rewait f y) l = []
+what_asks s st (what.Flush a from) l = []
+what_asks s st (what.Gone t) l = []
+what_asks s st what.Rest l = []
 
 abbrev pub is_ask : CpuNo → ℕ → Ask → Bool
 is_ask p c a = (a.cpu.0 == p.0) && (a.class == c)
@@ -129,8 +165,19 @@ abbrev pub told : Script → CpuNo → ℕ → Event → List Event → ℕ
 told s p c e past = told_by_all s (lanes_of s e past) p c past
 
 abbrev pub looked : What → ℕ → ℕ
-looked (Look r) c = value_at r.value c
-looked w c = 0
+looked (what.Look r) c = value_at r.value c
+looked (what.Call f command y) c = 0
+looked (what.Begin b from) c = 0
+looked (what.Normal f) c = 0
+looked (what.End f) c = 0
+looked (what.Expire key from) c = 0
+looked (what.Fire d y) c = 0
+looked (what.Clean class) c = 0
+looked (what.Switch t status) c = 0
+looked (what.Rewait f y) c = 0
+looked (what.Flush a from) c = 0
+looked (what.Gone t) c = 0
+looked what.Rest c = 0
 
 -- what is noticed after the event of this number, which asks or doesn't, and touches lanes that tell this value
 abbrev pub seen_after : ℕ → What → ℕ → Bool → ℕ → ℕ → ℕ
@@ -140,13 +187,27 @@ seen_after n w c asked told old = raised asked n (max (max old (looked w c)) tol
 abbrev pub seen : Script → CpuNo → ℕ → List Event → ℕ
 seen s p c [] = 0
 seen s p c (e ∷ past) =
-    if is_of e p then seen_after (length past) e.what c (asks s p c e past) (told s p c e past) (seen s p c past) else seen s p c past
+    if is_of e p then seen_after (length past) e.what c (asks s p c e past) (told s p c e past) (seen s p c past)
+    else seen s p c past
 
 -- the event serves the class
 abbrev pub serves : ℕ → What → Bool
-serves c (Clean k) = k == c
-serves c (Begin (Int level) from) = level == c
-serves c w = false
+serves c (what.Clean k) = k == c
+serves c (what.Begin (begun.Int level) from) = level == c
+serves c (what.Call f command y) = false
+serves c (what.Look r) = false
+serves c (what.Begin (begun.Dpc d) from) = false
+serves c (what.Begin (begun.Threaded d) from) = false
+serves c (what.Begin (begun.Apc a) from) = false
+serves c (what.Normal f) = false
+serves c (what.End f) = false
+serves c (what.Expire key from) = false
+serves c (what.Fire d y) = false
+serves c (what.Switch t status) = false
+serves c (what.Rewait f y) = false
+serves c (what.Flush a from) = false
+serves c (what.Gone t) = false
+serves c what.Rest = false
 
 -- what is served after an event, by what is seen after it
 abbrev pub served_after : What → ℕ → ℕ → ℕ → ℕ

@@ -52,11 +52,13 @@ go_on_turn s p x l = if may_switch x then switch_or_next p (next_ready s p x.too
 -- the turn of a processor that isn't cut: 1, a look at what was asked; 2, none where it rests; 3 and 4
 abbrev pub robin_at : Script → CpuNo → Own → Lanes → (ℕ → ℕ) → Option Turn
 robin_at s p x l asked =
-    if is_behind x asked then Some (LookTurn p (record { value = look_values x asked })) else (if rests x then None else Some (go_on_turn s p x l))
+    if is_behind x asked then Some (LookTurn p (record { value = look_values x asked }))
+    else (if rests x then None else Some (go_on_turn s p x l))
 
 abbrev pub robin_of : Script → ℕ → CpuNo → List Event → Option Turn
 robin_of s limit p past =
-    when (not (is_cut limit (own_of s p past))) (robin_at s p (own_of s p past) (lanes_at s past) (λ c. asked s p c past))
+    when (not (is_cut limit (own_of s p past)))
+    (robin_at s p (own_of s p past) (lanes_at s past) (λ c. asked s p c past))
 
 -- the first processor to be tried: the one after that of the last event
 abbrev pub first_cpu : Script → List Event → ℕ

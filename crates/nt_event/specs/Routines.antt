@@ -5,7 +5,7 @@ use Rattle.nt_event.specs.declared.commands.ApcKind.{ApcKind}
 use Rattle.nt_event.specs.declared.commands.ApcKind.TheVariants.{Special as SpecialApc, User as UserApc}
 use Rattle.nt_event.specs.declared.commands.Command.{Command}
 use Rattle.nt_event.specs.declared.frames.Body.{Body}
-use Rattle.nt_event.specs.declared.frames.Body.TheVariants.{Apc as OnApc, Base as OnBase, Dpc as OnDpc, Int as OnInt, Rundown as OnRundown, Threaded as OnThreaded}
+use Rattle.nt_event.specs.declared.frames.Body.TheVariants as on
 use Rattle.nt_event.specs.declared.frames.Frame.{Frame}
 use Rattle.nt_event.specs.declared.inserts.Part.{Part}
 use Rattle.nt_event.specs.declared.inserts.Part.TheVariants.{Ordinary as OrdinaryPart, Threaded as ThreadedPart}
@@ -73,12 +73,12 @@ apc_routine kernel_phase (Some x) = if kernel_phase then Some x.kernel else x.no
 
 -- the routine of a frame; an interrupt for which the script has no line has one without commands
 abbrev pub routine_of : Script → CpuNo → Body → Bool → Option RoutineNo
-routine_of s p (OnInt level) k = isr_of s.isrs p level
-routine_of s p (OnDpc d) k = option_map (λ x. x.routine) (slice_get s.dpcs d.0)
-routine_of s p (OnThreaded d) k = option_map (λ x. x.routine) (slice_get s.dpcs d.0)
-routine_of s p (OnApc a kind) k = apc_routine k (slice_get s.apcs a.0)
-routine_of s p (OnBase t) k = option_map (λ x. x.routine) (slice_get s.threads t.0)
-routine_of s p (OnRundown a) k = rundown_of s a
+routine_of s p (on.Int level) k = isr_of s.isrs p level
+routine_of s p (on.Dpc d) k = option_map (λ x. x.routine) (slice_get s.dpcs d.0)
+routine_of s p (on.Threaded d) k = option_map (λ x. x.routine) (slice_get s.dpcs d.0)
+routine_of s p (on.Apc a kind) k = apc_routine k (slice_get s.apcs a.0)
+routine_of s p (on.Base t) k = option_map (λ x. x.routine) (slice_get s.threads t.0)
+routine_of s p (on.Rundown a) k = rundown_of s a
 
 -- the frame's next command: the one at its place in the routine of its present phase; a leaving thread's base has none
 abbrev pub next_command : Script → CpuNo → Frame → Option Command

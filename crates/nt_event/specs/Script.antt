@@ -11,7 +11,7 @@ use Rattle.nt_event.specs.declared.numbers.RoutineNo.{RoutineNo}
 use Rattle.nt_event.specs.declared.commands.ApcKind.{ApcKind}
 use Rattle.nt_event.specs.declared.commands.ApcKind.TheVariants.{Special, Normal, User}
 use Rattle.nt_event.specs.declared.commands.Command.{Command}
-use Rattle.nt_event.specs.declared.commands.Command.TheVariants.{Queue, Unqueue, SetImportance, SetTarget, SetTimer, CancelTimer, InsertApc, RemoveApc, Release, Alert, Interrupt}
+use Rattle.nt_event.specs.declared.commands.Command.TheVariants as cmd
 use Rattle.nt_event.specs.declared.scripts.Script.{Script}
 use Rattle.nt_event.specs.declared.scripts.Isr.{Isr}
 use Rattle.nt_event.specs.declared.scripts.DpcDecl.{DpcDecl}
@@ -19,6 +19,7 @@ use Rattle.nt_event.specs.declared.scripts.TimerDecl.{TimerDecl}
 use Rattle.nt_event.specs.declared.scripts.ThreadDecl.{ThreadDecl}
 use Rattle.nt_event.specs.declared.scripts.ApcDecl.{ApcDecl}
 use Rattle.nt_event.specs.declared.scripts.Routine.{Routine}
+use Rattle.nt_event.specs.Classes.{is_isr_level, is_requested_level}
 
 -- the interrupt routine's line is for this processor and level
 abbrev pub is_isr_of : CpuNo → ℕ → Isr → Bool
@@ -50,14 +51,6 @@ has_routine s r = nat_lt r.0 (length s.routines)
 -- a thing that may be left out is one of its list where it stands
 abbrev pub where_given : {A : Type 0} → (A → Bool) → Option A → Bool
 where_given has x = option_map_or has x true
-
--- levels that an interrupt request of a script may have: devices and inter-processor interrupts
-abbrev pub is_requested_level : ℕ → Bool
-is_requested_level level = (nat_le 3 level && nat_le level 11) || (level == 14)
-
--- levels that an interrupt routine may have: these and the clock
-abbrev pub is_isr_level : ℕ → Bool
-is_isr_level level = is_requested_level level || (level == 13)
 
 -- how many commands the routines have in all
 abbrev pub command_count : List Routine → ℕ
@@ -110,18 +103,30 @@ apc_fits s a =
 
 -- each number in a command names a thing of its list, and `interrupt` requests a level that it may
 abbrev pub command_fits : Script → Command → Bool
-command_fits s (Queue d) = has_dpc s d
-command_fits s (Unqueue d) = has_dpc s d
-command_fits s (SetImportance d i) = has_dpc s d
-command_fits s (SetTarget d p) = has_dpc s d && where_given (has_cpu s) p
-command_fits s (SetTimer t due period) = has_timer s t
-command_fits s (CancelTimer t) = has_timer s t
-command_fits s (InsertApc a) = has_apc s a
-command_fits s (RemoveApc a) = has_apc s a
-command_fits s (Release t) = has_thread s t
-command_fits s (Alert t m) = has_thread s t
-command_fits s (Interrupt p level) = has_cpu s p && is_requested_level level
-command_fits s _ = true
+command_fits s (cmd.Queue d) = has_dpc s d
+command_fits s (cmd.Unqueue d) = has_dpc s d
+command_fits s (cmd.SetImportance d i) = has_dpc s d
+command_fits s (cmd.SetTarget d p) = has_dpc s d && where_given (has_cpu s) p
+command_fits s (cmd.SetTimer t due period) = has_timer s t
+command_fits s (cmd.CancelTimer t) = has_timer s t
+command_fits s (cmd.InsertApc a) = has_apc s a
+command_fits s (cmd.RemoveApc a) = has_apc s a
+command_fits s (cmd.Release t) = has_thread s t
+command_fits s (cmd.Alert t m) = has_thread s t
+command_fits s (cmd.Interrupt p level) = has_cpu s p && is_requested_level level
+command_fits s (cmd.Raise level) = true
+command_fits s (cmd.Lower level) = true
+command_fits s cmd.EnterCrit = true
+command_fits s cmd.EnterGuard = true
+command_fits s cmd.LeaveCrit = true
+command_fits s cmd.LeaveGuard = true
+command_fits s (cmd.StartWait m a) = true
+command_fits s (cmd.Delay m a units) = true
+command_fits s (cmd.TestAlert m) = true
+command_fits s (cmd.Clock units) = true
+command_fits s cmd.ToUser = true
+command_fits s cmd.Yield = true
+command_fits s (cmd.Note n) = true
 
 abbrev pub routine_fits : Script → Routine → Bool
 routine_fits s r = list_all (command_fits s) r.commands

@@ -8,28 +8,49 @@ use Rattle.nt_event.specs.declared.events.ScheduleKind.TheVariants.{BadChoice, B
 use Rattle.nt_event.specs.declared.events.Turn.{Turn}
 use Rattle.nt_event.specs.declared.events.Turn.TheVariants.{Look as LookTurn, Next, Switch as SwitchTurn}
 use Rattle.nt_event.specs.declared.events.What.{What}
-use Rattle.nt_event.specs.declared.events.What.TheVariants.{Look, Switch}
-use Rattle.nt_event.specs.declared.jobs.Job.TheVariants.{Switch as SwitchJob}
+use Rattle.nt_event.specs.declared.events.What.TheVariants as what
+use Rattle.nt_event.specs.declared.jobs.Job.TheVariants as jobs
 use Rattle.nt_event.specs.declared.numbers.CpuNo.{CpuNo}
 use Rattle.nt_event.specs.declared.numbers.ThreadNo.{ThreadNo}
 use Rattle.nt_event.specs.declared.scripts.Script.{Script}
 use Rattle.nt_event.specs.Frames.{Frames, frames_after, level_in}
 use Rattle.nt_event.specs.Jobs.{job_event, may_switch, next_what}
 use Rattle.nt_event.specs.Lanes.{Lanes, lanes_at}
-use Rattle.nt_event.specs.Own.{Own, own_of, standing_in}
+use Rattle.nt_event.specs.Own.{Own, own_of, stand_in}
 use Rattle.nt_event.specs.Requests.{asks}
 use Rattle.nt_event.specs.Lists.{value_at, when}
 
 -- ---- an event
 
 abbrev pub thread_field : What → Option ThreadNo → Option ThreadNo
-thread_field (Switch t status) r = Some t
-thread_field (Look x) r = None
-thread_field w r = r
+thread_field (what.Switch t status) r = Some t
+thread_field (what.Look x) r = None
+thread_field (what.Call f c y) r = r
+thread_field (what.Begin b from) r = r
+thread_field (what.Normal f) r = r
+thread_field (what.End f) r = r
+thread_field (what.Expire key from) r = r
+thread_field (what.Fire d y) r = r
+thread_field (what.Clean class) r = r
+thread_field (what.Rewait f y) r = r
+thread_field (what.Flush a from) r = r
+thread_field (what.Gone t) r = r
+thread_field what.Rest r = r
 
 abbrev pub is_look : What → Bool
-is_look (Look r) = true
-is_look w = false
+is_look (what.Look r) = true
+is_look (what.Call f c y) = false
+is_look (what.Begin b from) = false
+is_look (what.Normal f) = false
+is_look (what.End f) = false
+is_look (what.Expire key from) = false
+is_look (what.Fire d y) = false
+is_look (what.Clean class) = false
+is_look (what.Switch t status) = false
+is_look (what.Rewait f y) = false
+is_look (what.Flush a from) = false
+is_look (what.Gone t) = false
+is_look what.Rest = false
 
 -- the event without its level
 abbrev pub unleveled : CpuNo → What → Frames → Event
@@ -37,7 +58,7 @@ unleveled p w x = record { cpu = p; thread = thread_field w x.running; level = 0
 
 -- an event's level is the processor's after it, and for a Look 0
 abbrev pub level_field : What → Frames → ℕ
-level_field (Look r) x = 0
+level_field (what.Look r) x = 0
 level_field w x = level_in x
 
 -- the event: its level depends neither on its number nor on a due time
@@ -58,7 +79,7 @@ next_step s p x l = event_or s p x NothingToDo (next_what s p x l)
 -- the turn Switch takes up a thread of the processor that is ready, where none runs and nothing must be done
 abbrev pub switch_step : Script → CpuNo → ThreadNo → Own → Lanes → Result Event ScheduleKind
 switch_step s p t x l =
-    event_or s p x BadChoice (when (may_switch x) (job_event s (standing_in p x) l (SwitchJob t)))
+    event_or s p x BadChoice (when (may_switch x) (job_event s (stand_in p x) l (jobs.Switch t)))
 
 -- the value is one more than the number of an earlier event that asks for the class on the processor
 abbrev pub was_asked : Script → CpuNo → ℕ → ℕ → List Event → Bool
@@ -77,7 +98,7 @@ is_good_look s p vs x past = list_any (λ v. nat_lt 0 v) vs && good_rises s p 0 
 
 -- the turn Look notices requests
 abbrev pub look_step : Script → CpuNo → Rises → Own → List Event → Result Event ScheduleKind
-look_step s p r x past = event_or s p x BadLook (when (is_good_look s p r.value x past) (Some (Look r)))
+look_step s p r x past = event_or s p x BadLook (when (is_good_look s p r.value x past) (Some (what.Look r)))
 
 abbrev pub cpu_at : Turn → CpuNo
 cpu_at (Next p) = p
@@ -100,13 +121,15 @@ refused_if false k r = r
 -- what the turn gives after this past, by what its processor keeps and the states of the lanes
 abbrev pub step : Script → ℕ → Turn → List Event → Result Event ScheduleKind
 step s limit turn past =
-    refused_if (not (nat_lt (cpu_at turn).0 s.cpus)) NoSuchCpu (refused_if (is_cut limit (own_of s (cpu_at turn) past)) NothingToDo (uncut_step s turn (own_of s (cpu_at turn) past) (lanes_at s past) past))
+    refused_if (not (nat_lt (cpu_at turn).0 s.cpus)) NoSuchCpu
+    (refused_if (is_cut limit (own_of s (cpu_at turn) past)) NothingToDo
+    (uncut_step s turn (own_of s (cpu_at turn) past) (lanes_at s past) past))
 
 -- ---- turns and runs
 
 abbrev pub turn_at : CpuNo → What → Turn
-turn_at p (Look r) = LookTurn p r
-turn_at p (Switch t status) = SwitchTurn p t
+turn_at p (what.Look r) = LookTurn p r
+turn_at p (what.Switch t status) = SwitchTurn p t
 turn_at p w = Next p
 
 -- the turn of an event

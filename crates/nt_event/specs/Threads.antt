@@ -11,20 +11,29 @@ use Rattle.nt_event.specs.Apcs.{ApcQueues, deliverable, start_apcs, with_apc}
 use Rattle.nt_event.specs.Routines.{is_kernel_kind}
 use Rattle.nt_event.specs.Replies.{is_user}
 
--- what the thread is doing, its alerted flags, the user-pending mark, the released mark, whether its base routine has ended,
+-- what the thread is doing, its alerted flags, the user-pending mark, the released mark, whether its base routine has
+-- ended,
 -- and its APCs
 pub record ThreadFacts : Type 0 where
   pub doing : Doing
   pub alerted_kernel : Bool
   pub alerted_user : Bool
-  pub marked : Bool
+  pub user_pending : Bool
   pub released : Bool
   pub leaving : Bool
   pub apcs : ApcQueues
 
 abbrev pub start_facts : ThreadFacts
 start_facts =
-    record { doing = IsReady 0 None; alerted_kernel = false; alerted_user = false; marked = false; released = false; leaving = false; apcs = start_apcs }
+    record {
+      doing = IsReady 0 None;
+      alerted_kernel = false;
+      alerted_user = false;
+      user_pending = false;
+      released = false;
+      leaving = false;
+      apcs = start_apcs;
+    }
 
 abbrev pub ready_doing : Doing → Bool
 ready_doing (IsReady level status) = true
@@ -88,13 +97,14 @@ abbrev pub not_below : Mode → Mode → Bool
 not_below KernelMode UserMode = false
 not_below _ _ = true
 
--- an alert whose flag was clear ends an alertable wait whose mode isn't below its own (driver documentation, "Waits and APCs")
+-- an alert whose flag was clear ends an alertable wait whose mode isn't below its own (driver documentation, "Waits and
+-- APCs")
 abbrev pub ends_by_alert : Mode → ThreadFacts → Bool
 ends_by_alert m x = not (is_alerted m x) && waits_as (λ w. w.alertable && not_below w.mode m) x
 
 -- a user APC ends a user wait that is alertable, or where the user-pending mark is set (profile)
 abbrev pub ends_by_user : ThreadFacts → Bool
-ends_by_user x = waits_as (λ w. is_user w.mode && (w.alertable || x.marked)) x
+ends_by_user x = waits_as (λ w. is_user w.mode && (w.alertable || x.user_pending)) x
 
 -- a kernel APC ends a wait inwardly where, with it among the pending ones, the first one is deliverable
 abbrev pub ends_by_kernel : ApcQueues → ThreadFacts → Bool

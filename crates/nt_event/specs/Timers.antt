@@ -1,13 +1,13 @@
 -- Time, timers and delays (Windows Internals, "Timer processing"; driver documentation, "KeSetTimerEx").
 use Rattle.std.specs.List.{reduce}
 use Rattle.std.specs.Prelude.{Bool, List, None, Option, Some, [], filter, get_or, if◌then◌else◌, is_some, length, nat_le, nat_lt, option_and_then, suc, ℕ, ◌&&◌, ◌++◌, ◌+◌, ◌==◌, ◌||◌, ◌∷◌}
-use Rattle.nt_event.specs.declared.commands.Command.TheVariants.{CancelTimer, Delay, SetTimer}
+use Rattle.nt_event.specs.declared.commands.Command.TheVariants as cmd
 use Rattle.nt_event.specs.declared.commands.Reply.TheVariants.{Blocked, Yes}
 use Rattle.nt_event.specs.declared.commands.TimerKey.{TimerKey}
-use Rattle.nt_event.specs.declared.commands.TimerKey.TheVariants.{Delay as OfDelay, Timer as OfTimer}
+use Rattle.nt_event.specs.declared.commands.TimerKey.TheVariants as keys
 use Rattle.nt_event.specs.declared.events.Event.{Event}
 use Rattle.nt_event.specs.declared.events.What.{What}
-use Rattle.nt_event.specs.declared.events.What.TheVariants.{Call, Expire, Rewait}
+use Rattle.nt_event.specs.declared.events.What.TheVariants as what
 use Rattle.nt_event.specs.declared.frames.Again.{Again}
 use Rattle.nt_event.specs.declared.inserts.Setting.{Setting}
 use Rattle.nt_event.specs.declared.jobs.Stand.{Stand}
@@ -35,11 +35,45 @@ renewed n now (Some x) =
 
 -- what the event of this number leaves of a timer at this time
 abbrev pub timer_after : TimerNo → ℕ → ℕ → What → Option Setting → Option Setting
-timer_after t n now (Call f (SetTimer x due period) y) old =
+timer_after t n now (what.Call f (cmd.SetTimer x due period) y) old =
     if is_answer y && (x.0 == t.0) then Some (record { due = now + due; number = n; period = period }) else old
-timer_after t n now (Call f (CancelTimer x) Yes) old = if x.0 == t.0 then None else old
-timer_after t n now (Expire (OfTimer x) from) old = if x.0 == t.0 then renewed n now old else old
-timer_after t n now _ old = old
+timer_after t n now (what.Call f (cmd.CancelTimer x) Yes) old = if x.0 == t.0 then None else old
+timer_after t n now (what.Expire (keys.Timer x) from) old = if x.0 == t.0 then renewed n now old else old
+timer_after t n now (what.Call f (cmd.Raise level) y) old = old
+timer_after t n now (what.Call f (cmd.Lower level) y) old = old
+timer_after t n now (what.Call f (cmd.Queue d) y) old = old
+timer_after t n now (what.Call f (cmd.Unqueue d) y) old = old
+timer_after t n now (what.Call f (cmd.SetImportance d i) y) old = old
+timer_after t n now (what.Call f (cmd.SetTarget d q) y) old = old
+timer_after t n now (what.Call f (cmd.CancelTimer u) y) old = old
+timer_after t n now (what.Call f (cmd.InsertApc a) y) old = old
+timer_after t n now (what.Call f (cmd.RemoveApc a) y) old = old
+timer_after t n now (what.Call f cmd.EnterCrit y) old = old
+timer_after t n now (what.Call f cmd.EnterGuard y) old = old
+timer_after t n now (what.Call f cmd.LeaveCrit y) old = old
+timer_after t n now (what.Call f cmd.LeaveGuard y) old = old
+timer_after t n now (what.Call f (cmd.StartWait m a) y) old = old
+timer_after t n now (what.Call f (cmd.Delay m a units) y) old = old
+timer_after t n now (what.Call f (cmd.Release u) y) old = old
+timer_after t n now (what.Call f (cmd.Alert u m) y) old = old
+timer_after t n now (what.Call f (cmd.TestAlert m) y) old = old
+timer_after t n now (what.Call f (cmd.Interrupt q level) y) old = old
+timer_after t n now (what.Call f (cmd.Clock units) y) old = old
+timer_after t n now (what.Call f cmd.ToUser y) old = old
+timer_after t n now (what.Call f cmd.Yield y) old = old
+timer_after t n now (what.Call f (cmd.Note k) y) old = old
+timer_after t n now (what.Look r) old = old
+timer_after t n now (what.Begin b from) old = old
+timer_after t n now (what.Normal f) old = old
+timer_after t n now (what.End f) old = old
+timer_after t n now (what.Expire (keys.Delay u) from) old = old
+timer_after t n now (what.Fire d y) old = old
+timer_after t n now (what.Clean class) old = old
+timer_after t n now (what.Switch u status) old = old
+timer_after t n now (what.Rewait f y) old = old
+timer_after t n now (what.Flush a from) old = old
+timer_after t n now (what.Gone u) old = old
+timer_after t n now what.Rest old = old
 
 abbrev pub timer_setting : TimerNo → List Event → Option Setting
 timer_setting t [] = None
@@ -52,13 +86,60 @@ delay_set n (Some due) old = Some (record { due = due; number = n; period = 0 })
 
 -- what an event that the thread makes leaves of its delay: a call at this time, or the wait that is taken up again
 abbrev pub blocked_after : ℕ → ℕ → Option Again → What → Option Setting → Option Setting
-blocked_after n now again (Call f (Delay m a units) Blocked) old = delay_set n (Some (now + units)) old
-blocked_after n now again (Rewait f Blocked) old = delay_set n (option_and_then (λ w. w.due) again) old
-blocked_after n now again _ old = old
+blocked_after n now again (what.Call f (cmd.Delay m a units) Blocked) old = delay_set n (Some (now + units)) old
+blocked_after n now again (what.Rewait f Blocked) old = delay_set n (option_and_then (λ w. w.due) again) old
+blocked_after n now again (what.Call f (cmd.Raise level) y) old = old
+blocked_after n now again (what.Call f (cmd.Lower level) y) old = old
+blocked_after n now again (what.Call f (cmd.Queue d) y) old = old
+blocked_after n now again (what.Call f (cmd.Unqueue d) y) old = old
+blocked_after n now again (what.Call f (cmd.SetImportance d i) y) old = old
+blocked_after n now again (what.Call f (cmd.SetTarget d q) y) old = old
+blocked_after n now again (what.Call f (cmd.SetTimer t due period) y) old = old
+blocked_after n now again (what.Call f (cmd.CancelTimer t) y) old = old
+blocked_after n now again (what.Call f (cmd.InsertApc a) y) old = old
+blocked_after n now again (what.Call f (cmd.RemoveApc a) y) old = old
+blocked_after n now again (what.Call f cmd.EnterCrit y) old = old
+blocked_after n now again (what.Call f cmd.EnterGuard y) old = old
+blocked_after n now again (what.Call f cmd.LeaveCrit y) old = old
+blocked_after n now again (what.Call f cmd.LeaveGuard y) old = old
+blocked_after n now again (what.Call f (cmd.StartWait m a) y) old = old
+blocked_after n now again (what.Call f (cmd.Delay m a units) y) old = old
+blocked_after n now again (what.Call f (cmd.Release t) y) old = old
+blocked_after n now again (what.Call f (cmd.Alert t m) y) old = old
+blocked_after n now again (what.Call f (cmd.TestAlert m) y) old = old
+blocked_after n now again (what.Call f (cmd.Interrupt q level) y) old = old
+blocked_after n now again (what.Call f (cmd.Clock units) y) old = old
+blocked_after n now again (what.Call f cmd.ToUser y) old = old
+blocked_after n now again (what.Call f cmd.Yield y) old = old
+blocked_after n now again (what.Call f (cmd.Note k) y) old = old
+blocked_after n now again (what.Look r) old = old
+blocked_after n now again (what.Begin b from) old = old
+blocked_after n now again (what.Normal f) old = old
+blocked_after n now again (what.End f) old = old
+blocked_after n now again (what.Expire key from) old = old
+blocked_after n now again (what.Fire d y) old = old
+blocked_after n now again (what.Clean class) old = old
+blocked_after n now again (what.Switch t status) old = old
+blocked_after n now again (what.Rewait f y) old = old
+blocked_after n now again (what.Flush a from) old = old
+blocked_after n now again (what.Gone t) old = old
+blocked_after n now again what.Rest old = old
 
 abbrev pub expired_delay : ThreadNo → What → Option Setting → Option Setting
-expired_delay t (Expire (OfDelay u) from) old = if u.0 == t.0 then None else old
-expired_delay t _ old = old
+expired_delay t (what.Expire (keys.Delay u) from) old = if u.0 == t.0 then None else old
+expired_delay t (what.Call f c y) old = old
+expired_delay t (what.Look r) old = old
+expired_delay t (what.Begin b from) old = old
+expired_delay t (what.Normal f) old = old
+expired_delay t (what.End f) old = old
+expired_delay t (what.Expire (keys.Timer u) from) old = old
+expired_delay t (what.Fire d y) old = old
+expired_delay t (what.Clean class) old = old
+expired_delay t (what.Switch u status) old = old
+expired_delay t (what.Rewait f y) old = old
+expired_delay t (what.Flush a from) old = old
+expired_delay t (what.Gone u) old = old
+expired_delay t what.Rest old = old
 
 abbrev pub delay_after : Script → ThreadNo → ℕ → ℕ → Option Again → Event → Option Setting → Option Setting
 delay_after s t n now again e old =
@@ -71,7 +152,11 @@ delay_setting s t (e ∷ past) =
 
 abbrev pub timers_at : Script → List Event → Timers
 timers_at s past =
-    record { now = time past; timers = table (length s.timers) (λ t. timer_setting (timer t) past); delays = table (length s.threads) (λ t. delay_setting s (thread t) past) }
+    record {
+      now = time past;
+      timers = table (length s.timers) (λ t. timer_setting (timer t) past);
+      delays = table (length s.threads) (λ t. delay_setting s (thread t) past);
+    }
 
 abbrev pub setting_in : List (Option Setting) → ℕ → Option Setting
 setting_in xs n = get_or xs n None
@@ -79,7 +164,11 @@ setting_in xs n = get_or xs n None
 -- what the event of this number leaves of the timers, where its processor stood so
 abbrev pub timers_after : Script → ℕ → Stand → Event → Timers → Timers
 timers_after s n st e x =
-    record { now = time_after e.what x.now; timers = table (length s.timers) (λ t. timer_after (timer t) n x.now e.what (setting_in x.timers t)); delays = table (length s.threads) (λ t. delay_after s (thread t) n x.now st.again e (setting_in x.delays t)) }
+    record {
+      now = time_after e.what x.now;
+      timers = table (length s.timers) (λ t. timer_after (timer t) n x.now e.what (setting_in x.timers t));
+      delays = table (length s.threads) (λ t. delay_after s (thread t) n x.now st.again e (setting_in x.delays t));
+    }
 
 -- ---- the first due key
 
@@ -94,7 +183,7 @@ keyed key n (None ∷ xs) = keyed key (suc n) xs
 keyed key n (Some x ∷ xs) = record { key = key n; setting = x } ∷ keyed key (suc n) xs
 
 abbrev pub set_keys : Timers → List SetKey
-set_keys x = keyed (λ n. OfTimer (timer n)) 0 x.timers ++ keyed (λ n. OfDelay (thread n)) 0 x.delays
+set_keys x = keyed (λ n. keys.Timer (timer n)) 0 x.timers ++ keyed (λ n. keys.Delay (thread n)) 0 x.delays
 
 -- a key is due where its due time is at most the time
 abbrev pub is_due_key : ℕ → SetKey → Bool

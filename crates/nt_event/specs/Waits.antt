@@ -2,20 +2,20 @@
 use Rattle.std.specs.Prelude.{Bool, List, None, Option, Some, [], false, if◌then◌else◌, is_some, length, not, true, ℕ, ◌&&◌, ◌==◌, ◌∷◌}
 use Rattle.nt_event.specs.declared.commands.ApcKind.{ApcKind}
 use Rattle.nt_event.specs.declared.commands.ApcKind.TheVariants.{User as UserApc}
-use Rattle.nt_event.specs.declared.commands.Command.TheVariants.{Alert, Delay, InsertApc, Release, RemoveApc, StartWait, TestAlert, Yield}
+use Rattle.nt_event.specs.declared.commands.Command.TheVariants as cmd
 use Rattle.nt_event.specs.declared.commands.Mode.{Mode}
 use Rattle.nt_event.specs.declared.commands.Mode.TheVariants.{Kernel as KernelMode, User as UserMode}
 use Rattle.nt_event.specs.declared.commands.Regions.{Regions}
 use Rattle.nt_event.specs.declared.commands.Reply.{Reply}
-use Rattle.nt_event.specs.declared.commands.Reply.TheVariants.{Blocked, Done, Status, Yes}
-use Rattle.nt_event.specs.declared.commands.TimerKey.TheVariants.{Delay as OfDelay}
-use Rattle.nt_event.specs.declared.events.Begun.TheVariants.{Apc}
+use Rattle.nt_event.specs.declared.commands.Reply.TheVariants.{Blocked, Done, No, Refused, Status, Yes}
+use Rattle.nt_event.specs.declared.commands.TimerKey.TheVariants as keys
+use Rattle.nt_event.specs.declared.events.Begun.TheVariants as begun
 use Rattle.nt_event.specs.declared.events.Event.{Event}
 use Rattle.nt_event.specs.declared.events.What.{What}
-use Rattle.nt_event.specs.declared.events.What.TheVariants.{Begin, Call, End, Expire, Flush, Gone, Rewait, Switch}
+use Rattle.nt_event.specs.declared.events.What.TheVariants as what
 use Rattle.nt_event.specs.declared.frames.Again.{Again}
 use Rattle.nt_event.specs.declared.frames.Body.{Body}
-use Rattle.nt_event.specs.declared.frames.Body.TheVariants.{Apc as OnApc, Base as OnBase}
+use Rattle.nt_event.specs.declared.frames.Body.TheVariants as on
 use Rattle.nt_event.specs.declared.inserts.Pick.{Pick}
 use Rattle.nt_event.specs.declared.jobs.Stand.{Stand}
 use Rattle.nt_event.specs.declared.numbers.ApcNo.{ApcNo}
@@ -34,7 +34,8 @@ abbrev pub is_satisfied : ThreadFacts → Option Bool → Bool
 is_satisfied x None = x.released
 is_satisfied x (Some reached) = reached
 
--- what a wait answers at this level and in these regions, by the tests in their order; a delay's due time is reached or not
+-- what a wait answers at this level and in these regions, by the tests in their order; a delay's due time is reached or
+-- not
 -- (profile: the order, and what is said of the user-pending mark)
 abbrev pub wait_reply : ThreadFacts → Regions → ℕ → Mode → Bool → Option Bool → Reply
 wait_reply x r level m alertable reached =
@@ -43,7 +44,7 @@ wait_reply x r level m alertable reached =
     if alertable && is_alerted m x then Status alerted else
     if alertable && (is_user m && has_user x.apcs) then Status user_apc else
     if alertable && x.alerted_kernel then Status alerted else
-    if not alertable && (is_user m && x.marked) then Status user_apc else Blocked
+    if not alertable && (is_user m && x.user_pending) then Status user_apc else Blocked
 
 -- the alerted flag that ends a wait of this mode is cleared: the one of its mode, else the kernel one
 abbrev pub alert_taken : Mode → ThreadFacts → ThreadFacts
@@ -54,56 +55,98 @@ abbrev pub answered : ℕ → Mode → Bool → Bool → ThreadFacts → ThreadF
 answered st m alertable delay x =
     if st == satisfied then (if delay then x else record x { released = false }) else
     if st == alerted then alert_taken m x else
-    if (st == user_apc) && alertable then record x { marked = true } else x
+    if (st == user_apc) && alertable then record x { user_pending = true } else x
 
 -- what a wait leaves; where it blocks, the wait with its event's number, its level and regions
 abbrev pub waited : ℕ → Regions → ℕ → Mode → Bool → Bool → Reply → ThreadFacts → ThreadFacts
 waited n r level m alertable delay (Status st) x = answered st m alertable delay x
 waited n r level m alertable delay Blocked x =
-    record x { doing = IsBlocked (record { event = n; mode = m; alertable = alertable; delay = delay; level = level; regions = r }) }
-waited n r level m alertable delay _ x = x
+    record x {
+      doing = IsBlocked (record {
+        event = n;
+        mode = m;
+        alertable = alertable;
+        delay = delay;
+        level = level;
+        regions = r;
+      });
+    }
+waited n r level m alertable delay Done x = x
+waited n r level m alertable delay Yes x = x
+waited n r level m alertable delay No x = x
+waited n r level m alertable delay (Refused why) x = x
 
 -- a wait that is taken up again has the mode, kind and due time of its call
 abbrev pub waited_again : ℕ → Regions → ℕ → Option Again → Reply → ThreadFacts → ThreadFacts
 waited_again n r level None y x = x
 waited_again n r level (Some w) y x = waited n r level w.mode w.alertable (is_some w.due) y x
 
--- testing an alert clears a set flag; where it was clear, for user mode with a user APC pending, the mark is set (driver
+-- testing an alert clears a set flag; where it was clear, for user mode with a user APC pending, the mark is set
+-- (driver
 -- documentation, "KeTestAlertThread")
 abbrev pub alert_tested : Mode → ThreadFacts → ThreadFacts
 alert_tested m x =
     if is_alerted m x then set_alerted m false x else
-    if is_user m && has_user x.apcs then record x { marked = true } else x
+    if is_user m && has_user x.apcs then record x { user_pending = true } else x
 
 -- an APC begins: it is no longer pending, and a user one clears the mark
 abbrev pub apc_taken : ApcKind → ApcNo → ThreadFacts → ThreadFacts
-apc_taken UserApc a x = record x { marked = false; apcs = without_apc a x.apcs }
+apc_taken UserApc a x = record x { user_pending = false; apcs = without_apc a x.apcs }
 apc_taken _ a x = record x { apcs = without_apc a x.apcs }
 
 -- at the end of its base routine a thread takes no more APCs
-abbrev pub left_facts : ThreadFacts → ThreadFacts
-left_facts x = record x { leaving = true; apcs = closed_apcs x.apcs }
+abbrev pub leaving_facts : ThreadFacts → ThreadFacts
+leaving_facts x = record x { leaving = true; apcs = closed_apcs x.apcs }
 
 -- the end of a frame: of the base routine, of a user APC with the test of an alert for user mode, or of another one
 abbrev pub frame_ended : Option Body → ThreadFacts → ThreadFacts
-frame_ended (Some (OnBase t)) x = left_facts x
-frame_ended (Some (OnApc a UserApc)) x = alert_tested UserMode x
+frame_ended (Some (on.Base t)) x = leaving_facts x
+frame_ended (Some (on.Apc a UserApc)) x = alert_tested UserMode x
 frame_ended _ x = x
 
 -- ---- events that the thread makes
 
 abbrev pub made_facts : Script → ℕ → Stand → What → ThreadFacts → ThreadFacts
-made_facts s n st (Switch t status) x = record x { doing = IsRunning }
-made_facts s n st (Call f (StartWait m a) y) x = waited n st.regions st.level m a false y x
-made_facts s n st (Call f (Delay m a units) y) x = waited n st.regions st.level m a true y x
-made_facts s n st (Rewait f y) x = waited_again n st.regions st.level st.again y x
-made_facts s n st (Call f (TestAlert m) y) x = if is_answer y then alert_tested m x else x
-made_facts s n st (Call f Yield Done) x = record x { doing = IsReady st.level None }
-made_facts s n st (Begin (Apc a) from) x = apc_taken (kind_of s a) a x
-made_facts s n st (End f) x = frame_ended st.body x
-made_facts s n st (Flush a from) x = record x { apcs = without_apc a x.apcs }
-made_facts s n st (Gone t) x = record x { doing = IsGone; leaving = false }
-made_facts s n st _ x = x
+made_facts s n st (what.Switch t status) x = record x { doing = IsRunning }
+made_facts s n st (what.Call f (cmd.StartWait m a) y) x = waited n st.regions st.level m a false y x
+made_facts s n st (what.Call f (cmd.Delay m a units) y) x = waited n st.regions st.level m a true y x
+made_facts s n st (what.Rewait f y) x = waited_again n st.regions st.level st.again y x
+made_facts s n st (what.Call f (cmd.TestAlert m) y) x = if is_answer y then alert_tested m x else x
+made_facts s n st (what.Call f cmd.Yield Done) x = record x { doing = IsReady st.level None }
+made_facts s n st (what.Begin (begun.Apc a) from) x = apc_taken (kind_of s a) a x
+made_facts s n st (what.End f) x = frame_ended st.body x
+made_facts s n st (what.Flush a from) x = record x { apcs = without_apc a x.apcs }
+made_facts s n st (what.Gone t) x = record x { doing = IsGone; leaving = false }
+made_facts s n st (what.Call f (cmd.Raise level) y) x = x
+made_facts s n st (what.Call f (cmd.Lower level) y) x = x
+made_facts s n st (what.Call f (cmd.Queue d) y) x = x
+made_facts s n st (what.Call f (cmd.Unqueue d) y) x = x
+made_facts s n st (what.Call f (cmd.SetImportance d i) y) x = x
+made_facts s n st (what.Call f (cmd.SetTarget d q) y) x = x
+made_facts s n st (what.Call f (cmd.SetTimer t due period) y) x = x
+made_facts s n st (what.Call f (cmd.CancelTimer t) y) x = x
+made_facts s n st (what.Call f (cmd.InsertApc a) y) x = x
+made_facts s n st (what.Call f (cmd.RemoveApc a) y) x = x
+made_facts s n st (what.Call f cmd.EnterCrit y) x = x
+made_facts s n st (what.Call f cmd.EnterGuard y) x = x
+made_facts s n st (what.Call f cmd.LeaveCrit y) x = x
+made_facts s n st (what.Call f cmd.LeaveGuard y) x = x
+made_facts s n st (what.Call f (cmd.Release t) y) x = x
+made_facts s n st (what.Call f (cmd.Alert t m) y) x = x
+made_facts s n st (what.Call f (cmd.Interrupt q level) y) x = x
+made_facts s n st (what.Call f (cmd.Clock units) y) x = x
+made_facts s n st (what.Call f cmd.ToUser y) x = x
+made_facts s n st (what.Call f cmd.Yield y) x = x
+made_facts s n st (what.Call f (cmd.Note k) y) x = x
+made_facts s n st (what.Look r) x = x
+made_facts s n st (what.Begin (begun.Int level) from) x = x
+made_facts s n st (what.Begin (begun.Dpc d) from) x = x
+made_facts s n st (what.Begin (begun.Threaded d) from) x = x
+made_facts s n st (what.Normal f) x = x
+made_facts s n st (what.Expire key from) x = x
+made_facts s n st (what.Fire d y) x = x
+made_facts s n st (what.Clean class) x = x
+made_facts s n st what.Rest x = x
 
 -- ---- events that name the thread, whoever makes them
 
@@ -123,7 +166,8 @@ alert_facts m x =
 abbrev pub insert_facts : Pick → ThreadFacts → ThreadFacts
 insert_facts pick x =
     let y : ThreadFacts = record x { apcs = with_apc pick x.apcs } in
-    if ends_by_apc pick x then (if is_kernel_kind pick.kind then ended kernel_apc y else record (ended user_apc y) { marked = true }) else y
+    if ends_by_apc pick x then (if is_kernel_kind pick.kind then ended kernel_apc y
+    else record (ended user_apc y) { user_pending = true }) else y
 
 abbrev pub expiry_facts : ℕ → ThreadFacts → ThreadFacts
 expiry_facts from x = if ends_by_expiry from x then ended satisfied x else x
@@ -132,14 +176,47 @@ abbrev pub new_pick : Script → ApcNo → ℕ → Pick
 new_pick s a n = record { apc = a; kind = kind_of s a; number = n }
 
 abbrev pub named_facts : Script → ThreadNo → ℕ → What → ThreadFacts → ThreadFacts
-named_facts s t n (Call f (Release u) y) x = if is_answer y && (u.0 == t.0) then release_facts x else x
-named_facts s t n (Call f (Alert u m) y) x = if is_answer y && (u.0 == t.0) then alert_facts m x else x
-named_facts s t n (Call f (InsertApc a) Yes) x =
+named_facts s t n (what.Call f (cmd.Release u) y) x = if is_answer y && (u.0 == t.0) then release_facts x else x
+named_facts s t n (what.Call f (cmd.Alert u m) y) x = if is_answer y && (u.0 == t.0) then alert_facts m x else x
+named_facts s t n (what.Call f (cmd.InsertApc a) Yes) x =
     if (owner_of s a).0 == t.0 then insert_facts (new_pick s a n) x else x
-named_facts s t n (Call f (RemoveApc a) Yes) x =
+named_facts s t n (what.Call f (cmd.RemoveApc a) Yes) x =
     if (owner_of s a).0 == t.0 then record x { apcs = without_apc a x.apcs } else x
-named_facts s t n (Expire (OfDelay u) from) x = if u.0 == t.0 then expiry_facts from x else x
-named_facts s t n _ x = x
+named_facts s t n (what.Expire (keys.Delay u) from) x = if u.0 == t.0 then expiry_facts from x else x
+named_facts s t n (what.Call f (cmd.Raise level) y) x = x
+named_facts s t n (what.Call f (cmd.Lower level) y) x = x
+named_facts s t n (what.Call f (cmd.Queue d) y) x = x
+named_facts s t n (what.Call f (cmd.Unqueue d) y) x = x
+named_facts s t n (what.Call f (cmd.SetImportance d i) y) x = x
+named_facts s t n (what.Call f (cmd.SetTarget d q) y) x = x
+named_facts s t n (what.Call f (cmd.SetTimer u due period) y) x = x
+named_facts s t n (what.Call f (cmd.CancelTimer u) y) x = x
+named_facts s t n (what.Call f (cmd.InsertApc a) y) x = x
+named_facts s t n (what.Call f (cmd.RemoveApc a) y) x = x
+named_facts s t n (what.Call f cmd.EnterCrit y) x = x
+named_facts s t n (what.Call f cmd.EnterGuard y) x = x
+named_facts s t n (what.Call f cmd.LeaveCrit y) x = x
+named_facts s t n (what.Call f cmd.LeaveGuard y) x = x
+named_facts s t n (what.Call f (cmd.StartWait m a) y) x = x
+named_facts s t n (what.Call f (cmd.Delay m a units) y) x = x
+named_facts s t n (what.Call f (cmd.TestAlert m) y) x = x
+named_facts s t n (what.Call f (cmd.Interrupt q level) y) x = x
+named_facts s t n (what.Call f (cmd.Clock units) y) x = x
+named_facts s t n (what.Call f cmd.ToUser y) x = x
+named_facts s t n (what.Call f cmd.Yield y) x = x
+named_facts s t n (what.Call f (cmd.Note k) y) x = x
+named_facts s t n (what.Look r) x = x
+named_facts s t n (what.Begin b from) x = x
+named_facts s t n (what.Normal f) x = x
+named_facts s t n (what.End f) x = x
+named_facts s t n (what.Expire (keys.Timer u) from) x = x
+named_facts s t n (what.Fire d y) x = x
+named_facts s t n (what.Clean class) x = x
+named_facts s t n (what.Switch u status) x = x
+named_facts s t n (what.Rewait f y) x = x
+named_facts s t n (what.Flush a from) x = x
+named_facts s t n (what.Gone u) x = x
+named_facts s t n what.Rest x = x
 
 -- the event is one that the thread makes, on its own processor
 abbrev pub is_of_thread : Script → ThreadNo → Event → Bool

@@ -1,11 +1,12 @@
 //! The tests behind `Script::fits`, one a condition.
 ghost use Rattle.std.specs.Prelude.{◌≡◌, nat_le};
 ghost use Rattle.std.specs.List.{list_all};
+ghost use Rattle.nt_event.specs.Classes as classes;
 ghost use Rattle.nt_event.specs.Script as spec;
 
 use crate::{
     ApcDecl, ApcKind, ApcNo, Command, CpuNo, DpcDecl, DpcNo, Isr, Level, Routine, RoutineNo,
-    Script, ThreadDecl, ThreadNo, TimerDecl, TimerNo,
+    Script, ThreadDecl, ThreadNo, TimerDecl, TimerNo, class, limits,
 };
 
 pub(crate) fn isr_in(isrs: &[Isr], cpu: CpuNo, level: Level) -> Option<RoutineNo>
@@ -63,16 +64,16 @@ fn has_routine_if_given(script: &Script, routine: Option<RoutineNo>) -> bool
 }
 
 fn is_requested_level(level: Level) -> bool
-    ensures { result ≡ spec.is_requested_level level }
+    ensures { result ≡ classes.is_requested_level level }
 {
     let n = level.number();
-    (3 <= n && n <= 11) || n == 14
+    (3 <= n && n <= 11) || n == class::IPI
 }
 
 fn is_isr_level(level: Level) -> bool
-    ensures { result ≡ spec.is_isr_level level }
+    ensures { result ≡ classes.is_isr_level level }
 {
-    is_requested_level(level) || level.number() == 13
+    is_requested_level(level) || level.number() == class::CLOCK
 }
 
 /// Whether the routines have at most this many commands in all.
@@ -94,7 +95,7 @@ fn depth_fits(depth: Option<u32>) -> bool
     ensures { result ≡ spec.where_given (λ depth. nat_le depth 256) depth }
 {
     match depth {
-        Some(depth) => depth <= 256,
+        Some(depth) => depth <= limits::DEPTH,
         None => true,
     }
 }
@@ -103,14 +104,14 @@ pub(crate) fn meets_limits(script: &Script) -> bool
     ensures { result ≡ spec.meets_limits script.now }
 {
     1 <= script.cpus
-        && script.cpus <= 64
+        && script.cpus <= limits::CPUS
         && depth_fits(script.depth)
-        && script.threads.len() <= 64
-        && script.timers.len() <= 64
-        && script.dpcs.len() <= 256
-        && script.apcs.len() <= 256
-        && script.routines.len() <= 256
-        && commands_at_most(script.routines.as_slice(), 8192)
+        && script.threads.len() <= limits::THREADS
+        && script.timers.len() <= limits::TIMERS
+        && script.dpcs.len() <= limits::DPCS
+        && script.apcs.len() <= limits::APCS
+        && script.routines.len() <= limits::ROUTINES
+        && commands_at_most(script.routines.as_slice(), limits::COMMANDS)
 }
 
 fn isr_fits(script: &Script, isr: &Isr) -> bool
@@ -231,7 +232,19 @@ fn command_fits(script: &Script, command: &Command) -> bool
         Command::InsertApc(apc) | Command::RemoveApc(apc) => has_apc(script, *apc),
         Command::Release(thread) | Command::Alert(thread, _) => has_thread(script, *thread),
         Command::Interrupt(cpu, level) => has_cpu(script, *cpu) && is_requested_level(*level),
-        _ => true,
+        Command::Raise(_)
+        | Command::Lower(_)
+        | Command::EnterCrit
+        | Command::EnterGuard
+        | Command::LeaveCrit
+        | Command::LeaveGuard
+        | Command::StartWait(_, _)
+        | Command::Delay(_, _, _)
+        | Command::TestAlert(_)
+        | Command::Clock(_)
+        | Command::ToUser
+        | Command::Yield
+        | Command::Note(_) => true,
     }
 }
 

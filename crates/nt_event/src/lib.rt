@@ -7,18 +7,21 @@
 //! Contracts see each `Items` as the list of its items, so a script or a history is a plain record of numbers and lists there.
 #![tactic(auto)]
 
+mod asking;
+pub mod class;
 mod commands;
 mod events;
 mod fitting;
 mod frames;
 mod inserts;
 mod jobs;
+pub mod limits;
 mod lists;
+mod lookups;
 mod numbers;
 mod plans;
 mod scripts;
-#[cfg(test)]
-mod tests;
+pub mod status;
 mod threads;
 
 pub use commands::{ApcKind, Command, Importance, Mode, Refusal, Regions, Reply, TimerKey};

@@ -8,7 +8,7 @@ use Rattle.nt_event.specs.declared.jobs.Lane.{Lane}
 use Rattle.nt_event.specs.declared.jobs.Stand.{Stand}
 use Rattle.nt_event.specs.declared.numbers.CpuNo.{CpuNo}
 use Rattle.nt_event.specs.declared.scripts.Script.{Script}
-use Rattle.nt_event.specs.Acting.{IsAllowed, IsStanding, acted_event}
+use Rattle.nt_event.specs.Acting.{IsAllowed, StandHolds, acted_event}
 use Rattle.nt_event.specs.Frames.{due_of}
 use Rattle.nt_event.specs.Jobs.{job_event}
 use Rattle.nt_event.specs.Lanes.{Lanes, same_lane, what_lanes}
@@ -38,7 +38,7 @@ pub record StandFits (s : Script) (st : Stand) : Type 0 where
 -- where the states are told, the processor stands in them so and the job is allowed
 abbrev pub IsMet : Script → Option Lanes → Stand → Job → Type 0
 IsMet s None st job = Unit {0}
-IsMet s (Some l) st job = IsStanding s l st × IsAllowed l st job
+IsMet s (Some l) st job = StandHolds s l st × IsAllowed l st job
 
 -- ---- what an act found, and what it made of it
 

@@ -16,7 +16,7 @@ pub record View : Type 0 where
   -- whether nobody else draws, marks or looks at the words
   pub alone : Bool
   -- how many numbers may still be drawn, and the least next one
-  pub left : ℕ
+  pub drawable : ℕ
   pub next : ℕ
   -- the draws, marks and looks, where they are told
   pub lists : Option Lists
@@ -49,7 +49,7 @@ pub record IsDrawn (n : ℕ) (e : Event) (v w : View) : Type 0 where
   pub exact : v.alone ≡ true → n ≡ v.next
   pub fits : n + 1 < 2 ^ 64
   pub next : w.next ≡ n + 1
-  pub left : w.left + 1 ≡ v.left
+  pub drawable : w.drawable + 1 ≡ v.drawable
   pub lists : w.lists ≡ with_draw n e [] v.lists
   pub value : (p : CpuNo) (c : ℕ) → HasWord v p c → w.value p c ≡ v.value p c
   pub marked : (k : ℕ) (p : CpuNo) (c : ℕ) → HasWord v p c → w.marked k p c ≡ v.marked k p c
@@ -62,7 +62,7 @@ is_word p c q d = (q.0 == p.0) && (d == c)
 -- the event of number n was marked as asking for class c of p
 pub record IsMarked (p : CpuNo) (c n : ℕ) (v w : View) : Type 0 where
   pub next : w.next ≡ v.next
-  pub left : w.left ≡ v.left
+  pub drawable : w.drawable ≡ v.drawable
   pub lists : w.lists ≡ with_mark p c n v.lists
   pub value : (q : CpuNo) (d : ℕ) → HasWord v q d → w.value q d ≡ (if is_word p c q d then max (v.value q d) (n + 1) else v.value q d)
   pub marked : (k : ℕ) (q : CpuNo) (d : ℕ) → HasWord v q d → w.marked k q d ≡ (v.marked k q d || ((k == n) && is_word p c q d))
@@ -74,7 +74,7 @@ pub record IsLooked (p : CpuNo) (c a : ℕ) (v w : View) : Type 0 where
   pub exact : v.alone ≡ true → a ≡ v.value p c
   pub next : (v.next ≤ w.next) × (a ≤ w.next)
   pub next_exact : v.alone ≡ true → w.next ≡ v.next
-  pub left : w.left ≡ v.left
+  pub drawable : w.drawable ≡ v.drawable
   pub lists : w.lists ≡ with_look p c a v.lists
   pub value : (q : CpuNo) (d : ℕ) → HasWord v q d → w.value q d ≡ (if is_word p c q d then a else v.value q d)
   pub marked : (k : ℕ) (q : CpuNo) (d : ℕ) → HasWord v q d → w.marked k q d ≡ v.marked k q d
@@ -87,7 +87,7 @@ pub record IsMoved (s : Script) (n : ℕ) (e : Event) (st : Stand) (f : Found) (
   pub alone : w.alone ≡ v.alone
   pub least : (v.next ≤ n) × (n + 1 ≤ w.next)
   pub exact : v.alone ≡ true → (n ≡ v.next) × (w.next ≡ n + 1)
-  pub left : w.left + 1 ≡ v.left
+  pub drawable : w.drawable + 1 ≡ v.drawable
   pub lists : w.lists ≡ with_marks n (what_asks s st e.what f.lanes) (with_draw n e (map (lane_number s) (what_lanes s st e.what f.lanes)) v.lists)
   pub marked : (k : ℕ) (q : CpuNo) (c : ℕ) → HasWord v q c → w.marked k q c ≡ (v.marked k q c || ((k == n) && asks_in s st e.what f.lanes q c))
   pub value : v.alone ≡ true → (q : CpuNo) (c : ℕ) → HasWord v q c → w.value q c ≡ raised (asks_in s st e.what f.lanes q c) n (v.value q c)
@@ -101,7 +101,7 @@ pub record IsMoved (s : Script) (n : ℕ) (e : Event) (st : Stand) (f : Found) (
 -- no event was made; a floor that is alone didn't change at all
 pub record IsUnmoved (v w : View) : Type 0 where
   pub same : SameFloor v w
-  pub left : w.left ≡ v.left
+  pub drawable : w.drawable ≡ v.drawable
   pub lists : w.lists ≡ v.lists
   pub next : v.next ≤ w.next
   pub never_falls : (q : CpuNo) (c : ℕ) → HasWord v q c → v.value q c ≤ w.value q c

@@ -49,7 +49,7 @@ pub trait Floor: Words {
     /// The event is the one of the job in the states that were found; where the floor tells its states, it is made in those, and they
     /// are afterwards what the event leaves of them. After a refusal no event was made. A floor that is alone finds memory.
     fn act(&mut self, job: Job, stand: Stand) -> Result<Acted, ActRefusal>
-        requires room { 1 ≤ (Self.view self.old).left }
+        requires room { 1 ≤ (Self.view self.old).drawable }
         requires job { IsTrue (job_fits (script self.old) job) }
         requires stand { StandFits (script self.old) stand }
         requires met { IsMet (script self.old) (Self.view self.old).states stand job }

@@ -20,7 +20,7 @@ pub trait Words {
 
     /// Draws the number of an event.
     fn draw(&mut self, event: &Event) -> u64
-        requires { 1 ≤ (view self.old).left }
+        requires { 1 ≤ (view self.old).drawable }
         ensures drawn { IsDrawn result event.now (view self.old) (view self.new) }
         ensures mine { drew self.new result }
         ensures grows { grows self.old self.new };

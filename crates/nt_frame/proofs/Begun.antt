@@ -1,5 +1,6 @@
 -- A routine that may begin here finds room, and the frames stay nested.
-use Rattle.std.proofs.Common.{◌≡◌, ℕ, ◌<◌, ◌≤◌, Bool, true, false, not, ◌||◌, ◌==◌, nat_lt, Option, None, Some, is_none, List, [], ◌∷◌, length, arith, subst, refl, lit<}
+use Rattle.std.proofs.Common.{◌≡◌, ℕ, ◌<◌, ◌≤◌, Bool, true, false, not, ◌||◌, ◌==◌, nat_lt, Option, None, Some, is_none, List, [], ◌∷◌, length, arith, subst}
+use Rattle.std.proofs.Common.{refl, lit<}
 use Rattle.std.proofs.lemmas.List.Sums.{sum_by-cons}
 use Rattle.std.specs.Option.{option_map_or, option_or}
 use Rattle.nt_event.specs.declared.commands.ApcKind.TheVariants.{Normal, Special, User}
@@ -15,14 +16,14 @@ use Rattle.nt_event.specs.declared.frames.Frame.{Frame}
 use Rattle.nt_event.specs.declared.numbers.ThreadNo.{ThreadNo}
 use Rattle.nt_event.specs.Frames.{Frames, base_of, frames_in, is_apc_body, is_base_body, is_normal_apc_body, is_on_thread, level_in, new_frame, thread_part}
 use Rattle.nt_event.specs.Regions.{busy_of}
-use Rattle.nt_event.specs.Script.{is_isr_level}
+use Rattle.nt_event.specs.Classes.{is_isr_level}
 use Rattle.nt_event.specs.Lists.{head_of, is_null}
 use Rattle.nt_frame.specs.Changes.{begun, is_own, on_part, on_running, on_thread}
 use Rattle.nt_frame.specs.Nesting.{AreNamedBelow, AreNested, IsFrame, IsOver, IsPart, IsThreadPart, has_isr_level, is_special_body, next_name, rank}
 use Rattle.nt_frame.specs.Rules.{may_begin, regions_in}
 use Rattle.nt_frame.proofs.Nested.{on_own_nested, on_running_nested, thread_part_nested}
 use Rattle.nt_frame.proofs.Ranks.{below_apc, below_dpc, below_int, below_normal, length-under, rank_bounds, thread_rank_bound}
-use Rattle.nt_frame.proofs.Booleans.{and_left, and_right, lt_is, zero_is}
+use Rattle.nt_event.proofs.Booleans.{and_left, and_right, lt_is, zero_is}
 
 -- ---- the new frame
 
@@ -56,12 +57,14 @@ isr_level_of (Rundown a) x m = refl
 
 -- ---- the own part
 
-over_own_int : (n l : ℕ) (os : List Frame) (r : Option Frame) → IsPart true os → is_isr_level l ≡ true → nat_lt (option_map_or (λ f. f.level) (option_or (head_of os) r) 0) l ≡ true → next_name os ≤ n → IsOver (new_frame n (Int l)) os
+over_own_int : (n l : ℕ) (os : List Frame) (r : Option Frame) → IsPart true os → is_isr_level l ≡ true →
+    nat_lt (option_map_or (λ f. f.level) (option_or (head_of os) r) 0) l ≡ true → next_name os ≤ n → IsOver (new_frame n (Int l)) os
 over_own_int n l [] r p i t m = tt
 over_own_int n l (g ∷ gs) r p i t m =
     (below_int g.body g.kernel_phase g.level l p.0.part p.0.level (lt_is _ _ t) i, omega arith)
 
-over_own_dpc : (n : ℕ) (b : Body) (os : List Frame) (r : Option Frame) → rank b ≡ 2 → IsPart true os → nat_lt (option_map_or (λ f. f.level) (option_or (head_of os) r) 0) 2 ≡ true → next_name os ≤ n → IsOver (new_frame n b) os
+over_own_dpc : (n : ℕ) (b : Body) (os : List Frame) (r : Option Frame) → rank b ≡ 2 → IsPart true os →
+    nat_lt (option_map_or (λ f. f.level) (option_or (head_of os) r) 0) 2 ≡ true → next_name os ≤ n → IsOver (new_frame n b) os
 over_own_dpc n b [] r e p t m = tt
 over_own_dpc n b (g ∷ gs) r e p t m =
     let k : rank g.body < 2 = below_dpc g.body g.kernel_phase g.level p.0.part p.0.interrupt p.0.level (lt_is _ _ t) in
@@ -106,7 +109,8 @@ not_either false b h = refl
 abbrev OverThread : ℕ → Body → List Frame → List Frame → Type 0
 OverThread n b os fs = (os ≡ []) × IsOver (new_frame n b) fs
 
-over_special : (n : ℕ) (a : ApcNo) (os fs : List Frame) → is_null os ≡ true → (option_map_or (λ f. f.level) (option_or (head_of os) (head_of fs)) 0 == 0) ≡ true → IsPart false fs → next_name fs ≤ n → OverThread n (Apc a Special) os fs
+over_special : (n : ℕ) (a : ApcNo) (os fs : List Frame) → is_null os ≡ true →
+    (option_map_or (λ f. f.level) (option_or (head_of os) (head_of fs)) 0 == 0) ≡ true → IsPart false fs → next_name fs ≤ n → OverThread n (Apc a Special) os fs
 over_special n a [] [] o z p k = (refl, tt)
 over_special n a [] (g ∷ gs) o z p k =
     let e : g.level ≡ 0 = zero_is _ z in
@@ -114,7 +118,9 @@ over_special n a [] (g ∷ gs) o z p k =
     (refl, (below_apc g.body g.kernel_phase p.0.part b p.0.special, omega arith))
 over_special n a (f ∷ os) fs o z p k = cc
 
-over_normal : (n : ℕ) (a : ApcNo) (os fs : List Frame) → is_null os ≡ true → (option_map_or (λ f. f.level) (option_or (head_of os) (head_of fs)) 0 == 0) ≡ true → not (busy_of fs) ≡ true → IsPart false fs → next_name fs ≤ n → OverThread n (Apc a Normal) os fs
+over_normal : (n : ℕ) (a : ApcNo) (os fs : List Frame) → is_null os ≡ true →
+    (option_map_or (λ f. f.level) (option_or (head_of os) (head_of fs)) 0 == 0) ≡ true → not (busy_of fs) ≡ true → IsPart false fs → next_name fs ≤ n →
+    OverThread n (Apc a Normal) os fs
 over_normal n a [] [] o z b p k = (refl, tt)
 over_normal n a [] (g ∷ gs) o z b p k =
     let s : OverThread n (Apc a Special) [] (g ∷ gs) = over_special n a [] (g ∷ gs) o z p k in
@@ -123,7 +129,9 @@ over_normal n a [] (g ∷ gs) o z b p k =
 over_normal n a (f ∷ os) fs o z b p k = cc
 
 -- a user APC begins over a base frame alone
-over_user : (n : ℕ) (a : ApcNo) (level : ℕ) (r : Regions) (os fs : List Frame) → is_none (option_map_or (λ f. refusal level (not (is_null os)) r f ToUser) (option_or (head_of os) (head_of fs)) (Some NotThread)) ≡ true → next_name fs ≤ n → OverThread n (Apc a User) os fs
+over_user : (n : ℕ) (a : ApcNo) (level : ℕ) (r : Regions) (os fs : List Frame) →
+    is_none (option_map_or (λ f. refusal level (not (is_null os)) r f ToUser) (option_or (head_of os) (head_of fs)) (Some NotThread)) ≡ true →
+    next_name fs ≤ n → OverThread n (Apc a User) os fs
 over_user n a level r [] [] h k = cc
 over_user n a level r [] (g ∷ gs) h k =
     (refl, (base_rank g.body (base_called (is_base_body g.body) _ h), omega arith))
@@ -139,7 +147,8 @@ over_base n t [] (g ∷ gs) o h = cc
 over_base n t (f ∷ os) fs o h = cc
 
 -- a rundown routine begins over a base frame alone
-over_rundown : (n : ℕ) (a : ApcNo) (os fs : List Frame) → option_map_or (λ f. f.leaving) (option_or (head_of os) (head_of fs)) false ≡ true → IsPart true os → IsPart false fs → next_name fs ≤ n → OverThread n (Rundown a) os fs
+over_rundown : (n : ℕ) (a : ApcNo) (os fs : List Frame) → option_map_or (λ f. f.leaving) (option_or (head_of os) (head_of fs)) false ≡ true → IsPart true os →
+    IsPart false fs → next_name fs ≤ n → OverThread n (Rundown a) os fs
 over_rundown n a [] [] l o p k = (refl, tt)
 over_rundown n a [] (g ∷ gs) l o p k = (refl, (base_rank g.body (p.0.leaving l), omega arith))
 over_rundown n a (f ∷ os) fs l o p k = absurd (base_is_not_own f.body o.0.part (o.0.leaving l))
@@ -152,14 +161,18 @@ running_named n x h m = go x.running refl
     go None e = omega arith
     go (Some t) e = m.1 t.0 [] (rw e at h.running)
 
-pub over_thread : (n : ℕ) (b : Body) (x : Frames) → AreNested x → may_begin b x ≡ true → AreNamedBelow n x → is_own b ≡ false → OverThread n b x.own (thread_part x)
+pub over_thread : (n : ℕ) (b : Body) (x : Frames) → AreNested x → may_begin b x ≡ true → AreNamedBelow n x → is_own b ≡ false →
+    OverThread n b x.own (thread_part x)
 over_thread n (Int l) x h m k o = cc
 over_thread n (Dpc d) x h m k o = cc
 over_thread n (Threaded d) x h m k o = cc
 over_thread n (Apc a Special) x h m k o =
-    over_special n a x.own (thread_part x) (and_left _ _ (and_left _ _ m)) (and_left _ _ (and_right _ _ m)) (thread_part_nested x h).part (running_named n x h k)
+    over_special n a x.own (thread_part x) (and_left _ _ (and_left _ _ m)) (and_left _ _ (and_right _ _ m)) (thread_part_nested x h).part
+    (running_named n x h k)
 over_thread n (Apc a Normal) x h m k o =
-    over_normal n a x.own (thread_part x) (and_left _ _ (and_left _ _ m)) (and_left _ _ (and_right _ _ m)) (and_right ((regions_in x).crit == 0) _ (and_right ((regions_in x).guard == 0) _ (and_right (level_in x == 0) _ (and_right (is_on_thread x) _ m)))) (thread_part_nested x h).part (running_named n x h k)
+    over_normal n a x.own (thread_part x) (and_left _ _ (and_left _ _ m)) (and_left _ _ (and_right _ _ m))
+    (and_right ((regions_in x).crit == 0) _ (and_right ((regions_in x).guard == 0) _ (and_right (level_in x == 0) _ (and_right (is_on_thread x) _ m))))
+    (thread_part_nested x h).part (running_named n x h k)
 over_thread n (Apc a User) x h m k o =
     over_user n a (level_in x) (regions_in x) x.own (thread_part x) m (running_named n x h k)
 over_thread n (Base t) x h m k o =
@@ -175,17 +188,21 @@ own_room n b x h m k o =
     let l : length x.own < rank b = length-under true x.own (new_frame n b) h.own (over_own n b x h m k.0 o) r.0 in
     omega arith
 
-pub thread_room : (n : ℕ) (b : Body) (x : Frames) (t : ThreadNo) → AreNested x → may_begin b x ≡ true → AreNamedBelow n x → is_own b ≡ false → x.running ≡ Some t → length (frames_in x.threads t) < 4
+pub thread_room : (n : ℕ) (b : Body) (x : Frames) (t : ThreadNo) → AreNested x → may_begin b x ≡ true → AreNamedBelow n x → is_own b ≡ false →
+    x.running ≡ Some t → length (frames_in x.threads t) < 4
 thread_room n b x t h m k o e =
-    let l : length (thread_part x) < rank b = length-under false (thread_part x) (new_frame n b) (thread_part_nested x h).part (over_thread n b x h m k o).1 (rank_bounds b (isr_level_of b x m)).0 in
+    let l : length (thread_part x) < rank b = length-under false (thread_part x) (new_frame n b) (thread_part_nested x h).part (over_thread n b x h m k o).1
+    (rank_bounds b (isr_level_of b x m)).0 in
     let s : length (frames_in x.threads t) < rank b = rw e at l in
     omega (arith, thread_rank_bound b o)
 
-own_begun : (n : ℕ) (b : Body) (x : Frames) → AreNested x → may_begin b x ≡ true → AreNamedBelow n x → is_own b ≡ true → AreNested (on_part true (λ fs. new_frame n b ∷ fs) x)
+own_begun : (n : ℕ) (b : Body) (x : Frames) → AreNested x → may_begin b x ≡ true → AreNamedBelow n x → is_own b ≡ true →
+    AreNested (on_part true (λ fs. new_frame n b ∷ fs) x)
 own_begun n b x h m k o =
     on_own_nested (λ fs. new_frame n b ∷ fs) x h (rw o at (new_frame_is n b (isr_level_of b x m)), over_own n b x h m k.0 o, h.own) (k.1, h.newer)
 
-thread_begun : (n : ℕ) (b : Body) (x : Frames) → AreNested x → may_begin b x ≡ true → AreNamedBelow n x → is_own b ≡ false → AreNested (on_part false (λ fs. new_frame n b ∷ fs) x)
+thread_begun : (n : ℕ) (b : Body) (x : Frames) → AreNested x → may_begin b x ≡ true → AreNamedBelow n x → is_own b ≡ false →
+    AreNested (on_part false (λ fs. new_frame n b ∷ fs) x)
 thread_begun n b x h m k o =
     let p : IsThreadPart (thread_part x) = thread_part_nested x h in
     let w : OverThread n b x.own (thread_part x) = over_thread n b x h m k o in
@@ -196,7 +213,8 @@ thread_begun n b x h m k o =
     })
 
 -- the same on the part of the thread that runs
-pub begun_on : (n : ℕ) (b : Body) (x : Frames) (t : ThreadNo) → AreNested x → may_begin b x ≡ true → AreNamedBelow n x → is_own b ≡ false → x.running ≡ Some t → AreNested (on_thread (λ fs. new_frame n b ∷ fs) t x)
+pub begun_on : (n : ℕ) (b : Body) (x : Frames) (t : ThreadNo) → AreNested x → may_begin b x ≡ true → AreNamedBelow n x → is_own b ≡ false →
+    x.running ≡ Some t → AreNested (on_thread (λ fs. new_frame n b ∷ fs) t x)
 begun_on n b x t h m k o e =
     subst (λ (r : Option ThreadNo). AreNested (on_running (λ fs. new_frame n b ∷ fs) r x)) e (thread_begun n b x h m k o)
 

@@ -16,15 +16,19 @@ use Rattle.nt_frame.specs.Nesting.{AreNamedBelow, AreNested, HaveNoWaits, IsPart
 -- ---- names below a number
 
 pub below_start : (n : ℕ) → AreNamedBelow 0 (no_frames n)
-below_start n =
-    (omega arith, All-from_get_or (λ fs. next_name fs ≤ 0) _ [] (λ i h. let k : i < n = omega (arith, length-table_from {A = List Frame} 0 n (λ _. [])) in rw (get_or-table {A = List Frame} n i (λ _. []) [] k) (omega arith)))
+below_start n = (
+  omega arith,
+  All-from_get_or (λ fs. next_name fs ≤ 0) _ [] (λ i h. let k : i < n = omega (arith, length-table_from {A = List Frame} 0 n (λ _. [])) in rw
+      (get_or-table {A = List Frame} n i (λ _. []) [] k) (omega arith)),
+)
 
 pub below_more : (m n : ℕ) (x : Frames) → m ≤ n → AreNamedBelow m x → AreNamedBelow n x
 below_more m n x l h =
     (omega (arith, h.0), λ k d i. let p : next_name (get_or x.threads k d) ≤ m = h.1 k d i in omega arith)
 
 -- the part of a thread changed to one whose newest name is below n too
-below_running : (n : ℕ) (g : List Frame → List Frame) (x : Frames) → AreNamedBelow n x → ((fs : List Frame) → next_name fs ≤ n → next_name (g fs) ≤ n) → AreNested x → AreNamedBelow n (on_running g x.running x)
+below_running : (n : ℕ) (g : List Frame → List Frame) (x : Frames) → AreNamedBelow n x → ((fs : List Frame) → next_name fs ≤ n → next_name (g fs) ≤ n) →
+    AreNested x → AreNamedBelow n (on_running g x.running x)
 below_running n g x h k a = go x.running refl
   where
     go : (r : Option ThreadNo) → x.running ≡ r → AreNamedBelow n (on_running g r x)
@@ -33,7 +37,8 @@ below_running n g x h k a = go x.running refl
         let b : t.0 < length x.threads = rw e at a.running in
         (h.0, All-set (λ fs. next_name fs ≤ n) x.threads t.0 (g (frames_in x.threads t)) (k (frames_in x.threads t) (h.1 t.0 [] b)) h.1)
 
-below_part : (n : ℕ) (o : Bool) (g : List Frame → List Frame) (x : Frames) → AreNamedBelow n x → ((fs : List Frame) → next_name fs ≤ n → next_name (g fs) ≤ n) → AreNested x → AreNamedBelow n (on_part o g x)
+below_part : (n : ℕ) (o : Bool) (g : List Frame → List Frame) (x : Frames) → AreNamedBelow n x →
+    ((fs : List Frame) → next_name fs ≤ n → next_name (g fs) ≤ n) → AreNested x → AreNamedBelow n (on_part o g x)
 below_part n true g x h k a = (k x.own h.0, h.1)
 below_part n false g x h k a = below_running n g x h k a
 
@@ -46,7 +51,8 @@ name_kept : (n : ℕ) (g : Frame → Frame) (fs : List Frame) → ((f : Frame) �
 name_kept n g [] e h = h
 name_kept n g (f ∷ fs) e h = rw (e f) h
 
-pub below_changed : (n : ℕ) (g : Frame → Frame) (x : Frames) → AreNested x → ((f : Frame) → (g f).name ≡ f.name) → AreNamedBelow n x → AreNamedBelow n (at_innermost g x)
+pub below_changed : (n : ℕ) (g : Frame → Frame) (x : Frames) → AreNested x → ((f : Frame) → (g f).name ≡ f.name) → AreNamedBelow n x →
+    AreNamedBelow n (at_innermost g x)
 below_changed n g x a e h =
     below_part n (not (is_null x.own)) (at_head g) x h (λ fs k. name_kept n g fs e k) a
 
@@ -62,8 +68,11 @@ below_ended n x a h = go (not (is_null x.own))
     running : (r : Option ThreadNo) → x.running ≡ r → AreNamedBelow n (on_running tail_of r x)
     running None e = h
     running (Some t) e =
-        let b : t.0 < length x.threads = rw e at a.running in
-        (h.0, All-set (λ fs. next_name fs ≤ n) x.threads t.0 (tail_of (frames_in x.threads t)) (name_ended n false (frames_in x.threads t) (a.threads t.0 [] b).part (h.1 t.0 [] b)) h.1)
+        let b : t.0 < length x.threads = rw e at a.running in (
+          h.0,
+          All-set (λ fs. next_name fs ≤ n) x.threads t.0 (tail_of (frames_in x.threads t))
+              (name_ended n false (frames_in x.threads t) (a.threads t.0 [] b).part (h.1 t.0 [] b)) h.1,
+        )
 
     go : (o : Bool) → AreNamedBelow n (on_part o tail_of x)
     go true = (name_ended n true x.own a.own h.0, h.1)
@@ -113,7 +122,8 @@ waits_begun n b x h = go (is_own b)
     go false = rw (own-on_running (λ fs. new_frame n b ∷ fs) x.running x) h
 
 -- a change that sets no wait
-pub waits_changed : (g : Frame → Frame) (x : Frames) → ((f : Frame) → f.again ≡ None → (g f).again ≡ None) → HaveNoWaits x.own → HaveNoWaits (at_innermost g x).own
+pub waits_changed : (g : Frame → Frame) (x : Frames) → ((f : Frame) → f.again ≡ None → (g f).again ≡ None) → HaveNoWaits x.own →
+    HaveNoWaits (at_innermost g x).own
 waits_changed g x k h = go (not (is_null x.own))
   where
     head : (fs : List Frame) → HaveNoWaits fs → HaveNoWaits (at_head g fs)

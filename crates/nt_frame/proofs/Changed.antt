@@ -19,7 +19,8 @@ at_head_same g f [] h = cc
 at_head_same g f (y ∷ ys) h =
     let e : y ≡ f = cc in rw e
 
-on_running_same : (g : Frame → Frame) (f : Frame) (x : Frames) (r : Option ThreadNo) → head_of (option_map_or (frames_in x.threads) r []) ≡ Some f → on_running (at_head (λ _. g f)) r x ≡ on_running (at_head g) r x
+on_running_same : (g : Frame → Frame) (f : Frame) (x : Frames) (r : Option ThreadNo) → head_of (option_map_or (frames_in x.threads) r []) ≡ Some f →
+    on_running (at_head (λ _. g f)) r x ≡ on_running (at_head g) r x
 on_running_same g f x None h = refl
 on_running_same g f x (Some t) h = simp (at_head_same g f (frames_in x.threads t) h)
 
@@ -27,7 +28,8 @@ on_running_same g f x (Some t) h = simp (at_head_same g f (frames_in x.threads t
 pub at_innermost_same : (g : Frame → Frame) (f : Frame) (x : Frames) → innermost x ≡ Some f → at_innermost (λ _. g f) x ≡ at_innermost g x
 at_innermost_same g f x h = go x.own refl h
   where
-    go : (os : List Frame) → x.own ≡ os → option_or (head_of os) (head_of (thread_part x)) ≡ Some f → on_part (not (is_null os)) (at_head (λ _. g f)) x ≡ on_part (not (is_null os)) (at_head g) x
+    go : (os : List Frame) → x.own ≡ os → option_or (head_of os) (head_of (thread_part x)) ≡ Some f →
+        on_part (not (is_null os)) (at_head (λ _. g f)) x ≡ on_part (not (is_null os)) (at_head g) x
     go [] e k = on_running_same g f x x.running k
     go (y ∷ ys) e k =
         let q : head_of x.own ≡ Some f = rw e k in simp (at_head_same g f x.own q)
@@ -69,13 +71,15 @@ over_same : (f g : Frame) (x : Frames) (fs : List Frame) → MayStandFor f g x �
 over_same f g x [] m o = tt
 over_same f g x (y ∷ ys) m o = (rw m.body o.0, rw m.name o.1)
 
-part_changed : (own : Bool) (f g : Frame) (x : Frames) (fs : List Frame) → MayStandFor f g x → head_of fs ≡ Some f → IsPart own fs → IsPart own (at_head (λ _. g) fs)
+part_changed : (own : Bool) (f g : Frame) (x : Frames) (fs : List Frame) → MayStandFor f g x → head_of fs ≡ Some f → IsPart own fs →
+    IsPart own (at_head (λ _. g) fs)
 part_changed own f g x [] m h p = tt
 part_changed own f g x (y ∷ ys) m h p =
     let e : y ≡ f = cc in
     (stands own f g x (rw e at p.0) m, over_same f g x ys m (rw e at p.1), p.2)
 
-newer_changed : (f g : Frame) (x : Frames) (fs : List Frame) (parts : List (List Frame)) → MayStandFor f g x → head_of fs ≡ Some f → AreNewer fs parts → AreNewer (at_head (λ _. g) fs) parts
+newer_changed : (f g : Frame) (x : Frames) (fs : List Frame) (parts : List (List Frame)) → MayStandFor f g x → head_of fs ≡ Some f → AreNewer fs parts →
+    AreNewer (at_head (λ _. g) fs) parts
 newer_changed f g x [] parts m h n = tt
 newer_changed f g x (y ∷ ys) parts m h n =
     let e : g.name ≡ y.name = let q : y ≡ f = cc in rw q m.name in
@@ -91,7 +95,8 @@ sum_changed c f g (y ∷ ys) h l =
 pub at_innermost_nested : (f g : Frame) (x : Frames) → AreNested x → innermost x ≡ Some f → MayStandFor f g x → AreNested (at_innermost (λ _. g) x)
 at_innermost_nested f g x h k m = go x.own refl k
   where
-    go : (os : List Frame) → x.own ≡ os → option_or (head_of os) (head_of (thread_part x)) ≡ Some f → AreNested (on_part (not (is_null os)) (at_head (λ _. g)) x)
+    go : (os : List Frame) → x.own ≡ os → option_or (head_of os) (head_of (thread_part x)) ≡ Some f →
+        AreNested (on_part (not (is_null os)) (at_head (λ _. g)) x)
     go [] e q =
         let p : IsThreadPart (thread_part x) = thread_part_nested x h in
         on_running_nested (at_head (λ _. g)) x h e (record {

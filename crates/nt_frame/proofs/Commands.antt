@@ -1,7 +1,9 @@
 -- What a call leaves of the frames, as the methods of `Frames` make it: the effect of the command, then the place.
 use Rattle.std.proofs.Common.{◌≡◌, ℕ, ◌+◌, ◌<◌, ◌==◌, Bool, true, false, Option, None, Some, if◌then◌else◌, [], length, sym, ◌∙◌, ap, refl}
 use Rattle.nt_event.specs.declared.commands.Command.{Command}
-use Rattle.nt_event.specs.declared.commands.Command.TheVariants.{Alert, CancelTimer, Clock, Delay, EnterCrit, EnterGuard, InsertApc, Interrupt, LeaveCrit, LeaveGuard, Lower, Note, Queue, Raise, Release, RemoveApc, SetImportance, SetTarget, SetTimer, StartWait, TestAlert, ToUser, Unqueue, Yield}
+use Rattle.nt_event.specs.declared.commands.Command.TheVariants.{Alert, CancelTimer, Clock, Delay, EnterCrit, EnterGuard, InsertApc, Interrupt, LeaveCrit}
+use Rattle.nt_event.specs.declared.commands.Command.TheVariants.{LeaveGuard, Lower, Note, Queue, Raise, Release, RemoveApc, SetImportance, SetTarget, SetTimer}
+use Rattle.nt_event.specs.declared.commands.Command.TheVariants.{StartWait, TestAlert, ToUser, Unqueue, Yield}
 use Rattle.nt_event.specs.declared.commands.Mode.{Mode}
 use Rattle.nt_event.specs.declared.commands.Refusal.{Refusal}
 use Rattle.nt_event.specs.declared.commands.Reply.{Reply}
@@ -42,7 +44,9 @@ stays x y r e k = ap (λ (q : Option ThreadNo). record x { running = q }) (e ∙
 -- ---- calls that change the place alone
 
 -- a call that changes nothing of the frame but its place, and lets the thread run
-pub call_by : (s : Script) (n : ℕ) (due : Option ℕ) (e : Event) (x : Frames) (f : Frame) (c : Command) (y : Reply) → IsOurs s e x → innermost x ≡ Some f → e.what ≡ Call f.name c y → ((g : Frame) → called due c y g ≡ advanced g) → running_after (Call f.name c y) x.running ≡ x.running → frames_after s n due e x ≡ at_innermost advanced x
+pub call_by : (s : Script) (n : ℕ) (due : Option ℕ) (e : Event) (x : Frames) (f : Frame) (c : Command) (y : Reply) → IsOurs s e x → innermost x ≡ Some f →
+    e.what ≡ Call f.name c y → ((g : Frame) → called due c y g ≡ advanced g) → running_after (Call f.name c y) x.running ≡ x.running →
+    frames_after s n due e x ≡ at_innermost advanced x
 call_by s n due e x f c y h q k place runs =
     after_call s n due e x f c y h q k
     ∙ ap (λ (z : Frames). record z { running = running_after (Call f.name c y) x.running }) (at_innermost_by (called due c y) advanced x place)
@@ -58,7 +62,8 @@ refused_runs n Yield why r = refl
 refused_runs n _ why r = refl
 
 -- a refused command changes the place alone
-pub call_refused : (s : Script) (n : ℕ) (due : Option ℕ) (e : Event) (x : Frames) (f : Frame) (c : Command) (why : Refusal) → IsOurs s e x → innermost x ≡ Some f → e.what ≡ Call f.name c (Refused why) → frames_after s n due e x ≡ at_innermost advanced x
+pub call_refused : (s : Script) (n : ℕ) (due : Option ℕ) (e : Event) (x : Frames) (f : Frame) (c : Command) (why : Refusal) → IsOurs s e x →
+    innermost x ≡ Some f → e.what ≡ Call f.name c (Refused why) → frames_after s n due e x ≡ at_innermost advanced x
 call_refused s n due e x f c why h q k =
     call_by s n due e x f c (Refused why) h q k (refused_call due c why) (refused_runs f.name c why x.running)
 
@@ -110,7 +115,8 @@ plain_runs n Yield y r p b = cc
 plain_runs n _ y r p b = rw b
 
 -- one that changes nothing else of its frame, and doesn't block
-pub call_plain : (s : Script) (n : ℕ) (due : Option ℕ) (e : Event) (x : Frames) (f : Frame) (c : Command) (y : Reply) → IsOurs s e x → innermost x ≡ Some f → is_plain c ≡ true → is_blocked y ≡ false → e.what ≡ Call f.name c y → frames_after s n due e x ≡ at_innermost advanced x
+pub call_plain : (s : Script) (n : ℕ) (due : Option ℕ) (e : Event) (x : Frames) (f : Frame) (c : Command) (y : Reply) → IsOurs s e x → innermost x ≡ Some f →
+    is_plain c ≡ true → is_blocked y ≡ false → e.what ≡ Call f.name c y → frames_after s n due e x ≡ at_innermost advanced x
 call_plain s n due e x f c y h q p b k =
     call_by s n due e x f c y h q k (plain_call due c y p) (plain_runs f.name c y x.running p b)
 
@@ -139,11 +145,14 @@ own_runs : (n : ℕ) (c : Command) (r : Option ThreadNo) → is_frames_own c ≡
 own_runs n Yield r p = cc
 own_runs n _ r p = refl
 
-pub call_own : (s : Script) (n : ℕ) (due : Option ℕ) (e : Event) (x : Frames) (f : Frame) (c : Command) → IsOurs s e x → innermost x ≡ Some f → is_frames_own c ≡ true → e.what ≡ Call f.name c Done → frames_after s n due e x ≡ at_innermost advanced (at_innermost (done_to c) x)
+pub call_own : (s : Script) (n : ℕ) (due : Option ℕ) (e : Event) (x : Frames) (f : Frame) (c : Command) → IsOurs s e x → innermost x ≡ Some f →
+    is_frames_own c ≡ true → e.what ≡ Call f.name c Done → frames_after s n due e x ≡ at_innermost advanced (at_innermost (done_to c) x)
 call_own s n due e x f c h q p k =
     after_call s n due e x f c Done h q k
-    ∙ ap (λ (z : Frames). record z { running = running_after (Call f.name c Done) x.running }) (at_innermost_by (called due c Done) (λ g. advanced (done_to c g)) x (own_call due c p))
-    ∙ stays (at_innermost (λ g. advanced (done_to c g)) x) x (running_after (Call f.name c Done) x.running) (own_runs f.name c x.running p) (running-at_innermost (λ g. advanced (done_to c g)) x)
+    ∙ ap (λ (z : Frames). record z { running = running_after (Call f.name c Done) x.running })
+    (at_innermost_by (called due c Done) (λ g. advanced (done_to c g)) x (own_call due c p))
+    ∙ stays (at_innermost (λ g. advanced (done_to c g)) x) x (running_after (Call f.name c Done) x.running) (own_runs f.name c x.running p)
+    (running-at_innermost (λ g. advanced (done_to c g)) x)
     ∙ sym (at_innermost-at_innermost advanced (done_to c) x h.nested)
 
 -- the commands that enter and leave a region are such
@@ -157,7 +166,8 @@ leave_is_own Guard = refl
 
 -- ---- waits: `set_again`, `advance_place` and, where it blocks, `switch_away`; a yield likewise
 
-pub call_yield : (s : Script) (n : ℕ) (due : Option ℕ) (e : Event) (x : Frames) (f : Frame) → IsOurs s e x → innermost x ≡ Some f → e.what ≡ Call f.name Yield Done → frames_after s n due e x ≡ stopped (at_innermost advanced x)
+pub call_yield : (s : Script) (n : ℕ) (due : Option ℕ) (e : Event) (x : Frames) (f : Frame) → IsOurs s e x → innermost x ≡ Some f →
+    e.what ≡ Call f.name Yield Done → frames_after s n due e x ≡ stopped (at_innermost advanced x)
 call_yield s n due e x f h q k = after_call s n due e x f Yield Done h q k
 
 -- the wait that a call of `wait` leaves to be taken up where it isn't refused, and that of a delay with this due time
@@ -167,24 +177,32 @@ wait_of m a due = record { mode = m; alertable = a; due = due }
 again_status : (st : ℕ) (w old : Option Again) → again_after (Status st) w old ≡ again_after (Status st) w None
 again_status st w old = refl
 
-pub call_wait : (s : Script) (n : ℕ) (due : Option ℕ) (e : Event) (x : Frames) (f : Frame) (m : Mode) (a : Bool) (st : ℕ) → IsOurs s e x → innermost x ≡ Some f → e.what ≡ Call f.name (StartWait m a) (Status st) → frames_after s n due e x ≡ at_innermost advanced (at_innermost (awaiting (again_after (Status st) (Some (wait_of m a None)) None)) x)
+pub call_wait : (s : Script) (n : ℕ) (due : Option ℕ) (e : Event) (x : Frames) (f : Frame) (m : Mode) (a : Bool) (st : ℕ) → IsOurs s e x →
+    innermost x ≡ Some f → e.what ≡ Call f.name (StartWait m a) (Status st) →
+    frames_after s n due e x ≡ at_innermost advanced (at_innermost (awaiting (again_after (Status st) (Some (wait_of m a None)) None)) x)
 call_wait s n due e x f m a st h q k =
     after_call s n due e x f (StartWait m a) (Status st) h q k
     ∙ stays (at_innermost (called due (StartWait m a) (Status st)) x) x x.running refl (running-at_innermost (called due (StartWait m a) (Status st)) x)
     ∙ sym (at_innermost-at_innermost advanced (awaiting (again_after (Status st) (Some (wait_of m a None)) None)) x h.nested)
 
-pub call_wait_blocked : (s : Script) (n : ℕ) (due : Option ℕ) (e : Event) (x : Frames) (f : Frame) (m : Mode) (a : Bool) → IsOurs s e x → innermost x ≡ Some f → e.what ≡ Call f.name (StartWait m a) Blocked → frames_after s n due e x ≡ stopped (at_innermost advanced (at_innermost (awaiting (Some (wait_of m a None))) x))
+pub call_wait_blocked : (s : Script) (n : ℕ) (due : Option ℕ) (e : Event) (x : Frames) (f : Frame) (m : Mode) (a : Bool) → IsOurs s e x →
+    innermost x ≡ Some f → e.what ≡ Call f.name (StartWait m a) Blocked →
+    frames_after s n due e x ≡ stopped (at_innermost advanced (at_innermost (awaiting (Some (wait_of m a None))) x))
 call_wait_blocked s n due e x f m a h q k =
     after_call s n due e x f (StartWait m a) Blocked h q k
     ∙ ap stopped (sym (at_innermost-at_innermost advanced (awaiting (Some (wait_of m a None))) x h.nested))
 
-pub call_delay : (s : Script) (n : ℕ) (due : Option ℕ) (e : Event) (x : Frames) (f : Frame) (m : Mode) (a : Bool) (units st : ℕ) → IsOurs s e x → innermost x ≡ Some f → e.what ≡ Call f.name (Delay m a units) (Status st) → frames_after s n due e x ≡ at_innermost advanced (at_innermost (awaiting (again_after (Status st) (Some (wait_of m a due)) None)) x)
+pub call_delay : (s : Script) (n : ℕ) (due : Option ℕ) (e : Event) (x : Frames) (f : Frame) (m : Mode) (a : Bool) (units st : ℕ) → IsOurs s e x →
+    innermost x ≡ Some f → e.what ≡ Call f.name (Delay m a units) (Status st) →
+    frames_after s n due e x ≡ at_innermost advanced (at_innermost (awaiting (again_after (Status st) (Some (wait_of m a due)) None)) x)
 call_delay s n due e x f m a units st h q k =
     after_call s n due e x f (Delay m a units) (Status st) h q k
     ∙ stays (at_innermost (called due (Delay m a units) (Status st)) x) x x.running refl (running-at_innermost (called due (Delay m a units) (Status st)) x)
     ∙ sym (at_innermost-at_innermost advanced (awaiting (again_after (Status st) (Some (wait_of m a due)) None)) x h.nested)
 
-pub call_delay_blocked : (s : Script) (n : ℕ) (due : Option ℕ) (e : Event) (x : Frames) (f : Frame) (m : Mode) (a : Bool) (units : ℕ) → IsOurs s e x → innermost x ≡ Some f → e.what ≡ Call f.name (Delay m a units) Blocked → frames_after s n due e x ≡ stopped (at_innermost advanced (at_innermost (awaiting (Some (wait_of m a due))) x))
+pub call_delay_blocked : (s : Script) (n : ℕ) (due : Option ℕ) (e : Event) (x : Frames) (f : Frame) (m : Mode) (a : Bool) (units : ℕ) → IsOurs s e x →
+    innermost x ≡ Some f → e.what ≡ Call f.name (Delay m a units) Blocked →
+    frames_after s n due e x ≡ stopped (at_innermost advanced (at_innermost (awaiting (Some (wait_of m a due))) x))
 call_delay_blocked s n due e x f m a units h q k =
     after_call s n due e x f (Delay m a units) Blocked h q k
     ∙ ap stopped (sym (at_innermost-at_innermost advanced (awaiting (Some (wait_of m a due))) x h.nested))
@@ -192,37 +210,46 @@ call_delay_blocked s n due e x f m a units h q k =
 -- ---- a wait that is taken up again
 
 -- interrupted once more: nothing changes
-pub rewait_again : (s : Script) (n : ℕ) (due : Option ℕ) (e : Event) (x : Frames) (f : Frame) → IsOurs s e x → innermost x ≡ Some f → x.own ≡ [] → e.what ≡ Rewait f.name (Status kernel_apc) → frames_after s n due e x ≡ x
+pub rewait_again : (s : Script) (n : ℕ) (due : Option ℕ) (e : Event) (x : Frames) (f : Frame) → IsOurs s e x → innermost x ≡ Some f → x.own ≡ [] →
+    e.what ≡ Rewait f.name (Status kernel_apc) → frames_after s n due e x ≡ x
 rewait_again s n due e x f h q o k =
     after_rewait s n due e x f (Status kernel_apc) h q o k
     ∙ stays (at_innermost (rewaited (Status kernel_apc)) x) x x.running refl (running-at_innermost (rewaited (Status kernel_apc)) x)
     ∙ at_innermost_id x
 
 -- over: `set_again` to None
-pub rewait_over : (s : Script) (n : ℕ) (due : Option ℕ) (e : Event) (x : Frames) (f : Frame) (st : ℕ) → IsOurs s e x → innermost x ≡ Some f → x.own ≡ [] → (st == kernel_apc) ≡ false → e.what ≡ Rewait f.name (Status st) → frames_after s n due e x ≡ at_innermost (awaiting None) x
+pub rewait_over : (s : Script) (n : ℕ) (due : Option ℕ) (e : Event) (x : Frames) (f : Frame) (st : ℕ) → IsOurs s e x → innermost x ≡ Some f → x.own ≡ [] →
+    (st == kernel_apc) ≡ false → e.what ≡ Rewait f.name (Status st) → frames_after s n due e x ≡ at_innermost (awaiting None) x
 rewait_over s n due e x f st h q o b k =
     after_rewait s n due e x f (Status st) h q o k
     ∙ stays (at_innermost (rewaited (Status st)) x) x x.running refl (running-at_innermost (rewaited (Status st)) x)
     ∙ at_innermost_by (rewaited (Status st)) (awaiting None) x (λ g. ap (λ (w : Option Again). record g { again = w }) (rw b))
 
 -- blocked once more: `switch_away`
-pub rewait_blocked : (s : Script) (n : ℕ) (due : Option ℕ) (e : Event) (x : Frames) (f : Frame) → IsOurs s e x → innermost x ≡ Some f → x.own ≡ [] → e.what ≡ Rewait f.name Blocked → frames_after s n due e x ≡ stopped x
+pub rewait_blocked : (s : Script) (n : ℕ) (due : Option ℕ) (e : Event) (x : Frames) (f : Frame) → IsOurs s e x → innermost x ≡ Some f → x.own ≡ [] →
+    e.what ≡ Rewait f.name Blocked → frames_after s n due e x ≡ stopped x
 rewait_blocked s n due e x f h q o k =
     after_rewait s n due e x f Blocked h q o k ∙ ap stopped (at_innermost_id x)
 
 -- ---- a thread that is taken up with its frames
 
 -- with no status, or with that of a kernel APC: `switch_to` alone
-pub switch_on : (s : Script) (n : ℕ) (due : Option ℕ) (e : Event) (x : Frames) (t : ThreadNo) (f : Frame) → length x.threads ≡ length s.threads → t.0 < length x.threads → x.own ≡ [] → e.thread ≡ Some t → e.what ≡ Switch t None → head_of (frames_in x.threads t) ≡ Some f → frames_after s n due e x ≡ taken t x
+pub switch_on : (s : Script) (n : ℕ) (due : Option ℕ) (e : Event) (x : Frames) (t : ThreadNo) (f : Frame) → length x.threads ≡ length s.threads →
+    t.0 < length x.threads → x.own ≡ [] → e.thread ≡ Some t → e.what ≡ Switch t None → head_of (frames_in x.threads t) ≡ Some f →
+    frames_after s n due e x ≡ taken t x
 switch_on s n due e x t f l b o i k q =
     after_switch s n due e x t None f l b o i k q ∙ at_innermost_id (taken t x)
 
-pub switch_again : (s : Script) (n : ℕ) (due : Option ℕ) (e : Event) (x : Frames) (t : ThreadNo) (f : Frame) → length x.threads ≡ length s.threads → t.0 < length x.threads → x.own ≡ [] → e.thread ≡ Some t → e.what ≡ Switch t (Some kernel_apc) → head_of (frames_in x.threads t) ≡ Some f → frames_after s n due e x ≡ taken t x
+pub switch_again : (s : Script) (n : ℕ) (due : Option ℕ) (e : Event) (x : Frames) (t : ThreadNo) (f : Frame) → length x.threads ≡ length s.threads →
+    t.0 < length x.threads → x.own ≡ [] → e.thread ≡ Some t → e.what ≡ Switch t (Some kernel_apc) → head_of (frames_in x.threads t) ≡ Some f →
+    frames_after s n due e x ≡ taken t x
 switch_again s n due e x t f l b o i k q =
     after_switch s n due e x t (Some kernel_apc) f l b o i k q ∙ at_innermost_id (taken t x)
 
 -- with another status the wait is over: `set_again` to None
-pub switch_over : (s : Script) (n : ℕ) (due : Option ℕ) (e : Event) (x : Frames) (t : ThreadNo) (st : ℕ) (f : Frame) → length x.threads ≡ length s.threads → t.0 < length x.threads → x.own ≡ [] → e.thread ≡ Some t → (st == kernel_apc) ≡ false → e.what ≡ Switch t (Some st) → head_of (frames_in x.threads t) ≡ Some f → frames_after s n due e x ≡ at_innermost (awaiting None) (taken t x)
+pub switch_over : (s : Script) (n : ℕ) (due : Option ℕ) (e : Event) (x : Frames) (t : ThreadNo) (st : ℕ) (f : Frame) → length x.threads ≡ length s.threads →
+    t.0 < length x.threads → x.own ≡ [] → e.thread ≡ Some t → (st == kernel_apc) ≡ false → e.what ≡ Switch t (Some st) →
+    head_of (frames_in x.threads t) ≡ Some f → frames_after s n due e x ≡ at_innermost (awaiting None) (taken t x)
 switch_over s n due e x t st f l b o i z k q =
     after_switch s n due e x t (Some st) f l b o i k q
     ∙ at_innermost_by (resumed (Some st)) (awaiting None) (taken t x) (λ g. ap (λ (w : Option Again). record g { again = w }) (rw z))

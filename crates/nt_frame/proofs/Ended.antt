@@ -16,7 +16,7 @@ use Rattle.nt_frame.specs.Rules.{is_leaving, may_go_on}
 use Rattle.nt_frame.proofs.Begun.{base_is_not_own}
 use Rattle.nt_frame.proofs.Changed.{innermost_frame}
 use Rattle.nt_frame.proofs.Kept.{innermost_test}
-use Rattle.nt_frame.proofs.Booleans.{and_right}
+use Rattle.nt_event.proofs.Booleans.{and_right}
 use Rattle.nt_frame.proofs.Nested.{on_own_nested, on_running_nested, thread_part_nested}
 
 tail_part : (own : Bool) (fs : List Frame) → IsPart own fs → IsPart own (tail_of fs)
@@ -57,7 +57,8 @@ closed_nested x h l =
     record { own = n.own; threads = n.threads; running = tt; newer = n.newer }
 
 -- the same where that thread is named, or none is
-pub closed_on : (x : Frames) (t : ThreadNo) → AreNested x → is_leaving x ≡ true → x.running ≡ Some t → AreNested (record (on_thread (λ _. []) t x) { running = None })
+pub closed_on : (x : Frames) (t : ThreadNo) → AreNested x → is_leaving x ≡ true → x.running ≡ Some t →
+    AreNested (record (on_thread (λ _. []) t x) { running = None })
 closed_on x t h l e =
     subst (λ (r : Option ThreadNo). AreNested (record (on_running (λ _. []) r x) { running = None })) e (closed_nested x h l)
 

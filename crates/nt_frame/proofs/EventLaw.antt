@@ -25,10 +25,13 @@ use Rattle.nt_event.proofs.Moves.{frames_move, frames_stay}
 use Rattle.nt_frame.specs.declared.calls.FrameCall.{FrameCall}
 use Rattle.nt_frame.specs.Calls.{commanded, left_by, left_by_all}
 use Rattle.nt_frame.specs.Changes.{at_innermost, no_frames}
-use Rattle.nt_frame.specs.EventCalls.{EachIsMade, EventsAreCalls, HistoriesAreCalls, calls_in, Fits, IsInnermost, Replies, calls_of, command_calls, rewait_calls, status_calls, switch_calls, thread_of}
+use Rattle.nt_frame.specs.EventCalls.{EachIsMade, EventsAreCalls, HistoriesAreCalls, calls_in, EventSays, IsInnermost, Replies, calls_of, command_calls}
+use Rattle.nt_frame.specs.EventCalls.{rewait_calls, status_calls, switch_calls, thread_of}
 use Rattle.nt_frame.specs.Rules.{is_at_base, refusal_in}
-use Rattle.nt_frame.proofs.After.{after_apc, after_clean, after_dpc, after_end, after_end_base, after_expire, after_fire, after_first_switch, after_flush, after_gone, after_int, after_look, after_normal, after_rest, after_rewait, after_rundown, after_switch, after_threaded, taken}
-use Rattle.nt_frame.proofs.Commands.{advanced, awaiting, call_by, call_delay, call_delay_blocked, call_own, call_wait, call_wait_blocked, call_yield, rewait_blocked, stays}
+use Rattle.nt_frame.proofs.After.{after_apc, after_clean, after_dpc, after_end, after_end_base, after_expire, after_fire, after_first_switch, after_flush}
+use Rattle.nt_frame.proofs.After.{after_gone, after_int, after_look, after_normal, after_rest, after_rewait, after_rundown, after_switch, after_threaded, taken}
+use Rattle.nt_frame.proofs.Commands.{advanced, awaiting, call_by, call_delay, call_delay_blocked, call_own, call_wait, call_wait_blocked, call_yield}
+use Rattle.nt_frame.proofs.Commands.{rewait_blocked, stays}
 use Rattle.nt_frame.proofs.Events.{IsOurs}
 use Rattle.nt_frame.proofs.Tasks.{base_here}
 use Rattle.nt_frame.proofs.Twice.{at_innermost_by, at_innermost_id, running-at_innermost}
@@ -46,7 +49,8 @@ named n x h = go (innermost x) refl h
 accepted : (c : Command) (x : Frames) → refusal_in c x ≡ None → at_innermost advanced (at_innermost (done_to c) x) ≡ at_innermost advanced (commanded c x)
 accepted c x h = rw h
 
-call_case : (s : Script) (n : ℕ) (due : Option ℕ) (e : Event) (x : Frames) (f : Frame) (c : Command) (y : Reply) → IsOurs s e x → innermost x ≡ Some f → e.what ≡ Call f.name c y → Replies c y x → frames_after s n due e x ≡ left_by_all (command_calls due c y) x
+call_case : (s : Script) (n : ℕ) (due : Option ℕ) (e : Event) (x : Frames) (f : Frame) (c : Command) (y : Reply) → IsOurs s e x → innermost x ≡ Some f →
+    e.what ≡ Call f.name c y → Replies c y x → frames_after s n due e x ≡ left_by_all (command_calls due c y) x
 call_case s n due e x f (StartWait m a) (Status st) h q k r = call_wait s n due e x f m a st h q k
 call_case s n due e x f (StartWait m a) Blocked h q k r = call_wait_blocked s n due e x f m a h q k
 call_case s n due e x f (StartWait m a) y h q k r =
@@ -80,13 +84,15 @@ call_case s n due e x f c y h q k r = call_by s n due e x f c y h q k (λ g. ref
 
 -- ---- waits that are taken up again
 
-rewait_status : (s : Script) (n : ℕ) (due : Option ℕ) (e : Event) (x : Frames) (f : Frame) (st : ℕ) (b : Bool) → (st == kernel_apc) ≡ b → IsOurs s e x → innermost x ≡ Some f → x.own ≡ [] → e.what ≡ Rewait f.name (Status st) → at_innermost (rewaited (Status st)) x ≡ left_by_all (status_calls (Some st)) x
+rewait_status : (s : Script) (n : ℕ) (due : Option ℕ) (e : Event) (x : Frames) (f : Frame) (st : ℕ) (b : Bool) → (st == kernel_apc) ≡ b → IsOurs s e x →
+    innermost x ≡ Some f → x.own ≡ [] → e.what ≡ Rewait f.name (Status st) → at_innermost (rewaited (Status st)) x ≡ left_by_all (status_calls (Some st)) x
 rewait_status s n due e x f st true z h q o k =
     at_innermost_by (rewaited (Status st)) (λ g. g) x (λ g. rw z) ∙ at_innermost_id x ∙ rw z
 rewait_status s n due e x f st false z h q o k =
     at_innermost_by (rewaited (Status st)) (awaiting None) x (λ g. rw z) ∙ rw z
 
-rewait_case : (s : Script) (n : ℕ) (due : Option ℕ) (e : Event) (x : Frames) (f : Frame) (y : Reply) → IsOurs s e x → innermost x ≡ Some f → x.own ≡ [] → e.what ≡ Rewait f.name y → frames_after s n due e x ≡ left_by_all (rewait_calls y) x
+rewait_case : (s : Script) (n : ℕ) (due : Option ℕ) (e : Event) (x : Frames) (f : Frame) (y : Reply) → IsOurs s e x → innermost x ≡ Some f → x.own ≡ [] →
+    e.what ≡ Rewait f.name y → frames_after s n due e x ≡ left_by_all (rewait_calls y) x
 rewait_case s n due e x f Blocked h q o k = rewait_blocked s n due e x f h q o k
 rewait_case s n due e x f (Status st) h q o k =
     after_rewait s n due e x f (Status st) h q o k
@@ -99,7 +105,8 @@ rewait_case s n due e x f y h q o k =
 
 -- ---- the ends of frames and threads
 
-end_case : (s : Script) (n : ℕ) (due : Option ℕ) (e : Event) (x : Frames) (f : Frame) (b : Bool) → is_at_base x ≡ b → IsOurs s e x → innermost x ≡ Some f → e.what ≡ End f.name → frames_after s n due e x ≡ left_by_all (calls_of s n due (End f.name) x) x
+end_case : (s : Script) (n : ℕ) (due : Option ℕ) (e : Event) (x : Frames) (f : Frame) (b : Bool) → is_at_base x ≡ b → IsOurs s e x → innermost x ≡ Some f →
+    e.what ≡ End f.name → frames_after s n due e x ≡ left_by_all (calls_of s n due (End f.name) x) x
 end_case s n due e x f true b h q k =
     let i : is_base_body f.body ≡ true = sym (base_here f x q) ∙ b in
     after_end_base s n due e x f h q i k ∙ rw b
@@ -107,7 +114,8 @@ end_case s n due e x f false b h q k =
     let i : is_base_body f.body ≡ false = sym (base_here f x q) ∙ b in
     after_end s n due e x f h q i k ∙ rw b
 
-flush_case : (s : Script) (n : ℕ) (due : Option ℕ) (e : Event) (x : Frames) (a : ApcNo) (from : ℕ) (r : Option RoutineNo) → rundown_of s a ≡ r → IsOurs s e x → e.what ≡ Flush a from → frames_after s n due e x ≡ left_by_all (calls_of s n due (Flush a from) x) x
+flush_case : (s : Script) (n : ℕ) (due : Option ℕ) (e : Event) (x : Frames) (a : ApcNo) (from : ℕ) (r : Option RoutineNo) → rundown_of s a ≡ r → IsOurs s e x →
+    e.what ≡ Flush a from → frames_after s n due e x ≡ left_by_all (calls_of s n due (Flush a from) x) x
 flush_case s n due e x a from None q h k = after_flush s n due e x a from h k q ∙ rw q
 flush_case s n due e x a from (Some r) q h k = after_rundown s n due e x a from r h k q ∙ rw q
 
@@ -121,7 +129,9 @@ resumed_case x t (Some st) = go (st == kernel_apc) refl
     go true z = at_innermost_by (resumed (Some st)) (λ g. g) (taken t x) (λ g. rw z) ∙ at_innermost_id (taken t x) ∙ rw z
     go false z = at_innermost_by (resumed (Some st)) (awaiting None) (taken t x) (λ g. rw z) ∙ rw z
 
-switch_case : (s : Script) (n : ℕ) (due : Option ℕ) (e : Event) (x : Frames) (t : ThreadNo) (status : Option ℕ) (fs : List Frame) → frames_in x.threads t ≡ fs → length x.threads ≡ length s.threads → t.0 < length x.threads → x.own ≡ [] → e.thread ≡ Some t → e.what ≡ Switch t status → frames_after s n due e x ≡ left_by_all (switch_calls n t status fs) x
+switch_case : (s : Script) (n : ℕ) (due : Option ℕ) (e : Event) (x : Frames) (t : ThreadNo) (status : Option ℕ) (fs : List Frame) →
+    frames_in x.threads t ≡ fs → length x.threads ≡ length s.threads → t.0 < length x.threads → x.own ≡ [] → e.thread ≡ Some t → e.what ≡ Switch t status →
+    frames_after s n due e x ≡ left_by_all (switch_calls n t status fs) x
 switch_case s n due e x t status [] q l b o i k = after_first_switch s n due e x t status l b i k q
 switch_case s n due e x t status (f ∷ fs) q l b o i k =
     let m : head_of (frames_in x.threads t) ≡ Some f = rw q in
@@ -130,12 +140,12 @@ switch_case s n due e x t status (f ∷ fs) q l b o i k =
 -- ---- all events
 
 pub events_are_calls : EventsAreCalls
-events_are_calls s n due e x h = go e.what refl h.thread h.fits
+events_are_calls s n due e x h = go e.what refl h.thread h.says
   where
     ours : e.thread ≡ x.running → IsOurs s e x
     ours t = record { nested = h.nested; threads = h.threads; thread = t }
 
-    go : (w : What) → e.what ≡ w → e.thread ≡ thread_of w x.running → Fits w x → frames_after s n due e x ≡ left_by_all (calls_of s n due w x) x
+    go : (w : What) → e.what ≡ w → e.thread ≡ thread_of w x.running → EventSays w x → frames_after s n due e x ≡ left_by_all (calls_of s n due w x) x
     go (Begin (BeginInt level) from) k t f = after_int s n due e x level from (ours t) k
     go (Begin (BeginDpc d) from) k t f = after_dpc s n due e x d from (ours t) k
     go (Begin (BeginThreaded d) from) k t f = after_threaded s n due e x d from (ours t) k
@@ -172,7 +182,9 @@ left_by_all-append : (cs ds : List FrameCall) (x : Frames) → left_by_all (cs +
 left_by_all-append [] ds x = refl
 left_by_all-append (c ∷ cs) ds x = left_by_all-append cs ds (left_by c x)
 
-history_step : (s : Script) (p : CpuNo) (e : Event) (past : List Event) (b : Bool) → is_of e p ≡ b → EachIsMade s p (e ∷ past) → frames_of s p past ≡ left_by_all (calls_in s p past) (no_frames (length s.threads)) → frames_of s p (e ∷ past) ≡ left_by_all (calls_in s p (e ∷ past)) (no_frames (length s.threads))
+history_step : (s : Script) (p : CpuNo) (e : Event) (past : List Event) (b : Bool) → is_of e p ≡ b → EachIsMade s p (e ∷ past) →
+    frames_of s p past ≡ left_by_all (calls_in s p past) (no_frames (length s.threads)) →
+    frames_of s p (e ∷ past) ≡ left_by_all (calls_in s p (e ∷ past)) (no_frames (length s.threads))
 history_step s p e past true b h old =
     let now : List FrameCall = calls_of s (length past) (due_of e.what (time past)) e.what (frames_of s p past) in
     let here : calls_in s p (e ∷ past) ≡ calls_in s p past ++ now = rw b in

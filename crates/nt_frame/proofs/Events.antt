@@ -18,7 +18,8 @@ abbrev pub changed : (List Frame → List Frame) → Option ThreadNo → List (L
 changed g None parts = parts
 changed g (Some t) parts = set parts t.0 (g (frames_in parts t))
 
-changed_at : (s : Script) (n : ℕ) (due : Option ℕ) (w : What) (t : ThreadNo) (parts : List (List Frame)) (i : ℕ) → t.0 < length parts → thread_if (t.0 == i) s n due w (get_or parts i []) ≡ get_or (set parts t.0 (thread_after s n due w (get_or parts t.0 []))) i []
+changed_at : (s : Script) (n : ℕ) (due : Option ℕ) (w : What) (t : ThreadNo) (parts : List (List Frame)) (i : ℕ) → t.0 < length parts →
+    thread_if (t.0 == i) s n due w (get_or parts i []) ≡ get_or (set parts t.0 (thread_after s n due w (get_or parts t.0 []))) i []
 changed_at s n due w t parts i b = go (t.0 == i) refl
   where
     go : (h : Bool) → (t.0 == i) ≡ h → thread_if h s n due w (get_or parts i []) ≡ get_or (set parts t.0 (thread_after s n due w (get_or parts t.0 []))) i []
@@ -30,11 +31,14 @@ changed_at s n due w t parts i b = go (t.0 == i) refl
         sym (get_or-set_other parts t.0 i (thread_after s n due w (get_or parts t.0 [])) [] e)
 
 -- the table of what an event leaves of each thread's part has the event's thread changed, and no other
-pub threads_after : (s : Script) (n : ℕ) (due : Option ℕ) (w : What) (r : Option ThreadNo) (parts : List (List Frame)) → length parts ≡ length s.threads → IfSome r (λ t. t.0 < length parts) → table (length s.threads) (λ i. thread_if (is_thread r (thread i)) s n due w (frames_in parts (thread i))) ≡ changed (thread_after s n due w) r parts
+pub threads_after : (s : Script) (n : ℕ) (due : Option ℕ) (w : What) (r : Option ThreadNo) (parts : List (List Frame)) → length parts ≡ length s.threads →
+    IfSome r (λ t. t.0 < length parts) → table (length s.threads) (λ i. thread_if (is_thread r (thread i)) s n due w (frames_in parts (thread i))) ≡ changed
+    (thread_after s n due w) r parts
 threads_after s n due w None parts l b =
     table-self [] (length s.threads) parts (λ i. get_or parts i []) l (λ i h. refl)
 threads_after s n due w (Some t) parts l b =
-    table-self [] (length s.threads) (set parts t.0 (thread_after s n due w (get_or parts t.0 []))) (λ i. thread_if (t.0 == i) s n due w (get_or parts i [])) (length-set parts t.0 _ ∙ l) (λ i h. changed_at s n due w t parts i b)
+    table-self [] (length s.threads) (set parts t.0 (thread_after s n due w (get_or parts t.0 []))) (λ i. thread_if (t.0 == i) s n due w (get_or parts i []))
+    (length-set parts t.0 _ ∙ l) (λ i h. changed_at s n due w t parts i b)
 
 -- a part that doesn't change
 pub changed_same : (r : Option ThreadNo) (parts : List (List Frame)) → changed (λ fs. fs) r parts ≡ parts
@@ -47,6 +51,12 @@ pub record IsOurs (s : Script) (e : Event) (x : Frames) : Type 0 where
   pub threads : length x.threads ≡ length s.threads
   pub thread : e.thread ≡ x.running
 
-pub frames_after_is : (s : Script) (n : ℕ) (due : Option ℕ) (e : Event) (w : What) (x : Frames) → IsOurs s e x → e.what ≡ w → frames_after s n due e x ≡ record { own = own_after n due w x.own; running = running_after w x.running; threads = changed (thread_after s n due w) x.running x.threads }
+pub frames_after_is : (s : Script) (n : ℕ) (due : Option ℕ) (e : Event) (w : What) (x : Frames) → IsOurs s e x → e.what ≡ w →
+    frames_after s n due e x ≡ record {
+      own = own_after n due w x.own;
+      running = running_after w x.running;
+      threads = changed (thread_after s n due w) x.running x.threads;
+    }
 frames_after_is s n due e w x h k =
-    rw (k, h.thread) (ap (λ (ts : List (List Frame)). record { own = own_after n due w x.own; running = running_after w x.running; threads = ts }) (threads_after s n due w x.running x.threads h.threads h.nested.running))
+    rw (k, h.thread) (ap (λ (ts : List (List Frame)). record { own = own_after n due w x.own; running = running_after w x.running; threads = ts })
+    (threads_after s n due w x.running x.threads h.threads h.nested.running))

@@ -19,7 +19,8 @@ set_at_end (y ∷ zs) f h =
 -- at a length under another name, as that of a `Vec`
 pub set_at_last : (xs : List Frame) (n : ℕ) (f : Frame) → n ≡ length xs → 0 < n → reverse (set xs (n - 1) f) ≡ at_head (λ _. f) (reverse xs)
 set_at_last xs n f e h =
-    rw e (subst (λ (l : List Frame). 0 < length l → reverse (set l (length l - 1) f) ≡ at_head (λ _. f) (reverse xs)) (reverse-reverse xs) (set_at_end (reverse xs) f) (rw e at h))
+    rw e (subst (λ (l : List Frame). 0 < length l → reverse (set l (length l - 1) f) ≡ at_head (λ _. f) (reverse xs)) (reverse-reverse xs)
+    (set_at_end (reverse xs) f) (rw e at h))
 
 -- ---- all but the last element are the tail of the reversed list
 

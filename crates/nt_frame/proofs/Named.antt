@@ -5,7 +5,7 @@ use Rattle.std.proofs.lemmas.List.{set-get_or}
 use Rattle.std.specs.Option.{option_map_or, option_or}
 use Rattle.nt_event.specs.declared.frames.Frame.{Frame}
 use Rattle.nt_event.specs.declared.numbers.ThreadNo.{ThreadNo}
-use Rattle.nt_event.specs.Frames.{Frames, at_head, at_name, end_on_thread, frames_in, innermost, is_base_body, left, thread_part, without}
+use Rattle.nt_event.specs.Frames.{Frames, at_head, at_name, end_on_thread, frames_in, innermost, is_base_body, ended_base, thread_part, without}
 use Rattle.nt_event.specs.Lists.{head_of, is_null, tail_of}
 use Rattle.nt_frame.specs.Changes.{on_innermost_part, on_running}
 use Rattle.nt_frame.specs.Nesting.{AreNested, next_name}
@@ -38,7 +38,7 @@ end_head f [] b h = refl
 end_head f (y ∷ ys) b h =
     let e : y ≡ f = cc in rw (e, same_name f.name, b)
 
-pub end_base_head : (f : Frame) (fs : List Frame) → is_base_body f.body ≡ true → head_of fs ≡ Some f → end_on_thread f.name fs ≡ at_head left fs
+pub end_base_head : (f : Frame) (fs : List Frame) → is_base_body f.body ≡ true → head_of fs ≡ Some f → end_on_thread f.name fs ≡ at_head ended_base fs
 end_base_head f [] b h = refl
 end_base_head f (y ∷ ys) b h =
     let e : y ≡ f = cc in rw (e, same_name f.name, b)
@@ -49,15 +49,18 @@ end_older n (y ∷ ys) h = rw (other_name y.name n h)
 
 -- ---- the parts of the threads
 
-pub on_running_is : (g : List Frame → List Frame) (r : Option ThreadNo) (x : Frames) → on_running g r x ≡ record { own = x.own; running = x.running; threads = changed g r x.threads }
+pub on_running_is : (g : List Frame → List Frame) (r : Option ThreadNo) (x : Frames) →
+    on_running g r x ≡ record { own = x.own; running = x.running; threads = changed g r x.threads }
 on_running_is g None x = refl
 on_running_is g (Some t) x = refl
 
-pub changed_by : (t g : List Frame → List Frame) (r : Option ThreadNo) (parts : List (List Frame)) → t (option_map_or (frames_in parts) r []) ≡ g (option_map_or (frames_in parts) r []) → changed t r parts ≡ changed g r parts
+pub changed_by : (t g : List Frame → List Frame) (r : Option ThreadNo) (parts : List (List Frame)) →
+    t (option_map_or (frames_in parts) r []) ≡ g (option_map_or (frames_in parts) r []) → changed t r parts ≡ changed g r parts
 changed_by t g None parts e = refl
 changed_by t g (Some u) parts e = ap (λ (fs : List Frame). set parts u.0 fs) e
 
-pub changed_stays : (t : List Frame → List Frame) (r : Option ThreadNo) (parts : List (List Frame)) → t (option_map_or (frames_in parts) r []) ≡ option_map_or (frames_in parts) r [] → changed t r parts ≡ parts
+pub changed_stays : (t : List Frame → List Frame) (r : Option ThreadNo) (parts : List (List Frame)) →
+    t (option_map_or (frames_in parts) r []) ≡ option_map_or (frames_in parts) r [] → changed t r parts ≡ parts
 changed_stays t None parts e = refl
 changed_stays t (Some u) parts e = ap (λ (fs : List Frame). set parts u.0 fs) e ∙ set-get_or parts u.0 []
 
@@ -75,21 +78,29 @@ older y ys x h e = go x.running refl
 -- ---- the whole
 
 -- a change of the running thread's innermost frame, where the own part has none
-pub thread_change : (r : Option ThreadNo) (t g : List Frame → List Frame) (x : Frames) → x.own ≡ [] → t (thread_part x) ≡ g (thread_part x) → record { own = x.own; running = r; threads = changed t x.running x.threads } ≡ record (on_innermost_part g x) { running = r }
+pub thread_change : (r : Option ThreadNo) (t g : List Frame → List Frame) (x : Frames) → x.own ≡ [] → t (thread_part x) ≡ g (thread_part x) →
+    record { own = x.own; running = r; threads = changed t x.running x.threads } ≡ record (on_innermost_part g x) { running = r }
 thread_change r t g x o e =
     let n : is_null x.own ≡ true = rw o refl in
-    rw (n, on_running_is g x.running x) (ap (λ (ts : List (List Frame)). record { own = x.own; running = r; threads = ts }) (changed_by t g x.running x.threads e))
+    rw (n, on_running_is g x.running x) (ap (λ (ts : List (List Frame)). record { own = x.own; running = r; threads = ts })
+    (changed_by t g x.running x.threads e))
 
 -- a change by the innermost frame's name of both parts, of which only one has this frame
-pub named_change : (r : Option ThreadNo) (f : Frame) (o t g : List Frame → List Frame) (x : Frames) → AreNested x → innermost x ≡ Some f → o [] ≡ [] → ((fs : List Frame) → head_of fs ≡ Some f → o fs ≡ g fs) → ((fs : List Frame) → head_of fs ≡ Some f → t fs ≡ g fs) → ((fs : List Frame) → next_name fs ≤ f.name → t fs ≡ fs) → record { own = o x.own; running = r; threads = changed t x.running x.threads } ≡ record (on_innermost_part g x) { running = r }
+pub named_change : (r : Option ThreadNo) (f : Frame) (o t g : List Frame → List Frame) (x : Frames) → AreNested x → innermost x ≡ Some f → o [] ≡ [] →
+    ((fs : List Frame) → head_of fs ≡ Some f → o fs ≡ g fs) → ((fs : List Frame) → head_of fs ≡ Some f → t fs ≡ g fs) →
+    ((fs : List Frame) → next_name fs ≤ f.name → t fs ≡ fs) → record { own = o x.own; running = r; threads = changed t x.running x.threads } ≡ record
+    (on_innermost_part g x) { running = r }
 named_change r f o t g x h k z own thread other = go x.own refl k
   where
-    go : (os : List Frame) → x.own ≡ os → option_or (head_of os) (head_of (thread_part x)) ≡ Some f → record { own = o x.own; running = r; threads = changed t x.running x.threads } ≡ record (on_innermost_part g x) { running = r }
+    go : (os : List Frame) → x.own ≡ os → option_or (head_of os) (head_of (thread_part x)) ≡ Some f →
+        record { own = o x.own; running = r; threads = changed t x.running x.threads } ≡ record (on_innermost_part g x) { running = r }
     go [] e q =
         let p : o x.own ≡ x.own = rw e z in
-        ap (λ (os : List Frame). record { own = os; running = r; threads = changed t x.running x.threads }) p ∙ thread_change r t g x e (thread (thread_part x) q)
+        ap (λ (os : List Frame). record { own = os; running = r; threads = changed t x.running x.threads }) p
+        ∙ thread_change r t g x e (thread (thread_part x) q)
     go (y ∷ ys) e q =
         let p : head_of x.own ≡ Some f = rw e q in
         let n : is_null x.own ≡ false = rw e refl in
         let a : next_name (thread_part x) ≤ f.name = let b : y ≡ f = cc in rw (← b) (older y ys x h e) in
-        rw (n, own x.own p) (ap (λ (ts : List (List Frame)). record { own = g x.own; running = r; threads = ts }) (changed_stays t x.running x.threads (other (thread_part x) a)))
+        rw (n, own x.own p) (ap (λ (ts : List (List Frame)). record { own = g x.own; running = r; threads = ts })
+        (changed_stays t x.running x.threads (other (thread_part x) a)))

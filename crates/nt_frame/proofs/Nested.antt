@@ -16,7 +16,8 @@ empty_part = record { part = tt; crit = lit< tt; guard = lit< tt }
 pub nested_start : (n : ℕ) → AreNested (no_frames n)
 nested_start n = record {
   own = tt;
-  threads = All-from_get_or IsThreadPart _ [] (λ i h. let k : i < n = omega (arith, length-table_from {A = List Frame} 0 n (λ _. [])) in rw (get_or-table {A = List Frame} n i (λ _. []) [] k) empty_part);
+  threads = All-from_get_or IsThreadPart _ [] (λ i h. let k : i < n = omega (arith, length-table_from {A = List Frame} 0 n (λ _. [])) in rw
+      (get_or-table {A = List Frame} n i (λ _. []) [] k) empty_part);
   running = tt;
   newer = tt;
 }
@@ -29,7 +30,8 @@ thread_part_nested x h = go x.running refl
     go None e = empty_part
     go (Some t) e = h.threads t.0 [] (rw e at h.running)
 
-pub on_running_nested : (g : List Frame → List Frame) (x : Frames) → AreNested x → x.own ≡ [] → IsThreadPart (g (thread_part x)) → AreNested (on_running g x.running x)
+pub on_running_nested : (g : List Frame → List Frame) (x : Frames) → AreNested x → x.own ≡ [] → IsThreadPart (g (thread_part x)) →
+    AreNested (on_running g x.running x)
 on_running_nested g x h o p = go x.running refl p
   where
     go : (r : Option ThreadNo) → x.running ≡ r → IsThreadPart (g (option_map_or (frames_in x.threads) r [])) → AreNested (on_running g r x)
@@ -41,5 +43,6 @@ on_running_nested g x h o p = go x.running refl p
       newer = rw o tt;
     }
 
-pub on_own_nested : (g : List Frame → List Frame) (x : Frames) → AreNested x → IsPart true (g x.own) → AreNewer (g x.own) x.threads → AreNested (on_part true g x)
+pub on_own_nested : (g : List Frame → List Frame) (x : Frames) → AreNested x → IsPart true (g x.own) → AreNewer (g x.own) x.threads →
+    AreNested (on_part true g x)
 on_own_nested g x h p n = record { own = p; threads = h.threads; running = h.running; newer = n }

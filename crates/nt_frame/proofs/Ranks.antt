@@ -1,15 +1,18 @@
 -- Ranks: which routine may begin over which, and how many frames there are.
-use Rattle.std.proofs.Common.{◌≡◌, ℕ, ◌-◌, ◌<◌, ◌≤◌, Bool, true, false, if◌then◌else◌, nat_lt, List, [], ◌∷◌, length, refl, arith, lit<, lit≤}
+use Rattle.std.proofs.Common.{◌≡◌, ◌≢◌, ℕ, ◌-◌, ◌<◌, ◌≤◌, Bool, true, false, if◌then◌else◌, nat_lt, List, [], ◌∷◌, length, refl, arith, lit<, lit≤}
 use Rattle.std.proofs.lemmas.Bool.Decides.{nat_tests}
 use Rattle.nt_event.specs.declared.commands.ApcKind.TheVariants.{Normal, Special, User}
 use Rattle.nt_event.specs.declared.frames.Body.{Body}
 use Rattle.nt_event.specs.declared.frames.Body.TheVariants.{Apc, Base, Dpc, Int, Rundown, Threaded}
 use Rattle.nt_event.specs.declared.frames.Frame.{Frame}
 use Rattle.nt_event.specs.Frames.{base_level, is_normal_apc_body}
-use Rattle.nt_event.specs.Script.{is_isr_level}
+use Rattle.nt_event.specs.Classes.{is_isr_level}
 use Rattle.nt_frame.specs.Changes.{is_own}
 use Rattle.nt_frame.specs.Nesting.{IsOver, IsPart, has_isr_level, is_special_body, rank}
-use Rattle.nt_frame.proofs.Booleans.{isr_level_is}
+
+-- the levels of interrupts are 3 to 11, 13 and 14
+isr_level_is : (l : ℕ) → is_isr_level l ≡ true → (3 ≤ l) × (l ≤ 14) × (l ≢ 12)
+isr_level_is l h = (grind (arith, nat_tests), grind (arith, nat_tests), λ e. absurd (cc))
 
 int_rank_bounds : (l : ℕ) → (3 ≤ l) × (l ≤ 14) × (l ≡ 12 → ⊥) → (3 ≤ (if nat_lt l 12 then l else (l - 1))) × ((if nat_lt l 12 then l else (l - 1)) ≤ 13)
 int_rank_bounds l h = (grind (arith, nat_tests), grind (arith, nat_tests))

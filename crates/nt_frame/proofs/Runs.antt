@@ -13,12 +13,14 @@ pub record Going (calls : List FrameCall) (start : Frames) (i : ℕ) (answers : 
   pub answers_are : answers ++ answers_to (drop i calls) x ≡ answers_to calls start
 
 -- the next call's condition holds
-pub may_next : (calls : List FrameCall) (start : Frames) (i : ℕ) (answers : List FrameAnswer) (x : Frames) (c : FrameCall) → Going calls start i answers x → i < length calls → get_or calls i c ≡ c → MayCall c x
+pub may_next : (calls : List FrameCall) (start : Frames) (i : ℕ) (answers : List FrameAnswer) (x : Frames) (c : FrameCall) → Going calls start i answers x →
+    i < length calls → get_or calls i c ≡ c → MayCall c x
 unfolding MayCallAll
 may_next calls start i answers x c h b e =
     (rw (drop-cons calls i c b, e) at h.may).0
 
-pub going_next : (calls : List FrameCall) (start : Frames) (i : ℕ) (answers : List FrameAnswer) (x : Frames) (c : FrameCall) → Going calls start i answers x → i < length calls → get_or calls i c ≡ c → Going calls start (i + 1) (answers ++ answer_to c x ∷ []) (left_by c x)
+pub going_next : (calls : List FrameCall) (start : Frames) (i : ℕ) (answers : List FrameAnswer) (x : Frames) (c : FrameCall) → Going calls start i answers x →
+    i < length calls → get_or calls i c ≡ c → Going calls start (i + 1) (answers ++ answer_to c x ∷ []) (left_by c x)
 unfolding MayCallAll
 going_next calls start i answers x c h b e =
     let d : drop i calls ≡ c ∷ drop (i + 1) calls = drop-cons calls i c b ∙ ap (λ (y : FrameCall). y ∷ drop (suc i) calls) e ∙ rw add-one in

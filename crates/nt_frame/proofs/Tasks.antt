@@ -13,19 +13,20 @@ use Rattle.nt_event.specs.declared.numbers.ThreadNo.{ThreadNo}
 use Rattle.nt_event.specs.Apcs.{lets_through}
 use Rattle.nt_event.specs.Commands.{refusal}
 use Rattle.nt_event.specs.Frames.{Frames, frames_in, innermost, is_base_body, is_on_thread, level_in}
-use Rattle.nt_event.specs.Jobs.{has_normal, interrupt_classes, level_at, may_apcs, may_drain, may_interrupt, may_threaded}
+use Rattle.nt_event.specs.Jobs.{has_normal, level_at, may_apcs, may_drain, may_interrupt, may_threaded}
+use Rattle.nt_event.specs.Classes.{interrupt_classes, is_isr_level}
 use Rattle.nt_event.specs.Own.{Own}
 use Rattle.nt_event.specs.Routines.{is_kernel_kind}
-use Rattle.nt_event.specs.Script.{is_isr_level}
 use Rattle.nt_event.specs.Lists.{is_null}
 use Rattle.nt_frame.specs.Rules.{is_at_base, is_leaving, may_begin, may_go_on, refusal_in, regions_in}
 use Rattle.nt_frame.proofs.After.{taken}
 use Rattle.nt_frame.proofs.Named.{same_name}
-use Rattle.nt_frame.proofs.Booleans.{and_both, and_left, and_right}
+use Rattle.nt_event.proofs.Booleans.{and_both, and_left, and_right}
 
 -- ---- what is known of the innermost frame
 
-pub refusal_here : (c : Command) (f : Frame) (x : Frames) → innermost x ≡ Some f → refusal_in c x ≡ refusal (level_in x) (not (is_null x.own)) (regions_in x) f c
+pub refusal_here : (c : Command) (f : Frame) (x : Frames) → innermost x ≡ Some f →
+    refusal_in c x ≡ refusal (level_in x) (not (is_null x.own)) (regions_in x) f c
 refusal_here c f x k = rw k
 
 pub leaving_here : (f : Frame) (x : Frames) → innermost x ≡ Some f → is_leaving x ≡ f.leaving
@@ -44,7 +45,8 @@ found test good [] c g h = absurd (cc)
 found test good (y ∷ ys) c g h =
     go (test y) refl h (λ k. found test good ys c (and_right (good y) _ g) k)
   where
-    go : (b : Bool) → test y ≡ b → (if b then Some y else find test ys) ≡ Some c → (find test ys ≡ Some c → (test c ≡ true) × (good c ≡ true)) → (test c ≡ true) × (good c ≡ true)
+    go : (b : Bool) → test y ≡ b → (if b then Some y else find test ys) ≡ Some c → (find test ys ≡ Some c → (test c ≡ true) × (good c ≡ true)) →
+        (test c ≡ true) × (good c ≡ true)
     go true e k later = let s : y ≡ c = cc in (rw (← s) e, rw (← s) (and_left _ _ g))
     go false e k later = later k
 
@@ -65,7 +67,8 @@ pub threaded_may_begin : (x : Own) (d : DpcNo) → may_threaded x ≡ true → m
 threaded_may_begin x d h =
     rw (and_left (level_at x == 0) _ h, and_left (is_null x.frames.own) _ (and_right (level_at x == 0) _ h))
 
-pub apc_may_begin : (x : Own) (a : ApcNo) (kind : ApcKind) → may_apcs x ≡ true → is_kernel_kind kind ≡ true → lets_through (regions_in x.frames) kind ≡ true → may_begin (Apc a kind) x.frames ≡ true
+pub apc_may_begin : (x : Own) (a : ApcNo) (kind : ApcKind) → may_apcs x ≡ true → is_kernel_kind kind ≡ true → lets_through (regions_in x.frames) kind ≡ true →
+    may_begin (Apc a kind) x.frames ≡ true
 apc_may_begin x a User h k l = cc
 apc_may_begin x a Special h k l =
     rw (and_left (is_on_thread x.frames) _ (and_right (level_at x == 0) _ h), and_left (level_at x == 0) _ h) l

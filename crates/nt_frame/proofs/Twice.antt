@@ -26,10 +26,12 @@ null_head : (g : Frame → Frame) (fs : List Frame) → is_null (at_head g fs) �
 null_head g [] = refl
 null_head g (f ∷ fs) = refl
 
-changed_twice : (g h : Frame → Frame) (r : Option ThreadNo) (parts : List (List Frame)) → IfSome r (λ t. t.0 < length parts) → changed (at_head g) r (changed (at_head h) r parts) ≡ changed (at_head (λ f. g (h f))) r parts
+changed_twice : (g h : Frame → Frame) (r : Option ThreadNo) (parts : List (List Frame)) → IfSome r (λ t. t.0 < length parts) →
+    changed (at_head g) r (changed (at_head h) r parts) ≡ changed (at_head (λ f. g (h f))) r parts
 changed_twice g h None parts b = refl
 changed_twice g h (Some t) parts b =
-    rw (get_or-set_same parts t.0 (at_head h (get_or parts t.0 [])) [] b, head_twice g h (get_or parts t.0 [])) (set-set parts t.0 (at_head h (get_or parts t.0 [])) (at_head (λ f. g (h f)) (get_or parts t.0 [])))
+    rw (get_or-set_same parts t.0 (at_head h (get_or parts t.0 [])) [] b, head_twice g h (get_or parts t.0 []))
+    (set-set parts t.0 (at_head h (get_or parts t.0 [])) (at_head (λ f. g (h f)) (get_or parts t.0 [])))
 
 -- one change after another is the second of what the first makes
 pub at_innermost-at_innermost : (g h : Frame → Frame) (x : Frames) → AreNested x → at_innermost g (at_innermost h x) ≡ at_innermost (λ f. g (h f)) x
@@ -38,7 +40,14 @@ at_innermost-at_innermost g h x n = go x.own refl
     go : (os : List Frame) → x.own ≡ os → at_innermost g (at_innermost h x) ≡ at_innermost (λ f. g (h f)) x
     go [] e =
         let o : is_null x.own ≡ true = rw e refl in
-        rw (o, on_running_is (at_head h) x.running x, o, on_running_is (at_head (λ f. g (h f))) x.running x, on_running_is (at_head g) x.running (record { own = x.own; running = x.running; threads = changed (at_head h) x.running x.threads })) (ap (λ (ts : List (List Frame)). record { own = x.own; running = x.running; threads = ts }) (changed_twice g h x.running x.threads n.running))
+        rw (
+          o,
+          on_running_is (at_head h) x.running x,
+          o,
+          on_running_is (at_head (λ f. g (h f))) x.running x,
+          on_running_is (at_head g) x.running (record { own = x.own; running = x.running; threads = changed (at_head h) x.running x.threads }),
+        )
+        (ap (λ (ts : List (List Frame)). record { own = x.own; running = x.running; threads = ts }) (changed_twice g h x.running x.threads n.running))
     go (y ∷ ys) e =
         let o : is_null x.own ≡ false = rw e refl in
         rw (o, null_head h x.own, o) (ap (λ (os : List Frame). record { own = os; running = x.running; threads = x.threads }) (head_twice g h x.own))

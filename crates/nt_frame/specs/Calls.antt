@@ -4,17 +4,20 @@ use Rattle.std.specs.Prelude.{IsSome, IsTrue, List, None, Option, Some, [], fals
 use Rattle.nt_event.specs.declared.commands.Command.{Command}
 use Rattle.nt_event.specs.declared.commands.Command.TheVariants.{Lower as LowerCommand, Raise as RaiseCommand}
 use Rattle.nt_event.specs.declared.commands.Refusal.{Refusal}
-use Rattle.nt_event.specs.Frames.{Frames, done_to, innermost, left, normal_of}
+use Rattle.nt_event.specs.Frames.{Frames, done_to, innermost, ended_base, normal_of}
 use Rattle.nt_event.specs.Regions.{below_in, some_came_to_0}
 use Rattle.nt_frame.specs.declared.calls.FrameAnswer.{FrameAnswer}
 use Rattle.nt_frame.specs.declared.calls.FrameAnswer.TheVariants.{Asks, Done, Refused}
 use Rattle.nt_frame.specs.declared.calls.FrameCall.{FrameCall}
-use Rattle.nt_frame.specs.declared.calls.FrameCall.TheVariants.{AdvancePlace, Begin, EndBase, Enter, Finish, Gone, Leave, Lower, Normal, Raise, SetAgain, SwitchAway, SwitchTo}
+use Rattle.nt_frame.specs.declared.calls.FrameCall.TheVariants.{AdvancePlace, Begin, EndBase, Enter, Finish, Gone}
+use Rattle.nt_frame.specs.declared.calls.FrameCall.TheVariants.{Leave, Lower, Normal, Raise, SetAgain, SwitchAway}
+use Rattle.nt_frame.specs.declared.calls.FrameCall.TheVariants.{SwitchTo}
 use Rattle.nt_frame.specs.Changes.{at_innermost, begun, closed, without_innermost}
 use Rattle.nt_frame.specs.Nesting.{AreNamedBelow}
-use Rattle.nt_frame.specs.Rules.{count_of, end_asks_apc, enter_of, is_at_base, is_leaving, leave_of, may_begin, may_go_on, refusal_in, regions_in}
+use Rattle.nt_frame.specs.Rules.{count_of, end_asks_apc, enter_of, is_at_base, is_leaving, leave_of, may_begin}
+use Rattle.nt_frame.specs.Rules.{may_go_on, refusal_in, regions_in}
 
--- the condition of a call
+-- the condition of a call, as its method requires it
 abbrev pub MayCall : FrameCall → Frames → Type 0
 MayCall (Begin b n) x = IsTrue (may_begin b x) × AreNamedBelow n x
 MayCall Normal x = IsTrue (may_go_on x)
@@ -49,7 +52,7 @@ left_by (Enter r) x = commanded (enter_of r) x
 left_by (Leave r) x = commanded (leave_of r) x
 left_by (SwitchTo t) x = record x { running = Some t }
 left_by SwitchAway x = record x { running = None }
-left_by EndBase x = at_innermost left x
+left_by EndBase x = at_innermost ended_base x
 left_by Gone x = closed x
 left_by (SetAgain a) x = at_innermost (λ f. record f { again = a }) x
 left_by AdvancePlace x = at_innermost (λ f. record f { place = f.place + 1 }) x
@@ -66,7 +69,13 @@ answer_to (Raise l) x = or_refused (refusal_in (RaiseCommand l) x) Done
 answer_to (Lower l) x = or_refused (refusal_in (LowerCommand l) x) Done
 answer_to (Enter r) x = or_refused (refusal_in (enter_of r) x) Done
 answer_to (Leave r) x = or_refused (refusal_in (leave_of r) x) (Asks (count_of r (regions_in x) == 1))
-answer_to _ x = Done
+answer_to (Begin b n) x = Done
+answer_to (SwitchTo t) x = Done
+answer_to SwitchAway x = Done
+answer_to EndBase x = Done
+answer_to Gone x = Done
+answer_to (SetAgain a) x = Done
+answer_to AdvancePlace x = Done
 
 -- ---- lists of calls, in their order
 

@@ -1,7 +1,7 @@
 -- What a call changes of a processor's frames.
 use Rattle.std.specs.Prelude.{Bool, List, None, Option, Some, [], false, not, set, true, ℕ, ◌∷◌}
 use Rattle.nt_event.specs.declared.frames.Body.{Body}
-use Rattle.nt_event.specs.declared.frames.Body.TheVariants.{Dpc, Int, Threaded}
+use Rattle.nt_event.specs.declared.frames.Body.TheVariants.{Apc, Base, Dpc, Int, Rundown, Threaded}
 use Rattle.nt_event.specs.declared.frames.Frame.{Frame}
 use Rattle.nt_event.specs.declared.numbers.ThreadNo.{ThreadNo}
 use Rattle.nt_event.specs.Frames.{Frames, at_head, frames_in, new_frame}
@@ -12,7 +12,9 @@ abbrev pub is_own : Body → Bool
 is_own (Int level) = true
 is_own (Dpc d) = true
 is_own (Threaded d) = true
-is_own _ = false
+is_own (Base t) = false
+is_own (Apc a kind) = false
+is_own (Rundown a) = false
 
 -- a processor on which nothing has begun, with this many threads
 abbrev pub no_frames : ℕ → Frames

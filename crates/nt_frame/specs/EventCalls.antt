@@ -1,15 +1,29 @@
 -- The calls that a processor makes for an event of its own.
 use Rattle.std.specs.Option.{option_map_or}
-use Rattle.std.specs.Prelude.{List, None, Option, Some, [], false, if◌then◌else◌, length, true, ℕ, ◌++◌, ◌<◌, ◌==◌, ◌∷◌, ◌≡◌}
+use Rattle.std.specs.Prelude.{List, None, Option, Some, [], false, if◌then◌else◌, length, true, ℕ, ◌++◌, ◌<◌, ◌==◌, ◌∷◌}
+use Rattle.std.specs.Prelude.{◌≡◌}
 use Rattle.nt_event.specs.declared.commands.Command.{Command}
-use Rattle.nt_event.specs.declared.commands.Command.TheVariants.{Delay, EnterCrit, EnterGuard, LeaveCrit, LeaveGuard, Lower as LowerCommand, Raise as RaiseCommand, StartWait, Yield}
+use Rattle.nt_event.specs.declared.commands.Command.TheVariants.{Alert, CancelTimer, Clock, Delay, EnterCrit}
+use Rattle.nt_event.specs.declared.commands.Command.TheVariants.{EnterGuard}
+use Rattle.nt_event.specs.declared.commands.Command.TheVariants.{InsertApc, Interrupt, LeaveCrit, LeaveGuard}
+use Rattle.nt_event.specs.declared.commands.Command.TheVariants.{Lower as LowerCommand, Note, Queue}
+use Rattle.nt_event.specs.declared.commands.Command.TheVariants.{Raise as RaiseCommand}
+use Rattle.nt_event.specs.declared.commands.Command.TheVariants.{Release, RemoveApc, SetImportance, SetTarget, SetTimer}
+use Rattle.nt_event.specs.declared.commands.Command.TheVariants.{StartWait}
+use Rattle.nt_event.specs.declared.commands.Command.TheVariants.{TestAlert, ToUser, Unqueue, Yield}
 use Rattle.nt_event.specs.declared.commands.Reply.{Reply}
-use Rattle.nt_event.specs.declared.commands.Reply.TheVariants.{Blocked, Done, Status}
+use Rattle.nt_event.specs.declared.commands.Reply.TheVariants.{Blocked, Done, No, Refused, Status, Yes}
 use Rattle.nt_event.specs.declared.events.Begun.{Begun}
-use Rattle.nt_event.specs.declared.events.Begun.TheVariants.{Apc as BeginApc, Dpc as BeginDpc, Int as BeginInt, Threaded as BeginThreaded}
+use Rattle.nt_event.specs.declared.events.Begun.TheVariants.{Apc as BeginApc, Dpc as BeginDpc, Int as BeginInt}
+use Rattle.nt_event.specs.declared.events.Begun.TheVariants.{Threaded as BeginThreaded}
 use Rattle.nt_event.specs.declared.events.Event.{Event}
 use Rattle.nt_event.specs.declared.events.What.{What}
-use Rattle.nt_event.specs.declared.events.What.TheVariants.{Begin as BeginEvent, Call as CallEvent, End as EndEvent, Flush as FlushEvent, Gone as GoneEvent, Look as LookEvent, Normal as NormalEvent, Rewait as RewaitEvent, Switch as SwitchEvent}
+use Rattle.nt_event.specs.declared.events.What.TheVariants.{Begin as BeginEvent, Call as CallEvent, Clean as CleanEvent}
+use Rattle.nt_event.specs.declared.events.What.TheVariants.{End as EndEvent}
+use Rattle.nt_event.specs.declared.events.What.TheVariants.{Expire as ExpireEvent, Fire as FireEvent}
+use Rattle.nt_event.specs.declared.events.What.TheVariants.{Flush as FlushEvent, Gone as GoneEvent}
+use Rattle.nt_event.specs.declared.events.What.TheVariants.{Look as LookEvent, Normal as NormalEvent, Rest as RestEvent}
+use Rattle.nt_event.specs.declared.events.What.TheVariants.{Rewait as RewaitEvent, Switch as SwitchEvent}
 use Rattle.nt_event.specs.declared.frames.Again.{Again}
 use Rattle.nt_event.specs.declared.frames.Body.{Body}
 use Rattle.nt_event.specs.declared.frames.Body.TheVariants.{Apc, Base, Dpc, Int, Rundown, Threaded}
@@ -21,9 +35,11 @@ use Rattle.nt_event.specs.declared.scripts.Script.{Script}
 use Rattle.nt_event.specs.Frames.{Frames, again_after, due_of, frames_after, frames_in, frames_of, innermost, time}
 use Rattle.nt_event.specs.Routines.{kind_of, rundown_of}
 use Rattle.nt_event.specs.Numbers.{is_of}
-use Rattle.nt_event.specs.Replies.{kernel_apc}
+use Rattle.nt_event.specs.Replies.{is_done, kernel_apc}
 use Rattle.nt_frame.specs.declared.calls.FrameCall.{FrameCall}
-use Rattle.nt_frame.specs.declared.calls.FrameCall.TheVariants.{AdvancePlace, Begin, EndBase, Enter, Finish, Gone, Leave, Lower, Normal, Raise, SetAgain, SwitchAway, SwitchTo}
+use Rattle.nt_frame.specs.declared.calls.FrameCall.TheVariants.{AdvancePlace, Begin, EndBase, Enter, Finish, Gone}
+use Rattle.nt_frame.specs.declared.calls.FrameCall.TheVariants.{Leave, Lower, Normal, Raise, SetAgain, SwitchAway}
+use Rattle.nt_frame.specs.declared.calls.FrameCall.TheVariants.{SwitchTo}
 use Rattle.nt_frame.specs.Calls.{left_by_all}
 use Rattle.nt_frame.specs.Changes.{no_frames}
 use Rattle.nt_frame.specs.Nesting.{AreNested}
@@ -44,25 +60,49 @@ status_calls (Some status) = if status == kernel_apc then [] else (SetAgain None
 abbrev pub wait_calls : Again → Reply → List FrameCall
 wait_calls w Blocked = SetAgain (Some w) ∷ AdvancePlace ∷ SwitchAway ∷ []
 wait_calls w (Status status) = SetAgain (again_after (Status status) (Some w) None) ∷ AdvancePlace ∷ []
-wait_calls w _ = AdvancePlace ∷ []
+wait_calls w Done = AdvancePlace ∷ []
+wait_calls w Yes = AdvancePlace ∷ []
+wait_calls w No = AdvancePlace ∷ []
+wait_calls w (Refused why) = AdvancePlace ∷ []
+
+-- the calls of a command that is done; of one that isn't, the place alone
+abbrev pub where_done : Reply → List FrameCall → List FrameCall
+where_done y calls = if is_done y then calls else (AdvancePlace ∷ [])
 
 -- a called command with this reply, whose due time this is; a refused one changes the place alone
 abbrev pub command_calls : Option ℕ → Command → Reply → List FrameCall
-command_calls due (RaiseCommand level) Done = Raise level ∷ AdvancePlace ∷ []
-command_calls due (LowerCommand level) Done = Lower level ∷ AdvancePlace ∷ []
-command_calls due EnterCrit Done = Enter Crit ∷ AdvancePlace ∷ []
-command_calls due EnterGuard Done = Enter Guard ∷ AdvancePlace ∷ []
-command_calls due LeaveCrit Done = Leave Crit ∷ AdvancePlace ∷ []
-command_calls due LeaveGuard Done = Leave Guard ∷ AdvancePlace ∷ []
-command_calls due Yield Done = AdvancePlace ∷ SwitchAway ∷ []
+command_calls due (RaiseCommand level) y = where_done y (Raise level ∷ AdvancePlace ∷ [])
+command_calls due (LowerCommand level) y = where_done y (Lower level ∷ AdvancePlace ∷ [])
+command_calls due EnterCrit y = where_done y (Enter Crit ∷ AdvancePlace ∷ [])
+command_calls due EnterGuard y = where_done y (Enter Guard ∷ AdvancePlace ∷ [])
+command_calls due LeaveCrit y = where_done y (Leave Crit ∷ AdvancePlace ∷ [])
+command_calls due LeaveGuard y = where_done y (Leave Guard ∷ AdvancePlace ∷ [])
+command_calls due Yield y = where_done y (AdvancePlace ∷ SwitchAway ∷ [])
 command_calls due (StartWait m a) y = wait_calls (record { mode = m; alertable = a; due = None }) y
 command_calls due (Delay m a units) y = wait_calls (record { mode = m; alertable = a; due = due }) y
-command_calls due c y = AdvancePlace ∷ []
+command_calls due (Queue d) y = AdvancePlace ∷ []
+command_calls due (Unqueue d) y = AdvancePlace ∷ []
+command_calls due (SetImportance d i) y = AdvancePlace ∷ []
+command_calls due (SetTarget d t) y = AdvancePlace ∷ []
+command_calls due (SetTimer t units period) y = AdvancePlace ∷ []
+command_calls due (CancelTimer t) y = AdvancePlace ∷ []
+command_calls due (InsertApc a) y = AdvancePlace ∷ []
+command_calls due (RemoveApc a) y = AdvancePlace ∷ []
+command_calls due (Release t) y = AdvancePlace ∷ []
+command_calls due (Alert t m) y = AdvancePlace ∷ []
+command_calls due (TestAlert m) y = AdvancePlace ∷ []
+command_calls due (Interrupt p level) y = AdvancePlace ∷ []
+command_calls due (Clock units) y = AdvancePlace ∷ []
+command_calls due ToUser y = AdvancePlace ∷ []
+command_calls due (Note k) y = AdvancePlace ∷ []
 
 abbrev pub rewait_calls : Reply → List FrameCall
 rewait_calls Blocked = SwitchAway ∷ []
 rewait_calls (Status status) = status_calls (Some status)
-rewait_calls y = []
+rewait_calls Done = []
+rewait_calls Yes = []
+rewait_calls No = []
+rewait_calls (Refused why) = []
 
 -- the first Switch to a thread begins its base frame
 abbrev pub switch_calls : ℕ → ThreadNo → Option ℕ → List Frame → List FrameCall
@@ -79,7 +119,11 @@ calls_of s n due (SwitchEvent t status) x = switch_calls n t status (frames_in x
 calls_of s n due (RewaitEvent f y) x = rewait_calls y
 calls_of s n due (FlushEvent a from) x = option_map_or (λ r. Begin (Rundown a) n ∷ []) (rundown_of s a) []
 calls_of s n due (GoneEvent t) x = Gone ∷ []
-calls_of s n due w x = []
+calls_of s n due (LookEvent r) x = []
+calls_of s n due (ExpireEvent k from) x = []
+calls_of s n due (FireEvent d y) x = []
+calls_of s n due (CleanEvent c) x = []
+calls_of s n due RestEvent x = []
 
 -- ---- the events that a processor makes where its frames are these
 
@@ -87,38 +131,87 @@ calls_of s n due w x = []
 abbrev pub IsInnermost : ℕ → Frames → Type 0
 IsInnermost name x = option_map_or (λ f. f.name == name) (innermost x) false ≡ true
 
--- a command that is done isn't refused, and only waits block
+-- a command that is done isn't refused, and this one doesn't block
+abbrev pub IsNoWait : Command → Reply → Frames → Type 0
+IsNoWait c Blocked x = ⊥
+IsNoWait c Done x = refusal_in c x ≡ None
+IsNoWait c Yes x = Unit {0}
+IsNoWait c No x = Unit {0}
+IsNoWait c (Status status) x = Unit {0}
+IsNoWait c (Refused why) x = Unit {0}
+
+-- only waits and delays block
 abbrev pub Replies : Command → Reply → Frames → Type 0
 Replies (StartWait m a) y x = Unit {0}
 Replies (Delay m a units) y x = Unit {0}
-Replies c Blocked x = ⊥
-Replies c Done x = refusal_in c x ≡ None
-Replies c y x = Unit {0}
+Replies (RaiseCommand level) y x = IsNoWait (RaiseCommand level) y x
+Replies (LowerCommand level) y x = IsNoWait (LowerCommand level) y x
+Replies (Queue d) y x = IsNoWait (Queue d) y x
+Replies (Unqueue d) y x = IsNoWait (Unqueue d) y x
+Replies (SetImportance d i) y x = IsNoWait (SetImportance d i) y x
+Replies (SetTarget d t) y x = IsNoWait (SetTarget d t) y x
+Replies (SetTimer t due period) y x = IsNoWait (SetTimer t due period) y x
+Replies (CancelTimer t) y x = IsNoWait (CancelTimer t) y x
+Replies (InsertApc a) y x = IsNoWait (InsertApc a) y x
+Replies (RemoveApc a) y x = IsNoWait (RemoveApc a) y x
+Replies EnterCrit y x = IsNoWait EnterCrit y x
+Replies EnterGuard y x = IsNoWait EnterGuard y x
+Replies LeaveCrit y x = IsNoWait LeaveCrit y x
+Replies LeaveGuard y x = IsNoWait LeaveGuard y x
+Replies (Release t) y x = IsNoWait (Release t) y x
+Replies (Alert t m) y x = IsNoWait (Alert t m) y x
+Replies (TestAlert m) y x = IsNoWait (TestAlert m) y x
+Replies (Interrupt p level) y x = IsNoWait (Interrupt p level) y x
+Replies (Clock units) y x = IsNoWait (Clock units) y x
+Replies ToUser y x = IsNoWait ToUser y x
+Replies Yield y x = IsNoWait Yield y x
+Replies (Note k) y x = IsNoWait (Note k) y x
 
 abbrev pub thread_of : What → Option ThreadNo → Option ThreadNo
 thread_of (SwitchEvent t status) r = Some t
-thread_of (LookEvent r) k = None
-thread_of w r = r
+thread_of (LookEvent k) r = None
+thread_of (CallEvent f c y) r = r
+thread_of (BeginEvent b from) r = r
+thread_of (NormalEvent f) r = r
+thread_of (EndEvent f) r = r
+thread_of (ExpireEvent k from) r = r
+thread_of (FireEvent d y) r = r
+thread_of (CleanEvent c) r = r
+thread_of (RewaitEvent f y) r = r
+thread_of (FlushEvent a from) r = r
+thread_of (GoneEvent t) r = r
+thread_of RestEvent r = r
 
-abbrev pub Fits : What → Frames → Type 0
-Fits (CallEvent f c y) x = IsInnermost f x × Replies c y x
-Fits (RewaitEvent f y) x = IsInnermost f x × (x.own ≡ [])
-Fits (NormalEvent f) x = IsInnermost f x × (may_go_on x ≡ true)
-Fits (EndEvent f) x = IsInnermost f x
-Fits (SwitchEvent t status) x = (t.0 < length x.threads) × (x.own ≡ [])
-Fits w x = Unit {0}
+-- what the event says of the frames is so: the routine that it names is the innermost one, its reply may come there, an
+-- APC has a normal routine left, a thread that is taken up is one of the processor's and runs over no frame of its own
+-- part
+abbrev pub EventSays : What → Frames → Type 0
+EventSays (CallEvent f c y) x = IsInnermost f x × Replies c y x
+EventSays (RewaitEvent f y) x = IsInnermost f x × (x.own ≡ [])
+EventSays (NormalEvent f) x = IsInnermost f x × (may_go_on x ≡ true)
+EventSays (EndEvent f) x = IsInnermost f x
+EventSays (SwitchEvent t status) x = (t.0 < length x.threads) × (x.own ≡ [])
+EventSays (LookEvent r) x = Unit {0}
+EventSays (BeginEvent b from) x = Unit {0}
+EventSays (ExpireEvent k from) x = Unit {0}
+EventSays (FireEvent d y) x = Unit {0}
+EventSays (CleanEvent c) x = Unit {0}
+EventSays (FlushEvent a from) x = Unit {0}
+EventSays (GoneEvent t) x = Unit {0}
+EventSays RestEvent x = Unit {0}
 
 -- the event is one that a processor may make where its frames are these
 pub record IsMade (s : Script) (e : Event) (x : Frames) : Type 0 where
   pub nested : AreNested x
   pub threads : length x.threads ≡ length s.threads
   pub thread : e.thread ≡ thread_of e.what x.running
-  pub fits : Fits e.what x
+  pub says : EventSays e.what x
 
 -- what each event leaves of the frames is what its calls leave
 abbrev pub EventsAreCalls : Type 0
 EventsAreCalls =
-    (s : Script) (n : ℕ) (due : Option ℕ) (e : Event) (x : Frames) → IsMade s e x → frames_after s n due e x ≡ left_by_all (calls_of s n due e.what x) x
+    (s : Script) (n : ℕ) (due : Option ℕ) (e : Event) (x : Frames) → IsMade s e x →
+    frames_after s n due e x ≡ left_by_all (calls_of s n due e.what x) x
 
 -- ---- whole histories
 
@@ -126,7 +219,9 @@ EventsAreCalls =
 abbrev pub calls_in : Script → CpuNo → List Event → List FrameCall
 calls_in s p [] = []
 calls_in s p (e ∷ past) =
-    if is_of e p then calls_in s p past ++ calls_of s (length past) (due_of e.what (time past)) e.what (frames_of s p past) else calls_in s p past
+    if is_of e p
+    then calls_in s p past ++ calls_of s (length past) (due_of e.what (time past)) e.what (frames_of s p past)
+    else calls_in s p past
 
 -- each event of the processor is one that it may make where its frames are those of the history before
 abbrev pub EachIsMade : Script → CpuNo → List Event → Type 0
@@ -136,4 +231,5 @@ EachIsMade s p (e ∷ past) = (is_of e p ≡ true → IsMade s e (frames_of s p 
 -- the frames of a history are what its calls leave, beginning with none
 abbrev pub HistoriesAreCalls : Type 0
 HistoriesAreCalls =
-    (s : Script) (p : CpuNo) (past : List Event) → EachIsMade s p past → frames_of s p past ≡ left_by_all (calls_in s p past) (no_frames (length s.threads))
+    (s : Script) (p : CpuNo) (past : List Event) → EachIsMade s p past →
+    frames_of s p past ≡ left_by_all (calls_in s p past) (no_frames (length s.threads))

@@ -1,5 +1,6 @@
 -- How frames stand over each other, and what this says of their number.
-use Rattle.std.specs.Prelude.{Bool, List, None, [], All, IfSome, false, if◌then◌else◌, length, nat_lt, true, ℕ, ◌+◌, ◌-◌, ◌<◌, ◌^◌, ◌∷◌, ◌≡◌, ◌≤◌}
+use Rattle.std.specs.Prelude.{Bool, List, None, [], All, IfSome, false, if◌then◌else◌, length, nat_lt, true, ℕ, ◌+◌}
+use Rattle.std.specs.Prelude.{◌-◌, ◌<◌, ◌^◌, ◌∷◌, ◌≡◌, ◌≤◌}
 use Rattle.nt_event.specs.declared.commands.ApcKind.{ApcKind}
 use Rattle.nt_event.specs.declared.commands.ApcKind.TheVariants.{Normal, Special, User}
 use Rattle.nt_event.specs.declared.frames.Body.{Body}
@@ -7,11 +8,12 @@ use Rattle.nt_event.specs.declared.frames.Body.TheVariants.{Apc, Base, Dpc, Int,
 use Rattle.nt_event.specs.declared.frames.Frame.{Frame}
 use Rattle.nt_event.specs.Frames.{Frames, base_of, is_apc_body, is_base_body}
 use Rattle.nt_event.specs.Regions.{crit_of, guard_of}
-use Rattle.nt_event.specs.Script.{is_isr_level}
+use Rattle.nt_event.specs.Classes.{is_isr_level}
 use Rattle.nt_frame.specs.Changes.{is_own}
 
--- how many frames there can be up to this one on its part. On the own part: a threaded DPC, a DPC, and an interrupt of each
--- level of 3 to 11, 13 and 14. On a thread's: its base, a user APC or a rundown routine, a normal APC, a special APC
+-- how many frames there can be up to this one on its part. On the own part: a threaded DPC, a DPC, and an interrupt of
+-- each level of 3 to 11, 13 and 14. On a thread's: its base, a user APC or a rundown routine, a normal APC, a special
+-- APC
 abbrev pub apc_rank : ApcKind → ℕ
 apc_rank User = 2
 apc_rank Normal = 3
@@ -27,7 +29,11 @@ rank (Apc a kind) = apc_rank kind
 
 abbrev pub has_isr_level : Body → Bool
 has_isr_level (Int level) = is_isr_level level
-has_isr_level _ = true
+has_isr_level (Dpc d) = true
+has_isr_level (Threaded d) = true
+has_isr_level (Base t) = true
+has_isr_level (Apc a kind) = true
+has_isr_level (Rundown a) = true
 
 abbrev pub is_special_body : Body → Bool
 is_special_body (Apc a Special) = true

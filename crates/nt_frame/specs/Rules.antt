@@ -13,10 +13,11 @@ use Rattle.nt_event.specs.declared.frames.Region.{Region}
 use Rattle.nt_event.specs.declared.frames.Region.TheVariants.{Crit, Guard}
 use Rattle.nt_event.specs.Apcs.{lets_through}
 use Rattle.nt_event.specs.Commands.{refusal}
-use Rattle.nt_event.specs.Frames.{Frames, innermost, is_base_body, is_normal_apc_body, is_on_thread, level_in, thread_part}
+use Rattle.nt_event.specs.Frames.{Frames, innermost, is_base_body, is_normal_apc_body, is_on_thread, level_in}
+use Rattle.nt_event.specs.Frames.{thread_part}
 use Rattle.nt_event.specs.Jobs.{has_normal}
 use Rattle.nt_event.specs.Regions.{below_in, regions_of, some_came_to_0}
-use Rattle.nt_event.specs.Script.{is_isr_level}
+use Rattle.nt_event.specs.Classes.{is_isr_level}
 use Rattle.nt_event.specs.Lists.{is_null}
 use Rattle.nt_event.specs.Numbers.{is_thread}
 
@@ -55,10 +56,10 @@ is_at_base x = option_map_or (λ f. is_base_body f.body) (innermost x) false
 abbrev pub may_go_on : Frames → Bool
 may_go_on x = option_map_or (λ f. f.kernel_phase && has_normal f.body) (innermost x) false
 
--- a routine may begin here, as far as the frames tell: an interrupt above the level; a DPC below DISPATCH_LEVEL; a threaded
--- DPC at PASSIVE_LEVEL with no frame on the own part (profile); a kernel APC at PASSIVE_LEVEL in a thread whose regions let
--- it through; a user APC where the base routine stands at `touser`; the base of a thread that was just taken up for the first
--- time; a rundown routine in a leaving thread
+-- a routine may begin here, as far as the frames tell: an interrupt above the level; a DPC below DISPATCH_LEVEL; a
+-- threaded DPC at PASSIVE_LEVEL with no frame on the own part (profile); a kernel APC at PASSIVE_LEVEL in a thread
+-- whose regions let it through; a user APC where the base routine stands at `touser`; the base of a thread that was
+-- just taken up for the first time; a rundown routine in a leaving thread
 abbrev pub may_begin : Body → Frames → Bool
 may_begin (Int level) x = is_isr_level level && nat_lt (level_in x) level
 may_begin (Dpc d) x = nat_lt (level_in x) 2
@@ -68,8 +69,8 @@ may_begin (Apc a kind) x = is_on_thread x && ((level_in x == 0) && lets_through 
 may_begin (Base t) x = is_thread x.running t && (is_null x.own && is_null (thread_part x))
 may_begin (Rundown a) x = is_leaving x
 
--- the end of the innermost frame, which is no base, asks for class 1: it is a normal kernel APC, or its regions held back
--- kernel APCs
+-- the end of the innermost frame, which is no base, asks for class 1: it is a normal kernel APC, or its regions held
+-- back kernel APCs
 abbrev pub end_asks_apc : Frames → Bool
 end_asks_apc x =
     option_map_or (λ f. is_normal_apc_body f.body) (innermost x) false || some_came_to_0 (regions_in x) (below_in x)

@@ -1,6 +1,6 @@
 //! One frame, and what becomes of it.
 ghost use Rattle.std.specs.Prelude.{◌≡◌};
-ghost use Rattle.nt_event.specs.Frames.{base_level as base_level_of, base_of, is_apc_body, is_base_body, left, new_frame as made_frame, normal_of};
+ghost use Rattle.nt_event.specs.Frames.{base_level as base_level_of, base_of, is_apc_body, is_base_body, ended_base, new_frame as made_frame, normal_of};
 ghost use Rattle.nt_frame.specs.Changes.{is_own as is_own_body};
 
 use nt_event::{Body, Frame};
@@ -34,7 +34,7 @@ fn base_level(body: &Body, kernel_phase: bool) -> Level
         Body::Int(level) => *level,
         Body::Dpc(_) => Level::DISPATCH,
         Body::Apc(_, _) if kernel_phase => Level::APC,
-        _ => Level::PASSIVE,
+        Body::Threaded(_) | Body::Apc(_, _) | Body::Rundown(_) | Body::Base(_) => Level::PASSIVE,
     }
 }
 
@@ -81,7 +81,7 @@ pub fn at_normal(frame: &Frame) -> Frame
 
 /// The base frame of a thread whose base routine has ended.
 pub fn leaving(frame: &Frame) -> Frame
-    ensures { result ≡ left frame.now }
+    ensures { result ≡ ended_base frame.now }
 {
     Frame {
         level: Level::PASSIVE,

@@ -1,7 +1,7 @@
 //! The frames of one processor and its threads.
 ghost use Rattle.std.specs.Prelude.{◌≡◌, ◌<◌, ◌↔◌, ◌+◌, ◌==◌, false, not, length, option_copied, option_map, IsTrue, IsSome, IsOk, IfSome, IfOk, IfErr, OnOk, OnErr};
 ghost use Rattle.std.specs.Option.{ForSome, option_map_or, option_or};
-ghost use Rattle.nt_event.specs.Frames.{thread_part, done_to, frames_in, innermost, is_on_thread as on_thread_part, left, level_in, normal_of};
+ghost use Rattle.nt_event.specs.Frames.{thread_part, done_to, frames_in, innermost, is_on_thread as on_thread_part, ended_base, level_in, normal_of};
 ghost use Rattle.nt_event.specs.Regions.{after_in, below_in, some_came_to_0};
 ghost use Rattle.nt_event.specs.Lists.{is_null, head_of};
 ghost use Rattle.nt_frame.specs.Changes.{at_innermost, begun, closed, no_frames, without_innermost};
@@ -193,7 +193,7 @@ impl Frames {
         ensures asks { result ≡ some_came_to_0 (regions_in self.old) (below_in self.old) }
         ensures phase { self.new ≡ at_innermost normal_of self.old }
     {
-        let asks = came_to_0(&self.regions(), &self.below());
+        let asks = self.below().came_to_0(&self.regions());
         let Some(frame) = self.top() else {
             unreachable!()
         };
@@ -212,7 +212,7 @@ impl Frames {
         let Some(frame) = self.top() else {
             unreachable!()
         };
-        let asks = is_normal_apc(&frame.body) || came_to_0(&self.regions(), &self.below());
+        let asks = is_normal_apc(&frame.body) || self.below().came_to_0(&self.regions());
         self.drop_innermost();
         asks
     }
@@ -314,7 +314,7 @@ impl Frames {
     pub fn end_base(&mut self)
         requires base { IsTrue (is_at_base self.old) }
         requires runs { is_leaving self.old ≡ false }
-        ensures { self.new ≡ at_innermost left self.old }
+        ensures { self.new ≡ at_innermost ended_base self.old }
     {
         let Some(frame) = self.top() else {
             unreachable!()
@@ -422,13 +422,6 @@ impl Frames {
             parts::pop(&mut self.threads, t);
         }
     }
-}
-
-/// Whether a count of regions that wasn't 0 is 0 now.
-fn came_to_0(before: &Regions, now: &Regions) -> bool
-    ensures { result ≡ some_came_to_0 before.now now.now }
-{
-    before.crit != 0 && now.crit == 0 || before.guard != 0 && now.guard == 0
 }
 
 /// How often regions of the kind are entered.

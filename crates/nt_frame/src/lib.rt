@@ -22,8 +22,6 @@ mod laws;
 mod part;
 mod parts;
 mod refusals;
-#[cfg(test)]
-mod tests;
 mod view;
 
 pub use calls::{FrameAnswer, FrameCall, perform, perform_all};

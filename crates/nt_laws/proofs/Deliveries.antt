@@ -23,7 +23,8 @@ use Rattle.nt_event.specs.declared.numbers.DpcNo.{DpcNo}
 use Rattle.nt_event.specs.declared.numbers.ThreadNo.{ThreadNo}
 use Rattle.nt_event.specs.declared.scripts.Script.{Script}
 use Rattle.nt_event.specs.Apcs.{first_user, has_kernel, is_of_apc}
-use Rattle.nt_event.specs.Eligible.{ExpiryRequest, FlushRequest, IntRequest, KernelApcRequest, Request, UserApcRequest, apc_request, eligible, is_apc_pick, is_at_base, is_at_touser, is_eligible, is_first_dpc, is_interrupt_level, request_of, same_key}
+use Rattle.nt_event.specs.Eligible.{ExpiryRequest, FlushRequest, IntRequest, KernelApcRequest, Request, UserApcRequest, apc_request, eligible, is_apc_pick, is_at_base, is_at_touser, is_eligible, is_first_dpc, request_of, same_key}
+use Rattle.nt_event.specs.Classes.{is_interrupt_level}
 use Rattle.nt_event.specs.Frames.{frames_of, innermost, is_base_body, is_on_thread, own_frames, running, thread_frames, thread_part}
 use Rattle.nt_event.specs.Jobs.{is_due, level_at, user_due}
 use Rattle.nt_event.specs.Lanes.{Lanes, facts_at, facts_of, lanes_at, queue_at}
@@ -70,9 +71,12 @@ same_key_itself (OfDelay t) = eq-eqb t.0 t.0 refl
 low_test : (n m : ℕ) → n < m → nat_lt n m ≡ true
 low_test n m h = lt-ltb n m h
 
-key_eligible : (s : Script) (p : CpuNo) (x : Own) (l : Lanes) (key : TimerKey) (from : ℕ) → KnownKey x l key from → is_eligible s p x l (ExpiryRequest key) ≡ true
+key_eligible : (s : Script) (p : CpuNo) (x : Own) (l : Lanes) (key : TimerKey) (from : ℕ) → KnownKey x l key from → is_eligible s p x l (ExpiryRequest key)
+    ≡ true
 key_eligible s p x l key from k =
-    let first : option_map_or (λ q. same_key q.key key) (first_due l.timers) false ≡ true = ap (λ (o : Option SetKey). option_map_or (λ q. same_key q.key key) o false) k.first ∙ (ap (λ (z : TimerKey). same_key k.set.key z) k.key ∙ same_key_itself k.set.key) in
+    let first : option_map_or (λ q. same_key q.key key) (first_due l.timers) false
+    ≡ true = ap (λ (o : Option SetKey). option_map_or (λ q. same_key q.key key) o false) k.first
+    ∙ (ap (λ (z : TimerKey). same_key k.set.key z) k.key ∙ same_key_itself k.set.key) in
     all_true x.sweep _ k.sweep (all_true _ (nat_lt (level_at x) 2) first (low_test (level_at x) 2 k.low))
 
 interrupt_eligible : (s : Script) (p : CpuNo) (x : Own) (l : Lanes) (c from : ℕ) → KnownInterrupt x c from → is_eligible s p x l (IntRequest c) ≡ true
@@ -90,23 +94,30 @@ kernel_request NormalApc a h = refl
 kernel_request UserApc a h = cc
 
 -- the innermost frame is the base of the running thread, at a `touser` that isn't refused
-at_touser : (s : Script) (p : CpuNo) (x : Own) → (k : KnownToUser s p x) → (is_at_base x ≡ true) × (option_map_or (is_at_touser s p x) (innermost x.frames) false ≡ true)
+at_touser : (s : Script) (p : CpuNo) (x : Own) → (k : KnownToUser s p x) → (is_at_base x ≡ true) ×
+    (option_map_or (is_at_touser s p x) (innermost x.frames) false ≡ true)
 at_touser s p x k =
-    let not_base : not (is_base_body k.frame.body) ≡ false = refuse_none (not (is_base_body k.frame.body)) NotBase _ (next_test (not (is_null x.frames.own)) NotThread _ k.accepted) in
+    let not_base : not (is_base_body k.frame.body) ≡ false = refuse_none (not (is_base_body k.frame.body)) NotBase _
+    (next_test (not (is_null x.frames.own)) NotThread _ k.accepted) in
     let base : is_base_body k.frame.body ≡ true = null_of (is_base_body k.frame.body) not_base in
-    let inner : is_at_touser s p x k.frame ≡ true = rw (k.command, k.accepted) refl in
-    (ap (λ (o : Option Frame). option_map_or (λ f. is_base_body f.body) o false) k.goes_on.inner ∙ base, ap (λ (o : Option Frame). option_map_or (is_at_touser s p x) o false) k.goes_on.inner ∙ inner)
+    let inner : is_at_touser s p x k.frame ≡ true = rw (k.command, k.accepted) refl in (
+      ap (λ (o : Option Frame). option_map_or (λ f. is_base_body f.body) o false) k.goes_on.inner ∙ base,
+      ap (λ (o : Option Frame). option_map_or (is_at_touser s p x) o false) k.goes_on.inner ∙ inner,
+    )
 
-marked_user : (x : ThreadFacts) (a : ApcNo) (from : ℕ) → KnownPick (user_due x) a from → (x.marked ≡ true) × KnownPick (first_user x.apcs) a from
+marked_user : (x : ThreadFacts) (a : ApcNo) (from : ℕ) → KnownPick (user_due x) a from → (x.user_pending ≡ true) × KnownPick (first_user x.apcs) a from
 marked_user x a from k =
-    let w = when_gives x.marked (first_user x.apcs) k.pick k.first in
+    let w = when_gives x.user_pending (first_user x.apcs) k.pick k.first in
     (w.0, record { pick = k.pick; first = w.1; apc = k.apc; number = k.number })
 
-apc_eligible : (s : Script) (p : CpuNo) (past : List Event) (a : ApcNo) (from : ℕ) → KnownBegin s p (own_of s p past) (lanes_at s past) (Apc a) from → is_eligible s p (own_of s p past) (lanes_at s past) (apc_request (kind_of s a) a) ≡ true
+apc_eligible : (s : Script) (p : CpuNo) (past : List Event) (a : ApcNo) (from : ℕ) → KnownBegin s p (own_of s p past) (lanes_at s past) (Apc a) from →
+    is_eligible s p (own_of s p past) (lanes_at s past) (apc_request (kind_of s a) a) ≡ true
 apc_eligible s p past a from (inl k) =
     let x : Own = own_of s p past in
     let l : Lanes = lanes_at s past in
-    let fits = holds_at (KernelPick s) (Deliverable x l) k.1.pick (deliverable_fits s (facts_of l x.frames.running).apcs (regions_of (thread_part x.frames)) (level_at x) (facts_fit_of s past x.frames.running)) k.1.first in
+    let fits = holds_at (KernelPick s) (Deliverable x l) k.1.pick
+    (deliverable_fits s (facts_of l x.frames.running).apcs (regions_of (thread_part x.frames)) (level_at x)
+    (facts_fit_of s past x.frames.running)) k.1.first in
     let kind : kind_of s a ≡ k.1.pick.kind = ap (kind_of s) k.1.apc ∙ sym fits.1 in
     let request : apc_request (kind_of s a) a ≡ KernelApcRequest a = kernel_request (kind_of s a) a (ap is_kernel_kind kind ∙ fits.0) in
     let on : is_on_thread x.frames ≡ true = (both (is_on_thread x.frames) _ (both (level_at x == 0) _ k.0).1).0 in
@@ -115,14 +126,20 @@ apc_eligible s p past a from (inr k) =
     let x : Own = own_of s p past in
     let l : Lanes = lanes_at s past in
     let m = marked_user (facts_of l x.frames.running) a from k.1 in
-    let fits = holds_at (λ y. (y.kind ≡ UserApc) × (y.kind ≡ kind_of s y.apc)) (first_user (facts_of l x.frames.running).apcs) m.1.pick (first_user_fits s (facts_of l x.frames.running).apcs (facts_fit_of s past x.frames.running)) m.1.first in
+    let fits = holds_at (λ y. (y.kind ≡ UserApc) × (y.kind ≡ kind_of s y.apc)) (first_user (facts_of l x.frames.running).apcs) m.1.pick
+    (first_user_fits s (facts_of l x.frames.running).apcs (facts_fit_of s past x.frames.running)) m.1.first in
     let kind : kind_of s a ≡ UserApc = ap (kind_of s) m.1.apc ∙ (sym fits.1 ∙ fits.0) in
     let at = at_touser s p x k.0 in
-    ap (is_eligible s p x l) (user_body (kind_of s a) a kind) ∙ all_true _ _ (pick_first (first_user (facts_of l x.frames.running).apcs) a from m.1) (all_true (is_at_base x) _ at.0 (all_true (option_map_or (is_at_touser s p x) (innermost x.frames) false) _ at.1 m.0))
+    ap (is_eligible s p x l) (user_body (kind_of s a) a kind)
+    ∙ all_true _ _ (pick_first (first_user (facts_of l x.frames.running).apcs) a from m.1)
+    (all_true (is_at_base x) _ at.0 (all_true (option_map_or (is_at_touser s p x) (innermost x.frames) false) _ at.1 m.0))
 
-flush_eligible : (s : Script) (limit : ℕ) (p : CpuNo) (past : List Event) (a : ApcNo) (from : ℕ) (t : ThreadNo) → IsRun s limit past → KnownRundown (own_of s p past) t → KnownPick (first_user (facts_at (lanes_at s past) t).apcs) a from → is_eligible s p (own_of s p past) (lanes_at s past) (FlushRequest a) ≡ true
+flush_eligible : (s : Script) (limit : ℕ) (p : CpuNo) (past : List Event) (a : ApcNo) (from : ℕ) (t : ThreadNo) → IsRun s limit past →
+    KnownRundown (own_of s p past) t → KnownPick (first_user (facts_at (lanes_at s past) t).apcs) a from →
+    is_eligible s p (own_of s p past) (lanes_at s past) (FlushRequest a) ≡ true
 flush_eligible s limit p past a from t r k q =
-    all_true _ _ (ap (λ (x : ThreadFacts). is_apc_pick a (first_user x.apcs)) of_it ∙ pick_first (first_user (facts_at (lanes_at s past) t).apcs) a from q) (all_true _ _ (ap (λ (x : ThreadFacts). x.leaving) (of_it ∙ at) ∙ leaving) (all_true (is_at_base (own_of s p past)) _ base kernel))
+    all_true _ _ (ap (λ (x : ThreadFacts). is_apc_pick a (first_user x.apcs)) of_it ∙ pick_first (first_user (facts_at (lanes_at s past) t).apcs) a from q)
+    (all_true _ _ (ap (λ (x : ThreadFacts). x.leaving) (of_it ∙ at) ∙ leaving) (all_true (is_at_base (own_of s p past)) _ base kernel))
   where
     h : (has_thread s t ≡ true) × ((cpu_of s t).0 ≡ p.0)
     h = running_here s limit p t past r k.thread
@@ -153,7 +170,8 @@ flush_eligible s limit p past a from t r k q =
         leaves_as s limit t past r ∙ leaving_base t kt.frame (thread_frames s (cpu_of s t) t past) first kt.leaving z.based
 
     base_body : is_base_body k.frame.body ≡ true
-    base_body = go (thread_part (frames_of s p past)) (part_head (frames_of s p past) k.frame k.goes_on.inner (leaving_null s p past k.frame k.goes_on.inner k.leaving)) (running_has_base s limit p t past r k.thread).2
+    base_body = go (thread_part (frames_of s p past)) (part_head (frames_of s p past) k.frame k.goes_on.inner
+        (leaving_null s p past k.frame k.goes_on.inner k.leaving)) (running_has_base s limit p t past r k.thread).2
       where
         go : (fs : List Frame) → head_of fs ≡ Some k.frame → HasBase t fs → is_base_body k.frame.body ≡ true
         go [] e b = cc
@@ -169,26 +187,33 @@ flush_eligible s limit p past a from t r k q =
 
     kernel : not (has_kernel (facts_of (lanes_at s past) (running p past)).apcs) ≡ true
     kernel =
-        let none : has_kernel (facts s t past).apcs ≡ false = no_kernel (facts s t past).apcs (flush_quiet s limit t past r (leaves s limit t past h.0 r leaving) kt) in
+        let none : has_kernel (facts s t past).apcs ≡ false = no_kernel (facts s t past).apcs
+        (flush_quiet s limit t past r (leaves s limit t past h.0 r leaving) kt) in
         ap (λ (x : ThreadFacts). not (has_kernel x.apcs)) (of_it ∙ at) ∙ ap (λ (b : Bool). not b) none
 
 -- the request that an event delivers
-delivers : (s : Script) (limit : ℕ) (p : CpuNo) (past : List Event) (w : What) → IsRun s limit past → (is_next w ≡ true → Known s p (own_of s p past) (lanes_at s past) w) → Holds (λ r. is_eligible s p (own_of s p past) (lanes_at s past) r ≡ true) (request_of s w)
+delivers : (s : Script) (limit : ℕ) (p : CpuNo) (past : List Event) (w : What) → IsRun s limit past →
+    (is_next w ≡ true → Known s p (own_of s p past) (lanes_at s past) w) →
+    Holds (λ r. is_eligible s p (own_of s p past) (lanes_at s past) r ≡ true) (request_of s w)
 delivers s limit p past (Begin (Int c) from) r k = interrupt_eligible s p (own_of s p past) (lanes_at s past) c from (k refl)
 delivers s limit p past (Begin (Dpc d) from) r k =
     let q = k refl in
-    all_true (is_first_dpc OrdinaryPart d (queue_at (lanes_at s past) p)) _ (insert_first OrdinaryPart (queue_at (lanes_at s past) p) d from q.1) (low_test (level_at (own_of s p past)) 2 q.0)
+    all_true (is_first_dpc OrdinaryPart d (queue_at (lanes_at s past) p)) _ (insert_first OrdinaryPart (queue_at (lanes_at s past) p) d from q.1)
+    (low_test (level_at (own_of s p past)) 2 q.0)
 delivers s limit p past (Begin (Threaded d) from) r k =
     let q = k refl in
     let m = both (level_at (own_of s p past) == 0) _ q.0 in
     let n = both (is_null (own_frames p past)) _ m.1 in
-    all_true (is_first_dpc ThreadedPart d (queue_at (lanes_at s past) p)) _ (insert_first ThreadedPart (queue_at (lanes_at s past) p) d from q.1) (all_true (level_at (own_of s p past) == 0) (is_null (own_frames p past)) m.0 n.0)
+    all_true (is_first_dpc ThreadedPart d (queue_at (lanes_at s past) p)) _ (insert_first ThreadedPart (queue_at (lanes_at s past) p) d from q.1)
+    (all_true (level_at (own_of s p past) == 0) (is_null (own_frames p past)) m.0 n.0)
 delivers s limit p past (Begin (Apc a) from) r k = apc_eligible s p past a from (k refl)
 delivers s limit p past (Expire key from) r k = key_eligible s p (own_of s p past) (lanes_at s past) key from (k refl)
 delivers s limit p past (Flush a from) r k =
     let q = k refl in flush_eligible s limit p past a from q.0 r q.1 q.2
 delivers s limit p past w r k = tt
 
-pub deliveries_are_eligible : (s : Script) (limit : ℕ) (e : Event) (past : List Event) (r : Request) → IsRun s limit (e ∷ past) → request_of s e.what ≡ Some r → eligible s e.cpu r past ≡ true
+pub deliveries_are_eligible : (s : Script) (limit : ℕ) (e : Event) (past : List Event) (r : Request) → IsRun s limit (e ∷ past) → request_of s e.what
+    ≡ Some r → eligible s e.cpu r past ≡ true
 deliveries_are_eligible s limit e past r run h =
-    holds_at (λ r. is_eligible s e.cpu (own_of s e.cpu past) (lanes_at s past) r ≡ true) (request_of s e.what) r (delivers s limit e.cpu past e.what run.1 (legal_known s limit e past run.0)) h
+    holds_at (λ r. is_eligible s e.cpu (own_of s e.cpu past) (lanes_at s past) r ≡ true) (request_of s e.what) r
+    (delivers s limit e.cpu past e.what run.1 (legal_known s limit e past run.0)) h

@@ -2,5 +2,5 @@
 pub mod Settings
 pub mod Asked
 pub mod Inserted
-pub mod Declared
 pub mod EventsFit
+pub mod RunFits

@@ -21,22 +21,31 @@ module _ {A : Type 0} (start : A) (after : Made → A → A) where
   by_part [] = start
   by_part (m ∷ ms) = after m (by_part ms)
 
-by_own : {A : Type 0} (start : A) (after : Made → A → A) (f : List Event → A) (p : CpuNo) → f [] ≡ start → ((e : Event) (past : List Event) → f (e ∷ past) ≡ (if is_of e p then after (record { number = length past; event = e; due = due_of e.what (time past) }) (f past) else f past)) → (past : List Event) → f past ≡ by_part start after (own_part p past)
+by_own : {A : Type 0} (start : A) (after : Made → A → A) (f : List Event → A) (p : CpuNo) → f [] ≡ start →
+    ((e : Event) (past : List Event) → f (e ∷ past) ≡ (if is_of e p
+    then after (record { number = length past; event = e; due = due_of e.what (time past) }) (f past) else f past)) → (past : List Event) → f past
+    ≡ by_part start after (own_part p past)
 unfolding by_part
 by_own start after f p z step [] = z
 by_own {A} start after f p z step (e ∷ past) =
     step e past ∙ go (is_of e p) (by_own start after f p z step past)
   where
-    go : (b : Bool) → f past ≡ by_part start after (own_part p past) → (if b then after (record { number = length past; event = e; due = due_of e.what (time past) }) (f past) else f past) ≡ by_part start after (if b then (record { number = length past; event = e; due = due_of e.what (time past) } ∷ own_part p past) else own_part p past)
+    go : (b : Bool) → f past ≡ by_part start after (own_part p past) →
+        (if b then after (record { number = length past; event = e; due = due_of e.what (time past) }) (f past) else f past)
+        ≡ by_part start after (if b then (record { number = length past; event = e; due = due_of e.what (time past) } ∷ own_part p past) else own_part p past)
     go true ih = ap (after (record { number = length past; event = e; due = due_of e.what (time past) })) ih
     go false ih = ih
 
 -- so two histories with the same part give the same
-same_by : {A : Type 0} (start : A) (after : Made → A → A) (f : List Event → A) (p : CpuNo) → f [] ≡ start → ((e : Event) (past : List Event) → f (e ∷ past) ≡ (if is_of e p then after (record { number = length past; event = e; due = due_of e.what (time past) }) (f past) else f past)) → (h k : List Event) → own_part p h ≡ own_part p k → f h ≡ f k
+same_by : {A : Type 0} (start : A) (after : Made → A → A) (f : List Event → A) (p : CpuNo) → f [] ≡ start →
+    ((e : Event) (past : List Event) → f (e ∷ past) ≡ (if is_of e p
+    then after (record { number = length past; event = e; due = due_of e.what (time past) }) (f past) else f past)) → (h k : List Event) → own_part p h
+    ≡ own_part p k → f h ≡ f k
 same_by start after f p z step h k e =
     by_own start after f p z step h ∙ (ap (by_part start after) e ∙ sym (by_own start after f p z step k))
 
-pub keeps_its_part : (s : Script) (p : CpuNo) (h k : List Event) → own_part p h ≡ own_part p k → ((c : ℕ) → c < 16 → seen s p c h ≡ seen s p c k) → ((c : ℕ) → c < 16 → served s p c h ≡ served s p c k) → own_of s p h ≡ own_of s p k
+pub keeps_its_part : (s : Script) (p : CpuNo) (h k : List Event) → own_part p h ≡ own_part p k → ((c : ℕ) → c < 16 → seen s p c h ≡ seen s p c k) →
+    ((c : ℕ) → c < 16 → served s p c h ≡ served s p c k) → own_of s p h ≡ own_of s p k
 keeps_its_part s p h k e f g = λ i. record {
   made = same_by 0 (λ m x. x + 1) (made p) p refl (λ e past. refl) h k e i;
   frames = frames i;
@@ -49,4 +58,10 @@ keeps_its_part s p h k e f g = λ i. record {
 }
   where
     frames : frames_of s p h ≡ frames_of s p k
-    frames = λ i. record { own = same_by [] (λ m x. own_after m.number m.due m.event.what x) (own_frames p) p refl (λ e past. refl) h k e i; running = same_by None (λ m x. running_after m.event.what x) (running p) p refl (λ e past. refl) h k e i; threads = table-same (length s.threads) (λ t. thread_frames s p (thread t) h) (λ t. thread_frames s p (thread t) k) (λ t l. same_by [] (λ m x. thread_if (is_by m.event (thread t)) s m.number m.due m.event.what x) (thread_frames s p (thread t)) p refl (λ e past. refl) h k e) i }
+    frames = λ i. record {
+      own = same_by [] (λ m x. own_after m.number m.due m.event.what x) (own_frames p) p refl (λ e past. refl) h k e i;
+      running = same_by None (λ m x. running_after m.event.what x) (running p) p refl (λ e past. refl) h k e i;
+      threads = table-same (length s.threads) (λ t. thread_frames s p (thread t) h) (λ t. thread_frames s p (thread t) k)
+          (λ t l. same_by [] (λ m x. thread_if (is_by m.event (thread t)) s m.number m.due m.event.what x) (thread_frames s p (thread t)) p refl
+          (λ e past. refl) h k e) i;
+    }

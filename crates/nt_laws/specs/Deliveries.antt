@@ -7,4 +7,5 @@ use Rattle.nt_event.specs.Step.{IsRun}
 
 -- in a run each Begin, Expire and Flush delivers a request that was eligible just before it
 abbrev pub DeliveriesAreEligible : Type 0
-DeliveriesAreEligible = (s : Script) (limit : ℕ) (e : Event) (past : List Event) (r : Request) → IsRun s limit (e ∷ past) → request_of s e.what ≡ Some r → eligible s e.cpu r past ≡ true
+DeliveriesAreEligible = (s : Script) (limit : ℕ) (e : Event) (past : List Event) (r : Request) →
+    IsRun s limit (e ∷ past) → request_of s e.what ≡ Some r → eligible s e.cpu r past ≡ true

@@ -38,23 +38,29 @@ ApcIsPending s t a n past =
 abbrev pub NamesPending : Script → CpuNo → What → List Event → Type 0
 NamesPending s p (Begin (Dpc d) from) past = DpcIsPending s p d from past
 NamesPending s p (Begin (Threaded d) from) past = DpcIsPending s p d from past
-NamesPending s p (Begin (Apc a) from) past = (running p past ≡ Some (owner_of s a)) × ApcIsPending s (owner_of s a) a from past
-NamesPending s p (Flush a from) past = (running p past ≡ Some (owner_of s a)) × ApcIsPending s (owner_of s a) a from past
+NamesPending s p (Begin (Apc a) from) past = (running p past ≡ Some (owner_of s a)) ×
+    ApcIsPending s (owner_of s a) a from past
+NamesPending s p (Flush a from) past = (running p past ≡ Some (owner_of s a)) ×
+    ApcIsPending s (owner_of s a) a from past
 NamesPending s p w past = Unit {0}
 
 -- in a run each Begin of a DPC or APC and each Flush names an insert of its object that was pending just before it
 abbrev pub DeliveriesNamePendingInserts : Type 0
-DeliveriesNamePendingInserts = (s : Script) (limit : ℕ) (e : Event) (past : List Event) → IsRun s limit (e ∷ past) → NamesPending s e.cpu e.what past
+DeliveriesNamePendingInserts = (s : Script) (limit : ℕ) (e : Event) (past : List Event) → IsRun s limit (e ∷ past) →
+    NamesPending s e.cpu e.what past
 
 -- a removal of an object of the script that isn't refused answers yes exactly where the object is inserted, and else no
 abbrev pub RemovalTells : Script → What → List Event → Type 0
-RemovalTells s (Call f (Unqueue d) y) past = has_dpc s d ≡ true → is_refused y ≡ false → y ≡ yes_if (is_some (standing d past))
-RemovalTells s (Call f (RemoveApc a) y) past = has_thread s (owner_of s a) ≡ true → is_refused y ≡ false → y ≡ yes_if (is_inserted a (facts s (owner_of s a) past).apcs)
+RemovalTells s (Call f (Unqueue d) y) past = has_dpc s d ≡ true → is_refused y ≡ false → y
+    ≡ yes_if (is_some (standing d past))
+RemovalTells s (Call f (RemoveApc a) y) past = has_thread s (owner_of s a) ≡ true → is_refused y ≡ false → y
+    ≡ yes_if (is_inserted a (facts s (owner_of s a) past).apcs)
 RemovalTells s w past = Unit {0}
 
 -- in a run each removal tells whether its object was inserted just before it
 abbrev pub RemovalsTell : Type 0
-RemovalsTell = (s : Script) (limit : ℕ) (e : Event) (past : List Event) → IsRun s limit (e ∷ past) → RemovalTells s e.what past
+RemovalsTell = (s : Script) (limit : ℕ) (e : Event) (past : List Event) → IsRun s limit (e ∷ past) →
+    RemovalTells s e.what past
 
 -- the numbers of the object's inserts among these
 abbrev pub numbers_of : DpcNo → List Insert → List ℕ
@@ -67,11 +73,13 @@ numbers_at p (Some x) = if x.queue.0 == p.0 then x.number ∷ [] else []
 
 -- in a run queues and objects agree: a queue has of each object of the script the one insert that stands there, or none
 abbrev pub QueuesAgreeWithObjects : Type 0
-QueuesAgreeWithObjects = (s : Script) (limit : ℕ) (d : DpcNo) (past : List Event) → IsRun s limit past → has_dpc s d ≡ true → (p : CpuNo) → numbers_of d (pending s p past) ≡ numbers_at p (standing d past)
+QueuesAgreeWithObjects = (s : Script) (limit : ℕ) (d : DpcNo) (past : List Event) → IsRun s limit past → has_dpc s d
+    ≡ true → (p : CpuNo) → numbers_of d (pending s p past) ≡ numbers_at p (standing d past)
 
 -- in a run two pending inserts of one object of the script are in the same queue and have the same number
 abbrev pub AtMostOnePendingInsert : Type 0
-AtMostOnePendingInsert = (s : Script) (limit : ℕ) (d : DpcNo) (past : List Event) → IsRun s limit past → has_dpc s d ≡ true → (p q : CpuNo) (n m : ℕ) → DpcIsPending s p d n past → DpcIsPending s q d m past → (p.0 ≡ q.0) × (n ≡ m)
+AtMostOnePendingInsert = (s : Script) (limit : ℕ) (d : DpcNo) (past : List Event) → IsRun s limit past → has_dpc s d
+    ≡ true → (p q : CpuNo) (n m : ℕ) → DpcIsPending s p d n past → DpcIsPending s q d m past → (p.0 ≡ q.0) × (n ≡ m)
 
 -- the event delivers the insert of the thing at this number: it is a Begin or Flush that names it
 abbrev pub delivers : Thing → ℕ → What → Bool
@@ -86,23 +94,32 @@ abbrev pub is_declared : Script → Thing → Bool
 is_declared s (DpcThing d) = has_dpc s d
 is_declared s (ApcThing a) = true
 
--- in a run the number that a delivery names is an earlier one, and no event before the delivery began, removed or flushed the
+-- in a run the number that a delivery names is an earlier one, and no event before the delivery began, removed or
+-- flushed the
 -- object's insert of that number
 abbrev pub DeliveredInsertsWait : Type 0
-DeliveredInsertsWait = (s : Script) (limit : ℕ) (e : Event) (past : List Event) (thing : Thing) (n : ℕ) → IsRun s limit (e ∷ past) → is_declared s thing ≡ true → delivers thing n e.what ≡ true → (n < length past) × (fate_of thing n past ≡ StillWaits)
+DeliveredInsertsWait = (s : Script) (limit : ℕ) (e : Event) (past : List Event) (thing : Thing) (n : ℕ) →
+    IsRun s limit (e ∷ past) → is_declared s thing ≡ true → delivers thing n e.what ≡ true → (n < length past) ×
+    (fate_of thing n past ≡ StillWaits)
 
 -- in a run no event delivers an insert that an earlier one delivered
 abbrev pub NoInsertIsDeliveredTwice : Type 0
-NoInsertIsDeliveredTwice = (s : Script) (limit : ℕ) (e : Event) (past : List Event) (thing : Thing) (n : ℕ) → IsRun s limit (e ∷ past) → is_declared s thing ≡ true → delivers thing n e.what ≡ true → (f : Event) → Contains past f → delivers thing n f.what ≡ false
+NoInsertIsDeliveredTwice = (s : Script) (limit : ℕ) (e : Event) (past : List Event) (thing : Thing) (n : ℕ) →
+    IsRun s limit (e ∷ past) → is_declared s thing ≡ true → delivers thing n e.what ≡ true → (f : Event) →
+    Contains past f → delivers thing n f.what ≡ false
 
 -- in a run an APC object whose thread the script has stands at most once among the pending ones of its thread
 abbrev pub ApcStandsAtMostOnce : Type 0
-ApcStandsAtMostOnce = (s : Script) (limit : ℕ) (a : ApcNo) (past : List Event) → IsRun s limit past → has_thread s (owner_of s a) ≡ true → length (filter (is_of_apc a) (facts s (owner_of s a) past).apcs.pending) ≤ 1
+ApcStandsAtMostOnce = (s : Script) (limit : ℕ) (a : ApcNo) (past : List Event) → IsRun s limit past →
+    has_thread s (owner_of s a) ≡ true → length (filter (is_of_apc a) (facts s (owner_of s a) past).apcs.pending) ≤ 1
 
 -- in a run two pending inserts of such an object are at the same thread and have the same number
 abbrev pub AtMostOnePendingApc : Type 0
-AtMostOnePendingApc = (s : Script) (limit : ℕ) (a : ApcNo) (past : List Event) → IsRun s limit past → has_thread s (owner_of s a) ≡ true → (t u : ThreadNo) (n m : ℕ) → ApcIsPending s t a n past → ApcIsPending s u a m past → (t.0 ≡ u.0) × (n ≡ m)
+AtMostOnePendingApc = (s : Script) (limit : ℕ) (a : ApcNo) (past : List Event) → IsRun s limit past →
+    has_thread s (owner_of s a) ≡ true → (t u : ThreadNo) (n m : ℕ) → ApcIsPending s t a n past →
+    ApcIsPending s u a m past → (t.0 ≡ u.0) × (n ≡ m)
 
 -- in a script that fits, the thread of each of its APC objects is one of its threads
 abbrev pub ApcsHaveTheirThreads : Type 0
-ApcsHaveTheirThreads = (s : Script) (a : ApcNo) → fits s ≡ true → has_apc s a ≡ true → has_thread s (owner_of s a) ≡ true
+ApcsHaveTheirThreads = (s : Script) (a : ApcNo) → fits s ≡ true → has_apc s a ≡ true → has_thread s (owner_of s a)
+    ≡ true

@@ -16,7 +16,8 @@ use Rattle.nt_event.specs.Numbers.{is_of}
 
 -- an event that doesn't touch a lane of the script leaves what stands in it, and what it tells of requests
 abbrev pub ChangesOwnLanesOnly : Type 0
-ChangesOwnLanesOnly = (s : Script) (x : Lane) (e : Event) (past : List Event) → touches s x e past ≡ false → lane_state s x (e ∷ past) ≡ lane_state s x past
+ChangesOwnLanesOnly = (s : Script) (x : Lane) (e : Event) (past : List Event) → touches s x e past ≡ false →
+    lane_state s x (e ∷ past) ≡ lane_state s x past
 
 -- two histories have the same states on each of these lanes
 abbrev pub SameOnEach : Script → List Event → List Event → List Lane → Type 0
@@ -28,10 +29,13 @@ abbrev pub makes : Turn → Bool
 makes (LookTurn p r) = false
 makes t = true
 
--- the event of a turn Next or Switch is determined by what its processor keeps and the states of the lanes that it touches: where
+-- the event of a turn Next or Switch is determined by what its processor keeps and the states of the lanes that it
+-- touches: where
 -- two runs agree on these, the turn gives the same event after both
 abbrev pub StepIsLocal : Type 0
-StepIsLocal = (s : Script) (limit : ℕ) (h k : List Event) (t : Turn) (e : Event) → IsRun s limit h → IsRun s limit k → makes t ≡ true → own_of s (cpu_at t) h ≡ own_of s (cpu_at t) k → step s limit t h ≡ Ok e → SameOnEach s h k (lanes_of s e h) → step s limit t k ≡ Ok e
+StepIsLocal = (s : Script) (limit : ℕ) (h k : List Event) (t : Turn) (e : Event) → IsRun s limit h → IsRun s limit k →
+    makes t ≡ true → own_of s (cpu_at t) h ≡ own_of s (cpu_at t) k → step s limit t h ≡ Ok e →
+    SameOnEach s h k (lanes_of s e h) → step s limit t k ≡ Ok e
 
 -- the same event after two runs of one length, which agree on what its processor keeps and on the lanes that it touches
 pub record Alike (s : Script) (limit : ℕ) (h k : List Event) (e : Event) : Type 0 where
@@ -63,9 +67,13 @@ pub record Made : Type 0 where
 abbrev pub own_part : CpuNo → List Event → List Made
 own_part p [] = []
 own_part p (e ∷ past) =
-    if is_of e p then (record { number = length past; event = e; due = due_of e.what (time past) } ∷ own_part p past) else own_part p past
+    if is_of e p then (record { number = length past; event = e; due = due_of e.what (time past) } ∷ own_part p past)
+    else own_part p past
 
--- what a processor keeps is determined by its part of the history, with the due times of the delays that it called, and by what it
+-- what a processor keeps is determined by its part of the history, with the due times of the delays that it called, and
+-- by what it
 -- has seen and served of each class
 abbrev pub KeepsItsPart : Type 0
-KeepsItsPart = (s : Script) (p : CpuNo) (h k : List Event) → own_part p h ≡ own_part p k → ((c : ℕ) → c < 16 → seen s p c h ≡ seen s p c k) → ((c : ℕ) → c < 16 → served s p c h ≡ served s p c k) → own_of s p h ≡ own_of s p k
+KeepsItsPart = (s : Script) (p : CpuNo) (h k : List Event) → own_part p h ≡ own_part p k →
+    ((c : ℕ) → c < 16 → seen s p c h ≡ seen s p c k) → ((c : ℕ) → c < 16 → served s p c h ≡ served s p c k) →
+    own_of s p h ≡ own_of s p k

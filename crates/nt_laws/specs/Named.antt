@@ -7,45 +7,40 @@ use Rattle.nt_event.specs.declared.events.Begun.{Begun}
 use Rattle.nt_event.specs.declared.events.Begun.TheVariants.{Apc, Dpc, Int, Threaded}
 use Rattle.nt_event.specs.declared.events.Event.{Event}
 use Rattle.nt_event.specs.declared.events.What.{What}
-use Rattle.nt_event.specs.declared.events.What.TheVariants.{Begin, Call, Clean, End, Expire, Fire, Flush, Gone, Look, Normal, Rewait, Switch}
+use Rattle.nt_event.specs.declared.events.What.TheVariants.{Begin, Call, Clean, End, Expire, Fire, Flush, Gone, Look, Normal, Rest, Rewait, Switch}
 use Rattle.nt_event.specs.declared.scripts.Script.{Script}
-use Rattle.nt_event.specs.Eligible.{is_interrupt_level}
+use Rattle.nt_event.specs.Classes.{is_interrupt_level, is_used_class, dispatch_class}
 use Rattle.nt_event.specs.Script.{command_fits, fits, has_apc, has_cpu, has_dpc, has_thread, has_timer, where_given}
 use Rattle.nt_event.specs.Step.{IsRun, is_look}
-
--- a class of requests that is used: threaded DPCs, kernel APCs, dispatch, devices, the clock and inter-processor interrupts
-abbrev pub is_used_class : ℕ → Bool
-is_used_class c = nat_le c 11 || ((c == 13) || (c == 14))
+use Rattle.nt_event.specs.Fitting.{what_fits}
 
 -- the values of a look, from this class on, rise in used classes alone
 abbrev pub values_fit : ℕ → List ℕ → Bool
 values_fit c [] = true
 values_fit c (v ∷ vs) = ((v == 0) || is_used_class c) && values_fit (suc c) vs
 
-abbrev pub begun_fits : Script → Begun → Bool
-begun_fits s (Int level) = is_interrupt_level level
-begun_fits s (Dpc d) = has_dpc s d
-begun_fits s (Threaded d) = has_dpc s d
-begun_fits s (Apc a) = has_apc s a
+-- a look has a value, and values in used classes alone; an interrupt has the level of one; a Clean serves one of the
+-- first three
+abbrev pub keeps_to_classes : What → Bool
+keeps_to_classes (Look r) = list_any (λ v. nat_lt 0 v) r.value && values_fit 0 r.value
+keeps_to_classes (Begin (Int level) from) = is_interrupt_level level
+keeps_to_classes (Begin (Dpc d) from) = true
+keeps_to_classes (Begin (Threaded d) from) = true
+keeps_to_classes (Begin (Apc a) from) = true
+keeps_to_classes (Call f c y) = true
+keeps_to_classes (Normal f) = true
+keeps_to_classes (End f) = true
+keeps_to_classes (Expire key from) = true
+keeps_to_classes (Fire d y) = true
+keeps_to_classes (Clean c) = nat_le c dispatch_class
+keeps_to_classes (Switch t status) = true
+keeps_to_classes (Rewait f y) = true
+keeps_to_classes (Flush a from) = true
+keeps_to_classes (Gone t) = true
+keeps_to_classes Rest = true
 
-abbrev pub key_fits : Script → TimerKey → Bool
-key_fits s (OfTimer t) = has_timer s t
-key_fits s (OfDelay t) = has_thread s t
-
--- what is named is the script's
-abbrev pub what_fits : Script → What → Bool
-what_fits s (Call f c y) = command_fits s c
-what_fits s (Look r) = list_any (λ v. nat_lt 0 v) r.value && values_fit 0 r.value
-what_fits s (Begin b from) = begun_fits s b
-what_fits s (Expire key from) = key_fits s key
-what_fits s (Fire d y) = has_dpc s d
-what_fits s (Clean c) = nat_le c 2
-what_fits s (Switch t status) = has_thread s t
-what_fits s (Flush a from) = has_apc s a
-what_fits s (Gone t) = has_thread s t
-what_fits s w = true
-
--- the number of an earlier event that it tells: the one that began its frame, or the one whose request or setting it uses up
+-- the number of an earlier event that it tells: the one that began its frame, or the one whose request or setting it
+-- uses up
 abbrev pub earlier : What → Option ℕ
 earlier (Call f c y) = Some f
 earlier (Begin b from) = Some from
@@ -54,13 +49,19 @@ earlier (End f) = Some f
 earlier (Expire key from) = Some from
 earlier (Rewait f y) = Some f
 earlier (Flush a from) = Some from
-earlier w = None
+earlier (Look r) = None
+earlier (Fire d y) = None
+earlier (Clean c) = None
+earlier (Switch t status) = None
+earlier (Gone t) = None
+earlier Rest = None
 
 -- the event of this number names things of the script and an earlier event
 pub record EventFits (s : Script) (n : ℕ) (e : Event) : Type 0 where
   pub cpu : has_cpu s e.cpu ≡ true
   pub thread : where_given (has_thread s) e.thread ≡ true
   pub what : what_fits s e.what ≡ true
+  pub classes : keeps_to_classes e.what ≡ true
   pub earlier : IfSome (earlier e.what) (λ m. m < n)
   pub look : is_look e.what ≡ true → (e.thread ≡ None) × (e.level ≡ 0)
 

@@ -9,7 +9,7 @@ use Rattle.std.proofs.lemmas.Bool.{and_from, and_parts, le-leb, leb-true, le-ltb
 use Rattle.std.proofs.lemmas.Fmt.{decimal_is_IsNumeral, digits_is_IsNumeral}
 use Rattle.nt_text.specs.Lines.{AllRows, IsRow, is_field, line_of, lines, row_of, rows_text}
 use Rattle.nt_text.proofs.Rows.{lines_again, row_again}
-use Rattle.nt_script.specs.Text.{Row}
+use Rattle.nt_text.specs.Lines.{Row}
 
 -- ---- numbers
 
@@ -36,7 +36,8 @@ digit_at_most c h = go (nat_le c 126) refl
     go true e = leb-true c 126 e
     go false e =
         let above : 126 < c = grind (arith, le-leb) in
-        let no : digit_value c ≡ 36 = rw (le-ltb c 48 (omega arith), le-ltb c 58 (omega arith), le-ltb c 65 (omega arith), le-ltb c 91 (omega arith), le-ltb c 97 (omega arith), le-ltb c 123 (omega arith)) refl in
+        let no : digit_value c ≡ 36 = rw (le-ltb c 48 (omega arith), le-ltb c 58 (omega arith), le-ltb c 65 (omega arith), le-ltb c 91 (omega arith),
+            le-ltb c 97 (omega arith), le-ltb c 123 (omega arith)) refl in
         absurd (omega (arith, no, h))
 
 digits_field : (ds : List ℕ) → AllDigits 16 ds → is_field ds ≡ true
@@ -44,7 +45,8 @@ digits_field [] h = refl
 digits_field (c ∷ cs) h =
     let low = digit_at_least c (nat_lt c 48) _ refl h.0 in
     let high = digit_at_most c h.0 in
-    and_from (nat_le 33 c && nat_le c 126) (is_field cs) (and_from (nat_le 33 c) (nat_le c 126) (le-leb 33 c (omega (arith, low))) (le-leb c 126 high)) (digits_field cs h.1)
+    and_from (nat_le 33 c && nat_le c 126) (is_field cs) (and_from (nat_le 33 c) (nat_le c 126) (le-leb 33 c (omega (arith, low))) (le-leb c 126 high))
+        (digits_field cs h.1)
 
 pub hexadecimal_field : (n : ℕ) → n ≤ 4294967295 → is_field (digits 16 false n) ≡ true
 hexadecimal_field n l = digits_field (digits 16 false n) (hexadecimal_number n l).0
@@ -107,7 +109,8 @@ parts_one (x ∷ a) (y ∷ b) c d l e =
     (cc, r.1)
 
 -- equal lists in two parts, where a test finds the first element of the second parts and none of the first parts
-pub split_one : {X : Type 0} (p : X → Bool) (a b : List X) (x y : X) (c d : List X) → AllByRecursion (λ z. p z ≡ false) a → AllByRecursion (λ z. p z ≡ false) b → p x ≡ true → p y ≡ true → a ++ x ∷ c ≡ b ++ y ∷ d → (a ≡ b) × (x ∷ c ≡ y ∷ d)
+pub split_one : {X : Type 0} (p : X → Bool) (a b : List X) (x y : X) (c d : List X) → AllByRecursion (λ z. p z ≡ false) a →
+    AllByRecursion (λ z. p z ≡ false) b → p x ≡ true → p y ≡ true → a ++ x ∷ c ≡ b ++ y ∷ d → (a ≡ b) × (x ∷ c ≡ y ∷ d)
 split_one p [] [] x y c d h k px py e = (refl, e)
 split_one p [] (z ∷ b) x y c d h k px py e = let same : x ≡ z = cc in let no : true ≡ false = sym px ∙ ap p same ∙ k.0 in absurd cc
 split_one p (z ∷ a) [] x y c d h k px py e = let same : z ≡ y = cc in let no : true ≡ false = sym py ∙ ap p (sym same) ∙ h.0 in absurd cc
@@ -119,7 +122,8 @@ split_one p (z ∷ a) (w ∷ b) x y c d h k px py e =
     (cc, r.1)
 
 -- lists whose images are equal
-pub map_one : {X Y : Type 0} (P : X → Type 0) (f : X → Y) → ((x y : X) → P x → P y → f x ≡ f y → x ≡ y) → (xs ys : List X) → AllByRecursion P xs → AllByRecursion P ys → map f xs ≡ map f ys → xs ≡ ys
+pub map_one : {X Y : Type 0} (P : X → Type 0) (f : X → Y) → ((x y : X) → P x → P y → f x ≡ f y → x ≡ y) → (xs ys : List X) → AllByRecursion P xs →
+    AllByRecursion P ys → map f xs ≡ map f ys → xs ≡ ys
 map_one P f one [] [] h k e = refl
 map_one P f one [] (y ∷ ys) h k e = absurd cc
 map_one P f one (x ∷ xs) [] h k e = absurd cc
@@ -130,6 +134,7 @@ map_one P f one (x ∷ xs) (y ∷ ys) h k e =
     let others : xs ≡ ys = map_one P f one xs ys h.1 k.1 more in
     cc
 
-pub all_map : {X Y : Type 0} (P : X → Type 0) (Q : Y → Type 0) (f : X → Y) → ((x : X) → P x → Q (f x)) → (xs : List X) → AllByRecursion P xs → AllByRecursion Q (map f xs)
+pub all_map : {X Y : Type 0} (P : X → Type 0) (Q : Y → Type 0) (f : X → Y) → ((x : X) → P x → Q (f x)) → (xs : List X) → AllByRecursion P xs →
+    AllByRecursion Q (map f xs)
 all_map P Q f go [] h = tt
 all_map P Q f go (x ∷ xs) h = (go x h.0, all_map P Q f go xs h.1)

@@ -18,12 +18,13 @@ use Rattle.nt_event.specs.declared.numbers.CpuNo.{CpuNo}
 use Rattle.nt_event.specs.declared.numbers.ThreadNo.{ThreadNo}
 use Rattle.nt_event.specs.Numbers.{cpu}
 use Rattle.nt_script.specs.declared.walk.Input.{Input}
-use Rattle.nt_script.specs.NameLists.{show_thread}
-use Rattle.nt_script.specs.Slots.{read_thread}
+use Rattle.nt_line.specs.NameLists.{show_thread}
+use Rattle.nt_line.specs.Fields.{read_thread}
 use Rattle.nt_script.specs.Sound.{IsSound}
-use Rattle.nt_script.specs.Text.{Row, show_cpu}
+use Rattle.nt_text.specs.Lines.{Row}
+use Rattle.nt_line.specs.Rows.{show_cpu}
 use Rattle.nt_script.proofs.Clean.{thread_field}
-use Rattle.nt_script.proofs.Found.{are_read}
+use Rattle.nt_line.proofs.Found.{are_read}
 use Rattle.nt_script.proofs.Soundness.{sound_fits}
 use Rattle.nt_log.specs.declared.schedules.Schedule.{Schedule}
 use Rattle.nt_log.specs.Schedules.{IsPlain, IsTextOf, TurnIsPlain, done_row, limit_row, rise_field, rises_row, schedule_rows, turn_row}
@@ -34,12 +35,14 @@ use Rattle.nt_log.proofs.OneRow.{decimal_one, map_one, map_rows, all_map, read_o
 pub cpu_one : (p q : CpuNo) → p.0 < 2 ^ 64 → q.0 < 2 ^ 64 → show_cpu p ≡ show_cpu q → p ≡ q
 cpu_one p q lp lq e = ap cpu (decimal_one p.0 q.0 lp lq e)
 
-pub thread_one : (input : Input) → IsSound input → (t u : ThreadNo) → t.0 < length input.script.threads → u.0 < length input.script.threads → show_thread input.names t ≡ show_thread input.names u → t ≡ u
+pub thread_one : (input : Input) → IsSound input → (t u : ThreadNo) → t.0 < length input.script.threads → u.0 < length input.script.threads →
+    show_thread input.names t ≡ show_thread input.names u → t ≡ u
 thread_one input s t u lt lu e =
     let fit = sound_fits input s in
     let are = are_read input.names fit.few fit.names in
     let len = s.threads in
-    read_one (read_thread input.names) (show_thread input.names t) (show_thread input.names u) t u (are.threads t (omega (arith, lt, len))) (are.threads u (omega (arith, lu, len))) e
+    read_one (read_thread input.names) (show_thread input.names t) (show_thread input.names u) t u (are.threads t (omega (arith, lt, len)))
+        (are.threads u (omega (arith, lu, len))) e
 
 -- ---- values that rise
 
@@ -76,7 +79,8 @@ none_below : (c w k : ℕ) (vs : List ℕ) (fs : Row) → c < k → k + length v
 none_below c w k [] fs lt few lw h e = absurd cc
 none_below c w k (v ∷ vs) fs lt few lw h e = go (v == 0) e (none_below c w (k + 1) vs fs (omega (arith, lt)) (omega (arith, few)) lw h.1)
   where
-    go : (b : Bool) → (if b then rises_row (k + 1) vs else rise_field k v ∷ rises_row (k + 1) vs) ≡ rise_field c w ∷ fs → (rises_row (k + 1) vs ≡ rise_field c w ∷ fs → c ≡ k + 1) → c ≡ k
+    go : (b : Bool) → (if b then rises_row (k + 1) vs else rise_field k v ∷ rises_row (k + 1) vs) ≡ rise_field c w ∷ fs →
+        (rises_row (k + 1) vs ≡ rise_field c w ∷ fs → c ≡ k + 1) → c ≡ k
     go true e more = let no = more e in absurd (omega (arith, no, lt))
     go false e more =
         let head : rise_field k v ≡ rise_field c w = cc in
@@ -95,13 +99,17 @@ rises_one k (v ∷ vs) (w ∷ ws) l few h g e = go (v == 0) (w == 0) refl refl e
     lv : v < 2 ^ 64
     lv = omega (arith, h.0)
 
-    go : (a b : Bool) → (v == 0) ≡ a → (w == 0) ≡ b → (if a then rises_row (k + 1) vs else rise_field k v ∷ rises_row (k + 1) vs) ≡ (if b then rises_row (k + 1) ws else rise_field k w ∷ rises_row (k + 1) ws) → (rises_row (k + 1) vs ≡ rises_row (k + 1) ws → vs ≡ ws) → v ∷ vs ≡ w ∷ ws
+    go : (a b : Bool) → (v == 0) ≡ a → (w == 0) ≡ b → (if a then rises_row (k + 1) vs else rise_field k v ∷ rises_row (k + 1) vs)
+        ≡ (if b then rises_row (k + 1) ws else rise_field k w ∷ rises_row (k + 1) ws) → (rises_row (k + 1) vs ≡ rises_row (k + 1) ws → vs ≡ ws) → v ∷ vs
+        ≡ w ∷ ws
     go true true i j r others =
         let head : v ≡ w = eqb-true v 0 i ∙ sym (eqb-true w 0 j) in
         let more : vs ≡ ws = others r in
         cc
-    go true false i j r others = let no = none_below k w (k + 1) vs (rises_row (k + 1) ws) (omega arith) (omega (arith, few)) lw h.1 r in absurd (omega (arith, no))
-    go false true i j r others = let no = none_below k v (k + 1) ws (rises_row (k + 1) vs) (omega arith) (omega (arith, few, l)) lv g.1 (sym r) in absurd (omega (arith, no))
+    go true false i j r others = let no = none_below k w (k + 1) vs (rises_row (k + 1) ws) (omega arith) (omega (arith, few)) lw h.1 r in
+        absurd (omega (arith, no))
+    go false true i j r others = let no = none_below k v (k + 1) ws (rises_row (k + 1) vs) (omega arith) (omega (arith, few, l)) lv g.1 (sym r) in
+        absurd (omega (arith, no))
     go false false i j r others =
         let first : rise_field k v ≡ rise_field k w = cc in
         let more : rises_row (k + 1) vs ≡ rises_row (k + 1) ws = cc in
@@ -117,7 +125,8 @@ rises_same r s e = ap (λ (v : List ℕ). record { value = v }) e
 first_byte : Row → ℕ
 first_byte row = get_or (get_or row 0 []) 0 0
 
-pub turn_one : (input : Input) → IsSound input → (t u : Turn) → TurnIsPlain input.script t → TurnIsPlain input.script u → turn_row input.names t ≡ turn_row input.names u → t ≡ u
+pub turn_one : (input : Input) → IsSound input → (t u : Turn) → TurnIsPlain input.script t → TurnIsPlain input.script u → turn_row input.names t
+    ≡ turn_row input.names u → t ≡ u
 unfolding first_byte
 turn_one input s (Next p) (Next q) h k e =
     let field : show_cpu p ≡ show_cpu q = cc in
@@ -147,9 +156,11 @@ rises_clean : (k : ℕ) (vs : List ℕ) → k + length vs < 2 ^ 64 → AreWords 
 rises_clean k [] few h = refl
 rises_clean k (v ∷ vs) few h = go (v == 0) (rises_clean (k + 1) vs (omega (arith, few)) h.1)
   where
-    go : (b : Bool) → list_all is_field (rises_row (k + 1) vs) ≡ true → list_all is_field (if b then rises_row (k + 1) vs else rise_field k v ∷ rises_row (k + 1) vs) ≡ true
+    go : (b : Bool) → list_all is_field (rises_row (k + 1) vs) ≡ true →
+        list_all is_field (if b then rises_row (k + 1) vs else rise_field k v ∷ rises_row (k + 1) vs) ≡ true
     go true more = more
-    go false more = and_from (is_field (rise_field k v)) (list_all is_field (rises_row (k + 1) vs)) (rise_clean k v (omega (arith, few)) (omega (arith, h.0))) more
+    go false more = and_from (is_field (rise_field k v)) (list_all is_field (rises_row (k + 1) vs))
+        (rise_clean k v (omega (arith, few)) (omega (arith, h.0))) more
 
 pub turn_clean : (input : Input) → IsSound input → (t : Turn) → TurnIsPlain input.script t → IsRow (turn_row input.names t)
 turn_clean input s (Next p) h = (refl, (decimal_field p.0 (omega (arith, h)), tt))
@@ -166,7 +177,9 @@ turn_clean input s (Switch p t) h =
 pub schedule_clean : (input : Input) → IsSound input → (s : Schedule) → IsPlain input.script s → AllRows (schedule_rows input.names s)
 schedule_clean input sound s plain =
     let most = plain.limit.1 in
-    ((refl, (decimal_field s.turns (omega (arith, most)), tt)), rows_from (map (turn_row input.names) s.list) (done_row ∷ []) (map_rows (TurnIsPlain input.script) (turn_row input.names) (turn_clean input sound) s.list plain.turns) ((refl, tt), tt))
+    ((refl, (decimal_field s.turns (omega (arith, most)), tt)),
+        rows_from (map (turn_row input.names) s.list) (done_row ∷ [])
+        (map_rows (TurnIsPlain input.script) (turn_row input.names) (turn_clean input sound) s.list plain.turns) ((refl, tt), tt))
 
 is_done : Row → Bool
 is_done row = first_byte row == 100
@@ -183,7 +196,8 @@ schedule n xs = record { turns = n; list = xs }
 schedule_same : (s r : Schedule) → s.turns ≡ r.turns → s.list ≡ r.list → s ≡ r
 schedule_same s r turns list = ap (λ (n : ℕ). schedule n s.list) turns ∙ ap (λ (xs : List Turn). schedule r.turns xs) list
 
-pub turns_one : (input : Input) → IsSound input → (s r : Schedule) → IsPlain input.script s → IsPlain input.script r → schedule_rows input.names s ≡ schedule_rows input.names r → s ≡ r
+pub turns_one : (input : Input) → IsSound input → (s r : Schedule) → IsPlain input.script s → IsPlain input.script r → schedule_rows input.names s
+    ≡ schedule_rows input.names r → s ≡ r
 unfolding is_done first_byte
 turns_one input sound s r h k e =
     let head : limit_row s.turns ≡ limit_row r.turns = cc in
@@ -191,8 +205,10 @@ turns_one input sound s r h k e =
     let more : map (turn_row input.names) s.list ++ done_row ∷ [] ≡ map (turn_row input.names) r.list ++ done_row ∷ [] = cc in
     let P = TurnIsPlain input.script in
     let row = turn_row input.names in
-    let clean : (xs : List Turn) → AllByRecursion P xs → AllByRecursion (λ z. is_done z ≡ false) (map row xs) = all_map P (λ z. is_done z ≡ false) row (no_turn_is_done input) in
-    let lists : map row s.list ≡ map row r.list = (split_one is_done (map row s.list) (map row r.list) done_row done_row [] [] (clean s.list h.turns) (clean r.list k.turns) refl refl more).0 in
+    let clean : (xs : List Turn) → AllByRecursion P xs →
+        AllByRecursion (λ z. is_done z ≡ false) (map row xs) = all_map P (λ z. is_done z ≡ false) row (no_turn_is_done input) in
+    let lists : map row s.list ≡ map row r.list = (split_one is_done (map row s.list) (map row r.list) done_row done_row [] [] (clean s.list h.turns)
+        (clean r.list k.turns) refl refl more).0 in
     let same : s.list ≡ r.list = map_one P row (turn_one input sound) s.list r.list h.turns k.turns lists in
     let most = h.limit.1 in
     let most2 = k.limit.1 in
@@ -201,4 +217,5 @@ turns_one input sound s r h k e =
 pub one_schedule : (bytes : List ℕ) (input : Input) (s r : Schedule) → IsTextOf bytes input s → IsTextOf bytes input r → s ≡ r
 one_schedule bytes input s r h k =
     turns_one input h.sound s r h.plain k.plain
-    (rows_one (schedule_rows input.names s) (schedule_rows input.names r) (schedule_clean input h.sound s h.plain) (schedule_clean input h.sound r k.plain) (sym h.text ∙ k.text))
+    (rows_one (schedule_rows input.names s) (schedule_rows input.names r) (schedule_clean input h.sound s h.plain) (schedule_clean input h.sound r k.plain)
+        (sym h.text ∙ k.text))

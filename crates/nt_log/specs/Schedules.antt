@@ -1,18 +1,21 @@
 -- The text of a schedule, as rows of fields: the turn limit, a line for each turn, and the end.
-use Rattle.std.specs.Prelude.{◌≡◌, ℕ, ◌+◌, ◌<◌, ◌≤◌, Bool, true, ◌&&◌, ◌||◌, not, nat_le, List, [], ◌∷◌, ◌++◌, length, map, codes, decimal, ◌==◌, if◌then◌else◌}
+use Rattle.std.specs.Prelude.{◌≡◌, ℕ, ◌+◌, ◌<◌, ◌≤◌, Bool, true, ◌&&◌, ◌||◌, not, List, [], ◌∷◌, ◌++◌, length, map, codes, decimal, ◌==◌, if◌then◌else◌}
 use Rattle.std.specs.List.{AllByRecursion, list_all, list_any}
 use Rattle.nt_text.specs.Lines.{rows_text}
+use Rattle.nt_event.specs.declared.limits.TheConstants.{EVENTS, TURNS}
 use Rattle.nt_event.specs.declared.events.History.{History}
 use Rattle.nt_event.specs.declared.events.Rises.{Rises}
 use Rattle.nt_event.specs.declared.events.Turn.{Turn}
 use Rattle.nt_event.specs.declared.events.Turn.TheVariants.{Next, Look, Switch}
 use Rattle.nt_event.specs.declared.scripts.Script.{Script}
+use Rattle.nt_event.specs.Classes.{is_used_class}
 use Rattle.nt_event.specs.Script.{has_thread}
 use Rattle.nt_event.specs.Step.{turn_of}
 use Rattle.nt_script.specs.declared.walk.Input.{Input}
-use Rattle.nt_script.specs.NameLists.{NameLists, show_thread}
+use Rattle.nt_line.specs.NameLists.{NameLists, show_thread}
 use Rattle.nt_script.specs.Sound.{IsSound}
-use Rattle.nt_script.specs.Text.{Row, show_cpu}
+use Rattle.nt_text.specs.Lines.{Row}
+use Rattle.nt_line.specs.Rows.{show_cpu}
 use Rattle.nt_log.specs.declared.schedules.Schedule.{Schedule}
 
 -- the schedule of a history: its limit and the turn of each event
@@ -24,19 +27,16 @@ schedule_of h = record { turns = h.turns; list = map turn_of h.events }
 -- a switch takes a thread of the script
 abbrev pub turn_fits : Script → Turn → Bool
 turn_fits s (Switch p t) = has_thread s t
-turn_fits s _ = true
+turn_fits s (Next p) = true
+turn_fits s (Look p rises) = true
 
 abbrev pub turns_fit : Script → List Turn → Bool
 turns_fit s turns = list_all (turn_fits s) turns
 
--- classes that a processor is asked in: software levels, devices, the clock, and inter-processor interrupts
-abbrev pub is_class : ℕ → Bool
-is_class c = nat_le c 11 || (c == 13) || (c == 14)
-
 -- the values, of which the first is of this class, rise in such classes only
 abbrev pub rise_in_classes : ℕ → List ℕ → Bool
 rise_in_classes class [] = true
-rise_in_classes class (v ∷ vs) = (v == 0 || is_class class) && rise_in_classes (class + 1) vs
+rise_in_classes class (v ∷ vs) = (v == 0 || is_used_class class) && rise_in_classes (class + 1) vs
 
 -- a value for each class, of which one at least rises, and only those of such classes
 pub record AreRises (r : Rises) : Type 0 where
@@ -50,12 +50,12 @@ TurnIsPlain s (Next p) = p.0 ≤ 63
 TurnIsPlain s (Look p rises) = (p.0 ≤ 63) × AreRises rises
 TurnIsPlain s (Switch p t) = (p.0 ≤ 63) × (t.0 < length s.threads)
 
--- a schedule that a text may have: each switch takes a thread of the script, processors are at most 63, looks have values in
--- classes only, and there are not too many turns. Profile.
+-- a schedule that a text may have: each switch takes a thread of the script, processors are at most 63, looks have
+-- values in classes only, and there are not too many turns. Profile.
 pub record IsPlain (s : Script) (schedule : Schedule) : Type 0 where
   pub turns : AllByRecursion (TurnIsPlain s) schedule.list
-  pub few : length schedule.list ≤ 160000
-  pub limit : (1 ≤ schedule.turns) × (schedule.turns ≤ 20000)
+  pub few : length schedule.list ≤ EVENTS
+  pub limit : (1 ≤ schedule.turns) × (schedule.turns ≤ TURNS)
 
 -- ---- its lines
 
@@ -66,7 +66,8 @@ rise_field class value = decimal class ++ 61 ∷ decimal value
 -- the values that rise, of which the first is of this class
 abbrev pub rises_row : ℕ → List ℕ → Row
 rises_row class [] = []
-rises_row class (value ∷ values) = if value == 0 then rises_row (class + 1) values else rise_field class value ∷ rises_row (class + 1) values
+rises_row class (value ∷ values) = if value == 0 then rises_row (class + 1) values
+    else rise_field class value ∷ rises_row (class + 1) values
 
 abbrev pub turn_word : Turn → List ℕ
 turn_word (Next p) = codes "next"

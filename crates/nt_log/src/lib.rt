@@ -8,15 +8,11 @@
 //! [`put_field`] and [`put_number`] add fields of a line to a text.
 #![tactic(auto)]
 
-mod fields;
 mod laws;
 mod printing;
 mod schedules;
 
-pub use fields::{put_field, put_number};
+pub use nt_text::{put_field, put_number};
 pub use laws::texts_are_schedules;
 pub use printing::{print_schedule, put_schedule};
 pub use schedules::{Schedule, turn_of, turns_of};
-
-#[cfg(test)]
-mod tests;

@@ -2,10 +2,10 @@
 ghost use Rattle.std.specs.Prelude.{◌≡◌, ◌++◌, ◌∷◌, [], true, map, IfOk, OnOk};
 ghost use Rattle.nt_text.specs.Lines.{row_text, rows_text};
 ghost use Rattle.nt_script.specs.Sound.{IsSound};
-ghost use Rattle.nt_log.specs.Fields.{spaced};
+ghost use Rattle.nt_text.specs.Lines.{spaced};
 ghost use Rattle.nt_log.specs.Schedules.{turn_fits, turns_fit, rise_field, rises_row, turn_word, turn_fields, turn_row, limit_row, schedule_rows, schedule_text};
 
-use crate::fields::{put_field, put_number};
+use nt_text::{put_field, put_number};
 use crate::schedules::Schedule;
 use itoa::Buffer;
 use nt_event::Turn;

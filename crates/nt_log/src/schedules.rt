@@ -19,7 +19,17 @@ pub fn turn_of(event: &Event) -> Turn
     match event.what {
         What::Look { rises } => Turn::Look(event.cpu, rises),
         What::Switch { thread, .. } => Turn::Switch(event.cpu, thread),
-        _ => Turn::Next(event.cpu),
+        What::Call { .. }
+        | What::Begin { .. }
+        | What::Normal { .. }
+        | What::End { .. }
+        | What::Expire { .. }
+        | What::Fire { .. }
+        | What::Clean { .. }
+        | What::Rewait { .. }
+        | What::Flush { .. }
+        | What::Gone { .. }
+        | What::Rest => Turn::Next(event.cpu),
     }
 }
 

@@ -74,7 +74,7 @@ moved f st w kept room lanes_named asks_named =
       alone = refl;
       least = (omega arith, omega arith);
       exact = λ h. (refl, refl);
-      left = omega (arith, kept.next);
+      drawable = omega (arith, kept.next);
       lists = sym (no_lists f.next (what_asks f.script st w f.lanes));
       marked = λ k q c h. marks_after f.script.cpus f.limit f.next (what_asks f.script st w f.lanes) f.marks k q c kept.marks_length (omega arith) (all_within f.script (what_asks f.script st w f.lanes) asks_named) h.0;
       value = λ h q c k. word_after f st w q c kept asks_named k.0 k.1;
@@ -112,7 +112,7 @@ pub unmoved : (f : PlainState) → IsUnmoved (view_of f) (view_of f)
 unmoved f =
     record {
       same = record { cpus = refl; alone = refl; states = refl; told = λ x p c h. refl };
-      left = refl;
+      drawable = refl;
       lists = refl;
       next = omega arith;
       never_falls = λ q c h. omega arith;

@@ -12,7 +12,7 @@ use Rattle.nt_event.specs.declared.events.What.TheVariants.{Call, Expire, Rewait
 use Rattle.nt_event.specs.declared.jobs.Stand.{Stand}
 use Rattle.nt_event.specs.declared.numbers.CpuNo.{CpuNo}
 use Rattle.nt_event.specs.declared.numbers.ThreadNo.{ThreadNo}
-use Rattle.nt_event.specs.Acting.{IsStanding, RunsThere, acted_event}
+use Rattle.nt_event.specs.Acting.{StandHolds, RunsThere, acted_event}
 use Rattle.nt_event.specs.Routines.{cpu_of}
 use Rattle.nt_plain.specs.AllStates.{AllStates}
 use Rattle.nt_plain.specs.Given.{MayMake}
@@ -29,7 +29,7 @@ module _ (x : AllStates) (st : Stand) (sound : IsSound x) where
       let named = h.named in
       record { made = record { thread = r; cpu = eq-eqb e.cpu.0 (cpu_of x.script t).0 own }; named = omega (arith, size, named) }
 
-  by_call : (f : ℕ) (c : Command) (y : Reply) → IsStanding x.script x.lanes st → KnownCall x st c y → CallMayTime x.script x.lanes.timers (acted_event st x.lanes (Call f c y)) c y
+  by_call : (f : ℕ) (c : Command) (y : Reply) → StandHolds x.script x.lanes st → KnownCall x st c y → CallMayTime x.script x.lanes.timers (acted_event st x.lanes (Call f c y)) c y
   by_call f (SetTimer t due period) y s k =
       let below : t.0 < length x.script.timers = ltb-true t.0 (length x.script.timers) k.fits in
       let size = sound.timers.timers in omega (arith, size, below)
@@ -37,7 +37,7 @@ module _ (x : AllStates) (st : Stand) (sound : IsSound x) where
       makes (acted_event st x.lanes (Call f (Delay m a units) Blocked)) st.thread refl refl s
   by_call f c y s k = tt
 
-  of_what : (w : What) → IsStanding x.script x.lanes st → Knows x st w → MayTime x.script x.lanes.timers (acted_event st x.lanes w) w
+  of_what : (w : What) → StandHolds x.script x.lanes st → Knows x st w → MayTime x.script x.lanes.timers (acted_event st x.lanes w) w
   of_what (Call f c y) s k = by_call f c y s k
   of_what (Rewait f Blocked) s k = makes (acted_event st x.lanes (Rewait f Blocked)) st.thread refl refl s
   of_what (Expire key from) s k = k

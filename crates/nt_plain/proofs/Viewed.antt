@@ -18,7 +18,7 @@ is_drawn f g e n kept room number state =
       exact = λ h. refl;
       fits = omega (arith, kept.limit);
       next = refl;
-      left = omega (arith, kept.next);
+      drawable = omega (arith, kept.next);
       lists = refl;
       value = λ p c h. refl;
       marked = λ k p c h. refl;
@@ -32,7 +32,7 @@ is_looked f p c a kept word is =
       exact = λ h. refl;
       next = (omega arith, kept.asked p c word.0 word.1);
       next_exact = λ h. refl;
-      left = refl;
+      drawable = refl;
       lists = refl;
       value = λ q d h. looked q d (q.0 == p.0) refl (d == c) refl;
       marked = λ k q d h. refl;
@@ -59,7 +59,7 @@ pub is_marked_so : (f g : PlainState) (p : CpuNo) (c n : ℕ) → IsKept f → H
 is_marked_so f g p c n kept word low state =
     rw state (record {
       next = refl;
-      left = refl;
+      drawable = refl;
       lists = refl;
       value = λ q d h. word_one f.script.cpus (n + 1) (record { cpu = p; class = c }) f.asked q d kept.asked_length within h.1 ∙ ap (λ (b : Bool). if b then max (value_in f.asked q d) (n + 1) else value_in f.asked q d) (word_asked p c q d);
       marked = λ k q d h. mark_one f.script.cpus f.limit n (record { cpu = p; class = c }) f.marks k q d kept.marks_length (omega (arith, kept.next)) within h.0 ∙ ap (λ (b : Bool). is_marked f.script.cpus f.marks k q d || ((k == n) && b)) (word_asked p c q d);

@@ -3,7 +3,7 @@ use Rattle.std.specs.Prelude.{IsTrue, Some, ◌≡◌}
 use Rattle.nt_event.specs.declared.events.What.{What}
 use Rattle.nt_event.specs.declared.jobs.Job.{Job}
 use Rattle.nt_event.specs.declared.jobs.Stand.{Stand}
-use Rattle.nt_event.specs.Acting.{IsAllowed, IsStanding}
+use Rattle.nt_event.specs.Acting.{IsAllowed, StandHolds}
 use Rattle.nt_event.specs.Jobs.{job_event}
 use Rattle.nt_floor.specs.Acts.{StandFits, job_fits}
 use Rattle.nt_plain.specs.AllStates.{AllStates}
@@ -13,7 +13,7 @@ use Rattle.nt_states.specs.Given.{TakesOwn, what_fits}
 pub record MayDo (x : AllStates) (st : Stand) (j : Job) : Type 0 where
   pub job : IsTrue (job_fits x.script j)
   pub stand : StandFits x.script st
-  pub stands : IsStanding x.script x.lanes st
+  pub stands : StandHolds x.script x.lanes st
   pub allowed : IsAllowed x.lanes st j
 
 -- the event is the one of some job that may be done; it names things of the script, and takes up a thread of its processor alone

@@ -8,10 +8,12 @@ use Rattle.nt_event.specs.declared.events.Event.{Event}
 use Rattle.nt_print.specs.Counts.{TellsMade, counted}
 use Rattle.nt_print.specs.Report.{made}
 
-pub made_by_it : (p : ℕ) (events : List Event) (k : ℕ) (e : Event) → k < length events → e ≡ get_or events k e → (e.cpu.0 == p) ≡ true → made p (take (k + 1) events) ≡ made p (take k events) + 1
+pub made_by_it : (p : ℕ) (events : List Event) (k : ℕ) (e : Event) → k < length events → e ≡ get_or events k e → (e.cpu.0 == p) ≡ true →
+    made p (take (k + 1) events) ≡ made p (take k events) + 1
 made_by_it p events k e lt is by = count_by_more_yes (λ (x : Event). x.cpu.0 == p) events k e lt (ap (λ (x : Event). x.cpu.0 == p) (sym is) ∙ by)
 
-pub made_by_another : (p : ℕ) (events : List Event) (k : ℕ) (e : Event) → k < length events → e ≡ get_or events k e → (e.cpu.0 == p) ≡ false → made p (take (k + 1) events) ≡ made p (take k events)
+pub made_by_another : (p : ℕ) (events : List Event) (k : ℕ) (e : Event) → k < length events → e ≡ get_or events k e → (e.cpu.0 == p) ≡ false →
+    made p (take (k + 1) events) ≡ made p (take k events)
 made_by_another p events k e lt is by = count_by_more_no (λ (x : Event). x.cpu.0 == p) events k e lt (ap (λ (x : Event). x.cpu.0 == p) (sym is) ∙ by)
 
 -- none made more than there are
@@ -19,10 +21,12 @@ pub made_few : (p : ℕ) (events : List Event) (k : ℕ) → k ≤ length events
 made_few p events k le = let few = count_by-le-length (λ (x : Event). x.cpu.0 == p) (take k events) in omega (arith, few, length-take-le k events le)
 
 -- the counts when the next event was counted
-count_step : (events : List Event) (k : ℕ) (e : Event) (table : List ℕ) → k < length events → e ≡ get_or events k e → TellsMade (take k events) table → TellsMade (take (k + 1) events) (counted table e.cpu.0)
+count_step : (events : List Event) (k : ℕ) (e : Event) (table : List ℕ) → k < length events → e ≡ get_or events k e → TellsMade (take k events) table →
+    TellsMade (take (k + 1) events) (counted table e.cpu.0)
 count_step events k e table lt is tells p lp = go (nat_lt e.cpu.0 (length table)) refl lp
   where
-    go : (b : Bool) → nat_lt e.cpu.0 (length table) ≡ b → p < length (if b then set table e.cpu.0 (get_or table e.cpu.0 0 + 1) else table) → get_or (if b then set table e.cpu.0 (get_or table e.cpu.0 0 + 1) else table) p 0 ≡ made p (take (k + 1) events)
+    go : (b : Bool) → nat_lt e.cpu.0 (length table) ≡ b → p < length (if b then set table e.cpu.0 (get_or table e.cpu.0 0 + 1) else table) →
+        get_or (if b then set table e.cpu.0 (get_or table e.cpu.0 0 + 1) else table) p 0 ≡ made p (take (k + 1) events)
     go true h l = mine (e.cpu.0 == p) refl
       where
         within : p < length table
@@ -32,19 +36,24 @@ count_step events k e table lt is tells p lp = go (nat_lt e.cpu.0 (length table)
         mine true by =
             let same : e.cpu.0 ≡ p = eqb-true e.cpu.0 p by in
             let here : get_or (set table p (get_or table p 0 + 1)) p 0 ≡ get_or table p 0 + 1 = get_or-set_same table p (get_or table p 0 + 1) 0 within in
-            subst (λ (m : ℕ). get_or (set table m (get_or table m 0 + 1)) p 0 ≡ get_or table p 0 + 1) (sym same) here ∙ ap (λ (m : ℕ). m + 1) (tells p within) ∙ sym (made_by_it p events k e lt is by)
-        mine false by = get_or-set_other table e.cpu.0 p (get_or table e.cpu.0 0 + 1) 0 (λ s. eqb-false e.cpu.0 p by (sym s)) ∙ tells p within ∙ sym (made_by_another p events k e lt is by)
+            subst (λ (m : ℕ). get_or (set table m (get_or table m 0 + 1)) p 0 ≡ get_or table p 0 + 1) (sym same) here ∙ ap (λ (m : ℕ). m + 1) (tells p within)
+                ∙ sym (made_by_it p events k e lt is by)
+        mine false by = get_or-set_other table e.cpu.0 p (get_or table e.cpu.0 0 + 1) 0 (λ s. eqb-false e.cpu.0 p by (sym s)) ∙ tells p within
+            ∙ sym (made_by_another p events k e lt is by)
     go false h l = other (e.cpu.0 == p) refl
       where
         other : (b : Bool) → (e.cpu.0 == p) ≡ b → get_or table p 0 ≡ made p (take (k + 1) events)
-        other true by = let same = eqb-true e.cpu.0 p by in let no : true ≡ false = sym (lt-ltb e.cpu.0 (length table) (omega (arith, same, l))) ∙ h in absurd cc
+        other true by = let same = eqb-true e.cpu.0 p by in let no : true ≡ false = sym (lt-ltb e.cpu.0 (length table) (omega (arith, same, l))) ∙ h in
+            absurd cc
         other false by = tells p l ∙ sym (made_by_another p events k e lt is by)
 
-pub counts_next : (events : List Event) (k : ℕ) (e : Event) (table new : List ℕ) → k < length events → e ≡ get_or events k e → TellsMade (take k events) table → new ≡ counted table e.cpu.0 → TellsMade (take (k + 1) events) new
+pub counts_next : (events : List Event) (k : ℕ) (e : Event) (table new : List ℕ) → k < length events → e ≡ get_or events k e →
+    TellsMade (take k events) table → new ≡ counted table e.cpu.0 → TellsMade (take (k + 1) events) new
 counts_next events k e table new lt is tells n = subst (TellsMade (take (k + 1) events)) (sym n) (count_step events k e table lt is tells)
 
 -- one more fits
-pub counts_fit : (events : List Event) (k p : ℕ) (table : List ℕ) → k < length events → length events < 2 ^ 64 → TellsMade (take k events) table → p < length table → get_or table p 0 + 1 < 2 ^ 64
+pub counts_fit : (events : List Event) (k p : ℕ) (table : List ℕ) → k < length events → length events < 2 ^ 64 → TellsMade (take k events) table →
+    p < length table → get_or table p 0 + 1 < 2 ^ 64
 counts_fit events k p table lt few tells lp =
     let told = tells p lp in
     let most = made_few p events k (omega (arith, lt)) in

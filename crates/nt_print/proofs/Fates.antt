@@ -71,7 +71,8 @@ choice_below n x y true = refl
 choice_below n x y false = refl
 
 -- an insert waits where no event named it and the last removal of its thing came before it
-pub waits_exactly : (thing : Thing) (n : ℕ) (past : List Event) → still_waits (fate_of thing n past) ≡ (not (was_named thing n past) && not (nat_lt n (last_removal thing past)))
+pub waits_exactly : (thing : Thing) (n : ℕ) (past : List Event) → still_waits (fate_of thing n past)
+    ≡ (not (was_named thing n past) && not (nat_lt n (last_removal thing past)))
 waits_exactly thing n [] = ap (λ (b : Bool). not b) (sym (le-ltb n 0 (omega arith)))
 waits_exactly thing n (e ∷ past) =
     let m : ℕ = length past in

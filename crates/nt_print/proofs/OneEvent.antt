@@ -31,24 +31,26 @@ use Rattle.nt_event.specs.declared.scripts.Script.{Script}
 use Rattle.nt_event.specs.Numbered.{refusal_name, refusal_number}
 use Rattle.nt_event.specs.Script.{command_fits, has_apc, has_cpu, has_dpc, has_thread, has_timer, where_given}
 use Rattle.nt_script.specs.declared.walk.Input.{Input}
-use Rattle.nt_script.specs.declared.words.Verb.{Verb}
-use Rattle.nt_script.specs.declared.words.Word.TheVariants as word
-use Rattle.nt_script.specs.Commands.{command_of}
-use Rattle.nt_script.specs.Fits.{CommandFits}
-use Rattle.nt_script.specs.NameLists.{NameLists, show_apc, show_dpc, show_thread, show_timer}
-use Rattle.nt_script.specs.Slots.{dash, read_apc, read_dpc, read_thread, read_timer}
-use Rattle.nt_script.specs.Sound.{HasRange, IsSound}
-use Rattle.nt_script.specs.Text.{Row, command_args, command_row, command_verb}
-use Rattle.nt_script.specs.Words.{text_of, verb_arity, word_of}
+use Rattle.nt_line.specs.declared.keywords.Verb.{Verb}
+use Rattle.nt_line.specs.declared.keywords.Word.TheVariants as word
+use Rattle.nt_line.specs.Commands.{command_of}
+use Rattle.nt_line.specs.Fits.{CommandFits}
+use Rattle.nt_line.specs.NameLists.{NameLists, show_apc, show_dpc, show_thread, show_timer}
+use Rattle.nt_line.specs.Fields.{dash, read_apc, read_dpc, read_thread, read_timer}
+use Rattle.nt_line.specs.Fits.{HasRange}
+use Rattle.nt_script.specs.Sound.{IsSound}
+use Rattle.nt_text.specs.Lines.{Row}
+use Rattle.nt_line.specs.Rows.{command_args, command_row, command_verb}
+use Rattle.nt_line.specs.Keywords.{text_of, verb_arity, word_of}
 use Rattle.nt_script.proofs.Again.{word_again}
 use Rattle.nt_script.proofs.Clean.{apc_field, command_clean, dpc_field, thread_field, timer_field}
 use Rattle.nt_script.proofs.Fit.{Fit}
-use Rattle.nt_script.proofs.Found.{are_read, is_new}
+use Rattle.nt_line.proofs.Found.{are_read, is_new}
 use Rattle.nt_script.proofs.Soundness.{Counts, command_from, sound_fits}
-use Rattle.nt_script.proofs.Spelled.{AreRead, args_count, command_again}
+use Rattle.nt_line.proofs.Spelled.{AreRead, args_count, command_again}
 use Rattle.nt_log.proofs.OneRow.{decimal_one, hexadecimal_field, hexadecimal_one, parts_one, read_one, row_from, row_to}
 use Rattle.nt_print.specs.Conditions.{BegunInRange, EventIsPlain, IsWord, ReplyInRange, StatusInRange, WhatInRange}
-use Rattle.nt_print.specs.Fitting.{begun_fits, event_fits, key_fits, what_fits}
+use Rattle.nt_event.specs.Fitting.{begun_fits, event_fits, key_fits, what_fits}
 use Rattle.nt_print.specs.Report.{begun_row, event_fields, event_row, hexadecimal, key_row, kind_of, kind_word, replied, show_processor, show_running, status_row, used, what_row}
 
 -- ---- numbers and names
@@ -68,7 +70,8 @@ pub record Known (input : Input) : Type 0 where
 pub known : (input : Input) → IsSound input → Known input
 known input s =
     let fit = sound_fits input s in
-    record { fit = fit; are = are_read input.names fit.few fit.names; counts = record { dpcs = s.dpcs; timers = s.timers; threads = s.threads; apcs = s.apcs; routines = s.routines } }
+    record { fit = fit; are = are_read input.names fit.few fit.names;
+        counts = record { dpcs = s.dpcs; timers = s.timers; threads = s.threads; apcs = s.apcs; routines = s.routines } }
 
 below : (i n m : ℕ) → n ≡ m → nat_lt i m ≡ true → i < n
 below i n m e h = let lt = ltb-true i m h in omega (arith, e, lt)
@@ -76,8 +79,10 @@ below i n m e h = let lt = ltb-true i m h in omega (arith, e, lt)
 dpc_at : (input : Input) → Known input → (d : DpcNo) → has_dpc input.script d ≡ true → d.0 < length input.names.dpcs
 dpc_at input k d h = below d.0 (length input.names.dpcs) (length input.script.dpcs) k.counts.dpcs h
 
-dpc_one : (input : Input) → Known input → (d x : DpcNo) → has_dpc input.script d ≡ true → has_dpc input.script x ≡ true → show_dpc input.names d ≡ show_dpc input.names x → d ≡ x
-dpc_one input k d x h g e = read_one (read_dpc input.names) (show_dpc input.names d) (show_dpc input.names x) d x (k.are.dpcs d (dpc_at input k d h)) (k.are.dpcs x (dpc_at input k x g)) e
+dpc_one : (input : Input) → Known input → (d x : DpcNo) → has_dpc input.script d ≡ true → has_dpc input.script x ≡ true → show_dpc input.names d
+    ≡ show_dpc input.names x → d ≡ x
+dpc_one input k d x h g e = read_one (read_dpc input.names) (show_dpc input.names d) (show_dpc input.names x) d x (k.are.dpcs d (dpc_at input k d h))
+    (k.are.dpcs x (dpc_at input k x g)) e
 
 pub dpc_clean : (input : Input) → Known input → (d : DpcNo) → has_dpc input.script d ≡ true → is_field (show_dpc input.names d) ≡ true
 dpc_clean input k d h = dpc_field input.names k.fit.names d.0 (dpc_at input k d h)
@@ -85,8 +90,10 @@ dpc_clean input k d h = dpc_field input.names k.fit.names d.0 (dpc_at input k d 
 timer_at : (input : Input) → Known input → (t : TimerNo) → has_timer input.script t ≡ true → t.0 < length input.names.timers
 timer_at input k t h = below t.0 (length input.names.timers) (length input.script.timers) k.counts.timers h
 
-timer_one : (input : Input) → Known input → (t u : TimerNo) → has_timer input.script t ≡ true → has_timer input.script u ≡ true → show_timer input.names t ≡ show_timer input.names u → t ≡ u
-timer_one input k t u h g e = read_one (read_timer input.names) (show_timer input.names t) (show_timer input.names u) t u (k.are.timers t (timer_at input k t h)) (k.are.timers u (timer_at input k u g)) e
+timer_one : (input : Input) → Known input → (t u : TimerNo) → has_timer input.script t ≡ true → has_timer input.script u ≡ true → show_timer input.names t
+    ≡ show_timer input.names u → t ≡ u
+timer_one input k t u h g e = read_one (read_timer input.names) (show_timer input.names t) (show_timer input.names u) t u
+    (k.are.timers t (timer_at input k t h)) (k.are.timers u (timer_at input k u g)) e
 
 timer_clean : (input : Input) → Known input → (t : TimerNo) → has_timer input.script t ≡ true → is_field (show_timer input.names t) ≡ true
 timer_clean input k t h = timer_field input.names k.fit.names t.0 (timer_at input k t h)
@@ -94,8 +101,10 @@ timer_clean input k t h = timer_field input.names k.fit.names t.0 (timer_at inpu
 thread_at : (input : Input) → Known input → (t : ThreadNo) → has_thread input.script t ≡ true → t.0 < length input.names.threads
 thread_at input k t h = below t.0 (length input.names.threads) (length input.script.threads) k.counts.threads h
 
-thread_one : (input : Input) → Known input → (t u : ThreadNo) → has_thread input.script t ≡ true → has_thread input.script u ≡ true → show_thread input.names t ≡ show_thread input.names u → t ≡ u
-thread_one input k t u h g e = read_one (read_thread input.names) (show_thread input.names t) (show_thread input.names u) t u (k.are.threads t (thread_at input k t h)) (k.are.threads u (thread_at input k u g)) e
+thread_one : (input : Input) → Known input → (t u : ThreadNo) → has_thread input.script t ≡ true → has_thread input.script u ≡ true → show_thread input.names t
+    ≡ show_thread input.names u → t ≡ u
+thread_one input k t u h g e = read_one (read_thread input.names) (show_thread input.names t) (show_thread input.names u) t u
+    (k.are.threads t (thread_at input k t h)) (k.are.threads u (thread_at input k u g)) e
 
 thread_clean : (input : Input) → Known input → (t : ThreadNo) → has_thread input.script t ≡ true → is_field (show_thread input.names t) ≡ true
 thread_clean input k t h = thread_field input.names k.fit.names t.0 (thread_at input k t h)
@@ -103,8 +112,10 @@ thread_clean input k t h = thread_field input.names k.fit.names t.0 (thread_at i
 apc_at : (input : Input) → Known input → (a : ApcNo) → has_apc input.script a ≡ true → a.0 < length input.names.apcs
 apc_at input k a h = below a.0 (length input.names.apcs) (length input.script.apcs) k.counts.apcs h
 
-apc_one : (input : Input) → Known input → (a b : ApcNo) → has_apc input.script a ≡ true → has_apc input.script b ≡ true → show_apc input.names a ≡ show_apc input.names b → a ≡ b
-apc_one input k a b h g e = read_one (read_apc input.names) (show_apc input.names a) (show_apc input.names b) a b (k.are.apcs a (apc_at input k a h)) (k.are.apcs b (apc_at input k b g)) e
+apc_one : (input : Input) → Known input → (a b : ApcNo) → has_apc input.script a ≡ true → has_apc input.script b ≡ true → show_apc input.names a
+    ≡ show_apc input.names b → a ≡ b
+apc_one input k a b h g e = read_one (read_apc input.names) (show_apc input.names a) (show_apc input.names b) a b (k.are.apcs a (apc_at input k a h))
+    (k.are.apcs b (apc_at input k b g)) e
 
 pub apc_clean : (input : Input) → Known input → (a : ApcNo) → has_apc input.script a ≡ true → is_field (show_apc input.names a) ≡ true
 apc_clean input k a h = apc_field input.names k.fit.names a.0 (apc_at input k a h)
@@ -183,7 +194,8 @@ verb_one : (v u : Verb) → text_of (word.Call v) ≡ text_of (word.Call u) → 
 verb_one v u e = let both : Some (word.Call v) ≡ Some (word.Call u) = sym (word_again (word.Call v)) ∙ ap word_of e ∙ word_again (word.Call u) in cc
 
 -- a command and its reply
-called_one : (input : Input) → Known input → (c d : Command) (r q : Reply) → command_fits input.script c ≡ true → command_fits input.script d ≡ true → HasRange c → HasRange d → ReplyInRange r → ReplyInRange q
+called_one : (input : Input) → Known input → (c d : Command) (r q : Reply) → command_fits input.script c ≡ true → command_fits input.script d ≡ true →
+    HasRange c → HasRange d → ReplyInRange r → ReplyInRange q
     → command_row input.names c ++ replied r ≡ command_row input.names d ++ replied q → (c ≡ d) × (r ≡ q)
 called_one input k c d r q hc hd rc rd hr hq e =
     let names = input.names in
@@ -195,16 +207,20 @@ called_one input k c d r q hc hd rc rd hr hq e =
     let args : command_args names c ≡ command_args names d = parts.0 in
     let cpus = input.script.cpus in
     let again : command_of names cpus (command_verb c) (command_args names c) ≡ command_of names cpus (command_verb d) (command_args names d) = cc in
-    let both = sym (command_again names cpus k.are k.fit.cpus.1 c (command_plain input k c hc rc)) ∙ again ∙ command_again names cpus k.are k.fit.cpus.1 d (command_plain input k d hd rd) in
+    let both = sym (command_again names cpus k.are k.fit.cpus.1 c (command_plain input k c hc rc)) ∙ again
+        ∙ command_again names cpus k.are k.fit.cpus.1 d (command_plain input k d hd rd) in
     (ok_one both, reply_one r q hr hq parts.1)
   where
     ok_one : {E : Type 0} {c d : Command} → ◌≡◌ {A = Result Command E} (Ok c) (Ok d) → c ≡ d
     ok_one e = cc
 
-called_clean : (input : Input) → Known input → (c : Command) (r : Reply) → command_fits input.script c ≡ true → HasRange c → ReplyInRange r → list_all is_field (command_row input.names c ++ replied r) ≡ true
+called_clean : (input : Input) → Known input → (c : Command) (r : Reply) → command_fits input.script c ≡ true → HasRange c → ReplyInRange r →
+    list_all is_field (command_row input.names c ++ replied r) ≡ true
 called_clean input k c r h g hr =
     list_all-append is_field (command_row input.names c) (replied r)
-    ∙ and_from (list_all is_field (command_row input.names c)) (list_all is_field (replied r)) (row_to (command_row input.names c) (command_clean input.names k.fit.names input.script.cpus k.fit.cpus.1 c (command_plain input k c h g))) (reply_clean r hr)
+    ∙ and_from (list_all is_field (command_row input.names c)) (list_all is_field (replied r))
+        (row_to (command_row input.names c) (command_clean input.names k.fit.names input.script.cpus k.fit.cpus.1 c (command_plain input k c h g)))
+        (reply_clean r hr)
 
 -- ---- what is begun
 
@@ -227,20 +243,28 @@ kind_clean : (o : Option ApcDecl) → is_field (kind_of o) ≡ true
 kind_clean None = refl
 kind_clean (Some a) = kind_field a.kind
 
-begun_same : (input : Input) → Known input → (b c : Begun) → begun_fits input.script b ≡ true → begun_fits input.script c ≡ true → BegunInRange b → BegunInRange c → begun_row input b ≡ begun_row input c → b ≡ c
+begun_same : (input : Input) → Known input → (b c : Begun) → begun_fits input.script b ≡ true → begun_fits input.script c ≡ true → BegunInRange b →
+    BegunInRange c → begun_row input b ≡ begun_row input c → b ≡ c
 unfolding initial
 begun_same input k (begun.Int l) (begun.Int m) h g rb rc e =
     let field : decimal l ≡ decimal m = cc in
     ap (λ (n : ℕ). begun.Int n) (decimal_one l m (omega (arith, rb)) (omega (arith, rc)) field)
-begun_same input k (begun.Dpc d) (begun.Dpc x) h g rb rc e = let field : show_dpc input.names d ≡ show_dpc input.names x = cc in ap (λ (d : DpcNo). begun.Dpc d) (dpc_one input k d x h g field)
-begun_same input k (begun.Threaded d) (begun.Threaded x) h g rb rc e = let field : show_dpc input.names d ≡ show_dpc input.names x = cc in ap (λ (d : DpcNo). begun.Threaded d) (dpc_one input k d x h g field)
-begun_same input k (begun.Apc a) (begun.Apc b) h g rb rc e = let field : show_apc input.names a ≡ show_apc input.names b = cc in ap (λ (a : ApcNo). begun.Apc a) (apc_one input k a b h g field)
+begun_same input k (begun.Dpc d) (begun.Dpc x) h g rb rc e = let field : show_dpc input.names d ≡ show_dpc input.names x = cc in
+    ap (λ (d : DpcNo). begun.Dpc d) (dpc_one input k d x h g field)
+begun_same input k (begun.Threaded d) (begun.Threaded x) h g rb rc e = let field : show_dpc input.names d ≡ show_dpc input.names x = cc in
+    ap (λ (d : DpcNo). begun.Threaded d) (dpc_one input k d x h g field)
+begun_same input k (begun.Apc a) (begun.Apc b) h g rb rc e = let field : show_apc input.names a ≡ show_apc input.names b = cc in
+    ap (λ (a : ApcNo). begun.Apc a) (apc_one input k a b h g field)
 begun_same input k (begun.Apc a) (begun.Int l) h g rb rc e = absurd ((kind_apart (slice_get input.script.apcs a.0)).0 (ap (λ (row : Row). initial row 0) e))
 begun_same input k (begun.Apc a) (begun.Dpc d) h g rb rc e = absurd ((kind_apart (slice_get input.script.apcs a.0)).1 (ap (λ (row : Row). initial row 0) e))
-begun_same input k (begun.Apc a) (begun.Threaded d) h g rb rc e = absurd ((kind_apart (slice_get input.script.apcs a.0)).2 (ap (λ (row : Row). initial row 0) e))
-begun_same input k (begun.Int l) (begun.Apc a) h g rb rc e = absurd ((kind_apart (slice_get input.script.apcs a.0)).0 (sym (ap (λ (row : Row). initial row 0) e)))
-begun_same input k (begun.Dpc d) (begun.Apc a) h g rb rc e = absurd ((kind_apart (slice_get input.script.apcs a.0)).1 (sym (ap (λ (row : Row). initial row 0) e)))
-begun_same input k (begun.Threaded d) (begun.Apc a) h g rb rc e = absurd ((kind_apart (slice_get input.script.apcs a.0)).2 (sym (ap (λ (row : Row). initial row 0) e)))
+begun_same input k (begun.Apc a) (begun.Threaded d) h g rb rc e = absurd
+    ((kind_apart (slice_get input.script.apcs a.0)).2 (ap (λ (row : Row). initial row 0) e))
+begun_same input k (begun.Int l) (begun.Apc a) h g rb rc e = absurd
+    ((kind_apart (slice_get input.script.apcs a.0)).0 (sym (ap (λ (row : Row). initial row 0) e)))
+begun_same input k (begun.Dpc d) (begun.Apc a) h g rb rc e = absurd
+    ((kind_apart (slice_get input.script.apcs a.0)).1 (sym (ap (λ (row : Row). initial row 0) e)))
+begun_same input k (begun.Threaded d) (begun.Apc a) h g rb rc e = absurd
+    ((kind_apart (slice_get input.script.apcs a.0)).2 (sym (ap (λ (row : Row). initial row 0) e)))
 begun_same input k b c h g rb rc e = absurd (omega (arith, ap (λ (row : Row). initial row 0) e))
 
 begun_long : (input : Input) (b : Begun) → length (begun_row input b) ≡ 2
@@ -263,10 +287,13 @@ used_clean n h = rw (word_field n h) refl
 
 -- ---- timers
 
-key_same : (input : Input) → Known input → (a b : TimerKey) → key_fits input.script a ≡ true → key_fits input.script b ≡ true → key_row input.names a ≡ key_row input.names b → a ≡ b
+key_same : (input : Input) → Known input → (a b : TimerKey) → key_fits input.script a ≡ true → key_fits input.script b ≡ true → key_row input.names a
+    ≡ key_row input.names b → a ≡ b
 unfolding initial
-key_same input k (key.Timer t) (key.Timer u) h g e = let field : show_timer input.names t ≡ show_timer input.names u = cc in ap (λ (t : TimerNo). key.Timer t) (timer_one input k t u h g field)
-key_same input k (key.Delay t) (key.Delay u) h g e = let field : show_thread input.names t ≡ show_thread input.names u = cc in ap (λ (t : ThreadNo). key.Delay t) (thread_one input k t u h g field)
+key_same input k (key.Timer t) (key.Timer u) h g e = let field : show_timer input.names t ≡ show_timer input.names u = cc in
+    ap (λ (t : TimerNo). key.Timer t) (timer_one input k t u h g field)
+key_same input k (key.Delay t) (key.Delay u) h g e = let field : show_thread input.names t ≡ show_thread input.names u = cc in
+    ap (λ (t : ThreadNo). key.Delay t) (thread_one input k t u h g field)
 key_same input k a b h g e = absurd (omega (arith, ap (λ (row : Row). initial row 0) e))
 
 key_long : (names : NameLists) (a : TimerKey) → length (key_row names a) ≡ 2
@@ -293,7 +320,8 @@ abbrev pub is_look : What → Bool
 is_look (Look rises) = true
 is_look _ = false
 
-pub what_one : (input : Input) → Known input → (w v : What) → what_fits input.script w ≡ true → what_fits input.script v ≡ true → WhatInRange w → WhatInRange v → is_look w ≡ false → is_look v ≡ false → what_row input w ≡ what_row input v → w ≡ v
+pub what_one : (input : Input) → Known input → (w v : What) → what_fits input.script w ≡ true → what_fits input.script v ≡ true → WhatInRange w →
+    WhatInRange v → is_look w ≡ false → is_look v ≡ false → what_row input w ≡ what_row input v → w ≡ v
 unfolding mark initial
 what_one input k (Call f c r) (Call g d q) hw hv ru rv l m e =
     let field : decimal f ≡ decimal g = cc in
@@ -323,7 +351,8 @@ what_one input k (Fire d r) (Fire x q) hw hv ru rv l m e =
     let same : d ≡ x = dpc_one input k d x hw hv field in
     let reply : r ≡ q = reply_one r q ru rv more in
     cc
-what_one input k (Clean c) (Clean d) hw hv ru rv l m e = let field : decimal c ≡ decimal d = cc in ap (λ (n : ℕ). Clean n) (decimal_one c d (omega (arith, ru)) (omega (arith, rv)) field)
+what_one input k (Clean c) (Clean d) hw hv ru rv l m e = let field : decimal c ≡ decimal d = cc in
+    ap (λ (n : ℕ). Clean n) (decimal_one c d (omega (arith, ru)) (omega (arith, rv)) field)
 what_one input k (Switch t a) (Switch u b) hw hv ru rv l m e =
     let field : show_thread input.names t ≡ show_thread input.names u = cc in
     let more : status_row a ≡ status_row b = cc in
@@ -342,7 +371,8 @@ what_one input k (Flush a n) (Flush b m) hw hv ru rv l j e =
     let same : a ≡ b = apc_one input k a b hw hv field in
     let from : n ≡ m = used_one n m ru rv more in
     cc
-what_one input k (Gone t) (Gone u) hw hv ru rv l m e = let field : show_thread input.names t ≡ show_thread input.names u = cc in ap (λ (t : ThreadNo). Gone t) (thread_one input k t u hw hv field)
+what_one input k (Gone t) (Gone u) hw hv ru rv l m e = let field : show_thread input.names t ≡ show_thread input.names u = cc in
+    ap (λ (t : ThreadNo). Gone t) (thread_one input k t u hw hv field)
 what_one input k Rest Rest hw hv ru rv l m e = refl
 what_one input k (Look a) v hw hv ru rv l m e = absurd cc
 what_one input k w (Look b) hw hv ru rv l m e = absurd cc
@@ -352,11 +382,13 @@ pub what_clean : (input : Input) → Known input → (w : What) → what_fits in
 what_clean input k (Call f c r) h g = rw (word_field f g.0, called_clean input k c r h g.1 g.2) refl
 what_clean input k (Look rises) h g = refl
 what_clean input k (Begin b n) h g =
-    list_all-append is_field (begun_row input b) (used n) ∙ and_from (list_all is_field (begun_row input b)) (list_all is_field (used n)) (begun_clean input k b h g.0) (used_clean n g.1)
+    list_all-append is_field (begun_row input b) (used n)
+        ∙ and_from (list_all is_field (begun_row input b)) (list_all is_field (used n)) (begun_clean input k b h g.0) (used_clean n g.1)
 what_clean input k (Normal f) h g = rw (word_field f g) refl
 what_clean input k (End f) h g = rw (word_field f g) refl
 what_clean input k (Expire a n) h g =
-    list_all-append is_field (key_row input.names a) (used n) ∙ and_from (list_all is_field (key_row input.names a)) (list_all is_field (used n)) (key_clean input k a h) (used_clean n g)
+    list_all-append is_field (key_row input.names a) (used n)
+        ∙ and_from (list_all is_field (key_row input.names a)) (list_all is_field (used n)) (key_clean input k a h) (used_clean n g)
 what_clean input k (Fire d r) h g = rw (dpc_clean input k d h, reply_clean r g) refl
 what_clean input k (Clean c) h g = rw (decimal_field c (omega (arith, g))) refl
 what_clean input k (Switch t a) h g = rw (thread_clean input k t h, status_clean a g) refl
@@ -370,13 +402,17 @@ what_clean input k Rest h g = refl
 no_dash : (f : List ℕ) → is_name f ≡ true → dash ≡ f → ⊥
 no_dash f h e = let dashed : is_name dash ≡ true = ap is_name e ∙ h in cc
 
-running_one : (input : Input) → Known input → (a b : Option ThreadNo) → where_given (has_thread input.script) a ≡ true → where_given (has_thread input.script) b ≡ true → show_running input.names a ≡ show_running input.names b → a ≡ b
+running_one : (input : Input) → Known input → (a b : Option ThreadNo) → where_given (has_thread input.script) a ≡ true →
+    where_given (has_thread input.script) b ≡ true → show_running input.names a ≡ show_running input.names b → a ≡ b
 running_one input k None None h g e = refl
 running_one input k (Some t) (Some u) h g e = ap (λ (t : ThreadNo). Some t) (thread_one input k t u h g e)
-running_one input k None (Some u) h g e = absurd (no_dash (show_thread input.names u) (is_new (input.names.dpcs ++ input.names.timers) input.names.threads u.0 k.fit.names.threads (thread_at input k u g)).0 e)
-running_one input k (Some t) None h g e = absurd (no_dash (show_thread input.names t) (is_new (input.names.dpcs ++ input.names.timers) input.names.threads t.0 k.fit.names.threads (thread_at input k t h)).0 (sym e))
+running_one input k None (Some u) h g e = absurd (no_dash (show_thread input.names u)
+    (is_new (input.names.dpcs ++ input.names.timers) input.names.threads u.0 k.fit.names.threads (thread_at input k u g)).0 e)
+running_one input k (Some t) None h g e = absurd (no_dash (show_thread input.names t)
+    (is_new (input.names.dpcs ++ input.names.timers) input.names.threads t.0 k.fit.names.threads (thread_at input k t h)).0 (sym e))
 
-running_clean : (input : Input) → Known input → (a : Option ThreadNo) → where_given (has_thread input.script) a ≡ true → is_field (show_running input.names a) ≡ true
+running_clean : (input : Input) → Known input → (a : Option ThreadNo) → where_given (has_thread input.script) a ≡ true → is_field (show_running input.names a)
+    ≡ true
 running_clean input k None h = refl
 running_clean input k (Some t) h = thread_clean input k t h
 
@@ -406,7 +442,8 @@ event_same e f c t l w =
     ap (λ (p : CpuNo). event p e.thread e.level e.what) c ∙ ap (λ (x : Option ThreadNo). event f.cpu x e.level e.what) t
     ∙ ap (λ (n : ℕ). event f.cpu f.thread n e.what) l ∙ ap (λ (v : What). event f.cpu f.thread f.level v) w
 
-pub event_one : (input : Input) → Known input → (n : ℕ) (e f : Event) → EventIsPlain input.script e → EventIsPlain input.script f → is_look e.what ≡ false → is_look f.what ≡ false → event_row input n e ≡ event_row input n f → e ≡ f
+pub event_one : (input : Input) → Known input → (n : ℕ) (e f : Event) → EventIsPlain input.script e → EventIsPlain input.script f → is_look e.what ≡ false →
+    is_look f.what ≡ false → event_row input n e ≡ event_row input n f → e ≡ f
 event_one input k n e f h g le lf r =
     let pe = event_parts input.script e h.0 in
     let pf = event_parts input.script f g.0 in
@@ -424,4 +461,5 @@ pub event_clean : (input : Input) → Known input → (n : ℕ) (e : Event) → 
 event_clean input k n e lt h =
     let p = event_parts input.script e h.0 in
     row_from (decimal n) (event_fields input e) (decimal_field n lt)
-    (rw (decimal_field e.cpu.0 (cpu_small input k e.cpu p.cpu), running_clean input k e.thread p.thread, decimal_field e.level (omega (arith, h.1.0)), what_clean input k e.what p.what h.1.1) refl)
+    (rw (decimal_field e.cpu.0 (cpu_small input k e.cpu p.cpu), running_clean input k e.thread p.thread, decimal_field e.level (omega (arith, h.1.0)),
+        what_clean input k e.what p.what h.1.1) refl)

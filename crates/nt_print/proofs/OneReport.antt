@@ -24,15 +24,15 @@ use Rattle.nt_event.specs.declared.scripts.Script.{Script}
 use Rattle.nt_event.specs.Fate.{ApcThing, DpcThing, Inserted, Thing, fate_of, inserted_by, inserted_thing, inserts, still_waits, waiting_inserts}
 use Rattle.nt_event.specs.Step.{turn_at, turn_of}
 use Rattle.nt_script.specs.declared.walk.Input.{Input}
-use Rattle.nt_script.specs.NameLists.{NameLists}
+use Rattle.nt_line.specs.NameLists.{NameLists}
 use Rattle.nt_script.specs.Sound.{IsSound}
-use Rattle.nt_script.specs.Text.{Row}
+use Rattle.nt_text.specs.Lines.{Row}
 use Rattle.nt_log.specs.declared.schedules.Schedule.{Schedule}
 use Rattle.nt_log.specs.Schedules.{IsPlain as OfTurns, TurnIsPlain, limit_row, schedule_of, schedule_rows}
 use Rattle.nt_log.proofs.OneRow.{all_map, map_rows, row_from, rows_from, rows_one, split_one}
 use Rattle.nt_log.proofs.OneSchedule.{schedule_clean, turns_one}
 use Rattle.nt_print.specs.Conditions.{EventIsPlain, IsPlain, IsReportOf, LookIsBare, WhatInRange}
-use Rattle.nt_print.specs.Fitting.{what_fits}
+use Rattle.nt_event.specs.Fitting.{what_fits}
 use Rattle.nt_print.specs.Report.{cut_of, cut_row, cut_rows, event_row, event_rows, line_rows, made, report_rows, thing_row, wait_fields, wait_row, wait_rows}
 use Rattle.nt_print.specs.Uses.{thing_fits}
 use Rattle.nt_print.proofs.OneEvent.{Fits, Known, apc_clean, dpc_clean, event_clean, event_one, event_parts, event_same, is_look, known}
@@ -55,7 +55,8 @@ look_turn p w = refl
 look_same : (e f : Event) → turn_of e ≡ turn_of f → is_look e.what ≡ is_look f.what
 look_same e f t = sym (look_turn e.cpu e.what) ∙ ap turn_look t ∙ look_turn f.cpu f.what
 
-bare_one : (e f : Event) (w v : What) → e.what ≡ w → f.what ≡ v → is_look w ≡ true → is_look v ≡ true → LookIsBare e w → LookIsBare f v → turn_at e.cpu w ≡ turn_at f.cpu v → e ≡ f
+bare_one : (e f : Event) (w v : What) → e.what ≡ w → f.what ≡ v → is_look w ≡ true → is_look v ≡ true → LookIsBare e w → LookIsBare f v → turn_at e.cpu w
+    ≡ turn_at f.cpu v → e ≡ f
 bare_one e f (Look r) (Look q) i j l m h k t =
     let cpu : e.cpu ≡ f.cpu = cc in
     let rises : r ≡ q = cc in
@@ -65,18 +66,23 @@ bare_one e f (Look r) (Look q) i j l m h k t =
 bare_one e f (Look r) v i j l m h k t = absurd cc
 bare_one e f w v i j l m h k t = absurd cc
 
-events_one : (input : Input) → Known input → (n : ℕ) (es fs : List Event) → AllByRecursion (EventIsPlain input.script) es → AllByRecursion (EventIsPlain input.script) fs → map turn_of es ≡ map turn_of fs → event_rows input n es ≡ event_rows input n fs → es ≡ fs
+events_one : (input : Input) → Known input → (n : ℕ) (es fs : List Event) → AllByRecursion (EventIsPlain input.script) es →
+    AllByRecursion (EventIsPlain input.script) fs → map turn_of es ≡ map turn_of fs → event_rows input n es ≡ event_rows input n fs → es ≡ fs
 events_one input k n [] [] h g t r = refl
 events_one input k n [] (f ∷ fs) h g t r = absurd cc
 events_one input k n (e ∷ es) [] h g t r = absurd cc
 events_one input k n (e ∷ es) (f ∷ fs) h g t r =
     let turn : turn_of e ≡ turn_of f = cc in
     let turns : map turn_of es ≡ map turn_of fs = cc in
-    let split : (if is_look e.what then [] else event_row input n e ∷ []) ++ event_rows input (n + 1) es ≡ (if is_look f.what then [] else event_row input n f ∷ []) ++ event_rows input (n + 1) fs =
-    ap (λ (a : List Row). a ++ event_rows input (n + 1) es) (sym (line_split input n e e.what)) ∙ r ∙ ap (λ (a : List Row). a ++ event_rows input (n + 1) fs) (line_split input n f f.what) in
+    let split : (if is_look e.what then [] else event_row input n e ∷ []) ++ event_rows input (n + 1) es
+        ≡ (if is_look f.what then [] else event_row input n f ∷ []) ++ event_rows input (n + 1) fs =
+    ap (λ (a : List Row). a ++ event_rows input (n + 1) es) (sym (line_split input n e e.what)) ∙ r
+        ∙ ap (λ (a : List Row). a ++ event_rows input (n + 1) fs) (line_split input n f f.what) in
     go (is_look e.what) (is_look f.what) refl refl turn split (λ rest. events_one input k (n + 1) es fs h.1 g.1 turns rest)
   where
-    go : (a b : Bool) → is_look e.what ≡ a → is_look f.what ≡ b → turn_of e ≡ turn_of f → (if a then [] else event_row input n e ∷ []) ++ event_rows input (n + 1) es ≡ (if b then [] else event_row input n f ∷ []) ++ event_rows input (n + 1) fs → (event_rows input (n + 1) es ≡ event_rows input (n + 1) fs → es ≡ fs) → e ∷ es ≡ f ∷ fs
+    go : (a b : Bool) → is_look e.what ≡ a → is_look f.what ≡ b → turn_of e ≡ turn_of f → (if a then [] else event_row input n e ∷ [])
+        ++ event_rows input (n + 1) es ≡ (if b then [] else event_row input n f ∷ []) ++ event_rows input (n + 1) fs →
+        (event_rows input (n + 1) es ≡ event_rows input (n + 1) fs → es ≡ fs) → e ∷ es ≡ f ∷ fs
     go true true i j t r more =
         let head : e ≡ f = bare_one e f e.what f.what refl refl i j h.0.1.2 g.0.1.2 t in
         let rest : es ≡ fs = more r in
@@ -90,10 +96,12 @@ events_one input k n (e ∷ es) (f ∷ fs) h g t r =
     go true false i j t r more = let same = look_same e f t in absurd cc
     go false true i j t r more = let same = look_same e f t in absurd cc
 
-events_clean : (input : Input) → Known input → (n : ℕ) (es : List Event) → n + length es < 2 ^ 64 → AllByRecursion (EventIsPlain input.script) es → AllRows (event_rows input n es)
+events_clean : (input : Input) → Known input → (n : ℕ) (es : List Event) → n + length es < 2 ^ 64 → AllByRecursion (EventIsPlain input.script) es →
+    AllRows (event_rows input n es)
 events_clean input k n [] few h = tt
 events_clean input k n (e ∷ es) few h =
-    rows_from (line_rows input n e e.what) (event_rows input (n + 1) es) (subst AllRows (sym (line_split input n e e.what)) (go (is_look e.what))) (events_clean input k (n + 1) es (omega (arith, few)) h.1)
+    rows_from (line_rows input n e e.what) (event_rows input (n + 1) es) (subst AllRows (sym (line_split input n e e.what)) (go (is_look e.what)))
+        (events_clean input k (n + 1) es (omega (arith, few)) h.1)
   where
     go : (b : Bool) → AllRows (if b then [] else event_row input n e ∷ [])
     go true = tt
@@ -128,9 +136,11 @@ number_is_numbered input n e lt = first_digit (decimal n) (digits_decimal own n 
 events_numbered : (input : Input) (n : ℕ) (es : List Event) → n + length es < 2 ^ 64 → AllByRecursion (λ z. is_numbered z ≡ true) (event_rows input n es)
 events_numbered input n [] few = tt
 events_numbered input n (e ∷ es) few =
-    subst (λ (a : List Row). AllByRecursion (λ z. is_numbered z ≡ true) (a ++ event_rows input (n + 1) es)) (sym (line_split input n e e.what)) (go (is_look e.what) (events_numbered input (n + 1) es (omega (arith, few))))
+    subst (λ (a : List Row). AllByRecursion (λ z. is_numbered z ≡ true) (a ++ event_rows input (n + 1) es)) (sym (line_split input n e e.what))
+        (go (is_look e.what) (events_numbered input (n + 1) es (omega (arith, few))))
   where
-    go : (b : Bool) → AllByRecursion (λ z. is_numbered z ≡ true) (event_rows input (n + 1) es) → AllByRecursion (λ z. is_numbered z ≡ true) ((if b then [] else event_row input n e ∷ []) ++ event_rows input (n + 1) es)
+    go : (b : Bool) → AllByRecursion (λ z. is_numbered z ≡ true) (event_rows input (n + 1) es) →
+        AllByRecursion (λ z. is_numbered z ≡ true) ((if b then [] else event_row input n e ∷ []) ++ event_rows input (n + 1) es)
     go true h = h
     go false h = (number_is_numbered input n e (omega (arith, few)), h)
 
@@ -215,7 +225,8 @@ inserted_fits s w h = tt
 inserts_plain : (s : Script) (past : List Event) → length past < 2 ^ 64 → AllByRecursion (EventIsPlain s) past → AllByRecursion (WaitIsPlain s) (inserts past)
 inserts_plain s [] few h = tt
 inserts_plain s (e ∷ past) few h =
-    all_append (WaitIsPlain s) (inserts past) (inserted_by (length past) (inserted_thing e.what)) (inserts_plain s past (omega (arith, few)) h.1) (go (inserted_thing e.what) (inserted_fits s e.what (event_parts s e h.0.0).what))
+    all_append (WaitIsPlain s) (inserts past) (inserted_by (length past) (inserted_thing e.what)) (inserts_plain s past (omega (arith, few)) h.1)
+        (go (inserted_thing e.what) (inserted_fits s e.what (event_parts s e h.0.0).what))
   where
     go : (o : Option Thing) → IfSome o (λ x. thing_fits s x ≡ true) → AllByRecursion (WaitIsPlain s) (inserted_by (length past) o)
     go None h = tt
@@ -228,9 +239,11 @@ wait_clean input k i h = row_from (codes "waits") (wait_fields input.names i) re
     go (DpcThing d) h = rw (dpc_clean input k d h) refl
     go (ApcThing a) h = rw (apc_clean input k a h) refl
 
-waits_clean : (input : Input) → Known input → (past : List Event) → length past < 2 ^ 64 → AllByRecursion (EventIsPlain input.script) past → AllRows (wait_rows input.names past)
+waits_clean : (input : Input) → Known input → (past : List Event) → length past < 2 ^ 64 → AllByRecursion (EventIsPlain input.script) past →
+    AllRows (wait_rows input.names past)
 waits_clean input k past few h =
-    map_rows (WaitIsPlain input.script) (wait_row input.names) (wait_clean input k) (waiting_inserts past) (all_filter (WaitIsPlain input.script) (λ x. still_waits (fate_of x.thing x.number past)) (inserts past) (inserts_plain input.script past few h))
+    map_rows (WaitIsPlain input.script) (wait_row input.names) (wait_clean input k) (waiting_inserts past)
+        (all_filter (WaitIsPlain input.script) (λ x. still_waits (fate_of x.thing x.number past)) (inserts past) (inserts_plain input.script past few h))
 
 -- ---- the schedule
 
@@ -266,8 +279,11 @@ report_clean input sound h p =
     let few = p.few in
     let cpus = k.fit.cpus.1 in (
       (refl, tt),
-      rows_from (event_rows input 0 h.events) (cut_rows h 0 input.script.cpus ++ (wait_rows input.names (reverse h.events) ++ schedule_rows input.names (schedule_of h))) (events_clean input k 0 h.events (omega (arith, few)) p.events)
-          (rows_from (cut_rows h 0 input.script.cpus) (wait_rows input.names (reverse h.events) ++ schedule_rows input.names (schedule_of h)) (cuts_clean h 0 input.script.cpus (omega (arith, cpus)))
+      rows_from (event_rows input 0 h.events) (cut_rows h 0 input.script.cpus
+          ++ (wait_rows input.names (reverse h.events) ++ schedule_rows input.names (schedule_of h)))
+          (events_clean input k 0 h.events (omega (arith, few)) p.events)
+          (rows_from (cut_rows h 0 input.script.cpus) (wait_rows input.names (reverse h.events) ++ schedule_rows input.names (schedule_of h))
+              (cuts_clean h 0 input.script.cpus (omega (arith, cpus)))
           (rows_from (wait_rows input.names (reverse h.events)) (schedule_rows input.names (schedule_of h))
           (waits_clean input k (reverse h.events) (omega (arith, few, length-reverse h.events)) (all_reverse (EventIsPlain input.script) h.events p.events))
           (schedule_clean input sound (schedule_of h) (schedule_plain input k h p)))),
@@ -278,26 +294,32 @@ front : Input → History → List Row
 front input h = event_rows input 0 h.events ++ (cut_rows h 0 input.script.cpus ++ wait_rows input.names (reverse h.events))
 
 others_other : (input : Input) (h : History) → AllByRecursion IsOther (cut_rows h 0 input.script.cpus ++ wait_rows input.names (reverse h.events))
-others_other input h = all_append IsOther (cut_rows h 0 input.script.cpus) (wait_rows input.names (reverse h.events)) (cuts_other h 0 input.script.cpus) (waits_other input.names (waiting_inserts (reverse h.events)))
+others_other input h = all_append IsOther (cut_rows h 0 input.script.cpus) (wait_rows input.names (reverse h.events)) (cuts_other h 0 input.script.cpus)
+    (waits_other input.names (waiting_inserts (reverse h.events)))
 
 front_before : (input : Input) (h : History) → length h.events ≤ 160000 → AllByRecursion (λ z. is_schedule z ≡ false) (front input h)
 unfolding front
 front_before input h few =
     all_append (λ z. is_schedule z ≡ false) (event_rows input 0 h.events) _
-    (all_to (λ z. is_numbered z ≡ true) (λ z. is_schedule z ≡ false) no_schedule (event_rows input 0 h.events) (events_numbered input 0 h.events (omega (arith, few))))
+    (all_to (λ z. is_numbered z ≡ true) (λ z. is_schedule z ≡ false) no_schedule (event_rows input 0 h.events)
+        (events_numbered input 0 h.events (omega (arith, few))))
     (all_to IsOther (λ z. is_schedule z ≡ false) (λ z o. o.1) _ (others_other input h))
 
 front_events : (input : Input) (h : History) → length h.events ≤ 160000 → filter is_numbered (front input h) ≡ event_rows input 0 h.events
 unfolding front
 front_events input h few =
     filter-append is_numbered (event_rows input 0 h.events) (cut_rows h 0 input.script.cpus ++ wait_rows input.names (reverse h.events))
-    ∙ ap (λ (a : List Row). a ++ filter is_numbered (cut_rows h 0 input.script.cpus ++ wait_rows input.names (reverse h.events))) (filter_all is_numbered (event_rows input 0 h.events) (events_numbered input 0 h.events (omega (arith, few))))
-    ∙ ap (λ (a : List Row). event_rows input 0 h.events ++ a) (filter_none is_numbered _ (all_to IsOther (λ z. is_numbered z ≡ false) (λ z o. o.0) _ (others_other input h)))
+    ∙ ap (λ (a : List Row). a ++ filter is_numbered (cut_rows h 0 input.script.cpus ++ wait_rows input.names (reverse h.events)))
+        (filter_all is_numbered (event_rows input 0 h.events) (events_numbered input 0 h.events (omega (arith, few))))
+    ∙ ap (λ (a : List Row). event_rows input 0 h.events ++ a)
+        (filter_none is_numbered _ (all_to IsOther (λ z. is_numbered z ≡ false) (λ z o. o.0) _ (others_other input h)))
     ∙ append-nil (event_rows input 0 h.events)
 
 report_front : (input : Input) (h : History) → report_rows input h ≡ (codes "report" ∷ []) ∷ (front input h ++ schedule_rows input.names (schedule_of h))
 unfolding front
-report_front input h = ap (λ (rows : List Row). (codes "report" ∷ []) ∷ rows) (regroup (event_rows input 0 h.events) (cut_rows h 0 input.script.cpus) (wait_rows input.names (reverse h.events)) (schedule_rows input.names (schedule_of h)))
+report_front input h = ap (λ (rows : List Row). (codes "report" ∷ []) ∷ rows)
+    (regroup (event_rows input 0 h.events) (cut_rows h 0 input.script.cpus) (wait_rows input.names (reverse h.events))
+    (schedule_rows input.names (schedule_of h)))
 
 limit_is_schedule : (n : ℕ) → is_schedule (limit_row n) ≡ true
 unfolding is_schedule initial
@@ -309,14 +331,19 @@ history n es = record { turns = n; events = es }
 history_same : (h g : History) → h.turns ≡ g.turns → h.events ≡ g.events → h ≡ g
 history_same h g turns events = ap (λ (n : ℕ). history n h.events) turns ∙ ap (λ (es : List Event). history g.turns es) events
 
-rows_same : (input : Input) → IsSound input → (h g : History) → IsPlain input.script h → IsPlain input.script g → report_rows input h ≡ report_rows input g → h ≡ g
+rows_same : (input : Input) → IsSound input → (h g : History) → IsPlain input.script h → IsPlain input.script g → report_rows input h ≡ report_rows input g → h
+    ≡ g
 rows_same input sound h g p q e =
     let k = known input sound in
-    let cut : (codes "report" ∷ []) ∷ (front input h ++ schedule_rows input.names (schedule_of h)) ≡ (codes "report" ∷ []) ∷ (front input g ++ schedule_rows input.names (schedule_of g)) = sym (report_front input h) ∙ e ∙ report_front input g in
+    let cut : (codes "report" ∷ []) ∷ (front input h ++ schedule_rows input.names (schedule_of h))
+        ≡ (codes "report" ∷ []) ∷ (front input g ++ schedule_rows input.names (schedule_of g)) = sym (report_front input h) ∙ e ∙ report_front input g in
     let both = tails _ _ cut in
-    let parts = split_one is_schedule (front input h) (front input g) (limit_row h.turns) (limit_row g.turns) _ _ (front_before input h p.few) (front_before input g q.few) (limit_is_schedule h.turns) (limit_is_schedule g.turns) both in
-    let schedules : schedule_of h ≡ schedule_of g = turns_one input sound (schedule_of h) (schedule_of g) (schedule_plain input k h p) (schedule_plain input k g q) parts.1 in
-    let rows : event_rows input 0 h.events ≡ event_rows input 0 g.events = sym (front_events input h p.few) ∙ ap (filter is_numbered) parts.0 ∙ front_events input g q.few in
+    let parts = split_one is_schedule (front input h) (front input g) (limit_row h.turns) (limit_row g.turns) _ _ (front_before input h p.few)
+        (front_before input g q.few) (limit_is_schedule h.turns) (limit_is_schedule g.turns) both in
+    let schedules : schedule_of h ≡ schedule_of g = turns_one input sound (schedule_of h) (schedule_of g) (schedule_plain input k h p)
+        (schedule_plain input k g q) parts.1 in
+    let rows : event_rows input 0 h.events ≡ event_rows input 0 g.events = sym (front_events input h p.few) ∙ ap (filter is_numbered) parts.0
+        ∙ front_events input g q.few in
     let turns : h.turns ≡ g.turns = ap (λ (s : Schedule). s.turns) schedules in
     let list : map turn_of h.events ≡ map turn_of g.events = ap (λ (s : Schedule). s.list) schedules in
     history_same h g turns (events_one input k 0 h.events g.events p.events q.events list rows)

@@ -11,7 +11,7 @@ use Rattle.nt_event.specs.declared.scripts.Script.{Script}
 use Rattle.nt_event.specs.Script.{has_cpu, has_thread, where_given}
 use Rattle.nt_event.specs.Step.{turn_at, turn_of}
 use Rattle.nt_log.specs.Schedules.{turn_fits, turns_fit}
-use Rattle.nt_print.specs.Fitting.{event_fits, events_fit, what_fits}
+use Rattle.nt_event.specs.Fitting.{event_fits, events_fit, what_fits}
 
 turn_fit : (s : Script) (p : CpuNo) (w : What) → what_fits s w ≡ true → turn_fits s (turn_at p w) ≡ true
 turn_fit s p (Switch t status) h = h

@@ -6,9 +6,9 @@ use Rattle.std.proofs.lemmas.List.Elements.{filter-append}
 use Rattle.nt_text.specs.Lines.{rows_text}
 use Rattle.nt_event.specs.declared.events.Event.{Event}
 use Rattle.nt_event.specs.Fate.{Inserted, Thing, fate_of, inserted_by, inserted_thing, inserts, still_waits}
-use Rattle.nt_script.specs.NameLists.{NameLists}
-use Rattle.nt_script.specs.Text.{Row}
-use Rattle.nt_log.proofs.RowTexts.{parts_put}
+use Rattle.nt_line.specs.NameLists.{NameLists}
+use Rattle.nt_text.specs.Lines.{Row}
+use Rattle.nt_text.proofs.RowTexts.{parts_put}
 use Rattle.nt_print.specs.Report.{wait_row}
 use Rattle.nt_print.specs.Uses.{inserted_at, waits_at}
 use Rattle.nt_print.proofs.Tables.{inserted_read, past_length, past_more}
@@ -29,11 +29,13 @@ kept all n (Some thing) = go (still_waits (fate_of thing n all))
     go false = refl
 
 pub waits_more : (names : NameLists) (events all : List Event) (k : ℕ) (e : Event) → k < length events → e ≡ get_or events k e
-    → waits_so_far names all (reverse (take k events)) ++ map (wait_row names) (inserted_by k (waits_at all k (inserted_at events k))) ≡ waits_so_far names all (reverse (take (k + 1) events))
+    → waits_so_far names all (reverse (take k events)) ++ map (wait_row names) (inserted_by k (waits_at all k (inserted_at events k)))
+        ≡ waits_so_far names all (reverse (take (k + 1) events))
 waits_more names events all k e lt is =
     let past : List Event = reverse (take k events) in
     let here : List Inserted = inserted_by k (inserted_thing e.what) in
-    let number : inserts (e ∷ past) ≡ inserts past ++ here = ap (λ (m : ℕ). inserts past ++ inserted_by m (inserted_thing e.what)) (past_length events k (omega (arith, lt))) in
+    let number : inserts (e ∷ past) ≡ inserts past ++ here = ap (λ (m : ℕ). inserts past ++ inserted_by m (inserted_thing e.what))
+        (past_length events k (omega (arith, lt))) in
     let split : waits_so_far names all (e ∷ past) ≡ waits_so_far names all past ++ map (wait_row names) (filter (waits_in all) here) =
     ap (λ (xs : List Inserted). map (wait_row names) (filter (waits_in all) xs)) number
     ∙ ap (map (wait_row names)) (filter-append (waits_in all) (inserts past) here)
@@ -48,9 +50,12 @@ element_at [] k lt = absurd (omega (arith, lt))
 element_at (x ∷ xs) zero lt = (x, refl)
 element_at (x ∷ xs) (suc k) lt = element_at xs k (omega (arith, lt))
 
-pub waits_put : (names : NameLists) (events : List Event) (k : ℕ) (old now next : List ℕ) → k < length events → now ≡ old ++ rows_text (waits_so_far names (reverse events) (reverse (take k events)))
-    → next ≡ now ++ rows_text (map (wait_row names) (inserted_by k (waits_at (reverse events) k (inserted_at events k)))) → next ≡ old ++ rows_text (waits_so_far names (reverse events) (reverse (take (k + 1) events)))
+pub waits_put : (names : NameLists) (events : List Event) (k : ℕ) (old now next : List ℕ) → k < length events → now ≡ old
+    ++ rows_text (waits_so_far names (reverse events) (reverse (take k events)))
+    → next ≡ now ++ rows_text (map (wait_row names) (inserted_by k (waits_at (reverse events) k (inserted_at events k)))) → next ≡ old
+        ++ rows_text (waits_so_far names (reverse events) (reverse (take (k + 1) events)))
 waits_put names events k old now next lt before line =
     let e = element_at events k lt in
-    parts_put old now next (waits_so_far names (reverse events) (reverse (take k events))) (map (wait_row names) (inserted_by k (waits_at (reverse events) k (inserted_at events k)))) before line
+    parts_put old now next (waits_so_far names (reverse events) (reverse (take k events)))
+        (map (wait_row names) (inserted_by k (waits_at (reverse events) k (inserted_at events k)))) before line
     ∙ ap (λ (rows : List Row). old ++ rows_text rows) (waits_more names events (reverse events) k e.0 lt e.1)

@@ -1,19 +1,21 @@
 -- Which histories a report may have.
 use Rattle.std.specs.Prelude.{◌≡◌, ℕ, ◌≤◌, true, List, length, None, Option, Some}
 use Rattle.std.specs.List.{AllByRecursion}
+use Rattle.nt_event.specs.declared.limits.TheConstants.{EVENTS, TURNS}
 use Rattle.nt_event.specs.declared.commands.Reply.{Reply}
-use Rattle.nt_event.specs.declared.commands.Reply.TheVariants.{Status}
+use Rattle.nt_event.specs.declared.commands.Reply.TheVariants.{Blocked, Done, No, Refused, Status, Yes}
 use Rattle.nt_event.specs.declared.events.Begun.{Begun}
-use Rattle.nt_event.specs.declared.events.Begun.TheVariants.{Int}
+use Rattle.nt_event.specs.declared.events.Begun.TheVariants.{Apc, Dpc, Int, Threaded}
 use Rattle.nt_event.specs.declared.events.Event.{Event}
 use Rattle.nt_event.specs.declared.events.History.{History}
 use Rattle.nt_event.specs.declared.events.What.{What}
-use Rattle.nt_event.specs.declared.events.What.TheVariants.{Begin, Call, Clean, End, Expire, Fire, Flush, Look, Normal, Rewait, Switch}
+use Rattle.nt_event.specs.declared.events.What.TheVariants.{Begin, Call, Clean, End, Expire, Fire, Flush, Gone, Look, Normal, Rest, Rewait, Switch}
 use Rattle.nt_event.specs.declared.scripts.Script.{Script}
 use Rattle.nt_log.specs.Schedules.{AreRises}
 use Rattle.nt_script.specs.declared.walk.Input.{Input}
-use Rattle.nt_script.specs.Sound.{HasRange, IsSound}
-use Rattle.nt_print.specs.Fitting.{event_fits}
+use Rattle.nt_line.specs.Fits.{HasRange}
+use Rattle.nt_script.specs.Sound.{IsSound}
+use Rattle.nt_event.specs.Fitting.{event_fits}
 use Rattle.nt_print.specs.Report.{report_text}
 
 -- a number of 32 bits
@@ -22,11 +24,17 @@ IsWord n = n ≤ 4294967295
 
 abbrev pub ReplyInRange : Reply → Type 0
 ReplyInRange (Status x) = IsWord x
-ReplyInRange _ = Unit {0}
+ReplyInRange Done = Unit {0}
+ReplyInRange Yes = Unit {0}
+ReplyInRange No = Unit {0}
+ReplyInRange Blocked = Unit {0}
+ReplyInRange (Refused r) = Unit {0}
 
 abbrev pub BegunInRange : Begun → Type 0
 BegunInRange (Int level) = level ≤ 15
-BegunInRange _ = Unit {0}
+BegunInRange (Dpc d) = Unit {0}
+BegunInRange (Threaded d) = Unit {0}
+BegunInRange (Apc a) = Unit {0}
 
 abbrev pub StatusInRange : Option ℕ → Type 0
 StatusInRange None = Unit {0}
@@ -45,12 +53,24 @@ WhatInRange (Clean class) = class ≤ 2
 WhatInRange (Switch t status) = StatusInRange status
 WhatInRange (Rewait frame reply) = IsWord frame × ReplyInRange reply
 WhatInRange (Flush a from) = IsWord from
-WhatInRange _ = Unit {0}
+WhatInRange (Gone t) = Unit {0}
+WhatInRange Rest = Unit {0}
 
 -- a look names no thread and has level 0
 abbrev pub LookIsBare : Event → What → Type 0
 LookIsBare e (Look rises) = (e.thread ≡ None) × (e.level ≡ 0)
-LookIsBare e _ = Unit {0}
+LookIsBare e (Call frame c reply) = Unit {0}
+LookIsBare e (Begin begun from) = Unit {0}
+LookIsBare e (Normal frame) = Unit {0}
+LookIsBare e (End frame) = Unit {0}
+LookIsBare e (Expire key from) = Unit {0}
+LookIsBare e (Fire d reply) = Unit {0}
+LookIsBare e (Clean class) = Unit {0}
+LookIsBare e (Switch t status) = Unit {0}
+LookIsBare e (Rewait frame reply) = Unit {0}
+LookIsBare e (Flush a from) = Unit {0}
+LookIsBare e (Gone t) = Unit {0}
+LookIsBare e Rest = Unit {0}
 
 abbrev pub EventInRange : Event → Type 0
 EventInRange e = (e.level ≤ 15) × WhatInRange e.what × LookIsBare e e.what
@@ -62,8 +82,8 @@ EventIsPlain s e = (event_fits s e ≡ true) × EventInRange e
 -- a history that a report may have, with not too many events. Profile.
 pub record IsPlain (s : Script) (h : History) : Type 0 where
   pub events : AllByRecursion (EventIsPlain s) h.events
-  pub few : length h.events ≤ 160000
-  pub limit : (1 ≤ h.turns) × (h.turns ≤ 20000)
+  pub few : length h.events ≤ EVENTS
+  pub limit : (1 ≤ h.turns) × (h.turns ≤ TURNS)
 
 -- the bytes are the report of the history, whose script is that of a sound input
 pub record IsReportOf (bytes : List ℕ) (input : Input) (h : History) : Type 0 where

@@ -1,4 +1,3 @@
-pub mod Fitting
 pub mod Report
 pub mod Conditions
 pub mod Counts

@@ -1,5 +1,5 @@
--- The text of a report, as rows of fields: a line for each event but a look, then who was cut, what still waits, and the
--- schedule.
+-- The text of a report, as rows of fields: a line for each event but a look, then who was cut, what still waits, and
+-- the schedule.
 use Rattle.std.specs.Prelude.{ℕ, zero, suc, ◌+◌, false, List, [], ◌∷◌, ◌++◌, count_by, map, reverse, Option, Some, None, codes, decimal, ◌==◌, if◌then◌else◌}
 use Rattle.std.specs.Fmt.{digits}
 use Rattle.std.specs.List.{slice_get}
@@ -20,9 +20,10 @@ use Rattle.nt_event.specs.declared.events.History.{History}
 use Rattle.nt_event.specs.declared.events.What.{What}
 use Rattle.nt_event.specs.declared.events.What.TheVariants.{Call, Look, Begin, Normal, End, Expire, Fire, Clean, Switch, Rewait, Flush, Gone, Rest}
 use Rattle.nt_script.specs.declared.walk.Input.{Input}
-use Rattle.nt_script.specs.NameLists.{NameLists, show_dpc, show_timer, show_thread, show_apc}
-use Rattle.nt_script.specs.Text.{Row, command_row}
-use Rattle.nt_script.specs.Slots.{dash}
+use Rattle.nt_line.specs.NameLists.{NameLists, show_dpc, show_timer, show_thread, show_apc}
+use Rattle.nt_text.specs.Lines.{Row}
+use Rattle.nt_line.specs.Rows.{command_row}
+use Rattle.nt_line.specs.Fields.{dash}
 use Rattle.nt_event.specs.Fate.{ApcThing, DpcThing, Inserted, Thing, waiting_inserts}
 use Rattle.nt_log.specs.Schedules.{schedule_of, schedule_rows}
 
@@ -97,7 +98,8 @@ what_row input Rest = codes "rest" ∷ []
 
 -- what stands behind an event's number
 abbrev pub event_fields : Input → Event → Row
-event_fields input e = show_processor e.cpu.0 ∷ show_running input.names e.thread ∷ decimal e.level ∷ what_row input e.what
+event_fields input e = show_processor e.cpu.0 ∷ show_running input.names e.thread ∷ decimal e.level ∷ what_row input
+    e.what
 
 abbrev pub event_row : Input → ℕ → Event → Row
 event_row input n e = decimal n ∷ event_fields input e
@@ -105,7 +107,18 @@ event_row input n e = decimal n ∷ event_fields input e
 -- the line of an event; a look has none
 abbrev pub line_rows : Input → ℕ → Event → What → List Row
 line_rows input n e (Look rises) = []
-line_rows input n e _ = event_row input n e ∷ []
+line_rows input n e (Call frame c reply) = event_row input n e ∷ []
+line_rows input n e (Begin begun from) = event_row input n e ∷ []
+line_rows input n e (Normal frame) = event_row input n e ∷ []
+line_rows input n e (End frame) = event_row input n e ∷ []
+line_rows input n e (Expire key from) = event_row input n e ∷ []
+line_rows input n e (Fire d reply) = event_row input n e ∷ []
+line_rows input n e (Clean class) = event_row input n e ∷ []
+line_rows input n e (Switch t status) = event_row input n e ∷ []
+line_rows input n e (Rewait frame reply) = event_row input n e ∷ []
+line_rows input n e (Flush a from) = event_row input n e ∷ []
+line_rows input n e (Gone t) = event_row input n e ∷ []
+line_rows input n e Rest = event_row input n e ∷ []
 
 -- the lines of the events, of which the first has this number
 abbrev pub event_rows : Input → ℕ → List Event → List Row
@@ -151,7 +164,9 @@ wait_rows names past = map (wait_row names) (waiting_inserts past)
 
 abbrev pub report_rows : Input → History → List Row
 report_rows input h =
-    (codes "report" ∷ []) ∷ (event_rows input 0 h.events ++ (cut_rows h 0 input.script.cpus ++ (wait_rows input.names (reverse h.events) ++ schedule_rows input.names (schedule_of h))))
+    (codes "report" ∷ []) ∷ (event_rows input 0 h.events
+        ++ (cut_rows h 0 input.script.cpus
+        ++ (wait_rows input.names (reverse h.events) ++ schedule_rows input.names (schedule_of h))))
 
 -- the one text of a history
 abbrev pub report_text : Input → History → List ℕ

@@ -1,11 +1,12 @@
--- What uses up inserts, as the printer keeps it: which inserts a Begin or Flush named, and where each object was removed last.
+-- What uses up inserts, as the printer keeps it: which inserts a Begin or Flush named, and where each object was
+-- removed last.
 use Rattle.std.specs.Prelude.{◌≡◌, ℕ, ◌<◌, Bool, true, false, ◌&&◌, ◌||◌, ◌==◌, not, nat_lt, List, [], ◌∷◌, length, map, get_or, slice_set, reverse, Option, Some, None, if◌then◌else◌}
 use Rattle.nt_event.specs.declared.commands.Command.TheVariants.{RemoveApc, Unqueue}
 use Rattle.nt_event.specs.declared.commands.Reply.TheVariants.{Yes}
-use Rattle.nt_event.specs.declared.events.Begun.TheVariants.{Apc, Dpc, Threaded}
+use Rattle.nt_event.specs.declared.events.Begun.TheVariants.{Apc, Dpc, Int, Threaded}
 use Rattle.nt_event.specs.declared.events.Event.{Event}
 use Rattle.nt_event.specs.declared.events.What.{What}
-use Rattle.nt_event.specs.declared.events.What.TheVariants.{Begin, Call, Flush}
+use Rattle.nt_event.specs.declared.events.What.TheVariants.{Begin, Call, Clean, End, Expire, Fire, Flush, Gone, Look, Normal, Rest, Rewait, Switch}
 use Rattle.nt_event.specs.declared.scripts.Script.{Script}
 use Rattle.nt_event.specs.Fate.{ApcThing, DpcThing, Inserted, Thing, fate_of, inserted_thing, still_waits}
 use Rattle.nt_event.specs.Script.{has_apc, has_dpc}
@@ -45,7 +46,18 @@ named_by (Begin (Dpc x) from) = Some (record { number = from; thing = DpcThing x
 named_by (Begin (Threaded x) from) = Some (record { number = from; thing = DpcThing x })
 named_by (Begin (Apc x) from) = Some (record { number = from; thing = ApcThing x })
 named_by (Flush x from) = Some (record { number = from; thing = ApcThing x })
-named_by _ = None
+named_by (Call frame c reply) = None
+named_by (Look rises) = None
+named_by (Begin (Int level) from) = None
+named_by (Normal frame) = None
+named_by (End frame) = None
+named_by (Expire key from) = None
+named_by (Fire d reply) = None
+named_by (Clean class) = None
+named_by (Switch t status) = None
+named_by (Rewait frame reply) = None
+named_by (Gone t) = None
+named_by Rest = None
 
 -- what is removed with reply yes
 abbrev pub removed_by : What → Option Thing
@@ -83,12 +95,14 @@ inserted_at events n = get_or (map (λ e. inserted_thing e.what) events) n None
 
 -- the table tells, for each insert, whether it was named
 abbrev pub TellsNamed : List Event → List Event → List Bool → Type 0
-TellsNamed events past table = (n : ℕ) (thing : Thing) → inserted_at events n ≡ Some thing → get_or table n false ≡ was_named thing n past
+TellsNamed events past table = (n : ℕ) (thing : Thing) → inserted_at events n ≡ Some thing → get_or table n false
+    ≡ was_named thing n past
 
 -- the table when an event of this number named an insert
 abbrev pub with_named : List Event → ℕ → Option Inserted → List Bool → List Bool
 with_named events k None table = table
-with_named events k (Some i) table = if nat_lt i.number k && is_it i.thing (inserted_at events i.number) then slice_set table i.number true else table
+with_named events k (Some i) table = if nat_lt i.number k && is_it i.thing (inserted_at events i.number)
+    then slice_set table i.number true else table
 
 -- the tables tell where each object was removed last
 pub record TellsRemovals (past : List Event) (dpc_table apc_table : List ℕ) : Type 0 where

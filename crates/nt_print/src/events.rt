@@ -4,16 +4,16 @@ ghost use Rattle.std.specs.List.{slice_get};
 ghost use Rattle.nt_text.specs.Lines.{row_text, rows_text};
 ghost use Rattle.nt_event.specs.Script.{where_given, has_thread, has_dpc, has_timer, has_apc, command_fits};
 ghost use Rattle.nt_script.specs.Sound.{IsSound};
-ghost use Rattle.nt_script.specs.Text.{command_row, command_args};
-ghost use Rattle.nt_script.specs.Words.{verb_text};
-ghost use Rattle.nt_print.specs.Fitting.{begun_fits, key_fits, what_fits, event_fits, events_fit};
-ghost use Rattle.nt_log.specs.Fields.{spaced};
+ghost use Rattle.nt_line.specs.Rows.{command_row, command_args};
+ghost use Rattle.nt_line.specs.Keywords.{verb_text};
+ghost use Rattle.nt_event.specs.Fitting.{begun_fits, key_fits, what_fits, event_fits, events_fit};
+ghost use Rattle.nt_text.specs.Lines.{spaced};
 ghost use Rattle.nt_print.specs.Report.{show_running, begun_row, key_row, status_row, kind_of, kind_word, what_row, event_fields, event_row, event_rows, line_rows};
 
 use crate::fields::{put_processor, put_replied, put_status, put_used};
 use itoa::Buffer;
 use nt_event::{ApcKind, ApcNo, Begun, Command, Event, ThreadNo, TimerKey, What};
-use nt_log::{put_field, put_number};
+use nt_text::{put_field, put_number};
 use nt_script::{Input, put_command};
 use std::alloc::AllocError;
 
@@ -220,6 +220,17 @@ fn put_line(out: &mut Vec<u8>, input: &Input, number: u64, event: &Event) -> Res
 {
     match event.what {
         What::Look { .. } => Ok(()),
-        _ => put_event(out, input, number, event),
+        What::Call { .. }
+        | What::Begin { .. }
+        | What::Normal { .. }
+        | What::End { .. }
+        | What::Expire { .. }
+        | What::Fire { .. }
+        | What::Clean { .. }
+        | What::Switch { .. }
+        | What::Rewait { .. }
+        | What::Flush { .. }
+        | What::Gone { .. }
+        | What::Rest => put_event(out, input, number, event),
     }
 }

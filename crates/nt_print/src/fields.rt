@@ -1,11 +1,11 @@
 //! Fields of a line, each with a space before it.
 ghost use Rattle.std.specs.Prelude.{◌≡◌, ◌++◌, ◌∷◌, [], OnOk, decimal, codes};
-ghost use Rattle.nt_log.specs.Fields.{spaced};
+ghost use Rattle.nt_text.specs.Lines.{spaced};
 ghost use Rattle.nt_print.specs.Report.{show_processor, hexadecimal, reply_row, replied, used};
 
 use itoa::Buffer;
 use nt_event::Reply;
-use nt_log::{put_field, put_number};
+use nt_text::{put_field, put_number};
 use std::alloc::AllocError;
 
 /// Adds ` p` and a processor's number.

@@ -82,7 +82,21 @@ pub(crate) fn named(what: &What) -> Option<Insert>
             number: *from,
             object: Object::Apc(*apc),
         }),
-        _ => None,
+        What::Begin {
+            begun: Begun::Int(_),
+            ..
+        }
+        | What::Call { .. }
+        | What::Look { .. }
+        | What::Normal { .. }
+        | What::End { .. }
+        | What::Expire { .. }
+        | What::Fire { .. }
+        | What::Clean { .. }
+        | What::Switch { .. }
+        | What::Rewait { .. }
+        | What::Gone { .. }
+        | What::Rest => None,
     }
 }
 

@@ -1,7 +1,7 @@
 //! The whole report.
 ghost use Rattle.std.specs.Prelude.{◌≡◌, true, IfOk};
 ghost use Rattle.nt_script.specs.Sound.{IsSound};
-ghost use Rattle.nt_print.specs.Fitting.{events_fit};
+ghost use Rattle.nt_event.specs.Fitting.{events_fit};
 ghost use Rattle.nt_print.specs.Report.{report_text};
 
 use crate::cuts::put_cuts;

@@ -1,6 +1,6 @@
 //! Which inserts of a history are used up.
 ghost use Rattle.std.specs.Prelude.{◌≡◌, ◌≤◌, ◌<◌, [], length, reverse, IfOk, IfSome, true, option_map, vec_len};
-ghost use Rattle.nt_print.specs.Fitting.{events_fit};
+ghost use Rattle.nt_event.specs.Fitting.{events_fit};
 ghost use Rattle.nt_print.specs.Uses.{thing_of, thing_fits, inserted_at, named_by, removed_by, with_named, put_at, dpcs_after, apcs_after, HasPlace, removal_at, is_left, waits_at, TellsNamed, TellsRemovals, AreUses};
 
 use crate::inserts::{Object, inserted, inserts, named, removed};

@@ -3,15 +3,15 @@ ghost use Rattle.std.specs.Prelude.{◌≡◌, ◌++◌, ◌<◌, ◌∷◌, [],
 ghost use Rattle.nt_text.specs.Lines.{row_text, rows_text};
 ghost use Rattle.nt_event.specs.Fate.{inserted_by};
 ghost use Rattle.nt_script.specs.Sound.{IsSound};
-ghost use Rattle.nt_log.specs.Fields.{spaced};
-ghost use Rattle.nt_print.specs.Fitting.{events_fit};
+ghost use Rattle.nt_text.specs.Lines.{spaced};
+ghost use Rattle.nt_event.specs.Fitting.{events_fit};
 ghost use Rattle.nt_print.specs.Report.{thing_row, wait_fields, wait_row, wait_rows};
 ghost use Rattle.nt_print.specs.Uses.{thing_of, inserted_of, inserted_at, thing_fits, waits_at, AreUses};
 
 use crate::inserts::{Insert, Object};
 use crate::uses::{Uses, waiting};
 use nt_event::Event;
-use nt_log::{put_field, put_number};
+use nt_text::{put_field, put_number};
 use nt_script::Input;
 use std::alloc::AllocError;
 

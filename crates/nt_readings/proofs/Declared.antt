@@ -87,7 +87,8 @@ timers_fit s h =
 
 -- ---- commands
 
-routine_commands : (s : Script) (i : ℕ) (o : Option Routine) (r : RoutineNo) (c : Command) → fits s ≡ true → slice_get s.routines r.0 ≡ o → slice_get (option_map_or (λ x. x.commands) o []) i ≡ Some c → command_fits s c ≡ true
+routine_commands : (s : Script) (i : ℕ) (o : Option Routine) (r : RoutineNo) (c : Command) → fits s ≡ true → slice_get s.routines r.0 ≡ o →
+    slice_get (option_map_or (λ x. x.commands) o []) i ≡ Some c → command_fits s c ≡ true
 routine_commands s i None r c h q k = all_get (command_fits s) [] i c refl k
 routine_commands s i (Some x) r c h q k =
     all_get (command_fits s) x.commands i c (all_get (routine_fits s) s.routines r.0 x (routines_fit s h) q) k
@@ -103,9 +104,11 @@ next_fits s p f c h k = go f.leaving k
     go true q = cc
     go false q = commands_fit s f.place (routine_of s p f.body f.kernel_phase) c h q
 
-pub calls_fit : (s : Script) (limit : ℕ) (e : Event) (past : List Event) (f : ℕ) (c : Command) (y : Reply) → IsRun s limit (e ∷ past) → fits s ≡ true → e.what ≡ Call f c y → command_fits s c ≡ true
+pub calls_fit : (s : Script) (limit : ℕ) (e : Event) (past : List Event) (f : ℕ) (c : Command) (y : Reply) → IsRun s limit (e ∷ past) → fits s ≡ true → e.what
+    ≡ Call f c y → command_fits s c ≡ true
 calls_fit s limit e past f c y r h k =
-    let known : KnownCall s e.cpu (own_of s e.cpu past) (lanes_at s past) f c y = subst (Known s e.cpu (own_of s e.cpu past) (lanes_at s past)) k (legal_known s limit e past r.0 (ap is_next k)) in
+    let known : KnownCall s e.cpu (own_of s e.cpu past) (lanes_at s past) f c y = subst (Known s e.cpu (own_of s e.cpu past) (lanes_at s past)) k
+    (legal_known s limit e past r.0 (ap is_next k)) in
     next_fits s e.cpu known.frame c h known.command
 
 -- ---- expired timers
@@ -131,13 +134,15 @@ fire_known s p (e ∷ past) d h k = go (is_of e p) k (λ q. fire_known s p past 
     after (Fire x y) old ih q = cc
     after w old ih q = ih q
 
-    go : (b : Bool) → (if b then fire_after s e.what (fire s p past) else fire s p past) ≡ Some d → (fire s p past ≡ Some d → has_dpc s d ≡ true) → has_dpc s d ≡ true
+    go : (b : Bool) → (if b then fire_after s e.what (fire s p past) else fire s p past) ≡ Some d → (fire s p past ≡ Some d → has_dpc s d ≡ true) → has_dpc s d
+        ≡ true
     go true q ih = after e.what (fire s p past) ih q
     go false q ih = ih q
 
 -- ---- inserts
 
-insert_known : (s : Script) (limit : ℕ) (thing : Thing) (e : Event) (past : List Event) → IsRun s limit (e ∷ past) → fits s ≡ true → inserted_thing e.what ≡ Some thing → is_known s thing ≡ true
+insert_known : (s : Script) (limit : ℕ) (thing : Thing) (e : Event) (past : List Event) → IsRun s limit (e ∷ past) → fits s ≡ true → inserted_thing e.what
+    ≡ Some thing → is_known s thing ≡ true
 insert_known s limit thing e past r h k = go e.what refl k
   where
     is_it : (x : Thing) → Some x ≡ Some thing → is_known s x ≡ true → is_known s thing ≡ true
@@ -148,18 +153,21 @@ insert_known s limit thing e past r h k = go e.what refl k
     go (Call f (InsertApc a) Yes) i q =
         is_it (ApcThing a) q (apcs_have_their_threads s a h (calls_fit s limit e past f (InsertApc a) Yes r h i))
     go (Fire d Yes) i q =
-        let known : Known s e.cpu (own_of s e.cpu past) (lanes_at s past) (Fire d Yes) = subst (Known s e.cpu (own_of s e.cpu past) (lanes_at s past)) i (legal_known s limit e past r.0 (ap is_next i)) in
+        let known : Known s e.cpu (own_of s e.cpu past) (lanes_at s past) (Fire d Yes) = subst (Known s e.cpu (own_of s e.cpu past) (lanes_at s past)) i
+        (legal_known s limit e past r.0 (ap is_next i)) in
         is_it (DpcThing d) q (fire_known s e.cpu past d h known.0)
     go w i q = cc
 
-inserts_known : (s : Script) (limit : ℕ) (thing : Thing) (n : ℕ) (past : List Event) → IsRun s limit past → fits s ≡ true → IsInsert thing n past → is_known s thing ≡ true
+inserts_known : (s : Script) (limit : ℕ) (thing : Thing) (n : ℕ) (past : List Event) → IsRun s limit past → fits s ≡ true → IsInsert thing n past →
+    is_known s thing ≡ true
 inserts_known s limit thing n [] r h k = absurd k
 inserts_known s limit thing n (e ∷ past) r h (inl k) = insert_known s limit thing e past r h k.1
 inserts_known s limit thing n (e ∷ past) r h (inr k) = inserts_known s limit thing n past r.1 h k
 
 -- ---- what is pending was inserted
 
-dropped_from : (p by : CpuNo) (w : What) (o : Option DpcNo) (objects : List ObjectState) (xs : List Insert) (x : Insert) → Contains (drop_insert p by w o objects xs) x → Contains xs x
+dropped_from : (p by : CpuNo) (w : What) (o : Option DpcNo) (objects : List ObjectState) (xs : List Insert) (x : Insert) →
+    Contains (drop_insert p by w o objects xs) x → Contains xs x
 dropped_from p by w None objects xs x h = h
 dropped_from p by w (Some d) objects xs x h = go (is_queue (left_queue by w (object_in objects d)) p) h
   where
@@ -167,7 +175,8 @@ dropped_from p by w (Some d) objects xs x h = go (is_queue (left_queue by w (obj
     go true k = (kept_contains _ xs x k).0
     go false k = k
 
-added_from : (s : Script) (p : CpuNo) (n : ℕ) (by : CpuNo) (o : Option DpcNo) (objects : List ObjectState) (xs : List Insert) (x : Insert) → Contains (add_insert s p n by o objects xs) x → (o ≡ Some x.dpc) ⊎ Contains xs x
+added_from : (s : Script) (p : CpuNo) (n : ℕ) (by : CpuNo) (o : Option DpcNo) (objects : List ObjectState) (xs : List Insert) (x : Insert) →
+    Contains (add_insert s p n by o objects xs) x → (o ≡ Some x.dpc) ⊎ Contains xs x
 added_from s p n by None objects xs x h = inr h
 added_from s p n by (Some d) objects xs x h = go ((queue_for (object_in objects d).target by).0 == p.0) h
   where
@@ -185,9 +194,11 @@ IsInserted thing past = (n : ℕ) × IsInsert thing n past
 pending_inserted : (s : Script) (p : CpuNo) (past : List Event) (x : Insert) → Contains (pending s p past) x → IsInserted (DpcThing x.dpc) past
 pending_inserted s p [] x h = contains_none x h
 pending_inserted s p (e ∷ past) x h =
-    go (added_from s p (length past) e.cpu (inserted_dpc e.what) (objects_at s past) (drop_insert p e.cpu e.what (used_up_dpc e.what) (objects_at s past) (pending s p past)) x h) (λ k. pending_inserted s p past x k)
+    go (added_from s p (length past) e.cpu (inserted_dpc e.what) (objects_at s past)
+    (drop_insert p e.cpu e.what (used_up_dpc e.what) (objects_at s past) (pending s p past)) x h) (λ k. pending_inserted s p past x k)
   where
-    go : (inserted_dpc e.what ≡ Some x.dpc) ⊎ Contains (drop_insert p e.cpu e.what (used_up_dpc e.what) (objects_at s past) (pending s p past)) x → (Contains (pending s p past) x → IsInserted (DpcThing x.dpc) past) → IsInserted (DpcThing x.dpc) (e ∷ past)
+    go : (inserted_dpc e.what ≡ Some x.dpc) ⊎ Contains (drop_insert p e.cpu e.what (used_up_dpc e.what) (objects_at s past) (pending s p past)) x →
+        (Contains (pending s p past) x → IsInserted (DpcThing x.dpc) past) → IsInserted (DpcThing x.dpc) (e ∷ past)
     go (inl k) ih = (length past, inl (refl, dpc_thing e.what x.dpc k))
     go (inr k) ih =
         let a = ih (dropped_from p e.cpu e.what (used_up_dpc e.what) (objects_at s past) (pending s p past) x k) in
@@ -200,18 +211,21 @@ put_thing s t n w x h = absurd h
 picks_inserted : (s : Script) (t : ThreadNo) (past : List Event) (x : Pick) → Contains (facts s t past).apcs.pending x → IsInserted (ApcThing x.apc) past
 picks_inserted s t [] x h = contains_none x h
 picks_inserted s t (e ∷ past) x h =
-    let after : Contains (picks_after s t (length past) (is_of_thread s t e) e.what (facts s t past).apcs.pending) x = subst (λ (xs : List Pick). Contains xs x) (picks_move s t e past) h in
+    let after : Contains (picks_after s t (length past) (is_of_thread s t e) e.what (facts s t past).apcs.pending) x = subst
+    (λ (xs : List Pick). Contains xs x) (picks_move s t e past) h in
     elim (picks_kept s t (length past) (is_of_thread s t e) e.what (facts s t past).apcs.pending x after) [
       | inl put ↦ (length past, inl (refl, put_thing s t (length past) e.what x put))
       | inr there ↦ let a = picks_inserted s t past x there in (a.0, inr a.1)
     ]
 
-dpc_known : (s : Script) (limit : ℕ) (p : CpuNo) (d : DpcNo) (n : ℕ) (past : List Event) → IsRun s limit past → fits s ≡ true → DpcIsPending s p d n past → has_dpc s d ≡ true
+dpc_known : (s : Script) (limit : ℕ) (p : CpuNo) (d : DpcNo) (n : ℕ) (past : List Event) → IsRun s limit past → fits s ≡ true → DpcIsPending s p d n past →
+    has_dpc s d ≡ true
 dpc_known s limit p d n past r h k =
     let a = pending_inserted s p past k.0 k.1 in
     ap (has_dpc s) (sym k.2) ∙ inserts_known s limit (DpcThing k.0.dpc) a.0 past r h a.1
 
-apc_known : (s : Script) (limit : ℕ) (t : ThreadNo) (a : ApcNo) (n : ℕ) (past : List Event) → IsRun s limit past → fits s ≡ true → ApcIsPending s t a n past → has_thread s (owner_of s a) ≡ true
+apc_known : (s : Script) (limit : ℕ) (t : ThreadNo) (a : ApcNo) (n : ℕ) (past : List Event) → IsRun s limit past → fits s ≡ true → ApcIsPending s t a n past →
+    has_thread s (owner_of s a) ≡ true
 apc_known s limit t a n past r h k =
     let b = picks_inserted s t past k.0 k.1 in
     ap (λ (a : ApcNo). has_thread s (owner_of s a)) (sym k.2) ∙ inserts_known s limit (ApcThing k.0.apc) b.0 past r h b.1
@@ -220,20 +234,33 @@ apc_known s limit t a n past r h k =
 
 pub holds_of_each : (s : Script) (limit : ℕ) (past : List Event) → IsRun s limit past → fits s ≡ true → HoldsOfEach s past
 holds_of_each s limit past r h =
-    record { known = λ thing n k. inserts_known s limit thing n past r h k; dpcs = dpcs; apcs = apcs; waiting = waiting; one_dpc = λ d p q n m i j. at_most_one s limit d past r (dpc_known s limit p d n past r h i) p q n m i j; one_apc = λ a t u n m i j. at_most_one_apc s limit a past r (apc_known s limit t a n past r h i) t u n m i j }
+    record {
+      known = λ thing n k. inserts_known s limit thing n past r h k;
+      dpcs = dpcs;
+      apcs = apcs;
+      waiting = waiting;
+      one_dpc = λ d p q n m i j. at_most_one s limit d past r (dpc_known s limit p d n past r h i) p q n m i j;
+      one_apc = λ a t u n m i j. at_most_one_apc s limit a past r (apc_known s limit t a n past r h i) t u n m i j;
+    }
   where
     dpcs : (p : CpuNo) (d : DpcNo) (n : ℕ) → DpcIsPending s p d n past ↔ (IsInsertedAt p d n past × NoneUsesUp (DpcThing d) n past)
-    dpcs p d n =
-        (λ k. (pending_reads s limit d past r (dpc_known s limit p d n past r h k) p n).0 k, λ k. (pending_reads s limit d past r (inserts_known s limit (DpcThing d) n past r h (at_insert p d n past k.0)) p n).1 k)
+    dpcs p d n = (
+      λ k. (pending_reads s limit d past r (dpc_known s limit p d n past r h k) p n).0 k,
+      λ k. (pending_reads s limit d past r (inserts_known s limit (DpcThing d) n past r h (at_insert p d n past k.0)) p n).1 k,
+    )
 
     apcs : (a : ApcNo) (n : ℕ) → ApcIsPending s (owner_of s a) a n past ↔ (IsApcInsertedAt a n past × NoneUsesUp (ApcThing a) n past)
-    apcs a n =
-        (λ k. (pending_apc_reads s limit a past r (apc_known s limit (owner_of s a) a n past r h k) n).0 k, λ k. (pending_apc_reads s limit a past r (inserts_known s limit (ApcThing a) n past r h (at_apc a n past k.0)) n).1 k)
+    apcs a n = (
+      λ k. (pending_apc_reads s limit a past r (apc_known s limit (owner_of s a) a n past r h k) n).0 k,
+      λ k. (pending_apc_reads s limit a past r (inserts_known s limit (ApcThing a) n past r h (at_apc a n past k.0)) n).1 k,
+    )
 
     is_pending : (thing : Thing) (n : ℕ) → IsPending s thing n past → is_known s thing ≡ true
     is_pending (DpcThing d) n k = dpc_known s limit k.0 d n past r h k.1
     is_pending (ApcThing a) n k = apc_known s limit (owner_of s a) a n past r h k
 
     waiting : (thing : Thing) (n : ℕ) → (IsInsert thing n past × (fate_of thing n past ≡ StillWaits)) ↔ IsPending s thing n past
-    waiting thing n =
-        (λ k. (waiting_is_pending s limit thing n past r (inserts_known s limit thing n past r h k.0)).0 k, λ k. (waiting_is_pending s limit thing n past r (is_pending thing n k)).1 k)
+    waiting thing n = (
+      λ k. (waiting_is_pending s limit thing n past r (inserts_known s limit thing n past r h k.0)).0 k,
+      λ k. (waiting_is_pending s limit thing n past r (is_pending thing n k)).1 k,
+    )

@@ -41,7 +41,8 @@ normal_clear r NormalApc h q =
 normal_clear r SpecialApc h q = cc
 normal_clear r UserApc h q = cc
 
-lets_so : (r : Regions) (k : ApcKind) → IsKernelKind k → r.guard ≡ 0 → (same_kind NormalApc k ≡ true → (r.crit ≡ 0) × (r.busy ≡ false)) → lets_through r k ≡ true
+lets_so : (r : Regions) (k : ApcKind) → IsKernelKind k → r.guard ≡ 0 → (same_kind NormalApc k ≡ true → (r.crit ≡ 0) × (r.busy ≡ false)) → lets_through r k
+    ≡ true
 lets_so r SpecialApc h g n = eq-eqb r.guard 0 g
 lets_so r NormalApc h g n =
     let a = n refl in
@@ -53,19 +54,27 @@ lets_so r NormalApc h g n =
 lets_so r UserApc (inl h) g n = cc
 lets_so r UserApc (inr h) g n = cc
 
-pub deliverable_by_regions : (s : Script) (t : ThreadNo) (past : List Event) (fs : List Frame) (x : Pick) → (deliverable (facts s t past).apcs (regions_of fs) (level_of fs) ≡ Some x) ↔ IsDeliverable s t past fs x
+pub deliverable_by_regions : (s : Script) (t : ThreadNo) (past : List Event) (fs : List Frame) (x : Pick) →
+    (deliverable (facts s t past).apcs (regions_of fs) (level_of fs) ≡ Some x) ↔ IsDeliverable s t past fs x
 deliverable_by_regions s t past fs x = (λ h. forth (first_kernel (facts s t past).apcs) refl h, back)
   where
-    forth : (o : Option Pick) → first_kernel (facts s t past).apcs ≡ o → option_and_then (λ x. when ((level_of fs == 0) && lets_through (regions_of fs) x.kind) (Some x)) o ≡ Some x → IsDeliverable s t past fs x
+    forth : (o : Option Pick) → first_kernel (facts s t past).apcs ≡ o →
+        option_and_then (λ x. when ((level_of fs == 0) && lets_through (regions_of fs) x.kind) (Some x)) o ≡ Some x → IsDeliverable s t past fs x
     forth None e h = cc
     forth (Some y) e h =
         let w = when_gives ((level_of fs == 0) && lets_through (regions_of fs) y.kind) (Some y) x h in
         let same : y ≡ x = let q = w.1 in cc in
         let b = both (level_of fs == 0) (lets_through (regions_of fs) y.kind) w.0 in
-        let lets : lets_through (regions_of fs) x.kind ≡ true = subst (λ (z : Pick). lets_through (regions_of fs) z.kind ≡ true) same b.1 in
-        (e ∙ ap (λ (z : Pick). Some z) same, eqb-true (level_of fs) 0 b.0, guard_clear (regions_of fs) x.kind lets, λ q. normal_clear (regions_of fs) x.kind lets q)
+        let lets : lets_through (regions_of fs) x.kind ≡ true = subst (λ (z : Pick). lets_through (regions_of fs) z.kind ≡ true) same b.1 in (
+          e ∙ ap (λ (z : Pick). Some z) same,
+          eqb-true (level_of fs) 0 b.0,
+          guard_clear (regions_of fs) x.kind lets,
+          λ q. normal_clear (regions_of fs) x.kind lets q,
+        )
 
     back : IsDeliverable s t past fs x → deliverable (facts s t past).apcs (regions_of fs) (level_of fs) ≡ Some x
     back h =
         let lets : lets_through (regions_of fs) x.kind ≡ true = lets_so (regions_of fs) x.kind (kernel_kind (facts s t past).apcs x h.0) h.2 h.3 in
-        ap (λ (o : Option Pick). option_and_then (λ x. when ((level_of fs == 0) && lets_through (regions_of fs) x.kind) (Some x)) o) h.0 ∙ (ap (λ (b : Bool). when (b && lets_through (regions_of fs) x.kind) (Some x)) (eq-eqb (level_of fs) 0 h.1) ∙ ap (λ (b : Bool). when b (Some x)) lets)
+        ap (λ (o : Option Pick). option_and_then (λ x. when ((level_of fs == 0) && lets_through (regions_of fs) x.kind) (Some x)) o) h.0
+        ∙ (ap (λ (b : Bool). when (b && lets_through (regions_of fs) x.kind) (Some x)) (eq-eqb (level_of fs) 0 h.1)
+        ∙ ap (λ (b : Bool). when b (Some x)) lets)

@@ -47,7 +47,8 @@ removed_fate w k h = cc
 
 -- ---- the fate that is answered is had
 
-new_fate : (thing : Thing) (n : ℕ) (e : Event) (past : List Event) → n < length past → uses_up thing n e.what ≡ true → NoneUsesUp thing n past → IsFate thing n (e ∷ past) (fate_by e.what (length past))
+new_fate : (thing : Thing) (n : ℕ) (e : Event) (past : List Event) → n < length past → uses_up thing n e.what ≡ true → NoneUsesUp thing n past →
+    IsFate thing n (e ∷ past) (fate_by e.what (length past))
 new_fate thing n e past l u none = go (uses_so thing n e.what u)
   where
     go : (begins e.what ≡ true) ⊎ ((flushes e.what ≡ true) ⊎ (calls e.what ≡ true)) → IsFate thing n (e ∷ past) (fate_by e.what (length past))
@@ -62,13 +63,15 @@ has_fate : (thing : Thing) (n : ℕ) (past : List Event) → IsFate thing n past
 has_fate thing n [] = tt
 has_fate thing n (e ∷ past) = go (fate_of thing n past) (has_fate thing n past)
   where
-    later : (a b : Bool) → nat_lt n (length past) ≡ a → uses_up thing n e.what ≡ b → NoneUsesUp thing n past → IsFate thing n (e ∷ past) (if a && b then fate_by e.what (length past) else StillWaits)
+    later : (a b : Bool) → nat_lt n (length past) ≡ a → uses_up thing n e.what ≡ b → NoneUsesUp thing n past →
+        IsFate thing n (e ∷ past) (if a && b then fate_by e.what (length past) else StillWaits)
     later true true l u none = new_fate thing n e past (ltb-true n (length past) l) u none
     later true false l u none = ((λ k. u), none)
     later false b l u none =
         ((λ k. let z = ltb-false n (length past) l in absurd (omega (arith, k, z))), none)
 
-    go : (x : Fate) → IsFate thing n past x → IsFate thing n (e ∷ past) (first_fate x (if nat_lt n (length past) && uses_up thing n e.what then fate_by e.what (length past) else StillWaits))
+    go : (x : Fate) → IsFate thing n past x → IsFate thing n (e ∷ past)
+        (first_fate x (if nat_lt n (length past) && uses_up thing n e.what then fate_by e.what (length past) else StillWaits))
     go (BegunBy m) h = inr h
     go (RemovedBy m) h = inr h
     go (FlushedBy m) h = inr h
@@ -90,10 +93,13 @@ only_waits : (thing : Thing) (n : ℕ) (past : List Event) → NoneUsesUp thing 
 only_waits thing n [] h = refl
 only_waits thing n (e ∷ past) h =
     let before = only_waits thing n past h.1 in
-    let unused : (nat_lt n (length past) && uses_up thing n e.what) ≡ false = not_both (nat_lt n (length past)) (uses_up thing n e.what) (λ l. h.0 (ltb-true n (length past) l)) in
+    let unused : (nat_lt n (length past) && uses_up thing n e.what)
+    ≡ false = not_both (nat_lt n (length past)) (uses_up thing n e.what) (λ l. h.0 (ltb-true n (length past) l)) in
     rw (before, unused) refl
 
-only_used : (kind : What → Bool) (make : ℕ → Fate) (thing : Thing) (n m : ℕ) (past : List Event) → ((w : What) (k : ℕ) → kind w ≡ true → fate_by w k ≡ make k) → ((k : ℕ) → still_waits (make k) ≡ false) → IsFirstUse kind thing n m past → fate_of thing n past ≡ make m
+only_used : (kind : What → Bool) (make : ℕ → Fate) (thing : Thing) (n m : ℕ) (past : List Event) →
+    ((w : What) (k : ℕ) → kind w ≡ true → fate_by w k ≡ make k) → ((k : ℕ) → still_waits (make k) ≡ false) → IsFirstUse kind thing n m past →
+    fate_of thing n past ≡ make m
 only_used kind make thing n m [] f g h = absurd h
 only_used kind make thing n m (e ∷ past) f g (inl h) =
     let before = only_waits thing n past h.1.3 in
@@ -101,7 +107,8 @@ only_used kind make thing n m (e ∷ past) f g (inl h) =
     let u = h.1.2 in
     rw (before, l, u) (f e.what (length past) h.1.1 ∙ ap make (sym h.0))
 only_used kind make thing n m (e ∷ past) f g (inr h) =
-    first_other (fate_of thing n past) (if nat_lt n (length past) && uses_up thing n e.what then fate_by e.what (length past) else StillWaits) (make m) (only_used kind make thing n m past f g h) (g m)
+    first_other (fate_of thing n past) (if nat_lt n (length past) && uses_up thing n e.what then fate_by e.what (length past) else StillWaits) (make m)
+    (only_used kind make thing n m past f g h) (g m)
 
 only_fate : (thing : Thing) (n : ℕ) (past : List Event) (x : Fate) → IsFate thing n past x → fate_of thing n past ≡ x
 only_fate thing n past (BegunBy m) h = only_used begins BegunBy thing n m past begun_fate (λ k. refl) h
@@ -128,7 +135,8 @@ listed_insert [] x h = contains_none x h
 listed_insert (e ∷ past) x h =
     go (Contains-append_cases (inserts past) (inserted_by (length past) (inserted_thing e.what)) x h) (λ k. listed_insert past x k)
   where
-    go : Contains (inserts past) x ⊎ Contains (inserted_by (length past) (inserted_thing e.what)) x → (Contains (inserts past) x → IsInsert x.thing x.number past) → IsInsert x.thing x.number (e ∷ past)
+    go : Contains (inserts past) x ⊎ Contains (inserted_by (length past) (inserted_thing e.what)) x →
+        (Contains (inserts past) x → IsInsert x.thing x.number past) → IsInsert x.thing x.number (e ∷ past)
     go (inl k) ih = inr (ih k)
     go (inr k) ih = inl (by_event (length past) (inserted_thing e.what) x k)
 
@@ -137,7 +145,8 @@ insert_listed [] x h = absurd h
 insert_listed (e ∷ past) x (inr h) =
     Contains-append_left (inserts past) (inserted_by (length past) (inserted_thing e.what)) x (insert_listed past x h)
 insert_listed (e ∷ past) x (inl h) =
-    Contains-append_right (inserts past) (inserted_by (length past) (inserted_thing e.what)) x (subst (λ (o : Option Thing). Contains (inserted_by (length past) o) x) (sym h.1) here)
+    Contains-append_right (inserts past) (inserted_by (length past) (inserted_thing e.what)) x
+    (subst (λ (o : Option Thing). Contains (inserted_by (length past) o) x) (sym h.1) here)
   where
     here : Contains (inserted_by (length past) (Some x.thing)) x
     here =
@@ -158,7 +167,8 @@ inserts_listed past x =
 
     back : IsInsert x.thing x.number past × NoneUsesUp x.thing x.number past → Contains (waiting_inserts past) x
     back h =
-        contains_kept (λ x. still_waits (fate_of x.thing x.number past)) (inserts past) x (insert_listed past x h.0) (ap still_waits (only_waits x.thing x.number past h.1))
+        contains_kept (λ x. still_waits (fate_of x.thing x.number past)) (inserts past) x (insert_listed past x h.0)
+        (ap still_waits (only_waits x.thing x.number past h.1))
 
 -- ---- waiting and pending
 
@@ -193,7 +203,8 @@ at_apc a n [] h = h
 at_apc a n (e ∷ past) (inl h) = inl h
 at_apc a n (e ∷ past) (inr h) = inr (at_apc a n past h)
 
-pub waiting_is_pending : (s : Script) (limit : ℕ) (thing : Thing) (n : ℕ) (past : List Event) → IsRun s limit past → is_known s thing ≡ true → (IsInsert thing n past × (fate_of thing n past ≡ StillWaits)) ↔ IsPending s thing n past
+pub waiting_is_pending : (s : Script) (limit : ℕ) (thing : Thing) (n : ℕ) (past : List Event) → IsRun s limit past → is_known s thing ≡ true →
+    (IsInsert thing n past × (fate_of thing n past ≡ StillWaits)) ↔ IsPending s thing n past
 waiting_is_pending s limit (DpcThing d) n past r has = (forth, back)
   where
     forth : IsInsert (DpcThing d) n past × (fate_of (DpcThing d) n past ≡ StillWaits) → (p : CpuNo) × DpcIsPending s p d n past

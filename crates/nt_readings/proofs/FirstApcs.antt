@@ -57,9 +57,12 @@ named_fall s t n w xs h = fall_from n (suc n) xs (omega arith) h
 pub picks_fall : (s : Script) (t : ThreadNo) (past : List Event) → PicksFall (length past) (facts s t past).apcs.pending
 picks_fall s t [] = tt
 picks_fall s t (e ∷ past) =
-    subst (PicksFall (suc (length past))) (sym (picks_move s t e past)) (named_fall s t (length past) e.what (if is_of_thread s t e then made_picks e.what (facts s t past).apcs.pending else (facts s t past).apcs.pending) (mine (is_of_thread s t e) (picks_fall s t past)))
+    subst (PicksFall (suc (length past))) (sym (picks_move s t e past))
+    (named_fall s t (length past) e.what (if is_of_thread s t e then made_picks e.what (facts s t past).apcs.pending else (facts s t past).apcs.pending)
+    (mine (is_of_thread s t e) (picks_fall s t past)))
   where
-    mine : (b : Bool) → PicksFall (length past) (facts s t past).apcs.pending → PicksFall (length past) (if b then made_picks e.what (facts s t past).apcs.pending else (facts s t past).apcs.pending)
+    mine : (b : Bool) → PicksFall (length past) (facts s t past).apcs.pending →
+        PicksFall (length past) (if b then made_picks e.what (facts s t past).apcs.pending else (facts s t past).apcs.pending)
     mine true f = made_fall (length past) e.what (facts s t past).apcs.pending f
     mine false f = f
 
@@ -90,12 +93,14 @@ cond_some : (b : Bool) (z x : Pick) → cond b (Some z) None ≡ Some x → z �
 cond_some true z x h = cc
 cond_some false z x h = cc
 
-last_least : (test : Pick → Bool) (n : ℕ) (xs : List Pick) (x y : Pick) → PicksFall n xs → find test (reverse xs) ≡ Some x → Contains xs y → test y ≡ true → x.number ≤ y.number
+last_least : (test : Pick → Bool) (n : ℕ) (xs : List Pick) (x y : Pick) → PicksFall n xs → find test (reverse xs) ≡ Some x → Contains xs y → test y ≡ true →
+    x.number ≤ y.number
 last_least test n [] x y f h c t = contains_none y c
 last_least test n (z ∷ zs) x y f h c t =
     go (find test (reverse zs)) refl (sym (find_reverse test z zs) ∙ h) (λ k i. last_least test z.number zs x y f.1 k i t)
   where
-    go : (o : Option Pick) → find test (reverse zs) ≡ o → option_or o (cond (test z) (Some z) None) ≡ Some x → (find test (reverse zs) ≡ Some x → Contains zs y → x.number ≤ y.number) → x.number ≤ y.number
+    go : (o : Option Pick) → find test (reverse zs) ≡ o → option_or o (cond (test z) (Some z) None) ≡ Some x →
+        (find test (reverse zs) ≡ Some x → Contains zs y → x.number ≤ y.number) → x.number ≤ y.number
     go None e k ih =
         let number : z.number ≡ x.number = ap (λ (x : Pick). x.number) (cond_some (test z) z x k) in
         elim (contains_cases z zs y c) [
@@ -125,7 +130,8 @@ user_reads n xs f = go (find (is_of_kind UserApc) (reverse xs)) refl
     go None e = λ y c. none_last (is_of_kind UserApc) xs y e c
     go (Some x) e = of_kind UserApc n xs x f e
 
-kernel_reads : (n : ℕ) (xs : List Pick) → PicksFall n xs → IsFirstKernel xs (option_or (find (is_of_kind SpecialApc) (reverse xs)) (find (is_of_kind NormalApc) (reverse xs)))
+kernel_reads : (n : ℕ) (xs : List Pick) → PicksFall n xs →
+    IsFirstKernel xs (option_or (find (is_of_kind SpecialApc) (reverse xs)) (find (is_of_kind NormalApc) (reverse xs)))
 kernel_reads n xs f = go (find (is_of_kind SpecialApc) (reverse xs)) refl
   where
     normal : (o : Option Pick) → find (is_of_kind SpecialApc) (reverse xs) ≡ None → find (is_of_kind NormalApc) (reverse xs) ≡ o → IsFirstKernel xs o
@@ -136,6 +142,9 @@ kernel_reads n xs f = go (find (is_of_kind SpecialApc) (reverse xs)) refl
     go None e = normal (find (is_of_kind NormalApc) (reverse xs)) e refl
     go (Some x) e = inl (of_kind SpecialApc n xs x f e)
 
-pub firsts_by_number : (s : Script) (t : ThreadNo) (past : List Event) → IsFirstKernel (facts s t past).apcs.pending (first_kernel (facts s t past).apcs) × IsFirstUser (facts s t past).apcs.pending (first_user (facts s t past).apcs)
-firsts_by_number s t past =
-    (kernel_reads (length past) (facts s t past).apcs.pending (picks_fall s t past), user_reads (length past) (facts s t past).apcs.pending (picks_fall s t past))
+pub firsts_by_number : (s : Script) (t : ThreadNo) (past : List Event) → IsFirstKernel (facts s t past).apcs.pending (first_kernel (facts s t past).apcs) ×
+    IsFirstUser (facts s t past).apcs.pending (first_user (facts s t past).apcs)
+firsts_by_number s t past = (
+  kernel_reads (length past) (facts s t past).apcs.pending (picks_fall s t past),
+  user_reads (length past) (facts s t past).apcs.pending (picks_fall s t past),
+)

@@ -16,7 +16,7 @@ use Rattle.nt_event.specs.declared.numbers.CpuNo.{CpuNo}
 use Rattle.nt_event.specs.declared.numbers.RoutineNo.{RoutineNo}
 use Rattle.nt_event.specs.declared.numbers.ThreadNo.{ThreadNo}
 use Rattle.nt_event.specs.declared.scripts.Script.{Script}
-use Rattle.nt_event.specs.Frames.{at_name, called, due_of, end_on_thread, flushed, frames_of, innermost, is_base_body, left, new_frame, normal_of, own_after, own_frames, resumed, rewaited, running, switched_to, thread_after, thread_frames, thread_part, time, without}
+use Rattle.nt_event.specs.Frames.{at_name, called, due_of, end_on_thread, flushed, frames_of, innermost, is_base_body, ended_base, new_frame, normal_of, own_after, own_frames, resumed, rewaited, running, switched_to, thread_after, thread_frames, thread_part, time, without}
 use Rattle.nt_event.specs.Jobs.{has_normal}
 use Rattle.nt_event.specs.Lanes.{lanes_at}
 use Rattle.nt_event.specs.Own.{own_of}
@@ -59,11 +59,17 @@ IsAside n w = (m : ℕ) → names w ≡ Some m → m ≡ n → ⊥
 pub record Follows (s : Script) (limit : ℕ) (P : List Event → Frame → Type 0) : Type 0 where
   pub begun : (e : Event) (past : List Event) (b : Body) → names e.what ≡ None → P (e ∷ past) (new_frame (length past) b)
   pub aside : (e : Event) (past : List Event) (f : Frame) → f.name < length past → IsAside f.name e.what → P past f → P (e ∷ past) f
-  pub called : (e : Event) (past : List Event) (n : ℕ) (c : Command) (y : Reply) → IsRun s limit (e ∷ past) → (x : KnownCall s e.cpu (own_of s e.cpu past) (lanes_at s past) n c y) → e.what ≡ Call n c y → x.frame.name < length past → P past x.frame → P (e ∷ past) (called (due_of e.what (time past)) c y x.frame)
-  pub rewaited : (e : Event) (past : List Event) (y : Reply) (f : Frame) → e.what ≡ Rewait f.name y → f.name < length past → P past f → P (e ∷ past) (rewaited y f)
-  pub normal : (e : Event) (past : List Event) (f : Frame) → e.what ≡ Normal f.name → has_normal f.body ≡ true → f.name < length past → P past f → P (e ∷ past) (normal_of f)
-  pub left : (e : Event) (past : List Event) (f : Frame) → e.what ≡ End f.name → is_base_body f.body ≡ true → f.name < length past → P past f → P (e ∷ past) (left f)
-  pub resumed : (e : Event) (past : List Event) (t : ThreadNo) (st : Option ℕ) (f : Frame) → e.what ≡ Switch t st → f.name < length past → P past f → P (e ∷ past) (resumed st f)
+  pub called : (e : Event) (past : List Event) (n : ℕ) (c : Command) (y : Reply) → IsRun s limit (e ∷ past) →
+      (x : KnownCall s e.cpu (own_of s e.cpu past) (lanes_at s past) n c y) → e.what ≡ Call n c y → x.frame.name < length past → P past x.frame →
+      P (e ∷ past) (called (due_of e.what (time past)) c y x.frame)
+  pub rewaited : (e : Event) (past : List Event) (y : Reply) (f : Frame) → e.what ≡ Rewait f.name y → f.name < length past → P past f →
+      P (e ∷ past) (rewaited y f)
+  pub normal : (e : Event) (past : List Event) (f : Frame) → e.what ≡ Normal f.name → has_normal f.body ≡ true → f.name < length past → P past f →
+      P (e ∷ past) (normal_of f)
+  pub left : (e : Event) (past : List Event) (f : Frame) → e.what ≡ End f.name → is_base_body f.body ≡ true → f.name < length past → P past f →
+      P (e ∷ past) (ended_base f)
+  pub resumed : (e : Event) (past : List Event) (t : ThreadNo) (st : Option ℕ) (f : Frame) → e.what ≡ Switch t st → f.name < length past → P past f →
+      P (e ∷ past) (resumed st f)
 
 -- ---- whose frame an event names
 
@@ -77,12 +83,14 @@ head_is (g ∷ fs) f h = let same : g ≡ f = cc in (fs, ap (λ (x : Frame). x �
 abbrev pub IsNamer : Script → CpuNo → List Event → Frame → Type 0
 IsNamer s q past f = HeadIs f (own_frames q past) ⊎ ((u : ThreadNo) × (running q past ≡ Some u) × HeadIs f (thread_frames s q u past))
 
-pub namer : (s : Script) (limit : ℕ) (q : CpuNo) (past : List Event) (f : Frame) → IsRun s limit past → innermost (frames_of s q past) ≡ Some f → IsNamer s q past f
+pub namer : (s : Script) (limit : ℕ) (q : CpuNo) (past : List Event) (f : Frame) → IsRun s limit past → innermost (frames_of s q past) ≡ Some f →
+    IsNamer s q past f
 namer s limit q past f r h = go (own_frames q past) refl
   where
     go : (fs : List Frame) → own_frames q past ≡ fs → IsNamer s q past f
     go (g ∷ fs) o =
-        let first : option_or (head_of (g ∷ fs)) (head_of (thread_part (frames_of s q past))) ≡ Some f = subst (λ (gs : List Frame). option_or (head_of gs) (head_of (thread_part (frames_of s q past))) ≡ Some f) o h in
+        let first : option_or (head_of (g ∷ fs)) (head_of (thread_part (frames_of s q past)))
+        ≡ Some f = subst (λ (gs : List Frame). option_or (head_of gs) (head_of (thread_part (frames_of s q past))) ≡ Some f) o h in
         let same : g ≡ f = cc in
         inl (fs, o ∙ ap (λ (x : Frame). x ∷ fs) same)
     go [] o =
@@ -98,15 +106,19 @@ same_switch u t (Switch v st) h k =
     ap (λ (n : ℕ). record { 0 = n }) (sym (eqb-true v.0 u.0 h) ∙ eqb-true v.0 t.0 k)
 same_switch u t w h k = cc
 
-threads_apart : (s : Script) (u t : ThreadNo) (past : List Event) (n : ℕ) (b c : Body) → (u ≡ t → ⊥) → IsThreadBegin s u past n b → IsThreadBegin s t past n c → ⊥
+threads_apart : (s : Script) (u t : ThreadNo) (past : List Event) (n : ℕ) (b c : Body) → (u ≡ t → ⊥) → IsThreadBegin s u past n b →
+    IsThreadBegin s t past n c → ⊥
 threads_apart s u t past n b c d (inl h) (inl k) =
     at_both (λ e before. switches_to u e.what ≡ true) (λ e before. switches_to t e.what ≡ true) n past h.1 k.1 (λ e before x y. d (same_switch u t e.what x y))
 threads_apart s u t past n b c d (inl h) (inr k) =
-    at_both (λ e before. switches_to u e.what ≡ true) (λ e before. (is_by e t ≡ true) × (begun_inner s e.what ≡ Some c)) n past h.1 k (λ e before x y. inner_not_switch s u e.what c y.1 x)
+    at_both (λ e before. switches_to u e.what ≡ true) (λ e before. (is_by e t ≡ true) × (begun_inner s e.what ≡ Some c)) n past h.1 k
+    (λ e before x y. inner_not_switch s u e.what c y.1 x)
 threads_apart s u t past n b c d (inr h) (inl k) =
-    at_both (λ e before. (is_by e u ≡ true) × (begun_inner s e.what ≡ Some b)) (λ e before. switches_to t e.what ≡ true) n past h k.1 (λ e before x y. inner_not_switch s t e.what b x.1 y)
+    at_both (λ e before. (is_by e u ≡ true) × (begun_inner s e.what ≡ Some b)) (λ e before. switches_to t e.what ≡ true) n past h k.1
+    (λ e before x y. inner_not_switch s t e.what b x.1 y)
 threads_apart s u t past n b c d (inr h) (inr k) =
-    at_both (λ e before. (is_by e u ≡ true) × (begun_inner s e.what ≡ Some b)) (λ e before. (is_by e t ≡ true) × (begun_inner s e.what ≡ Some c)) n past h k (λ e before x y. d (same e x.0 y.0))
+    at_both (λ e before. (is_by e u ≡ true) × (begun_inner s e.what ≡ Some b)) (λ e before. (is_by e t ≡ true) × (begun_inner s e.what ≡ Some c)) n past h k
+    (λ e before x y. d (same e x.0 y.0))
   where
     same : (e : Event) → is_by e u ≡ true → is_by e t ≡ true → u ≡ t
     same e x y = let q : Some u ≡ Some t = sym (same_thread e.thread u x) ∙ same_thread e.thread t y in cc
@@ -118,7 +130,8 @@ NamesNone n fs = EachNamed (λ m b. m ≡ n → ⊥) fs
 abbrev Names : Script → ThreadNo → Event → List Event → Frame → Type 0
 Names s t e past f = ((is_by e t ≡ true) × HeadIs f (part_of s t past)) ⊎ NamesNone f.name (part_of s t past)
 
-named_or_not : (s : Script) (limit : ℕ) (t : ThreadNo) (e : Event) (past : List Event) (f : Frame) → IsRun s limit past → innermost (frames_of s e.cpu past) ≡ Some f → e.thread ≡ running e.cpu past → Names s t e past f
+named_or_not : (s : Script) (limit : ℕ) (t : ThreadNo) (e : Event) (past : List Event) (f : Frame) → IsRun s limit past → innermost (frames_of s e.cpu past)
+    ≡ Some f → e.thread ≡ running e.cpu past → Names s t e past f
 named_or_not s limit t e past f r h w = go (namer s limit e.cpu past f r h)
   where
     begun : EachNamed (IsThreadBegin s t past) (part_of s t past)
@@ -129,23 +142,28 @@ named_or_not s limit t e past f r h w = go (namer s limit e.cpu past f r h)
         let same : u ≡ t = ap (λ (n : ℕ). record { 0 = n }) (eqb-true u.0 t.0 q) in
         let here = running_here s limit e.cpu u past r run in
         let cpu : e.cpu ≡ cpu_of s t = ap (λ (n : ℕ). record { 0 = n }) (sym here.1) ∙ ap (λ (v : ThreadNo). cpu_of s v) same in
-        let parts : thread_frames s e.cpu u past ≡ part_of s t past = ap (λ (v : ThreadNo). thread_frames s e.cpu v past) same ∙ ap (λ (c : CpuNo). thread_frames s c t past) cpu in
+        let parts : thread_frames s e.cpu u past ≡ part_of s t past = ap (λ (v : ThreadNo). thread_frames s e.cpu v past) same
+        ∙ ap (λ (c : CpuNo). thread_frames s c t past) cpu in
         inl (ap (λ (o : Option ThreadNo). is_thread o t) (w ∙ run) ∙ q, (k.0, sym parts ∙ k.1))
     thread_head u run k false q =
         let first = subst (EachNamed (IsThreadBegin s u past)) k.1 (thread_begun s limit e.cpu u past r) in
-        inr (each_map (IsThreadBegin s t past) (λ m b. m ≡ f.name → ⊥) (part_of s t past) (λ m b i same. threads_apart s u t past f.name f.body b (λ v. both_ways (u.0 == t.0) q (eq-eqb u.0 t.0 (ap (λ (v : ThreadNo). v.0) v))) first.0 (subst (λ (n : ℕ). IsThreadBegin s t past n b) same i)) begun)
+        inr (each_map (IsThreadBegin s t past) (λ m b. m ≡ f.name → ⊥) (part_of s t past)
+        (λ m b i same. threads_apart s u t past f.name f.body b (λ v. both_ways (u.0 == t.0) q (eq-eqb u.0 t.0 (ap (λ (v : ThreadNo). v.0) v))) first.0
+        (subst (λ (n : ℕ). IsThreadBegin s t past n b) same i)) begun)
 
     go : IsNamer s e.cpu past f → Names s t e past f
     go (inl k) =
         let first = subst (EachNamed (IsOwnBegin e.cpu past)) k.1 (own_begun e.cpu past) in
-        inr (each_map (IsThreadBegin s t past) (λ m b. m ≡ f.name → ⊥) (part_of s t past) (λ m b i same. own_apart s e.cpu t past f.name f.body b first.0 (subst (λ (n : ℕ). IsThreadBegin s t past n b) same i)) begun)
+        inr (each_map (IsThreadBegin s t past) (λ m b. m ≡ f.name → ⊥) (part_of s t past)
+        (λ m b i same. own_apart s e.cpu t past f.name f.body b first.0 (subst (λ (n : ℕ). IsThreadBegin s t past n b) same i)) begun)
     go (inr k) = thread_head k.0 k.1 k.2 (k.0.0 == t.0) refl
 
 -- and of a processor's own part
 abbrev OwnNames : Script → CpuNo → Event → List Event → Frame → Type 0
 OwnNames s p e past f = ((is_of e p ≡ true) × HeadIs f (own_frames p past)) ⊎ NamesNone f.name (own_frames p past)
 
-own_named_or_not : (s : Script) (limit : ℕ) (p : CpuNo) (e : Event) (past : List Event) (f : Frame) → IsRun s limit past → innermost (frames_of s e.cpu past) ≡ Some f → OwnNames s p e past f
+own_named_or_not : (s : Script) (limit : ℕ) (p : CpuNo) (e : Event) (past : List Event) (f : Frame) → IsRun s limit past → innermost (frames_of s e.cpu past)
+    ≡ Some f → OwnNames s p e past f
 own_named_or_not s limit p e past f r h = go (namer s limit e.cpu past f r h)
   where
     other : is_of e p ≡ false → (x : Event) → is_of x e.cpu ≡ true → is_of x p ≡ true → ⊥
@@ -156,13 +174,17 @@ own_named_or_not s limit p e past f r h = go (namer s limit e.cpu past f r h)
     own_head k true o = inl (o, (k.0, ap (λ (q : CpuNo). own_frames q past) (sym (same_cpu e p o)) ∙ k.1))
     own_head k false o =
         let first = subst (EachNamed (IsOwnBegin e.cpu past)) k.1 (own_begun e.cpu past) in
-        inr (each_map (IsOwnBegin p past) (λ m b. m ≡ f.name → ⊥) (own_frames p past) (λ m b i same. at_both (λ x before. (is_of x e.cpu ≡ true) × (begun_own x.what ≡ Some f.body)) (λ x before. (is_of x p ≡ true) × (begun_own x.what ≡ Some b)) f.name past first.0 (subst (λ (n : ℕ). IsOwnBegin p past n b) same i) (λ x before u v. other o x u.0 v.0)) (own_begun p past))
+        inr (each_map (IsOwnBegin p past) (λ m b. m ≡ f.name → ⊥) (own_frames p past)
+        (λ m b i same. at_both (λ x before. (is_of x e.cpu ≡ true) × (begun_own x.what ≡ Some f.body))
+        (λ x before. (is_of x p ≡ true) × (begun_own x.what ≡ Some b)) f.name past first.0 (subst (λ (n : ℕ). IsOwnBegin p past n b) same i)
+        (λ x before u v. other o x u.0 v.0)) (own_begun p past))
 
     go : IsNamer s e.cpu past f → OwnNames s p e past f
     go (inl k) = own_head k (is_of e p) refl
     go (inr k) =
         let first = subst (EachNamed (IsThreadBegin s k.0 past)) k.2.1 (thread_begun s limit e.cpu k.0 past r) in
-        inr (each_map (IsOwnBegin p past) (λ m b. m ≡ f.name → ⊥) (own_frames p past) (λ m b i same. own_apart s p k.0 past f.name b f.body (subst (λ (n : ℕ). IsOwnBegin p past n b) same i) first.0) (own_begun p past))
+        inr (each_map (IsOwnBegin p past) (λ m b. m ≡ f.name → ⊥) (own_frames p past)
+        (λ m b i same. own_apart s p k.0 past f.name b f.body (subst (λ (n : ℕ). IsOwnBegin p past n b) same i) first.0) (own_begun p past))
 
 -- ---- lists that an event doesn't change
 
@@ -172,7 +194,7 @@ at_name_other n g (f ∷ fs) h = ap (λ (b : Bool). (if b then g f else f) ∷ f
 
 end_other : (n : ℕ) (fs : List Frame) → NamesNone n fs → end_on_thread n fs ≡ fs
 end_other n [] h = refl
-end_other n (f ∷ fs) h = ap (λ (b : Bool). if b then (if is_base_body f.body then (left f ∷ fs) else fs) else (f ∷ fs)) (not_equal f.name n h.0)
+end_other n (f ∷ fs) h = ap (λ (b : Bool). if b then (if is_base_body f.body then (ended_base f ∷ fs) else fs) else (f ∷ fs)) (not_equal f.name n h.0)
 
 without_other : (n : ℕ) (fs : List Frame) → NamesNone n fs → without n fs ≡ fs
 without_other n [] h = refl
@@ -209,45 +231,61 @@ none_named w (f ∷ fs) k = (λ v q e. none v (sym k ∙ q), none_named w fs k)
 -- ---- the frames after an event
 
 module _ (s : Script) (limit : ℕ) (P : List Event → Frame → Type 0) (k : Follows s limit P) where
-  kept_all : (e : Event) (past : List Event) (n : ℕ) (fs : List Frame) → n ≤ length past → Falls n fs → EachNamed (λ m b. IsAside m e.what) fs → EachFrame (P past) fs → EachFrame (P (e ∷ past)) fs
+  kept_all : (e : Event) (past : List Event) (n : ℕ) (fs : List Frame) → n ≤ length past → Falls n fs → EachNamed (λ m b. IsAside m e.what) fs →
+      EachFrame (P past) fs → EachFrame (P (e ∷ past)) fs
   kept_all e past n [] l f a h = tt
   kept_all e past n (x ∷ fs) l f a h =
       let b = f.0 in
       (k.aside e past x (omega (arith, b, l)) a.0 h.0, kept_all e past x.name fs (omega (arith, b, l)) f.1 a.1 h.1)
 
   -- the innermost frame changes, those below it stay
-  named_head : (e : Event) (past : List Event) (n : ℕ) (g : Frame → Frame) (f : Frame) (fs : List Frame) → HeadIs f fs → n ≡ f.name → names e.what ≡ Some n → Falls (length past) fs → EachFrame (P past) fs → (f.name < length past → P past f → P (e ∷ past) (g f)) → EachFrame (P (e ∷ past)) (at_name n g fs)
+  named_head : (e : Event) (past : List Event) (n : ℕ) (g : Frame → Frame) (f : Frame) (fs : List Frame) → HeadIs f fs → n ≡ f.name → names e.what ≡ Some n →
+      Falls (length past) fs → EachFrame (P past) fs → (f.name < length past → P past f → P (e ∷ past) (g f)) → EachFrame (P (e ∷ past)) (at_name n g fs)
   named_head e past n g f fs q m w l h step =
       let low = subst (Falls (length past)) q.1 l in
       let b = low.0 in
       let old = subst (EachFrame (P past)) q.1 h in
-      let all : EachFrame (P (e ∷ past)) (g f ∷ q.0) = (step low.0 old.0, kept_all e past f.name q.0 (omega (arith, b)) low.1 (lower e.what f q.0 (w ∙ ap (λ (n : ℕ). Some n) m) low.1) old.1) in
+      let all : EachFrame (P (e ∷ past)) (g f ∷ q.0) = (
+        step low.0 old.0,
+        kept_all e past f.name q.0 (omega (arith, b)) low.1 (lower e.what f q.0 (w ∙ ap (λ (n : ℕ). Some n) m) low.1) old.1,
+      ) in
       let it : at_name n g (f ∷ q.0) ≡ g f ∷ q.0 = ap (λ (b : Bool). (if b then g f else f) ∷ q.0) (eq-eqb f.name n (sym m)) in
       subst (λ (xs : List Frame). EachFrame (P (e ∷ past)) (at_name n g xs)) (sym q.1) (subst (EachFrame (P (e ∷ past))) (sym it) all)
 
-  other_name : (e : Event) (past : List Event) (n : ℕ) (g : Frame → Frame) (f : Frame) (fs : List Frame) → NamesNone f.name fs → n ≡ f.name → names e.what ≡ Some n → Falls (length past) fs → EachFrame (P past) fs → EachFrame (P (e ∷ past)) (at_name n g fs)
+  other_name : (e : Event) (past : List Event) (n : ℕ) (g : Frame → Frame) (f : Frame) (fs : List Frame) → NamesNone f.name fs → n ≡ f.name → names e.what
+      ≡ Some n → Falls (length past) fs → EachFrame (P past) fs → EachFrame (P (e ∷ past)) (at_name n g fs)
   other_name e past n g f fs d m w l h =
-      subst (EachFrame (P (e ∷ past))) (sym (ap (λ (v : ℕ). at_name v g fs) m ∙ at_name_other f.name g fs d)) (kept_all e past (length past) fs (omega arith) l (others e.what f.name fs (w ∙ ap (λ (n : ℕ). Some n) m) d) h)
+      subst (EachFrame (P (e ∷ past))) (sym (ap (λ (v : ℕ). at_name v g fs) m ∙ at_name_other f.name g fs d))
+      (kept_all e past (length past) fs (omega arith) l (others e.what f.name fs (w ∙ ap (λ (n : ℕ). Some n) m) d) h)
 
-  rest_of : (e : Event) (past : List Event) (n : ℕ) (f : Frame) (fs : List Frame) → n ≡ f.name → names e.what ≡ Some n → Falls (length past) (f ∷ fs) → EachFrame (P past) (f ∷ fs) → EachFrame (P (e ∷ past)) fs
+  rest_of : (e : Event) (past : List Event) (n : ℕ) (f : Frame) (fs : List Frame) → n ≡ f.name → names e.what ≡ Some n → Falls (length past) (f ∷ fs) →
+      EachFrame (P past) (f ∷ fs) → EachFrame (P (e ∷ past)) fs
   rest_of e past n f fs m w l h =
       let b = l.0 in
       kept_all e past f.name fs (omega (arith, b)) l.1 (lower e.what f fs (w ∙ ap (λ (n : ℕ). Some n) m) l.1) h.1
 
-  ended_head : (e : Event) (past : List Event) (n : ℕ) (f : Frame) (fs : List Frame) → HeadIs f fs → n ≡ f.name → e.what ≡ End n → Falls (length past) fs → EachFrame (P past) fs → EachFrame (P (e ∷ past)) (end_on_thread n fs)
+  ended_head : (e : Event) (past : List Event) (n : ℕ) (f : Frame) (fs : List Frame) → HeadIs f fs → n ≡ f.name → e.what ≡ End n → Falls (length past) fs →
+      EachFrame (P past) fs → EachFrame (P (e ∷ past)) (end_on_thread n fs)
   ended_head e past n f fs q m w l h =
-      subst (λ (xs : List Frame). EachFrame (P (e ∷ past)) (end_on_thread n xs)) (sym q.1) (subst (λ (b : Bool). EachFrame (P (e ∷ past)) (if b then (if is_base_body f.body then (left f ∷ q.0) else q.0) else (f ∷ q.0))) (sym (eq-eqb f.name n (sym m))) (go (is_base_body f.body) refl (subst (Falls (length past)) q.1 l) (subst (EachFrame (P past)) q.1 h)))
+      subst (λ (xs : List Frame). EachFrame (P (e ∷ past)) (end_on_thread n xs)) (sym q.1)
+      (subst (λ (b : Bool). EachFrame (P (e ∷ past)) (if b then (if is_base_body f.body then (ended_base f ∷ q.0) else q.0) else (f ∷ q.0)))
+      (sym (eq-eqb f.name n (sym m))) (go (is_base_body f.body) refl (subst (Falls (length past)) q.1 l) (subst (EachFrame (P past)) q.1 h)))
     where
-      go : (b : Bool) → is_base_body f.body ≡ b → Falls (length past) (f ∷ q.0) → EachFrame (P past) (f ∷ q.0) → EachFrame (P (e ∷ past)) (if b then (left f ∷ q.0) else q.0)
+      go : (b : Bool) → is_base_body f.body ≡ b → Falls (length past) (f ∷ q.0) → EachFrame (P past) (f ∷ q.0) →
+          EachFrame (P (e ∷ past)) (if b then (ended_base f ∷ q.0) else q.0)
       go true z low old =
           (k.left e past f (w ∙ ap (λ (n : ℕ). End n) m) z low.0 old.0, rest_of e past n f q.0 m (ap names w) low old)
       go false z low old = rest_of e past n f q.0 m (ap names w) low old
 
-  dropped_head : (e : Event) (past : List Event) (n : ℕ) (f : Frame) (fs : List Frame) → HeadIs f fs → n ≡ f.name → e.what ≡ End n → Falls (length past) fs → EachFrame (P past) fs → EachFrame (P (e ∷ past)) (without n fs)
+  dropped_head : (e : Event) (past : List Event) (n : ℕ) (f : Frame) (fs : List Frame) → HeadIs f fs → n ≡ f.name → e.what ≡ End n → Falls (length past) fs →
+      EachFrame (P past) fs → EachFrame (P (e ∷ past)) (without n fs)
   dropped_head e past n f fs q m w l h =
-      subst (λ (xs : List Frame). EachFrame (P (e ∷ past)) (without n xs)) (sym q.1) (subst (λ (b : Bool). EachFrame (P (e ∷ past)) (if b then q.0 else (f ∷ q.0))) (sym (eq-eqb f.name n (sym m))) (rest_of e past n f q.0 m (ap names w) (subst (Falls (length past)) q.1 l) (subst (EachFrame (P past)) q.1 h)))
+      subst (λ (xs : List Frame). EachFrame (P (e ∷ past)) (without n xs)) (sym q.1)
+      (subst (λ (b : Bool). EachFrame (P (e ∷ past)) (if b then q.0 else (f ∷ q.0))) (sym (eq-eqb f.name n (sym m)))
+      (rest_of e past n f q.0 m (ap names w) (subst (Falls (length past)) q.1 l) (subst (EachFrame (P past)) q.1 h)))
 
-  switched : (e : Event) (past : List Event) (t : ThreadNo) (st : Option ℕ) (fs : List Frame) → e.what ≡ Switch t st → Falls (length past) fs → EachFrame (P past) fs → EachFrame (P (e ∷ past)) (switched_to (length past) t st fs)
+  switched : (e : Event) (past : List Event) (t : ThreadNo) (st : Option ℕ) (fs : List Frame) → e.what ≡ Switch t st → Falls (length past) fs →
+      EachFrame (P past) fs → EachFrame (P (e ∷ past)) (switched_to (length past) t st fs)
   switched e past t st [] w l h = (k.begun e past (OnBase t) (ap names w), tt)
   switched e past t st (f ∷ fs) w l h =
       let b = l.0 in
@@ -255,7 +293,8 @@ module _ (s : Script) (limit : ℕ) (P : List Event → Frame → Type 0) (k : F
 
   -- ---- an event of the thread
 
-  part_kept : (t : ThreadNo) (e : Event) (past : List Event) → IsRun s limit (e ∷ past) → Falls (length past) (part_of s t past) → EachFrame (P past) (part_of s t past) → EachFrame (P (e ∷ past)) (thread_after s (length past) (due_of e.what (time past)) e.what (part_of s t past))
+  part_kept : (t : ThreadNo) (e : Event) (past : List Event) → IsRun s limit (e ∷ past) → Falls (length past) (part_of s t past) →
+      EachFrame (P past) (part_of s t past) → EachFrame (P (e ∷ past)) (thread_after s (length past) (due_of e.what (time past)) e.what (part_of s t past))
   part_kept t e past r l h = go e.what refl
     where
       quiet : (w : What) → e.what ≡ w → names w ≡ None → EachFrame (P (e ∷ past)) (part_of s t past)
@@ -267,25 +306,34 @@ module _ (s : Script) (limit : ℕ) (P : List Event → Frame → Type 0) (k : F
       by_running : (w : What) → e.what ≡ w → thread_field w (running e.cpu past) ≡ running e.cpu past → e.thread ≡ running e.cpu past
       by_running w q f = thread_named s limit e past r.0 ∙ (ap (λ (w : What). thread_field w (running e.cpu past)) q ∙ f)
 
-      calls : (n : ℕ) (c : Command) (y : Reply) → e.what ≡ Call n c y → (x : KnownCall s e.cpu (own_of s e.cpu past) (lanes_at s past) n c y) → Names s t e past x.frame → EachFrame (P (e ∷ past)) (at_name n (called (due_of e.what (time past)) c y) (part_of s t past))
+      calls : (n : ℕ) (c : Command) (y : Reply) → e.what ≡ Call n c y → (x : KnownCall s e.cpu (own_of s e.cpu past) (lanes_at s past) n c y) →
+          Names s t e past x.frame → EachFrame (P (e ∷ past)) (at_name n (called (due_of e.what (time past)) c y) (part_of s t past))
       calls n c y q x (inl d) =
-          named_head e past n (called (due_of e.what (time past)) c y) x.frame (part_of s t past) d.1 x.name (ap names q) l h (λ low old. k.called e past n c y r x q low old)
+          named_head e past n (called (due_of e.what (time past)) c y) x.frame (part_of s t past) d.1 x.name (ap names q) l h
+          (λ low old. k.called e past n c y r x q low old)
       calls n c y q x (inr d) = other_name e past n (called (due_of e.what (time past)) c y) x.frame (part_of s t past) d x.name (ap names q) l h
 
-      rewaits : (n : ℕ) (y : Reply) → e.what ≡ Rewait n y → (x : KnownRewait e.cpu (own_of s e.cpu past) (lanes_at s past) n y) → Names s t e past x.frame → EachFrame (P (e ∷ past)) (at_name n (rewaited y) (part_of s t past))
+      rewaits : (n : ℕ) (y : Reply) → e.what ≡ Rewait n y → (x : KnownRewait e.cpu (own_of s e.cpu past) (lanes_at s past) n y) → Names s t e past x.frame →
+          EachFrame (P (e ∷ past)) (at_name n (rewaited y) (part_of s t past))
       rewaits n y q x (inl d) =
-          named_head e past n (rewaited y) x.frame (part_of s t past) d.1 x.name (ap names q) l h (λ low old. k.rewaited e past y x.frame (q ∙ ap (λ (n : ℕ). Rewait n y) x.name) low old)
+          named_head e past n (rewaited y) x.frame (part_of s t past) d.1 x.name (ap names q) l h
+          (λ low old. k.rewaited e past y x.frame (q ∙ ap (λ (n : ℕ). Rewait n y) x.name) low old)
       rewaits n y q x (inr d) = other_name e past n (rewaited y) x.frame (part_of s t past) d x.name (ap names q) l h
 
-      normals : (n : ℕ) → e.what ≡ Normal n → (x : KnownNormal s e.cpu (own_of s e.cpu past) n) → Names s t e past x.frame → EachFrame (P (e ∷ past)) (at_name n normal_of (part_of s t past))
+      normals : (n : ℕ) → e.what ≡ Normal n → (x : KnownNormal s e.cpu (own_of s e.cpu past) n) → Names s t e past x.frame →
+          EachFrame (P (e ∷ past)) (at_name n normal_of (part_of s t past))
       normals n q x (inl d) =
-          named_head e past n normal_of x.frame (part_of s t past) d.1 x.name (ap names q) l h (λ low old. k.normal e past x.frame (q ∙ ap (λ (n : ℕ). Normal n) x.name) x.normal low old)
+          named_head e past n normal_of x.frame (part_of s t past) d.1 x.name (ap names q) l h
+          (λ low old. k.normal e past x.frame (q ∙ ap (λ (n : ℕ). Normal n) x.name) x.normal low old)
       normals n q x (inr d) = other_name e past n normal_of x.frame (part_of s t past) d x.name (ap names q) l h
 
-      ends : (n : ℕ) → e.what ≡ End n → (x : KnownEnd s e.cpu (own_of s e.cpu past) n) → Names s t e past x.frame → EachFrame (P (e ∷ past)) (end_on_thread n (part_of s t past))
+      ends : (n : ℕ) → e.what ≡ End n → (x : KnownEnd s e.cpu (own_of s e.cpu past) n) → Names s t e past x.frame →
+          EachFrame (P (e ∷ past)) (end_on_thread n (part_of s t past))
       ends n q x (inl d) = ended_head e past n x.frame (part_of s t past) d.1 x.name q l h
       ends n q x (inr d) =
-          subst (EachFrame (P (e ∷ past))) (sym (ap (λ (v : ℕ). end_on_thread v (part_of s t past)) x.name ∙ end_other x.frame.name (part_of s t past) d)) (kept_all e past (length past) (part_of s t past) (omega arith) l (others e.what x.frame.name (part_of s t past) (ap names q ∙ ap (λ (n : ℕ). Some n) x.name) d) h)
+          subst (EachFrame (P (e ∷ past))) (sym (ap (λ (v : ℕ). end_on_thread v (part_of s t past)) x.name ∙ end_other x.frame.name (part_of s t past) d))
+          (kept_all e past (length past) (part_of s t past) (omega arith) l
+          (others e.what x.frame.name (part_of s t past) (ap names q ∙ ap (λ (n : ℕ). Some n) x.name) d) h)
 
       go : (w : What) → e.what ≡ w → EachFrame (P (e ∷ past)) (thread_after s (length past) (due_of e.what (time past)) w (part_of s t past))
       go (Switch u st) q = switched e past u st (part_of s t past) q l h
@@ -312,7 +360,8 @@ module _ (s : Script) (limit : ℕ) (P : List Event → Frame → Type 0) (k : F
       go w q = quiet w q refl
 
   -- an event of another thread names none of its frames
-  unnamed_aside : (t : ThreadNo) (e : Event) (past : List Event) → IsRun s limit (e ∷ past) → is_by e t ≡ false → EachNamed (λ m b. IsAside m e.what) (part_of s t past)
+  unnamed_aside : (t : ThreadNo) (e : Event) (past : List Event) → IsRun s limit (e ∷ past) → is_by e t ≡ false →
+      EachNamed (λ m b. IsAside m e.what) (part_of s t past)
   unnamed_aside t e past r b = go e.what refl
     where
       known : (w : What) → e.what ≡ w → is_next w ≡ true → Known s e.cpu (own_of s e.cpu past) (lanes_at s past) w
@@ -348,18 +397,22 @@ module _ (s : Script) (limit : ℕ) (P : List Event → Frame → Type 0) (k : F
       go true b h =
           subst (EachFrame (P (e ∷ past))) (sym (part_moves s limit t e past r b)) (part_kept t e past r (thread_falls s (cpu_of s t) t past) h)
       go false b h =
-          subst (EachFrame (P (e ∷ past))) (sym (part_same s t e past b)) (kept_all e past (length past) (part_of s t past) (omega arith) (thread_falls s (cpu_of s t) t past) (unnamed_aside t e past r b) h)
+          subst (EachFrame (P (e ∷ past))) (sym (part_same s t e past b))
+          (kept_all e past (length past) (part_of s t past) (omega arith) (thread_falls s (cpu_of s t) t past) (unnamed_aside t e past r b) h)
 
   -- ---- a processor's own part
 
-  own_kept : (p : CpuNo) (e : Event) (past : List Event) (b : Bool) → IsRun s limit (e ∷ past) → is_of e p ≡ b → EachFrame (P past) (own_frames p past) → EachFrame (P (e ∷ past)) (if b then own_after (length past) (due_of e.what (time past)) e.what (own_frames p past) else own_frames p past)
+  own_kept : (p : CpuNo) (e : Event) (past : List Event) (b : Bool) → IsRun s limit (e ∷ past) → is_of e p ≡ b → EachFrame (P past) (own_frames p past) →
+      EachFrame (P (e ∷ past)) (if b then own_after (length past) (due_of e.what (time past)) e.what (own_frames p past) else own_frames p past)
   own_kept p e past b r o h = go b e.what refl o
     where
       quiet : (w : What) → e.what ≡ w → names w ≡ None → EachFrame (P (e ∷ past)) (own_frames p past)
-      quiet w q n = kept_all e past (length past) (own_frames p past) (omega arith) (own_falls p past) (none_named e.what (own_frames p past) (ap names q ∙ n)) h
+      quiet w q n = kept_all e past (length past) (own_frames p past) (omega arith) (own_falls p past)
+          (none_named e.what (own_frames p past) (ap names q ∙ n)) h
 
       stays : (f : Frame) (n : ℕ) → n ≡ f.name → names e.what ≡ Some n → NamesNone f.name (own_frames p past) → EachFrame (P (e ∷ past)) (own_frames p past)
-      stays f n m w d = kept_all e past (length past) (own_frames p past) (omega arith) (own_falls p past) (others e.what f.name (own_frames p past) (w ∙ ap (λ (n : ℕ). Some n) m) d) h
+      stays f n m w d = kept_all e past (length past) (own_frames p past) (omega arith) (own_falls p past)
+          (others e.what f.name (own_frames p past) (w ∙ ap (λ (n : ℕ). Some n) m) d) h
 
       known : (w : What) → e.what ≡ w → is_next w ≡ true → Known s e.cpu (own_of s e.cpu past) (lanes_at s past) w
       known w q n = subst (Known s e.cpu (own_of s e.cpu past) (lanes_at s past)) q (legal_known s limit e past r.0 (ap is_next q ∙ n))
@@ -370,18 +423,24 @@ module _ (s : Script) (limit : ℕ) (P : List Event → Frame → Type 0) (k : F
       body_of : (f : Frame) → HeadIs f (own_frames p past) → is_own_body f.body ≡ true
       body_of f d = (subst AllOwn d.1 (all_own p past)).0.0
 
-      calls : (b : Bool) (n : ℕ) (c : Command) (y : Reply) → e.what ≡ Call n c y → is_of e p ≡ b → (x : KnownCall s e.cpu (own_of s e.cpu past) (lanes_at s past) n c y) → OwnNames s p e past x.frame → EachFrame (P (e ∷ past)) (if b then at_name n (called (due_of e.what (time past)) c y) (own_frames p past) else own_frames p past)
+      calls : (b : Bool) (n : ℕ) (c : Command) (y : Reply) → e.what ≡ Call n c y → is_of e p ≡ b →
+          (x : KnownCall s e.cpu (own_of s e.cpu past) (lanes_at s past) n c y) → OwnNames s p e past x.frame →
+          EachFrame (P (e ∷ past)) (if b then at_name n (called (due_of e.what (time past)) c y) (own_frames p past) else own_frames p past)
       calls true n c y q o x (inl d) =
-          named_head e past n (called (due_of e.what (time past)) c y) x.frame (own_frames p past) d.1 x.name (ap names q) (own_falls p past) h (λ low old. k.called e past n c y r x q low old)
+          named_head e past n (called (due_of e.what (time past)) c y) x.frame (own_frames p past) d.1 x.name (ap names q) (own_falls p past) h
+          (λ low old. k.called e past n c y r x q low old)
       calls false n c y q o x (inl d) = no_bool d.0 o
-      calls true n c y q o x (inr d) = other_name e past n (called (due_of e.what (time past)) c y) x.frame (own_frames p past) d x.name (ap names q) (own_falls p past) h
+      calls true n c y q o x (inr d) = other_name e past n (called (due_of e.what (time past)) c y) x.frame (own_frames p past) d x.name (ap names q)
+          (own_falls p past) h
       calls false n c y q o x (inr d) = stays x.frame n x.name (ap names q) d
 
-      ends : (b : Bool) (n : ℕ) → e.what ≡ End n → is_of e p ≡ b → (x : KnownEnd s e.cpu (own_of s e.cpu past) n) → OwnNames s p e past x.frame → EachFrame (P (e ∷ past)) (if b then without n (own_frames p past) else own_frames p past)
+      ends : (b : Bool) (n : ℕ) → e.what ≡ End n → is_of e p ≡ b → (x : KnownEnd s e.cpu (own_of s e.cpu past) n) → OwnNames s p e past x.frame →
+          EachFrame (P (e ∷ past)) (if b then without n (own_frames p past) else own_frames p past)
       ends true n q o x (inl d) = dropped_head e past n x.frame (own_frames p past) d.1 x.name q (own_falls p past) h
       ends false n q o x (inl d) = no_bool d.0 o
       ends true n q o x (inr d) =
-          subst (EachFrame (P (e ∷ past))) (sym (ap (λ (v : ℕ). without v (own_frames p past)) x.name ∙ without_other x.frame.name (own_frames p past) d)) (stays x.frame n x.name (ap names q) d)
+          subst (EachFrame (P (e ∷ past))) (sym (ap (λ (v : ℕ). without v (own_frames p past)) x.name ∙ without_other x.frame.name (own_frames p past) d))
+          (stays x.frame n x.name (ap names q) d)
       ends false n q o x (inr d) = stays x.frame n x.name (ap names q) d
 
       -- no frame of an own part has a normal routine, or a wait to take up
@@ -391,11 +450,13 @@ module _ (s : Script) (limit : ℕ) (P : List Event → Frame → Type 0) (k : F
       no_normal (OnThreaded x) i j = cc
       no_normal b i j = cc
 
-      normals : (n : ℕ) → e.what ≡ Normal n → (x : KnownNormal s e.cpu (own_of s e.cpu past) n) → OwnNames s p e past x.frame → EachFrame (P (e ∷ past)) (own_frames p past)
+      normals : (n : ℕ) → e.what ≡ Normal n → (x : KnownNormal s e.cpu (own_of s e.cpu past) n) → OwnNames s p e past x.frame →
+          EachFrame (P (e ∷ past)) (own_frames p past)
       normals n q x (inl d) = absurd (no_normal x.frame.body (body_of x.frame d.1) x.normal)
       normals n q x (inr d) = stays x.frame n x.name (ap names q) d
 
-      rewaits : (n : ℕ) (y : Reply) → e.what ≡ Rewait n y → (x : KnownRewait e.cpu (own_of s e.cpu past) (lanes_at s past) n y) → OwnNames s p e past x.frame → EachFrame (P (e ∷ past)) (own_frames p past)
+      rewaits : (n : ℕ) (y : Reply) → e.what ≡ Rewait n y → (x : KnownRewait e.cpu (own_of s e.cpu past) (lanes_at s past) n y) → OwnNames s p e past x.frame →
+          EachFrame (P (e ∷ past)) (own_frames p past)
       rewaits n y q x (inl d) =
           let none : x.frame.again ≡ None = (subst NoneAgain d.1.1 (none_again s limit p past r.1)).0 in
           let some = x.again in
@@ -406,7 +467,8 @@ module _ (s : Script) (limit : ℕ) (P : List Event → Frame → Type 0) (k : F
       either true fs h = h
       either false fs h = h
 
-      go : (b : Bool) (w : What) → e.what ≡ w → is_of e p ≡ b → EachFrame (P (e ∷ past)) (if b then own_after (length past) (due_of e.what (time past)) w (own_frames p past) else own_frames p past)
+      go : (b : Bool) (w : What) → e.what ≡ w → is_of e p ≡ b →
+          EachFrame (P (e ∷ past)) (if b then own_after (length past) (due_of e.what (time past)) w (own_frames p past) else own_frames p past)
       go true (Begin (Int l) from) q o = (k.begun e past (OnInt l) (ap names q), quiet (Begin (Int l) from) q refl)
       go true (Begin (Dpc d) from) q o = (k.begun e past (OnDpc d) (ap names q), quiet (Begin (Dpc d) from) q refl)
       go true (Begin (Threaded d) from) q o = (k.begun e past (OnThreaded d) (ap names q), quiet (Begin (Threaded d) from) q refl)

@@ -18,7 +18,7 @@ use Rattle.nt_event.specs.declared.numbers.CpuNo.{CpuNo}
 use Rattle.nt_event.specs.declared.numbers.RoutineNo.{RoutineNo}
 use Rattle.nt_event.specs.declared.numbers.ThreadNo.{ThreadNo}
 use Rattle.nt_event.specs.declared.scripts.Script.{Script}
-use Rattle.nt_event.specs.Frames.{at_name, called, done_to, due_of, end_on_thread, flushed, frames_of, is_base_body, left, normal_of, own_after, own_frames, resumed, rewaited, running, thread_after, thread_frames, thread_part, time, without}
+use Rattle.nt_event.specs.Frames.{at_name, called, done_to, due_of, end_on_thread, flushed, frames_of, is_base_body, ended_base, normal_of, own_after, own_frames, resumed, rewaited, running, thread_after, thread_frames, thread_part, time, without}
 use Rattle.nt_event.specs.Lanes.{lanes_at}
 use Rattle.nt_event.specs.Own.{own_of}
 use Rattle.nt_event.specs.Routines.{kind_of, rundown_of}
@@ -105,7 +105,7 @@ falls_end : (n m : ℕ) (fs : List Frame) → Falls n fs → Falls n (end_on_thr
 falls_end n m [] h = h
 falls_end n m (f ∷ fs) h = go (f.name == m) (is_base_body f.body)
   where
-    go : (b c : Bool) → Falls n (if b then (if c then (left f ∷ fs) else fs) else (f ∷ fs))
+    go : (b c : Bool) → Falls n (if b then (if c then (ended_base f ∷ fs) else fs) else (f ∷ fs))
     go true true = h
     go true false = falls_tail n f fs h
     go false c = h
@@ -123,7 +123,8 @@ pub own_falls : (p : CpuNo) (past : List Event) → Falls (length past) (own_fra
 own_falls p [] = tt
 own_falls p (e ∷ past) = go (is_of e p) (own_falls p past)
   where
-    go : (b : Bool) → Falls (length past) (own_frames p past) → Falls (suc (length past)) (if b then own_after (length past) (due_of e.what (time past)) e.what (own_frames p past) else own_frames p past)
+    go : (b : Bool) → Falls (length past) (own_frames p past) →
+        Falls (suc (length past)) (if b then own_after (length past) (due_of e.what (time past)) e.what (own_frames p past) else own_frames p past)
     go true h = own_after_falls (length past) (due_of e.what (time past)) e.what (own_frames p past) h
     go false h = falls_from (length past) (suc (length past)) (own_frames p past) (omega arith) h
 
@@ -151,11 +152,14 @@ pub thread_falls : (s : Script) (p : CpuNo) (t : ThreadNo) (past : List Event) �
 thread_falls s p t [] = tt
 thread_falls s p t (e ∷ past) = go (is_of e p) (is_by e t) refl refl (thread_falls s p t past)
   where
-    go : (b c : Bool) → is_of e p ≡ b → is_by e t ≡ c → Falls (length past) (thread_frames s p t past) → Falls (suc (length past)) (thread_frames s p t (e ∷ past))
+    go : (b c : Bool) → is_of e p ≡ b → is_by e t ≡ c → Falls (length past) (thread_frames s p t past) →
+        Falls (suc (length past)) (thread_frames s p t (e ∷ past))
     go true true o k h =
-        subst (Falls (suc (length past))) (sym (frames_when s p t e past true o k)) (thread_after_falls s (length past) (due_of e.what (time past)) e.what (thread_frames s p t past) h)
+        subst (Falls (suc (length past))) (sym (frames_when s p t e past true o k))
+        (thread_after_falls s (length past) (due_of e.what (time past)) e.what (thread_frames s p t past) h)
     go true false o k h =
-        subst (Falls (suc (length past))) (sym (frames_when s p t e past false o k)) (falls_from (length past) (suc (length past)) (thread_frames s p t past) (omega arith) h)
+        subst (Falls (suc (length past))) (sym (frames_when s p t e past false o k))
+        (falls_from (length past) (suc (length past)) (thread_frames s p t past) (omega arith) h)
     go false c o k h =
         let moved : thread_frames s p t (e ∷ past) ≡ thread_frames s p t past = rw o in
         subst (Falls (suc (length past))) (sym moved) (falls_from (length past) (suc (length past)) (thread_frames s p t past) (omega arith) h)
@@ -196,12 +200,13 @@ pub each_end : (P : ℕ → Body → Type 0) (m : ℕ) (fs : List Frame) → Eac
 each_end P m [] h = h
 each_end P m (f ∷ fs) h = go (f.name == m) (is_base_body f.body)
   where
-    go : (b c : Bool) → EachNamed P (if b then (if c then (left f ∷ fs) else fs) else (f ∷ fs))
+    go : (b c : Bool) → EachNamed P (if b then (if c then (ended_base f ∷ fs) else fs) else (f ∷ fs))
     go true true = h
     go true false = h.1
     go false c = h
 
-own_after_each : (P : ℕ → Body → Type 0) (n : ℕ) (due : Option ℕ) (w : What) (fs : List Frame) → ((b : Body) → begun_own w ≡ Some b → P n b) → EachNamed P fs → EachNamed P (own_after n due w fs)
+own_after_each : (P : ℕ → Body → Type 0) (n : ℕ) (due : Option ℕ) (w : What) (fs : List Frame) → ((b : Body) → begun_own w ≡ Some b → P n b) → EachNamed P fs →
+    EachNamed P (own_after n due w fs)
 own_after_each P n due (Begin (Int l) from) fs new h = (new (OnInt l) refl, h)
 own_after_each P n due (Begin (Dpc d) from) fs new h = (new (OnDpc d) refl, h)
 own_after_each P n due (Begin (Threaded d) from) fs new h = (new (OnThreaded d) refl, h)
@@ -209,7 +214,9 @@ own_after_each P n due (Call f c y) fs new h = each_at_name P f (called due c y)
 own_after_each P n due (End f) fs new h = each_without P f fs h
 own_after_each P n due w fs new h = h
 
-pub thread_after_each : (P : ℕ → Body → Type 0) (s : Script) (n : ℕ) (due : Option ℕ) (w : What) (fs : List Frame) → ((t : ThreadNo) (st : Option ℕ) → w ≡ Switch t st → fs ≡ [] → P n (OnBase t)) → ((b : Body) → begun_inner s w ≡ Some b → P n b) → EachNamed P fs → EachNamed P (thread_after s n due w fs)
+pub thread_after_each : (P : ℕ → Body → Type 0) (s : Script) (n : ℕ) (due : Option ℕ) (w : What) (fs : List Frame) →
+    ((t : ThreadNo) (st : Option ℕ) → w ≡ Switch t st → fs ≡ [] → P n (OnBase t)) → ((b : Body) → begun_inner s w ≡ Some b → P n b) → EachNamed P fs →
+    EachNamed P (thread_after s n due w fs)
 thread_after_each P s n due (Switch t st) [] base inner h = (base t st refl refl, tt)
 thread_after_each P s n due (Switch t st) (f ∷ fs) base inner h = (keep_at P (resumed st) f (keep_resumed st) h.0, h.1)
 thread_after_each P s n due (Begin (Apc a) from) fs base inner h = (inner (OnApc a (kind_of s a)) refl, h)
@@ -235,32 +242,41 @@ own_begun p [] = tt
 own_begun p (e ∷ past) =
     go (is_of e p) refl (each_map (IsOwnBegin p past) (IsOwnBegin p (e ∷ past)) (own_frames p past) (λ n b h. inr h) (own_begun p past))
   where
-    go : (c : Bool) → is_of e p ≡ c → EachNamed (IsOwnBegin p (e ∷ past)) (own_frames p past) → EachNamed (IsOwnBegin p (e ∷ past)) (if c then own_after (length past) (due_of e.what (time past)) e.what (own_frames p past) else own_frames p past)
+    go : (c : Bool) → is_of e p ≡ c → EachNamed (IsOwnBegin p (e ∷ past)) (own_frames p past) →
+        EachNamed (IsOwnBegin p (e ∷ past)) (if c then own_after (length past) (due_of e.what (time past)) e.what (own_frames p past) else own_frames p past)
     go true o h =
         own_after_each (IsOwnBegin p (e ∷ past)) (length past) (due_of e.what (time past)) e.what (own_frames p past) (λ b q. inl (refl, (o, q))) h
     go false o h = h
 
 -- event n began this on the part of t: a base frame or another one
 abbrev pub IsThreadBegin : Script → ThreadNo → List Event → ℕ → Body → Type 0
-IsThreadBegin s t past n b = ((b ≡ OnBase t) × At (λ e before. switches_to t e.what ≡ true) n past) ⊎ At (λ e before. (is_by e t ≡ true) × (begun_inner s e.what ≡ Some b)) n past
+IsThreadBegin s t past n b = ((b ≡ OnBase t) × At (λ e before. switches_to t e.what ≡ true) n past) ⊎
+    At (λ e before. (is_by e t ≡ true) × (begun_inner s e.what ≡ Some b)) n past
 
-pub switch_self : (s : Script) (limit : ℕ) (t u : ThreadNo) (st : Option ℕ) (e : Event) (past : List Event) → IsLegal s limit e past → is_by e t ≡ true → e.what ≡ Switch u st → u ≡ t
+pub switch_self : (s : Script) (limit : ℕ) (t u : ThreadNo) (st : Option ℕ) (e : Event) (past : List Event) → IsLegal s limit e past → is_by e t ≡ true →
+    e.what ≡ Switch u st → u ≡ t
 switch_self s limit t u st e past g b k =
-    let field : Some u ≡ Some t = sym (ap (λ (w : What). thread_field w (running e.cpu past)) k) ∙ (sym (thread_named s limit e past g) ∙ same_thread e.thread t b) in
+    let field : Some u ≡ Some t = sym (ap (λ (w : What). thread_field w (running e.cpu past)) k)
+    ∙ (sym (thread_named s limit e past g) ∙ same_thread e.thread t b) in
     cc
 
-pub thread_begun : (s : Script) (limit : ℕ) (p : CpuNo) (t : ThreadNo) (past : List Event) → IsRun s limit past → EachNamed (IsThreadBegin s t past) (thread_frames s p t past)
+pub thread_begun : (s : Script) (limit : ℕ) (p : CpuNo) (t : ThreadNo) (past : List Event) → IsRun s limit past →
+    EachNamed (IsThreadBegin s t past) (thread_frames s p t past)
 thread_begun s limit p t [] r = tt
 thread_begun s limit p t (e ∷ past) r =
-    go (is_of e p) (is_by e t) refl refl (each_map (IsThreadBegin s t past) (IsThreadBegin s t (e ∷ past)) (thread_frames s p t past) lift (thread_begun s limit p t past r.1))
+    go (is_of e p) (is_by e t) refl refl (each_map (IsThreadBegin s t past) (IsThreadBegin s t (e ∷ past)) (thread_frames s p t past) lift
+    (thread_begun s limit p t past r.1))
   where
     lift : (n : ℕ) (b : Body) → IsThreadBegin s t past n b → IsThreadBegin s t (e ∷ past) n b
     lift n b (inl h) = inl (h.0, inr h.1)
     lift n b (inr h) = inr (inr h)
 
-    go : (c d : Bool) → is_of e p ≡ c → is_by e t ≡ d → EachNamed (IsThreadBegin s t (e ∷ past)) (thread_frames s p t past) → EachNamed (IsThreadBegin s t (e ∷ past)) (thread_frames s p t (e ∷ past))
+    go : (c d : Bool) → is_of e p ≡ c → is_by e t ≡ d → EachNamed (IsThreadBegin s t (e ∷ past)) (thread_frames s p t past) →
+        EachNamed (IsThreadBegin s t (e ∷ past)) (thread_frames s p t (e ∷ past))
     go true true o k h =
-        subst (EachNamed (IsThreadBegin s t (e ∷ past))) (sym (frames_when s p t e past true o k)) (thread_after_each (IsThreadBegin s t (e ∷ past)) s (length past) (due_of e.what (time past)) e.what (thread_frames s p t past) base (λ b q. inr (inl (refl, (k, q)))) h)
+        subst (EachNamed (IsThreadBegin s t (e ∷ past))) (sym (frames_when s p t e past true o k))
+        (thread_after_each (IsThreadBegin s t (e ∷ past)) s (length past) (due_of e.what (time past)) e.what (thread_frames s p t past) base
+        (λ b q. inr (inl (refl, (k, q)))) h)
       where
         base : (u : ThreadNo) (st : Option ℕ) → e.what ≡ Switch u st → thread_frames s p t past ≡ [] → IsThreadBegin s t (e ∷ past) (length past) (OnBase u)
         base u st q none =
@@ -273,7 +289,8 @@ thread_begun s limit p t (e ∷ past) r =
 
 -- ---- one event begins one frame
 
-pub at_both : (P Q : Event → List Event → Type 0) (n : ℕ) (past : List Event) → At P n past → At Q n past → ((e : Event) (before : List Event) → P e before → Q e before → ⊥) → ⊥
+pub at_both : (P Q : Event → List Event → Type 0) (n : ℕ) (past : List Event) → At P n past → At Q n past →
+    ((e : Event) (before : List Event) → P e before → Q e before → ⊥) → ⊥
 at_both P Q n [] h k never = h
 at_both P Q n (e ∷ past) (inl h) (inl k) never = never e past h.1 k.1
 at_both P Q n (e ∷ past) (inl h) (inr k) never =
@@ -299,9 +316,11 @@ inner_not_switch s t w b h k = cc
 -- a frame of an own part isn't one of a thread's
 pub own_apart : (s : Script) (p : CpuNo) (t : ThreadNo) (past : List Event) (n : ℕ) (b c : Body) → IsOwnBegin p past n b → IsThreadBegin s t past n c → ⊥
 own_apart s p t past n b c h (inl k) =
-    at_both (λ e before. (is_of e p ≡ true) × (begun_own e.what ≡ Some b)) (λ e before. switches_to t e.what ≡ true) n past h k.1 (λ e before x y. own_not_switch t e.what b x.1 y)
+    at_both (λ e before. (is_of e p ≡ true) × (begun_own e.what ≡ Some b)) (λ e before. switches_to t e.what ≡ true) n past h k.1
+    (λ e before x y. own_not_switch t e.what b x.1 y)
 own_apart s p t past n b c h (inr k) =
-    at_both (λ e before. (is_of e p ≡ true) × (begun_own e.what ≡ Some b)) (λ e before. (is_by e t ≡ true) × (begun_inner s e.what ≡ Some c)) n past h k (λ e before x y. own_not_inner s e.what b c x.1 y.1)
+    at_both (λ e before. (is_of e p ≡ true) × (begun_own e.what ≡ Some b)) (λ e before. (is_by e t ≡ true) × (begun_inner s e.what ≡ Some c)) n past h k
+    (λ e before x y. own_not_inner s e.what b c x.1 y.1)
 
 -- ---- the frame that an End names
 
@@ -314,7 +333,8 @@ heads_of [] f n h e = cc
 heads_of (g ∷ fs) f n h e = let same : g ≡ f = cc in (g, fs, refl, ap (λ (x : Frame). x.name) same ∙ sym e)
 
 abbrev pub IsEnder : Script → CpuNo → List Event → ℕ → Type 0
-IsEnder s q past n = Heads n (own_frames q past) ⊎ ((own_frames q past ≡ []) × ((u : ThreadNo) × (running q past ≡ Some u) × Heads n (thread_frames s q u past)))
+IsEnder s q past n = Heads n (own_frames q past) ⊎ ((own_frames q past ≡ []) ×
+    ((u : ThreadNo) × (running q past ≡ Some u) × Heads n (thread_frames s q u past)))
 
 pub ender : (s : Script) (limit : ℕ) (n : ℕ) (e : Event) (past : List Event) → IsRun s limit (e ∷ past) → e.what ≡ End n → IsEnder s e.cpu past n
 ender s limit n e past r k = go (own_frames e.cpu past) refl
@@ -324,7 +344,9 @@ ender s limit n e past r k = go (own_frames e.cpu past) refl
 
     go : (fs : List Frame) → own_frames e.cpu past ≡ fs → IsEnder s e.cpu past n
     go (f ∷ fs) o =
-        let first : option_or (head_of (f ∷ fs)) (head_of (thread_part (frames_of s e.cpu past))) ≡ Some known.frame = subst (λ (gs : List Frame). option_or (head_of gs) (head_of (thread_part (frames_of s e.cpu past))) ≡ Some known.frame) o known.goes_on.inner in
+        let first : option_or (head_of (f ∷ fs)) (head_of (thread_part (frames_of s e.cpu past)))
+        ≡ Some known.frame = subst (λ (gs : List Frame). option_or (head_of gs) (head_of (thread_part (frames_of s e.cpu past)))
+        ≡ Some known.frame) o known.goes_on.inner in
         let same : f ≡ known.frame = cc in
         inl (f, fs, o, ap (λ (x : Frame). x.name) same ∙ sym known.name)
     go [] o =
@@ -345,7 +367,8 @@ own_lift : (p : CpuNo) (e : Event) (past : List Event) (n : ℕ) (b : Body) → 
 own_lift p e past n b k h = (inr h.0, (λ l. k, h.1))
 
 -- an event of another processor doesn't end it
-foreign : (s : Script) (limit : ℕ) (p : CpuNo) (e : Event) (past : List Event) (n : ℕ) (b : Body) (w : What) → IsRun s limit (e ∷ past) → is_of e p ≡ false → e.what ≡ w → IsOpenOwn p past n b → ends_frame n w ≡ false
+foreign : (s : Script) (limit : ℕ) (p : CpuNo) (e : Event) (past : List Event) (n : ℕ) (b : Body) (w : What) → IsRun s limit (e ∷ past) → is_of e p ≡ false →
+    e.what ≡ w → IsOpenOwn p past n b → ends_frame n w ≡ false
 foreign s limit p e past n b (End g) r o k h = go (g == n) refl
   where
     other : (x : Event) → is_of x e.cpu ≡ true → is_of x p ≡ true → ⊥
@@ -356,7 +379,8 @@ foreign s limit p e past n b (End g) r o k h = go (g == n) refl
     no : g ≡ n → IsEnder s e.cpu past g → ⊥
     no q (inl m) =
         let a = each_head (IsOwnBegin e.cpu past) g (own_frames e.cpu past) (own_begun e.cpu past) m in
-        at_both (λ e before. (is_of e p ≡ true) × (begun_own e.what ≡ Some b)) (λ x before. (is_of x e.cpu ≡ true) × (begun_own x.what ≡ Some a.0)) n past h.0 (subst (λ (m : ℕ). IsOwnBegin e.cpu past m a.0) q a.1) (λ x before i j. other x j.0 i.0)
+        at_both (λ e before. (is_of e p ≡ true) × (begun_own e.what ≡ Some b)) (λ x before. (is_of x e.cpu ≡ true) × (begun_own x.what ≡ Some a.0)) n past h.0
+        (subst (λ (m : ℕ). IsOwnBegin e.cpu past m a.0) q a.1) (λ x before i j. other x j.0 i.0)
     no q (inr m) =
         let a = each_head (IsThreadBegin s m.1.0 past) g (thread_frames s e.cpu m.1.0 past) (thread_begun s limit e.cpu m.1.0 past r.1) m.1.2 in
         own_apart s p m.1.0 past n b a.0 h.0 (subst (λ (m' : ℕ). IsThreadBegin s m.1.0 past m' a.0) q a.1)
@@ -366,13 +390,15 @@ foreign s limit p e past n b (End g) r o k h = go (g == n) refl
     go true q = absurd (no (eqb-true g n q) (ender s limit g e past r k))
 foreign s limit p e past n b w r o k h = refl
 
-own_end : (p : CpuNo) (e : Event) (past : List Event) (g : ℕ) (fs : List Frame) → e.what ≡ End g → Falls (length past) fs → ((fs ≡ []) ⊎ Heads g fs) → EachNamed (IsOpenOwn p past) fs → EachNamed (IsOpenOwn p (e ∷ past)) (without g fs)
+own_end : (p : CpuNo) (e : Event) (past : List Event) (g : ℕ) (fs : List Frame) → e.what ≡ End g → Falls (length past) fs → ((fs ≡ []) ⊎ Heads g fs) →
+    EachNamed (IsOpenOwn p past) fs → EachNamed (IsOpenOwn p (e ∷ past)) (without g fs)
 own_end p e past g [] k f d h = tt
 own_end p e past g (x ∷ fs) k f (inl d) h = cc
 own_end p e past g (x ∷ fs) k f (inr d) h =
     let same : x ≡ d.0 = cc in
     let name : x.name ≡ g = ap (λ (y : Frame). y.name) same ∙ d.3 in
-    let rest : EachNamed (IsOpenOwn p (e ∷ past)) fs = each_map (λ m b. IsOpenOwn p past m b × (m < x.name)) (IsOpenOwn p (e ∷ past)) fs (λ m b q. own_lift p e past m b (survives m (let l = q.1 in omega (arith, l, name))) q.0) (each_below (IsOpenOwn p past) x.name fs f.1 h.1) in
+    let rest : EachNamed (IsOpenOwn p (e ∷ past)) fs = each_map (λ m b. IsOpenOwn p past m b × (m < x.name)) (IsOpenOwn p (e ∷ past)) fs
+    (λ m b q. own_lift p e past m b (survives m (let l = q.1 in omega (arith, l, name))) q.0) (each_below (IsOpenOwn p past) x.name fs f.1 h.1) in
     subst (λ (c : Bool). EachNamed (IsOpenOwn p (e ∷ past)) (if c then fs else (x ∷ fs))) (sym (eq-eqb x.name g name)) rest
   where
     differs : (m : ℕ) → m < g → (c : Bool) → (g == m) ≡ c → c ≡ false
@@ -386,7 +412,8 @@ pub own_open : (s : Script) (limit : ℕ) (p : CpuNo) (past : List Event) → Is
 own_open s limit p [] r = tt
 own_open s limit p (e ∷ past) r = go (is_of e p) refl (own_open s limit p past r.1)
   where
-    mine : (w : What) → is_of e p ≡ true → e.what ≡ w → EachNamed (IsOpenOwn p past) (own_frames p past) → EachNamed (IsOpenOwn p (e ∷ past)) (own_after (length past) (due_of e.what (time past)) w (own_frames p past))
+    mine : (w : What) → is_of e p ≡ true → e.what ≡ w → EachNamed (IsOpenOwn p past) (own_frames p past) →
+        EachNamed (IsOpenOwn p (e ∷ past)) (own_after (length past) (due_of e.what (time past)) w (own_frames p past))
     mine (End g) o k h = own_end p e past g (own_frames p past) k (own_falls p past) (head (ender s limit g e past r k)) h
       where
         at : IsEnder s p past g → (own_frames p past ≡ []) ⊎ Heads g (own_frames p past)
@@ -396,12 +423,19 @@ own_open s limit p (e ∷ past) r = go (is_of e p) refl (own_open s limit p past
         head : IsEnder s e.cpu past g → (own_frames p past ≡ []) ⊎ Heads g (own_frames p past)
         head m = at (subst (λ (q : CpuNo). IsEnder s q past g) (same_cpu e p o) m)
     mine w o k h =
-        own_after_each (IsOpenOwn p (e ∷ past)) (length past) (due_of e.what (time past)) w (own_frames p past) (λ b q. (inl (refl, (o, ap begun_own k ∙ q)), (λ l. absurd (omega (arith, l)), none_after (λ e before. ends_frame (length past) e.what ≡ false) (length past) past (omega arith)))) (each_map (IsOpenOwn p past) (IsOpenOwn p (e ∷ past)) (own_frames p past) (λ n b q. own_lift p e past n b (ap (ends_frame n) k) q) h)
+        own_after_each (IsOpenOwn p (e ∷ past)) (length past) (due_of e.what (time past)) w (own_frames p past)
+        (λ b q. (
+          inl (refl, (o, ap begun_own k ∙ q)),
+          (λ l. absurd (omega (arith, l)), none_after (λ e before. ends_frame (length past) e.what ≡ false) (length past) past (omega arith)),
+        ))
+        (each_map (IsOpenOwn p past) (IsOpenOwn p (e ∷ past)) (own_frames p past) (λ n b q. own_lift p e past n b (ap (ends_frame n) k) q) h)
 
-    go : (c : Bool) → is_of e p ≡ c → EachNamed (IsOpenOwn p past) (own_frames p past) → EachNamed (IsOpenOwn p (e ∷ past)) (if c then own_after (length past) (due_of e.what (time past)) e.what (own_frames p past) else own_frames p past)
+    go : (c : Bool) → is_of e p ≡ c → EachNamed (IsOpenOwn p past) (own_frames p past) →
+        EachNamed (IsOpenOwn p (e ∷ past)) (if c then own_after (length past) (due_of e.what (time past)) e.what (own_frames p past) else own_frames p past)
     go true o h = mine e.what o refl h
     go false o h =
-        each_map (IsOpenOwn p past) (IsOpenOwn p (e ∷ past)) (own_frames p past) (λ n b q. own_lift p e past n b (foreign s limit p e past n b e.what r o refl q) q) h
+        each_map (IsOpenOwn p past) (IsOpenOwn p (e ∷ past)) (own_frames p past)
+        (λ n b q. own_lift p e past n b (foreign s limit p e past n b e.what r o refl q) q) h
 
 -- ---- each open one is among them
 
@@ -441,16 +475,21 @@ own_has : (p : CpuNo) (n : ℕ) (b : Body) (past : List Event) → IsOpenOwn p p
 own_has p n b [] h = h.0
 own_has p n b (e ∷ past) h = go h.0 h.1 (λ k. own_has p n b past k)
   where
-    earlier : (c : Bool) → ends_frame n e.what ≡ false → HasFrame n b (own_frames p past) → HasFrame n b (if c then own_after (length past) (due_of e.what (time past)) e.what (own_frames p past) else own_frames p past)
+    earlier : (c : Bool) → ends_frame n e.what ≡ false → HasFrame n b (own_frames p past) →
+        HasFrame n b (if c then own_after (length past) (due_of e.what (time past)) e.what (own_frames p past) else own_frames p past)
     earlier true d k = own_stays n (length past) b (due_of e.what (time past)) e.what (own_frames p past) d k
     earlier false d k = k
 
-    new : (c : Bool) → is_of e p ≡ c → c ≡ true → n ≡ length past → begun_own e.what ≡ Some b → HasFrame n b (if c then own_after (length past) (due_of e.what (time past)) e.what (own_frames p past) else own_frames p past)
+    new : (c : Bool) → is_of e p ≡ c → c ≡ true → n ≡ length past → begun_own e.what ≡ Some b →
+        HasFrame n b (if c then own_after (length past) (due_of e.what (time past)) e.what (own_frames p past) else own_frames p past)
     new true o t q k =
-        subst (λ (m : ℕ). HasFrame m b (own_after (length past) (due_of e.what (time past)) e.what (own_frames p past))) (sym q) (own_new (length past) b (due_of e.what (time past)) e.what (own_frames p past) k)
+        subst (λ (m : ℕ). HasFrame m b (own_after (length past) (due_of e.what (time past)) e.what (own_frames p past))) (sym q)
+        (own_new (length past) b (due_of e.what (time past)) e.what (own_frames p past) k)
     new false o t q k = cc
 
-    go : At (λ e before. (is_of e p ≡ true) × (begun_own e.what ≡ Some b)) n (e ∷ past) → IsNotEnded n (e ∷ past) → (IsOpenOwn p past n b → HasFrame n b (own_frames p past)) → HasFrame n b (if is_of e p then own_after (length past) (due_of e.what (time past)) e.what (own_frames p past) else own_frames p past)
+    go : At (λ e before. (is_of e p ≡ true) × (begun_own e.what ≡ Some b)) n (e ∷ past) → IsNotEnded n (e ∷ past) →
+        (IsOpenOwn p past n b → HasFrame n b (own_frames p past)) →
+        HasFrame n b (if is_of e p then own_after (length past) (due_of e.what (time past)) e.what (own_frames p past) else own_frames p past)
     go (inl a) m ih = new (is_of e p) refl a.1.0 a.0 a.1.1
     go (inr a) m ih =
         earlier (is_of e p) (m.0 (at_before (λ e before. (is_of e p ≡ true) × (begun_own e.what ≡ Some b)) n past a)) (ih (a, m.1))

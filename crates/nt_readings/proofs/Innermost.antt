@@ -32,7 +32,8 @@ use Rattle.nt_readings.proofs.Threads.{part_of, thread_lists}
 abbrev LeavesRunning : CpuNo → Event → List Event → Type 0
 LeavesRunning p e before = is_of e p ≡ true → (is_switch_event e.what ≡ false) × (stops_thread e.what ≡ false)
 
-ran_before : (w : What) (r : Option ThreadNo) (t : ThreadNo) → running_after w r ≡ Some t → (switches_to t w ≡ true) ⊎ ((r ≡ Some t) × (is_switch_event w ≡ false) × (stops_thread w ≡ false))
+ran_before : (w : What) (r : Option ThreadNo) (t : ThreadNo) → running_after w r ≡ Some t → (switches_to t w ≡ true) ⊎
+    ((r ≡ Some t) × (is_switch_event w ≡ false) × (stops_thread w ≡ false))
 ran_before (Switch u st) r t h = let same : u ≡ t = cc in inl (eq-eqb u.0 t.0 (ap (λ (v : ThreadNo). v.0) same))
 ran_before (Gone u) r t h = cc
 ran_before (Call f Yield Done) r t h = cc
@@ -62,12 +63,14 @@ running_switched p t (e ∷ past) h = go (is_of e p) refl h (λ k. running_switc
     later : LeavesRunning p e past → IsLastSwitched p t past → IsLastSwitched p t (e ∷ past)
     later l k = (k.0, inr k.1, (λ m. l, k.2))
 
-    own : is_of e p ≡ true → (switches_to t e.what ≡ true) ⊎ ((running p past ≡ Some t) × (is_switch_event e.what ≡ false) × (stops_thread e.what ≡ false)) → (running p past ≡ Some t → IsLastSwitched p t past) → IsLastSwitched p t (e ∷ past)
+    own : is_of e p ≡ true → (switches_to t e.what ≡ true) ⊎ ((running p past ≡ Some t) × (is_switch_event e.what ≡ false) × (stops_thread e.what ≡ false)) →
+        (running p past ≡ Some t → IsLastSwitched p t past) → IsLastSwitched p t (e ∷ past)
     own o (inl k) ih =
         (length past, inl (refl, (o, k)), (λ l. absurd (omega (arith, l)), none_after (LeavesRunning p) (length past) past (omega arith)))
     own o (inr k) ih = later (λ o. (k.1, k.2)) (ih k.0)
 
-    go : (c : Bool) → is_of e p ≡ c → (if c then running_after e.what (running p past) else running p past) ≡ Some t → (running p past ≡ Some t → IsLastSwitched p t past) → IsLastSwitched p t (e ∷ past)
+    go : (c : Bool) → is_of e p ≡ c → (if c then running_after e.what (running p past) else running p past) ≡ Some t →
+        (running p past ≡ Some t → IsLastSwitched p t past) → IsLastSwitched p t (e ∷ past)
     go true o k ih = own o (ran_before e.what (running p past) t k) ih
     go false o k ih = later (λ q. absurd (no_bool (sym o ∙ q))) (ih k)
 
@@ -78,7 +81,8 @@ switched_running p t (e ∷ past) h = go (is_of e p) refl h.1 (λ k m. switched_
     Here : Event → List Event → Type 0
     Here x before = (is_of x p ≡ true) × (switches_to t x.what ≡ true)
 
-    go : (c : Bool) → is_of e p ≡ c → At Here h.0 (e ∷ past) → (At Here h.0 past → EachAfter (LeavesRunning p) h.0 past → running p past ≡ Some t) → (if c then running_after e.what (running p past) else running p past) ≡ Some t
+    go : (c : Bool) → is_of e p ≡ c → At Here h.0 (e ∷ past) → (At Here h.0 past → EachAfter (LeavesRunning p) h.0 past → running p past ≡ Some t) →
+        (if c then running_after e.what (running p past) else running p past) ≡ Some t
     go true o (inl a) ih = switched e.what (running p past) t a.1.1
     go false o (inl a) ih = absurd (no_bool (sym o ∙ a.1.0))
     go true o (inr a) ih =
@@ -135,6 +139,7 @@ innermost_greatest s limit p past r = go (own_frames p past) (own_lists s limit 
         nobody : (u : ThreadNo) → ◌≡◌ {A = Option ThreadNo} None (Some u) → ⊥
         nobody u h = cc
 
-    go : (fs : List Frame) → Lists (IsOpenOwn p past) (length past) fs → IsInnermost s p past (option_or (head_of fs) (head_of (thread_part (frames_of s p past))))
+    go : (fs : List Frame) → Lists (IsOpenOwn p past) (length past) fs →
+        IsInnermost s p past (option_or (head_of fs) (head_of (thread_part (frames_of s p past))))
     go (f ∷ fs) l = inl (first_greatest (IsOpenOwn p past) (length past) f fs l)
     go [] l = thread_or_none (none_open (IsOpenOwn p past) (length past) l) (running p past) refl

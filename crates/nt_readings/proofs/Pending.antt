@@ -54,7 +54,9 @@ standing_reads d [] x h = cc
 standing_reads d (e ∷ past) x h =
     go (is_dpc (inserted_dpc e.what) d) (is_dpc (used_up_dpc e.what) d) refl refl h (λ k. standing_reads d past x k)
   where
-    go : (b c : Bool) → is_dpc (inserted_dpc e.what) d ≡ b → is_dpc (used_up_dpc e.what) d ≡ c → (if b then Some (record { queue = queue_for (target_of d past) e.cpu; number = length past }) else (if c then None else standing d past)) ≡ Some x → (standing d past ≡ Some x → Reads d x.queue x.number past) → Reads d x.queue x.number (e ∷ past)
+    go : (b c : Bool) → is_dpc (inserted_dpc e.what) d ≡ b → is_dpc (used_up_dpc e.what) d ≡ c →
+        (if b then Some (record { queue = queue_for (target_of d past) e.cpu; number = length past }) else (if c then None else standing d past)) ≡ Some x →
+        (standing d past ≡ Some x → Reads d x.queue x.number past) → Reads d x.queue x.number (e ∷ past)
     go true c i u k ih = subst (λ (y : Standing). Reads d y.queue y.number (e ∷ past)) (same_some _ x k) new
       where
         same_some : (y z : Standing) → ◌≡◌ {A = Option Standing} (Some y) (Some z) → y ≡ z
@@ -81,7 +83,8 @@ none_some : {A : Type 0} (o : Option Standing) (x : Standing) → o ≡ None →
 none_some o x h k = cc
 
 -- an object that has a pending insert isn't inserted
-not_inserted : (s : Script) (limit : ℕ) (d : DpcNo) (e : Event) (past : List Event) (x : Standing) → IsRun s limit (e ∷ past) → has_dpc s d ≡ true → standing d past ≡ Some x → is_dpc (inserted_dpc e.what) d ≡ false
+not_inserted : (s : Script) (limit : ℕ) (d : DpcNo) (e : Event) (past : List Event) (x : Standing) → IsRun s limit (e ∷ past) → has_dpc s d ≡ true →
+    standing d past ≡ Some x → is_dpc (inserted_dpc e.what) d ≡ false
 not_inserted s limit d e past x r has st = go e.what refl
   where
     known : (w : What) → e.what ≡ w → is_next w ≡ true → Known s e.cpu (own_of s e.cpu past) (lanes_at s past) w
@@ -94,12 +97,14 @@ not_inserted s limit d e past x r has st = go e.what refl
 
     go : (w : What) → e.what ≡ w → is_dpc (inserted_dpc w) d ≡ false
     go (Call f (Queue y) Yes) k =
-        it y (y.0 == d.0) refl (was_none s d y past has (call_accepted s e.cpu (own_of s e.cpu past) (lanes_at s past) f (Queue y) Yes (known (Call f (Queue y) Yes) k refl) refl).1)
+        it y (y.0 == d.0) refl (was_none s d y past has (call_accepted s e.cpu (own_of s e.cpu past) (lanes_at s past) f (Queue y) Yes
+        (known (Call f (Queue y) Yes) k refl) refl).1)
     go (Fire y Yes) k = it y (y.0 == d.0) refl (was_none s d y past has (known (Fire y Yes) k refl).1)
     go w k = refl
 
 -- the event that uses up the object's pending insert names it
-not_used : (s : Script) (limit : ℕ) (d : DpcNo) (e : Event) (past : List Event) (x : Standing) → IsRun s limit (e ∷ past) → has_dpc s d ≡ true → standing d past ≡ Some x → uses_up (DpcThing d) x.number e.what ≡ false → is_dpc (used_up_dpc e.what) d ≡ false
+not_used : (s : Script) (limit : ℕ) (d : DpcNo) (e : Event) (past : List Event) (x : Standing) → IsRun s limit (e ∷ past) → has_dpc s d ≡ true →
+    standing d past ≡ Some x → uses_up (DpcThing d) x.number e.what ≡ false → is_dpc (used_up_dpc e.what) d ≡ false
 not_used s limit d e past x r has st h = go e.what refl h
   where
     names : (w : What) → e.what ≡ w → NamesPending s e.cpu w past
@@ -122,26 +127,30 @@ not_used s limit d e past x r has st h = go e.what refl h
     go (Call f (Unqueue y) Yes) k u = u
     go w k u = refl
 
-inserted_stands : (s : Script) (limit : ℕ) (d : DpcNo) (past : List Event) → IsRun s limit past → has_dpc s d ≡ true → (p : CpuNo) (n : ℕ) → IsInsertedAt p d n past → NoneUsesUp (DpcThing d) n past → Stands d p n past
+inserted_stands : (s : Script) (limit : ℕ) (d : DpcNo) (past : List Event) → IsRun s limit past → has_dpc s d ≡ true → (p : CpuNo) (n : ℕ) →
+    IsInsertedAt p d n past → NoneUsesUp (DpcThing d) n past → Stands d p n past
 inserted_stands s limit d [] r has p n h u = absurd h
 inserted_stands s limit d (e ∷ past) r has p n (inl h) u =
     let it : is_dpc (inserted_dpc e.what) d ≡ true = ap (λ o. is_dpc o d) h.1 ∙ eq-eqb d.0 d.0 refl in
     (record { queue = queue_for (target_of d past) e.cpu; number = length past }, rw it refl, h.2, sym h.0)
 inserted_stands s limit d (e ∷ past) r has p n (inr h) u =
     let ih = inserted_stands s limit d past r.1 has p n h u.1 in
-    let unused : uses_up (DpcThing d) ih.0.number e.what ≡ false = subst (λ (n : ℕ). uses_up (DpcThing d) n e.what ≡ false) (sym ih.3) (u.0 (inserted_before p d n past h)) in
+    let unused : uses_up (DpcThing d) ih.0.number e.what
+    ≡ false = subst (λ (n : ℕ). uses_up (DpcThing d) n e.what ≡ false) (sym ih.3) (u.0 (inserted_before p d n past h)) in
     let i = not_inserted s limit d e past ih.0 r has ih.1 in
     let v = not_used s limit d e past ih.0 r has ih.1 unused in
     (ih.0, rw (i, v) ih.1, ih.2, ih.3)
 
-stands_pending : (s : Script) (limit : ℕ) (d : DpcNo) (past : List Event) → IsRun s limit past → has_dpc s d ≡ true → (p : CpuNo) (n : ℕ) → Stands d p n past → DpcIsPending s p d n past
+stands_pending : (s : Script) (limit : ℕ) (d : DpcNo) (past : List Event) → IsRun s limit past → has_dpc s d ≡ true → (p : CpuNo) (n : ℕ) → Stands d p n past →
+    DpcIsPending s p d n past
 stands_pending s limit d past r has p n h =
     let at : numbers_at p (Some h.0) ≡ h.0.number ∷ [] = placed p h.0 true (eq-eqb h.0.queue.0 p.0 h.2) in
     let all : numbers_of d (pending s p past) ≡ h.0.number ∷ [] = agree s limit d past r has p ∙ (ap (numbers_at p) h.1 ∙ at) in
     let k = number_contains d (pending s p past) h.0.number (subst (λ (ns : List ℕ). Contains ns h.0.number) (sym all) (contains_here h.0.number [])) in
     (k.0, k.1, ap (λ (n : ℕ). record { 0 = n }) k.2, k.3 ∙ h.3)
 
-pub pending_reads : (s : Script) (limit : ℕ) (d : DpcNo) (past : List Event) → IsRun s limit past → has_dpc s d ≡ true → (p : CpuNo) (n : ℕ) → DpcIsPending s p d n past ↔ Reads d p n past
+pub pending_reads : (s : Script) (limit : ℕ) (d : DpcNo) (past : List Event) → IsRun s limit past → has_dpc s d ≡ true → (p : CpuNo) (n : ℕ) →
+    DpcIsPending s p d n past ↔ Reads d p n past
 pending_reads s limit d past r has p n = (forth, λ h. stands_pending s limit d past r has p n (inserted_stands s limit d past r has p n h.0 h.1))
   where
     forth : DpcIsPending s p d n past → Reads d p n past

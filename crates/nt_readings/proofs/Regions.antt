@@ -58,7 +58,8 @@ phase_below n (e ∷ past) h = go (nat_lt n (length past)) refl (renews n e.what
     past_end l = let z = phase_new n past in let k : length past ≤ n = ltb-false n (length past) l in
         let q = z (omega (arith, k)) in omega (arith, q, h)
 
-    go : (b : Bool) → nat_lt n (length past) ≡ b → (c : Bool) → (n < length past → phase_of n past < length past) → (if b && c then length past else phase_of n past) < suc (length past)
+    go : (b : Bool) → nat_lt n (length past) ≡ b → (c : Bool) → (n < length past → phase_of n past < length past) →
+        (if b && c then length past else phase_of n past) < suc (length past)
     go true l true ih = omega arith
     go true l false ih = let k = ih (ltb-true n (length past) l) in omega (arith, k)
     go false l c ih = past_end l
@@ -78,7 +79,8 @@ phase_silent n e past h = rw (and_false (nat_lt n (length past)) (renews n e.wha
 pub count_silent : (test : What → Bool) (m : ℕ) (e : Event) (past : List Event) → test e.what ≡ false → count_after test m (e ∷ past) ≡ count_after test m past
 count_silent test m e past h = rw (and_false (nat_lt m (length past)) (test e.what) h) refl
 
-done_silent : (test : Command → Bool) (n : ℕ) (e : Event) (past : List Event) → IsSilent n e.what → count_after (has_done test n) (phase_of n (e ∷ past)) (e ∷ past) ≡ count_after (has_done test n) (phase_of n past) past
+done_silent : (test : Command → Bool) (n : ℕ) (e : Event) (past : List Event) → IsSilent n e.what →
+    count_after (has_done test n) (phase_of n (e ∷ past)) (e ∷ past) ≡ count_after (has_done test n) (phase_of n past) past
 done_silent test n e past h =
     ap (λ (m : ℕ). count_after (has_done test n) m (e ∷ past)) (phase_silent n e past h.0) ∙ count_silent (has_done test n) (phase_of n past) e past (h.1 test)
 
@@ -117,14 +119,16 @@ net_renewed r n e past l h =
 
 -- ---- a call
 
-called_crit : (due : Option ℕ) (c : Command) (y : Reply) (f : Frame) → (called due c y f).crit ≡ (if is_enter Crit c && is_done y then f.crit + 1 else (if is_leave Crit c && is_done y then f.crit - 1 else f.crit))
+called_crit : (due : Option ℕ) (c : Command) (y : Reply) (f : Frame) → (called due c y f).crit
+    ≡ (if is_enter Crit c && is_done y then f.crit + 1 else (if is_leave Crit c && is_done y then f.crit - 1 else f.crit))
 called_crit due (StartWait m a) y f = refl
 called_crit due (Delay m a u) y f = refl
 called_crit due (Raise l) Done f = refl
 called_crit due c Done f = refl
 called_crit due c y f = refl
 
-called_guard : (due : Option ℕ) (c : Command) (y : Reply) (f : Frame) → (called due c y f).guard ≡ (if is_enter Guard c && is_done y then f.guard + 1 else (if is_leave Guard c && is_done y then f.guard - 1 else f.guard))
+called_guard : (due : Option ℕ) (c : Command) (y : Reply) (f : Frame) → (called due c y f).guard
+    ≡ (if is_enter Guard c && is_done y then f.guard + 1 else (if is_leave Guard c && is_done y then f.guard - 1 else f.guard))
 called_guard due (StartWait m a) y f = refl
 called_guard due (Delay m a u) y f = refl
 called_guard due (Raise l) Done f = refl
@@ -137,18 +141,25 @@ one_of Guard EnterGuard h = refl
 one_of Crit c h = cc
 one_of Guard c h = cc
 
-pub count_done : (test : Command → Bool) (n : ℕ) (c : Command) (y : Reply) (e : Event) (past : List Event) → n < length past → e.what ≡ Call n c y → count_after (has_done test n) (phase_of n (e ∷ past)) (e ∷ past) ≡ (if test c && is_done y then suc (count_after (has_done test n) (phase_of n past) past) else count_after (has_done test n) (phase_of n past) past)
+pub count_done : (test : Command → Bool) (n : ℕ) (c : Command) (y : Reply) (e : Event) (past : List Event) → n < length past → e.what ≡ Call n c y →
+    count_after (has_done test n) (phase_of n (e ∷ past)) (e ∷ past)
+    ≡ (if test c && is_done y then suc (count_after (has_done test n) (phase_of n past) past) else count_after (has_done test n) (phase_of n past) past)
 count_done test n c y e past l k =
-    ap (λ (m : ℕ). count_after (has_done test n) m (e ∷ past)) (phase_silent n e past (ap (renews n) k)) ∙ ap (λ (b : Bool). if b then suc (count_after (has_done test n) (phase_of n past) past) else count_after (has_done test n) (phase_of n past) past) now
+    ap (λ (m : ℕ). count_after (has_done test n) m (e ∷ past)) (phase_silent n e past (ap (renews n) k))
+    ∙ ap (λ (b : Bool). if b then suc (count_after (has_done test n) (phase_of n past) past) else count_after (has_done test n) (phase_of n past) past) now
   where
     now : (nat_lt (phase_of n past) (length past) && has_done test n e.what) ≡ (test c && is_done y)
     now = rw (lt-ltb (phase_of n past) (length past) (phase_below n past l), k, eq-eqb n n refl) refl
 
-net_called : (r : Region) (v n : ℕ) (c : Command) (y : Reply) (e : Event) (past : List Event) → n < length past → e.what ≡ Call n c y → ((is_leave r c && is_done y) ≡ true → 0 < v) → IsNet r v n past → IsNet r (if is_enter r c && is_done y then v + 1 else (if is_leave r c && is_done y then v - 1 else v)) n (e ∷ past)
+net_called : (r : Region) (v n : ℕ) (c : Command) (y : Reply) (e : Event) (past : List Event) → n < length past → e.what ≡ Call n c y →
+    ((is_leave r c && is_done y) ≡ true → 0 < v) → IsNet r v n past →
+    IsNet r (if is_enter r c && is_done y then v + 1 else (if is_leave r c && is_done y then v - 1 else v)) n (e ∷ past)
 net_called r v n c y e past l k pos h =
     go (is_enter r c) (is_leave r c) (is_done y) (one_of r c) pos (count_done (is_enter r) n c y e past l k) (count_done (is_leave r) n c y e past l k)
   where
-    go : (i o d : Bool) → (i ≡ true → o ≡ false) → ((o && d) ≡ true → 0 < v) → entered r n (e ∷ past) ≡ (if i && d then suc (entered r n past) else entered r n past) → exited r n (e ∷ past) ≡ (if o && d then suc (exited r n past) else exited r n past) → IsNet r (if i && d then v + 1 else (if o && d then v - 1 else v)) n (e ∷ past)
+    go : (i o d : Bool) → (i ≡ true → o ≡ false) → ((o && d) ≡ true → 0 < v) → entered r n (e ∷ past)
+        ≡ (if i && d then suc (entered r n past) else entered r n past) → exited r n (e ∷ past) ≡ (if o && d then suc (exited r n past) else exited r n past) →
+        IsNet r (if i && d then v + 1 else (if o && d then v - 1 else v)) n (e ∷ past)
     go true true d one p a b = let z = one refl in cc
     go true false true one p a b = omega (arith, a, b, h)
     go true false false one p a b = omega (arith, a, b, h)
@@ -161,24 +172,33 @@ positive : (k : ℕ) → (k == 0) ≡ false → 0 < k
 positive zero h = cc
 positive (suc k) h = omega arith
 
-leave_crit : (s : Script) (p : CpuNo) (x : Own) (l : Lanes) (n : ℕ) (c : Command) (y : Reply) (k : KnownCall s p x l n c y) → (is_leave Crit c && is_done y) ≡ true → 0 < k.frame.crit
+leave_crit : (s : Script) (p : CpuNo) (x : Own) (l : Lanes) (n : ℕ) (c : Command) (y : Reply) (k : KnownCall s p x l n c y) → (is_leave Crit c && is_done y)
+    ≡ true → 0 < k.frame.crit
 leave_crit s p x l n LeaveCrit Done k h =
-    positive k.frame.crit (refuse_none (k.frame.crit == 0) NotEntered None (next_test (nat_lt 1 (level_at x)) TooHigh _ (next_test (not (is_null x.frames.own)) NotThread _ (call_accepted s p x l n LeaveCrit Done k refl).0)))
+    positive k.frame.crit (refuse_none (k.frame.crit == 0) NotEntered None
+    (next_test (nat_lt 1 (level_at x)) TooHigh _ (next_test (not (is_null x.frames.own)) NotThread _ (call_accepted s p x l n LeaveCrit Done k refl).0)))
 leave_crit s p x l n c y k h = cc
 
-leave_guard : (s : Script) (p : CpuNo) (x : Own) (l : Lanes) (n : ℕ) (c : Command) (y : Reply) (k : KnownCall s p x l n c y) → (is_leave Guard c && is_done y) ≡ true → 0 < k.frame.guard
+leave_guard : (s : Script) (p : CpuNo) (x : Own) (l : Lanes) (n : ℕ) (c : Command) (y : Reply) (k : KnownCall s p x l n c y) → (is_leave Guard c && is_done y)
+    ≡ true → 0 < k.frame.guard
 leave_guard s p x l n LeaveGuard Done k h =
-    positive k.frame.guard (refuse_none (k.frame.guard == 0) NotEntered None (next_test (nat_lt 1 (level_at x)) TooHigh _ (next_test (not (is_null x.frames.own)) NotThread _ (call_accepted s p x l n LeaveGuard Done k refl).0)))
+    positive k.frame.guard (refuse_none (k.frame.guard == 0) NotEntered None
+    (next_test (nat_lt 1 (level_at x)) TooHigh _ (next_test (not (is_null x.frames.own)) NotThread _ (call_accepted s p x l n LeaveGuard Done k refl).0)))
 leave_guard s p x l n c y k h = cc
 
-call_counted : (s : Script) (p : CpuNo) (x : Own) (l : Lanes) (due : Option ℕ) (n : ℕ) (c : Command) (y : Reply) (f : Frame) (e : Event) (past : List Event) (k : KnownCall s p x l n c y) → k.frame ≡ f → f.name < length past → e.what ≡ Call n c y → IsCounted past f → IsCounted (e ∷ past) (called due c y f)
+call_counted : (s : Script) (p : CpuNo) (x : Own) (l : Lanes) (due : Option ℕ) (n : ℕ) (c : Command) (y : Reply) (f : Frame) (e : Event) (past : List Event)
+    (k : KnownCall s p x l n c y) → k.frame ≡ f → f.name < length past → e.what ≡ Call n c y → IsCounted past f → IsCounted (e ∷ past) (called due c y f)
 call_counted s p x l due n c y f e past k same low w h =
     let name : n ≡ f.name = k.name ∙ ap (λ (g : Frame). g.name) same in
     let what : e.what ≡ Call f.name c y = w ∙ ap (λ (m : ℕ). Call m c y) name in
     let kept : (called due c y f).name ≡ f.name = (keep_called due c y).name f in
     let crit = net_called Crit f.crit f.name c y e past low what (λ q. subst (λ (g : Frame). 0 < g.crit) same (leave_crit s p x l n c y k q)) h.0 in
-    let guard = net_called Guard f.guard f.name c y e past low what (λ q. subst (λ (g : Frame). 0 < g.guard) same (leave_guard s p x l n c y k q)) h.1 in
-    (subst (λ (m : ℕ). IsNet Crit (called due c y f).crit m (e ∷ past)) (sym kept) (subst (λ (v : ℕ). IsNet Crit v f.name (e ∷ past)) (sym (called_crit due c y f)) crit), subst (λ (m : ℕ). IsNet Guard (called due c y f).guard m (e ∷ past)) (sym kept) (subst (λ (v : ℕ). IsNet Guard v f.name (e ∷ past)) (sym (called_guard due c y f)) guard))
+    let guard = net_called Guard f.guard f.name c y e past low what (λ q. subst (λ (g : Frame). 0 < g.guard) same (leave_guard s p x l n c y k q)) h.1 in (
+      subst (λ (m : ℕ). IsNet Crit (called due c y f).crit m (e ∷ past)) (sym kept)
+          (subst (λ (v : ℕ). IsNet Crit v f.name (e ∷ past)) (sym (called_crit due c y f)) crit),
+      subst (λ (m : ℕ). IsNet Guard (called due c y f).guard m (e ∷ past)) (sym kept)
+          (subst (λ (v : ℕ). IsNet Guard v f.name (e ∷ past)) (sym (called_guard due c y f)) guard),
+    )
 
 -- ---- each open frame
 
@@ -197,7 +217,16 @@ anew_counted e past n l h = (net_renewed Crit n e past l h, net_renewed Guard n 
 
 counts_follow : (s : Script) (limit : ℕ) → Follows s limit IsCounted
 counts_follow s limit =
-    record { begun = λ e past b n. new_counted b e past; aside = λ e past f l a h. counted_silent f e past (silent f.name e.what a) h; called = λ e past n c y r x q l h. call_counted s e.cpu (own_of s e.cpu past) (lanes_at s past) (due_of e.what (time past)) n c y x.frame e past x refl l q h; rewaited = λ e past y f q l h. counted_silent f e past (rewait_silent f.name f.name y e.what q) h; normal = λ e past f q n l h. anew_counted e past f.name l (ap (renews f.name) q ∙ eq-eqb f.name f.name refl); left = λ e past f q b l h. anew_counted e past f.name l (ap (renews f.name) q ∙ eq-eqb f.name f.name refl); resumed = λ e past t st f q l h. resumed_counted st (e ∷ past) f (counted_silent f e past (switch_silent f.name t st e.what q) h) }
+    record {
+      begun = λ e past b n. new_counted b e past;
+      aside = λ e past f l a h. counted_silent f e past (silent f.name e.what a) h;
+      called = λ e past n c y r x q l h. call_counted s e.cpu (own_of s e.cpu past) (lanes_at s past)
+          (due_of e.what (time past)) n c y x.frame e past x refl l q h;
+      rewaited = λ e past y f q l h. counted_silent f e past (rewait_silent f.name f.name y e.what q) h;
+      normal = λ e past f q n l h. anew_counted e past f.name l (ap (renews f.name) q ∙ eq-eqb f.name f.name refl);
+      left = λ e past f q b l h. anew_counted e past f.name l (ap (renews f.name) q ∙ eq-eqb f.name f.name refl);
+      resumed = λ e past t st f q l h. resumed_counted st (e ∷ past) f (counted_silent f e past (switch_silent f.name t st e.what q) h);
+    }
 
 -- ---- sums
 
@@ -217,7 +246,8 @@ busy_forth : (P : ℕ → Body → Type 0) (fs : List Frame) → EachNamed P fs 
 busy_forth P [] h k = cc
 busy_forth P (f ∷ fs) h k = go (is_normal_apc_body f.body) refl k (λ q. busy_forth P fs h.1 q)
   where
-    go : (b : Bool) → is_normal_apc_body f.body ≡ b → (b || list_any (λ f. is_normal_apc_body f.body) fs) ≡ true → (busy_of fs ≡ true → (n : ℕ) × (b : Body) × P n b × (is_normal_apc_body b ≡ true)) → (n : ℕ) × (b : Body) × P n b × (is_normal_apc_body b ≡ true)
+    go : (b : Bool) → is_normal_apc_body f.body ≡ b → (b || list_any (λ f. is_normal_apc_body f.body) fs) ≡ true →
+        (busy_of fs ≡ true → (n : ℕ) × (b : Body) × P n b × (is_normal_apc_body b ≡ true)) → (n : ℕ) × (b : Body) × P n b × (is_normal_apc_body b ≡ true)
     go true e q ih = (f.name, f.body, h.0, e)
     go false e q ih = ih q
 
@@ -231,13 +261,18 @@ busy_back n b (f ∷ fs) h (inr k) = or_so (is_normal_apc_body f.body) (busy_of 
     or_so true c q = refl
     or_so false c q = q
 
-pub regions_counted : (s : Script) (limit : ℕ) (t : ThreadNo) (past : List Event) → IsRun s limit past → RegionsCounted s t past (thread_frames s (cpu_of s t) t past)
+pub regions_counted : (s : Script) (limit : ℕ) (t : ThreadNo) (past : List Event) → IsRun s limit past →
+    RegionsCounted s t past (thread_frames s (cpu_of s t) t past)
 regions_counted s limit t past r =
     let each = each_part s limit IsCounted (counts_follow s limit) t past r in
     let lists = thread_lists s limit t past r in
     record {
       each = each;
-      crit = sum_same (λ f. f.crit) (λ f. entered Crit f.name past - exited Crit f.name past) (part_of s t past) 0 (each_so (IsCounted past) (λ f. f.crit ≡ entered Crit f.name past - exited Crit f.name past) (part_of s t past) (λ f h. net_is Crit f.crit f.name past h.0) each);
-      guard = sum_same (λ f. f.guard) (λ f. entered Guard f.name past - exited Guard f.name past) (part_of s t past) 0 (each_so (IsCounted past) (λ f. f.guard ≡ entered Guard f.name past - exited Guard f.name past) (part_of s t past) (λ f h. net_is Guard f.guard f.name past h.1) each);
+      crit = sum_same (λ f. f.crit) (λ f. entered Crit f.name past - exited Crit f.name past) (part_of s t past) 0
+          (each_so (IsCounted past) (λ f. f.crit ≡ entered Crit f.name past - exited Crit f.name past) (part_of s t past)
+          (λ f h. net_is Crit f.crit f.name past h.0) each);
+      guard = sum_same (λ f. f.guard) (λ f. entered Guard f.name past - exited Guard f.name past) (part_of s t past) 0
+          (each_so (IsCounted past) (λ f. f.guard ≡ entered Guard f.name past - exited Guard f.name past) (part_of s t past)
+          (λ f h. net_is Guard f.guard f.name past h.1) each);
       busy = (λ h. busy_forth (IsOpenOn s t past) (part_of s t past) lists.each h, λ h. busy_back h.0 h.1 (part_of s t past) h.3 (lists.all h.0 h.1 h.2));
     }

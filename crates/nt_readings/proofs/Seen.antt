@@ -69,16 +69,19 @@ was_ask s p c v [] h = cc
 was_ask s p c v (e ∷ past) h =
     go (v == length past + 1) (asks s p c e past) refl refl h (λ k. was_ask s p c v past k)
   where
-    go : (m b : Bool) → (v == length past + 1) ≡ m → asks s p c e past ≡ b → ((m && b) || was_asked s p c v past) ≡ true → (was_asked s p c v past ≡ true → IsOfAsk s p c v past) → IsOfAsk s p c v (e ∷ past)
+    go : (m b : Bool) → (v == length past + 1) ≡ m → asks s p c e past ≡ b → ((m && b) || was_asked s p c v past) ≡ true →
+        (was_asked s p c v past ≡ true → IsOfAsk s p c v past) → IsOfAsk s p c v (e ∷ past)
     go true true e1 e2 x ih = (length past, eqb-true v (length past + 1) e1, inl (refl, e2))
     go true false e1 e2 x ih = let r = ih x in (r.0, r.1, inr r.2)
     go false b e1 e2 x ih = let r = ih x in (r.0, r.1, inr r.2)
 
-rises_ask : (s : Script) (p : CpuNo) (k i : ℕ) (vs : List ℕ) (x : Own) (past : List Event) → good_rises s p k vs x past ≡ true → (value_at vs i ≡ 0) ⊎ IsOfAsk s p (k + i) (value_at vs i) past
+rises_ask : (s : Script) (p : CpuNo) (k i : ℕ) (vs : List ℕ) (x : Own) (past : List Event) → good_rises s p k vs x past ≡ true → (value_at vs i ≡ 0) ⊎
+    IsOfAsk s p (k + i) (value_at vs i) past
 rises_ask s p k i [] x past h = inl refl
 rises_ask s p k zero (v ∷ vs) x past h =
     let e : k + 0 ≡ k = omega arith in
-    rw e (first (v == 0) (nat_lt (value_at x.seen k) v) (was_asked s p k v past) refl refl (both ((v == 0) || (nat_lt (value_at x.seen k) v && was_asked s p k v past)) _ h).0)
+    rw e (first (v == 0) (nat_lt (value_at x.seen k) v) (was_asked s p k v past) refl refl
+    (both ((v == 0) || (nat_lt (value_at x.seen k) v && was_asked s p k v past)) _ h).0)
   where
     first : (z m w : Bool) → (v == 0) ≡ z → was_asked s p k v past ≡ w → (z || (m && w)) ≡ true → (v ≡ 0) ⊎ IsOfAsk s p k v past
     first true m w e1 e2 t = inl (eqb-true v 0 e1)
@@ -89,7 +92,8 @@ rises_ask s p k (suc i) (v ∷ vs) x past h =
     let e : k + suc i ≡ suc k + i = omega arith in
     rw e (rises_ask s p (suc k) i vs x past (both ((v == 0) || (nat_lt (value_at x.seen k) v && was_asked s p k v past)) _ h).1)
 
-look_ask : (s : Script) (limit : ℕ) (c : ℕ) (e : Event) (past : List Event) (w : What) → e.what ≡ w → IsLegal s limit e past → (looked w c ≡ 0) ⊎ IsOfAsk s e.cpu c (looked w c) past
+look_ask : (s : Script) (limit : ℕ) (c : ℕ) (e : Event) (past : List Event) (w : What) → e.what ≡ w → IsLegal s limit e past → (looked w c ≡ 0) ⊎
+    IsOfAsk s e.cpu c (looked w c) past
 look_ask s limit c e past (Look r) k g =
     let turn : Gives (step s limit (LookTurn e.cpu r) past) e = subst (λ (w : What). Gives (step s limit (turn_at e.cpu w) past) e) k g in
     let good = (look_gives s limit e.cpu r past e turn).0 in
@@ -138,14 +142,17 @@ told_of s x p c n (e ∷ past) (inr a) (inl t) =
     let l = at_before (λ e before. asks s p c e before ≡ true) n past a in
     absurd (omega (arith, k, l))
 told_of s x p c n (e ∷ past) (inr a) (inr t) =
-    raised_at_least (touches s x e past && asks s p c e past) (length past) n (told_by s x p c past) (at_before (λ e before. asks s p c e before ≡ true) n past a) (told_of s x p c n past a t)
+    raised_at_least (touches s x e past && asks s p c e past) (length past) n (told_by s x p c past)
+    (at_before (λ e before. asks s p c e before ≡ true) n past a) (told_of s x p c n past a t)
 
-all_told_of : (s : Script) (x : Lane) (xs : List Lane) (p : CpuNo) (c n : ℕ) (past : List Event) → list_any (same_lane x) xs ≡ true → IsAsk s p c n past → IsTouch s x n past → n + 1 ≤ told_by_all s xs p c past
+all_told_of : (s : Script) (x : Lane) (xs : List Lane) (p : CpuNo) (c n : ℕ) (past : List Event) → list_any (same_lane x) xs ≡ true → IsAsk s p c n past →
+    IsTouch s x n past → n + 1 ≤ told_by_all s xs p c past
 all_told_of s x [] p c n past h a t = cc
 all_told_of s x (y ∷ ys) p c n past h a t =
     go (same_lane x y) refl h (λ k. all_told_of s x ys p c n past k a t)
   where
-    go : (b : Bool) → same_lane x y ≡ b → (b || list_any (same_lane x) ys) ≡ true → (list_any (same_lane x) ys ≡ true → n + 1 ≤ told_by_all s ys p c past) → n + 1 ≤ max (told_by s y p c past) (told_by_all s ys p c past)
+    go : (b : Bool) → same_lane x y ≡ b → (b || list_any (same_lane x) ys) ≡ true → (list_any (same_lane x) ys ≡ true → n + 1 ≤ told_by_all s ys p c past) →
+        n + 1 ≤ max (told_by s y p c past) (told_by_all s ys p c past)
     go true e k ih =
         let l = told_of s y p c n past a (subst (λ (x : Lane). IsTouch s x n past) (lane_is x y e) t) in omega (arith, l)
     go false e k ih = let l = ih k in omega (arith, l)
@@ -159,7 +166,9 @@ told_comes s x p c [] h = absurd (omega (arith, h))
 told_comes s x p c (e ∷ past) h =
     go (touches s x e past) (asks s p c e past) refl refl h (λ k. told_comes s x p c past k)
   where
-    go : (t a : Bool) → touches s x e past ≡ t → asks s p c e past ≡ a → 0 < raised (t && a) (length past) (told_by s x p c past) → (0 < told_by s x p c past → IsOfTouch s x p c (told_by s x p c past) past) → IsOfTouch s x p c (raised (t && a) (length past) (told_by s x p c past)) (e ∷ past)
+    go : (t a : Bool) → touches s x e past ≡ t → asks s p c e past ≡ a → 0 < raised (t && a) (length past) (told_by s x p c past) →
+        (0 < told_by s x p c past → IsOfTouch s x p c (told_by s x p c past) past) →
+        IsOfTouch s x p c (raised (t && a) (length past) (told_by s x p c past)) (e ∷ past)
     go true true e1 e2 k ih = (length past, refl, inl (refl, e2), inl (refl, e1))
     go true false e1 e2 k ih = let r = ih k in (r.0, r.1, inr r.2, inr r.3)
     go false a e1 e2 k ih = let r = ih k in (r.0, r.1, inr r.2, inr r.3)
@@ -171,12 +180,16 @@ or_true : (a b : Bool) → b ≡ true → (a || b) ≡ true
 or_true true b h = refl
 or_true false b h = h
 
-all_told_comes : (s : Script) (xs : List Lane) (p : CpuNo) (c : ℕ) (past : List Event) → 0 < told_by_all s xs p c past → IsOfSome s xs p c (told_by_all s xs p c past) past
+all_told_comes : (s : Script) (xs : List Lane) (p : CpuNo) (c : ℕ) (past : List Event) → 0 < told_by_all s xs p c past →
+    IsOfSome s xs p c (told_by_all s xs p c past) past
 all_told_comes s [] p c past h = absurd (omega (arith, h))
 all_told_comes s (y ∷ ys) p c past h =
     go (λ k. all_told_comes s ys p c past k) (max_is (told_by s y p c past) (told_by_all s ys p c past))
   where
-    go : (0 < told_by_all s ys p c past → IsOfSome s ys p c (told_by_all s ys p c past) past) → (max (told_by s y p c past) (told_by_all s ys p c past) ≡ told_by s y p c past) ⊎ (max (told_by s y p c past) (told_by_all s ys p c past) ≡ told_by_all s ys p c past) → IsOfSome s (y ∷ ys) p c (max (told_by s y p c past) (told_by_all s ys p c past)) past
+    go : (0 < told_by_all s ys p c past → IsOfSome s ys p c (told_by_all s ys p c past) past) →
+        (max (told_by s y p c past) (told_by_all s ys p c past) ≡ told_by s y p c past) ⊎
+        (max (told_by s y p c past) (told_by_all s ys p c past) ≡ told_by_all s ys p c past) →
+        IsOfSome s (y ∷ ys) p c (max (told_by s y p c past) (told_by_all s ys p c past)) past
     go ih (inl e) =
         let r = told_comes s y p c past (omega (arith, h, e)) in
         (y, rw (lane_itself y) refl, (r.0, e ∙ r.1, r.2, r.3))
@@ -186,12 +199,14 @@ all_told_comes s (y ∷ ys) p c past h =
 
 -- ---- each ask that was noticed is at most what was seen
 
-below_seen : (s : Script) (limit : ℕ) (p : CpuNo) (c n : ℕ) (past : List Event) → IsRun s limit past → IsAsk s p c n past → IsNoticed s p c n past → n + 1 ≤ seen s p c past
+below_seen : (s : Script) (limit : ℕ) (p : CpuNo) (c n : ℕ) (past : List Event) → IsRun s limit past → IsAsk s p c n past → IsNoticed s p c n past →
+    n + 1 ≤ seen s p c past
 below_seen s limit p c n [] r a k = absurd a
 below_seen s limit p c n (e ∷ past) r a k =
     go (λ a m. below_seen s limit p c n past r.1 a m) (is_of e p) refl a k
   where
-    at_least : (b : Bool) (x : ℕ) → n < length past → n + 1 ≤ x → x ≤ max (max (seen s p c past) (looked e.what c)) (told s p c e past) → n + 1 ≤ raised b (length past) (max (max (seen s p c past) (looked e.what c)) (told s p c e past))
+    at_least : (b : Bool) (x : ℕ) → n < length past → n + 1 ≤ x → x ≤ max (max (seen s p c past) (looked e.what c)) (told s p c e past) →
+        n + 1 ≤ raised b (length past) (max (max (seen s p c past) (looked e.what c)) (told s p c e past))
     at_least b x l h m =
         raised_at_least b (length past) n (max (max (seen s p c past) (looked e.what c)) (told s p c e past)) l (omega (arith, h, m))
 
@@ -204,7 +219,9 @@ below_seen s limit p c n (e ∷ past) r a k =
     new (inr (inr (inl m))) h = m.0
     new (inr (inr (inr m))) h = let l = met_below s p n past m in absurd (omega (arith, l, h))
 
-    earlier : (IsAsk s p c n past → IsNoticed s p c n past → n + 1 ≤ seen s p c past) → (b : Bool) → is_of e p ≡ b → IsAsk s p c n past → n < length past → IsNoticed s p c n (e ∷ past) → n + 1 ≤ (if b then seen_after (length past) e.what c (asks s p c e past) (told s p c e past) (seen s p c past) else seen s p c past)
+    earlier : (IsAsk s p c n past → IsNoticed s p c n past → n + 1 ≤ seen s p c past) → (b : Bool) → is_of e p ≡ b → IsAsk s p c n past → n < length past →
+        IsNoticed s p c n (e ∷ past) → n + 1 ≤ (if b then seen_after (length past) e.what c (asks s p c e past) (told s p c e past) (seen s p c past)
+        else seen s p c past)
     earlier ih b o a l (inl (inl m)) = let h = m.0 in absurd (omega (arith, l, h))
     earlier ih true o a l (inl (inr m)) = at_least (asks s p c e past) (seen s p c past) l (ih a (inl m)) (omega arith)
     earlier ih false o a l (inl (inr m)) = ih a (inl m)
@@ -218,7 +235,9 @@ below_seen s limit p c n (e ∷ past) r a k =
     earlier ih true o a l (inr (inr (inr m))) = at_least (asks s p c e past) (seen s p c past) l (ih a (inr (inr m))) (omega arith)
     earlier ih false o a l (inr (inr (inr m))) = ih a (inr (inr m))
 
-    go : (IsAsk s p c n past → IsNoticed s p c n past → n + 1 ≤ seen s p c past) → (b : Bool) → is_of e p ≡ b → IsAsk s p c n (e ∷ past) → IsNoticed s p c n (e ∷ past) → n + 1 ≤ (if b then seen_after (length past) e.what c (asks s p c e past) (told s p c e past) (seen s p c past) else seen s p c past)
+    go : (IsAsk s p c n past → IsNoticed s p c n past → n + 1 ≤ seen s p c past) → (b : Bool) → is_of e p ≡ b → IsAsk s p c n (e ∷ past) →
+        IsNoticed s p c n (e ∷ past) → n + 1 ≤ (if b then seen_after (length past) e.what c (asks s p c e past) (told s p c e past) (seen s p c past)
+        else seen s p c past)
     go ih true o (inl x) m =
         let w : seen_after (length past) e.what c (asks s p c e past) (told s p c e past) (seen s p c past) ≡ length past + 1 = rw x.1 refl in
         let h = x.0 in
@@ -236,7 +255,8 @@ lift_noticed s p c n e past (inl h) = inl (inr h)
 lift_noticed s p c n e past (inr (inl h)) = inr (inl (inr h))
 lift_noticed s p c n e past (inr (inr h)) = inr (inr (inr h))
 
-seen_comes : (s : Script) (limit : ℕ) (p : CpuNo) (c : ℕ) (past : List Event) → IsRun s limit past → 0 < seen s p c past → IsOfNoticed s p c (seen s p c past) past
+seen_comes : (s : Script) (limit : ℕ) (p : CpuNo) (c : ℕ) (past : List Event) → IsRun s limit past → 0 < seen s p c past →
+    IsOfNoticed s p c (seen s p c past) past
 seen_comes s limit p c [] r h = absurd (omega (arith, h))
 seen_comes s limit p c (e ∷ past) r h =
     go (λ k. let a = seen_comes s limit p c past r.1 k in (a.0, a.1, inr a.2, lift_noticed s p c a.0 e past a.3)) (is_of e p) refl h
@@ -258,19 +278,29 @@ seen_comes s limit p c (e ∷ past) r h =
         let a = all_told_comes s (lanes_of s e past) p c past k in
         (a.2.0, a.2.1, inr a.2.2, inr (inr (inl (o, a.0, a.1, a.2.3))))
 
-    greatest : (0 < seen s p c past → IsOfNoticed s p c (seen s p c past) (e ∷ past)) → is_of e p ≡ true → 0 < max (max (seen s p c past) (looked e.what c)) (told s p c e past) → IsOfNoticed s p c (max (max (seen s p c past) (looked e.what c)) (told s p c e past)) (e ∷ past)
+    greatest : (0 < seen s p c past → IsOfNoticed s p c (seen s p c past) (e ∷ past)) → is_of e p ≡ true →
+        0 < max (max (seen s p c past) (looked e.what c)) (told s p c e past) →
+        IsOfNoticed s p c (max (max (seen s p c past) (looked e.what c)) (told s p c e past)) (e ∷ past)
     greatest lifted o k = outer (max_is (max (seen s p c past) (looked e.what c)) (told s p c e past)) (max_is (seen s p c past) (looked e.what c))
       where
-        outer : (max (max (seen s p c past) (looked e.what c)) (told s p c e past) ≡ max (seen s p c past) (looked e.what c)) ⊎ (max (max (seen s p c past) (looked e.what c)) (told s p c e past) ≡ told s p c e past) → (max (seen s p c past) (looked e.what c) ≡ seen s p c past) ⊎ (max (seen s p c past) (looked e.what c) ≡ looked e.what c) → IsOfNoticed s p c (max (max (seen s p c past) (looked e.what c)) (told s p c e past)) (e ∷ past)
+        outer : (max (max (seen s p c past) (looked e.what c)) (told s p c e past) ≡ max (seen s p c past) (looked e.what c)) ⊎
+            (max (max (seen s p c past) (looked e.what c)) (told s p c e past) ≡ told s p c e past) →
+            (max (seen s p c past) (looked e.what c) ≡ seen s p c past) ⊎ (max (seen s p c past) (looked e.what c) ≡ looked e.what c) →
+            IsOfNoticed s p c (max (max (seen s p c past) (looked e.what c)) (told s p c e past)) (e ∷ past)
         outer (inr q) i = same _ (told s p c e past) q (from_lanes o (omega (arith, k, q)))
         outer (inl q) (inl i) = same _ (seen s p c past) (q ∙ i) (lifted (omega (arith, k, q, i)))
         outer (inl q) (inr i) = same _ (looked e.what c) (q ∙ i) (from_look o (omega (arith, k, q, i)))
 
-    mine : (0 < seen s p c past → IsOfNoticed s p c (seen s p c past) (e ∷ past)) → (a : Bool) → is_of e p ≡ true → asks s p c e past ≡ a → 0 < raised a (length past) (max (max (seen s p c past) (looked e.what c)) (told s p c e past)) → IsOfNoticed s p c (raised a (length past) (max (max (seen s p c past) (looked e.what c)) (told s p c e past))) (e ∷ past)
+    mine : (0 < seen s p c past → IsOfNoticed s p c (seen s p c past) (e ∷ past)) → (a : Bool) → is_of e p ≡ true → asks s p c e past ≡ a →
+        0 < raised a (length past) (max (max (seen s p c past) (looked e.what c)) (told s p c e past)) →
+        IsOfNoticed s p c (raised a (length past) (max (max (seen s p c past) (looked e.what c)) (told s p c e past))) (e ∷ past)
     mine lifted true o q k = (length past, refl, inl (refl, q), inl (inl (refl, o)))
     mine lifted false o q k = greatest lifted o k
 
-    go : (0 < seen s p c past → IsOfNoticed s p c (seen s p c past) (e ∷ past)) → (b : Bool) → is_of e p ≡ b → 0 < (if b then seen_after (length past) e.what c (asks s p c e past) (told s p c e past) (seen s p c past) else seen s p c past) → IsOfNoticed s p c (if b then seen_after (length past) e.what c (asks s p c e past) (told s p c e past) (seen s p c past) else seen s p c past) (e ∷ past)
+    go : (0 < seen s p c past → IsOfNoticed s p c (seen s p c past) (e ∷ past)) → (b : Bool) → is_of e p ≡ b →
+        0 < (if b then seen_after (length past) e.what c (asks s p c e past) (told s p c e past) (seen s p c past) else seen s p c past) →
+        IsOfNoticed s p c (if b then seen_after (length past) e.what c (asks s p c e past) (told s p c e past) (seen s p c past) else seen s p c past)
+        (e ∷ past)
     go lifted true o k = mine lifted (asks s p c e past) o refl k
     go lifted false o k = lifted k
 
@@ -283,6 +313,8 @@ greatest_next P (suc v) low comes =
     let e = a.1 in
     inr (a.0, a.1, a.2, λ m h. let l = low m h in omega (arith, l, e))
 
-pub seen_greatest : (s : Script) (limit : ℕ) (p : CpuNo) (c : ℕ) (past : List Event) → IsRun s limit past → IsGreatestNext (IsNoticedAsk s p c past) (seen s p c past)
+pub seen_greatest : (s : Script) (limit : ℕ) (p : CpuNo) (c : ℕ) (past : List Event) → IsRun s limit past →
+    IsGreatestNext (IsNoticedAsk s p c past) (seen s p c past)
 seen_greatest s limit p c past r =
-    greatest_next (IsNoticedAsk s p c past) (seen s p c past) (λ n h. below_seen s limit p c n past r h.0 h.1) (λ h. let a = seen_comes s limit p c past r h in (a.0, a.1, (a.2, a.3)))
+    greatest_next (IsNoticedAsk s p c past) (seen s p c past) (λ n h. below_seen s limit p c n past r h.0 h.1)
+    (λ h. let a = seen_comes s limit p c past r h in (a.0, a.1, (a.2, a.3)))

@@ -9,7 +9,7 @@ use Rattle.nt_event.specs.declared.events.What.{What}
 use Rattle.nt_event.specs.declared.events.What.TheVariants.{Begin, Clean}
 use Rattle.nt_event.specs.declared.numbers.CpuNo.{CpuNo}
 use Rattle.nt_event.specs.declared.scripts.Script.{Script}
-use Rattle.nt_event.specs.Jobs.{interrupt_classes}
+use Rattle.nt_event.specs.Classes.{interrupt_classes}
 use Rattle.nt_event.specs.Lanes.{lanes_at}
 use Rattle.nt_event.specs.Own.{own_of}
 use Rattle.nt_event.specs.Requests.{seen, served, serves}
@@ -57,7 +57,8 @@ serving s limit c e past (Clean k) g q h =
     (n, omega (arith, n, l))
 serving s limit c e past (Begin (Int level) from) g q h =
     let n : level ≡ c = eqb-true level c h in
-    let known : Known s e.cpu (own_of s e.cpu past) (lanes_at s past) (Begin (Int level) from) = subst (Known s e.cpu (own_of s e.cpu past) (lanes_at s past)) q (legal_known s limit e past g (ap is_next q)) in
+    let known : Known s e.cpu (own_of s e.cpu past) (lanes_at s past) (Begin (Int level) from) = subst
+    (Known s e.cpu (own_of s e.cpu past) (lanes_at s past)) q (legal_known s limit e past g (ap is_next q)) in
     let l = above_two level interrupt_classes refl known.class in
     (n, omega (arith, n, l))
 serving s limit c e past w g q h = cc
@@ -85,9 +86,14 @@ served_last s limit p c [] r = inl (refl, tt)
 served_last s limit p c (e ∷ past) r =
     go (is_of e p) (serves c e.what) refl refl (served_last s limit p c past r.1)
   where
-    go : (b d : Bool) → is_of e p ≡ b → serves c e.what ≡ d → IsServed s p c (served s p c past) past → IsServed s p c (if b then (if d then seen s p c (e ∷ past) else served s p c past) else served s p c past) (e ∷ past)
+    go : (b d : Bool) → is_of e p ≡ b → serves c e.what ≡ d → IsServed s p c (served s p c past) past →
+        IsServed s p c (if b then (if d then seen s p c (e ∷ past) else served s p c past) else served s p c past) (e ∷ past)
     go true true o k ih =
-        inr (length past, inl (refl, (o, serving s limit c e past e.what r.0 refl k, refl)), (λ l. absurd (omega (arith, l)), none_after (IsNoService p c) (length past) past (omega arith)))
+        inr (
+          length past,
+          inl (refl, (o, serving s limit c e past e.what r.0 refl k, refl)),
+          (λ l. absurd (omega (arith, l)), none_after (IsNoService p c) (length past) past (omega arith)),
+        )
     go true false o k ih =
         stays_served s p c (served s p c past) e past (no_service p c e past k) ih
     go false d o k ih = stays_served s p c (served s p c past) e past (other_cpu p c e past o) ih

@@ -41,7 +41,8 @@ same_some x y h = cc
 
 -- ---- what an event leaves of a timer
 
-timer_set : (t : TimerNo) (n now : ℕ) (w : What) (old : Option Setting) → sets_timer t w ≡ true → timer_after t n now w old ≡ Some (record { due = now + named_due w; number = n; period = named_period w })
+timer_set : (t : TimerNo) (n now : ℕ) (w : What) (old : Option Setting) → sets_timer t w ≡ true → timer_after t n now w old
+    ≡ Some (record { due = now + named_due w; number = n; period = named_period w })
 timer_set t n now (Call f (SetTimer x due period) y) old h = rw h refl
 timer_set t n now w old h = cc
 
@@ -53,7 +54,8 @@ timer_expired : (t : TimerNo) (n now : ℕ) (w : What) (old : Option Setting) �
 timer_expired t n now (Expire (OfTimer x) from) old h = rw h refl
 timer_expired t n now w old h = cc
 
-timer_left : (t : TimerNo) (n now : ℕ) (w : What) (old : Option Setting) → sets_timer t w ≡ false → cancels_timer t w ≡ false → expires_timer t w ≡ false → timer_after t n now w old ≡ old
+timer_left : (t : TimerNo) (n now : ℕ) (w : What) (old : Option Setting) → sets_timer t w ≡ false → cancels_timer t w ≡ false → expires_timer t w ≡ false →
+    timer_after t n now w old ≡ old
 timer_left t n now (Call f (SetTimer x due period) y) old h k l = rw h refl
 timer_left t n now (Call f (CancelTimer x) Yes) old h k l = rw k refl
 timer_left t n now (Expire (OfTimer x) from) old h k l = rw l refl
@@ -73,15 +75,23 @@ abbrev anew : ℕ → ℕ → Setting → Setting
 anew n now y = record { due = now + y.period; number = n; period = y.period }
 
 -- an expired timer that is set anew has its old period
-renewed_some : (n now : ℕ) (old : Option Setting) (x : Setting) → renewed n now old ≡ Some x → (y : Setting) × (old ≡ Some y) × (0 < y.period) × (x.period ≡ y.period) × (x.due ≡ now + y.period) × (x.number ≡ n)
+renewed_some : (n now : ℕ) (old : Option Setting) (x : Setting) → renewed n now old ≡ Some x → (y : Setting) × (old ≡ Some y) × (0 < y.period) ×
+    (x.period ≡ y.period) × (x.due ≡ now + y.period) × (x.number ≡ n)
 renewed_some n now None x h = none_some x h
 renewed_some n now (Some y) x h = go (y.period == 0) refl h
   where
-    go : (b : Bool) → (y.period == 0) ≡ b → (if b then None else Some (anew n now y)) ≡ Some x → (z : Setting) × (Some y ≡ Some z) × (0 < z.period) × (x.period ≡ z.period) × (x.due ≡ now + z.period) × (x.number ≡ n)
+    go : (b : Bool) → (y.period == 0) ≡ b → (if b then None else Some (anew n now y)) ≡ Some x → (z : Setting) × (Some y ≡ Some z) × (0 < z.period) ×
+        (x.period ≡ z.period) × (x.due ≡ now + z.period) × (x.number ≡ n)
     go true e k = none_some x k
     go false e k =
-        let same = same_some (anew n now y) x k in
-        (y, refl, positive y.period e, ap (λ (z : Setting). z.period) (sym same), ap (λ (z : Setting). z.due) (sym same), ap (λ (z : Setting). z.number) (sym same))
+        let same = same_some (anew n now y) x k in (
+          y,
+          refl,
+          positive y.period e,
+          ap (λ (z : Setting). z.period) (sym same),
+          ap (λ (z : Setting). z.due) (sym same),
+          ap (λ (z : Setting). z.number) (sym same),
+        )
 
 renewed_so : (n now : ℕ) (y : Setting) → 0 < y.period → renewed n now (Some y) ≡ Some (anew n now y)
 renewed_so n now y h = go (y.period == 0) refl
@@ -105,21 +115,34 @@ set_forth t x (e ∷ past) h = go (sets_timer t e.what) (cancels_timer t e.what)
     old : Option Setting
     old = timer_setting t past
 
-    go : (a b c : Bool) → sets_timer t e.what ≡ a → cancels_timer t e.what ≡ b → expires_timer t e.what ≡ c → ((y : Setting) → timer_setting t past ≡ Some y → IsSetSo t y past) → IsSetSo t x (e ∷ past)
+    go : (a b c : Bool) → sets_timer t e.what ≡ a → cancels_timer t e.what ≡ b → expires_timer t e.what ≡ c →
+        ((y : Setting) → timer_setting t past ≡ Some y → IsSetSo t y past) → IsSetSo t x (e ∷ past)
     go true b c i j k ih =
         let same = same_some _ x (sym (timer_set t (length past) (time past) e.what old i) ∙ h) in
         let due : x.due ≡ time past + named_due e.what = ap (λ (z : Setting). z.due) (sym same) in
         let number : x.number ≡ length past = ap (λ (z : Setting). z.number) (sym same) in
-        let period : x.period ≡ named_period e.what = ap (λ (z : Setting). z.period) (sym same) in
-        ((length past, inl (refl, (number, inl (i, due, period))), (λ l. absurd (omega (arith, l)), none_after (LeavesTimer t) (length past) past (omega arith))), (length past, inl (refl, (i, period)), (λ l. absurd (omega (arith, l)), none_after (KeepsPeriod t) (length past) past (omega arith))))
+        let period : x.period ≡ named_period e.what = ap (λ (z : Setting). z.period) (sym same) in (
+          (
+            length past,
+            inl (refl, (number, inl (i, due, period))),
+            (λ l. absurd (omega (arith, l)), none_after (LeavesTimer t) (length past) past (omega arith)),
+          ),
+          (length past, inl (refl, (i, period)), (λ l. absurd (omega (arith, l)), none_after (KeepsPeriod t) (length past) past (omega arith))),
+        )
     go false true c i j k ih = none_some x (sym (timer_cancelled t (length past) (time past) e.what old j) ∙ h)
     go false false true i j k ih =
         let r = renewed_some (length past) (time past) old x (sym (timer_expired t (length past) (time past) e.what old k) ∙ h) in
         let before = (ih r.0 r.1).1 in
         let period : IsPeriod t x.period past = subst (λ (p : ℕ). IsPeriod t p past) (sym r.3) before in
         let more : 0 < x.period = let a = r.2 in let b = r.3 in omega (arith, a, b) in
-        let due : x.due ≡ time past + x.period = r.4 ∙ ap (λ (p : ℕ). time past + p) (sym r.3) in
-        ((length past, inl (refl, (r.5, inr (k, more, period, due))), (λ l. absurd (omega (arith, l)), none_after (LeavesTimer t) (length past) past (omega arith))), (period.0, inr period.1, (λ l. (i, j), period.2)))
+        let due : x.due ≡ time past + x.period = r.4 ∙ ap (λ (p : ℕ). time past + p) (sym r.3) in (
+          (
+            length past,
+            inl (refl, (r.5, inr (k, more, period, due))),
+            (λ l. absurd (omega (arith, l)), none_after (LeavesTimer t) (length past) past (omega arith)),
+          ),
+          (period.0, inr period.1, (λ l. (i, j), period.2)),
+        )
     go false false false i j k ih =
         let a = ih x (sym (timer_left t (length past) (time past) e.what old i j k) ∙ h) in
         ((a.0.0, inr a.0.1, (λ l. (i, j, k), a.0.2)), (a.1.0, inr a.1.1, (λ l. (i, j), a.1.2)))
@@ -132,38 +155,57 @@ period_has : (t : TimerNo) (p : ℕ) (past : List Event) → 0 < p → IsPeriod 
 period_has t p [] more h = absurd h.1
 period_has t p (e ∷ past) more h = go h.1 (λ a b. period_has t p past more (h.0, a, b))
   where
-    later : (c : Bool) → expires_timer t e.what ≡ c → sets_timer t e.what ≡ false → cancels_timer t e.what ≡ false → HasPeriod t p past → HasPeriod t p (e ∷ past)
+    later : (c : Bool) → expires_timer t e.what ≡ c → sets_timer t e.what ≡ false → cancels_timer t e.what ≡ false → HasPeriod t p past →
+        HasPeriod t p (e ∷ past)
     later false k i j a = (a.0, timer_left t (length past) (time past) e.what (timer_setting t past) i j k ∙ a.1, a.2)
     later true k i j a =
         let q = a.2 in
-        let more_y : 0 < a.0.period = omega (arith, q, more) in
-        (record { due = time past + a.0.period; number = length past; period = a.0.period }, timer_expired t (length past) (time past) e.what (timer_setting t past) k ∙ (ap (renewed (length past) (time past)) a.1 ∙ renewed_so (length past) (time past) a.0 more_y), a.2)
+        let more_y : 0 < a.0.period = omega (arith, q, more) in (
+          record { due = time past + a.0.period; number = length past; period = a.0.period },
+          timer_expired t (length past) (time past) e.what (timer_setting t past) k
+              ∙ (ap (renewed (length past) (time past)) a.1 ∙ renewed_so (length past) (time past) a.0 more_y),
+          a.2,
+        )
 
-    go : At (λ x before. (sets_timer t x.what ≡ true) × (p ≡ named_period x.what)) h.0 (e ∷ past) → (At (λ x before. (sets_timer t x.what ≡ true) × (p ≡ named_period x.what)) h.0 past → EachAfter (KeepsPeriod t) h.0 past → HasPeriod t p past) → HasPeriod t p (e ∷ past)
-    go (inl a) ih =
-        (record { due = time past + named_due e.what; number = length past; period = named_period e.what }, timer_set t (length past) (time past) e.what (timer_setting t past) a.1.0, sym a.1.1)
+    go : At (λ x before. (sets_timer t x.what ≡ true) × (p ≡ named_period x.what)) h.0 (e ∷ past) →
+        (At (λ x before. (sets_timer t x.what ≡ true) × (p ≡ named_period x.what)) h.0 past → EachAfter (KeepsPeriod t) h.0 past → HasPeriod t p past) →
+        HasPeriod t p (e ∷ past)
+    go (inl a) ih = (
+      record { due = time past + named_due e.what; number = length past; period = named_period e.what },
+      timer_set t (length past) (time past) e.what (timer_setting t past) a.1.0,
+      sym a.1.1,
+    )
     go (inr a) ih =
         let k = h.2.0 (at_before (λ x before. (sets_timer t x.what ≡ true) × (p ≡ named_period x.what)) h.0 past a) in
         later (expires_timer t e.what) refl k.0 k.1 (ih a h.2.1)
 
-setting_is : (x : Setting) (due number period : ℕ) → x.due ≡ due → x.number ≡ number → x.period ≡ period → record { due = due; number = number; period = period } ≡ x
+setting_is : (x : Setting) (due number period : ℕ) → x.due ≡ due → x.number ≡ number → x.period ≡ period →
+    record { due = due; number = number; period = period } ≡ x
 setting_is x due number period a b c = λ i. record { due = (sym a) i; number = (sym b) i; period = (sym c) i }
 
 set_back : (t : TimerNo) (x : Setting) (past : List Event) → IsTimerSet t x past → timer_setting t past ≡ Some x
 set_back t x [] h = absurd h.1
 set_back t x (e ∷ past) h = go h.1 (λ a b. set_back t x past (h.0, a, b))
   where
-    by_it : ((sets_timer t e.what ≡ true) × (x.due ≡ time past + named_due e.what) × (x.period ≡ named_period e.what)) ⊎ ((expires_timer t e.what ≡ true) × (0 < x.period) × IsPeriod t x.period past × (x.due ≡ time past + x.period)) → x.number ≡ length past → timer_setting t (e ∷ past) ≡ Some x
+    by_it : ((sets_timer t e.what ≡ true) × (x.due ≡ time past + named_due e.what) × (x.period ≡ named_period e.what)) ⊎
+        ((expires_timer t e.what ≡ true) × (0 < x.period) × IsPeriod t x.period past × (x.due ≡ time past + x.period)) → x.number ≡ length past →
+        timer_setting t (e ∷ past) ≡ Some x
     by_it (inl a) n =
-        timer_set t (length past) (time past) e.what (timer_setting t past) a.0 ∙ ap (λ (z : Setting). Some z) (setting_is x (time past + named_due e.what) (length past) (named_period e.what) a.1 n a.2)
+        timer_set t (length past) (time past) e.what (timer_setting t past) a.0
+        ∙ ap (λ (z : Setting). Some z) (setting_is x (time past + named_due e.what) (length past) (named_period e.what) a.1 n a.2)
     by_it (inr a) n =
         let y = period_has t x.period past a.1 a.2 in
         let q = y.2 in
         let more = a.1 in
         let more_y : 0 < y.0.period = omega (arith, q, more) in
-        timer_expired t (length past) (time past) e.what (timer_setting t past) a.0 ∙ (ap (renewed (length past) (time past)) y.1 ∙ (renewed_so (length past) (time past) y.0 more_y ∙ ap (λ (z : Setting). Some z) (setting_is x (time past + y.0.period) (length past) y.0.period (a.3 ∙ ap (λ (p : ℕ). time past + p) (sym y.2)) n (sym y.2))))
+        timer_expired t (length past) (time past) e.what (timer_setting t past) a.0
+        ∙ (ap (renewed (length past) (time past)) y.1
+        ∙ (renewed_so (length past) (time past) y.0 more_y
+        ∙ ap (λ (z : Setting). Some z) (setting_is x (time past + y.0.period) (length past) y.0.period (a.3 ∙ ap (λ (p : ℕ). time past + p) (sym y.2)) n
+        (sym y.2))))
 
-    go : At (IsTimerSetBy t x) h.0 (e ∷ past) → (At (IsTimerSetBy t x) h.0 past → EachAfter (LeavesTimer t) h.0 past → timer_setting t past ≡ Some x) → timer_setting t (e ∷ past) ≡ Some x
+    go : At (IsTimerSetBy t x) h.0 (e ∷ past) → (At (IsTimerSetBy t x) h.0 past → EachAfter (LeavesTimer t) h.0 past → timer_setting t past ≡ Some x) →
+        timer_setting t (e ∷ past) ≡ Some x
     go (inl a) ih = by_it a.1.1 a.1.0
     go (inr a) ih =
         let k = h.2.0 (at_before (IsTimerSetBy t x) h.0 past a) in
@@ -174,7 +216,8 @@ timers_set_last t x past = (λ h. (set_forth t x past h).0, λ h. set_back t x p
 
 -- ---- a delay that is set
 
-delay_blocked : (n now : ℕ) (again : Option Again) (w : What) (old : Option Setting) (due : ℕ) → blocked_due now again w ≡ Some due → blocked_after n now again w old ≡ Some (record { due = due; number = n; period = 0 })
+delay_blocked : (n now : ℕ) (again : Option Again) (w : What) (old : Option Setting) (due : ℕ) → blocked_due now again w ≡ Some due →
+    blocked_after n now again w old ≡ Some (record { due = due; number = n; period = 0 })
 delay_blocked n now again (Call f (Delay m a units) Blocked) old due h =
     let same : now + units ≡ due = cc in ap (λ (d : ℕ). delay_set n (Some d) old) same
 delay_blocked n now again (Rewait f Blocked) old due h = ap (λ (o : Option ℕ). delay_set n o old) h
@@ -198,24 +241,44 @@ blocked_alone t now again (Expire (OfDelay u) from) due h = cc
 blocked_alone t now again w due h = refl
 
 -- what the event leaves of the delay
-delay_by : (s : Script) (t : ThreadNo) (e : Event) (past : List Event) (b : Bool) → is_of_thread s t e ≡ b → expires_delay t e.what ≡ false → delay_setting s t (e ∷ past) ≡ (if b then blocked_after (length past) (time past) (stand_at s e.cpu past).again e.what (delay_setting s t past) else delay_setting s t past)
+delay_by : (s : Script) (t : ThreadNo) (e : Event) (past : List Event) (b : Bool) → is_of_thread s t e ≡ b → expires_delay t e.what ≡ false →
+    delay_setting s t (e ∷ past) ≡ (if b then blocked_after (length past) (time past) (stand_at s e.cpu past).again e.what (delay_setting s t past)
+    else delay_setting s t past)
 delay_by s t e past b h k =
-    expired_not t e.what (if is_of_thread s t e then blocked_after (length past) (time past) (stand_at s e.cpu past).again e.what (delay_setting s t past) else delay_setting s t past) k ∙ ap (λ (c : Bool). if c then blocked_after (length past) (time past) (stand_at s e.cpu past).again e.what (delay_setting s t past) else delay_setting s t past) h
+    expired_not t e.what (if is_of_thread s t e then blocked_after (length past) (time past) (stand_at s e.cpu past).again e.what (delay_setting s t past)
+    else delay_setting s t past) k ∙ ap (λ (c : Bool). if c
+    then blocked_after (length past) (time past) (stand_at s e.cpu past).again e.what (delay_setting s t past) else delay_setting s t past) h
 
 delay_forth : (s : Script) (t : ThreadNo) (x : Setting) (past : List Event) → delay_setting s t past ≡ Some x → IsDelaySet s t x past
 delay_forth s t x [] h = none_some x h
 delay_forth s t x (e ∷ past) h =
     go (expires_delay t e.what) (is_of_thread s t e) (due_blocked s e past) refl refl refl (λ k. delay_forth s t x past k)
   where
-    go : (a b : Bool) (o : Option ℕ) → expires_delay t e.what ≡ a → is_of_thread s t e ≡ b → due_blocked s e past ≡ o → (delay_setting s t past ≡ Some x → IsDelaySet s t x past) → IsDelaySet s t x (e ∷ past)
+    go : (a b : Bool) (o : Option ℕ) → expires_delay t e.what ≡ a → is_of_thread s t e ≡ b → due_blocked s e past ≡ o →
+        (delay_setting s t past ≡ Some x → IsDelaySet s t x past) → IsDelaySet s t x (e ∷ past)
     go true b o i j k ih =
-        none_some x (sym (expired_so t e.what (if is_of_thread s t e then blocked_after (length past) (time past) (stand_at s e.cpu past).again e.what (delay_setting s t past) else delay_setting s t past) i) ∙ h)
+        none_some x (sym (expired_so t e.what (if is_of_thread s t e
+        then blocked_after (length past) (time past) (stand_at s e.cpu past).again e.what (delay_setting s t past) else delay_setting s t past) i) ∙ h)
     go false true (Some due) i j k ih =
-        let set : delay_setting s t (e ∷ past) ≡ Some (record { due = due; number = length past; period = 0 }) = delay_by s t e past true j i ∙ delay_blocked (length past) (time past) (stand_at s e.cpu past).again e.what (delay_setting s t past) due k in
-        let same = same_some (record { due = due; number = length past; period = 0 }) x (sym set ∙ h) in
-        (length past, inl (refl, (ap (λ (z : Setting). z.number) (sym same), ap (λ (z : Setting). z.period) (sym same), j, k ∙ ap (λ (z : Setting). Some z.due) same)), (λ l. absurd (omega (arith, l)), none_after (LeavesDelay s t) (length past) past (omega arith)))
+        let set : delay_setting s t (e ∷ past) ≡ Some (record { due = due; number = length past; period = 0 }) = delay_by s t e past true j i
+        ∙ delay_blocked (length past) (time past) (stand_at s e.cpu past).again e.what (delay_setting s t past) due k in
+        let same = same_some (record { due = due; number = length past; period = 0 }) x (sym set ∙ h) in (
+          length past,
+          inl (
+            refl,
+            (
+              ap (λ (z : Setting). z.number) (sym same),
+              ap (λ (z : Setting). z.period) (sym same),
+              j,
+              k
+                  ∙ ap (λ (z : Setting). Some z.due) same,
+            ),
+          ),
+          (λ l. absurd (omega (arith, l)), none_after (LeavesDelay s t) (length past) past (omega arith)),
+        )
     go false true None i j k ih =
-        let a = ih (sym (delay_by s t e past true j i ∙ delay_not (length past) (time past) (stand_at s e.cpu past).again e.what (delay_setting s t past) k) ∙ h) in
+        let a = ih (sym (delay_by s t e past true j i ∙ delay_not (length past) (time past) (stand_at s e.cpu past).again e.what (delay_setting s t past) k)
+        ∙ h) in
         (a.0, inr a.1, (λ l. (λ m. k, i), a.2))
     go false false o i j k ih =
         let a = ih (sym (delay_by s t e past false j i) ∙ h) in
@@ -230,10 +293,13 @@ delay_back s t x (e ∷ past) h = go h.1 (λ a b. delay_back s t x past (h.0, a,
         delay_by s t e past true j k.1 ∙ delay_not (length past) (time past) (stand_at s e.cpu past).again e.what (delay_setting s t past) (k.0 j)
     left_by false j k = delay_by s t e past false j k.1
 
-    go : At (IsDelaySetBy s t x) h.0 (e ∷ past) → (At (IsDelaySetBy s t x) h.0 past → EachAfter (LeavesDelay s t) h.0 past → delay_setting s t past ≡ Some x) → delay_setting s t (e ∷ past) ≡ Some x
+    go : At (IsDelaySetBy s t x) h.0 (e ∷ past) → (At (IsDelaySetBy s t x) h.0 past → EachAfter (LeavesDelay s t) h.0 past → delay_setting s t past ≡ Some x) →
+        delay_setting s t (e ∷ past) ≡ Some x
     go (inl a) ih =
         let k = a.1 in
-        delay_by s t e past true k.2 (blocked_alone t (time past) (stand_at s e.cpu past).again e.what x.due k.3) ∙ (delay_blocked (length past) (time past) (stand_at s e.cpu past).again e.what (delay_setting s t past) x.due k.3 ∙ ap (λ (z : Setting). Some z) (setting_is x x.due (length past) 0 refl k.0 k.1))
+        delay_by s t e past true k.2 (blocked_alone t (time past) (stand_at s e.cpu past).again e.what x.due k.3)
+        ∙ (delay_blocked (length past) (time past) (stand_at s e.cpu past).again e.what (delay_setting s t past) x.due k.3
+        ∙ ap (λ (z : Setting). Some z) (setting_is x x.due (length past) 0 refl k.0 k.1))
     go (inr a) ih =
         left_by (is_of_thread s t e) refl (h.2.0 (at_before (IsDelaySetBy s t x) h.0 past a)) ∙ ih a h.2.1
 
@@ -268,7 +334,8 @@ key_back s past (OfDelay t) x h =
 pub first_due_least : (s : Script) (past : List Event) → IsFirstDueKey s past (first_due (timers_at s past))
 first_due_least s past = go (first_due (timers_at s past)) (first_due_is_first (timers_at s past))
   where
-    go : (o : Option SetKey) → MatchOption o ((key : TimerKey) (setting : Setting) → setting_at key (timers_at s past) ≡ Some setting → (timers_at s past).now < setting.due) (IsFirstDue (timers_at s past)) → IsFirstDueKey s past o
+    go : (o : Option SetKey) → MatchOption o ((key : TimerKey) (setting : Setting) → setting_at key (timers_at s past) ≡ Some setting →
+        (timers_at s past).now < setting.due) (IsFirstDue (timers_at s past)) → IsFirstDueKey s past o
     go None h = λ key x k. h key x (key_back s past key x k)
     go (Some k) h =
         (key_forth s past k.key k.setting h.is_set, h.due, λ key x i l. h.first key x (key_back s past key x i) l)

@@ -30,9 +30,11 @@ calls w = false
 
 -- event m is of this kind and the first event after event n that uses up the insert of the thing that event n made
 abbrev pub IsFirstUse : (What → Bool) → Thing → ℕ → ℕ → List Event → Type 0
-IsFirstUse kind thing n m past = At (λ e before. (n < length before) × (kind e.what ≡ true) × (uses_up thing n e.what ≡ true) × NoneUsesUp thing n before) m past
+IsFirstUse kind thing n m past = At (λ e before. (n < length before) × (kind e.what ≡ true) ×
+    (uses_up thing n e.what ≡ true) × NoneUsesUp thing n before) m past
 
--- begun by the first later event that uses it up, a Begin; flushed by it, a Flush; removed by it, a call; or waiting where none does
+-- begun by the first later event that uses it up, a Begin; flushed by it, a Flush; removed by it, a call; or waiting
+-- where none does
 abbrev pub IsFate : Thing → ℕ → List Event → Fate → Type 0
 IsFate thing n past (BegunBy m) = IsFirstUse begins thing n m past
 IsFate thing n past (FlushedBy m) = IsFirstUse flushes thing n m past
@@ -41,7 +43,8 @@ IsFate thing n past StillWaits = NoneUsesUp thing n past
 
 -- the fate that is answered is the one that the insert has, and no other
 abbrev pub FateIsFirstUse : Type 0
-FateIsFirstUse = (thing : Thing) (n : ℕ) (past : List Event) (x : Fate) → (fate_of thing n past ≡ x) ↔ IsFate thing n past x
+FateIsFirstUse = (thing : Thing) (n : ℕ) (past : List Event) (x : Fate) →
+    (fate_of thing n past ≡ x) ↔ IsFate thing n past x
 
 -- ---- the inserts of a history
 
@@ -71,4 +74,5 @@ IsPending s (ApcThing a) n past = ApcIsPending s (owner_of s a) a n past
 
 -- in a run an insert waits exactly where it is pending
 abbrev pub WaitingIsPending : Type 0
-WaitingIsPending = (s : Script) (limit : ℕ) (thing : Thing) (n : ℕ) (past : List Event) → IsRun s limit past → is_known s thing ≡ true → (IsInsert thing n past × (fate_of thing n past ≡ StillWaits)) ↔ IsPending s thing n past
+WaitingIsPending = (s : Script) (limit : ℕ) (thing : Thing) (n : ℕ) (past : List Event) → IsRun s limit past →
+    is_known s thing ≡ true → (IsInsert thing n past × (fate_of thing n past ≡ StillWaits)) ↔ IsPending s thing n past

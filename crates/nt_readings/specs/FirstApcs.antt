@@ -17,7 +17,8 @@ PicksFall n (x ∷ xs) = (x.number < n) × PicksFall x.number xs
 
 -- the pending APCs of a thread stand by their numbers, the greatest first, each an earlier event's
 abbrev pub PendingApcsFall : Type 0
-PendingApcsFall = (s : Script) (t : ThreadNo) (past : List Event) → PicksFall (length past) (facts s t past).apcs.pending
+PendingApcsFall = (s : Script) (t : ThreadNo) (past : List Event) →
+    PicksFall (length past) (facts s t past).apcs.pending
 
 -- none of this kind is pending
 abbrev pub HasNoneOfKind : ApcKind → List Pick → Type 0
@@ -25,18 +26,22 @@ HasNoneOfKind kind xs = (y : Pick) → Contains xs y → is_of_kind kind y ≡ f
 
 -- x is the pending one of this kind of least number
 abbrev pub IsLeastOfKind : ApcKind → List Pick → Pick → Type 0
-IsLeastOfKind kind xs x = Contains xs x × (is_of_kind kind x ≡ true) × ((y : Pick) → Contains xs y → is_of_kind kind y ≡ true → x.number ≤ y.number)
+IsLeastOfKind kind xs x = Contains xs x × (is_of_kind kind x ≡ true) ×
+    ((y : Pick) → Contains xs y → is_of_kind kind y ≡ true → x.number ≤ y.number)
 
 -- what is answered as the first user APC
 abbrev pub IsFirstUser : List Pick → Option Pick → Type 0
 IsFirstUser xs None = HasNoneOfKind UserApc xs
 IsFirstUser xs (Some x) = IsLeastOfKind UserApc xs x
 
--- what is answered as the first kernel APC: the special one of least number, else the normal one of least number, else none
+-- what is answered as the first kernel APC: the special one of least number, else the normal one of least number, else
+-- none
 abbrev pub IsFirstKernel : List Pick → Option Pick → Type 0
 IsFirstKernel xs None = HasNoneOfKind SpecialApc xs × HasNoneOfKind NormalApc xs
 IsFirstKernel xs (Some x) = IsLeastOfKind SpecialApc xs x ⊎ (HasNoneOfKind SpecialApc xs × IsLeastOfKind NormalApc xs x)
 
 -- the first APCs of a thread are by kind and number
 abbrev pub FirstApcsAreByKindAndNumber : Type 0
-FirstApcsAreByKindAndNumber = (s : Script) (t : ThreadNo) (past : List Event) → IsFirstKernel (facts s t past).apcs.pending (first_kernel (facts s t past).apcs) × IsFirstUser (facts s t past).apcs.pending (first_user (facts s t past).apcs)
+FirstApcsAreByKindAndNumber = (s : Script) (t : ThreadNo) (past : List Event) →
+    IsFirstKernel (facts s t past).apcs.pending (first_kernel (facts s t past).apcs) ×
+    IsFirstUser (facts s t past).apcs.pending (first_user (facts s t past).apcs)

@@ -62,11 +62,13 @@ IsFirstSwitch t e before = (switches_to t e.what ≡ true) × Everywhere (λ f r
 
 -- event n is the first Switch to t, which isn't gone: it began the thread's base frame
 abbrev pub IsOpenBase : ThreadNo → List Event → ℕ → Body → Type 0
-IsOpenBase t past n b = (b ≡ OnBase t) × At (IsFirstSwitch t) n past × EachAfter (λ e before. ends_thread t e.what ≡ false) n past
+IsOpenBase t past n b = (b ≡ OnBase t) × At (IsFirstSwitch t) n past ×
+    EachAfter (λ e before. ends_thread t e.what ≡ false) n past
 
 -- event n began this on the part of t, and it has not ended
 abbrev pub IsOpenInner : Script → ThreadNo → List Event → ℕ → Body → Type 0
-IsOpenInner s t past n b = At (λ e before. (is_by e t ≡ true) × (begun_inner s e.what ≡ Some b)) n past × IsNotEnded n past
+IsOpenInner s t past n b = At (λ e before. (is_by e t ≡ true) × (begun_inner s e.what ≡ Some b)) n past ×
+    IsNotEnded n past
 
 -- event n began this on the part of t, and it is open
 abbrev pub IsOpenOn : Script → ThreadNo → List Event → ℕ → Body → Type 0
@@ -97,11 +99,13 @@ pub record Lists (P : ℕ → Body → Type 0) (n : ℕ) (fs : List Frame) : Typ
 
 -- in a run the frames on a processor's own part are exactly the open ones there, the greatest number first
 abbrev pub OwnFramesAreOpen : Type 0
-OwnFramesAreOpen = (s : Script) (limit : ℕ) (p : CpuNo) (past : List Event) → IsRun s limit past → Lists (IsOpenOwn p past) (length past) (own_frames p past)
+OwnFramesAreOpen = (s : Script) (limit : ℕ) (p : CpuNo) (past : List Event) → IsRun s limit past →
+    Lists (IsOpenOwn p past) (length past) (own_frames p past)
 
 -- in a run the frames on a thread's part are exactly the open ones there, the greatest number first
 abbrev pub ThreadFramesAreOpen : Type 0
-ThreadFramesAreOpen = (s : Script) (limit : ℕ) (t : ThreadNo) (past : List Event) → IsRun s limit past → Lists (IsOpenOn s t past) (length past) (thread_frames s (cpu_of s t) t past)
+ThreadFramesAreOpen = (s : Script) (limit : ℕ) (t : ThreadNo) (past : List Event) → IsRun s limit past →
+    Lists (IsOpenOn s t past) (length past) (thread_frames s (cpu_of s t) t past)
 
 -- ---- the running thread and the innermost frame
 
@@ -119,11 +123,13 @@ is_switch_event w = false
 
 -- the last Switch of p is one to t, and no later event of p stops it
 abbrev pub IsLastSwitched : CpuNo → ThreadNo → List Event → Type 0
-IsLastSwitched p t past = (n : ℕ) × At (λ e before. (is_of e p ≡ true) × (switches_to t e.what ≡ true)) n past × EachAfter (λ e before. is_of e p ≡ true → (is_switch_event e.what ≡ false) × (stops_thread e.what ≡ false)) n past
+IsLastSwitched p t past = (n : ℕ) × At (λ e before. (is_of e p ≡ true) × (switches_to t e.what ≡ true)) n past ×
+    EachAfter (λ e before. is_of e p ≡ true → (is_switch_event e.what ≡ false) × (stops_thread e.what ≡ false)) n past
 
 -- the running thread is the one of the processor's last Switch, where no later event of it stops it
 abbrev pub RunningIsLastSwitched : Type 0
-RunningIsLastSwitched = (p : CpuNo) (t : ThreadNo) (past : List Event) → (running p past ≡ Some t) ↔ IsLastSwitched p t past
+RunningIsLastSwitched = (p : CpuNo) (t : ThreadNo) (past : List Event) →
+    (running p past ≡ Some t) ↔ IsLastSwitched p t past
 
 -- the frame is the one of greatest number of which P holds
 abbrev pub IsGreatest : (ℕ → Body → Type 0) → Frame → Type 0
@@ -132,11 +138,15 @@ IsGreatest P f = P f.name f.body × ((n : ℕ) (b : Body) → P n b → n ≤ f.
 abbrev pub HasNone : (ℕ → Body → Type 0) → Type 0
 HasNone P = (n : ℕ) (b : Body) → P n b → ⊥
 
--- what is answered as the innermost frame of p: the open one of greatest number on its own part, else the one of greatest number
+-- what is answered as the innermost frame of p: the open one of greatest number on its own part, else the one of
+-- greatest number
 -- on the part of the thread that runs there, else none
 abbrev pub IsInnermost : Script → CpuNo → List Event → Option Frame → Type 0
-IsInnermost s p past None = HasNone (IsOpenOwn p past) × ((t : ThreadNo) → running p past ≡ Some t → HasNone (IsOpenOn s t past))
-IsInnermost s p past (Some f) = IsGreatest (IsOpenOwn p past) f ⊎ (HasNone (IsOpenOwn p past) × ((t : ThreadNo) × (running p past ≡ Some t) × IsGreatest (IsOpenOn s t past) f))
+IsInnermost s p past None = HasNone (IsOpenOwn p past) ×
+    ((t : ThreadNo) → running p past ≡ Some t → HasNone (IsOpenOn s t past))
+IsInnermost s p past (Some f) = IsGreatest (IsOpenOwn p past) f ⊎
+    (HasNone (IsOpenOwn p past) × ((t : ThreadNo) × (running p past ≡ Some t) × IsGreatest (IsOpenOn s t past) f))
 
 abbrev pub InnermostIsGreatest : Type 0
-InnermostIsGreatest = (s : Script) (limit : ℕ) (p : CpuNo) (past : List Event) → IsRun s limit past → IsInnermost s p past (innermost (frames_of s p past))
+InnermostIsGreatest = (s : Script) (limit : ℕ) (p : CpuNo) (past : List Event) → IsRun s limit past →
+    IsInnermost s p past (innermost (frames_of s p past))

@@ -1,4 +1,5 @@
--- What an open frame tells, by the events of its present phase: its level, its place, its phase and the wait that it takes up.
+-- What an open frame tells, by the events of its present phase: its level, its place, its phase and the wait that it
+-- takes up.
 use Rattle.std.specs.Prelude.{Bool, List, None, Option, Some, false, if◌then◌else◌, true, ℕ, ◌+◌, ◌<◌, ◌==◌, ◌∷◌, ◌≡◌, ◌⊎◌}
 use Rattle.nt_event.specs.declared.commands.Command.TheVariants.{Delay, Lower, Raise, StartWait}
 use Rattle.nt_event.specs.declared.commands.Reply.{Reply}
@@ -45,12 +46,16 @@ abbrev pub wait_called : ℕ → ℕ → What → Option Again
 wait_called n now (Call f (StartWait m a) y) =
     if f == n then (if is_wait_reply y then Some (record { mode = m; alertable = a; due = None }) else None) else None
 wait_called n now (Call f (Delay m a units) y) =
-    if f == n then (if is_wait_reply y then Some (record { mode = m; alertable = a; due = Some (now + units) }) else None) else None
+    if f == n then (if is_wait_reply y then Some (record { mode = m; alertable = a; due = Some (now + units) })
+    else None) else None
 wait_called n now w = None
 
 -- the level is that of the last accepted `raise` or `lower` of the present phase, else the frame's base level in it
 abbrev pub IsLeveled : List Event → Frame → Type 0
-IsLeveled past f = ((f.level ≡ base_of f) × EachAfter (λ e before. level_set f.name e.what ≡ None) (phase_of f.name past) past) ⊎ ((k : ℕ) × (phase_of f.name past < k) × At (λ e before. level_set f.name e.what ≡ Some f.level) k past × EachAfter (λ e before. level_set f.name e.what ≡ None) k past)
+IsLeveled past f = ((f.level ≡ base_of f) ×
+    EachAfter (λ e before. level_set f.name e.what ≡ None) (phase_of f.name past) past) ⊎
+    ((k : ℕ) × (phase_of f.name past < k) × At (λ e before. level_set f.name e.what ≡ Some f.level) k past ×
+    EachAfter (λ e before. level_set f.name e.what ≡ None) k past)
 
 -- the place is the count of the calls of the present phase
 abbrev pub IsPlaced : List Event → Frame → Type 0
@@ -58,13 +63,19 @@ IsPlaced past f = f.place ≡ count_after (is_call_of f.name) (phase_of f.name p
 
 -- it is in its kernel routine exactly where it is an APC's and has no Normal
 abbrev pub IsPhased : List Event → Frame → Type 0
-IsPhased past f = (f.kernel_phase ≡ true → (is_apc_body f.body ≡ true) × EachAfter (λ e before. is_normal_of f.name e.what ≡ false) f.name past) × (is_apc_body f.body ≡ true → EachAfter (λ e before. is_normal_of f.name e.what ≡ false) f.name past → f.kernel_phase ≡ true)
+IsPhased past f = (f.kernel_phase ≡ true → (is_apc_body f.body ≡ true) ×
+    EachAfter (λ e before. is_normal_of f.name e.what ≡ false) f.name past) ×
+    (is_apc_body f.body ≡ true → EachAfter (λ e before. is_normal_of f.name e.what ≡ false) f.name past →
+    f.kernel_phase ≡ true)
 
 -- the wait is the last one that the frame called in its present phase
 abbrev pub IsLastWait : ℕ → Again → List Event → Type 0
-IsLastWait n w past = (k : ℕ) × (phase_of n past < k) × At (λ e before. wait_called n (time before) e.what ≡ Some w) k past × EachAfter (λ e before. wait_called n (time before) e.what ≡ None) k past
+IsLastWait n w past = (k : ℕ) × (phase_of n past < k) ×
+    At (λ e before. wait_called n (time before) e.what ≡ Some w) k past ×
+    EachAfter (λ e before. wait_called n (time before) e.what ≡ None) k past
 
--- a wait to take up is the last one that the frame called in its present phase, with that call's mode, kind and due time
+-- a wait to take up is the last one that the frame called in its present phase, with that call's mode, kind and due
+-- time
 abbrev pub IsWaited : List Event → Frame → Type 0
 IsWaited past f = (w : Again) → f.again ≡ Some w → IsLastWait f.name w past
 
@@ -84,6 +95,9 @@ FramesAreTold = (s : Script) (limit : ℕ) (past : List Event) → IsRun s limit
 
 -- ---- waits that are taken up
 
--- in a run a Rewait takes up the last wait that its frame called in its present phase, with that call's mode, kind and due time
+-- in a run a Rewait takes up the last wait that its frame called in its present phase, with that call's mode, kind and
+-- due time
 abbrev pub WaitsAreTakenUpAsCalled : Type 0
-WaitsAreTakenUpAsCalled = (s : Script) (limit : ℕ) (e : Event) (past : List Event) (n : ℕ) (y : Reply) → IsRun s limit (e ∷ past) → e.what ≡ Rewait n y → (w : Again) × ((stand_at s e.cpu past).again ≡ Some w) × IsLastWait n w past
+WaitsAreTakenUpAsCalled = (s : Script) (limit : ℕ) (e : Event) (past : List Event) (n : ℕ) (y : Reply) →
+    IsRun s limit (e ∷ past) → e.what ≡ Rewait n y → (w : Again) × ((stand_at s e.cpu past).again ≡ Some w) ×
+    IsLastWait n w past

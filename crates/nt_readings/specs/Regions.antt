@@ -1,4 +1,5 @@
--- Regions and deliverable APCs, by positions: accepted enters less accepted leaves, in the present phase of each open frame.
+-- Regions and deliverable APCs, by positions: accepted enters less accepted leaves, in the present phase of each open
+-- frame.
 use Rattle.std.specs.Prelude.{Bool, List, Some, [], false, if◌then◌else◌, length, nat_lt, suc, sum_by, true, ℕ, ◌&&◌, ◌+◌, ◌-◌, ◌==◌, ◌∷◌, ◌↔◌, ◌≡◌}
 use Rattle.nt_event.specs.declared.commands.ApcKind.TheVariants.{Normal as NormalApc}
 use Rattle.nt_event.specs.declared.commands.Command.{Command}
@@ -90,16 +91,21 @@ pub record RegionsCounted (s : Script) (t : ThreadNo) (past : List Event) (fs : 
   pub guard : guard_of fs ≡ net_of Guard past fs
   pub busy : (busy_of fs ≡ true) ↔ ((n : ℕ) × (b : Body) × IsOpenOn s t past n b × (is_normal_apc_body b ≡ true))
 
--- in a run the regions of a thread are the accepted enters less the accepted leaves of its open frames, each in its present phase
+-- in a run the regions of a thread are the accepted enters less the accepted leaves of its open frames, each in its
+-- present phase
 abbrev pub RegionsAreCounted : Type 0
-RegionsAreCounted = (s : Script) (limit : ℕ) (t : ThreadNo) (past : List Event) → IsRun s limit past → RegionsCounted s t past (thread_frames s (cpu_of s t) t past)
+RegionsAreCounted = (s : Script) (limit : ℕ) (t : ThreadNo) (past : List Event) → IsRun s limit past →
+    RegionsCounted s t past (thread_frames s (cpu_of s t) t past)
 
 -- ---- deliverable
 
--- x is the first kernel APC, the thread's innermost frame has level 0, no guarded region is entered and, for a normal one, no
+-- x is the first kernel APC, the thread's innermost frame has level 0, no guarded region is entered and, for a normal
+-- one, no
 -- critical region is, and no normal kernel APC is in progress
 abbrev pub IsDeliverable : Script → ThreadNo → List Event → List Frame → Pick → Type 0
-IsDeliverable s t past fs x = (first_kernel (facts s t past).apcs ≡ Some x) × (level_of fs ≡ 0) × (guard_of fs ≡ 0) × (same_kind NormalApc x.kind ≡ true → (crit_of fs ≡ 0) × (busy_of fs ≡ false))
+IsDeliverable s t past fs x = (first_kernel (facts s t past).apcs ≡ Some x) × (level_of fs ≡ 0) × (guard_of fs ≡ 0) ×
+    (same_kind NormalApc x.kind ≡ true → (crit_of fs ≡ 0) × (busy_of fs ≡ false))
 
 abbrev pub DeliverableByRegions : Type 0
-DeliverableByRegions = (s : Script) (t : ThreadNo) (past : List Event) (fs : List Frame) (x : Pick) → (deliverable (facts s t past).apcs (regions_of fs) (level_of fs) ≡ Some x) ↔ IsDeliverable s t past fs x
+DeliverableByRegions = (s : Script) (t : ThreadNo) (past : List Event) (fs : List Frame) (x : Pick) →
+    (deliverable (facts s t past).apcs (regions_of fs) (level_of fs) ≡ Some x) ↔ IsDeliverable s t past fs x

@@ -31,7 +31,8 @@ IsLookedAt p c n past = Somewhere (λ e before. (is_of e p ≡ true) × (n + 1 �
 
 -- a later event of p touches a lane that event n touches
 abbrev pub IsMet : Script → CpuNo → ℕ → List Event → Type 0
-IsMet s p n past = Somewhere (λ e before. (is_of e p ≡ true) × (x : Lane) × (touches s x e before ≡ true) × IsTouch s x n before) past
+IsMet s p n past = Somewhere (λ e before. (is_of e p ≡ true) × (x : Lane) × (touches s x e before ≡ true) ×
+    IsTouch s x n before) past
 
 -- p noticed event n: it made it, or looked at its value, or met it on a lane
 abbrev pub IsNoticed : Script → CpuNo → ℕ → ℕ → List Event → Type 0
@@ -43,7 +44,8 @@ IsNoticedAsk s p c past n = IsAsk s p c n past × IsNoticed s p c n past
 
 -- in a run, seen is the greatest n + 1 over the asks that the processor noticed, else 0
 abbrev pub SeenIsGreatestNoticed : Type 0
-SeenIsGreatestNoticed = (s : Script) (limit : ℕ) (p : CpuNo) (c : ℕ) (past : List Event) → IsRun s limit past → IsGreatestNext (IsNoticedAsk s p c past) (seen s p c past)
+SeenIsGreatestNoticed = (s : Script) (limit : ℕ) (p : CpuNo) (c : ℕ) (past : List Event) → IsRun s limit past →
+    IsGreatestNext (IsNoticedAsk s p c past) (seen s p c past)
 
 -- the event serves the class: a Clean of it for the classes 0 to 2, a Begin of its interrupt for the others
 abbrev pub IsServing : ℕ → What → Type 0
@@ -57,13 +59,17 @@ IsNoService p c e before = is_of e p ≡ true → IsServing c e.what → ⊥
 
 -- event n of p served the class, and this was seen just after it
 abbrev pub IsServedAt : Script → CpuNo → ℕ → ℕ → ℕ → List Event → Type 0
-IsServedAt s p c v n past = At (λ e before. (is_of e p ≡ true) × IsServing c e.what × (v ≡ seen s p c (e ∷ before))) n past
+IsServedAt s p c v n past = At (λ e before. (is_of e p ≡ true) × IsServing c e.what ×
+    (v ≡ seen s p c (e ∷ before))) n past
 
 -- the value is what was seen just after the last event that served the class, else 0
 abbrev pub IsServed : Script → CpuNo → ℕ → ℕ → List Event → Type 0
-IsServed s p c v past = ((v ≡ 0) × Everywhere (IsNoService p c) past) ⊎ ((n : ℕ) × IsServedAt s p c v n past × EachAfter (IsNoService p c) n past)
+IsServed s p c v past = ((v ≡ 0) × Everywhere (IsNoService p c) past) ⊎
+    ((n : ℕ) × IsServedAt s p c v n past × EachAfter (IsNoService p c) n past)
 
--- in a run, served is what was seen just after the last Clean of the class by the processor, for the classes 0 to 2, or just after
+-- in a run, served is what was seen just after the last Clean of the class by the processor, for the classes 0 to 2, or
+-- just after
 -- the last Begin of the class's interrupt on it, for the others, else 0
 abbrev pub ServedIsSeenAtLastService : Type 0
-ServedIsSeenAtLastService = (s : Script) (limit : ℕ) (p : CpuNo) (c : ℕ) (past : List Event) → IsRun s limit past → IsServed s p c (served s p c past) past
+ServedIsSeenAtLastService = (s : Script) (limit : ℕ) (p : CpuNo) (c : ℕ) (past : List Event) → IsRun s limit past →
+    IsServed s p c (served s p c past) past

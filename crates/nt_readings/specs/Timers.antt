@@ -47,22 +47,27 @@ named_period w = 0
 
 -- p is the period of the timer's last `settimer`, since which it was not cancelled
 abbrev pub IsPeriod : TimerNo → ℕ → List Event → Type 0
-IsPeriod t p past = (m : ℕ) × At (λ e before. (sets_timer t e.what ≡ true) × (p ≡ named_period e.what)) m past × EachAfter (λ e before. (sets_timer t e.what ≡ false) × (cancels_timer t e.what ≡ false)) m past
+IsPeriod t p past = (m : ℕ) × At (λ e before. (sets_timer t e.what ≡ true) × (p ≡ named_period e.what)) m past ×
+    EachAfter (λ e before. (sets_timer t e.what ≡ false) × (cancels_timer t e.what ≡ false)) m past
 
 -- the event sets the timer so: a `settimer`, due its due time later, or its expiry with a period, due a period later
 abbrev pub IsTimerSetBy : TimerNo → Setting → Event → List Event → Type 0
-IsTimerSetBy t x e before = (x.number ≡ length before) × (((sets_timer t e.what ≡ true) × (x.due ≡ time before + named_due e.what) × (x.period ≡ named_period e.what)) ⊎ ((expires_timer t e.what ≡ true) × (0 < x.period) × IsPeriod t x.period before × (x.due ≡ time before + x.period)))
+IsTimerSetBy t x e before = (x.number ≡ length before) ×
+    (((sets_timer t e.what ≡ true) × (x.due ≡ time before + named_due e.what) × (x.period ≡ named_period e.what)) ⊎
+    ((expires_timer t e.what ≡ true) × (0 < x.period) × IsPeriod t x.period before × (x.due ≡ time before + x.period)))
 
 -- the event neither sets nor cancels nor expires the timer
 abbrev pub LeavesTimer : TimerNo → Event → List Event → Type 0
-LeavesTimer t e before = (sets_timer t e.what ≡ false) × (cancels_timer t e.what ≡ false) × (expires_timer t e.what ≡ false)
+LeavesTimer t e before = (sets_timer t e.what ≡ false) × (cancels_timer t e.what ≡ false) ×
+    (expires_timer t e.what ≡ false)
 
 -- the timer's last set event sets it so, and it was neither cancelled nor expired since
 abbrev pub IsTimerSet : TimerNo → Setting → List Event → Type 0
 IsTimerSet t x past = (n : ℕ) × At (IsTimerSetBy t x) n past × EachAfter (LeavesTimer t) n past
 
 abbrev pub TimersAreSetLast : Type 0
-TimersAreSetLast = (t : TimerNo) (x : Setting) (past : List Event) → (timer_setting t past ≡ Some x) ↔ IsTimerSet t x past
+TimersAreSetLast = (t : TimerNo) (x : Setting) (past : List Event) →
+    (timer_setting t past ≡ Some x) ↔ IsTimerSet t x past
 
 -- ---- delays
 
@@ -81,18 +86,21 @@ due_blocked s e before = blocked_due (time before) (stand_at s e.cpu before).aga
 
 -- the thread blocks in a delay by the event, with this due time
 abbrev pub IsDelaySetBy : Script → ThreadNo → Setting → Event → List Event → Type 0
-IsDelaySetBy s t x e before = (x.number ≡ length before) × (x.period ≡ 0) × (is_of_thread s t e ≡ true) × (due_blocked s e before ≡ Some x.due)
+IsDelaySetBy s t x e before = (x.number ≡ length before) × (x.period ≡ 0) × (is_of_thread s t e ≡ true) ×
+    (due_blocked s e before ≡ Some x.due)
 
 -- the thread doesn't block in a delay by the event, and its delay doesn't expire
 abbrev pub LeavesDelay : Script → ThreadNo → Event → List Event → Type 0
-LeavesDelay s t e before = (is_of_thread s t e ≡ true → due_blocked s e before ≡ None) × (expires_delay t e.what ≡ false)
+LeavesDelay s t e before = (is_of_thread s t e ≡ true → due_blocked s e before ≡ None) ×
+    (expires_delay t e.what ≡ false)
 
 -- the thread's last delay that blocked has this due time, and it has not expired since
 abbrev pub IsDelaySet : Script → ThreadNo → Setting → List Event → Type 0
 IsDelaySet s t x past = (n : ℕ) × At (IsDelaySetBy s t x) n past × EachAfter (LeavesDelay s t) n past
 
 abbrev pub DelaysAreSetLast : Type 0
-DelaysAreSetLast = (s : Script) (t : ThreadNo) (x : Setting) (past : List Event) → (delay_setting s t past ≡ Some x) ↔ IsDelaySet s t x past
+DelaysAreSetLast = (s : Script) (t : ThreadNo) (x : Setting) (past : List Event) →
+    (delay_setting s t past ≡ Some x) ↔ IsDelaySet s t x past
 
 -- ---- the first due key
 
@@ -104,11 +112,14 @@ IsKeySet s past (OfDelay t) x = (t.0 < length s.threads) × IsDelaySet s t x pas
 abbrev pub IsNotLater : Setting → Setting → Type 0
 IsNotLater a b = (a.due < b.due) ⊎ ((a.due ≡ b.due) × (a.number ≤ b.number))
 
--- what is answered as the first due key: a set key that is due, the least by due time and number of the set event among these
+-- what is answered as the first due key: a set key that is due, the least by due time and number of the set event among
+-- these
 abbrev pub IsFirstDueKey : Script → List Event → Option SetKey → Type 0
 IsFirstDueKey s past None = (key : TimerKey) (x : Setting) → IsKeySet s past key x → time past < x.due
-IsFirstDueKey s past (Some k) = IsKeySet s past k.key k.setting × (k.setting.due ≤ time past) × ((key : TimerKey) (x : Setting) → IsKeySet s past key x → x.due ≤ time past → IsNotLater k.setting x)
+IsFirstDueKey s past (Some k) = IsKeySet s past k.key k.setting × (k.setting.due ≤ time past) ×
+    ((key : TimerKey) (x : Setting) → IsKeySet s past key x → x.due ≤ time past → IsNotLater k.setting x)
 
--- the first due key is the least by due time and number of the set event of the keys that are set and due, and none where none is
+-- the first due key is the least by due time and number of the set event of the keys that are set and due, and none
+-- where none is
 abbrev pub FirstDueKeyIsLeast : Type 0
 FirstDueKeyIsLeast = (s : Script) (past : List Event) → IsFirstDueKey s past (first_due (timers_at s past))

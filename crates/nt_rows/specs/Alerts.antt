@@ -8,8 +8,8 @@ use Rattle.nt_event.specs.declared.events.What.TheVariants.{Call, Clean, End, Go
 use Rattle.nt_event.specs.declared.numbers.RoutineNo.{RoutineNo}
 use Rattle.nt_event.specs.declared.numbers.ThreadNo.{ThreadNo}
 use Rattle.nt_event.specs.declared.scripts.Script.{Script}
-use Rattle.nt_event.specs.Numbers.{cpu, routine, thread}
-use Rattle.nt_rows.specs.Rows.{event, looks, runs}
+use Rattle.nt_event.specs.Numbers.{routine, thread}
+use Rattle.nt_rows.specs.Rows.{event, looks, runs, thread_on}
 
 abbrev pub w : ThreadNo
 w = thread 0
@@ -33,9 +33,12 @@ script =
       isrs = [];
       dpcs = [];
       timers = [];
-      threads = (record { cpu = cpu 0; routine = rw }) ∷ (record { cpu = cpu 1; routine = rx }) ∷ [];
+      threads = thread_on 0 rw ∷ thread_on 1 rx ∷ [];
       apcs = [];
-      routines = (runs ((StartWait User true) ∷ (TestAlert User) ∷ [])) ∷ (runs ((Alert w User) ∷ (Alert w User) ∷ [])) ∷ [];
+      routines =
+          runs (StartWait User true ∷ TestAlert User ∷ []) ∷
+          runs (Alert w User ∷ Alert w User ∷ []) ∷
+          [];
     }
 
 -- its robin run, the oldest event first

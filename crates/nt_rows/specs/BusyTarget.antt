@@ -10,7 +10,7 @@ use Rattle.nt_event.specs.declared.numbers.RoutineNo.{RoutineNo}
 use Rattle.nt_event.specs.declared.numbers.ThreadNo.{ThreadNo}
 use Rattle.nt_event.specs.declared.scripts.Script.{Script}
 use Rattle.nt_event.specs.Numbers.{cpu, dpc, routine, thread}
-use Rattle.nt_rows.specs.Rows.{event, runs}
+use Rattle.nt_rows.specs.Rows.{event, runs, thread_on}
 
 abbrev pub d : DpcNo
 d = dpc 0
@@ -38,11 +38,15 @@ script =
       depth = None;
       threaded = None;
       isrs = [];
-      dpcs = (record { threaded = false; routine = q }) ∷ [];
+      dpcs = record { threaded = false; routine = q } ∷ [];
       timers = [];
-      threads = (record { cpu = cpu 0; routine = ra }) ∷ (record { cpu = cpu 1; routine = rb }) ∷ [];
+      threads = thread_on 0 ra ∷ thread_on 1 rb ∷ [];
       apcs = [];
-      routines = (runs ((SetTarget d (Some (cpu 1))) ∷ (Queue d) ∷ [])) ∷ (runs ((Note 1) ∷ (Note 2) ∷ (Note 3) ∷ (Note 4) ∷ [])) ∷ (runs ([])) ∷ [];
+      routines =
+          runs (SetTarget d (Some (cpu 1)) ∷ Queue d ∷ []) ∷
+          runs (Note 1 ∷ Note 2 ∷ Note 3 ∷ Note 4 ∷ []) ∷
+          runs [] ∷
+          [];
     }
 
 -- its robin run, the oldest event first

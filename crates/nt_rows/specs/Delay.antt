@@ -10,8 +10,8 @@ use Rattle.nt_event.specs.declared.events.What.TheVariants.{Begin, Call, Clean, 
 use Rattle.nt_event.specs.declared.numbers.RoutineNo.{RoutineNo}
 use Rattle.nt_event.specs.declared.numbers.ThreadNo.{ThreadNo}
 use Rattle.nt_event.specs.declared.scripts.Script.{Script}
-use Rattle.nt_event.specs.Numbers.{cpu, routine, thread}
-use Rattle.nt_rows.specs.Rows.{event, runs}
+use Rattle.nt_event.specs.Numbers.{routine, thread}
+use Rattle.nt_rows.specs.Rows.{event, runs, thread_on}
 
 abbrev pub main : ThreadNo
 main = thread 0
@@ -35,9 +35,12 @@ script =
       isrs = [];
       dpcs = [];
       timers = [];
-      threads = (record { cpu = cpu 0; routine = m }) ∷ (record { cpu = cpu 0; routine = c }) ∷ [];
+      threads = thread_on 0 m ∷ thread_on 0 c ∷ [];
       apcs = [];
-      routines = (runs ((Delay Kernel false 3) ∷ [])) ∷ (runs ((Clock 3) ∷ [])) ∷ [];
+      routines =
+          runs (Delay Kernel false 3 ∷ []) ∷
+          runs (Clock 3 ∷ []) ∷
+          [];
     }
 
 -- its robin run, the oldest event first

@@ -10,8 +10,8 @@ use Rattle.nt_event.specs.declared.numbers.DpcNo.{DpcNo}
 use Rattle.nt_event.specs.declared.numbers.RoutineNo.{RoutineNo}
 use Rattle.nt_event.specs.declared.numbers.ThreadNo.{ThreadNo}
 use Rattle.nt_event.specs.declared.scripts.Script.{Script}
-use Rattle.nt_event.specs.Numbers.{cpu, dpc, routine, thread}
-use Rattle.nt_rows.specs.Rows.{event, runs}
+use Rattle.nt_event.specs.Numbers.{dpc, routine, thread}
+use Rattle.nt_rows.specs.Rows.{event, runs, thread_on}
 
 abbrev pub d1 : DpcNo
 d1 = dpc 0
@@ -45,11 +45,18 @@ script =
       depth = None;
       threaded = None;
       isrs = [];
-      dpcs = (record { threaded = false; routine = q }) ∷ (record { threaded = false; routine = q }) ∷ (record { threaded = false; routine = q }) ∷ (record { threaded = false; routine = q }) ∷ (record { threaded = false; routine = q }) ∷ [];
+      dpcs =
+          record { threaded = false; routine = q } ∷ record { threaded = false; routine = q } ∷
+          record { threaded = false; routine = q } ∷ record { threaded = false; routine = q } ∷
+          record { threaded = false; routine = q } ∷ [];
       timers = [];
-      threads = (record { cpu = cpu 0; routine = body }) ∷ [];
+      threads = thread_on 0 body ∷ [];
       apcs = [];
-      routines = (runs ((SetImportance d1 Low) ∷ (SetImportance d2 Low) ∷ (SetImportance d3 Low) ∷ (SetImportance d4 Low) ∷ (SetImportance d5 Low) ∷ (Queue d1) ∷ (Queue d2) ∷ (Queue d3) ∷ (Queue d4) ∷ (Queue d5) ∷ [])) ∷ (runs ([])) ∷ [];
+      routines =
+          runs (SetImportance d1 Low ∷ SetImportance d2 Low ∷ SetImportance d3 Low ∷ SetImportance d4 Low ∷
+          SetImportance d5 Low ∷ Queue d1 ∷ Queue d2 ∷ Queue d3 ∷ Queue d4 ∷ Queue d5 ∷ []) ∷
+          runs [] ∷
+          [];
     }
 
 -- its robin run, the oldest event first

@@ -1,7 +1,6 @@
 -- The worked row driver-in-use.
 use Rattle.std.specs.Prelude.{List, None, Some, [], false, ◌∷◌}
-use Rattle.nt_event.specs.declared.commands.ApcKind.TheVariants.{Special as SpecialApc}
-use Rattle.nt_event.specs.declared.commands.Command.TheVariants.{CancelTimer, Clock, InsertApc, Interrupt, Note, Queue, Release, SetTarget, SetTimer, StartWait}
+use Rattle.nt_event.specs.declared.commands.Command.TheVariants as cmd
 use Rattle.nt_event.specs.declared.commands.Mode.TheVariants.{Kernel}
 use Rattle.nt_event.specs.declared.commands.Reply.TheVariants.{Blocked, Done, No, Status, Yes}
 use Rattle.nt_event.specs.declared.events.Begun.TheVariants.{Apc, Dpc, Int}
@@ -14,7 +13,7 @@ use Rattle.nt_event.specs.declared.numbers.ThreadNo.{ThreadNo}
 use Rattle.nt_event.specs.declared.numbers.TimerNo.{TimerNo}
 use Rattle.nt_event.specs.declared.scripts.Script.{Script}
 use Rattle.nt_event.specs.Numbers.{apc, cpu, dpc, routine, thread, timer}
-use Rattle.nt_rows.specs.Rows.{event, looks, runs}
+use Rattle.nt_rows.specs.Rows.{event, looks, runs, special_apc, thread_on}
 
 abbrev pub d : DpcNo
 d = dpc 0
@@ -59,12 +58,19 @@ script =
       cpus = 2;
       depth = None;
       threaded = None;
-      isrs = (record { cpu = cpu 0; level = 5; routine = isr5 }) ∷ [];
-      dpcs = (record { threaded = false; routine = finish }) ∷ (record { threaded = false; routine = expired }) ∷ [];
-      timers = (record { dpc = Some late }) ∷ [];
-      threads = (record { cpu = cpu 1; routine = request }) ∷ (record { cpu = cpu 0; routine = device }) ∷ [];
-      apcs = (record { kind = SpecialApc; thread = req; kernel = completed; normal = None; rundown = None }) ∷ [];
-      routines = (runs ((Queue d) ∷ [])) ∷ (runs ((InsertApc complete) ∷ (CancelTimer limit) ∷ (Release req) ∷ [])) ∷ (runs ((Note 99) ∷ [])) ∷ (runs ((SetTimer limit 100 0) ∷ (StartWait Kernel false) ∷ (Note 1) ∷ [])) ∷ (runs ((Note 2) ∷ [])) ∷ (runs ((SetTarget d (Some (cpu 1))) ∷ (Interrupt (cpu 0) 5) ∷ (Clock 5) ∷ [])) ∷ [];
+      isrs = record { cpu = cpu 0; level = 5; routine = isr5 } ∷ [];
+      dpcs = record { threaded = false; routine = finish } ∷ record { threaded = false; routine = expired } ∷ [];
+      timers = record { dpc = Some late } ∷ [];
+      threads = thread_on 1 request ∷ thread_on 0 device ∷ [];
+      apcs = special_apc req completed ∷ [];
+      routines =
+          runs (cmd.Queue d ∷ []) ∷
+          runs (cmd.InsertApc complete ∷ cmd.CancelTimer limit ∷ cmd.Release req ∷ []) ∷
+          runs (cmd.Note 99 ∷ []) ∷
+          runs (cmd.SetTimer limit 100 0 ∷ cmd.StartWait Kernel false ∷ cmd.Note 1 ∷ []) ∷
+          runs (cmd.Note 2 ∷ []) ∷
+          runs (cmd.SetTarget d (Some (cpu 1)) ∷ cmd.Interrupt (cpu 0) 5 ∷ cmd.Clock 5 ∷ []) ∷
+          [];
     }
 
 -- its robin run, the oldest event first
@@ -72,22 +78,22 @@ abbrev pub history : List Event
 history =
     event 0 (Some dev) 0 (Switch dev None) ∷
     event 1 (Some req) 0 (Switch req None) ∷
-    event 0 (Some dev) 0 (Call 0 (SetTarget d (Some (cpu 1))) Done) ∷
-    event 1 (Some req) 0 (Call 1 (SetTimer limit 100 0) No) ∷
-    event 0 (Some dev) 0 (Call 0 (Interrupt (cpu 0) 5) Done) ∷
-    event 1 (Some req) 0 (Call 1 (StartWait Kernel false) Blocked) ∷
+    event 0 (Some dev) 0 (Call 0 (cmd.SetTarget d (Some (cpu 1))) Done) ∷
+    event 1 (Some req) 0 (Call 1 (cmd.SetTimer limit 100 0) No) ∷
+    event 0 (Some dev) 0 (Call 0 (cmd.Interrupt (cpu 0) 5) Done) ∷
+    event 1 (Some req) 0 (Call 1 (cmd.StartWait Kernel false) Blocked) ∷
     event 0 (Some dev) 5 (Begin (Int 5) 4) ∷
     event 1 None 0 Rest ∷
-    event 0 (Some dev) 5 (Call 6 (Queue d) Yes) ∷
+    event 0 (Some dev) 5 (Call 6 (cmd.Queue d) Yes) ∷
     looks 1 ((2, 9) ∷ []) ∷
     event 0 (Some dev) 0 (End 6) ∷
     event 1 None 2 (Begin (Dpc d) 8) ∷
-    event 0 (Some dev) 0 (Call 0 (Clock 5) Done) ∷
-    event 1 None 2 (Call 11 (InsertApc complete) Yes) ∷
+    event 0 (Some dev) 0 (Call 0 (cmd.Clock 5) Done) ∷
+    event 1 None 2 (Call 11 (cmd.InsertApc complete) Yes) ∷
     event 0 (Some dev) 13 (Begin (Int 13) 12) ∷
-    event 1 None 2 (Call 11 (CancelTimer limit) Yes) ∷
+    event 1 None 2 (Call 11 (cmd.CancelTimer limit) Yes) ∷
     event 0 (Some dev) 0 (End 14) ∷
-    event 1 None 2 (Call 11 (Release req) No) ∷
+    event 1 None 2 (Call 11 (cmd.Release req) No) ∷
     event 0 (Some dev) 0 (Clean 2) ∷
     event 1 None 0 (End 11) ∷
     event 0 (Some dev) 0 (End 0) ∷
@@ -96,11 +102,11 @@ history =
     event 1 (Some req) 0 (Switch req (Some 256)) ∷
     event 0 None 0 Rest ∷
     event 1 (Some req) 1 (Begin (Apc complete) 13) ∷
-    event 1 (Some req) 1 (Call 25 (Note 2) Done) ∷
+    event 1 (Some req) 1 (Call 25 (cmd.Note 2) Done) ∷
     event 1 (Some req) 0 (End 25) ∷
     event 1 (Some req) 0 (Clean 1) ∷
     event 1 (Some req) 0 (Rewait 1 (Status 0)) ∷
-    event 1 (Some req) 0 (Call 1 (Note 1) Done) ∷
+    event 1 (Some req) 0 (Call 1 (cmd.Note 1) Done) ∷
     event 1 (Some req) 0 (End 1) ∷
     event 1 (Some req) 0 (Gone req) ∷
     event 1 None 0 Rest ∷

@@ -10,7 +10,7 @@ use Rattle.nt_event.specs.declared.numbers.RoutineNo.{RoutineNo}
 use Rattle.nt_event.specs.declared.numbers.ThreadNo.{ThreadNo}
 use Rattle.nt_event.specs.declared.scripts.Script.{Script}
 use Rattle.nt_event.specs.Numbers.{cpu, dpc, routine, thread}
-use Rattle.nt_rows.specs.Rows.{event, looks, runs}
+use Rattle.nt_rows.specs.Rows.{event, looks, runs, thread_on}
 
 abbrev pub d : DpcNo
 d = dpc 0
@@ -32,11 +32,14 @@ script =
       depth = None;
       threaded = None;
       isrs = [];
-      dpcs = (record { threaded = false; routine = q }) ∷ [];
+      dpcs = record { threaded = false; routine = q } ∷ [];
       timers = [];
-      threads = (record { cpu = cpu 0; routine = ra }) ∷ [];
+      threads = thread_on 0 ra ∷ [];
       apcs = [];
-      routines = (runs ((SetTarget d (Some (cpu 1))) ∷ (Queue d) ∷ [])) ∷ (runs ([])) ∷ [];
+      routines =
+          runs (SetTarget d (Some (cpu 1)) ∷ Queue d ∷ []) ∷
+          runs [] ∷
+          [];
     }
 
 -- its robin run, the oldest event first

@@ -9,7 +9,7 @@ use Rattle.nt_event.specs.declared.numbers.RoutineNo.{RoutineNo}
 use Rattle.nt_event.specs.declared.numbers.ThreadNo.{ThreadNo}
 use Rattle.nt_event.specs.declared.scripts.Script.{Script}
 use Rattle.nt_event.specs.Numbers.{cpu, routine, thread}
-use Rattle.nt_rows.specs.Rows.{event, runs}
+use Rattle.nt_rows.specs.Rows.{event, runs, thread_on}
 
 abbrev pub main : ThreadNo
 main = thread 0
@@ -33,12 +33,17 @@ script =
       cpus = 1;
       depth = None;
       threaded = None;
-      isrs = (record { cpu = cpu 0; level = 5; routine = r5 }) ∷ (record { cpu = cpu 0; level = 9; routine = r9 }) ∷ [];
+      isrs = record { cpu = cpu 0; level = 5; routine = r5 } ∷ record { cpu = cpu 0; level = 9; routine = r9 } ∷ [];
       dpcs = [];
       timers = [];
-      threads = (record { cpu = cpu 0; routine = body }) ∷ [];
+      threads = thread_on 0 body ∷ [];
       apcs = [];
-      routines = (runs ((Interrupt (cpu 0) 5) ∷ [])) ∷ (runs ((Interrupt (cpu 0) 9) ∷ (Interrupt (cpu 0) 3) ∷ [])) ∷ (runs ((Note 9) ∷ [])) ∷ (runs ([])) ∷ [];
+      routines =
+          runs (Interrupt (cpu 0) 5 ∷ []) ∷
+          runs (Interrupt (cpu 0) 9 ∷ Interrupt (cpu 0) 3 ∷ []) ∷
+          runs (Note 9 ∷ []) ∷
+          runs [] ∷
+          [];
     }
 
 -- its robin run, the oldest event first

@@ -9,7 +9,7 @@ use Rattle.nt_event.specs.declared.numbers.RoutineNo.{RoutineNo}
 use Rattle.nt_event.specs.declared.numbers.ThreadNo.{ThreadNo}
 use Rattle.nt_event.specs.declared.scripts.Script.{Script}
 use Rattle.nt_event.specs.Numbers.{cpu, routine, thread}
-use Rattle.nt_rows.specs.Rows.{event, looks, runs}
+use Rattle.nt_rows.specs.Rows.{event, looks, runs, thread_on}
 
 abbrev pub a : ThreadNo
 a = thread 0
@@ -27,9 +27,11 @@ script =
       isrs = [];
       dpcs = [];
       timers = [];
-      threads = (record { cpu = cpu 0; routine = ra }) ∷ [];
+      threads = thread_on 0 ra ∷ [];
       apcs = [];
-      routines = (runs ((Interrupt (cpu 1) 5) ∷ [])) ∷ [];
+      routines =
+          runs (Interrupt (cpu 1) 5 ∷ []) ∷
+          [];
     }
 
 -- its robin run, the oldest event first

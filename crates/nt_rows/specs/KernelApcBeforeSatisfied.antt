@@ -1,6 +1,6 @@
--- The worked row kernel-apc-before-satisfied: at a delay whose due time is reached already, a deliverable kernel APC is tested first.
+-- The worked row kernel-apc-before-satisfied: at a delay whose due time is reached already, a deliverable kernel APC
+-- is tested first.
 use Rattle.std.specs.Prelude.{List, None, Some, [], false, ◌∷◌}
-use Rattle.nt_event.specs.declared.commands.ApcKind.TheVariants.{Special as SpecialApc}
 use Rattle.nt_event.specs.declared.commands.Command.TheVariants.{Delay, InsertApc}
 use Rattle.nt_event.specs.declared.commands.Mode.TheVariants.{Kernel}
 use Rattle.nt_event.specs.declared.commands.Reply.TheVariants.{Status, Yes}
@@ -13,7 +13,7 @@ use Rattle.nt_event.specs.declared.numbers.RoutineNo.{RoutineNo}
 use Rattle.nt_event.specs.declared.numbers.ThreadNo.{ThreadNo}
 use Rattle.nt_event.specs.declared.scripts.Script.{Script}
 use Rattle.nt_event.specs.Numbers.{apc, cpu, routine, thread}
-use Rattle.nt_rows.specs.Rows.{event, runs}
+use Rattle.nt_rows.specs.Rows.{event, runs, special_apc, thread_on}
 
 abbrev pub w : ThreadNo
 w = thread 0
@@ -43,9 +43,13 @@ script =
       isrs = [];
       dpcs = [];
       timers = [];
-      threads = (record { cpu = cpu 0; routine = rw }) ∷ (record { cpu = cpu 1; routine = rx }) ∷ [];
-      apcs = (record { kind = SpecialApc; thread = w; kernel = q; normal = None; rundown = None }) ∷ [];
-      routines = (runs ((Delay Kernel false 0) ∷ [])) ∷ (runs ((InsertApc n) ∷ [])) ∷ (runs []) ∷ [];
+      threads = thread_on 0 rw ∷ thread_on 1 rx ∷ [];
+      apcs = special_apc w q ∷ [];
+      routines =
+          runs (Delay Kernel false 0 ∷ []) ∷
+          runs (InsertApc n ∷ []) ∷
+          runs [] ∷
+          [];
     }
 
 -- the turns, in order: the processor of w hasn't looked when it calls

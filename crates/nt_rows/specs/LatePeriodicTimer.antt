@@ -11,8 +11,8 @@ use Rattle.nt_event.specs.declared.numbers.RoutineNo.{RoutineNo}
 use Rattle.nt_event.specs.declared.numbers.ThreadNo.{ThreadNo}
 use Rattle.nt_event.specs.declared.numbers.TimerNo.{TimerNo}
 use Rattle.nt_event.specs.declared.scripts.Script.{Script}
-use Rattle.nt_event.specs.Numbers.{cpu, dpc, routine, thread, timer}
-use Rattle.nt_rows.specs.Rows.{event, runs}
+use Rattle.nt_event.specs.Numbers.{dpc, routine, thread, timer}
+use Rattle.nt_rows.specs.Rows.{event, runs, thread_on}
 
 abbrev pub d : DpcNo
 d = dpc 0
@@ -37,11 +37,14 @@ script =
       depth = None;
       threaded = None;
       isrs = [];
-      dpcs = (record { threaded = false; routine = q }) ∷ [];
-      timers = (record { dpc = Some d }) ∷ [];
-      threads = (record { cpu = cpu 0; routine = body }) ∷ [];
+      dpcs = record { threaded = false; routine = q } ∷ [];
+      timers = record { dpc = Some d } ∷ [];
+      threads = thread_on 0 body ∷ [];
       apcs = [];
-      routines = (runs ((SetTimer t 1 1) ∷ (Clock 3) ∷ [])) ∷ (runs ([])) ∷ [];
+      routines =
+          runs (SetTimer t 1 1 ∷ Clock 3 ∷ []) ∷
+          runs [] ∷
+          [];
     }
 
 -- its robin run, the oldest event first

@@ -28,3 +28,15 @@ pub mod KernelApcBeforeSatisfied
 pub mod NormalInNormal
 pub mod ReleasedOnce
 pub mod SwitchAsksAgain
+pub mod RefusalsByLevel
+pub mod RefusalsOfADpc
+pub mod ClockAndIpiRoutines
+pub mod TargetsAndImportance
+pub mod ThreadedOffDepth0
+pub mod RemovedApcs
+pub mod UserApcEndsAWait
+pub mod AlertsOfBothModes
+pub mod WaitReleasedBefore
+pub mod DoorsAndGone
+pub mod YieldTakesTurns
+pub mod DelayOfUserMode

@@ -1,6 +1,5 @@
 -- The worked row nested-interrupts.
 use Rattle.std.specs.Prelude.{List, None, Some, [], false, ◌∷◌}
-use Rattle.nt_event.specs.declared.commands.ApcKind.TheVariants.{Special as SpecialApc}
 use Rattle.nt_event.specs.declared.commands.Command.TheVariants.{InsertApc, Interrupt, Note, Queue}
 use Rattle.nt_event.specs.declared.commands.Reply.TheVariants.{Done, Yes}
 use Rattle.nt_event.specs.declared.events.Begun.TheVariants.{Apc, Dpc, Int}
@@ -12,7 +11,7 @@ use Rattle.nt_event.specs.declared.numbers.RoutineNo.{RoutineNo}
 use Rattle.nt_event.specs.declared.numbers.ThreadNo.{ThreadNo}
 use Rattle.nt_event.specs.declared.scripts.Script.{Script}
 use Rattle.nt_event.specs.Numbers.{apc, cpu, dpc, routine, thread}
-use Rattle.nt_rows.specs.Rows.{event, runs}
+use Rattle.nt_rows.specs.Rows.{event, runs, special_apc, thread_on}
 
 abbrev pub d : DpcNo
 d = dpc 0
@@ -45,12 +44,18 @@ script =
       cpus = 1;
       depth = None;
       threaded = None;
-      isrs = (record { cpu = cpu 0; level = 5; routine = r5 }) ∷ (record { cpu = cpu 0; level = 9; routine = r9 }) ∷ [];
-      dpcs = (record { threaded = false; routine = rd }) ∷ [];
+      isrs = record { cpu = cpu 0; level = 5; routine = r5 } ∷ record { cpu = cpu 0; level = 9; routine = r9 } ∷ [];
+      dpcs = record { threaded = false; routine = rd } ∷ [];
       timers = [];
-      threads = (record { cpu = cpu 0; routine = body }) ∷ [];
-      apcs = (record { kind = SpecialApc; thread = main; kernel = rk; normal = None; rundown = None }) ∷ [];
-      routines = (runs ((Queue d) ∷ (Interrupt (cpu 0) 9) ∷ [])) ∷ (runs ((Note 9) ∷ [])) ∷ (runs ((InsertApc s) ∷ [])) ∷ (runs ((Note 1) ∷ [])) ∷ (runs ((Interrupt (cpu 0) 5) ∷ [])) ∷ [];
+      threads = thread_on 0 body ∷ [];
+      apcs = special_apc main rk ∷ [];
+      routines =
+          runs (Queue d ∷ Interrupt (cpu 0) 9 ∷ []) ∷
+          runs (Note 9 ∷ []) ∷
+          runs (InsertApc s ∷ []) ∷
+          runs (Note 1 ∷ []) ∷
+          runs (Interrupt (cpu 0) 5 ∷ []) ∷
+          [];
     }
 
 -- its robin run, the oldest event first

@@ -1,6 +1,5 @@
 -- The worked row normal-in-normal: a normal kernel APC waits for the one in progress.
 use Rattle.std.specs.Prelude.{List, None, Some, [], ◌∷◌}
-use Rattle.nt_event.specs.declared.commands.ApcKind.TheVariants.{Normal as NormalApc}
 use Rattle.nt_event.specs.declared.commands.Command.TheVariants.{InsertApc}
 use Rattle.nt_event.specs.declared.commands.Reply.TheVariants.{Yes}
 use Rattle.nt_event.specs.declared.events.Begun.TheVariants.{Apc}
@@ -10,8 +9,8 @@ use Rattle.nt_event.specs.declared.numbers.ApcNo.{ApcNo}
 use Rattle.nt_event.specs.declared.numbers.RoutineNo.{RoutineNo}
 use Rattle.nt_event.specs.declared.numbers.ThreadNo.{ThreadNo}
 use Rattle.nt_event.specs.declared.scripts.Script.{Script}
-use Rattle.nt_event.specs.Numbers.{apc, cpu, routine, thread}
-use Rattle.nt_rows.specs.Rows.{event, runs}
+use Rattle.nt_event.specs.Numbers.{apc, routine, thread}
+use Rattle.nt_rows.specs.Rows.{event, normal_apc, runs, thread_on}
 
 abbrev pub main : ThreadNo
 main = thread 0
@@ -41,9 +40,13 @@ script =
       isrs = [];
       dpcs = [];
       timers = [];
-      threads = (record { cpu = cpu 0; routine = body }) ∷ [];
-      apcs = (record { kind = NormalApc; thread = main; kernel = q; normal = Some r; rundown = None }) ∷ (record { kind = NormalApc; thread = main; kernel = q; normal = Some q; rundown = None }) ∷ [];
-      routines = (runs ((InsertApc n) ∷ [])) ∷ (runs ((InsertApc m) ∷ [])) ∷ (runs []) ∷ [];
+      threads = thread_on 0 body ∷ [];
+      apcs = normal_apc main q r ∷ normal_apc main q q ∷ [];
+      routines =
+          runs (InsertApc n ∷ []) ∷
+          runs (InsertApc m ∷ []) ∷
+          runs [] ∷
+          [];
     }
 
 -- its robin run, the oldest event first

@@ -9,7 +9,7 @@ use Rattle.nt_event.specs.declared.numbers.RoutineNo.{RoutineNo}
 use Rattle.nt_event.specs.declared.numbers.ThreadNo.{ThreadNo}
 use Rattle.nt_event.specs.declared.scripts.Script.{Script}
 use Rattle.nt_event.specs.Numbers.{cpu, routine, thread}
-use Rattle.nt_rows.specs.Rows.{event, runs}
+use Rattle.nt_rows.specs.Rows.{event, runs, thread_on}
 
 abbrev pub main : ThreadNo
 main = thread 0
@@ -30,9 +30,12 @@ script =
       isrs = [];
       dpcs = [];
       timers = [];
-      threads = (record { cpu = cpu 0; routine = body }) ∷ [];
+      threads = thread_on 0 body ∷ [];
       apcs = [];
-      routines = (runs ((Raise 15) ∷ (Interrupt (cpu 0) 5) ∷ (Interrupt (cpu 0) 5) ∷ (Lower 0) ∷ [])) ∷ (runs ([])) ∷ [];
+      routines =
+          runs (Raise 15 ∷ Interrupt (cpu 0) 5 ∷ Interrupt (cpu 0) 5 ∷ Lower 0 ∷ []) ∷
+          runs [] ∷
+          [];
     }
 
 -- its robin run, the oldest event first

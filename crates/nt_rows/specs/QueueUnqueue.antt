@@ -8,8 +8,8 @@ use Rattle.nt_event.specs.declared.numbers.DpcNo.{DpcNo}
 use Rattle.nt_event.specs.declared.numbers.RoutineNo.{RoutineNo}
 use Rattle.nt_event.specs.declared.numbers.ThreadNo.{ThreadNo}
 use Rattle.nt_event.specs.declared.scripts.Script.{Script}
-use Rattle.nt_event.specs.Numbers.{cpu, dpc, routine, thread}
-use Rattle.nt_rows.specs.Rows.{event, runs}
+use Rattle.nt_event.specs.Numbers.{dpc, routine, thread}
+use Rattle.nt_rows.specs.Rows.{event, runs, thread_on}
 
 abbrev pub d : DpcNo
 d = dpc 0
@@ -31,11 +31,14 @@ script =
       depth = None;
       threaded = None;
       isrs = [];
-      dpcs = (record { threaded = false; routine = q }) ∷ [];
+      dpcs = record { threaded = false; routine = q } ∷ [];
       timers = [];
-      threads = (record { cpu = cpu 0; routine = body }) ∷ [];
+      threads = thread_on 0 body ∷ [];
       apcs = [];
-      routines = (runs ((Raise 2) ∷ (Queue d) ∷ (Queue d) ∷ (Unqueue d) ∷ (Unqueue d) ∷ (Lower 0) ∷ [])) ∷ (runs ([])) ∷ [];
+      routines =
+          runs (Raise 2 ∷ Queue d ∷ Queue d ∷ Unqueue d ∷ Unqueue d ∷ Lower 0 ∷ []) ∷
+          runs [] ∷
+          [];
     }
 
 -- its robin run, the oldest event first

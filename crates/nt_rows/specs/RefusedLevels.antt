@@ -8,8 +8,8 @@ use Rattle.nt_event.specs.declared.events.What.TheVariants.{Call, End, Gone, Res
 use Rattle.nt_event.specs.declared.numbers.RoutineNo.{RoutineNo}
 use Rattle.nt_event.specs.declared.numbers.ThreadNo.{ThreadNo}
 use Rattle.nt_event.specs.declared.scripts.Script.{Script}
-use Rattle.nt_event.specs.Numbers.{cpu, routine, thread}
-use Rattle.nt_rows.specs.Rows.{event, runs}
+use Rattle.nt_event.specs.Numbers.{routine, thread}
+use Rattle.nt_rows.specs.Rows.{event, runs, thread_on}
 
 abbrev pub main : ThreadNo
 main = thread 0
@@ -30,9 +30,12 @@ script =
       isrs = [];
       dpcs = [];
       timers = [];
-      threads = (record { cpu = cpu 0; routine = body }) ∷ [];
+      threads = thread_on 0 body ∷ [];
       apcs = [];
-      routines = (runs ((Raise 2) ∷ (Raise 1) ∷ (Lower 3) ∷ [])) ∷ (runs ([])) ∷ [];
+      routines =
+          runs (Raise 2 ∷ Raise 1 ∷ Lower 3 ∷ []) ∷
+          runs [] ∷
+          [];
     }
 
 -- its robin run, the oldest event first

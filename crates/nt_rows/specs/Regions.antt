@@ -1,7 +1,12 @@
 -- The worked row regions.
 use Rattle.std.specs.Prelude.{List, None, Some, [], ◌∷◌}
-use Rattle.nt_event.specs.declared.commands.ApcKind.TheVariants.{Normal as NormalApc, Special as SpecialApc}
-use Rattle.nt_event.specs.declared.commands.Command.TheVariants.{EnterCrit, EnterGuard, InsertApc, LeaveCrit, LeaveGuard}
+use Rattle.nt_event.specs.declared.commands.Command.TheVariants.{
+  EnterCrit,
+  EnterGuard,
+  InsertApc,
+  LeaveCrit,
+  LeaveGuard,
+}
 use Rattle.nt_event.specs.declared.commands.Reply.TheVariants.{Done, Yes}
 use Rattle.nt_event.specs.declared.events.Begun.TheVariants.{Apc}
 use Rattle.nt_event.specs.declared.events.Event.{Event}
@@ -10,8 +15,8 @@ use Rattle.nt_event.specs.declared.numbers.ApcNo.{ApcNo}
 use Rattle.nt_event.specs.declared.numbers.RoutineNo.{RoutineNo}
 use Rattle.nt_event.specs.declared.numbers.ThreadNo.{ThreadNo}
 use Rattle.nt_event.specs.declared.scripts.Script.{Script}
-use Rattle.nt_event.specs.Numbers.{apc, cpu, routine, thread}
-use Rattle.nt_rows.specs.Rows.{event, runs}
+use Rattle.nt_event.specs.Numbers.{apc, routine, thread}
+use Rattle.nt_rows.specs.Rows.{event, normal_apc, runs, special_apc, thread_on}
 
 abbrev pub main : ThreadNo
 main = thread 0
@@ -38,9 +43,13 @@ script =
       isrs = [];
       dpcs = [];
       timers = [];
-      threads = (record { cpu = cpu 0; routine = body }) ∷ [];
-      apcs = (record { kind = NormalApc; thread = main; kernel = q; normal = Some q; rundown = None }) ∷ (record { kind = SpecialApc; thread = main; kernel = q; normal = None; rundown = None }) ∷ [];
-      routines = (runs (EnterCrit ∷ (InsertApc n) ∷ (InsertApc s) ∷ LeaveCrit ∷ EnterGuard ∷ (InsertApc s) ∷ (InsertApc n) ∷ LeaveGuard ∷ [])) ∷ (runs ([])) ∷ [];
+      threads = thread_on 0 body ∷ [];
+      apcs = normal_apc main q q ∷ special_apc main q ∷ [];
+      routines =
+          runs (EnterCrit ∷ InsertApc n ∷ InsertApc s ∷ LeaveCrit ∷ EnterGuard ∷ InsertApc s ∷ InsertApc n ∷
+          LeaveGuard ∷ []) ∷
+          runs [] ∷
+          [];
     }
 
 -- its robin run, the oldest event first

@@ -8,8 +8,8 @@ use Rattle.nt_event.specs.declared.events.What.TheVariants.{Call, Rest, Switch}
 use Rattle.nt_event.specs.declared.numbers.RoutineNo.{RoutineNo}
 use Rattle.nt_event.specs.declared.numbers.ThreadNo.{ThreadNo}
 use Rattle.nt_event.specs.declared.scripts.Script.{Script}
-use Rattle.nt_event.specs.Numbers.{cpu, routine, thread}
-use Rattle.nt_rows.specs.Rows.{event, runs}
+use Rattle.nt_event.specs.Numbers.{routine, thread}
+use Rattle.nt_rows.specs.Rows.{event, runs, thread_on}
 
 abbrev pub main : ThreadNo
 main = thread 0
@@ -27,9 +27,11 @@ script =
       isrs = [];
       dpcs = [];
       timers = [];
-      threads = (record { cpu = cpu 0; routine = body }) ∷ [];
+      threads = thread_on 0 body ∷ [];
       apcs = [];
-      routines = (runs ((Release main) ∷ (StartWait Kernel false) ∷ (StartWait Kernel false) ∷ [])) ∷ [];
+      routines =
+          runs (Release main ∷ StartWait Kernel false ∷ StartWait Kernel false ∷ []) ∷
+          [];
     }
 
 -- its robin run, the oldest event first

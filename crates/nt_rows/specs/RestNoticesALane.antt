@@ -12,7 +12,7 @@ use Rattle.nt_event.specs.declared.numbers.RoutineNo.{RoutineNo}
 use Rattle.nt_event.specs.declared.numbers.ThreadNo.{ThreadNo}
 use Rattle.nt_event.specs.declared.scripts.Script.{Script}
 use Rattle.nt_event.specs.Numbers.{cpu, dpc, routine, thread}
-use Rattle.nt_rows.specs.Rows.{event, runs}
+use Rattle.nt_rows.specs.Rows.{event, runs, thread_on}
 
 abbrev pub w : DpcNo
 w = dpc 0
@@ -34,17 +34,21 @@ script =
       depth = None;
       threaded = None;
       isrs = [];
-      dpcs = (record { threaded = true; routine = q }) ∷ [];
+      dpcs = record { threaded = true; routine = q } ∷ [];
       timers = [];
-      threads = (record { cpu = cpu 0; routine = ra }) ∷ [];
+      threads = thread_on 0 ra ∷ [];
       apcs = [];
-      routines = (runs ((SetTarget w (Some (cpu 1))) ∷ (Queue w) ∷ [])) ∷ (runs []) ∷ [];
+      routines =
+          runs (SetTarget w (Some (cpu 1)) ∷ Queue w ∷ []) ∷
+          runs [] ∷
+          [];
     }
 
 -- the turns, in order
 abbrev pub schedule : List Turn
 schedule =
-    Take (cpu 0) a ∷ Next (cpu 0) ∷ Next (cpu 0) ∷ Next (cpu 1) ∷ Next (cpu 1) ∷ Next (cpu 1) ∷ Next (cpu 1) ∷ Next (cpu 1) ∷ Next (cpu 0) ∷ Next (cpu 0) ∷ Next (cpu 0) ∷ []
+    Take (cpu 0) a ∷ Next (cpu 0) ∷ Next (cpu 0) ∷ Next (cpu 1) ∷ Next (cpu 1) ∷ Next (cpu 1) ∷ Next (cpu 1) ∷
+    Next (cpu 1) ∷ Next (cpu 0) ∷ Next (cpu 0) ∷ Next (cpu 0) ∷ []
 
 -- what they make, the oldest event first
 abbrev pub history : List Event

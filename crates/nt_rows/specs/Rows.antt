@@ -1,14 +1,18 @@
 -- Words in which the worked rows are written, and what each row says.
 use Rattle.std.specs.Option.{option_map_or}
-use Rattle.std.specs.Prelude.{List, None, Option, [], false, find, length, reverse, suc, true, ℕ, ◌==◌, ◌∷◌, ◌≡◌}
+use Rattle.std.specs.Prelude.{List, None, Option, Some, [], false, find, length, reverse, suc, true, ℕ, ◌==◌, ◌∷◌, ◌≡◌}
+use Rattle.nt_event.specs.declared.commands.ApcKind.TheVariants.{Normal, Special, User}
 use Rattle.nt_event.specs.declared.commands.Command.{Command}
 use Rattle.nt_event.specs.declared.events.Event.{Event}
 use Rattle.nt_event.specs.declared.events.Turn.{Turn}
 use Rattle.nt_event.specs.declared.events.What.{What}
 use Rattle.nt_event.specs.declared.events.What.TheVariants.{Look}
+use Rattle.nt_event.specs.declared.numbers.RoutineNo.{RoutineNo}
 use Rattle.nt_event.specs.declared.numbers.ThreadNo.{ThreadNo}
+use Rattle.nt_event.specs.declared.scripts.ApcDecl.{ApcDecl}
 use Rattle.nt_event.specs.declared.scripts.Routine.{Routine}
 use Rattle.nt_event.specs.declared.scripts.Script.{Script}
+use Rattle.nt_event.specs.declared.scripts.ThreadDecl.{ThreadDecl}
 use Rattle.nt_event.specs.Robin.{grown, is_settled, run_fuel}
 use Rattle.nt_event.specs.Script.{fits}
 use Rattle.nt_event.specs.Step.{step, turns}
@@ -18,6 +22,20 @@ use Rattle.nt_event.specs.Lists.{table}
 -- a routine of these commands
 abbrev pub runs : List Command → Routine
 runs commands = record { commands = commands }
+
+-- a thread that is bound to this processor, with its base routine
+abbrev pub thread_on : ℕ → RoutineNo → ThreadDecl
+thread_on p r = record { cpu = cpu p; routine = r }
+
+-- an APC object of a thread, of each kind, by its routines
+abbrev pub special_apc : ThreadNo → RoutineNo → ApcDecl
+special_apc t k = record { kind = Special; thread = t; kernel = k; normal = None; rundown = None }
+
+abbrev pub normal_apc : ThreadNo → RoutineNo → RoutineNo → ApcDecl
+normal_apc t k n = record { kind = Normal; thread = t; kernel = k; normal = Some n; rundown = None }
+
+abbrev pub user_apc : ThreadNo → RoutineNo → RoutineNo → Option RoutineNo → ApcDecl
+user_apc t k n r = record { kind = User; thread = t; kernel = k; normal = Some n; rundown = r }
 
 -- an event of a processor, with its thread and the level after it
 abbrev pub event : ℕ → Option ThreadNo → ℕ → What → Event

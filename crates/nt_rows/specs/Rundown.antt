@@ -1,6 +1,5 @@
 -- The worked row rundown.
 use Rattle.std.specs.Prelude.{List, None, Some, [], ◌∷◌}
-use Rattle.nt_event.specs.declared.commands.ApcKind.TheVariants.{Special as SpecialApc, User as UserApc}
 use Rattle.nt_event.specs.declared.commands.Command.TheVariants.{EnterGuard, InsertApc, Note}
 use Rattle.nt_event.specs.declared.commands.Reply.TheVariants.{Done, No, Yes}
 use Rattle.nt_event.specs.declared.events.Begun.TheVariants.{Apc}
@@ -10,8 +9,8 @@ use Rattle.nt_event.specs.declared.numbers.ApcNo.{ApcNo}
 use Rattle.nt_event.specs.declared.numbers.RoutineNo.{RoutineNo}
 use Rattle.nt_event.specs.declared.numbers.ThreadNo.{ThreadNo}
 use Rattle.nt_event.specs.declared.scripts.Script.{Script}
-use Rattle.nt_event.specs.Numbers.{apc, cpu, routine, thread}
-use Rattle.nt_rows.specs.Rows.{event, runs}
+use Rattle.nt_event.specs.Numbers.{apc, routine, thread}
+use Rattle.nt_rows.specs.Rows.{event, runs, special_apc, thread_on, user_apc}
 
 abbrev pub main : ThreadNo
 main = thread 0
@@ -50,9 +49,14 @@ script =
       isrs = [];
       dpcs = [];
       timers = [];
-      threads = (record { cpu = cpu 0; routine = body }) ∷ [];
-      apcs = (record { kind = SpecialApc; thread = main; kernel = k; normal = None; rundown = None }) ∷ (record { kind = UserApc; thread = main; kernel = q; normal = Some q; rundown = Some r }) ∷ (record { kind = UserApc; thread = main; kernel = q; normal = Some q; rundown = None }) ∷ (record { kind = UserApc; thread = main; kernel = q; normal = Some q; rundown = None }) ∷ [];
-      routines = (runs (EnterGuard ∷ (InsertApc s) ∷ (InsertApc u1) ∷ (InsertApc u2) ∷ [])) ∷ (runs ((InsertApc u3) ∷ [])) ∷ (runs ((Note 5) ∷ [])) ∷ (runs ([])) ∷ [];
+      threads = thread_on 0 body ∷ [];
+      apcs = special_apc main k ∷ user_apc main q q (Some r) ∷ user_apc main q q None ∷ user_apc main q q None ∷ [];
+      routines =
+          runs (EnterGuard ∷ InsertApc s ∷ InsertApc u1 ∷ InsertApc u2 ∷ []) ∷
+          runs (InsertApc u3 ∷ []) ∷
+          runs (Note 5 ∷ []) ∷
+          runs [] ∷
+          [];
     }
 
 -- its robin run, the oldest event first

@@ -1,7 +1,7 @@
--- The worked row switch-asks-again: a kernel APC for a thread that doesn't run, whose request was served meanwhile, is delivered
+-- The worked row switch-asks-again: a kernel APC for a thread that doesn't run, whose request was served meanwhile,
+-- is delivered
 -- once the thread is taken up.
 use Rattle.std.specs.Prelude.{List, None, Some, [], ◌∷◌}
-use Rattle.nt_event.specs.declared.commands.ApcKind.TheVariants.{Special as SpecialApc}
 use Rattle.nt_event.specs.declared.commands.Command.TheVariants.{InsertApc, Note}
 use Rattle.nt_event.specs.declared.commands.Reply.TheVariants.{Done, Yes}
 use Rattle.nt_event.specs.declared.events.Begun.TheVariants.{Apc}
@@ -11,8 +11,8 @@ use Rattle.nt_event.specs.declared.numbers.ApcNo.{ApcNo}
 use Rattle.nt_event.specs.declared.numbers.RoutineNo.{RoutineNo}
 use Rattle.nt_event.specs.declared.numbers.ThreadNo.{ThreadNo}
 use Rattle.nt_event.specs.declared.scripts.Script.{Script}
-use Rattle.nt_event.specs.Numbers.{apc, cpu, routine, thread}
-use Rattle.nt_rows.specs.Rows.{event, runs}
+use Rattle.nt_event.specs.Numbers.{apc, routine, thread}
+use Rattle.nt_rows.specs.Rows.{event, runs, special_apc, thread_on}
 
 abbrev pub a : ThreadNo
 a = thread 0
@@ -42,9 +42,13 @@ script =
       isrs = [];
       dpcs = [];
       timers = [];
-      threads = (record { cpu = cpu 0; routine = ra }) ∷ (record { cpu = cpu 0; routine = rb }) ∷ [];
-      apcs = (record { kind = SpecialApc; thread = b; kernel = q; normal = None; rundown = None }) ∷ [];
-      routines = (runs ((InsertApc n) ∷ [])) ∷ (runs ((Note 1) ∷ [])) ∷ (runs []) ∷ [];
+      threads = thread_on 0 ra ∷ thread_on 0 rb ∷ [];
+      apcs = special_apc b q ∷ [];
+      routines =
+          runs (InsertApc n ∷ []) ∷
+          runs (Note 1 ∷ []) ∷
+          runs [] ∷
+          [];
     }
 
 -- its robin run, the oldest event first

@@ -11,8 +11,8 @@ use Rattle.nt_event.specs.declared.numbers.RoutineNo.{RoutineNo}
 use Rattle.nt_event.specs.declared.numbers.ThreadNo.{ThreadNo}
 use Rattle.nt_event.specs.declared.numbers.TimerNo.{TimerNo}
 use Rattle.nt_event.specs.declared.scripts.Script.{Script}
-use Rattle.nt_event.specs.Numbers.{cpu, dpc, routine, thread, timer}
-use Rattle.nt_rows.specs.Rows.{event, runs}
+use Rattle.nt_event.specs.Numbers.{dpc, routine, thread, timer}
+use Rattle.nt_rows.specs.Rows.{event, runs, thread_on}
 
 abbrev pub d1 : DpcNo
 d1 = dpc 0
@@ -43,11 +43,15 @@ script =
       depth = None;
       threaded = None;
       isrs = [];
-      dpcs = (record { threaded = false; routine = c }) ∷ (record { threaded = false; routine = q }) ∷ [];
-      timers = (record { dpc = Some d2 }) ∷ [];
-      threads = (record { cpu = cpu 0; routine = body }) ∷ [];
+      dpcs = record { threaded = false; routine = c } ∷ record { threaded = false; routine = q } ∷ [];
+      timers = record { dpc = Some d2 } ∷ [];
+      threads = thread_on 0 body ∷ [];
       apcs = [];
-      routines = (runs ((Raise 2) ∷ (SetTimer t 1 0) ∷ (SetTimer t 2 0) ∷ (Queue d1) ∷ (Clock 2) ∷ (Lower 0) ∷ [])) ∷ (runs ((CancelTimer t) ∷ [])) ∷ (runs ([])) ∷ [];
+      routines =
+          runs (Raise 2 ∷ SetTimer t 1 0 ∷ SetTimer t 2 0 ∷ Queue d1 ∷ Clock 2 ∷ Lower 0 ∷ []) ∷
+          runs (CancelTimer t ∷ []) ∷
+          runs [] ∷
+          [];
     }
 
 -- its robin run, the oldest event first

@@ -1,6 +1,5 @@
 -- The worked row user-apcs-plain.
 use Rattle.std.specs.Prelude.{List, None, Some, [], false, ◌∷◌}
-use Rattle.nt_event.specs.declared.commands.ApcKind.TheVariants.{User as UserApc}
 use Rattle.nt_event.specs.declared.commands.Command.TheVariants.{InsertApc, StartWait, ToUser}
 use Rattle.nt_event.specs.declared.commands.Mode.TheVariants.{User}
 use Rattle.nt_event.specs.declared.commands.Reply.TheVariants.{Blocked, Yes}
@@ -10,8 +9,8 @@ use Rattle.nt_event.specs.declared.numbers.ApcNo.{ApcNo}
 use Rattle.nt_event.specs.declared.numbers.RoutineNo.{RoutineNo}
 use Rattle.nt_event.specs.declared.numbers.ThreadNo.{ThreadNo}
 use Rattle.nt_event.specs.declared.scripts.Script.{Script}
-use Rattle.nt_event.specs.Numbers.{apc, cpu, routine, thread}
-use Rattle.nt_rows.specs.Rows.{event, runs}
+use Rattle.nt_event.specs.Numbers.{apc, routine, thread}
+use Rattle.nt_rows.specs.Rows.{event, runs, thread_on, user_apc}
 
 abbrev pub main : ThreadNo
 main = thread 0
@@ -38,9 +37,12 @@ script =
       isrs = [];
       dpcs = [];
       timers = [];
-      threads = (record { cpu = cpu 0; routine = body }) ∷ [];
-      apcs = (record { kind = UserApc; thread = main; kernel = q; normal = Some q; rundown = None }) ∷ (record { kind = UserApc; thread = main; kernel = q; normal = Some q; rundown = None }) ∷ [];
-      routines = (runs ((InsertApc u1) ∷ (InsertApc u2) ∷ (StartWait User false) ∷ ToUser ∷ [])) ∷ (runs ([])) ∷ [];
+      threads = thread_on 0 body ∷ [];
+      apcs = user_apc main q q None ∷ user_apc main q q None ∷ [];
+      routines =
+          runs (InsertApc u1 ∷ InsertApc u2 ∷ StartWait User false ∷ ToUser ∷ []) ∷
+          runs [] ∷
+          [];
     }
 
 -- its robin run, the oldest event first

@@ -1,6 +1,5 @@
 -- The worked row wait-and-kernel-apc.
 use Rattle.std.specs.Prelude.{List, None, Some, [], false, ◌∷◌}
-use Rattle.nt_event.specs.declared.commands.ApcKind.TheVariants.{Normal as NormalApc}
 use Rattle.nt_event.specs.declared.commands.Command.TheVariants.{InsertApc, Release, StartWait}
 use Rattle.nt_event.specs.declared.commands.Mode.TheVariants.{Kernel}
 use Rattle.nt_event.specs.declared.commands.Reply.TheVariants.{Blocked, No, Status, Yes}
@@ -11,8 +10,8 @@ use Rattle.nt_event.specs.declared.numbers.ApcNo.{ApcNo}
 use Rattle.nt_event.specs.declared.numbers.RoutineNo.{RoutineNo}
 use Rattle.nt_event.specs.declared.numbers.ThreadNo.{ThreadNo}
 use Rattle.nt_event.specs.declared.scripts.Script.{Script}
-use Rattle.nt_event.specs.Numbers.{apc, cpu, routine, thread}
-use Rattle.nt_rows.specs.Rows.{event, looks, runs}
+use Rattle.nt_event.specs.Numbers.{apc, routine, thread}
+use Rattle.nt_rows.specs.Rows.{event, looks, normal_apc, runs, thread_on}
 
 abbrev pub w : ThreadNo
 w = thread 0
@@ -42,9 +41,13 @@ script =
       isrs = [];
       dpcs = [];
       timers = [];
-      threads = (record { cpu = cpu 0; routine = rw }) ∷ (record { cpu = cpu 1; routine = rx }) ∷ [];
-      apcs = (record { kind = NormalApc; thread = w; kernel = q; normal = Some q; rundown = None }) ∷ [];
-      routines = (runs ((StartWait Kernel false) ∷ [])) ∷ (runs ((InsertApc n) ∷ (Release w) ∷ [])) ∷ (runs ([])) ∷ [];
+      threads = thread_on 0 rw ∷ thread_on 1 rx ∷ [];
+      apcs = normal_apc w q q ∷ [];
+      routines =
+          runs (StartWait Kernel false ∷ []) ∷
+          runs (InsertApc n ∷ Release w ∷ []) ∷
+          runs [] ∷
+          [];
     }
 
 -- its robin run, the oldest event first

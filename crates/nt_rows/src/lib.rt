@@ -35,6 +35,18 @@ ghost use Rattle.nt_rows.specs.KernelApcBeforeSatisfied as kernel_apc_before_sat
 ghost use Rattle.nt_rows.specs.NormalInNormal as normal_in_normal_row;
 ghost use Rattle.nt_rows.specs.ReleasedOnce as released_once_row;
 ghost use Rattle.nt_rows.specs.SwitchAsksAgain as switch_asks_again_row;
+ghost use Rattle.nt_rows.specs.RefusalsByLevel as refusals_by_level_row;
+ghost use Rattle.nt_rows.specs.RefusalsOfADpc as refusals_of_a_dpc_row;
+ghost use Rattle.nt_rows.specs.ClockAndIpiRoutines as clock_and_ipi_routines_row;
+ghost use Rattle.nt_rows.specs.TargetsAndImportance as targets_and_importance_row;
+ghost use Rattle.nt_rows.specs.ThreadedOffDepth0 as threaded_off_depth_0_row;
+ghost use Rattle.nt_rows.specs.RemovedApcs as removed_apcs_row;
+ghost use Rattle.nt_rows.specs.UserApcEndsAWait as user_apc_ends_a_wait_row;
+ghost use Rattle.nt_rows.specs.AlertsOfBothModes as alerts_of_both_modes_row;
+ghost use Rattle.nt_rows.specs.WaitReleasedBefore as wait_released_before_row;
+ghost use Rattle.nt_rows.specs.DoorsAndGone as doors_and_gone_row;
+ghost use Rattle.nt_rows.specs.YieldTakesTurns as yield_takes_turns_row;
+ghost use Rattle.nt_rows.specs.DelayOfUserMode as delay_of_user_mode_row;
 
 // ---- Levels and frames
 
@@ -71,6 +83,21 @@ pub fn interrupt_in_interrupt()
 /// A thread requests an interrupt on another processor, which notices it by a look.
 pub fn interrupt_other_processor()
     ensures { IsWorked interrupt_other_processor_row.script 10000 interrupt_other_processor_row.history }
+{}
+
+/// A thread is refused what its level, its routine or its regions forbid, and the test of lowest number decides.
+pub fn refusals_by_level()
+    ensures { IsWorked refusals_by_level_row.script 10000 refusals_by_level_row.history }
+{}
+
+/// A DPC is refused what only a thread may call and, raised above DISPATCH_LEVEL, what stops at that level too.
+pub fn refusals_of_a_dpc()
+    ensures { IsWorked refusals_of_a_dpc_row.script 10000 refusals_of_a_dpc_row.history }
+{}
+
+/// The routines of levels 13 and 14 run at their levels, and a raise to 14 holds back the interrupt of 14.
+pub fn clock_and_ipi_routines()
+    ensures { IsWorked clock_and_ipi_routines_row.script 10000 clock_and_ipi_routines_row.history }
 {}
 
 // ---- DPC objects
@@ -115,6 +142,16 @@ pub fn threaded_off()
 pub fn rest_notices_a_lane()
     ensures replayed { IsReplayed rest_notices_a_lane_row.script 10000 rest_notices_a_lane_row.schedule rest_notices_a_lane_row.history }
     ensures unfinished { IsUnfinished rest_notices_a_lane_row.script 10000 rest_notices_a_lane_row.unfinished }
+{}
+
+/// An insert goes to the target set last, else stays; MediumHigh and High always ask another processor, Low an idle one.
+pub fn targets_and_importance()
+    ensures { IsWorked targets_and_importance_row.script 10000 targets_and_importance_row.history }
+{}
+
+/// With a depth limit of 0 a first DPC of low importance asks; threaded DPCs that are switched off run at DISPATCH_LEVEL.
+pub fn threaded_off_depth_0()
+    ensures { IsWorked threaded_off_depth_0_row.script 10000 threaded_off_depth_0_row.history }
 {}
 
 // ---- Waits, regions and APCs
@@ -169,6 +206,38 @@ pub fn kernel_apc_before_satisfied()
     ensures { IsMade kernel_apc_before_satisfied_row.script 10000 kernel_apc_before_satisfied_row.schedule kernel_apc_before_satisfied_row.history }
 {}
 
+/// An APC of each kind is removed once while it waits, is not delivered then, and may be inserted again.
+pub fn removed_apcs()
+    ensures { IsWorked removed_apcs_row.script 10000 removed_apcs_row.history }
+{}
+
+/// A user APC ends an alertable wait of user mode, and the one that came after it is delivered at its end.
+pub fn user_apc_ends_a_wait()
+    ensures { IsWorked user_apc_ends_a_wait_row.script 10000 user_apc_ends_a_wait_row.history }
+{}
+
+/// A wait takes the alert of its own mode; with the user-pending mark set, user APCs end plain waits and delays too.
+pub fn alerts_of_both_modes()
+    ensures { IsWorked alerts_of_both_modes_row.script 10000 alerts_of_both_modes_row.history }
+{}
+
+/// Several releases before a wait satisfy one wait, also where a kernel APC is delivered between.
+pub fn wait_released_before()
+    ensures { IsWorked wait_released_before_row.script 10000 wait_released_before_row.history }
+{}
+
+/// A thread that ends takes no more APCs, and a call on one that is gone answers no.
+pub fn doors_and_gone()
+    ensures { IsWorked doors_and_gone_row.script 10000 doors_and_gone_row.history }
+{}
+
+// ---- Threads that yield
+
+/// A yield gives the processor to the ready threads in turn, each at the level that it had.
+pub fn yield_takes_turns()
+    ensures { IsWorked yield_takes_turns_row.script 10000 yield_takes_turns_row.history }
+{}
+
 // ---- Timers and delays
 
 /// Timers expire in order of due time; one is cancelled by a DPC.
@@ -184,6 +253,11 @@ pub fn late_periodic_timer()
 /// A delay ends by the clock.
 pub fn delay()
     ensures { IsWorked delay_row.script 10000 delay_row.history }
+{}
+
+/// A user APC ends an alertable delay, a kernel APC interrupts one until its old due time, and a release ends none.
+pub fn delay_of_user_mode()
+    ensures { IsWorked delay_of_user_mode_row.script 10000 delay_of_user_mode_row.history }
 {}
 
 // ---- A driver in use

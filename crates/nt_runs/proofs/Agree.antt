@@ -88,12 +88,14 @@ apc_blocked pick x h = go (is_kernel_kind pick.kind) h
   where
     go : (k : Bool) → (if k then ends_by_kernel (with_apc pick x.apcs) x else ends_by_user x) ≡ true → (w : Waiting) × (x.doing ≡ IsBlocked w)
     go true h = waits_some (λ w. is_some (deliverable (with_apc pick x.apcs) w.regions w.level)) x h
-    go false h = waits_some (λ w. is_user w.mode && (w.alertable || x.marked)) x h
+    go false h = waits_some (λ w. is_user w.mode && (w.alertable || x.user_pending)) x h
 
 insert_ends : (pick : Pick) (x : ThreadFacts) → Ends x.doing (insert_facts pick x).doing
 insert_ends pick x = go (ends_by_apc pick x) (is_kernel_kind pick.kind) refl
   where
-    go : (b k : Bool) → ends_by_apc pick x ≡ b → Ends x.doing (if b then (if k then ended kernel_apc (record x { apcs = with_apc pick x.apcs }) else record (ended user_apc (record x { apcs = with_apc pick x.apcs })) { marked = true }) else record x { apcs = with_apc pick x.apcs }).doing
+    go : (b k : Bool) → ends_by_apc pick x ≡ b → Ends x.doing
+        (if b then (if k then ended kernel_apc (record x { apcs = with_apc pick x.apcs })
+        else record (ended user_apc (record x { apcs = with_apc pick x.apcs })) { user_pending = true }) else record x { apcs = with_apc pick x.apcs }).doing
     go true true e = let k = apc_blocked pick x e in ends_so kernel_apc x.doing k.0 k.1
     go true false e = let k = apc_blocked pick x e in ends_so user_apc x.doing k.0 k.1
     go false k e = inl refl

@@ -22,7 +22,7 @@ use Rattle.nt_event.specs.declared.numbers.RoutineNo.{RoutineNo}
 use Rattle.nt_event.specs.declared.numbers.ThreadNo.{ThreadNo}
 use Rattle.nt_event.specs.declared.scripts.Script.{Script}
 use Rattle.nt_event.specs.Commands.{not_above, refusal, refuse}
-use Rattle.nt_event.specs.Frames.{again_after, at_name, called, due_of, end_on_thread, flushed, frames_of, innermost, is_base_body, left, normal_of, resumed, rewaited, running, switched_to, thread_after, thread_frames, thread_part, time}
+use Rattle.nt_event.specs.Frames.{again_after, at_name, called, due_of, end_on_thread, flushed, frames_of, innermost, is_base_body, ended_base, normal_of, resumed, rewaited, running, switched_to, thread_after, thread_frames, thread_part, time}
 use Rattle.nt_event.specs.Jobs.{level_at}
 use Rattle.nt_event.specs.Lanes.{Lanes, lanes_at}
 use Rattle.nt_runs.specs.Laws.{level_of}
@@ -76,7 +76,7 @@ end_calm : (n : ℕ) (fs : List Frame) → AllCalm fs → AllCalm (end_on_thread
 end_calm n [] h = h
 end_calm n (f ∷ fs) h = go (f.name == n) (is_base_body f.body)
   where
-    go : (b c : Bool) → AllCalm (if b then (if c then (left f ∷ fs) else fs) else (f ∷ fs))
+    go : (b c : Bool) → AllCalm (if b then (if c then (ended_base f ∷ fs) else fs) else (f ∷ fs))
     go true true = ((λ k. refl, λ k. omega arith), h.1)
     go true false = h.1
     go false c = h
@@ -113,7 +113,8 @@ wait_level due (Delay m a u) y f h = refl
 wait_level due c y f h = cc
 
 -- a known call leaves its own frame calm
-called_calm : (s : Script) (p : CpuNo) (x : Own) (l : Lanes) (n : ℕ) (due : Option ℕ) (c : Command) (y : Reply) → (k : KnownCall s p x l n c y) → Calm (called due c y k.frame)
+called_calm : (s : Script) (p : CpuNo) (x : Own) (l : Lanes) (n : ℕ) (due : Option ℕ) (c : Command) (y : Reply) → (k : KnownCall s p x l n c y) →
+    Calm (called due c y k.frame)
 called_calm s p x l n due c y k =
     (λ h. no_bool (sym k.leaving ∙ (sym (called_leaving due c y k.frame) ∙ h)), λ h. low (is_wait c) (is_refused y) refl refl h)
   where
@@ -133,13 +134,16 @@ called_calm s p x l n due c y k =
         omega (arith, m, e, f)
 
 -- the innermost frame of the thread's part, or one of another name
-call_calm : (s : Script) (p : CpuNo) (x : Own) (l : Lanes) (n m : ℕ) (due : Option ℕ) (c : Command) (y : Reply) (fs : List Frame) → KnownCall s p x l n c y → thread_part x.frames ≡ fs → Named m x.frames.own fs → AllCalm fs → AllCalm (at_name n (called due c y) fs)
+call_calm : (s : Script) (p : CpuNo) (x : Own) (l : Lanes) (n m : ℕ) (due : Option ℕ) (c : Command) (y : Reply) (fs : List Frame) → KnownCall s p x l n c y →
+    thread_part x.frames ≡ fs → Named m x.frames.own fs → AllCalm fs → AllCalm (at_name n (called due c y) fs)
 call_calm s p x l n m due c y [] k e d h = h
 call_calm s p x l n m due c y (f ∷ fs) k e d h = go x.frames.own refl d.apart
   where
     go : (gs : List Frame) → x.frames.own ≡ gs → Apart gs (f ∷ fs) → AllCalm (at_name n (called due c y) (f ∷ fs))
     go [] o a =
-        let first : option_or (head_of {A = Frame} []) (head_of (f ∷ fs)) ≡ Some k.frame = subst (λ (hs : List Frame). option_or (head_of {A = Frame} []) (head_of hs) ≡ Some k.frame) e (subst (λ (gs : List Frame). option_or (head_of gs) (head_of (thread_part x.frames)) ≡ Some k.frame) o k.goes_on.inner) in
+        let first : option_or (head_of {A = Frame} []) (head_of (f ∷ fs))
+        ≡ Some k.frame = subst (λ (hs : List Frame). option_or (head_of {A = Frame} []) (head_of hs) ≡ Some k.frame) e
+        (subst (λ (gs : List Frame). option_or (head_of gs) (head_of (thread_part x.frames)) ≡ Some k.frame) o k.goes_on.inner) in
         let same : k.frame ≡ f = cc in
         let calm : Calm (called due c y f) = subst (λ (g : Frame). Calm (called due c y g)) same (called_calm s p x l n due c y k) in
         (either (f.name == n) calm, h.1)
@@ -148,7 +152,8 @@ call_calm s p x l n m due c y (f ∷ fs) k e d h = go x.frames.own refl d.apart
         either true q = q
         either false q = h.0
     go (g ∷ gs) o a =
-        let first : option_or (head_of (g ∷ gs)) (head_of (thread_part x.frames)) ≡ Some k.frame = subst (λ (gs : List Frame). option_or (head_of gs) (head_of (thread_part x.frames)) ≡ Some k.frame) o k.goes_on.inner in
+        let first : option_or (head_of (g ∷ gs)) (head_of (thread_part x.frames))
+        ≡ Some k.frame = subst (λ (gs : List Frame). option_or (head_of gs) (head_of (thread_part x.frames)) ≡ Some k.frame) o k.goes_on.inner in
         let same : g ≡ k.frame = cc in
         let name : g.name ≡ n = ap (λ (z : Frame). z.name) same ∙ sym k.name in
         (other (f.name == n) refl (λ q. a.0.0 (q ∙ sym name)), h.1)
@@ -158,7 +163,8 @@ call_calm s p x l n m due c y (f ∷ fs) k e d h = go x.frames.own refl d.apart
         other false q differ = h.0
 
 -- what a known event leaves of the running thread's part
-after_calm : (s : Script) (p : CpuNo) (x : Own) (l : Lanes) (n m : ℕ) (due : Option ℕ) (w : What) (fs : List Frame) → (is_next w ≡ true → Known s p x l w × (thread_part x.frames ≡ fs)) → Named m x.frames.own fs → AllCalm fs → AllCalm (thread_after s n due w fs)
+after_calm : (s : Script) (p : CpuNo) (x : Own) (l : Lanes) (n m : ℕ) (due : Option ℕ) (w : What) (fs : List Frame) →
+    (is_next w ≡ true → Known s p x l w × (thread_part x.frames ≡ fs)) → Named m x.frames.own fs → AllCalm fs → AllCalm (thread_after s n due w fs)
 after_calm s p x l n m due (Switch t st) fs k d h = switched_calm n t st fs h
 after_calm s p x l n m due (Begin (Apc a) from) fs k d h = ((λ k. no_bool k, λ k. no_bool k), h)
 after_calm s p x l n m due (Flush a from) fs k d h = flushed_calm n a (rundown_of s a) fs h
@@ -174,31 +180,38 @@ after_calm s p x l n m due w fs k d h = h
 -- ---- in a run
 
 -- a next event that names a thread was made while it ran
-pub ran : (s : Script) (limit : ℕ) (p : CpuNo) (t : ThreadNo) (e : Event) (past : List Event) → is_of e p ≡ true → is_by e t ≡ true → IsLegal s limit e past → is_next e.what ≡ true → running p past ≡ Some t
+pub ran : (s : Script) (limit : ℕ) (p : CpuNo) (t : ThreadNo) (e : Event) (past : List Event) → is_of e p ≡ true → is_by e t ≡ true → IsLegal s limit e past →
+    is_next e.what ≡ true → running p past ≡ Some t
 ran s limit p t e past o b g n = go e.what refl n
   where
     go : (w : What) → e.what ≡ w → is_next w ≡ true → running p past ≡ Some t
     go (Look r) k n = cc
     go (Switch u st) k n = cc
     go w k n =
-        let field : running e.cpu past ≡ Some t = ap (λ (v : What). thread_field v (running e.cpu past)) (sym k) ∙ (sym (thread_named s limit e past g) ∙ same_thread e.thread t b) in
+        let field : running e.cpu past ≡ Some t = ap (λ (v : What). thread_field v (running e.cpu past)) (sym k)
+        ∙ (sym (thread_named s limit e past g) ∙ same_thread e.thread t b) in
         ap (λ (q : CpuNo). running q past) (sym (same_cpu e p o)) ∙ field
 
-calm_step : (s : Script) (limit : ℕ) (p : CpuNo) (t : ThreadNo) (e : Event) (past : List Event) (own by : Bool) → is_of e p ≡ own → is_by e t ≡ by → IsLegal s limit e past → IsRun s limit past → AllCalm (thread_frames s p t past) → AllCalm (thread_frames s p t (e ∷ past))
+calm_step : (s : Script) (limit : ℕ) (p : CpuNo) (t : ThreadNo) (e : Event) (past : List Event) (own by : Bool) → is_of e p ≡ own → is_by e t ≡ by →
+    IsLegal s limit e past → IsRun s limit past → AllCalm (thread_frames s p t past) → AllCalm (thread_frames s p t (e ∷ past))
 calm_step s limit p t e past false by o b g r ih =
     let moved : thread_frames s p t (e ∷ past) ≡ thread_frames s p t past = rw o in subst AllCalm (sym moved) ih
 calm_step s limit p t e past true false o b g r ih =
     let moved : thread_frames s p t (e ∷ past) ≡ thread_frames s p t past = frames_when s p t e past false o b in
     subst AllCalm (sym moved) ih
 calm_step s limit p t e past true true o b g r ih =
-    let moved : thread_frames s p t (e ∷ past) ≡ thread_after s (length past) (due_of e.what (time past)) e.what (thread_frames s p t past) = frames_when s p t e past true o b in
-    subst AllCalm (sym moved) (after_calm s p (own_of s p past) (lanes_at s past) (length past) (length past) (due_of e.what (time past)) e.what (thread_frames s p t past) known (all_named s p t past) ih)
+    let moved : thread_frames s p t (e ∷ past) ≡ thread_after s (length past) (due_of e.what (time past)) e.what
+    (thread_frames s p t past) = frames_when s p t e past true o b in
+    subst AllCalm (sym moved) (after_calm s p (own_of s p past) (lanes_at s past) (length past) (length past) (due_of e.what (time past)) e.what
+    (thread_frames s p t past) known (all_named s p t past) ih)
   where
     known : is_next e.what ≡ true → Known s p (own_of s p past) (lanes_at s past) e.what × (thread_part (frames_of s p past) ≡ thread_frames s p t past)
     known n =
         let run : running p past ≡ Some t = ran s limit p t e past o b g n in
-        let h = running_here s limit p t past r run in
-        (subst (λ (q : CpuNo). Known s q (own_of s q past) (lanes_at s past) e.what) (same_cpu e p o) (legal_known s limit e past g n), part_of_running s p t past h.0 run)
+        let h = running_here s limit p t past r run in (
+          subst (λ (q : CpuNo). Known s q (own_of s q past) (lanes_at s past) e.what) (same_cpu e p o) (legal_known s limit e past g n),
+          part_of_running s p t past h.0 run,
+        )
 
 pub all_calm : (s : Script) (limit : ℕ) (p : CpuNo) (t : ThreadNo) (past : List Event) → IsRun s limit past → AllCalm (thread_frames s p t past)
 all_calm s limit p t [] r = tt

@@ -34,7 +34,7 @@ use Rattle.nt_event.specs.Frames.{Frames, at_name, called, due_of, frames_of, is
 use Rattle.nt_event.specs.Jobs.{must}
 use Rattle.nt_event.specs.Lanes.{Lanes, lanes_at}
 use Rattle.nt_runs.specs.Laws.{Agrees, Says, level_of}
-use Rattle.nt_event.specs.Own.{Own, own_of, standing_in}
+use Rattle.nt_event.specs.Own.{Own, own_of, stand_in}
 use Rattle.nt_event.specs.Regions.{regions_of, stand_at}
 use Rattle.nt_event.specs.Routines.{cpu_of, kind_of}
 use Rattle.nt_event.specs.Step.{IsLegal, IsRun, step, thread_field, turn_at}
@@ -88,7 +88,11 @@ named_regions n g [] k = refl
 named_regions n g (f ∷ fs) k = go (f.name == n)
   where
     same : regions_of (g f ∷ fs) ≡ regions_of (f ∷ fs)
-    same = λ i. record { crit = sum_from (λ f. f.crit) (k.crit f) i; guard = sum_from (λ f. f.guard) (k.guard f) i; busy = ap (λ (b : Body). is_normal_apc_body b || list_any (λ f. is_normal_apc_body f.body) fs) (k.body f) i }
+    same = λ i. record {
+      crit = sum_from (λ f. f.crit) (k.crit f) i;
+      guard = sum_from (λ f. f.guard) (k.guard f) i;
+      busy = ap (λ (b : Body). is_normal_apc_body b || list_any (λ f. is_normal_apc_body f.body) fs) (k.body f) i;
+    }
       where
         sum_from : (h : Frame → ℕ) → h (g f) ≡ h f → sum_by h (g f ∷ fs) ≡ sum_by h (f ∷ fs)
         sum_from h e = ap (λ (a : ℕ). fold (λ b x. b + h x) (0 + a) fs) e
@@ -124,14 +128,16 @@ answered_doing st m a delay x =
     taken KernelMode = refl
     taken UserMode = refl
 
-    go : (b d c u : Bool) → (if b then (if d then x else record x { released = false }) else (if c then alert_taken m x else (if u then record x { marked = true } else x))).doing ≡ x.doing
+    go : (b d c u : Bool) → (if b then (if d then x else record x { released = false })
+        else (if c then alert_taken m x else (if u then record x { user_pending = true } else x))).doing ≡ x.doing
     go true true c u = refl
     go true false c u = refl
     go false d true u = taken (if is_alerted m x then m else KernelMode)
     go false d false true = refl
     go false d false false = refl
 
-waited_doing : (n : ℕ) (r : Regions) (level : ℕ) (m : Mode) (a delay : Bool) (y : Reply) (x : ThreadFacts) → is_blocked y ≡ false → (waited n r level m a delay y x).doing ≡ x.doing
+waited_doing : (n : ℕ) (r : Regions) (level : ℕ) (m : Mode) (a delay : Bool) (y : Reply) (x : ThreadFacts) → is_blocked y ≡ false →
+    (waited n r level m a delay y x).doing ≡ x.doing
 waited_doing n r level m a delay (Status st) x h = answered_doing st m a delay x
 waited_doing n r level m a delay Blocked x h = cc
 waited_doing n r level m a delay y x h = refl
@@ -143,7 +149,7 @@ tested_doing m x = go (is_alerted m x) (is_user m && has_user x.apcs)
     set KernelMode = refl
     set UserMode = refl
 
-    go : (b c : Bool) → (if b then set_alerted m false x else (if c then record x { marked = true } else x)).doing ≡ x.doing
+    go : (b c : Bool) → (if b then set_alerted m false x else (if c then record x { user_pending = true } else x)).doing ≡ x.doing
     go true c = set m
     go false true = refl
     go false false = refl
@@ -157,7 +163,8 @@ ended_doing (Some (OnBase t)) x = refl
 ended_doing (Some (OnApc a UserApc)) x = tested_doing UserMode x
 ended_doing b x = refl
 
-again_doing : (n : ℕ) (r : Regions) (level : ℕ) (o : Option Again) (y : Reply) (x : ThreadFacts) → is_blocked y ≡ false → (waited_again n r level o y x).doing ≡ x.doing
+again_doing : (n : ℕ) (r : Regions) (level : ℕ) (o : Option Again) (y : Reply) (x : ThreadFacts) → is_blocked y ≡ false → (waited_again n r level o y x).doing
+    ≡ x.doing
 again_doing n r level None y x h = refl
 again_doing n r level (Some w) y x h = waited_doing n r level w.mode w.alertable (is_some w.due) y x h
 
@@ -189,46 +196,63 @@ runs_still w r h k = refl
 none_runs : (t : ThreadNo) → ◌≡◌ {A = Option ThreadNo} None (Some t) → ⊥
 none_runs t h = cc
 
-blocked_doing : (n : ℕ) (r : Regions) (level : ℕ) (m : Mode) (a d : Bool) (fs : List Frame) (runs : Type 0) → (runs → ⊥) → level ≡ level_of fs → r ≡ regions_of fs → Says (IsBlocked (record { event = n; mode = m; alertable = a; delay = d; level = level; regions = r })) fs runs
+blocked_doing : (n : ℕ) (r : Regions) (level : ℕ) (m : Mode) (a d : Bool) (fs : List Frame) (runs : Type 0) → (runs → ⊥) → level ≡ level_of fs → r
+    ≡ regions_of fs → Says (IsBlocked (record { event = n; mode = m; alertable = a; delay = d; level = level; regions = r })) fs runs
 blocked_doing n r level m a d fs runs h k l = (h, k, l)
 
 -- a known event by which the running thread stops
-stopped : (s : Script) (p : CpuNo) (o : Own) (l : Lanes) (t : ThreadNo) (n : ℕ) (due : Option ℕ) (w : What) (fs : List Frame) (x : ThreadFacts) → stops w ≡ true → Known s p o l w → NoneAgain o.frames.own → thread_part o.frames ≡ fs → Says (made_facts s n (standing_in p o) w x).doing (thread_after s n due w fs) (running_after w (Some t) ≡ Some t)
+stopped : (s : Script) (p : CpuNo) (o : Own) (l : Lanes) (t : ThreadNo) (n : ℕ) (due : Option ℕ) (w : What) (fs : List Frame) (x : ThreadFacts) → stops w
+    ≡ true → Known s p o l w → NoneAgain o.frames.own → thread_part o.frames ≡ fs →
+    Says (made_facts s n (stand_in p o) w x).doing (thread_after s n due w fs) (running_after w (Some t) ≡ Some t)
 stopped s p o l t n due (Gone u) fs x h k own e = (none_runs t, refl)
 stopped s p o l t n due (Call f Yield Done) fs x h k own e =
     (none_runs t, level_on_thread o.frames fs (yield_call s p o l f k) e ∙ sym (named_level f (called due Yield Done) fs (yield_keeps due)))
 stopped s p o l t n due (Call f (StartWait m a) Blocked) fs x h k own e =
-    let b = blocked_call s p o l f (StartWait m a) k in
-    (none_runs t, level_on_thread o.frames fs b.1 e ∙ sym (named_level f (called due (StartWait m a) Blocked) fs (wait_keeps due (StartWait m a) refl)), ap regions_of e ∙ sym (named_regions f (called due (StartWait m a) Blocked) fs (wait_keeps due (StartWait m a) refl)))
+    let b = blocked_call s p o l f (StartWait m a) k in (
+      none_runs t,
+      level_on_thread o.frames fs b.1 e ∙ sym (named_level f (called due (StartWait m a) Blocked) fs (wait_keeps due (StartWait m a) refl)),
+      ap regions_of e ∙ sym (named_regions f (called due (StartWait m a) Blocked) fs (wait_keeps due (StartWait m a) refl)),
+    )
 stopped s p o l t n due (Call f (Delay m a u) Blocked) fs x h k own e =
-    let b = blocked_call s p o l f (Delay m a u) k in
-    (none_runs t, level_on_thread o.frames fs b.1 e ∙ sym (named_level f (called due (Delay m a u) Blocked) fs (wait_keeps due (Delay m a u) refl)), ap regions_of e ∙ sym (named_regions f (called due (Delay m a u) Blocked) fs (wait_keeps due (Delay m a u) refl)))
+    let b = blocked_call s p o l f (Delay m a u) k in (
+      none_runs t,
+      level_on_thread o.frames fs b.1 e ∙ sym (named_level f (called due (Delay m a u) Blocked) fs (wait_keeps due (Delay m a u) refl)),
+      ap regions_of e ∙ sym (named_regions f (called due (Delay m a u) Blocked) fs (wait_keeps due (Delay m a u) refl)),
+    )
 stopped s p o l t n due (Call f c Blocked) fs x h k own e = let b = (blocked_call s p o l f c k).0 in cc
-stopped s p o l t n due (Rewait f Blocked) fs x h k own e = go (standing_in p o).again (again_known p o k.frame k.goes_on ∙ k.again)
+stopped s p o l t n due (Rewait f Blocked) fs x h k own e = go (stand_in p o).again (again_known p o k.frame k.goes_on ∙ k.again)
   where
     null : is_null o.frames.own ≡ true
     null = rewait_on_thread p o l f Blocked k own
 
-    go : (a : Option Again) → a ≡ Some k.wait → Says (waited_again n (standing_in p o).regions (standing_in p o).level a Blocked x).doing (at_name f (rewaited Blocked) fs) (None ≡ Some t)
+    go : (a : Option Again) → a ≡ Some k.wait → Says (waited_again n (stand_in p o).regions (stand_in p o).level a Blocked x).doing
+        (at_name f (rewaited Blocked) fs) (None ≡ Some t)
     go None q = cc
-    go (Some w) q =
-        (none_runs t, level_on_thread o.frames fs null e ∙ sym (named_level f (rewaited Blocked) fs (rewait_keeps Blocked)), ap regions_of e ∙ sym (named_regions f (rewaited Blocked) fs (rewait_keeps Blocked)))
+    go (Some w) q = (
+      none_runs t,
+      level_on_thread o.frames fs null e ∙ sym (named_level f (rewaited Blocked) fs (rewait_keeps Blocked)),
+      ap regions_of e
+          ∙ sym (named_regions f (rewaited Blocked) fs (rewait_keeps Blocked)),
+    )
 stopped s p o l t n due w fs x h k own e = cc
 
 -- a known event that the running thread makes
-made_says : (s : Script) (p : CpuNo) (o : Own) (l : Lanes) (t : ThreadNo) (n : ℕ) (due : Option ℕ) (w : What) (fs : List Frame) (x : ThreadFacts) → is_switch w ≡ false → Known s p o l w → NoneAgain o.frames.own → thread_part o.frames ≡ fs → x.doing ≡ IsRunning → Says (made_facts s n (standing_in p o) w x).doing (thread_after s n due w fs) (running_after w (Some t) ≡ Some t)
+made_says : (s : Script) (p : CpuNo) (o : Own) (l : Lanes) (t : ThreadNo) (n : ℕ) (due : Option ℕ) (w : What) (fs : List Frame) (x : ThreadFacts) → is_switch w
+    ≡ false → Known s p o l w → NoneAgain o.frames.own → thread_part o.frames ≡ fs → x.doing ≡ IsRunning →
+    Says (made_facts s n (stand_in p o) w x).doing (thread_after s n due w fs) (running_after w (Some t) ≡ Some t)
 made_says s p o l t n due w fs x h k own e run = go (stops w) refl
   where
-    go : (b : Bool) → stops w ≡ b → Says (made_facts s n (standing_in p o) w x).doing (thread_after s n due w fs) (running_after w (Some t) ≡ Some t)
+    go : (b : Bool) → stops w ≡ b → Says (made_facts s n (stand_in p o) w x).doing (thread_after s n due w fs) (running_after w (Some t) ≡ Some t)
     go true a = stopped s p o l t n due w fs x a k own e
     go false a =
-        let d : (made_facts s n (standing_in p o) w x).doing ≡ IsRunning = made_doing s n (standing_in p o) w x a h ∙ run in
+        let d : (made_facts s n (stand_in p o) w x).doing ≡ IsRunning = made_doing s n (stand_in p o) w x a h ∙ run in
         subst (λ (d : Doing). Says d (thread_after s n due w fs) (running_after w (Some t) ≡ Some t)) (sym d) (runs_still w (Some t) a h)
 
 -- ---- each event of a run
 
 -- the processor of an event that names the thread is the thread's own
-pub named_here : (s : Script) (limit : ℕ) (t : ThreadNo) (e : Event) (past : List Event) → IsLegal s limit e past → IsRun s limit past → is_by e t ≡ true → e.cpu.0 ≡ (cpu_of s t).0
+pub named_here : (s : Script) (limit : ℕ) (t : ThreadNo) (e : Event) (past : List Event) → IsLegal s limit e past → IsRun s limit past → is_by e t ≡ true →
+    e.cpu.0 ≡ (cpu_of s t).0
 named_here s limit t e past g r b =
     go e.what refl (sym (thread_named s limit e past g) ∙ same_thread e.thread t b)
   where
@@ -246,7 +270,8 @@ named_here s limit t e past g r b =
         sym (running_here s limit e.cpu t past r field).1
 
 -- an event that doesn't name the running thread leaves it running
-runs_unnamed : (s : Script) (limit : ℕ) (p : CpuNo) (t : ThreadNo) (e : Event) (past : List Event) → is_of e p ≡ true → is_by e t ≡ false → IsLegal s limit e past → running p past ≡ Some t → running_after e.what (running p past) ≡ Some t
+runs_unnamed : (s : Script) (limit : ℕ) (p : CpuNo) (t : ThreadNo) (e : Event) (past : List Event) → is_of e p ≡ true → is_by e t ≡ false →
+    IsLegal s limit e past → running p past ≡ Some t → running_after e.what (running p past) ≡ Some t
 runs_unnamed s limit p t e past own b g h = go e.what refl
   where
     here : running e.cpu past ≡ Some t
@@ -264,13 +289,18 @@ runs_unnamed s limit p t e past own b g h = go e.what refl
         absurd (not_itself t (subst (λ (o : Option ThreadNo). is_thread o t ≡ false) named b))
 
 -- the facts after an event
-pub facts_made : (s : Script) (t : ThreadNo) (e : Event) (past : List Event) (b : Bool) → is_of_thread s t e ≡ b → facts s t (e ∷ past) ≡ named_facts s t (length past) e.what (if b then made_facts s (length past) (stand_at s e.cpu past) e.what (facts s t past) else facts s t past)
+pub facts_made : (s : Script) (t : ThreadNo) (e : Event) (past : List Event) (b : Bool) → is_of_thread s t e ≡ b → facts s t (e ∷ past)
+    ≡ named_facts s t (length past) e.what (if b then made_facts s (length past) (stand_at s e.cpu past) e.what (facts s t past) else facts s t past)
 facts_made s t e past b h =
-    ap (λ (c : Bool). named_facts s t (length past) e.what (if c then made_facts s (length past) (stand_at s e.cpu past) e.what (facts s t past) else facts s t past)) h
+    ap (λ (c : Bool). named_facts s t (length past) e.what
+    (if c then made_facts s (length past) (stand_at s e.cpu past) e.what (facts s t past) else facts s t past)) h
 
-agrees_unnamed : (s : Script) (limit : ℕ) (t : ThreadNo) (e : Event) (past : List Event) → is_by e t ≡ false → IsLegal s limit e past → Agrees s t past → Agrees s t (e ∷ past)
+agrees_unnamed : (s : Script) (limit : ℕ) (t : ThreadNo) (e : Event) (past : List Event) → is_by e t ≡ false → IsLegal s limit e past → Agrees s t past →
+    Agrees s t (e ∷ past)
 agrees_unnamed s limit t e past b g ih =
-    says_same (facts s t (e ∷ past)).doing (thread_frames s p t past) (thread_frames s p t (e ∷ past)) (running p past ≡ Some t) (running p (e ∷ past) ≡ Some t) (sym frames) (λ h. there (is_of e p) refl h) (λ h. back (is_of e p) refl h) (says_ended (facts s t past).doing (facts s t (e ∷ past)).doing (thread_frames s p t past) (running p past ≡ Some t) ends ih)
+    says_same (facts s t (e ∷ past)).doing (thread_frames s p t past) (thread_frames s p t (e ∷ past)) (running p past ≡ Some t)
+    (running p (e ∷ past) ≡ Some t) (sym frames) (λ h. there (is_of e p) refl h) (λ h. back (is_of e p) refl h)
+    (says_ended (facts s t past).doing (facts s t (e ∷ past)).doing (thread_frames s p t past) (running p past ≡ Some t) ends ih)
   where
     p : CpuNo
     p = cpu_of s t
@@ -284,7 +314,8 @@ agrees_unnamed s limit t e past b g ih =
 
     ends : Ends (facts s t past).doing (facts s t (e ∷ past)).doing
     ends =
-        subst (λ (x : ThreadFacts). Ends (facts s t past).doing x.doing) (sym (facts_made s t e past false not_of)) (named_ends s t (length past) e.what (facts s t past))
+        subst (λ (x : ThreadFacts). Ends (facts s t past).doing x.doing) (sym (facts_made s t e past false not_of))
+        (named_ends s t (length past) e.what (facts s t past))
 
     frames : thread_frames s (cpu_of s t) t (e ∷ past) ≡ thread_frames s (cpu_of s t) t past
     frames = go (is_of e (cpu_of s t)) refl
@@ -302,7 +333,8 @@ agrees_unnamed s limit t e past b g ih =
         unnamed_by s limit (cpu_of s t) t e past e.what refl b h g (sym (running_own (cpu_of s t) e past h) ∙ r)
     back false h r = rw h at r
 
-agrees_named : (s : Script) (limit : ℕ) (t : ThreadNo) (e : Event) (past : List Event) → is_by e t ≡ true → IsLegal s limit e past → IsRun s limit past → Agrees s t past → Agrees s t (e ∷ past)
+agrees_named : (s : Script) (limit : ℕ) (t : ThreadNo) (e : Event) (past : List Event) → is_by e t ≡ true → IsLegal s limit e past → IsRun s limit past →
+    Agrees s t past → Agrees s t (e ∷ past)
 agrees_named s limit t e past b g r ih =
     finish (made_so e.what refl)
   where
@@ -326,17 +358,29 @@ agrees_named s limit t e past b g r ih =
     frames = frames_when s (cpu_of s t) t e past true own b
 
     Made : What → Type 0
-    Made w = Says (made_facts s (length past) (stand_at s (cpu_of s t) past) w (facts s t past)).doing (thread_after s (length past) (due_of e.what (time past)) w (thread_frames s (cpu_of s t) t past)) (running_after w (running (cpu_of s t) past) ≡ Some t)
+    Made w = Says (made_facts s (length past) (stand_at s (cpu_of s t) past) w (facts s t past)).doing
+        (thread_after s (length past) (due_of e.what (time past)) w (thread_frames s (cpu_of s t) t past))
+        (running_after w (running (cpu_of s t) past) ≡ Some t)
 
-    next_so : (w : What) → e.what ≡ w → is_switch w ≡ false → is_next w ≡ true → running (cpu_of s t) past ≡ Some t → Says (made_facts s (length past) (stand_at s (cpu_of s t) past) w (facts s t past)).doing (thread_after s (length past) (due_of e.what (time past)) w (thread_frames s (cpu_of s t) t past)) (running_after w (running (cpu_of s t) past) ≡ Some t)
+    next_so : (w : What) → e.what ≡ w → is_switch w ≡ false → is_next w ≡ true → running (cpu_of s t) past ≡ Some t →
+        Says (made_facts s (length past) (stand_at s (cpu_of s t) past) w (facts s t past)).doing
+        (thread_after s (length past) (due_of e.what (time past)) w (thread_frames s (cpu_of s t) t past))
+        (running_after w (running (cpu_of s t) past) ≡ Some t)
     next_so w k sw n run =
         let h = running_here s limit (cpu_of s t) t past r run in
         let part : thread_part (frames_of s (cpu_of s t) past) ≡ thread_frames s (cpu_of s t) t past = part_of_running s (cpu_of s t) t past h.0 run in
-        let kn : Known s (cpu_of s t) (own_of s (cpu_of s t) past) (lanes_at s past) w = subst (Known s (cpu_of s t) (own_of s (cpu_of s t) past) (lanes_at s past)) k (known (subst (λ (v : What). is_next v ≡ true) (sym k) n)) in
-        let doing : (facts s t past).doing ≡ IsRunning = runs_as (facts s t past).doing (thread_frames s (cpu_of s t) t past) (running (cpu_of s t) past ≡ Some t) ih run in
-        subst (λ (o : Option ThreadNo). Says (made_facts s (length past) (stand_at s (cpu_of s t) past) w (facts s t past)).doing (thread_after s (length past) (due_of e.what (time past)) w (thread_frames s (cpu_of s t) t past)) (running_after w o ≡ Some t)) (sym run) (made_says s (cpu_of s t) (own_of s (cpu_of s t) past) (lanes_at s past) t (length past) (due_of e.what (time past)) w (thread_frames s (cpu_of s t) t past) (facts s t past) sw kn (none_again s limit (cpu_of s t) past r) part doing)
+        let kn : Known s (cpu_of s t) (own_of s (cpu_of s t) past) (lanes_at s past) w = subst
+        (Known s (cpu_of s t) (own_of s (cpu_of s t) past) (lanes_at s past)) k (known (subst (λ (v : What). is_next v ≡ true) (sym k) n)) in
+        let doing : (facts s t past).doing ≡ IsRunning = runs_as (facts s t past).doing (thread_frames s (cpu_of s t) t past)
+        (running (cpu_of s t) past ≡ Some t) ih run in
+        subst (λ (o : Option ThreadNo). Says (made_facts s (length past) (stand_at s (cpu_of s t) past) w (facts s t past)).doing
+        (thread_after s (length past) (due_of e.what (time past)) w (thread_frames s (cpu_of s t) t past)) (running_after w o ≡ Some t)) (sym run)
+        (made_says s (cpu_of s t) (own_of s (cpu_of s t) past) (lanes_at s past) t (length past) (due_of e.what (time past)) w
+        (thread_frames s (cpu_of s t) t past) (facts s t past) sw kn (none_again s limit (cpu_of s t) past r) part doing)
 
-    made_so : (w : What) → e.what ≡ w → Says (made_facts s (length past) (stand_at s (cpu_of s t) past) w (facts s t past)).doing (thread_after s (length past) (due_of e.what (time past)) w (thread_frames s (cpu_of s t) t past)) (running_after w (running (cpu_of s t) past) ≡ Some t)
+    made_so : (w : What) → e.what ≡ w → Says (made_facts s (length past) (stand_at s (cpu_of s t) past) w (facts s t past)).doing
+        (thread_after s (length past) (due_of e.what (time past)) w (thread_frames s (cpu_of s t) t past))
+        (running_after w (running (cpu_of s t) past) ≡ Some t)
     made_so (Switch u st) k = subst (λ (w : What). thread_field w (running (cpu_of s t) past) ≡ Some t) k field
     made_so (Look rises) k =
         let f : None ≡ Some t = subst (λ (w : What). thread_field w (running (cpu_of s t) past) ≡ Some t) k field in
@@ -344,16 +388,25 @@ agrees_named s limit t e past b g r ih =
     made_so w k =
         next_so w k refl refl (subst (λ (w : What). thread_field w (running (cpu_of s t) past) ≡ Some t) k field)
 
-    finish : Says (made_facts s (length past) (stand_at s (cpu_of s t) past) e.what (facts s t past)).doing (thread_after s (length past) (due_of e.what (time past)) e.what (thread_frames s (cpu_of s t) t past)) (running_after e.what (running (cpu_of s t) past) ≡ Some t) → Agrees s t (e ∷ past)
+    finish : Says (made_facts s (length past) (stand_at s (cpu_of s t) past) e.what (facts s t past)).doing
+        (thread_after s (length past) (due_of e.what (time past)) e.what (thread_frames s (cpu_of s t) t past))
+        (running_after e.what (running (cpu_of s t) past) ≡ Some t) → Agrees s t (e ∷ past)
     finish m =
         let made : ThreadFacts = made_facts s (length past) (stand_at s (cpu_of s t) past) e.what (facts s t past) in
         let stand : stand_at s e.cpu past ≡ stand_at s (cpu_of s t) past = ap (λ (q : CpuNo). stand_at s q past) here in
-        let after : facts s t (e ∷ past) ≡ named_facts s t (length past) e.what made = facts_made s t e past true of ∙ ap (λ (st : Stand). named_facts s t (length past) e.what (made_facts s (length past) st e.what (facts s t past))) stand in
-        let ends : Ends made.doing (facts s t (e ∷ past)).doing = subst (λ (x : ThreadFacts). Ends made.doing x.doing) (sym after) (named_ends s t (length past) e.what made) in
-        let said = says_ended made.doing (facts s t (e ∷ past)).doing (thread_after s (length past) (due_of e.what (time past)) e.what (thread_frames s (cpu_of s t) t past)) (running_after e.what (running (cpu_of s t) past) ≡ Some t) ends m in
-        says_same (facts s t (e ∷ past)).doing (thread_after s (length past) (due_of e.what (time past)) e.what (thread_frames s (cpu_of s t) t past)) (thread_frames s (cpu_of s t) t (e ∷ past)) (running_after e.what (running (cpu_of s t) past) ≡ Some t) (running (cpu_of s t) (e ∷ past) ≡ Some t) (sym frames) (λ h. running_own (cpu_of s t) e past own ∙ h) (λ h. sym (running_own (cpu_of s t) e past own) ∙ h) said
+        let after : facts s t (e ∷ past) ≡ named_facts s t (length past) e.what made = facts_made s t e past true of
+        ∙ ap (λ (st : Stand). named_facts s t (length past) e.what (made_facts s (length past) st e.what (facts s t past))) stand in
+        let ends : Ends made.doing (facts s t (e ∷ past)).doing = subst (λ (x : ThreadFacts). Ends made.doing x.doing) (sym after)
+        (named_ends s t (length past) e.what made) in
+        let said = says_ended made.doing (facts s t (e ∷ past)).doing
+        (thread_after s (length past) (due_of e.what (time past)) e.what (thread_frames s (cpu_of s t) t past))
+        (running_after e.what (running (cpu_of s t) past) ≡ Some t) ends m in
+        says_same (facts s t (e ∷ past)).doing (thread_after s (length past) (due_of e.what (time past)) e.what (thread_frames s (cpu_of s t) t past))
+        (thread_frames s (cpu_of s t) t (e ∷ past)) (running_after e.what (running (cpu_of s t) past) ≡ Some t) (running (cpu_of s t) (e ∷ past) ≡ Some t)
+        (sym frames) (λ h. running_own (cpu_of s t) e past own ∙ h) (λ h. sym (running_own (cpu_of s t) e past own) ∙ h) said
 
-agrees_after : (s : Script) (limit : ℕ) (t : ThreadNo) (e : Event) (past : List Event) (b : Bool) → is_by e t ≡ b → IsLegal s limit e past → IsRun s limit past → Agrees s t past → Agrees s t (e ∷ past)
+agrees_after : (s : Script) (limit : ℕ) (t : ThreadNo) (e : Event) (past : List Event) (b : Bool) → is_by e t ≡ b → IsLegal s limit e past →
+    IsRun s limit past → Agrees s t past → Agrees s t (e ∷ past)
 agrees_after s limit t e past true b g r ih = agrees_named s limit t e past b g r ih
 agrees_after s limit t e past false b g r ih = agrees_unnamed s limit t e past b g ih
 

@@ -34,7 +34,8 @@ falls_kept n test (x ∷ xs) f = go (test x) (falls_kept x.number test xs f.1)
     go true k = (f.0, k)
     go false k = let l = f.0 in falls_from x.number n (filter test xs) (omega (arith, l)) k
 
-dropped_falls : (m : ℕ) (p by : CpuNo) (w : What) (o : Option DpcNo) (objects : List ObjectState) (xs : List Insert) → Falls m xs → Falls m (drop_insert p by w o objects xs)
+dropped_falls : (m : ℕ) (p by : CpuNo) (w : What) (o : Option DpcNo) (objects : List ObjectState) (xs : List Insert) → Falls m xs →
+    Falls m (drop_insert p by w o objects xs)
 dropped_falls m p by w None objects xs f = f
 dropped_falls m p by w (Some d) objects xs f = go (is_queue (left_queue by w (object_in objects d)) p)
   where
@@ -42,7 +43,8 @@ dropped_falls m p by w (Some d) objects xs f = go (is_queue (left_queue by w (ob
     go true = falls_kept m (λ x. not (is_of_dpc d x)) xs f
     go false = f
 
-added_falls : (s : Script) (p : CpuNo) (n m : ℕ) (by : CpuNo) (o : Option DpcNo) (objects : List ObjectState) (xs : List Insert) → n < m → Falls n xs → Falls m (add_insert s p n by o objects xs)
+added_falls : (s : Script) (p : CpuNo) (n m : ℕ) (by : CpuNo) (o : Option DpcNo) (objects : List ObjectState) (xs : List Insert) → n < m → Falls n xs →
+    Falls m (add_insert s p n by o objects xs)
 added_falls s p n m by None objects xs h f = falls_from n m xs (omega (arith, h)) f
 added_falls s p n m by (Some d) objects xs h f = go ((queue_for (object_in objects d).target by).0 == p.0)
   where
@@ -54,7 +56,9 @@ added_falls s p n m by (Some d) objects xs h f = go ((queue_for (object_in objec
 pub pending_falls : (s : Script) (p : CpuNo) (past : List Event) → Falls (length past) (pending s p past)
 pending_falls s p [] = tt
 pending_falls s p (e ∷ past) =
-    added_falls s p (length past) (length (e ∷ past)) e.cpu (inserted_dpc e.what) (objects_at s past) (drop_insert p e.cpu e.what (used_up_dpc e.what) (objects_at s past) (pending s p past)) (omega arith) (dropped_falls (length past) p e.cpu e.what (used_up_dpc e.what) (objects_at s past) (pending s p past) (pending_falls s p past))
+    added_falls s p (length past) (length (e ∷ past)) e.cpu (inserted_dpc e.what) (objects_at s past)
+    (drop_insert p e.cpu e.what (used_up_dpc e.what) (objects_at s past) (pending s p past)) (omega arith)
+    (dropped_falls (length past) p e.cpu e.what (used_up_dpc e.what) (objects_at s past) (pending s p past) (pending_falls s p past))
 
 -- ---- searches
 
@@ -70,7 +74,8 @@ falls_below n (x ∷ xs) y f h =
 false_true : {A : Type 0} (b : Bool) → b ≡ false → b ≡ true → A
 false_true b h k = cc
 
-found_greatest : (test : Insert → Bool) (n : ℕ) (xs : List Insert) (x y : Insert) → Falls n xs → find test xs ≡ Some x → Contains xs y → test y ≡ true → y.number ≤ x.number
+found_greatest : (test : Insert → Bool) (n : ℕ) (xs : List Insert) (x y : Insert) → Falls n xs → find test xs ≡ Some x → Contains xs y → test y ≡ true →
+    y.number ≤ x.number
 found_greatest test n [] x y f h c t = cc
 found_greatest test n (z ∷ zs) x y f h c t =
     go (test z) refl h (λ k i. found_greatest test z.number zs x y f.1 k i t)
@@ -114,12 +119,14 @@ cond_some : (b : Bool) (z x : Insert) → cond b (Some z) None ≡ Some x → z 
 cond_some true z x h = cc
 cond_some false z x h = cc
 
-last_least : (test : Insert → Bool) (n : ℕ) (xs : List Insert) (x y : Insert) → Falls n xs → find test (reverse xs) ≡ Some x → Contains xs y → test y ≡ true → x.number ≤ y.number
+last_least : (test : Insert → Bool) (n : ℕ) (xs : List Insert) (x y : Insert) → Falls n xs → find test (reverse xs) ≡ Some x → Contains xs y → test y ≡ true →
+    x.number ≤ y.number
 last_least test n [] x y f h c t = cc
 last_least test n (z ∷ zs) x y f h c t =
     go (find test (reverse zs)) refl (sym (find_reverse test z zs) ∙ h) (λ k i. last_least test z.number zs x y f.1 k i t)
   where
-    go : (o : Option Insert) → find test (reverse zs) ≡ o → option_or o (cond (test z) (Some z) None) ≡ Some x → (find test (reverse zs) ≡ Some x → Contains zs y → x.number ≤ y.number) → x.number ≤ y.number
+    go : (o : Option Insert) → find test (reverse zs) ≡ o → option_or o (cond (test z) (Some z) None) ≡ Some x →
+        (find test (reverse zs) ≡ Some x → Contains zs y → x.number ≤ y.number) → x.number ≤ y.number
     go None e k ih =
         let number : z.number ≡ x.number = ap (λ (x : Insert). x.number) (cond_some (test z) z x k) in
         elim (contains_cases z zs y c) [

@@ -38,9 +38,10 @@ use Rattle.nt_event.specs.declared.scripts.Script.{Script}
 use Rattle.nt_event.specs.Apcs.{deliverable, first_user}
 use Rattle.nt_event.specs.Commands.{needs_lane, refusal, reply}
 use Rattle.nt_event.specs.Frames.{innermost, thread_part}
-use Rattle.nt_event.specs.Jobs.{apcs_event, begin_apc, begin_dpc, begin_first, call_task, command_task, drain_event, end_task, expire_key, fire_task, frame_task, has_normal, idle_event, idle_task, interrupt_classes, interrupt_task, level_at, may_apcs, may_drain, may_interrupt, may_threaded, must_task, next_what, normal_task, ready, rewait_reply, rewait_task, rundown_event, rundown_task, task, task_event, threaded_event, user_due}
+use Rattle.nt_event.specs.Jobs.{apcs_event, begin_apc, begin_dpc, begin_first, call_task, command_task, drain_event, end_task, expire_key, fire_task, frame_task, has_normal, idle_event, idle_task, interrupt_task, level_at, may_apcs, may_drain, may_interrupt, may_threaded, must_task, next_what, normal_task, ready, rewait_reply, rewait_task, rundown_event, rundown_task, task, task_event, threaded_event, user_due}
+use Rattle.nt_event.specs.Classes.{interrupt_classes}
 use Rattle.nt_event.specs.Lanes.{Lanes, facts_at, facts_of, lanes_at, queue_at}
-use Rattle.nt_event.specs.Own.{Own, own_of, standing_in}
+use Rattle.nt_event.specs.Own.{Own, own_of, stand_in}
 use Rattle.nt_event.specs.Queues.{QueueState, first_dpc}
 use Rattle.nt_event.specs.Regions.{regions_of}
 use Rattle.nt_event.specs.Routines.{next_command}
@@ -72,7 +73,7 @@ pub record KnownCall (s : Script) (p : CpuNo) (x : Own) (l : Lanes) (n : ℕ) (c
   pub again : is_some frame.again ≡ false
   pub leaving : frame.leaving ≡ false
   pub command : next_command s p frame ≡ Some c
-  pub reply : y ≡ reply_or (refusal_in x frame c) (reply s (standing_in p x) l c)
+  pub reply : y ≡ reply_or (refusal_in x frame c) (reply s (stand_in p x) l c)
 
 pub record KnownInterrupt (x : Own) (c : ℕ) (from : ℕ) : Type 0 where
   pub class : list_any (λ k. k == c) interrupt_classes ≡ true
@@ -131,7 +132,7 @@ pub record KnownRewait (p : CpuNo) (x : Own) (l : Lanes) (n : ℕ) (y : Reply) :
   pub name : n ≡ frame.name
   pub wait : Again
   pub again : frame.again ≡ Some wait
-  pub reply : y ≡ rewait_reply (standing_in p x) l wait
+  pub reply : y ≡ rewait_reply (stand_in p x) l wait
 
 -- a leaving thread runs, and its base is innermost
 pub record KnownRundown (x : Own) (t : ThreadNo) : Type 0 where
@@ -150,13 +151,15 @@ abbrev pub Deliverable : Own → Lanes → Option Pick
 Deliverable x l = deliverable (facts_of l x.frames.running).apcs (regions_of (thread_part x.frames)) (level_at x)
 
 abbrev pub KnownClean : CpuNo → Own → Lanes → ℕ → Type 0
-KnownClean p x l c = ((c ≡ 2) × (level_at x < 2) × (when x.sweep (first_due l.timers) ≡ None) × (first_dpc OrdinaryPart (queue_at l p).pending ≡ None)) ⊎ (((c ≡ 1) × (may_apcs x ≡ true) × (Deliverable x l ≡ None)) ⊎ ((c ≡ 0) × (may_threaded x ≡ true) × (first_dpc ThreadedPart (queue_at l p).pending ≡ None)))
+KnownClean p x l c = ((c ≡ 2) × (level_at x < 2) × (when x.sweep (first_due l.timers) ≡ None) × (first_dpc OrdinaryPart (queue_at l p).pending ≡ None)) ⊎
+    (((c ≡ 1) × (may_apcs x ≡ true) × (Deliverable x l ≡ None)) ⊎ ((c ≡ 0) × (may_threaded x ≡ true) × (first_dpc ThreadedPart (queue_at l p).pending ≡ None)))
 
 abbrev pub KnownBegin : Script → CpuNo → Own → Lanes → Begun → ℕ → Type 0
 KnownBegin s p x l (Int c) from = KnownInterrupt x c from
 KnownBegin s p x l (Dpc d) from = (level_at x < 2) × KnownInsert OrdinaryPart (queue_at l p) d from
 KnownBegin s p x l (Threaded d) from = (may_threaded x ≡ true) × KnownInsert ThreadedPart (queue_at l p) d from
-KnownBegin s p x l (Apc a) from = ((may_apcs x ≡ true) × KnownPick (Deliverable x l) a from) ⊎ (KnownToUser s p x × KnownPick (user_due (facts_of l x.frames.running)) a from)
+KnownBegin s p x l (Apc a) from = ((may_apcs x ≡ true) × KnownPick (Deliverable x l) a from) ⊎
+    (KnownToUser s p x × KnownPick (user_due (facts_of l x.frames.running)) a from)
 
 abbrev pub Known : Script → CpuNo → Own → Lanes → What → Type 0
 Known s p x l (Call n c y) = KnownCall s p x l n c y
@@ -165,7 +168,7 @@ Known s p x l (Begin b from) = KnownBegin s p x l b from
 Known s p x l (Normal n) = KnownNormal s p x n
 Known s p x l (End n) = KnownEnd s p x n
 Known s p x l (Expire key from) = KnownKey x l key from
-Known s p x l (Fire d y) = (x.fire ≡ Some d) × (y ≡ reply s (standing_in p x) l (Queue d))
+Known s p x l (Fire d y) = (x.fire ≡ Some d) × (y ≡ reply s (stand_in p x) l (Queue d))
 Known s p x l (Clean c) = KnownClean p x l c
 Known s p x l (Switch t st) = ⊥
 Known s p x l (Rewait n y) = KnownRewait p x l n y
@@ -177,7 +180,8 @@ Known s p x l Rest = KnownRest s p x l
 
 begin_known : (s : Script) (p : CpuNo) (x : Own) (l : Lanes) → level_at x < 2 → Holds (Known s p x l) (begin_first OrdinaryPart (queue_at l p))
 begin_known s p x l low =
-    holds_map (Known s p x l) (begin_dpc OrdinaryPart) (first_dpc OrdinaryPart (queue_at l p).pending) (λ i e. (low, record { insert = i; first = e; dpc = refl; number = refl }))
+    holds_map (Known s p x l) (begin_dpc OrdinaryPart) (first_dpc OrdinaryPart (queue_at l p).pending)
+    (λ i e. (low, record { insert = i; first = e; dpc = refl; number = refl }))
 
 map_none : {A B : Type 0} (f : A → B) (o : Option A) → option_map f o ≡ None → o ≡ None
 map_none f None h = refl
@@ -187,55 +191,89 @@ or_none : {A : Type 0} (a b : Option A) → option_or a b ≡ None → (a ≡ No
 or_none None b h = (refl, h)
 or_none (Some x) b h = cc
 
-drain_known : (s : Script) (p : CpuNo) (x : Own) (l : Lanes) → level_at x < 2 → Known s p x l (drain_event (standing_in p x) l)
+drain_known : (s : Script) (p : CpuNo) (x : Own) (l : Lanes) → level_at x < 2 → Known s p x l (drain_event (stand_in p x) l)
 drain_known s p x l low =
     let keys : Option What = option_map expire_key (when x.sweep (first_due l.timers)) in
     let dpcs : Option What = begin_first OrdinaryPart (queue_at l p) in
-    holds_else (Known s p x l) (option_or keys dpcs) (Clean 2) (holds_or (Known s p x l) keys dpcs (holds_map (Known s p x l) expire_key (when x.sweep (first_due l.timers)) (λ k e. let w = when_gives x.sweep (first_due l.timers) k e in record { sweep = w.0; low = low; set = k; first = w.1; key = refl; number = refl })) (λ e. begin_known s p x l low)) (λ e. let k = or_none keys dpcs e in inl (refl, low, map_none expire_key (when x.sweep (first_due l.timers)) k.0, map_none (begin_dpc OrdinaryPart) (first_dpc OrdinaryPart (queue_at l p).pending) k.1))
+    holds_else (Known s p x l) (option_or keys dpcs) (Clean 2)
+    (holds_or (Known s p x l) keys dpcs (holds_map (Known s p x l) expire_key (when x.sweep (first_due l.timers))
+    (λ k e. let w = when_gives x.sweep (first_due l.timers) k e in record { sweep = w.0; low = low; set = k; first = w.1; key = refl; number = refl }))
+    (λ e. begin_known s p x l low)) (λ e. let k = or_none keys dpcs e in
+    inl (
+      refl,
+      low,
+      map_none expire_key (when x.sweep (first_due l.timers)) k.0,
+      map_none (begin_dpc OrdinaryPart) (first_dpc OrdinaryPart (queue_at l p).pending) k.1,
+    ))
 
-apcs_known : (s : Script) (p : CpuNo) (x : Own) (l : Lanes) → may_apcs x ≡ true → Known s p x l (apcs_event (standing_in p x) l)
+apcs_known : (s : Script) (p : CpuNo) (x : Own) (l : Lanes) → may_apcs x ≡ true → Known s p x l (apcs_event (stand_in p x) l)
 apcs_known s p x l may =
-    holds_else (Known s p x l) (option_map begin_apc (Deliverable x l)) (Clean 1) (holds_map (Known s p x l) begin_apc (Deliverable x l) (λ k e. inl (may, record { pick = k; first = e; apc = refl; number = refl }))) (λ e. inr (inl (refl, may, map_none begin_apc (Deliverable x l) e)))
+    holds_else (Known s p x l) (option_map begin_apc (Deliverable x l)) (Clean 1)
+    (holds_map (Known s p x l) begin_apc (Deliverable x l) (λ k e. inl (may, record { pick = k; first = e; apc = refl; number = refl })))
+    (λ e. inr (inl (refl, may, map_none begin_apc (Deliverable x l) e)))
 
-threaded_known : (s : Script) (p : CpuNo) (x : Own) (l : Lanes) → may_threaded x ≡ true → Known s p x l (threaded_event (standing_in p x) l)
+threaded_known : (s : Script) (p : CpuNo) (x : Own) (l : Lanes) → may_threaded x ≡ true → Known s p x l (threaded_event (stand_in p x) l)
 threaded_known s p x l may =
-    holds_else (Known s p x l) (begin_first ThreadedPart (queue_at l p)) (Clean 0) (holds_map (Known s p x l) (begin_dpc ThreadedPart) (first_dpc ThreadedPart (queue_at l p).pending) (λ i e. (may, record { insert = i; first = e; dpc = refl; number = refl }))) (λ e. inr (inr (refl, may, map_none (begin_dpc ThreadedPart) (first_dpc ThreadedPart (queue_at l p).pending) e)))
+    holds_else (Known s p x l) (begin_first ThreadedPart (queue_at l p)) (Clean 0)
+    (holds_map (Known s p x l) (begin_dpc ThreadedPart) (first_dpc ThreadedPart (queue_at l p).pending)
+    (λ i e. (may, record { insert = i; first = e; dpc = refl; number = refl })))
+    (λ e. inr (inr (refl, may, map_none (begin_dpc ThreadedPart) (first_dpc ThreadedPart (queue_at l p).pending) e)))
 
 -- a task whose event, if it comes, is known
 abbrev pub Good : Script → CpuNo → Own → Lanes → Task → Type 0
-Good s p x l t = Holds (Known s p x l) (task_event s (standing_in p x) l t)
+Good s p x l t = Holds (Known s p x l) (task_event s (stand_in p x) l t)
 
 interrupt_known : (s : Script) (p : CpuNo) (x : Own) (l : Lanes) → Holds (Good s p x l) (interrupt_task x)
 interrupt_known s p x l =
-    holds_map (Good s p x l) (λ c. Alone (Begin (Int c) (value_at x.seen c - 1))) (find (may_interrupt x) interrupt_classes) (λ c e. record { class = found interrupt_classes c e; may = holds_at (λ k. may_interrupt x k ≡ true) (find (may_interrupt x) interrupt_classes) c (holds_find (λ k. may_interrupt x k ≡ true) (may_interrupt x) interrupt_classes (λ k h. h)) e; number = refl })
+    holds_map (Good s p x l) (λ c. Alone (Begin (Int c) (value_at x.seen c - 1))) (find (may_interrupt x) interrupt_classes)
+    (λ c e. record {
+      class = found interrupt_classes c e;
+      may = holds_at (λ k. may_interrupt x k ≡ true) (find (may_interrupt x) interrupt_classes) c
+          (holds_find (λ k. may_interrupt x k ≡ true) (may_interrupt x) interrupt_classes (λ k h. h)) e;
+      number = refl;
+    })
   where
     found : (cs : List ℕ) (c : ℕ) → find (may_interrupt x) cs ≡ Some c → list_any (λ k. k == c) cs ≡ true
     found [] c h = cc
     found (k ∷ cs) c h = go (may_interrupt x k) h (found cs c)
       where
-        go : (b : Bool) → cond b (Some k) (find (may_interrupt x) cs) ≡ Some c → (find (may_interrupt x) cs ≡ Some c → list_any (λ k. k == c) cs ≡ true) → ((k == c) || list_any (λ k. k == c) cs) ≡ true
+        go : (b : Bool) → cond b (Some k) (find (may_interrupt x) cs) ≡ Some c → (find (may_interrupt x) cs ≡ Some c → list_any (λ k. k == c) cs ≡ true) →
+            ((k == c) || list_any (λ k. k == c) cs) ≡ true
         go true e ih = let n : k ≡ c = cc in rw (eq-eqb k c n) refl
         go false e ih = or_yes (k == c) (list_any (λ k. k == c) cs) (ih e)
 
 must_known : (s : Script) (p : CpuNo) (x : Own) (l : Lanes) → Holds (Good s p x l) (must_task x)
 must_known s p x l =
-    holds_or (Good s p x l) (fire_task x) _ (holds_map (Good s p x l) (λ d. Shared (FireJob d)) x.fire (λ d e. (e, refl))) (λ e. holds_or (Good s p x l) (interrupt_task x) _ (interrupt_known s p x l) (λ k. holds_or (Good s p x l) (when (may_drain x) (Some (Shared DrainJob))) _ (holds_when (Good s p x l) (may_drain x) (Some (Shared DrainJob)) (λ h. drain_known s p x l (ltb-true (level_at x) 2 (both (nat_lt (level_at x) 2) _ h).0))) (λ k2. holds_or (Good s p x l) (when (may_apcs x) (Some (Shared ApcsJob))) _ (holds_when (Good s p x l) (may_apcs x) (Some (Shared ApcsJob)) (λ h. apcs_known s p x l h)) (λ k3. holds_when (Good s p x l) (may_threaded x) (Some (Shared ThreadedJob)) (λ h. threaded_known s p x l h)))))
+    holds_or (Good s p x l) (fire_task x) _ (holds_map (Good s p x l) (λ d. Shared (FireJob d)) x.fire (λ d e. (e, refl)))
+    (λ e. holds_or (Good s p x l) (interrupt_task x) _ (interrupt_known s p x l)
+    (λ k. holds_or (Good s p x l) (when (may_drain x) (Some (Shared DrainJob))) _
+    (holds_when (Good s p x l) (may_drain x) (Some (Shared DrainJob))
+    (λ h. drain_known s p x l (ltb-true (level_at x) 2 (both (nat_lt (level_at x) 2) _ h).0)))
+    (λ k2. holds_or (Good s p x l) (when (may_apcs x) (Some (Shared ApcsJob))) _
+    (holds_when (Good s p x l) (may_apcs x) (Some (Shared ApcsJob)) (λ h. apcs_known s p x l h))
+    (λ k3. holds_when (Good s p x l) (may_threaded x) (Some (Shared ThreadedJob)) (λ h. threaded_known s p x l h)))))
 
 -- ---- the innermost frame
 
-frame_stands : (p : CpuNo) (x : Own) (f : Frame) → GoesOn x f → (standing_in p x).frame ≡ f.name
+frame_stands : (p : CpuNo) (x : Own) (f : Frame) → GoesOn x f → (stand_in p x).frame ≡ f.name
 frame_stands p x f g = ap (λ (o : Option Frame). option_map_or (λ f. f.name) o 0) g.inner
 
-pub again_known : (p : CpuNo) (x : Own) (f : Frame) → GoesOn x f → (standing_in p x).again ≡ f.again
+pub again_known : (p : CpuNo) (x : Own) (f : Frame) → GoesOn x f → (stand_in p x).again ≡ f.again
 again_known p x f g = again_stands p x.frames x.sweep f g.inner
 
 rewait_known : (s : Script) (p : CpuNo) (x : Own) (l : Lanes) (f : Frame) → GoesOn x f → Good s p x l (Shared RewaitJob)
 rewait_known s p x l f g =
-    holds_map (Known s p x l) (λ w. Rewait (standing_in p x).frame (rewait_reply (standing_in p x) l w)) (standing_in p x).again (λ w e. record { frame = f; goes_on = g; name = frame_stands p x f g; wait = w; again = sym (again_known p x f g) ∙ e; reply = refl })
+    holds_map (Known s p x l) (λ w. Rewait (stand_in p x).frame (rewait_reply (stand_in p x) l w)) (stand_in p x).again
+    (λ w e. record { frame = f; goes_on = g; name = frame_stands p x f g; wait = w; again = sym (again_known p x f g) ∙ e; reply = refl })
 
 rundown_known : (s : Script) (p : CpuNo) (x : Own) (l : Lanes) (f : Frame) → GoesOn x f → f.leaving ≡ true → Good s p x l (Shared RundownJob)
 rundown_known s p x l f g leaving =
-    holds_map (Known s p x l) (rundown_event l) x.frames.running (λ t e. let r : KnownRundown x t = record { frame = f; goes_on = g; leaving = leaving; thread = e } in holds_else (Known s p x l) (option_map (λ k. Flush k.apc k.number) (first_user (facts_at l t).apcs)) (Gone t) (holds_map (Known s p x l) (λ k. Flush k.apc k.number) (first_user (facts_at l t).apcs) (λ k m. (t, r, record { pick = k; first = m; apc = refl; number = refl }))) (λ m. (r, map_none (λ k. Flush k.apc k.number) (first_user (facts_at l t).apcs) m)))
+    holds_map (Known s p x l) (rundown_event l) x.frames.running
+    (λ t e. let r : KnownRundown x t = record { frame = f; goes_on = g; leaving = leaving; thread = e } in
+    holds_else (Known s p x l) (option_map (λ k. Flush k.apc k.number) (first_user (facts_at l t).apcs)) (Gone t)
+    (holds_map (Known s p x l) (λ k. Flush k.apc k.number) (first_user (facts_at l t).apcs)
+    (λ k m. (t, r, record { pick = k; first = m; apc = refl; number = refl })))
+    (λ m. (r, map_none (λ k. Flush k.apc k.number) (first_user (facts_at l t).apcs) m)))
 
 -- a command without a lane is done
 lane_free : (s : Script) (st : Stand) (l : Lanes) (c : Command) → needs_lane c ≡ false → reply s st l c ≡ Done
@@ -261,42 +299,53 @@ pub record Calls (s : Script) (p : CpuNo) (x : Own) (f : Frame) (c : Command) : 
   pub leaving : f.leaving ≡ false
   pub command : next_command s p f ≡ Some c
 
-known_call : (s : Script) (p : CpuNo) (x : Own) (l : Lanes) (f : Frame) (c : Command) (n : ℕ) (y : Reply) → Calls s p x f c → n ≡ f.name → y ≡ reply_or (refusal_in x f c) (reply s (standing_in p x) l c) → KnownCall s p x l n c y
+known_call : (s : Script) (p : CpuNo) (x : Own) (l : Lanes) (f : Frame) (c : Command) (n : ℕ) (y : Reply) → Calls s p x f c → n ≡ f.name → y
+    ≡ reply_or (refusal_in x f c) (reply s (stand_in p x) l c) → KnownCall s p x l n c y
 known_call s p x l f c n y k e r =
     record { frame = f; goes_on = k.goes_on; name = e; again = k.again; leaving = k.leaving; command = k.command; reply = r }
 
-touser_known : (s : Script) (p : CpuNo) (x : Own) (l : Lanes) (f : Frame) → Calls s p x f ToUser → refusal_in x f ToUser ≡ None → Good s p x l (Shared ToUserJob)
+touser_known : (s : Script) (p : CpuNo) (x : Own) (l : Lanes) (f : Frame) → Calls s p x f ToUser → refusal_in x f ToUser ≡ None →
+    Good s p x l (Shared ToUserJob)
 touser_known s p x l f k e =
-    holds_else (Known s p x l) (option_map begin_apc (user_due (facts_of l x.frames.running))) (Call (standing_in p x).frame ToUser Done) (holds_map (Known s p x l) begin_apc (user_due (facts_of l x.frames.running)) (λ pick m. inr (record { frame = f; goes_on = k.goes_on; again = k.again; leaving = k.leaving; command = k.command; accepted = e }, record { pick = pick; first = m; apc = refl; number = refl }))) (λ m. known_call s p x l f ToUser _ _ k (frame_stands p x f k.goes_on) (rw e refl))
+    holds_else (Known s p x l) (option_map begin_apc (user_due (facts_of l x.frames.running))) (Call (stand_in p x).frame ToUser Done)
+    (holds_map (Known s p x l) begin_apc (user_due (facts_of l x.frames.running))
+    (λ pick m. inr (
+      record { frame = f; goes_on = k.goes_on; again = k.again; leaving = k.leaving; command = k.command; accepted = e },
+      record { pick = pick; first = m; apc = refl; number = refl },
+    ))) (λ m. known_call s p x l f ToUser _ _ k (frame_stands p x f k.goes_on) (rw e refl))
 
 call_known : (s : Script) (p : CpuNo) (x : Own) (l : Lanes) (f : Frame) (c : Command) → Calls s p x f c → Good s p x l (call_task f c (refusal_in x f c))
 call_known s p x l f c k = go c (refusal_in x f c) refl k
   where
-    lane : (c : Command) → Calls s p x f c → refusal_in x f c ≡ None → (b : Bool) → needs_lane c ≡ b → Good s p x l (if b then Shared (CallJob c) else Alone (Call f.name c Done))
+    lane : (c : Command) → Calls s p x f c → refusal_in x f c ≡ None → (b : Bool) → needs_lane c ≡ b →
+        Good s p x l (if b then Shared (CallJob c) else Alone (Call f.name c Done))
     lane c k e true n =
-        known_call s p x l f c _ _ k (frame_stands p x f k.goes_on) (ap (λ (o : Option Refusal). reply_or o (reply s (standing_in p x) l c)) (sym e))
+        known_call s p x l f c _ _ k (frame_stands p x f k.goes_on) (ap (λ (o : Option Refusal). reply_or o (reply s (stand_in p x) l c)) (sym e))
     lane c k e false n =
-        known_call s p x l f c _ _ k refl (sym (lane_free s (standing_in p x) l c n) ∙ ap (λ (o : Option Refusal). reply_or o (reply s (standing_in p x) l c)) (sym e))
+        known_call s p x l f c _ _ k refl (sym (lane_free s (stand_in p x) l c n)
+        ∙ ap (λ (o : Option Refusal). reply_or o (reply s (stand_in p x) l c)) (sym e))
 
     go : (c : Command) (o : Option Refusal) → refusal_in x f c ≡ o → Calls s p x f c → Good s p x l (call_task f c o)
     go c (Some r) e k =
-        known_call s p x l f c _ _ k refl (ap (λ (o : Option Refusal). reply_or o (reply s (standing_in p x) l c)) (sym e))
+        known_call s p x l f c _ _ k refl (ap (λ (o : Option Refusal). reply_or o (reply s (stand_in p x) l c)) (sym e))
     go ToUser None e k = touser_known s p x l f k e
     go c None e k = lane c k e (needs_lane c) refl
 
-command_known : (s : Script) (p : CpuNo) (x : Own) (l : Lanes) (f : Frame) (o : Option Command) → GoesOn x f → is_some f.again ≡ false → f.leaving ≡ false → next_command s p f ≡ o → Holds (Good s p x l) (command_task x f o)
+command_known : (s : Script) (p : CpuNo) (x : Own) (l : Lanes) (f : Frame) (o : Option Command) → GoesOn x f → is_some f.again ≡ false → f.leaving ≡ false →
+    next_command s p f ≡ o → Holds (Good s p x l) (command_task x f o)
 command_known s p x l f None g a b e = tt
 command_known s p x l f (Some c) g a b e =
     call_known s p x l f c (record { goes_on = g; again = a; leaving = b; command = e })
 
 normal_known : (s : Script) (p : CpuNo) (x : Own) (l : Lanes) (f : Frame) → GoesOn x f → next_command s p f ≡ None → Holds (Good s p x l) (normal_task f)
 normal_known s p x l f g e =
-    holds_when (Good s p x l) (f.kernel_phase && has_normal f.body) (Some (Alone (Normal f.name))) (λ h. let k = both f.kernel_phase (has_normal f.body) h in record { frame = f; goes_on = g; name = refl; kernel = k.0; normal = k.1; command = e })
+    holds_when (Good s p x l) (f.kernel_phase && has_normal f.body) (Some (Alone (Normal f.name)))
+    (λ h. let k = both f.kernel_phase (has_normal f.body) h in record { frame = f; goes_on = g; name = refl; kernel = k.0; normal = k.1; command = e })
 
 end_known : (s : Script) (p : CpuNo) (x : Own) (l : Lanes) (f : Frame) → KnownEnd s p x f.name → GoesOn x f → Good s p x l (end_task f.name f.body)
 end_known s p x l f k g = go f.body
   where
-    shared : KnownEnd s p x (standing_in p x).frame
+    shared : KnownEnd s p x (stand_in p x).frame
     shared = subst (KnownEnd s p x) (sym (frame_stands p x f g)) k
 
     go : (b : Body) → Good s p x l (end_task f.name b)
@@ -314,7 +363,20 @@ command_none x f (Some c) h = cc
 
 frame_known : (s : Script) (p : CpuNo) (x : Own) (l : Lanes) (f : Frame) → GoesOn x f → Holds (Good s p x l) (frame_task s p x f)
 frame_known s p x l f g =
-    holds_or (Good s p x l) (rewait_task f) _ (holds_when (Good s p x l) (is_some f.again) (Some (Shared RewaitJob)) (λ h. rewait_known s p x l f g)) (λ e. holds_or (Good s p x l) (rundown_task f) _ (holds_when (Good s p x l) f.leaving (Some (Shared RundownJob)) (λ h. rundown_known s p x l f g h)) (λ k. holds_or (Good s p x l) (command_task x f (next_command s p f)) _ (command_known s p x l f (next_command s p f) g (when_none (is_some f.again) _ e) (when_none f.leaving _ k) refl) (λ k2. holds_or (Good s p x l) (normal_task f) _ (normal_known s p x l f g (command_none x f (next_command s p f) k2)) (λ k3. end_known s p x l f (record { frame = f; goes_on = g; name = refl; again = when_none (is_some f.again) _ e; leaving = when_none f.leaving _ k; command = command_none x f (next_command s p f) k2; last = when_none (f.kernel_phase && has_normal f.body) _ k3 }) g))))
+    holds_or (Good s p x l) (rewait_task f) _ (holds_when (Good s p x l) (is_some f.again) (Some (Shared RewaitJob)) (λ h. rewait_known s p x l f g))
+    (λ e. holds_or (Good s p x l) (rundown_task f) _ (holds_when (Good s p x l) f.leaving (Some (Shared RundownJob)) (λ h. rundown_known s p x l f g h))
+    (λ k. holds_or (Good s p x l) (command_task x f (next_command s p f)) _
+    (command_known s p x l f (next_command s p f) g (when_none (is_some f.again) _ e) (when_none f.leaving _ k) refl)
+    (λ k2. holds_or (Good s p x l) (normal_task f) _ (normal_known s p x l f g (command_none x f (next_command s p f) k2))
+    (λ k3. end_known s p x l f (record {
+      frame = f;
+      goes_on = g;
+      name = refl;
+      again = when_none (is_some f.again) _ e;
+      leaving = when_none f.leaving _ k;
+      command = command_none x f (next_command s p f) k2;
+      last = when_none (f.kernel_phase && has_normal f.body) _ k3;
+    }) g))))
 
 -- ---- the next event
 
@@ -329,30 +391,41 @@ then_none s p x (Some f) h = let k = frame_has s p x f in absurd (no (frame_task
 level_none : (x : Own) → innermost x.frames ≡ None → level_at x ≡ 0
 level_none x h = ap (λ (o : Option Frame). option_map_or (λ f. f.level) o 0) h
 
-idle_known : (s : Script) (p : CpuNo) (x : Own) (l : Lanes) → must_task x ≡ None → innermost x.frames ≡ None → Holds (Known s p x l) (idle_event s (standing_in p x) l)
+idle_known : (s : Script) (p : CpuNo) (x : Own) (l : Lanes) → must_task x ≡ None → innermost x.frames ≡ None →
+    Holds (Known s p x l) (idle_event s (stand_in p x) l)
 idle_known s p x l quiet none =
     let low : level_at x < 2 = let e = level_none x none in omega (arith, e) in
-    holds_or (Known s p x l) (begin_first OrdinaryPart (queue_at l p)) (when (is_null (ready s p l)) (Some Rest)) (begin_known s p x l low) (λ e. holds_when (Known s p x l) (is_null (ready s p l)) (Some Rest) (λ h. record { quiet = quiet; none = none; empty = map_none (begin_dpc OrdinaryPart) (first_dpc OrdinaryPart (queue_at l p).pending) e; unready = h }))
+    holds_or (Known s p x l) (begin_first OrdinaryPart (queue_at l p)) (when (is_null (ready s p l)) (Some Rest)) (begin_known s p x l low)
+    (λ e. holds_when (Known s p x l) (is_null (ready s p l)) (Some Rest)
+    (λ h. record { quiet = quiet; none = none; empty = map_none (begin_dpc OrdinaryPart) (first_dpc OrdinaryPart (queue_at l p).pending) e; unready = h }))
 
 pub task_known : (s : Script) (p : CpuNo) (x : Own) (l : Lanes) → Holds (Good s p x l) (task s p x)
 task_known s p x l =
-    holds_or (Good s p x l) (must_task x) _ (must_known s p x l) (λ e. holds_or (Good s p x l) (option_and_then (frame_task s p x) (innermost x.frames)) (idle_task x) (holds_then (Good s p x l) (frame_task s p x) (innermost x.frames) (λ f k. frame_known s p x l f (record { quiet = e; inner = k }))) (λ k. holds_when (Good s p x l) (not (x.rested && is_none x.frames.running)) (Some (Shared IdleJob)) (λ h. idle_known s p x l e (then_none s p x (innermost x.frames) k))))
+    holds_or (Good s p x l) (must_task x) _ (must_known s p x l)
+    (λ e. holds_or (Good s p x l) (option_and_then (frame_task s p x) (innermost x.frames)) (idle_task x)
+    (holds_then (Good s p x l) (frame_task s p x) (innermost x.frames) (λ f k. frame_known s p x l f (record { quiet = e; inner = k })))
+    (λ k. holds_when (Good s p x l) (not (x.rested && is_none x.frames.running)) (Some (Shared IdleJob))
+    (λ h. idle_known s p x l e (then_none s p x (innermost x.frames) k))))
 
 -- the next event of a processor is known
 pub next_known : (s : Script) (p : CpuNo) (x : Own) (l : Lanes) → Holds (Known s p x l) (next_what s p x l)
 next_known s p x l =
-    holds_then (Known s p x l) (task_event s (standing_in p x) l) (task s p x) (λ t e. holds_at (Good s p x l) (task s p x) t (task_known s p x l) e)
+    holds_then (Known s p x l) (task_event s (stand_in p x) l) (task s p x) (λ t e. holds_at (Good s p x l) (task s p x) t (task_known s p x l) e)
 
 -- a legal event but a Look or a Switch was the next one, and is known
-pub legal_known : (s : Script) (limit : ℕ) (e : Event) (past : List Event) → IsLegal s limit e past → is_next e.what ≡ true → Known s e.cpu (own_of s e.cpu past) (lanes_at s past) e.what
+pub legal_known : (s : Script) (limit : ℕ) (e : Event) (past : List Event) → IsLegal s limit e past → is_next e.what ≡ true →
+    Known s e.cpu (own_of s e.cpu past) (lanes_at s past) e.what
 legal_known s limit e past h n = go e.what refl n
   where
     next : (w : What) → e.what ≡ w → turn_at e.cpu w ≡ Next e.cpu → Known s e.cpu (own_of s e.cpu past) (lanes_at s past) w
     next w k t =
-        let turn : Gives (step s limit (Next e.cpu) past) e = subst (λ (u : Turn). Gives (step s limit u past) e) (ap (λ (v : What). turn_at e.cpu v) k ∙ t) h in
+        let turn : Gives (step s limit (Next e.cpu) past) e = subst (λ (u : Turn). Gives (step s limit u past) e)
+        (ap (λ (v : What). turn_at e.cpu v) k ∙ t) h in
         let g = next_gives s limit e.cpu past e turn in
         let same : g.0 ≡ w = ap (λ (f : Event). f.what) g.2 ∙ k in
-        subst (Known s e.cpu (own_of s e.cpu past) (lanes_at s past)) same (holds_at (Known s e.cpu (own_of s e.cpu past) (lanes_at s past)) (next_what s e.cpu (own_of s e.cpu past) (lanes_at s past)) g.0 (next_known s e.cpu (own_of s e.cpu past) (lanes_at s past)) g.1)
+        subst (Known s e.cpu (own_of s e.cpu past) (lanes_at s past)) same
+        (holds_at (Known s e.cpu (own_of s e.cpu past) (lanes_at s past)) (next_what s e.cpu (own_of s e.cpu past) (lanes_at s past)) g.0
+        (next_known s e.cpu (own_of s e.cpu past) (lanes_at s past)) g.1)
 
     go : (w : What) → e.what ≡ w → is_next w ≡ true → Known s e.cpu (own_of s e.cpu past) (lanes_at s past) w
     go (Look r) k n = cc

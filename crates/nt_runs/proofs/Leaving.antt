@@ -32,7 +32,7 @@ use Rattle.nt_event.specs.Apcs.{has_user, with_apc, without_apc}
 use Rattle.nt_event.specs.Frames.{at_name, called, due_of, end_on_thread, ended_on_thread, flushed, is_base_body, new_frame, normal_of, resumed, rewaited, running, switched_to, thread_after, thread_frames, thread_part, time}
 use Rattle.nt_event.specs.Lanes.{Lanes, lanes_at}
 use Rattle.nt_runs.specs.Laws.{HasBase}
-use Rattle.nt_event.specs.Own.{Own, own_of, standing_in}
+use Rattle.nt_event.specs.Own.{Own, own_of, stand_in}
 use Rattle.nt_event.specs.Regions.{stand_at}
 use Rattle.nt_event.specs.Routines.{cpu_of, is_kernel_kind, kind_of, owner_of, rundown_of}
 use Rattle.nt_event.specs.Step.{IsLegal, IsRun}
@@ -85,7 +85,8 @@ switched_leaving n t st (f ∷ fs) = head_leaving (resumed st) f fs ((resumed_ke
 -- ---- a frame's end
 
 -- the innermost frame of the thread's part ends: a base frame leaves
-end_leaving : (t : ThreadNo) (n : ℕ) (f : Frame) (fs : List Frame) (x : ThreadFacts) → head_of fs ≡ Some f → n ≡ f.name → HasBase t fs → x.leaving ≡ base_leaving fs → (frame_ended (Some f.body) x).leaving ≡ base_leaving (end_on_thread n fs)
+end_leaving : (t : ThreadNo) (n : ℕ) (f : Frame) (fs : List Frame) (x : ThreadFacts) → head_of fs ≡ Some f → n ≡ f.name → HasBase t fs → x.leaving
+    ≡ base_leaving fs → (frame_ended (Some f.body) x).leaving ≡ base_leaving (end_on_thread n fs)
 end_leaving t n f [] x h e b l = cc
 end_leaving t n f (g ∷ []) x h e b l =
     let same : g ≡ f = cc in
@@ -120,19 +121,22 @@ end_elsewhere n (f ∷ fs) h = go (f.name == n) refl
     go false e = refl
 
 -- a known end
-known_end : (s : Script) (p : CpuNo) (o : Own) (t : ThreadNo) (m n : ℕ) (fs : List Frame) (x : ThreadFacts) → KnownEnd s p o n → AllOwn o.frames.own → Named m o.frames.own fs → thread_part o.frames ≡ fs → HasBase t fs → x.leaving ≡ base_leaving fs → (frame_ended (standing_in p o).body x).leaving ≡ base_leaving (end_on_thread n fs)
+known_end : (s : Script) (p : CpuNo) (o : Own) (t : ThreadNo) (m n : ℕ) (fs : List Frame) (x : ThreadFacts) → KnownEnd s p o n → AllOwn o.frames.own →
+    Named m o.frames.own fs → thread_part o.frames ≡ fs → HasBase t fs → x.leaving ≡ base_leaving fs → (frame_ended (stand_in p o).body x).leaving
+    ≡ base_leaving (end_on_thread n fs)
 known_end s p o t m n fs x k own d e b l = go o.frames.own refl own d.apart
   where
-    body : (standing_in p o).body ≡ Some k.frame.body
+    body : (stand_in p o).body ≡ Some k.frame.body
     body = ap (λ (q : Option Frame). option_map (λ f. f.body) q) k.goes_on.inner
 
-    go : (gs : List Frame) → o.frames.own ≡ gs → AllOwn gs → Apart gs fs → (frame_ended (standing_in p o).body x).leaving ≡ base_leaving (end_on_thread n fs)
+    go : (gs : List Frame) → o.frames.own ≡ gs → AllOwn gs → Apart gs fs → (frame_ended (stand_in p o).body x).leaving ≡ base_leaving (end_on_thread n fs)
     go [] q a c =
         let null : is_null o.frames.own ≡ true = ap (λ (gs : List Frame). is_null gs) q in
         let first : head_of fs ≡ Some k.frame = ap (λ (hs : List Frame). head_of hs) (sym e) ∙ part_head o.frames k.frame k.goes_on.inner null in
         ap (λ (z : Option Body). (frame_ended z x).leaving) body ∙ end_leaving t n k.frame fs x first k.name b l
     go (g ∷ gs) q a c =
-        let first : option_or (head_of (g ∷ gs)) (head_of (thread_part o.frames)) ≡ Some k.frame = subst (λ (gs : List Frame). option_or (head_of gs) (head_of (thread_part o.frames)) ≡ Some k.frame) q k.goes_on.inner in
+        let first : option_or (head_of (g ∷ gs)) (head_of (thread_part o.frames))
+        ≡ Some k.frame = subst (λ (gs : List Frame). option_or (head_of gs) (head_of (thread_part o.frames)) ≡ Some k.frame) q k.goes_on.inner in
         let same : g ≡ k.frame = cc in
         let name : g.name ≡ n = ap (λ (z : Frame). z.name) same ∙ sym k.name in
         let mine : is_own_body k.frame.body ≡ true = ap (λ (z : Frame). is_own_body z.body) (sym same) ∙ a.0.0 in
@@ -145,14 +149,16 @@ abbrev pub LeavesAs : Script → ThreadNo → List Event → Type 0
 LeavesAs s t past = (facts s t past).leaving ≡ base_leaving (thread_frames s (cpu_of s t) t past)
 
 -- what a known event leaves of the facts and the frames of the running thread
-made_leaves : (s : Script) (p : CpuNo) (o : Own) (l : Lanes) (t : ThreadNo) (m n : ℕ) (due : Option ℕ) (w : What) (fs : List Frame) (x : ThreadFacts) → Known s p o l w → AllOwn o.frames.own → Named m o.frames.own fs → thread_part o.frames ≡ fs → HasBase t fs → x.leaving ≡ base_leaving fs → (made_facts s n (standing_in p o) w x).leaving ≡ base_leaving (thread_after s n due w fs)
+made_leaves : (s : Script) (p : CpuNo) (o : Own) (l : Lanes) (t : ThreadNo) (m n : ℕ) (due : Option ℕ) (w : What) (fs : List Frame) (x : ThreadFacts) →
+    Known s p o l w → AllOwn o.frames.own → Named m o.frames.own fs → thread_part o.frames ≡ fs → HasBase t fs → x.leaving ≡ base_leaving fs →
+    (made_facts s n (stand_in p o) w x).leaving ≡ base_leaving (thread_after s n due w fs)
 made_leaves s p o l t m n due (Begin (Apc a) from) fs x k own d e b h =
-    facts_made_so s n (standing_in p o) (Begin (Apc a) from) x refl ∙ (h ∙ sym (pushed_leaving t (new_frame n (OnApc a (kind_of s a))) fs b))
+    facts_made_so s n (stand_in p o) (Begin (Apc a) from) x refl ∙ (h ∙ sym (pushed_leaving t (new_frame n (OnApc a (kind_of s a))) fs b))
 made_leaves s p o l t m n due (Flush a from) fs x k own d e b h = h ∙ sym (flushed_leaving t n a (rundown_of s a) fs b)
 made_leaves s p o l t m n due (Call f c y) fs x k own d e b h =
-    facts_made_so s n (standing_in p o) (Call f c y) x refl ∙ (h ∙ sym (named_leaving f (called due c y) fs (called_keeps due c y)))
+    facts_made_so s n (stand_in p o) (Call f c y) x refl ∙ (h ∙ sym (named_leaving f (called due c y) fs (called_keeps due c y)))
 made_leaves s p o l t m n due (Rewait f y) fs x k own d e b h =
-    facts_made_so s n (standing_in p o) (Rewait f y) x refl ∙ (h ∙ sym (named_leaving f (rewaited y) fs (rewaited_keeps y)))
+    facts_made_so s n (stand_in p o) (Rewait f y) x refl ∙ (h ∙ sym (named_leaving f (rewaited y) fs (rewaited_keeps y)))
 made_leaves s p o l t m n due (Normal f) fs x k own d e b h = h ∙ sym (named_leaving f normal_of fs normal_keeps)
 made_leaves s p o l t m n due (End f) fs x k own d e b h = known_end s p o t m f fs x k own d e b h
 made_leaves s p o l t m n due (Gone u) fs x k own d e b h = refl
@@ -163,7 +169,8 @@ made_leaves s p o l t m n due (Begin (Dpc c) from) fs x k own d e b h = h
 made_leaves s p o l t m n due (Begin (Threaded c) from) fs x k own d e b h = h
 made_leaves s p o l t m n due w fs x k own d e b h = h
 
-leaves_named : (s : Script) (limit : ℕ) (t : ThreadNo) (e : Event) (past : List Event) → is_by e t ≡ true → IsLegal s limit e past → IsRun s limit past → LeavesAs s t past → LeavesAs s t (e ∷ past)
+leaves_named : (s : Script) (limit : ℕ) (t : ThreadNo) (e : Event) (past : List Event) → is_by e t ≡ true → IsLegal s limit e past → IsRun s limit past →
+    LeavesAs s t past → LeavesAs s t (e ∷ past)
 leaves_named s limit t e past b g r ih = after ∙ (facts_named s t (length past) e.what made ∙ (made_so e.what refl ∙ ap base_leaving (sym frames)))
   where
     own : is_of e (cpu_of s t) ≡ true
@@ -178,31 +185,43 @@ leaves_named s limit t e past b g r ih = after ∙ (facts_named s t (length past
     made : ThreadFacts
     made = made_facts s (length past) (stand_at s (cpu_of s t) past) e.what (facts s t past)
 
-    after : (facts s t (e ∷ past)).leaving ≡ (named_facts s t (length past) e.what (made_facts s (length past) (stand_at s (cpu_of s t) past) e.what (facts s t past))).leaving
+    after : (facts s t (e ∷ past)).leaving ≡ (named_facts s t (length past) e.what
+        (made_facts s (length past) (stand_at s (cpu_of s t) past) e.what (facts s t past))).leaving
     after =
-        ap (λ (x : ThreadFacts). x.leaving) (facts_made s t e past true of ∙ ap (λ (q : CpuNo). named_facts s t (length past) e.what (made_facts s (length past) (stand_at s q past) e.what (facts s t past))) here)
+        ap (λ (x : ThreadFacts). x.leaving) (facts_made s t e past true of
+        ∙ ap (λ (q : CpuNo). named_facts s t (length past) e.what (made_facts s (length past) (stand_at s q past) e.what (facts s t past))) here)
 
     frames : thread_frames s (cpu_of s t) t (e ∷ past) ≡ thread_after s (length past) (due_of e.what (time past)) e.what (thread_frames s (cpu_of s t) t past)
     frames = frames_when s (cpu_of s t) t e past true own b
 
-    next_so : is_next e.what ≡ true → (made_facts s (length past) (stand_at s (cpu_of s t) past) e.what (facts s t past)).leaving ≡ base_leaving (thread_after s (length past) (due_of e.what (time past)) e.what (thread_frames s (cpu_of s t) t past))
+    next_so : is_next e.what ≡ true → (made_facts s (length past) (stand_at s (cpu_of s t) past) e.what (facts s t past)).leaving
+        ≡ base_leaving (thread_after s (length past) (due_of e.what (time past)) e.what (thread_frames s (cpu_of s t) t past))
     next_so n =
         let run : running (cpu_of s t) past ≡ Some t = ran s limit (cpu_of s t) t e past own b g n in
         let h = running_here s limit (cpu_of s t) t past r run in
-        let k : Known s (cpu_of s t) (own_of s (cpu_of s t) past) (lanes_at s past) e.what = subst (λ (q : CpuNo). Known s q (own_of s q past) (lanes_at s past) e.what) here (legal_known s limit e past g n) in
-        made_leaves s (cpu_of s t) (own_of s (cpu_of s t) past) (lanes_at s past) t (length past) (length past) (due_of e.what (time past)) e.what (thread_frames s (cpu_of s t) t past) (facts s t past) k (all_own (cpu_of s t) past) (all_named s (cpu_of s t) t past) (part_of_running s (cpu_of s t) t past h.0 run) ((based s limit (cpu_of s t) t past r).running run) ih
+        let k : Known s (cpu_of s t) (own_of s (cpu_of s t) past) (lanes_at s past) e.what = subst
+        (λ (q : CpuNo). Known s q (own_of s q past) (lanes_at s past) e.what) here (legal_known s limit e past g n) in
+        made_leaves s (cpu_of s t) (own_of s (cpu_of s t) past) (lanes_at s past) t (length past) (length past) (due_of e.what (time past)) e.what
+        (thread_frames s (cpu_of s t) t past) (facts s t past) k (all_own (cpu_of s t) past) (all_named s (cpu_of s t) t past)
+        (part_of_running s (cpu_of s t) t past h.0 run) ((based s limit (cpu_of s t) t past r).running run) ih
 
-    made_so : (w : What) → e.what ≡ w → (made_facts s (length past) (stand_at s (cpu_of s t) past) e.what (facts s t past)).leaving ≡ base_leaving (thread_after s (length past) (due_of e.what (time past)) e.what (thread_frames s (cpu_of s t) t past))
+    made_so : (w : What) → e.what ≡ w → (made_facts s (length past) (stand_at s (cpu_of s t) past) e.what (facts s t past)).leaving
+        ≡ base_leaving (thread_after s (length past) (due_of e.what (time past)) e.what (thread_frames s (cpu_of s t) t past))
     made_so (Switch u st) k =
-        let here_so : (made_facts s (length past) (stand_at s (cpu_of s t) past) (Switch u st) (facts s t past)).leaving ≡ base_leaving (thread_after s (length past) (due_of e.what (time past)) (Switch u st) (thread_frames s (cpu_of s t) t past)) = ih ∙ sym (switched_leaving (length past) u st (thread_frames s (cpu_of s t) t past)) in
-        subst (λ (w : What). (made_facts s (length past) (stand_at s (cpu_of s t) past) w (facts s t past)).leaving ≡ base_leaving (thread_after s (length past) (due_of e.what (time past)) w (thread_frames s (cpu_of s t) t past))) (sym k) here_so
+        let here_so : (made_facts s (length past) (stand_at s (cpu_of s t) past) (Switch u st) (facts s t past)).leaving
+        ≡ base_leaving (thread_after s (length past) (due_of e.what (time past)) (Switch u st) (thread_frames s (cpu_of s t) t past)) = ih
+        ∙ sym (switched_leaving (length past) u st (thread_frames s (cpu_of s t) t past)) in
+        subst (λ (w : What). (made_facts s (length past) (stand_at s (cpu_of s t) past) w (facts s t past)).leaving
+        ≡ base_leaving (thread_after s (length past) (due_of e.what (time past)) w (thread_frames s (cpu_of s t) t past))) (sym k) here_so
     made_so (Look rises) k =
-        subst (λ (w : What). (made_facts s (length past) (stand_at s (cpu_of s t) past) w (facts s t past)).leaving ≡ base_leaving (thread_after s (length past) (due_of e.what (time past)) w (thread_frames s (cpu_of s t) t past))) (sym k) ih
+        subst (λ (w : What). (made_facts s (length past) (stand_at s (cpu_of s t) past) w (facts s t past)).leaving
+        ≡ base_leaving (thread_after s (length past) (due_of e.what (time past)) w (thread_frames s (cpu_of s t) t past))) (sym k) ih
     made_so w k = next_so (ap is_next k)
 
 leaves_unnamed : (s : Script) (t : ThreadNo) (e : Event) (past : List Event) → is_by e t ≡ false → LeavesAs s t past → LeavesAs s t (e ∷ past)
 leaves_unnamed s t e past b ih =
-    ap (λ (x : ThreadFacts). x.leaving) (facts_made s t e past false not_of) ∙ (facts_named s t (length past) e.what (facts s t past) ∙ (ih ∙ ap base_leaving (sym (frames (is_of e (cpu_of s t)) refl))))
+    ap (λ (x : ThreadFacts). x.leaving) (facts_made s t e past false not_of)
+    ∙ (facts_named s t (length past) e.what (facts s t past) ∙ (ih ∙ ap base_leaving (sym (frames (is_of e (cpu_of s t)) refl))))
   where
     not_of : is_of_thread s t e ≡ false
     not_of = go (is_of e (cpu_of s t)) b
@@ -215,7 +234,8 @@ leaves_unnamed s t e past b ih =
     frames true h = frames_when s (cpu_of s t) t e past false h b
     frames false h = rw h
 
-leaves_after : (s : Script) (limit : ℕ) (t : ThreadNo) (e : Event) (past : List Event) (b : Bool) → is_by e t ≡ b → IsLegal s limit e past → IsRun s limit past → LeavesAs s t past → LeavesAs s t (e ∷ past)
+leaves_after : (s : Script) (limit : ℕ) (t : ThreadNo) (e : Event) (past : List Event) (b : Bool) → is_by e t ≡ b → IsLegal s limit e past →
+    IsRun s limit past → LeavesAs s t past → LeavesAs s t (e ∷ past)
 leaves_after s limit t e past true b g r ih = leaves_named s limit t e past b g r ih
 leaves_after s limit t e past false b g r ih = leaves_unnamed s t e past b ih
 

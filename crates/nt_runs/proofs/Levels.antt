@@ -29,7 +29,8 @@ head_level : List Frame → Option ℕ
 head_level [] = None
 head_level (f ∷ fs) = Some f.level
 
-level_as : (own part : List Frame) → option_map_or (λ f. f.level) (option_or (head_of own) (head_of part)) 0 ≡ unwrap_or (option_or (head_level own) (head_level part)) 0
+level_as : (own part : List Frame) → option_map_or (λ f. f.level) (option_or (head_of own) (head_of part)) 0
+    ≡ unwrap_or (option_or (head_level own) (head_level part)) 0
 unfolding head_level
 level_as [] [] = refl
 level_as [] (g ∷ gs) = refl
@@ -41,7 +42,8 @@ called_level : (due : Option ℕ) (c : Command) (y : Reply) (f : Frame) → (cal
 called_level due (Delay m a units) y f = refl
 called_level due c y f = refl
 
-call_level : (n : ℕ) (due : Option ℕ) (c : Command) (y : Reply) (fs : List Frame) → head_level (at_name n (called due c y) fs) ≡ head_level (at_name n (called None c y) fs)
+call_level : (n : ℕ) (due : Option ℕ) (c : Command) (y : Reply) (fs : List Frame) → head_level (at_name n (called due c y) fs)
+    ≡ head_level (at_name n (called None c y) fs)
 unfolding head_level
 call_level n due c y [] = refl
 call_level n due c y (f ∷ fs) = go (f.name == n)
@@ -55,7 +57,8 @@ unfolding head_level
 flush_level n a None fs = refl
 flush_level n a (Some r) fs = refl
 
-thread_level : (b : Bool) (s : Script) (n : ℕ) (due : Option ℕ) (w : What) (fs : List Frame) → head_level (thread_if b s n due w fs) ≡ head_level (thread_if b s 0 None w fs)
+thread_level : (b : Bool) (s : Script) (n : ℕ) (due : Option ℕ) (w : What) (fs : List Frame) → head_level (thread_if b s n due w fs)
+    ≡ head_level (thread_if b s 0 None w fs)
 unfolding head_level
 thread_level false s n due w fs = refl
 thread_level true s n due (Switch t st) [] = refl
@@ -74,31 +77,40 @@ own_level n due (Begin (Apc a) from) fs = refl
 own_level n due (Call f c y) fs = call_level f due c y fs
 own_level n due w fs = refl
 
-table_level : (k n i : ℕ) (f g : ℕ → List Frame) → ((j : ℕ) → head_level (f j) ≡ head_level (g j)) → head_level (get_or (table_from k n f) i []) ≡ head_level (get_or (table_from k n g) i [])
+table_level : (k n i : ℕ) (f g : ℕ → List Frame) → ((j : ℕ) → head_level (f j) ≡ head_level (g j)) → head_level (get_or (table_from k n f) i [])
+    ≡ head_level (get_or (table_from k n g) i [])
 unfolding table_from
 table_level k zero i f g h = refl
 table_level k (suc n) zero f g h = h k
 table_level k (suc n) (suc i) f g h = table_level (suc k) n i f g h
 
-part_level : (n : ℕ) (f g : ℕ → List Frame) (r : Option ThreadNo) → ((j : ℕ) → head_level (f j) ≡ head_level (g j)) → head_level (option_map_or (frames_in (table n f)) r []) ≡ head_level (option_map_or (frames_in (table n g)) r [])
+part_level : (n : ℕ) (f g : ℕ → List Frame) (r : Option ThreadNo) → ((j : ℕ) → head_level (f j) ≡ head_level (g j)) →
+    head_level (option_map_or (frames_in (table n f)) r []) ≡ head_level (option_map_or (frames_in (table n g)) r [])
 part_level n f g None h = refl
 part_level n f g (Some t) h = table_level 0 n t.0 f g h
 
 pub level_free : (s : Script) (n : ℕ) (due : Option ℕ) (e : Event) (x : Frames) → level_in (frames_after s n due e x) ≡ level_in (frames_after s 0 None e x)
 level_free s n due e x =
     let o = own_level n due e.what x.own in
-    let t = part_level (length s.threads) (λ t. thread_if (is_by e (thread t)) s n due e.what (frames_in x.threads (thread t))) (λ t. thread_if (is_by e (thread t)) s 0 None e.what (frames_in x.threads (thread t))) (running_after e.what x.running) (λ t. thread_level (is_by e (thread t)) s n due e.what (frames_in x.threads (thread t))) in
-    level_as (frames_after s n due e x).own (thread_part (frames_after s n due e x)) ∙ (ap (λ (a : Option ℕ). unwrap_or (option_or a (head_level (thread_part (frames_after s n due e x)))) 0) o ∙ (ap (λ (b : Option ℕ). unwrap_or (option_or (head_level (own_after 0 None e.what x.own)) b) 0) t ∙ sym (level_as (frames_after s 0 None e x).own (thread_part (frames_after s 0 None e x)))))
+    let t = part_level (length s.threads) (λ t. thread_if (is_by e (thread t)) s n due e.what (frames_in x.threads (thread t)))
+    (λ t. thread_if (is_by e (thread t)) s 0 None e.what (frames_in x.threads (thread t))) (running_after e.what x.running)
+    (λ t. thread_level (is_by e (thread t)) s n due e.what (frames_in x.threads (thread t))) in
+    level_as (frames_after s n due e x).own (thread_part (frames_after s n due e x))
+    ∙ (ap (λ (a : Option ℕ). unwrap_or (option_or a (head_level (thread_part (frames_after s n due e x)))) 0) o
+    ∙ (ap (λ (b : Option ℕ). unwrap_or (option_or (head_level (own_after 0 None e.what x.own)) b) 0) t
+    ∙ sym (level_as (frames_after s 0 None e x).own (thread_part (frames_after s 0 None e x)))))
 
 is_of-own : (e : Event) → is_of e e.cpu ≡ true
 is_of-own e = eq-eqb e.cpu.0 e.cpu.0 refl
 
 -- the level named in an event that is made of its what
-level_named : (s : Script) (p : CpuNo) (w : What) (x : Frames) → is_look w ≡ false → level_field w (frames_after s 0 None (unleveled p w x) x) ≡ level_in (frames_after s 0 None (event_at s p w x) x)
+level_named : (s : Script) (p : CpuNo) (w : What) (x : Frames) → is_look w ≡ false → level_field w (frames_after s 0 None (unleveled p w x) x)
+    ≡ level_in (frames_after s 0 None (event_at s p w x) x)
 level_named s p (Look r) x h = cc
 level_named s p w x h = refl
 
-pub levels_hold : (s : Script) (limit : ℕ) (e : Event) (past : List Event) → IsLegal s limit e past → is_look e.what ≡ false → level_in (frames_of s e.cpu (e ∷ past)) ≡ e.level
+pub levels_hold : (s : Script) (limit : ℕ) (e : Event) (past : List Event) → IsLegal s limit e past → is_look e.what ≡ false →
+    level_in (frames_of s e.cpu (e ∷ past)) ≡ e.level
 levels_hold s limit e past r h =
     let x : Frames = frames_of s e.cpu past in
     let g : event_at s e.cpu e.what x ≡ e = step_gives s limit e past r in

@@ -22,3 +22,4 @@ pub mod First
 pub mod ThreadFrames
 pub mod Rundown
 pub mod Locality
+pub mod Declared

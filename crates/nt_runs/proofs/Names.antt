@@ -16,7 +16,7 @@ use Rattle.nt_event.specs.declared.numbers.CpuNo.{CpuNo}
 use Rattle.nt_event.specs.declared.numbers.RoutineNo.{RoutineNo}
 use Rattle.nt_event.specs.declared.numbers.ThreadNo.{ThreadNo}
 use Rattle.nt_event.specs.declared.scripts.Script.{Script}
-use Rattle.nt_event.specs.Frames.{at_name, called, done_to, due_of, end_on_thread, flushed, is_base_body, left, new_frame, normal_of, own_after, own_frames, resumed, rewaited, thread_after, thread_frames, time, without}
+use Rattle.nt_event.specs.Frames.{at_name, called, done_to, due_of, end_on_thread, flushed, is_base_body, ended_base, new_frame, normal_of, own_after, own_frames, resumed, rewaited, thread_after, thread_frames, time, without}
 use Rattle.nt_event.specs.Routines.{kind_of, rundown_of}
 use Rattle.nt_event.specs.Numbers.{is_by, is_of}
 use Rattle.nt_runs.proofs.Running.{frames_when}
@@ -95,8 +95,8 @@ within_end : (n : ℕ) (fs : List Frame) → Within (end_on_thread n fs) fs
 within_end n [] = within_same []
 within_end n (f ∷ fs) = go (f.name == n) (is_base_body f.body)
   where
-    go : (b c : Bool) → Within (if b then (if c then (left f ∷ fs) else fs) else (f ∷ fs)) (f ∷ fs)
-    go true true = within_head left f fs refl
+    go : (b c : Bool) → Within (if b then (if c then (ended_base f ∷ fs) else fs) else (f ∷ fs)) (f ∷ fs)
+    go true true = within_head ended_base f fs refl
     go true false = within_tail f fs
     go false c = within_same (f ∷ fs)
 
@@ -141,8 +141,10 @@ named_own n due (Begin (Dpc d) from) gs fs h =
 named_own n due (Begin (Threaded d) from) gs fs h =
     ((omega arith, below_more n (suc n) gs (omega arith) h.own), (new_among n fs h.thread, h.apart))
 named_own n due (Begin (Apc a) from) gs fs h = (below_more n (suc n) gs (omega arith) h.own, h.apart)
-named_own n due (Call f c y) gs fs h =
-    (below_more n (suc n) (at_name f (called due c y) gs) (omega arith) ((within_named f (called due c y) gs (called_name due c y)).0 n h.own), apart_named f (called due c y) gs fs (called_name due c y) h.apart)
+named_own n due (Call f c y) gs fs h = (
+  below_more n (suc n) (at_name f (called due c y) gs) (omega arith) ((within_named f (called due c y) gs (called_name due c y)).0 n h.own),
+  apart_named f (called due c y) gs fs (called_name due c y) h.apart,
+)
 named_own n due (End f) gs fs h =
     (below_more n (suc n) (without f gs) (omega arith) ((within_without f gs).0 n h.own), apart_without f gs fs h.apart)
 named_own n due w gs fs h = (below_more n (suc n) gs (omega arith) h.own, h.apart)
@@ -152,7 +154,8 @@ moved_thread : (n : ℕ) (gs hs fs : List Frame) → Within hs fs → Named n gs
 moved_thread n gs hs fs w h = (below_more n (suc n) hs (omega arith) (w.0 n h.thread), apart_within gs hs fs w h.apart)
 
 -- and of the thread's part, where the own part is as before
-named_thread : (s : Script) (n : ℕ) (due : Option ℕ) (w : What) (gs fs : List Frame) → Named n gs fs → AllBelow (suc n) (thread_after s n due w fs) × Apart gs (thread_after s n due w fs)
+named_thread : (s : Script) (n : ℕ) (due : Option ℕ) (w : What) (gs fs : List Frame) → Named n gs fs → AllBelow (suc n) (thread_after s n due w fs) ×
+    Apart gs (thread_after s n due w fs)
 named_thread s n due (Switch t st) gs [] h = ((omega arith, tt), apart_new gs (new_frame n (OnBase t)) [] h.own h.apart)
 named_thread s n due (Switch t st) gs (f ∷ fs) h =
     moved_thread n gs (resumed st f ∷ fs) (f ∷ fs) (within_head (resumed st) f fs (resumed_name st f)) h
@@ -203,35 +206,52 @@ own_within n due (Call f c y) gs h = within_named f (called due c y) gs (called_
 own_within n due (End f) gs h = within_without f gs
 own_within n due w gs h = within_same gs
 
-named_both : (s : Script) (n : ℕ) (due : Option ℕ) (w : What) (gs fs : List Frame) → Named n gs fs → Named (suc n) (own_after n due w gs) (thread_after s n due w fs)
+named_both : (s : Script) (n : ℕ) (due : Option ℕ) (w : What) (gs fs : List Frame) → Named n gs fs →
+    Named (suc n) (own_after n due w gs) (thread_after s n due w fs)
 named_both s n due w gs fs h = go (begins_own w) refl
   where
     go : (b : Bool) → begins_own w ≡ b → Named (suc n) (own_after n due w gs) (thread_after s n due w fs)
     go true e =
         let o = named_own n due w gs fs h in
         let same : thread_after s n due w fs ≡ fs = own_alone s n due w fs e in
-        record { own = o.0; thread = subst (AllBelow (suc n)) (sym same) (below_more n (suc n) fs (omega arith) h.thread); apart = subst (Apart (own_after n due w gs)) (sym same) o.1 }
+        record {
+          own = o.0;
+          thread = subst (AllBelow (suc n)) (sym same) (below_more n (suc n) fs (omega arith) h.thread);
+          apart = subst (Apart (own_after n due w gs)) (sym same) o.1;
+        }
     go false e =
         let o = named_own n due w gs fs h in
         let k : Named n (own_after n due w gs) fs = record { own = (own_within n due w gs e).0 n h.own; thread = h.thread; apart = o.1 } in
         let t = named_thread s n due w (own_after n due w gs) fs k in
         record { own = o.0; thread = t.0; apart = t.1 }
 
-named_step : (s : Script) (p : CpuNo) (t : ThreadNo) (e : Event) (past : List Event) (own by : Bool) → is_of e p ≡ own → is_by e t ≡ by → Named (length past) (own_frames p past) (thread_frames s p t past) → Named (suc (length past)) (own_frames p (e ∷ past)) (thread_frames s p t (e ∷ past))
+named_step : (s : Script) (p : CpuNo) (t : ThreadNo) (e : Event) (past : List Event) (own by : Bool) → is_of e p ≡ own → is_by e t ≡ by →
+    Named (length past) (own_frames p past) (thread_frames s p t past) → Named (suc (length past)) (own_frames p (e ∷ past)) (thread_frames s p t (e ∷ past))
 named_step s p t e past false by o b h =
     let x : own_frames p (e ∷ past) ≡ own_frames p past = rw o in
     let y : thread_frames s p t (e ∷ past) ≡ thread_frames s p t past = rw o in
-    record { own = subst (AllBelow (suc (length past))) (sym x) (below_more (length past) (suc (length past)) (own_frames p past) (omega arith) h.own); thread = subst (AllBelow (suc (length past))) (sym y) (below_more (length past) (suc (length past)) (thread_frames s p t past) (omega arith) h.thread); apart = subst (λ (gs : List Frame). Apart gs (thread_frames s p t (e ∷ past))) (sym x) (subst (Apart (own_frames p past)) (sym y) h.apart) }
+    record {
+      own = subst (AllBelow (suc (length past))) (sym x) (below_more (length past) (suc (length past)) (own_frames p past) (omega arith) h.own);
+      thread = subst (AllBelow (suc (length past))) (sym y) (below_more (length past) (suc (length past)) (thread_frames s p t past) (omega arith) h.thread);
+      apart = subst (λ (gs : List Frame). Apart gs (thread_frames s p t (e ∷ past))) (sym x) (subst (Apart (own_frames p past)) (sym y) h.apart);
+    }
 named_step s p t e past true false o b h =
     let x : own_frames p (e ∷ past) ≡ own_after (length past) (due_of e.what (time past)) e.what (own_frames p past) = rw o in
     let y : thread_frames s p t (e ∷ past) ≡ thread_frames s p t past = frames_when s p t e past false o b in
     let k = named_own (length past) (due_of e.what (time past)) e.what (own_frames p past) (thread_frames s p t past) h in
-    record { own = subst (AllBelow (suc (length past))) (sym x) k.0; thread = subst (AllBelow (suc (length past))) (sym y) (below_more (length past) (suc (length past)) (thread_frames s p t past) (omega arith) h.thread); apart = subst (λ (gs : List Frame). Apart gs (thread_frames s p t (e ∷ past))) (sym x) (subst (Apart (own_after (length past) (due_of e.what (time past)) e.what (own_frames p past))) (sym y) k.1) }
+    record {
+      own = subst (AllBelow (suc (length past))) (sym x) k.0;
+      thread = subst (AllBelow (suc (length past))) (sym y) (below_more (length past) (suc (length past)) (thread_frames s p t past) (omega arith) h.thread);
+      apart = subst (λ (gs : List Frame). Apart gs (thread_frames s p t (e ∷ past))) (sym x)
+          (subst (Apart (own_after (length past) (due_of e.what (time past)) e.what (own_frames p past))) (sym y) k.1);
+    }
 named_step s p t e past true true o b h =
     let x : own_frames p (e ∷ past) ≡ own_after (length past) (due_of e.what (time past)) e.what (own_frames p past) = rw o in
-    let y : thread_frames s p t (e ∷ past) ≡ thread_after s (length past) (due_of e.what (time past)) e.what (thread_frames s p t past) = frames_when s p t e past true o b in
+    let y : thread_frames s p t (e ∷ past) ≡ thread_after s (length past) (due_of e.what (time past)) e.what
+    (thread_frames s p t past) = frames_when s p t e past true o b in
     let k = named_both s (length past) (due_of e.what (time past)) e.what (own_frames p past) (thread_frames s p t past) h in
-    subst (λ (gs : List Frame). Named (suc (length past)) gs (thread_frames s p t (e ∷ past))) (sym x) (subst (Named (suc (length past)) (own_after (length past) (due_of e.what (time past)) e.what (own_frames p past))) (sym y) k)
+    subst (λ (gs : List Frame). Named (suc (length past)) gs (thread_frames s p t (e ∷ past))) (sym x)
+    (subst (Named (suc (length past)) (own_after (length past) (due_of e.what (time past)) e.what (own_frames p past))) (sym y) k)
 
 -- the names of a processor's open frames are below the number of the next event, and those of its own part aren't a thread's
 pub all_named : (s : Script) (p : CpuNo) (t : ThreadNo) (past : List Event) → Named (length past) (own_frames p past) (thread_frames s p t past)

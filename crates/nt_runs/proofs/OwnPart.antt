@@ -61,4 +61,5 @@ own_if false fs gs h k = k
 pub all_own : (p : CpuNo) (past : List Event) → AllOwn (own_frames p past)
 all_own p [] = tt
 all_own p (e ∷ past) =
-    own_if (is_of e p) (own_after (length past) (due_of e.what (time past)) e.what (own_frames p past)) (own_frames p past) (after_own (length past) (due_of e.what (time past)) e.what (own_frames p past) (all_own p past)) (all_own p past)
+    own_if (is_of e p) (own_after (length past) (due_of e.what (time past)) e.what (own_frames p past)) (own_frames p past)
+    (after_own (length past) (due_of e.what (time past)) e.what (own_frames p past) (all_own p past)) (all_own p past)

@@ -58,11 +58,13 @@ find_append : {A : Type 0} (test : A → Bool) (xs ys : List A) → find test (x
 find_append test [] ys = refl
 find_append test (x ∷ xs) ys = go (test x) (find_append test xs ys)
   where
-    go : (b : Bool) → find test (xs ++ ys) ≡ option_or (find test xs) (find test ys) → cond b (Some x) (find test (xs ++ ys)) ≡ option_or (cond b (Some x) (find test xs)) (find test ys)
+    go : (b : Bool) → find test (xs ++ ys) ≡ option_or (find test xs) (find test ys) → cond b (Some x) (find test (xs ++ ys))
+        ≡ option_or (cond b (Some x) (find test xs)) (find test ys)
     go true h = refl
     go false h = h
 
-pub find_reverse : {A : Type 0} (test : A → Bool) (x : A) (xs : List A) → find test (reverse (x ∷ xs)) ≡ option_or (find test (reverse xs)) (cond (test x) (Some x) None)
+pub find_reverse : {A : Type 0} (test : A → Bool) (x : A) (xs : List A) → find test (reverse (x ∷ xs))
+    ≡ option_or (find test (reverse xs)) (cond (test x) (Some x) None)
 find_reverse test x xs =
     ap (find test) (reverse-append (x ∷ []) xs) ∙ find_append test (reverse xs) (x ∷ [])
 
@@ -164,11 +166,16 @@ set_apcs UserMode b x = refl
 
 pub tested_apcs : (m : Mode) (x : ThreadFacts) → (alert_tested m x).apcs ≡ x.apcs
 tested_apcs m x =
-    if_apcs (is_alerted m x) (set_alerted m false x) (if is_user m && has_user x.apcs then record x { marked = true } else x) x.apcs (set_apcs m false x) (if_apcs (is_user m && has_user x.apcs) (record x { marked = true }) x x.apcs refl refl)
+    if_apcs (is_alerted m x) (set_alerted m false x) (if is_user m && has_user x.apcs then record x { user_pending = true } else x) x.apcs (set_apcs m false x)
+    (if_apcs (is_user m && has_user x.apcs) (record x { user_pending = true }) x x.apcs refl refl)
 
 answered_apcs : (st : ℕ) (m : Mode) (a delay : Bool) (x : ThreadFacts) → (answered st m a delay x).apcs ≡ x.apcs
 answered_apcs st m a delay x =
-    if_apcs (st == satisfied) (if delay then x else record x { released = false }) (if st == alerted then alert_taken m x else (if (st == user_apc) && a then record x { marked = true } else x)) x.apcs (if_apcs delay x (record x { released = false }) x.apcs refl refl) (if_apcs (st == alerted) (alert_taken m x) (if (st == user_apc) && a then record x { marked = true } else x) x.apcs (set_apcs (if is_alerted m x then m else KernelMode) false x) (if_apcs ((st == user_apc) && a) (record x { marked = true }) x x.apcs refl refl))
+    if_apcs (st == satisfied) (if delay then x else record x { released = false })
+    (if st == alerted then alert_taken m x else (if (st == user_apc) && a then record x { user_pending = true } else x)) x.apcs
+    (if_apcs delay x (record x { released = false }) x.apcs refl refl)
+    (if_apcs (st == alerted) (alert_taken m x) (if (st == user_apc) && a then record x { user_pending = true } else x) x.apcs
+    (set_apcs (if is_alerted m x then m else KernelMode) false x) (if_apcs ((st == user_apc) && a) (record x { user_pending = true }) x x.apcs refl refl))
 
 pub waited_apcs : (n : ℕ) (r : Regions) (level : ℕ) (m : Mode) (a delay : Bool) (y : Reply) (x : ThreadFacts) → (waited n r level m a delay y x).apcs ≡ x.apcs
 waited_apcs n r level m a delay (Status st) x = answered_apcs st m a delay x
@@ -191,7 +198,8 @@ ended_shrinks b x = shrinks_same x.apcs
 
 -- an event that the thread makes
 pub made_shrinks : (s : Script) (n : ℕ) (st : Stand) (w : What) (x : ThreadFacts) → Shrinks x.apcs (made_facts s n st w x).apcs
-made_shrinks s n st (Call f (StartWait m a) y) x = shrinks_as x.apcs (waited n st.regions st.level m a false y x) (waited_apcs n st.regions st.level m a false y x)
+made_shrinks s n st (Call f (StartWait m a) y) x = shrinks_as x.apcs (waited n st.regions st.level m a false y x)
+    (waited_apcs n st.regions st.level m a false y x)
 made_shrinks s n st (Call f (Delay m a u) y) x = shrinks_as x.apcs (waited n st.regions st.level m a true y x) (waited_apcs n st.regions st.level m a true y x)
 made_shrinks s n st (Call f (TestAlert m) y) x =
     shrinks_as x.apcs (if is_answer y then alert_tested m x else x) (if_apcs (is_answer y) (alert_tested m x) x x.apcs (tested_apcs m x) refl)
@@ -214,10 +222,12 @@ if_shrinks true x y h = h
 if_shrinks false x y h = shrinks_same x.apcs
 
 pub release_apcs : (x : ThreadFacts) → (release_facts x).apcs ≡ x.apcs
-release_apcs x = if_apcs (ends_by_release x) (ended satisfied x) (if is_gone x then x else record x { released = true }) x.apcs refl (if_apcs (is_gone x) x (record x { released = true }) x.apcs refl refl)
+release_apcs x = if_apcs (ends_by_release x) (ended satisfied x) (if is_gone x then x else record x { released = true }) x.apcs refl
+    (if_apcs (is_gone x) x (record x { released = true }) x.apcs refl refl)
 
 pub alert_apcs : (m : Mode) (x : ThreadFacts) → (alert_facts m x).apcs ≡ x.apcs
-alert_apcs m x = if_apcs (is_gone x) x (if ends_by_alert m x then ended alerted x else set_alerted m true x) x.apcs refl (if_apcs (ends_by_alert m x) (ended alerted x) (set_alerted m true x) x.apcs refl (set_apcs m true x))
+alert_apcs m x = if_apcs (is_gone x) x (if ends_by_alert m x then ended alerted x else set_alerted m true x) x.apcs refl
+    (if_apcs (ends_by_alert m x) (ended alerted x) (set_alerted m true x) x.apcs refl (set_apcs m true x))
 
 pub expiry_apcs : (from : ℕ) (x : ThreadFacts) → (expiry_facts from x).apcs ≡ x.apcs
 expiry_apcs from x = if_apcs (ends_by_expiry from x) (ended satisfied x) x x.apcs refl refl
@@ -228,13 +238,17 @@ no_insert false h x y = refl
 
 -- another event that names it
 pub named_shrinks : (s : Script) (t : ThreadNo) (n : ℕ) (w : What) (x : ThreadFacts) → inserts_for s t w ≡ false → Shrinks x.apcs (named_facts s t n w x).apcs
-named_shrinks s t n (Call f (Release u) y) x h = if_shrinks (is_answer y && (u.0 == t.0)) x (release_facts x) (shrinks_as x.apcs (release_facts x) (release_apcs x))
-named_shrinks s t n (Call f (Alert u m) y) x h = if_shrinks (is_answer y && (u.0 == t.0)) x (alert_facts m x) (shrinks_as x.apcs (alert_facts m x) (alert_apcs m x))
+named_shrinks s t n (Call f (Release u) y) x h = if_shrinks (is_answer y && (u.0 == t.0)) x (release_facts x)
+    (shrinks_as x.apcs (release_facts x) (release_apcs x))
+named_shrinks s t n (Call f (Alert u m) y) x h = if_shrinks (is_answer y && (u.0 == t.0)) x (alert_facts m x)
+    (shrinks_as x.apcs (alert_facts m x) (alert_apcs m x))
 named_shrinks s t n (Call f (InsertApc a) Yes) x h =
-    shrinks_as x.apcs (named_facts s t n (Call f (InsertApc a) Yes) x) (ap (λ (z : ThreadFacts). z.apcs) (no_insert ((owner_of s a).0 == t.0) h x (insert_facts (new_pick s a n) x)))
+    shrinks_as x.apcs (named_facts s t n (Call f (InsertApc a) Yes) x)
+    (ap (λ (z : ThreadFacts). z.apcs) (no_insert ((owner_of s a).0 == t.0) h x (insert_facts (new_pick s a n) x)))
 named_shrinks s t n (Call f (RemoveApc a) Yes) x h =
     if_shrinks ((owner_of s a).0 == t.0) x (record x { apcs = without_apc a x.apcs }) (shrinks_without a x.apcs)
-named_shrinks s t n (Expire (OfDelay u) from) x h = if_shrinks (u.0 == t.0) x (expiry_facts from x) (shrinks_as x.apcs (expiry_facts from x) (expiry_apcs from x))
+named_shrinks s t n (Expire (OfDelay u) from) x h = if_shrinks (u.0 == t.0) x (expiry_facts from x)
+    (shrinks_as x.apcs (expiry_facts from x) (expiry_apcs from x))
 named_shrinks s t n w x h = shrinks_same x.apcs
 
 shrinks_then : (a b c : ApcQueues) → Shrinks a b → Shrinks b c → Shrinks a c
@@ -245,7 +259,8 @@ pub yes_if_true : (b : Bool) → yes_if b ≡ Yes → b ≡ true
 yes_if_true true h = refl
 yes_if_true false h = cc
 
-pub closed_inserts : (s : Script) (limit : ℕ) (t : ThreadNo) (e : Event) (past : List Event) → IsLegal s limit e past → has_thread s t ≡ true → (facts s t past).apcs.closed ≡ true → inserts_for s t e.what ≡ false
+pub closed_inserts : (s : Script) (limit : ℕ) (t : ThreadNo) (e : Event) (past : List Event) → IsLegal s limit e past → has_thread s t ≡ true →
+    (facts s t past).apcs.closed ≡ true → inserts_for s t e.what ≡ false
 closed_inserts s limit t e past g has closed = go e.what refl
   where
     go : (w : What) → e.what ≡ w → inserts_for s t w ≡ false
@@ -254,12 +269,17 @@ closed_inserts s limit t e past g has closed = go e.what refl
         it : (b : Bool) → ((owner_of s a).0 == t.0) ≡ b → b ≡ false
         it false q = refl
         it true q =
-            let known : Known s e.cpu (own_of s e.cpu past) (lanes_at s past) (Call f (InsertApc a) Yes) = subst (Known s e.cpu (own_of s e.cpu past) (lanes_at s past)) k (legal_known s limit e past g (ap is_next k)) in
+            let known : Known s e.cpu (own_of s e.cpu past) (lanes_at s past) (Call f (InsertApc a) Yes) = subst
+            (Known s e.cpu (own_of s e.cpu past) (lanes_at s past)) k (legal_known s limit e past g (ap is_next k)) in
             let reply = (call_accepted s e.cpu (own_of s e.cpu past) (lanes_at s past) f (InsertApc a) Yes known refl).1 in
             let takes_it : takes a (facts_at (lanes_at s past) (owner_of s a)).apcs ≡ true = yes_if_true _ (sym reply) in
             let same : owner_of s a ≡ t = ap (λ (n : ℕ). record { 0 = n }) (eqb-true (owner_of s a).0 t.0 q) in
-            let at : facts_at (lanes_at s past) t ≡ facts s t past = get_or-table (length s.threads) t.0 (λ k. facts s (thread k) past) start_facts (ltb-true t.0 (length s.threads) has) in
-            let opened : not (facts s t past).apcs.closed ≡ true = (both (not (facts s t past).apcs.closed) _ (subst (λ (x : ThreadFacts). takes a x.apcs ≡ true) at (subst (λ (u : ThreadNo). takes a (facts_at (lanes_at s past) u).apcs ≡ true) same takes_it))).0 in
+            let at : facts_at (lanes_at s past) t ≡ facts s t past = get_or-table (length s.threads) t.0 (λ k. facts s (thread k) past) start_facts
+            (ltb-true t.0 (length s.threads) has) in
+            let opened : not (facts s t past).apcs.closed
+            ≡ true = (both (not (facts s t past).apcs.closed) _
+            (subst (λ (x : ThreadFacts). takes a x.apcs ≡ true) at
+            (subst (λ (u : ThreadNo). takes a (facts_at (lanes_at s past) u).apcs ≡ true) same takes_it))).0 in
             absurd (clash (facts s t past).apcs.closed closed opened)
           where
             clash : (b : Bool) → b ≡ true → not b ≡ true → ⊥
@@ -268,7 +288,8 @@ closed_inserts s limit t e past g has closed = go e.what refl
     go w k = refl
 
 -- what a legal event leaves of the pending APCs of a thread that takes no more
-pub legal_shrinks : (s : Script) (limit : ℕ) (t : ThreadNo) (e : Event) (past : List Event) → IsLegal s limit e past → has_thread s t ≡ true → (facts s t past).apcs.closed ≡ true → Shrinks (facts s t past).apcs (facts s t (e ∷ past)).apcs
+pub legal_shrinks : (s : Script) (limit : ℕ) (t : ThreadNo) (e : Event) (past : List Event) → IsLegal s limit e past → has_thread s t ≡ true →
+    (facts s t past).apcs.closed ≡ true → Shrinks (facts s t past).apcs (facts s t (e ∷ past)).apcs
 legal_shrinks s limit t e past g has closed = go (is_of_thread s t e) refl
   where
     none : inserts_for s t e.what ≡ false
@@ -277,9 +298,12 @@ legal_shrinks s limit t e past g has closed = go (is_of_thread s t e) refl
     go : (b : Bool) → is_of_thread s t e ≡ b → Shrinks (facts s t past).apcs (facts s t (e ∷ past)).apcs
     go true k =
         let made : ThreadFacts = made_facts s (length past) (stand_at s e.cpu past) e.what (facts s t past) in
-        subst (λ (x : ThreadFacts). Shrinks (facts s t past).apcs x.apcs) (sym (facts_made s t e past true k)) (shrinks_then (facts s t past).apcs made.apcs (named_facts s t (length past) e.what made).apcs (made_shrinks s (length past) (stand_at s e.cpu past) e.what (facts s t past)) (named_shrinks s t (length past) e.what made none))
+        subst (λ (x : ThreadFacts). Shrinks (facts s t past).apcs x.apcs) (sym (facts_made s t e past true k))
+        (shrinks_then (facts s t past).apcs made.apcs (named_facts s t (length past) e.what made).apcs
+        (made_shrinks s (length past) (stand_at s e.cpu past) e.what (facts s t past)) (named_shrinks s t (length past) e.what made none))
     go false k =
-        subst (λ (x : ThreadFacts). Shrinks (facts s t past).apcs x.apcs) (sym (facts_made s t e past false k)) (named_shrinks s t (length past) e.what (facts s t past) none)
+        subst (λ (x : ThreadFacts). Shrinks (facts s t past).apcs x.apcs) (sym (facts_made s t e past false k))
+        (named_shrinks s t (length past) e.what (facts s t past) none)
 
 -- ---- a thread that leaves takes no more APCs
 
@@ -287,7 +311,9 @@ legal_shrinks s limit t e past g has closed = go (is_of_thread s t e) refl
 with_closed : (pick : Pick) (x : ThreadFacts) → (insert_facts pick x).apcs.closed ≡ x.apcs.closed
 with_closed pick x = go (ends_by_apc pick x) (is_kernel_kind pick.kind)
   where
-    go : (b k : Bool) → (if b then (if k then ended kernel_apc (record x { apcs = with_apc pick x.apcs }) else record (ended user_apc (record x { apcs = with_apc pick x.apcs })) { marked = true }) else record x { apcs = with_apc pick x.apcs }).apcs.closed ≡ x.apcs.closed
+    go : (b k : Bool) → (if b then (if k then ended kernel_apc (record x { apcs = with_apc pick x.apcs })
+        else record (ended user_apc (record x { apcs = with_apc pick x.apcs })) { user_pending = true })
+        else record x { apcs = with_apc pick x.apcs }).apcs.closed ≡ x.apcs.closed
     go true true = refl
     go true false = refl
     go false k = refl
@@ -304,7 +330,8 @@ named_closed s t n w x h = go (inserts_for s t w) refl
     go true k = insert w k
 
 -- a thread's facts say that it is leaving only where they say that it takes no more APCs
-made_close : (s : Script) (n : ℕ) (st : Stand) (w : What) (x : ThreadFacts) → (x.leaving ≡ true → x.apcs.closed ≡ true) → (made_facts s n st w x).leaving ≡ true → (made_facts s n st w x).apcs.closed ≡ true
+made_close : (s : Script) (n : ℕ) (st : Stand) (w : What) (x : ThreadFacts) → (x.leaving ≡ true → x.apcs.closed ≡ true) → (made_facts s n st w x).leaving
+    ≡ true → (made_facts s n st w x).apcs.closed ≡ true
 made_close s n st (End f) x h k = go st.body k
   where
     go : (b : Option Body) → (frame_ended b x).leaving ≡ true → (frame_ended b x).apcs.closed ≡ true
@@ -319,15 +346,18 @@ pub leaving_closed : (s : Script) (t : ThreadNo) (past : List Event) → (facts 
 leaving_closed s t [] h = cc
 leaving_closed s t (e ∷ past) h = go (is_of_thread s t e) refl (leaving_closed s t past)
   where
-    go : (b : Bool) → is_of_thread s t e ≡ b → ((facts s t past).leaving ≡ true → (facts s t past).apcs.closed ≡ true) → (facts s t (e ∷ past)).apcs.closed ≡ true
+    go : (b : Bool) → is_of_thread s t e ≡ b → ((facts s t past).leaving ≡ true → (facts s t past).apcs.closed ≡ true) → (facts s t (e ∷ past)).apcs.closed
+        ≡ true
     go true k ih =
         let made : ThreadFacts = made_facts s (length past) (stand_at s e.cpu past) e.what (facts s t past) in
         let after : facts s t (e ∷ past) ≡ named_facts s t (length past) e.what made = facts_made s t e past true k in
         let leaves : made.leaving ≡ true = sym (facts_named s t (length past) e.what made) ∙ (ap (λ (x : ThreadFacts). x.leaving) (sym after) ∙ h) in
-        ap (λ (x : ThreadFacts). x.apcs.closed) after ∙ named_closed s t (length past) e.what made (made_close s (length past) (stand_at s e.cpu past) e.what (facts s t past) ih leaves)
+        ap (λ (x : ThreadFacts). x.apcs.closed) after ∙ named_closed s t (length past) e.what made
+        (made_close s (length past) (stand_at s e.cpu past) e.what (facts s t past) ih leaves)
     go false k ih =
         let after : facts s t (e ∷ past) ≡ named_facts s t (length past) e.what (facts s t past) = facts_made s t e past false k in
-        let leaves : (facts s t past).leaving ≡ true = sym (facts_named s t (length past) e.what (facts s t past)) ∙ (ap (λ (x : ThreadFacts). x.leaving) (sym after) ∙ h) in
+        let leaves : (facts s t past).leaving ≡ true = sym (facts_named s t (length past) e.what (facts s t past))
+        ∙ (ap (λ (x : ThreadFacts). x.leaving) (sym after) ∙ h) in
         ap (λ (x : ThreadFacts). x.apcs.closed) after ∙ named_closed s t (length past) e.what (facts s t past) (ih leaves)
 
 -- ---- kinds
@@ -359,8 +389,10 @@ ended_kinds s (Some (OnApc a UserApc)) x h = kinds_as s x.apcs (alert_tested Use
 ended_kinds s b x h = h
 
 made_kinds : (s : Script) (n : ℕ) (st : Stand) (w : What) (x : ThreadFacts) → KindsFit s x.apcs.pending → KindsFit s (made_facts s n st w x).apcs.pending
-made_kinds s n st (Call f (StartWait m a) y) x h = kinds_as s x.apcs (waited n st.regions st.level m a false y x) (waited_apcs n st.regions st.level m a false y x) h
-made_kinds s n st (Call f (Delay m a u) y) x h = kinds_as s x.apcs (waited n st.regions st.level m a true y x) (waited_apcs n st.regions st.level m a true y x) h
+made_kinds s n st (Call f (StartWait m a) y) x h = kinds_as s x.apcs (waited n st.regions st.level m a false y x)
+    (waited_apcs n st.regions st.level m a false y x) h
+made_kinds s n st (Call f (Delay m a u) y) x h = kinds_as s x.apcs (waited n st.regions st.level m a true y x)
+    (waited_apcs n st.regions st.level m a true y x) h
 made_kinds s n st (Call f (TestAlert m) y) x h =
     kinds_as s x.apcs (if is_answer y then alert_tested m x else x) (if_apcs (is_answer y) (alert_tested m x) x x.apcs (tested_apcs m x) refl) h
 made_kinds s n st (Call f Yield Done) x h = h
@@ -376,7 +408,9 @@ insert_kinds s a n x h = go (ends_by_apc (new_pick s a n) x) (is_kernel_kind (ki
     y : ThreadFacts
     y = record x { apcs = with_apc (new_pick s a n) x.apcs }
 
-    go : (b k : Bool) → KindsFit s (if b then (if k then ended kernel_apc (record x { apcs = with_apc (new_pick s a n) x.apcs }) else record (ended user_apc (record x { apcs = with_apc (new_pick s a n) x.apcs })) { marked = true }) else record x { apcs = with_apc (new_pick s a n) x.apcs }).apcs.pending
+    go : (b k : Bool) → KindsFit s (if b then (if k then ended kernel_apc (record x { apcs = with_apc (new_pick s a n) x.apcs })
+        else record (ended user_apc (record x { apcs = with_apc (new_pick s a n) x.apcs })) { user_pending = true })
+        else record x { apcs = with_apc (new_pick s a n) x.apcs }).apcs.pending
     go true true = (refl, h)
     go true false = (refl, h)
     go false k = (refl, h)
@@ -386,13 +420,16 @@ if_kinds s true x y h k = h
 if_kinds s false x y h k = k
 
 named_kinds : (s : Script) (t : ThreadNo) (n : ℕ) (w : What) (x : ThreadFacts) → KindsFit s x.apcs.pending → KindsFit s (named_facts s t n w x).apcs.pending
-named_kinds s t n (Call f (Release u) y) x h = if_kinds s (is_answer y && (u.0 == t.0)) (release_facts x) x (kinds_as s x.apcs (release_facts x) (release_apcs x) h) h
-named_kinds s t n (Call f (Alert u m) y) x h = if_kinds s (is_answer y && (u.0 == t.0)) (alert_facts m x) x (kinds_as s x.apcs (alert_facts m x) (alert_apcs m x) h) h
+named_kinds s t n (Call f (Release u) y) x h = if_kinds s (is_answer y && (u.0 == t.0)) (release_facts x) x
+    (kinds_as s x.apcs (release_facts x) (release_apcs x) h) h
+named_kinds s t n (Call f (Alert u m) y) x h = if_kinds s (is_answer y && (u.0 == t.0)) (alert_facts m x) x
+    (kinds_as s x.apcs (alert_facts m x) (alert_apcs m x) h) h
 named_kinds s t n (Call f (InsertApc a) Yes) x h =
     if_kinds s ((owner_of s a).0 == t.0) (insert_facts (new_pick s a n) x) x (insert_kinds s a n x h) h
 named_kinds s t n (Call f (RemoveApc a) Yes) x h =
     if_kinds s ((owner_of s a).0 == t.0) (record x { apcs = without_apc a x.apcs }) x (filter_kinds s (λ x. not (is_of_apc a x)) x.apcs.pending h) h
-named_kinds s t n (Expire (OfDelay u) from) x h = if_kinds s (u.0 == t.0) (expiry_facts from x) x (kinds_as s x.apcs (expiry_facts from x) (expiry_apcs from x) h) h
+named_kinds s t n (Expire (OfDelay u) from) x h = if_kinds s (u.0 == t.0) (expiry_facts from x) x
+    (kinds_as s x.apcs (expiry_facts from x) (expiry_apcs from x) h) h
 named_kinds s t n w x h = h
 
 pub kinds_fit : (s : Script) (t : ThreadNo) (past : List Event) → KindsFit s (facts s t past).apcs.pending
@@ -401,7 +438,9 @@ kinds_fit s t (e ∷ past) = go (is_of_thread s t e) refl (kinds_fit s t past)
   where
     go : (b : Bool) → is_of_thread s t e ≡ b → KindsFit s (facts s t past).apcs.pending → KindsFit s (facts s t (e ∷ past)).apcs.pending
     go true k ih =
-        subst (λ (x : ThreadFacts). KindsFit s x.apcs.pending) (sym (facts_made s t e past true k)) (named_kinds s t (length past) e.what (made_facts s (length past) (stand_at s e.cpu past) e.what (facts s t past)) (made_kinds s (length past) (stand_at s e.cpu past) e.what (facts s t past) ih))
+        subst (λ (x : ThreadFacts). KindsFit s x.apcs.pending) (sym (facts_made s t e past true k))
+        (named_kinds s t (length past) e.what (made_facts s (length past) (stand_at s e.cpu past) e.what (facts s t past))
+        (made_kinds s (length past) (stand_at s e.cpu past) e.what (facts s t past) ih))
     go false k ih =
         subst (λ (x : ThreadFacts). KindsFit s x.apcs.pending) (sym (facts_made s t e past false k)) (named_kinds s t (length past) e.what (facts s t past) ih)
 

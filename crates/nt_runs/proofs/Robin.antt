@@ -34,10 +34,11 @@ use Rattle.nt_event.specs.declared.scripts.Script.{Script}
 use Rattle.nt_event.specs.declared.scripts.ThreadDecl.{ThreadDecl}
 use Rattle.nt_event.specs.Commands.{needs_lane}
 use Rattle.nt_event.specs.Frames.{Frames, frames_in, frames_of, innermost, running, thread_part}
-use Rattle.nt_event.specs.Jobs.{begin_first, call_task, command_task, end_task, fire_task, frame_task, has_normal, idle_task, interrupt_classes, interrupt_task, is_after, may_apcs, may_drain, may_interrupt, may_switch, may_take, may_threaded, must, must_task, next_ready, next_what, normal_task, ready, ready_from, rests, rewait_reply, rewait_task, rundown_task, switch_event, task, task_event}
+use Rattle.nt_event.specs.Jobs.{begin_first, call_task, command_task, end_task, fire_task, frame_task, has_normal, idle_task, interrupt_task, is_after, may_apcs, may_drain, may_interrupt, may_switch, may_take, may_threaded, must, must_task, next_ready, next_what, normal_task, ready, ready_from, rests, rewait_reply, rewait_task, rundown_task, switch_event, task, task_event}
+use Rattle.nt_event.specs.Classes.{interrupt_classes}
 use Rattle.nt_event.specs.Lanes.{Lanes, facts_at, lanes_at, queue_at}
 use Rattle.nt_runs.specs.Laws.{HasBase}
-use Rattle.nt_event.specs.Own.{Own, own_of, rested, standing_in, took}
+use Rattle.nt_event.specs.Own.{Own, own_of, rested, stand_in, took}
 use Rattle.nt_event.specs.Regions.{stand_of}
 use Rattle.nt_event.specs.Requests.{asked, asks}
 use Rattle.nt_event.specs.Robin.{first_cpu, go_on_turn, is_behind, look_value, look_values, robin, robin_at, robin_from, robin_of, switch_or_next}
@@ -75,7 +76,14 @@ EventOf s st l t = Comes (task_event s st l t)
 
 must_comes : (s : Script) (st : Stand) (l : Lanes) (x : Own) → Holds (EventOf s st l) (must_task x)
 must_comes s st l x =
-    holds_or (EventOf s st l) (fire_task x) _ (holds_map (EventOf s st l) (λ d. Shared (FireJob d)) x.fire (λ d e. (_, refl))) (λ e. holds_or (EventOf s st l) (interrupt_task x) _ (holds_map (EventOf s st l) (λ c. Alone (Begin (Int c) (value_at x.seen c - 1))) (find (may_interrupt x) interrupt_classes) (λ c k. (_, refl))) (λ k. holds_or (EventOf s st l) (when (may_drain x) (Some (Shared DrainJob))) _ (holds_when (EventOf s st l) (may_drain x) (Some (Shared DrainJob)) (λ h. (_, refl))) (λ k2. holds_or (EventOf s st l) (when (may_apcs x) (Some (Shared ApcsJob))) _ (holds_when (EventOf s st l) (may_apcs x) (Some (Shared ApcsJob)) (λ h. (_, refl))) (λ k3. holds_when (EventOf s st l) (may_threaded x) (Some (Shared ThreadedJob)) (λ h. (_, refl))))))
+    holds_or (EventOf s st l) (fire_task x) _ (holds_map (EventOf s st l) (λ d. Shared (FireJob d)) x.fire (λ d e. (_, refl)))
+    (λ e. holds_or (EventOf s st l) (interrupt_task x) _
+    (holds_map (EventOf s st l) (λ c. Alone (Begin (Int c) (value_at x.seen c - 1))) (find (may_interrupt x) interrupt_classes) (λ c k. (_, refl)))
+    (λ k. holds_or (EventOf s st l) (when (may_drain x) (Some (Shared DrainJob))) _
+    (holds_when (EventOf s st l) (may_drain x) (Some (Shared DrainJob)) (λ h. (_, refl)))
+    (λ k2. holds_or (EventOf s st l) (when (may_apcs x) (Some (Shared ApcsJob))) _
+    (holds_when (EventOf s st l) (may_apcs x) (Some (Shared ApcsJob)) (λ h. (_, refl)))
+    (λ k3. holds_when (EventOf s st l) (may_threaded x) (Some (Shared ThreadedJob)) (λ h. (_, refl))))))
 
 -- ---- a frame gives an event
 
@@ -107,9 +115,16 @@ rewait_comes s st l f e h = go f.again e h
 rundown_comes : (s : Script) (st : Stand) (l : Lanes) → Comes st.thread → EventOf s st l (Shared RundownJob)
 rundown_comes s st l h = rw h.1 (_, refl)
 
-frame_comes : (s : Script) (st : Stand) (l : Lanes) (p : CpuNo) (x : Own) (f : Frame) → st.again ≡ f.again → (f.leaving ≡ true → Comes st.thread) → Holds (EventOf s st l) (frame_task s p x f)
+frame_comes : (s : Script) (st : Stand) (l : Lanes) (p : CpuNo) (x : Own) (f : Frame) → st.again ≡ f.again → (f.leaving ≡ true → Comes st.thread) →
+    Holds (EventOf s st l) (frame_task s p x f)
 frame_comes s st l p x f again leaves =
-    holds_or (EventOf s st l) (rewait_task f) _ (holds_when (EventOf s st l) (is_some f.again) (Some (Shared RewaitJob)) (λ h. rewait_comes s st l f again h)) (λ e. holds_or (EventOf s st l) (rundown_task f) _ (holds_when (EventOf s st l) f.leaving (Some (Shared RundownJob)) (λ h. rundown_comes s st l (leaves h))) (λ k. holds_or (EventOf s st l) (command_task x f (next_command s p f)) _ (command_comes s st l x f (next_command s p f)) (λ k2. holds_or (EventOf s st l) (normal_task f) _ (holds_when (EventOf s st l) (f.kernel_phase && has_normal f.body) (Some (Alone (Normal f.name))) (λ h. (_, refl))) (λ k3. end_comes s st l f.name f.body))))
+    holds_or (EventOf s st l) (rewait_task f) _ (holds_when (EventOf s st l) (is_some f.again) (Some (Shared RewaitJob)) (λ h. rewait_comes s st l f again h))
+    (λ e. holds_or (EventOf s st l) (rundown_task f) _
+    (holds_when (EventOf s st l) f.leaving (Some (Shared RundownJob)) (λ h. rundown_comes s st l (leaves h)))
+    (λ k. holds_or (EventOf s st l) (command_task x f (next_command s p f)) _ (command_comes s st l x f (next_command s p f))
+    (λ k2. holds_or (EventOf s st l) (normal_task f) _
+    (holds_when (EventOf s st l) (f.kernel_phase && has_normal f.body) (Some (Alone (Normal f.name))) (λ h. (_, refl)))
+    (λ k3. end_comes s st l f.name f.body))))
 
 -- a frame always has something to do
 pub frame_has : (s : Script) (p : CpuNo) (x : Own) (f : Frame) → Comes (frame_task s p x f)
@@ -124,13 +139,16 @@ innermost_stands x f h own leaving = go x.own x.running refl refl
   where
     go : (fs : List Frame) (r : Option ThreadNo) → x.own ≡ fs → x.running ≡ r → Comes x.running
     go (g ∷ fs) r a b =
-        let first : option_or (head_of (g ∷ fs)) (head_of (thread_part x)) ≡ Some f = subst (λ (fs : List Frame). option_or (head_of fs) (head_of (thread_part x)) ≡ Some f) a h in
+        let first : option_or (head_of (g ∷ fs)) (head_of (thread_part x))
+        ≡ Some f = subst (λ (fs : List Frame). option_or (head_of fs) (head_of (thread_part x)) ≡ Some f) a h in
         let same : g ≡ f = cc in
         let o : AllOwn (g ∷ fs) = subst AllOwn a own in
         let no : f.leaving ≡ false = ap (λ (f : Frame). f.leaving) (sym same) ∙ o.0.1 in
         cc
     go [] None a b =
-        let none : option_or (head_of {A = Frame} []) (head_of {A = Frame} []) ≡ Some f = subst (λ (r : Option ThreadNo). option_or (head_of {A = Frame} []) (head_of (option_map_or (frames_in x.threads) r [])) ≡ Some f) b (subst (λ (fs : List Frame). option_or (head_of fs) (head_of (thread_part x)) ≡ Some f) a h) in
+        let none : option_or (head_of {A = Frame} []) (head_of {A = Frame} [])
+        ≡ Some f = subst (λ (r : Option ThreadNo). option_or (head_of {A = Frame} []) (head_of (option_map_or (frames_in x.threads) r [])) ≡ Some f) b
+        (subst (λ (fs : List Frame). option_or (head_of fs) (head_of (thread_part x)) ≡ Some f) a h) in
         cc
     go [] (Some t) a b = (t, b)
 
@@ -173,50 +191,66 @@ may_where (Some t) a m f h q = cc
 -- ---- the next event
 
 -- nothing must be done, and there is no frame: the processor is idle
-idle_comes : (s : Script) (limit : ℕ) (p : CpuNo) (past : List Event) → IsRun s limit past → must_task (own_of s p past) ≡ None → innermost (frames_of s p past) ≡ None → rests (own_of s p past) ≡ false → (may_switch (own_of s p past) ≡ true → is_null (ready s p (lanes_at s past)) ≡ true) → Comes (option_and_then (task_event s (standing_in p (own_of s p past)) (lanes_at s past)) (idle_task (own_of s p past)))
+idle_comes : (s : Script) (limit : ℕ) (p : CpuNo) (past : List Event) → IsRun s limit past → must_task (own_of s p past) ≡ None →
+    innermost (frames_of s p past) ≡ None → rests (own_of s p past) ≡ false →
+    (may_switch (own_of s p past) ≡ true → is_null (ready s p (lanes_at s past)) ≡ true) →
+    Comes (option_and_then (task_event s (stand_in p (own_of s p past)) (lanes_at s past)) (idle_task (own_of s p past)))
 idle_comes s limit p past r m h n w =
     let x : Own = own_of s p past in
     let l : Lanes = lanes_at s past in
-    let st : Stand = standing_in p x in
+    let st : Stand = stand_in p x in
     let free : running p past ≡ None = no_thread s limit p past r h in
     let quiet : must x ≡ false = ap (λ (o : Option Task). is_some o) m in
     let both : (rested p past && true) ≡ false = rw quiet at n in
     let awake : rested p past ≡ false = sym (and-true (rested p past)) ∙ both in
     let may : may_switch x ≡ true = may_where (running p past) (is_null x.frames.own) (must x) free (no_frame (frames_of s p past) h) quiet in
     let none : is_null (ready s p l) ≡ true = w may in
-    rw awake (comes_or (begin_first OrdinaryPart (queue_at l st.cpu)) (when (is_null (ready s p l)) (Some Rest)) (comes_when (is_null (ready s p l)) (Some Rest) none (_, refl)))
+    rw awake (comes_or (begin_first OrdinaryPart (queue_at l st.cpu)) (when (is_null (ready s p l)) (Some Rest))
+    (comes_when (is_null (ready s p l)) (Some Rest) none (_, refl)))
 
 -- the task of a processor, where something must be done, where it has a frame, and where it is idle
 
-task_must : (s : Script) (limit : ℕ) (p : CpuNo) (past : List Event) (t : Task) → must_task (own_of s p past) ≡ Some t → Comes (next_what s p (own_of s p past) (lanes_at s past))
+task_must : (s : Script) (limit : ℕ) (p : CpuNo) (past : List Event) (t : Task) → must_task (own_of s p past) ≡ Some t →
+    Comes (next_what s p (own_of s p past) (lanes_at s past))
 task_must s limit p past t m =
     let x : Own = own_of s p past in
     let l : Lanes = lanes_at s past in
-    let st : Stand = standing_in p x in
-    let task_is : task s p x ≡ Some t = ap (λ (o : Option Task). option_or o (option_or (option_and_then (frame_task s p x) (innermost x.frames)) (idle_task x))) m in
+    let st : Stand = stand_in p x in
+    let task_is : task s p x ≡ Some t = ap (λ (o : Option Task). option_or o
+    (option_or (option_and_then (frame_task s p x) (innermost x.frames)) (idle_task x))) m in
     comes_then (task_event s st l) (task s p x) t task_is (holds_at (EventOf s st l) (must_task x) t (must_comes s st l x) m)
 
-task_frame : (s : Script) (p : CpuNo) (past : List Event) (f : Frame) → must_task (own_of s p past) ≡ None → innermost (frames_of s p past) ≡ Some f → Comes (next_what s p (own_of s p past) (lanes_at s past))
+task_frame : (s : Script) (p : CpuNo) (past : List Event) (f : Frame) → must_task (own_of s p past) ≡ None → innermost (frames_of s p past) ≡ Some f →
+    Comes (next_what s p (own_of s p past) (lanes_at s past))
 task_frame s p past f m h =
     let x : Own = own_of s p past in
     let l : Lanes = lanes_at s past in
-    let st : Stand = standing_in p x in
+    let st : Stand = stand_in p x in
     let t = frame_has s p x f in
     let framed : option_and_then (frame_task s p x) (innermost x.frames) ≡ Some t.0 = ap (λ (o : Option Frame). option_and_then (frame_task s p x) o) h ∙ t.1 in
-    let task_is : task s p x ≡ Some t.0 = ap (λ (o : Option Task). option_or o (option_or (option_and_then (frame_task s p x) (innermost x.frames)) (idle_task x))) m ∙ ap (λ (o : Option Task). option_or o (idle_task x)) framed in
-    comes_then (task_event s st l) (task s p x) t.0 task_is (holds_at (EventOf s st l) (frame_task s p x f) t.0 (frame_comes s st l p x f (again_stands p x.frames x.sweep f h) (innermost_stands x.frames f h (all_own p past))) t.1)
+    let task_is : task s p x ≡ Some t.0 = ap (λ (o : Option Task). option_or o
+    (option_or (option_and_then (frame_task s p x) (innermost x.frames)) (idle_task x))) m ∙ ap (λ (o : Option Task). option_or o (idle_task x)) framed in
+    comes_then (task_event s st l) (task s p x) t.0 task_is
+    (holds_at (EventOf s st l) (frame_task s p x f) t.0
+    (frame_comes s st l p x f (again_stands p x.frames x.sweep f h) (innermost_stands x.frames f h (all_own p past))) t.1)
 
-task_idle : (s : Script) (limit : ℕ) (p : CpuNo) (past : List Event) → IsRun s limit past → must_task (own_of s p past) ≡ None → innermost (frames_of s p past) ≡ None → rests (own_of s p past) ≡ false → (may_switch (own_of s p past) ≡ true → is_null (ready s p (lanes_at s past)) ≡ true) → Comes (next_what s p (own_of s p past) (lanes_at s past))
+task_idle : (s : Script) (limit : ℕ) (p : CpuNo) (past : List Event) → IsRun s limit past → must_task (own_of s p past) ≡ None → innermost (frames_of s p past)
+    ≡ None → rests (own_of s p past) ≡ false → (may_switch (own_of s p past) ≡ true → is_null (ready s p (lanes_at s past)) ≡ true) →
+    Comes (next_what s p (own_of s p past) (lanes_at s past))
 task_idle s limit p past r m h n w =
     let x : Own = own_of s p past in
-    let task_is : task s p x ≡ idle_task x = ap (λ (o : Option Task). option_or o (option_or (option_and_then (frame_task s p x) (innermost x.frames)) (idle_task x))) m ∙ ap (λ (o : Option Frame). option_or (option_and_then (frame_task s p x) o) (idle_task x)) h in
-    subst (λ (o : Option Task). Comes (option_and_then (task_event s (standing_in p x) (lanes_at s past)) o)) (sym task_is) (idle_comes s limit p past r m h n w)
+    let task_is : task s p x ≡ idle_task x = ap (λ (o : Option Task). option_or o
+    (option_or (option_and_then (frame_task s p x) (innermost x.frames)) (idle_task x))) m
+    ∙ ap (λ (o : Option Frame). option_or (option_and_then (frame_task s p x) o) (idle_task x)) h in
+    subst (λ (o : Option Task). Comes (option_and_then (task_event s (stand_in p x) (lanes_at s past)) o)) (sym task_is) (idle_comes s limit p past r m h n w)
 
 -- a processor that doesn't rest has a next event, or a thread to take up
-pub next_comes : (s : Script) (limit : ℕ) (p : CpuNo) (past : List Event) → IsRun s limit past → rests (own_of s p past) ≡ false → (may_switch (own_of s p past) ≡ true → is_null (ready s p (lanes_at s past)) ≡ true) → Comes (next_what s p (own_of s p past) (lanes_at s past))
+pub next_comes : (s : Script) (limit : ℕ) (p : CpuNo) (past : List Event) → IsRun s limit past → rests (own_of s p past) ≡ false →
+    (may_switch (own_of s p past) ≡ true → is_null (ready s p (lanes_at s past)) ≡ true) → Comes (next_what s p (own_of s p past) (lanes_at s past))
 next_comes s limit p past r n w = go (must_task (own_of s p past)) (innermost (frames_of s p past)) refl refl
   where
-    go : (o : Option Task) (f : Option Frame) → must_task (own_of s p past) ≡ o → innermost (frames_of s p past) ≡ f → Comes (next_what s p (own_of s p past) (lanes_at s past))
+    go : (o : Option Task) (f : Option Frame) → must_task (own_of s p past) ≡ o → innermost (frames_of s p past) ≡ f →
+        Comes (next_what s p (own_of s p past) (lanes_at s past))
     go (Some t) f m h = task_must s limit p past t m
     go None (Some f) m h = task_frame s p past f m h
     go None None m h = task_idle s limit p past r m h n w
@@ -227,7 +261,9 @@ abbrev Accepts : Script → ℕ → Turn → List Event → Type 0
 Accepts s limit t past = (e : Event) × (step s limit t past ≡ Ok e)
 
 -- an uncut processor's turn is accepted where it names an event
-accepted : (s : Script) (limit : ℕ) (t : Turn) (past : List Event) (k : ScheduleKind) (o : Option What) → nat_lt (cpu_at t).0 s.cpus ≡ true → is_cut limit (own_of s (cpu_at t) past) ≡ false → uncut_step s t (own_of s (cpu_at t) past) (lanes_at s past) past ≡ event_or s (cpu_at t) (own_of s (cpu_at t) past) k o → Comes o → Accepts s limit t past
+accepted : (s : Script) (limit : ℕ) (t : Turn) (past : List Event) (k : ScheduleKind) (o : Option What) → nat_lt (cpu_at t).0 s.cpus ≡ true →
+    is_cut limit (own_of s (cpu_at t) past) ≡ false → uncut_step s t (own_of s (cpu_at t) past) (lanes_at s past) past
+    ≡ event_or s (cpu_at t) (own_of s (cpu_at t) past) k o → Comes o → Accepts s limit t past
 accepted s limit t past k o below uncut u c =
     (event_at s (cpu_at t) c.0 (frames_of s (cpu_at t) past), rw (below, uncut) (u ∙ ap (event_or s (cpu_at t) (own_of s (cpu_at t) past) k) c.1))
 
@@ -256,22 +292,28 @@ pub asked_was : (s : Script) (p : CpuNo) (c : ℕ) (past : List Event) → (aske
 asked_was s p c [] = inl refl
 asked_was s p c (e ∷ past) = go (asks s p c e past) refl (asked_was s p c past)
   where
-    go : (b : Bool) → asks s p c e past ≡ b → (asked s p c past ≡ 0) ⊎ (was_asked s p c (asked s p c past) past ≡ true) → (asked s p c (e ∷ past) ≡ 0) ⊎ (was_asked s p c (asked s p c (e ∷ past)) (e ∷ past) ≡ true)
+    go : (b : Bool) → asks s p c e past ≡ b → (asked s p c past ≡ 0) ⊎ (was_asked s p c (asked s p c past) past ≡ true) → (asked s p c (e ∷ past) ≡ 0) ⊎
+        (was_asked s p c (asked s p c (e ∷ past)) (e ∷ past) ≡ true)
     go true k h =
-        let a : asked s p c (e ∷ past) ≡ length past + 1 = rw k in inr (subst (λ (v : ℕ). was_asked s p c v (e ∷ past) ≡ true) (sym a) (rw (k, eq-eqb (length past + 1) (length past + 1) refl) refl))
+        let a : asked s p c (e ∷ past) ≡ length past + 1 = rw k in
+        inr (subst (λ (v : ℕ). was_asked s p c v (e ∷ past) ≡ true) (sym a) (rw (k, eq-eqb (length past + 1) (length past + 1) refl) refl))
     go false k (inl z) = inl (rw k z)
     go false k (inr w) =
         let a : asked s p c (e ∷ past) ≡ asked s p c past = rw k in inr (subst (λ (v : ℕ). was_asked s p c v (e ∷ past) ≡ true) (sym a) (or_yes _ _ w))
 
-value_good : (s : Script) (p : CpuNo) (c : ℕ) (x : Own) (past : List Event) (b : Bool) → nat_lt (value_at x.seen c) (asked s p c past) ≡ b → (((if b then asked s p c past else 0) == 0) || (nat_lt (value_at x.seen c) (if b then asked s p c past else 0) && was_asked s p c (if b then asked s p c past else 0) past)) ≡ true
+value_good : (s : Script) (p : CpuNo) (c : ℕ) (x : Own) (past : List Event) (b : Bool) → nat_lt (value_at x.seen c) (asked s p c past) ≡ b →
+    (((if b then asked s p c past else 0) == 0) || (nat_lt (value_at x.seen c) (if b then asked s p c past else 0)
+    && was_asked s p c (if b then asked s p c past else 0) past)) ≡ true
 value_good s p c x past false k = refl
 value_good s p c x past true k = go (asked_was s p c past)
   where
-    go : (asked s p c past ≡ 0) ⊎ (was_asked s p c (asked s p c past) past ≡ true) → ((asked s p c past == 0) || (nat_lt (value_at x.seen c) (asked s p c past) && was_asked s p c (asked s p c past) past)) ≡ true
+    go : (asked s p c past ≡ 0) ⊎ (was_asked s p c (asked s p c past) past ≡ true) →
+        ((asked s p c past == 0) || (nat_lt (value_at x.seen c) (asked s p c past) && was_asked s p c (asked s p c past) past)) ≡ true
     go (inl z) = rw (eq-eqb (asked s p c past) 0 z) refl
     go (inr w) = rw (k, w) (or_yes _ _ refl)
 
-looks_good : (s : Script) (p : CpuNo) (x : Own) (past : List Event) (n c : ℕ) → good_rises s p c (table_from c n (look_value x (λ k. asked s p k past))) x past ≡ true
+looks_good : (s : Script) (p : CpuNo) (x : Own) (past : List Event) (n c : ℕ) → good_rises s p c (table_from c n (look_value x (λ k. asked s p k past))) x past
+    ≡ true
 unfolding table_from
 looks_good s p x past zero c = refl
 looks_good s p x past (suc n) c =
@@ -279,59 +321,77 @@ looks_good s p x past (suc n) c =
     rw v (looks_good s p x past n (suc c))
 
 -- where p is behind, the look of the robin rule is a good one
-pub behind_looks : (s : Script) (p : CpuNo) (x : Own) (past : List Event) → is_behind x (λ c. asked s p c past) ≡ true → is_good_look s p (look_values x (λ c. asked s p c past)) x past ≡ true
+pub behind_looks : (s : Script) (p : CpuNo) (x : Own) (past : List Event) → is_behind x (λ c. asked s p c past) ≡ true →
+    is_good_look s p (look_values x (λ c. asked s p c past)) x past ≡ true
 behind_looks s p x past h = rw (h, looks_good s p x past 16 0)
 
 -- ---- the turn of a processor
 
-next_accepted : (s : Script) (limit : ℕ) (p : CpuNo) (past : List Event) → nat_lt p.0 s.cpus ≡ true → is_cut limit (own_of s p past) ≡ false → Comes (next_what s p (own_of s p past) (lanes_at s past)) → Accepts s limit (Next p) past
+next_accepted : (s : Script) (limit : ℕ) (p : CpuNo) (past : List Event) → nat_lt p.0 s.cpus ≡ true → is_cut limit (own_of s p past) ≡ false →
+    Comes (next_what s p (own_of s p past) (lanes_at s past)) → Accepts s limit (Next p) past
 next_accepted s limit p past below uncut c =
     accepted s limit (Next p) past NothingToDo (next_what s p (own_of s p past) (lanes_at s past)) below uncut refl c
 
-switch_accepted : (s : Script) (limit : ℕ) (p : CpuNo) (t : ThreadNo) (past : List Event) → nat_lt p.0 s.cpus ≡ true → is_cut limit (own_of s p past) ≡ false → may_switch (own_of s p past) ≡ true → may_take s p t (lanes_at s past) ≡ true → Accepts s limit (SwitchTurn p t) past
+switch_accepted : (s : Script) (limit : ℕ) (p : CpuNo) (t : ThreadNo) (past : List Event) → nat_lt p.0 s.cpus ≡ true → is_cut limit (own_of s p past) ≡ false →
+    may_switch (own_of s p past) ≡ true → may_take s p t (lanes_at s past) ≡ true → Accepts s limit (SwitchTurn p t) past
 switch_accepted s limit p t past below uncut may take =
     let x : Own = own_of s p past in
     let l : Lanes = lanes_at s past in
-    accepted s limit (SwitchTurn p t) past BadChoice (when (may_switch x) (when (may_take s p t l) (Some (switch_event t l)))) below uncut refl (comes_when (may_switch x) _ may (comes_when (may_take s p t l) _ take (_, refl)))
+    accepted s limit (SwitchTurn p t) past BadChoice (when (may_switch x) (when (may_take s p t l) (Some (switch_event t l)))) below uncut refl
+    (comes_when (may_switch x) _ may (comes_when (may_take s p t l) _ take (_, refl)))
 
-look_accepted : (s : Script) (limit : ℕ) (p : CpuNo) (r : Rises) (past : List Event) → nat_lt p.0 s.cpus ≡ true → is_cut limit (own_of s p past) ≡ false → is_good_look s p r.value (own_of s p past) past ≡ true → Accepts s limit (LookTurn p r) past
+look_accepted : (s : Script) (limit : ℕ) (p : CpuNo) (r : Rises) (past : List Event) → nat_lt p.0 s.cpus ≡ true → is_cut limit (own_of s p past) ≡ false →
+    is_good_look s p r.value (own_of s p past) past ≡ true → Accepts s limit (LookTurn p r) past
 look_accepted s limit p r past below uncut good =
-    accepted s limit (LookTurn p r) past BadLook (when (is_good_look s p r.value (own_of s p past) past) (Some (Look r))) below uncut refl (comes_when (is_good_look s p r.value (own_of s p past) past) _ good (_, refl))
+    accepted s limit (LookTurn p r) past BadLook (when (is_good_look s p r.value (own_of s p past) past) (Some (Look r))) below uncut refl
+    (comes_when (is_good_look s p r.value (own_of s p past) past) _ good (_, refl))
 
-go_on_accepted : (s : Script) (limit : ℕ) (p : CpuNo) (past : List Event) → IsRun s limit past → nat_lt p.0 s.cpus ≡ true → is_cut limit (own_of s p past) ≡ false → rests (own_of s p past) ≡ false → Accepts s limit (go_on_turn s p (own_of s p past) (lanes_at s past)) past
+go_on_accepted : (s : Script) (limit : ℕ) (p : CpuNo) (past : List Event) → IsRun s limit past → nat_lt p.0 s.cpus ≡ true → is_cut limit (own_of s p past)
+    ≡ false → rests (own_of s p past) ≡ false → Accepts s limit (go_on_turn s p (own_of s p past) (lanes_at s past)) past
 go_on_accepted s limit p past r below uncut awake = go (may_switch (own_of s p past)) refl
   where
-    choice : (o : Option ThreadNo) → next_ready s p (took p past) (lanes_at s past) ≡ o → may_switch (own_of s p past) ≡ true → Accepts s limit (switch_or_next p o) past
+    choice : (o : Option ThreadNo) → next_ready s p (took p past) (lanes_at s past) ≡ o → may_switch (own_of s p past) ≡ true →
+        Accepts s limit (switch_or_next p o) past
     choice None e may =
         next_accepted s limit p past below uncut (next_comes s limit p past r awake (λ m. none_ready s p (took p past) (lanes_at s past) e))
     choice (Some t) e may =
-        switch_accepted s limit p t past below uncut may (holds_at (λ t. may_take s p t (lanes_at s past) ≡ true) (next_ready s p (took p past) (lanes_at s past)) t (next_ready_taken s p (took p past) (lanes_at s past)) e)
+        switch_accepted s limit p t past below uncut may
+        (holds_at (λ t. may_take s p t (lanes_at s past) ≡ true) (next_ready s p (took p past) (lanes_at s past)) t
+        (next_ready_taken s p (took p past) (lanes_at s past)) e)
 
-    go : (b : Bool) → may_switch (own_of s p past) ≡ b → Accepts s limit (if b then switch_or_next p (next_ready s p (took p past) (lanes_at s past)) else Next p) past
+    go : (b : Bool) → may_switch (own_of s p past) ≡ b →
+        Accepts s limit (if b then switch_or_next p (next_ready s p (took p past) (lanes_at s past)) else Next p) past
     go true m = choice (next_ready s p (took p past) (lanes_at s past)) refl m
     go false m = next_accepted s limit p past below uncut (next_comes s limit p past r awake (λ k. no m k))
       where
         no : {A : Type 0} → may_switch (own_of s p past) ≡ false → may_switch (own_of s p past) ≡ true → A
         no a b = cc
 
-pub robin_at_accepted : (s : Script) (limit : ℕ) (p : CpuNo) (past : List Event) → IsRun s limit past → nat_lt p.0 s.cpus ≡ true → is_cut limit (own_of s p past) ≡ false → Holds (λ t. Accepts s limit t past) (robin_at s p (own_of s p past) (lanes_at s past) (λ c. asked s p c past))
+pub robin_at_accepted : (s : Script) (limit : ℕ) (p : CpuNo) (past : List Event) → IsRun s limit past → nat_lt p.0 s.cpus ≡ true →
+    is_cut limit (own_of s p past) ≡ false → Holds (λ t. Accepts s limit t past) (robin_at s p (own_of s p past) (lanes_at s past) (λ c. asked s p c past))
 robin_at_accepted s limit p past r below uncut =
     looks (is_behind (own_of s p past) (λ c. asked s p c past)) refl
   where
-    goes : (b : Bool) → rests (own_of s p past) ≡ b → Holds (λ t. Accepts s limit t past) (if b then None else Some (go_on_turn s p (own_of s p past) (lanes_at s past)))
+    goes : (b : Bool) → rests (own_of s p past) ≡ b → Holds (λ t. Accepts s limit t past)
+        (if b then None else Some (go_on_turn s p (own_of s p past) (lanes_at s past)))
     goes true e = tt
     goes false e = go_on_accepted s limit p past r below uncut e
 
-    looks : (b : Bool) → is_behind (own_of s p past) (λ c. asked s p c past) ≡ b → Holds (λ t. Accepts s limit t past) (if b then Some (LookTurn p (record { value = look_values (own_of s p past) (λ c. asked s p c past) })) else (if rests (own_of s p past) then None else Some (go_on_turn s p (own_of s p past) (lanes_at s past))))
+    looks : (b : Bool) → is_behind (own_of s p past) (λ c. asked s p c past) ≡ b →
+        Holds (λ t. Accepts s limit t past) (if b then Some (LookTurn p (record { value = look_values (own_of s p past) (λ c. asked s p c past) }))
+        else (if rests (own_of s p past) then None else Some (go_on_turn s p (own_of s p past) (lanes_at s past))))
     looks true e =
-        look_accepted s limit p (record { value = look_values (own_of s p past) (λ c. asked s p c past) }) past below uncut (behind_looks s p (own_of s p past) past e)
+        look_accepted s limit p (record { value = look_values (own_of s p past) (λ c. asked s p c past) }) past below uncut
+        (behind_looks s p (own_of s p past) past e)
     looks false e = goes (rests (own_of s p past)) refl
 
 -- ---- the cycle
 
-robin_of_accepted : (s : Script) (limit : ℕ) (p : ℕ) (past : List Event) → IsRun s limit past → p < s.cpus → Holds (λ t. Accepts s limit t past) (robin_of s limit (cpu p) past)
+robin_of_accepted : (s : Script) (limit : ℕ) (p : ℕ) (past : List Event) → IsRun s limit past → p < s.cpus →
+    Holds (λ t. Accepts s limit t past) (robin_of s limit (cpu p) past)
 robin_of_accepted s limit p past r below =
-    holds_when (λ t. Accepts s limit t past) (not (is_cut limit (own_of s (cpu p) past))) _ (λ h. robin_at_accepted s limit (cpu p) past r (lt-ltb p s.cpus below) (not_true (is_cut limit (own_of s (cpu p) past)) h))
+    holds_when (λ t. Accepts s limit t past) (not (is_cut limit (own_of s (cpu p) past))) _
+    (λ h. robin_at_accepted s limit (cpu p) past r (lt-ltb p s.cpus below) (not_true (is_cut limit (own_of s (cpu p) past)) h))
 
 -- the one after p in the cycle
 pub cycle_below : (s : Script) (p : ℕ) → p < s.cpus → (if suc p == s.cpus then 0 else suc p) < s.cpus
@@ -343,10 +403,12 @@ cycle_below s p h = go (suc p == s.cpus) refl
         let n : suc p ≡ s.cpus → ⊥ = λ k. let t : (suc p == s.cpus) ≡ true = eq-eqb (suc p) s.cpus k in cc in
         omega (arith, n)
 
-robin_from_accepted : (s : Script) (limit : ℕ) (n p : ℕ) (past : List Event) → IsRun s limit past → p < s.cpus → Holds (λ t. Accepts s limit t past) (robin_from s limit n p past)
+robin_from_accepted : (s : Script) (limit : ℕ) (n p : ℕ) (past : List Event) → IsRun s limit past → p < s.cpus →
+    Holds (λ t. Accepts s limit t past) (robin_from s limit n p past)
 robin_from_accepted s limit zero p past r below = tt
 robin_from_accepted s limit (suc n) p past r below =
-    holds_or (λ t. Accepts s limit t past) (robin_of s limit (cpu p) past) _ (robin_of_accepted s limit p past r below) (λ e. robin_from_accepted s limit n (if suc p == s.cpus then 0 else suc p) past r (cycle_below s p below))
+    holds_or (λ t. Accepts s limit t past) (robin_of s limit (cpu p) past) _ (robin_of_accepted s limit p past r below)
+    (λ e. robin_from_accepted s limit n (if suc p == s.cpus then 0 else suc p) past r (cycle_below s p below))
 
 -- in a run the processor of each event is one of the script's
 pub cpu_below : (s : Script) (limit : ℕ) (e : Event) (past : List Event) → IsLegal s limit e past → e.cpu.0 < s.cpus

@@ -29,10 +29,12 @@ use Rattle.nt_runs.proofs.Pending.{NoKernel, Shrinks, leaving_closed, legal_shri
 
 -- ---- what was seen and served
 
-seen_own : (s : Script) (p : CpuNo) (c : ℕ) (e : Event) (past : List Event) → is_of e p ≡ true → seen s p c (e ∷ past) ≡ seen_after (length past) e.what c (asks s p c e past) (told s p c e past) (seen s p c past)
+seen_own : (s : Script) (p : CpuNo) (c : ℕ) (e : Event) (past : List Event) → is_of e p ≡ true → seen s p c (e ∷ past)
+    ≡ seen_after (length past) e.what c (asks s p c e past) (told s p c e past) (seen s p c past)
 seen_own s p c e past h = rw h
 
-served_own : (s : Script) (p : CpuNo) (c : ℕ) (e : Event) (past : List Event) → is_of e p ≡ true → served s p c (e ∷ past) ≡ served_after e.what c (seen s p c (e ∷ past)) (served s p c past)
+served_own : (s : Script) (p : CpuNo) (c : ℕ) (e : Event) (past : List Event) → is_of e p ≡ true → served s p c (e ∷ past)
+    ≡ served_after e.what c (seen s p c (e ∷ past)) (served s p c past)
 served_own s p c e past h = rw h
 
 after_up : (b : Bool) (n : ℕ) (w : What) (c told old : ℕ) → old ≤ n → old ≤ seen_after n w c b told old
@@ -44,7 +46,8 @@ pub seen_length : (s : Script) (limit : ℕ) (p : CpuNo) (c : ℕ) (past : List 
 seen_length s limit p c past r =
     let a = seen_below s limit p c past r in let b = asked_below s p c past in omega (arith, a, b)
 
-pub seen_grows : (s : Script) (limit : ℕ) (p : CpuNo) (c : ℕ) (e : Event) (past : List Event) → IsRun s limit past → is_of e p ≡ true → seen s p c past ≤ seen s p c (e ∷ past)
+pub seen_grows : (s : Script) (limit : ℕ) (p : CpuNo) (c : ℕ) (e : Event) (past : List Event) → IsRun s limit past → is_of e p ≡ true →
+    seen s p c past ≤ seen s p c (e ∷ past)
 seen_grows s limit p c e past r h =
     let a = after_up (asks s p c e past) (length past) e.what c (told s p c e past) (seen s p c past) (seen_length s limit p c past r) in
     rw (seen_own s p c e past h) a
@@ -74,7 +77,8 @@ abbrev pub Unserved : Script → CpuNo → ℕ → List Event → Type 0
 Unserved s p c past = served s p c past < seen s p c past
 
 -- an event that doesn't serve the class leaves it unserved
-pub stays_unserved : (s : Script) (limit : ℕ) (p : CpuNo) (c : ℕ) (e : Event) (past : List Event) → IsRun s limit past → serves c e.what ≡ false → Unserved s p c past → Unserved s p c (e ∷ past)
+pub stays_unserved : (s : Script) (limit : ℕ) (p : CpuNo) (c : ℕ) (e : Event) (past : List Event) → IsRun s limit past → serves c e.what ≡ false →
+    Unserved s p c past → Unserved s p c (e ∷ past)
 stays_unserved s limit p c e past r k u = go (is_of e p) refl
   where
     go : (b : Bool) → is_of e p ≡ b → Unserved s p c (e ∷ past)
@@ -88,7 +92,8 @@ stays_unserved s limit p c e past r k u = go (is_of e p) refl
         omega (arith, x, y, u)
 
 -- an event of the processor that asks for the class and doesn't serve it leaves it unserved
-pub asks_unserved : (s : Script) (limit : ℕ) (p : CpuNo) (c : ℕ) (e : Event) (past : List Event) → IsRun s limit past → is_of e p ≡ true → asks s p c e past ≡ true → serves c e.what ≡ false → Unserved s p c (e ∷ past)
+pub asks_unserved : (s : Script) (limit : ℕ) (p : CpuNo) (c : ℕ) (e : Event) (past : List Event) → IsRun s limit past → is_of e p ≡ true → asks s p c e past
+    ≡ true → serves c e.what ≡ false → Unserved s p c (e ∷ past)
 asks_unserved s limit p c e past r h a k =
     let x : served s p c (e ∷ past) ≡ served s p c past = served_own s p c e past h ∙ rw k refl in
     let y : seen s p c (e ∷ past) ≡ length past + 1 = seen_own s p c e past h ∙ rw a refl in
@@ -114,7 +119,8 @@ named_runs test n g (f ∷ fs) k = go (f.name == n)
     go true = ap (λ (b : Body). test b || Runs test fs) (k.body f)
     go false = refl
 
-pub switched_runs : (test : Body → Bool) (n : ℕ) (t : ThreadNo) (st : Option ℕ) (fs : List Frame) → test (OnBase t) ≡ false → Runs test (switched_to n t st fs) ≡ Runs test fs
+pub switched_runs : (test : Body → Bool) (n : ℕ) (t : ThreadNo) (st : Option ℕ) (fs : List Frame) → test (OnBase t) ≡ false → Runs test (switched_to n t st fs)
+    ≡ Runs test fs
 switched_runs test n t st [] h = rw h refl
 switched_runs test n t None (f ∷ fs) h = refl
 switched_runs test n t (Some x) (f ∷ fs) h = refl
@@ -126,11 +132,13 @@ switched_runs test n t (Some x) (f ∷ fs) h = refl
 pub record Leaves (s : Script) (t : ThreadNo) (past : List Event) : Type 0 where
   pub serving : Runs is_user_apc_body (thread_frames s (cpu_of s t) t past) ≡ false
   pub rundown : Runs is_rundown (thread_frames s (cpu_of s t) t past) ≡ true → NoKernel (facts s t past).apcs.pending
-  pub pending : running (cpu_of s t) past ≡ Some t → NoKernel (facts s t past).apcs.pending ⊎ (Unserved s (cpu_of s t) 1 past ⊎ (Runs is_normal_apc_body (thread_frames s (cpu_of s t) t past) ≡ true))
+  pub pending : running (cpu_of s t) past ≡ Some t → NoKernel (facts s t past).apcs.pending ⊎
+      (Unserved s (cpu_of s t) 1 past ⊎ (Runs is_normal_apc_body (thread_frames s (cpu_of s t) t past) ≡ true))
 
 -- ---- an event that the thread doesn't make
 
-pub unnamed_leaving : (s : Script) (t : ThreadNo) (e : Event) (past : List Event) → is_by e t ≡ false → (facts s t (e ∷ past)).leaving ≡ (facts s t past).leaving
+pub unnamed_leaving : (s : Script) (t : ThreadNo) (e : Event) (past : List Event) → is_by e t ≡ false → (facts s t (e ∷ past)).leaving
+    ≡ (facts s t past).leaving
 unnamed_leaving s t e past b =
     ap (λ (x : ThreadFacts). x.leaving) (facts_made s t e past false not_of) ∙ facts_named s t (length past) e.what (facts s t past)
   where
@@ -141,7 +149,8 @@ unnamed_leaving s t e past b =
         go true h = h
         go false h = refl
 
-unnamed_frames : (s : Script) (t : ThreadNo) (e : Event) (past : List Event) → is_by e t ≡ false → thread_frames s (cpu_of s t) t (e ∷ past) ≡ thread_frames s (cpu_of s t) t past
+unnamed_frames : (s : Script) (t : ThreadNo) (e : Event) (past : List Event) → is_by e t ≡ false → thread_frames s (cpu_of s t) t (e ∷ past)
+    ≡ thread_frames s (cpu_of s t) t past
 unnamed_frames s t e past b = go (is_of e (cpu_of s t)) refl
   where
     go : (c : Bool) → is_of e (cpu_of s t) ≡ c → thread_frames s (cpu_of s t) t (e ∷ past) ≡ thread_frames s (cpu_of s t) t past
@@ -149,7 +158,8 @@ unnamed_frames s t e past b = go (is_of e (cpu_of s t)) refl
     go false h = rw h
 
 -- it ran before, and the event serves nothing
-unnamed_ran : (s : Script) (limit : ℕ) (t : ThreadNo) (e : Event) (past : List Event) → is_by e t ≡ false → IsLegal s limit e past → running (cpu_of s t) (e ∷ past) ≡ Some t → running (cpu_of s t) past ≡ Some t
+unnamed_ran : (s : Script) (limit : ℕ) (t : ThreadNo) (e : Event) (past : List Event) → is_by e t ≡ false → IsLegal s limit e past →
+    running (cpu_of s t) (e ∷ past) ≡ Some t → running (cpu_of s t) past ≡ Some t
 unnamed_ran s limit t e past b g h = go (is_of e (cpu_of s t)) refl
   where
     go : (c : Bool) → is_of e (cpu_of s t) ≡ c → running (cpu_of s t) past ≡ Some t
@@ -157,7 +167,8 @@ unnamed_ran s limit t e past b g h = go (is_of e (cpu_of s t)) refl
         unnamed_by s limit (cpu_of s t) t e past e.what refl b o g (sym (running_own (cpu_of s t) e past o) ∙ h)
     go false o = rw o at h
 
-unnamed_unserved : (s : Script) (limit : ℕ) (t : ThreadNo) (e : Event) (past : List Event) → is_by e t ≡ false → IsLegal s limit e past → IsRun s limit past → running (cpu_of s t) past ≡ Some t → Unserved s (cpu_of s t) 1 past → Unserved s (cpu_of s t) 1 (e ∷ past)
+unnamed_unserved : (s : Script) (limit : ℕ) (t : ThreadNo) (e : Event) (past : List Event) → is_by e t ≡ false → IsLegal s limit e past → IsRun s limit past →
+    running (cpu_of s t) past ≡ Some t → Unserved s (cpu_of s t) 1 past → Unserved s (cpu_of s t) 1 (e ∷ past)
 unnamed_unserved s limit t e past b g r run u = go (is_of e (cpu_of s t)) refl
   where
     p : CpuNo
@@ -178,9 +189,14 @@ unnamed_unserved s limit t e past b g r run u = go (is_of e (cpu_of s t)) refl
         let y : seen s (cpu_of s t) 1 (e ∷ past) ≡ seen s (cpu_of s t) 1 past = rw o in
         omega (arith, x, y, u)
 
-pub leaves_unnamed : (s : Script) (limit : ℕ) (t : ThreadNo) (e : Event) (past : List Event) → has_thread s t ≡ true → is_by e t ≡ false → IsLegal s limit e past → IsRun s limit past → (facts s t past).leaving ≡ true → Leaves s t past → Leaves s t (e ∷ past)
+pub leaves_unnamed : (s : Script) (limit : ℕ) (t : ThreadNo) (e : Event) (past : List Event) → has_thread s t ≡ true → is_by e t ≡ false →
+    IsLegal s limit e past → IsRun s limit past → (facts s t past).leaving ≡ true → Leaves s t past → Leaves s t (e ∷ past)
 leaves_unnamed s limit t e past has b g r l ih =
-    record { serving = ap (Runs is_user_apc_body) frames ∙ ih.serving; rundown = λ h. shrinks.kernel (ih.rundown (sym (ap (Runs is_rundown) frames) ∙ h)); pending = pending }
+    record {
+      serving = ap (Runs is_user_apc_body) frames ∙ ih.serving;
+      rundown = λ h. shrinks.kernel (ih.rundown (sym (ap (Runs is_rundown) frames) ∙ h));
+      pending = pending;
+    }
   where
     frames : thread_frames s (cpu_of s t) t (e ∷ past) ≡ thread_frames s (cpu_of s t) t past
     frames = unnamed_frames s t e past b
@@ -188,10 +204,13 @@ leaves_unnamed s limit t e past has b g r l ih =
     shrinks : Shrinks (facts s t past).apcs (facts s t (e ∷ past)).apcs
     shrinks = legal_shrinks s limit t e past g has (leaving_closed s t past l)
 
-    pending : running (cpu_of s t) (e ∷ past) ≡ Some t → NoKernel (facts s t (e ∷ past)).apcs.pending ⊎ (Unserved s (cpu_of s t) 1 (e ∷ past) ⊎ (Runs is_normal_apc_body (thread_frames s (cpu_of s t) t (e ∷ past)) ≡ true))
+    pending : running (cpu_of s t) (e ∷ past) ≡ Some t → NoKernel (facts s t (e ∷ past)).apcs.pending ⊎
+        (Unserved s (cpu_of s t) 1 (e ∷ past) ⊎ (Runs is_normal_apc_body (thread_frames s (cpu_of s t) t (e ∷ past)) ≡ true))
     pending h = go (ih.pending (unnamed_ran s limit t e past b g h))
       where
-        go : NoKernel (facts s t past).apcs.pending ⊎ (Unserved s (cpu_of s t) 1 past ⊎ (Runs is_normal_apc_body (thread_frames s (cpu_of s t) t past) ≡ true)) → NoKernel (facts s t (e ∷ past)).apcs.pending ⊎ (Unserved s (cpu_of s t) 1 (e ∷ past) ⊎ (Runs is_normal_apc_body (thread_frames s (cpu_of s t) t (e ∷ past)) ≡ true))
+        go : NoKernel (facts s t past).apcs.pending ⊎ (Unserved s (cpu_of s t) 1 past ⊎
+            (Runs is_normal_apc_body (thread_frames s (cpu_of s t) t past) ≡ true)) → NoKernel (facts s t (e ∷ past)).apcs.pending ⊎
+            (Unserved s (cpu_of s t) 1 (e ∷ past) ⊎ (Runs is_normal_apc_body (thread_frames s (cpu_of s t) t (e ∷ past)) ≡ true))
         go (inl n) = inl ((legal_shrinks s limit t e past g has (leaving_closed s t past l)).kernel n)
         go (inr (inl u)) = inr (inl (unnamed_unserved s limit t e past b g r (unnamed_ran s limit t e past b g h) u))
         go (inr (inr k)) = inr (inr (ap (Runs is_normal_apc_body) (unnamed_frames s t e past b) ∙ k))

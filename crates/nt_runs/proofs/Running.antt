@@ -20,7 +20,7 @@ use Rattle.nt_event.specs.declared.numbers.CpuNo.{CpuNo}
 use Rattle.nt_event.specs.declared.numbers.RoutineNo.{RoutineNo}
 use Rattle.nt_event.specs.declared.numbers.ThreadNo.{ThreadNo}
 use Rattle.nt_event.specs.declared.scripts.Script.{Script}
-use Rattle.nt_event.specs.Frames.{at_name, called, done_to, due_of, end_on_thread, ended_on_thread, flushed, frames_in, frames_of, is_base_body, left, new_frame, normal_of, resumed, rewaited, running, running_after, switched_to, thread_after, thread_frames, thread_if, thread_part, time}
+use Rattle.nt_event.specs.Frames.{at_name, called, done_to, due_of, end_on_thread, ended_on_thread, flushed, frames_in, frames_of, is_base_body, ended_base, new_frame, normal_of, resumed, rewaited, running, running_after, switched_to, thread_after, thread_frames, thread_if, thread_part, time}
 use Rattle.nt_runs.specs.Laws.{HasBase, IsInner}
 use Rattle.nt_event.specs.Routines.{cpu_of, kind_of, rundown_of}
 use Rattle.nt_event.specs.Script.{has_thread}
@@ -90,9 +90,9 @@ begun_based t f (g ∷ fs) i h = (i, h)
 
 ended_based : (t : ThreadNo) (fs : List Frame) → HasBase t fs → HasBase t (ended_on_thread fs)
 ended_based t [] h = h
-ended_based t (f ∷ []) h = subst (λ (b : Body). HasBase t (if is_base_body b then (left f ∷ []) else [])) (sym h) h
+ended_based t (f ∷ []) h = subst (λ (b : Body). HasBase t (if is_base_body b then (ended_base f ∷ []) else [])) (sym h) h
 ended_based t (f ∷ (g ∷ fs)) h =
-    subst (λ (b : Bool). HasBase t (if b then (left f ∷ g ∷ fs) else (g ∷ fs))) (sym h.0.0) h.1
+    subst (λ (b : Bool). HasBase t (if b then (ended_base f ∷ g ∷ fs) else (g ∷ fs))) (sym h.0.0) h.1
 
 end_based : (t : ThreadNo) (n : ℕ) (fs : List Frame) → HasBase t fs → HasBase t (end_on_thread n fs)
 end_based t n [] h = h
@@ -115,7 +115,8 @@ is_switch (Switch t st) = true
 is_switch w = false
 
 -- an event that neither takes up a thread nor ends it leaves it its base
-after_based : (t : ThreadNo) (s : Script) (n : ℕ) (due : Option ℕ) (w : What) (fs : List Frame) → is_switch w ≡ false → is_gone_event w ≡ false → HasBase t fs → HasBase t (thread_after s n due w fs)
+after_based : (t : ThreadNo) (s : Script) (n : ℕ) (due : Option ℕ) (w : What) (fs : List Frame) → is_switch w ≡ false → is_gone_event w ≡ false →
+    HasBase t fs → HasBase t (thread_after s n due w fs)
 after_based t s n due (Switch u st) fs a b h = cc
 after_based t s n due (Gone u) fs a b h = cc
 after_based t s n due (Begin (Apc x) from) fs a b h =
@@ -148,7 +149,8 @@ kept (Rewait f Blocked) r t n h = cc
 kept w r t n h = h
 
 -- a thread that a Switch takes is one of the processor's
-pub taken : (s : Script) (limit : ℕ) (p : CpuNo) (t : ThreadNo) (past : List Event) (e : Event) → Gives (step s limit (SwitchTurn p t) past) e → (has_thread s t ≡ true) × ((cpu_of s t).0 ≡ p.0)
+pub taken : (s : Script) (limit : ℕ) (p : CpuNo) (t : ThreadNo) (past : List Event) (e : Event) → Gives (step s limit (SwitchTurn p t) past) e →
+    (has_thread s t ≡ true) × ((cpu_of s t).0 ≡ p.0)
 taken s limit p t past e h =
     let k = switch_gives s limit p t past e h in
     let a = both (has_thread s t) _ k.1 in
@@ -158,7 +160,8 @@ taken s limit p t past e h =
 abbrev Here : Script → CpuNo → ThreadNo → Type 0
 Here s p t = (has_thread s t ≡ true) × ((cpu_of s t).0 ≡ p.0)
 
-here_by : (s : Script) (limit : ℕ) (p : CpuNo) (t : ThreadNo) (e : Event) (past : List Event) (w : What) → e.what ≡ w → is_of e p ≡ true → IsLegal s limit e past → (running p past ≡ Some t → Here s p t) → running_after w (running p past) ≡ Some t → Here s p t
+here_by : (s : Script) (limit : ℕ) (p : CpuNo) (t : ThreadNo) (e : Event) (past : List Event) (w : What) → e.what ≡ w → is_of e p ≡ true →
+    IsLegal s limit e past → (running p past ≡ Some t → Here s p t) → running_after w (running p past) ≡ Some t → Here s p t
 here_by s limit p t e past (Switch u st) k own g ih h =
     let same : u ≡ t = cc in
     let here : e.cpu.0 ≡ p.0 = eqb-true e.cpu.0 p.0 own in
@@ -167,7 +170,8 @@ here_by s limit p t e past (Switch u st) k own g ih h =
     (rw (← same) a.0, rw (← same, ← here) a.1)
 here_by s limit p t e past w k own g ih h = ih (kept w (running p past) t refl h)
 
-here_after : (s : Script) (limit : ℕ) (p : CpuNo) (t : ThreadNo) (e : Event) (past : List Event) (b : Bool) → is_of e p ≡ b → IsLegal s limit e past → (running p past ≡ Some t → Here s p t) → (if b then running_after e.what (running p past) else running p past) ≡ Some t → Here s p t
+here_after : (s : Script) (limit : ℕ) (p : CpuNo) (t : ThreadNo) (e : Event) (past : List Event) (b : Bool) → is_of e p ≡ b → IsLegal s limit e past →
+    (running p past ≡ Some t → Here s p t) → (if b then running_after e.what (running p past) else running p past) ≡ Some t → Here s p t
 here_after s limit p t e past true k g ih x = here_by s limit p t e past e.what refl k g ih x
 here_after s limit p t e past false k g ih x = ih x
 
@@ -191,11 +195,14 @@ pub not_itself : (t : ThreadNo) → is_thread (Some t) t ≡ false → ⊥
 not_itself t h = let k : (t.0 == t.0) ≡ true = eq-eqb t.0 t.0 refl in cc
 
 -- what an event of p leaves, where the event names the thread or doesn't
-pub frames_when : (s : Script) (p : CpuNo) (t : ThreadNo) (e : Event) (past : List Event) (b : Bool) → is_of e p ≡ true → is_by e t ≡ b → thread_frames s p t (e ∷ past) ≡ thread_if b s (length past) (due_of e.what (time past)) e.what (thread_frames s p t past)
+pub frames_when : (s : Script) (p : CpuNo) (t : ThreadNo) (e : Event) (past : List Event) (b : Bool) → is_of e p ≡ true → is_by e t ≡ b →
+    thread_frames s p t (e ∷ past) ≡ thread_if b s (length past) (due_of e.what (time past)) e.what (thread_frames s p t past)
 frames_when s p t e past b own k = rw (own, k) refl
 
 -- the event names the thread: it takes it up, ends it, or was made while it ran
-named_by : (s : Script) (p : CpuNo) (t : ThreadNo) (n : ℕ) (due : Option ℕ) (fs : List Frame) (r : Option ThreadNo) (w : What) → thread_field w r ≡ Some t → (fs ≡ []) ⊎ HasBase t fs → (r ≡ Some t → HasBase t fs) → ((thread_after s n due w fs ≡ []) ⊎ HasBase t (thread_after s n due w fs)) × (running_after w r ≡ Some t → HasBase t (thread_after s n due w fs))
+named_by : (s : Script) (p : CpuNo) (t : ThreadNo) (n : ℕ) (due : Option ℕ) (fs : List Frame) (r : Option ThreadNo) (w : What) → thread_field w r ≡ Some t →
+    (fs ≡ []) ⊎ HasBase t fs → (r ≡ Some t → HasBase t fs) → ((thread_after s n due w fs ≡ []) ⊎ HasBase t (thread_after s n due w fs)) ×
+    (running_after w r ≡ Some t → HasBase t (thread_after s n due w fs))
 named_by s p t n due fs r (Switch u st) k or run =
     let same : t ≡ u = cc in
     let h : HasBase t (switched_to n u st fs) = subst (λ (v : ThreadNo). HasBase t (switched_to n v st fs)) same (switched_based t n st fs or) in
@@ -209,7 +216,8 @@ named_by s p t n due fs r w k or run =
     let h : HasBase t (thread_after s n due w fs) = after_based t s n due w fs refl refl (run k) in (inr h, λ x. h)
 
 -- the event doesn't name the thread: it doesn't take it up
-pub unnamed_by : (s : Script) (limit : ℕ) (p : CpuNo) (t : ThreadNo) (e : Event) (past : List Event) (w : What) → e.what ≡ w → is_by e t ≡ false → is_of e p ≡ true → IsLegal s limit e past → running_after w (running p past) ≡ Some t → running p past ≡ Some t
+pub unnamed_by : (s : Script) (limit : ℕ) (p : CpuNo) (t : ThreadNo) (e : Event) (past : List Event) (w : What) → e.what ≡ w → is_by e t ≡ false → is_of e p
+    ≡ true → IsLegal s limit e past → running_after w (running p past) ≡ Some t → running p past ≡ Some t
 unnamed_by s limit p t e past (Switch u st) k b own g x =
     let same : u ≡ t = cc in
     let named : e.thread ≡ Some u = thread_named s limit e past g ∙ ap (λ (w : What). thread_field w (running e.cpu past)) k in
@@ -223,26 +231,39 @@ same_cpu e p h =
 pub running_own : (p : CpuNo) (e : Event) (past : List Event) → is_of e p ≡ true → running p (e ∷ past) ≡ running_after e.what (running p past)
 running_own p e past h = rw h
 
-based_named : (s : Script) (limit : ℕ) (p : CpuNo) (t : ThreadNo) (e : Event) (past : List Event) → is_of e p ≡ true → is_by e t ≡ true → IsLegal s limit e past → Based s p t past → Based s p t (e ∷ past)
+based_named : (s : Script) (limit : ℕ) (p : CpuNo) (t : ThreadNo) (e : Event) (past : List Event) → is_of e p ≡ true → is_by e t ≡ true →
+    IsLegal s limit e past → Based s p t past → Based s p t (e ∷ past)
 based_named s limit p t e past own b g ih =
-    let field : thread_field e.what (running p past) ≡ Some t = ap (λ (q : CpuNo). thread_field e.what (running q past)) (sym (same_cpu e p own)) ∙ (sym (thread_named s limit e past g) ∙ same_thread e.thread t b) in
+    let field : thread_field e.what (running p past) ≡ Some t = ap (λ (q : CpuNo). thread_field e.what (running q past)) (sym (same_cpu e p own))
+    ∙ (sym (thread_named s limit e past g) ∙ same_thread e.thread t b) in
     let fs : List Frame = thread_frames s p t past in
     let k = named_by s p t (length past) (due_of e.what (time past)) fs (running p past) e.what field ih.or_none ih.running in
     let moved : thread_frames s p t (e ∷ past) ≡ thread_after s (length past) (due_of e.what (time past)) e.what fs = frames_when s p t e past true own b in
-    record { or_none = subst (λ (gs : List Frame). (gs ≡ []) ⊎ HasBase t gs) (sym moved) k.0; running = λ x. subst (HasBase t) (sym moved) (k.1 (sym (running_own p e past own) ∙ x)) }
+    record {
+      or_none = subst (λ (gs : List Frame). (gs ≡ []) ⊎ HasBase t gs) (sym moved) k.0;
+      running = λ x. subst (HasBase t) (sym moved) (k.1 (sym (running_own p e past own) ∙ x));
+    }
 
-based_unnamed : (s : Script) (limit : ℕ) (p : CpuNo) (t : ThreadNo) (e : Event) (past : List Event) → is_of e p ≡ true → is_by e t ≡ false → IsLegal s limit e past → Based s p t past → Based s p t (e ∷ past)
+based_unnamed : (s : Script) (limit : ℕ) (p : CpuNo) (t : ThreadNo) (e : Event) (past : List Event) → is_of e p ≡ true → is_by e t ≡ false →
+    IsLegal s limit e past → Based s p t past → Based s p t (e ∷ past)
 based_unnamed s limit p t e past own b g ih =
     let moved : thread_frames s p t (e ∷ past) ≡ thread_frames s p t past = frames_when s p t e past false own b in
-    record { or_none = subst (λ (gs : List Frame). (gs ≡ []) ⊎ HasBase t gs) (sym moved) ih.or_none; running = λ x. subst (HasBase t) (sym moved) (ih.running (unnamed_by s limit p t e past e.what refl b own g (sym (running_own p e past own) ∙ x))) }
+    record {
+      or_none = subst (λ (gs : List Frame). (gs ≡ []) ⊎ HasBase t gs) (sym moved) ih.or_none;
+      running = λ x. subst (HasBase t) (sym moved) (ih.running (unnamed_by s limit p t e past e.what refl b own g (sym (running_own p e past own) ∙ x)));
+    }
 
 based_other : (s : Script) (p : CpuNo) (t : ThreadNo) (e : Event) (past : List Event) → is_of e p ≡ false → Based s p t past → Based s p t (e ∷ past)
 based_other s p t e past h ih =
     let moved : thread_frames s p t (e ∷ past) ≡ thread_frames s p t past = rw h in
     let ran : running p (e ∷ past) ≡ running p past = rw h in
-    record { or_none = subst (λ (gs : List Frame). (gs ≡ []) ⊎ HasBase t gs) (sym moved) ih.or_none; running = λ x. subst (HasBase t) (sym moved) (ih.running (sym ran ∙ x)) }
+    record {
+      or_none = subst (λ (gs : List Frame). (gs ≡ []) ⊎ HasBase t gs) (sym moved) ih.or_none;
+      running = λ x. subst (HasBase t) (sym moved) (ih.running (sym ran ∙ x));
+    }
 
-based_after : (s : Script) (limit : ℕ) (p : CpuNo) (t : ThreadNo) (e : Event) (past : List Event) (own by : Bool) → is_of e p ≡ own → is_by e t ≡ by → IsLegal s limit e past → Based s p t past → Based s p t (e ∷ past)
+based_after : (s : Script) (limit : ℕ) (p : CpuNo) (t : ThreadNo) (e : Event) (past : List Event) (own by : Bool) → is_of e p ≡ own → is_by e t ≡ by →
+    IsLegal s limit e past → Based s p t past → Based s p t (e ∷ past)
 based_after s limit p t e past true true o b g ih = based_named s limit p t e past o b g ih
 based_after s limit p t e past true false o b g ih = based_unnamed s limit p t e past o b g ih
 based_after s limit p t e past false by o b g ih = based_other s p t e past o ih
@@ -257,11 +278,14 @@ based s limit p t (e ∷ past) r =
 
 -- ---- the running thread's part
 
-pub part_of_running : (s : Script) (p : CpuNo) (t : ThreadNo) (past : List Event) → has_thread s t ≡ true → running p past ≡ Some t → thread_part (frames_of s p past) ≡ thread_frames s p t past
+pub part_of_running : (s : Script) (p : CpuNo) (t : ThreadNo) (past : List Event) → has_thread s t ≡ true → running p past ≡ Some t →
+    thread_part (frames_of s p past) ≡ thread_frames s p t past
 part_of_running s p t past h r =
-    ap (λ (o : Option ThreadNo). option_map_or (frames_in (frames_of s p past).threads) o []) r ∙ get_or-table (length s.threads) t.0 (λ k. thread_frames s p (thread k) past) [] (ltb-true t.0 (length s.threads) h)
+    ap (λ (o : Option ThreadNo). option_map_or (frames_in (frames_of s p past).threads) o []) r
+    ∙ get_or-table (length s.threads) t.0 (λ k. thread_frames s p (thread k) past) [] (ltb-true t.0 (length s.threads) h)
 
-pub running_has_base : (s : Script) (limit : ℕ) (p : CpuNo) (t : ThreadNo) (past : List Event) → IsRun s limit past → running p past ≡ Some t → ((cpu_of s t).0 ≡ p.0) × (has_thread s t ≡ true) × HasBase t (thread_part (frames_of s p past))
+pub running_has_base : (s : Script) (limit : ℕ) (p : CpuNo) (t : ThreadNo) (past : List Event) → IsRun s limit past → running p past ≡ Some t →
+    ((cpu_of s t).0 ≡ p.0) × (has_thread s t ≡ true) × HasBase t (thread_part (frames_of s p past))
 running_has_base s limit p t past r h =
     let here = running_here s limit p t past r h in
     (here.1, here.0, subst (HasBase t) (sym (part_of_running s p t past here.0 h)) ((based s limit p t past r).running h))

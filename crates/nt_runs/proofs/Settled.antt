@@ -49,7 +49,8 @@ was_asked_below s p c v [] h = cc
 was_asked_below s p c v (e ∷ past) h =
     go (v == length past + 1) (asks s p c e past) refl refl h (was_asked_below s p c v past)
   where
-    go : (m b : Bool) → (v == length past + 1) ≡ m → asks s p c e past ≡ b → ((m && b) || was_asked s p c v past) ≡ true → (was_asked s p c v past ≡ true → v ≤ asked s p c past) → v ≤ asked s p c (e ∷ past)
+    go : (m b : Bool) → (v == length past + 1) ≡ m → asks s p c e past ≡ b → ((m && b) || was_asked s p c v past) ≡ true →
+        (was_asked s p c v past ≡ true → v ≤ asked s p c past) → v ≤ asked s p c (e ∷ past)
     go true true e1 e2 x ih =
         let n : v ≡ length past + 1 = eqb-true v (length past + 1) e1 in
         let a : asked s p c (e ∷ past) ≡ length past + 1 = rw e2 in
@@ -62,7 +63,8 @@ told_by_below s x p c [] = omega arith
 told_by_below s x p c (e ∷ past) =
     go (touches s x e past) (asks s p c e past) (told_by_below s x p c past) (asked_below s p c past)
   where
-    go : (t b : Bool) → told_by s x p c past ≤ asked s p c past → asked s p c past ≤ length past → raised (t && b) (length past) (told_by s x p c past) ≤ raised b (length past) (asked s p c past)
+    go : (t b : Bool) → told_by s x p c past ≤ asked s p c past → asked s p c past ≤ length past →
+        raised (t && b) (length past) (told_by s x p c past) ≤ raised b (length past) (asked s p c past)
     go true true h k = omega arith
     go true false h k = h
     go false true h k = omega arith
@@ -74,11 +76,13 @@ told_below s (x ∷ xs) p c past =
     let a = told_by_below s x p c past in let b = told_below s xs p c past in omega (arith, a, b)
 
 -- each value of a good look is 0, or was asked
-rises_asked : (s : Script) (p : CpuNo) (k i : ℕ) (vs : List ℕ) (x : Own) (past : List Event) → good_rises s p k vs x past ≡ true → value_at vs i ≤ asked s p (k + i) past
+rises_asked : (s : Script) (p : CpuNo) (k i : ℕ) (vs : List ℕ) (x : Own) (past : List Event) → good_rises s p k vs x past ≡ true →
+    value_at vs i ≤ asked s p (k + i) past
 rises_asked s p k i [] x past h = omega arith
 rises_asked s p k zero (v ∷ vs) x past h =
     let e : k + 0 ≡ k = omega arith in
-    rw e (first (v == 0) (nat_lt (value_at x.seen k) v) (was_asked s p k v past) refl refl (both ((v == 0) || (nat_lt (value_at x.seen k) v && was_asked s p k v past)) _ h).0)
+    rw e (first (v == 0) (nat_lt (value_at x.seen k) v) (was_asked s p k v past) refl refl
+    (both ((v == 0) || (nat_lt (value_at x.seen k) v && was_asked s p k v past)) _ h).0)
   where
     first : (z m w : Bool) → (v == 0) ≡ z → was_asked s p k v past ≡ w → (z || (m && w)) ≡ true → v ≤ asked s p k past
     first true m w e1 e2 t = let n : v ≡ 0 = eqb-true v 0 e1 in omega (arith, n)
@@ -89,7 +93,8 @@ rises_asked s p k (suc i) (v ∷ vs) x past h =
     let e : k + suc i ≡ suc k + i = omega arith in
     rw e (rises_asked s p (suc k) i vs x past (both ((v == 0) || (nat_lt (value_at x.seen k) v && was_asked s p k v past)) _ h).1)
 
-looked_asked : (s : Script) (limit : ℕ) (c : ℕ) (e : Event) (past : List Event) (w : What) → e.what ≡ w → IsLegal s limit e past → looked w c ≤ asked s e.cpu c past
+looked_asked : (s : Script) (limit : ℕ) (c : ℕ) (e : Event) (past : List Event) (w : What) → e.what ≡ w → IsLegal s limit e past →
+    looked w c ≤ asked s e.cpu c past
 looked_asked s limit c e past (Look r) k g =
     let turn : Gives (step s limit (LookTurn e.cpu r) past) e = subst (λ (w : What). Gives (step s limit (turn_at e.cpu w) past) e) k g in
     let good = (look_gives s limit e.cpu r past e turn).0 in
@@ -97,7 +102,8 @@ looked_asked s limit c e past (Look r) k g =
     rw zero_left at (rises_asked s e.cpu 0 c r.value (own_of s e.cpu past) past (both (list_any (λ v. nat_lt 0 v) r.value) _ good).1)
 looked_asked s limit c e past w k g = omega arith
 
-seen_after_below : (b : Bool) (n : ℕ) (w : What) (c old told asked : ℕ) → old ≤ asked → looked w c ≤ asked → told ≤ asked → seen_after n w c b told old ≤ raised b n asked
+seen_after_below : (b : Bool) (n : ℕ) (w : What) (c old told asked : ℕ) → old ≤ asked → looked w c ≤ asked → told ≤ asked →
+    seen_after n w c b told old ≤ raised b n asked
 seen_after_below true n w c old told asked h k l = omega arith
 seen_after_below false n w c old told asked h k l = omega (arith, h, k, l)
 
@@ -105,9 +111,12 @@ pub seen_below : (s : Script) (limit : ℕ) (p : CpuNo) (c : ℕ) (past : List E
 seen_below s limit p c [] r = omega arith
 seen_below s limit p c (e ∷ past) r = go (is_of e p) refl (seen_below s limit p c past r.1)
   where
-    go : (b : Bool) → is_of e p ≡ b → seen s p c past ≤ asked s p c past → (if b then seen_after (length past) e.what c (asks s p c e past) (told s p c e past) (seen s p c past) else seen s p c past) ≤ asked s p c (e ∷ past)
+    go : (b : Bool) → is_of e p ≡ b → seen s p c past ≤ asked s p c past →
+        (if b then seen_after (length past) e.what c (asks s p c e past) (told s p c e past) (seen s p c past) else seen s p c past) ≤ asked s p c (e ∷ past)
     go true h ih =
-        seen_after_below (asks s p c e past) (length past) e.what c (seen s p c past) (told s p c e past) (asked s p c past) ih (subst (λ (q : CpuNo). looked e.what c ≤ asked s q c past) (same_cpu e p h) (looked_asked s limit c e past e.what refl r.0)) (told_below s (lanes_of s e past) p c past)
+        seen_after_below (asks s p c e past) (length past) e.what c (seen s p c past) (told s p c e past) (asked s p c past) ih
+        (subst (λ (q : CpuNo). looked e.what c ≤ asked s q c past) (same_cpu e p h) (looked_asked s limit c e past e.what refl r.0))
+        (told_below s (lanes_of s e past) p c past)
     go false h ih = let g = asked_grows s p c e past in omega (arith, g, ih)
 
 -- ---- one processor is done
@@ -135,11 +144,13 @@ behind_step : (a b : Bool) (x y : Bool) → a ≡ not x → b ≡ not y → (a |
 behind_step a b true y h k = cc
 behind_step a b false y h k = rw h refl
 
-behind_from : (x : Own) (a : ℕ → ℕ) (k n : ℕ) → ((i : ℕ) → i < n → value_at x.seen (k + i) ≤ a (k + i)) → list_any (λ v. nat_lt 0 v) (table_from k n (look_value x a)) ≡ not (list_all (λ same. same) (table_from k n (λ c. value_at x.seen c == a c)))
+behind_from : (x : Own) (a : ℕ → ℕ) (k n : ℕ) → ((i : ℕ) → i < n → value_at x.seen (k + i) ≤ a (k + i)) →
+    list_any (λ v. nat_lt 0 v) (table_from k n (look_value x a)) ≡ not (list_all (λ same. same) (table_from k n (λ c. value_at x.seen c == a c)))
 unfolding table_from
 behind_from x a k zero h = refl
 behind_from x a k (suc n) h =
-    behind_step _ _ (value_at x.seen k == a k) (list_all (λ same. same) (table_from (suc k) n (λ c. value_at x.seen c == a c))) (class_seen (value_at x.seen k) (a k) here) (behind_from x a (suc k) n next)
+    behind_step _ _ (value_at x.seen k == a k) (list_all (λ same. same) (table_from (suc k) n (λ c. value_at x.seen c == a c)))
+    (class_seen (value_at x.seen k) (a k) here) (behind_from x a (suc k) n next)
   where
     here : value_at x.seen k ≤ a k
     here = let e : k + 0 ≡ k = omega arith in rw e at (h 0 (omega arith))
@@ -148,7 +159,8 @@ behind_from x a k (suc n) h =
     next i l = let e : k + suc i ≡ suc k + i = omega arith in rw e at (h (suc i) (omega arith))
 
 -- a processor is behind exactly where it hasn't seen what was asked
-pub behind_seen : (s : Script) (limit : ℕ) (p : CpuNo) (past : List Event) → IsRun s limit past → is_behind (own_of s p past) (λ c. asked s p c past) ≡ not (has_seen (own_of s p past) (λ c. asked s p c past))
+pub behind_seen : (s : Script) (limit : ℕ) (p : CpuNo) (past : List Event) → IsRun s limit past → is_behind (own_of s p past) (λ c. asked s p c past)
+    ≡ not (has_seen (own_of s p past) (λ c. asked s p c past))
 behind_seen s limit p past r = behind_from (own_of s p past) (λ c. asked s p c past) 0 16 below
   where
     below : (i : ℕ) → i < 16 → value_at (own_of s p past).seen (0 + i) ≤ asked s p (0 + i) past
@@ -157,7 +169,8 @@ behind_seen s limit p past r = behind_from (own_of s p past) (λ c. asked s p c 
         let v : value_at (own_of s p past).seen i ≡ seen s p i past = get_or-table 16 i (λ c. seen s p c past) 0 l in
         rw (e, v) (seen_below s limit p i past r)
 
-turn_none : (cut behind rests seen : Bool) (t u : Turn) → behind ≡ not seen → is_none (when (not cut) (if behind then Some t else (if rests then None else Some u))) ≡ (cut || (rests && seen))
+turn_none : (cut behind rests seen : Bool) (t u : Turn) → behind ≡ not seen →
+    is_none (when (not cut) (if behind then Some t else (if rests then None else Some u))) ≡ (cut || (rests && seen))
 turn_none true behind rests seen t u h = refl
 turn_none false behind rests true t u h = rw h (go rests)
   where
@@ -171,9 +184,11 @@ turn_none false behind rests false t u h = rw h (go rests)
     go false = refl
 
 -- a processor has no turn exactly where it is done
-pub robin_of_done : (s : Script) (limit : ℕ) (p : CpuNo) (past : List Event) → IsRun s limit past → is_none (robin_of s limit p past) ≡ is_done_with s limit p past
+pub robin_of_done : (s : Script) (limit : ℕ) (p : CpuNo) (past : List Event) → IsRun s limit past → is_none (robin_of s limit p past)
+    ≡ is_done_with s limit p past
 robin_of_done s limit p past r =
-    turn_none (is_cut limit (own_of s p past)) (is_behind (own_of s p past) (λ c. asked s p c past)) (rests (own_of s p past)) (has_seen (own_of s p past) (λ c. asked s p c past)) _ _ (behind_seen s limit p past r)
+    turn_none (is_cut limit (own_of s p past)) (is_behind (own_of s p past) (λ c. asked s p c past)) (rests (own_of s p past))
+    (has_seen (own_of s p past) (λ c. asked s p c past)) _ _ (behind_seen s limit p past r)
 
 -- ---- the cycle visits each processor
 
@@ -193,7 +208,9 @@ or_none None b h = (refl, h)
 or_none (Some x) b h = cc
 
 -- those from p on are visited
-up_step : (s : Script) (limit : ℕ) (past : List Event) (n p q : ℕ) → (suc p ≤ q → robin_from s limit n (suc p) past ≡ None → Done s limit past q) → p ≤ q → q < s.cpus → (m : Bool) → (p == q) ≡ m → Done s limit past p → robin_from s limit n (if suc p == s.cpus then 0 else suc p) past ≡ None → (w : Bool) → (suc p == s.cpus) ≡ w → Done s limit past q
+up_step : (s : Script) (limit : ℕ) (past : List Event) (n p q : ℕ) → (suc p ≤ q → robin_from s limit n (suc p) past ≡ None → Done s limit past q) → p ≤ q →
+    q < s.cpus → (m : Bool) → (p == q) ≡ m → Done s limit past p → robin_from s limit n (if suc p == s.cpus then 0 else suc p) past ≡ None → (w : Bool) →
+    (suc p == s.cpus) ≡ w → Done s limit past q
 up_step s limit past n p q ih a b true e d more w k =
     let n : p ≡ q = eqb-true p q e in subst (Done s limit past) n d
 up_step s limit past n p q ih a b false e d more true k =
@@ -212,7 +229,9 @@ cycle_up s limit past (suc n) p q a b c h =
     up_step s limit past n p q (λ l m. cycle_up s limit past n (suc p) q l b (omega (arith, c)) m) a b (p == q) refl k.0 k.1 (suc p == s.cpus) refl
 
 -- and, round the end, those below p
-round_step : (s : Script) (limit : ℕ) (past : List Event) (n p q : ℕ) → (suc p < s.cpus → robin_from s limit n (suc p) past ≡ None → Done s limit past q) → p < s.cpus → q < p → q + s.cpus < suc n + p → robin_from s limit n (if suc p == s.cpus then 0 else suc p) past ≡ None → (w : Bool) → (suc p == s.cpus) ≡ w → Done s limit past q
+round_step : (s : Script) (limit : ℕ) (past : List Event) (n p q : ℕ) → (suc p < s.cpus → robin_from s limit n (suc p) past ≡ None → Done s limit past q) →
+    p < s.cpus → q < p → q + s.cpus < suc n + p → robin_from s limit n (if suc p == s.cpus then 0 else suc p) past ≡ None → (w : Bool) → (suc p == s.cpus)
+    ≡ w → Done s limit past q
 round_step s limit past n p q ih a b c more true k =
     let last : suc p ≡ s.cpus = eqb-true (suc p) s.cpus k in
     let m : robin_from s limit n 0 past ≡ None = rw k at more in
@@ -222,7 +241,8 @@ round_step s limit past n p q ih a b c more false k =
     let m : robin_from s limit n (suc p) past ≡ None = rw k at more in
     ih (omega (arith, a, x)) m
 
-cycle_round : (s : Script) (limit : ℕ) (past : List Event) (n p q : ℕ) → p < s.cpus → q < p → q + s.cpus < n + p → robin_from s limit n p past ≡ None → Done s limit past q
+cycle_round : (s : Script) (limit : ℕ) (past : List Event) (n p q : ℕ) → p < s.cpus → q < p → q + s.cpus < n + p → robin_from s limit n p past ≡ None →
+    Done s limit past q
 cycle_round s limit past zero p q a b c h = absurd (omega (arith, a, b, c))
 cycle_round s limit past (suc n) p q a b c h =
     let k = or_none (robin_of s limit (cpu p) past) _ h in
@@ -236,7 +256,8 @@ cycle_all s limit past p q a b h = go (nat_lt q p) refl
     go false e =
         let l : p ≤ q = ltb-false q p e in cycle_up s limit past s.cpus p q l b (omega (arith, l, b)) h
 
-cycle_none : (s : Script) (limit : ℕ) (past : List Event) (n p : ℕ) → p < s.cpus → ((q : ℕ) → q < s.cpus → Done s limit past q) → robin_from s limit n p past ≡ None
+cycle_none : (s : Script) (limit : ℕ) (past : List Event) (n p : ℕ) → p < s.cpus → ((q : ℕ) → q < s.cpus → Done s limit past q) → robin_from s limit n p past
+    ≡ None
 cycle_none s limit past zero p a h = refl
 cycle_none s limit past (suc n) p a h =
     rw (of_none (robin_of s limit (cpu p) past) (h p a)) (cycle_none s limit past n (if suc p == s.cpus then 0 else suc p) (cycle_below s p a) h)
@@ -264,7 +285,8 @@ first_below s limit (e ∷ past) r h = cycle_below s e.cpu.0 (cpu_below s limit 
 
 settled_done : (s : Script) (limit : ℕ) (past : List Event) → IsRun s limit past → ((q : ℕ) → q < s.cpus → Done s limit past q) → is_settled s limit past ≡ true
 settled_done s limit past r h =
-    table_all 0 s.cpus (λ p. is_done_with s limit (cpu p) past) (λ i l. let e : 0 + i ≡ i = omega arith in rw e (sym (robin_of_done s limit (cpu i) past r) ∙ h i l))
+    table_all 0 s.cpus (λ p. is_done_with s limit (cpu p) past)
+    (λ i l. let e : 0 + i ≡ i = omega arith in rw e (sym (robin_of_done s limit (cpu i) past r) ∙ h i l))
 
 done_settled : (s : Script) (limit : ℕ) (past : List Event) → IsRun s limit past → is_settled s limit past ≡ true → (q : ℕ) → q < s.cpus → Done s limit past q
 done_settled s limit past r h q l =

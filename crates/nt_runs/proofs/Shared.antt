@@ -35,7 +35,8 @@ use Rattle.nt_event.specs.Acting.{IsDue, acted_event, acted_level}
 use Rattle.nt_event.specs.Apcs.{first_user}
 use Rattle.nt_event.specs.Commands.{needs_lane, reply}
 use Rattle.nt_event.specs.Frames.{Frames, at_name, called, end_on_thread, flushed, frames_after, frames_in, frames_of, innermost, is_base_body, is_on_thread, is_user_apc_body, level_in, own_after, own_frames, rewaited, running, running_after, switched_to, thread_after, thread_frames, thread_if, thread_part, without}
-use Rattle.nt_event.specs.Jobs.{begin_apc, begin_dpc, begin_first, call_task, command_task, end_task, expire_key, fire_task, frame_task, has_normal, idle_event, idle_task, interrupt_classes, interrupt_task, job_event, level_at, may_apcs, may_drain, may_interrupt, may_switch, may_take, may_threaded, must, must_task, next_ready, normal_task, ready, rewait_reply, rewait_task, rundown_event, rundown_task, switch_event, task, user_due}
+use Rattle.nt_event.specs.Jobs.{begin_apc, begin_dpc, begin_first, call_task, command_task, end_task, expire_key, fire_task, frame_task, has_normal, idle_event, idle_task, interrupt_task, job_event, level_at, may_apcs, may_drain, may_interrupt, may_switch, may_take, may_threaded, must, must_task, next_ready, normal_task, ready, rewait_reply, rewait_task, rundown_event, rundown_task, switch_event, task, user_due}
+use Rattle.nt_event.specs.Classes.{interrupt_classes}
 use Rattle.nt_event.specs.Lanes.{Lanes, facts_at, facts_of, lanes_at, queue_at}
 use Rattle.nt_runs.specs.Laws.{HasBase, Says, level_of}
 use Rattle.nt_event.specs.Own.{Own, own_of}
@@ -78,7 +79,12 @@ TaskIs x (Shared j) = JobIs x j
 
 must_is : (x : Own) → Holds (TaskIs x) (must_task x)
 must_is x =
-    holds_or (TaskIs x) (fire_task x) _ (holds_map (TaskIs x) (λ d. Shared (FireJob d)) x.fire (λ d e. tt)) (λ e. holds_or (TaskIs x) (interrupt_task x) _ (holds_map (TaskIs x) (λ c. Alone (Begin (Int c) (value_at x.seen c - 1))) (find (may_interrupt x) interrupt_classes) (λ c k. tt)) (λ k. holds_or (TaskIs x) (when (may_drain x) (Some (Shared DrainJob))) _ (holds_when (TaskIs x) (may_drain x) (Some (Shared DrainJob)) (λ h. tt)) (λ k2. holds_or (TaskIs x) (when (may_apcs x) (Some (Shared ApcsJob))) _ (holds_when (TaskIs x) (may_apcs x) (Some (Shared ApcsJob)) (λ h. tt)) (λ k3. holds_when (TaskIs x) (may_threaded x) (Some (Shared ThreadedJob)) (λ h. tt)))))
+    holds_or (TaskIs x) (fire_task x) _ (holds_map (TaskIs x) (λ d. Shared (FireJob d)) x.fire (λ d e. tt))
+    (λ e. holds_or (TaskIs x) (interrupt_task x) _ (holds_map (TaskIs x) (λ c. Alone (Begin (Int c) (value_at x.seen c - 1)))
+    (find (may_interrupt x) interrupt_classes) (λ c k. tt))
+    (λ k. holds_or (TaskIs x) (when (may_drain x) (Some (Shared DrainJob))) _ (holds_when (TaskIs x) (may_drain x) (Some (Shared DrainJob)) (λ h. tt))
+    (λ k2. holds_or (TaskIs x) (when (may_apcs x) (Some (Shared ApcsJob))) _ (holds_when (TaskIs x) (may_apcs x) (Some (Shared ApcsJob)) (λ h. tt))
+    (λ k3. holds_when (TaskIs x) (may_threaded x) (Some (Shared ThreadedJob)) (λ h. tt)))))
 
 call_is : (x : Own) (f : Frame) (c : Command) (r : Option Refusal) → TaskIs x (call_task f c r)
 call_is x f c (Some r) = tt
@@ -103,22 +109,32 @@ end_is x f n h = go f.body refl
 
 frame_is : (s : Script) (p : CpuNo) (x : Own) (f : Frame) → innermost x.frames ≡ Some f → Holds (TaskIs x) (frame_task s p x f)
 frame_is s p x f h =
-    holds_or (TaskIs x) (rewait_task f) _ (holds_when (TaskIs x) (is_some f.again) (Some (Shared RewaitJob)) (λ e. tt)) (λ e. holds_or (TaskIs x) (rundown_task f) _ (holds_when (TaskIs x) f.leaving (Some (Shared RundownJob)) (λ e. tt)) (λ k. holds_or (TaskIs x) (command_task x f (next_command s p f)) _ (command_is x f (next_command s p f)) (λ k2. holds_or (TaskIs x) (normal_task f) _ (holds_when (TaskIs x) (f.kernel_phase && has_normal f.body) (Some (Alone (Normal f.name))) (λ e. tt)) (λ k3. end_is x f f.name h))))
+    holds_or (TaskIs x) (rewait_task f) _ (holds_when (TaskIs x) (is_some f.again) (Some (Shared RewaitJob)) (λ e. tt))
+    (λ e. holds_or (TaskIs x) (rundown_task f) _ (holds_when (TaskIs x) f.leaving (Some (Shared RundownJob)) (λ e. tt))
+    (λ k. holds_or (TaskIs x) (command_task x f (next_command s p f)) _ (command_is x f (next_command s p f))
+    (λ k2. holds_or (TaskIs x) (normal_task f) _ (holds_when (TaskIs x) (f.kernel_phase && has_normal f.body) (Some (Alone (Normal f.name))) (λ e. tt))
+    (λ k3. end_is x f f.name h))))
 
 task_is : (s : Script) (p : CpuNo) (x : Own) → Holds (TaskIs x) (task s p x)
 task_is s p x =
-    holds_or (TaskIs x) (must_task x) _ (must_is x) (λ e. holds_or (TaskIs x) (option_and_then (frame_task s p x) (innermost x.frames)) (idle_task x) (holds_then (TaskIs x) (frame_task s p x) (innermost x.frames) (λ f k. frame_is s p x f k)) (λ k. holds_when (TaskIs x) (not (x.rested && is_none x.frames.running)) (Some (Shared IdleJob)) (λ h. tt)))
+    holds_or (TaskIs x) (must_task x) _ (must_is x) (λ e. holds_or (TaskIs x) (option_and_then (frame_task s p x) (innermost x.frames)) (idle_task x)
+    (holds_then (TaskIs x) (frame_task s p x) (innermost x.frames) (λ f k. frame_is s p x f k))
+    (λ k. holds_when (TaskIs x) (not (x.rested && is_none x.frames.running)) (Some (Shared IdleJob)) (λ h. tt)))
 
 -- ---- the level after an event
 
 -- the event says the level that its processor has after it
 abbrev Tells : Script → CpuNo → List Event → What → Type 0
-Tells s p past w = level_field w (frames_after s 0 None (unleveled p w (frames_of s p past)) (frames_of s p past)) ≡ acted_level (stand_at s p past) (lanes_at s past) w
+Tells s p past w = level_field w (frames_after s 0 None (unleveled p w (frames_of s p past)) (frames_of s p past))
+    ≡ acted_level (stand_at s p past) (lanes_at s past) w
 
 -- the running thread's part after an event that names it
-part_after : (s : Script) (due : Option ℕ) (e : Event) (x : Frames) (t : ThreadNo) → has_thread s t ≡ true → running_after e.what x.running ≡ Some t → is_by e t ≡ true → thread_part (frames_after s 0 due e x) ≡ thread_after s 0 due e.what (frames_in x.threads t)
+part_after : (s : Script) (due : Option ℕ) (e : Event) (x : Frames) (t : ThreadNo) → has_thread s t ≡ true → running_after e.what x.running ≡ Some t →
+    is_by e t ≡ true → thread_part (frames_after s 0 due e x) ≡ thread_after s 0 due e.what (frames_in x.threads t)
 part_after s due e x t h r b =
-    ap (λ (o : Option ThreadNo). option_map_or (frames_in (frames_after s 0 due e x).threads) o []) r ∙ (get_or-table (length s.threads) t.0 (λ k. thread_if (is_by e (thread k)) s 0 due e.what (frames_in x.threads (thread k))) [] (ltb-true t.0 (length s.threads) h) ∙ ap (λ (c : Bool). thread_if c s 0 due e.what (frames_in x.threads t)) b)
+    ap (λ (o : Option ThreadNo). option_map_or (frames_in (frames_after s 0 due e x).threads) o []) r
+    ∙ (get_or-table (length s.threads) t.0 (λ k. thread_if (is_by e (thread k)) s 0 due e.what (frames_in x.threads (thread k))) []
+    (ltb-true t.0 (length s.threads) h) ∙ ap (λ (c : Bool). thread_if c s 0 due e.what (frames_in x.threads t)) b)
 
 none_part : (x : Frames) → x.running ≡ None → thread_part x ≡ []
 none_part x h = ap (λ (o : Option ThreadNo). option_map_or (frames_in x.threads) o []) h
@@ -161,12 +177,15 @@ kept_running (Clean c) r h = refl
 kept_running Rest r h = refl
 kept_running w r h = cc
 
-kept_frames : (s : Script) (p : CpuNo) (past : List Event) (e : Event) → keeps_frames e.what ≡ true → frames_after s 0 None e (frames_of s p past) ≡ frames_of s p past
+kept_frames : (s : Script) (p : CpuNo) (past : List Event) (e : Event) → keeps_frames e.what ≡ true → frames_after s 0 None e (frames_of s p past)
+    ≡ frames_of s p past
 kept_frames s p past e h =
     λ i. record { own = kept_own e.what 0 None (own_frames p past) h i; running = kept_running e.what (running p past) h i; threads = t i }
   where
-    t : table (length s.threads) (λ t. thread_if (is_by e (thread t)) s 0 None e.what (frames_in (frames_of s p past).threads (thread t))) ≡ table (length s.threads) (λ t. thread_frames s p (thread t) past)
-    t = table-same _ _ _ (λ k l. kept_thread e.what (is_by e (thread k)) s 0 None (frames_in (frames_of s p past).threads (thread k)) h ∙ get_or-table (length s.threads) k (λ k. thread_frames s p (thread k) past) [] l)
+    t : table (length s.threads) (λ t. thread_if (is_by e (thread t)) s 0 None e.what (frames_in (frames_of s p past).threads (thread t)))
+        ≡ table (length s.threads) (λ t. thread_frames s p (thread t) past)
+    t = table-same _ _ _ (λ k l. kept_thread e.what (is_by e (thread k)) s 0 None (frames_in (frames_of s p past).threads (thread k)) h
+        ∙ get_or-table (length s.threads) k (λ k. thread_frames s p (thread k) past) [] l)
 
 kept_tells : (s : Script) (p : CpuNo) (past : List Event) (w : What) → keeps_frames w ≡ true → Tells s p past w
 kept_tells s p past w h = go w h
@@ -201,23 +220,29 @@ part_head x f h n =
     sym (ap (λ (o : Option Frame). option_or o (head_of (thread_part x))) (null_head x.own n)) ∙ h
 
 -- the level after an event that the running thread makes, by which it doesn't stop
-thread_level : (s : Script) (limit : ℕ) (p : CpuNo) (past : List Event) (t : ThreadNo) (w : What) → IsRun s limit past → running p past ≡ Some t → thread_field w (running p past) ≡ running p past → running_after w (running p past) ≡ Some t → is_null (own_after 0 None w (own_frames p past)) ≡ true → level_in (frames_after s 0 None (unleveled p w (frames_of s p past)) (frames_of s p past)) ≡ level_of (thread_after s 0 None w (thread_part (frames_of s p past)))
+thread_level : (s : Script) (limit : ℕ) (p : CpuNo) (past : List Event) (t : ThreadNo) (w : What) → IsRun s limit past → running p past ≡ Some t →
+    thread_field w (running p past) ≡ running p past → running_after w (running p past) ≡ Some t → is_null (own_after 0 None w (own_frames p past)) ≡ true →
+    level_in (frames_after s 0 None (unleveled p w (frames_of s p past)) (frames_of s p past))
+    ≡ level_of (thread_after s 0 None w (thread_part (frames_of s p past)))
 thread_level s limit p past t w r run field still null =
     let h = running_here s limit p t past r run in
     let x : Frames = frames_of s p past in
     let e : Event = unleveled p w x in
     let b : is_by e t ≡ true = by_itself t e.thread (field ∙ run) in
     let part : thread_part x ≡ frames_in x.threads t = ap (λ (o : Option ThreadNo). option_map_or (frames_in x.threads) o []) run in
-    level_where (frames_after s 0 None e x) null ∙ (ap level_of (part_after s None e x t h.0 still b) ∙ ap (λ (fs : List Frame). level_of (thread_after s 0 None w fs)) (sym part))
+    level_where (frames_after s 0 None e x) null ∙ (ap level_of (part_after s None e x t h.0 still b)
+    ∙ ap (λ (fs : List Frame). level_of (thread_after s 0 None w fs)) (sym part))
 
 -- an event by which the running thread stops, with no frame on the own part
-stop_level : (s : Script) (p : CpuNo) (past : List Event) (w : What) → running_after w (running p past) ≡ None → is_null (own_after 0 None w (own_frames p past)) ≡ true → level_in (frames_after s 0 None (unleveled p w (frames_of s p past)) (frames_of s p past)) ≡ 0
+stop_level : (s : Script) (p : CpuNo) (past : List Event) (w : What) → running_after w (running p past) ≡ None →
+    is_null (own_after 0 None w (own_frames p past)) ≡ true → level_in (frames_after s 0 None (unleveled p w (frames_of s p past)) (frames_of s p past)) ≡ 0
 stop_level s p past w r null =
     let x : Frames = frames_after s 0 None (unleveled p w (frames_of s p past)) (frames_of s p past) in
     level_where x null ∙ ap level_of (none_part x r)
 
 -- an APC begins
-apc_tells : (s : Script) (limit : ℕ) (p : CpuNo) (past : List Event) (a : ApcNo) (from : ℕ) (f : Frame) → IsRun s limit past → innermost (frames_of s p past) ≡ Some f → is_null (own_frames p past) ≡ true → Tells s p past (Begin (Apc a) from)
+apc_tells : (s : Script) (limit : ℕ) (p : CpuNo) (past : List Event) (a : ApcNo) (from : ℕ) (f : Frame) → IsRun s limit past → innermost (frames_of s p past)
+    ≡ Some f → is_null (own_frames p past) ≡ true → Tells s p past (Begin (Apc a) from)
 apc_tells s limit p past a from f r h n =
     let k = thread_runs (frames_of s p past) f h n in
     thread_level s limit p past k.0 (Begin (Apc a) from) r k.1 refl k.1 n
@@ -282,7 +307,8 @@ goes_level st l f c y h = go (is_blocked y) h
     go false h = refl
 
 -- a call that halts is made on a thread's part
-halts_null : (s : Script) (p : CpuNo) (x : Own) (l : Lanes) (n : ℕ) (c : Command) (y : Reply) → KnownCall s p x l n c y → halts c y ≡ true → is_null x.frames.own ≡ true
+halts_null : (s : Script) (p : CpuNo) (x : Own) (l : Lanes) (n : ℕ) (c : Command) (y : Reply) → KnownCall s p x l n c y → halts c y ≡ true →
+    is_null x.frames.own ≡ true
 halts_null s p x l n Yield Done k h = yield_call s p x l n k
 halts_null s p x l n c Blocked k h = (blocked_call s p x l n c k).1
 halts_null s p x l n c y k h = cc
@@ -291,7 +317,8 @@ named_null : (n : ℕ) (g : Frame → Frame) (fs : List Frame) → is_null (at_n
 named_null n g [] = refl
 named_null n g (f ∷ fs) = refl
 
-named_lane_level : (n : ℕ) (due : Option ℕ) (c : Command) (y : Reply) (fs : List Frame) → needs_lane c ≡ true → level_of (at_name n (called due c y) fs) ≡ level_of fs
+named_lane_level : (n : ℕ) (due : Option ℕ) (c : Command) (y : Reply) (fs : List Frame) → needs_lane c ≡ true → level_of (at_name n (called due c y) fs)
+    ≡ level_of fs
 named_lane_level n due c y [] h = refl
 named_lane_level n due c y (f ∷ fs) h = go (f.name == n)
   where
@@ -300,14 +327,17 @@ named_lane_level n due c y (f ∷ fs) h = go (f.name == n)
     go false = refl
 
 -- with a frame on the own part, a call leaves the level
-own_call_level : (n : ℕ) (c : Command) (y : Reply) (x y' : Frames) (fs : List Frame) → x.own ≡ fs → y'.own ≡ at_name n (called None c y) fs → is_null fs ≡ false → needs_lane c ≡ true → level_in y' ≡ level_in x
+own_call_level : (n : ℕ) (c : Command) (y : Reply) (x y' : Frames) (fs : List Frame) → x.own ≡ fs → y'.own ≡ at_name n (called None c y) fs → is_null fs
+    ≡ false → needs_lane c ≡ true → level_in y' ≡ level_in x
 own_call_level n c y x y' [] a b h k = cc
 own_call_level n c y x y' (f ∷ fs) a b h k =
-    let u : level_in y' ≡ level_of (at_name n (called None c y) (f ∷ fs)) = ap (λ (gs : List Frame). option_map_or (λ f. f.level) (option_or (head_of gs) (head_of (thread_part y'))) 0) b in
+    let u : level_in y' ≡ level_of (at_name n (called None c y) (f ∷ fs)) = ap
+    (λ (gs : List Frame). option_map_or (λ f. f.level) (option_or (head_of gs) (head_of (thread_part y'))) 0) b in
     let v : level_in x ≡ level_of (f ∷ fs) = ap (λ (gs : List Frame). option_map_or (λ f. f.level) (option_or (head_of gs) (head_of (thread_part x))) 0) a in
     u ∙ (named_lane_level n None c y (f ∷ fs) k ∙ sym v)
 
-call_tells : (s : Script) (limit : ℕ) (p : CpuNo) (past : List Event) (n : ℕ) (c : Command) (y : Reply) → IsRun s limit past → KnownCall s p (own_of s p past) (lanes_at s past) n c y → needs_lane c ≡ true → Tells s p past (Call n c y)
+call_tells : (s : Script) (limit : ℕ) (p : CpuNo) (past : List Event) (n : ℕ) (c : Command) (y : Reply) → IsRun s limit past →
+    KnownCall s p (own_of s p past) (lanes_at s past) n c y → needs_lane c ≡ true → Tells s p past (Call n c y)
 call_tells s limit p past n c y r k lane = go (halts c y) (is_null (own_frames p past)) refl refl
   where
     x : Frames
@@ -319,16 +349,22 @@ call_tells s limit p past n c y r k lane = go (halts c y) (is_null (own_frames p
     go : (b o : Bool) → halts c y ≡ b → is_null (own_frames p past) ≡ o → Tells s p past (Call n c y)
     go true o a e =
         let null : is_null (own_frames p past) ≡ true = halts_null s p (own_of s p past) (lanes_at s past) n c y k a in
-        stop_level s p past (Call n c y) (halts_running n c y (running p past) a) (null_after null) ∙ sym (halts_level (stand_at s p past) (lanes_at s past) n c y a)
+        stop_level s p past (Call n c y) (halts_running n c y (running p past) a) (null_after null)
+        ∙ sym (halts_level (stand_at s p past) (lanes_at s past) n c y a)
     go false true a e =
         let t = thread_runs (frames_of s p past) k.frame k.goes_on.inner e in
-        thread_level s limit p past t.0 (Call n c y) r t.1 refl (goes_running n c y (running p past) a ∙ t.1) (null_after e) ∙ (named_lane_level n None c y (thread_part (frames_of s p past)) lane ∙ (sym (level_on_thread (frames_of s p past) (thread_part (frames_of s p past)) e refl) ∙ sym (goes_level (stand_at s p past) (lanes_at s past) n c y a)))
+        thread_level s limit p past t.0 (Call n c y) r t.1 refl (goes_running n c y (running p past) a ∙ t.1) (null_after e)
+        ∙ (named_lane_level n None c y (thread_part (frames_of s p past)) lane
+        ∙ (sym (level_on_thread (frames_of s p past) (thread_part (frames_of s p past)) e refl)
+        ∙ sym (goes_level (stand_at s p past) (lanes_at s past) n c y a)))
     go false false a e =
-        own_call_level n c y (frames_of s p past) (frames_after s 0 None (unleveled p (Call n c y) (frames_of s p past)) (frames_of s p past)) (own_frames p past) refl refl e lane ∙ sym (goes_level (stand_at s p past) (lanes_at s past) n c y a)
+        own_call_level n c y (frames_of s p past) (frames_after s 0 None (unleveled p (Call n c y) (frames_of s p past)) (frames_of s p past))
+        (own_frames p past) refl refl e lane ∙ sym (goes_level (stand_at s p past) (lanes_at s past) n c y a)
 
 -- ---- a wait that is taken up again
 
-rewait_tells : (s : Script) (limit : ℕ) (p : CpuNo) (past : List Event) (n : ℕ) (y : Reply) → IsRun s limit past → KnownRewait p (own_of s p past) (lanes_at s past) n y → Tells s p past (Rewait n y)
+rewait_tells : (s : Script) (limit : ℕ) (p : CpuNo) (past : List Event) (n : ℕ) (y : Reply) → IsRun s limit past →
+    KnownRewait p (own_of s p past) (lanes_at s past) n y → Tells s p past (Rewait n y)
 rewait_tells s limit p past n y r k = go (is_blocked y) refl
   where
     null : is_null (own_frames p past) ≡ true
@@ -336,21 +372,27 @@ rewait_tells s limit p past n y r k = go (is_blocked y) refl
 
     go : (b : Bool) → is_blocked y ≡ b → Tells s p past (Rewait n y)
     go true e =
-        stop_level s p past (Rewait n y) (ap (λ (b : Bool). if b then None else running p past) e) null ∙ sym (ap (λ (b : Bool). if b then 0 else (stand_at s p past).level) e)
+        stop_level s p past (Rewait n y) (ap (λ (b : Bool). if b then None else running p past) e) null
+        ∙ sym (ap (λ (b : Bool). if b then 0 else (stand_at s p past).level) e)
     go false e =
         let t = thread_runs (frames_of s p past) k.frame k.goes_on.inner null in
-        thread_level s limit p past t.0 (Rewait n y) r t.1 refl (ap (λ (b : Bool). if b then None else running p past) e ∙ t.1) null ∙ (named_level n (rewaited y) (thread_part (frames_of s p past)) (rewait_keeps y) ∙ (sym (level_on_thread (frames_of s p past) (thread_part (frames_of s p past)) null refl) ∙ sym (ap (λ (b : Bool). if b then 0 else (stand_at s p past).level) e)))
+        thread_level s limit p past t.0 (Rewait n y) r t.1 refl (ap (λ (b : Bool). if b then None else running p past) e ∙ t.1) null
+        ∙ (named_level n (rewaited y) (thread_part (frames_of s p past)) (rewait_keeps y)
+        ∙ (sym (level_on_thread (frames_of s p past) (thread_part (frames_of s p past)) null refl)
+        ∙ sym (ap (λ (b : Bool). if b then 0 else (stand_at s p past).level) e)))
 
 -- ---- ends
 
 -- the innermost frame stands on the running thread's part, since nothing else stands on the own part
-pub not_own : (s : Script) (p : CpuNo) (past : List Event) (f : Frame) → innermost (frames_of s p past) ≡ Some f → is_own_body f.body ≡ false → is_null (own_frames p past) ≡ true
+pub not_own : (s : Script) (p : CpuNo) (past : List Event) (f : Frame) → innermost (frames_of s p past) ≡ Some f → is_own_body f.body ≡ false →
+    is_null (own_frames p past) ≡ true
 not_own s p past f h b = go (own_frames p past) refl (all_own p past)
   where
     go : (fs : List Frame) → own_frames p past ≡ fs → AllOwn fs → is_null fs ≡ true
     go [] e o = refl
     go (g ∷ fs) e o =
-        let first : option_or (head_of (g ∷ fs)) (head_of (thread_part (frames_of s p past))) ≡ Some f = subst (λ (gs : List Frame). option_or (head_of gs) (head_of (thread_part (frames_of s p past))) ≡ Some f) e h in
+        let first : option_or (head_of (g ∷ fs)) (head_of (thread_part (frames_of s p past)))
+        ≡ Some f = subst (λ (gs : List Frame). option_or (head_of gs) (head_of (thread_part (frames_of s p past))) ≡ Some f) e h in
         let same : g ≡ f = cc in
         let yes : is_own_body f.body ≡ true = ap (λ (g : Frame). is_own_body g.body) (sym same) ∙ o.0.0 in
         absurd (both_ways (is_own_body f.body) b yes)
@@ -360,7 +402,8 @@ without_null n [] h = refl
 without_null n (f ∷ fs) h = cc
 
 -- the end of a base frame leaves it at PASSIVE_LEVEL, and that of another frame the one that it stands on
-end_level : (t : ThreadNo) (n : ℕ) (f : Frame) (fs : List Frame) → head_of fs ≡ Some f → n ≡ f.name → HasBase t fs → level_of (end_on_thread n fs) ≡ first_level [] (tail_of fs)
+end_level : (t : ThreadNo) (n : ℕ) (f : Frame) (fs : List Frame) → head_of fs ≡ Some f → n ≡ f.name → HasBase t fs → level_of (end_on_thread n fs)
+    ≡ first_level [] (tail_of fs)
 end_level t n f [] h e b = cc
 end_level t n f (g ∷ []) h e b =
     let same : g ≡ f = cc in
@@ -376,12 +419,14 @@ after_null : (x : Frames) → is_null x.own ≡ true → after_in x ≡ first_le
 after_null x h =
     ap (λ (b : Bool). if b then first_level [] (tail_of (thread_part x)) else first_level (tail_of x.own) (thread_part x)) h
 
-end_tells : (s : Script) (limit : ℕ) (p : CpuNo) (past : List Event) (n : ℕ) (f : Frame) → IsRun s limit past → innermost (frames_of s p past) ≡ Some f → n ≡ f.name → is_own_body f.body ≡ false → Tells s p past (End n)
+end_tells : (s : Script) (limit : ℕ) (p : CpuNo) (past : List Event) (n : ℕ) (f : Frame) → IsRun s limit past → innermost (frames_of s p past) ≡ Some f → n
+    ≡ f.name → is_own_body f.body ≡ false → Tells s p past (End n)
 end_tells s limit p past n f r h e own =
     let null : is_null (own_frames p past) ≡ true = not_own s p past f h own in
     let t = thread_runs (frames_of s p past) f h null in
     let b = running_has_base s limit p t.0 past r t.1 in
-    thread_level s limit p past t.0 (End n) r t.1 refl t.1 (without_null n (own_frames p past) null) ∙ (end_level t.0 n f (thread_part (frames_of s p past)) (part_head (frames_of s p past) f h null) e b.2 ∙ sym (after_null (frames_of s p past) null))
+    thread_level s limit p past t.0 (End n) r t.1 refl t.1 (without_null n (own_frames p past) null)
+    ∙ (end_level t.0 n f (thread_part (frames_of s p past)) (part_head (frames_of s p past) f h null) e b.2 ∙ sym (after_null (frames_of s p past) null))
 
 base_not_own : (b : Body) → is_base_body b ≡ true → is_own_body b ≡ false
 base_not_own (OnBase t) h = refl
@@ -393,13 +438,15 @@ user_not_own b h = cc
 
 -- ---- the thread's end
 
-pub leaving_null : (s : Script) (p : CpuNo) (past : List Event) (f : Frame) → innermost (frames_of s p past) ≡ Some f → f.leaving ≡ true → is_null (own_frames p past) ≡ true
+pub leaving_null : (s : Script) (p : CpuNo) (past : List Event) (f : Frame) → innermost (frames_of s p past) ≡ Some f → f.leaving ≡ true →
+    is_null (own_frames p past) ≡ true
 leaving_null s p past f h l = go (own_frames p past) refl (all_own p past)
   where
     go : (fs : List Frame) → own_frames p past ≡ fs → AllOwn fs → is_null fs ≡ true
     go [] e o = refl
     go (g ∷ fs) e o =
-        let first : option_or (head_of (g ∷ fs)) (head_of (thread_part (frames_of s p past))) ≡ Some f = subst (λ (gs : List Frame). option_or (head_of gs) (head_of (thread_part (frames_of s p past))) ≡ Some f) e h in
+        let first : option_or (head_of (g ∷ fs)) (head_of (thread_part (frames_of s p past)))
+        ≡ Some f = subst (λ (gs : List Frame). option_or (head_of gs) (head_of (thread_part (frames_of s p past))) ≡ Some f) e h in
         let same : g ≡ f = cc in
         let no : f.leaving ≡ false = ap (λ (g : Frame). g.leaving) (sym same) ∙ o.0.1 in
         absurd (both_ways f.leaving no l)
@@ -408,12 +455,15 @@ flush_level : (n : ℕ) (a : ApcNo) (o : Option RoutineNo) (fs : List Frame) →
 flush_level n a None fs h = h
 flush_level n a (Some r) fs h = refl
 
-flush_tells : (s : Script) (limit : ℕ) (p : CpuNo) (past : List Event) (a : ApcNo) (from : ℕ) (t : ThreadNo) → IsRun s limit past → KnownRundown (own_of s p past) t → Tells s p past (Flush a from)
+flush_tells : (s : Script) (limit : ℕ) (p : CpuNo) (past : List Event) (a : ApcNo) (from : ℕ) (t : ThreadNo) → IsRun s limit past →
+    KnownRundown (own_of s p past) t → Tells s p past (Flush a from)
 flush_tells s limit p past a from t r k =
     let null : is_null (own_frames p past) ≡ true = leaving_null s p past k.frame k.goes_on.inner k.leaving in
     let b = running_here s limit p t past r k.thread in
     let part : thread_part (frames_of s p past) ≡ thread_frames s p t past = part_of_running s p t past b.0 k.thread in
-    let low : level_of (thread_part (frames_of s p past)) ≡ 0 = leaving_low k.frame (thread_part (frames_of s p past)) (part_head (frames_of s p past) k.frame k.goes_on.inner null) k.leaving (subst AllCalm (sym part) (all_calm s limit p t past r)) in
+    let low : level_of (thread_part (frames_of s p past))
+    ≡ 0 = leaving_low k.frame (thread_part (frames_of s p past)) (part_head (frames_of s p past) k.frame k.goes_on.inner null) k.leaving
+    (subst AllCalm (sym part) (all_calm s limit p t past r)) in
     thread_level s limit p past t (Flush a from) r k.thread refl k.thread null ∙ flush_level 0 a (rundown_of s a) (thread_part (frames_of s p past)) low
 
 gone_tells : (s : Script) (p : CpuNo) (past : List Event) (t : ThreadNo) → KnownRundown (own_of s p past) t → Tells s p past (Gone t)
@@ -431,7 +481,8 @@ ready_level : (d : Doing) (fs : List Frame) (runs : Type 0) → ready_doing d �
 ready_level (IsReady level st) fs runs h k = sym k.1
 ready_level d fs runs h k = cc
 
-switch_tells : (s : Script) (limit : ℕ) (p : CpuNo) (past : List Event) (t : ThreadNo) → IsRun s limit past → may_switch (own_of s p past) ≡ true → may_take s p t (lanes_at s past) ≡ true → Tells s p past (switch_event t (lanes_at s past))
+switch_tells : (s : Script) (limit : ℕ) (p : CpuNo) (past : List Event) (t : ThreadNo) → IsRun s limit past → may_switch (own_of s p past) ≡ true →
+    may_take s p t (lanes_at s past) ≡ true → Tells s p past (switch_event t (lanes_at s past))
 switch_tells s limit p past t r may take =
     let null : is_null (own_frames p past) ≡ true = (switch_parts (running p past) (is_null (own_frames p past)) (must (own_of s p past)) may).1 in
     let a = both (has_thread s t) _ take in
@@ -439,11 +490,18 @@ switch_tells s limit p past t r may take =
     let here : cpu_of s t ≡ p = ap (λ (n : ℕ). record { 0 = n }) (eqb-true (cpu_of s t).0 p.0 b.0) in
     let status : Option ℕ = ended_status (facts_at (lanes_at s past) t) in
     let e : Event = unleveled p (Switch t status) (frames_of s p past) in
-    let known : facts_at (lanes_at s past) t ≡ facts s t past = get_or-table (length s.threads) t.0 (λ k. facts s (thread k) past) start_facts (ltb-true t.0 (length s.threads) a.0) in
-    let fs : frames_in (frames_of s p past).threads t ≡ thread_frames s p t past = get_or-table (length s.threads) t.0 (λ k. thread_frames s p (thread k) past) [] (ltb-true t.0 (length s.threads) a.0) in
+    let known : facts_at (lanes_at s past) t ≡ facts s t past = get_or-table (length s.threads) t.0 (λ k. facts s (thread k) past) start_facts
+    (ltb-true t.0 (length s.threads) a.0) in
+    let fs : frames_in (frames_of s p past).threads t ≡ thread_frames s p t past = get_or-table (length s.threads) t.0
+    (λ k. thread_frames s p (thread k) past) [] (ltb-true t.0 (length s.threads) a.0) in
     let ready : is_ready (facts s t past) ≡ true = ap is_ready (sym known) ∙ b.1 in
-    let says : Says (facts s t past).doing (thread_frames s p t past) (running p past ≡ Some t) = subst (λ (q : CpuNo). Says (facts s t past).doing (thread_frames s q t past) (running q past ≡ Some t)) here (agree s limit t past r) in
-    level_where (frames_after s 0 None e (frames_of s p past)) null ∙ (ap level_of (part_after s None e (frames_of s p past) t a.0 refl (by_itself t (Some t) refl)) ∙ (switched_level 0 t status (frames_in (frames_of s p past).threads t) ∙ (ap level_of fs ∙ (ready_level (facts s t past).doing (thread_frames s p t past) (running p past ≡ Some t) ready says ∙ ap (λ (x : ThreadFacts). doing_level x.doing) (sym known)))))
+    let says : Says (facts s t past).doing (thread_frames s p t past) (running p past ≡ Some t) = subst
+    (λ (q : CpuNo). Says (facts s t past).doing (thread_frames s q t past) (running q past ≡ Some t)) here (agree s limit t past r) in
+    level_where (frames_after s 0 None e (frames_of s p past)) null
+    ∙ (ap level_of (part_after s None e (frames_of s p past) t a.0 refl (by_itself t (Some t) refl))
+    ∙ (switched_level 0 t status (frames_in (frames_of s p past).threads t)
+    ∙ (ap level_of fs ∙ (ready_level (facts s t past).doing (thread_frames s p t past) (running p past ≡ Some t) ready says
+    ∙ ap (λ (x : ThreadFacts). doing_level x.doing) (sym known)))))
 
 -- ---- the jobs
 
@@ -457,7 +515,9 @@ first_tells s p past part =
 
 idle_tells : (s : Script) (p : CpuNo) (past : List Event) → Holds (Tells s p past) (idle_event s (stand_at s p past) (lanes_at s past))
 idle_tells s p past =
-    holds_or (Tells s p past) (begin_first OrdinaryPart (queue_at (lanes_at s past) p)) (when (is_null (ready s p (lanes_at s past))) (Some Rest)) (first_tells s p past OrdinaryPart) (λ e. holds_when (Tells s p past) (is_null (ready s p (lanes_at s past))) (Some Rest) (λ h. kept_tells s p past Rest refl))
+    holds_or (Tells s p past) (begin_first OrdinaryPart (queue_at (lanes_at s past) p)) (when (is_null (ready s p (lanes_at s past))) (Some Rest))
+    (first_tells s p past OrdinaryPart) (λ e. holds_when (Tells s p past) (is_null (ready s p (lanes_at s past))) (Some Rest)
+    (λ h. kept_tells s p past Rest refl))
 
 -- a known event tells its level
 abbrev KnownTells : Script → CpuNo → List Event → What → Type 0
@@ -467,7 +527,8 @@ holds_apply : {A : Type 0} (P Q : A → Type 0) (o : Option A) → Holds P o →
 holds_apply P Q None h k = tt
 holds_apply P Q (Some x) h k = k h
 
-begin_tells : (s : Script) (limit : ℕ) (p : CpuNo) (past : List Event) (a : ApcNo) (from : ℕ) → IsRun s limit past → KnownBegin s p (own_of s p past) (lanes_at s past) (Apc a) from → Tells s p past (Begin (Apc a) from)
+begin_tells : (s : Script) (limit : ℕ) (p : CpuNo) (past : List Event) (a : ApcNo) (from : ℕ) → IsRun s limit past →
+    KnownBegin s p (own_of s p past) (lanes_at s past) (Apc a) from → Tells s p past (Begin (Apc a) from)
 begin_tells s limit p past a from r (inl b) =
     let on = both (is_on_thread (frames_of s p past)) _ (both (level_at (own_of s p past) == 0) _ b.0).1 in
     let f = on_thread_frame (frames_of s p past) on.0 in
@@ -479,58 +540,80 @@ named_stand : (s : Script) (p : CpuNo) (past : List Event) (f : Frame) → inner
 named_stand s p past f h = ap (λ (o : Option Frame). option_map_or (λ f. f.name) o 0) h
 
 -- a job that the next event needs
-next_job_tells : (s : Script) (limit : ℕ) (p : CpuNo) (past : List Event) (j : Job) → IsRun s limit past → is_chosen j ≡ false → JobIs (own_of s p past) j → Holds (KnownTells s p past) (job_event s (stand_at s p past) (lanes_at s past) j)
+next_job_tells : (s : Script) (limit : ℕ) (p : CpuNo) (past : List Event) (j : Job) → IsRun s limit past → is_chosen j ≡ false → JobIs (own_of s p past) j →
+    Holds (KnownTells s p past) (job_event s (stand_at s p past) (lanes_at s past) j)
 next_job_tells s limit p past (CallJob c) r n is = λ k. call_tells s limit p past _ c _ r k is
 next_job_tells s limit p past (FireJob d) r n is =
     λ k. kept_tells s p past (Fire d (reply s (stand_at s p past) (lanes_at s past) (Queue d))) refl
 next_job_tells s limit p past DrainJob r n is =
     let keys : Option What = option_map expire_key (when (owes_sweep p past) (first_due (timers_at s past))) in
     let dpcs : Option What = begin_first OrdinaryPart (queue_at (lanes_at s past) p) in
-    λ k. holds_else (Tells s p past) (option_or keys dpcs) (Clean 2) (holds_or (Tells s p past) keys dpcs (holds_map (Tells s p past) expire_key (when (owes_sweep p past) (first_due (timers_at s past))) (λ x e. kept_tells s p past (expire_key x) refl)) (λ e. first_tells s p past OrdinaryPart)) (λ e. kept_tells s p past (Clean 2) refl)
+    λ k. holds_else (Tells s p past) (option_or keys dpcs) (Clean 2)
+    (holds_or (Tells s p past) keys dpcs (holds_map (Tells s p past) expire_key (when (owes_sweep p past) (first_due (timers_at s past)))
+    (λ x e. kept_tells s p past (expire_key x) refl)) (λ e. first_tells s p past OrdinaryPart)) (λ e. kept_tells s p past (Clean 2) refl)
 next_job_tells s limit p past ApcsJob r n is =
-    holds_else (KnownTells s p past) (option_map begin_apc (Deliverable (own_of s p past) (lanes_at s past))) (Clean 1) (holds_map (KnownTells s p past) begin_apc (Deliverable (own_of s p past) (lanes_at s past)) (λ x e k. begin_tells s limit p past x.apc x.number r k)) (λ e k. kept_tells s p past (Clean 1) refl)
+    holds_else (KnownTells s p past) (option_map begin_apc (Deliverable (own_of s p past) (lanes_at s past))) (Clean 1)
+    (holds_map (KnownTells s p past) begin_apc (Deliverable (own_of s p past) (lanes_at s past)) (λ x e k. begin_tells s limit p past x.apc x.number r k))
+    (λ e k. kept_tells s p past (Clean 1) refl)
 next_job_tells s limit p past ThreadedJob r n is =
-    λ k. holds_else (Tells s p past) (begin_first ThreadedPart (queue_at (lanes_at s past) p)) (Clean 0) (first_tells s p past ThreadedPart) (λ e. kept_tells s p past (Clean 0) refl)
+    λ k. holds_else (Tells s p past) (begin_first ThreadedPart (queue_at (lanes_at s past) p)) (Clean 0) (first_tells s p past ThreadedPart)
+    (λ e. kept_tells s p past (Clean 0) refl)
 next_job_tells s limit p past IdleJob r n is =
     holds_more (Tells s p past) (KnownTells s p past) (idle_event s (stand_at s p past) (lanes_at s past)) (idle_tells s p past) (λ w e t k. t)
 next_job_tells s limit p past (PickJob last) r n is = cc
 next_job_tells s limit p past (SwitchJob t) r n is = cc
 next_job_tells s limit p past RewaitJob r n is =
-    holds_map (KnownTells s p past) (λ w. Rewait (stand_at s p past).frame (rewait_reply (stand_at s p past) (lanes_at s past) w)) (stand_at s p past).again (λ w e k. rewait_tells s limit p past _ _ r k)
+    holds_map (KnownTells s p past) (λ w. Rewait (stand_at s p past).frame (rewait_reply (stand_at s p past) (lanes_at s past) w)) (stand_at s p past).again
+    (λ w e k. rewait_tells s limit p past _ _ r k)
 next_job_tells s limit p past ToUserJob r n is =
-    holds_else (KnownTells s p past) (option_map begin_apc (user_due (facts_of (lanes_at s past) (running p past)))) (Call (stand_at s p past).frame ToUser Done) (holds_map (KnownTells s p past) begin_apc (user_due (facts_of (lanes_at s past) (running p past))) (λ x e k. begin_tells s limit p past x.apc x.number r k)) (λ e k. call_tells s limit p past _ ToUser Done r k refl)
+    holds_else (KnownTells s p past) (option_map begin_apc (user_due (facts_of (lanes_at s past) (running p past))))
+    (Call (stand_at s p past).frame ToUser Done) (holds_map (KnownTells s p past) begin_apc (user_due (facts_of (lanes_at s past) (running p past)))
+    (λ x e k. begin_tells s limit p past x.apc x.number r k)) (λ e k. call_tells s limit p past _ ToUser Done r k refl)
 next_job_tells s limit p past UserEndJob r n is =
     λ k. end_tells s limit p past (stand_at s p past).frame is.0 r is.1 (named_stand s p past is.0 is.1) (user_not_own is.0.body is.2)
 next_job_tells s limit p past LeaveJob r n is =
     λ k. end_tells s limit p past (stand_at s p past).frame is.0 r is.1 (named_stand s p past is.0 is.1) (base_not_own is.0.body is.2)
 next_job_tells s limit p past RundownJob r n is =
-    holds_map (KnownTells s p past) (rundown_event (lanes_at s past)) (running p past) (λ t e. holds_else (KnownTells s p past) (option_map (λ x. Flush x.apc x.number) (first_user (facts_at (lanes_at s past) t).apcs)) (Gone t) (holds_map (KnownTells s p past) (λ x. Flush x.apc x.number) (first_user (facts_at (lanes_at s past) t).apcs) (λ x m k. flush_tells s limit p past x.apc x.number k.0 r k.1)) (λ m k. gone_tells s p past t k.0))
+    holds_map (KnownTells s p past) (rundown_event (lanes_at s past)) (running p past)
+    (λ t e. holds_else (KnownTells s p past) (option_map (λ x. Flush x.apc x.number) (first_user (facts_at (lanes_at s past) t).apcs)) (Gone t)
+    (holds_map (KnownTells s p past) (λ x. Flush x.apc x.number) (first_user (facts_at (lanes_at s past) t).apcs)
+    (λ x m k. flush_tells s limit p past x.apc x.number k.0 r k.1)) (λ m k. gone_tells s p past t k.0))
 
 -- the next event's job
-task_tells : (s : Script) (limit : ℕ) (p : CpuNo) (past : List Event) (j : Job) → IsRun s limit past → task s p (own_of s p past) ≡ Some (Shared j) → Holds (Tells s p past) (job_event s (stand_at s p past) (lanes_at s past) j)
+task_tells : (s : Script) (limit : ℕ) (p : CpuNo) (past : List Event) (j : Job) → IsRun s limit past → task s p (own_of s p past) ≡ Some (Shared j) →
+    Holds (Tells s p past) (job_event s (stand_at s p past) (lanes_at s past) j)
 task_tells s limit p past j r h =
     let x : Own = own_of s p past in
     let is : JobIs x j = holds_at (TaskIs x) (task s p x) (Shared j) (task_is s p x) h in
     let chosen : is_chosen j ≡ false = holds_at NextTask (task s p x) (Shared j) (task_next s p x) h in
-    let known : Holds (Known s p x (lanes_at s past)) (job_event s (stand_at s p past) (lanes_at s past) j) = holds_at (Good s p x (lanes_at s past)) (task s p x) (Shared j) (task_known s p x (lanes_at s past)) h in
-    holds_apply (Known s p x (lanes_at s past)) (Tells s p past) (job_event s (stand_at s p past) (lanes_at s past) j) known (next_job_tells s limit p past j r chosen is)
+    let known : Holds (Known s p x (lanes_at s past)) (job_event s (stand_at s p past) (lanes_at s past) j) = holds_at (Good s p x (lanes_at s past))
+    (task s p x) (Shared j) (task_known s p x (lanes_at s past)) h in
+    holds_apply (Known s p x (lanes_at s past)) (Tells s p past) (job_event s (stand_at s p past) (lanes_at s past) j) known
+    (next_job_tells s limit p past j r chosen is)
 
-switch_job_tells : (s : Script) (limit : ℕ) (p : CpuNo) (past : List Event) (t : ThreadNo) → IsRun s limit past → may_switch (own_of s p past) ≡ true → Holds (Tells s p past) (job_event s (stand_at s p past) (lanes_at s past) (SwitchJob t))
+switch_job_tells : (s : Script) (limit : ℕ) (p : CpuNo) (past : List Event) (t : ThreadNo) → IsRun s limit past → may_switch (own_of s p past) ≡ true →
+    Holds (Tells s p past) (job_event s (stand_at s p past) (lanes_at s past) (SwitchJob t))
 switch_job_tells s limit p past t r may =
     holds_when (Tells s p past) (may_take s p t (lanes_at s past)) (Some (switch_event t (lanes_at s past))) (λ h. switch_tells s limit p past t r may h)
 
-pick_job_tells : (s : Script) (limit : ℕ) (p : CpuNo) (past : List Event) (last : Option ThreadNo) → IsRun s limit past → may_switch (own_of s p past) ≡ true → Holds (Tells s p past) (job_event s (stand_at s p past) (lanes_at s past) (PickJob last))
+pick_job_tells : (s : Script) (limit : ℕ) (p : CpuNo) (past : List Event) (last : Option ThreadNo) → IsRun s limit past → may_switch (own_of s p past) ≡ true →
+    Holds (Tells s p past) (job_event s (stand_at s p past) (lanes_at s past) (PickJob last))
 pick_job_tells s limit p past last r may =
     let l : Lanes = lanes_at s past in
-    holds_or (Tells s p past) (option_map (λ t. switch_event t l) (next_ready s p last l)) (idle_event s (stand_at s p past) l) (holds_map (Tells s p past) (λ t. switch_event t l) (next_ready s p last l) (λ t e. switch_tells s limit p past t r may (holds_at (λ t. may_take s p t l ≡ true) (next_ready s p last l) t (next_ready_taken s p last l) e))) (λ e. idle_tells s p past)
+    holds_or (Tells s p past) (option_map (λ t. switch_event t l) (next_ready s p last l)) (idle_event s (stand_at s p past) l)
+    (holds_map (Tells s p past) (λ t. switch_event t l) (next_ready s p last l)
+    (λ t e. switch_tells s limit p past t r may (holds_at (λ t. may_take s p t l ≡ true) (next_ready s p last l) t (next_ready_taken s p last l) e)))
+    (λ e. idle_tells s p past)
 
-job_tells : (s : Script) (limit : ℕ) (p : CpuNo) (past : List Event) (j : Job) → IsRun s limit past → IsDue s p (own_of s p past) j → Holds (Tells s p past) (job_event s (stand_at s p past) (lanes_at s past) j)
+job_tells : (s : Script) (limit : ℕ) (p : CpuNo) (past : List Event) (j : Job) → IsRun s limit past → IsDue s p (own_of s p past) j →
+    Holds (Tells s p past) (job_event s (stand_at s p past) (lanes_at s past) j)
 job_tells s limit p past j r (inl a) = task_tells s limit p past j r a
 job_tells s limit p past (SwitchJob t) r (inr a) = switch_job_tells s limit p past t r a.1
 job_tells s limit p past (PickJob last) r (inr a) = pick_job_tells s limit p past last r a.1
 job_tells s limit p past j r (inr a) = cc
 
-pub events_agree : (s : Script) (limit : ℕ) (p : CpuNo) (j : Job) (w : What) (past : List Event) → IsRun s limit past → IsDue s p (own_of s p past) j → job_event s (stand_at s p past) (lanes_at s past) j ≡ Some w → event_at s p w (frames_of s p past) ≡ acted_event (stand_at s p past) (lanes_at s past) w
+pub events_agree : (s : Script) (limit : ℕ) (p : CpuNo) (j : Job) (w : What) (past : List Event) → IsRun s limit past → IsDue s p (own_of s p past) j →
+    job_event s (stand_at s p past) (lanes_at s past) j ≡ Some w → event_at s p w (frames_of s p past) ≡ acted_event (stand_at s p past) (lanes_at s past) w
 events_agree s limit p j w past r a h =
     let level : Tells s p past w = holds_at (Tells s p past) (job_event s (stand_at s p past) (lanes_at s past) j) w (job_tells s limit p past j r a) h in
     ap (λ (n : ℕ). record { cpu = p; thread = thread_field w (running p past); level = n; what = w }) level

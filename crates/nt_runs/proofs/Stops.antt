@@ -21,7 +21,7 @@ use Rattle.nt_event.specs.Commands.{refusal, refuse, reply}
 use Rattle.nt_event.specs.Frames.{at_name, called, done_to, due_of, own_after, own_frames, thread_part, time, without}
 use Rattle.nt_event.specs.Jobs.{level_at}
 use Rattle.nt_event.specs.Lanes.{Lanes, lanes_at}
-use Rattle.nt_event.specs.Own.{Own, own_of, standing_in}
+use Rattle.nt_event.specs.Own.{Own, own_of, stand_in}
 use Rattle.nt_event.specs.Regions.{regions_of}
 use Rattle.nt_event.specs.Step.{IsRun}
 use Rattle.nt_event.specs.Lists.{head_of, is_null}
@@ -83,19 +83,24 @@ not_refused : (o : Option Refusal) (y z : Reply) → y ≡ reply_or o z → is_r
 not_refused None y z e h = (refl, e)
 not_refused (Some r) y z e h = let k : is_refused (Refused r) ≡ false = subst (λ (v : Reply). is_refused v ≡ false) e h in cc
 
-pub call_accepted : (s : Script) (p : CpuNo) (x : Own) (l : Lanes) (n : ℕ) (c : Command) (y : Reply) → (k : KnownCall s p x l n c y) → is_refused y ≡ false → (refusal_in x k.frame c ≡ None) × (y ≡ reply s (standing_in p x) l c)
-call_accepted s p x l n c y k h = not_refused (refusal_in x k.frame c) y (reply s (standing_in p x) l c) k.reply h
+pub call_accepted : (s : Script) (p : CpuNo) (x : Own) (l : Lanes) (n : ℕ) (c : Command) (y : Reply) → (k : KnownCall s p x l n c y) → is_refused y ≡ false →
+    (refusal_in x k.frame c ≡ None) × (y ≡ reply s (stand_in p x) l c)
+call_accepted s p x l n c y k h = not_refused (refusal_in x k.frame c) y (reply s (stand_in p x) l c) k.reply h
 
 pub null_of : (b : Bool) → not b ≡ false → b ≡ true
 null_of true h = refl
 null_of false h = cc
 
 -- a blocked call is a wait, and no frame stands on the own part
-pub blocked_call : (s : Script) (p : CpuNo) (x : Own) (l : Lanes) (n : ℕ) (c : Command) → KnownCall s p x l n c Blocked → (is_wait c ≡ true) × (is_null x.frames.own ≡ true)
+pub blocked_call : (s : Script) (p : CpuNo) (x : Own) (l : Lanes) (n : ℕ) (c : Command) → KnownCall s p x l n c Blocked → (is_wait c ≡ true) ×
+    (is_null x.frames.own ≡ true)
 blocked_call s p x l n c k =
     let a = call_accepted s p x l n c Blocked k refl in
-    let w : is_wait c ≡ true = reply_blocked s (standing_in p x) l c (sym a.1) in
-    (w, null_of (is_null x.frames.own) (accepted_on_thread (level_at x) (not (is_null x.frames.own)) (regions_of (thread_part x.frames)) k.frame c (wait_is_thread_call c w) a.0))
+    let w : is_wait c ≡ true = reply_blocked s (stand_in p x) l c (sym a.1) in (
+      w,
+      null_of (is_null x.frames.own) (accepted_on_thread (level_at x) (not (is_null x.frames.own)) (regions_of (thread_part x.frames)) k.frame c
+          (wait_is_thread_call c w) a.0),
+    )
 
 pub yield_call : (s : Script) (p : CpuNo) (x : Own) (l : Lanes) (n : ℕ) → KnownCall s p x l n Yield Done → is_null x.frames.own ≡ true
 yield_call s p x l n k =
@@ -140,7 +145,8 @@ without_again n (f ∷ fs) h = go (f.name == n)
     go false = h
 
 -- with a frame on the own part, a call is no accepted wait
-own_no_wait : (s : Script) (p : CpuNo) (x : Own) (l : Lanes) (n : ℕ) (c : Command) (y : Reply) → KnownCall s p x l n c y → is_null x.frames.own ≡ false → (is_wait c ≡ false) ⊎ (is_refused y ≡ true)
+own_no_wait : (s : Script) (p : CpuNo) (x : Own) (l : Lanes) (n : ℕ) (c : Command) (y : Reply) → KnownCall s p x l n c y → is_null x.frames.own ≡ false →
+    (is_wait c ≡ false) ⊎ (is_refused y ≡ true)
 own_no_wait s p x l n c y k own = go (is_wait c) (is_refused y) refl refl
   where
     go : (w r : Bool) → is_wait c ≡ w → is_refused y ≡ r → (is_wait c ≡ false) ⊎ (is_refused y ≡ true)
@@ -148,12 +154,14 @@ own_no_wait s p x l n c y k own = go (is_wait c) (is_refused y) refl refl
     go true true a b = inr b
     go true false a b =
         let k2 = call_accepted s p x l n c y k b in
-        let m : not (is_null x.frames.own) ≡ false = accepted_on_thread (level_at x) (not (is_null x.frames.own)) (regions_of (thread_part x.frames)) k.frame c (wait_is_thread_call c a) k2.0 in
+        let m : not (is_null x.frames.own) ≡ false = accepted_on_thread (level_at x) (not (is_null x.frames.own)) (regions_of (thread_part x.frames)) k.frame c
+        (wait_is_thread_call c a) k2.0 in
         let o : is_null x.frames.own ≡ true = null_of (is_null x.frames.own) m in
         cc
 
 -- what a known event leaves of the own part
-own_again : (s : Script) (p : CpuNo) (x : Own) (l : Lanes) (n : ℕ) (due : Option ℕ) (w : What) (fs : List Frame) → x.frames.own ≡ fs → (is_next w ≡ true → Known s p x l w) → NoneAgain fs → NoneAgain (own_after n due w fs)
+own_again : (s : Script) (p : CpuNo) (x : Own) (l : Lanes) (n : ℕ) (due : Option ℕ) (w : What) (fs : List Frame) → x.frames.own ≡ fs →
+    (is_next w ≡ true → Known s p x l w) → NoneAgain fs → NoneAgain (own_after n due w fs)
 own_again s p x l n due (Begin (Int c) from) fs e k h = (refl, h)
 own_again s p x l n due (Begin (Dpc d) from) fs e k h = (refl, h)
 own_again s p x l n due (Begin (Threaded d) from) fs e k h = (refl, h)
@@ -172,7 +180,8 @@ none_again s limit p (e ∷ past) r = go (is_of e p) refl (none_again s limit p 
     known h n =
         subst (λ (q : CpuNo). Known s q (own_of s q past) (lanes_at s past) e.what) (same_cpu e p h) (legal_known s limit e past r.0 n)
 
-    go : (b : Bool) → is_of e p ≡ b → NoneAgain (own_frames p past) → NoneAgain (if b then own_after (length past) (due_of e.what (time past)) e.what (own_frames p past) else own_frames p past)
+    go : (b : Bool) → is_of e p ≡ b → NoneAgain (own_frames p past) →
+        NoneAgain (if b then own_after (length past) (due_of e.what (time past)) e.what (own_frames p past) else own_frames p past)
     go true h ih =
         own_again s p (own_of s p past) (lanes_at s past) (length past) (due_of e.what (time past)) e.what (own_frames p past) refl (known h) ih
     go false h ih = ih
@@ -184,7 +193,8 @@ rewait_on_thread p x l n y k h = go x.frames.own refl h
     go : (fs : List Frame) → x.frames.own ≡ fs → NoneAgain fs → is_null fs ≡ true
     go [] e h = refl
     go (f ∷ fs) e h =
-        let first : option_or (head_of (f ∷ fs)) (head_of (thread_part x.frames)) ≡ Some k.frame = subst (λ (gs : List Frame). option_or (head_of gs) (head_of (thread_part x.frames)) ≡ Some k.frame) e k.goes_on.inner in
+        let first : option_or (head_of (f ∷ fs)) (head_of (thread_part x.frames))
+        ≡ Some k.frame = subst (λ (gs : List Frame). option_or (head_of gs) (head_of (thread_part x.frames)) ≡ Some k.frame) e k.goes_on.inner in
         let same : f ≡ k.frame = cc in
         let none : k.frame.again ≡ None = ap (λ (g : Frame). g.again) (sym same) ∙ h.0 in
         let some = k.again in

@@ -23,7 +23,7 @@ use Rattle.nt_event.specs.declared.numbers.RoutineNo.{RoutineNo}
 use Rattle.nt_event.specs.declared.numbers.ThreadNo.{ThreadNo}
 use Rattle.nt_event.specs.declared.scripts.Script.{Script}
 use Rattle.nt_event.specs.Commands.{refuse}
-use Rattle.nt_event.specs.Frames.{at_name, base_level, base_of, called, done_to, due_of, end_on_thread, flushed, frames_of, is_base_body, left, new_frame, normal_of, resumed, rewaited, running, switched_to, thread_after, thread_frames, thread_part, time}
+use Rattle.nt_event.specs.Frames.{at_name, base_level, base_of, called, done_to, due_of, end_on_thread, flushed, frames_of, is_base_body, ended_base, new_frame, normal_of, resumed, rewaited, running, switched_to, thread_after, thread_frames, thread_part, time}
 use Rattle.nt_event.specs.Jobs.{has_normal, level_at}
 use Rattle.nt_event.specs.Lanes.{Lanes, lanes_at}
 use Rattle.nt_event.specs.Own.{Own, own_of}
@@ -47,9 +47,10 @@ pub record Kept (P : Frame → Type 0) : Type 0 where
   pub rundown : (n : ℕ) (a : ApcNo) → P (new_frame n (OnRundown a))
   pub resumed : (st : Option ℕ) (f : Frame) → P f → P (resumed st f)
   pub rewaited : (y : Reply) (f : Frame) → P f → P (rewaited y f)
-  pub left : (f : Frame) → is_base_body f.body ≡ true → P f → P (left f)
+  pub left : (f : Frame) → is_base_body f.body ≡ true → P f → P (ended_base f)
   pub normal : (f : Frame) → has_normal f.body ≡ true → P f → P (normal_of f)
-  pub called : (s : Script) (p : CpuNo) (x : Own) (l : Lanes) (n : ℕ) (due : Option ℕ) (c : Command) (y : Reply) (k : KnownCall s p x l n c y) → P k.frame → P (called due c y k.frame)
+  pub called : (s : Script) (p : CpuNo) (x : Own) (l : Lanes) (n : ℕ) (due : Option ℕ) (c : Command) (y : Reply) (k : KnownCall s p x l n c y) → P k.frame →
+      P (called due c y k.frame)
 
 abbrev pub Each : (Frame → Type 0) → List Frame → Type 0
 Each P [] = Unit {0}
@@ -68,7 +69,7 @@ module _ (P : Frame → Type 0) (k : Kept P) where
   end_each n [] h = h
   end_each n (f ∷ fs) h = go (f.name == n) (is_base_body f.body) refl
     where
-      go : (b c : Bool) → is_base_body f.body ≡ c → Each P (if b then (if c then (left f ∷ fs) else fs) else (f ∷ fs))
+      go : (b c : Bool) → is_base_body f.body ≡ c → Each P (if b then (if c then (ended_base f ∷ fs) else fs) else (f ∷ fs))
       go true true e = (k.left f e h.0, h.1)
       go true false e = h.1
       go false c e = h
@@ -82,13 +83,16 @@ module _ (P : Frame → Type 0) (k : Kept P) where
   switched_each n t st (f ∷ fs) h = (k.resumed st f h.0, h.1)
 
   -- the innermost frame of the thread's part is the one that calls, or has another name
-  call_each : (s : Script) (p : CpuNo) (x : Own) (l : Lanes) (n m : ℕ) (due : Option ℕ) (c : Command) (y : Reply) (fs : List Frame) → KnownCall s p x l n c y → thread_part x.frames ≡ fs → Named m x.frames.own fs → Each P fs → Each P (at_name n (called due c y) fs)
+  call_each : (s : Script) (p : CpuNo) (x : Own) (l : Lanes) (n m : ℕ) (due : Option ℕ) (c : Command) (y : Reply) (fs : List Frame) → KnownCall s p x l n c y →
+      thread_part x.frames ≡ fs → Named m x.frames.own fs → Each P fs → Each P (at_name n (called due c y) fs)
   call_each s p x l n m due c y [] q e d h = h
   call_each s p x l n m due c y (f ∷ fs) q e d h = go x.frames.own refl d.apart
     where
       go : (gs : List Frame) → x.frames.own ≡ gs → Apart gs (f ∷ fs) → Each P (at_name n (called due c y) (f ∷ fs))
       go [] o a =
-          let first : option_or (head_of {A = Frame} []) (head_of (f ∷ fs)) ≡ Some q.frame = subst (λ (hs : List Frame). option_or (head_of {A = Frame} []) (head_of hs) ≡ Some q.frame) e (subst (λ (gs : List Frame). option_or (head_of gs) (head_of (thread_part x.frames)) ≡ Some q.frame) o q.goes_on.inner) in
+          let first : option_or (head_of {A = Frame} []) (head_of (f ∷ fs))
+          ≡ Some q.frame = subst (λ (hs : List Frame). option_or (head_of {A = Frame} []) (head_of hs) ≡ Some q.frame) e
+          (subst (λ (gs : List Frame). option_or (head_of gs) (head_of (thread_part x.frames)) ≡ Some q.frame) o q.goes_on.inner) in
           let same : q.frame ≡ f = cc in
           let after : P (called due c y f) = subst (λ (g : Frame). P (called due c y g)) same (k.called s p x l n due c y q (subst P (sym same) h.0)) in
           (either (f.name == n) after, h.1)
@@ -97,7 +101,8 @@ module _ (P : Frame → Type 0) (k : Kept P) where
           either true z = z
           either false z = h.0
       go (g ∷ gs) o a =
-          let first : option_or (head_of (g ∷ gs)) (head_of (thread_part x.frames)) ≡ Some q.frame = subst (λ (gs : List Frame). option_or (head_of gs) (head_of (thread_part x.frames)) ≡ Some q.frame) o q.goes_on.inner in
+          let first : option_or (head_of (g ∷ gs)) (head_of (thread_part x.frames))
+          ≡ Some q.frame = subst (λ (gs : List Frame). option_or (head_of gs) (head_of (thread_part x.frames)) ≡ Some q.frame) o q.goes_on.inner in
           let same : g ≡ q.frame = cc in
           let name : g.name ≡ n = ap (λ (z : Frame). z.name) same ∙ sym q.name in
           (other (f.name == n) refl (λ z. a.0.0 (z ∙ sym name)), h.1)
@@ -107,7 +112,8 @@ module _ (P : Frame → Type 0) (k : Kept P) where
           other false z differ = h.0
 
   -- an APC goes on to its normal routine
-  normal_each : (s : Script) (p : CpuNo) (x : Own) (n : ℕ) (fs : List Frame) → KnownNormal s p x n → AllOwn x.frames.own → thread_part x.frames ≡ fs → Each P fs → Each P (at_name n normal_of fs)
+  normal_each : (s : Script) (p : CpuNo) (x : Own) (n : ℕ) (fs : List Frame) → KnownNormal s p x n → AllOwn x.frames.own → thread_part x.frames ≡ fs →
+      Each P fs → Each P (at_name n normal_of fs)
   normal_each s p x n [] q own e h = h
   normal_each s p x n (f ∷ fs) q own e h = go x.frames.own refl own
     where
@@ -121,7 +127,9 @@ module _ (P : Frame → Type 0) (k : Kept P) where
 
       go : (gs : List Frame) → x.frames.own ≡ gs → AllOwn gs → Each P (at_name n normal_of (f ∷ fs))
       go [] o a =
-          let first : option_or (head_of {A = Frame} []) (head_of (f ∷ fs)) ≡ Some q.frame = subst (λ (hs : List Frame). option_or (head_of {A = Frame} []) (head_of hs) ≡ Some q.frame) e (subst (λ (gs : List Frame). option_or (head_of gs) (head_of (thread_part x.frames)) ≡ Some q.frame) o q.goes_on.inner) in
+          let first : option_or (head_of {A = Frame} []) (head_of (f ∷ fs))
+          ≡ Some q.frame = subst (λ (hs : List Frame). option_or (head_of {A = Frame} []) (head_of hs) ≡ Some q.frame) e
+          (subst (λ (gs : List Frame). option_or (head_of gs) (head_of (thread_part x.frames)) ≡ Some q.frame) o q.goes_on.inner) in
           let same : q.frame ≡ f = cc in
           (either (f.name == n) (k.normal f (ap (λ (z : Frame). has_normal z.body) (sym same) ∙ q.normal) h.0), h.1)
         where
@@ -129,11 +137,14 @@ module _ (P : Frame → Type 0) (k : Kept P) where
           either true z = z
           either false z = h.0
       go (g ∷ gs) o a =
-          let first : option_or (head_of (g ∷ gs)) (head_of (thread_part x.frames)) ≡ Some q.frame = subst (λ (gs : List Frame). option_or (head_of gs) (head_of (thread_part x.frames)) ≡ Some q.frame) o q.goes_on.inner in
+          let first : option_or (head_of (g ∷ gs)) (head_of (thread_part x.frames))
+          ≡ Some q.frame = subst (λ (gs : List Frame). option_or (head_of gs) (head_of (thread_part x.frames)) ≡ Some q.frame) o q.goes_on.inner in
           let same : g ≡ q.frame = cc in
           absurd (no_own q.frame.body q.normal (ap (λ (z : Frame). is_own_body z.body) (sym same) ∙ a.0.0))
 
-  after_each : (s : Script) (p : CpuNo) (x : Own) (l : Lanes) (n m : ℕ) (due : Option ℕ) (w : What) (fs : List Frame) → (is_next w ≡ true → Known s p x l w × (thread_part x.frames ≡ fs)) → AllOwn x.frames.own → Named m x.frames.own fs → Each P fs → Each P (thread_after s n due w fs)
+  after_each : (s : Script) (p : CpuNo) (x : Own) (l : Lanes) (n m : ℕ) (due : Option ℕ) (w : What) (fs : List Frame) →
+      (is_next w ≡ true → Known s p x l w × (thread_part x.frames ≡ fs)) → AllOwn x.frames.own → Named m x.frames.own fs → Each P fs →
+      Each P (thread_after s n due w fs)
   after_each s p x l n m due (Switch t st) fs q own d h = switched_each n t st fs h
   after_each s p x l n m due (Begin (Apc a) from) fs q own d h = (k.apc n a (kind_of s a), h)
   after_each s p x l n m due (Flush a from) fs q own d h = flushed_each n a (rundown_of s a) fs h
@@ -145,21 +156,26 @@ module _ (P : Frame → Type 0) (k : Kept P) where
   after_each s p x l n m due (Gone t) fs q own d h = tt
   after_each s p x l n m due w fs q own d h = h
 
-  each_step : (s : Script) (limit : ℕ) (p : CpuNo) (t : ThreadNo) (e : Event) (past : List Event) (own by : Bool) → is_of e p ≡ own → is_by e t ≡ by → IsLegal s limit e past → IsRun s limit past → Each P (thread_frames s p t past) → Each P (thread_frames s p t (e ∷ past))
+  each_step : (s : Script) (limit : ℕ) (p : CpuNo) (t : ThreadNo) (e : Event) (past : List Event) (own by : Bool) → is_of e p ≡ own → is_by e t ≡ by →
+      IsLegal s limit e past → IsRun s limit past → Each P (thread_frames s p t past) → Each P (thread_frames s p t (e ∷ past))
   each_step s limit p t e past false by o b g r ih =
       let moved : thread_frames s p t (e ∷ past) ≡ thread_frames s p t past = rw o in subst (Each P) (sym moved) ih
   each_step s limit p t e past true false o b g r ih =
       let moved : thread_frames s p t (e ∷ past) ≡ thread_frames s p t past = frames_when s p t e past false o b in
       subst (Each P) (sym moved) ih
   each_step s limit p t e past true true o b g r ih =
-      let moved : thread_frames s p t (e ∷ past) ≡ thread_after s (length past) (due_of e.what (time past)) e.what (thread_frames s p t past) = frames_when s p t e past true o b in
-      subst (Each P) (sym moved) (after_each s p (own_of s p past) (lanes_at s past) (length past) (length past) (due_of e.what (time past)) e.what (thread_frames s p t past) known (all_own p past) (all_named s p t past) ih)
+      let moved : thread_frames s p t (e ∷ past) ≡ thread_after s (length past) (due_of e.what (time past)) e.what
+      (thread_frames s p t past) = frames_when s p t e past true o b in
+      subst (Each P) (sym moved) (after_each s p (own_of s p past) (lanes_at s past) (length past) (length past) (due_of e.what (time past)) e.what
+      (thread_frames s p t past) known (all_own p past) (all_named s p t past) ih)
     where
       known : is_next e.what ≡ true → Known s p (own_of s p past) (lanes_at s past) e.what × (thread_part (frames_of s p past) ≡ thread_frames s p t past)
       known n =
           let run : running p past ≡ Some t = ran s limit p t e past o b g n in
-          let h = running_here s limit p t past r run in
-          (subst (λ (q : CpuNo). Known s q (own_of s q past) (lanes_at s past) e.what) (same_cpu e p o) (legal_known s limit e past g n), part_of_running s p t past h.0 run)
+          let h = running_here s limit p t past r run in (
+            subst (λ (q : CpuNo). Known s q (own_of s q past) (lanes_at s past) e.what) (same_cpu e p o) (legal_known s limit e past g n),
+            part_of_running s p t past h.0 run,
+          )
 
   pub each_frame : (s : Script) (limit : ℕ) (p : CpuNo) (t : ThreadNo) (past : List Event) → IsRun s limit past → Each P (thread_frames s p t past)
   each_frame s limit p t [] r = tt
@@ -239,7 +255,8 @@ special_base f h k = go f.body f.kernel_phase h k
     go (OnRundown a) q h k = cc
 
 -- an accepted raise isn't below the level, and an accepted lower not below the base level
-called_level : (s : Script) (p : CpuNo) (x : Own) (l : Lanes) (n : ℕ) (due : Option ℕ) (c : Command) (y : Reply) → (k : KnownCall s p x l n c y) → 1 ≤ k.frame.level → base_of k.frame ≡ 1 → 1 ≤ (called due c y k.frame).level
+called_level : (s : Script) (p : CpuNo) (x : Own) (l : Lanes) (n : ℕ) (due : Option ℕ) (c : Command) (y : Reply) → (k : KnownCall s p x l n c y) →
+    1 ≤ k.frame.level → base_of k.frame ≡ 1 → 1 ≤ (called due c y k.frame).level
 called_level s p x l n due (Raise m) Done k h b =
     let a = (call_accepted s p x l n (Raise m) Done k refl).0 in
     let z : level_at x ≤ m = ltb-false m (level_at x) (refuse_none (nat_lt m (level_at x)) NotGreater None a) in
@@ -255,7 +272,8 @@ called_level s p x l n due (Delay m a u) y k h b = h
 called_level s p x l n due c Done k h b = h
 called_level s p x l n due c y k h b = h
 
-called_special : (s : Script) (p : CpuNo) (x : Own) (l : Lanes) (n : ℕ) (due : Option ℕ) (c : Command) (y : Reply) (k : KnownCall s p x l n c y) → Special k.frame → Special (called due c y k.frame)
+called_special : (s : Script) (p : CpuNo) (x : Own) (l : Lanes) (n : ℕ) (due : Option ℕ) (c : Command) (y : Reply) (k : KnownCall s p x l n c y) →
+    Special k.frame → Special (called due c y k.frame)
 called_special s p x l n due c y k h q =
     let body : is_special k.frame.body ≡ true = ap is_special (sym ((called_keeps due c y).body k.frame)) ∙ q in
     let z = h body in
@@ -275,7 +293,11 @@ sound_kept = record {
   rewaited = λ y f h. h;
   left = λ f b h. (λ q. absurd (not_base f.body b q), λ q. (refl, refl), h.2);
   normal = λ f n h. (λ q. absurd (not_normal f.body n q), λ q. (refl, refl), h.2);
-  called = λ s p x l n due c y k h. (called_special s p x l n due c y k h.0, λ q. no_bool (sym k.leaving ∙ (sym ((called_keeps due c y).leaving k.frame) ∙ q)), ap is_own_body ((called_keeps due c y).body k.frame) ∙ h.2);
+  called = λ s p x l n due c y k h. (
+    called_special s p x l n due c y k h.0,
+    λ q. no_bool (sym k.leaving ∙ (sym ((called_keeps due c y).leaving k.frame) ∙ q)),
+    ap is_own_body ((called_keeps due c y).body k.frame) ∙ h.2,
+  );
 }
 
 pub sound_frames : (s : Script) (limit : ℕ) (p : CpuNo) (t : ThreadNo) (past : List Event) → IsRun s limit past → Each Sound (thread_frames s p t past)

@@ -31,9 +31,10 @@ use Rattle.nt_event.specs.declared.scripts.Script.{Script}
 use Rattle.nt_event.specs.Apcs.{deliverable, first_user}
 use Rattle.nt_event.specs.Commands.{needs_lane}
 use Rattle.nt_event.specs.Frames.{innermost}
-use Rattle.nt_event.specs.Jobs.{begin_apc, begin_dpc, begin_first, call_task, command_task, end_task, expire_key, fire_task, frame_task, has_normal, idle_event, idle_task, interrupt_classes, interrupt_task, job_event, may_apcs, may_drain, may_interrupt, may_threaded, must_task, next_what, normal_task, ready, rewait_reply, rewait_task, rundown_event, rundown_task, task, task_event, user_due}
+use Rattle.nt_event.specs.Jobs.{begin_apc, begin_dpc, begin_first, call_task, command_task, end_task, expire_key, fire_task, frame_task, has_normal, idle_event, idle_task, interrupt_task, job_event, may_apcs, may_drain, may_interrupt, may_threaded, must_task, next_what, normal_task, ready, rewait_reply, rewait_task, rundown_event, rundown_task, task, task_event, user_due}
+use Rattle.nt_event.specs.Classes.{interrupt_classes}
 use Rattle.nt_event.specs.Lanes.{Lanes, facts_at, facts_of, lanes_at, queue_at}
-use Rattle.nt_event.specs.Own.{Own, own_of, standing_in}
+use Rattle.nt_event.specs.Own.{Own, own_of, stand_in}
 use Rattle.nt_event.specs.Queues.{QueueState, first_dpc}
 use Rattle.nt_event.specs.Routines.{next_command}
 use Rattle.nt_event.specs.Step.{IsRun, step, turn_at, turn_of, turns}
@@ -71,15 +72,19 @@ first_next part q = holds_map IsNext (begin_dpc part) (first_dpc part q.pending)
 
 pub idle_next : (s : Script) (st : Stand) (l : Lanes) → Holds IsNext (idle_event s st l)
 idle_next s st l =
-    holds_or IsNext (begin_first OrdinaryPart (queue_at l st.cpu)) _ (first_next OrdinaryPart (queue_at l st.cpu)) (λ e. holds_when IsNext (is_null (ready s st.cpu l)) (Some Rest) (λ h. refl))
+    holds_or IsNext (begin_first OrdinaryPart (queue_at l st.cpu)) _ (first_next OrdinaryPart (queue_at l st.cpu))
+    (λ e. holds_when IsNext (is_null (ready s st.cpu l)) (Some Rest) (λ h. refl))
 
 job_next : (s : Script) (st : Stand) (l : Lanes) (j : Job) → is_chosen j ≡ false → Holds IsNext (job_event s st l j)
 job_next s st l (CallJob c) h = refl
 job_next s st l (FireJob d) h = refl
 job_next s st l DrainJob h =
-    holds_else IsNext (option_or (option_map expire_key (when st.sweep (first_due l.timers))) (begin_first OrdinaryPart (queue_at l st.cpu))) (Clean 2) (holds_or IsNext (option_map expire_key (when st.sweep (first_due l.timers))) (begin_first OrdinaryPart (queue_at l st.cpu)) (holds_map IsNext expire_key (when st.sweep (first_due l.timers)) (λ x e. refl)) (λ e. first_next OrdinaryPart (queue_at l st.cpu))) (λ e. refl)
+    holds_else IsNext (option_or (option_map expire_key (when st.sweep (first_due l.timers))) (begin_first OrdinaryPart (queue_at l st.cpu))) (Clean 2)
+    (holds_or IsNext (option_map expire_key (when st.sweep (first_due l.timers))) (begin_first OrdinaryPart (queue_at l st.cpu))
+    (holds_map IsNext expire_key (when st.sweep (first_due l.timers)) (λ x e. refl)) (λ e. first_next OrdinaryPart (queue_at l st.cpu))) (λ e. refl)
 job_next s st l ApcsJob h =
-    holds_else IsNext (option_map begin_apc (deliverable (facts_of l st.thread).apcs st.regions st.level)) (Clean 1) (holds_map IsNext begin_apc (deliverable (facts_of l st.thread).apcs st.regions st.level) (λ x e. refl)) (λ e. refl)
+    holds_else IsNext (option_map begin_apc (deliverable (facts_of l st.thread).apcs st.regions st.level)) (Clean 1)
+    (holds_map IsNext begin_apc (deliverable (facts_of l st.thread).apcs st.regions st.level) (λ x e. refl)) (λ e. refl)
 job_next s st l ThreadedJob h =
     holds_else IsNext (begin_first ThreadedPart (queue_at l st.cpu)) (Clean 0) (first_next ThreadedPart (queue_at l st.cpu)) (λ e. refl)
 job_next s st l IdleJob h = idle_next s st l
@@ -88,15 +93,22 @@ job_next s st l (SwitchJob t) h = cc
 job_next s st l RewaitJob h =
     holds_map IsNext (λ w. Rewait st.frame (rewait_reply st l w)) st.again (λ w e. refl)
 job_next s st l ToUserJob h =
-    holds_else IsNext (option_map begin_apc (user_due (facts_of l st.thread))) (Call st.frame ToUser Done) (holds_map IsNext begin_apc (user_due (facts_of l st.thread)) (λ x e. refl)) (λ e. refl)
+    holds_else IsNext (option_map begin_apc (user_due (facts_of l st.thread))) (Call st.frame ToUser Done)
+    (holds_map IsNext begin_apc (user_due (facts_of l st.thread)) (λ x e. refl)) (λ e. refl)
 job_next s st l UserEndJob h = refl
 job_next s st l LeaveJob h = refl
 job_next s st l RundownJob h =
-    holds_map IsNext (rundown_event l) st.thread (λ t e. holds_else IsNext (option_map (λ x. Flush x.apc x.number) (first_user (facts_at l t).apcs)) (Gone t) (holds_map IsNext (λ x. Flush x.apc x.number) (first_user (facts_at l t).apcs) (λ x k. refl)) (λ k. refl))
+    holds_map IsNext (rundown_event l) st.thread (λ t e. holds_else IsNext (option_map (λ x. Flush x.apc x.number) (first_user (facts_at l t).apcs)) (Gone t)
+    (holds_map IsNext (λ x. Flush x.apc x.number) (first_user (facts_at l t).apcs) (λ x k. refl)) (λ k. refl))
 
 must_next : (x : Own) → Holds NextTask (must_task x)
 must_next x =
-    holds_or NextTask (fire_task x) _ (holds_map NextTask (λ d. Shared (FireJob d)) x.fire (λ d e. refl)) (λ e. holds_or NextTask (interrupt_task x) _ (holds_map NextTask (λ c. Alone (Begin (Int c) (value_at x.seen c - 1))) (find (may_interrupt x) interrupt_classes) (λ c k. refl)) (λ k. holds_or NextTask (when (may_drain x) (Some (Shared DrainJob))) _ (holds_when NextTask (may_drain x) (Some (Shared DrainJob)) (λ h. refl)) (λ k2. holds_or NextTask (when (may_apcs x) (Some (Shared ApcsJob))) _ (holds_when NextTask (may_apcs x) (Some (Shared ApcsJob)) (λ h. refl)) (λ k3. holds_when NextTask (may_threaded x) (Some (Shared ThreadedJob)) (λ h. refl)))))
+    holds_or NextTask (fire_task x) _ (holds_map NextTask (λ d. Shared (FireJob d)) x.fire (λ d e. refl))
+    (λ e. holds_or NextTask (interrupt_task x) _ (holds_map NextTask (λ c. Alone (Begin (Int c) (value_at x.seen c - 1)))
+    (find (may_interrupt x) interrupt_classes) (λ c k. refl))
+    (λ k. holds_or NextTask (when (may_drain x) (Some (Shared DrainJob))) _ (holds_when NextTask (may_drain x) (Some (Shared DrainJob)) (λ h. refl))
+    (λ k2. holds_or NextTask (when (may_apcs x) (Some (Shared ApcsJob))) _ (holds_when NextTask (may_apcs x) (Some (Shared ApcsJob)) (λ h. refl))
+    (λ k3. holds_when NextTask (may_threaded x) (Some (Shared ThreadedJob)) (λ h. refl)))))
 
 call_next : (f : Frame) (c : Command) (r : Option Refusal) → NextTask (call_task f c r)
 call_next f c (Some r) = refl
@@ -118,19 +130,25 @@ command_next x f (Some c) = call_next f c _
 
 frame_next : (s : Script) (p : CpuNo) (x : Own) (f : Frame) → Holds NextTask (frame_task s p x f)
 frame_next s p x f =
-    holds_or NextTask (rewait_task f) _ (holds_when NextTask (is_some f.again) (Some (Shared RewaitJob)) (λ h. refl)) (λ e. holds_or NextTask (rundown_task f) _ (holds_when NextTask f.leaving (Some (Shared RundownJob)) (λ h. refl)) (λ k. holds_or NextTask (command_task x f (next_command s p f)) _ (command_next x f (next_command s p f)) (λ k2. holds_or NextTask (normal_task f) _ (holds_when NextTask (f.kernel_phase && has_normal f.body) (Some (Alone (Normal f.name))) (λ h. refl)) (λ k3. end_next f.name f.body))))
+    holds_or NextTask (rewait_task f) _ (holds_when NextTask (is_some f.again) (Some (Shared RewaitJob)) (λ h. refl))
+    (λ e. holds_or NextTask (rundown_task f) _ (holds_when NextTask f.leaving (Some (Shared RundownJob)) (λ h. refl))
+    (λ k. holds_or NextTask (command_task x f (next_command s p f)) _ (command_next x f (next_command s p f))
+    (λ k2. holds_or NextTask (normal_task f) _ (holds_when NextTask (f.kernel_phase && has_normal f.body) (Some (Alone (Normal f.name))) (λ h. refl))
+    (λ k3. end_next f.name f.body))))
 
 pub task_next : (s : Script) (p : CpuNo) (x : Own) → Holds NextTask (task s p x)
 task_next s p x =
-    holds_or NextTask (must_task x) _ (must_next x) (λ e. holds_or NextTask (option_and_then (frame_task s p x) (innermost x.frames)) (idle_task x) (holds_then NextTask (frame_task s p x) (innermost x.frames) (λ f k. frame_next s p x f)) (λ k. holds_when NextTask (not (x.rested && is_none x.frames.running)) (Some (Shared IdleJob)) (λ h. refl)))
+    holds_or NextTask (must_task x) _ (must_next x) (λ e. holds_or NextTask (option_and_then (frame_task s p x) (innermost x.frames)) (idle_task x)
+    (holds_then NextTask (frame_task s p x) (innermost x.frames) (λ f k. frame_next s p x f))
+    (λ k. holds_when NextTask (not (x.rested && is_none x.frames.running)) (Some (Shared IdleJob)) (λ h. refl)))
 
 pub next_is_next : (s : Script) (p : CpuNo) (x : Own) (l : Lanes) → Holds (λ w. is_next w ≡ true) (next_what s p x l)
 next_is_next s p x l =
-    holds_then IsNext (task_event s (standing_in p x) l) (task s p x) (λ t e. events t (holds_at NextTask (task s p x) t (task_next s p x) e))
+    holds_then IsNext (task_event s (stand_in p x) l) (task s p x) (λ t e. events t (holds_at NextTask (task s p x) t (task_next s p x) e))
   where
-    events : (t : Task) → NextTask t → Holds IsNext (task_event s (standing_in p x) l t)
+    events : (t : Task) → NextTask t → Holds IsNext (task_event s (stand_in p x) l t)
     events (Alone w) h = h
-    events (Shared j) h = job_next s (standing_in p x) l j h
+    events (Shared j) h = job_next s (stand_in p x) l j h
 
 -- ---- turns
 
@@ -143,12 +161,14 @@ turn_next p w h = refl
 pub turn_same : (s : Script) (limit : ℕ) (t : Turn) (past : List Event) (e : Event) → Gives (step s limit t past) e → turn_of e ≡ t
 turn_same s limit (Next p) past e h =
     let k = next_gives s limit p past e h in
-    ap turn_of (sym k.2) ∙ turn_next p k.0 (holds_at IsNext (next_what s p (own_of s p past) (lanes_at s past)) k.0 (next_is_next s p (own_of s p past) (lanes_at s past)) k.1)
+    ap turn_of (sym k.2) ∙ turn_next p k.0 (holds_at IsNext (next_what s p (own_of s p past) (lanes_at s past)) k.0
+    (next_is_next s p (own_of s p past) (lanes_at s past)) k.1)
 turn_same s limit (SwitchTurn p t) past e h = ap turn_of (sym (switch_gives s limit p t past e h).2)
 turn_same s limit (LookTurn p r) past e h = ap turn_of (sym (look_gives s limit p r past e h).1)
 
 -- a run goes on by a step
-pub run_grows : (s : Script) (limit : ℕ) (t : Turn) (past : List Event) (e : Event) → IsRun s limit past → Gives (step s limit t past) e → IsRun s limit (e ∷ past)
+pub run_grows : (s : Script) (limit : ℕ) (t : Turn) (past : List Event) (e : Event) → IsRun s limit past → Gives (step s limit t past) e →
+    IsRun s limit (e ∷ past)
 run_grows s limit t past e r h =
     (subst (λ (u : Turn). Gives (step s limit u past) e) (sym (turn_same s limit t past e h)) h, r)
 
@@ -163,7 +183,8 @@ newest_decide s limit [] (f ∷ k) r q t = cc
 newest_decide s limit (e ∷ h) [] r q t = cc
 newest_decide s limit (e ∷ h) (f ∷ k) r q t =
     let same : h ≡ k = newest_decide s limit h k r.1 q.1 (tails _ _ _ _ t) in
-    let first : e ≡ f = same_event e f (sym r.0 ∙ ap (λ (x : List Event). step s limit (turn_of e) x) same ∙ ap (λ (x : Turn). step s limit x k) (heads _ _ _ _ t) ∙ q.0) in
+    let first : e ≡ f = same_event e f (sym r.0 ∙ ap (λ (x : List Event). step s limit (turn_of e) x) same
+    ∙ ap (λ (x : Turn). step s limit x k) (heads _ _ _ _ t) ∙ q.0) in
     cc
   where
     heads : (a b : Turn) (x y : List Turn) → a ∷ x ≡ b ∷ y → a ≡ b
@@ -175,7 +196,8 @@ newest_decide s limit (e ∷ h) (f ∷ k) r q t =
 map-reverse : {A B : Type 0} (f : A → B) (xs : List A) → map f (reverse xs) ≡ reverse (map f xs)
 map-reverse f [] = refl
 map-reverse f (x ∷ xs) =
-    ap (map f) (reverse-append (x ∷ []) xs) ∙ (map_push f (reverse xs) x ∙ (ap (λ l. l ++ f x ∷ []) (map-reverse f xs) ∙ sym (reverse-append (f x ∷ []) (map f xs))))
+    ap (map f) (reverse-append (x ∷ []) xs) ∙ (map_push f (reverse xs) x
+    ∙ (ap (λ l. l ++ f x ∷ []) (map-reverse f xs) ∙ sym (reverse-append (f x ∷ []) (map f xs))))
 
 -- the turns in order are those of the newest event first, the other way round
 turns_back : (past : List Event) → map turn_of past ≡ reverse (turns past)

@@ -74,7 +74,8 @@ cond_same false x = refl
 
 -- ---- objects
 
-object_untouched : (s : Script) (st : Stand) (w : What) (l : Lanes) (d : DpcNo) (n : ℕ) (o : ObjectState) → list_any (same_lane (ObjectLane d)) (what_lanes s st w l) ≡ false → object_after d n st.cpu w o ≡ o
+object_untouched : (s : Script) (st : Stand) (w : What) (l : Lanes) (d : DpcNo) (n : ℕ) (o : ObjectState) →
+    list_any (same_lane (ObjectLane d)) (what_lanes s st w l) ≡ false → object_after d n st.cpu w o ≡ o
 object_untouched s st (Call f (SetImportance x i) Done) l d n o h = rw (first_false (x.0 == d.0) _ h)
 object_untouched s st (Call f (SetTarget x t) Done) l d n o h = rw (first_false (x.0 == d.0) _ h)
 object_untouched s st (Call f (Queue x) Yes) l d n o h = rw (first_false (x.0 == d.0) _ h)
@@ -86,11 +87,13 @@ object_untouched s st w l d n o h = refl
 
 -- ---- queues
 
-left_false : (o : Option Standing) (q : CpuNo) → list_any (same_lane (QueueLane q)) (standing_lanes o) ≡ false → is_queue (option_map (λ x. x.queue) o) q ≡ false
+left_false : (o : Option Standing) (q : CpuNo) → list_any (same_lane (QueueLane q)) (standing_lanes o) ≡ false → is_queue (option_map (λ x. x.queue) o) q
+    ≡ false
 left_false None q h = refl
 left_false (Some x) q h = first_false (x.queue.0 == q.0) _ h
 
-queue_untouched : (s : Script) (st : Stand) (w : What) (l : Lanes) (q : CpuNo) (n : ℕ) (x : QueueState) → list_any (same_lane (QueueLane q)) (what_lanes s st w l) ≡ false → queue_after s q n st.cpu w l.objects x ≡ x
+queue_untouched : (s : Script) (st : Stand) (w : What) (l : Lanes) (q : CpuNo) (n : ℕ) (x : QueueState) →
+    list_any (same_lane (QueueLane q)) (what_lanes s st w l) ≡ false → queue_after s q n st.cpu w l.objects x ≡ x
 queue_untouched s st (Call f (Queue d) Yes) l q n x h =
     simp (first_false ((queue_for (object_at l d).target st.cpu).0 == q.0) _ h, cond_same)
 queue_untouched s st (Call f (Unqueue d) Yes) l q n x h =
@@ -111,7 +114,8 @@ lane_clash true c h e = cc
 lane_clash false c h e = cc
 
 -- an event that a thread of q makes and that leaves q's threads untouched leaves its facts
-made_untouched : (s : Script) (st : Stand) (w : What) (l : Lanes) (q : CpuNo) (n : ℕ) (x : ThreadFacts) → (st.cpu.0 == q.0) ≡ true → list_any (same_lane (ThreadsLane q)) (what_lanes s st w l) ≡ false → made_facts s n st w x ≡ x
+made_untouched : (s : Script) (st : Stand) (w : What) (l : Lanes) (q : CpuNo) (n : ℕ) (x : ThreadFacts) → (st.cpu.0 == q.0) ≡ true →
+    list_any (same_lane (ThreadsLane q)) (what_lanes s st w l) ≡ false → made_facts s n st w x ≡ x
 made_untouched s st (Switch t status) l q n x e h = lane_clash (st.cpu.0 == q.0) _ h e
 made_untouched s st (Call f (StartWait m a) (Refused r)) l q n x e h = refl
 made_untouched s st (Call f (StartWait m a) y) l q n x e h = lane_clash (st.cpu.0 == q.0) _ h e
@@ -150,7 +154,8 @@ and_false : (a b : Bool) → b ≡ false → (a && b) ≡ false
 and_false true b h = h
 and_false false b h = refl
 
-named_untouched : (s : Script) (st : Stand) (w : What) (l : Lanes) (q : CpuNo) (t : ThreadNo) (n : ℕ) (x : ThreadFacts) → (cpu_of s t).0 ≡ q.0 → list_any (same_lane (ThreadsLane q)) (what_lanes s st w l) ≡ false → named_facts s t n w x ≡ x
+named_untouched : (s : Script) (st : Stand) (w : What) (l : Lanes) (q : CpuNo) (t : ThreadNo) (n : ℕ) (x : ThreadFacts) → (cpu_of s t).0 ≡ q.0 →
+    list_any (same_lane (ThreadsLane q)) (what_lanes s st w l) ≡ false → named_facts s t n w x ≡ x
 named_untouched s st (Call f (Release u) (Refused r)) l q t n x e h = refl
 named_untouched s st (Call f (Release u) y) l q t n x e h =
     no_answer (is_answer y && (u.0 == t.0)) (and_false (is_answer y) (u.0 == t.0) (named_clash s q u t _ e h)) (release_facts x) x
@@ -165,18 +170,22 @@ named_untouched s st (Expire (OfDelay u) from) l q t n x e h =
     no_answer (u.0 == t.0) (named_clash s q u t _ e h) (expiry_facts from x) x
 named_untouched s st w l q t n x e h = refl
 
-facts_untouched : (s : Script) (q : CpuNo) (t : ThreadNo) (e : Event) (past : List Event) → (cpu_of s t).0 ≡ q.0 → touches s (ThreadsLane q) e past ≡ false → facts s t (e ∷ past) ≡ facts s t past
+facts_untouched : (s : Script) (q : CpuNo) (t : ThreadNo) (e : Event) (past : List Event) → (cpu_of s t).0 ≡ q.0 → touches s (ThreadsLane q) e past ≡ false →
+    facts s t (e ∷ past) ≡ facts s t past
 facts_untouched s q t e past own h =
-    ap (named_facts s t (length past) e.what) (go (is_of_thread s t e) refl) ∙ named_untouched s (stand_at s e.cpu past) e.what (lanes_at s past) q t (length past) (facts s t past) own h
+    ap (named_facts s t (length past) e.what) (go (is_of_thread s t e) refl)
+    ∙ named_untouched s (stand_at s e.cpu past) e.what (lanes_at s past) q t (length past) (facts s t past) own h
   where
-    go : (b : Bool) → is_of_thread s t e ≡ b → (if b then made_facts s (length past) (stand_at s e.cpu past) e.what (facts s t past) else facts s t past) ≡ facts s t past
+    go : (b : Bool) → is_of_thread s t e ≡ b → (if b then made_facts s (length past) (stand_at s e.cpu past) e.what (facts s t past) else facts s t past)
+        ≡ facts s t past
     go false k = refl
     go true k =
         let here : e.cpu.0 ≡ (cpu_of s t).0 = eqb-true e.cpu.0 (cpu_of s t).0 (both (is_of e (cpu_of s t)) _ k).0 in
         made_untouched s (stand_at s e.cpu past) e.what (lanes_at s past) q (length past) (facts s t past) (eq-eqb e.cpu.0 q.0 (here ∙ own)) h
 
 -- the threads of a processor, one by one
-pub threads_same : (s : Script) (p : CpuNo) (n : ℕ) (xs : List ThreadDecl) (l m : Lanes) → ((i : ℕ) → slice_get s.threads (n + i) ≡ slice_get xs i) → ((t : ThreadNo) → (cpu_of s t).0 ≡ p.0 → facts_at l t ≡ facts_at m t) → threads_from p n xs l ≡ threads_from p n xs m
+pub threads_same : (s : Script) (p : CpuNo) (n : ℕ) (xs : List ThreadDecl) (l m : Lanes) → ((i : ℕ) → slice_get s.threads (n + i) ≡ slice_get xs i) →
+    ((t : ThreadNo) → (cpu_of s t).0 ≡ p.0 → facts_at l t ≡ facts_at m t) → threads_from p n xs l ≡ threads_from p n xs m
 threads_same s p n [] l m h k = refl
 threads_same s p n (x ∷ xs) l m h k =
     go (x.cpu.0 == p.0) refl (threads_same s p (suc n) xs l m next k)
@@ -187,7 +196,9 @@ threads_same s p n (x ∷ xs) l m h k =
     here : slice_get s.threads n ≡ Some x
     here = let e : n + 0 ≡ n = omega arith in rw e at (h 0)
 
-    go : (b : Bool) → (x.cpu.0 == p.0) ≡ b → threads_from p (suc n) xs l ≡ threads_from p (suc n) xs m → (if b then (facts_at l (thread n) ∷ threads_from p (suc n) xs l) else threads_from p (suc n) xs l) ≡ (if b then (facts_at m (thread n) ∷ threads_from p (suc n) xs m) else threads_from p (suc n) xs m)
+    go : (b : Bool) → (x.cpu.0 == p.0) ≡ b → threads_from p (suc n) xs l ≡ threads_from p (suc n) xs m →
+        (if b then (facts_at l (thread n) ∷ threads_from p (suc n) xs l) else threads_from p (suc n) xs l)
+        ≡ (if b then (facts_at m (thread n) ∷ threads_from p (suc n) xs m) else threads_from p (suc n) xs m)
     go false e more = more
     go true e more =
         let own : cpu_of s (thread n) ≡ x.cpu = ap (λ (o : Option ThreadDecl). option_map_or (λ (y : ThreadDecl). y.cpu) o (cpu 0)) here in
@@ -196,14 +207,16 @@ threads_same s p n (x ∷ xs) l m h k =
 
 -- ---- timers
 
-time_untouched : (s : Script) (st : Stand) (w : What) (l : Lanes) (now : ℕ) → list_any (same_lane TimersLane) (what_lanes s st w l) ≡ false → time_after w now ≡ now
+time_untouched : (s : Script) (st : Stand) (w : What) (l : Lanes) (now : ℕ) → list_any (same_lane TimersLane) (what_lanes s st w l) ≡ false → time_after w now
+    ≡ now
 time_untouched s st (Call f (Clock u) Done) l now h = cc
 time_untouched s st w l now h = refl
 
 answer_refused : (r : Refusal) → is_answer (Refused r) ≡ false
 answer_refused r = refl
 
-timer_untouched : (s : Script) (st : Stand) (w : What) (l : Lanes) (t : TimerNo) (n now : ℕ) (old : Option Setting) → list_any (same_lane TimersLane) (what_lanes s st w l) ≡ false → timer_after t n now w old ≡ old
+timer_untouched : (s : Script) (st : Stand) (w : What) (l : Lanes) (t : TimerNo) (n now : ℕ) (old : Option Setting) →
+    list_any (same_lane TimersLane) (what_lanes s st w l) ≡ false → timer_after t n now w old ≡ old
 timer_untouched s st (Call f (SetTimer x due period) (Refused r)) l t n now old h = refl
 timer_untouched s st (Call f (SetTimer x due period) y) l t n now old h = cc
 timer_untouched s st (Call f (CancelTimer x) Yes) l t n now old h = cc
@@ -220,21 +233,25 @@ lane_if_false true true h = cc
 lane_if_false true false h = cc
 lane_if_false false more h = refl
 
-blocked_untouched : (s : Script) (st : Stand) (w : What) (l : Lanes) (n now : ℕ) (old : Option Setting) → list_any (same_lane TimersLane) (what_lanes s st w l) ≡ false → blocked_after n now st.again w old ≡ old
+blocked_untouched : (s : Script) (st : Stand) (w : What) (l : Lanes) (n now : ℕ) (old : Option Setting) → list_any (same_lane TimersLane) (what_lanes s st w l)
+    ≡ false → blocked_after n now st.again w old ≡ old
 blocked_untouched s st (Call f (Delay m a u) Blocked) l n now old h = cc
 blocked_untouched s st (Rewait f Blocked) l n now old h =
     set_untouched (option_and_then (λ w. w.due) st.again) n old (lane_if_false (is_some (option_and_then (λ w. w.due) st.again)) false h)
 blocked_untouched s st w l n now old h = refl
 
-expired_untouched : (s : Script) (st : Stand) (w : What) (l : Lanes) (t : ThreadNo) (old : Option Setting) → list_any (same_lane TimersLane) (what_lanes s st w l) ≡ false → expired_delay t w old ≡ old
+expired_untouched : (s : Script) (st : Stand) (w : What) (l : Lanes) (t : ThreadNo) (old : Option Setting) →
+    list_any (same_lane TimersLane) (what_lanes s st w l) ≡ false → expired_delay t w old ≡ old
 expired_untouched s st (Expire (OfDelay u) from) l t old h = cc
 expired_untouched s st w l t old h = refl
 
-delay_untouched : (s : Script) (t : ThreadNo) (e : Event) (past : List Event) → touches s TimersLane e past ≡ false → delay_setting s t (e ∷ past) ≡ delay_setting s t past
+delay_untouched : (s : Script) (t : ThreadNo) (e : Event) (past : List Event) → touches s TimersLane e past ≡ false → delay_setting s t (e ∷ past)
+    ≡ delay_setting s t past
 delay_untouched s t e past h =
     ap (expired_delay t e.what) (go (is_of_thread s t e)) ∙ expired_untouched s (stand_at s e.cpu past) e.what (lanes_at s past) t (delay_setting s t past) h
   where
-    go : (b : Bool) → (if b then blocked_after (length past) (time past) (stand_at s e.cpu past).again e.what (delay_setting s t past) else delay_setting s t past) ≡ delay_setting s t past
+    go : (b : Bool) → (if b then blocked_after (length past) (time past) (stand_at s e.cpu past).again e.what (delay_setting s t past)
+        else delay_setting s t past) ≡ delay_setting s t past
     go true =
         blocked_untouched s (stand_at s e.cpu past) e.what (lanes_at s past) (length past) (time past) (delay_setting s t past) h
     go false = refl
@@ -246,23 +263,31 @@ timers_untouched s e past h = λ i. record { now = n i; timers = t i; delays = d
     n = time_untouched s (stand_at s e.cpu past) e.what (lanes_at s past) (time past) h
 
     t : table (length s.timers) (λ t. timer_setting (timer t) (e ∷ past)) ≡ table (length s.timers) (λ t. timer_setting (timer t) past)
-    t = table-same _ _ _ (λ k l. timer_untouched s (stand_at s e.cpu past) e.what (lanes_at s past) (timer k) (length past) (time past) (timer_setting (timer k) past) h)
+    t = table-same _ _ _ (λ k l. timer_untouched s (stand_at s e.cpu past) e.what (lanes_at s past) (timer k) (length past) (time past)
+        (timer_setting (timer k) past) h)
 
     d : table (length s.threads) (λ t. delay_setting s (thread t) (e ∷ past)) ≡ table (length s.threads) (λ t. delay_setting s (thread t) past)
     d = table-same _ _ _ (λ k l. delay_untouched s (thread k) e past h)
 
 -- ---- a lane's state
 
-content_untouched : (s : Script) (x : Lane) (e : Event) (past : List Event) → touches s x e past ≡ false → content s (lanes_at s (e ∷ past)) x ≡ content s (lanes_at s past) x
+content_untouched : (s : Script) (x : Lane) (e : Event) (past : List Event) → touches s x e past ≡ false → content s (lanes_at s (e ∷ past)) x
+    ≡ content s (lanes_at s past) x
 content_untouched s (ObjectLane d) e past h =
-    ap (λ (o : ObjectState). OfObject o) (read_same (length s.dpcs) d.0 (λ d. object_of (dpc d) (e ∷ past)) (λ d. object_of (dpc d) past) start_object (λ l. object_untouched s (stand_at s e.cpu past) e.what (lanes_at s past) d (length past) (object_of d past) h))
+    ap (λ (o : ObjectState). OfObject o) (read_same (length s.dpcs) d.0 (λ d. object_of (dpc d) (e ∷ past)) (λ d. object_of (dpc d) past) start_object
+    (λ l. object_untouched s (stand_at s e.cpu past) e.what (lanes_at s past) d (length past) (object_of d past) h))
 content_untouched s (QueueLane p) e past h =
-    ap (λ (q : QueueState). OfQueue q) (read_same s.cpus p.0 (λ p. queue_of s (cpu p) (e ∷ past)) (λ p. queue_of s (cpu p) past) start_queue (λ l. queue_untouched s (stand_at s e.cpu past) e.what (lanes_at s past) p (length past) (queue_of s p past) h))
+    ap (λ (q : QueueState). OfQueue q) (read_same s.cpus p.0 (λ p. queue_of s (cpu p) (e ∷ past)) (λ p. queue_of s (cpu p) past) start_queue
+    (λ l. queue_untouched s (stand_at s e.cpu past) e.what (lanes_at s past) p (length past) (queue_of s p past) h))
 content_untouched s (ThreadsLane p) e past h =
-    ap (λ (xs : List ThreadFacts). OfThreads xs) (threads_same s p 0 s.threads (lanes_at s (e ∷ past)) (lanes_at s past) (λ i. let z : 0 + i ≡ i = omega arith in rw z refl) (λ t own. read_same (length s.threads) t.0 (λ t. facts s (thread t) (e ∷ past)) (λ t. facts s (thread t) past) start_facts (λ l. facts_untouched s p t e past own h)))
+    ap (λ (xs : List ThreadFacts). OfThreads xs) (threads_same s p 0 s.threads (lanes_at s (e ∷ past)) (lanes_at s past)
+    (λ i. let z : 0 + i ≡ i = omega arith in rw z refl)
+    (λ t own. read_same (length s.threads) t.0 (λ t. facts s (thread t) (e ∷ past)) (λ t. facts s (thread t) past) start_facts
+    (λ l. facts_untouched s p t e past own h)))
 content_untouched s TimersLane e past h = ap (λ (x : Timers). OfTimers x) (timers_untouched s e past h)
 
-told_untouched : (s : Script) (x : Lane) (e : Event) (past : List Event) (p : CpuNo) (c : ℕ) → touches s x e past ≡ false → told_by s x p c (e ∷ past) ≡ told_by s x p c past
+told_untouched : (s : Script) (x : Lane) (e : Event) (past : List Event) (p : CpuNo) (c : ℕ) → touches s x e past ≡ false → told_by s x p c (e ∷ past)
+    ≡ told_by s x p c past
 told_untouched s x e past p c h =
     ap (λ (b : Bool). raised (b && asks s p c e past) (length past) (told_by s x p c past)) h
 

@@ -17,7 +17,7 @@ use Rattle.nt_event.specs.declared.numbers.RoutineNo.{RoutineNo}
 use Rattle.nt_event.specs.declared.numbers.ThreadNo.{ThreadNo}
 use Rattle.nt_event.specs.declared.scripts.Script.{Script}
 use Rattle.nt_event.specs.Commands.{not_above, refuse}
-use Rattle.nt_event.specs.Frames.{Frames, at_name, called, due_of, end_on_thread, flushed, frames_of, is_base_body, is_on_thread, is_user_apc_body, left, new_frame, normal_of, resumed, rewaited, running, switched_to, thread_after, thread_frames, thread_part, time}
+use Rattle.nt_event.specs.Frames.{Frames, at_name, called, due_of, end_on_thread, flushed, frames_of, is_base_body, is_on_thread, is_user_apc_body, ended_base, new_frame, normal_of, resumed, rewaited, running, switched_to, thread_after, thread_frames, thread_part, time}
 use Rattle.nt_event.specs.Jobs.{level_at, may_apcs}
 use Rattle.nt_event.specs.Lanes.{Lanes, lanes_at}
 use Rattle.nt_runs.specs.Laws.{level_of}
@@ -69,14 +69,14 @@ end_user n (f ∷ fs) h = go (f.name == n) (is_base_body f.body) refl
     base (OnBase t) h = refl
     base b h = cc
 
-    left_user : is_base_body f.body ≡ true → UserBelow (left f ∷ fs)
+    left_user : is_base_body f.body ≡ true → UserBelow (ended_base f ∷ fs)
     left_user e = go fs h
       where
-        go : (fs : List Frame) → UserBelow (f ∷ fs) → UserBelow (left f ∷ fs)
+        go : (fs : List Frame) → UserBelow (f ∷ fs) → UserBelow (ended_base f ∷ fs)
         go [] h = tt
         go (g ∷ fs) h = (λ u. let no : is_user_apc_body f.body ≡ false = base f.body e in absurd (both_ways (is_user_apc_body f.body) no u), h.1)
 
-    go : (b c : Bool) → is_base_body f.body ≡ c → UserBelow (if b then (if c then (left f ∷ fs) else fs) else (f ∷ fs))
+    go : (b c : Bool) → is_base_body f.body ≡ c → UserBelow (if b then (if c then (ended_base f ∷ fs) else fs) else (f ∷ fs))
     go true true e = left_user e
     go true false e = tail_user f fs h
     go false c e = h
@@ -92,7 +92,8 @@ switched_user : (n : ℕ) (t : ThreadNo) (st : Option ℕ) (fs : List Frame) →
 switched_user n t st [] h = tt
 switched_user n t st (f ∷ fs) h = head_user (resumed st) f fs ((resumed_keeps st).body f) h
 
-after_user : (s : Script) (n : ℕ) (due : Option ℕ) (w : What) (fs : List Frame) → ((a : ApcNo) (from : ℕ) → w ≡ Begin (Apc a) from → level_of fs ≡ 0) → UserBelow fs → UserBelow (thread_after s n due w fs)
+after_user : (s : Script) (n : ℕ) (due : Option ℕ) (w : What) (fs : List Frame) → ((a : ApcNo) (from : ℕ) → w ≡ Begin (Apc a) from → level_of fs ≡ 0) →
+    UserBelow fs → UserBelow (thread_after s n due w fs)
 after_user s n due (Switch u st) fs l h = switched_user n u st fs h
 after_user s n due (Begin (Apc a) from) fs l h = begun_user (new_frame n (OnApc a (kind_of s a))) fs (λ u. l a from refl) h
 after_user s n due (Flush a from) fs l h = flushed_user n a (rundown_of s a) fs h
@@ -118,8 +119,11 @@ pub touser_low : (s : Script) (p : CpuNo) (x : Own) → KnownToUser s p x → (l
 touser_low s p x k =
     let own : not (is_null x.frames.own) ≡ false = refuse_none (not (is_null x.frames.own)) NotThread _ k.accepted in
     let null : is_null x.frames.own ≡ true = null_of (is_null x.frames.own) own in
-    let rest : refuse (not (is_base_body k.frame.body)) NotBase (not_above 0 (level_at x) (refuse (is_open (regions_of (thread_part x.frames))) RegionsOpen None)) ≡ None = next_test (not (is_null x.frames.own)) NotThread _ k.accepted in
-    let low : not_above 0 (level_at x) (refuse (is_open (regions_of (thread_part x.frames))) RegionsOpen None) ≡ None = next_test (not (is_base_body k.frame.body)) NotBase _ rest in
+    let rest : refuse (not (is_base_body k.frame.body)) NotBase
+    (not_above 0 (level_at x) (refuse (is_open (regions_of (thread_part x.frames))) RegionsOpen None))
+    ≡ None = next_test (not (is_null x.frames.own)) NotThread _ k.accepted in
+    let low : not_above 0 (level_at x) (refuse (is_open (regions_of (thread_part x.frames))) RegionsOpen None)
+    ≡ None = next_test (not (is_base_body k.frame.body)) NotBase _ rest in
     let b : nat_lt 0 (level_at x) ≡ false = refuse_none (nat_lt 0 (level_at x)) TooHigh _ low in
     let z : level_at x ≤ 0 = ltb-false 0 (level_at x) b in
     (omega (arith, z), null)
@@ -128,20 +132,23 @@ touser_low s p x k =
     next_test true r o h = cc
     next_test false r o h = h
 
-pub begin_low : (s : Script) (p : CpuNo) (x : Own) (l : Lanes) (a : ApcNo) (from : ℕ) → KnownBegin s p x l (Apc a) from → (level_at x ≡ 0) × (is_null x.frames.own ≡ true)
+pub begin_low : (s : Script) (p : CpuNo) (x : Own) (l : Lanes) (a : ApcNo) (from : ℕ) → KnownBegin s p x l (Apc a) from → (level_at x ≡ 0) ×
+    (is_null x.frames.own ≡ true)
 begin_low s p x l a from (inl k) = apcs_low x k.0
 begin_low s p x l a from (inr k) = touser_low s p x k.0
 
 -- ---- in a run
 
-user_step : (s : Script) (limit : ℕ) (p : CpuNo) (t : ThreadNo) (e : Event) (past : List Event) (own by : Bool) → is_of e p ≡ own → is_by e t ≡ by → IsLegal s limit e past → IsRun s limit past → UserBelow (thread_frames s p t past) → UserBelow (thread_frames s p t (e ∷ past))
+user_step : (s : Script) (limit : ℕ) (p : CpuNo) (t : ThreadNo) (e : Event) (past : List Event) (own by : Bool) → is_of e p ≡ own → is_by e t ≡ by →
+    IsLegal s limit e past → IsRun s limit past → UserBelow (thread_frames s p t past) → UserBelow (thread_frames s p t (e ∷ past))
 user_step s limit p t e past false by o b g r ih =
     let moved : thread_frames s p t (e ∷ past) ≡ thread_frames s p t past = rw o in subst UserBelow (sym moved) ih
 user_step s limit p t e past true false o b g r ih =
     let moved : thread_frames s p t (e ∷ past) ≡ thread_frames s p t past = frames_when s p t e past false o b in
     subst UserBelow (sym moved) ih
 user_step s limit p t e past true true o b g r ih =
-    let moved : thread_frames s p t (e ∷ past) ≡ thread_after s (length past) (due_of e.what (time past)) e.what (thread_frames s p t past) = frames_when s p t e past true o b in
+    let moved : thread_frames s p t (e ∷ past) ≡ thread_after s (length past) (due_of e.what (time past)) e.what
+    (thread_frames s p t past) = frames_when s p t e past true o b in
     subst UserBelow (sym moved) (after_user s (length past) (due_of e.what (time past)) e.what (thread_frames s p t past) low ih)
   where
     here : e.cpu ≡ p
@@ -150,9 +157,11 @@ user_step s limit p t e past true true o b g r ih =
     low : (a : ApcNo) (from : ℕ) → e.what ≡ Begin (Apc a) from → level_of (thread_frames s p t past) ≡ 0
     low a from w =
         let k : Known s e.cpu (own_of s e.cpu past) (lanes_at s past) e.what = legal_known s limit e past g (ap is_next w) in
-        let kp : Known s p (own_of s p past) (lanes_at s past) (Begin (Apc a) from) = subst (Known s p (own_of s p past) (lanes_at s past)) w (subst (λ (q : CpuNo). Known s q (own_of s q past) (lanes_at s past) e.what) here k) in
+        let kp : Known s p (own_of s p past) (lanes_at s past) (Begin (Apc a) from) = subst (Known s p (own_of s p past) (lanes_at s past)) w
+        (subst (λ (q : CpuNo). Known s q (own_of s q past) (lanes_at s past) e.what) here k) in
         let z = begin_low s p (own_of s p past) (lanes_at s past) a from kp in
-        let field : running e.cpu past ≡ Some t = ap (λ (v : What). thread_field v (running e.cpu past)) (sym w) ∙ (sym (thread_named s limit e past g) ∙ same_thread e.thread t b) in
+        let field : running e.cpu past ≡ Some t = ap (λ (v : What). thread_field v (running e.cpu past)) (sym w)
+        ∙ (sym (thread_named s limit e past g) ∙ same_thread e.thread t b) in
         let run : running p past ≡ Some t = ap (λ (q : CpuNo). running q past) (sym here) ∙ field in
         let h = running_here s limit p t past r run in
         sym (level_on_thread (frames_of s p past) (thread_frames s p t past) z.1 (part_of_running s p t past h.0 run)) ∙ z.0

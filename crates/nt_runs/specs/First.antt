@@ -17,11 +17,13 @@ use Rattle.nt_event.specs.Step.{IsRun}
 
 -- x is the High one of greatest number among the inserts of the part
 abbrev pub IsGreatestHigh : Part → List Insert → Insert → Type 0
-IsGreatestHigh part xs x = (x.high ≡ true) × ((y : Insert) → Contains xs y → is_high_in part y ≡ true → y.number ≤ x.number)
+IsGreatestHigh part xs x = (x.high ≡ true) ×
+    ((y : Insert) → Contains xs y → is_high_in part y ≡ true → y.number ≤ x.number)
 
 -- none of the part is High, and x is the one of least number among the inserts of the part
 abbrev pub IsLeastOfLow : Part → List Insert → Insert → Type 0
-IsLeastOfLow part xs x = ((y : Insert) → Contains xs y → is_high_in part y ≡ false) × ((y : Insert) → Contains xs y → is_in part y ≡ true → x.number ≤ y.number)
+IsLeastOfLow part xs x = ((y : Insert) → Contains xs y → is_high_in part y ≡ false) ×
+    ((y : Insert) → Contains xs y → is_in part y ≡ true → x.number ≤ y.number)
 
 -- what is answered as the first of the part: one of the part, or that the part is empty
 abbrev pub IsFirst : Part → List Insert → Option Insert → Type 0

@@ -19,83 +19,87 @@ use Rattle.nt_event.specs.declared.scripts.TimerDecl.{TimerDecl}
 use Rattle.nt_event.specs.declared.scripts.ThreadDecl.{ThreadDecl}
 use Rattle.nt_event.specs.declared.scripts.ApcDecl.{ApcDecl}
 use Rattle.nt_event.specs.Script.{isrs_differ, isr_of as isr_routine}
-use Rattle.nt_script.specs.declared.words.Verb.TheVariants as verb
-use Rattle.nt_script.specs.declared.words.Word.{Word}
-use Rattle.nt_script.specs.declared.words.Word.TheVariants as word
-use Rattle.nt_script.specs.declared.words.Place.{Place}
-use Rattle.nt_script.specs.declared.words.Place.TheVariants.{InIsrs, InDpcs, InTimers, InThreads, InApcs, InRoutine}
+use Rattle.nt_line.specs.declared.keywords.Verb.TheVariants as verb
+use Rattle.nt_line.specs.declared.keywords.Keyword.{Keyword}
+use Rattle.nt_line.specs.declared.keywords.Keyword.TheVariants as keyword
+use Rattle.nt_line.specs.declared.keywords.Place.{Place}
+use Rattle.nt_line.specs.declared.keywords.Place.TheVariants.{InIsrs, InDpcs, InTimers, InThreads, InApcs, InRoutine}
 use Rattle.nt_script.specs.declared.walk.Walk.{Walk}
-use Rattle.nt_script.specs.Places.{place}
-use Rattle.nt_script.specs.NameLists.{NameLists, meaning}
-use Rattle.nt_script.specs.Words.{word_of, text_of, arity}
-use Rattle.nt_script.specs.Results.{ok_if}
-use Rattle.nt_script.specs.Slots.{new_name, on_off_text}
-use Rattle.nt_script.specs.Declarations.{dpc_of, timer_of, thread_of, apc_of}
+use Rattle.nt_line.specs.Places.{place}
+use Rattle.nt_line.specs.NameLists.{NameLists, meaning}
+use Rattle.nt_line.specs.Keywords.{keyword_of, text_of, arity}
+use Rattle.nt_line.specs.Results.{ok_if}
+use Rattle.nt_line.specs.Fields.{new_name, on_off_text}
+use Rattle.nt_line.specs.Declarations.{dpc_of, timer_of, thread_of, apc_of}
 use Rattle.nt_script.specs.Reading.{declaration, counted, step, act, with_cpus, with_depth, with_threaded, with_isr, with_dpc, with_timer, with_thread, with_apc, with_routine, with_exit, with_command}
-use Rattle.nt_script.specs.Fits.{IsrFits, DpcFits, TimerFits, ThreadFits, ApcFits, CommandFits}
-use Rattle.nt_script.specs.Text.{Row, number_row, isr_args, isr_row, dpc_args, dpc_row, timer_args, timer_row, thread_args, thread_row, apc_args, apc_row, declared_rows, command_verb, command_args, command_row, begun_rows, exit_row, routine_rows}
-use Rattle.nt_script.specs.Sound.{AreNew}
-use Rattle.nt_script.proofs.Fields.{number_again, on_off_again}
-use Rattle.nt_script.proofs.Spelled.{AreRead, command_again, args_count, isr_again, dpc_again, timer_again, thread_again, apc_again, apc_count}
-use Rattle.nt_script.proofs.Found.{nowhere_both}
+use Rattle.nt_line.specs.Fits.{IsrFits, DpcFits, TimerFits, ThreadFits, ApcFits, CommandFits}
+use Rattle.nt_text.specs.Lines.{Row}
+use Rattle.nt_line.specs.Rows.{number_row, isr_args, isr_row, dpc_args, dpc_row, timer_args, timer_row, thread_args, thread_row, apc_args, apc_row, command_verb, command_args, command_row}
+use Rattle.nt_script.specs.Text.{declared_rows, begun_rows, exit_row, routine_rows}
+use Rattle.nt_line.specs.NameLists.{AreNew}
+use Rattle.nt_line.proofs.FieldTexts.{number_again, on_off_again}
+use Rattle.nt_line.proofs.Spelled.{AreRead, command_again, args_count, isr_again, dpc_again, timer_again, thread_again, apc_again, apc_count}
+use Rattle.nt_line.proofs.Found.{nowhere_both}
 use Rattle.nt_script.proofs.Pairs.{no_pair}
 use Rattle.nt_script.proofs.Taken.{At, at_again}
 use Rattle.nt_script.proofs.Steps.{Between}
 use Rattle.nt_script.proofs.Acts.{apc_arity}
 
--- ---- words
+-- ---- keywords
 
-pub word_again : (w : Word) → word_of (text_of w) ≡ Some w
-unfolding word_of
-word_again word.Cpus = refl
-word_again word.Depth = refl
-word_again word.Threaded = refl
-word_again word.Isr = refl
-word_again (word.Dpc false) = refl
-word_again (word.Dpc true) = refl
-word_again word.Timer = refl
-word_again word.Thread = refl
-word_again (word.Apc Special) = refl
-word_again (word.Apc Normal) = refl
-word_again (word.Apc User) = refl
-word_again word.Routine = refl
-word_again word.Exit = refl
-word_again (word.Call verb.Raise) = refl
-word_again (word.Call verb.Lower) = refl
-word_again (word.Call verb.Queue) = refl
-word_again (word.Call verb.Unqueue) = refl
-word_again (word.Call verb.SetImportance) = refl
-word_again (word.Call verb.SetTarget) = refl
-word_again (word.Call verb.SetTimer) = refl
-word_again (word.Call verb.CancelTimer) = refl
-word_again (word.Call verb.InsertApc) = refl
-word_again (word.Call verb.RemoveApc) = refl
-word_again (word.Call verb.EnterCrit) = refl
-word_again (word.Call verb.EnterGuard) = refl
-word_again (word.Call verb.LeaveCrit) = refl
-word_again (word.Call verb.LeaveGuard) = refl
-word_again (word.Call verb.StartWait) = refl
-word_again (word.Call verb.Delay) = refl
-word_again (word.Call verb.Release) = refl
-word_again (word.Call verb.Alert) = refl
-word_again (word.Call verb.TestAlert) = refl
-word_again (word.Call verb.Interrupt) = refl
-word_again (word.Call verb.Clock) = refl
-word_again (word.Call verb.ToUser) = refl
-word_again (word.Call verb.Yield) = refl
-word_again (word.Call verb.Note) = refl
+pub keyword_again : (w : Keyword) → keyword_of (text_of w) ≡ Some w
+unfolding keyword_of
+keyword_again keyword.Cpus = refl
+keyword_again keyword.Depth = refl
+keyword_again keyword.Threaded = refl
+keyword_again keyword.Isr = refl
+keyword_again (keyword.Dpc false) = refl
+keyword_again (keyword.Dpc true) = refl
+keyword_again keyword.Timer = refl
+keyword_again keyword.Thread = refl
+keyword_again (keyword.Apc Special) = refl
+keyword_again (keyword.Apc Normal) = refl
+keyword_again (keyword.Apc User) = refl
+keyword_again keyword.Routine = refl
+keyword_again keyword.Exit = refl
+keyword_again (keyword.Call verb.Raise) = refl
+keyword_again (keyword.Call verb.Lower) = refl
+keyword_again (keyword.Call verb.Queue) = refl
+keyword_again (keyword.Call verb.Unqueue) = refl
+keyword_again (keyword.Call verb.SetImportance) = refl
+keyword_again (keyword.Call verb.SetTarget) = refl
+keyword_again (keyword.Call verb.SetTimer) = refl
+keyword_again (keyword.Call verb.CancelTimer) = refl
+keyword_again (keyword.Call verb.InsertApc) = refl
+keyword_again (keyword.Call verb.RemoveApc) = refl
+keyword_again (keyword.Call verb.EnterCrit) = refl
+keyword_again (keyword.Call verb.EnterGuard) = refl
+keyword_again (keyword.Call verb.LeaveCrit) = refl
+keyword_again (keyword.Call verb.LeaveGuard) = refl
+keyword_again (keyword.Call verb.StartWait) = refl
+keyword_again (keyword.Call verb.Delay) = refl
+keyword_again (keyword.Call verb.Release) = refl
+keyword_again (keyword.Call verb.Alert) = refl
+keyword_again (keyword.Call verb.TestAlert) = refl
+keyword_again (keyword.Call verb.Interrupt) = refl
+keyword_again (keyword.Call verb.Clock) = refl
+keyword_again (keyword.Call verb.ToUser) = refl
+keyword_again (keyword.Call verb.Yield) = refl
+keyword_again (keyword.Call verb.Note) = refl
 
 counted_again : (n : ℕ) → counted n n ≡ Ok true
 counted_again n = rw (le-ltb n n (omega arith)) refl
 
--- a row of a word that may stand there, with its fields
-step_again : (all : NameLists) (w : Walk) (wd : Word) (args : Row) → At w.place wd → length args ≡ arity wd → step all w (text_of wd ∷ args) ≡ act all w wd args
-step_again all w wd args at len = rw (word_again wd, at_again w.place wd at, len, counted_again (arity wd)) refl
+-- a row of a keyword that may stand there, with its fields
+step_again : (all : NameLists) (w : Walk) (wd : Keyword) (args : Row) → At w.place wd → length args ≡ arity wd → step all w (text_of wd ∷ args)
+    ≡ act all w wd args
+step_again all w wd args at len = rw (keyword_again wd, at_again w.place wd at, len, counted_again (arity wd)) refl
 
 new_again : (names : NameLists) (n : List ℕ) → is_name n ≡ true → meaning n names ≡ None → new_name names n ≡ Ok n
 new_again names n named none = rw (named, none) refl
 
-declaration_again : {A : Type 0} (names : NameLists) (read : Row → Result A ScriptKind) (put : List ℕ → A → Result Walk ScriptKind) (n : List ℕ) (args : Row) (x : A) → is_name n ≡ true → meaning n names ≡ None → read args ≡ Ok x → declaration names read put (n ∷ args) ≡ put n x
+declaration_again : {A : Type 0} (names : NameLists) (read : Row → Result A ScriptKind) (put : List ℕ → A → Result Walk ScriptKind) (n : List ℕ) (args : Row)
+    (x : A) → is_name n ≡ true → meaning n names ≡ None → read args ≡ Ok x → declaration names read put (n ∷ args) ≡ put n x
 declaration_again names read put n args x named none e = rw (new_again names n named none, e) refl
 
 -- ---- several rows
@@ -110,7 +114,8 @@ steps_then all w [] b mid last s t = subst (λ (m : Walk). Steps all m b last) (
 steps_then all w (row ∷ a) b mid last s t = (s.0, s.1, steps_then all s.0 a b mid last s.2 t)
 
 -- the same steps, to an equal state
-steps_to : {A B : Type 0} (all : NameLists) (w : Walk) (rows : List Row) (make : A → B → Place → Walk) (a a' : A) (b b' : B) (p p' : Place) → a ≡ a' → b ≡ b' → p ≡ p' → Steps all w rows (make a b p) → Steps all w rows (make a' b' p')
+steps_to : {A B : Type 0} (all : NameLists) (w : Walk) (rows : List Row) (make : A → B → Place → Walk) (a a' : A) (b b' : B) (p p' : Place) → a ≡ a' → b ≡ b' →
+    p ≡ p' → Steps all w rows (make a b p) → Steps all w rows (make a' b' p')
 steps_to all w rows make a a' b b' p p' ea eb ep s =
     let one : Steps all w rows (make a' b p) = subst (λ a. Steps all w rows (make a b p)) ea s in
     let two : Steps all w rows (make a' b' p) = subst (λ b. Steps all w rows (make a' b p)) eb one in
@@ -132,10 +137,13 @@ stays (x ∷ xs) p = refl
 
 -- ---- a part of things with names, read from what was read of it before
 
-pub part_run : {A : Type 0} (all : NameLists) (row : List ℕ → A → Row) (make : List (List ℕ) → List A → Place → Walk) (here : Place) (last : ℕ) (before : List (List ℕ)) (Fits : A → Type 0) (most : ℕ)
-    → ((ns : List (List ℕ)) (xs : List A) (p : Place) (n : List ℕ) (x : A) → Between 1 last p → is_name n ≡ true → place n (before ++ ns) ≡ None → Fits x → length xs < most → step all (make ns xs p) (row n x) ≡ Ok (make (ns ++ n ∷ []) (xs ++ x ∷ []) here))
+pub part_run : {A : Type 0} (all : NameLists) (row : List ℕ → A → Row) (make : List (List ℕ) → List A → Place → Walk) (here : Place) (last : ℕ)
+    (before : List (List ℕ)) (Fits : A → Type 0) (most : ℕ)
+    → ((ns : List (List ℕ)) (xs : List A) (p : Place) (n : List ℕ) (x : A) → Between 1 last p → is_name n ≡ true → place n (before ++ ns) ≡ None → Fits x →
+        length xs < most → step all (make ns xs p) (row n x) ≡ Ok (make (ns ++ n ∷ []) (xs ++ x ∷ []) here))
     → Between 1 last here
-    → (ns : List (List ℕ)) (xs : List A) (ns' : List (List ℕ)) (xs' : List A) (p : Place) → Between 1 last p → length ns ≡ length xs → AreNew (before ++ ns') ns → AllByRecursion Fits xs → length xs' + length xs ≤ most
+    → (ns : List (List ℕ)) (xs : List A) (ns' : List (List ℕ)) (xs' : List A) (p : Place) → Between 1 last p → length ns ≡ length xs →
+        AreNew (before ++ ns') ns → AllByRecursion Fits xs → length xs' + length xs ≤ most
     → Steps all (make ns' xs' p) (declared_rows row ns xs) (make (ns' ++ ns) (xs' ++ xs) (place_after xs p here))
 part_run all row make here last before Fits most one can [] [] ns' xs' p at len new fit room = rw (append-nil ns', append-nil xs') refl
 part_run all row make here last before Fits most one can [] (x ∷ xs) ns' xs' p at len new fit room = absurd (omega arith)
@@ -143,10 +151,12 @@ part_run all row make here last before Fits most one can (n ∷ ns) [] ns' xs' p
 part_run all row make here last before Fits most one can (n ∷ ns) (x ∷ xs) ns' xs' p at len new fit room =
     let mid = make (ns' ++ n ∷ []) (xs' ++ x ∷ []) here in
     let new' : AreNew (before ++ (ns' ++ n ∷ [])) ns = subst (λ (b : List (List ℕ)). AreNew b ns) (append_assoc before ns' (n ∷ [])) new.2 in
-    let more = part_run all row make here last before Fits most one can ns xs (ns' ++ n ∷ []) (xs' ++ x ∷ []) here can (omega arith) new' fit.1 (more_room xs' x (length xs) most room) in (
+    let more = part_run all row make here last before Fits most one can ns xs (ns' ++ n ∷ []) (xs' ++ x ∷ []) here can (omega arith) new' fit.1
+        (more_room xs' x (length xs) most room) in (
       mid,
       one ns' xs' p n x at new.0 new.1 fit.0 (less_room xs' (length xs) most room),
-      steps_to all mid (declared_rows row ns xs) make ((ns' ++ n ∷ []) ++ ns) (ns' ++ n ∷ ns) ((xs' ++ x ∷ []) ++ xs) (xs' ++ x ∷ xs) (place_after xs here here) here
+      steps_to all mid (declared_rows row ns xs) make ((ns' ++ n ∷ []) ++ ns) (ns' ++ n ∷ ns) ((xs' ++ x ∷ []) ++ xs) (xs' ++ x ∷ xs)
+          (place_after xs here here) here
           (append_assoc ns' (n ∷ []) ns) (append_assoc xs' (x ∷ []) xs) (stays xs here) more,
     )
 
@@ -155,10 +165,13 @@ part_run all row make here last before Fits most one can (n ∷ ns) (x ∷ xs) n
 abbrev pub after_isrs : Walk → List Isr → Place → Walk
 after_isrs w xs p = record w { script = record (w.script) { isrs = xs }; place = p }
 
-isr_step : (all : NameLists) (w : Walk) (x : Isr) → AreRead all → Between 1 4 w.place → w.script.cpus ≤ 8 → IsrFits all w.script.cpus x → is_none (isr_routine w.script.isrs x.cpu x.level) ≡ true → step all w (isr_row all x) ≡ Ok (with_isr w x)
-isr_step all w x are at le fit new = step_again all w word.Isr (isr_args all x) at refl ∙ rw (isr_again all w.script.cpus are le x fit, new) refl
+isr_step : (all : NameLists) (w : Walk) (x : Isr) → AreRead all → Between 1 4 w.place → w.script.cpus ≤ 8 → IsrFits all w.script.cpus x →
+    is_none (isr_routine w.script.isrs x.cpu x.level) ≡ true → step all w (isr_row all x) ≡ Ok (with_isr w x)
+isr_step all w x are at le fit new = step_again all w keyword.Isr (isr_args all x) at refl ∙ rw (isr_again all w.script.cpus are le x fit, new) refl
 
-pub isrs_run : (all : NameLists) → AreRead all → (w : Walk) → w.script.cpus ≤ 8 → (xs xs' : List Isr) (p : Place) → Between 1 4 p → AllByRecursion (IsrFits all w.script.cpus) xs → isrs_differ (xs' ++ xs) ≡ true → Steps all (after_isrs w xs' p) (map (isr_row all) xs) (after_isrs w (xs' ++ xs) (place_after xs p InIsrs))
+pub isrs_run : (all : NameLists) → AreRead all → (w : Walk) → w.script.cpus ≤ 8 → (xs xs' : List Isr) (p : Place) → Between 1 4 p →
+    AllByRecursion (IsrFits all w.script.cpus) xs → isrs_differ (xs' ++ xs) ≡ true →
+    Steps all (after_isrs w xs' p) (map (isr_row all) xs) (after_isrs w (xs' ++ xs) (place_after xs p InIsrs))
 isrs_run all are w le [] xs' p at fit apart = rw (append-nil xs') refl
 isrs_run all are w le (x ∷ xs) xs' p at fit apart =
     let mid = after_isrs w (xs' ++ x ∷ []) InIsrs in
@@ -166,19 +179,25 @@ isrs_run all are w le (x ∷ xs) xs' p at fit apart =
     let more = isrs_run all are w le xs (xs' ++ x ∷ []) InIsrs (omega arith, omega arith) fit.1 apart' in (
       mid,
       isr_step all (after_isrs w xs' p) x are at le fit.0 (no_pair xs' x xs apart),
-      steps_to all mid (map (isr_row all) xs) (λ (ys : List Isr) (n : ℕ) (q : Place). after_isrs w ys q) ((xs' ++ x ∷ []) ++ xs) (xs' ++ x ∷ xs) 0 0 (place_after xs InIsrs InIsrs) InIsrs
+      steps_to all mid (map (isr_row all) xs) (λ (ys : List Isr) (n : ℕ) (q : Place). after_isrs w ys q) ((xs' ++ x ∷ []) ++ xs) (xs' ++ x ∷ xs) 0 0
+          (place_after xs InIsrs InIsrs) InIsrs
           (append_assoc xs' (x ∷ []) xs) refl (stays xs InIsrs) more,
     )
 
 abbrev pub after_dpcs : Walk → List (List ℕ) → List DpcDecl → Place → Walk
 after_dpcs w ns xs p = record w { script = record (w.script) { dpcs = xs }; names = record (w.names) { dpcs = ns }; place = p }
 
-dpc_step : (all : NameLists) (w : Walk) (n : List ℕ) (x : DpcDecl) → AreRead all → Between 1 5 w.place → is_name n ≡ true → meaning n w.names ≡ None → (DpcFits all) x → length w.script.dpcs < 256 → step all w (dpc_row all n x) ≡ Ok (with_dpc w n x)
+dpc_step : (all : NameLists) (w : Walk) (n : List ℕ) (x : DpcDecl) → AreRead all → Between 1 5 w.place → is_name n ≡ true → meaning n w.names ≡ None →
+    (DpcFits all) x → length w.script.dpcs < 256 → step all w (dpc_row all n x) ≡ Ok (with_dpc w n x)
 dpc_step all w n x are at named none fit room =
     let put : List ℕ → DpcDecl → Result Walk ScriptKind = λ name x. ok_if (nat_lt (length w.script.dpcs) 256) (with_dpc w name x) (TooMany what.Dpcs) in
-    step_again all w (word.Dpc x.threaded) (n ∷ dpc_args all x) at refl ∙ declaration_again w.names (dpc_of all x.threaded) put n (dpc_args all x) x named none (dpc_again all are x fit) ∙ rw (lt-ltb (length w.script.dpcs) 256 room) refl
+    step_again all w (keyword.Dpc x.threaded) (n ∷ dpc_args all x) at refl
+        ∙ declaration_again w.names (dpc_of all x.threaded) put n (dpc_args all x) x named none (dpc_again all are x fit)
+        ∙ rw (lt-ltb (length w.script.dpcs) 256 room) refl
 
-pub dpcs_run : (all : NameLists) → AreRead all → (w : Walk) → w.names.timers ≡ [] → w.names.threads ≡ [] → w.names.apcs ≡ [] → w.names.routines ≡ [] → (ns : List (List ℕ)) (xs : List DpcDecl) (ns' : List (List ℕ)) (xs' : List DpcDecl) (p : Place) → Between 1 5 p → length ns ≡ length xs → AreNew ([] ++ ns') ns → AllByRecursion (DpcFits all) xs → length xs' + length xs ≤ 256
+pub dpcs_run : (all : NameLists) → AreRead all → (w : Walk) → w.names.timers ≡ [] → w.names.threads ≡ [] → w.names.apcs ≡ [] → w.names.routines ≡ [] →
+    (ns : List (List ℕ)) (xs : List DpcDecl) (ns' : List (List ℕ)) (xs' : List DpcDecl) (p : Place) → Between 1 5 p → length ns ≡ length xs →
+    AreNew ([] ++ ns') ns → AllByRecursion (DpcFits all) xs → length xs' + length xs ≤ 256
     → Steps all (after_dpcs w ns' xs' p) (declared_rows (dpc_row all) ns xs) (after_dpcs w (ns' ++ ns) (xs' ++ xs) (place_after xs p InDpcs))
 dpcs_run all are w nt nh na nr =
     part_run all (dpc_row all) (after_dpcs w) InDpcs 5 [] (DpcFits all) 256
@@ -190,12 +209,17 @@ dpcs_run all are w nt nh na nr =
 abbrev pub after_timers : Walk → List (List ℕ) → List TimerDecl → Place → Walk
 after_timers w ns xs p = record w { script = record (w.script) { timers = xs }; names = record (w.names) { timers = ns }; place = p }
 
-timer_step : (all : NameLists) (w : Walk) (n : List ℕ) (x : TimerDecl) → AreRead all → Between 1 6 w.place → is_name n ≡ true → meaning n w.names ≡ None → (TimerFits all) x → length w.script.timers < 64 → step all w (timer_row all n x) ≡ Ok (with_timer w n x)
+timer_step : (all : NameLists) (w : Walk) (n : List ℕ) (x : TimerDecl) → AreRead all → Between 1 6 w.place → is_name n ≡ true → meaning n w.names ≡ None →
+    (TimerFits all) x → length w.script.timers < 64 → step all w (timer_row all n x) ≡ Ok (with_timer w n x)
 timer_step all w n x are at named none fit room =
     let put : List ℕ → TimerDecl → Result Walk ScriptKind = λ name x. ok_if (nat_lt (length w.script.timers) 64) (with_timer w name x) (TooMany what.Timers) in
-    step_again all w word.Timer (n ∷ timer_args all x) at refl ∙ declaration_again w.names (timer_of all) put n (timer_args all x) x named none (timer_again all are x fit) ∙ rw (lt-ltb (length w.script.timers) 64 room) refl
+    step_again all w keyword.Timer (n ∷ timer_args all x) at refl
+        ∙ declaration_again w.names (timer_of all) put n (timer_args all x) x named none (timer_again all are x fit)
+        ∙ rw (lt-ltb (length w.script.timers) 64 room) refl
 
-pub timers_run : (all : NameLists) → AreRead all → (w : Walk) → w.names.threads ≡ [] → w.names.apcs ≡ [] → w.names.routines ≡ [] → (ns : List (List ℕ)) (xs : List TimerDecl) (ns' : List (List ℕ)) (xs' : List TimerDecl) (p : Place) → Between 1 6 p → length ns ≡ length xs → AreNew (w.names.dpcs ++ ns') ns → AllByRecursion (TimerFits all) xs → length xs' + length xs ≤ 64
+pub timers_run : (all : NameLists) → AreRead all → (w : Walk) → w.names.threads ≡ [] → w.names.apcs ≡ [] → w.names.routines ≡ [] →
+    (ns : List (List ℕ)) (xs : List TimerDecl) (ns' : List (List ℕ)) (xs' : List TimerDecl) (p : Place) → Between 1 6 p → length ns ≡ length xs →
+    AreNew (w.names.dpcs ++ ns') ns → AllByRecursion (TimerFits all) xs → length xs' + length xs ≤ 64
     → Steps all (after_timers w ns' xs' p) (declared_rows (timer_row all) ns xs) (after_timers w (ns' ++ ns) (xs' ++ xs) (place_after xs p InTimers))
 timers_run all are w nh na nr =
     part_run all (timer_row all) (after_timers w) InTimers 6 w.names.dpcs (TimerFits all) 64
@@ -208,12 +232,18 @@ timers_run all are w nh na nr =
 abbrev pub after_threads : Walk → List (List ℕ) → List ThreadDecl → Place → Walk
 after_threads w ns xs p = record w { script = record (w.script) { threads = xs }; names = record (w.names) { threads = ns }; place = p }
 
-thread_step : (all : NameLists) (w : Walk) (n : List ℕ) (x : ThreadDecl) → AreRead all → Between 1 7 w.place → w.script.cpus ≤ 8 → is_name n ≡ true → meaning n w.names ≡ None → (ThreadFits all w.script.cpus) x → length w.script.threads < 64 → step all w (thread_row all n x) ≡ Ok (with_thread w n x)
+thread_step : (all : NameLists) (w : Walk) (n : List ℕ) (x : ThreadDecl) → AreRead all → Between 1 7 w.place → w.script.cpus ≤ 8 → is_name n ≡ true →
+    meaning n w.names ≡ None → (ThreadFits all w.script.cpus) x → length w.script.threads < 64 → step all w (thread_row all n x) ≡ Ok (with_thread w n x)
 thread_step all w n x are at le named none fit room =
-    let put : List ℕ → ThreadDecl → Result Walk ScriptKind = λ name x. ok_if (nat_lt (length w.script.threads) 64) (with_thread w name x) (TooMany what.Threads) in
-    step_again all w word.Thread (n ∷ thread_args all x) at refl ∙ declaration_again w.names (thread_of all w.script.cpus) put n (thread_args all x) x named none (thread_again all w.script.cpus are le x fit) ∙ rw (lt-ltb (length w.script.threads) 64 room) refl
+    let put : List ℕ → ThreadDecl → Result Walk ScriptKind = λ name x. ok_if (nat_lt (length w.script.threads) 64) (with_thread w name x)
+        (TooMany what.Threads) in
+    step_again all w keyword.Thread (n ∷ thread_args all x) at refl
+        ∙ declaration_again w.names (thread_of all w.script.cpus) put n (thread_args all x) x named none (thread_again all w.script.cpus are le x fit)
+        ∙ rw (lt-ltb (length w.script.threads) 64 room) refl
 
-pub threads_run : (all : NameLists) → AreRead all → (w : Walk) → w.script.cpus ≤ 8 → w.names.apcs ≡ [] → w.names.routines ≡ [] → (ns : List (List ℕ)) (xs : List ThreadDecl) (ns' : List (List ℕ)) (xs' : List ThreadDecl) (p : Place) → Between 1 7 p → length ns ≡ length xs → AreNew ((w.names.dpcs ++ w.names.timers) ++ ns') ns → AllByRecursion (ThreadFits all w.script.cpus) xs → length xs' + length xs ≤ 64
+pub threads_run : (all : NameLists) → AreRead all → (w : Walk) → w.script.cpus ≤ 8 → w.names.apcs ≡ [] → w.names.routines ≡ [] →
+    (ns : List (List ℕ)) (xs : List ThreadDecl) (ns' : List (List ℕ)) (xs' : List ThreadDecl) (p : Place) → Between 1 7 p → length ns ≡ length xs →
+    AreNew ((w.names.dpcs ++ w.names.timers) ++ ns') ns → AllByRecursion (ThreadFits all w.script.cpus) xs → length xs' + length xs ≤ 64
     → Steps all (after_threads w ns' xs' p) (declared_rows (thread_row all) ns xs) (after_threads w (ns' ++ ns) (xs' ++ xs) (place_after xs p InThreads))
 threads_run all are w le na nr =
     part_run all (thread_row all) (after_threads w) InThreads 7 (w.names.dpcs ++ w.names.timers) (ThreadFits all w.script.cpus) 64
@@ -227,12 +257,17 @@ threads_run all are w le na nr =
 abbrev pub after_apcs : Walk → List (List ℕ) → List ApcDecl → Place → Walk
 after_apcs w ns xs p = record w { script = record (w.script) { apcs = xs }; names = record (w.names) { apcs = ns }; place = p }
 
-apc_step : (all : NameLists) (w : Walk) (n : List ℕ) (x : ApcDecl) → AreRead all → Between 1 8 w.place → is_name n ≡ true → meaning n w.names ≡ None → (ApcFits all) x → length w.script.apcs < 256 → step all w (apc_row all n x) ≡ Ok (with_apc w n x)
+apc_step : (all : NameLists) (w : Walk) (n : List ℕ) (x : ApcDecl) → AreRead all → Between 1 8 w.place → is_name n ≡ true → meaning n w.names ≡ None →
+    (ApcFits all) x → length w.script.apcs < 256 → step all w (apc_row all n x) ≡ Ok (with_apc w n x)
 apc_step all w n x are at named none fit room =
     let put : List ℕ → ApcDecl → Result Walk ScriptKind = λ name x. ok_if (nat_lt (length w.script.apcs) 256) (with_apc w name x) (TooMany what.Apcs) in
-    step_again all w (word.Apc x.kind) (n ∷ apc_args all x) at (rw (apc_count all are x fit, apc_arity x.kind) refl) ∙ declaration_again w.names (apc_of all x.kind) put n (apc_args all x) x named none (apc_again all are x fit) ∙ rw (lt-ltb (length w.script.apcs) 256 room) refl
+    step_again all w (keyword.Apc x.kind) (n ∷ apc_args all x) at (rw (apc_count all are x fit, apc_arity x.kind) refl)
+        ∙ declaration_again w.names (apc_of all x.kind) put n (apc_args all x) x named none (apc_again all are x fit)
+        ∙ rw (lt-ltb (length w.script.apcs) 256 room) refl
 
-pub apcs_run : (all : NameLists) → AreRead all → (w : Walk) → w.names.routines ≡ [] → (ns : List (List ℕ)) (xs : List ApcDecl) (ns' : List (List ℕ)) (xs' : List ApcDecl) (p : Place) → Between 1 8 p → length ns ≡ length xs → AreNew (((w.names.dpcs ++ w.names.timers) ++ w.names.threads) ++ ns') ns → AllByRecursion (ApcFits all) xs → length xs' + length xs ≤ 256
+pub apcs_run : (all : NameLists) → AreRead all → (w : Walk) → w.names.routines ≡ [] →
+    (ns : List (List ℕ)) (xs : List ApcDecl) (ns' : List (List ℕ)) (xs' : List ApcDecl) (p : Place) → Between 1 8 p → length ns ≡ length xs →
+    AreNew (((w.names.dpcs ++ w.names.timers) ++ w.names.threads) ++ ns') ns → AllByRecursion (ApcFits all) xs → length xs' + length xs ≤ 256
     → Steps all (after_apcs w ns' xs' p) (declared_rows (apc_row all) ns xs) (after_apcs w (ns' ++ ns) (xs' ++ xs) (place_after xs p InApcs))
 apcs_run all are w nr =
     part_run all (apc_row all) (after_apcs w) InApcs 8 ((w.names.dpcs ++ w.names.timers) ++ w.names.threads) (ApcFits all) 256
@@ -249,12 +284,15 @@ apcs_run all are w nr =
 abbrev after_commands : Walk → List Command → ℕ → Place → Walk
 after_commands w cs n p = record w { body = cs; commands = n; place = p }
 
-command_step : (all : NameLists) (w : Walk) (c : Command) → AreRead all → w.place ≡ InRoutine → w.script.cpus ≤ 8 → CommandFits all w.script.cpus c → w.commands < 8192 → step all w (command_row all c) ≡ Ok (with_command w c)
+command_step : (all : NameLists) (w : Walk) (c : Command) → AreRead all → w.place ≡ InRoutine → w.script.cpus ≤ 8 → CommandFits all w.script.cpus c →
+    w.commands < 8192 → step all w (command_row all c) ≡ Ok (with_command w c)
 command_step all w c are inside few fit room =
-    let at : At w.place (word.Call (command_verb c)) = rw inside (omega arith, omega arith) in
-    step_again all w (word.Call (command_verb c)) (command_args all c) at (args_count all c) ∙ rw (command_again all w.script.cpus are few c fit, lt-ltb w.commands 8192 room) refl
+    let at : At w.place (keyword.Call (command_verb c)) = rw inside (omega arith, omega arith) in
+    step_again all w (keyword.Call (command_verb c)) (command_args all c) at (args_count all c)
+        ∙ rw (command_again all w.script.cpus are few c fit, lt-ltb w.commands 8192 room) refl
 
-commands_run : (all : NameLists) → AreRead all → (cs : List Command) (w : Walk) → w.place ≡ InRoutine → w.script.cpus ≤ 8 → AllByRecursion (CommandFits all w.script.cpus) cs → w.commands + length cs ≤ 8192
+commands_run : (all : NameLists) → AreRead all → (cs : List Command) (w : Walk) → w.place ≡ InRoutine → w.script.cpus ≤ 8 →
+    AllByRecursion (CommandFits all w.script.cpus) cs → w.commands + length cs ≤ 8192
     → Steps all w (map (command_row all) cs) (after_commands w (w.body ++ cs) (w.commands + length cs) w.place)
 commands_run all are [] w inside few fit room = rw (append-nil w.body, add-zero w.commands) refl
 commands_run all are (c ∷ cs) w inside few fit room =
@@ -263,7 +301,8 @@ commands_run all are (c ∷ cs) w inside few fit room =
     let more = commands_run all are cs mid inside few fit.1 (omega arith) in (
       mid,
       one,
-      steps_to all mid (map (command_row all) cs) (after_commands w) ((w.body ++ c ∷ []) ++ cs) (w.body ++ c ∷ cs) (w.commands + 1 + length cs) (w.commands + suc (length cs)) w.place w.place
+      steps_to all mid (map (command_row all) cs) (after_commands w) ((w.body ++ c ∷ []) ++ cs) (w.body ++ c ∷ cs) (w.commands + 1 + length cs)
+          (w.commands + suc (length cs)) w.place w.place
           (append_assoc w.body (c ∷ []) cs) (omega arith) refl more,
     )
 
@@ -283,29 +322,40 @@ with_routines s rs = record s { routines = rs }
 abbrev pub with_names : NameLists → List (List ℕ) → NameLists
 with_names names ns = record names { routines = ns }
 
-begin_step : (all : NameLists) (w : Walk) (n : List ℕ) → Between 1 9 w.place → is_name n ≡ true → meaning n w.names ≡ None → length w.script.routines < 256 → step all w (text_of word.Routine ∷ n ∷ []) ≡ Ok (with_routine w n)
-begin_step all w n at named none room = step_again all w word.Routine (n ∷ []) at refl ∙ rw (new_again w.names n named none, lt-ltb (length w.script.routines) 256 room) refl
+begin_step : (all : NameLists) (w : Walk) (n : List ℕ) → Between 1 9 w.place → is_name n ≡ true → meaning n w.names ≡ None → length w.script.routines < 256 →
+    step all w (text_of keyword.Routine ∷ n ∷ []) ≡ Ok (with_routine w n)
+begin_step all w n at named none room = step_again all w keyword.Routine (n ∷ []) at refl
+    ∙ rw (new_again w.names n named none, lt-ltb (length w.script.routines) 256 room) refl
 
 exit_step : (all : NameLists) (w : Walk) → w.place ≡ InRoutine → step all w exit_row ≡ Ok (with_exit w)
-exit_step all w inside = let at : At w.place word.Exit = rw inside (omega arith, omega arith) in step_again all w word.Exit [] at refl
+exit_step all w inside = let at : At w.place keyword.Exit = rw inside (omega arith, omega arith) in step_again all w keyword.Exit [] at refl
 
 -- one routine
 abbrev routine_read : Walk → List ℕ → List Command → Walk
 routine_read w n cs = with_exit (after_commands (with_routine w n) ([] ++ cs) (w.commands + length cs) InRoutine)
 
-routine_run : (all : NameLists) → AreRead all → (w : Walk) (n : List ℕ) (cs : List Command) → Between 1 9 w.place → is_name n ≡ true → meaning n w.names ≡ None → length w.script.routines < 256 → w.body ≡ [] → w.script.cpus ≤ 8
-    → AllByRecursion (CommandFits all w.script.cpus) cs → w.commands + length cs ≤ 8192 → Steps all w (begun_rows all n cs ++ exit_row ∷ []) (routine_read w n cs)
+routine_run : (all : NameLists) → AreRead all → (w : Walk) (n : List ℕ) (cs : List Command) → Between 1 9 w.place → is_name n ≡ true → meaning n w.names
+    ≡ None → length w.script.routines < 256 → w.body ≡ [] → w.script.cpus ≤ 8
+    → AllByRecursion (CommandFits all w.script.cpus) cs → w.commands + length cs ≤ 8192 →
+        Steps all w (begun_rows all n cs ++ exit_row ∷ []) (routine_read w n cs)
 routine_run all are w n cs at named none room empty few fit count =
     let begun = with_routine w n in
-    let ran : Steps all begun (map (command_row all) cs) (after_commands begun (w.body ++ cs) (w.commands + length cs) InRoutine) = commands_run all are cs begun refl few fit count in
-    let clean : Steps all begun (map (command_row all) cs) (after_commands begun ([] ++ cs) (w.commands + length cs) InRoutine) = subst (λ (b : List Command). Steps all begun (map (command_row all) cs) (after_commands begun (b ++ cs) (w.commands + length cs) InRoutine)) empty ran in
+    let ran : Steps all begun (map (command_row all) cs)
+        (after_commands begun (w.body ++ cs) (w.commands + length cs) InRoutine) = commands_run all are cs begun refl few fit count in
+    let clean : Steps all begun (map (command_row all) cs) (after_commands begun ([] ++ cs) (w.commands + length cs) InRoutine) = subst
+        (λ (b : List Command). Steps all begun (map (command_row all) cs) (after_commands begun (b ++ cs) (w.commands + length cs) InRoutine)) empty ran in
     let there = after_commands begun ([] ++ cs) (w.commands + length cs) InRoutine in
-    (begun, begin_step all w n at named none room, steps_then all begun (map (command_row all) cs) (exit_row ∷ []) there (with_exit there) clean (with_exit there, exit_step all there refl, refl))
+    (begun, begin_step all w n at named none room, steps_then all begun (map (command_row all) cs) (exit_row ∷ []) there (with_exit there) clean
+        (with_exit there, exit_step all there refl, refl))
 
-pub routines_run : (all : NameLists) → AreRead all → (ns : List (List ℕ)) (rs : List Routine) (w : Walk) → length ns ≡ length rs → AreNew ((((w.names.dpcs ++ w.names.timers) ++ w.names.threads) ++ w.names.apcs) ++ w.names.routines) ns → w.body ≡ [] → w.script.cpus ≤ 8
-    → AllByRecursion (λ r. AllByRecursion (CommandFits all w.script.cpus) r.commands) rs → w.commands + sum_by (λ r. length r.commands) rs ≤ 8192 → length w.script.routines + length rs ≤ 256 → Between 1 9 w.place
+pub routines_run : (all : NameLists) → AreRead all → (ns : List (List ℕ)) (rs : List Routine) (w : Walk) → length ns ≡ length rs →
+    AreNew ((((w.names.dpcs ++ w.names.timers) ++ w.names.threads) ++ w.names.apcs) ++ w.names.routines) ns → w.body ≡ [] → w.script.cpus ≤ 8
+    → AllByRecursion (λ r. AllByRecursion (CommandFits all w.script.cpus) r.commands) rs → w.commands + sum_by (λ r. length r.commands) rs ≤ 8192 →
+        length w.script.routines + length rs ≤ 256 → Between 1 9 w.place
     → Ran all w (routine_rows all ns rs) (with_routines w.script (w.script.routines ++ rs)) (with_names w.names (w.names.routines ++ ns))
-routines_run all are [] [] w len new empty few fit count room at = record { last = w; steps = refl; script_is = ap (with_routines w.script) (sym (append-nil w.script.routines)); names_are = ap (with_names w.names) (sym (append-nil w.names.routines)); opens = at }
+routines_run all are [] [] w len new empty few fit count room at = record { last = w; steps = refl;
+    script_is = ap (with_routines w.script) (sym (append-nil w.script.routines)); names_are = ap (with_names w.names) (sym (append-nil w.names.routines));
+    opens = at }
 routines_run all are [] (r ∷ rs) w len new empty few fit count room at = absurd (omega arith)
 routines_run all are (n ∷ ns) [] w len new empty few fit count room at = absurd (omega arith)
 routines_run all are (n ∷ ns) (r ∷ rs) w len new empty few fit count room at =
@@ -314,11 +364,15 @@ routines_run all are (n ∷ ns) (r ∷ rs) w len new empty few fit count room at
     let m2 = nowhere_both n (w.names.dpcs ++ w.names.timers) w.names.threads 0 m3.0 in
     let m1 = nowhere_both n w.names.dpcs w.names.timers 0 m2.0 in
     let none : meaning n w.names ≡ None = rw (m1.0, m1.1, m2.1, m3.1, m4.1) refl in
-    let total : w.commands + (length r.commands + sum_by (λ (r : Routine). length r.commands) rs) ≤ 8192 = rw (← sum_by-cons (λ (r : Routine). length r.commands) r rs) count in
+    let total : w.commands + (length r.commands + sum_by (λ (r : Routine). length r.commands) rs) ≤ 8192 = rw
+        (← sum_by-cons (λ (r : Routine). length r.commands) r rs) count in
     let one = routine_run all are w n r.commands at new.0 none (less_room w.script.routines (length rs) 256 room) empty few fit.0 (omega (arith, total)) in
     let mid = routine_read w n r.commands in
-    let new' : AreNew ((((w.names.dpcs ++ w.names.timers) ++ w.names.threads) ++ w.names.apcs) ++ (w.names.routines ++ n ∷ [])) ns = subst (λ (before : List (List ℕ)). AreNew before ns) (append_assoc (((w.names.dpcs ++ w.names.timers) ++ w.names.threads) ++ w.names.apcs) w.names.routines (n ∷ [])) new.2 in
-    let more = routines_run all are ns rs mid (omega arith) new' refl few fit.1 (omega (arith, total)) (more_room w.script.routines r (length rs) 256 room) (omega arith, omega arith) in
+    let new' : AreNew ((((w.names.dpcs ++ w.names.timers) ++ w.names.threads) ++ w.names.apcs) ++ (w.names.routines ++ n ∷ [])) ns = subst
+        (λ (before : List (List ℕ)). AreNew before ns) (append_assoc (((w.names.dpcs ++ w.names.timers) ++ w.names.threads) ++ w.names.apcs) w.names.routines
+        (n ∷ [])) new.2 in
+    let more = routines_run all are ns rs mid (omega arith) new' refl few fit.1 (omega (arith, total)) (more_room w.script.routines r (length rs) 256 room)
+        (omega arith, omega arith) in
     record {
       last = more.last;
       steps = steps_then all w (begun_rows all n r.commands ++ exit_row ∷ []) (routine_rows all ns rs) mid more.last one more.steps;
@@ -329,11 +383,13 @@ routines_run all are (n ∷ ns) (r ∷ rs) w len new empty few fit count room at
 
 -- ---- the head
 
-pub cpus_step : (all : NameLists) (w : Walk) (n : ℕ) → Between 0 0 w.place → 1 ≤ n → n ≤ 8 → step all w (number_row word.Cpus n) ≡ Ok (with_cpus w n)
-cpus_step all w n at low high = step_again all w word.Cpus (decimal n ∷ []) at refl ∙ rw (number_again 4294967295 n (lit< tt) (omega arith), ne_eqb n 0 (λ z. omega arith), le-ltb 8 n high) refl
+pub cpus_step : (all : NameLists) (w : Walk) (n : ℕ) → Between 0 0 w.place → 1 ≤ n → n ≤ 8 → step all w (number_row keyword.Cpus n) ≡ Ok (with_cpus w n)
+cpus_step all w n at low high = step_again all w keyword.Cpus (decimal n ∷ []) at refl
+    ∙ rw (number_again 4294967295 n (lit< tt) (omega arith), ne_eqb n 0 (λ z. omega arith), le-ltb 8 n high) refl
 
-pub depth_step : (all : NameLists) (w : Walk) (n : ℕ) → Between 1 1 w.place → n ≤ 256 → step all w (number_row word.Depth n) ≡ Ok (with_depth w n)
-depth_step all w n at high = step_again all w word.Depth (decimal n ∷ []) at refl ∙ rw (number_again 256 n (lit< tt) high) refl
+pub depth_step : (all : NameLists) (w : Walk) (n : ℕ) → Between 1 1 w.place → n ≤ 256 → step all w (number_row keyword.Depth n) ≡ Ok (with_depth w n)
+depth_step all w n at high = step_again all w keyword.Depth (decimal n ∷ []) at refl ∙ rw (number_again 256 n (lit< tt) high) refl
 
-pub threaded_step : (all : NameLists) (w : Walk) (on : Bool) → Between 1 2 w.place → step all w (text_of word.Threaded ∷ on_off_text on ∷ []) ≡ Ok (with_threaded w on)
-threaded_step all w on at = step_again all w word.Threaded (on_off_text on ∷ []) at refl ∙ rw (on_off_again on) refl
+pub threaded_step : (all : NameLists) (w : Walk) (on : Bool) → Between 1 2 w.place → step all w (text_of keyword.Threaded ∷ on_off_text on ∷ [])
+    ≡ Ok (with_threaded w on)
+threaded_step all w on at = step_again all w keyword.Threaded (on_off_text on ∷ []) at refl ∙ rw (on_off_again on) refl

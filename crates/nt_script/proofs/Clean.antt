@@ -24,12 +24,14 @@ use Rattle.nt_event.specs.declared.scripts.TimerDecl.{TimerDecl}
 use Rattle.nt_event.specs.declared.scripts.ThreadDecl.{ThreadDecl}
 use Rattle.nt_event.specs.declared.scripts.ApcDecl.{ApcDecl}
 use Rattle.nt_script.specs.declared.walk.Input.{Input}
-use Rattle.nt_script.specs.NameLists.{NameLists, show_dpc, show_routine}
-use Rattle.nt_script.specs.Slots.{dash, importance_text, mode_text, alertable_text, on_off_text}
-use Rattle.nt_script.specs.Fits.{IsrFits, DpcFits, TimerFits, ThreadFits, ApcFits, CommandFits}
-use Rattle.nt_script.specs.Text.{Row, show_cpu, show_unless, show_target, depth_rows, threaded_rows, header_rows, isr_row, dpc_row, timer_row, thread_row, normal_args, rundown_args, apc_row, declared_rows, command_row, begun_rows, exit_row, routine_rows, input_rows}
-use Rattle.nt_script.specs.Sound.{AreNew}
-use Rattle.nt_script.proofs.Found.{NamesFit, is_new}
+use Rattle.nt_line.specs.NameLists.{NameLists, show_dpc, show_routine}
+use Rattle.nt_line.specs.Fields.{dash, importance_text, mode_text, alertable_text, on_off_text}
+use Rattle.nt_line.specs.Fits.{IsrFits, DpcFits, TimerFits, ThreadFits, ApcFits, CommandFits}
+use Rattle.nt_text.specs.Lines.{Row}
+use Rattle.nt_line.specs.Rows.{show_cpu, show_unless, show_target, depth_rows, threaded_rows, isr_row, dpc_row, timer_row, thread_row, normal_args, rundown_args, apc_row, command_row}
+use Rattle.nt_script.specs.Text.{header_rows, declared_rows, begun_rows, exit_row, routine_rows, input_rows}
+use Rattle.nt_line.specs.NameLists.{AreNew}
+use Rattle.nt_line.proofs.Found.{NamesFit, is_new}
 use Rattle.nt_script.proofs.Fit.{Fit}
 
 -- ---- fields
@@ -46,7 +48,8 @@ name_byte_field c e =
 
 name_bytes_field : (bs : List ℕ) → list_all is_name_byte bs ≡ true → is_field bs ≡ true
 name_bytes_field [] e = refl
-name_bytes_field (c ∷ cs) e = let p = and_parts (is_name_byte c) (list_all is_name_byte cs) e in and_from (nat_le 33 c && nat_le c 126) (is_field cs) (name_byte_field c p.0) (name_bytes_field cs p.1)
+name_bytes_field (c ∷ cs) e = let p = and_parts (is_name_byte c) (list_all is_name_byte cs) e in
+    and_from (nat_le 33 c && nat_le c 126) (is_field cs) (name_byte_field c p.0) (name_bytes_field cs p.1)
 
 pub name_field : (f : List ℕ) → is_name f ≡ true → is_field f ≡ true
 name_field f e = name_bytes_field f (and_parts (not (length f == 0) && nat_le (length f) 16) (list_all is_name_byte f) e).1
@@ -68,7 +71,8 @@ pub apc_field : (names : NameLists) (fit : NamesFit names) (i : ℕ) → i < len
 apc_field names fit i lt = name_field (get_or names.apcs i []) (is_new ((names.dpcs ++ names.timers) ++ names.threads) names.apcs i fit.apcs lt).0
 
 routine_field : (names : NameLists) (fit : NamesFit names) (i : ℕ) → i < length names.routines → is_field (get_or names.routines i []) ≡ true
-routine_field names fit i lt = name_field (get_or names.routines i []) (is_new (((names.dpcs ++ names.timers) ++ names.threads) ++ names.apcs) names.routines i fit.routines lt).0
+routine_field names fit i lt = name_field (get_or names.routines i [])
+    (is_new (((names.dpcs ++ names.timers) ++ names.threads) ++ names.apcs) names.routines i fit.routines lt).0
 
 cpu_field : (p : CpuNo) (cpus : ℕ) → cpus ≤ 8 → p.0 < cpus → is_field (show_cpu p) ≡ true
 cpu_field p cpus few lt = decimal_field p.0 (omega arith)
@@ -77,11 +81,13 @@ target_field : (o : Option CpuNo) (cpus : ℕ) → cpus ≤ 8 → IfSome o (λ p
 target_field None cpus few h = refl
 target_field (Some p) cpus few h = cpu_field p cpus few h
 
-timer_dpc_field : (names : NameLists) (fit : NamesFit names) (o : Option DpcNo) → IfSome o (λ d. d.0 < length names.dpcs) → is_field (show_unless dash (show_dpc names) o) ≡ true
+timer_dpc_field : (names : NameLists) (fit : NamesFit names) (o : Option DpcNo) → IfSome o (λ d. d.0 < length names.dpcs) →
+    is_field (show_unless dash (show_dpc names) o) ≡ true
 timer_dpc_field names fit None h = refl
 timer_dpc_field names fit (Some d) h = dpc_field names fit d.0 h
 
-rundown_field : (names : NameLists) (fit : NamesFit names) (o : Option RoutineNo) → IfSome o (λ r. r.0 < length names.routines) → is_field (show_unless dash (show_routine names) o) ≡ true
+rundown_field : (names : NameLists) (fit : NamesFit names) (o : Option RoutineNo) → IfSome o (λ r. r.0 < length names.routines) →
+    is_field (show_unless dash (show_routine names) o) ≡ true
 rundown_field names fit None h = refl
 rundown_field names fit (Some r) h = routine_field names fit r.0 h
 
@@ -112,7 +118,8 @@ command_clean names fit cpus few (cmd.Queue d) h = (refl, (dpc_field names fit d
 command_clean names fit cpus few (cmd.Unqueue d) h = (refl, (dpc_field names fit d.0 h, tt))
 command_clean names fit cpus few (cmd.SetImportance d importance) h = (refl, (dpc_field names fit d.0 h.0, (importance_field importance, tt)))
 command_clean names fit cpus few (cmd.SetTarget d target) h = (refl, (dpc_field names fit d.0 h.0, (target_field target cpus few h.1, tt)))
-command_clean names fit cpus few (cmd.SetTimer t due period) h = (refl, (timer_field names fit t.0 h.0, (decimal_field due (omega (arith, h.1)), (decimal_field period (omega (arith, h.2)), tt))))
+command_clean names fit cpus few (cmd.SetTimer t due period) h =
+    (refl, (timer_field names fit t.0 h.0, (decimal_field due (omega (arith, h.1)), (decimal_field period (omega (arith, h.2)), tt))))
 command_clean names fit cpus few (cmd.CancelTimer t) h = (refl, (timer_field names fit t.0 h, tt))
 command_clean names fit cpus few (cmd.InsertApc a) h = (refl, (apc_field names fit a.0 h, tt))
 command_clean names fit cpus few (cmd.RemoveApc a) h = (refl, (apc_field names fit a.0 h, tt))
@@ -121,7 +128,8 @@ command_clean names fit cpus few cmd.EnterGuard h = (refl, tt)
 command_clean names fit cpus few cmd.LeaveCrit h = (refl, tt)
 command_clean names fit cpus few cmd.LeaveGuard h = (refl, tt)
 command_clean names fit cpus few (cmd.StartWait mode alertable) h = (refl, (mode_field mode, (alertable_field alertable, tt)))
-command_clean names fit cpus few (cmd.Delay mode alertable units) h = (refl, (mode_field mode, (alertable_field alertable, (decimal_field units (omega (arith, h.2)), tt))))
+command_clean names fit cpus few (cmd.Delay mode alertable units) h =
+    (refl, (mode_field mode, (alertable_field alertable, (decimal_field units (omega (arith, h.2)), tt))))
 command_clean names fit cpus few (cmd.Release t) h = (refl, (thread_field names fit t.0 h, tt))
 command_clean names fit cpus few (cmd.Alert t mode) h = (refl, (thread_field names fit t.0 h.0, (mode_field mode, tt)))
 command_clean names fit cpus few (cmd.TestAlert mode) h = (refl, (mode_field mode, tt))
@@ -132,19 +140,23 @@ command_clean names fit cpus few cmd.Yield h = (refl, tt)
 command_clean names fit cpus few (cmd.Note number) h = (refl, (decimal_field number (omega (arith, h)), tt))
 
 isr_clean : (names : NameLists) (fit : NamesFit names) (cpus : ℕ) → cpus ≤ 8 → (x : Isr) → IsrFits names cpus x → IsRow (isr_row names x)
-isr_clean names fit cpus few x h = (refl, (cpu_field x.cpu cpus few h.0, (decimal_field x.level (omega (arith, h.1)), (routine_field names fit x.routine.0 h.3, tt))))
+isr_clean names fit cpus few x h = (refl, (cpu_field x.cpu cpus few h.0,
+    (decimal_field x.level (omega (arith, h.1)), (routine_field names fit x.routine.0 h.3, tt))))
 
-dpc_clean : (names : NameLists) (fit : NamesFit names) (threaded : Bool) (r : RoutineNo) (n : List ℕ) → is_name n ≡ true → r.0 < length names.routines → IsRow (dpc_row names n (record { threaded = threaded; routine = r }))
+dpc_clean : (names : NameLists) (fit : NamesFit names) (threaded : Bool) (r : RoutineNo) (n : List ℕ) → is_name n ≡ true → r.0 < length names.routines →
+    IsRow (dpc_row names n (record { threaded = threaded; routine = r }))
 dpc_clean names fit true r n named h = (refl, (name_field n named, (routine_field names fit r.0 h, tt)))
 dpc_clean names fit false r n named h = (refl, (name_field n named, (routine_field names fit r.0 h, tt)))
 
 timer_clean : (names : NameLists) (fit : NamesFit names) (x : TimerDecl) (n : List ℕ) → is_name n ≡ true → TimerFits names x → IsRow (timer_row names n x)
 timer_clean names fit x n named h = (refl, (name_field n named, (timer_dpc_field names fit x.dpc h, tt)))
 
-thread_clean : (names : NameLists) (fit : NamesFit names) (cpus : ℕ) → cpus ≤ 8 → (x : ThreadDecl) (n : List ℕ) → is_name n ≡ true → ThreadFits names cpus x → IsRow (thread_row names n x)
+thread_clean : (names : NameLists) (fit : NamesFit names) (cpus : ℕ) → cpus ≤ 8 → (x : ThreadDecl) (n : List ℕ) → is_name n ≡ true → ThreadFits names cpus x →
+    IsRow (thread_row names n x)
 thread_clean names fit cpus few x n named h = (refl, (name_field n named, (cpu_field x.cpu cpus few h.0, (routine_field names fit x.routine.0 h.1, tt))))
 
-apc_tail_clean : (names : NameLists) (fit : NamesFit names) (f : List ℕ) (k : ApcKind) (n d : Option RoutineNo) → is_field f ≡ true → IfSome n (λ r. r.0 < length names.routines) → IfSome d (λ r. r.0 < length names.routines) → IsRow (f ∷ (normal_args names n ++ rundown_args names k d))
+apc_tail_clean : (names : NameLists) (fit : NamesFit names) (f : List ℕ) (k : ApcKind) (n d : Option RoutineNo) → is_field f ≡ true →
+    IfSome n (λ r. r.0 < length names.routines) → IfSome d (λ r. r.0 < length names.routines) → IsRow (f ∷ (normal_args names n ++ rundown_args names k d))
 apc_tail_clean names fit f Special None d e h g = (e, tt)
 apc_tail_clean names fit f Special (Some n) d e h g = (e, (routine_field names fit n.0 h, tt))
 apc_tail_clean names fit f Normal None d e h g = (e, tt)
@@ -152,23 +164,33 @@ apc_tail_clean names fit f Normal (Some n) d e h g = (e, (routine_field names fi
 apc_tail_clean names fit f User None d e h g = (e, (rundown_field names fit d g, tt))
 apc_tail_clean names fit f User (Some n) d e h g = (e, (routine_field names fit n.0 h, (rundown_field names fit d g, tt)))
 
-apc_clean : (names : NameLists) (fit : NamesFit names) (k : ApcKind) (x : ApcDecl) (n : List ℕ) → x.kind ≡ k → is_name n ≡ true → ApcFits names x → IsRow (apc_row names n x)
-apc_clean names fit Special x n e named h = rw e (refl, (name_field n named, (thread_field names fit x.thread.0 h.thread, apc_tail_clean names fit (show_routine names x.kernel) Special x.normal x.rundown (routine_field names fit x.kernel.0 h.kernel) h.normal h.rundown)))
-apc_clean names fit Normal x n e named h = rw e (refl, (name_field n named, (thread_field names fit x.thread.0 h.thread, apc_tail_clean names fit (show_routine names x.kernel) Normal x.normal x.rundown (routine_field names fit x.kernel.0 h.kernel) h.normal h.rundown)))
-apc_clean names fit User x n e named h = rw e (refl, (name_field n named, (thread_field names fit x.thread.0 h.thread, apc_tail_clean names fit (show_routine names x.kernel) User x.normal x.rundown (routine_field names fit x.kernel.0 h.kernel) h.normal h.rundown)))
+apc_clean : (names : NameLists) (fit : NamesFit names) (k : ApcKind) (x : ApcDecl) (n : List ℕ) → x.kind ≡ k → is_name n ≡ true → ApcFits names x →
+    IsRow (apc_row names n x)
+apc_clean names fit Special x n e named h = rw e (refl, (name_field n named,
+    (thread_field names fit x.thread.0 h.thread, apc_tail_clean names fit (show_routine names x.kernel) Special x.normal x.rundown
+    (routine_field names fit x.kernel.0 h.kernel) h.normal h.rundown)))
+apc_clean names fit Normal x n e named h = rw e (refl, (name_field n named,
+    (thread_field names fit x.thread.0 h.thread, apc_tail_clean names fit (show_routine names x.kernel) Normal x.normal x.rundown
+    (routine_field names fit x.kernel.0 h.kernel) h.normal h.rundown)))
+apc_clean names fit User x n e named h = rw e (refl, (name_field n named,
+    (thread_field names fit x.thread.0 h.thread, apc_tail_clean names fit (show_routine names x.kernel) User x.normal x.rundown
+    (routine_field names fit x.kernel.0 h.kernel) h.normal h.rundown)))
 
 -- ---- parts
 
-all_clean : {A : Type 0} (row : A → Row) (Fits : A → Type 0) → ((x : A) → Fits x → IsRow (row x)) → (xs : List A) → AllByRecursion Fits xs → AllRows (map row xs)
+all_clean : {A : Type 0} (row : A → Row) (Fits : A → Type 0) → ((x : A) → Fits x → IsRow (row x)) → (xs : List A) → AllByRecursion Fits xs →
+    AllRows (map row xs)
 all_clean row Fits clean [] h = tt
 all_clean row Fits clean (x ∷ xs) h = (clean x h.0, all_clean row Fits clean xs h.1)
 
-declared_clean : {A : Type 0} (row : List ℕ → A → Row) (Fits : A → Type 0) → ((x : A) (n : List ℕ) → is_name n ≡ true → Fits x → IsRow (row n x)) → (before ns : List (List ℕ)) (xs : List A) → AreNew before ns → AllByRecursion Fits xs → AllRows (declared_rows row ns xs)
+declared_clean : {A : Type 0} (row : List ℕ → A → Row) (Fits : A → Type 0) → ((x : A) (n : List ℕ) → is_name n ≡ true → Fits x → IsRow (row n x)) →
+    (before ns : List (List ℕ)) (xs : List A) → AreNew before ns → AllByRecursion Fits xs → AllRows (declared_rows row ns xs)
 declared_clean row Fits clean before [] xs new h = tt
 declared_clean row Fits clean before (n ∷ ns) [] new h = tt
 declared_clean row Fits clean before (n ∷ ns) (x ∷ xs) new h = (clean x n new.0 h.0, declared_clean row Fits clean (before ++ n ∷ []) ns xs new.2 h.1)
 
-routines_clean : (names : NameLists) (fit : NamesFit names) (cpus : ℕ) → cpus ≤ 8 → (before ns : List (List ℕ)) (rs : List Routine) → AreNew before ns → AllByRecursion (λ r. AllByRecursion (CommandFits names cpus) r.commands) rs → AllRows (routine_rows names ns rs)
+routines_clean : (names : NameLists) (fit : NamesFit names) (cpus : ℕ) → cpus ≤ 8 → (before ns : List (List ℕ)) (rs : List Routine) → AreNew before ns →
+    AllByRecursion (λ r. AllByRecursion (CommandFits names cpus) r.commands) rs → AllRows (routine_rows names ns rs)
 routines_clean names fit cpus few before [] rs new h = tt
 routines_clean names fit cpus few before (n ∷ ns) [] new h = tt
 routines_clean names fit cpus few before (n ∷ ns) (r ∷ rs) new h =
@@ -185,20 +207,30 @@ threaded_clean : (o : Option Bool) → AllRows (threaded_rows o)
 threaded_clean None = tt
 threaded_clean (Some on) = ((refl, (on_off_field on, tt)), tt)
 
-all_parts : (h i d t s a o : List Row) → AllRows h → AllRows i → AllRows d → AllRows t → AllRows s → AllRows a → AllRows o → AllRows (h ++ (i ++ (d ++ (t ++ (s ++ (a ++ o))))))
-all_parts h i d t s a o ph pi pd pt ps pa po = rows_both h (i ++ (d ++ (t ++ (s ++ (a ++ o))))) ph (rows_both i (d ++ (t ++ (s ++ (a ++ o)))) pi (rows_both d (t ++ (s ++ (a ++ o))) pd (rows_both t (s ++ (a ++ o)) pt (rows_both s (a ++ o) ps (rows_both a o pa po)))))
+all_parts : (h i d t s a o : List Row) → AllRows h → AllRows i → AllRows d → AllRows t → AllRows s → AllRows a → AllRows o →
+    AllRows (h ++ (i ++ (d ++ (t ++ (s ++ (a ++ o))))))
+all_parts h i d t s a o ph pi pd pt ps pa po = rows_both h (i ++ (d ++ (t ++ (s ++ (a ++ o))))) ph
+    (rows_both i (d ++ (t ++ (s ++ (a ++ o)))) pi (rows_both d (t ++ (s ++ (a ++ o))) pd
+    (rows_both t (s ++ (a ++ o)) pt (rows_both s (a ++ o) ps (rows_both a o pa po)))))
 
 pub input_clean : (input : Input) → Fit input → AllRows (input_rows input)
 input_clean input s =
     let names = input.names in
     let script = input.script in
     let few = s.cpus.1 in
-    let head : AllRows (header_rows script.cpus script.depth script.threaded) = ((refl, (decimal_field script.cpus (omega arith), tt)), rows_both (depth_rows script.depth) (threaded_rows script.threaded) (depth_clean script.depth s.depth) (threaded_clean script.threaded)) in
+    let head : AllRows (header_rows script.cpus script.depth script.threaded) =
+        ((refl, (decimal_field script.cpus (omega arith), tt)),
+        rows_both (depth_rows script.depth) (threaded_rows script.threaded) (depth_clean script.depth s.depth) (threaded_clean script.threaded)) in
     let isrs = all_clean (isr_row names) (IsrFits names script.cpus) (isr_clean names s.names script.cpus few) script.isrs s.isrs in
-    let dpcs = declared_clean (dpc_row names) (DpcFits names) (λ x n named h. dpc_clean names s.names x.threaded x.routine n named h) [] names.dpcs script.dpcs s.names.dpcs s.dpcs in
+    let dpcs = declared_clean (dpc_row names) (DpcFits names)
+        (λ x n named h. dpc_clean names s.names x.threaded x.routine n named h) [] names.dpcs script.dpcs s.names.dpcs s.dpcs in
     let timers = declared_clean (timer_row names) (TimerFits names) (timer_clean names s.names) names.dpcs names.timers script.timers s.names.timers s.timers in
-    let threads = declared_clean (thread_row names) (ThreadFits names script.cpus) (thread_clean names s.names script.cpus few) (names.dpcs ++ names.timers) names.threads script.threads s.names.threads s.threads in
-    let apcs = declared_clean (apc_row names) (ApcFits names) (λ x n named h. apc_clean names s.names x.kind x n refl named h) ((names.dpcs ++ names.timers) ++ names.threads) names.apcs script.apcs s.names.apcs s.apcs in
-    let routines = routines_clean names s.names script.cpus few (((names.dpcs ++ names.timers) ++ names.threads) ++ names.apcs) names.routines script.routines s.names.routines s.routines in
-    all_parts (header_rows script.cpus script.depth script.threaded) (map (isr_row names) script.isrs) (declared_rows (dpc_row names) names.dpcs script.dpcs) (declared_rows (timer_row names) names.timers script.timers) (declared_rows (thread_row names) names.threads script.threads)
+    let threads = declared_clean (thread_row names) (ThreadFits names script.cpus) (thread_clean names s.names script.cpus few)
+        (names.dpcs ++ names.timers) names.threads script.threads s.names.threads s.threads in
+    let apcs = declared_clean (apc_row names) (ApcFits names) (λ x n named h. apc_clean names s.names x.kind x n refl named h)
+        ((names.dpcs ++ names.timers) ++ names.threads) names.apcs script.apcs s.names.apcs s.apcs in
+    let routines = routines_clean names s.names script.cpus few
+        (((names.dpcs ++ names.timers) ++ names.threads) ++ names.apcs) names.routines script.routines s.names.routines s.routines in
+    all_parts (header_rows script.cpus script.depth script.threaded) (map (isr_row names) script.isrs) (declared_rows (dpc_row names) names.dpcs script.dpcs)
+        (declared_rows (timer_row names) names.timers script.timers) (declared_rows (thread_row names) names.threads script.threads)
     (declared_rows (apc_row names) names.apcs script.apcs) (routine_rows names names.routines script.routines) head isrs dpcs timers threads apcs routines

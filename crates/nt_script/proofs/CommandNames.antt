@@ -6,8 +6,8 @@ use Rattle.nt_event.specs.declared.commands.Command.{Command}
 use Rattle.nt_event.specs.declared.commands.Command.TheVariants as cmd
 use Rattle.nt_event.specs.Script.{has_dpc, has_cpu, where_given, command_fits}
 use Rattle.nt_script.specs.declared.walk.Input.{Input}
-use Rattle.nt_script.specs.NameLists.{NameLists}
-use Rattle.nt_script.specs.Fits.{CommandFits, CommandNamed}
+use Rattle.nt_line.specs.NameLists.{NameLists}
+use Rattle.nt_line.specs.Fits.{CommandFits, CommandNamed}
 use Rattle.nt_script.specs.Sound.{IsSound}
 
 pub fits_named : (names : NameLists) (cpus : ℕ) (c : Command) → CommandFits names cpus c → CommandNamed names c
@@ -46,7 +46,8 @@ sound_named input s (cmd.Lower level) h = tt
 sound_named input s (cmd.Queue d) h = below d.0 (length input.names.dpcs) (length input.script.dpcs) s.dpcs h
 sound_named input s (cmd.Unqueue d) h = below d.0 (length input.names.dpcs) (length input.script.dpcs) s.dpcs h
 sound_named input s (cmd.SetImportance d importance) h = below d.0 (length input.names.dpcs) (length input.script.dpcs) s.dpcs h
-sound_named input s (cmd.SetTarget d target) h = below d.0 (length input.names.dpcs) (length input.script.dpcs) s.dpcs (and_parts (has_dpc input.script d) (where_given (has_cpu input.script) target) h).0
+sound_named input s (cmd.SetTarget d target) h = below d.0 (length input.names.dpcs) (length input.script.dpcs) s.dpcs
+    (and_parts (has_dpc input.script d) (where_given (has_cpu input.script) target) h).0
 sound_named input s (cmd.SetTimer t due period) h = below t.0 (length input.names.timers) (length input.script.timers) s.timers h
 sound_named input s (cmd.CancelTimer t) h = below t.0 (length input.names.timers) (length input.script.timers) s.timers h
 sound_named input s (cmd.InsertApc a) h = below a.0 (length input.names.apcs) (length input.script.apcs) s.apcs h

@@ -81,24 +81,28 @@ clean_at x h = all_at (λ b. is_byte 10 b ≡ false) x h
 lines_behind : (xs : List (List ℕ)) (more : List ℕ) → AllClean xs → lines (ended xs ++ more) ≡ marked xs ++ lines more
 lines_behind [] more h = refl
 lines_behind (x ∷ xs) more h =
-    let regrouped : ended (x ∷ xs) ++ more ≡ x ++ 10 ∷ (ended xs ++ more) = append_assoc (x ++ 10 ∷ []) (ended xs) more ∙ append_assoc x (10 ∷ []) (ended xs ++ more) in
-    rw (regrouped, slice_split_at (is_byte 10) x 10 (ended xs ++ more) (clean_at x h.0) refl, more_lines x (ended xs ++ more)) (ap (λ (ls : List (List ℕ × Bool)). (x, true) ∷ ls) (lines_behind xs more h.1))
+    let regrouped : ended (x ∷ xs) ++ more ≡ x ++ 10 ∷ (ended xs ++ more) = append_assoc (x ++ 10 ∷ []) (ended xs) more
+        ∙ append_assoc x (10 ∷ []) (ended xs ++ more) in
+    rw (regrouped, slice_split_at (is_byte 10) x 10 (ended xs ++ more) (clean_at x h.0) refl, more_lines x (ended xs ++ more))
+        (ap (λ (ls : List (List ℕ × Bool)). (x, true) ∷ ls) (lines_behind xs more h.1))
 
 lines_ended : (xs : List (List ℕ)) → AllClean xs → lines (ended xs) ≡ marked xs
 lines_ended xs h = ap lines (sym (append-nil (ended xs))) ∙ lines_behind xs [] h ∙ append-nil (marked xs)
 
 parts_again : (x : List ℕ) (xs : List (List ℕ)) → AllClean (x ∷ xs) → parts 10 (join_with_byte 10 (x ∷ xs)) ≡ x ∷ xs
 parts_again x [] h = slice_split_none (is_byte 10) x (clean_at x h.0)
-parts_again x (y ∷ ys) h = slice_split_at (is_byte 10) x 10 (join_with_byte 10 (y ∷ ys)) (clean_at x h.0) refl ∙ ap (λ (r : List (List ℕ)). x ∷ r) (parts_again y ys h.1)
+parts_again x (y ∷ ys) h = slice_split_at (is_byte 10) x 10 (join_with_byte 10 (y ∷ ys)) (clean_at x h.0) refl
+    ∙ ap (λ (r : List (List ℕ)). x ∷ r) (parts_again y ys h.1)
 
--- ---- the first line with a word
+-- ---- the first line with a keyword
 
 length_marked : (xs : List (List ℕ)) → length (marked xs) ≡ length xs
 length_marked [] = refl
 length_marked (x ∷ xs) = ap suc (length_marked xs)
 
-here : (word : List ℕ) (xs : List (List ℕ)) (more : List ℕ) → AllClean xs → list_any (begins word) (marked xs) ≡ false → first_begins word (lines more) ≡ true → Splits word (ended xs ++ more) (length (ended xs)) (length xs + 1)
-here word xs more clean none first =
+here : (keyword : List ℕ) (xs : List (List ℕ)) (more : List ℕ) → AllClean xs → list_any (begins keyword) (marked xs) ≡ false →
+    first_begins keyword (lines more) ≡ true → Splits keyword (ended xs ++ more) (length (ended xs)) (length xs + 1)
+here keyword xs more clean none first =
     let before : lines (take (length (ended xs)) (ended xs ++ more)) ≡ marked xs = ap lines (take-append_seam (ended xs) more) ∙ lines_ended xs clean in
     let behind : lines (drop (length (ended xs)) (ended xs ++ more)) ≡ lines more = ap lines (drop-append_seam (ended xs) more) in
     record {
@@ -128,60 +132,80 @@ unfolding second_of
 pair_1 a b c d e = ap second_of e
 
 -- the text from here on is that of these parts
-at_last : (word : List ℕ) (xs : List (List ℕ)) (more bytes : List ℕ) (at n a m : ℕ) → bytes ≡ ended xs ++ more → at ≡ length (ended xs) → n ≡ length xs + 1 → AllClean xs → list_any (begins word) (marked xs) ≡ false → first_begins word (lines more) ≡ true → cut_at at n ≡ cut_at a m → Splits word bytes a m
-at_last word xs more bytes at n a m eb ea en clean none first e =
-    let s = here word xs more clean none first in
-    let one : Splits word bytes (length (ended xs)) (length xs + 1) = subst (λ (b : List ℕ). Splits word b (length (ended xs)) (length xs + 1)) (sym eb) s in
-    let two : Splits word bytes a (length xs + 1) = subst (λ (k : ℕ). Splits word bytes k (length xs + 1)) (sym ea ∙ pair_0 at n a m e) one in
-    subst (λ (k : ℕ). Splits word bytes a k) (sym en ∙ pair_1 at n a m e) two
+at_last : (keyword : List ℕ) (xs : List (List ℕ)) (more bytes : List ℕ) (at n a m : ℕ) → bytes ≡ ended xs ++ more → at ≡ length (ended xs) → n
+    ≡ length xs + 1 → AllClean xs → list_any (begins keyword) (marked xs) ≡ false → first_begins keyword (lines more) ≡ true → cut_at at n ≡ cut_at a m →
+    Splits keyword bytes a m
+at_last keyword xs more bytes at n a m eb ea en clean none first e =
+    let s = here keyword xs more clean none first in
+    let one : Splits keyword bytes (length (ended xs)) (length xs + 1) = subst (λ (b : List ℕ). Splits keyword b (length (ended xs)) (length xs + 1))
+        (sym eb) s in
+    let two : Splits keyword bytes a (length xs + 1) = subst (λ (k : ℕ). Splits keyword bytes k (length xs + 1)) (sym ea ∙ pair_0 at n a m e) one in
+    subst (λ (k : ℕ). Splits keyword bytes a k) (sym en ∙ pair_1 at n a m e) two
 
 clean_more : (xs : List (List ℕ)) (x : List ℕ) → AllClean xs → IsClean x → AllClean (xs ++ x ∷ [])
 clean_more [] x h k = (k, tt)
 clean_more (z ∷ zs) x h k = (h.0, clean_more zs x h.1 k)
 
-found : (word : List ℕ) (ps xs : List (List ℕ)) (bytes : List ℕ) (at n a m : ℕ) → bytes ≡ ended xs ++ join_with_byte 10 ps → at ≡ length (ended xs) → n ≡ length xs + 1 → AllClean xs → AllClean ps → list_any (begins word) (marked xs) ≡ false → split_from word at n (lines_of_parts ps) ≡ cut_at a m → Splits word bytes a m
-found word [] xs bytes at n a m eb ea en cx cp none e = absurd cc
-found word (x ∷ []) xs bytes at n a m eb ea en cx cp none e = go (length x == 0) refl e
+found : (keyword : List ℕ) (ps xs : List (List ℕ)) (bytes : List ℕ) (at n a m : ℕ) → bytes ≡ ended xs ++ join_with_byte 10 ps → at ≡ length (ended xs) → n
+    ≡ length xs + 1 → AllClean xs → AllClean ps → list_any (begins keyword) (marked xs) ≡ false → split_from keyword at n (lines_of_parts ps) ≡ cut_at a m →
+    Splits keyword bytes a m
+found keyword [] xs bytes at n a m eb ea en cx cp none e = absurd cc
+found keyword (x ∷ []) xs bytes at n a m eb ea en cx cp none e = go (length x == 0) refl e
   where
-    last : (t : Bool) → begins word (x, false) ≡ t → (length x == 0) ≡ false → cond t (cut_at at n) None ≡ cut_at a m → Splits word bytes a m
+    last : (t : Bool) → begins keyword (x, false) ≡ t → (length x == 0) ≡ false → cond t (cut_at at n) None ≡ cut_at a m → Splits keyword bytes a m
     last false is z e = absurd cc
     last true is z e =
         let there : lines x ≡ (x, false) ∷ [] = ap lines_of_parts (parts_again x [] cp) ∙ rw z refl in
-        at_last word xs x bytes at n a m eb ea en cx none (rw there is) e
+        at_last keyword xs x bytes at n a m eb ea en cx none (rw there is) e
 
-    go : (z : Bool) → (length x == 0) ≡ z → split_from word at n (cond z [] ((x, false) ∷ [])) ≡ cut_at a m → Splits word bytes a m
+    go : (z : Bool) → (length x == 0) ≡ z → split_from keyword at n (cond z [] ((x, false) ∷ [])) ≡ cut_at a m → Splits keyword bytes a m
     go true z e = absurd cc
-    go false z e = last (begins word (x, false)) refl z e
-found word (x ∷ y ∷ more) xs bytes at n a m eb ea en cx cp none e = go (begins word (x, true)) refl e
-    (found word (y ∷ more) (xs ++ x ∷ []) bytes (at + (length x + 1)) (n + 1) a m)
+    go false z e = last (begins keyword (x, false)) refl z e
+found keyword (x ∷ y ∷ more) xs bytes at n a m eb ea en cx cp none e = go (begins keyword (x, true)) refl e
+    (found keyword (y ∷ more) (xs ++ x ∷ []) bytes (at + (length x + 1)) (n + 1) a m)
   where
-    go : (t : Bool) → begins word (x, true) ≡ t → cond t (cut_at at n) (split_from word (at + (length x + 1)) (n + 1) (lines_of_parts (y ∷ more))) ≡ cut_at a m
-        → (bytes ≡ ended (xs ++ x ∷ []) ++ join_with_byte 10 (y ∷ more) → at + (length x + 1) ≡ length (ended (xs ++ x ∷ [])) → n + 1 ≡ length (xs ++ x ∷ []) + 1 → AllClean (xs ++ x ∷ []) → AllClean (y ∷ more) → list_any (begins word) (marked (xs ++ x ∷ [])) ≡ false → split_from word (at + (length x + 1)) (n + 1) (lines_of_parts (y ∷ more)) ≡ cut_at a m → Splits word bytes a m)
-        → Splits word bytes a m
+    go : (t : Bool) → begins keyword (x, true) ≡ t → cond t (cut_at at n) (split_from keyword (at + (length x + 1)) (n + 1) (lines_of_parts (y ∷ more)))
+        ≡ cut_at a m
+        → (bytes ≡ ended (xs ++ x ∷ []) ++ join_with_byte 10 (y ∷ more) → at + (length x + 1) ≡ length (ended (xs ++ x ∷ [])) → n + 1
+            ≡ length (xs ++ x ∷ []) + 1 → AllClean (xs ++ x ∷ []) → AllClean (y ∷ more) → list_any (begins keyword) (marked (xs ++ x ∷ [])) ≡ false →
+            split_from keyword (at + (length x + 1)) (n + 1) (lines_of_parts (y ∷ more)) ≡ cut_at a m → Splits keyword bytes a m)
+        → Splits keyword bytes a m
     go true is e on =
         let there : lines (join_with_byte 10 (x ∷ y ∷ more)) ≡ (x, true) ∷ lines_of_parts (y ∷ more) = ap lines_of_parts (parts_again x (y ∷ more) cp) in
-        at_last word xs (join_with_byte 10 (x ∷ y ∷ more)) bytes at n a m eb ea en cx none (rw there is) e
+        at_last keyword xs (join_with_byte 10 (x ∷ y ∷ more)) bytes at n a m eb ea en cx none (rw there is) e
     go false is e on =
-        let grown : ended (xs ++ x ∷ []) ≡ ended xs ++ (x ++ 10 ∷ []) = flat_map-append (λ (x : List ℕ). x ++ 10 ∷ []) xs (x ∷ []) ∙ ap (λ (r : List ℕ). ended xs ++ r) (append-nil (x ++ 10 ∷ [])) in
-        let whole : bytes ≡ ended (xs ++ x ∷ []) ++ join_with_byte 10 (y ∷ more) = eb ∙ sym (ap (λ (r : List ℕ). r ++ join_with_byte 10 (y ∷ more)) grown ∙ append_assoc (ended xs) (x ++ 10 ∷ []) (join_with_byte 10 (y ∷ more)) ∙ ap (λ (r : List ℕ). ended xs ++ r) (append_assoc x (10 ∷ []) (join_with_byte 10 (y ∷ more)))) in
-        let size : length (ended (xs ++ x ∷ [])) ≡ length (ended xs) + (length x + 1) = ap length grown ∙ length-append (ended xs) (x ++ 10 ∷ []) ∙ ap (λ (k : ℕ). length (ended xs) + k) (length-append x (10 ∷ [])) in
-        let marks : list_any (begins word) (marked (xs ++ x ∷ [])) ≡ false = ap (list_any (begins word)) (map-append (λ (x : List ℕ). (x, true)) xs (x ∷ [])) ∙ list_any-append (begins word) (marked xs) (marked (x ∷ [])) ∙ or_from (list_any (begins word) (marked xs)) (list_any (begins word) (marked (x ∷ []))) none (or_from (begins word (x, true)) false is refl) in
+        let grown : ended (xs ++ x ∷ []) ≡ ended xs ++ (x ++ 10 ∷ []) = flat_map-append (λ (x : List ℕ). x ++ 10 ∷ []) xs (x ∷ [])
+            ∙ ap (λ (r : List ℕ). ended xs ++ r) (append-nil (x ++ 10 ∷ [])) in
+        let whole : bytes ≡ ended (xs ++ x ∷ []) ++ join_with_byte 10 (y ∷ more) = eb
+            ∙ sym (ap (λ (r : List ℕ). r ++ join_with_byte 10 (y ∷ more)) grown ∙ append_assoc (ended xs) (x ++ 10 ∷ []) (join_with_byte 10 (y ∷ more))
+            ∙ ap (λ (r : List ℕ). ended xs ++ r) (append_assoc x (10 ∷ []) (join_with_byte 10 (y ∷ more)))) in
+        let size : length (ended (xs ++ x ∷ [])) ≡ length (ended xs) + (length x + 1) = ap length grown ∙ length-append (ended xs) (x ++ 10 ∷ [])
+            ∙ ap (λ (k : ℕ). length (ended xs) + k) (length-append x (10 ∷ [])) in
+        let marks : list_any (begins keyword) (marked (xs ++ x ∷ []))
+            ≡ false = ap (list_any (begins keyword)) (map-append (λ (x : List ℕ). (x, true)) xs (x ∷ []))
+            ∙ list_any-append (begins keyword) (marked xs) (marked (x ∷ []))
+            ∙ or_from (list_any (begins keyword) (marked xs)) (list_any (begins keyword) (marked (x ∷ []))) none
+            (or_from (begins keyword (x, true)) false is refl) in
         on whole (omega (arith, ea, size)) (omega (arith, en, length-append xs (x ∷ []))) (clean_more xs x cx cp.0) cp.1 marks e
 
-missed : (word : List ℕ) (at n : ℕ) (ls : List (List ℕ × Bool)) → split_from word at n ls ≡ None → list_any (begins word) ls ≡ false
-missed word at n [] e = refl
-missed word at n (l ∷ ls) e = go (begins word l) e (missed word (at + (length l.0 + 1)) (n + 1) ls)
+missed : (keyword : List ℕ) (at n : ℕ) (ls : List (List ℕ × Bool)) → split_from keyword at n ls ≡ None → list_any (begins keyword) ls ≡ false
+missed keyword at n [] e = refl
+missed keyword at n (l ∷ ls) e = go (begins keyword l) e (missed keyword (at + (length l.0 + 1)) (n + 1) ls)
   where
-    go : (t : Bool) → cond t (cut_at at n) (split_from word (at + (length l.0 + 1)) (n + 1) ls) ≡ None → (split_from word (at + (length l.0 + 1)) (n + 1) ls ≡ None → list_any (begins word) ls ≡ false) → (t || list_any (begins word) ls) ≡ false
+    go : (t : Bool) → cond t (cut_at at n) (split_from keyword (at + (length l.0 + 1)) (n + 1) ls) ≡ None →
+        (split_from keyword (at + (length l.0 + 1)) (n + 1) ls ≡ None → list_any (begins keyword) ls ≡ false) → (t || list_any (begins keyword) ls) ≡ false
     go true e on = absurd cc
     go false e on = on e
 
 -- ---- what the contract says
 
-pub split_none : (word bytes : List ℕ) (r : Option Split) → option_map (λ s. (s.at, s.line)) r ≡ split_from word 0 1 (lines bytes) → IfNone r (list_any (begins word) (lines bytes) ≡ false)
-split_none word bytes None e = missed word 0 1 (lines bytes) (sym e)
-split_none word bytes (Some s) e = tt
+pub split_none : (keyword bytes : List ℕ) (r : Option Split) → option_map (λ s. (s.at, s.line)) r ≡ split_from keyword 0 1 (lines bytes) →
+    IfNone r (list_any (begins keyword) (lines bytes) ≡ false)
+split_none keyword bytes None e = missed keyword 0 1 (lines bytes) (sym e)
+split_none keyword bytes (Some s) e = tt
 
-pub split_some : (word bytes : List ℕ) (r : Option Split) → option_map (λ s. (s.at, s.line)) r ≡ split_from word 0 1 (lines bytes) → IfSome r (λ s. Splits word bytes s.at s.line)
-split_some word bytes None e = tt
-split_some word bytes (Some s) e = found word (parts 10 bytes) [] bytes 0 1 s.at s.line (sym (join_with_byte-slice_split 10 bytes)) refl refl tt (parts_clean bytes) refl (sym e)
+pub split_some : (keyword bytes : List ℕ) (r : Option Split) → option_map (λ s. (s.at, s.line)) r ≡ split_from keyword 0 1 (lines bytes) →
+    IfSome r (λ s. Splits keyword bytes s.at s.line)
+split_some keyword bytes None e = tt
+split_some keyword bytes (Some s) e = found keyword (parts 10 bytes) [] bytes 0 1 s.at s.line (sym (join_with_byte-slice_split 10 bytes)) refl refl tt
+    (parts_clean bytes) refl (sym e)

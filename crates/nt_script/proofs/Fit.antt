@@ -4,9 +4,9 @@ use Rattle.std.specs.Prelude.{IfSome}
 use Rattle.std.specs.List.{AllByRecursion}
 use Rattle.nt_event.specs.Script.{isrs_differ, command_count}
 use Rattle.nt_script.specs.declared.walk.Input.{Input}
-use Rattle.nt_script.specs.Fits.{IsrFits, DpcFits, TimerFits, ThreadFits, ApcFits, CommandFits}
-use Rattle.nt_script.proofs.UsedNames.{AreFew}
-use Rattle.nt_script.proofs.Found.{NamesFit}
+use Rattle.nt_line.specs.Fits.{IsrFits, DpcFits, TimerFits, ThreadFits, ApcFits, CommandFits}
+use Rattle.nt_line.proofs.UsedNames.{AreFew}
+use Rattle.nt_line.proofs.Found.{NamesFit}
 
 pub record Fit (input : Input) : Type 0 where
   pub cpus : (1 ≤ input.script.cpus) × (input.script.cpus ≤ 8)

@@ -11,32 +11,34 @@ use Rattle.nt_text.specs.declared.kind.ScriptKind.TheVariants.{NameTwice, TooMan
 use Rattle.nt_text.specs.declared.kind.What10.TheVariants as what
 use Rattle.nt_text.specs.Lines.{lines, first, rest}
 use Rattle.nt_text.specs.Fields.{is_name}
+use Rattle.nt_event.specs.declared.limits.TheConstants.{COMMANDS}
 use Rattle.nt_event.specs.declared.commands.Command.{Command}
 use Rattle.nt_event.specs.declared.scripts.Routine.{Routine}
+use Rattle.nt_event.specs.declared.scripts.Isr.{Isr}
 use Rattle.nt_event.specs.declared.scripts.DpcDecl.{DpcDecl}
 use Rattle.nt_event.specs.declared.scripts.TimerDecl.{TimerDecl}
 use Rattle.nt_event.specs.declared.scripts.ThreadDecl.{ThreadDecl}
 use Rattle.nt_event.specs.declared.scripts.ApcDecl.{ApcDecl}
 use Rattle.nt_event.specs.Script.{isrs_differ, command_count, isr_of as isr_routine}
-use Rattle.nt_script.specs.declared.words.Word.{Word}
-use Rattle.nt_script.specs.declared.words.Word.TheVariants as word
+use Rattle.nt_line.specs.declared.keywords.Keyword.{Keyword}
+use Rattle.nt_line.specs.declared.keywords.Keyword.TheVariants as keyword
 use Rattle.nt_script.specs.declared.walk.Walk.{Walk}
 use Rattle.nt_script.specs.declared.walk.Input.{Input}
-use Rattle.nt_script.specs.Places.{place}
-use Rattle.nt_script.specs.NameLists.{NameLists, no_names, meaning, dpc_at, timer_at, thread_at, apc_at, routine_at, or_else}
-use Rattle.nt_script.specs.Words.{arity, order}
-use Rattle.nt_script.specs.Results.{ok_if}
-use Rattle.nt_script.specs.Slots.{read_number, read_on_off, new_name}
-use Rattle.nt_script.specs.Commands.{command_of}
-use Rattle.nt_script.specs.Declarations.{isr_of, dpc_of, timer_of, thread_of, apc_of}
+use Rattle.nt_line.specs.Places.{place}
+use Rattle.nt_line.specs.NameLists.{NameLists, no_names, meaning, dpc_at, timer_at, thread_at, apc_at, routine_at, or_else}
+use Rattle.nt_line.specs.Keywords.{arity, order}
+use Rattle.nt_line.specs.Results.{ok_if}
+use Rattle.nt_line.specs.Fields.{read_number, read_on_off, new_name}
+use Rattle.nt_line.specs.Commands.{command_of}
+use Rattle.nt_line.specs.Declarations.{isr_of, dpc_of, timer_of, thread_of, apc_of}
 use Rattle.nt_script.specs.Reading.{put_cpus, with_cpus, with_depth, with_threaded, with_isr, with_dpc, with_timer, with_thread, with_apc, with_routine, with_exit, with_command, act, start, finish, walk, names_from, reading}
-use Rattle.nt_script.specs.Fits.{IsrFits, DpcFits, TimerFits, ThreadFits, ApcFits, CommandFits}
-use Rattle.nt_script.specs.Sound.{AreNew}
-use Rattle.nt_script.proofs.Results.{bind_ok, ok_if_ok}
-use Rattle.nt_script.proofs.Fields.{number_takes}
-use Rattle.nt_script.proofs.UsedNames.{AreFew, new_name_takes}
-use Rattle.nt_script.proofs.Spelled.{apc_fields, command_takes, isr_takes, dpc_line_takes, timer_line_takes, thread_line_takes, apc_line_takes}
-use Rattle.nt_script.proofs.Found.{nowhere, NamesFit}
+use Rattle.nt_line.specs.Fits.{IsrFits, DpcFits, TimerFits, ThreadFits, ApcFits, CommandFits}
+use Rattle.nt_line.specs.NameLists.{AreNew}
+use Rattle.nt_line.proofs.Results.{bind_ok, ok_if_ok}
+use Rattle.nt_line.proofs.FieldTexts.{number_takes}
+use Rattle.nt_line.proofs.UsedNames.{AreFew, new_name_takes}
+use Rattle.nt_line.proofs.Spelled.{apc_fields, command_takes, isr_takes, dpc_line_takes, timer_line_takes, thread_line_takes, apc_line_takes}
+use Rattle.nt_line.proofs.Found.{nowhere, NamesFit}
 use Rattle.nt_script.proofs.Pairs.{one_apart}
 use Rattle.nt_script.proofs.Fit.{Fit}
 use Rattle.nt_script.proofs.Taken.{At, declared_ok, args_parts, step_ok}
@@ -51,20 +53,26 @@ all_more P (y ∷ ys) x h p = (h.0, all_more P ys x h.1 p)
 none_all : {A : Type 0} (P : A → Type 0) (xs : List A) → xs ≡ [] → AllByRecursion P xs
 none_all P xs e = rw e tt
 
-nowhere_append : (n : List ℕ) (xs ys : List (List ℕ)) (k : ℕ) → position_from (bytes_eq n) k xs ≡ None → ((j : ℕ) → position_from (bytes_eq n) j ys ≡ None) → position_from (bytes_eq n) k (xs ++ ys) ≡ None
+nowhere_append : (n : List ℕ) (xs ys : List (List ℕ)) (k : ℕ) → position_from (bytes_eq n) k xs ≡ None → ((j : ℕ) → position_from (bytes_eq n) j ys ≡ None) →
+    position_from (bytes_eq n) k (xs ++ ys) ≡ None
 nowhere_append n [] ys k e f = f k
 nowhere_append n (x ∷ xs) ys k e f = go (bytes_eq n x) e (nowhere_append n xs ys (k + 1))
   where
-    go : (b : Bool) → cond b (Some k) (position_from (bytes_eq n) (k + 1) xs) ≡ None → (position_from (bytes_eq n) (k + 1) xs ≡ None → ((j : ℕ) → position_from (bytes_eq n) j ys ≡ None) → position_from (bytes_eq n) (k + 1) (xs ++ ys) ≡ None) → cond b (Some k) (position_from (bytes_eq n) (k + 1) (xs ++ ys)) ≡ None
+    go : (b : Bool) → cond b (Some k) (position_from (bytes_eq n) (k + 1) xs) ≡ None →
+        (position_from (bytes_eq n) (k + 1) xs ≡ None → ((j : ℕ) → position_from (bytes_eq n) j ys ≡ None) → position_from (bytes_eq n) (k + 1) (xs ++ ys)
+        ≡ None) → cond b (Some k) (position_from (bytes_eq n) (k + 1) (xs ++ ys)) ≡ None
     go true e more = absurd cc
     go false e more = more e f
 
 new_more : (before ns : List (List ℕ)) (n : List ℕ) → AreNew before ns → is_name n ≡ true → place n (before ++ ns) ≡ None → AreNew before (ns ++ n ∷ [])
 new_more before [] n h named none = (named, subst (λ (b : List (List ℕ)). place n b ≡ None) (append-nil before) none, tt)
-new_more before (m ∷ ns) n h named none = (h.0, h.1, new_more (before ++ m ∷ []) ns n h.2 named (subst (λ (b : List (List ℕ)). place n b ≡ None) (sym (append_assoc before (m ∷ []) ns)) none))
+new_more before (m ∷ ns) n h named none = (h.0, h.1, new_more (before ++ m ∷ []) ns n h.2 named
+    (subst (λ (b : List (List ℕ)). place n b ≡ None) (sym (append_assoc before (m ∷ []) ns)) none))
 
 -- a name that means nothing stands in no list
-nowhere_of : (d t h a r : Option ℕ) → is_some (or_else (option_map dpc_at d) (or_else (option_map timer_at t) (or_else (option_map thread_at h) (or_else (option_map apc_at a) (option_map routine_at r))))) ≡ false → (d ≡ None) × (t ≡ None) × (h ≡ None) × (a ≡ None) × (r ≡ None)
+nowhere_of : (d t h a r : Option ℕ) → is_some (or_else (option_map dpc_at d)
+    (or_else (option_map timer_at t) (or_else (option_map thread_at h) (or_else (option_map apc_at a) (option_map routine_at r))))) ≡ false → (d ≡ None) ×
+    (t ≡ None) × (h ≡ None) × (a ≡ None) × (r ≡ None)
 nowhere_of None None None None None e = (refl, refl, refl, refl, refl)
 nowhere_of (Some i) t h a r e = absurd cc
 nowhere_of None (Some i) h a r e = absurd cc
@@ -89,50 +97,69 @@ unknown n names e =
     let t = in_neither n names.dpcs names.timers u.0 u.1 in
     let h = in_neither n (names.dpcs ++ names.timers) names.threads t u.2 in
     let a = in_neither n ((names.dpcs ++ names.timers) ++ names.threads) names.apcs h u.3 in
-    record { dpcs = u.0; timers = t; threads = h; apcs = a; routines = in_neither n (((names.dpcs ++ names.timers) ++ names.threads) ++ names.apcs) names.routines a u.4 }
+    record { dpcs = u.0; timers = t; threads = h; apcs = a;
+        routines = in_neither n (((names.dpcs ++ names.timers) ++ names.threads) ++ names.apcs) names.routines a u.4 }
 
 -- a new name behind those of its kind, where nothing stands in the kinds behind it
-fit_dpc : (names : NameLists) (n : List ℕ) → NamesFit names → names.timers ≡ [] → names.threads ≡ [] → names.apcs ≡ [] → names.routines ≡ [] → is_name n ≡ true → is_some (meaning n names) ≡ false → NamesFit (record names { dpcs = names.dpcs ++ n ∷ [] })
+fit_dpc : (names : NameLists) (n : List ℕ) → NamesFit names → names.timers ≡ [] → names.threads ≡ [] → names.apcs ≡ [] → names.routines ≡ [] → is_name n
+    ≡ true → is_some (meaning n names) ≡ false → NamesFit (record names { dpcs = names.dpcs ++ n ∷ [] })
 fit_dpc names n fit ntimers nthreads napcs nroutines named none =
     let u = unknown n names none in
-    record { dpcs = new_more [] names.dpcs n fit.dpcs named u.dpcs; timers = rw ntimers tt; threads = rw nthreads tt; apcs = rw napcs tt; routines = rw nroutines tt }
+    record { dpcs = new_more [] names.dpcs n fit.dpcs named u.dpcs; timers = rw ntimers tt; threads = rw nthreads tt; apcs = rw napcs tt;
+        routines = rw nroutines tt }
 
-fit_timer : (names : NameLists) (n : List ℕ) → NamesFit names → names.threads ≡ [] → names.apcs ≡ [] → names.routines ≡ [] → is_name n ≡ true → is_some (meaning n names) ≡ false → NamesFit (record names { timers = names.timers ++ n ∷ [] })
+fit_timer : (names : NameLists) (n : List ℕ) → NamesFit names → names.threads ≡ [] → names.apcs ≡ [] → names.routines ≡ [] → is_name n ≡ true →
+    is_some (meaning n names) ≡ false → NamesFit (record names { timers = names.timers ++ n ∷ [] })
 fit_timer names n fit nthreads napcs nroutines named none =
     let u = unknown n names none in
-    record { dpcs = fit.dpcs; timers = new_more names.dpcs names.timers n fit.timers named u.timers; threads = rw nthreads tt; apcs = rw napcs tt; routines = rw nroutines tt }
+    record { dpcs = fit.dpcs; timers = new_more names.dpcs names.timers n fit.timers named u.timers; threads = rw nthreads tt; apcs = rw napcs tt;
+        routines = rw nroutines tt }
 
-fit_thread : (names : NameLists) (n : List ℕ) → NamesFit names → names.apcs ≡ [] → names.routines ≡ [] → is_name n ≡ true → is_some (meaning n names) ≡ false → NamesFit (record names { threads = names.threads ++ n ∷ [] })
+fit_thread : (names : NameLists) (n : List ℕ) → NamesFit names → names.apcs ≡ [] → names.routines ≡ [] → is_name n ≡ true → is_some (meaning n names) ≡ false →
+    NamesFit (record names { threads = names.threads ++ n ∷ [] })
 fit_thread names n fit napcs nroutines named none =
     let u = unknown n names none in
-    record { dpcs = fit.dpcs; timers = fit.timers; threads = new_more (names.dpcs ++ names.timers) names.threads n fit.threads named u.threads; apcs = rw napcs tt; routines = rw nroutines tt }
+    record { dpcs = fit.dpcs; timers = fit.timers; threads = new_more (names.dpcs ++ names.timers) names.threads n fit.threads named u.threads;
+        apcs = rw napcs tt; routines = rw nroutines tt }
 
-fit_apc : (names : NameLists) (n : List ℕ) → NamesFit names → names.routines ≡ [] → is_name n ≡ true → is_some (meaning n names) ≡ false → NamesFit (record names { apcs = names.apcs ++ n ∷ [] })
+fit_apc : (names : NameLists) (n : List ℕ) → NamesFit names → names.routines ≡ [] → is_name n ≡ true → is_some (meaning n names) ≡ false →
+    NamesFit (record names { apcs = names.apcs ++ n ∷ [] })
 fit_apc names n fit nroutines named none =
     let u = unknown n names none in
-    record { dpcs = fit.dpcs; timers = fit.timers; threads = fit.threads; apcs = new_more ((names.dpcs ++ names.timers) ++ names.threads) names.apcs n fit.apcs named u.apcs; routines = rw nroutines tt }
+    record { dpcs = fit.dpcs; timers = fit.timers; threads = fit.threads;
+        apcs = new_more ((names.dpcs ++ names.timers) ++ names.threads) names.apcs n fit.apcs named u.apcs; routines = rw nroutines tt }
 
-fit_routine : (names : NameLists) (n : List ℕ) → NamesFit names → is_name n ≡ true → is_some (meaning n names) ≡ false → NamesFit (record names { routines = names.routines ++ n ∷ [] })
+fit_routine : (names : NameLists) (n : List ℕ) → NamesFit names → is_name n ≡ true → is_some (meaning n names) ≡ false →
+    NamesFit (record names { routines = names.routines ++ n ∷ [] })
 fit_routine names n fit named none =
     let u = unknown n names none in
-    record { dpcs = fit.dpcs; timers = fit.timers; threads = fit.threads; apcs = fit.apcs; routines = new_more (((names.dpcs ++ names.timers) ++ names.threads) ++ names.apcs) names.routines n fit.routines named u.routines }
+    record { dpcs = fit.dpcs; timers = fit.timers; threads = fit.threads; apcs = fit.apcs;
+        routines = new_more (((names.dpcs ++ names.timers) ++ names.threads) ++ names.apcs) names.routines n fit.routines named u.routines }
 
 -- ---- along the lines
+
+-- the commands of the routines so far, and how many there are
+record Commanded (all : NameLists) (cpus : ℕ) (done : List Routine) (body : List Command) (commands : ℕ) : Type 0 where
+  pub count : command_count done + length body ≡ commands
+  pub most : commands ≤ COMMANDS
+  pub routines : AllByRecursion (λ r. AllByRecursion (CommandFits all cpus) r.commands) done
+  pub body : AllByRecursion (CommandFits all cpus) body
+
+-- what is declared so far
+record Things (all : NameLists) (cpus : ℕ) (is : List Isr) (ds : List DpcDecl) (ts : List TimerDecl) (hs : List ThreadDecl) (xs : List ApcDecl) : Type 0 where
+  pub apart : isrs_differ is ≡ true
+  pub isrs : AllByRecursion (IsrFits all cpus) is
+  pub dpcs : AllByRecursion (DpcFits all) ds
+  pub timers : AllByRecursion (TimerFits all) ts
+  pub threads : AllByRecursion (ThreadFits all cpus) hs
+  pub apcs : AllByRecursion (ApcFits all) xs
 
 pub record Kept (all : NameLists) (w : Walk) : Type 0 where
   pub cpus : 1 ≤ order w.place → (1 ≤ w.script.cpus) × (w.script.cpus ≤ 8)
   pub depth : IfSome w.script.depth (λ n. n ≤ 256)
-  pub count : command_count w.script.routines + length w.body ≡ w.commands
-  pub most : w.commands ≤ 8192
   pub names : NamesFit w.names
-  pub apart : isrs_differ w.script.isrs ≡ true
-  pub isrs : AllByRecursion (IsrFits all w.script.cpus) w.script.isrs
-  pub dpcs : AllByRecursion (DpcFits all) w.script.dpcs
-  pub timers : AllByRecursion (TimerFits all) w.script.timers
-  pub threads : AllByRecursion (ThreadFits all w.script.cpus) w.script.threads
-  pub apcs : AllByRecursion (ApcFits all) w.script.apcs
-  pub routines : AllByRecursion (λ r. AllByRecursion (CommandFits all w.script.cpus) r.commands) w.script.routines
-  pub body : AllByRecursion (CommandFits all w.script.cpus) w.body
+  pub commands : Commanded all w.script.cpus w.script.routines w.body w.commands
+  pub things : Things all w.script.cpus w.script.isrs w.script.dpcs w.script.timers w.script.threads w.script.apcs
 
 one_at_least : (n : ℕ) → (n ≡ 0 → ⊥) → 1 ≤ n
 one_at_least zero f = absurd (f refl)
@@ -141,7 +168,8 @@ one_at_least (suc n) f = omega arith
 cpus_range : (w : Walk) (n : ℕ) (new : Walk) → put_cpus w n ≡ Ok new → (1 ≤ n) × (n ≤ 8)
 cpus_range w n new e = go (n == 0) (nat_lt 8 n) refl refl e
   where
-    go : (z big : Bool) → (n == 0) ≡ z → nat_lt 8 n ≡ big → cond z (Err BadNumber) (cond big (Err (TooMany what.Cpus)) (Ok (with_cpus w n))) ≡ Ok new → (1 ≤ n) × (n ≤ 8)
+    go : (z big : Bool) → (n == 0) ≡ z → nat_lt 8 n ≡ big → cond z (Err BadNumber) (cond big (Err (TooMany what.Cpus)) (Ok (with_cpus w n))) ≡ Ok new →
+        (1 ≤ n) × (n ≤ 8)
     go true big p q e = absurd cc
     go false true p q e = absurd cc
     go false false p q e = let no_zero = eqb-false n 0 p in let low = ltb-false 8 n q in (one_at_least n no_zero, low)
@@ -152,80 +180,68 @@ one_routine rs cs n e =
     let last : sum_by f (record { commands = cs } ∷ []) ≡ 0 + length cs = refl in
     omega (arith, e, last, sum_by-append f rs (record { commands = cs } ∷ []))
 
-act_kept : (all : NameLists) → AreFew all → (w : Walk) (wd : Word) (args : List (List ℕ)) (new : Walk) → At w.place wd → length args ≡ arity wd → act all w wd args ≡ Ok new → Good w → Kept all w → Kept all new
-act_kept all few w word.Cpus args new at len e good k0 =
+act_kept : (all : NameLists) → AreFew all → (w : Walk) (wd : Keyword) (args : List (List ℕ)) (new : Walk) → At w.place wd → length args ≡ arity wd →
+    act all w wd args ≡ Ok new → Good w → Kept all w → Kept all new
+act_kept all few w keyword.Cpus args new at len e good k0 =
     let b = bind_ok (read_number 4294967295 (first args)) (put_cpus w) new e in
     let n = b.value in
     let l = good.later in
     subst (Kept all) (put_cpus_ok w n new b.then) (record {
       cpus = λ h. cpus_range w n new b.then;
       depth = k0.depth;
-      count = k0.count;
-      most = k0.most;
       names = k0.names;
-      apart = k0.apart;
-      isrs = none_all (IsrFits all n) w.script.isrs (l.isrs (omega (arith, at.1)));
-      dpcs = k0.dpcs;
-      timers = k0.timers;
-      threads = none_all (ThreadFits all n) w.script.threads (l.threads (omega (arith, at.1))).1;
-      apcs = k0.apcs;
-      routines = none_all (λ (r : Routine). AllByRecursion (CommandFits all n) r.commands) w.script.routines (l.routines (omega (arith, at.1))).1;
-      body = none_all (CommandFits all n) w.body (l.closed (omega (arith, at.1))).0;
+      commands = record {
+        count = k0.commands.count;
+        most = k0.commands.most;
+        routines = none_all (λ (r : Routine). AllByRecursion (CommandFits all n) r.commands) w.script.routines (l.routines (omega (arith, at.1))).1;
+        body = none_all (CommandFits all n) w.body (l.closed (omega (arith, at.1))).0;
+      };
+      things = record {
+        apart = k0.things.apart;
+        isrs = none_all (IsrFits all n) w.script.isrs (l.isrs (omega (arith, at.1)));
+        dpcs = k0.things.dpcs;
+        timers = k0.things.timers;
+        threads = none_all (ThreadFits all n) w.script.threads (l.threads (omega (arith, at.1))).1;
+        apcs = k0.things.apcs;
+      };
     })
-act_kept all few w word.Depth args new at len e good k0 =
+act_kept all few w keyword.Depth args new at len e good k0 =
     let b = bind_ok (read_number 256 (first args)) (λ n. ok (with_depth w n)) new e in
     subst (Kept all) (ok_is (with_depth w b.value) new b.then) (record {
       cpus = λ h. k0.cpus (omega (arith, at.0));
       depth = (number_takes 256 (lit< tt)).fits (first args) b.value b.is;
-      count = k0.count;
-      most = k0.most;
       names = k0.names;
-      apart = k0.apart;
-      isrs = k0.isrs;
-      dpcs = k0.dpcs;
-      timers = k0.timers;
-      threads = k0.threads;
-      apcs = k0.apcs;
-      routines = k0.routines;
-      body = k0.body;
+      commands = k0.commands;
+      things = k0.things;
     })
-act_kept all few w word.Threaded args new at len e good k0 =
+act_kept all few w keyword.Threaded args new at len e good k0 =
     let b = bind_ok (read_on_off (first args)) (λ on. ok (with_threaded w on)) new e in
     subst (Kept all) (ok_is (with_threaded w b.value) new b.then) (record {
       cpus = λ h. k0.cpus (omega (arith, at.0));
       depth = k0.depth;
-      count = k0.count;
-      most = k0.most;
       names = k0.names;
-      apart = k0.apart;
-      isrs = k0.isrs;
-      dpcs = k0.dpcs;
-      timers = k0.timers;
-      threads = k0.threads;
-      apcs = k0.apcs;
-      routines = k0.routines;
-      body = k0.body;
+      commands = k0.commands;
+      things = k0.things;
     })
-act_kept all few w word.Isr args new at len e good k0 =
+act_kept all few w keyword.Isr args new at len e good k0 =
     let b = bind_ok (isr_of all w.script.cpus args) (λ isr. ok_if (is_none (isr_routine w.script.isrs isr.cpu isr.level)) (with_isr w isr) NameTwice) new e in
     let o = ok_if_ok (is_none (isr_routine w.script.isrs b.value.cpu b.value.level)) (with_isr w b.value) NameTwice new b.then in
     let t = isr_takes all w.script.cpus few args b.value b.is len in
     subst (Kept all) o.1 (record {
       cpus = λ h. k0.cpus (omega (arith, at.0));
       depth = k0.depth;
-      count = k0.count;
-      most = k0.most;
       names = k0.names;
-      apart = one_apart w.script.isrs b.value k0.apart o.0;
-      isrs = all_more (IsrFits all w.script.cpus) w.script.isrs b.value k0.isrs t.fits;
-      dpcs = k0.dpcs;
-      timers = k0.timers;
-      threads = k0.threads;
-      apcs = k0.apcs;
-      routines = k0.routines;
-      body = k0.body;
+      commands = k0.commands;
+      things = record {
+        apart = one_apart w.script.isrs b.value k0.things.apart o.0;
+        isrs = all_more (IsrFits all w.script.cpus) w.script.isrs b.value k0.things.isrs t.fits;
+        dpcs = k0.things.dpcs;
+        timers = k0.things.timers;
+        threads = k0.things.threads;
+        apcs = k0.things.apcs;
+      };
     })
-act_kept all few w (word.Dpc b) args new at len e good k0 =
+act_kept all few w (keyword.Dpc b) args new at len e good k0 =
     let put : List ℕ → DpcDecl → Result Walk ScriptKind = λ name x. ok_if (nat_lt (length w.script.dpcs) 256) (with_dpc w name x) (TooMany what.Dpcs) in
     let d = declared_ok w.names (dpc_of all b) put args new e in
     let o = ok_if_ok (nat_lt (length w.script.dpcs) 256) (with_dpc w d.name d.thing) (TooMany what.Dpcs) new d.made in
@@ -234,19 +250,19 @@ act_kept all few w (word.Dpc b) args new at len e good k0 =
     subst (Kept all) o.1 (record {
       cpus = λ h. k0.cpus (omega (arith, at.0));
       depth = k0.depth;
-      count = k0.count;
-      most = k0.most;
-      names = fit_dpc w.names d.name k0.names (good.later.timers (omega (arith, at.1))).0 (good.later.threads (omega (arith, at.1))).0 (good.later.apcs (omega (arith, at.1))).0 (good.later.routines (omega (arith, at.1))).0 d.named d.none;
-      apart = k0.apart;
-      isrs = k0.isrs;
-      dpcs = all_more (DpcFits all) w.script.dpcs d.thing k0.dpcs t.fits;
-      timers = k0.timers;
-      threads = k0.threads;
-      apcs = k0.apcs;
-      routines = k0.routines;
-      body = k0.body;
+      names = fit_dpc w.names d.name k0.names (good.later.timers (omega (arith, at.1))).0 (good.later.threads (omega (arith, at.1))).0
+          (good.later.apcs (omega (arith, at.1))).0 (good.later.routines (omega (arith, at.1))).0 d.named d.none;
+      commands = k0.commands;
+      things = record {
+        apart = k0.things.apart;
+        isrs = k0.things.isrs;
+        dpcs = all_more (DpcFits all) w.script.dpcs d.thing k0.things.dpcs t.fits;
+        timers = k0.things.timers;
+        threads = k0.things.threads;
+        apcs = k0.things.apcs;
+      };
     })
-act_kept all few w word.Timer args new at len e good k0 =
+act_kept all few w keyword.Timer args new at len e good k0 =
     let put : List ℕ → TimerDecl → Result Walk ScriptKind = λ name x. ok_if (nat_lt (length w.script.timers) 64) (with_timer w name x) (TooMany what.Timers) in
     let d = declared_ok w.names (timer_of all) put args new e in
     let o = ok_if_ok (nat_lt (length w.script.timers) 64) (with_timer w d.name d.thing) (TooMany what.Timers) new d.made in
@@ -255,20 +271,21 @@ act_kept all few w word.Timer args new at len e good k0 =
     subst (Kept all) o.1 (record {
       cpus = λ h. k0.cpus (omega (arith, at.0));
       depth = k0.depth;
-      count = k0.count;
-      most = k0.most;
-      names = fit_timer w.names d.name k0.names (good.later.threads (omega (arith, at.1))).0 (good.later.apcs (omega (arith, at.1))).0 (good.later.routines (omega (arith, at.1))).0 d.named d.none;
-      apart = k0.apart;
-      isrs = k0.isrs;
-      dpcs = k0.dpcs;
-      timers = all_more (TimerFits all) w.script.timers d.thing k0.timers t.fits;
-      threads = k0.threads;
-      apcs = k0.apcs;
-      routines = k0.routines;
-      body = k0.body;
+      names = fit_timer w.names d.name k0.names (good.later.threads (omega (arith, at.1))).0 (good.later.apcs (omega (arith, at.1))).0
+          (good.later.routines (omega (arith, at.1))).0 d.named d.none;
+      commands = k0.commands;
+      things = record {
+        apart = k0.things.apart;
+        isrs = k0.things.isrs;
+        dpcs = k0.things.dpcs;
+        timers = all_more (TimerFits all) w.script.timers d.thing k0.things.timers t.fits;
+        threads = k0.things.threads;
+        apcs = k0.things.apcs;
+      };
     })
-act_kept all few w word.Thread args new at len e good k0 =
-    let put : List ℕ → ThreadDecl → Result Walk ScriptKind = λ name x. ok_if (nat_lt (length w.script.threads) 64) (with_thread w name x) (TooMany what.Threads) in
+act_kept all few w keyword.Thread args new at len e good k0 =
+    let put : List ℕ → ThreadDecl → Result Walk ScriptKind = λ name x. ok_if (nat_lt (length w.script.threads) 64) (with_thread w name x)
+        (TooMany what.Threads) in
     let d = declared_ok w.names (thread_of all w.script.cpus) put args new e in
     let o = ok_if_ok (nat_lt (length w.script.threads) 64) (with_thread w d.name d.thing) (TooMany what.Threads) new d.made in
     let a = args_parts args 2 len in
@@ -276,19 +293,18 @@ act_kept all few w word.Thread args new at len e good k0 =
     subst (Kept all) o.1 (record {
       cpus = λ h. k0.cpus (omega (arith, at.0));
       depth = k0.depth;
-      count = k0.count;
-      most = k0.most;
       names = fit_thread w.names d.name k0.names (good.later.apcs (omega (arith, at.1))).0 (good.later.routines (omega (arith, at.1))).0 d.named d.none;
-      apart = k0.apart;
-      isrs = k0.isrs;
-      dpcs = k0.dpcs;
-      timers = k0.timers;
-      threads = all_more (ThreadFits all w.script.cpus) w.script.threads d.thing k0.threads t.fits;
-      apcs = k0.apcs;
-      routines = k0.routines;
-      body = k0.body;
+      commands = k0.commands;
+      things = record {
+        apart = k0.things.apart;
+        isrs = k0.things.isrs;
+        dpcs = k0.things.dpcs;
+        timers = k0.things.timers;
+        threads = all_more (ThreadFits all w.script.cpus) w.script.threads d.thing k0.things.threads t.fits;
+        apcs = k0.things.apcs;
+      };
     })
-act_kept all few w (word.Apc k) args new at len e good k0 =
+act_kept all few w (keyword.Apc k) args new at len e good k0 =
     let put : List ℕ → ApcDecl → Result Walk ScriptKind = λ name x. ok_if (nat_lt (length w.script.apcs) 256) (with_apc w name x) (TooMany what.Apcs) in
     let d = declared_ok w.names (apc_of all k) put args new e in
     let o = ok_if_ok (nat_lt (length w.script.apcs) 256) (with_apc w d.name d.thing) (TooMany what.Apcs) new d.made in
@@ -297,54 +313,44 @@ act_kept all few w (word.Apc k) args new at len e good k0 =
     subst (Kept all) o.1 (record {
       cpus = λ h. k0.cpus (omega (arith, at.0));
       depth = k0.depth;
-      count = k0.count;
-      most = k0.most;
       names = fit_apc w.names d.name k0.names (good.later.routines (omega (arith, at.1))).0 d.named d.none;
-      apart = k0.apart;
-      isrs = k0.isrs;
-      dpcs = k0.dpcs;
-      timers = k0.timers;
-      threads = k0.threads;
-      apcs = all_more (ApcFits all) w.script.apcs d.thing k0.apcs t.fits;
-      routines = k0.routines;
-      body = k0.body;
+      commands = k0.commands;
+      things = record {
+        apart = k0.things.apart;
+        isrs = k0.things.isrs;
+        dpcs = k0.things.dpcs;
+        timers = k0.things.timers;
+        threads = k0.things.threads;
+        apcs = all_more (ApcFits all) w.script.apcs d.thing k0.things.apcs t.fits;
+      };
     })
-act_kept all few w word.Routine args new at len e good k0 =
-    let b = bind_ok (new_name w.names (first args)) (λ (name : List ℕ). ok_if (nat_lt (length w.script.routines) 256) (with_routine w name) (TooMany what.Routines)) new e in
+act_kept all few w keyword.Routine args new at len e good k0 =
+    let b = bind_ok (new_name w.names (first args)) (λ (name : List ℕ). ok_if (nat_lt (length w.script.routines) 256) (with_routine w name)
+        (TooMany what.Routines)) new e in
     let o = ok_if_ok (nat_lt (length w.script.routines) 256) (with_routine w b.value) (TooMany what.Routines) new b.then in
     let f = (new_name_takes w.names).fits (first args) b.value b.is in
     subst (Kept all) o.1 (record {
       cpus = λ h. k0.cpus (omega (arith, at.0));
       depth = k0.depth;
-      count = k0.count;
-      most = k0.most;
       names = fit_routine w.names b.value k0.names f.0 f.1;
-      apart = k0.apart;
-      isrs = k0.isrs;
-      dpcs = k0.dpcs;
-      timers = k0.timers;
-      threads = k0.threads;
-      apcs = k0.apcs;
-      routines = k0.routines;
-      body = k0.body;
+      commands = k0.commands;
+      things = k0.things;
     })
-act_kept all few w word.Exit args new at len e good k0 =
+act_kept all few w keyword.Exit args new at len e good k0 =
     subst (Kept all) (ok_is (with_exit w) new e) (record {
       cpus = λ h. k0.cpus (omega (arith, at.0));
       depth = k0.depth;
-      count = one_routine w.script.routines w.body w.commands k0.count;
-      most = k0.most;
       names = k0.names;
-      apart = k0.apart;
-      isrs = k0.isrs;
-      dpcs = k0.dpcs;
-      timers = k0.timers;
-      threads = k0.threads;
-      apcs = k0.apcs;
-      routines = all_more (λ (r : Routine). AllByRecursion (CommandFits all w.script.cpus) r.commands) w.script.routines (record { commands = w.body }) k0.routines k0.body;
-      body = tt;
+      commands = record {
+        count = one_routine w.script.routines w.body w.commands k0.commands.count;
+        most = k0.commands.most;
+        routines = all_more (λ (r : Routine). AllByRecursion (CommandFits all w.script.cpus) r.commands) w.script.routines
+            (record { commands = w.body }) k0.commands.routines k0.commands.body;
+        body = tt;
+      };
+      things = k0.things;
     })
-act_kept all few w (word.Call verb) args new at len e good k0 =
+act_kept all few w (keyword.Call verb) args new at len e good k0 =
     let b = bind_ok (command_of all w.script.cpus verb args) (λ c. ok_if (nat_lt w.commands 8192) (with_command w c) (TooMany what.Commands)) new e in
     let c = b.value in
     let t = command_takes all w.script.cpus few verb args c b.is len in
@@ -353,17 +359,14 @@ act_kept all few w (word.Call verb) args new at len e good k0 =
     subst (Kept all) o.1 (record {
       cpus = λ h. k0.cpus (omega (arith, at.0));
       depth = k0.depth;
-      count = omega (arith, k0.count, length-append w.body (c ∷ []));
-      most = omega arith;
       names = k0.names;
-      apart = k0.apart;
-      isrs = k0.isrs;
-      dpcs = k0.dpcs;
-      timers = k0.timers;
-      threads = k0.threads;
-      apcs = k0.apcs;
-      routines = k0.routines;
-      body = all_more (CommandFits all w.script.cpus) w.body c k0.body t.fits;
+      commands = record {
+        count = omega (arith, k0.commands.count, length-append w.body (c ∷ []));
+        most = omega arith;
+        routines = k0.commands.routines;
+        body = all_more (CommandFits all w.script.cpus) w.body c k0.commands.body t.fits;
+      };
+      things = k0.things;
     })
 
 -- ---- all lines
@@ -372,17 +375,21 @@ kept_start : (all : NameLists) → Kept all start
 kept_start all = record {
   cpus = λ h. absurd (omega (arith, h));
   depth = tt;
-  count = refl;
-  most = omega arith;
   names = record { dpcs = tt; timers = tt; threads = tt; apcs = tt; routines = tt };
-  apart = refl;
-  isrs = tt;
-  dpcs = tt;
-  timers = tt;
-  threads = tt;
-  apcs = tt;
-  routines = tt;
-  body = tt;
+  commands = record {
+    count = refl;
+    most = omega arith;
+    routines = tt;
+    body = tt;
+  };
+  things = record {
+    apart = refl;
+    isrs = tt;
+    dpcs = tt;
+    timers = tt;
+    threads = tt;
+    apcs = tt;
+  };
 }
 
 abbrev TextLine : Type 0
@@ -397,13 +404,14 @@ record Sane (all : NameLists) (input : Input) : Type 0 where
   pub good : Good last
   pub few : AreFew last.names
 
-sane : (all : NameLists) → AreFew all → (w : Walk) (n : ℕ) (ls : List TextLine) (input : Input) → walk all w n ls ≡ Ok input → Good w → AreFew w.names → Kept all w → Sane all input
+sane : (all : NameLists) → AreFew all → (w : Walk) (n : ℕ) (ls : List TextLine) (input : Input) → walk all w n ls ≡ Ok input → Good w → AreFew w.names →
+    Kept all w → Sane all input
 sane all small w n [] input e good few kept = record { last = w; number = n; finishes = e; kept = kept; good = good; few = few }
 sane all small w n (line ∷ more) input e good few kept =
     let t = went all w n line more input e in
     let s = step_named all w t.row t.new t.steps good few in
     let l = step_ok all w t.row t.new t.steps in
-    sane all small t.new (n + 1) more input t.goes_on s.good s.few (act_kept all small w l.word (rest t.row) t.new l.at l.count l.acts good kept)
+    sane all small t.new (n + 1) more input t.goes_on s.good s.few (act_kept all small w l.keyword (rest t.row) t.new l.at l.count l.acts good kept)
 
 -- what is read fits
 pub reading_fits : (bytes : List ℕ) (input : Input) → reading bytes ≡ Ok input → Fit input
@@ -426,13 +434,13 @@ reading_fits bytes input e =
       thread_count = s.good.threads;
       apc_count = s.good.apcs;
       routine_count = closed.1;
-      command_count = omega (arith, k.count, k.most);
+      command_count = omega (arith, k.commands.count, k.commands.most);
       names = k.names;
-      apart = k.apart;
-      isrs = k.isrs;
-      dpcs = k.dpcs;
-      timers = k.timers;
-      threads = k.threads;
-      apcs = k.apcs;
-      routines = k.routines;
+      apart = k.things.apart;
+      isrs = k.things.isrs;
+      dpcs = k.things.dpcs;
+      timers = k.things.timers;
+      threads = k.things.threads;
+      apcs = k.things.apcs;
+      routines = k.commands.routines;
     })

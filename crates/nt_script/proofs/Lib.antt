@@ -1,9 +1,3 @@
-pub mod Columns
-pub mod Results
-pub mod Fields
-pub mod UsedNames
-pub mod Spelled
-pub mod Found
 pub mod SoFar
 pub mod Taken
 pub mod Steps

@@ -13,7 +13,8 @@ pub none_is : (xs : List Isr) (p : CpuNo) (level : ℕ) → is_none (isr_of xs p
 none_is [] p level = refl
 none_is (x ∷ xs) p level = go (is_isr_of p level x) (none_is xs p level)
   where
-    go : (b : Bool) → is_none (option_map (λ (i : Isr). i.routine) (find (is_isr_of p level) xs)) ≡ not (list_any (is_isr_of p level) xs) → is_none (option_map (λ (i : Isr). i.routine) (cond b (Some x) (find (is_isr_of p level) xs))) ≡ not (b || list_any (is_isr_of p level) xs)
+    go : (b : Bool) → is_none (option_map (λ (i : Isr). i.routine) (find (is_isr_of p level) xs)) ≡ not (list_any (is_isr_of p level) xs) →
+        is_none (option_map (λ (i : Isr). i.routine) (cond b (Some x) (find (is_isr_of p level) xs))) ≡ not (b || list_any (is_isr_of p level) xs)
     go true e = refl
     go false e = e
 
@@ -32,7 +33,8 @@ apart_at [] x more e = refl
 apart_at (y ∷ ys) x more e =
     let b = and_parts (not (stands_in (ys ++ x ∷ more) y.cpu y.level)) (isrs_differ (ys ++ x ∷ more)) e in
     let none : stands_in (ys ++ x ∷ more) y.cpu y.level ≡ false = not-true _ b.0 in
-    let parts = or_parts (stands_in ys y.cpu y.level) (stands_in (x ∷ more) y.cpu y.level) (sym (list_any-append (is_isr_of y.cpu y.level) ys (x ∷ more)) ∙ none) in
+    let parts = or_parts (stands_in ys y.cpu y.level) (stands_in (x ∷ more) y.cpu y.level)
+        (sym (list_any-append (is_isr_of y.cpu y.level) ys (x ∷ more)) ∙ none) in
     let here = or_parts (is_isr_of y.cpu y.level x) (stands_in more y.cpu y.level) parts.1 in
     or_from (is_isr_of x.cpu x.level y) (stands_in ys x.cpu x.level) (same_pair x y ∙ here.0) (apart_at ys x more b.1)
 
@@ -48,5 +50,7 @@ one_apart xs x e none = go xs e (not-true (stands_in xs x.cpu x.level) (sym (non
     go (y ∷ ys) e n =
         let b = and_parts (not (stands_in ys y.cpu y.level)) (isrs_differ ys) e in
         let p = or_parts (is_isr_of x.cpu x.level y) (stands_in ys x.cpu x.level) n in
-        let there : stands_in (ys ++ x ∷ []) y.cpu y.level ≡ false = list_any-append (is_isr_of y.cpu y.level) ys (x ∷ []) ∙ or_from (stands_in ys y.cpu y.level) (stands_in (x ∷ []) y.cpu y.level) (not-true (stands_in ys y.cpu y.level) b.0) (or_from (is_isr_of y.cpu y.level x) false (sym (same_pair x y) ∙ p.0) refl) in
+        let there : stands_in (ys ++ x ∷ []) y.cpu y.level ≡ false = list_any-append (is_isr_of y.cpu y.level) ys (x ∷ [])
+            ∙ or_from (stands_in ys y.cpu y.level) (stands_in (x ∷ []) y.cpu y.level) (not-true (stands_in ys y.cpu y.level) b.0)
+            (or_from (is_isr_of y.cpu y.level x) false (sym (same_pair x y) ∙ p.0) refl) in
         and_from (not (stands_in (ys ++ x ∷ []) y.cpu y.level)) (isrs_differ (ys ++ x ∷ [])) (not_from_false _ there) (go ys b.1 p.1)

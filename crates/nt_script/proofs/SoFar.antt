@@ -3,19 +3,22 @@ use Rattle.std.proofs.Common.{◌≡◌, ℕ, suc, ◌≤◌, Bool, List, [], �
 use Rattle.std.proofs.lemmas.List.{map-append, append-nil}
 use Rattle.nt_event.specs.declared.scripts.Routine.{Routine}
 use Rattle.nt_event.specs.declared.commands.Command.{Command}
-use Rattle.nt_script.specs.declared.words.Word.TheVariants as word
-use Rattle.nt_script.specs.declared.words.Place.{Place}
-use Rattle.nt_script.specs.declared.words.Place.TheVariants.{Start, HasCpus, HasDepth, HasThreaded, InIsrs, InDpcs, InTimers, InThreads, InApcs, InRoutines, InRoutine}
+use Rattle.nt_line.specs.declared.keywords.Keyword.TheVariants as keyword
+use Rattle.nt_line.specs.declared.keywords.Place.{Place}
+use Rattle.nt_line.specs.declared.keywords.Place.TheVariants.{Start, HasCpus, HasDepth, HasThreaded, InIsrs, InDpcs, InTimers, InThreads, InApcs, InRoutines, InRoutine}
 use Rattle.nt_script.specs.declared.walk.Walk.{Walk}
-use Rattle.nt_script.specs.NameLists.{NameLists}
-use Rattle.nt_script.specs.Words.{text_of, order}
-use Rattle.nt_script.specs.Text.{Row, command_row, header_rows, isr_row, dpc_row, timer_row, thread_row, apc_row, declared_rows, begun_rows, exit_row, routine_rows}
+use Rattle.nt_line.specs.NameLists.{NameLists}
+use Rattle.nt_line.specs.Keywords.{text_of, order}
+use Rattle.nt_text.specs.Lines.{Row}
+use Rattle.nt_line.specs.Rows.{command_row, isr_row, dpc_row, timer_row, thread_row, apc_row}
+use Rattle.nt_script.specs.Text.{header_rows, declared_rows, begun_rows, exit_row, routine_rows}
 
 abbrev pub heads_at : Place → ℕ → Option ℕ → Option Bool → List Row
 heads_at Start cpus depth threaded = []
 heads_at _ cpus depth threaded = header_rows cpus depth threaded
 
-pub has_head : (p : Place) (cpus : ℕ) (depth : Option ℕ) (threaded : Option Bool) → 1 ≤ order p → heads_at p cpus depth threaded ≡ header_rows cpus depth threaded
+pub has_head : (p : Place) (cpus : ℕ) (depth : Option ℕ) (threaded : Option Bool) → 1 ≤ order p → heads_at p cpus depth threaded
+    ≡ header_rows cpus depth threaded
 has_head Start c d t h = absurd (omega (arith, h))
 has_head HasCpus c d t h = refl
 has_head HasDepth c d t h = refl
@@ -65,13 +68,16 @@ so_far all w = joined (heads w.place w) (isrs all w) (dpcs all w) (timers all w)
 
 -- ---- a part grows, and the parts behind it are empty
 
-pub grow_heads : (h h' i d t s a o x : List Row) → h' ≡ h ++ x → i ≡ [] → d ≡ [] → t ≡ [] → s ≡ [] → a ≡ [] → o ≡ [] → joined h' i d t s a o ≡ joined h i d t s a o ++ x
+pub grow_heads : (h h' i d t s a o x : List Row) → h' ≡ h ++ x → i ≡ [] → d ≡ [] → t ≡ [] → s ≡ [] → a ≡ [] → o ≡ [] → joined h' i d t s a o
+    ≡ joined h i d t s a o ++ x
 grow_heads h h' i d t s a o x eh ei ed et es ea eo = rw (eh, ei, ed, et, es, ea, eo) (simp append-nil)
 
-pub grow_isrs : (h h' i i' d t s a o x : List Row) → h' ≡ h → i' ≡ i ++ x → d ≡ [] → t ≡ [] → s ≡ [] → a ≡ [] → o ≡ [] → joined h' i' d t s a o ≡ joined h i d t s a o ++ x
+pub grow_isrs : (h h' i i' d t s a o x : List Row) → h' ≡ h → i' ≡ i ++ x → d ≡ [] → t ≡ [] → s ≡ [] → a ≡ [] → o ≡ [] → joined h' i' d t s a o
+    ≡ joined h i d t s a o ++ x
 grow_isrs h h' i i' d t s a o x eh ex ed et es ea eo = rw (eh, ex, ed, et, es, ea, eo) (simp (append_assoc, append-nil))
 
-pub grow_dpcs : (h h' i d d' t s a o x : List Row) → h' ≡ h → d' ≡ d ++ x → t ≡ [] → s ≡ [] → a ≡ [] → o ≡ [] → joined h' i d' t s a o ≡ joined h i d t s a o ++ x
+pub grow_dpcs : (h h' i d d' t s a o x : List Row) → h' ≡ h → d' ≡ d ++ x → t ≡ [] → s ≡ [] → a ≡ [] → o ≡ [] → joined h' i d' t s a o ≡ joined h i d t s a o
+    ++ x
 grow_dpcs h h' i d d' t s a o x eh ex et es ea eo = rw (eh, ex, et, es, ea, eo) (simp (append_assoc, append-nil))
 
 pub grow_timers : (h h' i d t t' s a o x : List Row) → h' ≡ h → t' ≡ t ++ x → s ≡ [] → a ≡ [] → o ≡ [] → joined h' i d t' s a o ≡ joined h i d t s a o ++ x
@@ -88,7 +94,8 @@ grow_routines h h' i d t s a o o' x eh ex = rw (eh, ex) (simp (append_assoc))
 
 -- ---- one more
 
-pub declared_more : {A : Type 0} (row : List ℕ → A → Row) (ns : List (List ℕ)) (xs : List A) (n : List ℕ) (x : A) → length ns ≡ length xs → declared_rows row (ns ++ n ∷ []) (xs ++ x ∷ []) ≡ declared_rows row ns xs ++ row n x ∷ []
+pub declared_more : {A : Type 0} (row : List ℕ → A → Row) (ns : List (List ℕ)) (xs : List A) (n : List ℕ) (x : A) → length ns ≡ length xs →
+    declared_rows row (ns ++ n ∷ []) (xs ++ x ∷ []) ≡ declared_rows row ns xs ++ row n x ∷ []
 declared_more row [] [] n x e = refl
 declared_more row [] (y ∷ ys) n x e = absurd (omega arith)
 declared_more row (m ∷ ns) [] n x e = absurd (omega arith)
@@ -101,28 +108,36 @@ pub none_opened : (all : NameLists) (body : List Command) (ns : List (List ℕ))
 none_opened all body ns rs e = rw e refl
 
 -- a routine begins
-pub routine_more : (all : NameLists) (ns : List (List ℕ)) (rs : List Routine) (n : List ℕ) → length ns ≡ length rs → open_rows all [] (ns ++ n ∷ []) rs ≡ open_rows all [] ns rs ++ (text_of word.Routine ∷ n ∷ []) ∷ []
+pub routine_more : (all : NameLists) (ns : List (List ℕ)) (rs : List Routine) (n : List ℕ) → length ns ≡ length rs → open_rows all [] (ns ++ n ∷ []) rs
+    ≡ open_rows all [] ns rs ++ (text_of keyword.Routine ∷ n ∷ []) ∷ []
 routine_more all [] [] n e = refl
 routine_more all [] (r ∷ rs) n e = absurd (omega arith)
 routine_more all (n' ∷ ns) [] n e = absurd (omega arith)
-routine_more all (n' ∷ ns) (r ∷ rs) n e = rw (routine_more all ns rs n (omega arith)) (sym (append_assoc (begun_rows all n' r.commands ++ exit_row ∷ []) (open_rows all [] ns rs) ((text_of word.Routine ∷ n ∷ []) ∷ [])))
+routine_more all (n' ∷ ns) (r ∷ rs) n e = rw (routine_more all ns rs n (omega arith))
+    (sym (append_assoc (begun_rows all n' r.commands ++ exit_row ∷ []) (open_rows all [] ns rs) ((text_of keyword.Routine ∷ n ∷ []) ∷ [])))
 
 -- a command more
-pub command_more : (all : NameLists) (body : List Command) (ns : List (List ℕ)) (rs : List Routine) (c : Command) → length ns ≡ suc (length rs) → open_rows all (body ++ c ∷ []) ns rs ≡ open_rows all body ns rs ++ command_row all c ∷ []
+pub command_more : (all : NameLists) (body : List Command) (ns : List (List ℕ)) (rs : List Routine) (c : Command) → length ns ≡ suc (length rs) →
+    open_rows all (body ++ c ∷ []) ns rs ≡ open_rows all body ns rs ++ command_row all c ∷ []
 command_more all body [] rs c e = absurd (omega arith)
-command_more all body (n ∷ ns) [] c e = ap (λ (rows : List Row). (text_of word.Routine ∷ n ∷ []) ∷ rows) (map-append (command_row all) body (c ∷ []))
-command_more all body (n ∷ ns) (r ∷ rs) c e = rw (command_more all body ns rs c (omega arith)) (sym (append_assoc (begun_rows all n r.commands ++ exit_row ∷ []) (open_rows all body ns rs) (command_row all c ∷ [])))
+command_more all body (n ∷ ns) [] c e = ap (λ (rows : List Row). (text_of keyword.Routine ∷ n ∷ []) ∷ rows) (map-append (command_row all) body (c ∷ []))
+command_more all body (n ∷ ns) (r ∷ rs) c e = rw (command_more all body ns rs c (omega arith))
+    (sym (append_assoc (begun_rows all n r.commands ++ exit_row ∷ []) (open_rows all body ns rs) (command_row all c ∷ [])))
 
 -- a routine ends
-pub exit_more : (all : NameLists) (body : List Command) (ns : List (List ℕ)) (rs : List Routine) → length ns ≡ suc (length rs) → open_rows all [] ns (rs ++ record { commands = body } ∷ []) ≡ open_rows all body ns rs ++ exit_row ∷ []
+pub exit_more : (all : NameLists) (body : List Command) (ns : List (List ℕ)) (rs : List Routine) → length ns ≡ suc (length rs) →
+    open_rows all [] ns (rs ++ record { commands = body } ∷ []) ≡ open_rows all body ns rs ++ exit_row ∷ []
 exit_more all body [] rs e = absurd (omega arith)
 exit_more all body (n ∷ []) [] e = append-nil (begun_rows all n body ++ exit_row ∷ [])
 exit_more all body (n ∷ n' ∷ ns) [] e = absurd (omega arith)
-exit_more all body (n ∷ ns) (r ∷ rs) e = rw (exit_more all body ns rs (omega arith)) (sym (append_assoc (begun_rows all n r.commands ++ exit_row ∷ []) (open_rows all body ns rs) (exit_row ∷ [])))
+exit_more all body (n ∷ ns) (r ∷ rs) e = rw (exit_more all body ns rs (omega arith))
+    (sym (append_assoc (begun_rows all n r.commands ++ exit_row ∷ []) (open_rows all body ns rs) (exit_row ∷ [])))
 
 -- where each routine has ended
-pub all_ended : (all : NameLists) (ns : List (List ℕ)) (rs : List Routine) (body : List Command) → length ns ≡ length rs → open_rows all body ns rs ≡ routine_rows all ns rs
+pub all_ended : (all : NameLists) (ns : List (List ℕ)) (rs : List Routine) (body : List Command) → length ns ≡ length rs → open_rows all body ns rs
+    ≡ routine_rows all ns rs
 all_ended all [] [] body e = refl
 all_ended all [] (r ∷ rs) body e = refl
 all_ended all (n ∷ ns) [] body e = absurd (omega arith)
-all_ended all (n ∷ ns) (r ∷ rs) body e = ap (λ (rows : List Row). (begun_rows all n r.commands ++ exit_row ∷ []) ++ rows) (all_ended all ns rs body (omega arith))
+all_ended all (n ∷ ns) (r ∷ rs) body e = ap (λ (rows : List Row). (begun_rows all n r.commands ++ exit_row ∷ []) ++ rows)
+    (all_ended all ns rs body (omega arith))

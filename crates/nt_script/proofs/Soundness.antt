@@ -13,17 +13,20 @@ use Rattle.nt_event.specs.declared.scripts.Isr.{Isr}
 use Rattle.nt_event.specs.declared.scripts.TimerDecl.{TimerDecl}
 use Rattle.nt_event.specs.declared.scripts.ThreadDecl.{ThreadDecl}
 use Rattle.nt_event.specs.declared.scripts.ApcDecl.{ApcDecl}
-use Rattle.nt_event.specs.Script.{has_cpu, has_thread, has_dpc, has_routine, where_given, is_requested_level, is_isr_level, command_count, meets_limits, isr_fits, isrs_differ, dpc_fits, timer_fits, thread_fits, apc_has_its_routines, apc_fits, command_fits, routine_fits}
+use Rattle.nt_event.specs.Script.{has_cpu, has_thread, has_dpc, has_routine, where_given, command_count, meets_limits, isr_fits, isrs_differ, dpc_fits, timer_fits, thread_fits, apc_has_its_routines, apc_fits, command_fits, routine_fits}
+use Rattle.nt_event.specs.Classes.{is_requested_level, is_isr_level}
 use Rattle.nt_script.specs.declared.walk.Input.{Input}
-use Rattle.nt_script.specs.NameLists.{NameLists}
-use Rattle.nt_script.specs.Fits.{IsrFits, DpcFits, TimerFits, ThreadFits, ApcFits, CommandFits}
-use Rattle.nt_script.specs.Sound.{HasRange, IsSound}
-use Rattle.nt_script.proofs.Found.{names_fit, all_new}
+use Rattle.nt_line.specs.NameLists.{NameLists}
+use Rattle.nt_line.specs.Fits.{IsrFits, DpcFits, TimerFits, ThreadFits, ApcFits, CommandFits}
+use Rattle.nt_line.specs.Fits.{HasRange}
+use Rattle.nt_script.specs.Sound.{IsSound}
+use Rattle.nt_line.proofs.Found.{names_fit, all_new}
 use Rattle.nt_script.proofs.Fit.{Fit}
 
 -- ---- tests and what they say
 
-eight : (a b c d e f g h : Bool) → (a && b && c && d && e && f && g && h) ≡ true → (a ≡ true) × (b ≡ true) × (c ≡ true) × (d ≡ true) × (e ≡ true) × (f ≡ true) × (g ≡ true) × (h ≡ true)
+eight : (a b c d e f g h : Bool) → (a && b && c && d && e && f && g && h) ≡ true → (a ≡ true) × (b ≡ true) × (c ≡ true) × (d ≡ true) × (e ≡ true) ×
+    (f ≡ true) × (g ≡ true) × (h ≡ true)
 eight a b c d e f g h e0 =
     let p7 = and_parts (a && b && c && d && e && f && g) h e0 in
     let p6 = and_parts (a && b && c && d && e && f) g p7.0 in
@@ -34,10 +37,12 @@ eight a b c d e f g h e0 =
     let p1 = and_parts (a) b p2.0 in
     (p1.0, p1.1, p2.1, p3.1, p4.1, p5.1, p6.1, p7.1)
 
-eight_from : (a b c d e f g h : Bool) → a ≡ true → b ≡ true → c ≡ true → d ≡ true → e ≡ true → f ≡ true → g ≡ true → h ≡ true → (a && b && c && d && e && f && g && h) ≡ true
+eight_from : (a b c d e f g h : Bool) → a ≡ true → b ≡ true → c ≡ true → d ≡ true → e ≡ true → f ≡ true → g ≡ true → h ≡ true →
+    (a && b && c && d && e && f && g && h) ≡ true
 eight_from a b c d e f g h ea eb ec ed ee ef eg eh = rw (ea, eb, ec, ed, ee, ef, eg, eh) refl
 
-nine : (a b c d e f g h i : Bool) → (a && b && c && d && e && f && g && h && i) ≡ true → (a ≡ true) × (b ≡ true) × (c ≡ true) × (d ≡ true) × (e ≡ true) × (f ≡ true) × (g ≡ true) × (h ≡ true) × (i ≡ true)
+nine : (a b c d e f g h i : Bool) → (a && b && c && d && e && f && g && h && i) ≡ true → (a ≡ true) × (b ≡ true) × (c ≡ true) × (d ≡ true) × (e ≡ true) ×
+    (f ≡ true) × (g ≡ true) × (h ≡ true) × (i ≡ true)
 nine a b c d e f g h i e0 =
     let p8 = and_parts (a && b && c && d && e && f && g && h) i e0 in
     let p7 = and_parts (a && b && c && d && e && f && g) h p8.0 in
@@ -49,7 +54,8 @@ nine a b c d e f g h i e0 =
     let p1 = and_parts (a) b p2.0 in
     (p1.0, p1.1, p2.1, p3.1, p4.1, p5.1, p6.1, p7.1, p8.1)
 
-nine_from : (a b c d e f g h i : Bool) → a ≡ true → b ≡ true → c ≡ true → d ≡ true → e ≡ true → f ≡ true → g ≡ true → h ≡ true → i ≡ true → (a && b && c && d && e && f && g && h && i) ≡ true
+nine_from : (a b c d e f g h i : Bool) → a ≡ true → b ≡ true → c ≡ true → d ≡ true → e ≡ true → f ≡ true → g ≡ true → h ≡ true → i ≡ true →
+    (a && b && c && d && e && f && g && h && i) ≡ true
 nine_from a b c d e f g h i ea eb ec ed ee ef eg eh ei = rw (ea, eb, ec, ed, ee, ef, eg, eh, ei) refl
 
 three : (a b c : Bool) → (a && b && c) ≡ true → (a ≡ true) × (b ≡ true) × (c ≡ true)
@@ -130,10 +136,12 @@ isr_from s names cs x e =
     (ltb-true x.cpu.0 s.cpus t.0, isr_level_low x.level t.1, t.1, routine_from s names cs x.routine t.2)
 
 isr_to : (s : Script) (names : NameLists) → Counts s names → (x : Isr) → IsrFits names s.cpus x → isr_fits s x ≡ true
-isr_to s names cs x h = and_from (has_cpu s x.cpu && is_isr_level x.level) (has_routine s x.routine) (and_from (has_cpu s x.cpu) (is_isr_level x.level) (lt-ltb x.cpu.0 s.cpus h.0) h.2) (routine_to s names cs x.routine h.3)
+isr_to s names cs x h = and_from (has_cpu s x.cpu && is_isr_level x.level) (has_routine s x.routine)
+    (and_from (has_cpu s x.cpu) (is_isr_level x.level) (lt-ltb x.cpu.0 s.cpus h.0) h.2) (routine_to s names cs x.routine h.3)
 
 thread_from : (s : Script) (names : NameLists) → Counts s names → (x : ThreadDecl) → thread_fits s x ≡ true → ThreadFits names s.cpus x
-thread_from s names cs x e = let b = and_parts (has_cpu s x.cpu) (has_routine s x.routine) e in (ltb-true x.cpu.0 s.cpus b.0, routine_from s names cs x.routine b.1)
+thread_from s names cs x e = let b = and_parts (has_cpu s x.cpu) (has_routine s x.routine) e in
+    (ltb-true x.cpu.0 s.cpus b.0, routine_from s names cs x.routine b.1)
 
 thread_to : (s : Script) (names : NameLists) → Counts s names → (x : ThreadDecl) → ThreadFits names s.cpus x → thread_fits s x ≡ true
 thread_to s names cs x h = and_from (has_cpu s x.cpu) (has_routine s x.routine) (lt-ltb x.cpu.0 s.cpus h.0) (routine_to s names cs x.routine h.1)
@@ -146,7 +154,8 @@ timer_to s names cs x h = given_to (has_dpc s) (λ d. d.0 < length names.dpcs) (
 
 apc_from : (s : Script) (names : NameLists) → Counts s names → (x : ApcDecl) → apc_fits s x ≡ true → ApcFits names x
 apc_from s names cs x e =
-    let f = five (has_thread s x.thread) (has_routine s x.kernel) (where_given (has_routine s) x.normal) (where_given (has_routine s) x.rundown) (apc_has_its_routines x.kind x.normal x.rundown) e in
+    let f = five (has_thread s x.thread) (has_routine s x.kernel) (where_given (has_routine s) x.normal) (where_given (has_routine s) x.rundown)
+        (apc_has_its_routines x.kind x.normal x.rundown) e in
     record {
       thread = below x.thread.0 (length names.threads) (length s.threads) cs.threads f.0;
       kernel = routine_from s names cs x.kernel f.1;
@@ -161,9 +170,11 @@ apc_to s names cs x h =
     let k = routine_to s names cs x.kernel h.kernel in
     let n = given_to (has_routine s) (λ r. r.0 < length names.routines) (routine_to s names cs) x.normal h.normal in
     let d = given_to (has_routine s) (λ r. r.0 < length names.routines) (routine_to s names cs) x.rundown h.rundown in
-    and_from (has_thread s x.thread && has_routine s x.kernel && where_given (has_routine s) x.normal && where_given (has_routine s) x.rundown) (apc_has_its_routines x.kind x.normal x.rundown)
+    and_from (has_thread s x.thread && has_routine s x.kernel && where_given (has_routine s) x.normal && where_given (has_routine s) x.rundown)
+        (apc_has_its_routines x.kind x.normal x.rundown)
     (and_from (has_thread s x.thread && has_routine s x.kernel && where_given (has_routine s) x.normal) (where_given (has_routine s) x.rundown)
-    (and_from (has_thread s x.thread && has_routine s x.kernel) (where_given (has_routine s) x.normal) (and_from (has_thread s x.thread) (has_routine s x.kernel) t k) n) d) h.routines
+    (and_from (has_thread s x.thread && has_routine s x.kernel) (where_given (has_routine s) x.normal)
+        (and_from (has_thread s x.thread) (has_routine s x.kernel) t k) n) d) h.routines
 
 pub command_from : (s : Script) (names : NameLists) → Counts s names → (c : Command) → command_fits s c ≡ true → HasRange c → CommandFits names s.cpus c
 command_from s names cs (cmd.Raise level) e h = h
@@ -171,7 +182,8 @@ command_from s names cs (cmd.Lower level) e h = h
 command_from s names cs (cmd.Queue d) e h = below d.0 (length names.dpcs) (length s.dpcs) cs.dpcs e
 command_from s names cs (cmd.Unqueue d) e h = below d.0 (length names.dpcs) (length s.dpcs) cs.dpcs e
 command_from s names cs (cmd.SetImportance d importance) e h = (below d.0 (length names.dpcs) (length s.dpcs) cs.dpcs e, tt)
-command_from s names cs (cmd.SetTarget d target) e h = (let b = and_parts (has_dpc s d) (where_given (has_cpu s) target) e in (below d.0 (length names.dpcs) (length s.dpcs) cs.dpcs b.0, given_from (has_cpu s) (λ p. p.0 < s.cpus) (λ p t. ltb-true p.0 s.cpus t) target b.1))
+command_from s names cs (cmd.SetTarget d target) e h = (let b = and_parts (has_dpc s d) (where_given (has_cpu s) target) e in
+    (below d.0 (length names.dpcs) (length s.dpcs) cs.dpcs b.0, given_from (has_cpu s) (λ p. p.0 < s.cpus) (λ p t. ltb-true p.0 s.cpus t) target b.1))
 command_from s names cs (cmd.SetTimer t due period) e h = (below t.0 (length names.timers) (length s.timers) cs.timers e, h.0, h.1)
 command_from s names cs (cmd.CancelTimer t) e h = below t.0 (length names.timers) (length s.timers) cs.timers e
 command_from s names cs (cmd.InsertApc a) e h = below a.0 (length names.apcs) (length s.apcs) cs.apcs e
@@ -185,7 +197,8 @@ command_from s names cs (cmd.Delay mode alertable units) e h = (tt, tt, h)
 command_from s names cs (cmd.Release t) e h = below t.0 (length names.threads) (length s.threads) cs.threads e
 command_from s names cs (cmd.Alert t mode) e h = (below t.0 (length names.threads) (length s.threads) cs.threads e, tt)
 command_from s names cs (cmd.TestAlert mode) e h = tt
-command_from s names cs (cmd.Interrupt cpu level) e h = (let b = and_parts (has_cpu s cpu) (is_requested_level level) e in (ltb-true cpu.0 s.cpus b.0, (requested_low level b.1, b.1)))
+command_from s names cs (cmd.Interrupt cpu level) e h = (let b = and_parts (has_cpu s cpu) (is_requested_level level) e in
+    (ltb-true cpu.0 s.cpus b.0, (requested_low level b.1, b.1)))
 command_from s names cs (cmd.Clock units) e h = h
 command_from s names cs cmd.ToUser e h = tt
 command_from s names cs cmd.Yield e h = tt
@@ -197,7 +210,8 @@ command_to s names cs (cmd.Lower level) h = (refl, h)
 command_to s names cs (cmd.Queue d) h = (below_test d.0 (length names.dpcs) (length s.dpcs) cs.dpcs h, tt)
 command_to s names cs (cmd.Unqueue d) h = (below_test d.0 (length names.dpcs) (length s.dpcs) cs.dpcs h, tt)
 command_to s names cs (cmd.SetImportance d importance) h = (below_test d.0 (length names.dpcs) (length s.dpcs) cs.dpcs h.0, tt)
-command_to s names cs (cmd.SetTarget d target) h = (and_from (has_dpc s d) (where_given (has_cpu s) target) (below_test d.0 (length names.dpcs) (length s.dpcs) cs.dpcs h.0) (given_to (has_cpu s) (λ p. p.0 < s.cpus) (λ p t. lt-ltb p.0 s.cpus t) target h.1), tt)
+command_to s names cs (cmd.SetTarget d target) h = (and_from (has_dpc s d) (where_given (has_cpu s) target)
+    (below_test d.0 (length names.dpcs) (length s.dpcs) cs.dpcs h.0) (given_to (has_cpu s) (λ p. p.0 < s.cpus) (λ p t. lt-ltb p.0 s.cpus t) target h.1), tt)
 command_to s names cs (cmd.SetTimer t due period) h = (below_test t.0 (length names.timers) (length s.timers) cs.timers h.0, (h.1, h.2))
 command_to s names cs (cmd.CancelTimer t) h = (below_test t.0 (length names.timers) (length s.timers) cs.timers h, tt)
 command_to s names cs (cmd.InsertApc a) h = (below_test a.0 (length names.apcs) (length s.apcs) cs.apcs h, tt)
@@ -217,22 +231,29 @@ command_to s names cs cmd.ToUser h = (refl, tt)
 command_to s names cs cmd.Yield h = (refl, tt)
 command_to s names cs (cmd.Note number) h = (refl, h)
 
-commands_from : (s : Script) (names : NameLists) → Counts s names → (cs : List Command) → list_all (command_fits s) cs ≡ true → AllByRecursion HasRange cs → AllByRecursion (CommandFits names s.cpus) cs
+commands_from : (s : Script) (names : NameLists) → Counts s names → (cs : List Command) → list_all (command_fits s) cs ≡ true → AllByRecursion HasRange cs →
+    AllByRecursion (CommandFits names s.cpus) cs
 commands_from s names n [] e h = tt
-commands_from s names n (c ∷ cs) e h = let b = and_parts (command_fits s c) (list_all (command_fits s) cs) e in (command_from s names n c b.0 h.0, commands_from s names n cs b.1 h.1)
+commands_from s names n (c ∷ cs) e h = let b = and_parts (command_fits s c) (list_all (command_fits s) cs) e in
+    (command_from s names n c b.0 h.0, commands_from s names n cs b.1 h.1)
 
-commands_to : (s : Script) (names : NameLists) → Counts s names → (cs : List Command) → AllByRecursion (CommandFits names s.cpus) cs → (list_all (command_fits s) cs ≡ true) × AllByRecursion HasRange cs
+commands_to : (s : Script) (names : NameLists) → Counts s names → (cs : List Command) → AllByRecursion (CommandFits names s.cpus) cs →
+    (list_all (command_fits s) cs ≡ true) × AllByRecursion HasRange cs
 commands_to s names n [] h = (refl, tt)
 commands_to s names n (c ∷ cs) h =
     let b = command_to s names n c h.0 in
     let r = commands_to s names n cs h.1 in
     (and_from (command_fits s c) (list_all (command_fits s) cs) b.0 r.0, (b.1, r.1))
 
-routines_from : (s : Script) (names : NameLists) → Counts s names → (rs : List Routine) → list_all (routine_fits s) rs ≡ true → AllByRecursion (λ r. AllByRecursion HasRange r.commands) rs → AllByRecursion (λ r. AllByRecursion (CommandFits names s.cpus) r.commands) rs
+routines_from : (s : Script) (names : NameLists) → Counts s names → (rs : List Routine) → list_all (routine_fits s) rs ≡ true →
+    AllByRecursion (λ r. AllByRecursion HasRange r.commands) rs → AllByRecursion (λ r. AllByRecursion (CommandFits names s.cpus) r.commands) rs
 routines_from s names n [] e h = tt
-routines_from s names n (r ∷ rs) e h = let b = and_parts (routine_fits s r) (list_all (routine_fits s) rs) e in (commands_from s names n r.commands b.0 h.0, routines_from s names n rs b.1 h.1)
+routines_from s names n (r ∷ rs) e h = let b = and_parts (routine_fits s r) (list_all (routine_fits s) rs) e in
+    (commands_from s names n r.commands b.0 h.0, routines_from s names n rs b.1 h.1)
 
-routines_to : (s : Script) (names : NameLists) → Counts s names → (rs : List Routine) → AllByRecursion (λ r. AllByRecursion (CommandFits names s.cpus) r.commands) rs → (list_all (routine_fits s) rs ≡ true) × AllByRecursion (λ r. AllByRecursion HasRange r.commands) rs
+routines_to : (s : Script) (names : NameLists) → Counts s names → (rs : List Routine) →
+    AllByRecursion (λ r. AllByRecursion (CommandFits names s.cpus) r.commands) rs → (list_all (routine_fits s) rs ≡ true) ×
+    AllByRecursion (λ r. AllByRecursion HasRange r.commands) rs
 routines_to s names n [] h = (refl, tt)
 routines_to s names n (r ∷ rs) h =
     let b = commands_to s names n r.commands h.0 in
@@ -246,8 +267,11 @@ sound_fits input i =
     let s = input.script in
     let names = input.names in
     let cs : Counts s names = record { dpcs = i.dpcs; timers = i.timers; threads = i.threads; apcs = i.apcs; routines = i.routines } in
-    let f = eight (meets_limits s) (list_all (isr_fits s) s.isrs) (isrs_differ s.isrs) (list_all (dpc_fits s) s.dpcs) (list_all (timer_fits s) s.timers) (list_all (thread_fits s) s.threads) (list_all (apc_fits s) s.apcs) (list_all (routine_fits s) s.routines) i.fits in
-    let m = nine (nat_le 1 s.cpus) (nat_le s.cpus 64) (where_given (λ depth. nat_le depth 256) s.depth) (nat_le (length s.threads) 64) (nat_le (length s.timers) 64) (nat_le (length s.dpcs) 256) (nat_le (length s.apcs) 256) (nat_le (length s.routines) 256) (nat_le (command_count s.routines) 8192) f.0 in
+    let f = eight (meets_limits s) (list_all (isr_fits s) s.isrs) (isrs_differ s.isrs) (list_all (dpc_fits s) s.dpcs) (list_all (timer_fits s) s.timers)
+        (list_all (thread_fits s) s.threads) (list_all (apc_fits s) s.apcs) (list_all (routine_fits s) s.routines) i.fits in
+    let m = nine (nat_le 1 s.cpus) (nat_le s.cpus 64) (where_given (λ depth. nat_le depth 256) s.depth) (nat_le (length s.threads) 64)
+        (nat_le (length s.timers) 64) (nat_le (length s.dpcs) 256) (nat_le (length s.apcs) 256) (nat_le (length s.routines) 256)
+        (nat_le (command_count s.routines) 8192) f.0 in
     let at_most : (n most k : ℕ) → k ≡ n → nat_le n most ≡ true → k ≤ most = λ n most k e t. (let le = leb-true n most t in omega (arith, e, le)) in
     record {
       cpus = (leb-true 1 s.cpus m.0, i.cpus);
@@ -281,15 +305,24 @@ fit_sound input i =
     let names = input.names in
     let cs : Counts s names = record { dpcs = i.dpc_count; timers = i.timer_count; threads = i.thread_count; apcs = i.apc_count; routines = i.routine_count } in
     let at_most : (n most k : ℕ) → k ≡ n → k ≤ most → nat_le n most ≡ true = λ n most k e h. le-leb n most (omega (arith, e, h)) in
-    let limits : meets_limits s ≡ true = nine_from (nat_le 1 s.cpus) (nat_le s.cpus 64) (where_given (λ depth. nat_le depth 256) s.depth) (nat_le (length s.threads) 64) (nat_le (length s.timers) 64) (nat_le (length s.dpcs) 256) (nat_le (length s.apcs) 256) (nat_le (length s.routines) 256) (nat_le (command_count s.routines) 8192)
-    (le-leb 1 s.cpus i.cpus.0) (le-leb s.cpus 64 (omega (arith, i.cpus.1))) (given_to (λ depth. nat_le depth 256) (λ n. n ≤ 256) (λ n h. le-leb n 256 h) s.depth i.depth)
-    (at_most (length s.threads) 64 (length names.threads) i.thread_count i.few.threads) (at_most (length s.timers) 64 (length names.timers) i.timer_count i.few.timers) (at_most (length s.dpcs) 256 (length names.dpcs) i.dpc_count i.few.dpcs)
-    (at_most (length s.apcs) 256 (length names.apcs) i.apc_count i.few.apcs) (at_most (length s.routines) 256 (length names.routines) i.routine_count i.few.routines) (le-leb (command_count s.routines) 8192 i.command_count) in
+    let limits : meets_limits s ≡ true = nine_from (nat_le 1 s.cpus) (nat_le s.cpus 64) (where_given (λ depth. nat_le depth 256) s.depth)
+        (nat_le (length s.threads) 64) (nat_le (length s.timers) 64) (nat_le (length s.dpcs) 256) (nat_le (length s.apcs) 256) (nat_le (length s.routines) 256)
+        (nat_le (command_count s.routines) 8192)
+    (le-leb 1 s.cpus i.cpus.0) (le-leb s.cpus 64 (omega (arith, i.cpus.1)))
+        (given_to (λ depth. nat_le depth 256) (λ n. n ≤ 256) (λ n h. le-leb n 256 h) s.depth i.depth)
+    (at_most (length s.threads) 64 (length names.threads) i.thread_count i.few.threads)
+        (at_most (length s.timers) 64 (length names.timers) i.timer_count i.few.timers) (at_most (length s.dpcs) 256 (length names.dpcs) i.dpc_count i.few.dpcs)
+    (at_most (length s.apcs) 256 (length names.apcs) i.apc_count i.few.apcs)
+        (at_most (length s.routines) 256 (length names.routines) i.routine_count i.few.routines) (le-leb (command_count s.routines) 8192 i.command_count) in
     let r = routines_to s names cs s.routines i.routines in
     record {
-      fits = eight_from (meets_limits s) (list_all (isr_fits s) s.isrs) (isrs_differ s.isrs) (list_all (dpc_fits s) s.dpcs) (list_all (timer_fits s) s.timers) (list_all (thread_fits s) s.threads) (list_all (apc_fits s) s.apcs) (list_all (routine_fits s) s.routines)
-          limits (all_to (isr_fits s) (IsrFits names s.cpus) (isr_to s names cs) s.isrs i.isrs) i.apart (all_to (dpc_fits s) (DpcFits names) (λ d h. routine_to s names cs d.routine h) s.dpcs i.dpcs) (all_to (timer_fits s) (TimerFits names) (timer_to s names cs) s.timers i.timers)
-          (all_to (thread_fits s) (ThreadFits names s.cpus) (thread_to s names cs) s.threads i.threads) (all_to (apc_fits s) (ApcFits names) (apc_to s names cs) s.apcs i.apcs) r.0;
+      fits = eight_from (meets_limits s) (list_all (isr_fits s) s.isrs) (isrs_differ s.isrs) (list_all (dpc_fits s) s.dpcs) (list_all (timer_fits s) s.timers)
+          (list_all (thread_fits s) s.threads) (list_all (apc_fits s) s.apcs) (list_all (routine_fits s) s.routines)
+          limits (all_to (isr_fits s) (IsrFits names s.cpus) (isr_to s names cs) s.isrs i.isrs) i.apart
+              (all_to (dpc_fits s) (DpcFits names) (λ d h. routine_to s names cs d.routine h) s.dpcs i.dpcs)
+              (all_to (timer_fits s) (TimerFits names) (timer_to s names cs) s.timers i.timers)
+          (all_to (thread_fits s) (ThreadFits names s.cpus) (thread_to s names cs) s.threads i.threads)
+              (all_to (apc_fits s) (ApcFits names) (apc_to s names cs) s.apcs i.apcs) r.0;
       cpus = i.cpus.1;
       ranges = r.1;
       dpcs = i.dpc_count;

@@ -10,15 +10,17 @@ use Rattle.nt_event.specs.declared.scripts.DpcDecl.{DpcDecl}
 use Rattle.nt_event.specs.declared.scripts.TimerDecl.{TimerDecl}
 use Rattle.nt_event.specs.declared.scripts.ThreadDecl.{ThreadDecl}
 use Rattle.nt_event.specs.declared.scripts.ApcDecl.{ApcDecl}
-use Rattle.nt_script.specs.declared.words.Word.TheVariants as word
-use Rattle.nt_script.specs.declared.words.Place.{Place}
-use Rattle.nt_script.specs.declared.words.Place.TheVariants.{Start, HasCpus, HasDepth, HasThreaded, InIsrs, InDpcs, InTimers, InThreads, InApcs, InRoutines, InRoutine}
+use Rattle.nt_line.specs.declared.keywords.Keyword.TheVariants as keyword
+use Rattle.nt_line.specs.declared.keywords.Place.{Place}
+use Rattle.nt_line.specs.declared.keywords.Place.TheVariants.{Start, HasCpus, HasDepth, HasThreaded, InIsrs, InDpcs, InTimers, InThreads, InApcs, InRoutines, InRoutine}
 use Rattle.nt_script.specs.declared.walk.Walk.{Walk}
-use Rattle.nt_script.specs.NameLists.{NameLists}
-use Rattle.nt_script.specs.Words.{text_of, order}
-use Rattle.nt_script.specs.Slots.{on_off_text}
+use Rattle.nt_line.specs.NameLists.{NameLists}
+use Rattle.nt_line.specs.Keywords.{text_of, order}
+use Rattle.nt_line.specs.Fields.{on_off_text}
 use Rattle.nt_script.specs.Reading.{put_cpus, with_cpus, with_depth, with_threaded, with_isr, with_dpc, with_timer, with_thread, with_apc, with_routine, with_exit, with_command}
-use Rattle.nt_script.specs.Text.{Row, command_row, number_row, depth_rows, isr_row, dpc_row, timer_row, thread_row, apc_row, exit_row}
+use Rattle.nt_text.specs.Lines.{Row}
+use Rattle.nt_line.specs.Rows.{command_row, number_row, depth_rows, isr_row, dpc_row, timer_row, thread_row, apc_row}
+use Rattle.nt_script.specs.Text.{exit_row}
 use Rattle.nt_script.proofs.SoFar.{heads_at, has_head, heads, isrs, dpcs, timers, threads, apcs, routines, so_far, grow_heads, grow_isrs, grow_dpcs, grow_timers, grow_threads, grow_apcs, grow_routines, declared_more, none_declared, none_opened, routine_more, command_more, exit_more}
 
 -- nothing stands there of the parts behind the place with this number
@@ -53,6 +55,25 @@ one_more xs x n e = omega (arith, e, length-append xs (x ∷ []))
 
 no_isrs : (all : NameLists) (w : Walk) → w.script.isrs ≡ [] → isrs all w ≡ []
 no_isrs all w e = rw e refl
+
+-- no row stands there of the parts behind the place with this number
+record Nothing (k : ℕ) (all : NameLists) (w : Walk) : Type 0 where
+  pub no_isrs : k ≤ 3 → isrs all w ≡ []
+  pub no_dpcs : k ≤ 4 → dpcs all w ≡ []
+  pub no_timers : k ≤ 5 → timers all w ≡ []
+  pub no_threads : k ≤ 6 → threads all w ≡ []
+  pub no_apcs : k ≤ 7 → apcs all w ≡ []
+  pub no_routines : k ≤ 8 → routines all w ≡ []
+
+nothing : (all : NameLists) (w : Walk) → Good w → Nothing (order w.place) all w
+nothing all w g = record {
+  no_isrs = λ h. no_isrs all w (g.later.isrs h);
+  no_dpcs = λ h. none_declared (dpc_row all) w.names.dpcs w.script.dpcs (g.later.dpcs h).0;
+  no_timers = λ h. none_declared (timer_row all) w.names.timers w.script.timers (g.later.timers h).0;
+  no_threads = λ h. none_declared (thread_row all) w.names.threads w.script.threads (g.later.threads h).0;
+  no_apcs = λ h. none_declared (apc_row all) w.names.apcs w.script.apcs (g.later.apcs h).0;
+  no_routines = λ h. none_opened all w.body w.names.routines w.script.routines (g.later.routines h).0;
+}
 
 -- ---- the head
 
@@ -94,12 +115,16 @@ cpus_later w n at g = record {
 pub cpus_good : (w : Walk) (n : ℕ) → Between 0 0 w.place → Good w → Good (with_cpus w n)
 cpus_good w n at g = record { dpcs = g.dpcs; timers = g.timers; threads = g.threads; apcs = g.apcs; later = cpus_later w n at g }
 
-pub cpus_taken : (all : NameLists) (w : Walk) (n : ℕ) → Between 0 0 w.place → Good w → so_far all (with_cpus w n) ≡ so_far all w ++ number_row word.Cpus n ∷ []
+pub cpus_taken : (all : NameLists) (w : Walk) (n : ℕ) → Between 0 0 w.place → Good w → so_far all (with_cpus w n) ≡ so_far all w
+    ++ number_row keyword.Cpus n ∷ []
 cpus_taken all w n at g =
+    let no = nothing all w g in
     let none = at_start w.place w.script.cpus w.script.depth w.script.threaded at.1 in
-    grow_heads (heads w.place w) (heads HasCpus (with_cpus w n)) (isrs all w) (dpcs all w) (timers all w) (threads all w) (apcs all w) (routines all w) (number_row word.Cpus n ∷ [])
+    grow_heads (heads w.place w) (heads HasCpus (with_cpus w n)) (isrs all w) (dpcs all w) (timers all w) (threads all w) (apcs all w) (routines all w)
+        (number_row keyword.Cpus n ∷ [])
     (rw (none, g.later.depth (omega (arith, at.1)), g.later.threaded (omega (arith, at.1))) refl)
-    (no_isrs all w (g.later.isrs (omega (arith, at.1)))) (none_declared (dpc_row all) w.names.dpcs w.script.dpcs (g.later.dpcs (omega (arith, at.1))).0) (none_declared (timer_row all) w.names.timers w.script.timers (g.later.timers (omega (arith, at.1))).0) (none_declared (thread_row all) w.names.threads w.script.threads (g.later.threads (omega (arith, at.1))).0) (none_declared (apc_row all) w.names.apcs w.script.apcs (g.later.apcs (omega (arith, at.1))).0) (none_opened all w.body w.names.routines w.script.routines (g.later.routines (omega (arith, at.1))).0)
+    (no.no_isrs (omega (arith, at.1))) (no.no_dpcs (omega (arith, at.1))) (no.no_timers (omega (arith, at.1))) (no.no_threads (omega (arith, at.1)))
+        (no.no_apcs (omega (arith, at.1))) (no.no_routines (omega (arith, at.1)))
 
 depth_later : (w : Walk) (n : ℕ) → Between 1 1 w.place → Good w → Later 2 (with_depth w n)
 depth_later w n at g = record {
@@ -118,12 +143,16 @@ depth_later w n at g = record {
 pub depth_good : (w : Walk) (n : ℕ) → Between 1 1 w.place → Good w → Good (with_depth w n)
 depth_good w n at g = record { dpcs = g.dpcs; timers = g.timers; threads = g.threads; apcs = g.apcs; later = depth_later w n at g }
 
-pub depth_taken : (all : NameLists) (w : Walk) (n : ℕ) → Between 1 1 w.place → Good w → so_far all (with_depth w n) ≡ so_far all w ++ number_row word.Depth n ∷ []
+pub depth_taken : (all : NameLists) (w : Walk) (n : ℕ) → Between 1 1 w.place → Good w → so_far all (with_depth w n) ≡ so_far all w
+    ++ number_row keyword.Depth n ∷ []
 depth_taken all w n at g =
+    let no = nothing all w g in
     let there = has_head w.place w.script.cpus w.script.depth w.script.threaded at.0 in
-    grow_heads (heads w.place w) (heads HasDepth (with_depth w n)) (isrs all w) (dpcs all w) (timers all w) (threads all w) (apcs all w) (routines all w) (number_row word.Depth n ∷ [])
+    grow_heads (heads w.place w) (heads HasDepth (with_depth w n)) (isrs all w) (dpcs all w) (timers all w) (threads all w) (apcs all w) (routines all w)
+        (number_row keyword.Depth n ∷ [])
     (rw (there, g.later.depth (omega (arith, at.1)), g.later.threaded (omega (arith, at.1))) refl)
-    (no_isrs all w (g.later.isrs (omega (arith, at.1)))) (none_declared (dpc_row all) w.names.dpcs w.script.dpcs (g.later.dpcs (omega (arith, at.1))).0) (none_declared (timer_row all) w.names.timers w.script.timers (g.later.timers (omega (arith, at.1))).0) (none_declared (thread_row all) w.names.threads w.script.threads (g.later.threads (omega (arith, at.1))).0) (none_declared (apc_row all) w.names.apcs w.script.apcs (g.later.apcs (omega (arith, at.1))).0) (none_opened all w.body w.names.routines w.script.routines (g.later.routines (omega (arith, at.1))).0)
+    (no.no_isrs (omega (arith, at.1))) (no.no_dpcs (omega (arith, at.1))) (no.no_timers (omega (arith, at.1))) (no.no_threads (omega (arith, at.1)))
+        (no.no_apcs (omega (arith, at.1))) (no.no_routines (omega (arith, at.1)))
 
 threaded_later : (w : Walk) (on : Bool) → Between 1 2 w.place → Good w → Later 3 (with_threaded w on)
 threaded_later w on at g = record {
@@ -146,13 +175,17 @@ threaded_good w on at g = record { dpcs = g.dpcs; timers = g.timers; threads = g
 last_head : (h : Row) (rows : List Row) (r : Row) → h ∷ (rows ++ r ∷ []) ≡ (h ∷ (rows ++ [])) ++ r ∷ []
 last_head h rows r = rw (append-nil rows) refl
 
-pub threaded_taken : (all : NameLists) (w : Walk) (on : Bool) → Between 1 2 w.place → Good w → so_far all (with_threaded w on) ≡ so_far all w ++ (text_of word.Threaded ∷ on_off_text on ∷ []) ∷ []
+pub threaded_taken : (all : NameLists) (w : Walk) (on : Bool) → Between 1 2 w.place → Good w → so_far all (with_threaded w on) ≡ so_far all w
+    ++ (text_of keyword.Threaded ∷ on_off_text on ∷ []) ∷ []
 threaded_taken all w on at g =
+    let no = nothing all w g in
     let there = has_head w.place w.script.cpus w.script.depth w.script.threaded at.0 in
-    let row = text_of word.Threaded ∷ on_off_text on ∷ [] in
-    grow_heads (heads w.place w) (heads HasThreaded (with_threaded w on)) (isrs all w) (dpcs all w) (timers all w) (threads all w) (apcs all w) (routines all w) (row ∷ [])
-    (rw (there, g.later.threaded (omega (arith, at.1))) (last_head (number_row word.Cpus w.script.cpus) (depth_rows w.script.depth) row))
-    (no_isrs all w (g.later.isrs (omega (arith, at.1)))) (none_declared (dpc_row all) w.names.dpcs w.script.dpcs (g.later.dpcs (omega (arith, at.1))).0) (none_declared (timer_row all) w.names.timers w.script.timers (g.later.timers (omega (arith, at.1))).0) (none_declared (thread_row all) w.names.threads w.script.threads (g.later.threads (omega (arith, at.1))).0) (none_declared (apc_row all) w.names.apcs w.script.apcs (g.later.apcs (omega (arith, at.1))).0) (none_opened all w.body w.names.routines w.script.routines (g.later.routines (omega (arith, at.1))).0)
+    let row = text_of keyword.Threaded ∷ on_off_text on ∷ [] in
+    grow_heads (heads w.place w) (heads HasThreaded (with_threaded w on)) (isrs all w) (dpcs all w) (timers all w) (threads all w) (apcs all w)
+        (routines all w) (row ∷ [])
+    (rw (there, g.later.threaded (omega (arith, at.1))) (last_head (number_row keyword.Cpus w.script.cpus) (depth_rows w.script.depth) row))
+    (no.no_isrs (omega (arith, at.1))) (no.no_dpcs (omega (arith, at.1))) (no.no_timers (omega (arith, at.1))) (no.no_threads (omega (arith, at.1)))
+        (no.no_apcs (omega (arith, at.1))) (no.no_routines (omega (arith, at.1)))
 
 -- ---- the parts
 
@@ -175,8 +208,12 @@ isr_good w x at g = record { dpcs = g.dpcs; timers = g.timers; threads = g.threa
 
 pub isr_taken : (all : NameLists) (w : Walk) (x : Isr) → Between 1 4 w.place → Good w → so_far all (with_isr w x) ≡ so_far all w ++ isr_row all x ∷ []
 isr_taken all w x at g =
-    grow_isrs (heads w.place w) (heads InIsrs w) (isrs all w) (isrs all (with_isr w x)) (dpcs all w) (timers all w) (threads all w) (apcs all w) (routines all w) (isr_row all x ∷ []) (sym (has_head w.place w.script.cpus w.script.depth w.script.threaded at.0)) (map-append (isr_row all) w.script.isrs (x ∷ []))
-    (none_declared (dpc_row all) w.names.dpcs w.script.dpcs (g.later.dpcs (omega (arith, at.1))).0) (none_declared (timer_row all) w.names.timers w.script.timers (g.later.timers (omega (arith, at.1))).0) (none_declared (thread_row all) w.names.threads w.script.threads (g.later.threads (omega (arith, at.1))).0) (none_declared (apc_row all) w.names.apcs w.script.apcs (g.later.apcs (omega (arith, at.1))).0) (none_opened all w.body w.names.routines w.script.routines (g.later.routines (omega (arith, at.1))).0)
+    let no = nothing all w g in
+    grow_isrs (heads w.place w) (heads InIsrs w) (isrs all w) (isrs all (with_isr w x)) (dpcs all w) (timers all w) (threads all w) (apcs all w)
+        (routines all w) (isr_row all x ∷ []) (sym (has_head w.place w.script.cpus w.script.depth w.script.threaded at.0))
+        (map-append (isr_row all) w.script.isrs (x ∷ []))
+    (no.no_dpcs (omega (arith, at.1))) (no.no_timers (omega (arith, at.1))) (no.no_threads (omega (arith, at.1))) (no.no_apcs (omega (arith, at.1)))
+        (no.no_routines (omega (arith, at.1)))
 
 dpc_later : (w : Walk) (name : List ℕ) (x : DpcDecl) → Between 1 5 w.place → Good w → Later 5 (with_dpc w name x)
 dpc_later w name x at g = record {
@@ -193,12 +230,17 @@ dpc_later w name x at g = record {
 }
 
 pub dpc_good : (w : Walk) (name : List ℕ) (x : DpcDecl) → Between 1 5 w.place → Good w → Good (with_dpc w name x)
-dpc_good w name x at g = record { dpcs = one_longer w.names.dpcs w.script.dpcs name x g.dpcs; timers = g.timers; threads = g.threads; apcs = g.apcs; later = dpc_later w name x at g }
+dpc_good w name x at g = record { dpcs = one_longer w.names.dpcs w.script.dpcs name x g.dpcs; timers = g.timers; threads = g.threads; apcs = g.apcs;
+    later = dpc_later w name x at g }
 
-pub dpc_taken : (all : NameLists) (w : Walk) (name : List ℕ) (x : DpcDecl) → Between 1 5 w.place → Good w → so_far all (with_dpc w name x) ≡ so_far all w ++ dpc_row all name x ∷ []
+pub dpc_taken : (all : NameLists) (w : Walk) (name : List ℕ) (x : DpcDecl) → Between 1 5 w.place → Good w → so_far all (with_dpc w name x) ≡ so_far all w
+    ++ dpc_row all name x ∷ []
 dpc_taken all w name x at g =
-    grow_dpcs (heads w.place w) (heads InDpcs w) (isrs all w) (dpcs all w) (dpcs all (with_dpc w name x)) (timers all w) (threads all w) (apcs all w) (routines all w) (dpc_row all name x ∷ []) (sym (has_head w.place w.script.cpus w.script.depth w.script.threaded at.0)) (declared_more (dpc_row all) w.names.dpcs w.script.dpcs name x g.dpcs)
-    (none_declared (timer_row all) w.names.timers w.script.timers (g.later.timers (omega (arith, at.1))).0) (none_declared (thread_row all) w.names.threads w.script.threads (g.later.threads (omega (arith, at.1))).0) (none_declared (apc_row all) w.names.apcs w.script.apcs (g.later.apcs (omega (arith, at.1))).0) (none_opened all w.body w.names.routines w.script.routines (g.later.routines (omega (arith, at.1))).0)
+    let no = nothing all w g in
+    grow_dpcs (heads w.place w) (heads InDpcs w) (isrs all w) (dpcs all w) (dpcs all (with_dpc w name x)) (timers all w) (threads all w) (apcs all w)
+        (routines all w) (dpc_row all name x ∷ []) (sym (has_head w.place w.script.cpus w.script.depth w.script.threaded at.0))
+        (declared_more (dpc_row all) w.names.dpcs w.script.dpcs name x g.dpcs)
+    (no.no_timers (omega (arith, at.1))) (no.no_threads (omega (arith, at.1))) (no.no_apcs (omega (arith, at.1))) (no.no_routines (omega (arith, at.1)))
 
 timer_later : (w : Walk) (name : List ℕ) (x : TimerDecl) → Between 1 6 w.place → Good w → Later 6 (with_timer w name x)
 timer_later w name x at g = record {
@@ -215,12 +257,17 @@ timer_later w name x at g = record {
 }
 
 pub timer_good : (w : Walk) (name : List ℕ) (x : TimerDecl) → Between 1 6 w.place → Good w → Good (with_timer w name x)
-timer_good w name x at g = record { dpcs = g.dpcs; timers = one_longer w.names.timers w.script.timers name x g.timers; threads = g.threads; apcs = g.apcs; later = timer_later w name x at g }
+timer_good w name x at g = record { dpcs = g.dpcs; timers = one_longer w.names.timers w.script.timers name x g.timers; threads = g.threads; apcs = g.apcs;
+    later = timer_later w name x at g }
 
-pub timer_taken : (all : NameLists) (w : Walk) (name : List ℕ) (x : TimerDecl) → Between 1 6 w.place → Good w → so_far all (with_timer w name x) ≡ so_far all w ++ timer_row all name x ∷ []
+pub timer_taken : (all : NameLists) (w : Walk) (name : List ℕ) (x : TimerDecl) → Between 1 6 w.place → Good w → so_far all (with_timer w name x) ≡ so_far all w
+    ++ timer_row all name x ∷ []
 timer_taken all w name x at g =
-    grow_timers (heads w.place w) (heads InTimers w) (isrs all w) (dpcs all w) (timers all w) (timers all (with_timer w name x)) (threads all w) (apcs all w) (routines all w) (timer_row all name x ∷ []) (sym (has_head w.place w.script.cpus w.script.depth w.script.threaded at.0)) (declared_more (timer_row all) w.names.timers w.script.timers name x g.timers)
-    (none_declared (thread_row all) w.names.threads w.script.threads (g.later.threads (omega (arith, at.1))).0) (none_declared (apc_row all) w.names.apcs w.script.apcs (g.later.apcs (omega (arith, at.1))).0) (none_opened all w.body w.names.routines w.script.routines (g.later.routines (omega (arith, at.1))).0)
+    let no = nothing all w g in
+    grow_timers (heads w.place w) (heads InTimers w) (isrs all w) (dpcs all w) (timers all w) (timers all (with_timer w name x)) (threads all w) (apcs all w)
+        (routines all w) (timer_row all name x ∷ []) (sym (has_head w.place w.script.cpus w.script.depth w.script.threaded at.0))
+        (declared_more (timer_row all) w.names.timers w.script.timers name x g.timers)
+    (no.no_threads (omega (arith, at.1))) (no.no_apcs (omega (arith, at.1))) (no.no_routines (omega (arith, at.1)))
 
 thread_later : (w : Walk) (name : List ℕ) (x : ThreadDecl) → Between 1 7 w.place → Good w → Later 7 (with_thread w name x)
 thread_later w name x at g = record {
@@ -237,12 +284,17 @@ thread_later w name x at g = record {
 }
 
 pub thread_good : (w : Walk) (name : List ℕ) (x : ThreadDecl) → Between 1 7 w.place → Good w → Good (with_thread w name x)
-thread_good w name x at g = record { dpcs = g.dpcs; timers = g.timers; threads = one_longer w.names.threads w.script.threads name x g.threads; apcs = g.apcs; later = thread_later w name x at g }
+thread_good w name x at g = record { dpcs = g.dpcs; timers = g.timers; threads = one_longer w.names.threads w.script.threads name x g.threads; apcs = g.apcs;
+    later = thread_later w name x at g }
 
-pub thread_taken : (all : NameLists) (w : Walk) (name : List ℕ) (x : ThreadDecl) → Between 1 7 w.place → Good w → so_far all (with_thread w name x) ≡ so_far all w ++ thread_row all name x ∷ []
+pub thread_taken : (all : NameLists) (w : Walk) (name : List ℕ) (x : ThreadDecl) → Between 1 7 w.place → Good w → so_far all (with_thread w name x)
+    ≡ so_far all w ++ thread_row all name x ∷ []
 thread_taken all w name x at g =
-    grow_threads (heads w.place w) (heads InThreads w) (isrs all w) (dpcs all w) (timers all w) (threads all w) (threads all (with_thread w name x)) (apcs all w) (routines all w) (thread_row all name x ∷ []) (sym (has_head w.place w.script.cpus w.script.depth w.script.threaded at.0)) (declared_more (thread_row all) w.names.threads w.script.threads name x g.threads)
-    (none_declared (apc_row all) w.names.apcs w.script.apcs (g.later.apcs (omega (arith, at.1))).0) (none_opened all w.body w.names.routines w.script.routines (g.later.routines (omega (arith, at.1))).0)
+    let no = nothing all w g in
+    grow_threads (heads w.place w) (heads InThreads w) (isrs all w) (dpcs all w) (timers all w) (threads all w) (threads all (with_thread w name x))
+        (apcs all w) (routines all w) (thread_row all name x ∷ []) (sym (has_head w.place w.script.cpus w.script.depth w.script.threaded at.0))
+        (declared_more (thread_row all) w.names.threads w.script.threads name x g.threads)
+    (no.no_apcs (omega (arith, at.1))) (no.no_routines (omega (arith, at.1)))
 
 apc_later : (w : Walk) (name : List ℕ) (x : ApcDecl) → Between 1 8 w.place → Good w → Later 8 (with_apc w name x)
 apc_later w name x at g = record {
@@ -259,12 +311,17 @@ apc_later w name x at g = record {
 }
 
 pub apc_good : (w : Walk) (name : List ℕ) (x : ApcDecl) → Between 1 8 w.place → Good w → Good (with_apc w name x)
-apc_good w name x at g = record { dpcs = g.dpcs; timers = g.timers; threads = g.threads; apcs = one_longer w.names.apcs w.script.apcs name x g.apcs; later = apc_later w name x at g }
+apc_good w name x at g = record { dpcs = g.dpcs; timers = g.timers; threads = g.threads; apcs = one_longer w.names.apcs w.script.apcs name x g.apcs;
+    later = apc_later w name x at g }
 
-pub apc_taken : (all : NameLists) (w : Walk) (name : List ℕ) (x : ApcDecl) → Between 1 8 w.place → Good w → so_far all (with_apc w name x) ≡ so_far all w ++ apc_row all name x ∷ []
+pub apc_taken : (all : NameLists) (w : Walk) (name : List ℕ) (x : ApcDecl) → Between 1 8 w.place → Good w → so_far all (with_apc w name x) ≡ so_far all w
+    ++ apc_row all name x ∷ []
 apc_taken all w name x at g =
-    grow_apcs (heads w.place w) (heads InApcs w) (isrs all w) (dpcs all w) (timers all w) (threads all w) (apcs all w) (apcs all (with_apc w name x)) (routines all w) (apc_row all name x ∷ []) (sym (has_head w.place w.script.cpus w.script.depth w.script.threaded at.0)) (declared_more (apc_row all) w.names.apcs w.script.apcs name x g.apcs)
-    (none_opened all w.body w.names.routines w.script.routines (g.later.routines (omega (arith, at.1))).0)
+    let no = nothing all w g in
+    grow_apcs (heads w.place w) (heads InApcs w) (isrs all w) (dpcs all w) (timers all w) (threads all w) (apcs all w) (apcs all (with_apc w name x))
+        (routines all w) (apc_row all name x ∷ []) (sym (has_head w.place w.script.cpus w.script.depth w.script.threaded at.0))
+        (declared_more (apc_row all) w.names.apcs w.script.apcs name x g.apcs)
+    (no.no_routines (omega (arith, at.1)))
 
 routine_later : (w : Walk) (name : List ℕ) → Between 1 9 w.place → Good w → Later 10 (with_routine w name)
 routine_later w name at g = record {
@@ -283,10 +340,13 @@ routine_later w name at g = record {
 pub routine_good : (w : Walk) (name : List ℕ) → Between 1 9 w.place → Good w → Good (with_routine w name)
 routine_good w name at g = record { dpcs = g.dpcs; timers = g.timers; threads = g.threads; apcs = g.apcs; later = routine_later w name at g }
 
-pub routine_taken : (all : NameLists) (w : Walk) (name : List ℕ) → Between 1 9 w.place → Good w → so_far all (with_routine w name) ≡ so_far all w ++ (text_of word.Routine ∷ name ∷ []) ∷ []
+pub routine_taken : (all : NameLists) (w : Walk) (name : List ℕ) → Between 1 9 w.place → Good w → so_far all (with_routine w name) ≡ so_far all w
+    ++ (text_of keyword.Routine ∷ name ∷ []) ∷ []
 routine_taken all w name at g =
     let l = g.later.closed (omega (arith, at.1)) in
-    grow_routines (heads w.place w) (heads InRoutine w) (isrs all w) (dpcs all w) (timers all w) (threads all w) (apcs all w) (routines all w) (routines all (with_routine w name)) ((text_of word.Routine ∷ name ∷ []) ∷ []) (sym (has_head w.place w.script.cpus w.script.depth w.script.threaded at.0))
+    grow_routines (heads w.place w) (heads InRoutine w) (isrs all w) (dpcs all w) (timers all w) (threads all w) (apcs all w) (routines all w)
+        (routines all (with_routine w name)) ((text_of keyword.Routine ∷ name ∷ []) ∷ [])
+        (sym (has_head w.place w.script.cpus w.script.depth w.script.threaded at.0))
     (rw l.0 (routine_more all w.names.routines w.script.routines name l.1))
 
 -- in a routine
@@ -313,7 +373,9 @@ exit_good w at g = record { dpcs = g.dpcs; timers = g.timers; threads = g.thread
 pub exit_taken : (all : NameLists) (w : Walk) → Between 10 10 w.place → Good w → so_far all (with_exit w) ≡ so_far all w ++ exit_row ∷ []
 exit_taken all w at g =
     let low : 1 ≤ order w.place = omega (arith, at.0) in
-    grow_routines (heads w.place w) (heads InRoutines w) (isrs all w) (dpcs all w) (timers all w) (threads all w) (apcs all w) (routines all w) (routines all (with_exit w)) (exit_row ∷ []) (sym (has_head w.place w.script.cpus w.script.depth w.script.threaded low)) (exit_more all w.body w.names.routines w.script.routines (inside w at g))
+    grow_routines (heads w.place w) (heads InRoutines w) (isrs all w) (dpcs all w) (timers all w) (threads all w) (apcs all w) (routines all w)
+        (routines all (with_exit w)) (exit_row ∷ []) (sym (has_head w.place w.script.cpus w.script.depth w.script.threaded low))
+        (exit_more all w.body w.names.routines w.script.routines (inside w at g))
 
 pub command_good : (w : Walk) (c : Command) → Between 10 10 w.place → Good w → Good (with_command w c)
 command_good w c at g = record {
@@ -335,6 +397,8 @@ command_good w c at g = record {
   };
 }
 
-pub command_taken : (all : NameLists) (w : Walk) (c : Command) → Between 10 10 w.place → Good w → so_far all (with_command w c) ≡ so_far all w ++ command_row all c ∷ []
+pub command_taken : (all : NameLists) (w : Walk) (c : Command) → Between 10 10 w.place → Good w → so_far all (with_command w c) ≡ so_far all w
+    ++ command_row all c ∷ []
 command_taken all w c at g =
-    grow_routines (heads w.place w) (heads w.place w) (isrs all w) (dpcs all w) (timers all w) (threads all w) (apcs all w) (routines all w) (routines all (with_command w c)) (command_row all c ∷ []) refl (command_more all w.body w.names.routines w.script.routines c (inside w at g))
+    grow_routines (heads w.place w) (heads w.place w) (isrs all w) (dpcs all w) (timers all w) (threads all w) (apcs all w) (routines all w)
+        (routines all (with_command w c)) (command_row all c ∷ []) refl (command_more all w.body w.names.routines w.script.routines c (inside w at g))

@@ -1,4 +1,4 @@
--- A line that is taken: its word may stand there, and it has as many fields as its word wants.
+-- A line that is taken: its keyword may stand there, and it has as many fields as its keyword wants.
 use Rattle.std.proofs.Common.{◌≡◌, ℕ, suc, ◌<◌, ◌≤◌, Bool, true, false, cond, List, [], ◌∷◌, length, Option, Some, None, Result, Ok, Err, refl, ◌∙◌, ap, subst, arith, lit<}
 use Rattle.std.specs.Prelude.{nat_lt, nat_le, is_some}
 use Rattle.std.specs.Str.{bytes_eq}
@@ -8,47 +8,49 @@ use Rattle.nt_text.specs.declared.kind.ScriptKind.TheVariants.{MissingField, Ext
 use Rattle.nt_text.specs.Lines.{first, rest}
 use Rattle.nt_text.specs.Fields.{is_name}
 use Rattle.nt_event.specs.declared.commands.ApcKind.TheVariants.{Special, Normal, User}
-use Rattle.nt_script.specs.declared.words.Verb.{Verb}
-use Rattle.nt_script.specs.declared.words.Verb.TheVariants as verb
-use Rattle.nt_script.specs.declared.words.Word.{Word}
-use Rattle.nt_script.specs.declared.words.Word.TheVariants as word
-use Rattle.nt_script.specs.declared.words.Place.{Place}
-use Rattle.nt_script.specs.declared.words.TheConstants.{WORDS}
+use Rattle.nt_line.specs.declared.keywords.Verb.{Verb}
+use Rattle.nt_line.specs.declared.keywords.Verb.TheVariants as verb
+use Rattle.nt_line.specs.declared.keywords.Keyword.{Keyword}
+use Rattle.nt_line.specs.declared.keywords.Keyword.TheVariants as keyword
+use Rattle.nt_line.specs.declared.keywords.Place.{Place}
+use Rattle.nt_line.specs.declared.keywords.TheConstants.{KEYWORDS}
 use Rattle.nt_script.specs.declared.walk.Walk.{Walk}
-use Rattle.nt_script.specs.NameLists.{NameLists, meaning}
-use Rattle.nt_script.specs.Words.{word_of, text_of, arity, verb_text, order, earliest, latest, stands}
-use Rattle.nt_script.specs.Results.{◌>>=◌}
-use Rattle.nt_script.specs.Slots.{new_name}
-use Rattle.nt_script.specs.Reading.{counted, step, misplaced, word_at, declaration, act}
-use Rattle.nt_script.specs.Text.{Row}
-use Rattle.nt_script.proofs.Results.{bind_ok, ok_if_ok}
-use Rattle.nt_script.proofs.Fields.{same_text, find_passes}
-use Rattle.nt_script.proofs.UsedNames.{new_name_takes}
+use Rattle.nt_line.specs.NameLists.{NameLists, meaning}
+use Rattle.nt_line.specs.Keywords.{keyword_of, text_of, arity, verb_text, order, earliest, latest, stands}
+use Rattle.nt_line.specs.Results.{◌>>=◌}
+use Rattle.nt_line.specs.Fields.{new_name}
+use Rattle.nt_script.specs.Reading.{counted, step, misplaced, keyword_at, declaration, act}
+use Rattle.nt_text.specs.Lines.{Row}
+use Rattle.nt_line.proofs.Results.{bind_ok, ok_if_ok}
+use Rattle.nt_line.proofs.FieldTexts.{same_text, find_passes}
+use Rattle.nt_line.proofs.UsedNames.{new_name_takes}
 
--- ---- the word
+-- ---- the keyword
 
--- the word may stand behind what was read last
-abbrev pub At : Place → Word → Type 0
+-- the keyword may stand behind what was read last
+abbrev pub At : Place → Keyword → Type 0
 At p wd = (earliest wd ≤ order p) × (order p ≤ latest wd)
 
-pub at_ok : (p : Place) (o : Option Word) (wd : Word) → word_at p o ≡ Ok wd → (o ≡ Some wd) × At p wd
+pub at_ok : (p : Place) (o : Option Keyword) (wd : Keyword) → keyword_at p o ≡ Ok wd → (o ≡ Some wd) × At p wd
 at_ok p None wd e = absurd cc
 at_ok p (Some v) wd e =
     let r = ok_if_ok (stands p v) v (misplaced p) wd e in
     let b = and_parts (nat_le (earliest v) (order p)) (nat_le (order p) (latest v)) r.0 in
-    (ap (λ (u : Word). Some u) r.1, subst (At p) r.1 (leb-true (earliest v) (order p) b.0, leb-true (order p) (latest v) b.1))
+    (ap (λ (u : Keyword). Some u) r.1, subst (At p) r.1 (leb-true (earliest v) (order p) b.0, leb-true (order p) (latest v) b.1))
 
-pub at_again : (p : Place) (wd : Word) → At p wd → word_at p (Some wd) ≡ Ok wd
-at_again p wd h = let b : stands p wd ≡ true = and_from (nat_le (earliest wd) (order p)) (nat_le (order p) (latest wd)) (le-leb (earliest wd) (order p) h.0) (le-leb (order p) (latest wd) h.1) in rw b refl
+pub at_again : (p : Place) (wd : Keyword) → At p wd → keyword_at p (Some wd) ≡ Ok wd
+at_again p wd h = let b : stands p wd ≡ true = and_from (nat_le (earliest wd) (order p)) (nat_le (order p) (latest wd)) (le-leb (earliest wd) (order p) h.0)
+    (le-leb (order p) (latest wd) h.1) in rw b refl
 
-first_word : (f : List ℕ) (w : Word) → word_of f ≡ Some w → f ≡ text_of w
-unfolding word_of
-first_word f w e = same_text f (text_of w) (find_passes (λ w. bytes_eq f (text_of w)) WORDS w e)
+first_keyword : (f : List ℕ) (w : Keyword) → keyword_of f ≡ Some w → f ≡ text_of w
+unfolding keyword_of
+first_keyword f w e = same_text f (text_of w) (find_passes (λ w. bytes_eq f (text_of w)) KEYWORDS w e)
 
 counted_ok : (there wanted : ℕ) (b : Bool) → counted there wanted ≡ Ok b → there ≡ wanted
 counted_ok there wanted b e = go (nat_lt there wanted) (nat_lt wanted there) refl refl e
   where
-    go : (x y : Bool) → nat_lt there wanted ≡ x → nat_lt wanted there ≡ y → cond x (Err MissingField) (cond y (Err ExtraField) (Ok true)) ≡ Ok b → there ≡ wanted
+    go : (x y : Bool) → nat_lt there wanted ≡ x → nat_lt wanted there ≡ y → cond x (Err MissingField) (cond y (Err ExtraField) (Ok true)) ≡ Ok b → there
+        ≡ wanted
     go true y p q e = absurd cc
     go false true p q e = absurd cc
     go false false p q e = let low = ltb-false there wanted p in let high = ltb-false wanted there q in omega arith
@@ -79,46 +81,49 @@ verb_there verb.ToUser = lit< tt
 verb_there verb.Yield = lit< tt
 verb_there verb.Note = lit< tt
 
-text_there : (w : Word) → 0 < length (text_of w)
-text_there word.Cpus = lit< tt
-text_there word.Depth = lit< tt
-text_there word.Threaded = lit< tt
-text_there word.Isr = lit< tt
-text_there (word.Dpc false) = lit< tt
-text_there (word.Dpc true) = lit< tt
-text_there word.Timer = lit< tt
-text_there word.Thread = lit< tt
-text_there (word.Apc Special) = lit< tt
-text_there (word.Apc Normal) = lit< tt
-text_there (word.Apc User) = lit< tt
-text_there word.Routine = lit< tt
-text_there word.Exit = lit< tt
-text_there (word.Call v) = verb_there v
+text_there : (w : Keyword) → 0 < length (text_of w)
+text_there keyword.Cpus = lit< tt
+text_there keyword.Depth = lit< tt
+text_there keyword.Threaded = lit< tt
+text_there keyword.Isr = lit< tt
+text_there (keyword.Dpc false) = lit< tt
+text_there (keyword.Dpc true) = lit< tt
+text_there keyword.Timer = lit< tt
+text_there keyword.Thread = lit< tt
+text_there (keyword.Apc Special) = lit< tt
+text_there (keyword.Apc Normal) = lit< tt
+text_there (keyword.Apc User) = lit< tt
+text_there keyword.Routine = lit< tt
+text_there keyword.Exit = lit< tt
+text_there (keyword.Call v) = verb_there v
 
-row_parts : (row : Row) (w : Word) → first row ≡ text_of w → row ≡ text_of w ∷ rest row
+row_parts : (row : Row) (w : Keyword) → first row ≡ text_of w → row ≡ text_of w ∷ rest row
 row_parts [] w e = absurd (let none : 0 ≡ length (text_of w) = ap length e in omega (arith, text_there w))
 row_parts (f ∷ fs) w e = ap (λ (g : List ℕ). g ∷ fs) e
 
 -- what a line says that is taken
 pub record Line (all : NameLists) (w : Walk) (row : Row) (new : Walk) : Type 0 where
-  pub word : Word
-  pub is : word_of (first row) ≡ Some word
-  pub row_is : row ≡ text_of word ∷ rest row
-  pub at : At w.place word
-  pub count : length (rest row) ≡ arity word
-  pub acts : act all w word (rest row) ≡ Ok new
+  pub keyword : Keyword
+  pub is : keyword_of (first row) ≡ Some keyword
+  pub row_is : row ≡ text_of keyword ∷ rest row
+  pub at : At w.place keyword
+  pub count : length (rest row) ≡ arity keyword
+  pub acts : act all w keyword (rest row) ≡ Ok new
 
 pub step_ok : (all : NameLists) (w : Walk) (row : Row) (new : Walk) → step all w row ≡ Ok new → Line all w row new
 step_ok all w row new e =
-    let b = bind_ok (word_at w.place (word_of (first row))) (λ (word : Word). counted (length (rest row)) (arity word) >>= λ (b : Bool). act all w word (rest row)) new e in
-    let word = b.value in
-    let o = at_ok w.place (word_of (first row)) word b.is in
-    let k = bind_ok (counted (length (rest row)) (arity word)) (λ (b : Bool). act all w word (rest row)) new b.then in
-    record { word = word; is = o.0; row_is = row_parts row word (first_word (first row) word o.0); at = o.1; count = counted_ok (length (rest row)) (arity word) k.value k.is; acts = k.then }
+    let b = bind_ok (keyword_at w.place (keyword_of (first row)))
+        (λ (keyword : Keyword). counted (length (rest row)) (arity keyword) >>= λ (b : Bool). act all w keyword (rest row)) new e in
+    let keyword = b.value in
+    let o = at_ok w.place (keyword_of (first row)) keyword b.is in
+    let k = bind_ok (counted (length (rest row)) (arity keyword)) (λ (b : Bool). act all w keyword (rest row)) new b.then in
+    record { keyword = keyword; is = o.0; row_is = row_parts row keyword (first_keyword (first row) keyword o.0); at = o.1;
+        count = counted_ok (length (rest row)) (arity keyword) k.value k.is; acts = k.then }
 
 -- ---- a name and what it is the name of
 
-pub record Declared {A : Type 0} (names : NameLists) (read : Row → Result A ScriptKind) (put : List ℕ → A → Result Walk ScriptKind) (args : Row) (new : Walk) : Type 0 where
+pub record Declared {A : Type 0} (names : NameLists) (read : Row → Result A ScriptKind) (put : List ℕ → A → Result Walk ScriptKind) (args : Row)
+    (new : Walk) : Type 0 where
   pub name : List ℕ
   pub thing : A
   pub first_is : first args ≡ name
@@ -127,12 +132,14 @@ pub record Declared {A : Type 0} (names : NameLists) (read : Row → Result A Sc
   pub read_is : read (rest args) ≡ Ok thing
   pub made : put name thing ≡ Ok new
 
-pub declared_ok : {A : Type 0} (names : NameLists) (read : Row → Result A ScriptKind) (put : List ℕ → A → Result Walk ScriptKind) (args : Row) (new : Walk) → declaration names read put args ≡ Ok new → Declared names read put args new
+pub declared_ok : {A : Type 0} (names : NameLists) (read : Row → Result A ScriptKind) (put : List ℕ → A → Result Walk ScriptKind) (args : Row) (new : Walk) →
+    declaration names read put args ≡ Ok new → Declared names read put args new
 declared_ok {A = A} names read put args new e =
     let b = bind_ok (new_name names (first args)) (λ (name : List ℕ). read (rest args) >>= λ (x : A). put name x) new e in
     let t = new_name_takes names in
     let d = bind_ok (read (rest args)) (λ (x : A). put b.value x) new b.then in
-    record { name = b.value; thing = d.value; first_is = t.shown (first args) b.value b.is; named = (t.fits (first args) b.value b.is).0; none = (t.fits (first args) b.value b.is).1; read_is = d.is; made = d.then }
+    record { name = b.value; thing = d.value; first_is = t.shown (first args) b.value b.is; named = (t.fits (first args) b.value b.is).0;
+        none = (t.fits (first args) b.value b.is).1; read_is = d.is; made = d.then }
 
 -- some fields are the first one and the others
 pub args_parts : (args : Row) (n : ℕ) → length args ≡ suc n → (args ≡ first args ∷ rest args) × (length (rest args) ≡ n)

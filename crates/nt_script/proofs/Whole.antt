@@ -15,24 +15,25 @@ use Rattle.nt_event.specs.declared.scripts.TimerDecl.{TimerDecl}
 use Rattle.nt_event.specs.declared.scripts.ThreadDecl.{ThreadDecl}
 use Rattle.nt_event.specs.declared.scripts.ApcDecl.{ApcDecl}
 use Rattle.nt_event.specs.Script.{isr_of as isr_routine}
-use Rattle.nt_script.specs.declared.words.Word.{Word}
-use Rattle.nt_script.specs.declared.words.Word.TheVariants as word
+use Rattle.nt_line.specs.declared.keywords.Keyword.{Keyword}
+use Rattle.nt_line.specs.declared.keywords.Keyword.TheVariants as keyword
 use Rattle.nt_script.specs.declared.walk.Walk.{Walk}
-use Rattle.nt_script.specs.declared.words.Place.{Place}
-use Rattle.nt_script.specs.declared.words.Place.TheVariants.{Start, HasCpus, HasDepth, HasThreaded, InIsrs, InDpcs, InTimers, InThreads, InApcs, InRoutines, InRoutine}
+use Rattle.nt_line.specs.declared.keywords.Place.{Place}
+use Rattle.nt_line.specs.declared.keywords.Place.TheVariants.{Start, HasCpus, HasDepth, HasThreaded, InIsrs, InDpcs, InTimers, InThreads, InApcs, InRoutines, InRoutine}
 use Rattle.nt_script.specs.declared.walk.Input.{Input}
-use Rattle.nt_script.specs.declared.names.Kind.{Kind}
-use Rattle.nt_script.specs.declared.names.Kind.TheVariants as kind
-use Rattle.nt_script.specs.NameLists.{NameLists, no_names, meaning, with_name}
-use Rattle.nt_script.specs.Words.{word_of, declaring, order}
-use Rattle.nt_script.specs.Results.{ok_if}
-use Rattle.nt_script.specs.Slots.{read_number, read_on_off, new_name}
-use Rattle.nt_script.specs.Commands.{command_of}
-use Rattle.nt_script.specs.Declarations.{isr_of, dpc_of, timer_of, thread_of, apc_of}
+use Rattle.nt_line.specs.declared.names.Kind.{Kind}
+use Rattle.nt_line.specs.declared.names.Kind.TheVariants as kind
+use Rattle.nt_line.specs.NameLists.{NameLists, no_names, meaning, with_name}
+use Rattle.nt_line.specs.Keywords.{keyword_of, declaring, order}
+use Rattle.nt_line.specs.Results.{ok_if}
+use Rattle.nt_line.specs.Fields.{read_number, read_on_off, new_name}
+use Rattle.nt_line.specs.Commands.{command_of}
+use Rattle.nt_line.specs.Declarations.{isr_of, dpc_of, timer_of, thread_of, apc_of}
 use Rattle.nt_script.specs.Reading.{names_after, names_from, start, put_cpus, with_depth, with_threaded, with_isr, with_dpc, with_timer, with_thread, with_apc, with_routine, with_exit, with_command, act, step, finish, line_step, go_on, walk, reading}
-use Rattle.nt_script.specs.Text.{Row, header_rows, input_rows, text, routine_rows}
-use Rattle.nt_script.proofs.Results.{bind_ok, ok_if_ok}
-use Rattle.nt_script.proofs.UsedNames.{AreFew, new_name_takes}
+use Rattle.nt_text.specs.Lines.{Row}
+use Rattle.nt_script.specs.Text.{header_rows, input_rows, text, routine_rows}
+use Rattle.nt_line.proofs.Results.{bind_ok, ok_if_ok}
+use Rattle.nt_line.proofs.UsedNames.{AreFew, new_name_takes}
 use Rattle.nt_script.proofs.SoFar.{so_far, has_head, heads, isrs, dpcs, timers, threads, apcs, routines, joined, all_ended}
 use Rattle.nt_script.proofs.Taken.{At, declared_ok, step_ok}
 use Rattle.nt_script.proofs.Steps.{Good, put_cpus_ok, cpus_good, depth_good, threaded_good, isr_good, dpc_good, timer_good, thread_good, apc_good, routine_good, exit_good, command_good}
@@ -46,76 +47,86 @@ pub record Named (w : Walk) (row : Row) (new : Walk) : Type 0 where
   pub good : Good new
 
 -- a name that is new is added
-new_declared : (k : Kind) (names : NameLists) (row : Row) (wd : Word) (name : List ℕ) → word_of (first row) ≡ Some wd → declaring wd ≡ Some k → first (rest row) ≡ name → is_name name ≡ true → is_some (meaning name names) ≡ false → names_after names row ≡ with_name k name names
+new_declared : (k : Kind) (names : NameLists) (row : Row) (wd : Keyword) (name : List ℕ) → keyword_of (first row) ≡ Some wd → declaring wd ≡ Some k →
+    first (rest row) ≡ name → is_name name ≡ true → is_some (meaning name names) ≡ false → names_after names row ≡ with_name k name names
 new_declared k names row wd name is dk same named none = rw (is, dk, same, named, none) refl
 
 fits_more : {A : Type 0} (xs : List A) (x : A) (n most : ℕ) → length xs ≡ n → nat_lt n most ≡ true → length (xs ++ x ∷ []) ≤ most
 fits_more xs x n most e t = let lt = ltb-true n most t in omega (arith, e, lt, length-append xs (x ∷ []))
 
-act_named : (all : NameLists) (w : Walk) (wd : Word) (row : Row) (new : Walk) → word_of (first row) ≡ Some wd → At w.place wd → act all w wd (rest row) ≡ Ok new → Good w → AreFew w.names → Named w row new
-act_named all w word.Cpus row new is at e good few =
+act_named : (all : NameLists) (w : Walk) (wd : Keyword) (row : Row) (new : Walk) → keyword_of (first row) ≡ Some wd → At w.place wd → act all w wd (rest row)
+    ≡ Ok new → Good w → AreFew w.names → Named w row new
+act_named all w keyword.Cpus row new is at e good few =
     let b = bind_ok (read_number 4294967295 (first (rest row))) (put_cpus w) new e in
     subst (Named w row) (put_cpus_ok w b.value new b.then) (record { names = rw is refl; few = few; good = cpus_good w b.value at good })
-act_named all w word.Depth row new is at e good few =
+act_named all w keyword.Depth row new is at e good few =
     let b = bind_ok (read_number 256 (first (rest row))) (λ n. ok (with_depth w n)) new e in
     subst (Named w row) (ok_is (with_depth w b.value) new b.then) (record { names = rw is refl; few = few; good = depth_good w b.value at good })
-act_named all w word.Threaded row new is at e good few =
+act_named all w keyword.Threaded row new is at e good few =
     let b = bind_ok (read_on_off (first (rest row))) (λ on. ok (with_threaded w on)) new e in
     subst (Named w row) (ok_is (with_threaded w b.value) new b.then) (record { names = rw is refl; few = few; good = threaded_good w b.value at good })
-act_named all w word.Isr row new is at e good few =
-    let b = bind_ok (isr_of all w.script.cpus (rest row)) (λ isr. ok_if (is_none (isr_routine w.script.isrs isr.cpu isr.level)) (with_isr w isr) NameTwice) new e in
+act_named all w keyword.Isr row new is at e good few =
+    let b = bind_ok (isr_of all w.script.cpus (rest row))
+        (λ isr. ok_if (is_none (isr_routine w.script.isrs isr.cpu isr.level)) (with_isr w isr) NameTwice) new e in
     let o = ok_if_ok (is_none (isr_routine w.script.isrs b.value.cpu b.value.level)) (with_isr w b.value) NameTwice new b.then in
     subst (Named w row) o.1 (record { names = rw is refl; few = few; good = isr_good w b.value at good })
-act_named all w (word.Dpc b) row new is at e good few =
+act_named all w (keyword.Dpc b) row new is at e good few =
     let put : List ℕ → DpcDecl → Result Walk ScriptKind = λ name x. ok_if (nat_lt (length w.script.dpcs) 256) (with_dpc w name x) (TooMany what.Dpcs) in
     let d = declared_ok w.names (dpc_of all b) put (rest row) new e in
     let o = ok_if_ok (nat_lt (length w.script.dpcs) 256) (with_dpc w d.name d.thing) (TooMany what.Dpcs) new d.made in
     subst (Named w row) o.1 (record {
-      names = new_declared kind.Dpc w.names row (word.Dpc b) d.name is refl d.first_is d.named d.none;
-      few = record { dpcs = fits_more w.names.dpcs d.name (length w.script.dpcs) 256 good.dpcs o.0; timers = few.timers; threads = few.threads; apcs = few.apcs; routines = few.routines };
+      names = new_declared kind.Dpc w.names row (keyword.Dpc b) d.name is refl d.first_is d.named d.none;
+      few = record { dpcs = fits_more w.names.dpcs d.name (length w.script.dpcs) 256 good.dpcs o.0; timers = few.timers; threads = few.threads;
+          apcs = few.apcs; routines = few.routines };
       good = dpc_good w d.name d.thing at good;
     })
-act_named all w word.Timer row new is at e good few =
+act_named all w keyword.Timer row new is at e good few =
     let put : List ℕ → TimerDecl → Result Walk ScriptKind = λ name x. ok_if (nat_lt (length w.script.timers) 64) (with_timer w name x) (TooMany what.Timers) in
     let d = declared_ok w.names (timer_of all) put (rest row) new e in
     let o = ok_if_ok (nat_lt (length w.script.timers) 64) (with_timer w d.name d.thing) (TooMany what.Timers) new d.made in
     subst (Named w row) o.1 (record {
-      names = new_declared kind.Timer w.names row word.Timer d.name is refl d.first_is d.named d.none;
-      few = record { dpcs = few.dpcs; timers = fits_more w.names.timers d.name (length w.script.timers) 64 good.timers o.0; threads = few.threads; apcs = few.apcs; routines = few.routines };
+      names = new_declared kind.Timer w.names row keyword.Timer d.name is refl d.first_is d.named d.none;
+      few = record { dpcs = few.dpcs; timers = fits_more w.names.timers d.name (length w.script.timers) 64 good.timers o.0; threads = few.threads;
+          apcs = few.apcs; routines = few.routines };
       good = timer_good w d.name d.thing at good;
     })
-act_named all w word.Thread row new is at e good few =
-    let put : List ℕ → ThreadDecl → Result Walk ScriptKind = λ name x. ok_if (nat_lt (length w.script.threads) 64) (with_thread w name x) (TooMany what.Threads) in
+act_named all w keyword.Thread row new is at e good few =
+    let put : List ℕ → ThreadDecl → Result Walk ScriptKind = λ name x. ok_if (nat_lt (length w.script.threads) 64) (with_thread w name x)
+        (TooMany what.Threads) in
     let d = declared_ok w.names (thread_of all w.script.cpus) put (rest row) new e in
     let o = ok_if_ok (nat_lt (length w.script.threads) 64) (with_thread w d.name d.thing) (TooMany what.Threads) new d.made in
     subst (Named w row) o.1 (record {
-      names = new_declared kind.Thread w.names row word.Thread d.name is refl d.first_is d.named d.none;
-      few = record { dpcs = few.dpcs; timers = few.timers; threads = fits_more w.names.threads d.name (length w.script.threads) 64 good.threads o.0; apcs = few.apcs; routines = few.routines };
+      names = new_declared kind.Thread w.names row keyword.Thread d.name is refl d.first_is d.named d.none;
+      few = record { dpcs = few.dpcs; timers = few.timers; threads = fits_more w.names.threads d.name (length w.script.threads) 64 good.threads o.0;
+          apcs = few.apcs; routines = few.routines };
       good = thread_good w d.name d.thing at good;
     })
-act_named all w (word.Apc k) row new is at e good few =
+act_named all w (keyword.Apc k) row new is at e good few =
     let put : List ℕ → ApcDecl → Result Walk ScriptKind = λ name x. ok_if (nat_lt (length w.script.apcs) 256) (with_apc w name x) (TooMany what.Apcs) in
     let d = declared_ok w.names (apc_of all k) put (rest row) new e in
     let o = ok_if_ok (nat_lt (length w.script.apcs) 256) (with_apc w d.name d.thing) (TooMany what.Apcs) new d.made in
     subst (Named w row) o.1 (record {
-      names = new_declared kind.Apc w.names row (word.Apc k) d.name is refl d.first_is d.named d.none;
-      few = record { dpcs = few.dpcs; timers = few.timers; threads = few.threads; apcs = fits_more w.names.apcs d.name (length w.script.apcs) 256 good.apcs o.0; routines = few.routines };
+      names = new_declared kind.Apc w.names row (keyword.Apc k) d.name is refl d.first_is d.named d.none;
+      few = record { dpcs = few.dpcs; timers = few.timers; threads = few.threads;
+          apcs = fits_more w.names.apcs d.name (length w.script.apcs) 256 good.apcs o.0; routines = few.routines };
       good = apc_good w d.name d.thing at good;
     })
-act_named all w word.Routine row new is at e good few =
-    let b = bind_ok (new_name w.names (first (rest row))) (λ (name : List ℕ). ok_if (nat_lt (length w.script.routines) 256) (with_routine w name) (TooMany what.Routines)) new e in
+act_named all w keyword.Routine row new is at e good few =
+    let b = bind_ok (new_name w.names (first (rest row)))
+        (λ (name : List ℕ). ok_if (nat_lt (length w.script.routines) 256) (with_routine w name) (TooMany what.Routines)) new e in
     let o = ok_if_ok (nat_lt (length w.script.routines) 256) (with_routine w b.value) (TooMany what.Routines) new b.then in
     let f = (new_name_takes w.names).fits (first (rest row)) b.value b.is in
     let same = (new_name_takes w.names).shown (first (rest row)) b.value b.is in
     let l = good.later.closed at.1 in
     subst (Named w row) o.1 (record {
-      names = new_declared kind.Routine w.names row word.Routine b.value is refl same f.0 f.1;
-      few = record { dpcs = few.dpcs; timers = few.timers; threads = few.threads; apcs = few.apcs; routines = fits_more w.names.routines b.value (length w.script.routines) 256 l.1 o.0 };
+      names = new_declared kind.Routine w.names row keyword.Routine b.value is refl same f.0 f.1;
+      few = record { dpcs = few.dpcs; timers = few.timers; threads = few.threads; apcs = few.apcs;
+          routines = fits_more w.names.routines b.value (length w.script.routines) 256 l.1 o.0 };
       good = routine_good w b.value at good;
     })
-act_named all w word.Exit row new is at e good few =
+act_named all w keyword.Exit row new is at e good few =
     subst (Named w row) (ok_is (with_exit w) new e) (record { names = rw is refl; few = few; good = exit_good w at good })
-act_named all w (word.Call verb) row new is at e good few =
+act_named all w (keyword.Call verb) row new is at e good few =
     let b = bind_ok (command_of all w.script.cpus verb (rest row)) (λ c. ok_if (nat_lt w.commands 8192) (with_command w c) (TooMany what.Commands)) new e in
     let o = ok_if_ok (nat_lt w.commands 8192) (with_command w b.value) (TooMany what.Commands) new b.then in
     subst (Named w row) o.1 (record { names = rw is refl; few = few; good = command_good w b.value at good })
@@ -123,7 +134,7 @@ act_named all w (word.Call verb) row new is at e good few =
 pub step_named : (all : NameLists) (w : Walk) (row : Row) (new : Walk) → step all w row ≡ Ok new → Good w → AreFew w.names → Named w row new
 step_named all w row new e good few =
     let l = step_ok all w row new e in
-    act_named all w l.word row new l.is l.at l.acts good few
+    act_named all w l.keyword row new l.is l.at l.acts good few
 
 -- ---- all lines
 
@@ -142,7 +153,8 @@ pub record Went (all : NameLists) (w : Walk) (n : ℕ) (line : TextLine) (more :
   pub steps : step all w row ≡ Ok new
   pub goes_on : walk all new (n + 1) more ≡ Ok input
 
-pub went : (all : NameLists) (w : Walk) (n : ℕ) (line : TextLine) (more : List TextLine) (input : Input) → walk all w n (line ∷ more) ≡ Ok input → Went all w n line more input
+pub went : (all : NameLists) (w : Walk) (n : ℕ) (line : TextLine) (more : List TextLine) (input : Input) → walk all w n (line ∷ more) ≡ Ok input →
+    Went all w n line more input
 went all w n line more input e = go (line_step all w line) refl e
   where
     go : (r : Result Walk ScriptKind) → line_step all w line ≡ r → go_on n r (λ new. walk all new (n + 1) more) ≡ Ok input → Went all w n line more input
@@ -177,8 +189,10 @@ record Rows (all : NameLists) (w : Walk) (ls : List TextLine) (input : Input) : 
   pub good : Good last
   pub rows_are : so_far all last ≡ so_far all w ++ rows
 
-rows_of : (all : NameLists) → AreFew all → (w : Walk) (n : ℕ) (ls : List TextLine) (input : Input) → walk all w n ls ≡ Ok input → Good w → AreFew w.names → Rows all w ls input
-rows_of all few w n [] input e good named = record { rows = []; lines_are = refl; last = w; number = n; finishes = e; good = good; rows_are = sym (append-nil (so_far all w)) }
+rows_of : (all : NameLists) → AreFew all → (w : Walk) (n : ℕ) (ls : List TextLine) (input : Input) → walk all w n ls ≡ Ok input → Good w → AreFew w.names →
+    Rows all w ls input
+rows_of all few w n [] input e good named = record { rows = []; lines_are = refl; last = w; number = n; finishes = e; good = good;
+    rows_are = sym (append-nil (so_far all w)) }
 rows_of all few w n (line ∷ more) input e good named =
     let t = went all w n line more input e in
     let s = step_named all w t.row t.new t.steps good named in
@@ -190,7 +204,8 @@ rows_of all few w n (line ∷ more) input e good named =
       number = r.number;
       finishes = r.finishes;
       good = r.good;
-      rows_are = r.rows_are ∙ ap (λ (rows : List Row). rows ++ r.rows) (step_taken all few w t.row t.new t.steps good) ∙ append_assoc (so_far all w) (t.row ∷ []) r.rows;
+      rows_are = r.rows_are ∙ ap (λ (rows : List Row). rows ++ r.rows) (step_taken all few w t.row t.new t.steps good)
+          ∙ append_assoc (so_far all w) (t.row ∷ []) r.rows;
     }
 
 abbrev pub made : Walk → Input
@@ -221,10 +236,13 @@ finished InRoutine w n input e = absurd cc
 joined_same : (h h' i d t s a o o' : List Row) → h ≡ h' → o ≡ o' → joined h i d t s a o ≡ joined h' i d t s a o'
 joined_same h h' i d t s a o o' eh eo = rw (eh, eo) refl
 
-closing : (all : NameLists) (w : Walk) → all ≡ w.names → 1 ≤ order w.place → length w.names.routines ≡ length w.script.routines → so_far all w ≡ input_rows (made w)
+closing : (all : NameLists) (w : Walk) → all ≡ w.names → 1 ≤ order w.place → length w.names.routines ≡ length w.script.routines → so_far all w
+    ≡ input_rows (made w)
 closing all w ea low el =
     let head = has_head w.place w.script.cpus w.script.depth w.script.threaded low in
-    let own : so_far w.names w ≡ input_rows (made w) = joined_same (heads w.place w) (header_rows w.script.cpus w.script.depth w.script.threaded) (isrs w.names w) (dpcs w.names w) (timers w.names w) (threads w.names w) (apcs w.names w) (routines w.names w) (routine_rows w.names w.names.routines w.script.routines) head (all_ended w.names w.names.routines w.script.routines w.body el) in
+    let own : so_far w.names w ≡ input_rows (made w) = joined_same (heads w.place w) (header_rows w.script.cpus w.script.depth w.script.threaded)
+        (isrs w.names w) (dpcs w.names w) (timers w.names w) (threads w.names w) (apcs w.names w) (routines w.names w)
+        (routine_rows w.names w.names.routines w.script.routines) head (all_ended w.names w.names.routines w.script.routines w.body el) in
     subst (λ (names : NameLists). so_far names w ≡ input_rows (made w)) (sym ea) own
 
 pub good_start : Good start
@@ -233,7 +251,9 @@ good_start = record {
   timers = refl;
   threads = refl;
   apcs = refl;
-  later = record { depth = λ h. refl; threaded = λ h. refl; isrs = λ h. refl; dpcs = λ h. (refl, refl); timers = λ h. (refl, refl); threads = λ h. (refl, refl); apcs = λ h. (refl, refl); routines = λ h. (refl, refl); closed = λ h. (refl, refl); opened = λ h. absurd (omega (arith, h)) };
+  later = record { depth = λ h. refl; threaded = λ h. refl; isrs = λ h. refl; dpcs = λ h. (refl, refl); timers = λ h. (refl, refl);
+      threads = λ h. (refl, refl); apcs = λ h. (refl, refl); routines = λ h. (refl, refl); closed = λ h. (refl, refl);
+      opened = λ h. absurd (omega (arith, h)) };
 }
 
 pub few_none : AreFew no_names

@@ -1,13 +1,5 @@
-pub mod Places
-pub mod NameLists
-pub mod Words
-pub mod Results
-pub mod Slots
-pub mod Commands
-pub mod Declarations
 pub mod Reading
 pub mod Gives
 pub mod Text
 pub mod Sound
-pub mod Fits
 pub mod Splitting

@@ -6,6 +6,7 @@ use Rattle.nt_text.specs.declared.kind.ScriptKind.TheVariants.{BadNumber, Unknow
 use Rattle.nt_text.specs.declared.kind.What10.TheVariants as what
 use Rattle.nt_text.specs.Lines.{first, rest, row_of, lines, fields}
 use Rattle.nt_text.specs.Fields.{is_name}
+use Rattle.nt_event.specs.declared.limits.TheConstants.{APCS, COMMANDS, DEPTH, DPCS, ROUTINES, THREADS, TIMERS}
 use Rattle.nt_event.specs.declared.commands.Command.{Command}
 use Rattle.nt_event.specs.declared.scripts.Isr.{Isr}
 use Rattle.nt_event.specs.declared.scripts.DpcDecl.{DpcDecl}
@@ -13,20 +14,20 @@ use Rattle.nt_event.specs.declared.scripts.TimerDecl.{TimerDecl}
 use Rattle.nt_event.specs.declared.scripts.ThreadDecl.{ThreadDecl}
 use Rattle.nt_event.specs.declared.scripts.ApcDecl.{ApcDecl}
 use Rattle.nt_event.specs.Script.{isr_of as isr_routine}
-use Rattle.nt_script.specs.declared.names.Kind.{Kind}
-use Rattle.nt_script.specs.declared.names.Kind.TheVariants as kind
-use Rattle.nt_script.specs.declared.words.Word.{Word}
-use Rattle.nt_script.specs.declared.words.Word.TheVariants as word
-use Rattle.nt_script.specs.declared.words.Place.{Place}
-use Rattle.nt_script.specs.declared.words.Place.TheVariants.{Start, HasCpus, HasDepth, HasThreaded, InIsrs, InDpcs, InTimers, InThreads, InApcs, InRoutines, InRoutine}
+use Rattle.nt_line.specs.declared.names.Kind.{Kind}
+use Rattle.nt_line.specs.declared.names.Kind.TheVariants as kind
+use Rattle.nt_line.specs.declared.keywords.Keyword.{Keyword}
+use Rattle.nt_line.specs.declared.keywords.Keyword.TheVariants as keyword
+use Rattle.nt_line.specs.declared.keywords.Place.{Place}
+use Rattle.nt_line.specs.declared.keywords.Place.TheVariants.{Start, HasCpus, HasDepth, HasThreaded, InIsrs, InDpcs, InTimers, InThreads, InApcs, InRoutines, InRoutine}
 use Rattle.nt_script.specs.declared.walk.Walk.{Walk}
 use Rattle.nt_script.specs.declared.walk.Input.{Input}
-use Rattle.nt_script.specs.NameLists.{NameLists, no_names, declared, with_name}
-use Rattle.nt_script.specs.Words.{word_of, arity, stands, declaring}
-use Rattle.nt_script.specs.Results.{◌>>=◌, ok_if}
-use Rattle.nt_script.specs.Slots.{read_number, read_on_off, new_name}
-use Rattle.nt_script.specs.Declarations.{isr_of, dpc_of, timer_of, thread_of, apc_of}
-use Rattle.nt_script.specs.Commands.{command_of}
+use Rattle.nt_line.specs.NameLists.{NameLists, no_names, declared, with_name}
+use Rattle.nt_line.specs.Keywords.{keyword_of, arity, stands, declaring}
+use Rattle.nt_line.specs.Results.{◌>>=◌, ok_if}
+use Rattle.nt_line.specs.Fields.{read_number, read_on_off, new_name}
+use Rattle.nt_line.specs.Declarations.{isr_of, dpc_of, timer_of, thread_of, apc_of}
+use Rattle.nt_line.specs.Commands.{command_of}
 
 -- ---- the names that a text declares, wherever they stand
 
@@ -34,13 +35,13 @@ abbrev pub declared_by : Option Kind → List ℕ → NameLists → NameLists
 declared_by (Some kind) name names = if is_name name then declared kind name names else names
 declared_by None name names = names
 
-abbrev pub declaring_word : Option Word → Option Kind
-declaring_word (Some word) = declaring word
-declaring_word None = None
+abbrev pub declaring_keyword : Option Keyword → Option Kind
+declaring_keyword (Some keyword) = declaring keyword
+declaring_keyword None = None
 
--- the names after a line: its first field is a declaring word, and its second one is a name
+-- the names after a line: its first field is a declaring keyword, and its second one is a name
 abbrev pub names_after : NameLists → List (List ℕ) → NameLists
-names_after names row = declared_by (declaring_word (word_of (first row))) (first (rest row)) names
+names_after names row = declared_by (declaring_keyword (keyword_of (first row))) (first (rest row)) names
 
 abbrev pub names_from : NameLists → List (List ℕ × Bool) → NameLists
 names_from names [] = names
@@ -51,7 +52,8 @@ names_from names (line ∷ more) = names_from (names_after names (fields line.0)
 -- nothing was read
 abbrev pub start : Walk
 start = record {
-  script = record { cpus = 1; depth = None; threaded = None; isrs = []; dpcs = []; timers = []; threads = []; apcs = []; routines = [] };
+  script = record { cpus = 1; depth = None; threaded = None; isrs = []; dpcs = []; timers = []; threads = [];
+      apcs = []; routines = [] };
   names = no_names;
   body = [];
   commands = 0;
@@ -71,65 +73,80 @@ abbrev pub with_isr : Walk → Isr → Walk
 with_isr w isr = record w { script = record (w.script) { isrs = w.script.isrs ++ isr ∷ [] }; place = InIsrs }
 
 abbrev pub with_dpc : Walk → List ℕ → DpcDecl → Walk
-with_dpc w name x = record w { script = record (w.script) { dpcs = w.script.dpcs ++ x ∷ [] }; names = with_name kind.Dpc name w.names; place = InDpcs }
+with_dpc w name x = record w { script = record (w.script) { dpcs = w.script.dpcs ++ x ∷ [] };
+    names = with_name kind.Dpc name w.names; place = InDpcs }
 
 abbrev pub with_timer : Walk → List ℕ → TimerDecl → Walk
-with_timer w name x = record w { script = record (w.script) { timers = w.script.timers ++ x ∷ [] }; names = with_name kind.Timer name w.names; place = InTimers }
+with_timer w name x = record w { script = record (w.script) { timers = w.script.timers ++ x ∷ [] };
+    names = with_name kind.Timer name w.names; place = InTimers }
 
 abbrev pub with_thread : Walk → List ℕ → ThreadDecl → Walk
-with_thread w name x = record w { script = record (w.script) { threads = w.script.threads ++ x ∷ [] }; names = with_name kind.Thread name w.names; place = InThreads }
+with_thread w name x = record w { script = record (w.script) { threads = w.script.threads ++ x ∷ [] };
+    names = with_name kind.Thread name w.names; place = InThreads }
 
 abbrev pub with_apc : Walk → List ℕ → ApcDecl → Walk
-with_apc w name x = record w { script = record (w.script) { apcs = w.script.apcs ++ x ∷ [] }; names = with_name kind.Apc name w.names; place = InApcs }
+with_apc w name x = record w { script = record (w.script) { apcs = w.script.apcs ++ x ∷ [] };
+    names = with_name kind.Apc name w.names; place = InApcs }
 
 abbrev pub with_routine : Walk → List ℕ → Walk
 with_routine w name = record w { names = with_name kind.Routine name w.names; place = InRoutine }
 
 abbrev pub with_exit : Walk → Walk
-with_exit w = record w { script = record (w.script) { routines = w.script.routines ++ record { commands = w.body } ∷ [] }; body = []; place = InRoutines }
+with_exit w = record w { script = record (w.script) { routines = w.script.routines
+    ++ record { commands = w.body } ∷ [] }; body = []; place = InRoutines }
 
 abbrev pub with_command : Walk → Command → Walk
 with_command w c = record w { body = w.body ++ c ∷ []; commands = w.commands + 1 }
 
 -- ---- one line
 
--- what is wrong with a line whose word may not stand at this place
+-- what is wrong with a line whose keyword may not stand at this place
 abbrev pub misplaced : Place → ScriptKind
 misplaced Start = NoCpus
 misplaced _ = UnknownWord
 
--- the word of the line at this place
-abbrev pub word_at : Place → Option Word → Result Word ScriptKind
-word_at place (Some word) = ok_if (stands place word) word (misplaced place)
-word_at place None = Err (misplaced place)
+-- the keyword of the line at this place
+abbrev pub keyword_at : Place → Option Keyword → Result Keyword ScriptKind
+keyword_at place (Some keyword) = ok_if (stands place keyword) keyword (misplaced place)
+keyword_at place None = Err (misplaced place)
 
 abbrev pub counted : ℕ → ℕ → Result Bool ScriptKind
-counted there wanted = if nat_lt there wanted then Err MissingField else (if nat_lt wanted there then Err ExtraField else Ok true)
+counted there wanted = if nat_lt there wanted then Err MissingField
+    else (if nat_lt wanted there then Err ExtraField else Ok true)
 
 -- a processor count of 0 is no number of this field, and one above 8 is too many
 abbrev pub put_cpus : Walk → ℕ → Result Walk ScriptKind
 put_cpus w n = if n == 0 then Err BadNumber else (if nat_lt 8 n then Err (TooMany what.Cpus) else Ok (with_cpus w n))
 
 -- a new name, then the fields behind it
-abbrev pub declaration : {A : Type 0} → NameLists → (List (List ℕ) → Result A ScriptKind) → (List ℕ → A → Result Walk ScriptKind) → List (List ℕ) → Result Walk ScriptKind
+abbrev pub declaration : {A : Type 0} → NameLists → (List (List ℕ) → Result A ScriptKind) →
+    (List ℕ → A → Result Walk ScriptKind) → List (List ℕ) → Result Walk ScriptKind
 declaration names read put args = new_name names (first args) >>= λ name. read (rest args) >>= λ x. put name x
 
 -- what a line makes of what was read before it; all names of the text are known
-abbrev pub act : NameLists → Walk → Word → List (List ℕ) → Result Walk ScriptKind
-act all w word.Cpus args = read_number 4294967295 (first args) >>= put_cpus w
-act all w word.Depth args = read_number 256 (first args) >>= λ n. Ok (with_depth w n)
-act all w word.Threaded args = read_on_off (first args) >>= λ on. Ok (with_threaded w on)
-act all w word.Isr args = isr_of all w.script.cpus args >>= λ isr. ok_if (is_none (isr_routine w.script.isrs isr.cpu isr.level)) (with_isr w isr) NameTwice
-act all w (word.Dpc threaded) args = declaration w.names (dpc_of all threaded) (λ name x. ok_if (nat_lt (length w.script.dpcs) 256) (with_dpc w name x) (TooMany what.Dpcs)) args
-act all w word.Timer args = declaration w.names (timer_of all) (λ name x. ok_if (nat_lt (length w.script.timers) 64) (with_timer w name x) (TooMany what.Timers)) args
-act all w word.Thread args = declaration w.names (thread_of all w.script.cpus) (λ name x. ok_if (nat_lt (length w.script.threads) 64) (with_thread w name x) (TooMany what.Threads)) args
-act all w (word.Apc k) args = declaration w.names (apc_of all k) (λ name x. ok_if (nat_lt (length w.script.apcs) 256) (with_apc w name x) (TooMany what.Apcs)) args
-act all w word.Routine args = new_name w.names (first args) >>= λ name. ok_if (nat_lt (length w.script.routines) 256) (with_routine w name) (TooMany what.Routines)
-act all w word.Exit args = Ok (with_exit w)
-act all w (word.Call verb) args = command_of all w.script.cpus verb args >>= λ c. ok_if (nat_lt w.commands 8192) (with_command w c) (TooMany what.Commands)
+abbrev pub act : NameLists → Walk → Keyword → List (List ℕ) → Result Walk ScriptKind
+act all w keyword.Cpus args = read_number 4294967295 (first args) >>= put_cpus w
+act all w keyword.Depth args = read_number DEPTH (first args) >>= λ n. Ok (with_depth w n)
+act all w keyword.Threaded args = read_on_off (first args) >>= λ on. Ok (with_threaded w on)
+act all w keyword.Isr args = isr_of all w.script.cpus args >>= λ isr. ok_if
+    (is_none (isr_routine w.script.isrs isr.cpu isr.level)) (with_isr w isr) NameTwice
+act all w (keyword.Dpc threaded) args = declaration w.names (dpc_of all threaded)
+    (λ name x. ok_if (nat_lt (length w.script.dpcs) DPCS) (with_dpc w name x) (TooMany what.Dpcs)) args
+act all w keyword.Timer args = declaration w.names (timer_of all)
+    (λ name x. ok_if (nat_lt (length w.script.timers) TIMERS) (with_timer w name x) (TooMany what.Timers)) args
+act all w keyword.Thread args = declaration w.names (thread_of all w.script.cpus)
+    (λ name x. ok_if (nat_lt (length w.script.threads) THREADS) (with_thread w name x) (TooMany what.Threads)) args
+act all w (keyword.Apc k) args = declaration w.names (apc_of all k)
+    (λ name x. ok_if (nat_lt (length w.script.apcs) APCS) (with_apc w name x) (TooMany what.Apcs)) args
+act all w keyword.Routine args = new_name w.names (first args) >>= λ name. ok_if
+    (nat_lt (length w.script.routines) ROUTINES) (with_routine w name) (TooMany what.Routines)
+act all w keyword.Exit args = Ok (with_exit w)
+act all w (keyword.Call verb) args = command_of all w.script.cpus verb args >>= λ c. ok_if (nat_lt w.commands COMMANDS)
+    (with_command w c) (TooMany what.Commands)
 
 abbrev pub step : NameLists → Walk → List (List ℕ) → Result Walk ScriptKind
-step all w row = word_at w.place (word_of (first row)) >>= λ word. counted (length (rest row)) (arity word) >>= λ _. act all w word (rest row)
+step all w row = keyword_at w.place (keyword_of (first row)) >>= λ keyword. counted (length (rest row))
+    (arity keyword) >>= λ _. act all w keyword (rest row)
 
 -- a line with its end, or without
 abbrev pub line_step : NameLists → Walk → List ℕ × Bool → Result Walk ScriptKind

@@ -1,32 +1,14 @@
 -- Which inputs have a text.
-use Rattle.std.specs.Prelude.{◌≡◌, ℕ, ◌≤◌, true, List, [], ◌∷◌, ◌++◌, length, None, IsTrue}
+use Rattle.std.specs.Prelude.{◌≡◌, ℕ, ◌≤◌, List, [], length, IsTrue}
 use Rattle.std.specs.List.{AllByRecursion}
-use Rattle.nt_text.specs.Fields.{is_name}
-use Rattle.nt_event.specs.declared.commands.Command.{Command}
-use Rattle.nt_event.specs.declared.commands.Command.TheVariants.{Raise, Lower, SetTimer, Delay, Clock, Note}
 use Rattle.nt_event.specs.Script.{fits}
+use Rattle.nt_line.specs.Fits.{HasRange}
+use Rattle.nt_line.specs.NameLists.{AreNew, all_names}
 use Rattle.nt_script.specs.declared.walk.Input.{Input}
-use Rattle.nt_script.specs.Places.{place}
-use Rattle.nt_script.specs.NameLists.{all_names}
 use Rattle.nt_script.specs.Text.{text}
 
--- each is a name, and differs from all before it
-abbrev pub AreNew : List (List ℕ) → List (List ℕ) → Type 0
-AreNew before [] = Unit {0}
-AreNew before (n ∷ ns) = (is_name n ≡ true) × (place n before ≡ None) × AreNew (before ++ n ∷ []) ns
-
--- the numbers of a command are those of its types
-abbrev pub HasRange : Command → Type 0
-HasRange (Raise level) = level ≤ 15
-HasRange (Lower level) = level ≤ 15
-HasRange (SetTimer t due period) = (due ≤ 4294967295) × (period ≤ 4294967295)
-HasRange (Delay mode alertable units) = units ≤ 4294967295
-HasRange (Clock units) = units ≤ 4294967295
-HasRange (Note number) = number ≤ 4294967295
-HasRange _ = Unit {0}
-
--- an input that has a text: its script fits and has at most 8 processors, there are as many names of each kind as things, and
--- each is a name and all are different
+-- an input that has a text: its script fits and has at most 8 processors, there are as many names of each kind as
+-- things, and each is a name and all are different
 pub record IsSound (input : Input) : Type 0 where
   pub fits : IsTrue (fits input.script)
   pub cpus : input.script.cpus ≤ 8

@@ -9,26 +9,16 @@
 //! timers, threads, APC objects and routines with their commands. The whole grammar is this project's own (profile).
 #![tactic(auto)]
 
-mod column;
-mod commands;
-mod declarations;
 mod laws;
-mod names;
 mod printing;
 mod reading;
-mod slots;
 mod splitting;
 mod walk;
-mod words;
 
 pub use laws::{one_text, texts_both_ways};
-pub use names::{Kind, Named, Names};
+pub use nt_line::{Keyword, Kind, Named, Names, Place, Verb, keyword_of, put_command};
 pub use nt_text::{ScriptKind, What10};
-pub use printing::{print, put_command};
+pub use printing::print;
 pub use reading::{ScriptRefusal, read};
 pub use splitting::{Split, split_at};
 pub use walk::Input;
-pub use words::{Place, Verb, Word, word_of};
-
-#[cfg(test)]
-mod tests;

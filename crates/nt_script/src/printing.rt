@@ -1,267 +1,57 @@
 //! The text of an input, line by line.
-ghost use Rattle.std.specs.Prelude.{◌≡◌, ◌<◌, ◌≤◌, ◌∷◌, ◌++◌, [], length, map, decimal, All, OnOk, IfOk};
-ghost use Rattle.std.specs.List.{join_with_byte};
+ghost use Rattle.std.specs.Prelude.{◌≡◌, ◌<◌, ◌≤◌, ◌∷◌, ◌++◌, [], length, map, All, OnOk, IfOk};
 ghost use Rattle.nt_text.specs.Lines.{row_text, rows_text};
-ghost use Rattle.nt_script.specs.Slots.{own, dash};
-ghost use Rattle.nt_script.specs.Words.{text_of};
-ghost use Rattle.nt_script.specs.NameLists.{show_dpc, show_timer, show_thread, show_apc, show_routine};
-ghost use Rattle.nt_script.specs.Fits.{IsrFits, DpcFits, TimerFits, ThreadFits, ApcFits, CommandFits, CommandNamed};
-ghost use Rattle.nt_script.specs.Text.{show_target, show_unless, command_verb, command_row, header_rows, isr_row, dpc_row, timer_row, thread_row, apc_row, declared_rows, begun_rows, exit_row, routine_rows, text};
+ghost use Rattle.nt_line.specs.declared.keywords.Keyword.TheVariants as keyword;
+ghost use Rattle.nt_line.specs.Keywords.{text_of};
+ghost use Rattle.nt_line.specs.NameLists.{show_routine};
+ghost use Rattle.nt_line.specs.Fits.{IsrFits, DpcFits, TimerFits, ThreadFits, ApcFits, CommandFits};
+ghost use Rattle.nt_line.specs.Rows.{number_row, depth_rows, threaded_rows, command_row, isr_row, dpc_row, timer_row, thread_row, apc_row};
+ghost use Rattle.nt_script.specs.Text.{header_rows, declared_rows, begun_rows, exit_row, routine_rows, text};
 ghost use Rattle.nt_script.specs.Sound.{IsSound};
 
-use crate::names::Names;
-use crate::slots::{alertable_text, importance_text, mode_text, on_off_text};
 use crate::walk::Input;
-use crate::words::{Verb, Word};
-use itoa::Buffer;
 use nt_event::{
-    ApcDecl, ApcKind, ApcNo, Command, CpuNo, DpcDecl, DpcNo, Isr, Routine, RoutineNo, Script,
-    ThreadDecl, ThreadNo, TimerDecl, TimerNo,
+    ApcDecl, ApcNo, Command, DpcDecl, DpcNo, Isr, Routine, RoutineNo, Script, ThreadDecl, ThreadNo,
+    TimerDecl, TimerNo,
 };
+use nt_line::fields::on_off_text;
+use nt_line::{Keyword, Names, put_apc, put_command, put_dpc, put_isr, put_thread, put_timer};
+use nt_text::{put_field, put_number};
 use std::alloc::{AllocError, Global};
 
-/// Adds a field behind another.
-fn put_field(out: &mut Vec<u8>, field: &[u8]) -> Result<(), AllocError>
-    ensures { OnOk result (out.new.items ≡ out.old.items ++ 32 ∷ field.now) }
+/// Adds a line of a keyword and a number.
+fn put_number_line(out: &mut Vec<u8>, keyword: Keyword, n: u64) -> Result<(), AllocError>
+    ensures { OnOk result (out.new.items ≡ out.old.items ++ row_text (number_row keyword n)) }
 {
-    out.push(b' ')?;
-    out.extend_from_slice(field)
-}
-
-/// Adds a number as a field behind another.
-fn put_number(out: &mut Vec<u8>, n: u32) -> Result<(), AllocError>
-    ensures { OnOk result (out.new.items ≡ out.old.items ++ 32 ∷ decimal n) }
-{
-    put_field(out, Buffer::new().format(n).as_bytes())
-}
-
-/// Adds a target, `own` for none.
-fn put_target(out: &mut Vec<u8>, target: Option<CpuNo>) -> Result<(), AllocError>
-    ensures { OnOk result (out.new.items ≡ out.old.items ++ 32 ∷ show_target target) }
-{
-    match target {
-        Some(cpu) => put_number(out, cpu.0 as u32),
-        None => put_field(out, b"own"),
-    }
-}
-
-/// The word of a command.
-fn verb_of(command: &Command) -> Verb
-    ensures { result ≡ command_verb command.now }
-{
-    match command {
-        Command::Raise(_) => Verb::Raise,
-        Command::Lower(_) => Verb::Lower,
-        Command::Queue(_) => Verb::Queue,
-        Command::Unqueue(_) => Verb::Unqueue,
-        Command::SetImportance(_, _) => Verb::SetImportance,
-        Command::SetTarget(_, _) => Verb::SetTarget,
-        Command::SetTimer(_, _, _) => Verb::SetTimer,
-        Command::CancelTimer(_) => Verb::CancelTimer,
-        Command::InsertApc(_) => Verb::InsertApc,
-        Command::RemoveApc(_) => Verb::RemoveApc,
-        Command::EnterCrit => Verb::EnterCrit,
-        Command::EnterGuard => Verb::EnterGuard,
-        Command::LeaveCrit => Verb::LeaveCrit,
-        Command::LeaveGuard => Verb::LeaveGuard,
-        Command::StartWait(_, _) => Verb::StartWait,
-        Command::Delay(_, _, _) => Verb::Delay,
-        Command::Release(_) => Verb::Release,
-        Command::Alert(_, _) => Verb::Alert,
-        Command::TestAlert(_) => Verb::TestAlert,
-        Command::Interrupt(_, _) => Verb::Interrupt,
-        Command::Clock(_) => Verb::Clock,
-        Command::ToUser => Verb::ToUser,
-        Command::Yield => Verb::Yield,
-        Command::Note(_) => Verb::Note,
-    }
-}
-
-/// Adds a command: its word and what stands behind it, with one space between two fields and no line end.
-pub fn put_command(out: &mut Vec<u8>, names: &Names, command: &Command) -> Result<(), AllocError>
-    requires { CommandNamed names.now command.now }
-    ensures { OnOk result (out.new.items ≡ out.old.items ++ join_with_byte 32 (command_row names.now command.now)) }
-{
-    out.extend_from_slice(verb_of(command).text())?;
-    match command {
-        Command::Raise(level) => {
-            put_number(out, level.number() as u32)?;
-        }
-        Command::Lower(level) => {
-            put_number(out, level.number() as u32)?;
-        }
-        Command::Queue(d) => {
-            put_field(out, names.dpc(*d).as_bytes())?;
-        }
-        Command::Unqueue(d) => {
-            put_field(out, names.dpc(*d).as_bytes())?;
-        }
-        Command::SetImportance(d, importance) => {
-            put_field(out, names.dpc(*d).as_bytes())?;
-            put_field(out, importance_text(*importance))?;
-        }
-        Command::SetTarget(d, target) => {
-            put_field(out, names.dpc(*d).as_bytes())?;
-            put_target(out, *target)?;
-        }
-        Command::SetTimer(t, due, period) => {
-            put_field(out, names.timer(*t).as_bytes())?;
-            put_number(out, *due)?;
-            put_number(out, *period)?;
-        }
-        Command::CancelTimer(t) => {
-            put_field(out, names.timer(*t).as_bytes())?;
-        }
-        Command::InsertApc(a) => {
-            put_field(out, names.apc(*a).as_bytes())?;
-        }
-        Command::RemoveApc(a) => {
-            put_field(out, names.apc(*a).as_bytes())?;
-        }
-        Command::EnterCrit => {}
-        Command::EnterGuard => {}
-        Command::LeaveCrit => {}
-        Command::LeaveGuard => {}
-        Command::StartWait(mode, alertable) => {
-            put_field(out, mode_text(*mode))?;
-            put_field(out, alertable_text(*alertable))?;
-        }
-        Command::Delay(mode, alertable, units) => {
-            put_field(out, mode_text(*mode))?;
-            put_field(out, alertable_text(*alertable))?;
-            put_number(out, *units)?;
-        }
-        Command::Release(t) => {
-            put_field(out, names.thread(*t).as_bytes())?;
-        }
-        Command::Alert(t, mode) => {
-            put_field(out, names.thread(*t).as_bytes())?;
-            put_field(out, mode_text(*mode))?;
-        }
-        Command::TestAlert(mode) => {
-            put_field(out, mode_text(*mode))?;
-        }
-        Command::Interrupt(cpu, level) => {
-            put_number(out, cpu.0 as u32)?;
-            put_number(out, level.number() as u32)?;
-        }
-        Command::Clock(units) => {
-            put_number(out, *units)?;
-        }
-        Command::ToUser => {}
-        Command::Yield => {}
-        Command::Note(number) => {
-            put_number(out, *number)?;
-        }
-    }
-    Ok(())
-}
-
-/// Adds the line of an interrupt routine.
-fn put_isr(out: &mut Vec<u8>, names: &Names, cpus: u8, isr: &Isr) -> Result<(), AllocError>
-    requires { IsrFits names.now cpus isr.now }
-    ensures { OnOk result (out.new.items ≡ out.old.items ++ row_text (isr_row names.now isr.now)) }
-{
-    out.extend_from_slice(Word::Isr.text())?;
-    put_number(out, isr.cpu.0 as u32)?;
-    put_number(out, isr.level.number() as u32)?;
-    put_field(out, names.routine(isr.routine).as_bytes())?;
+    out.extend_from_slice(keyword.text())?;
+    put_number(out, n)?;
     out.push(b'\n')?;
     Ok(())
 }
 
-/// Adds the line of a DPC object.
-fn put_dpc(out: &mut Vec<u8>, names: &Names, d: DpcNo, dpc: &DpcDecl) -> Result<(), AllocError>
-    requires named { d.0 < length names.now.dpcs }
-    requires fits { DpcFits names.now dpc.now }
-    ensures { OnOk result (out.new.items ≡ out.old.items ++ row_text (dpc_row names.now (show_dpc names.now d) dpc.now)) }
+/// Adds a line of a keyword and a field.
+fn put_field_line(out: &mut Vec<u8>, keyword: Keyword, field: &[u8]) -> Result<(), AllocError>
+    ensures { OnOk result (out.new.items ≡ out.old.items ++ row_text (text_of keyword ∷ field.now ∷ [])) }
 {
-    out.extend_from_slice(Word::Dpc {
-        threaded: dpc.threaded,
-    }
-    .text())?;
-    put_field(out, names.dpc(d).as_bytes())?;
-    put_field(out, names.routine(dpc.routine).as_bytes())?;
+    out.extend_from_slice(keyword.text())?;
+    put_field(out, field)?;
     out.push(b'\n')?;
     Ok(())
 }
 
-/// Adds the DPC object of a timer, `-` for none.
-fn put_timer_dpc(out: &mut Vec<u8>, names: &Names, timer: &TimerDecl) -> Result<(), AllocError>
-    requires { TimerFits names.now timer.now }
-    ensures { OnOk result (out.new.items ≡ out.old.items ++ 32 ∷ show_unless dash (show_dpc names.now) timer.now.dpc) }
+/// Adds the first line of a routine.
+fn put_begin(out: &mut Vec<u8>, names: &Names, r: RoutineNo) -> Result<(), AllocError>
+    requires { r.0 < length names.now.routines }
+    ensures { OnOk result (out.new.items ≡ out.old.items ++ row_text (text_of keyword.Routine ∷ show_routine names.now r ∷ [])) }
 {
-    match timer.dpc {
-        Some(d) => put_field(out, names.dpc(d).as_bytes()),
-        None => put_field(out, b"-"),
-    }
+    put_field_line(out, Keyword::Routine, names.routine(r).as_bytes())
 }
 
-/// Adds the line of a timer.
-fn put_timer(
-    out: &mut Vec<u8>,
-    names: &Names,
-    t: TimerNo,
-    timer: &TimerDecl,
-) -> Result<(), AllocError>
-    requires named { t.0 < length names.now.timers }
-    requires fits { TimerFits names.now timer.now }
-    ensures { OnOk result (out.new.items ≡ out.old.items ++ row_text (timer_row names.now (show_timer names.now t) timer.now)) }
+/// Adds the last line of a routine.
+fn put_exit(out: &mut Vec<u8>) -> Result<(), AllocError>
+    ensures { OnOk result (out.new.items ≡ out.old.items ++ row_text exit_row) }
 {
-    out.extend_from_slice(Word::Timer.text())?;
-    put_field(out, names.timer(t).as_bytes())?;
-    put_timer_dpc(out, names, timer)?;
-    out.push(b'\n')?;
-    Ok(())
-}
-
-/// Adds the line of a thread.
-fn put_thread(
-    out: &mut Vec<u8>,
-    names: &Names,
-    cpus: u8,
-    t: ThreadNo,
-    thread: &ThreadDecl,
-) -> Result<(), AllocError>
-    requires named { t.0 < length names.now.threads }
-    requires fits { ThreadFits names.now cpus thread.now }
-    ensures { OnOk result (out.new.items ≡ out.old.items ++ row_text (thread_row names.now (show_thread names.now t) thread.now)) }
-{
-    out.extend_from_slice(Word::Thread.text())?;
-    put_field(out, names.thread(t).as_bytes())?;
-    put_number(out, thread.cpu.0 as u32)?;
-    put_field(out, names.routine(thread.routine).as_bytes())?;
-    out.push(b'\n')?;
-    Ok(())
-}
-
-/// Adds the rundown routine of a user APC, `-` for none.
-fn put_rundown(out: &mut Vec<u8>, names: &Names, apc: &ApcDecl) -> Result<(), AllocError>
-    requires { ApcFits names.now apc.now }
-    ensures { OnOk result (out.new.items ≡ out.old.items ++ 32 ∷ show_unless dash (show_routine names.now) apc.now.rundown) }
-{
-    match apc.rundown {
-        Some(r) => put_field(out, names.routine(r).as_bytes()),
-        None => put_field(out, b"-"),
-    }
-}
-
-/// Adds the line of an APC object.
-fn put_apc(out: &mut Vec<u8>, names: &Names, a: ApcNo, apc: &ApcDecl) -> Result<(), AllocError>
-    requires named { a.0 < length names.now.apcs }
-    requires fits { ApcFits names.now apc.now }
-    ensures { OnOk result (out.new.items ≡ out.old.items ++ row_text (apc_row names.now (show_apc names.now a) apc.now)) }
-{
-    out.extend_from_slice(Word::Apc(apc.kind).text())?;
-    put_field(out, names.apc(a).as_bytes())?;
-    put_field(out, names.thread(apc.thread).as_bytes())?;
-    put_field(out, names.routine(apc.kernel).as_bytes())?;
-    if let Some(normal) = apc.normal {
-        put_field(out, names.routine(normal).as_bytes())?;
-    }
-    if apc.kind == ApcKind::User {
-        put_rundown(out, names, apc)?;
-    }
+    out.extend_from_slice(Keyword::Exit.text())?;
     out.push(b'\n')?;
     Ok(())
 }
@@ -278,12 +68,9 @@ fn put_routine(
     requires fits { All (CommandFits names.now cpus) commands.now }
     ensures { OnOk result (out.new.items ≡ out.old.items ++ rows_text (begun_rows names.now (show_routine names.now r) commands.now ++ exit_row ∷ [])) }
 {
-    out.extend_from_slice(Word::Routine.text())?;
-    put_field(out, names.routine(r).as_bytes())?;
-    out.push(b'\n')?;
+    put_begin(out, names, r)?;
     put_commands(out, names, cpus, commands)?;
-    out.extend_from_slice(Word::Exit.text())?;
-    out.push(b'\n')?;
+    put_exit(out)?;
     Ok(())
 }
 
@@ -390,23 +177,40 @@ fn put_routines(
     Ok(())
 }
 
+/// Adds the line of the processors.
+fn put_cpus(out: &mut Vec<u8>, cpus: u8) -> Result<(), AllocError>
+    ensures { OnOk result (out.new.items ≡ out.old.items ++ row_text (number_row keyword.Cpus cpus)) }
+{
+    put_number_line(out, Keyword::Cpus, u64::from(cpus))
+}
+
+/// Adds the line of the depth, where one is given.
+fn put_depth(out: &mut Vec<u8>, depth: Option<u32>) -> Result<(), AllocError>
+    ensures { OnOk result (out.new.items ≡ out.old.items ++ rows_text (depth_rows depth)) }
+{
+    match depth {
+        Some(depth) => put_number_line(out, Keyword::Depth, u64::from(depth)),
+        None => Ok(()),
+    }
+}
+
+/// Adds the line of the switch for threaded DPCs, where one is given.
+fn put_threaded(out: &mut Vec<u8>, threaded: Option<bool>) -> Result<(), AllocError>
+    ensures { OnOk result (out.new.items ≡ out.old.items ++ rows_text (threaded_rows threaded)) }
+{
+    match threaded {
+        Some(on) => put_field_line(out, Keyword::Threaded, on_off_text(on)),
+        None => Ok(()),
+    }
+}
+
 /// Adds the lines of the head.
 fn put_header(out: &mut Vec<u8>, script: &Script) -> Result<(), AllocError>
     ensures { OnOk result (out.new.items ≡ out.old.items ++ rows_text (header_rows script.now.cpus script.now.depth script.now.threaded)) }
 {
-    out.extend_from_slice(Word::Cpus.text())?;
-    put_number(out, script.cpus as u32)?;
-    out.push(b'\n')?;
-    if let Some(depth) = script.depth {
-        out.extend_from_slice(Word::Depth.text())?;
-        put_number(out, depth)?;
-        out.push(b'\n')?;
-    }
-    if let Some(on) = script.threaded {
-        out.extend_from_slice(Word::Threaded.text())?;
-        put_field(out, on_off_text(on))?;
-        out.push(b'\n')?;
-    }
+    put_cpus(out, script.cpus)?;
+    put_depth(out, script.depth)?;
+    put_threaded(out, script.threaded)?;
     Ok(())
 }
 

@@ -1,15 +1,15 @@
 //! Reading a whole script.
 ghost use Rattle.std.specs.Prelude.{◌≡◌, ◌≤◌, length, OnOk, IfOk, Ok};
+ghost use Rattle.nt_text.specs.declared.lines.TheConstants.{INPUT_LIMIT};
 ghost use Rattle.nt_text.specs.Lines.{lines, fields};
-ghost use Rattle.nt_script.specs.NameLists.{no_names};
+ghost use Rattle.nt_line.specs.NameLists.{no_names};
 ghost use Rattle.nt_script.specs.Reading.{names_after, names_from, start, walk, reading};
 ghost use Rattle.nt_script.specs.Gives.{GivesInput};
 ghost use Rattle.nt_script.specs.Sound.{IsTextOf};
 ghost use Rattle.nt_script.specs.declared.walk.Input.{Input};
 
-use crate::names::Names;
 use crate::walk::{Input, Stop, Walk};
-use crate::words::word_of;
+use nt_line::{Names, keyword_of};
 use nt_text::{Fields, Lines, ScriptKind, name};
 use std::alloc::{AllocError, Global};
 use thiserror::Error;
@@ -25,13 +25,13 @@ pub enum ScriptRefusal {
     NoMemory,
 }
 
-/// Adds the name that a line declares, if any: its first word is of a line that declares, and its second field is a name.
+/// Adds the name that a line declares, if any: its first keyword is of a line that declares, and its second field is a name.
 fn note_name(alloc: Global, names: &mut Names, line: &[u8]) -> Result<(), AllocError>
     ensures { OnOk result (names.new ≡ names_after names.old (fields line.now)) }
 {
     let mut row = Fields::new(line);
-    if let Some(word) = word_of(row.take()) {
-        if let Some(kind) = word.declares() {
+    if let Some(keyword) = keyword_of(row.take()) {
+        if let Some(kind) = keyword.declares() {
             if let Some(name) = name(row.take()) {
                 names.declare(alloc, kind, name)?;
             }
@@ -54,7 +54,7 @@ fn names_of(alloc: Global, bytes: &[u8]) -> Result<Names, AllocError>
 
 /// The script of a text whose lines declare these names.
 fn read_with(alloc: Global, all: &Names, bytes: &[u8]) -> Result<Input, ScriptRefusal>
-    requires { length bytes.now ≤ 33554432 }
+    requires { length bytes.now ≤ INPUT_LIMIT }
     ensures { GivesInput result (walk all.now start 1 (lines bytes.now)) }
 {
     let mut walk = Walk::new(alloc);
@@ -73,7 +73,7 @@ fn read_with(alloc: Global, all: &Names, bytes: &[u8]) -> Result<Input, ScriptRe
 
 /// Two walks along the lines: one for the names, one for all else.
 fn read_all(alloc: Global, bytes: &[u8]) -> Result<Input, ScriptRefusal>
-    requires { length bytes.now ≤ 33554432 }
+    requires { length bytes.now ≤ INPUT_LIMIT }
     ensures { GivesInput result (reading bytes.now) }
 {
     match names_of(alloc, bytes) {
@@ -86,7 +86,7 @@ fn read_all(alloc: Global, bytes: &[u8]) -> Result<Input, ScriptRefusal>
 ///
 /// Ok exactly where the bytes are the text of a sound input, with that input; `Bad` else. `NoMemory` may come at any call.
 pub fn read(alloc: Global, bytes: &[u8]) -> Result<Input, ScriptRefusal>
-    requires { length bytes.now ≤ 33554432 }
+    requires { length bytes.now ≤ INPUT_LIMIT }
 
     // What is answered is a sound input, and the bytes are its text.
     ensures found { IfOk result (IsTextOf bytes.now) }

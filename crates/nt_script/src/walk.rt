@@ -1,10 +1,7 @@
 //! Reading a script line by line.
-use crate::commands::command;
-use crate::names::{Kind, Names};
 use crate::reading::ScriptRefusal;
-use crate::words::{Place, Verb, Word, word_of};
-use crate::{declarations, slots};
-use nt_event::{ApcKind, Command, Items, Routine, Script};
+use nt_event::{ApcKind, Command, Items, Routine, Script, limits};
+use nt_line::{Keyword, Kind, Names, Place, Verb, command, declarations, fields, keyword_of};
 use nt_text::{Fields, Line, ScriptKind, What10};
 use std::alloc::{AllocError, Global};
 use std::mem;
@@ -66,9 +63,9 @@ impl From<ScriptKind> for Stop {
 
 impl Walk {
     ghost use Rattle.std.specs.Prelude.{◌≡◌, []};
-    ghost use Rattle.nt_script.specs.Words.{word_of};
-    ghost use Rattle.nt_script.specs.NameLists.{no_names};
-    ghost use Rattle.nt_script.specs.Reading.{start, word_at, step, act, line_step, finish};
+    ghost use Rattle.nt_line.specs.Keywords.{keyword_of};
+    ghost use Rattle.nt_line.specs.NameLists.{no_names};
+    ghost use Rattle.nt_script.specs.Reading.{start, keyword_at, step, act, line_step, finish};
     ghost use Rattle.nt_script.specs.Gives.{Gives, GivesInput};
 
     /// Nothing was read.
@@ -126,33 +123,33 @@ impl Walk {
         self.step(alloc, all, &mut row)
     }
 
-    /// Takes the fields of a line: its word, then how many fields there are, then each field.
+    /// Takes the fields of a line: its keyword, then how many fields there are, then each field.
     fn step(&mut self, alloc: Global, all: &Names, row: &mut Fields) -> Result<(), Stop>
         ensures { Gives result self.new (step all.now self.old row.old) }
     {
-        let word = self.word(row.take())?;
+        let keyword = self.keyword(row.take())?;
         let there = row.count();
-        if there < word.arity() {
+        if there < keyword.arity() {
             return Err(Stop::Bad(ScriptKind::MissingField));
         }
-        if there > word.arity() {
+        if there > keyword.arity() {
             return Err(Stop::Bad(ScriptKind::ExtraField));
         }
-        self.act(alloc, all, word, row)
+        self.act(alloc, all, keyword, row)
     }
 
-    /// The word of a line at this place.
-    fn word(&self, field: &[u8]) -> Result<Word, ScriptKind>
-        ensures { result ≡ word_at self.now.place (word_of field.now) }
+    /// The keyword of a line at this place.
+    fn keyword(&self, field: &[u8]) -> Result<Keyword, ScriptKind>
+        ensures { result ≡ keyword_at self.now.place (keyword_of field.now) }
     {
         let misplaced = match self.place {
             Place::Start => ScriptKind::NoCpus,
             _ => ScriptKind::UnknownWord,
         };
-        match word_of(field) {
-            Some(word) => {
-                if word.stands(self.place) {
-                    Ok(word)
+        match keyword_of(field) {
+            Some(keyword) => {
+                if keyword.stands(self.place) {
+                    Ok(keyword)
                 } else {
                     Err(misplaced)
                 }
@@ -161,29 +158,35 @@ impl Walk {
         }
     }
 
-    /// Takes the fields behind a word that may stand here.
-    fn act(&mut self, alloc: Global, all: &Names, word: Word, args: &mut Fields) -> Result<(), Stop>
-        ensures { Gives result self.new (act all.now self.old word args.old) }
+    /// Takes the fields behind a keyword that may stand here.
+    fn act(
+        &mut self,
+        alloc: Global,
+        all: &Names,
+        keyword: Keyword,
+        args: &mut Fields,
+    ) -> Result<(), Stop>
+        ensures { Gives result self.new (act all.now self.old keyword args.old) }
     {
-        match word {
-            Word::Cpus => self.cpus(args),
-            Word::Depth => self.depth(args),
-            Word::Threaded => self.threaded(args),
-            Word::Isr => self.isr(all, args),
-            Word::Dpc { threaded } => self.dpc(alloc, all, threaded, args),
-            Word::Timer => self.timer(alloc, all, args),
-            Word::Thread => self.thread(alloc, all, args),
-            Word::Apc(kind) => self.apc(alloc, all, kind, args),
-            Word::Routine => self.routine(alloc, args),
-            Word::Exit => self.exit(alloc),
-            Word::Call(verb) => self.command(all, verb, args),
+        match keyword {
+            Keyword::Cpus => self.cpus(args),
+            Keyword::Depth => self.depth(args),
+            Keyword::Threaded => self.threaded(args),
+            Keyword::Isr => self.isr(all, args),
+            Keyword::Dpc { threaded } => self.dpc(alloc, all, threaded, args),
+            Keyword::Timer => self.timer(alloc, all, args),
+            Keyword::Thread => self.thread(alloc, all, args),
+            Keyword::Apc(kind) => self.apc(alloc, all, kind, args),
+            Keyword::Routine => self.routine(alloc, args),
+            Keyword::Exit => self.exit(alloc),
+            Keyword::Call(verb) => self.command(all, verb, args),
         }
     }
 
     fn cpus(&mut self, args: &mut Fields) -> Result<(), Stop>
-        ensures { Gives result self.new (act no_names self.old Word.Cpus args.old) }
+        ensures { Gives result self.new (act no_names self.old Keyword.Cpus args.old) }
     {
-        let n = slots::number(args.take(), u32::MAX)?;
+        let n = fields::number(args.take(), u32::MAX)?;
         if n == 0 {
             return Err(Stop::Bad(ScriptKind::BadNumber));
         }
@@ -196,23 +199,23 @@ impl Walk {
     }
 
     fn depth(&mut self, args: &mut Fields) -> Result<(), Stop>
-        ensures { Gives result self.new (act no_names self.old Word.Depth args.old) }
+        ensures { Gives result self.new (act no_names self.old Keyword.Depth args.old) }
     {
-        self.script.depth = Some(slots::number(args.take(), 256)?);
+        self.script.depth = Some(fields::number(args.take(), limits::DEPTH)?);
         self.place = Place::HasDepth;
         Ok(())
     }
 
     fn threaded(&mut self, args: &mut Fields) -> Result<(), Stop>
-        ensures { Gives result self.new (act no_names self.old Word.Threaded args.old) }
+        ensures { Gives result self.new (act no_names self.old Keyword.Threaded args.old) }
     {
-        self.script.threaded = Some(slots::on_off(args.take())?);
+        self.script.threaded = Some(fields::on_off(args.take())?);
         self.place = Place::HasThreaded;
         Ok(())
     }
 
     fn isr(&mut self, all: &Names, args: &mut Fields) -> Result<(), Stop>
-        ensures { Gives result self.new (act all.now self.old Word.Isr args.old) }
+        ensures { Gives result self.new (act all.now self.old Keyword.Isr args.old) }
     {
         let isr = declarations::isr(all, self.script.cpus, args)?;
         if self.script.isr_of(isr.cpu, isr.level).is_some() {
@@ -230,11 +233,11 @@ impl Walk {
         threaded: bool,
         args: &mut Fields,
     ) -> Result<(), Stop>
-        ensures { Gives result self.new (act all.now self.old (Word.Dpc threaded) args.old) }
+        ensures { Gives result self.new (act all.now self.old (Keyword.Dpc threaded) args.old) }
     {
-        let name = slots::new_name(&self.names, args.take())?;
+        let name = fields::new_name(&self.names, args.take())?;
         let dpc = declarations::dpc(all, threaded, args)?;
-        if self.script.dpcs.len() >= 256 {
+        if self.script.dpcs.len() >= limits::DPCS {
             return Err(Stop::Bad(ScriptKind::TooMany(What10::Dpcs)));
         }
         self.script.dpcs.push(dpc)?;
@@ -244,11 +247,11 @@ impl Walk {
     }
 
     fn timer(&mut self, alloc: Global, all: &Names, args: &mut Fields) -> Result<(), Stop>
-        ensures { Gives result self.new (act all.now self.old Word.Timer args.old) }
+        ensures { Gives result self.new (act all.now self.old Keyword.Timer args.old) }
     {
-        let name = slots::new_name(&self.names, args.take())?;
+        let name = fields::new_name(&self.names, args.take())?;
         let timer = declarations::timer(all, args)?;
-        if self.script.timers.len() >= 64 {
+        if self.script.timers.len() >= limits::TIMERS {
             return Err(Stop::Bad(ScriptKind::TooMany(What10::Timers)));
         }
         self.script.timers.push(timer)?;
@@ -258,11 +261,11 @@ impl Walk {
     }
 
     fn thread(&mut self, alloc: Global, all: &Names, args: &mut Fields) -> Result<(), Stop>
-        ensures { Gives result self.new (act all.now self.old Word.Thread args.old) }
+        ensures { Gives result self.new (act all.now self.old Keyword.Thread args.old) }
     {
-        let name = slots::new_name(&self.names, args.take())?;
+        let name = fields::new_name(&self.names, args.take())?;
         let thread = declarations::thread(all, self.script.cpus, args)?;
-        if self.script.threads.len() >= 64 {
+        if self.script.threads.len() >= limits::THREADS {
             return Err(Stop::Bad(ScriptKind::TooMany(What10::Threads)));
         }
         self.script.threads.push(thread)?;
@@ -278,11 +281,11 @@ impl Walk {
         kind: ApcKind,
         args: &mut Fields,
     ) -> Result<(), Stop>
-        ensures { Gives result self.new (act all.now self.old (Word.Apc kind) args.old) }
+        ensures { Gives result self.new (act all.now self.old (Keyword.Apc kind) args.old) }
     {
-        let name = slots::new_name(&self.names, args.take())?;
+        let name = fields::new_name(&self.names, args.take())?;
         let apc = declarations::apc(all, kind, args)?;
-        if self.script.apcs.len() >= 256 {
+        if self.script.apcs.len() >= limits::APCS {
             return Err(Stop::Bad(ScriptKind::TooMany(What10::Apcs)));
         }
         self.script.apcs.push(apc)?;
@@ -292,10 +295,10 @@ impl Walk {
     }
 
     fn routine(&mut self, alloc: Global, args: &mut Fields) -> Result<(), Stop>
-        ensures { Gives result self.new (act no_names self.old Word.Routine args.old) }
+        ensures { Gives result self.new (act no_names self.old Keyword.Routine args.old) }
     {
-        let name = slots::new_name(&self.names, args.take())?;
-        if self.script.routines.len() >= 256 {
+        let name = fields::new_name(&self.names, args.take())?;
+        if self.script.routines.len() >= limits::ROUTINES {
             return Err(Stop::Bad(ScriptKind::TooMany(What10::Routines)));
         }
         self.names.add(alloc, Kind::Routine, name)?;
@@ -304,7 +307,7 @@ impl Walk {
     }
 
     fn exit(&mut self, alloc: Global) -> Result<(), Stop>
-        ensures { Gives result self.new (act no_names self.old Word.Exit []) }
+        ensures { Gives result self.new (act no_names self.old Keyword.Exit []) }
     {
         let commands = mem::replace(&mut self.body, Items::new(alloc));
         self.script.routines.push(Routine { commands })?;
@@ -313,10 +316,10 @@ impl Walk {
     }
 
     fn command(&mut self, all: &Names, verb: Verb, args: &mut Fields) -> Result<(), Stop>
-        ensures { Gives result self.new (act all.now self.old (Word.Call verb) args.old) }
+        ensures { Gives result self.new (act all.now self.old (Keyword.Call verb) args.old) }
     {
         let command = command(all, self.script.cpus, verb, args)?;
-        if self.commands >= 8192 {
+        if self.commands >= limits::COMMANDS as u32 {
             return Err(Stop::Bad(ScriptKind::TooMany(What10::Commands)));
         }
         self.body.push(command)?;

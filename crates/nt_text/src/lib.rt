@@ -4,6 +4,8 @@
 //! [`Line::fields`] tests that a line is whole and printable, and gives its [`Fields`]. A field is tested by [`number`] and
 //! [`name`]. What is wrong with a line is a [`ScriptKind`].
 //!
+//! [`put_field`] and [`put_number`] add fields of a line to a text.
+//!
 //! Contracts see `Lines` as the list of the lines that are left and `Fields` as the list of the fields that are left. That
 //! reading undoes printing is said by the lemmas of `proofs::Rows` and `proofs::Decimals`: each text of rows has those rows
 //! as its lines, and no other text has them.
@@ -12,7 +14,9 @@
 mod field;
 mod kind;
 mod lines;
+mod printing;
 
 pub use field::{name, number};
 pub use kind::{ScriptKind, What10};
-pub use lines::{Fields, Line, Lines};
+pub use lines::{Fields, INPUT_LIMIT, Line, Lines};
+pub use printing::{put_field, put_number};

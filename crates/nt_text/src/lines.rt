@@ -7,6 +7,9 @@ ghost use Rattle.nt_text.specs.Lines.{is_byte, parts, fields, is_printable, row_
 use crate::kind::ScriptKind;
 use std::marker::Model;
 
+/// A text of more bytes than this is not read.
+pub const INPUT_LIMIT: usize = 33_554_432;
+
 /// Where the byte stands first.
 fn place_of(byte: u8, bytes: &[u8]) -> Option<usize>
     ensures { result ≡ position (is_byte byte) bytes.now }

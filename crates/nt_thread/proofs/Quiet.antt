@@ -1,12 +1,13 @@
 -- Inserts and removals keep that nothing is deliverable behind a block.
-use Rattle.std.proofs.Common.{◌≡◌, Bool, List, None, Option, Some, ap, cond, false, if◌then◌else◌, is_some, refl, reverse, sym, true, ◌∙◌, ◌&&◌, ◌||◌, ◌==◌, ℕ, [], ◌∷◌, not, subst}
+use Rattle.std.proofs.Common.{◌≡◌, Bool, List, None, Option, Some, ap, cond, false, if◌then◌else◌, is_some, refl, reverse, sym, true, ◌∙◌, ◌&&◌, ◌||◌, ◌==◌, ℕ}
+use Rattle.std.proofs.Common.{[], ◌∷◌, not, subst}
 use Rattle.std.proofs.lemmas.Bool.{false≢true, true≢false}
 use Rattle.std.specs.Bool.{OnTrue}
 use Rattle.std.specs.List.{filter, find}
 use Rattle.std.specs.Option.{option_or}
 use Rattle.std.specs.Prelude.{IfNone, IfSome}
 use Rattle.nt_apc.proofs.Firsts.{deliverable-kind, deliverable-with, first-is_of_kind, first-with, kind_in}
-use Rattle.nt_apc.proofs.Reversed.{filter-reverse}
+use Rattle.nt_event.proofs.Reversed.{filter-reverse}
 use Rattle.nt_apc.specs.Firsts.{kind_with, may_begin}
 use Rattle.nt_event.specs.Apcs.{ApcQueues, deliverable, first_kernel, first_of_kind, first_user, is_of_apc, is_of_kind, same_kind, takes, with_apc, without_apc}
 use Rattle.nt_event.specs.Routines.{is_kernel_kind}
@@ -56,16 +57,18 @@ first_user-with x q h =
     first-with UserApc x q ∙ ap (λ (b : Bool). option_or (first_user q) (cond b (Some x) None)) (kernel-not_user x h) ∙ or-none (first_user q)
 
 -- a user APC makes no kernel APC deliverable
-deliverable-with_user : (x : Pick) (q : ApcQueues) (r : Regions) (level : ℕ) → x.kind ≡ UserApc → is_some (deliverable (with_apc x q) r level) ≡ is_some (deliverable q r level)
+deliverable-with_user : (x : Pick) (q : ApcQueues) (r : Regions) (level : ℕ) → x.kind ≡ UserApc →
+    is_some (deliverable (with_apc x q) r level) ≡ is_some (deliverable q r level)
 deliverable-with_user x q r level h =
     deliverable-with x q r level ∙ ap (λ (k : ApcKind). may_begin r level (kind_with k (kind_in (first_kernel q)))) h ∙ sym (deliverable-kind q r level)
 
-blocked-added : (pick : Pick) (w : Waiting) (x : ThreadFacts) → x.doing ≡ IsBlocked w → IsQuiet w x.apcs → ends_by_apc pick x ≡ false → IsQuiet w (with_apc pick x.apcs)
+blocked-added : (pick : Pick) (w : Waiting) (x : ThreadFacts) → x.doing ≡ IsBlocked w → IsQuiet w x.apcs → ends_by_apc pick x ≡ false →
+    IsQuiet w (with_apc pick x.apcs)
 blocked-added pick w x d h e = go (is_kernel_kind pick.kind) refl where
   kernel : ends_by_kernel (with_apc pick x.apcs) x ≡ false → is_some (deliverable (with_apc pick x.apcs) w.regions w.level) ≡ false
   kernel f = rw d at f
 
-  user : ends_by_user x ≡ false → (is_user w.mode && (w.alertable || x.marked)) ≡ false
+  user : ends_by_user x ≡ false → (is_user w.mode && (w.alertable || x.user_pending)) ≡ false
   user f = rw d at f
 
   refused : (u a m : Bool) → (u && (a || m)) ≡ false → (u && a) ≡ false
@@ -80,7 +83,7 @@ blocked-added pick w x d h e = go (is_kernel_kind pick.kind) refl where
   }
   go false k = record {
     kernel = none-from _ (deliverable-with_user pick x.apcs w.regions w.level (user-kind pick.kind k) ∙ some-of-none _ h.kernel);
-    user = λ t. absurd (false≢true (sym (refused (is_user w.mode) w.alertable x.marked (user (rw k at e))) ∙ t));
+    user = λ t. absurd (false≢true (sym (refused (is_user w.mode) w.alertable x.user_pending (user (rw k at e))) ∙ t));
   }
 
 -- an insert that ends no wait
@@ -98,7 +101,8 @@ ended-doing NormalApc x q = tt
 ended-doing UserApc x q = tt
 
 -- an insert that ends the wait or doesn't: x is what is left before the insert
-pub quiet-accepted : (pick : Pick) (old x : ThreadFacts) (b : Bool) (new : ApcQueues) → NothingBehind old → b ≡ ends_by_apc pick old → x ≡ (if b then ended_by pick.kind old else old) → new ≡ with_apc pick x.apcs → QuietDoing x.doing new
+pub quiet-accepted : (pick : Pick) (old x : ThreadFacts) (b : Bool) (new : ApcQueues) → NothingBehind old → b ≡ ends_by_apc pick old →
+    x ≡ (if b then ended_by pick.kind old else old) → new ≡ with_apc pick x.apcs → QuietDoing x.doing new
 quiet-accepted pick old x true new h e i n = subst (λ (y : ThreadFacts). QuietDoing y.doing new) (sym i) (ended-doing pick.kind old new)
 quiet-accepted pick old x false new h e i n =
     let added : QuietDoing old.doing (with_apc pick old.apcs) = quiet-added pick old h (sym e) in
@@ -118,7 +122,8 @@ on-true true P e h = h
 on-true false P e h = absurd (false≢true e)
 
 -- the insert is accepted after the end of the wait as it was before
-pub accepted-put : (pick : Pick) (old x : ThreadFacts) (b : Bool) (new : ApcQueues) (r : Bool) → x ≡ (if b then ended_by pick.kind old else old) → takes pick.apc old.apcs ≡ true → r ≡ takes pick.apc x.apcs → OnTrue r (new ≡ with_apc pick x.apcs) → new ≡ with_apc pick x.apcs
+pub accepted-put : (pick : Pick) (old x : ThreadFacts) (b : Bool) (new : ApcQueues) (r : Bool) → x ≡ (if b then ended_by pick.kind old else old) →
+    takes pick.apc old.apcs ≡ true → r ≡ takes pick.apc x.apcs → OnTrue r (new ≡ with_apc pick x.apcs) → new ≡ with_apc pick x.apcs
 accepted-put pick old x b new r i t a h =
     on-true r (new ≡ with_apc pick x.apcs) (a ∙ ap (λ (q : ApcQueues). takes pick.apc q) (same-apcs pick.kind old x b i) ∙ t) h
 
@@ -127,14 +132,16 @@ accepted-put pick old x b new r i t a h =
 find-filter_none : {X : Type 0} (t p : X → Bool) (xs : List X) → find t xs ≡ None → find t (filter p xs) ≡ None
 find-filter_none t p [] h = refl
 find-filter_none {X} t p (x ∷ xs) h = go (t x) (p x) refl refl h (find-filter_none t p xs) where
-  go : (b c : Bool) → t x ≡ b → p x ≡ c → cond b (Some x) (find t xs) ≡ None → (find t xs ≡ None → find t (filter p xs) ≡ None) → find t (cond c (x ∷ filter p xs) (filter p xs)) ≡ None
+  go : (b c : Bool) → t x ≡ b → p x ≡ c → cond b (Some x) (find t xs) ≡ None → (find t xs ≡ None → find t (filter p xs) ≡ None) →
+      find t (cond c (x ∷ filter p xs) (filter p xs)) ≡ None
   go true c e f h rest = absurd (true≢false (ap is_some h))
   go false true e f h rest = rw e (rest h)
   go false false e f h rest = rest h
 
 first-without_none : (kind : ApcKind) (a : ApcNo) (q : ApcQueues) → first_of_kind kind q ≡ None → first_of_kind kind (without_apc a q) ≡ None
 first-without_none kind a q h =
-    ap (λ (xs : List Pick). find (is_of_kind kind) xs) (sym (filter-reverse (λ x. not (is_of_apc a x)) q.pending)) ∙ find-filter_none (is_of_kind kind) (λ x. not (is_of_apc a x)) (reverse q.pending) h
+    ap (λ (xs : List Pick). find (is_of_kind kind) xs) (sym (filter-reverse (λ x. not (is_of_apc a x)) q.pending))
+    ∙ find-filter_none (is_of_kind kind) (λ x. not (is_of_apc a x)) (reverse q.pending) h
 
 -- what holds back special ones holds back normal ones
 normal-held : (r : Regions) (level : ℕ) → may_begin r level (Some SpecialApc) ≡ false → may_begin r level (Some NormalApc) ≡ false
@@ -145,7 +152,10 @@ normal-held r level h = go (level == 0) (r.guard == 0) ((r.crit == 0) && not r.b
   go false g c h = refl
 
 -- the kinds of the first special and normal ones before a removal and after it
-still-held : (r : Regions) (level : ℕ) (s n s' n' : Option Pick) → ((y : Pick) → s ≡ Some y → y.kind ≡ SpecialApc) → ((y : Pick) → n ≡ Some y → y.kind ≡ NormalApc) → ((y : Pick) → s' ≡ Some y → y.kind ≡ SpecialApc) → ((y : Pick) → n' ≡ Some y → y.kind ≡ NormalApc) → (s ≡ None → s' ≡ None) → (n ≡ None → n' ≡ None) → may_begin r level (kind_in (option_or s n)) ≡ false → may_begin r level (kind_in (option_or s' n')) ≡ false
+still-held : (r : Regions) (level : ℕ) (s n s' n' : Option Pick) → ((y : Pick) → s ≡ Some y → y.kind ≡ SpecialApc) →
+    ((y : Pick) → n ≡ Some y → y.kind ≡ NormalApc) → ((y : Pick) → s' ≡ Some y → y.kind ≡ SpecialApc) → ((y : Pick) → n' ≡ Some y → y.kind ≡ NormalApc) →
+    (s ≡ None → s' ≡ None) → (n ≡ None → n' ≡ None) → may_begin r level (kind_in (option_or s n)) ≡ false →
+    may_begin r level (kind_in (option_or s' n')) ≡ false
 still-held r level s n None None a b c d e f h = refl
 still-held r level (Some z) n (Some y) n' a b c d e f h = rw (c y refl) (rw (a z refl) at h)
 still-held r level None n (Some y) n' a b c d e f h = absurd (true≢false (ap is_some (e refl)))
@@ -155,7 +165,11 @@ still-held r level None None None (Some y) a b c d e f h = absurd (true≢false 
 
 blocked-without : (a : ApcNo) (w : Waiting) (q : ApcQueues) → IsQuiet w q → IsQuiet w (without_apc a q)
 blocked-without a w q h = record {
-  kernel = none-from _ (deliverable-kind (without_apc a q) w.regions w.level ∙ still-held w.regions w.level (first_of_kind SpecialApc q) (first_of_kind NormalApc q) (first_of_kind SpecialApc (without_apc a q)) (first_of_kind NormalApc (without_apc a q)) (first-is_of_kind SpecialApc q) (first-is_of_kind NormalApc q) (first-is_of_kind SpecialApc (without_apc a q)) (first-is_of_kind NormalApc (without_apc a q)) (first-without_none SpecialApc a q) (first-without_none NormalApc a q) (sym (deliverable-kind q w.regions w.level) ∙ some-of-none _ h.kernel));
+  kernel = none-from _ (deliverable-kind (without_apc a q) w.regions w.level
+      ∙ still-held w.regions w.level (first_of_kind SpecialApc q) (first_of_kind NormalApc q) (first_of_kind SpecialApc (without_apc a q))
+      (first_of_kind NormalApc (without_apc a q)) (first-is_of_kind SpecialApc q) (first-is_of_kind NormalApc q)
+      (first-is_of_kind SpecialApc (without_apc a q)) (first-is_of_kind NormalApc (without_apc a q)) (first-without_none SpecialApc a q)
+      (first-without_none NormalApc a q) (sym (deliverable-kind q w.regions w.level) ∙ some-of-none _ h.kernel));
   user = λ t. first-without_none UserApc a q (h.user t);
 }
 
@@ -168,6 +182,7 @@ quiet-without a d q new e h = subst (λ (x : ApcQueues). QuietDoing d x) (sym e)
   go IsRunning h = tt
   go IsGone h = tt
 
-pub quiet-flushed : (r : Option (ApcNo × ℕ)) (d : Doing) (q new : ApcQueues) → IfSome r (λ y. new ≡ without_apc y.0 q) → IfNone r (new ≡ q) → QuietDoing d q → QuietDoing d new
+pub quiet-flushed : (r : Option (ApcNo × ℕ)) (d : Doing) (q new : ApcQueues) → IfSome r (λ y. new ≡ without_apc y.0 q) → IfNone r (new ≡ q) → QuietDoing d q →
+    QuietDoing d new
 quiet-flushed None d q new some none h = subst (λ (x : ApcQueues). QuietDoing d x) (sym none) h
 quiet-flushed (Some y) d q new some none h = quiet-without y.0 d q new some h

@@ -1,5 +1,6 @@
 -- Each flag is what the last act of its row left.
-use Rattle.std.proofs.Common.{◌≡◌, ◌∷◌, ◌&&◌, ◌==◌, Bool, List, None, Option, Some, [], ap, false, if◌then◌else◌, is_none, is_some, not, refl, sym, true, ◌∙◌, ℕ}
+use Rattle.std.proofs.Common.{◌≡◌, ◌∷◌, ◌&&◌, ◌==◌, Bool, List, None, Option, Some, [], ap, false, if◌then◌else◌, is_none, is_some, not, refl, sym, true, ◌∙◌}
+use Rattle.std.proofs.Common.{ℕ}
 use Rattle.std.proofs.lemmas.Bool.{eqb-true, false≢true}
 use Rattle.nt_event.specs.Apcs.{has_user, takes, with_apc}
 use Rattle.nt_event.specs.Routines.{is_kernel_kind}
@@ -15,8 +16,10 @@ use Rattle.nt_event.specs.declared.commands.Reply.TheVariants.{Blocked, Done, No
 use Rattle.nt_event.specs.declared.inserts.Pick.{Pick}
 use Rattle.nt_event.specs.declared.numbers.ApcNo.{ApcNo}
 use Rattle.nt_thread.specs.Laws.{FactsAreLastLeft}
-use Rattle.nt_thread.specs.Rows.{clears_alert, clears_leaving, clears_mark, clears_released, has_status, last_left, left_by, same_mode, sets_alert, sets_leaving, sets_mark, sets_released}
-use Rattle.nt_thread.specs.Runs.{Act, Alerts, EndsDelay, GivesWay, Goes, Inserts, Leaves, Releases, Removes, Resumes, Takes, TestsAlert, Wait, Waits, after, facts_of}
+use Rattle.nt_thread.specs.Rows.{clears_alert, clears_leaving, clears_mark, clears_released, has_status, last_left, left_by, same_mode, sets_alert}
+use Rattle.nt_thread.specs.Rows.{sets_leaving, sets_mark, sets_released}
+use Rattle.nt_thread.specs.Runs.{Act, Alerts, EndsDelay, GivesWay, Goes, Inserts, Leaves, Releases, Removes, Resumes, Takes, TestsAlert, Wait, Waits, after}
+use Rattle.nt_thread.specs.Runs.{facts_of}
 
 -- a flag that both ways leave the same
 same-if : (f : ThreadFacts → Bool) (b v : Bool) (x y : ThreadFacts) → f x ≡ v → f y ≡ v → f (if b then x else y) ≡ v
@@ -37,7 +40,8 @@ same-ended UserMode st x = refl
 
 alert-row : (m k : Mode) (x : ThreadFacts) → is_alerted m (alert_facts k x) ≡ left_by (sets_alert m (Alerts k) x) false (is_alerted m x)
 alert-row m k x = go (is_gone x) (ends_by_alert k x) (same_mode k m) (set-alerted m k true x) where
-  go : (g e s : Bool) → is_alerted m (set_alerted k true x) ≡ (if s then true else is_alerted m x) → is_alerted m (if g then x else (if e then ended alerted x else set_alerted k true x)) ≡ left_by (s && (not g && not e)) false (is_alerted m x)
+  go : (g e s : Bool) → is_alerted m (set_alerted k true x) ≡ (if s then true else is_alerted m x) →
+      is_alerted m (if g then x else (if e then ended alerted x else set_alerted k true x)) ≡ left_by (s && (not g && not e)) false (is_alerted m x)
   go true e true h = refl
   go true e false h = refl
   go false true true h = same-ended m alerted x
@@ -45,9 +49,9 @@ alert-row m k x = go (is_gone x) (ends_by_alert k x) (same_mode k m) (set-alerte
   go false false true h = h
   go false false false h = h
 
-marked-alerted : (m : Mode) (b : Bool) (x : ThreadFacts) → is_alerted m (record x { marked = b }) ≡ is_alerted m x
-marked-alerted KernelMode b x = refl
-marked-alerted UserMode b x = refl
+user_pending-alerted : (m : Mode) (b : Bool) (x : ThreadFacts) → is_alerted m (record x { user_pending = b }) ≡ is_alerted m x
+user_pending-alerted KernelMode b x = refl
+user_pending-alerted UserMode b x = refl
 
 clear-row : (m k : Mode) (x : ThreadFacts) → is_alerted m (set_alerted k false x) ≡ left_by false (same_mode k m) (is_alerted m x)
 clear-row m k x = set-alerted m k false x
@@ -60,9 +64,10 @@ test-row m k x = go (is_alerted k x) (is_user k && has_user x.apcs) refl where
   same UserMode KernelMode e = refl
   same UserMode UserMode e = e
 
-  go : (a u : Bool) → is_alerted k x ≡ a → is_alerted m (if a then set_alerted k false x else (if u then (record x { marked = true }) else x)) ≡ left_by false (same_mode k m) (is_alerted m x)
+  go : (a u : Bool) → is_alerted k x ≡ a → is_alerted m (if a then set_alerted k false x else
+      (if u then (record x { user_pending = true }) else x)) ≡ left_by false (same_mode k m) (is_alerted m x)
   go true u e = clear-row m k x
-  go false true e = marked-alerted m true x ∙ same m k e
+  go false true e = user_pending-alerted m true x ∙ same m k e
   go false false e = same m k e
 
 -- ---- waits
@@ -71,9 +76,9 @@ test-row m k x = go (is_alerted k x) (is_user k && has_user x.apcs) refl where
 apart : (st n k : ℕ) → (n == k) ≡ false → (st == n) ≡ true → (st == k) ≡ false
 apart st n k d e = let same : st ≡ n = eqb-true st n e in ap (λ (v : ℕ). v == k) same ∙ d
 
-alerted-marked : (m : Mode) (b c : Bool) (x : ThreadFacts) → is_alerted m (if c then (record x { marked = b }) else x) ≡ is_alerted m x
-alerted-marked m b true x = marked-alerted m b x
-alerted-marked m b false x = refl
+alerted-user_pending : (m : Mode) (b c : Bool) (x : ThreadFacts) → is_alerted m (if c then (record x { user_pending = b }) else x) ≡ is_alerted m x
+alerted-user_pending m b true x = user_pending-alerted m b x
+alerted-user_pending m b false x = refl
 
 alerted-released : (m : Mode) (d : Bool) (x : ThreadFacts) → is_alerted m (if d then x else (record x { released = false })) ≡ is_alerted m x
 alerted-released KernelMode true x = refl
@@ -81,15 +86,21 @@ alerted-released KernelMode false x = refl
 alerted-released UserMode true x = refl
 alerted-released UserMode false x = refl
 
-answered-alerted : (m k : Mode) (st : ℕ) (a d : Bool) (x : ThreadFacts) → is_alerted m (answered st k a d x) ≡ left_by false ((st == alerted) && same_mode (if is_alerted k x then k else KernelMode) m) (is_alerted m x)
+answered-alerted : (m k : Mode) (st : ℕ) (a d : Bool) (x : ThreadFacts) →
+    is_alerted m (answered st k a d x) ≡ left_by false ((st == alerted) && same_mode (if is_alerted k x then k else KernelMode) m) (is_alerted m x)
 answered-alerted m k st a d x = go (st == satisfied) refl (st == alerted) refl where
-  go : (b : Bool) → (st == satisfied) ≡ b → (c : Bool) → (st == alerted) ≡ c → is_alerted m (if b then (if d then x else (record x { released = false })) else (if c then alert_taken k x else (if (st == user_apc) && a then (record x { marked = true }) else x))) ≡ left_by false (c && same_mode (if is_alerted k x then k else KernelMode) m) (is_alerted m x)
+  go : (b : Bool) → (st == satisfied) ≡ b → (c : Bool) → (st == alerted) ≡ c →
+      is_alerted m (if b then (if d then x else (record x { released = false })) else
+      (if c then alert_taken k x else (if (st == user_apc) && a then (record x { user_pending = true }) else x))) ≡ left_by false
+      (c && same_mode (if is_alerted k x then k else KernelMode) m) (is_alerted m x)
   go true e true f = absurd (false≢true (sym (apart st satisfied alerted refl e) ∙ f))
   go true e false f = alerted-released m d x
   go false e true f = clear-row m (if is_alerted k x then k else KernelMode) x
-  go false e false f = alerted-marked m true ((st == user_apc) && a) x
+  go false e false f = alerted-user_pending m true ((st == user_apc) && a) x
 
-waited-alerted : (m : Mode) (w : Wait) (y : Reply) (x : ThreadFacts) → is_alerted m (waited w.number w.regions w.level w.mode w.alertable (is_some w.reached) y x) ≡ left_by false (has_status alerted y && same_mode (if is_alerted w.mode x then w.mode else KernelMode) m) (is_alerted m x)
+waited-alerted : (m : Mode) (w : Wait) (y : Reply) (x : ThreadFacts) → is_alerted m
+    (waited w.number w.regions w.level w.mode w.alertable (is_some w.reached) y x) ≡ left_by false
+    (has_status alerted y && same_mode (if is_alerted w.mode x then w.mode else KernelMode) m) (is_alerted m x)
 waited-alerted m w (Status st) x = answered-alerted m w.mode st w.alertable (is_some w.reached) x
 waited-alerted KernelMode w Blocked x = refl
 waited-alerted UserMode w Blocked x = refl
@@ -98,51 +109,59 @@ waited-alerted m w Yes x = refl
 waited-alerted m w No x = refl
 waited-alerted m w (Refused r) x = refl
 
-set-alerted-marked : (k : Mode) (b : Bool) (x : ThreadFacts) → (set_alerted k b x).marked ≡ x.marked
-set-alerted-marked KernelMode b x = refl
-set-alerted-marked UserMode b x = refl
+set-alerted-user_pending : (k : Mode) (b : Bool) (x : ThreadFacts) → (set_alerted k b x).user_pending ≡ x.user_pending
+set-alerted-user_pending KernelMode b x = refl
+set-alerted-user_pending UserMode b x = refl
 
-answered-marked : (k : Mode) (st : ℕ) (a d : Bool) (x : ThreadFacts) → (answered st k a d x).marked ≡ left_by ((st == user_apc) && a) false x.marked
-answered-marked k st a d x = go (st == satisfied) refl (st == alerted) refl (st == user_apc) refl where
-  kept : (d : Bool) → (if d then x else (record x { released = false })).marked ≡ x.marked
+answered-user_pending : (k : Mode) (st : ℕ) (a d : Bool) (x : ThreadFacts) →
+    (answered st k a d x).user_pending ≡ left_by ((st == user_apc) && a) false x.user_pending
+answered-user_pending k st a d x = go (st == satisfied) refl (st == alerted) refl (st == user_apc) refl where
+  kept : (d : Bool) → (if d then x else (record x { released = false })).user_pending ≡ x.user_pending
   kept true = refl
   kept false = refl
 
-  go : (b : Bool) → (st == satisfied) ≡ b → (c : Bool) → (st == alerted) ≡ c → (u : Bool) → (st == user_apc) ≡ u → (if b then (if d then x else (record x { released = false })) else (if c then alert_taken k x else (if u && a then (record x { marked = true }) else x))).marked ≡ left_by (u && a) false x.marked
+  go : (b : Bool) → (st == satisfied) ≡ b → (c : Bool) → (st == alerted) ≡ c → (u : Bool) → (st == user_apc) ≡ u →
+      (if b then (if d then x else (record x { released = false })) else
+      (if c then alert_taken k x else (if u && a then (record x { user_pending = true }) else x))).user_pending ≡ left_by (u && a) false x.user_pending
   go true e c f true g = absurd (false≢true (sym (apart st satisfied user_apc refl e) ∙ g))
   go true e c f false g = kept d
   go false e true f true g = absurd (false≢true (sym (apart st alerted user_apc refl f) ∙ g))
-  go false e true f false g = set-alerted-marked (if is_alerted k x then k else KernelMode) false x
+  go false e true f false g = set-alerted-user_pending (if is_alerted k x then k else KernelMode) false x
   go false e false f u g = both (u && a) where
-    both : (v : Bool) → (if v then (record x { marked = true }) else x).marked ≡ left_by v false x.marked
+    both : (v : Bool) → (if v then (record x { user_pending = true }) else x).user_pending ≡ left_by v false x.user_pending
     both true = refl
     both false = refl
 
-waited-marked : (w : Wait) (y : Reply) (x : ThreadFacts) → (waited w.number w.regions w.level w.mode w.alertable (is_some w.reached) y x).marked ≡ left_by (has_status user_apc y && w.alertable) false x.marked
-waited-marked w (Status st) x = answered-marked w.mode st w.alertable (is_some w.reached) x
-waited-marked w Blocked x = refl
-waited-marked w Done x = refl
-waited-marked w Yes x = refl
-waited-marked w No x = refl
-waited-marked w (Refused r) x = refl
+waited-user_pending : (w : Wait) (y : Reply) (x : ThreadFacts) → (waited w.number w.regions w.level w.mode w.alertable
+    (is_some w.reached) y x).user_pending ≡ left_by (has_status user_apc y && w.alertable) false x.user_pending
+waited-user_pending w (Status st) x = answered-user_pending w.mode st w.alertable (is_some w.reached) x
+waited-user_pending w Blocked x = refl
+waited-user_pending w Done x = refl
+waited-user_pending w Yes x = refl
+waited-user_pending w No x = refl
+waited-user_pending w (Refused r) x = refl
 
 set-alerted-released : (k : Mode) (b : Bool) (x : ThreadFacts) → (set_alerted k b x).released ≡ x.released
 set-alerted-released KernelMode b x = refl
 set-alerted-released UserMode b x = refl
 
-answered-released : (k : Mode) (st : ℕ) (a : Bool) (reached : Option Bool) (x : ThreadFacts) → (answered st k a (is_some reached) x).released ≡ left_by false ((st == satisfied) && is_none reached) x.released
+answered-released : (k : Mode) (st : ℕ) (a : Bool) (reached : Option Bool) (x : ThreadFacts) →
+    (answered st k a (is_some reached) x).released ≡ left_by false ((st == satisfied) && is_none reached) x.released
 answered-released k st a reached x = go (st == satisfied) reached where
-  rest : (c u : Bool) → (if c then alert_taken k x else (if u then (record x { marked = true }) else x)).released ≡ x.released
+  rest : (c u : Bool) → (if c then alert_taken k x else (if u then (record x { user_pending = true }) else x)).released ≡ x.released
   rest true u = set-alerted-released (if is_alerted k x then k else KernelMode) false x
   rest false true = refl
   rest false false = refl
 
-  go : (b : Bool) (reached : Option Bool) → (if b then (if is_some reached then x else (record x { released = false })) else (if st == alerted then alert_taken k x else (if (st == user_apc) && a then (record x { marked = true }) else x))).released ≡ left_by false (b && is_none reached) x.released
+  go : (b : Bool) (reached : Option Bool) → (if b then (if is_some reached then x else (record x { released = false })) else
+      (if st == alerted then alert_taken k x else (if (st == user_apc) && a then (record x { user_pending = true }) else x))).released ≡ left_by false
+      (b && is_none reached) x.released
   go true None = refl
   go true (Some r) = refl
   go false reached = rest (st == alerted) ((st == user_apc) && a)
 
-waited-released : (w : Wait) (y : Reply) (x : ThreadFacts) → (waited w.number w.regions w.level w.mode w.alertable (is_some w.reached) y x).released ≡ left_by false (has_status satisfied y && is_none w.reached) x.released
+waited-released : (w : Wait) (y : Reply) (x : ThreadFacts) → (waited w.number w.regions w.level w.mode w.alertable
+    (is_some w.reached) y x).released ≡ left_by false (has_status satisfied y && is_none w.reached) x.released
 waited-released w (Status st) x = answered-released w.mode st w.alertable w.reached x
 waited-released w Blocked x = refl
 waited-released w Done x = refl
@@ -156,7 +175,9 @@ set-alerted-leaving UserMode b x = refl
 
 waited-leaving : (w : Wait) (y : Reply) (x : ThreadFacts) → (waited w.number w.regions w.level w.mode w.alertable (is_some w.reached) y x).leaving ≡ x.leaving
 waited-leaving w (Status st) x =
-    same-if (λ z. z.leaving) (st == satisfied) x.leaving _ _ (same-if (λ z. z.leaving) (is_some w.reached) x.leaving _ _ refl refl) (same-if (λ z. z.leaving) (st == alerted) x.leaving _ _ (set-alerted-leaving (if is_alerted w.mode x then w.mode else KernelMode) false x) (same-if (λ z. z.leaving) ((st == user_apc) && w.alertable) x.leaving _ _ refl refl))
+    same-if (λ z. z.leaving) (st == satisfied) x.leaving _ _ (same-if (λ z. z.leaving) (is_some w.reached) x.leaving _ _ refl refl)
+    (same-if (λ z. z.leaving) (st == alerted) x.leaving _ _ (set-alerted-leaving (if is_alerted w.mode x then w.mode else KernelMode) false x)
+    (same-if (λ z. z.leaving) ((st == user_apc) && w.alertable) x.leaving _ _ refl refl))
 waited-leaving w Blocked x = refl
 waited-leaving w Done x = refl
 waited-leaving w Yes x = refl
@@ -166,7 +187,9 @@ waited-leaving w (Refused r) x = refl
 -- ---- inserts
 
 -- an insert changes no flag but the mark
-insert-keeps : (f : ThreadFacts → Bool) (pick : Pick) (x : ThreadFacts) → f (record x { apcs = with_apc pick x.apcs }) ≡ f x → f (ended kernel_apc (record x { apcs = with_apc pick x.apcs })) ≡ f x → f (record (ended user_apc (record x { apcs = with_apc pick x.apcs })) { marked = true }) ≡ f x → f (insert_facts pick x) ≡ f x
+insert-keeps : (f : ThreadFacts → Bool) (pick : Pick) (x : ThreadFacts) → f (record x { apcs = with_apc pick x.apcs }) ≡ f x →
+    f (ended kernel_apc (record x { apcs = with_apc pick x.apcs })) ≡ f x →
+    f (record (ended user_apc (record x { apcs = with_apc pick x.apcs })) { user_pending = true }) ≡ f x → f (insert_facts pick x) ≡ f x
 insert-keeps f pick x none kernel user =
     same-if f (ends_by_apc pick x) (f x) _ _ (same-if f (is_kernel_kind pick.kind) (f x) _ _ kernel user) none
 
@@ -174,9 +197,12 @@ insert-alerted : (m : Mode) (pick : Pick) (x : ThreadFacts) → is_alerted m (in
 insert-alerted KernelMode pick x = insert-keeps (λ z. z.alerted_kernel) pick x refl refl refl
 insert-alerted UserMode pick x = insert-keeps (λ z. z.alerted_user) pick x refl refl refl
 
-insert-marked : (pick : Pick) (x : ThreadFacts) → (if takes pick.apc x.apcs then insert_facts pick x else x).marked ≡ left_by (takes pick.apc x.apcs && (ends_by_apc pick x && not (is_kernel_kind pick.kind))) false x.marked
-insert-marked pick x = go (takes pick.apc x.apcs) (ends_by_apc pick x) (is_kernel_kind pick.kind) where
-  go : (t e k : Bool) → (if t then (if e then (if k then ended kernel_apc (record x { apcs = with_apc pick x.apcs }) else record (ended user_apc (record x { apcs = with_apc pick x.apcs })) { marked = true }) else (record x { apcs = with_apc pick x.apcs })) else x).marked ≡ left_by (t && (e && not k)) false x.marked
+insert-user_pending : (pick : Pick) (x : ThreadFacts) → (if takes pick.apc x.apcs then insert_facts pick x else x).user_pending ≡ left_by
+    (takes pick.apc x.apcs && (ends_by_apc pick x && not (is_kernel_kind pick.kind))) false x.user_pending
+insert-user_pending pick x = go (takes pick.apc x.apcs) (ends_by_apc pick x) (is_kernel_kind pick.kind) where
+  go : (t e k : Bool) → (if t then (if e then (if k then ended kernel_apc (record x { apcs = with_apc pick x.apcs }) else record
+      (ended user_apc (record x { apcs = with_apc pick x.apcs })) { user_pending = true }) else
+      (record x { apcs = with_apc pick x.apcs })) else x).user_pending ≡ left_by (t && (e && not k)) false x.user_pending
   go true true true = refl
   go true true false = refl
   go true false k = refl
@@ -192,10 +218,10 @@ taken-alerted UserMode SpecialApc a x = refl
 taken-alerted UserMode NormalApc a x = refl
 taken-alerted UserMode UserApc a x = refl
 
-taken-marked : (k : ApcKind) (a : ApcNo) (x : ThreadFacts) → (apc_taken k a x).marked ≡ left_by false (not (is_kernel_kind k)) x.marked
-taken-marked SpecialApc a x = refl
-taken-marked NormalApc a x = refl
-taken-marked UserApc a x = refl
+taken-user_pending : (k : ApcKind) (a : ApcNo) (x : ThreadFacts) → (apc_taken k a x).user_pending ≡ left_by false (not (is_kernel_kind k)) x.user_pending
+taken-user_pending SpecialApc a x = refl
+taken-user_pending NormalApc a x = refl
+taken-user_pending UserApc a x = refl
 
 taken-released : (k : ApcKind) (a : ApcNo) (x : ThreadFacts) → (apc_taken k a x).released ≡ x.released
 taken-released SpecialApc a x = refl
@@ -223,14 +249,17 @@ expiry-keeps f from x end = same-if f (ends_by_expiry from x) (f x) _ _ end refl
 alert-keeps : (f : ThreadFacts → Bool) (m : Mode) (x : ThreadFacts) → f (ended alerted x) ≡ f x → f (set_alerted m true x) ≡ f x → f (alert_facts m x) ≡ f x
 alert-keeps f m x end flag = same-if f (is_gone x) (f x) _ _ refl (same-if f (ends_by_alert m x) (f x) _ _ end flag)
 
-test-keeps : (f : ThreadFacts → Bool) (m : Mode) (x : ThreadFacts) → f (set_alerted m false x) ≡ f x → f (record x { marked = true }) ≡ f x → f (alert_tested m x) ≡ f x
+test-keeps : (f : ThreadFacts → Bool) (m : Mode) (x : ThreadFacts) → f (set_alerted m false x) ≡ f x → f (record x { user_pending = true }) ≡ f x →
+    f (alert_tested m x) ≡ f x
 test-keeps f m x flag mark =
     same-if f (is_alerted m x) (f x) _ _ flag (same-if f (is_user m && has_user x.apcs) (f x) _ _ mark refl)
 
-test-marked : (m : Mode) (x : ThreadFacts) → (alert_tested m x).marked ≡ left_by (not (is_alerted m x) && (is_user m && has_user x.apcs)) false x.marked
-test-marked m x = go (is_alerted m x) (is_user m && has_user x.apcs) where
-  go : (a u : Bool) → (if a then set_alerted m false x else (if u then (record x { marked = true }) else x)).marked ≡ left_by (not a && u) false x.marked
-  go true u = set-alerted-marked m false x
+test-user_pending : (m : Mode) (x : ThreadFacts) → (alert_tested m x).user_pending ≡ left_by
+    (not (is_alerted m x) && (is_user m && has_user x.apcs)) false x.user_pending
+test-user_pending m x = go (is_alerted m x) (is_user m && has_user x.apcs) where
+  go : (a u : Bool) → (if a then set_alerted m false x else (if u then (record x { user_pending = true }) else x)).user_pending ≡ left_by
+      (not a && u) false x.user_pending
+  go true u = set-alerted-user_pending m false x
   go false true = refl
   go false false = refl
 
@@ -257,19 +286,19 @@ alerted-after UserMode Leaves x = refl
 alerted-after KernelMode Goes x = refl
 alerted-after UserMode Goes x = refl
 
-marked-after : (act : Act) (x : ThreadFacts) → (after act x).marked ≡ left_by (sets_mark act x) (clears_mark act x) x.marked
-marked-after Resumes x = refl
-marked-after (GivesWay level) x = refl
-marked-after (Waits w) x = waited-marked w (wait_reply x w.regions w.level w.mode w.alertable w.reached) x
-marked-after Releases x = release-keeps (λ z. z.marked) x refl refl
-marked-after (EndsDelay from) x = expiry-keeps (λ z. z.marked) from x refl
-marked-after (Alerts m) x = alert-keeps (λ z. z.marked) m x refl (set-alerted-marked m true x)
-marked-after (TestsAlert m) x = test-marked m x
-marked-after (Inserts pick) x = insert-marked pick x
-marked-after (Takes pick) x = taken-marked pick.kind pick.apc x
-marked-after (Removes a) x = refl
-marked-after Leaves x = refl
-marked-after Goes x = refl
+user_pending-after : (act : Act) (x : ThreadFacts) → (after act x).user_pending ≡ left_by (sets_mark act x) (clears_mark act x) x.user_pending
+user_pending-after Resumes x = refl
+user_pending-after (GivesWay level) x = refl
+user_pending-after (Waits w) x = waited-user_pending w (wait_reply x w.regions w.level w.mode w.alertable w.reached) x
+user_pending-after Releases x = release-keeps (λ z. z.user_pending) x refl refl
+user_pending-after (EndsDelay from) x = expiry-keeps (λ z. z.user_pending) from x refl
+user_pending-after (Alerts m) x = alert-keeps (λ z. z.user_pending) m x refl (set-alerted-user_pending m true x)
+user_pending-after (TestsAlert m) x = test-user_pending m x
+user_pending-after (Inserts pick) x = insert-user_pending pick x
+user_pending-after (Takes pick) x = taken-user_pending pick.kind pick.apc x
+user_pending-after (Removes a) x = refl
+user_pending-after Leaves x = refl
+user_pending-after Goes x = refl
 
 released-after : (act : Act) (x : ThreadFacts) → (after act x).released ≡ left_by (sets_released act x) (clears_released act x) x.released
 released-after Resumes x = refl
@@ -305,27 +334,31 @@ alerted-last : (m : Mode) (acts : List Act) → is_alerted m (facts_of acts) ≡
 alerted-last KernelMode [] = refl
 alerted-last UserMode [] = refl
 alerted-last m (act ∷ past) =
-    alerted-after m act (facts_of past) ∙ ap (λ (old : Bool). left_by (sets_alert m act (facts_of past)) (clears_alert m act (facts_of past)) old) (alerted-last m past)
+    alerted-after m act (facts_of past) ∙ ap (λ (old : Bool). left_by (sets_alert m act (facts_of past)) (clears_alert m act (facts_of past)) old)
+    (alerted-last m past)
 
-marked-last : (acts : List Act) → (facts_of acts).marked ≡ last_left sets_mark clears_mark acts
-marked-last [] = refl
-marked-last (act ∷ past) =
-    marked-after act (facts_of past) ∙ ap (λ (old : Bool). left_by (sets_mark act (facts_of past)) (clears_mark act (facts_of past)) old) (marked-last past)
+user_pending-last : (acts : List Act) → (facts_of acts).user_pending ≡ last_left sets_mark clears_mark acts
+user_pending-last [] = refl
+user_pending-last (act ∷ past) =
+    user_pending-after act (facts_of past) ∙ ap (λ (old : Bool). left_by (sets_mark act (facts_of past)) (clears_mark act (facts_of past)) old)
+    (user_pending-last past)
 
 released-last : (acts : List Act) → (facts_of acts).released ≡ last_left sets_released clears_released acts
 released-last [] = refl
 released-last (act ∷ past) =
-    released-after act (facts_of past) ∙ ap (λ (old : Bool). left_by (sets_released act (facts_of past)) (clears_released act (facts_of past)) old) (released-last past)
+    released-after act (facts_of past) ∙ ap (λ (old : Bool). left_by (sets_released act (facts_of past)) (clears_released act (facts_of past)) old)
+    (released-last past)
 
 leaving-last : (acts : List Act) → (facts_of acts).leaving ≡ last_left sets_leaving clears_leaving acts
 leaving-last [] = refl
 leaving-last (act ∷ past) =
-    leaving-after act (facts_of past) ∙ ap (λ (old : Bool). left_by (sets_leaving act (facts_of past)) (clears_leaving act (facts_of past)) old) (leaving-last past)
+    leaving-after act (facts_of past) ∙ ap (λ (old : Bool). left_by (sets_leaving act (facts_of past)) (clears_leaving act (facts_of past)) old)
+    (leaving-last past)
 
 pub flags-last : FactsAreLastLeft
 flags-last acts = record {
   alerted = λ m. alerted-last m acts;
-  marked = marked-last acts;
+  user_pending = user_pending-last acts;
   released = released-last acts;
   leaving = leaving-last acts;
 }

@@ -4,7 +4,8 @@ use Rattle.std.proofs.lemmas.Bool.{false≢true}
 use Rattle.nt_event.specs.Apcs.{closed_apcs, deliverable, has_user, takes, with_apc, without_apc}
 use Rattle.nt_event.specs.Routines.{is_kernel_kind}
 use Rattle.nt_event.specs.Threads.{ThreadFacts, ended, ends_by_alert, ends_by_apc, ends_by_expiry, ends_by_release, is_alerted, is_gone, set_alerted}
-use Rattle.nt_event.specs.Waits.{alert_facts, alert_tested, answered, apc_taken, expiry_facts, insert_facts, is_satisfied, left_facts, release_facts, wait_reply, waited}
+use Rattle.nt_event.specs.Waits.{alert_facts, alert_tested, answered, apc_taken, expiry_facts, insert_facts, is_satisfied, leaving_facts, release_facts}
+use Rattle.nt_event.specs.Waits.{wait_reply, waited}
 use Rattle.nt_event.specs.Replies.{alerted, is_user, kernel_apc, satisfied, user_apc}
 use Rattle.nt_event.specs.declared.commands.ApcKind.{ApcKind}
 use Rattle.nt_event.specs.declared.commands.ApcKind.TheVariants.{Normal as NormalApc, Special as SpecialApc, User as UserApc}
@@ -19,7 +20,8 @@ use Rattle.nt_event.specs.declared.threads.Doing.TheVariants.{Blocked as IsBlock
 use Rattle.nt_thread.proofs.Quiet.{none-from, quiet-added, quiet-without}
 use Rattle.nt_thread.specs.Laws.{BlocksAreQuiet}
 use Rattle.nt_thread.specs.Quiet.{IsQuiet, NothingBehind, QuietDoing}
-use Rattle.nt_thread.specs.Runs.{Act, Alerts, EndsDelay, GivesWay, Goes, Inserts, Leaves, Releases, Removes, Resumes, Takes, TestsAlert, Wait, Waits, after, facts_of}
+use Rattle.nt_thread.specs.Runs.{Act, Alerts, EndsDelay, GivesWay, Goes, Inserts, Leaves, Releases, Removes, Resumes, Takes, TestsAlert, Wait, Waits, after}
+use Rattle.nt_thread.specs.Runs.{facts_of}
 
 -- ---- what changes neither what it is doing nor its APCs
 
@@ -33,7 +35,8 @@ quiet-if false x y h k = k
 
 quiet-answered : (st : ℕ) (m : Mode) (alertable delay : Bool) (x : ThreadFacts) → NothingBehind x → NothingBehind (answered st m alertable delay x)
 quiet-answered st m alertable delay x h =
-    quiet-if (st == satisfied) _ _ (quiet-if delay _ _ h h) (quiet-if (st == alerted) _ _ (quiet-set_alerted (if is_alerted m x then m else KernelMode) false x h) (quiet-if ((st == user_apc) && alertable) _ _ h h))
+    quiet-if (st == satisfied) _ _ (quiet-if delay _ _ h h) (quiet-if (st == alerted) _ _
+    (quiet-set_alerted (if is_alerted m x then m else KernelMode) false x h) (quiet-if ((st == user_apc) && alertable) _ _ h h))
 
 quiet-alert_tested : (m : Mode) (x : ThreadFacts) → NothingBehind x → NothingBehind (alert_tested m x)
 quiet-alert_tested m x h =
@@ -44,7 +47,7 @@ quiet-taken SpecialApc a x h = quiet-without a x.doing x.apcs (without_apc a x.a
 quiet-taken NormalApc a x h = quiet-without a x.doing x.apcs (without_apc a x.apcs) refl h
 quiet-taken UserApc a x h = quiet-without a x.doing x.apcs (without_apc a x.apcs) refl h
 
-quiet-left : (x : ThreadFacts) → NothingBehind x → NothingBehind (left_facts x)
+quiet-left : (x : ThreadFacts) → NothingBehind x → NothingBehind (leaving_facts x)
 quiet-left x h = go x.doing h where
   go : (d : Doing) → QuietDoing d x.apcs → QuietDoing d (closed_apcs x.apcs)
   go (IsBlocked w) q = record { kernel = q.kernel; user = q.user }
@@ -65,7 +68,9 @@ quiet-alert m x h = quiet-if (is_gone x) _ _ h (quiet-if (ends_by_alert m x) _ _
 
 quiet-insert : (pick : Pick) (x : ThreadFacts) → NothingBehind x → NothingBehind (insert_facts pick x)
 quiet-insert pick x h = go (ends_by_apc pick x) refl (is_kernel_kind pick.kind) where
-  go : (b : Bool) → ends_by_apc pick x ≡ b → (k : Bool) → NothingBehind (if b then (if k then ended kernel_apc (record x { apcs = with_apc pick x.apcs }) else record (ended user_apc (record x { apcs = with_apc pick x.apcs })) { marked = true }) else (record x { apcs = with_apc pick x.apcs }))
+  go : (b : Bool) → ends_by_apc pick x ≡ b → (k : Bool) → NothingBehind (if b then
+      (if k then ended kernel_apc (record x { apcs = with_apc pick x.apcs }) else record
+      (ended user_apc (record x { apcs = with_apc pick x.apcs })) { user_pending = true }) else (record x { apcs = with_apc pick x.apcs }))
   go true e true = tt
   go true e false = tt
   go false e k = quiet-added pick x h e
@@ -81,15 +86,26 @@ pub record Blocks (x : ThreadFacts) (w : Wait) : Type 0 where
   pub user : (w.alertable && (is_user w.mode && has_user x.apcs)) ≡ false
 
 blocks-from : (x : ThreadFacts) (w : Wait) → wait_reply x w.regions w.level w.mode w.alertable w.reached ≡ Blocked → Blocks x w
-blocks-from x w = go (is_some (deliverable x.apcs w.regions w.level)) refl (is_satisfied x w.reached) (w.alertable && is_alerted w.mode x) (w.alertable && (is_user w.mode && has_user x.apcs)) refl where
-  go : (a : Bool) → is_some (deliverable x.apcs w.regions w.level) ≡ a → (b c d : Bool) → (w.alertable && (is_user w.mode && has_user x.apcs)) ≡ d → (if a then Status kernel_apc else (if b then Status satisfied else (if c then Status alerted else (if d then Status user_apc else (if w.alertable && x.alerted_kernel then Status alerted else (if not w.alertable && (is_user w.mode && x.marked) then Status user_apc else Blocked)))))) ≡ Blocked → Blocks x w
-  go true e b c d f h = absurd (no-status kernel_apc h)
-  go false e true c d f h = absurd (no-status satisfied h)
-  go false e false true d f h = absurd (no-status alerted h)
-  go false e false false true f h = absurd (no-status user_apc h)
-  go false e false false false f h = record { kernel = e; user = f }
+blocks-from x w = go (is_some (deliverable x.apcs w.regions w.level)) refl (is_satisfied x w.reached) (w.alertable && is_alerted w.mode x)
+    (w.alertable && (is_user w.mode && has_user x.apcs)) refl where
+      go : (a : Bool) → is_some (deliverable x.apcs w.regions w.level) ≡ a → (b c d : Bool) → (w.alertable && (is_user w.mode && has_user x.apcs)) ≡ d →
+          (if a then Status kernel_apc else (if b then Status satisfied else
+          (if c then Status alerted else (if d then Status user_apc else (if w.alertable && x.alerted_kernel then Status alerted else
+          (if not w.alertable && (is_user w.mode && x.user_pending) then Status user_apc else Blocked)))))) ≡ Blocked → Blocks x w
+      go true e b c d f h = absurd (no-status kernel_apc h)
+      go false e true c d f h = absurd (no-status satisfied h)
+      go false e false true d f h = absurd (no-status alerted h)
+      go false e false false true f h = absurd (no-status user_apc h)
+      go false e false false false f h = record { kernel = e; user = f }
 
-quiet-blocked : (x : ThreadFacts) (w : Wait) → Blocks x w → IsQuiet (record { event = w.number; mode = w.mode; alertable = w.alertable; delay = is_some w.reached; level = w.level; regions = w.regions }) x.apcs
+quiet-blocked : (x : ThreadFacts) (w : Wait) → Blocks x w → IsQuiet (record {
+  event = w.number;
+  mode = w.mode;
+  alertable = w.alertable;
+  delay = is_some w.reached;
+  level = w.level;
+  regions = w.regions;
+}) x.apcs
 quiet-blocked x w h = record {
   kernel = none-from _ h.kernel;
   user = λ t. none-from _ (go (is_user w.mode) w.alertable (has_user x.apcs) t h.user);
@@ -99,7 +115,8 @@ quiet-blocked x w h = record {
   go true false q t f = absurd (false≢true t)
   go false a q t f = absurd (false≢true t)
 
-quiet-waited : (x : ThreadFacts) (w : Wait) (y : Reply) → NothingBehind x → (y ≡ Blocked → Blocks x w) → NothingBehind (waited w.number w.regions w.level w.mode w.alertable (is_some w.reached) y x)
+quiet-waited : (x : ThreadFacts) (w : Wait) (y : Reply) → NothingBehind x → (y ≡ Blocked → Blocks x w) →
+    NothingBehind (waited w.number w.regions w.level w.mode w.alertable (is_some w.reached) y x)
 quiet-waited x w (Status st) h b = quiet-answered st w.mode w.alertable (is_some w.reached) x h
 quiet-waited x w Blocked h b = quiet-blocked x w (b refl)
 quiet-waited x w Done h b = h

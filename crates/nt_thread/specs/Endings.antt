@@ -7,5 +7,5 @@ use Rattle.nt_event.specs.Replies.{kernel_apc, user_apc}
 
 -- profile: a user APC that ends a wait sets the user-pending mark
 abbrev pub ended_by : ApcKind → ThreadFacts → ThreadFacts
-ended_by UserApc x = record (ended user_apc x) { marked = true }
+ended_by UserApc x = record (ended user_apc x) { user_pending = true }
 ended_by _ x = ended kernel_apc x

@@ -31,7 +31,8 @@ abbrev pub sets_alert : Mode → Act → ThreadFacts → Bool
 sets_alert m (Alerts k) x = same_mode k m && (not (is_gone x) && not (ends_by_alert k x))
 sets_alert m _ x = false
 
--- cleared by a test of an alert of the mode, and by a wait that it ends: the flag of the wait's mode, else the kernel one
+-- cleared by a test of an alert of the mode, and by a wait that it ends: the flag of the wait's mode, else the kernel
+-- one
 abbrev pub clears_alert : Mode → Act → ThreadFacts → Bool
 clears_alert m (TestsAlert k) x = same_mode k m
 clears_alert m (Waits w) x = answers alerted w x && same_mode (if is_alerted w.mode x then w.mode else KernelMode) m
@@ -39,8 +40,8 @@ clears_alert m _ x = false
 
 -- ---- the user-pending mark
 
--- set by an alertable wait that a user APC ends at once, by a user APC that ends a blocked wait, and by a test of an alert for user
--- mode whose flag was clear while a user APC is queued
+-- set by an alertable wait that a user APC ends at once, by a user APC that ends a blocked wait, and by a test of an
+-- alert for user mode whose flag was clear while a user APC is queued
 abbrev pub sets_mark : Act → ThreadFacts → Bool
 sets_mark (Waits w) x = answers user_apc w x && w.alertable
 sets_mark (Inserts pick) x = takes pick.apc x.apcs && (ends_by_apc pick x && not (is_kernel_kind pick.kind))
@@ -82,4 +83,5 @@ left_by sets clears old = if sets then true else (if clears then false else old)
 -- what the last act that sets or clears the flag left; at the start it is clear
 abbrev pub last_left : (Act → ThreadFacts → Bool) → (Act → ThreadFacts → Bool) → List Act → Bool
 last_left sets clears [] = false
-last_left sets clears (act ∷ past) = left_by (sets act (facts_of past)) (clears act (facts_of past)) (last_left sets clears past)
+last_left sets clears (act ∷ past) = left_by (sets act (facts_of past)) (clears act (facts_of past))
+    (last_left sets clears past)

@@ -7,7 +7,8 @@ use Rattle.nt_event.specs.declared.numbers.ApcNo.{ApcNo}
 use Rattle.nt_event.specs.declared.threads.Doing.TheVariants.{Gone as IsGone, Ready as IsReady, Running as IsRunning}
 use Rattle.nt_event.specs.Apcs.{takes, without_apc}
 use Rattle.nt_event.specs.Threads.{ThreadFacts, start_facts}
-use Rattle.nt_event.specs.Waits.{alert_facts, alert_tested, apc_taken, expiry_facts, insert_facts, left_facts, release_facts, wait_reply, waited}
+use Rattle.nt_event.specs.Waits.{alert_facts, alert_tested, apc_taken, expiry_facts, insert_facts, leaving_facts}
+use Rattle.nt_event.specs.Waits.{release_facts, wait_reply, waited}
 
 -- a wait: the number of its event, mode and kind, whether a delay's due time is reached, and the level and regions
 pub record Wait : Type 0 where
@@ -18,8 +19,8 @@ pub record Wait : Type 0 where
   pub level : ℕ
   pub regions : Regions
 
--- a call that may change the state: `resume`, `give_way`, `wait`, `release`, `end_delay`, `alert`, `test_alert`, `apc`, `take`,
--- `leave`, `gone`; and `unapc` or `flush` of an object
+-- a call that may change the state: `resume`, `give_way`, `wait`, `release`, `end_delay`, `alert`, `test_alert`, `apc`,
+-- `take`, `leave`, `gone`; and `unapc` or `flush` of an object
 pub data Act : Type 0 where
   Resumes : Act
   GivesWay : ℕ → Act
@@ -39,7 +40,8 @@ abbrev pub after : Act → ThreadFacts → ThreadFacts
 after Resumes x = record x { doing = IsRunning }
 after (GivesWay level) x = record x { doing = IsReady level None }
 after (Waits w) x =
-    waited w.number w.regions w.level w.mode w.alertable (is_some w.reached) (wait_reply x w.regions w.level w.mode w.alertable w.reached) x
+    waited w.number w.regions w.level w.mode w.alertable (is_some w.reached)
+    (wait_reply x w.regions w.level w.mode w.alertable w.reached) x
 after Releases x = release_facts x
 after (EndsDelay from) x = expiry_facts from x
 after (Alerts m) x = alert_facts m x
@@ -47,7 +49,7 @@ after (TestsAlert m) x = alert_tested m x
 after (Inserts pick) x = if takes pick.apc x.apcs then insert_facts pick x else x
 after (Takes pick) x = apc_taken pick.kind pick.apc x
 after (Removes a) x = record x { apcs = without_apc a x.apcs }
-after Leaves x = left_facts x
+after Leaves x = leaving_facts x
 after Goes x = record x { doing = IsGone; leaving = false }
 
 -- the facts after these calls, the last one first, on the state of a new thread

@@ -1,18 +1,6 @@
 //! What a thread is asked for, and what it answers.
 use nt_event::Mode;
 
-/// The wait is satisfied, or the delay is over.
-pub const STATUS_SUCCESS: u32 = 0;
-
-/// A user APC is to be delivered.
-pub const STATUS_USER_APC: u32 = 0xC0;
-
-/// A kernel APC is to be delivered; the wait is taken up again afterwards.
-pub const STATUS_KERNEL_APC: u32 = 0x100;
-
-/// The thread was alerted.
-pub const STATUS_ALERTED: u32 = 0x101;
-
 /// A wait or a delay, at its call and where it is taken up again.
 #[derive(Clone, Copy, PartialEq, Eq, Debug)]
 pub struct WaitSpec {

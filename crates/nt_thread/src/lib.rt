@@ -20,12 +20,7 @@
 mod answers;
 pub mod laws;
 mod state;
-#[cfg(test)]
-mod tests;
 
-pub use answers::{
-    AlertAnswer, ApcAnswer, STATUS_ALERTED, STATUS_KERNEL_APC, STATUS_SUCCESS, STATUS_USER_APC,
-    WaitAnswer, WaitSpec,
-};
+pub use answers::{AlertAnswer, ApcAnswer, WaitAnswer, WaitSpec};
 pub use nt_event::{ApcKind, ApcNo, Level, Mode, Pick, Regions};
 pub use state::ThreadState;

@@ -12,12 +12,9 @@ ghost use Rattle.nt_thread.specs.Endings.{ended_by};
 ghost use Rattle.nt_thread.specs.Quiet.{NothingBehind};
 ghost use Rattle.nt_thread.specs.Replies.{reply_of};
 
-use crate::answers::{
-    AlertAnswer, ApcAnswer, STATUS_ALERTED, STATUS_KERNEL_APC, STATUS_SUCCESS, STATUS_USER_APC,
-    WaitAnswer, WaitSpec,
-};
+use crate::answers::{AlertAnswer, ApcAnswer, WaitAnswer, WaitSpec};
 use nt_apc::ApcQueues;
-use nt_event::{ApcKind, ApcNo, Doing, Level, Mode, Pick, Regions, Waiting};
+use nt_event::{ApcKind, ApcNo, Doing, Level, Mode, Pick, Regions, Waiting, status};
 use std::alloc::{AllocError, Global};
 use std::marker::Model;
 
@@ -30,7 +27,7 @@ pub struct ThreadState {
     doing: Doing,
     alerted_kernel: bool,
     alerted_user: bool,
-    marked: bool,
+    user_pending: bool,
     released: bool,
     leaving: bool,
     apcs: ApcQueues,
@@ -42,7 +39,7 @@ impl Model for ThreadState {
 
     ghost Value = { ThreadFacts };
 
-    ghost view = { λ a. record { doing = a.doing; alerted_kernel = a.alerted_kernel; alerted_user = a.alerted_user; marked = a.marked; released = a.released; leaving = a.leaving; apcs = a.apcs } };
+    ghost view = { λ a. record { doing = a.doing; alerted_kernel = a.alerted_kernel; alerted_user = a.alerted_user; user_pending = a.user_pending; released = a.released; leaving = a.leaving; apcs = a.apcs } };
 
     ghost invariant = { λ a. QuietDoing a.doing a.apcs };
 }
@@ -60,7 +57,7 @@ impl ThreadState {
             },
             alerted_kernel: false,
             alerted_user: false,
-            marked: false,
+            user_pending: false,
             released: false,
             leaving: false,
             apcs: ApcQueues::new(alloc, apcs)?,
@@ -168,22 +165,22 @@ impl ThreadState {
         ensures { reply_of result ≡ waits.wait_reply self.now regions level w.mode w.alertable w.reached }
     {
         if self.apcs.deliverable(regions, level).is_some() {
-            return WaitAnswer::Now(STATUS_KERNEL_APC);
+            return WaitAnswer::Now(status::KERNEL_APC);
         }
         if self.is_satisfied(w.reached) {
-            return WaitAnswer::Now(STATUS_SUCCESS);
+            return WaitAnswer::Now(status::SUCCESS);
         }
         if self.takes_alert(w) {
-            return WaitAnswer::Now(STATUS_ALERTED);
+            return WaitAnswer::Now(status::ALERTED);
         }
         if self.takes_user_apc(w) {
-            return WaitAnswer::Now(STATUS_USER_APC);
+            return WaitAnswer::Now(status::USER_APC);
         }
         if self.takes_kernel_alert(w) {
-            return WaitAnswer::Now(STATUS_ALERTED);
+            return WaitAnswer::Now(status::ALERTED);
         }
         if self.takes_mark(w) {
-            return WaitAnswer::Now(STATUS_USER_APC);
+            return WaitAnswer::Now(status::USER_APC);
         }
         WaitAnswer::Blocked
     }
@@ -217,9 +214,9 @@ impl ThreadState {
 
     /// Plain, of user mode, and the user-pending mark is set.
     fn takes_mark(&self, w: WaitSpec) -> bool
-        ensures { result ≡ (not w.alertable && (is_user w.mode && self.now.marked)) }
+        ensures { result ≡ (not w.alertable && (is_user w.mode && self.now.user_pending)) }
     {
-        !w.alertable && w.mode == Mode::User && self.marked
+        !w.alertable && w.mode == Mode::User && self.user_pending
     }
 
     fn is_alerted(&self, m: Mode) -> bool
@@ -244,14 +241,14 @@ impl ThreadState {
     fn leave_wait(&mut self, status: u32, w: WaitSpec)
         ensures { self.new ≡ waits.answered status w.mode w.alertable (is_some w.reached) self.old }
     {
-        if status == STATUS_SUCCESS {
+        if status == status::SUCCESS {
             if w.reached.is_none() {
                 self.released = false;
             }
-        } else if status == STATUS_ALERTED {
+        } else if status == status::ALERTED {
             self.take_alert(w.mode);
-        } else if status == STATUS_USER_APC && w.alertable {
-            self.marked = true;
+        } else if status == status::USER_APC && w.alertable {
+            self.user_pending = true;
         }
     }
 
@@ -296,7 +293,7 @@ impl ThreadState {
     {
         let ended = self.waits_for_release();
         if ended {
-            self.end_wait(STATUS_SUCCESS);
+            self.end_wait(status::SUCCESS);
         } else if !self.is_gone() {
             self.released = true;
         }
@@ -319,7 +316,7 @@ impl ThreadState {
     {
         let ended = self.waits_for_expiry(set);
         if ended {
-            self.end_wait(STATUS_SUCCESS);
+            self.end_wait(status::SUCCESS);
         }
         ended
     }
@@ -349,7 +346,7 @@ impl ThreadState {
         let was = self.is_alerted(m);
         let ended = self.waits_for_alert(m);
         if ended {
-            self.end_wait(STATUS_ALERTED);
+            self.end_wait(status::ALERTED);
         } else {
             self.set_alerted(m, true);
         }
@@ -377,7 +374,7 @@ impl ThreadState {
         if was {
             self.set_alerted(m, false);
         } else if m == Mode::User && self.apcs.user_first().is_some() {
-            self.marked = true;
+            self.user_pending = true;
         }
         was
     }
@@ -459,7 +456,7 @@ impl ThreadState {
     {
         match &self.doing {
             Doing::Blocked(waiting) => {
-                waiting.mode == Mode::User && (waiting.alertable || self.marked)
+                waiting.mode == Mode::User && (waiting.alertable || self.user_pending)
             }
             _ => false,
         }
@@ -483,10 +480,10 @@ impl ThreadState {
     {
         match k {
             ApcKind::User => {
-                self.end_wait(STATUS_USER_APC);
-                self.marked = true;
+                self.end_wait(status::USER_APC);
+                self.user_pending = true;
             }
-            _ => self.end_wait(STATUS_KERNEL_APC),
+            _ => self.end_wait(status::KERNEL_APC),
         }
     }
 
@@ -510,7 +507,7 @@ impl ThreadState {
     pub fn user_due(&self) -> Option<Pick>
         ensures { result ≡ due_of self.now }
     {
-        if self.marked {
+        if self.user_pending {
             self.apcs.user_first()
         } else {
             None
@@ -531,7 +528,7 @@ impl ThreadState {
     {
         self.apcs.take(p);
         if p.kind == ApcKind::User {
-            self.marked = false;
+            self.user_pending = false;
         }
     }
 
@@ -539,7 +536,7 @@ impl ThreadState {
 
     /// The base routine of the running thread has ended: it is leaving, and takes no more APCs.
     pub fn leave(&mut self)
-        ensures { self.new ≡ waits.left_facts self.old }
+        ensures { self.new ≡ waits.leaving_facts self.old }
     {
         self.leaving = true;
         self.apcs.close_doors();

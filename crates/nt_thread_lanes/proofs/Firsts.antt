@@ -47,7 +47,7 @@ pub of_user : (P : Pick → Type 0) (q : ApcQueues) → All P q.pending → Hold
 of_user P q h = of_kind P UserApc q h
 
 pub of_user_due : (P : Pick → Type 0) (x : ThreadFacts) → All P x.apcs.pending → Holds P (user_due x)
-of_user_due P x h = holds_when P x.marked (first_user x.apcs) (λ a. of_kind P UserApc x.apcs h)
+of_user_due P x h = holds_when P x.user_pending (first_user x.apcs) (λ a. of_kind P UserApc x.apcs h)
 
 -- the insert that begins
 pub begins_one : (P : Pick → Type 0) (st : Stand) (a : ApcNo) (from : ℕ) (x : ThreadFacts) (b : Begins st a from x) → All P x.apcs.pending → P b.pick

@@ -27,7 +27,7 @@ told_over false false y h = ap (λ (b : Bool). if b then Status satisfied else y
 
 pub over_reply : (x : ThreadFacts) (r : Regions) (level : ℕ) (m : Mode) (a reached : Bool) → wait_reply x r level m a (Some (is_over (wait_reply x r level m a (Some reached)))) ≡ wait_reply x r level m a (Some reached)
 over_reply x r level m a reached =
-    told_over (is_some (deliverable x.apcs r level)) reached _ (others_go_on (a && is_alerted m x) (a && (is_user m && has_user x.apcs)) (a && x.alerted_kernel) (not a && (is_user m && x.marked)))
+    told_over (is_some (deliverable x.apcs r level)) reached _ (others_go_on (a && is_alerted m x) (a && (is_user m && has_user x.apcs)) (a && x.alerted_kernel) (not a && (is_user m && x.user_pending)))
 
 over_if_reply : (x : ThreadFacts) (r : Regions) (level : ℕ) (m : Mode) (a : Bool) (reached : Option Bool) (delay : Bool) → is_some reached ≡ delay → wait_reply x r level m a (over_if delay (wait_reply x r level m a reached)) ≡ wait_reply x r level m a reached
 over_if_reply x r level m a None true h = cc

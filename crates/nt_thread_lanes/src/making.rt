@@ -8,7 +8,7 @@ ghost use Rattle.nt_thread_lanes.specs.Fits.{CanMake, TakesUp, is_over as over, 
 
 use crate::script::kind_of;
 use nt_event::{ApcKind, Begun, Body, Command, Mode, Pick, Reply, Script, Stand, What};
-use nt_thread::{STATUS_SUCCESS, ThreadState, WaitSpec};
+use nt_thread::{ThreadState, WaitSpec};
 
 /// Changes the state of the thread that makes the event, by the event's number and where its processor stood.
 pub fn make(state: &mut ThreadState, script: &Script, n: u64, stand: &Stand, what: &What)
@@ -67,7 +67,7 @@ fn is_over(reply: &Reply) -> bool
     ensures { result ≡ over reply.now }
 {
     match reply {
-        Reply::Status(status) => *status == STATUS_SUCCESS,
+        Reply::Status(status) => *status == nt_event::status::SUCCESS,
         _ => false,
     }
 }

@@ -1,5 +1,6 @@
 -- The first due key is one of the keys that are set.
-use Rattle.std.proofs.Common.{◌≡◌, ◌⊎◌, ◌+◌, ◌++◌, Bool, true, false, List, [], ◌∷◌, Option, Some, None, ℕ, add-zero, ap, arith, cond, inl, inr, option_map, refl, subst, suc, sym, zero, ◌∙◌}
+use Rattle.std.proofs.Common.{◌≡◌, ◌⊎◌, ◌+◌, ◌++◌, Bool, true, false, List, [], ◌∷◌, Option, Some, None, ℕ, add-zero, ap, arith, cond, inl, inr, option_map}
+use Rattle.std.proofs.Common.{refl, subst, suc, sym, zero, ◌∙◌}
 use Rattle.nt_event.specs.declared.commands.TimerKey.{TimerKey}
 use Rattle.nt_event.specs.declared.commands.TimerKey.TheVariants.{Delay as OfDelay, Timer as OfTimer}
 use Rattle.nt_event.specs.declared.inserts.Setting.{Setting}
@@ -32,7 +33,8 @@ reduce_among [] k h = absurd (cc)
 reduce_among (x ∷ xs) k h =
     let e : fold earlier x xs ≡ k = cc in subst (λ (z : SetKey). Among z (x ∷ xs)) e (fold_among x xs)
 
-passed : (p : SetKey → Bool) (k x : SetKey) (xs : List SetKey) → (Among k (filter p xs) → Among k xs × (p k ≡ true)) → Among k (filter p (x ∷ xs)) → (t : Bool) → p x ≡ t → Among k (x ∷ xs) × (p k ≡ true)
+passed : (p : SetKey → Bool) (k x : SetKey) (xs : List SetKey) → (Among k (filter p xs) → Among k xs × (p k ≡ true)) → Among k (filter p (x ∷ xs)) →
+    (t : Bool) → p x ≡ t → Among k (x ∷ xs) × (p k ≡ true)
 passed p k x xs rest at true h = go (rw h at at)
   where
     go : Among k (x ∷ filter p xs) → Among k (x ∷ xs) × (p k ≡ true)
@@ -89,11 +91,14 @@ first_due_among x k h =
 
 -- ---- what expires
 
-first_key : (x : Timers) (key : TimerKey) (o : Option SetKey) → first_due x ≡ o → option_map (λ (e : TimerKey × ℕ). e.0) (option_map (λ (k : SetKey). (k.key, k.setting.number)) o) ≡ Some key → (k : SetKey) × (first_due x ≡ Some k) × (k.key ≡ key)
+first_key : (x : Timers) (key : TimerKey) (o : Option SetKey) → first_due x ≡ o →
+    option_map (λ (e : TimerKey × ℕ). e.0) (option_map (λ (k : SetKey). (k.key, k.setting.number)) o) ≡ Some key →
+    (k : SetKey) × (first_due x ≡ Some k) × (k.key ≡ key)
 first_key x key None h e = absurd (cc)
 first_key x key (Some k) h e = (k, h, (let same : k.key ≡ key = cc in same))
 
-pub due_setting : (x : Timers) (key : TimerKey) → option_map (λ (e : TimerKey × ℕ). e.0) (due_entry x) ≡ Some key → (k : SetKey) × (first_due x ≡ Some k) × (k.key ≡ key) × (setting_at key x ≡ Some k.setting)
+pub due_setting : (x : Timers) (key : TimerKey) → option_map (λ (e : TimerKey × ℕ). e.0) (due_entry x) ≡ Some key →
+    (k : SetKey) × (first_due x ≡ Some k) × (k.key ≡ key) × (setting_at key x ≡ Some k.setting)
 due_setting x key h =
     let r = first_key x key (first_due x) refl h in
     (r.0, r.1, r.2, ap (λ (k : TimerKey). setting_at k x) (sym r.2) ∙ set_key_is_set x r.0 (first_due_among x r.0 r.1).0)
@@ -103,7 +108,8 @@ pub due_is_set : (x : Timers) (key : TimerKey) → option_map (λ (e : TimerKey 
 due_is_set x key h none = let r = due_setting x key h in let e : Some r.0.setting ≡ None = sym r.3 ∙ none in cc
 
 -- and its number is that of its setting
-pub due_entry_is : (x : Timers) (key : TimerKey) (old : Setting) → option_map (λ (e : TimerKey × ℕ). e.0) (due_entry x) ≡ Some key → setting_at key x ≡ Some old → due_entry x ≡ Some (key, old.number)
+pub due_entry_is : (x : Timers) (key : TimerKey) (old : Setting) → option_map (λ (e : TimerKey × ℕ). e.0) (due_entry x) ≡ Some key →
+    setting_at key x ≡ Some old → due_entry x ≡ Some (key, old.number)
 due_entry_is x key old h at =
     let r = due_setting x key h in
     let e : Some r.0.setting ≡ Some old = sym r.3 ∙ at in

@@ -1,5 +1,6 @@
 -- The first due key comes before every other due key.
-use Rattle.std.proofs.Common.{◌≡◌, ◌≤◌, ◌<◌, ◌⊎◌, ◌&&◌, ◌+◌, ◌++◌, Bool, true, false, List, [], ◌∷◌, Option, Some, None, ℕ, ap, arith, cond, eqb, ltb, inl, inr, refl, subst, suc, sym, zero, ◌∙◌}
+use Rattle.std.proofs.Common.{◌≡◌, ◌≤◌, ◌<◌, ◌⊎◌, ◌&&◌, ◌+◌, ◌++◌, Bool, true, false, List, [], ◌∷◌, Option, Some, None, ℕ, ap, arith, cond, eqb, ltb, inl, inr}
+use Rattle.std.proofs.Common.{refl, subst, suc, sym, zero, ◌∙◌}
 use Rattle.nt_event.specs.declared.commands.TimerKey.{TimerKey}
 use Rattle.nt_event.specs.declared.commands.TimerKey.TheVariants.{Delay as OfDelay, Timer as OfTimer}
 use Rattle.nt_event.specs.declared.inserts.Setting.{Setting}
@@ -58,9 +59,11 @@ fold_least : (b : SetKey) (ks : List SetKey) (k : SetKey) → Among k (b ∷ ks)
 fold_least b [] k (inl e) = rw e (itself b.setting)
 fold_least b [] k (inr at) = absurd at
 fold_least b (z ∷ zs) k (inl e) =
-    rw e (not_earlier_trans (fold earlier (earlier b z) zs).setting (earlier b z).setting b.setting (fold_least (earlier b z) zs (earlier b z) (inl refl)) (earlier_left b z (is_earlier z b) refl))
+    rw e (not_earlier_trans (fold earlier (earlier b z) zs).setting (earlier b z).setting b.setting (fold_least (earlier b z) zs (earlier b z) (inl refl))
+    (earlier_left b z (is_earlier z b) refl))
 fold_least b (z ∷ zs) k (inr (inl e)) =
-    rw e (not_earlier_trans (fold earlier (earlier b z) zs).setting (earlier b z).setting z.setting (fold_least (earlier b z) zs (earlier b z) (inl refl)) (earlier_right b z (is_earlier z b) refl))
+    rw e (not_earlier_trans (fold earlier (earlier b z) zs).setting (earlier b z).setting z.setting (fold_least (earlier b z) zs (earlier b z) (inl refl))
+    (earlier_right b z (is_earlier z b) refl))
 fold_least b (z ∷ zs) k (inr (inr at)) = fold_least (earlier b z) zs k (inr at)
 
 reduce_least : (ks : List SetKey) (k y : SetKey) → reduce earlier ks ≡ Some k → Among y ks → IsNotEarlier k.setting y.setting
@@ -75,7 +78,8 @@ reduce_none (x ∷ xs) y h at = cc
 
 -- ---- what is set is among the keys
 
-kept : (p : SetKey → Bool) (k x : SetKey) (xs : List SetKey) → p k ≡ true → (Among k xs → Among k (filter p xs)) → Among k (x ∷ xs) → (t : Bool) → p x ≡ t → Among k (filter p (x ∷ xs))
+kept : (p : SetKey → Bool) (k x : SetKey) (xs : List SetKey) → p k ≡ true → (Among k xs → Among k (filter p xs)) → Among k (x ∷ xs) → (t : Bool) → p x ≡ t →
+    Among k (filter p (x ∷ xs))
 kept p k x xs h rest (inl e) true t = rw t (inl e)
 kept p k x xs h rest (inl e) false t = absurd (false≢true (sym t ∙ ap p (sym e) ∙ h))
 kept p k x xs h rest (inr at) true t = rw t (inr (rest at))
@@ -94,7 +98,8 @@ among_right : (k : SetKey) (xs ys : List SetKey) → Among k ys → Among k (xs 
 among_right k [] ys at = at
 among_right k (x ∷ xs) ys at = inr (among_right k xs ys at)
 
-placed_among : (key : ℕ → TimerKey) (n m i : ℕ) (xs : List (Option Setting)) (x : Setting) → n + i ≡ m → setting_in xs i ≡ Some x → Among (record { key = key m; setting = x }) (keyed key n xs)
+placed_among : (key : ℕ → TimerKey) (n m i : ℕ) (xs : List (Option Setting)) (x : Setting) → n + i ≡ m → setting_in xs i ≡ Some x →
+    Among (record { key = key m; setting = x }) (keyed key n xs)
 placed_among key n m i [] x e h = cc
 placed_among key n m zero (None ∷ xs) x e h = absurd (cc)
 placed_among key n m zero (Some y ∷ xs) x e h =
@@ -106,11 +111,14 @@ placed_among key n m (suc i) (Some y ∷ xs) x e h = inr (placed_among key (suc 
 
 set_among : (x : Timers) (key : TimerKey) (setting : Setting) → setting_at key x ≡ Some setting → Among (record { key = key; setting = setting }) (set_keys x)
 set_among x (OfTimer t) setting h =
-    among_left (record { key = OfTimer t; setting = setting }) (keyed (λ n. OfTimer (timer n)) 0 x.timers) (keyed (λ n. OfDelay (thread n)) 0 x.delays) (placed_among (λ n. OfTimer (timer n)) 0 t.0 t.0 x.timers setting (omega arith) h)
+    among_left (record { key = OfTimer t; setting = setting }) (keyed (λ n. OfTimer (timer n)) 0 x.timers) (keyed (λ n. OfDelay (thread n)) 0 x.delays)
+    (placed_among (λ n. OfTimer (timer n)) 0 t.0 t.0 x.timers setting (omega arith) h)
 set_among x (OfDelay t) setting h =
-    among_right (record { key = OfDelay t; setting = setting }) (keyed (λ n. OfTimer (timer n)) 0 x.timers) (keyed (λ n. OfDelay (thread n)) 0 x.delays) (placed_among (λ n. OfDelay (thread n)) 0 t.0 t.0 x.delays setting (omega arith) h)
+    among_right (record { key = OfDelay t; setting = setting }) (keyed (λ n. OfTimer (timer n)) 0 x.timers) (keyed (λ n. OfDelay (thread n)) 0 x.delays)
+    (placed_among (λ n. OfDelay (thread n)) 0 t.0 t.0 x.delays setting (omega arith) h)
 
-due_among : (x : Timers) (key : TimerKey) (setting : Setting) → setting_at key x ≡ Some setting → setting.due ≤ x.now → Among (record { key = key; setting = setting }) (filter (is_due_key x.now) (set_keys x))
+due_among : (x : Timers) (key : TimerKey) (setting : Setting) → setting_at key x ≡ Some setting → setting.due ≤ x.now →
+    Among (record { key = key; setting = setting }) (filter (is_due_key x.now) (set_keys x))
 due_among x key setting h due =
     among_filter (is_due_key x.now) (record { key = key; setting = setting }) (set_keys x) (le-leb setting.due x.now due) (set_among x key setting h)
 
@@ -120,15 +128,18 @@ not_due : (due now : ℕ) → (due ≤ now → ⊥) → (now < due) ⊎ (due ≤
 not_due due now h (inl less) = less
 not_due due now h (inr most) = absurd (h most)
 
-found : (x : Timers) (o : Option SetKey) → first_due x ≡ o → MatchOption o ((key : TimerKey) (setting : Setting) → setting_at key x ≡ Some setting → x.now < setting.due) (IsFirstDue x)
+found : (x : Timers) (o : Option SetKey) → first_due x ≡ o → MatchOption o
+    ((key : TimerKey) (setting : Setting) → setting_at key x ≡ Some setting → x.now < setting.due) (IsFirstDue x)
 found x None e =
-    λ key setting h. not_due setting.due x.now (λ due. reduce_none (filter (is_due_key x.now) (set_keys x)) (record { key = key; setting = setting }) e (due_among x key setting h due)) (cases_lt x.now setting.due)
+    λ key setting h. not_due setting.due x.now (λ due. reduce_none (filter (is_due_key x.now) (set_keys x)) (record { key = key; setting = setting }) e
+    (due_among x key setting h due)) (cases_lt x.now setting.due)
 found x (Some k) e =
     let at = first_due_among x k e in
     record {
       is_set = set_key_is_set x k at.0;
       due = leb-true k.setting.due x.now at.1;
-      first = λ key setting h due. reduce_least (filter (is_due_key x.now) (set_keys x)) k (record { key = key; setting = setting }) e (due_among x key setting h due);
+      first = λ key setting h due. reduce_least (filter (is_due_key x.now) (set_keys x)) k (record { key = key; setting = setting }) e
+          (due_among x key setting h due);
     }
 
 pub first_due_is_first : FirstDueIsFirst

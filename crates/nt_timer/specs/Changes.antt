@@ -7,8 +7,8 @@ use Rattle.nt_event.specs.declared.numbers.TimerNo.{TimerNo}
 use Rattle.nt_event.specs.Timers.{Timers}
 use Rattle.nt_timer.specs.Settings.{due_at, expired, with_setting}
 
--- a call that changes the time or a setting: a set with its due field, period and number, a cancel, a delay with its due time and
--- number, an advance, or an expiry with its number
+-- a call that changes the time or a setting: a set with its due field, period and number, a cancel, a delay with its
+-- due time and number, an advance, or an expiry with its number
 pub data Change : Type 0 where
   Set : TimerNo → ℕ → ℕ → ℕ → Change
   Cancelled : TimerNo → Change

@@ -15,8 +15,6 @@
 mod first;
 mod laws;
 mod queue;
-#[cfg(test)]
-mod tests;
 
 pub use laws::{first_due_is_first, numbers_tell_keys, timer_calls_are_events};
 pub use queue::{Expired, SetAnswer, TimerQueue};

@@ -2,5 +2,4 @@ mod OneWord
 mod Found
 mod Written
 mod Causes
-mod Plain
 mod Headlines

@@ -8,12 +8,10 @@ ghost use Rattle.ntrun.specs.Outcome.{refusal, kind_text, script_line, memory_li
 
 use crate::status::Status;
 use nt_core::run;
+use nt_event::limits::USUAL_TURNS;
 use nt_print::report;
 use nt_script::{Input, ScriptKind, ScriptRefusal, read};
 use std::alloc::{AllocError, Global};
-
-/// How many events a processor may make where no limit is given.
-const TURN_LIMIT: u32 = 10_000;
 
 /// A text to be written.
 #[derive(Drop)]
@@ -90,7 +88,7 @@ fn run_report(alloc: Global, input: &Input) -> Result<Vec<u8>, AllocError>
     requires { IsSound input.now }
     ensures { IfOk result (λ text. IsReport input.now text.items) }
 {
-    let history = run(alloc, &input.script, TURN_LIMIT)?;
+    let history = run(alloc, &input.script, USUAL_TURNS)?;
     report(alloc, input, &history)
 }
 

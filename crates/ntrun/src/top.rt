@@ -80,7 +80,7 @@ pub fn plain<S: Source, K: Sink>(
 /// The program: words are those behind its name, and what it writes goes to the sink.
 ///
 /// It may wait where [`is_live`](crate::is_live) holds of the words.
-pub fn ntrun<S: Source, K: Sink, G: Gate>(
+pub fn ntrun<S: Source, K: Sink, G: Gate + Sync>(
     alloc: Global,
     words: &[String],
     source: &mut S,

@@ -37,23 +37,29 @@ same_object s d x past has e =
     ap (λ (n : ℕ). object_in (objects_at s past) (record { 0 = n })) e ∙ object_there s d past has
 
 -- an object whose insert is answered by yes had none
-pub was_none : (s : Script) (d x : DpcNo) (past : List Event) → has_dpc s d ≡ true → Yes ≡ yes_if (not (is_queued (object_in (objects_at s past) x))) → x.0 ≡ d.0 → standing d past ≡ None
+pub was_none : (s : Script) (d x : DpcNo) (past : List Event) → has_dpc s d ≡ true → Yes ≡ yes_if (not (is_queued (object_in (objects_at s past) x))) → x.0
+    ≡ d.0 → standing d past ≡ None
 was_none s d x past has y e =
-    is_none_of (standing d past) (ap is_queued (sym (same_object s d x past has e)) ∙ not_true (is_queued (object_in (objects_at s past) x)) (yes_if_true (not (is_queued (object_in (objects_at s past) x))) (sym y)))
+    is_none_of (standing d past) (ap is_queued (sym (same_object s d x past has e))
+    ∙ not_true (is_queued (object_in (objects_at s past) x)) (yes_if_true (not (is_queued (object_in (objects_at s past) x))) (sym y)))
 
-inserted : (s : Script) (d x : DpcNo) (past : List Event) (p by : CpuNo) → has_dpc s d ≡ true → Agree s d past p → Yes ≡ yes_if (not (is_queued (object_in (objects_at s past) x))) → x.0 ≡ d.0 → (numbers_of d (pending s p past) ≡ []) × ((object_in (objects_at s past) x).target ≡ target_of d past)
+inserted : (s : Script) (d x : DpcNo) (past : List Event) (p by : CpuNo) → has_dpc s d ≡ true → Agree s d past p → Yes
+    ≡ yes_if (not (is_queued (object_in (objects_at s past) x))) → x.0 ≡ d.0 → (numbers_of d (pending s p past) ≡ []) ×
+    ((object_in (objects_at s past) x).target ≡ target_of d past)
 inserted s d x past p by has ih y e =
     (ih ∙ ap (numbers_at p) (was_none s d x past has y e), ap (λ (o : ObjectState). o.target) (same_object s d x past has e))
 
 -- a delivery takes the insert from its own queue, so there is none elsewhere
-delivered : (s : Script) (d x : DpcNo) (past : List Event) (p by : CpuNo) (from : ℕ) → ((q : CpuNo) → Agree s d past q) → DpcIsPending s by x from past → x.0 ≡ d.0 → (by.0 == p.0) ≡ false → numbers_of d (pending s p past) ≡ []
+delivered : (s : Script) (d x : DpcNo) (past : List Event) (p by : CpuNo) (from : ℕ) → ((q : CpuNo) → Agree s d past q) → DpcIsPending s by x from past → x.0
+    ≡ d.0 → (by.0 == p.0) ≡ false → numbers_of d (pending s p past) ≡ []
 delivered s d x past p by from ih k e h =
     let there : Contains (numbers_of d (pending s by past)) k.0.number = contains_number d (pending s by past) k.0 k.1 (ap (λ (d : DpcNo). d.0) k.2 ∙ e) in
     let at = stands_at by (standing d past) k.0.number (subst (λ (ns : List ℕ). Contains ns k.0.number) (ih by) there) in
     ih p ∙ (ap (numbers_at p) at.1 ∙ stands_elsewhere p by at.0 at.2 h)
 
 -- a removal takes it from the queue where it stands
-removed : (s : Script) (d x : DpcNo) (past : List Event) (p : CpuNo) → has_dpc s d ≡ true → Agree s d past p → x.0 ≡ d.0 → is_queue (option_map (λ x. x.queue) (object_in (objects_at s past) x).standing) p ≡ false → numbers_of d (pending s p past) ≡ []
+removed : (s : Script) (d x : DpcNo) (past : List Event) (p : CpuNo) → has_dpc s d ≡ true → Agree s d past p → x.0 ≡ d.0 →
+    is_queue (option_map (λ x. x.queue) (object_in (objects_at s past) x).standing) p ≡ false → numbers_of d (pending s p past) ≡ []
 removed s d x past p has ih e h =
     ih ∙ go (standing d past) (ap (λ (o : ObjectState). is_queue (option_map (λ x. x.queue) o.standing) p) (sym (same_object s d x past has e)) ∙ h)
   where
@@ -61,7 +67,8 @@ removed s d x past p has ih e h =
     go None k = refl
     go (Some y) k = stands_elsewhere p y.queue y refl k
 
-agree_after : (s : Script) (limit : ℕ) (d : DpcNo) (e : Event) (past : List Event) → IsRun s limit (e ∷ past) → has_dpc s d ≡ true → ((q : CpuNo) → Agree s d past q) → (p : CpuNo) → Agree s d (e ∷ past) p
+agree_after : (s : Script) (limit : ℕ) (d : DpcNo) (e : Event) (past : List Event) → IsRun s limit (e ∷ past) → has_dpc s d ≡ true →
+    ((q : CpuNo) → Agree s d past q) → (p : CpuNo) → Agree s d (e ∷ past) p
 agree_after s limit d e past r has ih p = go e.what refl
   where
     known : (w : What) → e.what ≡ w → is_next w ≡ true → Known s e.cpu (own_of s e.cpu past) (lanes_at s past) w
@@ -71,17 +78,24 @@ agree_after s limit d e past r has ih p = go e.what refl
     names : (w : What) → e.what ≡ w → NamesPending s e.cpu w past
     names w k = subst (λ (w : What). NamesPending s e.cpu w past) k (deliveries_name_pending_inserts s limit e past r)
 
-    go : (w : What) → e.what ≡ w → numbers_of d (pending_after s p (length past) e.cpu w (objects_at s past) (pending s p past)) ≡ numbers_at p (standing_after d (length past) e.cpu w (target_of d past) (standing d past))
+    go : (w : What) → e.what ≡ w → numbers_of d (pending_after s p (length past) e.cpu w (objects_at s past) (pending s p past))
+        ≡ numbers_at p (standing_after d (length past) e.cpu w (target_of d past) (standing d past))
     go (Call f (Queue x) Yes) k =
-        insert_step s p d x (length past) e.cpu (objects_at s past) (pending s p past) (target_of d past) (standing d past) (ih p) (inserted s d x past p e.cpu has (ih p) (call_accepted s e.cpu (own_of s e.cpu past) (lanes_at s past) f (Queue x) Yes (known (Call f (Queue x) Yes) k refl) refl).1)
+        insert_step s p d x (length past) e.cpu (objects_at s past) (pending s p past) (target_of d past) (standing d past) (ih p)
+        (inserted s d x past p e.cpu has (ih p) (call_accepted s e.cpu (own_of s e.cpu past) (lanes_at s past) f (Queue x) Yes
+        (known (Call f (Queue x) Yes) k refl) refl).1)
     go (Fire x Yes) k =
-        insert_step s p d x (length past) e.cpu (objects_at s past) (pending s p past) (target_of d past) (standing d past) (ih p) (inserted s d x past p e.cpu has (ih p) (known (Fire x Yes) k refl).1)
+        insert_step s p d x (length past) e.cpu (objects_at s past) (pending s p past) (target_of d past) (standing d past) (ih p)
+        (inserted s d x past p e.cpu has (ih p) (known (Fire x Yes) k refl).1)
     go (Begin (Dpc x) from) k =
-        drop_step p d x e.cpu (Begin (Dpc x) from) (objects_at s past) (pending s p past) (standing d past) (ih p) (λ i h. delivered s d x past p e.cpu from ih (names (Begin (Dpc x) from) k) i h)
+        drop_step p d x e.cpu (Begin (Dpc x) from) (objects_at s past) (pending s p past) (standing d past) (ih p)
+        (λ i h. delivered s d x past p e.cpu from ih (names (Begin (Dpc x) from) k) i h)
     go (Begin (Threaded x) from) k =
-        drop_step p d x e.cpu (Begin (Threaded x) from) (objects_at s past) (pending s p past) (standing d past) (ih p) (λ i h. delivered s d x past p e.cpu from ih (names (Begin (Threaded x) from) k) i h)
+        drop_step p d x e.cpu (Begin (Threaded x) from) (objects_at s past) (pending s p past) (standing d past) (ih p)
+        (λ i h. delivered s d x past p e.cpu from ih (names (Begin (Threaded x) from) k) i h)
     go (Call f (Unqueue x) Yes) k =
-        drop_step p d x e.cpu (Call f (Unqueue x) Yes) (objects_at s past) (pending s p past) (standing d past) (ih p) (λ i h. removed s d x past p has (ih p) i h)
+        drop_step p d x e.cpu (Call f (Unqueue x) Yes) (objects_at s past) (pending s p past) (standing d past) (ih p)
+        (λ i h. removed s d x past p has (ih p) i h)
     go w k = ih p
 
 pub agree : (s : Script) (limit : ℕ) (d : DpcNo) (past : List Event) → IsRun s limit past → has_dpc s d ≡ true → (p : CpuNo) → Agree s d past p
@@ -90,12 +104,15 @@ agree s limit d (e ∷ past) r has p =
     agree_after s limit d e past r has (λ q. agree s limit d past r.1 has q) p
 
 -- a pending insert is the one that stands
-pub pending_stands : (s : Script) (limit : ℕ) (d : DpcNo) (past : List Event) → IsRun s limit past → has_dpc s d ≡ true → (p : CpuNo) (n : ℕ) → DpcIsPending s p d n past → (x : Standing) × (standing d past ≡ Some x) × (x.queue.0 ≡ p.0) × (x.number ≡ n)
+pub pending_stands : (s : Script) (limit : ℕ) (d : DpcNo) (past : List Event) → IsRun s limit past → has_dpc s d ≡ true → (p : CpuNo) (n : ℕ) →
+    DpcIsPending s p d n past → (x : Standing) × (standing d past ≡ Some x) × (x.queue.0 ≡ p.0) × (x.number ≡ n)
 pending_stands s limit d past r has p n k =
-    let there : Contains (numbers_of d (pending s p past)) n = subst (Contains (numbers_of d (pending s p past))) k.3 (contains_number d (pending s p past) k.0 k.1 (ap (λ (d : DpcNo). d.0) k.2)) in
+    let there : Contains (numbers_of d (pending s p past)) n = subst (Contains (numbers_of d (pending s p past))) k.3
+    (contains_number d (pending s p past) k.0 k.1 (ap (λ (d : DpcNo). d.0) k.2)) in
     stands_at p (standing d past) n (subst (λ (ns : List ℕ). Contains ns n) (agree s limit d past r has p) there)
 
-pub at_most_one : (s : Script) (limit : ℕ) (d : DpcNo) (past : List Event) → IsRun s limit past → has_dpc s d ≡ true → (p q : CpuNo) (n m : ℕ) → DpcIsPending s p d n past → DpcIsPending s q d m past → (p.0 ≡ q.0) × (n ≡ m)
+pub at_most_one : (s : Script) (limit : ℕ) (d : DpcNo) (past : List Event) → IsRun s limit past → has_dpc s d ≡ true → (p q : CpuNo) (n m : ℕ) →
+    DpcIsPending s p d n past → DpcIsPending s q d m past → (p.0 ≡ q.0) × (n ≡ m)
 at_most_one s limit d past r has p q n m h k =
     let a = pending_stands s limit d past r has p n h in
     let b = pending_stands s limit d past r has q m k in

@@ -46,7 +46,8 @@ shorter : (p q : Pick → Bool) (xs : List Pick) → length (filter p (filter q 
 shorter p q [] = omega arith
 shorter p q (y ∷ ys) = go (q y) (shorter p q ys)
   where
-    go : (b : Bool) → length (filter p (filter q ys)) ≤ length (filter p ys) → length (filter p (cond b (y ∷ filter q ys) (filter q ys))) ≤ length (filter p (y ∷ ys))
+    go : (b : Bool) → length (filter p (filter q ys)) ≤ length (filter p ys) →
+        length (filter p (cond b (y ∷ filter q ys) (filter q ys))) ≤ length (filter p (y ∷ ys))
     go true h = cons_both (p y) y (filter p (filter q ys)) (filter p ys) h
     go false h = cons_longer (p y) y (filter p (filter q ys)) (filter p ys) h
 
@@ -84,14 +85,16 @@ if_once : (a : ApcNo) (m : Bool) (xs ys : List Pick) → count_of a xs ≤ 1 →
 if_once a true xs ys h k = h
 if_once a false xs ys h k = k
 
-put_once : (s : Script) (a b : ApcNo) (n : ℕ) (xs : List Pick) → count_of a xs ≤ 1 → (b.0 ≡ a.0 → list_any (is_of_apc a) xs ≡ false) → count_of a (new_pick s b n ∷ xs) ≤ 1
+put_once : (s : Script) (a b : ApcNo) (n : ℕ) (xs : List Pick) → count_of a xs ≤ 1 → (b.0 ≡ a.0 → list_any (is_of_apc a) xs ≡ false) →
+    count_of a (new_pick s b n ∷ xs) ≤ 1
 put_once s a b n xs h new = go (b.0 == a.0) refl
   where
     go : (c : Bool) → (b.0 == a.0) ≡ c → length (cond c (new_pick s b n ∷ filter (is_of_apc a) xs) (filter (is_of_apc a) xs)) ≤ 1
     go true e = let k = ap (λ (xs : List Pick). length xs) (none_kept (is_of_apc a) xs (new (eqb-true b.0 a.0 e))) in omega (arith, k)
     go false e = h
 
-named_once : (s : Script) (a : ApcNo) (t : ThreadNo) (n : ℕ) (w : What) (xs : List Pick) → count_of a xs ≤ 1 → ((f : ℕ) (b : ApcNo) → w ≡ Call f (InsertApc b) Yes → b.0 ≡ a.0 → list_any (is_of_apc a) xs ≡ false) → count_of a (named_picks s t n w xs) ≤ 1
+named_once : (s : Script) (a : ApcNo) (t : ThreadNo) (n : ℕ) (w : What) (xs : List Pick) → count_of a xs ≤ 1 →
+    ((f : ℕ) (b : ApcNo) → w ≡ Call f (InsertApc b) Yes → b.0 ≡ a.0 → list_any (is_of_apc a) xs ≡ false) → count_of a (named_picks s t n w xs) ≤ 1
 named_once s a t n (Call f (InsertApc b) Yes) xs h new =
     if_once a ((owner_of s b).0 == t.0) (new_pick s b n ∷ xs) xs (put_once s a b n xs h (new f b refl)) h
 named_once s a t n (Call f (RemoveApc b) Yes) xs h new =
@@ -100,14 +103,18 @@ named_once s a t n (Call f (RemoveApc b) Yes) xs h new =
 named_once s a t n w xs h new = h
 
 -- an APC whose insert is answered by yes wasn't inserted
-was_out : (s : Script) (limit : ℕ) (a b : ApcNo) (e : Event) (past : List Event) (f : ℕ) → IsRun s limit (e ∷ past) → has_thread s (owner_of s a) ≡ true → e.what ≡ Call f (InsertApc b) Yes → b.0 ≡ a.0 → list_any (is_of_apc a) (facts s (owner_of s a) past).apcs.pending ≡ false
+was_out : (s : Script) (limit : ℕ) (a b : ApcNo) (e : Event) (past : List Event) (f : ℕ) → IsRun s limit (e ∷ past) → has_thread s (owner_of s a) ≡ true →
+    e.what ≡ Call f (InsertApc b) Yes → b.0 ≡ a.0 → list_any (is_of_apc a) (facts s (owner_of s a) past).apcs.pending ≡ false
 was_out s limit a b e past f r has k same =
-    let known : Known s e.cpu (own_of s e.cpu past) (lanes_at s past) (Call f (InsertApc b) Yes) = subst (Known s e.cpu (own_of s e.cpu past) (lanes_at s past)) k (legal_known s limit e past r.0 (ap is_next k)) in
+    let known : Known s e.cpu (own_of s e.cpu past) (lanes_at s past) (Call f (InsertApc b) Yes) = subst
+    (Known s e.cpu (own_of s e.cpu past) (lanes_at s past)) k (legal_known s limit e past r.0 (ap is_next k)) in
     let reply = (call_accepted s e.cpu (own_of s e.cpu past) (lanes_at s past) f (InsertApc b) Yes known refl).1 in
     let it : b ≡ a = ap (λ (n : ℕ). record { 0 = n }) same in
     let open_b : takes b (facts_at (lanes_at s past) (owner_of s b)).apcs ≡ true = yes_if_true _ (sym reply) in
-    let open_a : takes a (facts_at (lanes_at s past) (owner_of s a)).apcs ≡ true = subst (λ (b : ApcNo). takes b (facts_at (lanes_at s past) (owner_of s b)).apcs ≡ true) it open_b in
-    let open_t : takes a (facts s (owner_of s a) past).apcs ≡ true = subst (λ (x : ThreadFacts). takes a x.apcs ≡ true) (facts_there s limit (owner_of s a) past has) open_a in
+    let open_a : takes a (facts_at (lanes_at s past) (owner_of s a)).apcs
+    ≡ true = subst (λ (b : ApcNo). takes b (facts_at (lanes_at s past) (owner_of s b)).apcs ≡ true) it open_b in
+    let open_t : takes a (facts s (owner_of s a) past).apcs
+    ≡ true = subst (λ (x : ThreadFacts). takes a x.apcs ≡ true) (facts_there s limit (owner_of s a) past has) open_a in
     not_true (is_inserted a (facts s (owner_of s a) past).apcs) (both (not (facts s (owner_of s a) past).apcs.closed) _ open_t).1
 
 -- the event makes no change of the thread's own, where it is a call
@@ -115,23 +122,33 @@ calls_make_none : (m : Bool) (w : What) (f : ℕ) (b : ApcNo) (xs : List Pick) �
 calls_make_none true w f b xs k = ap (λ (w : What). made_picks w xs) k
 calls_make_none false w f b xs k = refl
 
-pub once : (s : Script) (limit : ℕ) (a : ApcNo) (past : List Event) → IsRun s limit past → has_thread s (owner_of s a) ≡ true → count_of a (facts s (owner_of s a) past).apcs.pending ≤ 1
+pub once : (s : Script) (limit : ℕ) (a : ApcNo) (past : List Event) → IsRun s limit past → has_thread s (owner_of s a) ≡ true →
+    count_of a (facts s (owner_of s a) past).apcs.pending ≤ 1
 once s limit a [] r has = omega arith
 once s limit a (e ∷ past) r has =
     let xs : List Pick = (facts s (owner_of s a) past).apcs.pending in
     let mine : Bool = is_of_thread s (owner_of s a) e in
     let ih = once s limit a past r.1 has in
-    subst (λ (xs : List Pick). count_of a xs ≤ 1) (sym (picks_move s (owner_of s a) e past)) (named_once s a (owner_of s a) (length past) e.what (if mine then made_picks e.what xs else xs) (if_once a mine (made_picks e.what xs) xs (made_once a e.what xs ih) ih) (λ f b k same. subst (λ (xs : List Pick). list_any (is_of_apc a) xs ≡ false) (sym (calls_make_none mine e.what f b xs k)) (was_out s limit a b e past f r has k same)))
+    subst (λ (xs : List Pick). count_of a xs ≤ 1) (sym (picks_move s (owner_of s a) e past))
+    (named_once s a (owner_of s a) (length past) e.what (if mine then made_picks e.what xs else xs)
+    (if_once a mine (made_picks e.what xs) xs (made_once a e.what xs ih) ih)
+    (λ f b k same. subst (λ (xs : List Pick). list_any (is_of_apc a) xs ≡ false) (sym (calls_make_none mine e.what f b xs k))
+    (was_out s limit a b e past f r has k same)))
 
-pub at_most_one_apc : (s : Script) (limit : ℕ) (a : ApcNo) (past : List Event) → IsRun s limit past → has_thread s (owner_of s a) ≡ true → (t u : ThreadNo) (n m : ℕ) → ApcIsPending s t a n past → ApcIsPending s u a m past → (t.0 ≡ u.0) × (n ≡ m)
+pub at_most_one_apc : (s : Script) (limit : ℕ) (a : ApcNo) (past : List Event) → IsRun s limit past → has_thread s (owner_of s a) ≡ true →
+    (t u : ThreadNo) (n m : ℕ) → ApcIsPending s t a n past → ApcIsPending s u a m past → (t.0 ≡ u.0) × (n ≡ m)
 at_most_one_apc s limit a past r has t u n m h k =
     let x = own t n h in
     let y = own u m k in
     let same : h.0 ≡ k.0 = only_one (filter (is_of_apc a) (facts s (owner_of s a) past).apcs.pending) h.0 k.0 (once s limit a past r has) x.1 y.1 in
     (sym x.0 ∙ y.0, sym h.3 ∙ (ap (λ (x : Pick). x.number) same ∙ k.3))
   where
-    own : (t : ThreadNo) (n : ℕ) → (h : ApcIsPending s t a n past) → ((owner_of s a).0 ≡ t.0) × Contains (filter (is_of_apc a) (facts s (owner_of s a) past).apcs.pending) h.0
+    own : (t : ThreadNo) (n : ℕ) → (h : ApcIsPending s t a n past) → ((owner_of s a).0 ≡ t.0) ×
+        Contains (filter (is_of_apc a) (facts s (owner_of s a) past).apcs.pending) h.0
     own t n h =
         let owner : (owner_of s a).0 ≡ t.0 = ap (λ (a : ApcNo). (owner_of s a).0) (sym h.2) ∙ owners_fit s t past h.0 h.1 in
-        let same : t ≡ owner_of s a = ap (λ (n : ℕ). record { 0 = n }) (sym owner) in
-        (owner, contains_kept (is_of_apc a) (facts s (owner_of s a) past).apcs.pending h.0 (subst (λ (t : ThreadNo). Contains (facts s t past).apcs.pending h.0) same h.1) (eq-eqb h.0.apc.0 a.0 (ap (λ (a : ApcNo). a.0) h.2)))
+        let same : t ≡ owner_of s a = ap (λ (n : ℕ). record { 0 = n }) (sym owner) in (
+          owner,
+          contains_kept (is_of_apc a) (facts s (owner_of s a) past).apcs.pending h.0
+              (subst (λ (t : ThreadNo). Contains (facts s t past).apcs.pending h.0) same h.1) (eq-eqb h.0.apc.0 a.0 (ap (λ (a : ApcNo). a.0) h.2)),
+        )

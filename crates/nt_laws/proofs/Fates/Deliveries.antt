@@ -75,17 +75,21 @@ deliverable_pending q r level x h = go (first_kernel q) refl h
 
 user_due_pending : (x : ThreadFacts) (y : Pick) → user_due x ≡ Some y → Contains x.apcs.pending y
 user_due_pending x y h =
-    kind_pending UserApc x.apcs y (when_gives x.marked (first_user x.apcs) y h).1
+    kind_pending UserApc x.apcs y (when_gives x.user_pending (first_user x.apcs) y h).1
 
 -- ---- where they are pending
 
-dpc_named : (s : Script) (p : CpuNo) (past : List Event) (part : Part) (d : DpcNo) (from : ℕ) → nat_lt p.0 s.cpus ≡ true → KnownInsert part (queue_at (lanes_at s past) p) d from → DpcIsPending s p d from past
+dpc_named : (s : Script) (p : CpuNo) (past : List Event) (part : Part) (d : DpcNo) (from : ℕ) → nat_lt p.0 s.cpus ≡ true →
+    KnownInsert part (queue_at (lanes_at s past) p) d from → DpcIsPending s p d from past
 dpc_named s p past part d from has k =
-    let first : first_dpc part (pending s p past) ≡ Some k.insert = ap (λ (q : QueueState). first_dpc part q.pending) (sym (queue_there s p past has)) ∙ k.first in
+    let first : first_dpc part (pending s p past) ≡ Some k.insert = ap (λ (q : QueueState). first_dpc part q.pending) (sym (queue_there s p past has))
+    ∙ k.first in
     (k.insert, first_dpc_pending part (pending s p past) k.insert first, sym k.dpc, sym k.number)
 
 -- the running thread has what is pending at it
-at_running : (s : Script) (limit : ℕ) (p : CpuNo) (past : List Event) (a : ApcNo) (from : ℕ) (x : Pick) → IsRun s limit past → a ≡ x.apc → from ≡ x.number → (o : Option ThreadNo) → running p past ≡ o → Contains (facts_of (lanes_at s past) o).apcs.pending x → (running p past ≡ Some (owner_of s a)) × ApcIsPending s (owner_of s a) a from past
+at_running : (s : Script) (limit : ℕ) (p : CpuNo) (past : List Event) (a : ApcNo) (from : ℕ) (x : Pick) → IsRun s limit past → a ≡ x.apc → from ≡ x.number →
+    (o : Option ThreadNo) → running p past ≡ o → Contains (facts_of (lanes_at s past) o).apcs.pending x → (running p past ≡ Some (owner_of s a)) ×
+    ApcIsPending s (owner_of s a) a from past
 at_running s limit p past a from x r i n None e h = contains_none x h
 at_running s limit p past a from x r i n (Some t) e h =
     let here = running_here s limit p t past r e in
@@ -93,21 +97,26 @@ at_running s limit p past a from x r i n (Some t) e h =
     let owner : t ≡ owner_of s a = ap (λ (n : ℕ). record { 0 = n }) (sym (owners_fit s t past x there)) ∙ ap (owner_of s) (sym i) in
     (e ∙ ap Some owner, (x, subst (λ (t : ThreadNo). Contains (facts s t past).apcs.pending x) owner there, sym i, sym n))
 
-apc_named : (s : Script) (limit : ℕ) (p : CpuNo) (past : List Event) (a : ApcNo) (from : ℕ) → IsRun s limit past → KnownBegin s p (own_of s p past) (lanes_at s past) (Apc a) from → (running p past ≡ Some (owner_of s a)) × ApcIsPending s (owner_of s a) a from past
+apc_named : (s : Script) (limit : ℕ) (p : CpuNo) (past : List Event) (a : ApcNo) (from : ℕ) → IsRun s limit past →
+    KnownBegin s p (own_of s p past) (lanes_at s past) (Apc a) from → (running p past ≡ Some (owner_of s a)) × ApcIsPending s (owner_of s a) a from past
 apc_named s limit p past a from r (inl k) =
     let x = own_of s p past in
     let l = lanes_at s past in
-    at_running s limit p past a from k.1.pick r k.1.apc k.1.number (running p past) refl (deliverable_pending (facts_of l x.frames.running).apcs (regions_of (thread_part x.frames)) (level_at x) k.1.pick k.1.first)
+    at_running s limit p past a from k.1.pick r k.1.apc k.1.number (running p past) refl
+    (deliverable_pending (facts_of l x.frames.running).apcs (regions_of (thread_part x.frames)) (level_at x) k.1.pick k.1.first)
 apc_named s limit p past a from r (inr k) =
-    at_running s limit p past a from k.1.pick r k.1.apc k.1.number (running p past) refl (user_due_pending (facts_of (lanes_at s past) (running p past)) k.1.pick k.1.first)
+    at_running s limit p past a from k.1.pick r k.1.apc k.1.number (running p past) refl
+    (user_due_pending (facts_of (lanes_at s past) (running p past)) k.1.pick k.1.first)
 
-names : (s : Script) (limit : ℕ) (p : CpuNo) (past : List Event) (w : What) → IsRun s limit past → nat_lt p.0 s.cpus ≡ true → (is_next w ≡ true → Known s p (own_of s p past) (lanes_at s past) w) → NamesPending s p w past
+names : (s : Script) (limit : ℕ) (p : CpuNo) (past : List Event) (w : What) → IsRun s limit past → nat_lt p.0 s.cpus ≡ true →
+    (is_next w ≡ true → Known s p (own_of s p past) (lanes_at s past) w) → NamesPending s p w past
 names s limit p past (Begin (Dpc d) from) r has k = dpc_named s p past OrdinaryPart d from has (k refl).1
 names s limit p past (Begin (Threaded d) from) r has k = dpc_named s p past ThreadedPart d from has (k refl).1
 names s limit p past (Begin (Apc a) from) r has k = apc_named s limit p past a from r (k refl)
 names s limit p past (Flush a from) r has k =
     let q = k refl in
-    at_running s limit p past a from q.2.pick r q.2.apc q.2.number (Some q.0) q.1.thread (kind_pending UserApc (facts_at (lanes_at s past) q.0).apcs q.2.pick q.2.first)
+    at_running s limit p past a from q.2.pick r q.2.apc q.2.number (Some q.0) q.1.thread
+    (kind_pending UserApc (facts_at (lanes_at s past) q.0).apcs q.2.pick q.2.first)
 names s limit p past w r has k = tt
 
 pub deliveries_name_pending_inserts : (s : Script) (limit : ℕ) (e : Event) (past : List Event) → IsRun s limit (e ∷ past) → NamesPending s e.cpu e.what past

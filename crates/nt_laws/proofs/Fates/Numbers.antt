@@ -14,7 +14,8 @@ use Rattle.nt_event.specs.Queues.{add_insert, drop_insert, is_of_dpc, is_queue, 
 use Rattle.nt_laws.specs.Fates.{numbers_at, numbers_of}
 use Rattle.nt_event.proofs.Elements.{contains_cases, contains_kept, contains_mapped, contains_none, kept_contains, mapped_contains}
 
-cons_numbers : (d : DpcNo) (y : Insert) (ys : List Insert) (b : Bool) → (y.dpc.0 == d.0) ≡ b → numbers_of d (y ∷ ys) ≡ (if b then (y.number ∷ numbers_of d ys) else numbers_of d ys)
+cons_numbers : (d : DpcNo) (y : Insert) (ys : List Insert) (b : Bool) → (y.dpc.0 == d.0) ≡ b → numbers_of d (y ∷ ys)
+    ≡ (if b then (y.number ∷ numbers_of d ys) else numbers_of d ys)
 cons_numbers d y ys true e = rw e refl
 cons_numbers d y ys false e = rw e refl
 
@@ -32,7 +33,8 @@ dropped_other d x [] h = refl
 dropped_other d x (y ∷ ys) h =
     go (y.dpc.0 == x.0) (y.dpc.0 == d.0) refl refl (dropped_other d x ys h)
   where
-    go : (c b : Bool) → (y.dpc.0 == x.0) ≡ c → (y.dpc.0 == d.0) ≡ b → numbers_of d (without_dpc x ys) ≡ numbers_of d ys → numbers_of d (cond (not c) (y ∷ without_dpc x ys) (without_dpc x ys)) ≡ numbers_of d (y ∷ ys)
+    go : (c b : Bool) → (y.dpc.0 == x.0) ≡ c → (y.dpc.0 == d.0) ≡ b → numbers_of d (without_dpc x ys) ≡ numbers_of d ys →
+        numbers_of d (cond (not c) (y ∷ without_dpc x ys) (without_dpc x ys)) ≡ numbers_of d (y ∷ ys)
     go true true e f ih =
         let k : (x.0 == d.0) ≡ true = ap (λ (n : ℕ). n == d.0) (sym (eqb-true y.dpc.0 x.0 e)) ∙ f in cc
     go true false e f ih = ih ∙ sym (cons_numbers d y ys false f)
@@ -46,7 +48,10 @@ placed p x true e = rw e refl
 placed p x false e = rw e refl
 
 -- an insert of x
-pub insert_step : (s : Script) (p : CpuNo) (d x : DpcNo) (n : ℕ) (by : CpuNo) (objects : List ObjectState) (old : List Insert) (target : Option CpuNo) (st : Option Standing) → numbers_of d old ≡ numbers_at p st → (x.0 ≡ d.0 → (numbers_of d old ≡ []) × ((object_in objects x).target ≡ target)) → numbers_of d (add_insert s p n by (Some x) objects old) ≡ numbers_at p (if x.0 == d.0 then Some (record { queue = queue_for target by; number = n }) else st)
+pub insert_step : (s : Script) (p : CpuNo) (d x : DpcNo) (n : ℕ) (by : CpuNo) (objects : List ObjectState) (old : List Insert) (target : Option CpuNo)
+    (st : Option Standing) → numbers_of d old ≡ numbers_at p st → (x.0 ≡ d.0 → (numbers_of d old ≡ []) × ((object_in objects x).target ≡ target)) →
+    numbers_of d (add_insert s p n by (Some x) objects old)
+    ≡ numbers_at p (if x.0 == d.0 then Some (record { queue = queue_for target by; number = n }) else st)
 insert_step s p d x n by objects old target st ih same =
     go (x.0 == d.0) ((queue_for (object_in objects x).target by).0 == p.0) refl refl
   where
@@ -56,13 +61,17 @@ insert_step s p d x n by objects old target st ih same =
     stand : Standing
     stand = record { queue = queue_for target by; number = n }
 
-    there : (b : Bool) → ((object_in objects x).target ≡ target) → ((queue_for (object_in objects x).target by).0 == p.0) ≡ b → ((queue_for target by).0 == p.0) ≡ b
+    there : (b : Bool) → ((object_in objects x).target ≡ target) → ((queue_for (object_in objects x).target by).0 == p.0) ≡ b →
+        ((queue_for target by).0 == p.0) ≡ b
     there b e k = ap (λ (o : Option CpuNo). (queue_for o by).0 == p.0) (sym e) ∙ k
 
-    go : (b c : Bool) → (x.0 == d.0) ≡ b → ((queue_for (object_in objects x).target by).0 == p.0) ≡ c → numbers_of d (if c then (new_insert s x n (object_in objects x) ∷ old) else old) ≡ numbers_at p (if b then Some (record { queue = queue_for target by; number = n }) else st)
+    go : (b c : Bool) → (x.0 == d.0) ≡ b → ((queue_for (object_in objects x).target by).0 == p.0) ≡ c →
+        numbers_of d (if c then (new_insert s x n (object_in objects x) ∷ old) else old)
+        ≡ numbers_at p (if b then Some (record { queue = queue_for target by; number = n }) else st)
     go true true e k =
         let h = same (eqb-true x.0 d.0 e) in
-        cons_numbers d (new_insert s x n (object_in objects x)) old true e ∙ (ap (λ (ns : List ℕ). n ∷ ns) h.0 ∙ sym (placed p (record { queue = queue_for target by; number = n }) true (there true h.1 k)))
+        cons_numbers d (new_insert s x n (object_in objects x)) old true e
+        ∙ (ap (λ (ns : List ℕ). n ∷ ns) h.0 ∙ sym (placed p (record { queue = queue_for target by; number = n }) true (there true h.1 k)))
     go true false e k =
         let h = same (eqb-true x.0 d.0 e) in
         h.0 ∙ sym (placed p (record { queue = queue_for target by; number = n }) false (there false h.1 k))
@@ -70,11 +79,14 @@ insert_step s p d x n by objects old target st ih same =
     go false false e k = ih
 
 -- an event that uses up an insert of x
-pub drop_step : (p : CpuNo) (d x : DpcNo) (by : CpuNo) (w : What) (objects : List ObjectState) (old : List Insert) (st : Option Standing) → numbers_of d old ≡ numbers_at p st → (x.0 ≡ d.0 → is_queue (left_queue by w (object_in objects x)) p ≡ false → numbers_of d old ≡ []) → numbers_of d (drop_insert p by w (Some x) objects old) ≡ numbers_at p (if x.0 == d.0 then None else st)
+pub drop_step : (p : CpuNo) (d x : DpcNo) (by : CpuNo) (w : What) (objects : List ObjectState) (old : List Insert) (st : Option Standing) → numbers_of d old
+    ≡ numbers_at p st → (x.0 ≡ d.0 → is_queue (left_queue by w (object_in objects x)) p ≡ false → numbers_of d old ≡ []) →
+    numbers_of d (drop_insert p by w (Some x) objects old) ≡ numbers_at p (if x.0 == d.0 then None else st)
 drop_step p d x by w objects old st ih left =
     go (x.0 == d.0) (is_queue (left_queue by w (object_in objects x)) p) refl refl
   where
-    go : (b c : Bool) → (x.0 == d.0) ≡ b → is_queue (left_queue by w (object_in objects x)) p ≡ c → numbers_of d (if c then without_dpc x old else old) ≡ numbers_at p (if b then None else st)
+    go : (b c : Bool) → (x.0 == d.0) ≡ b → is_queue (left_queue by w (object_in objects x)) p ≡ c → numbers_of d (if c then without_dpc x old else old)
+        ≡ numbers_at p (if b then None else st)
     go true true e k = dropped_same d x old (eqb-true x.0 d.0 e)
     go true false e k = left (eqb-true x.0 d.0 e) k
     go false true e k = dropped_other d x old e ∙ ih
@@ -97,7 +109,8 @@ pub stands_at : (p : CpuNo) (o : Option Standing) (n : ℕ) → Contains (number
 stands_at p None n h = contains_none n h
 stands_at p (Some x) n h = go (x.queue.0 == p.0) refl h
   where
-    go : (b : Bool) → (x.queue.0 == p.0) ≡ b → Contains (if b then (x.number ∷ []) else []) n → (y : Standing) × (◌≡◌ {A = Option Standing} (Some x) (Some y)) × (y.queue.0 ≡ p.0) × (y.number ≡ n)
+    go : (b : Bool) → (x.queue.0 == p.0) ≡ b → Contains (if b then (x.number ∷ []) else []) n → (y : Standing) ×
+        (◌≡◌ {A = Option Standing} (Some x) (Some y)) × (y.queue.0 ≡ p.0) × (y.number ≡ n)
     go true e k =
         elim (contains_cases x.number [] n k) [
           | inl same ↦ (x, refl, eqb-true x.queue.0 p.0 e, same)

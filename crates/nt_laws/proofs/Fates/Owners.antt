@@ -20,12 +20,15 @@ first_of_five false b c d e h = cc
 
 apc_thread : (s : Script) (x : ApcDecl) → apc_fits s x ≡ true → has_thread s x.thread ≡ true
 apc_thread s x h =
-    first_of_five (has_thread s x.thread) (has_routine s x.kernel) (where_given (has_routine s) x.normal) (where_given (has_routine s) x.rundown) (apc_has_its_routines x.kind x.normal x.rundown) h
+    first_of_five (has_thread s x.thread) (has_routine s x.kernel) (where_given (has_routine s) x.normal) (where_given (has_routine s) x.rundown)
+    (apc_has_its_routines x.kind x.normal x.rundown) h
 
-fits_at : (s : Script) (xs : List ApcDecl) (i : ℕ) → list_all (apc_fits s) xs ≡ true → i < length xs → has_thread s (option_map_or (λ x. x.thread) (slice_get xs i) (thread 0)) ≡ true
+fits_at : (s : Script) (xs : List ApcDecl) (i : ℕ) → list_all (apc_fits s) xs ≡ true → i < length xs →
+    has_thread s (option_map_or (λ x. x.thread) (slice_get xs i) (thread 0)) ≡ true
 fits_at s [] i h l = absurd (omega (arith, l))
 fits_at s (y ∷ ys) i h l =
-    ap (λ (o : Option ApcDecl). has_thread s (option_map_or (λ x. x.thread) o (thread 0))) (slice_get-get_or (y ∷ ys) i y l) ∙ apc_thread s (get_or (y ∷ ys) i y) (go (apc_fits s (get_or (y ∷ ys) i y)) (list_all_at (apc_fits s) (y ∷ ys) i y l))
+    ap (λ (o : Option ApcDecl). has_thread s (option_map_or (λ x. x.thread) o (thread 0))) (slice_get-get_or (y ∷ ys) i y l)
+    ∙ apc_thread s (get_or (y ∷ ys) i y) (go (apc_fits s (get_or (y ∷ ys) i y)) (list_all_at (apc_fits s) (y ∷ ys) i y l))
   where
     go : (b : Bool) → (b ≡ false → list_all (apc_fits s) (y ∷ ys) ≡ false) → b ≡ true
     go true k = refl

@@ -78,12 +78,15 @@ made_so s n st w x = refl
 insert_picks : (pick : Pick) (x : ThreadFacts) → (insert_facts pick x).apcs.pending ≡ pick ∷ x.apcs.pending
 insert_picks pick x = go (ends_by_apc pick x) (is_kernel_kind pick.kind)
   where
-    go : (b k : Bool) → (if b then (if k then ended kernel_apc (record x { apcs = with_apc pick x.apcs }) else record (ended user_apc (record x { apcs = with_apc pick x.apcs })) { marked = true }) else record x { apcs = with_apc pick x.apcs }).apcs.pending ≡ pick ∷ x.apcs.pending
+    go : (b k : Bool) → (if b then (if k then ended kernel_apc (record x { apcs = with_apc pick x.apcs })
+        else record (ended user_apc (record x { apcs = with_apc pick x.apcs })) { user_pending = true })
+        else record x { apcs = with_apc pick x.apcs }).apcs.pending ≡ pick ∷ x.apcs.pending
     go true true = refl
     go true false = refl
     go false k = refl
 
-if_picks : (b : Bool) (x y : ThreadFacts) (xs ys : List Pick) → x.apcs.pending ≡ xs → y.apcs.pending ≡ ys → (if b then x else y).apcs.pending ≡ (if b then xs else ys)
+if_picks : (b : Bool) (x y : ThreadFacts) (xs ys : List Pick) → x.apcs.pending ≡ xs → y.apcs.pending ≡ ys → (if b then x else y).apcs.pending
+    ≡ (if b then xs else ys)
 if_picks true x y xs ys h k = h
 if_picks false x y xs ys h k = k
 
@@ -93,7 +96,8 @@ named_so s t n (Call f (Release u) y) x =
 named_so s t n (Call f (Alert u m) y) x =
     of_apcs (named_facts s t n (Call f (Alert u m) y) x) x (if_apcs (is_answer y && (u.0 == t.0)) (alert_facts m x) x x.apcs (alert_apcs m x) refl)
 named_so s t n (Call f (InsertApc a) Yes) x =
-    if_picks ((owner_of s a).0 == t.0) (insert_facts (new_pick s a n) x) x (new_pick s a n ∷ x.apcs.pending) x.apcs.pending (insert_picks (new_pick s a n) x) refl
+    if_picks ((owner_of s a).0 == t.0) (insert_facts (new_pick s a n) x) x (new_pick s a n ∷ x.apcs.pending) x.apcs.pending
+    (insert_picks (new_pick s a n) x) refl
 named_so s t n (Call f (RemoveApc a) Yes) x =
     if_picks ((owner_of s a).0 == t.0) (record x { apcs = without_apc a x.apcs }) x (without_pick a x.apcs.pending) x.apcs.pending refl refl
 named_so s t n (Expire (OfDelay u) from) x =
@@ -101,13 +105,16 @@ named_so s t n (Expire (OfDelay u) from) x =
 named_so s t n w x = refl
 
 -- the pending APCs of a thread move as the history does
-pub picks_move : (s : Script) (t : ThreadNo) (e : Event) (past : List Event) → (facts s t (e ∷ past)).apcs.pending ≡ picks_after s t (length past) (is_of_thread s t e) e.what (facts s t past).apcs.pending
+pub picks_move : (s : Script) (t : ThreadNo) (e : Event) (past : List Event) → (facts s t (e ∷ past)).apcs.pending
+    ≡ picks_after s t (length past) (is_of_thread s t e) e.what (facts s t past).apcs.pending
 picks_move s t e past = go (is_of_thread s t e) refl
   where
     go : (b : Bool) → is_of_thread s t e ≡ b → (facts s t (e ∷ past)).apcs.pending ≡ picks_after s t (length past) b e.what (facts s t past).apcs.pending
     go true k =
         let made : ThreadFacts = made_facts s (length past) (stand_at s e.cpu past) e.what (facts s t past) in
-        ap (λ (x : ThreadFacts). x.apcs.pending) (facts_made s t e past true k) ∙ (named_so s t (length past) e.what made ∙ ap (named_picks s t (length past) e.what) (made_so s (length past) (stand_at s e.cpu past) e.what (facts s t past)))
+        ap (λ (x : ThreadFacts). x.apcs.pending) (facts_made s t e past true k)
+        ∙ (named_so s t (length past) e.what made ∙ ap (named_picks s t (length past) e.what)
+        (made_so s (length past) (stand_at s e.cpu past) e.what (facts s t past)))
     go false k =
         ap (λ (x : ThreadFacts). x.apcs.pending) (facts_made s t e past false k) ∙ named_so s t (length past) e.what (facts s t past)
 
@@ -123,10 +130,12 @@ made_kept (Begin (Apc a) from) xs x h = (kept_contains (λ x. not (is_of_apc a x
 made_kept (Flush a from) xs x h = (kept_contains (λ x. not (is_of_apc a x)) xs x h).0
 made_kept w xs x h = h
 
-named_kept : (s : Script) (t : ThreadNo) (n : ℕ) (w : What) (xs : List Pick) (x : Pick) → Contains (named_picks s t n w xs) x → PutsPick s t n w x ⊎ Contains xs x
+named_kept : (s : Script) (t : ThreadNo) (n : ℕ) (w : What) (xs : List Pick) (x : Pick) → Contains (named_picks s t n w xs) x → PutsPick s t n w x ⊎
+    Contains xs x
 named_kept s t n (Call f (InsertApc a) Yes) xs x h = go ((owner_of s a).0 == t.0) refl h
   where
-    go : (b : Bool) → ((owner_of s a).0 == t.0) ≡ b → Contains (if b then (new_pick s a n ∷ xs) else xs) x → (((owner_of s a).0 ≡ t.0) × (x ≡ new_pick s a n)) ⊎ Contains xs x
+    go : (b : Bool) → ((owner_of s a).0 == t.0) ≡ b → Contains (if b then (new_pick s a n ∷ xs) else xs) x →
+        (((owner_of s a).0 ≡ t.0) × (x ≡ new_pick s a n)) ⊎ Contains xs x
     go true e k =
         elim (contains_cases (new_pick s a n) xs x k) [
           | inl same ↦ inl (eqb-true (owner_of s a).0 t.0 e, sym same)
@@ -141,7 +150,8 @@ named_kept s t n (Call f (RemoveApc a) Yes) xs x h = go ((owner_of s a).0 == t.0
 named_kept s t n w xs x h = inr h
 
 -- what is pending after an event was put by it or was pending before
-pub picks_kept : (s : Script) (t : ThreadNo) (n : ℕ) (mine : Bool) (w : What) (xs : List Pick) (x : Pick) → Contains (picks_after s t n mine w xs) x → PutsPick s t n w x ⊎ Contains xs x
+pub picks_kept : (s : Script) (t : ThreadNo) (n : ℕ) (mine : Bool) (w : What) (xs : List Pick) (x : Pick) → Contains (picks_after s t n mine w xs) x →
+    PutsPick s t n w x ⊎ Contains xs x
 picks_kept s t n true w xs x h =
     elim (named_kept s t n w (made_picks w xs) x h) [
       | inl put ↦ inl put
@@ -157,7 +167,8 @@ put_owner s t n w x h = absurd h
 pub owners_fit : (s : Script) (t : ThreadNo) (past : List Event) (x : Pick) → Contains (facts s t past).apcs.pending x → (owner_of s x.apc).0 ≡ t.0
 owners_fit s t [] x h = contains_none x h
 owners_fit s t (e ∷ past) x h =
-    elim (picks_kept s t (length past) (is_of_thread s t e) e.what (facts s t past).apcs.pending x (subst (λ (xs : List Pick). Contains xs x) (picks_move s t e past) h)) [
+    elim (picks_kept s t (length past) (is_of_thread s t e) e.what (facts s t past).apcs.pending x
+    (subst (λ (xs : List Pick). Contains xs x) (picks_move s t e past) h)) [
       | inl put ↦ put_owner s t (length past) e.what x put
       | inr there ↦ owners_fit s t past x there
     ]

@@ -30,11 +30,14 @@ pub object_there : (s : Script) (d : DpcNo) (past : List Event) → has_dpc s d 
 object_there s d past h =
     get_or-table (length s.dpcs) d.0 (λ d. object_of (dpc d) past) start_object (ltb-true d.0 (length s.dpcs) h)
 
-tells : (s : Script) (limit : ℕ) (p : CpuNo) (past : List Event) (w : What) → (is_next w ≡ true → Known s p (own_of s p past) (lanes_at s past) w) → RemovalTells s w past
+tells : (s : Script) (limit : ℕ) (p : CpuNo) (past : List Event) (w : What) → (is_next w ≡ true → Known s p (own_of s p past) (lanes_at s past) w) →
+    RemovalTells s w past
 tells s limit p past (Call f (Unqueue d) y) k = λ has h.
-    (call_accepted s p (own_of s p past) (lanes_at s past) f (Unqueue d) y (k refl) h).1 ∙ ap (λ (o : ObjectState). yes_if (is_queued o)) (object_there s d past has)
+    (call_accepted s p (own_of s p past) (lanes_at s past) f (Unqueue d) y (k refl) h).1
+    ∙ ap (λ (o : ObjectState). yes_if (is_queued o)) (object_there s d past has)
 tells s limit p past (Call f (RemoveApc a) y) k = λ has h.
-    (call_accepted s p (own_of s p past) (lanes_at s past) f (RemoveApc a) y (k refl) h).1 ∙ ap (λ (x : ThreadFacts). yes_if (is_inserted a x.apcs)) (facts_there s limit (owner_of s a) past has)
+    (call_accepted s p (own_of s p past) (lanes_at s past) f (RemoveApc a) y (k refl) h).1
+    ∙ ap (λ (x : ThreadFacts). yes_if (is_inserted a x.apcs)) (facts_there s limit (owner_of s a) past has)
 tells s limit p past w k = tt
 
 pub removals_tell : (s : Script) (limit : ℕ) (e : Event) (past : List Event) → IsRun s limit (e ∷ past) → RemovalTells s e.what past

@@ -31,7 +31,8 @@ use Rattle.nt_laws.proofs.Fates.Picks.{PutsPick, made_picks, named_picks, picks_
 
 -- ---- fates
 
-pub waits_on : (thing : Thing) (n : ℕ) (e : Event) (past : List Event) → fate_of thing n past ≡ StillWaits → (nat_lt n (length past) && uses_up thing n e.what) ≡ false → fate_of thing n (e ∷ past) ≡ StillWaits
+pub waits_on : (thing : Thing) (n : ℕ) (e : Event) (past : List Event) → fate_of thing n past ≡ StillWaits → (nat_lt n (length past) && uses_up thing n e.what)
+    ≡ false → fate_of thing n (e ∷ past) ≡ StillWaits
 waits_on thing n e past h k = rw (h, k) refl
 
 pub no_test : (a b : Bool) → a ≡ false → (a && b) ≡ false
@@ -53,8 +54,11 @@ abbrev pub Waits : Thing → ℕ → List Event → Type 0
 Waits thing n past = (n < length past) × (fate_of thing n past ≡ StillWaits)
 
 pub new_waits : (thing : Thing) (e : Event) (past : List Event) → Waits thing (length past) (e ∷ past)
-new_waits thing e past =
-    (omega arith, waits_on thing (length past) e past (later_waits thing (length past) past (omega arith)) (no_test (nat_lt (length past) (length past)) _ (le-ltb (length past) (length past) (omega arith))))
+new_waits thing e past = (
+  omega arith,
+  waits_on thing (length past) e past (later_waits thing (length past) past (omega arith))
+      (no_test (nat_lt (length past) (length past)) _ (le-ltb (length past) (length past) (omega arith))),
+)
 
 pub still_waits_on : (thing : Thing) (n : ℕ) (e : Event) (past : List Event) → Waits thing n past → uses_up thing n e.what ≡ false → Waits thing n (e ∷ past)
 still_waits_on thing n e past w h =
@@ -75,7 +79,9 @@ standing_waits d [] x h = cc
 standing_waits d (e ∷ past) x h =
     go (is_dpc (inserted_dpc e.what) d) (is_dpc (used_up_dpc e.what) d) refl refl h (λ k. standing_waits d past x k)
   where
-    go : (b c : Bool) → is_dpc (inserted_dpc e.what) d ≡ b → is_dpc (used_up_dpc e.what) d ≡ c → (if b then Some (record { queue = queue_for (target_of d past) e.cpu; number = length past }) else (if c then None else standing d past)) ≡ Some x → (standing d past ≡ Some x → Waits (DpcThing d) x.number past) → Waits (DpcThing d) x.number (e ∷ past)
+    go : (b c : Bool) → is_dpc (inserted_dpc e.what) d ≡ b → is_dpc (used_up_dpc e.what) d ≡ c →
+        (if b then Some (record { queue = queue_for (target_of d past) e.cpu; number = length past }) else (if c then None else standing d past)) ≡ Some x →
+        (standing d past ≡ Some x → Waits (DpcThing d) x.number past) → Waits (DpcThing d) x.number (e ∷ past)
     go true c i u k ih = subst (λ (n : ℕ). Waits (DpcThing d) n (e ∷ past)) (same_number _ x k) (new_waits (DpcThing d) e past)
       where
         same_number : (y z : Standing) → ◌≡◌ {A = Option Standing} (Some y) (Some z) → y.number ≡ z.number
@@ -86,11 +92,13 @@ standing_waits d (e ∷ past) x h =
 -- ---- APC objects
 
 -- the running thread makes the event that delivers its APC
-its_own : (s : Script) (limit : ℕ) (t : ThreadNo) (e : Event) (past : List Event) (w : What) → IsRun s limit (e ∷ past) → e.what ≡ w → thread_field w (running e.cpu past) ≡ running e.cpu past → running e.cpu past ≡ Some t → is_of_thread s t e ≡ true
+its_own : (s : Script) (limit : ℕ) (t : ThreadNo) (e : Event) (past : List Event) (w : What) → IsRun s limit (e ∷ past) → e.what ≡ w →
+    thread_field w (running e.cpu past) ≡ running e.cpu past → running e.cpu past ≡ Some t → is_of_thread s t e ≡ true
 its_own s limit t e past w r k field run =
     let here = running_here s limit e.cpu t past r.1 run in
     let named : e.thread ≡ Some t = thread_named s limit e past r.0 ∙ (ap (λ (w : What). thread_field w (running e.cpu past)) k ∙ (field ∙ run)) in
-    both_true (e.cpu.0 == (cpu_of s t).0) (is_thread e.thread t) (eq-eqb e.cpu.0 (cpu_of s t).0 (sym here.1)) (ap (λ o. is_thread o t) named ∙ eq-eqb t.0 t.0 refl)
+    both_true (e.cpu.0 == (cpu_of s t).0) (is_thread e.thread t) (eq-eqb e.cpu.0 (cpu_of s t).0 (sym here.1))
+    (ap (λ o. is_thread o t) named ∙ eq-eqb t.0 t.0 refl)
   where
     both_true : (a b : Bool) → a ≡ true → b ≡ true → (a && b) ≡ true
     both_true true b h k = k
@@ -103,7 +111,9 @@ not_without a b xs x h i e =
     cc
 
 -- what is pending after an event was not used up by it
-pub unused_apc : (s : Script) (limit : ℕ) (a : ApcNo) (e : Event) (past : List Event) (x : Pick) → IsRun s limit (e ∷ past) → Contains (picks_after s (owner_of s a) (length past) (is_of_thread s (owner_of s a) e) e.what (facts s (owner_of s a) past).apcs.pending) x → x.apc ≡ a → uses_up (ApcThing a) x.number e.what ≡ false
+pub unused_apc : (s : Script) (limit : ℕ) (a : ApcNo) (e : Event) (past : List Event) (x : Pick) → IsRun s limit (e ∷ past) →
+    Contains (picks_after s (owner_of s a) (length past) (is_of_thread s (owner_of s a) e) e.what (facts s (owner_of s a) past).apcs.pending) x → x.apc ≡ a →
+    uses_up (ApcThing a) x.number e.what ≡ false
 unused_apc s limit a e past x r h i = go e.what refl h
   where
     t : ThreadNo
@@ -112,36 +122,49 @@ unused_apc s limit a e past x r h i = go e.what refl h
     names : (w : What) → e.what ≡ w → NamesPending s e.cpu w past
     names w k = subst (λ (w : What). NamesPending s e.cpu w past) k (deliveries_name_pending_inserts s limit e past r)
 
-    mine : (w : What) (b : ApcNo) → e.what ≡ w → thread_field w (running e.cpu past) ≡ running e.cpu past → running e.cpu past ≡ Some (owner_of s b) → b.0 ≡ a.0 → is_of_thread s (owner_of s a) e ≡ true
+    mine : (w : What) (b : ApcNo) → e.what ≡ w → thread_field w (running e.cpu past) ≡ running e.cpu past → running e.cpu past ≡ Some (owner_of s b) → b.0
+        ≡ a.0 → is_of_thread s (owner_of s a) e ≡ true
     mine w b k field run same =
         its_own s limit (owner_of s a) e past w r k field (run ∙ ap (λ (n : ℕ). Some (owner_of s (record { 0 = n }))) same)
 
-    begun : (b : ApcNo) (from : ℕ) (c : Bool) → (b.0 == a.0) ≡ c → e.what ≡ Begin (Apc b) from → Contains (picks_after s (owner_of s a) (length past) (is_of_thread s (owner_of s a) e) (Begin (Apc b) from) (facts s (owner_of s a) past).apcs.pending) x → (c && (from == x.number)) ≡ false
+    begun : (b : ApcNo) (from : ℕ) (c : Bool) → (b.0 == a.0) ≡ c → e.what ≡ Begin (Apc b) from →
+        Contains (picks_after s (owner_of s a) (length past) (is_of_thread s (owner_of s a) e) (Begin (Apc b) from)
+        (facts s (owner_of s a) past).apcs.pending) x → (c && (from == x.number)) ≡ false
     begun b from false q k h = refl
     begun b from true q k h =
         let same : b.0 ≡ a.0 = eqb-true b.0 a.0 q in
         let own : is_of_thread s (owner_of s a) e ≡ true = mine (Begin (Apc b) from) b k refl (names (Begin (Apc b) from) k).0 same in
-        not_without a b (facts s (owner_of s a) past).apcs.pending x (subst (λ (m : Bool). Contains (picks_after s (owner_of s a) (length past) m (Begin (Apc b) from) (facts s (owner_of s a) past).apcs.pending) x) own h) i same
+        not_without a b (facts s (owner_of s a) past).apcs.pending x
+        (subst (λ (m : Bool). Contains (picks_after s (owner_of s a) (length past) m (Begin (Apc b) from)
+        (facts s (owner_of s a) past).apcs.pending) x) own h) i same
 
-    flushed : (b : ApcNo) (from : ℕ) (c : Bool) → (b.0 == a.0) ≡ c → e.what ≡ Flush b from → Contains (picks_after s (owner_of s a) (length past) (is_of_thread s (owner_of s a) e) (Flush b from) (facts s (owner_of s a) past).apcs.pending) x → (c && (from == x.number)) ≡ false
+    flushed : (b : ApcNo) (from : ℕ) (c : Bool) → (b.0 == a.0) ≡ c → e.what ≡ Flush b from →
+        Contains (picks_after s (owner_of s a) (length past) (is_of_thread s (owner_of s a) e) (Flush b from) (facts s (owner_of s a) past).apcs.pending) x →
+        (c && (from == x.number)) ≡ false
     flushed b from false q k h = refl
     flushed b from true q k h =
         let same : b.0 ≡ a.0 = eqb-true b.0 a.0 q in
         let own : is_of_thread s (owner_of s a) e ≡ true = mine (Flush b from) b k refl (names (Flush b from) k).0 same in
-        not_without a b (facts s (owner_of s a) past).apcs.pending x (subst (λ (m : Bool). Contains (picks_after s (owner_of s a) (length past) m (Flush b from) (facts s (owner_of s a) past).apcs.pending) x) own h) i same
+        not_without a b (facts s (owner_of s a) past).apcs.pending x
+        (subst (λ (m : Bool). Contains (picks_after s (owner_of s a) (length past) m (Flush b from)
+        (facts s (owner_of s a) past).apcs.pending) x) own h) i same
 
-    removed : (f : ℕ) (b : ApcNo) (c : Bool) (xs : List Pick) → (b.0 == a.0) ≡ c → Contains (named_picks s (owner_of s a) (length past) (Call f (RemoveApc b) Yes) xs) x → c ≡ false
+    removed : (f : ℕ) (b : ApcNo) (c : Bool) (xs : List Pick) → (b.0 == a.0) ≡ c →
+        Contains (named_picks s (owner_of s a) (length past) (Call f (RemoveApc b) Yes) xs) x → c ≡ false
     removed f b false xs q h = refl
     removed f b true xs q h =
         let same : b.0 ≡ a.0 = eqb-true b.0 a.0 q in
-        let owner : ((owner_of s b).0 == (owner_of s a).0) ≡ true = eq-eqb (owner_of s b).0 (owner_of s a).0 (ap (λ (n : ℕ). (owner_of s (record { 0 = n })).0) same) in
+        let owner : ((owner_of s b).0 == (owner_of s a).0)
+        ≡ true = eq-eqb (owner_of s b).0 (owner_of s a).0 (ap (λ (n : ℕ). (owner_of s (record { 0 = n })).0) same) in
         not_without a b xs x (subst (λ (c : Bool). Contains (if c then without_pick b xs else xs) x) owner h) i same
 
-    go : (w : What) → e.what ≡ w → Contains (picks_after s (owner_of s a) (length past) (is_of_thread s (owner_of s a) e) w (facts s (owner_of s a) past).apcs.pending) x → uses_up (ApcThing a) x.number w ≡ false
+    go : (w : What) → e.what ≡ w → Contains (picks_after s (owner_of s a) (length past) (is_of_thread s (owner_of s a) e) w
+        (facts s (owner_of s a) past).apcs.pending) x → uses_up (ApcThing a) x.number w ≡ false
     go (Begin (Apc b) from) k h = begun b from (b.0 == a.0) refl k h
     go (Flush b from) k h = flushed b from (b.0 == a.0) refl k h
     go (Call f (RemoveApc b) Yes) k h =
-        removed f b (b.0 == a.0) (if is_of_thread s (owner_of s a) e then made_picks (Call f (RemoveApc b) Yes) (facts s (owner_of s a) past).apcs.pending else (facts s (owner_of s a) past).apcs.pending) refl h
+        removed f b (b.0 == a.0) (if is_of_thread s (owner_of s a) e then made_picks (Call f (RemoveApc b) Yes) (facts s (owner_of s a) past).apcs.pending
+        else (facts s (owner_of s a) past).apcs.pending) refl h
     go w k h = refl
 
 pub put_number : (s : Script) (t : ThreadNo) (n : ℕ) (w : What) (x : Pick) → PutsPick s t n w x → n ≡ x.number
@@ -149,10 +172,12 @@ put_number s t n (Call f (InsertApc a) Yes) x h = ap (λ (x : Pick). x.number) (
 put_number s t n w x h = absurd h
 
 -- what is pending at its thread is an earlier insert that waits
-pub picks_wait : (s : Script) (limit : ℕ) (a : ApcNo) (past : List Event) (x : Pick) → IsRun s limit past → Contains (facts s (owner_of s a) past).apcs.pending x → x.apc ≡ a → Waits (ApcThing a) x.number past
+pub picks_wait : (s : Script) (limit : ℕ) (a : ApcNo) (past : List Event) (x : Pick) → IsRun s limit past →
+    Contains (facts s (owner_of s a) past).apcs.pending x → x.apc ≡ a → Waits (ApcThing a) x.number past
 picks_wait s limit a [] x r h i = contains_none x h
 picks_wait s limit a (e ∷ past) x r h i =
-    let after : Contains (picks_after s (owner_of s a) (length past) (is_of_thread s (owner_of s a) e) e.what (facts s (owner_of s a) past).apcs.pending) x = subst (λ (xs : List Pick). Contains xs x) (picks_move s (owner_of s a) e past) h in
+    let after : Contains (picks_after s (owner_of s a) (length past) (is_of_thread s (owner_of s a) e) e.what
+    (facts s (owner_of s a) past).apcs.pending) x = subst (λ (xs : List Pick). Contains xs x) (picks_move s (owner_of s a) e past) h in
     elim (picks_kept s (owner_of s a) (length past) (is_of_thread s (owner_of s a) e) e.what (facts s (owner_of s a) past).apcs.pending x after) [
       | inl put ↦ subst (λ (n : ℕ). Waits (ApcThing a) n (e ∷ past)) (put_number s (owner_of s a) (length past) e.what x put) (new_waits (ApcThing a) e past)
       | inr there ↦ still_waits_on (ApcThing a) x.number e past (picks_wait s limit a past x r.1 there i) (unused_apc s limit a e past x r after i)

@@ -27,13 +27,15 @@ use Rattle.nt_event.specs.Queues.{QueueState, depth_of, insert_asks}
 use Rattle.nt_event.specs.Regions.{some_came_to_0, stand_at}
 use Rattle.nt_event.specs.Requests.{Ask, ask_if, asks, command_asks, dpc_asks, end_asks, is_ask, what_asks}
 use Rattle.nt_event.specs.Routines.{cpu_of, depth_limit, is_kernel_kind, kind_of, owner_of, part_of}
-use Rattle.nt_event.specs.Script.{command_fits, has_cpu, is_requested_level}
+use Rattle.nt_event.specs.Script.{command_fits, has_cpu}
+use Rattle.nt_event.specs.Classes.{is_requested_level, is_used_class}
 use Rattle.nt_event.specs.Step.{good_rises, was_asked}
 use Rattle.nt_event.specs.Threads.{ends_by_apc, ends_by_expiry}
 use Rattle.nt_event.specs.Waits.{new_pick}
 use Rattle.nt_event.specs.Lists.{value_at}
 use Rattle.nt_event.proofs.Options.{both}
-use Rattle.nt_laws.specs.Named.{AllFit, is_used_class, values_fit, what_fits}
+use Rattle.nt_laws.specs.Named.{AllFit, values_fit}
+use Rattle.nt_event.specs.Fitting.{what_fits}
 
 abbrev AreUsed : List Ask → Type 0
 AreUsed [] = Unit {0}
@@ -69,9 +71,13 @@ requested_used level h = go (nat_le 3 level) (nat_le level 11) (level == 14) ref
         or_right false y q = q
 
 command_used : (s : Script) (st : Stand) (c : Command) (y : Reply) (l : Lanes) → command_fits s c ≡ true → AreUsed (command_asks s st c y l)
-command_used s st (Queue d) Yes l h = dpc_used s (part_of s d) (object_at l d) st.cpu (queue_for (object_at l d).target st.cpu) (queue_at l (queue_for (object_at l d).target st.cpu))
+command_used s st (Queue d) Yes l h = dpc_used s (part_of s d) (object_at l d) st.cpu (queue_for (object_at l d).target st.cpu)
+    (queue_at l (queue_for (object_at l d).target st.cpu))
 command_used s st (InsertApc a) Yes l h =
-    used_both (ask_if (is_kernel_kind (kind_of s a)) (cpu_of s (owner_of s a)) 1) (ask_if (ends_by_apc (new_pick s a 0) (facts_at l (owner_of s a))) (cpu_of s (owner_of s a)) 2) (used_if (is_kernel_kind (kind_of s a)) (cpu_of s (owner_of s a)) 1 refl) (used_if (ends_by_apc (new_pick s a 0) (facts_at l (owner_of s a))) (cpu_of s (owner_of s a)) 2 refl)
+    used_both (ask_if (is_kernel_kind (kind_of s a)) (cpu_of s (owner_of s a)) 1)
+    (ask_if (ends_by_apc (new_pick s a 0) (facts_at l (owner_of s a))) (cpu_of s (owner_of s a)) 2)
+    (used_if (is_kernel_kind (kind_of s a)) (cpu_of s (owner_of s a)) 1 refl)
+    (used_if (ends_by_apc (new_pick s a 0) (facts_at l (owner_of s a))) (cpu_of s (owner_of s a)) 2 refl)
 command_used s st LeaveCrit Done l h = used_if (st.regions.crit == 1) st.cpu 1 refl
 command_used s st LeaveGuard Done l h = used_if (st.regions.guard == 1) st.cpu 1 refl
 command_used s st (Release t) Yes l h = (refl, tt)
@@ -87,7 +93,8 @@ end_used st b l = used_if (some_came_to_0 st.regions st.below) st.cpu 1 refl
 
 what_used : (s : Script) (st : Stand) (w : What) (l : Lanes) → what_fits s w ≡ true → AreUsed (what_asks s st w l)
 what_used s st (Call f c y) l h = command_used s st c y l h
-what_used s st (Fire d Yes) l h = dpc_used s (part_of s d) (object_at l d) st.cpu (queue_for (object_at l d).target st.cpu) (queue_at l (queue_for (object_at l d).target st.cpu))
+what_used s st (Fire d Yes) l h = dpc_used s (part_of s d) (object_at l d) st.cpu (queue_for (object_at l d).target st.cpu)
+    (queue_at l (queue_for (object_at l d).target st.cpu))
 what_used s st (Expire (OfDelay t) from) l h = used_if (ends_by_expiry from (facts_at l t)) (cpu_of s t) 2 refl
 what_used s st (Switch t status) l h = used_if (has_kernel (facts_at l t).apcs) st.cpu 1 refl
 what_used s st (Normal f) l h = used_if (some_came_to_0 st.regions st.below) st.cpu 1 refl
@@ -98,7 +105,8 @@ used_among : (p : CpuNo) (c : ℕ) (xs : List Ask) → AreUsed xs → list_any (
 used_among p c [] h k = cc
 used_among p c (a ∷ xs) h k = go (a.cpu.0 == p.0) (a.class == c) refl k (used_among p c xs h.1)
   where
-    go : (x y : Bool) → (a.class == c) ≡ y → ((x && y) || list_any (is_ask p c) xs) ≡ true → (list_any (is_ask p c) xs ≡ true → is_used_class c ≡ true) → is_used_class c ≡ true
+    go : (x y : Bool) → (a.class == c) ≡ y → ((x && y) || list_any (is_ask p c) xs) ≡ true → (list_any (is_ask p c) xs ≡ true → is_used_class c ≡ true) →
+        is_used_class c ≡ true
     go true true e q ih = subst (λ (n : ℕ). is_used_class n ≡ true) (eqb-true a.class c e) h.0
     go true false e q ih = ih q
     go false y e q ih = ih q
@@ -109,20 +117,23 @@ was_asked_used s p c v [] h k = cc
 was_asked_used s p c v (e ∷ past) h k =
     go (v == length past + 1) (asks s p c e past) refl k (was_asked_used s p c v past h.1)
   where
-    go : (x y : Bool) → asks s p c e past ≡ y → ((x && y) || was_asked s p c v past) ≡ true → (was_asked s p c v past ≡ true → is_used_class c ≡ true) → is_used_class c ≡ true
+    go : (x y : Bool) → asks s p c e past ≡ y → ((x && y) || was_asked s p c v past) ≡ true → (was_asked s p c v past ≡ true → is_used_class c ≡ true) →
+        is_used_class c ≡ true
     go true true a q ih =
         used_among p c (what_asks s (stand_at s e.cpu past) e.what (lanes_at s past)) (what_used s (stand_at s e.cpu past) e.what (lanes_at s past) h.0.what) a
     go true false a q ih = ih q
     go false y a q ih = ih q
 
 -- the values of a look that is accepted fit
-pub rises_fit : (s : Script) (p : CpuNo) (c : ℕ) (vs : List ℕ) (x : Own) (past : List Event) → AllFit s past → good_rises s p c vs x past ≡ true → values_fit c vs ≡ true
+pub rises_fit : (s : Script) (p : CpuNo) (c : ℕ) (vs : List ℕ) (x : Own) (past : List Event) → AllFit s past → good_rises s p c vs x past ≡ true →
+    values_fit c vs ≡ true
 rises_fit s p c [] x past h k = refl
 rises_fit s p c (v ∷ vs) x past h k =
     let parts = both ((v == 0) || (nat_lt (value_at x.seen c) v && was_asked s p c v past)) (good_rises s p (suc c) vs x past) k in
     go (v == 0) (nat_lt (value_at x.seen c) v) (was_asked s p c v past) refl parts.0 (rises_fit s p (suc c) vs x past h parts.1)
   where
-    go : (z l w : Bool) → was_asked s p c v past ≡ w → (z || (l && w)) ≡ true → values_fit (suc c) vs ≡ true → ((z || is_used_class c) && values_fit (suc c) vs) ≡ true
+    go : (z l w : Bool) → was_asked s p c v past ≡ w → (z || (l && w)) ≡ true → values_fit (suc c) vs ≡ true →
+        ((z || is_used_class c) && values_fit (suc c) vs) ≡ true
     go true l w a q more = more
     go false true true a q more = rw (was_asked_used s p c v past h a) more
     go false true false a q more = cc

@@ -41,9 +41,10 @@ use Rattle.nt_laws.proofs.Fates.Deliveries.{deliveries_name_pending_inserts}
 use Rattle.nt_runs.proofs.Pending.{legal_cpu}
 use Rattle.nt_laws.proofs.Fates.Once.{delivered_inserts_wait}
 use Rattle.nt_laws.specs.Fates.{ApcIsPending, DpcIsPending, NamesPending}
-use Rattle.nt_laws.specs.Named.{AllFit, earlier, key_fits, what_fits}
+use Rattle.nt_laws.specs.Named.{AllFit, earlier, keeps_to_classes}
+use Rattle.nt_event.specs.Fitting.{key_fits, what_fits}
 use Rattle.nt_laws.proofs.Named.Asked.{rises_fit}
-use Rattle.nt_laws.proofs.Named.Declared.{fire_fits, next_fits}
+use Rattle.nt_runs.proofs.Declared.{fire_fits, next_fits}
 use Rattle.nt_laws.proofs.Named.Inserted.{pending_fits, picks_fit}
 use Rattle.nt_laws.proofs.Named.Settings.{due_fits}
 
@@ -54,15 +55,18 @@ head_below n [] f h e = cc
 head_below n (g ∷ fs) f h e = let same : g ≡ f = cc in subst (λ (x : Frame). x.name < n) same h.0
 
 -- the innermost frame of a processor is named by an earlier event
-inner_below : (s : Script) (limit : ℕ) (p : CpuNo) (past : List Event) (f : Frame) → IsRun s limit past → innermost (frames_of s p past) ≡ Some f → f.name < length past
+inner_below : (s : Script) (limit : ℕ) (p : CpuNo) (past : List Event) (f : Frame) → IsRun s limit past → innermost (frames_of s p past) ≡ Some f →
+    f.name < length past
 inner_below s limit p past f r e = own (own_frames p past) refl e
   where
-    on_thread : (o : Option ThreadNo) → running p past ≡ o → head_of (option_map_or (λ t. get_or (frames_of s p past).threads t.0 []) o []) ≡ Some f → f.name < length past
+    on_thread : (o : Option ThreadNo) → running p past ≡ o → head_of (option_map_or (λ t. get_or (frames_of s p past).threads t.0 []) o []) ≡ Some f →
+        f.name < length past
     on_thread None k h = cc
     on_thread (Some t) k h =
         let base = running_has_base s limit p t past r k in
         let part : thread_part (frames_of s p past) ≡ thread_frames s p t past = part_of_running s p t past base.1 k in
-        let here : thread_part (frames_of s p past) ≡ get_or (frames_of s p past).threads t.0 [] = ap (λ (o : Option ThreadNo). option_map_or (λ t. get_or (frames_of s p past).threads t.0 []) o []) k in
+        let here : thread_part (frames_of s p past) ≡ get_or (frames_of s p past).threads t.0 [] = ap
+        (λ (o : Option ThreadNo). option_map_or (λ t. get_or (frames_of s p past).threads t.0 []) o []) k in
         head_below (length past) (thread_frames s p t past) f (all_named s p t past).thread (ap head_of (sym part ∙ here) ∙ h)
 
     own : (gs : List Frame) → own_frames p past ≡ gs → option_or (head_of gs) (head_of (thread_part (frames_of s p past))) ≡ Some f → f.name < length past
@@ -87,18 +91,20 @@ below_all n c f h = go (nat_lt c 16) refl
         omega arith
 
 -- the ask that an interrupt names is an earlier event
-interrupt_below : (s : Script) (limit : ℕ) (p : CpuNo) (past : List Event) (c from : ℕ) → IsRun s limit past → KnownInterrupt (own_of s p past) c from → from < length past
+interrupt_below : (s : Script) (limit : ℕ) (p : CpuNo) (past : List Event) (c from : ℕ) → IsRun s limit past → KnownInterrupt (own_of s p past) c from →
+    from < length past
 interrupt_below s limit p past c from r k =
     let due : is_due (own_of s p past) c ≡ true = (both (nat_lt (level_at (own_of s p past)) c) (is_due (own_of s p past) c) k.may).1 in
     let some : value_at (own_of s p past).served c < value_at (own_of s p past).seen c = grind (arith, nat_tests) in
-    let most : value_at (own_of s p past).seen c ≤ length past = below_all (length past) c (λ k. seen s p k past) (λ k. let a = seen_below s limit p k past r in let b = asked_below s p k past in omega arith) in
+    let most : value_at (own_of s p past).seen c ≤ length past = below_all (length past) c (λ k. seen s p k past)
+    (λ k. let a = seen_below s limit p k past r in let b = asked_below s p k past in omega arith) in
     let n = k.number in
     omega arith
 
 -- ---- each event
 
 abbrev WhatFits : Script → ℕ → What → Type 0
-WhatFits s n w = (what_fits s w ≡ true) × IfSome (earlier w) (λ m. m < n)
+WhatFits s n w = (what_fits s w ≡ true) × (keeps_to_classes w ≡ true) × IfSome (earlier w) (λ m. m < n)
 
 named_here : (n : ℕ) → (n == n) ≡ true
 named_here n = eq-eqb n n refl
@@ -117,7 +123,8 @@ is_some_at : {A : Type 0} (P : A → Type 0) (o : Option A) (x : A) → IfSome o
 is_some_at P None x h e = cc
 is_some_at P (Some y) x h e = let same : y ≡ x = cc in subst P same h
 
-what_of : (s : Script) (limit : ℕ) (e : Event) (past : List Event) → fits s ≡ true → IsRun s limit (e ∷ past) → AllFit s past → (w : What) → e.what ≡ w → WhatFits s (length past) w
+what_of : (s : Script) (limit : ℕ) (e : Event) (past : List Event) → fits s ≡ true → IsRun s limit (e ∷ past) → AllFit s past → (w : What) → e.what ≡ w →
+    WhatFits s (length past) w
 what_of s limit e past h r all w eq = go w eq
   where
     p : CpuNo
@@ -146,34 +153,35 @@ what_of s limit e past h r all w eq = go w eq
     go : (w : What) → e.what ≡ w → WhatFits s (length past) w
     go (Call f c y) k =
         let q = known (Call f c y) k refl in
-        (next_fits s e.cpu q.frame c h q.command, frame_below q.frame f q.name q.goes_on.inner)
+        (next_fits s e.cpu q.frame c h q.command, refl, frame_below q.frame f q.name q.goes_on.inner)
     go (Look x) k =
         let good = both (list_any (λ v. nat_lt 0 v) x.value) _ (look_gives s limit e.cpu x past e (turned (Look x) k)).0 in
-        (rw good.0 (rises_fit s e.cpu 0 x.value (own_of s e.cpu past) past all good.1), tt)
+        (refl, rw good.0 (rises_fit s e.cpu 0 x.value (own_of s e.cpu past) past all good.1), tt)
     go (Begin (Int c) from) k =
-        let q = known (Begin (Int c) from) k refl in (q.class, interrupt_below s limit e.cpu past c from r.1 q)
+        let q = known (Begin (Int c) from) k refl in (refl, q.class, interrupt_below s limit e.cpu past c from r.1 q)
     go (Begin (Dpc d) from) k =
         let q = delivered (Begin (Dpc d) from) k in
         let has : has_dpc s d ≡ true = dpc_fits d from q in
-        (has, (delivered_inserts_wait s limit e past (DpcThing d) from r has (rw (k, named_here d.0, named_here from) refl)).0)
+        (has, refl, (delivered_inserts_wait s limit e past (DpcThing d) from r has (rw (k, named_here d.0, named_here from) refl)).0)
     go (Begin (Threaded d) from) k =
         let q = delivered (Begin (Threaded d) from) k in
         let has : has_dpc s d ≡ true = dpc_fits d from q in
-        (has, (delivered_inserts_wait s limit e past (DpcThing d) from r has (rw (k, named_here d.0, named_here from) refl)).0)
+        (has, refl, (delivered_inserts_wait s limit e past (DpcThing d) from r has (rw (k, named_here d.0, named_here from) refl)).0)
     go (Begin (Apc a) from) k =
         let q = delivered (Begin (Apc a) from) k in
-        (apc_fits a from q.1, (delivered_inserts_wait s limit e past (ApcThing a) from r refl (rw (k, named_here a.0, named_here from) refl)).0)
-    go (Normal f) k = let q = known (Normal f) k refl in (refl, frame_below q.frame f q.name q.goes_on.inner)
-    go (End f) k = let q = known (End f) k refl in (refl, frame_below q.frame f q.name q.goes_on.inner)
+        (apc_fits a from q.1, refl, (delivered_inserts_wait s limit e past (ApcThing a) from r refl (rw (k, named_here a.0, named_here from) refl)).0)
+    go (Normal f) k = let q = known (Normal f) k refl in (refl, refl, frame_below q.frame f q.name q.goes_on.inner)
+    go (End f) k = let q = known (End f) k refl in (refl, refl, frame_below q.frame f q.name q.goes_on.inner)
     go (Expire key from) k =
         let q = known (Expire key from) k refl in
         let due = due_fits s past q.set q.first in
-        (subst (λ (x : TimerKey). key_fits s x ≡ true) (sym q.key) due.0, (let n = q.number in let b = due.1 in omega arith))
+        (subst (λ (x : TimerKey). key_fits s x ≡ true) (sym q.key) due.0, refl, (let n = q.number in let b = due.1 in omega arith))
     go (Fire d y) k =
         let q = known (Fire d y) k refl in
-        (is_some_at (λ (d : DpcNo). has_dpc s d ≡ true) (fire s e.cpu past) d (fire_fits s e.cpu past h) q.0, tt)
+        (is_some_at (λ (d : DpcNo). has_dpc s d ≡ true) (fire s e.cpu past) d (fire_fits s e.cpu past h) q.0, refl, tt)
     go (Clean c) k =
         let q = known (Clean c) k refl in (
+          refl,
           elim q [
             | inl two ↦ clean_fits c (let n = two.0 in omega arith)
             | inr more ↦ elim more [
@@ -183,16 +191,17 @@ what_of s limit e past h r all w eq = go w eq
           ],
           tt,
         )
-    go (Switch t status) k = ((taken s limit e.cpu t past e (turned (Switch t status) k)).0, tt)
-    go (Rewait f y) k = let q = known (Rewait f y) k refl in (refl, frame_below q.frame f q.name q.goes_on.inner)
+    go (Switch t status) k = ((taken s limit e.cpu t past e (turned (Switch t status) k)).0, refl, tt)
+    go (Rewait f y) k = let q = known (Rewait f y) k refl in (refl, refl, frame_below q.frame f q.name q.goes_on.inner)
     go (Flush a from) k =
         let q = delivered (Flush a from) k in
-        (apc_fits a from q.1, (delivered_inserts_wait s limit e past (ApcThing a) from r refl (rw (k, named_here a.0, named_here from) refl)).0)
+        (apc_fits a from q.1, refl, (delivered_inserts_wait s limit e past (ApcThing a) from r refl (rw (k, named_here a.0, named_here from) refl)).0)
     go (Gone t) k =
-        let q = known (Gone t) k refl in ((running_has_base s limit e.cpu t past r.1 q.0.thread).1, tt)
-    go Rest k = (refl, tt)
+        let q = known (Gone t) k refl in ((running_has_base s limit e.cpu t past r.1 q.0.thread).1, refl, tt)
+    go Rest k = (refl, refl, tt)
 
-thread_fits : (s : Script) (limit : ℕ) (e : Event) (past : List Event) → IsRun s limit (e ∷ past) → what_fits s e.what ≡ true → where_given (has_thread s) e.thread ≡ true
+thread_fits : (s : Script) (limit : ℕ) (e : Event) (past : List Event) → IsRun s limit (e ∷ past) → what_fits s e.what ≡ true →
+    where_given (has_thread s) e.thread ≡ true
 thread_fits s limit e past r h =
     ap (where_given (has_thread s)) (thread_named s limit e past r.0) ∙ go e.what h
   where
@@ -215,5 +224,14 @@ pub events_of_a_run_fit : (s : Script) (limit : ℕ) (past : List Event) → fit
 events_of_a_run_fit s limit [] h r = tt
 events_of_a_run_fit s limit (e ∷ past) h r =
     let all : AllFit s past = events_of_a_run_fit s limit past h r.1 in
-    let what = what_of s limit e past h r all e.what refl in
-    (record { cpu = legal_cpu s limit e past r.0; thread = thread_fits s limit e past r what.0; what = what.0; earlier = what.1; look = look_plain s limit e past r }, all)
+    let what = what_of s limit e past h r all e.what refl in (
+      record {
+        cpu = legal_cpu s limit e past r.0;
+        thread = thread_fits s limit e past r what.0;
+        what = what.0;
+        classes = what.1;
+        earlier = what.2;
+        look = look_plain s limit e past r;
+      },
+      all,
+    )

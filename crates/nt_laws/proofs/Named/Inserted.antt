@@ -20,7 +20,8 @@ use Rattle.nt_event.specs.Script.{has_apc, has_dpc}
 use Rattle.nt_event.specs.Waits.{facts, is_of_thread}
 use Rattle.nt_event.proofs.Elements.{contains_none, contains_cases, kept_contains}
 use Rattle.nt_laws.proofs.Fates.Picks.{PutsPick, picks_after, picks_kept, picks_move}
-use Rattle.nt_laws.specs.Named.{AllFit, what_fits}
+use Rattle.nt_laws.specs.Named.{AllFit}
+use Rattle.nt_event.specs.Fitting.{what_fits}
 
 -- ---- DPCs
 
@@ -32,7 +33,8 @@ inserted_fits s w d h e = cc
 abbrev AreDeclared : Script → List Insert → Type 0
 AreDeclared s xs = (x : Insert) → Contains xs x → has_dpc s x.dpc ≡ true
 
-added : (s : Script) (p : CpuNo) (n : ℕ) (by : CpuNo) (o : Option DpcNo) (objects : List ObjectState) (old : List Insert) → ((d : DpcNo) → o ≡ Some d → has_dpc s d ≡ true) → AreDeclared s old → AreDeclared s (add_insert s p n by o objects old)
+added : (s : Script) (p : CpuNo) (n : ℕ) (by : CpuNo) (o : Option DpcNo) (objects : List ObjectState) (old : List Insert) →
+    ((d : DpcNo) → o ≡ Some d → has_dpc s d ≡ true) → AreDeclared s old → AreDeclared s (add_insert s p n by o objects old)
 added s p n by None objects old h k = k
 added s p n by (Some d) objects old h k = go ((queue_for (object_in objects d).target by).0 == p.0)
   where
@@ -47,7 +49,8 @@ added s p n by (Some d) objects old h k = go ((queue_for (object_in objects d).t
         ]
     go false = k
 
-dropped : (s : Script) (p by : CpuNo) (w : What) (o : Option DpcNo) (objects : List ObjectState) (old : List Insert) → AreDeclared s old → AreDeclared s (drop_insert p by w o objects old)
+dropped : (s : Script) (p by : CpuNo) (w : What) (o : Option DpcNo) (objects : List ObjectState) (old : List Insert) → AreDeclared s old →
+    AreDeclared s (drop_insert p by w o objects old)
 dropped s p by w None objects old k = k
 dropped s p by w (Some d) objects old k = go (is_queue (left_queue by w (object_in objects d)) p)
   where
@@ -60,19 +63,22 @@ pub pending_fits : (s : Script) (p : CpuNo) (past : List Event) → AllFit s pas
 pending_fits s p [] h x c = contains_none x c
 pending_fits s p (e ∷ past) h x c =
     let old : List Insert = drop_insert p e.cpu e.what (used_up_dpc e.what) (objects_at s past) (pending s p past) in
-    added s p (length past) e.cpu (inserted_dpc e.what) (objects_at s past) old (λ d i. inserted_fits s e.what d h.0.what i) (dropped s p e.cpu e.what (used_up_dpc e.what) (objects_at s past) (pending s p past) (pending_fits s p past h.1)) x c
+    added s p (length past) e.cpu (inserted_dpc e.what) (objects_at s past) old (λ d i. inserted_fits s e.what d h.0.what i)
+    (dropped s p e.cpu e.what (used_up_dpc e.what) (objects_at s past) (pending s p past) (pending_fits s p past h.1)) x c
 
 -- ---- APCs
 
 put_fits : (s : Script) (t : ThreadNo) (n : ℕ) (w : What) (x : Pick) → what_fits s w ≡ true → PutsPick s t n w x → has_apc s x.apc ≡ true
-put_fits s t n (Call f (InsertApc a) Yes) x h put = let same : a ≡ x.apc = sym (ap (λ (y : Pick). y.apc) put.1) in subst (λ (y : ApcNo). has_apc s y ≡ true) same h
+put_fits s t n (Call f (InsertApc a) Yes) x h put = let same : a ≡ x.apc = sym (ap (λ (y : Pick). y.apc) put.1) in
+    subst (λ (y : ApcNo). has_apc s y ≡ true) same h
 put_fits s t n w x h put = absurd put
 
 -- the pending APCs of a thread are of the script's APC objects
 pub picks_fit : (s : Script) (t : ThreadNo) (past : List Event) → AllFit s past → (x : Pick) → Contains (facts s t past).apcs.pending x → has_apc s x.apc ≡ true
 picks_fit s t [] h x c = contains_none x c
 picks_fit s t (e ∷ past) h x c =
-    let after : Contains (picks_after s t (length past) (is_of_thread s t e) e.what (facts s t past).apcs.pending) x = subst (λ (xs : List Pick). Contains xs x) (picks_move s t e past) c in
+    let after : Contains (picks_after s t (length past) (is_of_thread s t e) e.what (facts s t past).apcs.pending) x = subst
+    (λ (xs : List Pick). Contains xs x) (picks_move s t e past) c in
     elim (picks_kept s t (length past) (is_of_thread s t e) e.what (facts s t past).apcs.pending x after) [
       | inl put ↦ put_fits s t (length past) e.what x h.0.what put
       | inr there ↦ picks_fit s t past h.1 x there

@@ -25,7 +25,7 @@ use Rattle.nt_event.specs.Numbers.{thread, timer}
 use Rattle.nt_event.proofs.Tables.{get_or-table, length-table_from}
 use Rattle.nt_timer.specs.Settings.{setting_at}
 use Rattle.nt_timer.proofs.Among.{first_due_among, set_key_is_set}
-use Rattle.nt_laws.specs.Named.{key_fits}
+use Rattle.nt_event.specs.Fitting.{key_fits}
 
 abbrev SetBelow : ℕ → Option Setting → Type 0
 SetBelow n o = IfSome o (λ x. x.number < n)
@@ -77,10 +77,13 @@ delay_below s t [] = tt
 delay_below s t (e ∷ past) =
     let again : Option Again = (stand_at s e.cpu past).again in
     let old : Option Setting = delay_setting s t past in
-    expired_step (suc (length past)) t e.what (if is_of_thread s t e then blocked_after (length past) (time past) again e.what old else old) (either (suc (length past)) (is_of_thread s t e) (blocked_after (length past) (time past) again e.what old) old (blocked_step (length past) (time past) again e.what old (delay_below s t past)) (below_next (length past) old (delay_below s t past)))
+    expired_step (suc (length past)) t e.what (if is_of_thread s t e then blocked_after (length past) (time past) again e.what old else old)
+    (either (suc (length past)) (is_of_thread s t e) (blocked_after (length past) (time past) again e.what old) old
+    (blocked_step (length past) (time past) again e.what old (delay_below s t past)) (below_next (length past) old (delay_below s t past)))
 
 -- a place in a table at which something is set is one of the table, and what is set there has a smaller number
-in_table : (size n i : ℕ) (f : ℕ → Option Setting) (x : Setting) → ((k : ℕ) → SetBelow n (f k)) → get_or {A = Option Setting} (table size f) i None ≡ Some x → (nat_lt i size ≡ true) × (x.number < n)
+in_table : (size n i : ℕ) (f : ℕ → Option Setting) (x : Setting) → ((k : ℕ) → SetBelow n (f k)) → get_or {A = Option Setting} (table size f) i None ≡ Some x →
+    (nat_lt i size ≡ true) × (x.number < n)
 in_table size n i f x h e = go (nat_lt i size) refl
   where
     some : (o : Option Setting) → SetBelow n o → o ≡ Some x → x.number < n
@@ -98,14 +101,16 @@ in_table size n i f x h e = go (nat_lt i size) refl
         none : ◌≡◌ {A = Option Setting} None (Some x) → ⊥
         none k = cc
 
-key_set : (s : Script) (key : TimerKey) (x : Setting) (past : List Event) → setting_at key (timers_at s past) ≡ Some x → (key_fits s key ≡ true) × (x.number < length past)
+key_set : (s : Script) (key : TimerKey) (x : Setting) (past : List Event) → setting_at key (timers_at s past) ≡ Some x → (key_fits s key ≡ true) ×
+    (x.number < length past)
 key_set s (OfTimer t) x past e =
     in_table (length s.timers) (length past) t.0 (λ t. timer_setting (timer t) past) x (λ k. timer_below (timer k) past) e
 key_set s (OfDelay t) x past e =
     in_table (length s.threads) (length past) t.0 (λ t. delay_setting s (thread t) past) x (λ k. delay_below s (thread k) past) e
 
 -- the first due key is one of the script's, and was set by an earlier event
-pub due_fits : (s : Script) (past : List Event) (k : SetKey) → first_due (timers_at s past) ≡ Some k → (key_fits s k.key ≡ true) × (k.setting.number < length past)
+pub due_fits : (s : Script) (past : List Event) (k : SetKey) → first_due (timers_at s past) ≡ Some k → (key_fits s k.key ≡ true) ×
+    (k.setting.number < length past)
 due_fits s past k e =
     let among = first_due_among (timers_at s past) k e in
     key_set s k.key k.setting past (set_key_is_set (timers_at s past) k among.0)

@@ -42,7 +42,8 @@ alert_leaving m x = if_leaving (is_gone x) x _ x refl (if_leaving (ends_by_alert
 insert_leaving : (pick : Pick) (x : ThreadFacts) → (insert_facts pick x).leaving ≡ x.leaving
 insert_leaving pick x =
     let y : ThreadFacts = record x { apcs = with_apc pick x.apcs } in
-    if_leaving (ends_by_apc pick x) (if is_kernel_kind pick.kind then ended kernel_apc y else record (ended user_apc y) { marked = true }) y x (if_leaving (is_kernel_kind pick.kind) (ended kernel_apc y) (record (ended user_apc y) { marked = true }) x refl refl) refl
+    if_leaving (ends_by_apc pick x) (if is_kernel_kind pick.kind then ended kernel_apc y else record (ended user_apc y) { user_pending = true }) y x
+    (if_leaving (is_kernel_kind pick.kind) (ended kernel_apc y) (record (ended user_apc y) { user_pending = true }) x refl refl) refl
 
 pub facts_named : (s : Script) (t : ThreadNo) (n : ℕ) (w : What) (x : ThreadFacts) → (named_facts s t n w x).leaving ≡ x.leaving
 facts_named s t n (Call f (Release u) y) x = if_leaving (is_answer y && (u.0 == t.0)) (release_facts x) x x (release_leaving x) refl
@@ -57,13 +58,17 @@ facts_named s t n w x = refl
 
 pub tested_leaving : (m : Mode) (x : ThreadFacts) → (alert_tested m x).leaving ≡ x.leaving
 tested_leaving m x =
-    if_leaving (is_alerted m x) (set_alerted m false x) _ x (set_leaving m false x) (if_leaving (is_user m && has_user x.apcs) (record x { marked = true }) x x refl refl)
+    if_leaving (is_alerted m x) (set_alerted m false x) _ x (set_leaving m false x)
+    (if_leaving (is_user m && has_user x.apcs) (record x { user_pending = true }) x x refl refl)
 
 answered_leaving : (st : ℕ) (m : Mode) (a delay : Bool) (x : ThreadFacts) → (answered st m a delay x).leaving ≡ x.leaving
 answered_leaving st m a delay x =
-    if_leaving (st == satisfied) (if delay then x else record x { released = false }) _ x (if_leaving delay x (record x { released = false }) x refl refl) (if_leaving (st == alerted) (alert_taken m x) _ x (set_leaving (if is_alerted m x then m else KernelMode) false x) (if_leaving ((st == user_apc) && a) (record x { marked = true }) x x refl refl))
+    if_leaving (st == satisfied) (if delay then x else record x { released = false }) _ x (if_leaving delay x (record x { released = false }) x refl refl)
+    (if_leaving (st == alerted) (alert_taken m x) _ x (set_leaving (if is_alerted m x then m else KernelMode) false x)
+    (if_leaving ((st == user_apc) && a) (record x { user_pending = true }) x x refl refl))
 
-waited_leaving : (n : ℕ) (r : Regions) (level : ℕ) (m : Mode) (a delay : Bool) (y : Reply) (x : ThreadFacts) → (waited n r level m a delay y x).leaving ≡ x.leaving
+waited_leaving : (n : ℕ) (r : Regions) (level : ℕ) (m : Mode) (a delay : Bool) (y : Reply) (x : ThreadFacts) → (waited n r level m a delay y x).leaving
+    ≡ x.leaving
 waited_leaving n r level m a delay (Status st) x = answered_leaving st m a delay x
 waited_leaving n r level m a delay Blocked x = refl
 waited_leaving n r level m a delay y x = refl

@@ -72,7 +72,8 @@ timers_same s la lb e = same _ _ e
     same : (a b : Timers) → OfTimers a ≡ OfTimers b → a ≡ b
     same a b q = cc
 
-threads_at : (s : Script) (p : CpuNo) (n i : ℕ) (xs : List ThreadDecl) (x : ThreadDecl) (l m : Lanes) → threads_from p n xs l ≡ threads_from p n xs m → slice_get xs i ≡ Some x → x.cpu.0 ≡ p.0 → facts_at l (thread (n + i)) ≡ facts_at m (thread (n + i))
+threads_at : (s : Script) (p : CpuNo) (n i : ℕ) (xs : List ThreadDecl) (x : ThreadDecl) (l m : Lanes) → threads_from p n xs l ≡ threads_from p n xs m →
+    slice_get xs i ≡ Some x → x.cpu.0 ≡ p.0 → facts_at l (thread (n + i)) ≡ facts_at m (thread (n + i))
 threads_at s p n i [] x l m e g c = cc
 threads_at s p n zero (y ∷ ys) x l m e g c =
     let same : y ≡ x = cc in
@@ -86,14 +87,17 @@ threads_at s p n zero (y ∷ ys) x l m e g c =
 threads_at s p n (suc i) (y ∷ ys) x l m e g c =
     let z : n + suc i ≡ suc n + i = omega arith in rw z (threads_at s p (suc n) i ys x l m (rest (y.cpu.0 == p.0) e) g c)
   where
-    rest : (b : Bool) → (if b then (facts_at l (thread n) ∷ threads_from p (suc n) ys l) else threads_from p (suc n) ys l) ≡ (if b then (facts_at m (thread n) ∷ threads_from p (suc n) ys m) else threads_from p (suc n) ys m) → threads_from p (suc n) ys l ≡ threads_from p (suc n) ys m
+    rest : (b : Bool) → (if b then (facts_at l (thread n) ∷ threads_from p (suc n) ys l) else threads_from p (suc n) ys l)
+        ≡ (if b then (facts_at m (thread n) ∷ threads_from p (suc n) ys m) else threads_from p (suc n) ys m) → threads_from p (suc n) ys l
+        ≡ threads_from p (suc n) ys m
     rest true q = tails q
       where
         tails : {a b : ThreadFacts} {xs ys : List ThreadFacts} → (a ∷ xs) ≡ (b ∷ ys) → xs ≡ ys
         tails q = cc
     rest false q = q
 
-threads_lane : (s : Script) (la lb : Lanes) (p : CpuNo) → content s la (ThreadsLane p) ≡ content s lb (ThreadsLane p) → threads_from p 0 s.threads la ≡ threads_from p 0 s.threads lb
+threads_lane : (s : Script) (la lb : Lanes) (p : CpuNo) → content s la (ThreadsLane p) ≡ content s lb (ThreadsLane p) → threads_from p 0 s.threads la
+    ≡ threads_from p 0 s.threads lb
 threads_lane s la lb p e = same _ _ e
   where
     same : (a b : List ThreadFacts) → OfThreads a ≡ OfThreads b → a ≡ b
@@ -105,7 +109,8 @@ past_end (x ∷ xs) zero d h = absurd (omega arith)
 past_end (x ∷ xs) (suc i) d h = past_end xs i d (omega arith)
 
 -- the facts of each thread of the processor
-pub facts_same : (s : Script) (la lb : Lanes) (wa : length la.threads ≡ length s.threads) (wb : length lb.threads ≡ length s.threads) (p : CpuNo) (t : ThreadNo) → content s la (ThreadsLane p) ≡ content s lb (ThreadsLane p) → (cpu_of s t).0 ≡ p.0 → facts_at la t ≡ facts_at lb t
+pub facts_same : (s : Script) (la lb : Lanes) (wa : length la.threads ≡ length s.threads) (wb : length lb.threads ≡ length s.threads) (p : CpuNo)
+    (t : ThreadNo) → content s la (ThreadsLane p) ≡ content s lb (ThreadsLane p) → (cpu_of s t).0 ≡ p.0 → facts_at la t ≡ facts_at lb t
 facts_same s la lb wa wb p t e c = go (nat_lt t.0 (length s.threads)) refl
   where
     go : (b : Bool) → nat_lt t.0 (length s.threads) ≡ b → facts_at la t ≡ facts_at lb t
@@ -135,9 +140,12 @@ not_refused_if false = refl
 
 wait_accepted : (x : ThreadFacts) (r : Regions) (level : ℕ) (m : Mode) (a : Bool) (o : Option Bool) → is_refused (wait_reply x r level m a o) ≡ false
 wait_accepted x r level m a o =
-    ifs (is_some (deliverable x.apcs r level)) (is_satisfied x o) (a && is_alerted m x) (a && (is_user m && has_user x.apcs)) (a && x.alerted_kernel) (not a && (is_user m && x.marked))
+    ifs (is_some (deliverable x.apcs r level)) (is_satisfied x o) (a && is_alerted m x) (a && (is_user m && has_user x.apcs)) (a && x.alerted_kernel)
+    (not a && (is_user m && x.user_pending))
   where
-    ifs : (a b c d e f : Bool) → is_refused (if a then Status kernel_apc else (if b then Status satisfied else (if c then Status alerted else (if d then Status user_apc else (if e then Status alerted else (if f then Status user_apc else Blocked)))))) ≡ false
+    ifs : (a b c d e f : Bool) → is_refused (if a then Status kernel_apc
+        else (if b then Status satisfied else (if c then Status alerted
+        else (if d then Status user_apc else (if e then Status alerted else (if f then Status user_apc else Blocked)))))) ≡ false
     ifs true b c d e f = refl
     ifs false true c d e f = refl
     ifs false false true d e f = refl
@@ -147,7 +155,8 @@ wait_accepted x r level m a o =
     ifs false false false false false false = refl
 
 -- where two histories have the same states on the lanes of a command, the reply is the same
-module _ (s : Script) (la lb : Lanes) (wa : length la.threads ≡ length s.threads) (wb : length lb.threads ≡ length s.threads) (st : Stand) (run : (t : ThreadNo) → st.thread ≡ Some t → (cpu_of s t).0 ≡ st.cpu.0) where
+module _ (s : Script) (la lb : Lanes) (wa : length la.threads ≡ length s.threads) (wb : length lb.threads ≡ length s.threads) (st : Stand)
+    (run : (t : ThreadNo) → st.thread ≡ Some t → (cpu_of s t).0 ≡ st.cpu.0) where
   pub own_facts : content s la (ThreadsLane st.cpu) ≡ content s lb (ThreadsLane st.cpu) → facts_of la st.thread ≡ facts_of lb st.thread
   own_facts e = go st.thread refl
     where
@@ -170,7 +179,8 @@ module _ (s : Script) (la lb : Lanes) (wa : length la.threads ≡ length s.threa
   reply_same (StartWait m a) y q =
       ap (λ (x : ThreadFacts). wait_reply x st.regions st.level m a None) (own_facts q.0)
   reply_same (Delay m a u) y q =
-      ap (λ (x : ThreadFacts). wait_reply x st.regions st.level m a (Some (is_reached la.timers.now (la.timers.now + u)))) (own_facts q.0) ∙ ap (λ (z : Timers). wait_reply (facts_of lb st.thread) st.regions st.level m a (Some (is_reached z.now (z.now + u)))) (timers_same s la lb q.1.0)
+      ap (λ (x : ThreadFacts). wait_reply x st.regions st.level m a (Some (is_reached la.timers.now (la.timers.now + u)))) (own_facts q.0)
+      ∙ ap (λ (z : Timers). wait_reply (facts_of lb st.thread) st.regions st.level m a (Some (is_reached z.now (z.now + u)))) (timers_same s la lb q.1.0)
   reply_same (Release t) y q =
       ap (λ (x : ThreadFacts). yes_if (ends_by_release x)) (facts_same s la lb wa wb (cpu_of s t) t q.0 refl)
   reply_same (Alert t m) y q =
@@ -208,7 +218,8 @@ module _ (s : Script) (la lb : Lanes) (wa : length la.threads ≡ length s.threa
   call_goes c w e q =
       let is : Call st.frame c (reply s st la c) ≡ w = some_of _ w e in
       let on : SameOn s la lb (what_lanes s st (Call st.frame c (reply s st la c)) la) = subst Same (sym is) q in
-      let lanes : SameOn s la lb (command_lanes s st.cpu c (reply s st la c) la) = subst (λ (b : Bool). SameOn s la lb (if b then [] else command_lanes s st.cpu c (reply s st la c) la)) (accepted_reply c) on in
+      let lanes : SameOn s la lb (command_lanes s st.cpu c (reply s st la c) la) = subst
+      (λ (b : Bool). SameOn s la lb (if b then [] else command_lanes s st.cpu c (reply s st la c) la)) (accepted_reply c) on in
       ap (λ (y : Reply). Some (Call st.frame c y)) (sym (reply_same c (reply s st la c) lanes)) ∙ e
 
   fire_goes : (d : DpcNo) → Goes (job_event s st la (FireJob d)) (job_event s st lb (FireJob d))
@@ -245,7 +256,8 @@ module _ (s : Script) (la lb : Lanes) (wa : length la.threads ≡ length s.threa
       keyed_so (Some x) z =
           let first : drain_event st la ≡ expire_key x = ap (λ (o : Option SetKey). Drained o (queue_at la st.cpu)) z in
           let there : SameOn s la lb (expire_lanes s x.key) = subst (λ (v : What). SameOn s la lb (what_lanes s st v la)) first on in
-          let keys : when st.sweep (first_due lb.timers) ≡ Some x = ap (λ (y : Timers). when st.sweep (first_due y)) (sym (timers_same s la lb (timers_of_key x.key there))) ∙ z in
+          let keys : when st.sweep (first_due lb.timers)
+          ≡ Some x = ap (λ (y : Timers). when st.sweep (first_due y)) (sym (timers_same s la lb (timers_of_key x.key there))) ∙ z in
           end (first ∙ sym (ap (λ (o : Option SetKey). Drained o (queue_at lb st.cpu)) keys))
       keyed_so None z = queued (first_dpc OrdinaryPart (queue_at la st.cpu).pending) refl
         where
@@ -259,7 +271,8 @@ module _ (s : Script) (la lb : Lanes) (wa : length la.threads ≡ length s.threa
 
           queued : (o : Option Insert) → first_dpc OrdinaryPart (queue_at la st.cpu).pending ≡ o → Some (drain_event st lb) ≡ Some w
           queued (Some i) y =
-              let first : drain_event st la ≡ Begin (Dpc i.dpc) i.number = none_keys ∙ ap (λ (o : Option Insert). unwrap_or (option_map (begin_dpc OrdinaryPart) o) (Clean 2)) y in
+              let first : drain_event st la ≡ Begin (Dpc i.dpc) i.number = none_keys
+              ∙ ap (λ (o : Option Insert). unwrap_or (option_map (begin_dpc OrdinaryPart) o) (Clean 2)) y in
               let there : SameOn s la lb (begin_lanes st (Dpc i.dpc)) = subst (λ (v : What). SameOn s la lb (what_lanes s st v la)) first on in
               finish (queue_same s la lb st.cpu there.1.0) there.1.1
           queued None y =
@@ -300,13 +313,15 @@ module _ (s : Script) (la lb : Lanes) (wa : length la.threads ≡ length s.threa
 
       go : (o : Option Insert) → first_dpc ThreadedPart (queue_at la st.cpu).pending ≡ o → Some (threaded_event st lb) ≡ Some w
       go (Some i) z =
-          let first : Begin (Threaded i.dpc) i.number ≡ w = ap (λ (o : Option Insert). unwrap_or (option_map (begin_dpc ThreadedPart) o) (Clean 0)) (sym z) ∙ is in
+          let first : Begin (Threaded i.dpc) i.number ≡ w = ap (λ (o : Option Insert). unwrap_or (option_map (begin_dpc ThreadedPart) o) (Clean 0)) (sym z)
+          ∙ is in
           let there : SameOn s la lb (begin_lanes st (Threaded i.dpc)) = subst Same (sym first) q in finish there.1.0
       go None z =
           let first : Clean 0 ≡ w = ap (λ (o : Option Insert). unwrap_or (option_map (begin_dpc ThreadedPart) o) (Clean 0)) (sym z) ∙ is in
           let there : SameOn s la lb (clean_lanes st 0) = subst Same (sym first) q in finish there.0
 
-  ready_same : (p : CpuNo) (n : ℕ) (xs : List ThreadDecl) → ((i : ℕ) → slice_get s.threads (n + i) ≡ slice_get xs i) → ((t : ThreadNo) → (cpu_of s t).0 ≡ p.0 → facts_at la t ≡ facts_at lb t) → ready_from p n xs la ≡ ready_from p n xs lb
+  ready_same : (p : CpuNo) (n : ℕ) (xs : List ThreadDecl) → ((i : ℕ) → slice_get s.threads (n + i) ≡ slice_get xs i) →
+      ((t : ThreadNo) → (cpu_of s t).0 ≡ p.0 → facts_at la t ≡ facts_at lb t) → ready_from p n xs la ≡ ready_from p n xs lb
   ready_same p n [] g f = refl
   ready_same p n (x ∷ xs) g f = go (x.cpu.0 == p.0) refl (ready_same p (suc n) xs next f)
     where
@@ -316,31 +331,42 @@ module _ (s : Script) (la lb : Lanes) (wa : length la.threads ≡ length s.threa
       here : slice_get s.threads n ≡ Some x
       here = let e : n + 0 ≡ n = omega arith in rw e at (g 0)
 
-      go : (b : Bool) → (x.cpu.0 == p.0) ≡ b → ready_from p (suc n) xs la ≡ ready_from p (suc n) xs lb → (if b && is_ready (facts_at la (thread n)) then (thread n ∷ ready_from p (suc n) xs la) else ready_from p (suc n) xs la) ≡ (if b && is_ready (facts_at lb (thread n)) then (thread n ∷ ready_from p (suc n) xs lb) else ready_from p (suc n) xs lb)
+      go : (b : Bool) → (x.cpu.0 == p.0) ≡ b → ready_from p (suc n) xs la ≡ ready_from p (suc n) xs lb →
+          (if b && is_ready (facts_at la (thread n)) then (thread n ∷ ready_from p (suc n) xs la) else ready_from p (suc n) xs la)
+          ≡ (if b && is_ready (facts_at lb (thread n)) then (thread n ∷ ready_from p (suc n) xs lb) else ready_from p (suc n) xs lb)
       go false z more = more
       go true z more =
           let own : cpu_of s (thread n) ≡ x.cpu = ap (λ (o : Option ThreadDecl). option_map_or (λ (y : ThreadDecl). y.cpu) o (cpu 0)) here in
           let same : facts_at la (thread n) ≡ facts_at lb (thread n) = f (thread n) (ap (λ (c : CpuNo). c.0) own ∙ eqb-true x.cpu.0 p.0 z) in
-          ap (λ (y : ThreadFacts). if is_ready y then (thread n ∷ ready_from p (suc n) xs la) else ready_from p (suc n) xs la) same ∙ ap (λ (ts : List ThreadNo). if is_ready (facts_at lb (thread n)) then (thread n ∷ ts) else ts) more
+          ap (λ (y : ThreadFacts). if is_ready y then (thread n ∷ ready_from p (suc n) xs la) else ready_from p (suc n) xs la) same
+          ∙ ap (λ (ts : List ThreadNo). if is_ready (facts_at lb (thread n)) then (thread n ∷ ts) else ts) more
 
   idle_goes : Goes (job_event s st la IdleJob) (job_event s st lb IdleJob)
   idle_goes w e q = go (first_dpc OrdinaryPart (queue_at la st.cpu).pending) refl
     where
       go : (o : Option Insert) → first_dpc OrdinaryPart (queue_at la st.cpu).pending ≡ o → idle_event s st lb ≡ Some w
       go (Some i) z =
-          let head : idle_event s st la ≡ Some (Begin (Dpc i.dpc) i.number) = ap (λ (o : Option Insert). option_or (option_map (begin_dpc OrdinaryPart) o) (when (is_null (ready s st.cpu la)) (Some Rest))) z in
+          let head : idle_event s st la ≡ Some (Begin (Dpc i.dpc) i.number) = ap
+          (λ (o : Option Insert). option_or (option_map (begin_dpc OrdinaryPart) o) (when (is_null (ready s st.cpu la)) (Some Rest))) z in
           let first : Begin (Dpc i.dpc) i.number ≡ w = some_of _ w (sym head ∙ e) in
           let there : SameOn s la lb (begin_lanes st (Dpc i.dpc)) = subst Same (sym first) q in
-          let same : first_dpc OrdinaryPart (queue_at lb st.cpu).pending ≡ Some i = ap (λ (x : QueueState). first_dpc OrdinaryPart x.pending) (sym (queue_same s la lb st.cpu there.1.0)) ∙ z in
-          ap (λ (o : Option Insert). option_or (option_map (begin_dpc OrdinaryPart) o) (when (is_null (ready s st.cpu lb)) (Some Rest))) same ∙ ap (λ (v : What). Some v) first
+          let same : first_dpc OrdinaryPart (queue_at lb st.cpu).pending
+          ≡ Some i = ap (λ (x : QueueState). first_dpc OrdinaryPart x.pending) (sym (queue_same s la lb st.cpu there.1.0)) ∙ z in
+          ap (λ (o : Option Insert). option_or (option_map (begin_dpc OrdinaryPart) o) (when (is_null (ready s st.cpu lb)) (Some Rest))) same
+          ∙ ap (λ (v : What). Some v) first
       go None z =
-          let rest : when (is_null (ready s st.cpu la)) (Some Rest) ≡ Some w = ap (λ (o : Option Insert). option_or (option_map (begin_dpc OrdinaryPart) o) (when (is_null (ready s st.cpu la)) (Some Rest))) (sym z) ∙ e in
+          let rest : when (is_null (ready s st.cpu la)) (Some Rest)
+          ≡ Some w = ap (λ (o : Option Insert). option_or (option_map (begin_dpc OrdinaryPart) o) (when (is_null (ready s st.cpu la)) (Some Rest))) (sym z)
+          ∙ e in
           let m = when_gives (is_null (ready s st.cpu la)) (Some Rest) w rest in
           let first : Rest ≡ w = some_of _ w m.1 in
           let there : SameOn s la lb (QueueLane st.cpu ∷ ThreadsLane st.cpu ∷ []) = subst Same (sym first) q in
-          let same : first_dpc OrdinaryPart (queue_at lb st.cpu).pending ≡ None = ap (λ (x : QueueState). first_dpc OrdinaryPart x.pending) (sym (queue_same s la lb st.cpu there.0)) ∙ z in
-          let ready_too : ready s st.cpu la ≡ ready s st.cpu lb = ready_same st.cpu 0 s.threads (λ i. let y : 0 + i ≡ i = omega arith in rw y refl) (λ t own. facts_same s la lb wa wb st.cpu t there.1.0 own) in
-          ap (λ (o : Option Insert). option_or (option_map (begin_dpc OrdinaryPart) o) (when (is_null (ready s st.cpu lb)) (Some Rest))) same ∙ (ap (λ (ts : List ThreadNo). when (is_null ts) (Some Rest)) (sym ready_too) ∙ rest)
+          let same : first_dpc OrdinaryPart (queue_at lb st.cpu).pending
+          ≡ None = ap (λ (x : QueueState). first_dpc OrdinaryPart x.pending) (sym (queue_same s la lb st.cpu there.0)) ∙ z in
+          let ready_too : ready s st.cpu la ≡ ready s st.cpu lb = ready_same st.cpu 0 s.threads (λ i. let y : 0 + i ≡ i = omega arith in rw y refl)
+          (λ t own. facts_same s la lb wa wb st.cpu t there.1.0 own) in
+          ap (λ (o : Option Insert). option_or (option_map (begin_dpc OrdinaryPart) o) (when (is_null (ready s st.cpu lb)) (Some Rest))) same
+          ∙ (ap (λ (ts : List ThreadNo). when (is_null ts) (Some Rest)) (sym ready_too) ∙ rest)
 
   switch_goes : (t : ThreadNo) → Goes (job_event s st la (SwitchJob t)) (job_event s st lb (SwitchJob t))
   switch_goes t w e q =
@@ -358,14 +384,20 @@ module _ (s : Script) (la lb : Lanes) (wa : length la.threads ≡ length s.threa
       go None z =
           let none : None ≡ Some w = ap (λ (o : Option Again). option_map (λ x. Rewait st.frame (rewait_reply st la x)) o) (sym z) ∙ e in cc
       go (Some x) z =
-          let some : Some (Rewait st.frame (rewait_reply st la x)) ≡ Some w = ap (λ (o : Option Again). option_map (λ x. Rewait st.frame (rewait_reply st la x)) o) (sym z) ∙ e in
+          let some : Some (Rewait st.frame (rewait_reply st la x))
+          ≡ Some w = ap (λ (o : Option Again). option_map (λ x. Rewait st.frame (rewait_reply st la x)) o) (sym z) ∙ e in
           let first : Rewait st.frame (rewait_reply st la x) ≡ w = some_of _ w some in
           let there : SameOn s la lb (ThreadsLane st.cpu ∷ lane_if (is_some (option_and_then (λ w. w.due) st.again)) TimersLane) = subst Same (sym first) q in
-          let timers : SameOn s la lb (lane_if (is_some x.due) TimersLane) = subst (λ (o : Option Again). SameOn s la lb (lane_if (is_some (option_and_then (λ w. w.due) o)) TimersLane)) z there.1 in
-          let same : rewait_reply st la x ≡ rewait_reply st lb x = ap (λ (y : ThreadFacts). wait_reply y st.regions st.level x.mode x.alertable (option_map (is_reached la.timers.now) x.due)) (own_facts there.0) ∙ ap (λ (o : Option Bool). wait_reply (facts_of lb st.thread) st.regions st.level x.mode x.alertable o) (reached x.due timers) in
-          ap (λ (o : Option Again). option_map (λ x. Rewait st.frame (rewait_reply st lb x)) o) z ∙ (ap (λ (y : Reply). Some (Rewait st.frame y)) (sym same) ∙ some)
+          let timers : SameOn s la lb (lane_if (is_some x.due) TimersLane) = subst
+          (λ (o : Option Again). SameOn s la lb (lane_if (is_some (option_and_then (λ w. w.due) o)) TimersLane)) z there.1 in
+          let same : rewait_reply st la x ≡ rewait_reply st lb x = ap
+          (λ (y : ThreadFacts). wait_reply y st.regions st.level x.mode x.alertable (option_map (is_reached la.timers.now) x.due)) (own_facts there.0)
+          ∙ ap (λ (o : Option Bool). wait_reply (facts_of lb st.thread) st.regions st.level x.mode x.alertable o) (reached x.due timers) in
+          ap (λ (o : Option Again). option_map (λ x. Rewait st.frame (rewait_reply st lb x)) o) z
+          ∙ (ap (λ (y : Reply). Some (Rewait st.frame y)) (sym same) ∙ some)
         where
-          reached : (o : Option ℕ) → SameOn s la lb (lane_if (is_some o) TimersLane) → option_map (is_reached la.timers.now) o ≡ option_map (is_reached lb.timers.now) o
+          reached : (o : Option ℕ) → SameOn s la lb (lane_if (is_some o) TimersLane) → option_map (is_reached la.timers.now) o
+              ≡ option_map (is_reached lb.timers.now) o
           reached None q = refl
           reached (Some d) q = ap (λ (y : Timers). Some (is_reached y.now d)) (timers_same s la lb q.0)
 
@@ -403,7 +435,9 @@ module _ (s : Script) (la lb : Lanes) (wa : length la.threads ≡ length s.threa
 
           finish : content s la (ThreadsLane st.cpu) ≡ content s lb (ThreadsLane st.cpu) → option_map (rundown_event lb) st.thread ≡ Some w
           finish y =
-              ap (λ (o : Option ThreadNo). option_map (rundown_event lb) o) z ∙ (ap (λ (x : ThreadFacts). Some (unwrap_or (option_map (λ x. Flush x.apc x.number) (first_user x.apcs)) (Gone t))) (sym (facts_same s la lb wa wb st.cpu t y (run t z))) ∙ some)
+              ap (λ (o : Option ThreadNo). option_map (rundown_event lb) o) z
+              ∙ (ap (λ (x : ThreadFacts). Some (unwrap_or (option_map (λ x. Flush x.apc x.number) (first_user x.apcs)) (Gone t)))
+              (sym (facts_same s la lb wa wb st.cpu t y (run t z))) ∙ some)
 
           go : (o : Option Pick) → first_user (facts_at la t).apcs ≡ o → option_map (rundown_event lb) st.thread ≡ Some w
           go (Some x) y =

@@ -62,7 +62,8 @@ stands s limit t past r run =
     record { run = run; has = h.0; part = part_of_running s (cpu_of s t) t past h.0 run; based = (based s limit (cpu_of s t) t past r).running run }
 
 -- the innermost frame is the first of the thread's, where none stands on the own part
-pub first_frame : (s : Script) (limit : ℕ) (t : ThreadNo) (past : List Event) (f : Frame) → Stands s limit t past → innermost (frames_of s (cpu_of s t) past) ≡ Some f → is_null (own_frames (cpu_of s t) past) ≡ true → head_of (thread_frames s (cpu_of s t) t past) ≡ Some f
+pub first_frame : (s : Script) (limit : ℕ) (t : ThreadNo) (past : List Event) (f : Frame) → Stands s limit t past → innermost (frames_of s (cpu_of s t) past)
+    ≡ Some f → is_null (own_frames (cpu_of s t) past) ≡ true → head_of (thread_frames s (cpu_of s t) t past) ≡ Some f
 first_frame s limit t past f z h n =
     ap (λ (fs : List Frame). head_of fs) (sym z.part) ∙ part_head (frames_of s (cpu_of s t) past) f h n
 
@@ -70,7 +71,8 @@ pub facts_there : (s : Script) (limit : ℕ) (t : ThreadNo) (past : List Event) 
 facts_there s limit t past h =
     get_or-table (length s.threads) t.0 (λ k. facts s (thread k) past) start_facts (ltb-true t.0 (length s.threads) h)
 
-pub facts_running : (s : Script) (limit : ℕ) (t : ThreadNo) (past : List Event) → Stands s limit t past → facts_of (lanes_at s past) (running (cpu_of s t) past) ≡ facts s t past
+pub facts_running : (s : Script) (limit : ℕ) (t : ThreadNo) (past : List Event) → Stands s limit t past →
+    facts_of (lanes_at s past) (running (cpu_of s t) past) ≡ facts s t past
 facts_running s limit t past z =
     ap (λ (o : Option ThreadNo). option_map_or (facts_at (lanes_at s past)) o start_facts) z.run ∙ facts_there s limit t past z.has
 
@@ -99,7 +101,8 @@ each_first P f (g ∷ fs) h e = let same : g ≡ f = cc in subst P same e.0
 
 -- ---- a leaving thread's base at PASSIVE_LEVEL: what is pending is deliverable
 
-no_regions : (f : Frame) → f.body ≡ f.body → is_base_body f.body ≡ true → f.crit ≡ 0 → f.guard ≡ 0 → regions_of (f ∷ []) ≡ record { crit = 0; guard = 0; busy = false }
+no_regions : (f : Frame) → f.body ≡ f.body → is_base_body f.body ≡ true → f.crit ≡ 0 → f.guard ≡ 0 → regions_of (f ∷ [])
+    ≡ record { crit = 0; guard = 0; busy = false }
 no_regions f e b c g = λ i. record { crit = sums f.crit c i; guard = sums f.guard g i; busy = busy f.body b i }
   where
     sums : (n : ℕ) → n ≡ 0 → 0 + n ≡ 0
@@ -122,14 +125,17 @@ let_through UserApc = refl
 none_deliverable : (q : ApcQueues) → deliverable q (record { crit = 0; guard = 0; busy = false }) 0 ≡ None → has_kernel q ≡ false
 none_deliverable q h = go (first_kernel q) h
   where
-    go : (o : Option Pick) → option_and_then (λ x. when (lets_through (record { crit = 0; guard = 0; busy = false }) x.kind) (Some x)) o ≡ None → is_some o ≡ false
+    go : (o : Option Pick) → option_and_then (λ x. when (lets_through (record { crit = 0; guard = 0; busy = false }) x.kind) (Some x)) o ≡ None → is_some o
+        ≡ false
     go None h = refl
-    go (Some x) h = let y : when (lets_through (record { crit = 0; guard = 0; busy = false }) x.kind) (Some x) ≡ Some x = ap (λ (b : Bool). when b (Some x)) (let_through x.kind) in cc
+    go (Some x) h = let y : when (lets_through (record { crit = 0; guard = 0; busy = false }) x.kind) (Some x)
+        ≡ Some x = ap (λ (b : Bool). when b (Some x)) (let_through x.kind) in cc
 
 -- ---- nothing is left at a flush
 
 -- a leaving thread whose base goes on has no kernel APC pending
-pub flush_quiet : (s : Script) (limit : ℕ) (t : ThreadNo) (past : List Event) → IsRun s limit past → Leaves s t past → KnownRundown (own_of s (cpu_of s t) past) t → NoKernel (facts s t past).apcs.pending
+pub flush_quiet : (s : Script) (limit : ℕ) (t : ThreadNo) (past : List Event) → IsRun s limit past → Leaves s t past →
+    KnownRundown (own_of s (cpu_of s t) past) t → NoKernel (facts s t past).apcs.pending
 flush_quiet s limit t past r v k = go (v.pending k.thread)
   where
     p : CpuNo
@@ -146,7 +152,8 @@ flush_quiet s limit t past r v k = go (v.pending k.thread)
 
     low : level_at (own_of s (cpu_of s t) past) ≡ 0
     low =
-        level_on_thread (frames_of s (cpu_of s t) past) (thread_frames s (cpu_of s t) t past) null z.part ∙ leaving_low k.frame (thread_frames s (cpu_of s t) t past) first k.leaving (all_calm s limit (cpu_of s t) t past r)
+        level_on_thread (frames_of s (cpu_of s t) past) (thread_frames s (cpu_of s t) t past) null z.part
+        ∙ leaving_low k.frame (thread_frames s (cpu_of s t) t past) first k.leaving (all_calm s limit (cpu_of s t) t past r)
 
     base : is_base_body k.frame.body ≡ true
     base = leaving_is_base t k.frame (thread_frames s (cpu_of s t) t past) first k.leaving z.based
@@ -168,8 +175,10 @@ flush_quiet s limit t past r v k = go (v.pending k.thread)
 
     due : Unserved s (cpu_of s t) 1 past → is_due (own_of s (cpu_of s t) past) 1 ≡ true
     due u =
-        let a : value_at (own_of s (cpu_of s t) past).served 1 ≡ served s (cpu_of s t) 1 past = get_or-table 16 1 (λ c. served s (cpu_of s t) c past) 0 (omega arith) in
-        let b : value_at (own_of s (cpu_of s t) past).seen 1 ≡ seen s (cpu_of s t) 1 past = get_or-table 16 1 (λ c. seen s (cpu_of s t) c past) 0 (omega arith) in
+        let a : value_at (own_of s (cpu_of s t) past).served 1
+        ≡ served s (cpu_of s t) 1 past = get_or-table 16 1 (λ c. served s (cpu_of s t) c past) 0 (omega arith) in
+        let b : value_at (own_of s (cpu_of s t) past).seen 1
+        ≡ seen s (cpu_of s t) 1 past = get_or-table 16 1 (λ c. seen s (cpu_of s t) c past) 0 (omega arith) in
         lt-ltb _ _ (rw (a, b) u)
 
     no_must : may_apcs (own_of s (cpu_of s t) past) ≡ true → ⊥
@@ -190,7 +199,8 @@ flush_quiet s limit t past r v k = go (v.pending k.thread)
             none_when true more h e = cc
             none_when false more h e = cc
 
-    go : NoKernel (facts s t past).apcs.pending ⊎ (Unserved s (cpu_of s t) 1 past ⊎ (Runs is_normal_apc_body (thread_frames s (cpu_of s t) t past) ≡ true)) → NoKernel (facts s t past).apcs.pending
+    go : NoKernel (facts s t past).apcs.pending ⊎ (Unserved s (cpu_of s t) 1 past ⊎ (Runs is_normal_apc_body (thread_frames s (cpu_of s t) t past) ≡ true)) →
+        NoKernel (facts s t past).apcs.pending
     go (inl n) = n
     go (inr (inl u)) =
         let m : may_apcs (own_of s (cpu_of s t) past) ≡ true = rw (low, on, due u) refl in absurd (no_must m)
@@ -210,7 +220,9 @@ flush_quiet s limit t past r v k = go (v.pending k.thread)
 -- ---- a Clean of class 1
 
 -- where nothing is deliverable to a leaving thread, nothing is pending, or a normal kernel APC is in progress
-pub clean_quiet : (s : Script) (limit : ℕ) (t : ThreadNo) (past : List Event) → IsRun s limit past → Stands s limit t past → (facts s t past).leaving ≡ true → Leaves s t past → may_apcs (own_of s (cpu_of s t) past) ≡ true → Deliverable (own_of s (cpu_of s t) past) (lanes_at s past) ≡ None → NoKernel (facts s t past).apcs.pending ⊎ (Runs is_normal_apc_body (thread_frames s (cpu_of s t) t past) ≡ true)
+pub clean_quiet : (s : Script) (limit : ℕ) (t : ThreadNo) (past : List Event) → IsRun s limit past → Stands s limit t past → (facts s t past).leaving ≡ true →
+    Leaves s t past → may_apcs (own_of s (cpu_of s t) past) ≡ true → Deliverable (own_of s (cpu_of s t) past) (lanes_at s past) ≡ None →
+    NoKernel (facts s t past).apcs.pending ⊎ (Runs is_normal_apc_body (thread_frames s (cpu_of s t) t past) ≡ true)
 clean_quiet s limit t past r z l v may none =
     kinds f.0.body refl
   where
@@ -219,7 +231,8 @@ clean_quiet s limit t past r z l v may none =
 
     f : Comes (innermost (frames_of s (cpu_of s t) past))
     f =
-        on_thread_frame (frames_of s (cpu_of s t) past) (both (is_on_thread (frames_of s (cpu_of s t) past)) _ (both (level_at (own_of s (cpu_of s t) past) == 0) _ may).1).0
+        on_thread_frame (frames_of s (cpu_of s t) past) (both (is_on_thread (frames_of s (cpu_of s t) past)) _
+        (both (level_at (own_of s (cpu_of s t) past) == 0) _ may).1).0
 
     first : head_of (thread_frames s (cpu_of s t) t past) ≡ Some f.0
     first = first_frame s limit t past f.0 z f.1 low.1
@@ -229,7 +242,8 @@ clean_quiet s limit t past r z l v may none =
 
     level : f.0.level ≡ 0
     level =
-        sym (level_first f.0 (thread_frames s (cpu_of s t) t past) first) ∙ (sym (level_on_thread (frames_of s (cpu_of s t) past) (thread_frames s (cpu_of s t) t past) low.1 z.part) ∙ low.0)
+        sym (level_first f.0 (thread_frames s (cpu_of s t) t past) first)
+        ∙ (sym (level_on_thread (frames_of s (cpu_of s t) past) (thread_frames s (cpu_of s t) t past) low.1 z.part) ∙ low.0)
 
     base_case : is_base_body f.0.body ≡ true → NoKernel (facts s t past).apcs.pending
     base_case b =
@@ -237,9 +251,14 @@ clean_quiet s limit t past r z l v may none =
         let leaves : base_leaving (thread_frames s (cpu_of s t) t past) ≡ true = sym (leaves_as s limit t past r) ∙ l in
         let mine : f.0.leaving ≡ true = ap base_leaving (sym alone) ∙ leaves in
         let zero_regions = sound.1 mine in
-        let regions : regions_of (thread_part (frames_of s (cpu_of s t) past)) ≡ record { crit = 0; guard = 0; busy = false } = ap regions_of (z.part ∙ alone) ∙ no_regions f.0 refl b zero_regions.0 zero_regions.1 in
-        let q : deliverable (facts s t past).apcs (regions_of (thread_part (frames_of s (cpu_of s t) past))) (level_at (own_of s (cpu_of s t) past)) ≡ None = ap (λ (x : ThreadFacts). deliverable x.apcs (regions_of (thread_part (frames_of s (cpu_of s t) past))) (level_at (own_of s (cpu_of s t) past))) (sym (facts_running s limit t past z)) ∙ none in
-        let q2 : deliverable (facts s t past).apcs (record { crit = 0; guard = 0; busy = false }) 0 ≡ None = subst (λ (n : ℕ). deliverable (facts s t past).apcs (record { crit = 0; guard = 0; busy = false }) n ≡ None) low.0 (subst (λ (g : Regions). deliverable (facts s t past).apcs g (level_at (own_of s (cpu_of s t) past)) ≡ None) regions q) in
+        let regions : regions_of (thread_part (frames_of s (cpu_of s t) past)) ≡ record { crit = 0; guard = 0; busy = false } = ap regions_of (z.part ∙ alone)
+        ∙ no_regions f.0 refl b zero_regions.0 zero_regions.1 in
+        let q : deliverable (facts s t past).apcs (regions_of (thread_part (frames_of s (cpu_of s t) past))) (level_at (own_of s (cpu_of s t) past))
+        ≡ None = ap (λ (x : ThreadFacts). deliverable x.apcs (regions_of (thread_part (frames_of s (cpu_of s t) past)))
+        (level_at (own_of s (cpu_of s t) past))) (sym (facts_running s limit t past z)) ∙ none in
+        let q2 : deliverable (facts s t past).apcs (record { crit = 0; guard = 0; busy = false }) 0
+        ≡ None = subst (λ (n : ℕ). deliverable (facts s t past).apcs (record { crit = 0; guard = 0; busy = false }) n ≡ None) low.0
+        (subst (λ (g : Regions). deliverable (facts s t past).apcs g (level_at (own_of s (cpu_of s t) past)) ≡ None) regions q) in
         without_kernel (facts s t past).apcs (none_deliverable (facts s t past).apcs q2)
 
     kinds : (b : Body) → f.0.body ≡ b → NoKernel (facts s t past).apcs.pending ⊎ (Runs is_normal_apc_body (thread_frames s (cpu_of s t) t past) ≡ true)
@@ -248,7 +267,8 @@ clean_quiet s limit t past r z l v may none =
     kinds (OnApc a NormalApc) e =
         inr (runs_first is_normal_apc_body f.0 (thread_frames s (cpu_of s t) t past) first (ap is_normal_apc_body e))
     kinds (OnApc a UserApc) e =
-        absurd (both_ways (Runs is_user_apc_body (thread_frames s (cpu_of s t) t past)) v.serving (runs_first is_user_apc_body f.0 (thread_frames s (cpu_of s t) t past) first (ap is_user_apc_body e)))
+        absurd (both_ways (Runs is_user_apc_body (thread_frames s (cpu_of s t) t past)) v.serving
+        (runs_first is_user_apc_body f.0 (thread_frames s (cpu_of s t) t past) first (ap is_user_apc_body e)))
     kinds (OnRundown a) e =
         inl (v.rundown (runs_first is_rundown f.0 (thread_frames s (cpu_of s t) t past) first (ap is_rundown e)))
     kinds (OnBase u) e = inl (base_case (ap is_base_body e))

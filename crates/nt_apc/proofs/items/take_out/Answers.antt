@@ -23,7 +23,8 @@ returns-in-Some-clause-kept c =
     let at : position (is_of_apc c.args.apc) c.args.items.now.items ≡ Some c.in-Some.place = cc in
     let place : IsPlace (is_of_apc c.args.apc) c.args.items.now.items c.in-Some.place = place-some _ _ _ at in
     let after : filter (λ x. not (is_of_apc c.args.apc x)) c.args.items.now.items ≡ c.remove.new.self.items =
-    sym (c.remove.ensures.items ∙ ap (λ (i : ℕ). remove c.args.items.now.items i) place.first ∙ remove-object c.args.apc c.args.items.now.items c.requires.objects) in
+    sym (c.remove.ensures.items ∙ ap (λ (i : ℕ). remove c.args.items.now.items i) place.first
+    ∙ remove-object c.args.apc c.args.items.now.items c.requires.objects) in
     subst (λ (xs : List Pick). AreObjects xs) after (objects-filter _ _ c.requires.objects)
 
 pub returns-in-None-clause-answer : goal.returns-in-None-clause-answer

@@ -1,4 +1,4 @@
-use Rattle.std.proofs.Common.{ap, sym, ◌∙◌}
+use Rattle.std.proofs.Common.{ap, ◌∙◌}
 use Rattle.std.specs.Prelude.{refl}
 use Rattle.nt_event.specs.declared.frames.Body.{Body}
 use Rattle.nt_frame.specs.Changes.{begun}

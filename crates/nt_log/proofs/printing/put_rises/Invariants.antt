@@ -1,5 +1,5 @@
 use Rattle.std.proofs.Common.{◌≡◌, ◌++◌, drop}
-use Rattle.nt_log.specs.Fields.{spaced}
+use Rattle.nt_text.specs.Lines.{spaced}
 use Rattle.nt_log.specs.Schedules.{rises_row}
 use Rattle.nt_log.proofs.printing.put_rises.Given as goal
 

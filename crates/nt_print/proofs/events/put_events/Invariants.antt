@@ -4,4 +4,5 @@ use Rattle.nt_print.specs.Report.{event_rows}
 use Rattle.nt_print.proofs.events.put_events.Given as goal
 
 abbrev pub invariant-loop-number : goal.invariant-loop-number
-invariant-loop-number l = l.out.items ++ rows_text (event_rows l.input l.number (drop l.number l.events)) ≡ l.fn.out.items ++ rows_text (event_rows l.input 0 l.events)
+invariant-loop-number l = l.out.items ++ rows_text (event_rows l.input l.number (drop l.number l.events)) ≡ l.fn.out.items
+    ++ rows_text (event_rows l.input 0 l.events)

@@ -7,8 +7,10 @@ use Rattle.nt_print.proofs.uses.note_all_named.Goals as goal
 
 pub loop-number-preserved : goal.loop-number-preserved
 loop-number-preserved c =
-    named_next c.args.events.now c.loop-number.number c.index-events-number.result c.loop-number.table c.note_named.new.table (omega (arith, c.loop-number-test.true)) (omega (arith, c.loop-number.auto.table, c.requires.room)) c.index-events-number.is c.loop-number.invariant
-    (c.note_named.ensures ∙ ap (λ (e : Event). with_named c.args.events.now c.loop-number.number (named_by e.what) c.loop-number.table) (sym c.index-events-number.is))
+    named_next c.args.events.now c.loop-number.number c.index-events-number.result c.loop-number.table c.note_named.new.table
+        (omega (arith, c.loop-number-test.true)) (omega (arith, c.loop-number.auto.table, c.requires.room)) c.index-events-number.is c.loop-number.invariant
+    (c.note_named.ensures ∙ ap (λ (e : Event). with_named c.args.events.now c.loop-number.number (named_by e.what) c.loop-number.table)
+        (sym c.index-events-number.is))
 
 pub returns : goal.returns
 returns c n thing at =

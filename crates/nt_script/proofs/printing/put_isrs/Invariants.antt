@@ -1,6 +1,6 @@
 use Rattle.std.proofs.Common.{◌≡◌, ◌++◌, drop, map}
 use Rattle.nt_text.specs.Lines.{rows_text}
-use Rattle.nt_script.specs.Text.{isr_row}
+use Rattle.nt_line.specs.Rows.{isr_row}
 use Rattle.nt_script.proofs.printing.put_isrs.Given as goal
 
 -- what was put and what is left is all of it

@@ -5,4 +5,5 @@ use Rattle.nt_timer.proofs.first.earliest.Given as goal
 
 abbrev pub invariant-loop-place : goal.invariant-loop-place
 invariant-loop-place l =
-    best_of l.now (option_map as_key l.earliest) (keyed (key_in l.table) l.place (drop l.place l.settings)) ≡ best_of l.now (option_map as_key l.fn.best) (keyed (key_in l.table) 0 l.settings)
+    best_of l.now (option_map as_key l.earliest) (keyed (key_in l.table) l.place (drop l.place l.settings)) ≡ best_of l.now (option_map as_key l.fn.best)
+    (keyed (key_in l.table) 0 l.settings)

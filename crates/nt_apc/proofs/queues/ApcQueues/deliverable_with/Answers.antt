@@ -6,4 +6,5 @@ use Rattle.nt_apc.proofs.queues.ApcQueues.deliverable_with.Goals as goal
 
 pub returns : goal.returns
 returns c = λ a n.
-    c.may_begin.ensures ∙ ap (λ (k : Option ApcKind). may_begin c.args.regions c.args.level k) c.first_kind_with.ensures ∙ sym (deliverable-with (record { apc = a; kind = c.args.kind; number = n }) c.args.self.now c.args.regions c.args.level)
+    c.may_begin.ensures ∙ ap (λ (k : Option ApcKind). may_begin c.args.regions c.args.level k) c.first_kind_with.ensures
+    ∙ sym (deliverable-with (record { apc = a; kind = c.args.kind; number = n }) c.args.self.now c.args.regions c.args.level)

@@ -1,5 +1,5 @@
 use Rattle.nt_event.specs.Apcs.{is_of_apc}
-use Rattle.nt_apc.proofs.Reversed.{list_any-reverse}
+use Rattle.nt_event.proofs.Reversed.{list_any-reverse}
 use Rattle.nt_apc.proofs.queues.ApcQueues.open_for.Goals as goal
 
 pub returns-then-not-self : goal.returns-then-not-self

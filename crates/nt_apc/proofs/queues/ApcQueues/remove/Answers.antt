@@ -12,4 +12,5 @@ returns-clause-after c =
 
 pub returns-clause-no : goal.returns-clause-no
 returns-clause-no c =
-    seen-same c.args.a c.self.inside.items.items c.take_out.new.items.items c.self.inside.closed c.args.self.now c.take_out.result c.self.view_is c.take_out.ensures.after c.take_out.ensures.answer
+    seen-same c.args.a c.self.inside.items.items c.take_out.new.items.items c.self.inside.closed c.args.self.now c.take_out.result c.self.view_is
+    c.take_out.ensures.after c.take_out.ensures.answer

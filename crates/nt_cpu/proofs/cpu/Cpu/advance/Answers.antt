@@ -1,7 +1,7 @@
 use Rattle.std.proofs.Common.{ap, inr, subst, sym, ◌∙◌}
-use Rattle.std.specs.Prelude.{refl, ◌≡◌}
+use Rattle.std.specs.Prelude.{refl}
 use Rattle.nt_event.specs.Jobs.{chosen_task}
-use Rattle.nt_event.specs.Own.{standing_in}
+use Rattle.nt_event.specs.Own.{stand_in}
 use Rattle.nt_floor.specs.Views.{View}
 use Rattle.nt_cpu.specs.States.{CpuState}
 use Rattle.nt_cpu.specs.Turns.{IsShared}
@@ -58,5 +58,5 @@ returns-in-Ok-clause-ok g c =
     let w = g.F.Words.view c.step_lane.new.floor in
     let d : CpuState = c.step_lane.new.self in
     let seen = subst (λ (v : View). IsShared c.step_local.new.self d c.in-NeedsLane.job k.0 k.1 c.in-Ok.event v w) m.2.left.1 k.2.0 in
-    let same = subst (λ (x : CpuState). IsShared x d c.in-NeedsLane.job k.0 k.1 c.in-Ok.event m.1 w × g.F.Floor.found c.step_lane.new.floor k.1 c.in-Ok.event (standing_in x.cpu x.own) k.0) m.2.left.0 (seen, k.2.1) in
+    let same = subst (λ (x : CpuState). IsShared x d c.in-NeedsLane.job k.0 k.1 c.in-Ok.event m.1 w × g.F.Floor.found c.step_lane.new.floor k.1 c.in-Ok.event (stand_in x.cpu x.own) k.0) m.2.left.0 (seen, k.2.1) in
     (m.0, m.1, (m.2.looked, inr (c.in-NeedsLane.job, sym m.2.answer, (k.0, k.1, same))))

@@ -1,5 +1,5 @@
-use Rattle.std.proofs.Common.{ap, max, subst, sym, ◌∙◌}
-use Rattle.std.specs.Prelude.{None, Option, ℕ, ◌+◌, ◌<◌, ◌≡◌}
+use Rattle.std.proofs.Common.{ap, max, subst, ◌∙◌}
+use Rattle.std.specs.Prelude.{None, Option, ℕ, ◌<◌, ◌≡◌}
 use Rattle.nt_event.specs.declared.events.Event.{Event}
 use Rattle.nt_event.specs.declared.jobs.Stand.{Stand}
 use Rattle.nt_event.specs.Lists.{value_at}
@@ -22,7 +22,7 @@ returns-clause-made g c =
     let asked = c.asks-asked.ensures.asks ∙ ap (λ (st : Stand). alone_asks st w) c.standing.ensures in
     let told = c.noticed.ensures in
     let cpu = ap (λ (x : CpuState). x.cpu) c.take_up.view_is in
-    let same : (k : ℕ) → k < 16 → max (value_at s.own.seen k) (value_at c.noticed.result.value k) ≡ max (value_at s.own.seen k) (noticed s.cpu w (alone_asks (Rattle.nt_event.specs.Own.standing_in s.cpu s.own) w) n k) = λ k b. ap (λ (y : ℕ). max (value_at s.own.seen k) y) (told k b ∙ (ap (λ (p : _). noticed p w c.asks-asked.result n k) cpu ∙ ap (λ (a : Option Asked). noticed s.cpu w a n k) asked)) in (
+    let same : (k : ℕ) → k < 16 → max (value_at s.own.seen k) (value_at c.noticed.result.value k) ≡ max (value_at s.own.seen k) (noticed s.cpu w (alone_asks (Rattle.nt_event.specs.Own.stand_in s.cpu s.own) w) n k) = λ k b. ap (λ (y : ℕ). max (value_at s.own.seen k) y) (told k b ∙ (ap (λ (p : _). noticed p w c.asks-asked.result n k) cpu ∙ ap (λ (a : Option Asked). noticed s.cpu w a n k) asked)) in (
       n,
       u,
       record {

@@ -1,9 +1,9 @@
-use Rattle.std.proofs.Common.{ap, subst, sym, ◌∙◌}
-use Rattle.std.specs.Prelude.{Err, Result, false, ◌≡◌}
+use Rattle.std.proofs.Common.{ap}
+use Rattle.std.specs.Prelude.{Err, Result}
 use Rattle.nt_event.specs.declared.events.Event.{Event}
 use Rattle.nt_event.specs.declared.jobs.Task.TheVariants.{Shared}
 use Rattle.nt_event.specs.Jobs.{chosen_task}
-use Rattle.nt_event.specs.Own.{standing_in}
+use Rattle.nt_event.specs.Own.{stand_in}
 use Rattle.nt_event.proofs.Options.{holds_at}
 use Rattle.nt_floor.specs.declared.floor.ActRefusal.{ActRefusal}
 use Rattle.nt_cpu.specs.GoodTasks.{GoodTask}
@@ -25,4 +25,4 @@ returns-in-Err-clause-memory g c =
     let e = c.in-Err.ensures.err in
     let m = c.in-Err.ensures.memory in
     let err : ActRefusal → Result Event ActRefusal = (λ r. Err r) in
-    λ a q. m a (ap err (refused_memory s.script e.0 (standing_in s.cpu s.own) c.args.job c.in-Err.field-0 (never_refused s c.args.job c.sound.ensures c.requires.job) e.2.1))
+    λ a q. m a (ap err (refused_memory s.script e.0 (stand_in s.cpu s.own) c.args.job c.in-Err.field-0 (never_refused s c.args.job c.sound.ensures c.requires.job) e.2.1))

@@ -1,10 +1,9 @@
 use Rattle.std.proofs.Common.{ap, subst, sym, ◌∙◌}
-use Rattle.std.specs.Prelude.{List, None, Some, false, ℕ, ◌<◌, ◌≡◌}
-use Rattle.nt_event.specs.declared.jobs.Task.TheVariants.{Alone, Shared}
+use Rattle.std.specs.Prelude.{None, Some, false, ◌≡◌}
+use Rattle.nt_event.specs.declared.jobs.Task.TheVariants.{Alone}
 use Rattle.nt_event.specs.declared.numbers.CpuNo.{CpuNo}
 use Rattle.nt_event.specs.Step.{is_cut}
 use Rattle.nt_event.proofs.Options.{holds_at}
-use Rattle.nt_floor.specs.Views.{View}
 use Rattle.nt_cpu.specs.GoodTasks.{GoodTask}
 use Rattle.nt_cpu.specs.States.{CpuState}
 use Rattle.nt_cpu.specs.Steps.{AllLooked, local_task}

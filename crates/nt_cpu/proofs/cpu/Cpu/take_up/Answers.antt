@@ -1,5 +1,5 @@
 use Rattle.std.proofs.Common.{ap, arith, max, subst, sym, ◌∙◌}
-use Rattle.std.specs.Prelude.{ℕ, ◌<◌, ◌≡◌, ◌≤◌}
+use Rattle.std.specs.Prelude.{◌<◌, ◌≡◌}
 use Rattle.nt_event.specs.Frames.{Frames}
 use Rattle.nt_event.specs.Step.{thread_field}
 use Rattle.nt_event.specs.Lists.{value_at}

@@ -9,5 +9,6 @@ pub push_reserved-requires : goal.push_reserved-requires
 push_reserved-requires c =
     let items = c.self.inside.items.items in
     let view = c.self.view_is in
-    let room = room_left c.args.x.dpc c.self.inside.count (vec_capacity c.self.inside.items) (reverse items) c.self.invariant.2 c.self.invariant.1 (rw (ap (λ (q : QueueFacts). q.count) view) c.requires.room) (ap (λ (q : QueueFacts). holds_dpc c.args.x.dpc q.state.pending) view ∙ c.requires.new) in
+    let room = room_left c.args.x.dpc c.self.inside.count (vec_capacity c.self.inside.items) (reverse items) c.self.invariant.2 c.self.invariant.1
+    (rw (ap (λ (q : QueueFacts). q.count) view) c.requires.room) (ap (λ (q : QueueFacts). holds_dpc c.args.x.dpc q.state.pending) view ∙ c.requires.new) in
     omega (arith, room, length-reverse items, c.self.inside.items.ok.0)

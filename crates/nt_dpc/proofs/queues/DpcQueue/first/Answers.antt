@@ -5,8 +5,10 @@ use Rattle.nt_dpc.proofs.queues.DpcQueue.first.Goals as goal
 
 pub returns-in-Some-clause-found : goal.returns-in-Some-clause-found
 returns-in-Some-clause-found c =
-    rw (← c.self.view_is, ← c.as_slice.ensures.value) (ap is_some (sym c.in-Some.is ∙ c.first.ensures) ∙ is_some-first_dpc c.args.part (reverse c.as_slice.result.now))
+    rw (← c.self.view_is, ← c.as_slice.ensures.value) (ap is_some (sym c.in-Some.is ∙ c.first.ensures)
+    ∙ is_some-first_dpc c.args.part (reverse c.as_slice.result.now))
 
 pub returns-in-None-clause-found : goal.returns-in-None-clause-found
 returns-in-None-clause-found c =
-    rw (← c.self.view_is, ← c.as_slice.ensures.value) (ap is_some (sym c.in-None.is ∙ c.first.ensures) ∙ is_some-first_dpc c.args.part (reverse c.as_slice.result.now))
+    rw (← c.self.view_is, ← c.as_slice.ensures.value) (ap is_some (sym c.in-None.is ∙ c.first.ensures)
+    ∙ is_some-first_dpc c.args.part (reverse c.as_slice.result.now))

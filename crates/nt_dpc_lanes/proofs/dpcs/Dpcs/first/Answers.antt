@@ -6,4 +6,5 @@ use Rattle.nt_dpc_lanes.proofs.dpcs.Dpcs.first.Goals as goal
 
 pub returns-clause-object : goal.returns-clause-object
 returns-clause-object c =
-    first_named _ c.args.p c.args.part _ c.agree.ensures (c.first.ensures.value ∙ ap (λ (q : QueueState). option_map (λ i. (i.dpc, i.number)) (first_dpc c.args.part q.pending)) c.queue.ensures.state)
+    first_named _ c.args.p c.args.part _ c.agree.ensures (c.first.ensures.value
+    ∙ ap (λ (q : QueueState). option_map (λ i. (i.dpc, i.number)) (first_dpc c.args.part q.pending)) c.queue.ensures.state)

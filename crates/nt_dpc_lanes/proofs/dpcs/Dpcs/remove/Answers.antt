@@ -6,13 +6,21 @@ use Rattle.nt_dpc_lanes.proofs.dpcs.Dpcs.remove.Goals as goal
 
 pub remove-requires-clause-place : goal.remove-requires-clause-place
 remove-requires-clause-place c =
-    let h : AreSeen c.self.inside.script.now c.self.inside.objects.items c.self.inside.queues.items c.args.self.now = record { kept = c.self.invariant; seen = c.self.view_is } in
+    let h : AreSeen c.self.inside.script.now c.self.inside.objects.items c.self.inside.queues.items c.args.self.now = record {
+      kept = c.self.invariant;
+      seen = c.self.view_is;
+    } in
     remove_place _ _ _ _ c.args.d c.in-Some.p h c.requires c.in-Some.ensures.cpu c.in-Some.ensures.value
 
-after : (c : goal.After-remove) → AreSeen c.self.inside.script.now c.remove.new.objects.items c.remove.new.queues.items (removed_at c.in-Some.p c.args.d c.args.self.now)
+after : (c : goal.After-remove) → AreSeen c.self.inside.script.now c.remove.new.objects.items c.remove.new.queues.items
+    (removed_at c.in-Some.p c.args.d c.args.self.now)
 after c =
-    let h : AreSeen c.self.inside.script.now c.self.inside.objects.items c.self.inside.queues.items c.args.self.now = record { kept = c.self.invariant; seen = c.self.view_is } in
-    removed_is_seen _ _ _ _ c.in-Some.p c.args.d _ _ h (places _ _ _ _ _ _ h c.requires c.in-Some.ensures.cpu) (stands_there _ _ c.in-Some.ensures.value) c.remove.ensures.objects c.remove.ensures.queues
+    let h : AreSeen c.self.inside.script.now c.self.inside.objects.items c.self.inside.queues.items c.args.self.now = record {
+      kept = c.self.invariant;
+      seen = c.self.view_is;
+    } in
+    removed_is_seen _ _ _ _ c.in-Some.p c.args.d _ _ h (places _ _ _ _ _ _ h c.requires c.in-Some.ensures.cpu)
+    (stands_there _ _ c.in-Some.ensures.value) c.remove.ensures.objects c.remove.ensures.queues
 
 pub invariant_of-self : goal.invariant_of-self
 invariant_of-self c = (after c).kept

@@ -1,0 +1,6 @@
+use Rattle.nt_laws.proofs.Named.RunFits.{run_fits}
+use Rattle.machine_table.proofs.taking.taken.Goals as goal
+
+pub report-requires-clause-fit : goal.report-requires-clause-fit
+report-requires-clause-fit c =
+    run_fits c.args.input.now.script _ c.finish-history.result.events c.requires.sound.fits ?

@@ -1,8 +1,0 @@
-use Rattle.std.proofs.Common.{refl}
-use Rattle.nt_event.specs.Lists.{table_from}
-use Rattle.nt_frame.proofs.Allowed.{calls_allowed}
-use Rattle.nt_frame.proofs.tests.threads_come_and_go.Goals as goal
-
-pub perform_all-requires : goal.perform_all-requires
-unfolding table_from
-perform_all-requires g c = rw c.in_ok-frames.ensures (calls_allowed _ _ refl)

@@ -1,0 +1,6 @@
+pub mod Columns
+pub mod Results
+pub mod FieldTexts
+pub mod UsedNames
+pub mod Spelled
+pub mod Found

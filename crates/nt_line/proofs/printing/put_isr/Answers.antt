@@ -1,0 +1,10 @@
+use Rattle.std.proofs.Common.{rules}
+use Rattle.nt_text.proofs.RowTexts.{line_put}
+use Rattle.nt_line.specs.declared.keywords.Keyword.TheVariants as keyword
+use Rattle.nt_line.specs.Keywords.{text_of}
+use Rattle.nt_line.specs.Rows.{isr_args}
+use Rattle.nt_line.proofs.printing.put_isr.Goals as goal
+
+pub returns : goal.returns
+returns c = line_put _ _ _ _ (text_of keyword.Isr) (isr_args c.args.names.now c.args.isr.now)
+    (search rules) c.in_ok-put_isr_args.ensures c.in_ok-push.ensures.items

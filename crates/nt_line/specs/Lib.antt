@@ -1,0 +1,9 @@
+pub mod Places
+pub mod NameLists
+pub mod Keywords
+pub mod Results
+pub mod Fields
+pub mod Commands
+pub mod Declarations
+pub mod Rows
+pub mod Fits

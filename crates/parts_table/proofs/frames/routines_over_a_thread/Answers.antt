@@ -1,0 +1,8 @@
+use Rattle.std.proofs.Common.{refl}
+use Rattle.nt_event.specs.Lists.{table_from}
+use Rattle.parts_table.proofs.FrameCalls.{calls_allowed}
+use Rattle.parts_table.proofs.frames.routines_over_a_thread.Goals as goal
+
+pub perform_all-requires : goal.perform_all-requires
+unfolding table_from
+perform_all-requires g c = rw c.in_ok-frames.ensures (calls_allowed _ _ refl)

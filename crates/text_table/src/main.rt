@@ -1,0 +1,151 @@
+//! What the layer of texts makes of a table, one case a line, in which `/` stands for the end of a line, `~` for a tab, `^` for
+//! byte 127 and a back quote for byte 13.
+//!
+//! A line is a script, which is read and printed again, and has to come out as the same bytes; or `?find NAME|SCRIPT`, what the
+//! name names in the script; or `?split WORD|TEXT`, where the first line begins whose first field is the word; or
+//! `?report |SCRIPT` or `?schedule |SCRIPT`, the report or the schedule of a history of three events: the script's first thread
+//! raises the level, asks for a level that isn't above it, and ends. What is wanted stands in `stdout`: worked rows, a change of
+//! each kind of line for each refusal, the limits, and random scripts with the answers of a reader that was written from the
+//! grammar alone, in another language.
+#![tactic(auto)]
+
+mod histories;
+
+use crate::histories::{report_of, schedule_of};
+use nt_script::{Named, Names, ScriptKind, ScriptRefusal, print, read, split_at};
+use nt_text::INPUT_LIMIT;
+use std::alloc::{AllocError, Global};
+use std::io;
+
+/// The bytes of a text of the table.
+fn text_of(alloc: Global, entry: &[u8]) -> Result<Vec<u8>, AllocError> {
+    let mut text = Vec::new(alloc);
+    for byte in entry {
+        text.push(match *byte {
+            b'/' => b'\n',
+            b'~' => b'\t',
+            b'^' => 127,
+            b'`' => b'\r',
+            other => other,
+        })?;
+    }
+    Ok(text)
+}
+
+/// What became of a script.
+enum Outcome {
+    /// It is read, and printed as the same bytes.
+    Same,
+    /// It is printed as other bytes.
+    Differs,
+    /// It is refused, or no memory is left.
+    Refused(ScriptRefusal),
+}
+
+fn read_again(alloc: Global, text: &[u8]) -> Result<Outcome, AllocError> {
+    if text.len() > INPUT_LIMIT {
+        return Ok(Outcome::Differs);
+    }
+    match read(alloc, text) {
+        Ok(input) => {
+            let is_same = print(alloc, &input)?.as_slice() == text;
+            Ok(if is_same {
+                Outcome::Same
+            } else {
+                Outcome::Differs
+            })
+        }
+        Err(refusal) => Ok(Outcome::Refused(refusal)),
+    }
+}
+
+/// What a script of the table is.
+fn script_case(rt: &HostRuntime, text: &[u8]) -> io::Result<()> {
+    match read_again(rt.alloc(), text)? {
+        Outcome::Same => println!(rt; "read"),
+        Outcome::Differs => println!(rt; "differs"),
+        Outcome::Refused(ScriptRefusal::NoMemory) => println!(rt; "no memory"),
+        Outcome::Refused(ScriptRefusal::Bad { line, kind }) => match kind {
+            ScriptKind::TooMany(what) => println!(rt;
+                "script line {line}: {} {} {}",
+                kind.number(),
+                kind.name(),
+                what.name()
+            ),
+            _ => println!(rt; "script line {line}: {} {}", kind.number(), kind.name()),
+        },
+    }
+}
+
+/// What a name names.
+fn put_named(rt: &HostRuntime, names: &Names, name: &str) -> io::Result<()> {
+    match names.find(name) {
+        Some(Named::Dpc(d)) => println!(rt; "dpc {}", d.0),
+        Some(Named::Timer(t)) => println!(rt; "timer {}", t.0),
+        Some(Named::Thread(t)) => println!(rt; "thread {}", t.0),
+        Some(Named::Apc(a)) => println!(rt; "apc {}", a.0),
+        Some(Named::Routine(r)) => println!(rt; "routine {}", r.0),
+        None => println!(rt; "none"),
+    }
+}
+
+fn find_case(rt: &HostRuntime, name: &str, text: &[u8]) -> io::Result<()> {
+    if text.len() > INPUT_LIMIT {
+        return println!(rt; "too long");
+    }
+    match read(rt.alloc(), text) {
+        Ok(input) => put_named(rt, &input.names, name),
+        Err(_) => println!(rt; "no script"),
+    }
+}
+
+fn split_case(rt: &HostRuntime, word: &str, text: &[u8]) -> io::Result<()> {
+    if text.len() > INPUT_LIMIT {
+        return println!(rt; "too long");
+    }
+    match split_at(text, word) {
+        Some(split) => println!(rt; "at {} line {}", split.at, split.line),
+        None => println!(rt; "none"),
+    }
+}
+
+/// A text on one line, with `/` for the end of a line.
+fn put_text(rt: &HostRuntime, text: Option<Vec<u8>>) -> io::Result<()> {
+    let Some(text) = text else {
+        return println!(rt; "no script");
+    };
+    for byte in text.as_slice() {
+        let shown = if *byte == b'\n' { b'/' } else { *byte };
+        print!(rt; "{}", char::from(shown))?;
+    }
+    println!(rt;)
+}
+
+/// A case of the table behind its `?`.
+fn other_case(rt: &HostRuntime, case: &str) -> io::Result<()> {
+    let Some((what, entry)) = case.split_once('|') else {
+        return println!(rt; "no case");
+    };
+    let text = text_of(rt.alloc(), entry.as_bytes())?;
+    match what.split_once(' ') {
+        Some(("find", name)) => find_case(rt, name, text.as_slice()),
+        Some(("split", word)) => split_case(rt, word, text.as_slice()),
+        Some(("report", _)) => put_text(rt, report_of(rt.alloc(), text.as_slice())?),
+        Some(("schedule", _)) => put_text(rt, schedule_of(rt.alloc(), text.as_slice())?),
+        _ => println!(rt; "no case"),
+    }
+}
+
+fn main(rt: HostRuntime) -> io::Result<()> {
+    for line in rt.lines(rt.alloc()) {
+        let entry = line?;
+        match entry.as_str().strip_prefix('?') {
+            Some(case) => other_case(&rt, case)?,
+            None => {
+                let text = text_of(rt.alloc(), entry.as_str().as_bytes())?;
+                script_case(&rt, text.as_slice())?
+            }
+        }
+    }
+    Ok(())
+}
