@@ -26,7 +26,7 @@ use Rattle.nt_event.proofs.Options.{both}
 use Rattle.nt_thread_lanes.specs.Fits.{Begins, Delays, EndFits, Flushes, MayLeave, RunsHere, TakesUp, Waits, WhatFits}
 use Rattle.nt_plain.specs.AllStates.{AllStates, threads_of}
 use Rattle.nt_plain.specs.Given.{MayMake}
-use Rattle.nt_states.specs.Given.{what_fits}
+use Rattle.nt_event.specs.Fitting.{what_fits}
 use Rattle.nt_plain.proofs.Knowns.{KnownCall, KnownRewait, KnownSwitch, Knows, knows}
 
 module _ (x : AllStates) (st : Stand) where

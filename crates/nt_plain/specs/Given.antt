@@ -4,10 +4,11 @@ use Rattle.nt_event.specs.declared.events.What.{What}
 use Rattle.nt_event.specs.declared.jobs.Job.{Job}
 use Rattle.nt_event.specs.declared.jobs.Stand.{Stand}
 use Rattle.nt_event.specs.Acting.{IsAllowed, StandHolds}
+use Rattle.nt_event.specs.Fitting.{what_fits}
 use Rattle.nt_event.specs.Jobs.{job_event}
 use Rattle.nt_floor.specs.Acts.{StandFits, job_fits}
 use Rattle.nt_plain.specs.AllStates.{AllStates}
-use Rattle.nt_states.specs.Given.{TakesOwn, what_fits}
+use Rattle.nt_states.specs.Given.{TakesOwn}
 
 -- the job may be done in these states by a processor that stands so
 pub record MayDo (x : AllStates) (st : Stand) (j : Job) : Type 0 where

@@ -46,7 +46,7 @@ impl<'s> States<'s> {
     {
         let dpcs = Dpcs::new(alloc, script)?;
         let threads = Threads::new(alloc, script)?;
-        let timers = TimerQueue::new(alloc, timer_count(script), thread_count(script))?;
+        let timers = TimerQueue::new(alloc, timer_count(script), script.thread_count())?;
         Ok(States {
             script,
             dpcs,
@@ -104,12 +104,4 @@ fn timer_count(script: &Script) -> u32
     ensures { result ≡ length script.now.timers }
 {
     script.timers.len() as u32
-}
-
-/// How many threads the script has.
-fn thread_count(script: &Script) -> u32
-    requires { IsTrue (fits script.now) }
-    ensures { result ≡ length script.now.threads }
-{
-    script.threads.len() as u32
 }
