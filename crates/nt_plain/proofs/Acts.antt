@@ -20,7 +20,7 @@ use Rattle.nt_floor.specs.declared.floor.Acted.{Acted}
 use Rattle.nt_floor.specs.Acts.{IsActed, KindsFit, Told, told_over}
 use Rattle.nt_floor.specs.Lists.{with_marks}
 use Rattle.nt_floor.specs.Views.{IsMoved, IsUnmoved}
-use Rattle.nt_plain.specs.LaneLists.{AskFits, LaneFits}
+use Rattle.nt_states.specs.LaneLists.{AskFits, LaneFits}
 use Rattle.nt_plain.specs.Made.{IsKept, found_of, made}
 use Rattle.nt_plain.specs.Places.{told_in, value_in}
 use Rattle.nt_plain.specs.States.{PlainState, view_of}

@@ -16,7 +16,7 @@ use Rattle.nt_thread_lanes.specs.Lanes as threads
 use Rattle.nt_thread_lanes.specs.Lanes.{ThreadLanes}
 use Rattle.nt_plain.specs.declared.states.States.TheInside.{Inside}
 use Rattle.nt_plain.specs.AllStates.{AllStates, dpcs_of, threads_of}
-use Rattle.nt_plain.specs.Given.{IsGiven}
+use Rattle.nt_plain.specs.Given.{MayMake}
 use Rattle.nt_plain.specs.Kept.{IsKept, states_in}
 use Rattle.nt_plain.specs.Sound.{IsSound}
 use Rattle.nt_plain.specs.Timed.{MayTime, timed}
@@ -37,18 +37,18 @@ threads_are a h = ap (λ (s : Script). record { script = s; facts = a.threads.fa
 
 -- ---- the event may be made of each part
 
-pub may_leave_dpcs : (a : Inside) (x : AllStates) (st : Stand) (w : What) → IsKept a → states_in a ≡ x → IsGiven x st w → dpcs.MayLeave a.dpcs st.cpu w
+pub may_leave_dpcs : (a : Inside) (x : AllStates) (st : Stand) (w : What) → IsKept a → states_in a ≡ x → MayMake x st w → dpcs.MayLeave a.dpcs st.cpu w
 may_leave_dpcs a x st w kept e g =
-    let h : IsGiven (states_in a) st w = subst (λ (z : AllStates). IsGiven z st w) (sym e) g in
+    let h : MayMake (states_in a) st w = subst (λ (z : AllStates). MayMake z st w) (sym e) g in
     subst (λ (d : DpcLanes). dpcs.MayLeave d st.cpu w) (dpcs_are a kept) (may_dpcs (states_in a) st w (knows (states_in a) st w h))
 
-pub may_leave_threads : (a : Inside) (x : AllStates) (st : Stand) (e : Event) → IsKept a → states_in a ≡ x → IsGiven x st e.what → e ≡ acted_event st x.lanes e.what → MayLeave a.threads st e
+pub may_leave_threads : (a : Inside) (x : AllStates) (st : Stand) (e : Event) → IsKept a → states_in a ≡ x → MayMake x st e.what → e ≡ acted_event st x.lanes e.what → MayLeave a.threads st e
 may_leave_threads a x st e kept same g made =
     let h : MayLeave (threads_of x) st e = subst (λ (z : Event). MayLeave (threads_of x) st z) (sym made) (may_threads x st e.what g) in
     let k : MayLeave (threads_of (states_in a)) st e = subst (λ (z : AllStates). MayLeave (threads_of z) st e) (sym same) h in
     subst (λ (t : ThreadLanes). MayLeave t st e) (threads_are a kept) k
 
-pub may_leave_timers : (a : Inside) (x : AllStates) (st : Stand) (e : Event) → IsKept a → states_in a ≡ x → IsGiven x st e.what → e ≡ acted_event st x.lanes e.what → MayTime a.script.now a.timers e e.what
+pub may_leave_timers : (a : Inside) (x : AllStates) (st : Stand) (e : Event) → IsKept a → states_in a ≡ x → MayMake x st e.what → e ≡ acted_event st x.lanes e.what → MayTime a.script.now a.timers e e.what
 may_leave_timers a x st e kept same g made =
     let sound : IsSound x = subst (λ (z : AllStates). IsSound z) same kept.sound in
     let h : MayTime x.script x.lanes.timers e e.what = subst (λ (z : Event). MayTime x.script x.lanes.timers z e.what) (sym made) (may_timers x st sound e.what g) in
@@ -63,7 +63,7 @@ pub record AreLeft (a b : Inside) (n : ℕ) (st : Stand) (e : Event) : Type 0 wh
   pub threads : b.threads ≡ threads.left n st e a.threads
   pub timers : b.timers ≡ timed n st e.thread e.what a.timers
 
-module _ (a b : Inside) (x : AllStates) (n : ℕ) (st : Stand) (e : Event) (kept : IsKept a) (same : states_in a ≡ x) (g : IsGiven x st e.what) (made : e ≡ acted_event st x.lanes e.what) (left : AreLeft a b n st e) where
+module _ (a b : Inside) (x : AllStates) (n : ℕ) (st : Stand) (e : Event) (kept : IsKept a) (same : states_in a ≡ x) (g : MayMake x st e.what) (made : e ≡ acted_event st x.lanes e.what) (left : AreLeft a b n st e) where
   times : b.timers ≡ timers_after a.script.now n st e a.timers
   times =
       left.timers ∙ sym (timers_left a.script.now st e n a.timers kept.sound.timers (may_leave_timers a x st e kept same g made))

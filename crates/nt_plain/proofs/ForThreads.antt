@@ -25,7 +25,8 @@ use Rattle.nt_event.specs.Replies.{yes_if}
 use Rattle.nt_event.proofs.Options.{both}
 use Rattle.nt_thread_lanes.specs.Fits.{Begins, Delays, EndFits, Flushes, MayLeave, RunsHere, TakesUp, Waits, WhatFits}
 use Rattle.nt_plain.specs.AllStates.{AllStates, threads_of}
-use Rattle.nt_plain.specs.Given.{IsGiven, what_fits}
+use Rattle.nt_plain.specs.Given.{MayMake}
+use Rattle.nt_event.specs.Fitting.{what_fits}
 use Rattle.nt_plain.proofs.Knowns.{KnownCall, KnownRewait, KnownSwitch, Knows, knows}
 
 module _ (x : AllStates) (st : Stand) where
@@ -84,6 +85,6 @@ module _ (x : AllStates) (st : Stand) where
   stands None h = tt
   stands (Some t) h = record { named = h.named; own = h.own; runs = h.runs }
 
-  pub may_threads : (w : What) → IsGiven x st w → MayLeave (threads_of x) st (acted_event st x.lanes w)
+  pub may_threads : (w : What) → MayMake x st w → MayLeave (threads_of x) st (acted_event st x.lanes w)
   may_threads w g =
       record { cpu = refl; thread = refl; stands = stands st.thread g.may.stands; what = fits w (knows x st w g) g.named }

@@ -15,7 +15,7 @@ use Rattle.nt_event.specs.declared.numbers.ThreadNo.{ThreadNo}
 use Rattle.nt_event.specs.Acting.{StandHolds, RunsThere, acted_event}
 use Rattle.nt_event.specs.Routines.{cpu_of}
 use Rattle.nt_plain.specs.AllStates.{AllStates}
-use Rattle.nt_plain.specs.Given.{IsGiven}
+use Rattle.nt_plain.specs.Given.{MayMake}
 use Rattle.nt_plain.specs.Sound.{IsSound}
 use Rattle.nt_plain.specs.Timed.{CallMayTime, IsMaker, MayTime}
 use Rattle.nt_plain.proofs.Knowns.{KnownCall, Knows, knows}
@@ -43,5 +43,5 @@ module _ (x : AllStates) (st : Stand) (sound : IsSound x) where
   of_what (Expire key from) s k = k
   of_what w s k = tt
 
-  pub may_timers : (w : What) → IsGiven x st w → MayTime x.script x.lanes.timers (acted_event st x.lanes w) w
+  pub may_timers : (w : What) → MayMake x st w → MayTime x.script x.lanes.timers (acted_event st x.lanes w) w
   may_timers w g = of_what w g.may.stands (knows x st w g)

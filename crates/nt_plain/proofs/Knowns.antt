@@ -34,7 +34,7 @@ use Rattle.nt_event.proofs.Options.{Holds, holds_at, holds_else, holds_map, hold
 use Rattle.nt_event.proofs.Ready.{next_ready_taken}
 use Rattle.nt_timer.specs.Settings.{due_entry}
 use Rattle.nt_plain.specs.AllStates.{AllStates}
-use Rattle.nt_plain.specs.Given.{IsGiven, MayDo}
+use Rattle.nt_plain.specs.Given.{MayDo, MayMake}
 
 pub record KnownCall (x : AllStates) (st : Stand) (c : Command) (y : Reply) : Type 0 where
   pub answer : y ≡ reply x.script st x.lanes c
@@ -150,6 +150,6 @@ module _ (x : AllStates) (st : Stand) where
   of_job RundownJob m = holds_map (Knows x st) (rundown_event x.lanes) st.thread (λ t e. runs_down t e)
 
 -- the event of a job is known
-pub knows : (x : AllStates) (st : Stand) (w : What) → IsGiven x st w → Knows x st w
+pub knows : (x : AllStates) (st : Stand) (w : What) → MayMake x st w → Knows x st w
 knows x st w g =
     holds_at (Knows x st) (job_event x.script st x.lanes g.job) w (of_job x st g.job g.may) g.gives

@@ -15,8 +15,8 @@ use Rattle.nt_event.specs.Requests.{Ask, asks_in, is_ask, raised, what_asks}
 use Rattle.nt_event.specs.Lists.{table, value_at}
 use Rattle.nt_event.proofs.Tables.{get_or-table, table-same}
 use Rattle.nt_floor.specs.Acts.{told_over}
-use Rattle.nt_plain.specs.declared.states.asking.Asked.{Asked}
-use Rattle.nt_plain.specs.LaneLists.{AskFits, LaneFits, as_ask, as_asks, lane_fits}
+use Rattle.nt_states.specs.declared.asking.Asked.{Asked}
+use Rattle.nt_states.specs.LaneLists.{AskFits, LaneFits, as_ask, as_asks, lane_fits}
 use Rattle.nt_plain.specs.Places.{row_of, row_value, told_in, told_place, word_place}
 use Rattle.nt_plain.specs.States.{PlainState}
 use Rattle.nt_plain.proofs.Apart.{below_rows, below_values}

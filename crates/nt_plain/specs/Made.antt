@@ -11,8 +11,8 @@ use Rattle.nt_event.specs.Lanes.{lane_count, lanes_after, what_lanes}
 use Rattle.nt_event.specs.Requests.{Ask, what_asks}
 use Rattle.nt_floor.specs.Acts.{Found}
 use Rattle.nt_plain.specs.AllStates.{AllStates}
-use Rattle.nt_plain.specs.Given.{IsGiven}
-use Rattle.nt_plain.specs.LaneLists.{AskFits, LaneFits}
+use Rattle.nt_plain.specs.Given.{MayMake}
+use Rattle.nt_states.specs.LaneLists.{AskFits, LaneFits}
 use Rattle.nt_plain.specs.Places.{row_of, told_in, told_place, value_in, word_place}
 use Rattle.nt_plain.specs.States.{PlainState}
 
@@ -88,7 +88,7 @@ made st w f =
 
 -- an event that a job gives, with the lanes that it touches and what it asks for
 pub record IsPlanned (f : PlainState) (st : Stand) (w : What) (xs : List Lane) (ys : List Ask) : Type 0 where
-  pub given : IsGiven (states_of f) st w
+  pub given : MayMake (states_of f) st w
   pub room : f.next < f.limit
   pub lanes : xs ≡ what_lanes f.script st w f.lanes
   pub asks : ys ≡ what_asks f.script st w f.lanes

@@ -5,7 +5,7 @@ use Rattle.nt_event.specs.declared.jobs.Lane.{Lane}
 use Rattle.nt_event.specs.declared.numbers.CpuNo.{CpuNo}
 use Rattle.nt_event.specs.declared.scripts.Script.{Script}
 use Rattle.nt_event.specs.Lanes.{lane_number}
-use Rattle.nt_plain.specs.LaneLists.{lane_fits}
+use Rattle.nt_states.specs.LaneLists.{lane_fits}
 
 abbrev pub word_place : CpuNo → ℕ → ℕ
 word_place p c = 16 * p.0 + c

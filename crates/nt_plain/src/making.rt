@@ -8,27 +8,27 @@ ghost use Rattle.nt_event.specs.Requests.{asks_in, raised, what_asks};
 ghost use Rattle.nt_event.specs.Lists.{table};
 ghost use Rattle.nt_floor.specs.declared.floor.ActRefusal.{ActRefusal};
 ghost use Rattle.nt_floor.specs.Acts.{Found, IsRefused, KindsFit, told_over};
-ghost use Rattle.nt_plain.specs.Given.{IsGiven, MayDo};
-ghost use Rattle.nt_plain.specs.LaneLists.{AskFits, LaneFits};
+ghost use Rattle.nt_plain.specs.Given.{MayMake, MayDo};
+ghost use Rattle.nt_states.specs.LaneLists.{AskFits, LaneFits};
 ghost use Rattle.nt_plain.specs.Made.{IsPlanned, made, states_of};
 ghost use Rattle.nt_plain.specs.Places.{told_in};
 
 use crate::plain::PlainFloor;
-use crate::states::{Asks, Touched};
 use crate::told::tell_own;
 use nt_event::{Event, Job, Rises, Stand, What};
 use nt_floor::{ActRefusal, Acted};
+use nt_states::{Asks, Touched};
 
 impl<'s> PlainFloor<'s> {
     /// The event of the job for a processor that stands so, or why there is none.
     pub(crate) fn decide(&self, job: &Job, stand: &Stand) -> Result<What, ActRefusal>
         requires { MayDo (states_of self.now) stand.now job.now }
         ensures event { IfOk result (λ w. job_event self.now.script stand.now self.now.lanes job.now ≡ Some w) }
-        ensures given { IfOk result (λ w. IsGiven (states_of self.now) stand.now w) }
+        ensures given { IfOk result (λ w. MayMake (states_of self.now) stand.now w) }
         ensures refused { IfErr result (λ r. (f : Found) → f.lanes ≡ self.now.lanes → IsRefused self.now.script f stand.now job.now r) }
         ensures memory { IsErrOf result ActRefusal.NoMemory → ⊥ }
     {
-        self.states.decide(job, stand)
+        nt_states::decide(&self.states, job, stand)
     }
 
     /// The pending APCs are of their objects' kinds.
@@ -40,7 +40,7 @@ impl<'s> PlainFloor<'s> {
 
     /// Makes this event of a processor that stands so.
     pub(crate) fn make(&mut self, stand: &Stand, what: &What) -> Acted
-        requires given { IsGiven (states_of self.old) stand.now what.now }
+        requires given { MayMake (states_of self.old) stand.now what.now }
         requires room { self.old.next < self.old.limit }
         ensures number { result.number ≡ self.old.next }
         ensures event { result.event ≡ acted_event stand.now self.old.lanes what.now }
@@ -52,10 +52,10 @@ impl<'s> PlainFloor<'s> {
         ensures state { self.new ≡ made stand.now what.now self.old }
     {
         let number = self.next;
-        let event = self.states.event(stand, what);
-        let due = self.states.due(what);
-        let lanes = self.states.touched(stand, what);
-        let asks = self.states.asks(stand, what);
+        let event = nt_states::event(&self.states, stand, what);
+        let due = nt_states::due(&self.states, what);
+        let lanes = nt_states::event_lanes(&self.states, stand, what);
+        let asks = nt_states::event_asks(&self.states, stand, what);
         let told = self.told_by(stand, what, &lanes, &asks);
         self.leave(stand, &event, &lanes, &asks);
         Acted {
@@ -72,7 +72,7 @@ impl<'s> PlainFloor<'s> {
         ensures { result.value ≡ table 16 (λ c. raised (asks_in self.now.script stand.now what.now self.now.lanes stand.now.cpu c) self.now.next (told_over (told_in self.now.script self.now.told) (what_lanes self.now.script stand.now what.now self.now.lanes) stand.now.cpu c)) }
     {
         let _what = what;
-        let script = self.states.script();
+        let script = self.states.whole_script();
         let mut value = self.told.over(script, lanes.as_slice(), stand.cpu);
         tell_own(&mut value, asks.as_slice(), stand.cpu, self.next + 1);
         Rises { value }
@@ -85,7 +85,7 @@ impl<'s> PlainFloor<'s> {
         ensures { self.new ≡ made stand.now event.now.what self.old }
     {
         let number = self.next;
-        let script = self.states.script();
+        let script = self.states.whole_script();
         let touched = lanes.as_slice();
         let asked = asks.as_slice();
         self.next = number + 1;

@@ -1,12 +1,12 @@
 //! The marks: for each event and processor, the classes that the event was marked for.
 ghost use Rattle.std.specs.Prelude.{◌≡◌, ◌==◌, ◌<◌, ◌^◌, All, IfOk, get_or, length, replicate, set};
 ghost use Rattle.std.specs.Int.{bit_at};
-ghost use Rattle.nt_plain.specs.LaneLists.{as_asks};
+ghost use Rattle.nt_states.specs.LaneLists.{as_asks};
 ghost use Rattle.nt_plain.specs.Made.{marked_all, with_bit};
 ghost use Rattle.nt_plain.specs.Places.{row_of as row_place};
 
 use crate::places::row_of;
-use crate::states::Asked;
+use nt_states::Asked;
 use std::alloc::{AllocError, Global};
 use std::marker::Model;
 

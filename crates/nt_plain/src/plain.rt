@@ -13,6 +13,7 @@ use crate::requests::RequestWords;
 use crate::states::States;
 use crate::told::ToldValues;
 use nt_event::{CpuNo, Script, ThreadNo};
+use nt_states::LaneAnswers;
 use std::alloc::{AllocError, Global};
 use std::marker::Model;
 
@@ -109,7 +110,7 @@ impl<'s> PlainFloor<'s> {
     fn has_word(&self, p: CpuNo, class: u8) -> bool
         ensures { IsTrue result ↔ HasWord (view_of self.now) p class }
     {
-        p.0 < self.states.script().cpus && class < 16
+        p.0 < self.states.whole_script().cpus && class < 16
     }
 
     /// Whether the event of this number has the mark; one that may not be drawn has none.
@@ -118,7 +119,7 @@ impl<'s> PlainFloor<'s> {
         ensures { result ≡ (view_of self.now).marked n p class }
     {
         if n < self.limit {
-            let row = row_of(self.states.script().cpus, n as usize, p);
+            let row = row_of(self.states.whole_script().cpus, n as usize, p);
             self.marks.has(row, class)
         } else {
             false
@@ -142,7 +143,7 @@ impl<'s> PlainFloor<'s> {
         requires number { n < self.old.next }
         ensures { self.new ≡ marked p class n self.old }
     {
-        let row = row_of(self.states.script().cpus, n as usize, p);
+        let row = row_of(self.states.whole_script().cpus, n as usize, p);
         self.asked.raise(p, class, n + 1);
         self.marks.mark(row, class);
     }

@@ -1,11 +1,11 @@
 //! The request words: for each processor and class the greatest request so far.
 ghost use Rattle.std.specs.Prelude.{◌≡◌, ◌+◌, ◌*◌, ◌<◌, All, IfOk, length, replicate};
-ghost use Rattle.nt_plain.specs.LaneLists.{as_asks};
+ghost use Rattle.nt_states.specs.LaneLists.{as_asks};
 ghost use Rattle.nt_plain.specs.Made.{raised_word, raised_words};
 ghost use Rattle.nt_plain.specs.Places.{value_in, word_place};
 
-use crate::states::Asked;
 use nt_event::CpuNo;
+use nt_states::Asked;
 use std::alloc::{AllocError, Global};
 use std::marker::Model;
 

@@ -1,29 +1,21 @@
 //! The states of all lanes in memory: DPC objects and queues, threads, and timers.
-ghost use Rattle.std.specs.Prelude.{◌≡◌, [], IfOk, IfSome, IsTrue, length};
-ghost use Rattle.nt_event.specs.Jobs as jobs;
+ghost use Rattle.std.specs.Prelude.{◌≡◌, [], IfOk, IsTrue, length};
 ghost use Rattle.nt_event.specs.Lanes.{lanes_at};
-ghost use Rattle.nt_event.specs.Script.{fits, has_thread};
+ghost use Rattle.nt_event.specs.Script.{fits};
 ghost use Rattle.nt_floor.specs.Acts.{KindsFit};
 ghost use Rattle.nt_plain.specs.AllStates.{dpcs_of, threads_of};
 ghost use Rattle.nt_plain.specs.Sound.{IsSound};
 
-mod asking;
-mod deciding;
+mod answering;
 mod leaving;
-mod making;
-mod places;
-mod replies;
 mod timing;
-mod touching;
 
-pub(crate) use asking::{Asked, Asks};
 use nt_dpc_lanes::Dpcs;
-use nt_event::{CpuNo, Script, ThreadNo};
+use nt_event::Script;
 use nt_thread_lanes::Threads;
 use nt_timer::TimerQueue;
 use std::alloc::{AllocError, Global};
 use std::marker::Model;
-pub(crate) use touching::Touched;
 
 /// The states of all lanes of a script. They have their room from the start: no call but [`States::new`] takes memory.
 #[derive(Drop)]
@@ -54,7 +46,7 @@ impl<'s> States<'s> {
     {
         let dpcs = Dpcs::new(alloc, script)?;
         let threads = Threads::new(alloc, script)?;
-        let timers = TimerQueue::new(alloc, timer_count(script), thread_count(script))?;
+        let timers = TimerQueue::new(alloc, timer_count(script), script.thread_count())?;
         Ok(States {
             script,
             dpcs,
@@ -71,7 +63,7 @@ impl<'s> States<'s> {
     }
 
     /// The script.
-    pub(crate) fn script(&self) -> &'s Script
+    pub(crate) fn whole_script(&self) -> &'s Script
         ensures { result.now ≡ self.now.script }
     {
         self.script
@@ -98,14 +90,6 @@ impl<'s> States<'s> {
         &self.timers
     }
 
-    /// The thread of the processor that is taken up next, after this one in a cycle; None exactly where none is ready.
-    pub(crate) fn next_ready(&self, p: CpuNo, after: Option<ThreadNo>) -> Option<ThreadNo>
-        ensures next { result ≡ jobs.next_ready self.now.script p after self.now.lanes }
-        ensures named { IfSome result (λ t. IsTrue (has_thread self.now.script t)) }
-    {
-        self.threads().next_ready(p, after)
-    }
-
     /// The APCs that are pending are of their objects' kinds.
     pub(crate) fn kinds(&self)
         ensures { KindsFit self.now.script self.now.lanes }
@@ -120,12 +104,4 @@ fn timer_count(script: &Script) -> u32
     ensures { result ≡ length script.now.timers }
 {
     script.timers.len() as u32
-}
-
-/// How many threads the script has.
-fn thread_count(script: &Script) -> u32
-    requires { IsTrue (fits script.now) }
-    ensures { result ≡ length script.now.threads }
-{
-    script.threads.len() as u32
 }

@@ -5,13 +5,13 @@ ghost use Rattle.nt_event.specs.Lanes.{lane_number as number_of};
 ghost use Rattle.nt_event.specs.Requests.{is_ask};
 ghost use Rattle.nt_event.specs.Lists.{table, value_at};
 ghost use Rattle.nt_floor.specs.Acts.{told_over};
-ghost use Rattle.nt_plain.specs.LaneLists.{as_asks};
+ghost use Rattle.nt_states.specs.LaneLists.{as_asks};
 ghost use Rattle.nt_plain.specs.Made.{tell_lane, tell_lanes};
 ghost use Rattle.nt_plain.specs.Places.{row_of as row_place, row_value, told_place};
 
 use crate::places::{lane_number, row_of};
-use crate::states::Asked;
 use nt_event::{CpuNo, Lane, Script};
+use nt_states::Asked;
 use std::alloc::{AllocError, Global};
 use std::marker::Model;
 

@@ -1,9 +1,5 @@
 -- Which jobs can be decided, and which events a job gives.
-use Rattle.std.specs.Prelude.{Bool, IfSome, IsSome, IsTrue, Some, true, ◌≡◌}
-use Rattle.nt_event.specs.declared.commands.TimerKey.{TimerKey}
-use Rattle.nt_event.specs.declared.commands.TimerKey.TheVariants.{Delay as OfDelay, Timer as OfTimer}
-use Rattle.nt_event.specs.declared.events.Begun.{Begun}
-use Rattle.nt_event.specs.declared.events.Begun.TheVariants.{Apc, Dpc, Int, Threaded}
+use Rattle.std.specs.Prelude.{IfSome, IsSome, IsTrue, Some, ◌≡◌}
 use Rattle.nt_event.specs.declared.events.What.{What}
 use Rattle.nt_event.specs.declared.events.What.TheVariants as what
 use Rattle.nt_event.specs.declared.jobs.Job.{Job}
@@ -13,37 +9,12 @@ use Rattle.nt_event.specs.declared.numbers.CpuNo.{CpuNo}
 use Rattle.nt_event.specs.declared.numbers.ThreadNo.{ThreadNo}
 use Rattle.nt_event.specs.declared.scripts.Script.{Script}
 use Rattle.nt_event.specs.Acting.{IsCallable}
+use Rattle.nt_event.specs.Fitting.{what_fits}
 use Rattle.nt_event.specs.Jobs.{job_event}
 use Rattle.nt_event.specs.Lanes.{Lanes}
 use Rattle.nt_event.specs.Routines.{cpu_of}
-use Rattle.nt_event.specs.Script.{command_fits, has_apc, has_dpc, has_thread, has_timer}
+use Rattle.nt_event.specs.Script.{has_thread}
 use Rattle.nt_floor.specs.Acts.{StandFits, job_fits}
-
-abbrev pub key_fits : Script → TimerKey → Bool
-key_fits s (OfTimer t) = has_timer s t
-key_fits s (OfDelay t) = has_thread s t
-
-abbrev pub begun_fits : Script → Begun → Bool
-begun_fits s (Int level) = true
-begun_fits s (Dpc d) = has_dpc s d
-begun_fits s (Threaded d) = has_dpc s d
-begun_fits s (Apc a) = has_apc s a
-
--- each number in the event names a thing of the script
-abbrev pub what_fits : Script → What → Bool
-what_fits s (what.Call f c y) = command_fits s c
-what_fits s (what.Look rises) = true
-what_fits s (what.Begin begun from) = begun_fits s begun
-what_fits s (what.Normal f) = true
-what_fits s (what.End f) = true
-what_fits s (what.Expire key from) = key_fits s key
-what_fits s (what.Fire d y) = has_dpc s d
-what_fits s (what.Clean class) = true
-what_fits s (what.Switch t status) = has_thread s t
-what_fits s (what.Rewait f y) = true
-what_fits s (what.Flush a from) = has_apc s a
-what_fits s (what.Gone t) = has_thread s t
-what_fits s what.Rest = true
 
 -- ---- jobs
 

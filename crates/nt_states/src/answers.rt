@@ -26,7 +26,8 @@ pub trait LaneAnswers {
     ghost use Rattle.nt_event.specs.Timers as timers;
     ghost use Rattle.nt_event.specs.Waits as waits;
     ghost use Rattle.nt_dpc.specs.Laws.{asks_on};
-    ghost use Rattle.nt_states.specs.Given.{IsTaken, key_fits};
+    ghost use Rattle.nt_event.specs.Fitting.{key_fits};
+    ghost use Rattle.nt_states.specs.Given.{IsTaken};
 
     /// The script.
     ghost script_of: { Self → Script };

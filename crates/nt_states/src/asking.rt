@@ -5,7 +5,6 @@ ghost use Rattle.nt_event.specs.Lanes.{command_lanes, end_lanes, facts_at, facts
 ghost use Rattle.nt_event.specs.Replies.{is_refused as refuses};
 ghost use Rattle.nt_event.specs.declared.jobs.Lane.TheVariants.{Threads as ThreadsLane};
 ghost use Rattle.nt_event.specs.Objects.{is_queued};
-ghost use Rattle.nt_event.specs.Regions.{some_came_to_0};
 ghost use Rattle.nt_event.specs.Requests as requests;
 ghost use Rattle.nt_event.specs.Routines as routines;
 ghost use Rattle.nt_event.specs.Script.{command_fits, has_apc, has_cpu, has_dpc, has_thread};
@@ -17,10 +16,10 @@ ghost use Rattle.nt_states.specs.LaneLists.{AskFits, InsertIsFree, as_asks};
 ghost use Rattle.nt_states.specs.Reads.{AreHeld};
 
 use crate::answers::LaneAnswers;
-use crate::script::{cpu_of, kind_of, owner_of, runner};
+use crate::running::runner;
 use nt_event::{
     ApcKind, ApcNo, Body, Command, CpuNo, DpcNo, Mode, Regions, Reply, Stand, ThreadNo, TimerKey,
-    What,
+    What, class,
 };
 use std::marker::Model;
 
@@ -120,20 +119,6 @@ impl Asks {
     }
 }
 
-/// Whether a count that was not 0 is 0 now.
-fn came_to_0(before: Regions, now: Regions) -> bool
-    ensures { result ≡ some_came_to_0 before now }
-{
-    (before.crit != 0 && now.crit == 0) || (before.guard != 0 && now.guard == 0)
-}
-
-/// Whether APCs of the kind run in kernel mode.
-fn is_kernel_kind(kind: ApcKind) -> bool
-    ensures { result ≡ routines.is_kernel_kind kind }
-{
-    !matches!(kind, ApcKind::User)
-}
-
 /// What an event asks for, of a processor that stands so.
 pub fn event_asks<S: LaneAnswers>(states: &S, stand: &Stand, what: &What) -> Asks
     requires given { IsGiven (S.script_of states.now) (S.lanes states.now) stand.now what.now }
@@ -152,7 +137,9 @@ pub fn event_asks<S: LaneAnswers>(states: &S, stand: &Stand, what: &What) -> Ask
             from,
         } => expiry_asks(states, *t, *from),
         What::Switch { thread, .. } => switch_asks(states, stand.cpu, *thread),
-        What::Normal { .. } => { Asks::one_if(came_to_0(stand.regions, stand.below), stand.cpu, 1) }
+        What::Normal { .. } => {
+            Asks::one_if(stand.below.came_to_0(&stand.regions), stand.cpu, class::APC)
+        }
         What::End { .. } => end_asks(states, stand),
         What::Fire { .. }
         | What::Expire { .. }
@@ -178,15 +165,40 @@ fn call_asks<S: LaneAnswers>(states: &S, stand: &Stand, command: &Command, reply
     match (command, reply) {
         (Command::Queue(d), Reply::Yes) => insert_asks(states, stand.cpu, *d),
         (Command::InsertApc(a), Reply::Yes) => apc_asks(states, *a),
-        (Command::LeaveCrit, Reply::Done) => { Asks::one_if(stand.regions.crit == 1, stand.cpu, 1) }
+        (Command::LeaveCrit, Reply::Done) => {
+            Asks::one_if(stand.regions.crit == 1, stand.cpu, class::APC)
+        }
         (Command::LeaveGuard, Reply::Done) => {
-            Asks::one_if(stand.regions.guard == 1, stand.cpu, 1)
+            Asks::one_if(stand.regions.guard == 1, stand.cpu, class::APC)
         }
         (Command::Release(t), Reply::Yes) => release_asks(states, *t),
         (Command::Alert(t, mode), Reply::No) => alert_asks(states, *t, *mode),
         (Command::Interrupt(cpu, level), Reply::Done) => Asks::one(*cpu, level.number()),
-        (Command::Clock(_), Reply::Done) => Asks::one(stand.cpu, 13),
-        _ => Asks::none(),
+        (Command::Clock(_), Reply::Done) => Asks::one(stand.cpu, class::CLOCK),
+        (Command::Raise(_), _)
+        | (Command::Lower(_), _)
+        | (Command::Queue(_), _)
+        | (Command::Unqueue(_), _)
+        | (Command::SetImportance(_, _), _)
+        | (Command::SetTarget(_, _), _)
+        | (Command::SetTimer(_, _, _), _)
+        | (Command::CancelTimer(_), _)
+        | (Command::InsertApc(_), _)
+        | (Command::RemoveApc(_), _)
+        | (Command::EnterCrit, _)
+        | (Command::LeaveCrit, _)
+        | (Command::EnterGuard, _)
+        | (Command::LeaveGuard, _)
+        | (Command::StartWait(_, _), _)
+        | (Command::Delay(_, _, _), _)
+        | (Command::Release(_), _)
+        | (Command::Alert(_, _), _)
+        | (Command::TestAlert(_), _)
+        | (Command::Interrupt(_, _), _)
+        | (Command::Clock(_), _)
+        | (Command::ToUser, _)
+        | (Command::Yield, _)
+        | (Command::Note(_), _) => Asks::none(),
     }
 }
 
@@ -210,9 +222,15 @@ fn apc_asks<S: LaneAnswers>(states: &S, a: ApcNo) -> Asks
     ensures asks { result ≡ requests.apc_asks (S.script_of states.now) a (S.lanes states.now) }
     ensures named { All (AskFits (S.script_of states.now)) result }
 {
-    let kernel = is_kernel_kind(kind_of(states.script(), a));
-    let cpu = cpu_of(states.script(), owner_of(states.script(), a));
-    Asks::each_if(kernel, states.ends_by_apc(a), cpu, 1, 2)
+    let kernel = states.script().kind_of(a).is_kernel();
+    let cpu = states.script().cpu_of(states.script().owner_of(a));
+    Asks::each_if(
+        kernel,
+        states.ends_by_apc(a),
+        cpu,
+        class::APC,
+        class::DISPATCH,
+    )
 }
 
 /// What a release that ends a wait asks for.
@@ -220,7 +238,7 @@ fn release_asks<S: LaneAnswers>(states: &S, t: ThreadNo) -> Asks
     ensures asks { result ≡ requests.ask (routines.cpu_of (S.script_of states.now) t) 2 }
     ensures named { All (AskFits (S.script_of states.now)) result }
 {
-    Asks::one(cpu_of(states.script(), t), 2)
+    Asks::one(states.script().cpu_of(t), class::DISPATCH)
 }
 
 /// What an alert whose flag was clear asks for.
@@ -231,7 +249,7 @@ fn alert_asks<S: LaneAnswers>(states: &S, t: ThreadNo, mode: Mode) -> Asks
     ensures named { All (AskFits (S.script_of states.now)) result }
 {
     let ends = !states.is_gone(t) && states.ends_by_alert(t, mode);
-    Asks::one_if(ends, cpu_of(states.script(), t), 2)
+    Asks::one_if(ends, states.script().cpu_of(t), class::DISPATCH)
 }
 
 /// What the expiry of a delay asks for.
@@ -242,7 +260,7 @@ fn expiry_asks<S: LaneAnswers>(states: &S, t: ThreadNo, from: u64) -> Asks
     ensures named { All (AskFits (S.script_of states.now)) result }
 {
     let ends = states.ends_by_expiry(t, from);
-    Asks::one_if(ends, cpu_of(states.script(), t), 2)
+    Asks::one_if(ends, states.script().cpu_of(t), class::DISPATCH)
 }
 
 /// What the taking up of a thread asks for.
@@ -253,7 +271,7 @@ fn switch_asks<S: LaneAnswers>(states: &S, p: CpuNo, t: ThreadNo) -> Asks
     ensures asks { result ≡ requests.ask_if (has_kernel_apc (facts_at (S.lanes states.now) t).apcs) p 1 }
     ensures named { All (AskFits (S.script_of states.now)) result }
 {
-    Asks::one_if(states.has_kernel(t), p, 1)
+    Asks::one_if(states.has_kernel(t), p, class::APC)
 }
 
 /// What the end of a frame asks for.
@@ -264,11 +282,13 @@ fn end_asks<S: LaneAnswers>(states: &S, stand: &Stand) -> Asks
     ensures asks { result ≡ requests.end_asks stand.now stand.now.body (S.lanes states.now) }
     ensures named { All (AskFits (S.script_of states.now)) result }
 {
-    let given_up = came_to_0(stand.regions, stand.below);
+    let given_up = stand.below.came_to_0(&stand.regions);
     match stand.body {
-        Some(Body::Apc(_, ApcKind::Normal)) => Asks::one(stand.cpu, 1),
-        Some(Body::Base(_)) => { Asks::one_if(given_up || has_kernel(states, stand), stand.cpu, 1) }
-        _ => Asks::one_if(given_up, stand.cpu, 1),
+        Some(Body::Apc(_, ApcKind::Normal)) => Asks::one(stand.cpu, class::APC),
+        Some(Body::Base(_)) => {
+            Asks::one_if(given_up || has_kernel(states, stand), stand.cpu, class::APC)
+        }
+        _ => Asks::one_if(given_up, stand.cpu, class::APC),
     }
 }
 

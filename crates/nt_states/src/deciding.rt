@@ -2,6 +2,7 @@
 ghost use Rattle.std.specs.Prelude.{◌≡◌, IfErr, IfOk, IfSome, IsErrOf, IsSome, IsTrue, false, option_map, true, unwrap_or};
 ghost use Rattle.nt_event.specs.Acting.{IsCallable};
 ghost use Rattle.nt_event.specs.Commands.{is_reached};
+ghost use Rattle.nt_event.specs.Fitting.{what_fits};
 ghost use Rattle.nt_event.specs.Jobs as jobs;
 ghost use Rattle.nt_event.specs.Lanes.{queue_at};
 ghost use Rattle.nt_event.specs.Script.{command_fits, has_apc, has_cpu, has_dpc, has_thread};
@@ -14,13 +15,15 @@ ghost use Rattle.nt_event.specs.declared.scripts.Script.{Script};
 ghost use Rattle.nt_event.specs.declared.events.What.{What};
 ghost use Rattle.nt_floor.specs.Acts.{Found, IsRefused, StandFits};
 ghost use Rattle.nt_floor.specs.declared.floor.ActRefusal.{ActRefusal};
-ghost use Rattle.nt_states.specs.Given.{CanDecide, IsGiven, IsTaken, RunsOwn, TakesOwn, what_fits};
+ghost use Rattle.nt_states.specs.Given.{CanDecide, IsGiven, IsTaken, RunsOwn, TakesOwn};
 ghost use Rattle.nt_states.specs.Reads.{AreHeld, job_lanes, reply_lanes};
 
 use crate::answers::LaneAnswers;
-use crate::replying::{reply, wait_reply, yes_if};
-use crate::script::runner;
-use nt_event::{Begun, Command, CpuNo, DpcNo, Job, Part, Pick, Reply, Stand, ThreadNo, What};
+use crate::replying::{reply, wait_reply};
+use crate::running::runner;
+use nt_event::{
+    Begun, Command, CpuNo, DpcNo, Job, Part, Pick, Reply, Stand, ThreadNo, What, class,
+};
 use nt_floor::ActRefusal;
 
 /// A DPC of the part begins.
@@ -100,7 +103,7 @@ fn fire<S: LaneAnswers>(states: &S, stand: &Stand, dpc: DpcNo) -> What
 {
     What::Fire {
         dpc,
-        reply: yes_if(!states.is_queued(dpc)),
+        reply: Reply::yes_if(!states.is_queued(dpc)),
     }
 }
 
@@ -143,7 +146,9 @@ fn drain<S: LaneAnswers>(states: &S, stand: &Stand) -> What
     }
     match begin_first(states, Part::Ordinary, stand.cpu) {
         Some(what) => what,
-        None => What::Clean { class: 2 },
+        None => What::Clean {
+            class: class::DISPATCH,
+        },
     }
 }
 
@@ -158,7 +163,7 @@ fn apcs<S: LaneAnswers>(states: &S, stand: &Stand) -> What
 {
     match states.deliverable(runner(states, stand), stand.regions, stand.level) {
         Some(pick) => begin_apc(&pick),
-        None => What::Clean { class: 1 },
+        None => What::Clean { class: class::APC },
     }
 }
 
@@ -171,7 +176,9 @@ fn threaded<S: LaneAnswers>(states: &S, stand: &Stand) -> What
 {
     match begin_first(states, Part::Threaded, stand.cpu) {
         Some(what) => what,
-        None => What::Clean { class: 0 },
+        None => What::Clean {
+            class: class::THREADED,
+        },
     }
 }
 

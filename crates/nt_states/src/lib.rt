@@ -18,7 +18,7 @@ mod asking;
 mod deciding;
 mod making;
 mod replying;
-mod script;
+mod running;
 mod touching;
 
 pub use answers::LaneAnswers;

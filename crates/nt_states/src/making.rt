@@ -15,13 +15,6 @@ ghost use Rattle.nt_states.specs.Reads.{AreHeld};
 use crate::answers::LaneAnswers;
 use nt_event::{Begun, Command, CpuNo, Event, Level, Reply, Stand, ThreadNo, What};
 
-/// Whether the thread waits.
-fn is_blocked(reply: &Reply) -> bool
-    ensures { result ≡ blocks reply.now }
-{
-    matches!(reply, Reply::Blocked)
-}
-
 /// The level after the call of a command.
 fn call_level(command: &Command, reply: &Reply, old: Level) -> Level
     ensures { (f : ℕ) (st : Stand) (l : Lanes) → st.level ≡ old → result ≡ acting.acted_level st l (What.Call f command.now reply.now) }
@@ -37,7 +30,7 @@ fn call_level(command: &Command, reply: &Reply, old: Level) -> Level
 fn rewait_level(reply: &Reply, old: Level) -> Level
     ensures { result ≡ (if blocks reply.now then 0 else old) }
 {
-    if is_blocked(reply) {
+    if reply.is_blocked() {
         Level::PASSIVE
     } else {
         old

@@ -7,22 +7,14 @@ ghost use Rattle.nt_event.specs.Routines.{cpu_of};
 ghost use Rattle.nt_event.specs.Script.{command_fits, has_thread};
 ghost use Rattle.nt_event.specs.Threads.{is_alerted, is_gone};
 ghost use Rattle.nt_event.specs.Waits.{wait_reply};
-ghost use Rattle.nt_event.specs.Replies.{yes_if as yes_of};
 ghost use Rattle.nt_event.specs.declared.jobs.Lane.TheVariants.{Threads as ThreadsLane, Timers as TimersLane};
 ghost use Rattle.nt_floor.specs.Acts.{StandFits};
 ghost use Rattle.nt_states.specs.Given.{RunsOwn};
 ghost use Rattle.nt_states.specs.Reads.{AreHeld, reply_lanes};
 
 use crate::answers::LaneAnswers;
-use crate::script::runner;
+use crate::running::runner;
 use nt_event::{Command, Mode, Reply, Stand, ThreadNo};
-
-/// Yes, where the test holds.
-pub(crate) fn yes_if(test: bool) -> Reply
-    ensures { result ≡ yes_of test }
-{
-    if test { Reply::Yes } else { Reply::No }
-}
 
 /// What a command that is not refused replies.
 pub(crate) fn reply<S: LaneAnswers>(states: &S, stand: &Stand, command: &Command) -> Reply
@@ -34,12 +26,12 @@ pub(crate) fn reply<S: LaneAnswers>(states: &S, stand: &Stand, command: &Command
     ensures { result ≡ reply_to (S.script_of states.now) stand.now (S.lanes states.now) command.now }
 {
     match command {
-        Command::Queue(d) => yes_if(!states.is_queued(*d)),
-        Command::Unqueue(d) => yes_if(states.is_queued(*d)),
-        Command::SetTimer(t, _, _) => yes_if(states.is_set(*t)),
-        Command::CancelTimer(t) => yes_if(states.is_set(*t)),
-        Command::InsertApc(a) => yes_if(states.takes(*a)),
-        Command::RemoveApc(a) => yes_if(states.is_inserted(*a)),
+        Command::Queue(d) => Reply::yes_if(!states.is_queued(*d)),
+        Command::Unqueue(d) => Reply::yes_if(states.is_queued(*d)),
+        Command::SetTimer(t, _, _) => Reply::yes_if(states.is_set(*t)),
+        Command::CancelTimer(t) => Reply::yes_if(states.is_set(*t)),
+        Command::InsertApc(a) => Reply::yes_if(states.takes(*a)),
+        Command::RemoveApc(a) => Reply::yes_if(states.is_inserted(*a)),
         Command::StartWait(mode, alertable) => wait_reply(states, stand, *mode, *alertable, None),
         Command::Delay(mode, alertable, units) => {
             wait_reply(
@@ -50,9 +42,9 @@ pub(crate) fn reply<S: LaneAnswers>(states: &S, stand: &Stand, command: &Command
                 Some(is_over(states, *units)),
             )
         }
-        Command::Release(t) => yes_if(states.ends_by_release(*t)),
-        Command::Alert(t, mode) => yes_if(was_alerted(states, *t, *mode)),
-        Command::TestAlert(mode) => yes_if(is_alerted(states, stand, *mode)),
+        Command::Release(t) => Reply::yes_if(states.ends_by_release(*t)),
+        Command::Alert(t, mode) => Reply::yes_if(was_alerted(states, *t, *mode)),
+        Command::TestAlert(mode) => Reply::yes_if(is_alerted(states, stand, *mode)),
         Command::Raise(_)
         | Command::Lower(_)
         | Command::SetImportance(_, _)

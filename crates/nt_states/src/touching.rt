@@ -3,7 +3,7 @@ ghost use Rattle.std.specs.Prelude.{◌≡◌, ◌∷◌, All, IsTrue, [], if◌
 ghost use Rattle.nt_event.specs.Lanes as lanes;
 ghost use Rattle.nt_event.specs.Routines as routines;
 ghost use Rattle.nt_event.specs.Script.{command_fits, has_apc, has_cpu, has_dpc};
-ghost use Rattle.nt_event.specs.Replies.{is_refused as refuses, is_yes as says_yes};
+ghost use Rattle.nt_event.specs.Replies.{is_refused as refuses};
 ghost use Rattle.nt_event.specs.declared.events.What.TheVariants.{Call};
 ghost use Rattle.nt_event.specs.declared.jobs.Lane.{Lane};
 ghost use Rattle.nt_event.specs.declared.jobs.Lane.TheVariants.{Object as ObjectLane};
@@ -13,10 +13,9 @@ ghost use Rattle.nt_states.specs.LaneLists.{LaneFits};
 ghost use Rattle.nt_states.specs.Reads.{AreHeld, found_lanes};
 
 use crate::answers::LaneAnswers;
-use crate::script::{cpu_of, owner_of};
 use nt_event::{
     ApcKind, ApcNo, Begun, Body, Command, CpuNo, DpcNo, Lane, Reply, Stand, ThreadNo, TimerKey,
-    What,
+    What, class,
 };
 use std::marker::Model;
 
@@ -99,20 +98,6 @@ impl Touched {
     }
 }
 
-/// Whether the command is refused.
-fn is_refused(reply: &Reply) -> bool
-    ensures { result ≡ refuses reply.now }
-{
-    matches!(reply, Reply::Refused(_))
-}
-
-/// Whether the reply is yes.
-fn is_yes(reply: &Reply) -> bool
-    ensures { result ≡ says_yes reply.now }
-{
-    matches!(reply, Reply::Yes)
-}
-
 /// The lanes of the begin of a routine.
 fn begin_lanes(stand: &Stand, begun: &Begun) -> Touched
     ensures { result ≡ lanes.begin_lanes stand.now begun.now }
@@ -131,14 +116,14 @@ fn begin_lanes(stand: &Stand, begun: &Begun) -> Touched
 }
 
 /// The lanes of the end of serving a class.
-fn clean_lanes(stand: &Stand, class: u8) -> Touched
-    ensures { result ≡ lanes.clean_lanes stand.now class }
+fn clean_lanes(stand: &Stand, served: u8) -> Touched
+    ensures { result ≡ lanes.clean_lanes stand.now served }
 {
-    if class == 1 {
+    if served == class::APC {
         Touched::one(Lane::Threads(stand.cpu))
     } else {
         Touched::two_if(
-            stand.sweep && class == 2,
+            stand.sweep && served == class::DISPATCH,
             Lane::Queue(stand.cpu),
             Lane::Timers,
         )
@@ -203,7 +188,7 @@ fn call_lanes<S: LaneAnswers>(
     ensures lanes { result ≡ (if refuses reply.now then [] else lanes.command_lanes (S.script_of states.now) stand.now.cpu command.now reply.now (S.lanes states.now)) }
     ensures named { All (LaneFits (S.script_of states.now)) result }
 {
-    if is_refused(reply) {
+    if reply.is_refused() {
         Touched::none()
     } else {
         command_lanes(states, stand.cpu, command, reply)
@@ -252,7 +237,7 @@ fn insert_lanes<S: LaneAnswers>(states: &S, p: CpuNo, d: DpcNo, reply: &Reply) -
     ensures named { All (LaneFits (S.script_of states.now)) result }
 {
     let queue = states.queue_for(d, p);
-    Touched::two_if(is_yes(reply), Lane::Object(d), Lane::Queue(queue))
+    Touched::two_if(reply.is_yes(), Lane::Object(d), Lane::Queue(queue))
 }
 
 /// The lanes of a removal: the object, and the queue where it stood.
@@ -273,7 +258,7 @@ fn thread_lanes<S: LaneAnswers>(states: &S, t: ThreadNo) -> Touched
     ensures lanes { result ≡ Lane.Threads (routines.cpu_of (S.script_of states.now) t) ∷ [] }
     ensures named { All (LaneFits (S.script_of states.now)) result }
 {
-    Touched::one(Lane::Threads(cpu_of(states.script(), t)))
+    Touched::one(Lane::Threads(states.script().cpu_of(t)))
 }
 
 /// The lane of the threads among which an APC object's is.
@@ -282,7 +267,7 @@ fn apc_lanes<S: LaneAnswers>(states: &S, a: ApcNo) -> Touched
     ensures lanes { result ≡ Lane.Threads (routines.cpu_of (S.script_of states.now) (routines.owner_of (S.script_of states.now) a)) ∷ [] }
     ensures named { All (LaneFits (S.script_of states.now)) result }
 {
-    thread_lanes(states, owner_of(states.script(), a))
+    thread_lanes(states, states.script().owner_of(a))
 }
 
 /// The lanes of an expiry.
@@ -293,7 +278,7 @@ fn expire_lanes<S: LaneAnswers>(states: &S, key: &TimerKey) -> Touched
     match key {
         TimerKey::Timer(_) => Touched::one(Lane::Timers),
         TimerKey::Delay(t) => {
-            Touched::two(Lane::Threads(cpu_of(states.script(), *t)), Lane::Timers)
+            Touched::two(Lane::Threads(states.script().cpu_of(*t)), Lane::Timers)
         }
     }
 }

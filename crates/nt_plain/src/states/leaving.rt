@@ -2,7 +2,7 @@
 ghost use Rattle.std.specs.Prelude.{◌≡◌, ◌+◌, ◌-◌, ◌≤◌, ◌^◌};
 ghost use Rattle.nt_event.specs.Acting.{acted_event};
 ghost use Rattle.nt_event.specs.Lanes.{lanes_after};
-ghost use Rattle.nt_plain.specs.Given.{IsGiven};
+ghost use Rattle.nt_plain.specs.Given.{MayMake};
 
 use super::{States, timing};
 use nt_event::{Event, Stand};
@@ -10,7 +10,7 @@ use nt_event::{Event, Stand};
 impl<'s> States<'s> {
     /// What the event of this number leaves, which a job gave a processor that stood so.
     pub(crate) fn leave(&mut self, n: u64, stand: &Stand, event: &Event)
-        requires given { IsGiven self.old stand.now event.now.what }
+        requires given { MayMake self.old stand.now event.now.what }
         requires event { event.now ≡ acted_event stand.now self.old.lanes event.now.what }
         requires time { self.old.lanes.timers.now + 2 ^ 32 ≤ 2 ^ 50 }
         ensures lanes { self.new ≡ record self.old { lanes = lanes_after self.old.script n stand.now event.now self.old.lanes } }

@@ -1,5 +1,5 @@
 use Rattle.std.proofs.Common.{drop, length, ◌≡◌}
-use Rattle.nt_plain.specs.LaneLists.{as_asks}
+use Rattle.nt_states.specs.LaneLists.{as_asks}
 use Rattle.nt_plain.specs.Made.{marked_all}
 use Rattle.nt_plain.proofs.marks.Marks.mark_all.Given as goal
 

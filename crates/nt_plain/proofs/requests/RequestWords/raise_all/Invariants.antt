@@ -1,5 +1,5 @@
 use Rattle.std.proofs.Common.{drop, length, ◌≡◌}
-use Rattle.nt_plain.specs.LaneLists.{as_asks}
+use Rattle.nt_states.specs.LaneLists.{as_asks}
 use Rattle.nt_plain.specs.Made.{raised_words}
 use Rattle.nt_plain.proofs.requests.RequestWords.raise_all.Given as goal
 

@@ -1,4 +1,4 @@
-use Rattle.nt_plain.specs.LaneLists.{as_asks}
+use Rattle.nt_states.specs.LaneLists.{as_asks}
 use Rattle.nt_plain.proofs.Telling.{tell_kept, tell_next}
 use Rattle.nt_plain.proofs.told.ToldValues.tell.Goals as goal
 

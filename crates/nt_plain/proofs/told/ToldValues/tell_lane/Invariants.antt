@@ -1,5 +1,5 @@
 use Rattle.std.proofs.Common.{drop, length, ◌≡◌}
-use Rattle.nt_plain.specs.LaneLists.{as_asks}
+use Rattle.nt_states.specs.LaneLists.{as_asks}
 use Rattle.nt_plain.specs.Made.{tell_lane}
 use Rattle.nt_plain.proofs.told.ToldValues.tell_lane.Given as goal
 
