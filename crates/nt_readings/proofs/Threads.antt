@@ -459,7 +459,7 @@ part_end : (s : Script) (t : ThreadNo) (e : Event) (past : List Event) (g : ℕ)
     EachNamed (IsOpenOn s t past) fs → EachNamed (IsOpenOn s t (e ∷ past)) (end_on_thread g fs)
 part_end s t e past g [] k f d h = tt
 part_end s t e past g (x ∷ fs) k f d h =
-    subst (λ (c : Bool). EachNamed (IsOpenOn s t (e ∷ past)) (if c then (if is_base_body x.body then (left x ∷ fs) else fs) else (x ∷ fs)))
+    subst (λ (c : Bool). EachNamed (IsOpenOn s t (e ∷ past)) (if c then (if is_base_body x.body then (ended_base x ∷ fs) else fs) else (x ∷ fs)))
     (sym (eq-eqb x.name g name)) (go (is_base_body x.body) refl)
   where
     name : x.name ≡ g
@@ -478,7 +478,7 @@ part_end s t e past g (x ∷ fs) k f d h =
         (λ m b q. on_lift s t e past m b (ap (ends_thread t) k) (λ i. ap (ends_frame m) k ∙ differs m (below m q.1) (g == m) refl) q.0)
         (each_below (IsOpenOn s t past) x.name fs f.1 h.1)
 
-    go : (c : Bool) → is_base_body x.body ≡ c → EachNamed (IsOpenOn s t (e ∷ past)) (if c then (left x ∷ fs) else fs)
+    go : (c : Bool) → is_base_body x.body ≡ c → EachNamed (IsOpenOn s t (e ∷ past)) (if c then (ended_base x ∷ fs) else fs)
     go false q = rest
     go true q = (
       on_lift s t e past x.name x.body (ap (ends_thread t) k)
