@@ -89,8 +89,7 @@ NoThreadIsLeft = (s : Script) (limit : ℕ) (p : CpuNo) (t : ThreadNo) (past : L
     has_thread s t ≡ true → (cpu_of s t).0 ≡ p.0 → is_stopped (facts s t past).doing ≡ true
 
 -- in a run, at the close as at any time, a thread that is blocked in a wait has no kernel APC that is deliverable at
--- the level and in
--- the regions of the wait, and where it is an alertable wait of user mode no user APC
+-- the level and in the regions of the wait, and where it is an alertable wait of user mode no user APC
 abbrev pub NothingWaitsBehindABlock : Type 0
 NothingWaitsBehindABlock = (s : Script) (limit : ℕ) (t : ThreadNo) (w : Waiting) (past : List Event) →
     IsRun s limit past → has_thread s t ≡ true → (facts s t past).doing ≡ IsBlocked w → IsQuiet w (facts s t past).apcs

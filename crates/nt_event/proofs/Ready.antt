@@ -1,52 +1,20 @@
 -- The next ready thread of a processor may be taken up.
-use Rattle.std.proofs.Common.{ap, arith, inl, inr, subst, sym, ◌∙◌}
-use Rattle.std.proofs.Math.Bool.{and-true}
-use Rattle.std.proofs.lemmas.Bool.{eq-eqb, lt-ltb, ltb-false, ltb-true}
+use Rattle.std.proofs.Common.{ap, arith}
+use Rattle.std.proofs.lemmas.Bool.{lt-ltb}
 use Rattle.std.proofs.lemmas.Option.{slice_get_within}
-use Rattle.std.specs.Option.{option_map_or, option_or}
-use Rattle.std.specs.Prelude.{Bool, List, None, Ok, Option, Some, [], cond, false, find, if◌then◌else◌, is_none, is_some, length, nat_lt, not, option_and_then, option_map, refl, slice_get, suc, true, zero, ℕ, ◌&&◌, ◌+◌, ◌-◌, ◌<◌, ◌==◌, ◌||◌, ◌∷◌, ◌≡◌, ◌≤◌, ◌⊎◌}
-use Rattle.nt_event.specs.declared.commands.ApcKind.TheVariants.{User as UserApc}
-use Rattle.nt_event.specs.declared.commands.Command.{Command}
-use Rattle.nt_event.specs.declared.commands.Command.TheVariants.{ToUser}
-use Rattle.nt_event.specs.declared.commands.Refusal.{Refusal}
-use Rattle.nt_event.specs.declared.commands.Reply.TheVariants.{Done}
-use Rattle.nt_event.specs.declared.events.Begun.TheVariants.{Int}
-use Rattle.nt_event.specs.declared.events.Event.{Event}
-use Rattle.nt_event.specs.declared.events.Rises.{Rises}
-use Rattle.nt_event.specs.declared.events.ScheduleKind.{ScheduleKind}
-use Rattle.nt_event.specs.declared.events.ScheduleKind.TheVariants.{BadChoice, BadLook, NothingToDo}
-use Rattle.nt_event.specs.declared.events.Turn.{Turn}
-use Rattle.nt_event.specs.declared.events.Turn.TheVariants.{Look as LookTurn, Next, Switch as SwitchTurn}
-use Rattle.nt_event.specs.declared.events.What.{What}
-use Rattle.nt_event.specs.declared.events.What.TheVariants.{Begin, Call, Look, Normal, Rest, Rewait}
-use Rattle.nt_event.specs.declared.frames.Again.{Again}
-use Rattle.nt_event.specs.declared.frames.Body.{Body}
-use Rattle.nt_event.specs.declared.frames.Body.TheVariants.{Apc as OnApc, Base as OnBase}
-use Rattle.nt_event.specs.declared.frames.Frame.{Frame}
-use Rattle.nt_event.specs.declared.inserts.Part.TheVariants.{Ordinary as OrdinaryPart}
-use Rattle.nt_event.specs.declared.jobs.Job.TheVariants.{Apcs as ApcsJob, Call as CallJob, Drain as DrainJob, Fire as FireJob, Rewait as RewaitJob, Rundown as RundownJob, Threaded as ThreadedJob}
-use Rattle.nt_event.specs.declared.jobs.Stand.{Stand}
-use Rattle.nt_event.specs.declared.jobs.Task.{Task}
-use Rattle.nt_event.specs.declared.jobs.Task.TheVariants.{Alone, Shared}
+use Rattle.std.specs.Option.{option_map_or}
+use Rattle.std.specs.Prelude.{Bool, List, Option, Some, [], cond, false, find, if◌then◌else◌, length, nat_lt, refl, slice_get, suc, true, ℕ, ◌&&◌, ◌+◌, ◌==◌, ◌∷◌, ◌≡◌}
 use Rattle.nt_event.specs.declared.numbers.CpuNo.{CpuNo}
 use Rattle.nt_event.specs.declared.numbers.ThreadNo.{ThreadNo}
 use Rattle.nt_event.specs.declared.scripts.Script.{Script}
 use Rattle.nt_event.specs.declared.scripts.ThreadDecl.{ThreadDecl}
-use Rattle.nt_event.specs.Commands.{needs_lane}
-use Rattle.nt_event.specs.Frames.{Frames, frames_in, frames_of, innermost, running, thread_part}
-use Rattle.nt_event.specs.Jobs.{begin_first, call_task, command_task, end_task, fire_task, frame_task, has_normal, idle_task, interrupt_task, is_after, may_apcs, may_drain, may_interrupt, may_switch, may_take, may_threaded, must, must_task, next_ready, next_what, normal_task, ready, ready_from, rests, rewait_reply, rewait_task, rundown_task, switch_event, task, task_event}
-use Rattle.nt_event.specs.Classes.{interrupt_classes}
-use Rattle.nt_event.specs.Lanes.{Lanes, facts_at, lanes_at, queue_at}
-use Rattle.nt_event.specs.Own.{Own, own_of, rested, stand_in, took}
-use Rattle.nt_event.specs.Regions.{stand_of}
-use Rattle.nt_event.specs.Requests.{asked, asks}
-use Rattle.nt_event.specs.Robin.{first_cpu, go_on_turn, is_behind, look_value, look_values, robin, robin_at, robin_from, robin_of, switch_or_next}
-use Rattle.nt_event.specs.Routines.{cpu_of, next_command}
-use Rattle.nt_event.specs.Step.{IsLegal, IsRun, cpu_at, event_at, event_or, good_rises, is_cut, is_good_look, step, turn_of, uncut_step, was_asked}
+use Rattle.nt_event.specs.Jobs.{is_after, may_take, next_ready, ready, ready_from}
+use Rattle.nt_event.specs.Lanes.{Lanes, facts_at}
+use Rattle.nt_event.specs.Routines.{cpu_of}
 use Rattle.nt_event.specs.Threads.{is_ready}
 use Rattle.nt_event.specs.Numbers.{cpu, thread}
-use Rattle.nt_event.specs.Lists.{head_of, is_null, table_from, value_at, when}
-use Rattle.nt_event.proofs.Options.{Holds, both, holds_at, holds_map, holds_or, holds_when, not_false, not_true}
+use Rattle.nt_event.specs.Lists.{head_of}
+use Rattle.nt_event.proofs.Options.{Holds, both, holds_or}
 
 abbrev AllReady : Script → CpuNo → Lanes → List ThreadNo → Type 0
 AllReady s p l [] = Unit {0}

@@ -1,6 +1,5 @@
 -- Jobs under lanes: the whole event that a job makes, by where its processor stands and the states of the lanes alone,
--- and
--- what holds of a processor and a job in a run.
+-- and what holds of a processor and a job in a run.
 use Rattle.std.specs.Prelude.{Bool, IfSome, IsSome, IsTrue, Some, false, if◌then◌else◌, length, true, ℕ, ◌<◌, ◌≡◌, ◌≤◌, ◌⊎◌}
 use Rattle.nt_event.specs.declared.commands.Command.{Command}
 use Rattle.nt_event.specs.declared.commands.Command.TheVariants as cmd
@@ -86,7 +85,26 @@ IsCallable st (cmd.StartWait m a) = InThread 1 st
 IsCallable st (cmd.Delay m a units) = InThread 1 st
 IsCallable st (cmd.TestAlert m) = InThread 2 st
 IsCallable st cmd.Yield = InThread 1 st
-IsCallable st c = Unit {0}
+IsCallable st (cmd.Raise level) = Unit {0}
+IsCallable st (cmd.Lower level) = Unit {0}
+IsCallable st (cmd.Queue d) = Unit {0}
+IsCallable st (cmd.Unqueue d) = Unit {0}
+IsCallable st (cmd.SetImportance d i) = Unit {0}
+IsCallable st (cmd.SetTarget d q) = Unit {0}
+IsCallable st (cmd.SetTimer t due period) = Unit {0}
+IsCallable st (cmd.CancelTimer t) = Unit {0}
+IsCallable st (cmd.InsertApc a) = Unit {0}
+IsCallable st (cmd.RemoveApc a) = Unit {0}
+IsCallable st cmd.EnterCrit = Unit {0}
+IsCallable st cmd.EnterGuard = Unit {0}
+IsCallable st cmd.LeaveCrit = Unit {0}
+IsCallable st cmd.LeaveGuard = Unit {0}
+IsCallable st (cmd.Release t) = Unit {0}
+IsCallable st (cmd.Alert t m) = Unit {0}
+IsCallable st (cmd.Interrupt q level) = Unit {0}
+IsCallable st (cmd.Clock units) = Unit {0}
+IsCallable st cmd.ToUser = Unit {0}
+IsCallable st (cmd.Note n) = Unit {0}
 
 abbrev pub IsAllowed : Lanes → Stand → Job → Type 0
 IsAllowed l st (jobs.Call c) = IsTrue (needs_lane c) × IsCallable st c
@@ -96,7 +114,12 @@ IsAllowed l st jobs.ToUser = InThread 0 st
 IsAllowed l st jobs.UserEnd = IsSome st.thread
 IsAllowed l st jobs.Leave = IsSome st.thread
 IsAllowed l st jobs.Rundown = EndsThread l st
-IsAllowed l st job = Unit {0}
+IsAllowed l st (jobs.Fire d) = Unit {0}
+IsAllowed l st jobs.Drain = Unit {0}
+IsAllowed l st jobs.Threaded = Unit {0}
+IsAllowed l st jobs.Idle = Unit {0}
+IsAllowed l st (jobs.Pick last) = Unit {0}
+IsAllowed l st (jobs.Switch t) = Unit {0}
 
 -- the choice of a thread
 abbrev pub is_choice : Job → Bool

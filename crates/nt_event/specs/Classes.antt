@@ -1,6 +1,5 @@
 -- The classes of requests: what a processor may be asked to do. The first three are software interrupts, the others are
--- the
--- levels of hardware interrupts (Windows Internals, "Interrupt request levels"; the numbers of the first three:
+-- the levels of hardware interrupts (Windows Internals, "Interrupt request levels"; the numbers of the first three:
 -- profile).
 use Rattle.std.specs.List.{list_any}
 use Rattle.std.specs.Prelude.{Bool, List, [], nat_le, ℕ, ◌&&◌, ◌==◌, ◌||◌, ◌∷◌}

@@ -1,6 +1,5 @@
 -- Eligible requests: what may be delivered on a processor, in the words of the rules and not in the order of its next
 -- event.
-use Rattle.std.specs.List.{list_any}
 use Rattle.std.specs.Option.{option_map_or}
 use Rattle.std.specs.Prelude.{Bool, List, None, Option, Some, false, is_none, nat_lt, not, ℕ, ◌&&◌, ◌==◌}
 use Rattle.nt_event.specs.declared.commands.ApcKind.{ApcKind}
@@ -26,7 +25,7 @@ use Rattle.nt_event.specs.declared.scripts.Script.{Script}
 use Rattle.nt_event.specs.Apcs.{deliverable, first_user, has_kernel, is_of_apc}
 use Rattle.nt_event.specs.Commands.{refusal}
 use Rattle.nt_event.specs.Frames.{innermost, is_base_body, is_on_thread, thread_part}
-use Rattle.nt_event.specs.Classes.{interrupt_classes, is_interrupt_level}
+use Rattle.nt_event.specs.Classes.{is_interrupt_level}
 use Rattle.nt_event.specs.Jobs.{is_due, level_at}
 use Rattle.nt_event.specs.Lanes.{Lanes, facts_of, lanes_at, queue_at}
 use Rattle.nt_event.specs.Own.{Own, own_of}

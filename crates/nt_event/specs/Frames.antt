@@ -1,6 +1,5 @@
 -- Frames: the routines that have begun on a processor and its threads and have not ended, and what each event leaves of
--- them.
--- A frame is named by the number of the event that began it.
+-- them. A frame is named by the number of the event that began it.
 use Rattle.std.specs.Option.{option_map_or, option_or}
 use Rattle.std.specs.Prelude.{Bool, List, None, Option, Some, [], false, get_or, if◌then◌else◌, length, not, true, ℕ, ◌&&◌, ◌+◌, ◌-◌, ◌==◌, ◌∷◌}
 use Rattle.nt_event.specs.declared.commands.ApcKind.TheVariants.{Normal as NormalApc, User as UserApc}
@@ -56,12 +55,22 @@ is_base_body (on.Rundown a) = false
 
 abbrev pub is_user_apc_body : Body → Bool
 is_user_apc_body (on.Apc a UserApc) = true
-is_user_apc_body _ = false
+is_user_apc_body (on.Int level) = false
+is_user_apc_body (on.Dpc d) = false
+is_user_apc_body (on.Threaded d) = false
+is_user_apc_body (on.Apc a kind) = false
+is_user_apc_body (on.Base t) = false
+is_user_apc_body (on.Rundown a) = false
 
 -- a normal kernel APC
 abbrev pub is_normal_apc_body : Body → Bool
 is_normal_apc_body (on.Apc a NormalApc) = true
-is_normal_apc_body _ = false
+is_normal_apc_body (on.Int level) = false
+is_normal_apc_body (on.Dpc d) = false
+is_normal_apc_body (on.Threaded d) = false
+is_normal_apc_body (on.Apc a kind) = false
+is_normal_apc_body (on.Base t) = false
+is_normal_apc_body (on.Rundown a) = false
 
 -- the frame's base level in its present phase
 abbrev pub base_of : Frame → ℕ

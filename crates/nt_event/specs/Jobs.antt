@@ -115,7 +115,11 @@ command_task x f (Some c) =
 abbrev pub has_normal : Body → Bool
 has_normal (on.Apc a SpecialApc) = false
 has_normal (on.Apc a kind) = true
-has_normal _ = false
+has_normal (on.Int level) = false
+has_normal (on.Dpc d) = false
+has_normal (on.Threaded d) = false
+has_normal (on.Base t) = false
+has_normal (on.Rundown a) = false
 
 abbrev pub normal_task : Frame → Option Task
 normal_task f = when (f.kernel_phase && has_normal f.body) (Some (Alone (what.Normal f.name)))
@@ -124,7 +128,11 @@ normal_task f = when (f.kernel_phase && has_normal f.body) (Some (Alone (what.No
 abbrev pub end_task : ℕ → Body → Task
 end_task n (on.Base t) = Shared jobs.Leave
 end_task n (on.Apc a UserApc) = Shared jobs.UserEnd
-end_task n b = Alone (what.End n)
+end_task n (on.Int level) = Alone (what.End n)
+end_task n (on.Dpc d) = Alone (what.End n)
+end_task n (on.Threaded d) = Alone (what.End n)
+end_task n (on.Apc a kind) = Alone (what.End n)
+end_task n (on.Rundown a) = Alone (what.End n)
 
 -- cases 6 to 10, of the innermost frame
 abbrev pub frame_task : Script → CpuNo → Own → Frame → Option Task

@@ -151,7 +151,12 @@ expire_lanes s (keys.Delay t) = ThreadsLane (cpu_of s t) ∷ TimersLane ∷ []
 abbrev pub end_lanes : CpuNo → Option Body → List Lane
 end_lanes p (Some (on.Base t)) = ThreadsLane p ∷ []
 end_lanes p (Some (on.Apc a UserApc)) = ThreadsLane p ∷ []
-end_lanes p _ = []
+end_lanes p (Some (on.Int level)) = []
+end_lanes p (Some (on.Dpc d)) = []
+end_lanes p (Some (on.Threaded d)) = []
+end_lanes p (Some (on.Apc a kind)) = []
+end_lanes p (Some (on.Rundown a)) = []
+end_lanes p None = []
 
 -- the lanes of an event of a processor that stands so
 abbrev pub what_lanes : Script → Stand → What → Lanes → List Lane

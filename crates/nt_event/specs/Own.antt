@@ -84,8 +84,7 @@ fire s p [] = None
 fire s p (e ∷ past) = if is_of e p then fire_after s e.what (fire s p past) else fire s p past
 
 -- what a processor keeps: how many events it made, its frames, what it has seen and served of each class, whether its
--- last
--- event is Rest, the thread that it took last, the DPC that it has to fire, whether it owes a sweep of the timers
+-- last event is Rest, the thread that it took last, the DPC that it has to fire, whether it owes a sweep of the timers
 pub record Own : Type 0 where
   pub made : ℕ
   pub frames : Frames
@@ -110,8 +109,7 @@ own_of s p past =
     }
 
 -- what an event of the processor with this number and due time leaves, where it asks for these classes of the processor
--- and
--- touches lanes that tell these values
+-- and touches lanes that tell these values
 abbrev pub own_after_event : Script → ℕ → Option ℕ → Event → (ℕ → Bool) → (ℕ → ℕ) → Own → Own
 own_after_event s n due e asked told x =
     record {

@@ -59,8 +59,7 @@ some_came_to_0 before now = came_to_0 before.crit now.crit || came_to_0 before.g
 -- ---- owed sweeps
 
 -- profile: a processor owes a sweep of the timers from the beginning of a clock interrupt on it, and from its own set
--- of a
--- timer that is due already, until its next Clean of dispatch
+-- of a timer that is due already, until its next Clean of dispatch
 abbrev pub sweep_after : What → Bool → Bool
 sweep_after (what.Begin (begun.Int level) from) old = (level == clock_class) || old
 sweep_after (what.Call f (cmd.SetTimer t due period) y) old = (is_answer y && (due == 0)) || old

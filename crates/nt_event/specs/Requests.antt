@@ -1,6 +1,6 @@
 -- Requests: which values an event asks for, and what a processor has noticed and served of them.
 use Rattle.std.specs.List.{list_any}
-use Rattle.std.specs.Prelude.{Bool, List, Option, Some, [], false, if◌then◌else◌, length, max, nat_lt, not, true, ℕ, ◌&&◌, ◌++◌, ◌+◌, ◌==◌, ◌||◌, ◌∷◌}
+use Rattle.std.specs.Prelude.{Bool, List, None, Option, Some, [], false, if◌then◌else◌, length, max, nat_lt, not, true, ℕ, ◌&&◌, ◌++◌, ◌+◌, ◌==◌, ◌||◌, ◌∷◌}
 use Rattle.nt_event.specs.declared.commands.ApcKind.TheVariants.{Normal as NormalApc}
 use Rattle.nt_event.specs.declared.commands.Command.{Command}
 use Rattle.nt_event.specs.declared.commands.Command.TheVariants as cmd
@@ -46,8 +46,7 @@ ask_if true p c = ask p c
 ask_if false p c = []
 
 -- an insert of a threaded DPC always asks its queue's processor for that class, one of an ordinary DPC for dispatch by
--- the
--- table of importance, depth after the insert and idle target (profile)
+-- the table of importance, depth after the insert and idle target (profile)
 abbrev pub dpc_asks : Script → Part → ObjectState → CpuNo → CpuNo → QueueState → List Ask
 dpc_asks s ThreadedPart o by q x = ask q threaded_class
 dpc_asks s OrdinaryPart o by q x =
@@ -106,7 +105,12 @@ abbrev pub end_asks : Stand → Option Body → Lanes → List Ask
 end_asks st (Some (on.Apc a NormalApc)) l = ask st.cpu apc_class
 end_asks st (Some (on.Base t)) l =
     ask_if (some_came_to_0 st.regions st.below || has_kernel (facts_of l st.thread).apcs) st.cpu apc_class
-end_asks st b l = ask_if (some_came_to_0 st.regions st.below) st.cpu apc_class
+end_asks st (Some (on.Int level)) l = ask_if (some_came_to_0 st.regions st.below) st.cpu apc_class
+end_asks st (Some (on.Dpc d)) l = ask_if (some_came_to_0 st.regions st.below) st.cpu apc_class
+end_asks st (Some (on.Threaded d)) l = ask_if (some_came_to_0 st.regions st.below) st.cpu apc_class
+end_asks st (Some (on.Apc a kind)) l = ask_if (some_came_to_0 st.regions st.below) st.cpu apc_class
+end_asks st (Some (on.Rundown a)) l = ask_if (some_came_to_0 st.regions st.below) st.cpu apc_class
+end_asks st None l = ask_if (some_came_to_0 st.regions st.below) st.cpu apc_class
 
 -- what an event of a processor that stands so asks for, by the states before it
 abbrev pub what_asks : Script → Stand → What → Lanes → List Ask

@@ -12,8 +12,7 @@ use Rattle.nt_event.specs.Routines.{is_kernel_kind}
 use Rattle.nt_event.specs.Replies.{is_user}
 
 -- what the thread is doing, its alerted flags, the user-pending mark, the released mark, whether its base routine has
--- ended,
--- and its APCs
+-- ended, and its APCs
 pub record ThreadFacts : Type 0 where
   pub doing : Doing
   pub alerted_kernel : Bool

@@ -35,8 +35,7 @@ is_satisfied x None = x.released
 is_satisfied x (Some reached) = reached
 
 -- what a wait answers at this level and in these regions, by the tests in their order; a delay's due time is reached or
--- not
--- (profile: the order, and what is said of the user-pending mark)
+-- not (profile: the order, and what is said of the user-pending mark)
 abbrev pub wait_reply : ThreadFacts → Regions → ℕ → Mode → Bool → Option Bool → Reply
 wait_reply x r level m alertable reached =
     if is_some (deliverable x.apcs r level) then Status kernel_apc else
@@ -82,8 +81,7 @@ waited_again n r level None y x = x
 waited_again n r level (Some w) y x = waited n r level w.mode w.alertable (is_some w.due) y x
 
 -- testing an alert clears a set flag; where it was clear, for user mode with a user APC pending, the mark is set
--- (driver
--- documentation, "KeTestAlertThread")
+-- (driver documentation, "KeTestAlertThread")
 abbrev pub alert_tested : Mode → ThreadFacts → ThreadFacts
 alert_tested m x =
     if is_alerted m x then set_alerted m false x else
@@ -102,7 +100,12 @@ leaving_facts x = record x { leaving = true; apcs = closed_apcs x.apcs }
 abbrev pub frame_ended : Option Body → ThreadFacts → ThreadFacts
 frame_ended (Some (on.Base t)) x = leaving_facts x
 frame_ended (Some (on.Apc a UserApc)) x = alert_tested UserMode x
-frame_ended _ x = x
+frame_ended (Some (on.Int level)) x = x
+frame_ended (Some (on.Dpc d)) x = x
+frame_ended (Some (on.Threaded d)) x = x
+frame_ended (Some (on.Apc a kind)) x = x
+frame_ended (Some (on.Rundown a)) x = x
+frame_ended None x = x
 
 -- ---- events that the thread makes
 

@@ -95,8 +95,7 @@ is_declared s (DpcThing d) = has_dpc s d
 is_declared s (ApcThing a) = true
 
 -- in a run the number that a delivery names is an earlier one, and no event before the delivery began, removed or
--- flushed the
--- object's insert of that number
+-- flushed the object's insert of that number
 abbrev pub DeliveredInsertsWait : Type 0
 DeliveredInsertsWait = (s : Script) (limit : ℕ) (e : Event) (past : List Event) (thing : Thing) (n : ℕ) →
     IsRun s limit (e ∷ past) → is_declared s thing ≡ true → delivers thing n e.what ≡ true → (n < length past) ×

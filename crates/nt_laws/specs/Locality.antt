@@ -30,8 +30,7 @@ makes (LookTurn p r) = false
 makes t = true
 
 -- the event of a turn Next or Switch is determined by what its processor keeps and the states of the lanes that it
--- touches: where
--- two runs agree on these, the turn gives the same event after both
+-- touches: where two runs agree on these, the turn gives the same event after both
 abbrev pub StepIsLocal : Type 0
 StepIsLocal = (s : Script) (limit : ℕ) (h k : List Event) (t : Turn) (e : Event) → IsRun s limit h → IsRun s limit k →
     makes t ≡ true → own_of s (cpu_at t) h ≡ own_of s (cpu_at t) k → step s limit t h ≡ Ok e →
@@ -71,8 +70,7 @@ own_part p (e ∷ past) =
     else own_part p past
 
 -- what a processor keeps is determined by its part of the history, with the due times of the delays that it called, and
--- by what it
--- has seen and served of each class
+-- by what it has seen and served of each class
 abbrev pub KeepsItsPart : Type 0
 KeepsItsPart = (s : Script) (p : CpuNo) (h k : List Event) → own_part p h ≡ own_part p k →
     ((c : ℕ) → c < 16 → seen s p c h ≡ seen s p c k) → ((c : ℕ) → c < 16 → served s p c h ≡ served s p c k) →

@@ -23,8 +23,7 @@ CallsFit = (s : Script) (limit : ℕ) (e : Event) (past : List Event) (f : ℕ) 
     IsRun s limit (e ∷ past) → fits s ≡ true → e.what ≡ Call f c y → command_fits s c ≡ true
 
 -- of every object: each insert's object, or its thread, is one of the script; what is pending was inserted and not used
--- up, and
--- waits; and an object has at most one pending insert
+-- up, and waits; and an object has at most one pending insert
 pub record HoldsOfEach (s : Script) (past : List Event) : Type 0 where
   pub known : (thing : Thing) (n : ℕ) → IsInsert thing n past → is_known s thing ≡ true
   pub dpcs : (p : CpuNo) (d : DpcNo) (n : ℕ) →

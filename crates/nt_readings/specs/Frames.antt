@@ -139,8 +139,7 @@ abbrev pub HasNone : (ℕ → Body → Type 0) → Type 0
 HasNone P = (n : ℕ) (b : Body) → P n b → ⊥
 
 -- what is answered as the innermost frame of p: the open one of greatest number on its own part, else the one of
--- greatest number
--- on the part of the thread that runs there, else none
+-- greatest number on the part of the thread that runs there, else none
 abbrev pub IsInnermost : Script → CpuNo → List Event → Option Frame → Type 0
 IsInnermost s p past None = HasNone (IsOpenOwn p past) ×
     ((t : ThreadNo) → running p past ≡ Some t → HasNone (IsOpenOn s t past))

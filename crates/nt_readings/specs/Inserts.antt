@@ -27,16 +27,14 @@ NoneUsesUp thing n [] = Unit {0}
 NoneUsesUp thing n (e ∷ past) = (n < length past → uses_up thing n e.what ≡ false) × NoneUsesUp thing n past
 
 -- in a run an insert of a DPC object of the script is pending in a queue exactly where its event put it there and no
--- later one
--- uses it up
+-- later one uses it up
 abbrev pub PendingIsInsertedAndNotUsedUp : Type 0
 PendingIsInsertedAndNotUsedUp = (s : Script) (limit : ℕ) (d : DpcNo) (past : List Event) → IsRun s limit past →
     has_dpc s d ≡ true → (p : CpuNo) (n : ℕ) →
     DpcIsPending s p d n past ↔ (IsInsertedAt p d n past × NoneUsesUp (DpcThing d) n past)
 
 -- the first of a part is the pending High one of greatest number, else the pending one of least number, and none
--- exactly where
--- the part is empty
+-- exactly where the part is empty
 abbrev pub FirstIsByImportanceAndNumber : Type 0
 FirstIsByImportanceAndNumber = (s : Script) (p : CpuNo) (past : List Event) (part : Part) →
     IsFirst part (pending s p past) (first_dpc part (pending s p past))
@@ -48,8 +46,7 @@ IsApcInsertedAt a n (e ∷ past) = ((n ≡ length past) × (inserted_thing e.wha
     IsApcInsertedAt a n past
 
 -- in a run an insert of an APC object whose thread the script has is pending at that thread exactly where its event
--- made it and
--- no later one uses it up
+-- made it and no later one uses it up
 abbrev pub PendingApcIsInsertedAndNotUsedUp : Type 0
 PendingApcIsInsertedAndNotUsedUp = (s : Script) (limit : ℕ) (a : ApcNo) (past : List Event) → IsRun s limit past →
     has_thread s (owner_of s a) ≡ true → (n : ℕ) →

@@ -100,8 +100,7 @@ RegionsAreCounted = (s : Script) (limit : ℕ) (t : ThreadNo) (past : List Event
 -- ---- deliverable
 
 -- x is the first kernel APC, the thread's innermost frame has level 0, no guarded region is entered and, for a normal
--- one, no
--- critical region is, and no normal kernel APC is in progress
+-- one, no critical region is, and no normal kernel APC is in progress
 abbrev pub IsDeliverable : Script → ThreadNo → List Event → List Frame → Pick → Type 0
 IsDeliverable s t past fs x = (first_kernel (facts s t past).apcs ≡ Some x) × (level_of fs ≡ 0) × (guard_of fs ≡ 0) ×
     (same_kind NormalApc x.kind ≡ true → (crit_of fs ≡ 0) × (busy_of fs ≡ false))

@@ -68,8 +68,7 @@ IsServed s p c v past = ((v ≡ 0) × Everywhere (IsNoService p c) past) ⊎
     ((n : ℕ) × IsServedAt s p c v n past × EachAfter (IsNoService p c) n past)
 
 -- in a run, served is what was seen just after the last Clean of the class by the processor, for the classes 0 to 2, or
--- just after
--- the last Begin of the class's interrupt on it, for the others, else 0
+-- just after the last Begin of the class's interrupt on it, for the others, else 0
 abbrev pub ServedIsSeenAtLastService : Type 0
 ServedIsSeenAtLastService = (s : Script) (limit : ℕ) (p : CpuNo) (c : ℕ) (past : List Event) → IsRun s limit past →
     IsServed s p c (served s p c past) past

@@ -112,8 +112,7 @@ abbrev pub Agrees : Script → ThreadNo → List Event → Type 0
 Agrees s t past = Says (facts s t past).doing (thread_frames s (cpu_of s t) t past) (running (cpu_of s t) past ≡ Some t)
 
 -- in a run, the facts of each thread agree with its frames: it runs where they say so, and one that doesn't run has the
--- level
--- and, blocked, the regions with which it stopped; one that is gone has no frame
+-- level and, blocked, the regions with which it stopped; one that is gone has no frame
 abbrev pub FactsAgree : Type 0
 FactsAgree = (s : Script) (limit : ℕ) (t : ThreadNo) (past : List Event) → IsRun s limit past → Agrees s t past
 
