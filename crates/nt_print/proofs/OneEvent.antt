@@ -32,7 +32,7 @@ use Rattle.nt_event.specs.Numbered.{refusal_name, refusal_number}
 use Rattle.nt_event.specs.Script.{command_fits, has_apc, has_cpu, has_dpc, has_thread, has_timer, where_given}
 use Rattle.nt_script.specs.declared.walk.Input.{Input}
 use Rattle.nt_line.specs.declared.keywords.Verb.{Verb}
-use Rattle.nt_line.specs.declared.keywords.Word.TheVariants as word
+use Rattle.nt_line.specs.declared.keywords.Keyword.TheVariants as keyword
 use Rattle.nt_line.specs.Commands.{command_of}
 use Rattle.nt_line.specs.Fits.{CommandFits}
 use Rattle.nt_line.specs.NameLists.{NameLists, show_apc, show_dpc, show_thread, show_timer}
@@ -41,8 +41,8 @@ use Rattle.nt_line.specs.Fits.{HasRange}
 use Rattle.nt_script.specs.Sound.{IsSound}
 use Rattle.nt_text.specs.Lines.{Row}
 use Rattle.nt_line.specs.Rows.{command_args, command_row, command_verb}
-use Rattle.nt_line.specs.Keywords.{text_of, verb_arity, word_of}
-use Rattle.nt_script.proofs.Again.{word_again}
+use Rattle.nt_line.specs.Keywords.{text_of, verb_arity, keyword_of}
+use Rattle.nt_script.proofs.Again.{keyword_again}
 use Rattle.nt_script.proofs.Clean.{apc_field, command_clean, dpc_field, thread_field, timer_field}
 use Rattle.nt_script.proofs.Fit.{Fit}
 use Rattle.nt_line.proofs.Found.{are_read, is_new}
@@ -193,8 +193,8 @@ reply_clean (Refused r) h = rw (decimal_field (refusal_number r) (refusal_small 
 command_plain : (input : Input) → Known input → (c : Command) → command_fits input.script c ≡ true → HasRange c → CommandFits input.names input.script.cpus c
 command_plain input k c h r = command_from input.script input.names k.counts c h r
 
-verb_one : (v u : Verb) → text_of (word.Call v) ≡ text_of (word.Call u) → v ≡ u
-verb_one v u e = let both : Some (word.Call v) ≡ Some (word.Call u) = sym (word_again (word.Call v)) ∙ ap word_of e ∙ word_again (word.Call u) in cc
+verb_one : (v u : Verb) → text_of (keyword.Call v) ≡ text_of (keyword.Call u) → v ≡ u
+verb_one v u e = let both : Some (keyword.Call v) ≡ Some (keyword.Call u) = sym (keyword_again (keyword.Call v)) ∙ ap keyword_of e ∙ keyword_again (keyword.Call u) in cc
 
 -- a command and its reply
 called_one : (input : Input) → Known input → (c d : Command) (r q : Reply) → command_fits input.script c ≡ true → command_fits input.script d ≡ true →
@@ -202,7 +202,7 @@ called_one : (input : Input) → Known input → (c d : Command) (r q : Reply) �
     → command_row input.names c ++ replied r ≡ command_row input.names d ++ replied q → (c ≡ d) × (r ≡ q)
 called_one input k c d r q hc hd rc rd hr hq e =
     let names = input.names in
-    let head : text_of (word.Call (command_verb c)) ≡ text_of (word.Call (command_verb d)) = cc in
+    let head : text_of (keyword.Call (command_verb c)) ≡ text_of (keyword.Call (command_verb d)) = cc in
     let more : command_args names c ++ replied r ≡ command_args names d ++ replied q = cc in
     let verb : command_verb c ≡ command_verb d = verb_one (command_verb c) (command_verb d) head in
     let long : length (command_args names c) ≡ length (command_args names d) = args_count names c ∙ ap verb_arity verb ∙ sym (args_count names d) in

@@ -3,7 +3,8 @@
 //! [`read`] answers the script and the names of a text, or the first bad line and what is wrong with it. [`print`] gives the
 //! one text that `read` reads as an input. The grammar is a relation between an input and a whole list of bytes
 //! (`specs::Text`: the rows of an input, and which inputs are sound); reading is a function of the bytes (`specs::Reading`);
-//! two laws say that each undoes the other. [`split_at`] finds where another text begins behind a script.
+//! two laws say that each undoes the other. [`split_at`] finds where another text begins behind a script. What one line says,
+//! and the names of the things, is the crate `nt_line`.
 //!
 //! The lines of a script come in the order of [`Place`]: `cpus`, `depth`, `threaded`, then interrupt routines, DPC objects,
 //! timers, threads, APC objects and routines with their commands. The whole grammar is this project's own (profile).
