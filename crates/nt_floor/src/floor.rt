@@ -39,9 +39,17 @@ pub trait Floor: Words {
     ghost script: { Self → Script };
 
     /// The event of this number was made by a processor that stood so, in these states of its lanes.
+    ///
+    /// A floor that tells its states need say nothing here: `IsMoved` ties what was found to them. Where a floor doesn't tell them, as
+    /// one over locked lanes, this alone ties it to what other events left, and has to mean: the number was drawn by this floor for
+    /// this event of a processor that stood so, touching these lanes; and on each lane that it touches the state found, with what the
+    /// lane tells of requests, is the one noted last on that lane's list before the number, the opening one where none was. What is
+    /// found of lanes that it doesn't touch means nothing. It lasts (`found_later`). With a weaker meaning an act could answer
+    /// an event of states that no lane ever had.
     ghost found: { Self → ℕ → Event → Stand → Found → Type 0 };
 
-    /// These are the last states that it knows of the lanes of its last job.
+    /// These are the last states that it knows of the lanes of its last job: for a refusal what `found` is for an event. A floor that
+    /// doesn't tell its states has to mean, on each lane that the job reads, the state that was learned last of the lane's list.
     ghost shows: { Self → Found → Type 0 };
 
     /// Makes the event of a job for a processor that stands so, and marks exactly its asks.

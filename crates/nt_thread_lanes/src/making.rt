@@ -6,7 +6,6 @@ ghost use Rattle.nt_event.specs.declared.scripts.Script.{Script as Declared};
 ghost use Rattle.nt_event.specs.Waits.{frame_ended, made_facts};
 ghost use Rattle.nt_thread_lanes.specs.Fits.{CanMake, TakesUp, is_over as over, over_if};
 
-use crate::script::kind_of;
 use nt_event::{ApcKind, Begun, Body, Command, Mode, Pick, Reply, Script, Stand, What};
 use nt_thread::{ThreadState, WaitSpec};
 
@@ -100,7 +99,7 @@ fn begin(state: &mut ThreadState, script: &Script, begun: &Begun, from: u64)
     match begun {
         Begun::Apc(apc) => state.take(Pick {
             apc: *apc,
-            kind: kind_of(script, *apc),
+            kind: script.kind_of(*apc),
             number: from,
         }),
         _ => {}

@@ -2,7 +2,7 @@
 ghost use Rattle.std.specs.Prelude.{◌≡◌};
 ghost use Rattle.nt_event.specs.Routines as routines;
 
-use nt_event::{ApcKind, ApcNo, CpuNo, Script, ThreadNo};
+use nt_event::{ApcNo, CpuNo, Script, ThreadNo};
 
 /// The processor that the thread is bound to; 0 past the last thread.
 pub fn cpu_of(script: &Script, t: ThreadNo) -> CpuNo
@@ -21,15 +21,5 @@ pub fn owner_of(script: &Script, a: ApcNo) -> ThreadNo
     match script.apcs.as_slice().get(a.0 as usize) {
         Some(decl) => decl.thread,
         None => ThreadNo(0),
-    }
-}
-
-/// The kind of the APC object; special past the last object.
-pub fn kind_of(script: &Script, a: ApcNo) -> ApcKind
-    ensures { result ≡ routines.kind_of script.now a }
-{
-    match script.apcs.as_slice().get(a.0 as usize) {
-        Some(decl) => decl.kind,
-        None => ApcKind::Special,
     }
 }

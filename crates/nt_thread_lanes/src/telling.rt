@@ -1,10 +1,9 @@
 //! What an event leaves of the thread that it names.
 ghost use Rattle.std.specs.Prelude.{◌≡◌, ◌≤◌, IsTrue, length, ℕ};
 ghost use Rattle.nt_event.specs.declared.events.What.TheVariants.{Call};
-ghost use Rattle.nt_event.specs.Replies.{is_yes as accepts};
 ghost use Rattle.nt_thread_lanes.specs.Fits.{CanTell, named_thread as thread_of, told_facts};
 
-use crate::script::{kind_of, owner_of};
+use crate::script::owner_of;
 use nt_event::{Command, Reply, Script, ThreadNo, TimerKey, What};
 use nt_thread::ThreadState;
 
@@ -57,21 +56,15 @@ fn tell_call(state: &mut ThreadState, script: &Script, n: u64, command: &Command
             let _ = state.alert(*mode);
         }
         Command::InsertApc(a) => {
-            if is_yes(reply) {
-                let _ = state.apc(*a, kind_of(script, *a), n);
+            if reply.is_yes() {
+                let _ = state.apc(*a, script.kind_of(*a), n);
             }
         }
         Command::RemoveApc(a) => {
-            if is_yes(reply) {
+            if reply.is_yes() {
                 let _ = state.unapc(*a);
             }
         }
         _ => {}
     }
-}
-
-fn is_yes(reply: &Reply) -> bool
-    ensures { result ≡ accepts reply.now }
-{
-    matches!(reply, Reply::Yes)
 }

@@ -13,7 +13,7 @@ ghost use Rattle.nt_event.specs.declared.threads.Doing.TheVariants.{Running as I
 ghost use Rattle.nt_thread_lanes.specs.Lanes.{facts_in, start};
 ghost use Rattle.nt_thread_lanes.specs.Sound.{AreOurs};
 
-use crate::script::{kind_of, owner_of};
+use crate::script::owner_of;
 use nt_event::{ApcNo, Level, Mode, Pick, Regions, Reply, Script, ThreadNo};
 use nt_thread::{ThreadState, WaitAnswer, WaitSpec};
 use std::alloc::{AllocError, Global};
@@ -248,7 +248,7 @@ impl<'s> Threads<'s> {
         requires { IsTrue (has_apc self.now.script a) }
         ensures { (n : ℕ) → result ≡ spec.ends_by_apc (new_pick self.now.script a n) (facts_in self.now (owner_in self.now.script a)) }
     {
-        self.owner(a).ends_by_apc(kind_of(self.script, a))
+        self.owner(a).ends_by_apc(self.script.kind_of(a))
     }
 
     /// Each pending APC is of the kind of its object.
