@@ -1,6 +1,5 @@
 -- A key that is set is one of the script's.
-use Rattle.std.proofs.Common.{Option, Some, ap, option_map, sym, ℕ, ◌≡◌, ◌∙◌}
-use Rattle.nt_event.specs.declared.commands.TimerKey.{TimerKey}
+use Rattle.std.proofs.Common.{ap, ◌∙◌}
 use Rattle.nt_event.specs.Timers.{Timers}
 use Rattle.nt_timer.specs.Settings.{due_entry}
 use Rattle.nt_plain.proofs.DueKeys.{due_fits}
