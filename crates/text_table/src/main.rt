@@ -2,16 +2,11 @@
 //! byte 127 and a back quote for byte 13.
 //!
 //! A line is a script, which is read and printed again, and has to come out as the same bytes; or `?find NAME|SCRIPT`, what the
-//! name names in the script; or `?split WORD|TEXT`, where the first line begins whose first field is the word; or
-//! `?report |SCRIPT` or `?schedule |SCRIPT`, the report or the schedule of a history of three events: the script's first thread
-//! raises the level, asks for a level that isn't above it, and ends. What is wanted stands in `stdout`: worked rows, a change of
-//! each kind of line for each refusal, the limits, and random scripts with the answers of a reader that was written from the
-//! grammar alone, in another language.
+//! name names in the script; or `?split WORD|TEXT`, where the first line begins whose first field is the word. What is wanted
+//! stands in `stdout`: worked rows, a change of each kind of line for each refusal, the limits, and random scripts with the
+//! answers of a reader that was written from the grammar alone, in another language.
 #![tactic(auto)]
 
-mod histories;
-
-use crate::histories::{report_of, schedule_of};
 use nt_script::{Named, Names, ScriptKind, ScriptRefusal, print, read, split_at};
 use nt_text::INPUT_LIMIT;
 use std::alloc::{AllocError, Global};
@@ -109,18 +104,6 @@ fn split_case(rt: &HostRuntime, word: &str, text: &[u8]) -> io::Result<()> {
     }
 }
 
-/// A text on one line, with `/` for the end of a line.
-fn put_text(rt: &HostRuntime, text: Option<Vec<u8>>) -> io::Result<()> {
-    let Some(text) = text else {
-        return println!(rt; "no script");
-    };
-    for byte in text.as_slice() {
-        let shown = if *byte == b'\n' { b'/' } else { *byte };
-        print!(rt; "{}", char::from(shown))?;
-    }
-    println!(rt;)
-}
-
 /// A case of the table behind its `?`.
 fn other_case(rt: &HostRuntime, case: &str) -> io::Result<()> {
     let Some((what, entry)) = case.split_once('|') else {
@@ -130,8 +113,6 @@ fn other_case(rt: &HostRuntime, case: &str) -> io::Result<()> {
     match what.split_once(' ') {
         Some(("find", name)) => find_case(rt, name, text.as_slice()),
         Some(("split", word)) => split_case(rt, word, text.as_slice()),
-        Some(("report", _)) => put_text(rt, report_of(rt.alloc(), text.as_slice())?),
-        Some(("schedule", _)) => put_text(rt, schedule_of(rt.alloc(), text.as_slice())?),
         _ => println!(rt; "no case"),
     }
 }
