@@ -7,8 +7,10 @@ mod apcs;
 mod data;
 mod dpc;
 mod dpcs;
+mod floor;
 mod frames;
 mod thread;
+mod threads;
 mod timers;
 
 use std::io;
@@ -23,6 +25,8 @@ fn answer(rt: HostRuntime, part: &str, case: &str) -> io::Result<()> {
         "thread" => thread::answer(rt, case),
         "timers" => timers::answer(rt, case),
         "dpcs" => dpcs::answer(rt, case),
+        "threads" => threads::answer(rt, case),
+        "floor" => floor::answer(rt, case),
         _ => println!(rt; "  no such part"),
     }
 }
