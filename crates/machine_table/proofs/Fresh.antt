@@ -1,5 +1,6 @@
 -- A processor and a floor on which nothing happened.
 use Rattle.std.proofs.Common.{arith, subst, sym}
+use Rattle.std.proofs.Math.Nat.{one-le-mul}
 use Rattle.std.specs.Prelude.{[], ℕ, ◌*◌, ◌<◌, ◌≡◌, ◌≤◌}
 use Rattle.nt_event.specs.declared.scripts.Script.{Script}
 use Rattle.nt_event.specs.Numbers.{cpu}

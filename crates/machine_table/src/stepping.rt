@@ -1,51 +1,75 @@
 //! The first event of a script, as its first processor makes it by itself over a floor in memory.
-ghost use Rattle.std.specs.Prelude.{◌≡◌, ◌<◌, ◌≤◌, ◌*◌, IsTrue};
-ghost use Rattle.nt_event.specs.Script.{fits};
+ghost use Rattle.std.specs.Prelude.{◌≡◌, ◌<◌, ◌≤◌};
 ghost use Rattle.nt_script.specs.Sound.{IsSound};
 
 use nt_core::run;
 use nt_cpu::{Cpu, Local, Turned};
-use nt_event::{CpuNo, Event, History, Script};
+use nt_event::{CpuNo, Event, History};
 use nt_plain::PlainFloor;
 use nt_print::report;
 use nt_script::Input;
 use std::alloc::{AllocError, Global};
 
-/// The event, where it is made in two steps: alone, or by the floor where it needs a lane.
-fn by_steps(alloc: Global, script: &Script, limit: u32) -> Result<Option<Event>, AllocError>
-    requires script { IsTrue (fits script.now) }
-    requires cpus { (0 < script.now.cpus) × (script.now.cpus ≤ 8) }
+/// The event in words, so that two of them can be compared.
+fn shown(alloc: Global, event: Option<Event>) -> Result<String, AllocError> {
+    format!(in alloc; "{event:?}")
+}
+
+/// The event in words, where it is made in two steps: alone, or by the floor where it needs a lane.
+fn by_steps(alloc: Global, input: &Input, limit: u32) -> Result<String, AllocError>
+    requires sound { IsSound input.now }
+    requires cpus { 0 < input.now.script.cpus }
     requires limit { (1 ≤ limit) × (limit ≤ 20000) }
 {
-    let mut cpu = Cpu::new(alloc, script, CpuNo(0), limit)?;
-    let mut floor = PlainFloor::new(alloc, script, limit)?;
+    let mut cpu = Cpu::new(alloc, &input.script, CpuNo(0), limit)?;
+    let mut floor = PlainFloor::new(alloc, &input.script, limit)?;
     match cpu.step_local(&mut floor) {
-        Local::Did(event) => Ok(Some(event)),
-        Local::NeedsLane(job) => Ok(Some(cpu.step_lane(&mut floor, job)?)),
-        Local::Quiet | Local::Cut => Ok(None),
+        Local::Did(event) => shown(alloc, Some(event)),
+        Local::NeedsLane(job) => {
+            let event = cpu.step_lane(&mut floor, job)?;
+            shown(alloc, Some(event))
+        }
+        Local::Quiet | Local::Cut => shown(alloc, None),
     }
 }
 
-/// The event, where it is made by one call.
-fn by_advance(alloc: Global, script: &Script, limit: u32) -> Result<Option<Event>, AllocError>
-    requires script { IsTrue (fits script.now) }
-    requires cpus { (0 < script.now.cpus) × (script.now.cpus ≤ 8) }
+/// The event in words, where it is made by one call.
+fn by_advance(alloc: Global, input: &Input, limit: u32) -> Result<String, AllocError>
+    requires sound { IsSound input.now }
+    requires cpus { 0 < input.now.script.cpus }
     requires limit { (1 ≤ limit) × (limit ≤ 20000) }
 {
-    let mut cpu = Cpu::new(alloc, script, CpuNo(0), limit)?;
-    let mut floor = PlainFloor::new(alloc, script, limit)?;
+    let mut cpu = Cpu::new(alloc, &input.script, CpuNo(0), limit)?;
+    let mut floor = PlainFloor::new(alloc, &input.script, limit)?;
     match cpu.advance(&mut floor)? {
-        Turned::Did(event) => Ok(Some(event)),
-        Turned::Quiet | Turned::Cut => Ok(None),
+        Turned::Did(event) => shown(alloc, Some(event)),
+        Turned::Quiet | Turned::Cut => shown(alloc, None),
     }
 }
 
-fn agreement(history: &History, event: Option<Event>) -> &'static str {
-    if history.events.as_slice().first().copied() == event {
-        "as in the run\n"
+fn first(history: &History) -> Option<Event> {
+    history.events.as_slice().first().copied()
+}
+
+fn agreement(event: &str, first: &str) -> &'static str {
+    if event == first {
+        "as in the run"
     } else {
-        "not as in the run\n"
+        "not as in the run"
     }
+}
+
+/// A line for each way, whether it gives this event.
+fn agreements(alloc: Global, input: &Input, limit: u32, first: &str) -> Result<String, AllocError>
+    requires sound { IsSound input.now }
+    requires cpus { 0 < input.now.script.cpus }
+    requires limit { (1 ≤ limit) × (limit ≤ 20000) }
+{
+    let steps = by_steps(alloc, input, limit)?;
+    let advance = by_advance(alloc, input, limit)?;
+    let steps = agreement(steps.as_str(), first);
+    let advance = agreement(advance.as_str(), first);
+    format!(in alloc; "steps: {steps}\nadvance: {advance}\n")
 }
 
 /// Whether each way gives the first event of the run by the robin rule, and the report of that run.
@@ -54,14 +78,12 @@ pub(crate) fn stepped(alloc: Global, input: &Input, limit: u32) -> Result<Vec<u8
     requires some { 1 ≤ limit }
     requires few { limit ≤ 20000 }
 {
-    let script = &input.script;
-    if script.cpus == 0 {
+    if input.script.cpus == 0 {
         return Ok(Vec::new(alloc));
     }
-    let history = run(alloc, script, limit)?;
-    let steps = agreement(&history, by_steps(alloc, script, limit)?);
-    let advance = agreement(&history, by_advance(alloc, script, limit)?);
-    let mut text = format!(in alloc; "steps: {steps}advance: {advance}")?.into_bytes();
+    let history = run(alloc, &input.script, limit)?;
+    let first = shown(alloc, first(&history))?;
+    let mut text = agreements(alloc, input, limit, first.as_str())?.into_bytes();
     text.extend_from_slice(report(alloc, input, &history)?.as_slice())?;
     Ok(text)
 }

@@ -1,49 +1,48 @@
 //! Turns that a machine takes one by one.
-ghost use Rattle.std.specs.Prelude.{◌≡◌, ◌≤◌, OnOk};
+ghost use Rattle.std.specs.Prelude.{◌≡◌, ◌≤◌};
 ghost use Rattle.nt_script.specs.Sound.{IsSound};
 
 use nt_core::Core;
-use nt_event::{Event, Turn};
+use nt_event::{ScheduleKind, Turn};
 use nt_print::report;
 use nt_script::Input;
 use std::alloc::{AllocError, Global};
 
-/// What is told of a machine beside its report: a line for each turn, and the events that it answered.
-#[derive(Drop)]
-struct Told {
-    lines: String,
-    events: Vec<Event>,
+/// Whether the turn is the robin rule's.
+fn is_robins(core: &Core, turn: &Turn) -> bool {
+    core.robin() == Some(*turn)
 }
 
-/// Takes the turn. Its line tells whether it is the robin rule's, and what became of it.
-fn take(told: &mut Told, core: &mut Core, turn: &Turn) -> Result<(), AllocError>
-    ensures script { core.new.script ≡ core.old.script }
+/// Why the turn is refused, or None where it is taken.
+fn refusal(core: &mut Core, turn: &Turn) -> Option<ScheduleKind>
+    ensures { core.new.script ≡ core.old.script }
 {
-    let chooser = if core.robin() == Some(*turn) {
-        "robin"
-    } else {
-        "other"
-    };
     match core.turn(*turn) {
-        Ok(event) => {
-            told.events.push(event)?;
-            write!(told.lines, "{chooser}: taken\n")
-        }
-        Err(refusal) => {
-            let kind = refusal.kind();
-            write!(told.lines, "{chooser}: {} {}\n", kind.number(), kind.name())
-        }
+        Ok(_) => None,
+        Err(refusal) => Some(refusal.kind()),
+    }
+}
+
+/// The line of a turn tells whether it is the robin rule's, and what became of it.
+fn put_line(
+    lines: &mut String,
+    is_robins: bool,
+    refusal: Option<ScheduleKind>,
+) -> Result<(), AllocError> {
+    let chooser = if is_robins { "robin" } else { "other" };
+    match refusal {
+        None => write!(lines, "{chooser}: taken\n"),
+        Some(kind) => write!(lines, "{chooser}: {} {}\n", kind.number(), kind.name()),
     }
 }
 
 /// Whether the history is settled.
-fn tell_end(told: &mut Told, core: &Core) -> Result<(), AllocError> {
-    let end = if core.settled() {
+fn end(core: &Core) -> &'static str {
+    if core.settled() {
         "settled\n"
     } else {
         "unsettled\n"
-    };
-    told.lines.push_str(end)
+    }
 }
 
 /// A line for each turn, whether the history is settled then, and its report.
@@ -58,21 +57,16 @@ pub(crate) fn taken(
     requires few { limit ≤ 20000 }
 {
     let mut core = Core::new(alloc, &input.script, limit)?;
-    let mut told = Told {
-        lines: String::new(alloc),
-        events: Vec::new(alloc),
-    };
+    let mut lines = String::new(alloc);
     for turn in list {
-        take(&mut told, &mut core, turn)?;
+        let by_rule = is_robins(&core, turn);
+        let refused = refusal(&mut core, turn);
+        put_line(&mut lines, by_rule, refused)?;
     }
-    tell_end(&mut told, &core)?;
+    lines.push_str(end(&core))?;
     core.is_run();
     let history = core.finish();
-    let Told { lines, events } = told;
     let mut text = lines.into_bytes();
-    if history.events.as_slice() != events.as_slice() {
-        text.extend_from_slice(b"other events\n")?;
-    }
     text.extend_from_slice(report(alloc, input, &history)?.as_slice())?;
     Ok(text)
 }
