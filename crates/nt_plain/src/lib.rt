@@ -13,8 +13,6 @@ mod places;
 mod plain;
 mod requests;
 mod states;
-#[cfg(test)]
-mod tests;
 mod told;
 
 pub use plain::PlainFloor;

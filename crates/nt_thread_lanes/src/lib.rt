@@ -19,8 +19,6 @@ mod marks;
 mod ready;
 mod script;
 mod telling;
-#[cfg(test)]
-mod tests;
 mod threads;
 
 pub use threads::Threads;

@@ -5,7 +5,7 @@ use nt_event::{
     Command, CpuNo, DpcDecl, DpcNo, Event, Items, Job, Level, Regions, Routine, RoutineNo, Script,
     Stand, ThreadDecl, ThreadNo, What,
 };
-use nt_floor::{Floor, Words};
+use nt_floor::{ActRefusal, Acted, Floor, Words};
 use nt_plain::PlainFloor;
 use std::alloc::{AllocError, Global};
 use std::io;
@@ -87,14 +87,24 @@ fn an_insert_asks(rt: HostRuntime) -> io::Result<()> {
     }
     let mut floor = PlainFloor::new(rt.alloc(), &script, 4)?;
     let queue = Command::Queue(DpcNo(0));
-    match floor.act(Job::Call(queue), stand(CpuNo(0))) {
+    let acted = floor.act(Job::Call(queue), stand(CpuNo(0)));
+    write_act(rt, acted)?;
+    write_asks(rt, &floor)
+}
+
+fn write_act(rt: HostRuntime, acted: Result<Acted, ActRefusal>) -> io::Result<()> {
+    match acted {
         Ok(acted) => {
             println!(rt; "  number {}, due {:?}", acted.number, acted.due)?;
             println!(rt; "  {:?}", acted.event)?;
-            println!(rt; "  told {:?}", acted.told.value)?;
+            println!(rt; "  told {:?}", acted.told.value)
         }
-        Err(refusal) => println!(rt; "  refused {:?}", refusal)?,
+        Err(refusal) => println!(rt; "  refused {:?}", refusal),
     }
+}
+
+/// Writes who is asked for dispatch.
+fn write_asks(rt: HostRuntime, floor: &PlainFloor) -> io::Result<()> {
     println!(rt; "  asked {}", floor.asked(CpuNo(0), 2))?;
     println!(rt; "  asks 0 {}", floor.asks(0, CpuNo(0), 2))?;
     println!(rt; "  asks 1 {}", floor.asks(0, CpuNo(1), 2))
@@ -113,10 +123,16 @@ fn words(rt: HostRuntime) -> io::Result<()> {
         what: What::Rest,
     };
     let n = floor.draw(&event);
-    println!(rt; "  drawn {n}")?;
     floor.mark(CpuNo(1), 3, n);
-    println!(rt; "  look at 1 {}", floor.look(CpuNo(1), 3))?;
-    println!(rt; "  look at 0 {}", floor.look(CpuNo(0), 3))?;
+    let marked = floor.look(CpuNo(1), 3);
+    let other = floor.look(CpuNo(0), 3);
+    println!(rt; "  drawn {n}")?;
+    println!(rt; "  look at 1 {marked}")?;
+    println!(rt; "  look at 0 {other}")?;
+    write_marks(rt, &floor, n)
+}
+
+fn write_marks(rt: HostRuntime, floor: &PlainFloor, n: u64) -> io::Result<()> {
     println!(rt; "  class 3 is marked {}", floor.asks(n, CpuNo(1), 3))?;
     println!(rt; "  class 4 is marked {}", floor.asks(n, CpuNo(1), 4))?;
     println!(rt; "  asked of no processor {}", floor.asked(CpuNo(2), 3))

@@ -161,6 +161,16 @@ fn release(threads: &mut Threads, t: ThreadNo)
     threads.leave(3, &stand(CpuNo(1), None), &event);
 }
 
+/// The same, of a record in which the processor of the release tells nothing.
+fn tell_release(threads: &mut Threads, t: ThreadNo)
+    requires { IsTrue (has_thread threads.old.script t) }
+    ensures { threads.new.script ≡ threads.old.script }
+{
+    let reply = Reply::yes_if(threads.ends_by_release(t));
+    let event = call(CpuNo(1), None, Command::Release(t), reply);
+    threads.tell(t, 3, &event.what);
+}
+
 fn insert(threads: &mut Threads, a: ApcNo, n: u64)
     requires { IsTrue (has_apc threads.old.script a) }
     ensures { threads.new.script ≡ threads.old.script }
@@ -240,7 +250,7 @@ fn a_release_ends_a_wait(rt: HostRuntime) -> io::Result<()> {
     )
 }
 
-/// The second thread's release, in a record in which its maker's processor tells nothing.
+/// The second thread's release, which is told and not left.
 fn a_release_is_told(rt: HostRuntime) -> io::Result<()> {
     let script = script(rt.alloc())?;
     if !script.fits() || script.threads.len() != 3 {
@@ -249,12 +259,7 @@ fn a_release_is_told(rt: HostRuntime) -> io::Result<()> {
     let mut threads = Threads::new(rt.alloc(), &script)?;
     take_up(&mut threads, &script, SECOND);
     wait(&mut threads, &script, SECOND);
-    let what = What::Call {
-        frame: 0,
-        command: Command::Release(SECOND),
-        reply: Reply::yes_if(threads.ends_by_release(SECOND)),
-    };
-    threads.tell(SECOND, 3, &what);
+    tell_release(&mut threads, SECOND);
     println!(rt;
         "  told: ready {}, status {:?}",
         threads.is_ready(SECOND),
