@@ -12,7 +12,8 @@ use Rattle.nt_plain.specs.States.{IsFresh, PlainState, view_of}
 use Rattle.nt_core.proofs.Starting.{fresh_drawable, fresh_follows}
 
 -- the floor serves the first processor
-pub fresh_serves : (s : Script) (turns : ℕ) (c : CpuState) (f : PlainState) → 1 ≤ turns → 0 < s.cpus → c ≡ state_of s (cpu 0) turns [] → IsFresh s turns f → Serves c (view_of f)
+pub fresh_serves : (s : Script) (turns : ℕ) (c : CpuState) (f : PlainState) → 1 ≤ turns → 0 < s.cpus → c ≡ state_of s (cpu 0) turns [] → IsFresh s turns f →
+    Serves c (view_of f)
 fresh_serves s turns c f h b e k =
     subst (λ (x : CpuState). Serves x (view_of f)) (sym e) (serves_run s turns (cpu 0) [] (view_of f) tt b (fresh_follows s turns f k) (λ _. some))
   where

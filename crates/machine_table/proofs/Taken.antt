@@ -9,6 +9,8 @@ use Rattle.nt_event.specs.Script.{fits}
 use Rattle.nt_event.specs.Step.{IsRun}
 use Rattle.nt_laws.proofs.Named.RunFits.{run_fits}
 
-pub history_fits : (s t : Script) (limit : ℕ) (past events : List Event) → t ≡ s → fits s ≡ true → IsRun t limit past → events ≡ reverse past → events_fit s events ≡ true
+pub history_fits : (s t : Script) (limit : ℕ) (past events : List Event) → t ≡ s → fits s ≡ true → IsRun t limit past → events ≡ reverse past →
+    events_fit s events ≡ true
 history_fits s t limit past events same f r e =
-    run_fits s limit events f (subst (λ (xs : List Event). IsRun s limit xs) (sym (ap reverse e ∙ reverse-reverse past)) (subst (λ (x : Script). IsRun x limit past) same r))
+    run_fits s limit events f (subst (λ (xs : List Event). IsRun s limit xs) (sym (ap reverse e ∙ reverse-reverse past))
+    (subst (λ (x : Script). IsRun x limit past) same r))

@@ -46,7 +46,8 @@ reply_lanes s p ToUser = []
 reply_lanes s p Yield = []
 reply_lanes s p (Note n) = []
 
--- the lanes that are read to find the event of a job: the first DPC of a queue and the first due key are found before it is known
+-- the lanes that are read to find the event of a job: the first DPC of a queue and the first due key are found before
+-- it is known
 -- which object or thread they name
 abbrev pub job_lanes : Script → Stand → Job → List Lane
 job_lanes s st (job.Call c) = reply_lanes s st.cpu c
@@ -64,7 +65,8 @@ job_lanes s st job.UserEnd = []
 job_lanes s st job.Leave = []
 job_lanes s st job.Rundown = ThreadsLane st.cpu ∷ []
 
--- the lanes that are read to find which lanes an event touches: the object, which says where an insert goes and where it stands
+-- the lanes that are read to find which lanes an event touches: the object, which says where an insert goes and where
+-- it stands
 abbrev pub found_lanes : What → List Lane
 found_lanes (what.Call f (Queue d) y) = ObjectLane d ∷ []
 found_lanes (what.Call f (Unqueue d) y) = ObjectLane d ∷ []

@@ -13,4 +13,7 @@ loop-lane-preserved c =
 
 pub returns : goal.returns
 returns c =
-    is_table c.loop-lane.values 16 (λ k. told_over (row_value c.args.script.now c.args.self.now) c.args.lanes.now c.args.p k) c.loop-lane.invariant.len (λ k h. nothing_left (row_value c.args.script.now c.args.self.now) c.args.lanes.now c.args.p c.loop-lane.lane-index c.loop-lane.values k c.loop-lane-test.false (c.loop-lane.invariant.rest k h))
+    is_table c.loop-lane.values 16 (λ k. told_over (row_value c.args.script.now c.args.self.now) c.args.lanes.now c.args.p k) c.loop-lane.invariant.len
+    (λ k h. nothing_left
+    (row_value c.args.script.now c.args.self.now) c.args.lanes.now c.args.p c.loop-lane.lane-index c.loop-lane.values k c.loop-lane-test.false
+    (c.loop-lane.invariant.rest k h))
