@@ -27,7 +27,8 @@ pub record IsTaken (s : Script) (p : CpuNo) (t : ThreadNo) : Type 0 where
 abbrev pub RunsOwn : Script → Stand → Type 0
 RunsOwn s st = IfSome st.thread (λ t. cpu_of s t ≡ st.cpu)
 
--- what a job wants of where its processor stands, whatever the states are: a thread runs where it is a thread's job, and a wait
+-- what a job wants of where its processor stands, whatever the states are: a thread runs where it is a thread's job,
+-- and a wait
 -- that is taken up again is kept
 abbrev pub JobStands : Stand → Job → Type 0
 JobStands st (job.Call c) = IsCallable st c
@@ -44,7 +45,8 @@ JobStands st job.UserEnd = Unit {0}
 JobStands st job.Leave = Unit {0}
 JobStands st job.Rundown = IsSome st.thread
 
--- the job of a processor that stands so can be decided: job and stand name things of the script, and the stand serves the job. It says
+-- the job of a processor that stands so can be decided: job and stand name things of the script, and the stand serves
+-- the job. It says
 -- nothing of states, so who holds a few lanes can test it
 pub record CanDecide (s : Script) (st : Stand) (j : Job) : Type 0 where
   pub job : IsTrue (job_fits s j)

@@ -46,7 +46,8 @@ reply_lanes s p ToUser = []
 reply_lanes s p Yield = []
 reply_lanes s p (Note n) = []
 
--- the lanes that are read to find the event of a job: the first DPC of a queue and the first due key are found before it is known
+-- the lanes that are read to find the event of a job: the first DPC of a queue and the first due key are found before
+-- it is known
 -- which object or thread they name
 abbrev pub job_lanes : Script → Stand → Job → List Lane
 job_lanes s st (job.Call c) = reply_lanes s st.cpu c
@@ -64,11 +65,33 @@ job_lanes s st job.UserEnd = []
 job_lanes s st job.Leave = []
 job_lanes s st job.Rundown = ThreadsLane st.cpu ∷ []
 
--- the lanes that are read to find which lanes an event touches: the object, which says where an insert goes and where it stands
+-- the lanes that are read to find which lanes an event touches: the object, which says where an insert goes and where
+-- it stands
 abbrev pub found_lanes : What → List Lane
 found_lanes (what.Call f (Queue d) y) = ObjectLane d ∷ []
 found_lanes (what.Call f (Unqueue d) y) = ObjectLane d ∷ []
-found_lanes (what.Call f c y) = []
+found_lanes (what.Call f (Raise level) y) = []
+found_lanes (what.Call f (Lower level) y) = []
+found_lanes (what.Call f (SetImportance d i) y) = []
+found_lanes (what.Call f (SetTarget d q) y) = []
+found_lanes (what.Call f (SetTimer t due period) y) = []
+found_lanes (what.Call f (CancelTimer t) y) = []
+found_lanes (what.Call f (InsertApc a) y) = []
+found_lanes (what.Call f (RemoveApc a) y) = []
+found_lanes (what.Call f EnterCrit y) = []
+found_lanes (what.Call f EnterGuard y) = []
+found_lanes (what.Call f LeaveCrit y) = []
+found_lanes (what.Call f LeaveGuard y) = []
+found_lanes (what.Call f (StartWait m a) y) = []
+found_lanes (what.Call f (Delay m a units) y) = []
+found_lanes (what.Call f (Release t) y) = []
+found_lanes (what.Call f (Alert t m) y) = []
+found_lanes (what.Call f (TestAlert m) y) = []
+found_lanes (what.Call f (Interrupt q level) y) = []
+found_lanes (what.Call f (Clock units) y) = []
+found_lanes (what.Call f ToUser y) = []
+found_lanes (what.Call f Yield y) = []
+found_lanes (what.Call f (Note k) y) = []
 found_lanes (what.Look rises) = []
 found_lanes (what.Begin b from) = []
 found_lanes (what.Normal f) = []
