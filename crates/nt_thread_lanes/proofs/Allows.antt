@@ -48,7 +48,8 @@ runs_here x st t h by =
     let here : RunsHere x st t = subst (λ (o : Option ThreadNo). IfSome o (RunsHere x st)) by h in
     record { named = lt-ltb t.0 (length x.script.threads) here.named; own = here.own }
 
-pub makes_here : (x : ThreadLanes) (st : Stand) (w : What) (t : ThreadNo) → IfSome st.thread (RunsHere x st) → WhatFits x st w → thread_field w st.thread ≡ Some t → MakesHere x st t
+pub makes_here : (x : ThreadLanes) (st : Stand) (w : What) (t : ThreadNo) → IfSome st.thread (RunsHere x st) → WhatFits x st w → thread_field w st.thread
+    ≡ Some t → MakesHere x st t
 makes_here x st (Switch u status) t r h by =
     subst (λ (v : ThreadNo). MakesHere x st v) (same_thread u t (Some u) refl by) (record { named = h.named; own = h.own })
 makes_here x st (Look rises) t r h by = cc
@@ -63,7 +64,8 @@ pub record NamesOne (x : ThreadLanes) (w : What) (t : ThreadNo) : Type 0 where
 names_same : (x : ThreadLanes) (w : What) (u t : ThreadNo) → NamesOne x w u → Some u ≡ Some t → NamesOne x w t
 names_same x w u t h e = subst (λ (v : ThreadNo). NamesOne x w v) (same_thread u t (Some u) refl e) h
 
-pub names_one : (x : ThreadLanes) (st : Stand) (w : What) (t : ThreadNo) → IsTrue (fits x.script) → WhatFits x st w → named_thread x.script w ≡ Some t → NamesOne x w t
+pub names_one : (x : ThreadLanes) (st : Stand) (w : What) (t : ThreadNo) → IsTrue (fits x.script) → WhatFits x st w → named_thread x.script w ≡ Some t →
+    NamesOne x w t
 names_one x st (Call f (Release u) y) t s h e =
     names_same x (Call f (Release u) y) u t (record { named = h.named; may = h.facts }) e
 names_one x st (Call f (Alert u m) y) t s h e =

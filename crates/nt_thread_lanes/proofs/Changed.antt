@@ -53,11 +53,15 @@ alerted_queue UserMode b x = refl
 
 tested_queue : (m : Mode) (x : ThreadFacts) → (alert_tested m x).apcs ≡ x.apcs
 tested_queue m x =
-    queue_if (is_alerted m x) (set_alerted m false x) _ x.apcs (alerted_queue m false x) (queue_if (is_user m && has_user x.apcs) (record x { user_pending = true }) x x.apcs refl refl)
+    queue_if (is_alerted m x) (set_alerted m false x) _ x.apcs (alerted_queue m false x)
+    (queue_if (is_user m && has_user x.apcs) (record x { user_pending = true }) x x.apcs refl refl)
 
 answered_queue : (st : ℕ) (m : Mode) (a delay : Bool) (x : ThreadFacts) → (answered st m a delay x).apcs ≡ x.apcs
 answered_queue st m a delay x =
-    queue_if (st == satisfied) (if delay then x else record x { released = false }) _ x.apcs (queue_if delay x (record x { released = false }) x.apcs refl refl) (queue_if (st == alerted) (alert_taken m x) _ x.apcs (alerted_queue (if is_alerted m x then m else KernelMode) false x) (queue_if ((st == user_apc) && a) (record x { user_pending = true }) x x.apcs refl refl))
+    queue_if (st == satisfied) (if delay then x else record x { released = false }) _ x.apcs
+    (queue_if delay x (record x { released = false }) x.apcs refl refl)
+    (queue_if (st == alerted) (alert_taken m x) _ x.apcs (alerted_queue (if is_alerted m x then m else KernelMode) false x)
+    (queue_if ((st == user_apc) && a) (record x { user_pending = true }) x x.apcs refl refl))
 
 waited_queue : (n : ℕ) (r : Regions) (level : ℕ) (m : Mode) (a delay : Bool) (y : Reply) (x : ThreadFacts) → (waited n r level m a delay y x).apcs ≡ x.apcs
 waited_queue n r level m a delay (Status st) x = answered_queue st m a delay x
@@ -92,7 +96,9 @@ made_changes s n st w x = refl
 inserted_queue : (pick : Pick) (x : ThreadFacts) → (insert_facts pick x).apcs ≡ with_apc pick x.apcs
 inserted_queue pick x =
     let y : ThreadFacts = record x { apcs = with_apc pick x.apcs } in
-    queue_if (ends_by_apc pick x) (if is_kernel_kind pick.kind then ended kernel_apc y else record (ended user_apc y) { user_pending = true }) y (with_apc pick x.apcs) (queue_if (is_kernel_kind pick.kind) (ended kernel_apc y) (record (ended user_apc y) { user_pending = true }) (with_apc pick x.apcs) refl refl) refl
+    queue_if (ends_by_apc pick x) (if is_kernel_kind pick.kind then ended kernel_apc y else record (ended user_apc y) { user_pending = true }) y
+    (with_apc pick x.apcs) (queue_if (is_kernel_kind pick.kind) (ended kernel_apc y) (record (ended user_apc y) { user_pending = true })
+    (with_apc pick x.apcs) refl refl) refl
 
 pub told_changes : (s : Script) (n : ℕ) (w : What) (x : ThreadFacts) → (told_facts s n w x).apcs ≡ told_queue s n w x.apcs
 told_changes s n (Call f (Release u) y) x =

@@ -40,7 +40,8 @@ of_kernel P q h =
 
 pub of_deliverable : (P : Pick → Type 0) (q : ApcQueues) (r : Regions) (level : ℕ) → All P q.pending → Holds P (deliverable q r level)
 of_deliverable P q r level h =
-    holds_then P (λ x. when ((level == 0) && lets_through r x.kind) (Some x)) (first_kernel q) (λ x e. holds_when P ((level == 0) && lets_through r x.kind) (Some x) (λ a. holds_at P (first_kernel q) x (of_kernel P q h) e))
+    holds_then P (λ x. when ((level == 0) && lets_through r x.kind) (Some x)) (first_kernel q)
+    (λ x e. holds_when P ((level == 0) && lets_through r x.kind) (Some x) (λ a. holds_at P (first_kernel q) x (of_kernel P q h) e))
 
 -- the first user APC
 pub of_user : (P : Pick → Type 0) (q : ApcQueues) → All P q.pending → Holds P (first_user q)
@@ -52,7 +53,11 @@ of_user_due P x h = holds_when P x.user_pending (first_user x.apcs) (λ a. of_ki
 -- the insert that begins
 pub begins_one : (P : Pick → Type 0) (st : Stand) (a : ApcNo) (from : ℕ) (x : ThreadFacts) (b : Begins st a from x) → All P x.apcs.pending → P b.pick
 begins_one P st a from x b h =
-    elim b.due [ inl e ↦ holds_at P (deliverable x.apcs st.regions st.level) b.pick (of_deliverable P x.apcs st.regions st.level h) e | inr e ↦ holds_at P (user_due x) b.pick (of_user_due P x h) e ]
+    elim b.due [
+      | inl e ↦ holds_at P (deliverable x.apcs st.regions st.level) b.pick (of_deliverable P x.apcs st.regions st.level h) e
+      | inr e ↦ holds_at P
+          (user_due x) b.pick (of_user_due P x h) e
+    ]
 
 -- the insert that is flushed
 pub flushes_one : (P : Pick → Type 0) (a : ApcNo) (from : ℕ) (x : ThreadFacts) (b : Flushes a from x) → All P x.apcs.pending → P b.pick

@@ -53,7 +53,8 @@ ended_one : (b : ApcNo) (o : Option Body) (q : ApcQueues) → is_inserted b (end
 ended_one b (Some (OnBase t)) q = refl
 ended_one b o q = refl
 
-made_one : (b : ApcNo) (st : Stand) (w : What) (s : Script) (q : ApcQueues) → named_thread s w ≡ None → is_inserted b (made_queue st w q) ≡ mark_after (changed_apc w) b (is_inserted b q)
+made_one : (b : ApcNo) (st : Stand) (w : What) (s : Script) (q : ApcQueues) → named_thread s w ≡ None → is_inserted b (made_queue st w q)
+    ≡ mark_after (changed_apc w) b (is_inserted b q)
 made_one b st (Call f (InsertApc a) y) s q h = cc
 made_one b st (Call f (RemoveApc a) y) s q h = cc
 made_one b st (Begin (Apc a) from) s q h = without_one a b q (a.0 == b.0) refl
@@ -65,7 +66,8 @@ or_if : (c old : Bool) → (c || old) ≡ (if c then true else old)
 or_if true old = refl
 or_if false old = refl
 
-told_one : (b : ApcNo) (n : ℕ) (w : What) (s : Script) (t : ThreadNo) (q : ApcQueues) → named_thread s w ≡ Some t → is_inserted b (told_queue s n w q) ≡ mark_after (changed_apc w) b (is_inserted b q)
+told_one : (b : ApcNo) (n : ℕ) (w : What) (s : Script) (t : ThreadNo) (q : ApcQueues) → named_thread s w ≡ Some t → is_inserted b (told_queue s n w q)
+    ≡ mark_after (changed_apc w) b (is_inserted b q)
 told_one b n (Call f (InsertApc a) Yes) s t q h = or_if (a.0 == b.0) (is_inserted b q)
 told_one b n (Call f (RemoveApc a) Yes) s t q h = without_one a b q (a.0 == b.0) refl
 told_one b n (Begin (Apc a) from) s t q h = cc
@@ -74,7 +76,8 @@ told_one b n w s t q h = refl
 
 -- ---- the marks
 
-with_one : (c : Option (ApcNo × Bool)) (marks : List Bool) (b : ApcNo) → b.0 < length marks → get_or (with_mark c marks) b.0 false ≡ mark_after c b (get_or marks b.0 false)
+with_one : (c : Option (ApcNo × Bool)) (marks : List Bool) (b : ApcNo) → b.0 < length marks → get_or (with_mark c marks) b.0 false
+    ≡ mark_after c b (get_or marks b.0 false)
 with_one None marks b h = refl
 with_one (Some c) marks b h = go (c.0.0 == b.0) refl
   where
@@ -94,7 +97,8 @@ OfThread s t None = Unit {0}
 OfThread s t (Some c) = owner_of s c.0 ≡ t
 
 -- the mark of an object of another thread stays
-other_mark : (s : Script) (t : ThreadNo) (c : Option (ApcNo × Bool)) (b : ApcNo) (old : Bool) → OfThread s t c → eqb t.0 (owner_of s b).0 ≡ false → mark_after c b old ≡ old
+other_mark : (s : Script) (t : ThreadNo) (c : Option (ApcNo × Bool)) (b : ApcNo) (old : Bool) → OfThread s t c → eqb t.0 (owner_of s b).0 ≡ false →
+    mark_after c b old ≡ old
 other_mark s t None b old h k = refl
 other_mark s t (Some c) b old h k = go (c.0.0 == b.0) refl
   where
@@ -107,7 +111,9 @@ other_mark s t (Some c) b old h k = go (c.0.0 == b.0) refl
         absurd (eqb-false t.0 (owner_of s b).0 k (ap (λ (u : ThreadNo). u.0) (sym at)))
     go false e = refl
 
-marked_set : (x : ThreadLanes) (t : ThreadNo) (y : ThreadFacts) (c : Option (ApcNo × Bool)) (marks : List Bool) → AreMarked marks x → t.0 < length x.facts → OfThread x.script t c → ((b : ApcNo) → is_inserted b y.apcs ≡ mark_after c b (is_inserted b (facts_in x t).apcs)) → AreMarked (with_mark c marks) (record x { facts = set x.facts t.0 y })
+marked_set : (x : ThreadLanes) (t : ThreadNo) (y : ThreadFacts) (c : Option (ApcNo × Bool)) (marks : List Bool) → AreMarked marks x → t.0 < length x.facts →
+    OfThread x.script t c → ((b : ApcNo) → is_inserted b y.apcs ≡ mark_after c b (is_inserted b (facts_in x t).apcs)) →
+    AreMarked (with_mark c marks) (record x { facts = set x.facts t.0 y })
 marked_set x t y c marks m h owns left = record {
   count = with_count c marks ∙ m.count;
   each = λ b k. one b k (eqb t.0 (owner_of x.script b).0) refl;
@@ -115,20 +121,24 @@ marked_set x t y c marks m h owns left = record {
   same : (u : ThreadNo) → t.0 ≡ u.0 → facts_in x t ≡ facts_in x u
   same u e = ap (λ (k : ℕ). get_or x.facts k start_facts) e
 
-  here : (b : ApcNo) (d : Bool) → eqb t.0 (owner_of x.script b).0 ≡ d → mark_after c b (is_inserted b (facts_in x (owner_of x.script b)).apcs) ≡ is_inserted b (if d then y else facts_in x (owner_of x.script b)).apcs
+  here : (b : ApcNo) (d : Bool) → eqb t.0 (owner_of x.script b).0 ≡ d → mark_after c b (is_inserted b (facts_in x (owner_of x.script b)).apcs)
+      ≡ is_inserted b (if d then y else facts_in x (owner_of x.script b)).apcs
   here b true e =
       ap (λ (z : ThreadFacts). mark_after c b (is_inserted b z.apcs)) (sym (same (owner_of x.script b) (eqb-true t.0 (owner_of x.script b).0 e))) ∙ sym (left b)
   here b false e = other_mark x.script t c b (is_inserted b (facts_in x (owner_of x.script b)).apcs) owns e
 
-  one : (b : ApcNo) → IsTrue (has_apc x.script b) → (d : Bool) → eqb t.0 (owner_of x.script b).0 ≡ d → get_or (with_mark c marks) b.0 false ≡ is_inserted b (facts_in (record x { facts = set x.facts t.0 y }) (owner_of x.script b)).apcs
+  one : (b : ApcNo) → IsTrue (has_apc x.script b) → (d : Bool) → eqb t.0 (owner_of x.script b).0 ≡ d → get_or (with_mark c marks) b.0 false
+      ≡ is_inserted b (facts_in (record x { facts = set x.facts t.0 y }) (owner_of x.script b)).apcs
   one b k d e =
       let within : b.0 < length marks = subst (λ (n : ℕ). b.0 < n) (sym m.count) (ltb-true b.0 (length x.script.apcs) k) in
-      let mark : get_or (with_mark c marks) b.0 false ≡ mark_after c b (is_inserted b (facts_in x (owner_of x.script b)).apcs) = with_one c marks b within ∙ ap (mark_after c b) (m.each b k) in
+      let mark : get_or (with_mark c marks) b.0 false ≡ mark_after c b (is_inserted b (facts_in x (owner_of x.script b)).apcs) = with_one c marks b within
+      ∙ ap (mark_after c b) (m.each b k) in
       mark ∙ here b d e ∙ ap (λ (z : ThreadFacts). is_inserted b z.apcs) (sym (set_facts x t (owner_of x.script b) y d h e))
 
 -- ---- the events
 
-owns_made : (s : Script) (t : ThreadNo) (st : Stand) (w : What) (x : ThreadFacts) → named_thread s w ≡ None → CanMake st w x → All (IsOurs s t) x.apcs.pending → OfThread s t (changed_apc w)
+owns_made : (s : Script) (t : ThreadNo) (st : Stand) (w : What) (x : ThreadFacts) → named_thread s w ≡ None → CanMake st w x →
+    All (IsOurs s t) x.apcs.pending → OfThread s t (changed_apc w)
 owns_made s t st (Call f (InsertApc a) y) x e may h = cc
 owns_made s t st (Call f (RemoveApc a) y) x e may h = cc
 owns_made s t st (Begin (Apc a) from) x e may h =
@@ -147,13 +157,18 @@ owns_told s t (Begin (Apc a) from) e = cc
 owns_told s t (Flush a from) e = cc
 owns_told s t w e = tt
 
-pub marked_made : (x : ThreadLanes) (t : ThreadNo) (n : ℕ) (st : Stand) (w : What) (marks : List Bool) → IsSound x → AreMarked marks x → t.0 < length x.facts → named_thread x.script w ≡ None → CanMake st w (facts_in x t) → AreMarked (marks_after w marks) (record x { facts = set x.facts t.0 (made_facts x.script n st w (facts_in x t)) })
+pub marked_made : (x : ThreadLanes) (t : ThreadNo) (n : ℕ) (st : Stand) (w : What) (marks : List Bool) → IsSound x → AreMarked marks x → t.0 < length x.facts →
+    named_thread x.script w ≡ None → CanMake st w (facts_in x t) →
+    AreMarked (marks_after w marks) (record x { facts = set x.facts t.0 (made_facts x.script n st w (facts_in x t)) })
 marked_made x t n st w marks s m h e may =
-    marked_set x t (made_facts x.script n st w (facts_in x t)) (changed_apc w) marks m h (owns_made x.script t st w (facts_in x t) e may (s.picks t)) (λ b. ap (is_inserted b) (made_changes x.script n st w (facts_in x t)) ∙ made_one b st w x.script (facts_in x t).apcs e)
+    marked_set x t (made_facts x.script n st w (facts_in x t)) (changed_apc w) marks m h (owns_made x.script t st w (facts_in x t) e may (s.picks t))
+    (λ b. ap (is_inserted b) (made_changes x.script n st w (facts_in x t)) ∙ made_one b st w x.script (facts_in x t).apcs e)
 
-pub marked_told : (x : ThreadLanes) (t : ThreadNo) (n : ℕ) (w : What) (marks : List Bool) → AreMarked marks x → t.0 < length x.facts → named_thread x.script w ≡ Some t → AreMarked (marks_after w marks) (record x { facts = set x.facts t.0 (told_facts x.script n w (facts_in x t)) })
+pub marked_told : (x : ThreadLanes) (t : ThreadNo) (n : ℕ) (w : What) (marks : List Bool) → AreMarked marks x → t.0 < length x.facts → named_thread x.script w
+    ≡ Some t → AreMarked (marks_after w marks) (record x { facts = set x.facts t.0 (told_facts x.script n w (facts_in x t)) })
 marked_told x t n w marks m h e =
-    marked_set x t (told_facts x.script n w (facts_in x t)) (changed_apc w) marks m h (owns_told x.script t w e) (λ b. ap (is_inserted b) (told_changes x.script n w (facts_in x t)) ∙ told_one b n w x.script t (facts_in x t).apcs e)
+    marked_set x t (told_facts x.script n w (facts_in x t)) (changed_apc w) marks m h (owns_told x.script t w e)
+    (λ b. ap (is_inserted b) (told_changes x.script n w (facts_in x t)) ∙ told_one b n w x.script t (facts_in x t).apcs e)
 
 no_mark : (n i : ℕ) → get_or (replicate n false) i false ≡ false
 no_mark zero i = refl

@@ -19,7 +19,8 @@ named : (s : Script) (t : ThreadNo) (o : Option Pick) → Holds (IsOurs s t) o �
 named s t None h = tt
 named s t (Some x) h = h.apc
 
-pub deliverable_named : (s : Script) (t : ThreadNo) (x : ThreadFacts) (r : Regions) (level : ℕ) (o : Option Pick) → AreOurs s t x.apcs → o ≡ deliverable x.apcs r level → IsNamed s o
+pub deliverable_named : (s : Script) (t : ThreadNo) (x : ThreadFacts) (r : Regions) (level : ℕ) (o : Option Pick) → AreOurs s t x.apcs → o
+    ≡ deliverable x.apcs r level → IsNamed s o
 deliverable_named s t x r level o ours e = rw e (named s t (deliverable x.apcs r level) (of_deliverable (IsOurs s t) x.apcs r level ours))
 
 pub due_named : (s : Script) (t : ThreadNo) (x : ThreadFacts) (o : Option Pick) → AreOurs s t x.apcs → o ≡ user_due x → IsNamed s o

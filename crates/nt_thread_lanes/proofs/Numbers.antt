@@ -55,7 +55,9 @@ owner_named s a h named =
     rw at (both _ _ normal.0).0
 
 -- the same of the threads that contracts see, by their fields
-pub owner_at : (x y : ThreadLanes) (a : ApcNo) (t : ThreadNo) → x ≡ y → IsTrue (fits x.script) → IsTrue (has_apc y.script a) → t ≡ owner_of x.script a → IsTrue (has_thread y.script t)
+pub owner_at : (x y : ThreadLanes) (a : ApcNo) (t : ThreadNo) → x ≡ y → IsTrue (fits x.script) → IsTrue (has_apc y.script a) → t ≡ owner_of x.script a →
+    IsTrue (has_thread y.script t)
 owner_at x y a t e h named at =
     let here : IsTrue (has_apc x.script a) = subst (λ (z : ThreadLanes). IsTrue (has_apc z.script a)) (sym e) named in
-    subst (λ (z : ThreadLanes). IsTrue (has_thread z.script t)) e (subst (λ (u : ThreadNo). IsTrue (has_thread x.script u)) (sym at) (owner_named x.script a h here))
+    subst (λ (z : ThreadLanes). IsTrue (has_thread z.script t)) e
+    (subst (λ (u : ThreadNo). IsTrue (has_thread x.script u)) (sym at) (owner_named x.script a h here))

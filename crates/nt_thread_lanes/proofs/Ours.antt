@@ -42,7 +42,8 @@ ours_made s t st (Flush a from) q h = ours_without s t a q h
 ours_made s t st (End f) q h = ours_ended s t st.body q h
 ours_made s t st w q h = h
 
-ours_told : (s : Script) (t : ThreadNo) (n : ℕ) (w : What) (z : ThreadFacts) (q : ApcQueues) → named_thread s w ≡ Some t → CanTell s w z → AreOurs s t q → AreOurs s t (told_queue s n w q)
+ours_told : (s : Script) (t : ThreadNo) (n : ℕ) (w : What) (z : ThreadFacts) (q : ApcQueues) → named_thread s w ≡ Some t → CanTell s w z → AreOurs s t q →
+    AreOurs s t (told_queue s n w q)
 ours_told s t n (Call f (InsertApc a) Yes) z q e may h =
     All-cons (IsOurs s t) (new_pick s a n) q.pending (record { apc = may.apc; kind = refl; owner = some_thread (owner_of s a) t e }) h
 ours_told s t n (Call f (RemoveApc a) Yes) z q e may h = ours_without s t a q h
@@ -51,7 +52,8 @@ ours_told s t n w z q e may h = h
 -- ---- the states
 
 -- the facts of a thread where those of one are written
-pub set_facts : (x : ThreadLanes) (t u : ThreadNo) (y : ThreadFacts) (b : Bool) → t.0 < length x.facts → eqb t.0 u.0 ≡ b → facts_in (record x { facts = set x.facts t.0 y }) u ≡ (if b then y else facts_in x u)
+pub set_facts : (x : ThreadLanes) (t u : ThreadNo) (y : ThreadFacts) (b : Bool) → t.0 < length x.facts → eqb t.0 u.0 ≡ b →
+    facts_in (record x { facts = set x.facts t.0 y }) u ≡ (if b then y else facts_in x u)
 set_facts x t u y true h e =
     subst (λ (k : ℕ). get_or (set x.facts t.0 y) k start_facts ≡ y) (eqb-true t.0 u.0 e) (get_or-set_same x.facts t.0 y start_facts h)
 set_facts x t u y false h e =
@@ -60,7 +62,8 @@ set_facts x t u y false h e =
 same_number : (t u : ThreadNo) → t.0 ≡ u.0 → t ≡ u
 same_number t u h = λ i. record { 0 = h i }
 
-sound_set : (x : ThreadLanes) (t : ThreadNo) (y : ThreadFacts) → IsSound x → t.0 < length x.facts → AreOurs x.script t y.apcs → IsSound (record x { facts = set x.facts t.0 y })
+sound_set : (x : ThreadLanes) (t : ThreadNo) (y : ThreadFacts) → IsSound x → t.0 < length x.facts → AreOurs x.script t y.apcs →
+    IsSound (record x { facts = set x.facts t.0 y })
 sound_set x t y h b k = record {
   script = h.script;
   threads = length-set x.facts t.0 y ∙ h.threads;
@@ -73,18 +76,26 @@ sound_set x t y h b k = record {
   go u false e = subst (λ (z : ThreadFacts). AreOurs x.script u z.apcs) (sym (set_facts x t u y false b e)) (h.picks u)
 
 -- a thread makes an event
-pub sound_made : (x : ThreadLanes) (t : ThreadNo) (n : ℕ) (st : Stand) (w : What) → IsSound x → t.0 < length x.facts → IsSound (record x { facts = set x.facts t.0 (made_facts x.script n st w (facts_in x t)) })
+pub sound_made : (x : ThreadLanes) (t : ThreadNo) (n : ℕ) (st : Stand) (w : What) → IsSound x → t.0 < length x.facts →
+    IsSound (record x { facts = set x.facts t.0 (made_facts x.script n st w (facts_in x t)) })
 sound_made x t n st w h b =
-    sound_set x t (made_facts x.script n st w (facts_in x t)) h b (subst (λ (q : ApcQueues). AreOurs x.script t q) (sym (made_changes x.script n st w (facts_in x t))) (ours_made x.script t st w (facts_in x t).apcs (h.picks t)))
+    sound_set x t (made_facts x.script n st w (facts_in x t)) h b
+    (subst (λ (q : ApcQueues). AreOurs x.script t q) (sym (made_changes x.script n st w (facts_in x t)))
+    (ours_made x.script t st w (facts_in x t).apcs (h.picks t)))
 
 -- an event names a thread
-pub sound_told : (x : ThreadLanes) (t : ThreadNo) (n : ℕ) (w : What) → IsSound x → t.0 < length x.facts → named_thread x.script w ≡ Some t → CanTell x.script w (facts_in x t) → IsSound (record x { facts = set x.facts t.0 (told_facts x.script n w (facts_in x t)) })
+pub sound_told : (x : ThreadLanes) (t : ThreadNo) (n : ℕ) (w : What) → IsSound x → t.0 < length x.facts → named_thread x.script w ≡ Some t →
+    CanTell x.script w (facts_in x t) → IsSound (record x { facts = set x.facts t.0 (told_facts x.script n w (facts_in x t)) })
 sound_told x t n w h b e may =
-    sound_set x t (told_facts x.script n w (facts_in x t)) h b (subst (λ (q : ApcQueues). AreOurs x.script t q) (sym (told_changes x.script n w (facts_in x t))) (ours_told x.script t n w (facts_in x t) (facts_in x t).apcs e may (h.picks t)))
+    sound_set x t (told_facts x.script n w (facts_in x t)) h b
+    (subst (λ (q : ApcQueues). AreOurs x.script t q) (sym (told_changes x.script n w (facts_in x t)))
+    (ours_told x.script t n w (facts_in x t) (facts_in x t).apcs e may (h.picks t)))
 
 pub kinds_hold : (x : ThreadLanes) → IsSound x → All (λ y. All (λ pick. pick.kind ≡ kind_of x.script pick.apc) y.apcs.pending) x.facts
 kinds_hold x h =
-    All-from_get_or (λ y. All (λ pick. pick.kind ≡ kind_of x.script pick.apc) y.apcs.pending) x.facts start_facts (λ i k. All-weaker (IsOurs x.script (record { 0 = i })) (λ pick. pick.kind ≡ kind_of x.script pick.apc) (λ pick q. q.kind) (get_or x.facts i start_facts).apcs.pending (h.picks (record { 0 = i })))
+    All-from_get_or (λ y. All (λ pick. pick.kind ≡ kind_of x.script pick.apc) y.apcs.pending) x.facts start_facts
+    (λ i k. All-weaker (IsOurs x.script (record { 0 = i })) (λ pick. pick.kind ≡ kind_of x.script pick.apc) (λ pick q. q.kind)
+    (get_or x.facts i start_facts).apcs.pending (h.picks (record { 0 = i })))
 
 -- ---- new threads have no APCs
 

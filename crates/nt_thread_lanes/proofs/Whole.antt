@@ -38,31 +38,43 @@ bound x y t e h named =
 read : (x : ThreadLanes) (t : ThreadNo) (old : ThreadFacts) → t.0 < length x.facts → old ≡ get_or x.facts t.0 old → old ≡ facts_in x t
 read x t old h e = e ∙ at_default x.facts t.0 old start_facts h
 
-pub holds_made : (x y : ThreadLanes) (t : ThreadNo) (n : ℕ) (st : Stand) (w : What) (old new : ThreadFacts) (marks after : List Bool) → x ≡ y → Holds x marks → IsTrue (has_thread y.script t) → named_thread y.script w ≡ None → CanMake st w (facts_in y t) → old ≡ get_or x.facts t.0 old → new ≡ made_facts x.script n st w old → after ≡ marks_after w marks → Holds (record x { facts = set x.facts t.0 new }) after
+pub holds_made : (x y : ThreadLanes) (t : ThreadNo) (n : ℕ) (st : Stand) (w : What) (old new : ThreadFacts) (marks after : List Bool) → x ≡ y → Holds x marks →
+    IsTrue (has_thread y.script t) → named_thread y.script w ≡ None → CanMake st w (facts_in y t) → old ≡ get_or x.facts t.0 old → new
+    ≡ made_facts x.script n st w old → after ≡ marks_after w marks → Holds (record x { facts = set x.facts t.0 new }) after
 holds_made x y t n st w old new marks after e h named none may at left marked =
     let b : t.0 < length x.facts = bound x y t e h.sound named in
     let change : made_facts x.script n st w (facts_in x t) ≡ new = sym (left ∙ ap (made_facts x.script n st w) (read x t old b at)) in
     let no : named_thread x.script w ≡ None = subst (λ (z : ThreadLanes). named_thread z.script w ≡ None) (sym e) none in
     let can : CanMake st w (facts_in x t) = subst (λ (z : ThreadLanes). CanMake st w (facts_in z t)) (sym e) may in
-    let whole : Holds (record x { facts = set x.facts t.0 (made_facts x.script n st w (facts_in x t)) }) (marks_after w marks) = record { sound = sound_made x t n st w h.sound b; marked = marked_made x t n st w marks h.sound h.marked b no can } in
-    subst (λ (z : ThreadFacts). Holds (record x { facts = set x.facts t.0 z }) after) change (subst (λ (m : List Bool). Holds (record x { facts = set x.facts t.0 (made_facts x.script n st w (facts_in x t)) }) m) (sym marked) whole)
+    let whole : Holds (record x { facts = set x.facts t.0 (made_facts x.script n st w (facts_in x t)) })
+    (marks_after w marks) = record { sound = sound_made x t n st w h.sound b; marked = marked_made x t n st w marks h.sound h.marked b no can } in
+    subst (λ (z : ThreadFacts). Holds (record x { facts = set x.facts t.0 z }) after) change
+    (subst (λ (m : List Bool). Holds (record x { facts = set x.facts t.0 (made_facts x.script n st w (facts_in x t)) }) m) (sym marked) whole)
 
-pub holds_told : (x y : ThreadLanes) (t : ThreadNo) (n : ℕ) (w : What) (old new : ThreadFacts) (marks after : List Bool) → x ≡ y → Holds x marks → IsTrue (has_thread y.script t) → named_thread y.script w ≡ Some t → CanTell y.script w (facts_in y t) → old ≡ get_or x.facts t.0 old → new ≡ told_facts x.script n w old → after ≡ marks_after w marks → Holds (record x { facts = set x.facts t.0 new }) after
+pub holds_told : (x y : ThreadLanes) (t : ThreadNo) (n : ℕ) (w : What) (old new : ThreadFacts) (marks after : List Bool) → x ≡ y → Holds x marks →
+    IsTrue (has_thread y.script t) → named_thread y.script w ≡ Some t → CanTell y.script w (facts_in y t) → old ≡ get_or x.facts t.0 old → new
+    ≡ told_facts x.script n w old → after ≡ marks_after w marks → Holds (record x { facts = set x.facts t.0 new }) after
 holds_told x y t n w old new marks after e h named by may at left marked =
     let b : t.0 < length x.facts = bound x y t e h.sound named in
     let change : told_facts x.script n w (facts_in x t) ≡ new = sym (left ∙ ap (told_facts x.script n w) (read x t old b at)) in
     let mine : named_thread x.script w ≡ Some t = subst (λ (z : ThreadLanes). named_thread z.script w ≡ Some t) (sym e) by in
     let can : CanTell x.script w (facts_in x t) = subst (λ (z : ThreadLanes). CanTell z.script w (facts_in z t)) (sym e) may in
-    let whole : Holds (record x { facts = set x.facts t.0 (told_facts x.script n w (facts_in x t)) }) (marks_after w marks) = record { sound = sound_told x t n w h.sound b mine can; marked = marked_told x t n w marks h.marked b mine } in
-    subst (λ (z : ThreadFacts). Holds (record x { facts = set x.facts t.0 z }) after) change (subst (λ (m : List Bool). Holds (record x { facts = set x.facts t.0 (told_facts x.script n w (facts_in x t)) }) m) (sym marked) whole)
+    let whole : Holds (record x { facts = set x.facts t.0 (told_facts x.script n w (facts_in x t)) })
+    (marks_after w marks) = record { sound = sound_told x t n w h.sound b mine can; marked = marked_told x t n w marks h.marked b mine } in
+    subst (λ (z : ThreadFacts). Holds (record x { facts = set x.facts t.0 z }) after) change
+    (subst (λ (m : List Bool). Holds (record x { facts = set x.facts t.0 (told_facts x.script n w (facts_in x t)) }) m) (sym marked) whole)
 
-pub holds_start : (s : Script) (n k : ℕ) (xs : List ThreadFacts) (marks : List Bool) → IsTrue (fits s) → xs ≡ replicate n start_facts → n ≡ length s.threads → marks ≡ replicate k false → k ≡ length s.apcs → Holds (record { script = s; facts = xs }) marks
+pub holds_start : (s : Script) (n k : ℕ) (xs : List ThreadFacts) (marks : List Bool) → IsTrue (fits s) → xs ≡ replicate n start_facts → n ≡ length s.threads →
+    marks ≡ replicate k false → k ≡ length s.apcs → Holds (record { script = s; facts = xs }) marks
 holds_start s n k xs marks f states count no_marks apcs =
-    let whole : Holds (record { script = s; facts = replicate n start_facts }) (replicate k false) = record { sound = sound_start s n f count; marked = marked_start s n k apcs } in
-    subst (λ (ys : List ThreadFacts). Holds (record { script = s; facts = ys }) marks) (sym states) (subst (λ (m : List Bool). Holds (record { script = s; facts = replicate n start_facts }) m) (sym no_marks) whole)
+    let whole : Holds (record { script = s; facts = replicate n start_facts })
+    (replicate k false) = record { sound = sound_start s n f count; marked = marked_start s n k apcs } in
+    subst (λ (ys : List ThreadFacts). Holds (record { script = s; facts = ys }) marks) (sym states)
+    (subst (λ (m : List Bool). Holds (record { script = s; facts = replicate n start_facts }) m) (sym no_marks) whole)
 
 -- the mark of an object tells whether it is inserted
-pub mark_tells : (x y : ThreadLanes) (marks : List Bool) (a : ApcNo) (flag : Bool) → x ≡ y → AreMarked marks x → IsTrue (has_apc y.script a) → flag ≡ get_or marks a.0 flag → flag ≡ is_inserted a (facts_in y (owner_of y.script a)).apcs
+pub mark_tells : (x y : ThreadLanes) (marks : List Bool) (a : ApcNo) (flag : Bool) → x ≡ y → AreMarked marks x → IsTrue (has_apc y.script a) → flag
+    ≡ get_or marks a.0 flag → flag ≡ is_inserted a (facts_in y (owner_of y.script a)).apcs
 mark_tells x y marks a flag e m named at =
     let here : has_apc x.script a ≡ true = subst (λ (z : ThreadLanes). has_apc z.script a ≡ true) (sym e) named in
     let within : a.0 < length x.script.apcs = ltb-true a.0 (length x.script.apcs) here in

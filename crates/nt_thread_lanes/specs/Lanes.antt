@@ -24,4 +24,7 @@ start s = record { script = s; facts = table (length s.threads) (λ t. facts_at 
 -- what the event of this number leaves, of a processor that stood so
 abbrev pub left : ℕ → Stand → Event → ThreadLanes → ThreadLanes
 left n st e x =
-    record x { facts = table (length x.script.threads) (λ t. facts_after x.script (thread t) n st e (facts_in x (thread t))) }
+    record x {
+      facts = table (length x.script.threads)
+          (λ t. facts_after x.script (thread t) n st e (facts_in x (thread t)));
+    }

@@ -27,4 +27,5 @@ pub record IsSound (x : ThreadLanes) : Type 0 where
 -- the marks of the APC objects: whether each is inserted
 pub record AreMarked (marks : List Bool) (x : ThreadLanes) : Type 0 where
   pub count : length marks ≡ length x.script.apcs
-  pub each : (a : ApcNo) → IsTrue (has_apc x.script a) → get_or marks a.0 false ≡ is_inserted a (facts_in x (owner_of x.script a)).apcs
+  pub each : (a : ApcNo) → IsTrue (has_apc x.script a) → get_or marks a.0 false
+      ≡ is_inserted a (facts_in x (owner_of x.script a)).apcs

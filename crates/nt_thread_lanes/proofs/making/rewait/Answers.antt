@@ -6,4 +6,5 @@ pub returns-in-Some : goal.returns-in-Some
 returns-in-Some c s f =
     let answer = rw (c.reached.ensures, c.is_some.ensures) at c.wait.ensures.answer in
     let after = rw (c.reached.ensures, c.is_some.ensures) at c.wait.ensures.after in
-    rewait_left c.args.stand.now c.args.state.now c.wait.new.self c.args.n c.in-Some.wait c.args.reply.now (reply_of c.wait.result) c.in-Some.is c.requires answer after
+    rewait_left c.args.stand.now c.args.state.now c.wait.new.self c.args.n c.in-Some.wait c.args.reply.now
+    (reply_of c.wait.result) c.in-Some.is c.requires answer after

@@ -7,4 +7,5 @@ use Rattle.nt_thread_lanes.proofs.threads.Threads.deliverable.Goals as goal
 
 pub returns-clause-named : goal.returns-clause-named
 returns-clause-named c =
-    deliverable_named c.args.self.now.script c.args.t (facts_in c.args.self.now c.args.t) c.args.regions c.args.level c.deliverable.result c.ours.ensures (c.deliverable.ensures ∙ ap (λ (x : ThreadFacts). deliverable x.apcs c.args.regions c.args.level) c.state.ensures)
+    deliverable_named c.args.self.now.script c.args.t (facts_in c.args.self.now c.args.t) c.args.regions c.args.level c.deliverable.result c.ours.ensures
+    (c.deliverable.ensures ∙ ap (λ (x : ThreadFacts). deliverable x.apcs c.args.regions c.args.level) c.state.ensures)

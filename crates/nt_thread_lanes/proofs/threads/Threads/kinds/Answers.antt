@@ -9,4 +9,5 @@ use Rattle.nt_thread_lanes.proofs.threads.Threads.kinds.Goals as goal
 
 pub returns : goal.returns
 returns c =
-    subst (λ (x : ThreadLanes). All (λ y. All (λ pick. pick.kind ≡ kind_of x.script pick.apc) y.apcs.pending) x.facts) c.self.view_is (kinds_hold (lanes_in c.self.inside) c.self.invariant.sound)
+    subst (λ (x : ThreadLanes). All (λ y. All (λ pick. pick.kind ≡ kind_of x.script pick.apc) y.apcs.pending) x.facts) c.self.view_is
+    (kinds_hold (lanes_in c.self.inside) c.self.invariant.sound)

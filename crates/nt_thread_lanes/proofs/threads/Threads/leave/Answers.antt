@@ -8,13 +8,17 @@ use Rattle.nt_thread_lanes.proofs.threads.Threads.leave.Goals as goal
 
 pub tell-requires-clause-thread : goal.tell-requires-clause-thread
 tell-requires-clause-thread c =
-    let named : named_thread c.args.self.now.script c.args.event.now.what ≡ Some c.in-Some.thread = subst (λ (x : ThreadLanes). named_thread x.script c.args.event.now.what ≡ Some c.in-Some.thread) c.self.view_is (sym c.named_thread.ensures ∙ c.in-Some.is) in
+    let named : named_thread c.args.self.now.script c.args.event.now.what
+    ≡ Some c.in-Some.thread = subst (λ (x : ThreadLanes). named_thread x.script c.args.event.now.what ≡ Some c.in-Some.thread) c.self.view_is
+    (sym c.named_thread.ensures ∙ c.in-Some.is) in
     let fit : IsTrue (fits c.args.self.now.script) = subst (λ (x : ThreadLanes). IsTrue (fits x.script)) c.self.view_is c.self.invariant.sound.script in
     (names_one c.args.self.now c.args.stand.now c.args.event.now.what c.in-Some.thread fit c.requires.what named).named
 
 pub tell-requires-clause-may : goal.tell-requires-clause-may
 tell-requires-clause-may c =
-    let named : named_thread c.args.self.now.script c.args.event.now.what ≡ Some c.in-Some.thread = subst (λ (x : ThreadLanes). named_thread x.script c.args.event.now.what ≡ Some c.in-Some.thread) c.self.view_is (sym c.named_thread.ensures ∙ c.in-Some.is) in
+    let named : named_thread c.args.self.now.script c.args.event.now.what
+    ≡ Some c.in-Some.thread = subst (λ (x : ThreadLanes). named_thread x.script c.args.event.now.what ≡ Some c.in-Some.thread) c.self.view_is
+    (sym c.named_thread.ensures ∙ c.in-Some.is) in
     let fit : IsTrue (fits c.args.self.now.script) = subst (λ (x : ThreadLanes). IsTrue (fits x.script)) c.self.view_is c.self.invariant.sound.script in
     (names_one c.args.self.now c.args.stand.now c.args.event.now.what c.in-Some.thread fit c.requires.what named).may
 

@@ -7,6 +7,7 @@ use Rattle.nt_thread_lanes.proofs.threads.Threads.next_ready.Given as goal
 
 abbrev pub invariant-loop-place : goal.invariant-loop-place
 invariant-loop-place l = record {
-  next : (x : Lanes) → x.threads ≡ l.self.facts → next_ready l.self.script l.p l.after x ≡ next_from l.p l.place (drop l.place l.self.script.threads) x l.after l.first;
+  next : (x : Lanes) → x.threads ≡ l.self.facts → next_ready l.self.script l.p l.after x
+      ≡ next_from l.p l.place (drop l.place l.self.script.threads) x l.after l.first;
   named : IfSome l.first (λ t. IsTrue (has_thread l.self.script t));
 }

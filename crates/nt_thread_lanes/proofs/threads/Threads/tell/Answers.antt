@@ -6,5 +6,6 @@ use Rattle.nt_thread_lanes.proofs.threads.Threads.tell.Goals as goal
 
 pub returns : goal.returns
 returns c st e same =
-    let size : length c.args.self.now.facts ≡ length c.args.self.now.script.threads = subst (λ (x : ThreadLanes). length x.facts ≡ length x.script.threads) c.self.view_is c.self.invariant.sound.threads in
+    let size : length c.args.self.now.facts ≡ length c.args.self.now.script.threads = subst
+    (λ (x : ThreadLanes). length x.facts ≡ length x.script.threads) c.self.view_is c.self.invariant.sound.threads in
     c.tell_thread.ensures ∙ sym (left_told_by c.args.self.now c.args.n st e c.args.t c.args.what.now same size c.requires.named c.requires.may)

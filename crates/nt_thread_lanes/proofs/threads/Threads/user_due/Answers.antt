@@ -7,4 +7,5 @@ use Rattle.nt_thread_lanes.proofs.threads.Threads.user_due.Goals as goal
 
 pub returns-clause-named : goal.returns-clause-named
 returns-clause-named c =
-    due_named c.args.self.now.script c.args.t (facts_in c.args.self.now c.args.t) c.user_due.result c.ours.ensures (c.user_due.ensures ∙ ap (λ (x : ThreadFacts). user_due x) c.state.ensures)
+    due_named c.args.self.now.script c.args.t (facts_in c.args.self.now c.args.t) c.user_due.result c.ours.ensures
+    (c.user_due.ensures ∙ ap (λ (x : ThreadFacts). user_due x) c.state.ensures)

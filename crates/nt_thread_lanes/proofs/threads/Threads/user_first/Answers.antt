@@ -7,4 +7,5 @@ use Rattle.nt_thread_lanes.proofs.threads.Threads.user_first.Goals as goal
 
 pub returns-clause-named : goal.returns-clause-named
 returns-clause-named c =
-    first_named c.args.self.now.script c.args.t (facts_in c.args.self.now c.args.t) c.user_first.result c.ours.ensures (c.user_first.ensures ∙ ap (λ (x : ThreadFacts). first_user x.apcs) c.state.ensures)
+    first_named c.args.self.now.script c.args.t (facts_in c.args.self.now c.args.t) c.user_first.result c.ours.ensures
+    (c.user_first.ensures ∙ ap (λ (x : ThreadFacts). first_user x.apcs) c.state.ensures)
