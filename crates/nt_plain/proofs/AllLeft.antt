@@ -42,16 +42,19 @@ may_leave_dpcs a x st w kept e g =
     let h : MayMake (states_in a) st w = subst (λ (z : AllStates). MayMake z st w) (sym e) g in
     subst (λ (d : DpcLanes). dpcs.MayLeave d st.cpu w) (dpcs_are a kept) (may_dpcs (states_in a) st w (knows (states_in a) st w h))
 
-pub may_leave_threads : (a : Inside) (x : AllStates) (st : Stand) (e : Event) → IsKept a → states_in a ≡ x → MayMake x st e.what → e ≡ acted_event st x.lanes e.what → MayLeave a.threads st e
+pub may_leave_threads : (a : Inside) (x : AllStates) (st : Stand) (e : Event) → IsKept a → states_in a ≡ x → MayMake x st e.what → e
+    ≡ acted_event st x.lanes e.what → MayLeave a.threads st e
 may_leave_threads a x st e kept same g made =
     let h : MayLeave (threads_of x) st e = subst (λ (z : Event). MayLeave (threads_of x) st z) (sym made) (may_threads x st e.what g) in
     let k : MayLeave (threads_of (states_in a)) st e = subst (λ (z : AllStates). MayLeave (threads_of z) st e) (sym same) h in
     subst (λ (t : ThreadLanes). MayLeave t st e) (threads_are a kept) k
 
-pub may_leave_timers : (a : Inside) (x : AllStates) (st : Stand) (e : Event) → IsKept a → states_in a ≡ x → MayMake x st e.what → e ≡ acted_event st x.lanes e.what → MayTime a.script.now a.timers e e.what
+pub may_leave_timers : (a : Inside) (x : AllStates) (st : Stand) (e : Event) → IsKept a → states_in a ≡ x → MayMake x st e.what → e
+    ≡ acted_event st x.lanes e.what → MayTime a.script.now a.timers e e.what
 may_leave_timers a x st e kept same g made =
     let sound : IsSound x = subst (λ (z : AllStates). IsSound z) same kept.sound in
-    let h : MayTime x.script x.lanes.timers e e.what = subst (λ (z : Event). MayTime x.script x.lanes.timers z e.what) (sym made) (may_timers x st sound e.what g) in
+    let h : MayTime x.script x.lanes.timers e e.what = subst (λ (z : Event). MayTime x.script x.lanes.timers z e.what) (sym made)
+    (may_timers x st sound e.what g) in
     subst (λ (z : AllStates). MayTime z.script z.lanes.timers e e.what) (sym same) h
 
 -- ---- what is left
@@ -63,7 +66,8 @@ pub record AreLeft (a b : Inside) (n : ℕ) (st : Stand) (e : Event) : Type 0 wh
   pub threads : b.threads ≡ threads.left n st e a.threads
   pub timers : b.timers ≡ timed n st e.thread e.what a.timers
 
-module _ (a b : Inside) (x : AllStates) (n : ℕ) (st : Stand) (e : Event) (kept : IsKept a) (same : states_in a ≡ x) (g : MayMake x st e.what) (made : e ≡ acted_event st x.lanes e.what) (left : AreLeft a b n st e) where
+module _ (a b : Inside) (x : AllStates) (n : ℕ) (st : Stand) (e : Event) (kept : IsKept a) (same : states_in a ≡ x) (g : MayMake x st e.what)
+    (made : e ≡ acted_event st x.lanes e.what) (left : AreLeft a b n st e) where
   times : b.timers ≡ timers_after a.script.now n st e a.timers
   times =
       left.timers ∙ sym (timers_left a.script.now st e n a.timers kept.sound.timers (may_leave_timers a x st e kept same g made))
@@ -83,8 +87,11 @@ module _ (a b : Inside) (x : AllStates) (n : ℕ) (st : Stand) (e : Event) (kept
 
   inside_left : states_in b ≡ record { script = a.script.now; lanes = lanes_after a.script.now n st e (states_in a).lanes }
   inside_left =
-      let d : b.dpcs ≡ dpcs.left n e.cpu e.what (dpcs_of (states_in a)) = left.dpcs ∙ ap (λ (z : DpcLanes). dpcs.left n st.cpu e.what z) (sym (dpcs_are a kept)) ∙ ap (λ (p : CpuNo). dpcs.left n p e.what (dpcs_of (states_in a))) (sym by_cpu) in
-      let t : b.threads ≡ threads.left n st e (threads_of (states_in a)) = left.threads ∙ ap (λ (z : ThreadLanes). threads.left n st e z) (sym (threads_are a kept)) in
+      let d : b.dpcs ≡ dpcs.left n e.cpu e.what (dpcs_of (states_in a)) = left.dpcs
+      ∙ ap (λ (z : DpcLanes). dpcs.left n st.cpu e.what z) (sym (dpcs_are a kept))
+      ∙ ap (λ (p : CpuNo). dpcs.left n p e.what (dpcs_of (states_in a))) (sym by_cpu) in
+      let t : b.threads ≡ threads.left n st e (threads_of (states_in a)) = left.threads
+      ∙ ap (λ (z : ThreadLanes). threads.left n st e z) (sym (threads_are a kept)) in
       let u = times in
       let s = left.script in
       λ j. record { script = s j; lanes = record { objects = (d j).objects; queues = (d j).queues; threads = (t j).facts; timers = u j } }

@@ -61,7 +61,8 @@ module _ (x : AllStates) (st : Stand) where
   may_make j w m e g = record { job = j; may = m; gives = e; named = g.named; taken = g.taken }
 
 -- the decision, where there is an event
-pub may_make_found : (x : AllStates) (st : Stand) (j : Job) (r : Result What ActRefusal) → MayDo x st j → IfOk r (λ w. job_event x.script st x.lanes j ≡ Some w) → IfOk r (λ w. IsGiven x.script x.lanes st w) → IfOk r (λ w. MayMake x st w)
+pub may_make_found : (x : AllStates) (st : Stand) (j : Job) (r : Result What ActRefusal) → MayDo x st j →
+    IfOk r (λ w. job_event x.script st x.lanes j ≡ Some w) → IfOk r (λ w. IsGiven x.script x.lanes st w) → IfOk r (λ w. MayMake x st w)
 may_make_found x st j (Ok w) m e g = may_make x st j w m e g
 may_make_found x st j (Err refusal) m e g = tt
 

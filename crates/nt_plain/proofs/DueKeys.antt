@@ -17,7 +17,8 @@ set_within [] n x h = absurd cc
 set_within (y ∷ xs) zero x h = omega arith
 set_within (y ∷ xs) (suc n) x h = let k = set_within xs n x h in omega arith
 
-pub due_key_fits : (x : AllStates) (key : TimerKey) → IsSound x → option_map (λ (e : TimerKey × ℕ). e.0) (due_entry x.lanes.timers) ≡ Some key → IsTrue (key_fits x.script key)
+pub due_key_fits : (x : AllStates) (key : TimerKey) → IsSound x → option_map (λ (e : TimerKey × ℕ). e.0) (due_entry x.lanes.timers) ≡ Some key →
+    IsTrue (key_fits x.script key)
 due_key_fits x (OfTimer t) sound h =
     let r = due_setting x.lanes.timers (OfTimer t) h in
     let below = set_within x.lanes.timers.timers t.0 r.0.setting r.3 in

@@ -39,7 +39,8 @@ module _ (x : AllStates) (st : Stand) where
   by_call f (StartWait m a) y k =
       in_thread (Waits st m a y) st.thread k.callable.thread (record { level = k.callable.level; reply = k.answer })
   by_call f (Delay m a units) y k =
-      in_thread (Delays st m a y) st.thread k.callable.thread (record { level = k.callable.level; reached = is_reached x.lanes.timers.now (x.lanes.timers.now + units); reply = k.answer })
+      in_thread (Delays st m a y) st.thread k.callable.thread
+      (record { level = k.callable.level; reached = is_reached x.lanes.timers.now (x.lanes.timers.now + units); reply = k.answer })
   by_call f (TestAlert m) y k =
       in_thread (λ facts. y ≡ yes_if (is_alerted m facts)) st.thread k.callable.thread k.answer
   by_call f Yield y k = in_thread (λ facts. y ≡ Done) st.thread k.callable.thread k.answer
@@ -61,7 +62,14 @@ module _ (x : AllStates) (st : Stand) where
 
   rewaits : (f : ℕ) (y : Reply) → KnownRewait x st y → WhatFits (threads_of x) st (Rewait f y)
   rewaits f y k =
-      in_thread (TakesUp st y) st.thread k.runs (record { level = k.level; wait = k.wait; kept = k.again; reached = option_map (is_reached x.lanes.timers.now) k.wait.due; kind = same_kind k.wait.due; reply = k.answer })
+      in_thread (TakesUp st y) st.thread k.runs (record {
+        level = k.level;
+        wait = k.wait;
+        kept = k.again;
+        reached = option_map (is_reached x.lanes.timers.now) k.wait.due;
+        kind = same_kind k.wait.due;
+        reply = k.answer;
+      })
 
   ends : (b : Option Body) → IsSome st.thread → EndFits st b
   ends (Some (OnBase t)) h = h

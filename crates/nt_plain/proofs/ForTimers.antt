@@ -21,7 +21,8 @@ use Rattle.nt_plain.specs.Timed.{CallMayTime, IsMaker, MayTime}
 use Rattle.nt_plain.proofs.Knowns.{KnownCall, Knows, knows}
 
 module _ (x : AllStates) (st : Stand) (sound : IsSound x) where
-  makes : (e : Event) (o : Option ThreadNo) → e.cpu ≡ st.cpu → e.thread ≡ o → IfSome o (λ t. RunsThere x.script x.lanes st t) → IfSome o (IsMaker x.script x.lanes.timers e)
+  makes : (e : Event) (o : Option ThreadNo) → e.cpu ≡ st.cpu → e.thread ≡ o → IfSome o (λ t. RunsThere x.script x.lanes st t) →
+      IfSome o (IsMaker x.script x.lanes.timers e)
   makes e None p r h = tt
   makes e (Some t) p r h =
       let own : e.cpu.0 ≡ (cpu_of x.script t).0 = ap (λ (q : CpuNo). q.0) p ∙ sym (ap (λ (q : CpuNo). q.0) h.own) in
@@ -29,7 +30,8 @@ module _ (x : AllStates) (st : Stand) (sound : IsSound x) where
       let named = h.named in
       record { made = record { thread = r; cpu = eq-eqb e.cpu.0 (cpu_of x.script t).0 own }; named = omega (arith, size, named) }
 
-  by_call : (f : ℕ) (c : Command) (y : Reply) → StandHolds x.script x.lanes st → KnownCall x st c y → CallMayTime x.script x.lanes.timers (acted_event st x.lanes (Call f c y)) c y
+  by_call : (f : ℕ) (c : Command) (y : Reply) → StandHolds x.script x.lanes st → KnownCall x st c y →
+      CallMayTime x.script x.lanes.timers (acted_event st x.lanes (Call f c y)) c y
   by_call f (SetTimer t due period) y s k =
       let below : t.0 < length x.script.timers = ltb-true t.0 (length x.script.timers) k.fits in
       let size = sound.timers.timers in omega (arith, size, below)

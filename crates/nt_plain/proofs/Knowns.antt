@@ -93,21 +93,30 @@ Knows x st w = Unit {0}
 module _ (x : AllStates) (st : Stand) where
   begins : (part : Part) → Holds (Knows x st) (begin_first part (queue_at x.lanes st.cpu))
   begins OrdinaryPart =
-      holds_map (Knows x st) (begin_dpc OrdinaryPart) (first_dpc OrdinaryPart (queue_at x.lanes st.cpu).pending) (λ i e. ap (λ (o : Option _). option_map (begin_dpc OrdinaryPart) o) e)
+      holds_map (Knows x st) (begin_dpc OrdinaryPart) (first_dpc OrdinaryPart (queue_at x.lanes st.cpu).pending)
+      (λ i e. ap (λ (o : Option _). option_map (begin_dpc OrdinaryPart) o) e)
   begins ThreadedPart =
-      holds_map (Knows x st) (begin_dpc ThreadedPart) (first_dpc ThreadedPart (queue_at x.lanes st.cpu).pending) (λ i e. ap (λ (o : Option _). option_map (begin_dpc ThreadedPart) o) e)
+      holds_map (Knows x st) (begin_dpc ThreadedPart) (first_dpc ThreadedPart (queue_at x.lanes st.cpu).pending)
+      (λ i e. ap (λ (o : Option _). option_map (begin_dpc ThreadedPart) o) e)
 
   expires : Holds (Knows x st) (option_map expire_key (when st.sweep (first_due x.lanes.timers)))
   expires =
-      holds_map (Knows x st) expire_key (when st.sweep (first_due x.lanes.timers)) (λ k e. let w = when_gives st.sweep (first_due x.lanes.timers) k e in ap (λ (o : Option SetKey). option_map (λ (k : TimerKey × ℕ). k.0) (option_map (λ (k : SetKey). (k.key, k.setting.number)) o)) w.1)
+      holds_map (Knows x st) expire_key (when st.sweep (first_due x.lanes.timers))
+      (λ k e. let w = when_gives st.sweep (first_due x.lanes.timers) k e in
+      ap (λ (o : Option SetKey). option_map (λ (k : TimerKey × ℕ). k.0) (option_map (λ (k : SetKey). (k.key, k.setting.number)) o)) w.1)
 
-  drains : Knows x st (unwrap_or (option_or (option_map expire_key (when st.sweep (first_due x.lanes.timers))) (begin_first OrdinaryPart (queue_at x.lanes st.cpu))) (Clean 2))
+  drains : Knows x st (unwrap_or (option_or (option_map expire_key (when st.sweep (first_due x.lanes.timers)))
+      (begin_first OrdinaryPart (queue_at x.lanes st.cpu))) (Clean 2))
   drains =
-      holds_else (Knows x st) (option_or (option_map expire_key (when st.sweep (first_due x.lanes.timers))) (begin_first OrdinaryPart (queue_at x.lanes st.cpu))) (Clean 2) (holds_or (Knows x st) (option_map expire_key (when st.sweep (first_due x.lanes.timers))) (begin_first OrdinaryPart (queue_at x.lanes st.cpu)) expires (λ e. begins OrdinaryPart)) (λ e. tt)
+      holds_else (Knows x st) (option_or (option_map expire_key (when st.sweep (first_due x.lanes.timers)))
+      (begin_first OrdinaryPart (queue_at x.lanes st.cpu))) (Clean 2)
+      (holds_or (Knows x st) (option_map expire_key (when st.sweep (first_due x.lanes.timers)))
+      (begin_first OrdinaryPart (queue_at x.lanes st.cpu)) expires (λ e. begins OrdinaryPart)) (λ e. tt)
 
   delivered : IsSome st.thread → Holds (Knows x st) (option_map begin_apc (deliverable (facts_of x.lanes st.thread).apcs st.regions st.level))
   delivered h =
-      holds_map (Knows x st) begin_apc (deliverable (facts_of x.lanes st.thread).apcs st.regions st.level) (λ k e. record { runs = h; pick = k; first = inl e; apc = refl; number = refl })
+      holds_map (Knows x st) begin_apc (deliverable (facts_of x.lanes st.thread).apcs st.regions st.level)
+      (λ k e. record { runs = h; pick = k; first = inl e; apc = refl; number = refl })
 
   to_user : IsSome st.thread → Holds (Knows x st) (option_map begin_apc (user_due (facts_of x.lanes st.thread)))
   to_user h =
@@ -119,22 +128,38 @@ module _ (x : AllStates) (st : Stand) where
 
   runs_down : (t : ThreadNo) → st.thread ≡ Some t → Knows x st (rundown_event x.lanes t)
   runs_down t h =
-      holds_else (Knows x st) (option_map (λ k. Flush k.apc k.number) (first_user (facts_at x.lanes t).apcs)) (Gone t) (holds_map (Knows x st) (λ k. Flush k.apc k.number) (first_user (facts_at x.lanes t).apcs) (λ k e. record { runs = rw h refl; pick = k; first = ap (λ (o : Option ThreadNo). first_user (facts_of x.lanes o).apcs) h ∙ e; apc = refl; number = refl })) (λ e. record { runs = h; none = map_none (λ k. Flush k.apc k.number) (first_user (facts_at x.lanes t).apcs) e })
+      holds_else (Knows x st) (option_map (λ k. Flush k.apc k.number) (first_user (facts_at x.lanes t).apcs)) (Gone t)
+      (holds_map (Knows x st) (λ k. Flush k.apc k.number) (first_user (facts_at x.lanes t).apcs)
+      (λ k e. record {
+        runs = rw h refl;
+        pick = k;
+        first = ap (λ (o : Option ThreadNo). first_user (facts_of x.lanes o).apcs) h ∙ e;
+        apc = refl;
+        number = refl;
+      })) (λ e. record { runs = h; none = map_none (λ k. Flush k.apc k.number) (first_user (facts_at x.lanes t).apcs) e })
 
   idles : Holds (Knows x st) (idle_event x.script st x.lanes)
   idles =
-      holds_or (Knows x st) (begin_first OrdinaryPart (queue_at x.lanes st.cpu)) (when (is_null (ready x.script st.cpu x.lanes)) (Some Rest)) (begins OrdinaryPart) (λ e. holds_when (Knows x st) (is_null (ready x.script st.cpu x.lanes)) (Some Rest) (λ h. tt))
+      holds_or (Knows x st) (begin_first OrdinaryPart (queue_at x.lanes st.cpu)) (when (is_null (ready x.script st.cpu x.lanes)) (Some Rest))
+      (begins OrdinaryPart) (λ e. holds_when (Knows x st) (is_null (ready x.script st.cpu x.lanes)) (Some Rest) (λ h. tt))
 
   picks : (last : Option ThreadNo) → Holds (Knows x st) (job_event x.script st x.lanes (PickJob last))
   picks last =
-      holds_or (Knows x st) (option_map (λ t. switch_event t x.lanes) (next_ready x.script st.cpu last x.lanes)) (idle_event x.script st x.lanes) (holds_map (Knows x st) (λ t. switch_event t x.lanes) (next_ready x.script st.cpu last x.lanes) (λ t e. record { taken = holds_at (λ t. may_take x.script st.cpu t x.lanes ≡ true) (next_ready x.script st.cpu last x.lanes) t (next_ready_taken x.script st.cpu last x.lanes) e; carried = refl })) (λ e. idles)
+      holds_or (Knows x st) (option_map (λ t. switch_event t x.lanes) (next_ready x.script st.cpu last x.lanes)) (idle_event x.script st x.lanes)
+      (holds_map (Knows x st) (λ t. switch_event t x.lanes) (next_ready x.script st.cpu last x.lanes)
+      (λ t e. record {
+        taken = holds_at (λ t. may_take x.script st.cpu t x.lanes ≡ true) (next_ready x.script st.cpu last x.lanes) t
+            (next_ready_taken x.script st.cpu last x.lanes) e;
+        carried = refl;
+      })) (λ e. idles)
 
   of_job : (j : Job) → MayDo x st j → Holds (Knows x st) (job_event x.script st x.lanes j)
   of_job (CallJob c) m = record { answer = refl; fits = m.job; callable = m.allowed.1 }
   of_job (FireJob d) m = record { answer = refl; fits = m.job }
   of_job DrainJob m = drains
   of_job ApcsJob m =
-      holds_else (Knows x st) (option_map begin_apc (deliverable (facts_of x.lanes st.thread).apcs st.regions st.level)) (Clean 1) (delivered m.allowed.thread) (λ e. tt)
+      holds_else (Knows x st) (option_map begin_apc (deliverable (facts_of x.lanes st.thread).apcs st.regions st.level)) (Clean 1) (delivered m.allowed.thread)
+      (λ e. tt)
   of_job ThreadedJob m =
       holds_else (Knows x st) (begin_first ThreadedPart (queue_at x.lanes st.cpu)) (Clean 0) (begins ThreadedPart) (λ e. tt)
   of_job IdleJob m = idles
@@ -142,9 +167,11 @@ module _ (x : AllStates) (st : Stand) where
   of_job (SwitchJob t) m =
       holds_when (Knows x st) (may_take x.script st.cpu t x.lanes) (Some (switch_event t x.lanes)) (λ h. record { taken = h; carried = refl })
   of_job RewaitJob m =
-      holds_map (Knows x st) (λ w. Rewait st.frame (rewait_reply st x.lanes w)) st.again (λ w e. record { wait = w; again = e; runs = m.allowed.thread; level = m.allowed.level; answer = refl })
+      holds_map (Knows x st) (λ w. Rewait st.frame (rewait_reply st x.lanes w)) st.again
+      (λ w e. record { wait = w; again = e; runs = m.allowed.thread; level = m.allowed.level; answer = refl })
   of_job ToUserJob m =
-      holds_else (Knows x st) (option_map begin_apc (user_due (facts_of x.lanes st.thread))) (Call st.frame ToUser Done) (to_user m.allowed.thread) (λ e. record { answer = refl; fits = refl; callable = tt })
+      holds_else (Knows x st) (option_map begin_apc (user_due (facts_of x.lanes st.thread))) (Call st.frame ToUser Done) (to_user m.allowed.thread)
+      (λ e. record { answer = refl; fits = refl; callable = tt })
   of_job UserEndJob m = m.allowed
   of_job LeaveJob m = m.allowed
   of_job RundownJob m = holds_map (Knows x st) (rundown_event x.lanes) st.thread (λ t e. runs_down t e)

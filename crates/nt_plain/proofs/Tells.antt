@@ -97,9 +97,12 @@ pub record IsRead (s : Script) (y : Lane) (q : CpuNo) (d : ℕ) : Type 0 where
   pub cpu : q.0 < s.cpus
   pub class : d < 16
 
-told_one : (s : Script) (to : ℕ) (x : Lane) (a : Ask) (told : List ℕ) (y : Lane) (q : CpuNo) (d : ℕ) → length told ≡ lane_count s * s.cpus * 16 → lane_fits s x ≡ true → AskWithin s.cpus a → IsRead s y q d → row_value s (set told (told_place s x a.cpu a.class) to) y q d ≡ (if same_lane y x && is_ask q d a then to else row_value s told y q d)
+told_one : (s : Script) (to : ℕ) (x : Lane) (a : Ask) (told : List ℕ) (y : Lane) (q : CpuNo) (d : ℕ) → length told ≡ lane_count s * s.cpus * 16 → lane_fits s x
+    ≡ true → AskWithin s.cpus a → IsRead s y q d → row_value s (set told (told_place s x a.cpu a.class) to) y q d
+    ≡ (if same_lane y x && is_ask q d a then to else row_value s told y q d)
 told_one s to x a told y q d len fits within read =
-    written told (told_place s x a.cpu a.class) (told_place s y q d) to (same_lane y x && is_ask q d a) (rw len (below_values s.cpus (lane_count s) (lane_number s x) a.cpu.0 a.class (number_below s x fits) within.cpu within.class)) same other
+    written told (told_place s x a.cpu a.class) (told_place s y q d) to (same_lane y x && is_ask q d a)
+    (rw len (below_values s.cpus (lane_count s) (lane_number s x) a.cpu.0 a.class (number_below s x fits) within.cpu within.class)) same other
   where
     same : (same_lane y x && is_ask q d a) ≡ true → told_place s y q d ≡ told_place s x a.cpu a.class
     same h =
@@ -138,21 +141,31 @@ nothing true to old = refl
 nothing false to old = refl
 
 -- one lane
-tell_lane_after : (s : Script) (to : ℕ) (x : Lane) (asks : List Ask) (told : List ℕ) (y : Lane) (q : CpuNo) (d : ℕ) → length told ≡ lane_count s * s.cpus * 16 → lane_fits s x ≡ true → All (AskWithin s.cpus) asks → IsRead s y q d → row_value s (tell_lane s to x asks told) y q d ≡ (if same_lane y x && list_any (is_ask q d) asks then to else row_value s told y q d)
+tell_lane_after : (s : Script) (to : ℕ) (x : Lane) (asks : List Ask) (told : List ℕ) (y : Lane) (q : CpuNo) (d : ℕ) → length told
+    ≡ lane_count s * s.cpus * 16 → lane_fits s x ≡ true → All (AskWithin s.cpus) asks → IsRead s y q d → row_value s (tell_lane s to x asks told) y q d
+    ≡ (if same_lane y x && list_any (is_ask q d) asks then to else row_value s told y q d)
 tell_lane_after s to x [] told y q d len fits within read =
     nothing (same_lane y x) to (row_value s told y q d)
 tell_lane_after s to x (a ∷ asks) told y q d len fits within read =
     let new : List ℕ = set told (told_place s x a.cpu a.class) to in
     let size : length new ≡ lane_count s * s.cpus * 16 = length-set told (told_place s x a.cpu a.class) to ∙ len in
-    tell_lane_after s to x asks new y q d size fits (all_tail (AskWithin s.cpus) a asks within) read ∙ (ap (λ (v : ℕ). if same_lane y x && list_any (is_ask q d) asks then to else v) (told_one s to x a told y q d len fits (all_head (AskWithin s.cpus) a asks within) read) ∙ and_more (same_lane y x) (is_ask q d a) (list_any (is_ask q d) asks) to (row_value s told y q d))
+    tell_lane_after s to x asks new y q d size fits (all_tail (AskWithin s.cpus) a asks within) read
+    ∙ (ap (λ (v : ℕ). if same_lane y x && list_any (is_ask q d) asks then to else v)
+    (told_one s to x a told y q d len fits (all_head (AskWithin s.cpus) a asks within) read)
+    ∙ and_more (same_lane y x) (is_ask q d a) (list_any (is_ask q d) asks) to (row_value s told y q d))
 
 -- several lanes
-rows_after : (s : Script) (to : ℕ) (lanes : List Lane) (asks : List Ask) (told : List ℕ) (y : Lane) (q : CpuNo) (d : ℕ) → length told ≡ lane_count s * s.cpus * 16 → All (λ x. lane_fits s x ≡ true) lanes → All (AskWithin s.cpus) asks → IsRead s y q d → row_value s (tell_lanes s to lanes asks told) y q d ≡ (if is_among y lanes && list_any (is_ask q d) asks then to else row_value s told y q d)
+rows_after : (s : Script) (to : ℕ) (lanes : List Lane) (asks : List Ask) (told : List ℕ) (y : Lane) (q : CpuNo) (d : ℕ) → length told
+    ≡ lane_count s * s.cpus * 16 → All (λ x. lane_fits s x ≡ true) lanes → All (AskWithin s.cpus) asks → IsRead s y q d →
+    row_value s (tell_lanes s to lanes asks told) y q d ≡ (if is_among y lanes && list_any (is_ask q d) asks then to else row_value s told y q d)
 rows_after s to [] asks told y q d len fits within read = refl
 rows_after s to (x ∷ lanes) asks told y q d len fits within read =
     let new : List ℕ = tell_lane s to x asks told in
     let size : length new ≡ lane_count s * s.cpus * 16 = length-tell_lane s to x asks told ∙ len in
-    rows_after s to lanes asks new y q d size (all_tail (λ z. lane_fits s z ≡ true) x lanes fits) within read ∙ (ap (λ (v : ℕ). if is_among y lanes && list_any (is_ask q d) asks then to else v) (tell_lane_after s to x asks told y q d len (all_head (λ z. lane_fits s z ≡ true) x lanes fits) within read) ∙ or_more (same_lane y x) (list_any (is_ask q d) asks) (is_among y lanes) to (row_value s told y q d))
+    rows_after s to lanes asks new y q d size (all_tail (λ z. lane_fits s z ≡ true) x lanes fits) within read
+    ∙ (ap (λ (v : ℕ). if is_among y lanes && list_any (is_ask q d) asks then to else v)
+    (tell_lane_after s to x asks told y q d len (all_head (λ z. lane_fits s z ≡ true) x lanes fits) within read)
+    ∙ or_more (same_lane y x) (list_any (is_ask q d) asks) (is_among y lanes) to (row_value s told y q d))
 
 pub length-tell_lanes : (s : Script) (to : ℕ) (lanes : List Lane) (asks : List Ask) (told : List ℕ) → length (tell_lanes s to lanes asks told) ≡ length told
 length-tell_lanes s to [] asks told = refl
@@ -167,10 +180,14 @@ not_among s (x ∷ lanes) y fits out =
     rw (here, not_among s lanes y (all_tail (λ z. lane_fits s z ≡ true) x lanes fits) out) refl
 
 -- what the lanes tell after the event of a number that touches these and asks for these
-pub told_after_event : (s : Script) (n : ℕ) (lanes : List Lane) (asks : List Ask) (told : List ℕ) (y : Lane) (q : CpuNo) (d : ℕ) → length told ≡ lane_count s * s.cpus * 16 → All (λ x. lane_fits s x ≡ true) lanes → All (AskWithin s.cpus) asks → q.0 < s.cpus → d < 16 → told_in s (tell_lanes s (n + 1) lanes asks told) y q d ≡ raised (is_among y lanes && list_any (is_ask q d) asks) n (told_in s told y q d)
+pub told_after_event : (s : Script) (n : ℕ) (lanes : List Lane) (asks : List Ask) (told : List ℕ) (y : Lane) (q : CpuNo) (d : ℕ) → length told
+    ≡ lane_count s * s.cpus * 16 → All (λ x. lane_fits s x ≡ true) lanes → All (AskWithin s.cpus) asks → q.0 < s.cpus → d < 16 →
+    told_in s (tell_lanes s (n + 1) lanes asks told) y q d ≡ raised (is_among y lanes && list_any (is_ask q d) asks) n (told_in s told y q d)
 told_after_event s n lanes asks told y q d len fits within cpu class = go (lane_fits s y) refl
   where
-    go : (b : Bool) → lane_fits s y ≡ b → (if b then row_value s (tell_lanes s (n + 1) lanes asks told) y q d else 0) ≡ raised (is_among y lanes && list_any (is_ask q d) asks) n (if b then row_value s told y q d else 0)
+    go : (b : Bool) → lane_fits s y ≡ b → (if b then row_value s (tell_lanes s (n + 1) lanes asks told) y q d else 0)
+        ≡ raised (is_among y lanes && list_any (is_ask q d) asks) n (if b then row_value s told y q d else 0)
     go true e =
-        rows_after s (n + 1) lanes asks told y q d len fits within (record { lane = e; cpu = cpu; class = class }) ∙ as_raised (is_among y lanes && list_any (is_ask q d) asks) n (row_value s told y q d)
+        rows_after s (n + 1) lanes asks told y q d len fits within (record { lane = e; cpu = cpu; class = class })
+        ∙ as_raised (is_among y lanes && list_any (is_ask q d) asks) n (row_value s told y q d)
     go false e = rw (not_among s lanes y fits e) refl

@@ -36,10 +36,14 @@ either_way false x = refl
 
 module _ (s : Script) (st : Stand) (p : CpuNo) (k n : ℕ) (x : Timers) (size : IsSized s x) where
   -- the timers as they were
-  stays : (r : Option ThreadNo) (w : What) → time_after w x.now ≡ x.now → ((t : TimerNo) (old : Option Setting) → timer_after t n x.now w old ≡ old) → ((t : ThreadNo) (old : Option Setting) → delay_after s t n x.now st.again (event_of p r k w) old ≡ old) → timers_after s n st (event_of p r k w) x ≡ x
+  stays : (r : Option ThreadNo) (w : What) → time_after w x.now ≡ x.now → ((t : TimerNo) (old : Option Setting) → timer_after t n x.now w old ≡ old) →
+      ((t : ThreadNo) (old : Option Setting) → delay_after s t n x.now st.again (event_of p r k w) old ≡ old) → timers_after s n st (event_of p r k w) x ≡ x
   stays r w now one each =
-      let a = table-self None (length s.timers) x.timers (λ t. timer_after (timer t) n x.now w (setting_in x.timers t)) size.timers (λ i l. one (timer i) (setting_in x.timers i)) in
-      let b = table-self None (length s.threads) x.delays (λ t. delay_after s (thread t) n x.now st.again (event_of p r k w) (setting_in x.delays t)) size.delays (λ i l. each (thread i) (setting_in x.delays i)) in
+      let a = table-self None (length s.timers) x.timers (λ t. timer_after (timer t) n x.now w (setting_in x.timers t)) size.timers
+      (λ i l. one (timer i) (setting_in x.timers i)) in
+      let b = table-self None (length s.threads) x.delays
+      (λ t. delay_after s (thread t) n x.now st.again (event_of p r k w) (setting_in x.delays t)) size.delays
+      (λ i l. each (thread i) (setting_in x.delays i)) in
       λ j. record { now = now j; timers = a j; delays = b j }
 
   -- an event that sets no delay
@@ -50,13 +54,15 @@ module _ (s : Script) (st : Stand) (p : CpuNo) (k n : ℕ) (x : Timers) (size : 
   nobodys : (w : What) (t : ThreadNo) (set old : Option Setting) → cond (is_of_thread s t (event_of p None k w)) set old ≡ old
   nobodys w t set old = rw (and_right (is_of (event_of p None k w) (cpu_of s t)) false refl) refl
 
-  by_delay : (r : Option ThreadNo) (f : ℕ) (m : Mode) (a : Bool) (units : ℕ) → IfSome r (IsMaker s x (event_of p r k (Call f (Delay m a units) Blocked))) → timers_after s n st (event_of p r k (Call f (Delay m a units) Blocked)) x ≡ delayed n r (Some (x.now + units)) x
+  by_delay : (r : Option ThreadNo) (f : ℕ) (m : Mode) (a : Bool) (units : ℕ) → IfSome r (IsMaker s x (event_of p r k (Call f (Delay m a units) Blocked))) →
+      timers_after s n st (event_of p r k (Call f (Delay m a units) Blocked)) x ≡ delayed n r (Some (x.now + units)) x
   by_delay None f m a units h =
       stays None (Call f (Delay m a units) Blocked) refl (λ t old. refl) (λ t old. nobodys (Call f (Delay m a units) Blocked) t _ old)
   by_delay (Some t) f m a units h =
       timer_calls_are_events.delay s st (event_of p (Some t) k (Call f (Delay m a units) Blocked)) x n f t m a units size h.made refl
 
-  by_call : (r : Option ThreadNo) (f : ℕ) (c : Command) (y : Reply) → CallMayTime s x (event_of p r k (Call f c y)) c y → timers_after s n st (event_of p r k (Call f c y)) x ≡ call_timed n r c y x
+  by_call : (r : Option ThreadNo) (f : ℕ) (c : Command) (y : Reply) → CallMayTime s x (event_of p r k (Call f c y)) c y →
+      timers_after s n st (event_of p r k (Call f c y)) x ≡ call_timed n r c y x
   by_call r f (SetTimer t due period) Yes h =
       timer_calls_are_events.set s st (event_of p r k (Call f (SetTimer t due period) Yes)) x n f t due period Yes size refl refl
   by_call r f (SetTimer t due period) No h =
@@ -76,7 +82,8 @@ module _ (s : Script) (st : Stand) (p : CpuNo) (k n : ℕ) (x : Timers) (size : 
       stays r (Call f (Delay m a units) y) refl (λ t old. refl) (λ t old. unset r (Call f (Delay m a units) y) t old)
   by_call r f c y h = stays r (Call f c y) refl (λ t old. refl) (λ t old. unset r (Call f c y) t old)
 
-  by_rewait : (r : Option ThreadNo) (f : ℕ) (o : Option Again) → st.again ≡ o → IfSome r (IsMaker s x (event_of p r k (Rewait f Blocked))) → timers_after s n st (event_of p r k (Rewait f Blocked)) x ≡ delayed n r (option_and_then (λ w. w.due) o) x
+  by_rewait : (r : Option ThreadNo) (f : ℕ) (o : Option Again) → st.again ≡ o → IfSome r (IsMaker s x (event_of p r k (Rewait f Blocked))) →
+      timers_after s n st (event_of p r k (Rewait f Blocked)) x ≡ delayed n r (option_and_then (λ w. w.due) o) x
   by_rewait None f o e h =
       stays None (Rewait f Blocked) refl (λ t old. refl) (λ t old. nobodys (Rewait f Blocked) t _ old) ∙ nobody (option_and_then (λ w. w.due) o)
     where
@@ -102,7 +109,8 @@ module _ (s : Script) (st : Stand) (p : CpuNo) (k n : ℕ) (x : Timers) (size : 
       timer_calls_are_events.expire s st (event_of p r k (Expire key from)) x n from key size refl
   by_what r w h = stays r w refl (λ t old. refl) (λ t old. unset r w t old)
 
-pub timers_left : (s : Script) (st : Stand) (e : Event) (n : ℕ) (x : Timers) → IsSized s x → MayTime s x e e.what → timers_after s n st e x ≡ timed n st e.thread e.what x
+pub timers_left : (s : Script) (st : Stand) (e : Event) (n : ℕ) (x : Timers) → IsSized s x → MayTime s x e e.what → timers_after s n st e x
+    ≡ timed n st e.thread e.what x
 timers_left s st e n x size h = by_what s st e.cpu e.level n x size e.thread e.what h
 
 -- the tables keep their places

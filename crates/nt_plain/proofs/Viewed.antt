@@ -39,7 +39,8 @@ is_looked f p c a kept word is =
       same = record { cpus = refl; alone = refl; states = refl; told = λ x q d h. refl };
     })
   where
-    looked : (q : CpuNo) (d : ℕ) (s : Bool) → (q.0 == p.0) ≡ s → (t : Bool) → (d == c) ≡ t → value_in f.asked q d ≡ (if s && t then value_in f.asked p c else value_in f.asked q d)
+    looked : (q : CpuNo) (d : ℕ) (s : Bool) → (q.0 == p.0) ≡ s → (t : Bool) → (d == c) ≡ t → value_in f.asked q d
+        ≡ (if s && t then value_in f.asked p c else value_in f.asked q d)
     looked q d true h true i = rw (eqb-true q.0 p.0 h, eqb-true d c i) refl
     looked q d true h false i = refl
     looked q d false h t i = refl
@@ -55,14 +56,17 @@ eqb_turned a b = go (cases_eq a b)
 word_asked : (p : CpuNo) (c : ℕ) (q : CpuNo) (d : ℕ) → is_ask q d (record { cpu = p; class = c }) ≡ is_word p c q d
 word_asked p c q d = rw (eqb_turned p.0 q.0, eqb_turned c d) refl
 
-pub is_marked_so : (f g : PlainState) (p : CpuNo) (c n : ℕ) → IsKept f → HasWord (view_of f) p c → n < f.next → g ≡ marked p c n f → IsMarked p c n (view_of f) (view_of g)
+pub is_marked_so : (f g : PlainState) (p : CpuNo) (c n : ℕ) → IsKept f → HasWord (view_of f) p c → n < f.next → g ≡ marked p c n f →
+    IsMarked p c n (view_of f) (view_of g)
 is_marked_so f g p c n kept word low state =
     rw state (record {
       next = refl;
       drawable = refl;
       lists = refl;
-      value = λ q d h. word_one f.script.cpus (n + 1) (record { cpu = p; class = c }) f.asked q d kept.asked_length within h.1 ∙ ap (λ (b : Bool). if b then max (value_in f.asked q d) (n + 1) else value_in f.asked q d) (word_asked p c q d);
-      marked = λ k q d h. mark_one f.script.cpus f.limit n (record { cpu = p; class = c }) f.marks k q d kept.marks_length (omega (arith, kept.next)) within h.0 ∙ ap (λ (b : Bool). is_marked f.script.cpus f.marks k q d || ((k == n) && b)) (word_asked p c q d);
+      value = λ q d h. word_one f.script.cpus (n + 1) (record { cpu = p; class = c }) f.asked q d kept.asked_length within h.1
+          ∙ ap (λ (b : Bool). if b then max (value_in f.asked q d) (n + 1) else value_in f.asked q d) (word_asked p c q d);
+      marked = λ k q d h. mark_one f.script.cpus f.limit n (record { cpu = p; class = c }) f.marks k q d kept.marks_length
+          (omega (arith, kept.next)) within h.0 ∙ ap (λ (b : Bool). is_marked f.script.cpus f.marks k q d || ((k == n) && b)) (word_asked p c q d);
       same = record { cpus = refl; alone = refl; states = refl; told = λ x q d h. refl };
     })
   where

@@ -23,7 +23,8 @@ use Rattle.nt_plain.proofs.Apart.{below_rows, below_values}
 use Rattle.nt_plain.proofs.Tells.{number_below}
 use Rattle.nt_plain.proofs.Writes.{AskWithin, all_head, all_tail, as_raised}
 
-pub none_left : (asks : List Asked) (i : ℕ) (p : CpuNo) (c to v all : ℕ) → length asks ≤ i → (if list_any (is_ask p c) (as_asks (drop i asks)) then to else v) ≡ all → v ≡ all
+pub none_left : (asks : List Asked) (i : ℕ) (p : CpuNo) (c to v all : ℕ) → length asks ≤ i → (if list_any (is_ask p c) (as_asks (drop i asks)) then to else v)
+    ≡ all → v ≡ all
 none_left asks i p c to v all h e = rw (drop_all i asks h) at e
 
 -- ---- requests
@@ -46,7 +47,8 @@ pub row_room : (cpus n p rows : ℕ) → n < rows → p < cpus → (n * cpus + p
 row_room cpus n p rows h k =
     let row : n * cpus + p < rows * cpus = below_rows cpus rows n p h k in omega (arith, row)
 
-pub rows_within : (s : Script) (told : List ℕ) (lanes : List Lane) (p : CpuNo) → length told ≡ lane_count s * s.cpus * 16 → All (LaneFits s) lanes → p.0 < s.cpus → All (λ x. row_of s.cpus (lane_number s x) p * 16 + 16 ≤ length told) lanes
+pub rows_within : (s : Script) (told : List ℕ) (lanes : List Lane) (p : CpuNo) → length told ≡ lane_count s * s.cpus * 16 → All (LaneFits s) lanes →
+    p.0 < s.cpus → All (λ x. row_of s.cpus (lane_number s x) p * 16 + 16 ≤ length told) lanes
 rows_within s told lanes p len fits cpu k d l =
     rw len (row_room s.cpus (lane_number s (get_or lanes k d)) p.0 (lane_count s) (number_below s (get_or lanes k d) (fits k d l)) cpu)
 
@@ -54,10 +56,12 @@ pub numbers_within : (s : Script) (lanes : List Lane) → lane_count s ≤ 1024 
 numbers_within s lanes small fits k d l =
     let low = number_below s (get_or lanes k d) (fits k d l) in omega (arith, low)
 
-pub places_within : (s : Script) (told : List ℕ) (lanes : List Lane) (asked : List Asked) (asks : List Ask) → length told ≡ lane_count s * s.cpus * 16 → All (LaneFits s) lanes → as_asks asked ≡ asks → All (AskFits s) asks → All (λ x. All (λ a. told_place s x a.cpu a.class < length told) asked) lanes
+pub places_within : (s : Script) (told : List ℕ) (lanes : List Lane) (asked : List Asked) (asks : List Ask) → length told ≡ lane_count s * s.cpus * 16 →
+    All (LaneFits s) lanes → as_asks asked ≡ asks → All (AskFits s) asks → All (λ x. All (λ a. told_place s x a.cpu a.class < length told) asked) lanes
 places_within s told lanes asked asks len fits e within k d l i b j =
     let ask = each_asked (AskWithin s.cpus) asked asks e (all_within s asks within) i b j in
-    rw len (below_values s.cpus (lane_count s) (lane_number s (get_or lanes k d)) (get_or asked i b).cpu.0 (get_or asked i b).class (number_below s (get_or lanes k d) (fits k d l)) ask.cpu ask.class)
+    rw len (below_values s.cpus (lane_count s) (lane_number s (get_or lanes k d)) (get_or asked i b).cpu.0 (get_or asked i b).class
+    (number_below s (get_or lanes k d) (fits k d l)) ask.cpu ask.class)
 
 -- the list of told values is short
 pub told_room : (n cpus : ℕ) (told : List ℕ) → length told ≡ n * cpus * 16 → n ≤ 1024 → cpus ≤ 64 → length told < 2 ^ 32
@@ -71,33 +75,51 @@ marks_room limit cpus marks len small few =
 
 -- ---- what the lanes tell
 
-lanes_tell : (s : Script) (told : List ℕ) (lanes : List Lane) (p : CpuNo) (c : ℕ) → All (LaneFits s) lanes → told_over (row_value s told) lanes p c ≡ told_over (told_in s told) lanes p c
+lanes_tell : (s : Script) (told : List ℕ) (lanes : List Lane) (p : CpuNo) (c : ℕ) → All (LaneFits s) lanes → told_over (row_value s told) lanes p c
+    ≡ told_over (told_in s told) lanes p c
 lanes_tell s told [] p c fits = refl
 lanes_tell s told (x ∷ lanes) p c fits =
-    let rest : told_over (row_value s told) lanes p c ≡ told_over (told_in s told) lanes p c = lanes_tell s told lanes p c (all_tail (LaneFits s) x lanes fits) in
+    let rest : told_over (row_value s told) lanes p c ≡ told_over (told_in s told) lanes p c = lanes_tell s told lanes p c
+    (all_tail (LaneFits s) x lanes fits) in
     let here : lane_fits s x ≡ true = all_head (LaneFits s) x lanes fits in
     rw (here, rest) refl
 
-pub own_told : (s : Script) (told : List ℕ) (lanes : List Lane) (asks : List Ask) (p : CpuNo) (n to : ℕ) (over own : List ℕ) → All (LaneFits s) lanes → to ≡ n + 1 → over ≡ table 16 (λ c. told_over (row_value s told) lanes p c) → own ≡ table 16 (λ c. if list_any (is_ask p c) asks then to else value_at over c) → own ≡ table 16 (λ c. raised (list_any (is_ask p c) asks) n (told_over (told_in s told) lanes p c))
+pub own_told : (s : Script) (told : List ℕ) (lanes : List Lane) (asks : List Ask) (p : CpuNo) (n to : ℕ) (over own : List ℕ) → All (LaneFits s) lanes → to
+    ≡ n + 1 → over ≡ table 16 (λ c. told_over (row_value s told) lanes p c) → own
+    ≡ table 16 (λ c. if list_any (is_ask p c) asks then to else value_at over c) → own
+    ≡ table 16 (λ c. raised (list_any (is_ask p c) asks) n (told_over (told_in s told) lanes p c))
 own_told s told lanes asks p n to over own fits number e f =
-    f ∙ table-same 16 (λ c. if list_any (is_ask p c) asks then to else value_at over c) (λ c. raised (list_any (is_ask p c) asks) n (told_over (told_in s told) lanes p c)) each
+    f ∙ table-same 16 (λ c. if list_any (is_ask p c) asks then to else value_at over c)
+    (λ c. raised (list_any (is_ask p c) asks) n (told_over (told_in s told) lanes p c)) each
   where
-    each : (c : ℕ) → c < 16 → (if list_any (is_ask p c) asks then to else value_at over c) ≡ raised (list_any (is_ask p c) asks) n (told_over (told_in s told) lanes p c)
+    each : (c : ℕ) → c < 16 → (if list_any (is_ask p c) asks then to else value_at over c)
+        ≡ raised (list_any (is_ask p c) asks) n (told_over (told_in s told) lanes p c)
     each c h =
-        let value : value_at over c ≡ told_over (told_in s told) lanes p c = ap (λ (v : List ℕ). value_at v c) e ∙ (get_or-table 16 c (λ k. told_over (row_value s told) lanes p k) 0 h ∙ lanes_tell s told lanes p c fits) in
+        let value : value_at over c ≡ told_over (told_in s told) lanes p c = ap (λ (v : List ℕ). value_at v c) e
+        ∙ (get_or-table 16 c (λ k. told_over (row_value s told) lanes p k) 0 h ∙ lanes_tell s told lanes p c fits) in
         rw (number, value) (as_raised (list_any (is_ask p c) asks) n (told_over (told_in s told) lanes p c))
 
 -- the values that a call finds, by the states of the floor
-pub told_of : (f : PlainState) (st : Stand) (w : What) (s : Script) (slice lanes : List Lane) (asked : List Asked) (asks : List Ask) (over own : List ℕ) → s ≡ f.script → slice ≡ lanes → lanes ≡ what_lanes f.script st w f.lanes → as_asks asked ≡ asks → asks ≡ what_asks f.script st w f.lanes → All (LaneFits f.script) lanes → over ≡ table 16 (λ c. told_over (row_value s f.told) slice st.cpu c) → own ≡ table 16 (λ c. if list_any (is_ask st.cpu c) (as_asks asked) then f.next + 1 else value_at over c) → own ≡ table 16 (λ c. raised (asks_in f.script st w f.lanes st.cpu c) f.next (told_over (told_in f.script f.told) (what_lanes f.script st w f.lanes) st.cpu c))
+pub told_of : (f : PlainState) (st : Stand) (w : What) (s : Script) (slice lanes : List Lane) (asked : List Asked) (asks : List Ask) (over own : List ℕ) → s
+    ≡ f.script → slice ≡ lanes → lanes ≡ what_lanes f.script st w f.lanes → as_asks asked ≡ asks → asks ≡ what_asks f.script st w f.lanes →
+    All (LaneFits f.script) lanes → over ≡ table 16 (λ c. told_over (row_value s f.told) slice st.cpu c) → own
+    ≡ table 16 (λ c. if list_any (is_ask st.cpu c) (as_asks asked) then f.next + 1 else value_at over c) → own
+    ≡ table 16 (λ c. raised (asks_in f.script st w f.lanes st.cpu c) f.next (told_over (told_in f.script f.told) (what_lanes f.script st w f.lanes) st.cpu c))
 told_of f st w s slice lanes asked asks over own script same_lanes touched same_asks requests fits e o =
-    own_told f.script f.told (what_lanes f.script st w f.lanes) (what_asks f.script st w f.lanes) st.cpu f.next (f.next + 1) over own (subst (λ (l : List Lane). All (LaneFits f.script) l) touched fits) refl (e ∙ (ap (λ (t : Script). table 16 (λ c. told_over (row_value t f.told) slice st.cpu c)) script ∙ ap (λ (l : List Lane). table 16 (λ c. told_over (row_value f.script f.told) l st.cpu c)) (same_lanes ∙ touched))) (o ∙ ap (λ (l : List Ask). table 16 (λ c. if list_any (is_ask st.cpu c) l then f.next + 1 else value_at over c)) (same_asks ∙ requests))
+    own_told f.script f.told (what_lanes f.script st w f.lanes) (what_asks f.script st w f.lanes) st.cpu f.next (f.next + 1) over own
+    (subst (λ (l : List Lane). All (LaneFits f.script) l) touched fits) refl
+    (e ∙ (ap (λ (t : Script). table 16 (λ c. told_over (row_value t f.told) slice st.cpu c)) script
+    ∙ ap (λ (l : List Lane). table 16 (λ c. told_over (row_value f.script f.told) l st.cpu c)) (same_lanes ∙ touched)))
+    (o ∙ ap (λ (l : List Ask). table 16 (λ c. if list_any (is_ask st.cpu c) l then f.next + 1 else value_at over c)) (same_asks ∙ requests))
 
-pub words_within : (s : Script) (words : List ℕ) (asked : List Asked) (asks : List Ask) → length words ≡ 16 * s.cpus → as_asks asked ≡ asks → All (AskFits s) asks → All (λ a. word_place a.cpu a.class < length words) asked
+pub words_within : (s : Script) (words : List ℕ) (asked : List Asked) (asks : List Ask) → length words ≡ 16 * s.cpus → as_asks asked ≡ asks →
+    All (AskFits s) asks → All (λ a. word_place a.cpu a.class < length words) asked
 words_within s words asked asks len e within k d l =
     let ask = each_asked (AskWithin s.cpus) asked asks e (all_within s asks within) k d l in
     omega (arith, len, ask.cpu, ask.class)
 
-pub marks_within : (s t : Script) (limit n : ℕ) (marks : List ℕ) (asked : List Asked) (asks : List Ask) → length marks ≡ limit * s.cpus → n < limit → t ≡ s → as_asks asked ≡ asks → All (AskFits s) asks → All (λ a. row_of t.cpus n a.cpu < length marks) asked
+pub marks_within : (s t : Script) (limit n : ℕ) (marks : List ℕ) (asked : List Asked) (asks : List Ask) → length marks ≡ limit * s.cpus → n < limit → t ≡ s →
+    as_asks asked ≡ asks → All (AskFits s) asks → All (λ a. row_of t.cpus n a.cpu < length marks) asked
 marks_within s t limit n marks asked asks len low script e within k d l =
     let ask = each_asked (AskWithin s.cpus) asked asks e (all_within s asks within) k d l in
     rw (len, script) (below_rows s.cpus limit n (get_or asked k d).cpu.0 low ask.cpu)

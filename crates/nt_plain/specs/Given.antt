@@ -17,7 +17,8 @@ pub record MayDo (x : AllStates) (st : Stand) (j : Job) : Type 0 where
   pub stands : StandHolds x.script x.lanes st
   pub allowed : IsAllowed x.lanes st j
 
--- the event is the one of some job that may be done; it names things of the script, and takes up a thread of its processor alone
+-- the event is the one of some job that may be done; it names things of the script, and takes up a thread of its
+-- processor alone
 pub record MayMake (x : AllStates) (st : Stand) (w : What) : Type 0 where
   pub job : Job
   pub may : MayDo x st job

@@ -5,7 +5,15 @@ use Rattle.nt_plain.specs.States.{PlainState}
 
 abbrev pub state_in : Inside → PlainState
 state_in a =
-    record { script = a.states.script; limit = a.limit; next = a.next; asked = a.asked; marks = a.marks; lanes = a.states.lanes; told = a.told }
+    record {
+      script = a.states.script;
+      limit = a.limit;
+      next = a.next;
+      asked = a.asked;
+      marks = a.marks;
+      lanes = a.states.lanes;
+      told = a.told;
+    }
 
 abbrev pub IsKeptInside : Inside → Type 0
 IsKeptInside a = IsKept (state_in a)

@@ -6,7 +6,15 @@ use Rattle.nt_plain.specs.Sound.{IsSound}
 
 abbrev pub states_in : Inside → AllStates
 states_in a =
-    record { script = a.script.now; lanes = record { objects = a.dpcs.objects; queues = a.dpcs.queues; threads = a.threads.facts; timers = a.timers } }
+    record {
+      script = a.script.now;
+      lanes = record {
+        objects = a.dpcs.objects;
+        queues = a.dpcs.queues;
+        threads = a.threads.facts;
+        timers = a.timers;
+      };
+    }
 
 -- the parts are of the script
 pub record IsKept (a : Inside) : Type 0 where

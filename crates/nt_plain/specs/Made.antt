@@ -16,7 +16,8 @@ use Rattle.nt_states.specs.LaneLists.{AskFits, LaneFits}
 use Rattle.nt_plain.specs.Places.{row_of, told_in, told_place, value_in, word_place}
 use Rattle.nt_plain.specs.States.{PlainState}
 
--- what holds at any time: the lists have their lengths, a told value was asked, an asked value is one of a number drawn, and the time
+-- what holds at any time: the lists have their lengths, a told value was asked, an asked value is one of a number
+-- drawn, and the time
 -- is as far as the events may have let it advance
 pub record IsKept (f : PlainState) : Type 0 where
   pub asked_length : length f.asked ≡ 16 * f.script.cpus
@@ -27,7 +28,8 @@ pub record IsKept (f : PlainState) : Type 0 where
   pub limit : f.limit ≤ 160000
   pub next : f.next ≤ f.limit
   pub asked : (p : CpuNo) (c : ℕ) → p.0 < f.script.cpus → c < 16 → value_in f.asked p c ≤ f.next
-  pub told : (x : Lane) (p : CpuNo) (c : ℕ) → p.0 < f.script.cpus → c < 16 → told_in f.script f.told x p c ≤ value_in f.asked p c
+  pub told : (x : Lane) (p : CpuNo) (c : ℕ) → p.0 < f.script.cpus → c < 16 →
+      told_in f.script f.told x p c ≤ value_in f.asked p c
   pub time : f.lanes.timers.now ≤ f.next * 2 ^ 32
 
 -- ---- words
@@ -84,7 +86,14 @@ found_of f = record { lanes = f.lanes; told = λ x p c. told_in f.script f.told 
 -- what the event under lanes of a processor that stands so leaves
 abbrev pub made : Stand → What → PlainState → PlainState
 made st w f =
-    record f { next = f.next + 1; asked = raised_words (f.next + 1) (what_asks f.script st w f.lanes) f.asked; marks = marked_all f.script.cpus f.next (what_asks f.script st w f.lanes) f.marks; lanes = lanes_after f.script f.next st (acted_event st f.lanes w) f.lanes; told = tell_lanes f.script (f.next + 1) (what_lanes f.script st w f.lanes) (what_asks f.script st w f.lanes) f.told }
+    record f {
+      next = f.next + 1;
+      asked = raised_words (f.next + 1) (what_asks f.script st w f.lanes) f.asked;
+      marks = marked_all f.script.cpus f.next (what_asks f.script st w f.lanes) f.marks;
+      lanes = lanes_after f.script f.next st (acted_event st f.lanes w) f.lanes;
+      told = tell_lanes f.script (f.next + 1) (what_lanes f.script st w f.lanes)
+          (what_asks f.script st w f.lanes) f.told;
+    }
 
 -- an event that a job gives, with the lanes that it touches and what it asks for
 pub record IsPlanned (f : PlainState) (st : Stand) (w : What) (xs : List Lane) (ys : List Ask) : Type 0 where

@@ -22,7 +22,17 @@ pub record PlainState : Type 0 where
 
 abbrev pub view_of : PlainState → View
 view_of f =
-    record { cpus = f.script.cpus; alone = true; drawable = f.limit - f.next; next = f.next; lists = None; value = λ p c. value_in f.asked p c; marked = λ n p c. is_marked f.script.cpus f.marks n p c; states = Some f.lanes; told = λ x p c. told_in f.script f.told x p c }
+    record {
+      cpus = f.script.cpus;
+      alone = true;
+      drawable = f.limit - f.next;
+      next = f.next;
+      lists = None;
+      value = λ p c. value_in f.asked p c;
+      marked = λ n p c. is_marked f.script.cpus f.marks n p c;
+      states = Some f.lanes;
+      told = λ x p c. told_in f.script f.told x p c;
+    }
 
 -- a floor on which nothing happened, which may draw so many numbers for each processor
 pub record IsFresh (s : Script) (turns : ℕ) (f : PlainState) : Type 0 where

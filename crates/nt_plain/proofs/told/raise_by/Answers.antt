@@ -5,4 +5,5 @@ use Rattle.nt_plain.proofs.told.raise_by.Goals as goal
 
 pub returns : goal.returns
 returns c =
-    is_table c.loop-i.values 16 (λ k. max (get_or c.args.told.now k 0) (value_at c.args.values.now k)) c.loop-i.invariant.len (λ k h. c.loop-i.invariant.low k (omega arith))
+    is_table c.loop-i.values 16 (λ k. max (get_or c.args.told.now k 0) (value_at c.args.values.now k)) c.loop-i.invariant.len
+    (λ k h. c.loop-i.invariant.low k (omega arith))

@@ -9,4 +9,7 @@ use Rattle.nt_plain.proofs.told.tell_own.Goals as goal
 
 pub returns : goal.returns
 returns c =
-    is_table c.loop-ask.values 16 (λ k. if list_any (is_ask c.args.p k) (as_asks c.args.asks.now) then c.args.to else value_at c.args.values.now k) c.loop-ask.invariant.len (λ k h. none_left c.args.asks.now c.loop-ask.ask-index c.args.p k c.args.to (value_at c.loop-ask.values k) _ c.loop-ask-test.false (c.loop-ask.invariant.rest k h))
+    is_table c.loop-ask.values 16 (λ k. if list_any (is_ask c.args.p k) (as_asks c.args.asks.now) then c.args.to
+    else value_at c.args.values.now k) c.loop-ask.invariant.len
+    (λ k h. none_left c.args.asks.now c.loop-ask.ask-index c.args.p k c.args.to (value_at c.loop-ask.values k) _ c.loop-ask-test.false
+    (c.loop-ask.invariant.rest k h))

@@ -8,6 +8,7 @@ use Rattle.nt_plain.proofs.told.tell_own.Given as goal
 
 abbrev pub invariant-loop-ask : goal.invariant-loop-ask
 invariant-loop-ask l = record {
-  rest : (c : ℕ) → c < 16 → (if list_any (is_ask l.p c) (as_asks (drop l.ask-index l.asks)) then l.to else value_at l.values c) ≡ (if list_any (is_ask l.p c) (as_asks l.asks) then l.to else value_at l.fn.values c);
+  rest : (c : ℕ) → c < 16 → (if list_any (is_ask l.p c) (as_asks (drop l.ask-index l.asks)) then l.to else value_at l.values c)
+      ≡ (if list_any (is_ask l.p c) (as_asks l.asks) then l.to else value_at l.fn.values c);
   len : length l.values ≡ 16;
 }

@@ -10,5 +10,7 @@ use Rattle.nt_plain.proofs.plain.PlainFloor.decide.Goals as goal
 pub returns-clause-given : goal.returns-clause-given
 returns-clause-given c =
     let st = c.args.stand.now in
-    let may : MayDo (states_of (state_in c.self.inside)) st c.args.job.now = subst (λ (f : PlainState). MayDo (states_of f) st c.args.job.now) (sym c.self.view_is) c.requires in
-    subst (λ (f : PlainState). IfOk c.decide.result (λ w. MayMake (states_of f) st w)) c.self.view_is (may_make_found (states_of (state_in c.self.inside)) st c.args.job.now c.decide.result may c.decide.ensures.event c.decide.ensures.given)
+    let may : MayDo (states_of (state_in c.self.inside)) st c.args.job.now = subst (λ (f : PlainState). MayDo (states_of f) st c.args.job.now)
+    (sym c.self.view_is) c.requires in
+    subst (λ (f : PlainState). IfOk c.decide.result (λ w. MayMake (states_of f) st w)) c.self.view_is
+    (may_make_found (states_of (state_in c.self.inside)) st c.args.job.now c.decide.result may c.decide.ensures.event c.decide.ensures.given)

@@ -9,12 +9,14 @@ use Rattle.nt_plain.proofs.plain.PlainFloor.make.Goals as goal
 
 pub event_lanes-lanes-requires-clause-given : goal.event_lanes-lanes-requires-clause-given
 event_lanes-lanes-requires-clause-given c =
-    let may : MayMake (states_of (state_in c.self.inside)) c.args.stand.now c.args.what.now = subst (λ (f : PlainState). MayMake (states_of f) c.args.stand.now c.args.what.now) (sym c.self.view_is) c.requires.given in
+    let may : MayMake (states_of (state_in c.self.inside)) c.args.stand.now c.args.what.now = subst
+    (λ (f : PlainState). MayMake (states_of f) c.args.stand.now c.args.what.now) (sym c.self.view_is) c.requires.given in
     is_given (states_of (state_in c.self.inside)) c.args.stand.now c.args.what.now may
 
 pub event_asks-asks-requires-clause-given : goal.event_asks-asks-requires-clause-given
 event_asks-asks-requires-clause-given c =
-    let may : MayMake (states_of (state_in c.self.inside)) c.args.stand.now c.args.what.now = subst (λ (f : PlainState). MayMake (states_of f) c.args.stand.now c.args.what.now) (sym c.self.view_is) c.requires.given in
+    let may : MayMake (states_of (state_in c.self.inside)) c.args.stand.now c.args.what.now = subst
+    (λ (f : PlainState). MayMake (states_of f) c.args.stand.now c.args.what.now) (sym c.self.view_is) c.requires.given in
     is_given (states_of (state_in c.self.inside)) c.args.stand.now c.args.what.now may
 
 pub event_asks-asks-requires-clause-held : goal.event_asks-asks-requires-clause-held

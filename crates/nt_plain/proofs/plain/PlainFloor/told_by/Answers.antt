@@ -14,8 +14,11 @@ use Rattle.nt_plain.proofs.plain.PlainFloor.told_by.Goals as goal
 
 pub over-value-requires-clause-rows : goal.over-value-requires-clause-rows
 over-value-requires-clause-rows c =
-    let planned : IsPlanned (state_in c.self.inside) c.args.stand.now c.args.what.now c.args.lanes.now c.args.asks.now = subst (λ (f : PlainState). IsPlanned f c.args.stand.now c.args.what.now c.args.lanes.now c.args.asks.now) (sym c.self.view_is) c.requires in
-    rw (c.whole_script-script.ensures, c.as_slice.ensures) (rows_within c.self.inside.states.script c.self.inside.told c.args.lanes.now c.args.stand.now.cpu c.self.invariant.told_length planned.lanes_named (ltb-true c.args.stand.now.cpu.0 c.self.inside.states.script.cpus planned.given.may.stand.cpu))
+    let planned : IsPlanned (state_in c.self.inside) c.args.stand.now c.args.what.now c.args.lanes.now c.args.asks.now = subst
+    (λ (f : PlainState). IsPlanned f c.args.stand.now c.args.what.now c.args.lanes.now c.args.asks.now) (sym c.self.view_is) c.requires in
+    rw (c.whole_script-script.ensures, c.as_slice.ensures)
+    (rows_within c.self.inside.states.script c.self.inside.told c.args.lanes.now c.args.stand.now.cpu c.self.invariant.told_length planned.lanes_named
+    (ltb-true c.args.stand.now.cpu.0 c.self.inside.states.script.cpus planned.given.may.stand.cpu))
 
 pub tell_own-requires : goal.tell_own-requires
 tell_own-requires c k d l =
@@ -25,6 +28,13 @@ pub returns : goal.returns
 returns c =
     let st = c.args.stand.now in
     let w = c.args.what.now in
-    let at : (g : PlainState) → Type 0 = λ g. c.tell_own.new.values ≡ table 16 (λ k. raised (asks_in g.script st w g.lanes st.cpu k) g.next (told_over (told_in g.script g.told) (what_lanes g.script st w g.lanes) st.cpu k)) in
-    let planned : IsPlanned (state_in c.self.inside) st w c.args.lanes.now c.args.asks.now = subst (λ (f : PlainState). IsPlanned f st w c.args.lanes.now c.args.asks.now) (sym c.self.view_is) c.requires in
-    subst at c.self.view_is (told_of (state_in c.self.inside) st w c.whole_script-script.result.now c.as_slice.result.now c.args.lanes.now c.as_slice-2.result.now c.args.asks.now c.over-value.result c.tell_own.new.values c.whole_script-script.ensures c.as_slice.ensures planned.lanes c.as_slice-2.ensures planned.asks planned.lanes_named c.over-value.ensures c.tell_own.ensures)
+    let at : (g : PlainState) → Type 0 = λ g. c.tell_own.new.values
+    ≡ table 16 (λ k. raised (asks_in g.script st w g.lanes st.cpu k) g.next
+    (told_over (told_in g.script g.told) (what_lanes g.script st w g.lanes) st.cpu k)) in
+    let planned : IsPlanned (state_in c.self.inside) st w c.args.lanes.now c.args.asks.now = subst
+    (λ (f : PlainState). IsPlanned f st w c.args.lanes.now c.args.asks.now) (sym c.self.view_is) c.requires in
+    subst at c.self.view_is
+    (told_of
+    (state_in c.self.inside) st w c.whole_script-script.result.now c.as_slice.result.now c.args.lanes.now c.as_slice-2.result.now c.args.asks.now
+    c.over-value.result c.tell_own.new.values c.whole_script-script.ensures c.as_slice.ensures planned.lanes c.as_slice-2.ensures planned.asks
+    planned.lanes_named c.over-value.ensures c.tell_own.ensures)

@@ -12,13 +12,27 @@ leave-requires-2 c =
     may_leave_threads c.self.inside c.args.self.now c.args.stand.now c.args.event.now c.self.invariant c.self.view_is c.requires.given c.requires.event
 
 pub leave-requires-3-clause-may : goal.leave-requires-3-clause-may
-leave-requires-3-clause-may c =
-    (c.self.inside.script.now, may_leave_timers c.self.inside c.args.self.now c.args.stand.now c.args.event.now c.self.invariant c.self.view_is c.requires.given c.requires.event)
+leave-requires-3-clause-may c = (
+  c.self.inside.script.now,
+  may_leave_timers c.self.inside c.args.self.now c.args.stand.now c.args.event.now c.self.invariant c.self.view_is c.requires.given c.requires.event,
+)
 
 pub invariant_of-self : goal.invariant_of-self
 invariant_of-self c =
-    kept_after c.self.inside (record { script = c.self.inside.script; dpcs = c.leave.new.self; threads = c.leave-2.new.self; timers = c.leave-3.new.timers }) c.args.self.now c.args.n c.args.stand.now c.args.event.now c.self.invariant c.self.view_is c.requires.given c.requires.event (record { script = refl; dpcs = c.leave.ensures; threads = c.leave-2.ensures; timers = c.leave-3.ensures.timers })
+    kept_after c.self.inside (record {
+      script = c.self.inside.script;
+      dpcs = c.leave.new.self;
+      threads = c.leave-2.new.self;
+      timers = c.leave-3.new.timers;
+    }) c.args.self.now c.args.n c.args.stand.now c.args.event.now c.self.invariant c.self.view_is c.requires.given
+    c.requires.event (record { script = refl; dpcs = c.leave.ensures; threads = c.leave-2.ensures; timers = c.leave-3.ensures.timers })
 
 pub returns-clause-lanes : goal.returns-clause-lanes
 returns-clause-lanes c =
-    all_left c.self.inside (record { script = c.self.inside.script; dpcs = c.leave.new.self; threads = c.leave-2.new.self; timers = c.leave-3.new.timers }) c.args.self.now c.args.n c.args.stand.now c.args.event.now c.self.invariant c.self.view_is c.requires.given c.requires.event (record { script = refl; dpcs = c.leave.ensures; threads = c.leave-2.ensures; timers = c.leave-3.ensures.timers })
+    all_left c.self.inside (record {
+      script = c.self.inside.script;
+      dpcs = c.leave.new.self;
+      threads = c.leave-2.new.self;
+      timers = c.leave-3.new.timers;
+    }) c.args.self.now c.args.n c.args.stand.now c.args.event.now c.self.invariant c.self.view_is c.requires.given
+    c.requires.event (record { script = refl; dpcs = c.leave.ensures; threads = c.leave-2.ensures; timers = c.leave-3.ensures.timers })

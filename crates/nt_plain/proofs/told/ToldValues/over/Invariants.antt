@@ -6,6 +6,7 @@ use Rattle.nt_plain.proofs.told.ToldValues.over.Given as goal
 
 abbrev pub invariant-loop-lane : goal.invariant-loop-lane
 invariant-loop-lane l = record {
-  rest : (c : ℕ) → c < 16 → max (told_over (row_value l.script l.self) (drop l.lane-index l.lanes) l.p c) (value_at l.values c) ≡ told_over (row_value l.script l.self) l.lanes l.p c;
+  rest : (c : ℕ) → c < 16 → max (told_over (row_value l.script l.self) (drop l.lane-index l.lanes) l.p c) (value_at l.values c)
+      ≡ told_over (row_value l.script l.self) l.lanes l.p c;
   len : length l.values ≡ 16;
 }

@@ -4,4 +4,5 @@ use Rattle.nt_plain.proofs.states.answering.StatesLaneAnswers.next_ready.Goals a
 
 pub returns-clause-taken : goal.returns-clause-taken
 returns-clause-taken c =
-    next_taken c.args.self.now.script c.args.p c.args.after c.args.self.now.lanes c.next_ready.result (rw c.threads.ensures at c.next_ready.ensures.next c.args.self.now.lanes refl)
+    next_taken c.args.self.now.script c.args.p c.args.after c.args.self.now.lanes c.next_ready.result
+    (rw c.threads.ensures at c.next_ready.ensures.next c.args.self.now.lanes refl)
