@@ -288,7 +288,12 @@ fn end_asks<S: LaneAnswers>(states: &S, stand: &Stand) -> Asks
         Some(Body::Base(_)) => {
             Asks::one_if(given_up || has_kernel(states, stand), stand.cpu, class::APC)
         }
-        _ => Asks::one_if(given_up, stand.cpu, class::APC),
+        Some(Body::Int(_))
+        | Some(Body::Dpc(_))
+        | Some(Body::Threaded(_))
+        | Some(Body::Apc(_, ApcKind::Special | ApcKind::User))
+        | Some(Body::Rundown(_))
+        | None => Asks::one_if(given_up, stand.cpu, class::APC),
     }
 }
 

@@ -19,14 +19,38 @@ use nt_event::{Begun, Command, CpuNo, Event, Level, Reply, Stand, ThreadNo, What
 fn call_level(command: &Command, reply: &Reply, old: Level) -> Level
     ensures { (f : ℕ) (st : Stand) (l : Lanes) → st.level ≡ old → result ≡ acting.acted_level st l (What.Call f command.now reply.now) }
 {
-    match (command, reply) {
-        (Command::Yield, Reply::Done) => Level::PASSIVE,
-        (_, Reply::Blocked) => Level::PASSIVE,
-        _ => old,
+    match command {
+        Command::Yield => match reply {
+            Reply::Done | Reply::Blocked => Level::PASSIVE,
+            Reply::Yes | Reply::No | Reply::Status(_) | Reply::Refused(_) => old,
+        },
+        Command::Raise(_)
+        | Command::Lower(_)
+        | Command::Queue(_)
+        | Command::Unqueue(_)
+        | Command::SetImportance(_, _)
+        | Command::SetTarget(_, _)
+        | Command::SetTimer(_, _, _)
+        | Command::CancelTimer(_)
+        | Command::InsertApc(_)
+        | Command::RemoveApc(_)
+        | Command::EnterCrit
+        | Command::EnterGuard
+        | Command::LeaveCrit
+        | Command::LeaveGuard
+        | Command::StartWait(_, _)
+        | Command::Delay(_, _, _)
+        | Command::Release(_)
+        | Command::Alert(_, _)
+        | Command::TestAlert(_)
+        | Command::Interrupt(_, _)
+        | Command::Clock(_)
+        | Command::ToUser
+        | Command::Note(_) => rewait_level(reply, old),
     }
 }
 
-/// The level after a wait that is taken up again.
+/// The level after a reply, of a wait that is taken up again or of a call by which no thread gives way.
 fn rewait_level(reply: &Reply, old: Level) -> Level
     ensures { result ≡ (if blocks reply.now then 0 else old) }
 {

@@ -136,7 +136,12 @@ fn end_lanes(cpu: CpuNo, body: &Option<Body>) -> Touched
 {
     match body {
         Some(Body::Base(_)) | Some(Body::Apc(_, ApcKind::User)) => Touched::one(Lane::Threads(cpu)),
-        _ => Touched::none(),
+        Some(Body::Int(_))
+        | Some(Body::Dpc(_))
+        | Some(Body::Threaded(_))
+        | Some(Body::Apc(_, ApcKind::Special | ApcKind::Normal))
+        | Some(Body::Rundown(_))
+        | None => Touched::none(),
     }
 }
 

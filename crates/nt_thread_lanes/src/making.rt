@@ -26,7 +26,12 @@ pub fn make(state: &mut ThreadState, script: &Script, n: u64, stand: &Stand, wha
             let _ = state.flush();
         }
         What::Gone { .. } => state.gone(),
-        _ => {}
+        What::Look { .. }
+        | What::Normal { .. }
+        | What::Expire { .. }
+        | What::Fire { .. }
+        | What::Clean { .. }
+        | What::Rest => {}
     }
 }
 
@@ -57,7 +62,26 @@ fn call(state: &mut ThreadState, n: u64, stand: &Stand, command: &Command, reply
             let _ = state.test_alert(*mode);
         }
         Command::Yield => state.give_way(stand.level),
-        _ => {}
+        Command::Raise(_)
+        | Command::Lower(_)
+        | Command::Queue(_)
+        | Command::Unqueue(_)
+        | Command::SetImportance(_, _)
+        | Command::SetTarget(_, _)
+        | Command::SetTimer(_, _, _)
+        | Command::CancelTimer(_)
+        | Command::InsertApc(_)
+        | Command::RemoveApc(_)
+        | Command::EnterCrit
+        | Command::EnterGuard
+        | Command::LeaveCrit
+        | Command::LeaveGuard
+        | Command::Release(_)
+        | Command::Alert(_, _)
+        | Command::Interrupt(_, _)
+        | Command::Clock(_)
+        | Command::ToUser
+        | Command::Note(_) => {}
     }
 }
 
@@ -102,7 +126,7 @@ fn begin(state: &mut ThreadState, script: &Script, begun: &Begun, from: u64)
             kind: script.kind_of(*apc),
             number: from,
         }),
-        _ => {}
+        Begun::Int(_) | Begun::Dpc(_) | Begun::Threaded(_) => {}
     }
 }
 
@@ -115,6 +139,11 @@ fn end(state: &mut ThreadState, body: &Option<Body>)
         Some(Body::Apc(_, ApcKind::User)) => {
             let _ = state.test_alert(Mode::User);
         }
-        _ => {}
+        Some(Body::Int(_))
+        | Some(Body::Dpc(_))
+        | Some(Body::Threaded(_))
+        | Some(Body::Apc(_, ApcKind::Special | ApcKind::Normal))
+        | Some(Body::Rundown(_))
+        | None => {}
     }
 }

@@ -9,22 +9,53 @@ fn changed_apc(what: &What) -> Option<(ApcNo, bool)>
     ensures { result ≡ changed_by what.now }
 {
     match what {
-        What::Call {
-            command: Command::InsertApc(a),
-            reply: Reply::Yes,
-            ..
-        } => Some((*a, true)),
-        What::Call {
-            command: Command::RemoveApc(a),
-            reply: Reply::Yes,
-            ..
-        } => Some((*a, false)),
+        What::Call { command, reply, .. } => match (command, reply) {
+            (Command::InsertApc(a), Reply::Yes) => Some((*a, true)),
+            (Command::RemoveApc(a), Reply::Yes) => Some((*a, false)),
+            (Command::Raise(_), _)
+            | (Command::Lower(_), _)
+            | (Command::Queue(_), _)
+            | (Command::Unqueue(_), _)
+            | (Command::SetImportance(_, _), _)
+            | (Command::SetTarget(_, _), _)
+            | (Command::SetTimer(_, _, _), _)
+            | (Command::CancelTimer(_), _)
+            | (Command::InsertApc(_), _)
+            | (Command::RemoveApc(_), _)
+            | (Command::EnterCrit, _)
+            | (Command::EnterGuard, _)
+            | (Command::LeaveCrit, _)
+            | (Command::LeaveGuard, _)
+            | (Command::StartWait(_, _), _)
+            | (Command::Delay(_, _, _), _)
+            | (Command::Release(_), _)
+            | (Command::Alert(_, _), _)
+            | (Command::TestAlert(_), _)
+            | (Command::Interrupt(_, _), _)
+            | (Command::Clock(_), _)
+            | (Command::ToUser, _)
+            | (Command::Yield, _)
+            | (Command::Note(_), _) => None,
+        },
         What::Begin {
             begun: Begun::Apc(a),
             ..
         } => Some((*a, false)),
         What::Flush { apc, .. } => Some((*apc, false)),
-        _ => None,
+        What::Look { .. }
+        | What::Begin {
+            begun: Begun::Int(_) | Begun::Dpc(_) | Begun::Threaded(_),
+            ..
+        }
+        | What::Normal { .. }
+        | What::End { .. }
+        | What::Expire { .. }
+        | What::Fire { .. }
+        | What::Clean { .. }
+        | What::Switch { .. }
+        | What::Rewait { .. }
+        | What::Gone { .. }
+        | What::Rest => None,
     }
 }
 

@@ -15,13 +15,46 @@ pub fn named_thread(script: &Script, what: &What) -> Option<ThreadNo>
         What::Call { command, .. } => match command {
             Command::Release(t) | Command::Alert(t, _) => Some(*t),
             Command::InsertApc(a) | Command::RemoveApc(a) => Some(owner_of(script, *a)),
-            _ => None,
+            Command::Raise(_)
+            | Command::Lower(_)
+            | Command::Queue(_)
+            | Command::Unqueue(_)
+            | Command::SetImportance(_, _)
+            | Command::SetTarget(_, _)
+            | Command::SetTimer(_, _, _)
+            | Command::CancelTimer(_)
+            | Command::EnterCrit
+            | Command::EnterGuard
+            | Command::LeaveCrit
+            | Command::LeaveGuard
+            | Command::StartWait(_, _)
+            | Command::Delay(_, _, _)
+            | Command::TestAlert(_)
+            | Command::Interrupt(_, _)
+            | Command::Clock(_)
+            | Command::ToUser
+            | Command::Yield
+            | Command::Note(_) => None,
         },
         What::Expire {
             key: TimerKey::Delay(t),
             ..
         } => Some(*t),
-        _ => None,
+        What::Expire {
+            key: TimerKey::Timer(_),
+            ..
+        }
+        | What::Look { .. }
+        | What::Begin { .. }
+        | What::Normal { .. }
+        | What::End { .. }
+        | What::Fire { .. }
+        | What::Clean { .. }
+        | What::Switch { .. }
+        | What::Rewait { .. }
+        | What::Flush { .. }
+        | What::Gone { .. }
+        | What::Rest => None,
     }
 }
 
@@ -39,7 +72,21 @@ pub fn tell(state: &mut ThreadState, script: &Script, n: u64, what: &What)
         } => {
             let _ = state.end_delay(*from);
         }
-        _ => {}
+        What::Expire {
+            key: TimerKey::Timer(_),
+            ..
+        }
+        | What::Look { .. }
+        | What::Begin { .. }
+        | What::Normal { .. }
+        | What::End { .. }
+        | What::Fire { .. }
+        | What::Clean { .. }
+        | What::Switch { .. }
+        | What::Rewait { .. }
+        | What::Flush { .. }
+        | What::Gone { .. }
+        | What::Rest => {}
     }
 }
 
@@ -65,6 +112,25 @@ fn tell_call(state: &mut ThreadState, script: &Script, n: u64, command: &Command
                 let _ = state.unapc(*a);
             }
         }
-        _ => {}
+        Command::Raise(_)
+        | Command::Lower(_)
+        | Command::Queue(_)
+        | Command::Unqueue(_)
+        | Command::SetImportance(_, _)
+        | Command::SetTarget(_, _)
+        | Command::SetTimer(_, _, _)
+        | Command::CancelTimer(_)
+        | Command::EnterCrit
+        | Command::EnterGuard
+        | Command::LeaveCrit
+        | Command::LeaveGuard
+        | Command::StartWait(_, _)
+        | Command::Delay(_, _, _)
+        | Command::TestAlert(_)
+        | Command::Interrupt(_, _)
+        | Command::Clock(_)
+        | Command::ToUser
+        | Command::Yield
+        | Command::Note(_) => {}
     }
 }

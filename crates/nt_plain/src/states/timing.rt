@@ -22,7 +22,17 @@ pub(super) fn leave(timers: &mut TimerQueue, n: u64, stand: &Stand, event: &Even
         What::Expire { key, .. } => {
             timers.expire(*key, n);
         }
-        _ => {}
+        What::Look { .. }
+        | What::Begin { .. }
+        | What::Normal { .. }
+        | What::End { .. }
+        | What::Fire { .. }
+        | What::Clean { .. }
+        | What::Switch { .. }
+        | What::Rewait { .. }
+        | What::Flush { .. }
+        | What::Gone { .. }
+        | What::Rest => {}
     }
 }
 
@@ -55,7 +65,30 @@ fn leave_call(timers: &mut TimerQueue, n: u64, event: &Event, command: &Command,
             let due = timers.now() + u64::from(*units);
             leave_delay(timers, n, event.thread, Some(due));
         }
-        _ => {}
+        (Command::Raise(_), _)
+        | (Command::Lower(_), _)
+        | (Command::Queue(_), _)
+        | (Command::Unqueue(_), _)
+        | (Command::SetImportance(_, _), _)
+        | (Command::SetTarget(_, _), _)
+        | (Command::SetTimer(_, _, _), _)
+        | (Command::CancelTimer(_), _)
+        | (Command::InsertApc(_), _)
+        | (Command::RemoveApc(_), _)
+        | (Command::EnterCrit, _)
+        | (Command::EnterGuard, _)
+        | (Command::LeaveCrit, _)
+        | (Command::LeaveGuard, _)
+        | (Command::StartWait(_, _), _)
+        | (Command::Delay(_, _, _), _)
+        | (Command::Release(_), _)
+        | (Command::Alert(_, _), _)
+        | (Command::TestAlert(_), _)
+        | (Command::Interrupt(_, _), _)
+        | (Command::Clock(_), _)
+        | (Command::ToUser, _)
+        | (Command::Yield, _)
+        | (Command::Note(_), _) => {}
     }
 }
 

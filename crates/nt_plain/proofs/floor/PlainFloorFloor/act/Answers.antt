@@ -15,10 +15,12 @@ returns-in-Ok-clause-event c =
       tt,
       (
         is_acted f c.args.stand c.args.job c.in-Ok.what c.make.result c.in-Ok.ensures.event c.kinds.ensures m.number m.event m.due m.due_fits m.told,
-        is_moved f c.make.new.self c.args.stand c.in-Ok.what c.make.result.number c.make.result.event c.kept.ensures c.requires.room m.lanes_named m.asks_named m.number m.event m.state,
+        is_moved f c.make.new.self c.args.stand c.in-Ok.what c.make.result.number c.make.result.event c.kept.ensures c.requires.room m.lanes_named m.asks_named
+            m.number m.event m.state,
       ),
     )
 
 pub returns-in-Ok-clause-told : goal.returns-in-Ok-clause-told
 returns-in-Ok-clause-told c =
-    is_told c.args.self.now c.make.new.self c.args.stand c.in-Ok.what c.make.result.told.value c.kept.ensures c.requires.stand.cpu c.make.ensures.asks_named c.make.ensures.state c.make.ensures.told
+    is_told c.args.self.now c.make.new.self c.args.stand c.in-Ok.what c.make.result.told.value c.kept.ensures c.requires.stand.cpu c.make.ensures.asks_named
+    c.make.ensures.state c.make.ensures.told

@@ -35,4 +35,6 @@ returns c =
     (λ (f : PlainState). IsPlanned f st w c.args.lanes.now c.args.asks.now) (sym c.self.view_is) c.requires in
     subst at c.self.view_is
     (told_of
-    (state_in c.self.inside) st w c.whole_script-script.result.now c.as_slice.result.now c.args.lanes.now c.as_slice-2.result.now c.args.asks.now c.over-value.result c.tell_own.new.values c.whole_script-script.ensures c.as_slice.ensures planned.lanes c.as_slice-2.ensures planned.asks planned.lanes_named c.over-value.ensures c.tell_own.ensures)
+    (state_in c.self.inside) st w c.whole_script-script.result.now c.as_slice.result.now c.args.lanes.now c.as_slice-2.result.now c.args.asks.now
+    c.over-value.result c.tell_own.new.values c.whole_script-script.ensures c.as_slice.ensures planned.lanes c.as_slice-2.ensures planned.asks
+    planned.lanes_named c.over-value.ensures c.tell_own.ensures)

@@ -24,7 +24,8 @@ invariant_of-self c =
       dpcs = c.leave.new.self;
       threads = c.leave-2.new.self;
       timers = c.leave-3.new.timers;
-    }) c.args.self.now c.args.n c.args.stand.now c.args.event.now c.self.invariant c.self.view_is c.requires.given c.requires.event (record { script = refl; dpcs = c.leave.ensures; threads = c.leave-2.ensures; timers = c.leave-3.ensures.timers })
+    }) c.args.self.now c.args.n c.args.stand.now c.args.event.now c.self.invariant c.self.view_is c.requires.given
+    c.requires.event (record { script = refl; dpcs = c.leave.ensures; threads = c.leave-2.ensures; timers = c.leave-3.ensures.timers })
 
 pub returns-clause-lanes : goal.returns-clause-lanes
 returns-clause-lanes c =
@@ -33,4 +34,5 @@ returns-clause-lanes c =
       dpcs = c.leave.new.self;
       threads = c.leave-2.new.self;
       timers = c.leave-3.new.timers;
-    }) c.args.self.now c.args.n c.args.stand.now c.args.event.now c.self.invariant c.self.view_is c.requires.given c.requires.event (record { script = refl; dpcs = c.leave.ensures; threads = c.leave-2.ensures; timers = c.leave-3.ensures.timers })
+    }) c.args.self.now c.args.n c.args.stand.now c.args.event.now c.self.invariant c.self.view_is c.requires.given
+    c.requires.event (record { script = refl; dpcs = c.leave.ensures; threads = c.leave-2.ensures; timers = c.leave-3.ensures.timers })

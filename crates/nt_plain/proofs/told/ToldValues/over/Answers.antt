@@ -7,7 +7,8 @@ use Rattle.nt_plain.proofs.told.ToldValues.over.Goals as goal
 pub loop-lane-preserved : goal.loop-lane-preserved
 loop-lane-preserved c =
     record {
-      rest = over_next c.args.script.now c.args.self.now c.args.lanes.now c.args.p c.loop-lane.lane-index _ c.lane_number.result c.row_of-row.result c.loop-lane.values c.raise.new.values c.loop-lane-test.true c.lane_number.ensures c.row_of-row.ensures c.raise.ensures c.loop-lane.invariant.rest;
+      rest = over_next c.args.script.now c.args.self.now c.args.lanes.now c.args.p c.loop-lane.lane-index _ c.lane_number.result c.row_of-row.result
+          c.loop-lane.values c.raise.new.values c.loop-lane-test.true c.lane_number.ensures c.row_of-row.ensures c.raise.ensures c.loop-lane.invariant.rest;
       len = c.raise.array_long;
     }
 

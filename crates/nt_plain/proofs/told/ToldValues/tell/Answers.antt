@@ -6,7 +6,8 @@ pub loop-lane-preserved : goal.loop-lane-preserved
 loop-lane-preserved c =
     record {
       rest = tell_next c.args.script.now c.args.to c.args.lanes.now
-          (as_asks c.args.asks.now) c.loop-lane.lane-index _ c.loop-lane.self c.tell_lane.new.self _ c.loop-lane-test.true c.tell_lane.ensures c.loop-lane.invariant.rest;
+          (as_asks c.args.asks.now) c.loop-lane.lane-index _ c.loop-lane.self c.tell_lane.new.self _ c.loop-lane-test.true c.tell_lane.ensures
+          c.loop-lane.invariant.rest;
       len = tell_kept c.args.script.now c.args.to c.args.lanes.now
           (as_asks c.args.asks.now) c.loop-lane.lane-index _ c.loop-lane.self c.tell_lane.new.self _ c.tell_lane.ensures c.loop-lane.invariant.len;
     }

@@ -14,5 +14,6 @@ returns c =
 
 pub invariant_of-result : goal.invariant_of-result
 invariant_of-result c =
-    let h = holds_start c.args.script.now c.len.result c.len-3.result c.in_ok-states.states.items c.in_ok-inserted.inserted.items c.requires c.in_ok-states.ensures c.len.ensures c.in_ok-inserted.ensures c.len-3.ensures in
+    let h = holds_start c.args.script.now c.len.result c.len-3.result c.in_ok-states.states.items c.in_ok-inserted.inserted.items c.requires
+    c.in_ok-states.ensures c.len.ensures c.in_ok-inserted.ensures c.len-3.ensures in
     record { sound = h.sound; marked = h.marked }
