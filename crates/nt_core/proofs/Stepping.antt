@@ -20,11 +20,11 @@ use Rattle.nt_floor.specs.Acts.{Found}
 use Rattle.nt_floor.specs.Views.{View}
 use Rattle.nt_cpu.specs.Runs.{Follows, is_asked, state_of}
 use Rattle.nt_cpu.specs.States.{CpuState}
-use Rattle.nt_cpu.specs.Turns.{IsTurnRefused, IsTurned, turn_gives}
+use Rattle.nt_cpu.specs.Turns.{IsTurnRefused, IsTurned, kind_of_refusal, turn_gives}
 use Rattle.nt_cpu.specs.declared.turn.TurnRefusal.{TurnRefusal}
 use Rattle.nt_cpu.specs.declared.turn.TurnRefusal.TheVariants.{NoMemory}
 use Rattle.nt_cpu.proofs.CoreMoves.{own_stays_on}
-use Rattle.nt_cpu.proofs.CoreSteps.{as_step, kind_of_refusal, turn_is_step, unasked_bad}
+use Rattle.nt_cpu.proofs.CoreSteps.{as_step, turn_is_step, unasked_bad}
 use Rattle.nt_core.specs.Sound.{cpus_of}
 
 -- ---- refusals before the processor is asked

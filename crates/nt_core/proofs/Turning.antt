@@ -13,11 +13,11 @@ use Rattle.nt_floor.specs.Acts.{Found}
 use Rattle.nt_floor.specs.Views.{IsUnmoved, View}
 use Rattle.nt_cpu.specs.Runs.{is_asked, state_of}
 use Rattle.nt_cpu.specs.States.{CpuState}
-use Rattle.nt_cpu.specs.Turns.{IsTurnRefused, IsTurned, Serves}
+use Rattle.nt_cpu.specs.Turns.{IsTurnRefused, IsTurned, Serves, kind_of_refusal}
 use Rattle.nt_cpu.specs.declared.turn.TurnRefusal.{TurnRefusal}
 use Rattle.nt_cpu.specs.declared.turn.TurnRefusal.TheVariants.{NoMemory}
 use Rattle.nt_cpu.proofs.CoreMoves.{MovesOn, moves_on}
-use Rattle.nt_cpu.proofs.CoreSteps.{kind_of_refusal, serves_run}
+use Rattle.nt_cpu.proofs.CoreSteps.{serves_run}
 use Rattle.nt_plain.specs.States.{PlainState, view_of}
 use Rattle.nt_core.specs.Sound.{IsSound, cpus_of}
 use Rattle.nt_core.specs.States.{CoreState, with_event}

@@ -1,7 +1,7 @@
 //! Why a turn, or a list of turns, is refused.
 ghost use Rattle.std.specs.Prelude.{◌≡◌};
 ghost use Rattle.nt_cpu.specs.declared.turn.TurnRefusal.{TurnRefusal};
-ghost use Rattle.nt_cpu.proofs.CoreSteps.{kind_of_refusal};
+ghost use Rattle.nt_cpu.specs.Turns.{kind_of_refusal};
 ghost use Rattle.nt_core.specs.Refusals.{kind_of};
 
 use nt_cpu::TurnRefusal;

@@ -28,7 +28,8 @@ use Rattle.nt_event.proofs.Options.{both, not_true}
 use Rattle.nt_frame.specs.Changes.{at_innermost, on_running, without_innermost}
 use Rattle.nt_frame.specs.Nesting.{AreNested}
 use Rattle.nt_frame.proofs.After.{after_end, after_int, after_normal}
-use Rattle.nt_frame.proofs.Commands.{advanced, call_own, call_plain, call_refused, is_frames_own, is_plain}
+use Rattle.nt_frame.specs.Rules.{is_frames_own}
+use Rattle.nt_frame.proofs.Commands.{advanced, call_own, call_plain, call_refused, is_plain}
 use Rattle.nt_frame.proofs.Events.{IsOurs}
 use Rattle.nt_frame.proofs.Twice.{at_innermost-at_innermost, at_innermost_by}
 use Rattle.nt_cpu.specs.Alone.{alone_asks, alone_event, alone_level, as_list, ask_when, call_asks, call_level, ends_alone, is_alone, is_normal_end}

@@ -39,9 +39,9 @@ use Rattle.nt_event.proofs.Tables.{get_or-table, length-table_from}
 use Rattle.nt_floor.specs.Views.{HasWord, View}
 use Rattle.nt_frame.specs.Nesting.{AreNamedBelow, next_name}
 use Rattle.nt_cpu.specs.Runs.{Follows, asked_rises, is_asked, state_of}
-use Rattle.nt_cpu.specs.Turns.{Serves, StandsIn, event_or_refusal, rise_above, rises, task_makes, turn_gives, turn_refusal, turn_task}
+use Rattle.nt_cpu.specs.Turns.{Serves, StandsIn, event_or_refusal, kind_of_refusal, rise_above, rises, task_makes, turn_gives, turn_refusal, turn_task}
 use Rattle.nt_cpu.specs.declared.turn.TurnRefusal.{TurnRefusal}
-use Rattle.nt_cpu.specs.declared.turn.TurnRefusal.TheVariants.{BadChoice, BadLook, NoMemory, NothingToDo}
+use Rattle.nt_cpu.specs.declared.turn.TurnRefusal.TheVariants.{BadChoice, BadLook, NothingToDo}
 use Rattle.nt_cpu.proofs.AloneMoves.{have_states}
 
 -- ---- conditions
@@ -127,13 +127,6 @@ unasked_bad s p r x past h =
     ∙ and_false (list_any (λ v. nat_lt 0 v) r.value)
 
 -- ---- turns are steps
-
--- the kind of a refusal
-abbrev pub kind_of_refusal : TurnRefusal → ScheduleKind
-kind_of_refusal NothingToDo = NothingToDoKind
-kind_of_refusal BadLook = BadLookKind
-kind_of_refusal BadChoice = BadChoiceKind
-kind_of_refusal NoMemory = NothingToDoKind
 
 abbrev pub as_step : Result Event TurnRefusal → Result Event ScheduleKind
 as_step (Ok e) = Ok e

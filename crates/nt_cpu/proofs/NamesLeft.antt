@@ -4,9 +4,6 @@ use Rattle.std.proofs.lemmas.Bool.Decides.{nat_tests}
 use Rattle.std.proofs.lemmas.List.{get_or_past}
 use Rattle.std.proofs.lemmas.List.Elements.{All-from_get_or}
 use Rattle.std.specs.Prelude.{Bool, List, None, Option, Some, [], false, get_or, if◌then◌else◌, length, nat_lt, refl, true, ℕ, ◌+◌, ◌<◌, ◌==◌, ◌∷◌, ◌≡◌, ◌≤◌}
-use Rattle.nt_event.specs.declared.commands.Command.{Command}
-use Rattle.nt_event.specs.declared.commands.Command.TheVariants.{Delay, EnterCrit, EnterGuard, LeaveCrit, LeaveGuard, Lower, Raise, StartWait}
-use Rattle.nt_event.specs.declared.commands.Reply.{Reply}
 use Rattle.nt_event.specs.declared.events.Begun.TheVariants.{Apc, Dpc, Int, Threaded}
 use Rattle.nt_event.specs.declared.events.Event.{Event}
 use Rattle.nt_event.specs.declared.events.What.{What}
@@ -16,34 +13,12 @@ use Rattle.nt_event.specs.declared.numbers.ApcNo.{ApcNo}
 use Rattle.nt_event.specs.declared.numbers.RoutineNo.{RoutineNo}
 use Rattle.nt_event.specs.declared.numbers.ThreadNo.{ThreadNo}
 use Rattle.nt_event.specs.declared.scripts.Script.{Script}
-use Rattle.nt_event.specs.Frames.{Frames, at_name, called, done_to, end_on_thread, ended_on_thread, flushed, frames_after, frames_in, is_base_body, ended_base, normal_of, own_after, resumed, rewaited, switched_to, thread_after, thread_if, without}
+use Rattle.nt_event.specs.Frames.{Frames, at_name, called, end_on_thread, ended_on_thread, flushed, frames_after, frames_in, is_base_body, ended_base, normal_of, own_after, rewaited, switched_to, thread_after, thread_if, without}
 use Rattle.nt_event.specs.Routines.{rundown_of}
 use Rattle.nt_event.specs.Numbers.{is_by, thread}
-use Rattle.nt_event.specs.Replies.{is_done}
 use Rattle.nt_event.proofs.Tables.{get_or-table, length-table_from}
+use Rattle.nt_runs.proofs.Names.{called_name, resumed_name}
 use Rattle.nt_frame.specs.Nesting.{AreNamedBelow, AreNested, IsPart, next_name}
-
-done_name : (c : Command) (f : Frame) → (done_to c f).name ≡ f.name
-done_name (Raise l) f = refl
-done_name (Lower l) f = refl
-done_name EnterCrit f = refl
-done_name EnterGuard f = refl
-done_name LeaveCrit f = refl
-done_name LeaveGuard f = refl
-done_name _ f = refl
-
-called_name : (due : Option ℕ) (c : Command) (y : Reply) (f : Frame) → (called due c y f).name ≡ f.name
-called_name due (StartWait m a) y f = refl
-called_name due (Delay m a u) y f = refl
-called_name due c y f = go (is_done y)
-  where
-    go : (b : Bool) → (if b then done_to c f else f).name ≡ f.name
-    go true = done_name c f
-    go false = refl
-
-resumed_name : (st : Option ℕ) (f : Frame) → (resumed st f).name ≡ f.name
-resumed_name None f = refl
-resumed_name (Some x) f = refl
 
 next_named : (n m : ℕ) (g : Frame → Frame) (fs : List Frame) → ((f : Frame) → (g f).name ≡ f.name) → next_name fs ≤ n → next_name (at_name m g fs) ≤ n + 1
 next_named n m g [] k h = omega arith

@@ -2,6 +2,8 @@
 use Rattle.std.specs.List.{list_any}
 use Rattle.std.specs.Prelude.{Bool, Err, IfSome, List, None, Ok, Option, Result, Some, [], if◌then◌else◌, length, nat_lt, not, option_and_then, option_map, suc, true, ℕ, ◌&&◌, ◌==◌, ◌||◌, ◌∷◌, ◌<◌, ◌≡◌, ◌≤◌, ◌⊎◌, false}
 use Rattle.nt_event.specs.declared.events.Event.{Event}
+use Rattle.nt_event.specs.declared.events.ScheduleKind.{ScheduleKind}
+use Rattle.nt_event.specs.declared.events.ScheduleKind.TheVariants as kind
 use Rattle.nt_event.specs.declared.events.Turn.{Turn}
 use Rattle.nt_event.specs.declared.events.Turn.TheVariants.{Look as LookTurn, Next, Switch as SwitchTurn}
 use Rattle.nt_event.specs.declared.events.What.TheVariants.{Look}
@@ -133,3 +135,12 @@ pub record IsTurned (c d : CpuState) (t : Turn) (f : Found) (n : ℕ) (e : Event
 pub record IsTurnRefused (c : CpuState) (t : Turn) (f : Found) (r : TurnRefusal) (v : View) : Type 0 where
   pub cause : (r ≡ NoMemory) ⊎ (turn_gives c f.lanes t ≡ Err r)
   pub told : Tells v.states f.lanes
+
+-- ---- refusals
+
+-- the kind of a refusal: want of memory is a turn that does nothing
+abbrev pub kind_of_refusal : TurnRefusal → ScheduleKind
+kind_of_refusal NothingToDo = kind.NothingToDo
+kind_of_refusal BadLook = kind.BadLook
+kind_of_refusal BadChoice = kind.BadChoice
+kind_of_refusal NoMemory = kind.NothingToDo

@@ -8,11 +8,9 @@ ghost use Rattle.nt_event.specs.Frames.{again_after, called, done_to, effect as 
 ghost use Rattle.nt_event.specs.Routines.{rundown_of};
 ghost use Rattle.nt_event.specs.Step.{thread_field};
 ghost use Rattle.nt_event.specs.Lists.{is_null};
-ghost use Rattle.nt_frame.specs.Changes.{at_innermost, begun, without_innermost};
+ghost use Rattle.nt_frame.specs.Changes.{at_innermost, begun, taken, without_innermost};
 ghost use Rattle.nt_frame.specs.Nesting.{AreNamedBelow, AreNested};
-ghost use Rattle.nt_frame.specs.Rules.{count_of, is_at_base, is_leaving, refusal_in, regions_in};
-ghost use Rattle.nt_frame.proofs.Commands.{is_frames_own as is_own_command};
-ghost use Rattle.nt_frame.proofs.After.{taken};
+ghost use Rattle.nt_frame.specs.Rules.{count_of, is_at_base, is_frames_own, is_leaving, refusal_in, regions_in};
 ghost use Rattle.nt_cpu.specs.Fits.{Allow, body_of as begun_body, is_wait_reply, may_call, stops as stops_of};
 
 use nt_event::status::KERNEL_APC;
@@ -22,7 +20,7 @@ use nt_frame::Frames;
 /// A command that is done changes the innermost frame's level, or a count of its regions.
 fn do_command(frames: &mut Frames, command: &Command)
     requires frame { IsSome (innermost frames.old) }
-    requires may { is_own_command command.now ≡ true → refusal_in command.now frames.old ≡ None }
+    requires may { is_frames_own command.now ≡ true → refusal_in command.now frames.old ≡ None }
     requires room { (r : Region) → count_of r (regions_in frames.old) < 4294967295 }
     ensures { frames.new ≡ at_innermost (done_to command.now) frames.old }
 {

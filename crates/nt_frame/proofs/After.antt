@@ -19,7 +19,7 @@ use Rattle.nt_event.specs.Frames.{Frames, at_head, at_name, called, end_on_threa
 use Rattle.nt_event.specs.Frames.{normal_of, resumed, rewaited, running_after, switched_to, thread_after, thread_part, without}
 use Rattle.nt_event.specs.Routines.{kind_of, rundown_of}
 use Rattle.nt_event.specs.Lists.{head_of, is_null, tail_of}
-use Rattle.nt_frame.specs.Changes.{at_innermost, begun, closed, on_innermost_part, on_part, without_innermost}
+use Rattle.nt_frame.specs.Changes.{at_innermost, begun, closed, on_innermost_part, on_part, taken, without_innermost}
 use Rattle.nt_frame.specs.Nesting.{AreNested}
 use Rattle.nt_frame.specs.Rules.{may_go_on}
 use Rattle.nt_frame.proofs.Begun.{base_is_not_own}
@@ -172,10 +172,6 @@ after_rest s n due e x h k =
     frames_after_is s n due e Rest x h k ∙ same_threads x.own x.running x
 
 -- ---- taken up: `switch_to`, and then `begin` of the base or `set_again` by the status
-
--- the thread runs from here on
-abbrev pub taken : ThreadNo → Frames → Frames
-taken t x = record x { running = Some t }
 
 switch_is : (s : Script) (n : ℕ) (due : Option ℕ) (e : Event) (x : Frames) (t : ThreadNo) (status : Option ℕ) → length x.threads ≡ length s.threads →
     t.0 < length x.threads → e.thread ≡ Some t → e.what ≡ Switch t status →

@@ -19,9 +19,9 @@ use Rattle.nt_event.specs.declared.scripts.Script.{Script}
 use Rattle.nt_event.specs.Frames.{Frames, again_after, called, done_to, frames_after, frames_in, innermost, resumed, rewaited, running_after}
 use Rattle.nt_event.specs.Lists.{head_of}
 use Rattle.nt_event.specs.Replies.{is_blocked, is_done, kernel_apc}
-use Rattle.nt_frame.specs.Changes.{at_innermost}
-use Rattle.nt_frame.specs.Rules.{enter_of, leave_of}
-use Rattle.nt_frame.proofs.After.{after_call, after_rewait, after_switch, taken}
+use Rattle.nt_frame.specs.Changes.{at_innermost, taken}
+use Rattle.nt_frame.specs.Rules.{enter_of, is_frames_own, leave_of}
+use Rattle.nt_frame.proofs.After.{after_call, after_rewait, after_switch}
 use Rattle.nt_frame.proofs.Events.{IsOurs}
 use Rattle.nt_frame.proofs.Twice.{at_innermost-at_innermost, at_innermost_by, at_innermost_id, running-at_innermost}
 
@@ -121,16 +121,6 @@ call_plain s n due e x f c y h q p b k =
     call_by s n due e x f c y h q k (plain_call due c y p) (plain_runs f.name c y x.running p b)
 
 -- ---- levels and regions: `raise`, `lower`, `enter`, `leave`
-
--- the commands of levels and regions
-abbrev pub is_frames_own : Command → Bool
-is_frames_own (Raise level) = true
-is_frames_own (Lower level) = true
-is_frames_own EnterCrit = true
-is_frames_own EnterGuard = true
-is_frames_own LeaveCrit = true
-is_frames_own LeaveGuard = true
-is_frames_own _ = false
 
 own_call : (due : Option ℕ) (c : Command) → is_frames_own c ≡ true → (f : Frame) → called due c Done f ≡ advanced (done_to c f)
 own_call due (Raise level) p f = refl

@@ -24,12 +24,12 @@ use Rattle.nt_event.specs.Replies.{kernel_apc}
 use Rattle.nt_event.proofs.Moves.{frames_move, frames_stay}
 use Rattle.nt_frame.specs.declared.calls.FrameCall.{FrameCall}
 use Rattle.nt_frame.specs.Calls.{commanded, left_by, left_by_all}
-use Rattle.nt_frame.specs.Changes.{at_innermost, no_frames}
+use Rattle.nt_frame.specs.Changes.{at_innermost, no_frames, taken}
 use Rattle.nt_frame.specs.EventCalls.{EachIsMade, EventsAreCalls, HistoriesAreCalls, calls_in, EventSays, IsInnermost, Replies, calls_of, command_calls}
 use Rattle.nt_frame.specs.EventCalls.{rewait_calls, status_calls, switch_calls, thread_of}
 use Rattle.nt_frame.specs.Rules.{is_at_base, refusal_in}
 use Rattle.nt_frame.proofs.After.{after_apc, after_clean, after_dpc, after_end, after_end_base, after_expire, after_fire, after_first_switch, after_flush}
-use Rattle.nt_frame.proofs.After.{after_gone, after_int, after_look, after_normal, after_rest, after_rewait, after_rundown, after_switch, after_threaded, taken}
+use Rattle.nt_frame.proofs.After.{after_gone, after_int, after_look, after_normal, after_rest, after_rewait, after_rundown, after_switch, after_threaded}
 use Rattle.nt_frame.proofs.Commands.{advanced, awaiting, call_by, call_delay, call_delay_blocked, call_own, call_wait, call_wait_blocked, call_yield}
 use Rattle.nt_frame.proofs.Commands.{rewait_blocked, stays}
 use Rattle.nt_frame.proofs.Events.{IsOurs}

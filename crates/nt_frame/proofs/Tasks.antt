@@ -19,7 +19,7 @@ use Rattle.nt_event.specs.Own.{Own}
 use Rattle.nt_event.specs.Routines.{is_kernel_kind}
 use Rattle.nt_event.specs.Lists.{is_null}
 use Rattle.nt_frame.specs.Rules.{is_at_base, is_leaving, may_begin, may_go_on, refusal_in, regions_in}
-use Rattle.nt_frame.proofs.After.{taken}
+use Rattle.nt_frame.specs.Changes.{taken}
 use Rattle.nt_frame.proofs.Named.{same_name}
 use Rattle.nt_event.proofs.Booleans.{and_both, and_left, and_right}
 

@@ -53,3 +53,7 @@ begun n b x = on_part (is_own b) (λ fs. new_frame n b ∷ fs) x
 -- the running thread's base frame closed: the thread has no frame, and none runs
 abbrev pub closed : Frames → Frames
 closed x = record (on_running (λ _. []) x.running x) { running = None }
+
+-- a thread taken up: it runs from here on
+abbrev pub taken : ThreadNo → Frames → Frames
+taken t x = record x { running = Some t }

@@ -1,9 +1,10 @@
 -- Where a routine may begin, and which commands the frames refuse.
 use Rattle.std.specs.Option.{option_map_or}
-use Rattle.std.specs.Prelude.{Bool, Option, Some, false, is_none, nat_lt, not, ℕ, ◌&&◌, ◌==◌, ◌||◌}
+use Rattle.std.specs.Prelude.{Bool, Option, Some, false, is_none, nat_lt, not, true, ℕ, ◌&&◌, ◌==◌, ◌||◌}
 use Rattle.nt_event.specs.declared.commands.ApcKind.TheVariants.{User as UserApc}
 use Rattle.nt_event.specs.declared.commands.Command.{Command}
 use Rattle.nt_event.specs.declared.commands.Command.TheVariants.{EnterCrit, EnterGuard, LeaveCrit, LeaveGuard, ToUser}
+use Rattle.nt_event.specs.declared.commands.Command.TheVariants as cmd
 use Rattle.nt_event.specs.declared.commands.Refusal.{Refusal}
 use Rattle.nt_event.specs.declared.commands.Refusal.TheVariants.{NotThread}
 use Rattle.nt_event.specs.declared.commands.Regions.{Regions}
@@ -29,6 +30,33 @@ regions_in x = regions_of (thread_part x)
 abbrev pub refusal_in : Command → Frames → Option Refusal
 refusal_in c x =
     option_map_or (λ f. refusal (level_in x) (not (is_null x.own)) (regions_in x) f c) (innermost x) (Some NotThread)
+
+-- the commands of levels and regions, which the frames alone answer
+abbrev pub is_frames_own : Command → Bool
+is_frames_own (cmd.Raise level) = true
+is_frames_own (cmd.Lower level) = true
+is_frames_own cmd.EnterCrit = true
+is_frames_own cmd.EnterGuard = true
+is_frames_own cmd.LeaveCrit = true
+is_frames_own cmd.LeaveGuard = true
+is_frames_own (cmd.Queue d) = false
+is_frames_own (cmd.Unqueue d) = false
+is_frames_own (cmd.SetImportance d i) = false
+is_frames_own (cmd.SetTarget d q) = false
+is_frames_own (cmd.SetTimer t due period) = false
+is_frames_own (cmd.CancelTimer t) = false
+is_frames_own (cmd.InsertApc a) = false
+is_frames_own (cmd.RemoveApc a) = false
+is_frames_own (cmd.StartWait m a) = false
+is_frames_own (cmd.Delay m a units) = false
+is_frames_own (cmd.Release t) = false
+is_frames_own (cmd.Alert t m) = false
+is_frames_own (cmd.TestAlert m) = false
+is_frames_own (cmd.Interrupt q level) = false
+is_frames_own (cmd.Clock units) = false
+is_frames_own cmd.ToUser = false
+is_frames_own cmd.Yield = false
+is_frames_own (cmd.Note k) = false
 
 -- the command that enters a region, and the one that leaves it
 abbrev pub enter_of : Region → Command

@@ -1,4 +1,5 @@
-//! `ntrun` decides, as the Windows NT kernel on x64 does, when deferred work may run.
+//! `ntrun` decides when deferred work may run, by the rules of Windows Internals and the driver documentation for x64, with
+//! marked choices.
 //!
 //! `ntrun run` reads a script of driver calls and interrupts for one to eight processors from standard input, runs it in a fixed
 //! order, and writes a report of every step and delivery to standard output, with the schedule taken.
