@@ -119,25 +119,31 @@ left_gone s n due e x z t o k h =
     h ∙ sym (after_gone s n due e x t (ours s e (Gone t) x o k refl) k)
 
 -- the events that change no frame
-pub left_other : (s : Script) (n : ℕ) (due : Option ℕ) (e : Event) (x : Frames) (w : What) → Occurs s e x → e.what ≡ w →
-    ((f : ℕ) (c : Command) (y : Reply) → w ≡ Call f c y → ⊥) → ((b : Begun) (from : ℕ) → w ≡ Begin b from → ⊥) → ((f : ℕ) → w ≡ Normal f → ⊥) →
-    ((f : ℕ) → w ≡ End f → ⊥) → ((t : ThreadNo) (st : Option ℕ) → w ≡ Switch t st → ⊥) → ((f : ℕ) (y : Reply) → w ≡ Rewait f y → ⊥) →
-    ((a : ApcNo) (from : ℕ) → w ≡ Flush a from → ⊥) → ((t : ThreadNo) → w ≡ Gone t → ⊥) → x ≡ frames_after s n due e x
-left_other s n due e x (Look r) o k _ _ _ _ _ _ _ _ =
+abbrev pub keeps_frames : What → Bool
+keeps_frames (Look r) = true
+keeps_frames (Expire key from) = true
+keeps_frames (Fire d y) = true
+keeps_frames (Clean class) = true
+keeps_frames Rest = true
+keeps_frames (Call f c y) = false
+keeps_frames (Begin b from) = false
+keeps_frames (Normal f) = false
+keeps_frames (End f) = false
+keeps_frames (Switch t st) = false
+keeps_frames (Rewait f y) = false
+keeps_frames (Flush a from) = false
+keeps_frames (Gone t) = false
+
+pub left_other : (s : Script) (n : ℕ) (due : Option ℕ) (e : Event) (x : Frames) (w : What) → Occurs s e x → e.what ≡ w → keeps_frames w ≡ true →
+    x ≡ frames_after s n due e x
+left_other s n due e x (Look r) o k p =
     sym (after_look s n due e x r o.threads (o.thread ∙ ap (λ (v : What). thread_field v x.running) k) k)
-left_other s n due e x (Expire key from) o k _ _ _ _ _ _ _ _ =
+left_other s n due e x (Expire key from) o k p =
     sym (after_expire s n due e x key from (ours s e (Expire key from) x o k refl) k)
-left_other s n due e x (Fire d y) o k _ _ _ _ _ _ _ _ =
+left_other s n due e x (Fire d y) o k p =
     sym (after_fire s n due e x d y (ours s e (Fire d y) x o k refl) k)
-left_other s n due e x (Clean class) o k _ _ _ _ _ _ _ _ =
+left_other s n due e x (Clean class) o k p =
     sym (after_clean s n due e x class (ours s e (Clean class) x o k refl) k)
-left_other s n due e x Rest o k _ _ _ _ _ _ _ _ =
+left_other s n due e x Rest o k p =
     sym (after_rest s n due e x (ours s e Rest x o k refl) k)
-left_other s n due e x (Call f c y) o k p _ _ _ _ _ _ _ = absurd (p f c y refl)
-left_other s n due e x (Begin b from) o k _ p _ _ _ _ _ _ = absurd (p b from refl)
-left_other s n due e x (Normal f) o k _ _ p _ _ _ _ _ = absurd (p f refl)
-left_other s n due e x (End f) o k _ _ _ p _ _ _ _ = absurd (p f refl)
-left_other s n due e x (Switch t st) o k _ _ _ _ p _ _ _ = absurd (p t st refl)
-left_other s n due e x (Rewait f y) o k _ _ _ _ _ p _ _ = absurd (p f y refl)
-left_other s n due e x (Flush a from) o k _ _ _ _ _ _ p _ = absurd (p a from refl)
-left_other s n due e x (Gone t) o k _ _ _ _ _ _ _ p = absurd (p t refl)
+left_other s n due e x _ o k p = cc

@@ -16,38 +16,20 @@ use Rattle.nt_frame.specs.Changes.{at_innermost, on_running}
 use Rattle.nt_frame.specs.Nesting.{AreNested}
 use Rattle.nt_frame.proofs.Commands.{advanced}
 use Rattle.nt_frame.proofs.Twice.{at_innermost-at_innermost, at_innermost_by, at_innermost_id, running-at_innermost}
-use Rattle.nt_cpu.specs.Fits.{stops}
-
--- another command does nothing to its frame
-other_done : (c : Command) (f : Frame) → ((l : ℕ) → c ≡ Raise l → ⊥) → ((l : ℕ) → c ≡ Lower l → ⊥) → (c ≡ EnterCrit → ⊥) → (c ≡ EnterGuard → ⊥) →
-    (c ≡ LeaveCrit → ⊥) → (c ≡ LeaveGuard → ⊥) → done_to c f ≡ f
-other_done (Raise l) f a b d e g h = absurd (a l refl)
-other_done (Lower l) f a b d e g h = absurd (b l refl)
-other_done EnterCrit f a b d e g h = absurd (d refl)
-other_done EnterGuard f a b d e g h = absurd (e refl)
-other_done LeaveCrit f a b d e g h = absurd (g refl)
-other_done LeaveGuard f a b d e g h = absurd (h refl)
-other_done _ f a b d e g h = refl
+use Rattle.nt_cpu.specs.Fits.{stops, wait_begun}
 
 -- a change that makes of each frame the frame itself
 unchanged : (g : Frame → Frame) (x : Frames) → ((f : Frame) → g f ≡ f) → x ≡ at_innermost g x
 unchanged g x h = sym (at_innermost_by g (λ f. f) x h ∙ at_innermost_id x)
 
-pub other_command : (c : Command) (x : Frames) → ((l : ℕ) → c ≡ Raise l → ⊥) → ((l : ℕ) → c ≡ Lower l → ⊥) → (c ≡ EnterCrit → ⊥) → (c ≡ EnterGuard → ⊥) →
-    (c ≡ LeaveCrit → ⊥) → (c ≡ LeaveGuard → ⊥) → x ≡ at_innermost (done_to c) x
-other_command c x a b d e g h =
-    unchanged (done_to c) x (λ f. other_done c f a b d e g h)
+-- another command changes its frame where it is done
+other_effect : (due : Option ℕ) (c : Command) (y : Reply) (f : Frame) → wait_begun due c ≡ None → effect due c y f ≡ (if is_done y then done_to c f else f)
+other_effect due (StartWait m a) y f h = cc
+other_effect due (Delay m a units) y f h = cc
+other_effect due _ y f h = refl
 
--- a call that isn't done, and no wait, does nothing to its frame but its place
-no_effect : (due : Option ℕ) (c : Command) (y : Reply) (f : Frame) → ((m : _) (a : Bool) → c ≡ StartWait m a → ⊥) →
-    ((m : _) (a : Bool) (u : ℕ) → c ≡ Delay m a u → ⊥) → is_done y ≡ false → effect due c y f ≡ f
-no_effect due (StartWait m a) y f p q h = absurd (p m a refl)
-no_effect due (Delay m a u) y f p q h = absurd (q m a u refl)
-no_effect due _ y f p q h = rw h
-
-pub undone : (due : Option ℕ) (c : Command) (y : Reply) (x : Frames) → ((m : _) (a : Bool) → c ≡ StartWait m a → ⊥) →
-    ((m : _) (a : Bool) (u : ℕ) → c ≡ Delay m a u → ⊥) → is_done y ≡ false → x ≡ at_innermost (effect due c y) x
-undone due c y x p q h = unchanged (effect due c y) x (λ f. no_effect due c y f p q h)
+pub undone : (due : Option ℕ) (c : Command) (y : Reply) (x : Frames) → wait_begun due c ≡ None → is_done y ≡ false → x ≡ at_innermost (effect due c y) x
+undone due c y x h d = unchanged (effect due c y) x (λ f. other_effect due c y f h ∙ rw d)
 
 -- the innermost frame of a part is changed
 head-at_head : (g : Frame → Frame) (fs : List Frame) → head_of (at_head g fs) ≡ option_map g (head_of fs)

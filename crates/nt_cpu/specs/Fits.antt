@@ -1,6 +1,7 @@
 -- Which events the frames of a processor allow.
-use Rattle.std.specs.Prelude.{Bool, IsTrue, None, Some, [], false, is_none, length, not, true, ℕ, ◌&&◌, ◌<◌, ◌||◌, ◌≡◌}
+use Rattle.std.specs.Prelude.{Bool, IsTrue, None, Some, [], false, is_none, length, not, true, ℕ, ◌&&◌, ◌<◌, ◌||◌, ◌≡◌, Option}
 use Rattle.nt_event.specs.declared.commands.Command.{Command}
+use Rattle.nt_event.specs.declared.commands.Command.TheVariants as cmd
 use Rattle.nt_event.specs.declared.commands.Command.TheVariants.{Alert, CancelTimer, Clock, Delay, EnterCrit, EnterGuard, InsertApc, Interrupt, LeaveCrit, LeaveGuard, Lower, Note, Queue, Raise, Release, RemoveApc, SetImportance, SetTarget, SetTimer, StartWait, TestAlert, ToUser, Unqueue, Yield}
 use Rattle.nt_event.specs.declared.commands.Reply.{Reply}
 use Rattle.nt_event.specs.declared.commands.Reply.TheVariants.{Blocked, Done, Status}
@@ -8,6 +9,7 @@ use Rattle.nt_event.specs.declared.events.Begun.{Begun}
 use Rattle.nt_event.specs.declared.events.Begun.TheVariants.{Apc, Dpc, Int, Threaded}
 use Rattle.nt_event.specs.declared.events.What.{What}
 use Rattle.nt_event.specs.declared.events.What.TheVariants.{Begin, Call, Clean, End, Expire, Fire, Flush, Gone, Look, Normal, Rest, Rewait, Switch}
+use Rattle.nt_event.specs.declared.frames.Again.{Again}
 use Rattle.nt_event.specs.declared.frames.Body.{Body}
 use Rattle.nt_event.specs.declared.frames.Body.TheVariants.{Apc as OnApc, Dpc as OnDpc, Int as OnInt, Threaded as OnThreaded}
 use Rattle.nt_event.specs.declared.frames.Frame.{Frame}
@@ -60,6 +62,33 @@ may_reply ToUser y = not (is_blocked y)
 -- the command may be called with this reply
 abbrev pub may_call : Command → Reply → Frames → Bool
 may_call c y x = is_refused y || (is_none (refusal_in c x) && may_reply c y)
+
+-- the wait that a command begins; that of a delay has this due time
+abbrev pub wait_begun : Option ℕ → Command → Option Again
+wait_begun due (cmd.StartWait m a) = Some (record { mode = m; alertable = a; due = None })
+wait_begun due (cmd.Delay m a units) = Some (record { mode = m; alertable = a; due = due })
+wait_begun due (cmd.Raise level) = None
+wait_begun due (cmd.Lower level) = None
+wait_begun due (cmd.Queue d) = None
+wait_begun due (cmd.Unqueue d) = None
+wait_begun due (cmd.SetImportance d i) = None
+wait_begun due (cmd.SetTarget d q) = None
+wait_begun due (cmd.SetTimer t at period) = None
+wait_begun due (cmd.CancelTimer t) = None
+wait_begun due (cmd.InsertApc a) = None
+wait_begun due (cmd.RemoveApc a) = None
+wait_begun due cmd.EnterCrit = None
+wait_begun due cmd.EnterGuard = None
+wait_begun due cmd.LeaveCrit = None
+wait_begun due cmd.LeaveGuard = None
+wait_begun due (cmd.Release t) = None
+wait_begun due (cmd.Alert t m) = None
+wait_begun due (cmd.TestAlert m) = None
+wait_begun due (cmd.Interrupt q level) = None
+wait_begun due (cmd.Clock units) = None
+wait_begun due cmd.ToUser = None
+wait_begun due cmd.Yield = None
+wait_begun due (cmd.Note k) = None
 
 -- the thread that calls the command runs no more: it blocks, or gives way
 abbrev pub stops : Command → Reply → Bool

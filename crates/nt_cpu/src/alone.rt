@@ -123,7 +123,9 @@ fn thread(what: &What, running: Option<ThreadNo>) -> Option<ThreadNo>
     match what {
         What::Switch { thread, .. } => Some(*thread),
         What::Look { .. } => None,
-        _ => running,
+        What::Call { .. } | What::Begin { .. } | What::Normal { .. } | What::End { .. } => running,
+        What::Expire { .. } | What::Fire { .. } | What::Clean { .. } => running,
+        What::Rewait { .. } | What::Flush { .. } | What::Gone { .. } | What::Rest => running,
     }
 }
 
@@ -193,7 +195,9 @@ impl<'s> Cpu<'s> {
             } => *level,
             What::Normal { .. } | What::Look { .. } => Level::PASSIVE,
             What::End { .. } => self.frames.after(),
-            _ => self.frames.level(),
+            What::Begin { .. } | What::Expire { .. } | What::Fire { .. } => self.frames.level(),
+            What::Clean { .. } | What::Switch { .. } | What::Rewait { .. } => self.frames.level(),
+            What::Flush { .. } | What::Gone { .. } | What::Rest => self.frames.level(),
         }
     }
 

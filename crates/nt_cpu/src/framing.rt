@@ -11,7 +11,7 @@ ghost use Rattle.nt_event.specs.Lists.{is_null};
 ghost use Rattle.nt_frame.specs.Changes.{at_innermost, begun, taken, without_innermost};
 ghost use Rattle.nt_frame.specs.Nesting.{AreNamedBelow, AreNested};
 ghost use Rattle.nt_frame.specs.Rules.{count_of, is_at_base, is_frames_own, is_leaving, refusal_in, regions_in};
-ghost use Rattle.nt_cpu.specs.Fits.{Allow, body_of as begun_body, is_wait_reply, may_call, stops as stops_of};
+ghost use Rattle.nt_cpu.specs.Fits.{Allow, body_of as begun_body, is_wait_reply, may_call, stops as stops_of, wait_begun};
 
 use nt_event::status::KERNEL_APC;
 use nt_event::{Again, ApcNo, Begun, Body, Command, Event, Region, Reply, Script, ThreadNo, What};
@@ -55,7 +55,24 @@ fn do_command(frames: &mut Frames, command: &Command)
                 unreachable!()
             }
         }
-        _ => {}
+        Command::Queue(_)
+        | Command::Unqueue(_)
+        | Command::SetImportance(_, _)
+        | Command::SetTarget(_, _)
+        | Command::SetTimer(_, _, _)
+        | Command::CancelTimer(_)
+        | Command::InsertApc(_)
+        | Command::RemoveApc(_)
+        | Command::StartWait(_, _)
+        | Command::Delay(_, _, _)
+        | Command::Release(_)
+        | Command::Alert(_, _)
+        | Command::TestAlert(_)
+        | Command::Interrupt(_, _)
+        | Command::Clock(_)
+        | Command::ToUser
+        | Command::Yield
+        | Command::Note(_) => {}
     }
 }
 
@@ -73,7 +90,47 @@ fn set_wait(frames: &mut Frames, wait: Again, reply: &Reply)
             }
         }
         Reply::Blocked => frames.set_again(Some(wait)),
-        _ => {}
+        Reply::Done | Reply::Yes | Reply::No | Reply::Refused(_) => {}
+    }
+}
+
+/// The wait that a command begins; that of a delay has this due time.
+fn wait_of(command: &Command, due: Option<u64>) -> Option<Again>
+    ensures { result ≡ wait_begun due command.now }
+{
+    match command {
+        Command::StartWait(mode, alertable) => Some(Again {
+            mode: *mode,
+            alertable: *alertable,
+            due: None,
+        }),
+        Command::Delay(mode, alertable, _) => Some(Again {
+            mode: *mode,
+            alertable: *alertable,
+            due,
+        }),
+        Command::Raise(_)
+        | Command::Lower(_)
+        | Command::Queue(_)
+        | Command::Unqueue(_)
+        | Command::SetImportance(_, _)
+        | Command::SetTarget(_, _)
+        | Command::SetTimer(_, _, _)
+        | Command::CancelTimer(_)
+        | Command::InsertApc(_)
+        | Command::RemoveApc(_)
+        | Command::EnterCrit
+        | Command::EnterGuard
+        | Command::LeaveCrit
+        | Command::LeaveGuard
+        | Command::Release(_)
+        | Command::Alert(_, _)
+        | Command::TestAlert(_)
+        | Command::Interrupt(_, _)
+        | Command::Clock(_)
+        | Command::ToUser
+        | Command::Yield
+        | Command::Note(_) => None,
     }
 }
 
@@ -84,24 +141,9 @@ fn take_effect(frames: &mut Frames, command: &Command, reply: &Reply, due: Optio
     requires room { (r : Region) → count_of r (regions_in frames.old) < 4294967295 }
     ensures { frames.new ≡ at_innermost (effect_of due command.now reply.now) frames.old }
 {
-    match command {
-        Command::StartWait(mode, alertable) => {
-            let wait = Again {
-                mode: *mode,
-                alertable: *alertable,
-                due: None,
-            };
-            set_wait(frames, wait, reply);
-        }
-        Command::Delay(mode, alertable, _) => {
-            let wait = Again {
-                mode: *mode,
-                alertable: *alertable,
-                due,
-            };
-            set_wait(frames, wait, reply);
-        }
-        _ => {
+    match wait_of(command, due) {
+        Some(wait) => set_wait(frames, wait, reply),
+        None => {
             if reply.is_done() {
                 do_command(frames, command);
             }
@@ -146,7 +188,7 @@ fn rewait(frames: &mut Frames, reply: &Reply)
             }
         }
         Reply::Blocked => frames.switch_away(),
-        _ => {}
+        Reply::Done | Reply::Yes | Reply::No | Reply::Refused(_) => {}
     }
 }
 
@@ -245,6 +287,10 @@ pub fn apply(frames: &mut Frames, script: &Script, event: &Event, n: u64, due: O
         What::Rewait { reply, .. } => rewait(frames, reply),
         What::Flush { apc, .. } => flush(frames, script, *apc, n),
         What::Gone { .. } => frames.gone(),
-        _ => {}
+        What::Look { .. } => {}
+        What::Expire { .. } => {}
+        What::Fire { .. } => {}
+        What::Clean { .. } => {}
+        What::Rest => {}
     }
 }

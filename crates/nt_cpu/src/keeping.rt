@@ -129,6 +129,10 @@ pub fn sweep_after(what: &What, old: bool) -> bool
             ..
         } => reply.is_answer() && *due == 0 || old,
         What::Clean { class } => *class != 2 && old,
-        _ => old,
+        What::Begin { .. } | What::Call { .. } | What::Look { .. } => old,
+        What::Normal { .. } | What::End { .. } => old,
+        What::Expire { .. } | What::Fire { .. } => old,
+        What::Switch { .. } | What::Rewait { .. } => old,
+        What::Flush { .. } | What::Gone { .. } | What::Rest => old,
     }
 }

@@ -223,6 +223,11 @@ fn end_task(frame: &Frame) -> Task
     match &frame.body {
         Body::Base(_) => Task::Shared(Job::Leave),
         Body::Apc(_, ApcKind::User) => Task::Shared(Job::UserEnd),
-        _ => Task::Alone(What::End { frame: frame.name }),
+        Body::Int(_) | Body::Dpc(_) | Body::Threaded(_) | Body::Rundown(_) => {
+            Task::Alone(What::End { frame: frame.name })
+        }
+        Body::Apc(_, ApcKind::Special) | Body::Apc(_, ApcKind::Normal) => {
+            Task::Alone(What::End { frame: frame.name })
+        }
     }
 }

@@ -1,5 +1,6 @@
 use Rattle.std.proofs.Common.{ap, ◌∙◌}
 use Rattle.std.specs.Prelude.{refl}
+use Rattle.nt_event.specs.declared.events.What.TheVariants as what
 use Rattle.nt_event.specs.declared.frames.Body.{Body}
 use Rattle.nt_frame.specs.Changes.{begun}
 use Rattle.nt_cpu.proofs.Applied.{left_begin, left_call, left_end, left_flush, left_gone, left_normal, left_other, left_rewait, left_switch}
@@ -59,12 +60,32 @@ returns-in-Gone c =
     left_gone c.args.script.now c.args.n c.args.due c.args.event.now c.args.frames.now c.gone.new.self k.thread
     (record { nested = c.requires.nested; threads = c.requires.threads; thread = c.requires.thread }) k.is c.gone.ensures
 
-pub returns-in_default : goal.returns-in_default
-returns-in_default c =
-    let d = c.in_default in
-    left_other c.args.script.now c.args.n c.args.due c.args.event.now c.args.frames.now c.args.event.now.what
-    (record {
-      nested = c.requires.nested;
-      threads = c.requires.threads;
-      thread = c.requires.thread;
-    }) refl d.not-Call d.not-Begin d.not-Normal d.not-End d.not-Switch d.not-Rewait d.not-Flush d.not-Gone
+pub returns-in-Look : goal.returns-in-Look
+returns-in-Look c =
+    let k = c.in-Look in
+    left_other c.args.script.now c.args.n c.args.due c.args.event.now c.args.frames.now (what.Look k.rises)
+    (record { nested = c.requires.nested; threads = c.requires.threads; thread = c.requires.thread }) k.is refl
+
+pub returns-in-Expire : goal.returns-in-Expire
+returns-in-Expire c =
+    let k = c.in-Expire in
+    left_other c.args.script.now c.args.n c.args.due c.args.event.now c.args.frames.now (what.Expire k.key k.from)
+    (record { nested = c.requires.nested; threads = c.requires.threads; thread = c.requires.thread }) k.is refl
+
+pub returns-in-Fire : goal.returns-in-Fire
+returns-in-Fire c =
+    let k = c.in-Fire in
+    left_other c.args.script.now c.args.n c.args.due c.args.event.now c.args.frames.now (what.Fire k.dpc k.reply)
+    (record { nested = c.requires.nested; threads = c.requires.threads; thread = c.requires.thread }) k.is refl
+
+pub returns-in-Clean : goal.returns-in-Clean
+returns-in-Clean c =
+    let k = c.in-Clean in
+    left_other c.args.script.now c.args.n c.args.due c.args.event.now c.args.frames.now (what.Clean k.class)
+    (record { nested = c.requires.nested; threads = c.requires.threads; thread = c.requires.thread }) k.is refl
+
+pub returns-in-Rest : goal.returns-in-Rest
+returns-in-Rest c =
+    let k = c.in-Rest in
+    left_other c.args.script.now c.args.n c.args.due c.args.event.now c.args.frames.now what.Rest
+    (record { nested = c.requires.nested; threads = c.requires.threads; thread = c.requires.thread }) k.is refl
