@@ -92,8 +92,31 @@ wait_begun due (cmd.Note k) = None
 
 -- the thread that calls the command runs no more: it blocks, or gives way
 abbrev pub stops : Command → Reply → Bool
-stops Yield Done = true
-stops c y = is_blocked y
+stops cmd.Yield Done = true
+stops (cmd.Raise level) y = is_blocked y
+stops (cmd.Lower level) y = is_blocked y
+stops (cmd.Queue d) y = is_blocked y
+stops (cmd.Unqueue d) y = is_blocked y
+stops (cmd.SetImportance d i) y = is_blocked y
+stops (cmd.SetTarget d q) y = is_blocked y
+stops (cmd.SetTimer t due period) y = is_blocked y
+stops (cmd.CancelTimer t) y = is_blocked y
+stops (cmd.InsertApc a) y = is_blocked y
+stops (cmd.RemoveApc a) y = is_blocked y
+stops cmd.EnterCrit y = is_blocked y
+stops cmd.EnterGuard y = is_blocked y
+stops cmd.LeaveCrit y = is_blocked y
+stops cmd.LeaveGuard y = is_blocked y
+stops (cmd.StartWait m a) y = is_blocked y
+stops (cmd.Delay m a units) y = is_blocked y
+stops (cmd.Release t) y = is_blocked y
+stops (cmd.Alert t m) y = is_blocked y
+stops (cmd.TestAlert m) y = is_blocked y
+stops (cmd.Interrupt q level) y = is_blocked y
+stops (cmd.Clock units) y = is_blocked y
+stops cmd.ToUser y = is_blocked y
+stops cmd.Yield y = is_blocked y
+stops (cmd.Note k) y = is_blocked y
 
 -- the innermost frame has this name
 pub record IsAt (n : ℕ) (x : Frames) : Type 0 where
