@@ -1,12 +1,13 @@
 -- What uses up inserts, as the printer keeps it: which inserts a Begin or Flush named, and where each object was
 -- removed last.
 use Rattle.std.specs.Prelude.{◌≡◌, ℕ, ◌<◌, Bool, true, false, ◌&&◌, ◌||◌, ◌==◌, not, nat_lt, List, [], ◌∷◌, length, map, get_or, slice_set, reverse, Option, Some, None, if◌then◌else◌}
-use Rattle.nt_event.specs.declared.commands.Command.TheVariants.{RemoveApc, Unqueue}
+use Rattle.nt_event.specs.declared.commands.Command.TheVariants as cmd
 use Rattle.nt_event.specs.declared.commands.Reply.TheVariants.{Yes}
 use Rattle.nt_event.specs.declared.events.Begun.TheVariants.{Apc, Dpc, Int, Threaded}
 use Rattle.nt_event.specs.declared.events.Event.{Event}
 use Rattle.nt_event.specs.declared.events.What.{What}
 use Rattle.nt_event.specs.declared.events.What.TheVariants.{Begin, Call, Clean, End, Expire, Fire, Flush, Gone, Look, Normal, Rest, Rewait, Switch}
+use Rattle.nt_event.specs.declared.events.What.TheVariants as what
 use Rattle.nt_event.specs.declared.scripts.Script.{Script}
 use Rattle.nt_event.specs.Fate.{ApcThing, DpcThing, Inserted, Thing, fate_of, inserted_thing, still_waits}
 use Rattle.nt_event.specs.Script.{has_apc, has_dpc}
@@ -61,9 +62,44 @@ named_by Rest = None
 
 -- what is removed with reply yes
 abbrev pub removed_by : What → Option Thing
-removed_by (Call f (Unqueue x) Yes) = Some (DpcThing x)
-removed_by (Call f (RemoveApc x) Yes) = Some (ApcThing x)
-removed_by _ = None
+removed_by (Call f (cmd.Unqueue x) Yes) = Some (DpcThing x)
+removed_by (Call f (cmd.RemoveApc x) Yes) = Some (ApcThing x)
+removed_by (Call f (cmd.Raise level) y) = None
+removed_by (Call f (cmd.Lower level) y) = None
+removed_by (Call f (cmd.Queue d) y) = None
+removed_by (Call f (cmd.Unqueue d) y) = None
+removed_by (Call f (cmd.SetImportance d i) y) = None
+removed_by (Call f (cmd.SetTarget d q) y) = None
+removed_by (Call f (cmd.SetTimer t due period) y) = None
+removed_by (Call f (cmd.CancelTimer t) y) = None
+removed_by (Call f (cmd.InsertApc a) y) = None
+removed_by (Call f (cmd.RemoveApc a) y) = None
+removed_by (Call f cmd.EnterCrit y) = None
+removed_by (Call f cmd.EnterGuard y) = None
+removed_by (Call f cmd.LeaveCrit y) = None
+removed_by (Call f cmd.LeaveGuard y) = None
+removed_by (Call f (cmd.StartWait m a) y) = None
+removed_by (Call f (cmd.Delay m a units) y) = None
+removed_by (Call f (cmd.Release t) y) = None
+removed_by (Call f (cmd.Alert t m) y) = None
+removed_by (Call f (cmd.TestAlert m) y) = None
+removed_by (Call f (cmd.Interrupt q level) y) = None
+removed_by (Call f (cmd.Clock units) y) = None
+removed_by (Call f cmd.ToUser y) = None
+removed_by (Call f cmd.Yield y) = None
+removed_by (Call f (cmd.Note k) y) = None
+removed_by (what.Look rises) = None
+removed_by (what.Begin b from) = None
+removed_by (what.Normal f) = None
+removed_by (what.End f) = None
+removed_by (what.Expire key from) = None
+removed_by (what.Fire d y) = None
+removed_by (what.Clean class) = None
+removed_by (what.Switch t status) = None
+removed_by (what.Rewait f y) = None
+removed_by (what.Flush a from) = None
+removed_by (what.Gone t) = None
+removed_by what.Rest = None
 
 -- the insert that is named is this one
 abbrev pub names_it : Option Inserted → Thing → ℕ → Bool

@@ -1,5 +1,5 @@
 //! Objects that can be inserted, and what an event does to them.
-ghost use Rattle.std.specs.Prelude.{◌≡◌, option_map};
+ghost use Rattle.std.specs.Prelude.{ℕ, ◌≡◌, option_map};
 ghost use Rattle.nt_event.specs.Fate.{inserted_thing};
 ghost use Rattle.nt_print.specs.Uses.{thing_of, inserted_of, same_thing, is_it, named_by, removed_by};
 
@@ -29,26 +29,61 @@ fn is_same(x: Object, y: Object) -> bool
     }
 }
 
+/// The object that a call inserts.
+fn inserted_by(command: &Command, reply: &Reply) -> Option<Object>
+    ensures { (f : ℕ) → option_map thing_of result ≡ inserted_thing (What.Call f command.now reply.now) }
+{
+    match (command, reply) {
+        (Command::Queue(dpc), Reply::Yes) => Some(Object::Dpc(*dpc)),
+        (Command::InsertApc(apc), Reply::Yes) => Some(Object::Apc(*apc)),
+        (Command::Raise(_), _)
+        | (Command::Lower(_), _)
+        | (Command::Queue(_), _)
+        | (Command::Unqueue(_), _)
+        | (Command::SetImportance(_, _), _)
+        | (Command::SetTarget(_, _), _)
+        | (Command::SetTimer(_, _, _), _)
+        | (Command::CancelTimer(_), _)
+        | (Command::InsertApc(_), _)
+        | (Command::RemoveApc(_), _)
+        | (Command::EnterCrit, _)
+        | (Command::EnterGuard, _)
+        | (Command::LeaveCrit, _)
+        | (Command::LeaveGuard, _)
+        | (Command::StartWait(_, _), _)
+        | (Command::Delay(_, _, _), _)
+        | (Command::Release(_), _)
+        | (Command::Alert(_, _), _)
+        | (Command::TestAlert(_), _)
+        | (Command::Interrupt(_, _), _)
+        | (Command::Clock(_), _)
+        | (Command::ToUser, _)
+        | (Command::Yield, _)
+        | (Command::Note(_), _) => None,
+    }
+}
+
 /// The object that an event inserts.
 pub(crate) fn inserted(what: &What) -> Option<Object>
     ensures { option_map thing_of result ≡ inserted_thing what.now }
 {
     match what {
-        What::Call {
-            command: Command::Queue(dpc),
-            reply: Reply::Yes,
-            ..
-        }
-        | What::Fire {
-            dpc,
-            reply: Reply::Yes,
-        } => Some(Object::Dpc(*dpc)),
-        What::Call {
-            command: Command::InsertApc(apc),
-            reply: Reply::Yes,
-            ..
-        } => Some(Object::Apc(*apc)),
-        _ => None,
+        What::Call { command, reply, .. } => inserted_by(command, reply),
+        What::Fire { dpc, reply } => match reply {
+            Reply::Yes => Some(Object::Dpc(*dpc)),
+            Reply::Done | Reply::No | Reply::Status(_) | Reply::Blocked | Reply::Refused(_) => None,
+        },
+        What::Look { .. }
+        | What::Begin { .. }
+        | What::Normal { .. }
+        | What::End { .. }
+        | What::Expire { .. }
+        | What::Clean { .. }
+        | What::Switch { .. }
+        | What::Rewait { .. }
+        | What::Flush { .. }
+        | What::Gone { .. }
+        | What::Rest => None,
     }
 }
 
@@ -100,21 +135,57 @@ pub(crate) fn named(what: &What) -> Option<Insert>
     }
 }
 
+/// The object that a call removes.
+fn removed_by_call(command: &Command, reply: &Reply) -> Option<Object>
+    ensures { (f : ℕ) → option_map thing_of result ≡ removed_by (What.Call f command.now reply.now) }
+{
+    match (command, reply) {
+        (Command::Unqueue(dpc), Reply::Yes) => Some(Object::Dpc(*dpc)),
+        (Command::RemoveApc(apc), Reply::Yes) => Some(Object::Apc(*apc)),
+        (Command::Raise(_), _)
+        | (Command::Lower(_), _)
+        | (Command::Queue(_), _)
+        | (Command::Unqueue(_), _)
+        | (Command::SetImportance(_, _), _)
+        | (Command::SetTarget(_, _), _)
+        | (Command::SetTimer(_, _, _), _)
+        | (Command::CancelTimer(_), _)
+        | (Command::InsertApc(_), _)
+        | (Command::RemoveApc(_), _)
+        | (Command::EnterCrit, _)
+        | (Command::EnterGuard, _)
+        | (Command::LeaveCrit, _)
+        | (Command::LeaveGuard, _)
+        | (Command::StartWait(_, _), _)
+        | (Command::Delay(_, _, _), _)
+        | (Command::Release(_), _)
+        | (Command::Alert(_, _), _)
+        | (Command::TestAlert(_), _)
+        | (Command::Interrupt(_, _), _)
+        | (Command::Clock(_), _)
+        | (Command::ToUser, _)
+        | (Command::Yield, _)
+        | (Command::Note(_), _) => None,
+    }
+}
+
 /// The object that an event removes.
 pub(crate) fn removed(what: &What) -> Option<Object>
     ensures { option_map thing_of result ≡ removed_by what.now }
 {
     match what {
-        What::Call {
-            command: Command::Unqueue(dpc),
-            reply: Reply::Yes,
-            ..
-        } => Some(Object::Dpc(*dpc)),
-        What::Call {
-            command: Command::RemoveApc(apc),
-            reply: Reply::Yes,
-            ..
-        } => Some(Object::Apc(*apc)),
-        _ => None,
+        What::Call { command, reply, .. } => removed_by_call(command, reply),
+        What::Look { .. }
+        | What::Begin { .. }
+        | What::Normal { .. }
+        | What::End { .. }
+        | What::Expire { .. }
+        | What::Fire { .. }
+        | What::Clean { .. }
+        | What::Switch { .. }
+        | What::Rewait { .. }
+        | What::Flush { .. }
+        | What::Gone { .. }
+        | What::Rest => None,
     }
 }
