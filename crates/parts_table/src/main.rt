@@ -6,11 +6,8 @@
 mod apcs;
 mod data;
 mod dpc;
-mod dpcs;
-mod floor;
 mod frames;
 mod thread;
-mod threads;
 mod timers;
 
 use std::io;
@@ -24,9 +21,6 @@ fn answer(rt: HostRuntime, part: &str, case: &str) -> io::Result<()> {
         "apcs" => apcs::answer(rt, case),
         "thread" => thread::answer(rt, case),
         "timers" => timers::answer(rt, case),
-        "dpcs" => dpcs::answer(rt, case),
-        "threads" => threads::answer(rt, case),
-        "floor" => floor::answer(rt, case),
         _ => println!(rt; "  no such part"),
     }
 }
