@@ -5,4 +5,4 @@ use Rattle.parts_table.proofs.frames.levels_and_regions_of_a_thread.Goals as goa
 
 pub perform_all-requires : goal.perform_all-requires
 unfolding table_from
-perform_all-requires g c = rw c.in_ok-frames.ensures (calls_allowed _ _ refl)
+perform_all-requires c = rw c.in_ok-frames.ensures (calls_allowed _ _ refl)
