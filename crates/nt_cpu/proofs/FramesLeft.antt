@@ -9,6 +9,7 @@ use Rattle.nt_event.specs.declared.commands.Reply.TheVariants.{Blocked, Done, No
 use Rattle.nt_event.specs.declared.events.What.TheVariants.{Call}
 use Rattle.nt_event.specs.declared.frames.Frame.{Frame}
 use Rattle.nt_event.specs.declared.numbers.ThreadNo.{ThreadNo}
+use Rattle.nt_event.specs.Calls.{stops, wait_begun}
 use Rattle.nt_event.specs.Frames.{Frames, at_head, called, done_to, effect, innermost, running_after, thread_part}
 use Rattle.nt_event.specs.Lists.{head_of, is_null}
 use Rattle.nt_event.specs.Replies.{is_done}
@@ -16,7 +17,6 @@ use Rattle.nt_frame.specs.Changes.{at_innermost, on_running}
 use Rattle.nt_frame.specs.Nesting.{AreNested}
 use Rattle.nt_frame.proofs.Commands.{advanced}
 use Rattle.nt_frame.proofs.Twice.{at_innermost-at_innermost, at_innermost_by, at_innermost_id, running-at_innermost}
-use Rattle.nt_cpu.specs.Fits.{stops, wait_begun}
 
 -- a change that makes of each frame the frame itself
 unchanged : (g : Frame → Frame) (x : Frames) → ((f : Frame) → g f ≡ f) → x ≡ at_innermost g x
@@ -90,13 +90,7 @@ then_advanced due c y x h =
 
 -- who runs after a call
 pub call_runs : (n : ℕ) (c : Command) (y : Reply) (r : Option ThreadNo) → running_after (Call n c y) r ≡ (if stops c y then None else r)
-call_runs n Yield Done r = refl
-call_runs n Yield Blocked r = refl
-call_runs n Yield Yes r = refl
-call_runs n Yield No r = refl
-call_runs n Yield (Status st) r = refl
-call_runs n Yield (Refused k) r = refl
-call_runs n _ y r = refl
+call_runs n c y r = refl
 
 pub stopped_runs : (c : Command) (y : Reply) (r : Option ThreadNo) → stops c y ≡ true → running_after (Call 0 c y) r ≡ None
 stopped_runs c y r h = call_runs 0 c y r ∙ rw h refl

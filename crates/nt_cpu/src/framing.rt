@@ -11,7 +11,8 @@ ghost use Rattle.nt_event.specs.Lists.{is_null};
 ghost use Rattle.nt_frame.specs.Changes.{at_innermost, begun, taken, without_innermost};
 ghost use Rattle.nt_frame.specs.Nesting.{AreNamedBelow, AreNested};
 ghost use Rattle.nt_frame.specs.Rules.{count_of, is_at_base, is_frames_own, is_leaving, refusal_in, regions_in};
-ghost use Rattle.nt_cpu.specs.Fits.{Allow, body_of as begun_body, is_wait_reply, may_call, stops as stops_of, wait_begun};
+ghost use Rattle.nt_cpu.specs.Fits.{Allow, body_of as begun_body, is_wait_reply, may_call};
+ghost use Rattle.nt_event.specs.Calls.{stops as stops_of, wait_begun};
 
 use nt_event::status::KERNEL_APC;
 use nt_event::{Again, ApcNo, Begun, Body, Command, Event, Region, Reply, Script, ThreadNo, What};

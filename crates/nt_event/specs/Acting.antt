@@ -16,6 +16,7 @@ use Rattle.nt_event.specs.declared.numbers.CpuNo.{CpuNo}
 use Rattle.nt_event.specs.declared.numbers.ThreadNo.{ThreadNo}
 use Rattle.nt_event.specs.declared.scripts.Script.{Script}
 use Rattle.nt_event.specs.declared.threads.Doing.TheVariants.{Running as IsRunning}
+use Rattle.nt_event.specs.Calls.{stops}
 use Rattle.nt_event.specs.Commands.{needs_lane}
 use Rattle.nt_event.specs.Jobs.{may_switch, task}
 use Rattle.nt_event.specs.Lanes.{Lanes, facts_at}
@@ -29,8 +30,7 @@ use Rattle.nt_event.specs.Replies.{is_blocked}
 
 -- the level after an event that touches lanes, or is one of those that a job may give
 abbrev pub acted_level : Stand → Lanes → What → ℕ
-acted_level st l (what.Call f cmd.Yield Done) = 0
-acted_level st l (what.Call f c y) = if is_blocked y then 0 else st.level
+acted_level st l (what.Call f c y) = if stops c y then 0 else st.level
 acted_level st l (what.Begin (begun.Int level) from) = level
 acted_level st l (what.Begin (begun.Dpc d) from) = 2
 acted_level st l (what.Begin (begun.Threaded d) from) = 0

@@ -21,6 +21,7 @@ use Rattle.nt_event.specs.declared.numbers.CpuNo.{CpuNo}
 use Rattle.nt_event.specs.declared.numbers.RoutineNo.{RoutineNo}
 use Rattle.nt_event.specs.declared.numbers.ThreadNo.{ThreadNo}
 use Rattle.nt_event.specs.declared.scripts.Script.{Script}
+use Rattle.nt_event.specs.Calls.{stops, wait_begun}
 use Rattle.nt_event.specs.Routines.{kind_of, rundown_of}
 use Rattle.nt_event.specs.Lists.{head_of, is_null, table}
 use Rattle.nt_event.specs.Replies.{is_blocked, is_done, kernel_apc}
@@ -128,13 +129,15 @@ done_to cmd.ToUser f = f
 done_to cmd.Yield f = f
 done_to (cmd.Note n) f = f
 
--- what a call with this due time, command and reply does to its frame, beside its place
+-- what a call does to its frame, beside its place: one that begins a wait may leave it to be taken up again, another one
+-- has its effect where it is done
+abbrev pub effect_by : Option Again → Command → Reply → Frame → Frame
+effect_by (Some w) c y f = record f { again = again_after y (Some w) f.again }
+effect_by None c y f = if is_done y then done_to c f else f
+
+-- so by this due time, command and reply
 abbrev pub effect : Option ℕ → Command → Reply → Frame → Frame
-effect due (cmd.StartWait m a) y f =
-    record f { again = again_after y (Some (record { mode = m; alertable = a; due = None })) f.again }
-effect due (cmd.Delay m a d) y f =
-    record f { again = again_after y (Some (record { mode = m; alertable = a; due = due })) f.again }
-effect due c y f = if is_done y then done_to c f else f
+effect due c y f = effect_by (wait_begun due c) c y f
 
 abbrev pub called : Option ℕ → Command → Reply → Frame → Frame
 called due c y f = record (effect due c y f) { place = f.place + 1 }
@@ -246,8 +249,7 @@ thread_if false s n due w fs = fs
 abbrev pub running_after : What → Option ThreadNo → Option ThreadNo
 running_after (what.Switch t status) r = Some t
 running_after (what.Gone t) r = None
-running_after (what.Call f cmd.Yield Done) r = None
-running_after (what.Call f c y) r = if is_blocked y then None else r
+running_after (what.Call f c y) r = if stops c y then None else r
 running_after (what.Rewait f y) r = if is_blocked y then None else r
 running_after (what.Look why) r = r
 running_after (what.Begin b from) r = r

@@ -6,6 +6,7 @@ pub mod Numbers
 pub mod Lists
 pub mod Replies
 pub mod Routines
+pub mod Calls
 pub mod Frames
 pub mod Regions
 pub mod Objects

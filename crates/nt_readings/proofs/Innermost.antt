@@ -3,8 +3,6 @@ use Rattle.std.proofs.Common.{ap, arith, inl, inr, subst, sym, ◌∙◌}
 use Rattle.std.proofs.lemmas.Bool.{eq-eqb, eqb-true}
 use Rattle.std.specs.Option.{option_map_or, option_or}
 use Rattle.std.specs.Prelude.{Bool, List, None, Option, Some, [], false, if◌then◌else◌, length, refl, true, ℕ, ◌<◌, ◌∷◌, ◌↔◌, ◌≡◌, ◌≤◌, ◌⊎◌}
-use Rattle.nt_event.specs.declared.commands.Command.TheVariants.{Yield}
-use Rattle.nt_event.specs.declared.commands.Reply.TheVariants.{Blocked, Done}
 use Rattle.nt_event.specs.declared.events.Event.{Event}
 use Rattle.nt_event.specs.declared.events.What.{What}
 use Rattle.nt_event.specs.declared.events.What.TheVariants.{Call, Gone, Rewait, Switch}
@@ -13,11 +11,14 @@ use Rattle.nt_event.specs.declared.frames.Frame.{Frame}
 use Rattle.nt_event.specs.declared.numbers.CpuNo.{CpuNo}
 use Rattle.nt_event.specs.declared.numbers.ThreadNo.{ThreadNo}
 use Rattle.nt_event.specs.declared.scripts.Script.{Script}
+use Rattle.nt_event.specs.Calls.{stops}
 use Rattle.nt_event.specs.Frames.{frames_in, frames_of, innermost, own_frames, running, running_after, thread_frames, thread_part}
+use Rattle.nt_event.specs.Replies.{is_blocked}
 use Rattle.nt_event.specs.Routines.{cpu_of}
 use Rattle.nt_event.specs.Step.{IsRun}
 use Rattle.nt_event.specs.Lists.{head_of}
 use Rattle.nt_event.specs.Numbers.{is_of}
+use Rattle.nt_runs.proofs.Facts.{if_none}
 use Rattle.nt_runs.proofs.Running.{part_of_running, running_here}
 use Rattle.nt_readings.specs.Positions.{At, EachAfter}
 use Rattle.nt_readings.specs.Frames.{NamesFall, HasFrame, HasNone, IsGreatest, IsInnermost, IsLastSwitched, IsOpenOn, IsOpenOwn, Lists, is_switch_event, stops_thread, switches_to}
@@ -32,21 +33,23 @@ use Rattle.nt_readings.proofs.Threads.{part_of, thread_lists}
 abbrev LeavesRunning : CpuNo → Event → List Event → Type 0
 LeavesRunning p e before = is_of e p ≡ true → (is_switch_event e.what ≡ false) × (stops_thread e.what ≡ false)
 
+runs_yet : (b : Bool) (r : Option ThreadNo) (t : ThreadNo) → (if b then None else r) ≡ Some t → (r ≡ Some t) × (b ≡ false)
+runs_yet true r t h = cc
+runs_yet false r t h = (h, refl)
+
 ran_before : (w : What) (r : Option ThreadNo) (t : ThreadNo) → running_after w r ≡ Some t → (switches_to t w ≡ true) ⊎
     ((r ≡ Some t) × (is_switch_event w ≡ false) × (stops_thread w ≡ false))
 ran_before (Switch u st) r t h = let same : u ≡ t = cc in inl (eq-eqb u.0 t.0 (ap (λ (v : ThreadNo). v.0) same))
 ran_before (Gone u) r t h = cc
-ran_before (Call f Yield Done) r t h = cc
-ran_before (Call f c Blocked) r t h = cc
-ran_before (Rewait f Blocked) r t h = cc
+ran_before (Call f c y) r t h = let k = runs_yet (stops c y) r t h in inr (k.0, refl, k.1)
+ran_before (Rewait f y) r t h = let k = runs_yet (is_blocked y) r t h in inr (k.0, refl, k.1)
 ran_before w r t h = inr (h, refl, refl)
 
 runs_on : (w : What) (r : Option ThreadNo) → is_switch_event w ≡ false → stops_thread w ≡ false → running_after w r ≡ r
 runs_on (Switch u st) r h k = cc
 runs_on (Gone u) r h k = cc
-runs_on (Call f Yield Done) r h k = cc
-runs_on (Call f c Blocked) r h k = cc
-runs_on (Rewait f Blocked) r h k = cc
+runs_on (Call f c y) r h k = if_none (stops c y) r k
+runs_on (Rewait f y) r h k = if_none (is_blocked y) r k
 runs_on w r h k = refl
 
 switched : (w : What) (r : Option ThreadNo) (t : ThreadNo) → switches_to t w ≡ true → running_after w r ≡ Some t

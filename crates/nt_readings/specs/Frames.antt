@@ -1,18 +1,18 @@
 -- Open frames and the innermost one, by positions in the history. A frame is named by the event that began it.
 use Rattle.std.specs.Prelude.{Bool, List, None, Option, Some, [], false, length, option_map, true, ℕ, ◌==◌, ◌∷◌, ◌↔◌, ◌≡◌, ◌≤◌, ◌⊎◌}
-use Rattle.nt_event.specs.declared.commands.Command.TheVariants.{Yield}
-use Rattle.nt_event.specs.declared.commands.Reply.TheVariants.{Blocked, Done}
 use Rattle.nt_event.specs.declared.events.Begun.TheVariants.{Apc, Dpc, Int, Threaded}
 use Rattle.nt_event.specs.declared.events.Event.{Event}
 use Rattle.nt_event.specs.declared.events.What.{What}
-use Rattle.nt_event.specs.declared.events.What.TheVariants.{Begin, Call, End, Flush, Gone, Rewait, Switch}
+use Rattle.nt_event.specs.declared.events.What.TheVariants.{Begin, Call, Clean, End, Expire, Fire, Flush, Gone, Look, Normal, Rest, Rewait, Switch}
 use Rattle.nt_event.specs.declared.frames.Body.{Body}
 use Rattle.nt_event.specs.declared.frames.Body.TheVariants.{Apc as OnApc, Base as OnBase, Dpc as OnDpc, Int as OnInt, Rundown as OnRundown, Threaded as OnThreaded}
 use Rattle.nt_event.specs.declared.frames.Frame.{Frame}
 use Rattle.nt_event.specs.declared.numbers.CpuNo.{CpuNo}
 use Rattle.nt_event.specs.declared.numbers.ThreadNo.{ThreadNo}
 use Rattle.nt_event.specs.declared.scripts.Script.{Script}
+use Rattle.nt_event.specs.Calls.{stops}
 use Rattle.nt_event.specs.Frames.{frames_of, innermost, own_frames, running, thread_frames}
+use Rattle.nt_event.specs.Replies.{is_blocked}
 use Rattle.nt_event.specs.Routines.{cpu_of, kind_of, rundown_of}
 use Rattle.nt_event.specs.Step.{IsRun}
 use Rattle.nt_event.specs.Numbers.{is_by, is_of}
@@ -112,10 +112,18 @@ ThreadFramesAreOpen = (s : Script) (limit : ℕ) (t : ThreadNo) (past : List Eve
 -- by the event no thread runs any longer: a Gone, a wait that blocked, a `yield` that was done
 abbrev pub stops_thread : What → Bool
 stops_thread (Gone t) = true
-stops_thread (Call f Yield Done) = true
-stops_thread (Call f c Blocked) = true
-stops_thread (Rewait f Blocked) = true
-stops_thread w = false
+stops_thread (Call f c y) = stops c y
+stops_thread (Rewait f y) = is_blocked y
+stops_thread (Switch t status) = false
+stops_thread (Look why) = false
+stops_thread (Begin b from) = false
+stops_thread (Normal f) = false
+stops_thread (End f) = false
+stops_thread (Expire key from) = false
+stops_thread (Fire d y) = false
+stops_thread (Clean class) = false
+stops_thread (Flush a from) = false
+stops_thread Rest = false
 
 abbrev pub is_switch_event : What → Bool
 is_switch_event (Switch t status) = true

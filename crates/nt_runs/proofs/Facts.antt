@@ -30,6 +30,7 @@ use Rattle.nt_event.specs.declared.scripts.Script.{Script}
 use Rattle.nt_event.specs.declared.threads.Doing.{Doing}
 use Rattle.nt_event.specs.declared.threads.Doing.TheVariants.{Blocked as IsBlocked, Running as IsRunning}
 use Rattle.nt_event.specs.Apcs.{has_user}
+use Rattle.nt_event.specs.Calls.{stops}
 use Rattle.nt_event.specs.Frames.{Frames, at_name, called, due_of, frames_of, is_normal_apc_body, level_in, own_frames, rewaited, running, running_after, thread_after, thread_frames, thread_part, time}
 use Rattle.nt_event.specs.Jobs.{must}
 use Rattle.nt_event.specs.Lanes.{Lanes, lanes_at}
@@ -109,12 +110,11 @@ level_on_thread x fs h e =
 -- ---- an event that the thread makes
 
 -- where the thread stops
-abbrev pub stops : What → Bool
-stops (Gone t) = true
-stops (Call f Yield Done) = true
-stops (Call f c y) = is_blocked y
-stops (Rewait f y) = is_blocked y
-stops w = false
+abbrev pub halts : What → Bool
+halts (Gone t) = true
+halts (Call f c y) = stops c y
+halts (Rewait f y) = is_blocked y
+halts w = false
 
 if_keeps : (b : Bool) (x y : ThreadFacts) → y.doing ≡ x.doing → (if b then y else x).doing ≡ x.doing
 if_keeps true x y h = h
@@ -169,7 +169,7 @@ again_doing n r level None y x h = refl
 again_doing n r level (Some w) y x h = waited_doing n r level w.mode w.alertable (is_some w.due) y x h
 
 -- an event by which the thread doesn't stop leaves what it does
-made_doing : (s : Script) (n : ℕ) (st : Stand) (w : What) (x : ThreadFacts) → stops w ≡ false → is_switch w ≡ false → (made_facts s n st w x).doing ≡ x.doing
+made_doing : (s : Script) (n : ℕ) (st : Stand) (w : What) (x : ThreadFacts) → halts w ≡ false → is_switch w ≡ false → (made_facts s n st w x).doing ≡ x.doing
 made_doing s n st (Switch t status) x h k = cc
 made_doing s n st (Gone t) x h k = cc
 made_doing s n st (Call f (StartWait m a) y) x h k = waited_doing n st.regions st.level m a false y x h
@@ -185,11 +185,10 @@ pub if_none : (b : Bool) (r : Option ThreadNo) → b ≡ false → (if b then No
 if_none true r h = cc
 if_none false r h = refl
 
-runs_still : (w : What) (r : Option ThreadNo) → stops w ≡ false → is_switch w ≡ false → running_after w r ≡ r
+runs_still : (w : What) (r : Option ThreadNo) → halts w ≡ false → is_switch w ≡ false → running_after w r ≡ r
 runs_still (Switch t status) r h k = cc
 runs_still (Gone t) r h k = cc
-runs_still (Call f Yield Done) r h k = cc
-runs_still (Call f c y) r h k = if_none (is_blocked y) r h
+runs_still (Call f c y) r h k = if_none (stops c y) r h
 runs_still (Rewait f y) r h k = if_none (is_blocked y) r h
 runs_still w r h k = refl
 
@@ -201,7 +200,7 @@ blocked_doing : (n : ℕ) (r : Regions) (level : ℕ) (m : Mode) (a d : Bool) (f
 blocked_doing n r level m a d fs runs h k l = (h, k, l)
 
 -- a known event by which the running thread stops
-stopped : (s : Script) (p : CpuNo) (o : Own) (l : Lanes) (t : ThreadNo) (n : ℕ) (due : Option ℕ) (w : What) (fs : List Frame) (x : ThreadFacts) → stops w
+stopped : (s : Script) (p : CpuNo) (o : Own) (l : Lanes) (t : ThreadNo) (n : ℕ) (due : Option ℕ) (w : What) (fs : List Frame) (x : ThreadFacts) → halts w
     ≡ true → Known s p o l w → NoneAgain o.frames.own → thread_part o.frames ≡ fs →
     Says (made_facts s n (stand_in p o) w x).doing (thread_after s n due w fs) (running_after w (Some t) ≡ Some t)
 stopped s p o l t n due (Gone u) fs x h k own e = (none_runs t, refl)
@@ -240,9 +239,9 @@ stopped s p o l t n due w fs x h k own e = cc
 made_says : (s : Script) (p : CpuNo) (o : Own) (l : Lanes) (t : ThreadNo) (n : ℕ) (due : Option ℕ) (w : What) (fs : List Frame) (x : ThreadFacts) → is_switch w
     ≡ false → Known s p o l w → NoneAgain o.frames.own → thread_part o.frames ≡ fs → x.doing ≡ IsRunning →
     Says (made_facts s n (stand_in p o) w x).doing (thread_after s n due w fs) (running_after w (Some t) ≡ Some t)
-made_says s p o l t n due w fs x h k own e run = go (stops w) refl
+made_says s p o l t n due w fs x h k own e run = go (halts w) refl
   where
-    go : (b : Bool) → stops w ≡ b → Says (made_facts s n (stand_in p o) w x).doing (thread_after s n due w fs) (running_after w (Some t) ≡ Some t)
+    go : (b : Bool) → halts w ≡ b → Says (made_facts s n (stand_in p o) w x).doing (thread_after s n due w fs) (running_after w (Some t) ≡ Some t)
     go true a = stopped s p o l t n due w fs x a k own e
     go false a =
         let d : (made_facts s n (stand_in p o) w x).doing ≡ IsRunning = made_doing s n (stand_in p o) w x a h ∙ run in

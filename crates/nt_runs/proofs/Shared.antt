@@ -34,6 +34,7 @@ use Rattle.nt_event.specs.declared.threads.Doing.TheVariants.{Ready as IsReady}
 use Rattle.nt_event.specs.Acting.{IsDue, acted_event, acted_level}
 use Rattle.nt_event.specs.Apcs.{first_user}
 use Rattle.nt_event.specs.Commands.{needs_lane, reply}
+use Rattle.nt_event.specs.Calls.{stops}
 use Rattle.nt_event.specs.Frames.{Frames, at_name, called, end_on_thread, flushed, frames_after, frames_in, frames_of, innermost, is_base_body, is_on_thread, is_user_apc_body, level_in, own_after, own_frames, rewaited, running, running_after, switched_to, thread_after, thread_frames, thread_if, thread_part, without}
 use Rattle.nt_event.specs.Jobs.{begin_apc, begin_dpc, begin_first, call_task, command_task, end_task, expire_key, fire_task, frame_task, has_normal, idle_event, idle_task, interrupt_task, job_event, level_at, may_apcs, may_drain, may_interrupt, may_switch, may_take, may_threaded, must, must_task, next_ready, normal_task, ready, rewait_reply, rewait_task, rundown_event, rundown_task, switch_event, task, user_due}
 use Rattle.nt_event.specs.Classes.{interrupt_classes}
@@ -280,34 +281,24 @@ call_keeps due LeaveGuard y f h = cc
 call_keeps due c Done f h = refl
 call_keeps due c y f h = refl
 
-abbrev halts : Command → Reply → Bool
-halts Yield Done = true
-halts c y = is_blocked y
+halts_running : (f : ℕ) (c : Command) (y : Reply) (r : Option ThreadNo) → stops c y ≡ true → running_after (Call f c y) r ≡ None
+halts_running f c y r h = rw h refl
 
-halts_running : (f : ℕ) (c : Command) (y : Reply) (r : Option ThreadNo) → halts c y ≡ true → running_after (Call f c y) r ≡ None
-halts_running f Yield Done r h = refl
-halts_running f c Blocked r h = refl
-halts_running f c y r h = cc
+goes_running : (f : ℕ) (c : Command) (y : Reply) (r : Option ThreadNo) → stops c y ≡ false → running_after (Call f c y) r ≡ r
+goes_running f c y r h = if_none (stops c y) r h
 
-goes_running : (f : ℕ) (c : Command) (y : Reply) (r : Option ThreadNo) → halts c y ≡ false → running_after (Call f c y) r ≡ r
-goes_running f Yield Done r h = cc
-goes_running f c y r h = if_none (is_blocked y) r h
+halts_level : (st : Stand) (l : Lanes) (f : ℕ) (c : Command) (y : Reply) → stops c y ≡ true → acted_level st l (Call f c y) ≡ 0
+halts_level st l f c y h = rw h refl
 
-halts_level : (st : Stand) (l : Lanes) (f : ℕ) (c : Command) (y : Reply) → halts c y ≡ true → acted_level st l (Call f c y) ≡ 0
-halts_level st l f Yield Done h = refl
-halts_level st l f c Blocked h = refl
-halts_level st l f c y h = cc
-
-goes_level : (st : Stand) (l : Lanes) (f : ℕ) (c : Command) (y : Reply) → halts c y ≡ false → acted_level st l (Call f c y) ≡ st.level
-goes_level st l f Yield Done h = cc
-goes_level st l f c y h = go (is_blocked y) h
+goes_level : (st : Stand) (l : Lanes) (f : ℕ) (c : Command) (y : Reply) → stops c y ≡ false → acted_level st l (Call f c y) ≡ st.level
+goes_level st l f c y h = go (stops c y) h
   where
     go : (b : Bool) → b ≡ false → (if b then 0 else st.level) ≡ st.level
     go true h = cc
     go false h = refl
 
 -- a call that halts is made on a thread's part
-halts_null : (s : Script) (p : CpuNo) (x : Own) (l : Lanes) (n : ℕ) (c : Command) (y : Reply) → KnownCall s p x l n c y → halts c y ≡ true →
+halts_null : (s : Script) (p : CpuNo) (x : Own) (l : Lanes) (n : ℕ) (c : Command) (y : Reply) → KnownCall s p x l n c y → stops c y ≡ true →
     is_null x.frames.own ≡ true
 halts_null s p x l n Yield Done k h = yield_call s p x l n k
 halts_null s p x l n c Blocked k h = (blocked_call s p x l n c k).1
@@ -338,7 +329,7 @@ own_call_level n c y x y' (f ∷ fs) a b h k =
 
 call_tells : (s : Script) (limit : ℕ) (p : CpuNo) (past : List Event) (n : ℕ) (c : Command) (y : Reply) → IsRun s limit past →
     KnownCall s p (own_of s p past) (lanes_at s past) n c y → needs_lane c ≡ true → Tells s p past (Call n c y)
-call_tells s limit p past n c y r k lane = go (halts c y) (is_null (own_frames p past)) refl refl
+call_tells s limit p past n c y r k lane = go (stops c y) (is_null (own_frames p past)) refl refl
   where
     x : Frames
     x = frames_of s p past
@@ -346,7 +337,7 @@ call_tells s limit p past n c y r k lane = go (halts c y) (is_null (own_frames p
     null_after : is_null (own_frames p past) ≡ true → is_null (at_name n (called None c y) (own_frames p past)) ≡ true
     null_after h = named_null n (called None c y) (own_frames p past) ∙ h
 
-    go : (b o : Bool) → halts c y ≡ b → is_null (own_frames p past) ≡ o → Tells s p past (Call n c y)
+    go : (b o : Bool) → stops c y ≡ b → is_null (own_frames p past) ≡ o → Tells s p past (Call n c y)
     go true o a e =
         let null : is_null (own_frames p past) ≡ true = halts_null s p (own_of s p past) (lanes_at s past) n c y k a in
         stop_level s p past (Call n c y) (halts_running n c y (running p past) a) (null_after null)
