@@ -16,11 +16,11 @@ impl Script {
         self.threads.len() as u32
     }
 
-    /// The processor that the thread is bound to.
+    /// The processor that the thread is bound to; the first one past the last thread. In a script that fits, it is one of
+    /// the script's.
     pub fn cpu_of(&self, thread: ThreadNo) -> CpuNo
-        requires { IsTrue (fits self.now) }
         ensures cpu { result ≡ routines.cpu_of self.now thread }
-        ensures named { IsTrue (has_cpu self.now result) }
+        ensures named { IsTrue (fits self.now) → IsTrue (has_cpu self.now result) }
     {
         match self.threads.as_slice().get(thread.0 as usize) {
             Some(decl) => decl.cpu,
@@ -28,12 +28,11 @@ impl Script {
         }
     }
 
-    /// The thread of an APC object.
+    /// The thread of an APC object; the first one past the last object. In a script that fits, an object's thread is one of
+    /// the script's.
     pub fn owner_of(&self, apc: ApcNo) -> ThreadNo
-        requires fits { IsTrue (fits self.now) }
-        requires named { IsTrue (has_apc self.now apc) }
         ensures owner { result ≡ routines.owner_of self.now apc }
-        ensures named { IsTrue (has_thread self.now result) }
+        ensures named { IsTrue (fits self.now) → IsTrue (has_apc self.now apc) → IsTrue (has_thread self.now result) }
     {
         match self.apcs.as_slice().get(apc.0 as usize) {
             Some(decl) => decl.thread,

@@ -1,10 +1,10 @@
 -- Which events a processor may make in these states of the threads: what a job gives there.
 use Rattle.std.specs.Prelude.{Bool, IfSome, IsSome, IsSomeAnd, IsTrue, None, Option, Some, false, if◌then◌else◌, is_some, length, not, ℕ, ◌&&◌, ◌<◌, ◌==◌, ◌≡◌, ◌≤◌, ◌⊎◌}
-use Rattle.nt_event.specs.declared.commands.ApcKind.TheVariants.{User as UserApc}
+use Rattle.nt_event.specs.declared.commands.ApcKind.TheVariants.{Normal as NormalApc, Special as SpecialApc, User as UserApc}
 use Rattle.nt_event.specs.declared.commands.Command.TheVariants as cmd
 use Rattle.nt_event.specs.declared.commands.Mode.{Mode}
 use Rattle.nt_event.specs.declared.commands.Reply.{Reply}
-use Rattle.nt_event.specs.declared.commands.Reply.TheVariants.{Done, Status, Yes}
+use Rattle.nt_event.specs.declared.commands.Reply.TheVariants.{Blocked, Done, No, Refused, Status, Yes}
 use Rattle.nt_event.specs.declared.commands.TimerKey.TheVariants as keys
 use Rattle.nt_event.specs.declared.events.Begun.TheVariants as begun
 use Rattle.nt_event.specs.declared.events.Event.{Event}
@@ -12,7 +12,7 @@ use Rattle.nt_event.specs.declared.events.What.{What}
 use Rattle.nt_event.specs.declared.events.What.TheVariants as what
 use Rattle.nt_event.specs.declared.frames.Again.{Again}
 use Rattle.nt_event.specs.declared.frames.Body.{Body}
-use Rattle.nt_event.specs.declared.frames.Body.TheVariants.{Apc as OnApc, Base as OnBase}
+use Rattle.nt_event.specs.declared.frames.Body.TheVariants.{Apc as OnApc, Base as OnBase, Dpc as OnDpc, Int as OnInt, Rundown as OnRundown, Threaded as OnThreaded}
 use Rattle.nt_event.specs.declared.inserts.Pick.{Pick}
 use Rattle.nt_event.specs.declared.jobs.Stand.{Stand}
 use Rattle.nt_event.specs.declared.numbers.ApcNo.{ApcNo}
@@ -240,7 +240,11 @@ told_facts s n what.Rest facts = facts
 -- it was where the reply is that the delay is over
 abbrev pub is_over : Reply → Bool
 is_over (Status status) = status == satisfied
-is_over y = false
+is_over Done = false
+is_over Yes = false
+is_over No = false
+is_over Blocked = false
+is_over (Refused r) = false
 
 -- of a delay
 abbrev pub over_if : Bool → Reply → Option Bool
@@ -261,7 +265,13 @@ pub record OfThread (x : ThreadLanes) (t : ThreadNo) (P : ThreadFacts → Type 0
 abbrev pub EndFits : Stand → Option Body → Type 0
 EndFits st (Some (OnBase t)) = IsSome st.thread
 EndFits st (Some (OnApc a UserApc)) = IsSome st.thread
-EndFits st body = Unit {0}
+EndFits st (Some (OnApc a SpecialApc)) = Unit {0}
+EndFits st (Some (OnApc a NormalApc)) = Unit {0}
+EndFits st (Some (OnInt level)) = Unit {0}
+EndFits st (Some (OnDpc d)) = Unit {0}
+EndFits st (Some (OnThreaded d)) = Unit {0}
+EndFits st (Some (OnRundown a)) = Unit {0}
+EndFits st None = Unit {0}
 
 -- a ready thread of the processor, with its status
 pub record Takes (x : ThreadLanes) (st : Stand) (t : ThreadNo) (status : Option ℕ) : Type 0 where

@@ -17,7 +17,6 @@ mod leaving;
 mod making;
 mod marks;
 mod ready;
-mod script;
 mod telling;
 mod threads;
 

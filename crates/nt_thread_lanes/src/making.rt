@@ -91,7 +91,7 @@ fn is_over(reply: &Reply) -> bool
 {
     match reply {
         Reply::Status(status) => *status == nt_event::status::SUCCESS,
-        _ => false,
+        Reply::Done | Reply::Yes | Reply::No | Reply::Blocked | Reply::Refused(_) => false,
     }
 }
 

@@ -10,7 +10,6 @@ ghost use Rattle.nt_event.specs.Numbers.{thread};
 ghost use Rattle.nt_thread_lanes.specs.Lanes.{facts_in};
 
 use crate::Threads;
-use crate::script::cpu_of;
 use nt_event::{CpuNo, ThreadDecl, ThreadNo};
 
 impl<'s> Threads<'s> {
@@ -45,7 +44,7 @@ impl<'s> Threads<'s> {
         ensures { (l : Lanes) → l.threads ≡ self.now.facts → result ≡ may_be_taken self.now.script p t l }
     {
         (t.0 as usize) < self.script.threads.len()
-            && cpu_of(self.script, t).0 == p.0
+            && self.script.cpu_of(t).0 == p.0
             && self.is_ready(t)
     }
 

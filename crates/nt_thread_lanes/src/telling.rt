@@ -3,7 +3,6 @@ ghost use Rattle.std.specs.Prelude.{◌≡◌, ◌≤◌, IsTrue, length, ℕ};
 ghost use Rattle.nt_event.specs.declared.events.What.TheVariants.{Call};
 ghost use Rattle.nt_thread_lanes.specs.Fits.{CanTell, named_thread as thread_of, told_facts};
 
-use crate::script::owner_of;
 use nt_event::{Command, Reply, Script, ThreadNo, TimerKey, What};
 use nt_thread::ThreadState;
 
@@ -14,7 +13,7 @@ pub fn named_thread(script: &Script, what: &What) -> Option<ThreadNo>
     match what {
         What::Call { command, .. } => match command {
             Command::Release(t) | Command::Alert(t, _) => Some(*t),
-            Command::InsertApc(a) | Command::RemoveApc(a) => Some(owner_of(script, *a)),
+            Command::InsertApc(a) | Command::RemoveApc(a) => Some(script.owner_of(*a)),
             Command::Raise(_)
             | Command::Lower(_)
             | Command::Queue(_)

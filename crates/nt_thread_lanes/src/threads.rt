@@ -13,7 +13,6 @@ ghost use Rattle.nt_event.specs.declared.threads.Doing.TheVariants.{Running as I
 ghost use Rattle.nt_thread_lanes.specs.Lanes.{facts_in, start};
 ghost use Rattle.nt_thread_lanes.specs.Sound.{AreOurs};
 
-use crate::script::owner_of;
 use nt_event::{ApcNo, Level, Mode, Pick, Regions, Reply, Script, ThreadNo};
 use nt_thread::{ThreadState, WaitAnswer, WaitSpec};
 use std::alloc::{AllocError, Global};
@@ -68,7 +67,7 @@ impl<'s> Threads<'s> {
         requires { IsTrue (has_apc self.now.script a) }
         ensures { result.now ≡ facts_in self.now (owner_in self.now.script a) }
     {
-        self.state(owner_of(self.script, a))
+        self.state(self.script.owner_of(a))
     }
 
     /// The thread's pending APCs are of objects of the script.
