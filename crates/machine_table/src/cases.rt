@@ -1,6 +1,8 @@
 //! The cases of the table.
 ghost use Rattle.std.specs.Prelude.{◌≤◌, IfSome};
 
+use nt_event::limits::TURNS;
+
 /// What is done with a script.
 #[derive(Clone, Copy)]
 pub(crate) enum Task<'a> {
@@ -22,14 +24,14 @@ pub(crate) struct Case<'a> {
     pub(crate) script: &'a str,
     pub(crate) task: Task<'a>,
     ghost some: { 1 ≤ limit },
-    ghost few: { limit ≤ 20000 },
+    ghost few: { limit ≤ TURNS },
 }
 
 fn limit_of(word: &str) -> Option<u32>
-    ensures { IfSome result (λ n. (1 ≤ n) × (n ≤ 20000)) }
+    ensures { IfSome result (λ n. (1 ≤ n) × (n ≤ TURNS)) }
 {
     let limit = word.parse::<u32>().ok()?;
-    if limit < 1 || limit > 20_000 {
+    if limit < 1 || limit > TURNS {
         return None;
     }
     Some(limit)

@@ -20,9 +20,11 @@ use crate::stepping::stepped;
 use crate::taking::taken;
 use crate::turns::turns_of;
 use nt_core::{ScheduleRefusal, replay, run};
+use nt_event::limits::TURNS;
 use nt_event::{ScheduleKind, Turn};
 use nt_print::report;
 use nt_script::{Input, ScriptRefusal, read};
+use nt_text::INPUT_LIMIT;
 use std::alloc::{AllocError, Global};
 use std::io;
 
@@ -52,7 +54,7 @@ fn changed(alloc: Global, bytes: &[u8], from: u8, to: u8) -> Result<Vec<u8>, All
 fn run_outcome(alloc: Global, input: &Input, limit: u32) -> Result<Outcome, AllocError>
     requires sound { IsSound input.now }
     requires some { 1 ≤ limit }
-    requires few { limit ≤ 20000 }
+    requires few { limit ≤ TURNS }
 {
     let history = run(alloc, &input.script, limit)?;
     Ok(Outcome::Report(report(alloc, input, &history)?))
@@ -67,7 +69,7 @@ fn replay_outcome(
 ) -> Result<Outcome, AllocError>
     requires sound { IsSound input.now }
     requires some { 1 ≤ limit }
-    requires few { limit ≤ 20000 }
+    requires few { limit ≤ TURNS }
 {
     match replay(alloc, &input.script, limit, list) {
         Ok(history) => Ok(Outcome::Report(report(alloc, input, &history)?)),
@@ -98,7 +100,7 @@ fn read_outcome(alloc: Global, case: &Case<'_>, input: &Input) -> Result<Outcome
 
 fn case_outcome(alloc: Global, case: &Case<'_>) -> Result<Outcome, AllocError> {
     let text = changed(alloc, case.script.as_bytes(), b'/', b'\n')?;
-    if text.len() > 33_554_432 {
+    if text.len() > INPUT_LIMIT {
         return Ok(Outcome::BadLine);
     }
     match read(alloc, text.as_slice()) {

@@ -4,6 +4,7 @@ ghost use Rattle.nt_script.specs.Sound.{IsSound};
 
 use nt_core::run;
 use nt_cpu::{Cpu, Local, Turned};
+use nt_event::limits::TURNS;
 use nt_event::{CpuNo, Event, History};
 use nt_plain::PlainFloor;
 use nt_print::report;
@@ -19,7 +20,7 @@ fn shown(alloc: Global, event: Option<Event>) -> Result<String, AllocError> {
 fn by_steps(alloc: Global, input: &Input, limit: u32) -> Result<String, AllocError>
     requires sound { IsSound input.now }
     requires cpus { 0 < input.now.script.cpus }
-    requires limit { (1 ≤ limit) × (limit ≤ 20000) }
+    requires limit { (1 ≤ limit) × (limit ≤ TURNS) }
 {
     let mut cpu = Cpu::new(alloc, &input.script, CpuNo(0), limit)?;
     let mut floor = PlainFloor::new(alloc, &input.script, limit)?;
@@ -37,7 +38,7 @@ fn by_steps(alloc: Global, input: &Input, limit: u32) -> Result<String, AllocErr
 fn by_advance(alloc: Global, input: &Input, limit: u32) -> Result<String, AllocError>
     requires sound { IsSound input.now }
     requires cpus { 0 < input.now.script.cpus }
-    requires limit { (1 ≤ limit) × (limit ≤ 20000) }
+    requires limit { (1 ≤ limit) × (limit ≤ TURNS) }
 {
     let mut cpu = Cpu::new(alloc, &input.script, CpuNo(0), limit)?;
     let mut floor = PlainFloor::new(alloc, &input.script, limit)?;
@@ -63,7 +64,7 @@ fn agreement(event: &str, first: &str) -> &'static str {
 fn agreements(alloc: Global, input: &Input, limit: u32, first: &str) -> Result<String, AllocError>
     requires sound { IsSound input.now }
     requires cpus { 0 < input.now.script.cpus }
-    requires limit { (1 ≤ limit) × (limit ≤ 20000) }
+    requires limit { (1 ≤ limit) × (limit ≤ TURNS) }
 {
     let steps = by_steps(alloc, input, limit)?;
     let advance = by_advance(alloc, input, limit)?;
@@ -76,7 +77,7 @@ fn agreements(alloc: Global, input: &Input, limit: u32, first: &str) -> Result<S
 pub(crate) fn stepped(alloc: Global, input: &Input, limit: u32) -> Result<Vec<u8>, AllocError>
     requires sound { IsSound input.now }
     requires some { 1 ≤ limit }
-    requires few { limit ≤ 20000 }
+    requires few { limit ≤ TURNS }
 {
     if input.script.cpus == 0 {
         return Ok(Vec::new(alloc));

@@ -3,6 +3,7 @@ ghost use Rattle.std.specs.Prelude.{◌≡◌, ◌≤◌};
 ghost use Rattle.nt_script.specs.Sound.{IsSound};
 
 use nt_core::Core;
+use nt_event::limits::TURNS;
 use nt_event::{ScheduleKind, Turn};
 use nt_print::report;
 use nt_script::Input;
@@ -54,7 +55,7 @@ pub(crate) fn taken(
 ) -> Result<Vec<u8>, AllocError>
     requires sound { IsSound input.now }
     requires some { 1 ≤ limit }
-    requires few { limit ≤ 20000 }
+    requires few { limit ≤ TURNS }
 {
     let mut core = Core::new(alloc, &input.script, limit)?;
     let mut lines = String::new(alloc);

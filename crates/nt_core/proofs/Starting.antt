@@ -1,6 +1,7 @@
 -- The machine before the first event.
 use Rattle.std.proofs.Common.{ap, add-one, arith, subst, sym, ◌∙◌}
 use Rattle.std.specs.Prelude.{IsTrue, List, Some, [], refl, suc, zero, ℕ, ◌*◌, ◌++◌, ◌+◌, ◌∷◌, ◌≡◌, ◌≤◌}
+use Rattle.nt_event.specs.declared.limits.TheConstants.{EVENTS, TURNS}
 use Rattle.nt_event.specs.declared.events.Event.{Event}
 use Rattle.nt_event.specs.declared.scripts.Script.{Script}
 use Rattle.nt_event.specs.Script.{fits}
@@ -48,8 +49,8 @@ pub fresh_drawable : (s : Script) (turns : ℕ) (f : PlainState) → IsFresh s t
 fresh_drawable s turns f h = let l = h.limit in let n = h.next in omega (arith, l, n)
 
 -- a fresh machine is sound
-pub start_sound : (s : Script) (turns : ℕ) (past : List Event) (xs : List CpuState) (f : PlainState) → IsTrue (fits s) → turns ≤ 20000 →
-    s.cpus * turns ≤ 160000 → xs ≡ cpus_of s turns [] → IsFresh s turns f → past ≡ [] → IsSound s turns past xs f
+pub start_sound : (s : Script) (turns : ℕ) (past : List Event) (xs : List CpuState) (f : PlainState) → IsTrue (fits s) → turns ≤ TURNS →
+    s.cpus * turns ≤ EVENTS → xs ≡ cpus_of s turns [] → IsFresh s turns f → past ≡ [] → IsSound s turns past xs f
 start_sound s turns past xs f fit each all h k e = subst (λ (x : List Event). IsSound s turns x xs f) (sym e) start
   where
     start : IsSound s turns [] xs f

@@ -1,5 +1,6 @@
 -- What holds of the pure machine at any time: its history is a run, and its processors and its floor follow it.
 use Rattle.std.specs.Prelude.{IsTrue, List, length, ℕ, ◌*◌, ◌+◌, ◌≡◌, ◌≤◌}
+use Rattle.nt_event.specs.declared.limits.TheConstants.{EVENTS, TURNS}
 use Rattle.nt_event.specs.declared.events.Event.{Event}
 use Rattle.nt_event.specs.declared.scripts.Script.{Script}
 use Rattle.nt_event.specs.Script.{fits}
@@ -16,8 +17,8 @@ cpus_of s limit past = table s.cpus (λ p. state_of s (cpu p) limit past)
 
 -- at most 20,000 events a processor, and at most 160,000 in all
 pub record IsLimit (s : Script) (limit : ℕ) : Type 0 where
-  pub each : limit ≤ 20000
-  pub all : s.cpus * limit ≤ 160000
+  pub each : limit ≤ TURNS
+  pub all : s.cpus * limit ≤ EVENTS
 
 pub record IsSound (s : Script) (limit : ℕ) (past : List Event) (cpus : List CpuState)
     (floor : PlainState) : Type 0 where

@@ -2,6 +2,7 @@
 use Rattle.std.proofs.Common.{ap, arith, inl, ◌∙◌}
 use Rattle.std.proofs.lemmas.List.Elements.{All-from_get_or, All-nil}
 use Rattle.std.specs.Prelude.{All, IsTrue, List, None, [], false, length, refl, ℕ, ◌<◌, ◌≡◌, ◌≤◌, ◌⊎◌}
+use Rattle.nt_event.specs.declared.limits.TheConstants.{TURNS}
 use Rattle.nt_event.specs.declared.frames.Frame.{Frame}
 use Rattle.nt_event.specs.declared.numbers.CpuNo.{CpuNo}
 use Rattle.nt_event.specs.declared.scripts.Script.{Script}
@@ -19,7 +20,7 @@ each_empty P n h =
     All-from_get_or P _ [] (λ i b. let k : i < n = omega (arith, length-table_from {A = List Frame} 0 n (λ _. [])) in
     rw (get_or-table {A = List Frame} n i (λ _. []) [] k) h)
 
-pub sound_start : (s : Script) (p : CpuNo) (n : ℕ) (fs : Frames) (seen served : List ℕ) → IsTrue (fits s) → IsTrue (has_cpu s p) → n ≤ 20000 → fs
+pub sound_start : (s : Script) (p : CpuNo) (n : ℕ) (fs : Frames) (seen served : List ℕ) → IsTrue (fits s) → IsTrue (has_cpu s p) → n ≤ TURNS → fs
     ≡ no_frames (length s.threads) → seen ≡ table 16 (λ c. 0) → served ≡ table 16 (λ c. 0) →
     IsSound (record {
       script = s;

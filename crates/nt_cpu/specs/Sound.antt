@@ -1,5 +1,6 @@
 -- What holds of a processor at any time.
 use Rattle.std.specs.Prelude.{All, IfSome, IsTrue, List, [], length, true, ℕ, ◌<◌, ◌^◌, ◌∷◌, ◌≡◌, ◌≤◌, ◌⊎◌}
+use Rattle.nt_event.specs.declared.limits.TheConstants.{TURNS}
 use Rattle.nt_event.specs.declared.frames.Frame.{Frame}
 use Rattle.nt_event.specs.Frames.{Frames, frames_in, is_base_body}
 use Rattle.nt_event.specs.Regions.{crit_of, guard_of}
@@ -36,7 +37,7 @@ pub record AreBased (x : Frames) : Type 0 where
 pub record IsSound (c : CpuState) : Type 0 where
   pub script : IsTrue (fits c.script)
   pub cpu : IsTrue (has_cpu c.script c.cpu)
-  pub limit : c.limit ≤ 20000
+  pub limit : c.limit ≤ TURNS
   pub made : c.own.made ≤ c.limit
   pub seen : length c.own.seen ≡ 16
   pub served : length c.own.served ≡ 16

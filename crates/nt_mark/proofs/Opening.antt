@@ -4,6 +4,7 @@ use Rattle.std.proofs.lemmas.List.{length-replicate, get_or_append_left, get_or_
 use Rattle.std.proofs.lemmas.List.Elements.{Contains-get_or}
 use Rattle.std.proofs.lemmas.List.Sums.{sum_by-cons}
 use Rattle.std.specs.List.Sorted.{IsStrictlyIncreasing}
+use Rattle.nt_event.specs.declared.limits.TheConstants.{EVENTS}
 use mathlib.Core.Logic.{dite}
 use native.Mathlib.Decide.{ℕ_discrete}
 use mathlib.Core.Option.{some, some-ne-none, some-injective}
@@ -16,7 +17,7 @@ use Rattle.nt_mark.specs.declared.view.View.{View}
 use Rattle.nt_mark.specs.declared.view.Sizes.{Sizes}
 use Rattle.nt_mark.specs.declared.seats.Keeper.{Keeper}
 use Rattle.nt_mark.specs.Views.{request_word, lane_word, note_numbers, first_notes, first_kept, other_kept, keeping}
-use Rattle.nt_mark.specs.Rule.{most_numbers, sum_below, empty_lists, opening_view, Fits, Holds}
+use Rattle.nt_mark.specs.Rule.{sum_below, empty_lists, opening_view, Fits, Holds}
 use Rattle.nt_mark.specs.Closing.{IsNewKeeper, AreNewKeepers}
 use Rattle.nt_mark.proofs.Sums.{in_none, first_or_rest}
 
@@ -60,7 +61,7 @@ empty_fits cpus lane (suc n) k h = ⊎_elim
     (omega arith, ap (λ (q : LaneList). q.notes) e, omega arith))
     (λ r. let a = empty_fits cpus (lane + 1) n k r in (let b = a.0 in omega arith, a.1, a.2)) (first_or_rest _ (empty_lists cpus (lane + 1) n) k h)
 
-pub opens : (S : Type 0) (key : Sizes) (words : List ℕ) → words ≡ replicate (1 + 16 * key.cpus + key.lanes) 0 → key.limit * key.parts ≤ most_numbers →
+pub opens : (S : Type 0) (key : Sizes) (words : List ℕ) → words ≡ replicate (1 + 16 * key.cpus + key.lanes) 0 → key.limit * key.parts ≤ EVENTS →
     Holds {S = S} key (opening words [] (opening_view key))
 opens S key words is small =
     let lists = nils key.lanes in

@@ -3,6 +3,7 @@ use Rattle.std.specs.Prelude.{◌≡◌, ◌⊎◌, ℕ, zero, suc, ◌+◌, ◌
 use mathlib.Core.Option.{some}
 use lib.ListN.{get_elem?}
 use Rattle.std.specs.List.Sorted.{IsStrictlyIncreasing}
+use Rattle.nt_event.specs.declared.limits.TheConstants.{EVENTS}
 use Rattle.atomic_table.specs.Table.{State, Me}
 use Rattle.atomic_table.specs.Seated.{TableId}
 use Rattle.nt_event.specs.declared.events.Event.{Event}
@@ -16,10 +17,6 @@ use Rattle.nt_mark.specs.declared.view.Reached.{Reached}
 use Rattle.nt_mark.specs.declared.view.View.{View}
 use Rattle.nt_mark.specs.declared.view.Sizes.{Sizes}
 use Rattle.nt_mark.specs.Views.{step_word, request_word, lane_word, mark_of, drawn, marked, looked, noted, note_numbers, first_notes, reach}
-
--- the most numbers that any marks may draw: 8 processors with 20,000 events each
-abbrev pub most_numbers : ℕ
-most_numbers = 160000
 
 -- h of each number below n, added up
 abbrev pub sum_below : (ℕ → ℕ) → ℕ → ℕ
@@ -66,7 +63,7 @@ module _ (key : Sizes) (words : List ℕ) (views : List View) (log : List Entry)
 
   pub record Keeps : Type 0 where
     pub wide : length words ≡ 1 + 16 * key.cpus + key.lanes
-    pub small : key.limit * key.parts ≤ most_numbers
+    pub small : key.limit * key.parts ≤ EVENTS
     -- word 0 is the count of entries in all views, and entries have different numbers below it
     pub steps : slice_index words step_word ≡ length log
     pub drawn_once : (h : ℕ → ℕ) → sum_by (λ v. sum_by (λ (e : Entry). h e.number) v.entries) views

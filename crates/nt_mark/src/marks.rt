@@ -6,7 +6,8 @@ ghost use Rattle.nt_mark.specs.declared.view.Look.{Look};
 ghost use Rattle.nt_mark.specs.declared.view.Note.{Note};
 ghost use Rattle.nt_mark.specs.declared.view.LaneList.{LaneList};
 ghost use Rattle.nt_mark.specs.Views.{step_word, request_word, lane_word, reach, known_entries, known_lists, drawn, marked, looked, noted, note_of, telling, keeping, both, HasSame, first_kept, other_kept, first_notes, entry_numbers, note_numbers};
-ghost use Rattle.nt_mark.specs.Rule.{most_numbers, IsAbove, IsBeginning, empty_lists};
+ghost use Rattle.nt_event.specs.declared.limits.TheConstants.{EVENTS};
+ghost use Rattle.nt_mark.specs.Rule.{IsAbove, IsBeginning, empty_lists};
 
 use crate::seats::{Keeper, Law, Pass};
 use crate::steps::{
@@ -28,7 +29,7 @@ pub struct Marks {
     ghost no_slots: { table.shared.table_id.slots ≡ 0 },
     ghost cpus_is: { cpus ≡ table.shared.key.cpus },
     ghost few_cpus: { cpus ≤ 64 },
-    ghost few_numbers: { table.shared.key.limit * table.shared.key.parts ≤ most_numbers },
+    ghost few_numbers: { table.shared.key.limit * table.shared.key.parts ≤ EVENTS },
 }
 
 /// What [`Marks::new`] makes: the words, a pass that holds all parts, and the keeper of each lane, in order.
@@ -70,7 +71,7 @@ impl Marks {
     ) -> Result<Made, AllocError>
         requires cpus { (1 ≤ cpus) × (cpus ≤ 64) }
         requires some { (1 ≤ parts) × (1 ≤ limit) }
-        requires few { limit * parts ≤ most_numbers }
+        requires few { limit * parts ≤ EVENTS }
         ensures sizes { IfOk result (λ m. (cpus_of m.marks ≡ cpus) × (lanes_of m.marks ≡ lanes) × (parts_of m.marks ≡ parts) × (limit_of m.marks ≡ limit)) }
         ensures pass { IfOk result (λ m. (pass_table m.pass ≡ table_of m.marks) × (pass_view m.pass ≡ record { parts = parts; kept = []; entries = []; marks = []; looks = []; reached = []; known = []; prefixes = [] })) }
         ensures keepers { IfOk result (λ m. (length m.keepers.items ≡ lanes) × AreNewKeepers (table_of m.marks) m.keepers.items) }

@@ -5,6 +5,7 @@ use Rattle.std.proofs.lemmas.Bool.{ltb-true}
 use Rattle.std.proofs.lemmas.List.{drop_all, get_or-map, length-map}
 use Rattle.std.specs.List.{list_any}
 use Rattle.std.specs.Prelude.{All, List, [], get_or, if◌then◌else◌, refl, true, ℕ, ◌*◌, ◌+◌, ◌<◌, ◌^◌, ◌∷◌, ◌≡◌, ◌≤◌}
+use Rattle.nt_event.specs.declared.limits.TheConstants.{EVENTS}
 use Rattle.nt_event.specs.declared.events.What.{What}
 use Rattle.nt_event.specs.declared.jobs.Lane.{Lane}
 use Rattle.nt_event.specs.declared.jobs.Stand.{Stand}
@@ -69,9 +70,9 @@ told_room n cpus told len small few =
     let most : n * cpus ≤ 1024 * cpus = mul-le-mul_right cpus small in omega (arith, most, len)
 
 -- so are the marks
-pub marks_room : (limit cpus : ℕ) (marks : List ℕ) → length marks ≡ limit * cpus → limit ≤ 160000 → cpus ≤ 64 → length marks < 2 ^ 32
+pub marks_room : (limit cpus : ℕ) (marks : List ℕ) → length marks ≡ limit * cpus → limit ≤ EVENTS → cpus ≤ 64 → length marks < 2 ^ 32
 marks_room limit cpus marks len small few =
-    let most : limit * cpus ≤ 160000 * cpus = mul-le-mul_right cpus small in omega (arith, most, len)
+    let most : limit * cpus ≤ EVENTS * cpus = mul-le-mul_right cpus small in omega (arith, most, len)
 
 -- ---- what the lanes tell
 

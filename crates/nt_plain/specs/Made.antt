@@ -1,6 +1,7 @@
 -- What holds of a floor in memory at any time, and what each call leaves of it.
 use Rattle.std.specs.Int.Bits.{bit_or}
 use Rattle.std.specs.Prelude.{All, List, [], get_or, length, max, set, ℕ, ◌%◌, ◌*◌, ◌+◌, ◌<◌, ◌^◌, ◌∷◌, ◌≡◌, ◌≤◌}
+use Rattle.nt_event.specs.declared.limits.TheConstants.{EVENTS}
 use Rattle.nt_event.specs.declared.events.What.{What}
 use Rattle.nt_event.specs.declared.jobs.Lane.{Lane}
 use Rattle.nt_event.specs.declared.jobs.Stand.{Stand}
@@ -25,7 +26,7 @@ pub record IsKept (f : PlainState) : Type 0 where
   pub told_length : length f.told ≡ lane_count f.script * f.script.cpus * 16
   pub cpus : f.script.cpus ≤ 64
   pub lane_count : lane_count f.script ≤ 1024
-  pub limit : f.limit ≤ 160000
+  pub limit : f.limit ≤ EVENTS
   pub next : f.next ≤ f.limit
   pub asked : (p : CpuNo) (c : ℕ) → p.0 < f.script.cpus → c < 16 → value_in f.asked p c ≤ f.next
   pub told : (x : Lane) (p : CpuNo) (c : ℕ) → p.0 < f.script.cpus → c < 16 →

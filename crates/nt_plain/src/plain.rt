@@ -12,6 +12,7 @@ use crate::places::row_of;
 use crate::requests::RequestWords;
 use crate::states::States;
 use crate::told::ToldValues;
+use nt_event::limits::{EVENTS, TURNS};
 use nt_event::{CpuNo, Script, ThreadNo};
 use nt_states::LaneAnswers;
 use std::alloc::{AllocError, Global};
@@ -48,8 +49,8 @@ impl<'s> PlainFloor<'s> {
     /// The script fits, there are at most 20,000 turns, and at most 160,000 numbers in all.
     pub fn new(alloc: Global, script: &'s Script, turns: u32) -> Result<PlainFloor<'s>, AllocError>
         requires script { IsTrue (fits script.now) }
-        requires turns { turns ≤ 20000 }
-        requires limit { script.now.cpus * turns ≤ 160000 }
+        requires turns { turns ≤ TURNS }
+        requires limit { script.now.cpus * turns ≤ EVENTS }
         ensures { IfOk result (λ f. IsFresh script.now turns f) }
     {
         let cpus = usize::from(script.cpus);

@@ -3,12 +3,13 @@ use Rattle.std.proofs.Common.{◌≡◌, ◌≢◌, ◌∙◌, ℕ, ◌+◌, ◌
 use Rattle.std.specs.Prelude.{is_some, false}
 use Rattle.std.proofs.Math.Nat.{min-le_left}
 use Rattle.std.specs.Io.KnownBytes.{prepend_known, IsAtEnd}
+use Rattle.nt_text.specs.declared.lines.TheConstants.{INPUT_LIMIT}
 use Rattle.nt_outside.specs.Bytes.{IsLonger}
 use Rattle.nt_outside.specs.Counts.{Rose, counted, last_count}
 use Rattle.nt_text.specs.declared.kind.ScriptKind.{ScriptKind}
 use Rattle.ntrun.specs.declared.status.Status.{Status}
 use Rattle.ntrun.specs.declared.status.Status.TheVariants as exit
-use Rattle.ntrun.specs.Outcome.{Supply, Store, Gave, IsSupplied, IsFound, IsWritten, IsAnswered, HasCause, IsReportFor, refusal, refusal_of, input_limit}
+use Rattle.ntrun.specs.Outcome.{Supply, Store, Gave, IsSupplied, IsFound, IsWritten, IsAnswered, HasCause, IsReportFor, refusal, refusal_of}
 use Rattle.nt_script.specs.declared.walk.Input.{Input}
 use Rattle.ntrun.specs.Words.{IsForm}
 
@@ -33,12 +34,12 @@ same_bytes bytes told before None tells gave end = cc
 same_bytes bytes told before (Some more) tells gave end =
     let whole : bytes ++ more ≡ told = cc in sym (append-nil bytes) ∙ ap (λ (xs : List ℕ). bytes ++ xs) (sym end) ∙ whole
 
-few_taken : (old n : ℕ) → n ≤ input_limit → counted old n ≤ old + input_limit
+few_taken : (old n : ℕ) → n ≤ INPUT_LIMIT → counted old n ≤ old + INPUT_LIMIT
 few_taken old n h = omega (arith, min-le_left (old + n) last_count)
 
-longer : (told : Option (List ℕ)) (bytes : List ℕ) → told ≡ Some bytes → IsLonger input_limit told → input_limit < length bytes
+longer : (told : Option (List ℕ)) (bytes : List ℕ) → told ≡ Some bytes → IsLonger INPUT_LIMIT told → INPUT_LIMIT < length bytes
 longer None bytes e h = cc
-longer (Some xs) bytes e h = let same : xs ≡ bytes = cc in subst (λ (ys : List ℕ). input_limit < length ys) same h
+longer (Some xs) bytes e h = let same : xs ≡ bytes = cc in subst (λ (ys : List ℕ). INPUT_LIMIT < length ys) same h
 
 -- ---- each status, from what was found
 
@@ -63,7 +64,7 @@ usage_else words so sn exit.TooLong text none f = absurd (none f.0)
 usage_else words so sn exit.Illegal text none f = absurd (none f.0)
 
 few_else : (words : List (List ℕ)) (so sn : Supply) (found : Status) (text : List ℕ) → IsFound words so sn found text → found ≢ exit.TooLong →
-    sn.taken ≤ so.taken + input_limit
+    sn.taken ≤ so.taken + INPUT_LIMIT
 few_else words so sn exit.Ok text f other = let g = f.1.1 in rw g.taken (few_taken so.taken _ g.few)
 few_else words so sn exit.Usage text f other = let same : sn.taken ≡ so.taken = ap (λ (s : Supply). s.taken) f.1 in omega arith
 few_else words so sn exit.Script text f other = let g = f.1.1 in rw g.taken (few_taken so.taken _ g.few)
@@ -76,9 +77,9 @@ few_else words so sn exit.Illegal text f other = absurd f.1.2
 
 -- what is found in bytes that the source tells, where the words are a form and nothing failed
 abbrev Which : List ℕ → Status → Type 0
-Which bytes exit.Ok = (length bytes ≤ input_limit) × (refusal bytes ≡ None)
-Which bytes exit.Script = (length bytes ≤ input_limit) × IsSome (refusal bytes)
-Which bytes exit.TooLong = input_limit < length bytes
+Which bytes exit.Ok = (length bytes ≤ INPUT_LIMIT) × (refusal bytes ≡ None)
+Which bytes exit.Script = (length bytes ≤ INPUT_LIMIT) × IsSome (refusal bytes)
+Which bytes exit.TooLong = INPUT_LIMIT < length bytes
 Which bytes exit.Memory = Unit {0}
 Which bytes _ = ⊥
 
@@ -98,11 +99,11 @@ which : (words : List (List ℕ)) (so sn : Supply) (bytes : List ℕ) (found : S
     IsFound words so sn found text → Which bytes found
 which words so sn bytes exit.Ok text form s f =
     let same : f.1.0 ≡ bytes = gave_told f.1.0 bytes so sn f.1.1 s in
-    (subst (λ (xs : List ℕ). length xs ≤ input_limit) same f.1.1.few, subst (λ (xs : List ℕ). refusal xs ≡ None) same (run_refuses_none f.1.0 text f.1.2))
+    (subst (λ (xs : List ℕ). length xs ≤ INPUT_LIMIT) same f.1.1.few, subst (λ (xs : List ℕ). refusal xs ≡ None) same (run_refuses_none f.1.0 text f.1.2))
 which words so sn bytes exit.Usage text form s f = absurd (f.0 form)
 which words so sn bytes exit.Script text form s f =
     let same : f.1.0 ≡ bytes = gave_told f.1.0 bytes so sn f.1.1 s in (
-      subst (λ (xs : List ℕ). length xs ≤ input_limit) same f.1.1.few,
+      subst (λ (xs : List ℕ). length xs ≤ INPUT_LIMIT) same f.1.1.few,
       subst (λ (xs : List ℕ). IsSome (refusal xs)) same (is_some_of (refusal f.1.0) _ f.1.2.1.1),
     )
 which words so sn bytes exit.Schedule text form s f = absurd f.1.2
@@ -112,7 +113,7 @@ which words so sn bytes exit.Memory text form s f = tt
 which words so sn bytes exit.TooLong text form s f = longer so.left bytes s.left f.1
 which words so sn bytes exit.Illegal text form s f = absurd f.1.2
 
-which_long : (bytes : List ℕ) (found : Status) → Which bytes found → input_limit < length bytes → found ≢ exit.Memory → found ≡ exit.TooLong
+which_long : (bytes : List ℕ) (found : Status) → Which bytes found → INPUT_LIMIT < length bytes → found ≢ exit.Memory → found ≡ exit.TooLong
 which_long bytes exit.Ok w long other = absurd (omega arith)
 which_long bytes exit.Usage w long other = absurd w
 which_long bytes exit.Script w long other = absurd (omega arith)
@@ -123,7 +124,7 @@ which_long bytes exit.Memory w long other = absurd (other refl)
 which_long bytes exit.TooLong w long other = refl
 which_long bytes exit.Illegal w long other = absurd w
 
-which_refused : (bytes : List ℕ) (found : Status) → Which bytes found → length bytes ≤ input_limit → IsSome (refusal bytes) → found ≢ exit.Memory → found
+which_refused : (bytes : List ℕ) (found : Status) → Which bytes found → length bytes ≤ INPUT_LIMIT → IsSome (refusal bytes) → found ≢ exit.Memory → found
     ≡ exit.Script
 which_refused bytes exit.Ok w few bad other = absurd (is_none_not w.1 bad)
 which_refused bytes exit.Usage w few bad other = absurd w
@@ -135,7 +136,7 @@ which_refused bytes exit.Memory w few bad other = absurd (other refl)
 which_refused bytes exit.TooLong w few bad other = absurd (omega arith)
 which_refused bytes exit.Illegal w few bad other = absurd w
 
-which_reported : (bytes : List ℕ) (found : Status) → Which bytes found → length bytes ≤ input_limit → refusal bytes ≡ None → found ≢ exit.Memory → found
+which_reported : (bytes : List ℕ) (found : Status) → Which bytes found → length bytes ≤ INPUT_LIMIT → refusal bytes ≡ None → found ≢ exit.Memory → found
     ≡ exit.Ok
 which_reported bytes exit.Ok w few good other = refl
 which_reported bytes exit.Usage w few good other = absurd w

@@ -3,6 +3,7 @@ use Rattle.std.proofs.Common.{subst, sym}
 use Rattle.std.specs.Io.KnownBytes.{append_known}
 use Rattle.std.specs.List.{Contains}
 use Rattle.std.specs.Prelude.{Bool, List, Some, [], false, nat_lt, refl, reverse, true, ℕ, ◌∷◌, ◌≡◌}
+use Rattle.nt_event.specs.declared.limits.TheConstants.{USUAL_TURNS}
 use Rattle.nt_event.specs.declared.events.Event.{Event}
 use Rattle.nt_event.specs.declared.events.History.{History}
 use Rattle.nt_event.specs.declared.numbers.CpuNo.{CpuNo}
@@ -18,7 +19,7 @@ use Rattle.nt_close.proofs.Closed.{nothing_is_eligible}
 use Rattle.ntrun.specs.declared.status.Status.{Status}
 use Rattle.ntrun.specs.declared.status.Status.TheVariants as exit
 use Rattle.ntrun.specs.Headline.{AllEligible, FateIsNamed, Headline, IsActual, IsWhole, NothingIsLeft}
-use Rattle.ntrun.specs.Outcome.{IsAnswered, IsFound, IsRobinRun, Store, Supply, turn_limit}
+use Rattle.ntrun.specs.Outcome.{IsAnswered, IsFound, IsRobinRun, Store, Supply}
 
 all_eligible : (s : Script) (limit : ℕ) (past : List Event) → IsRun s limit past → AllEligible s past
 all_eligible s limit [] r = tt
@@ -38,9 +39,9 @@ fate_named past x c = (
 actual : (s : Script) (h : History) → IsRobinRun s h → IsActual s h
 actual s h r = record {
   run = r;
-  eligible = all_eligible s turn_limit (reverse h.events) r.run;
+  eligible = all_eligible s USUAL_TURNS (reverse h.events) r.run;
   fates = λ x c. fate_named (reverse h.events) x c;
-  left = λ p x named uncut. nothing_is_eligible s turn_limit p (reverse h.events) x (record { run = r.run; settled = r.settled; named = named; uncut = uncut });
+  left = λ p x named uncut. nothing_is_eligible s USUAL_TURNS p (reverse h.events) x (record { run = r.run; settled = r.settled; named = named; uncut = uncut });
 }
 
 pub headline : Headline

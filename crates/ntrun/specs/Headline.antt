@@ -2,6 +2,7 @@
 use Rattle.std.specs.Io.KnownBytes.{append_known}
 use Rattle.std.specs.List.{Contains}
 use Rattle.std.specs.Prelude.{List, Ok, Some, [], false, nat_lt, reverse, true, ℕ, ◌∷◌, ◌≡◌, ◌↔◌}
+use Rattle.nt_event.specs.declared.limits.TheConstants.{USUAL_TURNS}
 use Rattle.nt_event.specs.declared.events.Event.{Event}
 use Rattle.nt_event.specs.declared.events.History.{History}
 use Rattle.nt_event.specs.declared.numbers.CpuNo.{CpuNo}
@@ -15,7 +16,7 @@ use Rattle.nt_print.specs.Report.{report_text}
 use Rattle.nt_script.specs.declared.walk.Input.{Input}
 use Rattle.nt_script.specs.Reading.{reading}
 use Rattle.ntrun.specs.declared.status.Status.TheVariants as exit
-use Rattle.ntrun.specs.Outcome.{Gave, IsAnswered, IsRobinRun, Store, Supply, turn_limit}
+use Rattle.ntrun.specs.Outcome.{Gave, IsAnswered, IsRobinRun, Store, Supply}
 
 -- each event that delivers a request delivers one that was eligible just before it
 abbrev pub AllEligible : Script → List Event → Type 0
@@ -30,7 +31,7 @@ FateIsNamed past x = Contains (waiting_inserts past) x ↔ (fate_of x.thing x.nu
 
 -- no request may be delivered any more, but on a processor that made as many events as it may
 abbrev pub NothingIsLeft : Script → List Event → Type 0
-NothingIsLeft s past = (p : CpuNo) (r : Request) → nat_lt p.0 s.cpus ≡ true → is_cut turn_limit (own_of s p past)
+NothingIsLeft s past = (p : CpuNo) (r : Request) → nat_lt p.0 s.cpus ≡ true → is_cut USUAL_TURNS (own_of s p past)
     ≡ false → eligible s p r past ≡ false
 
 -- the history of a script that was read: it is the robin run; every delivery was eligible; each accepted insert was

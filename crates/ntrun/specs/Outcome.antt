@@ -1,6 +1,8 @@
 -- What a call of the program finds out, what it writes, and when each status comes.
 use Rattle.std.specs.Prelude.{◌≡◌, ◌≢◌, ℕ, ◌+◌, ◌<◌, ◌≤◌, true, IsSome, List, [], ◌∷◌, ◌++◌, length, Option, Some, None, Result, Ok, Err, codes, decimal, reverse}
 use Rattle.std.specs.Io.KnownBytes.{append_known, prepend_known, IsAtEnd}
+use Rattle.nt_event.specs.declared.limits.TheConstants.{USUAL_TURNS}
+use Rattle.nt_text.specs.declared.lines.TheConstants.{INPUT_LIMIT}
 use Rattle.nt_outside.specs.Bytes.{IsLonger, AddsFrontOf}
 use Rattle.nt_outside.specs.Counts.{counted, Rose, RoseBy}
 use Rattle.nt_text.specs.declared.kind.ScriptKind.{ScriptKind}
@@ -36,19 +38,11 @@ pub record Store : Type 0 where
 abbrev pub store : Option (List ℕ) → ℕ → Store
 store held faults = record { held = held; faults = faults }
 
--- the most bytes that an input may have
-abbrev pub input_limit : ℕ
-input_limit = 33554432
-
--- how many events a processor may make
-abbrev pub turn_limit : ℕ
-turn_limit = 10000
-
 -- the source gave these bytes, not too many, and is at its end
 pub record Gave (bytes : List ℕ) (old new : Supply) : Type 0 where
   pub left : old.left ≡ prepend_known bytes new.left
   pub end : IsAtEnd new.left
-  pub few : length bytes ≤ input_limit
+  pub few : length bytes ≤ INPUT_LIMIT
   pub taken : new.taken ≡ counted old.taken (length bytes)
 
 -- ---- the lines
@@ -86,10 +80,10 @@ refusal bytes = refusal_of (reading bytes)
 
 -- the history is the run of the script by the robin rule, to its end
 pub record IsRobinRun (s : Script) (h : History) : Type 0 where
-  pub turns : h.turns ≡ turn_limit
-  pub run : IsRun s turn_limit (reverse h.events)
-  pub robin : IsRobin s turn_limit (reverse h.events)
-  pub settled : is_settled s turn_limit (reverse h.events) ≡ true
+  pub turns : h.turns ≡ USUAL_TURNS
+  pub run : IsRun s USUAL_TURNS (reverse h.events)
+  pub robin : IsRobin s USUAL_TURNS (reverse h.events)
+  pub settled : is_settled s USUAL_TURNS (reverse h.events) ≡ true
 
 -- the text is the report of the robin run of the input's script
 pub record IsReport (input : Input) (text : List ℕ) : Type 0 where
@@ -127,10 +121,10 @@ IsFoundIn bytes _ text = ⊥
 abbrev pub IsFound : List (List ℕ) → Supply → Supply → Status → List ℕ → Type 0
 IsFound words old new exit.Usage text = (IsForm words → ⊥) × (new ≡ old) × (text ≡ usage_line)
 IsFound words old new exit.Read text = IsForm words × Rose old.faults new.faults ×
-    (new.taken ≤ old.taken + input_limit) × (text ≡ read_line)
-IsFound words old new exit.TooLong text = IsForm words × IsLonger input_limit old.left ×
-    RoseBy (input_limit + 1) old.taken new.taken × (text ≡ long_line)
-IsFound words old new exit.Memory text = IsForm words × (new.taken ≤ old.taken + input_limit) × (text ≡ memory_line)
+    (new.taken ≤ old.taken + INPUT_LIMIT) × (text ≡ read_line)
+IsFound words old new exit.TooLong text = IsForm words × IsLonger INPUT_LIMIT old.left ×
+    RoseBy (INPUT_LIMIT + 1) old.taken new.taken × (text ≡ long_line)
+IsFound words old new exit.Memory text = IsForm words × (new.taken ≤ old.taken + INPUT_LIMIT) × (text ≡ memory_line)
 IsFound words old new status text = IsForm words × ((bytes : List ℕ) × Gave bytes old new × IsFoundIn bytes status text)
 
 -- the text was added and the call answers what it found; or the sink failed, and a front part of the text was added
@@ -163,13 +157,13 @@ pub record HasCause (words : List (List ℕ)) (source_old source_new : Supply) (
     (status : Status) : Type 0 where
   pub usage : ComesExactly status exit.Usage (IsForm words → ⊥)
   pub read : status ≡ exit.Read → Rose source_old.faults source_new.faults
-  pub many : status ≡ exit.TooLong → RoseBy (input_limit + 1) source_old.taken source_new.taken
-  pub few : status ≢ exit.TooLong → status ≢ exit.Write → source_new.taken ≤ source_old.taken + input_limit
+  pub many : status ≡ exit.TooLong → RoseBy (INPUT_LIMIT + 1) source_old.taken source_new.taken
+  pub few : status ≢ exit.TooLong → status ≢ exit.Write → source_new.taken ≤ source_old.taken + INPUT_LIMIT
   pub too_long : (bytes : List ℕ) → IsForm words → IsSupplied bytes source_old source_new →
-      ComesExactly status exit.TooLong (input_limit < length bytes)
-  pub script : (bytes : List ℕ) → IsForm words → IsSupplied bytes source_old source_new → length bytes ≤ input_limit →
+      ComesExactly status exit.TooLong (INPUT_LIMIT < length bytes)
+  pub script : (bytes : List ℕ) → IsForm words → IsSupplied bytes source_old source_new → length bytes ≤ INPUT_LIMIT →
       ComesExactly status exit.Script (IsSome (refusal bytes))
-  pub ok : (bytes : List ℕ) → IsForm words → IsSupplied bytes source_old source_new → length bytes ≤ input_limit →
+  pub ok : (bytes : List ℕ) → IsForm words → IsSupplied bytes source_old source_new → length bytes ≤ INPUT_LIMIT →
       ComesExactly status exit.Ok (refusal bytes ≡ None)
   pub write : status ≡ exit.Write → Rose sink_old.faults sink_new.faults
   pub never_schedule : status ≢ exit.Schedule

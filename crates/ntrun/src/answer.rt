@@ -11,6 +11,7 @@ use nt_core::run;
 use nt_event::limits::USUAL_TURNS;
 use nt_print::report;
 use nt_script::{Input, ScriptKind, ScriptRefusal, read};
+use nt_text::INPUT_LIMIT;
 use std::alloc::{AllocError, Global};
 
 /// A text to be written.
@@ -108,7 +109,7 @@ fn reported(alloc: Global, input: &Input) -> Answer
 
 /// What is found in the bytes of an input.
 pub(crate) fn find_in(alloc: Global, bytes: &[u8]) -> Answer
-    requires { length bytes.now ≤ 33554432 }
+    requires { length bytes.now ≤ INPUT_LIMIT }
     ensures { IsFoundIn bytes.now result.status (text_of result.text) }
 {
     match read(alloc, bytes) {
