@@ -54,7 +54,7 @@ name_bytes_field (c ∷ cs) e = let p = and_parts (is_name_byte c) (list_all is_
 pub name_field : (f : List ℕ) → is_name f ≡ true → is_field f ≡ true
 name_field f e = name_bytes_field f (and_parts (not (length f == 0) && nat_le (length f) 16) (list_all is_name_byte f) e).1
 
-rows_both : (a b : List Row) → AllRows a → AllRows b → AllRows (a ++ b)
+pub rows_both : (a b : List Row) → AllRows a → AllRows b → AllRows (a ++ b)
 rows_both [] b p q = q
 rows_both (r ∷ a) b p q = (p.0, rows_both a b p.1 q)
 

@@ -5,6 +5,7 @@ pub mod Acts
 pub mod Whole
 pub mod Pairs
 pub mod Fit
+pub mod Behind
 pub mod Clean
 pub mod Again
 pub mod Both

@@ -1,8 +1,11 @@
 //! Reading and printing undo each other.
-ghost use Rattle.std.specs.Prelude.{◌≡◌, ℕ, List, Ok};
+ghost use Rattle.std.specs.Prelude.{◌≡◌, ℕ, ◌+◌, ◌++◌, List, None, Ok, Some, length, true};
+ghost use Rattle.nt_text.specs.Lines.{AllRows, Row, lines, rows_text};
+ghost use Rattle.nt_line.specs.Keywords.{keyword_of};
 ghost use Rattle.nt_script.specs.Reading.{reading};
 ghost use Rattle.nt_script.specs.Text.{text};
 ghost use Rattle.nt_script.specs.Sound.{IsSound, IsTextOf};
+ghost use Rattle.nt_script.specs.Splitting.{first_begins, split_from};
 ghost use Rattle.nt_script.specs.declared.walk.Input.{Input};
 
 /// What was printed is read as the input, and what was read has been a text of it.
@@ -17,4 +20,9 @@ pub fn texts_both_ways()
 /// A text is the text of one input: no two sound inputs have the same.
 pub fn one_text()
     ensures { (a b : Input) → IsSound a → IsSound b → text a ≡ text b → a ≡ b }
+{}
+
+/// Lines behind the text of a script are found by the first field of their first line, where that is no keyword of scripts.
+pub fn what_stands_behind_is_found()
+    ensures { (word : List ℕ) (input : Input) (rows : List Row) → keyword_of word ≡ None → IsSound input → AllRows rows → first_begins word (lines (rows_text rows)) ≡ true → split_from word 0 1 (lines (text input ++ rows_text rows)) ≡ Some (length (text input), 1 + length (lines (text input))) }
 {}

@@ -16,7 +16,7 @@ mod reading;
 mod splitting;
 mod walk;
 
-pub use laws::{one_text, texts_both_ways};
+pub use laws::{one_text, texts_both_ways, what_stands_behind_is_found};
 pub use nt_line::{Keyword, Kind, Named, Names, Place, Verb, keyword_of, put_command};
 pub use nt_text::{ScriptKind, What10};
 pub use printing::print;

@@ -37,6 +37,7 @@ fn find_line(bytes: &[u8], keyword: &[u8]) -> Option<Split>
 /// Where the first line begins whose first field is `keyword`. None exactly where there is no such line.
 pub fn split_at(bytes: &[u8], keyword: &str) -> Option<Split>
     requires { length bytes.now ≤ INPUT_LIMIT }
+    ensures exact { option_map (λ s. (s.at, s.line)) result ≡ split_from keyword.now 0 1 (lines bytes.now) }
     ensures none { IfNone result (list_any (begins keyword.now) (lines bytes.now) ≡ false) }
     ensures some { IfSome result (λ s. Splits keyword.now bytes.now s.at s.line) }
 {
