@@ -4,7 +4,7 @@ use Rattle.std.specs.Prelude.{IfOk}
 use Rattle.nt_text.specs.declared.kind.ScriptKind.{ScriptKind}
 use Rattle.nt_script.specs.declared.walk.Input.{Input}
 use Rattle.nt_script.specs.declared.reading.ScriptRefusal.{ScriptRefusal}
-use Rattle.nt_script.specs.Gives.{GivesInput}
+use Rattle.nt_script.specs.Gives.{GivesRead}
 use Rattle.nt_script.specs.Reading.{reading}
 use Rattle.nt_script.specs.Text.{text}
 use Rattle.nt_script.specs.Sound.{IsSound, IsTextOf}
@@ -24,7 +24,7 @@ reading_is_text bytes input e = record { sound = fit_sound input (reading_fits b
 pub text_is_read : (bytes : List ℕ) (input : Input) → IsTextOf bytes input → reading bytes ≡ Ok input
 text_is_read bytes input h = ap reading h.text ∙ reading_again input (sound_fits input h.sound)
 
-pub is_found : (bytes : List ℕ) (r : Result Input ScriptRefusal) → GivesInput r (reading bytes) → IfOk r (IsTextOf bytes)
+pub is_found : (bytes : List ℕ) (r : Result Input ScriptRefusal) → GivesRead r (reading bytes) → IfOk r (IsTextOf bytes)
 is_found bytes (Ok input) h = reading_is_text bytes input h
 is_found bytes (Err e) h = tt
 

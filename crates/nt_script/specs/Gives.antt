@@ -3,7 +3,6 @@ use Rattle.std.specs.Prelude.{◌≡◌, ℕ, Result, Ok, Err}
 use Rattle.nt_text.specs.declared.kind.ScriptKind.{ScriptKind}
 use Rattle.nt_script.specs.declared.walk.Stop.{Stop}
 use Rattle.nt_script.specs.declared.walk.Stop.TheVariants.{NoMemory, Bad}
-use Rattle.nt_script.specs.declared.walk.Input.{Input}
 use Rattle.nt_script.specs.declared.reading.ScriptRefusal.{ScriptRefusal}
 use Rattle.nt_script.specs.declared.reading.ScriptRefusal.TheVariants as refusal
 
@@ -13,8 +12,8 @@ Gives (Ok u) new read = read ≡ Ok new
 Gives (Err NoMemory) new read = Unit {0}
 Gives (Err (Bad kind)) new read = read ≡ Err kind
 
--- a call that reads an input, or refuses a line, answers what reading says, unless memory ran out
-abbrev pub GivesInput : Result Input ScriptRefusal → Result Input (ℕ × ScriptKind) → Type 0
-GivesInput (Ok input) read = read ≡ Ok input
-GivesInput (Err refusal.NoMemory) read = Unit {0}
-GivesInput (Err (refusal.Bad line kind)) read = read ≡ Err (line, kind)
+-- a call that reads a whole text, or refuses a line, answers what reading says, unless memory ran out
+abbrev pub GivesRead : {A : Type 0} → Result A ScriptRefusal → Result A (ℕ × ScriptKind) → Type 0
+GivesRead (Ok x) read = read ≡ Ok x
+GivesRead (Err refusal.NoMemory) read = Unit {0}
+GivesRead (Err (refusal.Bad line kind)) read = read ≡ Err (line, kind)

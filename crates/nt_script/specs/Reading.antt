@@ -188,7 +188,8 @@ finish InRoutine w n = Err (n, NoEnd)
 finish _ w n = Ok (record { script = w.script; names = w.names })
 
 -- the reading goes on behind the line n, or that line is refused
-abbrev pub go_on : ℕ → Result Walk ScriptKind → (Walk → Result Input (ℕ × ScriptKind)) → Result Input (ℕ × ScriptKind)
+abbrev pub go_on : {W A : Type 0} → ℕ → Result W ScriptKind → (W → Result A (ℕ × ScriptKind)) →
+    Result A (ℕ × ScriptKind)
 go_on n (Ok w) more = more w
 go_on n (Err kind) more = Err (n, kind)
 

@@ -22,4 +22,4 @@ pub use nt_text::{ScriptKind, What10};
 pub use printing::print;
 pub use reading::{ScriptRefusal, read};
 pub use splitting::{Split, split_at};
-pub use walk::Input;
+pub use walk::{Input, Stop};

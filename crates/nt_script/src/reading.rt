@@ -4,7 +4,7 @@ ghost use Rattle.nt_text.specs.declared.lines.TheConstants.{INPUT_LIMIT};
 ghost use Rattle.nt_text.specs.Lines.{lines, fields};
 ghost use Rattle.nt_line.specs.NameLists.{no_names};
 ghost use Rattle.nt_script.specs.Reading.{names_after, names_from, start, walk, reading};
-ghost use Rattle.nt_script.specs.Gives.{GivesInput};
+ghost use Rattle.nt_script.specs.Gives.{GivesRead};
 ghost use Rattle.nt_script.specs.Sound.{IsTextOf};
 ghost use Rattle.nt_script.specs.declared.walk.Input.{Input};
 
@@ -55,7 +55,7 @@ fn names_of(alloc: Global, bytes: &[u8]) -> Result<Names, AllocError>
 /// The script of a text whose lines declare these names.
 fn read_with(alloc: Global, all: &Names, bytes: &[u8]) -> Result<Input, ScriptRefusal>
     requires { length bytes.now ≤ INPUT_LIMIT }
-    ensures { GivesInput result (walk all.now start 1 (lines bytes.now)) }
+    ensures { GivesRead result (walk all.now start 1 (lines bytes.now)) }
 {
     let mut walk = Walk::new(alloc);
     let mut lines = Lines::new(bytes);
@@ -74,7 +74,7 @@ fn read_with(alloc: Global, all: &Names, bytes: &[u8]) -> Result<Input, ScriptRe
 /// Two walks along the lines: one for the names, one for all else.
 fn read_all(alloc: Global, bytes: &[u8]) -> Result<Input, ScriptRefusal>
     requires { length bytes.now ≤ INPUT_LIMIT }
-    ensures { GivesInput result (reading bytes.now) }
+    ensures { GivesRead result (reading bytes.now) }
 {
     match names_of(alloc, bytes) {
         Ok(all) => read_with(alloc, &all, bytes),
@@ -92,10 +92,10 @@ pub fn read(alloc: Global, bytes: &[u8]) -> Result<Input, ScriptRefusal>
     ensures found { IfOk result (IsTextOf bytes.now) }
 
     // The input of a text is answered, and no other input and no bad line.
-    ensures only { (input : Input) → IsTextOf bytes.now input → GivesInput result (Ok input) }
+    ensures only { (input : Input) → IsTextOf bytes.now input → GivesRead result (Ok input) }
 
     // Which line is refused, and why.
-    ensures exact { GivesInput result (reading bytes.now) }
+    ensures exact { GivesRead result (reading bytes.now) }
 {
     read_all(alloc, bytes)
 }

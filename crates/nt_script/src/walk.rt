@@ -72,7 +72,7 @@ impl Walk {
     ghost use Rattle.nt_line.specs.Keywords.{keyword_of};
     ghost use Rattle.nt_line.specs.NameLists.{no_names, meaning};
     ghost use Rattle.nt_script.specs.Reading.{start, with_apc, with_command, with_dpc, with_thread, with_timer, keyword_at, step, act, line_step, finish};
-    ghost use Rattle.nt_script.specs.Gives.{Gives, GivesInput};
+    ghost use Rattle.nt_script.specs.Gives.{Gives, GivesRead};
 
     /// Nothing was read.
     pub fn new(alloc: Global) -> Walk
@@ -99,7 +99,7 @@ impl Walk {
 
     /// The input, where the text may end here. `line` is the number of the line behind the last.
     pub fn finish(self, line: u32) -> Result<Input, ScriptRefusal>
-        ensures { GivesInput result (finish self.place self line) }
+        ensures { GivesRead result (finish self.place self line) }
     {
         let Walk {
             script,
