@@ -10,9 +10,14 @@
 
 mod laws;
 mod printing;
+mod reading;
 mod schedules;
+mod turns;
+mod walk;
 
 pub use laws::texts_are_schedules;
 pub use nt_text::{put_field, put_number};
 pub use printing::{print_schedule, put_schedule};
+pub use reading::read_schedule;
 pub use schedules::{Schedule, turn_of, turns_of};
+pub use walk::{SchedulePlace, ScheduleWalk};
