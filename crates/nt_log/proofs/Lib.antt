@@ -1,2 +1,3 @@
 pub mod OneRow
 pub mod OneSchedule
+pub mod Looks

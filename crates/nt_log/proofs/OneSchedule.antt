@@ -59,7 +59,7 @@ no_equals (c ∷ cs) e zero d h =
 no_equals (c ∷ cs) e (suc k) d h = let p = and_parts (is_ascii_digit c) (all_ascii_digits cs) e in no_equals cs p.1 k d (omega arith)
 
 -- a class and a value are the parts of their field
-rise_parts : (c v : ℕ) → c < 2 ^ 64 → v < 2 ^ 64 → parts 61 (rise_field c v) ≡ decimal c ∷ decimal v ∷ []
+pub rise_parts : (c v : ℕ) → c < 2 ^ 64 → v < 2 ^ 64 → parts 61 (rise_field c v) ≡ decimal c ∷ decimal v ∷ []
 rise_parts c v lc lv =
     slice_split_at (is_byte 61) (decimal c) 61 (decimal v) (no_equals (decimal c) (digits_decimal own c lc)) refl
     ∙ ap (λ (r : List (List ℕ)). decimal c ∷ r) (slice_split_none (is_byte 61) (decimal v) (no_equals (decimal v) (digits_decimal own v lv)))
@@ -71,7 +71,7 @@ rise_one c v d w lc lv ld lw e =
     let second : decimal v ≡ decimal w = cc in
     (decimal_one c d lc ld first, decimal_one v w lv lw second)
 
-abbrev AreWords : List ℕ → Type 0
+abbrev pub AreWords : List ℕ → Type 0
 AreWords vs = AllByRecursion (λ v. v ≤ 18446744073709551615) vs
 
 -- a row of values of greater classes does not begin with this one

@@ -46,7 +46,7 @@ first_keyword : (f : List ℕ) (w : Keyword) → keyword_of f ≡ Some w → f �
 unfolding keyword_of
 first_keyword f w e = same_text f (text_of w) (find_passes (λ w. bytes_eq f (text_of w)) KEYWORDS w e)
 
-counted_ok : (there wanted : ℕ) (b : Bool) → counted there wanted ≡ Ok b → there ≡ wanted
+pub counted_ok : (there wanted : ℕ) (b : Bool) → counted there wanted ≡ Ok b → there ≡ wanted
 counted_ok there wanted b e = go (nat_lt there wanted) (nat_lt wanted there) refl refl e
   where
     go : (x y : Bool) → nat_lt there wanted ≡ x → nat_lt wanted there ≡ y → cond x (Err MissingField) (cond y (Err ExtraField) (Ok true)) ≡ Ok b → there

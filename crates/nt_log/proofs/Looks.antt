@@ -1,0 +1,250 @@
+-- The values of a look: what is read is written so, and what is written so is read.
+use Rattle.std.proofs.Common.{◌≡◌, ◌∙◌, ℕ, zero, suc, ◌+◌, ◌-◌, ◌≤◌, Bool, true, false, List, [], ◌∷◌, ◌++◌, length, set, take, drop, replicate, Option, Some, None, Result, Ok, refl, sym, ap, subst, append_assoc, arith, lit<}
+use Rattle.std.specs.Prelude.{decimal, ◌&&◌, ◌||◌, ◌==◌, nat_le, not, if◌then◌else◌}
+use Rattle.std.specs.List.{join_with_byte, list_any, position}
+use Rattle.std.proofs.lemmas.Bool.{and_from, and_parts, eqb-true, leb-true, le-leb}
+use Rattle.std.proofs.lemmas.List.{length-append, set-append_right}
+use Rattle.std.proofs.lemmas.List.Splits.{join_with_byte-slice_split, length-slice_split}
+use Rattle.nt_text.specs.declared.kind.ScriptKind.{ScriptKind}
+use Rattle.nt_text.specs.declared.kind.ScriptKind.TheVariants.{BadNumber}
+use Rattle.nt_text.specs.Lines.{Row, is_byte, parts}
+use Rattle.nt_text.proofs.Cuts.{cut_found, cut_missed}
+use Rattle.nt_event.specs.Classes.{is_used_class}
+use Rattle.nt_line.specs.Results.{◌>>=◌, ok_if}
+use Rattle.nt_line.specs.Fields.{read_number}
+use Rattle.nt_line.proofs.Results.{bind_ok, ok_if_ok}
+use Rattle.nt_line.proofs.FieldTexts.{Takes, level_of_takes, number_again, number_takes}
+use Rattle.nt_log.specs.Schedules.{rise_field, rise_in_classes, rises_row}
+use Rattle.nt_log.specs.Reading.{read_class, read_rise, read_value, rise_at, rises_from}
+use Rattle.nt_log.proofs.OneSchedule.{AreWords, rise_parts}
+
+abbrev ok : {A : Type 0} → A → Result A ScriptKind
+ok x = Ok x
+
+ok_is : {A : Type 0} (x y : A) → ok x ≡ Ok y → x ≡ y
+ok_is x y e = cc
+
+-- ---- a class, and a value
+
+abbrev is_class : ℕ → ℕ → Bool
+is_class least class = nat_le least class && is_used_class class
+
+class_takes : (least : ℕ) → Takes (read_class least) decimal (λ c. (c ≤ 15) × (is_class least c ≡ true))
+class_takes least = level_of_takes (is_class least)
+
+class_again : (least c : ℕ) → c ≤ 15 → is_class least c ≡ true → read_class least (decimal c) ≡ Ok c
+class_again least c le used = rw (number_again 15 c (lit< tt) le, used) refl
+
+value_takes : Takes read_value decimal (λ v. (v ≤ 18446744073709551615) × ((v == 0) ≡ false))
+value_takes = record { shown = λ f v e. (go f v e).0; fits = λ f v e. (go f v e).1 }
+  where
+    negated : (b : Bool) → not b ≡ true → b ≡ false
+    negated true e = absurd cc
+    negated false e = refl
+
+    go : (f : List ℕ) (v : ℕ) → read_value f ≡ Ok v → (f ≡ decimal v) × ((v ≤ 18446744073709551615) × ((v == 0) ≡ false))
+    go f v e =
+        let b = bind_ok (read_number 18446744073709551615 f) (λ n. ok_if (not (n == 0)) n BadNumber) v e in
+        let o = ok_if_ok (not (b.value == 0)) b.value BadNumber v b.then in
+        let t = number_takes 18446744073709551615 (lit< tt) in
+        subst (λ (n : ℕ). (f ≡ decimal n) × ((n ≤ 18446744073709551615) × ((n == 0) ≡ false))) o.1
+        (t.shown f b.value b.is, (t.fits f b.value b.is, negated (b.value == 0) o.0))
+
+value_again : (v : ℕ) → v ≤ 18446744073709551615 → (v == 0) ≡ false → read_value (decimal v) ≡ Ok v
+value_again v le some = rw (number_again 18446744073709551615 v (lit< tt) le, some) refl
+
+-- ---- the field of a class and its value
+
+join_more : (c : ℕ) (f : List ℕ) (ps : List (List ℕ)) → 1 ≤ length ps → join_with_byte c (f ∷ ps) ≡ f ++ c ∷ join_with_byte c ps
+join_more c f [] h = absurd (omega (arith, h))
+join_more c f (p ∷ ps) h = refl
+
+has_parts : (c : ℕ) (xs : List ℕ) → 1 ≤ length (parts c xs)
+has_parts c xs = let e = length-slice_split (is_byte c) xs in omega (arith, e)
+
+cut_at : (f : List ℕ) (i : ℕ) → position (is_byte 61) f ≡ Some i → f ≡ take i f ++ 61 ∷ drop (i + 1) f
+cut_at f i e =
+    sym (join_with_byte-slice_split 61 f) ∙ ap (join_with_byte 61) (cut_found 61 f i e)
+    ∙ join_more 61 (take i f) (parts 61 (drop (i + 1) f)) (has_parts 61 (drop (i + 1) f))
+    ∙ ap (λ (r : List ℕ). take i f ++ 61 ∷ r) (join_with_byte-slice_split 61 (drop (i + 1) f))
+
+-- a field that was read as a class, which is not below this one, and its value
+record Risen (least : ℕ) (f : List ℕ) (r : ℕ × ℕ) : Type 0 where
+  shown : f ≡ rise_field r.0 r.1
+  low : least ≤ r.0
+  high : r.0 ≤ 15
+  used : is_used_class r.0 ≡ true
+  some : (r.1 == 0) ≡ false
+  range : r.1 ≤ 18446744073709551615
+
+rise_takes : (least : ℕ) (f : List ℕ) (r : ℕ × ℕ) → read_rise least f ≡ Ok r → Risen least f r
+rise_takes least f r e = go (position (is_byte 61) f) refl e
+  where
+    go : (o : Option ℕ) → position (is_byte 61) f ≡ o → rise_at least f o ≡ Ok r → Risen least f r
+    go None is e = absurd cc
+    go (Some i) is e =
+        let a = take i f in
+        let z = drop (i + 1) f in
+        let b = bind_ok (read_class least a) (λ c. read_value z >>= λ v. ok (c, v)) r e in
+        let d = bind_ok (read_value z) (λ v. ok (b.value, v)) r b.then in
+        let class = (class_takes least).fits a b.value b.is in
+        let both = and_parts (nat_le least b.value) (is_used_class b.value) class.1 in
+        let value = value_takes.fits z d.value d.is in
+        subst (Risen least f) (ok_is (b.value, d.value) r d.then) (record {
+          shown = cut_at f i is ∙ ap (λ (x : List ℕ). x ++ 61 ∷ z) ((class_takes least).shown a b.value b.is)
+              ∙ ap (λ (x : List ℕ). decimal b.value ++ 61 ∷ x) (value_takes.shown z d.value d.is);
+          low = leb-true least b.value both.0;
+          high = class.0;
+          used = both.1;
+          some = value.1;
+          range = value.0;
+        })
+
+abbrev rise : ℕ → ℕ → Result (ℕ × ℕ) ScriptKind
+rise class value = Ok (class, value)
+
+both_again : (least : ℕ) (a z : List ℕ) (c v : ℕ) → read_class least a ≡ Ok c → read_value z ≡ Ok v →
+    (read_class least a >>= λ class. read_value z >>= rise class) ≡ rise c v
+both_again least a z c v h k = rw (h, k) refl
+
+rise_again : (least c v : ℕ) → c ≤ 15 → least ≤ c → is_used_class c ≡ true → v ≤ 18446744073709551615 → (v == 0) ≡ false →
+    read_rise least (rise_field c v) ≡ Ok (c, v)
+rise_again least c v high low used range some = go (position (is_byte 61) (rise_field c v)) refl
+  where
+    cut : parts 61 (rise_field c v) ≡ decimal c ∷ decimal v ∷ []
+    cut = rise_parts c v (omega (arith, high)) (omega (arith, range))
+
+    go : (o : Option ℕ) → position (is_byte 61) (rise_field c v) ≡ o → rise_at least (rise_field c v) o ≡ Ok (c, v)
+    go None is =
+        let one : rise_field c v ∷ [] ≡ decimal c ∷ decimal v ∷ [] = sym (cut_missed 61 (rise_field c v) is) ∙ cut in
+        absurd cc
+    go (Some i) is =
+        let a = take i (rise_field c v) in
+        let z = drop (i + 1) (rise_field c v) in
+        let two : a ∷ parts 61 z ≡ decimal c ∷ decimal v ∷ [] = sym (cut_found 61 (rise_field c v) i is) ∙ cut in
+        let head : a ≡ decimal c = cc in
+        let tail : parts 61 z ≡ decimal v ∷ [] = cc in
+        let last : z ≡ decimal v = sym (join_with_byte-slice_split 61 z) ∙ ap (join_with_byte 61) tail in
+        both_again least a z c v
+        (ap (read_class least) head ∙ class_again least c high (and_from (nat_le least c) (is_used_class c) (le-leb least c low) used))
+        (ap read_value last ∙ value_again v range some)
+
+-- ---- all values
+
+abbrev zeros : ℕ → List ℕ
+zeros n = replicate n 0
+
+one_more : (xs : List ℕ) (x n : ℕ) → length xs ≡ n → length (xs ++ x ∷ []) ≡ n + 1
+one_more xs x n len = length-append xs (x ∷ []) ∙ ap (λ (k : ℕ). k + 1) len
+
+-- fields that were read as the values of the classes from this one on, behind those of the classes before
+pub record Rising (before : List ℕ) (n least : ℕ) (row : Row) (out : List ℕ) : Type 0 where
+  pub tail : List ℕ
+  pub is : out ≡ before ++ tail
+  pub size : length tail ≡ n
+  pub row_is : row ≡ rises_row least tail
+  pub used : rise_in_classes least tail ≡ true
+  pub range : AreWords tail
+  pub some : 1 ≤ length row → list_any (λ v. not (v == 0)) tail ≡ true
+
+-- the class does not rise
+none_first : (before : List ℕ) (n least : ℕ) (row : Row) (out : List ℕ) → Rising (before ++ 0 ∷ []) n (least + 1) row out → Rising before (suc n) least row out
+none_first before n least row out r = record {
+  tail = 0 ∷ r.tail;
+  is = r.is ∙ append_assoc before (0 ∷ []) r.tail;
+  size = ap (λ (k : ℕ). suc k) r.size;
+  row_is = r.row_is;
+  used = r.used;
+  range = (omega arith, r.range);
+  some = r.some;
+}
+
+-- the class rises to this value
+value_first : (before : List ℕ) (n least value : ℕ) (f : List ℕ) (row : Row) (out : List ℕ) → f ≡ rise_field least value → is_used_class least ≡ true →
+    (value == 0) ≡ false → value ≤ 18446744073709551615 → Rising (before ++ value ∷ []) n (least + 1) row out → Rising before (suc n) least (f ∷ row) out
+value_first before n least value f row out shown used some range r = record {
+  tail = value ∷ r.tail;
+  is = r.is ∙ append_assoc before (value ∷ []) r.tail;
+  size = ap (λ (k : ℕ). suc k) r.size;
+  row_is = rw (some, shown) (ap (λ (fs : Row). rise_field least value ∷ fs) r.row_is);
+  used = rw (some, used) r.used;
+  range = (range, r.range);
+  some = λ h. rw some refl;
+}
+
+nothing_rises : (before : List ℕ) (n least : ℕ) (out : List ℕ) → out ≡ before ++ zeros n → Rising before n least [] out
+nothing_rises before zero least out e = record {
+  tail = [];
+  is = e;
+  size = refl;
+  row_is = refl;
+  used = refl;
+  range = tt;
+  some = λ h. absurd (omega (arith, h));
+}
+nothing_rises before (suc n) least out e =
+    none_first before n least [] out (nothing_rises (before ++ 0 ∷ []) n (least + 1) out (e ∙ sym (append_assoc before (0 ∷ []) (zeros n))))
+
+set_here : (before : List ℕ) (c v : ℕ) (more : List ℕ) → length before ≡ c → set (before ++ 0 ∷ more) c v ≡ (before ++ v ∷ []) ++ more
+set_here before c v more len =
+    let none : c - c ≡ 0 = omega arith in
+    set-append_right before (0 ∷ more) c c v len (omega arith)
+    ∙ ap (λ (k : ℕ). before ++ set (0 ∷ more) k v) none
+    ∙ sym (append_assoc before (v ∷ []) more)
+
+-- the next field is that of the class that stands this far behind
+at_class : (far : ℕ) (before : List ℕ) (n least class value : ℕ) (f : List ℕ) (row : Row) (out : List ℕ) → class ≡ least + far → length before ≡ least →
+    least + n ≡ 16 → class ≤ 15 → f ≡ rise_field class value → is_used_class class ≡ true → (value == 0) ≡ false → value ≤ 18446744073709551615 →
+    ((before : List ℕ) (n : ℕ) → length before ≡ class + 1 → class + 1 + n ≡ 16 → rises_from (before ++ zeros n) (class + 1) row ≡ Ok out →
+    Rising before n (class + 1) row out) →
+    rises_from (set (before ++ zeros n) class value) (class + 1) row ≡ Ok out → Rising before n least (f ∷ row) out
+at_class far before zero least class value f row out is len all high shown used some range more e = absurd (omega (arith, all, high, is))
+at_class zero before (suc n) least class value f row out is len all high shown used some range more e =
+    let here : class ≡ least = omega (arith, is) in
+    let now : rises_from ((before ++ value ∷ []) ++ zeros n) (class + 1) row ≡ Ok out =
+    ap (λ (vs : List ℕ). rises_from vs (class + 1) row) (sym (set_here before class value (zeros n) (omega (arith, len, here)))) ∙ e in
+    let grown : length (before ++ value ∷ []) ≡ class + 1 = one_more before value class (omega (arith, len, here)) in
+    let r = more (before ++ value ∷ []) n grown (omega (arith, all, here)) now in
+    subst (λ (k : ℕ). Rising before (suc n) k (f ∷ row) out) here (value_first before n class value f row out shown used some range r)
+at_class (suc far) before (suc n) least class value f row out is len all high shown used some range more e =
+    let grown : length (before ++ 0 ∷ []) ≡ least + 1 = one_more before 0 least len in
+    let now : rises_from (set ((before ++ 0 ∷ []) ++ zeros n) class value) (class + 1) row ≡ Ok out =
+    ap (λ (vs : List ℕ). rises_from (set vs class value) (class + 1) row) (append_assoc before (0 ∷ []) (zeros n)) ∙ e in
+    none_first before n least (f ∷ row) out
+    (at_class far (before ++ 0 ∷ []) n (least + 1) class value f row out (omega (arith, is)) grown (omega (arith, all)) high shown used some range more now)
+
+pub rises_take : (row : Row) (before : List ℕ) (n least : ℕ) (out : List ℕ) → length before ≡ least → least + n ≡ 16 →
+    rises_from (before ++ zeros n) least row ≡ Ok out → Rising before n least row out
+rises_take [] before n least out len all e = nothing_rises before n least out (sym (ok_is (before ++ zeros n) out e))
+rises_take (f ∷ row) before n least out len all e =
+    let b = bind_ok (read_rise least f) (λ (r : ℕ × ℕ). rises_from (set (before ++ zeros n) r.0 r.1) (r.0 + 1) row) out e in
+    let t = rise_takes least f b.value b.is in
+    let low = t.low in
+    at_class (b.value.0 - least) before n least b.value.0 b.value.1 f row out (omega (arith, low)) len all t.high t.shown t.used t.some t.range
+    (λ other k l m h. rises_take row other k (b.value.0 + 1) out l m h) b.then
+
+pub rises_again : (vs before : List ℕ) (least class : ℕ) → length before ≡ class → least ≤ class → class + length vs ≡ 16 → rise_in_classes class vs ≡ true →
+    AreWords vs → rises_from (before ++ zeros (length vs)) least (rises_row class vs) ≡ Ok (before ++ vs)
+rises_again [] before least class len low all used range = refl
+rises_again (v ∷ vs) before least class len low all used range =
+    let both = and_parts (v == 0 || is_used_class class) (rise_in_classes (class + 1) vs) used in
+    let next : (w k : ℕ) → k ≤ class + 1 → rises_from ((before ++ w ∷ []) ++ zeros (length vs)) k (rises_row (class + 1) vs) ≡ Ok ((before ++ w ∷ []) ++ vs) =
+    λ w k le. rises_again vs (before ++ w ∷ []) k (class + 1) (one_more before w class len) le (omega (arith, all)) both.1 range.1 in
+    go next both.0 (v == 0) refl
+  where
+    used_here : (b : Bool) → b ≡ false → (b || is_used_class class) ≡ true → is_used_class class ≡ true
+    used_here true none e = absurd cc
+    used_here false none e = e
+
+    go : ((w k : ℕ) → k ≤ class + 1 → rises_from ((before ++ w ∷ []) ++ zeros (length vs)) k (rises_row (class + 1) vs) ≡ Ok ((before ++ w ∷ []) ++ vs)) →
+        (v == 0 || is_used_class class) ≡ true → (b : Bool) → (v == 0) ≡ b →
+        rises_from (before ++ zeros (suc (length vs))) least (if b then rises_row (class + 1) vs else rise_field class v ∷ rises_row (class + 1) vs)
+        ≡ Ok (before ++ v ∷ vs)
+    go next h true is =
+        let none : v ≡ 0 = eqb-true v 0 is in
+        ap (λ (xs : List ℕ). rises_from xs least (rises_row (class + 1) vs)) (sym (append_assoc before (0 ∷ []) (zeros (length vs))))
+        ∙ next 0 least (omega (arith, low)) ∙ ap ok (append_assoc before (0 ∷ []) vs ∙ ap (λ (w : ℕ). before ++ w ∷ vs) (sym none))
+    go next h false is =
+        let here = rise_again least class v (omega (arith, all)) low (used_here (v == 0) is h) range.0 is in
+        rw here (ap (λ (xs : List ℕ). rises_from xs (class + 1) (rises_row (class + 1) vs)) (set_here before class v (zeros (length vs)) len)
+        ∙ next v (class + 1) (omega arith) ∙ ap ok (append_assoc before (v ∷ []) vs))
