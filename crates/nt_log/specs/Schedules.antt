@@ -10,7 +10,7 @@ use Rattle.nt_event.specs.declared.events.Turn.TheVariants.{Next, Look, Switch}
 use Rattle.nt_event.specs.declared.scripts.Script.{Script}
 use Rattle.nt_event.specs.Classes.{is_used_class}
 use Rattle.nt_event.specs.Script.{has_thread}
-use Rattle.nt_event.specs.Step.{turn_of}
+use Rattle.nt_event.specs.Step.{cpu_at, turn_of}
 use Rattle.nt_script.specs.declared.walk.Input.{Input}
 use Rattle.nt_line.specs.NameLists.{NameLists, show_thread}
 use Rattle.nt_script.specs.Sound.{IsSound}
@@ -49,6 +49,10 @@ abbrev pub TurnIsPlain : Script → Turn → Type 0
 TurnIsPlain s (Next p) = p.0 ≤ 63
 TurnIsPlain s (Look p rises) = (p.0 ≤ 63) × AreRises rises
 TurnIsPlain s (Switch p t) = (p.0 ≤ 63) × (t.0 < length s.threads)
+
+-- each turn is of a processor below this
+abbrev pub AreBelow : ℕ → List Turn → Type 0
+AreBelow cpus turns = AllByRecursion (λ t. (cpu_at t).0 < cpus) turns
 
 -- a schedule that a text may have: each switch takes a thread of the script, processors are at most 63, looks have
 -- values in classes only, and there are not too many turns. Profile.

@@ -15,7 +15,7 @@ mod schedules;
 mod turns;
 mod walk;
 
-pub use laws::texts_are_schedules;
+pub use laws::{schedules_both_ways, texts_are_schedules};
 pub use nt_text::{put_field, put_number};
 pub use printing::{print_schedule, put_schedule};
 pub use reading::read_schedule;

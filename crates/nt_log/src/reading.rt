@@ -1,9 +1,12 @@
 //! Reading a whole schedule.
-ghost use Rattle.std.specs.Prelude.{◌≡◌, ◌+◌, ◌≤◌, length};
+ghost use Rattle.std.specs.Prelude.{◌+◌, ◌≤◌, length, IfOk, Ok};
 ghost use Rattle.nt_text.specs.declared.lines.TheConstants.{INPUT_LIMIT};
 ghost use Rattle.nt_event.specs.declared.limits.TheConstants.{CPUS};
 ghost use Rattle.nt_script.specs.Gives.{GivesRead};
+ghost use Rattle.nt_script.specs.Sound.{IsSound};
+ghost use Rattle.nt_log.specs.declared.schedules.Schedule.{Schedule};
 ghost use Rattle.nt_log.specs.Reading.{reading};
+ghost use Rattle.nt_log.specs.Schedules.{IsTextOf};
 
 use crate::schedules::Schedule;
 use crate::walk::ScheduleWalk;
@@ -12,8 +15,8 @@ use nt_script::{Input, ScriptRefusal, Stop};
 use nt_text::Lines;
 use std::alloc::Global;
 
-/// The schedule whose text the bytes are, for the script of an input, or the least bad line and what is wrong with it.
-pub fn read_schedule(
+/// What the lines of a text say, of which the first has this number.
+fn read_lines(
     alloc: Global,
     input: &Input,
     bytes: &[u8],
@@ -21,7 +24,7 @@ pub fn read_schedule(
 ) -> Result<Schedule, ScriptRefusal>
     requires bytes { length bytes.now ≤ INPUT_LIMIT }
     requires line { (1 ≤ first_line) × (first_line ≤ INPUT_LIMIT + 1) }
-    ensures exact { GivesRead result (reading CPUS input.now.names first_line bytes.now) }
+    ensures { GivesRead result (reading CPUS input.now.names first_line bytes.now) }
 {
     let mut walk = ScheduleWalk::new(alloc);
     let mut lines = Lines::new(bytes);
@@ -35,4 +38,32 @@ pub fn read_schedule(
         at += 1;
     }
     walk.finish(at)
+}
+
+/// The schedule whose text the bytes are, for the script of an input, or the least bad line and what is wrong with it.
+///
+/// `first_line` is the number of the first line of the bytes, which stand behind a script. Processor numbers are at most 63.
+/// Ok exactly where the bytes are the text of a schedule, with that schedule; `Bad` else, of which [`ScheduleWalk::line`] has
+/// the order of tests. Where no line is bad and none is `done`, it is NoEnd at the line behind the last; so empty input is
+/// NoEnd at the first line (profile). `NoMemory` may come at any call.
+pub fn read_schedule(
+    alloc: Global,
+    input: &Input,
+    bytes: &[u8],
+    first_line: u32,
+) -> Result<Schedule, ScriptRefusal>
+    requires sound { IsSound input.now }
+    requires bytes { length bytes.now ≤ INPUT_LIMIT }
+    requires line { (1 ≤ first_line) × (first_line ≤ INPUT_LIMIT + 1) }
+
+    // What is answered is a schedule of the input's script, and the bytes are its text.
+    ensures found { IfOk result (IsTextOf bytes.now input.now) }
+
+    // The schedule of a text is answered, and no other schedule and no bad line.
+    ensures only { (s : Schedule) → IsTextOf bytes.now input.now s → GivesRead result (Ok s) }
+
+    // Which line is refused, and why.
+    ensures exact { GivesRead result (reading CPUS input.now.names first_line bytes.now) }
+{
+    read_lines(alloc, input, bytes, first_line)
 }

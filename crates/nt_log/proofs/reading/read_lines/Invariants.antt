@@ -3,7 +3,7 @@ use Rattle.nt_text.specs.declared.lines.TheConstants.{INPUT_LIMIT}
 use Rattle.nt_text.specs.Lines.{lines}
 use Rattle.nt_event.specs.declared.limits.TheConstants.{CPUS}
 use Rattle.nt_log.specs.Reading.{start, walk}
-use Rattle.nt_log.proofs.reading.read_schedule.Given as goal
+use Rattle.nt_log.proofs.reading.read_lines.Given as goal
 
 abbrev pub invariant-loop-line : goal.invariant-loop-line
 invariant-loop-line l = record {

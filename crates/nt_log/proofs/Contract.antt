@@ -1,0 +1,47 @@
+-- What the contracts say, from the two laws.
+use Rattle.std.proofs.Common.{◌≡◌, ◌∙◌, ℕ, ◌<◌, List, [], ◌∷◌, map, Result, Ok, Err, ap, arith}
+use Rattle.std.specs.Prelude.{IfOk}
+use Rattle.std.specs.List.{AllByRecursion}
+use Rattle.nt_text.specs.Lines.{line_of, lines}
+use Rattle.nt_text.proofs.Rows.{lines_again, lines_takes}
+use Rattle.nt_event.specs.declared.events.Turn.{Turn}
+use Rattle.nt_event.specs.declared.events.Turn.TheVariants.{Next, Look, Switch}
+use Rattle.nt_event.specs.declared.limits.TheConstants.{CPUS}
+use Rattle.nt_event.specs.declared.scripts.Script.{Script}
+use Rattle.nt_event.specs.Step.{cpu_at}
+use Rattle.nt_script.specs.declared.reading.ScriptRefusal.{ScriptRefusal}
+use Rattle.nt_script.specs.declared.walk.Input.{Input}
+use Rattle.nt_script.specs.Gives.{GivesRead}
+use Rattle.nt_script.specs.Sound.{IsSound}
+use Rattle.nt_log.specs.declared.schedules.Schedule.{Schedule}
+use Rattle.nt_log.specs.Reading.{reading, start, walk}
+use Rattle.nt_log.specs.Schedules.{AreBelow, IsTextOf, TurnIsPlain, schedule_rows}
+use Rattle.nt_log.proofs.Both.{walk_again, walk_takes}
+use Rattle.nt_log.proofs.OneSchedule.{schedule_clean}
+
+plain_below : (s : Script) (t : Turn) → TurnIsPlain s t → (cpu_at t).0 < CPUS
+plain_below s (Next p) h = omega (arith, h)
+plain_below s (Look p r) h = let le = h.0 in omega (arith, le)
+plain_below s (Switch p t) h = let le = h.0 in omega (arith, le)
+
+all_below : (s : Script) (ts : List Turn) → AllByRecursion (TurnIsPlain s) ts → AreBelow CPUS ts
+all_below s [] h = tt
+all_below s (t ∷ ts) h = (plain_below s t h.0, all_below s ts h.1)
+
+-- what is read is a schedule, and the bytes are its text
+schedule_is_text : (bytes : List ℕ) (input : Input) (n : ℕ) (s : Schedule) → IsSound input → reading CPUS input.names n bytes ≡ Ok s → IsTextOf bytes input s
+schedule_is_text bytes input n s sound e =
+    let t = walk_takes CPUS n input (lines bytes) s (omega arith) sound e in
+    record { sound = sound; plain = t.1; text = lines_takes bytes (schedule_rows input.names s) t.0 }
+
+-- the text of a schedule is read as the schedule
+pub text_is_read : (bytes : List ℕ) (input : Input) (n : ℕ) (s : Schedule) → IsTextOf bytes input s → reading CPUS input.names n bytes ≡ Ok s
+text_is_read bytes input n s h =
+    let rows = schedule_rows input.names s in
+    let lines_are : lines bytes ≡ map line_of rows = ap lines h.text ∙ lines_again rows (schedule_clean input h.sound s h.plain) in
+    ap (walk CPUS input.names start n) lines_are ∙ walk_again CPUS n input s h.sound h.plain (all_below input.script s.list h.plain.turns)
+
+pub is_found : (bytes : List ℕ) (input : Input) (n : ℕ) (r : Result Schedule ScriptRefusal) → IsSound input → GivesRead r (reading CPUS input.names n bytes) →
+    IfOk r (IsTextOf bytes input)
+is_found bytes input n (Ok s) sound h = schedule_is_text bytes input n s sound h
+is_found bytes input n (Err e) sound h = tt

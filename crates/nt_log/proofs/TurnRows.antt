@@ -1,0 +1,172 @@
+-- The line of a turn: what is read is written so, and what is written so is read.
+use Rattle.std.proofs.Common.{◌≡◌, ◌∙◌, ℕ, ◌+◌, ◌<◌, ◌≤◌, Bool, true, false, List, [], ◌∷◌, length, replicate, Result, Ok, Err, refl, sym, ap, subst, arith, lit<}
+use Rattle.std.specs.Prelude.{codes, not, ◌||◌, ◌==◌, nat_lt, if◌then◌else◌}
+use Rattle.std.specs.List.{list_any}
+use Rattle.std.specs.Str.{bytes_eq}
+use Rattle.std.proofs.lemmas.Bool.{le-ltb, lt-ltb, ltb-false}
+use Rattle.nt_text.specs.declared.kind.ScriptKind.{ScriptKind}
+use Rattle.nt_text.specs.declared.kind.ScriptKind.TheVariants.{MissingField, UnknownWord}
+use Rattle.nt_text.specs.Lines.{Row, first, rest}
+use Rattle.nt_text.proofs.Decimals.{number_up_to_again}
+use Rattle.nt_event.specs.declared.events.Rises.{Rises}
+use Rattle.nt_event.specs.declared.events.Turn.{Turn}
+use Rattle.nt_event.specs.declared.events.Turn.TheVariants.{Next, Look, Switch}
+use Rattle.nt_event.specs.declared.limits.TheConstants.{CPUS}
+use Rattle.nt_event.specs.declared.numbers.CpuNo.{CpuNo}
+use Rattle.nt_event.specs.declared.numbers.ThreadNo.{ThreadNo}
+use Rattle.nt_event.specs.Step.{cpu_at}
+use Rattle.nt_line.specs.Commands.{read1, read2}
+use Rattle.nt_line.specs.Fields.{read_cpu, read_thread}
+use Rattle.nt_line.specs.NameLists.{show_thread}
+use Rattle.nt_line.specs.Results.{◌>>=◌}
+use Rattle.nt_line.specs.Rows.{show_cpu}
+use Rattle.nt_line.proofs.FieldTexts.{cpu_takes, same_text}
+use Rattle.nt_line.proofs.Found.{are_read}
+use Rattle.nt_line.proofs.Results.{bind_ok}
+use Rattle.nt_line.proofs.Spelled.{takes1, takes2}
+use Rattle.nt_line.proofs.UsedNames.{thread_takes}
+use Rattle.nt_script.specs.declared.walk.Input.{Input}
+use Rattle.nt_script.specs.Reading.{counted}
+use Rattle.nt_script.specs.Sound.{IsSound}
+use Rattle.nt_script.proofs.Soundness.{sound_fits}
+use Rattle.nt_script.proofs.Taken.{counted_ok}
+use Rattle.nt_log.specs.Schedules.{AreRises, TurnIsPlain, rise_field, rises_row, turn_fields, turn_row, turn_word}
+use Rattle.nt_log.specs.Reading.{read_look, read_next, read_rises, read_switch, read_turn, rises_from}
+use Rattle.nt_log.proofs.Looks.{rises_again, rises_take}
+
+abbrev ok : {A : Type 0} → A → Result A ScriptKind
+ok x = Ok x
+
+ok_is : {A : Type 0} (x y : A) → ok x ≡ Ok y → x ≡ y
+ok_is x y e = cc
+
+-- ---- what is read
+
+-- the word and the fields of a line are those of a turn that a text may have
+record Says (cpus : ℕ) (input : Input) (word : List ℕ) (args : Row) (t : Turn) : Type 0 where
+  word_is : word ≡ turn_word t
+  fields_are : args ≡ turn_fields input.names t
+  plain : TurnIsPlain input.script t
+  below : (cpu_at t).0 < cpus
+
+next_takes : (cpus : ℕ) (input : Input) → cpus ≤ CPUS → IsSound input → (args : Row) (t : Turn) → read_next cpus args ≡ Ok t → Says cpus input (codes "next") args t
+next_takes cpus input most sound args t e =
+    let k = bind_ok (counted (length args) 1) (λ (b : Bool). read1 (read_cpu cpus) Next args) t e in
+    takes1 (cpu_takes cpus) (Says cpus input (codes "next")) Next
+    (λ p h. record { word_is = refl; fields_are = refl; plain = omega (arith, h, most); below = h }) args t k.then (counted_ok (length args) 1 k.value k.is)
+
+switch_takes : (cpus : ℕ) (input : Input) → cpus ≤ CPUS → IsSound input → (args : Row) (t : Turn) → read_switch cpus input.names args ≡ Ok t →
+    Says cpus input (codes "switch") args t
+switch_takes cpus input most sound args t e =
+    let fit = sound_fits input sound in
+    let len = fit.thread_count in
+    let k = bind_ok (counted (length args) 2) (λ (b : Bool). read2 (read_cpu cpus) (read_thread input.names) Switch args) t e in
+    takes2 (cpu_takes cpus) (thread_takes input.names fit.few) (Says cpus input (codes "switch")) Switch
+    (λ p u h g. record { word_is = refl; fields_are = refl; plain = (omega (arith, h, most), omega (arith, g, len)); below = h }) args t k.then
+    (counted_ok (length args) 2 k.value k.is)
+
+two_there : (args : Row) → 2 ≤ length args → (args ≡ first args ∷ rest args) × (1 ≤ length (rest args))
+two_there [] h = absurd (omega (arith, h))
+two_there (a ∷ []) h = absurd (omega (arith, h))
+two_there (a ∷ b ∷ args) h = (refl, omega arith)
+
+look_takes : (cpus : ℕ) (input : Input) → cpus ≤ CPUS → IsSound input → (args : Row) (t : Turn) → read_look cpus args ≡ Ok t → Says cpus input (codes "look") args t
+look_takes cpus input most sound args t e = go (nat_lt (length args) 2) refl e
+  where
+    go : (b : Bool) → nat_lt (length args) 2 ≡ b →
+        (if b then Err MissingField else (read_cpu cpus (first args) >>= λ p. read_rises (rest args) >>= λ r. ok (Look p r))) ≡ Ok t →
+        Says cpus input (codes "look") args t
+    go true few e = absurd cc
+    go false few e =
+        let there = two_there args (ltb-false (length args) 2 few) in
+        let p = bind_ok (read_cpu cpus (first args)) (λ p. read_rises (rest args) >>= λ r. ok (Look p r)) t e in
+        let r = bind_ok (read_rises (rest args)) (λ r. ok (Look p.value r)) t p.then in
+        let v = bind_ok (rises_from (replicate 16 0) 0 (rest args)) (λ (vs : List ℕ). ok {A = Rises} (record { value = vs })) r.value r.is in
+        let risen = rises_take (rest args) [] 16 0 v.value refl refl v.is in
+        let values : v.value ≡ risen.tail = risen.is in
+        let all : AreRises (record { value = v.value }) = record {
+          classes = ap length values ∙ risen.size;
+          some = ap (list_any (λ n. not (n == 0))) values ∙ risen.some there.1;
+          used = rw values risen.used;
+          range = rw values risen.range;
+        } in
+        let below = (cpu_takes cpus).fits (first args) p.value p.is in
+        let fields : args ≡ show_cpu p.value ∷ rises_row 0 v.value =
+        there.0 ∙ ap (λ (f : List ℕ). f ∷ rest args) ((cpu_takes cpus).shown (first args) p.value p.is)
+        ∙ ap (λ (fs : Row). show_cpu p.value ∷ fs) (risen.row_is ∙ ap (rises_row 0) (sym values)) in
+        let look : Says cpus input (codes "look") args (Look p.value (record { value = v.value })) =
+        record { word_is = refl; fields_are = fields; plain = (omega (arith, below, most), all); below = below } in
+        subst (λ (t : Turn). Says cpus input (codes "look") args t)
+        (ap (λ (r : Rises). Look p.value r) (ok_is {A = Rises} (record { value = v.value }) r.value v.then) ∙ ok_is (Look p.value r.value) t r.then) look
+
+-- a row that was read is that of a turn that a text may have
+pub record TurnTaken (cpus : ℕ) (input : Input) (row : Row) (t : Turn) : Type 0 where
+  pub row_is : row ≡ turn_row input.names t
+  pub plain : TurnIsPlain input.script t
+  pub below : (cpu_at t).0 < cpus
+
+pub turn_takes : (cpus : ℕ) (input : Input) → cpus ≤ CPUS → IsSound input → (f : List ℕ) (args : Row) (t : Turn) → read_turn cpus input.names (f ∷ args) ≡ Ok t →
+    TurnTaken cpus input (f ∷ args) t
+turn_takes cpus input most sound f args t e =
+    go (bytes_eq f (codes "next")) (bytes_eq f (codes "switch")) (bytes_eq f (codes "look")) refl refl refl e
+  where
+    said : (word : List ℕ) → f ≡ word → Says cpus input word args t → TurnTaken cpus input (f ∷ args) t
+    said word is s = record {
+      row_is = ap (λ (g : List ℕ). g ∷ args) (is ∙ s.word_is) ∙ ap (λ (fs : Row). turn_word t ∷ fs) s.fields_are;
+      plain = s.plain;
+      below = s.below;
+    }
+
+    go : (x y z : Bool) → bytes_eq f (codes "next") ≡ x → bytes_eq f (codes "switch") ≡ y → bytes_eq f (codes "look") ≡ z →
+        (if x then read_next cpus args else (if y then read_switch cpus input.names args else (if z then read_look cpus args else Err UnknownWord))) ≡ Ok t →
+        TurnTaken cpus input (f ∷ args) t
+    go true y z p q r e = said (codes "next") (same_text f (codes "next") p) (next_takes cpus input most sound args t e)
+    go false true z p q r e = said (codes "switch") (same_text f (codes "switch") q) (switch_takes cpus input most sound args t e)
+    go false false true p q r e = said (codes "look") (same_text f (codes "look") r) (look_takes cpus input most sound args t e)
+    go false false false p q r e = absurd cc
+
+-- ---- what is written
+
+cpu_read : (cpus : ℕ) (p : CpuNo) → p.0 ≤ 63 → p.0 < cpus → read_cpu cpus (show_cpu p) ≡ Ok p
+cpu_read cpus p le lt = rw (number_up_to_again 255 p.0 (lit< tt) (omega (arith, le)), lt-ltb p.0 cpus lt) refl
+
+thread_read : (input : Input) → IsSound input → (t : ThreadNo) → t.0 < length input.script.threads → read_thread input.names (show_thread input.names t) ≡ Ok t
+thread_read input sound t lt =
+    let fit = sound_fits input sound in
+    let len = fit.thread_count in
+    (are_read input.names fit.few fit.names).threads t (omega (arith, lt, len))
+
+pub bind_is : {A B : Type 0} (r : Result A ScriptKind) (f : A → Result B ScriptKind) (x : A) → r ≡ Ok x → (r >>= f) ≡ f x
+bind_is r f x e = ap (λ r. r >>= f) e
+
+some_rises : (class : ℕ) (vs : List ℕ) → list_any (λ v. not (v == 0)) vs ≡ true → 1 ≤ length (rises_row class vs)
+some_rises class [] e = absurd cc
+some_rises class (v ∷ vs) e = go (v == 0) e (λ h. some_rises (class + 1) vs h)
+  where
+    go : (b : Bool) → (not b || list_any (λ v. not (v == 0)) vs) ≡ true →
+        (list_any (λ v. not (v == 0)) vs ≡ true → 1 ≤ length (rises_row (class + 1) vs)) →
+        1 ≤ length (if b then rises_row (class + 1) vs else rise_field class v ∷ rises_row (class + 1) vs)
+    go true e more = more e
+    go false e more = omega arith
+
+look_again : (cpus : ℕ) (p : CpuNo) (r : Rises) → p.0 ≤ 63 → AreRises r → p.0 < cpus → read_look cpus (show_cpu p ∷ rises_row 0 r.value) ≡ Ok (Look p r)
+look_again cpus p r le all lt =
+    let there = some_rises 0 r.value all.some in
+    let many : nat_lt (length (show_cpu p ∷ rises_row 0 r.value)) 2 ≡ false = le-ltb (length (show_cpu p ∷ rises_row 0 r.value)) 2 (omega (arith, there)) in
+    let size = all.classes in
+    let same : ◌≡◌ {A = List ℕ} (replicate 16 0) (replicate (length r.value) 0) = ap (λ (n : ℕ). replicate n 0) (sym size) in
+    let values : rises_from (replicate 16 0) 0 (rises_row 0 r.value) ≡ Ok r.value =
+    ap (λ (vs : List ℕ). rises_from vs 0 (rises_row 0 r.value)) same
+    ∙ rises_again r.value [] 0 0 refl (omega arith) (omega (arith, size)) all.used all.range in
+    rw many
+    (bind_is (read_cpu cpus (show_cpu p)) (λ p. read_rises (rises_row 0 r.value) >>= λ r. ok (Look p r)) p (cpu_read cpus p le lt)
+    ∙ bind_is (read_rises (rises_row 0 r.value)) (λ r. ok (Look p r)) r
+    (bind_is (rises_from (replicate 16 0) 0 (rises_row 0 r.value)) (λ (vs : List ℕ). ok {A = Rises} (record { value = vs })) r.value values))
+
+pub turn_again : (cpus : ℕ) (input : Input) → IsSound input → (t : Turn) → TurnIsPlain input.script t → (cpu_at t).0 < cpus →
+    read_turn cpus input.names (turn_row input.names t) ≡ Ok t
+turn_again cpus input sound (Next p) h lt = bind_is (read_cpu cpus (show_cpu p)) (λ p. ok (Next p)) p (cpu_read cpus p h lt)
+turn_again cpus input sound (Look p r) h lt = look_again cpus p r h.0 h.1 lt
+turn_again cpus input sound (Switch p t) h lt =
+    bind_is (read_cpu cpus (show_cpu p)) (λ p. read_thread input.names (show_thread input.names t) >>= λ t. ok (Switch p t)) p (cpu_read cpus p h.0 lt)
+    ∙ bind_is (read_thread input.names (show_thread input.names t)) (λ t. ok (Switch p t)) t (thread_read input sound t h.1)
