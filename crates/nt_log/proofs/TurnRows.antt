@@ -1,20 +1,22 @@
 -- The line of a turn: what is read is written so, and what is written so is read.
-use Rattle.std.proofs.Common.{◌≡◌, ◌∙◌, ℕ, ◌+◌, ◌<◌, ◌≤◌, Bool, true, false, List, [], ◌∷◌, length, replicate, Result, Ok, Err, refl, sym, ap, subst, arith, lit<}
+use Rattle.std.proofs.Common.{◌≡◌, ◌∙◌, ℕ, zero, suc, ◌+◌, ◌<◌, ◌≤◌, Bool, true, false, List, [], ◌∷◌, length, get_or, map, replicate, Result, Ok, Err, refl, sym, ap, subst, arith, lit<}
 use Rattle.std.specs.Prelude.{codes, not, ◌||◌, ◌==◌, nat_lt, if◌then◌else◌}
 use Rattle.std.specs.List.{list_any}
 use Rattle.std.specs.Str.{bytes_eq}
-use Rattle.std.proofs.lemmas.Bool.{le-ltb, lt-ltb, ltb-false}
+use Rattle.std.proofs.lemmas.Bool.{and_parts, le-ltb, lt-ltb, ltb-false}
 use Rattle.nt_text.specs.declared.kind.ScriptKind.{ScriptKind}
 use Rattle.nt_text.specs.declared.kind.ScriptKind.TheVariants.{MissingField, UnknownWord}
 use Rattle.nt_text.specs.Lines.{Row, first, rest}
 use Rattle.nt_text.proofs.Decimals.{number_up_to_again}
+use Rattle.nt_event.specs.declared.events.Event.{Event}
 use Rattle.nt_event.specs.declared.events.Rises.{Rises}
 use Rattle.nt_event.specs.declared.events.Turn.{Turn}
 use Rattle.nt_event.specs.declared.events.Turn.TheVariants.{Next, Look, Switch}
 use Rattle.nt_event.specs.declared.limits.TheConstants.{CPUS}
 use Rattle.nt_event.specs.declared.numbers.CpuNo.{CpuNo}
 use Rattle.nt_event.specs.declared.numbers.ThreadNo.{ThreadNo}
-use Rattle.nt_event.specs.Step.{cpu_at}
+use Rattle.nt_event.specs.declared.scripts.Script.{Script}
+use Rattle.nt_event.specs.Step.{cpu_at, turn_of}
 use Rattle.nt_line.specs.Commands.{read1, read2}
 use Rattle.nt_line.specs.Fields.{read_cpu, read_thread}
 use Rattle.nt_line.specs.NameLists.{show_thread}
@@ -30,7 +32,7 @@ use Rattle.nt_script.specs.Reading.{counted}
 use Rattle.nt_script.specs.Sound.{IsSound}
 use Rattle.nt_script.proofs.Soundness.{sound_fits}
 use Rattle.nt_script.proofs.Taken.{counted_ok}
-use Rattle.nt_log.specs.Schedules.{AreRises, TurnIsPlain, rise_field, rises_row, turn_fields, turn_row, turn_word}
+use Rattle.nt_log.specs.Schedules.{AreRises, TurnIsPlain, rise_field, rises_row, turn_fields, turn_fits, turn_row, turn_word, turns_fit}
 use Rattle.nt_log.specs.Reading.{read_look, read_next, read_rises, read_switch, read_turn, rises_from}
 use Rattle.nt_log.proofs.Looks.{rises_again, rises_take}
 
@@ -170,3 +172,13 @@ turn_again cpus input sound (Look p r) h lt = look_again cpus p r h.0 h.1 lt
 turn_again cpus input sound (Switch p t) h lt =
     bind_is (read_cpu cpus (show_cpu p)) (λ p. read_thread input.names (show_thread input.names t) >>= λ t. ok (Switch p t)) p (cpu_read cpus p h.0 lt)
     ∙ bind_is (read_thread input.names (show_thread input.names t)) (λ t. ok (Switch p t)) t (thread_read input sound t h.1)
+
+-- ---- the turns of events
+
+-- the turn of an event of a history whose turns fit
+pub each_fits : (s : Script) (es : List Event) (i : ℕ) (d : Event) → i < length es → turns_fit s (map turn_of es) ≡ true →
+    turn_fits s (turn_of (get_or es i d)) ≡ true
+each_fits s [] i d lt e = absurd (omega (arith, lt))
+each_fits s (e ∷ es) zero d lt h = (and_parts (turn_fits s (turn_of e)) (turns_fit s (map turn_of es)) h).0
+each_fits s (e ∷ es) (suc i) d lt h =
+    each_fits s es i d (omega (arith, lt)) (and_parts (turn_fits s (turn_of e)) (turns_fit s (map turn_of es)) h).1

@@ -1,13 +1,14 @@
 //! The text of a schedule.
 ghost use Rattle.std.specs.Prelude.{◌≡◌, ◌++◌, ◌∷◌, [], true, map, IfOk, OnOk};
 ghost use Rattle.nt_text.specs.Lines.{row_text, rows_text};
+ghost use Rattle.nt_event.specs.Step.{turn_of};
 ghost use Rattle.nt_script.specs.Sound.{IsSound};
 ghost use Rattle.nt_text.specs.Lines.{spaced};
-ghost use Rattle.nt_log.specs.Schedules.{turn_fits, turns_fit, rise_field, rises_row, turn_word, turn_fields, turn_row, limit_row, schedule_rows, schedule_text};
+ghost use Rattle.nt_log.specs.Schedules.{turn_fits, turns_fit, rise_field, rises_row, turn_word, turn_fields, turn_row, limit_row, done_row, schedule_of, schedule_text};
 
-use crate::schedules::Schedule;
+use crate::schedules::{Schedule, turn_of};
 use itoa::Buffer;
-use nt_event::Turn;
+use nt_event::{Event, History, Turn};
 use nt_script::Input;
 use nt_text::{put_field, put_number};
 use std::alloc::{AllocError, Global};
@@ -85,6 +86,18 @@ fn put_turns(out: &mut Vec<u8>, input: &Input, turns: &[Turn]) -> Result<(), All
     Ok(())
 }
 
+/// Adds the lines of the turns that make these events.
+fn put_turns_of(out: &mut Vec<u8>, input: &Input, events: &[Event]) -> Result<(), AllocError>
+    requires sound { IsSound input.now }
+    requires fit { turns_fit input.now.script (map turn_of events.now) ≡ true }
+    ensures { OnOk result (out.new.items ≡ out.old.items ++ rows_text (map (turn_row input.now.names) (map turn_of events.now))) }
+{
+    for event in events {
+        put_turn(out, input, &turn_of(event))?;
+    }
+    Ok(())
+}
+
 /// Adds the line of the turn limit.
 fn put_limit(out: &mut Vec<u8>, turns: u32) -> Result<(), AllocError>
     ensures { OnOk result (out.new.items ≡ out.old.items ++ row_text (limit_row turns)) }
@@ -95,6 +108,13 @@ fn put_limit(out: &mut Vec<u8>, turns: u32) -> Result<(), AllocError>
     Ok(())
 }
 
+/// Adds the last line.
+fn put_end(out: &mut Vec<u8>) -> Result<(), AllocError>
+    ensures { OnOk result (out.new.items ≡ out.old.items ++ row_text done_row) }
+{
+    out.extend_from_slice(b"done\n")
+}
+
 /// Adds the text of a schedule to another text. An error is want of memory, and the text may then have more at its end.
 pub fn put_schedule(out: &mut Vec<u8>, input: &Input, schedule: &Schedule) -> Result<(), AllocError>
     requires sound { IsSound input.now }
@@ -103,7 +123,23 @@ pub fn put_schedule(out: &mut Vec<u8>, input: &Input, schedule: &Schedule) -> Re
 {
     put_limit(out, schedule.turns)?;
     put_turns(out, input, schedule.list.as_slice())?;
-    out.extend_from_slice(b"done\n")
+    put_end(out)
+}
+
+/// Adds the text of a history's schedule to another text, turn by turn, without the schedule as a value. An error is want of
+/// memory, and the text may then have more at its end.
+pub fn put_schedule_of(
+    out: &mut Vec<u8>,
+    input: &Input,
+    history: &History,
+) -> Result<(), AllocError>
+    requires sound { IsSound input.now }
+    requires fit { turns_fit input.now.script (schedule_of history.now).list ≡ true }
+    ensures { OnOk result (out.new.items ≡ out.old.items ++ schedule_text input.now (schedule_of history.now)) }
+{
+    put_limit(out, history.turns)?;
+    put_turns_of(out, input, history.events.as_slice())?;
+    put_end(out)
 }
 
 /// The text of a schedule whose switches take threads of the input's script. An error is want of memory.
