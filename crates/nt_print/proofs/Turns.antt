@@ -1,9 +1,8 @@
 -- The turns of events that name things of a script.
-use Rattle.std.proofs.Common.{◌≡◌, ◌∙◌, true, List, [], ◌∷◌, map, refl, ap}
+use Rattle.std.proofs.Common.{◌≡◌, true, List, [], ◌∷◌, map, refl}
 use Rattle.std.specs.Prelude.{◌&&◌}
 use Rattle.std.proofs.lemmas.Bool.{and_from, and_parts}
 use Rattle.nt_event.specs.declared.events.Event.{Event}
-use Rattle.nt_event.specs.declared.events.Turn.{Turn}
 use Rattle.nt_event.specs.declared.events.What.{What}
 use Rattle.nt_event.specs.declared.events.What.TheVariants.{Switch}
 use Rattle.nt_event.specs.declared.numbers.CpuNo.{CpuNo}
@@ -17,12 +16,9 @@ turn_fit : (s : Script) (p : CpuNo) (w : What) → what_fits s w ≡ true → tu
 turn_fit s p (Switch t status) h = h
 turn_fit s p w h = refl
 
-all_fit : (s : Script) (events : List Event) → events_fit s events ≡ true → turns_fit s (map turn_of events) ≡ true
-all_fit s [] h = refl
-all_fit s (e ∷ es) h =
+pub turns_of_fit : (s : Script) (events : List Event) → events_fit s events ≡ true → turns_fit s (map turn_of events) ≡ true
+turns_of_fit s [] h = refl
+turns_of_fit s (e ∷ es) h =
     let p = and_parts (event_fits s e) (events_fit s es) h in
     let q = and_parts (has_cpu s e.cpu && where_given (has_thread s) e.thread) (what_fits s e.what) p.0 in
-    and_from (turn_fits s (turn_of e)) (turns_fit s (map turn_of es)) (turn_fit s e.cpu e.what q.1) (all_fit s es p.1)
-
-pub turns_of_fit : (s : Script) (events : List Event) (list : List Turn) → events_fit s events ≡ true → list ≡ map turn_of events → turns_fit s list ≡ true
-turns_of_fit s events list h same = ap (turns_fit s) same ∙ all_fit s events h
+    and_from (turn_fits s (turn_of e)) (turns_fit s (map turn_of es)) (turn_fit s e.cpu e.what q.1) (turns_of_fit s es p.1)

@@ -9,7 +9,7 @@ use crate::events::put_events;
 use crate::uses::uses_of;
 use crate::waits::put_waits;
 use nt_event::History;
-use nt_log::{put_schedule, turns_of};
+use nt_log::put_schedule_of;
 use nt_script::Input;
 use std::alloc::{AllocError, Global};
 
@@ -21,11 +21,10 @@ pub fn report(alloc: Global, input: &Input, history: &History) -> Result<Vec<u8>
 {
     let events = history.events.as_slice();
     let uses = uses_of(alloc, &input.script, events)?;
-    let schedule = turns_of(alloc, history)?;
     let mut out = Vec::from_slice(alloc, b"report\n")?;
     put_events(&mut out, input, events)?;
     put_cuts(alloc, &mut out, input.script.cpus, history)?;
     put_waits(&mut out, input, events, &uses)?;
-    put_schedule(&mut out, input, &schedule)?;
+    put_schedule_of(&mut out, input, history)?;
     Ok(out)
 }
