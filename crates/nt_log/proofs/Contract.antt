@@ -1,7 +1,8 @@
 -- What the contracts say, from the two laws.
-use Rattle.std.proofs.Common.{◌≡◌, ◌∙◌, ℕ, ◌<◌, List, [], ◌∷◌, map, Result, Ok, Err, ap, arith}
+use Rattle.std.proofs.Common.{◌≡◌, ◌∙◌, ℕ, ◌<◌, true, List, [], ◌∷◌, length, map, Result, Ok, Err, refl, ap, arith}
 use Rattle.std.specs.Prelude.{IfOk}
 use Rattle.std.specs.List.{AllByRecursion}
+use Rattle.std.proofs.lemmas.Bool.{and_from, lt-ltb}
 use Rattle.nt_text.specs.Lines.{line_of, lines}
 use Rattle.nt_text.proofs.Rows.{lines_again, lines_takes}
 use Rattle.nt_event.specs.declared.events.Turn.{Turn}
@@ -15,7 +16,7 @@ use Rattle.nt_script.specs.Gives.{GivesRead}
 use Rattle.nt_script.specs.Sound.{IsSound}
 use Rattle.nt_log.specs.declared.schedules.Schedule.{Schedule}
 use Rattle.nt_log.specs.Reading.{reading, start, walk}
-use Rattle.nt_log.specs.Schedules.{AreBelow, IsTextOf, TurnIsPlain, schedule_rows}
+use Rattle.nt_log.specs.Schedules.{AreBelow, IsTextOf, TurnIsPlain, schedule_rows, turn_fits, turns_fit}
 use Rattle.nt_log.proofs.Both.{walk_again, walk_takes}
 use Rattle.nt_log.proofs.OneSchedule.{schedule_clean}
 
@@ -45,3 +46,18 @@ pub is_found : (bytes : List ℕ) (input : Input) (n : ℕ) (r : Result Schedule
     IfOk r (IsTextOf bytes input)
 is_found bytes input n (Ok s) sound h = schedule_is_text bytes input n s sound h
 is_found bytes input n (Err e) sound h = tt
+
+plain_fits : (s : Script) (ts : List Turn) → AllByRecursion (TurnIsPlain s) ts → turns_fit s ts ≡ true
+plain_fits s [] h = refl
+plain_fits s (t ∷ ts) h = and_from (turn_fits s t) (turns_fit s ts) (one t h.0) (plain_fits s ts h.1)
+  where
+    one : (t : Turn) → TurnIsPlain s t → turn_fits s t ≡ true
+    one (Next p) k = refl
+    one (Look p r) k = refl
+    one (Switch p t) k = lt-ltb t.0 (length s.threads) k.1
+
+-- what is read fits the script
+pub is_fit : (bytes : List ℕ) (input : Input) (n : ℕ) (r : Result Schedule ScriptRefusal) → IsSound input → GivesRead r (reading CPUS input.names n bytes) →
+    IfOk r (λ s. turns_fit input.script s.list ≡ true)
+is_fit bytes input n (Ok s) sound h = plain_fits input.script s.list (schedule_is_text bytes input n s sound h).plain.turns
+is_fit bytes input n (Err e) sound h = tt

@@ -1,12 +1,12 @@
 //! Reading a whole schedule.
-ghost use Rattle.std.specs.Prelude.{◌+◌, ◌≤◌, length, IfOk, Ok};
+ghost use Rattle.std.specs.Prelude.{◌≡◌, ◌+◌, true, ◌≤◌, length, IfOk, Ok};
 ghost use Rattle.nt_text.specs.declared.lines.TheConstants.{INPUT_LIMIT};
 ghost use Rattle.nt_event.specs.declared.limits.TheConstants.{CPUS};
 ghost use Rattle.nt_script.specs.Gives.{GivesRead};
 ghost use Rattle.nt_script.specs.Sound.{IsSound};
 ghost use Rattle.nt_log.specs.declared.schedules.Schedule.{Schedule};
 ghost use Rattle.nt_log.specs.Reading.{reading};
-ghost use Rattle.nt_log.specs.Schedules.{IsTextOf};
+ghost use Rattle.nt_log.specs.Schedules.{IsTextOf, turns_fit};
 
 use crate::schedules::Schedule;
 use crate::walk::ScheduleWalk;
@@ -58,6 +58,9 @@ pub fn read_schedule(
 
     // What is answered is a schedule of the input's script, and the bytes are its text.
     ensures found { IfOk result (IsTextOf bytes.now input.now) }
+
+    // Its switches take threads of the script, as `print_schedule` wants it.
+    ensures fit { IfOk result (λ s. turns_fit input.now.script s.list ≡ true) }
 
     // The schedule of a text is answered, and no other schedule and no bad line.
     ensures only { (s : Schedule) → IsTextOf bytes.now input.now s → GivesRead result (Ok s) }

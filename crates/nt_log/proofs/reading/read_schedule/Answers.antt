@@ -1,6 +1,6 @@
 use Rattle.std.proofs.Common.{subst}
 use Rattle.nt_script.specs.Gives.{GivesRead}
-use Rattle.nt_log.proofs.Contract.{is_found, text_is_read}
+use Rattle.nt_log.proofs.Contract.{is_fit, is_found, text_is_read}
 use Rattle.nt_log.proofs.reading.read_schedule.Goals as goal
 
 pub returns-clause-found : goal.returns-clause-found
@@ -10,3 +10,7 @@ returns-clause-found c =
 pub returns-clause-only : goal.returns-clause-only
 returns-clause-only c = λ s t. subst (GivesRead c.read_lines.result) (text_is_read c.args.bytes.now c.args.input.now c.args.first_line s t)
     c.read_lines.ensures
+
+pub returns-clause-fit : goal.returns-clause-fit
+returns-clause-fit c =
+    is_fit c.args.bytes.now c.args.input.now c.args.first_line c.read_lines.result c.requires.sound c.read_lines.ensures
