@@ -98,14 +98,16 @@ turns_take : (cpus : ℕ) (input : Input) → cpus ≤ CPUS → IsSound input �
 turns_take cpus input most sound [] turns list n s few e = absurd cc
 turns_take cpus input most sound (line ∷ more) turns list n s few e =
     let t = went cpus input.names (in_turns turns list) n line more s e in
-    go t.row t.new t.line_is (bytes_eq (first t.row) (codes "done")) refl t.steps t.goes_on (λ other l h. turns_take cpus input most sound more turns other (n + 1) s l h)
+    go t.row t.new t.line_is (bytes_eq (first t.row) (codes "done")) refl t.steps t.goes_on
+    (λ other l h. turns_take cpus input most sound more turns other (n + 1) s l h)
   where
     last : (row : Row) (new : ScheduleWalk) → line ≡ line_of row → bytes_eq (first row) (codes "done") ≡ true →
         (counted (length (rest row)) 0 >>= λ _. ok (at_end turns list)) ≡ Ok new → walk cpus input.names new (n + 1) more ≡ Ok s →
         TurnsTaken cpus input turns list (line ∷ more) s
     last row new line_is is steps goes =
         let k = bind_ok (counted (length (rest row)) 0) (λ (b : Bool). ok (at_end turns list)) new steps in
-        let row_is : row ≡ done_row = word_alone row (codes "done") (omega arith) (same_text (first row) (codes "done") is) (counted_ok (length (rest row)) 0 k.value k.is) in
+        let none = counted_ok (length (rest row)) 0 k.value k.is in
+        let row_is : row ≡ done_row = word_alone row (codes "done") (omega arith) (same_text (first row) (codes "done") is) none in
         let now : walk cpus input.names (at_end turns list) (n + 1) more ≡ Ok s =
         ap (λ (w : ScheduleWalk). walk cpus input.names w (n + 1) more) (ok_is (at_end turns list) new k.then) ∙ goes in
         let r = ended cpus input.names turns list (n + 1) more s now in
@@ -217,7 +219,8 @@ walk_takes cpus n input (line ∷ more) s most sound e =
 line_again : (cpus : ℕ) (names : NameLists) (w new : ScheduleWalk) (n : ℕ) (row : Row) (more : List TextLine) → row_of (line_of row) ≡ Ok row →
     step cpus names w row ≡ Ok new → walk cpus names w n (line_of row ∷ more) ≡ walk cpus names new (n + 1) more
 line_again cpus names w new n row more clean steps =
-    ap (λ (r : Result ScheduleWalk ScriptKind). go_on n r (λ new. walk cpus names new (n + 1) more)) (bind_is (row_of (line_of row)) (step cpus names w) row clean ∙ steps)
+    ap (λ (r : Result ScheduleWalk ScriptKind). go_on n r (λ new. walk cpus names new (n + 1) more))
+    (bind_is (row_of (line_of row)) (step cpus names w) row clean ∙ steps)
 
 no_end : (input : Input) (t : Turn) → bytes_eq (first (turn_row input.names t)) (codes "done") ≡ false
 no_end input (Next p) = refl

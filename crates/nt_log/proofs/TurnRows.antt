@@ -51,7 +51,8 @@ record Says (cpus : ℕ) (input : Input) (word : List ℕ) (args : Row) (t : Tur
   plain : TurnIsPlain input.script t
   below : (cpu_at t).0 < cpus
 
-next_takes : (cpus : ℕ) (input : Input) → cpus ≤ CPUS → IsSound input → (args : Row) (t : Turn) → read_next cpus args ≡ Ok t → Says cpus input (codes "next") args t
+next_takes : (cpus : ℕ) (input : Input) → cpus ≤ CPUS → IsSound input → (args : Row) (t : Turn) → read_next cpus args ≡ Ok t →
+    Says cpus input (codes "next") args t
 next_takes cpus input most sound args t e =
     let k = bind_ok (counted (length args) 1) (λ (b : Bool). read1 (read_cpu cpus) Next args) t e in
     takes1 (cpu_takes cpus) (Says cpus input (codes "next")) Next
@@ -72,7 +73,8 @@ two_there [] h = absurd (omega (arith, h))
 two_there (a ∷ []) h = absurd (omega (arith, h))
 two_there (a ∷ b ∷ args) h = (refl, omega arith)
 
-look_takes : (cpus : ℕ) (input : Input) → cpus ≤ CPUS → IsSound input → (args : Row) (t : Turn) → read_look cpus args ≡ Ok t → Says cpus input (codes "look") args t
+look_takes : (cpus : ℕ) (input : Input) → cpus ≤ CPUS → IsSound input → (args : Row) (t : Turn) → read_look cpus args ≡ Ok t →
+    Says cpus input (codes "look") args t
 look_takes cpus input most sound args t e = go (nat_lt (length args) 2) refl e
   where
     go : (b : Bool) → nat_lt (length args) 2 ≡ b →
@@ -107,8 +109,8 @@ pub record TurnTaken (cpus : ℕ) (input : Input) (row : Row) (t : Turn) : Type 
   pub plain : TurnIsPlain input.script t
   pub below : (cpu_at t).0 < cpus
 
-pub turn_takes : (cpus : ℕ) (input : Input) → cpus ≤ CPUS → IsSound input → (f : List ℕ) (args : Row) (t : Turn) → read_turn cpus input.names (f ∷ args) ≡ Ok t →
-    TurnTaken cpus input (f ∷ args) t
+pub turn_takes : (cpus : ℕ) (input : Input) → cpus ≤ CPUS → IsSound input → (f : List ℕ) (args : Row) (t : Turn) →
+    read_turn cpus input.names (f ∷ args) ≡ Ok t → TurnTaken cpus input (f ∷ args) t
 turn_takes cpus input most sound f args t e =
     go (bytes_eq f (codes "next")) (bytes_eq f (codes "switch")) (bytes_eq f (codes "look")) refl refl refl e
   where

@@ -1,5 +1,5 @@
--- What is read of a schedule line by line, and what is wrong with a line. The tests of a line come in the order in which
--- the steps `>>=` stand. Processor numbers are below `cpus`.
+-- What is read of a schedule line by line, and what is wrong with a line. The tests of a line come in the order in
+-- which the steps `>>=` stand. Processor numbers are below `cpus`.
 use Rattle.std.specs.Prelude.{ℕ, ◌+◌, Bool, List, [], ◌∷◌, ◌++◌, length, take, drop, replicate, slice_set, Option, Some, None, Result, Ok, Err, codes, nat_lt, nat_le, ◌==◌, ◌&&◌, not, if◌then◌else◌}
 use Rattle.std.specs.List.{position}
 use Rattle.std.specs.Str.{bytes_eq}
@@ -26,7 +26,8 @@ use Rattle.nt_log.specs.declared.walk.SchedulePlace.TheVariants.{Start, InTurns,
 
 -- a class that is used and not below this one
 abbrev pub read_class : ℕ → List ℕ → Result ℕ ScriptKind
-read_class least field = read_number 15 field >>= λ class. ok_if (nat_le least class && is_used_class class) class BadNumber
+read_class least field = read_number 15 field >>= λ class. ok_if
+    (nat_le least class && is_used_class class) class BadNumber
 
 -- a value of 64 bits above 0
 abbrev pub read_value : List ℕ → Result ℕ ScriptKind
@@ -92,7 +93,8 @@ read_limit args = counted (length args) 1 >>= λ _. read_number TURNS (first arg
 
 -- the first line
 abbrev pub first_step : ScheduleWalk → Row → Result ScheduleWalk ScriptKind
-first_step w row = if bytes_eq (first row) (codes "schedule") then (read_limit (rest row) >>= λ turns. Ok (with_limit w turns))
+first_step w row =
+    if bytes_eq (first row) (codes "schedule") then (read_limit (rest row) >>= λ turns. Ok (with_limit w turns))
     else Err UnknownWord
 
 -- a line behind the first: the end or a turn
