@@ -1,10 +1,10 @@
 //! What the line of a turn says, one function for each part of it. Each tests in the order of the refusals.
-ghost use Rattle.std.specs.Prelude.{◌≡◌, ◌&&◌, ◌≤◌, ◌<◌, length, take, drop, IfOk, Ok, true, ◌∷◌};
+ghost use Rattle.std.specs.Prelude.{◌≡◌, ◌<◌, ◌∷◌, true, length, IfOk};
 ghost use Rattle.std.specs.List.{position};
-ghost use Rattle.nt_text.specs.Lines.{is_byte};
 ghost use Rattle.std.specs.Result.{result_map_both};
+ghost use Rattle.nt_text.specs.Lines.{is_byte};
 ghost use Rattle.nt_script.specs.Reading.{counted};
-ghost use Rattle.nt_log.specs.Reading.{read_class, read_value, read_rise, rises_from, read_rises, read_next, read_switch, read_look, read_turn};
+ghost use Rattle.nt_log.specs.Reading.{read_class, read_value, read_rise, read_rises, read_next, read_switch, read_look, read_turn};
 
 use nt_event::{Rises, Turn, class};
 use nt_line::{Names, fields};
