@@ -1,0 +1,59 @@
+-- The forms of the program: which lists of words are one.
+use Rattle.std.specs.Prelude.{◌≡◌, ◌≤◌, ◌⊎◌, ℕ, Bool, true, List, [], ◌∷◌, decimal}
+use Rattle.std.specs.List.{list_any}
+use Rattle.std.specs.Str.{bytes_eq}
+use Rattle.nt_event.specs.declared.limits.TheConstants.{TURNS, USUAL_TURNS}
+use Rattle.nt_words.specs.declared.form.TheConstants.{GREATEST_SEED}
+use Rattle.nt_words.specs.declared.form.Command.{Command}
+use Rattle.nt_words.specs.declared.form.Command.TheVariants as command
+use Rattle.nt_words.specs.declared.form.Form.{Form}
+use Rattle.nt_words.specs.declared.form.Form.TheVariants as form
+use Rattle.nt_words.specs.declared.option_name.OptionName.{OptionName}
+use Rattle.nt_words.specs.declared.option_name.OptionName.TheVariants.{Turns, Seed}
+use Rattle.nt_words.specs.Pieces.{Piece, words_of, command_words, values_of}
+use Rattle.nt_words.specs.Commands.{command_word, is_built}
+
+abbrev pub command_of : Form → Command
+command_of (form.Run turns) = command.Run
+command_of (form.Live turns) = command.Live
+command_of form.Replay = command.Replay
+command_of form.Check = command.Check
+command_of (form.Load seed turns) = command.Load
+
+-- the option is given once, with this number in decimal, which lies within the bounds
+abbrev pub Gives : OptionName → ℕ → ℕ → ℕ → List Piece → Type 0
+Gives name least most n pieces = (values_of name pieces ≡ decimal n ∷ []) × (least ≤ n) × (n ≤ most)
+
+abbrev pub IsMissing : OptionName → List Piece → Type 0
+IsMissing name pieces = values_of name pieces ≡ []
+
+-- the turn limit is given, or it is missing and this is the usual one
+abbrev pub HasTurns : ℕ → List Piece → Type 0
+HasTurns turns pieces = Gives Turns 1 TURNS turns pieces ⊎ (IsMissing Turns pieces × (turns ≡ USUAL_TURNS))
+
+-- the seed is given
+abbrev pub HasSeed : ℕ → List Piece → Type 0
+HasSeed seed pieces = Gives Seed 0 GREATEST_SEED seed pieces
+
+-- the options that are given are those of the form
+abbrev pub HasOptions : Form → List Piece → Type 0
+HasOptions (form.Run turns) pieces = HasTurns turns pieces × IsMissing Seed pieces
+HasOptions (form.Live turns) pieces = HasTurns turns pieces × IsMissing Seed pieces
+HasOptions form.Replay pieces = IsMissing Turns pieces × IsMissing Seed pieces
+HasOptions form.Check pieces = IsMissing Turns pieces × IsMissing Seed pieces
+HasOptions (form.Load seed turns) pieces = HasTurns turns pieces × HasSeed seed pieces
+
+-- the words are this form: its command word once, and its options, each once at most, in any order and spelling
+pub record IsForm (words : List (List ℕ)) (f : Form) : Type 0 where
+  pub pieces : List Piece
+  pub spelled : words ≡ words_of pieces
+  pub command : command_words pieces ≡ command_word (command_of f) ∷ []
+  pub built : is_built (command_of f) ≡ true
+  pub options : HasOptions f pieces
+
+-- one of the words is `live`
+abbrev pub names_live : List (List ℕ) → Bool
+names_live words = list_any (λ w. bytes_eq w (command_word command.Live)) words
+
+abbrev pub WordsHaveOneForm : Type 0
+WordsHaveOneForm = (words : List (List ℕ)) (f g : Form) → IsForm words f → IsForm words g → f ≡ g

@@ -1,0 +1,16 @@
+-- What a refusal of words says.
+use Rattle.std.specs.Prelude.{ℕ, List, Result, Ok, Err}
+use Rattle.nt_words.specs.declared.reading.WordsRefusal.{WordsRefusal}
+use Rattle.nt_words.specs.declared.reading.WordsRefusal.TheVariants.{NoForm, NoMemory}
+use Rattle.nt_words.specs.declared.form.Form.{Form}
+use Rattle.nt_words.specs.Forms.{IsForm}
+
+-- what holds where the words were refused as no form
+abbrev pub OnNoForm : {T : Type 0} → Result T WordsRefusal → Type 0 → Type 0
+OnNoForm (Ok x) P = Unit {0}
+OnNoForm (Err NoForm) P = P
+OnNoForm (Err NoMemory) P = Unit {0}
+
+-- the words are no form
+abbrev pub IsNoForm : List (List ℕ) → Type 0
+IsNoForm words = (f : Form) → IsForm words f → ⊥

@@ -1,0 +1,172 @@
+//! The commands of the program and their forms.
+ghost use Rattle.std.specs.Prelude.{◌≡◌, ◌≤◌, ◌<◌, ◌^◌, IfSome, option_map, find};
+ghost use Rattle.nt_words.specs.Commands.{command_word, is_built, names_built, command_named};
+ghost use Rattle.nt_words.specs.Chosen.{number_within, turns_from, seed_from, none_from, form_from};
+ghost use Rattle.nt_event.specs.declared.limits.TheConstants.{TURNS};
+
+use nt_event::limits::{TURNS, USUAL_TURNS};
+use nt_text::number;
+
+/// What is written where the words are no form: the forms that are built.
+pub const USAGE: &str = "usage: ntrun run|replay [--turns N]\n";
+
+/// The greatest seed of a load.
+pub const GREATEST_SEED: u32 = 4_294_967_295;
+
+/// A command of the program.
+#[derive(Clone, Copy, PartialEq, Eq, Debug)]
+pub enum Command {
+    /// `run`: the report of a script's run by the robin rule.
+    Run,
+    /// `live`: the report of a script's run on threads.
+    Live,
+    /// `replay`: the report of a script's run by a given schedule.
+    Replay,
+    /// `check`: whether a report is that of a settled run.
+    Check,
+    /// `load`: the summary of the run of a script that is made from a seed.
+    Load,
+}
+
+/// Every command.
+pub const COMMANDS: [Command; 5] = [
+    Command::Run,
+    Command::Live,
+    Command::Replay,
+    Command::Check,
+    Command::Load,
+];
+
+/// What the words of a command line ask for. The turn limit is [`USUAL_TURNS`] where none is given.
+#[derive(Clone, Copy, PartialEq, Eq, Debug)]
+pub enum Form {
+    /// `run`, with the turn limit of each processor.
+    Run { turns: u32 },
+    /// `live`, with the turn limit of each processor.
+    Live { turns: u32 },
+    /// `replay`.
+    Replay,
+    /// `check`.
+    Check,
+    /// `load`, with the seed and the turn limit of each processor.
+    Load { seed: u32, turns: u32 },
+}
+
+impl Command {
+    /// The word that names the command.
+    pub fn word(self) -> &'static str
+        ensures { result.now ≡ command_word self }
+    {
+        match self {
+            Command::Run => "run",
+            Command::Live => "live",
+            Command::Replay => "replay",
+            Command::Check => "check",
+            Command::Load => "load",
+        }
+    }
+
+    /// Whether the program has the command. Words with another command are no form.
+    pub fn is_built(self) -> bool
+        ensures { result ≡ is_built self }
+    {
+        match self {
+            Command::Run => true,
+            Command::Live => false,
+            Command::Replay => true,
+            Command::Check => false,
+            Command::Load => false,
+        }
+    }
+}
+
+/// The command among these that the word names and that is built.
+fn search(commands: &[Command], word: &str) -> Option<Command>
+    ensures { result ≡ find (names_built word.now) commands.now }
+{
+    commands
+        .iter()
+        .copied()
+        .find(|command| command.is_built() && word == command.word())
+}
+
+/// The built command that the word names.
+#[tactic(auto, unfolding(crate::specs::Commands::command_named))]
+pub(crate) fn command_named(word: &str) -> Option<Command>
+    ensures { result ≡ command_named word.now }
+{
+    search(&COMMANDS, word)
+}
+
+/// The number of a value, where it is written in decimal without leading zeros and lies within the bounds.
+fn number_within(least: u64, most: u32, value: &str) -> Option<u32>
+    ensures { result ≡ number_within least most value.now }
+{
+    let given = number(value.as_bytes(), most as u64)?;
+    if least <= given {
+        Some(given as u32)
+    } else {
+        None
+    }
+}
+
+/// The turn limit by the value that is given for it, if any.
+fn turns_from(value: Option<&str>) -> Option<u32>
+    ensures { result ≡ turns_from (option_map (λ s. s.now) value.entry) }
+{
+    match value {
+        Some(text) => number_within(1, TURNS, text),
+        None => Some(USUAL_TURNS),
+    }
+}
+
+/// The seed by the value that is given for it: one is needed.
+fn seed_from(value: Option<&str>) -> Option<u32>
+    ensures { result ≡ seed_from (option_map (λ s. s.now) value.entry) }
+{
+    number_within(0, GREATEST_SEED, value?)
+}
+
+/// Nothing, where no value is given for an option that the command doesn't have.
+fn none_from(value: Option<&str>) -> Option<()>
+    ensures { result ≡ none_from (option_map (λ s. s.now) value.entry) }
+{
+    match value {
+        Some(_) => None,
+        None => Some(()),
+    }
+}
+
+/// The form of a command with these values of its options.
+pub(crate) fn form_from(command: Command, turns: Option<&str>, seed: Option<&str>) -> Option<Form>
+    ensures { result ≡ form_from command (option_map (λ s. s.now) turns.entry) (option_map (λ s. s.now) seed.entry) }
+{
+    match command {
+        Command::Run => {
+            none_from(seed)?;
+            Some(Form::Run {
+                turns: turns_from(turns)?,
+            })
+        }
+        Command::Live => {
+            none_from(seed)?;
+            Some(Form::Live {
+                turns: turns_from(turns)?,
+            })
+        }
+        Command::Replay => {
+            none_from(seed)?;
+            none_from(turns)?;
+            Some(Form::Replay)
+        }
+        Command::Check => {
+            none_from(seed)?;
+            none_from(turns)?;
+            Some(Form::Check)
+        }
+        Command::Load => Some(Form::Load {
+            seed: seed_from(seed)?,
+            turns: turns_from(turns)?,
+        }),
+    }
+}

@@ -1,0 +1,20 @@
+//! The words of the command line: which lists of words are a form of the program, and which form they are.
+//!
+//! A form is one command word with that command's options, the options before or behind it, each at most once, as
+//! `--turns N` or `--turns=N`. [`form_of`] reads the words with `clap`. What a form is stands in `specs/Forms.antt`, in
+//! words that no parser shares: the pieces of a list of words, and what they have to be for each form.
+#![tactic(auto)]
+
+mod form;
+mod laws;
+mod option_name;
+mod reading;
+mod tidy;
+
+pub use form::{Command, Form, GREATEST_SEED, USAGE};
+pub use laws::words_have_one_form;
+pub use option_name::OptionName;
+pub use reading::{WordsRefusal, form_of, is_live};
+
+#[cfg(test)]
+mod tests;

@@ -1,0 +1,99 @@
+//! Words read as a form.
+ghost use Rattle.std.specs.Prelude.{◌≡◌, [], IfOk, map, string_bytes, option_map};
+ghost use Rattle.clap.specs.Walk.{rows_of};
+ghost use Rattle.clap.specs.Matches.{found_of};
+ghost use Rattle.clap.specs.Simple.{app_of, matches_of};
+ghost use Rattle.clap.specs.Faults.{fault_of};
+ghost use Rattle.nt_words.specs.Forms.{IsForm, names_live};
+ghost use Rattle.nt_words.specs.Chosen.{chosen};
+ghost use Rattle.nt_words.specs.Parser.{ntrun_app};
+ghost use Rattle.nt_words.specs.Refusals.{IsNoForm, OnNoForm};
+
+use crate::form::{Command, Form, command_named, form_from};
+use crate::tidy::is_tidy;
+use clap::error::ErrorKind;
+use clap::{Arg, ArgMatches};
+use std::alloc::{AllocError, Global};
+
+/// Why words give no form.
+#[derive(Clone, Copy, PartialEq, Eq, Debug)]
+pub enum WordsRefusal {
+    /// They are no form.
+    NoForm,
+    /// There is not enough memory to read them.
+    NoMemory,
+}
+
+impl From<AllocError> for WordsRefusal {
+    fn from(_: AllocError) -> WordsRefusal {
+        WordsRefusal::NoMemory
+    }
+}
+
+/// Whether one of the words is `live`. Takes no memory.
+pub fn is_live(words: &[String]) -> bool
+    ensures { result ≡ names_live (map string_bytes words.now) }
+{
+    words.iter().any(|word| word.as_str() == Command::Live.word())
+}
+
+/// The parser of the words: one word and the options, with nothing of its own that answers.
+fn parser<'a>(alloc: Global) -> Result<clap::Command<'a>, AllocError>
+    ensures { IfOk result (λ c. app_of c ≡ ntrun_app) }
+{
+    let command = Arg::new(alloc, "command").required(true);
+    let turns = Arg::new(alloc, "turns").long("turns");
+    let seed = Arg::new(alloc, "seed").long("seed");
+    clap::Command::new(alloc, "ntrun")
+        .no_binary_name(true)
+        .disable_help_flag(true)
+        .arg(command)?
+        .arg(turns)?
+        .arg(seed)
+}
+
+/// A refusal of the parser.
+fn refusal(kind: ErrorKind) -> WordsRefusal {
+    match kind {
+        ErrorKind::OutOfMemory => WordsRefusal::NoMemory,
+        _ => WordsRefusal::NoForm,
+    }
+}
+
+/// The words as the parser takes them.
+fn parse<'a>(alloc: Global, words: &'a [String]) -> Result<ArgMatches<'a>, WordsRefusal>
+    ensures taken { IfOk result (λ m. fault_of ntrun_app (map string_bytes words.now) ≡ []) }
+    ensures rows { IfOk result (λ m. rows_of (found_of m) ≡ matches_of ntrun_app (map string_bytes words.now)) }
+    ensures refused { OnNoForm result (fault_of ntrun_app (map string_bytes words.now) ≡ [] → ⊥) }
+{
+    match parser(alloc)?.try_get_matches_from(words) {
+        Ok(matches) => Ok(matches),
+        Err(error) => Err(refusal(error.kind())),
+    }
+}
+
+/// The form that the parser's matches are.
+fn form_in(matches: &ArgMatches<'_>) -> Option<Form>
+    ensures { result ≡ chosen (rows_of (found_of matches.now)) }
+{
+    let command = command_named(matches.get_str("command")?)?;
+    form_from(
+        command,
+        matches.get_str("turns"),
+        matches.get_str("seed"),
+    )
+}
+
+/// The form that the words behind the program's name are.
+///
+/// `NoForm` exactly where they are none; `NoMemory` where memory ran out.
+pub fn form_of(alloc: Global, words: &[String]) -> Result<Form, WordsRefusal>
+    ensures some { IfOk result (λ form. IsForm (map string_bytes words.now) form) }
+    ensures none { OnNoForm result (IsNoForm (map string_bytes words.now)) }
+{
+    if !is_tidy(words) {
+        return Err(WordsRefusal::NoForm);
+    }
+    let matches = parse(alloc, words)?;
+    form_in(&matches).ok_or(WordsRefusal::NoForm)
+}
