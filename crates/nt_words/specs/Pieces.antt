@@ -1,5 +1,5 @@
 -- What the words of a command line are made of.
-use Rattle.std.specs.Prelude.{ℕ, List, [], ◌∷◌, ◌++◌, codes, flat_map}
+use Rattle.std.specs.Prelude.{ℕ, List, [], ◌∷◌, ◌++◌, codes}
 use Rattle.nt_words.specs.declared.option_name.OptionName.{OptionName}
 use Rattle.nt_words.specs.declared.option_name.OptionName.TheVariants.{Turns, Seed}
 

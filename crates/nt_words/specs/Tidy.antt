@@ -1,5 +1,5 @@
 -- What is tested before the words are parsed.
-use Rattle.std.specs.Prelude.{ℕ, Bool, true, false, not, ◌&&◌, ◌||◌, ◌==◌, nat_le, List, [], ◌∷◌, eqb}
+use Rattle.std.specs.Prelude.{ℕ, Bool, false, not, ◌&&◌, ◌||◌, ◌==◌, nat_le, List, [], ◌∷◌, eqb}
 use Rattle.std.specs.List.{list_all, count_by, starts_with}
 use Rattle.std.specs.Str.{bytes_eq}
 use Rattle.nt_words.specs.declared.option_name.OptionName.{OptionName}

@@ -15,6 +15,3 @@ pub use form::{Command, Form, GREATEST_SEED, USAGE};
 pub use laws::words_have_one_form;
 pub use option_name::OptionName;
 pub use reading::{WordsRefusal, form_of, is_live};
-
-#[cfg(test)]
-mod tests;

@@ -10,6 +10,7 @@ ghost use Rattle.nt_words.specs.Parser.{ntrun_app};
 ghost use Rattle.nt_words.specs.Refusals.{IsNoForm, OnNoForm};
 
 use crate::form::{Command, Form, command_named, form_from};
+use crate::option_name::OptionName;
 use crate::tidy::is_tidy;
 use clap::error::ErrorKind;
 use clap::{Arg, ArgMatches};
@@ -25,23 +26,33 @@ pub enum WordsRefusal {
 }
 
 impl From<AllocError> for WordsRefusal {
+    ghost use Rattle.std.specs.Prelude.{◌≡◌};
+    ghost use Rattle.nt_words.specs.declared.reading.WordsRefusal.TheVariants.{NoMemory};
+
+    ghost from_gives = { λ _ e. e ≡ NoMemory };
+
     fn from(_: AllocError) -> WordsRefusal {
         WordsRefusal::NoMemory
     }
 }
 
+/// The id of the command word among the matches.
+const COMMAND_ID: &str = "command";
+
 /// Whether one of the words is `live`. Takes no memory.
 pub fn is_live(words: &[String]) -> bool
     ensures { result ≡ names_live (map string_bytes words.now) }
 {
-    words.iter().any(|word| word.as_str() == Command::Live.word())
+    words
+        .iter()
+        .any(|word| word.as_str() == Command::Live.word())
 }
 
 /// The parser of the words: one word and the options, with nothing of its own that answers.
 fn parser<'a>(alloc: Global) -> Result<clap::Command<'a>, AllocError>
     ensures { IfOk result (λ c. app_of c ≡ ntrun_app) }
 {
-    let command = Arg::new(alloc, "command").required(true);
+    let command = Arg::new(alloc, COMMAND_ID).required(true);
     let turns = Arg::new(alloc, "turns").long("turns");
     let seed = Arg::new(alloc, "seed").long("seed");
     clap::Command::new(alloc, "ntrun")
@@ -53,7 +64,9 @@ fn parser<'a>(alloc: Global) -> Result<clap::Command<'a>, AllocError>
 }
 
 /// A refusal of the parser.
-fn refusal(kind: ErrorKind) -> WordsRefusal {
+fn refusal(kind: ErrorKind) -> WordsRefusal
+    ensures { kind ≡ ErrorKind.OutOfMemory → result ≡ WordsRefusal.NoMemory }
+{
     match kind {
         ErrorKind::OutOfMemory => WordsRefusal::NoMemory,
         _ => WordsRefusal::NoForm,
@@ -62,7 +75,7 @@ fn refusal(kind: ErrorKind) -> WordsRefusal {
 
 /// The words as the parser takes them.
 fn parse<'a>(alloc: Global, words: &'a [String]) -> Result<ArgMatches<'a>, WordsRefusal>
-    ensures taken { IfOk result (λ m. fault_of ntrun_app (map string_bytes words.now) ≡ []) }
+    ensures taken { IfOk result (λ _. fault_of ntrun_app (map string_bytes words.now) ≡ []) }
     ensures rows { IfOk result (λ m. rows_of (found_of m) ≡ matches_of ntrun_app (map string_bytes words.now)) }
     ensures refused { OnNoForm result (fault_of ntrun_app (map string_bytes words.now) ≡ [] → ⊥) }
 {
@@ -76,11 +89,11 @@ fn parse<'a>(alloc: Global, words: &'a [String]) -> Result<ArgMatches<'a>, Words
 fn form_in(matches: &ArgMatches<'_>) -> Option<Form>
     ensures { result ≡ chosen (rows_of (found_of matches.now)) }
 {
-    let command = command_named(matches.get_str("command")?)?;
+    let command = command_named(matches.get_str(COMMAND_ID)?)?;
     form_from(
         command,
-        matches.get_str("turns"),
-        matches.get_str("seed"),
+        matches.get_str(OptionName::Turns.text()),
+        matches.get_str(OptionName::Seed.text()),
     )
 }
 

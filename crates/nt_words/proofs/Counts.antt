@@ -1,0 +1,96 @@
+-- What the words of pieces count, and what the pieces themselves count.
+use Rattle.std.proofs.Common.{◌≡◌, ◌∙◌, ◌≤◌, ℕ, cond, true, false, suc, refl, sym, ap, subst, arith, List, [], ◌∷◌, ◌++◌, length, length-append}
+use Rattle.std.specs.List.{list_all}
+use Rattle.std.proofs.lemmas.List.Sums.{sum_by-cons}
+use Rattle.nt_words.specs.declared.option_name.OptionName.{OptionName}
+use Rattle.nt_words.specs.declared.option_name.OptionName.TheVariants.{Turns, Seed}
+use Rattle.nt_words.specs.Pieces.{Piece, word, apart, joined, command_words, dashed, dashed_equals, value_for, values_of, words_of}
+use Rattle.nt_words.specs.Tidy.{has_hyphen, is_known, is_option_word, times_given}
+use Rattle.nt_words.proofs.Words.{no_option}
+
+-- what stands by itself has no hyphen, and neither has a value in a word of its own
+abbrev pub IsPlain : Piece → Type 0
+IsPlain (word w) = has_hyphen w ≡ false
+IsPlain (apart name value) = has_hyphen value ≡ false
+IsPlain (joined name value) = Unit {0}
+
+abbrev pub ArePlain : List Piece → Type 0
+ArePlain [] = Unit {0}
+ArePlain (p ∷ ps) = IsPlain p × ArePlain ps
+
+-- one command word and one value of each option, at most
+pub record AreOnce (ps : List Piece) : Type 0 where
+  pub command : length (command_words ps) ≤ 1
+  pub option : (name : OptionName) → length (values_of name ps) ≤ 1
+
+pub command_words-append : (ps qs : List Piece) → command_words (ps ++ qs) ≡ command_words ps ++ command_words qs
+command_words-append [] qs = refl
+command_words-append (word w ∷ ps) qs = ap (λ (ws : List (List ℕ)). w ∷ ws) (command_words-append ps qs)
+command_words-append (apart name value ∷ ps) qs = command_words-append ps qs
+command_words-append (joined name value ∷ ps) qs = command_words-append ps qs
+
+value_for-append : (name given : OptionName) (value : List ℕ) (vs ws : List (List ℕ)) → value_for name given value (vs ++ ws) ≡ value_for name given value vs ++ ws
+value_for-append Turns Turns value vs ws = refl
+value_for-append Turns Seed value vs ws = refl
+value_for-append Seed Turns value vs ws = refl
+value_for-append Seed Seed value vs ws = refl
+
+pub values_of-append : (name : OptionName) (ps qs : List Piece) → values_of name (ps ++ qs) ≡ values_of name ps ++ values_of name qs
+values_of-append name [] qs = refl
+values_of-append name (word w ∷ ps) qs = values_of-append name ps qs
+values_of-append name (apart given value ∷ ps) qs =
+    ap (value_for name given value) (values_of-append name ps qs) ∙ value_for-append name given value (values_of name ps) (values_of name qs)
+values_of-append name (joined given value ∷ ps) qs =
+    ap (value_for name given value) (values_of-append name ps qs) ∙ value_for-append name given value (values_of name ps) (values_of name qs)
+
+-- ---- what stands once stands nowhere before
+
+none_before : (xs ys : List (List ℕ)) → length (xs ++ ys) ≤ 1 → 1 ≤ length ys → xs ≡ []
+none_before [] ys le more = refl
+none_before (x ∷ xs) ys le more =
+    let total = length-append xs ys in
+    absurd (omega (arith, total))
+
+pub no_command_before : (all ps qs : List Piece) (w : List ℕ) → all ≡ ps ++ word w ∷ qs → AreOnce all → command_words ps ≡ []
+no_command_before all ps qs w e once =
+    none_before (command_words ps) (w ∷ command_words qs)
+    (subst (λ (xs : List (List ℕ)). length xs ≤ 1) (ap command_words e ∙ command_words-append ps (word w ∷ qs)) once.command) (omega arith)
+
+has_value : (name : OptionName) (value : List ℕ) (vs : List (List ℕ)) → 1 ≤ length (value_for name name value vs)
+has_value Turns value vs = omega arith
+has_value Seed value vs = omega arith
+
+pub no_value_before : (name : OptionName) (all ps qs : List Piece) (p : Piece) (value : List ℕ) → all ≡ ps ++ p ∷ qs
+    → values_of name (p ∷ qs) ≡ value_for name name value (values_of name qs) → AreOnce all → values_of name ps ≡ []
+no_value_before name all ps qs p value e is once =
+    none_before (values_of name ps) (values_of name (p ∷ qs))
+    (subst (λ (xs : List (List ℕ)). length xs ≤ 1) (ap (values_of name) e ∙ values_of-append name ps (p ∷ qs)) (once.option name))
+    (subst (λ (xs : List (List ℕ)). 1 ≤ length xs) (sym is) (has_value name value (values_of name qs)))
+
+-- ---- the words of plain pieces are known, and tell how often an option is given
+
+pub words_known : (ps : List Piece) → ArePlain ps → list_all is_known (words_of ps) ≡ true
+words_known [] plain = refl
+words_known (word w ∷ ps) plain = rw plain.0 (words_known ps plain.1)
+words_known (apart Turns value ∷ ps) plain = rw plain.0 (words_known ps plain.1)
+words_known (apart Seed value ∷ ps) plain = rw plain.0 (words_known ps plain.1)
+words_known (joined Turns value ∷ ps) plain = words_known ps plain.1
+words_known (joined Seed value ∷ ps) plain = words_known ps plain.1
+
+once_more : (name : OptionName) (w : List ℕ) (ws : List (List ℕ)) → is_option_word name w ≡ true → times_given name (w ∷ ws) ≡ suc (times_given name ws)
+once_more name w ws is = sum_by-cons (λ x. cond (is_option_word name x) 1 0) w ws ∙ rw is (omega arith)
+
+none_more : (name : OptionName) (w : List ℕ) (ws : List (List ℕ)) → has_hyphen w ≡ false → times_given name (w ∷ ws) ≡ times_given name ws
+none_more name w ws h = rw (no_option name w h) refl
+
+pub times_are : (name : OptionName) (ps : List Piece) → ArePlain ps → times_given name (words_of ps) ≡ length (values_of name ps)
+times_are name [] plain = refl
+times_are name (word w ∷ ps) plain = rw (no_option name w plain.0) (times_are name ps plain.1)
+times_are Turns (apart Turns value ∷ ps) plain = once_more Turns (dashed Turns) (value ∷ words_of ps) refl ∙ ap suc (none_more Turns value (words_of ps) plain.0 ∙ times_are Turns ps plain.1)
+times_are Turns (apart Seed value ∷ ps) plain = rw (no_option Turns value plain.0) (times_are Turns ps plain.1)
+times_are Seed (apart Turns value ∷ ps) plain = rw (no_option Seed value plain.0) (times_are Seed ps plain.1)
+times_are Seed (apart Seed value ∷ ps) plain = once_more Seed (dashed Seed) (value ∷ words_of ps) refl ∙ ap suc (none_more Seed value (words_of ps) plain.0 ∙ times_are Seed ps plain.1)
+times_are Turns (joined Turns value ∷ ps) plain = once_more Turns (dashed_equals Turns ++ value) (words_of ps) refl ∙ ap suc (times_are Turns ps plain.1)
+times_are Turns (joined Seed value ∷ ps) plain = times_are Turns ps plain.1
+times_are Seed (joined Turns value ∷ ps) plain = times_are Seed ps plain.1
+times_are Seed (joined Seed value ∷ ps) plain = once_more Seed (dashed_equals Seed ++ value) (words_of ps) refl ∙ ap suc (times_are Seed ps plain.1)

@@ -1,0 +1,148 @@
+-- The values of options, and the form that they are.
+use Rattle.std.proofs.Common.{◌≡◌, ◌∙◌, ◌≤◌, ◌<◌, ◌^◌, ℕ, Bool, true, false, refl, ap, subst, arith, List, [], ◌∷◌, length, Option, Some, None, inl, inr, nat_le}
+use Rattle.std.specs.Prelude.{decimal, find, slice_get}
+use Rattle.std.proofs.lemmas.Slice.Eq.{bytes_eq-Decides}
+use Rattle.std.proofs.lemmas.Option.{option_and_then_some}
+use Rattle.nt_event.specs.declared.limits.TheConstants.{TURNS, USUAL_TURNS}
+use Rattle.nt_text.specs.Fields.{number_up_to}
+use Rattle.nt_text.proofs.Decimals.{number_up_to_takes, number_up_to_again}
+use Rattle.nt_words.specs.declared.form.TheConstants.{COMMANDS, GREATEST_SEED}
+use Rattle.nt_words.specs.declared.form.Command.{Command}
+use Rattle.nt_words.specs.declared.form.Command.TheVariants as command
+use Rattle.nt_words.specs.declared.form.Form.{Form}
+use Rattle.nt_words.specs.declared.form.Form.TheVariants as form
+use Rattle.nt_words.specs.declared.option_name.OptionName.TheVariants.{Turns, Seed}
+use Rattle.nt_words.specs.Pieces.{Piece, values_of}
+use Rattle.nt_words.specs.Commands.{command_named, command_word, is_built, names_built}
+use Rattle.nt_words.specs.Forms.{HasOptions, HasSeed, HasTurns, command_of}
+use Rattle.nt_words.specs.Chosen.{at_least, form_from, none_from, number_within, seed_from, turns_from}
+
+-- ---- command words
+
+find_passes : {X : Type 0} (p : X → Bool) (xs : List X) (x : X) → find p xs ≡ Some x → p x ≡ true
+find_passes {X = X} p [] x e = cc
+find_passes {X = X} p (y ∷ ys) x e = go (p y) refl (find_passes p ys x)
+  where
+    go : (b : Bool) → p y ≡ b → (find p ys ≡ Some x → p x ≡ true) → p x ≡ true
+    go true is more =
+        let here : Some y ≡ Some x = rw is at e in
+        let same : y ≡ x = cc in
+        subst (λ (z : X). p z ≡ true) same is
+    go false is more = more (rw is at e)
+
+-- a word that names a built command is its word
+pub named_is : (w : List ℕ) (c : Command) → command_named w ≡ Some c → (w ≡ command_word c) × (is_built c ≡ true)
+unfolding command_named
+named_is w c e = go (is_built c) refl (find_passes (names_built w) COMMANDS c e)
+  where
+    go : (b : Bool) → is_built c ≡ b → names_built w c ≡ true → (w ≡ command_word c) × (is_built c ≡ true)
+    go true is passes = ((bytes_eq-Decides w (command_word c)).0 (rw is at passes), is)
+    go false is passes =
+        let bad : false ≡ true = rw is at passes in
+        cc
+
+pub named_again : (c : Command) → is_built c ≡ true → command_named (command_word c) ≡ Some c
+unfolding command_named
+named_again command.Run built = cc
+named_again command.Live built = cc
+named_again command.Replay built = cc
+named_again command.Check built = cc
+named_again command.Load built = cc
+
+-- ---- numbers
+
+within_takes : (least most : ℕ) (value : List ℕ) (n : ℕ) → most < 2 ^ 64 → number_within least most value ≡ Some n → (value ≡ decimal n) × (least ≤ n) × (n ≤ most)
+within_takes least most value n lt e = go (number_up_to most value) refl e
+  where
+    found : (m : ℕ) → number_up_to most value ≡ Some m → (b : Bool) → nat_le least m ≡ b → at_least least (Some m) ≡ Some n → (value ≡ decimal n) × (least ≤ n) × (n ≤ most)
+    found m is true le e =
+        let here : Some m ≡ Some n = rw le at e in
+        let same : m ≡ n = cc in
+        let t = number_up_to_takes most value n lt (is ∙ here) in
+        let low : least ≤ m = search (arith, le) in
+        (t.0, subst (λ (k : ℕ). least ≤ k) same low, t.1)
+    found m is false le e =
+        let bad : None ≡ Some n = rw le at e in
+        cc
+
+    go : (o : Option ℕ) → number_up_to most value ≡ o → at_least least o ≡ Some n → (value ≡ decimal n) × (least ≤ n) × (n ≤ most)
+    go None is e = cc
+    go (Some m) is e = found m is (nat_le least m) refl e
+
+within_again : (least most n : ℕ) → most < 2 ^ 64 → least ≤ n → n ≤ most → number_within least most (decimal n) ≡ Some n
+within_again least most n lt low high =
+    let le : nat_le least n ≡ true = search (arith, low) in
+    rw (number_up_to_again most n lt high, le) refl
+
+-- ---- options
+
+turns_taken : (pieces : List Piece) (n : ℕ) → length (values_of Turns pieces) ≤ 1 → turns_from (slice_get (values_of Turns pieces) 0) ≡ Some n → HasTurns n pieces
+turns_taken pieces n once e = go (values_of Turns pieces) refl once e
+  where
+    go : (vs : List (List ℕ)) → values_of Turns pieces ≡ vs → length vs ≤ 1 → turns_from (slice_get vs 0) ≡ Some n → HasTurns n pieces
+    go [] is once e =
+        let usual : n ≡ USUAL_TURNS = cc in
+        inr (is, usual)
+    go (v ∷ []) is once e =
+        let t = within_takes 1 TURNS v n (omega arith) e in
+        inl (is ∙ ap (λ (x : List ℕ). x ∷ []) t.0, t.1, t.2)
+    go (v ∷ w ∷ ws) is once e = absurd (omega arith)
+
+turns_again : (pieces : List Piece) (n : ℕ) → HasTurns n pieces → turns_from (slice_get (values_of Turns pieces) 0) ≡ Some n
+turns_again pieces n (inl given) = rw given.0 (within_again 1 TURNS n (omega arith) given.1 given.2)
+turns_again pieces n (inr missing) = rw (missing.0, missing.1) refl
+
+seed_taken : (pieces : List Piece) (n : ℕ) → length (values_of Seed pieces) ≤ 1 → seed_from (slice_get (values_of Seed pieces) 0) ≡ Some n → HasSeed n pieces
+seed_taken pieces n once e = go (values_of Seed pieces) refl once e
+  where
+    go : (vs : List (List ℕ)) → values_of Seed pieces ≡ vs → length vs ≤ 1 → seed_from (slice_get vs 0) ≡ Some n → HasSeed n pieces
+    go [] is once e = cc
+    go (v ∷ []) is once e =
+        let t = within_takes 0 GREATEST_SEED v n (omega arith) e in
+        (is ∙ ap (λ (x : List ℕ). x ∷ []) t.0, t.1, t.2)
+    go (v ∷ w ∷ ws) is once e = absurd (omega arith)
+
+seed_again : (pieces : List Piece) (n : ℕ) → HasSeed n pieces → seed_from (slice_get (values_of Seed pieces) 0) ≡ Some n
+seed_again pieces n given = rw given.0 (within_again 0 GREATEST_SEED n (omega arith) given.1 given.2)
+
+none_taken : (vs : List (List ℕ)) (x : Unit {0}) → none_from (slice_get vs 0) ≡ Some x → vs ≡ []
+none_taken [] x e = refl
+none_taken (v ∷ vs) x e = cc
+
+-- ---- forms
+
+-- the form of a command is that command's, with the options that are given
+pub record IsFormOf (c : Command) (pieces : List Piece) (f : Form) : Type 0 where
+  pub command : command_of f ≡ c
+  pub options : HasOptions f pieces
+
+pub form_taken : (c : Command) (pieces : List Piece) (f : Form) → length (values_of Turns pieces) ≤ 1 → length (values_of Seed pieces) ≤ 1
+    → form_from c (slice_get (values_of Turns pieces) 0) (slice_get (values_of Seed pieces) 0) ≡ Some f → IsFormOf c pieces f
+form_taken command.Run pieces f turns_once seed_once e =
+    option_and_then_some _ _ f e (λ x none rest. option_and_then_some _ _ f rest (λ n turns is.
+    let same : form.Run n ≡ f = cc in
+    subst (IsFormOf command.Run pieces) same (record { command = refl; options = (turns_taken pieces n turns_once turns, none_taken _ x none) })))
+form_taken command.Live pieces f turns_once seed_once e =
+    option_and_then_some _ _ f e (λ x none rest. option_and_then_some _ _ f rest (λ n turns is.
+    let same : form.Live n ≡ f = cc in
+    subst (IsFormOf command.Live pieces) same (record { command = refl; options = (turns_taken pieces n turns_once turns, none_taken _ x none) })))
+form_taken command.Replay pieces f turns_once seed_once e =
+    option_and_then_some _ _ f e (λ x none rest. option_and_then_some _ _ f rest (λ y turns is.
+    let same : form.Replay ≡ f = cc in
+    subst (IsFormOf command.Replay pieces) same (record { command = refl; options = (none_taken _ y turns, none_taken _ x none) })))
+form_taken command.Check pieces f turns_once seed_once e =
+    option_and_then_some _ _ f e (λ x none rest. option_and_then_some _ _ f rest (λ y turns is.
+    let same : form.Check ≡ f = cc in
+    subst (IsFormOf command.Check pieces) same (record { command = refl; options = (none_taken _ y turns, none_taken _ x none) })))
+form_taken command.Load pieces f turns_once seed_once e =
+    option_and_then_some _ _ f e (λ s seed rest. option_and_then_some _ _ f rest (λ n turns is.
+    let same : form.Load s n ≡ f = cc in
+    subst (IsFormOf command.Load pieces) same (record { command = refl; options = (turns_taken pieces n turns_once turns, seed_taken pieces s seed_once seed) })))
+
+pub form_again : (f : Form) (pieces : List Piece) → HasOptions f pieces
+    → form_from (command_of f) (slice_get (values_of Turns pieces) 0) (slice_get (values_of Seed pieces) 0) ≡ Some f
+form_again (form.Run turns) pieces has = rw (has.1, turns_again pieces turns has.0) refl
+form_again (form.Live turns) pieces has = rw (has.1, turns_again pieces turns has.0) refl
+form_again form.Replay pieces has = rw (has.1, has.0) refl
+form_again form.Check pieces has = rw (has.1, has.0) refl
+form_again (form.Load seed turns) pieces has = rw (seed_again pieces seed has.1, turns_again pieces turns has.0) refl
