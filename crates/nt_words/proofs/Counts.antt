@@ -29,7 +29,8 @@ command_words-append (word w ∷ ps) qs = ap (λ (ws : List (List ℕ)). w ∷ w
 command_words-append (apart name value ∷ ps) qs = command_words-append ps qs
 command_words-append (joined name value ∷ ps) qs = command_words-append ps qs
 
-value_for-append : (name given : OptionName) (value : List ℕ) (vs ws : List (List ℕ)) → value_for name given value (vs ++ ws) ≡ value_for name given value vs ++ ws
+value_for-append : (name given : OptionName) (value : List ℕ) (vs ws : List (List ℕ))
+    → value_for name given value (vs ++ ws) ≡ value_for name given value vs ++ ws
 value_for-append Turns Turns value vs ws = refl
 value_for-append Turns Seed value vs ws = refl
 value_for-append Seed Turns value vs ws = refl
@@ -86,10 +87,12 @@ none_more name w ws h = rw (no_option name w h) refl
 pub times_are : (name : OptionName) (ps : List Piece) → ArePlain ps → times_given name (words_of ps) ≡ length (values_of name ps)
 times_are name [] plain = refl
 times_are name (word w ∷ ps) plain = rw (no_option name w plain.0) (times_are name ps plain.1)
-times_are Turns (apart Turns value ∷ ps) plain = once_more Turns (dashed Turns) (value ∷ words_of ps) refl ∙ ap suc (none_more Turns value (words_of ps) plain.0 ∙ times_are Turns ps plain.1)
+times_are Turns (apart Turns value ∷ ps) plain =
+    once_more Turns (dashed Turns) (value ∷ words_of ps) refl ∙ ap suc (none_more Turns value (words_of ps) plain.0 ∙ times_are Turns ps plain.1)
 times_are Turns (apart Seed value ∷ ps) plain = rw (no_option Turns value plain.0) (times_are Turns ps plain.1)
 times_are Seed (apart Turns value ∷ ps) plain = rw (no_option Seed value plain.0) (times_are Seed ps plain.1)
-times_are Seed (apart Seed value ∷ ps) plain = once_more Seed (dashed Seed) (value ∷ words_of ps) refl ∙ ap suc (none_more Seed value (words_of ps) plain.0 ∙ times_are Seed ps plain.1)
+times_are Seed (apart Seed value ∷ ps) plain =
+    once_more Seed (dashed Seed) (value ∷ words_of ps) refl ∙ ap suc (none_more Seed value (words_of ps) plain.0 ∙ times_are Seed ps plain.1)
 times_are Turns (joined Turns value ∷ ps) plain = once_more Turns (dashed_equals Turns ++ value) (words_of ps) refl ∙ ap suc (times_are Turns ps plain.1)
 times_are Turns (joined Seed value ∷ ps) plain = times_are Turns ps plain.1
 times_are Seed (joined Turns value ∷ ps) plain = times_are Seed ps plain.1

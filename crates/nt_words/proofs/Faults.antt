@@ -71,5 +71,6 @@ no_fault all ws ends given =
     let kept : finished rules (over ws).held ≡ rows = (no_defaults rules rows none_here).0 in
     let checked : check_fault shape (finished rules (over ws).held) false ≡ [] =
     rw (kept, ends.rows) (rw (command_given all ∙ given) refl) in
-    ap (λ (stop : Option (Text × List Text)). level_fault shape [] nothing_held ws (is_some (entered (built app) stop)) (entered_fault (built app) stop)) ends.stopped
+    ap (λ (stop : Option (Text × List Text)). level_fault shape [] nothing_held ws (is_some (entered (built app) stop)) (entered_fault (built app) stop))
+    ends.stopped
     ∙ (ap₂ or_else ends.passes.walk (ap₂ or_else ends.passes.end (ap₂ or_else (no_defaults rules rows none_here).1 checked)))

@@ -1,5 +1,6 @@
 -- The values of options, and the form that they are.
-use Rattle.std.proofs.Common.{◌≡◌, ◌∙◌, ◌≤◌, ◌<◌, ◌^◌, ℕ, Bool, true, false, refl, ap, subst, arith, List, [], ◌∷◌, length, Option, Some, None, inl, inr, nat_le}
+use Rattle.std.proofs.Common.{◌≡◌, ◌∙◌, ◌≤◌, ◌<◌, ◌^◌, ℕ, Bool, true, false, refl, ap}
+use Rattle.std.proofs.Common.{subst, arith, List, [], ◌∷◌, length, Option, Some, None, inl, inr, nat_le}
 use Rattle.std.specs.Prelude.{decimal, find, slice_get}
 use Rattle.std.proofs.lemmas.Slice.Eq.{bytes_eq-Decides}
 use Rattle.std.proofs.lemmas.Option.{option_and_then_some}
@@ -51,10 +52,12 @@ named_again command.Load built = cc
 
 -- ---- numbers
 
-within_takes : (least most : ℕ) (value : List ℕ) (n : ℕ) → most < 2 ^ 64 → number_within least most value ≡ Some n → (value ≡ decimal n) × (least ≤ n) × (n ≤ most)
+within_takes : (least most : ℕ) (value : List ℕ) (n : ℕ) → most < 2 ^ 64 → number_within least most value ≡ Some n
+    → (value ≡ decimal n) × (least ≤ n) × (n ≤ most)
 within_takes least most value n lt e = go (number_up_to most value) refl e
   where
-    found : (m : ℕ) → number_up_to most value ≡ Some m → (b : Bool) → nat_le least m ≡ b → at_least least (Some m) ≡ Some n → (value ≡ decimal n) × (least ≤ n) × (n ≤ most)
+    found : (m : ℕ) → number_up_to most value ≡ Some m → (b : Bool) → nat_le least m ≡ b → at_least least (Some m) ≡ Some n
+        → (value ≡ decimal n) × (least ≤ n) × (n ≤ most)
     found m is true le e =
         let here : Some m ≡ Some n = rw le at e in
         let same : m ≡ n = cc in
@@ -76,7 +79,8 @@ within_again least most n lt low high =
 
 -- ---- options
 
-turns_taken : (pieces : List Piece) (n : ℕ) → length (values_of Turns pieces) ≤ 1 → turns_from (slice_get (values_of Turns pieces) 0) ≡ Some n → HasTurns n pieces
+turns_taken : (pieces : List Piece) (n : ℕ) → length (values_of Turns pieces) ≤ 1 → turns_from (slice_get (values_of Turns pieces) 0) ≡ Some n
+    → HasTurns n pieces
 turns_taken pieces n once e = go (values_of Turns pieces) refl once e
   where
     go : (vs : List (List ℕ)) → values_of Turns pieces ≡ vs → length vs ≤ 1 → turns_from (slice_get vs 0) ≡ Some n → HasTurns n pieces
@@ -137,7 +141,11 @@ form_taken command.Check pieces f turns_once seed_once e =
 form_taken command.Load pieces f turns_once seed_once e =
     option_and_then_some _ _ f e (λ s seed rest. option_and_then_some _ _ f rest (λ n turns is.
     let same : form.Load s n ≡ f = cc in
-    subst (IsFormOf command.Load pieces) same (record { command = refl; options = (turns_taken pieces n turns_once turns, seed_taken pieces s seed_once seed) })))
+    subst (IsFormOf command.Load pieces) same (record {
+      command = refl;
+      options =
+          (turns_taken pieces n turns_once turns, seed_taken pieces s seed_once seed);
+    })))
 
 pub form_again : (f : Form) (pieces : List Piece) → HasOptions f pieces
     → form_from (command_of f) (slice_get (values_of Turns pieces) 0) (slice_get (values_of Seed pieces) 0) ≡ Some f

@@ -1,5 +1,6 @@
 -- The parser's walk over the words of pieces: where it finds no fault, the words are those of pieces, and of which.
-use Rattle.std.proofs.Common.{◌≡◌, ◌∙◌, ◌≤◌, ℕ, Bool, true, false, refl, sym, ap, ap₂, subst, arith, List, [], ◌∷◌, ◌++◌, length, Option, Some, None, codes, append_assoc, append-nil}
+use Rattle.std.proofs.Common.{◌≡◌, ◌∙◌, ◌≤◌, ℕ, Bool, true, false, refl, sym, ap, ap₂, subst}
+use Rattle.std.proofs.Common.{arith, List, [], ◌∷◌, ◌++◌, length, Option, Some, None, codes, append_assoc, append-nil}
 use Rattle.std.specs.Prelude.{fold}
 use Rattle.std.specs.List.{list_all}
 use Rattle.clap.specs.Kinds.{Kinds, or_else}
@@ -12,7 +13,8 @@ use Rattle.nt_words.specs.Pieces.{Piece, word, apart, joined, command_words, das
 use Rattle.nt_words.specs.Tidy.{has_hyphen, is_known}
 use Rattle.nt_words.proofs.Words.{Kind, no_flag, flag, given, kind_of_word}
 use Rattle.nt_words.proofs.Rows.{has_some, no_command_row, no_option_row, put_new, row, rows-append, rows_for}
-use Rattle.nt_words.proofs.Parser.{shape, rules, held_at, walk_at, rule_for, word_step, word_fault, stray_word, value_step, value_fault, flag_step, flag_fault, given_step, given_fault}
+use Rattle.nt_words.proofs.Parser.{shape, rules, held_at, walk_at, rule_for, word_step, word_fault}
+use Rattle.nt_words.proofs.Parser.{stray_word, value_step, value_fault, flag_step, flag_fault, given_step, given_fault}
 use Rattle.nt_words.proofs.Counts.{ArePlain, AreOnce, command_words-append, no_command_before, no_value_before}
 
 -- the walk over the words and its end have no fault
@@ -70,7 +72,8 @@ ReadsFrom (Some name) seen ws = ReadsValue seen ws
 
 -- what the words behind are read as, from each state
 abbrev pub ReadsRest : List Text → Type 0
-ReadsRest ws = (wait : Option OptionName) (seen : Bool) (rows : List Row) (pending : Option (Text × List Text)) → Passes (state wait seen rows pending) ws → ReadsFrom wait seen ws
+ReadsRest ws = (wait : Option OptionName) (seen : Bool) (rows : List Row) (pending : Option (Text × List Text)) → Passes
+    (state wait seen rows pending) ws → ReadsFrom wait seen ws
 
 read_word : (rows : List Row) (pending : Option (Text × List Text)) (w : Text) (ws : List Text) → has_hyphen w ≡ false
     → Passes (state None false rows pending) (w ∷ ws) → ReadsRest ws → Reads false (w ∷ ws)
@@ -97,7 +100,13 @@ read_given : (name : OptionName) (value : Text) (seen : Bool) (rows : List Row) 
 read_given name value seen rows pending ws p more =
     let after = subst (λ (x : Walk). Passes x ws) (given_step name value rows pending idle (position seen)) (next _ (dashed_equals name ++ value) ws p).1 in
     let r = more None seen _ None after in
-    record { pieces = joined name value ∷ r.pieces; spelled = ap (λ (xs : List Text). (dashed_equals name ++ value) ∷ xs) r.spelled; plain = (tt, r.plain); once = r.once }
+    record {
+      pieces = joined name value ∷ r.pieces;
+      spelled = ap (λ (xs : List Text). (dashed_equals name ++ value) ∷ xs) r.spelled;
+      plain =
+          (tt, r.plain);
+      once = r.once;
+    }
 
 read_value : (name : OptionName) (seen : Bool) (rows : List Row) (w : Text) (ws : List Text) → has_hyphen w ≡ false
     → Passes (state (Some name) seen rows None) (w ∷ ws) → ReadsRest ws → ReadsValue seen (w ∷ ws)
@@ -112,9 +121,11 @@ step None true rows pending w ws (no_flag h) p more =
     let bad : UnknownArgument ∷ [] ≡ [] = sym (stray_word rows pending w h) ∙ (next _ w ws p).0 in
     cc
 step None seen rows pending w ws (flag name e) p more =
-    subst (λ (x : Text). Reads seen (x ∷ ws)) (sym e) (read_flag name seen rows pending ws (subst (λ (x : Text). Passes (state None seen rows pending) (x ∷ ws)) e p) more)
+    subst (λ (x : Text). Reads seen (x ∷ ws)) (sym e) (read_flag name seen rows pending ws
+    (subst (λ (x : Text). Passes (state None seen rows pending) (x ∷ ws)) e p) more)
 step None seen rows pending w ws (given name value e) p more =
-    subst (λ (x : Text). Reads seen (x ∷ ws)) (sym e) (read_given name value seen rows pending ws (subst (λ (x : Text). Passes (state None seen rows pending) (x ∷ ws)) e p) more)
+    subst (λ (x : Text). Reads seen (x ∷ ws)) (sym e) (read_given name value seen rows pending ws
+    (subst (λ (x : Text). Passes (state None seen rows pending) (x ∷ ws)) e p) more)
 step (Some name) seen rows pending w ws (no_flag h) p more = read_value name seen rows w ws h p more
 step (Some name) seen rows pending w ws (flag other e) p more =
     let at = subst (λ (x : Text). turn_fault shape [] (state (Some name) seen rows pending) x ≡ []) e (next _ w ws p).0 in
@@ -161,7 +172,8 @@ pub record Ends (all : List Piece) (w : Walk) (ws : List Text) : Type 0 where
   pub rows : (settled rules (fold (walked rules []) w ws).held).rows ≡ rows_for all
   pub stopped : (fold (walked rules []) w ws).stopped ≡ None
 
-before : (all : List Piece) (w after : Walk) (x : Text) (xs : List Text) → turn_fault shape [] w x ≡ [] → walked rules [] w x ≡ after → Ends all after xs → Ends all w (x ∷ xs)
+before : (all : List Piece) (w after : Walk) (x : Text) (xs : List Text) → turn_fault shape [] w x ≡ [] → walked rules [] w x ≡ after → Ends all after xs
+    → Ends all w (x ∷ xs)
 unfolding walk_fault
 before all w after x xs none is ends =
     let e = subst (λ (v : Walk). Ends all v xs) (sym is) ends in
@@ -185,16 +197,19 @@ used_new : (name : OptionName) (ps : List Piece) (p : Piece) (rows : List Row) (
 used_new Turns ps p rows value e none is = put_new (codes "turns") value rows none ∙ (ap₂ ◌++◌ e (sym is) ∙ sym (rows-append ps (p ∷ [])))
 used_new Seed ps p rows value e none is = put_new (codes "seed") value rows none ∙ (ap₂ ◌++◌ e (sym is) ∙ sym (rows-append ps (p ∷ [])))
 
-no_use_fault : (name : OptionName) (rows : List Row) (value : Text) → has_row (option_text name) rows ≡ false → use_fault false (rule_for name) (value ∷ []) rows ≡ []
+no_use_fault : (name : OptionName) (rows : List Row) (value : Text) → has_row (option_text name) rows ≡ false
+    → use_fault false (rule_for name) (value ∷ []) rows ≡ []
 no_use_fault Turns rows value none = rw none refl
 no_use_fault Seed rows value none = rw none refl
 
 -- what is pending of an option is its use
-pending_rows : (name : OptionName) (rows : List Row) (value : Text) → settled_rows rules (Some (option_text name, value ∷ [])) rows ≡ used (rule_for name) (value ∷ []) rows
+pending_rows : (name : OptionName) (rows : List Row) (value : Text)
+    → settled_rows rules (Some (option_text name, value ∷ [])) rows ≡ used (rule_for name) (value ∷ []) rows
 pending_rows Turns rows value = refl
 pending_rows Seed rows value = refl
 
-pending_fault : (name : OptionName) (rows : List Row) (value : Text) → settle_fault rules false (held_at rows (Some (option_text name, value ∷ []))) ≡ use_fault false (rule_for name) (value ∷ []) rows
+pending_fault : (name : OptionName) (rows : List Row) (value : Text)
+    → settle_fault rules false (held_at rows (Some (option_text name, value ∷ []))) ≡ use_fault false (rule_for name) (value ∷ []) rows
 pending_fault Turns rows value = refl
 pending_fault Seed rows value = refl
 
@@ -224,8 +239,10 @@ seen_after ps w = sym (ap has_some (command_words-append ps (word w ∷ [])) ∙
     some_last [] x = refl
     some_last (y ∷ ys) x = refl
 
-seen_option : (ps : List Piece) (p : Piece) (seen : Bool) → command_words (p ∷ []) ≡ [] → seen ≡ has_some (command_words ps) → seen ≡ has_some (command_words (ps ++ p ∷ []))
-seen_option ps p seen none e = e ∙ ap has_some (sym (command_words-append ps (p ∷ []) ∙ (ap (λ (xs : List (List ℕ)). command_words ps ++ xs) none ∙ append-nil (command_words ps))))
+seen_option : (ps : List Piece) (p : Piece) (seen : Bool) → command_words (p ∷ []) ≡ [] → seen ≡ has_some (command_words ps)
+    → seen ≡ has_some (command_words (ps ++ p ∷ []))
+seen_option ps p seen none e =
+    e ∙ ap has_some (sym (command_words-append ps (p ∷ []) ∙ (ap (λ (xs : List (List ℕ)). command_words ps ++ xs) none ∙ append-nil (command_words ps))))
 
 pub ends : (qs all ps : List Piece) (seen : Bool) (rows : List Row) (pending : Option (Text × List Text)) → all ≡ ps ++ qs → seen ≡ has_some (command_words ps)
     → Stands ps rows pending → ArePlain qs → AreOnce all → Ends all (walk_at rows pending idle (position seen)) (words_of qs)
@@ -238,19 +255,23 @@ ends (word w ∷ qs) all ps true rows pending e s stands plain once =
     cc
 ends (word w ∷ qs) all ps false rows pending e s stands plain once =
     let none = no_command_before all ps qs w e once in
-    let rest = ends qs all (ps ++ word w ∷ []) true (settled_rows rules pending rows) (Some (codes "command", w ∷ [])) (more_read all ps qs (word w) e) (seen_after ps w)
+    let rest = ends qs all (ps ++ word w ∷ []) true (settled_rows rules pending rows) (Some (codes "command", w ∷ [])) (more_read all ps qs (word w) e)
+    (seen_after ps w)
     (word_stands ps _ w stands.rows none) plain.1 once in
     before all _ _ w _ (word_fault rows pending w plain.0 ∙ stands.sound) (word_step rows pending w plain.0) rest
 ends (apart name value ∷ qs) all ps seen rows pending e s stands plain once =
     let none = no_value_before name all ps qs (apart name value) value e refl once in
-    let rest = ends qs all (ps ++ apart name value ∷ []) seen (settled_rows rules pending rows) (Some (option_text name, value ∷ [])) (more_read all ps qs (apart name value) e)
+    let rest = ends qs all (ps ++ apart name value ∷ []) seen (settled_rows rules pending rows) (Some (option_text name, value ∷ []))
+    (more_read all ps qs (apart name value) e)
     (seen_option ps (apart name value) seen refl s) (apart_stands name ps _ value stands.rows none) plain.1 once in
     before all _ _ (dashed name) _ (flag_fault name rows pending idle (position seen) ∙ stands.sound) (flag_step name rows pending idle (position seen))
     (before all _ _ value _ (value_fault name _ (position seen) value plain.0) (value_step name _ (position seen) value plain.0) rest)
 ends (joined name value ∷ qs) all ps seen rows pending e s stands plain once =
     let none = no_value_before name all ps qs (joined name value) value e refl once in
     let no_row = fresh_row name ps (settled_rows rules pending rows) stands.rows none in
-    let rest = ends qs all (ps ++ joined name value ∷ []) seen (used (rule_for name) (value ∷ []) (settled_rows rules pending rows)) None (more_read all ps qs (joined name value) e)
+    let rest = ends qs all (ps ++ joined name value ∷ []) seen (used (rule_for name) (value ∷ []) (settled_rows rules pending rows)) None
+    (more_read all ps qs (joined name value) e)
     (seen_option ps (joined name value) seen refl s) (joined_stands name ps _ value stands.rows none) plain.1 once in
-    before all _ _ (dashed_equals name ++ value) _ (given_fault name value rows pending idle (position seen) ∙ (ap₂ or_else stands.sound (no_use_fault name _ value no_row)))
+    before all _ _ (dashed_equals name ++ value) _ (given_fault name value rows pending idle (position seen)
+    ∙ (ap₂ or_else stands.sound (no_use_fault name _ value no_row)))
     (given_step name value rows pending idle (position seen)) rest

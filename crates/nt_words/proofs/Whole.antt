@@ -1,5 +1,6 @@
 -- The words of a form are taken as that form, and words that are taken as a form are one.
-use Rattle.std.proofs.Common.{◌≡◌, ◌∙◌, ◌≤◌, ◌<◌, ◌^◌, ℕ, Bool, true, false, refl, sym, ap, subst, arith, List, [], ◌∷◌, length, Option, Some, None, nat_le, inl, inr}
+use Rattle.std.proofs.Common.{◌≡◌, ◌∙◌, ◌≤◌, ◌<◌, ◌^◌, ℕ, Bool, true, false, refl, sym, ap}
+use Rattle.std.proofs.Common.{subst, arith, List, [], ◌∷◌, length, Option, Some, None, nat_le, inl, inr}
 use Rattle.std.specs.Prelude.{decimal, slice_get, option_and_then}
 use Rattle.std.specs.List.{list_all}
 use Rattle.clap.specs.Simple.{App, matches_of}
@@ -105,7 +106,8 @@ ends_of ps plain once = ends ps ps [] false [] None refl refl (record { rows = r
 -- the form that the rows of pieces are
 chosen_of : (ps : List Piece) → chosen (rows_for ps) ≡ option_and_then (λ c. form_from c (slice_get (values_of Turns ps) 0) (slice_get (values_of Seed ps) 0))
     (option_and_then command_named (slice_get (command_words ps) 0))
-chosen_of ps = λ i. option_and_then (λ c. form_from c (first_value_of Turns ps i) (first_value_of Seed ps i)) (option_and_then command_named (first_command ps i))
+chosen_of ps =
+    λ i. option_and_then (λ c. form_from c (first_value_of Turns ps i) (first_value_of Seed ps i)) (option_and_then command_named (first_command ps i))
 
 -- what holds of words that are a form
 pub record IsTaken (words : List (List ℕ)) (f : Form) : Type 0 where
@@ -160,7 +162,8 @@ times_of_tidy Turns words e = go (list_all is_known words) refl (nat_le (times_g
         cc
 times_of_tidy Seed words e = go (list_all is_known words) refl (nat_le (times_given Turns words) 1) refl (nat_le (times_given Seed words) 1) refl
   where
-    go : (a : Bool) → list_all is_known words ≡ a → (b : Bool) → nat_le (times_given Turns words) 1 ≡ b → (c : Bool) → nat_le (times_given Seed words) 1 ≡ c → times_given Seed words ≤ 1
+    go : (a : Bool) → list_all is_known words ≡ a → (b : Bool) → nat_le (times_given Turns words) 1 ≡ b → (c : Bool) → nat_le (times_given Seed words) 1 ≡ c
+        → times_given Seed words ≤ 1
     go a known b turns true is = search (arith, is)
     go true known true turns false is =
         let bad : false ≡ true = rw (known, turns, is) at e in
@@ -191,7 +194,8 @@ named_form ps f once e = go (command_words ps) refl once.command (sym (chosen_of
         }
 
     go : (ws : List (List ℕ)) → command_words ps ≡ ws → length ws ≤ 1
-        → option_and_then (λ c. form_from c (slice_get (values_of Turns ps) 0) (slice_get (values_of Seed ps) 0)) (option_and_then command_named (slice_get (command_words ps) 0)) ≡ Some f
+        → option_and_then (λ c. form_from c (slice_get (values_of Turns ps) 0) (slice_get (values_of Seed ps) 0))
+        (option_and_then command_named (slice_get (command_words ps) 0)) ≡ Some f
         → IsForm (words_of ps) f
     go [] is le e =
         let bad : None ≡ Some f = rw is at e in
@@ -199,13 +203,16 @@ named_form ps f once e = go (command_words ps) refl once.command (sym (chosen_of
     go (w ∷ []) is le e = found w is (command_named w) refl (rw is at e)
     go (w ∷ v ∷ vs) is le e = absurd (omega arith)
 
-pub taken_is_form : (words : List (List ℕ)) (f : Form) → is_tidy words ≡ true → fault_of ntrun_app words ≡ [] → chosen (matches_of ntrun_app words) ≡ Some f → IsForm words f
+pub taken_is_form : (words : List (List ℕ)) (f : Form) → is_tidy words ≡ true → fault_of ntrun_app words ≡ [] → chosen (matches_of ntrun_app words) ≡ Some f
+    → IsForm words f
 taken_is_form words f tidy fault form =
     let r = reads words (known_of_tidy words tidy) None false [] None (passes words (ap (λ (a : App). fault_of a words) (sym app_is) ∙ fault)) in
     let ps = r.pieces in
-    let times : (name : OptionName) → length (values_of name ps) ≤ 1 = λ name. subst (λ (k : ℕ). k ≤ 1) (ap (times_given name) r.spelled ∙ times_are name ps r.plain) (times_of_tidy name words tidy) in
+    let times : (name : OptionName) → length (values_of name ps) ≤ 1 = λ name. subst (λ (k : ℕ). k ≤ 1)
+    (ap (times_given name) r.spelled ∙ times_are name ps r.plain) (times_of_tidy name words tidy) in
     let once : AreOnce ps = record { command = r.once; option = times } in
     let rows = rows_are ps (words_of ps) (ends_of ps r.plain once) in
     let here : chosen (rows_for ps) ≡ Some f =
-    ap chosen (sym rows) ∙ (ap (λ (ws : List (List ℕ)). chosen (matches_of app ws)) (sym r.spelled) ∙ (ap (λ (a : App). chosen (matches_of a words)) (sym app_is) ∙ form)) in
+    ap chosen (sym rows) ∙ (ap (λ (ws : List (List ℕ)). chosen (matches_of app ws)) (sym r.spelled)
+    ∙ (ap (λ (a : App). chosen (matches_of a words)) (sym app_is) ∙ form)) in
     subst (λ (ws : List (List ℕ)). IsForm ws f) (sym r.spelled) (named_form ps f once here)

@@ -20,7 +20,8 @@ a_command rows w c is named = rw is (rw named refl)
 pub returns-in_err-get_str : goal.returns-in_err-get_str
 returns-in_err-get_str c =
     let f = found_of c.args.matches.now in
-    let none : first_of (codes "command") (rows_of f) ≡ None = sym (first_value-rows f (codes "command")) ∙ (sym c.get_str.ensures ∙ ap (option_map (λ s. s.now)) c.in_err-get_str.was) in
+    let none : first_of (codes "command") (rows_of f) ≡ None = sym (first_value-rows f (codes "command"))
+    ∙ (sym c.get_str.ensures ∙ ap (option_map (λ s. s.now)) c.in_err-get_str.was) in
     let result : c.from_residual.result ≡ None = search rules in
     result ∙ sym (no_word (rows_of f) none)
 
@@ -39,4 +40,5 @@ returns c =
     sym (first_value-rows f (codes "command")) ∙ (sym c.get_str.ensures ∙ ap (option_map (λ s. s.now)) c.in_ok-get_str.was) in
     let turns = c.get_str-2.ensures ∙ (first_value-rows f c.text.result.now ∙ ap (λ (id : List ℕ). first_of id (rows_of f)) c.text.ensures) in
     let seed = c.get_str-3.ensures ∙ (first_value-rows f c.text-2.result.now ∙ ap (λ (id : List ℕ). first_of id (rows_of f)) c.text-2.ensures) in
-    c.form_from.ensures ∙ ((λ i. form_from c.in_ok-command.command (turns i) (seed i)) ∙ sym (a_command (rows_of f) _ _ some (sym c.command_named.ensures ∙ c.in_ok-command.was)))
+    c.form_from.ensures ∙ ((λ i. form_from c.in_ok-command.command (turns i) (seed i))
+    ∙ sym (a_command (rows_of f) _ _ some (sym c.command_named.ensures ∙ c.in_ok-command.was)))

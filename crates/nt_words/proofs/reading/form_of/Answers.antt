@@ -19,7 +19,8 @@ returns-then-not-is_tidy-clause-none c = λ f is.
 pub returns-in_err-matches-clause-none : goal.returns-in_err-matches-clause-none
 returns-in_err-matches-clause-none c =
     let words = map string_bytes c.args.words.now in
-    refused_up c.from_residual.result c.in_err-matches.field-0.0 (fault_of ntrun_app words ≡ [] → ⊥) (IsNoForm words) (search rules) (λ none f is. none (form_is_taken words f is).fault)
+    refused_up c.from_residual.result c.in_err-matches.field-0.0 (fault_of ntrun_app words ≡ [] → ⊥) (IsNoForm words) (search rules)
+    (λ none f is. none (form_is_taken words f is).fault)
     c.in_err-matches.ensures.refused
 
 pub returns-clause-some : goal.returns-clause-some

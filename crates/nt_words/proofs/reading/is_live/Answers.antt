@@ -7,5 +7,6 @@ use Rattle.nt_words.proofs.reading.is_live.Goals as goal
 
 pub returns : goal.returns
 returns c =
-    any_from_yields_List (λ s. bytes_eq (string_bytes s) (codes "live")) _ _ c.any.result c.any.ensures.ran (YieldsList-from_slice c.args.words.now cc) (λ x b q k. search (rules, tests))
+    any_from_yields_List (λ s. bytes_eq (string_bytes s) (codes "live")) _ _ c.any.result c.any.ensures.ran (YieldsList-from_slice c.args.words.now cc)
+    (λ x b q k. search (rules, tests))
     ∙ list_any-map (λ w. bytes_eq w (codes "live")) string_bytes c.args.words.now

@@ -7,5 +7,6 @@ use Rattle.nt_words.proofs.tidy.are_known.Goals as goal
 
 pub returns : goal.returns
 returns c =
-    all_from_yields_List (λ s. is_known (string_bytes s)) _ _ c.all.result c.all.ensures.ran (YieldsList-from_slice c.args.words.now cc) (λ x b q k. search (rules, tests))
+    all_from_yields_List (λ s. is_known (string_bytes s)) _ _ c.all.result c.all.ensures.ran (YieldsList-from_slice c.args.words.now cc)
+    (λ x b q k. search (rules, tests))
     ∙ sym (list_all-map is_known string_bytes c.args.words.now)
