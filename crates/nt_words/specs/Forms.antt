@@ -51,6 +51,17 @@ pub record IsForm (words : List (List ℕ)) (f : Form) : Type 0 where
   pub built : is_built (command_of f) ≡ true
   pub options : HasOptions f pieces
 
+-- the numbers of a form lie within their ranges
+abbrev pub IsTurns : ℕ → Type 0
+IsTurns turns = (1 ≤ turns) × (turns ≤ TURNS)
+
+abbrev pub IsWithin : Form → Type 0
+IsWithin (form.Run turns) = IsTurns turns
+IsWithin (form.Live turns) = IsTurns turns
+IsWithin form.Replay = Unit {0}
+IsWithin form.Check = Unit {0}
+IsWithin (form.Load seed turns) = (seed ≤ GREATEST_SEED) × IsTurns turns
+
 -- one of the words is `live`
 abbrev pub names_live : List (List ℕ) → Bool
 names_live words = list_any (λ w. bytes_eq w (command_word command.Live)) words

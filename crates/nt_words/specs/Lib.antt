@@ -5,3 +5,4 @@ pub mod Tidy
 pub mod Chosen
 pub mod Parser
 pub mod Refusals
+pub mod Usage

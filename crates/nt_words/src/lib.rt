@@ -12,6 +12,6 @@ mod reading;
 mod tidy;
 
 pub use form::{Command, Form, GREATEST_SEED, USAGE};
-pub use laws::words_have_one_form;
+pub use laws::{usage_names_what_is_built, words_have_one_form};
 pub use option_name::OptionName;
 pub use reading::{WordsRefusal, form_of, is_live};

@@ -4,7 +4,7 @@ ghost use Rattle.clap.specs.Walk.{rows_of};
 ghost use Rattle.clap.specs.Matches.{found_of};
 ghost use Rattle.clap.specs.Simple.{app_of, matches_of};
 ghost use Rattle.clap.specs.Faults.{fault_of};
-ghost use Rattle.nt_words.specs.Forms.{IsForm, names_live};
+ghost use Rattle.nt_words.specs.Forms.{IsForm, IsWithin, names_live};
 ghost use Rattle.nt_words.specs.Chosen.{chosen};
 ghost use Rattle.nt_words.specs.Parser.{ntrun_app};
 ghost use Rattle.nt_words.specs.Refusals.{IsNoForm, OnNoForm};
@@ -103,6 +103,7 @@ fn form_in(matches: &ArgMatches<'_>) -> Option<Form>
 pub fn form_of(alloc: Global, words: &[String]) -> Result<Form, WordsRefusal>
     ensures some { IfOk result (λ form. IsForm (map string_bytes words.now) form) }
     ensures none { OnNoForm result (IsNoForm (map string_bytes words.now)) }
+    ensures within { IfOk result IsWithin }
 {
     if !is_tidy(words) {
         return Err(WordsRefusal::NoForm);

@@ -6,7 +6,7 @@ use Rattle.nt_words.specs.declared.reading.WordsRefusal.{WordsRefusal}
 use Rattle.nt_words.specs.Forms.{IsForm}
 use Rattle.nt_words.specs.Chosen.{chosen}
 use Rattle.nt_words.specs.Refusals.{IsNoForm, OnNoForm}
-use Rattle.nt_words.proofs.Answered.{form_answered, no_form_answered}
+use Rattle.nt_words.proofs.Answered.{form_answered, form_within, no_form_answered}
 use Rattle.nt_words.proofs.Refused.{refused_up}
 use Rattle.nt_words.proofs.Whole.{form_is_taken}
 use Rattle.nt_words.proofs.reading.form_of.Goals as goal
@@ -23,12 +23,18 @@ returns-in_err-matches-clause-none c =
     (λ none f is. none (form_is_taken words f is).fault)
     c.in_err-matches.ensures.refused
 
-pub returns-clause-some : goal.returns-clause-some
-returns-clause-some c =
+is_form : (c : goal.Joined-matches) → IfOk c.ok_or.result (IsForm (map string_bytes c.args.words.now))
+is_form c =
     let words = map string_bytes c.args.words.now in
     subst (λ (r : Result Form WordsRefusal). IfOk r (IsForm words)) (sym c.ok_or.ensures.value)
     (form_answered words c.form_in.result (sym c.is_tidy.ensures ∙ c.if-not-is_tidy.false) c.in_ok-matches.ensures.taken
     (c.form_in.ensures ∙ ap chosen c.in_ok-matches.ensures.rows))
+
+pub returns-clause-some : goal.returns-clause-some
+returns-clause-some c = is_form c
+
+pub returns-clause-within : goal.returns-clause-within
+returns-clause-within c = form_within (map string_bytes c.args.words.now) c.ok_or.result (is_form c)
 
 pub returns-clause-none : goal.returns-clause-none
 returns-clause-none c =
