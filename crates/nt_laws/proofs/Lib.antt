@@ -1,3 +1,4 @@
+pub mod Counts
 pub mod Leaves
 pub mod Deliveries
 pub mod Local

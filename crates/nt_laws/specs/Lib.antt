@@ -1,3 +1,4 @@
+pub mod Counts
 pub mod Locality
 pub mod Deliveries
 pub mod Fates

@@ -5,6 +5,7 @@
 
 mod inserts;
 
+ghost use Rattle.nt_laws.specs.Counts.{MakesAtMostTheLimit, RunIsBounded, UncutHasRoom};
 ghost use Rattle.nt_laws.specs.Deliveries.{DeliveriesAreEligible};
 ghost use Rattle.nt_laws.specs.Named.{EventsOfARunFit};
 ghost use Rattle.nt_laws.specs.Locality.{ChangesOwnLanesOnly, EventLeavesTheSame, KeepsItsPart, StepIsLocal};
@@ -51,4 +52,12 @@ pub fn a_processor_keeps_its_part()
 /// event as text needs this: each name that is written exists, and each number has few digits.
 pub fn events_of_a_run_fit()
     ensures { EventsOfARunFit }
+{}
+
+/// In a run each processor makes at most as many events as the turn limit; so the run has at most as many as all its processors
+/// may make, and less where one of them is not cut.
+pub fn a_processor_makes_no_more_than_the_limit()
+    ensures each { MakesAtMostTheLimit }
+    ensures all { RunIsBounded }
+    ensures room { UncutHasRoom }
 {}
