@@ -24,7 +24,7 @@ all_reversed p (x ∷ xs) =
     swapped false true c h = refl
     swapped false false c h = refl
 
-event_named : (s : Script) (n : ℕ) (e : Event) → EventFits s n e → event_fits s e ≡ true
+pub event_named : (s : Script) (n : ℕ) (e : Event) → EventFits s n e → event_fits s e ≡ true
 event_named s n e h = rw (h.cpu, h.thread, h.what) refl
 
 all_named : (s : Script) (past : List Event) → AllFit s past → list_all (event_fits s) past ≡ true

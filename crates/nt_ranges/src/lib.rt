@@ -1,0 +1,28 @@
+//! What a run of a script makes is in the ranges of the texts: its history is one that a report may have, and its schedule one
+//! that a text may have. Each function's contract is a law; the functions do nothing.
+//!
+//! A run's definition leaves two things open that a text needs: a turn Look may carry a list of any length, and the numbers in
+//! commands are bounded only where a text was read. So the laws have as premises that the input is sound and that each look has
+//! a value for each class.
+#![tactic(auto)]
+
+ghost use Rattle.nt_ranges.specs.Plain.{ARunHasAReport, ItsScheduleIsPlain, ItsTurnsAreOfProcessors};
+ghost use Rattle.nt_ranges.specs.Statuses.{StatusesAreThoseOfWaits};
+
+/// A run has a report: its history names things of the script, its numbers are in the ranges of their fields, and it has not too
+/// many events.
+pub fn a_run_has_a_report()
+    ensures { ARunHasAReport }
+{}
+
+/// Its schedule has a text, and each turn is one of a processor of the script.
+pub fn its_schedule_is_plain()
+    ensures plain { ItsScheduleIsPlain }
+    ensures processors { ItsTurnsAreOfProcessors }
+{}
+
+/// Statuses are those of waits: in a run, each status in a reply or a Switch is STATUS_SUCCESS, STATUS_USER_APC,
+/// STATUS_KERNEL_APC or STATUS_ALERTED.
+pub fn statuses_are_those_of_waits()
+    ensures { StatusesAreThoseOfWaits }
+{}
