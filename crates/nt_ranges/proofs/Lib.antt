@@ -5,3 +5,5 @@ pub mod Looks
 pub mod Called
 pub mod Events
 pub mod Reports
+pub mod Whole
+pub mod Cuts

@@ -1,3 +1,4 @@
 pub mod Looks
 pub mod Statuses
 pub mod Plain
+pub mod Cuts

@@ -6,6 +6,8 @@
 //! a value for each class.
 #![tactic(auto)]
 
+ghost use Rattle.nt_ranges.specs.Cuts.{CountsAreMade, CutLinesNameTheCut};
+ghost use Rattle.nt_ranges.specs.Looks.{AReplayLooksWhole, ARobinRunLooksWhole};
 ghost use Rattle.nt_ranges.specs.Plain.{ARunHasAReport, ItsScheduleIsPlain, ItsTurnsAreOfProcessors};
 ghost use Rattle.nt_ranges.specs.Statuses.{StatusesAreThoseOfWaits};
 
@@ -25,4 +27,21 @@ pub fn its_schedule_is_plain()
 /// STATUS_KERNEL_APC or STATUS_ALERTED.
 pub fn statuses_are_those_of_waits()
     ensures { StatusesAreThoseOfWaits }
+{}
+
+/// The looks of a robin run are whole: each has a value for each class.
+pub fn a_robin_run_looks_whole()
+    ensures { ARobinRunLooksWhole }
+{}
+
+/// The looks of a replay are whole, where the turns are such as a text of a schedule may have.
+pub fn a_replay_looks_whole()
+    ensures { AReplayLooksWhole }
+{}
+
+/// A report names the processors that were cut: the count that its lines `cut` go by is how many events the processor made, and
+/// in a run such a line stands exactly where the processor is cut.
+pub fn a_report_names_the_cut()
+    ensures counts { CountsAreMade }
+    ensures lines { CutLinesNameTheCut }
 {}
