@@ -1,46 +1,26 @@
 -- What an event asks for, touches and leaves is determined by what its processor keeps and the states of the lanes that it touches.
-use Rattle.std.proofs.Common.{ap, arith, subst, sym, ◌∙◌}
+use Rattle.std.proofs.Common.{ap, subst, sym, ◌∙◌}
 use Rattle.std.proofs.lemmas.Bool.{eq-eqb}
 use Rattle.std.specs.List.{list_any}
-use Rattle.std.specs.Prelude.{Bool, List, Ok, Option, Some, [], false, get_or, if◌then◌else◌, length, max, not, option_map, refl, true, ℕ, ◌&&◌, ◌++◌, ◌+◌, ◌<◌, ◌==◌, ◌||◌, ◌∷◌, ◌≡◌}
-use Rattle.nt_event.specs.declared.commands.ApcKind.TheVariants.{Normal as NormalApc}
-use Rattle.nt_event.specs.declared.commands.Command.{Command}
-use Rattle.nt_event.specs.declared.commands.Command.TheVariants.{Alert, Clock, Delay, InsertApc, Interrupt, LeaveCrit, LeaveGuard, Queue, Release, Unqueue}
-use Rattle.nt_event.specs.declared.commands.Reply.{Reply}
-use Rattle.nt_event.specs.declared.commands.Reply.TheVariants.{Done, No, Refused, Yes}
-use Rattle.nt_event.specs.declared.commands.TimerKey.TheVariants.{Delay as OfDelay}
-use Rattle.nt_event.specs.declared.events.Begun.TheVariants.{Dpc, Threaded}
+use Rattle.std.specs.Prelude.{Bool, List, Ok, Option, Some, [], get_or, length, max, refl, true, ℕ, ◌&&◌, ◌<◌, ◌∷◌, ◌≡◌}
 use Rattle.nt_event.specs.declared.events.Event.{Event}
 use Rattle.nt_event.specs.declared.events.What.{What}
-use Rattle.nt_event.specs.declared.events.What.TheVariants.{Begin, Call, End, Expire, Fire, Switch}
-use Rattle.nt_event.specs.declared.frames.Body.{Body}
-use Rattle.nt_event.specs.declared.frames.Body.TheVariants.{Apc as OnApc, Base as OnBase}
-use Rattle.nt_event.specs.declared.frames.Frame.{Frame}
-use Rattle.nt_event.specs.declared.inserts.Insert.{Insert}
+use Rattle.nt_event.specs.declared.events.What.TheVariants.{Switch}
 use Rattle.nt_event.specs.declared.jobs.Lane.{Lane}
-use Rattle.nt_event.specs.declared.jobs.Lane.TheVariants.{Object as ObjectLane, Queue as QueueLane, Threads as ThreadsLane, Timers as TimersLane}
 use Rattle.nt_event.specs.declared.jobs.Stand.{Stand}
 use Rattle.nt_event.specs.declared.numbers.CpuNo.{CpuNo}
-use Rattle.nt_event.specs.declared.numbers.DpcNo.{DpcNo}
 use Rattle.nt_event.specs.declared.numbers.ThreadNo.{ThreadNo}
 use Rattle.nt_event.specs.declared.scripts.Script.{Script}
-use Rattle.nt_event.specs.Apcs.{has_kernel}
-use Rattle.nt_event.specs.Frames.{Frames, due_of, frames_after, frames_in, own_after, running, running_after, thread_after, thread_if, time}
-use Rattle.nt_event.specs.LaneStates.{LaneState, OfObject, OfQueue, OfThreads, OfTimers, content, lane_state, told_table}
-use Rattle.nt_event.specs.Lanes.{Lanes, lanes_after, command_lanes, end_lanes, facts_at, insert_lanes, lane_if, lanes_at, lanes_of, object_at, queue_at, same_lane, standing_lanes, touches, what_lanes}
-use Rattle.nt_event.specs.Objects.{ObjectState, object_after, object_of, objects_at, queue_for, start_object}
-use Rattle.nt_event.specs.Own.{Own, fire_after, is_rest, own_after_event, own_of, stand_in, took_after}
-use Rattle.nt_event.specs.Queues.{QueueState, idle_after, is_idle, is_queue, new_insert, pending, pending_after, queue_after, queue_of, start_queue, without_dpc}
-use Rattle.nt_event.specs.Regions.{some_came_to_0, stand_at, sweep_after}
-use Rattle.nt_event.specs.Requests.{ask_if, asks, dpc_asks, end_asks, is_ask, queue_asks, raised, seen_after, served_after, told, told_by, told_by_all, what_asks}
-use Rattle.nt_event.specs.Routines.{cpu_of, is_kernel_kind, kind_of, owner_of, part_of}
+use Rattle.nt_event.specs.Frames.{due_of, running, time}
+use Rattle.nt_event.specs.LaneStates.{LaneState, content, lane_state, told_table}
+use Rattle.nt_event.specs.Lanes.{Lanes, lanes_after, lanes_at, lanes_of, same_lane, touches, what_lanes}
+use Rattle.nt_event.specs.Own.{Own, own_after_event, own_of, stand_in}
+use Rattle.nt_event.specs.Regions.{stand_at}
+use Rattle.nt_event.specs.Requests.{asks, is_ask, raised, told, told_by, told_by_all, what_asks}
+use Rattle.nt_event.specs.Routines.{cpu_of}
 use Rattle.nt_event.specs.Step.{IsLegal, step, turn_at}
-use Rattle.nt_event.specs.Threads.{ThreadFacts, ends_by_alert, ends_by_apc, ends_by_expiry, is_gone, start_facts}
-use Rattle.nt_event.specs.Timers.{Timers, timers_after, timers_at}
-use Rattle.nt_event.specs.Waits.{facts, facts_after, new_pick}
-use Rattle.nt_event.specs.Numbers.{cpu, dpc, is_by, is_of, thread}
-use Rattle.nt_event.specs.Replies.{is_refused, is_yes}
-use Rattle.nt_event.specs.Lists.{table, value_at}
+use Rattle.nt_event.specs.Numbers.{cpu, is_of}
+use Rattle.nt_event.specs.Lists.{table}
 use Rattle.nt_event.proofs.Moves.{lanes_move, own_moves_here}
 use Rattle.nt_runs.proofs.Robin.{cpu_below}
 use Rattle.nt_runs.proofs.Running.{taken, own_runs}

@@ -1,58 +1,28 @@
 -- The event of a turn Next or Switch is determined by what its processor keeps and the states of the lanes that it touches.
-use Rattle.std.proofs.Common.{ap, arith, subst, sym, ◌∙◌}
-use Rattle.std.specs.Option.{option_map_or, option_or}
-use Rattle.std.specs.Prelude.{Bool, List, None, Ok, Option, Some, [], false, get_or, if◌then◌else◌, is_some, length, nat_lt, not, option_and_then, option_map, refl, slice_get, suc, true, unwrap_or, zero, ℕ, ◌&&◌, ◌+◌, ◌<◌, ◌==◌, ◌∷◌, ◌≡◌}
-use Rattle.nt_event.specs.declared.commands.Command.{Command}
-use Rattle.nt_event.specs.declared.commands.Command.TheVariants.{Alert, CancelTimer, Delay, InsertApc, Queue, Release, RemoveApc, SetTimer, StartWait, TestAlert, ToUser, Unqueue}
-use Rattle.nt_event.specs.declared.commands.Mode.{Mode}
-use Rattle.nt_event.specs.declared.commands.Regions.{Regions}
-use Rattle.nt_event.specs.declared.commands.Reply.{Reply}
-use Rattle.nt_event.specs.declared.commands.Reply.TheVariants.{Blocked, Done, Status}
-use Rattle.nt_event.specs.declared.commands.TimerKey.{TimerKey}
-use Rattle.nt_event.specs.declared.commands.TimerKey.TheVariants.{Delay as OfDelay, Timer as OfTimer}
-use Rattle.nt_event.specs.declared.events.Begun.TheVariants.{Apc, Dpc, Threaded}
+use Rattle.std.proofs.Common.{ap, subst, sym, ◌∙◌}
+use Rattle.std.specs.Prelude.{List, None, Ok, Option, Some, [], false, length, nat_lt, not, option_and_then, refl, true, ℕ, ◌∷◌, ◌≡◌}
 use Rattle.nt_event.specs.declared.events.Event.{Event}
 use Rattle.nt_event.specs.declared.events.ScheduleKind.{ScheduleKind}
 use Rattle.nt_event.specs.declared.events.ScheduleKind.TheVariants.{BadChoice, NothingToDo}
 use Rattle.nt_event.specs.declared.events.Turn.{Turn}
 use Rattle.nt_event.specs.declared.events.Turn.TheVariants.{Look as LookTurn, Next, Switch as SwitchTurn}
 use Rattle.nt_event.specs.declared.events.What.{What}
-use Rattle.nt_event.specs.declared.events.What.TheVariants.{Begin, Call, Clean, Fire, Flush, Gone, Rest, Rewait, Switch}
-use Rattle.nt_event.specs.declared.frames.Again.{Again}
-use Rattle.nt_event.specs.declared.inserts.Insert.{Insert}
-use Rattle.nt_event.specs.declared.inserts.Part.TheVariants.{Ordinary as OrdinaryPart, Threaded as ThreadedPart}
-use Rattle.nt_event.specs.declared.inserts.Pick.{Pick}
 use Rattle.nt_event.specs.declared.jobs.Job.{Job}
-use Rattle.nt_event.specs.declared.jobs.Job.TheVariants.{Apcs as ApcsJob, Call as CallJob, Drain as DrainJob, Fire as FireJob, Idle as IdleJob, Leave as LeaveJob, Pick as PickJob, Rewait as RewaitJob, Rundown as RundownJob, Switch as SwitchJob, Threaded as ThreadedJob, ToUser as ToUserJob, UserEnd as UserEndJob}
-use Rattle.nt_event.specs.declared.jobs.Lane.TheVariants.{Object as ObjectLane, Queue as QueueLane, Threads as ThreadsLane, Timers as TimersLane}
-use Rattle.nt_event.specs.declared.jobs.Stand.{Stand}
+use Rattle.nt_event.specs.declared.jobs.Job.TheVariants.{Pick as PickJob, Switch as SwitchJob}
 use Rattle.nt_event.specs.declared.jobs.Task.{Task}
 use Rattle.nt_event.specs.declared.jobs.Task.TheVariants.{Alone, Shared}
 use Rattle.nt_event.specs.declared.numbers.CpuNo.{CpuNo}
-use Rattle.nt_event.specs.declared.numbers.DpcNo.{DpcNo}
-use Rattle.nt_event.specs.declared.numbers.ThreadNo.{ThreadNo}
-use Rattle.nt_event.specs.declared.numbers.TimerNo.{TimerNo}
 use Rattle.nt_event.specs.declared.scripts.Script.{Script}
-use Rattle.nt_event.specs.declared.scripts.ThreadDecl.{ThreadDecl}
-use Rattle.nt_event.specs.Apcs.{deliverable, first_user, has_user, is_inserted, takes}
-use Rattle.nt_event.specs.Commands.{is_reached, reply}
-use Rattle.nt_event.specs.Frames.{frames_of, running}
-use Rattle.nt_event.specs.Jobs.{apcs_event, begin_apc, begin_dpc, begin_first, drain_event, expire_key, idle_event, job_event, may_switch, may_take, next_what, ready, ready_from, rewait_reply, rundown_event, switch_event, task, task_event, threaded_event, touser_event, user_due}
-use Rattle.nt_event.specs.LaneStates.{LaneState, OfObject, OfQueue, OfThreads, OfTimers, lane_state, threads_from}
-use Rattle.nt_event.specs.Lanes.{Lanes, begin_lanes, clean_lanes, command_lanes, expire_lanes, facts_at, facts_of, lane_if, lanes_at, lanes_of, object_at, queue_at, what_lanes}
-use Rattle.nt_event.specs.Objects.{ObjectState, is_queued}
+use Rattle.nt_event.specs.Frames.{frames_of}
+use Rattle.nt_event.specs.Jobs.{job_event, may_switch, may_take, next_what, switch_event, task, task_event}
+use Rattle.nt_event.specs.LaneStates.{LaneState}
+use Rattle.nt_event.specs.Lanes.{Lanes, lanes_at, lanes_of, what_lanes}
 use Rattle.nt_event.specs.Own.{Own, own_of, stand_in}
-use Rattle.nt_event.specs.Queues.{QueueState, first_dpc}
 use Rattle.nt_event.specs.Regions.{stand_at}
-use Rattle.nt_event.specs.Routines.{cpu_of, owner_of}
-use Rattle.nt_event.specs.Script.{has_thread}
 use Rattle.nt_event.specs.Step.{IsRun, cpu_at, event_at, event_or, is_cut, step, uncut_step}
-use Rattle.nt_event.specs.Threads.{ThreadFacts, ended_status, ends_by_release, is_alerted, is_gone, is_ready, start_facts}
-use Rattle.nt_event.specs.Timers.{SetKey, Timers, first_due, is_set_timer}
-use Rattle.nt_event.specs.Waits.{facts, is_satisfied, wait_reply}
-use Rattle.nt_event.specs.Replies.{alerted, is_refused, is_user, kernel_apc, satisfied, user_apc, yes_if}
-use Rattle.nt_event.specs.Numbers.{cpu, routine, thread}
-use Rattle.nt_event.specs.Lists.{is_null, when}
+use Rattle.nt_event.specs.Waits.{facts}
+use Rattle.nt_event.specs.Numbers.{thread}
+use Rattle.nt_event.specs.Lists.{when}
 use Rattle.nt_event.proofs.Options.{holds_at}
 use Rattle.nt_runs.proofs.Running.{own_runs}
 use Rattle.nt_runs.proofs.Steps.{next_gives, step_uncut, switch_gives}

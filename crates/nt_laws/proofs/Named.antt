@@ -4,3 +4,4 @@ pub mod Asked
 pub mod Inserted
 pub mod EventsFit
 pub mod RunFits
+pub mod Objects

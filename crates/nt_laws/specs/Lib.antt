@@ -3,3 +3,4 @@ pub mod Locality
 pub mod Deliveries
 pub mod Fates
 pub mod Named
+pub mod Objects

@@ -1,16 +1,13 @@
 -- What the numbers in an event name.
 use Rattle.std.specs.List.{list_any}
 use Rattle.std.specs.Prelude.{Bool, IfSome, List, None, Option, Some, [], length, nat_le, nat_lt, suc, true, ℕ, ◌&&◌, ◌<◌, ◌==◌, ◌||◌, ◌∷◌, ◌≡◌}
-use Rattle.nt_event.specs.declared.commands.TimerKey.{TimerKey}
-use Rattle.nt_event.specs.declared.commands.TimerKey.TheVariants.{Delay as OfDelay, Timer as OfTimer}
-use Rattle.nt_event.specs.declared.events.Begun.{Begun}
 use Rattle.nt_event.specs.declared.events.Begun.TheVariants.{Apc, Dpc, Int, Threaded}
 use Rattle.nt_event.specs.declared.events.Event.{Event}
 use Rattle.nt_event.specs.declared.events.What.{What}
 use Rattle.nt_event.specs.declared.events.What.TheVariants.{Begin, Call, Clean, End, Expire, Fire, Flush, Gone, Look, Normal, Rest, Rewait, Switch}
 use Rattle.nt_event.specs.declared.scripts.Script.{Script}
 use Rattle.nt_event.specs.Classes.{is_interrupt_level, is_used_class, dispatch_class}
-use Rattle.nt_event.specs.Script.{command_fits, fits, has_apc, has_cpu, has_dpc, has_thread, has_timer, where_given}
+use Rattle.nt_event.specs.Script.{fits, has_cpu, has_thread, where_given}
 use Rattle.nt_event.specs.Step.{IsRun, is_look}
 use Rattle.nt_event.specs.Fitting.{what_fits}
 

@@ -1,6 +1,7 @@
 //! The fate of inserts in a run: what a delivery or a removal finds pending.
 
 ghost use Rattle.nt_laws.specs.Fates.{ApcStandsAtMostOnce, ApcsHaveTheirThreads, AtMostOnePendingApc, AtMostOnePendingInsert, DeliveredInsertsWait, DeliveriesNamePendingInserts, NoInsertIsDeliveredTwice, QueuesAgreeWithObjects, RemovalsTell};
+ghost use Rattle.nt_laws.specs.Objects.{InsertsOfEveryObject};
 
 /// A delivery names a pending insert: each Begin of a DPC or an APC and each Flush of a run names an insert of its object that
 /// was pending just before it, a DPC's in the queue of its processor, an APC's at the thread that runs there.
@@ -53,4 +54,11 @@ pub fn an_apc_object_has_at_most_one_pending_insert()
 /// an APC object whose thread the script has hold of each of them.
 pub fn apcs_have_their_threads()
     ensures { ApcsHaveTheirThreads }
+{}
+
+/// The laws over inserts hold of every object: in a run of a script that fits, a removal that isn't refused answers yes exactly where
+/// its object was inserted just before it; and what is delivered is an earlier insert that no event before it began, removed or
+/// flushed, and that no earlier event delivered. Whether the script declares the object is no question there.
+pub fn the_laws_over_inserts_hold_of_every_object()
+    ensures { InsertsOfEveryObject }
 {}

@@ -15,7 +15,7 @@ pub use inserts::{
     a_removal_answers_yes_exactly_where_there_was_one,
     an_apc_object_has_at_most_one_pending_insert, an_apc_object_stands_at_most_once,
     apcs_have_their_threads, no_insert_is_delivered_twice, queues_and_objects_agree,
-    what_is_delivered_waits,
+    the_laws_over_inserts_hold_of_every_object, what_is_delivered_waits,
 };
 
 /// Deliveries are eligible: each Begin, Expire and Flush of a run delivers a request that was eligible just before it.

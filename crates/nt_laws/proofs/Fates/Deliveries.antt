@@ -1,6 +1,5 @@
 -- In a run each delivery names an insert that was pending just before it.
 use Rattle.std.proofs.Common.{ap, inl, inr, subst, sym, ◌∙◌}
-use Rattle.std.proofs.lemmas.Bool.{ltb-true}
 use Rattle.std.specs.List.{Contains}
 use Rattle.std.specs.Prelude.{List, None, Option, Some, find, nat_lt, option_and_then, refl, reverse, true, ℕ, ◌&&◌, ◌==◌, ◌∷◌, ◌≡◌}
 use Rattle.nt_event.specs.declared.commands.ApcKind.{ApcKind}
@@ -24,19 +23,16 @@ use Rattle.nt_event.specs.Frames.{running, thread_part}
 use Rattle.nt_event.specs.Jobs.{level_at, user_due}
 use Rattle.nt_event.specs.Lanes.{facts_at, facts_of, lanes_at, queue_at}
 use Rattle.nt_event.specs.Own.{own_of}
-use Rattle.nt_event.specs.Queues.{QueueState, first_dpc, is_high_in, is_in, pending, queue_of, start_queue}
+use Rattle.nt_event.specs.Queues.{QueueState, first_dpc, is_high_in, is_in, pending}
 use Rattle.nt_event.specs.Regions.{regions_of}
 use Rattle.nt_event.specs.Routines.{owner_of}
-use Rattle.nt_event.specs.Step.{IsLegal, IsRun, turn_of}
+use Rattle.nt_event.specs.Step.{IsRun}
 use Rattle.nt_event.specs.Threads.{ThreadFacts}
 use Rattle.nt_event.specs.Waits.{facts}
-use Rattle.nt_event.specs.Numbers.{cpu}
 use Rattle.nt_event.specs.Lists.{when}
 use Rattle.nt_runs.proofs.Known.{Known, KnownBegin, KnownInsert, legal_known}
-use Rattle.nt_event.proofs.Options.{not_false, when_gives}
+use Rattle.nt_event.proofs.Options.{when_gives}
 use Rattle.nt_runs.proofs.Running.{running_here}
-use Rattle.nt_runs.proofs.Steps.{cpu_at-turn_at, step_uncut}
-use Rattle.nt_event.proofs.Tables.{get_or-table}
 use Rattle.nt_runs.proofs.Turns.{is_next}
 use Rattle.nt_laws.specs.Fates.{ApcIsPending, DpcIsPending, NamesPending}
 use Rattle.nt_event.proofs.Elements.{contains_none, found_contains, or_gives, reversed_contains}
