@@ -13,3 +13,4 @@ pub mod Deliverable
 pub mod Timers
 pub mod Declared
 pub mod Phases
+pub mod OneFate

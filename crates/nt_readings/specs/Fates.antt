@@ -8,7 +8,7 @@ use Rattle.nt_event.specs.declared.numbers.CpuNo.{CpuNo}
 use Rattle.nt_event.specs.declared.scripts.Script.{Script}
 use Rattle.nt_event.specs.Fate.{ApcThing, BegunBy, DpcThing, Fate, FlushedBy, Inserted, RemovedBy, StillWaits, Thing, fate_of, inserted_thing, inserts, uses_up, waiting_inserts}
 use Rattle.nt_event.specs.Routines.{owner_of}
-use Rattle.nt_event.specs.Script.{has_dpc, has_thread}
+use Rattle.nt_event.specs.Script.{fits, has_dpc, has_thread}
 use Rattle.nt_event.specs.Step.{IsRun}
 use Rattle.nt_laws.specs.Fates.{ApcIsPending, DpcIsPending}
 use Rattle.nt_readings.specs.Positions.{At}
@@ -76,3 +76,28 @@ IsPending s (ApcThing a) n past = ApcIsPending s (owner_of s a) a n past
 abbrev pub WaitingIsPending : Type 0
 WaitingIsPending = (s : Script) (limit : ℕ) (thing : Thing) (n : ℕ) (past : List Event) → IsRun s limit past →
     is_known s thing ≡ true → (IsInsert thing n past × (fate_of thing n past ≡ StillWaits)) ↔ IsPending s thing n past
+
+-- ---- exactly one fate
+
+-- begun, flushed or removed by the first later event that uses it up; or pending at the end
+abbrev pub Became : Script → Thing → ℕ → List Event → Fate → Type 0
+Became s thing n past (BegunBy m) = IsFirstUse begins thing n m past
+Became s thing n past (FlushedBy m) = IsFirstUse flushes thing n m past
+Became s thing n past (RemovedBy m) = IsFirstUse calls thing n m past
+Became s thing n past StillWaits = IsPending s thing n past
+
+-- of these four it became exactly one
+pub record HasOneFate (s : Script) (thing : Thing) (n : ℕ) (past : List Event) : Type 0 where
+  pub fate : Fate
+  pub had : Became s thing n past fate
+  pub only : (x : Fate) → Became s thing n past x → x ≡ fate
+
+-- in a run of a script that fits, each insert has exactly one fate
+abbrev pub EachInsertHasOneFate : Type 0
+EachInsertHasOneFate = (s : Script) (limit : ℕ) (thing : Thing) (n : ℕ) (past : List Event) → IsRun s limit past →
+    fits s ≡ true → IsInsert thing n past → HasOneFate s thing n past
+
+-- and those that are listed as waiting are those that are pending
+abbrev pub WaitingAreThePending : Type 0
+WaitingAreThePending = (s : Script) (limit : ℕ) (x : Inserted) (past : List Event) → IsRun s limit past → fits s ≡ true →
+    Contains (waiting_inserts past) x ↔ IsPending s x.thing x.number past

@@ -4,7 +4,7 @@
 
 ghost use Rattle.nt_readings.specs.Inserts.{FirstIsByImportanceAndNumber, PendingApcIsInsertedAndNotUsedUp, PendingIsInsertedAndNotUsedUp};
 ghost use Rattle.nt_readings.specs.Declared.{CallsFit, InsertsOfFittingScripts};
-ghost use Rattle.nt_readings.specs.Fates.{FateIsFirstUse, InsertsAreListed, WaitingIsPending};
+ghost use Rattle.nt_readings.specs.Fates.{EachInsertHasOneFate, FateIsFirstUse, InsertsAreListed, WaitingAreThePending, WaitingIsPending};
 ghost use Rattle.nt_readings.specs.FirstApcs.{FirstApcsAreByKindAndNumber, PendingApcsFall};
 ghost use Rattle.nt_readings.specs.Frames.{InnermostIsGreatest, OwnFramesAreOpen, RunningIsLastSwitched, ThreadFramesAreOpen};
 ghost use Rattle.nt_readings.specs.Phases.{FramesAreTold, WaitsAreTakenUpAsCalled};
@@ -150,4 +150,12 @@ pub fn a_delay_is_set_by_the_last_that_blocked()
 /// where none is.
 pub fn the_first_due_key_is_least()
     ensures { FirstDueKeyIsLeast }
+{}
+
+/// Each insert has one fate: in a run of a script that fits, each accepted insert was begun, removed or flushed by the first later
+/// event that uses it up, or is pending at the end, and it is exactly one of these; those that a report lists as waiting are those
+/// that are pending.
+pub fn each_insert_has_one_fate()
+    ensures one { EachInsertHasOneFate }
+    ensures waiting { WaitingAreThePending }
 {}
