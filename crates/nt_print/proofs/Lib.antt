@@ -5,4 +5,4 @@ mod Tables
 mod WaitRows
 mod Turns
 mod OneEvent
-mod OneReport
+pub mod OneReport

@@ -7,3 +7,4 @@ pub mod Events
 pub mod Reports
 pub mod Whole
 pub mod Cuts
+pub mod Programs

@@ -82,7 +82,7 @@ plain_whole s (LookTurn p rises) h = h.1.classes
 plain_whole s (Next p) h = tt
 plain_whole s (SwitchTurn p t) h = tt
 
-turns_whole : (s : Script) (events : List Event) → AllByRecursion (TurnIsPlain s) (map turn_of events) → LooksAreWhole events
+pub turns_whole : (s : Script) (events : List Event) → AllByRecursion (TurnIsPlain s) (map turn_of events) → LooksAreWhole events
 turns_whole s [] h = tt
 turns_whole s (e ∷ es) h = (look_whole e.cpu e.what (plain_whole s (turn_of e) h.0), turns_whole s es h.1)
 

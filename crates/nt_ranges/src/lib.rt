@@ -8,7 +8,7 @@
 
 ghost use Rattle.nt_ranges.specs.Cuts.{CountsAreMade, CutLinesNameTheCut};
 ghost use Rattle.nt_ranges.specs.Looks.{AReplayLooksWhole, ARobinRunLooksWhole};
-ghost use Rattle.nt_ranges.specs.Plain.{ARunHasAReport, ItsScheduleIsPlain, ItsTurnsAreOfProcessors};
+ghost use Rattle.nt_ranges.specs.Plain.{AReplayIsOne, ARobinRunIsOne, ARunHasAReport, ItsScheduleIsPlain, ItsTurnsAreOfProcessors, OneReportOneHistory};
 ghost use Rattle.nt_ranges.specs.Statuses.{StatusesAreThoseOfWaits};
 
 /// A run has a report: its history names things of the script, its numbers are in the ranges of their fields, and it has not too
@@ -44,4 +44,16 @@ pub fn a_replay_looks_whole()
 pub fn a_report_names_the_cut()
     ensures counts { CountsAreMade }
     ensures lines { CutLinesNameTheCut }
+{}
+
+/// What the program makes is such a run: the history of a robin run whose turn limit is in its range, and that of a replay, a run
+/// whose schedule is plain.
+pub fn robin_runs_and_replays_have_reports()
+    ensures robin { ARobinRunIsOne }
+    ensures replay { AReplayIsOne }
+{}
+
+/// A report of a run is of no other run: two runs of one input that have the same report are one history.
+pub fn one_report_one_history()
+    ensures { OneReportOneHistory }
 {}
