@@ -14,7 +14,9 @@ use Rattle.nt_laws.proofs.Counts.{made_limit}
 use Rattle.nt_print.specs.Report.{cut_of, cut_row, made as printed_made}
 
 made_counts : (p : ℕ) (past : List Event) → made (cpu p) past ≡ count_by (λ e. e.cpu.0 == p) past
-made_counts p past = is_count_by (λ (past : List Event). made (cpu p) past) (λ (e : Event). e.cpu.0 == p) refl (λ e es. step (e.cpu.0 == p) (made (cpu p) es)) past
+made_counts p past =
+    is_count_by (λ (past : List Event). made (cpu p) past) (λ (e : Event). e.cpu.0 == p) refl
+    (λ e es. step (e.cpu.0 == p) (made (cpu p) es)) past
   where
     step : (b : Bool) (n : ℕ) → (if b then n + 1 else n) ≡ cond b (1 + n) n
     step true n = omega arith
@@ -36,5 +38,6 @@ at_limit n limit h = go (n == limit) (nat_le limit n) refl refl
 pub cut_lines_name_the_cut : (s : Script) (h : History) (p : ℕ) → IsRun s h.turns (reverse h.events) → cut_of h p
     ≡ (if is_cut h.turns (own_of s (cpu p) (reverse h.events)) then cut_row p ∷ [] else [])
 cut_lines_name_the_cut s h p r =
+    let most : made (cpu p) (reverse h.events) ≤ h.turns = made_limit s h.turns (cpu p) (reverse h.events) r in
     ap (λ (n : ℕ). if n == h.turns then cut_row p ∷ [] else []) (counts_are_made p h.events)
-    ∙ ap (λ (b : Bool). if b then cut_row p ∷ [] else []) (at_limit (made (cpu p) (reverse h.events)) h.turns (made_limit s h.turns (cpu p) (reverse h.events) r))
+    ∙ ap (λ (b : Bool). if b then cut_row p ∷ [] else []) (at_limit (made (cpu p) (reverse h.events)) h.turns most)

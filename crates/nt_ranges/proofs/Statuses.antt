@@ -31,7 +31,7 @@ use Rattle.nt_event.specs.Frames.{frames_of}
 use Rattle.nt_event.specs.Jobs.{rewait_reply, switch_event}
 use Rattle.nt_event.specs.Lanes.{Lanes, facts_at, facts_of, lanes_at}
 use Rattle.nt_event.specs.Numbers.{thread}
-use Rattle.nt_event.specs.Own.{own_of, stand_in}
+use Rattle.nt_event.specs.Own.{Own, own_of, stand_in}
 use Rattle.nt_event.specs.Regions.{stand_at}
 use Rattle.nt_event.specs.Replies.{alerted, is_answer, is_user, kernel_apc, satisfied, user_apc, yes_if}
 use Rattle.nt_event.specs.Routines.{is_kernel_kind, kind_of, owner_of}
@@ -203,7 +203,10 @@ statuses_are_those_of_waits s limit e past r = go e.what refl
     go : (w : What) → e.what ≡ w → TellsWaitStatus w
     go (Call f c y) k =
         let q = known (Call f c y) k refl in
-        subst ReplyIsOfWait (sym q.reply) (or_of (refusal_in (own_of s e.cpu past) q.frame c) _ (reply_of s (stand_in e.cpu (own_of s e.cpu past)) (lanes_at s past) c))
+        let x : Own = own_of s e.cpu past in
+        let l : Lanes = lanes_at s past in
+        subst ReplyIsOfWait (sym q.reply)
+        (or_of (refusal_in x q.frame c) (reply s (stand_in e.cpu x) l c) (reply_of s (stand_in e.cpu x) l c))
     go (Fire d y) k =
         let q = known (Fire d y) k refl in
         subst ReplyIsOfWait (sym q.1) (reply_of s (stand_in e.cpu (own_of s e.cpu past)) (lanes_at s past) (cmd.Queue d))

@@ -99,5 +99,5 @@ EachInsertHasOneFate = (s : Script) (limit : ℕ) (thing : Thing) (n : ℕ) (pas
 
 -- and those that are listed as waiting are those that are pending
 abbrev pub WaitingAreThePending : Type 0
-WaitingAreThePending = (s : Script) (limit : ℕ) (x : Inserted) (past : List Event) → IsRun s limit past → fits s ≡ true →
-    Contains (waiting_inserts past) x ↔ IsPending s x.thing x.number past
+WaitingAreThePending = (s : Script) (limit : ℕ) (x : Inserted) (past : List Event) → IsRun s limit past →
+    fits s ≡ true → Contains (waiting_inserts past) x ↔ IsPending s x.thing x.number past
