@@ -1,11 +1,11 @@
 -- What contracts see of words and floors, and what each call does to it.
-use Rattle.std.specs.Prelude.{Bool, IfSome, Option, [], map, if◌then◌else◌, max, true, ℕ, ◌&&◌, ◌+◌, ◌<◌, ◌==◌, ◌^◌, ◌||◌, ◌≡◌, ◌≤◌}
+use Rattle.std.specs.Prelude.{Bool, IfSome, Option, Some, [], false, map, if◌then◌else◌, max, true, ℕ, ◌&&◌, ◌+◌, ◌<◌, ◌==◌, ◌^◌, ◌||◌, ◌≡◌, ◌≤◌}
 use Rattle.nt_event.specs.declared.events.Event.{Event}
 use Rattle.nt_event.specs.declared.jobs.Lane.{Lane}
 use Rattle.nt_event.specs.declared.jobs.Stand.{Stand}
 use Rattle.nt_event.specs.declared.numbers.CpuNo.{CpuNo}
 use Rattle.nt_event.specs.declared.scripts.Script.{Script}
-use Rattle.nt_event.specs.Lanes.{Lanes, lane_number, lanes_after, what_lanes}
+use Rattle.nt_event.specs.Lanes.{Lanes, lane_number, lanes_after, lanes_at, what_lanes}
 use Rattle.nt_event.specs.Requests.{asks_in, raised, what_asks}
 use Rattle.nt_floor.specs.Acts.{Found, Told, told_after}
 use Rattle.nt_floor.specs.Lists.{Lists, with_draw, with_look, with_mark, with_marks}
@@ -114,3 +114,15 @@ pub record IsUnmoved (v w : View) : Type 0 where
   pub never_falls : (q : CpuNo) (c : ℕ) → HasWord v q c → v.value q c ≤ w.value q c
   pub marked : (k : ℕ) (q : CpuNo) (c : ℕ) → HasWord v q c → w.marked k q c ≡ v.marked k q c
   pub exact : v.alone ≡ true → (w.next ≡ v.next) × ((q : CpuNo) (c : ℕ) → HasWord v q c → w.value q c ≡ v.value q c)
+
+-- nothing happened on it: nobody else is there, so many numbers may be drawn, the lanes are as the script opens them,
+-- and nobody asked for anything
+pub record IsOpening (s : Script) (numbers : ℕ) (v : View) : Type 0 where
+  pub cpus : v.cpus ≡ s.cpus
+  pub alone : v.alone ≡ true
+  pub drawable : v.drawable ≡ numbers
+  pub next : v.next ≡ 0
+  pub states : v.states ≡ Some (lanes_at s [])
+  pub told : (x : Lane) (p : CpuNo) (c : ℕ) → HasWord v p c → v.told x p c ≡ 0
+  pub value : (p : CpuNo) (c : ℕ) → HasWord v p c → v.value p c ≡ 0
+  pub marked : (k : ℕ) (p : CpuNo) (c : ℕ) → HasWord v p c → v.marked k p c ≡ false

@@ -6,8 +6,10 @@
 #![tactic(auto)]
 
 mod floor;
+mod open;
 mod words;
 
 pub use floor::{ActRefusal, Acted, Floor};
 pub use nt_event::{Job, Stand};
+pub use open::OpenFloor;
 pub use words::Words;

@@ -9,6 +9,7 @@
 mod floor;
 mod making;
 mod marks;
+mod open;
 mod places;
 mod plain;
 mod requests;

@@ -104,6 +104,13 @@ impl<'s> PlainFloor<'s> {
     pub fn next_ready(&self, p: CpuNo, after: Option<ThreadNo>) -> Option<ThreadNo>
         ensures { result ≡ next_ready self.now.script p after self.now.lanes }
     {
+        self.ready_after(p, after)
+    }
+
+    /// The thread of the processor that is taken up next, by the states of the lanes.
+    pub(crate) fn ready_after(&self, p: CpuNo, after: Option<ThreadNo>) -> Option<ThreadNo>
+        ensures { result ≡ next_ready self.now.script p after self.now.lanes }
+    {
         self.states.next_ready(p, after)
     }
 
@@ -115,7 +122,7 @@ impl<'s> PlainFloor<'s> {
     }
 
     /// Whether the event of this number has the mark; one that may not be drawn has none.
-    fn has_mark(&self, n: u64, p: CpuNo, class: u8) -> bool
+    pub(crate) fn has_mark(&self, n: u64, p: CpuNo, class: u8) -> bool
         requires { HasWord (view_of self.now) p class }
         ensures { result ≡ (view_of self.now).marked n p class }
     {

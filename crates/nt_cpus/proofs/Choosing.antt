@@ -1,0 +1,111 @@
+-- The robin rule, by what the processors keep and the floor tells.
+use Rattle.std.proofs.Common.{ap, arith, sym, ◌∙◌}
+use Rattle.std.proofs.lemmas.Bool.Decides.{nat_tests}
+use Rattle.std.specs.List.{list_all, list_any}
+use Rattle.std.specs.Option.{option_or}
+use Rattle.std.specs.Prelude.{Bool, List, None, Option, Some, false, if◌then◌else◌, is_none, is_some, nat_lt, not, refl, suc, true, ℕ, ◌&&◌, ◌<◌, ◌≡◌}
+use Rattle.nt_event.specs.declared.events.Event.{Event}
+use Rattle.nt_event.specs.declared.events.Turn.{Turn}
+use Rattle.nt_event.specs.declared.events.Turn.TheVariants.{Look as LookTurn}
+use Rattle.nt_event.specs.declared.numbers.CpuNo.{CpuNo}
+use Rattle.nt_event.specs.declared.scripts.Script.{Script}
+use Rattle.nt_event.specs.Jobs.{rests}
+use Rattle.nt_event.specs.Lanes.{Lanes, lanes_at}
+use Rattle.nt_event.specs.Own.{Own, own_of}
+use Rattle.nt_event.specs.Requests.{asked}
+use Rattle.nt_event.specs.Robin.{go_on_turn, is_done_with, look_value, look_values, robin_at, robin_from, robin_of}
+use Rattle.nt_event.specs.Script.{has_cpu}
+use Rattle.nt_event.specs.Step.{IsRun, is_cut}
+use Rattle.nt_event.specs.Numbers.{cpu}
+use Rattle.nt_event.specs.Lists.{table_from, value_at, when}
+use Rattle.nt_runs.proofs.Settled.{robin_of_done}
+use Rattle.nt_event.proofs.Tables.{table-same}
+use Rattle.nt_floor.specs.Views.{View}
+use Rattle.nt_cpu.specs.Runs.{Follows, state_of}
+use Rattle.nt_cpu.specs.States.{CpuState}
+use Rattle.nt_cpus.specs.Cycles.{next_cpu}
+
+-- ---- the turn of one processor
+
+-- the turn, by the values of a look
+abbrev by_values : Script → CpuNo → Own → Lanes → List ℕ → Option Turn
+by_values s p x l vs =
+    if list_any (λ v. nat_lt 0 v) vs then Some (LookTurn p (record { value = vs })) else (if rests x then None else Some (go_on_turn s p x l))
+
+same_values : (x : Own) (f g : ℕ → ℕ) → ((k : ℕ) → k < 16 → f k ≡ g k) → look_values x f ≡ look_values x g
+same_values x f g h =
+    table-same 16 (look_value x f) (look_value x g) (λ k b. ap (λ (n : ℕ). if nat_lt (value_at x.seen k) n then n else 0) (h k b))
+
+-- the rule's turn of an uncut processor is what the processor and the floor give
+pub robin_found : (s floor : Script) (limit : ℕ) (p : CpuNo) (past : List Event) (c : CpuState) (v : View) (l : Lanes) → p.0 < s.cpus → Follows s past v →
+    v.states ≡ Some l → floor ≡ s → c ≡ state_of s p limit past → is_cut limit (own_of s p past) ≡ false → robin_at floor p c.own l (v.value p)
+    ≡ robin_of s limit p past
+robin_found s floor limit p past c v l b h i e k u =
+    let lanes : l ≡ lanes_at s past = (let i : ◌≡◌ {A = Option Lanes} (Some l) (Some (lanes_at s past)) = sym i ∙ h.states in cc) in
+    let own : c.own ≡ own_of s p past = ap (λ (x : CpuState). x.own) k in
+    let cpus = h.cpus in
+    let values : (n : ℕ) → n < 16 → v.value p n ≡ asked s p n past = λ n m. h.value p n (omega arith, m) in
+    ap (λ (z : Script). robin_at z p c.own l (v.value p)) e
+    ∙ (ap (λ (x : Own). robin_at s p x l (v.value p)) own
+    ∙ (ap (λ (m : Lanes). robin_at s p (own_of s p past) m (v.value p)) lanes
+    ∙ (ap (by_values s p (own_of s p past) (lanes_at s past)) (same_values (own_of s p past) (v.value p) (λ n. asked s p n past) values)
+    ∙ sym (ap (λ (z : Bool). when (not z) (robin_at s p (own_of s p past) (lanes_at s past) (λ n. asked s p n past))) u))))
+
+-- one that is cut has none
+pub robin_cut : (s : Script) (limit : ℕ) (p : CpuNo) (past : List Event) → is_cut limit (own_of s p past) ≡ true → robin_of s limit p past ≡ None
+robin_cut s limit p past u = ap (λ (z : Bool). when (not z) (robin_at s p (own_of s p past) (lanes_at s past) (λ n. asked s p n past))) u
+
+-- one that the script has not has none
+pub none_absent : {A : Type 0} (s : Script) (p : CpuNo) (o : Option A) (b : Bool) → has_cpu s p ≡ b → b ≡ false → None ≡ when (has_cpu s p) o
+none_absent s p o b h k = ap (λ (z : Bool). when z o) (sym (h ∙ k))
+
+-- ---- the cycle
+
+-- the first of n processors has no turn
+robin_next : (s : Script) (limit n p : ℕ) (past : List Event) → robin_of s limit (cpu p) past ≡ None → robin_from s limit (suc n) p past
+    ≡ robin_from s limit n (next_cpu s p) past
+robin_next s limit n p past h = ap (λ (o : Option Turn). option_or o (robin_from s limit n (next_cpu s p) past)) h
+
+-- it has one
+pub robin_here : (s : Script) (limit n p : ℕ) (past : List Event) (o : Option Turn) → robin_of s limit (cpu p) past ≡ o → is_some o ≡ true →
+    robin_from s limit (suc n) p past ≡ o
+robin_here s limit n p past (Some t) h i = ap (λ (o : Option Turn). option_or o (robin_from s limit n (next_cpu s p) past)) h
+robin_here s limit n p past None h i = absurd cc
+
+not_some : (o : Option Turn) → is_some o ≡ false → o ≡ None
+not_some None h = refl
+not_some (Some t) h = absurd cc
+
+pub robin_none : (s : Script) (limit n p : ℕ) (past : List Event) (o : Option Turn) → o ≡ robin_of s limit (cpu p) past → is_some o ≡ false →
+    robin_from s limit (suc n) p past ≡ robin_from s limit n (next_cpu s p) past
+robin_none s limit n p past o h i = robin_next s limit n p past (sym h ∙ not_some o i)
+
+-- a processor below the count has the rule's turn
+pub present : (s : Script) (p : CpuNo) (o : Option Turn) → p.0 < s.cpus → when (has_cpu s p) o ≡ o
+present s p o h = let b : has_cpu s p ≡ true = grind (arith, nat_tests) in ap (λ (z : Bool). when z o) b
+
+-- ---- settled
+
+-- the processors from this one on are done with
+abbrev pub are_done : Script → ℕ → ℕ → ℕ → List Event → Bool
+are_done s limit p n past = list_all (λ done. done) (table_from p n (λ q. is_done_with s limit (cpu q) past))
+
+pub done_none : (s : Script) (limit p : ℕ) (past : List Event) → are_done s limit p 0 past ≡ true
+unfolding table_from
+done_none s limit p past = refl
+
+done_step : (s : Script) (limit p n : ℕ) (past : List Event) (b : Bool) → is_done_with s limit (cpu p) past ≡ b → are_done s limit p (suc n) past
+    ≡ (b && are_done s limit (suc p) n past)
+unfolding table_from
+done_step s limit p n past b h = ap (λ (z : Bool). z && are_done s limit (suc p) n past) h
+
+is_none_some : (o : Option Turn) (b : Bool) → is_some o ≡ b → is_none o ≡ not b
+is_none_some None b h = rw (sym h) refl
+is_none_some (Some t) b h = rw (sym h) refl
+
+-- this processor has a turn, or it has none
+pub done_here : (s : Script) (limit p n : ℕ) (past : List Event) (o : Option Turn) (b : Bool) → IsRun s limit past → o ≡ robin_of s limit (cpu p) past →
+    is_some o ≡ b → are_done s limit p (suc n) past ≡ (not b && are_done s limit (suc p) n past)
+done_here s limit p n past o b r h i =
+    done_step s limit p n past (not b)
+    (sym (robin_of_done s limit (cpu p) past r) ∙ (ap (λ (z : Option Turn). is_none z) (sym h) ∙ is_none_some o b i))

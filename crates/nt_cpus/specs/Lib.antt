@@ -1,0 +1,5 @@
+pub mod States
+pub mod Following
+pub mod Asking
+pub mod Cycles
+pub mod Refusals

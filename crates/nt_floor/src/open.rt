@@ -1,0 +1,28 @@
+//! Floors that can be read.
+use crate::floor::Floor;
+use nt_event::{CpuNo, ThreadNo};
+
+/// A floor that tells its states, and whose requests, marks and ready threads are read without a step of anybody, as the floor in memory.
+pub trait OpenFloor: Floor {
+    ghost use Rattle.std.specs.Prelude.{◌≡◌, IfSome, Some};
+    ghost use Rattle.nt_event.specs.Jobs.{next_ready};
+    ghost use Rattle.nt_event.specs.Lanes.{Lanes};
+    ghost use Rattle.nt_floor.specs.Views.{HasWord};
+
+    /// The greatest request for a class of a processor; 0 is none.
+    fn asked(&self, p: CpuNo, class: u8) -> u64
+        requires { HasWord (Self.view self.now) p class }
+        ensures { result ≡ (Self.view self.now).value p class };
+
+    /// Whether the event of this number was marked as asking for a class of a processor.
+    fn asks(&self, n: u64, p: CpuNo, class: u8) -> bool
+        requires { HasWord (Self.view self.now) p class }
+        ensures { result ≡ (Self.view self.now).marked n p class };
+
+    /// The thread of the processor that is taken up next, after this one in a cycle; None exactly where none is ready.
+    fn next_ready(&self, p: CpuNo, after: Option<ThreadNo>) -> Option<ThreadNo>
+        ensures { IfSome (Self.view self.now).states (λ l. result ≡ next_ready (Self.script self.now) p after l) };
+
+    /// It tells its states.
+    ghost tells: { (x : Self) → (l : Lanes) × ((Self.view x).states ≡ Some l) };
+}
