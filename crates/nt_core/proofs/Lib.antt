@@ -1,12 +1,7 @@
-pub mod Counts
-pub mod Following
-pub mod Stepping
 pub mod Replaying
 pub mod OneRobin
 pub mod Choosing
 pub mod Starting
-pub mod Holding
-pub mod Turning
 pub mod Listing
 pub mod Newest
 pub mod Ending

@@ -1,13 +1,15 @@
--- The record that contracts see of the machine's fields.
+-- The record that contracts see of the machine's fields, and what holds of them: the history is a run, the processors and
+-- the floor follow it, and there is room for all events.
 use Rattle.std.specs.Prelude.{reverse, vec_capacity, ◌*◌, ◌≤◌}
+use Rattle.nt_cpus.specs.Following.{AreAfter}
+use Rattle.nt_plain.specs.States.{view_of}
 use Rattle.nt_core.specs.declared.machine.Core.TheInside.{Inside}
-use Rattle.nt_core.specs.Sound.{IsSound}
 use Rattle.nt_core.specs.States.{CoreState}
 
 abbrev pub state_in : Inside → CoreState
-state_in a = record { script = a.script.now; limit = a.limit; past = reverse a.events.items }
+state_in a =
+    record { script = a.processors.script; limit = a.processors.limit; past = reverse a.events.items }
 
--- the machine is sound, and has room for all its events
 pub record IsSoundInside (a : Inside) : Type 0 where
-  pub sound : IsSound a.script.now a.limit (reverse a.events.items) a.cpus.items a.floor
-  pub room : a.script.now.cpus * a.limit ≤ vec_capacity a.events
+  pub sound : AreAfter (reverse a.events.items) a.processors a.floor.script (view_of a.floor)
+  pub room : a.processors.script.cpus * a.processors.limit ≤ vec_capacity a.events

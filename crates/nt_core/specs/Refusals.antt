@@ -1,20 +1,10 @@
--- The kinds of refused turns.
+-- Refused lists of turns.
 use Rattle.std.specs.Prelude.{List, ℕ, ◌≡◌}
-use Rattle.nt_event.specs.declared.events.ScheduleKind.{ScheduleKind}
-use Rattle.nt_event.specs.declared.events.ScheduleKind.TheVariants.{BadChoice as BadChoiceKind, BadLook as BadLookKind, NoSuchCpu as NoSuchCpuKind, NothingToDo as NothingToDoKind}
 use Rattle.nt_event.specs.declared.events.Turn.{Turn}
 use Rattle.nt_event.specs.declared.scripts.Script.{Script}
 use Rattle.nt_core.specs.Replays.{refused_at, replayed}
-use Rattle.nt_core.specs.declared.refusals.CoreRefusal.{CoreRefusal}
-use Rattle.nt_core.specs.declared.refusals.CoreRefusal.TheVariants.{BadChoice, BadLook, NoSuchCpu, NothingToDo}
 use Rattle.nt_core.specs.declared.refusals.ScheduleRefusal.{ScheduleRefusal}
 use Rattle.nt_core.specs.declared.refusals.ScheduleRefusal.TheVariants.{Bad, NoMemory}
-
-abbrev pub kind_of : CoreRefusal → ScheduleKind
-kind_of NoSuchCpu = NoSuchCpuKind
-kind_of NothingToDo = NothingToDoKind
-kind_of BadLook = BadLookKind
-kind_of BadChoice = BadChoiceKind
 
 -- the list of turns is refused so, or no memory was found
 abbrev pub IsReplayRefused : Script → ℕ → List Turn → ScheduleRefusal → Type 0

@@ -6,7 +6,6 @@
 //! Contracts see a `Core` as a `CoreState`: the script, the turn limit, and the history, its newest event first.
 #![tactic(auto)]
 
-mod asking;
 mod laws;
 mod machine;
 mod refusals;
@@ -16,6 +15,7 @@ mod runs;
 
 pub use laws::{a_run_is_replayed_by_its_turns, one_robin_run, replays_are_runs};
 pub use machine::Core;
-pub use refusals::{CoreRefusal, ScheduleRefusal};
+pub use nt_cpus::CoreRefusal;
+pub use refusals::ScheduleRefusal;
 pub use replays::replay;
 pub use runs::run;

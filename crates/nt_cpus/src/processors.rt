@@ -56,6 +56,13 @@ impl<'s> Processors<'s> {
         })
     }
 
+    /// How many events each processor may make.
+    pub fn limit(&self) -> u32
+        ensures { result ≡ self.now.limit }
+    {
+        self.limit
+    }
+
     /// Takes the turn over the floor: makes its event, or answers why there is none; then nothing changed. No memory is taken.
     ///
     /// The processors and the floor stand after some run; what comes is what the turn gives after it, and they stand after its event then.

@@ -1,0 +1,4 @@
+pub mod Stepping
+pub mod Verdicts
+pub mod Same
+pub mod SameEvents

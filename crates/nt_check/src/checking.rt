@@ -1,0 +1,58 @@
+//! The check of a history.
+ghost use Rattle.std.specs.Prelude.{◌≡◌, ◌≤◌, ◌*◌, ◌↔◌, IfOk, IsTrue, Ok};
+ghost use Rattle.nt_event.specs.Script.{fits};
+ghost use Rattle.nt_check.specs.Verdicts.{IsVerdict};
+
+use nt_cpus::{CoreRefusal, Processors, turn_of};
+use nt_event::limits::{EVENTS, TURNS};
+use nt_event::{Event, History, Script};
+use nt_plain::PlainFloor;
+use std::alloc::{AllocError, Global};
+
+/// What a history is.
+#[derive(Clone, Copy, PartialEq, Eq, Debug)]
+pub enum Verdict {
+    /// A settled run: each event is the one that the machine makes by its turn after those before it, and at the end each processor is
+    /// cut, or rests and has seen what was asked for.
+    Legal,
+    /// The event of this number, from 0, is the first that is not the one that the machine makes by its turn; or it is the number of
+    /// events, all are the machine's, and some processor has more to do.
+    IllegalAt(u64),
+}
+
+/// Whether this event was made, in all its fields.
+fn is_made(made: &Result<Event, CoreRefusal>, event: &Event) -> bool
+    ensures { IsTrue result ↔ (made.now ≡ Ok event.now) }
+{
+    match made {
+        Ok(made) => *made == *event,
+        Err(_) => false,
+    }
+}
+
+/// Whether the history is a settled run of the script, and if not, where it goes wrong first. An error is want of memory.
+///
+/// The script fits, and the history's turn limit is 1 to 20,000 and at most 160,000 in all processors together. Nothing is asked of its
+/// events: one whose processor the script does not have is illegal there.
+pub fn check(alloc: Global, script: &Script, history: &History) -> Result<Verdict, AllocError>
+    requires script { IsTrue (fits script.now) }
+    requires turns { (1 ≤ history.now.turns) × (history.now.turns ≤ TURNS) }
+    requires all { script.now.cpus * history.now.turns ≤ EVENTS }
+    ensures { IfOk result (λ v. IsVerdict script.now history.now.turns history.now.events v) }
+{
+    let mut processors = Processors::new(alloc, script, history.turns)?;
+    let mut floor = PlainFloor::new(alloc, script, history.turns)?;
+    let mut number = 0;
+    for event in history.events.as_slice() {
+        let made = processors.turn(&mut floor, turn_of(event));
+        if !is_made(&made, event) {
+            return Ok(Verdict::IllegalAt(number));
+        }
+        number += 1;
+    }
+    if processors.settled(&floor) {
+        Ok(Verdict::Legal)
+    } else {
+        Ok(Verdict::IllegalAt(number))
+    }
+}
