@@ -14,6 +14,8 @@ pub(crate) enum Task<'a> {
     Take(&'a str),
     /// The first processor makes its first event by itself.
     Step,
+    /// The history of the run is changed so, and checked.
+    Check(&'a str),
 }
 
 /// A case of the table.
@@ -27,7 +29,7 @@ pub(crate) struct Case<'a> {
     ghost few: { limit ≤ TURNS },
 }
 
-fn limit_of(word: &str) -> Option<u32>
+pub(crate) fn limit_of(word: &str) -> Option<u32>
     ensures { IfSome result (λ n. (1 ≤ n) × (n ≤ TURNS)) }
 {
     let limit = word.parse::<u32>().ok()?;
@@ -58,6 +60,17 @@ fn stepped<'a>(limit: &str, script: &'a str) -> Option<Case<'a>> {
     })
 }
 
+/// A case whose run is changed and checked.
+fn checked<'a>(limit: &str, rest: &'a str) -> Option<Case<'a>> {
+    let limit = limit_of(limit)?;
+    let (script, change) = rest.split_once('|')?;
+    Some(Case {
+        limit,
+        script,
+        task: Task::Check(change),
+    })
+}
+
 /// A case that is run or replayed.
 fn whole<'a>(limit: &str, rest: &'a str) -> Option<Case<'a>> {
     let limit = limit_of(limit)?;
@@ -81,6 +94,7 @@ pub(crate) fn case_of(entry: &str) -> Option<Case<'_>> {
     match first.split_once(' ') {
         Some(("take", limit)) => taken(limit, rest),
         Some(("step", limit)) => stepped(limit, rest),
+        Some(("check", limit)) => checked(limit, rest),
         Some(_) => None,
         None => whole(first, rest),
     }

@@ -4,21 +4,26 @@
 //! the end of a line, or why the turns have no history. Where `take` stands before the limit, a machine takes the turns one by
 //! one; then a line for each of them tells whether it is the robin rule's and whether it was taken, another one whether the
 //! history is settled, and the report follows. Where `step` stands there, the first processor makes its first event by itself, in
-//! two steps and by one; a line for each tells whether it is that of the run, and the report of the run follows. What is wanted stands in `stdout`: rows that were worked out by hand.
+//! two steps and by one; a line for each tells whether it is that of the run, and the report of the run follows. Where `check` stands
+//! there, a change follows the script behind a `|`; the history of the run is changed so and checked, and what is written is `legal`,
+//! or `illegal at` and a number. What is wanted stands in `stdout`: rows that were worked out by hand.
 #![tactic(auto)]
 
 ghost use Rattle.std.specs.Prelude.{◌≤◌};
 ghost use Rattle.nt_script.specs.Sound.{IsSound};
 
 mod cases;
+mod checking;
 mod stepping;
 mod taking;
 mod turns;
 
 use crate::cases::{Case, Task, case_of};
+use crate::checking::{change_of, checked};
 use crate::stepping::stepped;
 use crate::taking::taken;
 use crate::turns::turns_of;
+use nt_check::Verdict;
 use nt_core::{ScheduleRefusal, replay, run};
 use nt_event::limits::TURNS;
 use nt_event::{ScheduleKind, Turn};
@@ -35,6 +40,8 @@ enum Outcome {
     Report(Vec<u8>),
     /// The turns have no history.
     Refused { at: u32, kind: ScheduleKind },
+    /// The checker's verdict on a changed history.
+    Checked(Verdict),
     /// The script is refused.
     NoReading,
     /// The line is no case.
@@ -84,6 +91,10 @@ fn read_outcome(alloc: Global, case: &Case<'_>, input: &Input) -> Result<Outcome
     match case.task {
         Task::Run => run_outcome(alloc, input, case.limit),
         Task::Step => Ok(Outcome::Report(stepped(alloc, input, case.limit)?)),
+        Task::Check(words) => match change_of(words) {
+            Some(change) => Ok(Outcome::Checked(checked(alloc, input, case.limit, change)?)),
+            None => Ok(Outcome::BadLine),
+        },
         Task::Replay(list) => match turns_of(alloc, &input.names, list)? {
             Some(turns) => replay_outcome(alloc, input, case.limit, turns.as_slice()),
             None => Ok(Outcome::BadLine),
@@ -128,6 +139,8 @@ fn main(rt: HostRuntime) -> io::Result<()> {
             Outcome::Refused { at, kind } => {
                 println!(rt; "schedule turn {at}: {} {}", kind.number(), kind.name())?
             }
+            Outcome::Checked(Verdict::Legal) => println!(rt; "legal")?,
+            Outcome::Checked(Verdict::IllegalAt(number)) => println!(rt; "illegal at {number}")?,
             Outcome::NoReading => println!(rt; "no reading")?,
             Outcome::BadLine => println!(rt; "bad line")?,
         }

@@ -3,5 +3,4 @@ pub mod OneRobin
 pub mod Choosing
 pub mod Starting
 pub mod Listing
-pub mod Newest
 pub mod Ending

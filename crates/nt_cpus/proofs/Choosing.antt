@@ -51,14 +51,6 @@ robin_found s floor limit p past c v l b h i e k u =
     ∙ (ap (by_values s p (own_of s p past) (lanes_at s past)) (same_values (own_of s p past) (v.value p) (λ n. asked s p n past) values)
     ∙ sym (ap (λ (z : Bool). when (not z) (robin_at s p (own_of s p past) (lanes_at s past) (λ n. asked s p n past))) u))))
 
--- one that is cut has none
-pub robin_cut : (s : Script) (limit : ℕ) (p : CpuNo) (past : List Event) → is_cut limit (own_of s p past) ≡ true → robin_of s limit p past ≡ None
-robin_cut s limit p past u = ap (λ (z : Bool). when (not z) (robin_at s p (own_of s p past) (lanes_at s past) (λ n. asked s p n past))) u
-
--- one that the script has not has none
-pub none_absent : {A : Type 0} (s : Script) (p : CpuNo) (o : Option A) (b : Bool) → has_cpu s p ≡ b → b ≡ false → None ≡ when (has_cpu s p) o
-none_absent s p o b h k = ap (λ (z : Bool). when z o) (sym (h ∙ k))
-
 -- ---- the cycle
 
 -- the first of n processors has no turn
