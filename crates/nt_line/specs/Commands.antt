@@ -1,7 +1,7 @@
 -- Fields that are read from left to right, and the command of a line in a routine.
-use Rattle.std.specs.Prelude.{ℕ, List, Result, Ok}
+use Rattle.std.specs.Prelude.{ℕ, zero, suc, List, Result, Ok}
 use Rattle.nt_text.specs.declared.kind.ScriptKind.{ScriptKind}
-use Rattle.nt_text.specs.Lines.{first, rest}
+use Rattle.nt_text.specs.Lines.{needed, rest}
 use Rattle.nt_event.specs.declared.commands.Command.{Command}
 use Rattle.nt_event.specs.declared.commands.Command.TheVariants as cmd
 use Rattle.nt_line.specs.declared.keywords.Verb.{Verb}
@@ -10,24 +10,32 @@ use Rattle.nt_line.specs.NameLists.{NameLists}
 use Rattle.nt_line.specs.Results.{◌>>=◌}
 use Rattle.nt_line.specs.Fields.{read_number, read_level, read_interrupt, read_cpu, read_target, read_importance, read_mode, read_alertable, read_dpc, read_timer, read_thread, read_apc}
 
+-- the next field, which has to be there
+abbrev pub next_field : {A : Type 0} → (List ℕ → Result A ScriptKind) → List (List ℕ) → Result A ScriptKind
+next_field read args = needed args >>= read
+
 abbrev pub read1 : {A B : Type 0} → (List ℕ → Result A ScriptKind) → (A → B) → List (List ℕ) → Result B ScriptKind
-read1 f make args = f (first args) >>= λ x. Ok (make x)
+read1 f make args = next_field f args >>= λ x. Ok (make x)
 
 abbrev pub read2 : {A B C : Type 0} → (List ℕ → Result A ScriptKind) → (List ℕ → Result B ScriptKind) → (A → B → C) →
     List (List ℕ) → Result C ScriptKind
-read2 f g make args = f (first args) >>= λ x. g (first (rest args)) >>= λ y. Ok (make x y)
+read2 f g make args = next_field f args >>= λ x. next_field g (rest args) >>= λ y. Ok (make x y)
 
 abbrev pub read3 : {A B C D : Type 0} → (List ℕ → Result A ScriptKind) → (List ℕ → Result B ScriptKind) →
     (List ℕ → Result C ScriptKind) → (A → B → C → D) → List (List ℕ) → Result D ScriptKind
-read3 f g h make args =
-    f (first args) >>= λ x. g (first (rest args)) >>= λ y. h (first (rest (rest args))) >>= λ z. Ok (make x y z)
+read3 f g h make args = next_field f args >>= λ x. next_field g (rest args) >>= λ y.
+    next_field h (rest (rest args)) >>= λ z. Ok (make x y z)
 
 abbrev pub read4 : {A B C D E : Type 0} → (List ℕ → Result A ScriptKind) → (List ℕ → Result B ScriptKind) →
     (List ℕ → Result C ScriptKind) → (List ℕ → Result D ScriptKind) → (A → B → C → D → E) → List (List ℕ) →
     Result E ScriptKind
-read4 f g h k make args =
-    f (first args) >>= λ x. g (first (rest args)) >>= λ y. h (first (rest (rest args))) >>= λ z.
-    k (first (rest (rest (rest args)))) >>= λ u. Ok (make x y z u)
+read4 f g h k make args = next_field f args >>= λ x. next_field g (rest args) >>= λ y.
+    next_field h (rest (rest args)) >>= λ z. next_field k (rest (rest (rest args))) >>= λ u. Ok (make x y z u)
+
+-- the fields behind the first n
+abbrev pub behind : ℕ → List (List ℕ) → List (List ℕ)
+behind zero args = args
+behind (suc n) args = behind n (rest args)
 
 -- the command of a verb and the fields behind it, by the names of the text and the count of processors
 abbrev pub command_of : NameLists → ℕ → Verb → List (List ℕ) → Result Command ScriptKind

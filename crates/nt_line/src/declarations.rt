@@ -11,9 +11,9 @@ use nt_text::{Fields, ScriptKind};
 pub fn isr(names: &Names, cpus: u8, args: &mut Fields) -> Result<Isr, ScriptKind>
     ensures { result ≡ isr_of names.now cpus args.old }
 {
-    let cpu = fields::cpu(cpus, args.take())?;
-    let level = fields::isr_level(args.take())?;
-    let routine = fields::routine(names, args.take())?;
+    let cpu = fields::cpu(cpus, args.need()?)?;
+    let level = fields::isr_level(args.need()?)?;
+    let routine = fields::routine(names, args.need()?)?;
     Ok(Isr {
         cpu,
         level,
@@ -25,7 +25,7 @@ pub fn isr(names: &Names, cpus: u8, args: &mut Fields) -> Result<Isr, ScriptKind
 pub fn dpc(names: &Names, threaded: bool, args: &mut Fields) -> Result<DpcDecl, ScriptKind>
     ensures { result ≡ dpc_of names.now threaded args.old }
 {
-    let routine = fields::routine(names, args.take())?;
+    let routine = fields::routine(names, args.need()?)?;
     Ok(DpcDecl { threaded, routine })
 }
 
@@ -33,7 +33,7 @@ pub fn dpc(names: &Names, threaded: bool, args: &mut Fields) -> Result<DpcDecl, 
 pub fn timer(names: &Names, args: &mut Fields) -> Result<TimerDecl, ScriptKind>
     ensures { result ≡ timer_of names.now args.old }
 {
-    let dpc = fields::timer_dpc(names, args.take())?;
+    let dpc = fields::timer_dpc(names, args.need()?)?;
     Ok(TimerDecl { dpc })
 }
 
@@ -41,8 +41,8 @@ pub fn timer(names: &Names, args: &mut Fields) -> Result<TimerDecl, ScriptKind>
 pub fn thread(names: &Names, cpus: u8, args: &mut Fields) -> Result<ThreadDecl, ScriptKind>
     ensures { result ≡ thread_of names.now cpus args.old }
 {
-    let cpu = fields::cpu(cpus, args.take())?;
-    let routine = fields::routine(names, args.take())?;
+    let cpu = fields::cpu(cpus, args.need()?)?;
+    let routine = fields::routine(names, args.need()?)?;
     Ok(ThreadDecl { cpu, routine })
 }
 
@@ -51,8 +51,8 @@ pub fn thread(names: &Names, cpus: u8, args: &mut Fields) -> Result<ThreadDecl, 
 pub fn apc(names: &Names, kind: ApcKind, args: &mut Fields) -> Result<ApcDecl, ScriptKind>
     ensures { result ≡ apc_of names.now kind args.old }
 {
-    let thread = fields::thread(names, args.take())?;
-    let kernel = fields::routine(names, args.take())?;
+    let thread = fields::thread(names, args.need()?)?;
+    let kernel = fields::routine(names, args.need()?)?;
     match kind {
         ApcKind::Special => Ok(ApcDecl {
             kind,
@@ -62,7 +62,7 @@ pub fn apc(names: &Names, kind: ApcKind, args: &mut Fields) -> Result<ApcDecl, S
             rundown: None,
         }),
         ApcKind::Normal => {
-            let normal = fields::routine(names, args.take())?;
+            let normal = fields::routine(names, args.need()?)?;
             Ok(ApcDecl {
                 kind,
                 thread,
@@ -72,8 +72,8 @@ pub fn apc(names: &Names, kind: ApcKind, args: &mut Fields) -> Result<ApcDecl, S
             })
         }
         ApcKind::User => {
-            let normal = fields::routine(names, args.take())?;
-            let rundown = fields::rundown(names, args.take())?;
+            let normal = fields::routine(names, args.need()?)?;
+            let rundown = fields::rundown(names, args.need()?)?;
             Ok(ApcDecl {
                 kind,
                 thread,

@@ -2,7 +2,8 @@
 ghost use Rattle.std.specs.Prelude.{◌≡◌, ◌≤◌, ℕ, length, drop, option_map, slice_get, Some, None, ◌∷◌, [], IfNone};
 ghost use Rattle.std.specs.List.{position, list_all};
 ghost use Rattle.std.specs.Option.{option_map_or};
-ghost use Rattle.nt_text.specs.Lines.{is_byte, parts, fields, is_printable, row_of, first, rest};
+ghost use Rattle.std.specs.Result.{result_map_both};
+ghost use Rattle.nt_text.specs.Lines.{is_byte, parts, fields, is_printable, row_of, first, needed, rest};
 
 use crate::kind::ScriptKind;
 use std::marker::Model;
@@ -169,6 +170,17 @@ impl<'a> Fields<'a> {
         match self.next() {
             Some(field) => field,
             None => &[],
+        }
+    }
+
+    /// The next field. MissingField exactly where none is left.
+    pub fn need(&mut self) -> Result<&'a [u8], ScriptKind>
+        ensures field { result_map_both (λ f. f.now) (λ e. e) result ≡ needed self.old }
+        ensures rest { self.new ≡ rest self.old }
+    {
+        match self.next() {
+            Some(field) => Ok(field),
+            None => Err(ScriptKind::MissingField),
         }
     }
 
