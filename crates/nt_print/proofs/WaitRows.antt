@@ -1,7 +1,7 @@
 -- The lines of the inserts that wait, event by event.
 use Rattle.std.proofs.Common.{◌≡◌, ◌∙◌, ℕ, zero, suc, ◌+◌, ◌<◌, Bool, true, false, List, [], ◌∷◌, ◌++◌, length, map, get_or, take, reverse, Option, Some, None, refl, sym, ap, arith}
 use Rattle.std.specs.Prelude.{filter, if◌then◌else◌}
-use Rattle.std.proofs.lemmas.List.{map-append}
+use Rattle.std.proofs.lemmas.List.{length-append, length-map, map-append}
 use Rattle.std.proofs.lemmas.List.Elements.{filter-append}
 use Rattle.nt_text.specs.Lines.{rows_text}
 use Rattle.nt_event.specs.declared.events.Event.{Event}
@@ -59,3 +59,18 @@ waits_put names events k old now next lt before line =
     parts_put old now next (waits_so_far names (reverse events) (reverse (take k events)))
     (map (wait_row names) (inserted_by k (waits_at (reverse events) k (inserted_at events k)))) before line
     ∙ ap (λ (rows : List Row). old ++ rows_text rows) (waits_more names events (reverse events) k e.0 lt e.1)
+
+-- one more event is counted
+pub waits_counted : (names : NameLists) (events : List Event) (k n m : ℕ) → k < length events → n
+    ≡ length (waits_so_far names (reverse events) (reverse (take k events))) → m
+    ≡ length (inserted_by k (waits_at (reverse events) k (inserted_at events k))) → n + m
+    ≡ length (waits_so_far names (reverse events) (reverse (take (k + 1) events)))
+waits_counted names events k n m lt before line =
+    let e = element_at events k lt in
+    let here : List Inserted = inserted_by k (waits_at (reverse events) k (inserted_at events k)) in
+    let so_far : List Row = waits_so_far names (reverse events) (reverse (take k events)) in
+    let whole : length (so_far ++ map (wait_row names) here) ≡ length (waits_so_far names (reverse events) (reverse (take (k + 1) events))) =
+    ap (λ (rows : List Row). length rows) (waits_more names events (reverse events) k e.0 lt e.1) in
+    let parts : length (so_far ++ map (wait_row names) here) ≡ length so_far + length (map (wait_row names) here) =
+    length-append so_far (map (wait_row names) here) in
+    omega (arith, whole, parts, length-map here (wait_row names), before, line)

@@ -2,3 +2,4 @@ pub mod Report
 pub mod Conditions
 pub mod Counts
 pub mod Uses
+pub mod Summary

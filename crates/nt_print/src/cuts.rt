@@ -29,7 +29,7 @@ fn count_all(counts: &mut [usize], events: &[Event])
 }
 
 /// How many events each of the processors made.
-fn made_by(alloc: Global, cpus: u8, events: &[Event]) -> Result<Vec<usize>, AllocError>
+pub(crate) fn made_by(alloc: Global, cpus: u8, events: &[Event]) -> Result<Vec<usize>, AllocError>
     ensures len { IfOk result (λ v. vec_len v ≡ cpus) }
     ensures made { IfOk result (λ v. TellsMade events.now v.items) }
 {

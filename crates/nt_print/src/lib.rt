@@ -15,8 +15,10 @@ mod fields;
 mod inserts;
 mod laws;
 mod printing;
+mod summaries;
 mod uses;
 mod waits;
 
 pub use laws::reports_are_histories;
 pub use printing::report;
+pub use summaries::summary;

@@ -1,0 +1,188 @@
+//! The summary of a history.
+ghost use Rattle.std.specs.Prelude.{◌≡◌, ◌++◌, ◌<◌, ◌≤◌, true, count_by, length, reverse, IfOk, OnOk};
+ghost use Rattle.nt_text.specs.Lines.{row_text};
+ghost use Rattle.nt_event.specs.Fate.{inserted_by};
+ghost use Rattle.nt_event.specs.Fitting.{events_fit};
+ghost use Rattle.nt_script.specs.Sound.{IsSound};
+ghost use Rattle.nt_print.specs.Counts.{TellsMade};
+ghost use Rattle.nt_print.specs.Report.{cut_of, cut_rows, made, wait_rows};
+ghost use Rattle.nt_print.specs.Summary.{count_row, how_many, is_begin, is_call, is_refused, is_refused_call, summary_text};
+ghost use Rattle.nt_print.specs.Uses.{AreUses, inserted_at, waits_at};
+
+use crate::cuts::made_by;
+use crate::uses::{Uses, uses_of, waiting};
+use nt_event::{Event, History, Reply, What};
+use nt_script::Input;
+use nt_text::put_number;
+use std::alloc::{AllocError, Global};
+
+fn is_call(what: &What) -> bool
+    ensures { result ≡ is_call what.now }
+{
+    match what {
+        What::Call { .. } => true,
+        What::Look { .. }
+        | What::Begin { .. }
+        | What::Normal { .. }
+        | What::End { .. }
+        | What::Expire { .. }
+        | What::Fire { .. }
+        | What::Clean { .. }
+        | What::Switch { .. }
+        | What::Rewait { .. }
+        | What::Flush { .. }
+        | What::Gone { .. }
+        | What::Rest => false,
+    }
+}
+
+fn is_refused(reply: &Reply) -> bool
+    ensures { result ≡ is_refused reply.now }
+{
+    match reply {
+        Reply::Refused(_) => true,
+        Reply::Done | Reply::Yes | Reply::No | Reply::Status(_) | Reply::Blocked => false,
+    }
+}
+
+fn is_refused_call(what: &What) -> bool
+    ensures { result ≡ is_refused_call what.now }
+{
+    match what {
+        What::Call { reply, .. } => is_refused(reply),
+        What::Look { .. }
+        | What::Begin { .. }
+        | What::Normal { .. }
+        | What::End { .. }
+        | What::Expire { .. }
+        | What::Fire { .. }
+        | What::Clean { .. }
+        | What::Switch { .. }
+        | What::Rewait { .. }
+        | What::Flush { .. }
+        | What::Gone { .. }
+        | What::Rest => false,
+    }
+}
+
+fn is_begin(what: &What) -> bool
+    ensures { result ≡ is_begin what.now }
+{
+    match what {
+        What::Begin { .. } => true,
+        What::Call { .. }
+        | What::Look { .. }
+        | What::Normal { .. }
+        | What::End { .. }
+        | What::Expire { .. }
+        | What::Fire { .. }
+        | What::Clean { .. }
+        | What::Switch { .. }
+        | What::Rewait { .. }
+        | What::Flush { .. }
+        | What::Gone { .. }
+        | What::Rest => false,
+    }
+}
+
+fn calls(events: &[Event]) -> usize
+    ensures { result ≡ how_many is_call events.now }
+{
+    events.iter().filter(|event| is_call(&event.what)).count()
+}
+
+fn refused_calls(events: &[Event]) -> usize
+    ensures { result ≡ how_many is_refused_call events.now }
+{
+    events
+        .iter()
+        .filter(|event| is_refused_call(&event.what))
+        .count()
+}
+
+fn begins(events: &[Event]) -> usize
+    ensures { result ≡ how_many is_begin events.now }
+{
+    events.iter().filter(|event| is_begin(&event.what)).count()
+}
+
+/// One for a processor that made as many events as it may, else none.
+fn cut_line(cpu: u8, count: usize, history: &History) -> u8
+    requires { count ≡ made cpu history.now.events }
+    ensures line { result ≡ length (cut_of history.now cpu) }
+    ensures one { result ≤ 1 }
+{
+    if count == history.turns as usize { 1 } else { 0 }
+}
+
+/// How many processors made as many events as they may.
+fn cut_lines(cpus: u8, counts: &[usize], history: &History) -> u8
+    requires len { length counts.now ≡ cpus }
+    requires made { TellsMade history.now.events counts.now }
+    ensures { result ≡ length (cut_rows history.now 0 cpus) }
+{
+    let mut lines: u8 = 0;
+    for cpu in 0..cpus {
+        lines += cut_line(cpu, counts[cpu as usize], history);
+    }
+    lines
+}
+
+/// One for an event that is an insert which still waits, else none.
+fn wait_line(input: &Input, events: &[Event], uses: &Uses, number: usize) -> usize
+    requires fit { events_fit input.now.script events.now ≡ true }
+    requires uses { AreUses input.now.script events.now uses.now }
+    requires number { number < length events.now }
+    ensures line { result ≡ length (inserted_by number (waits_at (reverse events.now) number (inserted_at events.now number))) }
+    ensures one { result ≤ 1 }
+{
+    match waiting(&input.script, events, uses, number) {
+        Some(_) => 1,
+        None => 0,
+    }
+}
+
+/// How many inserts no event used up.
+fn wait_lines(input: &Input, events: &[Event], uses: &Uses) -> usize
+    requires fit { events_fit input.now.script events.now ≡ true }
+    requires uses { AreUses input.now.script events.now uses.now }
+    ensures { result ≡ length (wait_rows input.now.names (reverse events.now)) }
+{
+    let mut lines: usize = 0;
+    for number in 0..events.len() {
+        lines += wait_line(input, events, uses, number);
+    }
+    lines
+}
+
+/// Adds a word and a count as a line.
+fn put_count(out: &mut Vec<u8>, word: &[u8], count: usize) -> Result<(), AllocError>
+    ensures { OnOk result (out.new.items ≡ out.old.items ++ row_text (count_row word.now count)) }
+{
+    out.extend_from_slice(word)?;
+    put_number(out, count as u64)?;
+    out.push(b'\n')?;
+    Ok(())
+}
+
+/// Six counts of a history, a line each: `events`, `calls`, `refused` (calls that were refused), `begins`, and how many `cut`
+/// and `waits` lines its report has. The history's events name things of the input's script. An error is want of memory.
+/// Profile.
+pub fn summary(alloc: Global, input: &Input, history: &History) -> Result<Vec<u8>, AllocError>
+    requires sound { IsSound input.now }
+    requires fit { events_fit input.now.script history.now.events ≡ true }
+    ensures { IfOk result (λ text. text.items ≡ summary_text input.now history.now) }
+{
+    let events = history.events.as_slice();
+    let uses = uses_of(alloc, &input.script, events)?;
+    let counts = made_by(alloc, input.script.cpus, events)?;
+    let cut = cut_lines(input.script.cpus, counts.as_slice(), history);
+    let mut out = Vec::new(alloc);
+    put_count(&mut out, b"events", events.len())?;
+    put_count(&mut out, b"calls", calls(events))?;
+    put_count(&mut out, b"refused", refused_calls(events))?;
+    put_count(&mut out, b"begins", begins(events))?;
+    put_count(&mut out, b"cut", cut as usize)?;
+    put_count(&mut out, b"waits", wait_lines(input, events, &uses))?;
+    Ok(out)
+}
