@@ -23,4 +23,5 @@ pub use nt_text::{put_field, put_number};
 pub use printing::{print_schedule, put_schedule, put_schedule_of};
 pub use reading::read_schedule;
 pub use schedules::{Schedule, turn_of, turns_of};
+pub use turns::count;
 pub use walk::{SchedulePlace, ScheduleWalk};

@@ -75,8 +75,8 @@ fn rises(args: &mut Fields) -> Result<Rises, ScriptKind>
     Ok(Rises { value })
 }
 
-/// Tests that so many fields are left.
-pub(crate) fn count(args: &Fields, wanted: usize) -> Result<(), ScriptKind>
+/// Tests that so many fields are left: MissingField where there are fewer, ExtraField where there are more.
+pub fn count(args: &Fields, wanted: usize) -> Result<(), ScriptKind>
     ensures { result_map_both (λ _. true) (λ kind. kind) result ≡ counted (length args.now) wanted }
 {
     let there = args.count();
@@ -93,15 +93,15 @@ fn next(cpus: u8, args: &mut Fields) -> Result<Turn, ScriptKind>
     ensures { result ≡ read_next cpus args.old }
 {
     count(args, 1)?;
-    Ok(Turn::Next(fields::cpu(cpus, args.take())?))
+    Ok(Turn::Next(fields::cpu(cpus, args.need()?)?))
 }
 
 fn switch(names: &Names, cpus: u8, args: &mut Fields) -> Result<Turn, ScriptKind>
     ensures { result ≡ read_switch cpus names.now args.old }
 {
     count(args, 2)?;
-    let cpu = fields::cpu(cpus, args.take())?;
-    Ok(Turn::Switch(cpu, fields::thread(names, args.take())?))
+    let cpu = fields::cpu(cpus, args.need()?)?;
+    Ok(Turn::Switch(cpu, fields::thread(names, args.need()?)?))
 }
 
 fn look(cpus: u8, args: &mut Fields) -> Result<Turn, ScriptKind>
