@@ -4,5 +4,5 @@ mod Fates
 mod Tables
 mod WaitRows
 mod Turns
-mod OneEvent
+pub mod OneEvent
 pub mod OneReport

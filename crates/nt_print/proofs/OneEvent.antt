@@ -79,7 +79,7 @@ known input s =
 below : (i n m : ℕ) → n ≡ m → nat_lt i m ≡ true → i < n
 below i n m e h = let lt = ltb-true i m h in omega (arith, e, lt)
 
-dpc_at : (input : Input) → Known input → (d : DpcNo) → has_dpc input.script d ≡ true → d.0 < length input.names.dpcs
+pub dpc_at : (input : Input) → Known input → (d : DpcNo) → has_dpc input.script d ≡ true → d.0 < length input.names.dpcs
 dpc_at input k d h = below d.0 (length input.names.dpcs) (length input.script.dpcs) k.counts.dpcs h
 
 dpc_one : (input : Input) → Known input → (d x : DpcNo) → has_dpc input.script d ≡ true → has_dpc input.script x ≡ true → show_dpc input.names d
@@ -90,7 +90,7 @@ dpc_one input k d x h g e = read_one (read_dpc input.names) (show_dpc input.name
 pub dpc_clean : (input : Input) → Known input → (d : DpcNo) → has_dpc input.script d ≡ true → is_field (show_dpc input.names d) ≡ true
 dpc_clean input k d h = dpc_field input.names k.fit.names d.0 (dpc_at input k d h)
 
-timer_at : (input : Input) → Known input → (t : TimerNo) → has_timer input.script t ≡ true → t.0 < length input.names.timers
+pub timer_at : (input : Input) → Known input → (t : TimerNo) → has_timer input.script t ≡ true → t.0 < length input.names.timers
 timer_at input k t h = below t.0 (length input.names.timers) (length input.script.timers) k.counts.timers h
 
 timer_one : (input : Input) → Known input → (t u : TimerNo) → has_timer input.script t ≡ true → has_timer input.script u ≡ true → show_timer input.names t
@@ -101,7 +101,7 @@ timer_one input k t u h g e = read_one (read_timer input.names) (show_timer inpu
 timer_clean : (input : Input) → Known input → (t : TimerNo) → has_timer input.script t ≡ true → is_field (show_timer input.names t) ≡ true
 timer_clean input k t h = timer_field input.names k.fit.names t.0 (timer_at input k t h)
 
-thread_at : (input : Input) → Known input → (t : ThreadNo) → has_thread input.script t ≡ true → t.0 < length input.names.threads
+pub thread_at : (input : Input) → Known input → (t : ThreadNo) → has_thread input.script t ≡ true → t.0 < length input.names.threads
 thread_at input k t h = below t.0 (length input.names.threads) (length input.script.threads) k.counts.threads h
 
 thread_one : (input : Input) → Known input → (t u : ThreadNo) → has_thread input.script t ≡ true → has_thread input.script u ≡ true → show_thread input.names t
@@ -112,7 +112,7 @@ thread_one input k t u h g e = read_one (read_thread input.names) (show_thread i
 thread_clean : (input : Input) → Known input → (t : ThreadNo) → has_thread input.script t ≡ true → is_field (show_thread input.names t) ≡ true
 thread_clean input k t h = thread_field input.names k.fit.names t.0 (thread_at input k t h)
 
-apc_at : (input : Input) → Known input → (a : ApcNo) → has_apc input.script a ≡ true → a.0 < length input.names.apcs
+pub apc_at : (input : Input) → Known input → (a : ApcNo) → has_apc input.script a ≡ true → a.0 < length input.names.apcs
 apc_at input k a h = below a.0 (length input.names.apcs) (length input.script.apcs) k.counts.apcs h
 
 apc_one : (input : Input) → Known input → (a b : ApcNo) → has_apc input.script a ≡ true → has_apc input.script b ≡ true → show_apc input.names a
@@ -135,7 +135,7 @@ mark row = initial row 0 * 256 + get_or (get_or row 0 []) 2 0
 
 -- ---- replies
 
-refusal_small : (r : Refusal) → refusal_number r < 2 ^ 64
+pub refusal_small : (r : Refusal) → refusal_number r < 2 ^ 64
 refusal_small NotThread = omega arith
 refusal_small NotBase = omega arith
 refusal_small TooHigh = omega arith
@@ -190,7 +190,7 @@ reply_clean (Refused r) h = rw (decimal_field (refusal_number r) (refusal_small 
 
 -- ---- commands
 
-command_plain : (input : Input) → Known input → (c : Command) → command_fits input.script c ≡ true → HasRange c → CommandFits input.names input.script.cpus c
+pub command_plain : (input : Input) → Known input → (c : Command) → command_fits input.script c ≡ true → HasRange c → CommandFits input.names input.script.cpus c
 command_plain input k c h r = command_from input.script input.names k.counts c h r
 
 verb_one : (v u : Verb) → text_of (keyword.Call v) ≡ text_of (keyword.Call u) → v ≡ u
@@ -402,7 +402,7 @@ what_clean input k Rest h g = refl
 
 -- ---- events
 
-no_dash : (f : List ℕ) → is_name f ≡ true → dash ≡ f → ⊥
+pub no_dash : (f : List ℕ) → is_name f ≡ true → dash ≡ f → ⊥
 no_dash f h e = let dashed : is_name dash ≡ true = ap is_name e ∙ h in cc
 
 running_one : (input : Input) → Known input → (a b : Option ThreadNo) → where_given (has_thread input.script) a ≡ true →
@@ -431,7 +431,7 @@ event_parts s e h =
     let q = and_parts (has_cpu s e.cpu) (where_given (has_thread s) e.thread) p.0 in
     record { cpu = q.0; thread = q.1; what = p.1 }
 
-cpu_small : (input : Input) → Known input → (p : CpuNo) → has_cpu input.script p ≡ true → p.0 < 2 ^ 64
+pub cpu_small : (input : Input) → Known input → (p : CpuNo) → has_cpu input.script p ≡ true → p.0 < 2 ^ 64
 cpu_small input k p h = let lt = ltb-true p.0 input.script.cpus h in let few = k.fit.cpus.1 in omega (arith, lt, few)
 
 cpu_same : (p q : CpuNo) → p.0 ≡ q.0 → p ≡ q

@@ -39,7 +39,7 @@ use Rattle.nt_print.proofs.OneEvent.{Fits, Known, apc_clean, dpc_clean, event_cl
 
 -- ---- lines of events
 
-line_split : (input : Input) (n : ℕ) (e : Event) (w : What) → line_rows input n e w ≡ (if is_look w then [] else event_row input n e ∷ [])
+pub line_split : (input : Input) (n : ℕ) (e : Event) (w : What) → line_rows input n e w ≡ (if is_look w then [] else event_row input n e ∷ [])
 line_split input n e (Look rises) = refl
 line_split input n e w = refl
 
@@ -161,11 +161,11 @@ all_to : {X : Type 0} (P Q : X → Type 0) → ((x : X) → P x → Q x) → (xs
 all_to P Q f [] h = tt
 all_to P Q f (x ∷ xs) h = (f x h.0, all_to P Q f xs h.1)
 
-all_reverse : {X : Type 0} (P : X → Type 0) (xs : List X) → AllByRecursion P xs → AllByRecursion P (reverse xs)
+pub all_reverse : {X : Type 0} (P : X → Type 0) (xs : List X) → AllByRecursion P xs → AllByRecursion P (reverse xs)
 all_reverse P [] h = tt
 all_reverse P (x ∷ xs) h = subst (AllByRecursion P) (sym (reverse-append (x ∷ []) xs)) (all_append P (reverse xs) (x ∷ []) (all_reverse P xs h.1) (h.0, tt))
 
-all_filter : {X : Type 0} (P : X → Type 0) (p : X → Bool) (xs : List X) → AllByRecursion P xs → AllByRecursion P (filter p xs)
+pub all_filter : {X : Type 0} (P : X → Type 0) (p : X → Bool) (xs : List X) → AllByRecursion P xs → AllByRecursion P (filter p xs)
 all_filter P p [] h = tt
 all_filter P p (x ∷ xs) h = go (p x) (all_filter P p xs h.1)
   where
@@ -213,7 +213,7 @@ waits_other : (names : NameLists) (xs : List Inserted) → AllByRecursion IsOthe
 waits_other names [] = tt
 waits_other names (x ∷ xs) = (wait_other names x, waits_other names xs)
 
-abbrev WaitIsPlain : Script → Inserted → Type 0
+abbrev pub WaitIsPlain : Script → Inserted → Type 0
 WaitIsPlain s i = (i.number < 2 ^ 64) × (thing_fits s i.thing ≡ true)
 
 pub inserted_fits : (s : Script) (w : What) → what_fits s w ≡ true → IfSome (inserted_thing w) (λ x. thing_fits s x ≡ true)
@@ -222,7 +222,7 @@ inserted_fits s (Call f (InsertApc a) Yes) h = h
 inserted_fits s (Fire d Yes) h = h
 inserted_fits s w h = tt
 
-inserts_plain : (s : Script) (past : List Event) → length past < 2 ^ 64 → AllByRecursion (EventIsPlain s) past → AllByRecursion (WaitIsPlain s) (inserts past)
+pub inserts_plain : (s : Script) (past : List Event) → length past < 2 ^ 64 → AllByRecursion (EventIsPlain s) past → AllByRecursion (WaitIsPlain s) (inserts past)
 inserts_plain s [] few h = tt
 inserts_plain s (e ∷ past) few h =
     all_append (WaitIsPlain s) (inserts past) (inserted_by (length past) (inserted_thing e.what)) (inserts_plain s past (omega (arith, few)) h.1)
@@ -261,7 +261,7 @@ turn_plain input k e h = go e.what p.what h.1.1
     go (Switch t status) f r = (few, ltb-true t.0 (length input.script.threads) f)
     go w f r = few
 
-schedule_plain : (input : Input) → Known input → (h : History) → IsPlain input.script h → OfTurns input.script (schedule_of h)
+pub schedule_plain : (input : Input) → Known input → (h : History) → IsPlain input.script h → OfTurns input.script (schedule_of h)
 schedule_plain input k h p = record {
   turns = all_map (EventIsPlain input.script) (TurnIsPlain input.script) turn_of (turn_plain input k) h.events p.events;
   few = let few = p.few in omega (arith, few, length-map h.events turn_of);
@@ -273,7 +273,7 @@ schedule_plain input k h p = record {
 regroup : {X : Type 0} (a b c d : List X) → a ++ (b ++ (c ++ d)) ≡ (a ++ (b ++ c)) ++ d
 regroup a b c d = ap (λ xs. a ++ xs) (sym (append_assoc b c d)) ∙ sym (append_assoc a (b ++ c) d)
 
-report_clean : (input : Input) → IsSound input → (h : History) → IsPlain input.script h → AllRows (report_rows input h)
+pub report_clean : (input : Input) → IsSound input → (h : History) → IsPlain input.script h → AllRows (report_rows input h)
 report_clean input sound h p =
     let k = known input sound in
     let few = p.few in

@@ -204,7 +204,7 @@ command_from s names cs cmd.ToUser e h = tt
 command_from s names cs cmd.Yield e h = tt
 command_from s names cs (cmd.Note number) e h = h
 
-command_to : (s : Script) (names : NameLists) → Counts s names → (c : Command) → CommandFits names s.cpus c → (command_fits s c ≡ true) × HasRange c
+pub command_to : (s : Script) (names : NameLists) → Counts s names → (c : Command) → CommandFits names s.cpus c → (command_fits s c ≡ true) × HasRange c
 command_to s names cs (cmd.Raise level) h = (refl, h)
 command_to s names cs (cmd.Lower level) h = (refl, h)
 command_to s names cs (cmd.Queue d) h = (below_test d.0 (length names.dpcs) (length s.dpcs) cs.dpcs h, tt)

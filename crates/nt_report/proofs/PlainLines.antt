@@ -1,0 +1,228 @@
+-- What is read of the lines: plain events, and a schedule that is plain for the processors of the script.
+use Rattle.std.proofs.Common.{◌≡◌, ℕ, ◌+◌, ◌≤◌, ◌⊎◌, inl, inr, Bool, true, false, List, [], ◌∷◌, ◌++◌, length, Result, Ok, Err, refl, sym, ◌∙◌, ap, subst, arith}
+use Rattle.std.specs.List.{AllByRecursion}
+use Rattle.nt_text.specs.declared.kind.ScriptKind.{ScriptKind}
+use Rattle.nt_text.specs.Lines.{Row, first, rest, row_of}
+use Rattle.nt_event.specs.declared.numbers.CpuNo.{CpuNo}
+use Rattle.nt_line.specs.declared.names.Named.{Named}
+use Rattle.nt_line.specs.Results.{◌>>=◌}
+use Rattle.nt_script.specs.declared.walk.Input.{Input}
+use Rattle.nt_script.specs.Reading.{counted, go_on}
+use Rattle.nt_script.specs.Sound.{IsSound}
+use Rattle.nt_log.specs.declared.schedules.Schedule.{Schedule}
+use Rattle.nt_log.specs.declared.walk.ScheduleWalk.{ScheduleWalk}
+use Rattle.nt_log.specs.Reading.{start as schedule_start, line_step as schedule_line, finish as schedule_finish, walk as schedule_walk}
+use Rattle.nt_log.specs.Schedules.{AreBelow, IsPlain as IsPlainSchedule}
+use Rattle.nt_log.proofs.Both.{walk_takes}
+use Rattle.nt_print.specs.Conditions.{EventIsPlain}
+use Rattle.nt_print.proofs.OneEvent.{Known, known}
+use Rattle.nt_report.specs.declared.events.EventLine.{EventLine}
+use Rattle.nt_report.specs.declared.places.LineWord.{LineWord}
+use Rattle.nt_report.specs.declared.places.LineWord.TheVariants as word
+use Rattle.nt_report.specs.declared.places.ReportPlace.{ReportPlace}
+use Rattle.nt_report.specs.declared.places.ReportPlace.TheVariants.{Start, InEvents, InCuts, InWaits, InSchedule}
+use Rattle.nt_report.specs.declared.walk.Parts.{Parts}
+use Rattle.nt_report.specs.Events.{event_line}
+use Rattle.nt_report.specs.Walked.{Walked}
+use Rattle.nt_report.specs.Reading.{act, and_then, cut_line, finish, front_step, line_step, line_word, schedule_step, start, step_at, waits_line, walk, with_event, with_place, with_schedule, word_at}
+use Rattle.nt_report.proofs.Steps.{made, ok, through}
+use Rattle.nt_report.proofs.PlainEvents.{event_line_plain}
+
+abbrev pub TextLine : Type 0
+TextLine = List ℕ × Bool
+
+-- ---- lists
+
+pub all_more : {X : Type 0} (P : X → Type 0) (xs : List X) (x : X) → AllByRecursion P xs → P x → AllByRecursion P (xs ++ x ∷ [])
+all_more P [] x h p = (p, tt)
+all_more P (y ∷ xs) x h p = (h.0, all_more P xs x h.1 p)
+
+more_length : {X : Type 0} (xs : List X) (x : X) → length (xs ++ x ∷ []) ≡ length xs + 1
+more_length [] x = refl
+more_length (y ∷ xs) x = let more = more_length xs x in omega (arith, more)
+
+-- ---- one line
+
+abbrev pub LineIsPlain : Input → EventLine → Type 0
+LineIsPlain input line = EventIsPlain input.script line.event
+
+abbrev pub AllPlain : Input → List EventLine → Type 0
+AllPlain input lines = AllByRecursion (LineIsPlain input) lines
+
+-- the part of the events, cuts and waits
+abbrev pub in_schedule : ReportPlace → Bool
+in_schedule InSchedule = true
+in_schedule _ = false
+
+-- what a line leaves of the event lines, and of the schedule: it was a line before the schedule, or one of it
+pub record Taken (input : Input) (w : Walked) (line : TextLine) (new : Walked) : Type 0 where
+  pub few : length new.lines ≤ length w.lines + 1
+  pub plain : AllPlain input w.lines → AllPlain input new.lines
+  pub part : ((in_schedule new.place ≡ false) × (new.schedule ≡ w.schedule)) ⊎
+      ((s : ScheduleWalk) × (schedule_line input.script.cpus input.names w.schedule line ≡ Ok s) × (new ≡ with_schedule w s))
+
+same_lines : (input : Input) (w : Walked) (line : TextLine) (place : ReportPlace) → in_schedule place ≡ false → Taken input w line (with_place w place)
+same_lines input w line place h = record { few = omega arith; plain = λ p. p; part = inl (h, refl) }
+
+schedule_taken : (input : Input) (w : Walked) (line : TextLine) (new : Walked) → schedule_step input w line ≡ Ok new → Taken input w line new
+schedule_taken input w line new e =
+    through (Taken input w line) (schedule_line input.script.cpus input.names w.schedule line) (λ (s : ScheduleWalk). ok (with_schedule w s)) new e
+    (λ s is then. made (Taken input w line) (with_schedule w s) new then
+    (record { few = omega arith; plain = λ p. p; part = inr (s, is, refl) }))
+
+act_taken : (input : Input) → Known input → (w : Walked) (word : LineWord) (row : Row) (line : TextLine) (new : Walked) → in_schedule w.place ≡ false →
+    act input w word row line ≡ Ok new → Taken input w line new
+act_taken input k w word.Report row line new h e =
+    through (Taken input w line) (counted (length (rest row)) 0) (λ (b : Bool). ok (with_place w InEvents)) new e
+    (λ b is then. made (Taken input w line) (with_place w InEvents) new then (same_lines input w line InEvents refl))
+act_taken input k w word.Event row line new h e =
+    through (Taken input w line) (event_line input.names input.script.cpus (first row) (rest row)) (λ (l : EventLine). ok (with_event w l)) new e
+    (λ l is then.
+    let plain = event_line_plain input k (first row) (rest row) l is in
+    made (Taken input w line) (with_event w l) new then
+    (record {
+      few = let more = more_length w.lines l in omega (arith, more);
+      plain = λ p. all_more (LineIsPlain input) w.lines l p plain;
+      part = inl (h, refl);
+    }))
+act_taken input k w word.Cut row line new h e =
+    through (Taken input w line) (cut_line input.script.cpus (rest row)) (λ (p : CpuNo). ok (with_place w InCuts)) new e
+    (λ p is then. made (Taken input w line) (with_place w InCuts) new then (same_lines input w line InCuts refl))
+act_taken input k w word.Waits row line new h e =
+    through (Taken input w line) (waits_line input.names (rest row)) (λ (x : Named). ok (with_place w InWaits)) new e
+    (λ x is then. made (Taken input w line) (with_place w InWaits) new then (same_lines input w line InWaits refl))
+act_taken input k w word.Schedule row line new h e = schedule_taken input w line new e
+
+front_taken : (input : Input) → Known input → (w : Walked) (line : TextLine) (new : Walked) → in_schedule w.place ≡ false → front_step input w line ≡ Ok new →
+    Taken input w line new
+front_taken input k w line new h e =
+    through (Taken input w line) (row_of line) (λ (row : Row). word_at w.place (line_word (first row)) >>= λ word. act input w word row line) new e
+    (λ row is then. through (Taken input w line) (word_at w.place (line_word (first row))) (λ (word : LineWord). act input w word row line) new then
+    (λ word is' then'. act_taken input k w word row line new h then'))
+
+pub step_taken : (input : Input) → Known input → (w : Walked) (line : TextLine) (new : Walked) → line_step input w line ≡ Ok new → Taken input w line new
+step_taken input k w line new e = go w.place refl e
+  where
+    go : (p : ReportPlace) → w.place ≡ p → step_at p input w line ≡ Ok new → Taken input w line new
+    go InSchedule is e = schedule_taken input w line new e
+    go Start is e = front_taken input k w line new (ap in_schedule is) e
+    go InEvents is e = front_taken input k w line new (ap in_schedule is) e
+    go InCuts is e = front_taken input k w line new (ap in_schedule is) e
+    go InWaits is e = front_taken input k w line new (ap in_schedule is) e
+
+-- ---- all lines
+
+then_ok : {A B : Type 0} (P : B → Type 0) (r : Result A (ℕ × ScriptKind)) (f : A → Result B (ℕ × ScriptKind)) (y : B) → and_then r f ≡ Ok y →
+    ((x : A) → r ≡ Ok x → f x ≡ Ok y → P y) → P y
+then_ok P (Ok x) f y e k = k x refl e
+then_ok P (Err bad) f y e k = absurd cc
+
+abbrev done : {A : Type 0} → A → Result A (ℕ × ScriptKind)
+done x = Ok x
+
+done_is : {A : Type 0} (P : A → Type 0) (x y : A) → done x ≡ Ok y → P x → P y
+done_is P x y e h = let same : x ≡ y = cc in subst P same h
+
+abbrev parts_of : List EventLine → Schedule → Parts
+parts_of lines schedule = record { lines = lines; schedule = schedule }
+
+-- at the end
+finish_takes : (w : Walked) (n : ℕ) (parts : Parts) → finish w n ≡ Ok parts → (parts.lines ≡ w.lines) ×
+    (schedule_finish w.schedule.place w.schedule.schedule n ≡ Ok parts.schedule)
+finish_takes w n parts e =
+    let P : Parts → Type 0 = λ parts. (parts.lines ≡ w.lines) × (schedule_finish w.schedule.place w.schedule.schedule n ≡ Ok parts.schedule) in
+    then_ok P (schedule_finish w.schedule.place w.schedule.schedule n) (λ (s : Schedule). done (parts_of w.lines s)) parts e
+    (λ s is then. done_is P (parts_of w.lines s) parts then (refl, is))
+
+-- the reading went on behind a line
+pub record Went (input : Input) (w : Walked) (n : ℕ) (line : TextLine) (more : List TextLine) (parts : Parts) : Type 0 where
+  pub new : Walked
+  pub step : line_step input w line ≡ Ok new
+  pub goes_on : walk input new (n + 1) more ≡ Ok parts
+
+pub went : (input : Input) (w : Walked) (n : ℕ) (line : TextLine) (more : List TextLine) (parts : Parts) → walk input w n (line ∷ more) ≡ Ok parts →
+    Went input w n line more parts
+went input w n line more parts e = go (line_step input w line) refl e
+  where
+    go : (r : Result Walked ScriptKind) → line_step input w line ≡ r → go_on n r (λ new. walk input new (n + 1) more) ≡ Ok parts →
+        Went input w n line more parts
+    go (Ok new) is e = record { new = new; step = is; goes_on = e }
+    go (Err kind) is e = absurd cc
+
+-- the event lines are plain, and not more than the lines
+pub lines_plain : (input : Input) → Known input → (w : Walked) (n : ℕ) (ls : List TextLine) (parts : Parts) → walk input w n ls ≡ Ok parts →
+    AllPlain input w.lines → AllPlain input parts.lines × (length parts.lines ≤ length w.lines + length ls)
+lines_plain input k w n [] parts e h =
+    let f = finish_takes w n parts e in
+    (subst (AllPlain input) (sym f.0) h, let same = ap (λ (xs : List EventLine). length xs) f.0 in omega (arith, same))
+lines_plain input k w n (line ∷ more) parts e h =
+    let g = went input w n line more parts e in
+    let t = step_taken input k w line g.new g.step in
+    let r = lines_plain input k g.new (n + 1) more parts g.goes_on (t.plain h) in
+    let few = t.few in
+    (r.0, omega (arith, r.1, few))
+
+-- the lines from one on are a schedule
+pub IsReadAs : Input → Schedule → Type 0
+IsReadAs input s = (n : ℕ) × (ls : List TextLine) × (schedule_walk input.script.cpus input.names schedule_start n ls ≡ Ok s)
+
+-- inside the schedule
+inside : (input : Input) (w : Walked) (n : ℕ) (ls : List TextLine) (parts : Parts) → in_schedule w.place ≡ true → walk input w n ls ≡ Ok parts →
+    schedule_walk input.script.cpus input.names w.schedule n ls ≡ Ok parts.schedule
+inside input w n [] parts h e = (finish_takes w n parts e).1
+inside input w n (line ∷ more) parts h e =
+    let g = went input w n line more parts e in
+    let P : Walked → Type 0 = λ new. walk input new (n + 1) more ≡ Ok parts → schedule_walk input.script.cpus input.names w.schedule n (line ∷ more)
+    ≡ Ok parts.schedule in
+    through P (schedule_line input.script.cpus input.names w.schedule line) (λ (s : ScheduleWalk). ok (with_schedule w s)) g.new (at w.place h g.step)
+    (λ s is then. made P (with_schedule w s) g.new then
+    (λ goes_on. rw is (inside input (with_schedule w s) (n + 1) more parts refl goes_on))) g.goes_on
+  where
+    at : (p : ReportPlace) → in_schedule p ≡ true → {new : Walked} → step_at p input w line ≡ Ok new → schedule_step input w line ≡ Ok new
+    at InSchedule h e = e
+    at Start h e = absurd cc
+    at InEvents h e = absurd cc
+    at InCuts h e = absurd cc
+    at InWaits h e = absurd cc
+
+-- before it
+before : (input : Input) → Known input → (w : Walked) (n : ℕ) (ls : List TextLine) (parts : Parts) → w.schedule ≡ schedule_start →
+    in_schedule w.place ≡ false → walk input w n ls ≡ Ok parts → IsReadAs input parts.schedule
+unfolding IsReadAs
+before input k w n [] parts s h e =
+    let f = (finish_takes w n parts e).1 in
+    let none : schedule_finish schedule_start.place schedule_start.schedule n ≡ Ok parts.schedule =
+    subst (λ (x : ScheduleWalk). schedule_finish x.place x.schedule n ≡ Ok parts.schedule) s f in
+    absurd cc
+before input k w n (line ∷ more) parts s h e =
+    let g = went input w n line more parts e in
+    go g.new g.goes_on (λ st out. before input k g.new (n + 1) more parts st out g.goes_on) (step_taken input k w line g.new g.step).part
+  where
+    go : (new : Walked) → walk input new (n + 1) more ≡ Ok parts → (new.schedule ≡ schedule_start → in_schedule new.place ≡ false →
+        IsReadAs input parts.schedule) → ((in_schedule new.place ≡ false) × (new.schedule ≡ w.schedule)) ⊎
+        ((s : ScheduleWalk) × (schedule_line input.script.cpus input.names w.schedule line ≡ Ok s) × (new ≡ with_schedule w s)) →
+        IsReadAs input parts.schedule
+    go new e again (inl stays) = again (stays.1 ∙ s) stays.0
+    go new e again (inr enters) =
+        let now : walk input (with_schedule w enters.0) (n + 1) more ≡ Ok parts = subst (λ (x : Walked). walk input x (n + 1) more ≡ Ok parts) enters.2 e in
+        let rest = inside input (with_schedule w enters.0) (n + 1) more parts refl now in
+        let step : schedule_line input.script.cpus input.names schedule_start line ≡ Ok enters.0 =
+        subst (λ (x : ScheduleWalk). schedule_line input.script.cpus input.names x line ≡ Ok enters.0) s enters.1 in
+        (n, line ∷ more, rw step rest)
+
+-- the parts of a report
+pub record PartsArePlain (input : Input) (parts : Parts) : Type 0 where
+  pub lines : AllPlain input parts.lines
+  pub schedule : IsPlainSchedule input.script parts.schedule
+  pub below : AreBelow input.script.cpus parts.schedule.list
+
+pub parts_plain : (input : Input) → IsSound input → (n : ℕ) (ls : List TextLine) (parts : Parts) → walk input start n ls ≡ Ok parts →
+    PartsArePlain input parts × (length parts.lines ≤ length ls)
+unfolding IsReadAs
+parts_plain input sound n ls parts e =
+    let k = known input sound in
+    let l = lines_plain input k start n ls parts e tt in
+    let b = before input k start n ls parts refl refl e in
+    let most = k.fit.cpus.1 in
+    let t = walk_takes input.script.cpus b.0 input b.1 parts.schedule (omega (arith, most)) sound b.2 in
+    (record { lines = l.0; schedule = t.1; below = t.2 }, omega (arith, l.1))

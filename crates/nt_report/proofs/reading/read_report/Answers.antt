@@ -1,0 +1,5 @@
+use Rattle.nt_report.proofs.Contract.{is_found}
+use Rattle.nt_report.proofs.reading.read_report.Goals as goal
+
+pub returns-clause-found : goal.returns-clause-found
+returns-clause-found c = is_found c.args.input.now c.requires.sound c.args.first_line c.args.bytes.now c.read_all.result c.read_all.ensures

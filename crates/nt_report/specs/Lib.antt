@@ -1,0 +1,5 @@
+pub mod Words
+pub mod Fields
+pub mod Events
+pub mod Walked
+pub mod Reading

@@ -1,0 +1,193 @@
+//! Reading the lines of a report, each by its form.
+ghost use Rattle.std.specs.Prelude.{◌≡◌, ◌∷◌, ◌++◌, [], OnOk};
+ghost use Rattle.nt_report.specs.Reading.{cut_line, read_object, waits_line};
+
+use crate::events::{EventLine, event_line};
+use crate::fields::processor_of;
+use crate::places::{LineWord, ReportPlace, word_at};
+use nt_event::{CpuNo, Items};
+use nt_line::{Named, Names, fields};
+use nt_log::{Schedule, ScheduleWalk, count};
+use nt_script::{Input, ScriptRefusal, Stop};
+use nt_text::{Fields, Line, ScriptKind};
+use std::alloc::{AllocError, Global};
+use std::marker::Model;
+
+/// The event lines and the schedule of a report.
+#[derive(Drop)]
+pub(crate) struct Parts {
+    pub lines: Items<EventLine>,
+    pub schedule: Schedule,
+}
+
+/// What was read so far.
+#[derive(Drop)]
+pub(crate) struct ReportWalk {
+    /// What was read last.
+    place: ReportPlace,
+    /// The event lines.
+    lines: Vec<EventLine>,
+    /// What was read of the schedule.
+    schedule: ScheduleWalk,
+}
+
+impl Model for ReportWalk {
+    ghost use Rattle.nt_report.specs.Walked.{Walked};
+
+    ghost Value = { Walked };
+
+    ghost view = { λ a. record { place = a.place; lines = a.lines.items; schedule = a.schedule } };
+}
+
+/// The processor that was cut.
+fn cut_line(cpus: u8, args: &mut Fields) -> Result<CpuNo, ScriptKind>
+    ensures { result ≡ cut_line cpus args.old }
+{
+    count(args, 1)?;
+    processor_of(cpus, args.take())
+}
+
+/// An object that can be inserted, by the word of its kind and its name.
+fn read_object(names: &Names, kind: &[u8], name: &[u8]) -> Result<Named, ScriptKind>
+    ensures { result ≡ read_object names.now kind.now name.now }
+{
+    if kind == b"dpc".as_slice() {
+        return Ok(Named::Dpc(fields::dpc(names, name)?));
+    }
+    if kind == b"apc".as_slice() {
+        return Ok(Named::Apc(fields::apc(names, name)?));
+    }
+    Err(ScriptKind::UnknownWord)
+}
+
+/// The object whose insert still waits.
+fn waits_line(names: &Names, args: &mut Fields) -> Result<Named, ScriptKind>
+    ensures { result ≡ waits_line names.now args.old }
+{
+    count(args, 3)?;
+    fields::number(args.take(), u32::MAX)?;
+    let kind = args.take();
+    read_object(names, kind, args.take())
+}
+
+/// Adds an event line behind the others.
+fn add_line(lines: &mut Vec<EventLine>, line: &EventLine) -> Result<(), AllocError>
+    ensures { OnOk result (lines.new.items ≡ lines.old.items ++ line.now ∷ []) }
+{
+    lines.extend_from_slice(&[*line])
+}
+
+impl ReportWalk {
+    ghost use Rattle.std.specs.Prelude.{◌≡◌};
+    ghost use Rattle.nt_script.specs.Gives.{Gives, GivesRead};
+    ghost use Rattle.nt_report.specs.Reading.{cut_step, event_step, finish, front_step, line_step, report_step, schedule_step, start, waits_step};
+
+    /// Nothing was read.
+    pub fn new(alloc: Global) -> ReportWalk
+        ensures { result ≡ start }
+    {
+        ReportWalk {
+            place: ReportPlace::Start,
+            lines: Vec::new(alloc),
+            schedule: ScheduleWalk::new(alloc),
+        }
+    }
+
+    /// Takes a line.
+    pub fn line(&mut self, input: &Input, line: &Line) -> Result<(), Stop>
+        ensures { Gives result self.new (line_step input.now self.old (line.now.bytes.now, line.now.ended)) }
+    {
+        match self.place {
+            ReportPlace::InSchedule => self.schedule_line(input, line),
+            ReportPlace::Start
+            | ReportPlace::InEvents
+            | ReportPlace::InCuts
+            | ReportPlace::InWaits => self.front_line(input, line),
+        }
+    }
+
+    /// The event lines and the schedule, where the text may end here: NoEnd else. `line` is the number of the line behind the
+    /// last.
+    pub fn finish(self, line: u32) -> Result<Parts, ScriptRefusal>
+        ensures { GivesRead result (finish self line) }
+    {
+        let ReportWalk {
+            place: _,
+            lines,
+            schedule,
+        } = self;
+        match schedule.finish(line) {
+            Ok(schedule) => Ok(Parts {
+                lines: Items::from_vec(lines),
+                schedule,
+            }),
+            Err(refusal) => Err(refusal),
+        }
+    }
+
+    /// Takes a line of the schedule.
+    fn schedule_line(&mut self, input: &Input, line: &Line) -> Result<(), Stop>
+        ensures { Gives result self.new (schedule_step input.now self.old (line.now.bytes.now, line.now.ended)) }
+    {
+        self.schedule.line(&input.names, input.script.cpus, line)?;
+        self.place = ReportPlace::InSchedule;
+        Ok(())
+    }
+
+    /// Takes a line before the schedule, or its first line.
+    fn front_line(&mut self, input: &Input, line: &Line) -> Result<(), Stop>
+        ensures { Gives result self.new (front_step input.now self.old (line.now.bytes.now, line.now.ended)) }
+    {
+        let mut row = line.fields()?;
+        let field = row.take();
+        match word_at(self.place, field)? {
+            LineWord::Report => self.report_line(&row),
+            LineWord::Event => { self.event_line(&input.names, input.script.cpus, field, &mut row) }
+            LineWord::Cut => self.cut_line(input, &mut row),
+            LineWord::Waits => self.waits_line(input, &mut row),
+            LineWord::Schedule => self.schedule_line(input, line),
+        }
+    }
+
+    fn report_line(&mut self, row: &Fields) -> Result<(), Stop>
+        ensures { Gives result self.new (report_step self.old row.now) }
+    {
+        count(row, 0)?;
+        self.place = ReportPlace::InEvents;
+        Ok(())
+    }
+
+    fn event_line(
+        &mut self,
+        names: &Names,
+        cpus: u8,
+        number: &[u8],
+        row: &mut Fields,
+    ) -> Result<(), Stop>
+        ensures { Gives result self.new (event_step names.now cpus self.old number.now row.old) }
+    {
+        match event_line(names, cpus, number, row) {
+            Ok(line) => {
+                add_line(&mut self.lines, &line)?;
+                Ok(())
+            }
+            Err(kind) => Err(Stop::Bad(kind)),
+        }
+    }
+
+    fn cut_line(&mut self, input: &Input, row: &mut Fields) -> Result<(), Stop>
+        ensures { Gives result self.new (cut_step input.now self.old row.old) }
+    {
+        cut_line(input.script.cpus, row)?;
+        self.place = ReportPlace::InCuts;
+        Ok(())
+    }
+
+    fn waits_line(&mut self, input: &Input, row: &mut Fields) -> Result<(), Stop>
+        ensures { Gives result self.new (waits_step input.now self.old row.old) }
+    {
+        waits_line(&input.names, row)?;
+        self.place = ReportPlace::InWaits;
+        Ok(())
+    }
+}
