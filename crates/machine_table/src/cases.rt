@@ -1,5 +1,6 @@
 //! The cases of the table.
 ghost use Rattle.std.specs.Prelude.{◌≤◌, IfSome};
+ghost use Rattle.nt_event.specs.declared.limits.TheConstants.{TURNS};
 
 use nt_event::limits::TURNS;
 
