@@ -3,13 +3,14 @@ use Rattle.std.proofs.Common.{◌≡◌, ◌∙◌, ℕ, zero, suc, ◌+◌, ◌
 use Rattle.std.specs.Prelude.{IfSome, codes, decimal, filter, nat_le, ◌==◌, if◌then◌else◌}
 use Rattle.std.specs.Char.{is_ascii_digit}
 use Rattle.std.specs.List.{AllByRecursion, list_all}
-use Rattle.std.specs.Str.{all_ascii_digits}
-use Rattle.std.proofs.lemmas.Bool.{and_parts, leb-true, ltb-true, ne_eqb}
+use Rattle.std.specs.Str.{all_ascii_digits, bytes_eq}
+use Rattle.std.proofs.lemmas.Bool.{and_parts, false≢true, leb-true, ltb-true, ne_eqb}
 use Rattle.std.proofs.lemmas.Fmt.{decimal_nonempty, digits_decimal}
 use Rattle.std.proofs.lemmas.List.{length-map, length-reverse, reverse-append}
 use Rattle.std.proofs.lemmas.List.Elements.{filter-append}
+use Rattle.std.proofs.lemmas.Slice.Eq.{bytes_eq-Decides}
 use Rattle.std.proofs.lemmas.Str.Parse.{IsNumeralModel, numerals_by_fold}
-use Rattle.nt_text.specs.Lines.{AllRows, IsRow, is_field}
+use Rattle.nt_text.specs.Lines.{AllRows, IsRow, first, is_field}
 use Rattle.nt_text.proofs.Decimals.{decimal_field, read_on}
 use Rattle.nt_event.specs.declared.commands.Command.TheVariants.{InsertApc, Queue}
 use Rattle.nt_event.specs.declared.commands.Reply.TheVariants.{Yes}
@@ -320,6 +321,26 @@ unfolding front
 report_front input h = ap (λ (rows : List Row). (codes "report" ∷ []) ∷ rows)
     (regroup (event_rows input 0 h.events) (cut_rows h 0 input.script.cpus) (wait_rows input.names (reverse h.events))
     (schedule_rows input.names (schedule_of h)))
+
+-- a row that begins with another byte begins with another word
+other_word : (z : Row) → is_schedule z ≡ false → bytes_eq (first z) (codes "schedule") ≡ false
+unfolding is_schedule initial
+other_word z h = go (bytes_eq (first z) (codes "schedule")) refl
+  where
+    go : (b : Bool) → bytes_eq (first z) (codes "schedule") ≡ b → b ≡ false
+    go false e = refl
+    go true e =
+        let same : first z ≡ codes "schedule" = (bytes_eq-Decides (first z) (codes "schedule")).0 e in
+        absurd (false≢true (sym h ∙ ap (λ (f : List ℕ). get_or f 0 0 == 115) same))
+
+-- the lines of a report before its schedule, none of which begins with the word of a schedule
+pub before_schedule : (input : Input) (h : History) → length h.events ≤ 160000 → (rows : List Row) ×
+    (report_rows input h ≡ rows ++ schedule_rows input.names (schedule_of h)) × AllByRecursion (λ z. bytes_eq (first z) (codes "schedule") ≡ false) rows
+before_schedule input h few = (
+  (codes "report" ∷ []) ∷ front input h,
+  report_front input h,
+  (refl, all_to (λ z. is_schedule z ≡ false) (λ z. bytes_eq (first z) (codes "schedule") ≡ false) other_word (front input h) (front_before input h few)),
+)
 
 limit_is_schedule : (n : ℕ) → is_schedule (limit_row n) ≡ true
 unfolding is_schedule initial
