@@ -1,17 +1,23 @@
 -- When each status comes, from what a call finds and how it is written.
 use Rattle.std.proofs.Common.{◌≡◌, ◌≢◌, ◌∙◌, ℕ, ◌+◌, ◌<◌, ◌≤◌, List, ◌++◌, length, Option, Some, None, Result, Ok, IsSome, refl, sym, ap, subst, arith, append-nil}
 use Rattle.std.specs.Prelude.{is_some, false}
+use Rattle.std.proofs.lemmas.Bool.{false≢true}
 use Rattle.std.proofs.Math.Nat.{min-le_left}
 use Rattle.std.specs.Io.KnownBytes.{prepend_known, IsAtEnd}
 use Rattle.nt_text.specs.declared.lines.TheConstants.{INPUT_LIMIT}
 use Rattle.nt_outside.specs.Bytes.{IsLonger}
 use Rattle.nt_outside.specs.Counts.{Rose, counted, last_count}
-use Rattle.nt_text.specs.declared.kind.ScriptKind.{ScriptKind}
 use Rattle.ntrun.specs.declared.status.Status.{Status}
 use Rattle.ntrun.specs.declared.status.Status.TheVariants as exit
-use Rattle.ntrun.specs.Outcome.{Supply, Store, Gave, IsSupplied, IsFound, IsWritten, IsAnswered, HasCause, IsReportFor, refusal, refusal_of}
-use Rattle.nt_script.specs.declared.walk.Input.{Input}
-use Rattle.ntrun.specs.Words.{IsForm}
+use Rattle.nt_core.specs.Replays.{Refused}
+use Rattle.nt_words.specs.declared.form.Form.{Form}
+use Rattle.nt_words.specs.Forms.{IsForm, WordsHaveOneForm}
+use Rattle.nt_words.specs.Refusals.{IsNoForm}
+use Rattle.nt_event.specs.declared.events.History.{History}
+use Rattle.ntrun.specs.declared.task.Task.{Task}
+use Rattle.ntrun.specs.declared.task.Task.TheVariants as task
+use Rattle.ntrun.specs.Outcome.{Supply, Store, Gave, IsGiven, IsAsked, IsFound, IsFoundIn, IsReport, IsRunOf, IsWritten, IsAnswered, HasCause, refusal, refusal_of, refused_in, refused_turn}
+use Rattle.ntrun.specs.Tasks.{Bad, task_of}
 
 -- the status is the one that was found, unless the sink failed
 found_unless : (status found : Status) (text : List ℕ) (old new : Store) → IsWritten found text old new status → status ≢ exit.Write → status ≡ found
@@ -44,50 +50,48 @@ longer (Some xs) bytes e h = let same : xs ≡ bytes = cc in subst (λ (ys : Lis
 -- ---- each status, from what was found
 
 -- what was found, where the status is not that of a sink's fault
-found_as : (words : List (List ℕ)) (so sn : Supply) (ko kn : Store) (status wanted : Status) → IsAnswered words so sn ko kn status → status ≢ exit.Write →
+pub found_as : (words : List (List ℕ)) (so sn : Supply) (ko kn : Store) (status wanted : Status) → IsAnswered words so sn ko kn status → status ≢ exit.Write →
     status ≡ wanted
     → (text : List ℕ) × IsFound words so sn wanted text
 found_as words so sn ko kn status wanted a other e =
     let same : a.found ≡ wanted = sym (found_unless status a.found a.text ko kn a.written other) ∙ e in
     (a.text, subst (λ (s : Status). IsFound words so sn s a.text) same a.cause)
 
-usage_else : (words : List (List ℕ)) (so sn : Supply) (found : Status) (text : List ℕ) → (IsForm words → ⊥) → IsFound words so sn found text → found
-    ≡ exit.Usage
-usage_else words so sn exit.Ok text none f = absurd (none f.0)
-usage_else words so sn exit.Usage text none f = refl
-usage_else words so sn exit.Script text none f = absurd (none f.0)
-usage_else words so sn exit.Schedule text none f = absurd (none f.0)
-usage_else words so sn exit.Read text none f = absurd (none f.0)
-usage_else words so sn exit.Write text none f = absurd (none f.0)
-usage_else words so sn exit.Memory text none f = absurd (none f.0)
-usage_else words so sn exit.TooLong text none f = absurd (none f.0)
-usage_else words so sn exit.Illegal text none f = absurd (none f.0)
+usage_else : (words : List (List ℕ)) (so sn : Supply) (found : Status) (text : List ℕ) → IsNoForm words → IsFound words so sn found text →
+    found ≢ exit.Memory → found ≡ exit.Usage
+usage_else words so sn exit.Ok text none f other = absurd (none f.0 f.1)
+usage_else words so sn exit.Usage text none f other = refl
+usage_else words so sn exit.Script text none f other = absurd (none f.0 f.1)
+usage_else words so sn exit.Schedule text none f other = absurd (none f.0 f.1)
+usage_else words so sn exit.Read text none f other = absurd (none f.0 f.1)
+usage_else words so sn exit.Write text none f other = absurd (none f.0 f.1)
+usage_else words so sn exit.Memory text none f other = absurd (other refl)
+usage_else words so sn exit.TooLong text none f other = absurd (none f.0 f.1)
+usage_else words so sn exit.Illegal text none f other = absurd (none f.0 f.1)
 
 few_else : (words : List (List ℕ)) (so sn : Supply) (found : Status) (text : List ℕ) → IsFound words so sn found text → found ≢ exit.TooLong →
     sn.taken ≤ so.taken + INPUT_LIMIT
-few_else words so sn exit.Ok text f other = let g = f.1.1 in rw g.taken (few_taken so.taken _ g.few)
+few_else words so sn exit.Ok text f other = let g = f.2.1 in rw g.taken (few_taken so.taken _ g.few)
 few_else words so sn exit.Usage text f other = let same : sn.taken ≡ so.taken = ap (λ (s : Supply). s.taken) f.1 in omega arith
-few_else words so sn exit.Script text f other = let g = f.1.1 in rw g.taken (few_taken so.taken _ g.few)
-few_else words so sn exit.Schedule text f other = absurd f.1.2
-few_else words so sn exit.Read text f other = f.2
-few_else words so sn exit.Write text f other = absurd f.1.2
-few_else words so sn exit.Memory text f other = f.1
+few_else words so sn exit.Script text f other = let g = f.2.1 in rw g.taken (few_taken so.taken _ g.few)
+few_else words so sn exit.Schedule text f other = let g = f.2.1 in rw g.taken (few_taken so.taken _ g.few)
+few_else words so sn exit.Read text f other = f.2.1
+few_else words so sn exit.Write text f other = absurd f.2.2.2
+few_else words so sn exit.Memory text f other = f.0
 few_else words so sn exit.TooLong text f other = absurd (other refl)
-few_else words so sn exit.Illegal text f other = absurd f.1.2
+few_else words so sn exit.Illegal text f other = absurd f.2.2.2
 
--- what is found in bytes that the source tells, where the words are a form and nothing failed
-abbrev Which : List ℕ → Status → Type 0
-Which bytes exit.Ok = (length bytes ≤ INPUT_LIMIT) × (refusal bytes ≡ None)
-Which bytes exit.Script = (length bytes ≤ INPUT_LIMIT) × IsSome (refusal bytes)
-Which bytes exit.TooLong = INPUT_LIMIT < length bytes
-Which bytes exit.Memory = Unit {0}
-Which bytes _ = ⊥
+-- what is found in bytes, where the words are this form and nothing failed
+abbrev Which : Form → List ℕ → Status → Type 0
+Which form bytes exit.Ok = (length bytes ≤ INPUT_LIMIT) × ((t : Task) × (task_of form bytes ≡ Ok t) × (refused_turn t ≡ None))
+Which form bytes exit.Script = (length bytes ≤ INPUT_LIMIT) × IsSome (refusal form bytes)
+Which form bytes exit.Schedule = (length bytes ≤ INPUT_LIMIT) × ((t : Task) × (task_of form bytes ≡ Ok t) × IsSome (refused_turn t))
+Which form bytes exit.TooLong = INPUT_LIMIT < length bytes
+Which form bytes exit.Memory = Unit {0}
+Which form bytes _ = ⊥
 
-run_refuses_none : (bytes text : List ℕ) → IsReportFor bytes text → refusal bytes ≡ None
-run_refuses_none bytes text r = ap refusal_of r.read
-
-gave_told : (bytes told : List ℕ) (so sn : Supply) → Gave bytes so sn → IsSupplied told so sn → bytes ≡ told
-gave_told bytes told so sn g s = same_bytes bytes told so.left sn.left s.left g.left g.end
+gave_told : (bytes told : List ℕ) (so sn : Supply) → Gave bytes so sn → so.left ≡ Some told → bytes ≡ told
+gave_told bytes told so sn g s = same_bytes bytes told so.left sn.left s g.left g.end
 
 is_some_of : {A : Type 0} (o : Option A) (x : A) → o ≡ Some x → IsSome o
 is_some_of o x e = rw e refl
@@ -95,91 +99,150 @@ is_some_of o x e = rw e refl
 is_none_not : {A : Type 0} {o : Option A} → o ≡ None → IsSome o → ⊥
 is_none_not {A} {o} e some = let none : is_some o ≡ false = ap is_some e in cc
 
-which : (words : List (List ℕ)) (so sn : Supply) (bytes : List ℕ) (found : Status) (text : List ℕ) → IsForm words → IsSupplied bytes so sn →
-    IsFound words so sn found text → Which bytes found
-which words so sn bytes exit.Ok text form s f =
-    let same : f.1.0 ≡ bytes = gave_told f.1.0 bytes so sn f.1.1 s in
-    (subst (λ (xs : List ℕ). length xs ≤ INPUT_LIMIT) same f.1.1.few, subst (λ (xs : List ℕ). refusal xs ≡ None) same (run_refuses_none f.1.0 text f.1.2))
-which words so sn bytes exit.Usage text form s f = absurd (f.0 form)
-which words so sn bytes exit.Script text form s f =
-    let same : f.1.0 ≡ bytes = gave_told f.1.0 bytes so sn f.1.1 s in (
-      subst (λ (xs : List ℕ). length xs ≤ INPUT_LIMIT) same f.1.1.few,
-      subst (λ (xs : List ℕ). IsSome (refusal xs)) same (is_some_of (refusal f.1.0) _ f.1.2.1.1),
-    )
-which words so sn bytes exit.Schedule text form s f = absurd f.1.2
-which words so sn bytes exit.Read text form s f = absurd (s.no_fault f.1)
-which words so sn bytes exit.Write text form s f = absurd f.1.2
-which words so sn bytes exit.Memory text form s f = tt
-which words so sn bytes exit.TooLong text form s f = longer so.left bytes s.left f.1
-which words so sn bytes exit.Illegal text form s f = absurd f.1.2
+not_refused : (form : Form) (bytes : List ℕ) (t : Task) → task_of form bytes ≡ Ok t → refusal form bytes ≡ None
+not_refused form bytes t e = ap refusal_of e
 
-which_long : (bytes : List ℕ) (found : Status) → Which bytes found → INPUT_LIMIT < length bytes → found ≢ exit.Memory → found ≡ exit.TooLong
-which_long bytes exit.Ok w long other = absurd (omega arith)
-which_long bytes exit.Usage w long other = absurd w
-which_long bytes exit.Script w long other = absurd (omega arith)
-which_long bytes exit.Schedule w long other = absurd w
-which_long bytes exit.Read w long other = absurd w
-which_long bytes exit.Write w long other = absurd w
-which_long bytes exit.Memory w long other = absurd (other refl)
-which_long bytes exit.TooLong w long other = refl
-which_long bytes exit.Illegal w long other = absurd w
+same_task : (form : Form) (bytes : List ℕ) (t u : Task) → task_of form bytes ≡ Ok t → task_of form bytes ≡ Ok u → t ≡ u
+same_task form bytes t u a b = go (sym a ∙ b)
+  where
+    go : ◌≡◌ {A = Result Task Bad} (Ok t) (Ok u) → t ≡ u
+    go e = cc
 
-which_refused : (bytes : List ℕ) (found : Status) → Which bytes found → length bytes ≤ INPUT_LIMIT → IsSome (refusal bytes) → found ≢ exit.Memory → found
-    ≡ exit.Script
-which_refused bytes exit.Ok w few bad other = absurd (is_none_not w.1 bad)
-which_refused bytes exit.Usage w few bad other = absurd w
-which_refused bytes exit.Script w few bad other = refl
-which_refused bytes exit.Schedule w few bad other = absurd w
-which_refused bytes exit.Read w few bad other = absurd w
-which_refused bytes exit.Write w few bad other = absurd w
-which_refused bytes exit.Memory w few bad other = absurd (other refl)
-which_refused bytes exit.TooLong w few bad other = absurd (omega arith)
-which_refused bytes exit.Illegal w few bad other = absurd w
+-- a task with a history has no refused turn
+pub none_refused : (t : Task) (h : History) → IsRunOf t h → refused_turn t ≡ None
+none_refused (task.Run input turns) h r = refl
+none_refused (task.Replay input schedule) h r = ap refused_in r.run
 
-which_reported : (bytes : List ℕ) (found : Status) → Which bytes found → length bytes ≤ INPUT_LIMIT → refusal bytes ≡ None → found ≢ exit.Memory → found
-    ≡ exit.Ok
-which_reported bytes exit.Ok w few good other = refl
-which_reported bytes exit.Usage w few good other = absurd w
-which_reported bytes exit.Script w few good other = absurd (is_none_not good w.1)
-which_reported bytes exit.Schedule w few good other = absurd w
-which_reported bytes exit.Read w few good other = absurd w
-which_reported bytes exit.Write w few good other = absurd w
-which_reported bytes exit.Memory w few good other = absurd (other refl)
-which_reported bytes exit.TooLong w few good other = absurd (omega arith)
-which_reported bytes exit.Illegal w few good other = absurd w
+which_in : (form : Form) (bytes : List ℕ) (found : Status) (text : List ℕ) → length bytes ≤ INPUT_LIMIT → IsFoundIn form bytes found text →
+    Which form bytes found
+which_in form bytes exit.Ok text few f = (few, (f.0, f.1, none_refused f.0 f.2.history f.2.run))
+which_in form bytes exit.Usage text few f = absurd f.2
+which_in form bytes exit.Script text few f = (few, is_some_of (refusal form bytes) f.0 f.1)
+which_in form bytes exit.Schedule text few f = (few, (f.0, f.1, is_some_of (refused_turn f.0) f.2.0 f.2.1))
+which_in form bytes exit.Read text few f = absurd f.2
+which_in form bytes exit.Write text few f = absurd f.2
+which_in form bytes exit.Memory text few f = tt
+which_in form bytes exit.TooLong text few f = absurd f.2
+which_in form bytes exit.Illegal text few f = absurd f.2
+
+-- the same of the form that was given and the bytes that were told
+moved : (f g : Form) (a b : List ℕ) (found : Status) → f ≡ g → a ≡ b → Which f a found → Which g b found
+moved f g a b found e k w = subst (λ (x : Form). Which x b found) e (subst (λ (xs : List ℕ). Which f xs found) k w)
+
+which : WordsHaveOneForm → (words : List (List ℕ)) (so sn : Supply) (form : Form) (bytes : List ℕ) (found : Status) (text : List ℕ) →
+    IsGiven words form bytes so sn → IsFound words so sn found text → Which form bytes found
+which one words so sn form bytes exit.Ok text s f = moved f.0 form f.2.0 bytes exit.Ok (one words f.0 form f.1 s.form)
+    (gave_told f.2.0 bytes so sn f.2.1 s.left) (which_in f.0 f.2.0 exit.Ok text f.2.1.few f.2.2)
+which one words so sn form bytes exit.Usage text s f = absurd (f.0 form s.form)
+which one words so sn form bytes exit.Script text s f = moved f.0 form f.2.0 bytes exit.Script (one words f.0 form f.1 s.form)
+    (gave_told f.2.0 bytes so sn f.2.1 s.left) (which_in f.0 f.2.0 exit.Script text f.2.1.few f.2.2)
+which one words so sn form bytes exit.Schedule text s f = moved f.0 form f.2.0 bytes exit.Schedule (one words f.0 form f.1 s.form)
+    (gave_told f.2.0 bytes so sn f.2.1 s.left) (which_in f.0 f.2.0 exit.Schedule text f.2.1.few f.2.2)
+which one words so sn form bytes exit.Read text s f = absurd (s.no_fault f.2.0)
+which one words so sn form bytes exit.Write text s f = absurd f.2.2.2
+which one words so sn form bytes exit.Memory text s f = tt
+which one words so sn form bytes exit.TooLong text s f = longer so.left bytes s.left f.2.0
+which one words so sn form bytes exit.Illegal text s f = absurd f.2.2.2
+
+which_long : (form : Form) (bytes : List ℕ) (found : Status) → Which form bytes found → INPUT_LIMIT < length bytes → found ≢ exit.Memory →
+    found ≡ exit.TooLong
+which_long form bytes exit.Ok w long other = let few = w.0 in absurd (omega (arith, few, long))
+which_long form bytes exit.Usage w long other = absurd w
+which_long form bytes exit.Script w long other = let few = w.0 in absurd (omega (arith, few, long))
+which_long form bytes exit.Schedule w long other = let few = w.0 in absurd (omega (arith, few, long))
+which_long form bytes exit.Read w long other = absurd w
+which_long form bytes exit.Write w long other = absurd w
+which_long form bytes exit.Memory w long other = absurd (other refl)
+which_long form bytes exit.TooLong w long other = refl
+which_long form bytes exit.Illegal w long other = absurd w
+
+which_refused : (form : Form) (bytes : List ℕ) (found : Status) → Which form bytes found → length bytes ≤ INPUT_LIMIT → IsSome (refusal form bytes) →
+    found ≢ exit.Memory → found ≡ exit.Script
+which_refused form bytes exit.Ok w few bad other = absurd (is_none_not (not_refused form bytes w.1.0 w.1.1) bad)
+which_refused form bytes exit.Usage w few bad other = absurd w
+which_refused form bytes exit.Script w few bad other = refl
+which_refused form bytes exit.Schedule w few bad other = absurd (is_none_not (not_refused form bytes w.1.0 w.1.1) bad)
+which_refused form bytes exit.Read w few bad other = absurd w
+which_refused form bytes exit.Write w few bad other = absurd w
+which_refused form bytes exit.Memory w few bad other = absurd (other refl)
+which_refused form bytes exit.TooLong w few bad other = absurd (omega (arith, w, few))
+which_refused form bytes exit.Illegal w few bad other = absurd w
+
+-- where the bytes are a task, its turns tell the status
+abbrev turns_tell : Option Refused → Status → Type 0
+turns_tell None found = found ≡ exit.Ok
+turns_tell (Some r) found = found ≡ exit.Schedule
+
+which_done : (form : Form) (bytes : List ℕ) (t : Task) (found : Status) → Which form bytes found → length bytes ≤ INPUT_LIMIT → task_of form bytes
+    ≡ Ok t → found ≢ exit.Memory → turns_tell (refused_turn t) found
+which_done form bytes t exit.Ok w few e other =
+    let none : refused_turn t ≡ None = subst (λ (u : Task). refused_turn u ≡ None) (same_task form bytes w.1.0 t w.1.1 e) w.1.2 in
+    subst (λ (o : Option Refused). turns_tell o exit.Ok) (sym none) refl
+which_done form bytes t exit.Usage w few e other = absurd w
+which_done form bytes t exit.Script w few e other = absurd (is_none_not (not_refused form bytes t e) w.1)
+which_done form bytes t exit.Schedule w few e other =
+    go (refused_turn t) (subst (λ (u : Task). IsSome (refused_turn u)) (same_task form bytes w.1.0 t w.1.1 e) w.1.2)
+  where
+    go : (o : Option Refused) → IsSome o → turns_tell o exit.Schedule
+    go None some = absurd (false≢true some)
+    go (Some r) some = refl
+which_done form bytes t exit.Read w few e other = absurd w
+which_done form bytes t exit.Write w few e other = absurd w
+which_done form bytes t exit.Memory w few e other = absurd (other refl)
+which_done form bytes t exit.TooLong w few e other = absurd (omega (arith, w, few))
+which_done form bytes t exit.Illegal w few e other = absurd w
+
+told_schedule : (o : Option Refused) (found : Status) → IsSome o → turns_tell o found → found ≡ exit.Schedule
+told_schedule None found some t = absurd (false≢true some)
+told_schedule (Some r) found some t = t
+
+told_ok : (o : Option Refused) (found : Status) → o ≡ None → turns_tell o found → found ≡ exit.Ok
+told_ok None found none t = t
+told_ok (Some r) found none t = cc
+
+ok_tells : (form : Form) (bytes : List ℕ) (t : Task) → task_of form bytes ≡ Ok t → Which form bytes exit.Ok → refused_turn t ≡ None
+ok_tells form bytes t e w = subst (λ (u : Task). refused_turn u ≡ None) (same_task form bytes w.1.0 t w.1.1 e) w.1.2
+
+schedule_tells : (form : Form) (bytes : List ℕ) (t : Task) → task_of form bytes ≡ Ok t → Which form bytes exit.Schedule → IsSome (refused_turn t)
+schedule_tells form bytes t e w = subst (λ (u : Task). IsSome (refused_turn u)) (same_task form bytes w.1.0 t w.1.1 e) w.1.2
 
 -- ---- all causes
 
-pub causes : (words : List (List ℕ)) (so sn : Supply) (ko kn : Store) (status : Status) → IsAnswered words so sn ko kn status →
+pub causes : WordsHaveOneForm → (words : List (List ℕ)) (so sn : Supply) (ko kn : Store) (status : Status) → IsAnswered words so sn ko kn status →
     HasCause words so sn ko kn status
-causes words so sn ko kn status a =
+causes one words so sn ko kn status a =
     let at = λ (wanted : Status) (other : status ≢ exit.Write) (e : status ≡ wanted). found_as words so sn ko kn status wanted a other e in
     let same = λ (other : status ≢ exit.Write). found_unless status a.found a.text ko kn a.written other in
+    let which_now = λ (form : Form) (bytes : List ℕ) (s : IsGiven words form bytes so sn). which one words so sn form bytes a.found a.text s a.cause in
     record {
       usage = record {
         only = λ e. (at exit.Usage (λ w. cc) e).1.0;
-        always = λ none memory write. same write
-            ∙ usage_else words so sn a.found a.text none a.cause;
+        always = λ none memory write. same write ∙ usage_else words so sn a.found a.text none a.cause (λ e. memory (same write ∙ e));
       };
-      read = λ e. (at exit.Read (λ w. cc) e).1.1;
-      many = λ e. (at exit.TooLong (λ w. cc) e).1.2;
+      unread = λ e. (at exit.Usage (λ w. cc) e).1.1;
+      read = λ e. (at exit.Read (λ w. cc) e).1.2.0;
+      many = λ e. (at exit.TooLong (λ w. cc) e).1.2.1;
       few = λ long write. few_else words so sn a.found a.text a.cause (λ e. long (same write ∙ e));
-      too_long = λ bytes form s. record {
-        only = λ e. let found = at exit.TooLong (λ w. cc) e in which words so sn bytes exit.TooLong found.0 form s found.1;
-        always = λ long memory write. same write ∙ which_long bytes a.found (which words so sn bytes a.found a.text form s a.cause) long
-            (λ e. memory (same write ∙ e));
+      too_long = λ form bytes s. record {
+        only = λ e. let found = at exit.TooLong (λ w. cc) e in which one words so sn form bytes exit.TooLong found.0 s found.1;
+        always = λ long memory write. same write ∙ which_long form bytes a.found (which_now form bytes s) long (λ e. memory (same write ∙ e));
       };
-      script = λ bytes form s few. record {
-        only = λ e. let found = at exit.Script (λ w. cc) e in (which words so sn bytes exit.Script found.0 form s found.1).1;
-        always = λ bad memory write. same write ∙ which_refused bytes a.found (which words so sn bytes a.found a.text form s a.cause) few bad
-            (λ e. memory (same write ∙ e));
+      script = λ form bytes s few. record {
+        only = λ e. let found = at exit.Script (λ w. cc) e in (which one words so sn form bytes exit.Script found.0 s found.1).1;
+        always = λ bad memory write. same write ∙ which_refused form bytes a.found (which_now form bytes s) few bad (λ e. memory (same write ∙ e));
       };
-      ok = λ bytes form s few. record {
-        only = λ e. let found = at exit.Ok (λ w. cc) e in (which words so sn bytes exit.Ok found.0 form s found.1).1;
-        always = λ good memory write. same write ∙ which_reported bytes a.found (which words so sn bytes a.found a.text form s a.cause) few good
-            (λ e. memory (same write ∙ e));
+      schedule = λ form bytes t s. record {
+        only = λ e. let found = at exit.Schedule (λ w. cc) e in
+            schedule_tells form bytes t s.task (which one words so sn form bytes exit.Schedule found.0 s.given found.1);
+        always = λ bad memory write. same write ∙ told_schedule (refused_turn t) a.found bad
+            (which_done form bytes t a.found (which_now form bytes s.given) s.few s.task (λ e. memory (same write ∙ e)));
+      };
+      ok = λ form bytes t s. record {
+        only = λ e. let found = at exit.Ok (λ w. cc) e in
+            ok_tells form bytes t s.task (which one words so sn form bytes exit.Ok found.0 s.given found.1);
+        always = λ none memory write. same write ∙ told_ok (refused_turn t) a.found none
+            (which_done form bytes t a.found (which_now form bytes s.given) s.few s.task (λ e. memory (same write ∙ e)));
       };
       write = λ e. faulted status a.found a.text ko kn a.written e;
-      never_schedule = λ e. (at exit.Schedule (λ w. cc) e).1.1.2;
-      never_illegal = λ e. (at exit.Illegal (λ w. cc) e).1.1.2;
+      never_illegal = λ e. (at exit.Illegal (λ w. cc) e).1.2.2.2;
     }

@@ -1,36 +1,67 @@
 -- What is found in the bytes of an input, from what each part of the call answers.
 use Rattle.std.proofs.Common.{◌≡◌, ◌∙◌, ℕ, List, Option, Some, None, Result, Ok, Err, ap}
+use Rattle.nt_core.specs.Replays.{Refused}
+use Rattle.nt_event.specs.declared.events.History.{History}
 use Rattle.nt_text.specs.declared.kind.ScriptKind.{ScriptKind}
-use Rattle.nt_script.specs.declared.walk.Input.{Input}
-use Rattle.nt_script.specs.Reading.{reading}
+use Rattle.nt_words.specs.declared.form.Form.{Form}
 use Rattle.ntrun.specs.declared.status.Status.{Status}
 use Rattle.ntrun.specs.declared.status.Status.TheVariants as exit
-use Rattle.ntrun.specs.Outcome.{refusal, refusal_of, IsRefused, IsReported, IsFoundIn}
+use Rattle.ntrun.specs.declared.task.Task.{Task}
+use Rattle.ntrun.specs.Answer.{IsReported, IsTurnRefused}
+use Rattle.ntrun.specs.Outcome.{refusal, refusal_of, refused_turn, IsDone, IsFoundIn, IsRefused, IsRunOf}
+use Rattle.ntrun.specs.Tasks.{input_of, task_of}
 
-pub refused_in : (bytes : List ℕ) (line : ℕ) (kind : ScriptKind) (status : Status) (text : List ℕ) → refusal bytes ≡ Some (line, kind) →
-    IsRefused line kind status text → IsFoundIn bytes status text
-refused_in bytes line kind exit.Ok text r h = absurd h
-refused_in bytes line kind exit.Usage text r h = absurd h
-refused_in bytes line kind exit.Script text r h = (line, (kind, r, h))
-refused_in bytes line kind exit.Schedule text r h = absurd h
-refused_in bytes line kind exit.Read text r h = absurd h
-refused_in bytes line kind exit.Write text r h = absurd h
-refused_in bytes line kind exit.Memory text r h = h
-refused_in bytes line kind exit.TooLong text r h = absurd h
-refused_in bytes line kind exit.Illegal text r h = absurd h
+-- a line is refused
+pub refused_in : (form : Form) (bytes : List ℕ) (line : ℕ) (kind : ScriptKind) (status : Status) (text : List ℕ) → refusal form bytes
+    ≡ Some (line, kind) → IsRefused line kind status text → IsFoundIn form bytes status text
+refused_in form bytes line kind exit.Ok text r h = absurd h
+refused_in form bytes line kind exit.Usage text r h = absurd h
+refused_in form bytes line kind exit.Script text r h = ((line, kind), r, h)
+refused_in form bytes line kind exit.Schedule text r h = absurd h
+refused_in form bytes line kind exit.Read text r h = absurd h
+refused_in form bytes line kind exit.Write text r h = absurd h
+refused_in form bytes line kind exit.Memory text r h = h
+refused_in form bytes line kind exit.TooLong text r h = absurd h
+refused_in form bytes line kind exit.Illegal text r h = absurd h
 
-pub reported_in : (bytes : List ℕ) (input : Input) (status : Status) (text : List ℕ) → reading bytes ≡ Ok input → IsReported input status text →
-    IsFoundIn bytes status text
-reported_in bytes input exit.Ok text read h = record { input = input; read = read; report = h }
-reported_in bytes input exit.Usage text read h = absurd h
-reported_in bytes input exit.Script text read h = absurd h
-reported_in bytes input exit.Schedule text read h = absurd h
-reported_in bytes input exit.Read text read h = absurd h
-reported_in bytes input exit.Write text read h = absurd h
-reported_in bytes input exit.Memory text read h = h
-reported_in bytes input exit.TooLong text read h = absurd h
-reported_in bytes input exit.Illegal text read h = absurd h
+-- the line that is refused
+pub bad_refused : (form : Form) (bytes : List ℕ) (line : ℕ) (kind : ScriptKind) → task_of form bytes ≡ Err (line, kind) → refusal form bytes
+    ≡ Some (line, kind)
+bad_refused form bytes line kind read = ap refusal_of read
 
--- the line that the reader refuses
-pub bad_refused : (bytes : List ℕ) (line : ℕ) (kind : ScriptKind) → reading bytes ≡ Err (line, kind) → refusal bytes ≡ Some (line, kind)
-bad_refused bytes line kind read = ap refusal_of read
+-- a task is read, and done
+pub done_in : (form : Form) (bytes : List ℕ) (t : Task) (status : Status) (text : List ℕ) → task_of form bytes ≡ Ok t → IsDone t status text →
+    IsFoundIn form bytes status text
+done_in form bytes t exit.Ok text read h = (t, read, h)
+done_in form bytes t exit.Usage text read h = absurd h
+done_in form bytes t exit.Script text read h = absurd h
+done_in form bytes t exit.Schedule text read h = (t, read, h)
+done_in form bytes t exit.Read text read h = absurd h
+done_in form bytes t exit.Write text read h = absurd h
+done_in form bytes t exit.Memory text read h = h
+done_in form bytes t exit.TooLong text read h = absurd h
+done_in form bytes t exit.Illegal text read h = absurd h
+
+-- the history of a task is reported
+pub reported_done : (t : Task) (h : History) (status : Status) (text : List ℕ) → IsRunOf t h → IsReported (input_of t) h status text → IsDone t status text
+reported_done t h exit.Ok text r k = record { history = h; run = r; is = k }
+reported_done t h exit.Usage text r k = absurd k
+reported_done t h exit.Script text r k = absurd k
+reported_done t h exit.Schedule text r k = absurd k
+reported_done t h exit.Read text r k = absurd k
+reported_done t h exit.Write text r k = absurd k
+reported_done t h exit.Memory text r k = k
+reported_done t h exit.TooLong text r k = absurd k
+reported_done t h exit.Illegal text r k = absurd k
+
+-- a turn of a task is refused
+pub turn_done : (t : Task) (r : Refused) (status : Status) (text : List ℕ) → refused_turn t ≡ Some r → IsTurnRefused r status text → IsDone t status text
+turn_done t r exit.Ok text e k = absurd k
+turn_done t r exit.Usage text e k = absurd k
+turn_done t r exit.Script text e k = absurd k
+turn_done t r exit.Schedule text e k = (r, e, k)
+turn_done t r exit.Read text e k = absurd k
+turn_done t r exit.Write text e k = absurd k
+turn_done t r exit.Memory text e k = k
+turn_done t r exit.TooLong text e k = absurd k
+turn_done t r exit.Illegal text e k = absurd k

@@ -1,59 +1,89 @@
--- The headline for `run`, from what the call answered and the laws of runs.
-use Rattle.std.proofs.Common.{subst, sym}
+-- The headline, from what the call answered and the laws of runs.
+use Rattle.std.proofs.Common.{subst, sym, ◌≡◌, ℕ, List, [], ◌∷◌, Ok}
 use Rattle.std.specs.Io.KnownBytes.{append_known}
-use Rattle.std.specs.List.{Contains}
-use Rattle.std.specs.Prelude.{Bool, List, Some, [], false, nat_lt, refl, reverse, true, ℕ, ◌∷◌, ◌≡◌}
-use Rattle.nt_event.specs.declared.limits.TheConstants.{USUAL_TURNS}
+use Rattle.std.specs.Prelude.{reverse, true}
+use Rattle.nt_close.proofs.Closed.{no_dpc_is_left, nothing_is_eligible}
+use Rattle.nt_close.proofs.Owed.{no_due_key_is_left}
+use Rattle.nt_close.proofs.Quiet.{nothing_waits_behind_a_block}
+use Rattle.nt_close.proofs.ReadyThreads.{no_thread_is_left}
+use Rattle.nt_close.specs.Close.{IsClosed}
 use Rattle.nt_event.specs.declared.events.Event.{Event}
 use Rattle.nt_event.specs.declared.events.History.{History}
 use Rattle.nt_event.specs.declared.numbers.CpuNo.{CpuNo}
 use Rattle.nt_event.specs.declared.scripts.Script.{Script}
-use Rattle.nt_event.specs.Eligible.{Request, eligible}
-use Rattle.nt_event.specs.Fate.{Fate, Inserted, fate_of, inserts, still_waits, waiting_inserts}
-use Rattle.nt_event.specs.Fate.Fate.{StillWaits}
-use Rattle.nt_event.specs.Own.{own_of}
-use Rattle.nt_event.specs.Step.{IsRun, is_cut}
+use Rattle.nt_event.specs.Script.{fits}
+use Rattle.nt_event.specs.Robin.{is_settled}
+use Rattle.nt_event.specs.Step.{IsRun}
 use Rattle.nt_laws.proofs.Deliveries.{deliveries_are_eligible}
-use Rattle.nt_event.proofs.Elements.{contains_kept, kept_contains}
-use Rattle.nt_close.proofs.Closed.{nothing_is_eligible}
+use Rattle.nt_laws.proofs.Named.Objects.{holds_of_every_object}
+use Rattle.nt_print.specs.Report.{report_text}
+use Rattle.nt_ranges.proofs.Cuts.{cut_lines_name_the_cut}
+use Rattle.nt_ranges.proofs.Programs.{one_report_one_history}
+use Rattle.nt_readings.proofs.OneFate.{each_insert_has_one_fate, waiting_are_the_pending}
+use Rattle.nt_words.proofs.Answered.{form_within}
+use Rattle.nt_words.specs.Forms.{IsForm}
 use Rattle.ntrun.specs.declared.status.Status.{Status}
 use Rattle.ntrun.specs.declared.status.Status.TheVariants as exit
-use Rattle.ntrun.specs.Headline.{AllEligible, FateIsNamed, Headline, IsActual, IsWhole, NothingIsLeft}
-use Rattle.ntrun.specs.Outcome.{IsAnswered, IsFound, IsRobinRun, Store, Supply}
+use Rattle.ntrun.specs.declared.task.Task.{Task}
+use Rattle.ntrun.specs.Headline.{AllDue, Headline, IsActual, IsUncut, NothingIsLeft}
+use Rattle.ntrun.specs.Outcome.{IsFound, IsRunOf}
+use Rattle.ntrun.specs.Tasks.{input_of, limit_of}
+use Rattle.ntrun.proofs.Done.{run_of}
+use Rattle.ntrun.proofs.Plain.{IsPlainTask, run_of_input, sound_task, task_plain}
 
-all_eligible : (s : Script) (limit : ℕ) (past : List Event) → IsRun s limit past → AllEligible s past
-all_eligible s limit [] r = tt
-all_eligible s limit (e ∷ past) r =
-    (λ x k. deliveries_are_eligible s limit e past x r k, all_eligible s limit past r.1)
-
-waits_so : (f : Fate) → still_waits f ≡ true → f ≡ StillWaits
-waits_so StillWaits h = refl
-waits_so f h = cc
-
-fate_named : (past : List Event) (x : Inserted) → Contains (inserts past) x → FateIsNamed past x
-fate_named past x c = (
-  (λ w. waits_so (fate_of x.thing x.number past) (kept_contains (λ y. still_waits (fate_of y.thing y.number past)) (inserts past) x w).1),
-  (λ f. contains_kept (λ y. still_waits (fate_of y.thing y.number past)) (inserts past) x c (rw f refl)),
+all_due : (s : Script) (limit : ℕ) (past : List Event) → fits s ≡ true → IsRun s limit past → AllDue s past
+all_due s limit [] f r = tt
+all_due s limit (e ∷ past) f r = (
+  record { eligible = λ x k. deliveries_are_eligible s limit e past x r k; inserts = holds_of_every_object s limit e past f r },
+  all_due s limit past f r.1,
 )
 
-actual : (s : Script) (h : History) → IsRobinRun s h → IsActual s h
-actual s h r = record {
-  run = r;
-  eligible = all_eligible s USUAL_TURNS (reverse h.events) r.run;
-  fates = λ x c. fate_named (reverse h.events) x c;
-  left = λ p x named uncut. nothing_is_eligible s USUAL_TURNS p (reverse h.events) x (record { run = r.run; settled = r.settled; named = named; uncut = uncut });
+closed : (s : Script) (limit : ℕ) (past : List Event) (p : CpuNo) → IsRun s limit past → is_settled s limit past ≡ true → IsUncut s limit past p →
+    IsClosed s limit p past
+closed s limit past p r d u = record { run = r; settled = d; named = u.named; uncut = u.uncut }
+
+nothing_left : (s : Script) (limit : ℕ) (past : List Event) → IsRun s limit past → is_settled s limit past ≡ true → NothingIsLeft s limit past
+nothing_left s limit past r d = record {
+  requests = λ p x u. nothing_is_eligible s limit p past x (closed s limit past p r d u);
+  dpcs = λ p u. no_dpc_is_left s limit p past (closed s limit past p r d u);
+  threads = λ p t u h k. no_thread_is_left s limit p t past (closed s limit past p r d u) h k;
+  blocks = λ t w h k. nothing_waits_behind_a_block s limit t w past r h k;
+  keys = λ u. no_due_key_is_left s limit past r d u;
 }
+
+actual : (t : Task) (h : History) → IsPlainTask t → IsRunOf t h → IsActual t h
+actual t h p i =
+    let r = run_of t h i in
+    let s = (input_of t).script in
+    let fit = (sound_task t p).fits in
+    let own = run_of_input t h p i in
+    record {
+      is = i;
+      turns = r.turns;
+      run = r.run;
+      settled = r.settled;
+      due = all_due s (limit_of t) (reverse h.events) fit r.run;
+      fates = λ x n k. each_insert_has_one_fate s (limit_of t) x n (reverse h.events) r.run fit k;
+      waiting = λ x. waiting_are_the_pending s (limit_of t) x (reverse h.events) r.run fit;
+      left = nothing_left s (limit_of t) (reverse h.events) r.run r.settled;
+      cut = λ n. cut_lines_name_the_cut s h n own.run;
+      one = λ g k e. one_report_one_history (input_of t) h g own k e;
+    }
 
 pub headline : Headline
 headline words so sn ko kn a =
     let found : IsFound words so sn exit.Ok a.text = subst (λ (s : Status). IsFound words so sn s a.text) (sym a.written.0) a.cause in
-    let report = found.1.2.report in
-    record {
-      bytes = found.1.0;
-      gave = found.1.1;
-      input = found.1.2.input;
-      read = found.1.2.read;
-      history = report.history;
-      actual = actual found.1.2.input.script report.history report.run;
-      written = subst (λ (text : List ℕ). kn.held ≡ append_known ko.held text) report.is a.written.1;
-    }
+    let answer = found.2.2 in
+    let plain = task_plain found.0 found.2.0 answer.0 (form_within words (Ok found.0) found.1) answer.1 in (
+      found.0,
+      found.1,
+      record {
+        bytes = found.2.0;
+        gave = found.2.1;
+        task = answer.0;
+        read = answer.1;
+        history = answer.2.history;
+        actual = actual answer.0 answer.2.history plain answer.2.run;
+        written = subst (λ (text : List ℕ). kn.held ≡ append_known ko.held text) answer.2.is a.written.1;
+      },
+    )

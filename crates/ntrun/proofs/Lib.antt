@@ -1,5 +1,7 @@
-mod OneWord
-mod Found
-mod Written
 mod Causes
+mod Done
+mod Found
 mod Headlines
+mod Plain
+mod Splits
+mod Written

@@ -1,58 +1,126 @@
--- The headline for `run`: what the report that is written promises.
+-- The headline: what the report that is written promises, and that replaying its schedule writes it again.
 use Rattle.std.specs.Io.KnownBytes.{append_known}
 use Rattle.std.specs.List.{Contains}
-use Rattle.std.specs.Prelude.{List, Ok, Some, [], false, nat_lt, reverse, true, ℕ, ◌∷◌, ◌≡◌, ◌↔◌}
-use Rattle.nt_event.specs.declared.limits.TheConstants.{USUAL_TURNS}
+use Rattle.std.specs.Prelude.{List, None, Ok, Option, Some, [], codes, drop, false, if◌then◌else◌, length, nat_lt, reverse, true, ℕ, ◌++◌, ◌∷◌, ◌≡◌, ◌≢◌, ◌≤◌, ◌↔◌}
+use Rattle.nt_close.specs.Close.{is_stopped}
 use Rattle.nt_event.specs.declared.events.Event.{Event}
 use Rattle.nt_event.specs.declared.events.History.{History}
 use Rattle.nt_event.specs.declared.numbers.CpuNo.{CpuNo}
+use Rattle.nt_event.specs.declared.numbers.ThreadNo.{ThreadNo}
 use Rattle.nt_event.specs.declared.scripts.Script.{Script}
+use Rattle.nt_event.specs.declared.threads.Doing.TheVariants.{Blocked as IsBlocked}
+use Rattle.nt_event.specs.declared.threads.Waiting.{Waiting}
 use Rattle.nt_event.specs.Eligible.{Request, eligible, request_of}
-use Rattle.nt_event.specs.Fate.{Inserted, fate_of, inserts, waiting_inserts}
-use Rattle.nt_event.specs.Fate.Fate.{StillWaits}
+use Rattle.nt_event.specs.Fate.{Inserted, Thing, waiting_inserts}
+use Rattle.nt_event.specs.Numbers.{cpu}
 use Rattle.nt_event.specs.Own.{own_of}
-use Rattle.nt_event.specs.Step.{is_cut}
-use Rattle.nt_print.specs.Report.{report_text}
-use Rattle.nt_script.specs.declared.walk.Input.{Input}
-use Rattle.nt_script.specs.Reading.{reading}
+use Rattle.nt_event.specs.Queues.{pending}
+use Rattle.nt_event.specs.Robin.{is_settled}
+use Rattle.nt_event.specs.Routines.{cpu_of}
+use Rattle.nt_event.specs.Script.{has_thread}
+use Rattle.nt_event.specs.Step.{IsRun, is_cut}
+use Rattle.nt_event.specs.Timers.{first_due, timers_at}
+use Rattle.nt_event.specs.Waits.{facts}
+use Rattle.nt_laws.specs.Objects.{HoldsOfEveryObject}
+use Rattle.nt_print.specs.Report.{cut_of, cut_row, report_text}
+use Rattle.nt_ranges.specs.Plain.{IsRunOf as IsRunOfInput}
+use Rattle.nt_readings.specs.Fates.{HasOneFate, IsInsert, IsPending}
+use Rattle.nt_script.specs.Text.{text}
+use Rattle.nt_text.specs.declared.lines.TheConstants.{INPUT_LIMIT}
+use Rattle.nt_thread.specs.Quiet.{IsQuiet}
+use Rattle.nt_words.specs.declared.form.Form.{Form}
+use Rattle.nt_words.specs.declared.form.Form.TheVariants as form
+use Rattle.nt_words.specs.Forms.{IsForm}
+use Rattle.ntrun.specs.declared.status.Status.{Status}
 use Rattle.ntrun.specs.declared.status.Status.TheVariants as exit
-use Rattle.ntrun.specs.Outcome.{Gave, IsAnswered, IsRobinRun, Store, Supply}
+use Rattle.ntrun.specs.declared.task.Task.{Task}
+use Rattle.ntrun.specs.Outcome.{Gave, IsAnswered, IsGiven, IsRunOf, Store, Supply}
+use Rattle.ntrun.specs.Tasks.{behind, input_of, limit_of, schedule_word, task_of}
 
--- each event that delivers a request delivers one that was eligible just before it
-abbrev pub AllEligible : Script → List Event → Type 0
-AllEligible s [] = Unit {0}
-AllEligible s (e ∷ past) = ((r : Request) → request_of s e.what ≡ Some r → eligible s e.cpu r past ≡ true) ×
-    AllEligible s past
+-- ---- the actual history
 
--- the insert is one of those that the report names as waiting exactly where no later event begins, removes or flushes
--- it
-abbrev pub FateIsNamed : List Event → Inserted → Type 0
-FateIsNamed past x = Contains (waiting_inserts past) x ↔ (fate_of x.thing x.number past ≡ StillWaits)
+-- what an event delivers was eligible just before it, an insert of its object that was pending then and that no earlier
+-- event delivered; and a removal that isn't refused answers yes exactly where there was an insert
+pub record IsDue (s : Script) (e : Event) (past : List Event) : Type 0 where
+  pub eligible : (r : Request) → request_of s e.what ≡ Some r → eligible s e.cpu r past ≡ true
+  pub inserts : HoldsOfEveryObject s e past
 
--- no request may be delivered any more, but on a processor that made as many events as it may
-abbrev pub NothingIsLeft : Script → List Event → Type 0
-NothingIsLeft s past = (p : CpuNo) (r : Request) → nat_lt p.0 s.cpus ≡ true → is_cut USUAL_TURNS (own_of s p past)
-    ≡ false → eligible s p r past ≡ false
+abbrev pub AllDue : Script → List Event → Type 0
+AllDue s [] = Unit {0}
+AllDue s (e ∷ past) = IsDue s e past × AllDue s past
 
--- the history of a script that was read: it is the robin run; every delivery was eligible; each accepted insert was
--- begun, removed or flushed, or is named as waiting; and nothing eligible is left but on a cut processor
-pub record IsActual (s : Script) (h : History) : Type 0 where
-  pub run : IsRobinRun s h
-  pub eligible : AllEligible s (reverse h.events)
-  pub fates : (x : Inserted) → Contains (inserts (reverse h.events)) x → FateIsNamed (reverse h.events) x
-  pub left : NothingIsLeft s (reverse h.events)
+-- a processor of the script that made fewer events than the turn limit
+pub record IsUncut (s : Script) (limit : ℕ) (past : List Event) (p : CpuNo) : Type 0 where
+  pub named : nat_lt p.0 s.cpus ≡ true
+  pub uncut : is_cut limit (own_of s p past) ≡ false
 
--- the bytes that the source gave are a script, and exactly the report of such a history was added to the sink
-pub record IsWhole (so sn : Supply) (ko kn : Store) : Type 0 where
+-- nothing that may run is left: on a processor that isn't cut no request is eligible, no DPC is pending and each thread
+-- is blocked or gone; nothing waits behind a block; and a due key is left only where a processor is cut
+pub record NothingIsLeft (s : Script) (limit : ℕ) (past : List Event) : Type 0 where
+  pub requests : (p : CpuNo) (r : Request) → IsUncut s limit past p → eligible s p r past ≡ false
+  pub dpcs : (p : CpuNo) → IsUncut s limit past p → pending s p past ≡ []
+  pub threads : (p : CpuNo) (t : ThreadNo) → IsUncut s limit past p → has_thread s t ≡ true → (cpu_of s t).0 ≡ p.0 →
+      is_stopped (facts s t past).doing ≡ true
+  pub blocks : (t : ThreadNo) (w : Waiting) → has_thread s t ≡ true → (facts s t past).doing ≡ IsBlocked w →
+      IsQuiet w (facts s t past).apcs
+  pub keys : ((p : CpuNo) → nat_lt p.0 s.cpus ≡ true → is_cut limit (own_of s p past) ≡ false) →
+      first_due (timers_at s past) ≡ None
+
+-- the history of a task: the robin run, or the run of the schedule's turns. It is a settled run of the written machine;
+-- each insert has exactly one fate, and the waiting ones are those that the report lists; a processor has a line `cut`
+-- exactly where it is cut; and no other run of the script has this report.
+pub record IsActual (t : Task) (h : History) : Type 0 where
+  pub is : IsRunOf t h
+  pub turns : h.turns ≡ limit_of t
+  pub run : IsRun (input_of t).script (limit_of t) (reverse h.events)
+  pub settled : is_settled (input_of t).script (limit_of t) (reverse h.events) ≡ true
+  pub due : AllDue (input_of t).script (reverse h.events)
+  pub fates : (x : Thing) (n : ℕ) → IsInsert x n (reverse h.events) →
+      HasOneFate (input_of t).script x n (reverse h.events)
+  pub waiting : (x : Inserted) → Contains (waiting_inserts (reverse h.events)) x ↔
+      IsPending (input_of t).script x.thing x.number (reverse h.events)
+  pub left : NothingIsLeft (input_of t).script (limit_of t) (reverse h.events)
+  pub cut : (p : ℕ) → cut_of h p ≡
+      (if is_cut h.turns (own_of (input_of t).script (cpu p) (reverse h.events)) then cut_row p ∷ [] else [])
+  pub one : (g : History) → IsRunOfInput (input_of t) g → report_text (input_of t) h ≡ report_text (input_of t) g → h ≡ g
+
+-- ---- what is written
+
+-- the bytes that the source gave are such a task, and exactly the report of its history was added to the sink
+pub record IsWhole (f : Form) (so sn : Supply) (ko kn : Store) : Type 0 where
   pub bytes : List ℕ
   pub gave : Gave bytes so sn
-  pub input : Input
-  pub read : reading bytes ≡ Ok input
+  pub task : Task
+  pub read : task_of f bytes ≡ Ok task
   pub history : History
-  pub actual : IsActual input.script history
-  pub written : kn.held ≡ append_known ko.held (report_text input history)
+  pub actual : IsActual task history
+  pub written : kn.held ≡ append_known ko.held (report_text (input_of task) history)
 
 -- what was written with status 0 is such a report
 abbrev pub Headline : Type 0
 Headline = (words : List (List ℕ)) (so sn : Supply) (ko kn : Store) → IsAnswered words so sn ko kn exit.Ok →
-    IsWhole so sn ko kn
+    (f : Form) × IsForm words f × IsWhole f so sn ko kn
+
+-- ---- replaying
+
+abbrev pub part_from : Option (ℕ × ℕ) → List ℕ → List ℕ
+part_from (Some (at, line)) bytes = drop at bytes
+part_from None bytes = []
+
+-- the schedule part of a report: from its first line on that begins with the word of a schedule
+abbrev pub schedule_part : List ℕ → List ℕ
+schedule_part report = part_from (behind schedule_word report) report
+
+-- the script's text, and behind it the schedule part of a report
+abbrev pub replayed_bytes : Task → History → List ℕ
+replayed_bytes t h = text (input_of t) ++ schedule_part (report_text (input_of t) h)
+
+-- a report was written; the script's text with the report's schedule part behind it, given to `replay`, has status 0
+-- and writes the same report, where it has not too many bytes, memory is found and neither source nor sink fails
+abbrev pub ReplayWritesTheSame : Type 0
+ReplayWritesTheSame = (words again : List (List ℕ)) (f : Form) (so sn ao an : Supply) (ko kn bo bn : Store)
+    (status : Status) (w : IsWhole f so sn ko kn) → IsForm words f →
+    IsGiven again form.Replay (replayed_bytes w.task w.history) ao an →
+    length (replayed_bytes w.task w.history) ≤ INPUT_LIMIT → IsAnswered again ao an bo bn status →
+    status ≢ exit.Memory → status ≢ exit.Write →
+    (status ≡ exit.Ok) × (bn.held ≡ append_known bo.held (report_text (input_of w.task) w.history))

@@ -1,5 +1,6 @@
 pub mod Status
 pub mod Words
+pub mod Tasks
 pub mod Outcome
-pub mod Headline
 pub mod Answer
+pub mod Headline

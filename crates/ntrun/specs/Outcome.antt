@@ -1,23 +1,30 @@
 -- What a call of the program finds out, what it writes, and when each status comes.
 use Rattle.std.specs.Prelude.{◌≡◌, ◌≢◌, ℕ, ◌+◌, ◌<◌, ◌≤◌, true, IsSome, List, [], ◌∷◌, ◌++◌, length, Option, Some, None, Result, Ok, Err, codes, decimal, reverse}
 use Rattle.std.specs.Io.KnownBytes.{append_known, prepend_known, IsAtEnd}
-use Rattle.nt_event.specs.declared.limits.TheConstants.{USUAL_TURNS}
-use Rattle.nt_text.specs.declared.lines.TheConstants.{INPUT_LIMIT}
-use Rattle.nt_outside.specs.Bytes.{IsLonger, AddsFrontOf}
-use Rattle.nt_outside.specs.Counts.{counted, Rose, RoseBy}
-use Rattle.nt_text.specs.declared.kind.ScriptKind.{ScriptKind}
-use Rattle.nt_text.specs.declared.kind.ScriptKind.TheVariants.{TooMany}
-use Rattle.nt_text.specs.Kinds.{kind_number, kind_name, thing_name}
+use Rattle.nt_event.specs.declared.events.Event.{Event}
 use Rattle.nt_event.specs.declared.events.History.{History}
 use Rattle.nt_event.specs.declared.scripts.Script.{Script}
+use Rattle.nt_event.specs.Numbered.{schedule_name, schedule_number}
 use Rattle.nt_event.specs.Robin.{IsRobin, is_settled}
 use Rattle.nt_event.specs.Step.{IsRun}
-use Rattle.nt_script.specs.declared.walk.Input.{Input}
-use Rattle.nt_script.specs.Reading.{reading}
+use Rattle.nt_core.specs.Replays.{Refused, replayed}
+use Rattle.nt_log.specs.declared.schedules.Schedule.{Schedule}
+use Rattle.nt_outside.specs.Bytes.{IsLonger, AddsFrontOf}
+use Rattle.nt_outside.specs.Counts.{counted, Rose, RoseBy}
+use Rattle.nt_print.specs.Report.{report_text}
+use Rattle.nt_text.specs.declared.kind.ScriptKind.{ScriptKind}
+use Rattle.nt_text.specs.declared.kind.ScriptKind.TheVariants.{TooMany}
+use Rattle.nt_text.specs.declared.lines.TheConstants.{INPUT_LIMIT}
+use Rattle.nt_text.specs.Kinds.{kind_number, kind_name, thing_name}
+use Rattle.nt_words.specs.declared.form.Form.{Form}
+use Rattle.nt_words.specs.declared.form.TheConstants.{USAGE}
+use Rattle.nt_words.specs.Forms.{IsForm}
+use Rattle.nt_words.specs.Refusals.{IsNoForm}
 use Rattle.ntrun.specs.declared.status.Status.{Status}
 use Rattle.ntrun.specs.declared.status.Status.TheVariants as exit
-use Rattle.nt_print.specs.Report.{report_text}
-use Rattle.ntrun.specs.Words.{IsForm}
+use Rattle.ntrun.specs.declared.task.Task.{Task}
+use Rattle.ntrun.specs.declared.task.Task.TheVariants as task
+use Rattle.ntrun.specs.Tasks.{Bad, input_of, task_of}
 
 -- ---- the outside, as a call finds or leaves it
 
@@ -48,7 +55,7 @@ pub record Gave (bytes : List ℕ) (old new : Supply) : Type 0 where
 -- ---- the lines
 
 abbrev pub usage_line : List ℕ
-usage_line = codes "usage: ntrun run\n"
+usage_line = USAGE.now
 
 abbrev pub read_line : List ℕ
 read_line = codes "read fault\n"
@@ -68,34 +75,64 @@ abbrev pub script_line : ℕ → ScriptKind → List ℕ
 script_line line kind = codes "script line "
     ++ (decimal line ++ (codes ": " ++ (decimal (kind_number kind) ++ 32 ∷ (kind_text kind ++ 10 ∷ []))))
 
--- ---- what is found
+-- the line of a refused turn: its place, from 0, and the kind of the refusal
+abbrev pub turn_line : Refused → List ℕ
+turn_line r = codes "schedule turn "
+    ++ (decimal r.at ++ (codes ": " ++ (decimal (schedule_number r.kind) ++ 32 ∷ (schedule_name r.kind ++ 10 ∷ []))))
 
--- the line that the reader refuses, and why
-abbrev pub refusal_of : Result Input (ℕ × ScriptKind) → Option (ℕ × ScriptKind)
+-- ---- what is found in the bytes
+
+abbrev pub refusal_of : {A : Type 0} → Result A Bad → Option Bad
 refusal_of (Err bad) = Some bad
-refusal_of (Ok input) = None
+refusal_of (Ok x) = None
 
-abbrev pub refusal : List ℕ → Option (ℕ × ScriptKind)
-refusal bytes = refusal_of (reading bytes)
+-- the line that is refused, and why
+abbrev pub refusal : Form → List ℕ → Option Bad
+refusal form bytes = refusal_of (task_of form bytes)
 
--- the history is the run of the script by the robin rule, to its end
-pub record IsRobinRun (s : Script) (h : History) : Type 0 where
-  pub turns : h.turns ≡ USUAL_TURNS
-  pub run : IsRun s USUAL_TURNS (reverse h.events)
-  pub robin : IsRobin s USUAL_TURNS (reverse h.events)
-  pub settled : is_settled s USUAL_TURNS (reverse h.events) ≡ true
+-- the history is the run of the script by the robin rule with this limit, to its end
+pub record IsRobinRun (s : Script) (limit : ℕ) (h : History) : Type 0 where
+  pub turns : h.turns ≡ limit
+  pub run : IsRun s limit (reverse h.events)
+  pub robin : IsRobin s limit (reverse h.events)
+  pub settled : is_settled s limit (reverse h.events) ≡ true
 
--- the text is the report of the robin run of the input's script
-pub record IsReport (input : Input) (text : List ℕ) : Type 0 where
+-- the history is what the turns of the schedule make
+pub record IsReplayed (s : Script) (schedule : Schedule) (h : History) : Type 0 where
+  pub turns : h.turns ≡ schedule.turns
+  pub run : replayed s schedule.turns schedule.list ≡ Ok (reverse h.events)
+
+-- the history that the task asks for
+abbrev pub IsRunOf : Task → History → Type 0
+IsRunOf (task.Run input turns) h = IsRobinRun input.script turns h
+IsRunOf (task.Replay input schedule) h = IsReplayed input.script schedule h
+
+abbrev pub refused_in : Result (List Event) Refused → Option Refused
+refused_in (Ok past) = None
+refused_in (Err r) = Some r
+
+-- the turn at which the task's turns make no settled run, and why; a robin run has none
+abbrev pub refused_turn : Task → Option Refused
+refused_turn (task.Run input turns) = None
+refused_turn (task.Replay input schedule) = refused_in (replayed input.script schedule.turns schedule.list)
+
+-- the text is the report of the task's history
+pub record IsReport (t : Task) (text : List ℕ) : Type 0 where
   pub history : History
-  pub run : IsRobinRun input.script history
-  pub is : text ≡ report_text input history
+  pub run : IsRunOf t history
+  pub is : text ≡ report_text (input_of t) history
 
--- the bytes are a script, and the text is the report of its robin run
-pub record IsReportFor (bytes text : List ℕ) : Type 0 where
-  pub input : Input
-  pub read : reading bytes ≡ Ok input
-  pub report : IsReport input text
+-- what is answered to a task, and its text
+abbrev pub IsDone : Task → Status → List ℕ → Type 0
+IsDone t exit.Ok text = IsReport t text
+IsDone t exit.Schedule text = (r : Refused) × (refused_turn t ≡ Some r) × (text ≡ turn_line r)
+IsDone t exit.Memory text = text ≡ memory_line
+IsDone t exit.Usage text = ⊥
+IsDone t exit.Script text = ⊥
+IsDone t exit.Read text = ⊥
+IsDone t exit.Write text = ⊥
+IsDone t exit.TooLong text = ⊥
+IsDone t exit.Illegal text = ⊥
 
 -- the bytes are refused at this line, or the text is that of want of memory
 abbrev pub IsRefused : ℕ → ScriptKind → Status → List ℕ → Type 0
@@ -103,29 +140,29 @@ IsRefused line kind exit.Script text = text ≡ script_line line kind
 IsRefused line kind exit.Memory text = text ≡ memory_line
 IsRefused line kind _ text = ⊥
 
-abbrev pub IsReported : Input → Status → List ℕ → Type 0
-IsReported input exit.Ok text = IsReport input text
-IsReported input exit.Memory text = text ≡ memory_line
-IsReported input _ text = ⊥
+-- what a form finds in the bytes of an input, and its text
+abbrev pub IsFoundIn : Form → List ℕ → Status → List ℕ → Type 0
+IsFoundIn form bytes exit.Script text =
+    (bad : Bad) × (refusal form bytes ≡ Some bad) × (text ≡ script_line bad.0 bad.1)
+IsFoundIn form bytes exit.Memory text = text ≡ memory_line
+IsFoundIn form bytes status text = (t : Task) × (task_of form bytes ≡ Ok t) × IsDone t status text
 
--- what is found in the bytes of an input, and its text
-abbrev pub IsFoundIn : List ℕ → Status → List ℕ → Type 0
-IsFoundIn bytes exit.Ok text = IsReportFor bytes text
-IsFoundIn bytes exit.Script text = (line : ℕ) ×
-    ((kind : ScriptKind) × (refusal bytes ≡ Some (line, kind)) × (text ≡ script_line line kind))
-IsFoundIn bytes exit.Memory text = text ≡ memory_line
-IsFoundIn bytes _ text = ⊥
-
--- what is found from the words and the source, and its text, in the order of the tests. Want of memory may come at any
--- place behind the first one.
-abbrev pub IsFound : List (List ℕ) → Supply → Supply → Status → List ℕ → Type 0
-IsFound words old new exit.Usage text = (IsForm words → ⊥) × (new ≡ old) × (text ≡ usage_line)
-IsFound words old new exit.Read text = IsForm words × Rose old.faults new.faults ×
-    (new.taken ≤ old.taken + INPUT_LIMIT) × (text ≡ read_line)
-IsFound words old new exit.TooLong text = IsForm words × IsLonger INPUT_LIMIT old.left ×
+-- what a form finds from the source, and its text, in the order of the tests. Want of memory may come at any place.
+abbrev pub IsFoundBy : Form → Supply → Supply → Status → List ℕ → Type 0
+IsFoundBy form old new exit.Usage text = ⊥
+IsFoundBy form old new exit.Read text = Rose old.faults new.faults × (new.taken ≤ old.taken + INPUT_LIMIT) ×
+    (text ≡ read_line)
+IsFoundBy form old new exit.TooLong text = IsLonger INPUT_LIMIT old.left ×
     RoseBy (INPUT_LIMIT + 1) old.taken new.taken × (text ≡ long_line)
-IsFound words old new exit.Memory text = IsForm words × (new.taken ≤ old.taken + INPUT_LIMIT) × (text ≡ memory_line)
-IsFound words old new status text = IsForm words × ((bytes : List ℕ) × Gave bytes old new × IsFoundIn bytes status text)
+IsFoundBy form old new exit.Memory text = (new.taken ≤ old.taken + INPUT_LIMIT) × (text ≡ memory_line)
+IsFoundBy form old new status text = (bytes : List ℕ) × Gave bytes old new × IsFoundIn form bytes status text
+
+-- what is found from the words and the source, and its text. Where the words are no form, nothing is read. Memory may
+-- be wanting for the words already, and then nothing was read either.
+abbrev pub IsFound : List (List ℕ) → Supply → Supply → Status → List ℕ → Type 0
+IsFound words old new exit.Usage text = IsNoForm words × (new ≡ old) × (text ≡ usage_line)
+IsFound words old new exit.Memory text = (new.taken ≤ old.taken + INPUT_LIMIT) × (text ≡ memory_line)
+IsFound words old new status text = (form : Form) × IsForm words form × IsFoundBy form old new status text
 
 -- the text was added and the call answers what it found; or the sink failed, and a front part of the text was added
 abbrev pub IsWritten : Status → List ℕ → Store → Store → Status → Type 0
@@ -147,24 +184,35 @@ pub record ComesExactly (status wanted : Status) (Cause : Type 0) : Type 0 where
   pub only : status ≡ wanted → Cause
   pub always : Cause → status ≢ exit.Memory → status ≢ exit.Write → status ≡ wanted
 
--- the source tells these bytes and meets no fault
-pub record IsSupplied (bytes : List ℕ) (old new : Supply) : Type 0 where
+-- the words are this form, and the source tells these bytes and meets no fault
+pub record IsGiven (words : List (List ℕ)) (f : Form) (bytes : List ℕ) (old new : Supply) : Type 0 where
+  pub form : IsForm words f
   pub left : old.left ≡ Some bytes
   pub no_fault : Rose old.faults new.faults → ⊥
+
+-- they are given, are not too many, and are a task
+pub record IsAsked (words : List (List ℕ)) (f : Form) (bytes : List ℕ) (t : Task) (old new : Supply) : Type 0 where
+  pub given : IsGiven words f bytes old new
+  pub few : length bytes ≤ INPUT_LIMIT
+  pub task : task_of f bytes ≡ Ok t
 
 -- why each status comes
 pub record HasCause (words : List (List ℕ)) (source_old source_new : Supply) (sink_old sink_new : Store)
     (status : Status) : Type 0 where
-  pub usage : ComesExactly status exit.Usage (IsForm words → ⊥)
+  pub usage : ComesExactly status exit.Usage (IsNoForm words)
+  pub unread : status ≡ exit.Usage → source_new ≡ source_old
   pub read : status ≡ exit.Read → Rose source_old.faults source_new.faults
   pub many : status ≡ exit.TooLong → RoseBy (INPUT_LIMIT + 1) source_old.taken source_new.taken
   pub few : status ≢ exit.TooLong → status ≢ exit.Write → source_new.taken ≤ source_old.taken + INPUT_LIMIT
-  pub too_long : (bytes : List ℕ) → IsForm words → IsSupplied bytes source_old source_new →
+  pub too_long : (form : Form) (bytes : List ℕ) → IsGiven words form bytes source_old source_new →
       ComesExactly status exit.TooLong (INPUT_LIMIT < length bytes)
-  pub script : (bytes : List ℕ) → IsForm words → IsSupplied bytes source_old source_new → length bytes ≤ INPUT_LIMIT →
-      ComesExactly status exit.Script (IsSome (refusal bytes))
-  pub ok : (bytes : List ℕ) → IsForm words → IsSupplied bytes source_old source_new → length bytes ≤ INPUT_LIMIT →
-      ComesExactly status exit.Ok (refusal bytes ≡ None)
+  pub script : (form : Form) (bytes : List ℕ) → IsGiven words form bytes source_old source_new →
+      length bytes ≤ INPUT_LIMIT → ComesExactly status exit.Script (IsSome (refusal form bytes))
+  -- the turns of a schedule make no settled run
+  pub schedule : (form : Form) (bytes : List ℕ) (t : Task) → IsAsked words form bytes t source_old source_new →
+      ComesExactly status exit.Schedule (IsSome (refused_turn t))
+  -- completeness: else the report is written
+  pub ok : (form : Form) (bytes : List ℕ) (t : Task) → IsAsked words form bytes t source_old source_new →
+      ComesExactly status exit.Ok (refused_turn t ≡ None)
   pub write : status ≡ exit.Write → Rose sink_old.faults sink_new.faults
-  pub never_schedule : status ≢ exit.Schedule
   pub never_illegal : status ≢ exit.Illegal

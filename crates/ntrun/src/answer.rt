@@ -1,17 +1,21 @@
 //! What a call finds out, with the text that is written for it.
-ghost use Rattle.std.specs.Prelude.{◌≡◌, ◌≤◌, true, length, Some, None, ◌++◌, ◌∷◌, [], OnOk, decimal, codes, IfOk, string_bytes};
-ghost use Rattle.nt_event.specs.Script.{fits};
+ghost use Rattle.std.specs.Prelude.{◌≡◌, ◌≤◌, true, length, IfErr, IfOk, string_bytes};
+ghost use Rattle.nt_event.specs.Fitting.{events_fit};
 ghost use Rattle.nt_script.specs.Sound.{IsSound};
-ghost use Rattle.nt_script.specs.Reading.{reading};
-ghost use Rattle.ntrun.specs.Answer.{text_of};
-ghost use Rattle.ntrun.specs.Outcome.{refusal, kind_text, script_line, memory_line, IsReport, IsRefused, IsReported, IsFoundIn};
+ghost use Rattle.nt_words.specs.Commands.{is_built};
+ghost use Rattle.nt_words.specs.Forms.{IsWithin, command_of};
+ghost use Rattle.ntrun.specs.Answer.{IsReported, IsTaskRefused, IsTurnRefused, text_of};
+ghost use Rattle.ntrun.specs.Outcome.{kind_text, script_line, memory_line, turn_line, IsDone, IsFoundIn, IsRefused, IsRunOf};
+ghost use Rattle.ntrun.specs.Tasks.{IsSoundTask};
 
 use crate::status::Status;
-use nt_core::run;
-use nt_event::limits::USUAL_TURNS;
+use crate::task::{Task, task_of};
+use nt_core::{ScheduleRefusal, replay, run};
+use nt_event::{History, ScheduleKind};
 use nt_print::report;
-use nt_script::{Input, ScriptKind, ScriptRefusal, read};
+use nt_script::{Input, ScriptKind, ScriptRefusal};
 use nt_text::INPUT_LIMIT;
+use nt_words::Form;
 use std::alloc::{AllocError, Global};
 
 /// A text to be written.
@@ -84,21 +88,53 @@ fn refused(alloc: Global, line: u32, kind: ScriptKind) -> Answer
     }
 }
 
-/// The report of the input's run by the robin rule.
-fn run_report(alloc: Global, input: &Input) -> Result<Vec<u8>, AllocError>
-    requires { IsSound input.now }
-    ensures { IfOk result (λ text. IsReport input.now text.items) }
+/// The line of a turn that is refused.
+fn turn_line(alloc: Global, at: u32, kind: ScheduleKind) -> Result<String, AllocError>
+    ensures { IfOk result (λ s. string_bytes s ≡ turn_line (record { at = at; kind = kind })) }
 {
-    let history = run(alloc, &input.script, USUAL_TURNS)?;
-    report(alloc, input, &history)
+    format!(in alloc; "schedule turn {at}: {} {}\n", kind.number(), kind.name())
 }
 
-/// What is answered where the bytes are a script.
-fn reported(alloc: Global, input: &Input) -> Answer
-    requires { IsSound input.now }
-    ensures { IsReported input.now result.status (text_of result.text) }
+/// What is answered where a turn is refused.
+fn turn_refused(alloc: Global, at: u32, kind: ScheduleKind) -> Answer
+    ensures { IsTurnRefused (record { at = at; kind = kind }) result.status (text_of result.text) }
 {
-    match run_report(alloc, input) {
+    match turn_line(alloc, at, kind) {
+        Ok(line) => Answer {
+            status: Status::Schedule,
+            text: Text::Made(line.into_bytes()),
+        },
+        Err(_) => no_memory(),
+    }
+}
+
+/// The history that a task asks for, or why its turns make none.
+fn history_of(alloc: Global, task: &Task) -> Result<History, ScheduleRefusal>
+    requires { IsSoundTask task.now }
+    ensures ok { IfOk result (IsRunOf task.now) }
+    ensures err { IfErr result (IsTaskRefused task.now) }
+{
+    match task {
+        Task::Run { input, turns } => match run(alloc, &input.script, *turns) {
+            Ok(history) => Ok(history),
+            Err(_) => Err(ScheduleRefusal::NoMemory),
+        },
+        Task::Replay { input, schedule } => replay(
+            alloc,
+            &input.script,
+            schedule.turns,
+            schedule.list.as_slice(),
+        ),
+    }
+}
+
+/// What is answered with a history.
+fn reported(alloc: Global, input: &Input, history: &History) -> Answer
+    requires sound { IsSound input.now }
+    requires fit { events_fit input.now.script history.now.events ≡ true }
+    ensures { IsReported input.now history.now result.status (text_of result.text) }
+{
+    match report(alloc, input, history) {
         Ok(text) => Answer {
             status: Status::Ok,
             text: Text::Made(text),
@@ -107,13 +143,27 @@ fn reported(alloc: Global, input: &Input) -> Answer
     }
 }
 
-/// What is found in the bytes of an input.
-pub(crate) fn find_in(alloc: Global, bytes: &[u8]) -> Answer
-    requires { length bytes.now ≤ INPUT_LIMIT }
-    ensures { IsFoundIn bytes.now result.status (text_of result.text) }
+/// What is answered to a task.
+fn done(alloc: Global, task: &Task) -> Answer
+    requires { IsSoundTask task.now }
+    ensures { IsDone task.now result.status (text_of result.text) }
 {
-    match read(alloc, bytes) {
-        Ok(input) => reported(alloc, &input),
+    match history_of(alloc, task) {
+        Ok(history) => reported(alloc, task.input(), &history),
+        Err(ScheduleRefusal::Bad { at, kind }) => turn_refused(alloc, at, kind),
+        Err(ScheduleRefusal::NoMemory) => no_memory(),
+    }
+}
+
+/// What a form finds in the bytes of an input.
+pub(crate) fn find_in(alloc: Global, form: Form, bytes: &[u8]) -> Answer
+    requires bytes { length bytes.now ≤ INPUT_LIMIT }
+    requires built { is_built (command_of form) ≡ true }
+    requires limit { IsWithin form }
+    ensures { IsFoundIn form bytes.now result.status (text_of result.text) }
+{
+    match task_of(alloc, form, bytes) {
+        Ok(task) => done(alloc, &task),
         Err(ScriptRefusal::Bad { line, kind }) => refused(alloc, line, kind),
         Err(ScriptRefusal::NoMemory) => no_memory(),
     }

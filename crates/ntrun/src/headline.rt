@@ -1,9 +1,10 @@
-//! The headline for `run`, as a law over what the top call answers.
+//! The headline, as laws over what the top call answers.
 ghost use Rattle.ntrun.specs.Headline.{Headline};
 
-/// What was written with status 0 is the report of the robin run of the script that was read, and that history is a run of the
-/// written machine: every delivery was eligible, each accepted insert was begun, removed or flushed, or is named as waiting, and
-/// nothing eligible is left but on a processor that was cut.
-pub fn the_report_is_that_of_the_robin_run()
+/// What was written with status 0 is the report of the actual history: of the robin run of the script that was read, or of the one
+/// run with the turns of the schedule behind it. That history is a run of the written machine: every delivery was eligible and names
+/// an insert that was pending just before, each insert was begun, removed or flushed by the first later event that uses it up, or is
+/// named as waiting, and nothing that may run is left but on a processor with a `cut` line. The bytes name this one history.
+pub fn the_report_is_that_of_the_actual_history()
     ensures { Headline }
 {}

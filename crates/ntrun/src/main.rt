@@ -13,10 +13,11 @@
 mod answer;
 mod headline;
 mod status;
+mod task;
 mod top;
 mod words;
 
-pub use headline::the_report_is_that_of_the_robin_run;
+pub use headline::the_report_is_that_of_the_actual_history;
 pub use status::Status;
 pub use top::{ntrun, plain};
 pub use words::is_live;

@@ -1,7 +1,9 @@
-//! What no table of cases can make: faults of a source and a sink in memory, words that are no form, and the greatest sizes. The
-//! programs machine_table and script_table have the worked rows.
+//! What no table of cases can make: faults of a source and a sink in memory, words that are no form, the greatest sizes, and the
+//! forms from the words in to the bytes out. The programs machine_table, text_table and words_table have the worked rows of the parts.
 use crate::{Status, is_live, ntrun, plain};
 use nt_outside::{MemorySink, MemorySource, OpenGate};
+use nt_script::split_at;
+use nt_words::USAGE;
 use std::alloc::Global;
 use std::test::Fail;
 
@@ -128,16 +130,16 @@ fn other_words_are_no_form(rt: HostRuntime) -> Result<(), Fail> {
     let rows = [
         none,
         ["live"].as_slice(),
-        ["Run"].as_slice(),
         ["--help"].as_slice(),
         ["run", "run"].as_slice(),
-        ["run", ""].as_slice(),
+        ["run", "--turns", "0"].as_slice(),
+        ["replay", "--turns", "5"].as_slice(),
     ];
     for words in rows {
         // A source whose first call fails is not called.
         let (status, written) = program(rt.alloc(), words, b"cpus 1\n", &[0], 65536, &[])?;
         assert_eq!(rt; status, Status::Usage);
-        assert_eq!(rt; written.as_slice(), b"usage: ntrun run\n".as_slice());
+        assert_eq!(rt; written.as_slice(), USAGE.as_bytes());
     }
     assert!(rt; !is_live([String::from_str(rt.alloc(), "live")?].as_slice()));
     Ok(())
@@ -163,6 +165,145 @@ fn longest_input(rt: HostRuntime) -> Result<(), Fail> {
         );
         assert_eq!(rt; sink.bytes(), line.as_bytes());
     }
+    Ok(())
+}
+
+/// A thread inserts a DPC for another processor, which rests.
+const IDLE_TARGET: &str =
+    "cpus 2\ndpc d q\nthread a 0 ra\nroutine ra\ntarget d 1\nqueue d\nexit\nroutine q\nexit\n";
+
+/// Its schedule by the robin rule.
+const IDLE_TARGET_SCHEDULE: &str =
+    "schedule 10000\nswitch 0 a\nnext 1\nnext 0\nnext 0\nlook 1 2=4\nnext 0\nnext 1\nnext 0\nnext 1\nnext 0\nnext 1\nnext 1\ndone\n";
+
+/// And its report, before the schedule.
+const IDLE_TARGET_EVENTS: &str =
+    "report\n0 p0 a 0 switch a\n1 p1 - 0 rest\n2 p0 a 0 call 0 target d 1 -> done\n3 p0 a 0 call 0 queue d -> yes\n5 p0 a 0 end 0\n6 p1 - 2 begin dpc d of 3\n7 p0 a 0 gone a\n8 p1 - 0 end 6\n9 p0 - 0 rest\n10 p1 - 0 clean 2\n11 p1 - 0 rest\n";
+
+/// What `replay` answers and writes for that script with this schedule behind it.
+fn replayed(alloc: Global, schedule: &str) -> Result<(Status, Vec<u8>), Fail> {
+    let mut input = String::from_str(alloc, IDLE_TARGET)?;
+    input.push_str(schedule)?;
+    program(alloc, &["replay"], input.as_bytes(), &[], 65536, &[])
+}
+
+/// A schedule is replayed: its report is written, with status 0.
+#[test]
+fn a_schedule_is_replayed(rt: HostRuntime) -> Result<(), Fail> {
+    let (status, written) = replayed(rt.alloc(), IDLE_TARGET_SCHEDULE)?;
+    let mut wanted = String::from_str(rt.alloc(), IDLE_TARGET_EVENTS)?;
+    wanted.push_str(IDLE_TARGET_SCHEDULE)?;
+    assert_eq!(rt; status, Status::Ok);
+    assert!(rt; written.as_slice() == wanted.as_bytes());
+    Ok(())
+}
+
+/// Schedules whose turns make no settled run, with the place of the turn and why it is refused.
+#[test]
+fn turns_are_refused(rt: HostRuntime) -> Result<(), Fail> {
+    let rows = [
+        (
+            "schedule 10000\nswitch 0 a\nnext 1\nnext 0\nnext 0\nlook 1 2=9\ndone\n",
+            "schedule turn 4: 3 BadLook\n",
+        ),
+        (
+            "schedule 10000\nswitch 0 a\nnext 1\nnext 0\ndone\n",
+            "schedule turn 3: 5 Unfinished\n",
+        ),
+        ("schedule 10000\ndone\n", "schedule turn 0: 5 Unfinished\n"),
+        (
+            "schedule 1\nswitch 0 a\nnext 1\nnext 0\ndone\n",
+            "schedule turn 2: 2 NothingToDo\n",
+        ),
+        (
+            "schedule 10000\nnext 2\ndone\n",
+            "schedule turn 0: 1 NoSuchCpu\n",
+        ),
+        (
+            "schedule 10000\nswitch 1 a\nnext 2\ndone\n",
+            "schedule turn 0: 4 BadChoice\n",
+        ),
+    ];
+    for (schedule, line) in rows {
+        let (status, written) = replayed(rt.alloc(), schedule)?;
+        assert_eq!(rt; status, Status::Schedule);
+        assert_eq!(rt; written.as_slice(), line.as_bytes());
+    }
+    Ok(())
+}
+
+/// Inputs of `replay` of which a line is refused: of the script first, then of the schedule, numbered in the whole input.
+#[test]
+fn schedules_are_refused(rt: HostRuntime) -> Result<(), Fail> {
+    let rows = [
+        ("schedule 0\ndone\n", "script line 10: 5 BadNumber\n"),
+        (
+            "schedule 10000\nlook 1 2=0\ndone\n",
+            "script line 11: 5 BadNumber\n",
+        ),
+        (
+            "schedule 10000\nlook 1 12=4\ndone\n",
+            "script line 11: 5 BadNumber\n",
+        ),
+        ("schedule 10000\nnext 0\n", "script line 12: 11 NoEnd\n"),
+        ("", "script line 10: 11 NoEnd\n"),
+        ("isr 0 5 q\nschedule 0\n", "script line 10: 2 UnknownWord\n"),
+    ];
+    for (schedule, line) in rows {
+        let (status, written) = replayed(rt.alloc(), schedule)?;
+        assert_eq!(rt; status, Status::Script);
+        assert_eq!(rt; written.as_slice(), line.as_bytes());
+    }
+    Ok(())
+}
+
+/// A turn limit is given in either spelling, before or behind the command.
+#[test]
+fn a_turn_limit_is_given(rt: HostRuntime) -> Result<(), Fail> {
+    let rows = [
+        ["run", "--turns=2"].as_slice(),
+        ["run", "--turns", "2"].as_slice(),
+        ["--turns=2", "run"].as_slice(),
+    ];
+    let wanted =
+        "report\n0 p0 main 0 switch main\n1 p0 main 0 call 0 queue d -> yes\ncut p0\nwaits 1 dpc d\nschedule 2\nswitch 0 main\nnext 0\ndone\n";
+    for words in rows {
+        let (status, written) = program(
+            rt.alloc(),
+            words,
+            SELF_QUEUING.as_bytes(),
+            &[],
+            65536,
+            &[],
+        )?;
+        assert_eq!(rt; status, Status::Ok);
+        assert_eq!(rt; written.as_slice(), wanted.as_bytes());
+    }
+    Ok(())
+}
+
+/// The schedule part of a report, behind its script, is replayed to the same bytes.
+#[test]
+fn a_report_is_replayed(rt: HostRuntime) -> Result<(), Fail> {
+    let ran = program(
+        rt.alloc(),
+        &["run", "--turns", "500"],
+        SELF_QUEUING.as_bytes(),
+        &[],
+        65536,
+        &[],
+    )?;
+    let report = ran.1.as_slice();
+    let mut input = SELF_QUEUING.as_bytes().to_vec(rt.alloc())?;
+    if report.len() <= 65536 {
+        if let Some(split) = split_at(report, "schedule") {
+            input.extend_from_slice(&report[split.at.min(report.len())..])?;
+        }
+    }
+    let again = program(rt.alloc(), &["replay"], input.as_slice(), &[], 65536, &[])?;
+    assert_eq!(rt; ran.0, Status::Ok);
+    assert_eq!(rt; again.0, Status::Ok);
+    assert!(rt; again.1.as_slice() == report);
     Ok(())
 }
 

@@ -1,14 +1,16 @@
 //! The top call: from the words and the bytes in to the bytes out.
-ghost use Rattle.std.specs.Prelude.{◌≡◌, ◌≢◌, false, map, string_bytes};
+ghost use Rattle.std.specs.Prelude.{◌≡◌, ◌≢◌, false, map, true, string_bytes};
 ghost use Rattle.ntrun.specs.Answer.{text_of};
-ghost use Rattle.ntrun.specs.Outcome.{supply, store, memory_line, IsFound, IsWritten, IsAnswered, HasCause};
+ghost use Rattle.nt_words.specs.Commands.{is_built};
+ghost use Rattle.nt_words.specs.Forms.{IsWithin, command_of};
+ghost use Rattle.ntrun.specs.Outcome.{supply, store, memory_line, IsFound, IsFoundBy, IsWritten, IsAnswered, HasCause};
 ghost use Rattle.ntrun.specs.Words.{is_live};
 
 use crate::answer::{Answer, Text, find_in, no_memory};
 use crate::status::Status;
-use crate::words::is_form;
 use nt_outside::{Gate, ReadRefusal, Sink, Source, WriteFault, read_all, write_all};
 use nt_text::INPUT_LIMIT;
+use nt_words::{Form, USAGE, WordsRefusal, form_of, words_have_one_form};
 use std::alloc::Global;
 
 fn line(status: Status, text: &'static str) -> Answer
@@ -21,18 +23,28 @@ fn line(status: Status, text: &'static str) -> Answer
     }
 }
 
+/// What a form finds from the source.
+fn find_by<S: Source>(alloc: Global, form: Form, source: &mut S) -> Answer
+    requires built { is_built (command_of form) ≡ true }
+    requires limit { IsWithin form }
+    ensures { IsFoundBy form (supply (S.left source.old) (S.taken source.old) (S.faults source.old)) (supply (S.left source.new) (S.taken source.new) (S.faults source.new)) result.status (text_of result.text) }
+{
+    match read_all(alloc, source, INPUT_LIMIT) {
+        Ok(bytes) => find_in(alloc, form, bytes.as_slice()),
+        Err(ReadRefusal::Fault) => line(Status::Read, "read fault\n"),
+        Err(ReadRefusal::TooLong) => line(Status::TooLong, "input too long\n"),
+        Err(ReadRefusal::NoMemory) => no_memory(),
+    }
+}
+
 /// What is found from the words and the source. Where the words are no form, nothing is read.
 fn find<S: Source>(alloc: Global, words: &[String], source: &mut S) -> Answer
     ensures { IsFound (map string_bytes words.now) (supply (S.left source.old) (S.taken source.old) (S.faults source.old)) (supply (S.left source.new) (S.taken source.new) (S.faults source.new)) result.status (text_of result.text) }
 {
-    if !is_form(words) {
-        return line(Status::Usage, "usage: ntrun run\n");
-    }
-    match read_all(alloc, source, INPUT_LIMIT) {
-        Ok(bytes) => find_in(alloc, bytes.as_slice()),
-        Err(ReadRefusal::Fault) => line(Status::Read, "read fault\n"),
-        Err(ReadRefusal::TooLong) => line(Status::TooLong, "input too long\n"),
-        Err(ReadRefusal::NoMemory) => no_memory(),
+    match form_of(alloc, words) {
+        Ok(form) => find_by(alloc, form, source),
+        Err(WordsRefusal::NoForm) => line(Status::Usage, USAGE),
+        Err(WordsRefusal::NoMemory) => no_memory(),
     }
 }
 
@@ -57,10 +69,10 @@ pub(crate) fn starved<K: Sink>(sink: &mut K) -> Status
 /// The program for all words that are no live form: `words` are those behind the program's name. It waits for nobody and returns.
 ///
 /// In this order: `Usage` exactly where the words are no form, and then nothing is read; `Read` only where the source's count of
-/// faults rose; `TooLong` exactly where more than 33,554,432 bytes were taken; `Script` exactly where the reader refuses a line;
-/// else `Ok` and the report of the script's run by the robin rule. Want of memory, `Memory`, may come at any place behind the
-/// first. The text or line of the status is written whole by one `write_all`; where
-/// that fails, `Write`, and a front part of it stands.
+/// faults rose; `TooLong` exactly where more than 33,554,432 bytes were taken; `Script` exactly where a line is refused, of the
+/// script or of what stands behind it; `Schedule`, of `replay` alone, exactly where the turns make no settled run; else `Ok` and the
+/// report of the run by the robin rule, or by the schedule. Want of memory, `Memory`, may come at any place. The text or line of
+/// the status is written whole by one `write_all`; where that fails, `Write`, and a front part of it stands.
 pub fn plain<S: Source, K: Sink>(
     alloc: Global,
     words: &[String],
@@ -71,6 +83,7 @@ pub fn plain<S: Source, K: Sink>(
     ensures answered { IsAnswered (map string_bytes words.now) (supply (S.left source.old) (S.taken source.old) (S.faults source.old)) (supply (S.left source.new) (S.taken source.new) (S.faults source.new)) (store (K.held sink.old) (K.faults sink.old)) (store (K.held sink.new) (K.faults sink.new)) result }
     ensures causes { HasCause (map string_bytes words.now) (supply (S.left source.old) (S.taken source.old) (S.faults source.old)) (supply (S.left source.new) (S.taken source.new) (S.faults source.new)) (store (K.held sink.old) (K.faults sink.old)) (store (K.held sink.new) (K.faults sink.new)) result }
 {
+    words_have_one_form();
     let answer = find(alloc, words, source);
     write(&answer, sink)
 }

@@ -1,7 +1,23 @@
+use Rattle.std.proofs.Common.{subst}
+use Rattle.nt_script.specs.Gives.{GivesRead}
+use Rattle.std.specs.Prelude.{Err, Result}
+use Rattle.nt_script.specs.declared.reading.ScriptRefusal.{ScriptRefusal}
+use Rattle.ntrun.specs.declared.task.Task.{Task}
 use Rattle.ntrun.specs.Answer.{text_of}
-use Rattle.ntrun.proofs.Found.{reported_in}
+use Rattle.ntrun.specs.Tasks.{task_of}
+use Rattle.ntrun.proofs.Found.{bad_refused, done_in, refused_in}
 use Rattle.ntrun.proofs.answer.find_in.Goals as goal
+
+abbrev failed : ScriptRefusal → Result Task ScriptRefusal
+failed r = Err r
 
 pub returns-in-Ok : goal.returns-in-Ok
 returns-in-Ok c =
-    reported_in c.args.bytes.now c.in-Ok.input c.reported.result.status (text_of c.reported.result.text) c.in-Ok.ensures.exact c.reported.ensures
+    done_in c.args.form c.args.bytes.now c.in-Ok.task c.done.result.status (text_of c.done.result.text) c.in-Ok.ensures.read c.done.ensures
+
+pub returns-in-Err-Bad : goal.returns-in-Err-Bad
+returns-in-Err-Bad c =
+    refused_in c.args.form c.args.bytes.now c.in-Err-Bad.line c.in-Err-Bad.kind c.refused.result.status (text_of c.refused.result.text)
+    (bad_refused c.args.form c.args.bytes.now c.in-Err-Bad.line c.in-Err-Bad.kind
+    (subst (λ (r : ScriptRefusal). GivesRead (failed r) (task_of c.args.form c.args.bytes.now)) c.in-Err-Bad.field-0-is c.in-Err-Bad.ensures.read))
+    c.refused.ensures

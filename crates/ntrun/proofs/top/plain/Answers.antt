@@ -15,4 +15,4 @@ returns-clause-answered g c = record {
 }
 
 pub returns-clause-causes : goal.returns-clause-causes
-returns-clause-causes g c = causes _ _ _ _ _ _ (returns-clause-answered g c)
+returns-clause-causes g c = causes c.words_have_one_form.ensures _ _ _ _ _ _ (returns-clause-answered g c)

@@ -1,0 +1,95 @@
+-- A task that was read is one of a sound input, and its history is one that a report may have.
+use Rattle.std.proofs.Common.{◌≡◌, ◌∙◌, ℕ, ◌≤◌, List, Option, Some, None, Result, Ok, Err, ap, arith, refl, subst, sym}
+use Rattle.std.specs.Prelude.{drop, map, reverse, take, true}
+use Rattle.std.proofs.lemmas.List.{reverse-reverse}
+use Rattle.nt_core.proofs.Replaying.{replays_run}
+use Rattle.nt_event.specs.declared.events.Event.{Event}
+use Rattle.nt_event.specs.declared.events.History.{History}
+use Rattle.nt_event.specs.declared.events.Turn.{Turn}
+use Rattle.nt_event.specs.declared.limits.TheConstants.{CPUS}
+use Rattle.nt_event.specs.Robin.{IsRobin}
+use Rattle.nt_event.specs.Step.{IsRun, turn_of}
+use Rattle.nt_log.specs.declared.schedules.Schedule.{Schedule}
+use Rattle.nt_log.specs.Reading.{reading as schedule_reading}
+use Rattle.nt_log.specs.Schedules.{IsPlain, schedule_of}
+use Rattle.nt_log.proofs.Both.{walk_takes}
+use Rattle.nt_ranges.proofs.Programs.{a_replay_is_one, a_robin_run_is_one}
+use Rattle.nt_ranges.specs.Plain.{IsRunOf as IsRunOfInput}
+use Rattle.nt_script.specs.declared.walk.Input.{Input}
+use Rattle.nt_script.specs.Reading.{reading}
+use Rattle.nt_script.specs.Sound.{IsSound}
+use Rattle.nt_script.proofs.Contract.{reading_is_text}
+use Rattle.nt_text.specs.declared.kind.ScriptKind.TheVariants.{NoEnd}
+use Rattle.nt_text.specs.Lines.{lines}
+use Rattle.nt_words.specs.declared.form.Form.{Form}
+use Rattle.nt_words.specs.declared.form.Form.TheVariants as form
+use Rattle.nt_words.specs.Forms.{IsTurns, IsWithin}
+use Rattle.ntrun.specs.declared.task.Task.{Task}
+use Rattle.ntrun.specs.declared.task.Task.TheVariants as task
+use Rattle.ntrun.specs.Outcome.{IsRunOf}
+use Rattle.ntrun.specs.Tasks.{Bad, and_then, behind, input_of, last_line, replay_task, run_task, schedule_task, schedule_word, task_of}
+
+-- what holds of a task that was read
+abbrev pub IsPlainTask : Task → Type 0
+IsPlainTask (task.Run input turns) = IsSound input × IsTurns turns
+IsPlainTask (task.Replay input schedule) = IsSound input × IsPlain input.script schedule
+
+pub sound_task : (t : Task) → IsPlainTask t → IsSound (input_of t)
+sound_task (task.Run input turns) p = p.0
+sound_task (task.Replay input schedule) p = p.0
+
+run_plain : (turns : ℕ) (bytes : List ℕ) (t : Task) → IsTurns turns → run_task turns bytes ≡ Ok t → IsPlainTask t
+run_plain turns bytes t w e = go (reading bytes) refl e
+  where
+    go : (r : Result Input Bad) → reading bytes ≡ r → and_then r (λ input. Ok (task.Run input turns)) ≡ Ok t → IsPlainTask t
+    go (Err bad) is h = cc
+    go (Ok input) is h =
+        let same : task.Run input turns ≡ t = cc in subst IsPlainTask same ((reading_is_text bytes input is).sound, w)
+
+schedule_plain : (input : Input) (line : ℕ) (rest : List ℕ) (t : Task) → IsSound input → schedule_task input line rest ≡ Ok t → IsPlainTask t
+schedule_plain input line rest t sound e = go (schedule_reading CPUS input.names line rest) refl e
+  where
+    go : (r : Result Schedule Bad) → schedule_reading CPUS input.names line rest ≡ r → and_then r (λ s. Ok (task.Replay input s)) ≡ Ok t → IsPlainTask t
+    go (Err bad) is h = cc
+    go (Ok schedule) is h =
+        let same : task.Replay input schedule ≡ t = cc in
+        subst IsPlainTask same (sound, (walk_takes CPUS line input (lines rest) schedule (omega arith) sound is).1)
+
+replay_plain : (split : Option (ℕ × ℕ)) (bytes : List ℕ) (t : Task) → replay_task split bytes ≡ Ok t → IsPlainTask t
+replay_plain None bytes t e = go (reading bytes) e
+  where
+    go : (r : Result Input Bad) → and_then r (λ input. Err (last_line bytes, NoEnd)) ≡ Ok t → IsPlainTask t
+    go (Err bad) h = cc
+    go (Ok input) h = cc
+replay_plain (Some (at, line)) bytes t e = go (reading (take at bytes)) refl e
+  where
+    go : (r : Result Input Bad) → reading (take at bytes) ≡ r → and_then r (λ input. schedule_task input line (drop at bytes)) ≡ Ok t → IsPlainTask t
+    go (Err bad) is h = cc
+    go (Ok input) is h = schedule_plain input line (drop at bytes) t (reading_is_text (take at bytes) input is).sound h
+
+pub task_plain : (f : Form) (bytes : List ℕ) (t : Task) → IsWithin f → task_of f bytes ≡ Ok t → IsPlainTask t
+task_plain (form.Run turns) bytes t w e = run_plain turns bytes t w e
+task_plain form.Replay bytes t w e = replay_plain (behind schedule_word bytes) bytes t e
+task_plain (form.Live turns) bytes t w e = cc
+task_plain form.Check bytes t w e = cc
+task_plain (form.Load seed turns) bytes t w e = cc
+
+-- ---- its history
+
+schedule_same : (h : History) (s : Schedule) → h.turns ≡ s.turns → map turn_of (reverse (reverse h.events)) ≡ s.list → s ≡ schedule_of h
+schedule_same h s turns list =
+    sym (ap (λ (n : ℕ). made n (map turn_of h.events)) turns
+    ∙ ap (λ (xs : List Turn). made s.turns xs) (ap (map turn_of) (sym (reverse-reverse h.events)) ∙ list))
+  where
+    made : ℕ → List Turn → Schedule
+    made n xs = record { turns = n; list = xs }
+
+pub run_of_input : (t : Task) (h : History) → IsPlainTask t → IsRunOf t h → IsRunOfInput (input_of t) h
+run_of_input (task.Run input turns) h p r =
+    a_robin_run_is_one input h p.0 (subst IsTurns (sym r.turns) p.1)
+    (subst (λ (n : ℕ). IsRun input.script n (reverse h.events)) (sym r.turns) r.run)
+    (subst (λ (n : ℕ). IsRobin input.script n (reverse h.events)) (sym r.turns) r.robin)
+run_of_input (task.Replay input schedule) h p r =
+    let i = replays_run input.script schedule.turns schedule.list (reverse h.events) r.run in
+    a_replay_is_one input h p.0 (subst (λ (n : ℕ). IsRun input.script n (reverse h.events)) (sym r.turns) i.run)
+    (subst (λ (s : Schedule). IsPlain input.script s) (schedule_same h schedule r.turns i.turns_are) p.1)

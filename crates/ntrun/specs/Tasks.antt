@@ -1,0 +1,77 @@
+-- What a form finds to do in the bytes of an input: what is read there, or the line that is refused.
+use Rattle.std.specs.Prelude.{◌+◌, ℕ, List, Ok, Err, Option, Some, None, Result, codes, drop, length, take}
+use Rattle.nt_event.specs.declared.limits.TheConstants.{CPUS}
+use Rattle.nt_text.specs.declared.kind.ScriptKind.{ScriptKind}
+use Rattle.nt_text.specs.declared.kind.ScriptKind.TheVariants.{NoCpus, NoEnd}
+use Rattle.nt_text.specs.Lines.{lines}
+use Rattle.nt_log.specs.declared.schedules.Schedule.{Schedule}
+use Rattle.nt_log.specs.Reading.{reading as schedule_reading}
+use Rattle.nt_script.specs.declared.walk.Input.{Input}
+use Rattle.nt_script.specs.Reading.{reading}
+use Rattle.nt_script.specs.Sound.{IsSound}
+use Rattle.nt_script.specs.Splitting.{split_from}
+use Rattle.nt_words.specs.declared.form.Form.{Form}
+use Rattle.nt_words.specs.declared.form.Form.TheVariants as form
+use Rattle.nt_words.specs.Forms.{IsTurns}
+use Rattle.ntrun.specs.declared.task.Task.{Task}
+use Rattle.ntrun.specs.declared.task.Task.TheVariants as task
+
+-- a line of the input, counted from 1, and what is wrong with it
+abbrev pub Bad : Type 0
+Bad = ℕ × ScriptKind
+
+-- goes on with what was read, or the line is refused
+abbrev pub and_then : {A B : Type 0} → Result A Bad → (A → Result B Bad) → Result B Bad
+and_then (Ok x) more = more x
+and_then (Err bad) more = Err bad
+
+-- the word that begins a schedule
+abbrev pub schedule_word : List ℕ
+schedule_word = codes "schedule"
+
+-- where the first line with this first field begins: how many bytes stand before it, and its number
+abbrev pub behind : List ℕ → List ℕ → Option (ℕ × ℕ)
+behind word bytes = split_from word 0 1 (lines bytes)
+
+-- the line behind the last one
+abbrev pub last_line : List ℕ → ℕ
+last_line bytes = 1 + length (lines bytes)
+
+-- a schedule behind this input, of which the first line has this number
+abbrev pub schedule_task : Input → ℕ → List ℕ → Result Task Bad
+schedule_task input line rest = and_then (schedule_reading CPUS input.names line rest)
+    (λ schedule. Ok (task.Replay input schedule))
+
+-- a script, and a schedule that begins so many bytes behind it, with the line of this number. The script is tested
+-- first. Where no schedule begins, its first line is missing behind the last one.
+abbrev pub replay_task : Option (ℕ × ℕ) → List ℕ → Result Task Bad
+replay_task (Some (at, line)) bytes = and_then (reading (take at bytes)) (λ input.
+    schedule_task input line (drop at bytes))
+replay_task None bytes = and_then (reading bytes) (λ input. Err (last_line bytes, NoEnd))
+
+-- a script alone
+abbrev pub run_task : ℕ → List ℕ → Result Task Bad
+run_task turns bytes = and_then (reading bytes) (λ input. Ok (task.Run input turns))
+
+-- what a form reads in the bytes. A form that isn't built reads nothing, and no words are one.
+abbrev pub task_of : Form → List ℕ → Result Task Bad
+task_of (form.Run turns) bytes = run_task turns bytes
+task_of form.Replay bytes = replay_task (behind schedule_word bytes) bytes
+task_of (form.Live turns) bytes = Err (1, NoCpus)
+task_of form.Check bytes = Err (1, NoCpus)
+task_of (form.Load seed turns) bytes = Err (1, NoCpus)
+
+-- ---- what holds of a task
+
+abbrev pub input_of : Task → Input
+input_of (task.Run input turns) = input
+input_of (task.Replay input schedule) = input
+
+abbrev pub limit_of : Task → ℕ
+limit_of (task.Run input turns) = turns
+limit_of (task.Replay input schedule) = schedule.turns
+
+-- what is read is sound, and its limit is in its range
+pub record IsSoundTask (t : Task) : Type 0 where
+  pub sound : IsSound (input_of t)
+  pub limit : IsTurns (limit_of t)
