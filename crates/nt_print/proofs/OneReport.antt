@@ -196,7 +196,7 @@ cuts_other h p (suc n) = all_append IsOther (cut_of h p) (cut_rows h (p + 1) n) 
     go true = (cut_other p, tt)
     go false = tt
 
-cuts_clean : (h : History) (p n : ℕ) → p + n < 2 ^ 64 → AllRows (cut_rows h p n)
+pub cuts_clean : (h : History) (p n : ℕ) → p + n < 2 ^ 64 → AllRows (cut_rows h p n)
 cuts_clean h p zero few = tt
 cuts_clean h p (suc n) few = rows_from (cut_of h p) (cut_rows h (p + 1) n) (go (made p h.events == h.turns)) (cuts_clean h (p + 1) n (omega (arith, few)))
   where
@@ -233,14 +233,14 @@ inserts_plain s (e ∷ past) few h =
     go None h = tt
     go (Some thing) h = ((omega (arith, few), h), tt)
 
-wait_clean : (input : Input) → Known input → (i : Inserted) → WaitIsPlain input.script i → IsRow (wait_row input.names i)
+pub wait_clean : (input : Input) → Known input → (i : Inserted) → WaitIsPlain input.script i → IsRow (wait_row input.names i)
 wait_clean input k i h = row_from (codes "waits") (wait_fields input.names i) refl (rw (decimal_field i.number h.0, go i.thing h.1) refl)
   where
     go : (x : Thing) → thing_fits input.script x ≡ true → list_all is_field (thing_row input.names x) ≡ true
     go (DpcThing d) h = rw (dpc_clean input k d h) refl
     go (ApcThing a) h = rw (apc_clean input k a h) refl
 
-waits_clean : (input : Input) → Known input → (past : List Event) → length past < 2 ^ 64 → AllByRecursion (EventIsPlain input.script) past →
+pub waits_clean : (input : Input) → Known input → (past : List Event) → length past < 2 ^ 64 → AllByRecursion (EventIsPlain input.script) past →
     AllRows (wait_rows input.names past)
 waits_clean input k past few h =
     map_rows (WaitIsPlain input.script) (wait_row input.names) (wait_clean input k) (waiting_inserts past)

@@ -69,7 +69,7 @@ cut at n = Some (at, n)
 pairs : (a b c d : ℕ) → a ≡ b → c ≡ d → cut a c ≡ cut b d
 pairs a b c d e f = rw (e, f) refl
 
-split_behind : (word : List ℕ) (at n : ℕ) (xs ys : List (List ℕ × Bool)) → list_any (begins word) xs ≡ false → first_begins word ys ≡ true →
+pub split_behind : (word : List ℕ) (at n : ℕ) (xs ys : List (List ℕ × Bool)) → list_any (begins word) xs ≡ false → first_begins word ys ≡ true →
     split_from word at n (xs ++ ys) ≡ cut (at + bytes_of xs) (n + length xs)
 split_behind word at n [] [] none there = cc
 split_behind word at n [] (y ∷ ys) none there = rw there (pairs at (at + 0) n (n + 0) (omega arith) (omega arith))
@@ -83,7 +83,7 @@ split_behind word at n (x ∷ xs) ys none there = go (begins word x) (list_any (
     go false false is e on =
         on is ∙ pairs (at + (length x.0 + 1) + bytes_of xs) (at + (length x.0 + 1 + bytes_of xs)) (n + 1 + length xs) (n + suc (length xs)) (omega arith) (omega arith)
 
-rows_bytes : (rows : List Row) → bytes_of (map line_of rows) ≡ length (rows_text rows)
+pub rows_bytes : (rows : List Row) → bytes_of (map line_of rows) ≡ length (rows_text rows)
 rows_bytes [] = refl
 rows_bytes (row ∷ rows) =
     let more = rows_bytes rows in
