@@ -7,6 +7,7 @@ use Rattle.nt_text.specs.declared.kind.ScriptKind.{ScriptKind}
 use Rattle.nt_text.specs.declared.kind.ScriptKind.TheVariants.{WrongKind}
 use Rattle.nt_text.specs.Lines.{lines}
 use Rattle.nt_event.specs.declared.events.History.{History}
+use Rattle.nt_event.specs.Fitting.{events_fit}
 use Rattle.nt_script.specs.declared.reading.ScriptRefusal.{ScriptRefusal}
 use Rattle.nt_script.specs.declared.walk.Input.{Input}
 use Rattle.nt_script.specs.Gives.{GivesRead}
@@ -16,7 +17,7 @@ use Rattle.nt_print.specs.Report.{report_text}
 use Rattle.nt_report.specs.declared.walk.Parts.{Parts}
 use Rattle.nt_report.specs.Reading.{and_then, compared, history_of, lines_alike, reading, start, walk}
 use Rattle.nt_report.proofs.Steps.{not_ok, ok_is}
-use Rattle.nt_report.proofs.PlainHistories.{history_plain}
+use Rattle.nt_report.proofs.PlainHistories.{history_plain, plain_fits}
 use Rattle.nt_report.proofs.PlainLines.{parts_plain}
 
 -- what is read prints as the bytes
@@ -46,3 +47,11 @@ pub is_found : (input : Input) → IsSound input → (n : ℕ) (bytes : List ℕ
     IfOk r (λ h. IsReportOf bytes input h)
 is_found input sound n bytes (Ok h) e = reading_is_report input sound n bytes h e
 is_found input sound n bytes (Err x) e = tt
+
+pub report_fits : (bytes : List ℕ) (input : Input) (h : History) → IsReportOf bytes input h → events_fit input.script h.events ≡ true
+report_fits bytes input h r = plain_fits input h.events r.plain.events
+
+pub is_fit : (input : Input) → IsSound input → (n : ℕ) (bytes : List ℕ) (r : Result History ScriptRefusal) → GivesRead r (reading input n bytes) →
+    IfOk r (λ h. events_fit input.script h.events ≡ true)
+is_fit input sound n bytes (Ok h) e = report_fits bytes input h (reading_is_report input sound n bytes h e)
+is_fit input sound n bytes (Err x) e = tt

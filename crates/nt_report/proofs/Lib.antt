@@ -5,3 +5,4 @@ pub mod PlainEvents
 pub mod PlainLines
 pub mod PlainHistories
 pub mod Contract
+pub mod Hexadecimals

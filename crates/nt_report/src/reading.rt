@@ -1,7 +1,8 @@
 //! Reading a whole report.
-ghost use Rattle.std.specs.Prelude.{◌≡◌, ◌≤◌, ◌+◌, length, IfOk};
+ghost use Rattle.std.specs.Prelude.{◌≡◌, ◌≤◌, ◌+◌, length, true, IfOk};
 ghost use Rattle.nt_text.specs.declared.lines.TheConstants.{INPUT_LIMIT};
 ghost use Rattle.nt_text.specs.Lines.{lines};
+ghost use Rattle.nt_event.specs.Fitting.{events_fit};
 ghost use Rattle.nt_script.specs.Gives.{GivesRead};
 ghost use Rattle.nt_script.specs.Sound.{IsSound};
 ghost use Rattle.nt_print.specs.Conditions.{IsReportOf};
@@ -75,6 +76,9 @@ pub fn read_report(
 
     // What is answered has the bytes as its report.
     ensures found { IfOk result (λ h. IsReportOf bytes.now input.now h) }
+
+    // Its events name things of the script, as printing wants it.
+    ensures fits { IfOk result (λ h. events_fit input.now.script h.events ≡ true) }
 
     // Which line is refused, and why.
     ensures exact { GivesRead result (reading input.now first_line bytes.now) }

@@ -3,14 +3,18 @@
 //!
 //! A line is a script, which is read and printed again, and has to come out as the same bytes; or `?schedule N|SCRIPT|SCHEDULE`,
 //! the same of a schedule for that script, whose first line has the number N; or `?turns N|SCRIPT|LINE|REST`, the same of the
-//! schedule of the line `schedule 1`, N times LINE, and REST; or `?find NAME|SCRIPT`, what the name names in the
+//! schedule of the line `schedule 1`, N times LINE, and REST; or `?report N|SCRIPT|REPORT`, the same of a report; or
+//! `?summary|SCRIPT|REPORT`, the summary of the report's history; or `?find NAME|SCRIPT`, what the name names in the
 //! script; or `?split WORD|TEXT`, where the first line begins whose first field is the word. What is wanted stands in `stdout`:
 //! worked rows, a change of each kind of line for each refusal, the limits, and random scripts with the answers of a reader that
 //! was written from the grammar alone, in another language.
 #![tactic(auto)]
 
+mod reports;
+
 ghost use Rattle.nt_script.specs.Sound.{IsSound};
 
+use crate::reports::{report_entry, summary_entry};
 use nt_log::{print_schedule, read_schedule};
 use nt_script::{Input, Named, Names, ScriptKind, ScriptRefusal, print, read, split_at};
 use nt_text::INPUT_LIMIT;
@@ -18,7 +22,7 @@ use std::alloc::{AllocError, Global};
 use std::io;
 
 /// The bytes of a text of the table.
-fn text_of(alloc: Global, entry: &[u8]) -> Result<Vec<u8>, AllocError> {
+pub(crate) fn text_of(alloc: Global, entry: &[u8]) -> Result<Vec<u8>, AllocError> {
     let mut text = Vec::new(alloc);
     for byte in entry {
         text.push(match *byte {
@@ -32,8 +36,8 @@ fn text_of(alloc: Global, entry: &[u8]) -> Result<Vec<u8>, AllocError> {
     Ok(text)
 }
 
-/// What became of a script or a schedule.
-enum Outcome {
+/// What became of a script, a schedule or a report.
+pub(crate) enum Outcome {
     /// It is read, and printed as the same bytes.
     Same,
     /// It is printed as other bytes.
@@ -84,7 +88,7 @@ fn schedule_again(
     }
 }
 
-fn put_outcome(rt: &HostRuntime, outcome: Outcome) -> io::Result<()> {
+pub(crate) fn put_outcome(rt: &HostRuntime, outcome: Outcome) -> io::Result<()> {
     match outcome {
         Outcome::Same => println!(rt; "read"),
         Outcome::Differs => println!(rt; "differs"),
@@ -200,6 +204,12 @@ fn other_case(rt: &HostRuntime, case: &str) -> io::Result<()> {
     }
     if let Some(("turns", number)) = what.split_once(' ') {
         return turns_entry(rt, number, entry);
+    }
+    if let Some(("report", number)) = what.split_once(' ') {
+        return report_entry(rt, number, entry);
+    }
+    if what == "summary" {
+        return summary_entry(rt, entry);
     }
     let text = text_of(rt.alloc(), entry.as_bytes())?;
     match what.split_once(' ') {

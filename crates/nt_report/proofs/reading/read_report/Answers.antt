@@ -1,5 +1,8 @@
-use Rattle.nt_report.proofs.Contract.{is_found}
+use Rattle.nt_report.proofs.Contract.{is_fit, is_found}
 use Rattle.nt_report.proofs.reading.read_report.Goals as goal
 
 pub returns-clause-found : goal.returns-clause-found
 returns-clause-found c = is_found c.args.input.now c.requires.sound c.args.first_line c.args.bytes.now c.read_all.result c.read_all.ensures
+
+pub returns-clause-fits : goal.returns-clause-fits
+returns-clause-fits c = is_fit c.args.input.now c.requires.sound c.args.first_line c.args.bytes.now c.read_all.result c.read_all.ensures

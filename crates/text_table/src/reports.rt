@@ -1,0 +1,98 @@
+//! Cases of reports.
+ghost use Rattle.std.specs.Prelude.{◌≡◌, ◌≤◌, length};
+ghost use Rattle.nt_text.specs.declared.lines.TheConstants.{INPUT_LIMIT};
+ghost use Rattle.nt_script.specs.Sound.{IsSound};
+
+use crate::{Outcome, put_outcome, text_of};
+use nt_print::{report, summary};
+use nt_report::read_report;
+use nt_script::{Input, read};
+use nt_text::INPUT_LIMIT;
+use std::alloc::{AllocError, Global};
+use std::io;
+
+/// What a report for the input's script is, whose first line has this number.
+fn report_again(
+    alloc: Global,
+    input: &Input,
+    text: &[u8],
+    first_line: u32,
+) -> Result<Outcome, AllocError>
+    requires { IsSound input.now }
+{
+    if text.len() > INPUT_LIMIT || first_line == 0 || first_line as usize > INPUT_LIMIT {
+        return Ok(Outcome::Differs);
+    }
+    match read_report(alloc, input, text, first_line) {
+        Ok(history) => {
+            let is_same = report(alloc, input, &history)?.as_slice() == text;
+            Ok(if is_same {
+                Outcome::Same
+            } else {
+                Outcome::Differs
+            })
+        }
+        Err(refusal) => Ok(Outcome::Refused(refusal)),
+    }
+}
+
+/// A script of the table, and a report for it whose first line has this number.
+pub(crate) fn report_entry(rt: &HostRuntime, number: &str, entry: &str) -> io::Result<()> {
+    let (Ok(first_line), Some((script, text))) = (number.parse::<u32>(), entry.split_once('|'))
+    else {
+        return println!(rt; "no case");
+    };
+    let script = text_of(rt.alloc(), script.as_bytes())?;
+    let text = text_of(rt.alloc(), text.as_bytes())?;
+    if script.len() > INPUT_LIMIT {
+        return println!(rt; "too long");
+    }
+    match read(rt.alloc(), script.as_slice()) {
+        Ok(input) => put_outcome(
+            rt,
+            report_again(rt.alloc(), &input, text.as_slice(), first_line)?,
+        ),
+        Err(_) => println!(rt; "no script"),
+    }
+}
+
+/// The summary of the report's history, where the report is read.
+fn summary_of(alloc: Global, input: &Input, text: &[u8]) -> Result<Option<Vec<u8>>, AllocError>
+    requires sound { IsSound input.now }
+    requires bytes { length text.now ≤ INPUT_LIMIT }
+{
+    match read_report(alloc, input, text, 1) {
+        Ok(history) => Ok(Some(summary(alloc, input, &history)?)),
+        Err(_) => Ok(None),
+    }
+}
+
+/// The lines of a summary in one line.
+fn put_summary(rt: &HostRuntime, lines: &[u8]) -> io::Result<()> {
+    for line in lines.split(|byte| *byte == b'\n') {
+        match str::from_utf8(line) {
+            Ok(line) => print!(rt; "{line}/")?,
+            Err(_) => print!(rt; "?")?,
+        }
+    }
+    println!(rt; "")
+}
+
+/// A script of the table, and a report for it that is summed up.
+pub(crate) fn summary_entry(rt: &HostRuntime, entry: &str) -> io::Result<()> {
+    let Some((script, text)) = entry.split_once('|') else {
+        return println!(rt; "no case");
+    };
+    let script = text_of(rt.alloc(), script.as_bytes())?;
+    let text = text_of(rt.alloc(), text.as_bytes())?;
+    if script.len() > INPUT_LIMIT || text.len() > INPUT_LIMIT {
+        return println!(rt; "too long");
+    }
+    let Ok(input) = read(rt.alloc(), script.as_slice()) else {
+        return println!(rt; "no script");
+    };
+    match summary_of(rt.alloc(), &input, text.as_slice())? {
+        Some(lines) => put_summary(rt, lines.as_slice()),
+        None => println!(rt; "refused"),
+    }
+}
