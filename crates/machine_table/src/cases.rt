@@ -30,7 +30,7 @@ pub(crate) struct Case<'a> {
     ghost few: { limit ≤ TURNS },
 }
 
-pub(crate) fn limit_of(word: &str) -> Option<u32>
+fn limit_of(word: &str) -> Option<u32>
     ensures { IfSome result (λ n. (1 ≤ n) × (n ≤ TURNS)) }
 {
     let limit = word.parse::<u32>().ok()?;
