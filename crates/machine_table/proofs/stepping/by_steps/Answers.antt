@@ -1,5 +1,5 @@
-use Rattle.std.proofs.Common.{ap, sym, ◌∙◌}
-use Rattle.std.specs.Prelude.{refl, ◌≡◌}
+use Rattle.std.proofs.Common.{ap, ◌∙◌}
+use Rattle.std.specs.Prelude.{refl}
 use Rattle.nt_event.specs.Jobs.{chosen_task}
 use Rattle.nt_event.specs.Step.{is_cut}
 use Rattle.nt_cpu.specs.States.{CpuState}
