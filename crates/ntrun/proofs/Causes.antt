@@ -90,7 +90,7 @@ Which form bytes exit.TooLong = INPUT_LIMIT < length bytes
 Which form bytes exit.Memory = Unit {0}
 Which form bytes _ = ⊥
 
-gave_told : (bytes told : List ℕ) (so sn : Supply) → Gave bytes so sn → so.left ≡ Some told → bytes ≡ told
+pub gave_told : (bytes told : List ℕ) (so sn : Supply) → Gave bytes so sn → so.left ≡ Some told → bytes ≡ told
 gave_told bytes told so sn g s = same_bytes bytes told so.left sn.left s g.left g.end
 
 is_some_of : {A : Type 0} (o : Option A) (x : A) → o ≡ Some x → IsSome o
@@ -102,7 +102,7 @@ is_none_not {A} {o} e some = let none : is_some o ≡ false = ap is_some e in cc
 not_refused : (form : Form) (bytes : List ℕ) (t : Task) → task_of form bytes ≡ Ok t → refusal form bytes ≡ None
 not_refused form bytes t e = ap refusal_of e
 
-same_task : (form : Form) (bytes : List ℕ) (t u : Task) → task_of form bytes ≡ Ok t → task_of form bytes ≡ Ok u → t ≡ u
+pub same_task : (form : Form) (bytes : List ℕ) (t u : Task) → task_of form bytes ≡ Ok t → task_of form bytes ≡ Ok u → t ≡ u
 same_task form bytes t u a b = go (sym a ∙ b)
   where
     go : ◌≡◌ {A = Result Task Bad} (Ok t) (Ok u) → t ≡ u

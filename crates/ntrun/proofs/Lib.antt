@@ -1,3 +1,4 @@
+mod Again
 mod Causes
 mod Done
 mod Found

@@ -1,5 +1,7 @@
 //! The headline, as laws over what the top call answers.
-ghost use Rattle.ntrun.specs.Headline.{Headline};
+ghost use Rattle.ntrun.specs.Headline.{Headline, ReplayWritesTheSame};
+
+use nt_words::words_have_one_form;
 
 /// What was written with status 0 is the report of the actual history: of the robin run of the script that was read, or of the one
 /// run with the turns of the schedule behind it. That history is a run of the written machine: every delivery was eligible and names
@@ -8,3 +10,12 @@ ghost use Rattle.ntrun.specs.Headline.{Headline};
 pub fn the_report_is_that_of_the_actual_history()
     ensures { Headline }
 {}
+
+/// Replaying a report's schedule writes the same bytes: the script's text with the schedule part of the report behind it, given to
+/// `replay`, has status 0 and writes the report again, where these are not too many bytes, memory is found and neither the source nor
+/// the sink fails.
+pub fn replaying_its_schedule_writes_the_report_again()
+    ensures { ReplayWritesTheSame }
+{
+    words_have_one_form();
+}

@@ -17,7 +17,9 @@ mod task;
 mod top;
 mod words;
 
-pub use headline::the_report_is_that_of_the_actual_history;
+pub use headline::{
+    replaying_its_schedule_writes_the_report_again, the_report_is_that_of_the_actual_history,
+};
 pub use status::Status;
 pub use top::{ntrun, plain};
 pub use words::is_live;
