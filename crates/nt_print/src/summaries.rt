@@ -112,7 +112,11 @@ fn cut_line(cpu: u8, count: usize, history: &History) -> u8
     ensures line { result ≡ length (cut_of history.now cpu) }
     ensures one { result ≤ 1 }
 {
-    if count == history.turns as usize { 1 } else { 0 }
+    if count == history.turns as usize {
+        1
+    } else {
+        0
+    }
 }
 
 /// How many processors made as many events as they may.

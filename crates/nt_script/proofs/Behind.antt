@@ -99,12 +99,12 @@ behind word input rows none sound are there =
     let clean = input_clean input (sound_fits input sound) in
     let whole : text input ++ rows_text rows ≡ rows_text (front ++ rows) = sym (flat_map-append row_text front rows) in
     let all : lines (text input ++ rows_text rows) ≡ map line_of front ++ map line_of rows =
-        ap lines whole ∙ lines_again (front ++ rows) (rows_both front rows clean are) ∙ map-append line_of front rows in
+    ap lines whole ∙ lines_again (front ++ rows) (rows_both front rows clean are) ∙ map-append line_of front rows in
     let here : first_begins word (map line_of rows) ≡ true = ap (first_begins word) (sym (lines_again rows are)) ∙ there in
     let no : list_any (begins word) (map line_of front) ≡ false =
-        ap (list_any (begins word)) (sym (lines_again front clean))
-        ∙ none_begins word none _ _ 1 (lines (text input)) input (reading_again input (sound_fits input sound)) in
+    ap (list_any (begins word)) (sym (lines_again front clean))
+    ∙ none_begins word none _ _ 1 (lines (text input)) input (reading_again input (sound_fits input sound)) in
     ap (split_from word 0 1) all
     ∙ split_behind word 0 1 (map line_of front) (map line_of rows) no here
     ∙ pairs (0 + bytes_of (map line_of front)) (length (text input)) (1 + length (map line_of front)) (1 + length (lines (text input)))
-      (let b = rows_bytes front in omega (arith, b)) (ap (λ (ls : List (List ℕ × Bool)). 1 + length ls) (sym (lines_again front clean)))
+    (let b = rows_bytes front in omega (arith, b)) (ap (λ (ls : List (List ℕ × Bool)). 1 + length ls) (sym (lines_again front clean)))

@@ -160,21 +160,21 @@ written_again one words again f so sn ao an ko kn bo bn status w form_of given f
     let cpus = sound.cpus in
     let below = below_all input.script.cpus (schedule_of h).list (omega (arith, cpus)) (its_turns_are_of_processors input h own) in
     let settled : is_settled input.script h.turns (reverse h.events) ≡ true =
-        subst (λ (n : ℕ). is_settled input.script n (reverse h.events) ≡ true) (sym w.actual.turns) w.actual.settled in
+    subst (λ (n : ℕ). is_settled input.script n (reverse h.events) ≡ true) (sym w.actual.turns) w.actual.settled in
     let replays = replayed_again input.script h own.run settled in
     let bytes : replayed_bytes t h ≡ text input ++ schedule_text input (schedule_of h) =
-        ap (λ (xs : List ℕ). text input ++ xs) (schedule_of_report input h sound (a_run_has_a_report input h own) sched) in
+    ap (λ (xs : List ℕ). text input ++ xs) (schedule_of_report input h sound (a_run_has_a_report input h own) sched) in
     let asked : task_of form.Replay (replayed_bytes t h) ≡ Ok (task.Replay input (schedule_of h)) =
-        ap (task_of form.Replay) bytes ∙ task_again input (schedule_of h) sound sched below in
+    ap (task_of form.Replay) bytes ∙ task_again input (schedule_of h) sound sched below in
     let comes = (causes one again ao an bo bn status a).ok form.Replay (replayed_bytes t h) (task.Replay input (schedule_of h))
-        (record { given = given; few = few; task = asked }) in
+    (record { given = given; few = few; task = asked }) in
     let ok : status ≡ exit.Ok = comes.always (ap refused_in replays) memory write in
     let written : IsWritten a.found a.text bo bn exit.Ok = subst (λ (x : Status). IsWritten a.found a.text bo bn x) ok a.written in
     let found : IsFound again ao an exit.Ok a.text = subst (λ (x : Status). IsFound again ao an x a.text) (sym written.0) a.cause in
     let here : task_of form.Replay (replayed_bytes t h) ≡ Ok found.2.2.0 =
-        subst (λ (x : Form). task_of x (replayed_bytes t h) ≡ Ok found.2.2.0) (one again found.0 form.Replay found.1 given.form)
-        (subst (λ (xs : List ℕ). task_of found.0 xs ≡ Ok found.2.2.0) (gave_told found.2.0 (replayed_bytes t h) ao an found.2.1 given.left) found.2.2.1) in
+    subst (λ (x : Form). task_of x (replayed_bytes t h) ≡ Ok found.2.2.0) (one again found.0 form.Replay found.1 given.form)
+    (subst (λ (xs : List ℕ). task_of found.0 xs ≡ Ok found.2.2.0) (gave_told found.2.0 (replayed_bytes t h) ao an found.2.1 given.left) found.2.2.1) in
     let report : IsReport (task.Replay input (schedule_of h)) a.text =
-        subst (λ (x : Task). IsReport x a.text) (same_task form.Replay (replayed_bytes t h) found.2.2.0 (task.Replay input (schedule_of h)) here asked) found.2.2.2 in
+    subst (λ (x : Task). IsReport x a.text) (same_task form.Replay (replayed_bytes t h) found.2.2.0 (task.Replay input (schedule_of h)) here asked) found.2.2.2 in
     let same : report.history ≡ h = history_again input.script h report.history replays report.run in
     (ok, written.1 ∙ ap (append_known bo.held) (report.is ∙ ap (report_text input) same))
