@@ -1,11 +1,10 @@
 -- A number that is written in hexadecimal is read again.
-use Rattle.std.proofs.Common.{◌≡◌, ◌≢◌, ◌∙◌, ℕ, zero, suc, ◌+◌, ◌*◌, ◌-◌, ◌/◌, ◌%◌, ◌<◌, ◌≤◌, Bool, true, false, cond, List, [], ◌∷◌, length, Option, Some, None, refl, sym, ap, subst, arith, lit≤}
-use Rattle.std.specs.Prelude.{nat_le, nat_lt, not, ◌&&◌, ◌||◌, ◌==◌, Result, Ok}
+use Rattle.std.proofs.Common.{◌≡◌, ◌≢◌, ◌∙◌, ℕ, zero, suc, ◌+◌, ◌*◌, ◌/◌, ◌%◌, ◌<◌, ◌≤◌, Bool, true, false, cond, List, [], ◌∷◌, refl, ap, arith, lit≤}
+use Rattle.std.specs.Prelude.{nat_le, nat_lt, ◌&&◌, ◌==◌, Ok}
 use Rattle.std.specs.Char.{is_ascii_digit}
 use Rattle.std.specs.Fmt.{digit_glyph, digits, digits_onto}
 use Rattle.std.proofs.lemmas.Bool.{and_from, eqb-true, eqb-false, le-leb, lt-leb, ltb-false, ltb-true, ne_eqb}
 use Rattle.std.proofs.Math.Nat.{div-add-mod, mod-lt}
-use Rattle.nt_text.specs.declared.kind.ScriptKind.{ScriptKind}
 use Rattle.nt_report.specs.Fields.{hexadecimal_after, hexadecimal_of, hexadecimal_value, is_hexadecimal_digit, read_hexadecimal}
 
 -- one digit more
@@ -114,6 +113,7 @@ pub hexadecimal_again : (n : ℕ) → n ≤ 4294967295 → read_hexadecimal (dig
 unfolding digits
 hexadecimal_again zero le = refl
 hexadecimal_again (suc n) le =
-    let fits : suc n ≤ most 63 = omega (arith, le, lit≤ {4294967295} tt) in
+    let big : 4294967295 ≤ most 63 = lit≤ tt in
+    let fits : suc n ≤ most 63 = omega (arith, le, big) in
     let written : List ℕ = digits_onto 64 16 false (suc n) [] in
     rw (plain written (onto_begins 63 (suc n) [] fits (omega arith)), onto_read 63 (suc n) [] fits le) refl

@@ -6,3 +6,6 @@ pub mod PlainLines
 pub mod PlainHistories
 pub mod Contract
 pub mod Hexadecimals
+pub mod AgainEvents
+pub mod AgainLines
+pub mod AgainWhole

@@ -1,5 +1,5 @@
 //! Reading a whole report.
-ghost use Rattle.std.specs.Prelude.{◌≡◌, ◌≤◌, ◌+◌, length, true, IfOk};
+ghost use Rattle.std.specs.Prelude.{◌≡◌, ◌≤◌, ◌+◌, length, true, IfOk, Ok};
 ghost use Rattle.nt_text.specs.declared.lines.TheConstants.{INPUT_LIMIT};
 ghost use Rattle.nt_text.specs.Lines.{lines};
 ghost use Rattle.nt_event.specs.Fitting.{events_fit};
@@ -76,6 +76,9 @@ pub fn read_report(
 
     // What is answered has the bytes as its report.
     ensures found { IfOk result (λ h. IsReportOf bytes.now input.now h) }
+
+    // The history of a report is answered, and no other history and no bad line.
+    ensures only { (h : History) → IsReportOf bytes.now input.now h → GivesRead result (Ok h) }
 
     // Its events name things of the script, as printing wants it.
     ensures fits { IfOk result (λ h. events_fit input.now.script h.events ≡ true) }
