@@ -190,7 +190,8 @@ reply_clean (Refused r) h = rw (decimal_field (refusal_number r) (refusal_small 
 
 -- ---- commands
 
-pub command_plain : (input : Input) → Known input → (c : Command) → command_fits input.script c ≡ true → HasRange c → CommandFits input.names input.script.cpus c
+pub command_plain : (input : Input) → Known input → (c : Command) → command_fits input.script c ≡ true → HasRange c →
+    CommandFits input.names input.script.cpus c
 command_plain input k c h r = command_from input.script input.names k.counts c h r
 
 verb_one : (v u : Verb) → text_of (keyword.Call v) ≡ text_of (keyword.Call u) → v ≡ u

@@ -223,7 +223,8 @@ inserted_fits s (Call f (InsertApc a) Yes) h = h
 inserted_fits s (Fire d Yes) h = h
 inserted_fits s w h = tt
 
-pub inserts_plain : (s : Script) (past : List Event) → length past < 2 ^ 64 → AllByRecursion (EventIsPlain s) past → AllByRecursion (WaitIsPlain s) (inserts past)
+pub inserts_plain : (s : Script) (past : List Event) → length past < 2 ^ 64 → AllByRecursion (EventIsPlain s) past →
+    AllByRecursion (WaitIsPlain s) (inserts past)
 inserts_plain s [] few h = tt
 inserts_plain s (e ∷ past) few h =
     all_append (WaitIsPlain s) (inserts past) (inserted_by (length past) (inserted_thing e.what)) (inserts_plain s past (omega (arith, few)) h.1)

@@ -25,7 +25,8 @@ pub reading_is_report : (input : Input) → IsSound input → (n : ℕ) (bytes :
 reading_is_report input sound n bytes h e = go (walk input start n (lines bytes)) refl e
   where
     printed : (parts : Parts) (g : History) → walk input start n (lines bytes) ≡ Ok parts → history_of parts n ≡ Ok g → (b : Bool) →
-        bytes_eq (report_text input g) bytes ≡ b → cond {A = Result History (ℕ × ScriptKind)} b (Ok g) (Err (n + lines_alike (lines (report_text input g)) (lines bytes), WrongKind)) ≡ Ok h →
+        bytes_eq (report_text input g) bytes ≡ b →
+        cond {A = Result History (ℕ × ScriptKind)} b (Ok g) (Err (n + lines_alike (lines (report_text input g)) (lines bytes), WrongKind)) ≡ Ok h →
         IsReportOf bytes input h
     printed parts g is made_is true eq e =
         let plain = history_plain input parts n g (parts_plain input sound n (lines bytes) parts is).0 made_is in

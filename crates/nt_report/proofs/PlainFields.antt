@@ -112,5 +112,6 @@ status_fits [] y e = made (λ (y : Option ℕ × Row). StatusInRange y.0) (None,
 status_fits (f ∷ fs) y e =
     through (λ (y : Option ℕ × Row). StatusInRange y.0) (behind_word (codes "status") (f ∷ fs) >>= one_field read_hexadecimal)
     (λ (x : ℕ × Row). ok (Some x.0, x.1)) y e
-    (λ x is then. through (λ (x : ℕ × Row). ok (Some x.0, x.1) ≡ Ok y → StatusInRange y.0) (behind_word (codes "status") (f ∷ fs)) (one_field read_hexadecimal) x is
+    (λ x is then. through (λ (x : ℕ × Row). ok (Some x.0, x.1) ≡ Ok y → StatusInRange y.0)
+    (behind_word (codes "status") (f ∷ fs)) (one_field read_hexadecimal) x is
     (λ left is' then'. λ made_so. made (λ (y : Option ℕ × Row). StatusInRange y.0) (Some x.0, x.1) y made_so (hexadecimal_word left x then')) then)

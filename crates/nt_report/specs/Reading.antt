@@ -135,7 +135,8 @@ act input w word.Waits row line = waits_step input w (rest row)
 act input w word.Schedule row line = schedule_step input w line
 
 abbrev pub front_step : Input → Walked → List ℕ × Bool → Result Walked ScriptKind
-front_step input w line = row_of line >>= λ row. word_at w.place (line_word (first row)) >>= λ word. act input w word row line
+front_step input w line = row_of line >>= λ row. word_at w.place (line_word (first row)) >>= λ word.
+    act input w word row line
 
 abbrev pub step_at : ReportPlace → Input → Walked → List ℕ × Bool → Result Walked ScriptKind
 step_at InSchedule input w line = schedule_step input w line
@@ -148,7 +149,8 @@ line_step input w line = step_at w.place input w line
 -- ---- all lines
 
 -- a step of the reading that a bad line ends
-abbrev pub and_then : {A B : Type 0} → Result A (ℕ × ScriptKind) → (A → Result B (ℕ × ScriptKind)) → Result B (ℕ × ScriptKind)
+abbrev pub and_then : {A B : Type 0} → Result A (ℕ × ScriptKind) → (A → Result B (ℕ × ScriptKind)) →
+    Result B (ℕ × ScriptKind)
 and_then (Ok x) f = f x
 and_then (Err bad) f = Err bad
 
@@ -201,4 +203,5 @@ history_of parts n = and_then (events_of [] parts.schedule.list parts.lines (n +
 
 -- what the bytes are, whose first line has this number: a history, or the first bad line and what is wrong with it
 abbrev pub reading : Input → ℕ → List ℕ → Result History (ℕ × ScriptKind)
-reading input n bytes = and_then (walk input start n (lines bytes)) (λ parts. and_then (history_of parts n) (compared input bytes n))
+reading input n bytes = and_then (walk input start n (lines bytes))
+    (λ parts. and_then (history_of parts n) (compared input bytes n))

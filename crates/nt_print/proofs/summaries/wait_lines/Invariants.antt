@@ -3,4 +3,7 @@ use Rattle.nt_print.proofs.WaitRows.{waits_so_far}
 use Rattle.nt_print.proofs.summaries.wait_lines.Given as goal
 
 abbrev pub invariant-loop-number : goal.invariant-loop-number
-invariant-loop-number l = record { so_far : l.lines ≡ length (waits_so_far l.input.names (reverse l.events) (reverse (take l.number l.events))); few : l.lines ≤ l.number }
+invariant-loop-number l = record {
+  so_far : l.lines ≡ length (waits_so_far l.input.names (reverse l.events) (reverse (take l.number l.events)));
+  few : l.lines ≤ l.number;
+}

@@ -5,7 +5,10 @@ use Rattle.nt_report.specs.Reading.{start, walk}
 use Rattle.nt_report.proofs.reading.read_parts.Given as goal
 
 abbrev pub invariant-loop-line : goal.invariant-loop-line
-invariant-loop-line l = record { rest : walk l.input l.walk l.at l.lines ≡ walk l.input start l.first_line (lines l.bytes); few : l.at + length l.lines ≤ INPUT_LIMIT + INPUT_LIMIT + 1 }
+invariant-loop-line l = record {
+  rest : walk l.input l.walk l.at l.lines ≡ walk l.input start l.first_line (lines l.bytes);
+  few : l.at + length l.lines ≤ INPUT_LIMIT + INPUT_LIMIT + 1;
+}
 
 abbrev pub decreases-loop-line : goal.decreases-loop-line
 decreases-loop-line l = length l.lines
