@@ -17,7 +17,7 @@ abbrev pub is_built : Command → Bool
 is_built command.Run = true
 is_built command.Live = false
 is_built command.Replay = true
-is_built command.Check = false
+is_built command.Check = true
 is_built command.Load = false
 
 -- the word names the command, which is built

@@ -1,5 +1,5 @@
 -- Replaying the schedule part of a report, behind its script, writes the report again.
-use Rattle.std.proofs.Common.{◌≡◌, ◌≢◌, ◌∙◌, ℕ, ◌+◌, ◌<◌, ◌≤◌, true, false, List, [], ◌∷◌, ◌++◌, length, take, drop, map, reverse, Option, Some, None, Result, Ok, ap, arith, refl, subst, sym}
+use Rattle.std.proofs.Common.{◌≡◌, ◌∙◌, ℕ, ◌+◌, ◌<◌, ◌≤◌, true, false, List, [], ◌∷◌, ◌++◌, length, codes, take, drop, map, reverse, Option, Some, None, Result, Ok, ap, arith, refl, subst, sym}
 use Rattle.std.specs.Io.KnownBytes.{append_known}
 use Rattle.std.specs.List.{AllByRecursion, list_any}
 use Rattle.std.specs.Str.{bytes_eq}
@@ -18,16 +18,16 @@ use Rattle.nt_event.specs.Robin.{is_settled}
 use Rattle.nt_event.specs.Step.{IsRun, cpu_at, turn_of}
 use Rattle.nt_line.specs.Keywords.{keyword_of}
 use Rattle.nt_log.specs.declared.schedules.Schedule.{Schedule}
-use Rattle.nt_log.specs.Reading.{reading as schedule_reading, start, walk}
+use Rattle.nt_log.specs.Reading.{start, walk}
 use Rattle.nt_log.specs.Schedules.{AreBelow, IsPlain, limit_row, schedule_of, schedule_rows, schedule_text}
 use Rattle.nt_log.proofs.Both.{walk_again}
 use Rattle.nt_log.proofs.OneSchedule.{schedule_clean}
 use Rattle.nt_print.proofs.OneReport.{before_schedule, report_clean}
 use Rattle.nt_print.specs.Conditions.{IsPlain as HistoryIsPlain}
-use Rattle.nt_print.specs.Report.{report_text}
+use Rattle.nt_print.specs.Report.{report_rows, report_text}
 use Rattle.nt_ranges.proofs.Lists.{all_then}
 use Rattle.nt_ranges.proofs.Reports.{a_run_has_a_report, its_schedule_is_plain, its_turns_are_of_processors}
-use Rattle.nt_ranges.specs.Plain.{IsRunOf as IsRunOfInput}
+use Rattle.nt_report.proofs.AgainWhole.{report_is_read}
 use Rattle.nt_script.specs.declared.walk.Input.{Input}
 use Rattle.nt_script.specs.Reading.{reading}
 use Rattle.nt_script.specs.Sound.{IsSound}
@@ -45,11 +45,13 @@ use Rattle.nt_words.specs.declared.form.Form.TheVariants as form
 use Rattle.nt_words.specs.Forms.{IsForm, WordsHaveOneForm}
 use Rattle.ntrun.specs.declared.status.Status.{Status}
 use Rattle.ntrun.specs.declared.status.Status.TheVariants as exit
+use Rattle.ntrun.specs.declared.task.Tail.{Tail}
+use Rattle.ntrun.specs.declared.task.Tail.TheVariants as tail
 use Rattle.ntrun.specs.declared.task.Task.{Task}
 use Rattle.ntrun.specs.declared.task.Task.TheVariants as task
-use Rattle.ntrun.specs.Headline.{IsWhole, ReplayWritesTheSame, part_from, replayed_bytes, schedule_part}
-use Rattle.ntrun.specs.Outcome.{IsAnswered, IsFound, IsReplayed, IsReport, IsWritten, refused_in, refused_turn}
-use Rattle.ntrun.specs.Tasks.{Bad, and_then, behind, input_of, limit_of, replay_task, schedule_task, schedule_word, task_of}
+use Rattle.ntrun.specs.Headline.{CheckCallsItLegal, ReplayWritesTheSame, checked_bytes, part_from, replayed_bytes, schedule_part}
+use Rattle.ntrun.specs.Outcome.{Gave, IsAnswered, IsDone, IsFound, IsFoundIn, IsGiven, IsReplayed, IsReport, IsWritten, Store, Supply, refused_in}
+use Rattle.ntrun.specs.Tasks.{Bad, and_then, behind, input_of, tail_task, tail_word, task_of, two_parts}
 use Rattle.ntrun.proofs.Causes.{causes, gave_told, same_task}
 use Rattle.ntrun.proofs.Plain.{run_of_input, sound_task, task_plain}
 
@@ -84,41 +86,56 @@ part_of_rows word a b bytes e h none there =
     ∙ ap (drop (length (rows_text a))) (e ∙ flat_map-append row_text a b)
     ∙ drop-append_seam (rows_text a) (rows_text b)
 
-first_row : (input : Input) (s : Schedule) → AllRows (schedule_rows input.names s) → first_begins schedule_word (map line_of (schedule_rows input.names s)) ≡ true
-first_row input s h = begins_row schedule_word (limit_row s.turns) h.0
+first_row : (input : Input) (s : Schedule) → AllRows (schedule_rows input.names s) → first_begins (tail_word tail.Schedule) (map line_of (schedule_rows input.names s)) ≡ true
+first_row input s h = begins_row (tail_word tail.Schedule) (limit_row s.turns) h.0
 
 -- the schedule part of a report is the text of its history's schedule
 schedule_of_report : (input : Input) (h : History) → IsSound input → HistoryIsPlain input.script h → IsPlain input.script (schedule_of h) →
     schedule_part (report_text input h) ≡ schedule_text input (schedule_of h)
 schedule_of_report input h sound plain sched =
     let parts = before_schedule input h plain.few in
-    part_of_rows schedule_word parts.0 (schedule_rows input.names (schedule_of h)) (report_text input h) (ap rows_text parts.1)
+    part_of_rows (tail_word tail.Schedule) parts.0 (schedule_rows input.names (schedule_of h)) (report_text input h) (ap rows_text parts.1)
     (subst AllRows parts.1 (report_clean input sound h plain)) parts.2 (first_row input (schedule_of h) (schedule_clean input sound (schedule_of h) sched))
 
 -- ---- the two parts are read
 
-no_keyword : keyword_of schedule_word ≡ None
+no_keyword : (k : Tail) → keyword_of (tail_word k) ≡ None
 unfolding keyword_of
-no_keyword = refl
+no_keyword tail.Schedule = refl
+no_keyword tail.Report = refl
 
-read_parts : (input : Input) (s : Schedule) (at line : ℕ) (bytes front rest : List ℕ) → take at bytes ≡ front → drop at bytes ≡ rest → reading front
-    ≡ Ok input → schedule_reading CPUS input.names line rest ≡ Ok s → replay_task (Some (at, line)) bytes ≡ Ok (task.Replay input s)
-read_parts input s at line bytes front rest a b c d =
-    ap (λ (r : Result Input Bad). and_then r (λ i. schedule_task i line (drop at bytes))) (ap reading a ∙ c)
-    ∙ ap (λ (r : Result Schedule Bad). and_then r (λ x. Ok (task.Replay input x))) (ap (schedule_reading CPUS input.names line) b ∙ d)
+read_parts : (k : Tail) (input : Input) (at line : ℕ) (bytes front rest : List ℕ) (t : Task) → take at bytes ≡ front → drop at bytes ≡ rest → reading front
+    ≡ Ok input → tail_task k input line rest ≡ Ok t → two_parts k (Some (at, line)) bytes ≡ Ok t
+read_parts k input at line bytes front rest t a b c d =
+    ap (λ (r : Result Input Bad). and_then r (λ i. tail_task k i line (drop at bytes))) (ap reading a ∙ c) ∙ (ap (tail_task k input line) b ∙ d)
+
+-- a script's text, and rows behind it that begin with the word
+both_again : (k : Tail) (input : Input) (rows : List Row) (t : Task) → IsSound input → AllRows rows → first_begins (tail_word k) (map line_of rows) ≡ true →
+    tail_task k input (1 + length (lines (text input))) (rows_text rows) ≡ Ok t →
+    two_parts k (behind (tail_word k) (text input ++ rows_text rows)) (text input ++ rows_text rows) ≡ Ok t
+both_again k input rows t sound clean there read =
+    let first : first_begins (tail_word k) (lines (rows_text rows)) ≡ true = ap (first_begins (tail_word k)) (lines_again rows clean) ∙ there in
+    ap (λ (o : Option (ℕ × ℕ)). two_parts k o (text input ++ rows_text rows)) (found_behind (tail_word k) input rows (no_keyword k) sound clean first)
+    ∙ read_parts k input (length (text input)) (1 + length (lines (text input))) (text input ++ rows_text rows) (text input) (rows_text rows) t
+    (take-append_seam (text input) (rows_text rows)) (drop-append_seam (text input) (rows_text rows)) (reading_again input (sound_fits input sound)) read
 
 task_again : (input : Input) (s : Schedule) → IsSound input → IsPlain input.script s → AreBelow CPUS s.list →
     task_of form.Replay (text input ++ schedule_text input s) ≡ Ok (task.Replay input s)
 task_again input s sound plain below =
     let rows = schedule_rows input.names s in
     let clean = schedule_clean input sound s plain in
-    let there : first_begins schedule_word (lines (rows_text rows)) ≡ true = ap (first_begins schedule_word) (lines_again rows clean) ∙ first_row input s clean in
     let line = 1 + length (lines (text input)) in
-    ap (λ (o : Option (ℕ × ℕ)). replay_task o (text input ++ schedule_text input s)) (found_behind schedule_word input rows no_keyword sound clean there)
-    ∙ read_parts input s (length (text input)) line (text input ++ schedule_text input s) (text input) (schedule_text input s)
-    (take-append_seam (text input) (schedule_text input s)) (drop-append_seam (text input) (schedule_text input s))
-    (reading_again input (sound_fits input sound))
-    (ap (walk CPUS input.names start line) (lines_again rows clean) ∙ walk_again CPUS line input s sound plain below)
+    both_again tail.Schedule input rows (task.Replay input s) sound clean (first_row input s clean)
+    (ap (λ (r : Result Schedule Bad). and_then r (λ x. Ok (task.Replay input x)))
+    (ap (walk CPUS input.names start line) (lines_again rows clean) ∙ walk_again CPUS line input s sound plain below))
+
+check_again : (input : Input) (h : History) → IsSound input → HistoryIsPlain input.script h → task_of form.Check (text input ++ report_text input h)
+    ≡ Ok (task.Check input h)
+check_again input h sound plain =
+    let clean = report_clean input sound h plain in
+    both_again tail.Report input (report_rows input h) (task.Check input h) sound clean (begins_row (tail_word tail.Report) (codes "report" ∷ []) clean.0)
+    (ap (λ (r : Result History Bad). and_then r (λ x. Ok (task.Check input x)))
+    (report_is_read (report_text input h) input h (1 + length (lines (text input))) (record { sound = sound; plain = plain; text = refl })))
 
 -- ---- the turns of a history make it again
 
@@ -143,7 +160,23 @@ history_again s h k e r =
     made : ℕ → List Event → History
     made n es = record { turns = n; events = es }
 
--- ---- the law
+-- ---- the laws
+
+-- what is answered with status 0 to words that are this form and bytes that are this task
+answered_well : WordsHaveOneForm → (words : List (List ℕ)) (f : Form) (bytes : List ℕ) (t : Task) (so sn : Supply) (ko kn : Store) (status : Status)
+    (a : IsAnswered words so sn ko kn status) → IsGiven words f bytes so sn → task_of f bytes ≡ Ok t → status ≡ exit.Ok →
+    IsDone t exit.Ok a.text × (kn.held ≡ append_known ko.held a.text)
+answered_well one words f bytes t so sn ko kn status a given asked ok =
+    let written : IsWritten a.found a.text ko kn exit.Ok = subst (λ (x : Status). IsWritten a.found a.text ko kn x) ok a.written in
+    let found : IsFound words so sn exit.Ok a.text = subst (λ (x : Status). IsFound words so sn x a.text) (sym written.0) a.cause in
+    (done found.0 found.1 found.2.0 found.2.1 found.2.2, written.1)
+  where
+    done : (g : Form) → IsForm words g → (xs : List ℕ) → Gave xs so sn → IsFoundIn g xs exit.Ok a.text → IsDone t exit.Ok a.text
+    done g form xs gave found =
+        let here : task_of f bytes ≡ Ok found.0 =
+        subst (λ (x : Form). task_of x bytes ≡ Ok found.0) (one words g f form given.form)
+        (subst (λ (ys : List ℕ). task_of g ys ≡ Ok found.0) (gave_told xs bytes so sn gave given.left) found.1) in
+        subst (λ (x : Task). IsDone x exit.Ok a.text) (same_task f bytes found.0 t here asked) found.2
 
 below_all : (cpus : ℕ) (list : List Turn) → cpus ≤ CPUS → AllByRecursion (λ t. (cpu_at t).0 < cpus) list → AreBelow CPUS list
 below_all cpus list few h = all_then (λ t. (cpu_at t).0 < cpus) (λ t. (cpu_at t).0 < CPUS) (λ t k. omega (arith, k, few)) list h
@@ -169,12 +202,24 @@ written_again one words again f so sn ao an ko kn bo bn status w form_of given f
     let comes = (causes one again ao an bo bn status a).ok form.Replay (replayed_bytes t h) (task.Replay input (schedule_of h))
     (record { given = given; few = few; task = asked }) in
     let ok : status ≡ exit.Ok = comes.always (ap refused_in replays) memory write in
-    let written : IsWritten a.found a.text bo bn exit.Ok = subst (λ (x : Status). IsWritten a.found a.text bo bn x) ok a.written in
-    let found : IsFound again ao an exit.Ok a.text = subst (λ (x : Status). IsFound again ao an x a.text) (sym written.0) a.cause in
-    let here : task_of form.Replay (replayed_bytes t h) ≡ Ok found.2.2.0 =
-    subst (λ (x : Form). task_of x (replayed_bytes t h) ≡ Ok found.2.2.0) (one again found.0 form.Replay found.1 given.form)
-    (subst (λ (xs : List ℕ). task_of found.0 xs ≡ Ok found.2.2.0) (gave_told found.2.0 (replayed_bytes t h) ao an found.2.1 given.left) found.2.2.1) in
-    let report : IsReport (task.Replay input (schedule_of h)) a.text =
-    subst (λ (x : Task). IsReport x a.text) (same_task form.Replay (replayed_bytes t h) found.2.2.0 (task.Replay input (schedule_of h)) here asked) found.2.2.2 in
+    let answer = answered_well one again form.Replay (replayed_bytes t h) (task.Replay input (schedule_of h)) ao an bo bn status a given asked ok in
+    let report : IsReport (task.Replay input (schedule_of h)) a.text = answer.0 in
     let same : report.history ≡ h = history_again input.script h report.history replays report.run in
-    (ok, written.1 ∙ ap (append_known bo.held) (report.is ∙ ap (report_text input) same))
+    (ok, answer.1 ∙ ap (append_known bo.held) (report.is ∙ ap (report_text input) same))
+
+-- what was written, behind its script, is called legal
+pub called_legal : WordsHaveOneForm → CheckCallsItLegal
+called_legal one words again f so sn ao an ko kn bo bn status w form_of given few a memory write =
+    let t = w.task in
+    let h = w.history in
+    let input = input_of t in
+    let plain = task_plain f w.bytes t (form_within words (Ok f) form_of) w.read in
+    let own = run_of_input t h plain w.actual.is in
+    let settled : is_settled input.script h.turns (reverse h.events) ≡ true =
+    subst (λ (n : ℕ). is_settled input.script n (reverse h.events) ≡ true) (sym w.actual.turns) w.actual.settled in
+    let asked : task_of form.Check (checked_bytes t h) ≡ Ok (task.Check input h) = check_again input h (sound_task t plain) (a_run_has_a_report input h own) in
+    let comes = (causes one again ao an bo bn status a).ok form.Check (checked_bytes t h) (task.Check input h)
+    (record { given = given; few = few; task = asked }) in
+    let ok : status ≡ exit.Ok = comes.always (own.run, settled) memory write in
+    let answer = answered_well one again form.Check (checked_bytes t h) (task.Check input h) ao an bo bn status a given asked ok in
+    (ok, answer.1 ∙ ap (append_known bo.held) answer.0.1)

@@ -9,14 +9,15 @@ use Rattle.nt_outside.specs.Bytes.{IsLonger}
 use Rattle.nt_outside.specs.Counts.{Rose, counted, last_count}
 use Rattle.ntrun.specs.declared.status.Status.{Status}
 use Rattle.ntrun.specs.declared.status.Status.TheVariants as exit
-use Rattle.nt_core.specs.Replays.{Refused}
+use Rattle.nt_check.proofs.Verdicts.{one_verdict}
+use Rattle.nt_check.specs.declared.checking.Verdict.{Verdict}
+use Rattle.nt_check.specs.declared.checking.Verdict.TheVariants as verdict
 use Rattle.nt_words.specs.declared.form.Form.{Form}
-use Rattle.nt_words.specs.Forms.{IsForm, WordsHaveOneForm}
+use Rattle.nt_words.specs.Forms.{WordsHaveOneForm}
 use Rattle.nt_words.specs.Refusals.{IsNoForm}
-use Rattle.nt_event.specs.declared.events.History.{History}
 use Rattle.ntrun.specs.declared.task.Task.{Task}
 use Rattle.ntrun.specs.declared.task.Task.TheVariants as task
-use Rattle.ntrun.specs.Outcome.{Supply, Store, Gave, IsGiven, IsAsked, IsFound, IsFoundIn, IsReport, IsRunOf, IsWritten, IsAnswered, HasCause, refusal, refusal_of, refused_in, refused_turn}
+use Rattle.ntrun.specs.Outcome.{Supply, Store, Gave, GoesWell, GoesWrong, IsGiven, IsFound, IsFoundIn, IsWell, IsWritten, IsAnswered, HasCause, refusal, refusal_of, refused_in, refused_turn}
 use Rattle.ntrun.specs.Tasks.{Bad, task_of}
 
 -- the status is the one that was found, unless the sink failed
@@ -79,13 +80,14 @@ few_else words so sn exit.Read text f other = f.2.1
 few_else words so sn exit.Write text f other = absurd f.2.2.2
 few_else words so sn exit.Memory text f other = f.0
 few_else words so sn exit.TooLong text f other = absurd (other refl)
-few_else words so sn exit.Illegal text f other = absurd f.2.2.2
+few_else words so sn exit.Illegal text f other = let g = f.2.1 in rw g.taken (few_taken so.taken _ g.few)
 
 -- what is found in bytes, where the words are this form and nothing failed
 abbrev Which : Form → List ℕ → Status → Type 0
-Which form bytes exit.Ok = (length bytes ≤ INPUT_LIMIT) × ((t : Task) × (task_of form bytes ≡ Ok t) × (refused_turn t ≡ None))
+Which form bytes exit.Ok = (length bytes ≤ INPUT_LIMIT) × ((t : Task) × (task_of form bytes ≡ Ok t) × GoesWell t)
 Which form bytes exit.Script = (length bytes ≤ INPUT_LIMIT) × IsSome (refusal form bytes)
 Which form bytes exit.Schedule = (length bytes ≤ INPUT_LIMIT) × ((t : Task) × (task_of form bytes ≡ Ok t) × IsSome (refused_turn t))
+Which form bytes exit.Illegal = (length bytes ≤ INPUT_LIMIT) × ((t : Task) × (task_of form bytes ≡ Ok t) × GoesWrong t)
 Which form bytes exit.TooLong = INPUT_LIMIT < length bytes
 Which form bytes exit.Memory = Unit {0}
 Which form bytes _ = ⊥
@@ -108,14 +110,36 @@ same_task form bytes t u a b = go (sym a ∙ b)
     go : ◌≡◌ {A = Result Task Bad} (Ok t) (Ok u) → t ≡ u
     go e = cc
 
--- a task with a history has no refused turn
-pub none_refused : (t : Task) (h : History) → IsRunOf t h → refused_turn t ≡ None
-none_refused (task.Run input turns) h r = refl
-none_refused (task.Replay input schedule) h r = ap refused_in r.run
+-- a task that is done well goes well
+goes_well : (t : Task) (text : List ℕ) → IsWell t text → GoesWell t
+goes_well (task.Run input turns) text w = tt
+goes_well (task.Replay input schedule) text w = ap refused_in w.run.run
+goes_well (task.Check input history) text w = w.0
+
+-- and then none of its turns is refused, and its history goes wrong nowhere
+well_refused : (t : Task) → GoesWell t → IsSome (refused_turn t) → ⊥
+well_refused (task.Run input turns) w some = false≢true some
+well_refused (task.Replay input schedule) w some = is_none_not w some
+well_refused (task.Check input history) w some = false≢true some
+
+wrong_refused : (t : Task) → GoesWrong t → IsSome (refused_turn t) → ⊥
+wrong_refused (task.Run input turns) w some = w.1
+wrong_refused (task.Replay input schedule) w some = w.1
+wrong_refused (task.Check input history) w some = false≢true some
+
+well_wrong : (t : Task) → GoesWell t → GoesWrong t → ⊥
+well_wrong (task.Run input turns) w v = v.1
+well_wrong (task.Replay input schedule) w v = v.1
+well_wrong (task.Check input history) w v =
+    let one = one_verdict input.script history.turns history.events in
+    go (one.1.1 verdict.Legal w ∙ sym (one.1.1 (verdict.IllegalAt v.0) v.1))
+  where
+    go : ◌≡◌ {A = Verdict} verdict.Legal (verdict.IllegalAt v.0) → ⊥
+    go e = cc
 
 which_in : (form : Form) (bytes : List ℕ) (found : Status) (text : List ℕ) → length bytes ≤ INPUT_LIMIT → IsFoundIn form bytes found text →
     Which form bytes found
-which_in form bytes exit.Ok text few f = (few, (f.0, f.1, none_refused f.0 f.2.history f.2.run))
+which_in form bytes exit.Ok text few f = (few, (f.0, f.1, goes_well f.0 text f.2))
 which_in form bytes exit.Usage text few f = absurd f.2
 which_in form bytes exit.Script text few f = (few, is_some_of (refusal form bytes) f.0 f.1)
 which_in form bytes exit.Schedule text few f = (few, (f.0, f.1, is_some_of (refused_turn f.0) f.2.0 f.2.1))
@@ -123,7 +147,7 @@ which_in form bytes exit.Read text few f = absurd f.2
 which_in form bytes exit.Write text few f = absurd f.2
 which_in form bytes exit.Memory text few f = tt
 which_in form bytes exit.TooLong text few f = absurd f.2
-which_in form bytes exit.Illegal text few f = absurd f.2
+which_in form bytes exit.Illegal text few f = (few, (f.0, f.1, (f.2.0, f.2.1)))
 
 -- the same of the form that was given and the bytes that were told
 moved : (f g : Form) (a b : List ℕ) (found : Status) → f ≡ g → a ≡ b → Which f a found → Which g b found
@@ -142,7 +166,8 @@ which one words so sn form bytes exit.Read text s f = absurd (s.no_fault f.2.0)
 which one words so sn form bytes exit.Write text s f = absurd f.2.2.2
 which one words so sn form bytes exit.Memory text s f = tt
 which one words so sn form bytes exit.TooLong text s f = longer so.left bytes s.left f.2.0
-which one words so sn form bytes exit.Illegal text s f = absurd f.2.2.2
+which one words so sn form bytes exit.Illegal text s f = moved f.0 form f.2.0 bytes exit.Illegal (one words f.0 form f.1 s.form)
+    (gave_told f.2.0 bytes so sn f.2.1 s.left) (which_in f.0 f.2.0 exit.Illegal text f.2.1.few f.2.2)
 
 which_long : (form : Form) (bytes : List ℕ) (found : Status) → Which form bytes found → INPUT_LIMIT < length bytes → found ≢ exit.Memory →
     found ≡ exit.TooLong
@@ -154,7 +179,7 @@ which_long form bytes exit.Read w long other = absurd w
 which_long form bytes exit.Write w long other = absurd w
 which_long form bytes exit.Memory w long other = absurd (other refl)
 which_long form bytes exit.TooLong w long other = refl
-which_long form bytes exit.Illegal w long other = absurd w
+which_long form bytes exit.Illegal w long other = let few = w.0 in absurd (omega (arith, few, long))
 
 which_refused : (form : Form) (bytes : List ℕ) (found : Status) → Which form bytes found → length bytes ≤ INPUT_LIMIT → IsSome (refusal form bytes) →
     found ≢ exit.Memory → found ≡ exit.Script
@@ -166,45 +191,40 @@ which_refused form bytes exit.Read w few bad other = absurd w
 which_refused form bytes exit.Write w few bad other = absurd w
 which_refused form bytes exit.Memory w few bad other = absurd (other refl)
 which_refused form bytes exit.TooLong w few bad other = absurd (omega (arith, w, few))
-which_refused form bytes exit.Illegal w few bad other = absurd w
+which_refused form bytes exit.Illegal w few bad other = absurd (is_none_not (not_refused form bytes w.1.0 w.1.1) bad)
 
--- where the bytes are a task, its turns tell the status
-abbrev turns_tell : Option Refused → Status → Type 0
-turns_tell None found = found ≡ exit.Ok
-turns_tell (Some r) found = found ≡ exit.Schedule
+-- where the bytes are a task, it tells the status
+record Tells (t : Task) (found : Status) : Type 0 where
+  well : GoesWell t → found ≡ exit.Ok
+  refused : IsSome (refused_turn t) → found ≡ exit.Schedule
+  wrong : GoesWrong t → found ≡ exit.Illegal
 
-which_done : (form : Form) (bytes : List ℕ) (t : Task) (found : Status) → Which form bytes found → length bytes ≤ INPUT_LIMIT → task_of form bytes
-    ≡ Ok t → found ≢ exit.Memory → turns_tell (refused_turn t) found
-which_done form bytes t exit.Ok w few e other =
-    let none : refused_turn t ≡ None = subst (λ (u : Task). refused_turn u ≡ None) (same_task form bytes w.1.0 t w.1.1 e) w.1.2 in
-    subst (λ (o : Option Refused). turns_tell o exit.Ok) (sym none) refl
-which_done form bytes t exit.Usage w few e other = absurd w
-which_done form bytes t exit.Script w few e other = absurd (is_none_not (not_refused form bytes t e) w.1)
-which_done form bytes t exit.Schedule w few e other =
-    go (refused_turn t) (subst (λ (u : Task). IsSome (refused_turn u)) (same_task form bytes w.1.0 t w.1.1 e) w.1.2)
-  where
-    go : (o : Option Refused) → IsSome o → turns_tell o exit.Schedule
-    go None some = absurd (false≢true some)
-    go (Some r) some = refl
-which_done form bytes t exit.Read w few e other = absurd w
-which_done form bytes t exit.Write w few e other = absurd w
-which_done form bytes t exit.Memory w few e other = absurd (other refl)
-which_done form bytes t exit.TooLong w few e other = absurd (omega (arith, w, few))
-which_done form bytes t exit.Illegal w few e other = absurd w
+which_tells : (form : Form) (bytes : List ℕ) (t : Task) (found : Status) → Which form bytes found → length bytes ≤ INPUT_LIMIT → task_of form bytes
+    ≡ Ok t → found ≢ exit.Memory → Tells t found
+which_tells form bytes t exit.Ok w few e other =
+    let well : GoesWell t = subst GoesWell (same_task form bytes w.1.0 t w.1.1 e) w.1.2 in
+    record { well = λ _. refl; refused = λ some. absurd (well_refused t well some); wrong = λ v. absurd (well_wrong t well v) }
+which_tells form bytes t exit.Usage w few e other = absurd w
+which_tells form bytes t exit.Script w few e other = absurd (is_none_not (not_refused form bytes t e) w.1)
+which_tells form bytes t exit.Schedule w few e other =
+    let some : IsSome (refused_turn t) = subst (λ (u : Task). IsSome (refused_turn u)) (same_task form bytes w.1.0 t w.1.1 e) w.1.2 in
+    record { well = λ k. absurd (well_refused t k some); refused = λ _. refl; wrong = λ v. absurd (wrong_refused t v some) }
+which_tells form bytes t exit.Read w few e other = absurd w
+which_tells form bytes t exit.Write w few e other = absurd w
+which_tells form bytes t exit.Memory w few e other = absurd (other refl)
+which_tells form bytes t exit.TooLong w few e other = absurd (omega (arith, w, few))
+which_tells form bytes t exit.Illegal w few e other =
+    let wrong : GoesWrong t = subst GoesWrong (same_task form bytes w.1.0 t w.1.1 e) w.1.2 in
+    record { well = λ k. absurd (well_wrong t k wrong); refused = λ some. absurd (wrong_refused t wrong some); wrong = λ _. refl }
 
-told_schedule : (o : Option Refused) (found : Status) → IsSome o → turns_tell o found → found ≡ exit.Schedule
-told_schedule None found some t = absurd (false≢true some)
-told_schedule (Some r) found some t = t
-
-told_ok : (o : Option Refused) (found : Status) → o ≡ None → turns_tell o found → found ≡ exit.Ok
-told_ok None found none t = t
-told_ok (Some r) found none t = cc
-
-ok_tells : (form : Form) (bytes : List ℕ) (t : Task) → task_of form bytes ≡ Ok t → Which form bytes exit.Ok → refused_turn t ≡ None
-ok_tells form bytes t e w = subst (λ (u : Task). refused_turn u ≡ None) (same_task form bytes w.1.0 t w.1.1 e) w.1.2
+ok_tells : (form : Form) (bytes : List ℕ) (t : Task) → task_of form bytes ≡ Ok t → Which form bytes exit.Ok → GoesWell t
+ok_tells form bytes t e w = subst GoesWell (same_task form bytes w.1.0 t w.1.1 e) w.1.2
 
 schedule_tells : (form : Form) (bytes : List ℕ) (t : Task) → task_of form bytes ≡ Ok t → Which form bytes exit.Schedule → IsSome (refused_turn t)
 schedule_tells form bytes t e w = subst (λ (u : Task). IsSome (refused_turn u)) (same_task form bytes w.1.0 t w.1.1 e) w.1.2
+
+illegal_tells : (form : Form) (bytes : List ℕ) (t : Task) → task_of form bytes ≡ Ok t → Which form bytes exit.Illegal → GoesWrong t
+illegal_tells form bytes t e w = subst GoesWrong (same_task form bytes w.1.0 t w.1.1 e) w.1.2
 
 -- ---- all causes
 
@@ -234,15 +254,20 @@ causes one words so sn ko kn status a =
       schedule = λ form bytes t s. record {
         only = λ e. let found = at exit.Schedule (λ w. cc) e in
             schedule_tells form bytes t s.task (which one words so sn form bytes exit.Schedule found.0 s.given found.1);
-        always = λ bad memory write. same write ∙ told_schedule (refused_turn t) a.found bad
-            (which_done form bytes t a.found (which_now form bytes s.given) s.few s.task (λ e. memory (same write ∙ e)));
+        always = λ bad memory write. same write
+            ∙ (which_tells form bytes t a.found (which_now form bytes s.given) s.few s.task (λ e. memory (same write ∙ e))).refused bad;
+      };
+      illegal = λ form bytes t s. record {
+        only = λ e. let found = at exit.Illegal (λ w. cc) e in
+            illegal_tells form bytes t s.task (which one words so sn form bytes exit.Illegal found.0 s.given found.1);
+        always = λ wrong memory write. same write
+            ∙ (which_tells form bytes t a.found (which_now form bytes s.given) s.few s.task (λ e. memory (same write ∙ e))).wrong wrong;
       };
       ok = λ form bytes t s. record {
         only = λ e. let found = at exit.Ok (λ w. cc) e in
             ok_tells form bytes t s.task (which one words so sn form bytes exit.Ok found.0 s.given found.1);
-        always = λ none memory write. same write ∙ told_ok (refused_turn t) a.found none
-            (which_done form bytes t a.found (which_now form bytes s.given) s.few s.task (λ e. memory (same write ∙ e)));
+        always = λ well memory write. same write
+            ∙ (which_tells form bytes t a.found (which_now form bytes s.given) s.few s.task (λ e. memory (same write ∙ e))).well well;
       };
       write = λ e. faulted status a.found a.text ko kn a.written e;
-      never_illegal = λ e. (at exit.Illegal (λ w. cc) e).1.2.2.2;
     }

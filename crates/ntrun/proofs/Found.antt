@@ -1,14 +1,21 @@
 -- What is found in the bytes of an input, from what each part of the call answers.
-use Rattle.std.proofs.Common.{◌≡◌, ◌∙◌, ℕ, List, Option, Some, None, Result, Ok, Err, ap}
+use Rattle.std.proofs.Common.{◌≡◌, ℕ, List, Some, Result, Ok, Err, ap, refl, subst, sym}
+use Rattle.std.specs.Prelude.{IfOk}
+use Rattle.nt_core.specs.declared.refusals.ScheduleRefusal.{ScheduleRefusal}
+use Rattle.nt_core.specs.declared.refusals.ScheduleRefusal.TheVariants.{Bad, NoMemory}
 use Rattle.nt_core.specs.Replays.{Refused}
 use Rattle.nt_event.specs.declared.events.History.{History}
+use Rattle.nt_event.specs.declared.events.ScheduleKind.{ScheduleKind}
+use Rattle.nt_print.specs.Report.{report_text}
+use Rattle.nt_script.specs.declared.walk.Input.{Input}
 use Rattle.nt_text.specs.declared.kind.ScriptKind.{ScriptKind}
 use Rattle.nt_words.specs.declared.form.Form.{Form}
 use Rattle.ntrun.specs.declared.status.Status.{Status}
 use Rattle.ntrun.specs.declared.status.Status.TheVariants as exit
 use Rattle.ntrun.specs.declared.task.Task.{Task}
-use Rattle.ntrun.specs.Answer.{IsReported, IsTurnRefused}
-use Rattle.ntrun.specs.Outcome.{refusal, refusal_of, refused_turn, IsDone, IsFoundIn, IsRefused, IsRunOf}
+use Rattle.ntrun.specs.declared.task.Task.TheVariants as task
+use Rattle.ntrun.specs.Answer.{IsIllegalLine, IsMade, IsReported, IsTurnRefused}
+use Rattle.ntrun.specs.Outcome.{refusal, refusal_of, refused_turn, IsDone, IsFoundIn, IsIllegal, IsRefused, IsRunOf, IsWell}
 use Rattle.ntrun.specs.Tasks.{input_of, task_of}
 
 -- a line is refused
@@ -40,11 +47,16 @@ done_in form bytes t exit.Read text read h = absurd h
 done_in form bytes t exit.Write text read h = absurd h
 done_in form bytes t exit.Memory text read h = h
 done_in form bytes t exit.TooLong text read h = absurd h
-done_in form bytes t exit.Illegal text read h = absurd h
+done_in form bytes t exit.Illegal text read h = (t, read, h)
+
+well_of : (t : Task) (h : History) (text : List ℕ) → IsRunOf t h → text ≡ report_text (input_of t) h → IsWell t text
+well_of (task.Run input turns) h text r k = record { history = h; run = r; is = k }
+well_of (task.Replay input schedule) h text r k = record { history = h; run = r; is = k }
+well_of (task.Check input history) h text r k = absurd r
 
 -- the history of a task is reported
 pub reported_done : (t : Task) (h : History) (status : Status) (text : List ℕ) → IsRunOf t h → IsReported (input_of t) h status text → IsDone t status text
-reported_done t h exit.Ok text r k = record { history = h; run = r; is = k }
+reported_done t h exit.Ok text r k = well_of t h text r k
 reported_done t h exit.Usage text r k = absurd k
 reported_done t h exit.Script text r k = absurd k
 reported_done t h exit.Schedule text r k = absurd k
@@ -65,3 +77,24 @@ turn_done t r exit.Write text e k = absurd k
 turn_done t r exit.Memory text e k = k
 turn_done t r exit.TooLong text e k = absurd k
 turn_done t r exit.Illegal text e k = absurd k
+
+-- a history was made for the task, or its turns are refused
+pub made_done : (t : Task) (r : Result History ScheduleRefusal) (status : Status) (text : List ℕ) → IfOk r (IsRunOf t) →
+    ((at : ℕ) (kind : ScheduleKind) → r ≡ Err (Bad at kind) → refused_turn t ≡ Some (record { at = at; kind = kind })) →
+    IsMade (input_of t) r status text → IsDone t status text
+made_done t (Ok h) status text ok err m = reported_done t h status text ok m
+made_done t (Err (Bad at kind)) status text ok err m = turn_done t (record { at = at; kind = kind }) status text (err at kind refl) m
+made_done t (Err NoMemory) status text ok err m = subst (λ (s : Status). IsDone t s text) (sym m.0) m.1
+
+-- a history goes wrong at this number
+pub illegal_done : (input : Input) (h : History) (n : ℕ) (status : Status) (text : List ℕ) → IsIllegal (task.Check input h) n →
+    IsIllegalLine n status text → IsDone (task.Check input h) status text
+illegal_done input h n exit.Ok text v k = absurd k
+illegal_done input h n exit.Usage text v k = absurd k
+illegal_done input h n exit.Script text v k = absurd k
+illegal_done input h n exit.Schedule text v k = absurd k
+illegal_done input h n exit.Read text v k = absurd k
+illegal_done input h n exit.Write text v k = absurd k
+illegal_done input h n exit.Memory text v k = k
+illegal_done input h n exit.TooLong text v k = absurd k
+illegal_done input h n exit.Illegal text v k = (n, v, k)

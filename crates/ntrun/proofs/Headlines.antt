@@ -21,14 +21,19 @@ use Rattle.nt_ranges.proofs.Cuts.{cut_lines_name_the_cut}
 use Rattle.nt_ranges.proofs.Programs.{one_report_one_history}
 use Rattle.nt_readings.proofs.OneFate.{each_insert_has_one_fate, waiting_are_the_pending}
 use Rattle.nt_words.proofs.Answered.{form_within}
-use Rattle.nt_words.specs.Forms.{IsForm}
+use Rattle.nt_words.specs.Commands.{is_built}
+use Rattle.nt_words.specs.declared.form.Form.{Form}
+use Rattle.nt_words.specs.declared.form.Form.TheVariants as form
+use Rattle.nt_words.specs.Forms.{IsWithin, command_of}
 use Rattle.ntrun.specs.declared.status.Status.{Status}
 use Rattle.ntrun.specs.declared.status.Status.TheVariants as exit
 use Rattle.ntrun.specs.declared.task.Task.{Task}
-use Rattle.ntrun.specs.Headline.{AllDue, Headline, IsActual, IsUncut, NothingIsLeft}
-use Rattle.ntrun.specs.Outcome.{IsFound, IsRunOf}
-use Rattle.ntrun.specs.Tasks.{input_of, limit_of}
+use Rattle.ntrun.specs.declared.task.Task.TheVariants as task
+use Rattle.ntrun.specs.Headline.{AllDue, HasWritten, Headline, IsActual, IsUncut, IsWhole, IsWholeCheck, NothingIsLeft}
+use Rattle.ntrun.specs.Outcome.{Gave, IsFound, IsRunOf, IsWell, Store, Supply}
+use Rattle.ntrun.specs.Tasks.{input_of, limit_of, task_of}
 use Rattle.ntrun.proofs.Done.{run_of}
+use Rattle.ntrun.proofs.Tasked.{IsCheck, IsNoCheck, check_is_one, replay_is_no_check, run_is_no_check}
 use Rattle.ntrun.proofs.Plain.{IsPlainTask, run_of_input, sound_task, task_plain}
 
 all_due : (s : Script) (limit : ℕ) (past : List Event) → fits s ≡ true → IsRun s limit past → AllDue s past
@@ -70,20 +75,58 @@ actual t h p i =
       one = λ g k e. one_report_one_history (input_of t) h g own k e;
     }
 
+-- what is written by each form
+whole : (f : Form) (so sn : Supply) (ko kn : Store) (bytes text : List ℕ) (t : Task) (h : History) → IsWithin f → Gave bytes so sn → task_of f bytes ≡ Ok t →
+    IsRunOf t h → text ≡ report_text (input_of t) h → kn.held ≡ append_known ko.held text → IsWhole f so sn ko kn
+whole f so sn ko kn bytes text t h within gave read run is added = record {
+  bytes = bytes;
+  gave = gave;
+  task = t;
+  read = read;
+  history = h;
+  actual = actual t h (task_plain f bytes t within read) run;
+  written = subst (λ (x : List ℕ). kn.held ≡ append_known ko.held x) is added;
+}
+
+-- a form that reports has no task of a check, and `check` no other
+reported : (f : Form) (so sn : Supply) (ko kn : Store) (bytes text : List ℕ) (t : Task) → IsWithin f → Gave bytes so sn → task_of f bytes ≡ Ok t →
+    IsWell t text → kn.held ≡ append_known ko.held text → IsNoCheck t → IsWhole f so sn ko kn
+reported f so sn ko kn bytes text (task.Run input turns) within gave read w added n =
+    whole f so sn ko kn bytes text (task.Run input turns) w.history within gave read w.run w.is added
+reported f so sn ko kn bytes text (task.Replay input schedule) within gave read w added n =
+    whole f so sn ko kn bytes text (task.Replay input schedule) w.history within gave read w.run w.is added
+reported f so sn ko kn bytes text (task.Check input history) within gave read w added n = absurd n
+
+checked : (so sn : Supply) (ko kn : Store) (bytes text : List ℕ) (t : Task) → Gave bytes so sn → task_of form.Check bytes ≡ Ok t → IsWell t text →
+    kn.held ≡ append_known ko.held text → IsCheck t → IsWholeCheck so sn ko kn
+checked so sn ko kn bytes text (task.Run input turns) gave read w added n = absurd n
+checked so sn ko kn bytes text (task.Replay input schedule) gave read w added n = absurd n
+checked so sn ko kn bytes text (task.Check input history) gave read w added n = record {
+  bytes = bytes;
+  gave = gave;
+  input = input;
+  history = history;
+  read = read;
+  run = w.0.0;
+  settled = w.0.1;
+  written = subst (λ (x : List ℕ). kn.held ≡ append_known ko.held x) w.1 added;
+}
+
+written_by : (f : Form) (so sn : Supply) (ko kn : Store) (bytes text : List ℕ) (t : Task) → is_built (command_of f) ≡ true → IsWithin f → Gave bytes so sn →
+    task_of f bytes ≡ Ok t → IsWell t text → kn.held ≡ append_known ko.held text → HasWritten f so sn ko kn
+written_by (form.Run turns) so sn ko kn bytes text t built within gave read w added =
+    reported (form.Run turns) so sn ko kn bytes text t within gave read w added (run_is_no_check turns bytes t read)
+written_by form.Replay so sn ko kn bytes text t built within gave read w added =
+    reported form.Replay so sn ko kn bytes text t within gave read w added (replay_is_no_check bytes t read)
+written_by form.Check so sn ko kn bytes text t built within gave read w added = checked so sn ko kn bytes text t gave read w added (check_is_one bytes t read)
+written_by (form.Live turns) so sn ko kn bytes text t built within gave read w added = cc
+written_by (form.Load seed turns) so sn ko kn bytes text t built within gave read w added = cc
+
 pub headline : Headline
 headline words so sn ko kn a =
     let found : IsFound words so sn exit.Ok a.text = subst (λ (s : Status). IsFound words so sn s a.text) (sym a.written.0) a.cause in
-    let answer = found.2.2 in
-    let plain = task_plain found.0 found.2.0 answer.0 (form_within words (Ok found.0) found.1) answer.1 in (
+    let answer = found.2.2 in (
       found.0,
       found.1,
-      record {
-        bytes = found.2.0;
-        gave = found.2.1;
-        task = answer.0;
-        read = answer.1;
-        history = answer.2.history;
-        actual = actual answer.0 answer.2.history plain answer.2.run;
-        written = subst (λ (text : List ℕ). kn.held ≡ append_known ko.held text) answer.2.is a.written.1;
-      },
+      written_by found.0 so sn ko kn found.2.0 a.text answer.0 found.1.built (form_within words (Ok found.0) found.1) found.2.1 answer.1 answer.2 a.written.1,
     )

@@ -5,4 +5,5 @@ mod Found
 mod Headlines
 mod Plain
 mod Splits
+mod Tasked
 mod Written

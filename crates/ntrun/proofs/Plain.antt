@@ -1,9 +1,8 @@
 -- A task that was read is one of a sound input, and its history is one that a report may have.
-use Rattle.std.proofs.Common.{◌≡◌, ◌∙◌, ℕ, ◌≤◌, List, Option, Some, None, Result, Ok, Err, ap, arith, refl, subst, sym}
-use Rattle.std.specs.Prelude.{drop, map, reverse, take, true}
+use Rattle.std.proofs.Common.{◌≡◌, ◌∙◌, ℕ, List, Option, Some, None, Result, Ok, Err, ap, arith, refl, subst, sym}
+use Rattle.std.specs.Prelude.{drop, map, reverse, take}
 use Rattle.std.proofs.lemmas.List.{reverse-reverse}
 use Rattle.nt_core.proofs.Replaying.{replays_run}
-use Rattle.nt_event.specs.declared.events.Event.{Event}
 use Rattle.nt_event.specs.declared.events.History.{History}
 use Rattle.nt_event.specs.declared.events.Turn.{Turn}
 use Rattle.nt_event.specs.declared.limits.TheConstants.{CPUS}
@@ -13,8 +12,11 @@ use Rattle.nt_log.specs.declared.schedules.Schedule.{Schedule}
 use Rattle.nt_log.specs.Reading.{reading as schedule_reading}
 use Rattle.nt_log.specs.Schedules.{IsPlain, schedule_of}
 use Rattle.nt_log.proofs.Both.{walk_takes}
+use Rattle.nt_print.specs.Conditions.{IsPlain as HistoryIsPlain}
 use Rattle.nt_ranges.proofs.Programs.{a_replay_is_one, a_robin_run_is_one}
 use Rattle.nt_ranges.specs.Plain.{IsRunOf as IsRunOfInput}
+use Rattle.nt_report.proofs.Contract.{reading_is_report}
+use Rattle.nt_report.specs.Reading.{reading as report_reading}
 use Rattle.nt_script.specs.declared.walk.Input.{Input}
 use Rattle.nt_script.specs.Reading.{reading}
 use Rattle.nt_script.specs.Sound.{IsSound}
@@ -24,19 +26,23 @@ use Rattle.nt_text.specs.Lines.{lines}
 use Rattle.nt_words.specs.declared.form.Form.{Form}
 use Rattle.nt_words.specs.declared.form.Form.TheVariants as form
 use Rattle.nt_words.specs.Forms.{IsTurns, IsWithin}
+use Rattle.ntrun.specs.declared.task.Tail.{Tail}
+use Rattle.ntrun.specs.declared.task.Tail.TheVariants as tail
 use Rattle.ntrun.specs.declared.task.Task.{Task}
 use Rattle.ntrun.specs.declared.task.Task.TheVariants as task
 use Rattle.ntrun.specs.Outcome.{IsRunOf}
-use Rattle.ntrun.specs.Tasks.{Bad, and_then, behind, input_of, last_line, replay_task, run_task, schedule_task, schedule_word, task_of}
+use Rattle.ntrun.specs.Tasks.{Bad, and_then, behind, input_of, last_line, report_task, run_task, schedule_task, tail_task, tail_word, task_of, two_parts}
 
 -- what holds of a task that was read
 abbrev pub IsPlainTask : Task → Type 0
 IsPlainTask (task.Run input turns) = IsSound input × IsTurns turns
 IsPlainTask (task.Replay input schedule) = IsSound input × IsPlain input.script schedule
+IsPlainTask (task.Check input history) = IsSound input × HistoryIsPlain input.script history
 
 pub sound_task : (t : Task) → IsPlainTask t → IsSound (input_of t)
 sound_task (task.Run input turns) p = p.0
 sound_task (task.Replay input schedule) p = p.0
+sound_task (task.Check input history) p = p.0
 
 run_plain : (turns : ℕ) (bytes : List ℕ) (t : Task) → IsTurns turns → run_task turns bytes ≡ Ok t → IsPlainTask t
 run_plain turns bytes t w e = go (reading bytes) refl e
@@ -55,23 +61,36 @@ schedule_plain input line rest t sound e = go (schedule_reading CPUS input.names
         let same : task.Replay input schedule ≡ t = cc in
         subst IsPlainTask same (sound, (walk_takes CPUS line input (lines rest) schedule (omega arith) sound is).1)
 
-replay_plain : (split : Option (ℕ × ℕ)) (bytes : List ℕ) (t : Task) → replay_task split bytes ≡ Ok t → IsPlainTask t
-replay_plain None bytes t e = go (reading bytes) e
+report_plain : (input : Input) (line : ℕ) (rest : List ℕ) (t : Task) → IsSound input → report_task input line rest ≡ Ok t → IsPlainTask t
+report_plain input line rest t sound e = go (report_reading input line rest) refl e
+  where
+    go : (r : Result History Bad) → report_reading input line rest ≡ r → and_then r (λ h. Ok (task.Check input h)) ≡ Ok t → IsPlainTask t
+    go (Err bad) is h = cc
+    go (Ok history) is h =
+        let same : task.Check input history ≡ t = cc in
+        subst IsPlainTask same (sound, (reading_is_report input sound line rest history is).plain)
+
+tail_plain : (k : Tail) (input : Input) (line : ℕ) (rest : List ℕ) (t : Task) → IsSound input → tail_task k input line rest ≡ Ok t → IsPlainTask t
+tail_plain tail.Schedule input line rest t sound e = schedule_plain input line rest t sound e
+tail_plain tail.Report input line rest t sound e = report_plain input line rest t sound e
+
+parts_plain : (k : Tail) (split : Option (ℕ × ℕ)) (bytes : List ℕ) (t : Task) → two_parts k split bytes ≡ Ok t → IsPlainTask t
+parts_plain k None bytes t e = go (reading bytes) e
   where
     go : (r : Result Input Bad) → and_then r (λ input. Err (last_line bytes, NoEnd)) ≡ Ok t → IsPlainTask t
     go (Err bad) h = cc
     go (Ok input) h = cc
-replay_plain (Some (at, line)) bytes t e = go (reading (take at bytes)) refl e
+parts_plain k (Some (at, line)) bytes t e = go (reading (take at bytes)) refl e
   where
-    go : (r : Result Input Bad) → reading (take at bytes) ≡ r → and_then r (λ input. schedule_task input line (drop at bytes)) ≡ Ok t → IsPlainTask t
+    go : (r : Result Input Bad) → reading (take at bytes) ≡ r → and_then r (λ input. tail_task k input line (drop at bytes)) ≡ Ok t → IsPlainTask t
     go (Err bad) is h = cc
-    go (Ok input) is h = schedule_plain input line (drop at bytes) t (reading_is_text (take at bytes) input is).sound h
+    go (Ok input) is h = tail_plain k input line (drop at bytes) t (reading_is_text (take at bytes) input is).sound h
 
 pub task_plain : (f : Form) (bytes : List ℕ) (t : Task) → IsWithin f → task_of f bytes ≡ Ok t → IsPlainTask t
 task_plain (form.Run turns) bytes t w e = run_plain turns bytes t w e
-task_plain form.Replay bytes t w e = replay_plain (behind schedule_word bytes) bytes t e
+task_plain form.Replay bytes t w e = parts_plain tail.Schedule (behind (tail_word tail.Schedule) bytes) bytes t e
+task_plain form.Check bytes t w e = parts_plain tail.Report (behind (tail_word tail.Report) bytes) bytes t e
 task_plain (form.Live turns) bytes t w e = cc
-task_plain form.Check bytes t w e = cc
 task_plain (form.Load seed turns) bytes t w e = cc
 
 -- ---- its history
@@ -93,3 +112,4 @@ run_of_input (task.Replay input schedule) h p r =
     let i = replays_run input.script schedule.turns schedule.list (reverse h.events) r.run in
     a_replay_is_one input h p.0 (subst (λ (n : ℕ). IsRun input.script n (reverse h.events)) (sym r.turns) i.run)
     (subst (λ (s : Schedule). IsPlain input.script s) (schedule_same h schedule r.turns i.turns_are) p.1)
+run_of_input (task.Check input history) h p r = absurd r

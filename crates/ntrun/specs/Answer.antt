@@ -1,7 +1,6 @@
 -- What the parts of a call answer.
-use Rattle.std.specs.Prelude.{◌≡◌, ℕ, List}
+use Rattle.std.specs.Prelude.{◌≡◌, ℕ, Err, List, Ok, Result}
 use Rattle.nt_event.specs.declared.events.History.{History}
-use Rattle.nt_core.specs.Refusals.{IsReplayRefused}
 use Rattle.nt_core.specs.Replays.{Refused}
 use Rattle.nt_core.specs.declared.refusals.ScheduleRefusal.{ScheduleRefusal}
 use Rattle.nt_core.specs.declared.refusals.ScheduleRefusal.TheVariants.{Bad, NoMemory}
@@ -11,9 +10,7 @@ use Rattle.ntrun.specs.declared.answer.Text.{Text}
 use Rattle.ntrun.specs.declared.answer.Text.TheVariants.{Line, Made}
 use Rattle.ntrun.specs.declared.status.Status.{Status}
 use Rattle.ntrun.specs.declared.status.Status.TheVariants as exit
-use Rattle.ntrun.specs.declared.task.Task.{Task}
-use Rattle.ntrun.specs.declared.task.Task.TheVariants as task
-use Rattle.ntrun.specs.Outcome.{memory_line, turn_line}
+use Rattle.ntrun.specs.Outcome.{illegal_line, memory_line, turn_line}
 
 -- a text to be written
 abbrev pub text_of : Text → List ℕ
@@ -32,8 +29,14 @@ IsTurnRefused r exit.Schedule text = text ≡ turn_line r
 IsTurnRefused r exit.Memory text = text ≡ memory_line
 IsTurnRefused r _ text = ⊥
 
--- the turns of the task are refused so, or no memory was found; a robin run is refused for want of memory alone
-abbrev pub IsTaskRefused : Task → ScheduleRefusal → Type 0
-IsTaskRefused (task.Run input turns) (Bad at kind) = ⊥
-IsTaskRefused (task.Run input turns) NoMemory = Unit {0}
-IsTaskRefused (task.Replay input schedule) r = IsReplayRefused input.script schedule.turns schedule.list r
+-- the text of a history that was made, or of why it wasn't
+abbrev pub IsMade : Input → Result History ScheduleRefusal → Status → List ℕ → Type 0
+IsMade input (Ok h) status text = IsReported input h status text
+IsMade input (Err (Bad at kind)) status text = IsTurnRefused (record { at = at; kind = kind }) status text
+IsMade input (Err NoMemory) status text = (status ≡ exit.Memory) × (text ≡ memory_line)
+
+-- the line of the number at which a history goes wrong, or that of want of memory
+abbrev pub IsIllegalLine : ℕ → Status → List ℕ → Type 0
+IsIllegalLine n exit.Illegal text = text ≡ illegal_line n
+IsIllegalLine n exit.Memory text = text ≡ memory_line
+IsIllegalLine n _ text = ⊥

@@ -1,7 +1,7 @@
 -- The headline: what the report that is written promises, and that replaying its schedule writes it again.
 use Rattle.std.specs.Io.KnownBytes.{append_known}
 use Rattle.std.specs.List.{Contains}
-use Rattle.std.specs.Prelude.{List, None, Ok, Option, Some, [], codes, drop, false, if◌then◌else◌, length, nat_lt, reverse, true, ℕ, ◌++◌, ◌∷◌, ◌≡◌, ◌≢◌, ◌≤◌, ◌↔◌}
+use Rattle.std.specs.Prelude.{List, None, Ok, Option, Some, [], drop, false, if◌then◌else◌, length, nat_lt, reverse, true, ℕ, ◌++◌, ◌∷◌, ◌≡◌, ◌≢◌, ◌≤◌, ◌↔◌}
 use Rattle.nt_close.specs.Close.{is_stopped}
 use Rattle.nt_event.specs.declared.events.Event.{Event}
 use Rattle.nt_event.specs.declared.events.History.{History}
@@ -25,6 +25,7 @@ use Rattle.nt_laws.specs.Objects.{HoldsOfEveryObject}
 use Rattle.nt_print.specs.Report.{cut_of, cut_row, report_text}
 use Rattle.nt_ranges.specs.Plain.{IsRunOf as IsRunOfInput}
 use Rattle.nt_readings.specs.Fates.{HasOneFate, IsInsert, IsPending}
+use Rattle.nt_script.specs.declared.walk.Input.{Input}
 use Rattle.nt_script.specs.Text.{text}
 use Rattle.nt_text.specs.declared.lines.TheConstants.{INPUT_LIMIT}
 use Rattle.nt_thread.specs.Quiet.{IsQuiet}
@@ -33,9 +34,11 @@ use Rattle.nt_words.specs.declared.form.Form.TheVariants as form
 use Rattle.nt_words.specs.Forms.{IsForm}
 use Rattle.ntrun.specs.declared.status.Status.{Status}
 use Rattle.ntrun.specs.declared.status.Status.TheVariants as exit
+use Rattle.ntrun.specs.declared.task.Tail.TheVariants as tail
 use Rattle.ntrun.specs.declared.task.Task.{Task}
-use Rattle.ntrun.specs.Outcome.{Gave, IsAnswered, IsGiven, IsRunOf, Store, Supply}
-use Rattle.ntrun.specs.Tasks.{behind, input_of, limit_of, schedule_word, task_of}
+use Rattle.ntrun.specs.declared.task.Task.TheVariants as task
+use Rattle.ntrun.specs.Outcome.{Gave, IsAnswered, IsGiven, IsRunOf, Store, Supply, legal_line}
+use Rattle.ntrun.specs.Tasks.{behind, input_of, limit_of, tail_word, task_of}
 
 -- ---- the actual history
 
@@ -96,10 +99,30 @@ pub record IsWhole (f : Form) (so sn : Supply) (ko kn : Store) : Type 0 where
   pub actual : IsActual task history
   pub written : kn.held ≡ append_known ko.held (report_text (input_of task) history)
 
--- what was written with status 0 is such a report
+-- the bytes that the source gave are a script and behind it the report of a settled run, and exactly the line of a legal
+-- history was added to the sink
+pub record IsWholeCheck (so sn : Supply) (ko kn : Store) : Type 0 where
+  pub bytes : List ℕ
+  pub gave : Gave bytes so sn
+  pub input : Input
+  pub history : History
+  pub read : task_of form.Check bytes ≡ Ok (task.Check input history)
+  pub run : IsRun input.script history.turns (reverse history.events)
+  pub settled : is_settled input.script history.turns (reverse history.events) ≡ true
+  pub written : kn.held ≡ append_known ko.held legal_line
+
+-- what a form has written with status 0. Words of a form that isn't built are no form.
+abbrev pub HasWritten : Form → Supply → Supply → Store → Store → Type 0
+HasWritten (form.Run turns) so sn ko kn = IsWhole (form.Run turns) so sn ko kn
+HasWritten form.Replay so sn ko kn = IsWhole form.Replay so sn ko kn
+HasWritten form.Check so sn ko kn = IsWholeCheck so sn ko kn
+HasWritten (form.Live turns) so sn ko kn = ⊥
+HasWritten (form.Load seed turns) so sn ko kn = ⊥
+
+-- what was written with status 0 is the report of the actual history, or that the history of a report is legal
 abbrev pub Headline : Type 0
 Headline = (words : List (List ℕ)) (so sn : Supply) (ko kn : Store) → IsAnswered words so sn ko kn exit.Ok →
-    (f : Form) × IsForm words f × IsWhole f so sn ko kn
+    (f : Form) × IsForm words f × HasWritten f so sn ko kn
 
 -- ---- replaying
 
@@ -109,7 +132,7 @@ part_from None bytes = []
 
 -- the schedule part of a report: from its first line on that begins with the word of a schedule
 abbrev pub schedule_part : List ℕ → List ℕ
-schedule_part report = part_from (behind schedule_word report) report
+schedule_part report = part_from (behind (tail_word tail.Schedule) report) report
 
 -- the script's text, and behind it the schedule part of a report
 abbrev pub replayed_bytes : Task → History → List ℕ
@@ -124,3 +147,19 @@ ReplayWritesTheSame = (words again : List (List ℕ)) (f : Form) (so sn ao an : 
     length (replayed_bytes w.task w.history) ≤ INPUT_LIMIT → IsAnswered again ao an bo bn status →
     status ≢ exit.Memory → status ≢ exit.Write →
     (status ≡ exit.Ok) × (bn.held ≡ append_known bo.held (report_text (input_of w.task) w.history))
+
+-- ---- checking
+
+-- the script's text, and behind it a report
+abbrev pub checked_bytes : Task → History → List ℕ
+checked_bytes t h = text (input_of t) ++ report_text (input_of t) h
+
+-- a report was written; the script's text with this report behind it, given to `check`, has status 0 and is called
+-- legal, where it has not too many bytes, memory is found and neither source nor sink fails
+abbrev pub CheckCallsItLegal : Type 0
+CheckCallsItLegal = (words again : List (List ℕ)) (f : Form) (so sn ao an : Supply) (ko kn bo bn : Store)
+    (status : Status) (w : IsWhole f so sn ko kn) → IsForm words f →
+    IsGiven again form.Check (checked_bytes w.task w.history) ao an →
+    length (checked_bytes w.task w.history) ≤ INPUT_LIMIT → IsAnswered again ao an bo bn status →
+    status ≢ exit.Memory → status ≢ exit.Write →
+    (status ≡ exit.Ok) × (bn.held ≡ append_known bo.held legal_line)

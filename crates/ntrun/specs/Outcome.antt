@@ -7,7 +7,10 @@ use Rattle.nt_event.specs.declared.scripts.Script.{Script}
 use Rattle.nt_event.specs.Numbered.{schedule_name, schedule_number}
 use Rattle.nt_event.specs.Robin.{IsRobin, is_settled}
 use Rattle.nt_event.specs.Step.{IsRun}
+use Rattle.nt_check.specs.declared.checking.Verdict.TheVariants as verdict
+use Rattle.nt_check.specs.Verdicts.{IsVerdict}
 use Rattle.nt_core.specs.Replays.{Refused, replayed}
+use Rattle.nt_script.specs.declared.walk.Input.{Input}
 use Rattle.nt_log.specs.declared.schedules.Schedule.{Schedule}
 use Rattle.nt_outside.specs.Bytes.{IsLonger, AddsFrontOf}
 use Rattle.nt_outside.specs.Counts.{counted, Rose, RoseBy}
@@ -80,6 +83,13 @@ abbrev pub turn_line : Refused → List ℕ
 turn_line r = codes "schedule turn "
     ++ (decimal r.at ++ (codes ": " ++ (decimal (schedule_number r.kind) ++ 32 ∷ (schedule_name r.kind ++ 10 ∷ []))))
 
+-- what is written of a history that is a settled run, and of one that goes wrong at this number
+abbrev pub legal_line : List ℕ
+legal_line = codes "legal\n"
+
+abbrev pub illegal_line : ℕ → List ℕ
+illegal_line n = codes "illegal at " ++ (decimal n ++ 10 ∷ [])
+
 -- ---- what is found in the bytes
 
 abbrev pub refusal_of : {A : Type 0} → Result A Bad → Option Bad
@@ -102,19 +112,21 @@ pub record IsReplayed (s : Script) (schedule : Schedule) (h : History) : Type 0 
   pub turns : h.turns ≡ schedule.turns
   pub run : replayed s schedule.turns schedule.list ≡ Ok (reverse h.events)
 
--- the history that the task asks for
+-- the history that the task asks for; a check asks for none
 abbrev pub IsRunOf : Task → History → Type 0
 IsRunOf (task.Run input turns) h = IsRobinRun input.script turns h
 IsRunOf (task.Replay input schedule) h = IsReplayed input.script schedule h
+IsRunOf (task.Check input history) h = ⊥
 
 abbrev pub refused_in : Result (List Event) Refused → Option Refused
 refused_in (Ok past) = None
 refused_in (Err r) = Some r
 
--- the turn at which the task's turns make no settled run, and why; a robin run has none
+-- the turn at which the task's turns make no settled run, and why; a robin run and a check have none
 abbrev pub refused_turn : Task → Option Refused
 refused_turn (task.Run input turns) = None
 refused_turn (task.Replay input schedule) = refused_in (replayed input.script schedule.turns schedule.list)
+refused_turn (task.Check input history) = None
 
 -- the text is the report of the task's history
 pub record IsReport (t : Task) (text : List ℕ) : Type 0 where
@@ -122,17 +134,33 @@ pub record IsReport (t : Task) (text : List ℕ) : Type 0 where
   pub run : IsRunOf t history
   pub is : text ≡ report_text (input_of t) history
 
+-- the history that is checked is a settled run of the script
+abbrev pub IsLegal : Input → History → Type 0
+IsLegal input h = IsVerdict input.script h.turns h.events verdict.Legal
+
+-- the number at which the history that is checked goes wrong; a run and a replay have none
+abbrev pub IsIllegal : Task → ℕ → Type 0
+IsIllegal (task.Check input history) n = IsVerdict input.script history.turns history.events (verdict.IllegalAt n)
+IsIllegal (task.Run input turns) n = ⊥
+IsIllegal (task.Replay input schedule) n = ⊥
+
+-- the task is done with this text: a report, or the line of a legal history
+abbrev pub IsWell : Task → List ℕ → Type 0
+IsWell (task.Run input turns) text = IsReport (task.Run input turns) text
+IsWell (task.Replay input schedule) text = IsReport (task.Replay input schedule) text
+IsWell (task.Check input history) text = IsLegal input history × (text ≡ legal_line)
+
 -- what is answered to a task, and its text
 abbrev pub IsDone : Task → Status → List ℕ → Type 0
-IsDone t exit.Ok text = IsReport t text
+IsDone t exit.Ok text = IsWell t text
 IsDone t exit.Schedule text = (r : Refused) × (refused_turn t ≡ Some r) × (text ≡ turn_line r)
+IsDone t exit.Illegal text = (n : ℕ) × IsIllegal t n × (text ≡ illegal_line n)
 IsDone t exit.Memory text = text ≡ memory_line
 IsDone t exit.Usage text = ⊥
 IsDone t exit.Script text = ⊥
 IsDone t exit.Read text = ⊥
 IsDone t exit.Write text = ⊥
 IsDone t exit.TooLong text = ⊥
-IsDone t exit.Illegal text = ⊥
 
 -- the bytes are refused at this line, or the text is that of want of memory
 abbrev pub IsRefused : ℕ → ScriptKind → Status → List ℕ → Type 0
@@ -196,6 +224,16 @@ pub record IsAsked (words : List (List ℕ)) (f : Form) (bytes : List ℕ) (t : 
   pub few : length bytes ≤ INPUT_LIMIT
   pub task : task_of f bytes ≡ Ok t
 
+-- the history that is checked goes wrong at some number
+abbrev pub GoesWrong : Task → Type 0
+GoesWrong t = (n : ℕ) × IsIllegal t n
+
+-- a script is run; the turns of a schedule make a settled run; the history that is checked is one
+abbrev pub GoesWell : Task → Type 0
+GoesWell (task.Run input turns) = Unit {0}
+GoesWell (task.Replay input schedule) = refused_turn (task.Replay input schedule) ≡ None
+GoesWell (task.Check input history) = IsLegal input history
+
 -- why each status comes
 pub record HasCause (words : List (List ℕ)) (source_old source_new : Supply) (sink_old sink_new : Store)
     (status : Status) : Type 0 where
@@ -211,8 +249,10 @@ pub record HasCause (words : List (List ℕ)) (source_old source_new : Supply) (
   -- the turns of a schedule make no settled run
   pub schedule : (form : Form) (bytes : List ℕ) (t : Task) → IsAsked words form bytes t source_old source_new →
       ComesExactly status exit.Schedule (IsSome (refused_turn t))
-  -- completeness: else the report is written
+  -- the history that is checked is no settled run
+  pub illegal : (form : Form) (bytes : List ℕ) (t : Task) → IsAsked words form bytes t source_old source_new →
+      ComesExactly status exit.Illegal (GoesWrong t)
+  -- completeness: else the report is written, or that the history is legal
   pub ok : (form : Form) (bytes : List ℕ) (t : Task) → IsAsked words form bytes t source_old source_new →
-      ComesExactly status exit.Ok (refused_turn t ≡ None)
+      ComesExactly status exit.Ok (GoesWell t)
   pub write : status ≡ exit.Write → Rose sink_old.faults sink_new.faults
-  pub never_illegal : status ≢ exit.Illegal

@@ -4,8 +4,8 @@ use Rattle.nt_event.specs.declared.limits.TheConstants.{CPUS}
 use Rattle.nt_text.specs.declared.kind.ScriptKind.{ScriptKind}
 use Rattle.nt_text.specs.declared.kind.ScriptKind.TheVariants.{NoCpus, NoEnd}
 use Rattle.nt_text.specs.Lines.{lines}
-use Rattle.nt_log.specs.declared.schedules.Schedule.{Schedule}
 use Rattle.nt_log.specs.Reading.{reading as schedule_reading}
+use Rattle.nt_report.specs.Reading.{reading as report_reading}
 use Rattle.nt_script.specs.declared.walk.Input.{Input}
 use Rattle.nt_script.specs.Reading.{reading}
 use Rattle.nt_script.specs.Sound.{IsSound}
@@ -13,6 +13,8 @@ use Rattle.nt_script.specs.Splitting.{split_from}
 use Rattle.nt_words.specs.declared.form.Form.{Form}
 use Rattle.nt_words.specs.declared.form.Form.TheVariants as form
 use Rattle.nt_words.specs.Forms.{IsTurns}
+use Rattle.ntrun.specs.declared.task.Tail.{Tail}
+use Rattle.ntrun.specs.declared.task.Tail.TheVariants as tail
 use Rattle.ntrun.specs.declared.task.Task.{Task}
 use Rattle.ntrun.specs.declared.task.Task.TheVariants as task
 
@@ -25,9 +27,10 @@ abbrev pub and_then : {A B : Type 0} → Result A Bad → (A → Result B Bad) �
 and_then (Ok x) more = more x
 and_then (Err bad) more = Err bad
 
--- the word that begins a schedule
-abbrev pub schedule_word : List ℕ
-schedule_word = codes "schedule"
+-- the word that begins what stands behind a script
+abbrev pub tail_word : Tail → List ℕ
+tail_word tail.Schedule = codes "schedule"
+tail_word tail.Report = codes "report"
 
 -- where the first line with this first field begins: how many bytes stand before it, and its number
 abbrev pub behind : List ℕ → List ℕ → Option (ℕ × ℕ)
@@ -42,12 +45,24 @@ abbrev pub schedule_task : Input → ℕ → List ℕ → Result Task Bad
 schedule_task input line rest = and_then (schedule_reading CPUS input.names line rest)
     (λ schedule. Ok (task.Replay input schedule))
 
--- a script, and a schedule that begins so many bytes behind it, with the line of this number. The script is tested
--- first. Where no schedule begins, its first line is missing behind the last one.
-abbrev pub replay_task : Option (ℕ × ℕ) → List ℕ → Result Task Bad
-replay_task (Some (at, line)) bytes = and_then (reading (take at bytes)) (λ input.
-    schedule_task input line (drop at bytes))
-replay_task None bytes = and_then (reading bytes) (λ input. Err (last_line bytes, NoEnd))
+-- a report behind this input
+abbrev pub report_task : Input → ℕ → List ℕ → Result Task Bad
+report_task input line rest = and_then (report_reading input line rest) (λ history. Ok (task.Check input history))
+
+abbrev pub tail_task : Tail → Input → ℕ → List ℕ → Result Task Bad
+tail_task tail.Schedule input line rest = schedule_task input line rest
+tail_task tail.Report input line rest = report_task input line rest
+
+-- a script, and what begins so many bytes behind it, with the line of this number. The script is tested first. Where
+-- nothing begins, its first line is missing behind the last one.
+abbrev pub two_parts : Tail → Option (ℕ × ℕ) → List ℕ → Result Task Bad
+two_parts t (Some (at, line)) bytes = and_then (reading (take at bytes)) (λ input.
+    tail_task t input line (drop at bytes))
+two_parts t None bytes = and_then (reading bytes) (λ input. Err (last_line bytes, NoEnd))
+
+-- a script, and behind it what begins with the word
+abbrev pub both_parts : Tail → List ℕ → Result Task Bad
+both_parts t bytes = two_parts t (behind (tail_word t) bytes) bytes
 
 -- a script alone
 abbrev pub run_task : ℕ → List ℕ → Result Task Bad
@@ -56,9 +71,9 @@ run_task turns bytes = and_then (reading bytes) (λ input. Ok (task.Run input tu
 -- what a form reads in the bytes. A form that isn't built reads nothing, and no words are one.
 abbrev pub task_of : Form → List ℕ → Result Task Bad
 task_of (form.Run turns) bytes = run_task turns bytes
-task_of form.Replay bytes = replay_task (behind schedule_word bytes) bytes
+task_of form.Replay bytes = both_parts tail.Schedule bytes
+task_of form.Check bytes = both_parts tail.Report bytes
 task_of (form.Live turns) bytes = Err (1, NoCpus)
-task_of form.Check bytes = Err (1, NoCpus)
 task_of (form.Load seed turns) bytes = Err (1, NoCpus)
 
 -- ---- what holds of a task
@@ -66,10 +81,12 @@ task_of (form.Load seed turns) bytes = Err (1, NoCpus)
 abbrev pub input_of : Task → Input
 input_of (task.Run input turns) = input
 input_of (task.Replay input schedule) = input
+input_of (task.Check input history) = input
 
 abbrev pub limit_of : Task → ℕ
 limit_of (task.Run input turns) = turns
 limit_of (task.Replay input schedule) = schedule.turns
+limit_of (task.Check input history) = history.turns
 
 -- what is read is sound, and its limit is in its range
 pub record IsSoundTask (t : Task) : Type 0 where

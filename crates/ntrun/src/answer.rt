@@ -1,17 +1,20 @@
 //! What a call finds out, with the text that is written for it.
 ghost use Rattle.std.specs.Prelude.{◌≡◌, ◌≤◌, true, length, IfErr, IfOk, string_bytes};
+ghost use Rattle.nt_core.specs.Refusals.{IsReplayRefused};
 ghost use Rattle.nt_event.specs.Fitting.{events_fit};
 ghost use Rattle.nt_script.specs.Sound.{IsSound};
 ghost use Rattle.nt_words.specs.Commands.{is_built};
-ghost use Rattle.nt_words.specs.Forms.{IsWithin, command_of};
-ghost use Rattle.ntrun.specs.Answer.{IsReported, IsTaskRefused, IsTurnRefused, text_of};
-ghost use Rattle.ntrun.specs.Outcome.{kind_text, script_line, memory_line, turn_line, IsDone, IsFoundIn, IsRefused, IsRunOf};
+ghost use Rattle.nt_words.specs.Forms.{IsTurns, IsWithin, command_of};
+ghost use Rattle.ntrun.specs.Answer.{IsIllegalLine, IsMade, IsReported, IsTurnRefused, text_of};
+ghost use Rattle.ntrun.specs.Outcome.{illegal_line, kind_text, legal_line, script_line, memory_line, turn_line, IsDone, IsFoundIn, IsRefused, IsReplayed, IsRobinRun};
 ghost use Rattle.ntrun.specs.Tasks.{IsSoundTask};
 
 use crate::status::Status;
 use crate::task::{Task, task_of};
+use nt_check::{Verdict, check};
 use nt_core::{ScheduleRefusal, replay, run};
 use nt_event::{History, ScheduleKind};
+use nt_log::Schedule;
 use nt_print::report;
 use nt_script::{Input, ScriptKind, ScriptRefusal};
 use nt_text::INPUT_LIMIT;
@@ -108,26 +111,6 @@ fn turn_refused(alloc: Global, at: u32, kind: ScheduleKind) -> Answer
     }
 }
 
-/// The history that a task asks for, or why its turns make none.
-fn history_of(alloc: Global, task: &Task) -> Result<History, ScheduleRefusal>
-    requires { IsSoundTask task.now }
-    ensures ok { IfOk result (IsRunOf task.now) }
-    ensures err { IfErr result (IsTaskRefused task.now) }
-{
-    match task {
-        Task::Run { input, turns } => match run(alloc, &input.script, *turns) {
-            Ok(history) => Ok(history),
-            Err(_) => Err(ScheduleRefusal::NoMemory),
-        },
-        Task::Replay { input, schedule } => replay(
-            alloc,
-            &input.script,
-            schedule.turns,
-            schedule.list.as_slice(),
-        ),
-    }
-}
-
 /// What is answered with a history.
 fn reported(alloc: Global, input: &Input, history: &History) -> Answer
     requires sound { IsSound input.now }
@@ -143,15 +126,124 @@ fn reported(alloc: Global, input: &Input, history: &History) -> Answer
     }
 }
 
+/// What is answered with a history that was made, or with why it wasn't.
+fn made(alloc: Global, input: &Input, made: &Result<History, ScheduleRefusal>) -> Answer
+    requires sound { IsSound input.now }
+    requires fit { IfOk made.now (λ h. events_fit input.now.script h.events ≡ true) }
+    ensures { IsMade input.now made.now result.status (text_of result.text) }
+{
+    match made {
+        Ok(history) => reported(alloc, input, history),
+        Err(ScheduleRefusal::Bad { at, kind }) => turn_refused(alloc, *at, *kind),
+        Err(ScheduleRefusal::NoMemory) => no_memory(),
+    }
+}
+
+/// The run of the script by the robin rule.
+fn robin_run(alloc: Global, input: &Input, turns: u32) -> Result<History, ScheduleRefusal>
+    requires sound { IsSound input.now }
+    requires limit { IsTurns turns }
+    ensures ok { IfOk result (IsRobinRun input.now.script turns) }
+    ensures err { IfErr result (λ r. r ≡ ScheduleRefusal.NoMemory) }
+{
+    match run(alloc, &input.script, turns) {
+        Ok(history) => Ok(history),
+        Err(_) => Err(ScheduleRefusal::NoMemory),
+    }
+}
+
+/// What is answered to a script that is run.
+fn ran(alloc: Global, input: &Input, turns: u32) -> Answer
+    requires sound { IsSound input.now }
+    requires limit { IsTurns turns }
+    ensures { IsDone (Task.Run input.now turns) result.status (text_of result.text) }
+{
+    let history = robin_run(alloc, input, turns);
+    made(alloc, input, &history)
+}
+
+/// The run of the script that the schedule's turns make.
+fn schedule_run(
+    alloc: Global,
+    input: &Input,
+    schedule: &Schedule,
+) -> Result<History, ScheduleRefusal>
+    requires sound { IsSound input.now }
+    requires limit { IsTurns schedule.now.turns }
+    ensures ok { IfOk result (IsReplayed input.now.script schedule.now) }
+    ensures err { IfErr result (IsReplayRefused input.now.script schedule.now.turns schedule.now.list) }
+{
+    replay(
+        alloc,
+        &input.script,
+        schedule.turns,
+        schedule.list.as_slice(),
+    )
+}
+
+/// What is answered to a schedule that is replayed.
+fn replayed(alloc: Global, input: &Input, schedule: &Schedule) -> Answer
+    requires sound { IsSound input.now }
+    requires limit { IsTurns schedule.now.turns }
+    ensures { IsDone (Task.Replay input.now schedule.now) result.status (text_of result.text) }
+{
+    let history = schedule_run(alloc, input, schedule);
+    made(alloc, input, &history)
+}
+
+/// The line of the number at which a history goes wrong.
+fn illegal_line(alloc: Global, number: u64) -> Result<String, AllocError>
+    ensures { IfOk result (λ s. string_bytes s ≡ illegal_line number) }
+{
+    format!(in alloc; "illegal at {number}\n")
+}
+
+/// What is answered where a history goes wrong at this number.
+fn illegal(alloc: Global, number: u64) -> Answer
+    ensures { IsIllegalLine number result.status (text_of result.text) }
+{
+    match illegal_line(alloc, number) {
+        Ok(line) => Answer {
+            status: Status::Illegal,
+            text: Text::Made(line.into_bytes()),
+        },
+        Err(_) => no_memory(),
+    }
+}
+
+/// A history is legal.
+fn legal() -> Answer
+    ensures status { result.status ≡ Status.Ok }
+    ensures text { text_of result.text ≡ legal_line }
+{
+    Answer {
+        status: Status::Ok,
+        text: Text::Line("legal\n"),
+    }
+}
+
+/// What is answered to a history that is checked.
+fn checked(alloc: Global, input: &Input, history: &History) -> Answer
+    requires sound { IsSound input.now }
+    requires limit { IsTurns history.now.turns }
+    ensures { IsDone (Task.Check input.now history.now) result.status (text_of result.text) }
+{
+    match check(alloc, &input.script, history) {
+        Ok(Verdict::Legal) => legal(),
+        Ok(Verdict::IllegalAt(number)) => illegal(alloc, number),
+        Err(_) => no_memory(),
+    }
+}
+
 /// What is answered to a task.
 fn done(alloc: Global, task: &Task) -> Answer
     requires { IsSoundTask task.now }
     ensures { IsDone task.now result.status (text_of result.text) }
 {
-    match history_of(alloc, task) {
-        Ok(history) => reported(alloc, task.input(), &history),
-        Err(ScheduleRefusal::Bad { at, kind }) => turn_refused(alloc, at, kind),
-        Err(ScheduleRefusal::NoMemory) => no_memory(),
+    match task {
+        Task::Run { input, turns } => ran(alloc, input, *turns),
+        Task::Replay { input, schedule } => replayed(alloc, input, schedule),
+        Task::Check { input, history } => checked(alloc, input, history),
     }
 }
 

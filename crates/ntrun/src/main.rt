@@ -18,7 +18,8 @@ mod top;
 mod words;
 
 pub use headline::{
-    replaying_its_schedule_writes_the_report_again, the_report_is_that_of_the_actual_history,
+    check_calls_the_report_legal, replaying_its_schedule_writes_the_report_again,
+    the_report_is_that_of_the_actual_history,
 };
 pub use status::Status;
 pub use top::{ntrun, plain};

@@ -3,12 +3,15 @@ ghost use Rattle.std.specs.Prelude.{◌≡◌, ◌+◌, ◌≤◌, Err, IfOk, No
 ghost use Rattle.nt_script.specs.Gives.{GivesRead};
 ghost use Rattle.nt_script.specs.Sound.{IsSound};
 ghost use Rattle.nt_script.specs.declared.reading.ScriptRefusal.{ScriptRefusal};
+ghost use Rattle.ntrun.specs.declared.task.Tail.{Tail};
 ghost use Rattle.ntrun.specs.declared.task.Task.{Task};
 ghost use Rattle.nt_words.specs.Commands.{is_built};
 ghost use Rattle.nt_words.specs.Forms.{IsTurns, IsWithin, command_of};
-ghost use Rattle.ntrun.specs.Tasks.{IsSoundTask, input_of, last_line, replay_task, run_task, schedule_task, task_of};
+ghost use Rattle.ntrun.specs.Tasks.{IsSoundTask, both_parts, last_line, report_task, run_task, schedule_task, tail_task, tail_word, two_parts, task_of};
 
+use nt_event::History;
 use nt_log::{Schedule, read_schedule};
+use nt_report::read_report;
 use nt_script::{Input, ScriptKind, ScriptRefusal, Split, read, split_at};
 use nt_text::{INPUT_LIMIT, Lines};
 use nt_words::Form;
@@ -21,15 +24,27 @@ pub(crate) enum Task {
     Run { input: Input, turns: u32 },
     /// The turns of the schedule are taken.
     Replay { input: Input, schedule: Schedule },
+    /// The history is checked.
+    Check { input: Input, history: History },
 }
 
-impl Task {
-    /// The script, with its names.
-    pub(crate) fn input(&self) -> &Input
-        ensures { result.now ≡ input_of self.now }
+/// What stands behind a script.
+#[derive(Clone, Copy)]
+pub(crate) enum Tail {
+    /// A schedule.
+    Schedule,
+    /// A report.
+    Report,
+}
+
+impl Tail {
+    /// The first field of its first line.
+    fn word(self) -> &'static str
+        ensures { result.now ≡ tail_word self }
     {
         match self {
-            Task::Run { input, .. } | Task::Replay { input, .. } => input,
+            Tail::Schedule => "schedule",
+            Tail::Report => "report",
         }
     }
 }
@@ -72,23 +87,57 @@ fn with_schedule(alloc: Global, input: Input, rest: &[u8], line: u32) -> Result<
     }
 }
 
-/// A script, and a schedule behind it.
-fn to_replay(alloc: Global, bytes: &[u8], split: Split) -> Result<Task, ScriptRefusal>
+/// The report behind a script that was read.
+fn with_report(alloc: Global, input: Input, rest: &[u8], line: u32) -> Result<Task, ScriptRefusal>
+    requires sound { IsSound input }
+    requires bytes { length rest.now ≤ INPUT_LIMIT }
+    requires line { (1 ≤ line) × (line ≤ INPUT_LIMIT + 1) }
+    ensures read { GivesRead result (report_task input line rest.now) }
+    ensures sound { IfOk result IsSoundTask }
+{
+    match read_report(alloc, &input, rest, line) {
+        Ok(history) => Ok(Task::Check { input, history }),
+        Err(refusal) => Err(refusal),
+    }
+}
+
+/// What stands behind a script that was read.
+fn with_tail(
+    alloc: Global,
+    tail: Tail,
+    input: Input,
+    rest: &[u8],
+    line: u32,
+) -> Result<Task, ScriptRefusal>
+    requires sound { IsSound input }
+    requires bytes { length rest.now ≤ INPUT_LIMIT }
+    requires line { (1 ≤ line) × (line ≤ INPUT_LIMIT + 1) }
+    ensures read { GivesRead result (tail_task tail input line rest.now) }
+    ensures sound { IfOk result IsSoundTask }
+{
+    match tail {
+        Tail::Schedule => with_schedule(alloc, input, rest, line),
+        Tail::Report => with_report(alloc, input, rest, line),
+    }
+}
+
+/// A script, and what stands behind it.
+fn split_parts(alloc: Global, tail: Tail, bytes: &[u8], split: Split) -> Result<Task, ScriptRefusal>
     requires bytes { length bytes.now ≤ INPUT_LIMIT }
     requires at { split.at ≤ length bytes.now }
     requires line { (1 ≤ split.line) × (split.line ≤ INPUT_LIMIT + 1) }
-    ensures read { GivesRead result (replay_task (Some (split.at, split.line)) bytes.now) }
+    ensures read { GivesRead result (two_parts tail (Some (split.at, split.line)) bytes.now) }
     ensures sound { IfOk result IsSoundTask }
 {
     let (script, rest) = bytes.split_at(split.at);
     let input = read(alloc, script)?;
-    with_schedule(alloc, input, rest, split.line)
+    with_tail(alloc, tail, input, rest, split.line)
 }
 
-/// A script behind which no schedule begins.
-fn without_schedule(alloc: Global, bytes: &[u8]) -> ScriptRefusal
+/// A script behind which nothing begins.
+fn without_tail(alloc: Global, bytes: &[u8]) -> ScriptRefusal
     requires { length bytes.now ≤ INPUT_LIMIT }
-    ensures { (r : Result Task ScriptRefusal) → r ≡ Err result → GivesRead r (replay_task None bytes.now) }
+    ensures { (t : Tail) (r : Result Task ScriptRefusal) → r ≡ Err result → GivesRead r (two_parts t None bytes.now) }
 {
     match read(alloc, bytes) {
         Ok(_) => ScriptRefusal::Bad {
@@ -96,6 +145,18 @@ fn without_schedule(alloc: Global, bytes: &[u8]) -> ScriptRefusal
             kind: ScriptKind::NoEnd,
         },
         Err(refusal) => refusal,
+    }
+}
+
+/// A script, and behind it what begins with the word.
+fn both_parts(alloc: Global, tail: Tail, bytes: &[u8]) -> Result<Task, ScriptRefusal>
+    requires { length bytes.now ≤ INPUT_LIMIT }
+    ensures read { GivesRead result (both_parts tail bytes.now) }
+    ensures sound { IfOk result IsSoundTask }
+{
+    match split_at(bytes, tail.word()) {
+        Some(split) => split_parts(alloc, tail, bytes, split),
+        None => Err(without_tail(alloc, bytes)),
     }
 }
 
@@ -109,10 +170,8 @@ pub(crate) fn task_of(alloc: Global, form: Form, bytes: &[u8]) -> Result<Task, S
 {
     match form {
         Form::Run { turns } => to_run(alloc, bytes, turns),
-        Form::Replay => match split_at(bytes, "schedule") {
-            Some(split) => to_replay(alloc, bytes, split),
-            None => Err(without_schedule(alloc, bytes)),
-        },
-        Form::Live { .. } | Form::Check | Form::Load { .. } => unreachable!(),
+        Form::Replay => both_parts(alloc, Tail::Schedule, bytes),
+        Form::Check => both_parts(alloc, Tail::Report, bytes),
+        Form::Live { .. } | Form::Load { .. } => unreachable!(),
     }
 }

@@ -307,6 +307,80 @@ fn a_report_is_replayed(rt: HostRuntime) -> Result<(), Fail> {
     Ok(())
 }
 
+/// The report of the thread that raises its level and inserts a DPC: its events up to the lowered level, that event, and the others.
+const RAISED: &str =
+    "report\n0 p0 main 0 switch main\n1 p0 main 2 call 0 raise 2 -> done\n2 p0 main 2 call 0 queue d -> yes\n";
+
+const LOWERED: &str = "3 p0 main 0 call 0 lower 0 -> done\n";
+
+const DELIVERED: &str =
+    "4 p0 main 2 begin dpc d of 2\n5 p0 main 2 call 4 note 7 -> done\n6 p0 main 0 end 4\n7 p0 main 0 clean 2\n8 p0 main 0 end 0\n9 p0 main 0 gone main\n";
+
+const RESTED: &str = "10 p0 - 0 rest\n";
+
+const TURNS: &str =
+    "schedule 10000\nswitch 0 main\nnext 0\nnext 0\nnext 0\nnext 0\nnext 0\nnext 0\nnext 0\nnext 0\nnext 0\n";
+
+/// What `check` answers and writes for that script with these lines behind it.
+fn checked(alloc: Global, lines: &[&str]) -> Result<(Status, Vec<u8>), Fail> {
+    let mut input = String::from_str(alloc, RAISE_QUEUE_LOWER)?;
+    for line in lines {
+        input.push_str(line)?;
+    }
+    program(alloc, &["check"], input.as_bytes(), &[], 65536, &[])
+}
+
+/// Reports whose history is legal, goes wrong in an event, or is unfinished; and one that isn't there, or of which a line is refused.
+#[test]
+fn reports_are_checked(rt: HostRuntime) -> Result<(), Fail> {
+    let rows = [
+        (
+            [RAISED, LOWERED, DELIVERED, RESTED, TURNS, "next 0\ndone\n"].as_slice(),
+            Status::Ok,
+            "legal\n",
+        ),
+        (
+            [
+                RAISED,
+                "3 p0 main 1 call 0 lower 0 -> done\n",
+                DELIVERED,
+                RESTED,
+                TURNS,
+                "next 0\ndone\n",
+            ]
+            .as_slice(),
+            Status::Illegal,
+            "illegal at 3\n",
+        ),
+        (
+            [RAISED, LOWERED, DELIVERED, TURNS, "done\n"].as_slice(),
+            Status::Illegal,
+            "illegal at 10\n",
+        ),
+        ([].as_slice(), Status::Script, "script line 12: 11 NoEnd\n"),
+        (
+            [
+                RAISED,
+                LOWERED,
+                DELIVERED,
+                RESTED,
+                "cut p0\n",
+                TURNS,
+                "next 0\ndone\n",
+            ]
+            .as_slice(),
+            Status::Script,
+            "script line 24: 12 WrongKind\n",
+        ),
+    ];
+    for (lines, status, text) in rows {
+        let (found, written) = checked(rt.alloc(), lines)?;
+        assert_eq!(rt; found, status);
+        assert_eq!(rt; written.as_slice(), text.as_bytes());
+    }
+    Ok(())
+}
+
 #[test]
 fn statuses_have_their_numbers(rt: HostRuntime) {
     let statuses = [

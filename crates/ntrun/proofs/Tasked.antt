@@ -1,0 +1,62 @@
+-- Which tasks a form has.
+use Rattle.std.proofs.Common.{◌≡◌, ℕ, List, Option, Some, None, Result, Ok, Err, subst}
+use Rattle.std.specs.Prelude.{drop, take}
+use Rattle.nt_event.specs.declared.limits.TheConstants.{CPUS}
+use Rattle.nt_log.specs.Reading.{reading as schedule_reading}
+use Rattle.nt_report.specs.Reading.{reading as report_reading}
+use Rattle.nt_script.specs.declared.walk.Input.{Input}
+use Rattle.nt_script.specs.Reading.{reading}
+use Rattle.nt_text.specs.declared.kind.ScriptKind.TheVariants.{NoEnd}
+use Rattle.nt_words.specs.declared.form.Form.TheVariants as form
+use Rattle.ntrun.specs.declared.task.Tail.{Tail}
+use Rattle.ntrun.specs.declared.task.Tail.TheVariants as tail
+use Rattle.ntrun.specs.declared.task.Task.{Task}
+use Rattle.ntrun.specs.declared.task.Task.TheVariants as task
+use Rattle.ntrun.specs.Tasks.{Bad, and_then, behind, last_line, tail_task, tail_word, task_of, two_parts}
+
+abbrev pub IsCheck : Task → Type 0
+IsCheck (task.Run input turns) = ⊥
+IsCheck (task.Replay input schedule) = ⊥
+IsCheck (task.Check input history) = Unit {0}
+
+abbrev pub IsNoCheck : Task → Type 0
+IsNoCheck (task.Run input turns) = Unit {0}
+IsNoCheck (task.Replay input schedule) = Unit {0}
+IsNoCheck (task.Check input history) = ⊥
+
+-- what holds of a task that a reader made of what it read
+made : {A : Type 0} (P : Task → Type 0) (make : A → Task) → ((x : A) → P (make x)) → (r : Result A Bad) (t : Task) → and_then r (λ x. Ok (make x)) ≡ Ok t →
+    P t
+made P make each (Err bad) t e = cc
+made P make each (Ok x) t e = go e
+  where
+    go : ◌≡◌ {A = Result Task Bad} (Ok (make x)) (Ok t) → P t
+    go h = let same : make x ≡ t = cc in subst P same (each x)
+
+-- what holds of the task of a tail, where it does behind each input
+parted : (P : Task → Type 0) (k : Tail) → ((input : Input) (line : ℕ) (rest : List ℕ) (t : Task) → tail_task k input line rest ≡ Ok t → P t) →
+    (split : Option (ℕ × ℕ)) (bytes : List ℕ) (t : Task) → two_parts k split bytes ≡ Ok t → P t
+parted P k each None bytes t e = go (reading bytes) e
+  where
+    go : (r : Result Input Bad) → and_then r (λ input. Err (last_line bytes, NoEnd)) ≡ Ok t → P t
+    go (Err bad) h = cc
+    go (Ok input) h = cc
+parted P k each (Some (at, line)) bytes t e = go (reading (take at bytes)) e
+  where
+    go : (r : Result Input Bad) → and_then r (λ input. tail_task k input line (drop at bytes)) ≡ Ok t → P t
+    go (Err bad) h = cc
+    go (Ok input) h = each input line (drop at bytes) t h
+
+pub run_is_no_check : (turns : ℕ) (bytes : List ℕ) (t : Task) → task_of (form.Run turns) bytes ≡ Ok t → IsNoCheck t
+run_is_no_check turns bytes t e = made IsNoCheck (λ input. task.Run input turns) (λ x. tt) (reading bytes) t e
+
+pub replay_is_no_check : (bytes : List ℕ) (t : Task) → task_of form.Replay bytes ≡ Ok t → IsNoCheck t
+replay_is_no_check bytes t e =
+    parted IsNoCheck tail.Schedule
+    (λ input line rest u h. made IsNoCheck (λ s. task.Replay input s) (λ x. tt) (schedule_reading CPUS input.names line rest) u h)
+    (behind (tail_word tail.Schedule) bytes) bytes t e
+
+pub check_is_one : (bytes : List ℕ) (t : Task) → task_of form.Check bytes ≡ Ok t → IsCheck t
+check_is_one bytes t e =
+    parted IsCheck tail.Report (λ input line rest u h. made IsCheck (λ x. task.Check input x) (λ x. tt) (report_reading input line rest) u h)
+    (behind (tail_word tail.Report) bytes) bytes t e
