@@ -1,0 +1,180 @@
+-- Names of a letter and a number: all different, and where they stand.
+use Rattle.std.proofs.Common.{Bool, List, None, Option, Some, [], ap, append_assoc, arith, cond, false, refl, subst, suc, sym, true, zero, ℕ, ◌++◌, ◌+◌, ◌<◌, ◌^◌, ◌∙◌, ◌∷◌, ◌≡◌, ◌≤◌}
+use Rattle.std.proofs.lemmas.Fmt.{decimal_injective}
+use Rattle.std.proofs.lemmas.List.{append-nil, append_cancel_left}
+use Rattle.std.specs.List.{position_from}
+use Rattle.std.specs.Prelude.{decimal, option_map, ◌==◌}
+use Rattle.std.specs.Str.{bytes_eq}
+use Rattle.nt_event.specs.Lists.{table, table_from}
+use Rattle.nt_line.proofs.FieldTexts.{same_text}
+use Rattle.nt_line.specs.NameLists.{NameLists, apc_at, dpc_at, meaning, no_names, or_else, routine_at, thread_at, timer_at, with_name}
+use Rattle.nt_line.specs.Places.{place}
+use Rattle.nt_line.specs.declared.names.Kind.TheVariants as kind
+use Rattle.nt_line.specs.declared.names.Kind.{Kind}
+use Rattle.nt_load.proofs.Tables.{table_more}
+use Rattle.nt_load.specs.Load.{spelled, spelled_names, with_spelled}
+
+-- a name that differs from each of a table's stands nowhere in it
+pub nowhere_from : (name : List ℕ) (f : ℕ → List ℕ) (k n j : ℕ) →
+    ((i : ℕ) → i < n → bytes_eq name (f (k + i)) ≡ false) → position_from (bytes_eq name) j (table_from k n f) ≡ None
+unfolding table_from
+nowhere_from name f k zero j differs = refl
+nowhere_from name f k (suc n) j differs =
+    let here : bytes_eq name (f k) ≡ false = first in
+    rw here (nowhere_from name f (suc k) n (j + 1) rest)
+  where
+    first : bytes_eq name (f k) ≡ false
+    first = let e : k + 0 ≡ k = omega arith in rw e at (differs 0 (omega arith))
+
+    rest : (i : ℕ) → i < n → bytes_eq name (f (suc k + i)) ≡ false
+    rest i l = let e : k + suc i ≡ suc k + i = omega arith in rw e at (differs (suc i) (omega arith))
+
+pub nowhere_in_table : (name : List ℕ) (f : ℕ → List ℕ) (n : ℕ) →
+    ((i : ℕ) → i < n → bytes_eq name (f i) ≡ false) → place name (table n f) ≡ None
+nowhere_in_table name f n differs =
+    nowhere_from name f 0 n 0 (λ i l. let e : 0 + i ≡ i = omega arith in rw e (differs i l))
+
+-- two texts that are not the same
+pub differ : (f g : List ℕ) → (f ≡ g → ⊥) → bytes_eq f g ≡ false
+differ f g ne = go (bytes_eq f g) refl
+  where
+    go : (b : Bool) → bytes_eq f g ≡ b → b ≡ false
+    go true e = absurd (ne (same_text f g e))
+    go false e = refl
+
+pub other_number : (letter : List ℕ) (i j : ℕ) → i < j → j < 2 ^ 64 → bytes_eq (spelled letter j) (spelled letter i) ≡ false
+other_number letter i j l h =
+    differ (spelled letter j) (spelled letter i) same
+  where
+    same : spelled letter j ≡ spelled letter i → ⊥
+    same e =
+        let n : j ≡ i = decimal_injective j i h (omega arith) (append_cancel_left letter (decimal j) (decimal i) e) in
+        omega arith
+
+-- in neither of two lists
+pub in_neither : (n : List ℕ) (xs ys : List (List ℕ)) → place n xs ≡ None → ((k : ℕ) → position_from (bytes_eq n) k ys ≡ None) → place n (xs ++ ys) ≡ None
+in_neither n xs ys a b = from 0 xs a
+  where
+    from : (k : ℕ) (xs : List (List ℕ)) → position_from (bytes_eq n) k xs ≡ None → position_from (bytes_eq n) k (xs ++ ys) ≡ None
+    from k [] e = b k
+    from k (x ∷ xs) e = go (bytes_eq n x) e (from (k + 1) xs)
+      where
+        go : (t : Bool) → cond t (Some k) (position_from (bytes_eq n) (k + 1) xs) ≡ None →
+            (position_from (bytes_eq n) (k + 1) xs ≡ None → position_from (bytes_eq n) (k + 1) (xs ++ ys) ≡ None) →
+            cond t (Some k) (position_from (bytes_eq n) (k + 1) (xs ++ ys)) ≡ None
+        go true e more = absurd cc
+        go false e more = more e
+
+-- a name that means nothing stands in no list of names
+pub record IsFree (name : List ℕ) (names : NameLists) : Type 0 where
+  pub dpcs : place name names.dpcs ≡ None
+  pub timers : place name names.timers ≡ None
+  pub threads : place name names.threads ≡ None
+  pub apcs : place name names.apcs ≡ None
+  pub routines : place name names.routines ≡ None
+
+parts : (d t h a r : Option ℕ) → or_else (option_map dpc_at d)
+    (or_else (option_map timer_at t) (or_else (option_map thread_at h) (or_else (option_map apc_at a) (option_map routine_at r)))) ≡ None →
+    (d ≡ None) × (t ≡ None) × (h ≡ None) × (a ≡ None) × (r ≡ None)
+parts None None None None None e = (refl, refl, refl, refl, refl)
+parts (Some d) t h a r e = absurd cc
+parts None (Some t) h a r e = absurd cc
+parts None None (Some h) a r e = absurd cc
+parts None None None (Some a) r e = absurd cc
+parts None None None None (Some r) e = absurd cc
+
+pub free_of : (name : List ℕ) (names : NameLists) → meaning name names ≡ None → IsFree name names
+free_of name names e =
+    let p = parts (place name names.dpcs) (place name names.timers) (place name names.threads) (place name names.apcs) (place name names.routines) e in
+    record { dpcs = p.0; timers = p.1; threads = p.2; apcs = p.3; routines = p.4 }
+
+pub free_means : (name : List ℕ) (names : NameLists) → IsFree name names → meaning name names ≡ None
+free_means name names f = rw (f.dpcs, f.timers, f.threads, f.apcs, f.routines) refl
+
+-- the next name of a letter is free where the ones before it were added
+pub still_free : (k : Kind) (letter : List ℕ) (n i : ℕ) (names : NameLists) → n ≤ i → i < 2 ^ 64 → meaning (spelled letter i) names ≡ None →
+    meaning (spelled letter i) (with_spelled k letter n names) ≡ None
+still_free k letter n i names l h e =
+    free_means (spelled letter i) (with_spelled k letter n names) (go k (free_of (spelled letter i) names e))
+  where
+    more : (xs : List (List ℕ)) → place (spelled letter i) xs ≡ None → place (spelled letter i) (xs ++ spelled_names letter n) ≡ None
+    more xs a = in_neither (spelled letter i) xs (spelled_names letter n) a
+        (λ at. nowhere_from (spelled letter i) (spelled letter) 0 n at (λ j m. other_number letter (0 + j) i (omega arith) h))
+
+    go : (k : Kind) → IsFree (spelled letter i) names → IsFree (spelled letter i) (with_spelled k letter n names)
+    go kind.Dpc f = record { dpcs = more names.dpcs f.dpcs; timers = f.timers; threads = f.threads; apcs = f.apcs; routines = f.routines }
+    go kind.Timer f = record { dpcs = f.dpcs; timers = more names.timers f.timers; threads = f.threads; apcs = f.apcs; routines = f.routines }
+    go kind.Thread f = record { dpcs = f.dpcs; timers = f.timers; threads = more names.threads f.threads; apcs = f.apcs; routines = f.routines }
+    go kind.Apc f = record { dpcs = f.dpcs; timers = f.timers; threads = f.threads; apcs = more names.apcs f.apcs; routines = f.routines }
+    go kind.Routine f = record { dpcs = f.dpcs; timers = f.timers; threads = f.threads; apcs = f.apcs; routines = more names.routines f.routines }
+
+pub none_spelled : (k : Kind) (letter : List ℕ) (names : NameLists) → with_spelled k letter 0 names ≡ names
+unfolding table_from
+none_spelled kind.Dpc letter names = ap (λ (xs : List (List ℕ)). record names { dpcs = xs }) (append-nil names.dpcs)
+none_spelled kind.Timer letter names = ap (λ (xs : List (List ℕ)). record names { timers = xs }) (append-nil names.timers)
+none_spelled kind.Thread letter names = ap (λ (xs : List (List ℕ)). record names { threads = xs }) (append-nil names.threads)
+none_spelled kind.Apc letter names = ap (λ (xs : List (List ℕ)). record names { apcs = xs }) (append-nil names.apcs)
+none_spelled kind.Routine letter names = ap (λ (xs : List (List ℕ)). record names { routines = xs }) (append-nil names.routines)
+
+pub more_spelled : (k : Kind) (letter : List ℕ) (n : ℕ) (names : NameLists) →
+    with_name k (spelled letter n) (with_spelled k letter n names) ≡ with_spelled k letter (n + 1) names
+more_spelled k letter n names = go k
+  where
+    more : (xs : List (List ℕ)) → (xs ++ spelled_names letter n) ++ spelled letter n ∷ [] ≡ xs ++ spelled_names letter (n + 1)
+    more xs =
+        append_assoc xs (spelled_names letter n) (spelled letter n ∷ [])
+        ∙ ap (λ (ys : List (List ℕ)). xs ++ ys) (sym (table_more n (spelled letter)))
+
+    go : (k : Kind) → with_name k (spelled letter n) (with_spelled k letter n names) ≡ with_spelled k letter (n + 1) names
+    go kind.Dpc = ap (λ (xs : List (List ℕ)). record names { dpcs = xs }) (more names.dpcs)
+    go kind.Timer = ap (λ (xs : List (List ℕ)). record names { timers = xs }) (more names.timers)
+    go kind.Thread = ap (λ (xs : List (List ℕ)). record names { threads = xs }) (more names.threads)
+    go kind.Apc = ap (λ (xs : List (List ℕ)). record names { apcs = xs }) (more names.apcs)
+    go kind.Routine = ap (λ (xs : List (List ℕ)). record names { routines = xs }) (more names.routines)
+
+-- a name that begins with another letter is free beside the names of a letter
+pub free_beside : (k : Kind) (letter n head : ℕ) (rest : List ℕ) (names : NameLists) → (head == letter) ≡ false → IsFree (head ∷ rest) names →
+    IsFree (head ∷ rest) (with_spelled k (letter ∷ []) n names)
+free_beside k letter n head rest names ne f = go k
+  where
+    differs : (i : ℕ) → bytes_eq (head ∷ rest) (spelled (letter ∷ []) i) ≡ false
+    differs i = rw ne refl
+
+    more : (xs : List (List ℕ)) → place (head ∷ rest) xs ≡ None → place (head ∷ rest) (xs ++ spelled_names (letter ∷ []) n) ≡ None
+    more xs a = in_neither (head ∷ rest) xs (spelled_names (letter ∷ []) n) a
+        (λ at. nowhere_from (head ∷ rest) (spelled (letter ∷ [])) 0 n at (λ i m. differs (0 + i)))
+
+    go : (k : Kind) → IsFree (head ∷ rest) (with_spelled k (letter ∷ []) n names)
+    go kind.Dpc = record { dpcs = more names.dpcs f.dpcs; timers = f.timers; threads = f.threads; apcs = f.apcs; routines = f.routines }
+    go kind.Timer = record { dpcs = f.dpcs; timers = more names.timers f.timers; threads = f.threads; apcs = f.apcs; routines = f.routines }
+    go kind.Thread = record { dpcs = f.dpcs; timers = f.timers; threads = more names.threads f.threads; apcs = f.apcs; routines = f.routines }
+    go kind.Apc = record { dpcs = f.dpcs; timers = f.timers; threads = f.threads; apcs = more names.apcs f.apcs; routines = f.routines }
+    go kind.Routine = record { dpcs = f.dpcs; timers = f.timers; threads = f.threads; apcs = f.apcs; routines = more names.routines f.routines }
+
+pub free_first : (name : List ℕ) (names : NameLists) → names ≡ no_names → IsFree name names
+free_first name names e = subst (λ (n : NameLists). IsFree name n) (sym e) none
+  where
+    none : IsFree name no_names
+    none = record { dpcs = refl; timers = refl; threads = refl; apcs = refl; routines = refl }
+
+pub free_behind : (k : Kind) (letter n head : ℕ) (rest : List ℕ) (names new : NameLists) → new ≡ with_spelled k (letter ∷ []) n names →
+    (head == letter) ≡ false → IsFree (head ∷ rest) names → IsFree (head ∷ rest) new
+free_behind k letter n head rest names new e ne f =
+    subst (λ (m : NameLists). IsFree (head ∷ rest) m) (sym e) (free_beside k letter n head rest names ne f)
+
+-- and beside the name of a routine that differs
+pub free_behind_one : (name other : List ℕ) (names new : NameLists) → new ≡ with_name kind.Routine other names → bytes_eq name other ≡ false →
+    IsFree name names → IsFree name new
+free_behind_one name other names new e ne f = subst (λ (m : NameLists). IsFree name m) (sym e) beside
+  where
+    nowhere : (at : ℕ) → position_from (bytes_eq name) at (other ∷ []) ≡ None
+    nowhere at = rw ne refl
+
+    beside : IsFree name (with_name kind.Routine other names)
+    beside = record {
+      dpcs = f.dpcs;
+      timers = f.timers;
+      threads = f.threads;
+      apcs = f.apcs;
+      routines = in_neither name names.routines (other ∷ []) f.routines nowhere;
+    }
