@@ -1,5 +1,5 @@
 -- The generator's number after draws, and where commands begin.
-use Rattle.std.proofs.Common.{List, add-one, ap, arith, refl, suc, sym, zero, ℕ, ◌*◌, ◌+◌, ◌∙◌, ◌≡◌}
+use Rattle.std.proofs.Common.{List, ap, arith, refl, suc, sym, zero, ℕ, ◌*◌, ◌+◌, ◌∙◌, ◌≡◌}
 use Rattle.nt_event.proofs.Tables.{table-same}
 use Rattle.nt_event.specs.Lists.{table}
 use Rattle.nt_event.specs.declared.commands.Command.{Command}
@@ -18,7 +18,9 @@ after_both (suc j) k x =
 -- the next command begins behind the draws of the one before it
 pub begin_more : (n x : ℕ) → begin (n + 1) x ≡ after (draw_count (begin n x)) (begin n x)
 unfolding draws_before
-begin_more n x = rw add-one (sym (after_both (draw_count (begin n x)) (draws_before n x) x))
+begin_more n x =
+    let e : n + 1 ≡ suc n = omega arith in
+    ap (λ (k : ℕ). begin k x) e ∙ sym (after_both (draw_count (begin n x)) (draws_before n x) x)
 
 -- the commands behind the first n begin as the commands do that are drawn from there
 pub draws_both : (n m x : ℕ) → draws_before n x + draws_before m (begin n x) ≡ draws_before (n + m) x

@@ -132,17 +132,23 @@ more_spelled k letter n names = go k
     go kind.Apc = ap (λ (xs : List (List ℕ)). record names { apcs = xs }) (more names.apcs)
     go kind.Routine = ap (λ (xs : List (List ℕ)). record names { routines = xs }) (more names.routines)
 
--- a name that begins with another letter is free beside the names of a letter
-pub free_beside : (k : Kind) (letter n head : ℕ) (rest : List ℕ) (names : NameLists) → (head == letter) ≡ false → IsFree (head ∷ rest) names →
-    IsFree (head ∷ rest) (with_spelled k (letter ∷ []) n names)
-free_beside k letter n head rest names ne f = go k
+-- a name that begins with another letter stands nowhere in the names of a letter, nor in them behind a list
+pub place_beside : (xs : List (List ℕ)) (letter n head : ℕ) (rest : List ℕ) → (head == letter) ≡ false → place (head ∷ rest) xs ≡ None →
+    place (head ∷ rest) (xs ++ spelled_names (letter ∷ []) n) ≡ None
+place_beside xs letter n head rest ne a =
+    in_neither (head ∷ rest) xs (spelled_names (letter ∷ []) n) a
+    (λ at. nowhere_from (head ∷ rest) (spelled (letter ∷ [])) 0 n at (λ i m. differs (0 + i)))
   where
     differs : (i : ℕ) → bytes_eq (head ∷ rest) (spelled (letter ∷ []) i) ≡ false
     differs i = rw ne refl
 
+-- so it is free beside them
+free_beside : (k : Kind) (letter n head : ℕ) (rest : List ℕ) (names : NameLists) → (head == letter) ≡ false → IsFree (head ∷ rest) names →
+    IsFree (head ∷ rest) (with_spelled k (letter ∷ []) n names)
+free_beside k letter n head rest names ne f = go k
+  where
     more : (xs : List (List ℕ)) → place (head ∷ rest) xs ≡ None → place (head ∷ rest) (xs ++ spelled_names (letter ∷ []) n) ≡ None
-    more xs a = in_neither (head ∷ rest) xs (spelled_names (letter ∷ []) n) a
-        (λ at. nowhere_from (head ∷ rest) (spelled (letter ∷ [])) 0 n at (λ i m. differs (0 + i)))
+    more xs a = place_beside xs letter n head rest ne a
 
     go : (k : Kind) → IsFree (head ∷ rest) (with_spelled k (letter ∷ []) n names)
     go kind.Dpc = record { dpcs = more names.dpcs f.dpcs; timers = f.timers; threads = f.threads; apcs = f.apcs; routines = f.routines }

@@ -1,6 +1,7 @@
 //! The load of a seed.
 ghost use Rattle.std.specs.Prelude.{◌≡◌, IfOk};
 ghost use Rattle.nt_load.specs.Load.{load_input};
+ghost use Rattle.nt_script.specs.Sound.{IsSound};
 
 use crate::declarations::{apcs, dpcs, isrs, threads, timers};
 use crate::draws::Draws;
@@ -15,6 +16,7 @@ use std::alloc::{AllocError, Global};
 /// Errors: no memory is left.
 pub fn load_script(alloc: Global, seed: u32) -> Result<Input, AllocError>
     ensures input { IfOk result (λ input. input ≡ load_input seed) }
+    ensures sound { IfOk result IsSound }
 {
     let mut draws = Draws::new(seed);
     let script = Script {
