@@ -28,7 +28,7 @@ fold_among b (k ∷ ks) = go (either_one (is_earlier k b) b k) (fold_among (earl
     go (inr e) (inl h) = inr (inl (h ∙ e))
     go e (inr h) = inr (inr h)
 
-reduce_among : (ks : List SetKey) (k : SetKey) → reduce earlier ks ≡ Some k → Among k ks
+pub reduce_among : (ks : List SetKey) (k : SetKey) → reduce earlier ks ≡ Some k → Among k ks
 reduce_among [] k h = absurd (cc)
 reduce_among (x ∷ xs) k h =
     let e : fold earlier x xs ≡ k = cc in subst (λ (z : SetKey). Among z (x ∷ xs)) e (fold_among x xs)

@@ -3,3 +3,10 @@ pub mod Among
 pub mod Order
 pub mod Numbers
 pub mod Events
+pub mod Links
+pub mod Places
+pub mod DueLists
+pub mod Turning
+pub mod FirstKeys
+pub mod Firsts
+pub mod KeyTables

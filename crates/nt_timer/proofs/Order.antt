@@ -37,7 +37,7 @@ not_less a b h least (inr most) =
       | inr number ↦ let n = ltb-false b.number a.number number in inr (omega arith, n)
     ]
 
-after : (a b : SetKey) → is_earlier b a ≡ false → IsNotEarlier a.setting b.setting
+pub after : (a b : SetKey) → is_earlier b a ≡ false → IsNotEarlier a.setting b.setting
 after a b h =
     let p = or_parts (ltb b.setting.due a.setting.due) (eqb b.setting.due a.setting.due && ltb b.setting.number a.setting.number) h in
     not_less a.setting b.setting p.1 (ltb-false b.setting.due a.setting.due p.0) (cases_lt a.setting.due b.setting.due)
@@ -72,7 +72,7 @@ reduce_least (x ∷ xs) k y h at =
     let e : fold earlier x xs ≡ k = cc in
     subst (λ (z : SetKey). IsNotEarlier z.setting y.setting) e (fold_least x xs y at)
 
-reduce_none : (ks : List SetKey) (y : SetKey) → reduce earlier ks ≡ None → Among y ks → ⊥
+pub reduce_none : (ks : List SetKey) (y : SetKey) → reduce earlier ks ≡ None → Among y ks → ⊥
 reduce_none [] y h at = at
 reduce_none (x ∷ xs) y h at = cc
 
@@ -117,7 +117,7 @@ set_among x (OfDelay t) setting h =
     among_right (record { key = OfDelay t; setting = setting }) (keyed (λ n. OfTimer (timer n)) 0 x.timers) (keyed (λ n. OfDelay (thread n)) 0 x.delays)
     (placed_among (λ n. OfDelay (thread n)) 0 t.0 t.0 x.delays setting (omega arith) h)
 
-due_among : (x : Timers) (key : TimerKey) (setting : Setting) → setting_at key x ≡ Some setting → setting.due ≤ x.now →
+pub due_among : (x : Timers) (key : TimerKey) (setting : Setting) → setting_at key x ≡ Some setting → setting.due ≤ x.now →
     Among (record { key = key; setting = setting }) (filter (is_due_key x.now) (set_keys x))
 due_among x key setting h due =
     among_filter (is_due_key x.now) (record { key = key; setting = setting }) (set_keys x) (le-leb setting.due x.now due) (set_among x key setting h)

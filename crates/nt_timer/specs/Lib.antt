@@ -1,4 +1,9 @@
 pub mod Settings
-pub mod First
 pub mod Changes
 pub mod Laws
+pub mod Rings
+pub mod Slots
+pub mod Due
+pub mod Wheel
+pub mod Keys
+pub mod Place

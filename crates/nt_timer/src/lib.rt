@@ -12,9 +12,13 @@
 //! "KeReadStateTimer", "KeDelayExecutionThread".
 #![tactic(auto)]
 
-mod first;
+mod due;
 mod laws;
 mod queue;
+mod rings;
+mod slots;
+mod wheel;
 
 pub use laws::{first_due_is_first, numbers_tell_keys, timer_calls_are_events};
 pub use queue::{Expired, SetAnswer, TimerQueue};
+pub use slots::Slot;

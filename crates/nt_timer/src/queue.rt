@@ -1,13 +1,15 @@
 //! The queue of timers and delays.
 ghost use Rattle.std.specs.Bool.{OnFalse};
 ghost use Rattle.std.specs.List.{list_any};
-ghost use Rattle.std.specs.Prelude.{◌≡◌, ◌==◌, ◌+◌, ◌<◌, ◌^◌, ◌↔◌, IfOk, IsSome, IsTrue, None, Some, is_some, option_map, replicate, length};
+ghost use Rattle.std.specs.Prelude.{◌≡◌, ◌==◌, ◌+◌, ◌-◌, ◌<◌, ◌≤◌, ◌^◌, ◌↔◌, IfOk, IsSome, MatchOption, IsTrue, None, Some, is_some, option_map, length};
 ghost use Rattle.nt_event.specs.declared.commands.TimerKey.TheVariants.{Delay as OfDelay, Timer as OfTimer};
-ghost use Rattle.nt_event.specs.Timers.{first_due, is_due_key, is_set_timer, renewed, set_keys, setting_in};
-ghost use Rattle.nt_timer.specs.First.{as_key};
+ghost use Rattle.nt_event.specs.Timers.{is_due_key, is_set_timer, renewed, set_keys, setting_in};
+ghost use Rattle.nt_timer.specs.Keys.{key_of};
+ghost use Rattle.nt_timer.specs.Place.{HasNoPlace, IsPlace};
 ghost use Rattle.nt_timer.specs.Settings.{IsKey, due_at, due_entry, expired, new_timers, setting_after, setting_at, with_setting};
 
-use crate::first::{Table, earliest};
+use crate::slots::{Slot, slot_of};
+use crate::wheel::Wheel;
 use nt_event::{Setting, ThreadNo, TimerKey, TimerNo};
 use std::alloc::{AllocError, Global};
 use std::marker::Model;
@@ -31,26 +33,26 @@ pub struct Expired {
 }
 
 /// The time, and when timers and delays are due. It has room for all of them from the start: no call but [`TimerQueue::new`]
-/// takes memory.
+/// takes memory. What isn't due stands in a wheel of nine levels of 64 slots, so no call but [`TimerQueue::advance`] looks at
+/// keys other than its own and those that are due.
 #[derive(Drop, Debug)]
 pub struct TimerQueue {
-    now: u64,
-    /// For each timer, when it is due. The first due one is found by a walk through both tables, which a sweep alone makes.
-    timers: Vec<Option<Setting>>,
-    /// For each thread, when its delay is due.
-    delays: Vec<Option<Setting>>,
+    /// How many timers there are. Their keys come first in the wheel, and those of the threads' delays follow.
+    timers: usize,
+    wheel: Wheel,
 }
 
 impl Model for TimerQueue {
-    ghost use Rattle.std.specs.Prelude.{◌<◌, ◌^◌};
+    ghost use Rattle.std.specs.Prelude.{◌<◌, ◌≤◌, ◌^◌, length};
+    ghost use Rattle.std.specs.Prelude.{drop, take};
     ghost use Rattle.nt_event.specs.Timers.{Timers};
     ghost use Rattle.nt_timer.specs.Settings.{IsNumbered};
 
     ghost Value = { Timers };
 
-    ghost view = { λ a. record { now = a.now; timers = a.timers.items; delays = a.delays.items } };
+    ghost view = { λ a. record { now = a.wheel.now; timers = take a.timers a.wheel.settings; delays = drop a.timers a.wheel.settings } };
 
-    ghost invariant = { λ a. (a.now < 2 ^ 50) × IsNumbered a.timers.items × IsNumbered a.delays.items };
+    ghost invariant = { λ a. (a.timers < 2 ^ 32) × (a.timers ≤ length a.wheel.settings) × IsNumbered (take a.timers a.wheel.settings) × IsNumbered (drop a.timers a.wheel.settings) };
 }
 
 impl TimerQueue {
@@ -58,13 +60,9 @@ impl TimerQueue {
     pub fn new(alloc: Global, timers: u32, threads: u32) -> Result<TimerQueue, AllocError>
         ensures { IfOk result (λ q. q ≡ new_timers timers threads) }
     {
-        let timers = unset(alloc, timers)?;
-        let delays = unset(alloc, threads)?;
-        Ok(TimerQueue {
-            now: 0,
-            timers,
-            delays,
-        })
+        let timers = timers as usize;
+        let wheel = Wheel::new(alloc, timers + threads as usize)?;
+        Ok(TimerQueue { timers, wheel })
     }
 
     /// The time, in units from 0.
@@ -72,7 +70,7 @@ impl TimerQueue {
         ensures same { result ≡ self.entry.now.now }
         ensures bound { result < 2 ^ 50 }
     {
-        self.now
+        self.wheel.now()
     }
 
     /// Lets the time advance by so many units.
@@ -80,7 +78,7 @@ impl TimerQueue {
         requires { self.old.now + units < 2 ^ 50 }
         ensures { self.new ≡ record self.old { now = self.old.now + units } }
     {
-        self.now += u64::from(units);
+        self.wheel.advance(units);
     }
 
     /// Sets the timer, by the event `n`, to be due `due` units from now, whether it is set or not; with a `period` other than 0 it
@@ -93,7 +91,7 @@ impl TimerQueue {
     {
         let was = self.is_set(t);
         let setting = Setting {
-            due: self.now + u64::from(due),
+            due: self.wheel.now() + u64::from(due),
             number: n,
             period,
         };
@@ -121,7 +119,7 @@ impl TimerQueue {
     pub fn is_set(&self, t: TimerNo) -> bool
         ensures { result ≡ is_set_timer self.entry.now t }
     {
-        setting_in(self.timers.as_slice(), t.0 as usize).is_some()
+        self.timer(t).is_some()
     }
 
     /// Sets the delay of the thread, by the event `n`, to be due at the time `due`, in place of the one before.
@@ -143,8 +141,8 @@ impl TimerQueue {
         ensures value { result ≡ due_entry self.entry.now }
         ensures found { is_some result ≡ list_any (is_due_key self.entry.now.now) (set_keys self.entry.now) }
     {
-        match self.first() {
-            Some((key, setting)) => Some((key, setting.number)),
+        match self.wheel.first() {
+            Some(first) => Some((key_of(self.timers, first.key), first.number)),
             None => None,
         }
     }
@@ -160,7 +158,7 @@ impl TimerQueue {
             unreachable!()
         };
         let again = match key {
-            TimerKey::Timer(_) => renewed(&old, self.now, n),
+            TimerKey::Timer(_) => renewed(&old, self.wheel.now(), n),
             TimerKey::Delay(_) => None,
         };
         self.put(key, again);
@@ -173,12 +171,27 @@ impl TimerQueue {
         }
     }
 
-    /// The first due key with its setting.
-    fn first(&self) -> Option<(TimerKey, Setting)>
-        ensures { option_map as_key result ≡ first_due self.entry.now }
+    /// The slot of the wheel in which the key stands; None exactly where the key isn't set or is due.
+    pub fn place(&self, key: TimerKey) -> Option<Slot>
+        ensures { MatchOption result (HasNoPlace self.entry.now key) (IsPlace self.entry.now key) }
     {
-        let first = earliest(None, Table::Timers, self.timers.as_slice(), self.now);
-        earliest(first, Table::Delays, self.delays.as_slice(), self.now)
+        let setting = self.setting(key)?;
+        let now = self.wheel.now();
+        if setting.due <= now {
+            return None;
+        }
+        Some(slot_of(now, setting.due))
+    }
+
+    /// When the timer is due, where it is set.
+    fn timer(&self, t: TimerNo) -> Option<Setting>
+        ensures { result ≡ setting_in self.entry.now.timers t.0 }
+    {
+        if (t.0 as usize) < self.timers {
+            self.wheel.setting(t.0 as usize)
+        } else {
+            None
+        }
     }
 
     /// When the key is due, where it is set.
@@ -186,8 +199,8 @@ impl TimerQueue {
         ensures { result ≡ setting_at key self.entry.now }
     {
         match key {
-            TimerKey::Timer(t) => setting_in(self.timers.as_slice(), t.0 as usize),
-            TimerKey::Delay(t) => setting_in(self.delays.as_slice(), t.0 as usize),
+            TimerKey::Timer(t) => self.timer(t),
+            TimerKey::Delay(t) => self.wheel.setting(self.timers + t.0 as usize),
         }
     }
 
@@ -197,31 +210,22 @@ impl TimerQueue {
         ensures { self.new ≡ with_setting key setting self.old }
     {
         match key {
-            TimerKey::Timer(t) => self.timers[t.0 as usize] = setting,
-            TimerKey::Delay(t) => self.delays[t.0 as usize] = setting,
+            TimerKey::Timer(t) => self.wheel.put(t.0 as usize, setting),
+            TimerKey::Delay(t) => self.wheel.put(self.timers + t.0 as usize, setting),
         }
     }
 }
 
-/// A table in which nothing is set.
-fn unset(alloc: Global, count: u32) -> Result<Vec<Option<Setting>>, AllocError>
-    ensures { IfOk result (λ v. v.items ≡ replicate count None) }
+/// The key of this number, where there are so many timers.
+fn key_of(timers: usize, number: usize) -> TimerKey
+    requires timer { number < timers → number < 65536 }
+    requires delay { timers ≤ number → number - timers < 65536 }
+    ensures { result ≡ key_of timers number }
 {
-    let mut settings = Vec::with_capacity(alloc, count as usize)?;
-    for _ in 0..count {
-        settings.push_reserved(None);
-    }
-    Ok(settings)
-}
-
-/// The setting at this place, which is none past the end.
-fn setting_in(settings: &[Option<Setting>], place: usize) -> Option<Setting>
-    ensures { result ≡ setting_in settings.now place }
-{
-    if place < settings.len() {
-        settings[place]
+    if number < timers {
+        TimerKey::Timer(TimerNo(number as u16))
     } else {
-        None
+        TimerKey::Delay(ThreadNo((number - timers) as u16))
     }
 }
 

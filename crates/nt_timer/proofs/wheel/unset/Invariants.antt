@@ -1,6 +1,6 @@
 use Rattle.std.proofs.Common.{◌≡◌, None, replicate}
 use Rattle.std.specs.Vec.{vec_capacity, vec_len}
-use Rattle.nt_timer.proofs.queue.unset.Given as goal
+use Rattle.nt_timer.proofs.wheel.unset.Given as goal
 
 abbrev pub invariant-loop : goal.invariant-loop
 invariant-loop l = record {

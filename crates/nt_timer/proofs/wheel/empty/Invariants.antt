@@ -1,0 +1,14 @@
+use Rattle.std.proofs.Common.{◌≡◌}
+use Rattle.std.specs.Vec.{vec_capacity}
+use Rattle.nt_timer.specs.Wheel.{IsTurned}
+use Rattle.nt_timer.proofs.Turning.{how_many}
+use Rattle.nt_timer.proofs.wheel.empty.Given as goal
+
+abbrev pub invariant-loop-node : goal.invariant-loop-node
+invariant-loop-node l = record {
+  turned : IsTurned l.past l.now l.slot l.settings l.rings l.due.items;
+  room : vec_capacity l.due ≡ vec_capacity l.fn.due;
+}
+
+abbrev pub decreases-loop-node : goal.decreases-loop-node
+decreases-loop-node l = how_many l.slot l.rings

@@ -1,0 +1,10 @@
+use Rattle.std.proofs.Common.{◌≡◌}
+use Rattle.std.specs.Vec.{vec_capacity}
+use Rattle.nt_timer.specs.Wheel.{IsTurned}
+use Rattle.nt_timer.proofs.wheel.turn.Given as goal
+
+abbrev pub invariant-loop-slot : goal.invariant-loop-slot
+invariant-loop-slot l = record {
+  turned : IsTurned l.past l.now l.slot l.settings l.rings l.due.items;
+  room : vec_capacity l.due ≡ vec_capacity l.fn.due;
+}
