@@ -4,7 +4,7 @@
 //! [`Line::fields`] tests that a line is whole and printable, and gives its [`Fields`]. A field is tested by [`number`] and
 //! [`name`]. What is wrong with a line is a [`ScriptKind`].
 //!
-//! [`put_field`] and [`put_number`] add fields of a line to a text.
+//! [`put_field`] and [`put_number`] add fields of a line to a text, and [`put_digits`] the digits of a number alone.
 //!
 //! Contracts see `Lines` as the list of the lines that are left and `Fields` as the list of the fields that are left. That
 //! reading undoes printing is said by the lemmas of `proofs::Rows` and `proofs::Decimals`: each text of rows has those rows
@@ -19,4 +19,4 @@ mod printing;
 pub use field::{name, number};
 pub use kind::{ScriptKind, What10};
 pub use lines::{Fields, INPUT_LIMIT, Line, Lines};
-pub use printing::{put_field, put_number};
+pub use printing::{put_digits, put_field, put_number};

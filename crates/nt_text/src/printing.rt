@@ -1,9 +1,61 @@
-//! Fields of a line, each with a space before it.
-ghost use Rattle.std.specs.Prelude.{◌≡◌, ◌++◌, ◌∷◌, [], OnOk, decimal};
+//! Numbers in decimal digits, and fields of a line, each with a space before it.
+ghost use Rattle.std.specs.Prelude.{◌≡◌, ◌<◌, ◌/◌, ◌%◌, ◌++◌, ◌∷◌, [], OnOk, decimal};
 ghost use Rattle.nt_text.specs.Lines.{spaced};
+ghost use Rattle.nt_text.specs.Digits.{two_digits};
 
-use itoa::Buffer;
 use std::alloc::AllocError;
+
+/// The two digits of each number below 100.
+static PAIRS: [u8; 200] =
+    *b"00010203040506070809101112131415161718192021222324252627282930313233343536373839404142434445464748495051525354555657585960616263646566676869707172737475767778798081828384858687888990919293949596979899";
+
+/// The two digits of a number below 100, of which the first may be 0.
+fn two_digits(n: u64) -> [u8; 2]
+    requires { n < 100 }
+    ensures { result ≡ two_digits n }
+{
+    let at = n as usize * 2;
+    [PAIRS[at], PAIRS[at + 1]]
+}
+
+/// The four digits of a number below 10,000, of which the first may be 0.
+fn four_digits(n: u64) -> [u8; 4]
+    requires { n < 10000 }
+    ensures { result ≡ two_digits (n / 100) ++ two_digits (n % 100) }
+{
+    let [thousands, hundreds] = two_digits(n / 100);
+    let [tens, ones] = two_digits(n % 100);
+    [thousands, hundreds, tens, ones]
+}
+
+/// Adds the digits of a number below 10,000.
+fn put_short(out: &mut Vec<u8>, n: u64) -> Result<(), AllocError>
+    requires { n < 10000 }
+    ensures { OnOk result (out.new.items ≡ out.old.items ++ decimal n) }
+{
+    if n < 10 {
+        return out.extend_from_slice(&[b'0' + n as u8]);
+    }
+    if n < 100 {
+        return out.extend_from_slice(&two_digits(n));
+    }
+    if n < 1000 {
+        let [tens, ones] = two_digits(n % 100);
+        return out.extend_from_slice(&[b'0' + (n / 100) as u8, tens, ones]);
+    }
+    out.extend_from_slice(&four_digits(n))
+}
+
+/// Adds a number in decimal digits.
+pub fn put_digits(out: &mut Vec<u8>, n: u64) -> Result<(), AllocError>
+    ensures { OnOk result (out.new.items ≡ out.old.items ++ decimal n) }
+{
+    if n < 10_000 {
+        return put_short(out, n);
+    }
+    put_digits(out, n / 10_000)?;
+    out.extend_from_slice(&four_digits(n % 10_000))
+}
 
 /// Adds a field behind others.
 pub fn put_field(out: &mut Vec<u8>, field: &[u8]) -> Result<(), AllocError>
@@ -17,5 +69,9 @@ pub fn put_field(out: &mut Vec<u8>, field: &[u8]) -> Result<(), AllocError>
 pub fn put_number(out: &mut Vec<u8>, n: u64) -> Result<(), AllocError>
     ensures { OnOk result (out.new.items ≡ out.old.items ++ spaced (decimal n ∷ [])) }
 {
-    put_field(out, Buffer::new().format(n).as_bytes())
+    if n < 10 {
+        return out.extend_from_slice(&[b' ', b'0' + n as u8]);
+    }
+    out.push(b' ')?;
+    put_digits(out, n)
 }

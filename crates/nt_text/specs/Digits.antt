@@ -1,0 +1,6 @@
+-- Numbers in decimal digits.
+use Rattle.std.specs.Prelude.{ℕ, ◌+◌, ◌/◌, ◌%◌, List, [], ◌∷◌}
+
+-- the two digits of a number below 100
+abbrev pub two_digits : ℕ → List ℕ
+two_digits n = (48 + n / 10) ∷ (48 + n % 10) ∷ []
