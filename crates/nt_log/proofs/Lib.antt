@@ -4,3 +4,4 @@ pub mod Looks
 pub mod TurnRows
 pub mod Both
 pub mod Contract
+pub mod Short

@@ -131,7 +131,7 @@ turn_takes cpus input most sound f args t e =
 
 -- ---- what is written
 
-cpu_read : (cpus : ℕ) (p : CpuNo) → p.0 ≤ 63 → p.0 < cpus → read_cpu cpus (show_cpu p) ≡ Ok p
+pub cpu_read : (cpus : ℕ) (p : CpuNo) → p.0 ≤ 63 → p.0 < cpus → read_cpu cpus (show_cpu p) ≡ Ok p
 cpu_read cpus p le lt = rw (number_up_to_again 255 p.0 (lit< tt) (omega (arith, le)), lt-ltb p.0 cpus lt) refl
 
 thread_read : (input : Input) → IsSound input → (t : ThreadNo) → t.0 < length input.script.threads → read_thread input.names (show_thread input.names t) ≡ Ok t

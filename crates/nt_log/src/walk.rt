@@ -1,10 +1,11 @@
 //! Reading a schedule line by line.
-ghost use Rattle.std.specs.Prelude.{◌≡◌};
+ghost use Rattle.std.specs.Prelude.{◌≡◌, IfSome};
 ghost use Rattle.nt_log.specs.Reading.{read_limit};
+ghost use Rattle.nt_log.specs.Short.{IsShortNext};
 
 use crate::schedules::Schedule;
 use crate::turns::{count, turn};
-use nt_event::{Items, Turn, limits};
+use nt_event::{CpuNo, Items, Turn, limits};
 use nt_line::{Names, fields};
 use nt_script::{ScriptRefusal, Stop};
 use nt_text::{Fields, Line, ScriptKind, What10};
@@ -30,8 +31,23 @@ pub struct ScheduleWalk {
     pub place: SchedulePlace,
 }
 
+/// The processor of a line `next P`, where it is below `cpus` and its number has one digit.
+fn one_digit(cpus: u8, line: &Line) -> Option<CpuNo>
+    ensures { IfSome result (λ cpu. IsShortNext cpus cpu line.now.bytes.now line.now.ended) }
+{
+    match line.bytes {
+        [b'n', b'e', b'x', b't', b' ', digit] if line.ended && digit.is_ascii_digit() => {
+            let cpu = *digit - b'0';
+            if cpu < cpus { Some(CpuNo(cpu)) } else { None }
+        }
+        _ => None,
+    }
+}
+
 impl ScheduleWalk {
-    ghost use Rattle.std.specs.Prelude.{◌≡◌, length, nat_lt};
+    ghost use Rattle.std.specs.Prelude.{◌≡◌, length, nat_lt, IfSome};
+    ghost use Rattle.nt_log.specs.declared.walk.SchedulePlace.TheVariants.{InTurns};
+    ghost use Rattle.nt_log.specs.Short.{IsShortNext};
     ghost use Rattle.nt_text.specs.declared.kind.ScriptKind.TheVariants.{TooMany};
     ghost use Rattle.nt_text.specs.declared.kind.What10.TheVariants as what;
     ghost use Rattle.nt_event.specs.declared.limits.TheConstants.{EVENTS};
@@ -59,6 +75,26 @@ impl ScheduleWalk {
     /// look has no upper bound; each field from left to right, BadNumber or, of a thread, BadName, UnknownName and WrongKind;
     /// TooMany for a turn above the greatest count of events. `NoMemory` leaves the walk of no use.
     pub fn line(&mut self, names: &Names, cpus: u8, line: &Line) -> Result<(), Stop>
+        ensures { Gives result self.new (line_step cpus names.now self.old (line.now.bytes.now, line.now.ended)) }
+    {
+        match self.short_next(cpus, line) {
+            Some(cpu) => self.add(Turn::Next(cpu)),
+            None => self.row(names, cpus, line),
+        }
+    }
+
+    /// The processor of a line `next P` that is taken, where its number has one digit, as in most lines of a schedule.
+    fn short_next(&self, cpus: u8, line: &Line) -> Option<CpuNo>
+        ensures { IfSome result (λ cpu. (self.now.place ≡ InTurns) × IsShortNext cpus cpu line.now.bytes.now line.now.ended) }
+    {
+        if self.place != SchedulePlace::InTurns {
+            return None;
+        }
+        one_digit(cpus, line)
+    }
+
+    /// Takes a line by its fields.
+    fn row(&mut self, names: &Names, cpus: u8, line: &Line) -> Result<(), Stop>
         ensures { Gives result self.new (line_step cpus names.now self.old (line.now.bytes.now, line.now.ended)) }
     {
         let mut row = line.fields()?;
