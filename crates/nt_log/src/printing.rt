@@ -1,16 +1,18 @@
 //! The text of a schedule.
-ghost use Rattle.std.specs.Prelude.{◌≡◌, ◌++◌, ◌∷◌, [], true, map, IfOk, OnOk};
+ghost use Rattle.std.specs.Prelude.{◌≡◌, ◌++◌, ◌∷◌, [], true, codes, map, IfOk, OnOk};
 ghost use Rattle.nt_text.specs.Lines.{row_text, rows_text};
+ghost use Rattle.nt_event.specs.Script.{has_thread};
 ghost use Rattle.nt_event.specs.Step.{turn_of};
+ghost use Rattle.nt_line.specs.NameLists.{show_thread};
+ghost use Rattle.nt_line.specs.Rows.{show_cpu};
 ghost use Rattle.nt_script.specs.Sound.{IsSound};
 ghost use Rattle.nt_text.specs.Lines.{spaced};
-ghost use Rattle.nt_log.specs.Schedules.{turn_fits, turns_fit, rise_field, rises_row, turn_word, turn_fields, turn_row, limit_row, done_row, schedule_of, schedule_text};
+ghost use Rattle.nt_log.specs.Schedules.{turn_fits, turns_fit, rise_field, rises_row, turn_row, limit_row, done_row, schedule_of, schedule_text};
 
-use crate::schedules::{Schedule, turn_of};
-use itoa::Buffer;
-use nt_event::{Event, History, Turn};
+use crate::schedules::Schedule;
+use nt_event::{CpuNo, Event, History, Rises, ThreadNo, Turn, What};
 use nt_script::Input;
-use nt_text::{put_field, put_number};
+use nt_text::{put_digits, put_field, put_number};
 use std::alloc::{AllocError, Global};
 
 /// Adds a class and the value that rises in it.
@@ -19,7 +21,7 @@ fn put_rise(out: &mut Vec<u8>, class: u64, value: u64) -> Result<(), AllocError>
 {
     put_number(out, class)?;
     out.push(b'=')?;
-    out.extend_from_slice(Buffer::new().format(value).as_bytes())
+    put_digits(out, value)
 }
 
 /// Adds the values that rise.
@@ -34,33 +36,68 @@ fn put_rises(out: &mut Vec<u8>, values: &[u64]) -> Result<(), AllocError>
     Ok(())
 }
 
-fn turn_word(turn: &Turn) -> &'static [u8]
-    ensures { result.now ≡ turn_word turn.now }
+/// Adds the line of a turn that is neither a look nor a switch.
+fn put_next(out: &mut Vec<u8>, cpu: CpuNo) -> Result<(), AllocError>
+    ensures { OnOk result (out.new.items ≡ out.old.items ++ row_text (codes "next" ∷ show_cpu cpu ∷ [])) }
 {
-    match turn {
-        Turn::Next(_) => b"next",
-        Turn::Look(_, _) => b"look",
-        Turn::Switch(_, _) => b"switch",
+    // Most lines of a schedule are this one.
+    if cpu.0 < 10 {
+        return out.extend_from_slice(&[b'n', b'e', b'x', b't', b' ', b'0' + cpu.0, b'\n']);
     }
+    out.extend_from_slice(b"next")?;
+    put_number(out, u64::from(cpu.0))?;
+    out.push(b'\n')?;
+    Ok(())
 }
 
-/// Adds what stands behind the word of a turn.
-fn put_turn_fields(out: &mut Vec<u8>, input: &Input, turn: &Turn) -> Result<(), AllocError>
-    requires sound { IsSound input.now }
-    requires fits { turn_fits input.now.script turn.now ≡ true }
-    ensures { OnOk result (out.new.items ≡ out.old.items ++ spaced (turn_fields input.now.names turn.now)) }
+/// Adds a processor and the values that rise for it.
+fn put_look_fields(out: &mut Vec<u8>, cpu: CpuNo, rises: &Rises) -> Result<(), AllocError>
+    ensures { OnOk result (out.new.items ≡ out.old.items ++ spaced (show_cpu cpu ∷ rises_row 0 rises.now.value)) }
 {
-    match turn {
-        Turn::Next(cpu) => put_number(out, u64::from(cpu.0)),
-        Turn::Look(cpu, rises) => {
-            put_number(out, u64::from(cpu.0))?;
-            put_rises(out, &rises.value)
-        }
-        Turn::Switch(cpu, thread) => {
-            put_number(out, u64::from(cpu.0))?;
-            put_field(out, input.names.thread(*thread).as_bytes())
-        }
-    }
+    put_number(out, u64::from(cpu.0))?;
+    put_rises(out, &rises.value)
+}
+
+/// Adds the line of a look.
+fn put_look(out: &mut Vec<u8>, cpu: CpuNo, rises: &Rises) -> Result<(), AllocError>
+    ensures { OnOk result (out.new.items ≡ out.old.items ++ row_text (codes "look" ∷ show_cpu cpu ∷ rises_row 0 rises.now.value)) }
+{
+    out.extend_from_slice(b"look")?;
+    put_look_fields(out, cpu, rises)?;
+    out.push(b'\n')?;
+    Ok(())
+}
+
+/// Adds a processor and the thread that it takes.
+fn put_switch_fields(
+    out: &mut Vec<u8>,
+    input: &Input,
+    cpu: CpuNo,
+    thread: ThreadNo,
+) -> Result<(), AllocError>
+    requires sound { IsSound input.now }
+    requires fits { has_thread input.now.script thread ≡ true }
+    ensures { OnOk result (out.new.items ≡ out.old.items ++ spaced (show_cpu cpu ∷ show_thread input.now.names thread ∷ [])) }
+{
+    put_number(out, u64::from(cpu.0))?;
+    put_field(out, input.names.thread(thread).as_bytes())
+}
+
+/// Adds the line of a switch.
+fn put_switch(
+    out: &mut Vec<u8>,
+    input: &Input,
+    cpu: CpuNo,
+    thread: ThreadNo,
+) -> Result<(), AllocError>
+    requires sound { IsSound input.now }
+    requires fits { has_thread input.now.script thread ≡ true }
+    ensures { OnOk result (out.new.items ≡ out.old.items ++ row_text (codes "switch" ∷ show_cpu cpu ∷ show_thread input.now.names thread ∷ [])) }
+{
+    out.extend_from_slice(b"switch")?;
+    put_switch_fields(out, input, cpu, thread)?;
+    out.push(b'\n')?;
+    Ok(())
 }
 
 /// Adds the line of a turn.
@@ -69,10 +106,34 @@ fn put_turn(out: &mut Vec<u8>, input: &Input, turn: &Turn) -> Result<(), AllocEr
     requires fits { turn_fits input.now.script turn.now ≡ true }
     ensures { OnOk result (out.new.items ≡ out.old.items ++ row_text (turn_row input.now.names turn.now)) }
 {
-    out.extend_from_slice(turn_word(turn))?;
-    put_turn_fields(out, input, turn)?;
-    out.push(b'\n')?;
-    Ok(())
+    match turn {
+        Turn::Next(cpu) => put_next(out, *cpu),
+        Turn::Look(cpu, rises) => put_look(out, *cpu, rises),
+        Turn::Switch(cpu, thread) => put_switch(out, input, *cpu, *thread),
+    }
+}
+
+/// Adds the line of the turn that makes an event.
+fn put_turn_of(out: &mut Vec<u8>, input: &Input, event: &Event) -> Result<(), AllocError>
+    requires sound { IsSound input.now }
+    requires fits { turn_fits input.now.script (turn_of event.now) ≡ true }
+    ensures { OnOk result (out.new.items ≡ out.old.items ++ row_text (turn_row input.now.names (turn_of event.now))) }
+{
+    match &event.what {
+        What::Look { rises } => put_look(out, event.cpu, rises),
+        What::Switch { thread, .. } => put_switch(out, input, event.cpu, *thread),
+        What::Call { .. }
+        | What::Begin { .. }
+        | What::Normal { .. }
+        | What::End { .. }
+        | What::Expire { .. }
+        | What::Fire { .. }
+        | What::Clean { .. }
+        | What::Rewait { .. }
+        | What::Flush { .. }
+        | What::Gone { .. }
+        | What::Rest => put_next(out, event.cpu),
+    }
 }
 
 fn put_turns(out: &mut Vec<u8>, input: &Input, turns: &[Turn]) -> Result<(), AllocError>
@@ -93,7 +154,7 @@ fn put_turns_of(out: &mut Vec<u8>, input: &Input, events: &[Event]) -> Result<()
     ensures { OnOk result (out.new.items ≡ out.old.items ++ rows_text (map (turn_row input.now.names) (map turn_of events.now))) }
 {
     for event in events {
-        put_turn(out, input, &turn_of(event))?;
+        put_turn_of(out, input, event)?;
     }
     Ok(())
 }
