@@ -11,10 +11,9 @@ ghost use Rattle.nt_text.specs.Lines.{spaced};
 ghost use Rattle.nt_print.specs.Report.{show_running, begun_row, key_row, status_row, kind_of, kind_word, what_row, event_fields, event_row, event_rows, line_rows};
 
 use crate::fields::{put_processor, put_replied, put_status, put_used};
-use itoa::Buffer;
 use nt_event::{ApcKind, ApcNo, Begun, Command, Event, ThreadNo, TimerKey, What};
 use nt_script::{Input, put_command};
-use nt_text::{put_field, put_number};
+use nt_text::{put_digits, put_field, put_number};
 use std::alloc::AllocError;
 
 /// Adds the thread that runs, or a dash.
@@ -25,7 +24,7 @@ fn put_running(out: &mut Vec<u8>, input: &Input, thread: Option<ThreadNo>) -> Re
 {
     match thread {
         Some(thread) => put_field(out, input.names.thread(thread).as_bytes()),
-        None => put_field(out, b"-"),
+        None => out.extend_from_slice(b" -"),
     }
 }
 
@@ -56,15 +55,15 @@ fn put_begun(out: &mut Vec<u8>, input: &Input, begun: &Begun) -> Result<(), Allo
 {
     match begun {
         Begun::Int(level) => {
-            put_field(out, b"int")?;
+            out.extend_from_slice(b" int")?;
             put_number(out, u64::from(level.number()))
         }
         Begun::Dpc(dpc) => {
-            put_field(out, b"dpc")?;
+            out.extend_from_slice(b" dpc")?;
             put_field(out, input.names.dpc(*dpc).as_bytes())
         }
         Begun::Threaded(dpc) => {
-            put_field(out, b"threaded")?;
+            out.extend_from_slice(b" threaded")?;
             put_field(out, input.names.dpc(*dpc).as_bytes())
         }
         Begun::Apc(apc) => {
@@ -81,11 +80,11 @@ fn put_key(out: &mut Vec<u8>, input: &Input, key: TimerKey) -> Result<(), AllocE
 {
     match key {
         TimerKey::Timer(timer) => {
-            put_field(out, b"timer")?;
+            out.extend_from_slice(b" timer")?;
             put_field(out, input.names.timer(timer).as_bytes())
         }
         TimerKey::Delay(thread) => {
-            put_field(out, b"delay")?;
+            out.extend_from_slice(b" delay")?;
             put_field(out, input.names.thread(thread).as_bytes())
         }
     }
@@ -114,41 +113,41 @@ fn put_what(out: &mut Vec<u8>, input: &Input, what: &What) -> Result<(), AllocEr
             command,
             reply,
         } => {
-            put_field(out, b"call")?;
+            out.extend_from_slice(b" call")?;
             put_number(out, *frame)?;
             put_called(out, input, command)?;
             put_replied(out, *reply)
         }
         What::Look { .. } => Ok(()),
         What::Begin { begun, from } => {
-            put_field(out, b"begin")?;
+            out.extend_from_slice(b" begin")?;
             put_begun(out, input, begun)?;
             put_used(out, *from)
         }
         What::Normal { frame } => {
-            put_field(out, b"normal")?;
+            out.extend_from_slice(b" normal")?;
             put_number(out, *frame)
         }
         What::End { frame } => {
-            put_field(out, b"end")?;
+            out.extend_from_slice(b" end")?;
             put_number(out, *frame)
         }
         What::Expire { key, from } => {
-            put_field(out, b"expire")?;
+            out.extend_from_slice(b" expire")?;
             put_key(out, input, *key)?;
             put_used(out, *from)
         }
         What::Fire { dpc, reply } => {
-            put_field(out, b"fire")?;
+            out.extend_from_slice(b" fire")?;
             put_field(out, input.names.dpc(*dpc).as_bytes())?;
             put_replied(out, *reply)
         }
         What::Clean { class } => {
-            put_field(out, b"clean")?;
+            out.extend_from_slice(b" clean")?;
             put_number(out, u64::from(*class))
         }
         What::Switch { thread, status } => {
-            put_field(out, b"switch")?;
+            out.extend_from_slice(b" switch")?;
             put_field(out, input.names.thread(*thread).as_bytes())?;
             match status {
                 Some(status) => put_status(out, *status),
@@ -156,20 +155,20 @@ fn put_what(out: &mut Vec<u8>, input: &Input, what: &What) -> Result<(), AllocEr
             }
         }
         What::Rewait { frame, reply } => {
-            put_field(out, b"rewait")?;
+            out.extend_from_slice(b" rewait")?;
             put_number(out, *frame)?;
             put_replied(out, *reply)
         }
         What::Flush { apc, from } => {
-            put_field(out, b"flush")?;
+            out.extend_from_slice(b" flush")?;
             put_field(out, input.names.apc(*apc).as_bytes())?;
             put_used(out, *from)
         }
         What::Gone { thread } => {
-            put_field(out, b"gone")?;
+            out.extend_from_slice(b" gone")?;
             put_field(out, input.names.thread(*thread).as_bytes())
         }
-        What::Rest => put_field(out, b"rest"),
+        What::Rest => out.extend_from_slice(b" rest"),
     }
 }
 
@@ -190,7 +189,7 @@ fn put_event(out: &mut Vec<u8>, input: &Input, number: u64, event: &Event) -> Re
     requires fits { event_fits input.now.script event.now ≡ true }
     ensures { OnOk result (out.new.items ≡ out.old.items ++ row_text (event_row input.now number event.now)) }
 {
-    out.extend_from_slice(Buffer::new().format(number).as_bytes())?;
+    put_digits(out, number)?;
     put_event_fields(out, input, event)?;
     out.push(b'\n')?;
     Ok(())

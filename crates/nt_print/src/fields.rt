@@ -1,19 +1,21 @@
 //! Fields of a line, each with a space before it.
 ghost use Rattle.std.specs.Prelude.{◌≡◌, ◌++◌, ◌∷◌, [], OnOk, decimal, codes};
 ghost use Rattle.nt_text.specs.Lines.{spaced};
-ghost use Rattle.nt_print.specs.Report.{show_processor, hexadecimal, reply_row, replied, used};
+ghost use Rattle.nt_print.specs.Report.{show_processor, hexadecimal, replied, used};
 
-use itoa::Buffer;
 use nt_event::Reply;
-use nt_text::{put_field, put_number};
+use nt_text::{put_digits, put_field, put_number};
 use std::alloc::AllocError;
 
 /// Adds ` p` and a processor's number.
 pub(crate) fn put_processor(out: &mut Vec<u8>, n: u64) -> Result<(), AllocError>
     ensures { OnOk result (out.new.items ≡ out.old.items ++ spaced (show_processor n ∷ [])) }
 {
+    if n < 10 {
+        return out.extend_from_slice(&[b' ', b'p', b'0' + n as u8]);
+    }
     out.extend_from_slice(b" p")?;
-    out.extend_from_slice(Buffer::new().format(n).as_bytes())
+    put_digits(out, n)
 }
 
 /// Adds a number in hexadecimal.
@@ -28,39 +30,35 @@ fn put_hexadecimal(out: &mut Vec<u8>, n: u32) -> Result<(), AllocError>
 pub(crate) fn put_status(out: &mut Vec<u8>, status: u32) -> Result<(), AllocError>
     ensures { OnOk result (out.new.items ≡ out.old.items ++ spaced (codes "status" ∷ hexadecimal status ∷ [])) }
 {
-    put_field(out, b"status")?;
+    out.extend_from_slice(b" status")?;
     put_hexadecimal(out, status)
-}
-
-fn put_reply(out: &mut Vec<u8>, reply: Reply) -> Result<(), AllocError>
-    ensures { OnOk result (out.new.items ≡ out.old.items ++ spaced (reply_row reply)) }
-{
-    match reply {
-        Reply::Done => put_field(out, b"done"),
-        Reply::Yes => put_field(out, b"yes"),
-        Reply::No => put_field(out, b"no"),
-        Reply::Status(status) => put_status(out, status),
-        Reply::Blocked => put_field(out, b"blocked"),
-        Reply::Refused(refusal) => {
-            put_field(out, b"refused")?;
-            put_number(out, u64::from(refusal.number()))?;
-            put_field(out, refusal.name().as_bytes())
-        }
-    }
 }
 
 /// Adds `->` and a reply.
 pub(crate) fn put_replied(out: &mut Vec<u8>, reply: Reply) -> Result<(), AllocError>
     ensures { OnOk result (out.new.items ≡ out.old.items ++ spaced (replied reply)) }
 {
-    put_field(out, b"->")?;
-    put_reply(out, reply)
+    match reply {
+        Reply::Done => out.extend_from_slice(b" -> done"),
+        Reply::Yes => out.extend_from_slice(b" -> yes"),
+        Reply::No => out.extend_from_slice(b" -> no"),
+        Reply::Status(status) => {
+            out.extend_from_slice(b" -> status")?;
+            put_hexadecimal(out, status)
+        }
+        Reply::Blocked => out.extend_from_slice(b" -> blocked"),
+        Reply::Refused(refusal) => {
+            out.extend_from_slice(b" -> refused")?;
+            put_number(out, u64::from(refusal.number()))?;
+            put_field(out, refusal.name().as_bytes())
+        }
+    }
 }
 
 /// Adds `of` and the number of the event that is used up.
 pub(crate) fn put_used(out: &mut Vec<u8>, from: u64) -> Result<(), AllocError>
     ensures { OnOk result (out.new.items ≡ out.old.items ++ spaced (used from)) }
 {
-    put_field(out, b"of")?;
+    out.extend_from_slice(b" of")?;
     put_number(out, from)
 }

@@ -13,6 +13,9 @@ use nt_log::put_schedule_of;
 use nt_script::Input;
 use std::alloc::{AllocError, Global};
 
+/// How many bytes an event is taken to have in a report, with its turn in the schedule. A report may have more.
+const BYTES_OF_EVENT: usize = 48;
+
 /// The report of a history, whose events name things of the input's script. An error is want of memory.
 pub fn report(alloc: Global, input: &Input, history: &History) -> Result<Vec<u8>, AllocError>
     requires sound { IsSound input.now }
@@ -21,7 +24,8 @@ pub fn report(alloc: Global, input: &Input, history: &History) -> Result<Vec<u8>
 {
     let events = history.events.as_slice();
     let uses = uses_of(alloc, &input.script, events)?;
-    let mut out = Vec::from_slice(alloc, b"report\n")?;
+    let mut out = Vec::with_capacity(alloc, events.len().saturating_mul(BYTES_OF_EVENT))?;
+    out.extend_from_slice(b"report\n")?;
     put_events(&mut out, input, events)?;
     put_cuts(alloc, &mut out, input.script.cpus, history)?;
     put_waits(&mut out, input, events, &uses)?;

@@ -22,11 +22,11 @@ fn put_object(out: &mut Vec<u8>, input: &Input, object: Object) -> Result<(), Al
 {
     match object {
         Object::Dpc(dpc) => {
-            put_field(out, b"dpc")?;
+            out.extend_from_slice(b" dpc")?;
             put_field(out, input.names.dpc(dpc).as_bytes())
         }
         Object::Apc(apc) => {
-            put_field(out, b"apc")?;
+            out.extend_from_slice(b" apc")?;
             put_field(out, input.names.apc(apc).as_bytes())
         }
     }
