@@ -1,0 +1,2 @@
+pub mod SetAndKept
+pub mod Flags
