@@ -1,2 +1,4 @@
 pub mod SetAndKept
 pub mod Flags
+pub mod Doing
+pub mod Waits
