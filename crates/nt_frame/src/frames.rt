@@ -105,6 +105,13 @@ impl Frames {
         }
     }
 
+    /// Whether a count of the running thread's regions comes to 0 once the innermost frame has ended.
+    pub fn gives_up(&self) -> bool
+        ensures { result ≡ some_came_to_0 (regions_in self.now) (below_in self.now) }
+    {
+        self.own.is_empty() && self.below().came_to_0(&self.regions())
+    }
+
     /// The level once the innermost frame has ended.
     pub fn after(&self) -> Level
         ensures { result ≡ after_in self.now }
@@ -193,7 +200,7 @@ impl Frames {
         ensures asks { result ≡ some_came_to_0 (regions_in self.old) (below_in self.old) }
         ensures phase { self.new ≡ at_innermost normal_of self.old }
     {
-        let asks = self.below().came_to_0(&self.regions());
+        let asks = self.gives_up();
         let Some(frame) = self.top() else {
             unreachable!()
         };
@@ -212,7 +219,7 @@ impl Frames {
         let Some(frame) = self.top() else {
             unreachable!()
         };
-        let asks = is_normal_apc(&frame.body) || self.below().came_to_0(&self.regions());
+        let asks = is_normal_apc(&frame.body) || self.gives_up();
         self.drop_innermost();
         asks
     }
