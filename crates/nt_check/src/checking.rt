@@ -44,7 +44,7 @@ pub fn check(alloc: Global, script: &Script, history: &History) -> Result<Verdic
     let mut floor = PlainFloor::new(alloc, script, history.turns)?;
     let mut number = 0;
     for event in history.events.as_slice() {
-        let made = processors.turn(&mut floor, turn_of(event));
+        let made = processors.turn(&mut floor, &turn_of(event));
         if !is_made(&made, event) {
             return Ok(Verdict::IllegalAt(number));
         }

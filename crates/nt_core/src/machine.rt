@@ -82,7 +82,7 @@ impl<'s> Core<'s> {
         ensures err { IfErr result (λ r. step self.old.script self.old.limit turn self.old.past ≡ Err (kind_of r)) }
         ensures same { OnErr result (self.new ≡ self.old) }
     {
-        let event = match self.processors.turn(&mut self.floor, turn) {
+        let event = match self.processors.turn(&mut self.floor, &turn) {
             Ok(event) => event,
             Err(refusal) => return Err(refusal),
         };

@@ -1,6 +1,7 @@
 //! Events that touch no lane.
-ghost use Rattle.std.specs.Prelude.{◌≡◌, ◌<◌, ◌≤◌, ◌+◌, ◌^◌, ℕ, IfSome};
+ghost use Rattle.std.specs.Prelude.{◌≡◌, ◌<◌, ◌≤◌, ◌+◌, ◌^◌, ◌||◌, ℕ, IfSome};
 ghost use Rattle.nt_event.specs.Own.{stand_in};
+ghost use Rattle.nt_event.specs.Regions.{some_came_to_0};
 ghost use Rattle.nt_event.specs.Step.{thread_field};
 ghost use Rattle.nt_event.specs.Lists.{value_at};
 ghost use Rattle.nt_floor.specs.Views.{HasWord, View};
@@ -32,66 +33,11 @@ fn ask_when(test: bool, cpu: CpuNo, class: u8) -> Option<Asked>
     }
 }
 
-/// What the call of a command asks for.
-fn call_asks(stand: &Stand, command: &Command, reply: &Reply) -> Option<Asked>
-    ensures asks { result ≡ call_asks_of stand.now command.now reply.now }
-    ensures class { IfSome result (λ a. a.class < 16) }
-{
-    if !matches!(reply, Reply::Done) {
-        return None;
-    }
-    match command {
-        Command::LeaveCrit => ask_when(stand.regions.crit == 1, stand.cpu, 1),
-        Command::LeaveGuard => ask_when(stand.regions.guard == 1, stand.cpu, 1),
-        Command::Interrupt(cpu, level) => Some(Asked {
-            cpu: *cpu,
-            class: level.number(),
-        }),
-        Command::Raise(_) | Command::Lower(_) => None,
-        Command::EnterCrit | Command::EnterGuard => None,
-        Command::Queue(_) | Command::Unqueue(_) => None,
-        Command::SetImportance(_, _) | Command::SetTarget(_, _) => None,
-        Command::SetTimer(_, _, _) | Command::CancelTimer(_) | Command::Clock(_) => None,
-        Command::InsertApc(_) | Command::RemoveApc(_) => None,
-        Command::StartWait(_, _) | Command::Delay(_, _, _) | Command::Release(_) => None,
-        Command::Alert(_, _) | Command::TestAlert(_) => None,
-        Command::ToUser | Command::Yield | Command::Note(_) => None,
-    }
-}
-
 /// Whether a normal kernel APC ends.
 fn is_normal_end(body: &Option<Body>) -> bool
     ensures { result ≡ ends_normal body.now }
 {
     matches!(body, Some(Body::Apc(_, ApcKind::Normal)))
-}
-
-/// What an event that touches no lane asks for.
-fn asks(stand: &Stand, what: &What) -> Option<Asked>
-    ensures asks { result ≡ alone_asks stand.now what.now }
-    ensures class { IfSome result (λ a. a.class < 16) }
-{
-    match what {
-        What::Call { command, reply, .. } => call_asks(stand, command, reply),
-        What::Normal { .. } => {
-            let given_up = stand.below.came_to_0(&stand.regions);
-            ask_when(given_up, stand.cpu, 1)
-        }
-        What::End { .. } => {
-            let given_up = stand.below.came_to_0(&stand.regions);
-            ask_when(is_normal_end(&stand.body) || given_up, stand.cpu, 1)
-        }
-        What::Look { .. }
-        | What::Begin { .. }
-        | What::Expire { .. }
-        | What::Fire { .. }
-        | What::Clean { .. }
-        | What::Switch { .. }
-        | What::Rewait { .. }
-        | What::Flush { .. }
-        | What::Gone { .. }
-        | What::Rest => None,
-    }
 }
 
 /// The level after the call of a command.
@@ -183,6 +129,72 @@ impl<'s> Cpu<'s> {
         }
     }
 
+    /// What the call of a command asks for.
+    fn call_asks(&self, command: &Command, reply: &Reply) -> Option<Asked>
+        ensures asks { result ≡ call_asks_of (stand_in self.now.cpu self.now.own) command.now reply.now }
+        ensures class { IfSome result (λ a. a.class < 16) }
+    {
+        if !matches!(reply, Reply::Done) {
+            return None;
+        }
+        match command {
+            Command::LeaveCrit => ask_when(self.frames.regions().crit == 1, self.cpu, 1),
+            Command::LeaveGuard => ask_when(self.frames.regions().guard == 1, self.cpu, 1),
+            Command::Interrupt(cpu, level) => Some(Asked {
+                cpu: *cpu,
+                class: level.number(),
+            }),
+            Command::Raise(_) | Command::Lower(_) => None,
+            Command::EnterCrit | Command::EnterGuard => None,
+            Command::Queue(_) | Command::Unqueue(_) => None,
+            Command::SetImportance(_, _) | Command::SetTarget(_, _) => None,
+            Command::SetTimer(_, _, _) | Command::CancelTimer(_) | Command::Clock(_) => None,
+            Command::InsertApc(_) | Command::RemoveApc(_) => None,
+            Command::StartWait(_, _) | Command::Delay(_, _, _) | Command::Release(_) => None,
+            Command::Alert(_, _) | Command::TestAlert(_) => None,
+            Command::ToUser | Command::Yield | Command::Note(_) => None,
+        }
+    }
+
+    /// Whether a normal kernel APC ends, or the running thread gives up its last region of a kind, where the innermost frame ends.
+    fn end_asks(&self) -> bool
+        ensures { result ≡ (ends_normal (stand_in self.now.cpu self.now.own).body || some_came_to_0 (stand_in self.now.cpu self.now.own).regions (stand_in self.now.cpu self.now.own).below) }
+    {
+        is_normal_end(&self.body()) || self.frames.gives_up()
+    }
+
+    /// What runs in the innermost frame.
+    fn body(&self) -> Option<Body>
+        ensures { result ≡ (stand_in self.now.cpu self.now.own).body }
+    {
+        match self.frames.top() {
+            Some(frame) => Some(frame.body),
+            None => None,
+        }
+    }
+
+    /// What an event that touches no lane asks for.
+    fn asks(&self, what: &What) -> Option<Asked>
+        ensures asks { result ≡ alone_asks (stand_in self.now.cpu self.now.own) what.now }
+        ensures class { IfSome result (λ a. a.class < 16) }
+    {
+        match what {
+            What::Call { command, reply, .. } => self.call_asks(command, reply),
+            What::Normal { .. } => ask_when(self.frames.gives_up(), self.cpu, 1),
+            What::End { .. } => ask_when(self.end_asks(), self.cpu, 1),
+            What::Look { .. }
+            | What::Begin { .. }
+            | What::Expire { .. }
+            | What::Fire { .. }
+            | What::Clean { .. }
+            | What::Switch { .. }
+            | What::Rewait { .. }
+            | What::Flush { .. }
+            | What::Gone { .. }
+            | What::Rest => None,
+        }
+    }
+
     /// The processor's level after an event that touches no lane.
     fn level_after(&self, what: &What) -> Level
         ensures { result ≡ alone_level what.now self.now.own.frames }
@@ -213,7 +225,7 @@ impl<'s> Cpu<'s> {
         ensures grows { W.grows words.old words.new }
     {
         let event = self.event(what);
-        let asked = asks(&self.standing(), what);
+        let asked = self.asks(what);
         let n = words.draw(&event);
         mark(words, asked, n);
         self.take_up(&event, n, None, &noticed(self.cpu, what, asked, n));

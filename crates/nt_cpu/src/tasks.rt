@@ -1,8 +1,11 @@
 //! What a processor has to do next, as far as it knows alone.
-ghost use Rattle.std.specs.Prelude.{◌≡◌, ◌<◌, IfSome, find, not};
+ghost use Rattle.std.specs.Prelude.{◌≡◌, ◌<◌, ◌-◌, IfSome, find, not};
+ghost use Rattle.nt_event.specs.declared.events.Begun.{Begun};
+ghost use Rattle.nt_event.specs.declared.events.What.{What};
+ghost use Rattle.nt_event.specs.declared.jobs.Task.{Task};
 ghost use Rattle.nt_event.specs.Commands.{refusal as refusal_of};
 ghost use Rattle.nt_event.specs.Frames.{level_in, thread_part};
-ghost use Rattle.nt_event.specs.Jobs.{call_task as call_of, chosen_task as chosen_of, command_task as command_of, end_task as end_of, fire_task as fire_of, frame_task as frame_of, has_normal as goes_on, idle_task as idle_of, interrupt_task as interrupt_of, is_due as due_in, level_at, may_apcs as apcs_in, may_drain as drain_in, may_interrupt, may_switch as switch_in, may_threaded as threaded_in, must as must_in, must_task as must_of, normal_task as normal_of, rests as rests_in, rewait_task as rewait_of, rundown_task as rundown_of, task as task_of};
+ghost use Rattle.nt_event.specs.Jobs.{call_task as call_of, chosen_task as chosen_of, command_task as command_of, end_task as end_of, frame_task as frame_of, has_normal as goes_on, idle_task as idle_of, is_due as due_in, level_at, may_apcs as apcs_in, may_drain as drain_in, may_interrupt, may_switch as switch_in, may_threaded as threaded_in, must as must_in, must_task as must_of, normal_task as normal_of, rests as rests_in, rewait_task as rewait_of, rundown_task as rundown_of, task as task_of};
 ghost use Rattle.nt_event.specs.Classes.{interrupt_classes};
 ghost use Rattle.nt_event.specs.Routines.{next_command as next_of};
 ghost use Rattle.nt_event.specs.Regions.{regions_of};
@@ -27,16 +30,6 @@ impl<'s> Cpu<'s> {
         is_due(&self.seen, &self.served, class)
     }
 
-    /// An expired timer's DPC is to be inserted.
-    fn fire_task(&self) -> Option<Task>
-        ensures { result ≡ fire_of self.now.own }
-    {
-        match self.fire {
-            Some(dpc) => Some(Task::Shared(Job::Fire(dpc))),
-            None => None,
-        }
-    }
-
     fn due_interrupt(&self) -> Option<u8>
         ensures value { result ≡ find (may_interrupt self.now.own) interrupt_classes }
         ensures class { IfSome result (λ c. c < 16) }
@@ -45,19 +38,17 @@ impl<'s> Cpu<'s> {
         due_interrupt(self.level().number(), &self.seen, &self.served)
     }
 
-    /// The greatest interrupt that is pending and above the level begins, with the number of the ask that it serves.
-    fn interrupt_task(&self) -> Option<Task>
-        ensures { result ≡ interrupt_of self.now.own }
+    /// The interrupt of this class begins, with the number of the ask that it serves.
+    fn interrupt(&self, class: u8) -> Task
+        requires level { class < 16 }
+        requires asked { 0 < value_at self.now.own.seen class }
+        ensures { result ≡ Task.Alone (What.Begin (Begun.Int class) (value_at self.now.own.seen class - 1)) }
     {
-        let class = self.due_interrupt()?;
         match Level::new(class) {
-            Some(level) => {
-                let from = self.seen.get(class) - 1;
-                Some(Task::Alone(What::Begin {
-                    begun: Begun::Int(level),
-                    from,
-                }))
-            }
+            Some(level) => Task::Alone(What::Begin {
+                begun: Begun::Int(level),
+                from: self.seen.get(class) - 1,
+            }),
             None => unreachable!(),
         }
     }
@@ -87,13 +78,11 @@ impl<'s> Cpu<'s> {
     fn must_task(&self) -> Option<Task>
         ensures { result ≡ must_of self.now.own }
     {
-        let fire = self.fire_task();
-        if fire.is_some() {
-            return fire;
+        if let Some(dpc) = self.fire {
+            return Some(Task::Shared(Job::Fire(dpc)));
         }
-        let interrupt = self.interrupt_task();
-        if interrupt.is_some() {
-            return interrupt;
+        if let Some(class) = self.due_interrupt() {
+            return Some(self.interrupt(class));
         }
         if self.may_drain() {
             return Some(Task::Shared(Job::Drain));
@@ -107,10 +96,14 @@ impl<'s> Cpu<'s> {
         None
     }
 
+    /// Whether there is something that it must do before it goes on.
     pub(crate) fn must(&self) -> bool
         ensures { result ≡ must_in self.now.own }
     {
-        self.must_task().is_some()
+        if self.fire.is_some() || self.due_interrupt().is_some() {
+            return true;
+        }
+        self.may_drain() || self.may_apcs() || self.may_threaded()
     }
 
     /// Whether no thread runs, no frame stands on the own part and nothing must be done.

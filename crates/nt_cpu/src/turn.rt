@@ -90,12 +90,12 @@ impl<'s> Cpu<'s> {
     /// NothingToDo comes where the processor is cut, and for a turn Next where it rests or has to choose a thread; BadLook where
     /// no value rises or one is not above what was seen; BadChoice where the thread cannot be taken or no choice may be made.
     /// NoMemory comes from a floor that is not alone.
-    pub fn turn<F: Floor>(&mut self, floor: &mut F, choice: Turn) -> Result<Event, TurnRefusal>
-        requires names { cpu_at choice ≡ self.old.cpu }
+    pub fn turn<F: Floor>(&mut self, floor: &mut F, choice: &Turn) -> Result<Event, TurnRefusal>
+        requires names { cpu_at choice.now ≡ self.old.cpu }
         requires script { F.script floor.old ≡ self.old.script }
         requires serves { Serves self.old (F.view floor.old) }
-        ensures ok { IfOk result (λ e. (f : Found) × (n : ℕ) × (IsTurned self.old self.new choice f n e (F.view floor.old) (F.view floor.new) × (acts self.old choice ≡ true → F.found floor.new n e (stand_in self.old.cpu self.old.own) f))) }
-        ensures err { IfErr result (λ r. (f : Found) × (IsTurnRefused self.old choice f r (F.view floor.old) × (acts self.old choice ≡ true → F.shows floor.new f))) }
+        ensures ok { IfOk result (λ e. (f : Found) × (n : ℕ) × (IsTurned self.old self.new choice.now f n e (F.view floor.old) (F.view floor.new) × (acts self.old choice.now ≡ true → F.found floor.new n e (stand_in self.old.cpu self.old.own) f))) }
+        ensures err { IfErr result (λ r. (f : Found) × (IsTurnRefused self.old choice.now f r (F.view floor.old) × (acts self.old choice.now ≡ true → F.shows floor.new f))) }
         ensures same { OnErr result ((self.new ≡ self.old) × IsUnmoved (F.view floor.old) (F.view floor.new)) }
         ensures memory { (F.view floor.old).alone ≡ true → IsErrOf result TurnRefusal.NoMemory → ⊥ }
         ensures script { F.script floor.new ≡ F.script floor.old }
@@ -105,14 +105,14 @@ impl<'s> Cpu<'s> {
         if self.is_cut() {
             return Err(TurnRefusal::NothingToDo);
         }
-        match self.turn_task(&choice) {
+        match self.turn_task(choice) {
             Some(Task::Alone(what)) => Ok(self.make_alone(floor, &what)),
             Some(Task::Shared(job)) => match self.make_shared(floor, job) {
                 Ok(event) => Ok(event),
                 Err(ActRefusal::NoMemory) => Err(TurnRefusal::NoMemory),
-                Err(_) => Err(turn_refusal(&choice)),
+                Err(_) => Err(turn_refusal(choice)),
             },
-            None => Err(turn_refusal(&choice)),
+            None => Err(turn_refusal(choice)),
         }
     }
 }

@@ -69,22 +69,22 @@ impl<'s> Processors<'s> {
     /// NoSuchCpu comes where the script does not have the processor. NothingToDo comes where the processor made as many events as it
     /// may, and for a turn Next where it rests or has to choose a thread; BadLook where no value rises, or one is not above what
     /// was seen or was not asked for; BadChoice where the thread cannot be taken up or no choice may be made.
-    pub fn turn<F: OpenFloor>(&mut self, floor: &mut F, turn: Turn) -> Result<Event, CoreRefusal>
+    pub fn turn<F: OpenFloor>(&mut self, floor: &mut F, turn: &Turn) -> Result<Event, CoreRefusal>
         requires { AreSound self.old (F.script floor.old) (F.view floor.old) }
-        ensures ok { IfOk result (λ e. (past : List Event) → AreAfter past self.old (F.script floor.old) (F.view floor.old) → (step self.old.script self.old.limit turn past ≡ Ok e) × AreAfter (e ∷ past) self.new (F.script floor.new) (F.view floor.new)) }
-        ensures err { IfErr result (λ r. (past : List Event) → AreAfter past self.old (F.script floor.old) (F.view floor.old) → step self.old.script self.old.limit turn past ≡ Err (kind_of r)) }
+        ensures ok { IfOk result (λ e. (past : List Event) → AreAfter past self.old (F.script floor.old) (F.view floor.old) → (step self.old.script self.old.limit turn.now past ≡ Ok e) × AreAfter (e ∷ past) self.new (F.script floor.new) (F.view floor.new)) }
+        ensures err { IfErr result (λ r. (past : List Event) → AreAfter past self.old (F.script floor.old) (F.view floor.old) → step self.old.script self.old.limit turn.now past ≡ Err (kind_of r)) }
         ensures same { OnErr result ((self.new ≡ self.old) × IsUnmoved (F.view floor.old) (F.view floor.new)) }
         ensures floor { F.script floor.new ≡ F.script floor.old }
         ensures kept { (self.new.script ≡ self.old.script) × (self.new.limit ≡ self.old.limit) }
     {
-        let cpu = cpu_at(&turn);
+        let cpu = cpu_at(turn);
         if self.script.cpus <= cpu.0 {
             return Err(CoreRefusal::NoSuchCpu);
         }
         if self.is_cut(cpu) {
             return Err(CoreRefusal::NothingToDo);
         }
-        if !is_asked(floor, &turn) {
+        if !is_asked(floor, turn) {
             return Err(CoreRefusal::BadLook);
         }
         self.take(floor, turn)
@@ -100,17 +100,17 @@ impl<'s> Processors<'s> {
     }
 
     /// Takes the turn of a processor, the values of which were asked for.
-    fn take<F: OpenFloor>(&mut self, floor: &mut F, turn: Turn) -> Result<Event, CoreRefusal>
+    fn take<F: OpenFloor>(&mut self, floor: &mut F, turn: &Turn) -> Result<Event, CoreRefusal>
         requires after { AreSound self.old (F.script floor.old) (F.view floor.old) }
-        requires asked { (past : List Event) → AreAfter past self.old (F.script floor.old) (F.view floor.old) → was_asked_for self.old.script turn past ≡ true }
-        requires cpu { (cpu_of_turn turn).0 < self.old.script.cpus }
-        ensures ok { IfOk result (λ e. (past : List Event) → AreAfter past self.old (F.script floor.old) (F.view floor.old) → (step self.old.script self.old.limit turn past ≡ Ok e) × AreAfter (e ∷ past) self.new (F.script floor.new) (F.view floor.new)) }
-        ensures err { IfErr result (λ r. (past : List Event) → AreAfter past self.old (F.script floor.old) (F.view floor.old) → step self.old.script self.old.limit turn past ≡ Err (kind_of r)) }
+        requires asked { (past : List Event) → AreAfter past self.old (F.script floor.old) (F.view floor.old) → was_asked_for self.old.script turn.now past ≡ true }
+        requires cpu { (cpu_of_turn turn.now).0 < self.old.script.cpus }
+        ensures ok { IfOk result (λ e. (past : List Event) → AreAfter past self.old (F.script floor.old) (F.view floor.old) → (step self.old.script self.old.limit turn.now past ≡ Ok e) × AreAfter (e ∷ past) self.new (F.script floor.new) (F.view floor.new)) }
+        ensures err { IfErr result (λ r. (past : List Event) → AreAfter past self.old (F.script floor.old) (F.view floor.old) → step self.old.script self.old.limit turn.now past ≡ Err (kind_of r)) }
         ensures same { OnErr result ((self.new ≡ self.old) × IsUnmoved (F.view floor.old) (F.view floor.new)) }
         ensures floor { F.script floor.new ≡ F.script floor.old }
         ensures kept { (self.new.script ≡ self.old.script) × (self.new.limit ≡ self.old.limit) }
     {
-        let place = cpu_at(&turn).0 as usize;
+        let place = cpu_at(turn).0 as usize;
         let event = match self.cpus[place].turn(floor, turn) {
             Ok(event) => event,
             Err(refusal) => return Err(core_refusal(refusal)),

@@ -19,7 +19,7 @@ returns-clause-made g c =
     let v = g.W.Words.view c.args.words.now in
     let u = g.W.Words.view c.draw-n.new.self in
     let z = g.W.Words.view c.mark.new.words in
-    let asked = c.asks-asked.ensures.asks ∙ ap (λ (st : Stand). alone_asks st w) c.standing.ensures in
+    let asked = c.asks-asked.ensures.asks in
     let told = c.noticed.ensures in
     let cpu = ap (λ (x : CpuState). x.cpu) c.take_up.view_is in
     let same : (k : ℕ) → k < 16 → max (value_at s.own.seen k) (value_at c.noticed.result.value k)

@@ -23,7 +23,7 @@ index_mut-requires g c =
     c.requires.after.1 in
     let n = cpus_held _ _ _ _ i.every in
     let o = c.self.inside.cpus.ok in
-    let b : (cpu_at c.args.turn).0 < c.self.inside.script.now.cpus = subst (λ (x : CpusState). (cpu_at c.args.turn).0 < x.script.cpus)
+    let b : (cpu_at c.args.turn.now).0 < c.self.inside.script.now.cpus = subst (λ (x : CpusState). (cpu_at c.args.turn.now).0 < x.script.cpus)
     (sym c.self.view_is) c.requires.cpu in
     let e = ap (λ (q : CpuNo). q.0) c.cpu_at-place.ensures in
     omega (arith, n, o, b, e)
@@ -32,43 +32,43 @@ pub turn-requires-clause-names : goal.turn-requires-clause-names
 turn-requires-clause-names g c =
     let i = subst (λ (x : CpusState). AreAfter c.requires.after.0 x (g.F.Floor.script c.args.floor.now) (g.F.Words.view c.args.floor.now)) (sym c.self.view_is)
     c.requires.after.1 in
-    let b : (cpu_at c.args.turn).0 < c.self.inside.script.now.cpus = subst (λ (x : CpusState). (cpu_at c.args.turn).0 < x.script.cpus)
+    let b : (cpu_at c.args.turn.now).0 < c.self.inside.script.now.cpus = subst (λ (x : CpusState). (cpu_at c.args.turn.now).0 < x.script.cpus)
     (sym c.self.view_is) c.requires.cpu in
-    let h = taker_held _ _ _ _ c.args.turn c.cpu_at-place.result _ _ i b c.cpu_at-place.ensures c.index_mut.ensures.value in
+    let h = taker_held _ _ _ _ c.args.turn.now c.cpu_at-place.result _ _ i b c.cpu_at-place.ensures c.index_mut.ensures.value in
     sym (ap (λ (x : CpuState). x.cpu) h)
 
 pub turn-requires-clause-script : goal.turn-requires-clause-script
 turn-requires-clause-script g c =
     let i = subst (λ (x : CpusState). AreAfter c.requires.after.0 x (g.F.Floor.script c.args.floor.now) (g.F.Words.view c.args.floor.now)) (sym c.self.view_is)
     c.requires.after.1 in
-    let b : (cpu_at c.args.turn).0 < c.self.inside.script.now.cpus = subst (λ (x : CpusState). (cpu_at c.args.turn).0 < x.script.cpus)
+    let b : (cpu_at c.args.turn.now).0 < c.self.inside.script.now.cpus = subst (λ (x : CpusState). (cpu_at c.args.turn.now).0 < x.script.cpus)
     (sym c.self.view_is) c.requires.cpu in
-    let h = taker_held _ _ _ _ c.args.turn c.cpu_at-place.result _ _ i b c.cpu_at-place.ensures c.index_mut.ensures.value in
+    let h = taker_held _ _ _ _ c.args.turn.now c.cpu_at-place.result _ _ i b c.cpu_at-place.ensures c.index_mut.ensures.value in
     i.same ∙ sym (ap (λ (x : CpuState). x.script) h)
 
 pub turn-requires-clause-serves : goal.turn-requires-clause-serves
 turn-requires-clause-serves g c =
     let i = subst (λ (x : CpusState). AreAfter c.requires.after.0 x (g.F.Floor.script c.args.floor.now) (g.F.Words.view c.args.floor.now)) (sym c.self.view_is)
     c.requires.after.1 in
-    let b : (cpu_at c.args.turn).0 < c.self.inside.script.now.cpus = subst (λ (x : CpusState). (cpu_at c.args.turn).0 < x.script.cpus)
+    let b : (cpu_at c.args.turn.now).0 < c.self.inside.script.now.cpus = subst (λ (x : CpusState). (cpu_at c.args.turn.now).0 < x.script.cpus)
     (sym c.self.view_is) c.requires.cpu in
-    let h = taker_held _ _ _ _ c.args.turn c.cpu_at-place.result _ _ i b c.cpu_at-place.ensures c.index_mut.ensures.value in
-    taker_served _ _ _ _ c.args.turn _ i b h
+    let h = taker_held _ _ _ _ c.args.turn.now c.cpu_at-place.result _ _ i b c.cpu_at-place.ensures c.index_mut.ensures.value in
+    taker_served _ _ _ _ c.args.turn.now _ i b h
 
 pub returns-clause-ok : goal.returns-clause-ok
 returns-clause-ok g c past k =
     let v = g.F.Words.view c.args.floor.now in
     let w = g.F.Words.view c.turn.new.floor in
     let i = subst (λ (x : CpusState). AreAfter past x (g.F.Floor.script c.args.floor.now) v) (sym c.self.view_is) k in
-    let b : (cpu_at c.args.turn).0 < c.self.inside.script.now.cpus = subst (λ (x : CpusState). (cpu_at c.args.turn).0 < x.script.cpus)
+    let b : (cpu_at c.args.turn.now).0 < c.self.inside.script.now.cpus = subst (λ (x : CpusState). (cpu_at c.args.turn.now).0 < x.script.cpus)
     (sym c.self.view_is) c.requires.cpu in
-    let a = subst (λ (x : CpusState). is_asked x.script c.args.turn past ≡ true) (sym c.self.view_is) (c.requires.asked past k) in
-    let h = taker_held _ _ _ _ c.args.turn c.cpu_at-place.result _ _ i b c.cpu_at-place.ensures c.index_mut.ensures.value in
+    let a = subst (λ (x : CpusState). is_asked x.script c.args.turn.now past ≡ true) (sym c.self.view_is) (c.requires.asked past k) in
+    let h = taker_held _ _ _ _ c.args.turn.now c.cpu_at-place.result _ _ i b c.cpu_at-place.ensures c.index_mut.ensures.value in
     let m = c.in-Ok.ensures.ok in
     let tells = g.met.F.OpenFloor.tells c.turn.new.floor in
-    let s = taken_step past _ _ v w c.args.turn _ c.turn.new.self m.0 m.1 c.in-Ok.event i b a h m.2.0 in (
-      subst (λ (x : CpusState). step x.script x.limit c.args.turn past ≡ Ok c.in-Ok.event) c.self.view_is s,
-      taken_after past _ _ _ v w c.args.turn c.cpu_at-place.result _ c.turn.new.self m.0 m.1 c.in-Ok.event tells.0 i b a c.cpu_at-place.ensures h m.2.0 tells.1
+    let s = taken_step past _ _ v w c.args.turn.now _ c.turn.new.self m.0 m.1 c.in-Ok.event i b a h m.2.0 in (
+      subst (λ (x : CpusState). step x.script x.limit c.args.turn.now past ≡ Ok c.in-Ok.event) c.self.view_is s,
+      taken_after past _ _ _ v w c.args.turn.now c.cpu_at-place.result _ c.turn.new.self m.0 m.1 c.in-Ok.event tells.0 i b a c.cpu_at-place.ensures h m.2.0 tells.1
           c.in-Ok.ensures.script,
     )
 
@@ -76,12 +76,12 @@ pub returns-in-Err-clause-err : goal.returns-in-Err-clause-err
 returns-in-Err-clause-err g c past q =
     let v = g.F.Words.view c.args.floor.now in
     let i = subst (λ (x : CpusState). AreAfter past x (g.F.Floor.script c.args.floor.now) v) (sym c.self.view_is) q in
-    let b : (cpu_at c.args.turn).0 < c.self.inside.script.now.cpus = subst (λ (x : CpusState). (cpu_at c.args.turn).0 < x.script.cpus)
+    let b : (cpu_at c.args.turn.now).0 < c.self.inside.script.now.cpus = subst (λ (x : CpusState). (cpu_at c.args.turn.now).0 < x.script.cpus)
     (sym c.self.view_is) c.requires.cpu in
-    let a = subst (λ (x : CpusState). is_asked x.script c.args.turn past ≡ true) (sym c.self.view_is) (c.requires.asked past q) in
-    let h = taker_held _ _ _ _ c.args.turn c.cpu_at-place.result _ _ i b c.cpu_at-place.ensures c.index_mut.ensures.value in
+    let a = subst (λ (x : CpusState). is_asked x.script c.args.turn.now past ≡ true) (sym c.self.view_is) (c.requires.asked past q) in
+    let h = taker_held _ _ _ _ c.args.turn.now c.cpu_at-place.result _ _ i b c.cpu_at-place.ensures c.index_mut.ensures.value in
     let k = c.in-Err.ensures.err in
-    let s = untaken_step past _ _ v c.args.turn _ k.0 c.in-Err.refusal i b a h k.1.0
+    let s = untaken_step past _ _ v c.args.turn.now _ k.0 c.in-Err.refusal i b a h k.1.0
     (λ q. c.in-Err.ensures.memory i.follows.alone (ap (λ (z : TurnRefusal). failed z) q)) in
-    subst (λ (x : CpusState). step x.script x.limit c.args.turn past ≡ Err (kind_of c.core_refusal.result)) c.self.view_is
+    subst (λ (x : CpusState). step x.script x.limit c.args.turn.now past ≡ Err (kind_of c.core_refusal.result)) c.self.view_is
     (s ∙ ap (λ (z : ScheduleKind). Err z) (sym c.core_refusal.ensures))
