@@ -1,9 +1,8 @@
 //! The robin rule: which processor goes on, and by which turn; and whether all is settled.
-ghost use Rattle.std.specs.List.{list_any};
-ghost use Rattle.std.specs.Prelude.{◌≡◌, ◌<◌, IfSome, List, false, nat_lt};
+ghost use Rattle.std.specs.Prelude.{◌≡◌, ◌<◌, IfSome, List, false};
 ghost use Rattle.nt_event.specs.declared.events.Event.{Event};
 ghost use Rattle.nt_event.specs.Lists.{when};
-ghost use Rattle.nt_event.specs.Robin.{first_cpu as first_of, go_on_turn, is_settled, look_values as values_of, robin as robin_in, robin_at, robin_of as robin_turn_of};
+ghost use Rattle.nt_event.specs.Robin.{first_cpu as first_of, go_on_turn, is_behind as behind, is_settled, look_values as values_of, robin as robin_in, robin_at, robin_of as robin_turn_of};
 ghost use Rattle.nt_event.specs.Script.{has_cpu};
 ghost use Rattle.nt_event.specs.Step.{is_cut};
 ghost use Rattle.nt_cpus.specs.Cycles.{last_cpu, next_cpu};
@@ -19,22 +18,27 @@ fn look_values<F: OpenFloor>(cpu: &Cpu, floor: &F, p: CpuNo) -> Rises
     requires { p.0 < (F.view floor.now).cpus }
     ensures { result.value ≡ values_of cpu.now.own ((F.view floor.now).value p) }
 {
-    let seen = cpu.seen();
     let mut value = [0; 16];
     for class in 0..16u8 {
         let asked = floor.asked(p, class);
-        if seen.value[class as usize] < asked {
+        if cpu.seen_of(class) < asked {
             value[class as usize] = asked;
         }
     }
     Rises { value }
 }
 
-/// Whether some value rises.
-fn rise(rises: &Rises) -> bool
-    ensures { result ≡ list_any (λ v. nat_lt 0 v) rises.now.value }
+/// Whether some class has a request that was not seen.
+fn is_behind<F: OpenFloor>(cpu: &Cpu, floor: &F, p: CpuNo) -> bool
+    requires { p.0 < (F.view floor.now).cpus }
+    ensures { result ≡ behind cpu.now.own ((F.view floor.now).value p) }
 {
-    rises.value.iter().any(|value| 0 < *value)
+    for class in 0..16u8 {
+        if cpu.seen_of(class) < floor.asked(p, class) {
+            return true;
+        }
+    }
+    false
 }
 
 /// The next ready thread is taken up where a thread may be and one is ready; else the next event is made.
@@ -58,9 +62,8 @@ fn uncut_turn<F: OpenFloor>(cpu: &Cpu, floor: &F, p: CpuNo) -> Option<Turn>
     requires uncut { is_cut cpu.now.limit cpu.now.own ≡ false }
     ensures { IfSome (F.view floor.now).states (λ l. result ≡ robin_at (F.script floor.now) p cpu.now.own l ((F.view floor.now).value p)) }
 {
-    let rises = look_values(cpu, floor, p);
-    if rise(&rises) {
-        return Some(Turn::Look(p, rises));
+    if is_behind(cpu, floor, p) {
+        return Some(Turn::Look(p, look_values(cpu, floor, p)));
     }
     if cpu.rests() {
         return None;
