@@ -1,7 +1,6 @@
 use Rattle.std.proofs.Common.{ap, max, subst, ◌∙◌}
 use Rattle.std.specs.Prelude.{None, Option, ℕ, ◌<◌, ◌≡◌}
 use Rattle.nt_event.specs.declared.events.Event.{Event}
-use Rattle.nt_event.specs.declared.jobs.Stand.{Stand}
 use Rattle.nt_event.specs.Lists.{value_at}
 use Rattle.nt_floor.specs.Views.{IsDrawn}
 use Rattle.nt_cpu.specs.Alone.{IsMarkedFor, alone_asks, alone_event, noticed}
