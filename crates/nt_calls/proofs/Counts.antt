@@ -1,0 +1,150 @@
+-- A thread's open frames have entered no more regions than its processor has made events.
+use Rattle.nt_event.specs.Calls.{wait_begun}
+use Rattle.nt_event.specs.Frames.{at_name, called, done_to, due_of, effect_by, ended_base, flushed, is_base_body, new_frame, normal_of, resumed, rewaited, thread_after, thread_frames, thread_if, time}
+use Rattle.nt_event.specs.Numbers.{is_by, is_of}
+use Rattle.nt_event.specs.Own.{made}
+use Rattle.nt_event.specs.Regions.{crit_of, guard_of}
+use Rattle.nt_event.specs.Replies.{is_done}
+use Rattle.nt_event.specs.Routines.{kind_of, rundown_of}
+use Rattle.nt_event.specs.declared.commands.Command.{Command}
+use Rattle.nt_event.specs.declared.commands.Command.TheVariants.{EnterCrit, EnterGuard, LeaveCrit, LeaveGuard}
+use Rattle.nt_event.specs.declared.commands.Reply.{Reply}
+use Rattle.nt_event.specs.declared.events.Begun.TheVariants.{Apc}
+use Rattle.nt_event.specs.declared.events.Event.{Event}
+use Rattle.nt_event.specs.declared.events.What.{What}
+use Rattle.nt_event.specs.declared.events.What.TheVariants.{Begin, Call, End, Flush, Gone, Normal, Rewait, Switch}
+use Rattle.nt_event.specs.declared.frames.Again.{Again}
+use Rattle.nt_event.specs.declared.frames.Body.{Body}
+use Rattle.nt_event.specs.declared.frames.Body.TheVariants.{Apc as OnApc, Base as OnBase, Rundown as OnRundown}
+use Rattle.nt_event.specs.declared.frames.Frame.{Frame}
+use Rattle.nt_event.specs.declared.numbers.CpuNo.{CpuNo}
+use Rattle.nt_event.specs.declared.numbers.RoutineNo.{RoutineNo}
+use Rattle.nt_event.specs.declared.numbers.ThreadNo.{ThreadNo}
+use Rattle.nt_event.specs.declared.scripts.Script.{Script}
+use Rattle.std.proofs.Common.{arith, refl, sum_by}
+use Rattle.std.proofs.lemmas.List.Sums.{sum_by-cons}
+use Rattle.std.specs.Prelude.{Bool, List, None, Option, Some, [], false, if◌then◌else◌, length, true, ℕ, ◌+◌, ◌==◌, ◌∷◌, ◌≡◌, ◌≤◌}
+
+-- a count of a frame, which a call raises by one at most
+record Counts (c : Frame → ℕ) : Type 0 where
+  anew : (n : ℕ) (b : Body) → c (new_frame n b) ≡ 0
+  called : (due : Option ℕ) (k : Command) (y : Reply) (f : Frame) → c (called due k y f) ≤ c f + 1
+  rewaited : (y : Reply) (f : Frame) → c (rewaited y f) ≡ c f
+  normal : (f : Frame) → c (normal_of f) ≡ 0
+  ended : (f : Frame) → c (ended_base f) ≡ 0
+  resumed : (st : Option ℕ) (f : Frame) → c (resumed st f) ≡ c f
+
+crit_counts : Counts (λ f. f.crit)
+crit_counts = record {
+  anew = λ n b. refl;
+  called = λ due k y f. go (wait_begun due k) k y f;
+  rewaited = λ y f. refl;
+  normal = λ f. refl;
+  ended = λ f. refl;
+  resumed = λ st f. keeps st f;
+}
+  where
+    keeps : (st : Option ℕ) (f : Frame) → (resumed st f).crit ≡ f.crit
+    keeps None f = refl
+    keeps (Some x) f = refl
+
+    done : (k : Command) (f : Frame) → (done_to k f).crit ≤ f.crit + 1
+    done EnterCrit f = omega arith
+    done LeaveCrit f = omega arith
+    done k f = omega arith
+
+    if_done : (b : Bool) (k : Command) (f : Frame) → (if b then done_to k f else f).crit ≤ f.crit + 1
+    if_done true k f = done k f
+    if_done false k f = omega arith
+
+    go : (o : Option Again) (k : Command) (y : Reply) (f : Frame) → (effect_by o k y f).crit ≤ f.crit + 1
+    go (Some w) k y f = omega arith
+    go None k y f = if_done (is_done y) k f
+
+guard_counts : Counts (λ f. f.guard)
+guard_counts = record {
+  anew = λ n b. refl;
+  called = λ due k y f. go (wait_begun due k) k y f;
+  rewaited = λ y f. refl;
+  normal = λ f. refl;
+  ended = λ f. refl;
+  resumed = λ st f. keeps st f;
+}
+  where
+    keeps : (st : Option ℕ) (f : Frame) → (resumed st f).guard ≡ f.guard
+    keeps None f = refl
+    keeps (Some x) f = refl
+
+    done : (k : Command) (f : Frame) → (done_to k f).guard ≤ f.guard + 1
+    done EnterGuard f = omega arith
+    done LeaveGuard f = omega arith
+    done k f = omega arith
+
+    if_done : (b : Bool) (k : Command) (f : Frame) → (if b then done_to k f else f).guard ≤ f.guard + 1
+    if_done true k f = done k f
+    if_done false k f = omega arith
+
+    go : (o : Option Again) (k : Command) (y : Reply) (f : Frame) → (effect_by o k y f).guard ≤ f.guard + 1
+    go (Some w) k y f = omega arith
+    go None k y f = if_done (is_done y) k f
+
+module _ (c : Frame → ℕ) (k : Counts c) where
+  at_name_counts : (n : ℕ) (g : Frame → Frame) (fs : List Frame) → ((f : Frame) → c (g f) ≤ c f + 1) → sum_by c (at_name n g fs) ≤ sum_by c fs + 1
+  at_name_counts n g [] h = omega arith
+  at_name_counts n g (f ∷ fs) h = go (f.name == n)
+    where
+      go : (b : Bool) → sum_by c ((if b then g f else f) ∷ fs) ≤ sum_by c (f ∷ fs) + 1
+      go true = let l = h f in omega (arith, l, sum_by-cons c (g f) fs, sum_by-cons c f fs)
+      go false = omega arith
+
+  new_counts : (n : ℕ) (b : Body) (fs : List Frame) → sum_by c (new_frame n b ∷ fs) ≤ sum_by c fs + 1
+  new_counts n b fs = let z = k.anew n b in omega (arith, z, sum_by-cons c (new_frame n b) fs)
+
+  after_counts : (s : Script) (n : ℕ) (due : Option ℕ) (w : What) (fs : List Frame) → sum_by c (thread_after s n due w fs) ≤ sum_by c fs + 1
+  after_counts s n due (Switch u st) [] = new_counts n (OnBase u) []
+  after_counts s n due (Switch u st) (f ∷ fs) =
+      let z = k.resumed st f in omega (arith, z, sum_by-cons c (resumed st f) fs, sum_by-cons c f fs)
+  after_counts s n due (Begin (Apc a) from) fs = new_counts n (OnApc a (kind_of s a)) fs
+  after_counts s n due (Flush a from) fs = go (rundown_of s a)
+    where
+      go : (r : Option RoutineNo) → sum_by c (flushed n a r fs) ≤ sum_by c fs + 1
+      go None = omega arith
+      go (Some r) = new_counts n (OnRundown a) fs
+  after_counts s n due (Call f m y) fs = at_name_counts f (called due m y) fs (λ g. k.called due m y g)
+  after_counts s n due (Rewait f y) fs = at_name_counts f (rewaited y) fs (λ g. let z = k.rewaited y g in omega (arith, z))
+  after_counts s n due (Normal f) fs = at_name_counts f normal_of fs (λ g. let z = k.normal g in omega (arith, z))
+  after_counts s n due (End f) [] = omega arith
+  after_counts s n due (End f) (g ∷ fs) = go (g.name == f) (is_base_body g.body)
+    where
+      go : (a b : Bool) → sum_by c (if a then (if b then (ended_base g ∷ fs) else fs) else (g ∷ fs)) ≤ sum_by c (g ∷ fs) + 1
+      go true true = let z = k.ended g in omega (arith, z, sum_by-cons c (ended_base g) fs, sum_by-cons c g fs)
+      go true false = omega (arith, sum_by-cons c g fs)
+      go false b = omega arith
+  after_counts s n due (Gone u) fs = omega arith
+  after_counts s n due w fs = omega arith
+
+  made_counts : (s : Script) (p : CpuNo) (t : ThreadNo) (past : List Event) → sum_by c (thread_frames s p t past) ≤ made p past
+  made_counts s p t [] = omega arith
+  made_counts s p t (e ∷ past) = go (is_of e p) (is_by e t) (made_counts s p t past)
+    where
+      fs : List Frame
+      fs = thread_frames s p t past
+
+      go : (a b : Bool) → sum_by c (thread_frames s p t past) ≤ made p past →
+          sum_by c (if a then thread_if b s (length past) (due_of e.what (time past)) e.what (thread_frames s p t past) else thread_frames s p t past)
+          ≤ (if a then made p past + 1 else made p past)
+      go true true h = let z = after_counts s (length past) (due_of e.what (time past)) e.what (thread_frames s p t past) in omega (arith, z, h)
+      go true false h = omega (arith, h)
+      go false b h = h
+
+pub crit_called : (due : Option ℕ) (c : Command) (y : Reply) (f : Frame) → (called due c y f).crit ≤ f.crit + 1
+crit_called due c y f = crit_counts.called due c y f
+
+pub guard_called : (due : Option ℕ) (c : Command) (y : Reply) (f : Frame) → (called due c y f).guard ≤ f.guard + 1
+guard_called due c y f = guard_counts.called due c y f
+
+pub crit_made : (s : Script) (p : CpuNo) (t : ThreadNo) (past : List Event) → crit_of (thread_frames s p t past) ≤ made p past
+crit_made s p t past = made_counts (λ f. f.crit) crit_counts s p t past
+
+pub guard_made : (s : Script) (p : CpuNo) (t : ThreadNo) (past : List Event) → guard_of (thread_frames s p t past) ≤ made p past
+guard_made s p t past = made_counts (λ f. f.guard) guard_counts s p t past
