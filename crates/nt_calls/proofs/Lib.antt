@@ -1,3 +1,5 @@
 pub mod Counts
 pub mod Says
 pub mod Frames
+pub mod Apcs
+pub mod Threads

@@ -1,1 +1,3 @@
 pub mod Frames
+pub mod Apcs
+pub mod Threads
