@@ -17,9 +17,9 @@ listed_if now k due (Some t) h s e st r =
     let same : t ≡ s = cc in subst (λ (z : Setting). IsIn (due_key k z) due) same (st.1 (rw same r))
 
 -- a key that is set and due is among the due keys
-pub is_listed : (now k : ℕ) (s : Setting) (settings : List (Option Setting)) (homes : List ℕ) (due : List DueKey) → IsWheel now settings homes due →
+pub is_listed : (low now k : ℕ) (s : Setting) (settings : List (Option Setting)) (homes : List ℕ) (due : List DueKey) → IsWheel low now settings homes due →
     setting_in settings k ≡ Some s → s.due ≤ now → IsIn (due_key k s) due
-is_listed now k s settings homes due x at r =
+is_listed low now k s settings homes due x at r =
     elim (cases_lt k (length settings)) [
       | inl less ↦ elim (x.stands k less) [
         | inl st ↦ listed_if now k due (setting_in settings k) (get_or homes (HEADS + k) 0) s at st.0 r
@@ -37,16 +37,16 @@ either : (e : DueKey) (es : List DueKey) (k : ℕ) (s : Setting) → ((x : DueKe
 either e es k s sorted (inl is) = inl (ap (λ (z : DueKey). z.key) is)
 either e es k s sorted (inr later) = inr (sorted (due_key k s) later)
 
-pub first_is : (now : ℕ) (settings : List (Option Setting)) (homes : List ℕ) (due : List DueKey) → IsWheel now settings homes due →
+pub first_is : (low now : ℕ) (settings : List (Option Setting)) (homes : List ℕ) (due : List DueKey) → IsWheel low now settings homes due →
     MatchOption (slice_get due 0) ((k : ℕ) (s : Setting) → setting_in settings k ≡ Some s → now < s.due) (IsFirstKey now settings)
-first_is now settings homes [] x =
-    λ k s at. none_due now k s (λ r. is_listed now k s settings homes [] x at r) (cases_lt now s.due)
-first_is now settings homes (e ∷ es) x =
+first_is low now settings homes [] x =
+    λ k s at. none_due now k s (λ r. is_listed low now k s settings homes [] x at r) (cases_lt now s.due)
+first_is low now settings homes (e ∷ es) x =
     let y = x.listed e (inl refl) in
     record {
       setting = y.setting;
       set = y.set;
       same = y.same;
       reached = y.reached;
-      first = λ k s at r. either e es k s x.sorted.0 (is_listed now k s settings homes (e ∷ es) x at r);
+      first = λ k s at r. either e es k s x.sorted.0 (is_listed low now k s settings homes (e ∷ es) x at r);
     }

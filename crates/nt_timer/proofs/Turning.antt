@@ -150,6 +150,21 @@ stood now Allowed Excepted Excepted' settings homes due k s x less at apart ok r
           | inr out ↦ inr (rest j (get_or homes (HEADS + j) 0) ne out)
         ])
 
+-- a ring that was allowed still is
+pub weaker : (now : ℕ) (Allowed Allowed' : ℕ → Type 0) (Excepted : ℕ → ℕ → Type 0) (settings : List (Option Setting)) (homes : List ℕ) (due : List DueKey) →
+    ((h : ℕ) → Allowed h → Allowed' h) → IsKept now Allowed Excepted settings homes due → IsKept now Allowed' Excepted settings homes due
+weaker now Allowed Allowed' Excepted settings homes due f x =
+    record {
+      nodes = x.nodes;
+      sorted = x.sorted;
+      once = x.once;
+      listed = x.listed;
+      stands = λ k lower. elim (x.stands k lower) [
+          | inl st ↦ inl (st.0, f (get_or homes (HEADS + k) 0) st.1)
+          | inr out ↦ inr out
+        ];
+    }
+
 -- ---- a key is taken out of where it stands
 
 fewer_in : (now k : ℕ) (old : Option Setting) (due : List DueKey) (e : DueKey) → IsIn e (due_without now k old due) → IsIn e due
@@ -202,9 +217,9 @@ apart_without now k (Some s) settings homes due once listed at e h same = go (le
         let d : x.setting.due ≡ s.due = ap (λ (z : Setting). z.due) is in
         omega (arith, x.reached)
 
-pub lifted_apart : (now k : ℕ) (old : Option Setting) (settings : List (Option Setting)) (homes : List ℕ) (due : List DueKey) → IsWheel now settings homes due →
-    setting_in settings k ≡ old → (e : DueKey) → IsIn e (due_without now k old due) → e.key ≡ k → ⊥
-lifted_apart now k old settings homes due x at e h same =
+pub lifted_apart : (low now k : ℕ) (old : Option Setting) (settings : List (Option Setting)) (homes : List ℕ) (due : List DueKey) →
+    IsWheel low now settings homes due → setting_in settings k ≡ old → (e : DueKey) → IsIn e (due_without now k old due) → e.key ≡ k → ⊥
+lifted_apart low now k old settings homes due x at e h same =
     apart_without now k old settings homes due x.once x.listed at e h same
 
 fewer_stands : (now k j : ℕ) (old : Option Setting) (due : List DueKey) (o : Option Setting) (h : ℕ) → (j ≡ k → ⊥) → Stands now due j o h →
@@ -212,13 +227,13 @@ fewer_stands : (now k j : ℕ) (old : Option Setting) (due : List DueKey) (o : O
 fewer_stands now k j old due None h ne st = st
 fewer_stands now k j old due (Some t) h ne st = (st.0, λ r. kept_in now k old due (due_key j t) ne (st.1 r))
 
-pub IsLifted : ℕ → ℕ → List (Option Setting) → List ℕ → List DueKey → Type 0
-IsLifted now k settings homes due = IsKept now (λ home. Unit {0}) (λ j home. j ≡ k) settings homes due
+pub IsLifted : ℕ → ℕ → ℕ → List (Option Setting) → List ℕ → List DueKey → Type 0
+IsLifted low now k settings homes due = IsKept now (λ home. low ≤ home) (λ j home. j ≡ k) settings homes due
 
-pub lifted : (now k : ℕ) (old new : Option Setting) (settings : List (Option Setting)) (homes : List ℕ) (due : List DueKey) → IsWheel now settings homes due →
-    setting_in settings k ≡ old → IsLifted now k (set settings k new) (set homes (HEADS + k) (HEADS + k)) (due_without now k old due)
+pub lifted : (low now k : ℕ) (old new : Option Setting) (settings : List (Option Setting)) (homes : List ℕ) (due : List DueKey) → IsWheel low now settings homes due →
+    setting_in settings k ≡ old → IsLifted low now k (set settings k new) (set homes (HEADS + k) (HEADS + k)) (due_without now k old due)
 unfolding IsLifted
-lifted now k old new settings homes due x at =
+lifted low now k old new settings homes due x at =
     record {
       nodes = length-set homes (HEADS + k) (HEADS + k) ∙ x.nodes ∙ ap (λ (n : ℕ). HEADS + n) (sym (length-set settings k new));
       sorted = fewer_sorted now k old due x.sorted;
@@ -234,45 +249,45 @@ lifted now k old new settings homes due x at =
             reached = y.reached;
             alone = other_home homes k e.key (HEADS + k) ne ∙ y.alone;
           };
-      stands = λ j lower. elim (cases_eq j k) [ inl e ↦ inr e | inr ne ↦ inl (other j (let n = length-set settings k new in omega arith) ne, tt) ];
+      stands = λ j lower. elim (cases_eq j k) [ inl e ↦ inr e | inr ne ↦ inl (other j (let n = length-set settings k new in omega arith) ne) ];
     }
   where
     other : (j : ℕ) → j < length settings → (j ≡ k → ⊥) → Stands now (due_without now k old due) j (setting_in (set settings k new) j)
-        (get_or (set homes (HEADS + k) (HEADS + k)) (HEADS + j) 0)
+        (get_or (set homes (HEADS + k) (HEADS + k)) (HEADS + j) 0) × (low ≤ get_or (set homes (HEADS + k) (HEADS + k)) (HEADS + j) 0)
     other j lower ne =
         rw (other_home homes k j (HEADS + k) ne, get_or-set_other settings k j new None ne) (elim (x.stands j lower) [
-          | inl st ↦ fewer_stands now k j old due (setting_in settings j) (get_or homes (HEADS + j) 0) ne st.0
+          | inl st ↦ (fewer_stands now k j old due (setting_in settings j) (get_or homes (HEADS + j) 0) ne st.0, st.1)
           | inr out ↦ absurd out
         ])
 
 stands_none : (now j : ℕ) (due : List DueKey) (o : Option Setting) (h : ℕ) → o ≡ None → h ≡ HEADS + j → Stands now due j o h
 stands_none now j due o h e at = subst (λ (p : Option Setting). Stands now due j p h) (sym e) at
 
-pub settled_none : (now k : ℕ) (settings : List (Option Setting)) (homes : List ℕ) (due : List DueKey) → IsLifted now k settings homes due →
-    setting_in settings k ≡ None → get_or homes (HEADS + k) 0 ≡ HEADS + k → IsWheel now settings homes due
+pub settled_none : (low now k : ℕ) (settings : List (Option Setting)) (homes : List ℕ) (due : List DueKey) → IsLifted low now k settings homes due → low ≤ HEADS →
+    setting_in settings k ≡ None → get_or homes (HEADS + k) 0 ≡ HEADS + k → IsWheel low now settings homes due
 unfolding IsLifted
-settled_none now k settings homes due x none alone =
+settled_none low now k settings homes due x small none alone =
     record {
       nodes = x.nodes;
       sorted = x.sorted;
       once = x.once;
       listed = x.listed;
       stands = λ j lower. elim (x.stands j lower) [
-        | inl st ↦ inl st
-        | inr e ↦ inl (
-          stands_none now j due (setting_in settings j) (get_or homes (HEADS + j) 0) (ap (setting_in settings) e ∙ none)
-              (ap (λ (n : ℕ). get_or homes (HEADS + n) 0) e ∙ alone ∙ ap (λ (n : ℕ). HEADS + n) (sym e)),
-          tt,
-        )
-      ];
+          | inl st ↦ inl st
+          | inr e ↦
+              let own : get_or homes (HEADS + j) 0 ≡ HEADS + j =
+                ap (λ (n : ℕ). get_or homes (HEADS + n) 0) e ∙ alone ∙ ap (λ (n : ℕ). HEADS + n) (sym e) in
+              inl (stands_none now j due (setting_in settings j) (get_or homes (HEADS + j) 0) (ap (setting_in settings) e ∙ none) own, omega arith)
+        ];
     }
 
-pub settled_some : (now k : ℕ) (s : Setting) (settings : List (Option Setting)) (homes : List ℕ) (due : List DueKey) → IsLifted now k settings homes due →
-    k < length settings → setting_in settings k ≡ Some s → ((e : DueKey) → IsIn e due → e.key ≡ k → ⊥) →
-    IsWheel now settings (set homes (HEADS + k) (home_of now s.due k)) (due_with now k s due)
+pub settled_some : (low low' now k : ℕ) (s : Setting) (settings : List (Option Setting)) (homes : List ℕ) (due : List DueKey) →
+    IsLifted low now k settings homes due → k < length settings → setting_in settings k ≡ Some s → ((e : DueKey) → IsIn e due → e.key ≡ k → ⊥) → low' ≤ low →
+    low' ≤ home_of now s.due k → IsWheel low' now settings (set homes (HEADS + k) (home_of now s.due k)) (due_with now k s due)
 unfolding IsLifted
-settled_some now k s settings homes due x less at apart =
-    stood now (λ home. Unit {0}) (λ j home. j ≡ k) (λ j home. ⊥) settings homes due k s x less at apart tt (λ j h ne e. ne e)
+settled_some low low' now k s settings homes due x less at apart fewer under =
+    stood now (λ home. low' ≤ home) (λ j home. j ≡ k) (λ j home. ⊥) settings homes due k s
+    (weaker now (λ home. low ≤ home) (λ home. low' ≤ home) (λ j home. j ≡ k) settings homes due (λ h l. omega arith) x) less at apart under (λ j h ne e. ne e)
 
 -- ---- there is room among the due keys
 
@@ -283,38 +298,38 @@ room now Allowed Excepted settings homes due k x less apart =
 
 -- ---- the time goes on
 
-not_yet : (past now k : ℕ) (s : Setting) (due : List DueKey) (h : ℕ) → past < now → now < 2 ^ 50 → past < s.due → h ≡ home_of past s.due k →
-    (s.due ≤ now → IsIn (due_key k s) due) ⊎ Unit {0} → (slot_index past now < slot_index past s.due) ⊎ (slot_index past s.due ≤ slot_index past now) →
-    (Stands now due k (Some s) h × IsPassed past now 0 h) ⊎ Waits past now 0 (Some s) h
-not_yet past now k s due h less few late at any (inl later) =
+not_yet : (past now from k : ℕ) (s : Setting) (due : List DueKey) (h : ℕ) → past < now → now < 2 ^ 50 → from ≤ h → past < s.due → h ≡ home_of past s.due k →
+    (slot_index past now < slot_index past s.due) ⊎ (slot_index past s.due ≤ slot_index past now) →
+    (Stands now due k (Some s) h × (slot_index past now < h)) ⊎ Waits past now from (Some s) h
+not_yet past now from k s due h less few least late at (inl later) =
     let st = stays past now s.due less late later in
     let end = within past now less few in
     inl (elim (cases_lt (slot_index past s.due) HEADS) [
       | inl small ↦
           let a : home_of past s.due k ≡ slot_index past s.due = home_slot past s.due k late small in
           let b : home_of now s.due k ≡ slot_index now s.due = home_slot now s.due k st.0 (omega (arith, st.1)) in
-          ((at ∙ a ∙ sym st.1 ∙ sym b, λ r. absurd (omega (arith, st.0))), inr (omega (arith, a)))
+          ((at ∙ a ∙ sym st.1 ∙ sym b, λ r. absurd (omega (arith, st.0))), omega (arith, a))
       | inr large ↦
           let a : home_of past s.due k ≡ HEADS + k = home_far past s.due k late large in
           let b : home_of now s.due k ≡ HEADS + k = home_far now s.due k st.0 (omega (arith, st.1)) in
-          ((at ∙ a ∙ sym b, λ r. absurd (omega (arith, st.0))), inr (omega (arith, a)))
+          ((at ∙ a ∙ sym b, λ r. absurd (omega (arith, st.0))), omega (arith, a))
     ])
-not_yet past now k s due h less few late at any (inr sooner) =
+not_yet past now from k s due h less few least late at (inr sooner) =
     let end = within past now less few in
     let a : home_of past s.due k ≡ slot_index past s.due = home_slot past s.due k late (omega arith) in
-    inr (late, at ∙ a, omega arith, omega (arith, a))
+    inr (late, at ∙ a, least, omega (arith, a))
 
-begins : (past now k : ℕ) (due : List DueKey) (o : Option Setting) (h : ℕ) → past < now → now < 2 ^ 50 → Stands past due k o h →
-    (Stands now due k o h × IsPassed past now 0 h) ⊎ Waits past now 0 o h
-begins past now k due None h less few st = let end = within past now less few in inl (st, inr (omega arith))
-begins past now k due (Some s) h less few st =
+begins : (past now from k : ℕ) (due : List DueKey) (o : Option Setting) (h : ℕ) → past < now → now < 2 ^ 50 → from ≤ h → Stands past due k o h →
+    (Stands now due k o h × (slot_index past now < h)) ⊎ Waits past now from o h
+begins past now from k due None h less few least st = let end = within past now less few in inl (st, omega arith)
+begins past now from k due (Some s) h less few least st =
     elim (cases_lt past s.due) [
-      | inl late ↦ not_yet past now k s due h less few late st.0 (inr tt) (cases_lt (slot_index past now) (slot_index past s.due))
+      | inl late ↦ not_yet past now from k s due h less few least late st.0 (cases_lt (slot_index past now) (slot_index past s.due))
       | inr reached ↦
           let end = within past now less few in
           let a : home_of past s.due k ≡ HEADS + k = home_due past s.due k reached in
           let b : home_of now s.due k ≡ HEADS + k = home_due now s.due k (omega arith) in
-          inl ((st.0 ∙ a ∙ sym b, λ r. st.1 reached), inr (omega (arith, st.0, a)))
+          inl ((st.0 ∙ a ∙ sym b, λ r. st.1 reached), omega (arith, st.0, a))
     ]
 
 listed_on : (past now : ℕ) (settings : List (Option Setting)) (homes : List ℕ) (e : DueKey) → past < now → IsListed past settings homes e →
@@ -329,34 +344,37 @@ listed_on past now settings homes e less x =
       alone = x.alone;
     }
 
-pub turned_start : (past now : ℕ) (settings : List (Option Setting)) (homes : List ℕ) (due : List DueKey) → past < now → now < 2 ^ 50 →
-    IsWheel past settings homes due → IsTurned past now 0 settings homes due
-turned_start past now settings homes due less few x =
+pub turned_start : (low low' past now : ℕ) (settings : List (Option Setting)) (homes : List ℕ) (due : List DueKey) → past < now → now < 2 ^ 50 →
+    ((h : ℕ) → low ≤ h → slot_index past now < h → low' ≤ h) → IsWheel low past settings homes due → IsTurned low' past now low settings homes due
+turned_start low low' past now settings homes due less few raised x =
     record {
       nodes = x.nodes;
       sorted = x.sorted;
       once = x.once;
       listed = λ e h. listed_on past now settings homes e less (x.listed e h);
       stands = λ k lower. elim (x.stands k lower) [
-        | inl st ↦ begins past now k due (setting_in settings k) (get_or homes (HEADS + k) 0) less few st.0
-        | inr out ↦ absurd out
-      ];
+          | inl st ↦ elim (begins past now low k due (setting_in settings k) (get_or homes (HEADS + k) 0) less few st.1 st.0) [
+              | inl stays ↦ inl (stays.0, (raised (get_or homes (HEADS + k) 0) st.1 stays.1, inr stays.1))
+              | inr w ↦ inr w
+            ]
+          | inr out ↦ absurd out
+        ];
     }
 
 ended : (past now from : ℕ) (o : Option Setting) (h : ℕ) → slot_index past now < from → Waits past now from o h → ⊥
 ended past now from None h end w = w
 ended past now from (Some s) h end w = omega (arith, w.2, w.3)
 
-pub turned_end : (past now from : ℕ) (settings : List (Option Setting)) (homes : List ℕ) (due : List DueKey) → slot_index past now < from →
-    IsTurned past now from settings homes due → IsWheel now settings homes due
-turned_end past now from settings homes due end x =
+pub turned_end : (low past now from : ℕ) (settings : List (Option Setting)) (homes : List ℕ) (due : List DueKey) → slot_index past now < from →
+    IsTurned low past now from settings homes due → IsWheel low now settings homes due
+turned_end low past now from settings homes due end x =
     record {
       nodes = x.nodes;
       sorted = x.sorted;
       once = x.once;
       listed = x.listed;
       stands = λ k lower. elim (x.stands k lower) [
-        | inl st ↦ inl (st.0, tt)
+        | inl st ↦ inl (st.0, st.1.0)
         | inr w ↦ absurd (ended past now from (setting_in settings k) (get_or homes (HEADS + k) 0) end w)
       ];
     }
@@ -371,10 +389,10 @@ passed_on : (past now from h : ℕ) → IsPassed past now from h → IsPassed pa
 passed_on past now from h (inl less) = inl (omega arith)
 passed_on past now from h (inr more) = inr more
 
-pub emptied : (past now from : ℕ) (settings : List (Option Setting)) (homes : List ℕ) (due : List DueKey) → from < HEADS →
-    ((i : ℕ) → i < length homes → get_or homes i 0 ≡ from → i ≡ from) → IsTurned past now from settings homes due →
-    IsTurned past now (from + 1) settings homes due
-emptied past now from settings homes due low none x =
+pub emptied : (low past now from : ℕ) (settings : List (Option Setting)) (homes : List ℕ) (due : List DueKey) → from < HEADS →
+    ((i : ℕ) → i < length homes → get_or homes i 0 ≡ from → i ≡ from) → IsTurned low past now from settings homes due →
+    IsTurned low past now (from + 1) settings homes due
+emptied low past now from settings homes due small none x =
     let nodes = x.nodes in
     record {
       nodes = nodes;
@@ -384,7 +402,7 @@ emptied past now from settings homes due low none x =
       stands = λ k lower.
           let ne : get_or homes (HEADS + k) 0 ≡ from → ⊥ = λ e. let is = none (HEADS + k) (omega arith) e in omega arith in
           elim (x.stands k lower) [
-            | inl st ↦ inl (st.0, passed_on past now from (get_or homes (HEADS + k) 0) st.1)
+            | inl st ↦ inl (st.0, (st.1.0, passed_on past now from (get_or homes (HEADS + k) 0) st.1.1))
             | inr w ↦ inr (waits_on past now from k (setting_in settings k) (get_or homes (HEADS + k) 0) ne w)
           ];
     }
@@ -400,11 +418,11 @@ waiting_from : (past now slot : ℕ) (o : Option Setting) (h : ℕ) → h ≡ sl
 waiting_from past now slot None h e w = absurd w
 waiting_from past now slot (Some s) h e w = record { setting = s; set = refl; late = w.0; slot_is = sym e ∙ w.1 }
 
-pub waiting : (past now slot k : ℕ) (settings : List (Option Setting)) (homes : List ℕ) (due : List DueKey) → IsTurned past now slot settings homes due →
+pub waiting : (lowest past now slot k : ℕ) (settings : List (Option Setting)) (homes : List ℕ) (due : List DueKey) → IsTurned lowest past now slot settings homes due →
     slot ≤ slot_index past now → k < length settings → get_or homes (HEADS + k) 0 ≡ slot → IsWaiting past now slot (setting_in settings k)
-waiting past now slot k settings homes due x top less at =
+waiting lowest past now slot k settings homes due x top less at =
     elim (x.stands k less) [
-      | inl st ↦ absurd (elim st.1 [ inl low ↦ omega arith | inr high ↦ omega arith ])
+      | inl st ↦ absurd (elim st.1.1 [ inl low ↦ omega arith | inr high ↦ omega arith ])
       | inr w ↦ waiting_from past now slot (setting_in settings k) (get_or homes (HEADS + k) 0) at w
     ]
 
@@ -425,22 +443,25 @@ pub other_slot : (past now slot k : ℕ) (s : Setting) → past < now → now < 
 other_slot past now slot k s less few top late is e =
     elim (passed_home past now slot k s less few top late is) [ inl low ↦ omega arith | inr high ↦ omega arith ]
 
-pub waiting_apart : (past now slot k : ℕ) (settings : List (Option Setting)) (homes : List ℕ) (due : List DueKey) → IsTurned past now slot settings homes due →
-    slot < HEADS → get_or homes (HEADS + k) 0 ≡ slot → (e : DueKey) → IsIn e due → e.key ≡ k → ⊥
-waiting_apart past now slot k settings homes due x low at e h same =
+pub waiting_apart : (low past now slot k : ℕ) (settings : List (Option Setting)) (homes : List ℕ) (due : List DueKey) →
+    IsTurned low past now slot settings homes due → slot < HEADS → get_or homes (HEADS + k) 0 ≡ slot → (e : DueKey) → IsIn e due → e.key ≡ k → ⊥
+waiting_apart low past now slot k settings homes due x small at e h same =
     let y = (x.listed e h).alone in
     let z : get_or homes (HEADS + k) 0 ≡ HEADS + k = rw (← same) y in omega arith
 
-pub moved : (past now slot k : ℕ) (s : Setting) (settings : List (Option Setting)) (homes : List ℕ) (due : List DueKey) →
-    IsTurned past now slot settings homes due → past < now → now < 2 ^ 50 → slot ≤ slot_index past now → k < length settings →
-    get_or homes (HEADS + k) 0 ≡ slot → setting_in settings k ≡ Some s → past < s.due → slot ≡ slot_index past s.due →
-    IsTurned past now slot settings (set (set homes (HEADS + k) (HEADS + k)) (HEADS + k) (home_of now s.due k)) (due_with now k s due)
-moved past now slot k s settings homes due x less few top lower at set late is =
+pub moved : (low low' past now slot k : ℕ) (s : Setting) (settings : List (Option Setting)) (homes : List ℕ) (due : List DueKey) →
+    IsTurned low past now slot settings homes due → past < now → now < 2 ^ 50 → slot ≤ slot_index past now → k < length settings →
+    get_or homes (HEADS + k) 0 ≡ slot → setting_in settings k ≡ Some s → past < s.due → slot ≡ slot_index past s.due → low' ≤ low →
+    low' ≤ home_of now s.due k →
+    IsTurned low' past now slot settings (set (set homes (HEADS + k) (HEADS + k)) (HEADS + k) (home_of now s.due k)) (due_with now k s due)
+moved low low' past now slot k s settings homes due x less few top lower at set late is fewer under =
     let end = within past now less few in
     rw (set-set homes (HEADS + k) (HEADS + k) (home_of now s.due k))
-    (stood now (IsPassed past now slot) (λ j home. Waits past now slot (setting_in settings j) home) (λ j home. Waits past now slot (setting_in settings j) home)
-    settings homes due k s x lower set (waiting_apart past now slot k settings homes due x (omega arith) at)
-    (passed_home past now slot k s less few top late is) (λ j h ne w. w))
+    (stood now (λ home. (low' ≤ home) × IsPassed past now slot home) (λ j home. Waits past now slot (setting_in settings j) home)
+    (λ j home. Waits past now slot (setting_in settings j) home) settings homes due k s
+    (weaker now (λ home. (low ≤ home) × IsPassed past now slot home) (λ home. (low' ≤ home) × IsPassed past now slot home)
+    (λ j home. Waits past now slot (setting_in settings j) home) settings homes due (λ h ok. (let l = ok.0 in omega arith, ok.1)) x) lower set
+    (waiting_apart low past now slot k settings homes due x (omega arith) at) (under, passed_home past now slot k s less few top late is) (λ j h ne w. w))
 
 -- ---- fewer nodes in the ring of the slot
 
@@ -456,58 +477,58 @@ count_falls slot (suc node) h (x ∷ xs) less e d = let r = count_falls slot nod
 
 -- ---- the calls
 
-pub put_room : (now k : ℕ) (old : Option Setting) (settings : List (Option Setting)) (homes : List ℕ) (due due' : List DueKey) → IsWheel now settings homes due →
-    setting_in settings k ≡ old → k < length settings → due' ≡ due_without now k old due → length due' < length settings
-put_room now k old settings homes due due' x at less e =
+pub put_room : (low now k : ℕ) (old : Option Setting) (settings : List (Option Setting)) (homes : List ℕ) (due due' : List DueKey) →
+    IsWheel low now settings homes due → setting_in settings k ≡ old → k < length settings → due' ≡ due_without now k old due → length due' < length settings
+put_room low now k old settings homes due due' x at less e =
     rw e (room_left (length settings) (record { due = 0; number = 0; key = k }) (due_without now k old due) (fewer_once now k old due x.once)
-    (λ y h. (x.listed y (fewer_in now k old due y h)).below) less (lifted_apart now k old settings homes due x at))
+    (λ y h. (x.listed y (fewer_in now k old due y h)).below) less (lifted_apart low now k old settings homes due x at))
 
-pub put_some : (now k : ℕ) (old new : Option Setting) (s : Setting) (settings : List (Option Setting)) (homes homes' homes'' : List ℕ) (due due' due'' : List DueKey) →
-    IsWheel now settings homes due → setting_in settings k ≡ old → k < length settings → new ≡ Some s → homes' ≡ set homes (HEADS + k) (HEADS + k) →
-    due' ≡ due_without now k old due → homes'' ≡ set homes' (HEADS + k) (home_of now s.due k) → due'' ≡ due_with now k s due' →
-    IsWheel now (set settings k new) homes'' due''
-put_some now k old new s settings homes homes' homes'' due due' due'' x at less is h d h' d' =
+pub put_some : (low low' now k : ℕ) (old new : Option Setting) (s : Setting) (settings : List (Option Setting)) (homes homes' homes'' : List ℕ)
+    (due due' due'' : List DueKey) → IsWheel low now settings homes due → setting_in settings k ≡ old → k < length settings → new ≡ Some s →
+    homes' ≡ set homes (HEADS + k) (HEADS + k) → due' ≡ due_without now k old due → homes'' ≡ set homes' (HEADS + k) (home_of now s.due k) →
+    due'' ≡ due_with now k s due' → low' ≤ low → low' ≤ home_of now s.due k → IsWheel low' now (set settings k new) homes'' due''
+put_some low low' now k old new s settings homes homes' homes'' due due' due'' x at less is h d h' d' fewer under =
     let l = length-set settings k new in
-    rw (h', d', h, d) (settled_some now k s (set settings k new) (set homes (HEADS + k) (HEADS + k)) (due_without now k old due)
-    (lifted now k old new settings homes due x at) (omega arith) (get_or-set_same settings k new None less ∙ is)
-    (lifted_apart now k old settings homes due x at))
+    rw (h', d', h, d) (settled_some low low' now k s (set settings k new) (set homes (HEADS + k) (HEADS + k)) (due_without now k old due)
+    (lifted low now k old new settings homes due x at) (omega arith) (get_or-set_same settings k new None less ∙ is)
+    (lifted_apart low now k old settings homes due x at) fewer under)
 
-pub put_none : (now k : ℕ) (old new : Option Setting) (settings : List (Option Setting)) (homes homes' : List ℕ) (due due' : List DueKey) →
-    IsWheel now settings homes due → setting_in settings k ≡ old → k < length settings → new ≡ None → homes' ≡ set homes (HEADS + k) (HEADS + k) →
-    due' ≡ due_without now k old due → IsWheel now (set settings k new) homes' due'
-put_none now k old new settings homes homes' due due' x at less is h d =
+pub put_none : (low now k : ℕ) (old new : Option Setting) (settings : List (Option Setting)) (homes homes' : List ℕ) (due due' : List DueKey) →
+    IsWheel low now settings homes due → setting_in settings k ≡ old → k < length settings → new ≡ None → homes' ≡ set homes (HEADS + k) (HEADS + k) →
+    due' ≡ due_without now k old due → low ≤ HEADS → IsWheel low now (set settings k new) homes' due'
+put_none low now k old new settings homes homes' due due' x at less is h d small =
     let n = x.nodes in
-    rw (h, d) (settled_none now k (set settings k new) (set homes (HEADS + k) (HEADS + k)) (due_without now k old due)
-    (lifted now k old new settings homes due x at) (get_or-set_same settings k new None less ∙ is) (own_home homes k (HEADS + k) (omega arith)))
+    rw (h, d) (settled_none low now k (set settings k new) (set homes (HEADS + k) (HEADS + k)) (due_without now k old due)
+    (lifted low now k old new settings homes due x at) small (get_or-set_same settings k new None less ∙ is) (own_home homes k (HEADS + k) (omega arith)))
 
 node_key : (settings homes node : ℕ) → homes ≡ HEADS + settings → HEADS ≤ node → node < homes → (HEADS + (node - HEADS) ≡ node) × (node - HEADS < settings)
 node_key settings homes node e h less = (omega arith, omega arith)
 
-pub stepped : (past now slot node : ℕ) (s : Setting) (settings : List (Option Setting)) (homes homes' homes'' : List ℕ) (due due' : List DueKey) →
-    IsTurned past now slot settings homes due → past < now → now < 2 ^ 50 → slot ≤ slot_index past now → IsOfRing homes slot node →
+pub stepped : (low low' past now slot node : ℕ) (s : Setting) (settings : List (Option Setting)) (homes homes' homes'' : List ℕ) (due due' : List DueKey) →
+    IsTurned low past now slot settings homes due → past < now → now < 2 ^ 50 → slot ≤ slot_index past now → IsOfRing homes slot node →
     setting_in settings (node - HEADS) ≡ Some s → homes' ≡ set homes node node →
-    homes'' ≡ set homes' (HEADS + (node - HEADS)) (home_of now s.due (node - HEADS)) → due' ≡ due_with now (node - HEADS) s due →
-    IsTurned past now slot settings homes'' due' × (how_many slot homes'' < how_many slot homes)
-stepped past now slot node s settings homes homes' homes'' due due' x less few top ring at h h' d =
+    homes'' ≡ set homes' (HEADS + (node - HEADS)) (home_of now s.due (node - HEADS)) → due' ≡ due_with now (node - HEADS) s due → low' ≤ low →
+    low' ≤ home_of now s.due (node - HEADS) → IsTurned low' past now slot settings homes'' due' × (how_many slot homes'' < how_many slot homes)
+stepped low low' past now slot node s settings homes homes' homes'' due due' x less few top ring at h h' d fewer under =
     let k : ℕ = node - HEADS in
     let nk = node_key (length settings) (length homes) node x.nodes ring.other ring.below in
     let here : get_or homes (HEADS + k) 0 ≡ slot = rw nk.0 ring.here in
-    let w = waiting past now slot k settings homes due x top nk.1 here in
+    let w = waiting low past now slot k settings homes due x top nk.1 here in
     let same : s ≡ w.setting = let e : Some s ≡ Some w.setting = sym at ∙ w.set in cc in
     let late : past < s.due = rw same w.late in
     let is : slot ≡ slot_index past s.due = rw same w.slot_is in
     let whole : homes'' ≡ set (set homes (HEADS + k) (HEADS + k)) (HEADS + k) (home_of now s.due k) =
     h' ∙ ap (λ (xs : List ℕ). set xs (HEADS + k) (home_of now s.due k)) (h ∙ ap (λ (n : ℕ). set homes n n) (sym nk.0)) in
     let once : homes'' ≡ set homes (HEADS + k) (home_of now s.due k) = whole ∙ set-set homes (HEADS + k) (HEADS + k) (home_of now s.due k) in (
-      rw (whole, d) (moved past now slot k s settings homes due x less few top nk.1 here at late is),
+      rw (whole, d) (moved low low' past now slot k s settings homes due x less few top nk.1 here at late is fewer under),
       rw once (count_falls slot (HEADS + k) (home_of now s.due k) homes (let b = x.nodes in let c = nk.1 in omega arith) here
           (other_slot past now slot k s less few top late is)),
     )
 
-pub step_room : (past now slot node : ℕ) (settings : List (Option Setting)) (homes : List ℕ) (due : List DueKey) → IsTurned past now slot settings homes due →
+pub step_room : (low past now slot node : ℕ) (settings : List (Option Setting)) (homes : List ℕ) (due : List DueKey) → IsTurned low past now slot settings homes due →
     slot < HEADS → IsOfRing homes slot node → length due < length settings
-step_room past now slot node settings homes due x low ring =
+step_room low past now slot node settings homes due x small ring =
     let nk = node_key (length settings) (length homes) node x.nodes ring.other ring.below in
     let here : get_or homes (HEADS + (node - HEADS)) 0 ≡ slot = rw nk.0 ring.here in
-    room now (IsPassed past now slot) (λ j home. Waits past now slot (setting_in settings j) home) settings homes due (node - HEADS) x nk.1
-    (waiting_apart past now slot (node - HEADS) settings homes due x low here)
+    room now (λ home. (low ≤ home) × IsPassed past now slot home) (λ j home. Waits past now slot (setting_in settings j) home) settings homes due (node - HEADS) x nk.1
+    (waiting_apart low past now slot (node - HEADS) settings homes due x small here)

@@ -44,8 +44,9 @@ pub record IsKept (now : ℕ) (Allowed : ℕ → Type 0) (Excepted : ℕ → ℕ
   pub stands : (k : ℕ) → k < length settings → (Stands now due k (setting_in settings k) (slice_index homes (HEADS + k)) × Allowed (slice_index homes (HEADS + k))) ⊎
       Excepted k (slice_index homes (HEADS + k))
 
-abbrev pub IsWheel : ℕ → List (Option Setting) → List ℕ → List DueKey → Type 0
-IsWheel now settings homes due = IsKept now (λ home. Unit {0}) (λ k home. ⊥) settings homes due
+-- no key stands in a slot below the lowest
+abbrev pub IsWheel : ℕ → ℕ → List (Option Setting) → List ℕ → List DueKey → Type 0
+IsWheel lowest now settings homes due = IsKept now (λ home. lowest ≤ home) (λ k home. ⊥) settings homes due
 
 -- while the time goes on from `past` to `now`, a key may still wait in a slot from this one on, up to that of the new time
 abbrev pub Waits : ℕ → ℕ → ℕ → Option Setting → ℕ → Type 0
@@ -56,9 +57,9 @@ Waits past now from (Some s) home =
 abbrev pub IsPassed : ℕ → ℕ → ℕ → ℕ → Type 0
 IsPassed past now from home = (home < from) ⊎ (slot_index past now < home)
 
-abbrev pub IsTurned : ℕ → ℕ → ℕ → List (Option Setting) → List ℕ → List DueKey → Type 0
-IsTurned past now from settings homes due =
-    IsKept now (IsPassed past now from) (λ k home. Waits past now from (setting_in settings k) home) settings homes due
+abbrev pub IsTurned : ℕ → ℕ → ℕ → ℕ → List (Option Setting) → List ℕ → List DueKey → Type 0
+IsTurned lowest past now from settings homes due =
+    IsKept now (λ home. (lowest ≤ home) × IsPassed past now from home) (λ k home. Waits past now from (setting_in settings k) home) settings homes due
 
 -- what is left of the due keys without the key that has this setting
 abbrev pub due_without : ℕ → ℕ → Option Setting → List DueKey → List DueKey

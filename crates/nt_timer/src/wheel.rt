@@ -23,18 +23,21 @@ pub(crate) struct Wheel {
     /// The rings of the slots; after their heads comes a node for each key.
     rings: Rings,
     due: Vec<DueKey>,
+    /// No key stands in a slot below this one.
+    lowest: usize,
 }
 
 impl Model for Wheel {
     ghost use Rattle.std.specs.Prelude.{◌<◌, ◌≤◌, ◌^◌, length};
     ghost use Rattle.std.specs.Vec.{vec_capacity};
     ghost use Rattle.nt_timer.specs.Wheel.{IsWheel, WheelFacts};
+    ghost use Rattle.nt_timer.specs.declared.rings.TheConstants.{HEADS};
 
     ghost Value = { WheelFacts };
 
     ghost view = { λ a. record { now = a.now; settings = a.settings.items } };
 
-    ghost invariant = { λ a. (a.now < 2 ^ 50) × (length a.settings.items < 2 ^ 34) × (length a.settings.items ≤ vec_capacity a.due) × IsWheel a.now a.settings.items a.rings a.due.items };
+    ghost invariant = { λ a. (a.now < 2 ^ 50) × (a.lowest ≤ HEADS) × (length a.settings.items < 2 ^ 34) × (length a.settings.items ≤ vec_capacity a.due) × IsWheel a.lowest a.now a.settings.items a.rings a.due.items };
 }
 
 impl Wheel {
@@ -51,6 +54,7 @@ impl Wheel {
             settings,
             rings,
             due,
+            lowest: HEADS,
         })
     }
 
@@ -82,12 +86,11 @@ impl Wheel {
         lift(&mut self.rings, &mut self.due, self.now, key, old);
         self.settings[key] = setting;
         if let Some(setting) = setting {
-            stand(&mut self.rings, &mut self.due, self.now, key, setting);
+            stand(&mut self.rings, &mut self.due, &mut self.lowest, self.now, key, setting);
         }
     }
 
-    /// Lets the time advance by so many units. What it costs is a look at each slot up to that of the new time, and what the keys
-    /// there cost.
+    /// Lets the time advance by so many units. It looks at the slots from the lowest that may hold a key up to that of the new time.
     pub(crate) fn advance(&mut self, units: u32)
         requires { self.old.now + units < 2 ^ 50 }
         ensures { self.new ≡ record self.old { now = self.old.now + units } }
@@ -100,6 +103,7 @@ impl Wheel {
         turn(
             &mut self.rings,
             &mut self.due,
+            &mut self.lowest,
             self.settings.as_slice(),
             past,
             self.now,
@@ -131,11 +135,20 @@ fn lift(rings: &mut Rings, due: &mut Vec<DueKey>, now: u64, key: usize, old: Opt
 }
 
 /// Puts the key, which stands nowhere, where this setting says.
-fn stand(rings: &mut Rings, due: &mut Vec<DueKey>, now: u64, key: usize, setting: Setting)
+fn stand(
+    rings: &mut Rings,
+    due: &mut Vec<DueKey>,
+    lowest: &mut usize,
+    now: u64,
+    key: usize,
+    setting: Setting,
+)
     requires few { key < 2 ^ 34 }
     requires below { HEADS + key < length rings.old }
     requires alone { slice_index rings.old (HEADS + key) ≡ HEADS + key }
     requires room { vec_len due.old < vec_capacity due.old }
+    requires lowest { lowest.old ≤ HEADS }
+    ensures lowest { (lowest.new ≤ lowest.old) × (lowest.new ≤ home_of now setting.due key) }
     ensures homes { rings.new ≡ slice_set rings.old (HEADS + key) (home_of now setting.due key) }
     ensures due { due.new.items ≡ due_with now key setting due.old.items }
     ensures room { vec_capacity due.new ≡ vec_capacity due.old }
@@ -152,20 +165,33 @@ fn stand(rings: &mut Rings, due: &mut Vec<DueKey>, now: u64, key: usize, setting
     let slot = slot_index(now, setting.due);
     if slot < HEADS {
         rings.append(slot, HEADS + key);
+        *lowest = slot.min(*lowest);
     }
 }
 
 /// Moves each key whose slot the time has reached.
-fn turn(rings: &mut Rings, due: &mut Vec<DueKey>, settings: &[Option<Setting>], past: u64, now: u64)
+fn turn(
+    rings: &mut Rings,
+    due: &mut Vec<DueKey>,
+    lowest: &mut usize,
+    settings: &[Option<Setting>],
+    past: u64,
+    now: u64,
+)
     requires time { (past < now) × (now < 2 ^ 50) }
     requires few { length settings.now < 2 ^ 34 }
     requires room { length settings.now ≤ vec_capacity due.old }
-    requires wheel { IsWheel past settings.now rings.old due.old.items }
-    ensures wheel { IsWheel now settings.now rings.new due.new.items }
+    requires lowest { lowest.old ≤ HEADS }
+    requires wheel { IsWheel lowest.old past settings.now rings.old due.old.items }
+    ensures lowest { lowest.new ≤ HEADS }
+    ensures wheel { IsWheel lowest.new now settings.now rings.new due.new.items }
     ensures room { vec_capacity due.new ≡ vec_capacity due.old }
 {
-    for slot in 0..slot_index(past, now) + 1 {
-        empty(rings, due, settings, past, now, slot);
+    let first = *lowest;
+    let end = slot_index(past, now) + 1;
+    *lowest = first.max(end);
+    for slot in first..end {
+        empty(rings, due, lowest, settings, past, now, slot);
     }
 }
 
@@ -173,6 +199,7 @@ fn turn(rings: &mut Rings, due: &mut Vec<DueKey>, settings: &[Option<Setting>], 
 fn empty(
     rings: &mut Rings,
     due: &mut Vec<DueKey>,
+    lowest: &mut usize,
     settings: &[Option<Setting>],
     past: u64,
     now: u64,
@@ -181,8 +208,10 @@ fn empty(
     requires time { (past < now) × (now < 2 ^ 50) × (slot ≤ slot_index past now) }
     requires few { length settings.now < 2 ^ 34 }
     requires room { length settings.now ≤ vec_capacity due.old }
-    requires wheel { IsTurned past now slot settings.now rings.old due.old.items }
-    ensures wheel { IsTurned past now (slot + 1) settings.now rings.new due.new.items }
+    requires lowest { lowest.old ≤ HEADS }
+    requires wheel { IsTurned lowest.old past now slot settings.now rings.old due.old.items }
+    ensures lowest { lowest.new ≤ HEADS }
+    ensures wheel { IsTurned lowest.new past now (slot + 1) settings.now rings.new due.new.items }
     ensures room { vec_capacity due.new ≡ vec_capacity due.old }
 {
     while let Some(node) = rings.first(slot) {
@@ -191,7 +220,7 @@ fn empty(
             unreachable!()
         };
         rings.detach(node);
-        stand(rings, due, now, key, setting);
+        stand(rings, due, lowest, now, key, setting);
     }
 }
 

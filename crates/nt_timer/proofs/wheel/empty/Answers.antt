@@ -15,7 +15,7 @@ stand-requires-clause-room c =
     let t = c.requires.time in
     let end = within c.args.past c.args.now t.0 t.1 in
     let low : c.args.slot < HEADS = omega (arith, t.2) in
-    let few = step_room c.args.past c.args.now c.args.slot c.in-Some.node c.args.settings.now c.loop-node.rings c.loop-node.due.items
+    let few = step_room c.loop-node.lowest c.args.past c.args.now c.args.slot c.in-Some.node c.args.settings.now c.loop-node.rings c.loop-node.due.items
     c.loop-node.invariant.turned low c.in-Some.ensures in
     let len = c.loop-node.due.ok in
     let room = c.loop-node.invariant.room in
@@ -24,17 +24,18 @@ stand-requires-clause-room c =
 pub loop-node-smaller : goal.loop-node-smaller
 loop-node-smaller c =
     let t = c.requires.time in
-    (stepped c.args.past c.args.now c.args.slot c.in-Some.node c.in-Some-settings.setting c.args.settings.now c.loop-node.rings c.detach.new.self
+    (stepped c.loop-node.lowest c.stand.new.lowest c.args.past c.args.now c.args.slot c.in-Some.node c.in-Some-settings.setting c.args.settings.now c.loop-node.rings c.detach.new.self
     c.stand.new.rings c.loop-node.due.items c.stand.new.due.items c.loop-node.invariant.turned t.0 t.1 t.2 c.in-Some.ensures c.in-Some-settings.is
-    c.detach.ensures c.stand.ensures.homes c.stand.ensures.due).1
+    c.detach.ensures c.stand.ensures.homes c.stand.ensures.due c.stand.ensures.lowest.0 c.stand.ensures.lowest.1).1
 
 pub loop-node-preserved : goal.loop-node-preserved
 loop-node-preserved c =
     let t = c.requires.time in
     record {
-      turned = (stepped c.args.past c.args.now c.args.slot c.in-Some.node c.in-Some-settings.setting c.args.settings.now c.loop-node.rings c.detach.new.self
+      turned = (stepped c.loop-node.lowest c.stand.new.lowest c.args.past c.args.now c.args.slot c.in-Some.node c.in-Some-settings.setting c.args.settings.now c.loop-node.rings c.detach.new.self
           c.stand.new.rings c.loop-node.due.items c.stand.new.due.items c.loop-node.invariant.turned t.0 t.1 t.2 c.in-Some.ensures c.in-Some-settings.is
-          c.detach.ensures c.stand.ensures.homes c.stand.ensures.due).0;
+          c.detach.ensures c.stand.ensures.homes c.stand.ensures.due c.stand.ensures.lowest.0 c.stand.ensures.lowest.1).0;
+      small = let l = c.stand.ensures.lowest.0 in let n = c.loop-node.invariant.small in omega arith;
       room = c.stand.ensures.room ∙ c.loop-node.invariant.room;
     }
 
@@ -43,5 +44,5 @@ returns-clause-wheel c =
     let t = c.requires.time in
     let end = within c.args.past c.args.now t.0 t.1 in
     let low : c.args.slot < HEADS = omega (arith, t.2) in
-    emptied c.args.past c.args.now c.args.slot c.args.settings.now c.loop-node.rings c.loop-node.due.items low c.in_default.ensures
+    emptied c.loop-node.lowest c.args.past c.args.now c.args.slot c.args.settings.now c.loop-node.rings c.loop-node.due.items low c.in_default.ensures
     c.loop-node.invariant.turned
