@@ -1,10 +1,10 @@
 -- Due keys that are put in and taken out: what stands there, and in which order.
-use Rattle.std.proofs.Common.{◌≡◌, ◌⊎◌, ◌<◌, ◌≤◌, ◌&&◌, ◌||◌, Bool, true, false, List, [], ◌∷◌, ℕ, ap, arith, cond, eqb, ltb, inl, inr}
+use Rattle.std.proofs.Common.{get_or, ◌≡◌, ◌⊎◌, ◌<◌, ◌≤◌, ◌&&◌, ◌||◌, Bool, true, false, List, [], ◌∷◌, ℕ, ap, arith, cond, eqb, ltb, inl, inr}
 use Rattle.std.proofs.Common.{length, refl, subst, suc, sym, zero, ◌∙◌}
 use Rattle.nt_timer.specs.declared.due.DueKey.{DueKey}
 use Rattle.nt_timer.specs.Due.{AreSorted, EachOnce, IsBefore, IsIn, is_before, is_of_key, place_in, place_of, placed, without}
 use Rattle.std.specs.List.{AllByRecursion, IsDistinct, insert, list_any, remove}
-use Rattle.std.proofs.lemmas.Bool.{and_cases, and_parts, cases_lt, eqb-false, eqb-true, ltb-false, ltb-true, ne_eqb, or_cases, or_parts}
+use Rattle.std.proofs.lemmas.Bool.{and_cases, and_from, eq-eqb, lt-ltb, or_left, or_right, and_parts, cases_lt, eqb-false, eqb-true, ltb-false, ltb-true, ne_eqb, or_cases, or_parts}
 use Rattle.std.proofs.lemmas.Map.Keys.{IsDistinct-cons}
 use Rattle.std.proofs.lemmas.Map.Steps.{length-le_from_distinct_below}
 
@@ -280,3 +280,34 @@ none_step k y ys rest false h = ap (λ (zs : List DueKey). y ∷ zs) (rest (omeg
 pub without_none : (k : ℕ) (ys : List DueKey) → length ys ≤ place_of k ys → without k ys ≡ ys
 without_none k [] h = refl
 without_none k (y ∷ ys) h = none_step k y ys (without_none k ys) (is_of_key k y) h
+
+-- ---- after all
+
+true_from_before : (a b : DueKey) → IsBefore a b → is_before a b ≡ true
+true_from_before a b (inl less) =
+    or_left (ltb a.due b.due) (eqb a.due b.due && (ltb a.number b.number || (eqb a.number b.number && ltb a.key b.key))) (lt-ltb a.due b.due less)
+true_from_before a b (inr tie) =
+    or_right (ltb a.due b.due) (eqb a.due b.due && (ltb a.number b.number || (eqb a.number b.number && ltb a.key b.key)))
+    (and_from (eqb a.due b.due) (ltb a.number b.number || (eqb a.number b.number && ltb a.key b.key)) (eq-eqb a.due b.due tie.0) (elim tie.1 [
+      | inl lower ↦ or_left (ltb a.number b.number) (eqb a.number b.number && ltb a.key b.key) (lt-ltb a.number b.number lower)
+      | inr keys ↦ or_right (ltb a.number b.number) (eqb a.number b.number && ltb a.key b.key)
+          (and_from (eqb a.number b.number) (ltb a.key b.key) (eq-eqb a.number b.number keys.0) (lt-ltb a.key b.key keys.1))
+    ]))
+
+in_at : (ys : List DueKey) (i : ℕ) (d : DueKey) → i < length ys → IsIn (get_or ys i d) ys
+in_at [] i d h = absurd (omega arith)
+in_at (y ∷ ys) zero d h = inl refl
+in_at (y ∷ ys) (suc i) d h = inr (in_at ys i d (omega arith))
+
+-- what the last key is before comes after all
+pub all_before : (x : DueKey) (ys : List DueKey) (i : ℕ) (d : DueKey) → suc i ≡ length ys → AreSorted ys → is_before (get_or ys i d) x ≡ true →
+    place_in x ys ≡ length ys
+all_before x [] i d e sorted h = absurd (omega arith)
+all_before x (y ∷ []) zero d e sorted h = rw h refl
+all_before x (y ∷ []) (suc i) d e sorted h = absurd (omega arith)
+all_before x (y ∷ z ∷ zs) zero d e sorted h = absurd (omega arith)
+all_before x (y ∷ z ∷ zs) (suc i) d e sorted h =
+    let last : DueKey = get_or (z ∷ zs) i d in
+    let first : is_before y x ≡ true =
+    true_from_before y x (before_trans y last x (sorted.0 last (in_at (z ∷ zs) i d (omega arith))) (before_from_true last x h)) in
+    rw first (ap suc (all_before x (z ∷ zs) i d (omega arith) sorted.1 h))

@@ -160,9 +160,9 @@ weaker now Allowed Allowed' Excepted settings homes due f x =
       once = x.once;
       listed = x.listed;
       stands = λ k lower. elim (x.stands k lower) [
-          | inl st ↦ inl (st.0, f (get_or homes (HEADS + k) 0) st.1)
-          | inr out ↦ inr out
-        ];
+        | inl st ↦ inl (st.0, f (get_or homes (HEADS + k) 0) st.1)
+        | inr out ↦ inr out
+      ];
     }
 
 -- ---- a key is taken out of where it stands
@@ -183,7 +183,7 @@ kept_in now k (Some s) due e ne h = go (leb s.due now)
     go true = kept_without k e due ne h
     go false = h
 
-fewer_sorted : (now k : ℕ) (old : Option Setting) (due : List DueKey) → AreSorted due → AreSorted (due_without now k old due)
+pub fewer_sorted : (now k : ℕ) (old : Option Setting) (due : List DueKey) → AreSorted due → AreSorted (due_without now k old due)
 fewer_sorted now k None due h = h
 fewer_sorted now k (Some s) due h = go (leb s.due now)
   where
@@ -273,12 +273,12 @@ settled_none low now k settings homes due x small none alone =
       once = x.once;
       listed = x.listed;
       stands = λ j lower. elim (x.stands j lower) [
-          | inl st ↦ inl st
-          | inr e ↦
-              let own : get_or homes (HEADS + j) 0 ≡ HEADS + j =
-                ap (λ (n : ℕ). get_or homes (HEADS + n) 0) e ∙ alone ∙ ap (λ (n : ℕ). HEADS + n) (sym e) in
-              inl (stands_none now j due (setting_in settings j) (get_or homes (HEADS + j) 0) (ap (setting_in settings) e ∙ none) own, omega arith)
-        ];
+        | inl st ↦ inl st
+        | inr e ↦
+            let own : get_or homes (HEADS + j) 0 ≡ HEADS + j =
+            ap (λ (n : ℕ). get_or homes (HEADS + n) 0) e ∙ alone ∙ ap (λ (n : ℕ). HEADS + n) (sym e) in
+            inl (stands_none now j due (setting_in settings j) (get_or homes (HEADS + j) 0) (ap (setting_in settings) e ∙ none) own, omega arith)
+      ];
     }
 
 pub settled_some : (low low' now k : ℕ) (s : Setting) (settings : List (Option Setting)) (homes : List ℕ) (due : List DueKey) →
@@ -353,12 +353,12 @@ turned_start low low' past now settings homes due less few raised x =
       once = x.once;
       listed = λ e h. listed_on past now settings homes e less (x.listed e h);
       stands = λ k lower. elim (x.stands k lower) [
-          | inl st ↦ elim (begins past now low k due (setting_in settings k) (get_or homes (HEADS + k) 0) less few st.1 st.0) [
-              | inl stays ↦ inl (stays.0, (raised (get_or homes (HEADS + k) 0) st.1 stays.1, inr stays.1))
-              | inr w ↦ inr w
-            ]
-          | inr out ↦ absurd out
-        ];
+        | inl st ↦ elim (begins past now low k due (setting_in settings k) (get_or homes (HEADS + k) 0) less few st.1 st.0) [
+          | inl stays ↦ inl (stays.0, (raised (get_or homes (HEADS + k) 0) st.1 stays.1, inr stays.1))
+          | inr w ↦ inr w
+        ]
+        | inr out ↦ absurd out
+      ];
     }
 
 ended : (past now from : ℕ) (o : Option Setting) (h : ℕ) → slot_index past now < from → Waits past now from o h → ⊥

@@ -1,7 +1,7 @@
 //! The due keys, in the order in which they expire.
-ghost use Rattle.std.specs.Prelude.{◌≡◌, ◌<◌, ◌+◌, length};
+ghost use Rattle.std.specs.Prelude.{◌≡◌, ◌+◌, ◌-◌, ◌<◌, length};
 ghost use Rattle.std.specs.Vec.{vec_capacity, vec_len};
-ghost use Rattle.nt_timer.specs.Due.{is_before, place_in, place_of, placed, without};
+ghost use Rattle.nt_timer.specs.Due.{AreSorted, is_before, place_in, place_of, placed, without};
 
 /// A due key: its due time, the number of the event that set it, and its own number.
 #[derive(Clone, Copy, Debug)]
@@ -19,10 +19,16 @@ fn is_before(a: &DueKey, b: &DueKey) -> bool
         || (a.due == b.due && (a.number < b.number || (a.number == b.number && a.key < b.key)))
 }
 
-/// How many of the keys expire before this one, up to the first that doesn't.
+/// How many of the keys expire before this one: all, as where keys come due one after another, or those up to the first that
+/// doesn't.
 fn place_in(keys: &[DueKey], key: &DueKey) -> usize
+    requires { AreSorted keys.now }
     ensures { result ≡ place_in key.now keys.now }
 {
+    let count = keys.len();
+    if count > 0 && is_before(&keys[count - 1], key) {
+        return count;
+    }
     let mut place = 0;
     for other in keys {
         if !is_before(other, key) {
@@ -35,7 +41,8 @@ fn place_in(keys: &[DueKey], key: &DueKey) -> usize
 
 /// Puts a key in its place.
 pub(crate) fn put_in(keys: &mut Vec<DueKey>, key: DueKey)
-    requires { vec_len keys.old < vec_capacity keys.old }
+    requires room { vec_len keys.old < vec_capacity keys.old }
+    requires sorted { AreSorted keys.old.items }
     ensures items { keys.new.items ≡ placed key keys.old.items }
     ensures room { vec_capacity keys.new ≡ vec_capacity keys.old }
 {

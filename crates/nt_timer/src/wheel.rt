@@ -4,6 +4,7 @@ ghost use Rattle.std.specs.Vec.{vec_capacity, vec_len};
 ghost use Rattle.nt_event.specs.Timers.{setting_in};
 ghost use Rattle.nt_event.specs.declared.inserts.Setting.{Setting};
 ghost use Rattle.nt_timer.specs.declared.rings.TheConstants.{HEADS};
+ghost use Rattle.nt_timer.specs.Due.{AreSorted};
 ghost use Rattle.nt_timer.specs.Slots.{slot_index};
 ghost use Rattle.nt_timer.specs.Wheel.{IsFirstKey, IsTurned, IsWheel, due_with, due_without, home_of};
 
@@ -86,7 +87,14 @@ impl Wheel {
         lift(&mut self.rings, &mut self.due, self.now, key, old);
         self.settings[key] = setting;
         if let Some(setting) = setting {
-            stand(&mut self.rings, &mut self.due, &mut self.lowest, self.now, key, setting);
+            stand(
+                &mut self.rings,
+                &mut self.due,
+                &mut self.lowest,
+                self.now,
+                key,
+                setting,
+            );
         }
     }
 
@@ -147,6 +155,7 @@ fn stand(
     requires below { HEADS + key < length rings.old }
     requires alone { slice_index rings.old (HEADS + key) ≡ HEADS + key }
     requires room { vec_len due.old < vec_capacity due.old }
+    requires sorted { AreSorted due.old.items }
     requires lowest { lowest.old ≤ HEADS }
     ensures lowest { (lowest.new ≤ lowest.old) × (lowest.new ≤ home_of now setting.due key) }
     ensures homes { rings.new ≡ slice_set rings.old (HEADS + key) (home_of now setting.due key) }

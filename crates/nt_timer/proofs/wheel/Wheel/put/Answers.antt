@@ -1,7 +1,7 @@
 use Rattle.std.proofs.Common.{None, ap, arith, length, length-set, ◌<◌, ◌≡◌, sym}
 use Rattle.nt_event.specs.Timers.{setting_in}
 use Rattle.nt_timer.specs.Wheel.{WheelFacts}
-use Rattle.nt_timer.proofs.Turning.{put_none, put_room, put_some}
+use Rattle.nt_timer.proofs.Turning.{fewer_sorted, put_none, put_room, put_some}
 use Rattle.std.proofs.lemmas.List.{get_or_read}
 use Rattle.nt_timer.proofs.wheel.Wheel.put.Goals as goal
 
@@ -16,6 +16,10 @@ stand-requires-clause-room c =
     let room = c.lift.ensures.room in
     let whole = c.self.invariant.3 in
     let len = c.lift.new.due.ok in omega arith
+
+pub stand-requires-clause-sorted : goal.stand-requires-clause-sorted
+stand-requires-clause-sorted c =
+    rw c.lift.ensures.due (fewer_sorted c.self.inside.now c.args.key c.index-old.result.now c.self.inside.due.items c.self.invariant.4.sorted)
 
 pub invariant_of-self : goal.invariant_of-self
 invariant_of-self c =
