@@ -1,4 +1,4 @@
-use Rattle.std.proofs.Common.{get_or, nat_lt, ℕ, ◌<◌, ◌≡◌}
+use Rattle.std.proofs.Common.{nat_lt, ℕ, ◌<◌, ◌≡◌}
 use Rattle.std.specs.Prelude.{false}
 use Rattle.nt_event.specs.Lists.{value_at}
 use Rattle.nt_cpus.proofs.robins.is_behind.Given as goal
