@@ -32,3 +32,12 @@ four n lo hi = rw (decimal_pair n (omega arith) (omega arith), decimal_two (n / 
 -- a longer number: what stands before its last four digits, and these
 pub longer : (n : ℕ) → 10000 ≤ n → n < 2 ^ 64 → decimal n ≡ decimal (n / 10000) ++ (two_digits (n % 10000 / 100) ++ two_digits (n % 10000 % 100))
 longer n lo hi = decimal_four n lo hi
+
+-- five and six digits
+pub five : (n : ℕ) → 10000 ≤ n → n < 100000 → decimal n ≡ (48 + n / 10000 % 10) ∷ (two_digits (n % 10000 / 100) ++ two_digits (n % 10000 % 100))
+five n lo hi =
+    let first : n / 10000 % 10 ≡ n / 10000 = omega arith in
+    rw (longer n lo (omega arith), decimal_digit (n / 10000) (omega arith), first) refl
+
+pub six : (n : ℕ) → 100000 ≤ n → n < 1000000 → decimal n ≡ two_digits (n / 10000) ++ (two_digits (n % 10000 / 100) ++ two_digits (n % 10000 % 100))
+six n lo hi = rw (longer n (omega arith) (omega arith), decimal_two (n / 10000) (omega arith) (omega arith)) refl

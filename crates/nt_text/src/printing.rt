@@ -1,5 +1,5 @@
 //! Numbers in decimal digits, and fields of a line, each with a space before it.
-ghost use Rattle.std.specs.Prelude.{◌≡◌, ◌<◌, ◌/◌, ◌%◌, ◌++◌, ◌∷◌, [], OnOk, decimal};
+ghost use Rattle.std.specs.Prelude.{◌≡◌, ◌<◌, ◌≤◌, ◌/◌, ◌%◌, ◌++◌, ◌∷◌, [], OnOk, decimal};
 ghost use Rattle.nt_text.specs.Lines.{spaced};
 ghost use Rattle.nt_text.specs.Digits.{two_digits};
 
@@ -46,12 +46,28 @@ fn put_short(out: &mut Vec<u8>, n: u64) -> Result<(), AllocError>
     out.extend_from_slice(&four_digits(n))
 }
 
+/// Adds the digits of a number of five or six digits.
+fn put_six(out: &mut Vec<u8>, n: u64) -> Result<(), AllocError>
+    requires { (10000 ≤ n) × (n < 1000000) }
+    ensures { OnOk result (out.new.items ≡ out.old.items ++ decimal n) }
+{
+    let [first, second] = two_digits(n / 10_000);
+    let [thousands, hundreds, tens, ones] = four_digits(n % 10_000);
+    if n < 100_000 {
+        return out.extend_from_slice(&[second, thousands, hundreds, tens, ones]);
+    }
+    out.extend_from_slice(&[first, second, thousands, hundreds, tens, ones])
+}
+
 /// Adds a number in decimal digits.
 pub fn put_digits(out: &mut Vec<u8>, n: u64) -> Result<(), AllocError>
     ensures { OnOk result (out.new.items ≡ out.old.items ++ decimal n) }
 {
     if n < 10_000 {
         return put_short(out, n);
+    }
+    if n < 1_000_000 {
+        return put_six(out, n);
     }
     put_digits(out, n / 10_000)?;
     out.extend_from_slice(&four_digits(n % 10_000))
