@@ -12,7 +12,7 @@ use Rattle.nt_event.specs.Lists.{table_from}
 use Rattle.nt_line.specs.NameLists.{AreNew, all_names}
 use Rattle.nt_line.specs.Places.{place}
 use Rattle.nt_load.proofs.Spelled.{in_neither, other_number, place_beside}
-use Rattle.nt_load.specs.Load.{load_names, spelled, spelled_names}
+use Rattle.nt_load.specs.Load.{load_names, object_names, spelled, spelled_names, thing_names}
 use Rattle.nt_text.specs.Fields.{is_name, is_name_byte}
 
 abbrev pub read_on : ℕ → List ℕ → ℕ
@@ -60,7 +60,8 @@ new_from before letter k (suc n) e l free =
 
     nowhere : (i : ℕ) → i < n → (at : ℕ) → position_from (bytes_eq (spelled (letter ∷ []) (suc k + i))) at (spelled (letter ∷ []) k ∷ []) ≡ None
     nowhere i m at =
-        let other : bytes_eq (spelled (letter ∷ []) (suc k + i)) (spelled (letter ∷ []) k) ≡ false = other_number (letter ∷ []) k (suc k + i) (omega arith) (omega arith) in
+        let other : bytes_eq (spelled (letter ∷ []) (suc k + i)) (spelled (letter ∷ []) k) ≡ false =
+        other_number (letter ∷ []) k (suc k + i) (omega arith) (omega arith) in
         rw other refl
 
     rest : (i : ℕ) → i < n → place (spelled (letter ∷ []) (suc k + i)) (before ++ spelled (letter ∷ []) k ∷ []) ≡ None
@@ -95,26 +96,61 @@ before_idle = before_u ++ spelled_names (117 ∷ []) 32
 abbrev pub before_b : List (List ℕ)
 before_b = before_idle ++ codes "idle" ∷ []
 
+-- a name that begins with a later letter stands in none of them
 free_k : (rest : List ℕ) → place (107 ∷ rest) before_k ≡ None
-free_k rest = place_beside [] 100 32 107 rest refl refl
+free_k rest =
+    let after_d = place_beside [] 100 32 107 rest refl refl in
+    after_d
 
 free_t : (rest : List ℕ) → place (116 ∷ rest) before_t ≡ None
-free_t rest = place_beside before_k 107 8 116 rest refl (place_beside [] 100 32 116 rest refl refl)
+free_t rest =
+    let after_d = place_beside [] 100 32 116 rest refl refl in
+    let after_k = place_beside before_k 107 8 116 rest refl after_d in
+    after_k
 
 free_s : (rest : List ℕ) → place (115 ∷ rest) before_s ≡ None
-free_s rest = place_beside before_t 116 32 115 rest refl (place_beside before_k 107 8 115 rest refl (place_beside [] 100 32 115 rest refl refl))
+free_s rest =
+    let after_d = place_beside [] 100 32 115 rest refl refl in
+    let after_k = place_beside before_k 107 8 115 rest refl after_d in
+    let after_t = place_beside before_t 116 32 115 rest refl after_k in
+    after_t
 
 free_n : (rest : List ℕ) → place (110 ∷ rest) before_n ≡ None
-free_n rest = place_beside before_s 115 32 110 rest refl (place_beside before_t 116 32 110 rest refl (place_beside before_k 107 8 110 rest refl (place_beside [] 100 32 110 rest refl refl)))
+free_n rest =
+    let after_d = place_beside [] 100 32 110 rest refl refl in
+    let after_k = place_beside before_k 107 8 110 rest refl after_d in
+    let after_t = place_beside before_t 116 32 110 rest refl after_k in
+    let after_s = place_beside before_s 115 32 110 rest refl after_t in
+    after_s
 
 free_u : (rest : List ℕ) → place (117 ∷ rest) before_u ≡ None
-free_u rest = place_beside before_n 110 32 117 rest refl (place_beside before_s 115 32 117 rest refl (place_beside before_t 116 32 117 rest refl (place_beside before_k 107 8 117 rest refl (place_beside [] 100 32 117 rest refl refl))))
+free_u rest =
+    let after_d = place_beside [] 100 32 117 rest refl refl in
+    let after_k = place_beside before_k 107 8 117 rest refl after_d in
+    let after_t = place_beside before_t 116 32 117 rest refl after_k in
+    let after_s = place_beside before_s 115 32 117 rest refl after_t in
+    let after_n = place_beside before_n 110 32 117 rest refl after_s in
+    after_n
 
 free_idle : (rest : List ℕ) → place (105 ∷ rest) before_idle ≡ None
-free_idle rest = place_beside before_u 117 32 105 rest refl (place_beside before_n 110 32 105 rest refl (place_beside before_s 115 32 105 rest refl (place_beside before_t 116 32 105 rest refl (place_beside before_k 107 8 105 rest refl (place_beside [] 100 32 105 rest refl refl)))))
+free_idle rest =
+    let after_d = place_beside [] 100 32 105 rest refl refl in
+    let after_k = place_beside before_k 107 8 105 rest refl after_d in
+    let after_t = place_beside before_t 116 32 105 rest refl after_k in
+    let after_s = place_beside before_s 115 32 105 rest refl after_t in
+    let after_n = place_beside before_n 110 32 105 rest refl after_s in
+    let after_u = place_beside before_u 117 32 105 rest refl after_n in
+    after_u
 
 free_b : (rest : List ℕ) → place (98 ∷ rest) before_b ≡ None
-free_b rest = in_neither (98 ∷ rest) before_idle (codes "idle" ∷ []) (place_beside before_u 117 32 98 rest refl (place_beside before_n 110 32 98 rest refl (place_beside before_s 115 32 98 rest refl (place_beside before_t 116 32 98 rest refl (place_beside before_k 107 8 98 rest refl (place_beside [] 100 32 98 rest refl refl)))))) (λ at. refl)
+free_b rest =
+    let after_d = place_beside [] 100 32 98 rest refl refl in
+    let after_k = place_beside before_k 107 8 98 rest refl after_d in
+    let after_t = place_beside before_t 116 32 98 rest refl after_k in
+    let after_s = place_beside before_s 115 32 98 rest refl after_t in
+    let after_n = place_beside before_n 110 32 98 rest refl after_s in
+    let after_u = place_beside before_u 117 32 98 rest refl after_n in
+    in_neither (98 ∷ rest) before_idle (codes "idle" ∷ []) after_u (λ at. refl)
 
 abbrev pub of_s : List (List ℕ)
 of_s = spelled_names (115 ∷ []) 32
@@ -126,6 +162,7 @@ abbrev pub of_u : List (List ℕ)
 of_u = spelled_names (117 ∷ []) 32
 
 pub load_names_differ : AreNew [] (all_names load_names)
+unfolding load_names object_names thing_names
 load_names_differ =
     new_both [] _ _ (new_letter [] 100 32 refl (lit≤ tt) (λ i. refl))
     (new_both before_k _ _ (new_letter before_k 107 8 refl (lit≤ tt) (λ i. free_k (decimal i)))

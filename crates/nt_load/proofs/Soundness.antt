@@ -1,12 +1,46 @@
--- The load of a seed has a text.
-use Rattle.std.proofs.Common.{ap, lit≤, suc, sym, [], ℕ, ◌++◌, ◌∙◌, ◌∷◌}
+-- What is put together is the load of a seed, and it has a text.
+use Rattle.std.proofs.Common.{List, None, ap, lit≤, refl, suc, sym, [], ℕ, ◌++◌, ◌∙◌, ◌∷◌, ◌≡◌}
 use Rattle.nt_event.proofs.Tables.{length-table_from}
+use Rattle.nt_event.specs.Lists.{table}
+use Rattle.nt_event.specs.declared.scripts.ApcDecl.{ApcDecl}
+use Rattle.nt_event.specs.declared.scripts.DpcDecl.{DpcDecl}
+use Rattle.nt_event.specs.declared.scripts.Isr.{Isr}
+use Rattle.nt_event.specs.declared.scripts.Routine.{Routine}
+use Rattle.nt_event.specs.declared.scripts.ThreadDecl.{ThreadDecl}
+use Rattle.nt_event.specs.declared.scripts.TimerDecl.{TimerDecl}
+use Rattle.nt_line.specs.NameLists.{NameLists}
 use Rattle.nt_load.proofs.Differing.{load_names_differ}
 use Rattle.nt_load.proofs.Fitting.{both_lengths, has_load, load_fits, load_ranges}
-use Rattle.nt_load.specs.Load.{load_input, spelled, spelled_names}
+use Rattle.nt_load.specs.Load.{all_apcs, busy_routine, busy_thread, idle_dpc, idle_isr, idle_routine, load_input, load_names, object_names, spelled, spelled_names, thing_names, timer_of_dpc}
 use Rattle.nt_script.specs.Sound.{IsSound}
+use Rattle.nt_script.specs.declared.walk.Input.{Input}
+
+-- an input of four processors with these parts
+abbrev pub with_parts : List Isr → List DpcDecl → List TimerDecl → List ThreadDecl → List ApcDecl → List Routine → NameLists → Input
+with_parts isrs dpcs timers threads apcs routines names = record {
+  script = record {
+    cpus = 4;
+    depth = None;
+    threaded = None;
+    isrs = isrs;
+    dpcs = dpcs;
+    timers = timers;
+    threads = threads;
+    apcs = apcs;
+    routines = routines;
+  };
+  names = names;
+}
+
+pub made_load : (seed number : ℕ) (isrs : List Isr) (dpcs : List DpcDecl) (timers : List TimerDecl) (threads : List ThreadDecl) (apcs : List ApcDecl)
+    (routines : List Routine) (names : NameLists) → number ≡ seed → isrs ≡ table 4 idle_isr → dpcs ≡ table 32 idle_dpc → timers ≡ table 8 timer_of_dpc →
+    threads ≡ table 32 busy_thread → apcs ≡ all_apcs → routines ≡ idle_routine ∷ table 32 (busy_routine number) → names ≡ load_names →
+    with_parts isrs dpcs timers threads apcs routines names ≡ load_input seed
+unfolding load_input
+made_load seed number isrs dpcs timers threads apcs routines names n i d t h a r m = rw (i, d, t, h, a, r, m, n) refl
 
 pub load_is_sound : (seed : ℕ) → IsSound (load_input seed)
+unfolding load_input load_names object_names thing_names
 load_is_sound seed =
     let h = has_load seed in
     record {

@@ -3,7 +3,7 @@ use Rattle.std.proofs.Common.{Bool, List, None, Option, Some, [], ap, append_ass
 use Rattle.std.proofs.lemmas.Fmt.{decimal_injective}
 use Rattle.std.proofs.lemmas.List.{append-nil, append_cancel_left}
 use Rattle.std.specs.List.{position_from}
-use Rattle.std.specs.Prelude.{decimal, option_map, ◌==◌}
+use Rattle.std.specs.Prelude.{codes, decimal, option_map, ◌==◌}
 use Rattle.std.specs.Str.{bytes_eq}
 use Rattle.nt_event.specs.Lists.{table, table_from}
 use Rattle.nt_line.proofs.FieldTexts.{same_text}
@@ -12,7 +12,7 @@ use Rattle.nt_line.specs.Places.{place}
 use Rattle.nt_line.specs.declared.names.Kind.TheVariants as kind
 use Rattle.nt_line.specs.declared.names.Kind.{Kind}
 use Rattle.nt_load.proofs.Tables.{table_more}
-use Rattle.nt_load.specs.Load.{spelled, spelled_names, with_spelled}
+use Rattle.nt_load.specs.Load.{load_names, object_names, spelled, spelled_names, thing_names, with_spelled}
 
 -- a name that differs from each of a table's stands nowhere in it
 pub nowhere_from : (name : List ℕ) (f : ℕ → List ℕ) (k n j : ℕ) →
@@ -94,6 +94,7 @@ free_means name names f = rw (f.dpcs, f.timers, f.threads, f.apcs, f.routines) r
 -- the next name of a letter is free where the ones before it were added
 pub still_free : (k : Kind) (letter : List ℕ) (n i : ℕ) (names : NameLists) → n ≤ i → i < 2 ^ 64 → meaning (spelled letter i) names ≡ None →
     meaning (spelled letter i) (with_spelled k letter n names) ≡ None
+unfolding with_spelled
 still_free k letter n i names l h e =
     free_means (spelled letter i) (with_spelled k letter n names) (go k (free_of (spelled letter i) names e))
   where
@@ -109,7 +110,7 @@ still_free k letter n i names l h e =
     go kind.Routine f = record { dpcs = f.dpcs; timers = f.timers; threads = f.threads; apcs = f.apcs; routines = more names.routines f.routines }
 
 pub none_spelled : (k : Kind) (letter : List ℕ) (names : NameLists) → with_spelled k letter 0 names ≡ names
-unfolding table_from
+unfolding table_from with_spelled
 none_spelled kind.Dpc letter names = ap (λ (xs : List (List ℕ)). record names { dpcs = xs }) (append-nil names.dpcs)
 none_spelled kind.Timer letter names = ap (λ (xs : List (List ℕ)). record names { timers = xs }) (append-nil names.timers)
 none_spelled kind.Thread letter names = ap (λ (xs : List (List ℕ)). record names { threads = xs }) (append-nil names.threads)
@@ -118,6 +119,7 @@ none_spelled kind.Routine letter names = ap (λ (xs : List (List ℕ)). record n
 
 pub more_spelled : (k : Kind) (letter : List ℕ) (n : ℕ) (names : NameLists) →
     with_name k (spelled letter n) (with_spelled k letter n names) ≡ with_spelled k letter (n + 1) names
+unfolding with_spelled
 more_spelled k letter n names = go k
   where
     more : (xs : List (List ℕ)) → (xs ++ spelled_names letter n) ++ spelled letter n ∷ [] ≡ xs ++ spelled_names letter (n + 1)
@@ -145,6 +147,7 @@ place_beside xs letter n head rest ne a =
 -- so it is free beside them
 free_beside : (k : Kind) (letter n head : ℕ) (rest : List ℕ) (names : NameLists) → (head == letter) ≡ false → IsFree (head ∷ rest) names →
     IsFree (head ∷ rest) (with_spelled k (letter ∷ []) n names)
+unfolding with_spelled
 free_beside k letter n head rest names ne f = go k
   where
     more : (xs : List (List ℕ)) → place (head ∷ rest) xs ≡ None → place (head ∷ rest) (xs ++ spelled_names (letter ∷ []) n) ≡ None
@@ -183,4 +186,61 @@ free_behind_one name other names new e ne f = subst (λ (m : NameLists). IsFree 
       threads = f.threads;
       apcs = f.apcs;
       routines = in_neither name names.routines (other ∷ []) f.routines nowhere;
+    }
+
+-- ---- the names of the load, as they are added
+
+pub objects_made : (a b d e : NameLists) → a ≡ no_names → b ≡ with_spelled kind.Dpc (100 ∷ []) 32 a → d ≡ with_spelled kind.Timer (107 ∷ []) 8 b →
+    e ≡ with_spelled kind.Thread (116 ∷ []) 32 d → e ≡ object_names
+unfolding object_names with_spelled
+objects_made a b d e ea eb ed ee =
+    ee ∙ ap (with_spelled kind.Thread (116 ∷ []) 32) (ed ∙ ap (with_spelled kind.Timer (107 ∷ []) 8)
+    (eb ∙ ap (with_spelled kind.Dpc (100 ∷ []) 32) ea))
+
+pub things_made : (a b d e : NameLists) → a ≡ object_names → b ≡ with_spelled kind.Apc (115 ∷ []) 32 a → d ≡ with_spelled kind.Apc (110 ∷ []) 32 b →
+    e ≡ with_spelled kind.Apc (117 ∷ []) 32 d → e ≡ thing_names
+unfolding object_names thing_names with_spelled
+things_made a b d e ea eb ed ee =
+    ee ∙ ap (with_spelled kind.Apc (117 ∷ []) 32) (ed ∙ ap (with_spelled kind.Apc (110 ∷ []) 32)
+    (eb ∙ ap (with_spelled kind.Apc (115 ∷ []) 32) ea))
+
+pub all_made : (a b d : NameLists) → a ≡ thing_names → b ≡ with_name kind.Routine (codes "idle") a → d ≡ with_spelled kind.Routine (98 ∷ []) 32 b →
+    d ≡ load_names
+unfolding object_names thing_names load_names with_spelled
+all_made a b d ea eb ed =
+    ed ∙ ap (with_spelled kind.Routine (98 ∷ []) 32) (eb ∙ ap (with_name kind.Routine (codes "idle")) ea)
+
+-- a name that begins with another letter is free beside the objects, and beside all things
+pub free_of_objects : (head : ℕ) (rest : List ℕ) (names : NameLists) → names ≡ object_names → (head == 100) ≡ false → (head == 107) ≡ false →
+    (head == 116) ≡ false → IsFree (head ∷ rest) names
+unfolding object_names
+free_of_objects head rest names e d k t = subst (λ (n : NameLists). IsFree (head ∷ rest) n) (sym e) free
+  where
+    free : IsFree (head ∷ rest) object_names
+    free = record {
+      dpcs = place_beside [] 100 32 head rest d refl;
+      timers = place_beside [] 107 8 head rest k refl;
+      threads = place_beside [] 116 32 head rest t refl;
+      apcs = refl;
+      routines = refl;
+    }
+
+pub free_of_things : (head : ℕ) (rest : List ℕ) (names : NameLists) → names ≡ thing_names → (head == 100) ≡ false → (head == 107) ≡ false →
+    (head == 116) ≡ false → (head == 115) ≡ false → (head == 110) ≡ false → (head == 117) ≡ false → IsFree (head ∷ rest) names
+unfolding object_names thing_names
+free_of_things head rest names e d k t s n u = subst (λ (m : NameLists). IsFree (head ∷ rest) m) (sym e) free
+  where
+    of_s : place (head ∷ rest) ([] ++ spelled_names (115 ∷ []) 32) ≡ None
+    of_s = place_beside [] 115 32 head rest s refl
+
+    of_n : place (head ∷ rest) (spelled_names (115 ∷ []) 32 ++ spelled_names (110 ∷ []) 32) ≡ None
+    of_n = place_beside (spelled_names (115 ∷ []) 32) 110 32 head rest n of_s
+
+    free : IsFree (head ∷ rest) thing_names
+    free = record {
+      dpcs = place_beside [] 100 32 head rest d refl;
+      timers = place_beside [] 107 8 head rest k refl;
+      threads = place_beside [] 116 32 head rest t refl;
+      apcs = place_beside (spelled_names (115 ∷ []) 32 ++ spelled_names (110 ∷ []) 32) 117 32 head rest u of_n;
+      routines = refl;
     }

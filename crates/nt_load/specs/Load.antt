@@ -76,22 +76,33 @@ abbrev pub spelled_names : List ℕ → ℕ → List (List ℕ)
 spelled_names letter n = table n (spelled letter)
 
 -- n names of a letter behind those of a kind
-abbrev pub with_spelled : Kind → List ℕ → ℕ → NameLists → NameLists
+unfoldable pub with_spelled : Kind → List ℕ → ℕ → NameLists → NameLists
 with_spelled kind.Dpc letter n names = record names { dpcs = names.dpcs ++ spelled_names letter n }
 with_spelled kind.Timer letter n names = record names { timers = names.timers ++ spelled_names letter n }
 with_spelled kind.Thread letter n names = record names { threads = names.threads ++ spelled_names letter n }
 with_spelled kind.Apc letter n names = record names { apcs = names.apcs ++ spelled_names letter n }
 with_spelled kind.Routine letter n names = record names { routines = names.routines ++ spelled_names letter n }
 
-abbrev pub load_names : NameLists
-load_names = record {
+-- the names of the DPC objects, timers and threads alone
+unfoldable pub object_names : NameLists
+object_names = record {
   dpcs = spelled_names (codes "d") 32;
   timers = spelled_names (codes "k") 8;
   threads = spelled_names (codes "t") 32;
-  apcs = (spelled_names (codes "s") 32 ++ spelled_names (codes "n") 32) ++ spelled_names (codes "u") 32;
-  routines = codes "idle" ∷ spelled_names (codes "b") 32;
+  apcs = [];
+  routines = [];
 }
 
+-- the names of all things but the routines: the APC objects stand kind by kind
+unfoldable pub thing_names : NameLists
+thing_names = record object_names {
+  apcs = (spelled_names (codes "s") 32 ++ spelled_names (codes "n") 32) ++ spelled_names (codes "u") 32;
+}
+
+-- the names of all things
+unfoldable pub load_names : NameLists
+load_names = record thing_names { routines = codes "idle" ∷ spelled_names (codes "b") 32 }
+
 -- the load of a seed
-abbrev pub load_input : ℕ → Input
+unfoldable pub load_input : ℕ → Input
 load_input seed = record { script = load_script seed; names = load_names }
