@@ -1,0 +1,31 @@
+//! The texts of the loads of a table of seeds, one seed a line: the seed, how many bytes the text of its script has, and their
+//! SHA-256 digest in hexadecimal. What is wanted stands in `stdout`; it was made from the rules of the load in another language,
+//! and by another SHA-256.
+#![tactic(auto)]
+
+use nt_load::load_script;
+use nt_script::print;
+use sha2::{Digest, Sha256};
+use std::io;
+
+/// What is written of a seed.
+fn put_load(rt: &HostRuntime, seed: u32) -> io::Result<()> {
+    let input = load_script(rt.alloc(), seed)?;
+    let text = print(rt.alloc(), &input)?;
+    print!(rt; "{seed} {} ", text.len())?;
+    let digest = Sha256::digest(text.as_slice());
+    for byte in digest.iter() {
+        print!(rt; "{byte:02x}")?;
+    }
+    println!(rt; "")
+}
+
+fn main(rt: HostRuntime) -> io::Result<()> {
+    for line in rt.lines(rt.alloc()) {
+        match line?.as_str().parse::<u32>() {
+            Ok(seed) => put_load(&rt, seed)?,
+            Err(_) => println!(rt; "no seed")?,
+        }
+    }
+    Ok(())
+}
