@@ -18,7 +18,7 @@ is_built command.Run = true
 is_built command.Live = false
 is_built command.Replay = true
 is_built command.Check = true
-is_built command.Load = false
+is_built command.Load = true
 
 -- the word names the command, which is built
 abbrev pub names_built : List ℕ → Command → Bool

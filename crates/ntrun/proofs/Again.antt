@@ -50,9 +50,9 @@ use Rattle.ntrun.specs.declared.task.Tail.TheVariants as tail
 use Rattle.ntrun.specs.declared.task.Task.{Task}
 use Rattle.ntrun.specs.declared.task.Task.TheVariants as task
 use Rattle.ntrun.specs.Headline.{CheckCallsItLegal, ReplayWritesTheSame, checked_bytes, part_from, replayed_bytes, schedule_part}
-use Rattle.ntrun.specs.Outcome.{Gave, IsAnswered, IsDone, IsFound, IsFoundIn, IsGiven, IsReplayed, IsReport, IsWritten, Store, Supply, refused_in}
-use Rattle.ntrun.specs.Tasks.{Bad, and_then, behind, input_of, tail_task, tail_word, task_of, two_parts}
-use Rattle.ntrun.proofs.Causes.{causes, gave_told, same_task}
+use Rattle.ntrun.specs.Outcome.{Gave, IsAnswered, IsDone, IsFound, IsFoundFrom, IsFoundIn, IsGiven, IsReplayed, IsReport, IsWritten, Store, Supply, refused_in}
+use Rattle.ntrun.specs.Tasks.{Bad, and_then, behind, input_of, reads, tail_task, tail_word, task_of, two_parts}
+use Rattle.ntrun.proofs.Causes.{causes, from_source, gave_told, same_task}
 use Rattle.ntrun.proofs.Plain.{run_of_input, sound_task, task_plain}
 
 -- ---- a text of rows is cut before the first one with a word
@@ -169,7 +169,9 @@ answered_well : WordsHaveOneForm → (words : List (List ℕ)) (f : Form) (bytes
 answered_well one words f bytes t so sn ko kn status a given asked ok =
     let written : IsWritten a.found a.text ko kn exit.Ok = subst (λ (x : Status). IsWritten a.found a.text ko kn x) ok a.written in
     let found : IsFound words so sn exit.Ok a.text = subst (λ (x : Status). IsFound words so sn x a.text) (sym written.0) a.cause in
-    (done found.0 found.1 found.2.0 found.2.1 found.2.2, written.1)
+    let from : IsFoundFrom found.0 so sn exit.Ok a.text = from_source found.0 so sn exit.Ok a.text
+    (subst (λ (x : Form). reads x ≡ true) (sym (one words found.0 f found.1 given.form)) given.may) found.2 in
+    (done found.0 found.1 from.0 from.1 from.2, written.1)
   where
     done : (g : Form) → IsForm words g → (xs : List ℕ) → Gave xs so sn → IsFoundIn g xs exit.Ok a.text → IsDone t exit.Ok a.text
     done g form xs gave found =

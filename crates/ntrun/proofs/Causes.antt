@@ -1,24 +1,25 @@
 -- When each status comes, from what a call finds and how it is written.
-use Rattle.std.proofs.Common.{◌≡◌, ◌≢◌, ◌∙◌, ℕ, ◌+◌, ◌<◌, ◌≤◌, List, ◌++◌, length, Option, Some, None, Result, Ok, IsSome, refl, sym, ap, subst, arith, append-nil}
+use Rattle.std.proofs.Common.{inl, inr, true, ◌≡◌, ◌≢◌, ◌∙◌, ℕ, ◌+◌, ◌<◌, ◌≤◌, List, ◌++◌, length, Option, Some, None, Result, Ok, IsSome, refl, sym, ap, subst, arith, append-nil}
 use Rattle.std.specs.Prelude.{is_some, false}
 use Rattle.std.proofs.lemmas.Bool.{false≢true}
 use Rattle.std.proofs.Math.Nat.{min-le_left}
 use Rattle.std.specs.Io.KnownBytes.{prepend_known, IsAtEnd}
 use Rattle.nt_text.specs.declared.lines.TheConstants.{INPUT_LIMIT}
 use Rattle.nt_outside.specs.Bytes.{IsLonger}
-use Rattle.nt_outside.specs.Counts.{Rose, counted, last_count}
+use Rattle.nt_outside.specs.Counts.{Rose, RoseBy, counted, last_count}
 use Rattle.ntrun.specs.declared.status.Status.{Status}
 use Rattle.ntrun.specs.declared.status.Status.TheVariants as exit
 use Rattle.nt_check.proofs.Verdicts.{one_verdict}
 use Rattle.nt_check.specs.declared.checking.Verdict.{Verdict}
 use Rattle.nt_check.specs.declared.checking.Verdict.TheVariants as verdict
 use Rattle.nt_words.specs.declared.form.Form.{Form}
-use Rattle.nt_words.specs.Forms.{WordsHaveOneForm}
+use Rattle.nt_words.specs.declared.form.Form.TheVariants as form
+use Rattle.nt_words.specs.Forms.{IsForm, WordsHaveOneForm}
 use Rattle.nt_words.specs.Refusals.{IsNoForm}
 use Rattle.ntrun.specs.declared.task.Task.{Task}
 use Rattle.ntrun.specs.declared.task.Task.TheVariants as task
-use Rattle.ntrun.specs.Outcome.{Supply, Store, Gave, GoesWell, GoesWrong, IsGiven, IsFound, IsFoundIn, IsWell, IsWritten, IsAnswered, HasCause, refusal, refusal_of, refused_in, refused_turn}
-use Rattle.ntrun.specs.Tasks.{Bad, task_of}
+use Rattle.ntrun.specs.Outcome.{Supply, Store, Gave, IsFoundBy, IsFoundFrom, IsStarved, IsUnread, GoesWell, GoesWrong, IsGiven, IsFound, IsFoundIn, IsWell, IsWritten, IsAnswered, HasCause, refusal, refusal_of, refused_in, refused_turn}
+use Rattle.ntrun.specs.Tasks.{Bad, reads, task_of}
 
 -- the status is the one that was found, unless the sink failed
 found_unless : (status found : Status) (text : List ℕ) (old new : Store) → IsWritten found text old new status → status ≢ exit.Write → status ≡ found
@@ -70,17 +71,68 @@ usage_else words so sn exit.Memory text none f other = absurd (other refl)
 usage_else words so sn exit.TooLong text none f other = absurd (none f.0 f.1)
 usage_else words so sn exit.Illegal text none f other = absurd (none f.0 f.1)
 
+few_from : (f : Form) (so sn : Supply) (found : Status) (text : List ℕ) → IsFoundFrom f so sn found text → found ≢ exit.TooLong →
+    sn.taken ≤ so.taken + INPUT_LIMIT
+few_from f so sn exit.Ok text w other = let g = w.1 in rw g.taken (few_taken so.taken _ g.few)
+few_from f so sn exit.Usage text w other = absurd w
+few_from f so sn exit.Script text w other = let g = w.1 in rw g.taken (few_taken so.taken _ g.few)
+few_from f so sn exit.Schedule text w other = let g = w.1 in rw g.taken (few_taken so.taken _ g.few)
+few_from f so sn exit.Read text w other = w.1
+few_from f so sn exit.Write text w other = absurd w.2.2
+few_from f so sn exit.Memory text w other = w.0
+few_from f so sn exit.TooLong text w other = absurd (other refl)
+few_from f so sn exit.Illegal text w other = let g = w.1 in rw g.taken (few_taken so.taken _ g.few)
+
+few_same : (so sn : Supply) → sn ≡ so → sn.taken ≤ so.taken + INPUT_LIMIT
+few_same so sn e = let same : sn.taken ≡ so.taken = ap (λ (s : Supply). s.taken) e in omega (arith, same)
+
+few_by : (f : Form) (so sn : Supply) (found : Status) (text : List ℕ) → IsFoundBy f so sn found text → found ≢ exit.TooLong →
+    sn.taken ≤ so.taken + INPUT_LIMIT
+few_by (form.Run turns) so sn found text w other = few_from (form.Run turns) so sn found text w other
+few_by form.Replay so sn found text w other = few_from form.Replay so sn found text w other
+few_by form.Check so sn found text w other = few_from form.Check so sn found text w other
+few_by (form.Live turns) so sn found text w other = few_from (form.Live turns) so sn found text w other
+few_by (form.Load seed turns) so sn found text w other = few_same so sn w.0
+
+few_starved : (words : List (List ℕ)) (so sn : Supply) → IsStarved words so sn → sn.taken ≤ so.taken + INPUT_LIMIT
+few_starved words so sn (inl e) = few_same so sn e
+few_starved words so sn (inr h) = h.few
+
 few_else : (words : List (List ℕ)) (so sn : Supply) (found : Status) (text : List ℕ) → IsFound words so sn found text → found ≢ exit.TooLong →
     sn.taken ≤ so.taken + INPUT_LIMIT
-few_else words so sn exit.Ok text f other = let g = f.2.1 in rw g.taken (few_taken so.taken _ g.few)
-few_else words so sn exit.Usage text f other = let same : sn.taken ≡ so.taken = ap (λ (s : Supply). s.taken) f.1 in omega arith
-few_else words so sn exit.Script text f other = let g = f.2.1 in rw g.taken (few_taken so.taken _ g.few)
-few_else words so sn exit.Schedule text f other = let g = f.2.1 in rw g.taken (few_taken so.taken _ g.few)
-few_else words so sn exit.Read text f other = f.2.1
-few_else words so sn exit.Write text f other = absurd f.2.2.2
-few_else words so sn exit.Memory text f other = f.0
+few_else words so sn exit.Ok text f other = few_by f.0 so sn exit.Ok text f.2 other
+few_else words so sn exit.Usage text f other = few_same so sn f.1
+few_else words so sn exit.Script text f other = few_by f.0 so sn exit.Script text f.2 other
+few_else words so sn exit.Schedule text f other = few_by f.0 so sn exit.Schedule text f.2 other
+few_else words so sn exit.Read text f other = few_by f.0 so sn exit.Read text f.2 other
+few_else words so sn exit.Write text f other = few_by f.0 so sn exit.Write text f.2 other
+few_else words so sn exit.Memory text f other = few_starved words so sn f.0
 few_else words so sn exit.TooLong text f other = absurd (other refl)
-few_else words so sn exit.Illegal text f other = let g = f.2.1 in rw g.taken (few_taken so.taken _ g.few)
+few_else words so sn exit.Illegal text f other = few_by f.0 so sn exit.Illegal text f.2 other
+
+-- a form that reads finds from the source
+pub from_source : (f : Form) (so sn : Supply) (found : Status) (text : List ℕ) → reads f ≡ true → IsFoundBy f so sn found text →
+    IsFoundFrom f so sn found text
+from_source (form.Run turns) so sn found text r w = w
+from_source form.Replay so sn found text r w = w
+from_source form.Check so sn found text r w = w
+from_source (form.Live turns) so sn found text r w = w
+from_source (form.Load seed turns) so sn found text r w = cc
+
+-- the source failed, or had too much
+read_by : (f : Form) (so sn : Supply) (text : List ℕ) → IsFoundBy f so sn exit.Read text → Rose so.faults sn.faults
+read_by (form.Run turns) so sn text w = w.0
+read_by form.Replay so sn text w = w.0
+read_by form.Check so sn text w = w.0
+read_by (form.Live turns) so sn text w = w.0
+read_by (form.Load seed turns) so sn text w = absurd w.1
+
+many_by : (f : Form) (so sn : Supply) (text : List ℕ) → IsFoundBy f so sn exit.TooLong text → RoseBy (INPUT_LIMIT + 1) so.taken sn.taken
+many_by (form.Run turns) so sn text w = w.1
+many_by form.Replay so sn text w = w.1
+many_by form.Check so sn text w = w.1
+many_by (form.Live turns) so sn text w = w.1
+many_by (form.Load seed turns) so sn text w = absurd w.1
 
 -- what is found in bytes, where the words are this form and nothing failed
 abbrev Which : Form → List ℕ → Status → Type 0
@@ -153,21 +205,30 @@ which_in form bytes exit.Illegal text few f = (few, (f.0, f.1, (f.2.0, f.2.1)))
 moved : (f g : Form) (a b : List ℕ) (found : Status) → f ≡ g → a ≡ b → Which f a found → Which g b found
 moved f g a b found e k w = subst (λ (x : Form). Which x b found) e (subst (λ (xs : List ℕ). Which f xs found) k w)
 
+from_given : WordsHaveOneForm → (words : List (List ℕ)) (so sn : Supply) (form : Form) (bytes : List ℕ) (g : Form) (found : Status) (text : List ℕ) →
+    IsGiven words form bytes so sn → IsForm words g → IsFoundBy g so sn found text → IsFoundFrom g so sn found text
+from_given one words so sn form bytes g found text s h w =
+    from_source g so sn found text (subst (λ (x : Form). reads x ≡ true) (sym (one words g form h s.form)) s.may) w
+
 which : WordsHaveOneForm → (words : List (List ℕ)) (so sn : Supply) (form : Form) (bytes : List ℕ) (found : Status) (text : List ℕ) →
     IsGiven words form bytes so sn → IsFound words so sn found text → Which form bytes found
-which one words so sn form bytes exit.Ok text s f = moved f.0 form f.2.0 bytes exit.Ok (one words f.0 form f.1 s.form)
-    (gave_told f.2.0 bytes so sn f.2.1 s.left) (which_in f.0 f.2.0 exit.Ok text f.2.1.few f.2.2)
+which one words so sn form bytes exit.Ok text s f =
+    let w = from_given one words so sn form bytes f.0 exit.Ok text s f.1 f.2 in
+    moved f.0 form w.0 bytes exit.Ok (one words f.0 form f.1 s.form) (gave_told w.0 bytes so sn w.1 s.left) (which_in f.0 w.0 exit.Ok text w.1.few w.2)
+which one words so sn form bytes exit.Script text s f =
+    let w = from_given one words so sn form bytes f.0 exit.Script text s f.1 f.2 in
+    moved f.0 form w.0 bytes exit.Script (one words f.0 form f.1 s.form) (gave_told w.0 bytes so sn w.1 s.left) (which_in f.0 w.0 exit.Script text w.1.few w.2)
+which one words so sn form bytes exit.Schedule text s f =
+    let w = from_given one words so sn form bytes f.0 exit.Schedule text s f.1 f.2 in
+    moved f.0 form w.0 bytes exit.Schedule (one words f.0 form f.1 s.form) (gave_told w.0 bytes so sn w.1 s.left) (which_in f.0 w.0 exit.Schedule text w.1.few w.2)
+which one words so sn form bytes exit.Illegal text s f =
+    let w = from_given one words so sn form bytes f.0 exit.Illegal text s f.1 f.2 in
+    moved f.0 form w.0 bytes exit.Illegal (one words f.0 form f.1 s.form) (gave_told w.0 bytes so sn w.1 s.left) (which_in f.0 w.0 exit.Illegal text w.1.few w.2)
 which one words so sn form bytes exit.Usage text s f = absurd (f.0 form s.form)
-which one words so sn form bytes exit.Script text s f = moved f.0 form f.2.0 bytes exit.Script (one words f.0 form f.1 s.form)
-    (gave_told f.2.0 bytes so sn f.2.1 s.left) (which_in f.0 f.2.0 exit.Script text f.2.1.few f.2.2)
-which one words so sn form bytes exit.Schedule text s f = moved f.0 form f.2.0 bytes exit.Schedule (one words f.0 form f.1 s.form)
-    (gave_told f.2.0 bytes so sn f.2.1 s.left) (which_in f.0 f.2.0 exit.Schedule text f.2.1.few f.2.2)
-which one words so sn form bytes exit.Read text s f = absurd (s.no_fault f.2.0)
-which one words so sn form bytes exit.Write text s f = absurd f.2.2.2
+which one words so sn form bytes exit.Read text s f = absurd (s.no_fault (read_by f.0 so sn text f.2))
+which one words so sn form bytes exit.Write text s f = absurd (from_given one words so sn form bytes f.0 exit.Write text s f.1 f.2).2.2
 which one words so sn form bytes exit.Memory text s f = tt
-which one words so sn form bytes exit.TooLong text s f = longer so.left bytes s.left f.2.0
-which one words so sn form bytes exit.Illegal text s f = moved f.0 form f.2.0 bytes exit.Illegal (one words f.0 form f.1 s.form)
-    (gave_told f.2.0 bytes so sn f.2.1 s.left) (which_in f.0 f.2.0 exit.Illegal text f.2.1.few f.2.2)
+which one words so sn form bytes exit.TooLong text s f = longer so.left bytes s.left (from_given one words so sn form bytes f.0 exit.TooLong text s f.1 f.2).0
 
 which_long : (form : Form) (bytes : List ℕ) (found : Status) → Which form bytes found → INPUT_LIMIT < length bytes → found ≢ exit.Memory →
     found ≡ exit.TooLong
@@ -226,6 +287,39 @@ schedule_tells form bytes t e w = subst (λ (u : Task). IsSome (refused_turn u))
 illegal_tells : (form : Form) (bytes : List ℕ) (t : Task) → task_of form bytes ≡ Ok t → Which form bytes exit.Illegal → GoesWrong t
 illegal_tells form bytes t e w = subst GoesWrong (same_task form bytes w.1.0 t w.1.1 e) w.1.2
 
+load_by : WordsHaveOneForm → (words : List (List ℕ)) (so sn : Supply) (seed turns : ℕ) (g : Form) (found : Status) (text : List ℕ) →
+    IsForm words (form.Load seed turns) → IsForm words g → IsFoundBy g so sn found text → IsFoundBy (form.Load seed turns) so sn found text
+load_by one words so sn seed turns g found text h k w =
+    subst (λ (x : Form). IsFoundBy x so sn found text) (one words g (form.Load seed turns) k h) w
+
+unread_starved : WordsHaveOneForm → (words : List (List ℕ)) (so sn : Supply) (seed turns : ℕ) → IsForm words (form.Load seed turns) →
+    IsStarved words so sn → sn ≡ so
+unread_starved one words so sn seed turns h (inl e) = e
+unread_starved one words so sn seed turns h (inr k) =
+    absurd (false≢true (subst (λ (x : Form). reads x ≡ true) (one words k.form (form.Load seed turns) k.is h) k.may))
+
+-- where the words are a load, nothing is read, and the status is 0 unless memory was wanting
+load_found : WordsHaveOneForm → (words : List (List ℕ)) (so sn : Supply) (seed turns : ℕ) (found : Status) (text : List ℕ) →
+    IsForm words (form.Load seed turns) → IsFound words so sn found text → (found ≢ exit.Memory → found ≡ exit.Ok) × (sn ≡ so)
+load_found one words so sn seed turns exit.Ok text h f = (λ _. refl, (load_by one words so sn seed turns f.0 exit.Ok text h f.1 f.2).0)
+load_found one words so sn seed turns exit.Usage text h f = absurd (f.0 (form.Load seed turns) h)
+load_found one words so sn seed turns exit.Memory text h f = (λ other. absurd (other refl), unread_starved one words so sn seed turns h f.0)
+load_found one words so sn seed turns exit.Script text h f = absurd (load_by one words so sn seed turns f.0 exit.Script text h f.1 f.2).1
+load_found one words so sn seed turns exit.Schedule text h f = absurd (load_by one words so sn seed turns f.0 exit.Schedule text h f.1 f.2).1
+load_found one words so sn seed turns exit.Read text h f = absurd (load_by one words so sn seed turns f.0 exit.Read text h f.1 f.2).1
+load_found one words so sn seed turns exit.Write text h f = absurd (load_by one words so sn seed turns f.0 exit.Write text h f.1 f.2).1
+load_found one words so sn seed turns exit.TooLong text h f = absurd (load_by one words so sn seed turns f.0 exit.TooLong text h f.1 f.2).1
+load_found one words so sn seed turns exit.Illegal text h f = absurd (load_by one words so sn seed turns f.0 exit.Illegal text h f.1 f.2).1
+
+load_cause : WordsHaveOneForm → (words : List (List ℕ)) (so sn : Supply) (ko kn : Store) (status : Status) (a : IsAnswered words so sn ko kn status)
+    (seed turns : ℕ) → IsForm words (form.Load seed turns) → IsUnread status so sn
+load_cause one words so sn ko kn status a seed turns h =
+    let found = load_found one words so sn seed turns a.found a.text h a.cause in
+    record {
+      unread = found.1;
+      ok = λ memory write. let same = found_unless status a.found a.text ko kn a.written write in same ∙ found.0 (λ e. memory (same ∙ e));
+    }
+
 -- ---- all causes
 
 pub causes : WordsHaveOneForm → (words : List (List ℕ)) (so sn : Supply) (ko kn : Store) (status : Status) → IsAnswered words so sn ko kn status →
@@ -240,8 +334,8 @@ causes one words so sn ko kn status a =
         always = λ none memory write. same write ∙ usage_else words so sn a.found a.text none a.cause (λ e. memory (same write ∙ e));
       };
       unread = λ e. (at exit.Usage (λ w. cc) e).1.1;
-      read = λ e. (at exit.Read (λ w. cc) e).1.2.0;
-      many = λ e. (at exit.TooLong (λ w. cc) e).1.2.1;
+      read = λ e. let found = at exit.Read (λ w. cc) e in read_by found.1.0 so sn found.0 found.1.2;
+      many = λ e. let found = at exit.TooLong (λ w. cc) e in many_by found.1.0 so sn found.0 found.1.2;
       few = λ long write. few_else words so sn a.found a.text a.cause (λ e. long (same write ∙ e));
       too_long = λ form bytes s. record {
         only = λ e. let found = at exit.TooLong (λ w. cc) e in which one words so sn form bytes exit.TooLong found.0 s found.1;
@@ -269,5 +363,6 @@ causes one words so sn ko kn status a =
         always = λ well memory write. same write
             ∙ (which_tells form bytes t a.found (which_now form bytes s.given) s.few s.task (λ e. memory (same write ∙ e))).well well;
       };
+      load = λ seed turns form. load_cause one words so sn ko kn status a seed turns form;
       write = λ e. faulted status a.found a.text ko kn a.written e;
     }

@@ -1,6 +1,6 @@
 -- What is found in the bytes of an input, from what each part of the call answers.
-use Rattle.std.proofs.Common.{◌≡◌, ℕ, List, Some, Result, Ok, Err, ap, refl, subst, sym}
-use Rattle.std.specs.Prelude.{IfOk}
+use Rattle.std.proofs.Common.{inl, inr, ◌≡◌, ℕ, List, Some, Result, Ok, Err, ap, refl, subst, sym}
+use Rattle.std.specs.Prelude.{IfOk, true}
 use Rattle.nt_core.specs.declared.refusals.ScheduleRefusal.{ScheduleRefusal}
 use Rattle.nt_core.specs.declared.refusals.ScheduleRefusal.TheVariants.{Bad, NoMemory}
 use Rattle.nt_core.specs.Replays.{Refused}
@@ -10,13 +10,15 @@ use Rattle.nt_print.specs.Report.{report_text}
 use Rattle.nt_script.specs.declared.walk.Input.{Input}
 use Rattle.nt_text.specs.declared.kind.ScriptKind.{ScriptKind}
 use Rattle.nt_words.specs.declared.form.Form.{Form}
+use Rattle.nt_words.specs.declared.form.Form.TheVariants as form
+use Rattle.nt_words.specs.Forms.{IsForm}
 use Rattle.ntrun.specs.declared.status.Status.{Status}
 use Rattle.ntrun.specs.declared.status.Status.TheVariants as exit
 use Rattle.ntrun.specs.declared.task.Task.{Task}
 use Rattle.ntrun.specs.declared.task.Task.TheVariants as task
 use Rattle.ntrun.specs.Answer.{IsIllegalLine, IsMade, IsReported, IsTurnRefused}
-use Rattle.ntrun.specs.Outcome.{refusal, refusal_of, refused_turn, IsDone, IsFoundIn, IsIllegal, IsRefused, IsRunOf, IsWell}
-use Rattle.ntrun.specs.Tasks.{input_of, task_of}
+use Rattle.ntrun.specs.Outcome.{Supply, IsFound, IsFoundBy, IsFoundFrom, refusal, refusal_of, refused_turn, IsDone, IsFoundIn, IsIllegal, IsRefused, IsRunOf, IsWell}
+use Rattle.ntrun.specs.Tasks.{reads, input_of, task_of}
 
 -- a line is refused
 pub refused_in : (form : Form) (bytes : List ℕ) (line : ℕ) (kind : ScriptKind) (status : Status) (text : List ℕ) → refusal form bytes
@@ -98,3 +100,37 @@ illegal_done input h n exit.Write text v k = absurd k
 illegal_done input h n exit.Memory text v k = k
 illegal_done input h n exit.TooLong text v k = absurd k
 illegal_done input h n exit.Illegal text v k = (n, v, k)
+
+-- ---- what a form finds is what the words find
+
+found_as_form : (f : Form) (words : List (List ℕ)) (so sn : Supply) (status : Status) (text : List ℕ) → reads f ≡ true → IsForm words f →
+    IsFoundFrom f so sn status text → IsFoundBy f so sn status text → IsFound words so sn status text
+found_as_form f words so sn exit.Ok text r h w v = (f, h, v)
+found_as_form f words so sn exit.Usage text r h w v = absurd w
+found_as_form f words so sn exit.Script text r h w v = (f, h, v)
+found_as_form f words so sn exit.Schedule text r h w v = (f, h, v)
+found_as_form f words so sn exit.Read text r h w v = (f, h, v)
+found_as_form f words so sn exit.Write text r h w v = (f, h, v)
+found_as_form f words so sn exit.Memory text r h w v = (inr (record { form = f; is = h; may = r; few = w.0 }), w.1)
+found_as_form f words so sn exit.TooLong text r h w v = (f, h, v)
+found_as_form f words so sn exit.Illegal text r h w v = (f, h, v)
+
+found_as_load : (seed turns : ℕ) (words : List (List ℕ)) (so sn : Supply) (status : Status) (text : List ℕ) → IsForm words (form.Load seed turns) →
+    IsFoundBy (form.Load seed turns) so sn status text → IsFound words so sn status text
+found_as_load seed turns words so sn exit.Ok text h w = (form.Load seed turns, h, w)
+found_as_load seed turns words so sn exit.Usage text h w = absurd w.1
+found_as_load seed turns words so sn exit.Script text h w = absurd w.1
+found_as_load seed turns words so sn exit.Schedule text h w = absurd w.1
+found_as_load seed turns words so sn exit.Read text h w = absurd w.1
+found_as_load seed turns words so sn exit.Write text h w = absurd w.1
+found_as_load seed turns words so sn exit.Memory text h w = (inl w.0, w.1)
+found_as_load seed turns words so sn exit.TooLong text h w = absurd w.1
+found_as_load seed turns words so sn exit.Illegal text h w = absurd w.1
+
+pub found_by : (f : Form) (words : List (List ℕ)) (so sn : Supply) (status : Status) (text : List ℕ) → IsForm words f → IsFoundBy f so sn status text →
+    IsFound words so sn status text
+found_by (form.Run turns) words so sn status text h w = found_as_form (form.Run turns) words so sn status text refl h w w
+found_by form.Replay words so sn status text h w = found_as_form form.Replay words so sn status text refl h w w
+found_by form.Check words so sn status text h w = found_as_form form.Check words so sn status text refl h w w
+found_by (form.Live turns) words so sn status text h w = found_as_form (form.Live turns) words so sn status text refl h w w
+found_by (form.Load seed turns) words so sn status text h w = found_as_load seed turns words so sn status text h w

@@ -29,8 +29,8 @@ use Rattle.ntrun.specs.declared.status.Status.{Status}
 use Rattle.ntrun.specs.declared.status.Status.TheVariants as exit
 use Rattle.ntrun.specs.declared.task.Task.{Task}
 use Rattle.ntrun.specs.declared.task.Task.TheVariants as task
-use Rattle.ntrun.specs.Headline.{AllDue, HasWritten, Headline, IsActual, IsUncut, IsWhole, IsWholeCheck, NothingIsLeft}
-use Rattle.ntrun.specs.Outcome.{Gave, IsFound, IsRunOf, IsWell, Store, Supply}
+use Rattle.ntrun.specs.Headline.{AllDue, HasWritten, Headline, IsActual, IsUncut, IsWhole, IsWholeCheck, IsWholeLoad, NothingIsLeft}
+use Rattle.ntrun.specs.Outcome.{Gave, IsFound, IsFoundBy, IsRunOf, IsWell, Store, Supply}
 use Rattle.ntrun.specs.Tasks.{input_of, limit_of, task_of}
 use Rattle.ntrun.proofs.Done.{run_of}
 use Rattle.ntrun.proofs.Tasked.{IsCheck, IsNoCheck, check_is_one, replay_is_no_check, run_is_no_check}
@@ -112,21 +112,29 @@ checked so sn ko kn bytes text (task.Check input history) gave read w added n = 
   written = subst (λ (x : List ℕ). kn.held ≡ append_known ko.held x) w.1 added;
 }
 
-written_by : (f : Form) (so sn : Supply) (ko kn : Store) (bytes text : List ℕ) (t : Task) → is_built (command_of f) ≡ true → IsWithin f → Gave bytes so sn →
-    task_of f bytes ≡ Ok t → IsWell t text → kn.held ≡ append_known ko.held text → HasWritten f so sn ko kn
-written_by (form.Run turns) so sn ko kn bytes text t built within gave read w added =
-    reported (form.Run turns) so sn ko kn bytes text t within gave read w added (run_is_no_check turns bytes t read)
-written_by form.Replay so sn ko kn bytes text t built within gave read w added =
-    reported form.Replay so sn ko kn bytes text t within gave read w added (replay_is_no_check bytes t read)
-written_by form.Check so sn ko kn bytes text t built within gave read w added = checked so sn ko kn bytes text t gave read w added (check_is_one bytes t read)
-written_by (form.Live turns) so sn ko kn bytes text t built within gave read w added = cc
-written_by (form.Load seed turns) so sn ko kn bytes text t built within gave read w added = cc
+load_written : (seed turns : ℕ) (so sn : Supply) (ko kn : Store) (text : List ℕ) → IsFoundBy (form.Load seed turns) so sn exit.Ok text →
+    kn.held ≡ append_known ko.held text → IsWholeLoad seed turns so sn ko kn
+load_written seed turns so sn ko kn text w added = record {
+  unread = w.0;
+  history = w.1.history;
+  run = w.1.run;
+  written = subst (λ (x : List ℕ). kn.held ≡ append_known ko.held x) w.1.is added;
+}
+
+written_by : (f : Form) (so sn : Supply) (ko kn : Store) (text : List ℕ) → is_built (command_of f) ≡ true → IsWithin f → IsFoundBy f so sn exit.Ok text →
+    kn.held ≡ append_known ko.held text → HasWritten f so sn ko kn
+written_by (form.Run turns) so sn ko kn text built within w added =
+    reported (form.Run turns) so sn ko kn w.0 text w.2.0 within w.1 w.2.1 w.2.2 added (run_is_no_check turns w.0 w.2.0 w.2.1)
+written_by form.Replay so sn ko kn text built within w added =
+    reported form.Replay so sn ko kn w.0 text w.2.0 within w.1 w.2.1 w.2.2 added (replay_is_no_check w.0 w.2.0 w.2.1)
+written_by form.Check so sn ko kn text built within w added = checked so sn ko kn w.0 text w.2.0 w.1 w.2.1 w.2.2 added (check_is_one w.0 w.2.0 w.2.1)
+written_by (form.Live turns) so sn ko kn text built within w added = cc
+written_by (form.Load seed turns) so sn ko kn text built within w added = load_written seed turns so sn ko kn text w added
 
 pub headline : Headline
 headline words so sn ko kn a =
-    let found : IsFound words so sn exit.Ok a.text = subst (λ (s : Status). IsFound words so sn s a.text) (sym a.written.0) a.cause in
-    let answer = found.2.2 in (
+    let found : IsFound words so sn exit.Ok a.text = subst (λ (s : Status). IsFound words so sn s a.text) (sym a.written.0) a.cause in (
       found.0,
       found.1,
-      written_by found.0 so sn ko kn found.2.0 a.text answer.0 found.1.built (form_within words (Ok found.0) found.1) found.2.1 answer.1 answer.2 a.written.1,
+      written_by found.0 so sn ko kn a.text found.1.built (form_within words (Ok found.0) found.1) found.2 a.written.1,
     )

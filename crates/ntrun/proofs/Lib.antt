@@ -3,6 +3,7 @@ mod Causes
 mod Done
 mod Found
 mod Headlines
+mod Loads
 mod Plain
 mod Splits
 mod Tasked

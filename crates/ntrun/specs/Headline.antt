@@ -22,6 +22,8 @@ use Rattle.nt_event.specs.Step.{IsRun, is_cut}
 use Rattle.nt_event.specs.Timers.{first_due, timers_at}
 use Rattle.nt_event.specs.Waits.{facts}
 use Rattle.nt_laws.specs.Objects.{HoldsOfEveryObject}
+use Rattle.nt_load.specs.Load.{load_input}
+use Rattle.nt_print.specs.Summary.{summary_text}
 use Rattle.nt_print.specs.Report.{cut_of, cut_row, report_text}
 use Rattle.nt_ranges.specs.Plain.{IsRunOf as IsRunOfInput}
 use Rattle.nt_readings.specs.Fates.{HasOneFate, IsInsert, IsPending}
@@ -37,7 +39,7 @@ use Rattle.ntrun.specs.declared.status.Status.TheVariants as exit
 use Rattle.ntrun.specs.declared.task.Tail.TheVariants as tail
 use Rattle.ntrun.specs.declared.task.Task.{Task}
 use Rattle.ntrun.specs.declared.task.Task.TheVariants as task
-use Rattle.ntrun.specs.Outcome.{Gave, IsAnswered, IsGiven, IsRunOf, Store, Supply, legal_line}
+use Rattle.ntrun.specs.Outcome.{Gave, IsAnswered, IsGiven, IsRobinRun, IsRunOf, Store, Supply, legal_line}
 use Rattle.ntrun.specs.Tasks.{behind, input_of, limit_of, tail_word, task_of}
 
 -- ---- the actual history
@@ -111,15 +113,23 @@ pub record IsWholeCheck (so sn : Supply) (ko kn : Store) : Type 0 where
   pub settled : is_settled input.script history.turns (reverse history.events) ≡ true
   pub written : kn.held ≡ append_known ko.held legal_line
 
+-- nothing was read, and exactly the summary of the robin run of the seed's load was added to the sink
+pub record IsWholeLoad (seed limit : ℕ) (so sn : Supply) (ko kn : Store) : Type 0 where
+  pub unread : sn ≡ so
+  pub history : History
+  pub run : IsRobinRun (load_input seed).script limit history
+  pub written : kn.held ≡ append_known ko.held (summary_text (load_input seed) history)
+
 -- what a form has written with status 0. Words of a form that isn't built are no form.
 abbrev pub HasWritten : Form → Supply → Supply → Store → Store → Type 0
 HasWritten (form.Run turns) so sn ko kn = IsWhole (form.Run turns) so sn ko kn
 HasWritten form.Replay so sn ko kn = IsWhole form.Replay so sn ko kn
 HasWritten form.Check so sn ko kn = IsWholeCheck so sn ko kn
 HasWritten (form.Live turns) so sn ko kn = ⊥
-HasWritten (form.Load seed turns) so sn ko kn = ⊥
+HasWritten (form.Load seed turns) so sn ko kn = IsWholeLoad seed turns so sn ko kn
 
--- what was written with status 0 is the report of the actual history, or that the history of a report is legal
+-- what was written with status 0 is the report of the actual history, that the history of a report is legal, or the
+-- summary of a load's run
 abbrev pub Headline : Type 0
 Headline = (words : List (List ℕ)) (so sn : Supply) (ko kn : Store) → IsAnswered words so sn ko kn exit.Ok →
     (f : Form) × IsForm words f × HasWritten f so sn ko kn

@@ -1,5 +1,5 @@
 -- What a call of the program finds out, what it writes, and when each status comes.
-use Rattle.std.specs.Prelude.{◌≡◌, ◌≢◌, ℕ, ◌+◌, ◌<◌, ◌≤◌, true, IsSome, List, [], ◌∷◌, ◌++◌, length, Option, Some, None, Result, Ok, Err, codes, decimal, reverse}
+use Rattle.std.specs.Prelude.{◌≡◌, ◌≢◌, ℕ, ◌+◌, ◌<◌, ◌≤◌, ◌⊎◌, true, IsSome, List, [], ◌∷◌, ◌++◌, length, Option, Some, None, Result, Ok, Err, codes, decimal, reverse}
 use Rattle.std.specs.Io.KnownBytes.{append_known, prepend_known, IsAtEnd}
 use Rattle.nt_event.specs.declared.events.Event.{Event}
 use Rattle.nt_event.specs.declared.events.History.{History}
@@ -11,15 +11,18 @@ use Rattle.nt_check.specs.declared.checking.Verdict.TheVariants as verdict
 use Rattle.nt_check.specs.Verdicts.{IsVerdict}
 use Rattle.nt_core.specs.Replays.{Refused, replayed}
 use Rattle.nt_script.specs.declared.walk.Input.{Input}
+use Rattle.nt_load.specs.Load.{load_input}
 use Rattle.nt_log.specs.declared.schedules.Schedule.{Schedule}
 use Rattle.nt_outside.specs.Bytes.{IsLonger, AddsFrontOf}
 use Rattle.nt_outside.specs.Counts.{counted, Rose, RoseBy}
 use Rattle.nt_print.specs.Report.{report_text}
+use Rattle.nt_print.specs.Summary.{summary_text}
 use Rattle.nt_text.specs.declared.kind.ScriptKind.{ScriptKind}
 use Rattle.nt_text.specs.declared.kind.ScriptKind.TheVariants.{TooMany}
 use Rattle.nt_text.specs.declared.lines.TheConstants.{INPUT_LIMIT}
 use Rattle.nt_text.specs.Kinds.{kind_number, kind_name, thing_name}
 use Rattle.nt_words.specs.declared.form.Form.{Form}
+use Rattle.nt_words.specs.declared.form.Form.TheVariants as form
 use Rattle.nt_words.specs.declared.form.TheConstants.{USAGE}
 use Rattle.nt_words.specs.Forms.{IsForm}
 use Rattle.nt_words.specs.Refusals.{IsNoForm}
@@ -27,7 +30,7 @@ use Rattle.ntrun.specs.declared.status.Status.{Status}
 use Rattle.ntrun.specs.declared.status.Status.TheVariants as exit
 use Rattle.ntrun.specs.declared.task.Task.{Task}
 use Rattle.ntrun.specs.declared.task.Task.TheVariants as task
-use Rattle.ntrun.specs.Tasks.{Bad, input_of, task_of}
+use Rattle.ntrun.specs.Tasks.{Bad, input_of, reads, task_of}
 
 -- ---- the outside, as a call finds or leaves it
 
@@ -176,20 +179,50 @@ IsFoundIn form bytes exit.Memory text = text ≡ memory_line
 IsFoundIn form bytes status text = (t : Task) × (task_of form bytes ≡ Ok t) × IsDone t status text
 
 -- what a form finds from the source, and its text, in the order of the tests. Want of memory may come at any place.
-abbrev pub IsFoundBy : Form → Supply → Supply → Status → List ℕ → Type 0
-IsFoundBy form old new exit.Usage text = ⊥
-IsFoundBy form old new exit.Read text = Rose old.faults new.faults × (new.taken ≤ old.taken + INPUT_LIMIT) ×
+abbrev pub IsFoundFrom : Form → Supply → Supply → Status → List ℕ → Type 0
+IsFoundFrom form old new exit.Usage text = ⊥
+IsFoundFrom form old new exit.Read text = Rose old.faults new.faults × (new.taken ≤ old.taken + INPUT_LIMIT) ×
     (text ≡ read_line)
-IsFoundBy form old new exit.TooLong text = IsLonger INPUT_LIMIT old.left ×
+IsFoundFrom form old new exit.TooLong text = IsLonger INPUT_LIMIT old.left ×
     RoseBy (INPUT_LIMIT + 1) old.taken new.taken × (text ≡ long_line)
-IsFoundBy form old new exit.Memory text = (new.taken ≤ old.taken + INPUT_LIMIT) × (text ≡ memory_line)
-IsFoundBy form old new status text = (bytes : List ℕ) × Gave bytes old new × IsFoundIn form bytes status text
+IsFoundFrom form old new exit.Memory text = (new.taken ≤ old.taken + INPUT_LIMIT) × (text ≡ memory_line)
+IsFoundFrom form old new status text = (bytes : List ℕ) × Gave bytes old new × IsFoundIn form bytes status text
 
--- what is found from the words and the source, and its text. Where the words are no form, nothing is read. Memory may
--- be wanting for the words already, and then nothing was read either.
+-- the text is the summary of the robin run of the seed's load with this limit
+pub record IsSummary (seed limit : ℕ) (text : List ℕ) : Type 0 where
+  pub history : History
+  pub run : IsRobinRun (load_input seed).script limit history
+  pub is : text ≡ summary_text (load_input seed) history
+
+-- what a load finds, and its text
+abbrev pub IsLoaded : ℕ → ℕ → Status → List ℕ → Type 0
+IsLoaded seed turns exit.Ok text = IsSummary seed turns text
+IsLoaded seed turns exit.Memory text = text ≡ memory_line
+IsLoaded seed turns _ text = ⊥
+
+-- what a form finds; `load` reads nothing
+abbrev pub IsFoundBy : Form → Supply → Supply → Status → List ℕ → Type 0
+IsFoundBy (form.Run turns) old new status text = IsFoundFrom (form.Run turns) old new status text
+IsFoundBy form.Replay old new status text = IsFoundFrom form.Replay old new status text
+IsFoundBy form.Check old new status text = IsFoundFrom form.Check old new status text
+IsFoundBy (form.Live turns) old new status text = IsFoundFrom (form.Live turns) old new status text
+IsFoundBy (form.Load seed turns) old new status text = (new ≡ old) × IsLoaded seed turns status text
+
+-- the words are a form that reads, and not too much was read
+pub record HasRead (given : List (List ℕ)) (old new : Supply) : Type 0 where
+  pub form : Form
+  pub is : IsForm given form
+  pub may : reads form ≡ true
+  pub few : new.taken ≤ old.taken + INPUT_LIMIT
+
+-- memory was wanting: before anything was read, or later
+abbrev pub IsStarved : List (List ℕ) → Supply → Supply → Type 0
+IsStarved given old new = (new ≡ old) ⊎ HasRead given old new
+
+-- what is found from the words and the source, and its text. Where the words are no form, nothing is read.
 abbrev pub IsFound : List (List ℕ) → Supply → Supply → Status → List ℕ → Type 0
 IsFound words old new exit.Usage text = IsNoForm words × (new ≡ old) × (text ≡ usage_line)
-IsFound words old new exit.Memory text = (new.taken ≤ old.taken + INPUT_LIMIT) × (text ≡ memory_line)
+IsFound words old new exit.Memory text = IsStarved words old new × (text ≡ memory_line)
 IsFound words old new status text = (form : Form) × IsForm words form × IsFoundBy form old new status text
 
 -- the text was added and the call answers what it found; or the sink failed, and a front part of the text was added
@@ -212,9 +245,10 @@ pub record ComesExactly (status wanted : Status) (Cause : Type 0) : Type 0 where
   pub only : status ≡ wanted → Cause
   pub always : Cause → status ≢ exit.Memory → status ≢ exit.Write → status ≡ wanted
 
--- the words are this form, and the source tells these bytes and meets no fault
+-- the words are this form, which reads the input, and the source tells these bytes and meets no fault
 pub record IsGiven (words : List (List ℕ)) (f : Form) (bytes : List ℕ) (old new : Supply) : Type 0 where
   pub form : IsForm words f
+  pub may : reads f ≡ true
   pub left : old.left ≡ Some bytes
   pub no_fault : Rose old.faults new.faults → ⊥
 
@@ -233,6 +267,11 @@ abbrev pub GoesWell : Task → Type 0
 GoesWell (task.Run input turns) = Unit {0}
 GoesWell (task.Replay input schedule) = refused_turn (task.Replay input schedule) ≡ None
 GoesWell (task.Check input history) = IsLegal input history
+
+-- nothing is read, and the status is 0, but for want of memory and a fault of the sink
+pub record IsUnread (status : Status) (old new : Supply) : Type 0 where
+  pub unread : new ≡ old
+  pub ok : status ≢ exit.Memory → status ≢ exit.Write → status ≡ exit.Ok
 
 -- why each status comes
 pub record HasCause (words : List (List ℕ)) (source_old source_new : Supply) (sink_old sink_new : Store)
@@ -255,4 +294,6 @@ pub record HasCause (words : List (List ℕ)) (source_old source_new : Supply) (
   -- completeness: else the report is written, or that the history is legal
   pub ok : (form : Form) (bytes : List ℕ) (t : Task) → IsAsked words form bytes t source_old source_new →
       ComesExactly status exit.Ok (GoesWell t)
+  -- completeness of a load, which reads nothing
+  pub load : (seed turns : ℕ) → IsForm words (form.Load seed turns) → IsUnread status source_old source_new
   pub write : status ≡ exit.Write → Rose sink_old.faults sink_new.faults

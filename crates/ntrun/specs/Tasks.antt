@@ -1,5 +1,5 @@
 -- What a form finds to do in the bytes of an input: what is read there, or the line that is refused.
-use Rattle.std.specs.Prelude.{◌+◌, ℕ, List, Ok, Err, Option, Some, None, Result, codes, drop, length, take}
+use Rattle.std.specs.Prelude.{◌+◌, ℕ, Bool, false, true, List, Ok, Err, Option, Some, None, Result, codes, drop, length, take}
 use Rattle.nt_event.specs.declared.limits.TheConstants.{CPUS}
 use Rattle.nt_text.specs.declared.kind.ScriptKind.{ScriptKind}
 use Rattle.nt_text.specs.declared.kind.ScriptKind.TheVariants.{NoCpus, NoEnd}
@@ -68,7 +68,15 @@ both_parts t bytes = two_parts t (behind (tail_word t) bytes) bytes
 abbrev pub run_task : ℕ → List ℕ → Result Task Bad
 run_task turns bytes = and_then (reading bytes) (λ input. Ok (task.Run input turns))
 
--- what a form reads in the bytes. A form that isn't built reads nothing, and no words are one.
+-- the form reads the input; `load` makes its own
+abbrev pub reads : Form → Bool
+reads (form.Run turns) = true
+reads form.Replay = true
+reads form.Check = true
+reads (form.Live turns) = true
+reads (form.Load seed turns) = false
+
+-- what a form reads in the bytes. One that isn't built, or reads nothing, finds nothing there.
 abbrev pub task_of : Form → List ℕ → Result Task Bad
 task_of (form.Run turns) bytes = run_task turns bytes
 task_of form.Replay bytes = both_parts tail.Schedule bytes

@@ -6,16 +6,17 @@ ghost use Rattle.nt_script.specs.Sound.{IsSound};
 ghost use Rattle.nt_words.specs.Commands.{is_built};
 ghost use Rattle.nt_words.specs.Forms.{IsTurns, IsWithin, command_of};
 ghost use Rattle.ntrun.specs.Answer.{IsIllegalLine, IsMade, IsReported, IsTurnRefused, text_of};
-ghost use Rattle.ntrun.specs.Outcome.{illegal_line, kind_text, legal_line, script_line, memory_line, turn_line, IsDone, IsFoundIn, IsRefused, IsReplayed, IsRobinRun};
-ghost use Rattle.ntrun.specs.Tasks.{IsSoundTask};
+ghost use Rattle.ntrun.specs.Outcome.{illegal_line, kind_text, legal_line, script_line, memory_line, turn_line, IsDone, IsFoundIn, IsLoaded, IsRefused, IsReplayed, IsRobinRun, IsSummary};
+ghost use Rattle.ntrun.specs.Tasks.{IsSoundTask, reads};
 
 use crate::status::Status;
 use crate::task::{Task, task_of};
 use nt_check::{Verdict, check};
 use nt_core::{ScheduleRefusal, replay, run};
 use nt_event::{History, ScheduleKind};
+use nt_load::load_script;
 use nt_log::Schedule;
-use nt_print::report;
+use nt_print::{report, summary};
 use nt_script::{Input, ScriptKind, ScriptRefusal};
 use nt_text::INPUT_LIMIT;
 use nt_words::Form;
@@ -247,11 +248,37 @@ fn done(alloc: Global, task: &Task) -> Answer
     }
 }
 
+/// The summary of the robin run of the seed's load.
+fn load_summary(alloc: Global, seed: u32, turns: u32) -> Result<Vec<u8>, AllocError>
+    requires { IsTurns turns }
+    ensures { IfOk result (λ text. IsSummary seed turns text.items) }
+{
+    let input = load_script(alloc, seed)?;
+    let history = run(alloc, &input.script, turns)?;
+    let text = summary(alloc, &input, &history)?;
+    Ok(text)
+}
+
+/// What is answered to a load.
+pub(crate) fn loaded(alloc: Global, seed: u32, turns: u32) -> Answer
+    requires { IsTurns turns }
+    ensures { IsLoaded seed turns result.status (text_of result.text) }
+{
+    match load_summary(alloc, seed, turns) {
+        Ok(text) => Answer {
+            status: Status::Ok,
+            text: Text::Made(text),
+        },
+        Err(_) => no_memory(),
+    }
+}
+
 /// What a form finds in the bytes of an input.
 pub(crate) fn find_in(alloc: Global, form: Form, bytes: &[u8]) -> Answer
     requires bytes { length bytes.now ≤ INPUT_LIMIT }
     requires built { is_built (command_of form) ≡ true }
     requires limit { IsWithin form }
+    requires reads { reads form ≡ true }
     ensures { IsFoundIn form bytes.now result.status (text_of result.text) }
 {
     match task_of(alloc, form, bytes) {

@@ -7,7 +7,7 @@ ghost use Rattle.ntrun.specs.declared.task.Tail.{Tail};
 ghost use Rattle.ntrun.specs.declared.task.Task.{Task};
 ghost use Rattle.nt_words.specs.Commands.{is_built};
 ghost use Rattle.nt_words.specs.Forms.{IsTurns, IsWithin, command_of};
-ghost use Rattle.ntrun.specs.Tasks.{IsSoundTask, both_parts, last_line, report_task, run_task, schedule_task, tail_task, tail_word, two_parts, task_of};
+ghost use Rattle.ntrun.specs.Tasks.{IsSoundTask, both_parts, last_line, reads, report_task, run_task, schedule_task, tail_task, tail_word, two_parts, task_of};
 
 use nt_event::History;
 use nt_log::{Schedule, read_schedule};
@@ -165,6 +165,7 @@ pub(crate) fn task_of(alloc: Global, form: Form, bytes: &[u8]) -> Result<Task, S
     requires bytes { length bytes.now ≤ INPUT_LIMIT }
     requires built { is_built (command_of form) ≡ true }
     requires limit { IsWithin form }
+    requires reads { reads form ≡ true }
     ensures read { GivesRead result (task_of form bytes.now) }
     ensures sound { IfOk result IsSoundTask }
 {

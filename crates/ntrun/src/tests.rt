@@ -381,6 +381,21 @@ fn reports_are_checked(rt: HostRuntime) -> Result<(), Fail> {
     Ok(())
 }
 
+/// The summary of a seed's load, the same each time. A source whose first call fails is not called.
+#[test]
+fn a_load_is_summed_up(rt: HostRuntime) -> Result<(), Fail> {
+    let wanted = "events 7823\ncalls 4096\nrefused 493\nbegins 1100\ncut 0\nwaits 0\n";
+    for words in [
+        ["load", "--seed", "1"].as_slice(),
+        ["--seed=1", "load"].as_slice(),
+    ] {
+        let (status, written) = program(rt.alloc(), words, b"", &[0], 65536, &[])?;
+        assert_eq!(rt; status, Status::Ok);
+        assert_eq!(rt; written.as_slice(), wanted.as_bytes());
+    }
+    Ok(())
+}
+
 #[test]
 fn statuses_have_their_numbers(rt: HostRuntime) {
     let statuses = [

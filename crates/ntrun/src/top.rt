@@ -3,16 +3,18 @@ ghost use Rattle.std.specs.Prelude.{◌≡◌, ◌≢◌, false, map, true, stri
 ghost use Rattle.ntrun.specs.Answer.{text_of};
 ghost use Rattle.nt_words.specs.Commands.{is_built};
 ghost use Rattle.nt_words.specs.Forms.{IsWithin, command_of};
-ghost use Rattle.ntrun.specs.Outcome.{supply, store, memory_line, IsFound, IsFoundBy, IsWritten, IsAnswered, HasCause};
+ghost use Rattle.ntrun.specs.Outcome.{supply, store, memory_line, IsFound, IsFoundBy, IsFoundFrom, IsWritten, IsAnswered, HasCause};
+ghost use Rattle.ntrun.specs.Tasks.{reads};
 ghost use Rattle.ntrun.specs.Words.{is_live};
 
-use crate::answer::{Answer, Text, find_in, no_memory};
+use crate::answer::{Answer, Text, find_in, loaded, no_memory};
 use crate::status::Status;
 use nt_outside::{Gate, ReadRefusal, Sink, Source, WriteFault, read_all, write_all};
 use nt_text::INPUT_LIMIT;
 use nt_words::{Form, USAGE, WordsRefusal, form_of, words_have_one_form};
 use std::alloc::Global;
 
+/// A status with a line that never changes.
 fn line(status: Status, text: &'static str) -> Answer
     ensures status { result.status ≡ status }
     ensures text { text_of result.text ≡ text.now }
@@ -24,16 +26,32 @@ fn line(status: Status, text: &'static str) -> Answer
 }
 
 /// What a form finds from the source.
-fn find_by<S: Source>(alloc: Global, form: Form, source: &mut S) -> Answer
+fn find_from<S: Source>(alloc: Global, form: Form, source: &mut S) -> Answer
     requires built { is_built (command_of form) ≡ true }
     requires limit { IsWithin form }
-    ensures { IsFoundBy form (supply (S.left source.old) (S.taken source.old) (S.faults source.old)) (supply (S.left source.new) (S.taken source.new) (S.faults source.new)) result.status (text_of result.text) }
+    requires reads { reads form ≡ true }
+    ensures { IsFoundFrom form (supply (S.left source.old) (S.taken source.old) (S.faults source.old)) (supply (S.left source.new) (S.taken source.new) (S.faults source.new)) result.status (text_of result.text) }
 {
     match read_all(alloc, source, INPUT_LIMIT) {
         Ok(bytes) => find_in(alloc, form, bytes.as_slice()),
         Err(ReadRefusal::Fault) => line(Status::Read, "read fault\n"),
         Err(ReadRefusal::TooLong) => line(Status::TooLong, "input too long\n"),
         Err(ReadRefusal::NoMemory) => no_memory(),
+    }
+}
+
+/// What a form finds. Where it is a load, nothing is read.
+fn find_by<S: Source>(alloc: Global, form: Form, source: &mut S) -> Answer
+    requires built { is_built (command_of form) ≡ true }
+    requires limit { IsWithin form }
+    ensures { IsFoundBy form (supply (S.left source.old) (S.taken source.old) (S.faults source.old)) (supply (S.left source.new) (S.taken source.new) (S.faults source.new)) result.status (text_of result.text) }
+{
+    match form {
+        Form::Run { .. } => find_from(alloc, form, source),
+        Form::Replay => find_from(alloc, form, source),
+        Form::Check => find_from(alloc, form, source),
+        Form::Live { .. } => unreachable!(),
+        Form::Load { seed, turns } => loaded(alloc, seed, turns),
     }
 }
 
@@ -66,13 +84,19 @@ pub(crate) fn starved<K: Sink>(sink: &mut K) -> Status
     write(&no_memory(), sink)
 }
 
-/// The program for all words that are no live form: `words` are those behind the program's name. It waits for nobody and returns.
+/// The program for all words that are no live form: `words` are those behind the program's name. It waits for nobody
+/// and returns.
 ///
-/// In this order: `Usage` exactly where the words are no form, and then nothing is read; `Read` only where the source's count of
-/// faults rose; `TooLong` exactly where more than 33,554,432 bytes were taken; `Script` exactly where a line is refused, of the
-/// script or of what stands behind it; `Schedule`, of `replay` alone, exactly where the turns make no settled run; else `Ok` and the
-/// report of the run by the robin rule, or by the schedule. Want of memory, `Memory`, may come at any place. The text or line of
-/// the status is written whole by one `write_all`; where that fails, `Write`, and a front part of it stands.
+/// The forms are `run`, `replay`, `check` and `load`. In this order: `Usage` exactly where the words are no form, and
+/// then nothing is read. `load` reads nothing either: its status is `Ok` and its text the summary of the robin run of
+/// the seed's load. For the other forms `Read` comes only where the source's count of faults rose; `TooLong` exactly
+/// where more than 33,554,432 bytes were taken; `Script` exactly where a line is refused, of the script or of what
+/// stands behind it; `Schedule`, of `replay` alone, exactly where the turns make no settled run; `Illegal`, of `check`
+/// alone, exactly where the history is no settled run, with the number at which it goes wrong; else `Ok`, with the
+/// report of the robin run for `run`, of the schedule's run for `replay`, and the line `legal` for `check`.
+///
+/// Want of memory, `Memory`, may come at any place. The text or line of the status is written whole by one `write_all`;
+/// where that fails, `Write`, and a front part of it stands.
 pub fn plain<S: Source, K: Sink>(
     alloc: Global,
     words: &[String],
