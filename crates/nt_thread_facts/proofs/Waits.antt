@@ -49,7 +49,7 @@ use Rattle.std.specs.Prelude.{Bool, List, None, Option, Some, [], false, if◌th
 -- ---- what is known of a thread that makes an event
 
 -- a thread that makes an event is taken up by it, and was ready, or runs
-abbrev Maker : Script → ThreadNo → Event → List Event → Type 0
+abbrev pub Maker : Script → ThreadNo → Event → List Event → Type 0
 Maker s t e past = ((is_switch_event e.what ≡ true) × (is_ready (facts s t past) ≡ true)) ⊎
     ((is_switch_event e.what ≡ false) × ((facts s t past).doing ≡ IsRunning))
 
@@ -61,7 +61,7 @@ runs_doing (IsBlocked w) fs p t past h r = absurd (h.0 r)
 runs_doing IsGone fs p t past h r = absurd (h.0 r)
 
 module _ (s : Script) (limit : ℕ) (t : ThreadNo) (e : Event) (past : List Event) (r : IsRun s limit (e ∷ past)) where
-  maker : is_of_thread s t e ≡ true → Maker s t e past
+  pub maker : is_of_thread s t e ≡ true → Maker s t e past
   maker b = go e.what refl
     where
       parts : (is_of e (cpu_of s t) ≡ true) × (is_by e t ≡ true)
@@ -107,12 +107,12 @@ module _ (s : Script) (limit : ℕ) (t : ThreadNo) (e : Event) (past : List Even
   doing_stays : is_of_thread s t e ≡ false → (facts s t (e ∷ past)).doing ≡ (named_facts s t (length past) e.what (facts s t past)).doing
   doing_stays b = ap (λ (x : ThreadFacts). x.doing) (facts_made s t e past false b)
 
-  block_after : (w : Waiting) → (facts s t past).doing ≡ IsBlocked w → (facts s t (e ∷ past)).doing ≡ doing_of (ends_it s t w e past) w
+  pub block_after : (w : Waiting) → (facts s t past).doing ≡ IsBlocked w → (facts s t (e ∷ past)).doing ≡ doing_of (ends_it s t w e past) w
   block_after w h =
       let none : is_of_thread s t e ≡ false = idle_makes_none (ap ready_doing h) (λ k. let z = h in cc) in
       doing_stays none ∙ blocked_named s t (length past) e.what w (facts s t past) h
 
-  other_after : waiting (facts s t past) ≡ None → (facts s t (e ∷ past)).doing
+  pub other_after : waiting (facts s t past) ≡ None → (facts s t (e ∷ past)).doing
       ≡ (if is_of_thread s t e then made_to (length past) (stand_at s e.cpu past) e.what (facts s t past).doing else (facts s t past).doing)
   other_after h = go (is_of_thread s t e) refl
     where
@@ -160,7 +160,7 @@ made_waiting n st (Rewait f Blocked) d h = go st.again
     go (Some w) = refl
 made_waiting n st what d h = h
 
-waits_of : (d : Doing) (w : Waiting) → waiting_of d ≡ Some w → d ≡ IsBlocked w
+pub waits_of : (d : Doing) (w : Waiting) → waiting_of d ≡ Some w → d ≡ IsBlocked w
 waits_of (IsBlocked v) w h = let same : v ≡ w = cc in ap IsBlocked same
 waits_of d w h = cc
 
@@ -445,12 +445,18 @@ waits_are_read s limit t past r = record {
   gone = ((λ h. gone_forth s limit t past r h), (λ h. gone_back s limit t past r h));
 }
 
-pub switches_carry : SwitchesCarryTheStatus
-switches_carry s limit t e past carried r w st =
+-- a Switch carries the status of the thread's ended wait
+pub switch_tells : (s : Script) (limit : ℕ) (t : ThreadNo) (e : Event) (past : List Event) (carried : Option ℕ) → IsRun s limit (e ∷ past) → e.what
+    ≡ Switch t carried → carried ≡ ended_status (facts s t past)
+switch_tells s limit t e past carried r w =
     let turn : Gives (step s limit (SwitchTurn e.cpu t) past) e = subst (λ (w : What). Gives (step s limit (turn_at e.cpu w) past) e) w r.0 in
     let g = switch_gives s limit e.cpu t past e turn in
     let has = both (has_thread s t) _ g.1 in
     let what : Switch t (ended_status (facts_at (lanes_at s past) t)) ≡ Switch t carried = ap (λ (x : Event). x.what) g.2 ∙ w in
     let same : ended_status (facts_at (lanes_at s past) t) ≡ carried = cc in
-    let told : carried ≡ ended_status (facts s t past) = sym same ∙ ap ended_status (facts_there s limit t past has.0) in
+    sym same ∙ ap ended_status (facts_there s limit t past has.0)
+
+pub switches_carry : SwitchesCarryTheStatus
+switches_carry s limit t e past carried r w st =
+    let told : carried ≡ ended_status (facts s t past) = switch_tells s limit t e past carried r w in
     ((λ h. (ended_read s limit t st past r.1).0 (sym told ∙ h)), (λ h. told ∙ (ended_read s limit t st past r.1).1 h))

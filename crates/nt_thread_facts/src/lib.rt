@@ -3,6 +3,7 @@
 //! The definitions stand in nt_event; a run is a history each of whose events is the one that its turn gives.
 #![tactic(auto)]
 
+ghost use Rattle.nt_thread_facts.specs.Again.{WaitsAreTakenUpWhereInterrupted};
 ghost use Rattle.nt_thread_facts.specs.Flags.{FlagsAreSetAndKept};
 ghost use Rattle.nt_thread_facts.specs.Waits.{SwitchesCarryTheStatus, WaitsAreRead};
 
@@ -21,4 +22,10 @@ pub fn waits_are_read()
 /// In a run a Switch carries a status exactly where a wait of its thread was ended with that status and the thread was not taken up since.
 pub fn switches_carry_the_status()
     ensures { SwitchesCarryTheStatus }
+{}
+
+/// In a run a frame of a thread that runs has a wait to take up exactly where the last wait event of the frame's present phase had the
+/// outcome STATUS_KERNEL_APC: it answered so, or it blocked and the thread was taken up with that status.
+pub fn waits_are_taken_up_where_interrupted()
+    ensures { WaitsAreTakenUpWhereInterrupted }
 {}
