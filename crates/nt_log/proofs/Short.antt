@@ -1,5 +1,5 @@
 -- The line `next P` with one digit is taken as the turn of that processor.
-use Rattle.std.proofs.Common.{◌≡◌, ◌∙◌, ℕ, ◌+◌, ◌<◌, Bool, true, List, [], ◌∷◌, length, Ok, refl, sym, ap, arith, lit<}
+use Rattle.std.proofs.Common.{◌≡◌, ◌∙◌, ℕ, ◌+◌, ◌<◌, Bool, true, List, [], ◌∷◌, length, Ok, refl, sym, ap, arith}
 use Rattle.std.specs.Prelude.{codes, nat_lt}
 use Rattle.std.proofs.lemmas.Fmt.{decimal_digit}
 use Rattle.nt_text.specs.declared.kind.ScriptKind.TheVariants.{TooMany}
