@@ -81,7 +81,8 @@ abbrev pub facts_left : List Act → ThreadFacts → ThreadFacts
 facts_left [] x = x
 facts_left (act ∷ acts) x = after act (facts_left acts x)
 
--- in a run, what each event leaves of the facts of a thread of the script is what its calls leave
+-- in a run, what each event leaves of the facts of a thread of the script is what its calls leave. (It would refuse a
+-- call that the machine makes without an event, or an event that calls another thread.)
 abbrev pub ThreadEventsAreCalls : Type 0
 ThreadEventsAreCalls = (s : Script) (limit : ℕ) (t : ThreadNo) (e : Event) (past : List Event) →
     IsRun s limit (e ∷ past) → has_thread s t ≡ true →

@@ -1,5 +1,5 @@
--- When a replay is refused: the turns before a place make a run, and the turn there is refused by the step; or all turns
--- were taken, and the history isn't settled.
+-- When a replay is refused: the turns before a place make a run, and the turn there is refused by the step; or all
+-- turns were taken, and the history isn't settled.
 use Rattle.nt_core.specs.Replays.{Refused, replayed}
 use Rattle.nt_event.specs.Robin.{is_settled}
 use Rattle.nt_event.specs.Step.{IsRun, step, turns}
@@ -31,9 +31,9 @@ pub record IsUnsettled (s : Script) (limit : ℕ) (list : List Turn) (r : Refuse
   pub place : r.at ≡ length list
   pub kind : r.kind ≡ Unfinished
 
--- a list of turns is refused at a place exactly where the turns before it make a run and the turn there is refused so by
--- the step, or where all of them make a run that isn't settled. (It would refuse a replay that goes on behind a refused
--- turn, tells the place from 1, or takes an unsettled history.)
+-- a list of turns is refused at a place exactly where the turns before it make a run and the turn there is refused so
+-- by the step, or where all of them make a run that isn't settled. (It would refuse a replay that goes on behind a
+-- refused turn, tells the place from 1, or takes an unsettled history.)
 abbrev pub ReplaysAreRefused : Type 0
 ReplaysAreRefused = (s : Script) (limit : ℕ) (list : List Turn) (r : Refused) →
     (replayed s limit list ≡ Err r) ↔ (RefusesTurn s limit list r ⊎ IsUnsettled s limit list r)

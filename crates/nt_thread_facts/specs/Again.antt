@@ -72,7 +72,8 @@ abbrev pub IsInterrupted : Script → ThreadNo → ℕ → List Event → Type 0
 IsInterrupted s t n past = (k : ℕ) × IsLastWaitEvent s t n k past × IsOutcome s t k kernel_apc past
 
 -- in a run, of a thread that runs: a frame of it has a wait to take up exactly where the last wait event of its present
--- phase had the outcome STATUS_KERNEL_APC
+-- phase had the outcome STATUS_KERNEL_APC. (It would refuse a wait that is taken up after another status, or that is
+-- lost where an APC interrupted it at its call.)
 abbrev pub WaitsAreTakenUpWhereInterrupted : Type 0
 WaitsAreTakenUpWhereInterrupted = (s : Script) (limit : ℕ) (t : ThreadNo) (past : List Event) → IsRun s limit past →
     running (cpu_of s t) past ≡ Some t →

@@ -52,9 +52,9 @@ blocks_in s t e before = when (is_of_thread s t e) (blocked_in (length before) (
 
 -- ---- what ends a wait
 
--- the status with which an APC of this kind ends the wait: a kernel one where, with it among the pending ones, the first
--- is deliverable at the wait's level and in its regions, a user one where the wait is of user mode, and alertable or the
--- user-pending mark is set
+-- the status with which an APC of this kind ends the wait: a kernel one where, with it among the pending ones, the
+-- first is deliverable at the wait's level and in its regions, a user one where the wait is of user mode, and alertable
+-- or the user-pending mark is set
 abbrev pub apc_ends : Pick → ThreadFacts → Waiting → Option ℕ
 apc_ends pick x w =
     if is_kernel_kind pick.kind then when (is_some (deliverable (with_apc pick x.apcs) w.regions w.level)) (Some kernel_apc)
@@ -108,7 +108,8 @@ pub record WaitsRead (s : Script) (t : ThreadNo) (past : List Event) : Type 0 wh
 
 -- in a run a thread waits exactly where an event blocked it and no later one ended the wait; it has the status of an
 -- ended wait exactly where one was ended so and the thread was not taken up since; and it is gone exactly where it had
--- its Gone
+-- its Gone. (It would refuse a release that ends a delay, an alert that ends a wait of a mode below its own, an expiry
+-- that ends a later delay.)
 abbrev pub WaitsAreRead : Type 0
 WaitsAreRead = (s : Script) (limit : ℕ) (t : ThreadNo) (past : List Event) → IsRun s limit past → WaitsRead s t past
 
