@@ -6,18 +6,29 @@
 use nt_load::load_script;
 use nt_script::print;
 use sha2::{Digest, Sha256};
+use std::alloc::{AllocError, Global};
 use std::io;
 
-/// What is written of a seed.
-fn put_load(rt: &HostRuntime, seed: u32) -> io::Result<()> {
-    let input = load_script(rt.alloc(), seed)?;
-    let text = print(rt.alloc(), &input)?;
+/// The text of the load of a seed.
+fn load_text(alloc: Global, seed: u32) -> Result<Vec<u8>, AllocError> {
+    let input = load_script(alloc, seed)?;
+    print(alloc, &input)
+}
+
+/// Writes the length and the digest of a seed's text.
+fn put_text(rt: &HostRuntime, seed: u32, text: &[u8]) -> io::Result<()> {
     print!(rt; "{seed} {} ", text.len())?;
-    let digest = Sha256::digest(text.as_slice());
+    let digest = Sha256::digest(text);
     for byte in digest.iter() {
         print!(rt; "{byte:02x}")?;
     }
     println!(rt; "")
+}
+
+/// What is written of a seed.
+fn put_load(rt: &HostRuntime, seed: u32) -> io::Result<()> {
+    let text = load_text(rt.alloc(), seed)?;
+    put_text(rt, seed, text.as_slice())
 }
 
 fn main(rt: HostRuntime) -> io::Result<()> {
