@@ -51,11 +51,7 @@ fn taken(alloc: Global, input: &Input, schedule: &Schedule) -> Result<Outcome, A
 }
 
 /// The turns of the report's schedule are taken.
-pub(crate) fn replayed(
-    alloc: Global,
-    input: &Input,
-    text: &[u8],
-) -> Result<Outcome, AllocError>
+pub(crate) fn replayed(alloc: Global, input: &Input, text: &[u8]) -> Result<Outcome, AllocError>
     requires sound { IsSound input.now }
     requires bytes { length text.now ≤ INPUT_LIMIT }
 {
@@ -63,7 +59,7 @@ pub(crate) fn replayed(
         return Ok(Outcome::NoHistory);
     };
     let (_, rest) = text.split_at(split.at);
-    match read_schedule(alloc, input, rest, split.line) {
+    match read_schedule(alloc, input, rest, 1) {
         Ok(schedule) => taken(alloc, input, &schedule),
         Err(_) => Ok(Outcome::NoHistory),
     }

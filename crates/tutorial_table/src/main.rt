@@ -5,6 +5,10 @@
 //! history of the file, as `ntrun check` gives it. What is wanted stands in `stdout`.
 #![tactic(auto)]
 
+ghost use Rattle.std.specs.Prelude.{◌≤◌, length};
+ghost use Rattle.nt_script.specs.Sound.{IsSound};
+ghost use Rattle.nt_text.specs.declared.lines.TheConstants.{INPUT_LIMIT};
+
 mod forms;
 
 use crate::forms::{Outcome, checked, ran, replayed};
@@ -13,10 +17,6 @@ use nt_script::{Input, read};
 use nt_text::INPUT_LIMIT;
 use std::alloc::{AllocError, Global};
 use std::{fs, io};
-
-ghost use Rattle.std.specs.Prelude.{◌≤◌, length};
-ghost use Rattle.nt_script.specs.Sound.{IsSound};
-ghost use Rattle.nt_text.specs.declared.lines.TheConstants.{INPUT_LIMIT};
 
 /// How many lines at the front of the two texts are the same.
 fn equal_lines(text: &[u8], wanted: &[u8]) -> usize {
