@@ -1,0 +1,149 @@
+//! In which slots of the wheel keys stand, and in which order they come due: one case a line of the input. What is written for a
+//! case is its line, and the answers of the calls, each in a line that begins with two spaces. What is wanted stands in `stdout`:
+//! the values of the rules, worked out by hand.
+#![tactic(auto)]
+
+use nt_event::{ThreadNo, TimerKey, TimerNo};
+use nt_timer::TimerQueue;
+use std::io;
+
+const A: TimerNo = TimerNo(0);
+
+const B: TimerNo = TimerNo(1);
+
+const C: TimerNo = TimerNo(2);
+
+const W: ThreadNo = ThreadNo(0);
+
+/// Writes the answers of a case.
+fn answer(rt: HostRuntime, case: &str) -> io::Result<()> {
+    match case {
+        "a key goes down the levels and comes due" => down_the_levels(rt),
+        "the greatest digit that differs" => greatest_digit(rt),
+        "the unit before a level's edge, and the edge" => at_an_edge(rt),
+        "keys of one slot come due by due time, then by number" => keys_of_one_slot(rt),
+        "keys of several levels come due in one advance" => keys_of_several_levels(rt),
+        "a key that is taken back or set anew leaves its slot" => set_anew(rt),
+        "a periodic timer stands anew" => periodic(rt),
+        "due times that are never reached" => never_reached(rt),
+        _ => println!(rt; "  no such case"),
+    }
+}
+
+fn down_the_levels(rt: HostRuntime) -> io::Result<()> {
+    let mut queue = TimerQueue::new(rt.alloc(), 1, 0)?;
+    println!(rt; "  place {:?}", queue.place(TimerKey::Timer(A)))?;
+    queue.set(A, 70, 0, 1);
+    println!(rt; "  place {:?}", queue.place(TimerKey::Timer(A)))?;
+    queue.advance(64);
+    println!(rt; "  place {:?}", queue.place(TimerKey::Timer(A)))?;
+    queue.advance(6);
+    println!(rt; "  place {:?}", queue.place(TimerKey::Timer(A)))?;
+    println!(rt; "  first {:?}", queue.first_due())
+}
+
+fn greatest_digit(rt: HostRuntime) -> io::Result<()> {
+    let mut queue = TimerQueue::new(rt.alloc(), 3, 1)?;
+    queue.set(A, 4_294_967_295, 0, 1);
+    queue.set(B, 63, 0, 2);
+    queue.set(C, 64, 0, 3);
+    queue.set_delay(W, 2_251_799_813_685_247, 4);
+    println!(rt; "  place {:?}", queue.place(TimerKey::Timer(A)))?;
+    println!(rt; "  place {:?}", queue.place(TimerKey::Timer(B)))?;
+    println!(rt; "  place {:?}", queue.place(TimerKey::Timer(C)))?;
+    println!(rt; "  place {:?}", queue.place(TimerKey::Delay(W)))?;
+    println!(rt; "  first {:?}", queue.first_due())
+}
+
+fn at_an_edge(rt: HostRuntime) -> io::Result<()> {
+    let mut queue = TimerQueue::new(rt.alloc(), 2, 0)?;
+    queue.set(A, 4096, 0, 1);
+    queue.set(B, 4097, 0, 2);
+    queue.advance(4095);
+    println!(rt; "  place {:?}", queue.place(TimerKey::Timer(A)))?;
+    println!(rt; "  place {:?}", queue.place(TimerKey::Timer(B)))?;
+    println!(rt; "  first {:?}", queue.first_due())?;
+    queue.advance(1);
+    println!(rt; "  place {:?}", queue.place(TimerKey::Timer(A)))?;
+    println!(rt; "  place {:?}", queue.place(TimerKey::Timer(B)))?;
+    println!(rt; "  first {:?}", queue.first_due())
+}
+
+fn keys_of_one_slot(rt: HostRuntime) -> io::Result<()> {
+    let mut queue = TimerQueue::new(rt.alloc(), 3, 1)?;
+    queue.set(A, 70, 0, 1);
+    queue.set(B, 66, 0, 4);
+    queue.set(C, 70, 0, 3);
+    queue.set_delay(W, 66, 2);
+    queue.advance(100);
+    println!(rt; "  first {:?}", queue.first_due())?;
+    println!(rt; "  expire {:?}", queue.expire(TimerKey::Delay(W), 5))?;
+    println!(rt; "  first {:?}", queue.first_due())?;
+    println!(rt; "  cancel {}", queue.cancel(B))?;
+    println!(rt; "  first {:?}", queue.first_due())?;
+    println!(rt; "  cancel {}", queue.cancel(A))?;
+    println!(rt; "  first {:?}", queue.first_due())
+}
+
+fn keys_of_several_levels(rt: HostRuntime) -> io::Result<()> {
+    let mut queue = TimerQueue::new(rt.alloc(), 3, 1)?;
+    queue.set(A, 300_000, 0, 1);
+    queue.set(B, 5000, 0, 2);
+    queue.set(C, 3, 0, 3);
+    queue.set_delay(W, 4_000_000_000, 4);
+    queue.advance(4_294_967_295);
+    println!(rt; "  first {:?}", queue.first_due())?;
+    println!(rt; "  cancel {}", queue.cancel(C))?;
+    println!(rt; "  first {:?}", queue.first_due())?;
+    println!(rt; "  cancel {}", queue.cancel(B))?;
+    println!(rt; "  first {:?}", queue.first_due())?;
+    println!(rt; "  cancel {}", queue.cancel(A))?;
+    println!(rt; "  first {:?}", queue.first_due())
+}
+
+fn set_anew(rt: HostRuntime) -> io::Result<()> {
+    let mut queue = TimerQueue::new(rt.alloc(), 2, 0)?;
+    queue.set(A, 5, 0, 1);
+    queue.set(B, 5, 0, 2);
+    println!(rt; "  cancel {}", queue.cancel(A))?;
+    println!(rt; "  set {:?}", queue.set(B, 200, 0, 3))?;
+    queue.advance(5);
+    println!(rt; "  first {:?}", queue.first_due())?;
+    println!(rt; "  place {:?}", queue.place(TimerKey::Timer(B)))?;
+    println!(rt; "  set {:?}", queue.set(A, 0, 0, 4))?;
+    println!(rt; "  first {:?}", queue.first_due())?;
+    println!(rt; "  set {:?}", queue.set(A, 1, 0, 5))?;
+    println!(rt; "  first {:?}", queue.first_due())?;
+    println!(rt; "  place {:?}", queue.place(TimerKey::Timer(A)))
+}
+
+fn periodic(rt: HostRuntime) -> io::Result<()> {
+    let mut queue = TimerQueue::new(rt.alloc(), 1, 0)?;
+    queue.set(A, 1, 64, 1);
+    queue.advance(2);
+    println!(rt; "  expire {:?}", queue.expire(TimerKey::Timer(A), 2))?;
+    println!(rt; "  place {:?}", queue.place(TimerKey::Timer(A)))?;
+    println!(rt; "  first {:?}", queue.first_due())?;
+    queue.advance(64);
+    println!(rt; "  first {:?}", queue.first_due())
+}
+
+fn never_reached(rt: HostRuntime) -> io::Result<()> {
+    let mut queue = TimerQueue::new(rt.alloc(), 0, 1)?;
+    queue.set_delay(W, 18_014_398_509_481_984, 1);
+    println!(rt; "  place {:?}", queue.place(TimerKey::Delay(W)))?;
+    queue.set_delay(W, 18_446_744_073_709_551_615, 2);
+    println!(rt; "  place {:?}", queue.place(TimerKey::Delay(W)))?;
+    queue.advance(4_294_967_295);
+    println!(rt; "  place {:?}", queue.place(TimerKey::Delay(W)))?;
+    println!(rt; "  first {:?}", queue.first_due())
+}
+
+fn main(rt: HostRuntime) -> io::Result<()> {
+    for line in rt.lines(rt.alloc()) {
+        let entry = line?;
+        println!(rt; "{entry}")?;
+        answer(rt, entry.as_str())?;
+    }
+    Ok(())
+}
