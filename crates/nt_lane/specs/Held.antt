@@ -1,0 +1,61 @@
+-- What stands behind a lane's lock.
+use Rattle.std.specs.Prelude.{IfSome, IsTrue, List, [], length, ℕ, ◌+◌, ◌∷◌, ◌≡◌}
+use Rattle.nt_event.specs.declared.jobs.Lane.{Lane}
+use Rattle.nt_event.specs.declared.numbers.CpuNo.{CpuNo}
+use Rattle.nt_event.specs.declared.scripts.Script.{Script}
+use Rattle.nt_event.specs.LaneStates.{Content, OfThreads, threads_from}
+use Rattle.nt_event.specs.Lanes.{Lanes, lane_number, lanes_at}
+use Rattle.nt_event.specs.Routines.{depth_limit, part_of}
+use Rattle.nt_event.specs.Script.{has_cpu, has_dpc}
+use Rattle.nt_dpc.specs.Objects.{ObjectFacts}
+use Rattle.nt_dpc.specs.Queues.{QueueFacts}
+use Rattle.nt_mark.specs.declared.view.Note.{Note}
+use Rattle.nt_thread_lanes.specs.Lanes.{ThreadLanes}
+use Rattle.nt_lane.specs.Records.{LaneRecord}
+use Rattle.nt_lane.specs.Seats.{state_noted}
+
+-- the threads of a processor: the states of all threads of the script, of which those of other processors tell nothing
+pub record GroupState : Type 0 where
+  pub threads : ThreadLanes
+  pub cpu : CpuNo
+
+-- all lanes, with the threads in these states
+abbrev pub with_threads : ThreadLanes → Lanes
+with_threads x = record (lanes_at x.script []) { threads = x.facts }
+
+-- the states of the processor's own threads
+abbrev pub group_content : GroupState → Content
+group_content g = OfThreads (threads_from g.cpu 0 g.threads.script.threads (with_threads g.threads))
+
+-- one more than the last number of a list, 0 where it is empty
+abbrev pub next_of : List Note → ℕ
+next_of [] = 0
+next_of (x ∷ []) = x.number + 1
+next_of (x ∷ y ∷ ys) = next_of (y ∷ ys)
+
+-- ---- what stands there is of the script, by its kind
+
+-- an object: its target and the queue where it stands are the script's
+pub record IsObjectThere (s : Script) (o : ObjectFacts) : Type 0 where
+  pub named : IsTrue (has_dpc s o.dpc)
+  pub part : o.part ≡ part_of s o.dpc
+  pub target : IfSome o.state.target (λ p. IsTrue (has_cpu s p))
+  pub standing : IfSome o.state.standing (λ at. IsTrue (has_cpu s at.queue))
+
+-- the queue of a processor
+pub record IsQueueThere (s : Script) (q : QueueFacts) : Type 0 where
+  pub named : IsTrue (has_cpu s q.cpu)
+  pub count : q.count ≡ length s.dpcs
+  pub limit : q.limit ≡ depth_limit s
+
+-- the threads of a processor
+pub record IsGroupThere (s : Script) (g : GroupState) : Type 0 where
+  pub named : IsTrue (has_cpu s g.cpu)
+  pub script : g.threads.script ≡ s
+
+-- ---- the whole lane
+
+-- the lane has its number, and its state is the one that was noted last
+pub record IsLastNoted (s : Script) (name : Lane) (content : Content) (r : LaneRecord) : Type 0 where
+  pub number : r.lane ≡ lane_number s name
+  pub last : state_noted s name r.notes ≡ record { content = content; told = r.told }

@@ -1,0 +1,77 @@
+-- What words and floors see of a pass.
+use Rattle.std.proofs.Common.{◌∙◌}
+use Rattle.std.specs.List.{list_any}
+use Rattle.std.specs.Prelude.{Bool, Contains, None, Some, false, length, map, refl, ℕ, ◌&&◌, ◌*◌, ◌-◌, ◌==◌, ◌≡◌, ◌≤◌}
+use Rattle.nt_event.specs.declared.numbers.CpuNo.{CpuNo}
+use Rattle.nt_floor.specs.Lists.{Draw, Lists, Look as LookTold, Mark as MarkTold}
+use Rattle.nt_floor.specs.Views.{View as WordsView}
+use Rattle.nt_mark.specs.declared.marks.Marks.{Marks}
+use Rattle.nt_mark.specs.declared.view.Entry.{Entry}
+use Rattle.nt_mark.specs.declared.view.LaneList.{LaneList}
+use Rattle.nt_mark.specs.declared.view.Look.{Look}
+use Rattle.nt_mark.specs.declared.view.Mark.{Mark}
+use Rattle.nt_mark.specs.declared.view.View.{View}
+use Rattle.nt_mark.specs.Names.{cpus_of, limit_of}
+use Rattle.nt_mark.specs.Views.{reach, request_word, step_word}
+
+abbrev pub draw_told : Entry → Draw
+draw_told e = record { number = e.number; event = e.event; lanes = e.lanes }
+
+abbrev pub mark_told : Mark → MarkTold
+mark_told m = record { cpu = m.cpu; class = m.class; number = m.number }
+
+abbrev pub look_told : Look → LookTold
+look_told l = record { cpu = l.cpu; class = l.class; value = l.value }
+
+-- the lists of a pass
+abbrev pub lists_of : View → Lists
+lists_of v = record { draws = map draw_told v.entries; marks = map mark_told v.marks; looks = map look_told v.looks }
+
+-- the mark says that the event of this number asks for the class on the processor
+abbrev pub is_mark : ℕ → CpuNo → ℕ → Mark → Bool
+is_mark n p c m = (m.number == n) && ((m.cpu.0 == p.0) && (m.class == c))
+
+-- how many numbers the pass may still draw
+abbrev pub drawable_of : Marks → View → ℕ
+drawable_of m v = limit_of m * v.parts - length v.entries
+
+-- what words see of a pass of these marks: it is never alone, and tells no states
+abbrev pub words_of : Marks → View → WordsView
+words_of m v =
+    record {
+      cpus = cpus_of m;
+      alone = false;
+      drawable = drawable_of m v;
+      next = reach step_word v;
+      lists = Some (lists_of v);
+      value = λ p c. reach (request_word p c) v;
+      marked = λ n p c. list_any (is_mark n p c) v.marks;
+      states = None;
+      told = λ x p c. 0;
+    }
+
+-- the second view has and knows all that the first had and knew
+pub record Grows (v w : View) : Type 0 where
+  pub parts : w.parts ≡ v.parts
+  pub entries : (e : Entry) → Contains v.entries e → Contains w.entries e
+  pub known : (e : Entry) → Contains v.known e → Contains w.known e
+  pub prefixes : (k : LaneList) → Contains v.prefixes k → Contains w.prefixes k
+
+pub grows_same : (v : View) → Grows v v
+grows_same v = record { parts = refl; entries = λ e h. h; known = λ e h. h; prefixes = λ k h. h }
+
+pub grows_through : (u v w : View) → Grows u v → Grows v w → Grows u w
+grows_through u v w g h = record {
+  parts = h.parts ∙ g.parts;
+  entries = λ e k. h.entries e (g.entries e k);
+  known = λ e k. h.known e (g.known e k);
+  prefixes = λ q k. h.prefixes q (g.prefixes q k);
+}
+
+-- the seat drew, marked and looked at nothing; what it knows may be more
+pub record Learns (v w : View) : Type 0 where
+  pub entries : w.entries ≡ v.entries
+  pub marks : w.marks ≡ v.marks
+  pub looks : w.looks ≡ v.looks
+  pub least : (u : ℕ) → reach u v ≤ reach u w
+  pub grows : Grows v w

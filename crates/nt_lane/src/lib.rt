@@ -1,0 +1,26 @@
+//! The lanes of a script behind locks, one for each, and the seat of a processor over them.
+//!
+//! What several processors share is cut into lanes: each DPC object, each processor's DPC queue, each processor's threads, and the
+//! timers. [`Lanes`] has a lock for each of them. Locks are taken in this order, by number within a kind. Behind a lock stand the
+//! lane's state, the list of its events with their numbers, per processor and class the greatest value asked on the lane, and the
+//! lane's keeper of `nt_mark`.
+//!
+//! A [`LaneSeat`] draws, marks and looks by a pass of `nt_mark` without a lock (`Words`). [`Lanes::close`] gives the lists and the
+//! keepers back.
+//!
+//! Whenever a lock is free, these facts hold of its lane: its numbers rise and are those of its keeper's list, place by place; its
+//! state is the one that was noted last, the opening one where its list is empty; the keeper knows each event of the list as one that
+//! touches the lane; and what the lane tells of requests, the keeper knows (`IsTied`, `IsLastNoted`).
+#![tactic(auto)]
+
+mod lane;
+mod lanes;
+mod making;
+mod record;
+mod seat;
+mod states;
+#[cfg(test)]
+mod tests;
+
+pub use lanes::{Lanes, Piece, Pieces, lane_count};
+pub use seat::LaneSeat;

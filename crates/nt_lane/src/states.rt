@@ -1,0 +1,214 @@
+//! What stands in a lane, of each kind.
+ghost use Rattle.std.specs.Prelude.{◌≡◌, ◌&&◌, IfOk, IsTrue, length, slice_get};
+ghost use Rattle.nt_event.specs.Routines.{depth_limit, is_declared_threaded, part_of, threaded_on};
+ghost use Rattle.nt_event.specs.Script.{fits, has_cpu, has_dpc};
+ghost use Rattle.nt_dpc.specs.Objects.{new_object};
+ghost use Rattle.nt_dpc.specs.Queues.{new_queue};
+ghost use Rattle.nt_thread_lanes.specs.Lanes.{start};
+ghost use Rattle.nt_timer.specs.Settings.{new_timers};
+
+use crate::record::Holds;
+use nt_dpc::{DpcObject, DpcQueue};
+use nt_event::{CpuNo, DpcNo, Script};
+use nt_thread_lanes::Threads;
+use nt_timer::TimerQueue;
+use std::alloc::{AllocError, Global};
+use std::marker::Model;
+
+/// A DPC object of a script.
+#[derive(Drop)]
+pub(crate) struct Object {
+    pub(crate) dpc: DpcNo,
+    pub(crate) state: DpcObject,
+}
+
+impl Model for Object {
+    ghost use Rattle.std.specs.Prelude.{◌≡◌};
+    ghost use Rattle.nt_dpc.specs.Objects.{ObjectFacts};
+
+    ghost Value = { ObjectFacts };
+
+    ghost view = { λ a. a.state };
+
+    ghost invariant = { λ a. a.dpc ≡ a.state.dpc };
+}
+
+impl Holds for Object {
+    ghost use Rattle.nt_event.specs.declared.jobs.Lane.TheVariants.{Object as ObjectLane};
+    ghost use Rattle.nt_event.specs.LaneStates.{OfObject};
+    ghost use Rattle.std.proofs.Props.{props};
+    ghost use Rattle.nt_lane.specs.Held.{IsObjectThere};
+
+    ghost name = { λ o. ObjectLane o.dpc };
+
+    ghost content = { λ o. OfObject o.state };
+
+    ghost time = { λ o. 0 };
+
+    ghost fits = { IsObjectThere };
+
+    ghost fits_prop = { λ s x. Prim.hlevel props };
+}
+
+/// The DPC queue of a processor of a script.
+#[derive(Drop)]
+pub(crate) struct Queue {
+    pub(crate) cpu: CpuNo,
+    pub(crate) state: DpcQueue,
+}
+
+impl Model for Queue {
+    ghost use Rattle.std.specs.Prelude.{◌≡◌};
+    ghost use Rattle.nt_dpc.specs.Queues.{QueueFacts};
+
+    ghost Value = { QueueFacts };
+
+    ghost view = { λ a. a.state };
+
+    ghost invariant = { λ a. a.cpu ≡ a.state.cpu };
+}
+
+impl Holds for Queue {
+    ghost use Rattle.nt_event.specs.declared.jobs.Lane.TheVariants.{Queue as QueueLane};
+    ghost use Rattle.nt_event.specs.LaneStates.{OfQueue};
+    ghost use Rattle.std.proofs.Props.{props};
+    ghost use Rattle.nt_lane.specs.Held.{IsQueueThere};
+
+    ghost name = { λ q. QueueLane q.cpu };
+
+    ghost content = { λ q. OfQueue q.state };
+
+    ghost time = { λ q. 0 };
+
+    ghost fits = { IsQueueThere };
+
+    ghost fits_prop = { λ s x. Prim.hlevel props };
+}
+
+/// The threads of a processor of a script: the states of all threads, of which those of other processors tell nothing.
+#[derive(Drop)]
+pub(crate) struct Group<'s> {
+    pub(crate) cpu: CpuNo,
+    pub(crate) state: Threads<'s>,
+}
+
+impl<'s> Model for Group<'s> {
+    ghost use Rattle.nt_lane.specs.Held.{GroupState};
+
+    ghost Value = { GroupState };
+
+    ghost view = { λ a. record { threads = a.state; cpu = a.cpu } };
+}
+
+impl Holds for Group<'_> {
+    ghost use Rattle.nt_event.specs.declared.jobs.Lane.TheVariants.{Threads as ThreadsLane};
+    ghost use Rattle.nt_lane.specs.Held.{group_content};
+    ghost use Rattle.std.proofs.Props.{props};
+    ghost use Rattle.nt_lane.specs.Held.{IsGroupThere};
+
+    ghost name = { λ g. ThreadsLane g.cpu };
+
+    ghost content = { group_content };
+
+    ghost time = { λ g. 0 };
+
+    ghost fits = { IsGroupThere };
+
+    ghost fits_prop = { λ s x. Prim.hlevel props };
+}
+
+/// The time, the timers and the delays of a script.
+#[derive(Drop)]
+pub(crate) struct Clock {
+    pub(crate) state: TimerQueue,
+}
+
+impl Model for Clock {
+    ghost use Rattle.nt_event.specs.Timers.{Timers};
+
+    ghost Value = { Timers };
+
+    ghost view = { λ a. a.state };
+}
+
+impl Holds for Clock {
+    ghost use Rattle.nt_event.specs.declared.jobs.Lane.TheVariants.{Timers as TimersLane};
+    ghost use Rattle.nt_event.specs.LaneStates.{OfTimers};
+    ghost use Rattle.std.proofs.Props.{props};
+    ghost use Rattle.nt_timer.specs.Laws.{IsSized};
+
+    ghost name = { λ t. TimersLane };
+
+    ghost content = { λ t. OfTimers t };
+
+    ghost time = { λ t. t.now };
+
+    ghost fits = { IsSized };
+
+    ghost fits_prop = { λ s x. Prim.hlevel props };
+}
+
+/// Whether the object stands in the threaded part: it is declared threaded, and threaded DPCs are on.
+fn is_threaded(script: &Script, d: DpcNo) -> bool
+    ensures { result ≡ (threaded_on script.now && is_declared_threaded (slice_get script.now.dpcs d.0)) }
+{
+    let declared = match script.dpcs.as_slice().get(d.0 as usize) {
+        Some(declared) => declared.threaded,
+        None => false,
+    };
+    script.threaded.unwrap_or(true) && declared
+}
+
+impl Object {
+    /// The object before any event.
+    pub(crate) fn new(script: &Script, dpc: DpcNo) -> Object
+        requires object { IsTrue (has_dpc script.now dpc) }
+        ensures { result ≡ new_object dpc (threaded_on script.now && is_declared_threaded (slice_get script.now.dpcs dpc.0)) }
+    {
+        Object {
+            dpc,
+            state: DpcObject::new(dpc, is_threaded(script, dpc)),
+        }
+    }
+}
+
+impl Queue {
+    /// The queue before any event.
+    pub(crate) fn new(alloc: Global, script: &Script, cpu: CpuNo) -> Result<Queue, AllocError>
+        requires fits { IsTrue (fits script.now) }
+        requires cpu { IsTrue (has_cpu script.now cpu) }
+        ensures { IfOk result (λ q. q ≡ new_queue cpu (length script.now.dpcs) (depth_limit script.now)) }
+    {
+        let count = script.dpcs.len() as u32;
+        let state = DpcQueue::new(alloc, cpu, count, script.depth.unwrap_or(4))?;
+        Ok(Queue { cpu, state })
+    }
+}
+
+impl<'s> Group<'s> {
+    /// The threads before any event.
+    pub(crate) fn new(
+        alloc: Global,
+        script: &'s Script,
+        cpu: CpuNo,
+    ) -> Result<Group<'s>, AllocError>
+        requires fits { IsTrue (fits script.now) }
+        requires cpu { IsTrue (has_cpu script.now cpu) }
+        ensures { IfOk result (λ g. g ≡ record { threads = start script.now; cpu = cpu }) }
+    {
+        let state = Threads::new(alloc, script)?;
+        Ok(Group { cpu, state })
+    }
+}
+
+impl Clock {
+    /// The timers before any event.
+    pub(crate) fn new(alloc: Global, script: &Script) -> Result<Clock, AllocError>
+        requires fits { IsTrue (fits script.now) }
+        ensures { IfOk result (λ t. t ≡ new_timers (length script.now.timers) (length script.now.threads)) }
+    {
+        let timers = script.timers.len() as u32;
+        let state = TimerQueue::new(alloc, timers, script.thread_count())?;
+        Ok(Clock { state })
+    }
+}
