@@ -26,7 +26,7 @@ impl<'s> Cpu<'s> {
         requires due { IsDue self.old.script self.old.cpu self.old.own job }
         requires good { GoodJob self.old job }
         ensures ok { IfOk result (λ e. (f : Found) × (n : ℕ) × (IsShared self.old self.new job f n e (F.view floor.old) (F.view floor.new) × F.found floor.new n e (stand_in self.old.cpu self.old.own) f)) }
-        ensures err { IfErr result (λ r. (f : Found) × F.shows floor.new f × (Tells (F.view floor.old).states f.lanes × IsRefused self.old.script f (stand_in self.old.cpu self.old.own) job r)) }
+        ensures err { IfErr result (λ r. (f : Found) × F.shows floor.new (stand_in self.old.cpu self.old.own) job f × (Tells (F.view floor.old).states f.lanes × IsRefused self.old.script f (stand_in self.old.cpu self.old.own) job r)) }
         ensures same { OnErr result ((self.new ≡ self.old) × IsUnmoved (F.view floor.old) (F.view floor.new)) }
         ensures memory { (F.view floor.old).alone ≡ true → IsErrOf result ActRefusal.NoMemory → ⊥ }
         ensures knows { Knows self.new (F.view floor.new) }

@@ -29,6 +29,7 @@ pub enum ActRefusal {
 pub trait Floor: Words {
     ghost use Rattle.std.specs.Prelude.{◌≡◌, ◌<◌, ◌≤◌, ℕ, true, IfErr, IfOk, IsTrue, OnErr, IsErrOf};
     ghost use Rattle.nt_event.specs.declared.events.Event.{Event};
+    ghost use Rattle.nt_event.specs.declared.jobs.Job.{Job};
     ghost use Rattle.nt_event.specs.declared.jobs.Stand.{Stand};
     ghost use Rattle.nt_event.specs.declared.scripts.Script.{Script};
     ghost use Rattle.nt_event.specs.Lists.{value_at};
@@ -48,9 +49,10 @@ pub trait Floor: Words {
     /// an event of states that no lane ever had.
     ghost found: { Self → ℕ → Event → Stand → Found → Type 0 };
 
-    /// These are the last states that it knows of the lanes of its last job: for a refusal what `found` is for an event. A floor that
-    /// doesn't tell its states has to mean, on each lane that the job reads, the state that was learned last of the lane's list.
-    ghost shows: { Self → Found → Type 0 };
+    /// These are the last states that it knows of the lanes of this job, for a processor that stands so: for a refusal what `found` is
+    /// for an event. A floor that doesn't tell its states has to mean, on each lane that the job reads, the state that was learned last
+    /// of the lane's list.
+    ghost shows: { Self → Stand → Job → Found → Type 0 };
 
     /// Makes the event of a job for a processor that stands so, and marks exactly its asks.
     ///
@@ -65,7 +67,7 @@ pub trait Floor: Words {
         ensures event { IfOk result (λ a. (f : Found) × found self.new a.number a.event stand f × (IsActed (script self.old) f stand job a × IsMoved (script self.old) a.number a.event stand f (Self.view self.old) (Self.view self.new))) }
         ensures told { IfOk result (λ a. (c : ℕ) → c < 16 → (value_at a.told.value c ≤ (Self.view self.new).value stand.cpu c) × (value_at a.told.value c ≤ (Self.view self.new).next)) }
 
-        ensures cause { IfErr result (λ r. (f : Found) × shows self.new f × (Tells (Self.view self.old).states f.lanes × IsRefused (script self.old) f stand job r)) }
+        ensures cause { IfErr result (λ r. (f : Found) × shows self.new stand job f × (Tells (Self.view self.old).states f.lanes × IsRefused (script self.old) f stand job r)) }
         ensures refused { OnErr result (IsUnmoved (Self.view self.old) (Self.view self.new)) }
         ensures memory { (Self.view self.old).alone ≡ true → IsErrOf result ActRefusal.NoMemory → ⊥ }
 

@@ -45,7 +45,7 @@ impl<'s> Floor for PlainFloor<'s> {
 
     ghost found = { λ x n e st f. Unit {0} };
 
-    ghost shows = { λ x f. Unit {0} };
+    ghost shows = { λ x st job f. Unit {0} };
 
     ghost found_later = { λ x y n e st f g h. h };
 
