@@ -29,11 +29,11 @@ all_held [] = tt
 all_held (x ∷ lanes) = (tt, all_held lanes)
 
 module _ (x : AllStates) (st : Stand) where
-  own : (o : Option ThreadNo) → IfSome o (λ t. RunsThere x.script x.lanes st t) → IfSome o (λ t. cpu_of x.script t ≡ st.cpu)
+  pub own : (o : Option ThreadNo) → IfSome o (λ t. RunsThere x.script x.lanes st t) → IfSome o (λ t. cpu_of x.script t ≡ st.cpu)
   own None h = tt
   own (Some t) h = h.own
 
-  job_stands : (j : Job) → IsAllowed x.lanes st j → JobStands st j
+  pub job_stands : (j : Job) → IsAllowed x.lanes st j → JobStands st j
   job_stands (job.Call c) h = h.1
   job_stands (job.Fire d) h = tt
   job_stands job.Drain h = tt

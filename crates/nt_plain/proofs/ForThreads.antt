@@ -76,7 +76,7 @@ module _ (x : AllStates) (st : Stand) where
   ends (Some (OnApc a UserApc)) h = h
   ends b h = tt
 
-  fits : (w : What) → Knows x st w → IsTrue (what_fits x.script w) → WhatFits (threads_of x) st w
+  pub fits : (w : What) → Knows x st w → IsTrue (what_fits x.script w) → WhatFits (threads_of x) st w
   fits (Call f c y) k h = by_call f c y k
   fits (Switch t status) k h = switches t status k
   fits (Rewait f y) k h = rewaits f y k

@@ -20,7 +20,7 @@ use Rattle.nt_event.specs.declared.jobs.Stand.{Stand}
 use Rattle.nt_event.specs.declared.numbers.ApcNo.{ApcNo}
 use Rattle.nt_event.specs.declared.numbers.DpcNo.{DpcNo}
 use Rattle.nt_event.specs.declared.numbers.ThreadNo.{ThreadNo}
-use Rattle.nt_event.specs.Acting.{IsCallable}
+use Rattle.nt_event.specs.Acting.{IsAllowed, IsCallable}
 use Rattle.nt_event.specs.Apcs.{deliverable, first_user}
 use Rattle.nt_event.specs.Commands.{reply}
 use Rattle.nt_event.specs.Jobs.{begin_apc, begin_dpc, begin_first, expire_key, idle_event, job_event, may_take, next_ready, ready, rewait_reply, rundown_event, switch_event, user_due}
@@ -32,9 +32,10 @@ use Rattle.nt_event.specs.Timers.{SetKey, first_due}
 use Rattle.nt_event.specs.Lists.{is_null, when}
 use Rattle.nt_event.proofs.Options.{Holds, holds_at, holds_else, holds_map, holds_or, holds_when, when_gives}
 use Rattle.nt_event.proofs.Ready.{next_ready_taken}
+use Rattle.nt_floor.specs.Acts.{job_fits}
 use Rattle.nt_timer.specs.Settings.{due_entry}
 use Rattle.nt_plain.specs.AllStates.{AllStates}
-use Rattle.nt_plain.specs.Given.{MayDo, MayMake}
+use Rattle.nt_plain.specs.Given.{MayMake}
 
 pub record KnownCall (x : AllStates) (st : Stand) (c : Command) (y : Reply) : Type 0 where
   pub answer : y ≡ reply x.script st x.lanes c
@@ -153,30 +154,35 @@ module _ (x : AllStates) (st : Stand) where
         carried = refl;
       })) (λ e. idles)
 
-  of_job : (j : Job) → MayDo x st j → Holds (Knows x st) (job_event x.script st x.lanes j)
-  of_job (CallJob c) m = record { answer = refl; fits = m.job; callable = m.allowed.1 }
-  of_job (FireJob d) m = record { answer = refl; fits = m.job }
-  of_job DrainJob m = drains
-  of_job ApcsJob m =
-      holds_else (Knows x st) (option_map begin_apc (deliverable (facts_of x.lanes st.thread).apcs st.regions st.level)) (Clean 1) (delivered m.allowed.thread)
+  of_job : (j : Job) → IsTrue (job_fits x.script j) → IsAllowed x.lanes st j → Holds (Knows x st) (job_event x.script st x.lanes j)
+  of_job (CallJob c) h a = record { answer = refl; fits = h; callable = a.1 }
+  of_job (FireJob d) h a = record { answer = refl; fits = h }
+  of_job DrainJob h a = drains
+  of_job ApcsJob h a =
+      holds_else (Knows x st) (option_map begin_apc (deliverable (facts_of x.lanes st.thread).apcs st.regions st.level)) (Clean 1) (delivered a.thread)
       (λ e. tt)
-  of_job ThreadedJob m =
+  of_job ThreadedJob h a =
       holds_else (Knows x st) (begin_first ThreadedPart (queue_at x.lanes st.cpu)) (Clean 0) (begins ThreadedPart) (λ e. tt)
-  of_job IdleJob m = idles
-  of_job (PickJob last) m = picks last
-  of_job (SwitchJob t) m =
-      holds_when (Knows x st) (may_take x.script st.cpu t x.lanes) (Some (switch_event t x.lanes)) (λ h. record { taken = h; carried = refl })
-  of_job RewaitJob m =
+  of_job IdleJob h a = idles
+  of_job (PickJob last) h a = picks last
+  of_job (SwitchJob t) h a =
+      holds_when (Knows x st) (may_take x.script st.cpu t x.lanes) (Some (switch_event t x.lanes)) (λ k. record { taken = k; carried = refl })
+  of_job RewaitJob h a =
       holds_map (Knows x st) (λ w. Rewait st.frame (rewait_reply st x.lanes w)) st.again
-      (λ w e. record { wait = w; again = e; runs = m.allowed.thread; level = m.allowed.level; answer = refl })
-  of_job ToUserJob m =
-      holds_else (Knows x st) (option_map begin_apc (user_due (facts_of x.lanes st.thread))) (Call st.frame ToUser Done) (to_user m.allowed.thread)
+      (λ w e. record { wait = w; again = e; runs = a.thread; level = a.level; answer = refl })
+  of_job ToUserJob h a =
+      holds_else (Knows x st) (option_map begin_apc (user_due (facts_of x.lanes st.thread))) (Call st.frame ToUser Done) (to_user a.thread)
       (λ e. record { answer = refl; fits = refl; callable = tt })
-  of_job UserEndJob m = m.allowed
-  of_job LeaveJob m = m.allowed
-  of_job RundownJob m = holds_map (Knows x st) (rundown_event x.lanes) st.thread (λ t e. runs_down t e)
+  of_job UserEndJob h a = a
+  of_job LeaveJob h a = a
+  of_job RundownJob h a = holds_map (Knows x st) (rundown_event x.lanes) st.thread (λ t e. runs_down t e)
 
--- the event of a job is known
+-- the event of a job is known: of one that fits and is allowed, wherever the processor's thread is
+pub knows_job : (x : AllStates) (st : Stand) (w : What) (j : Job) → IsTrue (job_fits x.script j) → IsAllowed x.lanes st j →
+    job_event x.script st x.lanes j ≡ Some w → Knows x st w
+knows_job x st w j h a e =
+    holds_at (Knows x st) (job_event x.script st x.lanes j) w (of_job x st j h a) e
+
+-- the event of one that may be done
 pub knows : (x : AllStates) (st : Stand) (w : What) → MayMake x st w → Knows x st w
-knows x st w g =
-    holds_at (Knows x st) (job_event x.script st x.lanes g.job) w (of_job x st g.job g.may) g.gives
+knows x st w g = knows_job x st w g.job g.may.job g.may.allowed g.gives

@@ -17,3 +17,5 @@ mod states;
 mod told;
 
 pub use plain::PlainFloor;
+pub use states::timing::leave as leave_timers;
+pub use told::tell_own;

@@ -8,7 +8,7 @@ ghost use Rattle.nt_plain.specs.Sound.{IsSound};
 
 mod answering;
 mod leaving;
-mod timing;
+pub(crate) mod timing;
 
 use nt_dpc_lanes::Dpcs;
 use nt_event::Script;

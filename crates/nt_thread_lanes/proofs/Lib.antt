@@ -1,4 +1,4 @@
-mod Allows
+pub mod Allows
 mod Changed
 mod Firsts
 mod Left

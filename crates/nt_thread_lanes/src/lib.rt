@@ -20,4 +20,5 @@ mod ready;
 mod telling;
 mod threads;
 
+pub use telling::named_thread;
 pub use threads::Threads;

@@ -6,8 +6,10 @@ ghost use Rattle.nt_plain.specs.Timed.{CallMayTime, MayTime, call_timed, delayed
 use nt_event::{Again, Command, Event, Reply, Stand, ThreadNo, What};
 use nt_timer::TimerQueue;
 
-/// What an event leaves of the timers.
-pub(super) fn leave(timers: &mut TimerQueue, n: u64, stand: &Stand, event: &Event)
+/// Takes in the event of this number, of a processor that stood so: the timers are then as it leaves them.
+///
+/// The event is one that a job gives in these timers. The time stays below 2^50, and grows by less than 2^32.
+pub fn leave(timers: &mut TimerQueue, n: u64, stand: &Stand, event: &Event)
     requires may { (s : Script) × MayTime s timers.old event.now event.now.what }
     requires time { timers.old.now + 2 ^ 32 ≤ 2 ^ 50 }
     ensures timers { timers.new ≡ timed n stand.now event.now.thread event.now.what timers.old }
