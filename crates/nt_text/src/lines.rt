@@ -6,6 +6,7 @@ ghost use Rattle.std.specs.Result.{result_map_both};
 ghost use Rattle.nt_text.specs.Lines.{is_byte, parts, fields, is_printable, row_of, first, needed, rest};
 
 use crate::kind::ScriptKind;
+use memchr::memchr;
 use std::marker::Model;
 
 /// A text of more bytes than this is not read.
@@ -18,12 +19,20 @@ fn place_of(byte: u8, bytes: &[u8]) -> Option<usize>
     bytes.iter().position(|b| *b == byte)
 }
 
-/// The part before the first such byte, and what comes after it, where there is one.
-fn cut(byte: u8, bytes: &[u8]) -> (&[u8], Option<&[u8]>)
+/// Where the first line ends.
+fn line_end(bytes: &[u8]) -> Option<usize>
+    ensures { result ≡ position (is_byte 10) bytes.now }
+{
+    memchr(b'\n', bytes)
+}
+
+/// The part before the first such byte, which stands at `place`, and what comes after it, where there is one.
+fn cut(byte: u8, bytes: &[u8], place: Option<usize>) -> (&[u8], Option<&[u8]>)
+    requires { place ≡ position (is_byte byte) bytes.now }
     ensures parts { parts byte bytes.now ≡ result.0.now ∷ option_map_or (λ r. parts byte r.now) result.1 [] }
     ensures whole { IfNone result.1 (result.0.now ≡ bytes.now) }
 {
-    match place_of(byte, bytes) {
+    match place {
         Some(end) => (&bytes[..end], Some(&bytes[end + 1..])),
         None => (bytes, None),
     }
@@ -46,11 +55,15 @@ pub struct Line<'a> {
     pub ended: bool,
 }
 
-/// Whether all bytes are 32 to 126.
+/// Whether all bytes are 32 to 126. It looks at each byte, so that many are tested at once.
 fn is_printable(bytes: &[u8]) -> bool
     ensures { result ≡ list_all is_printable bytes.now }
 {
-    bytes.iter().all(|b| 32 <= *b && *b <= 126)
+    let mut all = true;
+    for byte in bytes {
+        all &= 32 <= *byte && *byte <= 126;
+    }
+    all
 }
 
 impl<'a> Line<'a> {
@@ -106,7 +119,7 @@ impl<'a> Lines<'a> {
         if text.is_empty() {
             return None;
         }
-        let (bytes, rest) = cut(b'\n', text);
+        let (bytes, rest) = cut(b'\n', text, line_end(text));
         match rest {
             Some(rest) => {
                 self.rest = rest;
@@ -157,7 +170,7 @@ impl<'a> Fields<'a> {
         ensures rest { self.new ≡ drop 1 self.old }
     {
         let rest = self.rest?;
-        let (field, rest) = cut(b' ', rest);
+        let (field, rest) = cut(b' ', rest, place_of(b' ', rest));
         self.rest = rest;
         Some(field)
     }
