@@ -3,7 +3,7 @@ use Rattle.std.proofs.Common.{ap, inr, subst, sym, ◌∙◌}
 use Rattle.std.proofs.lemmas.List.{reverse-append, take_more}
 use Rattle.std.proofs.lemmas.Option.{get_or_from_slice_get, slice_get_within}
 use Rattle.std.proofs.Math.Seq.{take-length}
-use Rattle.std.specs.Prelude.{Bool, Err, IfErr, IfOk, IsTrue, List, Ok, Result, Some, [], false, length, reverse, slice_get, take, true, ℕ, ◌*◌, ◌++◌, ◌+◌, ◌<◌, ◌∷◌, ◌≡◌, ◌≤◌}
+use Rattle.std.specs.Prelude.{Bool, Err, IfErr, IfOk, IsTrue, List, Ok, OnOk, Result, Some, [], false, length, reverse, slice_get, take, true, ℕ, ◌*◌, ◌++◌, ◌+◌, ◌<◌, ◌∷◌, ◌≡◌, ◌≤◌}
 use Rattle.nt_event.specs.declared.events.Event.{Event}
 use Rattle.nt_event.specs.declared.events.Turn.{Turn}
 use Rattle.nt_event.specs.declared.limits.TheConstants.{EVENTS, TURNS}
@@ -19,7 +19,7 @@ use Rattle.nt_cpus.specs.Refusals.{kind_of}
 use Rattle.nt_cpus.specs.States.{CpusState}
 use Rattle.nt_cpus.specs.declared.refusals.CoreRefusal.{CoreRefusal}
 use Rattle.nt_cpus.proofs.Starting.{start_after}
-use Rattle.nt_check.specs.Verdicts.{IsFirstIllegal, IsVerdict, past_at}
+use Rattle.nt_check.specs.Verdicts.{IsFirstIllegal, IsVerdict, made_by, past_at}
 use Rattle.nt_check.specs.declared.checking.Verdict.TheVariants.{IllegalAt, Legal}
 
 -- ---- the first events of a history
@@ -50,6 +50,16 @@ IsMade c d t floor v other w e =
 
 abbrev pub IsUnmade : CpusState → Turn → Script → View → CoreRefusal → Type 0
 IsUnmade c t floor v r = (past : List Event) → AreAfter past c floor v → step c.script c.limit t past ≡ Err (kind_of r)
+
+pub made_ok : (c d : CpusState) (t : Turn) (floor other : Script) (v w : View) (r : Result (Unit {0}) CoreRefusal) (e : Event) →
+    OnOk r (IsMade c d t floor v other w e) → IfOk (made_by r e) (IsMade c d t floor v other w)
+made_ok c d t floor other v w (Ok u) e h = h
+made_ok c d t floor other v w (Err x) e h = tt
+
+pub made_err : (c : CpusState) (t : Turn) (floor : Script) (v : View) (r : Result (Unit {0}) CoreRefusal) (e : Event) → IfErr r (IsUnmade c t floor v) →
+    IfErr (made_by r e) (IsUnmade c t floor v)
+made_err c t floor v (Ok u) e h = tt
+made_err c t floor v (Err x) e h = h
 
 -- the event was made
 pub legal_next : (events : List Event) (n : ℕ) (e : Event) (c d : CpusState) (t : Turn) (floor other : Script) (v w : View)

@@ -1,8 +1,9 @@
 //! The check of a history.
 ghost use Rattle.std.specs.Prelude.{◌≡◌, ◌≤◌, ◌*◌, ◌↔◌, IfOk, IsTrue, Ok};
 ghost use Rattle.nt_event.specs.Script.{fits};
-ghost use Rattle.nt_check.specs.Verdicts.{IsVerdict};
+ghost use Rattle.nt_check.specs.Verdicts.{IsVerdict, made_by};
 
+use nt_cpu::no_event;
 use nt_cpus::{CoreRefusal, Processors, turn_of};
 use nt_event::limits::{EVENTS, TURNS};
 use nt_event::{Event, History, Script};
@@ -20,12 +21,12 @@ pub enum Verdict {
     IllegalAt(u64),
 }
 
-/// Whether this event was made, in all its fields.
-fn is_made(made: &Result<Event, CoreRefusal>, event: &Event) -> bool
-    ensures { IsTrue result ↔ (made.now ≡ Ok event.now) }
+/// Whether a turn was taken and made this event, in all its fields.
+fn is_made(taken: &Result<(), CoreRefusal>, made: &Event, event: &Event) -> bool
+    ensures { IsTrue result ↔ (made_by taken.now made.now ≡ Ok event.now) }
 {
-    match made {
-        Ok(made) => *made == *event,
+    match taken {
+        Ok(()) => *made == *event,
         Err(_) => false,
     }
 }
@@ -42,10 +43,11 @@ pub fn check(alloc: Global, script: &Script, history: &History) -> Result<Verdic
 {
     let mut processors = Processors::new(alloc, script, history.turns)?;
     let mut floor = PlainFloor::new(alloc, script, history.turns)?;
+    let mut made = no_event();
     let mut number = 0;
     for event in history.events.as_slice() {
-        let made = processors.turn(&mut floor, &turn_of(event));
-        if !is_made(&made, event) {
+        let taken = processors.turn(&mut floor, &turn_of(event), &mut made);
+        if !is_made(&taken, &made, event) {
             return Ok(Verdict::IllegalAt(number));
         }
         number += 1;

@@ -1,17 +1,19 @@
 //! The machine.
-ghost use Rattle.std.specs.Prelude.{◌≡◌, ◌≤◌, ◌<◌, ◌*◌, [], Err, IfErr, IfOk, IsTrue, Ok, OnErr, length, reverse, vec_capacity, ◌++◌, ◌∷◌};
+ghost use Rattle.std.specs.Prelude.{◌≡◌, ◌≤◌, ◌<◌, ◌*◌, [], Err, IfErr, IfOk, IsTrue, Ok, OnErr, OnOk, length, reverse, vec_capacity, ◌++◌, ◌∷◌};
 ghost use Rattle.nt_event.specs.Script.{fits};
 ghost use Rattle.nt_event.specs.Step.{IsRun, step};
 ghost use Rattle.nt_cpus.specs.Cycles.{last_cpu};
 ghost use Rattle.nt_cpus.specs.Refusals.{kind_of};
 ghost use Rattle.nt_core.specs.States.{with_event};
 
+use nt_cpu::no_event;
 use nt_cpus::{CoreRefusal, Processors};
 use nt_event::limits::{EVENTS, TURNS};
 use nt_event::{CpuNo, Event, History, Items, Script, Turn};
 use nt_plain::PlainFloor;
 use std::alloc::{AllocError, Global};
 use std::marker::Model;
+use std::slice::from_ref;
 
 /// A machine that runs a script by turns, with a limit on the events of each processor.
 #[derive(Drop)]
@@ -39,7 +41,7 @@ fn put(events: &mut Vec<Event>, event: &Event)
     ensures items { events.new.items ≡ events.old.items ++ event.now ∷ [] }
     ensures room { vec_capacity events.old ≤ vec_capacity events.new }
 {
-    let _ = events.extend_from_slice(&[*event]);
+    let _ = events.extend_from_slice(from_ref(event));
 }
 
 impl<'s> Core<'s> {
@@ -82,12 +84,25 @@ impl<'s> Core<'s> {
         ensures err { IfErr result (λ r. step self.old.script self.old.limit turn self.old.past ≡ Err (kind_of r)) }
         ensures same { OnErr result (self.new ≡ self.old) }
     {
-        let event = match self.processors.turn(&mut self.floor, &turn) {
-            Ok(event) => event,
+        let mut event = no_event();
+        match self.make(&turn, &mut event) {
+            Ok(()) => Ok(event),
+            Err(refusal) => Err(refusal),
+        }
+    }
+
+    /// Takes the turn as [`Core::turn`] does, and writes its event where the caller keeps it too.
+    pub(crate) fn make(&mut self, turn: &Turn, event: &mut Event) -> Result<(), CoreRefusal>
+        ensures ok { OnOk result ((step self.old.script self.old.limit turn.now self.old.past ≡ Ok event.new) × (self.new ≡ with_event event.new self.old)) }
+        ensures err { IfErr result (λ r. step self.old.script self.old.limit turn.now self.old.past ≡ Err (kind_of r)) }
+        ensures same { OnErr result (self.new ≡ self.old) }
+    {
+        match self.processors.turn(&mut self.floor, turn, event) {
+            Ok(()) => {}
             Err(refusal) => return Err(refusal),
-        };
-        put(&mut self.events, &event);
-        Ok(event)
+        }
+        put(&mut self.events, event);
+        Ok(())
     }
 
     /// The processor of the last event; None of the empty history.

@@ -7,6 +7,7 @@ ghost use Rattle.nt_core.specs.declared.refusals.ScheduleRefusal.{ScheduleRefusa
 
 use crate::machine::Core;
 use crate::refusals::ScheduleRefusal;
+use nt_cpu::no_event;
 use nt_event::limits::{EVENTS, TURNS};
 use nt_event::{History, ScheduleKind, Script, Turn};
 use std::alloc::Global;
@@ -44,8 +45,9 @@ pub fn replay(
         Ok(core) => core,
         Err(_) => return Err(ScheduleRefusal::NoMemory),
     };
+    let mut event = no_event();
     for turn in list {
-        if let Err(refusal) = core.turn(*turn) {
+        if let Err(refusal) = core.make(turn, &mut event) {
             return Err(core.bad(refusal.kind()));
         }
     }

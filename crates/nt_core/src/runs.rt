@@ -6,20 +6,21 @@ ghost use Rattle.nt_event.specs.Step.{IsRun, turn_of};
 ghost use Rattle.nt_core.specs.States.{with_event};
 
 use crate::machine::Core;
+use nt_cpu::no_event;
 use nt_event::limits::{EVENTS, TURNS};
 use nt_event::{Event, History, Script, Turn};
 use std::alloc::{AllocError, Global};
 
 impl<'s> Core<'s> {
-    /// Takes the turn of the robin rule.
-    fn follow(&mut self, turn: Turn) -> Event
-        requires { robin_in self.old.script self.old.limit self.old.past ≡ Some turn }
-        ensures turn { turn_of result ≡ turn }
-        ensures event { self.new ≡ with_event result self.old }
+    /// Takes the turn of the robin rule, and writes its event.
+    fn follow(&mut self, turn: &Turn, event: &mut Event)
+        requires { robin_in self.old.script self.old.limit self.old.past ≡ Some turn.now }
+        ensures turn { turn_of event.new ≡ turn.now }
+        ensures event { self.new ≡ with_event event.new self.old }
     {
         self.is_run();
-        match self.turn(turn) {
-            Ok(event) => event,
+        match self.make(turn, event) {
+            Ok(()) => {}
             Err(_) => unreachable!(),
         }
     }
@@ -38,8 +39,9 @@ pub fn run(alloc: Global, script: &Script, turns: u32) -> Result<History, AllocE
     ensures settled { IfOk result (λ h. is_settled script.now turns (reverse h.events) ≡ true) }
 {
     let mut core = Core::new(alloc, script, turns)?;
+    let mut event = no_event();
     while let Some(turn) = core.robin() {
-        let _ = core.follow(turn);
+        core.follow(&turn, &mut event);
         core.is_run();
     }
     core.is_run();

@@ -6,6 +6,7 @@ pub mod Kept
 pub mod Taken
 pub mod Alones
 pub mod Noticed
+pub mod Planned
 pub mod DueTasks
 pub mod ActedEvents
 pub mod SharedEvents

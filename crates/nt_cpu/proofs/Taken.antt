@@ -48,21 +48,21 @@ innermost_small n x f h k = go x.own refl k
         rw (← i) (All-head (IsSmall n) g gs (rw e at h.own))
 
 -- the record of what is left, field by field
-pub left_is : (c : CpuState) (n : ℕ) (due : Option ℕ) (e : Event) (told : List ℕ) (fs : Frames) (seen served : List ℕ) (rested : Bool) (took : Option ThreadNo)
+pub left_is : (c : CpuState) (n : ℕ) (due : Option ℕ) (e : Event) (told : ℕ → ℕ) (fs : Frames) (seen served : List ℕ) (rested : Bool) (took : Option ThreadNo)
     (fire : Option DpcNo) (sweep : Bool) → fs ≡ frames_after c.script n due e c.own.frames → seen
-    ≡ table 16 (λ k. max (value_at c.own.seen k) (value_at told k)) → served
+    ≡ table 16 (λ k. max (value_at c.own.seen k) (told k)) → served
     ≡ table 16 (λ k. served_after e.what k (value_at seen k) (value_at c.own.served k)) → rested ≡ is_rest e.what → took ≡ took_after e.what c.own.took → fire
     ≡ fire_after c.script e.what c.own.fire → sweep ≡ sweep_after e.what c.own.sweep →
     record c { own = record { made = c.own.made + 1; frames = fs; seen = seen; served = served; rested = rested; took = took; fire = fire; sweep = sweep } }
-    ≡ record c { own = own_with c.script n due e (λ k. max (value_at c.own.seen k) (value_at told k)) c.own }
+    ≡ record c { own = own_with c.script n due e (λ k. max (value_at c.own.seen k) (told k)) c.own }
 left_is c n due e told fs seen served rested took fire sweep a b d r t f w =
     λ i. record c { own = record { made = c.own.made + 1; frames = a i; seen = b i; served = s i; rested = r i; took = t i; fire = f i; sweep = w i } }
   where
-    value : (k : ℕ) → k < 16 → value_at seen k ≡ max (value_at c.own.seen k) (value_at told k)
+    value : (k : ℕ) → k < 16 → value_at seen k ≡ max (value_at c.own.seen k) (told k)
     value k h =
-        ap (λ (xs : List ℕ). value_at xs k) b ∙ get_or-table 16 k (λ k. max (value_at c.own.seen k) (value_at told k)) 0 h
+        ap (λ (xs : List ℕ). value_at xs k) b ∙ get_or-table 16 k (λ k. max (value_at c.own.seen k) (told k)) 0 h
 
-    s : served ≡ table 16 (λ k. served_after e.what k (max (value_at c.own.seen k) (value_at told k)) (value_at c.own.served k))
+    s : served ≡ table 16 (λ k. served_after e.what k (max (value_at c.own.seen k) (told k)) (value_at c.own.served k))
     s =
         d ∙ table-same 16 _ _ (λ k h. ap (λ (v : ℕ). served_after e.what k v (value_at c.own.served k)) (value k h))
 

@@ -1,6 +1,8 @@
 pub mod States
 pub mod Due
 pub mod Fits
+pub mod Notices
+pub mod Plans
 pub mod Leaves
 pub mod Alone
 pub mod GoodTasks

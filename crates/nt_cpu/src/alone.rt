@@ -6,12 +6,14 @@ ghost use Rattle.nt_event.specs.Step.{thread_field};
 ghost use Rattle.nt_event.specs.Lists.{value_at};
 ghost use Rattle.nt_floor.specs.Views.{HasWord, View};
 ghost use Rattle.nt_frame.specs.Nesting.{AreNamedBelow};
+ghost use Rattle.nt_cpu.specs.Notices.{HasClass, notice_of};
+ghost use Rattle.nt_cpu.specs.Plans.{what_in};
 ghost use Rattle.nt_cpu.specs.Alone.{IsAlone, IsMarkedFor, MayBe, alone_asks, alone_event, alone_level, ask_when as asked_when, call_asks as call_asks_of, call_level as call_level_of, is_normal_end as ends_normal, noticed as noticed_of};
 
 use crate::cpu::Cpu;
-use nt_event::{
-    ApcKind, Begun, Body, Command, CpuNo, Event, Level, Reply, Rises, Stand, ThreadNo, What,
-};
+use crate::notice::Notice;
+use crate::plan::Deed;
+use nt_event::{ApcKind, Begun, Body, Command, CpuNo, Event, Level, Reply, Stand, ThreadNo, What};
 use nt_floor::Words;
 
 /// A class of a processor for which an event asks.
@@ -76,21 +78,24 @@ fn thread(what: &What, running: Option<ThreadNo>) -> Option<ThreadNo>
 }
 
 /// What is noticed beside what was seen: the values of a look, and the processor's own ask.
-fn noticed(cpu: CpuNo, what: &What, asked: Option<Asked>, n: u64) -> Rises
+fn noticed<'w>(cpu: CpuNo, what: &'w What, asked: Option<Asked>, n: u64) -> Notice<'w>
     requires fits { n + 1 < 2 ^ 64 }
     requires class { IfSome asked (λ a. a.class < 16) }
-    ensures { (k : ℕ) → k < 16 → value_at result.value k ≡ noticed_of cpu what.now asked n k }
+    ensures value { (k : ℕ) → k < 16 → notice_of result k ≡ noticed_of cpu what.now asked n k }
+    ensures class { HasClass result }
 {
     if let What::Look { rises } = what {
-        return *rises;
+        return Notice::Values(rises);
     }
-    let mut value = [0; 16];
     if let Some(asked) = asked {
         if asked.cpu.0 == cpu.0 {
-            value[asked.class as usize] = n + 1;
+            return Notice::Own {
+                class: asked.class,
+                value: n + 1,
+            };
         }
     }
-    Rises { value }
+    Notice::Nothing
 }
 
 /// Marks the event of this number as asking for this.
@@ -213,34 +218,34 @@ impl<'s> Cpu<'s> {
         }
     }
 
-    /// Makes the event that does this and touches no lane: draws its number, and marks what it asks for.
-    pub(crate) fn make_alone<W: Words>(&mut self, words: &mut W, what: &What) -> Event
+    /// Makes the event that does this and touches no lane: draws its number, marks what it asks for, and writes it.
+    pub(crate) fn make_alone<W: Words>(&mut self, words: &mut W, deed: &Deed, event: &mut Event)
         requires room { self.old.own.made < self.old.limit }
         requires drawable { 1 ≤ (W.view words.old).drawable }
         requires cpus { (W.view words.old).cpus ≡ self.old.script.cpus }
         requires named { AreNamedBelow (W.view words.old).next self.old.own.frames }
-        requires may { MayBe self.old what.now }
-        ensures event { result ≡ alone_event self.old.cpu what.now self.old.own.frames }
-        ensures made { (n : ℕ) × (u : View) × IsAlone self.old self.new what.now n (W.view words.old) u (W.view words.new) }
+        requires may { MayBe self.old (what_in deed.now) }
+        ensures event { event.new ≡ alone_event self.old.cpu (what_in deed.now) self.old.own.frames }
+        ensures made { (n : ℕ) × (u : View) × IsAlone self.old self.new (what_in deed.now) n (W.view words.old) u (W.view words.new) }
         ensures grows { W.grows words.old words.new }
     {
-        let event = self.event(what);
-        let asked = self.asks(what);
-        let n = words.draw(&event);
+        self.write(deed, event);
+        let asked = self.asks(&event.what);
+        let n = words.draw(event);
         mark(words, asked, n);
-        self.take_up(&event, n, None, &noticed(self.cpu, what, asked, n));
-        event
+        self.take_up(event, n, None, &noticed(self.cpu, &event.what, asked, n));
     }
 
-    /// The event that does this and touches no lane.
-    fn event(&self, what: &What) -> Event
-        ensures { result ≡ alone_event self.now.cpu what.now self.now.own.frames }
+    /// Writes the event that does this and touches no lane.
+    fn write(&self, deed: &Deed, event: &mut Event)
+        ensures { event.new ≡ alone_event self.now.cpu (what_in deed.now) self.now.own.frames }
     {
-        Event {
+        let what = deed.what();
+        *event = Event {
             cpu: self.cpu,
-            thread: thread(what, self.frames.running()),
-            level: self.level_after(what),
-            what: *what,
-        }
+            thread: thread(&what, self.frames.running()),
+            level: self.level_after(&what),
+            what,
+        };
     }
 }

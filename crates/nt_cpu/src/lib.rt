@@ -17,13 +17,17 @@ mod due;
 mod framing;
 mod keeping;
 mod looks;
+mod notice;
+mod plan;
 mod shared;
 mod steps;
 mod taking;
 mod tasks;
 mod turn;
 mod values;
+mod writing;
 
 pub use cpu::Cpu;
 pub use steps::{Local, Turned};
 pub use turn::TurnRefusal;
+pub use writing::no_event;

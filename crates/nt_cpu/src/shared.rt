@@ -1,5 +1,5 @@
 //! Events that touch lanes.
-ghost use Rattle.std.specs.Prelude.{◌≡◌, ◌<◌, ◌≤◌, ℕ, true, IfErr, IfOk, IsErrOf, OnErr};
+ghost use Rattle.std.specs.Prelude.{◌≡◌, ◌<◌, ◌≤◌, ℕ, true, IfErr, OnOk, IsErrOf, OnErr};
 ghost use Rattle.nt_event.specs.Acting.{IsDue};
 ghost use Rattle.nt_event.specs.Own.{stand_in};
 ghost use Rattle.nt_floor.specs.declared.floor.ActRefusal.{ActRefusal};
@@ -10,22 +10,24 @@ ghost use Rattle.nt_cpu.specs.Steps.{Knows};
 ghost use Rattle.nt_cpu.specs.Turns.{IsShared, Serves};
 
 use crate::cpu::Cpu;
+use crate::notice::Notice;
 use nt_event::{Event, Job};
 use nt_floor::{ActRefusal, Floor};
 
 impl<'s> Cpu<'s> {
-    /// Has the floor make the event of a job, and takes it up.
+    /// Has the floor make the event of a job, takes it up, and writes it.
     pub(crate) fn make_shared<F: Floor>(
         &mut self,
         floor: &mut F,
         job: Job,
-    ) -> Result<Event, ActRefusal>
+        event: &mut Event,
+    ) -> Result<(), ActRefusal>
         requires room { self.old.own.made < self.old.limit }
         requires script { F.script floor.old ≡ self.old.script }
         requires serves { Serves self.old (F.view floor.old) }
         requires due { IsDue self.old.script self.old.cpu self.old.own job }
         requires good { GoodJob self.old job }
-        ensures ok { IfOk result (λ e. (f : Found) × (n : ℕ) × (IsShared self.old self.new job f n e (F.view floor.old) (F.view floor.new) × F.found floor.new n e (stand_in self.old.cpu self.old.own) f)) }
+        ensures ok { OnOk result ((f : Found) × (n : ℕ) × (IsShared self.old self.new job f n event.new (F.view floor.old) (F.view floor.new) × F.found floor.new n event.new (stand_in self.old.cpu self.old.own) f)) }
         ensures err { IfErr result (λ r. (f : Found) × F.shows floor.new (stand_in self.old.cpu self.old.own) job f × (Tells (F.view floor.old).states f.lanes × IsRefused self.old.script f (stand_in self.old.cpu self.old.own) job r)) }
         ensures same { OnErr result ((self.new ≡ self.old) × IsUnmoved (F.view floor.old) (F.view floor.new)) }
         ensures memory { (F.view floor.old).alone ≡ true → IsErrOf result ActRefusal.NoMemory → ⊥ }
@@ -35,7 +37,13 @@ impl<'s> Cpu<'s> {
     {
         self.sound();
         let acted = floor.act(job, self.standing())?;
-        self.take_up(&acted.event, acted.number, acted.due, &acted.told);
-        Ok(acted.event)
+        self.take_up(
+            &acted.event,
+            acted.number,
+            acted.due,
+            &Notice::Values(&acted.told),
+        );
+        *event = acted.event;
+        Ok(())
     }
 }

@@ -1,7 +1,10 @@
 //! Steps that a processor chooses by itself.
-ghost use Rattle.std.specs.Prelude.{◌≡◌, ◌<◌, ◌≤◌, ℕ, List, false, true, IfOk, IfErr, OnErr, IsErr, Some, length};
+ghost use Rattle.std.specs.Prelude.{◌≡◌, ◌<◌, ◌≤◌, ℕ, List, false, true, IfOk, IfErr, OnErr, IsErr, Some, if◌then◌else◌, length, nat_lt};
 ghost use Rattle.nt_event.specs.Jobs.{chosen_task as chosen_of};
-ghost use Rattle.nt_event.specs.Robin.{look_values};
+ghost use Rattle.std.specs.List.{list_any};
+ghost use Rattle.nt_event.specs.Robin.{is_behind, look_values};
+ghost use Rattle.nt_event.specs.declared.events.What.{What};
+ghost use Rattle.nt_cpu.specs.Plans.{planned};
 ghost use Rattle.nt_event.specs.Own.{stand_in};
 ghost use Rattle.nt_event.specs.Step.{is_cut};
 ghost use Rattle.nt_event.specs.Lists.{value_at};
@@ -10,13 +13,15 @@ ghost use Rattle.nt_event.specs.declared.jobs.Task.{Task};
 ghost use Rattle.nt_floor.specs.Acts.{Found};
 ghost use Rattle.nt_floor.specs.Views.{IsUnmoved, View};
 ghost use Rattle.nt_cpu.specs.declared.steps.Local.{Local};
-ghost use Rattle.nt_cpu.specs.Steps.{Advanced, AllLooked, AreLooked, IsStepped, Knows, local_task as local_of};
+ghost use Rattle.nt_cpu.specs.Steps.{Advanced, AllLooked, AreLooked, IsStepped, Knows};
 ghost use Rattle.nt_cpu.specs.Turns.{IsShared, Serves};
 
 use crate::cpu::Cpu;
 use crate::looks::some_rises;
+use crate::plan::{Deed, Plan};
+use crate::writing::no_event;
 use nt_event::class::is_used;
-use nt_event::{CpuNo, Event, Job, Rises, Task, What};
+use nt_event::{CpuNo, Event, Job, Rises};
 use nt_floor::{Floor, Words};
 use std::alloc::AllocError;
 
@@ -63,33 +68,41 @@ fn look_all<W: Words>(words: &mut W, cpu: CpuNo) -> [u64; 16]
 }
 
 impl<'s> Cpu<'s> {
-    /// The answers that are above what was seen; 0 for the other classes.
-    fn rises(&self, answers: &[u64; 16]) -> Rises
+    /// Whether one of these values, one for each of the 16 classes, is above what was seen.
+    pub fn is_behind(&self, answers: &[u64]) -> bool
+        requires { length answers.now ≡ 16 }
+        ensures { result ≡ is_behind self.now.own (value_at answers.now) }
+    {
+        self.seen.is_below(answers)
+    }
+
+    /// Those of these values, one for each of the 16 classes, that are above what was seen; 0 for the other classes.
+    pub fn rises(&self, answers: &[u64]) -> Rises
+        requires { length answers.now ≡ 16 }
         ensures { result.value ≡ look_values self.now.own (value_at answers.now) }
     {
         self.seen.below(answers)
     }
 
     /// What it chooses to do: nothing where it rests; a ready thread where one may be taken up; else what is next.
-    fn chosen_task(&self) -> Option<Task>
-        ensures { result ≡ chosen_of self.now.script self.now.cpu self.now.own }
+    fn chosen_task<'p>(&self) -> Option<Plan<'p>>
+        ensures { planned result ≡ chosen_of self.now.script self.now.cpu self.now.own }
     {
         if self.rests() {
             None
         } else if self.is_free() {
-            Some(Task::Shared(Job::Pick(self.took)))
+            Some(Plan::Shared(Job::Pick(self.took)))
         } else {
             self.task()
         }
     }
 
-    /// What it has to do after looks with these answers.
-    fn local_task(&self, answers: &[u64; 16]) -> Option<Task>
-        ensures { result ≡ local_of self.now answers.now }
+    /// What it has to do after looks that found these values risen.
+    fn local_task<'p>(&self, rises: &'p Rises) -> Option<Plan<'p>>
+        ensures { planned result ≡ (if list_any (λ v. nat_lt 0 v) rises.now.value then Some (Task.Alone (What.Look rises.now)) else chosen_of self.now.script self.now.cpu self.now.own) }
     {
-        let rises = self.rises(answers);
         if some_rises(&rises.value) {
-            Some(Task::Alone(What::Look { rises }))
+            Some(Plan::Alone(Deed::Look(rises)))
         } else {
             self.chosen_task()
         }
@@ -111,10 +124,15 @@ impl<'s> Cpu<'s> {
             return Local::Cut;
         }
         let answers = look_all(words, self.cpu);
-        match self.local_task(&answers) {
+        let rises = self.rises(&answers);
+        match self.local_task(&rises) {
             None => Local::Quiet,
-            Some(Task::Alone(what)) => Local::Did(self.make_alone(words, &what)),
-            Some(Task::Shared(job)) => Local::NeedsLane(job),
+            Some(Plan::Alone(deed)) => {
+                let mut event = no_event();
+                self.make_alone(words, &deed, &mut event);
+                Local::Did(event)
+            }
+            Some(Plan::Shared(job)) => Local::NeedsLane(job),
         }
     }
 
@@ -134,8 +152,9 @@ impl<'s> Cpu<'s> {
         ensures grows { F.grows floor.old floor.new }
     {
         self.sound();
-        match self.make_shared(floor, job) {
-            Ok(event) => Ok(event),
+        let mut event = no_event();
+        match self.make_shared(floor, job, &mut event) {
+            Ok(()) => Ok(event),
             Err(_) => Err(AllocError),
         }
     }

@@ -5,11 +5,13 @@ ghost use Rattle.nt_event.specs.Lists.{value_at};
 ghost use Rattle.nt_frame.specs.Nesting.{AreNamedBelow, AreNested};
 ghost use Rattle.nt_cpu.specs.Fits.{Allow};
 ghost use Rattle.nt_cpu.specs.Leaves.{own_with};
+ghost use Rattle.nt_cpu.specs.Notices.{HasClass, notice_of};
 
 use crate::cpu::Cpu;
 use crate::framing::apply;
 use crate::keeping::{fire_after, is_rest, serve, sweep_after, took_after};
-use nt_event::{Event, Rises};
+use crate::notice::Notice;
+use nt_event::Event;
 use nt_frame::Frames;
 
 /// The frames are nested, as their type keeps them.
@@ -20,20 +22,21 @@ fn nested(frames: &Frames)
 }
 
 impl<'s> Cpu<'s> {
-    /// The event of this number and due time happened, and these values were told beside it.
-    pub(crate) fn take_up(&mut self, event: &Event, n: u64, due: Option<u64>, told: &Rises)
+    /// The event of this number and due time happened, and this was noticed beside it.
+    pub(crate) fn take_up(&mut self, event: &Event, n: u64, due: Option<u64>, notice: &Notice)
         requires room { self.old.own.made < self.old.limit }
         requires number { AreNamedBelow n self.old.own.frames }
         requires due { IfSome due (λ d. d < 2 ^ 51) }
         requires thread { event.now.thread ≡ thread_field event.now.what self.old.own.frames.running }
+        requires class { HasClass notice.now }
         requires allow { Allow self.old.script event.now.what self.old.own.frames }
-        ensures { self.new ≡ record self.old { own = own_with self.old.script n due event.now (λ c. max (value_at self.old.own.seen c) (value_at told.now.value c)) self.old.own } }
+        ensures { self.new ≡ record self.old { own = own_with self.old.script n due event.now (λ c. max (value_at self.old.own.seen c) (notice_of notice.now c)) self.old.own } }
     {
         apply(&mut self.frames, self.script, event, n, due);
         nested(&self.frames);
         let what = &event.what;
         self.made += 1;
-        self.seen.raise(told);
+        self.seen.notice(notice);
         serve(&mut self.served, &self.seen, what);
         self.rested = is_rest(what);
         self.took = took_after(what, self.took);

@@ -10,10 +10,12 @@ ghost use Rattle.nt_event.specs.Classes.{interrupt_classes};
 ghost use Rattle.nt_event.specs.Routines.{next_command as next_of};
 ghost use Rattle.nt_event.specs.Regions.{regions_of};
 ghost use Rattle.nt_event.specs.Lists.{is_null, value_at};
+ghost use Rattle.nt_cpu.specs.Plans.{ServeFor, planned, task_in};
 
 use crate::cpu::Cpu;
 use crate::due::{due_interrupt, is_due};
-use nt_event::{ApcKind, Begun, Body, Command, Frame, Job, Level, Refusal, Reply, Task, What};
+use crate::plan::{Deed, Plan};
+use nt_event::{ApcKind, Body, Command, Frame, Job, Level, Refusal, Regions, Reply};
 use nt_frame::{Frames, refusal};
 
 impl<'s> Cpu<'s> {
@@ -39,14 +41,14 @@ impl<'s> Cpu<'s> {
     }
 
     /// The interrupt of this class begins, with the number of the ask that it serves.
-    fn interrupt(&self, class: u8) -> Task
+    fn interrupt<'p>(&self, class: u8) -> Plan<'p>
         requires level { class < 16 }
         requires asked { 0 < value_at self.now.own.seen class }
-        ensures { result ≡ Task.Alone (What.Begin (Begun.Int class) (value_at self.now.own.seen class - 1)) }
+        ensures { task_in result ≡ Task.Alone (What.Begin (Begun.Int class) (value_at self.now.own.seen class - 1)) }
     {
         match Level::new(class) {
-            Some(level) => Task::Alone(What::Begin {
-                begun: Begun::Int(level),
+            Some(level) => Plan::Alone(Deed::Interrupt {
+                level,
                 from: self.seen.get(class) - 1,
             }),
             None => unreachable!(),
@@ -75,23 +77,23 @@ impl<'s> Cpu<'s> {
     }
 
     /// What it must do before it goes on.
-    fn must_task(&self) -> Option<Task>
-        ensures { result ≡ must_of self.now.own }
+    fn must_task<'p>(&self) -> Option<Plan<'p>>
+        ensures { planned result ≡ must_of self.now.own }
     {
         if let Some(dpc) = self.fire {
-            return Some(Task::Shared(Job::Fire(dpc)));
+            return Some(Plan::Shared(Job::Fire(dpc)));
         }
         if let Some(class) = self.due_interrupt() {
             return Some(self.interrupt(class));
         }
         if self.may_drain() {
-            return Some(Task::Shared(Job::Drain));
+            return Some(Plan::Shared(Job::Drain));
         }
         if self.may_apcs() {
-            return Some(Task::Shared(Job::Apcs));
+            return Some(Plan::Shared(Job::Apcs));
         }
         if self.may_threaded() {
-            return Some(Task::Shared(Job::Threaded));
+            return Some(Plan::Shared(Job::Threaded));
         }
         None
     }
@@ -114,8 +116,8 @@ impl<'s> Cpu<'s> {
     }
 
     /// The next command of the innermost frame is refused, called alone, or a job.
-    fn command_task(&self, frame: &Frame) -> Option<Task>
-        ensures { result ≡ command_of self.now.own frame.now (next_of self.now.script self.now.cpu frame.now) }
+    fn command_task<'p>(&self, frame: &Frame) -> Option<Plan<'p>>
+        ensures { planned result ≡ command_of self.now.own frame.now (next_of self.now.script self.now.cpu frame.now) }
     {
         match self.script.next_command(self.cpu, frame) {
             Some(command) => Some(call_in(&self.frames, frame, &command)),
@@ -124,39 +126,39 @@ impl<'s> Cpu<'s> {
     }
 
     /// What the innermost frame has to do.
-    fn frame_task(&self, frame: &Frame) -> Option<Task>
-        ensures { result ≡ frame_of self.now.script self.now.cpu self.now.own frame.now }
+    fn frame_task<'p>(&self, frame: &Frame) -> Option<Plan<'p>>
+        ensures { planned result ≡ frame_of self.now.script self.now.cpu self.now.own frame.now }
     {
         if frame.again.is_some() {
-            return Some(Task::Shared(Job::Rewait));
+            return Some(Plan::Shared(Job::Rewait));
         }
         if frame.leaving {
-            return Some(Task::Shared(Job::Rundown));
+            return Some(Plan::Shared(Job::Rundown));
         }
         let command = self.command_task(frame);
         if command.is_some() {
             return command;
         }
         if frame.kernel_phase && has_normal(&frame.body) {
-            return Some(Task::Alone(What::Normal { frame: frame.name }));
+            return Some(Plan::Alone(Deed::Normal { frame: frame.name }));
         }
         Some(end_task(frame))
     }
 
     /// At rest with no running thread there is nothing to do; else ordinary DPCs, a needed Switch, or Rest.
-    fn idle_task(&self) -> Option<Task>
-        ensures { result ≡ idle_of self.now.own }
+    fn idle_task<'p>(&self) -> Option<Plan<'p>>
+        ensures { planned result ≡ idle_of self.now.own }
     {
         if !(self.rested && self.frames.running().is_none()) {
-            Some(Task::Shared(Job::Idle))
+            Some(Plan::Shared(Job::Idle))
         } else {
             None
         }
     }
 
     /// What it has to do next, or None where there is nothing.
-    pub(crate) fn task(&self) -> Option<Task>
-        ensures { result ≡ task_of self.now.script self.now.cpu self.now.own }
+    pub(crate) fn task<'p>(&self) -> Option<Plan<'p>>
+        ensures { planned result ≡ task_of self.now.script self.now.cpu self.now.own }
     {
         let must = self.must_task();
         if must.is_some() {
@@ -170,30 +172,44 @@ impl<'s> Cpu<'s> {
 }
 
 /// The call of this command in this innermost frame.
-fn call_in(frames: &Frames, frame: &Frame, command: &Command) -> Task
-    ensures { result ≡ call_of frame.now command.now (refusal_of (level_in frames.now) (not (is_null frames.now.own)) (regions_of (thread_part frames.now)) frame.now command.now) }
+fn call_in<'p>(frames: &Frames, frame: &Frame, command: &Command) -> Plan<'p>
+    ensures { task_in result ≡ call_of frame.now command.now (refusal_of (level_in frames.now) (not (is_null frames.now.own)) (regions_of (thread_part frames.now)) frame.now command.now) }
 {
-    let regions = frames.regions();
+    let regions = regions_for(frames, command);
     let refused = refusal(frames.level(), frames.has_own(), &regions, frame, command);
     call_task(frame, command, refused)
 }
 
-fn call_task(frame: &Frame, command: &Command, refusal: Option<Refusal>) -> Task
-    ensures { result ≡ call_of frame.now command.now refusal }
+/// The regions of the running thread where the refusal of the command depends on them; else none.
+fn regions_for(frames: &Frames, command: &Command) -> Regions
+    ensures { ServeFor result command.now frames.now }
+{
+    if let Command::ToUser = command {
+        return frames.regions();
+    }
+    Regions {
+        crit: 0,
+        guard: 0,
+        busy: false,
+    }
+}
+
+fn call_task<'p>(frame: &Frame, command: &Command, refusal: Option<Refusal>) -> Plan<'p>
+    ensures { task_in result ≡ call_of frame.now command.now refusal }
 {
     let reply = match refusal {
         Some(refusal) => Reply::Refused(refusal),
         None => {
             if matches!(command, Command::ToUser) {
-                return Task::Shared(Job::ToUser);
+                return Plan::Shared(Job::ToUser);
             }
             if command.needs_lane() {
-                return Task::Shared(Job::Call(*command));
+                return Plan::Shared(Job::Call(*command));
             }
             Reply::Done
         }
     };
-    Task::Alone(What::Call {
+    Plan::Alone(Deed::Call {
         frame: frame.name,
         command: *command,
         reply,
@@ -210,17 +226,17 @@ fn has_normal(body: &Body) -> bool
     )
 }
 
-fn end_task(frame: &Frame) -> Task
-    ensures { result ≡ end_of frame.now.name frame.now.body }
+fn end_task<'p>(frame: &Frame) -> Plan<'p>
+    ensures { task_in result ≡ end_of frame.now.name frame.now.body }
 {
     match &frame.body {
-        Body::Base(_) => Task::Shared(Job::Leave),
-        Body::Apc(_, ApcKind::User) => Task::Shared(Job::UserEnd),
+        Body::Base(_) => Plan::Shared(Job::Leave),
+        Body::Apc(_, ApcKind::User) => Plan::Shared(Job::UserEnd),
         Body::Int(_) | Body::Dpc(_) | Body::Threaded(_) | Body::Rundown(_) => {
-            Task::Alone(What::End { frame: frame.name })
+            Plan::Alone(Deed::End { frame: frame.name })
         }
         Body::Apc(_, ApcKind::Special) | Body::Apc(_, ApcKind::Normal) => {
-            Task::Alone(What::End { frame: frame.name })
+            Plan::Alone(Deed::End { frame: frame.name })
         }
     }
 }

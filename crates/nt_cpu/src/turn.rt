@@ -1,5 +1,5 @@
 //! Turns.
-ghost use Rattle.std.specs.Prelude.{◌≡◌, ◌&&◌, ℕ, true, IfErr, IfOk, IsErrOf, OnErr, Some};
+ghost use Rattle.std.specs.Prelude.{◌≡◌, ◌&&◌, ℕ, true, IfErr, IfOk, IsErrOf, OnErr, OnOk, Some};
 ghost use Rattle.nt_event.specs.Own.{stand_in};
 ghost use Rattle.nt_event.specs.Step.{cpu_at, is_cut};
 ghost use Rattle.nt_floor.specs.Acts.{Found};
@@ -11,11 +11,14 @@ ghost use Rattle.nt_event.specs.Jobs.{may_switch as switch_in};
 ghost use Rattle.nt_event.specs.Script.{has_thread};
 ghost use Rattle.nt_event.specs.Lists.{when};
 ghost use Rattle.nt_cpu.specs.declared.turn.TurnRefusal.{TurnRefusal};
+ghost use Rattle.nt_cpu.specs.Plans.{planned};
 ghost use Rattle.nt_cpu.specs.Turns.{IsTurned, IsTurnRefused, Serves, acts, rises as rises_in, turn_refusal as refusal_of, turn_task as task_of};
 
 use crate::cpu::Cpu;
 use crate::looks::rise;
-use nt_event::{Event, Job, Rises, Task, ThreadNo, Turn, What};
+use crate::plan::{Deed, Plan};
+use crate::writing::no_event;
+use nt_event::{Event, Job, Rises, ThreadNo, Turn};
 use nt_floor::{ActRefusal, Floor};
 
 /// Why a turn made no event.
@@ -51,8 +54,8 @@ impl<'s> Cpu<'s> {
     }
 
     /// What a turn has it do, or None where the turn is refused.
-    fn turn_task(&self, turn: &Turn) -> Option<Task>
-        ensures { result ≡ task_of self.now.script self.now.cpu self.now.own turn.now }
+    fn turn_task<'t>(&self, turn: &'t Turn) -> Option<Plan<'t>>
+        ensures { planned result ≡ task_of self.now.script self.now.cpu self.now.own turn.now }
     {
         match turn {
             Turn::Next(_) => self.task(),
@@ -62,22 +65,22 @@ impl<'s> Cpu<'s> {
     }
 
     /// A look, where some value rises and each that does is above what was seen.
-    fn look_task(&self, rises: &Rises) -> Option<Task>
-        ensures { result ≡ when (rises_in rises.now.value self.now.own.seen) (Some (Task.Alone (What.Look rises.now))) }
+    fn look_task<'t>(&self, rises: &'t Rises) -> Option<Plan<'t>>
+        ensures { planned result ≡ when (rises_in rises.now.value self.now.own.seen) (Some (Task.Alone (What.Look rises.now))) }
     {
         if rise(rises, &self.seen) {
-            Some(Task::Alone(What::Look { rises: *rises }))
+            Some(Plan::Alone(Deed::Look(rises)))
         } else {
             None
         }
     }
 
     /// A switch, where one may be made and the script has the thread.
-    fn switch_task(&self, thread: ThreadNo) -> Option<Task>
-        ensures { result ≡ when (switch_in self.now.own && has_thread self.now.script thread) (Some (Task.Shared (Job.Switch thread))) }
+    fn switch_task<'t>(&self, thread: ThreadNo) -> Option<Plan<'t>>
+        ensures { planned result ≡ when (switch_in self.now.own && has_thread self.now.script thread) (Some (Task.Shared (Job.Switch thread))) }
     {
         if self.is_free() && (thread.0 as usize) < self.script.threads.len() {
-            Some(Task::Shared(Job::Switch(thread)))
+            Some(Plan::Shared(Job::Switch(thread)))
         } else {
             None
         }
@@ -101,14 +104,41 @@ impl<'s> Cpu<'s> {
         ensures script { F.script floor.new ≡ F.script floor.old }
         ensures grows { F.grows floor.old floor.new }
     {
+        let mut event = no_event();
+        match self.turn_into(floor, choice, &mut event) {
+            Ok(()) => Ok(event),
+            Err(refusal) => Err(refusal),
+        }
+    }
+
+    /// Takes the turn as [`Cpu::turn`] does, and writes its event where the caller keeps it; after a refusal nothing was written.
+    pub fn turn_into<F: Floor>(
+        &mut self,
+        floor: &mut F,
+        choice: &Turn,
+        event: &mut Event,
+    ) -> Result<(), TurnRefusal>
+        requires names { cpu_at choice.now ≡ self.old.cpu }
+        requires script { F.script floor.old ≡ self.old.script }
+        requires serves { Serves self.old (F.view floor.old) }
+        ensures ok { OnOk result ((f : Found) × (n : ℕ) × (IsTurned self.old self.new choice.now f n event.new (F.view floor.old) (F.view floor.new) × (acts self.old choice.now ≡ true → F.found floor.new n event.new (stand_in self.old.cpu self.old.own) f))) }
+        ensures err { IfErr result (λ r. (f : Found) × (IsTurnRefused self.old choice.now f r (F.view floor.old) × (acts self.old choice.now ≡ true → (job : Job) → task_of self.old.script self.old.cpu self.old.own choice.now ≡ Some (Task.Shared job) → F.shows floor.new (stand_in self.old.cpu self.old.own) job f))) }
+        ensures same { OnErr result ((self.new ≡ self.old) × IsUnmoved (F.view floor.old) (F.view floor.new)) }
+        ensures memory { (F.view floor.old).alone ≡ true → IsErrOf result TurnRefusal.NoMemory → ⊥ }
+        ensures script { F.script floor.new ≡ F.script floor.old }
+        ensures grows { F.grows floor.old floor.new }
+    {
         self.sound();
         if self.is_cut() {
             return Err(TurnRefusal::NothingToDo);
         }
         match self.turn_task(choice) {
-            Some(Task::Alone(what)) => Ok(self.make_alone(floor, &what)),
-            Some(Task::Shared(job)) => match self.make_shared(floor, job) {
-                Ok(event) => Ok(event),
+            Some(Plan::Alone(deed)) => {
+                self.make_alone(floor, &deed, event);
+                Ok(())
+            }
+            Some(Plan::Shared(job)) => match self.make_shared(floor, job, event) {
+                Ok(()) => Ok(()),
                 Err(ActRefusal::NoMemory) => Err(TurnRefusal::NoMemory),
                 Err(_) => Err(turn_refusal(choice)),
             },

@@ -1,7 +1,10 @@
 //! A value for each request class.
-ghost use Rattle.std.specs.Prelude.{◌≡◌, ◌<◌, ℕ, if◌then◌else◌, length, max, nat_lt, slice_set};
+ghost use Rattle.std.specs.Prelude.{◌≡◌, ◌<◌, ◌==◌, ℕ, if◌then◌else◌, length, max, nat_lt, slice_set};
+ghost use Rattle.std.specs.List.{list_any};
 ghost use Rattle.nt_event.specs.Lists.{table, value_at};
+ghost use Rattle.nt_cpu.specs.Notices.{HasClass, notice_of};
 
+use crate::notice::Notice;
 use nt_event::Rises;
 use std::marker::Model;
 
@@ -35,11 +38,16 @@ impl Values {
         self.values[class as usize]
     }
 
-    /// The greater one of each two values.
-    pub fn raise(&mut self, rises: &Rises)
-        ensures { self.new ≡ table 16 (λ c. max (value_at self.old c) (value_at rises.now.value c)) }
+    /// The greater one of each value and what is noticed of its class.
+    pub fn notice(&mut self, notice: &Notice)
+        requires { HasClass notice.now }
+        ensures { self.new ≡ table 16 (λ c. max (value_at self.old c) (notice_of notice.now c)) }
     {
-        raise(&mut self.values, &rises.value);
+        match notice {
+            Notice::Nothing => {}
+            Notice::Own { class, value } => raise_one(&mut self.values, *class, *value),
+            Notice::Values(rises) => raise(&mut self.values, &rises.value),
+        }
     }
 
     /// The value of this class is the other's.
@@ -51,12 +59,21 @@ impl Values {
     }
 
     /// Which of these values are above these of the same class; 0 for the others.
-    pub fn below(&self, values: &[u64; 16]) -> Rises
+    pub fn below(&self, values: &[u64]) -> Rises
+        requires { length values.now ≡ 16 }
         ensures { result.value ≡ table 16 (λ c. if nat_lt (value_at self.now c) (value_at values.now c) then value_at values.now c else 0) }
     {
         Rises {
             value: above(values, &self.values),
         }
+    }
+
+    /// Whether one of these values is above that of the same class.
+    pub fn is_below(&self, values: &[u64]) -> bool
+        requires { length values.now ≡ 16 }
+        ensures { result ≡ list_any (λ v. nat_lt 0 v) (table 16 (λ c. if nat_lt (value_at self.now c) (value_at values.now c) then value_at values.now c else 0)) }
+    {
+        some_above(values, &self.values)
     }
 
     /// The values.
@@ -77,7 +94,30 @@ fn raise(values: &mut [u64; 16], rises: &[u64; 16])
     }
 }
 
-fn above(values: &[u64; 16], seen: &[u64; 16]) -> [u64; 16]
+fn raise_one(values: &mut [u64; 16], class: u8, value: u64)
+    requires { class < 16 }
+    ensures { values.new ≡ table 16 (λ c. max (value_at values.old c) (if class == c then value else 0)) }
+{
+    let place = class as usize;
+    if values[place] < value {
+        values[place] = value;
+    }
+}
+
+fn some_above(values: &[u64], seen: &[u64; 16]) -> bool
+    requires { length values.now ≡ 16 }
+    ensures { result ≡ list_any (λ v. nat_lt 0 v) (table 16 (λ c. if nat_lt (value_at seen.now c) (value_at values.now c) then value_at values.now c else 0)) }
+{
+    for i in 0..16 {
+        if seen[i] < values[i] {
+            return true;
+        }
+    }
+    false
+}
+
+fn above(values: &[u64], seen: &[u64; 16]) -> [u64; 16]
+    requires { length values.now ≡ 16 }
     ensures { result ≡ table 16 (λ c. if nat_lt (value_at seen.now c) (value_at values.now c) then value_at values.now c else 0) }
 {
     let mut rises = [0; 16];

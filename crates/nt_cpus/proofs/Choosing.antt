@@ -3,8 +3,9 @@ use Rattle.std.proofs.Common.{ap, arith, sym, ◌∙◌}
 use Rattle.std.proofs.lemmas.Bool.Decides.{nat_tests}
 use Rattle.std.specs.List.{list_all, list_any}
 use Rattle.std.specs.Option.{option_or}
-use Rattle.std.specs.Prelude.{Bool, List, None, Option, Some, false, if◌then◌else◌, is_none, is_some, nat_lt, not, refl, suc, true, ℕ, ◌&&◌, ◌<◌, ◌≡◌}
+use Rattle.std.specs.Prelude.{Bool, IfSome, List, None, Option, Some, false, if◌then◌else◌, is_none, is_some, nat_lt, not, refl, suc, true, ℕ, ◌&&◌, ◌<◌, ◌≡◌}
 use Rattle.nt_event.specs.declared.events.Event.{Event}
+use Rattle.nt_event.specs.declared.events.Rises.{Rises}
 use Rattle.nt_event.specs.declared.events.Turn.{Turn}
 use Rattle.nt_event.specs.declared.events.Turn.TheVariants.{Look as LookTurn}
 use Rattle.nt_event.specs.declared.numbers.CpuNo.{CpuNo}
@@ -13,7 +14,7 @@ use Rattle.nt_event.specs.Jobs.{rests}
 use Rattle.nt_event.specs.Lanes.{Lanes, lanes_at}
 use Rattle.nt_event.specs.Own.{Own, own_of}
 use Rattle.nt_event.specs.Requests.{asked}
-use Rattle.nt_event.specs.Robin.{go_on_turn, is_done_with, look_value, look_values, robin_at, robin_from, robin_of}
+use Rattle.nt_event.specs.Robin.{go_on_turn, is_behind, is_done_with, look_value, look_values, robin_at, robin_from, robin_of}
 use Rattle.nt_event.specs.Script.{has_cpu}
 use Rattle.nt_event.specs.Step.{IsRun, is_cut}
 use Rattle.nt_event.specs.Numbers.{cpu}
@@ -50,6 +51,37 @@ robin_found s floor limit p past c v l b h i e k u =
     ∙ (ap (λ (m : Lanes). robin_at s p (own_of s p past) m (v.value p)) lanes
     ∙ (ap (by_values s p (own_of s p past) (lanes_at s past)) (same_values (own_of s p past) (v.value p) (λ n. asked s p n past) values)
     ∙ sym (ap (λ (z : Bool). when (not z) (robin_at s p (own_of s p past) (lanes_at s past) (λ n. asked s p n past))) u))))
+
+-- the same, where the values are those of the floor
+pub values_turn : (s : Script) (p : CpuNo) (x : Own) (l : Lanes) (values : List ℕ) (asked : ℕ → ℕ) → ((k : ℕ) → k < 16 → value_at values k ≡ asked k) →
+    robin_at s p x l asked ≡ by_values s p x l (look_values x (value_at values))
+values_turn s p x l values asked h = ap (by_values s p x l) (sym (same_values x (value_at values) asked h))
+
+-- it looks
+pub looks_turn : (s : Script) (p : CpuNo) (x : Own) (l : Lanes) (values : List ℕ) (asked : ℕ → ℕ) (r : Rises) →
+    ((k : ℕ) → k < 16 → value_at values k ≡ asked k) → is_behind x (value_at values) ≡ true → r.value ≡ look_values x (value_at values) → Some (LookTurn p r)
+    ≡ robin_at s p x l asked
+looks_turn s p x l values asked r h b v =
+    ap (λ (vs : List ℕ). Some (LookTurn p (record { value = vs }))) v ∙ sym (values_turn s p x l values asked h ∙ rw b refl)
+
+-- it rests
+pub rests_turn : (s : Script) (p : CpuNo) (x : Own) (l : Lanes) (values : List ℕ) (asked : ℕ → ℕ) → ((k : ℕ) → k < 16 → value_at values k ≡ asked k) →
+    is_behind x (value_at values) ≡ false → rests x ≡ true → None ≡ robin_at s p x l asked
+rests_turn s p x l values asked h b r = sym (values_turn s p x l values asked h ∙ rw (b, r) refl)
+
+-- it goes on
+pub goes_turn : (s : Script) (p : CpuNo) (x : Own) (l : Lanes) (values : List ℕ) (asked : ℕ → ℕ) (t : Turn) → ((k : ℕ) → k < 16 → value_at values k ≡ asked k) →
+    is_behind x (value_at values) ≡ false → rests x ≡ false → t ≡ go_on_turn s p x l → Some t ≡ robin_at s p x l asked
+goes_turn s p x l values asked t h b r e =
+    ap (λ (u : Turn). Some u) e ∙ sym (values_turn s p x l values asked h ∙ rw (b, r) refl)
+
+pub every_lanes : {P : Lanes → Type 0} (o : Option Lanes) → ((l : Lanes) → P l) → IfSome o P
+every_lanes {P} None h = tt
+every_lanes {P} (Some l) h = h l
+
+pub those_lanes : {P Q : Lanes → Type 0} (o : Option Lanes) → ((l : Lanes) → P l → Q l) → IfSome o P → IfSome o Q
+those_lanes {P} {Q} None h i = tt
+those_lanes {P} {Q} (Some l) h i = h l i
 
 -- ---- the cycle
 

@@ -4,5 +4,4 @@ pub mod Stepping
 pub mod Choosing
 pub mod Starting
 pub mod Holding
-pub mod Looking
 pub mod Turning

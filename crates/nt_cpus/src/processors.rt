@@ -1,5 +1,5 @@
 //! The processors, and their turns.
-ghost use Rattle.std.specs.Prelude.{◌≡◌, ◌≤◌, ◌<◌, ◌*◌, ◌∷◌, [], Err, IfErr, IfOk, IsTrue, List, Ok, OnErr, true};
+ghost use Rattle.std.specs.Prelude.{◌≡◌, ◌≤◌, ◌<◌, ◌*◌, ◌∷◌, [], Err, IfErr, IfOk, IsTrue, List, Ok, OnErr, OnOk, true};
 ghost use Rattle.nt_event.specs.declared.events.Event.{Event};
 ghost use Rattle.nt_event.specs.declared.scripts.Script.{Script};
 ghost use Rattle.nt_event.specs.Own.{own_of};
@@ -66,12 +66,18 @@ impl<'s> Processors<'s> {
     /// Takes the turn over the floor: makes its event, or answers why there is none; then nothing changed. No memory is taken.
     ///
     /// The processors and the floor stand after some run; what comes is what the turn gives after it, and they stand after its event then.
-    /// NoSuchCpu comes where the script does not have the processor. NothingToDo comes where the processor made as many events as it
-    /// may, and for a turn Next where it rests or has to choose a thread; BadLook where no value rises, or one is not above what
-    /// was seen or was not asked for; BadChoice where the thread cannot be taken up or no choice may be made.
-    pub fn turn<F: OpenFloor>(&mut self, floor: &mut F, turn: &Turn) -> Result<Event, CoreRefusal>
+    /// The event is written where the caller keeps it. NoSuchCpu comes where the script does not have the processor. NothingToDo comes
+    /// where the processor made as many events as it may, and for a turn Next where it rests or has to choose a thread; BadLook where no
+    /// value rises, or one is not above what was seen or was not asked for; BadChoice where the thread cannot be taken up or no choice may
+    /// be made.
+    pub fn turn<F: OpenFloor>(
+        &mut self,
+        floor: &mut F,
+        turn: &Turn,
+        event: &mut Event,
+    ) -> Result<(), CoreRefusal>
         requires { AreSound self.old (F.script floor.old) (F.view floor.old) }
-        ensures ok { IfOk result (λ e. (past : List Event) → AreAfter past self.old (F.script floor.old) (F.view floor.old) → (step self.old.script self.old.limit turn.now past ≡ Ok e) × AreAfter (e ∷ past) self.new (F.script floor.new) (F.view floor.new)) }
+        ensures ok { OnOk result ((past : List Event) → AreAfter past self.old (F.script floor.old) (F.view floor.old) → (step self.old.script self.old.limit turn.now past ≡ Ok event.new) × AreAfter (event.new ∷ past) self.new (F.script floor.new) (F.view floor.new)) }
         ensures err { IfErr result (λ r. (past : List Event) → AreAfter past self.old (F.script floor.old) (F.view floor.old) → step self.old.script self.old.limit turn.now past ≡ Err (kind_of r)) }
         ensures same { OnErr result ((self.new ≡ self.old) × IsUnmoved (F.view floor.old) (F.view floor.new)) }
         ensures floor { F.script floor.new ≡ F.script floor.old }
@@ -87,7 +93,7 @@ impl<'s> Processors<'s> {
         if !is_asked(floor, turn) {
             return Err(CoreRefusal::BadLook);
         }
-        self.take(floor, turn)
+        self.take(floor, turn, event)
     }
 
     /// Whether the processor made as many events as it may.
@@ -100,22 +106,26 @@ impl<'s> Processors<'s> {
     }
 
     /// Takes the turn of a processor, the values of which were asked for.
-    fn take<F: OpenFloor>(&mut self, floor: &mut F, turn: &Turn) -> Result<Event, CoreRefusal>
+    fn take<F: OpenFloor>(
+        &mut self,
+        floor: &mut F,
+        turn: &Turn,
+        event: &mut Event,
+    ) -> Result<(), CoreRefusal>
         requires after { AreSound self.old (F.script floor.old) (F.view floor.old) }
         requires asked { (past : List Event) → AreAfter past self.old (F.script floor.old) (F.view floor.old) → was_asked_for self.old.script turn.now past ≡ true }
         requires cpu { (cpu_of_turn turn.now).0 < self.old.script.cpus }
-        ensures ok { IfOk result (λ e. (past : List Event) → AreAfter past self.old (F.script floor.old) (F.view floor.old) → (step self.old.script self.old.limit turn.now past ≡ Ok e) × AreAfter (e ∷ past) self.new (F.script floor.new) (F.view floor.new)) }
+        ensures ok { OnOk result ((past : List Event) → AreAfter past self.old (F.script floor.old) (F.view floor.old) → (step self.old.script self.old.limit turn.now past ≡ Ok event.new) × AreAfter (event.new ∷ past) self.new (F.script floor.new) (F.view floor.new)) }
         ensures err { IfErr result (λ r. (past : List Event) → AreAfter past self.old (F.script floor.old) (F.view floor.old) → step self.old.script self.old.limit turn.now past ≡ Err (kind_of r)) }
         ensures same { OnErr result ((self.new ≡ self.old) × IsUnmoved (F.view floor.old) (F.view floor.new)) }
         ensures floor { F.script floor.new ≡ F.script floor.old }
         ensures kept { (self.new.script ≡ self.old.script) × (self.new.limit ≡ self.old.limit) }
     {
         let place = cpu_at(turn).0 as usize;
-        let event = match self.cpus[place].turn(floor, turn) {
-            Ok(event) => event,
-            Err(refusal) => return Err(core_refusal(refusal)),
-        };
-        Ok(event)
+        if let Err(refusal) = self.cpus[place].turn_into(floor, turn, event) {
+            return Err(core_refusal(refusal));
+        }
+        Ok(())
     }
 }
 

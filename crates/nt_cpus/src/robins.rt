@@ -2,7 +2,7 @@
 ghost use Rattle.std.specs.Prelude.{◌≡◌, ◌<◌, IfSome, List, false};
 ghost use Rattle.nt_event.specs.declared.events.Event.{Event};
 ghost use Rattle.nt_event.specs.Lists.{when};
-ghost use Rattle.nt_event.specs.Robin.{first_cpu as first_of, go_on_turn, is_behind as behind, is_settled, look_values as values_of, robin as robin_in, robin_at, robin_of as robin_turn_of};
+ghost use Rattle.nt_event.specs.Robin.{first_cpu as first_of, go_on_turn, is_settled, robin as robin_in, robin_at, robin_of as robin_turn_of};
 ghost use Rattle.nt_event.specs.Script.{has_cpu};
 ghost use Rattle.nt_event.specs.Step.{is_cut};
 ghost use Rattle.nt_cpus.specs.Cycles.{last_cpu, next_cpu};
@@ -10,36 +10,8 @@ ghost use Rattle.nt_cpus.specs.Following.{AreAfter, AreSound};
 
 use crate::processors::Processors;
 use nt_cpu::Cpu;
-use nt_event::{CpuNo, Rises, Turn};
+use nt_event::{CpuNo, Turn};
 use nt_floor::OpenFloor;
-
-/// The values that were asked for and not seen, by class; 0 for the others.
-fn look_values<F: OpenFloor>(cpu: &Cpu, floor: &F, p: CpuNo) -> Rises
-    requires { p.0 < (F.view floor.now).cpus }
-    ensures { result.value ≡ values_of cpu.now.own ((F.view floor.now).value p) }
-{
-    let mut value = [0; 16];
-    for class in 0..16u8 {
-        let asked = floor.asked(p, class);
-        if cpu.seen_of(class) < asked {
-            value[class as usize] = asked;
-        }
-    }
-    Rises { value }
-}
-
-/// Whether some class has a request that was not seen.
-fn is_behind<F: OpenFloor>(cpu: &Cpu, floor: &F, p: CpuNo) -> bool
-    requires { p.0 < (F.view floor.now).cpus }
-    ensures { result ≡ behind cpu.now.own ((F.view floor.now).value p) }
-{
-    for class in 0..16u8 {
-        if cpu.seen_of(class) < floor.asked(p, class) {
-            return true;
-        }
-    }
-    false
-}
 
 /// The next ready thread is taken up where a thread may be and one is ready; else the next event is made.
 fn go_on<F: OpenFloor>(cpu: &Cpu, floor: &F, p: CpuNo) -> Turn
@@ -62,8 +34,9 @@ fn uncut_turn<F: OpenFloor>(cpu: &Cpu, floor: &F, p: CpuNo) -> Option<Turn>
     requires uncut { is_cut cpu.now.limit cpu.now.own ≡ false }
     ensures { IfSome (F.view floor.now).states (λ l. result ≡ robin_at (F.script floor.now) p cpu.now.own l ((F.view floor.now).value p)) }
 {
-    if is_behind(cpu, floor, p) {
-        return Some(Turn::Look(p, look_values(cpu, floor, p)));
+    let asked = floor.asked(p);
+    if cpu.is_behind(asked) {
+        return Some(Turn::Look(p, cpu.rises(asked)));
     }
     if cpu.rests() {
         return None;

@@ -4,15 +4,17 @@ use nt_event::{CpuNo, ThreadNo};
 
 /// A floor that tells its states, and whose requests, marks and ready threads are read without a step of anybody, as the floor in memory.
 pub trait OpenFloor: Floor {
-    ghost use Rattle.std.specs.Prelude.{◌≡◌, IfSome, Some};
+    ghost use Rattle.std.specs.Prelude.{◌≡◌, ◌<◌, IfSome, Some, length, ℕ};
+    ghost use Rattle.nt_event.specs.Lists.{value_at};
     ghost use Rattle.nt_event.specs.Jobs.{next_ready};
     ghost use Rattle.nt_event.specs.Lanes.{Lanes};
     ghost use Rattle.nt_floor.specs.Views.{HasWord};
 
-    /// The greatest request for a class of a processor; 0 is none.
-    fn asked(&self, p: CpuNo, class: u8) -> u64
-        requires { HasWord (Self.view self.now) p class }
-        ensures { result ≡ (Self.view self.now).value p class };
+    /// The greatest requests for a processor, one for each of the 16 classes; 0 is none.
+    fn asked(&self, p: CpuNo) -> &[u64]
+        requires { p.0 < (Self.view self.now).cpus }
+        ensures classes { length result.now ≡ 16 }
+        ensures values { (c : ℕ) → c < 16 → value_at result.now c ≡ (Self.view self.now).value p c };
 
     /// Whether the event of this number was marked as asking for a class of a processor.
     fn asks(&self, n: u64, p: CpuNo, class: u8) -> bool

@@ -8,8 +8,8 @@ impl<'s> OpenFloor for PlainFloor<'s> {
 
     ghost tells = { λ x. (x.lanes, refl) };
 
-    fn asked(&self, p: CpuNo, class: u8) -> u64 {
-        self.word(p, class)
+    fn asked(&self, p: CpuNo) -> &[u64] {
+        self.words_of(p)
     }
 
     fn asks(&self, n: u64, p: CpuNo, class: u8) -> bool {

@@ -1,5 +1,6 @@
 //! The floor in memory, and the calls on its parts.
-ghost use Rattle.std.specs.Prelude.{◌≡◌, ◌*◌, ◌+◌, ◌<◌, ◌≤◌, IfOk, IsTrue, false, ◌↔◌};
+ghost use Rattle.std.specs.Prelude.{◌≡◌, ◌*◌, ◌+◌, ◌<◌, ◌≤◌, ℕ, IfOk, IsTrue, false, length, ◌↔◌};
+ghost use Rattle.nt_event.specs.Lists.{value_at};
 ghost use Rattle.nt_event.specs.Jobs.{next_ready};
 ghost use Rattle.nt_event.specs.Lanes as lanes;
 ghost use Rattle.nt_event.specs.Script.{fits};
@@ -119,6 +120,15 @@ impl<'s> PlainFloor<'s> {
         ensures { IsTrue result ↔ HasWord (view_of self.now) p class }
     {
         p.0 < self.states.whole_script().cpus && class < 16
+    }
+
+    /// The words of a processor, one for each class.
+    pub(crate) fn words_of(&self, p: CpuNo) -> &[u64]
+        requires { p.0 < (view_of self.now).cpus }
+        ensures classes { length result.now ≡ 16 }
+        ensures values { (c : ℕ) → c < 16 → value_at result.now c ≡ (view_of self.now).value p c }
+    {
+        self.asked.row(p)
     }
 
     /// Whether the event of this number has the mark; one that may not be drawn has none.

@@ -1,5 +1,6 @@
 //! The request words: for each processor and class the greatest request so far.
-ghost use Rattle.std.specs.Prelude.{◌≡◌, ◌+◌, ◌*◌, ◌<◌, All, IfOk, length, replicate};
+ghost use Rattle.std.specs.Prelude.{◌≡◌, ◌+◌, ◌*◌, ◌<◌, ◌≤◌, ℕ, All, IfOk, length, replicate};
+ghost use Rattle.nt_event.specs.Lists.{value_at};
 ghost use Rattle.nt_states.specs.LaneLists.{as_asks};
 ghost use Rattle.nt_plain.specs.Made.{raised_word, raised_words};
 ghost use Rattle.nt_plain.specs.Places.{value_in, word_place};
@@ -39,6 +40,16 @@ impl RequestWords {
         ensures { result ≡ value_in self.now p class }
     {
         self.values[place(p, class)]
+    }
+
+    /// The words of a processor, one for each class.
+    pub(crate) fn row(&self, p: CpuNo) -> &[u64]
+        requires { 16 * p.0 + 16 ≤ length self.now }
+        ensures classes { length result.now ≡ 16 }
+        ensures values { (c : ℕ) → c < 16 → value_at result.now c ≡ value_in self.now p c }
+    {
+        let first = place(p, 0);
+        &self.values[first..first + 16]
     }
 
     /// Raises the word of a processor and class to a value.

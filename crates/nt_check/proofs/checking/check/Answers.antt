@@ -3,8 +3,8 @@ use Rattle.std.specs.Prelude.{List, Some, length, refl, slice_get, ℕ, ◌+◌}
 use Rattle.std.proofs.lemmas.Option.{slice_get_read}
 use Rattle.nt_event.specs.declared.events.Event.{Event}
 use Rattle.nt_plain.specs.States.{view_of}
-use Rattle.nt_check.specs.Verdicts.{IsFirstIllegal}
-use Rattle.nt_check.proofs.Stepping.{all_unsettled, illegal_here, legal_next}
+use Rattle.nt_check.specs.Verdicts.{IsFirstIllegal, made_by}
+use Rattle.nt_check.proofs.Stepping.{all_unsettled, illegal_here, legal_next, made_err, made_ok}
 use Rattle.nt_check.proofs.checking.check.Goals as goal
 
 pub returns-then-not-is_made : goal.returns-then-not-is_made
@@ -17,9 +17,9 @@ returns-then-not-is_made c =
     inl (
       e,
       subst (λ (n : ℕ). IsFirstIllegal c.args.script.now c.args.history.now.turns c.args.history.now.events n e) (sym i.number)
-          (illegal_here c.args.script.now c.args.history.now.turns c.args.history.now.events c.loop-event.event-index e c.loop-event.processors c.turn-made.new.self
-          c.turn_of.result _ _ (view_of c.loop-event.floor) (view_of c.turn-made.new.floor) c.turn-made.result i.after i.script i.limit there c.turn_of.ensures
-          c.turn-made.ensures.ok c.turn-made.ensures.err (λ k. let z = c.is_made.ensures.1 k in let y = c.if-not-is_made.true in cc)),
+          (illegal_here c.args.script.now c.args.history.now.turns c.args.history.now.events c.loop-event.event-index e c.loop-event.processors c.turn-taken.new.self
+          c.turn_of.result _ _ (view_of c.loop-event.floor) (view_of c.turn-taken.new.floor) (made_by c.turn-taken.result c.turn-taken.new.event) i.after i.script i.limit there c.turn_of.ensures
+          (made_ok c.loop-event.processors c.turn-taken.new.self c.turn_of.result _ _ (view_of c.loop-event.floor) (view_of c.turn-taken.new.floor) c.turn-taken.result c.turn-taken.new.event c.turn-taken.ensures.ok) (made_err c.loop-event.processors c.turn_of.result _ (view_of c.loop-event.floor) c.turn-taken.result c.turn-taken.new.event c.turn-taken.ensures.err) (λ k. let z = c.is_made.ensures.1 k in let y = c.if-not-is_made.true in cc)),
     )
 
 pub loop-event-preserved : goal.loop-event-preserved
@@ -30,11 +30,11 @@ loop-event-preserved c =
     (λ (xs : List Event). slice_get xs c.loop-event.event-index ≡ Some e) c.as_slice-event-items.ensures
     (slice_get_read _ _ c.loop-event.event-index e refl c.loop-event-test.true c.event-item.is) in
     record {
-      after = legal_next c.args.history.now.events c.loop-event.event-index e c.loop-event.processors c.turn-made.new.self c.turn_of.result _ _
-          (view_of c.loop-event.floor) (view_of c.turn-made.new.floor) c.turn-made.result i.after there c.turn-made.ensures.ok
+      after = legal_next c.args.history.now.events c.loop-event.event-index e c.loop-event.processors c.turn-taken.new.self c.turn_of.result _ _
+          (view_of c.loop-event.floor) (view_of c.turn-taken.new.floor) (made_by c.turn-taken.result c.turn-taken.new.event) i.after there (made_ok c.loop-event.processors c.turn-taken.new.self c.turn_of.result _ _ (view_of c.loop-event.floor) (view_of c.turn-taken.new.floor) c.turn-taken.result c.turn-taken.new.event c.turn-taken.ensures.ok)
           (c.is_made.ensures.0 (let y = c.if-not-is_made.false in cc));
-      script = c.turn-made.ensures.kept.0 ∙ i.script;
-      limit = c.turn-made.ensures.kept.1 ∙ i.limit;
+      script = c.turn-taken.ensures.kept.0 ∙ i.script;
+      limit = c.turn-taken.ensures.kept.1 ∙ i.limit;
       number = ap (λ (n : ℕ). n + 1) i.number;
     }
 

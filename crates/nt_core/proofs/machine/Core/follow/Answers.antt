@@ -6,4 +6,4 @@ pub unreachable-requires : goal.unreachable-requires
 unreachable-requires c = never_refused _ _ _ _ _ c.is_run.ensures.run c.requires c.in-Err.ensures.err
 
 pub returns-clause-turn : goal.returns-clause-turn
-returns-clause-turn c = turn_same _ _ _ _ c.in-Ok.event c.in-Ok.ensures.ok.0
+returns-clause-turn c = turn_same _ _ _ _ c.make.new.event c.in-Ok.ensures.ok.0

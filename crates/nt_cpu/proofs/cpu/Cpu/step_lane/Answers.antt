@@ -1,6 +1,5 @@
 use Rattle.std.proofs.Common.{ap}
 use Rattle.std.specs.Prelude.{Err, Result}
-use Rattle.nt_event.specs.declared.events.Event.{Event}
 use Rattle.nt_event.specs.declared.jobs.Task.TheVariants.{Shared}
 use Rattle.nt_event.specs.Jobs.{chosen_task}
 use Rattle.nt_event.specs.Own.{stand_in}
@@ -24,6 +23,6 @@ returns-in-Err-clause-memory g c =
     let s : CpuState = c.args.self.now in
     let e = c.in-Err.ensures.err in
     let m = c.in-Err.ensures.memory in
-    let err : ActRefusal → Result Event ActRefusal = (λ r. Err r) in
+    let err : ActRefusal → Result (Unit {0}) ActRefusal = (λ r. Err r) in
     λ a q. m a (ap err (refused_memory s.script e.0 (stand_in s.cpu s.own) c.args.job c.in-Err.field-0
     (never_refused s c.args.job c.sound.ensures c.requires.job) e.2.1))

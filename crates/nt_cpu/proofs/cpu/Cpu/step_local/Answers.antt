@@ -5,9 +5,11 @@ use Rattle.nt_event.specs.declared.numbers.CpuNo.{CpuNo}
 use Rattle.nt_event.specs.Step.{is_cut}
 use Rattle.nt_event.proofs.Options.{holds_at}
 use Rattle.nt_cpu.specs.GoodTasks.{GoodTask}
+use Rattle.nt_cpu.specs.Plans.{planned, what_in}
 use Rattle.nt_cpu.specs.States.{CpuState}
 use Rattle.nt_cpu.specs.Steps.{AllLooked, local_task}
 use Rattle.nt_cpu.proofs.Knowing.{has_words, knows_alone, knows_looked, knows_of, serves_looked}
+use Rattle.nt_cpu.proofs.Planned.{local_is, planned_alone, planned_none}
 use Rattle.nt_cpu.proofs.StepsMade.{look_known, step_alone, step_good, step_none}
 use Rattle.nt_cpu.proofs.cpu.Cpu.step_local.Goals as goal
 
@@ -15,9 +17,10 @@ pub make_alone-requires-clause-may : goal.make_alone-requires-clause-may
 make_alone-requires-clause-may g c =
     let s : CpuState = c.args.self.now in
     let xs = c.look_all-answers.result in
-    let w = c.in-Some-Alone.what in
+    let w = what_in c.in-Some-Alone.deed in
     holds_at (GoodTask s) (local_task s xs) (Alone w) (step_good s xs c.sound.ensures)
-    (sym c.local_task.ensures ∙ (c.in-Some-Alone.is ∙ ap Some c.in-Some-Alone.field-0-is))
+    (sym (local_is s xs c.rises-rises.result (planned c.local_task.result) c.rises-rises.ensures c.local_task.ensures)
+    ∙ planned_alone c.local_task.result c.in-Some-Alone.deed (c.in-Some-Alone.is ∙ ap Some c.in-Some-Alone.field-0-is))
 
 pub returns-in-None-clause-knows : goal.returns-in-None-clause-knows
 returns-in-None-clause-knows g c =
@@ -35,14 +38,15 @@ returns-in-Some-Alone-clause-step g c =
     let xs = c.look_all-answers.result in
     let v = g.W.Words.view c.args.words.now in
     let u = g.W.Words.view c.look_all-answers.new.words in
-    let w = c.in-Some-Alone.what in
+    let w = what_in c.in-Some-Alone.deed in
     let cut : is_cut s.limit s.own ≡ false = sym c.is_cut.ensures ∙ c.if-is_cut.false in
-    let task : local_task s xs ≡ Some (Alone w) = sym c.local_task.ensures ∙ (c.in-Some-Alone.is ∙ ap Some c.in-Some-Alone.field-0-is) in
+    let task : local_task s xs ≡ Some (Alone w) = sym (local_is s xs c.rises-rises.result (planned c.local_task.result) c.rises-rises.ensures c.local_task.ensures)
+    ∙ planned_alone c.local_task.result c.in-Some-Alone.deed (c.in-Some-Alone.is ∙ ap Some c.in-Some-Alone.field-0-is) in
     let looks = subst (λ (p : CpuNo). AllLooked p xs v u) (ap (λ (x : CpuState). x.cpu) c.self.view_is) c.look_all-answers.ensures.looks in
     let m = c.make_alone.ensures.made in (
       xs,
       u,
-      step_alone s c.make_alone.new.self xs w c.make_alone.result m.0 v u m.1 (g.W.Words.view c.make_alone.new.words) c.sound.ensures
+      step_alone s c.make_alone.new.self xs w c.make_alone.new.event m.0 v u m.1 (g.W.Words.view c.make_alone.new.words) c.sound.ensures
           (serves_looked s xs v u (has_words s v c.sound.ensures c.requires.serves.cpus) c.requires.serves looks) cut task looks c.make_alone.ensures.event m.2,
     )
 
@@ -52,8 +56,9 @@ returns-in-Some-Alone-clause-knows g c =
     let xs = c.look_all-answers.result in
     let v = g.W.Words.view c.args.words.now in
     let u = g.W.Words.view c.look_all-answers.new.words in
-    let w = c.in-Some-Alone.what in
-    let task : local_task s xs ≡ Some (Alone w) = sym c.local_task.ensures ∙ (c.in-Some-Alone.is ∙ ap Some c.in-Some-Alone.field-0-is) in
+    let w = what_in c.in-Some-Alone.deed in
+    let task : local_task s xs ≡ Some (Alone w) = sym (local_is s xs c.rises-rises.result (planned c.local_task.result) c.rises-rises.ensures c.local_task.ensures)
+    ∙ planned_alone c.local_task.result c.in-Some-Alone.deed (c.in-Some-Alone.is ∙ ap Some c.in-Some-Alone.field-0-is) in
     let looks = subst (λ (p : CpuNo). AllLooked p xs v u) (ap (λ (x : CpuState). x.cpu) c.self.view_is) c.look_all-answers.ensures.looks in
     let here = has_words s v c.sound.ensures c.requires.serves.cpus in
     let there = has_words s u c.sound.ensures (looks.same.cpus ∙ c.requires.serves.cpus) in
@@ -93,5 +98,5 @@ returns-in-None-clause-step g c =
     let u = g.W.Words.view c.look_all-answers.new.words in
     let looks = subst (λ (p : CpuNo). AllLooked p xs v u) (ap (λ (x : CpuState). x.cpu) c.self.view_is) c.look_all-answers.ensures.looks in
     let cut : is_cut s.limit s.own ≡ false = sym c.is_cut.ensures ∙ c.if-is_cut.false in
-    let task : local_task s xs ≡ None = sym c.local_task.ensures ∙ c.in-None.is in
+    let task : local_task s xs ≡ None = sym (local_is s xs c.rises-rises.result (planned c.local_task.result) c.rises-rises.ensures c.local_task.ensures) ∙ planned_none c.local_task.result c.in-None.is in
     (xs, u, step_none s xs v u c.sound.ensures cut task looks)

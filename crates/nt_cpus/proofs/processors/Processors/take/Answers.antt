@@ -14,7 +14,7 @@ use Rattle.nt_cpus.proofs.Holding.{cpus_held}
 use Rattle.nt_cpus.proofs.Turning.{taken_after, taken_step, taker_held, taker_served, untaken_step}
 use Rattle.nt_cpus.proofs.processors.Processors.take.Goals as goal
 
-abbrev failed : TurnRefusal → Result Event TurnRefusal
+abbrev failed : TurnRefusal → Result (Unit {0}) TurnRefusal
 failed z = Err z
 
 pub index_mut-requires : goal.index_mut-requires
@@ -28,8 +28,8 @@ index_mut-requires g c =
     let e = ap (λ (q : CpuNo). q.0) c.cpu_at-place.ensures in
     omega (arith, n, o, b, e)
 
-pub turn-requires-clause-names : goal.turn-requires-clause-names
-turn-requires-clause-names g c =
+pub turn_into-requires-clause-names : goal.turn_into-requires-clause-names
+turn_into-requires-clause-names g c =
     let i = subst (λ (x : CpusState). AreAfter c.requires.after.0 x (g.F.Floor.script c.args.floor.now) (g.F.Words.view c.args.floor.now)) (sym c.self.view_is)
     c.requires.after.1 in
     let b : (cpu_at c.args.turn.now).0 < c.self.inside.script.now.cpus = subst (λ (x : CpusState). (cpu_at c.args.turn.now).0 < x.script.cpus)
@@ -37,8 +37,8 @@ turn-requires-clause-names g c =
     let h = taker_held _ _ _ _ c.args.turn.now c.cpu_at-place.result _ _ i b c.cpu_at-place.ensures c.index_mut.ensures.value in
     sym (ap (λ (x : CpuState). x.cpu) h)
 
-pub turn-requires-clause-script : goal.turn-requires-clause-script
-turn-requires-clause-script g c =
+pub turn_into-requires-clause-script : goal.turn_into-requires-clause-script
+turn_into-requires-clause-script g c =
     let i = subst (λ (x : CpusState). AreAfter c.requires.after.0 x (g.F.Floor.script c.args.floor.now) (g.F.Words.view c.args.floor.now)) (sym c.self.view_is)
     c.requires.after.1 in
     let b : (cpu_at c.args.turn.now).0 < c.self.inside.script.now.cpus = subst (λ (x : CpusState). (cpu_at c.args.turn.now).0 < x.script.cpus)
@@ -46,8 +46,8 @@ turn-requires-clause-script g c =
     let h = taker_held _ _ _ _ c.args.turn.now c.cpu_at-place.result _ _ i b c.cpu_at-place.ensures c.index_mut.ensures.value in
     i.same ∙ sym (ap (λ (x : CpuState). x.script) h)
 
-pub turn-requires-clause-serves : goal.turn-requires-clause-serves
-turn-requires-clause-serves g c =
+pub turn_into-requires-clause-serves : goal.turn_into-requires-clause-serves
+turn_into-requires-clause-serves g c =
     let i = subst (λ (x : CpusState). AreAfter c.requires.after.0 x (g.F.Floor.script c.args.floor.now) (g.F.Words.view c.args.floor.now)) (sym c.self.view_is)
     c.requires.after.1 in
     let b : (cpu_at c.args.turn.now).0 < c.self.inside.script.now.cpus = subst (λ (x : CpusState). (cpu_at c.args.turn.now).0 < x.script.cpus)
@@ -58,18 +58,18 @@ turn-requires-clause-serves g c =
 pub returns-clause-ok : goal.returns-clause-ok
 returns-clause-ok g c past k =
     let v = g.F.Words.view c.args.floor.now in
-    let w = g.F.Words.view c.turn.new.floor in
+    let w = g.F.Words.view c.turn_into.new.floor in
     let i = subst (λ (x : CpusState). AreAfter past x (g.F.Floor.script c.args.floor.now) v) (sym c.self.view_is) k in
     let b : (cpu_at c.args.turn.now).0 < c.self.inside.script.now.cpus = subst (λ (x : CpusState). (cpu_at c.args.turn.now).0 < x.script.cpus)
     (sym c.self.view_is) c.requires.cpu in
     let a = subst (λ (x : CpusState). is_asked x.script c.args.turn.now past ≡ true) (sym c.self.view_is) (c.requires.asked past k) in
     let h = taker_held _ _ _ _ c.args.turn.now c.cpu_at-place.result _ _ i b c.cpu_at-place.ensures c.index_mut.ensures.value in
-    let m = c.in-Ok.ensures.ok in
-    let tells = g.met.F.OpenFloor.tells c.turn.new.floor in
-    let s = taken_step past _ _ v w c.args.turn.now _ c.turn.new.self m.0 m.1 c.in-Ok.event i b a h m.2.0 in (
-      subst (λ (x : CpusState). step x.script x.limit c.args.turn.now past ≡ Ok c.in-Ok.event) c.self.view_is s,
-      taken_after past _ _ _ v w c.args.turn.now c.cpu_at-place.result _ c.turn.new.self m.0 m.1 c.in-Ok.event tells.0 i b a c.cpu_at-place.ensures h m.2.0 tells.1
-          c.in-Ok.ensures.script,
+    let m = c.in_default.ensures.ok in
+    let tells = g.met.F.OpenFloor.tells c.turn_into.new.floor in
+    let s = taken_step past _ _ v w c.args.turn.now _ c.turn_into.new.self m.0 m.1 c.turn_into.new.event i b a h m.2.0 in (
+      subst (λ (x : CpusState). step x.script x.limit c.args.turn.now past ≡ Ok c.turn_into.new.event) c.self.view_is s,
+      taken_after past _ _ _ v w c.args.turn.now c.cpu_at-place.result _ c.turn_into.new.self m.0 m.1 c.turn_into.new.event tells.0 i b a c.cpu_at-place.ensures h m.2.0 tells.1
+          c.in_default.ensures.script,
     )
 
 pub returns-in-Err-clause-err : goal.returns-in-Err-clause-err

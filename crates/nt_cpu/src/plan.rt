@@ -1,0 +1,66 @@
+//! What a processor has to do next, in small: the values of a look stay where they are.
+ghost use Rattle.std.specs.Prelude.{◌≡◌};
+ghost use Rattle.nt_cpu.specs.Plans.{what_in};
+
+use nt_event::{Begun, Command, Job, Level, Reply, Rises, What};
+
+/// An event that touches no lane.
+#[derive(Clone, Copy, Debug)]
+pub enum Deed<'a> {
+    /// Notices these values.
+    Look(&'a Rises),
+    /// Calls this command, which is refused or done at once.
+    Call {
+        frame: u64,
+        command: Command,
+        reply: Reply,
+    },
+    /// Begins the routine of an interrupt, for the ask of this number.
+    Interrupt {
+        level: Level,
+        from: u64,
+    },
+    /// Goes on to the normal routine.
+    Normal {
+        frame: u64,
+    },
+    /// Ends the routine.
+    End {
+        frame: u64,
+    },
+}
+
+/// What a processor has to do next.
+#[derive(Clone, Copy, Debug)]
+pub enum Plan<'a> {
+    /// This event, which touches no lane.
+    Alone(Deed<'a>),
+    /// A job that needs lanes.
+    Shared(Job),
+}
+
+impl<'a> Deed<'a> {
+    /// What the event does.
+    pub fn what(&self) -> What
+        ensures { result ≡ what_in self.now }
+    {
+        match self {
+            Deed::Look(rises) => What::Look { rises: **rises },
+            Deed::Call {
+                frame,
+                command,
+                reply,
+            } => What::Call {
+                frame: *frame,
+                command: *command,
+                reply: *reply,
+            },
+            Deed::Interrupt { level, from } => What::Begin {
+                begun: Begun::Int(*level),
+                from: *from,
+            },
+            Deed::Normal { frame } => What::Normal { frame: *frame },
+            Deed::End { frame } => What::End { frame: *frame },
+        }
+    }
+}
