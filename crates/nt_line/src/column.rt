@@ -38,6 +38,9 @@ impl Column {
     pub fn place(&self, name: &str) -> Option<usize>
         ensures { result ≡ place name.now self.now }
     {
+        if self.names.is_empty() {
+            return None;
+        }
         self.names.get_index_of(name)
     }
 
