@@ -4,3 +4,4 @@ pub mod FieldTexts
 pub mod UsedNames
 pub mod Spelled
 pub mod Found
+pub mod Letters

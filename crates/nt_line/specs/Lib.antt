@@ -1,6 +1,7 @@
 pub mod Places
 pub mod NameLists
 pub mod Keywords
+pub mod Letters
 pub mod Results
 pub mod Fields
 pub mod Commands

@@ -1,6 +1,8 @@
 //! The keywords that begin a line, how many fields follow each, and where each may stand.
-ghost use Rattle.std.specs.Prelude.{◌≡◌, find};
+ghost use Rattle.std.specs.Prelude.{◌≡◌, filter, find};
 ghost use Rattle.std.specs.Str.{bytes_eq};
+ghost use Rattle.nt_line.specs.declared.keywords.TheConstants.{KEYWORDS};
+ghost use Rattle.nt_line.specs.Letters.{begins_with};
 ghost use Rattle.nt_line.specs.Keywords.{verb_text, verb_arity, text_of, keyword_of, arity, declaring, order, earliest, latest, stands};
 
 use crate::names::Kind;
@@ -305,6 +307,68 @@ impl Keyword {
     }
 }
 
+/// The keywords that begin with a letter, in the order of all.
+fn beginning_with(letter: u8) -> &'static [Keyword]
+    ensures { result.now ≡ filter (begins_with letter) KEYWORDS }
+{
+    match letter {
+        b'a' => &[Keyword::Call(Verb::InsertApc), Keyword::Call(Verb::Alert)],
+        b'c' => &[
+            Keyword::Cpus,
+            Keyword::Call(Verb::CancelTimer),
+            Keyword::Call(Verb::Clock),
+        ],
+        b'd' => &[
+            Keyword::Depth,
+            Keyword::Dpc { threaded: false },
+            Keyword::Call(Verb::Delay),
+        ],
+        b'e' => &[
+            Keyword::Exit,
+            Keyword::Call(Verb::EnterCrit),
+            Keyword::Call(Verb::EnterGuard),
+        ],
+        b'i' => &[
+            Keyword::Isr,
+            Keyword::Call(Verb::SetImportance),
+            Keyword::Call(Verb::Interrupt),
+        ],
+        b'l' => &[
+            Keyword::Call(Verb::Lower),
+            Keyword::Call(Verb::LeaveCrit),
+            Keyword::Call(Verb::LeaveGuard),
+        ],
+        b'n' => &[Keyword::Apc(ApcKind::Normal), Keyword::Call(Verb::Note)],
+        b'q' => &[Keyword::Call(Verb::Queue)],
+        b'r' => &[
+            Keyword::Routine,
+            Keyword::Call(Verb::Raise),
+            Keyword::Call(Verb::Release),
+        ],
+        b's' => &[
+            Keyword::Apc(ApcKind::Special),
+            Keyword::Call(Verb::SetTimer),
+        ],
+        b't' => &[
+            Keyword::Threaded,
+            Keyword::Dpc { threaded: true },
+            Keyword::Timer,
+            Keyword::Thread,
+            Keyword::Call(Verb::SetTarget),
+            Keyword::Call(Verb::TestAlert),
+            Keyword::Call(Verb::ToUser),
+        ],
+        b'u' => &[
+            Keyword::Apc(ApcKind::User),
+            Keyword::Call(Verb::Unqueue),
+            Keyword::Call(Verb::RemoveApc),
+        ],
+        b'w' => &[Keyword::Call(Verb::StartWait)],
+        b'y' => &[Keyword::Call(Verb::Yield)],
+        _ => &[],
+    }
+}
+
 fn search(keywords: &[Keyword], field: &[u8]) -> Option<Keyword>
     ensures { result ≡ find (λ w. bytes_eq field.now (text_of w)) keywords.now }
 {
@@ -314,10 +378,13 @@ fn search(keywords: &[Keyword], field: &[u8]) -> Option<Keyword>
         .find(|keyword| field == keyword.text())
 }
 
-/// The keyword that a field is.
+/// The keyword that a field is. Only those with its first letter are compared with it.
 #[tactic(auto, unfolding(crate::specs::Keywords::keyword_of))]
 pub fn keyword_of(field: &[u8]) -> Option<Keyword>
     ensures { result ≡ keyword_of field.now }
 {
-    search(&KEYWORDS, field)
+    match field {
+        [letter, ..] => search(beginning_with(*letter), field),
+        [] => None,
+    }
 }
