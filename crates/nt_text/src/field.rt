@@ -1,6 +1,7 @@
 //! What stands in a field: numbers and names.
 ghost use Rattle.std.specs.Prelude.{◌≡◌, ◌≤◌, option_map, IfSome};
 ghost use Rattle.std.specs.List.{list_all};
+ghost use Rattle.std.specs.Str.{bytes_eq};
 ghost use Rattle.nt_text.specs.Fields.{digits_after, at_most, number_up_to, is_name_byte, is_name, name_of};
 
 /// The number that decimal digits stand for, where all bytes are digits and it is at most `most`.
@@ -28,6 +29,22 @@ pub fn number(field: &[u8], most: u64) -> Option<u64>
         [b'0', _, ..] => None,
         _ => digits(field, most),
     }
+}
+
+/// Whether a field is a word, byte by byte: words are short.
+#[tactic(auto, using(crate::proofs::SameBytes::other_length, crate::proofs::SameBytes::other_byte, crate::proofs::SameBytes::same_bytes))]
+pub fn is_word(field: &[u8], word: &[u8]) -> bool
+    ensures { result ≡ bytes_eq field.now word.now }
+{
+    if field.len() != word.len() {
+        return false;
+    }
+    for i in 0..field.len() {
+        if field[i] != word[i] {
+            return false;
+        }
+    }
+    true
 }
 
 /// Whether a byte may stand in a name.

@@ -16,7 +16,7 @@ mod kind;
 mod lines;
 mod printing;
 
-pub use field::{name, number};
+pub use field::{is_word, name, number};
 pub use kind::{ScriptKind, What10};
 pub use lines::{Fields, INPUT_LIMIT, Line, Lines};
 pub use printing::{put_digits, put_field, put_number};
