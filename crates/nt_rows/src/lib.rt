@@ -48,6 +48,24 @@ ghost use Rattle.nt_rows.specs.DoorsAndGone as doors_and_gone_row;
 ghost use Rattle.nt_rows.specs.YieldTakesTurns as yield_takes_turns_row;
 ghost use Rattle.nt_rows.specs.ReleaseEndsAWait as release_ends_a_wait_row;
 ghost use Rattle.nt_rows.specs.DelayOfUserMode as delay_of_user_mode_row;
+ghost use Rattle.nt_rows.specs.UnqueueTellsALane as unqueue_tells_a_lane_row;
+ghost use Rattle.nt_rows.specs.ApcTellsALane as apc_tells_a_lane_row;
+ghost use Rattle.nt_rows.specs.BusyAgain as busy_again_row;
+ghost use Rattle.nt_rows.specs.DelayOverAtRewait as delay_over_at_rewait_row;
+ghost use Rattle.nt_rows.specs.ApcsInANormalRoutine as apcs_in_a_normal_routine_row;
+ghost use Rattle.nt_rows.specs.TouserWithoutTheMark as touser_without_the_mark_row;
+ghost use Rattle.nt_rows.specs.CutAtTheLimit as cut_at_the_limit_row;
+ghost use Rattle.nt_rows.specs.RefusedTurns as refused_turns_row;
+ghost use Rattle.nt_rows.specs.DeepTarget as deep_target_row;
+ghost use Rattle.nt_rows.specs.OwnIdleQueue as own_idle_queue_row;
+ghost use Rattle.nt_rows.specs.TargetAfterInsert as target_after_insert_row;
+ghost use Rattle.nt_rows.specs.DpcApcThreaded as dpc_apc_threaded_row;
+ghost use Rattle.nt_rows.specs.StaleDelay as stale_delay_row;
+ghost use Rattle.nt_rows.specs.MarksCleared as marks_cleared_row;
+ghost use Rattle.nt_rows.specs.OrderOfTests as order_of_tests_row;
+ghost use Rattle.nt_rows.specs.AlertOfAGoneThread as alert_of_a_gone_thread_row;
+ghost use Rattle.nt_rows.specs.RegionsGivenUp as regions_given_up_row;
+ghost use Rattle.nt_rows.specs.HeldLevels as held_levels_row;
 
 // ---- Levels and frames
 
@@ -99,6 +117,17 @@ pub fn refusals_of_a_dpc()
 /// The routines of levels 13 and 14 run at their levels, and a raise to 14 holds back the interrupt of 14.
 pub fn clock_and_ipi_routines()
     ensures { IsWorked clock_and_ipi_routines_row.script 10000 clock_and_ipi_routines_row.history }
+{}
+
+/// A raise and a lower to the level that holds are done, regions are refused at DISPATCH_LEVEL, and of two interrupts the higher
+/// begins first.
+pub fn held_levels()
+    ensures { IsWorked held_levels_row.script 10000 held_levels_row.history }
+{}
+
+/// Where all are due, a DPC comes before a kernel APC, and that before a threaded DPC.
+pub fn dpc_apc_threaded()
+    ensures { IsWorked dpc_apc_threaded_row.script 10000 dpc_apc_threaded_row.history }
 {}
 
 // ---- DPC objects
@@ -153,6 +182,27 @@ pub fn targets_and_importance()
 /// With a depth limit of 0 a first DPC of low importance asks; threaded DPCs that are switched off run at DISPATCH_LEVEL.
 pub fn threaded_off_depth_0()
     ensures { IsWorked threaded_off_depth_0_row.script 10000 threaded_off_depth_0_row.history }
+{}
+
+/// A target that is set after an insert leaves the object where it stands; of timers that are due at one time the one set first
+/// expires first.
+pub fn target_after_insert()
+    ensures { IsWorked target_after_insert_row.script 10000 target_after_insert_row.history }
+{}
+
+/// An insert of low importance on an idle processor by itself asks for nothing.
+pub fn own_idle_queue()
+    ensures { IsWorked own_idle_queue_row.script 10000 own_idle_queue_row.history }
+{}
+
+/// An insert of medium importance asks a busy processor where its queue is deep.
+pub fn deep_target()
+    ensures { IsWorked deep_target_row.script 10000 deep_target_row.history }
+{}
+
+/// A processor that takes up a thread is idle no more, so an insert of low importance for it asks for nothing.
+pub fn busy_again()
+    ensures { IsWorked busy_again_row.script 10000 busy_again_row.history }
 {}
 
 // ---- Waits, regions and APCs
@@ -237,6 +287,38 @@ pub fn doors_and_gone()
     ensures { IsWorked doors_and_gone_row.script 10000 doors_and_gone_row.history }
 {}
 
+/// Only the last leave of a region asks for kernel APCs, and an APC gives up the region of its kernel routine before its normal
+/// one.
+pub fn regions_given_up()
+    ensures { IsWorked regions_given_up_row.script 10000 regions_given_up_row.history }
+{}
+
+/// An alert of a thread that is gone answers no, though its flag was set.
+pub fn alert_of_a_gone_thread()
+    ensures { IsWorked alert_of_a_gone_thread_row.script 10000 alert_of_a_gone_thread_row.history }
+{}
+
+/// An alert of its mode ends a wait before a user APC does, and that before a kernel alert; the user-pending mark ends no
+/// alertable wait.
+pub fn order_of_tests()
+    ensures { IsWorked order_of_tests_row.script 10000 order_of_tests_row.history }
+{}
+
+/// A delay leaves the released mark, and the beginning of a user APC clears the user-pending mark.
+pub fn marks_cleared()
+    ensures { IsWorked marks_cleared_row.script 10000 marks_cleared_row.history }
+{}
+
+/// A user APC is not delivered on the way to user mode where the user-pending mark is clear.
+pub fn touser_without_the_mark()
+    ensures { IsWorked touser_without_the_mark_row.script 10000 touser_without_the_mark_row.history }
+{}
+
+/// A special kernel APC interrupts a normal routine, and a normal one waits for its end.
+pub fn apcs_in_a_normal_routine()
+    ensures { IsWorked apcs_in_a_normal_routine_row.script 10000 apcs_in_a_normal_routine_row.history }
+{}
+
 // ---- Threads that yield
 
 /// A yield gives the processor to the ready threads in turn, each at the level that it had.
@@ -264,6 +346,40 @@ pub fn delay()
 /// A user APC ends an alertable delay, a kernel APC interrupts one until its old due time, and a release ends none.
 pub fn delay_of_user_mode()
     ensures { IsWorked delay_of_user_mode_row.script 10000 delay_of_user_mode_row.history }
+{}
+
+/// The expiry of a delay that was ended early ends no later wait, and a thread goes on at the level at which it blocked.
+pub fn stale_delay()
+    ensures { IsWorked stale_delay_row.script 10000 stale_delay_row.history }
+{}
+
+// ---- Limits and turns
+
+/// A processor that made as many events as the turn limit makes no more.
+pub fn cut_at_the_limit()
+    ensures { IsWorked cut_at_the_limit_row.script 3 cut_at_the_limit_row.history }
+{}
+
+/// A turn is refused of a processor that there is not or that rests, as is a look of what no event asked for and a switch to a
+/// thread
+/// that may not be taken.
+pub fn refused_turns()
+    ensures { refused_turns_row.AreRefused }
+{}
+
+/// A delay that is taken up again once its old due time is reached is over.
+pub fn delay_over_at_rewait()
+    ensures { IsWorked delay_over_at_rewait_row.script 10000 delay_over_at_rewait_row.history }
+{}
+
+/// An insert of an APC for a thread of another processor is noticed there by the lane of its threads.
+pub fn apc_tells_a_lane()
+    ensures { IsMade apc_tells_a_lane_row.script 10000 apc_tells_a_lane_row.schedule apc_tells_a_lane_row.history }
+{}
+
+/// A removal notices what the lane of the queue tells where the object stood.
+pub fn unqueue_tells_a_lane()
+    ensures { IsMade unqueue_tells_a_lane_row.script 10000 unqueue_tells_a_lane_row.schedule unqueue_tells_a_lane_row.history }
 {}
 
 // ---- A driver in use

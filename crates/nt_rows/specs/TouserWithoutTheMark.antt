@@ -1,0 +1,54 @@
+-- The worked row touser-without-the-mark: a user APC is queued and the user-pending mark is clear.
+use Rattle.std.specs.Prelude.{List, None, Some, [], ◌∷◌}
+use Rattle.nt_event.specs.declared.commands.Command.TheVariants as cmd
+use Rattle.nt_event.specs.declared.commands.Reply.TheVariants.{Done, Yes}
+use Rattle.nt_event.specs.declared.events.Event.{Event}
+use Rattle.nt_event.specs.declared.events.What.TheVariants.{Call, End, Flush, Gone, Rest, Switch}
+use Rattle.nt_event.specs.declared.numbers.ApcNo.{ApcNo}
+use Rattle.nt_event.specs.declared.numbers.RoutineNo.{RoutineNo}
+use Rattle.nt_event.specs.declared.numbers.ThreadNo.{ThreadNo}
+use Rattle.nt_event.specs.declared.scripts.Script.{Script}
+use Rattle.nt_event.specs.Numbers.{apc, routine, thread}
+use Rattle.nt_rows.specs.Rows.{event, runs, thread_on, user_apc}
+
+abbrev pub a : ThreadNo
+a = thread 0
+
+abbrev pub u : ApcNo
+u = apc 0
+
+abbrev pub ra : RoutineNo
+ra = routine 0
+
+abbrev pub k : RoutineNo
+k = routine 1
+
+-- the script
+abbrev pub script : Script
+script =
+    record {
+      cpus = 1;
+      depth = None;
+      threaded = None;
+      isrs = [];
+      dpcs = [];
+      timers = [];
+      threads = thread_on 0 ra ∷ [];
+      apcs = user_apc a k k None ∷ [];
+      routines =
+          runs (cmd.InsertApc u ∷ cmd.ToUser ∷ []) ∷
+          runs [] ∷
+          [];
+    }
+
+-- its robin run, the oldest event first
+abbrev pub history : List Event
+history =
+    event 0 (Some a) 0 (Switch a None) ∷
+    event 0 (Some a) 0 (Call 0 (cmd.InsertApc u) Yes) ∷
+    event 0 (Some a) 0 (Call 0 cmd.ToUser Done) ∷
+    event 0 (Some a) 0 (End 0) ∷
+    event 0 (Some a) 0 (Flush u 1) ∷
+    event 0 (Some a) 0 (Gone a) ∷
+    event 0 None 0 Rest ∷
+    []
