@@ -7,6 +7,7 @@ ghost use Rattle.nt_line.specs.Keywords.{verb_text, verb_arity, text_of, keyword
 
 use crate::names::Kind;
 use nt_event::ApcKind;
+use nt_text::is_word;
 
 /// The keyword of a command.
 #[derive(Clone, Copy, PartialEq, Eq, Debug)]
@@ -375,7 +376,7 @@ fn search(keywords: &[Keyword], field: &[u8]) -> Option<Keyword>
     keywords
         .iter()
         .copied()
-        .find(|keyword| field == keyword.text())
+        .find(|keyword| is_word(field, keyword.text()))
 }
 
 /// The keyword that a field is. Only those with its first letter are compared with it.
