@@ -1,5 +1,7 @@
 //! The APC queues of a thread, and what regions and levels let through as a table.
+use crate::writing::{write_pick, write_yes};
 use nt_apc::{ApcKind, ApcNo, ApcQueues, Level, Pick, Regions};
+use std::alloc::{AllocError, Global};
 use std::io;
 
 const FREE: Regions = Regions {
@@ -27,92 +29,114 @@ fn pick(apc: u16, kind: ApcKind, number: u64) -> Pick {
     }
 }
 
+/// Writes the user APC that is flushed next, if any.
+fn write_flush(rt: HostRuntime, queues: &mut ApcQueues) -> io::Result<()> {
+    println!(rt; "  flush {:?}", queues.flush_next())
+}
+
+/// Writes which APC may be delivered in no region at PASSIVE_LEVEL.
+fn write_deliverable(rt: HostRuntime, queues: &ApcQueues) -> io::Result<()> {
+    write_pick(rt, "deliverable", queues.deliverable(FREE, Level::PASSIVE))
+}
+
 fn special_before_normal(rt: HostRuntime) -> io::Result<()> {
     let mut queues = ApcQueues::new(rt.alloc(), 3)?;
-    println!(rt; "  has kernel {}", queues.has_kernel())?;
-    println!(rt;
-        "  insert 0 {}",
-        queues.insert(ApcNo(0), ApcKind::Normal, 4)
-    )?;
-    println!(rt;
-        "  insert 1 {}",
-        queues.insert(ApcNo(1), ApcKind::Special, 7)
-    )?;
-    println!(rt;
-        "  insert 2 {}",
-        queues.insert(ApcNo(2), ApcKind::Special, 9)
-    )?;
-    println!(rt; "  has kernel {}", queues.has_kernel())?;
-    let order = [
-        pick(1, ApcKind::Special, 7),
-        pick(2, ApcKind::Special, 9),
-        pick(0, ApcKind::Normal, 4),
-    ];
-    for first in order {
-        println!(rt;
-            "  deliverable {:?}",
-            queues.deliverable(FREE, Level::PASSIVE)
-        )?;
-        queues.take(first);
-    }
-    println!(rt;
-        "  deliverable {:?}",
-        queues.deliverable(FREE, Level::PASSIVE)
-    )
+    write_yes(rt, "has kernel", queues.has_kernel())?;
+    let normal = queues.insert(ApcNo(0), ApcKind::Normal, 4);
+    write_yes(rt, "insert 0", normal)?;
+    let special = queues.insert(ApcNo(1), ApcKind::Special, 7);
+    write_yes(rt, "insert 1", special)?;
+    let second = queues.insert(ApcNo(2), ApcKind::Special, 9);
+    write_yes(rt, "insert 2", second)?;
+    write_yes(rt, "has kernel", queues.has_kernel())?;
+    write_deliverable(rt, &queues)?;
+    queues.take(pick(1, ApcKind::Special, 7));
+    write_deliverable(rt, &queues)?;
+    queues.take(pick(2, ApcKind::Special, 9));
+    write_deliverable(rt, &queues)?;
+    queues.take(pick(0, ApcKind::Normal, 4));
+    write_deliverable(rt, &queues)
 }
 
 fn once_in(rt: HostRuntime) -> io::Result<()> {
     let mut queues = ApcQueues::new(rt.alloc(), 1)?;
-    println!(rt; "  open {}", queues.open_for(ApcNo(5)))?;
-    println!(rt; "  insert {}", queues.insert(ApcNo(5), ApcKind::User, 1))?;
-    println!(rt; "  open {}", queues.open_for(ApcNo(5)))?;
-    println!(rt; "  insert {}", queues.insert(ApcNo(5), ApcKind::User, 2))?;
-    println!(rt; "  first {:?}", queues.user_first())?;
-    println!(rt; "  remove {}", queues.remove(ApcNo(5)))?;
-    println!(rt; "  remove {}", queues.remove(ApcNo(5)))?;
-    println!(rt; "  insert {}", queues.insert(ApcNo(5), ApcKind::User, 3))?;
-    println!(rt; "  first {:?}", queues.user_first())
+    write_yes(rt, "open", queues.open_for(ApcNo(5)))?;
+    write_yes(rt, "insert", queues.insert(ApcNo(5), ApcKind::User, 1))?;
+    write_yes(rt, "open", queues.open_for(ApcNo(5)))?;
+    write_yes(rt, "insert", queues.insert(ApcNo(5), ApcKind::User, 2))?;
+    write_pick(rt, "first", queues.user_first())?;
+    write_yes(rt, "remove", queues.remove(ApcNo(5)))?;
+    write_yes(rt, "remove", queues.remove(ApcNo(5)))?;
+    write_yes(rt, "insert", queues.insert(ApcNo(5), ApcKind::User, 3))?;
+    write_pick(rt, "first", queues.user_first())
 }
 
 fn closed_doors(rt: HostRuntime) -> io::Result<()> {
     let mut queues = ApcQueues::new(rt.alloc(), 3)?;
-    println!(rt; "  insert 0 {}", queues.insert(ApcNo(0), ApcKind::User, 4))?;
-    println!(rt; "  insert 1 {}", queues.insert(ApcNo(1), ApcKind::User, 5))?;
+    write_yes(rt, "insert 0", queues.insert(ApcNo(0), ApcKind::User, 4))?;
+    write_yes(rt, "insert 1", queues.insert(ApcNo(1), ApcKind::User, 5))?;
     queues.close_doors();
-    println!(rt; "  insert 2 {}", queues.insert(ApcNo(2), ApcKind::User, 8))?;
-    println!(rt; "  flush {:?}", queues.flush_next())?;
-    println!(rt; "  flush {:?}", queues.flush_next())?;
-    println!(rt; "  flush {:?}", queues.flush_next())
+    write_yes(rt, "insert 2", queues.insert(ApcNo(2), ApcKind::User, 8))?;
+    write_flush(rt, &mut queues)?;
+    write_flush(rt, &mut queues)?;
+    write_flush(rt, &mut queues)
 }
 
-/// Whether a special, a normal and a user APC are let through: first of a queue that has one, then of one that has none.
+/// Queues with one APC of this kind.
+fn with_one(alloc: Global, kind: ApcKind) -> Result<ApcQueues, AllocError> {
+    let mut queues = ApcQueues::new(alloc, 1)?;
+    queues.insert(ApcNo(0), kind, 0);
+    Ok(queues)
+}
+
+/// Writes whether an APC that stands first is let through, a special and a normal one; whether one of each kind would be where none
+/// stands; and whether a special one would be before the normal one.
+fn write_held(rt: HostRuntime, first: [bool; 2], alone: [bool; 3], before: bool) -> io::Result<()> {
+    println!(rt;
+        "{} {}, {} {} {}, {before}",
+        first[0], first[1], alone[0], alone[1], alone[2]
+    )
+}
+
+/// Whether an APC of this kind that stands first is let through.
+fn first(alloc: Global, kind: ApcKind, regions: Regions, level: Level) -> Result<bool, AllocError> {
+    let queues = with_one(alloc, kind)?;
+    Ok(queues.deliverable(regions, level).is_some())
+}
+
+/// Whether APCs of each kind would be let through where none stands.
+fn alone(alloc: Global, regions: Regions, level: Level) -> Result<[bool; 3], AllocError> {
+    let queues = ApcQueues::new(alloc, 1)?;
+    Ok([
+        queues.deliverable_with(ApcKind::Special, regions, level),
+        queues.deliverable_with(ApcKind::Normal, regions, level),
+        queues.deliverable_with(ApcKind::User, regions, level),
+    ])
+}
+
+/// Whether a special APC would be let through before a normal one.
+fn before_normal(alloc: Global, regions: Regions, level: Level) -> Result<bool, AllocError> {
+    let queues = with_one(alloc, ApcKind::Normal)?;
+    Ok(queues.deliverable_with(ApcKind::Special, regions, level))
+}
+
+/// Writes what these regions and this level hold back.
+fn write_held_at(rt: HostRuntime, name: &str, regions: Regions, level: Level) -> io::Result<()> {
+    let special = first(rt.alloc(), ApcKind::Special, regions, level)?;
+    let normal = first(rt.alloc(), ApcKind::Normal, regions, level)?;
+    let alone = alone(rt.alloc(), regions, level)?;
+    let before = before_normal(rt.alloc(), regions, level)?;
+    print!(rt; "  {name} at {}: ", level.number())?;
+    write_held(rt, [special, normal], alone, before)
+}
+
 fn held_back(rt: HostRuntime) -> io::Result<()> {
     let critical = Regions { crit: 1, ..FREE };
     let guarded = Regions { guard: 1, ..FREE };
     let busy = Regions { busy: true, ..FREE };
-    let table = [
-        ("free", FREE, Level::PASSIVE),
-        ("free", FREE, Level::APC),
-        ("critical", critical, Level::PASSIVE),
-        ("guarded", guarded, Level::PASSIVE),
-        ("busy", busy, Level::PASSIVE),
-    ];
-    let mut special = ApcQueues::new(rt.alloc(), 1)?;
-    special.insert(ApcNo(0), ApcKind::Special, 0);
-    let mut normal = ApcQueues::new(rt.alloc(), 1)?;
-    normal.insert(ApcNo(0), ApcKind::Normal, 0);
-    let none = ApcQueues::new(rt.alloc(), 1)?;
-    for (name, regions, level) in table {
-        println!(rt;
-            "  {name} at {}: {} {}, {} {} {}, {}",
-            level.number(),
-            special.deliverable(regions, level).is_some(),
-            normal.deliverable(regions, level).is_some(),
-            none.deliverable_with(ApcKind::Special, regions, level),
-            none.deliverable_with(ApcKind::Normal, regions, level),
-            none.deliverable_with(ApcKind::User, regions, level),
-            normal.deliverable_with(ApcKind::Special, regions, level)
-        )?;
-    }
-    Ok(())
+    write_held_at(rt, "free", FREE, Level::PASSIVE)?;
+    write_held_at(rt, "free", FREE, Level::APC)?;
+    write_held_at(rt, "critical", critical, Level::PASSIVE)?;
+    write_held_at(rt, "guarded", guarded, Level::PASSIVE)?;
+    write_held_at(rt, "busy", busy, Level::PASSIVE)
 }

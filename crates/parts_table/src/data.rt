@@ -1,4 +1,5 @@
 //! The data of the machine: which small scripts fit, what a script says of its things, and the small questions about the data.
+use crate::writing::{write_number, write_yes};
 use nt_event::{
     ApcDecl, ApcKind, ApcNo, Body, Command, CpuNo, DpcDecl, DpcNo, Frame, Isr, Items, Level, Mode,
     Refusal, Regions, Reply, Routine, RoutineNo, ScheduleKind, Script, ThreadDecl, ThreadNo,
@@ -42,125 +43,167 @@ fn script(alloc: Global, commands: Vec<Command>) -> Result<Script, AllocError> {
     let routine = Routine {
         commands: Items::from_vec(commands),
     };
-    let dpc = DpcDecl {
-        threaded: false,
-        routine: RoutineNo(0),
-    };
-    let timer = TimerDecl {
-        dpc: Some(DpcNo(0)),
-    };
-    let thread = ThreadDecl {
-        cpu: CpuNo(1),
-        routine: RoutineNo(0),
-    };
-    Ok(Script {
+    let mut made = Script {
         cpus: 2,
         depth: Some(256),
         threaded: None,
-        isrs: Items::from_vec(vec![in alloc; isr(0), isr(1)]?),
-        dpcs: Items::from_vec(vec![in alloc; dpc]?),
-        timers: Items::from_vec(vec![in alloc; timer]?),
-        threads: Items::from_vec(vec![in alloc; thread]?),
+        isrs: Items::new(alloc),
+        dpcs: Items::new(alloc),
+        timers: Items::new(alloc),
+        threads: Items::new(alloc),
         apcs: Items::new(alloc),
         routines: Items::from_vec(vec![in alloc; routine]?),
+    };
+    declare(&mut made)?;
+    Ok(made)
+}
+
+/// Declares what stands in each of these scripts.
+fn declare(made: &mut Script) -> Result<(), AllocError> {
+    let routine = RoutineNo(0);
+    made.isrs.push(isr(0))?;
+    made.isrs.push(isr(1))?;
+    made.dpcs.push(DpcDecl {
+        threaded: false,
+        routine,
+    })?;
+    made.timers.push(TimerDecl {
+        dpc: Some(DpcNo(0)),
+    })?;
+    made.threads.push(ThreadDecl {
+        cpu: CpuNo(1),
+        routine,
     })
 }
 
-fn commands(rt: HostRuntime) -> io::Result<()> {
-    let table = [
-        Command::Queue(DpcNo(0)),
-        Command::Queue(DpcNo(1)),
-        Command::SetTarget(DpcNo(0), Some(CpuNo(1))),
-        Command::SetTarget(DpcNo(0), Some(CpuNo(2))),
-        Command::SetTarget(DpcNo(0), None),
-        Command::SetTimer(TimerNo(1), 0, 0),
-        Command::Release(ThreadNo(1)),
-        Command::InsertApc(ApcNo(0)),
-        Command::Interrupt(CpuNo(1), level(5)),
-        Command::Interrupt(CpuNo(1), Level::IPI),
-        Command::Interrupt(CpuNo(1), Level::CLOCK),
-        Command::Interrupt(CpuNo(1), Level::DISPATCH),
-        Command::Note(4_294_967_295),
-    ];
-    for command in table {
-        let made = script(rt.alloc(), vec![in rt.alloc(); command]?)?;
-        println!(rt; "  {command:?} {}", made.fits())?;
+/// An APC of the script's thread.
+fn apc_of(kind: ApcKind, normal: Option<RoutineNo>, rundown: Option<RoutineNo>) -> ApcDecl {
+    ApcDecl {
+        kind,
+        thread: ThreadNo(0),
+        kernel: RoutineNo(0),
+        normal,
+        rundown,
     }
-    Ok(())
+}
+
+/// The script of no command, with this APC.
+fn script_with(alloc: Global, apc: ApcDecl) -> Result<Script, AllocError> {
+    let mut made = script(alloc, Vec::new(alloc))?;
+    add_apc(&mut made, apc)?;
+    Ok(made)
+}
+
+fn add_apc(made: &mut Script, apc: ApcDecl) -> Result<(), AllocError> {
+    made.apcs.push(apc)
+}
+
+/// Whether the script of this command fits.
+fn command_fits(alloc: Global, command: Command) -> Result<bool, AllocError> {
+    let made = script(alloc, vec![in alloc; command]?)?;
+    Ok(made.fits())
+}
+
+fn write_fits(rt: HostRuntime, command: Command) -> io::Result<()> {
+    let fits = command_fits(rt.alloc(), command)?;
+    println!(rt; "  {command:?} {fits}")
+}
+
+fn commands(rt: HostRuntime) -> io::Result<()> {
+    write_fits(rt, Command::Queue(DpcNo(0)))?;
+    write_fits(rt, Command::Queue(DpcNo(1)))?;
+    write_fits(rt, Command::SetTarget(DpcNo(0), Some(CpuNo(1))))?;
+    write_fits(rt, Command::SetTarget(DpcNo(0), Some(CpuNo(2))))?;
+    write_fits(rt, Command::SetTarget(DpcNo(0), None))?;
+    write_fits(rt, Command::SetTimer(TimerNo(1), 0, 0))?;
+    write_fits(rt, Command::Release(ThreadNo(1)))?;
+    write_fits(rt, Command::InsertApc(ApcNo(0)))?;
+    write_fits(rt, Command::Interrupt(CpuNo(1), level(5)))?;
+    write_fits(rt, Command::Interrupt(CpuNo(1), Level::IPI))?;
+    write_fits(rt, Command::Interrupt(CpuNo(1), Level::CLOCK))?;
+    write_fits(rt, Command::Interrupt(CpuNo(1), Level::DISPATCH))?;
+    write_fits(rt, Command::Note(4_294_967_295))
+}
+
+/// Writes the interrupt routine of a processor at a level, if it has one.
+fn write_routine(rt: HostRuntime, of: &str, routine: Option<RoutineNo>) -> io::Result<()> {
+    println!(rt; "  {of} {routine:?}")
 }
 
 fn pairs(rt: HostRuntime) -> io::Result<()> {
     let mut made = script(rt.alloc(), Vec::new(rt.alloc()))?;
-    println!(rt; "  fits {}", made.fits())?;
-    println!(rt; "  of level 5 {:?}", made.isr_of(CpuNo(1), level(5)))?;
-    println!(rt; "  of the clock {:?}", made.isr_of(CpuNo(1), Level::CLOCK))?;
+    write_pairs(rt, &mut made)
+}
+
+fn write_pairs(rt: HostRuntime, made: &mut Script) -> io::Result<()> {
+    write_yes(rt, "fits", made.fits())?;
+    write_routine(rt, "of level 5", made.isr_of(CpuNo(1), level(5)))?;
+    write_routine(rt, "of the clock", made.isr_of(CpuNo(1), Level::CLOCK))?;
     made.isrs.push(isr(0))?;
-    println!(rt; "  with one pair twice {}", made.fits())
+    write_yes(rt, "with one pair twice", made.fits())
+}
+
+/// Whether the script with this APC fits.
+fn apc_fits(alloc: Global, apc: ApcDecl) -> Result<bool, AllocError> {
+    let made = script_with(alloc, apc)?;
+    Ok(made.fits())
+}
+
+/// Writes whether a script fits with an APC of this kind, with or without these routines.
+fn write_apc_fits(rt: HostRuntime, kind: ApcKind, normal: bool, rundown: bool) -> io::Result<()> {
+    let routine = RoutineNo(0);
+    let apc = apc_of(kind, normal.then_some(routine), rundown.then_some(routine));
+    let fits = apc_fits(rt.alloc(), apc)?;
+    println!(rt; "  {kind:?} normal {normal} rundown {rundown}: {fits}")
 }
 
 fn apcs(rt: HostRuntime) -> io::Result<()> {
-    let routine = RoutineNo(0);
-    let table = [
-        (ApcKind::Special, None, None),
-        (ApcKind::Special, Some(routine), None),
-        (ApcKind::Normal, Some(routine), None),
-        (ApcKind::Normal, None, None),
-        (ApcKind::Normal, Some(routine), Some(routine)),
-        (ApcKind::User, Some(routine), Some(routine)),
-        (ApcKind::User, None, None),
-    ];
-    for (kind, normal, rundown) in table {
-        let mut made = script(rt.alloc(), Vec::new(rt.alloc()))?;
-        made.apcs.push(ApcDecl {
-            kind,
-            thread: ThreadNo(0),
-            kernel: routine,
-            normal,
-            rundown,
-        })?;
-        let has = (normal.is_some(), rundown.is_some());
-        println!(rt;
-            "  {kind:?} normal {} rundown {}: {}",
-            has.0,
-            has.1,
-            made.fits()
-        )?;
-    }
-    Ok(())
+    write_apc_fits(rt, ApcKind::Special, false, false)?;
+    write_apc_fits(rt, ApcKind::Special, true, false)?;
+    write_apc_fits(rt, ApcKind::Normal, true, false)?;
+    write_apc_fits(rt, ApcKind::Normal, false, false)?;
+    write_apc_fits(rt, ApcKind::Normal, true, true)?;
+    write_apc_fits(rt, ApcKind::User, true, true)?;
+    write_apc_fits(rt, ApcKind::User, false, false)
 }
 
 fn things(rt: HostRuntime) -> io::Result<()> {
-    let mut made = script(rt.alloc(), Vec::new(rt.alloc()))?;
-    made.apcs.push(ApcDecl {
-        kind: ApcKind::User,
-        thread: ThreadNo(0),
-        kernel: RoutineNo(0),
-        normal: Some(RoutineNo(0)),
-        rundown: None,
-    })?;
+    let apc = apc_of(ApcKind::User, Some(RoutineNo(0)), None);
+    let made = script_with(rt.alloc(), apc)?;
+    write_things(rt, &made)
+}
+
+/// Writes what a script says of its thread, its APC and its timer, and their routines.
+fn write_things(rt: HostRuntime, made: &Script) -> io::Result<()> {
     if !made.fits() {
         return println!(rt; "  does not fit");
     }
-    println!(rt; "  threads {}", made.thread_count())?;
+    write_number(rt, "threads", u64::from(made.thread_count()))?;
     println!(rt; "  thread 0 on {:?}", made.cpu_of(ThreadNo(0)))?;
     if made.apcs.len() == 1 {
         println!(rt; "  apc 0 of {:?}", made.owner_of(ApcNo(0)))?;
     }
     println!(rt; "  apc 0 is {:?}", made.kind_of(ApcNo(0)))?;
     println!(rt; "  timer 0 inserts {:?}", made.dpc_of(TimerNo(0)))?;
-    println!(rt; "  apc 0 runs down by {:?}", made.rundown_of(ApcNo(0)))?;
+    write_routines(rt, made)
+}
+
+/// Writes which routines a script has for an APC and for interrupts.
+fn write_routines(rt: HostRuntime, made: &Script) -> io::Result<()> {
     let apc = Body::Apc(ApcNo(0), ApcKind::User);
-    println!(rt;
-        "  kernel routine {:?}",
-        made.routine_of(CpuNo(1), &apc, true)
+    let device = Body::Int(level(5));
+    let clock = Body::Int(Level::CLOCK);
+    write_routine(rt, "apc 0 runs down by", made.rundown_of(ApcNo(0)))?;
+    write_routine(rt, "kernel routine", made.routine_of(CpuNo(1), &apc, true))?;
+    write_routine(
+        rt,
+        "device routine",
+        made.routine_of(CpuNo(1), &device, false),
     )?;
-    println!(rt;
-        "  device routine {:?}",
-        made.routine_of(CpuNo(1), &Body::Int(level(5)), false)
-    )?;
-    println!(rt;
-        "  clock routine {:?}",
-        made.routine_of(CpuNo(1), &Body::Int(Level::CLOCK), false)
+    write_routine(
+        rt,
+        "clock routine",
+        made.routine_of(CpuNo(1), &clock, false),
     )
 }
 
@@ -179,84 +222,90 @@ fn base(place: u32, leaving: bool) -> Frame {
     }
 }
 
+fn write_next(rt: HostRuntime, at: &str, command: Option<Command>) -> io::Result<()> {
+    println!(rt; "  {at} {command:?}")
+}
+
 fn next_commands(rt: HostRuntime) -> io::Result<()> {
-    let made = script(
-        rt.alloc(),
-        vec![in rt.alloc(); Command::Note(1), Command::Note(2)]?,
-    )?;
-    for place in 0..3 {
-        println!(rt;
-            "  at {place} {:?}",
-            made.next_command(CpuNo(1), &base(place, false))
-        )?;
-    }
-    println!(rt;
-        "  leaving {:?}",
-        made.next_command(CpuNo(1), &base(0, true))
-    )
+    let commands = vec![in rt.alloc(); Command::Note(1), Command::Note(2)]?;
+    let made = script(rt.alloc(), commands)?;
+    write_next(rt, "at 0", made.next_command(CpuNo(1), &base(0, false)))?;
+    write_next(rt, "at 1", made.next_command(CpuNo(1), &base(1, false)))?;
+    write_next(rt, "at 2", made.next_command(CpuNo(1), &base(2, false)))?;
+    write_next(rt, "leaving", made.next_command(CpuNo(1), &base(0, true)))
+}
+
+fn write_refusal(rt: HostRuntime, refusal: Refusal) -> io::Result<()> {
+    println!(rt; "  {} {}", refusal.number(), refusal.name())
+}
+
+fn write_kind(rt: HostRuntime, kind: ScheduleKind) -> io::Result<()> {
+    println!(rt; "  {} {}", kind.number(), kind.name())
 }
 
 fn numbers(rt: HostRuntime) -> io::Result<()> {
-    for refusal in [Refusal::NotThread, Refusal::NotGreater, Refusal::NotEntered] {
-        println!(rt; "  {} {}", refusal.number(), refusal.name())?;
-    }
-    for kind in [ScheduleKind::NoSuchCpu, ScheduleKind::Unfinished] {
-        println!(rt; "  {} {}", kind.number(), kind.name())?;
-    }
-    Ok(())
+    write_refusal(rt, Refusal::NotThread)?;
+    write_refusal(rt, Refusal::NotGreater)?;
+    write_refusal(rt, Refusal::NotEntered)?;
+    write_kind(rt, ScheduleKind::NoSuchCpu)?;
+    write_kind(rt, ScheduleKind::Unfinished)
+}
+
+fn write_items(rt: HostRuntime, items: &[u32]) -> io::Result<()> {
+    println!(rt; "  {} {items:?}", items.len())
+}
+
+/// Items of two numbers.
+fn two_items(items: &mut Items<u32>) -> Result<(), AllocError> {
+    items.push(7)?;
+    items.push(9)
 }
 
 fn items(rt: HostRuntime) -> io::Result<()> {
     let mut items = Items::new(rt.alloc());
-    println!(rt; "  empty {}", items.is_empty())?;
-    items.push(7u32)?;
-    items.push(9)?;
-    println!(rt; "  {} {:?}", items.len(), items.as_slice())?;
+    write_yes(rt, "empty", items.is_empty())?;
+    two_items(&mut items)?;
+    write_items(rt, items.as_slice())?;
     let all = items.into_vec();
     println!(rt; "  {}", Items::from_vec(all).len())
 }
 
+fn write_reply(rt: HostRuntime, reply: Reply) -> io::Result<()> {
+    let is = (
+        reply.is_done(),
+        reply.is_yes(),
+        reply.is_answer(),
+        reply.is_blocked(),
+        reply.is_refused(),
+    );
+    println!(rt; "  {reply:?} {is:?}")
+}
+
+fn write_lane(rt: HostRuntime, command: Command) -> io::Result<()> {
+    println!(rt; "  {command:?} needs a lane {}", command.needs_lane())
+}
+
+fn write_two(rt: HostRuntime, first: bool, second: bool) -> io::Result<()> {
+    println!(rt; "  {first} {second}")
+}
+
 fn questions(rt: HostRuntime) -> io::Result<()> {
-    let replies = [
-        Reply::Done,
-        Reply::yes_if(true),
-        Reply::yes_if(false),
-        Reply::Blocked,
-        Reply::Refused(Refusal::TooHigh),
-    ];
-    for reply in replies {
-        let is = (
-            reply.is_done(),
-            reply.is_yes(),
-            reply.is_answer(),
-            reply.is_blocked(),
-            reply.is_refused(),
-        );
-        println!(rt; "  {reply:?} {is:?}")?;
-    }
-    for command in [
-        Command::Yield,
-        Command::EnterCrit,
-        Command::StartWait(Mode::User, true),
-    ] {
-        println!(rt; "  {command:?} needs a lane {}", command.needs_lane())?;
-    }
-    println!(rt;
-        "  {} {}",
-        ApcKind::Normal.is_kernel(),
-        ApcKind::User.is_kernel()
-    )?;
+    write_reply(rt, Reply::Done)?;
+    write_reply(rt, Reply::yes_if(true))?;
+    write_reply(rt, Reply::yes_if(false))?;
+    write_reply(rt, Reply::Blocked)?;
+    write_reply(rt, Reply::Refused(Refusal::TooHigh))?;
+    write_lane(rt, Command::Yield)?;
+    write_lane(rt, Command::EnterCrit)?;
+    write_lane(rt, Command::StartWait(Mode::User, true))?;
+    write_two(rt, ApcKind::Normal.is_kernel(), ApcKind::User.is_kernel())?;
     let before = Regions {
         crit: 1,
         guard: 0,
         busy: false,
     };
-    let now = Regions {
-        crit: 0,
-        guard: 0,
-        busy: false,
-    };
-    println!(rt; "  {} {}", now.came_to_0(&before), before.came_to_0(&now))?;
+    let now = Regions { crit: 0, ..before };
+    write_two(rt, now.came_to_0(&before), before.came_to_0(&now))?;
     println!(rt;
         "  {} {} {}",
         class::is_used(11),

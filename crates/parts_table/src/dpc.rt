@@ -3,7 +3,8 @@ ghost use Rattle.std.specs.Prelude.{◌≡◌, IfOk};
 ghost use Rattle.nt_event.specs.Numbers.{cpu};
 ghost use Rattle.nt_dpc.specs.Queues.{new_queue, with_idle};
 
-use nt_dpc::{DpcObject, DpcQueue};
+use crate::writing::{write_number, write_yes};
+use nt_dpc::{DpcObject, DpcQueue, Inserted};
 use nt_event::{CpuNo, DpcNo, Importance, Part};
 use std::alloc::{AllocError, Global};
 use std::io;
@@ -51,27 +52,37 @@ fn ask(
     Ok(queue.insert(&mut object, by, 7).ask)
 }
 
-/// By importance and inserting processor: neither deep nor idle, idle, deep, deep and idle.
+/// Writes what inserts of this importance by a processor ask for: neither deep nor idle, idle, deep, deep and idle.
+fn write_asks(rt: HostRuntime, importance: Importance, by: CpuNo) -> io::Result<()> {
+    let neither = ask(rt.alloc(), importance, by, 1, false)?;
+    let idle = ask(rt.alloc(), importance, by, 1, true)?;
+    let deep = ask(rt.alloc(), importance, by, 0, false)?;
+    let both = ask(rt.alloc(), importance, by, 0, true)?;
+    println!(rt;
+        "  {importance:?} by {}: {neither:?} {idle:?} {deep:?} {both:?}",
+        by.0
+    )
+}
+
 fn ordinary_inserts_ask(rt: HostRuntime) -> io::Result<()> {
-    let importances = [
-        Importance::Low,
-        Importance::Medium,
-        Importance::MediumHigh,
-        Importance::High,
-    ];
-    for importance in importances {
-        for by in [OWN, CpuNo(1)] {
-            let neither = ask(rt.alloc(), importance, by, 1, false)?;
-            let idle = ask(rt.alloc(), importance, by, 1, true)?;
-            let deep = ask(rt.alloc(), importance, by, 0, false)?;
-            let both = ask(rt.alloc(), importance, by, 0, true)?;
-            println!(rt;
-                "  {importance:?} by {}: {neither:?} {idle:?} {deep:?} {both:?}",
-                by.0
-            )?;
-        }
-    }
-    Ok(())
+    write_asks(rt, Importance::Low, OWN)?;
+    write_asks(rt, Importance::Low, CpuNo(1))?;
+    write_asks(rt, Importance::Medium, OWN)?;
+    write_asks(rt, Importance::Medium, CpuNo(1))?;
+    write_asks(rt, Importance::MediumHigh, OWN)?;
+    write_asks(rt, Importance::MediumHigh, CpuNo(1))?;
+    write_asks(rt, Importance::High, OWN)?;
+    write_asks(rt, Importance::High, CpuNo(1))
+}
+
+/// Writes the first of a part, if any.
+fn write_first(rt: HostRuntime, call: &str, first: Option<(DpcNo, u64)>) -> io::Result<()> {
+    println!(rt; "  {call} {first:?}")
+}
+
+/// Writes what an insert answers, or would answer.
+fn write_insert(rt: HostRuntime, call: &str, inserted: Inserted) -> io::Result<()> {
+    println!(rt; "  {call} {inserted:?}")
 }
 
 fn high_inserts_come_first(rt: HostRuntime) -> io::Result<()> {
@@ -87,15 +98,15 @@ fn high_inserts_come_first(rt: HostRuntime) -> io::Result<()> {
     queue.insert(&mut b, OWN, 6);
     queue.insert(&mut c, OWN, 7);
     queue.insert(&mut e, OWN, 8);
-    println!(rt; "  first {:?}", queue.first(Part::Ordinary))?;
-    println!(rt; "  take {}", queue.take(Part::Ordinary, &mut c))?;
-    println!(rt; "  first {:?}", queue.first(Part::Ordinary))?;
-    println!(rt; "  take {}", queue.take(Part::Ordinary, &mut b))?;
-    println!(rt; "  first {:?}", queue.first(Part::Ordinary))?;
-    println!(rt; "  take {}", queue.take(Part::Ordinary, &mut a))?;
-    println!(rt; "  first {:?}", queue.first(Part::Ordinary))?;
-    println!(rt; "  take {}", queue.take(Part::Ordinary, &mut e))?;
-    println!(rt; "  first {:?}", queue.first(Part::Ordinary))
+    write_first(rt, "first", queue.first(Part::Ordinary))?;
+    write_number(rt, "take", queue.take(Part::Ordinary, &mut c))?;
+    write_first(rt, "first", queue.first(Part::Ordinary))?;
+    write_number(rt, "take", queue.take(Part::Ordinary, &mut b))?;
+    write_first(rt, "first", queue.first(Part::Ordinary))?;
+    write_number(rt, "take", queue.take(Part::Ordinary, &mut a))?;
+    write_first(rt, "first", queue.first(Part::Ordinary))?;
+    write_number(rt, "take", queue.take(Part::Ordinary, &mut e))?;
+    write_first(rt, "first", queue.first(Part::Ordinary))
 }
 
 fn a_deep_insert_asks(rt: HostRuntime) -> io::Result<()> {
@@ -106,52 +117,59 @@ fn a_deep_insert_asks(rt: HostRuntime) -> io::Result<()> {
     first.set_importance(Importance::Low);
     second.set_importance(Importance::Low);
     third.set_importance(Importance::Low);
-    println!(rt; "  insert {:?}", queue.insert(&mut first, OWN, 6))?;
-    println!(rt; "  insert {:?}", queue.insert(&mut second, OWN, 7))?;
-    println!(rt; "  answer {:?}", queue.answer(&third, OWN))?;
-    println!(rt; "  insert {:?}", queue.insert(&mut third, OWN, 8))
+    write_insert(rt, "insert", queue.insert(&mut first, OWN, 6))?;
+    write_insert(rt, "insert", queue.insert(&mut second, OWN, 7))?;
+    write_insert(rt, "answer", queue.answer(&third, OWN))?;
+    write_insert(rt, "insert", queue.insert(&mut third, OWN, 8))
+}
+
+/// Writes where the object stands, and whether the queue has it.
+fn write_standing(rt: HostRuntime, standing: Option<CpuNo>, held: bool) -> io::Result<()> {
+    println!(rt; "  standing {standing:?}, held {held}")
 }
 
 fn once_in_and_once_out(rt: HostRuntime) -> io::Result<()> {
     let mut queue = DpcQueue::new(rt.alloc(), OWN, 1, 4)?;
     let mut d = DpcObject::new(DpcNo(0), false);
-    println!(rt; "  insert {:?}", queue.insert(&mut d, OWN, 2))?;
-    println!(rt;
-        "  standing {:?}, held {}",
-        d.standing(),
-        queue.holds(DpcNo(0))
-    )?;
-    println!(rt; "  answer {:?}", queue.answer(&d, OWN))?;
-    println!(rt; "  insert {:?}", queue.insert(&mut d, OWN, 3))?;
-    println!(rt; "  remove {}", queue.remove(&mut d))?;
-    println!(rt;
-        "  standing {:?}, held {}",
-        d.standing(),
-        queue.holds(DpcNo(0))
-    )?;
-    println!(rt; "  remove {}", queue.remove(&mut d))
+    write_insert(rt, "insert", queue.insert(&mut d, OWN, 2))?;
+    write_standing(rt, d.standing(), queue.holds(DpcNo(0)))?;
+    write_insert(rt, "answer", queue.answer(&d, OWN))?;
+    write_insert(rt, "insert", queue.insert(&mut d, OWN, 3))?;
+    write_yes(rt, "remove", queue.remove(&mut d))?;
+    write_standing(rt, d.standing(), queue.holds(DpcNo(0)))?;
+    write_yes(rt, "remove", queue.remove(&mut d))
 }
 
 fn a_threaded_insert(rt: HostRuntime) -> io::Result<()> {
     let mut queue = DpcQueue::new(rt.alloc(), OWN, 1, 4)?;
     let mut w = DpcObject::new(DpcNo(0), true);
-    println!(rt; "  insert {:?}", queue.insert(&mut w, OWN, 2))?;
-    println!(rt; "  first ordinary {:?}", queue.first(Part::Ordinary))?;
-    println!(rt; "  first threaded {:?}", queue.first(Part::Threaded))?;
-    println!(rt; "  take {}", queue.take(Part::Threaded, &mut w))
+    write_insert(rt, "insert", queue.insert(&mut w, OWN, 2))?;
+    write_first(rt, "first ordinary", queue.first(Part::Ordinary))?;
+    write_first(rt, "first threaded", queue.first(Part::Threaded))?;
+    write_number(rt, "take", queue.take(Part::Threaded, &mut w))
+}
+
+/// Writes whose queue an insert is for.
+fn write_target(rt: HostRuntime, target: &str, cpu: CpuNo) -> io::Result<()> {
+    println!(rt; "  {target}: queue of {}", cpu.0)
+}
+
+/// Writes whether the queue's processor is idle, and after what.
+fn write_idle(rt: HostRuntime, idle: bool, after: &str) -> io::Result<()> {
+    println!(rt; "  idle {idle}{after}")
 }
 
 fn targets_and_rests(rt: HostRuntime) -> io::Result<()> {
     let mut d = DpcObject::new(DpcNo(0), false);
-    println!(rt; "  no target: queue of {}", d.queue_for(CpuNo(3)).0)?;
+    write_target(rt, "no target", d.queue_for(CpuNo(3)))?;
     d.set_target(Some(CpuNo(1)));
-    println!(rt; "  target 1: queue of {}", d.queue_for(CpuNo(3)).0)?;
+    write_target(rt, "target 1", d.queue_for(CpuNo(3)))?;
     d.set_target(None);
-    println!(rt; "  no target: queue of {}", d.queue_for(CpuNo(3)).0)?;
+    write_target(rt, "no target", d.queue_for(CpuNo(3)))?;
     let mut queue = DpcQueue::new(rt.alloc(), OWN, 0, 4)?;
-    println!(rt; "  idle {}", queue.is_idle())?;
+    write_idle(rt, queue.is_idle(), "")?;
     queue.rest();
-    println!(rt; "  idle {} after a rest", queue.is_idle())?;
+    write_idle(rt, queue.is_idle(), " after a rest")?;
     queue.run();
-    println!(rt; "  idle {} after a switch", queue.is_idle())
+    write_idle(rt, queue.is_idle(), " after a switch")
 }

@@ -1,6 +1,10 @@
 //! The frames of a processor: what calls answer, and what they leave.
-use nt_event::{Again, ApcKind, ApcNo, Body, Command, CpuNo, DpcNo, Mode, Region, ThreadNo};
-use nt_frame::{FrameAnswer, FrameCall, Frames, perform_all};
+ghost use Rattle.nt_frame.specs.Calls.{MayCallAll};
+
+use nt_event::{
+    Again, ApcKind, ApcNo, Body, Command, CpuNo, DpcNo, Mode, Region, Regions, ThreadNo,
+};
+use nt_frame::{FrameAnswer, FrameCall, FrameView, Frames, perform_all};
 use nt_level::Level;
 use std::io;
 
@@ -19,38 +23,66 @@ pub fn answer(rt: HostRuntime, case: &str) -> io::Result<()> {
     }
 }
 
-/// Writes each call with its answer.
+fn write_answer(rt: HostRuntime, call: &FrameCall, answer: &FrameAnswer) -> io::Result<()> {
+    println!(rt; "  {call:?}: {answer:?}")
+}
+
+/// Makes the calls and writes each with its answer.
+fn write_calls(rt: HostRuntime, frames: &mut Frames, calls: &[FrameCall]) -> io::Result<()>
+    requires { MayCallAll calls.now frames.old }
+{
+    let answers = perform_all(rt.alloc(), frames, calls)?;
+    write_answers(rt, calls, answers.as_slice())
+}
+
 fn write_answers(rt: HostRuntime, calls: &[FrameCall], answers: &[FrameAnswer]) -> io::Result<()> {
     for (call, answer) in calls.iter().zip(answers.iter()) {
-        println!(rt; "  {call:?}: {answer:?}")?;
+        write_answer(rt, call, answer)?;
     }
     Ok(())
+}
+
+/// Writes the level, and that to which it goes back.
+fn write_levels(rt: HostRuntime, level: Level, after: Level) -> io::Result<()> {
+    println!(rt; "  level {}, then {}", level.number(), after.number())
+}
+
+fn write_running(rt: HostRuntime, running: Option<ThreadNo>) -> io::Result<()> {
+    println!(rt; "  running {running:?}")
+}
+
+/// Writes whether the own part has frames, and whether the running thread's part has the innermost.
+fn write_part(rt: HostRuntime, own: bool, thread: bool) -> io::Result<()> {
+    println!(rt; "  own part {own}, thread's part {thread}")
+}
+
+fn write_regions(rt: HostRuntime, regions: Regions, then: &str) -> io::Result<()> {
+    println!(rt; "  {regions:?}{then}")
+}
+
+fn write_innermost(rt: HostRuntime, frame: Option<FrameView>) -> io::Result<()> {
+    println!(rt; "  innermost {frame:?}")
 }
 
 /// Writes what the frames tell.
 fn write_questions(rt: HostRuntime, frames: &Frames) -> io::Result<()> {
-    println!(rt;
-        "  level {}, then {}",
-        frames.level().number(),
-        frames.after().number()
-    )?;
-    println!(rt; "  running {:?}", frames.running())?;
-    println!(rt;
-        "  own part {}, thread's part {}",
-        frames.has_own(),
-        frames.is_on_thread()
-    )?;
-    println!(rt; "  {:?}", frames.regions())?;
-    println!(rt; "  {:?} then", frames.below())?;
-    println!(rt; "  innermost {:?}", frames.innermost())
+    write_levels(rt, frames.level(), frames.after())?;
+    write_running(rt, frames.running())?;
+    write_part(rt, frames.has_own(), frames.is_on_thread())?;
+    write_regions(rt, frames.regions(), "")?;
+    write_regions(rt, frames.below(), " then")?;
+    write_innermost(rt, frames.innermost())
 }
 
-/// Writes why commands would be refused, if they would.
+/// Writes why the command would be refused, if it would.
+fn write_refusal(rt: HostRuntime, frames: &Frames, command: Command) -> io::Result<()> {
+    println!(rt; "  {command:?} refused {:?}", frames.refusal(&command))
+}
+
 fn write_refusals(rt: HostRuntime, frames: &Frames) -> io::Result<()> {
-    for command in [Command::Yield, Command::ToUser, Command::LeaveGuard] {
-        println!(rt; "  {command:?} refused {:?}", frames.refusal(&command))?;
-    }
-    Ok(())
+    write_refusal(rt, frames, Command::Yield)?;
+    write_refusal(rt, frames, Command::ToUser)?;
+    write_refusal(rt, frames, Command::LeaveGuard)
 }
 
 fn no_frame_at_the_start(rt: HostRuntime) -> io::Result<()> {
@@ -74,8 +106,7 @@ fn levels_and_regions_of_a_thread(rt: HostRuntime) -> io::Result<()> {
         FrameCall::Lower(Level::CLOCK),
         FrameCall::Enter(Region::Crit),
     ];
-    let answers = perform_all(rt.alloc(), &mut frames, &calls)?;
-    write_answers(rt, &calls, answers.as_slice())?;
+    write_calls(rt, &mut frames, &calls)?;
     write_questions(rt, &frames)?;
     write_refusals(rt, &frames)
 }
@@ -99,8 +130,7 @@ fn routines_over_a_thread(rt: HostRuntime) -> io::Result<()> {
         FrameCall::Finish,
         FrameCall::Finish,
     ];
-    let answers = perform_all(rt.alloc(), &mut frames, &calls)?;
-    write_answers(rt, &calls, answers.as_slice())?;
+    write_calls(rt, &mut frames, &calls)?;
     write_questions(rt, &frames)
 }
 
@@ -124,7 +154,6 @@ fn threads_come_and_go(rt: HostRuntime) -> io::Result<()> {
         FrameCall::Gone,
         FrameCall::SwitchTo(T1),
     ];
-    let answers = perform_all(rt.alloc(), &mut frames, &calls)?;
-    write_answers(rt, &calls, answers.as_slice())?;
+    write_calls(rt, &mut frames, &calls)?;
     write_questions(rt, &frames)
 }

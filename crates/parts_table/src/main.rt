@@ -9,6 +9,7 @@ mod dpc;
 mod frames;
 mod thread;
 mod timers;
+mod writing;
 
 use std::io;
 

@@ -1,5 +1,9 @@
 //! The state of a thread: each call with its answer, and the tests at a wait as a table.
-use nt_thread::{ApcKind, ApcNo, Level, Mode, Pick, Regions, ThreadState, WaitSpec};
+use crate::writing::{write_number, write_pick, write_yes};
+use nt_thread::{
+    AlertAnswer, ApcAnswer, ApcKind, ApcNo, Level, Mode, Pick, Regions, ThreadState, WaitAnswer,
+    WaitSpec,
+};
 use std::alloc::{AllocError, Global};
 use std::io;
 
@@ -40,6 +44,42 @@ const NOTHING: Before = Before {
     alerted_kernel: false,
     alerted_user: false,
     user_apc: false,
+};
+
+/// What each test at a wait asks for.
+const ALL: Before = Before {
+    kernel_apc: true,
+    released: true,
+    alerted_kernel: true,
+    alerted_user: true,
+    user_apc: true,
+};
+
+/// What the tests from the second on ask for, and so on.
+const SECOND: Before = Before {
+    kernel_apc: false,
+    ..ALL
+};
+
+const THIRD: Before = Before {
+    released: false,
+    ..SECOND
+};
+
+const FOURTH: Before = Before {
+    alerted_user: false,
+    ..THIRD
+};
+
+const FIFTH: Before = Before {
+    user_apc: false,
+    ..FOURTH
+};
+
+const OF_USER_MODE: Before = Before {
+    alerted_user: true,
+    user_apc: true,
+    ..NOTHING
 };
 
 fn running(alloc: Global) -> Result<ThreadState, AllocError> {
@@ -93,98 +133,108 @@ fn write_endings(rt: HostRuntime, thread: &ThreadState) -> io::Result<()> {
     )
 }
 
+/// Writes what a wait would answer, and what it answers, of a thread to which something was done before.
+fn write_tests(
+    rt: HostRuntime,
+    name: &str,
+    before: Before,
+    mode: Mode,
+    alertable: bool,
+) -> io::Result<()> {
+    let (would, does) = tests(rt.alloc(), before, wait(mode, alertable))?;
+    println!(rt; "  {name}, {mode:?}, alertable {alertable}: {would:?} {does:?}")
+}
+
 /// What the wait would answer, and what it answers.
+fn tests(
+    alloc: Global,
+    before: Before,
+    spec: WaitSpec,
+) -> Result<(WaitAnswer, WaitAnswer), AllocError> {
+    let mut thread = prepared(alloc, before)?;
+    let would = thread.wait_answer(spec, FREE, Level::PASSIVE);
+    let does = thread.wait(spec, FREE, Level::PASSIVE);
+    Ok((would, does))
+}
+
 fn tests_at_a_wait(rt: HostRuntime) -> io::Result<()> {
-    let all = Before {
-        kernel_apc: true,
-        released: true,
-        alerted_kernel: true,
-        alerted_user: true,
-        user_apc: true,
-    };
-    let second = Before {
-        kernel_apc: false,
-        ..all
-    };
-    let third = Before {
-        released: false,
-        ..second
-    };
-    let fourth = Before {
-        alerted_user: false,
-        ..third
-    };
-    let fifth = Before {
-        user_apc: false,
-        ..fourth
-    };
-    let of_user_mode = Before {
-        alerted_user: true,
-        user_apc: true,
-        ..NOTHING
-    };
-    let table = [
-        ("from the first test", all, Mode::User, true),
-        ("from the second", second, Mode::User, true),
-        ("from the third", third, Mode::User, true),
-        ("from the fourth", fourth, Mode::User, true),
-        ("from the fifth", fifth, Mode::User, true),
-        ("nothing", NOTHING, Mode::User, true),
-        ("from the fourth", fourth, Mode::Kernel, true),
-        (
-            "alert and APC of user mode",
-            of_user_mode,
-            Mode::Kernel,
-            true,
-        ),
-        ("from the third", third, Mode::User, false),
-        ("from the second", second, Mode::User, false),
-        ("from the first test", all, Mode::Kernel, false),
-    ];
-    for (name, before, mode, alertable) in table {
-        let mut thread = prepared(rt.alloc(), before)?;
-        let spec = wait(mode, alertable);
-        let would = thread.wait_answer(spec, FREE, Level::PASSIVE);
-        let does = thread.wait(spec, FREE, Level::PASSIVE);
-        println!(rt; "  {name}, {mode:?}, alertable {alertable}: {would:?} {does:?}")?;
+    write_tests(rt, "from the first test", ALL, Mode::User, true)?;
+    write_tests(rt, "from the second", SECOND, Mode::User, true)?;
+    write_tests(rt, "from the third", THIRD, Mode::User, true)?;
+    write_tests(rt, "from the fourth", FOURTH, Mode::User, true)?;
+    write_tests(rt, "from the fifth", FIFTH, Mode::User, true)?;
+    write_tests(rt, "nothing", NOTHING, Mode::User, true)?;
+    write_tests(rt, "from the fourth", FOURTH, Mode::Kernel, true)?;
+    write_tests(
+        rt,
+        "alert and APC of user mode",
+        OF_USER_MODE,
+        Mode::Kernel,
+        true,
+    )?;
+    write_tests(rt, "from the third", THIRD, Mode::User, false)?;
+    write_tests(rt, "from the second", SECOND, Mode::User, false)?;
+    write_tests(rt, "from the first test", ALL, Mode::Kernel, false)
+}
+
+fn write_wait(rt: HostRuntime, answer: WaitAnswer, then: &str) -> io::Result<()> {
+    println!(rt; "  wait {answer:?}{then}")
+}
+
+fn write_apc(rt: HostRuntime, call: &str, answer: ApcAnswer) -> io::Result<()> {
+    println!(rt; "  {call} {answer:?}")
+}
+
+fn write_alert(rt: HostRuntime, answer: AlertAnswer) -> io::Result<()> {
+    println!(rt; "  alert {answer:?}")
+}
+
+/// Writes the status of a wait that ended, if one did.
+fn write_status(rt: HostRuntime, call: &str, status: Option<u32>) -> io::Result<()> {
+    println!(rt; "  {call} {status:?}")
+}
+
+/// Resumes the thread and writes the status, where it is ready.
+fn resumed(rt: HostRuntime, thread: &mut ThreadState) -> io::Result<()> {
+    if thread.is_ready() {
+        write_status(rt, "resume", thread.resume())?;
     }
     Ok(())
 }
 
 fn a_mark_ends_a_wait(rt: HostRuntime) -> io::Result<()> {
     let mut thread = running(rt.alloc())?;
-    println!(rt; "  apc {:?}", thread.apc(ApcNo(1), ApcKind::User, 2))?;
-    println!(rt; "  user due {:?}", thread.user_due())?;
-    println!(rt; "  test alert {}", thread.test_alert(Mode::User))?;
-    println!(rt; "  user due {:?}", thread.user_due())?;
+    write_apc(rt, "apc", thread.apc(ApcNo(1), ApcKind::User, 2))?;
+    write_pick(rt, "user due", thread.user_due())?;
+    write_yes(rt, "test alert", thread.test_alert(Mode::User))?;
+    write_pick(rt, "user due", thread.user_due())?;
     let plain = wait(Mode::User, false);
-    println!(rt; "  wait {:?}", thread.wait(plain, FREE, Level::PASSIVE))?;
+    write_wait(rt, thread.wait(plain, FREE, Level::PASSIVE), "")?;
     thread.take(Pick {
         apc: ApcNo(1),
         kind: ApcKind::User,
         number: 2,
     });
-    println!(rt;
-        "  wait {:?} once it is taken",
-        thread.wait(plain, FREE, Level::PASSIVE)
+    write_wait(
+        rt,
+        thread.wait(plain, FREE, Level::PASSIVE),
+        " once it is taken",
     )
 }
 
 fn a_release(rt: HostRuntime) -> io::Result<()> {
     let mut thread = running(rt.alloc())?;
     let plain = wait(Mode::Kernel, false);
-    println!(rt; "  wait {:?}", thread.wait(plain, FREE, Level::APC))?;
-    println!(rt; "  level {}", thread.level().number())?;
+    write_wait(rt, thread.wait(plain, FREE, Level::APC), "")?;
+    write_number(rt, "level", u64::from(thread.level().number()))?;
     write_endings(rt, &thread)?;
-    println!(rt; "  end delay {}", thread.end_delay(9))?;
-    println!(rt; "  status {:?}", thread.status())?;
-    println!(rt; "  release {}", thread.release())?;
-    println!(rt; "  status {:?}", thread.status())?;
-    println!(rt; "  ready {}", thread.is_ready())?;
-    if thread.is_ready() {
-        println!(rt; "  resume {:?}", thread.resume())?;
-    }
-    println!(rt; "  running {}", thread.is_running())
+    write_yes(rt, "end delay", thread.end_delay(9))?;
+    write_status(rt, "status", thread.status())?;
+    write_yes(rt, "release", thread.release())?;
+    write_status(rt, "status", thread.status())?;
+    write_yes(rt, "ready", thread.is_ready())?;
+    resumed(rt, &mut thread)?;
+    write_yes(rt, "running", thread.is_running())
 }
 
 fn a_delay(rt: HostRuntime) -> io::Result<()> {
@@ -193,49 +243,43 @@ fn a_delay(rt: HostRuntime) -> io::Result<()> {
         reached: Some(false),
         ..wait(Mode::Kernel, false)
     };
-    println!(rt; "  wait {:?}", thread.wait(delay, FREE, Level::PASSIVE))?;
+    write_wait(rt, thread.wait(delay, FREE, Level::PASSIVE), "")?;
     write_endings(rt, &thread)?;
-    println!(rt; "  release {}", thread.release())?;
-    println!(rt; "  end delay 8 {}", thread.end_delay(8))?;
-    println!(rt; "  end delay 9 {}", thread.end_delay(9))?;
-    println!(rt; "  end delay 9 {}", thread.end_delay(9))
+    write_yes(rt, "release", thread.release())?;
+    write_yes(rt, "end delay 8", thread.end_delay(8))?;
+    write_yes(rt, "end delay 9", thread.end_delay(9))?;
+    write_yes(rt, "end delay 9", thread.end_delay(9))
 }
 
 fn an_alert(rt: HostRuntime) -> io::Result<()> {
     let mut thread = running(rt.alloc())?;
     let alertable = wait(Mode::User, true);
-    println!(rt; "  wait {:?}", thread.wait(alertable, FREE, Level::PASSIVE))?;
+    write_wait(rt, thread.wait(alertable, FREE, Level::PASSIVE), "")?;
     write_endings(rt, &thread)?;
-    println!(rt; "  alert {:?}", thread.alert(Mode::User))?;
-    println!(rt; "  was alerted {}", thread.was_alerted(Mode::User))?;
-    println!(rt; "  alert {:?}", thread.alert(Mode::User))?;
-    println!(rt; "  was alerted {}", thread.was_alerted(Mode::User))?;
-    println!(rt; "  alert {:?}", thread.alert(Mode::User))?;
-    println!(rt; "  test alert {}", thread.test_alert(Mode::User))?;
-    println!(rt; "  test alert {}", thread.test_alert(Mode::User))
+    write_alert(rt, thread.alert(Mode::User))?;
+    write_yes(rt, "was alerted", thread.was_alerted(Mode::User))?;
+    write_alert(rt, thread.alert(Mode::User))?;
+    write_yes(rt, "was alerted", thread.was_alerted(Mode::User))?;
+    write_alert(rt, thread.alert(Mode::User))?;
+    write_yes(rt, "test alert", thread.test_alert(Mode::User))?;
+    write_yes(rt, "test alert", thread.test_alert(Mode::User))
+}
+
+/// Writes whether the thread takes the APC, and the user APC that stands first.
+fn write_taking(rt: HostRuntime, takes: bool, first: Option<Pick>) -> io::Result<()> {
+    println!(rt; "  takes {takes}, first {first:?}")
 }
 
 fn a_user_apc(rt: HostRuntime) -> io::Result<()> {
     let mut thread = running(rt.alloc())?;
     let alertable = wait(Mode::User, true);
-    println!(rt; "  wait {:?}", thread.wait(alertable, FREE, Level::PASSIVE))?;
-    println!(rt;
-        "  takes {}, first {:?}",
-        thread.takes(ApcNo(1)),
-        thread.user_first()
-    )?;
-    println!(rt;
-        "  apc answer {:?}",
-        thread.apc_answer(ApcNo(1), ApcKind::User)
-    )?;
-    println!(rt; "  apc {:?}", thread.apc(ApcNo(1), ApcKind::User, 20))?;
-    println!(rt;
-        "  takes {}, first {:?}",
-        thread.takes(ApcNo(1)),
-        thread.user_first()
-    )?;
-    println!(rt; "  unapc {}", thread.unapc(ApcNo(1)))?;
-    println!(rt; "  unapc {}", thread.unapc(ApcNo(1)))
+    write_wait(rt, thread.wait(alertable, FREE, Level::PASSIVE), "")?;
+    write_taking(rt, thread.takes(ApcNo(1)), thread.user_first())?;
+    write_apc(rt, "apc answer", thread.apc_answer(ApcNo(1), ApcKind::User))?;
+    write_apc(rt, "apc", thread.apc(ApcNo(1), ApcKind::User, 20))?;
+    write_taking(rt, thread.takes(ApcNo(1)), thread.user_first())?;
+    write_yes(rt, "unapc", thread.unapc(ApcNo(1)))?;
+    write_yes(rt, "unapc", thread.unapc(ApcNo(1)))
 }
 
 /// A normal kernel APC waits behind a critical region, and a special one ends the wait.
@@ -243,55 +287,64 @@ fn an_interrupted_wait(rt: HostRuntime) -> io::Result<()> {
     let mut thread = running(rt.alloc())?;
     let spec = wait(Mode::Kernel, false);
     let critical = Regions { crit: 1, ..FREE };
-    println!(rt; "  wait {:?}", thread.wait(spec, critical, Level::PASSIVE))?;
-    println!(rt; "  apc 3 {:?}", thread.apc(ApcNo(3), ApcKind::Normal, 11))?;
-    println!(rt; "  apc 0 {:?}", thread.apc(ApcNo(0), ApcKind::Special, 12))?;
-    println!(rt; "  has kernel {}", thread.has_kernel())?;
-    if thread.is_ready() {
-        println!(rt; "  resume {:?}", thread.resume())?;
-    }
-    println!(rt;
-        "  deliverable {:?}",
-        thread.deliverable(critical, Level::PASSIVE)
+    write_wait(rt, thread.wait(spec, critical, Level::PASSIVE), "")?;
+    write_apc(rt, "apc 3", thread.apc(ApcNo(3), ApcKind::Normal, 11))?;
+    write_apc(rt, "apc 0", thread.apc(ApcNo(0), ApcKind::Special, 12))?;
+    write_yes(rt, "has kernel", thread.has_kernel())?;
+    resumed(rt, &mut thread)?;
+    write_pick(
+        rt,
+        "deliverable",
+        thread.deliverable(critical, Level::PASSIVE),
     )?;
     thread.take(Pick {
         apc: ApcNo(0),
         kind: ApcKind::Special,
         number: 12,
     });
-    println!(rt;
-        "  wait {:?} once it is taken",
-        thread.wait(spec, critical, Level::PASSIVE)
+    write_wait(
+        rt,
+        thread.wait(spec, critical, Level::PASSIVE),
+        " once it is taken",
     )?;
-    println!(rt; "  release {}", thread.release())
+    write_yes(rt, "release", thread.release())
+}
+
+/// Writes the user APC that is flushed, if there was one.
+fn write_flush(rt: HostRuntime, flushed: Option<(ApcNo, u64)>) -> io::Result<()> {
+    println!(rt; "  flush {flushed:?}")
+}
+
+/// Writes whether the thread is gone, and whether it leaves.
+fn write_gone(rt: HostRuntime, gone: bool, leaving: bool) -> io::Result<()> {
+    println!(rt; "  gone {gone}, leaving {leaving}")
 }
 
 /// What is left of a thread once its base routine has ended.
 fn a_rundown(rt: HostRuntime) -> io::Result<()> {
     let mut thread = running(rt.alloc())?;
     thread.give_way(Level::APC);
-    println!(rt; "  level {}", thread.level().number())?;
-    if thread.is_ready() {
-        println!(rt; "  resume {:?}", thread.resume())?;
-    }
-    println!(rt; "  apc 1 {:?}", thread.apc(ApcNo(1), ApcKind::User, 4))?;
-    println!(rt; "  apc 2 {:?}", thread.apc(ApcNo(2), ApcKind::User, 5))?;
+    write_number(rt, "level", u64::from(thread.level().number()))?;
+    resumed(rt, &mut thread)?;
+    write_apc(rt, "apc 1", thread.apc(ApcNo(1), ApcKind::User, 4))?;
+    write_apc(rt, "apc 2", thread.apc(ApcNo(2), ApcKind::User, 5))?;
     thread.leave();
-    println!(rt; "  leaving {}", thread.is_leaving())?;
-    println!(rt; "  apc 3 {:?}", thread.apc(ApcNo(3), ApcKind::User, 8))?;
-    println!(rt; "  flush {:?}", thread.flush())?;
-    println!(rt; "  flush {:?}", thread.flush())?;
+    write_yes(rt, "leaving", thread.is_leaving())?;
+    write_apc(rt, "apc 3", thread.apc(ApcNo(3), ApcKind::User, 8))?;
+    run_down(rt, &mut thread)
+}
+
+/// Flushes the thread that leaves, which is gone then.
+fn run_down(rt: HostRuntime, thread: &mut ThreadState) -> io::Result<()> {
+    write_flush(rt, thread.flush())?;
+    write_flush(rt, thread.flush())?;
     let last = thread.flush();
-    println!(rt; "  flush {last:?}")?;
+    write_flush(rt, last)?;
     if last.is_none() {
         thread.gone();
     }
-    println!(rt;
-        "  gone {}, leaving {}",
-        thread.is_gone(),
-        thread.is_leaving()
-    )?;
-    println!(rt; "  release {}", thread.release())?;
-    println!(rt; "  alert {:?}", thread.alert(Mode::Kernel))?;
-    println!(rt; "  alert {:?}", thread.alert(Mode::Kernel))
+    write_gone(rt, thread.is_gone(), thread.is_leaving())?;
+    write_yes(rt, "release", thread.release())?;
+    write_alert(rt, thread.alert(Mode::Kernel))?;
+    write_alert(rt, thread.alert(Mode::Kernel))
 }

@@ -1,6 +1,7 @@
 //! The timers and delays of a script: the worked examples.
+use crate::writing::{write_number, write_yes};
 use nt_event::{ThreadNo, TimerKey, TimerNo};
-use nt_timer::TimerQueue;
+use nt_timer::{Expired, SetAnswer, TimerQueue};
 use std::io;
 
 /// Writes the answers of a case.
@@ -14,18 +15,31 @@ pub fn answer(rt: HostRuntime, case: &str) -> io::Result<()> {
     }
 }
 
+/// Writes the key that is due first, if any.
+fn write_first(rt: HostRuntime, queue: &TimerQueue) -> io::Result<()> {
+    println!(rt; "  first {:?}", queue.first_due())
+}
+
+fn write_set(rt: HostRuntime, answer: SetAnswer) -> io::Result<()> {
+    println!(rt; "  set {answer:?}")
+}
+
+fn write_expiry(rt: HostRuntime, expired: Expired) -> io::Result<()> {
+    println!(rt; "  expire {expired:?}")
+}
+
 fn set_and_cancelled(rt: HostRuntime) -> io::Result<()> {
     let t = TimerNo(0);
     let mut queue = TimerQueue::new(rt.alloc(), 1, 0)?;
-    println!(rt; "  is set {}", queue.is_set(t))?;
-    println!(rt; "  set {:?}", queue.set(t, 1, 0, 2))?;
-    println!(rt; "  is set {}", queue.is_set(t))?;
-    println!(rt; "  set {:?}", queue.set(t, 0, 0, 3))?;
-    println!(rt; "  first {:?}", queue.first_due())?;
-    println!(rt; "  cancel {}", queue.cancel(t))?;
-    println!(rt; "  is set {}", queue.is_set(t))?;
-    println!(rt; "  cancel {}", queue.cancel(t))?;
-    println!(rt; "  first {:?}", queue.first_due())
+    write_yes(rt, "is set", queue.is_set(t))?;
+    write_set(rt, queue.set(t, 1, 0, 2))?;
+    write_yes(rt, "is set", queue.is_set(t))?;
+    write_set(rt, queue.set(t, 0, 0, 3))?;
+    write_first(rt, &queue)?;
+    write_yes(rt, "cancel", queue.cancel(t))?;
+    write_yes(rt, "is set", queue.is_set(t))?;
+    write_yes(rt, "cancel", queue.cancel(t))?;
+    write_first(rt, &queue)
 }
 
 fn due_keys_expire_in_order(rt: HostRuntime) -> io::Result<()> {
@@ -36,17 +50,17 @@ fn due_keys_expire_in_order(rt: HostRuntime) -> io::Result<()> {
     queue.set(b, 4, 0, 4);
     queue.set_delay(w, 5, 1);
     queue.set(c, 9, 0, 2);
-    println!(rt; "  first {:?}", queue.first_due())?;
+    write_first(rt, &queue)?;
     queue.advance(5);
-    println!(rt; "  now {}", queue.now())?;
-    println!(rt; "  first {:?}", queue.first_due())?;
-    println!(rt; "  expire {:?}", queue.expire(TimerKey::Timer(b), 7))?;
-    println!(rt; "  first {:?}", queue.first_due())?;
-    println!(rt; "  expire {:?}", queue.expire(TimerKey::Delay(w), 8))?;
-    println!(rt; "  first {:?}", queue.first_due())?;
-    println!(rt; "  expire {:?}", queue.expire(TimerKey::Timer(a), 9))?;
-    println!(rt; "  first {:?}", queue.first_due())?;
-    println!(rt; "  is set {}", queue.is_set(c))
+    write_number(rt, "now", queue.now())?;
+    write_first(rt, &queue)?;
+    write_expiry(rt, queue.expire(TimerKey::Timer(b), 7))?;
+    write_first(rt, &queue)?;
+    write_expiry(rt, queue.expire(TimerKey::Delay(w), 8))?;
+    write_first(rt, &queue)?;
+    write_expiry(rt, queue.expire(TimerKey::Timer(a), 9))?;
+    write_first(rt, &queue)?;
+    write_yes(rt, "is set", queue.is_set(c))
 }
 
 fn a_late_periodic_timer(rt: HostRuntime) -> io::Result<()> {
@@ -54,11 +68,11 @@ fn a_late_periodic_timer(rt: HostRuntime) -> io::Result<()> {
     let mut queue = TimerQueue::new(rt.alloc(), 1, 0)?;
     queue.set(t, 1, 1, 1);
     queue.advance(3);
-    println!(rt; "  first {:?}", queue.first_due())?;
-    println!(rt; "  expire {:?}", queue.expire(TimerKey::Timer(t), 5))?;
-    println!(rt; "  first {:?}", queue.first_due())?;
+    write_first(rt, &queue)?;
+    write_expiry(rt, queue.expire(TimerKey::Timer(t), 5))?;
+    write_first(rt, &queue)?;
     queue.advance(1);
-    println!(rt; "  first {:?}", queue.first_due())
+    write_first(rt, &queue)
 }
 
 fn a_second_delay(rt: HostRuntime) -> io::Result<()> {
@@ -67,7 +81,7 @@ fn a_second_delay(rt: HostRuntime) -> io::Result<()> {
     queue.set_delay(w, 3, 1);
     queue.set_delay(w, 4, 2);
     queue.advance(3);
-    println!(rt; "  first {:?}", queue.first_due())?;
+    write_first(rt, &queue)?;
     queue.advance(1);
-    println!(rt; "  first {:?}", queue.first_due())
+    write_first(rt, &queue)
 }

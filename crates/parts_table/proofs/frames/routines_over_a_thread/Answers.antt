@@ -3,6 +3,6 @@ use Rattle.nt_event.specs.Lists.{table_from}
 use Rattle.parts_table.proofs.FrameCalls.{calls_allowed}
 use Rattle.parts_table.proofs.frames.routines_over_a_thread.Goals as goal
 
-pub perform_all-requires : goal.perform_all-requires
+pub write_calls-requires : goal.write_calls-requires
 unfolding table_from
-perform_all-requires c = rw c.in_ok-frames.ensures (calls_allowed _ _ refl)
+write_calls-requires c = rw c.in_ok-frames.ensures (calls_allowed _ _ refl)
