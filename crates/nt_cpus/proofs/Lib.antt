@@ -1,4 +1,3 @@
-pub mod Counts
 pub mod Floors
 pub mod Stepping
 pub mod Choosing

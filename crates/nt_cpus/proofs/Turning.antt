@@ -10,6 +10,7 @@ use Rattle.nt_event.specs.Lanes.{Lanes}
 use Rattle.nt_event.specs.Own.{own_of}
 use Rattle.nt_event.specs.Step.{cpu_at, is_cut, step}
 use Rattle.nt_runs.proofs.Turns.{run_grows}
+use Rattle.nt_laws.proofs.Counts.{uncut_room}
 use Rattle.nt_floor.specs.Acts.{Found}
 use Rattle.nt_floor.specs.Views.{IsUnmoved, View}
 use Rattle.nt_cpu.specs.Runs.{is_asked, state_of}
@@ -21,7 +22,6 @@ use Rattle.nt_cpu.proofs.CoreMoves.{MovesOn, moves_on}
 use Rattle.nt_cpu.proofs.CoreSteps.{serves_run}
 use Rattle.nt_cpus.specs.Following.{AreAfter, cpus_of}
 use Rattle.nt_cpus.specs.States.{CpusState}
-use Rattle.nt_cpus.proofs.Counts.{uncut_room}
 use Rattle.nt_cpus.proofs.Floors.{follows_still}
 use Rattle.nt_cpus.proofs.Holding.{cpu_held}
 use Rattle.nt_cpus.proofs.Stepping.{cpus_move, refused_step, turned_step}
