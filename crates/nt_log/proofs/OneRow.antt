@@ -92,10 +92,6 @@ row_to [] h = absurd h
 row_to (f ∷ []) h = and_from (is_field f) true h.0 refl
 row_to (f ∷ g ∷ fs) h = and_from (is_field f) (list_all is_field (g ∷ fs)) h.0 (row_to (g ∷ fs) h.1)
 
-pub rows_from : (a b : List Row) → AllRows a → AllRows b → AllRows (a ++ b)
-rows_from [] b h k = k
-rows_from (r ∷ a) b h k = (h.0, rows_from a b h.1 k)
-
 pub map_rows : {X : Type 0} (P : X → Type 0) (row : X → Row) → ((x : X) → P x → IsRow (row x)) → (xs : List X) → AllByRecursion P xs → AllRows (map row xs)
 map_rows P row f [] h = tt
 map_rows P row f (x ∷ xs) h = (f x h.0, map_rows P row f xs h.1)

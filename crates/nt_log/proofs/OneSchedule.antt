@@ -23,12 +23,12 @@ use Rattle.nt_line.specs.Fields.{read_thread}
 use Rattle.nt_script.specs.Sound.{IsSound}
 use Rattle.nt_text.specs.Lines.{Row}
 use Rattle.nt_line.specs.Rows.{show_cpu}
-use Rattle.nt_script.proofs.Clean.{thread_field}
+use Rattle.nt_script.proofs.Clean.{rows_both, thread_field}
 use Rattle.nt_line.proofs.Found.{are_read}
 use Rattle.nt_script.proofs.Soundness.{sound_fits}
 use Rattle.nt_log.specs.declared.schedules.Schedule.{Schedule}
 use Rattle.nt_log.specs.Schedules.{IsPlain, IsTextOf, TurnIsPlain, done_row, limit_row, rise_field, rises_row, schedule_rows, turn_row}
-use Rattle.nt_log.proofs.OneRow.{decimal_one, map_one, map_rows, all_map, read_one, row_from, rows_from, rows_one, split_one}
+use Rattle.nt_log.proofs.OneRow.{decimal_one, map_one, map_rows, all_map, read_one, row_from, rows_one, split_one}
 
 -- ---- things
 
@@ -178,7 +178,7 @@ pub schedule_clean : (input : Input) → IsSound input → (s : Schedule) → Is
 schedule_clean input sound s plain =
     let most = plain.limit.1 in (
       (refl, (decimal_field s.turns (omega (arith, most)), tt)),
-      rows_from (map (turn_row input.names) s.list) (done_row ∷ [])
+      rows_both (map (turn_row input.names) s.list) (done_row ∷ [])
           (map_rows (TurnIsPlain input.script) (turn_row input.names) (turn_clean input sound) s.list plain.turns) ((refl, tt), tt),
     )
 

@@ -27,10 +27,11 @@ use Rattle.nt_event.specs.Step.{turn_at, turn_of}
 use Rattle.nt_script.specs.declared.walk.Input.{Input}
 use Rattle.nt_line.specs.NameLists.{NameLists}
 use Rattle.nt_script.specs.Sound.{IsSound}
+use Rattle.nt_script.proofs.Clean.{rows_both}
 use Rattle.nt_text.specs.Lines.{Row}
 use Rattle.nt_log.specs.declared.schedules.Schedule.{Schedule}
 use Rattle.nt_log.specs.Schedules.{IsPlain as OfTurns, TurnIsPlain, limit_row, schedule_of, schedule_rows}
-use Rattle.nt_log.proofs.OneRow.{all_map, map_rows, row_from, rows_from, rows_one, split_one}
+use Rattle.nt_log.proofs.OneRow.{all_map, map_rows, row_from, rows_one, split_one}
 use Rattle.nt_log.proofs.OneSchedule.{schedule_clean, turns_one}
 use Rattle.nt_print.specs.Conditions.{EventIsPlain, IsPlain, IsReportOf, LookIsBare, WhatInRange}
 use Rattle.nt_event.specs.Fitting.{what_fits}
@@ -101,7 +102,7 @@ events_clean : (input : Input) → Known input → (n : ℕ) (es : List Event) �
     AllRows (event_rows input n es)
 events_clean input k n [] few h = tt
 events_clean input k n (e ∷ es) few h =
-    rows_from (line_rows input n e e.what) (event_rows input (n + 1) es) (subst AllRows (sym (line_split input n e e.what)) (go (is_look e.what)))
+    rows_both (line_rows input n e e.what) (event_rows input (n + 1) es) (subst AllRows (sym (line_split input n e e.what)) (go (is_look e.what)))
     (events_clean input k (n + 1) es (omega (arith, few)) h.1)
   where
     go : (b : Bool) → AllRows (if b then [] else event_row input n e ∷ [])
@@ -198,7 +199,7 @@ cuts_other h p (suc n) = all_append IsOther (cut_of h p) (cut_rows h (p + 1) n) 
 
 pub cuts_clean : (h : History) (p n : ℕ) → p + n < 2 ^ 64 → AllRows (cut_rows h p n)
 cuts_clean h p zero few = tt
-cuts_clean h p (suc n) few = rows_from (cut_of h p) (cut_rows h (p + 1) n) (go (made p h.events == h.turns)) (cuts_clean h (p + 1) n (omega (arith, few)))
+cuts_clean h p (suc n) few = rows_both (cut_of h p) (cut_rows h (p + 1) n) (go (made p h.events == h.turns)) (cuts_clean h (p + 1) n (omega (arith, few)))
   where
     go : (b : Bool) → AllRows (if b then cut_row p ∷ [] else [])
     go true = ((refl, (decimal_field p (omega (arith, few)), tt)), tt)
@@ -281,12 +282,12 @@ report_clean input sound h p =
     let few = p.few in
     let cpus = k.fit.cpus.1 in (
       (refl, tt),
-      rows_from (event_rows input 0 h.events) (cut_rows h 0 input.script.cpus
+      rows_both (event_rows input 0 h.events) (cut_rows h 0 input.script.cpus
           ++ (wait_rows input.names (reverse h.events) ++ schedule_rows input.names (schedule_of h)))
           (events_clean input k 0 h.events (omega (arith, few)) p.events)
-          (rows_from (cut_rows h 0 input.script.cpus) (wait_rows input.names (reverse h.events) ++ schedule_rows input.names (schedule_of h))
+          (rows_both (cut_rows h 0 input.script.cpus) (wait_rows input.names (reverse h.events) ++ schedule_rows input.names (schedule_of h))
           (cuts_clean h 0 input.script.cpus (omega (arith, cpus)))
-          (rows_from (wait_rows input.names (reverse h.events)) (schedule_rows input.names (schedule_of h))
+          (rows_both (wait_rows input.names (reverse h.events)) (schedule_rows input.names (schedule_of h))
           (waits_clean input k (reverse h.events) (omega (arith, few, length-reverse h.events)) (all_reverse (EventIsPlain input.script) h.events p.events))
           (schedule_clean input sound (schedule_of h) (schedule_plain input k h p)))),
     )
