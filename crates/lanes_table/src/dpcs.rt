@@ -1,5 +1,5 @@
 //! The DPC objects and queues of a small script, by the events that its processors make.
-ghost use Rattle.std.specs.Prelude.{◌≡◌, ◌<◌, IfOk, length};
+ghost use Rattle.std.specs.Prelude.{◌≡◌, ◌<◌, ◌+◌, IfOk, OnOk, length};
 ghost use Rattle.nt_event.specs.Replies.{yes_if};
 
 use nt_dpc_lanes::Dpcs;
@@ -17,11 +17,31 @@ const OTHER: CpuNo = CpuNo(1);
 /// Writes the answers of a case.
 pub fn answer(rt: HostRuntime, case: &str) -> io::Result<()> {
     match case {
-        "an insert stands where its target says" => an_insert_at_its_target(rt),
-        "an object is inserted once and removed once" => once_in_and_once_out(rt),
-        "high importance goes to the front" => high_goes_first(rt),
-        "an idle processor is asked" => an_idle_processor_is_asked(rt),
         "a threaded dpc is ordinary where they are off" => threaded_or_not(rt),
+        _ => started(rt, case),
+    }
+}
+
+/// Writes the answers of a case that begins with the small script.
+fn started(rt: HostRuntime, case: &str) -> io::Result<()> {
+    let script = script(rt.alloc(), None)?;
+    if !script.fits() {
+        return println!(rt; "  no fit");
+    }
+    let mut dpcs = Dpcs::new(rt.alloc(), &script)?;
+    answer_of(rt, case, &mut dpcs)
+}
+
+/// Writes the answers of a case of these objects and queues.
+fn answer_of(rt: HostRuntime, case: &str, dpcs: &mut Dpcs<'_>) -> io::Result<()>
+    requires objects { length dpcs.old.script.dpcs ≡ 3 }
+    requires cpus { dpcs.old.script.cpus ≡ 2 }
+{
+    match case {
+        "an insert stands where its target says" => an_insert_at_its_target(rt, dpcs),
+        "an object is inserted once and removed once" => once_in_and_once_out(rt, dpcs),
+        "high importance goes to the front" => high_goes_first(rt, dpcs),
+        "an idle processor is asked" => an_idle_processor_is_asked(rt, dpcs),
         _ => println!(rt; "  no such case"),
     }
 }
@@ -31,29 +51,40 @@ fn script(alloc: Global, threaded: Option<bool>) -> Result<Script, AllocError>
     ensures cpus { IfOk result (λ s. s.cpus ≡ 2) }
     ensures objects { IfOk result (λ s. length s.dpcs ≡ 3) }
 {
-    let routine = RoutineNo(0);
-    let ordinary = DpcDecl {
-        threaded: false,
-        routine,
+    let routine = Routine {
+        commands: Items::new(alloc),
     };
-    let declared = DpcDecl {
-        threaded: true,
-        routine,
-    };
-    Ok(Script {
+    let mut made = Script {
         cpus: 2,
         depth: None,
         threaded,
         isrs: Items::new(alloc),
-        dpcs: Items::from_vec(vec![in alloc; ordinary, ordinary, declared]?),
+        dpcs: Items::new(alloc),
         timers: Items::new(alloc),
         threads: Items::new(alloc),
         apcs: Items::new(alloc),
-        routines: Items::from_vec(vec![in alloc;
-            Routine {
-                commands: Items::new(alloc)
-            },
-        ]?),
+        routines: Items::from_vec(vec![in alloc; routine]?),
+    };
+    declare(&mut made.dpcs)?;
+    Ok(made)
+}
+
+/// Adds the three objects.
+fn declare(dpcs: &mut Items<DpcDecl>) -> Result<(), AllocError>
+    ensures { OnOk result (length dpcs.new ≡ length dpcs.old + 3) }
+{
+    let routine = RoutineNo(0);
+    dpcs.push(DpcDecl {
+        threaded: false,
+        routine,
+    })?;
+    dpcs.push(DpcDecl {
+        threaded: false,
+        routine,
+    })?;
+    dpcs.push(DpcDecl {
+        threaded: true,
+        routine,
     })
 }
 
@@ -64,7 +95,7 @@ fn reply(yes: bool) -> Reply
 }
 
 /// The processor calls `queue`; whether the object is inserted.
-fn queue(dpcs: &mut Dpcs, n: u64, p: CpuNo, d: DpcNo) -> bool
+fn queue(dpcs: &mut Dpcs<'_>, n: u64, p: CpuNo, d: DpcNo) -> bool
     requires objects { (length dpcs.old.script.dpcs ≡ 3) × (d.0 < 3) }
     requires cpus { (dpcs.old.script.cpus ≡ 2) × (p.0 < 2) }
     ensures objects { length dpcs.new.script.dpcs ≡ 3 }
@@ -81,7 +112,7 @@ fn queue(dpcs: &mut Dpcs, n: u64, p: CpuNo, d: DpcNo) -> bool
 }
 
 /// The processor calls `unqueue`; whether the object is removed.
-fn unqueue(dpcs: &mut Dpcs, n: u64, by: CpuNo, d: DpcNo) -> bool
+fn unqueue(dpcs: &mut Dpcs<'_>, n: u64, by: CpuNo, d: DpcNo) -> bool
     requires objects { (length dpcs.old.script.dpcs ≡ 3) × (d.0 < 3) }
     requires cpus { (dpcs.old.script.cpus ≡ 2) × (by.0 < 2) }
     ensures objects { length dpcs.new.script.dpcs ≡ 3 }
@@ -98,7 +129,7 @@ fn unqueue(dpcs: &mut Dpcs, n: u64, by: CpuNo, d: DpcNo) -> bool
 }
 
 /// Processor 0 sets the importance of the object.
-fn set_importance(dpcs: &mut Dpcs, d: DpcNo, i: Importance)
+fn set_importance(dpcs: &mut Dpcs<'_>, d: DpcNo, i: Importance)
     requires objects { (length dpcs.old.script.dpcs ≡ 3) × (d.0 < 3) }
     requires cpus { dpcs.old.script.cpus ≡ 2 }
     ensures objects { length dpcs.new.script.dpcs ≡ 3 }
@@ -113,7 +144,7 @@ fn set_importance(dpcs: &mut Dpcs, d: DpcNo, i: Importance)
 }
 
 /// Processor 0 makes processor 1 the target of the object.
-fn set_target(dpcs: &mut Dpcs, d: DpcNo)
+fn set_target(dpcs: &mut Dpcs<'_>, d: DpcNo)
     requires objects { (length dpcs.old.script.dpcs ≡ 3) × (d.0 < 3) }
     requires cpus { dpcs.old.script.cpus ≡ 2 }
     ensures objects { length dpcs.new.script.dpcs ≡ 3 }
@@ -128,7 +159,7 @@ fn set_target(dpcs: &mut Dpcs, d: DpcNo)
 }
 
 /// The first ordinary DPC of processor 0 begins, if there is one.
-fn begin(dpcs: &mut Dpcs, n: u64) -> Option<DpcNo>
+fn begin(dpcs: &mut Dpcs<'_>, n: u64) -> Option<DpcNo>
     requires objects { length dpcs.old.script.dpcs ≡ 3 }
     requires cpus { dpcs.old.script.cpus ≡ 2 }
     ensures objects { length dpcs.new.script.dpcs ≡ 3 }
@@ -145,54 +176,75 @@ fn begin(dpcs: &mut Dpcs, n: u64) -> Option<DpcNo>
     Some(d)
 }
 
-fn an_insert_at_its_target(rt: HostRuntime) -> io::Result<()> {
-    let script = script(rt.alloc(), None)?;
-    if !script.fits() {
-        return println!(rt; "  no fit");
-    }
-    let mut dpcs = Dpcs::new(rt.alloc(), &script)?;
+/// Writes a call and whether it answered yes.
+fn write_yes(rt: HostRuntime, call: &str, yes: bool) -> io::Result<()> {
+    println!(rt; "  {call} {yes}")
+}
+
+/// Writes the processor in whose queue an insert of the object would stand.
+fn write_queue_for(rt: HostRuntime, cpu: CpuNo) -> io::Result<()> {
+    println!(rt; "  queue for {}", cpu.0)
+}
+
+fn write_standing(rt: HostRuntime, standing: Option<CpuNo>) -> io::Result<()> {
+    println!(rt; "  standing {standing:?}")
+}
+
+fn write_first(rt: HostRuntime, call: &str, first: Option<(DpcNo, u64)>) -> io::Result<()> {
+    println!(rt; "  {call} {first:?}")
+}
+
+fn write_begun(rt: HostRuntime, begun: Option<DpcNo>) -> io::Result<()> {
+    println!(rt; "  begin {begun:?}")
+}
+
+/// Writes the class that an insert asks for, if any.
+fn write_ask(rt: HostRuntime, of: &str, class: Option<u8>) -> io::Result<()> {
+    println!(rt; "  {of} {class:?}")
+}
+
+fn an_insert_at_its_target(rt: HostRuntime, dpcs: &mut Dpcs<'_>) -> io::Result<()>
+    requires objects { length dpcs.old.script.dpcs ≡ 3 }
+    requires cpus { dpcs.old.script.cpus ≡ 2 }
+{
     let d = DpcNo(1);
-    println!(rt; "  queue for {}", dpcs.queue_for(d, OWN).0)?;
-    set_target(&mut dpcs, d);
-    println!(rt; "  queue for {}", dpcs.queue_for(d, OWN).0)?;
-    println!(rt; "  queue {}", queue(&mut dpcs, 5, OWN, d))?;
-    println!(rt; "  queued {}", dpcs.is_queued(d))?;
-    println!(rt; "  standing {:?}", dpcs.standing(d))?;
-    println!(rt; "  first of 1 {:?}", dpcs.first(Part::Ordinary, OTHER))?;
-    println!(rt; "  first of 0 {:?}", dpcs.first(Part::Ordinary, OWN))
+    write_queue_for(rt, dpcs.queue_for(d, OWN))?;
+    set_target(dpcs, d);
+    write_queue_for(rt, dpcs.queue_for(d, OWN))?;
+    write_yes(rt, "queue", queue(dpcs, 5, OWN, d))?;
+    write_yes(rt, "queued", dpcs.is_queued(d))?;
+    write_standing(rt, dpcs.standing(d))?;
+    write_first(rt, "first of 1", dpcs.first(Part::Ordinary, OTHER))?;
+    write_first(rt, "first of 0", dpcs.first(Part::Ordinary, OWN))
 }
 
-fn once_in_and_once_out(rt: HostRuntime) -> io::Result<()> {
-    let script = script(rt.alloc(), None)?;
-    if !script.fits() {
-        return println!(rt; "  no fit");
-    }
-    let mut dpcs = Dpcs::new(rt.alloc(), &script)?;
+fn once_in_and_once_out(rt: HostRuntime, dpcs: &mut Dpcs<'_>) -> io::Result<()>
+    requires objects { length dpcs.old.script.dpcs ≡ 3 }
+    requires cpus { dpcs.old.script.cpus ≡ 2 }
+{
     let d = DpcNo(0);
-    println!(rt; "  queue {}", queue(&mut dpcs, 5, OWN, d))?;
-    println!(rt; "  queue {}", queue(&mut dpcs, 6, OWN, d))?;
-    println!(rt; "  first {:?}", dpcs.first(Part::Ordinary, OWN))?;
-    println!(rt; "  unqueue {}", unqueue(&mut dpcs, 7, OWN, d))?;
-    println!(rt; "  unqueue {}", unqueue(&mut dpcs, 8, OWN, d))?;
-    println!(rt; "  first {:?}", dpcs.first(Part::Ordinary, OWN))
+    write_yes(rt, "queue", queue(dpcs, 5, OWN, d))?;
+    write_yes(rt, "queue", queue(dpcs, 6, OWN, d))?;
+    write_first(rt, "first", dpcs.first(Part::Ordinary, OWN))?;
+    write_yes(rt, "unqueue", unqueue(dpcs, 7, OWN, d))?;
+    write_yes(rt, "unqueue", unqueue(dpcs, 8, OWN, d))?;
+    write_first(rt, "first", dpcs.first(Part::Ordinary, OWN))
 }
 
-fn high_goes_first(rt: HostRuntime) -> io::Result<()> {
-    let script = script(rt.alloc(), None)?;
-    if !script.fits() {
-        return println!(rt; "  no fit");
-    }
-    let mut dpcs = Dpcs::new(rt.alloc(), &script)?;
-    set_importance(&mut dpcs, DpcNo(1), Importance::High);
-    queue(&mut dpcs, 5, OWN, DpcNo(0));
-    queue(&mut dpcs, 6, OWN, DpcNo(1));
-    println!(rt; "  begin {:?}", begin(&mut dpcs, 7))?;
-    println!(rt; "  begin {:?}", begin(&mut dpcs, 8))?;
-    println!(rt; "  begin {:?}", begin(&mut dpcs, 9))
+fn high_goes_first(rt: HostRuntime, dpcs: &mut Dpcs<'_>) -> io::Result<()>
+    requires objects { length dpcs.old.script.dpcs ≡ 3 }
+    requires cpus { dpcs.old.script.cpus ≡ 2 }
+{
+    set_importance(dpcs, DpcNo(1), Importance::High);
+    queue(dpcs, 5, OWN, DpcNo(0));
+    queue(dpcs, 6, OWN, DpcNo(1));
+    write_begun(rt, begin(dpcs, 7))?;
+    write_begun(rt, begin(dpcs, 8))?;
+    write_begun(rt, begin(dpcs, 9))
 }
 
 /// What an insert of object 0, if it isn't queued, by processor 0 asks for.
-fn ask(dpcs: &Dpcs) -> Option<u8>
+fn ask(dpcs: &Dpcs<'_>) -> Option<u8>
     requires objects { length dpcs.now.script.dpcs ≡ 3 }
     requires cpus { dpcs.now.script.cpus ≡ 2 }
 {
@@ -202,27 +254,25 @@ fn ask(dpcs: &Dpcs) -> Option<u8>
     dpcs.ask(DpcNo(0), OWN)
 }
 
-fn an_idle_processor_is_asked(rt: HostRuntime) -> io::Result<()> {
-    let script = script(rt.alloc(), None)?;
-    if !script.fits() {
-        return println!(rt; "  no fit");
-    }
-    let mut dpcs = Dpcs::new(rt.alloc(), &script)?;
-    println!(rt; "  own {:?}", ask(&dpcs))?;
-    set_target(&mut dpcs, DpcNo(0));
-    println!(rt; "  other {:?}", ask(&dpcs))?;
+fn an_idle_processor_is_asked(rt: HostRuntime, dpcs: &mut Dpcs<'_>) -> io::Result<()>
+    requires objects { length dpcs.old.script.dpcs ≡ 3 }
+    requires cpus { dpcs.old.script.cpus ≡ 2 }
+{
+    write_ask(rt, "own", ask(dpcs))?;
+    set_target(dpcs, DpcNo(0));
+    write_ask(rt, "other", ask(dpcs))?;
     dpcs.leave(3, OTHER, &What::Rest);
-    println!(rt; "  other after a rest {:?}", ask(&dpcs))?;
+    write_ask(rt, "other after a rest", ask(dpcs))?;
     let switch = What::Switch {
         thread: ThreadNo(0),
         status: None,
     };
     dpcs.leave(4, OTHER, &switch);
-    println!(rt; "  other after a switch {:?}", ask(&dpcs))
+    write_ask(rt, "other after a switch", ask(dpcs))
 }
 
 /// What an insert of the object that is declared threaded asks for, and whether it is then the first of the threaded part.
-fn threaded_insert(dpcs: &mut Dpcs) -> (Option<u8>, bool)
+fn threaded_insert(dpcs: &mut Dpcs<'_>) -> (Option<u8>, bool)
     requires objects { length dpcs.old.script.dpcs ≡ 3 }
     requires cpus { dpcs.old.script.cpus ≡ 2 }
 {
@@ -235,14 +285,28 @@ fn threaded_insert(dpcs: &mut Dpcs) -> (Option<u8>, bool)
     (class, dpcs.first(Part::Threaded, OWN) == Some((d, 5)))
 }
 
-fn threaded_or_not(rt: HostRuntime) -> io::Result<()> {
-    for threaded in [None, Some(true), Some(false)] {
-        let script = script(rt.alloc(), threaded)?;
-        if !script.fits() {
-            return println!(rt; "  no fit");
-        }
-        let mut dpcs = Dpcs::new(rt.alloc(), &script)?;
-        println!(rt; "  {threaded:?}: {:?}", threaded_insert(&mut dpcs))?;
+/// What such an insert answers where threaded DPCs are on, off or not spoken of. None if the script doesn't fit.
+fn threaded_answer(
+    alloc: Global,
+    threaded: Option<bool>,
+) -> Result<Option<(Option<u8>, bool)>, AllocError> {
+    let script = script(alloc, threaded)?;
+    if !script.fits() {
+        return Ok(None);
     }
-    Ok(())
+    let mut dpcs = Dpcs::new(alloc, &script)?;
+    Ok(Some(threaded_insert(&mut dpcs)))
+}
+
+fn write_threaded(rt: HostRuntime, threaded: Option<bool>) -> io::Result<()> {
+    match threaded_answer(rt.alloc(), threaded)? {
+        Some(answer) => println!(rt; "  {threaded:?}: {answer:?}"),
+        None => println!(rt; "  no fit"),
+    }
+}
+
+fn threaded_or_not(rt: HostRuntime) -> io::Result<()> {
+    write_threaded(rt, None)?;
+    write_threaded(rt, Some(true))?;
+    write_threaded(rt, Some(false))
 }

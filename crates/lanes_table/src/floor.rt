@@ -1,5 +1,6 @@
 //! The floor in memory on a small script: its words, an act and the refusals of acts.
-ghost use Rattle.std.specs.Prelude.{◌≡◌, IfOk, None, length};
+ghost use Rattle.std.specs.Prelude.{◌≡◌, ◌+◌, IfOk, IsTrue, None, OnOk, length};
+ghost use Rattle.nt_event.specs.Script.{fits};
 
 use nt_event::{
     Command, CpuNo, DpcDecl, DpcNo, Event, Items, Job, Level, Regions, Routine, RoutineNo, Script,
@@ -12,11 +13,25 @@ use std::io;
 
 /// Writes the answers of a case.
 pub fn answer(rt: HostRuntime, case: &str) -> io::Result<()> {
+    let script = script(rt.alloc())?;
+    if !script.fits() {
+        return println!(rt; "  no fit");
+    }
+    answer_of(rt, case, &script)
+}
+
+/// Writes the answers of a case of the small script.
+fn answer_of(rt: HostRuntime, case: &str, script: &Script) -> io::Result<()>
+    requires fits { IsTrue (fits script.now) }
+    requires cpus { script.now.cpus ≡ 2 }
+    requires objects { length script.now.dpcs ≡ 1 }
+    requires threads { length script.now.threads ≡ 1 }
+{
     match case {
-        "an insert asks its processor" => an_insert_asks(rt),
-        "numbers, marks and looks" => words(rt),
-        "a thread of another processor is not taken" => a_wrong_choice(rt),
-        "nothing to do over a ready thread" => nothing_to_do(rt),
+        "an insert asks its processor" => an_insert_asks(rt, script),
+        "numbers, marks and looks" => words(rt, script),
+        "a thread of another processor is not taken" => a_wrong_choice(rt, script),
+        "nothing to do over a ready thread" => nothing_to_do(rt, script),
         _ => println!(rt; "  no such case"),
     }
 }
@@ -27,31 +42,37 @@ fn script(alloc: Global) -> Result<Script, AllocError>
     ensures objects { IfOk result (λ s. length s.dpcs ≡ 1) }
     ensures threads { IfOk result (λ s. length s.threads ≡ 1) }
 {
-    let routine = RoutineNo(0);
-    Ok(Script {
+    let routine = Routine {
+        commands: Items::new(alloc),
+    };
+    let mut made = Script {
         cpus: 2,
         depth: None,
         threaded: None,
         isrs: Items::new(alloc),
-        dpcs: Items::from_vec(vec![in alloc;
-            DpcDecl {
-                threaded: false,
-                routine,
-            },
-        ]?),
+        dpcs: Items::new(alloc),
         timers: Items::new(alloc),
-        threads: Items::from_vec(vec![in alloc;
-            ThreadDecl {
-                cpu: CpuNo(1),
-                routine,
-            },
-        ]?),
+        threads: Items::new(alloc),
         apcs: Items::new(alloc),
-        routines: Items::from_vec(vec![in alloc;
-            Routine {
-                commands: Items::new(alloc)
-            },
-        ]?),
+        routines: Items::from_vec(vec![in alloc; routine]?),
+    };
+    declare(&mut made.dpcs, &mut made.threads)?;
+    Ok(made)
+}
+
+/// Adds the DPC object and the thread.
+fn declare(dpcs: &mut Items<DpcDecl>, threads: &mut Items<ThreadDecl>) -> Result<(), AllocError>
+    ensures dpcs { OnOk result (length dpcs.new ≡ length dpcs.old + 1) }
+    ensures threads { OnOk result (length threads.new ≡ length threads.old + 1) }
+{
+    let routine = RoutineNo(0);
+    dpcs.push(DpcDecl {
+        threaded: false,
+        routine,
+    })?;
+    threads.push(ThreadDecl {
+        cpu: CpuNo(1),
+        routine,
     })
 }
 
@@ -80,12 +101,13 @@ fn stand(cpu: CpuNo) -> Stand
     }
 }
 
-fn an_insert_asks(rt: HostRuntime) -> io::Result<()> {
-    let script = script(rt.alloc())?;
-    if !script.fits() {
-        return println!(rt; "  no fit");
-    }
-    let mut floor = PlainFloor::new(rt.alloc(), &script, 4)?;
+fn an_insert_asks(rt: HostRuntime, script: &Script) -> io::Result<()>
+    requires fits { IsTrue (fits script.now) }
+    requires cpus { script.now.cpus ≡ 2 }
+    requires objects { length script.now.dpcs ≡ 1 }
+    requires threads { length script.now.threads ≡ 1 }
+{
+    let mut floor = PlainFloor::new(rt.alloc(), script, 4)?;
     let queue = Command::Queue(DpcNo(0));
     let acted = floor.act(Job::Call(queue), stand(CpuNo(0)));
     write_act(rt, acted)?;
@@ -94,28 +116,49 @@ fn an_insert_asks(rt: HostRuntime) -> io::Result<()> {
 
 fn write_act(rt: HostRuntime, acted: Result<Acted, ActRefusal>) -> io::Result<()> {
     match acted {
-        Ok(acted) => {
-            println!(rt; "  number {}, due {:?}", acted.number, acted.due)?;
-            println!(rt; "  {:?}", acted.event)?;
-            println!(rt; "  told {:?}", acted.told.value)
-        }
-        Err(refusal) => println!(rt; "  refused {:?}", refusal),
+        Ok(acted) => write_acted(rt, &acted),
+        Err(refusal) => write_refusal(rt, refusal),
     }
+}
+
+fn write_acted(rt: HostRuntime, acted: &Acted) -> io::Result<()> {
+    println!(rt; "  number {}, due {:?}", acted.number, acted.due)?;
+    write_event(rt, &acted.event)?;
+    println!(rt; "  told {:?}", acted.told.value)
+}
+
+fn write_event(rt: HostRuntime, event: &Event) -> io::Result<()> {
+    println!(rt; "  {event:?}")
+}
+
+fn write_refusal(rt: HostRuntime, refusal: ActRefusal) -> io::Result<()> {
+    println!(rt; "  refused {refusal:?}")
+}
+
+/// Writes a number, and what it is.
+fn write_number(rt: HostRuntime, what: &str, number: u64) -> io::Result<()> {
+    println!(rt; "  {what} {number}")
+}
+
+/// Writes whether something is so.
+fn write_yes(rt: HostRuntime, what: &str, yes: bool) -> io::Result<()> {
+    println!(rt; "  {what} {yes}")
 }
 
 /// Writes who is asked for dispatch.
-fn write_asks(rt: HostRuntime, floor: &PlainFloor) -> io::Result<()> {
-    println!(rt; "  asked {}", floor.asked(CpuNo(0), 2))?;
-    println!(rt; "  asks 0 {}", floor.asks(0, CpuNo(0), 2))?;
-    println!(rt; "  asks 1 {}", floor.asks(0, CpuNo(1), 2))
+fn write_asks(rt: HostRuntime, floor: &PlainFloor<'_>) -> io::Result<()> {
+    write_number(rt, "asked", floor.asked(CpuNo(0), 2))?;
+    write_yes(rt, "asks 0", floor.asks(0, CpuNo(0), 2))?;
+    write_yes(rt, "asks 1", floor.asks(0, CpuNo(1), 2))
 }
 
-fn words(rt: HostRuntime) -> io::Result<()> {
-    let script = script(rt.alloc())?;
-    if !script.fits() {
-        return println!(rt; "  no fit");
-    }
-    let mut floor = PlainFloor::new(rt.alloc(), &script, 4)?;
+fn words(rt: HostRuntime, script: &Script) -> io::Result<()>
+    requires fits { IsTrue (fits script.now) }
+    requires cpus { script.now.cpus ≡ 2 }
+    requires objects { length script.now.dpcs ≡ 1 }
+    requires threads { length script.now.threads ≡ 1 }
+{
+    let mut floor = PlainFloor::new(rt.alloc(), script, 4)?;
     let event = Event {
         cpu: CpuNo(0),
         thread: None,
@@ -126,40 +169,49 @@ fn words(rt: HostRuntime) -> io::Result<()> {
     floor.mark(CpuNo(1), 3, n);
     let marked = floor.look(CpuNo(1), 3);
     let other = floor.look(CpuNo(0), 3);
-    println!(rt; "  drawn {n}")?;
-    println!(rt; "  look at 1 {marked}")?;
-    println!(rt; "  look at 0 {other}")?;
+    write_number(rt, "drawn", n)?;
+    write_number(rt, "look at 1", marked)?;
+    write_number(rt, "look at 0", other)?;
     write_marks(rt, &floor, n)
 }
 
-fn write_marks(rt: HostRuntime, floor: &PlainFloor, n: u64) -> io::Result<()> {
-    println!(rt; "  class 3 is marked {}", floor.asks(n, CpuNo(1), 3))?;
-    println!(rt; "  class 4 is marked {}", floor.asks(n, CpuNo(1), 4))?;
-    println!(rt; "  asked of no processor {}", floor.asked(CpuNo(2), 3))
+fn write_marks(rt: HostRuntime, floor: &PlainFloor<'_>, n: u64) -> io::Result<()> {
+    write_yes(rt, "class 3 is marked", floor.asks(n, CpuNo(1), 3))?;
+    write_yes(rt, "class 4 is marked", floor.asks(n, CpuNo(1), 4))?;
+    write_number(rt, "asked of no processor", floor.asked(CpuNo(2), 3))
 }
 
-fn a_wrong_choice(rt: HostRuntime) -> io::Result<()> {
-    let script = script(rt.alloc())?;
-    if !script.fits() || script.threads.len() != 1 {
-        return println!(rt; "  no fit");
-    }
-    let mut floor = PlainFloor::new(rt.alloc(), &script, 4)?;
-    println!(rt; "  next of 1 {:?}", floor.next_ready(CpuNo(1), None))?;
-    println!(rt; "  next of 0 {:?}", floor.next_ready(CpuNo(0), None))?;
-    match floor.act(Job::Switch(ThreadNo(0)), stand(CpuNo(0))) {
-        Ok(acted) => println!(rt; "  {:?}", acted.event),
-        Err(refusal) => println!(rt; "  refused {:?}", refusal),
+/// Writes the ready thread that a processor would take, if any.
+fn write_next(rt: HostRuntime, of: &str, thread: Option<ThreadNo>) -> io::Result<()> {
+    println!(rt; "  next of {of} {thread:?}")
+}
+
+/// Writes the event that was made, or why none was.
+fn write_made(rt: HostRuntime, acted: Result<Acted, ActRefusal>) -> io::Result<()> {
+    match acted {
+        Ok(acted) => write_event(rt, &acted.event),
+        Err(refusal) => write_refusal(rt, refusal),
     }
 }
 
-fn nothing_to_do(rt: HostRuntime) -> io::Result<()> {
-    let script = script(rt.alloc())?;
-    if !script.fits() {
-        return println!(rt; "  no fit");
-    }
-    let mut floor = PlainFloor::new(rt.alloc(), &script, 4)?;
-    match floor.act(Job::Idle, stand(CpuNo(1))) {
-        Ok(acted) => println!(rt; "  {:?}", acted.event),
-        Err(refusal) => println!(rt; "  refused {:?}", refusal),
-    }
+fn a_wrong_choice(rt: HostRuntime, script: &Script) -> io::Result<()>
+    requires fits { IsTrue (fits script.now) }
+    requires cpus { script.now.cpus ≡ 2 }
+    requires objects { length script.now.dpcs ≡ 1 }
+    requires threads { length script.now.threads ≡ 1 }
+{
+    let mut floor = PlainFloor::new(rt.alloc(), script, 4)?;
+    write_next(rt, "1", floor.next_ready(CpuNo(1), None))?;
+    write_next(rt, "0", floor.next_ready(CpuNo(0), None))?;
+    write_made(rt, floor.act(Job::Switch(ThreadNo(0)), stand(CpuNo(0))))
+}
+
+fn nothing_to_do(rt: HostRuntime, script: &Script) -> io::Result<()>
+    requires fits { IsTrue (fits script.now) }
+    requires cpus { script.now.cpus ≡ 2 }
+    requires objects { length script.now.dpcs ≡ 1 }
+    requires threads { length script.now.threads ≡ 1 }
+{
+    let mut floor = PlainFloor::new(rt.alloc(), script, 4)?;
+    write_made(rt, floor.act(Job::Idle, stand(CpuNo(1))))
 }

@@ -1,11 +1,11 @@
 //! The threads of a small script, by the events that its processors make.
-ghost use Rattle.std.specs.Prelude.{◌≡◌, IsTrue, None, false};
+ghost use Rattle.std.specs.Prelude.{◌≡◌, IsTrue, None, false, length};
 ghost use Rattle.nt_event.specs.declared.events.What.TheVariants.{Call};
 ghost use Rattle.nt_event.specs.Script.{fits, has_apc, has_thread};
 
 use nt_event::{
-    ApcDecl, ApcKind, ApcNo, Command, CpuNo, Event, Items, Level, Mode, Regions, Reply, Routine,
-    RoutineNo, Script, Stand, ThreadDecl, ThreadNo, What,
+    ApcDecl, ApcKind, ApcNo, Command, CpuNo, Event, Items, Level, Mode, Pick, Regions, Reply,
+    Routine, RoutineNo, Script, Stand, ThreadDecl, ThreadNo, What,
 };
 use nt_thread_lanes::Threads;
 use std::alloc::{AllocError, Global};
@@ -13,12 +13,27 @@ use std::io;
 
 /// Writes the answers of a case.
 pub fn answer(rt: HostRuntime, case: &str) -> io::Result<()> {
+    let script = script(rt.alloc())?;
+    if !script.fits() || script.threads.len() != 3 || script.apcs.len() != 2 {
+        return println!(rt; "  no fit");
+    }
+    answer_of(rt, case, &script)
+}
+
+/// Writes the answers of a case of the small script.
+fn answer_of(rt: HostRuntime, case: &str, script: &Script) -> io::Result<()>
+    requires fits { IsTrue (fits script.now) }
+    requires threads { length script.now.threads ≡ 3 }
+    requires apcs { length script.now.apcs ≡ 2 }
+{
     match case {
-        "ready threads are taken in a cycle" => ready_threads_are_taken_in_a_cycle(rt),
-        "a release ends a wait" => a_release_ends_a_wait(rt),
-        "a release is told to a record of another processor" => a_release_is_told(rt),
-        "apcs are inserted and removed" => apcs_are_inserted_and_removed(rt),
-        "a user apc ends an alertable wait at once" => a_user_apc_ends_an_alertable_wait(rt),
+        "ready threads are taken in a cycle" => ready_threads_are_taken_in_a_cycle(rt, script),
+        "a release ends a wait" => a_release_ends_a_wait(rt, script),
+        "a release is told to a record of another processor" => a_release_is_told(rt, script),
+        "apcs are inserted and removed" => apcs_are_inserted_and_removed(rt, script),
+        "a user apc ends an alertable wait at once" => {
+            a_user_apc_ends_an_alertable_wait(rt, script)
+        }
         _ => println!(rt; "  no such case"),
     }
 }
@@ -61,20 +76,28 @@ fn script(alloc: Global) -> Result<Script, AllocError> {
     let routine = Routine {
         commands: Items::new(alloc),
     };
-    Ok(Script {
+    let mut made = Script {
         cpus: 2,
         depth: None,
         threaded: None,
         isrs: Items::new(alloc),
         dpcs: Items::new(alloc),
         timers: Items::new(alloc),
-        threads: Items::from_vec(vec![in alloc; bound_to(0), bound_to(1), bound_to(0)]?),
-        apcs: Items::from_vec(vec![in alloc;
-            normal_apc(ApcKind::Normal),
-            normal_apc(ApcKind::User),
-        ]?),
+        threads: Items::new(alloc),
+        apcs: Items::new(alloc),
         routines: Items::from_vec(vec![in alloc; routine]?),
-    })
+    };
+    declare(&mut made.threads, &mut made.apcs)?;
+    Ok(made)
+}
+
+/// Adds the threads and the APCs.
+fn declare(threads: &mut Items<ThreadDecl>, apcs: &mut Items<ApcDecl>) -> Result<(), AllocError> {
+    threads.push(bound_to(0))?;
+    threads.push(bound_to(1))?;
+    threads.push(bound_to(0))?;
+    apcs.push(normal_apc(ApcKind::Normal))?;
+    apcs.push(normal_apc(ApcKind::User))
 }
 
 /// A processor at PASSIVE_LEVEL in no region, on which this thread runs, or none.
@@ -117,7 +140,7 @@ fn call(cpu: CpuNo, thread: Option<ThreadNo>, command: Command, reply: Reply) ->
 }
 
 /// The thread is taken up, where it is ready.
-fn take_up(threads: &mut Threads, script: &Script, t: ThreadNo)
+fn take_up(threads: &mut Threads<'_>, script: &Script, t: ThreadNo)
     requires fits { IsTrue (fits script.now) }
     requires script { threads.old.script ≡ script.now }
     requires thread { IsTrue (has_thread script.now t) }
@@ -137,7 +160,7 @@ fn take_up(threads: &mut Threads, script: &Script, t: ThreadNo)
 }
 
 /// The thread waits in kernel mode, where it runs.
-fn wait(threads: &mut Threads, script: &Script, t: ThreadNo)
+fn wait(threads: &mut Threads<'_>, script: &Script, t: ThreadNo)
     requires fits { IsTrue (fits script.now) }
     requires script { threads.old.script ≡ script.now }
     requires thread { IsTrue (has_thread script.now t) }
@@ -152,7 +175,7 @@ fn wait(threads: &mut Threads, script: &Script, t: ThreadNo)
     }
 }
 
-fn release(threads: &mut Threads, t: ThreadNo)
+fn release(threads: &mut Threads<'_>, t: ThreadNo)
     requires { IsTrue (has_thread threads.old.script t) }
     ensures { threads.new.script ≡ threads.old.script }
 {
@@ -162,7 +185,7 @@ fn release(threads: &mut Threads, t: ThreadNo)
 }
 
 /// The same, of a record in which the processor of the release tells nothing.
-fn tell_release(threads: &mut Threads, t: ThreadNo)
+fn tell_release(threads: &mut Threads<'_>, t: ThreadNo)
     requires { IsTrue (has_thread threads.old.script t) }
     ensures { threads.new.script ≡ threads.old.script }
 {
@@ -171,7 +194,7 @@ fn tell_release(threads: &mut Threads, t: ThreadNo)
     threads.tell(t, 3, &event.what);
 }
 
-fn insert(threads: &mut Threads, a: ApcNo, n: u64)
+fn insert(threads: &mut Threads<'_>, a: ApcNo, n: u64)
     requires { IsTrue (has_apc threads.old.script a) }
     ensures { threads.new.script ≡ threads.old.script }
 {
@@ -180,7 +203,7 @@ fn insert(threads: &mut Threads, a: ApcNo, n: u64)
     threads.leave(n, &stand(CpuNo(1), None), &event);
 }
 
-fn remove(threads: &mut Threads, a: ApcNo)
+fn remove(threads: &mut Threads<'_>, a: ApcNo)
     requires { IsTrue (has_apc threads.old.script a) }
     ensures { threads.new.script ≡ threads.old.script }
 {
@@ -189,126 +212,184 @@ fn remove(threads: &mut Threads, a: ApcNo)
     threads.leave(9, &stand(CpuNo(1), None), &event);
 }
 
-fn ready_threads_are_taken_in_a_cycle(rt: HostRuntime) -> io::Result<()> {
-    let script = script(rt.alloc())?;
-    if !script.fits() {
-        return println!(rt; "  no fit");
-    }
-    let threads = Threads::new(rt.alloc(), &script)?;
-    println!(rt; "  next of 0 {:?}", threads.next_ready(CpuNo(0), None))?;
-    println!(rt;
-        "  after the first {:?}",
-        threads.next_ready(CpuNo(0), Some(FIRST))
+/// Writes an answer that is yes or no.
+fn write_yes(rt: HostRuntime, what: &str, yes: bool) -> io::Result<()> {
+    println!(rt; "  {what} {yes}")
+}
+
+/// Writes the ready thread that is taken next, if any.
+fn write_next(rt: HostRuntime, after: &str, thread: Option<ThreadNo>) -> io::Result<()> {
+    println!(rt; "  {after} {thread:?}")
+}
+
+/// Writes two answers that are yes or no: a name, the first answer, another name, the second.
+fn write_two(
+    rt: HostRuntime,
+    first: &str,
+    is_first: bool,
+    second: &str,
+    is_second: bool,
+) -> io::Result<()> {
+    println!(rt; "  {first} {is_first}, {second} {is_second}")
+}
+
+fn ready_threads_are_taken_in_a_cycle(rt: HostRuntime, script: &Script) -> io::Result<()>
+    requires fits { IsTrue (fits script.now) }
+    requires threads { length script.now.threads ≡ 3 }
+    requires apcs { length script.now.apcs ≡ 2 }
+{
+    let threads = Threads::new(rt.alloc(), script)?;
+    let (own, other) = (CpuNo(0), CpuNo(1));
+    let after = Some(SECOND);
+    write_next(rt, "next of 0", threads.next_ready(own, None))?;
+    write_next(rt, "after the first", threads.next_ready(own, Some(FIRST)))?;
+    write_next(rt, "after the third", threads.next_ready(own, Some(THIRD)))?;
+    write_next(
+        rt,
+        "next of 1 after its own",
+        threads.next_ready(other, after),
     )?;
+    let any = (threads.any_ready(other), threads.any_ready(CpuNo(2)));
+    write_two(rt, "any of 1", any.0, "of 2", any.1)?;
+    let may = (
+        threads.may_take(other, SECOND),
+        threads.may_take(own, SECOND),
+    );
+    write_two(rt, "the second by 1", may.0, "by 0", may.1)
+}
+
+/// Writes whether the thread, which was taken up, runs, is ready and leaves.
+fn write_taken_up(rt: HostRuntime, runs: bool, ready: bool, leaves: bool) -> io::Result<()> {
+    println!(rt; "  taken up: runs {runs}, ready {ready}, leaves {leaves}")
+}
+
+/// Writes whether the thread, which waits, runs, and whether a release, the expiry of its delay and an alert end its wait.
+fn write_waits(rt: HostRuntime, runs: bool, ends: [bool; 3]) -> io::Result<()> {
     println!(rt;
-        "  after the third {:?}",
-        threads.next_ready(CpuNo(0), Some(THIRD))
-    )?;
-    println!(rt;
-        "  next of 1 after its own {:?}",
-        threads.next_ready(CpuNo(1), Some(SECOND))
-    )?;
-    println!(rt;
-        "  any of 1 {}, of 2 {}",
-        threads.any_ready(CpuNo(1)),
-        threads.any_ready(CpuNo(2))
-    )?;
-    println!(rt;
-        "  the second by 1 {}, by 0 {}",
-        threads.may_take(CpuNo(1), SECOND),
-        threads.may_take(CpuNo(0), SECOND)
+        "  waits: runs {runs}, by release {}, by expiry {}, by alert {}",
+        ends[0], ends[1], ends[2]
     )
 }
 
-fn a_release_ends_a_wait(rt: HostRuntime) -> io::Result<()> {
-    let script = script(rt.alloc())?;
-    if !script.fits() || script.threads.len() != 3 {
-        return println!(rt; "  no fit");
-    }
-    let mut threads = Threads::new(rt.alloc(), &script)?;
-    take_up(&mut threads, &script, FIRST);
+/// Writes whether the thread, which was released, is ready, with which status and at which level.
+fn write_released(
+    rt: HostRuntime,
+    ready: bool,
+    status: Option<u32>,
+    level: Level,
+) -> io::Result<()> {
     println!(rt;
-        "  taken up: runs {}, ready {}, leaves {}",
-        threads.is_running(FIRST),
-        threads.is_ready(FIRST),
-        threads.is_leaving(FIRST)
-    )?;
-    wait(&mut threads, &script, FIRST);
-    println!(rt;
-        "  waits: runs {}, by release {}, by expiry {}, by alert {}",
-        threads.is_running(FIRST),
-        threads.ends_by_release(FIRST),
-        threads.ends_by_expiry(FIRST, 2),
-        threads.ends_by_alert(FIRST, Mode::Kernel)
-    )?;
-    release(&mut threads, FIRST);
-    println!(rt;
-        "  released: ready {}, status {:?}, level {}",
-        threads.is_ready(FIRST),
-        threads.status(FIRST),
-        threads.level(FIRST).number()
+        "  released: ready {ready}, status {status:?}, level {}",
+        level.number()
     )
+}
+
+fn a_release_ends_a_wait(rt: HostRuntime, script: &Script) -> io::Result<()>
+    requires fits { IsTrue (fits script.now) }
+    requires threads { length script.now.threads ≡ 3 }
+    requires apcs { length script.now.apcs ≡ 2 }
+{
+    let mut threads = Threads::new(rt.alloc(), script)?;
+    let t = FIRST;
+    take_up(&mut threads, script, t);
+    write_taken_up(
+        rt,
+        threads.is_running(t),
+        threads.is_ready(t),
+        threads.is_leaving(t),
+    )?;
+    wait(&mut threads, script, t);
+    let ends = [
+        threads.ends_by_release(t),
+        threads.ends_by_expiry(t, 2),
+        threads.ends_by_alert(t, Mode::Kernel),
+    ];
+    write_waits(rt, threads.is_running(t), ends)?;
+    release(&mut threads, t);
+    write_released(rt, threads.is_ready(t), threads.status(t), threads.level(t))
+}
+
+fn write_told(rt: HostRuntime, ready: bool, status: Option<u32>) -> io::Result<()> {
+    println!(rt; "  told: ready {ready}, status {status:?}")
 }
 
 /// The second thread's release, which is told and not left.
-fn a_release_is_told(rt: HostRuntime) -> io::Result<()> {
-    let script = script(rt.alloc())?;
-    if !script.fits() || script.threads.len() != 3 {
-        return println!(rt; "  no fit");
-    }
-    let mut threads = Threads::new(rt.alloc(), &script)?;
-    take_up(&mut threads, &script, SECOND);
-    wait(&mut threads, &script, SECOND);
+fn a_release_is_told(rt: HostRuntime, script: &Script) -> io::Result<()>
+    requires fits { IsTrue (fits script.now) }
+    requires threads { length script.now.threads ≡ 3 }
+    requires apcs { length script.now.apcs ≡ 2 }
+{
+    let mut threads = Threads::new(rt.alloc(), script)?;
+    take_up(&mut threads, script, SECOND);
+    wait(&mut threads, script, SECOND);
     tell_release(&mut threads, SECOND);
-    println!(rt;
-        "  told: ready {}, status {:?}",
-        threads.is_ready(SECOND),
-        threads.status(SECOND)
+    write_told(rt, threads.is_ready(SECOND), threads.status(SECOND))
+}
+
+fn write_inserted(rt: HostRuntime, inserted: bool, takes: bool, kernel: bool) -> io::Result<()> {
+    println!(rt; "  inserted {inserted}, takes {takes}, kernel {kernel}")
+}
+
+/// Writes the APC of which something is asked, if there is one.
+fn write_pick(rt: HostRuntime, what: &str, pick: Option<Pick>) -> io::Result<()> {
+    println!(rt; "  {what} {pick:?}")
+}
+
+fn apcs_are_inserted_and_removed(rt: HostRuntime, script: &Script) -> io::Result<()>
+    requires fits { IsTrue (fits script.now) }
+    requires threads { length script.now.threads ≡ 3 }
+    requires apcs { length script.now.apcs ≡ 2 }
+{
+    let mut threads = Threads::new(rt.alloc(), script)?;
+    let a = KERNEL_APC;
+    write_yes(rt, "ends a wait", threads.ends_by_apc(a))?;
+    insert(&mut threads, a, 4);
+    write_inserted(
+        rt,
+        threads.is_inserted(a),
+        threads.takes(a),
+        threads.has_kernel(FIRST),
+    )?;
+    write_pick(
+        rt,
+        "deliverable",
+        threads.deliverable(FIRST, FREE, Level::PASSIVE),
+    )?;
+    remove(&mut threads, a);
+    let kernel = threads.has_kernel(FIRST);
+    write_two(
+        rt,
+        "removed: inserted",
+        threads.is_inserted(a),
+        "kernel",
+        kernel,
     )
 }
 
-fn apcs_are_inserted_and_removed(rt: HostRuntime) -> io::Result<()> {
-    let script = script(rt.alloc())?;
-    if !script.fits() || script.threads.len() != 3 || script.apcs.len() != 2 {
-        return println!(rt; "  no fit");
-    }
-    let mut threads = Threads::new(rt.alloc(), &script)?;
-    println!(rt; "  ends a wait {}", threads.ends_by_apc(KERNEL_APC))?;
-    insert(&mut threads, KERNEL_APC, 4);
-    println!(rt;
-        "  inserted {}, takes {}, kernel {}",
-        threads.is_inserted(KERNEL_APC),
-        threads.takes(KERNEL_APC),
-        threads.has_kernel(FIRST)
-    )?;
-    println!(rt;
-        "  deliverable {:?}",
-        threads.deliverable(FIRST, FREE, Level::PASSIVE)
-    )?;
-    remove(&mut threads, KERNEL_APC);
-    println!(rt;
-        "  removed: inserted {}, kernel {}",
-        threads.is_inserted(KERNEL_APC),
-        threads.has_kernel(FIRST)
-    )
+/// Writes what a wait of this thread in user mode would answer.
+fn write_wait(rt: HostRuntime, what: &str, reply: Reply) -> io::Result<()> {
+    println!(rt; "  {what} {reply:?}")
 }
 
-fn a_user_apc_ends_an_alertable_wait(rt: HostRuntime) -> io::Result<()> {
-    let script = script(rt.alloc())?;
-    if !script.fits() || script.threads.len() != 3 || script.apcs.len() != 2 {
-        return println!(rt; "  no fit");
-    }
-    let mut threads = Threads::new(rt.alloc(), &script)?;
+fn a_user_apc_ends_an_alertable_wait(rt: HostRuntime, script: &Script) -> io::Result<()>
+    requires fits { IsTrue (fits script.now) }
+    requires threads { length script.now.threads ≡ 3 }
+    requires apcs { length script.now.apcs ≡ 2 }
+{
+    let mut threads = Threads::new(rt.alloc(), script)?;
     insert(&mut threads, USER_APC, 5);
-    println!(rt; "  first {:?}", threads.user_first(FIRST))?;
-    println!(rt; "  due {:?}", threads.user_due(FIRST))?;
+    write_pick(rt, "first", threads.user_first(FIRST))?;
+    write_pick(rt, "due", threads.user_due(FIRST))?;
     let alertable = threads.wait_reply(FIRST, FREE, Level::PASSIVE, Mode::User, true, None);
-    println!(rt; "  alertable {:?}", alertable)?;
+    write_wait(rt, "alertable", alertable)?;
     let plain = threads.wait_reply(FIRST, FREE, Level::PASSIVE, Mode::User, false, None);
-    println!(rt; "  plain {:?}", plain)?;
-    println!(rt;
-        "  alerted {}, gone {}",
+    write_wait(rt, "plain", plain)?;
+    let gone = threads.is_gone(FIRST);
+    write_two(
+        rt,
+        "alerted",
         threads.is_alerted(FIRST, Mode::User),
-        threads.is_gone(FIRST)
+        "gone",
+        gone,
     )
 }

@@ -4,7 +4,7 @@
 #![tactic(auto)]
 
 use nt_event::{ThreadNo, TimerKey, TimerNo};
-use nt_timer::TimerQueue;
+use nt_timer::{Expired, SetAnswer, Slot, TimerQueue};
 use std::io;
 
 const A: TimerNo = TimerNo(0);
@@ -30,16 +30,38 @@ fn answer(rt: HostRuntime, case: &str) -> io::Result<()> {
     }
 }
 
+/// Writes where the key stands in the wheel, if it does.
+fn write_place(rt: HostRuntime, place: Option<Slot>) -> io::Result<()> {
+    println!(rt; "  place {place:?}")
+}
+
+/// Writes the key that is due first, if any.
+fn write_first(rt: HostRuntime, first: Option<(TimerKey, u64)>) -> io::Result<()> {
+    println!(rt; "  first {first:?}")
+}
+
+fn write_set(rt: HostRuntime, answer: SetAnswer) -> io::Result<()> {
+    println!(rt; "  set {answer:?}")
+}
+
+fn write_cancel(rt: HostRuntime, was: bool) -> io::Result<()> {
+    println!(rt; "  cancel {was}")
+}
+
+fn write_expiry(rt: HostRuntime, expired: Expired) -> io::Result<()> {
+    println!(rt; "  expire {expired:?}")
+}
+
 fn down_the_levels(rt: HostRuntime) -> io::Result<()> {
     let mut queue = TimerQueue::new(rt.alloc(), 1, 0)?;
-    println!(rt; "  place {:?}", queue.place(TimerKey::Timer(A)))?;
+    write_place(rt, queue.place(TimerKey::Timer(A)))?;
     queue.set(A, 70, 0, 1);
-    println!(rt; "  place {:?}", queue.place(TimerKey::Timer(A)))?;
+    write_place(rt, queue.place(TimerKey::Timer(A)))?;
     queue.advance(64);
-    println!(rt; "  place {:?}", queue.place(TimerKey::Timer(A)))?;
+    write_place(rt, queue.place(TimerKey::Timer(A)))?;
     queue.advance(6);
-    println!(rt; "  place {:?}", queue.place(TimerKey::Timer(A)))?;
-    println!(rt; "  first {:?}", queue.first_due())
+    write_place(rt, queue.place(TimerKey::Timer(A)))?;
+    write_first(rt, queue.first_due())
 }
 
 fn greatest_digit(rt: HostRuntime) -> io::Result<()> {
@@ -48,11 +70,11 @@ fn greatest_digit(rt: HostRuntime) -> io::Result<()> {
     queue.set(B, 63, 0, 2);
     queue.set(C, 64, 0, 3);
     queue.set_delay(W, 2_251_799_813_685_247, 4);
-    println!(rt; "  place {:?}", queue.place(TimerKey::Timer(A)))?;
-    println!(rt; "  place {:?}", queue.place(TimerKey::Timer(B)))?;
-    println!(rt; "  place {:?}", queue.place(TimerKey::Timer(C)))?;
-    println!(rt; "  place {:?}", queue.place(TimerKey::Delay(W)))?;
-    println!(rt; "  first {:?}", queue.first_due())
+    write_place(rt, queue.place(TimerKey::Timer(A)))?;
+    write_place(rt, queue.place(TimerKey::Timer(B)))?;
+    write_place(rt, queue.place(TimerKey::Timer(C)))?;
+    write_place(rt, queue.place(TimerKey::Delay(W)))?;
+    write_first(rt, queue.first_due())
 }
 
 fn at_an_edge(rt: HostRuntime) -> io::Result<()> {
@@ -60,13 +82,13 @@ fn at_an_edge(rt: HostRuntime) -> io::Result<()> {
     queue.set(A, 4096, 0, 1);
     queue.set(B, 4097, 0, 2);
     queue.advance(4095);
-    println!(rt; "  place {:?}", queue.place(TimerKey::Timer(A)))?;
-    println!(rt; "  place {:?}", queue.place(TimerKey::Timer(B)))?;
-    println!(rt; "  first {:?}", queue.first_due())?;
+    write_place(rt, queue.place(TimerKey::Timer(A)))?;
+    write_place(rt, queue.place(TimerKey::Timer(B)))?;
+    write_first(rt, queue.first_due())?;
     queue.advance(1);
-    println!(rt; "  place {:?}", queue.place(TimerKey::Timer(A)))?;
-    println!(rt; "  place {:?}", queue.place(TimerKey::Timer(B)))?;
-    println!(rt; "  first {:?}", queue.first_due())
+    write_place(rt, queue.place(TimerKey::Timer(A)))?;
+    write_place(rt, queue.place(TimerKey::Timer(B)))?;
+    write_first(rt, queue.first_due())
 }
 
 fn keys_of_one_slot(rt: HostRuntime) -> io::Result<()> {
@@ -76,13 +98,13 @@ fn keys_of_one_slot(rt: HostRuntime) -> io::Result<()> {
     queue.set(C, 70, 0, 3);
     queue.set_delay(W, 66, 2);
     queue.advance(100);
-    println!(rt; "  first {:?}", queue.first_due())?;
-    println!(rt; "  expire {:?}", queue.expire(TimerKey::Delay(W), 5))?;
-    println!(rt; "  first {:?}", queue.first_due())?;
-    println!(rt; "  cancel {}", queue.cancel(B))?;
-    println!(rt; "  first {:?}", queue.first_due())?;
-    println!(rt; "  cancel {}", queue.cancel(A))?;
-    println!(rt; "  first {:?}", queue.first_due())
+    write_first(rt, queue.first_due())?;
+    write_expiry(rt, queue.expire(TimerKey::Delay(W), 5))?;
+    write_first(rt, queue.first_due())?;
+    write_cancel(rt, queue.cancel(B))?;
+    write_first(rt, queue.first_due())?;
+    write_cancel(rt, queue.cancel(A))?;
+    write_first(rt, queue.first_due())
 }
 
 fn keys_of_several_levels(rt: HostRuntime) -> io::Result<()> {
@@ -92,51 +114,51 @@ fn keys_of_several_levels(rt: HostRuntime) -> io::Result<()> {
     queue.set(C, 3, 0, 3);
     queue.set_delay(W, 4_000_000_000, 4);
     queue.advance(4_294_967_295);
-    println!(rt; "  first {:?}", queue.first_due())?;
-    println!(rt; "  cancel {}", queue.cancel(C))?;
-    println!(rt; "  first {:?}", queue.first_due())?;
-    println!(rt; "  cancel {}", queue.cancel(B))?;
-    println!(rt; "  first {:?}", queue.first_due())?;
-    println!(rt; "  cancel {}", queue.cancel(A))?;
-    println!(rt; "  first {:?}", queue.first_due())
+    write_first(rt, queue.first_due())?;
+    write_cancel(rt, queue.cancel(C))?;
+    write_first(rt, queue.first_due())?;
+    write_cancel(rt, queue.cancel(B))?;
+    write_first(rt, queue.first_due())?;
+    write_cancel(rt, queue.cancel(A))?;
+    write_first(rt, queue.first_due())
 }
 
 fn set_anew(rt: HostRuntime) -> io::Result<()> {
     let mut queue = TimerQueue::new(rt.alloc(), 2, 0)?;
     queue.set(A, 5, 0, 1);
     queue.set(B, 5, 0, 2);
-    println!(rt; "  cancel {}", queue.cancel(A))?;
-    println!(rt; "  set {:?}", queue.set(B, 200, 0, 3))?;
+    write_cancel(rt, queue.cancel(A))?;
+    write_set(rt, queue.set(B, 200, 0, 3))?;
     queue.advance(5);
-    println!(rt; "  first {:?}", queue.first_due())?;
-    println!(rt; "  place {:?}", queue.place(TimerKey::Timer(B)))?;
-    println!(rt; "  set {:?}", queue.set(A, 0, 0, 4))?;
-    println!(rt; "  first {:?}", queue.first_due())?;
-    println!(rt; "  set {:?}", queue.set(A, 1, 0, 5))?;
-    println!(rt; "  first {:?}", queue.first_due())?;
-    println!(rt; "  place {:?}", queue.place(TimerKey::Timer(A)))
+    write_first(rt, queue.first_due())?;
+    write_place(rt, queue.place(TimerKey::Timer(B)))?;
+    write_set(rt, queue.set(A, 0, 0, 4))?;
+    write_first(rt, queue.first_due())?;
+    write_set(rt, queue.set(A, 1, 0, 5))?;
+    write_first(rt, queue.first_due())?;
+    write_place(rt, queue.place(TimerKey::Timer(A)))
 }
 
 fn periodic(rt: HostRuntime) -> io::Result<()> {
     let mut queue = TimerQueue::new(rt.alloc(), 1, 0)?;
     queue.set(A, 1, 64, 1);
     queue.advance(2);
-    println!(rt; "  expire {:?}", queue.expire(TimerKey::Timer(A), 2))?;
-    println!(rt; "  place {:?}", queue.place(TimerKey::Timer(A)))?;
-    println!(rt; "  first {:?}", queue.first_due())?;
+    write_expiry(rt, queue.expire(TimerKey::Timer(A), 2))?;
+    write_place(rt, queue.place(TimerKey::Timer(A)))?;
+    write_first(rt, queue.first_due())?;
     queue.advance(64);
-    println!(rt; "  first {:?}", queue.first_due())
+    write_first(rt, queue.first_due())
 }
 
 fn never_reached(rt: HostRuntime) -> io::Result<()> {
     let mut queue = TimerQueue::new(rt.alloc(), 0, 1)?;
     queue.set_delay(W, 18_014_398_509_481_984, 1);
-    println!(rt; "  place {:?}", queue.place(TimerKey::Delay(W)))?;
+    write_place(rt, queue.place(TimerKey::Delay(W)))?;
     queue.set_delay(W, 18_446_744_073_709_551_615, 2);
-    println!(rt; "  place {:?}", queue.place(TimerKey::Delay(W)))?;
+    write_place(rt, queue.place(TimerKey::Delay(W)))?;
     queue.advance(4_294_967_295);
-    println!(rt; "  place {:?}", queue.place(TimerKey::Delay(W)))?;
-    println!(rt; "  first {:?}", queue.first_due())
+    write_place(rt, queue.place(TimerKey::Delay(W)))?;
+    write_first(rt, queue.first_due())
 }
 
 fn main(rt: HostRuntime) -> io::Result<()> {
