@@ -46,7 +46,7 @@ use Rattle.nt_runs.proofs.Pending.{yes_if_true}
 use Rattle.nt_runs.proofs.Rundown.Steps.{facts_there}
 use Rattle.nt_thread.proofs.Events.{facts-by}
 use Rattle.nt_thread.proofs.Runs.{quiet-after}
-use Rattle.nt_thread.specs.Quiet.{IsQuiet, NothingBehind, QuietDoing}
+use Rattle.nt_event.specs.Quiet.{IsQuiet, NothingBehind, QuietDoing}
 use Rattle.nt_thread.specs.Runs.{Alerts, EndsDelay, Inserts, Leaves, Releases, Removes, Takes, TestsAlert, Wait, Waits}
 
 quiet_if : (b : Bool) (x y : ThreadFacts) → NothingBehind x → NothingBehind y → NothingBehind (if b then y else x)

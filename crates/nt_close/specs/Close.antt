@@ -22,7 +22,7 @@ use Rattle.nt_event.specs.Step.{IsRun, is_cut}
 use Rattle.nt_event.specs.Threads.{is_ready}
 use Rattle.nt_event.specs.Timers.{SetKey, first_due, timers_at}
 use Rattle.nt_event.specs.Waits.{facts}
-use Rattle.nt_thread.specs.Quiet.{IsQuiet}
+use Rattle.nt_event.specs.Quiet.{IsQuiet}
 
 -- the class was asked for on the processor, and no event that served the class there had noticed this yet
 abbrev pub IsWanted : Script → CpuNo → ℕ → List Event → Type 0

@@ -1,10 +1,10 @@
 -- What an event leaves of objects and queues is what its change leaves.
-use Rattle.std.proofs.Common.{inl, inr, Bool, List, None, Option, Some, ap, arith, cond, eq-eqb, eqb, false, get_or, length, not, option_map, refl, set, subst}
-use Rattle.std.proofs.Common.{sym, true, ℕ, ◌<◌, ◌∙◌, ◌∷◌, ◌≡◌}
+use Rattle.std.proofs.Common.{inl, inr, Bool, List, None, Option, Some, ap, arith, cond, eqb, false, length, not, option_map, refl, set, subst}
+use Rattle.std.proofs.Common.{sym, true, ℕ, ◌<◌, ◌∙◌, ◌≡◌}
 use Rattle.std.specs.Option.{is_some}
 use Rattle.std.specs.Prelude.{IsTrue}
 use Rattle.std.proofs.lemmas.Bool.{cases_lt, eqb-true, false≢true, lt-ltb}
-use Rattle.std.proofs.lemmas.List.{get_or_past, length-set}
+use Rattle.std.proofs.lemmas.List.{get_or_past}
 use Rattle.nt_event.proofs.Booleans.{either_way}
 use Rattle.nt_dpc.proofs.Events.{object_calls_are_events, queue_calls_are_events}
 use Rattle.nt_dpc.specs.Laws.{IsObject}
@@ -27,7 +27,7 @@ use Rattle.nt_event.specs.declared.numbers.DpcNo.{DpcNo}
 use Rattle.nt_event.specs.declared.numbers.ThreadNo.{ThreadNo}
 use Rattle.nt_event.specs.Jobs.{begin_dpc, begin_first}
 use Rattle.nt_event.specs.Objects.{ObjectState, is_queued, object_after, object_in, queue_for, start_object}
-use Rattle.nt_event.specs.Queues.{QueueState, first_dpc, is_queue, new_insert, queue_after, start_queue, without_dpc}
+use Rattle.nt_event.specs.Queues.{QueueState, first_dpc, is_queue, new_insert, queue_after, start_queue}
 use Rattle.nt_event.specs.Script.{has_dpc}
 use Rattle.nt_event.specs.Numbers.{cpu, dpc}
 use Rattle.nt_event.specs.Lists.{table}

@@ -1,5 +1,5 @@
 -- The objects and queues of a script before any event.
-use Rattle.std.proofs.Common.{inl, inr, false, List, ap, arith, add-one, length, map, refl, subst, suc, sym, zero, get_or, ℕ, ◌+◌, ◌++◌, ◌<◌, ◌∙◌, ◌∷◌, ◌≡◌}
+use Rattle.std.proofs.Common.{inl, inr, false, List, ap, arith, length, map, refl, subst, suc, sym, zero, get_or, ℕ, ◌<◌, ◌∙◌, ◌∷◌, ◌≡◌}
 use Rattle.std.proofs.Common.{◌&&◌, []}
 use Rattle.std.specs.Prelude.{IfSome, slice_get}
 use Rattle.std.proofs.lemmas.Bool.{cases_lt}
@@ -20,18 +20,6 @@ use Rattle.nt_dpc_lanes.specs.Agree.{Agrees, AreKept, IsObjectOf, IsQueueOf, lan
 use Rattle.nt_dpc_lanes.specs.Lanes.{queue_in, start}
 
 -- ---- tables
-
-more_from : {A : Type 0} (k n : ℕ) (f : ℕ → A) → table_from k n f ++ f (k + n) ∷ [] ≡ table_from k (suc n) f
-unfolding table_from
-more_from k zero f = let e : k + 0 ≡ k = omega arith in rw e
-more_from {A} k (suc n) f =
-    let e : k + suc n ≡ suc k + n = omega arith in rw e (ap (λ (xs : List A). f k ∷ xs) (more_from (suc k) n f))
-
-pub table_more : {A : Type 0} (n : ℕ) (f : ℕ → A) → table n f ++ f n ∷ [] ≡ table (n + 1) f
-table_more {A} n f =
-    let e : 0 + n ≡ n = omega arith in
-    let here : table n f ++ f n ∷ [] ≡ table n f ++ f (0 + n) ∷ [] = rw e in
-    here ∙ more_from 0 n f ∙ ap (λ (m : ℕ). table m f) (sym (add-one n))
 
 map_table_from : {A B : Type 0} (g : A → B) (k n : ℕ) (f : ℕ → A) → map g (table_from k n f) ≡ table_from k n (λ i. g (f i))
 unfolding table_from

@@ -1,7 +1,7 @@
 -- Tables: their elements, and when two are equal.
-use Rattle.std.proofs.Common.{add-zero, ap, arith, sym, ◌∙◌}
+use Rattle.std.proofs.Common.{add-one, add-zero, ap, arith, sym, ◌∙◌}
 use Rattle.std.proofs.lemmas.Grind.{same_number_lists}
-use Rattle.std.specs.Prelude.{List, [], get_or, length, refl, suc, zero, ℕ, ◌+◌, ◌<◌, ◌∷◌, ◌≡◌}
+use Rattle.std.specs.Prelude.{List, [], get_or, length, refl, suc, zero, ℕ, ◌+◌, ◌++◌, ◌<◌, ◌∷◌, ◌≡◌}
 use Rattle.nt_event.specs.Lists.{table, table_from}
 
 pub get_or-table_from : {A : Type 0} (k n i : ℕ) (f : ℕ → A) (d : A) → i < n → get_or (table_from k n f) i d ≡ f (k + i)
@@ -52,3 +52,30 @@ table_from-self {A} d k (x ∷ xs) f h =
 pub table-self : {A : Type 0} (d : A) (n : ℕ) (xs : List A) (f : ℕ → A) → length xs ≡ n → ((i : ℕ) → i < n → f i ≡ get_or xs i d) → table n f ≡ xs
 table-self d n xs f l h =
     rw (← l) (table_from-self d 0 xs f (λ i k. let a : 0 + i ≡ i = omega arith in rw a (h i (omega arith))))
+
+-- a table with one element more is the table and that element
+table_from_more : {A : Type 0} (k n : ℕ) (f : ℕ → A) → table_from k (suc n) f ≡ table_from k n f ++ f (k + n) ∷ []
+unfolding table_from
+table_from_more {A} k zero f = let e : k + 0 ≡ k = omega arith in ap (λ (i : ℕ). f i ∷ []) (sym e)
+table_from_more {A} k (suc n) f =
+    let e : suc k + n ≡ k + suc n = omega arith in
+    ap (λ (xs : List A). f k ∷ xs) (table_from_more (suc k) n f ∙ ap (λ (i : ℕ). table_from (suc k) n f ++ f i ∷ []) e)
+
+pub table_more : {A : Type 0} (n : ℕ) (f : ℕ → A) → table (n + 1) f ≡ table n f ++ f n ∷ []
+table_more {A} n f =
+    ap (λ (i : ℕ). table i f) (add-one n)
+    ∙ (table_from_more 0 n f ∙ ap (λ (i : ℕ). table n f ++ f i ∷ []) (omega arith))
+
+pub more_table : {A : Type 0} (n : ℕ) (f : ℕ → A) → table n f ++ f n ∷ [] ≡ table (n + 1) f
+more_table n f = sym (table_more n f)
+
+pub table_none : {A : Type 0} (f : ℕ → A) → table 0 f ≡ []
+unfolding table_from
+table_none f = refl
+
+-- a table that grew by its next element
+pub table_grown : {A : Type 0} (n : ℕ) (f : ℕ → A) (xs ys : List A) (x : A) → ys ≡ xs ++ x ∷ [] → xs ≡ table n f → x ≡ f n → ys ≡ table (n + 1) f
+table_grown {A} n f xs ys x a b c =
+    a
+    ∙ (ap (λ (zs : List A). zs ++ x ∷ []) b
+    ∙ (ap (λ (z : A). table n f ++ z ∷ []) c ∙ sym (table_more n f)))

@@ -11,6 +11,7 @@ pub mod Frames
 pub mod Regions
 pub mod Objects
 pub mod Queues
+pub mod Quiet
 pub mod Apcs
 pub mod Threads
 pub mod Waits

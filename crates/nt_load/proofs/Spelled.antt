@@ -11,7 +11,7 @@ use Rattle.nt_line.specs.NameLists.{NameLists, apc_at, dpc_at, meaning, no_names
 use Rattle.nt_line.specs.Places.{place}
 use Rattle.nt_line.specs.declared.names.Kind.TheVariants as kind
 use Rattle.nt_line.specs.declared.names.Kind.{Kind}
-use Rattle.nt_load.proofs.Tables.{table_more}
+use Rattle.nt_event.proofs.Tables.{table_more}
 use Rattle.nt_load.specs.Load.{load_names, object_names, spelled, spelled_names, thing_names, with_spelled}
 
 -- a name that differs from each of a table's stands nowhere in it

@@ -22,7 +22,7 @@ use Rattle.nt_event.specs.declared.threads.Doing.{Doing}
 use Rattle.nt_event.specs.declared.threads.Doing.TheVariants.{Blocked as IsBlocked, Gone as IsGone, Ready as IsReady, Running as IsRunning}
 use Rattle.nt_event.specs.declared.threads.Waiting.{Waiting}
 use Rattle.nt_thread.specs.Endings.{ended_by}
-use Rattle.nt_thread.specs.Quiet.{IsQuiet, NothingBehind, QuietDoing}
+use Rattle.nt_event.specs.Quiet.{IsQuiet, NothingBehind, QuietDoing}
 
 -- ---- options
 

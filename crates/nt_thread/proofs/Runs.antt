@@ -19,7 +19,7 @@ use Rattle.nt_event.specs.declared.threads.Doing.{Doing}
 use Rattle.nt_event.specs.declared.threads.Doing.TheVariants.{Blocked as IsBlocked, Gone as IsGone, Ready as IsReady, Running as IsRunning}
 use Rattle.nt_thread.proofs.Quiet.{none-from, quiet-added, quiet-without}
 use Rattle.nt_thread.specs.Laws.{BlocksAreQuiet}
-use Rattle.nt_thread.specs.Quiet.{IsQuiet, NothingBehind, QuietDoing}
+use Rattle.nt_event.specs.Quiet.{IsQuiet, NothingBehind, QuietDoing}
 use Rattle.nt_thread.specs.Runs.{Act, Alerts, EndsDelay, GivesWay, Goes, Inserts, Leaves, Releases, Removes, Resumes, Takes, TestsAlert, Wait, Waits, after}
 use Rattle.nt_thread.specs.Runs.{facts_of}
 

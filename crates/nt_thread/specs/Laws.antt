@@ -5,7 +5,7 @@ use Rattle.nt_event.specs.declared.threads.Doing.TheVariants.{Blocked as IsBlock
 use Rattle.nt_event.specs.declared.threads.Waiting.{Waiting}
 use Rattle.nt_event.specs.Apcs.{deliverable, first_user}
 use Rattle.nt_event.specs.Threads.{is_alerted}
-use Rattle.nt_thread.specs.Quiet.{takes_user}
+use Rattle.nt_event.specs.Quiet.{takes_user}
 use Rattle.nt_thread.specs.Rows.{clears_alert, clears_leaving, clears_mark, clears_released, last_left, sets_alert}
 use Rattle.nt_thread.specs.Rows.{sets_leaving, sets_mark, sets_released}
 use Rattle.nt_thread.specs.Runs.{Act, facts_of}

@@ -1,6 +1,5 @@
 pub mod Endings
 pub mod Laws
-pub mod Quiet
 pub mod Replies
 pub mod Rows
 pub mod Runs

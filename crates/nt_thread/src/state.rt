@@ -9,7 +9,7 @@ ghost use Rattle.nt_event.specs.Replies.{alerted, is_user, kernel_apc, satisfied
 ghost use Rattle.nt_event.specs.declared.numbers.ApcNo.{ApcNo as Apc};
 ghost use Rattle.nt_event.specs.declared.threads.Doing.{Doing};
 ghost use Rattle.nt_thread.specs.Endings.{ended_by};
-ghost use Rattle.nt_thread.specs.Quiet.{NothingBehind};
+ghost use Rattle.nt_event.specs.Quiet.{NothingBehind};
 ghost use Rattle.nt_thread.specs.Replies.{reply_of};
 
 use crate::answers::{AlertAnswer, ApcAnswer, WaitAnswer, WaitSpec};
@@ -35,7 +35,7 @@ pub struct ThreadState {
 
 impl Model for ThreadState {
     ghost use Rattle.nt_event.specs.Threads.{ThreadFacts};
-    ghost use Rattle.nt_thread.specs.Quiet.{QuietDoing};
+    ghost use Rattle.nt_event.specs.Quiet.{QuietDoing};
 
     ghost Value = { ThreadFacts };
 

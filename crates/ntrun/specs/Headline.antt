@@ -30,7 +30,7 @@ use Rattle.nt_readings.specs.Fates.{HasOneFate, IsInsert, IsPending}
 use Rattle.nt_script.specs.declared.walk.Input.{Input}
 use Rattle.nt_script.specs.Text.{text}
 use Rattle.nt_text.specs.declared.lines.TheConstants.{INPUT_LIMIT}
-use Rattle.nt_thread.specs.Quiet.{IsQuiet}
+use Rattle.nt_event.specs.Quiet.{IsQuiet}
 use Rattle.nt_words.specs.declared.form.Form.{Form}
 use Rattle.nt_words.specs.declared.form.Form.TheVariants as form
 use Rattle.nt_words.specs.Forms.{IsForm}

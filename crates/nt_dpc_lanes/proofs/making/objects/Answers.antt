@@ -1,5 +1,5 @@
 use Rattle.nt_event.specs.Lists.{table_from}
-use Rattle.nt_dpc_lanes.proofs.Starting.{table_more}
+use Rattle.nt_event.proofs.Tables.{more_table}
 use Rattle.nt_dpc_lanes.proofs.making.objects.Goals as goal
 
 pub loop-i-init : goal.loop-i-init
@@ -8,4 +8,4 @@ loop-i-init c = c.in_ok-objects.ensures.items
 
 pub loop-i-preserved : goal.loop-i-preserved
 loop-i-preserved c =
-    rw (c.in_ok-push.ensures.items, c.loop-i.invariant, c.new.ensures, c.is_threaded.ensures) (table_more _ _)
+    rw (c.in_ok-push.ensures.items, c.loop-i.invariant, c.new.ensures, c.is_threaded.ensures) (more_table _ _)

@@ -1,5 +1,5 @@
 use Rattle.std.proofs.Common.{refl, sym, ◌∙◌}
-use Rattle.nt_load.proofs.Tables.{table_grown, table_none}
+use Rattle.nt_event.proofs.Tables.{table_grown, table_none}
 use Rattle.nt_load.proofs.declarations.dpcs.Goals as goal
 
 pub loop-i-init : goal.loop-i-init

@@ -1,6 +1,6 @@
 use Rattle.std.proofs.Common.{refl, sym, ◌∙◌}
 use Rattle.nt_load.proofs.Numbers.{begin_next, begin_none}
-use Rattle.nt_load.proofs.Tables.{table_grown, table_none}
+use Rattle.nt_event.proofs.Tables.{table_grown, table_none}
 use Rattle.nt_load.proofs.routines.draw_routine.Goals as goal
 
 pub loop-i-init : goal.loop-i-init

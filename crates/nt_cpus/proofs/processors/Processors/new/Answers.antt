@@ -1,5 +1,5 @@
 use Rattle.std.proofs.Common.{ap, arith, sym, ◌+◌, ◌∙◌, ℕ}
-use Rattle.nt_cpus.proofs.Starting.{table_grown, table_none}
+use Rattle.nt_event.proofs.Tables.{table_grown, table_none}
 use Rattle.nt_cpus.proofs.processors.Processors.new.Goals as goal
 
 pub loop-cpu-init : goal.loop-cpu-init
