@@ -1,5 +1,5 @@
 -- What is noticed of each class after an event that touches no lane.
-use Rattle.std.proofs.Common.{ap, arith, max, ◌∙◌}
+use Rattle.std.proofs.Common.{arith, max, ◌∙◌}
 use Rattle.std.proofs.lemmas.Bool.Decides.{nat_tests}
 use Rattle.std.proofs.lemmas.List.Elements.{All-from_get_or}
 use Rattle.std.proofs.lemmas.List.Folds.{list_any_at, list_any_none}

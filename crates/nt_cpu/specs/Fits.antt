@@ -1,15 +1,13 @@
 -- Which events the frames of a processor allow.
-use Rattle.std.specs.Prelude.{Bool, IsTrue, None, Some, [], false, is_none, length, not, true, ℕ, ◌&&◌, ◌<◌, ◌||◌, ◌≡◌, Option}
+use Rattle.std.specs.Prelude.{Bool, IsTrue, None, Some, [], false, is_none, length, not, true, ℕ, ◌&&◌, ◌<◌, ◌||◌, ◌≡◌}
 use Rattle.nt_event.specs.declared.commands.Command.{Command}
-use Rattle.nt_event.specs.declared.commands.Command.TheVariants as cmd
 use Rattle.nt_event.specs.declared.commands.Command.TheVariants.{Alert, CancelTimer, Clock, Delay, EnterCrit, EnterGuard, InsertApc, Interrupt, LeaveCrit, LeaveGuard, Lower, Note, Queue, Raise, Release, RemoveApc, SetImportance, SetTarget, SetTimer, StartWait, TestAlert, ToUser, Unqueue, Yield}
 use Rattle.nt_event.specs.declared.commands.Reply.{Reply}
-use Rattle.nt_event.specs.declared.commands.Reply.TheVariants.{Blocked, Done, Status}
+use Rattle.nt_event.specs.declared.commands.Reply.TheVariants.{Blocked, Status}
 use Rattle.nt_event.specs.declared.events.Begun.{Begun}
 use Rattle.nt_event.specs.declared.events.Begun.TheVariants.{Apc, Dpc, Int, Threaded}
 use Rattle.nt_event.specs.declared.events.What.{What}
 use Rattle.nt_event.specs.declared.events.What.TheVariants.{Begin, Call, Clean, End, Expire, Fire, Flush, Gone, Look, Normal, Rest, Rewait, Switch}
-use Rattle.nt_event.specs.declared.frames.Again.{Again}
 use Rattle.nt_event.specs.declared.frames.Body.{Body}
 use Rattle.nt_event.specs.declared.frames.Body.TheVariants.{Apc as OnApc, Dpc as OnDpc, Int as OnInt, Threaded as OnThreaded}
 use Rattle.nt_event.specs.declared.frames.Frame.{Frame}

@@ -1,6 +1,5 @@
 //! What a processor keeps.
 ghost use Rattle.std.specs.Prelude.{◌≡◌, ◌<◌, ◌≤◌, ◌&&◌, [], IfOk, IsTrue, length, not};
-ghost use Rattle.nt_event.specs.Lists.{value_at};
 ghost use Rattle.nt_event.specs.Jobs.{may_switch as switch_in, rests as rests_in};
 ghost use Rattle.nt_event.specs.Own.{own_of};
 ghost use Rattle.nt_event.specs.Script.{fits, has_cpu};
@@ -91,14 +90,6 @@ impl<'s> Cpu<'s> {
         ensures { result.value ≡ self.now.own.seen }
     {
         self.seen.rises()
-    }
-
-    /// The greatest request of a class that it has noticed.
-    pub fn seen_of(&self, class: u8) -> u64
-        requires { class < 16 }
-        ensures { result ≡ value_at self.now.own.seen class }
-    {
-        self.seen.get(class)
     }
 
     /// The thread that it took up last.

@@ -1,5 +1,4 @@
 //! What a processor notices as an event of its own happens.
-ghost use Rattle.std.specs.Prelude.{◌≡◌};
 
 use nt_event::Rises;
 

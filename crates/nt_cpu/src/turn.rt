@@ -124,6 +124,7 @@ impl<'s> Cpu<'s> {
         ensures ok { OnOk result ((f : Found) × (n : ℕ) × (IsTurned self.old self.new choice.now f n event.new (F.view floor.old) (F.view floor.new) × (acts self.old choice.now ≡ true → F.found floor.new n event.new (stand_in self.old.cpu self.old.own) f))) }
         ensures err { IfErr result (λ r. (f : Found) × (IsTurnRefused self.old choice.now f r (F.view floor.old) × (acts self.old choice.now ≡ true → (job : Job) → task_of self.old.script self.old.cpu self.old.own choice.now ≡ Some (Task.Shared job) → F.shows floor.new (stand_in self.old.cpu self.old.own) job f))) }
         ensures same { OnErr result ((self.new ≡ self.old) × IsUnmoved (F.view floor.old) (F.view floor.new)) }
+        ensures unwritten { OnErr result (event.new ≡ event.old) }
         ensures memory { (F.view floor.old).alone ≡ true → IsErrOf result TurnRefusal.NoMemory → ⊥ }
         ensures script { F.script floor.new ≡ F.script floor.old }
         ensures grows { F.grows floor.old floor.new }

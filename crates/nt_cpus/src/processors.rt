@@ -63,7 +63,8 @@ impl<'s> Processors<'s> {
         self.limit
     }
 
-    /// Takes the turn over the floor: makes its event, or answers why there is none; then nothing changed. No memory is taken.
+    /// Takes the turn over the floor: makes its event, or answers why there is none; then nothing changed and nothing was
+    /// written. No memory is taken.
     ///
     /// The processors and the floor stand after some run; what comes is what the turn gives after it, and they stand after its event then.
     /// The event is written where the caller keeps it. NoSuchCpu comes where the script does not have the processor. NothingToDo comes
@@ -80,6 +81,7 @@ impl<'s> Processors<'s> {
         ensures ok { OnOk result ((past : List Event) → AreAfter past self.old (F.script floor.old) (F.view floor.old) → (step self.old.script self.old.limit turn.now past ≡ Ok event.new) × AreAfter (event.new ∷ past) self.new (F.script floor.new) (F.view floor.new)) }
         ensures err { IfErr result (λ r. (past : List Event) → AreAfter past self.old (F.script floor.old) (F.view floor.old) → step self.old.script self.old.limit turn.now past ≡ Err (kind_of r)) }
         ensures same { OnErr result ((self.new ≡ self.old) × IsUnmoved (F.view floor.old) (F.view floor.new)) }
+        ensures unwritten { OnErr result (event.new ≡ event.old) }
         ensures floor { F.script floor.new ≡ F.script floor.old }
         ensures kept { (self.new.script ≡ self.old.script) × (self.new.limit ≡ self.old.limit) }
     {
@@ -118,6 +120,7 @@ impl<'s> Processors<'s> {
         ensures ok { OnOk result ((past : List Event) → AreAfter past self.old (F.script floor.old) (F.view floor.old) → (step self.old.script self.old.limit turn.now past ≡ Ok event.new) × AreAfter (event.new ∷ past) self.new (F.script floor.new) (F.view floor.new)) }
         ensures err { IfErr result (λ r. (past : List Event) → AreAfter past self.old (F.script floor.old) (F.view floor.old) → step self.old.script self.old.limit turn.now past ≡ Err (kind_of r)) }
         ensures same { OnErr result ((self.new ≡ self.old) × IsUnmoved (F.view floor.old) (F.view floor.new)) }
+        ensures unwritten { OnErr result (event.new ≡ event.old) }
         ensures floor { F.script floor.new ≡ F.script floor.old }
         ensures kept { (self.new.script ≡ self.old.script) × (self.new.limit ≡ self.old.limit) }
     {
