@@ -17,4 +17,5 @@ mod dpcs;
 mod making;
 mod pairs;
 
+pub use changes::{Change, change_of};
 pub use dpcs::Dpcs;
