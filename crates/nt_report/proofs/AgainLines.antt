@@ -36,7 +36,8 @@ use Rattle.nt_report.specs.Fields.{read_processor}
 use Rattle.nt_report.specs.Walked.{Walked}
 use Rattle.nt_report.specs.Reading.{act, front_step, is_numbered, line_step, line_word, schedule_step, start, step_at, walk, with_schedule, word_at}
 use Rattle.nt_report.proofs.AgainEvents.{event_again, event_line_again, line}
-use Rattle.nt_report.proofs.PlainLines.{TextLine, in_schedule}
+use Rattle.nt_report.proofs.PlainLines.{TextLine, in_schedule, kept_room, more_length}
+use Rattle.nt_report.proofs.Steps.{ok}
 
 -- what was read before the schedule
 abbrev pub before : ReportPlace → List EventLine → Walked
@@ -86,39 +87,40 @@ numbered (c ∷ cs) h l = (and_parts (is_ascii_digit c) (all_ascii_digits cs) h)
 number_word : (n : ℕ) → n < 2 ^ 64 → line_word (decimal n) ≡ Some word.Event
 number_word n lt = rw (numbered (decimal n) (digits_decimal own n lt) (decimal_nonempty n lt)) refl
 
-event_step_again : (input : Input) → Known input → (n : ℕ) (e : Event) (ls : List EventLine) → n ≤ 160000 → EventIsPlain input.script e →
+event_step_again : (input : Input) → Known input → (n : ℕ) (e : Event) (ls : List EventLine) → n ≤ 160000 → length ls < 160000 → EventIsPlain input.script e →
     is_look e.what ≡ false → line_step input (before InEvents ls) (line_of (event_row input n e)) ≡ Ok (before InEvents (ls ++ line n e ∷ []))
-event_step_again input k n e ls few h l =
+event_step_again input k n e ls few room h l =
     step_again input (before InEvents ls) (event_row input n e) word.Event (before InEvents (ls ++ line n e ∷ []))
     (event_clean input k n e (omega (arith, few)) h) (rw (number_word n (omega (arith, few))) refl)
-    (rw (event_line_again input k n e (omega (arith, few)) h l) refl)
+    (rw (event_line_again input k n e (omega (arith, few)) h l) (ap (λ (xs : List EventLine). ok (before InEvents xs)) (kept_room ls (line n e) room)))
 
 -- the reading stands behind some lines
 abbrev Behind : Input → Walked → ℕ → List TextLine → Walked → List TextLine → Type 0
 Behind input w n ls new more = (m : ℕ) × (walk input w n ls ≡ walk input new m more)
 
 events_run : (input : Input) → Known input → (n : ℕ) (es : List Event) (ls : List EventLine) (m : ℕ) (tail : List TextLine) → n + length es ≤ 160000 →
-    AllByRecursion (EventIsPlain input.script) es →
+    length ls ≤ n → AllByRecursion (EventIsPlain input.script) es →
     Behind input (before InEvents ls) m (map line_of (event_rows input n es) ++ tail) (before InEvents (ls ++ event_lines n es)) tail
 unfolding event_lines
-events_run input k n [] ls m tail few h = (m, ap (λ (xs : List EventLine). walk input (before InEvents xs) m tail) (sym (append_nil ls)))
+events_run input k n [] ls m tail few room h = (m, ap (λ (xs : List EventLine). walk input (before InEvents xs) m tail) (sym (append_nil ls)))
   where
     append_nil : (xs : List EventLine) → xs ++ [] ≡ xs
     append_nil [] = refl
     append_nil (x ∷ xs) = ap (λ (ys : List EventLine). x ∷ ys) (append_nil xs)
-events_run input k n (e ∷ es) ls m tail few h =
+events_run input k n (e ∷ es) ls m tail few room h =
     subst (λ (rows : List Row). Behind input (before InEvents ls) m (map line_of (rows ++ event_rows input (n + 1) es) ++ tail)
     (before InEvents (ls ++ event_lines n (e ∷ es))) tail) (sym (line_split input n e e.what))
-    (go (is_look e.what) refl (λ xs k2. events_run input k (n + 1) es xs k2 tail (omega (arith, few)) h.1))
+    (go (is_look e.what) refl (λ xs k2 more_room. events_run input k (n + 1) es xs k2 tail (omega (arith, few)) more_room h.1))
   where
-    go : (b : Bool) → is_look e.what ≡ b → ((xs : List EventLine) (k2 : ℕ) → Behind input (before InEvents xs) k2
+    go : (b : Bool) → is_look e.what ≡ b → ((xs : List EventLine) (k2 : ℕ) → length xs ≤ n + 1 → Behind input (before InEvents xs) k2
         (map line_of (event_rows input (n + 1) es) ++ tail) (before InEvents (xs ++ event_lines (n + 1) es)) tail) →
         Behind input (before InEvents ls) m (map line_of ((if b then [] else event_row input n e ∷ []) ++ event_rows input (n + 1) es) ++ tail)
         (before InEvents (ls ++ (if b then event_lines (n + 1) es else line n e ∷ event_lines (n + 1) es))) tail
-    go true is more = more ls m
+    go true is more = more ls m (omega (arith, room))
     go false is more =
-        let r = more (ls ++ line n e ∷ []) (m + 1) in
-        let step = event_step_again input k n e ls (omega (arith, few)) h.0 is in (
+        let long = more_length ls (line n e) in
+        let r = more (ls ++ line n e ∷ []) (m + 1) (omega (arith, room, long)) in
+        let step = event_step_again input k n e ls (omega (arith, few)) (omega (arith, few, room)) h.0 is in (
           r.0,
           on input (before InEvents ls) (before InEvents (ls ++ line n e ∷ [])) m (line_of (event_row input n e)) _ step ∙ r.1
               ∙ ap (λ (xs : List EventLine). walk input (before InEvents xs) r.0 tail) (append_assoc ls (line n e ∷ []) (event_lines (n + 1) es)),
@@ -254,7 +256,7 @@ lines_read input k h xs s n few plain waits clean schedule =
     let late : List TextLine = map line_of (map (wait_row input.names) xs) ++ ends in
     let middle : List TextLine = map line_of (cut_rows h 0 input.script.cpus) ++ late in
     let lines : List EventLine = event_lines 0 h.events in
-    let events = events_run input k 0 h.events [] (n + 1) middle (omega (arith, few)) plain in
+    let events = events_run input k 0 h.events [] (n + 1) middle (omega (arith, few)) (omega arith) plain in
     let cuts = cuts_run input k h 0 input.script.cpus InEvents lines events.0 late (omega arith) refl in
     let still = waits_run input k xs cuts.0 lines cuts.2.0 ends waits (cut_then_wait cuts.0 cuts.1) in
     first_again input n (map line_of (event_rows input 0 h.events) ++ middle) ∙ (events.1 ∙ (cuts.2.1 ∙ (still.2.1

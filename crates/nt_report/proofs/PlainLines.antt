@@ -1,8 +1,12 @@
 -- What is read of the lines: plain events, and a schedule that is plain for the processors of the script.
-use Rattle.std.proofs.Common.{◌≡◌, ℕ, ◌+◌, ◌≤◌, ◌⊎◌, inl, inr, Bool, true, false, List, [], ◌∷◌, ◌++◌, length, Result, Ok, Err, refl, sym, ◌∙◌, ap, subst, arith}
+use lib.Dec.{ltb}
+use Rattle.std.proofs.Common.{◌≡◌, ℕ, ◌+◌, ◌<◌, ◌≤◌, ◌⊎◌, inl, inr, Bool, true, false, List, [], ◌∷◌, ◌++◌, length, Result, Ok, Err, refl, sym, ◌∙◌, ap, subst, arith}
+use Rattle.std.specs.Prelude.{nat_lt, if◌then◌else◌}
 use Rattle.std.specs.List.{AllByRecursion}
+use Rattle.std.proofs.lemmas.Bool.{cond-true, lt-ltb}
 use Rattle.nt_text.specs.declared.kind.ScriptKind.{ScriptKind}
 use Rattle.nt_text.specs.Lines.{Row, first, rest, row_of}
+use Rattle.nt_event.specs.declared.limits.TheConstants.{EVENTS}
 use Rattle.nt_event.specs.declared.numbers.CpuNo.{CpuNo}
 use Rattle.nt_line.specs.declared.names.Named.{Named}
 use Rattle.nt_line.specs.Results.{◌>>=◌}
@@ -24,7 +28,7 @@ use Rattle.nt_report.specs.declared.places.ReportPlace.TheVariants.{Start, InEve
 use Rattle.nt_report.specs.declared.walk.Parts.{Parts}
 use Rattle.nt_report.specs.Events.{event_line}
 use Rattle.nt_report.specs.Walked.{Walked}
-use Rattle.nt_report.specs.Reading.{act, and_then, cut_line, finish, front_step, line_step, line_word, schedule_step, start, step_at, waits_line, walk, with_event, with_place, with_schedule, word_at}
+use Rattle.nt_report.specs.Reading.{act, and_then, cut_line, finish, front_step, kept, line_step, line_word, schedule_step, start, step_at, waits_line, walk, with_event, with_place, with_schedule, word_at}
 use Rattle.nt_report.proofs.Steps.{made, ok, through}
 use Rattle.nt_report.proofs.PlainEvents.{event_line_plain}
 
@@ -37,17 +41,35 @@ pub all_more : {X : Type 0} (P : X → Type 0) (xs : List X) (x : X) → AllByRe
 all_more P [] x h p = (p, tt)
 all_more P (y ∷ xs) x h p = (h.0, all_more P xs x h.1 p)
 
-more_length : {X : Type 0} (xs : List X) (x : X) → length (xs ++ x ∷ []) ≡ length xs + 1
+pub more_length : {X : Type 0} (xs : List X) (x : X) → length (xs ++ x ∷ []) ≡ length xs + 1
 more_length [] x = refl
 more_length (y ∷ xs) x = let more = more_length xs x in omega (arith, more)
 
 -- ---- one line
+
+-- what is kept of the event lines is one more at most
+kept_few : (lines : List EventLine) (line : EventLine) → length (kept lines line) ≤ length lines + 1
+kept_few lines line = go (nat_lt (length lines) EVENTS)
+  where
+    go : (b : Bool) → length (if b then lines ++ line ∷ [] else lines) ≤ length lines + 1
+    go true = let more = more_length lines line in omega (arith, more)
+    go false = omega arith
+
+pub kept_room : (lines : List EventLine) (line : EventLine) → length lines < EVENTS → kept lines line ≡ lines ++ line ∷ []
+kept_room lines line room = cond-true (ltb (length lines) EVENTS) (lines ++ line ∷ []) lines (lt-ltb (length lines) EVENTS room)
 
 abbrev pub LineIsPlain : Input → EventLine → Type 0
 LineIsPlain input line = EventIsPlain input.script line.event
 
 abbrev pub AllPlain : Input → List EventLine → Type 0
 AllPlain input lines = AllByRecursion (LineIsPlain input) lines
+
+kept_plain : (input : Input) (lines : List EventLine) (line : EventLine) → LineIsPlain input line → AllPlain input lines → AllPlain input (kept lines line)
+kept_plain input lines line one all = go (nat_lt (length lines) EVENTS)
+  where
+    go : (b : Bool) → AllPlain input (if b then lines ++ line ∷ [] else lines)
+    go true = all_more (LineIsPlain input) lines line all one
+    go false = all
 
 -- the part of the events, cuts and waits
 abbrev pub in_schedule : ReportPlace → Bool
@@ -67,38 +89,38 @@ same_lines input w line place h = record { few = omega arith; plain = λ p. p; p
 schedule_taken : (input : Input) (w : Walked) (line : TextLine) (new : Walked) → schedule_step input w line ≡ Ok new → Taken input w line new
 schedule_taken input w line new e =
     through (Taken input w line) (schedule_line input.script.cpus input.names w.schedule line) (λ (s : ScheduleWalk). ok (with_schedule w s)) new e
-    (λ s is then. made (Taken input w line) (with_schedule w s) new then
+    (λ s is so. made (Taken input w line) (with_schedule w s) new so
     (record { few = omega arith; plain = λ p. p; part = inr (s, is, refl) }))
 
 act_taken : (input : Input) → Known input → (w : Walked) (word : LineWord) (row : Row) (line : TextLine) (new : Walked) → in_schedule w.place ≡ false →
     act input w word row line ≡ Ok new → Taken input w line new
 act_taken input k w word.Report row line new h e =
     through (Taken input w line) (counted (length (rest row)) 0) (λ (b : Bool). ok (with_place w InEvents)) new e
-    (λ b is then. made (Taken input w line) (with_place w InEvents) new then (same_lines input w line InEvents refl))
+    (λ b is so. made (Taken input w line) (with_place w InEvents) new so (same_lines input w line InEvents refl))
 act_taken input k w word.Event row line new h e =
     through (Taken input w line) (event_line input.names input.script.cpus (first row) (rest row)) (λ (l : EventLine). ok (with_event w l)) new e
-    (λ l is then.
+    (λ l is so.
     let plain = event_line_plain input k (first row) (rest row) l is in
-    made (Taken input w line) (with_event w l) new then
+    made (Taken input w line) (with_event w l) new so
     (record {
-      few = let more = more_length w.lines l in omega (arith, more);
-      plain = λ p. all_more (LineIsPlain input) w.lines l p plain;
+      few = kept_few w.lines l;
+      plain = λ p. kept_plain input w.lines l plain p;
       part = inl (h, refl);
     }))
 act_taken input k w word.Cut row line new h e =
     through (Taken input w line) (cut_line input.script.cpus (rest row)) (λ (p : CpuNo). ok (with_place w InCuts)) new e
-    (λ p is then. made (Taken input w line) (with_place w InCuts) new then (same_lines input w line InCuts refl))
+    (λ p is so. made (Taken input w line) (with_place w InCuts) new so (same_lines input w line InCuts refl))
 act_taken input k w word.Waits row line new h e =
     through (Taken input w line) (waits_line input.names (rest row)) (λ (x : Named). ok (with_place w InWaits)) new e
-    (λ x is then. made (Taken input w line) (with_place w InWaits) new then (same_lines input w line InWaits refl))
+    (λ x is so. made (Taken input w line) (with_place w InWaits) new so (same_lines input w line InWaits refl))
 act_taken input k w word.Schedule row line new h e = schedule_taken input w line new e
 
 front_taken : (input : Input) → Known input → (w : Walked) (line : TextLine) (new : Walked) → in_schedule w.place ≡ false → front_step input w line ≡ Ok new →
     Taken input w line new
 front_taken input k w line new h e =
     through (Taken input w line) (row_of line) (λ (row : Row). word_at w.place (line_word (first row)) >>= λ word. act input w word row line) new e
-    (λ row is then. through (Taken input w line) (word_at w.place (line_word (first row))) (λ (word : LineWord). act input w word row line) new then
-    (λ word is' then'. act_taken input k w word row line new h then'))
+    (λ row is so. through (Taken input w line) (word_at w.place (line_word (first row))) (λ (word : LineWord). act input w word row line) new so
+    (λ word is' so'. act_taken input k w word row line new h so'))
 
 pub step_taken : (input : Input) → Known input → (w : Walked) (line : TextLine) (new : Walked) → line_step input w line ≡ Ok new → Taken input w line new
 step_taken input k w line new e = go w.place refl e
@@ -132,7 +154,7 @@ finish_takes : (w : Walked) (n : ℕ) (parts : Parts) → finish w n ≡ Ok part
 finish_takes w n parts e =
     let P : Parts → Type 0 = λ parts. (parts.lines ≡ w.lines) × (schedule_finish w.schedule.place w.schedule.schedule n ≡ Ok parts.schedule) in
     then_ok P (schedule_finish w.schedule.place w.schedule.schedule n) (λ (s : Schedule). done (parts_of w.lines s)) parts e
-    (λ s is then. done_is P (parts_of w.lines s) parts then (refl, is))
+    (λ s is so. done_is P (parts_of w.lines s) parts so (refl, is))
 
 -- the reading went on behind a line
 pub record Went (input : Input) (w : Walked) (n : ℕ) (line : TextLine) (more : List TextLine) (parts : Parts) : Type 0 where
@@ -175,7 +197,7 @@ inside input w n (line ∷ more) parts h e =
     let P : Walked → Type 0 = λ new. walk input new (n + 1) more ≡ Ok parts → schedule_walk input.script.cpus input.names w.schedule n (line ∷ more)
     ≡ Ok parts.schedule in
     through P (schedule_line input.script.cpus input.names w.schedule line) (λ (s : ScheduleWalk). ok (with_schedule w s)) g.new (at w.place h g.step)
-    (λ s is then. made P (with_schedule w s) g.new then
+    (λ s is so. made P (with_schedule w s) g.new so
     (λ goes_on. rw is (inside input (with_schedule w s) (n + 1) more parts refl goes_on))) g.goes_on
   where
     at : (p : ReportPlace) → in_schedule p ≡ true → {new : Walked} → step_at p input w line ≡ Ok new → schedule_step input w line ≡ Ok new

@@ -1,11 +1,12 @@
 -- Reading a report: each line by its form, then the history of the turns and the events, then the text of that history,
 -- which has to be what was read. The tests of a line come in the order in which the steps `>>=` stand.
-use Rattle.std.specs.Prelude.{ℕ, ◌+◌, Bool, false, ◌&&◌, List, [], ◌∷◌, ◌++◌, length, Option, Some, None, Result, Ok, Err, codes, nat_le, ◌==◌, if◌then◌else◌}
+use Rattle.std.specs.Prelude.{ℕ, ◌+◌, Bool, false, ◌&&◌, List, [], ◌∷◌, ◌++◌, length, Option, Some, None, Result, Ok, Err, codes, nat_le, nat_lt, ◌==◌, if◌then◌else◌}
 use Rattle.std.specs.Char.{is_ascii_digit}
 use Rattle.std.specs.Str.{bytes_eq}
 use Rattle.nt_text.specs.declared.kind.ScriptKind.{ScriptKind}
 use Rattle.nt_text.specs.declared.kind.ScriptKind.TheVariants.{UnknownWord, WrongKind}
 use Rattle.nt_text.specs.Lines.{Row, first, rest, lines, row_of}
+use Rattle.nt_event.specs.declared.limits.TheConstants.{EVENTS}
 use Rattle.nt_event.specs.declared.numbers.CpuNo.{CpuNo}
 use Rattle.nt_event.specs.declared.events.Event.{Event}
 use Rattle.nt_event.specs.declared.events.History.{History}
@@ -87,8 +88,12 @@ start = record { place = Start; lines = []; schedule = schedule_start }
 abbrev pub with_place : Walked → ReportPlace → Walked
 with_place w place = record w { place = place }
 
+-- the event lines that are kept: a schedule has no more turns than this, so none behind them is ever taken
+abbrev pub kept : List EventLine → EventLine → List EventLine
+kept lines line = if nat_lt (length lines) EVENTS then lines ++ line ∷ [] else lines
+
 abbrev pub with_event : Walked → EventLine → Walked
-with_event w line = record w { lines = w.lines ++ line ∷ [] }
+with_event w line = record w { lines = kept w.lines line }
 
 abbrev pub with_schedule : Walked → ScheduleWalk → Walked
 with_schedule w schedule = record w { place = InSchedule; schedule = schedule }

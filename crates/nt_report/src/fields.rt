@@ -7,7 +7,7 @@ ghost use Rattle.nt_report.specs.Fields.{Passes, Reads, behind_word, hexadecimal
 use crate::words::{ReplyWord, reply_word};
 use nt_event::{CpuNo, Level, Refusal, Reply, ThreadNo};
 use nt_line::{Names, fields};
-use nt_text::{Fields, ScriptKind};
+use nt_text::{Fields, ScriptKind, is_word};
 
 /// Every cause of a refused command.
 const REFUSALS: [Refusal; 8] = [
@@ -25,7 +25,7 @@ const REFUSALS: [Refusal; 8] = [
 pub(crate) fn word(word: &[u8], row: &mut Fields) -> Result<(), ScriptKind>
     ensures { Passes result row.new (behind_word word.now row.old) }
 {
-    if row.need()? == word {
+    if is_word(row.need()?, word) {
         Ok(())
     } else {
         Err(ScriptKind::UnknownWord)

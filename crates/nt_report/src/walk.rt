@@ -1,11 +1,11 @@
 //! Reading the lines of a report, each by its form.
-ghost use Rattle.std.specs.Prelude.{◌≡◌, ◌∷◌, ◌++◌, [], OnOk};
-ghost use Rattle.nt_report.specs.Reading.{cut_line, read_object, waits_line};
+ghost use Rattle.std.specs.Prelude.{◌≡◌, OnOk};
+ghost use Rattle.nt_report.specs.Reading.{cut_line, kept, read_object, waits_line};
 
 use crate::events::{EventLine, event_line};
 use crate::fields::processor_of;
 use crate::places::{LineWord, ReportPlace, word_at};
-use nt_event::{CpuNo, Items};
+use nt_event::{CpuNo, Items, limits};
 use nt_line::{Named, Names, fields};
 use nt_log::{Schedule, ScheduleWalk, count};
 use nt_script::{Input, ScriptRefusal, Stop};
@@ -25,7 +25,7 @@ pub(crate) struct Parts {
 pub(crate) struct ReportWalk {
     /// What was read last.
     place: ReportPlace,
-    /// The event lines.
+    /// The event lines, as many as a schedule may have turns.
     lines: Vec<EventLine>,
     /// What was read of the schedule.
     schedule: ScheduleWalk,
@@ -70,10 +70,13 @@ fn waits_line(names: &Names, args: &mut Fields) -> Result<Named, ScriptKind>
     read_object(names, kind, args.take())
 }
 
-/// Adds an event line behind the others.
-fn add_line(lines: &mut Vec<EventLine>, line: &EventLine) -> Result<(), AllocError>
-    ensures { OnOk result (lines.new.items ≡ lines.old.items ++ line.now ∷ []) }
+/// Adds an event line behind the others, where a schedule may have a turn for it.
+fn keep_line(lines: &mut Vec<EventLine>, line: &EventLine) -> Result<(), AllocError>
+    ensures { OnOk result (lines.new.items ≡ kept lines.old.items line.now) }
 {
+    if lines.len() >= limits::EVENTS as usize {
+        return Ok(());
+    }
     lines.extend_from_slice(&[*line])
 }
 
@@ -168,7 +171,7 @@ impl ReportWalk {
     {
         match event_line(names, cpus, number, row) {
             Ok(line) => {
-                add_line(&mut self.lines, &line)?;
+                keep_line(&mut self.lines, &line)?;
                 Ok(())
             }
             Err(kind) => Err(Stop::Bad(kind)),

@@ -4,6 +4,7 @@ ghost use Rattle.std.specs.Str.{bytes_eq};
 ghost use Rattle.nt_report.specs.Words.{event_text, event_word, begun_text, begun_word, reply_text, reply_word};
 
 use nt_event::ApcKind;
+use nt_text::is_word;
 
 /// What an event did.
 #[derive(Clone, Copy, PartialEq, Eq, Debug)]
@@ -100,7 +101,10 @@ impl EventWord {
 fn search_event(words: &[EventWord], field: &[u8]) -> Option<EventWord>
     ensures { result ≡ find (λ w. bytes_eq field.now (event_text w)) words.now }
 {
-    words.iter().copied().find(|word| field == word.text())
+    words
+        .iter()
+        .copied()
+        .find(|word| is_word(field, word.text()))
 }
 
 /// What a field says that an event did.
@@ -130,7 +134,10 @@ impl BegunWord {
 fn search_begun(words: &[BegunWord], field: &[u8]) -> Option<BegunWord>
     ensures { result ≡ find (λ w. bytes_eq field.now (begun_text w)) words.now }
 {
-    words.iter().copied().find(|word| field == word.text())
+    words
+        .iter()
+        .copied()
+        .find(|word| is_word(field, word.text()))
 }
 
 /// What a field says that was begun.
@@ -160,7 +167,10 @@ impl ReplyWord {
 fn search_reply(words: &[ReplyWord], field: &[u8]) -> Option<ReplyWord>
     ensures { result ≡ find (λ w. bytes_eq field.now (reply_text w)) words.now }
 {
-    words.iter().copied().find(|word| field == word.text())
+    words
+        .iter()
+        .copied()
+        .find(|word| is_word(field, word.text()))
 }
 
 /// What a field says that was replied.
