@@ -12,6 +12,13 @@ Gives (Ok u) new read = read ≡ Ok new
 Gives (Err NoMemory) new read = Unit {0}
 Gives (Err (Bad kind)) new read = read ≡ Err kind
 
+-- a call that takes all lines of a text, from which this value is made then, or refuses a line, does what reading says,
+-- unless memory ran out
+abbrev pub GivesAll : {A B : Type 0} → Result B ScriptRefusal → A → Result A (ℕ × ScriptKind) → Type 0
+GivesAll (Ok u) made read = read ≡ Ok made
+GivesAll (Err refusal.NoMemory) made read = Unit {0}
+GivesAll (Err (refusal.Bad line kind)) made read = read ≡ Err (line, kind)
+
 -- a call that reads a whole text, or refuses a line, answers what reading says, unless memory ran out
 abbrev pub GivesRead : {A : Type 0} → Result A ScriptRefusal → Result A (ℕ × ScriptKind) → Type 0
 GivesRead (Ok x) read = read ≡ Ok x

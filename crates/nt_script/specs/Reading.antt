@@ -181,11 +181,15 @@ line_step all w line = row_of line >>= step all w
 
 -- ---- all lines
 
+-- what was read
+abbrev pub input_of : Walk → Input
+input_of w = record { script = w.script; names = w.names }
+
 -- what was read, where the text may end here; else the line behind the last is bad
 abbrev pub finish : Place → Walk → ℕ → Result Input (ℕ × ScriptKind)
 finish Start w n = Err (n, NoCpus)
 finish InRoutine w n = Err (n, NoEnd)
-finish _ w n = Ok (record { script = w.script; names = w.names })
+finish _ w n = Ok (input_of w)
 
 -- the reading goes on behind the line n, or that line is refused
 abbrev pub go_on : {W A : Type 0} → ℕ → Result W ScriptKind → (W → Result A (ℕ × ScriptKind)) →

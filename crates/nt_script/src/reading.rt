@@ -3,8 +3,8 @@ ghost use Rattle.std.specs.Prelude.{◌≡◌, ◌≤◌, length, OnOk, IfOk, Ok
 ghost use Rattle.nt_text.specs.declared.lines.TheConstants.{INPUT_LIMIT};
 ghost use Rattle.nt_text.specs.Lines.{lines, fields};
 ghost use Rattle.nt_line.specs.NameLists.{no_names};
-ghost use Rattle.nt_script.specs.Reading.{names_after, names_from, start, walk, reading};
-ghost use Rattle.nt_script.specs.Gives.{GivesRead};
+ghost use Rattle.nt_script.specs.Reading.{input_of, names_after, names_from, start, walk, reading};
+ghost use Rattle.nt_script.specs.Gives.{GivesAll, GivesRead};
 ghost use Rattle.nt_script.specs.Sound.{IsTextOf};
 ghost use Rattle.nt_script.specs.declared.walk.Input.{Input};
 
@@ -40,16 +40,44 @@ fn note_name(alloc: Global, names: &mut Names, line: &[u8]) -> Result<(), AllocE
     Ok(())
 }
 
+/// Adds the names that the lines of a text declare.
+fn note_names(alloc: Global, names: &mut Names, bytes: &[u8]) -> Result<(), AllocError>
+    ensures { OnOk result (names.new ≡ names_from names.old (lines bytes.now)) }
+{
+    let mut lines = Lines::new(bytes);
+    while let Some(line) = lines.next() {
+        note_name(alloc, names, line.bytes)?;
+    }
+    Ok(())
+}
+
 /// The names that the lines of a text declare, wherever they stand.
 fn names_of(alloc: Global, bytes: &[u8]) -> Result<Names, AllocError>
     ensures { IfOk result (λ names. names ≡ names_from no_names (lines bytes.now)) }
 {
     let mut names = Names::new(alloc);
-    let mut lines = Lines::new(bytes);
-    while let Some(line) = lines.next() {
-        note_name(alloc, &mut names, line.bytes)?;
-    }
+    note_names(alloc, &mut names, bytes)?;
     Ok(names)
+}
+
+impl Walk {
+    /// Takes all lines of a text that may end behind them. `all` are the names that the lines declare.
+    fn read_lines(&mut self, alloc: Global, all: &Names, bytes: &[u8]) -> Result<(), ScriptRefusal>
+        requires { length bytes.now ≤ INPUT_LIMIT }
+        ensures { GivesAll result (input_of self.new) (walk all.now self.old 1 (lines bytes.now)) }
+    {
+        let mut lines = Lines::new(bytes);
+        let mut at: u32 = 1;
+        while let Some(line) = lines.next() {
+            match self.line(alloc, all, &line) {
+                Ok(()) => {}
+                Err(Stop::NoMemory) => return Err(ScriptRefusal::NoMemory),
+                Err(Stop::Bad(kind)) => return Err(ScriptRefusal::Bad { line: at, kind }),
+            }
+            at += 1;
+        }
+        self.may_end(at)
+    }
 }
 
 /// The script of a text whose lines declare these names.
@@ -58,17 +86,8 @@ fn read_with(alloc: Global, all: &Names, bytes: &[u8]) -> Result<Input, ScriptRe
     ensures { GivesRead result (walk all.now start 1 (lines bytes.now)) }
 {
     let mut walk = Walk::new(alloc);
-    let mut lines = Lines::new(bytes);
-    let mut at: u32 = 1;
-    while let Some(line) = lines.next() {
-        match walk.line(alloc, all, &line) {
-            Ok(()) => {}
-            Err(Stop::NoMemory) => return Err(ScriptRefusal::NoMemory),
-            Err(Stop::Bad(kind)) => return Err(ScriptRefusal::Bad { line: at, kind }),
-        }
-        at += 1;
-    }
-    walk.finish(at)
+    walk.read_lines(alloc, all, bytes)?;
+    Ok(walk.into_input())
 }
 
 /// Two walks along the lines: one for the names, one for all else.

@@ -71,8 +71,8 @@ impl Walk {
     ghost use Rattle.nt_line.specs.Results.{ok_if};
     ghost use Rattle.nt_line.specs.Keywords.{keyword_of};
     ghost use Rattle.nt_line.specs.NameLists.{no_names, meaning};
-    ghost use Rattle.nt_script.specs.Reading.{start, with_apc, with_command, with_dpc, with_thread, with_timer, keyword_at, step, act, line_step, finish};
-    ghost use Rattle.nt_script.specs.Gives.{Gives, GivesRead};
+    ghost use Rattle.nt_script.specs.Reading.{start, with_apc, with_command, with_dpc, with_thread, with_timer, keyword_at, step, act, line_step, finish, input_of};
+    ghost use Rattle.nt_script.specs.Gives.{Gives, GivesAll};
 
     /// Nothing was read.
     pub fn new(alloc: Global) -> Walk
@@ -97,18 +97,11 @@ impl Walk {
         }
     }
 
-    /// The input, where the text may end here. `line` is the number of the line behind the last.
-    pub fn finish(self, line: u32) -> Result<Input, ScriptRefusal>
-        ensures { GivesRead result (finish self.place self line) }
+    /// Whether the text may end here; else the line behind the last, which has this number, is bad.
+    pub fn may_end(&self, line: u32) -> Result<(), ScriptRefusal>
+        ensures { GivesAll result (input_of self.now) (finish self.now.place self.now line) }
     {
-        let Walk {
-            script,
-            names,
-            body: _,
-            commands: _,
-            place,
-        } = self;
-        match place {
+        match self.place {
             Place::Start => Err(ScriptRefusal::Bad {
                 line,
                 kind: ScriptKind::NoCpus,
@@ -117,8 +110,22 @@ impl Walk {
                 line,
                 kind: ScriptKind::NoEnd,
             }),
-            _ => Ok(Input { script, names }),
+            _ => Ok(()),
         }
+    }
+
+    /// The script and the names.
+    pub fn into_input(self) -> Input
+        ensures { result ≡ input_of self }
+    {
+        let Walk {
+            script,
+            names,
+            body: _,
+            commands: _,
+            place: _,
+        } = self;
+        Input { script, names }
     }
 
     /// Takes a line. `all` are the names that the lines of the whole text declare.
