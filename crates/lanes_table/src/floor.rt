@@ -167,12 +167,16 @@ fn words(rt: HostRuntime, script: &Script) -> io::Result<()>
     };
     let n = floor.draw(&event);
     floor.mark(CpuNo(1), 3, n);
-    let marked = floor.look(CpuNo(1), 3);
-    let other = floor.look(CpuNo(0), 3);
+    let looks = [floor.look(CpuNo(1), 3), floor.look(CpuNo(0), 3)];
+    write_words(rt, &floor, n, looks)
+}
+
+/// Writes the number that was drawn, what the looks at both processors gave, and the marks.
+fn write_words(rt: HostRuntime, floor: &PlainFloor<'_>, n: u64, looks: [u64; 2]) -> io::Result<()> {
     write_number(rt, "drawn", n)?;
-    write_number(rt, "look at 1", marked)?;
-    write_number(rt, "look at 0", other)?;
-    write_marks(rt, &floor, n)
+    write_number(rt, "look at 1", looks[0])?;
+    write_number(rt, "look at 0", looks[1])?;
+    write_marks(rt, floor, n)
 }
 
 fn write_marks(rt: HostRuntime, floor: &PlainFloor<'_>, n: u64) -> io::Result<()> {

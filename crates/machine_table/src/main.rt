@@ -85,40 +85,79 @@ fn replay_outcome(
     }
 }
 
+/// The report of the turns in words, replayed.
+fn replayed(alloc: Global, input: &Input, limit: u32, words: &str) -> Result<Outcome, AllocError>
+    requires sound { IsSound input.now }
+    requires some { 1 ≤ limit }
+    requires few { limit ≤ TURNS }
+{
+    match turns_of(alloc, &input.names, words)? {
+        Some(turns) => replay_outcome(alloc, input, limit, turns.as_slice()),
+        None => Ok(Outcome::BadLine),
+    }
+}
+
+/// What became of the turns in words, which a machine takes one by one.
+fn taken_outcome(
+    alloc: Global,
+    input: &Input,
+    limit: u32,
+    words: &str,
+) -> Result<Outcome, AllocError>
+    requires sound { IsSound input.now }
+    requires some { 1 ≤ limit }
+    requires few { limit ≤ TURNS }
+{
+    match turns_of(alloc, &input.names, words)? {
+        Some(turns) => Ok(Outcome::Report(taken(alloc, input, limit, turns.as_slice())?)),
+        None => Ok(Outcome::BadLine),
+    }
+}
+
+/// The verdict on the run, changed as the words say.
+fn checked_outcome(
+    alloc: Global,
+    input: &Input,
+    limit: u32,
+    words: &str,
+) -> Result<Outcome, AllocError>
+    requires sound { IsSound input.now }
+    requires some { 1 ≤ limit }
+    requires few { limit ≤ TURNS }
+{
+    match change_of(words) {
+        Some(change) => Ok(Outcome::Checked(checked(alloc, input, limit, change)?)),
+        None => Ok(Outcome::BadLine),
+    }
+}
+
 fn read_outcome(alloc: Global, case: &Case<'_>, input: &Input) -> Result<Outcome, AllocError>
     requires sound { IsSound input.now }
 {
     match case.task {
         Task::Run => run_outcome(alloc, input, case.limit),
         Task::Step => Ok(Outcome::Report(stepped(alloc, input, case.limit)?)),
-        Task::Check(words) => match change_of(words) {
-            Some(change) => Ok(Outcome::Checked(checked(alloc, input, case.limit, change)?)),
-            None => Ok(Outcome::BadLine),
-        },
-        Task::Replay(list) => match turns_of(alloc, &input.names, list)? {
-            Some(turns) => replay_outcome(alloc, input, case.limit, turns.as_slice()),
-            None => Ok(Outcome::BadLine),
-        },
-        Task::Take(list) => match turns_of(alloc, &input.names, list)? {
-            Some(turns) => {
-                let text = taken(alloc, input, case.limit, turns.as_slice())?;
-                Ok(Outcome::Report(text))
-            }
-            None => Ok(Outcome::BadLine),
-        },
+        Task::Check(words) => checked_outcome(alloc, input, case.limit, words),
+        Task::Replay(words) => replayed(alloc, input, case.limit, words),
+        Task::Take(words) => taken_outcome(alloc, input, case.limit, words),
+    }
+}
+
+/// What comes of the case, whose script has this text.
+fn text_outcome(alloc: Global, case: &Case<'_>, text: &[u8]) -> Result<Outcome, AllocError> {
+    if text.len() > INPUT_LIMIT {
+        return Ok(Outcome::BadLine);
+    }
+    match read(alloc, text) {
+        Ok(input) => read_outcome(alloc, case, &input),
+        Err(ScriptRefusal::Bad { .. }) => Ok(Outcome::NoReading),
+        Err(ScriptRefusal::NoMemory) => Err(AllocError),
     }
 }
 
 fn case_outcome(alloc: Global, case: &Case<'_>) -> Result<Outcome, AllocError> {
     let text = changed(alloc, case.script.as_bytes(), b'/', b'\n')?;
-    if text.len() > INPUT_LIMIT {
-        return Ok(Outcome::BadLine);
-    }
-    match read(alloc, text.as_slice()) {
-        Ok(input) => read_outcome(alloc, case, &input),
-        Err(ScriptRefusal::Bad { .. }) => Ok(Outcome::NoReading),
-        Err(ScriptRefusal::NoMemory) => Err(AllocError),
-    }
+    text_outcome(alloc, case, text.as_slice())
 }
 
 fn entry_outcome(alloc: Global, entry: &str) -> Result<Outcome, AllocError> {
@@ -128,22 +167,49 @@ fn entry_outcome(alloc: Global, entry: &str) -> Result<Outcome, AllocError> {
     }
 }
 
+/// Writes the bytes as text in a line.
+fn put_row(rt: &HostRuntime, row: &[u8]) -> io::Result<()> {
+    let text = String::from_utf8_lossy(rt.alloc(), row)?;
+    println!(rt; "{text}")
+}
+
+/// Writes a report in one line.
+fn put_report(rt: &HostRuntime, report: &[u8]) -> io::Result<()> {
+    let row = changed(rt.alloc(), report, b'\n', b'/')?;
+    put_row(rt, row.as_slice())
+}
+
+fn put_refusal(rt: &HostRuntime, at: u32, kind: ScheduleKind) -> io::Result<()> {
+    println!(rt; "schedule turn {at}: {} {}", kind.number(), kind.name())
+}
+
+fn put_verdict(rt: &HostRuntime, verdict: Verdict) -> io::Result<()> {
+    match verdict {
+        Verdict::Legal => println!(rt; "legal"),
+        Verdict::IllegalAt(number) => println!(rt; "illegal at {number}"),
+    }
+}
+
+fn put_outcome(rt: &HostRuntime, outcome: &Outcome) -> io::Result<()> {
+    match outcome {
+        Outcome::Report(text) => put_report(rt, text.as_slice()),
+        Outcome::Refused { at, kind } => put_refusal(rt, *at, *kind),
+        Outcome::Checked(verdict) => put_verdict(rt, *verdict),
+        Outcome::NoReading => println!(rt; "no reading"),
+        Outcome::BadLine => println!(rt; "bad line"),
+    }
+}
+
+/// A line of the table.
+fn put_case(rt: &HostRuntime, entry: &str) -> io::Result<()> {
+    let outcome = entry_outcome(rt.alloc(), entry)?;
+    put_outcome(rt, &outcome)
+}
+
 fn main(rt: HostRuntime) -> io::Result<()> {
     for line in rt.lines(rt.alloc()) {
         let entry = line?;
-        match entry_outcome(rt.alloc(), entry.as_str())? {
-            Outcome::Report(text) => {
-                let row = changed(rt.alloc(), text.as_slice(), b'\n', b'/')?;
-                println!(rt; "{}", String::from_utf8_lossy(rt.alloc(), row.as_slice())?)?
-            }
-            Outcome::Refused { at, kind } => {
-                println!(rt; "schedule turn {at}: {} {}", kind.number(), kind.name())?
-            }
-            Outcome::Checked(Verdict::Legal) => println!(rt; "legal")?,
-            Outcome::Checked(Verdict::IllegalAt(number)) => println!(rt; "illegal at {number}")?,
-            Outcome::NoReading => println!(rt; "no reading")?,
-            Outcome::BadLine => println!(rt; "bad line")?,
-        }
+        put_case(&rt, entry.as_str())?;
     }
     Ok(())
 }

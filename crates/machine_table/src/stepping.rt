@@ -16,6 +16,25 @@ fn shown(alloc: Global, event: Option<Event>) -> Result<String, AllocError> {
     format!(in alloc; "{event:?}")
 }
 
+/// The event in words, unless memory ran out when it was made.
+fn shown_made(
+    alloc: Global,
+    event: Result<Option<Event>, AllocError>,
+) -> Result<String, AllocError> {
+    match event {
+        Ok(event) => shown(alloc, event),
+        Err(error) => Err(error),
+    }
+}
+
+/// The event that a call made, in words.
+fn shown_turned(alloc: Global, turned: Result<Turned, AllocError>) -> Result<String, AllocError> {
+    match turned? {
+        Turned::Did(event) => shown(alloc, Some(event)),
+        Turned::Quiet | Turned::Cut => shown(alloc, None),
+    }
+}
+
 /// The event in words, where it is made in two steps: alone, or by the floor where it needs a lane.
 fn by_steps(alloc: Global, input: &Input, limit: u32) -> Result<String, AllocError>
     requires sound { IsSound input.now }
@@ -24,14 +43,15 @@ fn by_steps(alloc: Global, input: &Input, limit: u32) -> Result<String, AllocErr
 {
     let mut cpu = Cpu::new(alloc, &input.script, CpuNo(0), limit)?;
     let mut floor = PlainFloor::new(alloc, &input.script, limit)?;
-    match cpu.step_local(&mut floor) {
-        Local::Did(event) => shown(alloc, Some(event)),
-        Local::NeedsLane(job) => {
-            let event = cpu.step_lane(&mut floor, job)?;
-            shown(alloc, Some(event))
-        }
-        Local::Quiet | Local::Cut => shown(alloc, None),
-    }
+    let event = match cpu.step_local(&mut floor) {
+        Local::Did(event) => Ok(Some(event)),
+        Local::NeedsLane(job) => match cpu.step_lane(&mut floor, job) {
+            Ok(event) => Ok(Some(event)),
+            Err(error) => Err(error),
+        },
+        Local::Quiet | Local::Cut => Ok(None),
+    };
+    shown_made(alloc, event)
 }
 
 /// The event in words, where it is made by one call.
@@ -42,10 +62,7 @@ fn by_advance(alloc: Global, input: &Input, limit: u32) -> Result<String, AllocE
 {
     let mut cpu = Cpu::new(alloc, &input.script, CpuNo(0), limit)?;
     let mut floor = PlainFloor::new(alloc, &input.script, limit)?;
-    match cpu.advance(&mut floor)? {
-        Turned::Did(event) => shown(alloc, Some(event)),
-        Turned::Quiet | Turned::Cut => shown(alloc, None),
-    }
+    shown_turned(alloc, cpu.advance(&mut floor))
 }
 
 fn first(history: &History) -> Option<Event> {

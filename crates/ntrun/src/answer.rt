@@ -1,7 +1,9 @@
 //! What a call finds out, with the text that is written for it.
 ghost use Rattle.std.specs.Prelude.{◌≡◌, ◌≤◌, true, length, IfErr, IfOk, string_bytes};
 ghost use Rattle.nt_core.specs.Refusals.{IsReplayRefused};
+ghost use Rattle.nt_event.specs.declared.events.History.{History as RunHistory};
 ghost use Rattle.nt_event.specs.Fitting.{events_fit};
+ghost use Rattle.nt_print.specs.Summary.{summary_text};
 ghost use Rattle.nt_script.specs.Sound.{IsSound};
 ghost use Rattle.nt_words.specs.Commands.{is_built};
 ghost use Rattle.nt_words.specs.Forms.{IsTurns, IsWithin, command_of};
@@ -248,14 +250,24 @@ fn done(alloc: Global, task: &Task) -> Answer
     }
 }
 
+/// The summary of the robin run of the input's script.
+fn run_summary(alloc: Global, input: &Input, turns: u32) -> Result<Vec<u8>, AllocError>
+    requires sound { IsSound input.now }
+    requires limit { IsTurns turns }
+    ensures { IfOk result (λ text. (h : RunHistory) × IsRobinRun input.now.script turns h × (text.items ≡ summary_text input.now h)) }
+{
+    let history = run(alloc, &input.script, turns)?;
+    let text = summary(alloc, input, &history)?;
+    Ok(text)
+}
+
 /// The summary of the robin run of the seed's load.
 fn load_summary(alloc: Global, seed: u32, turns: u32) -> Result<Vec<u8>, AllocError>
     requires { IsTurns turns }
     ensures { IfOk result (λ text. IsSummary seed turns text.items) }
 {
     let input = load_script(alloc, seed)?;
-    let history = run(alloc, &input.script, turns)?;
-    let text = summary(alloc, &input, &history)?;
+    let text = run_summary(alloc, &input, turns)?;
     Ok(text)
 }
 
@@ -273,6 +285,14 @@ pub(crate) fn loaded(alloc: Global, seed: u32, turns: u32) -> Answer
     }
 }
 
+/// What is answered to a task, which is let go then.
+fn done_with(alloc: Global, task: Task) -> Answer
+    requires { IsSoundTask task }
+    ensures { IsDone task result.status (text_of result.text) }
+{
+    done(alloc, &task)
+}
+
 /// What a form finds in the bytes of an input.
 pub(crate) fn find_in(alloc: Global, form: Form, bytes: &[u8]) -> Answer
     requires bytes { length bytes.now ≤ INPUT_LIMIT }
@@ -282,7 +302,7 @@ pub(crate) fn find_in(alloc: Global, form: Form, bytes: &[u8]) -> Answer
     ensures { IsFoundIn form bytes.now result.status (text_of result.text) }
 {
     match task_of(alloc, form, bytes) {
-        Ok(task) => done(alloc, &task),
+        Ok(task) => done_with(alloc, task),
         Err(ScriptRefusal::Bad { line, kind }) => refused(alloc, line, kind),
         Err(ScriptRefusal::NoMemory) => no_memory(),
     }

@@ -12,26 +12,33 @@
 
 mod reports;
 
+ghost use Rattle.std.specs.Prelude.{◌≡◌, true};
+ghost use Rattle.nt_log.specs.Schedules.{turns_fit};
 ghost use Rattle.nt_script.specs.Sound.{IsSound};
 
 use crate::reports::{report_entry, summary_entry};
-use nt_log::{print_schedule, read_schedule};
+use nt_log::{Schedule, print_schedule, read_schedule};
 use nt_script::{Input, Named, Names, ScriptKind, ScriptRefusal, print, read, split_at};
 use nt_text::INPUT_LIMIT;
 use std::alloc::{AllocError, Global};
 use std::io;
 
+/// The byte that a byte of the table stands for.
+fn byte_of(byte: u8) -> u8 {
+    match byte {
+        b'/' => b'\n',
+        b'~' => b'\t',
+        b'^' => 127,
+        b'`' => b'\r',
+        other => other,
+    }
+}
+
 /// The bytes of a text of the table.
 pub(crate) fn text_of(alloc: Global, entry: &[u8]) -> Result<Vec<u8>, AllocError> {
     let mut text = Vec::new(alloc);
     for byte in entry {
-        text.push(match *byte {
-            b'/' => b'\n',
-            b'~' => b'\t',
-            b'^' => 127,
-            b'`' => b'\r',
-            other => other,
-        })?;
+        text.push(byte_of(*byte))?;
     }
     Ok(text)
 }
@@ -46,21 +53,45 @@ pub(crate) enum Outcome {
     Refused(ScriptRefusal),
 }
 
+/// Whether what was printed is the same as the text.
+pub(crate) fn same_or_not(printed: &[u8], text: &[u8]) -> Outcome {
+    if printed == text {
+        Outcome::Same
+    } else {
+        Outcome::Differs
+    }
+}
+
+/// What a script is, printed again.
+fn printed_again(alloc: Global, input: &Input, text: &[u8]) -> Result<Outcome, AllocError>
+    requires { IsSound input.now }
+{
+    let printed = print(alloc, input)?;
+    Ok(same_or_not(printed.as_slice(), text))
+}
+
 fn read_again(alloc: Global, text: &[u8]) -> Result<Outcome, AllocError> {
     if text.len() > INPUT_LIMIT {
         return Ok(Outcome::Differs);
     }
     match read(alloc, text) {
-        Ok(input) => {
-            let is_same = print(alloc, &input)?.as_slice() == text;
-            Ok(if is_same {
-                Outcome::Same
-            } else {
-                Outcome::Differs
-            })
-        }
+        Ok(input) => printed_again(alloc, &input, text),
         Err(refusal) => Ok(Outcome::Refused(refusal)),
     }
+}
+
+/// What a schedule is, printed again.
+fn schedule_printed_again(
+    alloc: Global,
+    input: &Input,
+    schedule: &Schedule,
+    text: &[u8],
+) -> Result<Outcome, AllocError>
+    requires sound { IsSound input.now }
+    requires fit { turns_fit input.now.script schedule.now.list ≡ true }
+{
+    let printed = print_schedule(alloc, input, schedule)?;
+    Ok(same_or_not(printed.as_slice(), text))
 }
 
 /// What a schedule for the input's script is, whose first line has this number.
@@ -76,14 +107,7 @@ fn schedule_again(
         return Ok(Outcome::Differs);
     }
     match read_schedule(alloc, input, text, first_line) {
-        Ok(schedule) => {
-            let is_same = print_schedule(alloc, input, &schedule)?.as_slice() == text;
-            Ok(if is_same {
-                Outcome::Same
-            } else {
-                Outcome::Differs
-            })
-        }
+        Ok(schedule) => schedule_printed_again(alloc, input, &schedule, text),
         Err(refusal) => Ok(Outcome::Refused(refusal)),
     }
 }
@@ -93,15 +117,16 @@ pub(crate) fn put_outcome(rt: &HostRuntime, outcome: Outcome) -> io::Result<()> 
         Outcome::Same => println!(rt; "read"),
         Outcome::Differs => println!(rt; "differs"),
         Outcome::Refused(ScriptRefusal::NoMemory) => println!(rt; "no memory"),
-        Outcome::Refused(ScriptRefusal::Bad { line, kind }) => match kind {
-            ScriptKind::TooMany(what) => println!(rt;
-                "script line {line}: {} {} {}",
-                kind.number(),
-                kind.name(),
-                what.name()
-            ),
-            _ => println!(rt; "script line {line}: {} {}", kind.number(), kind.name()),
-        },
+        Outcome::Refused(ScriptRefusal::Bad { line, kind }) => put_refusal(rt, line, kind),
+    }
+}
+
+/// Why a line is refused.
+fn put_refusal(rt: &HostRuntime, line: u32, kind: ScriptKind) -> io::Result<()> {
+    print!(rt; "script line {line}: {} {}", kind.number(), kind.name())?;
+    match kind {
+        ScriptKind::TooMany(what) => println!(rt; " {}", what.name()),
+        _ => println!(rt; ""),
     }
 }
 
@@ -133,17 +158,46 @@ fn schedule_entry(rt: &HostRuntime, number: &str, entry: &str) -> io::Result<()>
         return println!(rt; "no case");
     };
     let script = text_of(rt.alloc(), script.as_bytes())?;
-    let schedule = text_of(rt.alloc(), schedule.as_bytes())?;
-    schedule_case(rt, number, script.as_slice(), schedule.as_slice())
+    schedule_behind(rt, number, script.as_slice(), schedule)
 }
 
-/// A schedule of so many equal lines behind the first, and the rest.
-fn turns_text(alloc: Global, count: u32, line: &[u8], rest: &[u8]) -> Result<Vec<u8>, AllocError> {
-    let mut text = Vec::from_slice(alloc, b"schedule 1\n")?;
+/// A schedule of the table for this script.
+fn schedule_behind(
+    rt: &HostRuntime,
+    number: &str,
+    script: &[u8],
+    schedule: &str,
+) -> io::Result<()> {
+    let schedule = text_of(rt.alloc(), schedule.as_bytes())?;
+    schedule_case(rt, number, script, schedule.as_slice())
+}
+
+/// Puts a line behind the text, so often.
+fn put_lines(text: &mut Vec<u8>, count: u32, line: &[u8]) -> Result<(), AllocError> {
     for _ in 0..count {
         text.extend_from_slice(line)?;
     }
-    text.extend_from_slice(rest)?;
+    Ok(())
+}
+
+/// Puts a schedule of so many equal lines behind the first, and the rest.
+fn put_turns(text: &mut Vec<u8>, count: u32, line: &[u8], rest: &[u8]) -> Result<(), AllocError> {
+    text.extend_from_slice(b"schedule 1\n")?;
+    put_lines(text, count, line)?;
+    text.extend_from_slice(rest)
+}
+
+/// The schedule of a line of the table, so often, and of the rest.
+fn turns_text(alloc: Global, count: u32, line: &str, rest: &str) -> Result<Vec<u8>, AllocError> {
+    let line = text_of(alloc, line.as_bytes())?;
+    turns_behind(alloc, count, line.as_slice(), rest)
+}
+
+/// The schedule of a line, so often, and of the rest.
+fn turns_behind(alloc: Global, count: u32, line: &[u8], rest: &str) -> Result<Vec<u8>, AllocError> {
+    let rest = text_of(alloc, rest.as_bytes())?;
+    let mut text = Vec::new(alloc);
+    put_turns(&mut text, count, line, rest.as_slice())?;
     Ok(text)
 }
 
@@ -155,11 +209,14 @@ fn turns_entry(rt: &HostRuntime, number: &str, entry: &str) -> io::Result<()> {
     let Some((line, rest)) = lines.split_once('|') else {
         return println!(rt; "no case");
     };
+    let schedule = turns_text(rt.alloc(), count, line, rest)?;
+    turns_of_script(rt, script, schedule.as_slice())
+}
+
+/// A script of the table, and this schedule for it.
+fn turns_of_script(rt: &HostRuntime, script: &str, schedule: &[u8]) -> io::Result<()> {
     let script = text_of(rt.alloc(), script.as_bytes())?;
-    let line = text_of(rt.alloc(), line.as_bytes())?;
-    let rest = text_of(rt.alloc(), rest.as_bytes())?;
-    let schedule = turns_text(rt.alloc(), count, line.as_slice(), rest.as_slice())?;
-    schedule_case(rt, "1", script.as_slice(), schedule.as_slice())
+    schedule_case(rt, "1", script.as_slice(), schedule)
 }
 
 /// What a name names.
@@ -194,41 +251,61 @@ fn split_case(rt: &HostRuntime, word: &str, text: &[u8]) -> io::Result<()> {
     }
 }
 
+/// What a name names in a script, or where its first line with a word begins.
+fn text_case(rt: &HostRuntime, what: &str, text: &[u8]) -> io::Result<()> {
+    match what.split_once(' ') {
+        Some(("find", name)) => find_case(rt, name, text),
+        Some(("split", word)) => split_case(rt, word, text),
+        _ => println!(rt; "no case"),
+    }
+}
+
+fn text_entry(rt: &HostRuntime, what: &str, entry: &str) -> io::Result<()> {
+    let text = text_of(rt.alloc(), entry.as_bytes())?;
+    text_case(rt, what, text.as_slice())
+}
+
 /// A case of the table behind its `?`.
 fn other_case(rt: &HostRuntime, case: &str) -> io::Result<()> {
     let Some((what, entry)) = case.split_once('|') else {
         return println!(rt; "no case");
     };
-    if let Some(("schedule", number)) = what.split_once(' ') {
-        return schedule_entry(rt, number, entry);
-    }
-    if let Some(("turns", number)) = what.split_once(' ') {
-        return turns_entry(rt, number, entry);
-    }
-    if let Some(("report", number)) = what.split_once(' ') {
-        return report_entry(rt, number, entry);
-    }
-    if what == "summary" {
-        return summary_entry(rt, entry);
-    }
-    let text = text_of(rt.alloc(), entry.as_bytes())?;
     match what.split_once(' ') {
-        Some(("find", name)) => find_case(rt, name, text.as_slice()),
-        Some(("split", word)) => split_case(rt, word, text.as_slice()),
-        _ => println!(rt; "no case"),
+        Some(("schedule", number)) => schedule_entry(rt, number, entry),
+        Some(("turns", number)) => turns_entry(rt, number, entry),
+        Some(("report", number)) => report_entry(rt, number, entry),
+        Some(_) => text_entry(rt, what, entry),
+        None => only_summary(rt, what, entry),
+    }
+}
+
+/// A case of one word.
+fn only_summary(rt: &HostRuntime, what: &str, entry: &str) -> io::Result<()> {
+    if what == "summary" {
+        summary_entry(rt, entry)
+    } else {
+        println!(rt; "no case")
+    }
+}
+
+/// A script of the table.
+fn script_entry(rt: &HostRuntime, entry: &str) -> io::Result<()> {
+    let text = text_of(rt.alloc(), entry.as_bytes())?;
+    script_case(rt, text.as_slice())
+}
+
+/// A line of the table.
+fn any_case(rt: &HostRuntime, entry: &str) -> io::Result<()> {
+    match entry.strip_prefix('?') {
+        Some(case) => other_case(rt, case),
+        None => script_entry(rt, entry),
     }
 }
 
 fn main(rt: HostRuntime) -> io::Result<()> {
     for line in rt.lines(rt.alloc()) {
         let entry = line?;
-        match entry.as_str().strip_prefix('?') {
-            Some(case) => other_case(&rt, case)?,
-            None => {
-                let text = text_of(rt.alloc(), entry.as_str().as_bytes())?;
-                script_case(&rt, text.as_slice())?
-            }
-        }
+        any_case(&rt, entry.as_str())?;
     }
     Ok(())
 }

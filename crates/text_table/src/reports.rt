@@ -1,15 +1,31 @@
 //! Cases of reports.
-ghost use Rattle.std.specs.Prelude.{◌≡◌, ◌≤◌, length};
+ghost use Rattle.std.specs.Prelude.{◌≡◌, ◌≤◌, length, true};
+ghost use Rattle.nt_event.specs.Fitting.{events_fit};
 ghost use Rattle.nt_text.specs.declared.lines.TheConstants.{INPUT_LIMIT};
 ghost use Rattle.nt_script.specs.Sound.{IsSound};
 
-use crate::{Outcome, put_outcome, text_of};
+use crate::{Outcome, put_outcome, same_or_not, text_of};
+use nt_event::History;
 use nt_print::{report, summary};
 use nt_report::read_report;
 use nt_script::{Input, read};
 use nt_text::INPUT_LIMIT;
 use std::alloc::{AllocError, Global};
 use std::io;
+
+/// What a report is, printed again.
+fn printed_again(
+    alloc: Global,
+    input: &Input,
+    history: &History,
+    text: &[u8],
+) -> Result<Outcome, AllocError>
+    requires sound { IsSound input.now }
+    requires fit { events_fit input.now.script history.now.events ≡ true }
+{
+    let printed = report(alloc, input, history)?;
+    Ok(same_or_not(printed.as_slice(), text))
+}
 
 /// What a report for the input's script is, whose first line has this number.
 fn report_again(
@@ -24,15 +40,19 @@ fn report_again(
         return Ok(Outcome::Differs);
     }
     match read_report(alloc, input, text, first_line) {
-        Ok(history) => {
-            let is_same = report(alloc, input, &history)?.as_slice() == text;
-            Ok(if is_same {
-                Outcome::Same
-            } else {
-                Outcome::Differs
-            })
-        }
+        Ok(history) => printed_again(alloc, input, &history, text),
         Err(refusal) => Ok(Outcome::Refused(refusal)),
+    }
+}
+
+/// What the report of a case is, for this script.
+fn report_case(rt: &HostRuntime, first_line: u32, script: &[u8], text: &[u8]) -> io::Result<()> {
+    if script.len() > INPUT_LIMIT {
+        return println!(rt; "too long");
+    }
+    match read(rt.alloc(), script) {
+        Ok(input) => put_outcome(rt, report_again(rt.alloc(), &input, text, first_line)?),
+        Err(_) => println!(rt; "no script"),
     }
 }
 
@@ -43,17 +63,13 @@ pub(crate) fn report_entry(rt: &HostRuntime, number: &str, entry: &str) -> io::R
         return println!(rt; "no case");
     };
     let script = text_of(rt.alloc(), script.as_bytes())?;
+    report_behind(rt, first_line, script.as_slice(), text)
+}
+
+/// A report of the table for this script.
+fn report_behind(rt: &HostRuntime, first_line: u32, script: &[u8], text: &str) -> io::Result<()> {
     let text = text_of(rt.alloc(), text.as_bytes())?;
-    if script.len() > INPUT_LIMIT {
-        return println!(rt; "too long");
-    }
-    match read(rt.alloc(), script.as_slice()) {
-        Ok(input) => put_outcome(
-            rt,
-            report_again(rt.alloc(), &input, text.as_slice(), first_line)?,
-        ),
-        Err(_) => println!(rt; "no script"),
-    }
+    report_case(rt, first_line, script, text.as_slice())
 }
 
 /// The summary of the report's history, where the report is read.
@@ -78,21 +94,38 @@ fn put_summary(rt: &HostRuntime, lines: &[u8]) -> io::Result<()> {
     println!(rt; "")
 }
 
+/// The summary of a report for this script.
+fn put_summary_of(rt: &HostRuntime, input: &Input, text: &[u8]) -> io::Result<()>
+    requires sound { IsSound input.now }
+    requires bytes { length text.now ≤ INPUT_LIMIT }
+{
+    match summary_of(rt.alloc(), input, text)? {
+        Some(lines) => put_summary(rt, lines.as_slice()),
+        None => println!(rt; "refused"),
+    }
+}
+
+fn summary_case(rt: &HostRuntime, script: &[u8], text: &[u8]) -> io::Result<()> {
+    if script.len() > INPUT_LIMIT || text.len() > INPUT_LIMIT {
+        return println!(rt; "too long");
+    }
+    match read(rt.alloc(), script) {
+        Ok(input) => put_summary_of(rt, &input, text),
+        Err(_) => println!(rt; "no script"),
+    }
+}
+
 /// A script of the table, and a report for it that is summed up.
 pub(crate) fn summary_entry(rt: &HostRuntime, entry: &str) -> io::Result<()> {
     let Some((script, text)) = entry.split_once('|') else {
         return println!(rt; "no case");
     };
     let script = text_of(rt.alloc(), script.as_bytes())?;
+    summary_behind(rt, script.as_slice(), text)
+}
+
+/// A report of the table for this script, to be summed up.
+fn summary_behind(rt: &HostRuntime, script: &[u8], text: &str) -> io::Result<()> {
     let text = text_of(rt.alloc(), text.as_bytes())?;
-    if script.len() > INPUT_LIMIT || text.len() > INPUT_LIMIT {
-        return println!(rt; "too long");
-    }
-    let Ok(input) = read(rt.alloc(), script.as_slice()) else {
-        return println!(rt; "no script");
-    };
-    match summary_of(rt.alloc(), &input, text.as_slice())? {
-        Some(lines) => put_summary(rt, lines.as_slice()),
-        None => println!(rt; "refused"),
-    }
+    summary_case(rt, script, text.as_slice())
 }

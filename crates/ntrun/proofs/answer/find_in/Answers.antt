@@ -13,7 +13,8 @@ failed r = Err r
 
 pub returns-in-Ok : goal.returns-in-Ok
 returns-in-Ok c =
-    done_in c.args.form c.args.bytes.now c.in-Ok.task c.done.result.status (text_of c.done.result.text) c.in-Ok.ensures.read c.done.ensures
+    done_in c.args.form c.args.bytes.now c.in-Ok.task c.done_with.result.status (text_of c.done_with.result.text) c.in-Ok.ensures.read
+    c.done_with.ensures
 
 pub returns-in-Err-Bad : goal.returns-in-Err-Bad
 returns-in-Err-Bad c =

@@ -1,0 +1,18 @@
+use Rattle.nt_laws.proofs.Named.RunFits.{run_fits}
+use Rattle.ntrun.proofs.answer.run_summary.Goals as goal
+
+pub summary-requires-clause-fit : goal.summary-requires-clause-fit
+summary-requires-clause-fit c =
+    run_fits c.args.input.now.script _ c.in_ok-history.history.events c.requires.sound.fits c.in_ok-history.ensures.run
+
+pub returns : goal.returns
+returns c = (
+  c.in_ok-history.history,
+  record {
+    turns = c.in_ok-history.ensures.turns;
+    run = c.in_ok-history.ensures.run;
+    robin = c.in_ok-history.ensures.robin;
+    settled = c.in_ok-history.ensures.settled;
+  },
+  c.in_ok-text.ensures,
+)
