@@ -1,4 +1,9 @@
+pub mod Changing
 pub mod Gathering
+pub mod Holding
+pub mod Jobs
+pub mod LaneNumbers
+pub mod Marked
 pub mod Opening
 pub mod Passes
 pub mod Rows

@@ -1,5 +1,5 @@
 -- What stands behind a lane's lock.
-use Rattle.std.specs.Prelude.{IfSome, IsTrue, List, [], length, ℕ, ◌+◌, ◌∷◌, ◌≡◌}
+use Rattle.std.specs.Prelude.{All, IfSome, IsTrue, List, [], length, ℕ, ◌+◌, ◌∷◌, ◌≡◌}
 use Rattle.nt_event.specs.declared.jobs.Lane.{Lane}
 use Rattle.nt_event.specs.declared.numbers.CpuNo.{CpuNo}
 use Rattle.nt_event.specs.declared.scripts.Script.{Script}
@@ -47,6 +47,7 @@ pub record IsQueueThere (s : Script) (q : QueueFacts) : Type 0 where
   pub named : IsTrue (has_cpu s q.cpu)
   pub count : q.count ≡ length s.dpcs
   pub limit : q.limit ≡ depth_limit s
+  pub entries : All (λ x. IsTrue (has_dpc s x.dpc)) q.state.pending
 
 -- the threads of a processor
 pub record IsGroupThere (s : Script) (g : GroupState) : Type 0 where

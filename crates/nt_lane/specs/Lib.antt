@@ -4,3 +4,9 @@ pub mod Seats
 pub mod Held
 pub mod Making
 pub mod Pieces
+pub mod Answers
+pub mod Inside
+pub mod Standing
+pub mod Marked
+pub mod Changed
+pub mod Decided

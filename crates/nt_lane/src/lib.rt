@@ -13,11 +13,18 @@
 //! touches the lane; and what the lane tells of requests, the keeper knows (`IsTied`, `IsLastNoted`).
 #![tactic(auto)]
 
+mod deciding;
+mod held;
 mod lane;
 mod lanes;
+mod leaving;
 mod making;
+mod marking;
+mod numbers;
+mod reading;
 mod record;
 mod seat;
+mod standing;
 mod states;
 #[cfg(test)]
 mod tests;

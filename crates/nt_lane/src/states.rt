@@ -160,6 +160,13 @@ fn is_threaded(script: &Script, d: DpcNo) -> bool
 }
 
 impl Object {
+    /// The state itself.
+    pub(crate) fn inner(&self) -> &DpcObject
+        ensures { result.now ≡ self.now }
+    {
+        &self.state
+    }
+
     /// The object before any event.
     pub(crate) fn new(script: &Script, dpc: DpcNo) -> Object
         requires object { IsTrue (has_dpc script.now dpc) }
@@ -173,6 +180,13 @@ impl Object {
 }
 
 impl Queue {
+    /// The state itself.
+    pub(crate) fn inner(&self) -> &DpcQueue
+        ensures { result.now ≡ self.now }
+    {
+        &self.state
+    }
+
     /// The queue before any event.
     pub(crate) fn new(alloc: Global, script: &Script, cpu: CpuNo) -> Result<Queue, AllocError>
         requires fits { IsTrue (fits script.now) }
@@ -186,6 +200,13 @@ impl Queue {
 }
 
 impl<'s> Group<'s> {
+    /// The threads.
+    pub(crate) fn inner(&self) -> &Threads<'s>
+        ensures { result.now ≡ self.now.threads }
+    {
+        &self.state
+    }
+
     /// The threads before any event.
     pub(crate) fn new(
         alloc: Global,
@@ -202,6 +223,13 @@ impl<'s> Group<'s> {
 }
 
 impl Clock {
+    /// The state itself.
+    pub(crate) fn inner(&self) -> &TimerQueue
+        ensures { result.now ≡ self.now }
+    {
+        &self.state
+    }
+
     /// The timers before any event.
     pub(crate) fn new(alloc: Global, script: &Script) -> Result<Clock, AllocError>
         requires fits { IsTrue (fits script.now) }

@@ -1,0 +1,318 @@
+//! What a few held lanes answer.
+ghost use Rattle.std.specs.Prelude.{◌↔◌, ◌≡◌, IfSome, IsSome, IsTrue, Some, option_map};
+ghost use Rattle.nt_event.specs.declared.jobs.Lane.TheVariants.{Object as ObjectLane, Queue as QueueLane};
+ghost use Rattle.nt_event.specs.Lanes.{object_at, queue_at};
+ghost use Rattle.nt_event.specs.Queues.{is_queue};
+ghost use Rattle.nt_event.specs.Script.{fits, has_cpu, has_dpc};
+ghost use Rattle.nt_dpc.specs.Queues.{holds_dpc};
+ghost use Rattle.nt_lane.specs.Answers.{AreThere, BothAgree, IsHeld, held_lanes};
+ghost use Rattle.nt_lane.specs.Held.{IsGroupThere, IsObjectThere, IsQueueThere};
+ghost use Rattle.nt_timer.specs.Laws.{IsSized};
+
+use crate::states::{Clock, Group, Object, Queue};
+use nt_dpc::{DpcObject, DpcQueue};
+use nt_event::{
+    ApcNo, CpuNo, DpcNo, Lane, Level, Mode, Part, Pick, Regions, Reply, Script, ThreadNo, TimerKey,
+    TimerNo,
+};
+use nt_states::LaneAnswers;
+use nt_thread_lanes::Threads;
+use nt_timer::TimerQueue;
+use std::marker::Model;
+
+/// Whether the object stands in the queue of this processor.
+fn stands_in(object: &Object, p: CpuNo) -> bool
+    ensures { result ≡ is_queue (option_map (λ at. at.queue) object.now.state.standing) p }
+{
+    match object.inner().standing() {
+        Some(queue) => queue.0 == p.0,
+        None => false,
+    }
+}
+
+/// Whether the queue has an entry of the object exactly where the object stands in it.
+fn agree(object: &Object, queue: &Queue) -> bool
+    ensures { IsTrue result ↔ (holds_dpc object.now.dpc queue.now.state.pending ≡ is_queue (option_map (λ at. at.queue) object.now.state.standing) queue.now.cpu) }
+{
+    queue.inner().holds(object.dpc) == stands_in(object, queue.cpu)
+}
+
+/// The same, where both are held.
+fn both_agree(object: Option<&Object>, queue: Option<&Queue>) -> bool
+    ensures { IsTrue result ↔ BothAgree (option_map (λ o. o.now) object.entry) (option_map (λ q. q.now) queue.entry) }
+{
+    match object {
+        Some(object) => match queue {
+            Some(queue) => agree(object, queue),
+            None => true,
+        },
+        None => true,
+    }
+}
+
+/// The states of up to four lanes that are held by their locks, at most one of each kind.
+///
+/// Of a lane that isn't held it tells any state: an object or a queue like the held one.
+#[derive(Drop)]
+pub(crate) struct Held<'h, 's> {
+    script: &'h Script,
+    object: Option<&'h Object>,
+    queue: Option<&'h Queue>,
+    group: Option<&'h Group<'s>>,
+    timers: Option<&'h Clock>,
+}
+
+impl<'h, 's> Model for Held<'h, 's> {
+    ghost use Rattle.nt_lane.specs.Answers.{HeldStates};
+    ghost use Rattle.nt_lane.specs.Inside.{AreThereInside, held_in};
+
+    ghost Value = { HeldStates };
+
+    ghost view = { held_in };
+
+    ghost invariant = { AreThereInside };
+}
+
+impl<'h, 's> Held<'h, 's> {
+    /// The states of held lanes of the script; None where a held object and a held queue don't agree on where the object stands, which
+    /// no history makes.
+    pub(crate) fn new(
+        script: &'h Script,
+        object: Option<&'h Object>,
+        queue: Option<&'h Queue>,
+        group: Option<&'h Group<'s>>,
+        timers: Option<&'h Clock>,
+    ) -> Option<Held<'h, 's>>
+        requires fits { IsTrue (fits script.now) }
+        requires object { IfSome object (λ o. IsObjectThere script.now o.now) }
+        requires queue { IfSome queue (λ q. IsQueueThere script.now q.now) }
+        requires group { IfSome group (λ g. IsGroupThere script.now g.now) }
+        requires timers { IfSome timers (λ t. IsSized script.now t.now) }
+        ensures { IfSome result (λ h. h ≡ record { script = script.now; object = option_map (λ o. o.now) object.entry; queue = option_map (λ q. q.now) queue.entry; group = option_map (λ g. g.now) group.entry; timers = option_map (λ t. t.now) timers.entry }) }
+    {
+        if both_agree(object, queue) {
+            Some(Held {
+                script,
+                object,
+                queue,
+                group,
+                timers,
+            })
+        } else {
+            None
+        }
+    }
+
+    /// What holds of them at any time.
+    fn there(&self)
+        ensures { AreThere self.now }
+    {
+        let _script = self.script;
+    }
+
+    /// Whether this lane is held.
+    pub(crate) fn holds(&self, lane: Lane) -> bool
+        ensures { IsTrue result ↔ IsHeld self.now lane }
+    {
+        match lane {
+            Lane::Object(d) => match self.object {
+                Some(object) => object.dpc.0 == d.0,
+                None => false,
+            },
+            Lane::Queue(p) => match self.queue {
+                Some(queue) => queue.cpu.0 == p.0,
+                None => false,
+            },
+            Lane::Threads(p) => match self.group {
+                Some(group) => group.cpu.0 == p.0,
+                None => false,
+            },
+            Lane::Timers => self.timers.is_some(),
+        }
+    }
+
+    /// The object, which is held.
+    fn object(&self, d: DpcNo) -> &DpcObject
+        requires object { IsTrue (has_dpc self.now.script d) }
+        requires held { IsHeld self.now (ObjectLane d) }
+        ensures same { self.now.object ≡ Some result.now }
+        ensures there { IsObjectThere self.now.script result.now }
+        ensures dpc { result.now.dpc ≡ d }
+        ensures state { result.now.state ≡ object_at (held_lanes self.now) d }
+    {
+        let _dpc = d;
+        match self.object {
+            Some(object) => object.inner(),
+            None => unreachable!(),
+        }
+    }
+
+    /// The queue, which is held.
+    fn queue(&self, p: CpuNo) -> &DpcQueue
+        requires cpu { IsTrue (has_cpu self.now.script p) }
+        requires held { IsHeld self.now (QueueLane p) }
+        ensures same { self.now.queue ≡ Some result.now }
+        ensures there { IsQueueThere self.now.script result.now }
+        ensures cpu { result.now.cpu ≡ p }
+        ensures state { result.now.state ≡ queue_at (held_lanes self.now) p }
+    {
+        let _cpu = p;
+        match self.queue {
+            Some(queue) => queue.inner(),
+            None => unreachable!(),
+        }
+    }
+
+    /// The threads, of which a group is held.
+    fn threads(&self) -> &Threads<'s>
+        requires { IsSome self.now.group }
+        ensures { result.now ≡ record { script = self.now.script; facts = (held_lanes self.now).threads } }
+    {
+        match self.group {
+            Some(group) => group.inner(),
+            None => unreachable!(),
+        }
+    }
+
+    /// The timers, which are held.
+    fn timers(&self) -> &TimerQueue
+        requires { IsSome self.now.timers }
+        ensures { result.now ≡ (held_lanes self.now).timers }
+    {
+        match self.timers {
+            Some(timers) => timers.inner(),
+            None => unreachable!(),
+        }
+    }
+}
+
+impl<'h, 's> LaneAnswers for Held<'h, 's> {
+    ghost use Rattle.nt_lane.specs.Answers.{IsHeld, held_lanes};
+
+    ghost script_of = { λ h. h.script };
+
+    ghost lanes = { held_lanes };
+
+    ghost holds = { IsHeld };
+
+    fn script(&self) -> &Script {
+        self.there();
+        self.script
+    }
+
+    fn is_queued(&self, d: DpcNo) -> bool {
+        self.object(d).standing().is_some()
+    }
+
+    fn queue_for(&self, d: DpcNo, by: CpuNo) -> CpuNo {
+        self.object(d).queue_for(by)
+    }
+
+    fn standing(&self, d: DpcNo) -> Option<CpuNo> {
+        self.object(d).standing()
+    }
+
+    fn first(&self, part: Part, p: CpuNo) -> Option<(DpcNo, u64)> {
+        self.queue(p).first(part)
+    }
+
+    fn ask(&self, d: DpcNo, by: CpuNo) -> Option<u8> {
+        self.there();
+        let p = self.queue_for(d, by);
+        self.queue(p).answer(self.object(d), by).ask
+    }
+
+    fn next_ready(&self, p: CpuNo, after: Option<ThreadNo>) -> Option<ThreadNo> {
+        self.threads().next_ready(p, after)
+    }
+
+    fn any_ready(&self, p: CpuNo) -> bool {
+        self.threads().any_ready(p)
+    }
+
+    fn may_take(&self, p: CpuNo, t: ThreadNo) -> bool {
+        self.threads().may_take(p, t)
+    }
+
+    fn is_gone(&self, t: ThreadNo) -> bool {
+        self.threads().is_gone(t)
+    }
+
+    fn status(&self, t: ThreadNo) -> Option<u32> {
+        self.threads().status(t)
+    }
+
+    fn level(&self, t: ThreadNo) -> Level {
+        self.threads().level(t)
+    }
+
+    fn wait_reply(
+        &self,
+        t: ThreadNo,
+        regions: Regions,
+        level: Level,
+        mode: Mode,
+        alertable: bool,
+        reached: Option<bool>,
+    ) -> Reply {
+        self.threads()
+            .wait_reply(t, regions, level, mode, alertable, reached)
+    }
+
+    fn is_alerted(&self, t: ThreadNo, mode: Mode) -> bool {
+        self.threads().is_alerted(t, mode)
+    }
+
+    fn ends_by_release(&self, t: ThreadNo) -> bool {
+        self.threads().ends_by_release(t)
+    }
+
+    fn ends_by_expiry(&self, t: ThreadNo, from: u64) -> bool {
+        self.threads().ends_by_expiry(t, from)
+    }
+
+    fn ends_by_alert(&self, t: ThreadNo, mode: Mode) -> bool {
+        self.threads().ends_by_alert(t, mode)
+    }
+
+    fn deliverable(&self, t: ThreadNo, regions: Regions, level: Level) -> Option<Pick> {
+        self.threads().deliverable(t, regions, level)
+    }
+
+    fn user_due(&self, t: ThreadNo) -> Option<Pick> {
+        self.threads().user_due(t)
+    }
+
+    fn user_first(&self, t: ThreadNo) -> Option<Pick> {
+        self.threads().user_first(t)
+    }
+
+    fn has_kernel(&self, t: ThreadNo) -> bool {
+        self.threads().has_kernel(t)
+    }
+
+    fn takes(&self, a: ApcNo) -> bool {
+        self.threads().takes(a)
+    }
+
+    fn is_inserted(&self, a: ApcNo) -> bool {
+        self.threads().is_inserted(a)
+    }
+
+    fn ends_by_apc(&self, a: ApcNo) -> bool {
+        self.threads().ends_by_apc(a)
+    }
+
+    fn now(&self) -> u64 {
+        self.timers().now()
+    }
+
+    fn is_set(&self, t: TimerNo) -> bool {
+        self.timers().is_set(t)
+    }
+
+    fn first_due(&self) -> Option<(TimerKey, u64)> {
+        self.there();
+        self.timers().first_due()
+    }
+}
