@@ -53,6 +53,7 @@ pub record IsQueueThere (s : Script) (q : QueueFacts) : Type 0 where
 pub record IsGroupThere (s : Script) (g : GroupState) : Type 0 where
   pub named : IsTrue (has_cpu s g.cpu)
   pub script : g.threads.script ≡ s
+  pub count : length g.threads.facts ≡ length s.threads
 
 -- ---- the whole lane
 

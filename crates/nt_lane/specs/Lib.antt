@@ -10,3 +10,9 @@ pub mod Standing
 pub mod Marked
 pub mod Changed
 pub mod Decided
+pub mod Needed
+pub mod Locks
+pub mod Leaving
+pub mod Plans
+pub mod Steps
+pub mod Tries

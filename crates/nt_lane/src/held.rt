@@ -104,7 +104,7 @@ impl<'h, 's> Held<'h, 's> {
     }
 
     /// What holds of them at any time.
-    fn there(&self)
+    pub(crate) fn there(&self)
         ensures { AreThere self.now }
     {
         let _script = self.script;

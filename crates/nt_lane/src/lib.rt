@@ -5,22 +5,28 @@
 //! lane's state, the list of its events with their numbers, per processor and class the greatest value asked on the lane, and the
 //! lane's keeper of `nt_mark`.
 //!
-//! A [`LaneSeat`] draws, marks and looks by a pass of `nt_mark` without a lock (`Words`). [`Lanes::close`] gives the lists and the
-//! keepers back.
+//! A [`LaneSeat`] draws, marks and looks by a pass of `nt_mark` without a lock (`Words`), and makes an event under the locks of the
+//! lanes that the event reads and touches (`Floor`). [`Lanes::close`] gives the lists and the keepers back.
 //!
 //! Whenever a lock is free, these facts hold of its lane: its numbers rise and are those of its keeper's list, place by place; its
 //! state is the one that was noted last, the opening one where its list is empty; the keeper knows each event of the list as one that
 //! touches the lane; and what the lane tells of requests, the keeper knows (`IsTied`, `IsLastNoted`).
 #![tactic(auto)]
 
+mod acting;
 mod deciding;
+mod floor;
 mod held;
 mod lane;
 mod lanes;
 mod leaving;
+mod locks;
 mod making;
 mod marking;
+mod needs;
+mod noting;
 mod numbers;
+mod planning;
 mod reading;
 mod record;
 mod seat;
@@ -28,6 +34,8 @@ mod standing;
 mod states;
 #[cfg(test)]
 mod tests;
+mod touching;
+mod tries;
 
 pub use lanes::{Lanes, Piece, Pieces, lane_count};
 pub use seat::LaneSeat;

@@ -2,6 +2,7 @@
 ghost use Rattle.std.specs.Prelude.{◌≡◌, ◌*◌, ◌+◌, ◌≤◌, ◌<◌, ◌^◌, ◌++◌, ◌∷◌, [], All, Contains, IfOk, OnOk, get_or, length, max, replicate};
 ghost use Rattle.nt_event.specs.LaneStates.{told_at};
 ghost use Rattle.nt_event.specs.Lists.{table, value_at};
+ghost use Rattle.nt_lane.specs.Held.{next_of};
 ghost use Rattle.nt_lane.specs.Pieces.{IsPieceOf};
 ghost use Rattle.nt_lane.specs.Records.{IsAskKnown, IsMet, IsNoted, raised_list, told_rows, told_then};
 ghost use Rattle.nt_mark.specs.Closing.{IsNewKeeper};
@@ -105,6 +106,7 @@ impl<N: Plan + Shared> Record<N> {
         requires table { (table_of marks.now ≡ N.table) × (pass_table pass.old ≡ N.table) }
         ensures table { pass_table pass.new ≡ N.table }
         ensures met { IsMet self.old self.new (pass_view pass.old) (pass_view pass.new) }
+        ensures above { next_of self.new.notes ≤ self.new.known }
     {
         marks.share(&mut self.keeper, pass);
     }

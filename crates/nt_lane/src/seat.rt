@@ -1,7 +1,8 @@
 //! The seat of a processor over the lanes.
 ghost use Rattle.std.specs.Prelude.{◌≡◌};
+ghost use Rattle.nt_event.specs.Lanes.{lane_count};
 ghost use Rattle.nt_lane.specs.Seats.{AreListed};
-ghost use Rattle.nt_mark.specs.Names.{pass_table, pass_view, table_of};
+ghost use Rattle.nt_mark.specs.Names.{cpus_of, lanes_of, pass_table, pass_view, table_of};
 
 use crate::lanes::Lanes;
 use nt_event::{CpuNo, Event, Plan};
@@ -10,19 +11,21 @@ use nt_mark::{Marks, Pass, Shared};
 
 /// A pass, with the lanes and the marks that it is of. Contracts see it as its pass.
 ///
-/// It draws, marks and looks without a lock.
+/// It draws, marks and looks without a lock; an act takes the locks of the lanes that it reads and touches.
 pub struct LaneSeat<'a, 's, N: Plan + Shared, R> {
     pub(crate) rt: &'a R,
     pub(crate) lanes: &'a Lanes<'s, N>,
     pub(crate) marks: &'a Marks,
     pub(crate) pass: Pass,
     ghost words: { table_of marks.now ≡ N.table },
+    ghost cpus: { cpus_of marks.now ≡ N.script.cpus },
+    ghost all_lanes: { lanes_of marks.now ≡ lane_count N.script },
     ghost seat: { pass_table pass ≡ N.table },
     ghost listed: { ∥ AreListed (pass_view pass) ∥₁ },
 }
 
 impl<'a, 's, N: Plan + Shared, R> LaneSeat<'a, 's, N, R> {
-    /// The seat of a pass of N's table, which knows each of its entries on the list of each lane of that entry.
+    /// The seat of a pass of N's table, with marks for its script's processors and lanes. The pass knows each of its entries on the list of each lane of that entry.
     pub fn new(
         rt: &'a R,
         lanes: &'a Lanes<'s, N>,
@@ -30,6 +33,7 @@ impl<'a, 's, N: Plan + Shared, R> LaneSeat<'a, 's, N, R> {
         pass: Pass,
     ) -> LaneSeat<'a, 's, N, R>
         requires table { (table_of marks.now ≡ N.table) × (pass_table pass ≡ N.table) }
+        requires marks { (cpus_of marks.now ≡ N.script.cpus) × (lanes_of marks.now ≡ lane_count N.script) }
         requires listed { ∥ AreListed (pass_view pass) ∥₁ }
         ensures { (result.pass ≡ pass) × (result.marks.now ≡ marks.now) }
     {

@@ -6,6 +6,7 @@ use Rattle.nt_mark.specs.Views.{first_notes, reach, step_word}
 use Rattle.nt_lane.specs.Records.{AreKnown, LaneRecord, told_rows}
 use Rattle.nt_lane.proofs.Tying.{here, kept_told, known_more, learns_told, list_told, reach_told, tied_met}
 use Rattle.nt_mark.proofs.Noting.{kept_of}
+use Rattle.nt_lane.proofs.Ends.{next_below}
 use Rattle.nt_lane.proofs.record.Record.meet.Goals as goal
 
 pub invariant_of-self : goal.invariant_of-self
@@ -45,3 +46,10 @@ returns-clause-met g c =
       );
       learns = learns_told p0 k0 p1 s.pass;
     }
+
+pub returns-clause-above : goal.returns-clause-above
+returns-clause-above g c =
+    let s = c.share.ensures in
+    let k1 = keeper_view c.share.new.keeper in
+    let tied = tied_met _ _ _ _ _ _ _ _ (keeper_view c.self.inside.keeper) (pass_view c.args.pass.now) k1 c.self.invariant.1 s.same.0 s.same.2 s.keeper in
+    next_below (reach step_word k1) (first_notes k1.kept) tied.above

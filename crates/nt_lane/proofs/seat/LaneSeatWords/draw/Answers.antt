@@ -32,6 +32,8 @@ invariant_of-self g c =
     let v = pass_view c.args.self.now.pass in
     record {
       words = c.args.self.now.words;
+      cpus = c.args.self.now.cpus;
+      all_lanes = c.args.self.now.all_lanes;
       seat = c.draw.ensures.table ∙ c.args.self.now.seat;
       listed = ∥∥₁_map c.args.self.now.listed (λ h. subst AreListed (sym c.draw.ensures.drew) (listed_drawn v c.draw.result c.args.event.now h));
     }

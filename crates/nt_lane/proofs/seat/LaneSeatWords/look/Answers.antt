@@ -23,6 +23,8 @@ invariant_of-self g c =
     (ap (λ (u : View). u.known) e ∙ sym (append-nil v.known)) [] (ap (λ (u : View). u.prefixes) e ∙ sym (append-nil v.prefixes)) in
     record {
       words = c.args.self.now.words;
+      cpus = c.args.self.now.cpus;
+      all_lanes = c.args.self.now.all_lanes;
       seat = c.look.ensures.table ∙ c.args.self.now.seat;
       listed = ∥∥₁_map c.args.self.now.listed (listed_grows v w (ap (λ (u : View). u.entries) e) more);
     }

@@ -1,0 +1,34 @@
+-- What a pass knows of held lanes stays known where it only learns.
+use Rattle.std.proofs.Common.{arith}
+use Rattle.std.specs.Prelude.{IfSome, None, Option, Some}
+use Rattle.nt_mark.specs.declared.view.View.{View}
+use Rattle.nt_mark.specs.Views.{request_word, step_word}
+use Rattle.nt_lane.specs.Locks.{AreKnownBy, HeldLanes, IsKnownBy, Kept}
+use Rattle.nt_lane.specs.Records.{LaneRecord}
+use Rattle.nt_lane.specs.Views.{Learns}
+use Rattle.nt_lane.proofs.Retries.{learns_through}
+
+known_later : (r : LaneRecord) (v w : View) → Learns v w → IsKnownBy r v → IsKnownBy r w
+known_later r v w l k = record {
+  known = (let a = l.least step_word in let b = k.known in omega (arith, a, b));
+  above = (let a = l.least step_word in let b = k.above in omega (arith, a, b));
+  tells = λ p c. let t = k.tells p c in let a = l.least (request_word p c) in let b = l.least step_word in let x = t.0 in let y = t.1 in
+      (omega (arith, a, x), omega (arith, b, y));
+  knows = (let q = k.knows in (q.0, l.grows.prefixes q.0 q.1, q.2, q.3));
+}
+
+each_later : {A : Type 0} (o : Option (Kept A)) (v w : View) → Learns v w → IfSome o (λ k. IsKnownBy k.log v) → IfSome o (λ k. IsKnownBy k.log w)
+each_later None v w l h = tt
+each_later (Some k) v w l h = known_later k.log v w l h
+
+-- the lanes that were met one after another
+pub all_known : (h : HeldLanes) (a b c d : View) → Learns a b → Learns b c → Learns c d → IfSome h.object (λ k. IsKnownBy k.log a) →
+    IfSome h.queue (λ k. IsKnownBy k.log b) → IfSome h.group (λ k. IsKnownBy k.log c) → IfSome h.timers (λ k. IsKnownBy k.log d) → AreKnownBy h d
+all_known h a b c d ab bc cd object queue group timers =
+    let bd = learns_through b c d bc cd in
+    record {
+      object = each_later h.object a d (learns_through a b d ab bd) object;
+      queue = each_later h.queue b d bd queue;
+      group = each_later h.group c d cd group;
+      timers = timers;
+    }

@@ -1,0 +1,51 @@
+-- Why a try made no event.
+use Rattle.std.proofs.Common.{refl}
+use Rattle.nt_event.specs.declared.jobs.Job.{Job}
+use Rattle.nt_event.specs.declared.jobs.Job.TheVariants as job
+use Rattle.nt_event.specs.declared.jobs.Stand.{Stand}
+use Rattle.nt_event.specs.declared.scripts.Script.{Script}
+use Rattle.nt_floor.specs.declared.floor.ActRefusal.{ActRefusal}
+use Rattle.nt_floor.specs.declared.floor.ActRefusal.TheVariants.{NoMemory}
+use Rattle.nt_floor.specs.Acts.{Found, IsRefused}
+use Rattle.nt_mark.specs.declared.view.View.{View}
+use Rattle.nt_states.specs.Reads.{job_lanes}
+use Rattle.nt_lane.specs.declared.planning.Plan.{Plan}
+use Rattle.nt_lane.specs.Decided.{IsNoEvent}
+use Rattle.nt_lane.specs.Locks.{AreKnownBy, AreLanes, HeldLanes, found_in, states_of}
+use Rattle.nt_lane.specs.Plans.{IsPlan}
+use Rattle.nt_lane.specs.Tries.{IsNotDone}
+use Rattle.nt_lane.specs.Views.{Learns}
+use Rattle.nt_lane.proofs.Founding.{all_shown}
+
+-- no memory was found
+memory : (s : Script) (f : Found) (st : Stand) (j : Job) → IsRefused s f st j NoMemory
+memory s f st job.Idle = tt
+memory s f st (job.Switch t) = tt
+memory s f st (job.Call c) = tt
+memory s f st (job.Fire d) = tt
+memory s f st job.Drain = tt
+memory s f st job.Apcs = tt
+memory s f st job.Threaded = tt
+memory s f st (job.Pick last) = tt
+memory s f st job.Rewait = tt
+memory s f st job.ToUser = tt
+memory s f st job.UserEnd = tt
+memory s f st job.Leave = tt
+memory s f st job.Rundown = tt
+
+module _ (s : Script) (h : HeldLanes) (st : Stand) (j : Job) (v w : View) (there : AreLanes s h) (known : AreKnownBy h w) (learns : Learns v w) where
+  pub no_event : (r : ActRefusal) → IsNoEvent (states_of s h) st j r → IsNotDone s st j v w r
+  no_event r why = record {
+    found = found_in s h;
+    shown = all_shown s h there w known (job_lanes s st j) why.can.held;
+    cause = why.cause (found_in s h) refl;
+    learns = learns;
+  }
+
+  pub no_memory : (p : Plan) → IsPlan (states_of s h) st j p → IsNotDone s st j v w NoMemory
+  no_memory p plan = record {
+    found = found_in s h;
+    shown = all_shown s h there w known (job_lanes s st j) plan.decided.can.held;
+    cause = memory s (found_in s h) st j;
+    learns = learns;
+  }

@@ -1,0 +1,9 @@
+use Rattle.std.specs.Prelude.{◌≡◌}
+use Rattle.nt_mark.specs.Names.{pass_table, pass_view}
+use Rattle.nt_lane.specs.Views.{Learns}
+use Rattle.nt_lane.proofs.acting.act_under.Given as goal
+
+-- the pass only learned
+abbrev pub invariant-loop : goal.invariant-loop
+invariant-loop g l =
+    (pass_table l.pass ≡ g.N.Shared.table) × Learns (pass_view l.initial.pass) (pass_view l.pass)

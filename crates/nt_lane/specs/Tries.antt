@@ -1,0 +1,58 @@
+-- What came of a try to make an event under the locks that are held.
+use Rattle.std.specs.Prelude.{All, List, [], map, ℕ, ◌++◌, ◌+◌, ◌<◌, ◌^◌, ◌∷◌, ◌≡◌, ◌≤◌}
+use Rattle.nt_event.specs.declared.events.Event.{Event}
+use Rattle.nt_event.specs.declared.jobs.Job.{Job}
+use Rattle.nt_event.specs.declared.jobs.Stand.{Stand}
+use Rattle.nt_event.specs.declared.scripts.Script.{Script}
+use Rattle.nt_event.specs.Lanes.{lane_number, what_lanes}
+use Rattle.nt_event.specs.Lists.{value_at}
+use Rattle.nt_event.specs.Requests.{Ask, what_asks}
+use Rattle.nt_floor.specs.Acts.{Found, IsActed, IsRefused}
+use Rattle.nt_floor.specs.declared.floor.ActRefusal.{ActRefusal}
+use Rattle.nt_floor.specs.declared.floor.Acted.{Acted}
+use Rattle.nt_mark.specs.declared.view.View.{View}
+use Rattle.nt_mark.specs.Views.{entry, reach, request_word, step_word}
+use Rattle.nt_states.specs.LaneLists.{AskFits}
+use Rattle.nt_states.specs.Reads.{job_lanes}
+use Rattle.nt_lane.specs.declared.tries.Tried.{Tried}
+use Rattle.nt_lane.specs.declared.tries.Tried.TheVariants.{Again, Done, Refused}
+use Rattle.nt_lane.specs.Marked.{mark_for}
+use Rattle.nt_lane.specs.Records.{IsAskKnown}
+use Rattle.nt_lane.specs.Seats.{AreShownOn, FoundBy}
+use Rattle.nt_lane.specs.Views.{Grows, Learns}
+
+-- the pass drew this event as touching these lanes, marked its asks, and drew, marked and looked at nothing else; what it knows may be
+-- more
+pub record HasMade (n : ℕ) (e : Event) (lanes : List ℕ) (asks : List Ask) (v w : View) : Type 0 where
+  pub entries : w.entries ≡ v.entries ++ entry n e lanes ∷ []
+  pub marks : w.marks ≡ v.marks ++ map (mark_for n) asks
+  pub looks : w.looks ≡ v.looks
+  pub least : (u : ℕ) → reach u v ≤ reach u w
+  pub from : reach step_word v ≤ n
+  pub to : n + 1 ≤ reach step_word w
+  pub asked : All (IsAskKnown n w) asks
+  pub grows : Grows v w
+
+-- the event was made: it is the job's in the states found, which the pass tells, and its asks were marked
+pub record IsDone (s : Script) (st : Stand) (job : Job) (v w : View) (a : Acted) : Type 0 where
+  pub found : Found
+  pub by : FoundBy s w a.number a.event st found
+  pub acted : IsActed s found st job a
+  pub made : HasMade a.number a.event (map (lane_number s) (what_lanes s st a.event.what found.lanes))
+      (what_asks s st a.event.what found.lanes) v w
+  pub asks_named : All (AskFits s) (what_asks s st a.event.what found.lanes)
+  pub fits : a.number + 1 < 2 ^ 64
+  pub told : (c : ℕ) → c < 16 → (value_at a.told.value c ≤ reach (request_word st.cpu c) w) ×
+      (value_at a.told.value c ≤ reach step_word w)
+
+-- none was, for this reason: in the states of the job's lanes that the pass learned last
+pub record IsNotDone (s : Script) (st : Stand) (job : Job) (v w : View) (r : ActRefusal) : Type 0 where
+  pub found : Found
+  pub shown : AreShownOn s w found (job_lanes s st job)
+  pub cause : IsRefused s found st job r
+  pub learns : Learns v w
+
+abbrev pub IsTried : Script → Stand → Job → View → View → Tried → Type 0
+IsTried s st job v w (Done a) = IsDone s st job v w a
+IsTried s st job v w (Refused r) = IsNotDone s st job v w r
+IsTried s st job v w (Again needs) = Learns v w

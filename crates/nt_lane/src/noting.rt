@@ -1,0 +1,194 @@
+//! An event on the lanes that it touches: each takes it in, and notes it.
+ghost use Rattle.std.specs.Prelude.{◌≡◌, ◌<◌, ◌≤◌, IsTrue, List};
+ghost use Rattle.nt_dpc.specs.Laws.{IsObject};
+ghost use Rattle.nt_event.specs.LaneStates.{OfObject, OfQueue, OfTimers};
+ghost use Rattle.nt_event.specs.Objects.{ObjectState};
+ghost use Rattle.nt_event.specs.Script.{fits};
+ghost use Rattle.nt_event.specs.Timers.{timers_after};
+ghost use Rattle.nt_lane.specs.Held.{group_content};
+ghost use Rattle.nt_lane.specs.Steps.{IsReady, IsStep, KnowsLeft, MayLeaveBoth, MayLeaveGroup, MayLeaveObject, MayLeaveQueue, MayLeaveTimers, object_left, queue_left};
+ghost use Rattle.nt_lane.specs.Views.{Learns};
+ghost use Rattle.nt_mark.specs.Names.{pass_table, pass_view, table_of};
+ghost use Rattle.nt_thread_lanes.specs.Lanes.{left};
+
+use crate::lane::Lane;
+use crate::leaving::leave_both;
+use crate::numbers::Numbers;
+use crate::planning::Plan;
+use crate::states::{Clock, Group, Object, Queue};
+use nt_event::{Plan as Planned, Script, Stand};
+use nt_mark::{Marks, Pass, Shared};
+
+/// An event that was drawn, of a processor that stands so, with the numbers of its lanes.
+#[derive(Clone, Copy)]
+pub(crate) struct Step<'p> {
+    pub(crate) script: &'p Script,
+    pub(crate) number: u64,
+    pub(crate) stand: &'p Stand,
+    pub(crate) plan: &'p Plan,
+    pub(crate) numbers: &'p Numbers,
+}
+
+/// The threads of a processor take in the event, and note it.
+pub(crate) fn note_group<'s, N: Planned + Shared>(
+    lane: &mut Lane<N, Group<'s>>,
+    marks: &Marks,
+    pass: &mut Pass,
+    step: &Step,
+)
+    requires table { (table_of marks.now ≡ N.table) × (pass_table pass.old ≡ N.table) }
+    requires script { (step.now.script.now ≡ N.script) × IsTrue (fits N.script) }
+    requires step { IsStep N.script (pass_view pass.old) step.now.number step.now.plan.now.event step.now.numbers.now step.now.plan.now.asks }
+    requires ready { IsReady step.now.number step.now.numbers.now lane.old.log }
+    requires may { MayLeaveGroup N.script step.now.stand.now step.now.plan.now.event lane.old.state }
+    ensures table { pass_table pass.new ≡ N.table }
+    ensures learns { Learns (pass_view pass.old) (pass_view pass.new) }
+    ensures noted { KnowsLeft N.script step.now.number step.now.plan.now.asks (group_content (record lane.old.state { threads = left step.now.number step.now.stand.now step.now.plan.now.event lane.old.state.threads })) lane.old.log (pass_view pass.new) }
+{
+    let event = &step.plan.event;
+    lane.state
+        .leave(step.script, step.number, step.stand, event);
+    lane.log.note::<Group<'s>>(
+        marks,
+        pass,
+        step.number,
+        event,
+        step.numbers.as_slice(),
+        step.plan.asks.as_slice(),
+        &lane.state,
+    );
+}
+
+/// The timers take in the event, and note it.
+pub(crate) fn note_timers<N: Planned + Shared>(
+    lane: &mut Lane<N, Clock>,
+    marks: &Marks,
+    pass: &mut Pass,
+    step: &Step,
+)
+    requires table { (table_of marks.now ≡ N.table) × (pass_table pass.old ≡ N.table) }
+    requires script { step.now.script.now ≡ N.script }
+    requires step { IsStep N.script (pass_view pass.old) step.now.number step.now.plan.now.event step.now.numbers.now step.now.plan.now.asks }
+    requires ready { IsReady step.now.number step.now.numbers.now lane.old.log }
+    requires may { MayLeaveTimers N.script step.now.plan.now.event lane.old.state }
+    ensures table { pass_table pass.new ≡ N.table }
+    ensures learns { Learns (pass_view pass.old) (pass_view pass.new) }
+    ensures noted { KnowsLeft N.script step.now.number step.now.plan.now.asks (OfTimers (timers_after N.script step.now.number step.now.stand.now step.now.plan.now.event lane.old.state)) lane.old.log (pass_view pass.new) }
+{
+    let event = &step.plan.event;
+    lane.state
+        .leave(step.script, step.number, step.stand, event);
+    lane.log.note::<Clock>(
+        marks,
+        pass,
+        step.number,
+        event,
+        step.numbers.as_slice(),
+        step.plan.asks.as_slice(),
+        &lane.state,
+    );
+}
+
+/// A DPC object takes in the event, which touches no queue, and notes it.
+pub(crate) fn note_object<N: Planned + Shared>(
+    lane: &mut Lane<N, Object>,
+    marks: &Marks,
+    pass: &mut Pass,
+    step: &Step,
+)
+    requires table { (table_of marks.now ≡ N.table) × (pass_table pass.old ≡ N.table) }
+    requires step { IsStep N.script (pass_view pass.old) step.now.number step.now.plan.now.event step.now.numbers.now step.now.plan.now.asks }
+    requires ready { IsReady step.now.number step.now.numbers.now lane.old.log }
+    requires may { MayLeaveObject N.script step.now.number step.now.plan.now.event lane.old.state }
+    ensures table { pass_table pass.new ≡ N.table }
+    ensures learns { Learns (pass_view pass.old) (pass_view pass.new) }
+    ensures noted { KnowsLeft N.script step.now.number step.now.plan.now.asks (OfObject (object_left step.now.number step.now.plan.now.event lane.old.state).state) lane.old.log (pass_view pass.new) }
+{
+    let event = &step.plan.event;
+    lane.state.leave(&event.what);
+    lane.log.note::<Object>(
+        marks,
+        pass,
+        step.number,
+        event,
+        step.numbers.as_slice(),
+        step.plan.asks.as_slice(),
+        &lane.state,
+    );
+}
+
+/// A DPC queue takes in the event of its processor, which touches no object, and notes it.
+pub(crate) fn note_queue<N: Planned + Shared>(
+    lane: &mut Lane<N, Queue>,
+    marks: &Marks,
+    pass: &mut Pass,
+    step: &Step,
+)
+    requires table { (table_of marks.now ≡ N.table) × (pass_table pass.old ≡ N.table) }
+    requires step { IsStep N.script (pass_view pass.old) step.now.number step.now.plan.now.event step.now.numbers.now step.now.plan.now.asks }
+    requires ready { IsReady step.now.number step.now.numbers.now lane.old.log }
+    requires may { MayLeaveQueue N.script step.now.number step.now.plan.now.event lane.old.state }
+    ensures table { pass_table pass.new ≡ N.table }
+    ensures learns { Learns (pass_view pass.old) (pass_view pass.new) }
+    ensures noted { (objects : List ObjectState) → KnowsLeft N.script step.now.number step.now.plan.now.asks (OfQueue (queue_left N.script step.now.number step.now.plan.now.event objects lane.old.state).state) lane.old.log (pass_view pass.new) }
+{
+    let event = &step.plan.event;
+    lane.state.leave(&event.what);
+    lane.log.note::<Queue>(
+        marks,
+        pass,
+        step.number,
+        event,
+        step.numbers.as_slice(),
+        step.plan.asks.as_slice(),
+        &lane.state,
+    );
+}
+
+/// A DPC object and the queue that it is inserted into, removed from or taken from take in the event, and note it.
+pub(crate) fn note_both<N: Planned + Shared>(
+    object: &mut Lane<N, Object>,
+    queue: &mut Lane<N, Queue>,
+    marks: &Marks,
+    pass: &mut Pass,
+    step: &Step,
+)
+    requires table { (table_of marks.now ≡ N.table) × (pass_table pass.old ≡ N.table) }
+    requires cpu { step.now.stand.now.cpu ≡ step.now.plan.now.event.cpu }
+    requires step { IsStep N.script (pass_view pass.old) step.now.number step.now.plan.now.event step.now.numbers.now step.now.plan.now.asks }
+    requires ready_object { IsReady step.now.number step.now.numbers.now object.old.log }
+    requires ready_queue { IsReady step.now.number step.now.numbers.now queue.old.log }
+    requires known { (objects : List ObjectState) × IsObject N.script objects object.old.state }
+    requires may { MayLeaveBoth N.script step.now.number step.now.plan.now.event object.old.state queue.old.state }
+    ensures table { pass_table pass.new ≡ N.table }
+    ensures learns { Learns (pass_view pass.old) (pass_view pass.new) }
+    ensures object { KnowsLeft N.script step.now.number step.now.plan.now.asks (OfObject (object_left step.now.number step.now.plan.now.event object.old.state).state) object.old.log (pass_view pass.new) }
+    ensures queue { (objects : List ObjectState) → IsObject N.script objects object.old.state → KnowsLeft N.script step.now.number step.now.plan.now.asks (OfQueue (queue_left N.script step.now.number step.now.plan.now.event objects queue.old.state).state) queue.old.log (pass_view pass.new) }
+{
+    let event = &step.plan.event;
+    leave_both(
+        &mut object.state,
+        &mut queue.state,
+        step.number,
+        step.stand.cpu,
+        &event.what,
+    );
+    object.log.note::<Object>(
+        marks,
+        pass,
+        step.number,
+        event,
+        step.numbers.as_slice(),
+        step.plan.asks.as_slice(),
+        &object.state,
+    );
+    queue.log.note::<Queue>(
+        marks,
+        pass,
+        step.number,
+        event,
+        step.numbers.as_slice(),
+        step.plan.asks.as_slice(),
+        &queue.state,
+    );
+}

@@ -1,0 +1,232 @@
+//! What an act is to make in the states of held lanes.
+ghost use Rattle.std.specs.Prelude.{◌≡◌, ◌<◌, ◌^◌, All, IfSome, IsSome, IsTrue, option_map};
+ghost use Rattle.nt_event.specs.Acting.{acted_event};
+ghost use Rattle.nt_event.specs.Frames.{due_of};
+ghost use Rattle.nt_event.specs.Lanes.{what_lanes};
+ghost use Rattle.nt_event.specs.Requests.{what_asks};
+ghost use Rattle.nt_event.specs.Routines.{kind_of};
+ghost use Rattle.nt_event.specs.Script.{fits};
+ghost use Rattle.nt_event.specs.declared.jobs.Lane.TheVariants.{Timers as TimersLane};
+ghost use Rattle.nt_floor.specs.Acts.{KindsFit, StandFits, job_fits};
+ghost use Rattle.nt_lane.specs.Answers.{IsHeld, held_lanes, threads_told};
+ghost use Rattle.nt_lane.specs.Decided.{IsEvent};
+ghost use Rattle.nt_lane.specs.Held.{IsGroupThere, IsObjectThere, IsQueueThere};
+ghost use Rattle.nt_lane.specs.Leaving.{Leaves, MakerRuns};
+ghost use Rattle.nt_lane.specs.Plans.{IsPlanned};
+ghost use Rattle.nt_states.specs.Given.{IsGiven, RunsOwn};
+ghost use Rattle.nt_states.specs.LaneLists.{AskFits};
+ghost use Rattle.nt_states.specs.Reads.{AreHeld};
+ghost use Rattle.nt_timer.specs.Laws.{IsSized};
+ghost use Rattle.nt_thread_lanes.specs.Fits.{RunsHere};
+
+use crate::deciding::{Decided, decide};
+use crate::held::Held;
+use crate::needs::{Needs, needs_of_job};
+use crate::reading::{holds_all, reads_event};
+use crate::states::{Clock, Group, Object, Queue};
+use nt_event::{Command, Event, Job, Lane, Script, Stand, What};
+use nt_floor::ActRefusal;
+use nt_states::{Asks, LaneAnswers, Touched};
+use nt_thread_lanes::named_thread;
+
+/// An event to be made, with the lanes that it touches, which are held, and what it asks for.
+#[derive(Drop)]
+pub(crate) struct Plan {
+    pub(crate) event: Event,
+    pub(crate) due: Option<u64>,
+    pub(crate) lanes: Touched,
+    pub(crate) asks: Asks,
+}
+
+/// What came of a job in the states of held lanes.
+#[derive(Drop)]
+pub(crate) enum Planned {
+    /// This event is to be made.
+    Event(Plan),
+    /// There is none.
+    Refused(ActRefusal),
+    /// It takes these locks.
+    Again(Needs),
+}
+
+/// Pending APCs are of their objects' kinds, where a group is held; where none is, none is pending.
+fn kinds(script: &Script, group: Option<&Group>)
+    requires { IfSome group (λ g. IsGroupThere script.now g.now) }
+    ensures { All (λ x. All (λ pick. pick.kind ≡ kind_of script.now pick.apc) x.apcs.pending) (threads_told script.now (option_map (λ g. g.now) group.entry)) }
+{
+    let _script = script;
+    match group {
+        Some(group) => group.inner().kinds(),
+        None => {}
+    }
+}
+
+/// Whether the processor's thread, if there is one, runs in the group.
+fn runs_in(group: &Group, stand: &Stand) -> bool
+    requires stand { StandFits group.now.threads.script stand.now }
+    requires own { RunsOwn group.now.threads.script stand.now }
+    ensures { IsTrue result → IfSome stand.now.thread (RunsHere group.now.threads stand.now) }
+{
+    match stand.thread {
+        Some(thread) => group.inner().is_running(thread),
+        None => true,
+    }
+}
+
+/// Whether the maker of an event that names no thread runs in the group, where one is held.
+fn maker_runs(script: &Script, group: Option<&Group>, stand: &Stand, what: &What) -> bool
+    requires group { IfSome group (λ g. IsGroupThere script.now g.now) }
+    requires stand { StandFits script.now stand.now }
+    requires own { RunsOwn script.now stand.now }
+    ensures { IsTrue result → MakerRuns script.now (option_map (λ g. g.now) group.entry) stand.now what.now }
+{
+    match group {
+        Some(group) => match named_thread(script, what) {
+            Some(_) => true,
+            None => runs_in(group, stand),
+        },
+        None => true,
+    }
+}
+
+/// Whether the thread of a Rundown leaves.
+fn leaves(script: &Script, group: Option<&Group>, stand: &Stand, job: &Job) -> bool
+    requires group { IfSome group (λ g. IsGroupThere script.now g.now) }
+    requires stand { StandFits script.now stand.now }
+    ensures { IsTrue result → Leaves (threads_told script.now (option_map (λ g. g.now) group.entry)) stand.now job.now }
+{
+    let _script = script;
+    match job {
+        Job::Rundown => match stand.thread {
+            Some(thread) => match group {
+                Some(group) => group.inner().is_leaving(thread),
+                None => false,
+            },
+            None => true,
+        },
+        Job::Call(_)
+        | Job::Fire(_)
+        | Job::Drain
+        | Job::Apcs
+        | Job::Threaded
+        | Job::Idle
+        | Job::Pick(_)
+        | Job::Switch(_)
+        | Job::Rewait
+        | Job::ToUser
+        | Job::UserEnd
+        | Job::Leave => true,
+    }
+}
+
+/// Whether the timers are held where the event calls a delay.
+fn reads_due(held: &Held, what: &What) -> bool
+    ensures { IsTrue result → IsSome (due_of what.now 0) → IsHeld held.now TimersLane }
+{
+    match what {
+        What::Call {
+            command: Command::Delay(_, _, _),
+            ..
+        } => held.holds(Lane::Timers),
+        What::Call { .. }
+        | What::Look { .. }
+        | What::Begin { .. }
+        | What::Normal { .. }
+        | What::End { .. }
+        | What::Expire { .. }
+        | What::Fire { .. }
+        | What::Clean { .. }
+        | What::Switch { .. }
+        | What::Rewait { .. }
+        | What::Flush { .. }
+        | What::Gone { .. }
+        | What::Rest => true,
+    }
+}
+
+/// The event with what it asks for, where its lanes are held.
+fn plan_of(held: &Held, stand: &Stand, what: &What, lanes: Touched) -> Plan
+    requires given { IsGiven held.now.script (held_lanes held.now) stand.now what.now }
+    requires lanes { lanes ≡ what_lanes held.now.script stand.now what.now (held_lanes held.now) }
+    requires held { AreHeld (IsHeld held.now) lanes }
+    requires due { IsSome (due_of what.now 0) → IsHeld held.now TimersLane }
+    ensures event { result.event ≡ acted_event stand.now (held_lanes held.now) what.now }
+    ensures due { result.due ≡ due_of what.now (held_lanes held.now).timers.now }
+    ensures due_fits { IfSome result.due (λ due. due < 2 ^ 51) }
+    ensures lanes { result.lanes ≡ lanes }
+    ensures asks { result.asks ≡ what_asks held.now.script stand.now what.now (held_lanes held.now) }
+    ensures asks_named { All (AskFits held.now.script) result.asks }
+{
+    let event = nt_states::event(held, stand, what);
+    let due = nt_states::due(held, what);
+    let asks = nt_states::event_asks(held, stand, what);
+    Plan {
+        event,
+        due,
+        lanes,
+        asks,
+    }
+}
+
+/// What becomes of an event that is decided.
+fn plan_event(
+    script: &Script,
+    held: &Held,
+    group: Option<&Group>,
+    job: &Job,
+    stand: &Stand,
+    what: &What,
+) -> Planned
+    requires script { script.now ≡ held.now.script }
+    requires group { held.now.group ≡ option_map (λ g. g.now) group }
+    requires there { IfSome group (λ g. IsGroupThere script.now g.now) }
+    requires stand { StandFits script.now stand.now }
+    requires kinds { KindsFit held.now.script (held_lanes held.now) }
+    requires event { IsEvent held.now stand.now job.now what.now }
+    ensures { IsPlanned held.now stand.now job.now result }
+{
+    held.there();
+    let first = needs_of_job(script, job, stand);
+    if !leaves(script, group, stand, job) || !maker_runs(script, group, stand, what) {
+        return Planned::Again(first);
+    }
+    if !reads_due(held, what) || !reads_event(held, what) {
+        return Planned::Again(first);
+    }
+    let lanes = nt_states::event_lanes(held, stand, what);
+    if holds_all(held, lanes.as_slice()) {
+        Planned::Event(plan_of(held, stand, what, lanes))
+    } else {
+        Planned::Again(first.with_all(lanes.as_slice()))
+    }
+}
+
+/// What a job of a processor that stands so comes to in the states of held lanes.
+pub(crate) fn plan_job(
+    script: &Script,
+    object: Option<&Object>,
+    queue: Option<&Queue>,
+    group: Option<&Group>,
+    timers: Option<&Clock>,
+    job: &Job,
+    stand: &Stand,
+) -> Planned
+    requires fits { IsTrue (fits script.now) }
+    requires object { IfSome object (λ o. IsObjectThere script.now o.now) }
+    requires queue { IfSome queue (λ q. IsQueueThere script.now q.now) }
+    requires group { IfSome group (λ g. IsGroupThere script.now g.now) }
+    requires timers { IfSome timers (λ t. IsSized script.now t.now) }
+    requires job { IsTrue (job_fits script.now job.now) }
+    requires stand { StandFits script.now stand.now }
+    ensures { IsPlanned (record { script = script.now; object = option_map (λ o. o.now) object.entry; queue = option_map (λ q. q.now) queue.entry; group = option_map (λ g. g.now) group.entry; timers = option_map (λ t. t.now) timers.entry }) stand.now job.now result }
+{
+    kinds(script, group);
+    match Held::new(script, object, queue, group, timers) {
+        Some(held) => match decide(&held, job, stand) {
+            Decided::Event(what) => plan_event(script, &held, group, job, stand, &what),
+            Decided::Refused(refusal) => Planned::Refused(refusal),
+            Decided::Unknown => Planned::Again(needs_of_job(script, job, stand)),
+        },
+        None => Planned::Again(needs_of_job(script, job, stand)),
+    }
+}
