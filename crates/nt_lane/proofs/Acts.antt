@@ -1,5 +1,6 @@
 -- What an act over locked lanes answers, as a floor says it.
-use Rattle.std.specs.Prelude.{Err, IfErr, IfOk, Ok, OnErr, Result, ℕ, ◌<◌, ◌≤◌}
+use Rattle.std.proofs.Common.{append-nil, sym, ◌∙◌}
+use Rattle.std.specs.Prelude.{Err, IfErr, IfOk, Ok, OnErr, Result, [], ℕ, ◌<◌, ◌∷◌, ◌≡◌, ◌≤◌}
 use Rattle.nt_event.specs.declared.jobs.Job.{Job}
 use Rattle.nt_event.specs.declared.jobs.Stand.{Stand}
 use Rattle.nt_event.specs.declared.scripts.Script.{Script}
@@ -13,7 +14,7 @@ use Rattle.nt_mark.specs.declared.view.View.{View}
 use Rattle.nt_states.specs.Reads.{job_lanes}
 use Rattle.nt_lane.specs.Seats.{AreListed, AreShownOn, FoundBy}
 use Rattle.nt_lane.specs.Tries.{IsDone, IsNotDone}
-use Rattle.nt_lane.specs.Views.{Grows, drawable_of, words_of}
+use Rattle.nt_lane.specs.Views.{SeatGrows, drawable_of, words_of}
 use Rattle.nt_lane.proofs.Listing.{listed_made}
 use Rattle.nt_lane.proofs.Moves.{moved, unmoved}
 use Rattle.nt_lane.proofs.Passes.{listed_grows}
@@ -38,9 +39,11 @@ module _ (s : Script) (st : Stand) (j : Job) (m : Marks) (v w : View) where
   act_refused (Ok a) d = tt
   act_refused (Err e) d = unmoved m v w d.learns
 
-  pub act_grows : (r : Result Acted ActRefusal) → IfOk r (IsDone s st j v w) → IfErr r (IsNotDone s st j v w) → Grows v w
-  act_grows (Ok a) d n = d.made.grows
-  act_grows (Err e) d n = n.learns.grows
+  pub act_grows : (r : Result Acted ActRefusal) (old new : ℕ) → IfOk r (IsDone s st j v w) → IfErr r (IsNotDone s st j v w) →
+      IfOk r (λ a. new ≡ a.number) → OnErr r (new ≡ old) → SeatGrows old new v w
+  act_grows (Ok a) old new d n k l = record { view = d.made.grows; more = _ ∷ []; entries = d.made.entries; last = k }
+  act_grows (Err e) old new d n k l =
+      record { view = n.learns.grows; more = []; entries = n.learns.entries ∙ sym (append-nil v.entries); last = l }
 
   pub act_listed : (r : Result Acted ActRefusal) → IfOk r (IsDone s st j v w) → IfErr r (IsNotDone s st j v w) → AreListed v → AreListed w
   act_listed (Ok a) d n old = listed_made s w a.number a.event st d.found _ _ v old d.made d.by.on

@@ -28,7 +28,7 @@ use Rattle.nt_lane.specs.Plans.{IsPlan}
 use Rattle.nt_lane.specs.Records.{IsAskKnown}
 use Rattle.nt_lane.specs.Seats.{AreFoundOn}
 use Rattle.nt_lane.specs.Steps.{AreLeftBy}
-use Rattle.nt_states.specs.LaneLists.{AskFits}
+use Rattle.nt_states.specs.LaneLists.{AskFits, LaneFits}
 use Rattle.nt_lane.specs.Tries.{HasMade, IsDone}
 use Rattle.nt_lane.specs.Views.{Learns, grows_through}
 use Rattle.nt_lane.proofs.Founding.{all_found}
@@ -137,6 +137,7 @@ is_done s h st j p n numbers over value u v w there known plan is fits made lear
       by = record {
         drawn = subst (λ (es : List Entry). Contains es x) (sym whole.entries) (Contains-append_right u.entries (x ∷ []) x (here x));
         threads = threads_long s h there;
+        named = subst (λ (xs : List Lane). All (LaneFits s) xs) plan.lanes plan.lanes_named;
         on = subst (λ (xs : List Lane). AreFoundOn s w n e st (found_in s h) xs) plan.lanes
             (all_found s h there n st e p.lanes p.asks w plan.asks left plan.held);
       };

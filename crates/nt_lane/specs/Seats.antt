@@ -1,5 +1,5 @@
 -- What a seat over lanes tells of the events that were made through it.
-use Rattle.std.specs.Prelude.{Contains, List, [], length, map, ℕ, ◌++◌, ◌<◌, ◌∷◌, ◌≡◌}
+use Rattle.std.specs.Prelude.{All, Contains, List, [], length, map, ℕ, ◌++◌, ◌<◌, ◌∷◌, ◌≡◌}
 use Rattle.nt_compose.specs.Composition.{state_then}
 use Rattle.nt_event.specs.declared.events.Event.{Event}
 use Rattle.nt_event.specs.declared.jobs.Lane.{Lane}
@@ -14,6 +14,7 @@ use Rattle.nt_mark.specs.declared.view.LaneList.{LaneList}
 use Rattle.nt_mark.specs.declared.view.Note.{Note}
 use Rattle.nt_mark.specs.declared.view.View.{View}
 use Rattle.nt_mark.specs.Views.{entry, note_numbers, note_of}
+use Rattle.nt_states.specs.LaneLists.{LaneFits}
 use Rattle.nt_lane.specs.Records.{Knows}
 use Rattle.nt_lane.specs.Views.{Grows}
 
@@ -45,10 +46,11 @@ abbrev pub AreFoundOn : Script → View → ℕ → Event → Stand → Found �
 AreFoundOn s v n e st f [] = Unit {0}
 AreFoundOn s v n e st f (x ∷ xs) = IsFoundOn s v n e st f x × AreFoundOn s v n e st f xs
 
--- the event of a processor that stood so was made in these states of its lanes
+-- the event of a processor that stood so was made in these states of its lanes, which are lanes of the script
 pub record FoundBy (s : Script) (v : View) (n : ℕ) (e : Event) (st : Stand) (f : Found) : Type 0 where
   pub drawn : Contains v.entries (entry n e (map (lane_number s) (what_lanes s st e.what f.lanes)))
   pub threads : length f.lanes.threads ≡ length s.threads
+  pub named : All (LaneFits s) (what_lanes s st e.what f.lanes)
   pub on : AreFoundOn s v n e st f (what_lanes s st e.what f.lanes)
 
 pub found_on_later : (s : Script) (v w : View) (n : ℕ) (e : Event) (st : Stand) (f : Found) (xs : List Lane) →
@@ -60,7 +62,7 @@ found_on_later s v w n e st f (x ∷ xs) g h =
 pub found_later : (s : Script) (v w : View) (n : ℕ) (e : Event) (st : Stand) (f : Found) → Grows v w →
     FoundBy s v n e st f → FoundBy s w n e st f
 found_later s v w n e st f g h =
-    record { drawn = g.entries _ h.drawn; threads = h.threads; on = found_on_later s v w n e st f _ g h.on }
+    record { drawn = g.entries _ h.drawn; threads = h.threads; named = h.named; on = found_on_later s v w n e st f _ g h.on }
 
 -- the pass knows a beginning of the lane's list that leaves the state found
 abbrev pub IsShownOn : Script → View → Found → Lane → Type 0

@@ -1,7 +1,7 @@
 -- What words and floors see of a pass.
-use Rattle.std.proofs.Common.{◌∙◌}
+use Rattle.std.proofs.Common.{ap, append-nil, append_assoc, sym, ◌∙◌}
 use Rattle.std.specs.List.{list_any}
-use Rattle.std.specs.Prelude.{Bool, Contains, None, Some, false, length, map, refl, ℕ, ◌&&◌, ◌*◌, ◌-◌, ◌==◌, ◌≡◌, ◌≤◌}
+use Rattle.std.specs.Prelude.{Bool, Contains, List, None, Some, [], false, length, map, refl, ℕ, ◌&&◌, ◌*◌, ◌++◌, ◌-◌, ◌==◌, ◌∷◌, ◌≡◌, ◌≤◌}
 use Rattle.nt_event.specs.declared.numbers.CpuNo.{CpuNo}
 use Rattle.nt_floor.specs.Lists.{Draw, Lists, Look as LookTold, Mark as MarkTold}
 use Rattle.nt_floor.specs.Views.{View as WordsView}
@@ -66,6 +66,33 @@ grows_through u v w g h = record {
   entries = λ e k. h.entries e (g.entries e k);
   known = λ e k. h.known e (g.known e k);
   prefixes = λ q k. h.prefixes q (g.prefixes q k);
+}
+
+-- the number of the last of these entries, or this one
+abbrev pub last_drawn : ℕ → List Entry → ℕ
+last_drawn n [] = n
+last_drawn n (e ∷ es) = last_drawn e.number es
+
+pub last_drawn_of : (n : ℕ) (xs ys : List Entry) → last_drawn (last_drawn n xs) ys ≡ last_drawn n (xs ++ ys)
+last_drawn_of n [] ys = refl
+last_drawn_of n (x ∷ xs) ys = last_drawn_of x.number xs ys
+
+-- the second seat has and knows all that the first had and knew; it may have drawn more, and tells the number of the last of it
+pub record SeatGrows (m n : ℕ) (v w : View) : Type 0 where
+  pub view : Grows v w
+  pub more : List Entry
+  pub entries : w.entries ≡ v.entries ++ more
+  pub last : n ≡ last_drawn m more
+
+pub seat_same : (n : ℕ) (v : View) → SeatGrows n n v v
+seat_same n v = record { view = grows_same v; more = []; entries = sym (append-nil v.entries); last = refl }
+
+pub seat_through : (l m n : ℕ) (u v w : View) → SeatGrows l m u v → SeatGrows m n v w → SeatGrows l n u w
+seat_through l m n u v w g h = record {
+  view = grows_through u v w g.view h.view;
+  more = g.more ++ h.more;
+  entries = h.entries ∙ (ap (λ (es : List Entry). es ++ h.more) g.entries ∙ append_assoc u.entries g.more h.more);
+  last = h.last ∙ (ap (λ (k : ℕ). last_drawn k h.more) g.last ∙ last_drawn_of l g.more h.more);
 }
 
 -- the seat drew, marked and looked at nothing; what it knows may be more

@@ -1,10 +1,22 @@
 //! The seat of a processor as a floor: its acts take the locks of the lanes that they read and touch.
+ghost use Rattle.std.specs.Prelude.{◌≡◌, IfOk, OnErr};
+
 use crate::acting::act_under;
 use crate::seat::LaneSeat;
 use nt_event::{Job, Plan, Stand};
 use nt_floor::{ActRefusal, Acted, Floor};
 use nt_mark::Shared;
 use std::sync::Wait;
+
+/// Keeps the number of the event that an act made.
+fn tell_last(last: &mut u64, answer: &Result<Acted, ActRefusal>)
+    ensures made { IfOk answer.now (λ a. last.new ≡ a.number) }
+    ensures none { OnErr answer.now (last.new ≡ last.old) }
+{
+    if let Ok(acted) = answer {
+        *last = acted.number;
+    }
+}
 
 impl<N: Plan + Shared, R: Wait> Floor for LaneSeat<'_, '_, N, R> {
     ghost use Rattle.std.specs.Prelude.{◌≡◌};
@@ -19,18 +31,20 @@ impl<N: Plan + Shared, R: Wait> Floor for LaneSeat<'_, '_, N, R> {
 
     ghost shows = { λ x st j f. AreShownOn N.script (pass_view x.pass) f (job_lanes N.script st j) };
 
-    ghost found_later = { λ x y n e st f g h. found_later N.script (pass_view x.pass) (pass_view y.pass) n e st f g h };
+    ghost found_later = { λ x y n e st f g h. found_later N.script (pass_view x.pass) (pass_view y.pass) n e st f g.view h };
 
     ghost script_stays = { λ x y g. refl };
 
     fn act(&mut self, job: Job, stand: Stand) -> Result<Acted, ActRefusal> {
-        act_under(
+        let result = act_under(
             self.rt,
             self.lanes,
             self.marks,
             &mut self.pass,
             &job,
             &stand,
-        )
+        );
+        tell_last(&mut self.last, &result);
+        result
     }
 }

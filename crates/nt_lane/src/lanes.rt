@@ -13,6 +13,7 @@ use nt_event::{Event, Plan, Script};
 use nt_mark::{Keeper, Shared};
 use nt_outside::Gate;
 use std::alloc::{AllocError, Global};
+use std::marker::PhantomData;
 use std::sync::{Mutex, Wait};
 
 /// The list of one lane: its number, and its events with their numbers.
@@ -47,14 +48,21 @@ pub struct Lanes<'s, N: Plan + Shared> {
     pub(crate) queues: Vec<Mutex<Lane<N, Queue>>>,
     pub(crate) groups: Vec<Mutex<Lane<N, Group<'s>>>>,
     pub(crate) timers: Mutex<Lane<N, Clock>>,
-    /// The room that [`Lanes::close`] fills.
-    lists: Vec<Piece>,
-    keepers: Vec<Keeper>,
+    /// A keeper is no thing to share, so it stands behind a lock too, which nobody takes.
+    room: Mutex<Room<N>>,
     ghost script_is: { script.now ≡ N.script },
     ghost script_fits: { IsTrue (fits N.script) },
     ghost all_objects: { vec_len objects ≡ length N.script.dpcs },
     ghost all_queues: { vec_len queues ≡ N.script.cpus },
     ghost all_groups: { vec_len groups ≡ N.script.cpus },
+}
+
+/// The empty lists that [`Lanes::close`] fills, with room for each lane.
+#[derive(Drop)]
+pub(crate) struct Room<N: Plan> {
+    lists: Vec<Piece>,
+    keepers: Vec<Keeper>,
+    of: PhantomData<N>,
     ghost empty: { (vec_len lists ≡ 0) × (vec_len keepers ≡ 0) },
     ghost room: { (spec.lane_count N.script ≤ vec_capacity lists) × (spec.lane_count N.script ≤ vec_capacity keepers) },
 }
@@ -79,15 +87,18 @@ impl<'s, N: Plan + Shared> Lanes<'s, N> {
         let queues = making::queues::<N>(alloc, script, &mut keepers)?;
         let groups = making::groups::<N>(alloc, script, &mut keepers)?;
         let timers = making::timers::<N>(alloc, script, &mut keepers)?;
-        let keepers = Vec::with_capacity(alloc, lane_count(script) as usize)?;
+        let room = Room {
+            lists,
+            keepers: Vec::with_capacity(alloc, lane_count(script) as usize)?,
+            of: PhantomData,
+        };
         Ok(Lanes {
             script,
             objects,
             queues,
             groups,
             timers,
-            lists,
-            keepers,
+            room: Mutex::new(room),
         })
     }
 
@@ -124,9 +135,13 @@ impl<'s, N: Plan + Shared> Lanes<'s, N> {
             queues,
             groups,
             timers,
+            room,
+        } = self;
+        let Room {
             lists,
             keepers,
-        } = self;
+            of: _,
+        } = room.into_inner();
         let mut pieces = Pieces { lists, keepers };
         pieces.add_all::<N, Object>(objects);
         pieces.add_all::<N, Queue>(queues);

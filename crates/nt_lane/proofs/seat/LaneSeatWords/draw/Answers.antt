@@ -14,16 +14,21 @@ use Rattle.nt_lane.proofs.seat.LaneSeatWords.draw.Goals as goal
 pub returns-clause-grows : goal.returns-clause-grows
 returns-clause-grows g c =
     let v = pass_view c.args.self.now.pass in
-    let e = c.draw.ensures.drew in
-    grows_by v (pass_view c.draw.new.pass) (ap (λ (u : View). u.parts) e) _ (ap (λ (u : View). u.entries) e) []
-    (ap (λ (u : View). u.known) e ∙ sym (append-nil v.known)) [] (ap (λ (u : View). u.prefixes) e ∙ sym (append-nil v.prefixes))
+    let e = c.draw-self.ensures.drew in
+    record {
+      view = grows_by v (pass_view c.draw-self.new.pass) (ap (λ (u : View). u.parts) e) _ (ap (λ (u : View). u.entries) e) []
+          (ap (λ (u : View). u.known) e ∙ sym (append-nil v.known)) [] (ap (λ (u : View). u.prefixes) e ∙ sym (append-nil v.prefixes));
+      more = entry c.draw-self.result c.args.event.now [] ∷ [];
+      entries = ap (λ (u : View). u.entries) e;
+      last = refl;
+    }
 
 pub returns-clause-mine : goal.returns-clause-mine
 returns-clause-mine g c =
     let v = pass_view c.args.self.now.pass in
-    let x : Entry = entry c.draw.result c.args.event.now [] in (
+    let x : Entry = entry c.draw-self.result c.args.event.now [] in (
       x,
-      subst (λ (u : View). Contains u.entries x) (sym c.draw.ensures.drew) (Contains-append_right v.entries (x ∷ []) x (here x)),
+      subst (λ (u : View). Contains u.entries x) (sym c.draw-self.ensures.drew) (Contains-append_right v.entries (x ∷ []) x (here x)),
       refl,
     )
 
@@ -34,6 +39,6 @@ invariant_of-self g c =
       words = c.args.self.now.words;
       cpus = c.args.self.now.cpus;
       all_lanes = c.args.self.now.all_lanes;
-      seat = c.draw.ensures.table ∙ c.args.self.now.seat;
-      listed = ∥∥₁_map c.args.self.now.listed (λ h. subst AreListed (sym c.draw.ensures.drew) (listed_drawn v c.draw.result c.args.event.now h));
+      seat = c.draw-self.ensures.table ∙ c.args.self.now.seat;
+      listed = ∥∥₁_map c.args.self.now.listed (λ h. subst AreListed (sym c.draw-self.ensures.drew) (listed_drawn v c.draw-self.result c.args.event.now h));
     }

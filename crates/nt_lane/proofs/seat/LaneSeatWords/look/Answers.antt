@@ -1,4 +1,4 @@
-use Rattle.std.proofs.Common.{ap, append-nil, sym, ◌∙◌}
+use Rattle.std.proofs.Common.{ap, append-nil, refl, sym, ◌∙◌}
 use Rattle.std.proofs.Math.Logic.{∥∥₁_map}
 use Rattle.std.specs.Prelude.{[]}
 use Rattle.nt_mark.specs.declared.view.View.{View}
@@ -11,8 +11,13 @@ pub returns-clause-grows : goal.returns-clause-grows
 returns-clause-grows g c =
     let v = pass_view c.args.self.now.pass in
     let e = c.look.ensures.looked in
-    grows_by v (pass_view c.look.new.pass) (ap (λ (u : View). u.parts) e) [] (ap (λ (u : View). u.entries) e ∙ sym (append-nil v.entries)) []
-    (ap (λ (u : View). u.known) e ∙ sym (append-nil v.known)) [] (ap (λ (u : View). u.prefixes) e ∙ sym (append-nil v.prefixes))
+    record {
+      view = grows_by v (pass_view c.look.new.pass) (ap (λ (u : View). u.parts) e) [] (ap (λ (u : View). u.entries) e ∙ sym (append-nil v.entries)) []
+          (ap (λ (u : View). u.known) e ∙ sym (append-nil v.known)) [] (ap (λ (u : View). u.prefixes) e ∙ sym (append-nil v.prefixes));
+      more = [];
+      entries = ap (λ (u : View). u.entries) e ∙ sym (append-nil v.entries);
+      last = refl;
+    }
 
 pub invariant_of-self : goal.invariant_of-self
 invariant_of-self g c =
