@@ -1,0 +1,9 @@
+pub mod Workers
+pub mod Going
+pub mod Turning
+pub mod Prepared
+pub mod Gathering
+pub mod Gathered
+pub mod Teams
+pub mod Merging
+pub mod Rounds
