@@ -1,0 +1,4 @@
+pub mod Upward
+pub mod Touching
+pub mod Pieced
+pub mod PieceItems

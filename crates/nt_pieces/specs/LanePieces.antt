@@ -1,0 +1,45 @@
+-- The lists of closed lanes, in the history that they show.
+use Rattle.std.specs.Prelude.{All, Contains, List, map, reverse, ℕ, ◌≡◌}
+use Rattle.atomic_table.specs.Seated.{TableId}
+use Rattle.nt_event.specs.declared.events.Event.{Event}
+use Rattle.nt_event.specs.declared.jobs.Lane.{Lane}
+use Rattle.nt_event.specs.declared.numbers.CpuNo.{CpuNo}
+use Rattle.nt_event.specs.declared.scripts.Script.{Script}
+use Rattle.nt_event.specs.Lanes.{lane_number}
+use Rattle.nt_event.specs.LaneStates.{lane_piece}
+use Rattle.nt_states.specs.LaneLists.{LaneFits}
+use Rattle.nt_compose.specs.Composition.{Placed, events}
+use Rattle.nt_compose.specs.Parts.{Numbered}
+use Rattle.nt_mark.specs.declared.seats.Keeper.{Keeper}
+use Rattle.nt_mark.specs.declared.view.View.{View}
+use Rattle.nt_mark.specs.Names.{keeper_lane, keeper_notes, keeper_view}
+use Rattle.nt_mark.specs.Views.{note_numbers}
+use Rattle.nt_lane.specs.declared.lanes.Piece.{Piece}
+use Rattle.nt_lane.specs.Pieces.{ArePiecesOf}
+use Rattle.nt_live.specs.Gathered.{pair_of}
+use Rattle.nt_live.specs.Gathering.{AreTogether, IsClosed, IsWhole}
+
+-- in the history that closed passes and lanes show, the list of each lane's keeper is the piece of its lane, the oldest
+-- event first
+abbrev pub LanesHavePieces : Type 0
+LanesHavePieces = (s : Script) (limit : ℕ) (v : View) (mine : CpuNo → List Numbered) (ks : List Keeper) (n : ℕ)
+    (h : List Placed) → AreTogether s limit v mine → IsClosed s v ks n → IsWhole s limit mine n h → (x : Lane) →
+    LaneFits s x → (k : Keeper) → Contains ks k → keeper_lane k ≡ lane_number s x → note_numbers (keeper_notes k)
+    ≡ reverse (map (λ e. e.number) (lane_piece s x (events h)))
+
+-- ---- with the events
+
+-- the keeper knows no entries but those of the pass
+abbrev pub KnowsOnly : View → Keeper → Type 0
+KnowsOnly v k = All (Contains v.entries) (keeper_view k).known
+
+-- the list of a lane is the lane's piece of this history, each event at its number, the oldest first
+abbrev pub IsItsPiece : Script → List Event → Piece → Type 0
+IsItsPiece s past p = (x : Lane) → LaneFits s x → p.lane ≡ lane_number s x →
+    p.entries.items ≡ reverse (map pair_of (lane_piece s x past))
+
+-- so is, with its events, each of the lists that stand beside these keepers
+abbrev pub ListsArePieces : Type 0
+ListsArePieces = (s : Script) (limit : ℕ) (v : View) (mine : CpuNo → List Numbered) (ks : List Keeper) (n : ℕ)
+    (h : List Placed) → AreTogether s limit v mine → IsClosed s v ks n → IsWhole s limit mine n h → (table : TableId)
+    (ps : List Piece) → ArePiecesOf table ps ks → All (KnowsOnly v) ks → All (IsItsPiece s (events h)) ps
