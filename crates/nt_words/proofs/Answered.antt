@@ -1,14 +1,20 @@
 -- What is answered where the parser took the words.
-use Rattle.std.proofs.Common.{◌≡◌, ◌∙◌, ℕ, true, List, [], Option, Some, None, Result, Ok, Err, IfOk, sym, inl, inr, arith}
+use Rattle.std.proofs.Common.{◌≡◌, ◌∙◌, ℕ, Bool, true, List, [], ◌∷◌, Option, Some, None, Result, Ok, Err, IfOk, ap, sym, inl, inr, arith}
+use Rattle.std.proofs.lemmas.Bool.{or_cases, or_left, or_right}
+use Rattle.std.specs.List.{list_any}
 use Rattle.std.specs.Option.{ok_or}
+use Rattle.std.specs.Prelude.{◌++◌, ◌||◌, ◌⊎◌}
+use Rattle.std.specs.Str.{bytes_eq}
 use Rattle.clap.specs.Simple.{matches_of}
 use Rattle.clap.specs.Faults.{fault_of}
 use Rattle.nt_words.specs.declared.form.Form.{Form}
 use Rattle.nt_words.specs.declared.reading.WordsRefusal.TheVariants.{NoForm}
 use Rattle.nt_words.specs.declared.form.Form.TheVariants as form
 use Rattle.nt_words.specs.declared.reading.WordsRefusal.{WordsRefusal}
-use Rattle.nt_words.specs.Pieces.{Piece}
-use Rattle.nt_words.specs.Forms.{HasOptions, HasTurns, IsForm, IsTurns, IsWithin}
+use Rattle.nt_words.specs.Commands.{command_word}
+use Rattle.nt_words.specs.declared.form.Command.TheVariants as command
+use Rattle.nt_words.specs.Pieces.{Piece, apart, command_words, dashed, dashed_equals, joined, word, words_of}
+use Rattle.nt_words.specs.Forms.{HasOptions, HasTurns, IsForm, IsTurns, IsWithin, names_live}
 use Rattle.nt_words.specs.Tidy.{is_tidy}
 use Rattle.nt_words.specs.Chosen.{chosen}
 use Rattle.nt_words.specs.Parser.{ntrun_app}
@@ -44,3 +50,30 @@ no_form_answered words (Some f) is = tt
 no_form_answered words None is = λ f form.
     let bad : None ≡ Some f = is ∙ (form_is_taken words f form).form in
     cc
+
+-- ---- the form `live`
+
+abbrev is_live_word : List ℕ → Bool
+is_live_word w = bytes_eq w (command_word command.Live)
+
+or_more : (a b c : Bool) → (b ≡ true → c ≡ true) → (a || b) ≡ true → (a || c) ≡ true
+or_more a b c more h = go (or_cases a b h)
+  where
+    go : (a ≡ true) ⊎ (b ≡ true) → (a || c) ≡ true
+    go (inl here) = or_left a c here
+    go (inr later) = or_right a c (more later)
+
+-- a command word stands among the words
+words_name : (ps : List Piece) → list_any is_live_word (command_words ps) ≡ true → list_any is_live_word (words_of ps) ≡ true
+words_name [] h = h
+words_name (word w ∷ ps) h = or_more (is_live_word w) (list_any is_live_word (command_words ps)) (list_any is_live_word (words_of ps)) (λ k. words_name ps k) h
+words_name (apart name value ∷ ps) h =
+    or_right (is_live_word (dashed name)) (is_live_word value || list_any is_live_word (words_of ps))
+    (or_right (is_live_word value) (list_any is_live_word (words_of ps)) (words_name ps h))
+words_name (joined name value ∷ ps) h =
+    or_right (is_live_word (dashed_equals name ++ value)) (list_any is_live_word (words_of ps)) (words_name ps h)
+
+-- words that are the form `live` name it
+pub live_is_named : (words : List (List ℕ)) (turns : ℕ) → IsForm words (form.Live turns) → names_live words ≡ true
+live_is_named words turns is =
+    ap names_live is.spelled ∙ words_name is.pieces (ap (list_any is_live_word) is.command)

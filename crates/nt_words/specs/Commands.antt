@@ -1,5 +1,5 @@
 -- The commands of the program.
-use Rattle.std.specs.Prelude.{ℕ, Bool, true, false, ◌&&◌, List, Option, codes, find}
+use Rattle.std.specs.Prelude.{ℕ, Bool, true, ◌&&◌, List, Option, codes, find}
 use Rattle.std.specs.Str.{bytes_eq}
 use Rattle.nt_words.specs.declared.form.Command.{Command}
 use Rattle.nt_words.specs.declared.form.Command.TheVariants as command
@@ -15,7 +15,7 @@ command_word command.Load = codes "load"
 -- the program has the command
 abbrev pub is_built : Command → Bool
 is_built command.Run = true
-is_built command.Live = false
+is_built command.Live = true
 is_built command.Replay = true
 is_built command.Check = true
 is_built command.Load = true

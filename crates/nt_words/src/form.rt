@@ -8,7 +8,7 @@ use nt_event::limits::{TURNS, USUAL_TURNS};
 use nt_text::number;
 
 /// What is written where the words are no form: the forms that are built.
-pub const USAGE: &str = "usage: ntrun run|replay|check|load [--turns N] [--seed N]\n";
+pub const USAGE: &str = "usage: ntrun run|live|replay|check|load [--turns N] [--seed N]\n";
 
 /// The greatest seed of a load.
 pub const GREATEST_SEED: u32 = 4_294_967_295;
@@ -72,7 +72,7 @@ impl Command {
     {
         match self {
             Command::Run => true,
-            Command::Live => false,
+            Command::Live => true,
             Command::Replay => true,
             Command::Check => true,
             Command::Load => true,
