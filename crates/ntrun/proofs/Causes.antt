@@ -42,7 +42,7 @@ same_bytes bytes told before None tells gave end = cc
 same_bytes bytes told before (Some more) tells gave end =
     let whole : bytes ++ more ≡ told = cc in sym (append-nil bytes) ∙ ap (λ (xs : List ℕ). bytes ++ xs) (sym end) ∙ whole
 
-few_taken : (old n : ℕ) → n ≤ INPUT_LIMIT → counted old n ≤ old + INPUT_LIMIT
+pub few_taken : (old n : ℕ) → n ≤ INPUT_LIMIT → counted old n ≤ old + INPUT_LIMIT
 few_taken old n h = omega (arith, min-le_left (old + n) last_count)
 
 longer : (told : Option (List ℕ)) (bytes : List ℕ) → told ≡ Some bytes → IsLonger INPUT_LIMIT told → INPUT_LIMIT < length bytes
@@ -165,22 +165,26 @@ same_task form bytes t u a b = go (sym a ∙ b)
 -- a task that is done well goes well
 goes_well : (t : Task) (text : List ℕ) → IsWell t text → GoesWell t
 goes_well (task.Run input turns) text w = tt
+goes_well (task.Live input turns) text w = tt
 goes_well (task.Replay input schedule) text w = ap refused_in w.run.run
 goes_well (task.Check input history) text w = w.0
 
 -- and then none of its turns is refused, and its history goes wrong nowhere
 well_refused : (t : Task) → GoesWell t → IsSome (refused_turn t) → ⊥
 well_refused (task.Run input turns) w some = false≢true some
+well_refused (task.Live input turns) w some = false≢true some
 well_refused (task.Replay input schedule) w some = is_none_not w some
 well_refused (task.Check input history) w some = false≢true some
 
 wrong_refused : (t : Task) → GoesWrong t → IsSome (refused_turn t) → ⊥
 wrong_refused (task.Run input turns) w some = w.1
+wrong_refused (task.Live input turns) w some = w.1
 wrong_refused (task.Replay input schedule) w some = w.1
 wrong_refused (task.Check input history) w some = false≢true some
 
 well_wrong : (t : Task) → GoesWell t → GoesWrong t → ⊥
 well_wrong (task.Run input turns) w v = v.1
+well_wrong (task.Live input turns) w v = v.1
 well_wrong (task.Replay input schedule) w v = v.1
 well_wrong (task.Check input history) w v =
     let one = one_verdict input.script history.turns history.events in

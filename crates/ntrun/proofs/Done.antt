@@ -26,6 +26,7 @@ pub record IsSettledRun (t : Task) (h : History) : Type 0 where
 
 pub run_of : (t : Task) (h : History) → IsRunOf t h → IsSettledRun t h
 run_of (task.Run input turns) h r = record { turns = r.turns; run = r.run; settled = r.settled }
+run_of (task.Live input turns) h r = record { turns = r.turns; run = r.run; settled = r.settled }
 run_of (task.Replay input schedule) h r =
     let i = replays_run input.script schedule.turns schedule.list (reverse h.events) r.run in
     record { turns = r.turns; run = i.run; settled = i.settled }

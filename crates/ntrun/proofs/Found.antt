@@ -53,6 +53,7 @@ done_in form bytes t exit.Illegal text read h = (t, read, h)
 
 well_of : (t : Task) (h : History) (text : List ℕ) → IsRunOf t h → text ≡ report_text (input_of t) h → IsWell t text
 well_of (task.Run input turns) h text r k = record { history = h; run = r; is = k }
+well_of (task.Live input turns) h text r k = record { history = h; run = r; is = k }
 well_of (task.Replay input schedule) h text r k = record { history = h; run = r; is = k }
 well_of (task.Check input history) h text r k = absurd r
 

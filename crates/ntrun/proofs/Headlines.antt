@@ -21,10 +21,9 @@ use Rattle.nt_ranges.proofs.Cuts.{cut_lines_name_the_cut}
 use Rattle.nt_ranges.proofs.Programs.{one_report_one_history}
 use Rattle.nt_readings.proofs.OneFate.{each_insert_has_one_fate, waiting_are_the_pending}
 use Rattle.nt_words.proofs.Answered.{form_within}
-use Rattle.nt_words.specs.Commands.{is_built}
 use Rattle.nt_words.specs.declared.form.Form.{Form}
 use Rattle.nt_words.specs.declared.form.Form.TheVariants as form
-use Rattle.nt_words.specs.Forms.{IsWithin, command_of}
+use Rattle.nt_words.specs.Forms.{IsWithin}
 use Rattle.ntrun.specs.declared.status.Status.{Status}
 use Rattle.ntrun.specs.declared.status.Status.TheVariants as exit
 use Rattle.ntrun.specs.declared.task.Task.{Task}
@@ -33,7 +32,7 @@ use Rattle.ntrun.specs.Headline.{AllDue, HasWritten, Headline, IsActual, IsUncut
 use Rattle.ntrun.specs.Outcome.{Gave, IsFound, IsFoundBy, IsRunOf, IsWell, Store, Supply}
 use Rattle.ntrun.specs.Tasks.{input_of, limit_of, task_of}
 use Rattle.ntrun.proofs.Done.{run_of}
-use Rattle.ntrun.proofs.Tasked.{IsCheck, IsNoCheck, check_is_one, replay_is_no_check, run_is_no_check}
+use Rattle.ntrun.proofs.Tasked.{IsCheck, IsNoCheck, check_is_one, live_is_no_check, replay_is_no_check, run_is_no_check}
 use Rattle.ntrun.proofs.Plain.{IsPlainTask, run_of_input, sound_task, task_plain}
 
 all_due : (s : Script) (limit : ℕ) (past : List Event) → fits s ≡ true → IsRun s limit past → AllDue s past
@@ -93,6 +92,8 @@ reported : (f : Form) (so sn : Supply) (ko kn : Store) (bytes text : List ℕ) (
     IsWell t text → kn.held ≡ append_known ko.held text → IsNoCheck t → IsWhole f so sn ko kn
 reported f so sn ko kn bytes text (task.Run input turns) within gave read w added n =
     whole f so sn ko kn bytes text (task.Run input turns) w.history within gave read w.run w.is added
+reported f so sn ko kn bytes text (task.Live input turns) within gave read w added n =
+    whole f so sn ko kn bytes text (task.Live input turns) w.history within gave read w.run w.is added
 reported f so sn ko kn bytes text (task.Replay input schedule) within gave read w added n =
     whole f so sn ko kn bytes text (task.Replay input schedule) w.history within gave read w.run w.is added
 reported f so sn ko kn bytes text (task.Check input history) within gave read w added n = absurd n
@@ -100,6 +101,7 @@ reported f so sn ko kn bytes text (task.Check input history) within gave read w 
 checked : (so sn : Supply) (ko kn : Store) (bytes text : List ℕ) (t : Task) → Gave bytes so sn → task_of form.Check bytes ≡ Ok t → IsWell t text →
     kn.held ≡ append_known ko.held text → IsCheck t → IsWholeCheck so sn ko kn
 checked so sn ko kn bytes text (task.Run input turns) gave read w added n = absurd n
+checked so sn ko kn bytes text (task.Live input turns) gave read w added n = absurd n
 checked so sn ko kn bytes text (task.Replay input schedule) gave read w added n = absurd n
 checked so sn ko kn bytes text (task.Check input history) gave read w added n = record {
   bytes = bytes;
@@ -121,20 +123,21 @@ load_written seed turns so sn ko kn text w added = record {
   written = subst (λ (x : List ℕ). kn.held ≡ append_known ko.held x) w.1.is added;
 }
 
-written_by : (f : Form) (so sn : Supply) (ko kn : Store) (text : List ℕ) → is_built (command_of f) ≡ true → IsWithin f → IsFoundBy f so sn exit.Ok text →
+written_by : (f : Form) (so sn : Supply) (ko kn : Store) (text : List ℕ) → IsWithin f → IsFoundBy f so sn exit.Ok text →
     kn.held ≡ append_known ko.held text → HasWritten f so sn ko kn
-written_by (form.Run turns) so sn ko kn text built within w added =
+written_by (form.Run turns) so sn ko kn text within w added =
     reported (form.Run turns) so sn ko kn w.0 text w.2.0 within w.1 w.2.1 w.2.2 added (run_is_no_check turns w.0 w.2.0 w.2.1)
-written_by form.Replay so sn ko kn text built within w added =
+written_by (form.Live turns) so sn ko kn text within w added =
+    reported (form.Live turns) so sn ko kn w.0 text w.2.0 within w.1 w.2.1 w.2.2 added (live_is_no_check turns w.0 w.2.0 w.2.1)
+written_by form.Replay so sn ko kn text within w added =
     reported form.Replay so sn ko kn w.0 text w.2.0 within w.1 w.2.1 w.2.2 added (replay_is_no_check w.0 w.2.0 w.2.1)
-written_by form.Check so sn ko kn text built within w added = checked so sn ko kn w.0 text w.2.0 w.1 w.2.1 w.2.2 added (check_is_one w.0 w.2.0 w.2.1)
-written_by (form.Live turns) so sn ko kn text built within w added = cc
-written_by (form.Load seed turns) so sn ko kn text built within w added = load_written seed turns so sn ko kn text w added
+written_by form.Check so sn ko kn text within w added = checked so sn ko kn w.0 text w.2.0 w.1 w.2.1 w.2.2 added (check_is_one w.0 w.2.0 w.2.1)
+written_by (form.Load seed turns) so sn ko kn text within w added = load_written seed turns so sn ko kn text w added
 
 pub headline : Headline
 headline words so sn ko kn a =
     let found : IsFound words so sn exit.Ok a.text = subst (λ (s : Status). IsFound words so sn s a.text) (sym a.written.0) a.cause in (
       found.0,
       found.1,
-      written_by found.0 so sn ko kn a.text found.1.built (form_within words (Ok found.0) found.1) found.2 a.written.1,
+      written_by found.0 so sn ko kn a.text (form_within words (Ok found.0) found.1) found.2 a.written.1,
     )

@@ -1,9 +1,11 @@
 mod Again
+mod Asked
 mod Causes
 mod Done
 mod Found
 mod Headlines
 mod Loads
+mod Looks
 mod Plain
 mod Splits
 mod Tasked

@@ -31,26 +31,30 @@ use Rattle.ntrun.specs.declared.task.Tail.TheVariants as tail
 use Rattle.ntrun.specs.declared.task.Task.{Task}
 use Rattle.ntrun.specs.declared.task.Task.TheVariants as task
 use Rattle.ntrun.specs.Outcome.{IsRunOf}
-use Rattle.ntrun.specs.Tasks.{Bad, and_then, behind, input_of, last_line, report_task, run_task, schedule_task, tail_task, tail_word, task_of, two_parts}
+use Rattle.ntrun.specs.Tasks.{Bad, and_then, behind, input_of, last_line, report_task, schedule_task, tail_task, tail_word, task_of, two_parts}
 
 -- what holds of a task that was read
 abbrev pub IsPlainTask : Task → Type 0
 IsPlainTask (task.Run input turns) = IsSound input × IsTurns turns
+IsPlainTask (task.Live input turns) = IsSound input × IsTurns turns
 IsPlainTask (task.Replay input schedule) = IsSound input × IsPlain input.script schedule
 IsPlainTask (task.Check input history) = IsSound input × HistoryIsPlain input.script history
 
 pub sound_task : (t : Task) → IsPlainTask t → IsSound (input_of t)
 sound_task (task.Run input turns) p = p.0
+sound_task (task.Live input turns) p = p.0
 sound_task (task.Replay input schedule) p = p.0
 sound_task (task.Check input history) p = p.0
 
-run_plain : (turns : ℕ) (bytes : List ℕ) (t : Task) → IsTurns turns → run_task turns bytes ≡ Ok t → IsPlainTask t
-run_plain turns bytes t w e = go (reading bytes) refl e
+-- a script alone, whatever task is made of it
+script_plain : (make : Input → Task) (bytes : List ℕ) (t : Task) → ((input : Input) → IsSound input → IsPlainTask (make input)) →
+    and_then (reading bytes) (λ input. Ok (make input)) ≡ Ok t → IsPlainTask t
+script_plain make bytes t each e = go (reading bytes) refl e
   where
-    go : (r : Result Input Bad) → reading bytes ≡ r → and_then r (λ input. Ok (task.Run input turns)) ≡ Ok t → IsPlainTask t
+    go : (r : Result Input Bad) → reading bytes ≡ r → and_then r (λ input. Ok (make input)) ≡ Ok t → IsPlainTask t
     go (Err bad) is h = cc
     go (Ok input) is h =
-        let same : task.Run input turns ≡ t = cc in subst IsPlainTask same ((reading_is_text bytes input is).sound, w)
+        let same : make input ≡ t = cc in subst IsPlainTask same (each input (reading_is_text bytes input is).sound)
 
 schedule_plain : (input : Input) (line : ℕ) (rest : List ℕ) (t : Task) → IsSound input → schedule_task input line rest ≡ Ok t → IsPlainTask t
 schedule_plain input line rest t sound e = go (schedule_reading CPUS input.names line rest) refl e
@@ -87,10 +91,10 @@ parts_plain k (Some (at, line)) bytes t e = go (reading (take at bytes)) refl e
     go (Ok input) is h = tail_plain k input line (drop at bytes) t (reading_is_text (take at bytes) input is).sound h
 
 pub task_plain : (f : Form) (bytes : List ℕ) (t : Task) → IsWithin f → task_of f bytes ≡ Ok t → IsPlainTask t
-task_plain (form.Run turns) bytes t w e = run_plain turns bytes t w e
+task_plain (form.Run turns) bytes t w e = script_plain (λ input. task.Run input turns) bytes t (λ input sound. (sound, w)) e
 task_plain form.Replay bytes t w e = parts_plain tail.Schedule (behind (tail_word tail.Schedule) bytes) bytes t e
 task_plain form.Check bytes t w e = parts_plain tail.Report (behind (tail_word tail.Report) bytes) bytes t e
-task_plain (form.Live turns) bytes t w e = cc
+task_plain (form.Live turns) bytes t w e = script_plain (λ input. task.Live input turns) bytes t (λ input sound. (sound, w)) e
 task_plain (form.Load seed turns) bytes t w e = cc
 
 -- ---- its history
@@ -108,6 +112,12 @@ run_of_input (task.Run input turns) h p r =
     a_robin_run_is_one input h p.0 (subst IsTurns (sym r.turns) p.1)
     (subst (λ (n : ℕ). IsRun input.script n (reverse h.events)) (sym r.turns) r.run)
     (subst (λ (n : ℕ). IsRobin input.script n (reverse h.events)) (sym r.turns) r.robin)
+run_of_input (task.Live input turns) h p r = record {
+  sound = p.0;
+  limit = subst IsTurns (sym r.turns) p.1;
+  run = subst (λ (n : ℕ). IsRun input.script n (reverse h.events)) (sym r.turns) r.run;
+  looks = r.looks;
+}
 run_of_input (task.Replay input schedule) h p r =
     let i = replays_run input.script schedule.turns schedule.list (reverse h.events) r.run in
     a_replay_is_one input h p.0 (subst (λ (n : ℕ). IsRun input.script n (reverse h.events)) (sym r.turns) i.run)

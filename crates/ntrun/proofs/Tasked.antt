@@ -1,26 +1,29 @@
 -- Which tasks a form has.
-use Rattle.std.proofs.Common.{◌≡◌, ℕ, List, Option, Some, None, Result, Ok, Err, subst}
-use Rattle.std.specs.Prelude.{drop, take}
+use Rattle.std.proofs.Common.{◌≡◌, ℕ, List, Option, Some, None, Result, Ok, Err, refl, subst}
+use Rattle.std.specs.Prelude.{drop, false, take, true}
 use Rattle.nt_event.specs.declared.limits.TheConstants.{CPUS}
 use Rattle.nt_log.specs.Reading.{reading as schedule_reading}
 use Rattle.nt_report.specs.Reading.{reading as report_reading}
 use Rattle.nt_script.specs.declared.walk.Input.{Input}
 use Rattle.nt_script.specs.Reading.{reading}
 use Rattle.nt_text.specs.declared.kind.ScriptKind.TheVariants.{NoEnd}
+use Rattle.nt_words.specs.declared.form.Form.{Form}
 use Rattle.nt_words.specs.declared.form.Form.TheVariants as form
 use Rattle.ntrun.specs.declared.task.Tail.{Tail}
 use Rattle.ntrun.specs.declared.task.Tail.TheVariants as tail
 use Rattle.ntrun.specs.declared.task.Task.{Task}
 use Rattle.ntrun.specs.declared.task.Task.TheVariants as task
-use Rattle.ntrun.specs.Tasks.{Bad, and_then, behind, last_line, tail_task, tail_word, task_of, two_parts}
+use Rattle.ntrun.specs.Tasks.{Bad, and_then, asks_threads, behind, is_threaded, last_line, reads, tail_task, tail_word, task_of, two_parts}
 
 abbrev pub IsCheck : Task → Type 0
 IsCheck (task.Run input turns) = ⊥
+IsCheck (task.Live input turns) = ⊥
 IsCheck (task.Replay input schedule) = ⊥
 IsCheck (task.Check input history) = Unit {0}
 
 abbrev pub IsNoCheck : Task → Type 0
 IsNoCheck (task.Run input turns) = Unit {0}
+IsNoCheck (task.Live input turns) = Unit {0}
 IsNoCheck (task.Replay input schedule) = Unit {0}
 IsNoCheck (task.Check input history) = ⊥
 
@@ -50,6 +53,9 @@ parted P k each (Some (at, line)) bytes t e = go (reading (take at bytes)) e
 pub run_is_no_check : (turns : ℕ) (bytes : List ℕ) (t : Task) → task_of (form.Run turns) bytes ≡ Ok t → IsNoCheck t
 run_is_no_check turns bytes t e = made IsNoCheck (λ input. task.Run input turns) (λ x. tt) (reading bytes) t e
 
+pub live_is_no_check : (turns : ℕ) (bytes : List ℕ) (t : Task) → task_of (form.Live turns) bytes ≡ Ok t → IsNoCheck t
+live_is_no_check turns bytes t e = made IsNoCheck (λ input. task.Live input turns) (λ x. tt) (reading bytes) t e
+
 pub replay_is_no_check : (bytes : List ℕ) (t : Task) → task_of form.Replay bytes ≡ Ok t → IsNoCheck t
 replay_is_no_check bytes t e =
     parted IsNoCheck tail.Schedule
@@ -60,3 +66,29 @@ pub check_is_one : (bytes : List ℕ) (t : Task) → task_of form.Check bytes �
 check_is_one bytes t e =
     parted IsCheck tail.Report (λ input line rest u h. made IsCheck (λ x. task.Check input x) (λ x. tt) (report_reading input line rest) u h)
     (behind (tail_word tail.Report) bytes) bytes t e
+
+-- ---- which forms ask for threads
+
+-- a task that is done on threads is that of `live`
+pub threads_are_live : (f : Form) (bytes : List ℕ) (t : Task) → task_of f bytes ≡ Ok t → is_threaded t ≡ asks_threads f
+threads_are_live (form.Run turns) bytes t e =
+    made (λ u. is_threaded u ≡ false) (λ input. task.Run input turns) (λ x. refl) (reading bytes) t e
+threads_are_live (form.Live turns) bytes t e =
+    made (λ u. is_threaded u ≡ true) (λ input. task.Live input turns) (λ x. refl) (reading bytes) t e
+threads_are_live form.Replay bytes t e =
+    parted (λ u. is_threaded u ≡ false) tail.Schedule
+    (λ input line rest u h. made (λ v. is_threaded v ≡ false) (λ s. task.Replay input s) (λ x. refl) (schedule_reading CPUS input.names line rest) u h)
+    (behind (tail_word tail.Schedule) bytes) bytes t e
+threads_are_live form.Check bytes t e =
+    parted (λ u. is_threaded u ≡ false) tail.Report
+    (λ input line rest u h. made (λ v. is_threaded v ≡ false) (λ x. task.Check input x) (λ x. refl) (report_reading input line rest) u h)
+    (behind (tail_word tail.Report) bytes) bytes t e
+threads_are_live (form.Load seed turns) bytes t e = cc
+
+-- and a form that has a task reads it from the source
+pub tasks_are_read : (f : Form) (bytes : List ℕ) (t : Task) → task_of f bytes ≡ Ok t → reads f ≡ true
+tasks_are_read (form.Run turns) bytes t e = refl
+tasks_are_read (form.Live turns) bytes t e = refl
+tasks_are_read form.Replay bytes t e = refl
+tasks_are_read form.Check bytes t e = refl
+tasks_are_read (form.Load seed turns) bytes t e = cc

@@ -6,11 +6,16 @@ use Rattle.nt_core.specs.declared.refusals.ScheduleRefusal.{ScheduleRefusal}
 use Rattle.nt_core.specs.declared.refusals.ScheduleRefusal.TheVariants.{Bad, NoMemory}
 use Rattle.nt_print.specs.Report.{report_text}
 use Rattle.nt_script.specs.declared.walk.Input.{Input}
+use Rattle.nt_words.specs.declared.form.Form.{Form}
+use Rattle.nt_words.specs.Forms.{IsForm}
+use Rattle.ntrun.specs.declared.answer.Answer.{Answer}
 use Rattle.ntrun.specs.declared.answer.Text.{Text}
 use Rattle.ntrun.specs.declared.answer.Text.TheVariants.{Line, Made}
 use Rattle.ntrun.specs.declared.status.Status.{Status}
 use Rattle.ntrun.specs.declared.status.Status.TheVariants as exit
-use Rattle.ntrun.specs.Outcome.{illegal_line, memory_line, turn_line}
+use Rattle.ntrun.specs.declared.task.Task.{Task}
+use Rattle.ntrun.specs.Outcome.{Gave, IsDone, IsFound, IsFoundBy, IsFoundFrom, IsFoundIn, Supply, illegal_line, memory_line, turn_line}
+use Rattle.ntrun.specs.Tasks.{task_of}
 
 -- a text to be written
 abbrev pub text_of : Text → List ℕ
@@ -40,3 +45,32 @@ abbrev pub IsIllegalLine : ℕ → Status → List ℕ → Type 0
 IsIllegalLine n exit.Illegal text = text ≡ illegal_line n
 IsIllegalLine n exit.Memory text = text ≡ memory_line
 IsIllegalLine n _ text = ⊥
+
+-- ---- what is asked for: a task, or what is answered at once
+
+abbrev pub AsksIn : Form → List ℕ → Result Task Answer → Type 0
+AsksIn form bytes (Ok t) = task_of form bytes ≡ Ok t
+AsksIn form bytes (Err a) = IsFoundIn form bytes a.status (text_of a.text)
+
+-- the source gave bytes that are this task of the form
+pub record IsRead (form : Form) (t : Task) (old new : Supply) : Type 0 where
+  pub bytes : List ℕ
+  pub gave : Gave bytes old new
+  pub task : task_of form bytes ≡ Ok t
+
+abbrev pub AsksFrom : Form → Supply → Supply → Result Task Answer → Type 0
+AsksFrom form old new (Ok t) = IsRead form t old new
+AsksFrom form old new (Err a) = IsFoundFrom form old new a.status (text_of a.text)
+
+abbrev pub AsksBy : Form → Supply → Supply → Result Task Answer → Type 0
+AsksBy form old new (Ok t) = IsRead form t old new
+AsksBy form old new (Err a) = IsFoundBy form old new a.status (text_of a.text)
+
+abbrev pub Asks : List (List ℕ) → Supply → Supply → Result Task Answer → Type 0
+Asks words old new (Ok t) = (form : Form) × IsForm words form × IsRead form t old new
+Asks words old new (Err a) = IsFound words old new a.status (text_of a.text)
+
+-- what is answered to a task that was asked for, or what was answered at once
+abbrev pub IsAnswerTo : Result Task Answer → Status → List ℕ → Type 0
+IsAnswerTo (Ok t) status text = IsDone t status text
+IsAnswerTo (Err a) status text = (status ≡ a.status) × (text ≡ text_of a.text)

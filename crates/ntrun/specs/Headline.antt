@@ -71,8 +71,8 @@ pub record NothingIsLeft (s : Script) (limit : ℕ) (past : List Event) : Type 0
   pub keys : ((p : CpuNo) → nat_lt p.0 s.cpus ≡ true → is_cut limit (own_of s p past) ≡ false) →
       first_due (timers_at s past) ≡ None
 
--- the history of a task: the robin run, or the run of the schedule's turns. It is a settled run of the written machine;
--- each insert has exactly one fate, and the waiting ones are those that the report lists; a processor has a line `cut`
+-- the history of a task: the robin run, the run on threads, or the run of the schedule's turns. It is a settled run of the
+-- written machine; each insert has exactly one fate, and the waiting ones are those that the report lists; a processor has a line `cut`
 -- exactly where it is cut; and no other run of the script has this report.
 pub record IsActual (t : Task) (h : History) : Type 0 where
   pub is : IsRunOf t h
@@ -120,12 +120,12 @@ pub record IsWholeLoad (seed limit : ℕ) (so sn : Supply) (ko kn : Store) : Typ
   pub run : IsRobinRun (load_input seed).script limit history
   pub written : kn.held ≡ append_known ko.held (summary_text (load_input seed) history)
 
--- what a form has written with status 0. Words of a form that isn't built are no form.
+-- what a form has written with status 0: `run`, `live` and `replay` the report of their history
 abbrev pub HasWritten : Form → Supply → Supply → Store → Store → Type 0
 HasWritten (form.Run turns) so sn ko kn = IsWhole (form.Run turns) so sn ko kn
+HasWritten (form.Live turns) so sn ko kn = IsWhole (form.Live turns) so sn ko kn
 HasWritten form.Replay so sn ko kn = IsWhole form.Replay so sn ko kn
 HasWritten form.Check so sn ko kn = IsWholeCheck so sn ko kn
-HasWritten (form.Live turns) so sn ko kn = ⊥
 HasWritten (form.Load seed turns) so sn ko kn = IsWholeLoad seed turns so sn ko kn
 
 -- what was written with status 0 is the report of the actual history, that the history of a report is legal, or the
@@ -148,8 +148,9 @@ schedule_part report = part_from (behind (tail_word tail.Schedule) report) repor
 abbrev pub replayed_bytes : Task → History → List ℕ
 replayed_bytes t h = text (input_of t) ++ schedule_part (report_text (input_of t) h)
 
--- a report was written; the script's text with the report's schedule part behind it, given to `replay`, has status 0
--- and writes the same report, where it has not too many bytes, memory is found and neither source nor sink fails
+-- `run`, `live` or `replay` wrote a report; the script's text with the report's schedule part behind it, given to
+-- `replay`, has status 0 and writes the same report, where it has not too many bytes, memory is found and neither source
+-- nor sink fails
 abbrev pub ReplayWritesTheSame : Type 0
 ReplayWritesTheSame = (words again : List (List ℕ)) (f : Form) (so sn ao an : Supply) (ko kn bo bn : Store)
     (status : Status) (w : IsWhole f so sn ko kn) → IsForm words f →
@@ -164,8 +165,8 @@ ReplayWritesTheSame = (words again : List (List ℕ)) (f : Form) (so sn ao an : 
 abbrev pub checked_bytes : Task → History → List ℕ
 checked_bytes t h = text (input_of t) ++ report_text (input_of t) h
 
--- a report was written; the script's text with this report behind it, given to `check`, has status 0 and is called
--- legal, where it has not too many bytes, memory is found and neither source nor sink fails
+-- `run`, `live` or `replay` wrote a report; the script's text with this report behind it, given to `check`, has status 0
+-- and is called legal, where it has not too many bytes, memory is found and neither source nor sink fails
 abbrev pub CheckCallsItLegal : Type 0
 CheckCallsItLegal = (words again : List (List ℕ)) (f : Form) (so sn ao an : Supply) (ko kn bo bn : Store)
     (status : Status) (w : IsWhole f so sn ko kn) → IsForm words f →

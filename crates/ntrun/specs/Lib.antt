@@ -1,5 +1,4 @@
 pub mod Status
-pub mod Words
 pub mod Tasks
 pub mod Outcome
 pub mod Answer

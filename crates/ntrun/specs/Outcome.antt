@@ -17,6 +17,7 @@ use Rattle.nt_outside.specs.Bytes.{IsLonger, AddsFrontOf}
 use Rattle.nt_outside.specs.Counts.{counted, Rose, RoseBy}
 use Rattle.nt_print.specs.Report.{report_text}
 use Rattle.nt_print.specs.Summary.{summary_text}
+use Rattle.nt_ranges.specs.Looks.{LooksAreWhole}
 use Rattle.nt_text.specs.declared.kind.ScriptKind.{ScriptKind}
 use Rattle.nt_text.specs.declared.kind.ScriptKind.TheVariants.{TooMany}
 use Rattle.nt_text.specs.declared.lines.TheConstants.{INPUT_LIMIT}
@@ -103,6 +104,13 @@ refusal_of (Ok x) = None
 abbrev pub refusal : Form → List ℕ → Option Bad
 refusal form bytes = refusal_of (task_of form bytes)
 
+-- the history is a settled run of the script with this limit, and each of its looks tells a value of each class
+pub record IsLiveRun (s : Script) (limit : ℕ) (h : History) : Type 0 where
+  pub turns : h.turns ≡ limit
+  pub run : IsRun s limit (reverse h.events)
+  pub settled : is_settled s limit (reverse h.events) ≡ true
+  pub looks : LooksAreWhole h.events
+
 -- the history is the run of the script by the robin rule with this limit, to its end
 pub record IsRobinRun (s : Script) (limit : ℕ) (h : History) : Type 0 where
   pub turns : h.turns ≡ limit
@@ -115,9 +123,11 @@ pub record IsReplayed (s : Script) (schedule : Schedule) (h : History) : Type 0 
   pub turns : h.turns ≡ schedule.turns
   pub run : replayed s schedule.turns schedule.list ≡ Ok (reverse h.events)
 
--- the history that the task asks for; a check asks for none
+-- the history that the task asks for: the robin run, any settled run on threads, the run of the schedule's turns; a check
+-- asks for none
 abbrev pub IsRunOf : Task → History → Type 0
 IsRunOf (task.Run input turns) h = IsRobinRun input.script turns h
+IsRunOf (task.Live input turns) h = IsLiveRun input.script turns h
 IsRunOf (task.Replay input schedule) h = IsReplayed input.script schedule h
 IsRunOf (task.Check input history) h = ⊥
 
@@ -125,9 +135,10 @@ abbrev pub refused_in : Result (List Event) Refused → Option Refused
 refused_in (Ok past) = None
 refused_in (Err r) = Some r
 
--- the turn at which the task's turns make no settled run, and why; a robin run and a check have none
+-- the turn at which the task's turns make no settled run, and why; a script that is run and a check have none
 abbrev pub refused_turn : Task → Option Refused
 refused_turn (task.Run input turns) = None
+refused_turn (task.Live input turns) = None
 refused_turn (task.Replay input schedule) = refused_in (replayed input.script schedule.turns schedule.list)
 refused_turn (task.Check input history) = None
 
@@ -141,15 +152,17 @@ pub record IsReport (t : Task) (text : List ℕ) : Type 0 where
 abbrev pub IsLegal : Input → History → Type 0
 IsLegal input h = IsVerdict input.script h.turns h.events verdict.Legal
 
--- the number at which the history that is checked goes wrong; a run and a replay have none
+-- the number at which the history that is checked goes wrong; the other tasks have none
 abbrev pub IsIllegal : Task → ℕ → Type 0
 IsIllegal (task.Check input history) n = IsVerdict input.script history.turns history.events (verdict.IllegalAt n)
 IsIllegal (task.Run input turns) n = ⊥
+IsIllegal (task.Live input turns) n = ⊥
 IsIllegal (task.Replay input schedule) n = ⊥
 
 -- the task is done with this text: a report, or the line of a legal history
 abbrev pub IsWell : Task → List ℕ → Type 0
 IsWell (task.Run input turns) text = IsReport (task.Run input turns) text
+IsWell (task.Live input turns) text = IsReport (task.Live input turns) text
 IsWell (task.Replay input schedule) text = IsReport (task.Replay input schedule) text
 IsWell (task.Check input history) text = IsLegal input history × (text ≡ legal_line)
 
@@ -265,6 +278,7 @@ GoesWrong t = (n : ℕ) × IsIllegal t n
 -- a script is run; the turns of a schedule make a settled run; the history that is checked is one
 abbrev pub GoesWell : Task → Type 0
 GoesWell (task.Run input turns) = Unit {0}
+GoesWell (task.Live input turns) = Unit {0}
 GoesWell (task.Replay input schedule) = refused_turn (task.Replay input schedule) ≡ None
 GoesWell (task.Check input history) = IsLegal input history
 

@@ -64,9 +64,12 @@ two_parts t None bytes = and_then (reading bytes) (λ input. Err (last_line byte
 abbrev pub both_parts : Tail → List ℕ → Result Task Bad
 both_parts t bytes = two_parts t (behind (tail_word t) bytes) bytes
 
--- a script alone
+-- a script alone, to be run by the robin rule or on threads
 abbrev pub run_task : ℕ → List ℕ → Result Task Bad
 run_task turns bytes = and_then (reading bytes) (λ input. Ok (task.Run input turns))
+
+abbrev pub live_task : ℕ → List ℕ → Result Task Bad
+live_task turns bytes = and_then (reading bytes) (λ input. Ok (task.Live input turns))
 
 -- the form reads the input; `load` makes its own
 abbrev pub reads : Form → Bool
@@ -76,23 +79,25 @@ reads form.Check = true
 reads (form.Live turns) = true
 reads (form.Load seed turns) = false
 
--- what a form reads in the bytes. One that isn't built, or reads nothing, finds nothing there.
+-- what a form reads in the bytes. One that reads nothing finds nothing there.
 abbrev pub task_of : Form → List ℕ → Result Task Bad
 task_of (form.Run turns) bytes = run_task turns bytes
 task_of form.Replay bytes = both_parts tail.Schedule bytes
 task_of form.Check bytes = both_parts tail.Report bytes
-task_of (form.Live turns) bytes = Err (1, NoCpus)
+task_of (form.Live turns) bytes = live_task turns bytes
 task_of (form.Load seed turns) bytes = Err (1, NoCpus)
 
 -- ---- what holds of a task
 
 abbrev pub input_of : Task → Input
 input_of (task.Run input turns) = input
+input_of (task.Live input turns) = input
 input_of (task.Replay input schedule) = input
 input_of (task.Check input history) = input
 
 abbrev pub limit_of : Task → ℕ
 limit_of (task.Run input turns) = turns
+limit_of (task.Live input turns) = turns
 limit_of (task.Replay input schedule) = schedule.turns
 limit_of (task.Check input history) = history.turns
 
@@ -100,3 +105,18 @@ limit_of (task.Check input history) = history.turns
 pub record IsSoundTask (t : Task) : Type 0 where
   pub sound : IsSound (input_of t)
   pub limit : IsTurns (limit_of t)
+
+-- the task is done on threads, and so may wait
+abbrev pub is_threaded : Task → Bool
+is_threaded (task.Run input turns) = false
+is_threaded (task.Live input turns) = true
+is_threaded (task.Replay input schedule) = false
+is_threaded (task.Check input history) = false
+
+-- the form asks for such a task
+abbrev pub asks_threads : Form → Bool
+asks_threads (form.Run turns) = false
+asks_threads (form.Live turns) = true
+asks_threads form.Replay = false
+asks_threads form.Check = false
+asks_threads (form.Load seed turns) = false

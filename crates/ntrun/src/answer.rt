@@ -1,15 +1,14 @@
 //! What a call finds out, with the text that is written for it.
-ghost use Rattle.std.specs.Prelude.{◌≡◌, ◌≤◌, true, length, IfErr, IfOk, string_bytes};
+ghost use Rattle.std.specs.Prelude.{◌≡◌, ◌≤◌, false, true, length, IfErr, IfOk, string_bytes};
 ghost use Rattle.nt_core.specs.Refusals.{IsReplayRefused};
 ghost use Rattle.nt_event.specs.declared.events.History.{History as RunHistory};
 ghost use Rattle.nt_event.specs.Fitting.{events_fit};
 ghost use Rattle.nt_print.specs.Summary.{summary_text};
 ghost use Rattle.nt_script.specs.Sound.{IsSound};
-ghost use Rattle.nt_words.specs.Commands.{is_built};
-ghost use Rattle.nt_words.specs.Forms.{IsTurns, IsWithin, command_of};
-ghost use Rattle.ntrun.specs.Answer.{IsIllegalLine, IsMade, IsReported, IsTurnRefused, text_of};
-ghost use Rattle.ntrun.specs.Outcome.{illegal_line, kind_text, legal_line, script_line, memory_line, turn_line, IsDone, IsFoundIn, IsLoaded, IsRefused, IsReplayed, IsRobinRun, IsSummary};
-ghost use Rattle.ntrun.specs.Tasks.{IsSoundTask, reads};
+ghost use Rattle.nt_words.specs.Forms.{IsTurns, IsWithin};
+ghost use Rattle.ntrun.specs.Answer.{AsksIn, IsAnswerTo, IsIllegalLine, IsMade, IsReported, IsTurnRefused, text_of};
+ghost use Rattle.ntrun.specs.Outcome.{illegal_line, kind_text, legal_line, script_line, memory_line, turn_line, IsDone, IsLoaded, IsRefused, IsReplayed, IsRobinRun, IsSummary};
+ghost use Rattle.ntrun.specs.Tasks.{IsSoundTask, is_threaded, reads};
 
 use crate::status::Status;
 use crate::task::{Task, task_of};
@@ -115,7 +114,7 @@ fn turn_refused(alloc: Global, at: u32, kind: ScheduleKind) -> Answer
 }
 
 /// What is answered with a history.
-fn reported(alloc: Global, input: &Input, history: &History) -> Answer
+pub(crate) fn reported(alloc: Global, input: &Input, history: &History) -> Answer
     requires sound { IsSound input.now }
     requires fit { events_fit input.now.script history.now.events ≡ true }
     ensures { IsReported input.now history.now result.status (text_of result.text) }
@@ -238,13 +237,15 @@ fn checked(alloc: Global, input: &Input, history: &History) -> Answer
     }
 }
 
-/// What is answered to a task.
-fn done(alloc: Global, task: &Task) -> Answer
-    requires { IsSoundTask task.now }
+/// What is answered to a task that needs no threads.
+pub(crate) fn done(alloc: Global, task: &Task) -> Answer
+    requires sound { IsSoundTask task.now }
+    requires alone { is_threaded task.now ≡ false }
     ensures { IsDone task.now result.status (text_of result.text) }
 {
     match task {
         Task::Run { input, turns } => ran(alloc, input, *turns),
+        Task::Live { .. } => unreachable!(),
         Task::Replay { input, schedule } => replayed(alloc, input, schedule),
         Task::Check { input, history } => checked(alloc, input, history),
     }
@@ -285,25 +286,40 @@ pub(crate) fn loaded(alloc: Global, seed: u32, turns: u32) -> Answer
     }
 }
 
-/// What is answered to a task, which is let go then.
+/// What is answered to a task that needs no threads, which is let go then.
 fn done_with(alloc: Global, task: Task) -> Answer
-    requires { IsSoundTask task }
+    requires sound { IsSoundTask task }
+    requires alone { is_threaded task ≡ false }
     ensures { IsDone task result.status (text_of result.text) }
 {
-    done(alloc, &task)
+    let answer = done(alloc, &task);
+    drop(task);
+    answer
 }
 
-/// What a form finds in the bytes of an input.
-pub(crate) fn find_in(alloc: Global, form: Form, bytes: &[u8]) -> Answer
+/// What is answered to what was asked for, where that needs no threads.
+pub(crate) fn answer_alone(alloc: Global, asked: Result<Task, Answer>) -> Answer
+    requires sound { IfOk asked IsSoundTask }
+    requires alone { IfOk asked (λ t. is_threaded t ≡ false) }
+    ensures { IsAnswerTo asked result.status (text_of result.text) }
+{
+    match asked {
+        Ok(task) => done_with(alloc, task),
+        Err(answer) => answer,
+    }
+}
+
+/// What a form asks for in the bytes of an input, or what is answered at once.
+pub(crate) fn ask_in(alloc: Global, form: Form, bytes: &[u8]) -> Result<Task, Answer>
     requires bytes { length bytes.now ≤ INPUT_LIMIT }
-    requires built { is_built (command_of form) ≡ true }
     requires limit { IsWithin form }
     requires reads { reads form ≡ true }
-    ensures { IsFoundIn form bytes.now result.status (text_of result.text) }
+    ensures asks { AsksIn form bytes.now result }
+    ensures sound { IfOk result IsSoundTask }
 {
     match task_of(alloc, form, bytes) {
-        Ok(task) => done_with(alloc, task),
-        Err(ScriptRefusal::Bad { line, kind }) => refused(alloc, line, kind),
-        Err(ScriptRefusal::NoMemory) => no_memory(),
+        Ok(task) => Ok(task),
+        Err(ScriptRefusal::Bad { line, kind }) => Err(refused(alloc, line, kind)),
+        Err(ScriptRefusal::NoMemory) => Err(no_memory()),
     }
 }

@@ -5,9 +5,8 @@ ghost use Rattle.nt_script.specs.Sound.{IsSound};
 ghost use Rattle.nt_script.specs.declared.reading.ScriptRefusal.{ScriptRefusal};
 ghost use Rattle.ntrun.specs.declared.task.Tail.{Tail};
 ghost use Rattle.ntrun.specs.declared.task.Task.{Task};
-ghost use Rattle.nt_words.specs.Commands.{is_built};
-ghost use Rattle.nt_words.specs.Forms.{IsTurns, IsWithin, command_of};
-ghost use Rattle.ntrun.specs.Tasks.{IsSoundTask, both_parts, last_line, reads, report_task, run_task, schedule_task, tail_task, tail_word, two_parts, task_of};
+ghost use Rattle.nt_words.specs.Forms.{IsTurns, IsWithin};
+ghost use Rattle.ntrun.specs.Tasks.{IsSoundTask, both_parts, last_line, live_task, reads, report_task, run_task, schedule_task, tail_task, tail_word, two_parts, task_of};
 
 use nt_event::History;
 use nt_log::{Schedule, read_schedule};
@@ -22,6 +21,8 @@ use std::alloc::Global;
 pub(crate) enum Task {
     /// The script is run by the robin rule, each processor making at most so many events.
     Run { input: Input, turns: u32 },
+    /// The script is run on threads, each processor making at most so many events.
+    Live { input: Input, turns: u32 },
     /// The turns of the schedule are taken.
     Replay { input: Input, schedule: Schedule },
     /// The history is checked.
@@ -62,7 +63,7 @@ fn last_line(bytes: &[u8]) -> u32
     number
 }
 
-/// A script alone, to be run.
+/// A script alone, to be run by the robin rule.
 fn to_run(alloc: Global, bytes: &[u8], turns: u32) -> Result<Task, ScriptRefusal>
     requires bytes { length bytes.now ≤ INPUT_LIMIT }
     requires limit { IsTurns turns }
@@ -71,6 +72,17 @@ fn to_run(alloc: Global, bytes: &[u8], turns: u32) -> Result<Task, ScriptRefusal
 {
     let input = read(alloc, bytes)?;
     Ok(Task::Run { input, turns })
+}
+
+/// A script alone, to be run on threads.
+fn to_live(alloc: Global, bytes: &[u8], turns: u32) -> Result<Task, ScriptRefusal>
+    requires bytes { length bytes.now ≤ INPUT_LIMIT }
+    requires limit { IsTurns turns }
+    ensures read { GivesRead result (live_task turns bytes.now) }
+    ensures sound { IfOk result IsSoundTask }
+{
+    let input = read(alloc, bytes)?;
+    Ok(Task::Live { input, turns })
 }
 
 /// The schedule behind a script that was read.
@@ -163,7 +175,6 @@ fn both_parts(alloc: Global, tail: Tail, bytes: &[u8]) -> Result<Task, ScriptRef
 /// What the form reads in the bytes, or the line that is refused: in a script, then in what stands behind it.
 pub(crate) fn task_of(alloc: Global, form: Form, bytes: &[u8]) -> Result<Task, ScriptRefusal>
     requires bytes { length bytes.now ≤ INPUT_LIMIT }
-    requires built { is_built (command_of form) ≡ true }
     requires limit { IsWithin form }
     requires reads { reads form ≡ true }
     ensures read { GivesRead result (task_of form bytes.now) }
@@ -171,8 +182,9 @@ pub(crate) fn task_of(alloc: Global, form: Form, bytes: &[u8]) -> Result<Task, S
 {
     match form {
         Form::Run { turns } => to_run(alloc, bytes, turns),
+        Form::Live { turns } => to_live(alloc, bytes, turns),
         Form::Replay => both_parts(alloc, Tail::Schedule, bytes),
         Form::Check => both_parts(alloc, Tail::Report, bytes),
-        Form::Live { .. } | Form::Load { .. } => unreachable!(),
+        Form::Load { .. } => unreachable!(),
     }
 }

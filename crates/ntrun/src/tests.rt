@@ -2,12 +2,16 @@
 //! forms from the words in to the bytes out. The programs machine_table, text_table and words_table have the worked rows of the parts.
 ghost use Rattle.std.specs.Prelude.{◌<◌};
 
-use crate::{Status, is_live, ntrun, plain};
+use crate::{Status, ntrun, plain};
 use nt_outside::{MemorySink, MemorySource, OpenGate};
 use nt_script::split_at;
 use nt_words::USAGE;
 use std::alloc::{AllocError, Global};
+use std::sync::Wait;
 use std::test::Fail;
+use std::thread::Threads;
+
+mod live;
 
 /// A thread raises the level, inserts a DPC object and lowers the level, and the DPC runs before the thread goes on.
 const RAISE_QUEUE_LOWER: &str =
@@ -29,16 +33,16 @@ fn put_words(given: &mut Vec<String>, alloc: Global, words: &[&str]) -> Result<(
 }
 
 /// What the program answers and writes over this source and this sink.
-fn program_over(
-    alloc: Global,
+fn program_over<R: AllocGlobal + Threads + Wait + Sync>(
+    rt: &R,
     words: &[&str],
     source: &mut MemorySource,
     sink: &mut MemorySink,
 ) -> Result<Found, AllocError> {
-    let mut given = Vec::new(alloc);
-    put_words(&mut given, alloc, words)?;
-    let status = ntrun(alloc, given.as_slice(), source, sink, &OpenGate);
-    Ok((status, sink.bytes().to_vec(alloc)?))
+    let mut given = Vec::new(rt.alloc());
+    put_words(&mut given, rt.alloc(), words)?;
+    let status = ntrun(rt, rt.alloc(), given.as_slice(), source, sink, &OpenGate);
+    Ok((status, sink.bytes().to_vec(rt.alloc())?))
 }
 
 /// A source of these bytes, whose calls of these numbers fail.
@@ -70,20 +74,24 @@ fn sound_world() -> World<'static> {
 }
 
 /// What the program answers and writes in this world.
-fn program_in(
-    alloc: Global,
+fn program_in<R: AllocGlobal + Threads + Wait + Sync>(
+    rt: &R,
     words: &[&str],
     input: &[u8],
     world: &World<'_>,
 ) -> Result<Found, AllocError> {
-    let mut source = source_of(alloc, input, world.source_fails)?;
-    let mut sink = sink_of(alloc, world.room, world.sink_fails)?;
-    program_over(alloc, words, &mut source, &mut sink)
+    let mut source = source_of(rt.alloc(), input, world.source_fails)?;
+    let mut sink = sink_of(rt.alloc(), world.room, world.sink_fails)?;
+    program_over(rt, words, &mut source, &mut sink)
 }
 
 /// What the program answers and writes where nothing fails.
-fn program(alloc: Global, words: &[&str], input: &[u8]) -> Result<Found, AllocError> {
-    program_in(alloc, words, input, &sound_world())
+fn program<R: AllocGlobal + Threads + Wait + Sync>(
+    rt: &R,
+    words: &[&str],
+    input: &[u8],
+) -> Result<Found, AllocError> {
+    program_in(rt, words, input, &sound_world())
 }
 
 /// Whether the status and the text are these.
@@ -92,21 +100,21 @@ fn is_found(found: &Found, status: Status, text: &[u8]) -> bool {
 }
 
 /// Whether the program with these words answers this status and writes this text.
-fn gives(
-    alloc: Global,
+fn gives<R: AllocGlobal + Threads + Wait + Sync>(
+    rt: &R,
     words: &[&str],
     input: &[u8],
     status: Status,
     text: &str,
 ) -> Result<bool, AllocError> {
-    let found = program(alloc, words, input)?;
+    let found = program(rt, words, input)?;
     Ok(is_found(&found, status, text.as_bytes()))
 }
 
 #[test]
 fn a_script_is_refused(rt: HostRuntime) -> Result<(), Fail> {
     let line = "script line 1: 10 TooMany cpus\n";
-    assert!(rt; gives(rt.alloc(), &["run"], b"cpus 9\n", Status::Script, line)?);
+    assert!(rt; gives(&rt, &["run"], b"cpus 9\n", Status::Script, line)?);
     Ok(())
 }
 
@@ -146,7 +154,7 @@ fn ten_thousand_turns(rt: HostRuntime) -> Result<(), Fail> {
     put_rounds(&mut wanted)?;
     assert!(rt;
         gives(
-            rt.alloc(),
+            &rt,
             &["run"],
             SELF_QUEUING.as_bytes(),
             Status::Ok,
@@ -157,14 +165,14 @@ fn ten_thousand_turns(rt: HostRuntime) -> Result<(), Fail> {
 }
 
 /// Whether a run in this world answers this status, and this stands in the sink then.
-fn runs_in(
-    alloc: Global,
+fn runs_in<R: AllocGlobal + Threads + Wait + Sync>(
+    rt: &R,
     world: &World<'_>,
     status: Status,
     text: &str,
 ) -> Result<bool, AllocError> {
     let input = RAISE_QUEUE_LOWER.as_bytes();
-    let found = program_in(alloc, &["run"], input, world)?;
+    let found = program_in(rt, &["run"], input, world)?;
     Ok(is_found(&found, status, text.as_bytes()))
 }
 
@@ -177,7 +185,7 @@ fn the_sink_fails_at_its_third_call(rt: HostRuntime) -> Result<(), Fail> {
         sink_fails: &[2],
         ..sound_world()
     };
-    assert!(rt; runs_in(rt.alloc(), &world, Status::Write, FRONT)?);
+    assert!(rt; runs_in(&rt, &world, Status::Write, FRONT)?);
     Ok(())
 }
 
@@ -187,7 +195,7 @@ fn the_sink_is_full(rt: HostRuntime) -> Result<(), Fail> {
         room: 32,
         ..sound_world()
     };
-    assert!(rt; runs_in(rt.alloc(), &world, Status::Write, FRONT)?);
+    assert!(rt; runs_in(&rt, &world, Status::Write, FRONT)?);
     Ok(())
 }
 
@@ -197,7 +205,7 @@ fn the_source_fails_at_its_second_call(rt: HostRuntime) -> Result<(), Fail> {
         source_fails: &[1],
         ..sound_world()
     };
-    assert!(rt; runs_in(rt.alloc(), &world, Status::Read, "read fault\n")?);
+    assert!(rt; runs_in(&rt, &world, Status::Read, "read fault\n")?);
     Ok(())
 }
 
@@ -208,13 +216,13 @@ fn the_source_and_the_sink_fail(rt: HostRuntime) -> Result<(), Fail> {
         sink_fails: &[0],
         ..sound_world()
     };
-    assert!(rt; runs_in(rt.alloc(), &both, Status::Write, "")?);
+    assert!(rt; runs_in(&rt, &both, Status::Write, "")?);
     let later = World {
         source_fails: &[5],
         sink_fails: &[1],
         ..sound_world()
     };
-    assert!(rt; runs_in(rt.alloc(), &later, Status::Read, "read fault\n")?);
+    assert!(rt; runs_in(&rt, &later, Status::Read, "read fault\n")?);
     Ok(())
 }
 
@@ -250,32 +258,43 @@ fn came_of(found: &Found, status: Status, told: &[u8], form: &Form<'_>) -> Outco
 }
 
 /// What comes of the form where this call of its source fails.
-fn read_fails(alloc: Global, form: &Form<'_>, call: u16) -> Result<Outcome, AllocError> {
+fn read_fails<R: AllocGlobal + Threads + Wait + Sync>(
+    rt: &R,
+    form: &Form<'_>,
+    call: u16,
+) -> Result<Outcome, AllocError> {
     let fails = [u64::from(call)];
     let world = World {
         source_fails: fails.as_slice(),
         ..sound_world()
     };
-    let found = program_in(alloc, form.words, form.input, &world)?;
+    let found = program_in(rt, form.words, form.input, &world)?;
     Ok(came_of(&found, Status::Read, b"read fault\n", form))
 }
 
 /// What comes of the form where this call of its sink fails: what the calls before it took stands in the sink, 16 bytes each.
-fn write_fails(alloc: Global, form: &Form<'_>, call: u16) -> Result<Outcome, AllocError> {
+fn write_fails<R: AllocGlobal + Threads + Wait + Sync>(
+    rt: &R,
+    form: &Form<'_>,
+    call: u16,
+) -> Result<Outcome, AllocError> {
     let fails = [u64::from(call)];
     let world = World {
         sink_fails: fails.as_slice(),
         ..sound_world()
     };
-    let found = program_in(alloc, form.words, form.input, &world)?;
+    let found = program_in(rt, form.words, form.input, &world)?;
     let taken = (usize::from(call) * 16).min(form.text.len());
     Ok(came_of(&found, Status::Write, &form.text[..taken], form))
 }
 
 /// How many calls of the form's source can fail, each of which is told. None where one is not.
-fn failing_reads(alloc: Global, form: &Form<'_>) -> Result<Option<u16>, AllocError> {
+fn failing_reads<R: AllocGlobal + Threads + Wait + Sync>(
+    rt: &R,
+    form: &Form<'_>,
+) -> Result<Option<u16>, AllocError> {
     for call in 0..1000u16 {
-        match read_fails(alloc, form, call)? {
+        match read_fails(rt, form, call)? {
             Outcome::Told => {}
             Outcome::NotMade => return Ok(Some(call)),
             Outcome::Other => return Ok(None),
@@ -285,9 +304,12 @@ fn failing_reads(alloc: Global, form: &Form<'_>) -> Result<Option<u16>, AllocErr
 }
 
 /// How many calls of the form's sink can fail, each of which is told. None where one is not.
-fn failing_writes(alloc: Global, form: &Form<'_>) -> Result<Option<u16>, AllocError> {
+fn failing_writes<R: AllocGlobal + Threads + Wait + Sync>(
+    rt: &R,
+    form: &Form<'_>,
+) -> Result<Option<u16>, AllocError> {
     for call in 0..1000u16 {
-        match write_fails(alloc, form, call)? {
+        match write_fails(rt, form, call)? {
             Outcome::Told => {}
             Outcome::NotMade => return Ok(Some(call)),
             Outcome::Other => return Ok(None),
@@ -309,8 +331,8 @@ fn each_call_of_a_run_fails(rt: HostRuntime) -> Result<(), Fail> {
         status: Status::Ok,
         text: RAISED_REPORT.as_bytes(),
     };
-    assert_eq!(rt; failing_reads(rt.alloc(), &form)?, Some(8));
-    assert_eq!(rt; failing_writes(rt.alloc(), &form)?, Some(25));
+    assert_eq!(rt; failing_reads(&rt, &form)?, Some(8));
+    assert_eq!(rt; failing_writes(&rt, &form)?, Some(25));
     Ok(())
 }
 
@@ -322,8 +344,8 @@ fn each_call_of_a_refused_script_fails(rt: HostRuntime) -> Result<(), Fail> {
         status: Status::Script,
         text: b"script line 1: 10 TooMany cpus\n",
     };
-    assert_eq!(rt; failing_reads(rt.alloc(), &form)?, Some(2));
-    assert_eq!(rt; failing_writes(rt.alloc(), &form)?, Some(2));
+    assert_eq!(rt; failing_reads(&rt, &form)?, Some(2));
+    assert_eq!(rt; failing_writes(&rt, &form)?, Some(2));
     Ok(())
 }
 
@@ -340,8 +362,8 @@ fn each_call_of_a_replay_fails(rt: HostRuntime) -> Result<(), Fail> {
         status: Status::Ok,
         text: ONE_TURN_REPORT.as_bytes(),
     };
-    assert_eq!(rt; failing_reads(rt.alloc(), &form)?, Some(4));
-    assert_eq!(rt; failing_writes(rt.alloc(), &form)?, Some(3));
+    assert_eq!(rt; failing_reads(&rt, &form)?, Some(4));
+    assert_eq!(rt; failing_writes(&rt, &form)?, Some(3));
     Ok(())
 }
 
@@ -353,8 +375,8 @@ fn each_call_of_a_check_fails(rt: HostRuntime) -> Result<(), Fail> {
         status: Status::Ok,
         text: b"legal\n",
     };
-    assert_eq!(rt; failing_reads(rt.alloc(), &form)?, Some(6));
-    assert_eq!(rt; failing_writes(rt.alloc(), &form)?, Some(1));
+    assert_eq!(rt; failing_reads(&rt, &form)?, Some(6));
+    assert_eq!(rt; failing_writes(&rt, &form)?, Some(1));
     Ok(())
 }
 
@@ -366,36 +388,34 @@ fn each_call_of_a_load_fails(rt: HostRuntime) -> Result<(), Fail> {
         status: Status::Ok,
         text: b"events 7823\ncalls 4096\nrefused 493\nbegins 1100\ncut 0\nwaits 0\n",
     };
-    assert_eq!(rt; failing_reads(rt.alloc(), &form)?, Some(0));
-    assert_eq!(rt; failing_writes(rt.alloc(), &form)?, Some(4));
+    assert_eq!(rt; failing_reads(&rt, &form)?, Some(0));
+    assert_eq!(rt; failing_writes(&rt, &form)?, Some(4));
     Ok(())
 }
 
 /// Whether these words are no form. The source, whose first call fails, is not called.
-fn is_no_form(alloc: Global, words: &[&str]) -> Result<bool, AllocError> {
+fn is_no_form<R: AllocGlobal + Threads + Wait + Sync>(
+    rt: &R,
+    words: &[&str],
+) -> Result<bool, AllocError> {
     let world = World {
         source_fails: &[0],
         ..sound_world()
     };
-    let found = program_in(alloc, words, b"cpus 1\n", &world)?;
+    let found = program_in(rt, words, b"cpus 1\n", &world)?;
     Ok(is_found(&found, Status::Usage, USAGE.as_bytes()))
 }
 
 #[test]
 fn other_words_are_no_form(rt: HostRuntime) -> Result<(), Fail> {
-    assert!(rt; is_no_form(rt.alloc(), &[])?);
-    assert!(rt; is_no_form(rt.alloc(), &["live"])?);
-    assert!(rt; is_no_form(rt.alloc(), &["--help"])?);
-    assert!(rt; is_no_form(rt.alloc(), &["run", "run"])?);
-    assert!(rt; is_no_form(rt.alloc(), &["run", "--turns", "0"])?);
-    assert!(rt; is_no_form(rt.alloc(), &["replay", "--turns", "5"])?);
-    Ok(())
-}
-
-#[test]
-fn live_is_not_built(rt: HostRuntime) -> Result<(), Fail> {
-    let words = [String::from_str(rt.alloc(), "live")?];
-    assert!(rt; !is_live(words.as_slice()));
+    assert!(rt; is_no_form(&rt, &[])?);
+    assert!(rt; is_no_form(&rt, &["live", "--turns", "0"])?);
+    assert!(rt; is_no_form(&rt, &["live", "--seed", "1"])?);
+    assert!(rt; is_no_form(&rt, &["run", "live"])?);
+    assert!(rt; is_no_form(&rt, &["--help"])?);
+    assert!(rt; is_no_form(&rt, &["run", "run"])?);
+    assert!(rt; is_no_form(&rt, &["run", "--turns", "0"])?);
+    assert!(rt; is_no_form(&rt, &["replay", "--turns", "5"])?);
     Ok(())
 }
 
@@ -457,15 +477,15 @@ fn put_lines(input: &mut String, lines: &[&str]) -> Result<(), AllocError> {
 }
 
 /// Whether `replay` of that script with this schedule behind it answers this status and writes this text.
-fn replay_gives(
-    alloc: Global,
+fn replay_gives<R: AllocGlobal + Threads + Wait + Sync>(
+    rt: &R,
     schedule: &str,
     status: Status,
     text: &str,
 ) -> Result<bool, AllocError> {
-    let mut input = String::new(alloc);
+    let mut input = String::new(rt.alloc());
     put_lines(&mut input, &[IDLE_TARGET, schedule])?;
-    gives(alloc, &["replay"], input.as_bytes(), status, text)
+    gives(rt, &["replay"], input.as_bytes(), status, text)
 }
 
 /// A schedule is replayed: its report is written, with status 0.
@@ -473,62 +493,59 @@ fn replay_gives(
 fn a_schedule_is_replayed(rt: HostRuntime) -> Result<(), Fail> {
     let mut wanted = String::new(rt.alloc());
     put_lines(&mut wanted, &[IDLE_TARGET_EVENTS, IDLE_TARGET_SCHEDULE])?;
-    assert!(rt;
-        replay_gives(
-            rt.alloc(),
-            IDLE_TARGET_SCHEDULE,
-            Status::Ok,
-            wanted.as_str()
-        )?
-    );
+    assert!(rt; replay_gives(&rt, IDLE_TARGET_SCHEDULE, Status::Ok, wanted.as_str())?);
     Ok(())
 }
 
 /// Whether the turns of this schedule make no settled run; the line tells the place of the turn and why it is refused.
-fn turns_are_no_run(alloc: Global, schedule: &str, line: &str) -> Result<bool, AllocError> {
-    replay_gives(alloc, schedule, Status::Schedule, line)
+fn turns_are_no_run<R: AllocGlobal + Threads + Wait + Sync>(
+    rt: &R,
+    schedule: &str,
+    line: &str,
+) -> Result<bool, AllocError> {
+    replay_gives(rt, schedule, Status::Schedule, line)
 }
 
 #[test]
 fn turns_are_refused(rt: HostRuntime) -> Result<(), Fail> {
     assert!(rt;
         turns_are_no_run(
-            rt.alloc(),
+            &rt,
             "schedule 10000\nswitch 0 a\nnext 1\nnext 0\nnext 0\nlook 1 2=18446744073709551615\ndone\n",
             "schedule turn 4: 3 BadLook\n",
         )?
     );
     assert!(rt;
         turns_are_no_run(
-            rt.alloc(),
+            &rt,
             "schedule 10000\nswitch 0 a\nnext 1\nnext 0\ndone\n",
             "schedule turn 3: 5 Unfinished\n",
         )?
     );
     assert!(rt;
         turns_are_no_run(
-            rt.alloc(),
+            &rt,
             "schedule 10000\ndone\n",
             "schedule turn 0: 5 Unfinished\n",
         )?
     );
     assert!(rt;
         turns_are_no_run(
-            rt.alloc(),
+            &rt,
             "schedule 1\nswitch 0 a\nnext 1\nnext 0\ndone\n",
             "schedule turn 2: 2 NothingToDo\n",
         )?
     );
     assert!(rt;
         turns_are_no_run(
-            rt.alloc(),
+            &rt,
             "schedule 10000\nnext 2\ndone\n",
             "schedule turn 0: 1 NoSuchCpu\n",
         )?
     );
     assert!(rt;
         turns_are_no_run(
-            rt.alloc(),
+            &rt,
             "schedule 10000\nswitch 1 a\nnext 2\ndone\n",
             "schedule turn 0: 4 BadChoice\n",
         )?
@@ -537,45 +554,43 @@ fn turns_are_refused(rt: HostRuntime) -> Result<(), Fail> {
 }
 
 /// Whether a line of the script with this schedule behind it is refused so, numbered in the whole input.
-fn line_is_bad(alloc: Global, schedule: &str, line: &str) -> Result<bool, AllocError> {
-    replay_gives(alloc, schedule, Status::Script, line)
+fn line_is_bad<R: AllocGlobal + Threads + Wait + Sync>(
+    rt: &R,
+    schedule: &str,
+    line: &str,
+) -> Result<bool, AllocError> {
+    replay_gives(rt, schedule, Status::Script, line)
 }
 
 /// Lines of the script are refused first, then lines of the schedule.
 #[test]
 fn schedules_are_refused(rt: HostRuntime) -> Result<(), Fail> {
+    assert!(rt; line_is_bad(&rt, "schedule 0\ndone\n", "script line 10: 5 BadNumber\n")?);
     assert!(rt;
         line_is_bad(
-            rt.alloc(),
-            "schedule 0\ndone\n",
-            "script line 10: 5 BadNumber\n"
-        )?
-    );
-    assert!(rt;
-        line_is_bad(
-            rt.alloc(),
+            &rt,
             "schedule 10000\nlook 1 2=0\ndone\n",
             "script line 11: 5 BadNumber\n",
         )?
     );
     assert!(rt;
         line_is_bad(
-            rt.alloc(),
+            &rt,
             "schedule 10000\nlook 1 12=4\ndone\n",
             "script line 11: 5 BadNumber\n",
         )?
     );
     assert!(rt;
         line_is_bad(
-            rt.alloc(),
+            &rt,
             "schedule 10000\nnext 0\n",
             "script line 12: 11 NoEnd\n",
         )?
     );
-    assert!(rt; line_is_bad(rt.alloc(), "", "script line 10: 11 NoEnd\n")?);
+    assert!(rt; line_is_bad(&rt, "", "script line 10: 11 NoEnd\n")?);
     assert!(rt;
         line_is_bad(
-            rt.alloc(),
+            &rt,
             "isr 0 5 q\nschedule 0\n",
             "script line 10: 2 UnknownWord\n",
         )?
@@ -591,33 +606,9 @@ const TWO_TURNS: &str =
 #[test]
 fn a_turn_limit_is_given(rt: HostRuntime) -> Result<(), Fail> {
     let input = SELF_QUEUING.as_bytes();
-    assert!(rt;
-        gives(
-            rt.alloc(),
-            &["run", "--turns=2"],
-            input,
-            Status::Ok,
-            TWO_TURNS
-        )?
-    );
-    assert!(rt;
-        gives(
-            rt.alloc(),
-            &["run", "--turns", "2"],
-            input,
-            Status::Ok,
-            TWO_TURNS
-        )?
-    );
-    assert!(rt;
-        gives(
-            rt.alloc(),
-            &["--turns=2", "run"],
-            input,
-            Status::Ok,
-            TWO_TURNS
-        )?
-    );
+    assert!(rt; gives(&rt, &["run", "--turns=2"], input, Status::Ok, TWO_TURNS)?);
+    assert!(rt; gives(&rt, &["run", "--turns", "2"], input, Status::Ok, TWO_TURNS)?);
+    assert!(rt; gives(&rt, &["--turns=2", "run"], input, Status::Ok, TWO_TURNS)?);
     Ok(())
 }
 
@@ -633,10 +624,14 @@ fn put_schedule(input: &mut Vec<u8>, report: &[u8]) -> Result<(), AllocError> {
 }
 
 /// Whether the schedule part of this report, behind its script, is replayed to the same bytes.
-fn is_replayed(alloc: Global, report: &[u8]) -> Result<bool, AllocError> {
-    let mut input = SELF_QUEUING.as_bytes().to_vec(alloc)?;
+fn is_replayed<R: AllocGlobal + Threads + Wait + Sync>(
+    rt: &R,
+    script: &str,
+    report: &[u8],
+) -> Result<bool, AllocError> {
+    let mut input = script.as_bytes().to_vec(rt.alloc())?;
     put_schedule(&mut input, report)?;
-    let again = program(alloc, &["replay"], input.as_slice())?;
+    let again = program(rt, &["replay"], input.as_slice())?;
     Ok(is_found(&again, Status::Ok, report))
 }
 
@@ -644,9 +639,9 @@ fn is_replayed(alloc: Global, report: &[u8]) -> Result<bool, AllocError> {
 #[test]
 fn a_report_is_replayed(rt: HostRuntime) -> Result<(), Fail> {
     let words = ["run", "--turns", "500"];
-    let ran = program(rt.alloc(), &words, SELF_QUEUING.as_bytes())?;
+    let ran = program(&rt, &words, SELF_QUEUING.as_bytes())?;
     assert_eq!(rt; ran.0, Status::Ok);
-    assert!(rt; is_replayed(rt.alloc(), ran.1.as_slice())?);
+    assert!(rt; is_replayed(&rt, SELF_QUEUING, ran.1.as_slice())?);
     Ok(())
 }
 
@@ -665,21 +660,21 @@ const TURNS: &str =
     "schedule 10000\nswitch 0 main\nnext 0\nnext 0\nnext 0\nnext 0\nnext 0\nnext 0\nnext 0\nnext 0\nnext 0\n";
 
 /// Whether `check` of that script with these lines behind it answers this status and writes this text.
-fn check_gives(
-    alloc: Global,
+fn check_gives<R: AllocGlobal + Threads + Wait + Sync>(
+    rt: &R,
     lines: &[&str],
     status: Status,
     text: &str,
 ) -> Result<bool, AllocError> {
-    let mut input = String::from_str(alloc, RAISE_QUEUE_LOWER)?;
+    let mut input = String::from_str(rt.alloc(), RAISE_QUEUE_LOWER)?;
     put_lines(&mut input, lines)?;
-    gives(alloc, &["check"], input.as_bytes(), status, text)
+    gives(rt, &["check"], input.as_bytes(), status, text)
 }
 
 #[test]
 fn a_legal_report_is_checked(rt: HostRuntime) -> Result<(), Fail> {
     let lines = [RAISED, LOWERED, DELIVERED, RESTED, TURNS, "next 0\ndone\n"];
-    assert!(rt; check_gives(rt.alloc(), &lines, Status::Ok, "legal\n")?);
+    assert!(rt; check_gives(&rt, &lines, Status::Ok, "legal\n")?);
     Ok(())
 }
 
@@ -688,23 +683,16 @@ fn a_legal_report_is_checked(rt: HostRuntime) -> Result<(), Fail> {
 fn illegal_reports_are_checked(rt: HostRuntime) -> Result<(), Fail> {
     let higher = "3 p0 main 1 call 0 lower 0 -> done\n";
     let wrong = [RAISED, higher, DELIVERED, RESTED, TURNS, "next 0\ndone\n"];
-    assert!(rt; check_gives(rt.alloc(), &wrong, Status::Illegal, "illegal at 3\n")?);
+    assert!(rt; check_gives(&rt, &wrong, Status::Illegal, "illegal at 3\n")?);
     let unfinished = [RAISED, LOWERED, DELIVERED, TURNS, "done\n"];
-    assert!(rt; check_gives(rt.alloc(), &unfinished, Status::Illegal, "illegal at 10\n")?);
+    assert!(rt; check_gives(&rt, &unfinished, Status::Illegal, "illegal at 10\n")?);
     Ok(())
 }
 
 /// The report isn't there, or a line of it is refused.
 #[test]
 fn reports_are_refused(rt: HostRuntime) -> Result<(), Fail> {
-    assert!(rt;
-        check_gives(
-            rt.alloc(),
-            &[],
-            Status::Script,
-            "script line 12: 11 NoEnd\n"
-        )?
-    );
+    assert!(rt; check_gives(&rt, &[], Status::Script, "script line 12: 11 NoEnd\n")?);
     let cut = [
         RAISED,
         LOWERED,
@@ -714,24 +702,21 @@ fn reports_are_refused(rt: HostRuntime) -> Result<(), Fail> {
         TURNS,
         "next 0\ndone\n",
     ];
-    assert!(rt;
-        check_gives(
-            rt.alloc(),
-            &cut,
-            Status::Script,
-            "script line 24: 12 WrongKind\n"
-        )?
-    );
+    assert!(rt; check_gives(&rt, &cut, Status::Script, "script line 24: 12 WrongKind\n")?);
     Ok(())
 }
 
 /// Whether these words give this summary of a seed's load. The source, whose first call fails, is not called.
-fn load_gives(alloc: Global, words: &[&str], text: &str) -> Result<bool, AllocError> {
+fn load_gives<R: AllocGlobal + Threads + Wait + Sync>(
+    rt: &R,
+    words: &[&str],
+    text: &str,
+) -> Result<bool, AllocError> {
     let world = World {
         source_fails: &[0],
         ..sound_world()
     };
-    let found = program_in(alloc, words, b"", &world)?;
+    let found = program_in(rt, words, b"", &world)?;
     Ok(is_found(&found, Status::Ok, text.as_bytes()))
 }
 
@@ -739,8 +724,8 @@ fn load_gives(alloc: Global, words: &[&str], text: &str) -> Result<bool, AllocEr
 #[test]
 fn a_load_is_summed_up(rt: HostRuntime) -> Result<(), Fail> {
     let wanted = "events 7823\ncalls 4096\nrefused 493\nbegins 1100\ncut 0\nwaits 0\n";
-    assert!(rt; load_gives(rt.alloc(), &["load", "--seed", "1"], wanted)?);
-    assert!(rt; load_gives(rt.alloc(), &["--seed=1", "load"], wanted)?);
+    assert!(rt; load_gives(&rt, &["load", "--seed", "1"], wanted)?);
+    assert!(rt; load_gives(&rt, &["--seed=1", "load"], wanted)?);
     Ok(())
 }
 

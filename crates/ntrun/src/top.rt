@@ -1,18 +1,20 @@
 //! The top call: from the words and the bytes in to the bytes out.
-ghost use Rattle.std.specs.Prelude.{◌≡◌, ◌≢◌, false, map, true, string_bytes};
-ghost use Rattle.ntrun.specs.Answer.{text_of};
-ghost use Rattle.nt_words.specs.Commands.{is_built};
-ghost use Rattle.nt_words.specs.Forms.{IsWithin, command_of};
-ghost use Rattle.ntrun.specs.Outcome.{supply, store, memory_line, IsFound, IsFoundBy, IsFoundFrom, IsWritten, IsAnswered, HasCause};
-ghost use Rattle.ntrun.specs.Tasks.{reads};
-ghost use Rattle.ntrun.specs.Words.{is_live};
+ghost use Rattle.std.specs.Prelude.{◌≡◌, ◌≢◌, IfOk, false, map, true, string_bytes};
+ghost use Rattle.nt_words.specs.Forms.{IsWithin, names_live};
+ghost use Rattle.ntrun.specs.Answer.{Asks, AsksBy, AsksFrom, text_of};
+ghost use Rattle.ntrun.specs.Outcome.{supply, store, memory_line, IsWritten, IsAnswered, HasCause};
+ghost use Rattle.ntrun.specs.Tasks.{IsSoundTask, reads};
 
-use crate::answer::{Answer, Text, find_in, loaded, no_memory};
+use crate::answer::{Answer, Text, answer_alone, ask_in, loaded, no_memory};
 use crate::status::Status;
+use crate::task::Task;
+use crate::threads::answer_on_threads;
 use nt_outside::{Gate, ReadRefusal, Sink, Source, WriteFault, read_all, write_all};
 use nt_text::INPUT_LIMIT;
-use nt_words::{Form, USAGE, WordsRefusal, form_of, words_have_one_form};
+use nt_words::{Form, USAGE, WordsRefusal, form_of, is_live, words_have_one_form};
 use std::alloc::Global;
+use std::sync::Wait;
+use std::thread::Threads;
 
 /// A status with a line that never changes.
 fn line(status: Status, text: &'static str) -> Answer
@@ -25,44 +27,45 @@ fn line(status: Status, text: &'static str) -> Answer
     }
 }
 
-/// What a form finds from the source.
-fn find_from<S: Source>(alloc: Global, form: Form, source: &mut S) -> Answer
-    requires built { is_built (command_of form) ≡ true }
+/// What a form asks for from the source, or what is answered at once.
+fn ask_from<S: Source>(alloc: Global, form: Form, source: &mut S) -> Result<Task, Answer>
     requires limit { IsWithin form }
     requires reads { reads form ≡ true }
-    ensures { IsFoundFrom form (supply (S.left source.old) (S.taken source.old) (S.faults source.old)) (supply (S.left source.new) (S.taken source.new) (S.faults source.new)) result.status (text_of result.text) }
+    ensures asks { AsksFrom form (supply (S.left source.old) (S.taken source.old) (S.faults source.old)) (supply (S.left source.new) (S.taken source.new) (S.faults source.new)) result }
+    ensures sound { IfOk result IsSoundTask }
 {
     match read_all(alloc, source, INPUT_LIMIT) {
-        Ok(bytes) => find_in(alloc, form, bytes.as_slice()),
-        Err(ReadRefusal::Fault) => line(Status::Read, "read fault\n"),
-        Err(ReadRefusal::TooLong) => line(Status::TooLong, "input too long\n"),
-        Err(ReadRefusal::NoMemory) => no_memory(),
+        Ok(bytes) => ask_in(alloc, form, bytes.as_slice()),
+        Err(ReadRefusal::Fault) => Err(line(Status::Read, "read fault\n")),
+        Err(ReadRefusal::TooLong) => Err(line(Status::TooLong, "input too long\n")),
+        Err(ReadRefusal::NoMemory) => Err(no_memory()),
     }
 }
 
-/// What a form finds. Where it is a load, nothing is read.
-fn find_by<S: Source>(alloc: Global, form: Form, source: &mut S) -> Answer
-    requires built { is_built (command_of form) ≡ true }
-    requires limit { IsWithin form }
-    ensures { IsFoundBy form (supply (S.left source.old) (S.taken source.old) (S.faults source.old)) (supply (S.left source.new) (S.taken source.new) (S.faults source.new)) result.status (text_of result.text) }
+/// What a form asks for, or what is answered at once. Where it is a load, nothing is read.
+fn ask_by<S: Source>(alloc: Global, form: Form, source: &mut S) -> Result<Task, Answer>
+    requires { IsWithin form }
+    ensures asks { AsksBy form (supply (S.left source.old) (S.taken source.old) (S.faults source.old)) (supply (S.left source.new) (S.taken source.new) (S.faults source.new)) result }
+    ensures sound { IfOk result IsSoundTask }
 {
     match form {
-        Form::Run { .. } => find_from(alloc, form, source),
-        Form::Replay => find_from(alloc, form, source),
-        Form::Check => find_from(alloc, form, source),
-        Form::Live { .. } => unreachable!(),
-        Form::Load { seed, turns } => loaded(alloc, seed, turns),
+        Form::Run { .. } => ask_from(alloc, form, source),
+        Form::Live { .. } => ask_from(alloc, form, source),
+        Form::Replay => ask_from(alloc, form, source),
+        Form::Check => ask_from(alloc, form, source),
+        Form::Load { seed, turns } => Err(loaded(alloc, seed, turns)),
     }
 }
 
-/// What is found from the words and the source. Where the words are no form, nothing is read.
-fn find<S: Source>(alloc: Global, words: &[String], source: &mut S) -> Answer
-    ensures { IsFound (map string_bytes words.now) (supply (S.left source.old) (S.taken source.old) (S.faults source.old)) (supply (S.left source.new) (S.taken source.new) (S.faults source.new)) result.status (text_of result.text) }
+/// What the words and the source ask for, or what is answered at once. Where the words are no form, nothing is read.
+fn ask<S: Source>(alloc: Global, words: &[String], source: &mut S) -> Result<Task, Answer>
+    ensures asks { Asks (map string_bytes words.now) (supply (S.left source.old) (S.taken source.old) (S.faults source.old)) (supply (S.left source.new) (S.taken source.new) (S.faults source.new)) result }
+    ensures sound { IfOk result IsSoundTask }
 {
     match form_of(alloc, words) {
-        Ok(form) => find_by(alloc, form, source),
-        Err(WordsRefusal::NoForm) => line(Status::Usage, USAGE),
-        Err(WordsRefusal::NoMemory) => no_memory(),
+        Ok(form) => ask_by(alloc, form, source),
+        Err(WordsRefusal::NoForm) => Err(line(Status::Usage, USAGE)),
+        Err(WordsRefusal::NoMemory) => Err(no_memory()),
     }
 }
 
@@ -84,8 +87,8 @@ pub(crate) fn starved<K: Sink>(sink: &mut K) -> Status
     write(&no_memory(), sink)
 }
 
-/// The program for all words that are no live form: `words` are those behind the program's name. It waits for nobody
-/// and returns.
+/// The program for words of which none is `live`: `words` are those behind the program's name. It waits for nobody and
+/// returns.
 ///
 /// The forms are `run`, `replay`, `check` and `load`. In this order: `Usage` exactly where the words are no form, and
 /// then nothing is read. `load` reads nothing either: its status is `Ok` and its text the summary of the robin run of
@@ -103,27 +106,40 @@ pub fn plain<S: Source, K: Sink>(
     source: &mut S,
     sink: &mut K,
 ) -> Status
-    requires { is_live (map string_bytes words.now) ≡ false }
+    requires { names_live (map string_bytes words.now) ≡ false }
     ensures answered { IsAnswered (map string_bytes words.now) (supply (S.left source.old) (S.taken source.old) (S.faults source.old)) (supply (S.left source.new) (S.taken source.new) (S.faults source.new)) (store (K.held sink.old) (K.faults sink.old)) (store (K.held sink.new) (K.faults sink.new)) result }
     ensures causes { HasCause (map string_bytes words.now) (supply (S.left source.old) (S.taken source.old) (S.faults source.old)) (supply (S.left source.new) (S.taken source.new) (S.faults source.new)) (store (K.held sink.old) (K.faults sink.old)) (store (K.held sink.new) (K.faults sink.new)) result }
 {
     words_have_one_form();
-    let answer = find(alloc, words, source);
+    let asked = ask(alloc, words, source);
+    let answer = answer_alone(alloc, asked);
     write(&answer, sink)
 }
 
-/// The program: words are those behind its name, and what it writes goes to the sink.
+/// The program: `words` are those behind its name, and what it writes goes to the sink.
 ///
-/// It may wait where [`is_live`](crate::is_live) holds of the words.
-pub fn ntrun<S: Source, K: Sink, G: Gate + Sync>(
+/// The forms are those of [`plain`], which is called where none of the words is `live`, and `live`: its status comes as
+/// that of `run`, and with `Ok` the report of a settled run of the script is written, which the script's processors made
+/// on threads.
+///
+/// It may wait where [`is_live`](crate::is_live) holds of the words: each worker passes the gate before each of its
+/// turns, and takes the locks of the lanes that the turn touches. Then what is said here holds if it returns.
+pub fn ntrun<S: Source, K: Sink, G: Gate + Sync, R: Threads + Wait + Sync>(
+    rt: &R,
     alloc: Global,
     words: &[String],
     source: &mut S,
     sink: &mut K,
-    _gate: &G,
+    gate: &G,
 ) -> Status
     ensures answered { IsAnswered (map string_bytes words.now) (supply (S.left source.old) (S.taken source.old) (S.faults source.old)) (supply (S.left source.new) (S.taken source.new) (S.faults source.new)) (store (K.held sink.old) (K.faults sink.old)) (store (K.held sink.new) (K.faults sink.new)) result }
     ensures causes { HasCause (map string_bytes words.now) (supply (S.left source.old) (S.taken source.old) (S.faults source.old)) (supply (S.left source.new) (S.taken source.new) (S.faults source.new)) (store (K.held sink.old) (K.faults sink.old)) (store (K.held sink.new) (K.faults sink.new)) result }
 {
-    plain(alloc, words, source, sink)
+    if !is_live(words) {
+        return plain(alloc, words, source, sink);
+    }
+    words_have_one_form();
+    let asked = ask(alloc, words, source);
+    let answer = answer_on_threads(rt, alloc, asked, gate);
+    write(&answer, sink)
 }

@@ -1,18 +1,15 @@
-use Rattle.ntrun.specs.Answer.{text_of}
+use Rattle.ntrun.proofs.Asked.{answer_is_no_fault, answered, asks_alone}
 use Rattle.ntrun.proofs.Causes.{causes}
-use Rattle.ntrun.proofs.Written.{found_is_no_fault}
 use Rattle.ntrun.proofs.top.plain.Goals as goal
 
+pub answer_alone-answer-requires-clause-alone : goal.answer_alone-answer-requires-clause-alone
+answer_alone-answer-requires-clause-alone g c = asks_alone _ _ _ _ c.requires c.ask-asked.ensures.asks
+
 pub write-requires : goal.write-requires
-write-requires g c = found_is_no_fault _ _ _ _ _ c.find-answer.ensures
+write-requires g c = answer_is_no_fault _ _ _ _ c.answer_alone-answer.result c.ask-asked.ensures.asks c.answer_alone-answer.ensures
 
 pub returns-clause-answered : goal.returns-clause-answered
-returns-clause-answered g c = record {
-  found = c.find-answer.result.status;
-  text = text_of c.find-answer.result.text;
-  cause = c.find-answer.ensures;
-  written = c.write.ensures;
-}
+returns-clause-answered g c = answered _ _ _ _ _ _ c.answer_alone-answer.result _ c.ask-asked.ensures.asks c.answer_alone-answer.ensures c.write.ensures
 
 pub returns-clause-causes : goal.returns-clause-causes
 returns-clause-causes g c = causes c.words_have_one_form.ensures _ _ _ _ _ _ (returns-clause-answered g c)

@@ -5,19 +5,14 @@ use Rattle.nt_script.specs.declared.reading.ScriptRefusal.{ScriptRefusal}
 use Rattle.ntrun.specs.declared.task.Task.{Task}
 use Rattle.ntrun.specs.Answer.{text_of}
 use Rattle.ntrun.specs.Tasks.{task_of}
-use Rattle.ntrun.proofs.Found.{bad_refused, done_in, refused_in}
-use Rattle.ntrun.proofs.answer.find_in.Goals as goal
+use Rattle.ntrun.proofs.Found.{bad_refused, refused_in}
+use Rattle.ntrun.proofs.answer.ask_in.Goals as goal
 
 abbrev failed : ScriptRefusal → Result Task ScriptRefusal
 failed r = Err r
 
-pub returns-in-Ok : goal.returns-in-Ok
-returns-in-Ok c =
-    done_in c.args.form c.args.bytes.now c.in-Ok.task c.done_with.result.status (text_of c.done_with.result.text) c.in-Ok.ensures.read
-    c.done_with.ensures
-
-pub returns-in-Err-Bad : goal.returns-in-Err-Bad
-returns-in-Err-Bad c =
+pub returns-in-Err-Bad-clause-asks : goal.returns-in-Err-Bad-clause-asks
+returns-in-Err-Bad-clause-asks c =
     refused_in c.args.form c.args.bytes.now c.in-Err-Bad.line c.in-Err-Bad.kind c.refused.result.status (text_of c.refused.result.text)
     (bad_refused c.args.form c.args.bytes.now c.in-Err-Bad.line c.in-Err-Bad.kind
     (subst (λ (r : ScriptRefusal). GivesRead (failed r) (task_of c.args.form c.args.bytes.now)) c.in-Err-Bad.field-0-is c.in-Err-Bad.ensures.read))
