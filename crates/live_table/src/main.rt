@@ -1,0 +1,41 @@
+//! Processors on threads, one case a line of the input: a word, the turn limit and what more the case has in numbers, then `|`, and a
+//! script in which `/` stands for the end of a line. What is written for a case is what stands before `|`, and what was seen, which is the
+//! same in whatever order the threads get on.
+//!
+//! `meet`: two processors wait at a gate for each other. `follow`: one waits there for a later event of the other. `live`: the processors
+//! run on threads; the history is checked, and its turns are replayed. `load`: the same for the load of a seed, whose script isn't given.
+//! `pieces`: the workers work one after another on one thread, and what they made is gathered. `first`: only the first one works. `turn`:
+//! processor 0 takes up its first thread while a lane is held, by a gate that looks so many times for the end of that turn. `hold`: a
+//! second lane is held meanwhile. What is wanted stands in `stdout`.
+#![tactic(auto)]
+
+mod beginning;
+mod cases;
+mod flags;
+mod gates;
+mod lanes;
+mod outcomes;
+mod pieces;
+mod runs;
+
+use crate::cases::case_of;
+use crate::outcomes::outcome;
+use std::io;
+
+/// Writes what was seen of a case.
+fn put_seen(rt: &HostRuntime, head: &str, seen: &str) -> io::Result<()> {
+    println!(rt; "{head}: {seen}")
+}
+
+fn main(rt: HostRuntime) -> io::Result<()> {
+    for line in rt.lines(rt.alloc()) {
+        let entry = line?;
+        let (head, script) = entry.as_str().split_once('|').unwrap_or(("", ""));
+        let seen = match case_of(head) {
+            Some(case) => outcome(&rt, rt.alloc(), &case, script)?,
+            None => "no case",
+        };
+        put_seen(&rt, head, seen)?;
+    }
+    Ok(())
+}

@@ -1,0 +1,78 @@
+//! What is seen of a case.
+ghost use Rattle.std.specs.Prelude.{◌≤◌};
+ghost use Rattle.nt_event.specs.declared.limits.TheConstants.{TURNS};
+ghost use Rattle.nt_script.specs.Sound.{IsSound};
+
+use crate::cases::{Case, Task};
+use crate::lanes::{held_beside, turned_beside};
+use crate::pieces::{all_worked, first_worked};
+use crate::runs::{followed, lived, met};
+use nt_load::load_script;
+use nt_script::{Input, ScriptRefusal, read};
+use nt_text::INPUT_LIMIT;
+use std::alloc::{AllocError, Global};
+use std::sync::Wait;
+use std::thread::Threads;
+
+/// What is seen of the task, on this script.
+fn seen<R: Threads + Wait + Sync>(
+    rt: &R,
+    alloc: Global,
+    case: &Case,
+    input: &Input,
+) -> Result<&'static str, AllocError>
+    requires sound { IsSound input.now }
+{
+    let script = &input.script;
+    let limit = case.limit;
+    match case.task {
+        Task::Meet => met(rt, alloc, script, limit),
+        Task::Follow => followed(rt, alloc, script, limit),
+        Task::Live | Task::Load(_) => lived(rt, alloc, script, limit),
+        Task::Pieces => all_worked(rt, alloc, script, limit),
+        Task::First => first_worked(rt, alloc, script, limit),
+        Task::Turn(lane, looks) => turned_beside(rt, alloc, script, limit, lane, looks),
+        Task::Hold(first, second) => held_beside(rt, alloc, script, limit, first, second),
+    }
+}
+
+/// The text, with a line's end for each `/`.
+fn lines_of(alloc: Global, text: &str) -> Result<Vec<u8>, AllocError> {
+    let mut lines = Vec::new(alloc);
+    for byte in text.as_bytes() {
+        lines.push(if *byte == b'/' { b'\n' } else { *byte })?;
+    }
+    Ok(lines)
+}
+
+/// What is seen of the case, whose script has this text.
+fn text_seen<R: Threads + Wait + Sync>(
+    rt: &R,
+    alloc: Global,
+    case: &Case,
+    text: &[u8],
+) -> Result<&'static str, AllocError> {
+    if text.len() > INPUT_LIMIT {
+        return Ok("no script");
+    }
+    match read(alloc, text) {
+        Ok(input) => seen(rt, alloc, case, &input),
+        Err(ScriptRefusal::Bad { .. }) => Ok("no script"),
+        Err(ScriptRefusal::NoMemory) => Err(AllocError),
+    }
+}
+
+/// What is seen of the case, with this script, in which `/` stands for the end of a line.
+pub(crate) fn outcome<R: Threads + Wait + Sync>(
+    rt: &R,
+    alloc: Global,
+    case: &Case,
+    script: &str,
+) -> Result<&'static str, AllocError> {
+    if let Task::Load(seed) = case.task {
+        let input = load_script(alloc, seed)?;
+        return seen(rt, alloc, case, &input);
+    }
+    let text = lines_of(alloc, script)?;
+    text_seen(rt, alloc, case, text.as_slice())
+}

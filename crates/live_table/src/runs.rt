@@ -1,0 +1,130 @@
+//! Runs on threads.
+ghost use Rattle.std.specs.Prelude.{◌≡◌, ◌≤◌, ◌*◌, IsTrue};
+ghost use Rattle.nt_event.specs.declared.limits.TheConstants.{EVENTS, TURNS};
+ghost use Rattle.nt_event.specs.Script.{fits};
+
+use crate::flags::Flags;
+use crate::gates::{Following, Meeting};
+use nt_check::{Verdict, check};
+use nt_core::{ScheduleRefusal, replay};
+use nt_event::{CpuNo, Event, History, Script};
+use nt_live::live;
+use nt_log::turns_of;
+use nt_outside::OpenGate;
+use std::alloc::{AllocError, Global};
+use std::sync::Wait;
+use std::thread::Threads;
+
+/// Processors 0 and 1 meet at a gate before their second events.
+pub(crate) fn met<R: Threads + Wait + Sync>(
+    rt: &R,
+    alloc: Global,
+    script: &Script,
+    limit: u32,
+) -> Result<&'static str, AllocError>
+    requires script { IsTrue (fits script.now) }
+    requires turns { (1 ≤ limit) × (limit ≤ TURNS) }
+    requires all { script.now.cpus * limit ≤ EVENTS }
+{
+    let flags = Flags::new();
+    let _history = live(rt, alloc, script, limit, &Meeting { flags: &flags })?;
+    Ok(if flags.all_seen() {
+        "both passed at once"
+    } else {
+        "they didn't meet"
+    })
+}
+
+/// The place of a processor's event, where that many of its events stand before it.
+fn place_of(events: &[Event], cpu: CpuNo, before: u32) -> Option<usize> {
+    let mut left = before;
+    for at in 0..events.len() {
+        if events[at].cpu == cpu {
+            if left == 0 {
+                return Some(at);
+            }
+            left -= 1;
+        }
+    }
+    None
+}
+
+/// Whether the second event of processor 0 has a greater number than the fifth of processor 1.
+fn is_later(events: &[Event]) -> bool {
+    match (place_of(events, CpuNo(0), 1), place_of(events, CpuNo(1), 4)) {
+        (Some(second), Some(fifth)) => fifth < second,
+        _ => false,
+    }
+}
+
+/// Processor 0 waits at a gate before its second event until processor 1 made its fifth.
+pub(crate) fn followed<R: Threads + Wait + Sync>(
+    rt: &R,
+    alloc: Global,
+    script: &Script,
+    limit: u32,
+) -> Result<&'static str, AllocError>
+    requires script { IsTrue (fits script.now) }
+    requires turns { (1 ≤ limit) × (limit ≤ TURNS) }
+    requires all { script.now.cpus * limit ≤ EVENTS }
+{
+    let flags = Flags::new();
+    let history = live(rt, alloc, script, limit, &Following { flags: &flags })?;
+    if !flags.all_seen() {
+        return Ok("it didn't see the other");
+    }
+    Ok(if is_later(history.events.as_slice()) {
+        "its second event is behind the other's fifth"
+    } else {
+        "its second event is before the other's fifth"
+    })
+}
+
+/// Whether the turns of a history give it again.
+fn replayed(alloc: Global, script: &Script, history: &History) -> Result<&'static str, AllocError>
+    requires script { IsTrue (fits script.now) }
+    requires turns { (1 ≤ history.now.turns) × (history.now.turns ≤ TURNS) }
+    requires all { script.now.cpus * history.now.turns ≤ EVENTS }
+{
+    let schedule = turns_of(alloc, history)?;
+    match replay(alloc, script, history.turns, schedule.list.as_slice()) {
+        Ok(again) => Ok(if again.events.as_slice() == history.events.as_slice() {
+            "legal, and its turns give it again"
+        } else {
+            "its turns give another history"
+        }),
+        Err(ScheduleRefusal::Bad { .. }) => Ok("its turns are refused"),
+        Err(ScheduleRefusal::NoMemory) => Err(AllocError),
+    }
+}
+
+/// Whether a history is legal, and its turns give it again.
+pub(crate) fn judged(
+    alloc: Global,
+    script: &Script,
+    history: &History,
+) -> Result<&'static str, AllocError>
+    requires script { IsTrue (fits script.now) }
+    requires turns { (1 ≤ history.now.turns) × (history.now.turns ≤ TURNS) }
+    requires all { script.now.cpus * history.now.turns ≤ EVENTS }
+{
+    match check(alloc, script, history)? {
+        Verdict::Legal => replayed(alloc, script, history),
+        Verdict::IllegalAt(_) => Ok("illegal"),
+    }
+}
+
+/// The processors run on threads.
+pub(crate) fn lived<R: Threads + Wait + Sync>(
+    rt: &R,
+    alloc: Global,
+    script: &Script,
+    limit: u32,
+) -> Result<&'static str, AllocError>
+    requires script { IsTrue (fits script.now) }
+    requires turns { (1 ≤ limit) × (limit ≤ TURNS) }
+    requires all { script.now.cpus * limit ≤ EVENTS }
+{
+    let history = live(rt, alloc, script, limit, &OpenGate)?;
+    judged(alloc, script, &history)
+}
