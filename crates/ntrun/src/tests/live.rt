@@ -1,8 +1,9 @@
 //! `live`: its reports, its refusals, and that its processors turn in workers which wait for one another at the gate.
 
 use super::{
-    Found, IDLE_TARGET, RAISE_QUEUE_LOWER, SELF_QUEUING, World, gives, is_found, is_replayed,
-    program, program_in, sink_of, sound_world, source_of,
+    Form, Found, IDLE_TARGET, RAISE_QUEUE_LOWER, RAISED_REPORT, SELF_QUEUING, World, failing_reads,
+    failing_writes, gives, is_found, is_replayed, program, program_in, sink_of, sound_world,
+    source_of,
 };
 use crate::{Status, is_live, ntrun};
 use nt_outside::Gate;
@@ -57,6 +58,20 @@ fn live_refuses_as_run_does(rt: HostRuntime) -> Result<(), Fail> {
     };
     let found = program_in(&rt, &["live"], IDLE_TARGET.as_bytes(), &world)?;
     assert!(rt; is_found(&found, Status::Read, b"read fault\n"));
+    Ok(())
+}
+
+/// Each call of the source and of the sink fails in turn. One processor makes the one run that there is.
+#[test]
+fn each_call_of_a_live_run_fails(rt: HostRuntime) -> Result<(), Fail> {
+    let form = Form {
+        words: &["live"],
+        input: RAISE_QUEUE_LOWER.as_bytes(),
+        status: Status::Ok,
+        text: RAISED_REPORT.as_bytes(),
+    };
+    assert_eq!(rt; failing_reads(&rt, &form)?, Some(8));
+    assert_eq!(rt; failing_writes(&rt, &form)?, Some(25));
     Ok(())
 }
 
