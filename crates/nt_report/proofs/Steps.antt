@@ -1,6 +1,7 @@
 -- Steps of a reading, backwards.
-use Rattle.std.proofs.Common.{◌≡◌, ℕ, Bool, true, false, cond, List, [], ◌∷◌, Option, Some, None, Result, Ok, Err, refl, subst}
+use Rattle.std.proofs.Common.{◌≡◌, ◌<◌, ℕ, Bool, true, false, cond, List, [], ◌∷◌, length, Option, Some, None, Result, Ok, Err, refl, subst, arith}
 use Rattle.nt_text.specs.declared.kind.ScriptKind.{ScriptKind}
+use Rattle.nt_text.specs.declared.kind.ScriptKind.TheVariants.{ExtraField}
 use Rattle.nt_text.specs.Lines.{Row}
 use Rattle.nt_line.specs.Results.{◌>>=◌}
 use Rattle.nt_line.proofs.FieldTexts.{Takes}
@@ -33,6 +34,11 @@ one_fits {read = read} t row y e = let o = one_ok read row y e in t.fits o.0 y.0
 pub end_ok : {A : Type 0} (x y : A) (row : Row) → at_end x row ≡ Ok y → x ≡ y
 end_ok x y [] e = cc
 end_ok x y (f ∷ fs) e = absurd cc
+
+-- a field that is left is one too many
+pub extra : {A : Type 0} (x : A) (row : Row) → 0 < length row → at_end x row ≡ Err ExtraField
+extra x [] more = absurd (omega (arith, more))
+extra x (f ∷ fs) more = refl
 
 -- a test that guards a value
 pub kept : {A : Type 0} (b : Bool) (o : Option A) (y : A) → cond b o None ≡ Some y → (b ≡ true) × (o ≡ Some y)

@@ -3,3 +3,4 @@ pub mod Fields
 pub mod Events
 pub mod Walked
 pub mod Reading
+pub mod LineInputs

@@ -5,6 +5,7 @@ ghost use Rattle.nt_report.specs.Fields.{Reads, one_field};
 ghost use Rattle.nt_report.specs.Events.{begun, begun_of, command, delay_key, event_line, expired, read_begun_word, read_event_word, read_verb, timer_key, what, what_of};
 
 use crate::fields::{class, event, level, processor, replied, running, status, thread, used, word};
+use crate::line_input::LineInput;
 use crate::words::{BegunWord, EventWord, begun_word, event_word};
 use nt_event::{ApcNo, Begun, Command, DpcNo, Event, TimerKey, What};
 use nt_line::{Keyword, Names, Verb, fields, keyword_of};
@@ -168,19 +169,21 @@ fn what(names: &Names, cpus: u8, row: &mut Fields) -> Result<What, ScriptKind>
 }
 
 /// The event of a line, and the number that the line gives it: the first field, and those behind it.
-pub(crate) fn event_line(
-    names: &Names,
-    cpus: u8,
+#[tactic(auto, using(crate::proofs::Steps::extra))]
+pub(crate) fn event_line<'a>(
+    input: &mut LineInput<'a>,
     number: &[u8],
-    row: &mut Fields,
+    row: &mut Fields<'a>,
 ) -> Result<EventLine, ScriptKind>
-    ensures { result ≡ event_line names.now cpus number.now row.old }
+    ensures line { result ≡ event_line input.old.names input.old.script.cpus number.now row.old }
+    ensures input { input.new ≡ input.old }
 {
     let number = u64::from(fields::number(number, u32::MAX)?);
-    let cpu = processor(cpus, row)?;
-    let thread = running(names, row)?;
+    let whole = input.input();
+    let cpu = processor(whole.script.cpus, row)?;
+    let thread = running(input, cpu, row)?;
     let level = level(row)?;
-    let what = what(names, cpus, row)?;
+    let what = what(&whole.names, whole.script.cpus, row)?;
     if row.count() > 0 {
         return Err(ScriptKind::ExtraField);
     }

@@ -4,6 +4,7 @@ ghost use Rattle.nt_event.specs.Numbered.{refusal_number};
 ghost use Rattle.nt_line.specs.Fields.{read_level, read_thread};
 ghost use Rattle.nt_report.specs.Fields.{Passes, Reads, behind_word, hexadecimal_after, hexadecimal_of, hexadecimal_value, is_hexadecimal_digit, one_field, read_class, read_event, read_hexadecimal, read_processor, read_refusal, read_reply_word, read_running, refusal_of, refused, replied, reply_of, status, used};
 
+use crate::line_input::LineInput;
 use crate::words::{ReplyWord, reply_word};
 use nt_event::{CpuNo, Level, Refusal, Reply, ThreadNo};
 use nt_line::{Names, fields};
@@ -56,20 +57,16 @@ pub(crate) fn processor(cpus: u8, row: &mut Fields) -> Result<CpuNo, ScriptKind>
     processor_of(cpus, row.need()?)
 }
 
-fn running_of(names: &Names, field: &[u8]) -> Result<Option<ThreadNo>, ScriptKind>
-    ensures { result ≡ read_running names.now field.now }
+/// The name of the thread that runs on a processor, or `-` for none.
+pub(crate) fn running<'a>(
+    input: &mut LineInput<'a>,
+    cpu: CpuNo,
+    row: &mut Fields<'a>,
+) -> Result<Option<ThreadNo>, ScriptKind>
+    ensures thread { Reads result row.new (one_field (read_running input.old.names) row.old) }
+    ensures input { input.new ≡ input.old }
 {
-    if field == b"-".as_slice() {
-        return Ok(None);
-    }
-    Ok(Some(fields::thread(names, field)?))
-}
-
-/// The name of a thread, or `-` for none.
-pub(crate) fn running(names: &Names, row: &mut Fields) -> Result<Option<ThreadNo>, ScriptKind>
-    ensures { Reads result row.new (one_field (read_running names.now) row.old) }
-{
-    running_of(names, row.need()?)
+    input.running(cpu, row.need()?)
 }
 
 /// A level, 0 to 15.

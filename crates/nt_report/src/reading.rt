@@ -10,6 +10,7 @@ ghost use Rattle.nt_report.specs.Reading.{reading, start, walk};
 
 use crate::comparing::compared;
 use crate::histories::history_of;
+use crate::line_input::LineInput;
 use crate::walk::{Parts, ReportWalk};
 use nt_event::History;
 use nt_script::{Input, ScriptRefusal, Stop};
@@ -17,10 +18,10 @@ use nt_text::Lines;
 use std::alloc::Global;
 
 /// The event lines and the schedule of a report, whose first line has this number.
-fn read_parts(
+fn read_parts<'a>(
     alloc: Global,
-    input: &Input,
-    bytes: &[u8],
+    input: &'a Input,
+    bytes: &'a [u8],
     first_line: u32,
 ) -> Result<Parts, ScriptRefusal>
     requires bytes { length bytes.now ≤ INPUT_LIMIT }
@@ -28,10 +29,11 @@ fn read_parts(
     ensures { GivesRead result (walk input.now start first_line (lines bytes.now)) }
 {
     let mut walk = ReportWalk::new(alloc);
+    let mut known = LineInput::new(input);
     let mut lines = Lines::new(bytes);
     let mut at = first_line;
     while let Some(line) = lines.next() {
-        match walk.line(input, &line) {
+        match walk.line(&mut known, &line) {
             Ok(()) => {}
             Err(Stop::NoMemory) => return Err(ScriptRefusal::NoMemory),
             Err(Stop::Bad(kind)) => return Err(ScriptRefusal::Bad { line: at, kind }),

@@ -4,6 +4,7 @@ ghost use Rattle.nt_report.specs.Reading.{cut_line, kept, read_object, waits_lin
 
 use crate::events::{EventLine, event_line};
 use crate::fields::processor_of;
+use crate::line_input::LineInput;
 use crate::places::{LineWord, ReportPlace, word_at};
 use nt_event::{CpuNo, Items, limits};
 use nt_line::{Named, Names, fields};
@@ -97,11 +98,12 @@ impl ReportWalk {
     }
 
     /// Takes a line.
-    pub fn line(&mut self, input: &Input, line: &Line) -> Result<(), Stop>
-        ensures { Gives result self.new (line_step input.now self.old (line.now.bytes.now, line.now.ended)) }
+    pub fn line<'a>(&mut self, input: &mut LineInput<'a>, line: &Line<'a>) -> Result<(), Stop>
+        ensures walk { Gives result self.new (line_step input.old self.old (line.now.bytes.now, line.now.ended)) }
+        ensures input { input.new ≡ input.old }
     {
         match self.place {
-            ReportPlace::InSchedule => self.schedule_line(input, line),
+            ReportPlace::InSchedule => self.schedule_line(input.input(), line),
             ReportPlace::Start
             | ReportPlace::InEvents
             | ReportPlace::InCuts
@@ -138,17 +140,18 @@ impl ReportWalk {
     }
 
     /// Takes a line before the schedule, or its first line.
-    fn front_line(&mut self, input: &Input, line: &Line) -> Result<(), Stop>
-        ensures { Gives result self.new (front_step input.now self.old (line.now.bytes.now, line.now.ended)) }
+    fn front_line<'a>(&mut self, input: &mut LineInput<'a>, line: &Line<'a>) -> Result<(), Stop>
+        ensures walk { Gives result self.new (front_step input.old self.old (line.now.bytes.now, line.now.ended)) }
+        ensures input { input.new ≡ input.old }
     {
         let mut row = line.fields()?;
         let field = row.take();
         match word_at(self.place, field)? {
             LineWord::Report => self.report_line(&row),
-            LineWord::Event => { self.event_line(&input.names, input.script.cpus, field, &mut row) }
-            LineWord::Cut => self.cut_line(input, &mut row),
-            LineWord::Waits => self.waits_line(input, &mut row),
-            LineWord::Schedule => self.schedule_line(input, line),
+            LineWord::Event => self.event_line(input, field, &mut row),
+            LineWord::Cut => self.cut_line(input.input(), &mut row),
+            LineWord::Waits => self.waits_line(input.input(), &mut row),
+            LineWord::Schedule => self.schedule_line(input.input(), line),
         }
     }
 
@@ -160,16 +163,16 @@ impl ReportWalk {
         Ok(())
     }
 
-    fn event_line(
+    fn event_line<'a>(
         &mut self,
-        names: &Names,
-        cpus: u8,
+        input: &mut LineInput<'a>,
         number: &[u8],
-        row: &mut Fields,
+        row: &mut Fields<'a>,
     ) -> Result<(), Stop>
-        ensures { Gives result self.new (event_step names.now cpus self.old number.now row.old) }
+        ensures walk { Gives result self.new (event_step input.old.names input.old.script.cpus self.old number.now row.old) }
+        ensures input { input.new ≡ input.old }
     {
-        match event_line(names, cpus, number, row) {
+        match event_line(input, number, row) {
             Ok(line) => {
                 keep_line(&mut self.lines, &line)?;
                 Ok(())

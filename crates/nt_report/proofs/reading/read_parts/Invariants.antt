@@ -6,6 +6,7 @@ use Rattle.nt_report.proofs.reading.read_parts.Given as goal
 
 abbrev pub invariant-loop-line : goal.invariant-loop-line
 invariant-loop-line l = record {
+  known : l.known ≡ l.input;
   rest : walk l.input l.walk l.at l.lines ≡ walk l.input start l.first_line (lines l.bytes);
   few : l.at + length l.lines ≤ INPUT_LIMIT + INPUT_LIMIT + 1;
 }
