@@ -1,5 +1,5 @@
 -- The line of an event: its fields, read from left to right without a count beforehand.
-use Rattle.std.specs.Prelude.{ℕ, List, Option, Some, Result, Ok, Err, codes, if◌then◌else◌}
+use Rattle.std.specs.Prelude.{ℕ, List, Option, Some, None, Result, Ok, Err, codes, if◌then◌else◌}
 use Rattle.std.specs.Str.{bytes_eq}
 use Rattle.nt_text.specs.declared.kind.ScriptKind.{ScriptKind}
 use Rattle.nt_text.specs.declared.kind.ScriptKind.TheVariants.{UnknownWord}
@@ -94,6 +94,10 @@ abbrev pub what : NameLists → ℕ → Row → Result (What × Row) ScriptKind
 what names cpus row = one_field read_event_word row >>= λ w. what_of names cpus w.0 w.1
 
 -- ---- the whole line
+
+-- a line that is still to be read
+abbrev pub blank : EventLine
+blank = record { number = 0; event = record { cpu = record { 0 = 0 }; thread = None; level = 0; what = Rest } }
 
 -- the event of a line, and the number that the line gives it: the first field, and those behind it
 abbrev pub event_line : NameLists → ℕ → List ℕ → Row → Result EventLine ScriptKind

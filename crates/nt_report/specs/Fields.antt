@@ -33,6 +33,16 @@ abbrev pub Passes : {A : Type 0} → Result A ScriptKind → Row → Result Row 
 Passes (Ok x) new read = read ≡ Ok new
 Passes (Err kind) new read = read ≡ Err kind
 
+-- a call that writes the value that it reads where it is wanted, and leaves these fields
+abbrev pub Writes : {A : Type 0} → Result Unit ScriptKind → A → Row → Result (A × Row) ScriptKind → Type 0
+Writes (Ok u) x new read = read ≡ Ok (x, new)
+Writes (Err kind) x new read = read ≡ Err kind
+
+-- the same where no field is left
+abbrev pub IsWritten : {A : Type 0} → Result Unit ScriptKind → A → Result A ScriptKind → Type 0
+IsWritten (Ok u) x read = read ≡ Ok x
+IsWritten (Err kind) x read = read ≡ Err kind
+
 -- ---- one field
 
 -- what one field is, and the fields behind it

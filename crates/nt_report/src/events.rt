@@ -1,13 +1,13 @@
 //! The lines of events.
 ghost use Rattle.std.specs.Prelude.{◌≡◌};
 ghost use Rattle.nt_line.specs.Fields.{read_apc, read_dpc};
-ghost use Rattle.nt_report.specs.Fields.{Reads, one_field};
-ghost use Rattle.nt_report.specs.Events.{begun, begun_of, command, delay_key, event_line, expired, read_begun_word, read_event_word, read_verb, timer_key, what, what_of};
+ghost use Rattle.nt_report.specs.Fields.{IsWritten, Reads, Writes, one_field};
+ghost use Rattle.nt_report.specs.Events.{begun, begun_of, blank, command, delay_key, event_line, expired, read_begun_word, read_event_word, read_verb, timer_key, what, what_of};
 
 use crate::fields::{class, event, level, processor, replied, running, status, thread, used, word};
 use crate::line_input::LineInput;
 use crate::words::{BegunWord, EventWord, begun_word, event_word};
-use nt_event::{ApcNo, Begun, Command, DpcNo, Event, TimerKey, What};
+use nt_event::{ApcNo, Begun, Command, CpuNo, DpcNo, Event, Level, TimerKey, What};
 use nt_line::{Keyword, Names, Verb, fields, keyword_of};
 use nt_text::{Fields, ScriptKind};
 
@@ -17,6 +17,23 @@ pub(crate) struct EventLine {
     /// The number at the head of the line.
     pub number: u64,
     pub event: Event,
+}
+
+impl EventLine {
+    /// A line that is still to be read.
+    pub fn blank() -> EventLine
+        ensures { result ≡ blank }
+    {
+        EventLine {
+            number: 0,
+            event: Event {
+                cpu: CpuNo(0),
+                thread: None,
+                level: Level::PASSIVE,
+                what: What::Rest,
+            },
+        }
+    }
 }
 
 fn dpc(names: &Names, row: &mut Fields) -> Result<DpcNo, ScriptKind>
@@ -99,59 +116,68 @@ fn expired(names: &Names, row: &mut Fields) -> Result<TimerKey, ScriptKind>
     Err(ScriptKind::UnknownWord)
 }
 
-/// What an event did, by its word and the fields behind it.
-fn what_of(names: &Names, cpus: u8, word: EventWord, row: &mut Fields) -> Result<What, ScriptKind>
-    ensures { Reads result row.new (what_of names.now cpus word row.old) }
+/// Writes what an event did, by its word and the fields behind it.
+fn what_of(
+    names: &Names,
+    cpus: u8,
+    word: EventWord,
+    row: &mut Fields,
+    into: &mut What,
+) -> Result<(), ScriptKind>
+    ensures { Writes result into.new row.new (what_of names.now cpus word row.old) }
 {
     match word {
         EventWord::Call => {
             let frame = event(row)?;
             let command = command(names, cpus, row)?;
             let reply = replied(row)?;
-            Ok(What::Call {
+            *into = What::Call {
                 frame,
                 command,
                 reply,
-            })
+            };
         }
         EventWord::Begin => {
             let begun = begun(names, row)?;
             let from = used(row)?;
-            Ok(What::Begin { begun, from })
+            *into = What::Begin { begun, from };
         }
-        EventWord::Normal => Ok(What::Normal { frame: event(row)? }),
-        EventWord::End => Ok(What::End { frame: event(row)? }),
+        EventWord::Normal => *into = What::Normal { frame: event(row)? },
+        EventWord::End => *into = What::End { frame: event(row)? },
         EventWord::Expire => {
             let key = expired(names, row)?;
             let from = used(row)?;
-            Ok(What::Expire { key, from })
+            *into = What::Expire { key, from };
         }
         EventWord::Fire => {
             let dpc = dpc(names, row)?;
             let reply = replied(row)?;
-            Ok(What::Fire { dpc, reply })
+            *into = What::Fire { dpc, reply };
         }
-        EventWord::Clean => Ok(What::Clean { class: class(row)? }),
+        EventWord::Clean => *into = What::Clean { class: class(row)? },
         EventWord::Switch => {
             let thread = thread(names, row)?;
             let status = status(row)?;
-            Ok(What::Switch { thread, status })
+            *into = What::Switch { thread, status };
         }
         EventWord::Rewait => {
             let frame = event(row)?;
             let reply = replied(row)?;
-            Ok(What::Rewait { frame, reply })
+            *into = What::Rewait { frame, reply };
         }
         EventWord::Flush => {
             let apc = apc(names, row)?;
             let from = used(row)?;
-            Ok(What::Flush { apc, from })
+            *into = What::Flush { apc, from };
         }
-        EventWord::Gone => Ok(What::Gone {
-            thread: thread(names, row)?,
-        }),
-        EventWord::Rest => Ok(What::Rest),
+        EventWord::Gone => {
+            *into = What::Gone {
+                thread: thread(names, row)?,
+            };
+        }
+        EventWord::Rest => *into = What::Rest,
     }
+    Ok(())
 }
 
 fn read_event_word(field: &[u8]) -> Result<EventWord, ScriptKind>
@@ -160,38 +186,34 @@ fn read_event_word(field: &[u8]) -> Result<EventWord, ScriptKind>
     event_word(field).ok_or(ScriptKind::UnknownWord)
 }
 
-/// What an event did.
-fn what(names: &Names, cpus: u8, row: &mut Fields) -> Result<What, ScriptKind>
-    ensures { Reads result row.new (what names.now cpus row.old) }
+/// Writes what an event did.
+fn read_what(names: &Names, cpus: u8, row: &mut Fields, into: &mut What) -> Result<(), ScriptKind>
+    ensures { Writes result into.new row.new (what names.now cpus row.old) }
 {
     let word = read_event_word(row.need()?)?;
-    what_of(names, cpus, word, row)
+    what_of(names, cpus, word, row, into)
 }
 
-/// The event of a line, and the number that the line gives it: the first field, and those behind it.
+/// Writes the event of a line, and the number that the line gives it: the first field, and those behind it.
 #[tactic(auto, using(crate::proofs::Steps::extra))]
 pub(crate) fn event_line<'a>(
     input: &mut LineInput<'a>,
     number: &[u8],
     row: &mut Fields<'a>,
-) -> Result<EventLine, ScriptKind>
-    ensures line { result ≡ event_line input.old.names input.old.script.cpus number.now row.old }
+    line: &mut EventLine,
+) -> Result<(), ScriptKind>
+    ensures line { IsWritten result line.new (event_line input.old.names input.old.script.cpus number.now row.old) }
     ensures input { input.new ≡ input.old }
 {
-    let number = u64::from(fields::number(number, u32::MAX)?);
     let whole = input.input();
+    line.number = u64::from(fields::number(number, u32::MAX)?);
     let cpu = processor(whole.script.cpus, row)?;
-    let thread = running(input, cpu, row)?;
-    let level = level(row)?;
-    let what = what(&whole.names, whole.script.cpus, row)?;
+    line.event.cpu = cpu;
+    line.event.thread = running(input, cpu, row)?;
+    line.event.level = level(row)?;
+    read_what(&whole.names, whole.script.cpus, row, &mut line.event.what)?;
     if row.count() > 0 {
         return Err(ScriptKind::ExtraField);
     }
-    let event = Event {
-        cpu,
-        thread,
-        level,
-        what,
-    };
-    Ok(EventLine { number, event })
+    Ok(())
 }

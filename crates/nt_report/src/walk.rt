@@ -13,6 +13,7 @@ use nt_script::{Input, ScriptRefusal, Stop};
 use nt_text::{Fields, Line, ScriptKind};
 use std::alloc::{AllocError, Global};
 use std::marker::Model;
+use std::slice::from_ref;
 
 /// The event lines and the schedule of a report.
 #[derive(Drop)]
@@ -78,7 +79,7 @@ fn keep_line(lines: &mut Vec<EventLine>, line: &EventLine) -> Result<(), AllocEr
     if lines.len() >= limits::EVENTS as usize {
         return Ok(());
     }
-    lines.extend_from_slice(&[*line])
+    lines.extend_from_slice(from_ref(line))
 }
 
 impl ReportWalk {
@@ -172,8 +173,9 @@ impl ReportWalk {
         ensures walk { Gives result self.new (event_step input.old.names input.old.script.cpus self.old number.now row.old) }
         ensures input { input.new ≡ input.old }
     {
-        match event_line(input, number, row) {
-            Ok(line) => {
+        let mut line = EventLine::blank();
+        match event_line(input, number, row, &mut line) {
+            Ok(()) => {
                 keep_line(&mut self.lines, &line)?;
                 Ok(())
             }
