@@ -1,5 +1,5 @@
 //! The history of turns and event lines.
-ghost use Rattle.std.specs.Prelude.{◌≡◌, ◌+◌, ◌≤◌, ◌<◌, [], length};
+ghost use Rattle.std.specs.Prelude.{◌≡◌, ◌+◌, ◌++◌, ◌≤◌, ◌<◌, [], ◌∷◌, length, IfErr, OnOk};
 ghost use Rattle.nt_script.specs.Gives.{GivesRead};
 ghost use Rattle.nt_report.specs.Reading.{events_of, history_of, look_event};
 ghost use Rattle.nt_script.specs.declared.reading.ScriptRefusal.TheVariants as refusal;
@@ -11,6 +11,7 @@ use nt_event::{CpuNo, Event, History, Items, Level, Rises, Turn, What};
 use nt_script::ScriptRefusal;
 use nt_text::ScriptKind;
 use std::alloc::Global;
+use std::slice::from_ref;
 
 /// A look names no thread and has level 0.
 fn look_event(cpu: CpuNo, rises: Rises) -> Event
@@ -34,6 +35,17 @@ pub(crate) fn wrong(line: u32) -> ScriptRefusal
     }
 }
 
+/// Adds an event behind the others.
+fn put(events: &mut Vec<Event>, event: &Event) -> Result<(), ScriptRefusal>
+    ensures events { OnOk result (events.new.items ≡ events.old.items ++ event.now ∷ []) }
+    ensures memory { IfErr result (λ e. e ≡ refusal.NoMemory) }
+{
+    match events.extend_from_slice(from_ref(event)) {
+        Ok(()) => Ok(()),
+        Err(_) => Err(ScriptRefusal::NoMemory),
+    }
+}
+
 /// The events of the turns: a look turn gives a look, and another turn the next event line, whose number is the turn's place.
 ///
 /// `line` is the number of the first event line in the text. WrongKind at the event line that has another number, or behind
@@ -47,29 +59,26 @@ fn events_of(
     requires { line + length lines.now ≤ 4294967295 }
     ensures { GivesRead result (events_of [] turns.now lines.now line) }
 {
-    let mut made = Items::new(alloc);
+    let mut made = Vec::new(alloc);
     let mut left = lines;
     let mut at = line;
     for turn in turns {
-        let event = match turn {
-            Turn::Look(cpu, rises) => look_event(*cpu, *rises),
+        match turn {
+            Turn::Look(cpu, rises) => put(&mut made, &look_event(*cpu, *rises))?,
             Turn::Next(_) | Turn::Switch(_, _) => match left {
                 [first, more @ ..] => {
                     if first.number != made.len() as u64 {
                         return Err(wrong(at));
                     }
+                    put(&mut made, &first.event)?;
                     left = more;
                     at += 1;
-                    first.event
                 }
                 [] => return Err(wrong(at)),
             },
-        };
-        if made.push(event).is_err() {
-            return Err(ScriptRefusal::NoMemory);
         }
     }
-    Ok(made)
+    Ok(Items::from_vec(made))
 }
 
 /// The history of the parts of a report, whose first line has this number.
