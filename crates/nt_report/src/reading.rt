@@ -57,6 +57,8 @@ fn read_all(
 {
     let parts = read_parts(alloc, input, bytes, first_line)?;
     let history = history_of(alloc, &parts, first_line)?;
+    // The history has all of it, and its text takes memory.
+    drop(parts);
     compared(alloc, input, bytes, first_line, history)
 }
 
