@@ -22,11 +22,12 @@ use Rattle.nt_dpc.specs.Objects.{ObjectFacts}
 use Rattle.nt_dpc.specs.Queues.{QueueFacts}
 use Rattle.nt_floor.specs.Acts.{is_among}
 use Rattle.nt_mark.specs.declared.view.View.{View}
+use Rattle.nt_mark.specs.Rule.{IsLongest}
 use Rattle.nt_mark.specs.Views.{note_of}
 use Rattle.nt_states.specs.Reads.{AreHeld}
 use Rattle.nt_lane.specs.Answers.{HeldStates, IsHeld, held_lanes}
 use Rattle.nt_lane.specs.Held.{GroupState, IsLastNoted, group_content}
-use Rattle.nt_lane.specs.Locks.{AreKnownBy, AreLanes, HeldLanes, IsKnownBy, IsLane, Kept, found_in, in_each, states_of, told_in, told_of}
+use Rattle.nt_lane.specs.Locks.{AreKnownBy, AreLanes, AreLongest, HeldLanes, IsKnownBy, IsLane, Kept, found_in, in_each, states_of, told_in, told_of}
 use Rattle.nt_lane.specs.Records.{LaneRecord, told_then}
 use Rattle.nt_lane.specs.Seats.{AreFoundOn, AreShownOn, IsFoundOn, IsShown, IsShownOn}
 use Rattle.nt_lane.specs.Steps.{AreLeftBy, DpcsLeft, KnowsLeft, LeavesGroup, LeavesTimers, LeavesObject, LeavesQueue, is_touched, object_left, object_name, objects_told, queue_left, queue_name}
@@ -43,9 +44,14 @@ module _ (s : Script) (h : HeldLanes) (x : Lane) (r : LaneRecord) (told : (q : C
   }
 
   pub shown_on : (now : Content) (v : View) → IsLastNoted s x now r → content s (held_lanes (states_of s h)) x ≡ now → IsKnownBy r v →
-      IsShownOn s v (found_in s h) x
-  shown_on now v last before known =
-      let k = known.knows in (r.notes, shown now last before, (k.0, k.1, k.2 ∙ last.number, k.3))
+      IsLongest r.lane r.notes v → IsShownOn s v (found_in s h) x
+  shown_on now v last before known longest =
+      let k = known.knows in (
+        r.notes,
+        shown now last before,
+        (k.0, k.1, k.2 ∙ last.number, k.3),
+        subst (λ (n : ℕ). IsLongest n r.notes v) last.number longest,
+      )
 
   -- the note shows what the event leaves
   pub found_on : (n : ℕ) (st : Stand) (e : Event) (asks : List Ask) (now next : Content) (v : View) → IsLastNoted s x now r →
@@ -122,42 +128,48 @@ module _ (s : Script) (h : HeldLanes) (there : AreLanes s h) where
   states = states_of s h
 
   -- the states of the lanes that are held are shown
-  pub each_shown : (v : View) → AreKnownBy h v → (x : Lane) → IsHeld states x → IsShownOn s v (found_in s h) x
-  each_shown v known (ObjectLane d) held =
+  pub each_shown : (v : View) → AreKnownBy h v → AreLongest h v → (x : Lane) → IsHeld states x → IsShownOn s v (found_in s h) x
+  each_shown v known longest (ObjectLane d) held =
       let o = one_held (λ (k : Kept ObjectFacts). k.state) (λ (y : ObjectFacts). y.dpc) d h.object held in
       let k : Kept ObjectFacts = o.0 in
       let lane = of_some (λ (k : Kept ObjectFacts). IsLane s (ObjectLane k.state.dpc) (OfObject k.state.state) 0 _ k.log) h.object k o.1 there.object in
       let at : in_each h.object (λ k. k.state) ≡ Some k.state = ap (λ (y : Option (Kept ObjectFacts)). in_each y (λ k. k.state)) o.1 in
       subst (λ (y : DpcNo). IsShownOn s v (found_in s h) (ObjectLane y)) o.2
       (shown_on s h (ObjectLane k.state.dpc) k.log (λ q c. ap (λ (y : Option (Kept ObjectFacts)). told_at (told_of y) q c) o.1) (OfObject k.state.state) v
-      lane.noted (object_before states k.state.dpc k.state lane.fits.named at) (of_some (λ (k : Kept ObjectFacts). IsKnownBy k.log v) h.object k o.1 known.object))
-  each_shown v known (QueueLane p) held =
+      lane.noted (object_before states k.state.dpc k.state lane.fits.named at)
+      (of_some (λ (k : Kept ObjectFacts). IsKnownBy k.log v) h.object k o.1 known.object)
+      (of_some (λ (k : Kept ObjectFacts). IsLongest k.log.lane k.log.notes v) h.object k o.1 longest.object))
+  each_shown v known longest (QueueLane p) held =
       let o = one_held (λ (k : Kept QueueFacts). k.state) (λ (y : QueueFacts). y.cpu) p h.queue held in
       let k : Kept QueueFacts = o.0 in
       let lane = of_some (λ (k : Kept QueueFacts). IsLane s (QueueLane k.state.cpu) (OfQueue k.state.state) 0 _ k.log) h.queue k o.1 there.queue in
       let at : in_each h.queue (λ k. k.state) ≡ Some k.state = ap (λ (y : Option (Kept QueueFacts)). in_each y (λ k. k.state)) o.1 in
       subst (λ (y : CpuNo). IsShownOn s v (found_in s h) (QueueLane y)) o.2
       (shown_on s h (QueueLane k.state.cpu) k.log (λ q c. ap (λ (y : Option (Kept QueueFacts)). told_at (told_of y) q c) o.1) (OfQueue k.state.state) v
-      lane.noted (queue_before states k.state.cpu k.state lane.fits.named at) (of_some (λ (k : Kept QueueFacts). IsKnownBy k.log v) h.queue k o.1 known.queue))
-  each_shown v known (ThreadsLane p) held =
+      lane.noted (queue_before states k.state.cpu k.state lane.fits.named at) (of_some (λ (k : Kept QueueFacts). IsKnownBy k.log v) h.queue k o.1 known.queue)
+      (of_some (λ (k : Kept QueueFacts). IsLongest k.log.lane k.log.notes v) h.queue k o.1 longest.queue))
+  each_shown v known longest (ThreadsLane p) held =
       let o = one_held (λ (k : Kept GroupState). k.state) (λ (y : GroupState). y.cpu) p h.group held in
       let k : Kept GroupState = o.0 in
       let lane = of_some (λ (k : Kept GroupState). IsLane s (ThreadsLane k.state.cpu) (group_content k.state) 0 _ k.log) h.group k o.1 there.group in
       let at : in_each h.group (λ k. k.state) ≡ Some k.state = ap (λ (y : Option (Kept GroupState)). in_each y (λ k. k.state)) o.1 in
       subst (λ (y : CpuNo). IsShownOn s v (found_in s h) (ThreadsLane y)) o.2
       (shown_on s h (ThreadsLane k.state.cpu) k.log (λ q c. ap (λ (y : Option (Kept GroupState)). told_at (told_of y) q c) o.1) (group_content k.state) v
-      lane.noted (group_before states k.state.cpu k.state at refl lane.fits.script) (of_some (λ (k : Kept GroupState). IsKnownBy k.log v) h.group k o.1 known.group))
-  each_shown v known TimersLane held =
+      lane.noted (group_before states k.state.cpu k.state at refl lane.fits.script)
+      (of_some (λ (k : Kept GroupState). IsKnownBy k.log v) h.group k o.1 known.group)
+      (of_some (λ (k : Kept GroupState). IsLongest k.log.lane k.log.notes v) h.group k o.1 longest.group))
+  each_shown v known longest TimersLane held =
       let o = any_held (λ (k : Kept Timers). k.state) h.timers held in
       let k : Kept Timers = o.0 in
       let lane = of_some (λ (k : Kept Timers). IsLane s TimersLane (OfTimers k.state) k.state.now _ k.log) h.timers k o.1 there.timers in
       let at : in_each h.timers (λ k. k.state) ≡ Some k.state = ap (λ (y : Option (Kept Timers)). in_each y (λ k. k.state)) o.1 in
       shown_on s h TimersLane k.log (λ q c. ap (λ (y : Option (Kept Timers)). told_at (told_of y) q c) o.1) (OfTimers k.state) v
       lane.noted (timers_before states k.state at) (of_some (λ (k : Kept Timers). IsKnownBy k.log v) h.timers k o.1 known.timers)
+      (of_some (λ (k : Kept Timers). IsLongest k.log.lane k.log.notes v) h.timers k o.1 longest.timers)
 
-  pub all_shown : (v : View) → AreKnownBy h v → (xs : List Lane) → AreHeld (IsHeld states) xs → AreShownOn s v (found_in s h) xs
-  all_shown v known [] held = tt
-  all_shown v known (x ∷ xs) held = (each_shown v known x held.0, all_shown v known xs held.1)
+  pub all_shown : (v : View) → AreKnownBy h v → AreLongest h v → (xs : List Lane) → AreHeld (IsHeld states) xs → AreShownOn s v (found_in s h) xs
+  all_shown v known longest [] held = tt
+  all_shown v known longest (x ∷ xs) held = (each_shown v known longest x held.0, all_shown v known longest xs held.1)
 
   module _ (n : ℕ) (st : Stand) (e : Event) (lanes : List Lane) (asks : List Ask) (v : View)
       (same : asks ≡ what_asks s st e.what (held_lanes states)) (left : AreLeftBy s n st e lanes asks h v) where

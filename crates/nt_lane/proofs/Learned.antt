@@ -1,9 +1,10 @@
 -- What a pass knows of held lanes stays known where it only learns.
-use Rattle.std.proofs.Common.{arith}
+use Rattle.std.proofs.Common.{arith, subst, sym, ◌∙◌, ◌≡◌}
 use Rattle.std.specs.Prelude.{IfSome, None, Option, Some}
 use Rattle.nt_mark.specs.declared.view.View.{View}
+use Rattle.nt_mark.specs.Rule.{IsLongest}
 use Rattle.nt_mark.specs.Views.{request_word, step_word}
-use Rattle.nt_lane.specs.Locks.{AreKnownBy, HeldLanes, IsKnownBy, Kept}
+use Rattle.nt_lane.specs.Locks.{AreKnownBy, AreLongest, HeldLanes, IsKnownBy, Kept}
 use Rattle.nt_lane.specs.Records.{LaneRecord}
 use Rattle.nt_lane.specs.Views.{Learns}
 use Rattle.nt_lane.proofs.Retries.{learns_through}
@@ -32,3 +33,14 @@ all_known h a b c d ab bc cd object queue group timers =
       group = each_later h.group c d cd group;
       timers = timers;
     }
+
+-- the lanes that took in one after another what a pass knows, which stays as it is
+pub all_longest : (h : HeldLanes) (a b c d : View) → b ≡ a → c ≡ b → d ≡ c → IfSome h.object (λ k. IsLongest k.log.lane k.log.notes a) →
+    IfSome h.queue (λ k. IsLongest k.log.lane k.log.notes b) → IfSome h.group (λ k. IsLongest k.log.lane k.log.notes c) →
+    IfSome h.timers (λ k. IsLongest k.log.lane k.log.notes d) → AreLongest h d
+all_longest h a b c d ab bc cd object queue group timers = record {
+  object = subst (λ (v : View). IfSome h.object (λ k. IsLongest k.log.lane k.log.notes v)) (sym (cd ∙ (bc ∙ ab))) object;
+  queue = subst (λ (v : View). IfSome h.queue (λ k. IsLongest k.log.lane k.log.notes v)) (sym (cd ∙ bc)) queue;
+  group = subst (λ (v : View). IfSome h.group (λ k. IsLongest k.log.lane k.log.notes v)) (sym cd) group;
+  timers = timers;
+}

@@ -1,5 +1,5 @@
 -- Why a try made no event.
-use Rattle.std.proofs.Common.{refl}
+use Rattle.std.proofs.Common.{refl, subst, sym, ◌≡◌}
 use Rattle.nt_event.specs.declared.jobs.Job.{Job}
 use Rattle.nt_event.specs.declared.jobs.Job.TheVariants as job
 use Rattle.nt_event.specs.declared.jobs.Stand.{Stand}
@@ -11,7 +11,7 @@ use Rattle.nt_mark.specs.declared.view.View.{View}
 use Rattle.nt_states.specs.Reads.{job_lanes}
 use Rattle.nt_lane.specs.declared.planning.Plan.{Plan}
 use Rattle.nt_lane.specs.Decided.{IsNoEvent}
-use Rattle.nt_lane.specs.Locks.{AreKnownBy, AreLanes, HeldLanes, found_in, states_of}
+use Rattle.nt_lane.specs.Locks.{AreKnownBy, AreLanes, AreLongest, HeldLanes, found_in, states_of}
 use Rattle.nt_lane.specs.Plans.{IsPlan}
 use Rattle.nt_lane.specs.Tries.{IsNotDone}
 use Rattle.nt_lane.specs.Views.{Learns}
@@ -33,19 +33,27 @@ memory s f st job.UserEnd = tt
 memory s f st job.Leave = tt
 memory s f st job.Rundown = tt
 
-module _ (s : Script) (h : HeldLanes) (st : Stand) (j : Job) (v w : View) (there : AreLanes s h) (known : AreKnownBy h w) (learns : Learns v w) where
-  pub no_event : (r : ActRefusal) → IsNoEvent (states_of s h) st j r → IsNotDone s st j v w r
+-- the pass met the held lanes, and they took in what it knows after that
+module _ (s : Script) (h : HeldLanes) (st : Stand) (j : Job) (u v w : View) (there : AreLanes s h) (known : AreKnownBy h v) (learns : Learns u v)
+    (same : w ≡ v) (longest : AreLongest h w) where
+  all_known : AreKnownBy h w
+  all_known = subst (λ (x : View). AreKnownBy h x) (sym same) known
+
+  all_learned : Learns u w
+  all_learned = subst (λ (x : View). Learns u x) (sym same) learns
+
+  pub no_event : (r : ActRefusal) → IsNoEvent (states_of s h) st j r → IsNotDone s st j u w r
   no_event r why = record {
     found = found_in s h;
-    shown = all_shown s h there w known (job_lanes s st j) why.can.held;
+    shown = all_shown s h there w all_known longest (job_lanes s st j) why.can.held;
     cause = why.cause (found_in s h) refl;
-    learns = learns;
+    learns = all_learned;
   }
 
-  pub no_memory : (p : Plan) → IsPlan (states_of s h) st j p → IsNotDone s st j v w NoMemory
+  pub no_memory : (p : Plan) → IsPlan (states_of s h) st j p → IsNotDone s st j u w NoMemory
   no_memory p plan = record {
     found = found_in s h;
-    shown = all_shown s h there w known (job_lanes s st j) plan.decided.can.held;
+    shown = all_shown s h there w all_known longest (job_lanes s st j) plan.decided.can.held;
     cause = memory s (found_in s h) st j;
-    learns = learns;
+    learns = all_learned;
   }

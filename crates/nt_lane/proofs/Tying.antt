@@ -9,7 +9,7 @@ use Rattle.nt_mark.specs.declared.view.Entry.{Entry}
 use Rattle.nt_mark.specs.declared.view.LaneList.{LaneList}
 use Rattle.nt_mark.specs.declared.view.Note.{Note}
 use Rattle.nt_mark.specs.declared.view.View.{View}
-use Rattle.nt_mark.specs.Rule.{IsAbove}
+use Rattle.nt_mark.specs.Rule.{IsAbove, IsLongest}
 use Rattle.nt_mark.specs.Views.{both, entry, first_notes, known_entries, known_lists, note_numbers, noted, noted_at, reach, request_word, step_word, telling}
 use Rattle.nt_mark.proofs.Noting.{IsAbove-le}
 use Rattle.nt_mark.proofs.Reach.{reach_both}
@@ -125,3 +125,11 @@ numbers_more items after ns ms n e x h a m q =
 
 pub no_item : (lane : ℕ) (v : View) (x : ℕ × Event) → Contains [] x → IsKnownWith lane v x
 no_item lane v x h = absurd (let k : h.0 < 0 = h.1 in omega (arith, k))
+
+-- ---- a comparison
+
+pub longest_kept : (lane l0 l1 : ℕ) (k0 p0 k1 p1 : View) → l0 ≡ lane → l1 ≡ l0 → k1 ≡ both k0 (telling p0 0 []) → IsLongest l1 (first_notes k1.kept) p1 →
+    IsLongest lane (first_notes k0.kept) p1
+longest_kept lane l0 l1 k0 p0 k1 p1 at same is long =
+    subst (λ (n : ℕ). IsLongest n (first_notes k0.kept) p1) (same ∙ at)
+    (subst (λ (ks : List LaneList). IsLongest l1 (first_notes ks) p1) (kept_told k0 p0 k1 is) long)

@@ -9,6 +9,7 @@ use Rattle.nt_dpc.specs.Objects.{ObjectFacts}
 use Rattle.nt_dpc.specs.Queues.{QueueFacts}
 use Rattle.nt_floor.specs.Acts.{Found, Told}
 use Rattle.nt_mark.specs.declared.view.View.{View}
+use Rattle.nt_mark.specs.Rule.{IsLongest}
 use Rattle.nt_mark.specs.Views.{reach, step_word}
 use Rattle.nt_timer.specs.Laws.{IsSized}
 use Rattle.nt_lane.specs.Answers.{HeldStates, held_lanes}
@@ -90,6 +91,13 @@ pub record AreKnownBy (h : HeldLanes) (v : View) : Type 0 where
   pub queue : IfSome h.queue (λ k. IsKnownBy k.log v)
   pub group : IfSome h.group (λ k. IsKnownBy k.log v)
   pub timers : IfSome h.timers (λ k. IsKnownBy k.log v)
+
+-- the pass knows no list of one of them that goes beyond the lane's own
+pub record AreLongest (h : HeldLanes) (v : View) : Type 0 where
+  pub object : IfSome h.object (λ k. IsLongest k.log.lane k.log.notes v)
+  pub queue : IfSome h.queue (λ k. IsLongest k.log.lane k.log.notes v)
+  pub group : IfSome h.group (λ k. IsLongest k.log.lane k.log.notes v)
+  pub timers : IfSome h.timers (λ k. IsLongest k.log.lane k.log.notes v)
 
 -- each has room for one event more
 pub record AreRoomy (h : HeldLanes) : Type 0 where

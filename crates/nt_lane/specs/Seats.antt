@@ -13,6 +13,7 @@ use Rattle.nt_mark.specs.declared.view.Entry.{Entry}
 use Rattle.nt_mark.specs.declared.view.LaneList.{LaneList}
 use Rattle.nt_mark.specs.declared.view.Note.{Note}
 use Rattle.nt_mark.specs.declared.view.View.{View}
+use Rattle.nt_mark.specs.Rule.{IsLongest}
 use Rattle.nt_mark.specs.Views.{entry, note_numbers, note_of}
 use Rattle.nt_states.specs.LaneLists.{LaneFits}
 use Rattle.nt_lane.specs.Records.{Knows}
@@ -64,9 +65,11 @@ pub found_later : (s : Script) (v w : View) (n : ℕ) (e : Event) (st : Stand) (
 found_later s v w n e st f g h =
     record { drawn = g.entries _ h.drawn; threads = h.threads; named = h.named; on = found_on_later s v w n e st f _ g h.on }
 
--- the pass knows a beginning of the lane's list that leaves the state found
+-- the longest beginning of the lane's list that the pass knows leaves the state found: that is the last state that it
+-- knows of the lane
 abbrev pub IsShownOn : Script → View → Found → Lane → Type 0
-IsShownOn s v f x = (notes : List Note) × IsShown s f x notes × Knows (lane_number s x) notes v
+IsShownOn s v f x = (notes : List Note) × IsShown s f x notes × Knows (lane_number s x) notes v ×
+    IsLongest (lane_number s x) notes v
 
 abbrev pub AreShownOn : Script → View → Found → List Lane → Type 0
 AreShownOn s v f [] = Unit {0}

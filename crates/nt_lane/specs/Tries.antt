@@ -45,7 +45,7 @@ pub record IsDone (s : Script) (st : Stand) (job : Job) (v w : View) (a : Acted)
   pub told : (c : ℕ) → c < 16 → (value_at a.told.value c ≤ reach (request_word st.cpu c) w) ×
       (value_at a.told.value c ≤ reach step_word w)
 
--- none was, for this reason: in states of the job's lanes of which the pass knows that they stood there
+-- none was, for this reason: in the last states that the pass knows of the job's lanes
 pub record IsNotDone (s : Script) (st : Stand) (job : Job) (v w : View) (r : ActRefusal) : Type 0 where
   pub found : Found
   pub shown : AreShownOn s w found (job_lanes s st job)

@@ -5,9 +5,10 @@ ghost use Rattle.nt_event.specs.LaneStates.{told_at};
 ghost use Rattle.nt_event.specs.Lists.{table, value_at};
 ghost use Rattle.nt_floor.specs.Acts.{told_over};
 ghost use Rattle.nt_lane.specs.Answers.{IsHeld};
-ghost use Rattle.nt_lane.specs.Locks.{AreKnownBy, AreLanes, AreRoomy, IsKnownBy, IsLane, in_each, kept, states_of, told_in, told_of};
+ghost use Rattle.nt_lane.specs.Locks.{AreKnownBy, AreLanes, AreLongest, AreRoomy, IsKnownBy, IsLane, in_each, kept, states_of, told_in, told_of};
 ghost use Rattle.nt_lane.specs.Views.{Learns};
 ghost use Rattle.nt_mark.specs.Names.{pass_table, pass_view, table_of};
+ghost use Rattle.nt_mark.specs.Rule.{IsLongest};
 ghost use Rattle.nt_states.specs.Reads.{AreHeld};
 
 use crate::lane::Lane;
@@ -148,6 +149,23 @@ fn meet_one<N: Plan + Shared, S: Holds>(
     }
 }
 
+/// A lane, if it is held, takes in what a pass knows.
+fn compare_one<N: Plan + Shared, S: Holds>(
+    lane: &mut Option<MutexGuard<Lane<N, S>>>,
+    marks: &Marks,
+    pass: &mut Pass,
+)
+    requires table { (table_of marks.now ≡ N.table) × (pass_table pass.old ≡ N.table) }
+    ensures table { pass_table pass.new ≡ N.table }
+    ensures pass { pass_view pass.new ≡ pass_view pass.old }
+    ensures longest { IfSome (in_each lane.old (λ g. kept (mutex_guard_value g).state (mutex_guard_value g).log)) (λ k. IsLongest k.log.lane k.log.notes (pass_view pass.new)) }
+{
+    if let Some(lane) = lane {
+        let lane = &mut **lane;
+        lane.log.compare(marks, pass);
+    }
+}
+
 /// The greater ones of these values and those that a lane, which is held, tells for a processor.
 fn raise_one<N: Plan + Shared, S: Holds>(
     lane: &Option<MutexGuard<Lane<N, S>>>,
@@ -214,6 +232,19 @@ impl<'l, 's, N: Plan + Shared> Locked<'l, 's, N> {
         };
         self.meet(marks, pass);
         roomy
+    }
+
+    /// Each of them takes in what the pass knows, which tells that their lists are the longest ones that the pass knows.
+    pub(crate) fn compare(&mut self, marks: &Marks, pass: &mut Pass)
+        requires table { (table_of marks.now ≡ N.table) × (pass_table pass.old ≡ N.table) }
+        ensures table { pass_table pass.new ≡ N.table }
+        ensures pass { pass_view pass.new ≡ pass_view pass.old }
+        ensures longest { AreLongest self.old (pass_view pass.new) }
+    {
+        compare_one::<N, Object>(&mut self.object, marks, pass);
+        compare_one::<N, Queue>(&mut self.queue, marks, pass);
+        compare_one::<N, Group<'s>>(&mut self.group, marks, pass);
+        compare_one::<N, Clock>(&mut self.timers, marks, pass);
     }
 
     /// The greater ones of these values and those that one of the lanes, which is held, tells for a processor.

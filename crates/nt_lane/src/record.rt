@@ -7,6 +7,7 @@ ghost use Rattle.nt_lane.specs.Pieces.{IsPieceOf};
 ghost use Rattle.nt_lane.specs.Records.{IsAskKnown, IsMet, IsNoted, raised_list, told_rows, told_then};
 ghost use Rattle.nt_mark.specs.Closing.{IsNewKeeper};
 ghost use Rattle.nt_mark.specs.Names.{keeper_lane, keeper_table, pass_table, pass_view, table_of};
+ghost use Rattle.nt_mark.specs.Rule.{IsLongest};
 ghost use Rattle.nt_mark.specs.Views.{entry, note_of, reach, step_word};
 ghost use Rattle.nt_states.specs.LaneLists.{AskFits, as_asks};
 
@@ -109,6 +110,17 @@ impl<N: Plan + Shared> Record<N> {
         ensures above { next_of self.new.notes ≤ self.new.known }
     {
         marks.share(&mut self.keeper, pass);
+    }
+
+    /// The lane takes in what a pass knows, which tells that the pass knows no list of the lane that goes beyond its own.
+    pub(crate) fn compare(&mut self, marks: &Marks, pass: &mut Pass)
+        requires table { (table_of marks.now ≡ N.table) × (pass_table pass.old ≡ N.table) }
+        ensures table { pass_table pass.new ≡ N.table }
+        ensures same { (self.new.lane ≡ self.old.lane) × (self.new.notes ≡ self.old.notes) × (self.new.told ≡ self.old.told) }
+        ensures pass { pass_view pass.new ≡ pass_view pass.old }
+        ensures longest { IsLongest self.old.lane self.old.notes (pass_view pass.new) }
+    {
+        marks.compare(&mut self.keeper, pass);
     }
 
     /// The greater ones of these values and those that the lane tells for a processor, by class.

@@ -125,10 +125,14 @@ pub(crate) fn try_under<'s, N: Played + Shared>(
             if roomy {
                 Tried::Done(make::<N>(locked, script, marks, pass, &plan, job, stand))
             } else {
+                locked.compare(marks, pass);
                 Tried::Refused(ActRefusal::NoMemory)
             }
         }
-        Planned::Refused(refusal) => Tried::Refused(refusal),
+        Planned::Refused(refusal) => {
+            locked.compare(marks, pass);
+            Tried::Refused(refusal)
+        }
         Planned::Again(needs) => Tried::Again(needs),
     }
 }

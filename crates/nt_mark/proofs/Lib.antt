@@ -5,6 +5,7 @@ pub mod Asking
 pub mod Noting
 pub mod Dealing
 pub mod Sharing
+pub mod Comparing
 pub mod Opening
 pub mod Ending
 pub mod Gathering

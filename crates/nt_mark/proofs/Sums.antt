@@ -105,6 +105,12 @@ module _ {A : Type 0} where
   there (x ∷ xs) zero a b e = refl
   there (x ∷ xs) (suc i) a b e = there xs i a b e
 
+  -- what stands there, put there again
+  pub set_here : (xs : List A) (i : ℕ) (a : A) → get_elem? xs i ≡ some a → set xs i a ≡ xs
+  set_here [] i a e = refl
+  set_here (x ∷ xs) zero a e = ap (λ (y : A). y ∷ xs) (sym (some-injective x a e))
+  set_here (x ∷ xs) (suc i) a e = ap (λ (ys : List A). x ∷ ys) (set_here xs i a e)
+
   pub none_left : (xs : List A) → length xs ≤ 0 → xs ≡ []
   none_left [] h = refl
   none_left (x ∷ xs) h = absurd (omega arith)

@@ -34,6 +34,10 @@ IsAsked views p class value = (value ≡ 0) ⊎ ((n : ℕ) × (value ≡ n + 1) 
 abbrev pub IsBeginning : {A : Type 0} → List A → List A → Type 0
 IsBeginning {A} xs ys = (rest : List A) × (ys ≡ xs ++ rest)
 
+-- each beginning of this lane's list that the view knows is a beginning of these notes
+pub record IsLongest (lane : ℕ) (notes : List Note) (v : View) : Type 0 where
+  pub fronts : (k : LaneList) → Contains v.prefixes k → k.lane ≡ lane → IsBeginning k.notes notes
+
 -- n is above the last number of the list, if it has one
 abbrev pub IsAbove : ℕ → List Note → Type 0
 IsAbove n [] = Unit {0}
@@ -100,6 +104,10 @@ Looks p class m n m' = (m'.1 ≡ m.1) × (m'.0 ≡ looked m.0 p class n) × (rea
 
 abbrev pub Notes : {S : Type 0} → Note → Me S View → ℕ → Me S View → Type 0
 Notes x m n m' = (m'.1 ≡ m.1) × (m'.0 ≡ noted m.0 x) × (n ≡ length (first_notes m.0.kept))
+
+-- each list that the seat knows of a lane that it keeps is a beginning of the one that it keeps
+abbrev pub Compares : {S : Type 0} → Me S View → Me S View → Type 0
+Compares m m' = (m' ≡ m) × ((k : LaneList) → Contains m.0.kept k → IsLongest k.lane k.notes m.0)
 
 -- n lanes from this one on, with empty lists
 abbrev pub empty_lists : ℕ → ℕ → ℕ → List LaneList

@@ -7,11 +7,11 @@ ghost use Rattle.nt_mark.specs.declared.view.Note.{Note};
 ghost use Rattle.nt_mark.specs.declared.view.LaneList.{LaneList};
 ghost use Rattle.nt_mark.specs.Views.{step_word, request_word, lane_word, reach, known_entries, known_lists, drawn, marked, looked, noted, note_of, telling, keeping, both, HasSame, first_kept, other_kept, first_notes, entry_numbers, note_numbers};
 ghost use Rattle.nt_event.specs.declared.limits.TheConstants.{EVENTS};
-ghost use Rattle.nt_mark.specs.Rule.{IsAbove, IsBeginning, empty_lists};
+ghost use Rattle.nt_mark.specs.Rule.{IsAbove, IsBeginning, IsLongest, empty_lists};
 
 use crate::seats::{Keeper, Law, Pass};
 use crate::steps::{
-    Asks, Drawing, Draws, Looks, Meets, Notes, Noting, OneLane, OnePart, Request, Tells,
+    Asks, Compares, Drawing, Draws, Looks, Meets, Notes, Noting, OneLane, OnePart, Request, Tells,
 };
 use crate::traits::Shows;
 use crate::view::{Sizes, View};
@@ -283,6 +283,22 @@ impl Marks {
         self.table
             .shared
             .join_seat::<Meets>(&mut keeper.seat, theirs);
+    }
+
+    /// The keeper takes in all that the pass knows, which tells that its list is the longest one: each list of its lane that
+    /// the pass knows is a beginning of it. The pass stays as it is.
+    pub fn compare(&self, keeper: &mut Keeper, pass: &mut Pass)
+        requires { (keeper_table keeper.old ≡ table_of self.now) × (pass_table pass.old ≡ table_of self.now) }
+        ensures same { (keeper_table keeper.new ≡ keeper_table keeper.old) × (pass_table pass.new ≡ pass_table pass.old) × (keeper_lane keeper.new ≡ keeper_lane keeper.old) }
+        ensures pass { pass_view pass.new ≡ pass_view pass.old }
+        ensures keeper { keeper_view keeper.new ≡ both (keeper_view keeper.old) (telling (pass_view pass.old) 0 []) }
+        ensures own { HasSame (keeper_view keeper.old) (keeper_view keeper.new) }
+        ensures longest { IsLongest (keeper_lane keeper.new) (keeper_notes keeper.new) (pass_view pass.new) }
+    {
+        let told = self.table.shared.split_seat::<Tells>(&mut pass.seat);
+        self.table.shared.join_seat::<Meets>(&mut keeper.seat, told);
+        let word = keeper.word;
+        self.table.shared.load::<Compares>(&mut keeper.seat, word);
     }
 
     /// A new pass with one of the parts, with no entry, mark or look, which knows what this one knows. This one has to hold at

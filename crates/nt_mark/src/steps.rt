@@ -105,6 +105,15 @@ impl<D: Noting> Play<u8, View> for Notes<D> {
     ghost then = { λ s m n m'. rule.Notes D.note m n m' };
 }
 
+/// A load that changes nothing of the seat.
+pub struct Compares;
+
+impl Play<u8, View> for Compares {
+    ghost use Rattle.nt_mark.specs.Rule as rule;
+
+    ghost then = { λ s m n m'. rule.Compares m m' };
+}
+
 /// A new seat is told all that this one knows.
 pub struct Tells;
 
