@@ -6,17 +6,17 @@ ghost use Rattle.nt_lane.specs.Tries.{IsDone, IsNotDone};
 ghost use Rattle.nt_lane.specs.Views.{drawable_of};
 ghost use Rattle.nt_mark.specs.Names.{cpus_of, lanes_of, pass_table, pass_view, table_of};
 
+use crate::foreseeing::foresee;
 use crate::lanes::Lanes;
 use crate::locks::lock;
-use crate::needs::needs_of_job;
 use crate::tries::{Tried, try_under};
 use nt_event::{Job, Plan, Stand};
 use nt_floor::{ActRefusal, Acted};
 use nt_mark::{Marks, Pass, Shared};
 use std::sync::Wait;
 
-/// Makes the event of a job for a processor that stands so: takes the locks that it needs, in order, and tries under them; with other
-/// needs again, until it is done. It may wait.
+/// Makes the event of a job for a processor that stands so: takes the locks that it foresees, in order, and tries under them; with
+/// other needs again, until it is done. It may wait.
 pub(crate) fn act_under<'s, N: Plan + Shared, R: Wait>(
     rt: &R,
     lanes: &Lanes<'s, N>,
@@ -35,7 +35,7 @@ pub(crate) fn act_under<'s, N: Plan + Shared, R: Wait>(
     ensures refused { IfErr result (λ r. IsNotDone N.script stand.now job.now (pass_view pass.old) (pass_view pass.new) r) }
 {
     let script = lanes.script;
-    let mut needs = needs_of_job(script, job, stand);
+    let mut needs = foresee(rt, lanes, job, stand);
     for _ in rt.forever() {
         let mut locked = lock(rt, lanes, &needs);
         match try_under(&mut locked, script, marks, pass, job, stand) {

@@ -9,6 +9,7 @@ ghost use Rattle.nt_lane.specs.Answers.{AreThere, BothAgree, IsHeld, held_lanes}
 ghost use Rattle.nt_lane.specs.Held.{IsGroupThere, IsObjectThere, IsQueueThere};
 ghost use Rattle.nt_timer.specs.Laws.{IsSized};
 
+use crate::needs::Needs;
 use crate::states::{Clock, Group, Object, Queue};
 use nt_dpc::{DpcObject, DpcQueue};
 use nt_event::{
@@ -128,6 +129,28 @@ impl<'h, 's> Held<'h, 's> {
                 None => false,
             },
             Lane::Timers => self.timers.is_some(),
+        }
+    }
+
+    /// The locks by which they are held.
+    pub(crate) fn needs(&self) -> Needs {
+        let object = match self.object {
+            Some(object) => Some(object.dpc),
+            None => None,
+        };
+        let queue = match self.queue {
+            Some(queue) => Some(queue.cpu),
+            None => None,
+        };
+        let group = match self.group {
+            Some(group) => Some(group.cpu),
+            None => None,
+        };
+        Needs {
+            object,
+            queue,
+            group,
+            timers: self.timers.is_some(),
         }
     }
 

@@ -16,6 +16,7 @@
 mod acting;
 mod deciding;
 mod floor;
+mod foreseeing;
 mod held;
 mod lane;
 mod lanes;

@@ -3,6 +3,7 @@ ghost use Rattle.std.specs.Prelude.{◌≡◌};
 ghost use Rattle.nt_lane.specs.Needed.{IsNeeded, with_lane, with_lanes};
 ghost use Rattle.nt_states.specs.Reads.{AreHeld, job_lanes, reply_lanes};
 
+use crate::reading::has_due;
 use nt_event::{Command, CpuNo, DpcNo, Job, Lane, Script, Stand};
 
 /// The lanes whose locks an act takes, in the order of the locks: at most one of each kind.
@@ -100,10 +101,22 @@ pub(crate) fn needs_of_job(script: &Script, job: &Job, stand: &Stand) -> Needs
     match job {
         Job::Call(command) => needs_of_command(script, stand.cpu, command),
         Job::Fire(d) => one(Lane::Object(*d)),
-        Job::Drain => Needs::none().with(queue).with(Lane::Timers),
+        Job::Drain => {
+            if stand.sweep {
+                one(queue).with(Lane::Timers)
+            } else {
+                one(queue)
+            }
+        }
         Job::Threaded => one(queue),
         Job::Idle | Job::Pick(_) => Needs::none().with(queue).with(threads),
-        Job::Rewait => Needs::none().with(threads).with(Lane::Timers),
+        Job::Rewait => {
+            if has_due(stand) {
+                one(threads).with(Lane::Timers)
+            } else {
+                one(threads)
+            }
+        }
         Job::Apcs | Job::Switch(_) | Job::ToUser | Job::Rundown => one(threads),
         Job::UserEnd | Job::Leave => Needs::none(),
     }

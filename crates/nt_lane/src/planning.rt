@@ -168,7 +168,8 @@ fn plan_of(held: &Held, stand: &Stand, what: &What, lanes: Touched) -> Plan
     }
 }
 
-/// What becomes of an event that is decided.
+/// What becomes of an event that is decided: it is made where the lanes that are held are exactly those that its job reads and those
+/// that it touches, so that it is never made under a lock that it doesn't need.
 fn plan_event(
     script: &Script,
     held: &Held,
@@ -194,10 +195,11 @@ fn plan_event(
         return Planned::Again(first);
     }
     let lanes = nt_states::event_lanes(held, stand, what);
-    if holds_all(held, lanes.as_slice()) {
+    let needs = first.with_all(lanes.as_slice());
+    if held.needs() == needs && holds_all(held, lanes.as_slice()) {
         Planned::Event(plan_of(held, stand, what, lanes))
     } else {
-        Planned::Again(first.with_all(lanes.as_slice()))
+        Planned::Again(needs)
     }
 }
 

@@ -42,7 +42,7 @@ fn reads_reply(held: &Held, cpu: CpuNo, command: &Command) -> bool
 }
 
 /// Whether the wait that is taken up again has a due time.
-fn has_due(stand: &Stand) -> bool
+pub(crate) fn has_due(stand: &Stand) -> bool
     ensures { result ≡ is_some (option_and_then (λ w. w.due) stand.now.again) }
 {
     match stand.again {
