@@ -16,7 +16,7 @@ use crate::leaving::leave_both;
 use crate::numbers::Numbers;
 use crate::planning::Plan;
 use crate::states::{Clock, Group, Object, Queue};
-use nt_event::{Plan as Planned, Script, Stand};
+use nt_event::{Script, Stand};
 use nt_mark::{Marks, Pass, Shared};
 
 /// An event that was drawn, of a processor that stands so, with the numbers of its lanes.
@@ -30,7 +30,7 @@ pub(crate) struct Step<'p> {
 }
 
 /// The threads of a processor take in the event, and note it.
-pub(crate) fn note_group<'s, N: Planned + Shared>(
+pub(crate) fn note_group<'s, N: nt_event::Plan + Shared>(
     lane: &mut Lane<N, Group<'s>>,
     marks: &Marks,
     pass: &mut Pass,
@@ -60,7 +60,7 @@ pub(crate) fn note_group<'s, N: Planned + Shared>(
 }
 
 /// The timers take in the event, and note it.
-pub(crate) fn note_timers<N: Planned + Shared>(
+pub(crate) fn note_timers<N: nt_event::Plan + Shared>(
     lane: &mut Lane<N, Clock>,
     marks: &Marks,
     pass: &mut Pass,
@@ -90,7 +90,7 @@ pub(crate) fn note_timers<N: Planned + Shared>(
 }
 
 /// A DPC object takes in the event, which touches no queue, and notes it.
-pub(crate) fn note_object<N: Planned + Shared>(
+pub(crate) fn note_object<N: nt_event::Plan + Shared>(
     lane: &mut Lane<N, Object>,
     marks: &Marks,
     pass: &mut Pass,
@@ -118,7 +118,7 @@ pub(crate) fn note_object<N: Planned + Shared>(
 }
 
 /// A DPC queue takes in the event of its processor, which touches no object, and notes it.
-pub(crate) fn note_queue<N: Planned + Shared>(
+pub(crate) fn note_queue<N: nt_event::Plan + Shared>(
     lane: &mut Lane<N, Queue>,
     marks: &Marks,
     pass: &mut Pass,
@@ -146,7 +146,7 @@ pub(crate) fn note_queue<N: Planned + Shared>(
 }
 
 /// A DPC object and the queue that it is inserted into, removed from or taken from take in the event, and note it.
-pub(crate) fn note_both<N: Planned + Shared>(
+pub(crate) fn note_both<N: nt_event::Plan + Shared>(
     object: &mut Lane<N, Object>,
     queue: &mut Lane<N, Queue>,
     marks: &Marks,

@@ -18,7 +18,7 @@ use crate::needs::Needs;
 use crate::noting::Step;
 use crate::numbers::{Numbers, touched_numbers};
 use crate::planning::{Plan, Planned};
-use nt_event::{Job, Plan as Played, Rises, Script, Stand};
+use nt_event::{Job, Rises, Script, Stand};
 use nt_floor::{ActRefusal, Acted};
 use nt_mark::{Marks, Pass, Shared};
 use nt_plain::tell_own;
@@ -34,7 +34,7 @@ pub(crate) enum Tried {
 }
 
 /// Draws the number of a plan's event, as touching the lanes of these numbers, and marks it for what it asks.
-fn draw_plan<N: Played + Shared>(
+fn draw_plan<N: nt_event::Plan + Shared>(
     marks: &Marks,
     pass: &mut Pass,
     plan: &Plan,
@@ -55,7 +55,7 @@ fn draw_plan<N: Played + Shared>(
 }
 
 /// Makes the event of a plan, whose lanes are held and have room.
-fn make<'s, N: Played + Shared>(
+fn make<'s, N: nt_event::Plan + Shared>(
     locked: &mut Locked<'_, 's, N>,
     script: &Script,
     marks: &Marks,
@@ -101,7 +101,7 @@ fn make<'s, N: Played + Shared>(
 /// Makes the event of the job in the states of the lanes that are held, or says which others it takes.
 ///
 /// The event is decided under the locks, and made only where each lane that it touches is held.
-pub(crate) fn try_under<'s, N: Played + Shared>(
+pub(crate) fn try_under<'s, N: nt_event::Plan + Shared>(
     locked: &mut Locked<'_, 's, N>,
     script: &Script,
     marks: &Marks,
