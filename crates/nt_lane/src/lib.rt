@@ -33,8 +33,6 @@ mod record;
 mod seat;
 mod standing;
 mod states;
-#[cfg(test)]
-mod tests;
 mod touching;
 mod tries;
 
