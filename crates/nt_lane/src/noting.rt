@@ -6,7 +6,8 @@ ghost use Rattle.nt_event.specs.Objects.{ObjectState};
 ghost use Rattle.nt_event.specs.Script.{fits};
 ghost use Rattle.nt_event.specs.Timers.{timers_after};
 ghost use Rattle.nt_lane.specs.Held.{group_content};
-ghost use Rattle.nt_lane.specs.Steps.{IsReady, IsStep, KnowsLeft, MayLeaveBoth, MayLeaveGroup, MayLeaveObject, MayLeaveQueue, MayLeaveTimers, object_left, queue_left};
+ghost use Rattle.nt_lane.specs.Records.{IsNoted, told_then};
+ghost use Rattle.nt_lane.specs.Steps.{IsReady, IsStep, KnowsLeft, MayLeaveBoth, MayLeaveGroup, MayLeaveObject, MayLeaveQueue, MayLeaveTimers, note_left, object_left, queue_left};
 ghost use Rattle.nt_lane.specs.Views.{Learns};
 ghost use Rattle.nt_mark.specs.Names.{pass_table, pass_view, table_of};
 ghost use Rattle.nt_thread_lanes.specs.Lanes.{left};
@@ -15,6 +16,7 @@ use crate::lane::Lane;
 use crate::leaving::leave_both;
 use crate::numbers::Numbers;
 use crate::planning::Plan;
+use crate::record::{Holds, Record};
 use crate::states::{Clock, Group, Object, Queue};
 use nt_event::{Script, Stand};
 use nt_mark::{Marks, Pass, Shared};
@@ -27,6 +29,31 @@ pub(crate) struct Step<'p> {
     pub(crate) stand: &'p Stand,
     pub(crate) plan: &'p Plan,
     pub(crate) numbers: &'p Numbers,
+}
+
+/// A lane's record notes the event of a step, with the content that the event leaves.
+fn note_step<N: nt_event::Plan + Shared, S: Holds>(
+    log: &mut Record<N>,
+    marks: &Marks,
+    pass: &mut Pass,
+    step: &Step,
+    content: &S,
+)
+    requires table { (table_of marks.now ≡ N.table) × (pass_table pass.old ≡ N.table) }
+    requires step { IsStep N.script (pass_view pass.old) step.now.number step.now.plan.now.event step.now.numbers.now step.now.plan.now.asks }
+    requires ready { IsReady step.now.number step.now.numbers.now log.old }
+    ensures table { pass_table pass.new ≡ N.table }
+    ensures noted { IsNoted log.old log.new (pass_view pass.old) (pass_view pass.new) (note_left N.script step.now.number step.now.plan.now.asks (S.content content.now) log.old) (told_then N.script.cpus step.now.number step.now.plan.now.asks log.old.told) }
+{
+    log.note::<S>(
+        marks,
+        pass,
+        step.number,
+        &step.plan.event,
+        step.numbers.as_slice(),
+        step.plan.asks.as_slice(),
+        content,
+    );
 }
 
 /// The threads of a processor take in the event, and note it.
@@ -45,18 +72,9 @@ pub(crate) fn note_group<'s, N: nt_event::Plan + Shared>(
     ensures learns { Learns (pass_view pass.old) (pass_view pass.new) }
     ensures noted { KnowsLeft N.script step.now.number step.now.plan.now.asks (group_content (record lane.old.state { threads = left step.now.number step.now.stand.now step.now.plan.now.event lane.old.state.threads })) lane.old.log (pass_view pass.new) }
 {
-    let event = &step.plan.event;
     lane.state
-        .leave(step.script, step.number, step.stand, event);
-    lane.log.note::<Group<'s>>(
-        marks,
-        pass,
-        step.number,
-        event,
-        step.numbers.as_slice(),
-        step.plan.asks.as_slice(),
-        &lane.state,
-    );
+        .leave(step.script, step.number, step.stand, &step.plan.event);
+    note_step::<N, Group<'s>>(&mut lane.log, marks, pass, step, &lane.state);
 }
 
 /// The timers take in the event, and note it.
@@ -75,18 +93,9 @@ pub(crate) fn note_timers<N: nt_event::Plan + Shared>(
     ensures learns { Learns (pass_view pass.old) (pass_view pass.new) }
     ensures noted { KnowsLeft N.script step.now.number step.now.plan.now.asks (OfTimers (timers_after N.script step.now.number step.now.stand.now step.now.plan.now.event lane.old.state)) lane.old.log (pass_view pass.new) }
 {
-    let event = &step.plan.event;
     lane.state
-        .leave(step.script, step.number, step.stand, event);
-    lane.log.note::<Clock>(
-        marks,
-        pass,
-        step.number,
-        event,
-        step.numbers.as_slice(),
-        step.plan.asks.as_slice(),
-        &lane.state,
-    );
+        .leave(step.script, step.number, step.stand, &step.plan.event);
+    note_step::<N, Clock>(&mut lane.log, marks, pass, step, &lane.state);
 }
 
 /// A DPC object takes in the event, which touches no queue, and notes it.
@@ -104,17 +113,8 @@ pub(crate) fn note_object<N: nt_event::Plan + Shared>(
     ensures learns { Learns (pass_view pass.old) (pass_view pass.new) }
     ensures noted { KnowsLeft N.script step.now.number step.now.plan.now.asks (OfObject (object_left step.now.number step.now.plan.now.event lane.old.state).state) lane.old.log (pass_view pass.new) }
 {
-    let event = &step.plan.event;
-    lane.state.leave(&event.what);
-    lane.log.note::<Object>(
-        marks,
-        pass,
-        step.number,
-        event,
-        step.numbers.as_slice(),
-        step.plan.asks.as_slice(),
-        &lane.state,
-    );
+    lane.state.leave(&step.plan.event.what);
+    note_step::<N, Object>(&mut lane.log, marks, pass, step, &lane.state);
 }
 
 /// A DPC queue takes in the event of its processor, which touches no object, and notes it.
@@ -132,17 +132,8 @@ pub(crate) fn note_queue<N: nt_event::Plan + Shared>(
     ensures learns { Learns (pass_view pass.old) (pass_view pass.new) }
     ensures noted { (objects : List ObjectState) → KnowsLeft N.script step.now.number step.now.plan.now.asks (OfQueue (queue_left N.script step.now.number step.now.plan.now.event objects lane.old.state).state) lane.old.log (pass_view pass.new) }
 {
-    let event = &step.plan.event;
-    lane.state.leave(&event.what);
-    lane.log.note::<Queue>(
-        marks,
-        pass,
-        step.number,
-        event,
-        step.numbers.as_slice(),
-        step.plan.asks.as_slice(),
-        &lane.state,
-    );
+    lane.state.leave(&step.plan.event.what);
+    note_step::<N, Queue>(&mut lane.log, marks, pass, step, &lane.state);
 }
 
 /// A DPC object and the queue that it is inserted into, removed from or taken from take in the event, and note it.
@@ -165,30 +156,13 @@ pub(crate) fn note_both<N: nt_event::Plan + Shared>(
     ensures object { KnowsLeft N.script step.now.number step.now.plan.now.asks (OfObject (object_left step.now.number step.now.plan.now.event object.old.state).state) object.old.log (pass_view pass.new) }
     ensures queue { (objects : List ObjectState) → IsObject N.script objects object.old.state → KnowsLeft N.script step.now.number step.now.plan.now.asks (OfQueue (queue_left N.script step.now.number step.now.plan.now.event objects queue.old.state).state) queue.old.log (pass_view pass.new) }
 {
-    let event = &step.plan.event;
     leave_both(
         &mut object.state,
         &mut queue.state,
         step.number,
         step.stand.cpu,
-        &event.what,
+        &step.plan.event.what,
     );
-    object.log.note::<Object>(
-        marks,
-        pass,
-        step.number,
-        event,
-        step.numbers.as_slice(),
-        step.plan.asks.as_slice(),
-        &object.state,
-    );
-    queue.log.note::<Queue>(
-        marks,
-        pass,
-        step.number,
-        event,
-        step.numbers.as_slice(),
-        step.plan.asks.as_slice(),
-        &queue.state,
-    );
+    note_step::<N, Object>(&mut object.log, marks, pass, step, &object.state);
+    note_step::<N, Queue>(&mut queue.log, marks, pass, step, &queue.state);
 }
