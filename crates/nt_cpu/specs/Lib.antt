@@ -11,3 +11,4 @@ pub mod Turns
 pub mod Runs
 pub mod Insides
 pub mod Steps
+pub mod Choices

@@ -12,6 +12,7 @@
 #![tactic(auto)]
 
 mod alone;
+mod choice;
 mod cpu;
 mod due;
 mod framing;
@@ -27,6 +28,7 @@ mod turn;
 mod values;
 mod writing;
 
+pub use choice::Choice;
 pub use cpu::Cpu;
 pub use steps::{Local, Turned};
 pub use turn::TurnRefusal;

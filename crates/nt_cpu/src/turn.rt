@@ -11,9 +11,12 @@ ghost use Rattle.nt_event.specs.Jobs.{may_switch as switch_in};
 ghost use Rattle.nt_event.specs.Script.{has_thread};
 ghost use Rattle.nt_event.specs.Lists.{when};
 ghost use Rattle.nt_cpu.specs.declared.turn.TurnRefusal.{TurnRefusal};
+ghost use Rattle.nt_event.specs.declared.numbers.CpuNo.{CpuNo};
+ghost use Rattle.nt_cpu.specs.Choices.{turn_by};
 ghost use Rattle.nt_cpu.specs.Plans.{planned};
 ghost use Rattle.nt_cpu.specs.Turns.{IsTurned, IsTurnRefused, Serves, acts, rises as rises_in, turn_refusal as refusal_of, turn_task as task_of};
 
+use crate::choice::Choice;
 use crate::cpu::Cpu;
 use crate::looks::rise;
 use crate::plan::{Deed, Plan};
@@ -35,13 +38,13 @@ pub enum TurnRefusal {
 }
 
 /// The refusal of a turn that gives no event.
-fn turn_refusal(turn: &Turn) -> TurnRefusal
-    ensures { result ≡ refusal_of turn.now }
+fn turn_refusal(choice: &Choice) -> TurnRefusal
+    ensures { (p : CpuNo) → result ≡ refusal_of (turn_by p choice.now) }
 {
-    match turn {
-        Turn::Next(_) => TurnRefusal::NothingToDo,
-        Turn::Look(_, _) => TurnRefusal::BadLook,
-        Turn::Switch(_, _) => TurnRefusal::BadChoice,
+    match choice {
+        Choice::Next => TurnRefusal::NothingToDo,
+        Choice::Look(_) => TurnRefusal::BadLook,
+        Choice::Switch(_) => TurnRefusal::BadChoice,
     }
 }
 
@@ -54,13 +57,13 @@ impl<'s> Cpu<'s> {
     }
 
     /// What a turn has it do, or None where the turn is refused.
-    fn turn_task<'t>(&self, turn: &'t Turn) -> Option<Plan<'t>>
-        ensures { planned result ≡ task_of self.now.script self.now.cpu self.now.own turn.now }
+    fn turn_task<'t>(&self, choice: &Choice<'t>) -> Option<Plan<'t>>
+        ensures { planned result ≡ task_of self.now.script self.now.cpu self.now.own (turn_by self.now.cpu choice.now) }
     {
-        match turn {
-            Turn::Next(_) => self.task(),
-            Turn::Look(_, rises) => self.look_task(rises),
-            Turn::Switch(_, thread) => self.switch_task(*thread),
+        match choice {
+            Choice::Next => self.task(),
+            Choice::Look(rises) => self.look_task(rises),
+            Choice::Switch(thread) => self.switch_task(*thread),
         }
     }
 
@@ -123,6 +126,26 @@ impl<'s> Cpu<'s> {
         requires serves { Serves self.old (F.view floor.old) }
         ensures ok { OnOk result ((f : Found) × (n : ℕ) × (IsTurned self.old self.new choice.now f n event.new (F.view floor.old) (F.view floor.new) × (acts self.old choice.now ≡ true → F.found floor.new n event.new (stand_in self.old.cpu self.old.own) f))) }
         ensures err { IfErr result (λ r. (f : Found) × (IsTurnRefused self.old choice.now f r (F.view floor.old) × (acts self.old choice.now ≡ true → (job : Job) → task_of self.old.script self.old.cpu self.old.own choice.now ≡ Some (Task.Shared job) → F.shows floor.new (stand_in self.old.cpu self.old.own) job f))) }
+        ensures same { OnErr result ((self.new ≡ self.old) × IsUnmoved (F.view floor.old) (F.view floor.new)) }
+        ensures unwritten { OnErr result (event.new ≡ event.old) }
+        ensures memory { (F.view floor.old).alone ≡ true → IsErrOf result TurnRefusal.NoMemory → ⊥ }
+        ensures script { F.script floor.new ≡ F.script floor.old }
+        ensures grows { F.grows floor.old floor.new }
+    {
+        self.choose_into(floor, &Choice::of(choice), event)
+    }
+
+    /// Takes its turn of this choice as [`Cpu::turn_into`] does.
+    pub fn choose_into<F: Floor>(
+        &mut self,
+        floor: &mut F,
+        choice: &Choice,
+        event: &mut Event,
+    ) -> Result<(), TurnRefusal>
+        requires script { F.script floor.old ≡ self.old.script }
+        requires serves { Serves self.old (F.view floor.old) }
+        ensures ok { OnOk result ((f : Found) × (n : ℕ) × (IsTurned self.old self.new (turn_by self.old.cpu choice.now) f n event.new (F.view floor.old) (F.view floor.new) × (acts self.old (turn_by self.old.cpu choice.now) ≡ true → F.found floor.new n event.new (stand_in self.old.cpu self.old.own) f))) }
+        ensures err { IfErr result (λ r. (f : Found) × (IsTurnRefused self.old (turn_by self.old.cpu choice.now) f r (F.view floor.old) × (acts self.old (turn_by self.old.cpu choice.now) ≡ true → (job : Job) → task_of self.old.script self.old.cpu self.old.own (turn_by self.old.cpu choice.now) ≡ Some (Task.Shared job) → F.shows floor.new (stand_in self.old.cpu self.old.own) job f))) }
         ensures same { OnErr result ((self.new ≡ self.old) × IsUnmoved (F.view floor.old) (F.view floor.new)) }
         ensures unwritten { OnErr result (event.new ≡ event.old) }
         ensures memory { (F.view floor.old).alone ≡ true → IsErrOf result TurnRefusal.NoMemory → ⊥ }
