@@ -3,12 +3,13 @@ use Rattle.std.proofs.Common.{ap, arith, sym, ◌∙◌}
 use Rattle.std.proofs.lemmas.Bool.Decides.{nat_tests}
 use Rattle.std.specs.List.{list_all, list_any}
 use Rattle.std.specs.Option.{option_or}
-use Rattle.std.specs.Prelude.{Bool, IfSome, List, None, Option, Some, false, if◌then◌else◌, is_none, is_some, nat_lt, not, refl, suc, true, ℕ, ◌&&◌, ◌<◌, ◌≡◌}
+use Rattle.std.specs.Prelude.{Bool, IfSome, List, None, Option, Some, false, if◌then◌else◌, is_none, is_some, nat_lt, not, option_map, refl, suc, true, ℕ, ◌&&◌, ◌<◌, ◌≡◌}
 use Rattle.nt_event.specs.declared.events.Event.{Event}
 use Rattle.nt_event.specs.declared.events.Rises.{Rises}
 use Rattle.nt_event.specs.declared.events.Turn.{Turn}
-use Rattle.nt_event.specs.declared.events.Turn.TheVariants.{Look as LookTurn}
+use Rattle.nt_event.specs.declared.events.Turn.TheVariants.{Look as LookTurn, Next as NextTurn, Switch as SwitchTurn}
 use Rattle.nt_event.specs.declared.numbers.CpuNo.{CpuNo}
+use Rattle.nt_event.specs.declared.numbers.ThreadNo.{ThreadNo}
 use Rattle.nt_event.specs.declared.scripts.Script.{Script}
 use Rattle.nt_event.specs.Jobs.{rests}
 use Rattle.nt_event.specs.Lanes.{Lanes, lanes_at}
@@ -25,6 +26,10 @@ use Rattle.nt_floor.specs.Views.{View}
 use Rattle.nt_cpu.specs.Runs.{Follows, state_of}
 use Rattle.nt_cpu.specs.States.{CpuState}
 use Rattle.nt_cpus.specs.Cycles.{next_cpu}
+use Rattle.nt_cpus.specs.Steps.{chosen_turn, found_values, step_turn}
+use Rattle.nt_cpus.specs.declared.robins.Chosen.{Chosen}
+use Rattle.nt_cpus.specs.declared.robins.Step.{Step}
+use Rattle.nt_cpus.specs.declared.robins.Step.TheVariants.{Look, Next, Switch}
 
 -- ---- the turn of one processor
 
@@ -36,6 +41,21 @@ by_values s p x l vs =
 same_values : (x : Own) (f g : ℕ → ℕ) → ((k : ℕ) → k < 16 → f k ≡ g k) → look_values x f ≡ look_values x g
 same_values x f g h =
     table-same 16 (look_value x f) (look_value x g) (λ k b. ap (λ (n : ℕ). if nat_lt (value_at x.seen k) n then n else 0) (h k b))
+
+-- what a look finds, by what the processor and the floor have
+pub values_found : (s : Script) (limit : ℕ) (p : CpuNo) (past : List Event) (c : CpuState) (v : View) → p.0 < s.cpus → Follows s past v →
+    c ≡ state_of s p limit past → look_values c.own (v.value p) ≡ found_values s p past
+values_found s limit p past c v b h k =
+    let own : c.own ≡ own_of s p past = ap (λ (x : CpuState). x.own) k in
+    let cpus = h.cpus in
+    ap (λ (x : Own). look_values x (v.value p)) own
+    ∙ same_values (own_of s p past) (v.value p) (λ n. asked s p n past) (λ n m. h.value p n (omega arith, m))
+
+-- the same, by the values that the floor gave
+pub values_given : (s : Script) (limit : ℕ) (p : CpuNo) (past : List Event) (c : CpuState) (v : View) (values : List ℕ) → p.0 < s.cpus → Follows s past v →
+    c ≡ state_of s p limit past → ((k : ℕ) → k < 16 → value_at values k ≡ v.value p k) → look_values c.own (value_at values) ≡ found_values s p past
+values_given s limit p past c v values b h k g =
+    same_values c.own (value_at values) (v.value p) g ∙ values_found s limit p past c v b h k
 
 -- the rule's turn of an uncut processor is what the processor and the floor give
 pub robin_found : (s floor : Script) (limit : ℕ) (p : CpuNo) (past : List Event) (c : CpuState) (v : View) (l : Lanes) → p.0 < s.cpus → Follows s past v →
@@ -52,28 +72,32 @@ robin_found s floor limit p past c v l b h i e k u =
     ∙ (ap (by_values s p (own_of s p past) (lanes_at s past)) (same_values (own_of s p past) (v.value p) (λ n. asked s p n past) values)
     ∙ sym (ap (λ (z : Bool). when (not z) (robin_at s p (own_of s p past) (lanes_at s past) (λ n. asked s p n past))) u))))
 
--- the same, where the values are those of the floor
-pub values_turn : (s : Script) (p : CpuNo) (x : Own) (l : Lanes) (values : List ℕ) (asked : ℕ → ℕ) → ((k : ℕ) → k < 16 → value_at values k ≡ asked k) →
-    robin_at s p x l asked ≡ by_values s p x l (look_values x (value_at values))
-values_turn s p x l values asked h = ap (by_values s p x l) (sym (same_values x (value_at values) asked h))
+-- the turn, by the tests
+abbrev by_tests : Script → CpuNo → Own → Lanes → (ℕ → ℕ) → Bool → Bool → Option Turn
+by_tests s p x l asked b r =
+    if b then Some (LookTurn p (record { value = look_values x asked })) else (if r then None else Some (go_on_turn s p x l))
+
+tested : (s : Script) (p : CpuNo) (x : Own) (l : Lanes) (values : List ℕ) (asked : ℕ → ℕ) (b r : Bool) → ((k : ℕ) → k < 16 → value_at values k ≡ asked k) →
+    is_behind x (value_at values) ≡ b → rests x ≡ r → robin_at s p x l asked ≡ by_tests s p x l asked b r
+tested s p x l values asked b r h i k =
+    ap (λ (z : Bool). by_tests s p x l asked z (rests x))
+    (ap (λ (vs : List ℕ). list_any (λ v. nat_lt 0 v) vs) (sym (same_values x (value_at values) asked h)) ∙ i)
+    ∙ ap (by_tests s p x l asked b) k
 
 -- it looks
-pub looks_turn : (s : Script) (p : CpuNo) (x : Own) (l : Lanes) (values : List ℕ) (asked : ℕ → ℕ) (r : Rises) →
-    ((k : ℕ) → k < 16 → value_at values k ≡ asked k) → is_behind x (value_at values) ≡ true → r.value ≡ look_values x (value_at values) → Some (LookTurn p r)
-    ≡ robin_at s p x l asked
-looks_turn s p x l values asked r h b v =
-    ap (λ (vs : List ℕ). Some (LookTurn p (record { value = vs }))) v ∙ sym (values_turn s p x l values asked h ∙ rw b refl)
+pub looks_turn : (s : Script) (p : CpuNo) (x : Own) (l : Lanes) (values : List ℕ) (asked : ℕ → ℕ) → ((k : ℕ) → k < 16 → value_at values k ≡ asked k) →
+    is_behind x (value_at values) ≡ true → Some (LookTurn p (record { value = look_values x asked })) ≡ robin_at s p x l asked
+looks_turn s p x l values asked h b = sym (tested s p x l values asked true (rests x) h b refl)
 
 -- it rests
 pub rests_turn : (s : Script) (p : CpuNo) (x : Own) (l : Lanes) (values : List ℕ) (asked : ℕ → ℕ) → ((k : ℕ) → k < 16 → value_at values k ≡ asked k) →
     is_behind x (value_at values) ≡ false → rests x ≡ true → None ≡ robin_at s p x l asked
-rests_turn s p x l values asked h b r = sym (values_turn s p x l values asked h ∙ rw (b, r) refl)
+rests_turn s p x l values asked h b r = sym (tested s p x l values asked false true h b r)
 
 -- it goes on
 pub goes_turn : (s : Script) (p : CpuNo) (x : Own) (l : Lanes) (values : List ℕ) (asked : ℕ → ℕ) (t : Turn) → ((k : ℕ) → k < 16 → value_at values k ≡ asked k) →
     is_behind x (value_at values) ≡ false → rests x ≡ false → t ≡ go_on_turn s p x l → Some t ≡ robin_at s p x l asked
-goes_turn s p x l values asked t h b r e =
-    ap (λ (u : Turn). Some u) e ∙ sym (values_turn s p x l values asked h ∙ rw (b, r) refl)
+goes_turn s p x l values asked t h b r e = ap (λ (u : Turn). Some u) e ∙ sym (tested s p x l values asked false false h b r)
 
 pub every_lanes : {P : Lanes → Type 0} (o : Option Lanes) → ((l : Lanes) → P l) → IfSome o P
 every_lanes {P} None h = tt
@@ -83,26 +107,39 @@ pub those_lanes : {P Q : Lanes → Type 0} (o : Option Lanes) → ((l : Lanes) �
 those_lanes {P} {Q} None h i = tt
 those_lanes {P} {Q} (Some l) h i = h l i
 
+-- ---- the turn of a step
+
+pub look_chosen : (s : Script) (past : List Event) (c : Chosen) (r : Rises) → c.step ≡ Look → r.value ≡ found_values s c.cpu past →
+    chosen_turn s past c ≡ LookTurn c.cpu r
+look_chosen s past c r h e =
+    ap (step_turn c.cpu (found_values s c.cpu past)) h ∙ ap (λ (vs : List ℕ). LookTurn c.cpu (record { value = vs })) (sym e)
+
+pub switch_chosen : (s : Script) (past : List Event) (c : Chosen) (t : ThreadNo) → c.step ≡ Switch t → chosen_turn s past c ≡ SwitchTurn c.cpu t
+switch_chosen s past c t h = ap (step_turn c.cpu (found_values s c.cpu past)) h
+
+pub next_chosen : (s : Script) (past : List Event) (c : Chosen) → c.step ≡ Next → chosen_turn s past c ≡ NextTurn c.cpu
+next_chosen s past c h = ap (step_turn c.cpu (found_values s c.cpu past)) h
+
+-- a step was found, or none
+pub some_step : (s : Script) (p : CpuNo) (past : List Event) (o : Option Step) (x : Step) (t : Option Turn) → o ≡ Some x →
+    option_map (step_turn p (found_values s p past)) o ≡ t → t ≡ Some (step_turn p (found_values s p past) x)
+some_step s p past o x t h e = sym e ∙ ap (λ (z : Option Step). option_map (step_turn p (found_values s p past)) z) h
+
+pub no_step : (s : Script) (p : CpuNo) (past : List Event) (o : Option Step) (t : Option Turn) → o ≡ None →
+    option_map (step_turn p (found_values s p past)) o ≡ t → t ≡ None
+no_step s p past o t h e = sym e ∙ ap (λ (z : Option Step). option_map (step_turn p (found_values s p past)) z) h
+
 -- ---- the cycle
 
 -- the first of n processors has no turn
-robin_next : (s : Script) (limit n p : ℕ) (past : List Event) → robin_of s limit (cpu p) past ≡ None → robin_from s limit (suc n) p past
+pub robin_next : (s : Script) (limit n p : ℕ) (past : List Event) → robin_of s limit (cpu p) past ≡ None → robin_from s limit (suc n) p past
     ≡ robin_from s limit n (next_cpu s p) past
 robin_next s limit n p past h = ap (λ (o : Option Turn). option_or o (robin_from s limit n (next_cpu s p) past)) h
 
 -- it has one
-pub robin_here : (s : Script) (limit n p : ℕ) (past : List Event) (o : Option Turn) → robin_of s limit (cpu p) past ≡ o → is_some o ≡ true →
-    robin_from s limit (suc n) p past ≡ o
-robin_here s limit n p past (Some t) h i = ap (λ (o : Option Turn). option_or o (robin_from s limit n (next_cpu s p) past)) h
-robin_here s limit n p past None h i = absurd cc
-
-not_some : (o : Option Turn) → is_some o ≡ false → o ≡ None
-not_some None h = refl
-not_some (Some t) h = absurd cc
-
-pub robin_none : (s : Script) (limit n p : ℕ) (past : List Event) (o : Option Turn) → o ≡ robin_of s limit (cpu p) past → is_some o ≡ false →
-    robin_from s limit (suc n) p past ≡ robin_from s limit n (next_cpu s p) past
-robin_none s limit n p past o h i = robin_next s limit n p past (sym h ∙ not_some o i)
+pub robin_here : (s : Script) (limit n p : ℕ) (past : List Event) (t : Turn) → robin_of s limit (cpu p) past ≡ Some t → robin_from s limit (suc n) p past
+    ≡ Some t
+robin_here s limit n p past t h = ap (λ (o : Option Turn). option_or o (robin_from s limit n (next_cpu s p) past)) h
 
 -- a processor below the count has the rule's turn
 pub present : (s : Script) (p : CpuNo) (o : Option Turn) → p.0 < s.cpus → when (has_cpu s p) o ≡ o

@@ -1,19 +1,26 @@
 -- A turn of processors and a floor that stand after a run.
 use Rattle.std.proofs.Common.{ap, arith, set, subst, sym, ◌∙◌}
+use Rattle.std.proofs.lemmas.Bool.Decides.{nat_tests}
 use Rattle.std.proofs.lemmas.List.{set-get_or}
-use Rattle.std.specs.Prelude.{Err, List, Ok, Some, false, get_or, true, ℕ, ◌<◌, ◌∷◌, ◌≡◌, ◌≤◌}
+use Rattle.std.specs.Prelude.{Bool, Err, List, Ok, Some, false, get_or, nat_lt, not, refl, true, ℕ, ◌<◌, ◌∷◌, ◌≡◌, ◌≤◌}
 use Rattle.nt_event.specs.declared.events.Event.{Event}
 use Rattle.nt_event.specs.declared.events.Turn.{Turn}
 use Rattle.nt_event.specs.declared.numbers.CpuNo.{CpuNo}
 use Rattle.nt_event.specs.declared.scripts.Script.{Script}
 use Rattle.nt_event.specs.Lanes.{Lanes}
 use Rattle.nt_event.specs.Own.{own_of}
-use Rattle.nt_event.specs.Step.{cpu_at, is_cut, step}
+use Rattle.nt_event.specs.Robin.{robin_of}
+use Rattle.nt_event.specs.Step.{IsRun, cpu_at, is_cut, step}
+use Rattle.nt_event.proofs.Options.{holds_at, holds_when}
+use Rattle.nt_runs.proofs.Robin.{robin_at_accepted}
 use Rattle.nt_runs.proofs.Turns.{run_grows}
 use Rattle.nt_laws.proofs.Counts.{uncut_room}
 use Rattle.nt_floor.specs.Acts.{Found}
 use Rattle.nt_floor.specs.Views.{IsUnmoved, View}
+use Rattle.nt_cpu.specs.Choices.{turn_by}
 use Rattle.nt_cpu.specs.Runs.{is_asked, state_of}
+use Rattle.nt_cpu.specs.declared.choice.Choice.{Choice}
+use Rattle.nt_cpu.specs.declared.choice.Choice.TheVariants.{Look, Next, Switch}
 use Rattle.nt_cpu.specs.States.{CpuState}
 use Rattle.nt_cpu.specs.Turns.{IsTurnRefused, IsTurned, Serves, kind_of_refusal}
 use Rattle.nt_cpu.specs.declared.turn.TurnRefusal.{TurnRefusal}
@@ -24,7 +31,7 @@ use Rattle.nt_cpus.specs.Following.{AreAfter, cpus_of}
 use Rattle.nt_cpus.specs.States.{CpusState}
 use Rattle.nt_cpus.proofs.Floors.{follows_still}
 use Rattle.nt_cpus.proofs.Holding.{cpu_held}
-use Rattle.nt_cpus.proofs.Stepping.{cpus_move, refused_step, turned_step}
+use Rattle.nt_cpus.proofs.Stepping.{cpus_move, cut_step, refused_step, turned_step, unasked_step}
 
 -- the processor of the turn
 pub taker_held : (past : List Event) (c : CpusState) (floor : Script) (v : View) (t : Turn) (p : CpuNo) (x d : CpuState) → AreAfter past c floor v →
@@ -92,3 +99,38 @@ still_after past c d floor other v w i e u z = subst (λ (x : CpusState). AreAft
   same = z ∙ i.same;
   drawable = (let l = i.drawable in let k = u.drawable in omega (arith, l, k));
 }
+
+-- ---- the robin rule
+
+-- a turn that gives an event was asked for
+pub taken_asked : (s : Script) (limit : ℕ) (t : Turn) (past : List Event) (e : Event) → (cpu_at t).0 < s.cpus → step s limit t past ≡ Ok e →
+    is_asked s t past ≡ true
+taken_asked s limit t past e b k = go (is_cut limit (own_of s (cpu_at t) past)) (is_asked s t past) refl refl
+  where
+    go : (x y : Bool) → is_cut limit (own_of s (cpu_at t) past) ≡ x → is_asked s t past ≡ y → is_asked s t past ≡ true
+    go x true c a = a
+    go true false c a = let h = sym k ∙ cut_step s limit t past b c in cc
+    go false false c a = let h = sym k ∙ unasked_step s limit t past b c a in cc
+
+no_not : (b : Bool) → not b ≡ true → b ≡ false
+no_not true h = absurd cc
+no_not false h = refl
+
+-- the rule's turn of a processor gives one
+pub rule_accepted : (s : Script) (limit : ℕ) (p : CpuNo) (past : List Event) (t : Turn) → IsRun s limit past → p.0 < s.cpus → robin_of s limit p past ≡ Some t →
+    (e : Event) × (step s limit t past ≡ Ok e)
+rule_accepted s limit p past t r b h =
+    holds_at (λ t. (e : Event) × (step s limit t past ≡ Ok e)) (robin_of s limit p past) t
+    (holds_when (λ t. (e : Event) × (step s limit t past ≡ Ok e)) (not (is_cut limit (own_of s p past))) _
+    (λ u. robin_at_accepted s limit p past r below (no_not (is_cut limit (own_of s p past)) u))) h
+  where
+    below : nat_lt p.0 s.cpus ≡ true
+    below = grind (arith, nat_tests)
+
+-- ---- choices
+
+-- whose turn a choice is
+pub turn_cpu : (p : CpuNo) (ch : Choice) → p ≡ cpu_at (turn_by p ch)
+turn_cpu p Next = refl
+turn_cpu p (Look r) = refl
+turn_cpu p (Switch t) = refl

@@ -6,6 +6,7 @@ ghost use Rattle.nt_event.specs.Own.{own_of};
 ghost use Rattle.nt_event.specs.Script.{fits};
 ghost use Rattle.nt_event.specs.Step.{cpu_at as cpu_of_turn, is_cut as is_cut_in, step};
 ghost use Rattle.nt_floor.specs.Views.{IsUnmoved};
+ghost use Rattle.nt_cpu.specs.Choices.{turn_by};
 ghost use Rattle.nt_cpu.specs.Runs.{Follows, is_asked as was_asked_for};
 ghost use Rattle.nt_cpus.specs.Following.{AreAfter, AreSound, cpus_of};
 ghost use Rattle.nt_cpus.specs.Refusals.{kind_of};
@@ -13,7 +14,7 @@ ghost use Rattle.nt_cpus.specs.Refusals.{kind_of};
 use crate::asking::were_asked;
 use crate::refusals::{CoreRefusal, core_refusal};
 use crate::turns::cpu_at;
-use nt_cpu::Cpu;
+use nt_cpu::{Choice, Cpu};
 use nt_event::limits::TURNS;
 use nt_event::{CpuNo, Event, Script, Turn};
 use nt_floor::{Floor, OpenFloor};
@@ -95,7 +96,7 @@ impl<'s> Processors<'s> {
         if !is_asked(floor, turn) {
             return Err(CoreRefusal::BadLook);
         }
-        self.take(floor, turn, event)
+        self.take(floor, cpu, &Choice::of(turn), event)
     }
 
     /// Whether the processor made as many events as it may.
@@ -107,25 +108,26 @@ impl<'s> Processors<'s> {
         self.limit <= self.cpus[cpu.0 as usize].made()
     }
 
-    /// Takes the turn of a processor, the values of which were asked for.
-    fn take<F: OpenFloor>(
+    /// Takes the turn of this choice of a processor, the values of which were asked for.
+    pub(crate) fn take<F: OpenFloor>(
         &mut self,
         floor: &mut F,
-        turn: &Turn,
+        cpu: CpuNo,
+        choice: &Choice,
         event: &mut Event,
     ) -> Result<(), CoreRefusal>
         requires after { AreSound self.old (F.script floor.old) (F.view floor.old) }
-        requires asked { (past : List Event) → AreAfter past self.old (F.script floor.old) (F.view floor.old) → was_asked_for self.old.script turn.now past ≡ true }
-        requires cpu { (cpu_of_turn turn.now).0 < self.old.script.cpus }
-        ensures ok { OnOk result ((past : List Event) → AreAfter past self.old (F.script floor.old) (F.view floor.old) → (step self.old.script self.old.limit turn.now past ≡ Ok event.new) × AreAfter (event.new ∷ past) self.new (F.script floor.new) (F.view floor.new)) }
-        ensures err { IfErr result (λ r. (past : List Event) → AreAfter past self.old (F.script floor.old) (F.view floor.old) → step self.old.script self.old.limit turn.now past ≡ Err (kind_of r)) }
+        requires asked { (past : List Event) → AreAfter past self.old (F.script floor.old) (F.view floor.old) → was_asked_for self.old.script (turn_by cpu choice.now) past ≡ true }
+        requires cpu { cpu.0 < self.old.script.cpus }
+        ensures ok { OnOk result ((past : List Event) → AreAfter past self.old (F.script floor.old) (F.view floor.old) → (step self.old.script self.old.limit (turn_by cpu choice.now) past ≡ Ok event.new) × AreAfter (event.new ∷ past) self.new (F.script floor.new) (F.view floor.new)) }
+        ensures err { IfErr result (λ r. (past : List Event) → AreAfter past self.old (F.script floor.old) (F.view floor.old) → step self.old.script self.old.limit (turn_by cpu choice.now) past ≡ Err (kind_of r)) }
         ensures same { OnErr result ((self.new ≡ self.old) × IsUnmoved (F.view floor.old) (F.view floor.new)) }
         ensures unwritten { OnErr result (event.new ≡ event.old) }
         ensures floor { F.script floor.new ≡ F.script floor.old }
         ensures kept { (self.new.script ≡ self.old.script) × (self.new.limit ≡ self.old.limit) }
     {
-        let place = cpu_at(turn).0 as usize;
-        if let Err(refusal) = self.cpus[place].turn_into(floor, turn, event) {
+        let place = cpu.0 as usize;
+        if let Err(refusal) = self.cpus[place].choose_into(floor, choice, event) {
             return Err(core_refusal(refusal));
         }
         Ok(())

@@ -1,47 +1,66 @@
 //! The robin rule: which processor goes on, and by which turn; and whether all is settled.
-ghost use Rattle.std.specs.Prelude.{◌≡◌, ◌<◌, IfSome, List, false};
+ghost use Rattle.std.specs.Prelude.{◌≡◌, ◌<◌, ◌∷◌, ℕ, IfSome, List, None, Ok, Some, false, option_map, true};
 ghost use Rattle.nt_event.specs.declared.events.Event.{Event};
 ghost use Rattle.nt_event.specs.Lists.{when};
-ghost use Rattle.nt_event.specs.Robin.{first_cpu as first_of, go_on_turn, is_settled, robin as robin_in, robin_at, robin_of as robin_turn_of};
+ghost use Rattle.nt_event.specs.Robin.{first_cpu as first_of, go_on_turn, is_settled, look_values, robin as robin_in, robin_at, robin_of as robin_turn_of};
 ghost use Rattle.nt_event.specs.Script.{has_cpu};
-ghost use Rattle.nt_event.specs.Step.{is_cut};
+ghost use Rattle.nt_event.specs.Step.{is_cut, step, turn_of};
+ghost use Rattle.nt_cpu.specs.Choices.{turn_by};
 ghost use Rattle.nt_cpus.specs.Cycles.{last_cpu, next_cpu};
 ghost use Rattle.nt_cpus.specs.Following.{AreAfter, AreSound};
+ghost use Rattle.nt_cpus.specs.Steps.{chosen_turn, found_values, step_turn};
 
 use crate::processors::Processors;
-use nt_cpu::Cpu;
-use nt_event::{CpuNo, Turn};
+use nt_cpu::{Choice, Cpu};
+use nt_event::{CpuNo, Event, Rises, ThreadNo, Turn};
 use nt_floor::OpenFloor;
 
+/// What a processor does by the robin rule.
+#[derive(Clone, Copy, PartialEq, Eq, Debug)]
+pub enum Step {
+    /// It looks at what was asked for and not seen.
+    Look,
+    /// It takes up this ready thread.
+    Switch(ThreadNo),
+    /// It makes its next event.
+    Next,
+}
+
+/// The processor that goes on, and how.
+#[derive(Clone, Copy, PartialEq, Eq, Debug)]
+pub struct Chosen {
+    pub cpu: CpuNo,
+    pub step: Step,
+}
+
 /// The next ready thread is taken up where a thread may be and one is ready; else the next event is made.
-fn go_on<F: OpenFloor>(cpu: &Cpu, floor: &F, p: CpuNo) -> Turn
+fn going_on<F: OpenFloor>(cpu: &Cpu, floor: &F, p: CpuNo) -> Step
     requires { is_cut cpu.now.limit cpu.now.own ≡ false }
-    ensures { IfSome (F.view floor.now).states (λ l. result ≡ go_on_turn (F.script floor.now) p cpu.now.own l) }
+    ensures { IfSome (F.view floor.now).states (λ l. (values : List ℕ) → step_turn p values result ≡ go_on_turn (F.script floor.now) p cpu.now.own l) }
 {
     if cpu.may_switch() {
         match floor.next_ready(p, cpu.took()) {
-            Some(thread) => Turn::Switch(p, thread),
-            None => Turn::Next(p),
+            Some(thread) => Step::Switch(thread),
+            None => Step::Next,
         }
     } else {
-        Turn::Next(p)
+        Step::Next
     }
 }
 
-/// The turn of a processor that is not cut: a look at what was asked for, none where it rests, else it goes on.
-fn uncut_turn<F: OpenFloor>(cpu: &Cpu, floor: &F, p: CpuNo) -> Option<Turn>
+/// What a processor does that is not cut: it looks at what was asked for, does nothing where it rests, else it goes on.
+fn uncut_step<F: OpenFloor>(cpu: &Cpu, floor: &F, p: CpuNo) -> Option<Step>
     requires cpu { p.0 < (F.view floor.now).cpus }
     requires uncut { is_cut cpu.now.limit cpu.now.own ≡ false }
-    ensures { IfSome (F.view floor.now).states (λ l. result ≡ robin_at (F.script floor.now) p cpu.now.own l ((F.view floor.now).value p)) }
+    ensures { IfSome (F.view floor.now).states (λ l. option_map (step_turn p (look_values cpu.now.own ((F.view floor.now).value p))) result ≡ robin_at (F.script floor.now) p cpu.now.own l ((F.view floor.now).value p)) }
 {
-    let asked = floor.asked(p);
-    if cpu.is_behind(asked) {
-        return Some(Turn::Look(p, cpu.rises(asked)));
+    if cpu.is_behind(floor.asked(p)) {
+        return Some(Step::Look);
     }
     if cpu.rests() {
         return None;
     }
-    Some(go_on(cpu, floor, p))
+    Some(going_on(cpu, floor, p))
 }
 
 impl<'s> Processors<'s> {
@@ -54,15 +73,10 @@ impl<'s> Processors<'s> {
         requires after { (past : List Event) × (AreAfter past self.now (F.script floor.now) (F.view floor.now) × (last ≡ last_cpu past)) }
         ensures { (past : List Event) → AreAfter past self.now (F.script floor.now) (F.view floor.now) → last ≡ last_cpu past → result ≡ robin_in self.now.script self.now.limit past }
     {
-        let mut p = self.first_cpu(last);
-        for _ in 0..self.script.cpus {
-            let turn = self.robin_of(floor, CpuNo(p));
-            if turn.is_some() {
-                return turn;
-            }
-            p = self.after(p);
+        match self.first_chosen(floor, last) {
+            Some(chosen) => Some(self.turn_of(floor, chosen)),
+            None => None,
         }
-        None
     }
 
     /// The turn of the robin rule for this processor alone; None where the script has no such processor.
@@ -76,10 +90,124 @@ impl<'s> Processors<'s> {
         if self.script.cpus <= p.0 {
             return None;
         }
+        match self.step_of(floor, p) {
+            Some(step) => Some(self.turn_of(floor, Chosen { cpu: p, step })),
+            None => None,
+        }
+    }
+
+    /// Makes the event of the robin rule, where the last event is that of this processor; false exactly where all is settled, and then
+    /// nothing changed and nothing was written. No memory is taken.
+    ///
+    /// It is the event of the turn that [`Processors::robin`] names, made with no turn between, and is written where the caller keeps it.
+    pub fn go_on<F: OpenFloor>(
+        &mut self,
+        floor: &mut F,
+        last: Option<CpuNo>,
+        event: &mut Event,
+    ) -> bool
+        requires after { (past : List Event) × (AreAfter past self.old (F.script floor.old) (F.view floor.old) × (last ≡ last_cpu past)) }
+        ensures event { result ≡ true → (past : List Event) → AreAfter past self.old (F.script floor.old) (F.view floor.old) → last ≡ last_cpu past → (robin_in self.old.script self.old.limit past ≡ Some (turn_of event.new)) × (step self.old.script self.old.limit (turn_of event.new) past ≡ Ok event.new) × AreAfter (event.new ∷ past) self.new (F.script floor.new) (F.view floor.new) }
+        ensures none { result ≡ false → (past : List Event) → AreAfter past self.old (F.script floor.old) (F.view floor.old) → last ≡ last_cpu past → robin_in self.old.script self.old.limit past ≡ None }
+        ensures same { result ≡ false → (self.new ≡ self.old) × (floor.new ≡ floor.old) × (event.new ≡ event.old) }
+        ensures floor { F.script floor.new ≡ F.script floor.old }
+        ensures kept { (self.new.script ≡ self.old.script) × (self.new.limit ≡ self.old.limit) }
+    {
+        match self.first_chosen(floor, last) {
+            Some(chosen) => {
+                self.follow(floor, chosen, event);
+                true
+            }
+            None => false,
+        }
+    }
+
+    /// The first processor in the cycle that has something to do, where the last event is that of this one.
+    fn first_chosen<F: OpenFloor>(&self, floor: &F, last: Option<CpuNo>) -> Option<Chosen>
+        requires after { (past : List Event) × (AreAfter past self.now (F.script floor.now) (F.view floor.now) × (last ≡ last_cpu past)) }
+        ensures turn { (past : List Event) → AreAfter past self.now (F.script floor.now) (F.view floor.now) → last ≡ last_cpu past → option_map (chosen_turn self.now.script past) result ≡ robin_in self.now.script self.now.limit past }
+        ensures own { IfSome result (λ c. (past : List Event) → AreAfter past self.now (F.script floor.now) (F.view floor.now) → robin_turn_of self.now.script self.now.limit c.cpu past ≡ Some (chosen_turn self.now.script past c)) }
+        ensures below { IfSome result (λ c. c.cpu.0 < self.now.script.cpus) }
+    {
+        let mut p = self.first_cpu(last);
+        for _ in 0..self.script.cpus {
+            let cpu = CpuNo(p);
+            if let Some(step) = self.step_of(floor, cpu) {
+                return Some(Chosen { cpu, step });
+            }
+            p = self.after(p);
+        }
+        None
+    }
+
+    /// What this processor does by the robin rule; None where it is cut, or rests and has seen all that was asked for.
+    fn step_of<F: OpenFloor>(&self, floor: &F, p: CpuNo) -> Option<Step>
+        requires sound { AreSound self.now (F.script floor.now) (F.view floor.now) }
+        requires below { p.0 < self.now.script.cpus }
+        ensures { (past : List Event) → AreAfter past self.now (F.script floor.now) (F.view floor.now) → option_map (step_turn p (found_values self.now.script p past)) result ≡ robin_turn_of self.now.script self.now.limit p past }
+    {
         if self.is_cut(p) {
             return None;
         }
-        uncut_turn(&self.cpus[p.0 as usize], floor, p)
+        uncut_step(&self.cpus[p.0 as usize], floor, p)
+    }
+
+    /// What a look of this processor finds now.
+    fn rises_of<F: OpenFloor>(&self, floor: &F, p: CpuNo) -> Rises
+        requires sound { AreSound self.now (F.script floor.now) (F.view floor.now) }
+        requires below { p.0 < self.now.script.cpus }
+        ensures { (past : List Event) → AreAfter past self.now (F.script floor.now) (F.view floor.now) → result.value ≡ found_values self.now.script p past }
+    {
+        self.cpus[p.0 as usize].rises(floor.asked(p))
+    }
+
+    /// The turn of a processor that goes on so.
+    fn turn_of<F: OpenFloor>(&self, floor: &F, chosen: Chosen) -> Turn
+        requires sound { AreSound self.now (F.script floor.now) (F.view floor.now) }
+        requires below { chosen.cpu.0 < self.now.script.cpus }
+        ensures { (past : List Event) → AreAfter past self.now (F.script floor.now) (F.view floor.now) → result ≡ chosen_turn self.now.script past chosen }
+    {
+        let cpu = chosen.cpu;
+        match chosen.step {
+            Step::Look => Turn::Look(cpu, self.rises_of(floor, cpu)),
+            Step::Switch(thread) => Turn::Switch(cpu, thread),
+            Step::Next => Turn::Next(cpu),
+        }
+    }
+
+    /// Makes the event of the processor that the robin rule has go on.
+    fn follow<F: OpenFloor>(&mut self, floor: &mut F, chosen: Chosen, event: &mut Event)
+        requires sound { AreSound self.old (F.script floor.old) (F.view floor.old) }
+        requires below { chosen.cpu.0 < self.old.script.cpus }
+        requires own { (past : List Event) → AreAfter past self.old (F.script floor.old) (F.view floor.old) → robin_turn_of self.old.script self.old.limit chosen.cpu past ≡ Some (chosen_turn self.old.script past chosen) }
+        ensures event { (past : List Event) → AreAfter past self.old (F.script floor.old) (F.view floor.old) → (step self.old.script self.old.limit (chosen_turn self.old.script past chosen) past ≡ Ok event.new) × AreAfter (event.new ∷ past) self.new (F.script floor.new) (F.view floor.new) }
+        ensures floor { F.script floor.new ≡ F.script floor.old }
+        ensures kept { (self.new.script ≡ self.old.script) × (self.new.limit ≡ self.old.limit) }
+    {
+        let cpu = chosen.cpu;
+        match chosen.step {
+            Step::Look => {
+                let rises = self.rises_of(floor, cpu);
+                self.make(floor, cpu, &Choice::Look(&rises), event);
+            }
+            Step::Switch(thread) => self.make(floor, cpu, &Choice::Switch(thread), event),
+            Step::Next => self.make(floor, cpu, &Choice::Next, event),
+        }
+    }
+
+    /// Takes the turn of this choice, which is the robin rule's for the processor and so is never refused.
+    fn make<F: OpenFloor>(&mut self, floor: &mut F, cpu: CpuNo, choice: &Choice, event: &mut Event)
+        requires sound { AreSound self.old (F.script floor.old) (F.view floor.old) }
+        requires below { cpu.0 < self.old.script.cpus }
+        requires own { (past : List Event) → AreAfter past self.old (F.script floor.old) (F.view floor.old) → robin_turn_of self.old.script self.old.limit cpu past ≡ Some (turn_by cpu choice.now) }
+        ensures event { (past : List Event) → AreAfter past self.old (F.script floor.old) (F.view floor.old) → (step self.old.script self.old.limit (turn_by cpu choice.now) past ≡ Ok event.new) × AreAfter (event.new ∷ past) self.new (F.script floor.new) (F.view floor.new) }
+        ensures floor { F.script floor.new ≡ F.script floor.old }
+        ensures kept { (self.new.script ≡ self.old.script) × (self.new.limit ≡ self.old.limit) }
+    {
+        match self.take(floor, cpu, choice, event) {
+            Ok(()) => {}
+            Err(_) => unreachable!(),
+        }
     }
 
     /// Whether all is settled: each processor is cut, or rests and has seen what was asked for.

@@ -1,34 +1,11 @@
-use Rattle.std.proofs.Common.{ap, arith, suc, sym, ◌+◌, ◌-◌, ◌∙◌, ◌≡◌, ℕ}
-use Rattle.nt_event.specs.Robin.{robin_from}
-use Rattle.nt_event.specs.Numbers.{cpu}
-use Rattle.nt_cpus.specs.States.{CpusState}
-use Rattle.nt_cpus.proofs.Choosing.{present, robin_here, robin_none}
+use Rattle.std.proofs.Common.{ap, sym, ◌∙◌}
+use Rattle.std.specs.Prelude.{Option, Some, option_map}
+use Rattle.nt_event.specs.declared.events.Turn.{Turn}
+use Rattle.nt_cpus.specs.Steps.{chosen_turn}
+use Rattle.nt_cpus.specs.declared.robins.Chosen.{Chosen}
 use Rattle.nt_cpus.proofs.processors.Processors.robin.Goals as goal
 
-pub returns-then-is_some : goal.returns-then-is_some
-returns-then-is_some g c past h l =
-    let s : CpusState = c.args.self.now in
-    let n = ap (λ (x : CpusState). x.script.cpus) c.self.view_is in
-    let t = c.loop-test.true in
-    let i = c.loop.counter in
-    let e : s.script.cpus - i ≡ suc (s.script.cpus - (i + 1)) = omega (arith, n, t) in
-    let turn = c.robin_of-turn.ensures past h ∙ present s.script (cpu c.loop.p) _ c.loop.invariant.below in
-    sym (c.loop.invariant.rest past h l ∙ (ap (λ (k : ℕ). robin_from s.script s.limit k c.loop.p past) e
-    ∙ robin_here s.script s.limit (s.script.cpus - (i + 1)) c.loop.p past c.robin_of-turn.result (sym turn)
-    (sym c.is_some.ensures ∙ c.if-is_some.true)))
-
-pub loop-preserved : goal.loop-preserved
-loop-preserved g c =
-    let s : CpusState = c.args.self.now in
-    let n = ap (λ (x : CpusState). x.script.cpus) c.self.view_is in
-    let t = c.loop-test.true in
-    let i = c.loop.counter in
-    let e : s.script.cpus - i ≡ suc (s.script.cpus - (i + 1)) = omega (arith, n, t) in
-    record {
-      rest = λ past h l. let turn = c.robin_of-turn.ensures past h ∙ present s.script (cpu c.loop.p) _ c.loop.invariant.below in
-          c.loop.invariant.rest past h l ∙ (ap (λ (k : ℕ). robin_from s.script s.limit k c.loop.p past) e
-          ∙ (robin_none s.script s.limit (s.script.cpus - (i + 1)) c.loop.p past c.robin_of-turn.result turn
-          (sym c.is_some.ensures ∙ c.if-is_some.false) ∙ ap (λ (p : ℕ). robin_from s.script s.limit (s.script.cpus - (i + 1)) p past)
-          (sym c.after-p.ensures.next)));
-      below = c.after-p.ensures.below;
-    }
+pub returns-in-Some : goal.returns-in-Some
+returns-in-Some g c past h l =
+    ap (λ (t : Turn). Some t) (c.turn_of.ensures past h)
+    ∙ (sym (ap (λ (o : Option Chosen). option_map (chosen_turn c.args.self.now.script past) o) c.in-Some.is) ∙ c.first_chosen.ensures.turn past h l)

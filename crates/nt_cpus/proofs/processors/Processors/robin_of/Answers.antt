@@ -1,47 +1,24 @@
-use Rattle.std.proofs.Common.{ap, arith, subst, sym, ◌∙◌, ◌≡◌, ◌<◌}
-use Rattle.std.specs.Prelude.{IfSome, false}
-use Rattle.nt_event.specs.Lanes.{Lanes}
-use Rattle.nt_event.specs.Own.{own_of}
-use Rattle.nt_event.specs.Robin.{robin_at, robin_of}
-use Rattle.nt_event.specs.Script.{has_cpu}
-use Rattle.nt_event.specs.Lists.{when}
-use Rattle.nt_event.specs.Step.{is_cut}
-use Rattle.nt_cpu.specs.States.{CpuState}
-use Rattle.nt_cpus.specs.Following.{AreAfter}
+use Rattle.std.proofs.Common.{ap, arith, sym, ◌<◌, ◌∙◌}
+use Rattle.std.specs.Prelude.{Some}
+use Rattle.nt_event.specs.declared.events.Turn.{Turn}
 use Rattle.nt_cpus.specs.States.{CpusState}
-use Rattle.nt_cpus.proofs.Choosing.{present, robin_found}
-use Rattle.nt_cpus.proofs.Holding.{cpu_held, cpus_held}
+use Rattle.nt_cpus.proofs.Choosing.{no_step, present, some_step}
 use Rattle.nt_cpus.proofs.processors.Processors.robin_of.Goals as goal
 
-pub index-requires : goal.index-requires
-index-requires g c =
-    let i = subst (λ (x : CpusState). AreAfter c.requires.0 x (g.F.Floor.script c.args.floor.now) (g.F.Words.view c.args.floor.now)) (sym c.self.view_is)
-    c.requires.1 in
-    let n = cpus_held _ _ _ _ i.every in
-    let o = c.self.inside.cpus.ok in
-    let b = c.if-self-p.false in
-    omega (arith, n, o, b)
+pub returns-in-Some : goal.returns-in-Some
+returns-in-Some g c past h =
+    let s : CpusState = c.args.self.now in
+    let n = ap (λ (x : CpusState). x.script.cpus) c.self.view_is in
+    let e = c.if-self-p.false in
+    let b : c.args.p.0 < s.script.cpus = omega (arith, n, e) in
+    let turn = some_step s.script c.args.p past _ _ _ c.in-Some.is (c.step_of.ensures past h) in
+    ap (λ (t : Turn). Some t) (c.turn_of.ensures past h) ∙ (sym turn ∙ sym (present s.script c.args.p _ b))
 
-pub uncut_turn-requires-clause-uncut : goal.uncut_turn-requires-clause-uncut
-uncut_turn-requires-clause-uncut g c =
-    let i = subst (λ (x : CpusState). AreAfter c.requires.0 x (g.F.Floor.script c.args.floor.now) (g.F.Words.view c.args.floor.now)) (sym c.self.view_is)
-    c.requires.1 in
-    let b : c.args.p.0 < c.self.inside.script.now.cpus = (let e = c.if-self-p.false in omega (arith, e)) in
-    let u = subst (λ (x : CpusState). is_cut x.limit (own_of x.script c.args.p c.requires.0) ≡ false) (sym c.self.view_is)
-    (sym (c.is_cut.ensures c.requires.0 c.requires.1.every) ∙ c.if-is_cut.false) in
-    ap (λ (x : CpuState). is_cut x.limit x.own) (c.index.ensures ∙ cpu_held _ _ _ _ c.args.p _ i.every b) ∙ u
-
-pub returns : goal.returns
-returns g c past h =
-    let v = g.F.Words.view c.args.floor.now in
-    let i = subst (λ (x : CpusState). AreAfter past x (g.F.Floor.script c.args.floor.now) v) (sym c.self.view_is) h in
-    let b : c.args.p.0 < c.self.inside.script.now.cpus = (let e = c.if-self-p.false in omega (arith, e)) in
-    let u = subst (λ (x : CpusState). is_cut x.limit (own_of x.script c.args.p past) ≡ false) (sym c.self.view_is)
-    (sym (c.is_cut.ensures past h.every) ∙ c.if-is_cut.false) in
-    let tells = g.met.F.OpenFloor.tells c.args.floor.now in
-    let there = subst (λ (o : _). IfSome o (λ (l : Lanes). c.uncut_turn.result
-    ≡ robin_at (g.F.Floor.script c.args.floor.now) c.args.p c.index.result.now.own l (v.value c.args.p))) tells.1 c.uncut_turn.ensures in
-    let e = there ∙ robin_found _ _ _ c.args.p past c.index.result.now v tells.0 b i.follows tells.1 i.same
-    (c.index.ensures ∙ cpu_held _ _ _ _ c.args.p _ i.every b) u in
-    let f = e ∙ sym (present c.self.inside.script.now c.args.p _ b) in
-    subst (λ (x : CpusState). c.uncut_turn.result ≡ when (has_cpu x.script c.args.p) (robin_of x.script x.limit c.args.p past)) c.self.view_is f
+pub returns-in-None : goal.returns-in-None
+returns-in-None g c past h =
+    let s : CpusState = c.args.self.now in
+    let n = ap (λ (x : CpusState). x.script.cpus) c.self.view_is in
+    let e = c.if-self-p.false in
+    let b : c.args.p.0 < s.script.cpus = omega (arith, n, e) in
+    let none = no_step s.script c.args.p past _ _ c.in-None.is (c.step_of.ensures past h) in
+    sym none ∙ sym (present s.script c.args.p _ b)

@@ -1,8 +1,10 @@
 use Rattle.std.proofs.Common.{ap, arith, sym, ◌∙◌, ◌≡◌, ◌<◌}
 use Rattle.std.specs.Prelude.{false}
+use Rattle.nt_event.specs.declared.events.Turn.{Turn}
 use Rattle.nt_event.specs.declared.numbers.CpuNo.{CpuNo}
 use Rattle.nt_event.specs.Own.{own_of}
 use Rattle.nt_event.specs.Step.{cpu_at, is_cut}
+use Rattle.nt_cpu.specs.Choices.{turn_by}
 use Rattle.nt_cpu.specs.Runs.{is_asked}
 use Rattle.nt_cpus.specs.States.{CpusState}
 use Rattle.nt_cpus.proofs.Stepping.{unasked_step}
@@ -27,4 +29,5 @@ take-requires-clause-asked g c past h =
     let f = c.if-self-cpu.false in
     let b : (cpu_at c.args.turn.now).0 < c.args.self.now.script.cpus = omega (arith, n, e, f) in
     let told = c.is_asked.ensures c.args.self.now.script past h.follows b in
-    sym told ∙ (let k = c.if-not-is_asked.false in cc)
+    let t = ap (λ (p : CpuNo). turn_by p c.of.result) c.cpu_at-cpu.ensures ∙ c.of.ensures in
+    ap (λ (t : Turn). is_asked c.args.self.now.script t past) t ∙ (sym told ∙ (let k = c.if-not-is_asked.false in cc))

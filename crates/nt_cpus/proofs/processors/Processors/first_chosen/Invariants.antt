@@ -4,7 +4,7 @@ use Rattle.nt_event.specs.declared.events.Event.{Event}
 use Rattle.nt_event.specs.Robin.{robin, robin_from}
 use Rattle.nt_cpus.specs.Cycles.{last_cpu}
 use Rattle.nt_cpus.specs.Following.{AreAfter}
-use Rattle.nt_cpus.proofs.processors.Processors.robin.Given as goal
+use Rattle.nt_cpus.proofs.processors.Processors.first_chosen.Given as goal
 
 abbrev pub invariant-loop : goal.invariant-loop
 invariant-loop g l = record {

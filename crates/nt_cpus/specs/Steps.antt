@@ -1,0 +1,27 @@
+-- The turn that a step of the robin rule stands for.
+use Rattle.std.specs.Prelude.{List, ℕ}
+use Rattle.nt_event.specs.declared.events.Event.{Event}
+use Rattle.nt_event.specs.declared.events.Turn.{Turn}
+use Rattle.nt_event.specs.declared.events.Turn.TheVariants as turns
+use Rattle.nt_event.specs.declared.numbers.CpuNo.{CpuNo}
+use Rattle.nt_event.specs.declared.scripts.Script.{Script}
+use Rattle.nt_event.specs.Own.{own_of}
+use Rattle.nt_event.specs.Requests.{asked}
+use Rattle.nt_event.specs.Robin.{look_values}
+use Rattle.nt_cpus.specs.declared.robins.Chosen.{Chosen}
+use Rattle.nt_cpus.specs.declared.robins.Step.{Step}
+use Rattle.nt_cpus.specs.declared.robins.Step.TheVariants.{Look, Next, Switch}
+
+-- that of this processor, where a look finds these values
+abbrev pub step_turn : CpuNo → List ℕ → Step → Turn
+step_turn p values Look = turns.Look p (record { value = values })
+step_turn p values (Switch t) = turns.Switch p t
+step_turn p values Next = turns.Next p
+
+-- what a look of the processor finds after this past
+abbrev pub found_values : Script → CpuNo → List Event → List ℕ
+found_values s p past = look_values (own_of s p past) (λ k. asked s p k past)
+
+-- that of a processor which goes on so after this past
+abbrev pub chosen_turn : Script → List Event → Chosen → Turn
+chosen_turn s past c = step_turn c.cpu (found_values s c.cpu past) c.step
