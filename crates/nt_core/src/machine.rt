@@ -36,7 +36,7 @@ impl<'s> Model for Core<'s> {
 }
 
 /// Puts the event at the end. There is room for it.
-fn put(events: &mut Vec<Event>, event: &Event)
+pub(crate) fn put(events: &mut Vec<Event>, event: &Event)
     requires { length events.old.items < vec_capacity events.old }
     ensures items { events.new.items ≡ events.old.items ++ event.now ∷ [] }
     ensures room { vec_capacity events.old ≤ vec_capacity events.new }

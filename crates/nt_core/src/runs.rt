@@ -1,28 +1,28 @@
 //! The run of the robin rule.
-ghost use Rattle.std.specs.Prelude.{◌≡◌, ◌≤◌, ◌*◌, IfOk, IsTrue, Some, reverse, true};
+ghost use Rattle.std.specs.Prelude.{◌≡◌, ◌≤◌, ◌*◌, IfOk, IsTrue, None, Some, false, reverse, true};
 ghost use Rattle.nt_event.specs.Robin.{IsRobin, is_settled, robin as robin_in};
 ghost use Rattle.nt_event.specs.Script.{fits};
 ghost use Rattle.nt_event.specs.Step.{IsRun, turn_of};
 ghost use Rattle.nt_core.specs.States.{with_event};
 
-use crate::machine::Core;
+use crate::machine::{Core, put};
 use nt_cpu::no_event;
 use nt_event::limits::{EVENTS, TURNS};
-use nt_event::{Event, History, Script, Turn};
+use nt_event::{Event, History, Script};
 use std::alloc::{AllocError, Global};
 
 impl<'s> Core<'s> {
-    /// Takes the turn of the robin rule, and writes its event.
-    fn follow(&mut self, turn: &Turn, event: &mut Event)
-        requires { robin_in self.old.script self.old.limit self.old.past ≡ Some turn.now }
-        ensures turn { turn_of event.new ≡ turn.now }
-        ensures event { self.new ≡ with_event event.new self.old }
+    /// Makes the event of the robin rule, and writes it; false where the rule has no turn, and then nothing changed.
+    fn go_on(&mut self, event: &mut Event) -> bool
+        ensures event { result ≡ true → (robin_in self.old.script self.old.limit self.old.past ≡ Some (turn_of event.new)) × (self.new ≡ with_event event.new self.old) }
+        ensures none { result ≡ false → (robin_in self.old.script self.old.limit self.old.past ≡ None) × (self.new ≡ self.old) }
     {
-        self.is_run();
-        match self.make(turn, event) {
-            Ok(()) => {}
-            Err(_) => unreachable!(),
+        let last = self.last_cpu();
+        if !self.processors.go_on(&mut self.floor, last, event) {
+            return false;
         }
+        put(&mut self.events, event);
+        true
     }
 }
 
@@ -40,8 +40,7 @@ pub fn run(alloc: Global, script: &Script, turns: u32) -> Result<History, AllocE
 {
     let mut core = Core::new(alloc, script, turns)?;
     let mut event = no_event();
-    while let Some(turn) = core.robin() {
-        core.follow(&turn, &mut event);
+    while core.go_on(&mut event) {
         core.is_run();
     }
     core.is_run();

@@ -2,12 +2,12 @@ use Rattle.std.proofs.Common.{length, ◌*◌, ◌-◌, ◌≡◌}
 use Rattle.nt_event.specs.Robin.{IsRobin}
 use Rattle.nt_core.proofs.runs.run.Given as goal
 
-abbrev pub invariant-loop-turn : goal.invariant-loop-turn
-invariant-loop-turn l = record {
+abbrev pub invariant-loop-event : goal.invariant-loop-event
+invariant-loop-event l = record {
   script : l.core.script ≡ l.script;
   limit : l.core.limit ≡ l.turns;
   robin : IsRobin l.script l.turns l.core.past;
 }
 
-abbrev pub decreases-loop-turn : goal.decreases-loop-turn
-decreases-loop-turn l = l.core.script.cpus * l.core.limit - length l.core.past
+abbrev pub decreases-loop-event : goal.decreases-loop-event
+decreases-loop-event l = l.core.script.cpus * l.core.limit - length l.core.past
