@@ -2,18 +2,17 @@
 ghost use Rattle.std.specs.Prelude.{◌≡◌, ◌<◌, ◌≤◌, ◌+◌, ◌^◌, ◌||◌, ℕ, IfSome};
 ghost use Rattle.nt_event.specs.Own.{stand_in};
 ghost use Rattle.nt_event.specs.Regions.{some_came_to_0};
-ghost use Rattle.nt_event.specs.Step.{thread_field};
 ghost use Rattle.nt_event.specs.Lists.{value_at};
 ghost use Rattle.nt_floor.specs.Views.{HasWord, View};
 ghost use Rattle.nt_frame.specs.Nesting.{AreNamedBelow};
 ghost use Rattle.nt_cpu.specs.Notices.{HasClass, notice_of};
 ghost use Rattle.nt_cpu.specs.Plans.{what_in};
-ghost use Rattle.nt_cpu.specs.Alone.{IsAlone, IsMarkedFor, MayBe, alone_asks, alone_event, alone_level, ask_when as asked_when, call_asks as call_asks_of, call_level as call_level_of, is_normal_end as ends_normal, noticed as noticed_of};
+ghost use Rattle.nt_cpu.specs.Alone.{IsAlone, IsMarkedFor, MayBe, alone_asks, alone_event, ask_when as asked_when, call_asks as call_asks_of, call_level as call_level_of, is_normal_end as ends_normal, noticed as noticed_of};
 
 use crate::cpu::Cpu;
 use crate::notice::Notice;
 use crate::plan::Deed;
-use nt_event::{ApcKind, Begun, Body, Command, CpuNo, Event, Level, Reply, Stand, ThreadNo, What};
+use nt_event::{ApcKind, Begun, Body, Command, CpuNo, Event, Level, Reply, Stand, What};
 use nt_floor::Words;
 
 /// A class of a processor for which an event asks.
@@ -61,19 +60,6 @@ fn call_level(command: &Command, reply: &Reply, old: Level) -> Level
         Command::StartWait(_, _) | Command::Delay(_, _, _) | Command::Release(_) => old,
         Command::Alert(_, _) | Command::TestAlert(_) => old,
         Command::ToUser | Command::Yield => old,
-    }
-}
-
-/// The thread that an event names.
-fn thread(what: &What, running: Option<ThreadNo>) -> Option<ThreadNo>
-    ensures { result ≡ thread_field what.now running }
-{
-    match what {
-        What::Switch { thread, .. } => Some(*thread),
-        What::Look { .. } => None,
-        What::Call { .. } | What::Begin { .. } | What::Normal { .. } | What::End { .. } => running,
-        What::Expire { .. } | What::Fire { .. } | What::Clean { .. } => running,
-        What::Rewait { .. } | What::Flush { .. } | What::Gone { .. } | What::Rest => running,
     }
 }
 
@@ -200,24 +186,6 @@ impl<'s> Cpu<'s> {
         }
     }
 
-    /// The processor's level after an event that touches no lane.
-    fn level_after(&self, what: &What) -> Level
-        ensures { result ≡ alone_level what.now self.now.own.frames }
-    {
-        match what {
-            What::Call { command, reply, .. } => call_level(command, reply, self.frames.level()),
-            What::Begin {
-                begun: Begun::Int(level),
-                ..
-            } => *level,
-            What::Normal { .. } | What::Look { .. } => Level::PASSIVE,
-            What::End { .. } => self.frames.after(),
-            What::Begin { .. } | What::Expire { .. } | What::Fire { .. } => self.frames.level(),
-            What::Clean { .. } | What::Switch { .. } | What::Rewait { .. } => self.frames.level(),
-            What::Flush { .. } | What::Gone { .. } | What::Rest => self.frames.level(),
-        }
-    }
-
     /// Makes the event that does this and touches no lane: draws its number, marks what it asks for, and writes it.
     pub(crate) fn make_alone<W: Words>(&mut self, words: &mut W, deed: &Deed, event: &mut Event)
         requires room { self.old.own.made < self.old.limit }
@@ -240,12 +208,60 @@ impl<'s> Cpu<'s> {
     fn write(&self, deed: &Deed, event: &mut Event)
         ensures { event.new ≡ alone_event self.now.cpu (what_in deed.now) self.now.own.frames }
     {
-        let what = deed.what();
-        *event = Event {
-            cpu: self.cpu,
-            thread: thread(&what, self.frames.running()),
-            level: self.level_after(&what),
-            what,
-        };
+        let cpu = self.cpu;
+        let thread = self.frames.running();
+        match deed {
+            Deed::Look(rises) => {
+                *event = Event {
+                    cpu,
+                    thread: None,
+                    level: Level::PASSIVE,
+                    what: What::Look { rises: **rises },
+                }
+            }
+            Deed::Call {
+                frame,
+                command,
+                reply,
+            } => {
+                *event = Event {
+                    cpu,
+                    thread,
+                    level: call_level(command, reply, self.frames.level()),
+                    what: What::Call {
+                        frame: *frame,
+                        command: *command,
+                        reply: *reply,
+                    },
+                }
+            }
+            Deed::Interrupt { level, from } => {
+                *event = Event {
+                    cpu,
+                    thread,
+                    level: *level,
+                    what: What::Begin {
+                        begun: Begun::Int(*level),
+                        from: *from,
+                    },
+                }
+            }
+            Deed::Normal { frame } => {
+                *event = Event {
+                    cpu,
+                    thread,
+                    level: Level::PASSIVE,
+                    what: What::Normal { frame: *frame },
+                }
+            }
+            Deed::End { frame } => {
+                *event = Event {
+                    cpu,
+                    thread,
+                    level: self.frames.after(),
+                    what: What::End { frame: *frame },
+                }
+            }
+        }
     }
 }

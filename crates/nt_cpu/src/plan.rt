@@ -1,8 +1,5 @@
 //! What a processor has to do next, in small: the values of a look stay where they are.
-ghost use Rattle.std.specs.Prelude.{◌≡◌};
-ghost use Rattle.nt_cpu.specs.Plans.{what_in};
-
-use nt_event::{Begun, Command, Job, Level, Reply, Rises, What};
+use nt_event::{Command, Job, Level, Reply, Rises};
 
 /// An event that touches no lane.
 #[derive(Clone, Copy, Debug)]
@@ -37,30 +34,4 @@ pub enum Plan<'a> {
     Alone(Deed<'a>),
     /// A job that needs lanes.
     Shared(Job),
-}
-
-impl<'a> Deed<'a> {
-    /// What the event does.
-    pub fn what(&self) -> What
-        ensures { result ≡ what_in self.now }
-    {
-        match self {
-            Deed::Look(rises) => What::Look { rises: **rises },
-            Deed::Call {
-                frame,
-                command,
-                reply,
-            } => What::Call {
-                frame: *frame,
-                command: *command,
-                reply: *reply,
-            },
-            Deed::Interrupt { level, from } => What::Begin {
-                begun: Begun::Int(*level),
-                from: *from,
-            },
-            Deed::Normal { frame } => What::Normal { frame: *frame },
-            Deed::End { frame } => What::End { frame: *frame },
-        }
-    }
 }
