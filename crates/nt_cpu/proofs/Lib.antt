@@ -23,3 +23,4 @@ pub mod NeverIdle
 pub mod Knowing
 pub mod StepsMade
 pub mod Rooms
+pub mod Dues

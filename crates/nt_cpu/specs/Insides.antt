@@ -1,4 +1,6 @@
 -- The record that contracts see of a processor's fields.
+use Rattle.std.specs.Prelude.{◌≡◌}
+use Rattle.nt_cpu.specs.Due.{greatest_due}
 use Rattle.nt_cpu.specs.declared.cpu.Cpu.TheInside.{Inside}
 use Rattle.nt_cpu.specs.Sound.{IsSound}
 use Rattle.nt_cpu.specs.States.{CpuState}
@@ -21,5 +23,6 @@ state_in a =
       };
     }
 
-abbrev pub IsSoundInside : Inside → Type 0
-IsSoundInside a = IsSound (state_in a)
+pub record IsSoundInside (a : Inside) : Type 0 where
+  pub sound : IsSound (state_in a)
+  pub due : a.due ≡ greatest_due a.seen a.served

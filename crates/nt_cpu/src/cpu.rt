@@ -23,6 +23,8 @@ pub struct Cpu<'s> {
     pub(crate) frames: Frames,
     pub(crate) seen: Values,
     pub(crate) served: Values,
+    /// The greatest class of an interrupt that was noticed and not served.
+    pub(crate) due: Option<u8>,
     pub(crate) rested: bool,
     pub(crate) took: Option<ThreadNo>,
     pub(crate) fire: Option<DpcNo>,
@@ -64,6 +66,7 @@ impl<'s> Cpu<'s> {
             frames: Frames::new(alloc, cpu, script.thread_count())?,
             seen: Values::new(),
             served: Values::new(),
+            due: None,
             rested: false,
             took: None,
             fire: None,

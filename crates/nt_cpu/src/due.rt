@@ -1,8 +1,6 @@
 //! Which interrupt request is due.
-ghost use Rattle.std.specs.Prelude.{◌≡◌, ◌<◌, All, IfSome, find};
-ghost use Rattle.nt_event.specs.Classes.{interrupt_classes};
-ghost use Rattle.nt_event.specs.Lists.{value_at};
-ghost use Rattle.nt_cpu.specs.Due.{is_pending, is_unserved};
+ghost use Rattle.std.specs.Prelude.{◌≡◌, ◌<◌, All, find, true};
+ghost use Rattle.nt_cpu.specs.Due.{above_level as above, greatest_due as greatest, is_unserved};
 
 use crate::values::Values;
 
@@ -17,26 +15,36 @@ pub fn is_due(seen: &Values, served: &Values, class: u8) -> bool
     served.get(class) < seen.get(class)
 }
 
-/// The first of these classes that is above the level and due.
-fn first_due(level: u8, classes: &[u8], seen: &Values, served: &Values) -> Option<u8>
+/// The first of these classes that is due.
+fn first_due(classes: &[u8], seen: &Values, served: &Values) -> Option<u8>
     requires { All (λ c. c < 16) classes.now }
-    ensures value { result ≡ find (is_pending level seen.now served.now) classes.now }
-    ensures class { IfSome result (λ c. c < 16) }
-    ensures asked { IfSome result (λ c. 0 < value_at seen.now c) }
+    ensures { result ≡ find (is_unserved seen.now served.now) classes.now }
 {
     for class in classes {
-        if level < *class && is_due(seen, served, *class) {
+        if is_due(seen, served, *class) {
             return Some(*class);
         }
     }
     None
 }
 
-/// The greatest class of an interrupt that is pending and above the level.
-pub fn due_interrupt(level: u8, seen: &Values, served: &Values) -> Option<u8>
-    ensures value { result ≡ find (is_pending level seen.now served.now) interrupt_classes }
-    ensures class { IfSome result (λ c. c < 16) }
-    ensures asked { IfSome result (λ c. 0 < value_at seen.now c) }
+/// The greatest class of an interrupt that is due: the one known before, where all is the same as then.
+pub fn greatest_due(before: Option<u8>, same: bool, seen: &Values, served: &Values) -> Option<u8>
+    requires { same ≡ true → before ≡ greatest seen.now served.now }
+    ensures { result ≡ greatest seen.now served.now }
 {
-    first_due(level, &CLASSES, seen, served)
+    if same {
+        return before;
+    }
+    first_due(&CLASSES, seen, served)
+}
+
+/// The class, where it is above the level.
+pub fn above_level(level: u8, due: Option<u8>) -> Option<u8>
+    ensures { result ≡ above level due }
+{
+    match due {
+        Some(class) if level < class => due,
+        Some(_) | None => None,
+    }
 }

@@ -1,5 +1,5 @@
 //! What an event leaves of what a processor keeps beside its frames.
-ghost use Rattle.std.specs.Prelude.{◌≡◌, ◌<◌, ◌==◌, if◌then◌else◌, length};
+ghost use Rattle.std.specs.Prelude.{◌≡◌, ◌<◌, ◌==◌, false, if◌then◌else◌, length};
 ghost use Rattle.nt_cpu.specs.Due.{served_class as class_of};
 ghost use Rattle.nt_event.specs.Own.{fire_after as fire_left, is_rest as rests, took_after as took_left};
 ghost use Rattle.nt_event.specs.Regions.{sweep_after as sweep_left};
@@ -37,14 +37,18 @@ fn served_class(what: &What) -> Option<u8>
     }
 }
 
-/// What was seen of the class that the event serves is served.
-pub fn serve(served: &mut Values, seen: &Values, what: &What)
+/// What was seen of the class that the event serves is served. False only where the values served are as before.
+pub fn serve(served: &mut Values, seen: &Values, what: &What) -> bool
     requires { length served.old ≡ 16 }
-    ensures { served.new ≡ table 16 (λ c. served_after what.now c (value_at seen.now c) (value_at served.old c)) }
+    ensures values { served.new ≡ table 16 (λ c. served_after what.now c (value_at seen.now c) (value_at served.old c)) }
+    ensures same { result ≡ false → served.new ≡ served.old }
 {
     match served_class(what) {
-        Some(class) => serve_class(served, seen, class),
-        None => {}
+        Some(class) => {
+            serve_class(served, seen, class);
+            true
+        }
+        None => false,
     }
 }
 

@@ -8,6 +8,7 @@ ghost use Rattle.nt_cpu.specs.Leaves.{own_with};
 ghost use Rattle.nt_cpu.specs.Notices.{HasClass, notice_of};
 
 use crate::cpu::Cpu;
+use crate::due::greatest_due;
 use crate::framing::apply;
 use crate::keeping::{fire_after, is_rest, serve, sweep_after, took_after};
 use crate::notice::Notice;
@@ -36,8 +37,9 @@ impl<'s> Cpu<'s> {
         nested(&self.frames);
         let what = &event.what;
         self.made += 1;
-        self.seen.notice(notice);
-        serve(&mut self.served, &self.seen, what);
+        let noticed = self.seen.notice(notice);
+        let serves = serve(&mut self.served, &self.seen, what);
+        self.due = greatest_due(self.due, !noticed && !serves, &self.seen, &self.served);
         self.rested = is_rest(what);
         self.took = took_after(what, self.took);
         self.fire = fire_after(self.script, what, self.fire);

@@ -13,7 +13,7 @@ ghost use Rattle.nt_event.specs.Lists.{is_null, value_at};
 ghost use Rattle.nt_cpu.specs.Plans.{ServeFor, planned, task_in};
 
 use crate::cpu::Cpu;
-use crate::due::{due_interrupt, is_due};
+use crate::due::{above_level, is_due};
 use crate::plan::{Deed, Plan};
 use nt_event::{ApcKind, Body, Command, Frame, Job, Level, Refusal, Regions, Reply};
 use nt_frame::{Frames, refusal};
@@ -37,7 +37,7 @@ impl<'s> Cpu<'s> {
         ensures class { IfSome result (λ c. c < 16) }
         ensures asked { IfSome result (λ c. 0 < value_at self.now.own.seen c) }
     {
-        due_interrupt(self.level().number(), &self.seen, &self.served)
+        above_level(self.level().number(), self.due)
     }
 
     /// The interrupt of this class begins, with the number of the ask that it serves.

@@ -1,5 +1,5 @@
 //! A value for each request class.
-ghost use Rattle.std.specs.Prelude.{◌≡◌, ◌<◌, ◌==◌, ℕ, if◌then◌else◌, length, max, nat_lt, slice_set};
+ghost use Rattle.std.specs.Prelude.{◌≡◌, ◌<◌, ◌==◌, ℕ, false, if◌then◌else◌, length, max, nat_lt, slice_set};
 ghost use Rattle.std.specs.List.{list_any};
 ghost use Rattle.nt_event.specs.Lists.{table, value_at};
 ghost use Rattle.nt_cpu.specs.Notices.{HasClass, notice_of};
@@ -38,16 +38,18 @@ impl Values {
         self.values[class as usize]
     }
 
-    /// The greater one of each value and what is noticed of its class.
-    pub fn notice(&mut self, notice: &Notice)
+    /// The greater one of each value and what is noticed of its class. False only where the values are as before.
+    pub fn notice(&mut self, notice: &Notice) -> bool
         requires { HasClass notice.now }
-        ensures { self.new ≡ table 16 (λ c. max (value_at self.old c) (notice_of notice.now c)) }
+        ensures values { self.new ≡ table 16 (λ c. max (value_at self.old c) (notice_of notice.now c)) }
+        ensures same { result ≡ false → self.new ≡ self.old }
     {
         match notice {
-            Notice::Nothing => {}
+            Notice::Nothing => return false,
             Notice::Own { class, value } => raise_one(&mut self.values, *class, *value),
             Notice::Values(rises) => raise(&mut self.values, &rises.value),
         }
+        true
     }
 
     /// The value of this class is the other's.

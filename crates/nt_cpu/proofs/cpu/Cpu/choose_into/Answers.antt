@@ -18,41 +18,46 @@ returns-then-is_cut-clause-err g c =
     let s : CpuState = c.args.self.now in
     let v = g.F.Words.view c.args.floor.now in
     let cut : is_cut s.limit s.own ≡ true = sym c.is_cut.ensures ∙ c.if-is_cut.true in
-    (found_by s v, (cut_refused s (turn_by c.args.self.now.cpu c.args.choice.now) v cut, λ a. absurd (cut_acts s (turn_by c.args.self.now.cpu c.args.choice.now) cut a)))
+    let t = turn_by s.cpu c.args.choice.now in
+    (found_by s v, (cut_refused s t v cut, λ a. absurd (cut_acts s t cut a)))
 
 pub make_alone-requires-clause-may : goal.make_alone-requires-clause-may
 make_alone-requires-clause-may g c =
     let s : CpuState = c.args.self.now in
     let w = what_in c.in-Some-Alone.deed in
-    holds_at (GoodTask s) (turn_task s.script s.cpu s.own (turn_by c.args.self.now.cpu c.args.choice.now)) (Alone w) (turn_good s (turn_by c.args.self.now.cpu c.args.choice.now) c.sound.ensures)
+    let t = turn_by s.cpu c.args.choice.now in
+    holds_at (GoodTask s) (turn_task s.script s.cpu s.own t) (Alone w) (turn_good s t c.sound.ensures)
     (sym c.turn_task.ensures ∙ planned_alone c.turn_task.result c.in-Some-Alone.deed (c.in-Some-Alone.is ∙ ap Some c.in-Some-Alone.field-0-is))
 
 pub make_shared-requires-clause-due : goal.make_shared-requires-clause-due
 make_shared-requires-clause-due g c =
-    turn_due c.args.self.now (turn_by c.args.self.now.cpu c.args.choice.now) c.in-Some-Shared.job (sym c.turn_task.ensures ∙ planned_shared c.turn_task.result c.in-Some-Shared.job (c.in-Some-Shared.is ∙ ap Some c.in-Some-Shared.field-0-is))
+    turn_due c.args.self.now (turn_by c.args.self.now.cpu c.args.choice.now) c.in-Some-Shared.job
+    (sym c.turn_task.ensures ∙ planned_shared c.turn_task.result c.in-Some-Shared.job (c.in-Some-Shared.is ∙ ap Some c.in-Some-Shared.field-0-is))
 
 pub make_shared-requires-clause-good : goal.make_shared-requires-clause-good
 make_shared-requires-clause-good g c =
     let s : CpuState = c.args.self.now in
     let j = c.in-Some-Shared.job in
-    holds_at (GoodTask s) (turn_task s.script s.cpu s.own (turn_by c.args.self.now.cpu c.args.choice.now)) (Shared j) (turn_good s (turn_by c.args.self.now.cpu c.args.choice.now) c.sound.ensures)
+    let t = turn_by s.cpu c.args.choice.now in
+    holds_at (GoodTask s) (turn_task s.script s.cpu s.own t) (Shared j) (turn_good s t c.sound.ensures)
     (sym c.turn_task.ensures ∙ planned_shared c.turn_task.result c.in-Some-Shared.job (c.in-Some-Shared.is ∙ ap Some c.in-Some-Shared.field-0-is))
 
 pub returns-in-Some-Alone-clause-ok : goal.returns-in-Some-Alone-clause-ok
 returns-in-Some-Alone-clause-ok g c =
     let s : CpuState = c.args.self.now in
     let v = g.F.Words.view c.args.floor.now in
+    let t = turn_by s.cpu c.args.choice.now in
     let w = what_in c.in-Some-Alone.deed in
-    let task : turn_task s.script s.cpu s.own (turn_by c.args.self.now.cpu c.args.choice.now) ≡ Some (Alone w) = sym c.turn_task.ensures
+    let task : turn_task s.script s.cpu s.own t ≡ Some (Alone w) = sym c.turn_task.ensures
     ∙ planned_alone c.turn_task.result c.in-Some-Alone.deed (c.in-Some-Alone.is ∙ ap Some c.in-Some-Alone.field-0-is) in
     let cut : is_cut s.limit s.own ≡ false = sym c.is_cut.ensures ∙ c.if-is_cut.false in
     let m = c.make_alone.ensures.made in (
       found_by s v,
       m.0,
       (
-        alone_turned s c.make_alone.new.self (turn_by c.args.self.now.cpu c.args.choice.now) w c.make_alone.new.event m.0 v m.1
+        alone_turned s c.make_alone.new.self t w c.make_alone.new.event m.0 v m.1
             (g.F.Words.view c.make_alone.new.words) c.sound.ensures c.requires.serves cut task c.make_alone.ensures.event m.2,
-        λ a. absurd (alone_acts s (turn_by c.args.self.now.cpu c.args.choice.now) (Some (Alone w)) task refl a),
+        λ a. absurd (alone_acts s t (Some (Alone w)) task refl a),
       ),
     )
 
@@ -60,11 +65,12 @@ pub returns-in-None-clause-err : goal.returns-in-None-clause-err
 returns-in-None-clause-err g c =
     let s : CpuState = c.args.self.now in
     let v = g.F.Words.view c.args.floor.now in
-    let task : turn_task s.script s.cpu s.own (turn_by c.args.self.now.cpu c.args.choice.now) ≡ None = sym c.turn_task.ensures ∙ planned_none c.turn_task.result c.in-None.is in
+    let t = turn_by s.cpu c.args.choice.now in
+    let task : turn_task s.script s.cpu s.own t ≡ None = sym c.turn_task.ensures ∙ planned_none c.turn_task.result c.in-None.is in
     let cut : is_cut s.limit s.own ≡ false = sym c.is_cut.ensures ∙ c.if-is_cut.false in (
       found_by s v,
       (
-        none_refused s (turn_by c.args.self.now.cpu c.args.choice.now) c.turn_refusal-in-None.result v cut task (c.turn_refusal-in-None.ensures s.cpu),
-        λ a. absurd (alone_acts s (turn_by c.args.self.now.cpu c.args.choice.now) None task refl a),
+        none_refused s t c.turn_refusal-in-None.result v cut task (c.turn_refusal-in-None.ensures s.cpu),
+        λ a. absurd (alone_acts s t None task refl a),
       ),
     )

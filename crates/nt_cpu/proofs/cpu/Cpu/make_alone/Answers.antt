@@ -43,3 +43,7 @@ returns-clause-made g c =
             ∙ own_with_same s.script n None (alone_event s.cpu w s.own.frames) _ _ s.own same));
       },
     )
+
+pub returns-clause-grows : goal.returns-clause-grows
+returns-clause-grows g c =
+    g.met.W.Words.grows_through c.args.words.now c.draw-n.new.self c.mark.new.words c.draw-n.ensures.grows c.mark.ensures.grows
