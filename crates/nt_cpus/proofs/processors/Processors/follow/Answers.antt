@@ -8,13 +8,15 @@ use Rattle.nt_cpus.proofs.processors.Processors.follow.Goals as goal
 
 pub make-requires-clause-own : goal.make-requires-clause-own
 make-requires-clause-own g c past h =
-    c.requires.own past h ∙ ap (λ (t : Turn). Some t) (look_chosen c.args.self.now.script past c.args.chosen c.rises_of-rises.result c.in-Look.is (c.rises_of-rises.ensures past h))
+    let looks = look_chosen c.args.self.now.script past c.args.chosen c.rises_of-rises.result c.in-Look.is (c.rises_of-rises.ensures past h) in
+    c.requires.own past h ∙ ap (λ (t : Turn). Some t) looks
 
 pub returns-in-Look-clause-event : goal.returns-in-Look-clause-event
 returns-in-Look-clause-event g c past h =
     let s : CpusState = c.args.self.now in
     let m = c.make.ensures.event past h in
-    (ap (λ (t : Turn). step s.script s.limit t past) (look_chosen s.script past c.args.chosen c.rises_of-rises.result c.in-Look.is (c.rises_of-rises.ensures past h)) ∙ m.0, m.1)
+    let looks = look_chosen s.script past c.args.chosen c.rises_of-rises.result c.in-Look.is (c.rises_of-rises.ensures past h) in
+    (ap (λ (t : Turn). step s.script s.limit t past) looks ∙ m.0, m.1)
 
 pub make-requires-in-Switch-clause-own : goal.make-requires-in-Switch-clause-own
 make-requires-in-Switch-clause-own g c past h =

@@ -39,8 +39,9 @@ returns g c past h =
     (sym (c.is_cut.ensures past h.every) ∙ c.if-is_cut.false) in
     let tells = g.met.F.OpenFloor.tells c.args.floor.now in
     let held = c.index.ensures ∙ cpu_held _ _ _ _ c.args.p _ i.every b in
-    let there = subst (λ (o : _). IfSome o (λ (l : Lanes). option_map (step_turn c.args.p (look_values c.index.result.now.own (v.value c.args.p))) c.uncut_step.result
-    ≡ robin_at (g.F.Floor.script c.args.floor.now) c.args.p c.index.result.now.own l (v.value c.args.p))) tells.1 c.uncut_step.ensures in
+    let x = c.index.result.now.own in
+    let there = subst (λ (o : _). IfSome o (λ (l : Lanes). option_map (step_turn c.args.p (look_values x (v.value c.args.p))) c.uncut_step.result
+    ≡ robin_at (g.F.Floor.script c.args.floor.now) c.args.p x l (v.value c.args.p))) tells.1 c.uncut_step.ensures in
     let e = there ∙ robin_found _ _ _ c.args.p past c.index.result.now v tells.0 b i.follows tells.1 i.same held u in
     let f = ap (λ (values : List ℕ). option_map (step_turn c.args.p values) c.uncut_step.result)
     (sym (values_found _ _ c.args.p past c.index.result.now v b i.follows held)) ∙ e in

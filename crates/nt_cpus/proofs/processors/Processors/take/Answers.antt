@@ -63,7 +63,9 @@ returns-clause-ok g c past k =
     let h = taker_held _ _ _ _ t c.args.cpu _ _ i b q c.index_mut.ensures.value in
     let m = c.in_default.ensures.ok in
     let mine = ap (λ (x : CpuState). x.cpu) h ∙ sym q in
-    let turned = subst (λ (p : CpuNo). IsTurned c.index_mut.result.now c.choose_into.new.self (turn_by p c.args.choice.now) m.0 m.1 c.choose_into.new.event v w) mine m.2.0 in
+    let x = c.index_mut.result.now in
+    let d = c.choose_into.new.self in
+    let turned = subst (λ (p : CpuNo). IsTurned x d (turn_by p c.args.choice.now) m.0 m.1 c.choose_into.new.event v w) mine m.2.0 in
     let tells = g.met.F.OpenFloor.tells c.choose_into.new.floor in
     let s = taken_step past _ _ v w t _ c.choose_into.new.self m.0 m.1 c.choose_into.new.event i b a h turned in (
       subst (λ (x : CpusState). step x.script x.limit t past ≡ Ok c.choose_into.new.event) c.self.view_is s,
