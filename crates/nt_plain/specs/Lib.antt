@@ -1,6 +1,7 @@
 pub mod AllStates
 pub mod States
 pub mod Places
+pub mod Rows
 pub mod Given
 pub mod Made
 pub mod Insides
