@@ -4,7 +4,7 @@ ghost use Rattle.nt_event.specs.Script.{fits};
 ghost use Rattle.nt_check.specs.Verdicts.{IsVerdict, made_by};
 
 use nt_cpu::no_event;
-use nt_cpus::{CoreRefusal, Processors, turn_of};
+use nt_cpus::{CoreRefusal, Processors};
 use nt_event::limits::{EVENTS, TURNS};
 use nt_event::{Event, History, Script};
 use nt_plain::PlainFloor;
@@ -46,7 +46,7 @@ pub fn check(alloc: Global, script: &Script, history: &History) -> Result<Verdic
     let mut made = no_event();
     let mut number = 0;
     for event in history.events.as_slice() {
-        let taken = processors.turn(&mut floor, &turn_of(event), &mut made);
+        let taken = processors.turn(&mut floor, &event.turn(), &mut made);
         if !is_made(&taken, &made, event) {
             return Ok(Verdict::IllegalAt(number));
         }

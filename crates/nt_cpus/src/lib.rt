@@ -11,8 +11,6 @@ mod asking;
 mod processors;
 mod refusals;
 mod robins;
-mod turns;
 
 pub use processors::Processors;
 pub use refusals::CoreRefusal;
-pub use turns::turn_of;

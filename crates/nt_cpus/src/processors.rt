@@ -4,7 +4,7 @@ ghost use Rattle.nt_event.specs.declared.events.Event.{Event};
 ghost use Rattle.nt_event.specs.declared.scripts.Script.{Script};
 ghost use Rattle.nt_event.specs.Own.{own_of};
 ghost use Rattle.nt_event.specs.Script.{fits};
-ghost use Rattle.nt_event.specs.Step.{cpu_at as cpu_of_turn, is_cut as is_cut_in, step};
+ghost use Rattle.nt_event.specs.Step.{cpu_at, is_cut as is_cut_in, step};
 ghost use Rattle.nt_floor.specs.Views.{IsUnmoved};
 ghost use Rattle.nt_cpu.specs.Choices.{turn_by};
 ghost use Rattle.nt_cpu.specs.Runs.{Follows, is_asked as was_asked_for};
@@ -13,7 +13,6 @@ ghost use Rattle.nt_cpus.specs.Refusals.{kind_of};
 
 use crate::asking::were_asked;
 use crate::refusals::{CoreRefusal, core_refusal};
-use crate::turns::cpu_at;
 use nt_cpu::{Choice, Cpu};
 use nt_event::limits::TURNS;
 use nt_event::{CpuNo, Event, Script, Turn};
@@ -86,7 +85,7 @@ impl<'s> Processors<'s> {
         ensures floor { F.script floor.new ≡ F.script floor.old }
         ensures kept { (self.new.script ≡ self.old.script) × (self.new.limit ≡ self.old.limit) }
     {
-        let cpu = cpu_at(turn);
+        let cpu = turn.cpu();
         if self.script.cpus <= cpu.0 {
             return Err(CoreRefusal::NoSuchCpu);
         }
@@ -136,8 +135,8 @@ impl<'s> Processors<'s> {
 
 /// Whether the values of a look were asked for.
 fn is_asked<F: OpenFloor>(floor: &F, turn: &Turn) -> bool
-    requires { (cpu_of_turn turn.now).0 < (F.view floor.now).cpus }
-    ensures { (s : Script) → (past : List Event) → Follows s past (F.view floor.now) → (cpu_of_turn turn.now).0 < s.cpus → result ≡ was_asked_for s turn.now past }
+    requires { (cpu_at turn.now).0 < (F.view floor.now).cpus }
+    ensures { (s : Script) → (past : List Event) → Follows s past (F.view floor.now) → (cpu_at turn.now).0 < s.cpus → result ≡ was_asked_for s turn.now past }
 {
     match turn {
         Turn::Look(cpu, rises) => were_asked(floor, *cpu, rises),

@@ -1,6 +1,7 @@
 //! Events, turns and histories.
 ghost use Rattle.std.specs.Prelude.{◌≡◌};
 ghost use Rattle.nt_event.specs.Numbered.{schedule_number, schedule_name};
+ghost use Rattle.nt_event.specs.Step.{cpu_at, turn_of};
 
 use crate::{ApcNo, Command, CpuNo, DpcNo, Items, Reply, ThreadNo, TimerKey};
 use nt_level::Level;
@@ -102,6 +103,29 @@ pub struct Event {
     pub what: What,
 }
 
+impl Event {
+    /// The turn that makes it.
+    pub fn turn(&self) -> Turn
+        ensures { result ≡ turn_of self.now }
+    {
+        match self.what {
+            What::Look { rises } => Turn::Look(self.cpu, rises),
+            What::Switch { thread, .. } => Turn::Switch(self.cpu, thread),
+            What::Call { .. }
+            | What::Begin { .. }
+            | What::Normal { .. }
+            | What::End { .. }
+            | What::Expire { .. }
+            | What::Fire { .. }
+            | What::Clean { .. }
+            | What::Rewait { .. }
+            | What::Flush { .. }
+            | What::Gone { .. }
+            | What::Rest => Turn::Next(self.cpu),
+        }
+    }
+}
+
 /// Whose step is next.
 #[derive(Clone, Copy, PartialEq, Eq, Debug)]
 pub enum Turn {
@@ -111,6 +135,17 @@ pub enum Turn {
     Look(CpuNo, Rises),
     /// The processor takes up this thread.
     Switch(CpuNo, ThreadNo),
+}
+
+impl Turn {
+    /// Whose turn it is.
+    pub fn cpu(&self) -> CpuNo
+        ensures { result ≡ cpu_at self.now }
+    {
+        match self {
+            Turn::Next(cpu) | Turn::Look(cpu, _) | Turn::Switch(cpu, _) => *cpu,
+        }
+    }
 }
 
 /// The events of a run so far and the turn limit: how many events each processor may make.

@@ -2,22 +2,21 @@
 ghost use Rattle.std.specs.Prelude.{◌≡◌, ◌≤◌, ◌*◌, IfOk, IsTrue, None, Ok, Some, [], reverse, true};
 ghost use Rattle.nt_event.specs.Robin.{is_settled, robin as robin_in};
 ghost use Rattle.nt_event.specs.Script.{fits};
-ghost use Rattle.nt_event.specs.Step.{IsRun, step, turn_of as turn_in};
+ghost use Rattle.nt_event.specs.Step.{IsRun, step, turn_of};
 ghost use Rattle.nt_core.specs.States.{with_event};
 ghost use Rattle.nt_live.specs.Gathered.{GoesByRobin};
 
 use nt_core::Core;
-use nt_cpus::turn_of;
 use nt_event::limits::{EVENTS, TURNS};
 use nt_event::{Event, History, Script, Turn};
 use std::alloc::{AllocError, Global};
 
 /// Takes the turn of an event that is the next one of a run.
 fn repeat(core: &mut Core, event: &Event)
-    requires { step core.old.script core.old.limit (turn_in event.now) core.old.past ≡ Ok event.now }
+    requires { step core.old.script core.old.limit (turn_of event.now) core.old.past ≡ Ok event.now }
     ensures { core.new ≡ with_event event.now core.old }
 {
-    match core.turn(turn_of(event)) {
+    match core.turn(event.turn()) {
         Ok(_) => {}
         Err(_) => unreachable!(),
     }
@@ -39,7 +38,7 @@ fn repeat_all(core: &mut Core, events: &[Event])
 /// Takes the turn of the robin rule, which gives this event.
 fn follow(core: &mut Core, turn: Turn) -> Event
     requires { robin_in core.old.script core.old.limit core.old.past ≡ Some turn }
-    ensures turn { turn_in result ≡ turn }
+    ensures turn { turn_of result ≡ turn }
     ensures event { core.new ≡ with_event result core.old }
 {
     core.is_run();
