@@ -1,6 +1,8 @@
 //! The check of a history.
-ghost use Rattle.std.specs.Prelude.{◌≡◌, ◌≤◌, ◌*◌, ◌↔◌, IfOk, IsTrue, Ok};
+ghost use Rattle.std.specs.Prelude.{◌≡◌, ◌≤◌, ◌*◌, ◌↔◌, [], IfOk, IsTrue, Ok};
 ghost use Rattle.nt_event.specs.Script.{fits};
+ghost use Rattle.nt_plain.specs.States.{view_of};
+ghost use Rattle.nt_cpus.specs.Following.{AreAfter};
 ghost use Rattle.nt_check.specs.Verdicts.{IsVerdict, made_by};
 
 use nt_cpu::no_event;
@@ -31,6 +33,27 @@ fn is_made(taken: &Result<(), CoreRefusal>, made: &Event, event: &Event) -> bool
     }
 }
 
+/// The verdict on these events by processors and a floor that made none.
+fn judge(processors: &mut Processors, floor: &mut PlainFloor, events: &[Event]) -> Verdict
+    requires { AreAfter [] processors.old floor.old.script (view_of floor.old) }
+    ensures { IsVerdict processors.old.script processors.old.limit events.now result }
+{
+    let mut made = no_event();
+    let mut number = 0;
+    for event in events {
+        let taken = processors.turn(floor, &event.turn(), &mut made);
+        if !is_made(&taken, &made, event) {
+            return Verdict::IllegalAt(number);
+        }
+        number += 1;
+    }
+    if processors.settled(floor) {
+        Verdict::Legal
+    } else {
+        Verdict::IllegalAt(number)
+    }
+}
+
 /// Whether the history is a settled run of the script, and if not, where it goes wrong first. An error is want of memory.
 ///
 /// The script fits, and the history's turn limit is 1 to 20,000 and at most 160,000 in all processors together. Nothing is asked of its
@@ -43,18 +66,6 @@ pub fn check(alloc: Global, script: &Script, history: &History) -> Result<Verdic
 {
     let mut processors = Processors::new(alloc, script, history.turns)?;
     let mut floor = PlainFloor::new(alloc, script, history.turns)?;
-    let mut made = no_event();
-    let mut number = 0;
-    for event in history.events.as_slice() {
-        let taken = processors.turn(&mut floor, &event.turn(), &mut made);
-        if !is_made(&taken, &made, event) {
-            return Ok(Verdict::IllegalAt(number));
-        }
-        number += 1;
-    }
-    if processors.settled(&floor) {
-        Ok(Verdict::Legal)
-    } else {
-        Ok(Verdict::IllegalAt(number))
-    }
+    let events = history.events.as_slice();
+    Ok(judge(&mut processors, &mut floor, events))
 }

@@ -2,12 +2,12 @@ use Rattle.std.proofs.Common.{◌≡◌}
 use Rattle.nt_plain.specs.States.{view_of}
 use Rattle.nt_cpus.specs.Following.{AreAfter}
 use Rattle.nt_check.specs.Verdicts.{past_at}
-use Rattle.nt_check.proofs.checking.check.Given as goal
+use Rattle.nt_check.proofs.checking.judge.Given as goal
 
 abbrev pub invariant-loop-event : goal.invariant-loop-event
 invariant-loop-event l = record {
-  after : AreAfter (past_at l.event-index l.history.events) l.processors l.floor.script (view_of l.floor);
-  script : l.processors.script ≡ l.script;
-  limit : l.processors.limit ≡ l.history.turns;
+  after : AreAfter (past_at l.event-index l.events) l.processors l.floor.script (view_of l.floor);
+  script : l.processors.script ≡ l.fn.processors.script;
+  limit : l.processors.limit ≡ l.fn.processors.limit;
   number : l.number ≡ l.event-index;
 }
