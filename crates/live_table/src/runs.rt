@@ -87,7 +87,7 @@ fn replayed(alloc: Global, script: &Script, history: &History) -> Result<&'stati
     requires all { script.now.cpus * history.now.turns ≤ EVENTS }
 {
     let schedule = turns_of(alloc, history)?;
-    match replay(alloc, script, history.turns, schedule.list.as_slice()) {
+    match replay(alloc, script, history.turns, &schedule.list) {
         Ok(again) => Ok(if again.events.as_slice() == history.events.as_slice() {
             "legal, and its turns give it again"
         } else {

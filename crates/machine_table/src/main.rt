@@ -25,11 +25,12 @@ use crate::taking::taken;
 use crate::turns::turns_of;
 use nt_check::Verdict;
 use nt_core::{ScheduleRefusal, replay, run};
+use nt_event::ScheduleKind;
 use nt_event::limits::TURNS;
-use nt_event::{ScheduleKind, Turn};
 use nt_print::report;
 use nt_script::{Input, ScriptRefusal, read};
 use nt_text::INPUT_LIMIT;
+use nt_turns::Turns;
 use std::alloc::{AllocError, Global};
 use std::io;
 
@@ -72,7 +73,7 @@ fn replay_outcome(
     alloc: Global,
     input: &Input,
     limit: u32,
-    list: &[Turn],
+    list: &Turns,
 ) -> Result<Outcome, AllocError>
     requires sound { IsSound input.now }
     requires some { 1 ≤ limit }
@@ -92,7 +93,7 @@ fn replayed(alloc: Global, input: &Input, limit: u32, words: &str) -> Result<Out
     requires few { limit ≤ TURNS }
 {
     match turns_of(alloc, &input.names, words)? {
-        Some(turns) => replay_outcome(alloc, input, limit, turns.as_slice()),
+        Some(turns) => replay_outcome(alloc, input, limit, &turns),
         None => Ok(Outcome::BadLine),
     }
 }
@@ -109,7 +110,7 @@ fn taken_outcome(
     requires few { limit ≤ TURNS }
 {
     match turns_of(alloc, &input.names, words)? {
-        Some(turns) => Ok(Outcome::Report(taken(alloc, input, limit, turns.as_slice())?)),
+        Some(turns) => Ok(Outcome::Report(taken(alloc, input, limit, &turns)?)),
         None => Ok(Outcome::BadLine),
     }
 }

@@ -7,6 +7,7 @@ use nt_event::limits::TURNS;
 use nt_event::{ScheduleKind, Turn};
 use nt_print::report;
 use nt_script::Input;
+use nt_turns::{Turns, no_turn};
 use std::alloc::{AllocError, Global};
 
 /// Whether the turn is the robin rule's.
@@ -51,7 +52,7 @@ pub(crate) fn taken(
     alloc: Global,
     input: &Input,
     limit: u32,
-    list: &[Turn],
+    list: &Turns,
 ) -> Result<Vec<u8>, AllocError>
     requires sound { IsSound input.now }
     requires some { 1 ≤ limit }
@@ -59,9 +60,11 @@ pub(crate) fn taken(
 {
     let mut core = Core::new(alloc, &input.script, limit)?;
     let mut lines = String::new(alloc);
-    for turn in list {
-        let by_rule = is_robins(&core, turn);
-        let refused = refusal(&mut core, turn);
+    let mut walk = list.walk();
+    let mut turn = no_turn();
+    while walk.next(&mut turn) {
+        let by_rule = is_robins(&core, &turn);
+        let refused = refusal(&mut core, &turn);
         put_line(&mut lines, by_rule, refused)?;
     }
     lines.push_str(end(&core))?;

@@ -1,6 +1,7 @@
 //! Turns in the words of schedules.
-use nt_event::{CpuNo, Items, Rises, ThreadNo, Turn};
+use nt_event::{CpuNo, Rises, ThreadNo, Turn};
 use nt_script::{Named, Names};
+use nt_turns::Turns;
 use std::alloc::{AllocError, Global};
 
 fn cpu(word: &str) -> Option<CpuNo> {
@@ -55,8 +56,8 @@ pub(crate) fn turns_of(
     alloc: Global,
     names: &Names,
     list: &str,
-) -> Result<Option<Items<Turn>>, AllocError> {
-    let mut turns = Items::new(alloc);
+) -> Result<Option<Turns>, AllocError> {
+    let mut turns = Turns::new(alloc);
     if list.is_empty() {
         return Ok(Some(turns));
     }
@@ -64,7 +65,7 @@ pub(crate) fn turns_of(
         let Some(turn) = turn(names, line) else {
             return Ok(None);
         };
-        turns.push(turn)?;
+        turns.push(&turn)?;
     }
     Ok(Some(turns))
 }

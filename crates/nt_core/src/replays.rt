@@ -9,7 +9,8 @@ use crate::machine::Core;
 use crate::refusals::ScheduleRefusal;
 use nt_cpu::no_event;
 use nt_event::limits::{EVENTS, TURNS};
-use nt_event::{History, ScheduleKind, Script, Turn};
+use nt_event::{History, ScheduleKind, Script};
+use nt_turns::{Turns, no_turn};
 use std::alloc::Global;
 
 impl<'s> Core<'s> {
@@ -32,7 +33,7 @@ pub fn replay(
     alloc: Global,
     script: &Script,
     turns: u32,
-    list: &[Turn],
+    list: &Turns,
 ) -> Result<History, ScheduleRefusal>
     requires script { IsTrue (fits script.now) }
     requires turns { (1 ≤ turns) × (turns ≤ TURNS) }
@@ -46,8 +47,10 @@ pub fn replay(
         Err(_) => return Err(ScheduleRefusal::NoMemory),
     };
     let mut event = no_event();
-    for turn in list {
-        if let Err(refusal) = core.make(turn, &mut event) {
+    let mut walk = list.walk();
+    let mut turn = no_turn();
+    while walk.next(&mut turn) {
+        if let Err(refusal) = core.make(&turn, &mut event) {
             return Err(core.bad(refusal.kind()));
         }
     }

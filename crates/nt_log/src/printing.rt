@@ -13,6 +13,7 @@ use crate::schedules::Schedule;
 use nt_event::{CpuNo, Event, History, Rises, ThreadNo, Turn, What};
 use nt_script::Input;
 use nt_text::{put_digits, put_field, put_number};
+use nt_turns::{Turns, no_turn};
 use std::alloc::{AllocError, Global};
 
 /// Adds a class and the value that rises in it.
@@ -136,13 +137,15 @@ fn put_turn_of(out: &mut Vec<u8>, input: &Input, event: &Event) -> Result<(), Al
     }
 }
 
-fn put_turns(out: &mut Vec<u8>, input: &Input, turns: &[Turn]) -> Result<(), AllocError>
+fn put_turns(out: &mut Vec<u8>, input: &Input, turns: &Turns) -> Result<(), AllocError>
     requires sound { IsSound input.now }
     requires fit { turns_fit input.now.script turns.now ≡ true }
     ensures { OnOk result (out.new.items ≡ out.old.items ++ rows_text (map (turn_row input.now.names) turns.now)) }
 {
-    for turn in turns {
-        put_turn(out, input, turn)?;
+    let mut walk = turns.walk();
+    let mut turn = no_turn();
+    while walk.next(&mut turn) {
+        put_turn(out, input, &turn)?;
     }
     Ok(())
 }
@@ -183,7 +186,7 @@ pub fn put_schedule(out: &mut Vec<u8>, input: &Input, schedule: &Schedule) -> Re
     ensures { OnOk result (out.new.items ≡ out.old.items ++ schedule_text input.now schedule.now) }
 {
     put_limit(out, schedule.turns)?;
-    put_turns(out, input, schedule.list.as_slice())?;
+    put_turns(out, input, &schedule.list)?;
     put_end(out)
 }
 

@@ -2,14 +2,15 @@
 ghost use Rattle.std.specs.Prelude.{◌≡◌, map, IfOk};
 ghost use Rattle.nt_event.specs.Step.{turn_of};
 
-use nt_event::{History, Items, Turn};
+use nt_event::History;
+use nt_turns::Turns;
 use std::alloc::{AllocError, Global};
 
 /// How many events each processor may make, and whose step is next each time.
 #[derive(Drop, Debug)]
 pub struct Schedule {
     pub turns: u32,
-    pub list: Items<Turn>,
+    pub list: Turns,
 }
 
 /// The schedule of a history: its turn limit and the turns of its events. An error is want of memory.
@@ -17,9 +18,9 @@ pub fn turns_of(alloc: Global, history: &History) -> Result<Schedule, AllocError
     ensures limit { IfOk result (λ s. s.turns ≡ history.now.turns) }
     ensures list { IfOk result (λ s. s.list ≡ map turn_of history.now.events) }
 {
-    let mut list = Items::new(alloc);
+    let mut list = Turns::new(alloc);
     for event in history.events.as_slice() {
-        list.push(event.turn())?;
+        list.push(&event.turn())?;
     }
     Ok(Schedule {
         turns: history.turns,

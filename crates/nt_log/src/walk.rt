@@ -5,10 +5,11 @@ ghost use Rattle.nt_log.specs.Short.{IsShortNext};
 
 use crate::schedules::Schedule;
 use crate::turns::{count, turn};
-use nt_event::{CpuNo, Items, Turn, limits};
+use nt_event::{CpuNo, Turn, limits};
 use nt_line::{Names, fields};
 use nt_script::{ScriptRefusal, Stop};
 use nt_text::{Fields, Line, ScriptKind, What10};
+use nt_turns::Turns;
 use std::alloc::Global;
 
 /// The part of a schedule that was read last.
@@ -62,7 +63,7 @@ impl ScheduleWalk {
         ScheduleWalk {
             schedule: Schedule {
                 turns: 0,
-                list: Items::new(alloc),
+                list: Turns::new(alloc),
             },
             place: SchedulePlace::Start,
         }
@@ -78,7 +79,7 @@ impl ScheduleWalk {
         ensures { Gives result self.new (line_step cpus names.now self.old (line.now.bytes.now, line.now.ended)) }
     {
         match self.short_next(cpus, line) {
-            Some(cpu) => self.add(Turn::Next(cpu)),
+            Some(cpu) => self.add(&Turn::Next(cpu)),
             None => self.row(names, cpus, line),
         }
     }
@@ -148,12 +149,12 @@ impl ScheduleWalk {
             return Ok(());
         }
         let turn = turn(names, cpus, word, row)?;
-        self.add(turn)
+        self.add(&turn)
     }
 
     /// Adds a turn.
-    fn add(&mut self, turn: Turn) -> Result<(), Stop>
-        ensures { Gives result self.new (ok_if (nat_lt (length self.old.schedule.list) EVENTS) (with_turn self.old turn) (TooMany what.Turns)) }
+    fn add(&mut self, turn: &Turn) -> Result<(), Stop>
+        ensures { Gives result self.new (ok_if (nat_lt (length self.old.schedule.list) EVENTS) (with_turn self.old turn.now) (TooMany what.Turns)) }
     {
         if self.schedule.list.len() >= limits::EVENTS as usize {
             return Err(Stop::Bad(ScriptKind::TooMany(What10::Turns)));

@@ -10,6 +10,7 @@ use crate::walk::Parts;
 use nt_event::{CpuNo, Event, History, Items, Level, Rises, Turn, What};
 use nt_script::ScriptRefusal;
 use nt_text::ScriptKind;
+use nt_turns::{Turns, no_turn};
 use std::alloc::Global;
 use std::slice::from_ref;
 
@@ -52,7 +53,7 @@ fn put(events: &mut Vec<Event>, event: &Event) -> Result<(), ScriptRefusal>
 /// the last.
 fn events_of(
     alloc: Global,
-    turns: &[Turn],
+    turns: &Turns,
     lines: &[EventLine],
     line: u32,
 ) -> Result<Items<Event>, ScriptRefusal>
@@ -62,8 +63,10 @@ fn events_of(
     let mut made = Vec::new(alloc);
     let mut left = lines;
     let mut at = line;
-    for turn in turns {
-        match turn {
+    let mut walk = turns.walk();
+    let mut turn = no_turn();
+    while walk.next(&mut turn) {
+        match &turn {
             Turn::Look(cpu, rises) => put(&mut made, &look_event(*cpu, *rises))?,
             Turn::Next(_) | Turn::Switch(_, _) => match left {
                 [first, more @ ..] => {
@@ -86,8 +89,12 @@ pub(crate) fn history_of(alloc: Global, parts: &Parts, line: u32) -> Result<Hist
     requires { line + length parts.now.lines < 4294967295 }
     ensures { GivesRead result (history_of parts.now line) }
 {
-    let turns = parts.schedule.list.as_slice();
-    let events = events_of(alloc, turns, parts.lines.as_slice(), line + 1)?;
+    let events = events_of(
+        alloc,
+        &parts.schedule.list,
+        parts.lines.as_slice(),
+        line + 1,
+    )?;
     Ok(History {
         turns: parts.schedule.turns,
         events,

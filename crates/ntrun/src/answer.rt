@@ -175,12 +175,7 @@ fn schedule_run(
     ensures ok { IfOk result (IsReplayed input.now.script schedule.now) }
     ensures err { IfErr result (IsReplayRefused input.now.script schedule.now.turns schedule.now.list) }
 {
-    replay(
-        alloc,
-        &input.script,
-        schedule.turns,
-        schedule.list.as_slice(),
-    )
+    replay(alloc, &input.script, schedule.turns, &schedule.list)
 }
 
 /// What is answered to a schedule that is replayed.

@@ -38,12 +38,7 @@ fn taken(alloc: Global, input: &Input, schedule: &Schedule) -> Result<Outcome, A
     requires sound { IsSound input.now }
     requires turns { (1 ≤ schedule.now.turns) × (schedule.now.turns ≤ TURNS) }
 {
-    match replay(
-        alloc,
-        &input.script,
-        schedule.turns,
-        schedule.list.as_slice(),
-    ) {
+    match replay(alloc, &input.script, schedule.turns, &schedule.list) {
         Ok(history) => Ok(Outcome::Report(report(alloc, input, &history)?)),
         Err(ScheduleRefusal::Bad { .. }) => Ok(Outcome::NoHistory),
         Err(ScheduleRefusal::NoMemory) => Err(AllocError),

@@ -1,5 +1,8 @@
-use Rattle.std.proofs.Common.{◌≡◌}
+use Rattle.std.proofs.Common.{length, ◌≡◌}
 use Rattle.machine_table.proofs.taking.taken.Given as goal
 
-abbrev pub invariant-loop-turn : goal.invariant-loop-turn
-invariant-loop-turn l = record { script : l.core.script ≡ l.input.script }
+abbrev pub invariant-loop-walk : goal.invariant-loop-walk
+invariant-loop-walk l = record { script : l.core.script ≡ l.input.script }
+
+abbrev pub decreases-loop-walk : goal.decreases-loop-walk
+decreases-loop-walk l = length l.walk
