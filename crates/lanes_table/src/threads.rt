@@ -7,6 +7,7 @@ use nt_event::{
     ApcDecl, ApcKind, ApcNo, Command, CpuNo, Event, Items, Level, Mode, Pick, Regions, Reply,
     Routine, RoutineNo, Script, Stand, ThreadDecl, ThreadNo, What,
 };
+use nt_states::ThreadAnswers;
 use nt_thread_lanes::Threads;
 use std::alloc::{AllocError, Global};
 use std::io;

@@ -12,10 +12,7 @@ ghost use Rattle.nt_timer.specs.Laws.{IsSized};
 use crate::needs::Needs;
 use crate::states::{Clock, Group, Object, Queue};
 use nt_dpc::{DpcObject, DpcQueue};
-use nt_event::{
-    ApcNo, CpuNo, DpcNo, Lane, Level, Mode, Part, Pick, Regions, Reply, Script, ThreadNo, TimerKey,
-    TimerNo,
-};
+use nt_event::{CpuNo, DpcNo, Lane, Part, Script, TimerKey, TimerNo};
 use nt_states::LaneAnswers;
 use nt_thread_lanes::Threads;
 use nt_timer::TimerQueue;
@@ -186,17 +183,6 @@ impl<'h, 's> Held<'h, 's> {
         }
     }
 
-    /// The threads, of which a group is held.
-    fn threads(&self) -> &Threads<'s>
-        requires { IsSome self.now.group }
-        ensures { result.now ≡ record { script = self.now.script; facts = (held_lanes self.now).threads } }
-    {
-        match self.group {
-            Some(group) => group.inner(),
-            None => unreachable!(),
-        }
-    }
-
     /// The timers, which are held.
     fn timers(&self) -> &TimerQueue
         requires { IsSome self.now.timers }
@@ -211,6 +197,8 @@ impl<'h, 's> Held<'h, 's> {
 
 impl<'h, 's> LaneAnswers for Held<'h, 's> {
     ghost use Rattle.nt_lane.specs.Answers.{IsHeld, held_lanes};
+
+    type Threads = Threads<'s>;
 
     ghost script_of = { λ h. h.script };
 
@@ -245,85 +233,11 @@ impl<'h, 's> LaneAnswers for Held<'h, 's> {
         self.queue(p).answer(self.object(d), by).ask
     }
 
-    fn next_ready(&self, p: CpuNo, after: Option<ThreadNo>) -> Option<ThreadNo> {
-        self.threads().next_ready(p, after)
-    }
-
-    fn any_ready(&self, p: CpuNo) -> bool {
-        self.threads().any_ready(p)
-    }
-
-    fn may_take(&self, p: CpuNo, t: ThreadNo) -> bool {
-        self.threads().may_take(p, t)
-    }
-
-    fn is_gone(&self, t: ThreadNo) -> bool {
-        self.threads().is_gone(t)
-    }
-
-    fn status(&self, t: ThreadNo) -> Option<u32> {
-        self.threads().status(t)
-    }
-
-    fn level(&self, t: ThreadNo) -> Level {
-        self.threads().level(t)
-    }
-
-    fn wait_reply(
-        &self,
-        t: ThreadNo,
-        regions: Regions,
-        level: Level,
-        mode: Mode,
-        alertable: bool,
-        reached: Option<bool>,
-    ) -> Reply {
-        self.threads()
-            .wait_reply(t, regions, level, mode, alertable, reached)
-    }
-
-    fn is_alerted(&self, t: ThreadNo, mode: Mode) -> bool {
-        self.threads().is_alerted(t, mode)
-    }
-
-    fn ends_by_release(&self, t: ThreadNo) -> bool {
-        self.threads().ends_by_release(t)
-    }
-
-    fn ends_by_expiry(&self, t: ThreadNo, from: u64) -> bool {
-        self.threads().ends_by_expiry(t, from)
-    }
-
-    fn ends_by_alert(&self, t: ThreadNo, mode: Mode) -> bool {
-        self.threads().ends_by_alert(t, mode)
-    }
-
-    fn deliverable(&self, t: ThreadNo, regions: Regions, level: Level) -> Option<Pick> {
-        self.threads().deliverable(t, regions, level)
-    }
-
-    fn user_due(&self, t: ThreadNo) -> Option<Pick> {
-        self.threads().user_due(t)
-    }
-
-    fn user_first(&self, t: ThreadNo) -> Option<Pick> {
-        self.threads().user_first(t)
-    }
-
-    fn has_kernel(&self, t: ThreadNo) -> bool {
-        self.threads().has_kernel(t)
-    }
-
-    fn takes(&self, a: ApcNo) -> bool {
-        self.threads().takes(a)
-    }
-
-    fn is_inserted(&self, a: ApcNo) -> bool {
-        self.threads().is_inserted(a)
-    }
-
-    fn ends_by_apc(&self, a: ApcNo) -> bool {
-        self.threads().ends_by_apc(a)
+    fn threads(&self) -> &Threads<'s> {
+        match self.group {
+            Some(group) => group.inner(),
+            None => unreachable!(),
+        }
     }
 
     fn now(&self) -> u64 {

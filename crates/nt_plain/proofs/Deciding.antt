@@ -1,27 +1,18 @@
 -- A job that may be done can be decided, and each lane of the whole states is held.
-use Rattle.std.proofs.Common.{ap}
-use Rattle.std.proofs.lemmas.Bool.{and_parts, eqb-true}
-use Rattle.std.specs.Prelude.{Err, IfOk, IfSome, List, None, Ok, Option, Result, Some, [], true, ℕ, ◌&&◌, ◌==◌, ◌∷◌, ◌≡◌}
+use Rattle.std.specs.Prelude.{Err, IfOk, IfSome, List, None, Ok, Option, Result, Some, [], ◌∷◌, ◌≡◌}
 use Rattle.nt_event.specs.declared.events.What.{What}
 use Rattle.nt_event.specs.declared.jobs.Job.{Job}
 use Rattle.nt_event.specs.declared.jobs.Job.TheVariants as job
 use Rattle.nt_event.specs.declared.jobs.Lane.{Lane}
 use Rattle.nt_event.specs.declared.jobs.Stand.{Stand}
-use Rattle.nt_event.specs.declared.numbers.CpuNo.{CpuNo}
 use Rattle.nt_event.specs.declared.numbers.ThreadNo.{ThreadNo}
-use Rattle.nt_event.specs.declared.scripts.Script.{Script}
 use Rattle.nt_event.specs.Acting.{IsAllowed, RunsThere}
-use Rattle.nt_event.specs.Jobs.{job_event, may_take, next_ready}
-use Rattle.nt_event.specs.Lanes.{Lanes, facts_at}
+use Rattle.nt_event.specs.Jobs.{job_event}
 use Rattle.nt_event.specs.Routines.{cpu_of}
-use Rattle.nt_event.specs.Script.{has_thread}
-use Rattle.nt_event.specs.Threads.{is_ready}
-use Rattle.nt_event.proofs.Options.{Holds}
-use Rattle.nt_event.proofs.Ready.{next_ready_taken}
 use Rattle.nt_floor.specs.declared.floor.ActRefusal.{ActRefusal}
 use Rattle.nt_plain.specs.AllStates.{AllStates}
 use Rattle.nt_plain.specs.Given.{MayDo, MayMake}
-use Rattle.nt_states.specs.Given.{CanDecide, IsGiven, IsTaken, JobStands}
+use Rattle.nt_states.specs.Given.{CanDecide, IsGiven, JobStands}
 use Rattle.nt_states.specs.Reads.{AreHeld}
 
 pub all_held : (lanes : List Lane) → AreHeld (λ l. Unit {0}) lanes
@@ -65,18 +56,3 @@ pub may_make_found : (x : AllStates) (st : Stand) (j : Job) (r : Result What Act
     IfOk r (λ w. job_event x.script st x.lanes j ≡ Some w) → IfOk r (λ w. IsGiven x.script x.lanes st w) → IfOk r (λ w. MayMake x st w)
 may_make_found x st j (Ok w) m e g = may_make x st j w m e g
 may_make_found x st j (Err refusal) m e g = tt
-
--- ---- a thread that is taken up is the processor's own
-
-taken : (s : Script) (p : CpuNo) (l : Lanes) (t : ThreadNo) → may_take s p t l ≡ true → IsTaken s p t
-taken s p l t h =
-    let a = and_parts (has_thread s t) (((cpu_of s t).0 == p.0) && is_ready (facts_at l t)) h in
-    let b = and_parts ((cpu_of s t).0 == p.0) (is_ready (facts_at l t)) a.1 in
-    record { named = a.0; own = ap (λ (n : ℕ). record { 0 = n }) (eqb-true (cpu_of s t).0 p.0 b.0) }
-
-each_taken : (s : Script) (p : CpuNo) (l : Lanes) (o : Option ThreadNo) → Holds (λ t. may_take s p t l ≡ true) o → IfSome o (IsTaken s p)
-each_taken s p l None h = tt
-each_taken s p l (Some t) h = taken s p l t h
-
-pub next_taken : (s : Script) (p : CpuNo) (last : Option ThreadNo) (l : Lanes) (o : Option ThreadNo) → o ≡ next_ready s p last l → IfSome o (IsTaken s p)
-next_taken s p last l o e = rw e (each_taken s p l (next_ready s p last l) (next_ready_taken s p last l))

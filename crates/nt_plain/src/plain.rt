@@ -15,7 +15,7 @@ use crate::states::States;
 use crate::told::ToldValues;
 use nt_event::limits::{EVENTS, TURNS};
 use nt_event::{CpuNo, Script, ThreadNo};
-use nt_states::LaneAnswers;
+use nt_states::{LaneAnswers, ThreadAnswers};
 use std::alloc::{AllocError, Global};
 use std::marker::Model;
 
@@ -112,7 +112,7 @@ impl<'s> PlainFloor<'s> {
     pub(crate) fn ready_after(&self, p: CpuNo, after: Option<ThreadNo>) -> Option<ThreadNo>
         ensures { result ≡ next_ready self.now.script p after self.now.lanes }
     {
-        self.states.next_ready(p, after)
+        self.states.threads().next_ready(p, after)
     }
 
     /// Whether the script has such a processor, and a class this number.

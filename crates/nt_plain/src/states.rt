@@ -3,7 +3,7 @@ ghost use Rattle.std.specs.Prelude.{◌≡◌, [], IfOk, IsTrue, length};
 ghost use Rattle.nt_event.specs.Lanes.{lanes_at};
 ghost use Rattle.nt_event.specs.Script.{fits};
 ghost use Rattle.nt_floor.specs.Acts.{KindsFit};
-ghost use Rattle.nt_plain.specs.AllStates.{dpcs_of, threads_of};
+ghost use Rattle.nt_plain.specs.AllStates.{dpcs_of};
 ghost use Rattle.nt_plain.specs.Sound.{IsSound};
 
 mod answering;
@@ -12,6 +12,7 @@ pub(crate) mod timing;
 
 use nt_dpc_lanes::Dpcs;
 use nt_event::Script;
+use nt_states::LaneAnswers;
 use nt_thread_lanes::Threads;
 use nt_timer::TimerQueue;
 use std::alloc::{AllocError, Global};
@@ -74,13 +75,6 @@ impl<'s> States<'s> {
         ensures { result.now ≡ dpcs_of self.now }
     {
         &self.dpcs
-    }
-
-    /// The threads.
-    fn threads(&self) -> &Threads<'s>
-        ensures { result.now ≡ threads_of self.now }
-    {
-        &self.threads
     }
 
     /// The time, the timers and the delays.

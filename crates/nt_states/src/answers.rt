@@ -1,33 +1,29 @@
 //! The questions.
-use nt_event::{
-    ApcNo, CpuNo, DpcNo, Level, Mode, Part, Pick, Regions, Reply, Script, ThreadNo, TimerKey,
-    TimerNo,
-};
+use crate::thread_answers::ThreadAnswers;
+use nt_event::{CpuNo, DpcNo, Part, Script, TimerKey, TimerNo};
 
 /// What the states of lanes answer, each of a lane that is held.
 ///
 /// The whole states of a script hold each lane. A value over a few locked lanes holds those; the states that it tells of other lanes may
 /// be any.
 pub trait LaneAnswers {
-    ghost use Rattle.std.specs.Prelude.{◌≡◌, ◌<◌, ◌^◌, IfSome, IsTrue, false, is_some, not, option_map, ℕ};
+    ghost use Rattle.std.specs.Prelude.{◌≡◌, ◌<◌, ◌^◌, IfSome, IsTrue, false, option_map};
     ghost use Rattle.nt_event.specs.declared.jobs.Lane.{Lane};
     ghost use Rattle.nt_event.specs.declared.jobs.Lane.TheVariants.{Object as ObjectLane, Queue as QueueLane, Threads as ThreadsLane, Timers as TimersLane};
+    ghost use Rattle.nt_event.specs.declared.numbers.CpuNo.{CpuNo};
     ghost use Rattle.nt_event.specs.declared.scripts.Script.{Script};
-    ghost use Rattle.nt_event.specs.Apcs as apcs;
-    ghost use Rattle.nt_event.specs.Jobs as jobs;
-    ghost use Rattle.nt_event.specs.Lanes.{Lanes, facts_at, object_at, queue_at};
-    ghost use Rattle.nt_event.specs.Lists.{is_null};
+    ghost use Rattle.nt_event.specs.Lanes.{Lanes, object_at, queue_at};
     ghost use Rattle.nt_event.specs.Objects as objects;
     ghost use Rattle.nt_event.specs.Queues.{first_dpc};
     ghost use Rattle.nt_event.specs.Requests.{queue_asks};
-    ghost use Rattle.nt_event.specs.Routines.{cpu_of, owner_of};
-    ghost use Rattle.nt_event.specs.Script.{fits, has_apc, has_cpu, has_dpc, has_thread};
-    ghost use Rattle.nt_event.specs.Threads as threads;
+    ghost use Rattle.nt_event.specs.Script.{fits, has_cpu, has_dpc};
     ghost use Rattle.nt_event.specs.Timers as timers;
-    ghost use Rattle.nt_event.specs.Waits as waits;
     ghost use Rattle.nt_dpc.specs.Laws.{asks_on};
     ghost use Rattle.nt_event.specs.Fitting.{key_fits};
-    ghost use Rattle.nt_states.specs.Given.{IsTaken};
+    ghost use Rattle.nt_states.specs.Reads.{HoldsThreads};
+
+    /// The states of the threads, which answer the questions about them.
+    type Threads: ThreadAnswers;
 
     /// The script.
     ghost script_of: { Self → Script };
@@ -85,129 +81,14 @@ pub trait LaneAnswers {
         ensures asks { queue_asks (script_of self.now) d by (lanes self.now) ≡ asks_on (objects.queue_for (object_at (lanes self.now) d).target by) result }
         ensures class { IfSome result (λ c. c < 16) };
 
-    // ---- the threads of a processor
+    // ---- threads
 
-    /// The thread of the processor that is taken up next, after this one in a cycle; None exactly where none is ready.
-    fn next_ready(&self, p: CpuNo, after: Option<ThreadNo>) -> Option<ThreadNo>
-        requires held { holds self.now (ThreadsLane p) }
-        ensures next { result ≡ jobs.next_ready (script_of self.now) p after (lanes self.now) }
-        ensures taken { IfSome result (IsTaken (script_of self.now) p) };
-
-    /// Whether one of the processor's threads is ready.
-    fn any_ready(&self, p: CpuNo) -> bool
-        requires held { holds self.now (ThreadsLane p) }
-        ensures { result ≡ not (is_null (jobs.ready (script_of self.now) p (lanes self.now))) };
-
-    /// Whether the processor may take up the thread: it is one of the processor's, and ready.
-    fn may_take(&self, p: CpuNo, t: ThreadNo) -> bool
-        requires held { holds self.now (ThreadsLane p) }
-        ensures { result ≡ jobs.may_take (script_of self.now) p t (lanes self.now) };
-
-    // ---- one thread
-
-    /// Whether the thread is gone.
-    fn is_gone(&self, t: ThreadNo) -> bool
-        requires thread { IsTrue (has_thread (script_of self.now) t) }
-        requires held { holds self.now (ThreadsLane (cpu_of (script_of self.now) t)) }
-        ensures { result ≡ threads.is_gone (facts_at (lanes self.now) t) };
-
-    /// The status of its ended wait, which its next Switch carries.
-    fn status(&self, t: ThreadNo) -> Option<u32>
-        requires thread { IsTrue (has_thread (script_of self.now) t) }
-        requires held { holds self.now (ThreadsLane (cpu_of (script_of self.now) t)) }
-        ensures { result ≡ threads.ended_status (facts_at (lanes self.now) t) };
-
-    /// The level at which the thread is taken up.
-    fn level(&self, t: ThreadNo) -> Level
-        requires thread { IsTrue (has_thread (script_of self.now) t) }
-        requires held { holds self.now (ThreadsLane (cpu_of (script_of self.now) t)) }
-        ensures { result ≡ threads.doing_level (facts_at (lanes self.now) t).doing };
-
-    /// What a wait of the thread replies at this level and in these regions. `reached` is None for a wait; for a delay, whether its
-    /// due time is reached.
-    fn wait_reply(
-        &self,
-        t: ThreadNo,
-        regions: Regions,
-        level: Level,
-        mode: Mode,
-        alertable: bool,
-        reached: Option<bool>,
-    ) -> Reply
-        requires thread { IsTrue (has_thread (script_of self.now) t) }
-        requires held { holds self.now (ThreadsLane (cpu_of (script_of self.now) t)) }
-        ensures { result ≡ waits.wait_reply (facts_at (lanes self.now) t) regions level mode alertable reached };
-
-    /// Whether the thread's alerted flag of this mode is set.
-    fn is_alerted(&self, t: ThreadNo, mode: Mode) -> bool
-        requires thread { IsTrue (has_thread (script_of self.now) t) }
-        requires held { holds self.now (ThreadsLane (cpu_of (script_of self.now) t)) }
-        ensures { result ≡ threads.is_alerted mode (facts_at (lanes self.now) t) };
-
-    /// Whether a release would end a wait of the thread.
-    fn ends_by_release(&self, t: ThreadNo) -> bool
-        requires thread { IsTrue (has_thread (script_of self.now) t) }
-        requires held { holds self.now (ThreadsLane (cpu_of (script_of self.now) t)) }
-        ensures { result ≡ threads.ends_by_release (facts_at (lanes self.now) t) };
-
-    /// Whether the expiry of the delay that was set under this number would end the thread's delay.
-    fn ends_by_expiry(&self, t: ThreadNo, from: u64) -> bool
-        requires thread { IsTrue (has_thread (script_of self.now) t) }
-        requires held { holds self.now (ThreadsLane (cpu_of (script_of self.now) t)) }
-        ensures { result ≡ threads.ends_by_expiry from (facts_at (lanes self.now) t) };
-
-    /// Whether an alert for this mode would end a wait of the thread.
-    fn ends_by_alert(&self, t: ThreadNo, mode: Mode) -> bool
-        requires thread { IsTrue (has_thread (script_of self.now) t) }
-        requires held { holds self.now (ThreadsLane (cpu_of (script_of self.now) t)) }
-        ensures { result ≡ threads.ends_by_alert mode (facts_at (lanes self.now) t) };
-
-    // ---- APCs
-
-    /// The thread's first kernel APC, where it is let through at this level and in these regions.
-    fn deliverable(&self, t: ThreadNo, regions: Regions, level: Level) -> Option<Pick>
-        requires thread { IsTrue (has_thread (script_of self.now) t) }
-        requires held { holds self.now (ThreadsLane (cpu_of (script_of self.now) t)) }
-        ensures value { result ≡ apcs.deliverable (facts_at (lanes self.now) t).apcs regions level }
-        ensures named { IfSome result (λ x. IsTrue (has_apc (script_of self.now) x.apc)) };
-
-    /// The thread's user APC that is due on the way to user mode.
-    fn user_due(&self, t: ThreadNo) -> Option<Pick>
-        requires thread { IsTrue (has_thread (script_of self.now) t) }
-        requires held { holds self.now (ThreadsLane (cpu_of (script_of self.now) t)) }
-        ensures value { result ≡ jobs.user_due (facts_at (lanes self.now) t) }
-        ensures named { IfSome result (λ x. IsTrue (has_apc (script_of self.now) x.apc)) };
-
-    /// The thread's first user APC.
-    fn user_first(&self, t: ThreadNo) -> Option<Pick>
-        requires thread { IsTrue (has_thread (script_of self.now) t) }
-        requires held { holds self.now (ThreadsLane (cpu_of (script_of self.now) t)) }
-        ensures value { result ≡ apcs.first_user (facts_at (lanes self.now) t).apcs }
-        ensures named { IfSome result (λ x. IsTrue (has_apc (script_of self.now) x.apc)) };
-
-    /// Whether the thread has a kernel APC queued.
-    fn has_kernel(&self, t: ThreadNo) -> bool
-        requires thread { IsTrue (has_thread (script_of self.now) t) }
-        requires held { holds self.now (ThreadsLane (cpu_of (script_of self.now) t)) }
-        ensures { result ≡ apcs.has_kernel (facts_at (lanes self.now) t).apcs };
-
-    /// Whether the APC object would be inserted: it isn't yet, and its thread still takes APCs.
-    fn takes(&self, a: ApcNo) -> bool
-        requires object { IsTrue (has_apc (script_of self.now) a) }
-        requires held { holds self.now (ThreadsLane (cpu_of (script_of self.now) (owner_of (script_of self.now) a))) }
-        ensures { result ≡ apcs.takes a (facts_at (lanes self.now) (owner_of (script_of self.now) a)).apcs };
-
-    /// Whether the APC object is inserted.
-    fn is_inserted(&self, a: ApcNo) -> bool
-        requires object { IsTrue (has_apc (script_of self.now) a) }
-        requires held { holds self.now (ThreadsLane (cpu_of (script_of self.now) (owner_of (script_of self.now) a))) }
-        ensures { result ≡ apcs.is_inserted a (facts_at (lanes self.now) (owner_of (script_of self.now) a)).apcs };
-
-    /// Whether an insert of the APC ends a wait of its thread.
-    fn ends_by_apc(&self, a: ApcNo) -> bool
-        requires object { IsTrue (has_apc (script_of self.now) a) }
-        requires held { holds self.now (ThreadsLane (cpu_of (script_of self.now) (owner_of (script_of self.now) a))) }
-        ensures { result ≡ threads.ends_by_apc (waits.new_pick (script_of self.now) a 0) (facts_at (lanes self.now) (owner_of (script_of self.now) a)) };
+    /// The states of the threads, where some of their lanes are held: they may be asked of the threads of each that is.
+    fn threads(&self) -> &Self::Threads
+        requires held { HoldsThreads (holds self.now) }
+        ensures script { Self.Threads.script_of result.now ≡ script_of self.now }
+        ensures facts { Self.Threads.facts result.now ≡ (lanes self.now).threads }
+        ensures tells { (p : CpuNo) → holds self.now (ThreadsLane p) → Self.Threads.tells result.now p };
 
     // ---- timers
 

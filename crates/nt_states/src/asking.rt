@@ -17,6 +17,7 @@ ghost use Rattle.nt_states.specs.Reads.{AreHeld};
 
 use crate::answers::LaneAnswers;
 use crate::running::runner;
+use crate::thread_answers::ThreadAnswers;
 use nt_event::{
     ApcKind, ApcNo, Body, Command, CpuNo, DpcNo, Mode, Regions, Reply, Stand, ThreadNo, TimerKey,
     What, class,
@@ -226,7 +227,7 @@ fn apc_asks<S: LaneAnswers>(states: &S, a: ApcNo) -> Asks
     let cpu = states.script().cpu_of(states.script().owner_of(a));
     Asks::each_if(
         kernel,
-        states.ends_by_apc(a),
+        states.threads().ends_by_apc(a),
         cpu,
         class::APC,
         class::DISPATCH,
@@ -248,7 +249,7 @@ fn alert_asks<S: LaneAnswers>(states: &S, t: ThreadNo, mode: Mode) -> Asks
     ensures asks { result ≡ requests.ask_if (not (is_gone (facts_at (S.lanes states.now) t)) && ends_by_alert mode (facts_at (S.lanes states.now) t)) (routines.cpu_of (S.script_of states.now) t) 2 }
     ensures named { All (AskFits (S.script_of states.now)) result }
 {
-    let ends = !states.is_gone(t) && states.ends_by_alert(t, mode);
+    let ends = !states.threads().is_gone(t) && states.threads().ends_by_alert(t, mode);
     Asks::one_if(ends, states.script().cpu_of(t), class::DISPATCH)
 }
 
@@ -259,7 +260,7 @@ fn expiry_asks<S: LaneAnswers>(states: &S, t: ThreadNo, from: u64) -> Asks
     ensures asks { result ≡ requests.ask_if (ends_by_expiry from (facts_at (S.lanes states.now) t)) (routines.cpu_of (S.script_of states.now) t) 2 }
     ensures named { All (AskFits (S.script_of states.now)) result }
 {
-    let ends = states.ends_by_expiry(t, from);
+    let ends = states.threads().ends_by_expiry(t, from);
     Asks::one_if(ends, states.script().cpu_of(t), class::DISPATCH)
 }
 
@@ -271,7 +272,7 @@ fn switch_asks<S: LaneAnswers>(states: &S, p: CpuNo, t: ThreadNo) -> Asks
     ensures asks { result ≡ requests.ask_if (has_kernel_apc (facts_at (S.lanes states.now) t).apcs) p 1 }
     ensures named { All (AskFits (S.script_of states.now)) result }
 {
-    Asks::one_if(states.has_kernel(t), p, class::APC)
+    Asks::one_if(states.threads().has_kernel(t), p, class::APC)
 }
 
 /// What the end of a frame asks for.
@@ -305,7 +306,7 @@ fn has_kernel<S: LaneAnswers>(states: &S, stand: &Stand) -> bool
     ensures { result ≡ has_kernel_apc (facts_of (S.lanes states.now) stand.now.thread).apcs }
 {
     match stand.thread {
-        Some(_) => states.has_kernel(runner(states, stand)),
+        Some(_) => states.threads().has_kernel(runner(states, stand)),
         None => false,
     }
 }

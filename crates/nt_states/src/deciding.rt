@@ -21,6 +21,7 @@ ghost use Rattle.nt_states.specs.Reads.{AreHeld, job_lanes, reply_lanes};
 use crate::answers::LaneAnswers;
 use crate::replying::{reply, wait_reply};
 use crate::running::runner;
+use crate::thread_answers::ThreadAnswers;
 use nt_event::{
     Begun, Command, CpuNo, DpcNo, Job, Part, Pick, Reply, Stand, ThreadNo, What, class,
 };
@@ -161,7 +162,10 @@ fn apcs<S: LaneAnswers>(states: &S, stand: &Stand) -> What
     ensures event { result ≡ jobs.apcs_event stand.now (S.lanes states.now) }
     ensures named { IsTrue (what_fits (S.script_of states.now) result) }
 {
-    match states.deliverable(runner(states, stand), stand.regions, stand.level) {
+    match states
+        .threads()
+        .deliverable(runner(states, stand), stand.regions, stand.level)
+    {
         Some(pick) => begin_apc(&pick),
         None => What::Clean { class: class::APC },
     }
@@ -203,7 +207,7 @@ fn rest<S: LaneAnswers>(states: &S, p: CpuNo) -> Result<What, ActRefusal>
     ensures event { IfOk result (λ w. (w ≡ What.Rest) × (is_null (jobs.ready (S.script_of states.now) p (S.lanes states.now)) ≡ true)) }
     ensures refused { IfErr result (λ r. (r ≡ ActRefusal.NothingToDo) × (is_null (jobs.ready (S.script_of states.now) p (S.lanes states.now)) ≡ false)) }
 {
-    if states.any_ready(p) {
+    if states.threads().any_ready(p) {
         Err(ActRefusal::NothingToDo)
     } else {
         Ok(What::Rest)
@@ -219,7 +223,7 @@ fn pick<S: LaneAnswers>(states: &S, stand: &Stand, last: Option<ThreadNo>) -> Wh
     ensures taken { TakesOwn (S.script_of states.now) stand.now result }
     ensures named { IsTrue (what_fits (S.script_of states.now) result) }
 {
-    match states.next_ready(stand.cpu, last) {
+    match states.threads().next_ready(stand.cpu, last) {
         Some(thread) => switch_to(states, stand.cpu, thread),
         None => rest_or_begin(states, stand.cpu),
     }
@@ -247,7 +251,7 @@ fn switch_to<S: LaneAnswers>(states: &S, p: CpuNo, thread: ThreadNo) -> What
 {
     What::Switch {
         thread,
-        status: states.status(thread),
+        status: states.threads().status(thread),
     }
 }
 
@@ -259,7 +263,7 @@ fn switch<S: LaneAnswers>(states: &S, stand: &Stand, thread: ThreadNo) -> Result
     ensures named { IfOk result (λ w. IsTrue (what_fits (S.script_of states.now) w)) }
     ensures refused { IfErr result (λ r. (r ≡ ActRefusal.BadChoice) × (jobs.job_event (S.script_of states.now) stand.now (S.lanes states.now) (Job.Switch thread) ≡ None)) }
 {
-    if states.may_take(stand.cpu, thread) {
+    if states.threads().may_take(stand.cpu, thread) {
         Ok(switch_to(states, stand.cpu, thread))
     } else {
         Err(ActRefusal::BadChoice)
@@ -311,7 +315,7 @@ fn to_user<S: LaneAnswers>(states: &S, stand: &Stand) -> What
     ensures event { result ≡ jobs.touser_event stand.now (S.lanes states.now) }
     ensures named { IsTrue (what_fits (S.script_of states.now) result) }
 {
-    match states.user_due(runner(states, stand)) {
+    match states.threads().user_due(runner(states, stand)) {
         Some(pick) => begin_apc(&pick),
         None => What::Call {
             frame: stand.frame,
@@ -331,7 +335,7 @@ fn rundown<S: LaneAnswers>(states: &S, stand: &Stand) -> What
     ensures named { IsTrue (what_fits (S.script_of states.now) result) }
 {
     let thread = runner(states, stand);
-    match states.user_first(thread) {
+    match states.threads().user_first(thread) {
         Some(pick) => What::Flush {
             apc: pick.apc,
             from: pick.number,

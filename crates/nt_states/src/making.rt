@@ -13,6 +13,7 @@ ghost use Rattle.nt_states.specs.Given.{IsGiven, IsTaken};
 ghost use Rattle.nt_states.specs.Reads.{AreHeld};
 
 use crate::answers::LaneAnswers;
+use crate::thread_answers::ThreadAnswers;
 use nt_event::{Begun, Command, CpuNo, Event, Level, Reply, Stand, ThreadNo, What};
 
 /// The level after the call of a command.
@@ -136,7 +137,7 @@ fn thread_level<S: LaneAnswers>(states: &S, p: CpuNo, t: ThreadNo) -> Level
     requires held { S.holds states.now (ThreadsLane p) }
     ensures { result ≡ doing_level (facts_at (S.lanes states.now) t).doing }
 {
-    states.level(t)
+    states.threads().level(t)
 }
 
 /// The due time of the delay that the event calls.

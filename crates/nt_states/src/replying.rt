@@ -14,6 +14,7 @@ ghost use Rattle.nt_states.specs.Reads.{AreHeld, reply_lanes};
 
 use crate::answers::LaneAnswers;
 use crate::running::runner;
+use crate::thread_answers::ThreadAnswers;
 use nt_event::{Command, Mode, Reply, Stand, ThreadNo};
 
 /// What a command that is not refused replies.
@@ -30,8 +31,8 @@ pub(crate) fn reply<S: LaneAnswers>(states: &S, stand: &Stand, command: &Command
         Command::Unqueue(d) => Reply::yes_if(states.is_queued(*d)),
         Command::SetTimer(t, _, _) => Reply::yes_if(states.is_set(*t)),
         Command::CancelTimer(t) => Reply::yes_if(states.is_set(*t)),
-        Command::InsertApc(a) => Reply::yes_if(states.takes(*a)),
-        Command::RemoveApc(a) => Reply::yes_if(states.is_inserted(*a)),
+        Command::InsertApc(a) => Reply::yes_if(states.threads().takes(*a)),
+        Command::RemoveApc(a) => Reply::yes_if(states.threads().is_inserted(*a)),
         Command::StartWait(mode, alertable) => wait_reply(states, stand, *mode, *alertable, None),
         Command::Delay(mode, alertable, units) => {
             wait_reply(
@@ -42,7 +43,7 @@ pub(crate) fn reply<S: LaneAnswers>(states: &S, stand: &Stand, command: &Command
                 Some(is_over(states, *units)),
             )
         }
-        Command::Release(t) => Reply::yes_if(states.ends_by_release(*t)),
+        Command::Release(t) => Reply::yes_if(states.threads().ends_by_release(*t)),
         Command::Alert(t, mode) => Reply::yes_if(was_alerted(states, *t, *mode)),
         Command::TestAlert(mode) => Reply::yes_if(is_alerted(states, stand, *mode)),
         Command::Raise(_)
@@ -75,7 +76,7 @@ pub(crate) fn wait_reply<S: LaneAnswers>(
     requires held { S.holds states.now (ThreadsLane stand.now.cpu) }
     ensures { result ≡ wait_reply (facts_of (S.lanes states.now) stand.now.thread) stand.now.regions stand.now.level mode alertable reached }
 {
-    states.wait_reply(
+    states.threads().wait_reply(
         runner(states, stand),
         stand.regions,
         stand.level,
@@ -100,7 +101,7 @@ fn was_alerted<S: LaneAnswers>(states: &S, t: ThreadNo, mode: Mode) -> bool
     requires held { S.holds states.now (ThreadsLane (cpu_of (S.script_of states.now) t)) }
     ensures { result ≡ (not (is_gone (facts_at (S.lanes states.now) t)) && is_alerted mode (facts_at (S.lanes states.now) t)) }
 {
-    !states.is_gone(t) && states.is_alerted(t, mode)
+    !states.threads().is_gone(t) && states.threads().is_alerted(t, mode)
 }
 
 /// Whether the running thread's flag is set.
@@ -111,5 +112,5 @@ fn is_alerted<S: LaneAnswers>(states: &S, stand: &Stand, mode: Mode) -> bool
     requires held { S.holds states.now (ThreadsLane stand.now.cpu) }
     ensures { result ≡ is_alerted mode (facts_of (S.lanes states.now) stand.now.thread) }
 {
-    states.is_alerted(runner(states, stand), mode)
+    states.threads().is_alerted(runner(states, stand), mode)
 }

@@ -7,5 +7,6 @@ mod Numbers
 mod Ours
 mod Over
 mod Readies
+mod Taken
 mod Whole
 pub mod Named

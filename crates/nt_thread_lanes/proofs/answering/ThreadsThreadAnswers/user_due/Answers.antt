@@ -3,7 +3,7 @@ use Rattle.nt_event.specs.Jobs.{user_due}
 use Rattle.nt_event.specs.Threads.{ThreadFacts}
 use Rattle.nt_thread_lanes.specs.Lanes.{facts_in}
 use Rattle.nt_thread_lanes.proofs.Named.{due_named}
-use Rattle.nt_thread_lanes.proofs.threads.Threads.user_due.Goals as goal
+use Rattle.nt_thread_lanes.proofs.answering.ThreadsThreadAnswers.user_due.Goals as goal
 
 pub returns-clause-named : goal.returns-clause-named
 returns-clause-named c =
