@@ -16,7 +16,7 @@ use Rattle.nt_dpc_lanes.proofs.Holding.{holds_without_other}
 use Rattle.nt_event.proofs.Written.{read_other, read_same}
 use Rattle.nt_dpc_lanes.specs.Agree.{Agrees}
 use Rattle.nt_dpc_lanes.specs.Changes.{inserted_at, removed_at, with_object, with_queue}
-use Rattle.nt_dpc_lanes.specs.Lanes.{DpcLanes, queue_in}
+use Rattle.nt_states.specs.DpcLanes.{DpcLanes, queue_in}
 use Rattle.nt_dpc.specs.Objects.{standing_nowhere}
 
 -- the processor in whose queue an object stands

@@ -17,7 +17,7 @@ use Rattle.nt_dpc_lanes.proofs.Agreeing.{agree_inserted, agree_object, agree_que
 use Rattle.nt_event.proofs.Written.{read_map, read_other, read_same}
 use Rattle.nt_dpc_lanes.specs.Agree.{Agrees, AreKept, IsObjectOf, IsQueueOf, lanes_of, object_facts, queue_facts}
 use Rattle.nt_dpc_lanes.specs.Changes.{inserted_at, removed_at, with_object, with_queue}
-use Rattle.nt_dpc_lanes.specs.Lanes.{DpcLanes, queue_in}
+use Rattle.nt_states.specs.DpcLanes.{DpcLanes, queue_in}
 use Rattle.nt_dpc.specs.Objects.{with_importance, with_target}
 use Rattle.nt_dpc.specs.Queues.{set_idle}
 

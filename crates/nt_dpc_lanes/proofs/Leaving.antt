@@ -38,7 +38,7 @@ use Rattle.nt_event.proofs.Written.{table_set}
 use Rattle.nt_dpc_lanes.specs.Agree.{Agrees}
 use Rattle.nt_dpc_lanes.specs.Changes.{MayChange, change_of, changed, inserted_at, removed_at, removed_from, with_object, with_queue}
 use Rattle.nt_dpc_lanes.specs.declared.changes.Change.TheVariants.{Take}
-use Rattle.nt_dpc_lanes.specs.Lanes.{DpcLanes, MayLeave, left, queue_in}
+use Rattle.nt_states.specs.DpcLanes.{DpcLanes, MayLeave, left, queue_in}
 
 abbrev objects_left : ℕ → CpuNo → What → DpcLanes → List ObjectState
 objects_left n by w x = table (length x.script.dpcs) (λ d. object_after (dpc d) n by w (object_in x.objects (dpc d)))

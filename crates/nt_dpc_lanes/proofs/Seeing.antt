@@ -29,7 +29,7 @@ use Rattle.nt_dpc_lanes.proofs.Keeping.{targeted_kept, targeted_seen}
 use Rattle.nt_dpc_lanes.proofs.Leaving.{first_in_script}
 use Rattle.nt_dpc_lanes.specs.Agree.{Agrees, AreKept, IsObjectOf, IsQueueOf, lanes_of, object_facts, queue_facts}
 use Rattle.nt_dpc_lanes.specs.Changes.{inserted_at, removed_at, removed_from, with_object, with_queue}
-use Rattle.nt_dpc_lanes.specs.Lanes.{DpcLanes, queue_in}
+use Rattle.nt_states.specs.DpcLanes.{DpcLanes, queue_in}
 use Rattle.nt_dpc.specs.Objects.{with_importance, with_target}
 use Rattle.nt_dpc.specs.Queues.{set_idle}
 

@@ -17,7 +17,7 @@ use Rattle.nt_dpc.specs.Objects.{ObjectFacts, new_object}
 use Rattle.nt_dpc.specs.Queues.{QueueFacts, holds_dpc, new_queue}
 use Rattle.nt_dpc_lanes.proofs.Agreeing.{stand_of}
 use Rattle.nt_dpc_lanes.specs.Agree.{Agrees, AreKept, IsObjectOf, IsQueueOf, lanes_of, new_objects, new_queues, object_facts, queue_facts}
-use Rattle.nt_dpc_lanes.specs.Lanes.{queue_in, start}
+use Rattle.nt_states.specs.DpcLanes.{queue_in, start}
 
 -- ---- tables
 

@@ -10,7 +10,7 @@ use Rattle.nt_event.specs.Numbers.{cpu, dpc}
 use Rattle.nt_event.specs.Lists.{table}
 use Rattle.nt_dpc.specs.Objects.{ObjectFacts, new_object}
 use Rattle.nt_dpc.specs.Queues.{QueueFacts, holds_dpc, new_queue}
-use Rattle.nt_dpc_lanes.specs.Lanes.{DpcLanes, queue_in}
+use Rattle.nt_states.specs.DpcLanes.{DpcLanes, queue_in}
 
 -- each object and each processor of the script has its state, each target is a processor of the script, and a queue has
 -- an entry of an object exactly where the object stands in it

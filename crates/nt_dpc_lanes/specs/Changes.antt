@@ -30,7 +30,7 @@ use Rattle.nt_dpc.specs.Queues.{add_entry, drop_entry, set_idle}
 use Rattle.nt_dpc_lanes.specs.declared.changes.Change.{Change}
 use Rattle.nt_dpc_lanes.specs.declared.changes.Change.TheVariants.{Insert, Nothing, Remove, Rest, Run, SetImportance}
 use Rattle.nt_dpc_lanes.specs.declared.changes.Change.TheVariants.{SetTarget, Take}
-use Rattle.nt_dpc_lanes.specs.Lanes.{DpcLanes, queue_in}
+use Rattle.nt_states.specs.DpcLanes.{DpcLanes, queue_in}
 
 -- the change where the test holds, else none
 abbrev pub change_where : Bool → Change → Change

@@ -1,4 +1,3 @@
-pub mod Lanes
 pub mod Changes
 pub mod Agree
 pub mod Insides

@@ -10,7 +10,7 @@ ghost use Rattle.nt_dpc.specs.Objects.{with_importance, with_target};
 ghost use Rattle.nt_dpc.specs.Queues.{set_idle};
 ghost use Rattle.nt_dpc_lanes.specs.Agree.{Agrees, IsObjectOf, IsQueueOf};
 ghost use Rattle.nt_dpc_lanes.specs.Changes.{MayChange, changed, inserted_at, removed_at, removed_from, with_object, with_queue};
-ghost use Rattle.nt_dpc_lanes.specs.Lanes.{MayLeave, left, queue_in, start};
+ghost use Rattle.nt_states.specs.DpcLanes.{MayLeave, left, queue_in, start};
 
 use crate::changes::{Change, change_of};
 use crate::{making, pairs};
@@ -28,7 +28,7 @@ pub struct Dpcs<'s> {
 }
 
 impl<'s> Model for Dpcs<'s> {
-    ghost use Rattle.nt_dpc_lanes.specs.Lanes.{DpcLanes};
+    ghost use Rattle.nt_states.specs.DpcLanes.{DpcLanes};
 
     ghost Value = { DpcLanes };
 

@@ -21,7 +21,7 @@ use Rattle.nt_event.specs.Waits.{facts_after}
 use Rattle.nt_event.proofs.Tables.{get_or-table}
 use Rattle.nt_dpc.specs.Objects.{ObjectFacts}
 use Rattle.nt_dpc.specs.Queues.{QueueFacts}
-use Rattle.nt_thread_lanes.specs.Lanes.{left}
+use Rattle.nt_states.specs.ThreadLanes.{left}
 use Rattle.nt_lane.specs.Answers.{HeldStates, held_lanes, threads_told, timers_told}
 use Rattle.nt_lane.specs.Held.{GroupState, group_content, with_threads}
 use Rattle.nt_lane.specs.Steps.{object_left, queue_left}

@@ -34,7 +34,7 @@ use Rattle.nt_lane.specs.Views.{Learns, grows_through}
 use Rattle.nt_lane.proofs.Founding.{all_found}
 use Rattle.nt_lane.proofs.Moves.{asked_known}
 use Rattle.nt_lane.proofs.Tying.{here}
-use Rattle.nt_plain.proofs.Writes.{as_raised}
+use Rattle.nt_states.proofs.Requests.{as_raised}
 
 -- ---- after it was drawn and marked, the pass only learned
 

@@ -24,7 +24,7 @@ use Rattle.nt_lane.specs.Held.{IsObjectThere, IsQueueThere}
 use Rattle.nt_lane.specs.Steps.{MayLeaveBoth, MayLeaveObject, MayLeaveQueue}
 use Rattle.nt_lane.proofs.Changing.{alone_object, alone_queue, both_object, both_queue}
 use Rattle.nt_lane.proofs.Shapes.{Moves, Sets}
-use Rattle.nt_plain.proofs.Writes.{all_head, all_tail}
+use Rattle.nt_states.proofs.Requests.{all_head, all_tail}
 
 -- ---- an object alone
 

@@ -22,7 +22,7 @@ use Rattle.nt_dpc.proofs.Pending.{first_stands}
 use Rattle.nt_dpc.specs.Laws.{IsObject, asks_on}
 use Rattle.nt_dpc.specs.Objects.{ObjectFacts}
 use Rattle.nt_dpc.specs.Queues.{MayInsert, QueueFacts, asked_class, asks_dispatch, class_in}
-use Rattle.nt_plain.specs.Sound.{IsSound}
+use Rattle.nt_states.specs.Sound.{IsSound}
 use Rattle.nt_timer.specs.Laws.{IsSized}
 use Rattle.nt_lane.specs.Answers.{AreThere, BothAgree, HeldStates, held_lanes, timers_told}
 

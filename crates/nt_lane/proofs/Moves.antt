@@ -24,7 +24,7 @@ use Rattle.nt_lane.specs.Marked.{mark_for}
 use Rattle.nt_lane.specs.Records.{IsAskKnown}
 use Rattle.nt_lane.specs.Tries.{HasMade}
 use Rattle.nt_lane.specs.Views.{Learns, drawable_of, draw_told, is_mark, lists_of, look_told, mark_told, words_of}
-use Rattle.nt_plain.proofs.Writes.{all_head, all_tail, is_ask_true}
+use Rattle.nt_states.proofs.Requests.{all_head, all_tail, is_ask_true}
 
 no_bool : {A : Type 0} → false ≡ true → A
 no_bool h = cc

@@ -18,7 +18,7 @@ use Rattle.nt_mark.specs.declared.view.View.{View}
 use Rattle.nt_mark.specs.Views.{entry, reach, request_word, step_word}
 use Rattle.nt_event.specs.Numbers.{thread}
 use Rattle.nt_event.specs.Waits.{facts_after}
-use Rattle.nt_thread_lanes.specs.Lanes.{facts_in, left}
+use Rattle.nt_states.specs.ThreadLanes.{facts_in, left}
 use Rattle.nt_event.proofs.Tables.{length-table_from}
 use Rattle.nt_lane.specs.Held.{GroupState, IsGroupThere, IsLastNoted, next_of}
 use Rattle.nt_lane.specs.Locks.{HeldLanes, Kept, in_each}

@@ -27,15 +27,15 @@ use Rattle.nt_event.specs.LaneStates.{OfObject, OfQueue, OfTimers}
 use Rattle.nt_event.specs.Script.{fits}
 use Rattle.nt_event.specs.Timers.{Timers}
 use Rattle.nt_floor.specs.Acts.{StandFits, job_fits}
-use Rattle.nt_plain.specs.AllStates.{AllStates, threads_of}
-use Rattle.nt_plain.specs.Sound.{IsSound}
-use Rattle.nt_plain.specs.Timed.{MayTime}
-use Rattle.nt_plain.proofs.ForDpcs as may_dpcs
-use Rattle.nt_plain.proofs.ForThreads as may_threads
-use Rattle.nt_plain.proofs.ForTimers as may_timers
-use Rattle.nt_plain.proofs.Knowns.{Knows, knows_job}
-use Rattle.nt_thread_lanes.specs.Fits.{RunsHere, WhatFits, named_thread}
-use Rattle.nt_thread_lanes.specs.Lanes.{ThreadLanes}
+use Rattle.nt_states.specs.AllStates.{AllStates, threads_of}
+use Rattle.nt_states.specs.Sound.{IsSound}
+use Rattle.nt_states.specs.Timed.{MayTime}
+use Rattle.nt_states.proofs.ForDpcs as may_dpcs
+use Rattle.nt_states.proofs.ForThreads as may_threads
+use Rattle.nt_states.proofs.ForTimers as may_timers
+use Rattle.nt_states.proofs.Knowns.{Knows, knows_job}
+use Rattle.nt_states.specs.ThreadFits.{RunsHere, WhatFits, named_thread}
+use Rattle.nt_states.specs.ThreadLanes.{ThreadLanes}
 use Rattle.nt_timer.specs.Laws.{IsSized}
 use Rattle.nt_lane.specs.declared.planning.Plan.{Plan}
 use Rattle.nt_lane.specs.Answers.{BothAgree, HeldStates, IsHeld, held_lanes, threads_told, timers_told}

@@ -10,7 +10,7 @@ use Rattle.nt_event.specs.Script.{has_cpu, has_dpc}
 use Rattle.nt_dpc.specs.Objects.{ObjectFacts}
 use Rattle.nt_dpc.specs.Queues.{QueueFacts}
 use Rattle.nt_mark.specs.declared.view.Note.{Note}
-use Rattle.nt_thread_lanes.specs.Lanes.{ThreadLanes}
+use Rattle.nt_states.specs.ThreadLanes.{ThreadLanes}
 use Rattle.nt_lane.specs.Records.{LaneRecord}
 use Rattle.nt_lane.specs.Seats.{state_noted}
 

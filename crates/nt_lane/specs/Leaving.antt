@@ -6,7 +6,7 @@ use Rattle.nt_event.specs.declared.jobs.Job.TheVariants as job
 use Rattle.nt_event.specs.declared.jobs.Stand.{Stand}
 use Rattle.nt_event.specs.declared.scripts.Script.{Script}
 use Rattle.nt_event.specs.Threads.{ThreadFacts, start_facts}
-use Rattle.nt_thread_lanes.specs.Fits.{RunsHere, named_thread}
+use Rattle.nt_states.specs.ThreadFits.{RunsHere, named_thread}
 use Rattle.nt_lane.specs.Held.{GroupState}
 
 -- where a group is held and the event names no thread, its maker runs there

@@ -20,11 +20,11 @@ use Rattle.nt_floor.specs.Acts.{is_among}
 use Rattle.nt_mark.specs.declared.view.Note.{Note}
 use Rattle.nt_mark.specs.declared.view.View.{View}
 use Rattle.nt_mark.specs.Views.{entry, note_of, reach, step_word}
-use Rattle.nt_plain.specs.Timed.{MayTime}
+use Rattle.nt_states.specs.Timed.{MayTime}
 use Rattle.nt_states.specs.LaneLists.{AskFits}
-use Rattle.nt_thread_lanes.specs.Fits.{RunsHere, WhatFits, named_thread}
+use Rattle.nt_states.specs.ThreadFits.{RunsHere, WhatFits, named_thread}
 use Rattle.nt_lane.specs.Changed.{MayChangeBoth, MayChangeObject, MayChangeQueue}
-use Rattle.nt_thread_lanes.specs.Lanes.{left}
+use Rattle.nt_states.specs.ThreadLanes.{left}
 use Rattle.nt_lane.specs.Held.{GroupState, IsObjectThere, IsQueueThere, group_content, next_of}
 use Rattle.nt_lane.specs.Answers.{object_told}
 use Rattle.nt_lane.specs.Locks.{HeldLanes, Kept, in_each}

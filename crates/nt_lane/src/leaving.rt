@@ -12,15 +12,15 @@ ghost use Rattle.nt_event.specs.Script.{fits};
 ghost use Rattle.nt_event.specs.Step.{thread_field};
 ghost use Rattle.nt_event.specs.Timers.{timers_after};
 ghost use Rattle.nt_lane.specs.Changed.{MayChangeBoth, MayChangeObject, MayChangeQueue, MayEnter, object_moved, object_set, queue_idle, queue_moved};
-ghost use Rattle.nt_plain.specs.Timed.{MayTime};
-ghost use Rattle.nt_thread_lanes.specs.Fits.{RunsHere, WhatFits, named_thread as thread_of};
-ghost use Rattle.nt_thread_lanes.specs.Lanes.{left};
+ghost use Rattle.nt_states.specs.Timed.{MayTime};
+ghost use Rattle.nt_states.specs.ThreadFits.{RunsHere, WhatFits, named_thread as thread_of};
+ghost use Rattle.nt_states.specs.ThreadLanes.{left};
 ghost use Rattle.nt_timer.specs.Laws.{IsSized};
 
 use crate::states::{Clock, Group, Object, Queue};
 use nt_dpc_lanes::{Change, change_of};
 use nt_event::{CpuNo, Event, Part, Script, Stand, What};
-use nt_plain::leave_timers;
+use nt_states::leave_timers;
 use nt_thread_lanes::named_thread;
 
 /// Inserts the object into the queue, by this processor in the event of this number.

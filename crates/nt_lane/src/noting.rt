@@ -10,7 +10,7 @@ ghost use Rattle.nt_lane.specs.Records.{IsNoted, told_then};
 ghost use Rattle.nt_lane.specs.Steps.{IsReady, IsStep, KnowsLeft, MayLeaveBoth, MayLeaveGroup, MayLeaveObject, MayLeaveQueue, MayLeaveTimers, note_left, object_left, queue_left};
 ghost use Rattle.nt_lane.specs.Views.{Learns};
 ghost use Rattle.nt_mark.specs.Names.{pass_table, pass_view, table_of};
-ghost use Rattle.nt_thread_lanes.specs.Lanes.{left};
+ghost use Rattle.nt_states.specs.ThreadLanes.{left};
 
 use crate::lane::Lane;
 use crate::leaving::leave_both;

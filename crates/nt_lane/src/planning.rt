@@ -17,7 +17,7 @@ ghost use Rattle.nt_states.specs.Given.{IsGiven, RunsOwn};
 ghost use Rattle.nt_states.specs.LaneLists.{AskFits};
 ghost use Rattle.nt_states.specs.Reads.{AreHeld};
 ghost use Rattle.nt_timer.specs.Laws.{IsSized};
-ghost use Rattle.nt_thread_lanes.specs.Fits.{RunsHere};
+ghost use Rattle.nt_states.specs.ThreadFits.{RunsHere};
 
 use crate::deciding::{Decided, decide};
 use crate::held::Held;

@@ -4,7 +4,7 @@ ghost use Rattle.nt_event.specs.Routines.{depth_limit, is_declared_threaded, par
 ghost use Rattle.nt_event.specs.Script.{fits, has_cpu, has_dpc};
 ghost use Rattle.nt_dpc.specs.Objects.{new_object};
 ghost use Rattle.nt_dpc.specs.Queues.{new_queue};
-ghost use Rattle.nt_thread_lanes.specs.Lanes.{start};
+ghost use Rattle.nt_states.specs.ThreadLanes.{start};
 ghost use Rattle.nt_timer.specs.Settings.{new_timers};
 
 use crate::record::Holds;

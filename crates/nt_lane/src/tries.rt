@@ -21,7 +21,7 @@ use crate::planning::{Plan, Planned};
 use nt_event::{Job, Rises, Script, Stand};
 use nt_floor::{ActRefusal, Acted};
 use nt_mark::{Marks, Pass, Shared};
-use nt_plain::tell_own;
+use nt_states::tell_own;
 
 /// What came of a try under locks.
 pub(crate) enum Tried {

@@ -26,7 +26,8 @@ use Rattle.nt_plain.specs.Places.{told_in, value_in}
 use Rattle.nt_plain.specs.States.{PlainState, view_of}
 use Rattle.nt_plain.proofs.Tells.{told_after_event}
 use Rattle.nt_plain.proofs.Within.{all_within}
-use Rattle.nt_plain.proofs.Writes.{as_raised, marks_after, words_after}
+use Rattle.nt_states.proofs.Requests.{as_raised}
+use Rattle.nt_plain.proofs.Writes.{marks_after, words_after}
 
 -- the values that an answer tells
 abbrev pub TellsOf : PlainState → Stand → What → List ℕ → Type 0

@@ -9,22 +9,22 @@ use Rattle.nt_event.specs.declared.scripts.Script.{Script}
 use Rattle.nt_event.specs.Acting.{acted_event}
 use Rattle.nt_event.specs.Lanes.{lanes_after}
 use Rattle.nt_event.specs.Timers.{timers_after}
-use Rattle.nt_dpc_lanes.specs.Lanes as dpcs
-use Rattle.nt_dpc_lanes.specs.Lanes.{DpcLanes}
-use Rattle.nt_thread_lanes.specs.Fits.{MayLeave}
-use Rattle.nt_thread_lanes.specs.Lanes as threads
-use Rattle.nt_thread_lanes.specs.Lanes.{ThreadLanes}
+use Rattle.nt_states.specs.DpcLanes as dpcs
+use Rattle.nt_states.specs.DpcLanes.{DpcLanes}
+use Rattle.nt_states.specs.ThreadFits.{MayLeave}
+use Rattle.nt_states.specs.ThreadLanes as threads
+use Rattle.nt_states.specs.ThreadLanes.{ThreadLanes}
 use Rattle.nt_plain.specs.declared.states.States.TheInside.{Inside}
-use Rattle.nt_plain.specs.AllStates.{AllStates, dpcs_of, threads_of}
-use Rattle.nt_plain.specs.Given.{MayMake}
+use Rattle.nt_states.specs.AllStates.{AllStates, dpcs_of, threads_of}
+use Rattle.nt_states.specs.Allowed.{MayMake}
 use Rattle.nt_plain.specs.Kept.{IsKept, states_in}
-use Rattle.nt_plain.specs.Sound.{IsSound}
-use Rattle.nt_plain.specs.Timed.{MayTime, timed}
-use Rattle.nt_plain.proofs.ForDpcs.{may_dpcs}
-use Rattle.nt_plain.proofs.ForThreads.{may_threads}
-use Rattle.nt_plain.proofs.ForTimers.{may_timers}
-use Rattle.nt_plain.proofs.Knowns.{knows}
-use Rattle.nt_plain.proofs.TimersLeft.{sized_after, timers_left}
+use Rattle.nt_states.specs.Sound.{IsSound}
+use Rattle.nt_states.specs.Timed.{MayTime, timed}
+use Rattle.nt_states.proofs.ForDpcs.{may_dpcs}
+use Rattle.nt_states.proofs.ForThreads.{may_threads}
+use Rattle.nt_states.proofs.ForTimers.{may_timers}
+use Rattle.nt_states.proofs.Knowns.{knows}
+use Rattle.nt_states.proofs.TimersLeft.{sized_after, timers_left}
 
 -- ---- the parts are those of the whole
 

@@ -14,7 +14,7 @@ use Rattle.nt_event.specs.Lanes.{lanes_after, what_lanes}
 use Rattle.nt_event.specs.Requests.{Ask, is_ask, raised, what_asks}
 use Rattle.nt_floor.specs.Acts.{is_among}
 use Rattle.nt_states.specs.declared.asking.Asked.{Asked}
-use Rattle.nt_plain.specs.AllStates.{AllStates}
+use Rattle.nt_states.specs.AllStates.{AllStates}
 use Rattle.nt_states.specs.LaneLists.{AskFits, LaneFits, as_asks}
 use Rattle.nt_plain.specs.Made.{IsKept, IsPlanned, made, marked_all, marked_in, raised_word, raised_words, tell_lanes, with_bit}
 use Rattle.nt_plain.specs.Places.{row_of, told_in, value_in, word_place}

@@ -4,13 +4,13 @@ use Rattle.std.specs.Prelude.{[], length, ℕ, ◌≡◌}
 use Rattle.nt_event.specs.declared.scripts.Script.{Script}
 use Rattle.nt_event.specs.Lanes.{lanes_at}
 use Rattle.nt_event.specs.Timers.{Timers, timers_at}
-use Rattle.nt_dpc_lanes.specs.Lanes as dpcs
-use Rattle.nt_dpc_lanes.specs.Lanes.{DpcLanes}
-use Rattle.nt_thread_lanes.specs.Lanes as threads
-use Rattle.nt_thread_lanes.specs.Lanes.{ThreadLanes}
+use Rattle.nt_states.specs.DpcLanes as dpcs
+use Rattle.nt_states.specs.DpcLanes.{DpcLanes}
+use Rattle.nt_states.specs.ThreadLanes as threads
+use Rattle.nt_states.specs.ThreadLanes.{ThreadLanes}
 use Rattle.nt_timer.specs.Settings.{new_timers}
 use Rattle.nt_timer.proofs.Events.{timer_calls_are_events}
-use Rattle.nt_plain.specs.AllStates.{AllStates}
+use Rattle.nt_states.specs.AllStates.{AllStates}
 
 -- the parts of the states
 abbrev pub states_of : Script → DpcLanes → ThreadLanes → Timers → AllStates

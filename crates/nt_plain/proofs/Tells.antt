@@ -16,7 +16,8 @@ use Rattle.nt_plain.specs.Made.{tell_lane, tell_lanes}
 use Rattle.nt_plain.specs.Places.{row_of, row_value, told_in, told_place}
 use Rattle.nt_plain.proofs.Apart.{below_values, same_row, same_value}
 use Rattle.nt_plain.proofs.Telling.{length-tell_lane}
-use Rattle.nt_plain.proofs.Writes.{AskWithin, all_head, all_tail, as_raised, is_ask_false, is_ask_false, is_ask_true, written}
+use Rattle.nt_states.proofs.Requests.{all_head, all_tail, as_raised, is_ask_true}
+use Rattle.nt_plain.proofs.Writes.{AskWithin, is_ask_false, written}
 
 -- ---- lanes and their numbers
 

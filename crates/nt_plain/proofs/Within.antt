@@ -1,8 +1,7 @@
 -- Lanes and requests of the script stand within the lists of a floor.
-use Rattle.std.proofs.Common.{ap, arith, drop, length, subst, ◌∙◌}
+use Rattle.std.proofs.Common.{ap, arith, length, subst, ◌∙◌}
 use Rattle.std.proofs.Math.Nat.{mul-le-mul_right}
 use Rattle.std.proofs.lemmas.Bool.{ltb-true}
-use Rattle.std.proofs.lemmas.List.{drop_all, get_or-map, length-map}
 use Rattle.std.specs.List.{list_any}
 use Rattle.std.specs.Prelude.{All, List, [], get_or, if◌then◌else◌, refl, true, ℕ, ◌*◌, ◌+◌, ◌<◌, ◌^◌, ◌∷◌, ◌≡◌, ◌≤◌}
 use Rattle.nt_event.specs.declared.limits.TheConstants.{EVENTS}
@@ -17,30 +16,19 @@ use Rattle.nt_event.specs.Lists.{table, value_at}
 use Rattle.nt_event.proofs.Tables.{get_or-table, table-same}
 use Rattle.nt_floor.specs.Acts.{told_over}
 use Rattle.nt_states.specs.declared.asking.Asked.{Asked}
-use Rattle.nt_states.specs.LaneLists.{AskFits, LaneFits, as_ask, as_asks, lane_fits}
+use Rattle.nt_states.specs.LaneLists.{AskFits, LaneFits, as_asks, lane_fits}
 use Rattle.nt_plain.specs.Places.{row_of, row_value, told_in, told_place, word_place}
 use Rattle.nt_plain.specs.States.{PlainState}
 use Rattle.nt_plain.proofs.Apart.{below_rows, below_values}
 use Rattle.nt_plain.proofs.Tells.{number_below}
-use Rattle.nt_plain.proofs.Writes.{AskWithin, all_head, all_tail, as_raised}
-
-pub none_left : (asks : List Asked) (i : ℕ) (p : CpuNo) (c to v all : ℕ) → length asks ≤ i → (if list_any (is_ask p c) (as_asks (drop i asks)) then to else v)
-    ≡ all → v ≡ all
-none_left asks i p c to v all h e = rw (drop_all i asks h) at e
+use Rattle.nt_states.proofs.Requests.{all_head, all_tail, as_raised, each_asked}
+use Rattle.nt_plain.proofs.Writes.{AskWithin}
 
 -- ---- requests
 
 pub all_within : (s : Script) (asks : List Ask) → All (AskFits s) asks → All (AskWithin s.cpus) asks
 all_within s asks h k d l =
     let fits = h k d l in record { cpu = ltb-true (get_or asks k d).cpu.0 s.cpus fits.cpu; class = fits.class }
-
--- what holds of each request as a list of the definitions holds of each
-pub each_asked : (P : Ask → Type 0) (asked : List Asked) (asks : List Ask) → as_asks asked ≡ asks → All P asks → All (λ a. P (as_ask a)) asked
-each_asked P asked asks e h k d l =
-    let size : length (as_asks asked) ≡ length asked = length-map asked as_ask in
-    let all : All P (as_asks asked) = rw e h in
-    let at : P (get_or (as_asks asked) k (as_ask d)) = all k (as_ask d) (omega (arith, size)) in
-    subst P (get_or-map as_ask asked k d (as_ask d) l) at
 
 -- ---- lanes
 

@@ -1,31 +1,22 @@
 -- What a list of requests leaves of the words, the marks and the told values.
 use Rattle.std.proofs.Common.{ap, arith, eqb, get_or, inl, inr, length, set, sym, w16, ◌∙◌}
-use Rattle.std.proofs.lemmas.Bool.{and_cases, and_parts, eqb-false, eqb-true}
+use Rattle.std.proofs.lemmas.Bool.{and_cases, eqb-false, eqb-true}
 use Rattle.std.proofs.lemmas.List.{get_or-set_other, get_or-set_same, length-set}
 use Rattle.std.proofs.lemmas.Nat.Bits.{bit_at_set_other, bit_at_set_same}
 use Rattle.std.specs.Int.{bit_at}
 use Rattle.std.specs.List.{list_any}
-use Rattle.std.specs.Prelude.{All, Bool, List, [], false, if◌then◌else◌, max, refl, suc, true, ℕ, ◌&&◌, ◌*◌, ◌+◌, ◌<◌, ◌==◌, ◌||◌, ◌∷◌, ◌≡◌, ◌≤◌, ◌⊎◌}
+use Rattle.std.specs.Prelude.{All, Bool, List, [], false, if◌then◌else◌, max, refl, true, ℕ, ◌&&◌, ◌*◌, ◌<◌, ◌==◌, ◌||◌, ◌∷◌, ◌≡◌, ◌≤◌, ◌⊎◌}
 use Rattle.nt_event.specs.declared.numbers.CpuNo.{CpuNo}
-use Rattle.nt_event.specs.Requests.{Ask, is_ask, raised}
+use Rattle.nt_event.specs.Requests.{Ask, is_ask}
 use Rattle.nt_plain.specs.Made.{marked_all, marked_in, raised_word, raised_words, with_bit}
 use Rattle.nt_plain.specs.Places.{is_marked, row_of, value_in, word_place}
+use Rattle.nt_states.proofs.Requests.{all_head, all_tail, is_ask_true}
 use Rattle.nt_plain.proofs.Apart.{below_rows, same_row, same_word}
 
 -- the processor is below the count, and the class one of the sixteen
 pub record AskWithin (cpus : ℕ) (a : Ask) : Type 0 where
   pub cpu : a.cpu.0 < cpus
   pub class : a.class < 16
-
-pub all_head : {A : Type 0} (P : A → Type 0) (x : A) (xs : List A) → All P (x ∷ xs) → P x
-all_head P x xs h = h 0 x (omega arith)
-
-pub all_tail : {A : Type 0} (P : A → Type 0) (x : A) (xs : List A) → All P (x ∷ xs) → All P xs
-all_tail P x xs h k d l = h (suc k) d (omega arith)
-
-pub as_raised : (b : Bool) (n old : ℕ) → (if b then n + 1 else old) ≡ raised b n old
-as_raised true n old = refl
-as_raised false n old = refl
 
 either : (b : Bool) (x : ℕ) → (if b then x else x) ≡ x
 either true x = refl
@@ -54,11 +45,6 @@ pub written : (xs : List ℕ) (i j v : ℕ) (b : Bool) → i < length xs → (b 
     ≡ (if b then v else get_or xs j 0)
 written xs i j v true h same other = rw (same refl) (get_or-set_same xs i v 0 h)
 written xs i j v false h same other = get_or-set_other xs i j v 0 (other refl)
-
-pub is_ask_true : (q : CpuNo) (d : ℕ) (a : Ask) → is_ask q d a ≡ true → (a.cpu.0 ≡ q.0) × (a.class ≡ d)
-is_ask_true q d a h =
-    let p = and_parts (a.cpu.0 == q.0) (a.class == d) h in
-    (eqb-true a.cpu.0 q.0 p.0, eqb-true a.class d p.1)
 
 pub is_ask_false : (q : CpuNo) (d : ℕ) (a : Ask) → is_ask q d a ≡ false → a.cpu.0 ≡ q.0 → a.class ≡ d → ⊥
 is_ask_false q d a h e f = go (and_cases (a.cpu.0 == q.0) (a.class == d) h)

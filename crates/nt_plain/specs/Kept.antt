@@ -1,8 +1,8 @@
 -- The record that contracts see of the fields of the states, and what holds of them at any time.
 use Rattle.std.specs.Prelude.{◌≡◌}
 use Rattle.nt_plain.specs.declared.states.States.TheInside.{Inside}
-use Rattle.nt_plain.specs.AllStates.{AllStates}
-use Rattle.nt_plain.specs.Sound.{IsSound}
+use Rattle.nt_states.specs.AllStates.{AllStates}
+use Rattle.nt_states.specs.Sound.{IsSound}
 
 abbrev pub states_in : Inside → AllStates
 states_in a =

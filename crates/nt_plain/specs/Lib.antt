@@ -1,10 +1,6 @@
-pub mod AllStates
 pub mod States
 pub mod Places
 pub mod Rows
-pub mod Given
 pub mod Made
 pub mod Insides
-pub mod Sound
 pub mod Kept
-pub mod Timed

@@ -11,8 +11,8 @@ use Rattle.nt_event.specs.Acting.{acted_event}
 use Rattle.nt_event.specs.Lanes.{lane_count, lanes_after, what_lanes}
 use Rattle.nt_event.specs.Requests.{Ask, what_asks}
 use Rattle.nt_floor.specs.Acts.{Found}
-use Rattle.nt_plain.specs.AllStates.{AllStates}
-use Rattle.nt_plain.specs.Given.{MayMake}
+use Rattle.nt_states.specs.AllStates.{AllStates}
+use Rattle.nt_states.specs.Allowed.{MayMake}
 use Rattle.nt_states.specs.LaneLists.{AskFits, LaneFits}
 use Rattle.nt_plain.specs.Places.{row_of, told_in, told_place, value_in, word_place}
 use Rattle.nt_plain.specs.States.{PlainState}

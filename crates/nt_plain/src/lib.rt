@@ -17,5 +17,3 @@ mod states;
 mod told;
 
 pub use plain::PlainFloor;
-pub use states::timing::leave as leave_timers;
-pub use told::tell_own;

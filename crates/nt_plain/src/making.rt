@@ -8,16 +8,15 @@ ghost use Rattle.nt_event.specs.Requests.{asks_in, raised, what_asks};
 ghost use Rattle.nt_event.specs.Lists.{table};
 ghost use Rattle.nt_floor.specs.declared.floor.ActRefusal.{ActRefusal};
 ghost use Rattle.nt_floor.specs.Acts.{Found, IsRefused, KindsFit, told_over};
-ghost use Rattle.nt_plain.specs.Given.{MayMake, MayDo};
+ghost use Rattle.nt_states.specs.Allowed.{MayMake, MayDo};
 ghost use Rattle.nt_states.specs.LaneLists.{AskFits, LaneFits};
 ghost use Rattle.nt_plain.specs.Made.{IsPlanned, made, states_of};
 ghost use Rattle.nt_plain.specs.Places.{told_in};
 
 use crate::plain::PlainFloor;
-use crate::told::tell_own;
 use nt_event::{Event, Job, Rises, Stand, What};
 use nt_floor::{ActRefusal, Acted};
-use nt_states::{Asks, Touched};
+use nt_states::{Asks, Touched, tell_own};
 
 impl<'s> PlainFloor<'s> {
     /// The event of the job for a processor that stands so, or why there is none.

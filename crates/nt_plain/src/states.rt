@@ -3,12 +3,11 @@ ghost use Rattle.std.specs.Prelude.{◌≡◌, [], IfOk, IsTrue, length};
 ghost use Rattle.nt_event.specs.Lanes.{lanes_at};
 ghost use Rattle.nt_event.specs.Script.{fits};
 ghost use Rattle.nt_floor.specs.Acts.{KindsFit};
-ghost use Rattle.nt_plain.specs.AllStates.{dpcs_of};
-ghost use Rattle.nt_plain.specs.Sound.{IsSound};
+ghost use Rattle.nt_states.specs.AllStates.{dpcs_of};
+ghost use Rattle.nt_states.specs.Sound.{IsSound};
 
 mod answering;
 mod leaving;
-pub(crate) mod timing;
 
 use nt_dpc_lanes::Dpcs;
 use nt_event::Script;
@@ -28,7 +27,7 @@ pub(crate) struct States<'s> {
 }
 
 impl<'s> Model for States<'s> {
-    ghost use Rattle.nt_plain.specs.AllStates.{AllStates};
+    ghost use Rattle.nt_states.specs.AllStates.{AllStates};
 
     ghost Value = { AllStates };
 

@@ -1,3 +1,10 @@
 pub mod Reads
 pub mod Given
 pub mod LaneLists
+pub mod ThreadLanes
+pub mod ThreadFits
+pub mod DpcLanes
+pub mod AllStates
+pub mod Allowed
+pub mod Sound
+pub mod Timed

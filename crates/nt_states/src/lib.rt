@@ -12,6 +12,11 @@
 //! timers first (`job_lanes`); which lanes the event touches may hang on its DPC object alone (`found_lanes`); and its asks, its
 //! level and its due time are read on the lanes that it touches (`what_lanes` of nt_event). So a floor over locks takes the
 //! lanes of the job, decides, takes those that are touched, decides anew under them, and makes the event there.
+//!
+//! What every floor does once the event is made stands here too: [`tell_own`] is what its own requests tell, [`leave_timers`] what it leaves of
+//! the timers. So do the definitions by which each part of the lanes says what an event leaves and when it may be made: of objects and
+//! queues `specs/DpcLanes.antt`, of threads `specs/ThreadLanes.antt` and `specs/ThreadFits.antt`, of timers `specs/Timed.antt`, and of all
+//! together `specs/AllStates.antt` and `specs/Allowed.antt`.
 #![tactic(auto)]
 
 mod answers;
@@ -20,12 +25,16 @@ mod deciding;
 mod making;
 mod replying;
 mod running;
+mod telling;
 mod thread_answers;
+mod timing;
 mod touching;
 
 pub use answers::LaneAnswers;
 pub use asking::{Asked, Asks, event_asks};
 pub use deciding::decide;
 pub use making::{due, event};
+pub use telling::tell_own;
 pub use thread_answers::ThreadAnswers;
+pub use timing::leave_timers;
 pub use touching::{Touched, event_lanes};

@@ -12,8 +12,8 @@ use Rattle.nt_event.specs.Routines.{cpu_of, owner_of}
 use Rattle.nt_event.specs.Script.{fits, has_thread}
 use Rattle.nt_event.specs.Step.{thread_field}
 use Rattle.nt_event.specs.Threads.{ThreadFacts}
-use Rattle.nt_thread_lanes.specs.Fits.{CanMake, CanTell, InThread, RunsHere, WhatFits, named_thread}
-use Rattle.nt_thread_lanes.specs.Lanes.{ThreadLanes, facts_in}
+use Rattle.nt_states.specs.ThreadFits.{CanMake, CanTell, InThread, RunsHere, WhatFits, named_thread}
+use Rattle.nt_states.specs.ThreadLanes.{ThreadLanes, facts_in}
 use Rattle.nt_thread_lanes.proofs.Numbers.{owner_named}
 
 same_thread : (t u : ThreadNo) (o : Option ThreadNo) → o ≡ Some t → o ≡ Some u → t ≡ u

@@ -24,7 +24,7 @@ use Rattle.nt_event.specs.Routines.{is_kernel_kind, kind_of}
 use Rattle.nt_event.specs.Threads.{ThreadFacts, ended, ends_by_alert, ends_by_apc, ends_by_expiry, ends_by_release, is_alerted, is_gone, set_alerted}
 use Rattle.nt_event.specs.Waits.{alert_taken, alert_tested, answered, apc_taken, frame_ended, insert_facts, made_facts, new_pick, waited, waited_again}
 use Rattle.nt_event.specs.Replies.{alerted, is_answer, is_user, kernel_apc, satisfied, user_apc}
-use Rattle.nt_thread_lanes.specs.Fits.{told_facts}
+use Rattle.nt_states.specs.ThreadFits.{told_facts}
 
 -- the queue after an event that the thread makes
 abbrev pub ended_queue : Option Body → ApcQueues → ApcQueues

@@ -15,7 +15,7 @@ use Rattle.nt_event.specs.Jobs.{user_due}
 use Rattle.nt_event.specs.Threads.{ThreadFacts}
 use Rattle.nt_event.specs.Lists.{when}
 use Rattle.nt_event.proofs.Options.{Holds, holds_at, holds_or, holds_then, holds_when}
-use Rattle.nt_thread_lanes.specs.Fits.{Begins, Flushes}
+use Rattle.nt_states.specs.ThreadFits.{Begins, Flushes}
 
 all_reverse : {A : Type 0} (P : A → Type 0) (xs : List A) → All P xs → All P (reverse xs)
 all_reverse P [] h = All-nil P

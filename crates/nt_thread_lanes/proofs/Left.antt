@@ -20,8 +20,8 @@ use Rattle.nt_event.specs.Replies.{is_answer, yes_if}
 use Rattle.nt_event.specs.Numbers.{is_of, is_thread, thread}
 use Rattle.nt_event.specs.Lists.{table}
 use Rattle.nt_event.proofs.Tables.{table-self}
-use Rattle.nt_thread_lanes.specs.Fits.{CanTell, named_thread, told_facts}
-use Rattle.nt_thread_lanes.specs.Lanes.{ThreadLanes, facts_in, left}
+use Rattle.nt_states.specs.ThreadFits.{CanTell, named_thread, told_facts}
+use Rattle.nt_states.specs.ThreadLanes.{ThreadLanes, facts_in, left}
 
 -- ---- tables in which one place changes, or none
 

@@ -21,8 +21,8 @@ use Rattle.nt_event.specs.Routines.{owner_of}
 use Rattle.nt_event.specs.Script.{has_apc}
 use Rattle.nt_event.specs.Threads.{ThreadFacts, start_facts}
 use Rattle.nt_event.specs.Waits.{made_facts}
-use Rattle.nt_thread_lanes.specs.Fits.{CanMake, named_thread, told_facts}
-use Rattle.nt_thread_lanes.specs.Lanes.{ThreadLanes, facts_in}
+use Rattle.nt_states.specs.ThreadFits.{CanMake, named_thread, told_facts}
+use Rattle.nt_states.specs.ThreadLanes.{ThreadLanes, facts_in}
 use Rattle.nt_thread_lanes.specs.Marks.{changed_apc, mark_after, marks_after, with_mark}
 use Rattle.nt_thread_lanes.specs.Sound.{AreMarked, IsOurs, IsSound}
 use Rattle.nt_thread_lanes.proofs.Changed.{ended_queue, made_changes, made_queue, told_changes, told_queue}

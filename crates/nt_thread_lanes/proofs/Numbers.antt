@@ -13,7 +13,7 @@ use Rattle.nt_event.specs.Routines.{owner_of}
 use Rattle.nt_event.specs.Script.{apc_fits, fits, has_apc, has_thread}
 use Rattle.nt_event.specs.Numbers.{routine, thread}
 use Rattle.nt_event.proofs.Options.{both}
-use Rattle.nt_thread_lanes.specs.Lanes.{ThreadLanes}
+use Rattle.nt_states.specs.ThreadLanes.{ThreadLanes}
 
 limits : (s : Script) → IsTrue (fits s) → (length s.threads ≤ 64) × (length s.apcs ≤ 256)
 limits s h =

@@ -21,8 +21,8 @@ use Rattle.nt_event.specs.Script.{fits}
 use Rattle.nt_event.specs.Threads.{ThreadFacts, start_facts}
 use Rattle.nt_event.specs.Waits.{made_facts, new_pick}
 use Rattle.nt_event.specs.Lists.{table, table_from}
-use Rattle.nt_thread_lanes.specs.Fits.{CanTell, named_thread, told_facts}
-use Rattle.nt_thread_lanes.specs.Lanes.{ThreadLanes, facts_in}
+use Rattle.nt_states.specs.ThreadFits.{CanTell, named_thread, told_facts}
+use Rattle.nt_states.specs.ThreadLanes.{ThreadLanes, facts_in}
 use Rattle.nt_thread_lanes.specs.Sound.{AreOurs, IsOurs, IsSound}
 use Rattle.nt_thread_lanes.proofs.Changed.{ended_queue, made_changes, made_queue, told_changes, told_queue}
 

@@ -10,7 +10,7 @@ use Rattle.nt_event.specs.Apcs.{deliverable, has_user}
 use Rattle.nt_event.specs.Threads.{ThreadFacts, is_alerted}
 use Rattle.nt_event.specs.Waits.{wait_reply, waited, waited_again}
 use Rattle.nt_event.specs.Replies.{alerted, is_user, kernel_apc, satisfied, user_apc}
-use Rattle.nt_thread_lanes.specs.Fits.{TakesUp, is_over, over_if}
+use Rattle.nt_states.specs.ThreadFits.{TakesUp, is_over, over_if}
 
 -- the tests after that of the due time give another reply
 others_go_on : (c d e f : Bool) → is_over (if c then Status alerted

@@ -11,8 +11,8 @@ use Rattle.nt_event.specs.Routines.{owner_of}
 use Rattle.nt_event.specs.Script.{fits, has_apc, has_thread}
 use Rattle.nt_event.specs.Threads.{ThreadFacts, start_facts}
 use Rattle.nt_event.specs.Waits.{made_facts}
-use Rattle.nt_thread_lanes.specs.Fits.{CanMake, CanTell, named_thread, told_facts}
-use Rattle.nt_thread_lanes.specs.Lanes.{ThreadLanes, facts_in}
+use Rattle.nt_states.specs.ThreadFits.{CanMake, CanTell, named_thread, told_facts}
+use Rattle.nt_states.specs.ThreadLanes.{ThreadLanes, facts_in}
 use Rattle.nt_thread_lanes.specs.Marks.{marks_after}
 use Rattle.nt_thread_lanes.specs.Sound.{AreMarked, IsSound}
 use Rattle.nt_thread_lanes.proofs.Marked.{marked_made, marked_start, marked_told}

@@ -1,6 +1,6 @@
 -- The record that contracts see of the fields, and what holds of them.
 use Rattle.nt_thread_lanes.specs.declared.threads.Threads.TheInside.{Inside}
-use Rattle.nt_thread_lanes.specs.Lanes.{ThreadLanes}
+use Rattle.nt_states.specs.ThreadLanes.{ThreadLanes}
 use Rattle.nt_thread_lanes.specs.Sound.{AreMarked, IsSound}
 
 abbrev pub lanes_in : Inside → ThreadLanes

@@ -8,7 +8,7 @@ use Rattle.nt_event.specs.declared.scripts.Script.{Script}
 use Rattle.nt_event.specs.Apcs.{ApcQueues, is_inserted}
 use Rattle.nt_event.specs.Routines.{kind_of, owner_of}
 use Rattle.nt_event.specs.Script.{fits, has_apc}
-use Rattle.nt_thread_lanes.specs.Lanes.{ThreadLanes, facts_in}
+use Rattle.nt_states.specs.ThreadLanes.{ThreadLanes, facts_in}
 
 -- a pending insert of a thread is of an APC object of the script, and of its kind and its thread
 pub record IsOurs (s : Script) (t : ThreadNo) (x : Pick) : Type 0 where

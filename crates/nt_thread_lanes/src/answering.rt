@@ -5,7 +5,7 @@ ghost use Rattle.nt_event.specs.Jobs.{is_after as comes_after};
 ghost use Rattle.nt_event.specs.Numbers.{thread};
 ghost use Rattle.nt_event.specs.Threads as spec;
 ghost use Rattle.nt_thread.specs.Replies.{reply_of};
-ghost use Rattle.nt_thread_lanes.specs.Lanes.{facts_in};
+ghost use Rattle.nt_states.specs.ThreadLanes.{facts_in};
 
 use crate::Threads;
 use nt_event::{ApcNo, CpuNo, Level, Mode, Pick, Regions, Reply, ThreadDecl, ThreadNo};

@@ -4,8 +4,8 @@ ghost use Rattle.nt_event.specs.declared.events.Event.{Event as Made};
 ghost use Rattle.nt_event.specs.declared.jobs.Stand.{Stand as Place};
 ghost use Rattle.nt_event.specs.Script.{has_thread};
 ghost use Rattle.nt_event.specs.Waits.{made_facts};
-ghost use Rattle.nt_thread_lanes.specs.Fits.{CanMake, CanTell, MayLeave, named_thread as thread_of, told_facts};
-ghost use Rattle.nt_thread_lanes.specs.Lanes.{facts_in, left};
+ghost use Rattle.nt_states.specs.ThreadFits.{CanMake, CanTell, MayLeave, named_thread as thread_of, told_facts};
+ghost use Rattle.nt_states.specs.ThreadLanes.{facts_in, left};
 
 use crate::Threads;
 use crate::making::make;

@@ -4,7 +4,7 @@ ghost use Rattle.nt_event.specs.declared.events.What.TheVariants.{Begin, Call, R
 ghost use Rattle.nt_event.specs.declared.jobs.Stand.{Stand as Place};
 ghost use Rattle.nt_event.specs.declared.scripts.Script.{Script as Declared};
 ghost use Rattle.nt_event.specs.Waits.{frame_ended, made_facts};
-ghost use Rattle.nt_thread_lanes.specs.Fits.{CanMake, TakesUp, is_over as over, over_if};
+ghost use Rattle.nt_states.specs.ThreadFits.{CanMake, TakesUp, is_over as over, over_if};
 
 use nt_event::{ApcKind, Begun, Body, Command, Mode, Pick, Reply, Script, Stand, What};
 use nt_thread::{ThreadState, WaitSpec};

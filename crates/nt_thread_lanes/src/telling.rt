@@ -1,7 +1,7 @@
 //! What an event leaves of the thread that it names.
 ghost use Rattle.std.specs.Prelude.{◌≡◌, ◌≤◌, IsTrue, length, ℕ};
 ghost use Rattle.nt_event.specs.declared.events.What.TheVariants.{Call};
-ghost use Rattle.nt_thread_lanes.specs.Fits.{CanTell, named_thread as thread_of, told_facts};
+ghost use Rattle.nt_states.specs.ThreadFits.{CanTell, named_thread as thread_of, told_facts};
 
 use nt_event::{Command, Reply, Script, ThreadNo, TimerKey, What};
 use nt_thread::ThreadState;

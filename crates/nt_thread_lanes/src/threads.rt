@@ -5,7 +5,7 @@ ghost use Rattle.nt_event.specs.Routines.{kind_of as kind_in, owner_of as owner_
 ghost use Rattle.nt_event.specs.Script.{fits, has_apc, has_thread};
 ghost use Rattle.nt_event.specs.Threads as spec;
 ghost use Rattle.nt_event.specs.declared.threads.Doing.TheVariants.{Running as IsRunning};
-ghost use Rattle.nt_thread_lanes.specs.Lanes.{facts_in, start};
+ghost use Rattle.nt_states.specs.ThreadLanes.{facts_in, start};
 ghost use Rattle.nt_thread_lanes.specs.Sound.{AreOurs};
 
 use nt_event::{ApcNo, Script, ThreadNo};
@@ -23,7 +23,7 @@ pub struct Threads<'s> {
 }
 
 impl<'s> Model for Threads<'s> {
-    ghost use Rattle.nt_thread_lanes.specs.Lanes.{ThreadLanes};
+    ghost use Rattle.nt_states.specs.ThreadLanes.{ThreadLanes};
 
     ghost Value = { ThreadLanes };
 

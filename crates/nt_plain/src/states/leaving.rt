@@ -2,10 +2,11 @@
 ghost use Rattle.std.specs.Prelude.{◌≡◌, ◌+◌, ◌-◌, ◌≤◌, ◌^◌};
 ghost use Rattle.nt_event.specs.Acting.{acted_event};
 ghost use Rattle.nt_event.specs.Lanes.{lanes_after};
-ghost use Rattle.nt_plain.specs.Given.{MayMake};
+ghost use Rattle.nt_states.specs.Allowed.{MayMake};
 
-use super::{States, timing};
+use super::States;
 use nt_event::{Event, Stand};
+use nt_states::leave_timers;
 
 impl<'s> States<'s> {
     /// What the event of this number leaves, which a job gave a processor that stood so.
@@ -18,6 +19,6 @@ impl<'s> States<'s> {
     {
         self.dpcs.leave(n, stand.cpu, &event.what);
         self.threads.leave(n, stand, event);
-        timing::leave(&mut self.timers, n, stand, event);
+        leave_timers(&mut self.timers, n, stand, event);
     }
 }

@@ -1,7 +1,7 @@
 use Rattle.std.proofs.Common.{None, ap, false, refl}
 use Rattle.nt_event.specs.declared.commands.Regions.{Regions}
 use Rattle.nt_event.specs.declared.jobs.Stand.{Stand}
-use Rattle.nt_thread_lanes.specs.Lanes.{ThreadLanes}
+use Rattle.nt_states.specs.ThreadLanes.{ThreadLanes}
 use Rattle.lanes_table.proofs.threads.tell_release.Goals as goal
 
 pub returns : goal.returns

@@ -4,7 +4,7 @@ use Rattle.nt_event.specs.declared.jobs.Lane.TheVariants.{Timers as TimersLane}
 use Rattle.nt_event.specs.declared.scripts.Script.{Script}
 use Rattle.nt_event.specs.LaneStates.{OfTimers}
 use Rattle.nt_event.specs.Timers.{Timers, timers_after}
-use Rattle.nt_plain.specs.Timed.{MayTime}
+use Rattle.nt_states.specs.Timed.{MayTime}
 use Rattle.nt_mark.specs.Names.{pass_view}
 use Rattle.nt_timer.specs.Laws.{IsSized}
 use Rattle.nt_lane.specs.Held.{next_of}

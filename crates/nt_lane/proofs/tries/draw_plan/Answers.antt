@@ -4,7 +4,7 @@ use Rattle.std.proofs.lemmas.List.Elements.{Contains-append_right}
 use Rattle.std.specs.Prelude.{Contains, List, [], get_or, ℕ, ◌+◌, ◌<◌, ◌∷◌, ◌≤◌}
 use Rattle.nt_mark.specs.Names.{pass_view}
 use Rattle.nt_mark.specs.Views.{entry_numbers, reach, step_word}
-use Rattle.nt_plain.proofs.Within.{each_asked}
+use Rattle.nt_states.proofs.Requests.{each_asked}
 use Rattle.nt_states.specs.declared.asking.Asked.{Asked}
 use Rattle.nt_states.specs.LaneLists.{AskFits, as_asks}
 use Rattle.nt_lane.specs.Tries.{HasMade}

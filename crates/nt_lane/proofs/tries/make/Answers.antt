@@ -8,7 +8,7 @@ use Rattle.nt_event.specs.Lists.{table, value_at}
 use Rattle.nt_event.specs.Requests.{Ask, is_ask}
 use Rattle.nt_floor.specs.Acts.{told_over}
 use Rattle.nt_mark.specs.Names.{pass_view}
-use Rattle.nt_plain.proofs.Within.{each_asked}
+use Rattle.nt_states.proofs.Requests.{each_asked}
 use Rattle.nt_states.specs.LaneLists.{AskFits}
 use Rattle.nt_states.specs.Reads.{AreHeld}
 use Rattle.nt_lane.specs.Answers.{IsHeld, held_lanes}

@@ -1,5 +1,5 @@
 use Rattle.nt_thread.specs.Replies.{reply_of}
-use Rattle.nt_thread_lanes.specs.Fits.{Delays}
+use Rattle.nt_states.specs.ThreadFits.{Delays}
 use Rattle.nt_thread_lanes.proofs.Over.{delay_left}
 use Rattle.nt_thread_lanes.proofs.making.call.Goals as goal
 

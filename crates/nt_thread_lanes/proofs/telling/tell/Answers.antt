@@ -1,6 +1,6 @@
 use Rattle.std.proofs.Common.{ap, sym, ◌∙◌}
 use Rattle.nt_event.specs.declared.events.What.{What}
-use Rattle.nt_thread_lanes.specs.Fits.{told_facts}
+use Rattle.nt_states.specs.ThreadFits.{told_facts}
 use Rattle.nt_thread_lanes.proofs.telling.tell.Goals as goal
 
 pub returns-in-Call : goal.returns-in-Call

@@ -1,7 +1,7 @@
 use Rattle.nt_dpc_lanes.proofs.Seeing.{AreSeen, queue_place, rest_seen}
 use Rattle.nt_dpc.specs.Queues.{set_idle}
 use Rattle.nt_dpc_lanes.specs.Changes.{with_queue}
-use Rattle.nt_dpc_lanes.specs.Lanes.{queue_in}
+use Rattle.nt_states.specs.DpcLanes.{queue_in}
 use Rattle.nt_dpc_lanes.proofs.dpcs.Dpcs.set_idle.Goals as goal
 
 after : (c : goal.After-set_idle) → AreSeen c.self.inside.script.now c.self.inside.objects.items c.set_idle.new.queues.items

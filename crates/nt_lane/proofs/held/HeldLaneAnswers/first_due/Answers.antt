@@ -4,7 +4,7 @@ use Rattle.nt_event.specs.Timers.{Timers}
 use Rattle.nt_timer.specs.Settings.{due_entry}
 use Rattle.nt_lane.specs.Answers.{held_lanes}
 use Rattle.nt_lane.proofs.Holding.{sound_held}
-use Rattle.nt_plain.proofs.DueKeys.{due_fits}
+use Rattle.nt_states.proofs.DueKeys.{due_fits}
 use Rattle.nt_lane.proofs.held.HeldLaneAnswers.first_due.Goals as goal
 
 pub returns-clause-named : goal.returns-clause-named

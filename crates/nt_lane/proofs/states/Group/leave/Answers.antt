@@ -2,8 +2,8 @@ use Rattle.std.proofs.Common.{ap, refl, subst, sym, ◌∙◌}
 use Rattle.std.specs.Prelude.{IfSome, IsTrue, Some, ◌≡◌}
 use Rattle.nt_event.specs.declared.scripts.Script.{Script}
 use Rattle.nt_event.specs.Script.{fits}
-use Rattle.nt_thread_lanes.specs.Fits.{RunsHere, WhatFits, named_thread}
-use Rattle.nt_thread_lanes.specs.Lanes.{ThreadLanes, left}
+use Rattle.nt_states.specs.ThreadFits.{RunsHere, WhatFits, named_thread}
+use Rattle.nt_states.specs.ThreadLanes.{ThreadLanes, left}
 use Rattle.nt_thread_lanes.proofs.Allows.{names_one}
 use Rattle.nt_lane.specs.Held.{GroupState}
 use Rattle.nt_lane.proofs.states.Group.leave.Goals as goal

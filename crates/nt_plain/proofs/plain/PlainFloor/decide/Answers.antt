@@ -1,10 +1,10 @@
 use Rattle.std.proofs.Common.{subst, sym}
 use Rattle.std.specs.Prelude.{IfOk}
-use Rattle.nt_plain.specs.Given.{MayDo, MayMake}
+use Rattle.nt_states.specs.Allowed.{MayDo, MayMake}
 use Rattle.nt_plain.specs.Insides.{state_in}
 use Rattle.nt_plain.specs.Made.{states_of}
 use Rattle.nt_plain.specs.States.{PlainState}
-use Rattle.nt_plain.proofs.Deciding.{may_make_found}
+use Rattle.nt_states.proofs.Decidable.{may_make_found}
 use Rattle.nt_plain.proofs.plain.PlainFloor.decide.Goals as goal
 
 pub returns-clause-given : goal.returns-clause-given

@@ -5,7 +5,8 @@ use Rattle.nt_states.specs.LaneLists.{AskFits}
 use Rattle.nt_plain.specs.Made.{IsPlanned}
 use Rattle.nt_plain.specs.States.{PlainState}
 use Rattle.nt_plain.proofs.Keeping.{kept_left}
-use Rattle.nt_plain.proofs.Within.{each_asked, marks_within, places_within, words_within}
+use Rattle.nt_states.proofs.Requests.{each_asked}
+use Rattle.nt_plain.proofs.Within.{marks_within, places_within, words_within}
 use Rattle.nt_plain.proofs.plain.PlainFloor.leave.Goals as goal
 
 pub raise_all-requires : goal.raise_all-requires

@@ -1,10 +1,10 @@
 -- The event may be made, and its lanes are held.
 use Rattle.std.proofs.Common.{subst, sym}
-use Rattle.nt_plain.specs.Given.{MayMake}
+use Rattle.nt_states.specs.Allowed.{MayMake}
 use Rattle.nt_plain.specs.Insides.{state_in}
 use Rattle.nt_plain.specs.Made.{states_of}
 use Rattle.nt_plain.specs.States.{PlainState}
-use Rattle.nt_plain.proofs.Deciding.{all_held, is_given}
+use Rattle.nt_states.proofs.Decidable.{all_held, is_given}
 use Rattle.nt_plain.proofs.plain.PlainFloor.make.Goals as goal
 
 pub event_lanes-lanes-requires-clause-given : goal.event_lanes-lanes-requires-clause-given

@@ -9,7 +9,8 @@ use Rattle.nt_states.specs.LaneLists.{AskFits}
 use Rattle.nt_plain.specs.Made.{IsPlanned}
 use Rattle.nt_plain.specs.Places.{told_in}
 use Rattle.nt_plain.specs.States.{PlainState}
-use Rattle.nt_plain.proofs.Within.{each_asked, rows_within, told_of}
+use Rattle.nt_states.proofs.Requests.{each_asked}
+use Rattle.nt_plain.proofs.Within.{rows_within, told_of}
 use Rattle.nt_plain.proofs.plain.PlainFloor.told_by.Goals as goal
 
 pub over-value-requires-clause-rows : goal.over-value-requires-clause-rows

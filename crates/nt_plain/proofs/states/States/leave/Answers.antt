@@ -11,8 +11,8 @@ pub leave-requires-2 : goal.leave-requires-2
 leave-requires-2 c =
     may_leave_threads c.self.inside c.args.self.now c.args.stand.now c.args.event.now c.self.invariant c.self.view_is c.requires.given c.requires.event
 
-pub leave-requires-3-clause-may : goal.leave-requires-3-clause-may
-leave-requires-3-clause-may c = (
+pub leave_timers-requires-clause-may : goal.leave_timers-requires-clause-may
+leave_timers-requires-clause-may c = (
   c.self.inside.script.now,
   may_leave_timers c.self.inside c.args.self.now c.args.stand.now c.args.event.now c.self.invariant c.self.view_is c.requires.given c.requires.event,
 )
@@ -23,9 +23,9 @@ invariant_of-self c =
       script = c.self.inside.script;
       dpcs = c.leave.new.self;
       threads = c.leave-2.new.self;
-      timers = c.leave-3.new.timers;
+      timers = c.leave_timers.new.timers;
     }) c.args.self.now c.args.n c.args.stand.now c.args.event.now c.self.invariant c.self.view_is c.requires.given
-    c.requires.event (record { script = refl; dpcs = c.leave.ensures; threads = c.leave-2.ensures; timers = c.leave-3.ensures.timers })
+    c.requires.event (record { script = refl; dpcs = c.leave.ensures; threads = c.leave-2.ensures; timers = c.leave_timers.ensures.timers })
 
 pub returns-clause-lanes : goal.returns-clause-lanes
 returns-clause-lanes c =
@@ -33,6 +33,6 @@ returns-clause-lanes c =
       script = c.self.inside.script;
       dpcs = c.leave.new.self;
       threads = c.leave-2.new.self;
-      timers = c.leave-3.new.timers;
+      timers = c.leave_timers.new.timers;
     }) c.args.self.now c.args.n c.args.stand.now c.args.event.now c.self.invariant c.self.view_is c.requires.given
-    c.requires.event (record { script = refl; dpcs = c.leave.ensures; threads = c.leave-2.ensures; timers = c.leave-3.ensures.timers })
+    c.requires.event (record { script = refl; dpcs = c.leave.ensures; threads = c.leave-2.ensures; timers = c.leave_timers.ensures.timers })

@@ -1,7 +1,7 @@
 use Rattle.std.proofs.Common.{◌≡◌, ◌∙◌, ◌≤◌, [], ap, arith, length, refl, sym}
 use Rattle.std.proofs.lemmas.List.{drop_all}
 use Rattle.nt_event.specs.Lanes.{Lanes, lanes_at}
-use Rattle.nt_thread_lanes.specs.Lanes.{ThreadLanes}
+use Rattle.nt_states.specs.ThreadLanes.{ThreadLanes}
 use Rattle.nt_thread_lanes.proofs.Readies.{ends_with}
 use Rattle.nt_thread_lanes.proofs.Taken.{next_taken}
 use Rattle.nt_thread_lanes.proofs.answering.ThreadsThreadAnswers.next_ready.Goals as goal

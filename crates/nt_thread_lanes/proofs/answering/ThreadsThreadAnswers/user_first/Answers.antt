@@ -1,7 +1,7 @@
 use Rattle.std.proofs.Common.{ap, ◌∙◌}
 use Rattle.nt_event.specs.Apcs.{first_user}
 use Rattle.nt_event.specs.Threads.{ThreadFacts}
-use Rattle.nt_thread_lanes.specs.Lanes.{facts_in}
+use Rattle.nt_states.specs.ThreadLanes.{facts_in}
 use Rattle.nt_thread_lanes.proofs.Named.{first_named}
 use Rattle.nt_thread_lanes.proofs.answering.ThreadsThreadAnswers.user_first.Goals as goal
 

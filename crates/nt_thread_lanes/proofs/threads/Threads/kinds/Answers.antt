@@ -3,7 +3,7 @@ use Rattle.std.specs.List.{All}
 use Rattle.std.specs.Prelude.{◌≡◌}
 use Rattle.nt_event.specs.Routines.{kind_of}
 use Rattle.nt_thread_lanes.specs.Insides.{lanes_in}
-use Rattle.nt_thread_lanes.specs.Lanes.{ThreadLanes}
+use Rattle.nt_states.specs.ThreadLanes.{ThreadLanes}
 use Rattle.nt_thread_lanes.proofs.Ours.{kinds_hold}
 use Rattle.nt_thread_lanes.proofs.threads.Threads.kinds.Goals as goal
 

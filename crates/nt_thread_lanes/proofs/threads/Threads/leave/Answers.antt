@@ -1,8 +1,8 @@
 use Rattle.std.proofs.Common.{refl, subst, sym, ◌∙◌}
 use Rattle.std.specs.Prelude.{IsTrue, Some, ◌≡◌}
 use Rattle.nt_event.specs.Script.{fits}
-use Rattle.nt_thread_lanes.specs.Fits.{named_thread}
-use Rattle.nt_thread_lanes.specs.Lanes.{ThreadLanes}
+use Rattle.nt_states.specs.ThreadFits.{named_thread}
+use Rattle.nt_states.specs.ThreadLanes.{ThreadLanes}
 use Rattle.nt_thread_lanes.proofs.Allows.{names_one}
 use Rattle.nt_thread_lanes.proofs.threads.Threads.leave.Goals as goal
 

@@ -1,5 +1,5 @@
 use Rattle.std.proofs.Common.{subst}
-use Rattle.nt_thread_lanes.specs.Lanes.{ThreadLanes, facts_in}
+use Rattle.nt_states.specs.ThreadLanes.{ThreadLanes, facts_in}
 use Rattle.nt_thread_lanes.specs.Sound.{AreOurs}
 use Rattle.nt_thread_lanes.proofs.threads.Threads.ours.Goals as goal
 

@@ -1,6 +1,6 @@
 use Rattle.std.proofs.Common.{subst, sym, ◌∙◌}
 use Rattle.std.specs.Prelude.{length, ◌≡◌}
-use Rattle.nt_thread_lanes.specs.Lanes.{ThreadLanes}
+use Rattle.nt_states.specs.ThreadLanes.{ThreadLanes}
 use Rattle.nt_thread_lanes.proofs.Left.{left_told_by}
 use Rattle.nt_thread_lanes.proofs.threads.Threads.tell.Goals as goal
 

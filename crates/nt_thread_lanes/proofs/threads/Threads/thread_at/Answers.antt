@@ -1,5 +1,5 @@
 use Rattle.std.proofs.Common.{◌≤◌, arith, length, subst}
-use Rattle.nt_thread_lanes.specs.Lanes.{ThreadLanes}
+use Rattle.nt_states.specs.ThreadLanes.{ThreadLanes}
 use Rattle.nt_thread_lanes.proofs.Numbers.{few_threads}
 use Rattle.nt_thread_lanes.proofs.threads.Threads.thread_at.Goals as goal
 

@@ -2,7 +2,7 @@
 use Rattle.std.proofs.Common.{ap, ◌∙◌}
 use Rattle.nt_event.specs.Timers.{Timers}
 use Rattle.nt_timer.specs.Settings.{due_entry}
-use Rattle.nt_plain.proofs.DueKeys.{due_fits}
+use Rattle.nt_states.proofs.DueKeys.{due_fits}
 use Rattle.nt_plain.proofs.states.answering.StatesLaneAnswers.first_due.Goals as goal
 
 pub returns-clause-named : goal.returns-clause-named

@@ -25,7 +25,7 @@ use Rattle.nt_event.specs.Numbers.{is_of, thread, timer}
 use Rattle.nt_event.proofs.Tables.{length-table_from, table-self}
 use Rattle.nt_timer.specs.Laws.{IsSized}
 use Rattle.nt_timer.proofs.Events.{timer_calls_are_events}
-use Rattle.nt_plain.specs.Timed.{CallMayTime, IsMaker, MayTime, call_timed, delayed, timed}
+use Rattle.nt_states.specs.Timed.{CallMayTime, IsMaker, MayTime, call_timed, delayed, timed}
 
 abbrev event_of : CpuNo → Option ThreadNo → ℕ → What → Event
 event_of p r k w = record { cpu = p; thread = r; level = k; what = w }

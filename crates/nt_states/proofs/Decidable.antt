@@ -10,8 +10,8 @@ use Rattle.nt_event.specs.Acting.{IsAllowed, RunsThere}
 use Rattle.nt_event.specs.Jobs.{job_event}
 use Rattle.nt_event.specs.Routines.{cpu_of}
 use Rattle.nt_floor.specs.declared.floor.ActRefusal.{ActRefusal}
-use Rattle.nt_plain.specs.AllStates.{AllStates}
-use Rattle.nt_plain.specs.Given.{MayDo, MayMake}
+use Rattle.nt_states.specs.AllStates.{AllStates}
+use Rattle.nt_states.specs.Allowed.{MayDo, MayMake}
 use Rattle.nt_states.specs.Given.{CanDecide, IsGiven, JobStands}
 use Rattle.nt_states.specs.Reads.{AreHeld}
 

@@ -4,7 +4,7 @@ use Rattle.std.specs.Prelude.{if◌then◌else◌}
 use Rattle.nt_event.specs.Requests.{is_ask}
 use Rattle.nt_event.specs.Lists.{value_at}
 use Rattle.nt_states.specs.LaneLists.{as_asks}
-use Rattle.nt_plain.proofs.told.tell_own.Given as goal
+use Rattle.nt_states.proofs.telling.tell_own.Given as goal
 
 abbrev pub invariant-loop-ask : goal.invariant-loop-ask
 invariant-loop-ask l = record {

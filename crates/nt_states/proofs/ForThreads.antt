@@ -23,11 +23,11 @@ use Rattle.nt_event.specs.Script.{has_thread}
 use Rattle.nt_event.specs.Threads.{ThreadFacts, is_alerted, is_ready}
 use Rattle.nt_event.specs.Replies.{yes_if}
 use Rattle.nt_event.proofs.Options.{both}
-use Rattle.nt_thread_lanes.specs.Fits.{Begins, Delays, EndFits, Flushes, MayLeave, RunsHere, TakesUp, Waits, WhatFits}
-use Rattle.nt_plain.specs.AllStates.{AllStates, threads_of}
-use Rattle.nt_plain.specs.Given.{MayMake}
+use Rattle.nt_states.specs.ThreadFits.{Begins, Delays, EndFits, Flushes, MayLeave, RunsHere, TakesUp, Waits, WhatFits}
+use Rattle.nt_states.specs.AllStates.{AllStates, threads_of}
+use Rattle.nt_states.specs.Allowed.{MayMake}
 use Rattle.nt_event.specs.Fitting.{what_fits}
-use Rattle.nt_plain.proofs.Knowns.{KnownCall, KnownRewait, KnownSwitch, Knows, knows}
+use Rattle.nt_states.proofs.Knowns.{KnownCall, KnownRewait, KnownSwitch, Knows, knows}
 
 module _ (x : AllStates) (st : Stand) where
   -- what holds of the facts of the running thread

@@ -17,12 +17,12 @@ use Rattle.nt_event.specs.Routines.{cpu_of}
 use Rattle.nt_event.specs.Script.{has_thread}
 use Rattle.nt_floor.specs.Acts.{StandFits}
 use Rattle.nt_states.specs.Given.{RunsOwn}
-use Rattle.nt_plain.specs.AllStates.{AllStates}
-use Rattle.nt_plain.specs.Given.{MayMake}
-use Rattle.nt_plain.specs.Sound.{IsSound}
-use Rattle.nt_plain.specs.Timed.{CallMayTime, IsMaker, MayTime}
-use Rattle.nt_plain.proofs.Deciding.{own}
-use Rattle.nt_plain.proofs.Knowns.{KnownCall, Knows, knows}
+use Rattle.nt_states.specs.AllStates.{AllStates}
+use Rattle.nt_states.specs.Allowed.{MayMake}
+use Rattle.nt_states.specs.Sound.{IsSound}
+use Rattle.nt_states.specs.Timed.{CallMayTime, IsMaker, MayTime}
+use Rattle.nt_states.proofs.Decidable.{own}
+use Rattle.nt_states.proofs.Knowns.{KnownCall, Knows, knows}
 
 module _ (x : AllStates) (st : Stand) (sound : IsSound x) where
   makes : (e : Event) (o : Option ThreadNo) → e.cpu ≡ st.cpu → e.thread ≡ o → IfSome o (λ t. IsTrue (has_thread x.script t)) →

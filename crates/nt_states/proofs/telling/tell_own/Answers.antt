@@ -4,8 +4,8 @@ use Rattle.nt_event.specs.Requests.{is_ask}
 use Rattle.nt_event.specs.Lists.{value_at}
 use Rattle.nt_event.proofs.Tables.{is_table}
 use Rattle.nt_states.specs.LaneLists.{as_asks}
-use Rattle.nt_plain.proofs.Within.{none_left}
-use Rattle.nt_plain.proofs.told.tell_own.Goals as goal
+use Rattle.nt_states.proofs.Requests.{none_left}
+use Rattle.nt_states.proofs.telling.tell_own.Goals as goal
 
 pub returns : goal.returns
 returns c =

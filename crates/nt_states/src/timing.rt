@@ -1,7 +1,7 @@
 //! What an event leaves of the timers.
 ghost use Rattle.std.specs.Prelude.{◌≡◌, ◌+◌, ◌-◌, ◌≤◌, ◌<◌, ◌^◌, IfSome, length, option_and_then};
 ghost use Rattle.nt_event.specs.declared.scripts.Script.{Script};
-ghost use Rattle.nt_plain.specs.Timed.{CallMayTime, MayTime, call_timed, delayed, timed};
+ghost use Rattle.nt_states.specs.Timed.{CallMayTime, MayTime, call_timed, delayed, timed};
 
 use nt_event::{Again, Command, Event, Reply, Stand, ThreadNo, What};
 use nt_timer::TimerQueue;
@@ -9,7 +9,7 @@ use nt_timer::TimerQueue;
 /// Takes in the event of this number, of a processor that stood so: the timers are then as it leaves them.
 ///
 /// The event is one that a job gives in these timers. The time stays below 2^50, and grows by less than 2^32.
-pub fn leave(timers: &mut TimerQueue, n: u64, stand: &Stand, event: &Event)
+pub fn leave_timers(timers: &mut TimerQueue, n: u64, stand: &Stand, event: &Event)
     requires may { (s : Script) × MayTime s timers.old event.now event.now.what }
     requires time { timers.old.now + 2 ^ 32 ≤ 2 ^ 50 }
     ensures timers { timers.new ≡ timed n stand.now event.now.thread event.now.what timers.old }

@@ -1,8 +1,8 @@
 -- What contracts see of the states of all lanes of a script.
 use Rattle.nt_event.specs.declared.scripts.Script.{Script}
 use Rattle.nt_event.specs.Lanes.{Lanes}
-use Rattle.nt_dpc_lanes.specs.Lanes.{DpcLanes}
-use Rattle.nt_thread_lanes.specs.Lanes.{ThreadLanes}
+use Rattle.nt_states.specs.DpcLanes.{DpcLanes}
+use Rattle.nt_states.specs.ThreadLanes.{ThreadLanes}
 
 pub record AllStates : Type 0 where
   pub script : Script

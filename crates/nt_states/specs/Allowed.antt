@@ -7,7 +7,7 @@ use Rattle.nt_event.specs.Acting.{IsAllowed, StandHolds}
 use Rattle.nt_event.specs.Fitting.{what_fits}
 use Rattle.nt_event.specs.Jobs.{job_event}
 use Rattle.nt_floor.specs.Acts.{StandFits, job_fits}
-use Rattle.nt_plain.specs.AllStates.{AllStates}
+use Rattle.nt_states.specs.AllStates.{AllStates}
 use Rattle.nt_states.specs.Given.{TakesOwn}
 
 -- the job may be done in these states by a processor that stands so

@@ -27,7 +27,7 @@ use Rattle.nt_event.specs.Step.{thread_field}
 use Rattle.nt_event.specs.Threads.{ThreadFacts, ended_status, ends_by_release, is_alerted, is_gone, is_ready}
 use Rattle.nt_event.specs.Waits.{alert_facts, expiry_facts, insert_facts, new_pick, release_facts, wait_reply}
 use Rattle.nt_event.specs.Replies.{satisfied, yes_if}
-use Rattle.nt_thread_lanes.specs.Lanes.{ThreadLanes, facts_in}
+use Rattle.nt_states.specs.ThreadLanes.{ThreadLanes, facts_in}
 
 -- ---- of a thread that makes the event, by its facts
 

@@ -10,9 +10,9 @@ use Rattle.nt_event.specs.declared.jobs.Stand.{Stand}
 use Rattle.nt_event.specs.declared.numbers.CpuNo.{CpuNo}
 use Rattle.nt_event.specs.Script.{has_cpu, has_dpc, where_given}
 use Rattle.nt_event.proofs.Options.{both}
-use Rattle.nt_dpc_lanes.specs.Lanes.{MayLeave}
-use Rattle.nt_plain.specs.AllStates.{AllStates, dpcs_of}
-use Rattle.nt_plain.proofs.Knowns.{KnownCall, Knows}
+use Rattle.nt_states.specs.DpcLanes.{MayLeave}
+use Rattle.nt_states.specs.AllStates.{AllStates, dpcs_of}
+use Rattle.nt_states.proofs.Knowns.{KnownCall, Knows}
 
 module _ (x : AllStates) (st : Stand) where
   given : (o : Option CpuNo) → where_given (has_cpu x.script) o ≡ true → IfSome o (λ p. IsTrue (has_cpu x.script p))

@@ -8,9 +8,9 @@ use Rattle.nt_event.specs.declared.inserts.Setting.{Setting}
 use Rattle.nt_event.specs.Timers.{setting_in}
 use Rattle.nt_timer.specs.Settings.{due_entry}
 use Rattle.nt_timer.proofs.Among.{due_setting}
-use Rattle.nt_plain.specs.AllStates.{AllStates}
+use Rattle.nt_states.specs.AllStates.{AllStates}
 use Rattle.nt_event.specs.Fitting.{key_fits}
-use Rattle.nt_plain.specs.Sound.{IsSound}
+use Rattle.nt_states.specs.Sound.{IsSound}
 
 set_within : (xs : List (Option Setting)) (n : ℕ) (x : Setting) → setting_in xs n ≡ Some x → n < length xs
 set_within [] n x h = absurd cc

@@ -34,8 +34,8 @@ use Rattle.nt_event.proofs.Options.{Holds, holds_at, holds_else, holds_map, hold
 use Rattle.nt_event.proofs.Ready.{next_ready_taken}
 use Rattle.nt_floor.specs.Acts.{job_fits}
 use Rattle.nt_timer.specs.Settings.{due_entry}
-use Rattle.nt_plain.specs.AllStates.{AllStates}
-use Rattle.nt_plain.specs.Given.{MayMake}
+use Rattle.nt_states.specs.AllStates.{AllStates}
+use Rattle.nt_states.specs.Allowed.{MayMake}
 
 pub record KnownCall (x : AllStates) (st : Stand) (c : Command) (y : Reply) : Type 0 where
   pub answer : y ≡ reply x.script st x.lanes c

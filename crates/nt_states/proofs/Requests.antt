@@ -1,0 +1,37 @@
+-- Lists of requests, one request after another.
+use Rattle.std.proofs.Common.{arith, drop, length, subst}
+use Rattle.std.proofs.lemmas.Bool.{and_parts, eqb-true}
+use Rattle.std.proofs.lemmas.List.{drop_all, get_or-map, length-map}
+use Rattle.std.specs.List.{list_any}
+use Rattle.std.specs.Prelude.{All, Bool, List, false, get_or, if◌then◌else◌, refl, suc, true, ℕ, ◌+◌, ◌==◌, ◌∷◌, ◌≡◌, ◌≤◌}
+use Rattle.nt_event.specs.declared.numbers.CpuNo.{CpuNo}
+use Rattle.nt_event.specs.Requests.{Ask, is_ask, raised}
+use Rattle.nt_states.specs.declared.asking.Asked.{Asked}
+use Rattle.nt_states.specs.LaneLists.{as_ask, as_asks}
+
+pub all_head : {A : Type 0} (P : A → Type 0) (x : A) (xs : List A) → All P (x ∷ xs) → P x
+all_head P x xs h = h 0 x (omega arith)
+
+pub all_tail : {A : Type 0} (P : A → Type 0) (x : A) (xs : List A) → All P (x ∷ xs) → All P xs
+all_tail P x xs h k d l = h (suc k) d (omega arith)
+
+pub as_raised : (b : Bool) (n old : ℕ) → (if b then n + 1 else old) ≡ raised b n old
+as_raised true n old = refl
+as_raised false n old = refl
+
+pub is_ask_true : (q : CpuNo) (d : ℕ) (a : Ask) → is_ask q d a ≡ true → (a.cpu.0 ≡ q.0) × (a.class ≡ d)
+is_ask_true q d a h =
+    let p = and_parts (a.cpu.0 == q.0) (a.class == d) h in
+    (eqb-true a.cpu.0 q.0 p.0, eqb-true a.class d p.1)
+
+-- what holds of each request as a list of the definitions holds of each
+pub each_asked : (P : Ask → Type 0) (asked : List Asked) (asks : List Ask) → as_asks asked ≡ asks → All P asks → All (λ a. P (as_ask a)) asked
+each_asked P asked asks e h k d l =
+    let size : length (as_asks asked) ≡ length asked = length-map asked as_ask in
+    let all : All P (as_asks asked) = rw e h in
+    let at : P (get_or (as_asks asked) k (as_ask d)) = all k (as_ask d) (omega (arith, size)) in
+    subst P (get_or-map as_ask asked k d (as_ask d) l) at
+
+pub none_left : (asks : List Asked) (i : ℕ) (p : CpuNo) (c to v all : ℕ) → length asks ≤ i → (if list_any (is_ask p c) (as_asks (drop i asks)) then to else v)
+    ≡ all → v ≡ all
+none_left asks i p c to v all h e = rw (drop_all i asks h) at e
