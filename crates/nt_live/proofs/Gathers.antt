@@ -23,25 +23,23 @@ pub gathered_already : (s : Script) (limit : ℕ) (ws : List WorkerState) (h : L
 gathered_already s limit ws h w settled = record { run = w.run; settled = settled; worked = h; parts = w.parts; added = stays s limit h }
 
 -- the same, of what is equal
-pub asked : (s t : Script) (limit n : ℕ) (es fs : List Event) → t ≡ s → n ≡ limit → fs ≡ es → IsRun s limit (reverse es) → IsRun t n (reverse fs)
-asked s t limit n es fs a b c r =
-    subst (λ (z : Script). IsRun z n (reverse fs)) (sym a) (subst (λ (k : ℕ). IsRun s k (reverse fs)) (sym b)
-    (subst (λ (xs : List Event). IsRun s limit (reverse xs)) (sym c) r))
+pub asked : (s t : Script) (limit n : ℕ) (es : List Event) → t ≡ s → n ≡ limit → IsRun s limit (reverse es) → IsRun t n (reverse es)
+asked s t limit n es a b r =
+    subst (λ (z : Script). IsRun z n (reverse es)) (sym a) (subst (λ (k : ℕ). IsRun s k (reverse es)) (sym b) r)
 
-pub gathered_as : {A : Type 0} (events : A → List Event) (s t : Script) (limit n : ℕ) (ws : List WorkerState) (es fs : List Event) (r : Result A AllocError) →
-    t ≡ s → n ≡ limit → fs ≡ es → IsWorked s limit ws (reverse es) → IfOk r (λ x. IsRun t n (reverse (events x))) →
-    IfOk r (λ x. is_settled t n (reverse (events x)) ≡ true) → IfOk r (λ x. GoesByRobin t n (reverse fs) (reverse (events x))) →
+pub gathered_as : {A : Type 0} (events : A → List Event) (s t : Script) (limit n : ℕ) (ws : List WorkerState) (es : List Event) (r : Result A AllocError) →
+    t ≡ s → n ≡ limit → IsWorked s limit ws (reverse es) → IfOk r (λ x. IsRun t n (reverse (events x))) →
+    IfOk r (λ x. is_settled t n (reverse (events x)) ≡ true) → IfOk r (λ x. GoesByRobin t n (reverse es) (reverse (events x))) →
     IfOk r (λ x. IsGathered s limit ws (reverse (events x)))
-gathered_as events s t limit n ws es fs (Err e) a b c w run settled added = tt
-gathered_as events s t limit n ws es fs (Ok x) a b c w run settled added =
+gathered_as events s t limit n ws es (Err e) a b w run settled added = tt
+gathered_as events s t limit n ws es (Ok x) a b w run settled added =
     let h = reverse (events x) in
     record {
       run = subst (λ (z : Script). IsRun z limit h) a (subst (λ (k : ℕ). IsRun t k h) b run);
       settled = subst (λ (z : Script). is_settled z limit h ≡ true) a (subst (λ (k : ℕ). is_settled t k h ≡ true) b settled);
       worked = reverse es;
       parts = w.parts;
-      added = subst (λ (z : Script). GoesByRobin z limit (reverse es) h) a (subst (λ (k : ℕ). GoesByRobin t k (reverse es) h) b
-          (subst (λ (xs : List Event). GoesByRobin t n (reverse xs) h) c added));
+      added = subst (λ (z : Script). GoesByRobin z limit (reverse es) h) a (subst (λ (k : ℕ). GoesByRobin t k (reverse es) h) b added);
     }
 
 -- the processors of a team stand in their order

@@ -1,87 +1,117 @@
 //! The end of a run that was begun elsewhere: the turns of its events, and then those of the robin rule.
-ghost use Rattle.std.specs.Prelude.{◌≡◌, ◌≤◌, ◌*◌, IfOk, IsTrue, None, Ok, Some, [], reverse, true};
-ghost use Rattle.nt_event.specs.Robin.{is_settled, robin as robin_in};
+ghost use Rattle.std.specs.Prelude.{◌≡◌, ◌≤◌, ◌*◌, ◌∷◌, [], IfOk, IsTrue, List, Ok, OnOk, reverse, true};
+ghost use Rattle.nt_event.specs.declared.events.Event.{Event};
+ghost use Rattle.nt_event.specs.Robin.{is_settled};
 ghost use Rattle.nt_event.specs.Script.{fits};
 ghost use Rattle.nt_event.specs.Step.{IsRun, step, turn_of};
-ghost use Rattle.nt_core.specs.States.{with_event};
+ghost use Rattle.nt_cpus.specs.Cycles.{last_cpu as last_of};
+ghost use Rattle.nt_cpus.specs.Following.{AreAfter};
+ghost use Rattle.nt_plain.specs.States.{view_of};
 ghost use Rattle.nt_live.specs.Gathered.{GoesByRobin};
 
-use nt_core::Core;
+use nt_cpu::no_event;
+use nt_cpus::Processors;
 use nt_event::limits::{EVENTS, TURNS};
-use nt_event::{Event, History, Script, Turn};
+use nt_event::{CpuNo, Event, History, Items, Script};
+use nt_plain::PlainFloor;
 use std::alloc::{AllocError, Global};
 
-/// Takes the turn of an event that is the next one of a run.
-fn repeat(core: &mut Core, event: &Event)
-    requires { step core.old.script core.old.limit (turn_of event.now) core.old.past ≡ Ok event.now }
-    ensures { core.new ≡ with_event event.now core.old }
+/// Takes the turn of an event that is the next one of a run; the event is written once more.
+fn repeat(processors: &mut Processors, floor: &mut PlainFloor, event: &Event, made: &mut Event)
+    requires { (past : List Event) × (AreAfter past processors.old floor.old.script (view_of floor.old) × (step processors.old.script processors.old.limit (turn_of event.now) past ≡ Ok event.now)) }
+    ensures after { (past : List Event) → AreAfter past processors.old floor.old.script (view_of floor.old) → step processors.old.script processors.old.limit (turn_of event.now) past ≡ Ok event.now → AreAfter (event.now ∷ past) processors.new floor.new.script (view_of floor.new) }
+    ensures kept { (processors.new.script ≡ processors.old.script) × (processors.new.limit ≡ processors.old.limit) }
 {
-    match core.turn(event.turn()) {
-        Ok(_) => {}
+    match processors.turn(floor, &event.turn(), made) {
+        Ok(()) => {}
         Err(_) => unreachable!(),
     }
 }
 
 /// Takes the turns of the events of a run, from its beginning.
-fn repeat_all(core: &mut Core, events: &[Event])
-    requires start { core.old.past ≡ [] }
-    requires run { IsRun core.old.script core.old.limit (reverse events.now) }
-    ensures script { core.new.script ≡ core.old.script }
-    ensures limit { core.new.limit ≡ core.old.limit }
-    ensures past { core.new.past ≡ reverse events.now }
+fn repeat_all(processors: &mut Processors, floor: &mut PlainFloor, events: &[Event])
+    requires start { AreAfter [] processors.old floor.old.script (view_of floor.old) }
+    requires run { IsRun processors.old.script processors.old.limit (reverse events.now) }
+    ensures after { AreAfter (reverse events.now) processors.new floor.new.script (view_of floor.new) }
+    ensures kept { (processors.new.script ≡ processors.old.script) × (processors.new.limit ≡ processors.old.limit) }
 {
+    let mut made = no_event();
     for event in events {
-        repeat(core, event);
+        repeat(processors, floor, event, &mut made);
     }
 }
 
-/// Takes the turn of the robin rule, which gives this event.
-fn follow(core: &mut Core, turn: Turn) -> Event
-    requires { robin_in core.old.script core.old.limit core.old.past ≡ Some turn }
-    ensures turn { turn_of result ≡ turn }
-    ensures event { core.new ≡ with_event result core.old }
+/// The processor of the last event; None where there is none.
+fn last_cpu(events: &[Event]) -> Option<CpuNo>
+    ensures { result ≡ last_of (reverse events.now) }
 {
-    core.is_run();
-    match core.turn(turn) {
-        Ok(event) => event,
-        Err(_) => unreachable!(),
+    let count = events.len();
+    if count == 0 {
+        return None;
     }
+    Some(events[count - 1].cpu)
 }
 
-/// Takes the turns of the robin rule until it has none.
-fn follow_all(core: &mut Core)
-    ensures script { core.new.script ≡ core.old.script }
-    ensures limit { core.new.limit ≡ core.old.limit }
-    ensures added { GoesByRobin core.old.script core.old.limit core.old.past core.new.past }
-    ensures ended { robin_in core.new.script core.new.limit core.new.past ≡ None }
+/// Makes the events of the robin rule until it has no turn, and puts each at the end of the list.
+fn go_on_all(
+    processors: &mut Processors,
+    floor: &mut PlainFloor,
+    events: &mut Vec<Event>,
+) -> Result<(), AllocError>
+    requires { AreAfter (reverse events.old.items) processors.old floor.old.script (view_of floor.old) }
+    ensures run { OnOk result (IsRun processors.old.script processors.old.limit (reverse events.new.items)) }
+    ensures added { OnOk result (GoesByRobin processors.old.script processors.old.limit (reverse events.old.items) (reverse events.new.items)) }
+    ensures settled { OnOk result (is_settled processors.old.script processors.old.limit (reverse events.new.items) ≡ true) }
 {
-    while let Some(turn) = core.robin() {
-        follow(core, turn);
-        core.is_run();
+    let mut made = no_event();
+    while processors.go_on(floor, last_cpu(events.as_slice()), &mut made) {
+        events.push(made)?;
     }
+    Ok(())
+}
+
+/// The run that goes on from these events by the robin rule to its end, made by processors and a floor that nothing happened to.
+fn finished_by(
+    processors: &mut Processors,
+    floor: &mut PlainFloor,
+    mut events: Vec<Event>,
+) -> Result<History, AllocError>
+    requires start { AreAfter [] processors.old floor.old.script (view_of floor.old) }
+    requires run { IsRun processors.old.script processors.old.limit (reverse events.items) }
+    ensures turns { IfOk result (λ h. h.turns ≡ processors.old.limit) }
+    ensures run { IfOk result (λ h. IsRun processors.old.script processors.old.limit (reverse h.events)) }
+    ensures settled { IfOk result (λ h. is_settled processors.old.script processors.old.limit (reverse h.events) ≡ true) }
+    ensures added { IfOk result (λ h. GoesByRobin processors.old.script processors.old.limit (reverse events.items) (reverse h.events)) }
+{
+    let turns = processors.limit();
+    repeat_all(processors, floor, events.as_slice());
+    go_on_all(processors, floor, &mut events)?;
+    Ok(History {
+        turns,
+        events: Items::from_vec(events),
+    })
 }
 
 /// The run that goes on from these events by the robin rule to its end, where each processor may make this many events.
 ///
-/// The script fits, the events are a run of it, and `turns` is 1 to 20,000 and at most 160,000 in all processors together.
+/// The script fits, the events are a run of it, and `turns` is 1 to 20,000 and at most 160,000 in all processors together. The list of the
+/// events itself becomes that of the run, with the events of the rule behind them.
 pub(crate) fn finished(
     alloc: Global,
     script: &Script,
     turns: u32,
-    events: &[Event],
+    events: Vec<Event>,
 ) -> Result<History, AllocError>
     requires script { IsTrue (fits script.now) }
     requires turns { (1 ≤ turns) × (turns ≤ TURNS) }
     requires all { script.now.cpus * turns ≤ EVENTS }
-    requires run { IsRun script.now turns (reverse events.now) }
+    requires run { IsRun script.now turns (reverse events.items) }
     ensures turns { IfOk result (λ h. h.turns ≡ turns) }
     ensures run { IfOk result (λ h. IsRun script.now turns (reverse h.events)) }
     ensures settled { IfOk result (λ h. is_settled script.now turns (reverse h.events) ≡ true) }
-    ensures added { IfOk result (λ h. GoesByRobin script.now turns (reverse events.now) (reverse h.events)) }
+    ensures added { IfOk result (λ h. GoesByRobin script.now turns (reverse events.items) (reverse h.events)) }
 {
-    let mut core = Core::new(alloc, script, turns)?;
-    repeat_all(&mut core, events);
-    follow_all(&mut core);
-    core.is_run();
-    Ok(core.finish())
+    let mut processors = Processors::new(alloc, script, turns)?;
+    let mut floor = PlainFloor::new(alloc, script, turns)?;
+    finished_by(&mut processors, &mut floor, events)
 }

@@ -63,8 +63,9 @@ fn merged<'s, N: Plan + Shared>(
 /// run of N's script, where each processor makes at most N's turns.
 ///
 /// The workers are those that were made with the board, in order, so that their passes together hold all parts of N's table. What they made
-/// is a run, of which each worker's list is its processor's part. Where some processor has more to do, a machine in memory follows that
-/// run and goes on from there. AllocError comes where no memory was found; the board and the workers are gone then too.
+/// is a run, of which each worker's list is its processor's part. Where some processor has more to do, the turns of that run are taken
+/// again in memory, and the robin rule goes on from there. AllocError comes where no memory was found; the board and the workers are gone
+/// then too.
 pub fn gather<'s, N: Plan + Shared>(
     alloc: Global,
     board: Board<'s, N>,
@@ -94,6 +95,6 @@ pub fn gather<'s, N: Plan + Shared>(
             events: Items::from_vec(events),
         })
     } else {
-        finished(alloc, script, turns, events.as_slice())
+        finished(alloc, script, turns, events)
     }
 }

@@ -1,10 +1,12 @@
 use Rattle.std.proofs.Common.{◌≡◌}
+use Rattle.nt_plain.specs.States.{view_of}
+use Rattle.nt_cpus.specs.Following.{AreAfter}
 use Rattle.nt_live.proofs.AddedTurns.{past_at}
 use Rattle.nt_live.proofs.finishing.repeat_all.Given as goal
 
 abbrev pub invariant-loop-event : goal.invariant-loop-event
 invariant-loop-event l = record {
-  script : l.core.script ≡ l.fn.core.script;
-  limit : l.core.limit ≡ l.fn.core.limit;
-  past : l.core.past ≡ past_at l.event-index l.events;
+  after : AreAfter (past_at l.event-index l.events) l.processors l.floor.script (view_of l.floor);
+  script : l.processors.script ≡ l.fn.processors.script;
+  limit : l.processors.limit ≡ l.fn.processors.limit;
 }

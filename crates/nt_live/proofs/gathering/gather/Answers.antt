@@ -37,8 +37,7 @@ finished-requires-clause-run g c =
     let es = c.in_ok-events.events.items in
     let did = worked s limit c.args.workers.items team.cpus.items (pass_view team.pass) w team.list.items es c.args.board.script_fits c.requires.all
     c.in_ok-team.ensures.team c.has_no_more-settled.ensures.looked c.in_ok-events.ensures in
-    asked s c.args.board.script.now limit c.args.board.turns es c.as_slice-else-settled.result.now c.args.board.script_is c.args.board.turns_is
-    c.as_slice-else-settled.ensures.value did.run
+    asked s c.args.board.script.now limit c.args.board.turns es c.args.board.script_is c.args.board.turns_is did.run
 
 pub returns-clause-gathered : goal.returns-clause-gathered
 returns-clause-gathered g c =
@@ -51,5 +50,5 @@ returns-clause-gathered g c =
     let did = worked s limit ws team.cpus.items (pass_view team.pass) w team.list.items es c.args.board.script_fits c.requires.all
     c.in_ok-team.ensures.team c.has_no_more-settled.ensures.looked c.in_ok-events.ensures in
     let e = c.finished.ensures in
-    gathered_as (λ x. x.events) s c.args.board.script.now limit c.args.board.turns ws es c.as_slice-else-settled.result.now c.finished.result
-    c.args.board.script_is c.args.board.turns_is c.as_slice-else-settled.ensures.value did e.run e.settled e.added
+    gathered_as (λ x. x.events) s c.args.board.script.now limit c.args.board.turns ws es c.finished.result c.args.board.script_is c.args.board.turns_is did
+    e.run e.settled e.added
