@@ -1,5 +1,5 @@
 -- The lanes that are read before an event is made, and when they are held.
-use Rattle.std.specs.Prelude.{List, [], get_or, is_some, option_and_then, ◌∷◌}
+use Rattle.std.specs.Prelude.{List, [], is_some, option_and_then, ◌∷◌}
 use Rattle.nt_event.specs.declared.commands.Command.{Command}
 use Rattle.nt_event.specs.declared.commands.Command.TheVariants.{Alert, CancelTimer, Clock, Delay, EnterCrit, EnterGuard, InsertApc, Interrupt, LeaveCrit, LeaveGuard, Lower, Note, Queue, Raise, Release, RemoveApc, SetImportance, SetTarget, SetTimer, StartWait, TestAlert, ToUser, Unqueue, Yield}
 use Rattle.nt_event.specs.declared.events.What.{What}
@@ -10,11 +10,9 @@ use Rattle.nt_event.specs.declared.jobs.Lane.{Lane}
 use Rattle.nt_event.specs.declared.jobs.Lane.TheVariants.{Object as ObjectLane, Queue as QueueLane, Threads as ThreadsLane, Timers as TimersLane}
 use Rattle.nt_event.specs.declared.jobs.Stand.{Stand}
 use Rattle.nt_event.specs.declared.numbers.CpuNo.{CpuNo}
-use Rattle.nt_event.specs.declared.numbers.ThreadNo.{ThreadNo}
 use Rattle.nt_event.specs.declared.scripts.Script.{Script}
 use Rattle.nt_event.specs.Lanes.{lane_if}
 use Rattle.nt_event.specs.Routines.{cpu_of, owner_of}
-use Rattle.nt_event.specs.Threads.{ThreadFacts, start_facts}
 
 -- each of these lanes is held
 abbrev pub AreHeld : (Lane → Type 0) → List Lane → Type 0
@@ -25,10 +23,6 @@ AreHeld held (x ∷ xs) = held x × AreHeld held xs
 pub record HoldsThreads (held : Lane → Type 0) : Type 0 where
   pub cpu : CpuNo
   pub lane : held (ThreadsLane cpu)
-
--- a thread's facts among those of all threads in order
-abbrev pub facts_among : List ThreadFacts → ThreadNo → ThreadFacts
-facts_among facts t = get_or facts t.0 start_facts
 
 -- the lanes that are read to find what a command of a routine on p replies
 abbrev pub reply_lanes : Script → CpuNo → Command → List Lane

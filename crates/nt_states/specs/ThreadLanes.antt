@@ -9,13 +9,17 @@ use Rattle.nt_event.specs.Waits.{facts as facts_at, facts_after}
 use Rattle.nt_event.specs.Lists.{table}
 use Rattle.nt_event.specs.Numbers.{thread}
 
+-- a thread's facts among those of all threads in order
+abbrev pub facts_among : List ThreadFacts → ThreadNo → ThreadFacts
+facts_among facts t = get_or facts t.0 start_facts
+
 -- the script, and the facts of each of its threads
 pub record ThreadLanes : Type 0 where
   pub script : Script
   pub facts : List ThreadFacts
 
 abbrev pub facts_in : ThreadLanes → ThreadNo → ThreadFacts
-facts_in x t = get_or x.facts t.0 start_facts
+facts_in x t = facts_among x.facts t
 
 -- before any event
 abbrev pub start : Script → ThreadLanes

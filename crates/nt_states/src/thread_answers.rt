@@ -19,7 +19,7 @@ pub trait ThreadAnswers {
     ghost use Rattle.nt_event.specs.Threads.{ThreadFacts};
     ghost use Rattle.nt_event.specs.Waits as waits;
     ghost use Rattle.nt_states.specs.Given.{IsTaken};
-    ghost use Rattle.nt_states.specs.Reads.{facts_among};
+    ghost use Rattle.nt_states.specs.ThreadLanes.{facts_among};
 
     /// The script.
     ghost script_of: { Self → Script };
