@@ -1,24 +1,18 @@
 -- The turns of the robin rule are taken.
 use Rattle.std.proofs.Common.{ap, subst, sym, ◌∙◌}
-use Rattle.std.specs.Prelude.{Bool, Err, IfSome, List, None, Ok, Option, Some, false, is_none, not, refl, true, ℕ, ◌||◌, ◌≡◌}
+use Rattle.std.specs.Prelude.{Bool, IfSome, List, None, Ok, Option, Some, false, is_none, not, refl, true, ℕ, ◌||◌, ◌≡◌}
 use Rattle.nt_event.specs.declared.events.Event.{Event}
-use Rattle.nt_event.specs.declared.events.ScheduleKind.{ScheduleKind}
 use Rattle.nt_event.specs.declared.events.Turn.{Turn}
 use Rattle.nt_event.specs.declared.numbers.CpuNo.{CpuNo}
 use Rattle.nt_event.specs.declared.scripts.Script.{Script}
 use Rattle.nt_event.specs.Lists.{when}
 use Rattle.nt_event.specs.Own.{own_of}
-use Rattle.nt_event.specs.Robin.{is_done_with, robin, robin_of}
+use Rattle.nt_event.specs.Robin.{is_done_with, robin_of}
 use Rattle.nt_event.specs.Script.{has_cpu}
 use Rattle.nt_event.specs.Step.{IsRun, is_cut, step}
 use Rattle.nt_event.proofs.Options.{Holds, holds_when}
-use Rattle.nt_runs.proofs.Robin.{robin_accepted, robin_at_accepted}
+use Rattle.nt_runs.proofs.Robin.{robin_at_accepted}
 use Rattle.nt_runs.proofs.Settled.{robin_of_done}
-
--- the rule's turn is not refused
-pub never_refused : (s : Script) (limit : ℕ) (past : List Event) (t : Turn) (k : ScheduleKind) → IsRun s limit past → robin s limit past ≡ Some t →
-    step s limit t past ≡ Err k → ⊥
-never_refused s limit past t k r h e = let a = robin_accepted s limit past t r h in cc
 
 -- a processor has no turn exactly where the script hasn't it, or it is done with
 pub none_of : (s : Script) (limit : ℕ) (p : CpuNo) (past : List Event) (o : Option Turn) → IsRun s limit past → o
