@@ -36,6 +36,7 @@ impl<'s> Model for Core<'s> {
 }
 
 /// Puts the event at the end. There is room for it.
+#[inline(always)]
 pub(crate) fn put(events: &mut Vec<Event>, event: &Event)
     requires { length events.old.items < vec_capacity events.old }
     ensures items { events.new.items ≡ events.old.items ++ event.now ∷ [] }
@@ -92,6 +93,7 @@ impl<'s> Core<'s> {
     }
 
     /// Takes the turn as [`Core::turn`] does, and writes its event where the caller keeps it too.
+    #[inline(always)]
     pub(crate) fn make(&mut self, turn: &Turn, event: &mut Event) -> Result<(), CoreRefusal>
         ensures ok { OnOk result ((step self.old.script self.old.limit turn.now self.old.past ≡ Ok event.new) × (self.new ≡ with_event event.new self.old)) }
         ensures err { IfErr result (λ r. step self.old.script self.old.limit turn.now self.old.past ≡ Err (kind_of r)) }

@@ -98,6 +98,7 @@ fn mark<W: Words>(words: &mut W, asked: Option<Asked>, n: u64)
 
 impl<'s> Cpu<'s> {
     /// Where the processor stands.
+    #[inline(always)]
     pub(crate) fn standing(&self) -> Stand
         ensures { result ≡ stand_in self.now.cpu self.now.own }
     {
@@ -165,6 +166,7 @@ impl<'s> Cpu<'s> {
     }
 
     /// What an event that touches no lane asks for.
+    #[inline(always)]
     fn asks(&self, what: &What) -> Option<Asked>
         ensures asks { result ≡ alone_asks (stand_in self.now.cpu self.now.own) what.now }
         ensures class { IfSome result (λ a. a.class < 16) }
@@ -205,6 +207,7 @@ impl<'s> Cpu<'s> {
     }
 
     /// Writes the event that does this and touches no lane.
+    #[inline(always)]
     fn write(&self, deed: &Deed, event: &mut Event)
         ensures { event.new ≡ alone_event self.now.cpu (what_in deed.now) self.now.own.frames }
     {

@@ -69,6 +69,7 @@ fn look_all<W: Words>(words: &mut W, cpu: CpuNo) -> [u64; 16]
 
 impl<'s> Cpu<'s> {
     /// Whether one of these values, one for each of the 16 classes, is above what was seen.
+    #[inline(always)]
     pub fn is_behind(&self, answers: &[u64]) -> bool
         requires { length answers.now ≡ 16 }
         ensures { result ≡ is_behind self.now.own (value_at answers.now) }

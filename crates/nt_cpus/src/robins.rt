@@ -34,6 +34,7 @@ pub struct Chosen {
 }
 
 /// The next ready thread is taken up where a thread may be and one is ready; else the next event is made.
+#[inline(always)]
 fn going_on<F: OpenFloor>(cpu: &Cpu, floor: &F, p: CpuNo) -> Step
     requires { is_cut cpu.now.limit cpu.now.own ≡ false }
     ensures { IfSome (F.view floor.now).states (λ l. (values : List ℕ) → step_turn p values result ≡ go_on_turn (F.script floor.now) p cpu.now.own l) }
@@ -49,6 +50,7 @@ fn going_on<F: OpenFloor>(cpu: &Cpu, floor: &F, p: CpuNo) -> Step
 }
 
 /// What a processor does that is not cut: it looks at what was asked for, does nothing where it rests, else it goes on.
+#[inline(always)]
 fn uncut_step<F: OpenFloor>(cpu: &Cpu, floor: &F, p: CpuNo) -> Option<Step>
     requires cpu { p.0 < (F.view floor.now).cpus }
     requires uncut { is_cut cpu.now.limit cpu.now.own ≡ false }
@@ -100,6 +102,7 @@ impl<'s> Processors<'s> {
     /// nothing changed and nothing was written. No memory is taken.
     ///
     /// It is the event of the turn that [`Processors::robin`] names, made with no turn between, and is written where the caller keeps it.
+    #[inline(always)]
     pub fn go_on<F: OpenFloor>(
         &mut self,
         floor: &mut F,
@@ -123,6 +126,7 @@ impl<'s> Processors<'s> {
     }
 
     /// The first processor in the cycle that has something to do, where the last event is that of this one.
+    #[inline(always)]
     fn first_chosen<F: OpenFloor>(&self, floor: &F, last: Option<CpuNo>) -> Option<Chosen>
         requires after { (past : List Event) × (AreAfter past self.now (F.script floor.now) (F.view floor.now) × (last ≡ last_cpu past)) }
         ensures turn { (past : List Event) → AreAfter past self.now (F.script floor.now) (F.view floor.now) → last ≡ last_cpu past → option_map (chosen_turn self.now.script past) result ≡ robin_in self.now.script self.now.limit past }
@@ -141,6 +145,7 @@ impl<'s> Processors<'s> {
     }
 
     /// What this processor does by the robin rule; None where it is cut, or rests and has seen all that was asked for.
+    #[inline(always)]
     fn step_of<F: OpenFloor>(&self, floor: &F, p: CpuNo) -> Option<Step>
         requires sound { AreSound self.now (F.script floor.now) (F.view floor.now) }
         requires below { p.0 < self.now.script.cpus }
@@ -176,6 +181,7 @@ impl<'s> Processors<'s> {
     }
 
     /// Makes the event of the processor that the robin rule has go on.
+    #[inline(always)]
     fn follow<F: OpenFloor>(&mut self, floor: &mut F, chosen: Chosen, event: &mut Event)
         requires sound { AreSound self.old (F.script floor.old) (F.view floor.old) }
         requires below { chosen.cpu.0 < self.old.script.cpus }
@@ -196,6 +202,7 @@ impl<'s> Processors<'s> {
     }
 
     /// Takes the turn of this choice, which is the robin rule's for the processor and so is never refused.
+    #[inline(always)]
     fn make<F: OpenFloor>(&mut self, floor: &mut F, cpu: CpuNo, choice: &Choice, event: &mut Event)
         requires sound { AreSound self.old (F.script floor.old) (F.view floor.old) }
         requires below { cpu.0 < self.old.script.cpus }

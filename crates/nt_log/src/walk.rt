@@ -85,6 +85,7 @@ impl ScheduleWalk {
     }
 
     /// The processor of a line `next P` that is taken, where its number has one digit, as in most lines of a schedule.
+    #[inline(always)]
     fn short_next(&self, cpus: u8, line: &Line) -> Option<CpuNo>
         ensures { IfSome result (λ cpu. (self.now.place ≡ InTurns) × IsShortNext cpus cpu line.now.bytes.now line.now.ended) }
     {
@@ -153,6 +154,7 @@ impl ScheduleWalk {
     }
 
     /// Adds a turn.
+    #[inline(always)]
     fn add(&mut self, turn: &Turn) -> Result<(), Stop>
         ensures { Gives result self.new (ok_if (nat_lt (length self.old.schedule.list) EVENTS) (with_turn self.old turn.now) (TooMany what.Turns)) }
     {

@@ -55,6 +55,7 @@ impl Turns {
     }
 
     /// Puts a turn at the end. Where no memory is found, the list is as before.
+    #[inline(always)]
     pub fn push(&mut self, turn: &Turn) -> Result<(), AllocError>
         ensures ok { OnOk result (self.new ≡ self.old ++ turn.now ∷ []) }
         ensures err { OnErr result (self.new ≡ self.old) }

@@ -56,6 +56,7 @@ impl<'a> TurnWalk<'a> {
     }
 
     /// Takes the first turn that is left, and writes it. False exactly where none is, and then nothing was written.
+    #[inline(always)]
     pub fn next(&mut self, turn: &mut Turn) -> bool
         ensures some { result ≡ true → self.old ≡ turn.new ∷ self.new }
         ensures none { result ≡ false → (self.old ≡ []) × (self.new ≡ []) × (turn.new ≡ turn.old) }
