@@ -202,7 +202,7 @@ fn end(frames: &mut Frames)
     if is_base(frames) {
         frames.end_base();
     } else {
-        let _ = frames.finish();
+        frames.end_routine();
     }
 }
 

@@ -165,7 +165,7 @@ impl<'s> Cpu<'s> {
             return must;
         }
         match self.frames.top() {
-            Some(frame) => self.frame_task(&frame),
+            Some(frame) => self.frame_task(frame),
             None => self.idle_task(),
         }
     }

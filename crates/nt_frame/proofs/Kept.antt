@@ -6,7 +6,7 @@ use Rattle.nt_event.specs.declared.frames.Again.{Again}
 use Rattle.nt_event.specs.declared.frames.Body.{Body}
 use Rattle.nt_event.specs.declared.frames.Body.TheVariants.{Apc, Base, Dpc, Int, Rundown, Threaded}
 use Rattle.nt_event.specs.declared.frames.Frame.{Frame}
-use Rattle.nt_event.specs.Frames.{Frames, base_level, base_of, innermost, is_base_body, ended_base, normal_of, thread_part}
+use Rattle.nt_event.specs.Frames.{Frames, base_level, innermost, is_base_body, ended_base, normal_of, thread_part}
 use Rattle.nt_event.specs.Jobs.{has_normal}
 use Rattle.nt_event.specs.Regions.{crit_of, guard_of}
 use Rattle.nt_event.specs.Lists.{is_null}
@@ -16,43 +16,6 @@ use Rattle.nt_frame.specs.Rules.{is_at_base, may_go_on}
 use Rattle.nt_frame.proofs.Changed.{at_innermost_nested, innermost_frame}
 use Rattle.nt_frame.proofs.Nested.{thread_part_nested}
 use Rattle.nt_event.proofs.Booleans.{and_right}
-
-pub level_nested : (f : Frame) (x : Frames) (l : ℕ) → AreNested x → innermost x ≡ Some f → base_of f ≤ l →
-    AreNested (at_innermost (λ _. record f { level = l }) x)
-level_nested f x l h k b =
-    let p : IsFrame (not (is_null x.own)) f = innermost_frame f x h k in
-    let t : IsThreadPart (thread_part x) = thread_part_nested x h in
-    at_innermost_nested f (record f { level = l }) x h k (record {
-      name = refl;
-      body = refl;
-      level = b;
-      special = p.special;
-      phase = p.phase;
-      leaving = p.leaving;
-      crit = omega (arith, t.crit);
-      guard = omega (arith, t.guard);
-    })
-
-pub raised_nested : (f : Frame) (x : Frames) (l : ℕ) → AreNested x → innermost x ≡ Some f → f.level ≤ l →
-    AreNested (at_innermost (λ _. record f { level = l }) x)
-raised_nested f x l h k b =
-    let p : IsFrame (not (is_null x.own)) f = innermost_frame f x h k in
-    level_nested f x l h k (omega (arith, p.level))
-
-pub place_nested : (f : Frame) (x : Frames) (n : ℕ) → AreNested x → innermost x ≡ Some f → AreNested (at_innermost (λ _. record f { place = n }) x)
-place_nested f x n h k =
-    let p : IsFrame (not (is_null x.own)) f = innermost_frame f x h k in
-    let t : IsThreadPart (thread_part x) = thread_part_nested x h in
-    at_innermost_nested f (record f { place = n }) x h k (record {
-      name = refl;
-      body = refl;
-      level = p.level;
-      special = p.special;
-      phase = p.phase;
-      leaving = p.leaving;
-      crit = omega (arith, t.crit);
-      guard = omega (arith, t.guard);
-    })
 
 pub again_nested : (f : Frame) (x : Frames) (a : Option Again) → AreNested x → innermost x ≡ Some f → AreNested (at_innermost (λ _. record f { again = a }) x)
 again_nested f x a h k =

@@ -1,7 +1,7 @@
 //! The frames of one processor and its threads.
-ghost use Rattle.std.specs.Prelude.{◌≡◌, ◌<◌, ◌↔◌, ◌+◌, ◌==◌, false, not, length, option_copied, option_map, IsTrue, IsSome, IsOk, IfSome, IfOk, IfErr, OnOk, OnErr};
+ghost use Rattle.std.specs.Prelude.{◌≡◌, ◌<◌, ◌≤◌, ◌↔◌, ◌+◌, ◌==◌, false, not, length, option_copied, option_map, IsTrue, IsSome, IsOk, IfSome, IfOk, IfErr, OnOk, OnErr};
 ghost use Rattle.std.specs.Option.{ForSome, option_map_or, option_or};
-ghost use Rattle.nt_event.specs.Frames.{thread_part, done_to, frames_in, innermost, is_on_thread as on_thread_part, ended_base, level_in, normal_of};
+ghost use Rattle.nt_event.specs.Frames.{base_of, thread_part, done_to, frames_in, innermost, is_on_thread as on_thread_part, ended_base, level_in, normal_of};
 ghost use Rattle.nt_event.specs.Regions.{after_in, below_in, some_came_to_0};
 ghost use Rattle.nt_event.specs.Lists.{is_null, head_of};
 ghost use Rattle.nt_frame.specs.Changes.{at_innermost, begun, closed, no_frames, without_innermost};
@@ -151,7 +151,7 @@ impl Frames {
             frame.level,
             !self.own.is_empty(),
             &self.regions(),
-            &frame,
+            frame,
             command,
         )
     }
@@ -204,7 +204,8 @@ impl Frames {
         let Some(frame) = self.top() else {
             unreachable!()
         };
-        self.set_innermost(at_normal(&frame));
+        let frame = at_normal(frame);
+        self.set_innermost(frame);
         asks
     }
 
@@ -224,6 +225,15 @@ impl Frames {
         asks
     }
 
+    /// The innermost routine ends as by [`Frames::finish`], for a caller who knows by itself whether this asks for kernel APCs.
+    pub fn end_routine(&mut self)
+        requires frame { IsSome (innermost self.old) }
+        requires no_base { is_at_base self.old ≡ false }
+        ensures { self.new ≡ without_innermost self.old }
+    {
+        self.drop_innermost();
+    }
+
     /// Raises the level of the innermost frame. NotGreater exactly where it is above `l`.
     pub fn raise(&mut self, l: Level) -> Result<(), Refusal>
         requires { IsSome (innermost self.old) }
@@ -232,8 +242,8 @@ impl Frames {
         ensures ok { OnOk result (self.new ≡ at_innermost (done_to (Command.Raise l)) self.old) }
         ensures same { OnErr result (self.new ≡ self.old) }
     {
-        let frame = self.accepted(&Command::Raise(l))?;
-        self.set_innermost(Frame { level: l, ..frame });
+        self.accepted(&Command::Raise(l))?;
+        self.set_level(l);
         Ok(())
     }
 
@@ -246,8 +256,8 @@ impl Frames {
         ensures ok { OnOk result (self.new ≡ at_innermost (done_to (Command.Lower l)) self.old) }
         ensures same { OnErr result (self.new ≡ self.old) }
     {
-        let frame = self.accepted(&Command::Lower(l))?;
-        self.set_innermost(Frame { level: l, ..frame });
+        self.accepted(&Command::Lower(l))?;
+        self.set_level(l);
         Ok(())
     }
 
@@ -260,7 +270,7 @@ impl Frames {
         ensures ok { OnOk result (self.new ≡ at_innermost (done_to (enter_of r)) self.old) }
         ensures same { OnErr result (self.new ≡ self.old) }
     {
-        let frame = self.accepted(&enter_command(r))?;
+        let frame = *self.accepted(&enter_command(r))?;
         self.set_innermost(match r {
             Region::Crit => Frame {
                 crit: frame.crit + 1,
@@ -284,7 +294,7 @@ impl Frames {
         ensures ok { OnOk result (self.new ≡ at_innermost (done_to (leave_of r)) self.old) }
         ensures same { OnErr result (self.new ≡ self.old) }
     {
-        let frame = self.accepted(&leave_command(r))?;
+        let frame = *self.accepted(&leave_command(r))?;
         let before = self.regions();
         self.set_innermost(match r {
             Region::Crit => Frame {
@@ -326,7 +336,8 @@ impl Frames {
         let Some(frame) = self.top() else {
             unreachable!()
         };
-        self.set_innermost(leaving(&frame));
+        let base = leaving(frame);
+        self.set_innermost(base);
     }
 
     /// The running thread is gone: its base frame is closed, and no thread runs.
@@ -344,10 +355,11 @@ impl Frames {
         requires { IsSome (innermost self.old) }
         ensures { self.new ≡ at_innermost (λ f. record f { again = a }) self.old }
     {
-        let Some(frame) = self.top() else {
-            unreachable!()
-        };
-        self.set_innermost(Frame { again: a, ..frame });
+        if !self.own.is_empty() {
+            self.own.set_again(a);
+        } else if let Some(t) = self.running {
+            parts::set_again(&mut self.threads, t, a);
+        }
     }
 
     /// The innermost frame's routine has called one more command.
@@ -356,18 +368,16 @@ impl Frames {
         requires place { ForSome (innermost self.old) (λ f. f.place < 4294967295) }
         ensures { self.new ≡ at_innermost (λ f. record f { place = f.place + 1 }) self.old }
     {
-        let Some(frame) = self.top() else {
-            unreachable!()
-        };
-        self.set_innermost(Frame {
-            place: frame.place + 1,
-            ..frame
-        });
+        if !self.own.is_empty() {
+            self.own.advance_place();
+        } else if let Some(t) = self.running {
+            parts::advance_place(&mut self.threads, t);
+        }
     }
 
     /// The innermost frame.
-    pub fn top(&self) -> Option<Frame>
-        ensures value { result ≡ innermost self.now }
+    pub fn top(&self) -> Option<&Frame>
+        ensures value { option_copied result ≡ innermost self.now }
         ensures nested { AreNested self.now }
     {
         match self.own.innermost() {
@@ -377,8 +387,8 @@ impl Frames {
     }
 
     /// The innermost frame of the running thread's part.
-    fn outermost_running(&self) -> Option<Frame>
-        ensures { result ≡ head_of (thread_part self.now) }
+    fn outermost_running(&self) -> Option<&Frame>
+        ensures { option_copied result ≡ head_of (thread_part self.now) }
     {
         self.running_part()?.innermost()
     }
@@ -395,8 +405,8 @@ impl Frames {
     }
 
     /// The innermost frame, where it may call the command.
-    fn accepted(&self, command: &Command) -> Result<Frame, Refusal>
-        ensures frame { IfOk result (λ f. innermost self.now ≡ Some f) }
+    fn accepted(&self, command: &Command) -> Result<&Frame, Refusal>
+        ensures frame { IfOk result (λ f. innermost self.now ≡ Some f.now) }
         ensures when { OnOk result (refusal_in command.now self.now ≡ None) }
         ensures why { IfErr result (λ why. refusal_in command.now self.now ≡ Some why) }
         ensures nested { AreNested self.now }
@@ -405,6 +415,18 @@ impl Frames {
         match self.refusal(command) {
             Some(why) => Err(why),
             None => Ok(frame),
+        }
+    }
+
+    /// Sets the level of the innermost frame.
+    fn set_level(&mut self, level: Level)
+        requires { ForSome (innermost self.old) (λ f. base_of f ≤ level) }
+        ensures { self.new ≡ at_innermost (λ f. record f { level = level }) self.old }
+    {
+        if !self.own.is_empty() {
+            self.own.set_level(level);
+        } else if let Some(t) = self.running {
+            parts::set_level(&mut self.threads, t, level);
         }
     }
 
@@ -460,8 +482,8 @@ fn leave_command(r: Region) -> Command
 }
 
 /// The level of the first of these frames, else of the second; PASSIVE_LEVEL where there is neither.
-fn first_level(first: Option<Frame>, second: Option<Frame>) -> Level
-    ensures { result ≡ option_map_or (λ f. f.level) (option_or first second) 0 }
+fn first_level(first: Option<&Frame>, second: Option<&Frame>) -> Level
+    ensures { result ≡ option_map_or (λ f. f.level) (option_or (option_copied first.entry) (option_copied second.entry)) 0 }
 {
     match first {
         Some(frame) => frame.level,

@@ -1,10 +1,12 @@
 //! One part: the frames that stand on a processor, or on a thread.
-ghost use Rattle.std.specs.Prelude.{◌≡◌, ◌<◌, ◌^◌, [], ◌∷◌, length, reverse, vec_capacity, IfOk};
+ghost use Rattle.std.specs.Prelude.{◌≡◌, ◌<◌, ◌+◌, ◌^◌, [], ◌∷◌, length, option_copied, reverse, vec_capacity, IfOk};
+ghost use Rattle.std.specs.Option.{ForSome};
 ghost use Rattle.nt_event.specs.Frames.{at_head, is_normal_apc_body};
 ghost use Rattle.nt_event.specs.Regions.{busy_of, crit_of, guard_of, regions_of};
 ghost use Rattle.nt_event.specs.Lists.{head_of, is_null, tail_of};
 
-use nt_event::{ApcKind, Body, Frame, Regions};
+use nt_event::{Again, ApcKind, Body, Frame, Regions};
+use nt_level::Level;
 use std::alloc::{AllocError, Global};
 use std::marker::Model;
 
@@ -41,17 +43,17 @@ impl<const ROOM: usize> Part<ROOM> {
         self.frames.is_empty()
     }
 
-    pub fn innermost(&self) -> Option<Frame>
-        ensures { result ≡ head_of self.now }
+    pub fn innermost(&self) -> Option<&Frame>
+        ensures { option_copied result ≡ head_of self.now }
     {
-        self.frames.last().copied()
+        self.frames.last()
     }
 
     /// The frame under the innermost one.
-    pub fn second(&self) -> Option<Frame>
-        ensures { result ≡ head_of (tail_of self.now) }
+    pub fn second(&self) -> Option<&Frame>
+        ensures { option_copied result ≡ head_of (tail_of self.now) }
     {
-        outer(self.frames.as_slice()).last().copied()
+        outer(self.frames.as_slice()).last()
     }
 
     pub fn push(&mut self, frame: Frame)
@@ -80,6 +82,37 @@ impl<const ROOM: usize> Part<ROOM> {
         ensures { self.new ≡ at_head (λ _. frame) self.old }
     {
         set_last(&mut self.frames, frame);
+    }
+
+    /// Sets the level of the innermost frame.
+    pub fn set_level(&mut self, level: Level)
+        ensures { self.new ≡ at_head (λ f. record f { level = level }) self.old }
+    {
+        let Some(last) = self.frames.last_mut() else {
+            return;
+        };
+        last.level = level;
+    }
+
+    /// Sets the wait that the innermost frame has to take up again.
+    pub fn set_again(&mut self, again: Option<Again>)
+        ensures { self.new ≡ at_head (λ f. record f { again = again }) self.old }
+    {
+        let Some(last) = self.frames.last_mut() else {
+            return;
+        };
+        last.again = again;
+    }
+
+    /// Moves the innermost frame's place on by one.
+    pub fn advance_place(&mut self)
+        requires { ForSome (head_of self.old) (λ f. f.place < 4294967295) }
+        ensures { self.new ≡ at_head (λ f. record f { place = f.place + 1 }) self.old }
+    {
+        let Some(last) = self.frames.last_mut() else {
+            return;
+        };
+        last.place += 1;
     }
 
     /// The regions of the thread whose part this is.
