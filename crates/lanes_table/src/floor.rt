@@ -1,10 +1,11 @@
 //! The floor in memory on a small script: its words, an act and the refusals of acts.
-ghost use Rattle.std.specs.Prelude.{◌≡◌, ◌+◌, IfOk, IsTrue, None, OnOk, length};
+ghost use Rattle.std.specs.Prelude.{◌≡◌, ◌≤◌, ◌+◌, IfErr, IfOk, IsTrue, None, OnOk, length};
 ghost use Rattle.nt_event.specs.Script.{fits};
+ghost use Rattle.nt_floor.specs.Acts.{Found, IsActed, IsMet, IsRefused, StandFits, job_fits};
 
 use nt_event::{
-    Command, CpuNo, DpcDecl, DpcNo, Event, Items, Job, Level, Regions, Routine, RoutineNo, Script,
-    Stand, ThreadDecl, ThreadNo, What,
+    Command, CpuNo, DpcDecl, DpcNo, Event, Items, Job, Level, Regions, Rises, Routine, RoutineNo,
+    Script, Stand, ThreadDecl, ThreadNo, What,
 };
 use nt_floor::{ActRefusal, Acted, Floor, Words};
 use nt_plain::PlainFloor;
@@ -101,6 +102,36 @@ fn stand(cpu: CpuNo) -> Stand
     }
 }
 
+/// Has a floor make the event of a job, and tells all that it made.
+fn act<F: Floor>(floor: &mut F, job: Job, stand: Stand) -> Result<Acted, ActRefusal>
+    requires room { 1 ≤ (F.view floor.old).drawable }
+    requires job { IsTrue (job_fits (F.script floor.old) job) }
+    requires stand { StandFits (F.script floor.old) stand }
+    requires met { IsMet (F.script floor.old) (F.view floor.old).states stand job }
+    ensures event { IfOk result (λ a. (f : Found) × F.found floor.new a.number a.event stand f × IsActed (F.script floor.old) f stand job a) }
+    ensures cause { IfErr result (λ r. (f : Found) × F.shows floor.new stand job f × IsRefused (F.script floor.old) f stand job r) }
+{
+    let mut told = Rises { value: [0; 16] };
+    let mut event = a_rest(stand.cpu);
+    let made = floor.act(&job, &stand, &mut told, &mut event)?;
+    Ok(Acted {
+        number: made.number,
+        event,
+        due: made.due,
+        told,
+    })
+}
+
+/// A rest of a processor without a thread at DISPATCH_LEVEL.
+fn a_rest(cpu: CpuNo) -> Event {
+    Event {
+        cpu,
+        thread: None,
+        level: Level::DISPATCH,
+        what: What::Rest,
+    }
+}
+
 fn an_insert_asks(rt: HostRuntime, script: &Script) -> io::Result<()>
     requires fits { IsTrue (fits script.now) }
     requires cpus { script.now.cpus ≡ 2 }
@@ -109,7 +140,7 @@ fn an_insert_asks(rt: HostRuntime, script: &Script) -> io::Result<()>
 {
     let mut floor = PlainFloor::new(rt.alloc(), script, 4)?;
     let queue = Command::Queue(DpcNo(0));
-    let acted = floor.act(Job::Call(queue), stand(CpuNo(0)));
+    let acted = act(&mut floor, Job::Call(queue), stand(CpuNo(0)));
     write_act(rt, acted)?;
     write_asks(rt, &floor)
 }
@@ -159,13 +190,7 @@ fn words(rt: HostRuntime, script: &Script) -> io::Result<()>
     requires threads { length script.now.threads ≡ 1 }
 {
     let mut floor = PlainFloor::new(rt.alloc(), script, 4)?;
-    let event = Event {
-        cpu: CpuNo(0),
-        thread: None,
-        level: Level::DISPATCH,
-        what: What::Rest,
-    };
-    let n = floor.draw(&event);
+    let n = floor.draw(&a_rest(CpuNo(0)));
     floor.mark(CpuNo(1), 3, n);
     let looks = [floor.look(CpuNo(1), 3), floor.look(CpuNo(0), 3)];
     write_words(rt, &floor, n, looks)
@@ -207,7 +232,8 @@ fn a_wrong_choice(rt: HostRuntime, script: &Script) -> io::Result<()>
     let mut floor = PlainFloor::new(rt.alloc(), script, 4)?;
     write_next(rt, "1", floor.next_ready(CpuNo(1), None))?;
     write_next(rt, "0", floor.next_ready(CpuNo(0), None))?;
-    write_made(rt, floor.act(Job::Switch(ThreadNo(0)), stand(CpuNo(0))))
+    let taken = Job::Switch(ThreadNo(0));
+    write_made(rt, act(&mut floor, taken, stand(CpuNo(0))))
 }
 
 fn nothing_to_do(rt: HostRuntime, script: &Script) -> io::Result<()>
@@ -217,5 +243,5 @@ fn nothing_to_do(rt: HostRuntime, script: &Script) -> io::Result<()>
     requires threads { length script.now.threads ≡ 1 }
 {
     let mut floor = PlainFloor::new(rt.alloc(), script, 4)?;
-    write_made(rt, floor.act(Job::Idle, stand(CpuNo(1))))
+    write_made(rt, act(&mut floor, Job::Idle, stand(CpuNo(1))))
 }

@@ -11,7 +11,7 @@ ghost use Rattle.nt_cpu.specs.Turns.{IsShared, Serves};
 
 use crate::cpu::Cpu;
 use crate::notice::Notice;
-use nt_event::{Event, Job};
+use nt_event::{Event, Job, Rises};
 use nt_floor::{ActRefusal, Floor};
 
 impl<'s> Cpu<'s> {
@@ -37,14 +37,10 @@ impl<'s> Cpu<'s> {
         ensures grows { F.grows floor.old floor.new }
     {
         self.sound();
-        let acted = floor.act(job, self.standing())?;
-        self.take_up(
-            &acted.event,
-            acted.number,
-            acted.due,
-            &Notice::Values(&acted.told),
-        );
-        *event = acted.event;
+        let stand = self.standing();
+        let mut told = Rises { value: [0; 16] };
+        let made = floor.act(&job, &stand, &mut told, event)?;
+        self.take_up(event, made.number, made.due, &Notice::Values(&told));
         Ok(())
     }
 }

@@ -1,6 +1,8 @@
 -- What one event under lanes is and leaves, by the states of the lanes that it was made in.
 use Rattle.std.specs.List.{list_any}
 use Rattle.std.specs.Prelude.{All, Bool, IfSome, IsTrue, List, None, Option, Some, [], max, true, ℕ, ◌&&◌, ◌<◌, ◌^◌, ◌∷◌, ◌≡◌}
+use Rattle.nt_event.specs.declared.events.Event.{Event}
+use Rattle.nt_event.specs.declared.events.Rises.{Rises}
 use Rattle.nt_event.specs.declared.events.What.{What}
 use Rattle.nt_event.specs.declared.jobs.Job.{Job}
 use Rattle.nt_event.specs.declared.jobs.Job.TheVariants.{Call as CallJob, Fire as FireJob, Idle as IdleJob, Switch as SwitchJob}
@@ -19,6 +21,7 @@ use Rattle.nt_event.specs.Lists.{value_at}
 use Rattle.nt_floor.specs.declared.floor.ActRefusal.{ActRefusal}
 use Rattle.nt_floor.specs.declared.floor.ActRefusal.TheVariants.{BadChoice, NoMemory, NothingToDo}
 use Rattle.nt_floor.specs.declared.floor.Acted.{Acted}
+use Rattle.nt_floor.specs.declared.floor.Made.{Made}
 
 -- ---- conditions
 
@@ -68,6 +71,10 @@ KindsFit s l = All (λ x. All (λ pick. pick.kind ≡ kind_of s pick.apc) x.apcs
 abbrev pub told_after : Script → ℕ → Stand → What → Found → Told
 told_after s n st w f x p c =
     raised (is_among x (what_lanes s st w f.lanes) && asks_in s st w f.lanes p c) n (f.told x p c)
+
+-- all that an act made, which answered this and wrote this event and what was told
+abbrev pub acted_of : Made → Event → Rises → Acted
+acted_of m e told = record { number = m.number; event = e; due = m.due; told = told }
 
 -- the answer of an act that found these states: the event is the one of the job there; the APCs that are pending there
 -- are of their objects' kinds; the event's due time, if it calls a delay; and per class the greatest value that the

@@ -2,7 +2,7 @@
 use crate::words::Words;
 use nt_event::{Event, Job, Rises, Stand};
 
-/// What one act made.
+/// All that one act made.
 #[derive(Clone, Copy, PartialEq, Eq, Debug)]
 pub struct Acted {
     /// The event's number.
@@ -12,6 +12,15 @@ pub struct Acted {
     pub due: Option<u64>,
     /// Per class, the greatest request for this processor that the touched lanes tell, the event's own among them; 0 is none.
     pub told: Rises,
+}
+
+/// What an act answers beside what it writes in its places.
+#[derive(Clone, Copy, PartialEq, Eq, Debug)]
+pub struct Made {
+    /// The event's number.
+    pub number: u64,
+    /// The due time of the delay that the event calls, below 2^51.
+    pub due: Option<u64>,
 }
 
 /// Why no event was made.
@@ -33,7 +42,7 @@ pub trait Floor: Words {
     ghost use Rattle.nt_event.specs.declared.jobs.Stand.{Stand};
     ghost use Rattle.nt_event.specs.declared.scripts.Script.{Script};
     ghost use Rattle.nt_event.specs.Lists.{value_at};
-    ghost use Rattle.nt_floor.specs.Acts.{Found, IsActed, IsMet, IsRefused, StandFits, job_fits};
+    ghost use Rattle.nt_floor.specs.Acts.{Found, IsActed, IsMet, IsRefused, StandFits, acted_of, job_fits};
     ghost use Rattle.nt_floor.specs.Views.{IsMoved, IsUnmoved, Tells};
 
     /// The script.
@@ -54,21 +63,29 @@ pub trait Floor: Words {
     /// of the lane's list.
     ghost shows: { Self → Stand → Job → Found → Type 0 };
 
-    /// Makes the event of a job for a processor that stands so, and marks exactly its asks.
+    /// Makes the event of a job for a processor that stands so, and marks exactly its asks. It writes the event, and what the touched
+    /// lanes tell the processor, where the caller keeps them.
     ///
     /// The event is the one of the job in the states that were found; where the floor tells its states, it is made in those, and they
-    /// are afterwards what the event leaves of them. After a refusal no event was made. A floor that is alone finds memory.
-    fn act(&mut self, job: Job, stand: Stand) -> Result<Acted, ActRefusal>
+    /// are afterwards what the event leaves of them. After a refusal no event was made or written. A floor that is alone finds memory.
+    fn act(
+        &mut self,
+        job: &Job,
+        stand: &Stand,
+        told: &mut Rises,
+        event: &mut Event,
+    ) -> Result<Made, ActRefusal>
         requires room { 1 ≤ (Self.view self.old).drawable }
-        requires job { IsTrue (job_fits (script self.old) job) }
-        requires stand { StandFits (script self.old) stand }
-        requires met { IsMet (script self.old) (Self.view self.old).states stand job }
+        requires job { IsTrue (job_fits (script self.old) job.now) }
+        requires stand { StandFits (script self.old) stand.now }
+        requires met { IsMet (script self.old) (Self.view self.old).states stand.now job.now }
 
-        ensures event { IfOk result (λ a. (f : Found) × found self.new a.number a.event stand f × (IsActed (script self.old) f stand job a × IsMoved (script self.old) a.number a.event stand f (Self.view self.old) (Self.view self.new))) }
-        ensures told { IfOk result (λ a. (c : ℕ) → c < 16 → (value_at a.told.value c ≤ (Self.view self.new).value stand.cpu c) × (value_at a.told.value c ≤ (Self.view self.new).next)) }
+        ensures event { IfOk result (λ m. (f : Found) × found self.new m.number event.new stand.now f × (IsActed (script self.old) f stand.now job.now (acted_of m event.new told.new) × IsMoved (script self.old) m.number event.new stand.now f (Self.view self.old) (Self.view self.new))) }
+        ensures told { IfOk result (λ m. (c : ℕ) → c < 16 → (value_at told.new.value c ≤ (Self.view self.new).value stand.now.cpu c) × (value_at told.new.value c ≤ (Self.view self.new).next)) }
 
-        ensures cause { IfErr result (λ r. (f : Found) × shows self.new stand job f × (Tells (Self.view self.old).states f.lanes × IsRefused (script self.old) f stand job r)) }
+        ensures cause { IfErr result (λ r. (f : Found) × shows self.new stand.now job.now f × (Tells (Self.view self.old).states f.lanes × IsRefused (script self.old) f stand.now job.now r)) }
         ensures refused { OnErr result (IsUnmoved (Self.view self.old) (Self.view self.new)) }
+        ensures unwritten { OnErr result (event.new ≡ event.old) }
         ensures memory { (Self.view self.old).alone ≡ true → IsErrOf result ActRefusal.NoMemory → ⊥ }
 
         ensures script { script self.new ≡ script self.old }

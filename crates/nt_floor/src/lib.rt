@@ -9,7 +9,7 @@ mod floor;
 mod open;
 mod words;
 
-pub use floor::{ActRefusal, Acted, Floor};
+pub use floor::{ActRefusal, Acted, Floor, Made};
 pub use nt_event::{Job, Stand};
 pub use open::OpenFloor;
 pub use words::Words;

@@ -1,22 +1,10 @@
 //! The seat of a processor as a floor: its acts take the locks of the lanes that they read and touch.
-ghost use Rattle.std.specs.Prelude.{◌≡◌, IfOk, OnErr};
-
 use crate::acting::act_under;
 use crate::seat::LaneSeat;
-use nt_event::{Job, Plan, Stand};
-use nt_floor::{ActRefusal, Acted, Floor};
+use nt_event::{Event, Job, Plan, Rises, Stand};
+use nt_floor::{ActRefusal, Floor, Made};
 use nt_mark::Shared;
 use std::sync::Wait;
-
-/// Keeps the number of the event that an act made.
-fn tell_last(last: &mut u64, answer: &Result<Acted, ActRefusal>)
-    ensures made { IfOk answer.now (λ a. last.new ≡ a.number) }
-    ensures none { OnErr answer.now (last.new ≡ last.old) }
-{
-    if let Ok(acted) = answer {
-        *last = acted.number;
-    }
-}
 
 impl<N: Plan + Shared, R: Wait> Floor for LaneSeat<'_, '_, N, R> {
     ghost use Rattle.std.specs.Prelude.{◌≡◌};
@@ -35,16 +23,20 @@ impl<N: Plan + Shared, R: Wait> Floor for LaneSeat<'_, '_, N, R> {
 
     ghost script_stays = { λ x y g. refl };
 
-    fn act(&mut self, job: Job, stand: Stand) -> Result<Acted, ActRefusal> {
-        let result = act_under(
-            self.rt,
-            self.lanes,
-            self.marks,
-            &mut self.pass,
-            &job,
-            &stand,
-        );
-        tell_last(&mut self.last, &result);
-        result
+    fn act(
+        &mut self,
+        job: &Job,
+        stand: &Stand,
+        told: &mut Rises,
+        event: &mut Event,
+    ) -> Result<Made, ActRefusal> {
+        let acted = act_under(self.rt, self.lanes, self.marks, &mut self.pass, job, stand)?;
+        self.last = acted.number;
+        *told = acted.told;
+        *event = acted.event;
+        Ok(Made {
+            number: acted.number,
+            due: acted.due,
+        })
     }
 }

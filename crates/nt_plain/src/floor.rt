@@ -1,7 +1,7 @@
 //! The floor in memory as words and as a floor.
 use crate::plain::PlainFloor;
-use nt_event::{CpuNo, Event, Job, Stand};
-use nt_floor::{ActRefusal, Acted, Floor, Words};
+use nt_event::{CpuNo, Event, Job, Rises, Stand};
+use nt_floor::{ActRefusal, Floor, Made, Words};
 
 impl<'s> Words for PlainFloor<'s> {
     ghost use Rattle.std.specs.Prelude.{◌≡◌, ◌<◌, ◌≤◌};
@@ -51,11 +51,20 @@ impl<'s> Floor for PlainFloor<'s> {
 
     ghost script_stays = { λ x y g. g.1 };
 
-    fn act(&mut self, job: Job, stand: Stand) -> Result<Acted, ActRefusal> {
+    fn act(
+        &mut self,
+        job: &Job,
+        stand: &Stand,
+        told: &mut Rises,
+        event: &mut Event,
+    ) -> Result<Made, ActRefusal> {
         self.kept();
         self.kinds();
-        match self.decide(&job, &stand) {
-            Ok(what) => Ok(self.make(&stand, &what)),
+        match self.decide(job, stand) {
+            Ok(what) => {
+                event.what = what;
+                Ok(self.make(stand, told, event))
+            }
             Err(refusal) => Err(refusal),
         }
     }

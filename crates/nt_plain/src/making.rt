@@ -15,7 +15,7 @@ ghost use Rattle.nt_plain.specs.Places.{told_in};
 
 use crate::plain::PlainFloor;
 use nt_event::{Event, Job, Rises, Stand, What};
-use nt_floor::{ActRefusal, Acted};
+use nt_floor::{ActRefusal, Made};
 use nt_states::{Asks, Touched, tell_own};
 
 impl<'s> PlainFloor<'s> {
@@ -37,44 +37,40 @@ impl<'s> PlainFloor<'s> {
         self.states.kinds();
     }
 
-    /// Makes this event of a processor that stands so.
-    pub(crate) fn make(&mut self, stand: &Stand, what: &What) -> Acted
-        requires given { MayMake (states_of self.old) stand.now what.now }
+    /// Makes the event of a processor that stands so which does what stands in its place.
+    pub(crate) fn make(&mut self, stand: &Stand, told: &mut Rises, event: &mut Event) -> Made
+        requires given { MayMake (states_of self.old) stand.now event.old.what }
         requires room { self.old.next < self.old.limit }
         ensures number { result.number ≡ self.old.next }
-        ensures event { result.event ≡ acted_event stand.now self.old.lanes what.now }
-        ensures due { result.due ≡ due_of what.now self.old.lanes.timers.now }
+        ensures event { event.new ≡ acted_event stand.now self.old.lanes event.old.what }
+        ensures due { result.due ≡ due_of event.old.what self.old.lanes.timers.now }
         ensures due_fits { IfSome result.due (λ due. due < 2 ^ 51) }
-        ensures told { result.told.value ≡ table 16 (λ c. raised (asks_in self.old.script stand.now what.now self.old.lanes stand.now.cpu c) self.old.next (told_over (told_in self.old.script self.old.told) (what_lanes self.old.script stand.now what.now self.old.lanes) stand.now.cpu c)) }
-        ensures lanes_named { All (LaneFits self.old.script) (what_lanes self.old.script stand.now what.now self.old.lanes) }
-        ensures asks_named { All (AskFits self.old.script) (what_asks self.old.script stand.now what.now self.old.lanes) }
-        ensures state { self.new ≡ made stand.now what.now self.old }
+        ensures told { told.new.value ≡ table 16 (λ c. raised (asks_in self.old.script stand.now event.old.what self.old.lanes stand.now.cpu c) self.old.next (told_over (told_in self.old.script self.old.told) (what_lanes self.old.script stand.now event.old.what self.old.lanes) stand.now.cpu c)) }
+        ensures lanes_named { All (LaneFits self.old.script) (what_lanes self.old.script stand.now event.old.what self.old.lanes) }
+        ensures asks_named { All (AskFits self.old.script) (what_asks self.old.script stand.now event.old.what self.old.lanes) }
+        ensures state { self.new ≡ made stand.now event.old.what self.old }
     {
         let number = self.next;
-        let event = nt_states::event(&self.states, stand, what);
+        nt_states::complete(&self.states, stand, event);
+        let what = &event.what;
         let due = nt_states::due(&self.states, what);
         let lanes = nt_states::event_lanes(&self.states, stand, what);
         let asks = nt_states::event_asks(&self.states, stand, what);
-        let told = self.told_by(stand, what, &lanes, &asks);
-        self.leave(stand, &event, &lanes, &asks);
-        Acted {
-            number,
-            event,
-            due,
-            told,
-        }
+        self.tell_by(stand, what, &lanes, &asks, told);
+        self.leave(stand, event, &lanes, &asks);
+        Made { number, due }
     }
 
-    /// What the lanes that an event touches tell for its processor, its own requests among it.
-    fn told_by(&self, stand: &Stand, what: &What, lanes: &Touched, asks: &Asks) -> Rises
+    /// Writes what the lanes that an event touches tell for its processor, its own requests among it.
+    fn tell_by(&self, stand: &Stand, what: &What, lanes: &Touched, asks: &Asks, told: &mut Rises)
         requires { IsPlanned self.now stand.now what.now lanes.now asks.now }
-        ensures { result.value ≡ table 16 (λ c. raised (asks_in self.now.script stand.now what.now self.now.lanes stand.now.cpu c) self.now.next (told_over (told_in self.now.script self.now.told) (what_lanes self.now.script stand.now what.now self.now.lanes) stand.now.cpu c)) }
+        ensures { told.new.value ≡ table 16 (λ c. raised (asks_in self.now.script stand.now what.now self.now.lanes stand.now.cpu c) self.now.next (told_over (told_in self.now.script self.now.told) (what_lanes self.now.script stand.now what.now self.now.lanes) stand.now.cpu c)) }
     {
         let _what = what;
         let script = self.states.whole_script();
-        let mut value = self.told.over(script, lanes.as_slice(), stand.cpu);
-        tell_own(&mut value, asks.as_slice(), stand.cpu, self.next + 1);
-        Rises { value }
+        self.told
+            .over(script, lanes.as_slice(), stand.cpu, &mut told.value);
+        tell_own(&mut told.value, asks.as_slice(), stand.cpu, self.next + 1);
     }
 
     /// What the event leaves of the floor.

@@ -55,19 +55,18 @@ impl ToldValues {
         raise_by(values, &self.values[row * 16..row * 16 + 16]);
     }
 
-    /// What these lanes tell for a processor: for each class the greatest value.
-    pub(crate) fn over(&self, script: &Script, lanes: &[Lane], p: CpuNo) -> [u64; 16]
+    /// Writes what these lanes tell for a processor: for each class the greatest value.
+    pub(crate) fn over(&self, script: &Script, lanes: &[Lane], p: CpuNo, values: &mut [u64; 16])
         requires rows { All (λ x. row_place script.now.cpus (number_of script.now x) p * 16 + 16 ≤ length self.now) lanes.now }
         requires numbers { All (λ x. number_of script.now x < 2 ^ 32) lanes.now }
         requires room { length self.now < 2 ^ 32 }
-        ensures { result ≡ table 16 (λ c. told_over (row_value script.now self.now) lanes.now p c) }
+        ensures { values.new ≡ table 16 (λ c. told_over (row_value script.now self.now) lanes.now p c) }
     {
-        let mut values = [0; 16];
+        *values = [0; 16];
         for lane in lanes {
             let row = row_of(script.cpus, lane_number(script, *lane), p);
-            self.raise(row, &mut values);
+            self.raise(row, values);
         }
-        values
     }
 
     /// Each of these lanes tells of these requests with a value.

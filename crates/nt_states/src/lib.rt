@@ -33,7 +33,7 @@ mod touching;
 pub use answers::LaneAnswers;
 pub use asking::{Asked, Asks, event_asks};
 pub use deciding::decide;
-pub use making::{due, event};
+pub use making::{complete, due, event};
 pub use telling::tell_own;
 pub use thread_answers::ThreadAnswers;
 pub use timing::leave_timers;

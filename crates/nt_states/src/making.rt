@@ -109,6 +109,19 @@ pub fn event<S: LaneAnswers>(states: &S, stand: &Stand, what: &What) -> Event
     }
 }
 
+/// Writes what an event of a processor that stands so has beside what it does, which stands in its place already.
+pub fn complete<S: LaneAnswers>(states: &S, stand: &Stand, event: &mut Event)
+    requires given { IsGiven (S.script_of states.now) (S.lanes states.now) stand.now event.old.what }
+    requires held { AreHeld (S.holds states.now) (what_lanes (S.script_of states.now) stand.now event.old.what (S.lanes states.now)) }
+    ensures { event.new ≡ acting.acted_event stand.now (S.lanes states.now) event.old.what }
+{
+    let thread = thread(&event.what, stand.thread);
+    let level = level(states, stand, &event.what);
+    event.cpu = stand.cpu;
+    event.thread = thread;
+    event.level = level;
+}
+
 /// The level after it.
 fn level<S: LaneAnswers>(states: &S, stand: &Stand, what: &What) -> Level
     requires given { IsGiven (S.script_of states.now) (S.lanes states.now) stand.now what.now }

@@ -1,23 +1,25 @@
 -- The event may be made, and its lanes are held.
-use Rattle.std.proofs.Common.{subst, sym}
+use Rattle.std.proofs.Common.{ap, subst, sym, ◌≡◌}
+use Rattle.nt_event.specs.declared.events.Event.{Event}
+use Rattle.nt_event.specs.declared.events.What.{What}
 use Rattle.nt_states.specs.Allowed.{MayMake}
 use Rattle.nt_plain.specs.Insides.{state_in}
 use Rattle.nt_plain.specs.Made.{states_of}
 use Rattle.nt_plain.specs.States.{PlainState}
 use Rattle.nt_states.proofs.Decidable.{all_held, is_given}
+use Rattle.nt_plain.proofs.Acts.{TellsOf}
 use Rattle.nt_plain.proofs.plain.PlainFloor.make.Goals as goal
 
-pub event_lanes-lanes-requires-clause-given : goal.event_lanes-lanes-requires-clause-given
-event_lanes-lanes-requires-clause-given c =
-    let may : MayMake (states_of (state_in c.self.inside)) c.args.stand.now c.args.what.now = subst
-    (λ (f : PlainState). MayMake (states_of f) c.args.stand.now c.args.what.now) (sym c.self.view_is) c.requires.given in
-    is_given (states_of (state_in c.self.inside)) c.args.stand.now c.args.what.now may
+pub complete-requires-clause-given : goal.complete-requires-clause-given
+complete-requires-clause-given c =
+    let may : MayMake (states_of (state_in c.self.inside)) c.args.stand.now c.args.event.now.what = subst
+    (λ (f : PlainState). MayMake (states_of f) c.args.stand.now c.args.event.now.what) (sym c.self.view_is) c.requires.given in
+    is_given (states_of (state_in c.self.inside)) c.args.stand.now c.args.event.now.what may
 
-pub event_asks-asks-requires-clause-given : goal.event_asks-asks-requires-clause-given
-event_asks-asks-requires-clause-given c =
-    let may : MayMake (states_of (state_in c.self.inside)) c.args.stand.now c.args.what.now = subst
-    (λ (f : PlainState). MayMake (states_of f) c.args.stand.now c.args.what.now) (sym c.self.view_is) c.requires.given in
-    is_given (states_of (state_in c.self.inside)) c.args.stand.now c.args.what.now may
+pub complete-requires-clause-held : goal.complete-requires-clause-held
+complete-requires-clause-held c = all_held _
 
-pub event_asks-asks-requires-clause-held : goal.event_asks-asks-requires-clause-held
-event_asks-asks-requires-clause-held c = all_held _
+pub returns-clause-told : goal.returns-clause-told
+returns-clause-told c =
+    let same : c.complete.new.event.what ≡ c.args.event.now.what = ap (λ (e : Event). e.what) c.complete.ensures in
+    subst (λ (w : What). TellsOf c.args.self.now c.args.stand.now w c.tell_by.new.told.value) same c.tell_by.ensures

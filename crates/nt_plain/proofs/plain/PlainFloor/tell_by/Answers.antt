@@ -11,10 +11,10 @@ use Rattle.nt_plain.specs.Places.{told_in}
 use Rattle.nt_plain.specs.States.{PlainState}
 use Rattle.nt_states.proofs.Requests.{each_asked}
 use Rattle.nt_plain.proofs.Within.{rows_within, told_of}
-use Rattle.nt_plain.proofs.plain.PlainFloor.told_by.Goals as goal
+use Rattle.nt_plain.proofs.plain.PlainFloor.tell_by.Goals as goal
 
-pub over-value-requires-clause-rows : goal.over-value-requires-clause-rows
-over-value-requires-clause-rows c =
+pub over-requires-clause-rows : goal.over-requires-clause-rows
+over-requires-clause-rows c =
     let planned : IsPlanned (state_in c.self.inside) c.args.stand.now c.args.what.now c.args.lanes.now c.args.asks.now = subst
     (λ (f : PlainState). IsPlanned f c.args.stand.now c.args.what.now c.args.lanes.now c.args.asks.now) (sym c.self.view_is) c.requires in
     rw (c.whole_script-script.ensures, c.as_slice.ensures)
@@ -37,5 +37,5 @@ returns c =
     subst at c.self.view_is
     (told_of
     (state_in c.self.inside) st w c.whole_script-script.result.now c.as_slice.result.now c.args.lanes.now c.as_slice-2.result.now c.args.asks.now
-    c.over-value.result c.tell_own.new.values c.whole_script-script.ensures c.as_slice.ensures planned.lanes c.as_slice-2.ensures planned.asks
-    planned.lanes_named c.over-value.ensures c.tell_own.ensures)
+    c.over.new.values c.tell_own.new.values c.whole_script-script.ensures c.as_slice.ensures planned.lanes c.as_slice-2.ensures planned.asks
+    planned.lanes_named c.over.ensures c.tell_own.ensures)
