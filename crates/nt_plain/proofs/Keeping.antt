@@ -20,6 +20,7 @@ use Rattle.nt_plain.specs.Made.{IsKept, IsPlanned, made, marked_all, marked_in, 
 use Rattle.nt_plain.specs.Places.{row_of, told_in, value_in, word_place}
 use Rattle.nt_plain.specs.States.{PlainState}
 use Rattle.nt_plain.proofs.Tells.{length-tell_lanes, told_after_event}
+use Rattle.nt_plain.proofs.ToldClasses.{tells_of_others}
 use Rattle.nt_plain.proofs.Within.{all_within}
 use Rattle.nt_plain.proofs.Writes.{words_after}
 
@@ -47,6 +48,11 @@ told_up_to true false n old value new word h k e f = omega (arith, e, f, h)
 told_up_to false true n old value new word h k e f = omega (arith, e, f, h, k)
 told_up_to false false n old value new word h k e f = omega (arith, e, f, h)
 
+-- what isn't told anew stays untold
+told_no_more : (b : Bool) (n old new : ℕ) → old ≡ 0 → b ≡ false → new ≡ raised b n old → new ≡ 0
+told_no_more true n old new h f e = cc
+told_no_more false n old new h f e = omega (arith, e, h)
+
 pub kept_made : (f : PlainState) (st : Stand) (w : What) → IsKept f → f.next < f.limit → All (LaneFits f.script) (what_lanes f.script st w f.lanes) →
     All (AskFits f.script) (what_asks f.script st w f.lanes) → (made st w f).lanes.timers.now ≤ f.lanes.timers.now + (2 ^ 32 - 1) → IsKept (made st w f)
 kept_made f st w kept room lanes_named asks_named time =
@@ -64,6 +70,10 @@ kept_made f st w kept room lanes_named asks_named time =
           (told_in f.script (tell_lanes f.script (f.next + 1) lanes asks f.told) x p c) (value_in (raised_words (f.next + 1) asks f.asked) p c)
           (kept.told x p c h k) (kept.asked p c h k) (told_after_event f.script f.next lanes asks f.told x p c kept.told_length lanes_named
           (all_within f.script asks asks_named) h k) (words p c h k);
+      told_others = λ x p c h k other. told_no_more (is_among x lanes && list_any (is_ask p c) asks) f.next (told_in f.script f.told x p c)
+          (told_in f.script (tell_lanes f.script (f.next + 1) lanes asks f.told) x p c) (kept.told_others x p c h k other)
+          (tells_of_others f.script st w f.lanes x p c other) (told_after_event f.script f.next lanes asks f.told x p c kept.told_length lanes_named
+          (all_within f.script asks asks_named) h k);
       time = omega (arith, time, kept.time);
     }
   where

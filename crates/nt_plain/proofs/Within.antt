@@ -3,7 +3,7 @@ use Rattle.std.proofs.Common.{ap, arith, length, subst, ◌∙◌}
 use Rattle.std.proofs.Math.Nat.{mul-le-mul_right}
 use Rattle.std.proofs.lemmas.Bool.{ltb-true}
 use Rattle.std.specs.List.{list_any}
-use Rattle.std.specs.Prelude.{All, List, [], get_or, if◌then◌else◌, refl, true, ℕ, ◌*◌, ◌+◌, ◌<◌, ◌^◌, ◌∷◌, ◌≡◌, ◌≤◌}
+use Rattle.std.specs.Prelude.{All, List, [], false, get_or, if◌then◌else◌, refl, true, ℕ, ◌*◌, ◌+◌, ◌<◌, ◌^◌, ◌∷◌, ◌≡◌, ◌≤◌}
 use Rattle.nt_event.specs.declared.limits.TheConstants.{EVENTS}
 use Rattle.nt_event.specs.declared.events.What.{What}
 use Rattle.nt_event.specs.declared.jobs.Lane.{Lane}
@@ -17,6 +17,7 @@ use Rattle.nt_event.proofs.Tables.{get_or-table, table-same}
 use Rattle.nt_floor.specs.Acts.{told_over}
 use Rattle.nt_states.specs.declared.asking.Asked.{Asked}
 use Rattle.nt_states.specs.LaneLists.{AskFits, LaneFits, as_asks, lane_fits}
+use Rattle.nt_plain.specs.Classes.{is_told_class}
 use Rattle.nt_plain.specs.Places.{row_of, row_value, told_in, told_place, word_place}
 use Rattle.nt_plain.specs.States.{PlainState}
 use Rattle.nt_plain.proofs.Apart.{below_rows, below_values}
@@ -63,6 +64,14 @@ marks_room limit cpus marks len small few =
     let most : limit * cpus ≤ EVENTS * cpus = mul-le-mul_right cpus small in omega (arith, most, len)
 
 -- ---- what the lanes tell
+
+-- their rows have nothing of the classes that lanes don't tell of
+pub others_untold : (s : Script) (told : List ℕ) (lanes : List Lane) (p : CpuNo) → All (LaneFits s) lanes →
+    ((x : Lane) (c : ℕ) → c < 16 → is_told_class c ≡ false → told_in s told x p c ≡ 0) →
+    All (λ x. (c : ℕ) → c < 16 → is_told_class c ≡ false → row_value s told x p c ≡ 0) lanes
+others_untold s told lanes p fits untold k d l c h other =
+    let here : lane_fits s (get_or lanes k d) ≡ true = fits k d l in
+    rw here at (untold (get_or lanes k d) c h other)
 
 lanes_tell : (s : Script) (told : List ℕ) (lanes : List Lane) (p : CpuNo) (c : ℕ) → All (LaneFits s) lanes → told_over (row_value s told) lanes p c
     ≡ told_over (told_in s told) lanes p c

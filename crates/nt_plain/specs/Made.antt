@@ -1,6 +1,6 @@
 -- What holds of a floor in memory at any time, and what each call leaves of it.
 use Rattle.std.specs.Int.Bits.{bit_or}
-use Rattle.std.specs.Prelude.{All, List, [], get_or, length, max, set, ℕ, ◌%◌, ◌*◌, ◌+◌, ◌<◌, ◌^◌, ◌∷◌, ◌≡◌, ◌≤◌}
+use Rattle.std.specs.Prelude.{All, List, [], false, get_or, length, max, set, ℕ, ◌%◌, ◌*◌, ◌+◌, ◌<◌, ◌^◌, ◌∷◌, ◌≡◌, ◌≤◌}
 use Rattle.nt_event.specs.declared.limits.TheConstants.{EVENTS}
 use Rattle.nt_event.specs.declared.events.What.{What}
 use Rattle.nt_event.specs.declared.jobs.Lane.{Lane}
@@ -14,12 +14,12 @@ use Rattle.nt_floor.specs.Acts.{Found}
 use Rattle.nt_states.specs.AllStates.{AllStates}
 use Rattle.nt_states.specs.Allowed.{MayMake}
 use Rattle.nt_states.specs.LaneLists.{AskFits, LaneFits}
+use Rattle.nt_plain.specs.Classes.{is_told_class}
 use Rattle.nt_plain.specs.Places.{row_of, told_in, told_place, value_in, word_place}
 use Rattle.nt_plain.specs.States.{PlainState}
 
--- what holds at any time: the lists have their lengths, a told value was asked, an asked value is one of a number
--- drawn, and the time
--- is as far as the events may have let it advance
+-- what holds at any time: the lists have their lengths, a told value was asked and is of a class that lanes tell of, an
+-- asked value is one of a number drawn, and the time is as far as the events may have let it advance
 pub record IsKept (f : PlainState) : Type 0 where
   pub asked_length : length f.asked ≡ 16 * f.script.cpus
   pub marks_length : length f.marks ≡ f.limit * f.script.cpus
@@ -31,6 +31,8 @@ pub record IsKept (f : PlainState) : Type 0 where
   pub asked : (p : CpuNo) (c : ℕ) → p.0 < f.script.cpus → c < 16 → value_in f.asked p c ≤ f.next
   pub told : (x : Lane) (p : CpuNo) (c : ℕ) → p.0 < f.script.cpus → c < 16 →
       told_in f.script f.told x p c ≤ value_in f.asked p c
+  pub told_others : (x : Lane) (p : CpuNo) (c : ℕ) → p.0 < f.script.cpus → c < 16 → is_told_class c ≡ false →
+      told_in f.script f.told x p c ≡ 0
   pub time : f.lanes.timers.now ≤ f.next * 2 ^ 32
 
 -- ---- words

@@ -1,14 +1,15 @@
 //! What the lanes tell of requests.
-ghost use Rattle.std.specs.Prelude.{◌≡◌, ◌+◌, ◌*◌, ◌<◌, ◌≤◌, ◌^◌, All, IfOk, get_or, length, max, replicate, set};
+ghost use Rattle.std.specs.Prelude.{◌≡◌, ◌+◌, ◌*◌, ◌<◌, ◌≤◌, ◌^◌, ℕ, All, IfOk, false, get_or, length, max, replicate, set};
 ghost use Rattle.nt_event.specs.Lanes.{lane_number as number_of};
 ghost use Rattle.nt_event.specs.Lists.{table, value_at};
 ghost use Rattle.nt_floor.specs.Acts.{told_over};
 ghost use Rattle.nt_states.specs.LaneLists.{as_asks};
+ghost use Rattle.nt_plain.specs.Classes.{is_told_class, raised_class};
 ghost use Rattle.nt_plain.specs.Made.{tell_lane, tell_lanes};
 ghost use Rattle.nt_plain.specs.Places.{row_of as row_place, row_value, told_place};
 
 use crate::places::{lane_number, row_of};
-use nt_event::{CpuNo, Lane, Script};
+use nt_event::{CpuNo, Lane, Script, class};
 use nt_states::Asked;
 use std::alloc::{AllocError, Global};
 use std::marker::Model;
@@ -49,7 +50,8 @@ impl ToldValues {
 
     /// The greater ones of these values and those of a row.
     pub(crate) fn raise(&self, row: usize, values: &mut [u64; 16])
-        requires { row * 16 + 16 ≤ length self.now }
+        requires row { row * 16 + 16 ≤ length self.now }
+        requires others { (c : ℕ) → c < 16 → is_told_class c ≡ false → get_or self.now (row * 16 + c) 0 ≡ 0 }
         ensures { values.new ≡ table 16 (λ c. max (get_or self.now (row * 16 + c) 0) (value_at values.old c)) }
     {
         raise_by(values, &self.values[row * 16..row * 16 + 16]);
@@ -60,6 +62,7 @@ impl ToldValues {
         requires rows { All (λ x. row_place script.now.cpus (number_of script.now x) p * 16 + 16 ≤ length self.now) lanes.now }
         requires numbers { All (λ x. number_of script.now x < 2 ^ 32) lanes.now }
         requires room { length self.now < 2 ^ 32 }
+        requires others { All (λ x. (c : ℕ) → c < 16 → is_told_class c ≡ false → row_value script.now self.now x p c ≡ 0) lanes.now }
         ensures { values.new ≡ table 16 (λ c. told_over (row_value script.now self.now) lanes.now p c) }
     {
         *values = [0; 16];
@@ -96,14 +99,24 @@ impl ToldValues {
     }
 }
 
-/// The greater one of each two values.
+/// The greater one of each two values. Lanes tell of four classes alone, so the others are not looked at.
 fn raise_by(values: &mut [u64; 16], told: &[u64])
-    requires { length told.now ≡ 16 }
+    requires classes { length told.now ≡ 16 }
+    requires others { (c : ℕ) → c < 16 → is_told_class c ≡ false → get_or told.now c 0 ≡ 0 }
     ensures { values.new ≡ table 16 (λ c. max (get_or told.now c 0) (value_at values.old c)) }
 {
-    for i in 0..16 {
-        if values[i] < told[i] {
-            values[i] = told[i];
-        }
-    }
+    raise_class(values, told, class::THREADED);
+    raise_class(values, told, class::APC);
+    raise_class(values, told, class::DISPATCH);
+    raise_class(values, told, class::CLOCK);
+}
+
+/// The greater one of two values of a class.
+fn raise_class(values: &mut [u64; 16], told: &[u64], class: u8)
+    requires classes { length told.now ≡ 16 }
+    requires class { class < 16 }
+    ensures { values.new ≡ raised_class class told.now values.old }
+{
+    let at = usize::from(class);
+    values[at] = values[at].max(told[at]);
 }

@@ -1,9 +1,7 @@
-use Rattle.std.proofs.Common.{arith, get_or, max}
-use Rattle.nt_event.specs.Lists.{value_at}
-use Rattle.nt_event.proofs.Tables.{is_table}
+use Rattle.nt_plain.proofs.RaisedClasses.{raised_row}
 use Rattle.nt_plain.proofs.told.raise_by.Goals as goal
 
 pub returns : goal.returns
 returns c =
-    is_table c.loop-i.values 16 (λ k. max (get_or c.args.told.now k 0) (value_at c.args.values.now k)) c.loop-i.invariant.len
-    (λ k h. c.loop-i.invariant.low k (omega arith))
+    raised_row c.args.told.now c.args.values.now c.raise_class.new.values c.raise_class-2.new.values c.raise_class-3.new.values c.raise_class-4.new.values
+    c.told-values c.raise_class.ensures c.raise_class-2.ensures c.raise_class-3.ensures c.raise_class-4.ensures c.requires.others

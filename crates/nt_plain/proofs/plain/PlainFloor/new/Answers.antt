@@ -18,5 +18,6 @@ invariant_of-result c = record {
   next = omega arith;
   asked = λ p q h k. rw (c.in_ok-asked.ensures, zeros) (omega arith);
   told = first_of (search rules, search (rules, zeros), grind (arith, common_steps, zeros));
+  told_others = first_of (search rules, search (rules, zeros), grind (arith, common_steps, zeros));
   time = first_of (search rules, grind (arith, common_steps));
 }

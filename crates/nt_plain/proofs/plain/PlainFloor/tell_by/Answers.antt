@@ -10,7 +10,7 @@ use Rattle.nt_plain.specs.Made.{IsPlanned}
 use Rattle.nt_plain.specs.Places.{told_in}
 use Rattle.nt_plain.specs.States.{PlainState}
 use Rattle.nt_states.proofs.Requests.{each_asked}
-use Rattle.nt_plain.proofs.Within.{rows_within, told_of}
+use Rattle.nt_plain.proofs.Within.{others_untold, rows_within, told_of}
 use Rattle.nt_plain.proofs.plain.PlainFloor.tell_by.Goals as goal
 
 pub over-requires-clause-rows : goal.over-requires-clause-rows
@@ -20,6 +20,15 @@ over-requires-clause-rows c =
     rw (c.whole_script-script.ensures, c.as_slice.ensures)
     (rows_within c.self.inside.states.script c.self.inside.told c.args.lanes.now c.args.stand.now.cpu c.self.invariant.told_length planned.lanes_named
     (ltb-true c.args.stand.now.cpu.0 c.self.inside.states.script.cpus planned.given.may.stand.cpu))
+
+pub over-requires-clause-others : goal.over-requires-clause-others
+over-requires-clause-others c =
+    let planned : IsPlanned (state_in c.self.inside) c.args.stand.now c.args.what.now c.args.lanes.now c.args.asks.now = subst
+    (λ (f : PlainState). IsPlanned f c.args.stand.now c.args.what.now c.args.lanes.now c.args.asks.now) (sym c.self.view_is) c.requires in
+    let cpu = ltb-true c.args.stand.now.cpu.0 c.self.inside.states.script.cpus planned.given.may.stand.cpu in
+    rw (c.whole_script-script.ensures, c.as_slice.ensures)
+    (others_untold c.self.inside.states.script c.self.inside.told c.args.lanes.now c.args.stand.now.cpu planned.lanes_named
+    (λ x k h other. c.self.invariant.told_others x c.args.stand.now.cpu k cpu h other))
 
 pub tell_own-requires : goal.tell_own-requires
 tell_own-requires c k d l =
