@@ -13,7 +13,6 @@ use nt_event::{CpuNo, Event, History, Items, Script, Turn};
 use nt_plain::PlainFloor;
 use std::alloc::{AllocError, Global};
 use std::marker::Model;
-use std::slice::from_ref;
 
 /// A machine that runs a script by turns, with a limit on the events of each processor.
 #[derive(Drop)]
@@ -35,14 +34,14 @@ impl<'s> Model for Core<'s> {
     ghost invariant = { IsSoundInside };
 }
 
-/// Puts the event at the end. There is room for it.
+/// Puts the item at the end. There is room for it.
 #[inline(always)]
-pub(crate) fn put(events: &mut Vec<Event>, event: &Event)
-    requires { length events.old.items < vec_capacity events.old }
-    ensures items { events.new.items ≡ events.old.items ++ event.now ∷ [] }
-    ensures room { vec_capacity events.old ≤ vec_capacity events.new }
+pub(crate) fn put<T: Copy>(items: &mut Vec<T>, item: &T)
+    requires { length items.old.items < vec_capacity items.old }
+    ensures items { items.new.items ≡ items.old.items ++ item.now ∷ [] }
+    ensures room { vec_capacity items.old ≤ vec_capacity items.new }
 {
-    let _ = events.extend_from_slice(from_ref(event));
+    items.push_reserved(*item);
 }
 
 impl<'s> Core<'s> {
