@@ -1,4 +1,4 @@
--- What words see of a pass that made an event, or only learned.
+-- What words see of a pass that made an event.
 use Rattle.std.proofs.Common.{ap, append-nil, arith, refl, subst, sym, ◌∙◌}
 use Rattle.std.proofs.lemmas.List.{append_assoc, length-append, map-append}
 use Rattle.std.proofs.lemmas.List.Folds.{list_any-append}
@@ -12,38 +12,22 @@ use Rattle.nt_event.specs.Lanes.{lane_number, what_lanes}
 use Rattle.nt_event.specs.Requests.{Ask, is_ask, what_asks}
 use Rattle.nt_floor.specs.Acts.{Found}
 use Rattle.nt_floor.specs.Lists.{Lists, Mark as MarkTold, with_draw, with_marks}
-use Rattle.nt_floor.specs.Views.{IsMoved, IsUnmoved}
+use Rattle.nt_floor.specs.Views.{IsMoved}
 use Rattle.nt_mark.specs.declared.marks.Marks.{Marks}
 use Rattle.nt_mark.specs.declared.view.Entry.{Entry}
 use Rattle.nt_mark.specs.declared.view.Look.{Look}
 use Rattle.nt_mark.specs.declared.view.Mark.{Mark}
 use Rattle.nt_mark.specs.declared.view.View.{View}
 use Rattle.nt_mark.specs.Names.{limit_of}
-use Rattle.nt_mark.specs.Views.{entry, reach, request_word, step_word}
+use Rattle.nt_mark.specs.Views.{entry, reach, request_word}
 use Rattle.nt_lane.specs.Marked.{mark_for}
 use Rattle.nt_lane.specs.Records.{IsAskKnown}
 use Rattle.nt_lane.specs.Tries.{HasMade}
-use Rattle.nt_lane.specs.Views.{Learns, drawable_of, draw_told, is_mark, lists_of, look_told, mark_told, words_of}
+use Rattle.nt_lane.specs.Views.{drawable_of, draw_told, is_mark, lists_of, look_told, mark_told, words_of}
 use Rattle.nt_states.proofs.Requests.{all_head, all_tail, is_ask_true}
 
 no_bool : {A : Type 0} → false ≡ true → A
 no_bool h = cc
-
--- ---- a pass that only learned
-
-pub unmoved : (m : Marks) (v w : View) → Learns v w → IsUnmoved (words_of m v) (words_of m w)
-unmoved m v w l =
-    let entries : length w.entries ≡ length v.entries = ap (λ (es : List Entry). length es) l.entries in
-    let parts : limit_of m * w.parts ≡ limit_of m * v.parts = ap (λ (n : ℕ). limit_of m * n) l.grows.parts in
-    record {
-      same = record { cpus = refl; alone = refl; states = refl; told = λ x p c h. refl };
-      drawable = omega (arith, entries, parts);
-      lists = λ i. Some (record { draws = map draw_told (l.entries i); marks = map mark_told (l.marks i); looks = map look_told (l.looks i) });
-      next = l.least step_word;
-      never_falls = λ q c h. l.least (request_word q c);
-      marked = λ k q c h. ap (λ (ms : List Mark). list_any (is_mark k q c) ms) l.marks;
-      exact = λ a. no_bool a;
-    }
 
 -- ---- marks
 
