@@ -107,14 +107,20 @@ impl<'s> Cpu<'s> {
             Some(frame) => (frame.name, Some(frame.body), frame.again),
             None => (0, None, None),
         };
+        let regions = self.frames.regions();
+        let below = if self.frames.has_own() {
+            regions
+        } else {
+            self.frames.below()
+        };
         Stand {
             cpu: self.cpu,
             thread: self.frames.running(),
             frame,
             body,
             level: self.frames.level(),
-            regions: self.frames.regions(),
-            below: self.frames.below(),
+            regions,
+            below,
             after: self.frames.after(),
             again,
             sweep: self.sweep,

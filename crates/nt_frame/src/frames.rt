@@ -10,19 +10,13 @@ ghost use Rattle.nt_frame.specs.Rules.{count_of, end_asks_apc, enter_of, is_at_b
 ghost use Rattle.nt_frame.specs.Views.{view_of};
 
 use crate::frame::{at_normal, is_own, leaving, new_frame};
-use crate::part::{Part, is_normal_apc};
+use crate::part::{NO_REGIONS, Part, is_normal_apc};
 use crate::refusals::refusal;
 use crate::{FrameView, parts};
 use nt_event::{Again, Body, Command, CpuNo, Frame, Refusal, Region, Regions, ThreadNo};
 use nt_level::Level;
 use std::alloc::{AllocError, Global};
 use std::marker::Model;
-
-const NO_REGIONS: Regions = Regions {
-    crit: 0,
-    guard: 0,
-    busy: false,
-};
 
 /// The frames of one processor: those on its own part, and those of each thread.
 ///

@@ -10,6 +10,13 @@ use nt_level::Level;
 use std::alloc::{AllocError, Global};
 use std::marker::Model;
 
+/// The regions of no thread.
+pub(crate) const NO_REGIONS: Regions = Regions {
+    crit: 0,
+    guard: 0,
+    busy: false,
+};
+
 /// The frames of one part, of which there are at most `ROOM`. Contracts see the list of them, the innermost first.
 #[derive(Drop, Debug)]
 pub struct Part<const ROOM: usize> {
@@ -146,10 +153,18 @@ fn regions(frames: &[Frame]) -> Regions
     requires guard { guard_of (reverse frames.now) < 2 ^ 32 }
     ensures { result ≡ regions_of (reverse frames.now) }
 {
-    Regions {
-        crit: crit(frames),
-        guard: guard(frames),
-        busy: is_busy(frames),
+    match frames {
+        [] => NO_REGIONS,
+        [frame] => Regions {
+            crit: frame.crit,
+            guard: frame.guard,
+            busy: is_normal_apc(&frame.body),
+        },
+        _ => Regions {
+            crit: crit(frames),
+            guard: guard(frames),
+            busy: is_busy(frames),
+        },
     }
 }
 
