@@ -5,7 +5,6 @@ use Rattle.std.specs.List.{list_all, list_any}
 use Rattle.std.specs.Option.{option_or}
 use Rattle.std.specs.Prelude.{Bool, IfSome, List, None, Option, Some, false, if◌then◌else◌, is_none, is_some, nat_lt, not, option_map, refl, suc, true, ℕ, ◌&&◌, ◌<◌, ◌≡◌}
 use Rattle.nt_event.specs.declared.events.Event.{Event}
-use Rattle.nt_event.specs.declared.events.Rises.{Rises}
 use Rattle.nt_event.specs.declared.events.Turn.{Turn}
 use Rattle.nt_event.specs.declared.events.Turn.TheVariants.{Look as LookTurn, Next as NextTurn, Switch as SwitchTurn}
 use Rattle.nt_event.specs.declared.numbers.CpuNo.{CpuNo}
@@ -26,7 +25,7 @@ use Rattle.nt_floor.specs.Views.{View}
 use Rattle.nt_cpu.specs.Runs.{Follows, state_of}
 use Rattle.nt_cpu.specs.States.{CpuState}
 use Rattle.nt_cpus.specs.Cycles.{next_cpu}
-use Rattle.nt_cpus.specs.Steps.{chosen_turn, found_values, step_turn}
+use Rattle.nt_cpus.specs.Steps.{chosen_turn, found_values, look_of, step_turn}
 use Rattle.nt_cpus.specs.declared.robins.Chosen.{Chosen}
 use Rattle.nt_cpus.specs.declared.robins.Step.{Step}
 use Rattle.nt_cpus.specs.declared.robins.Step.TheVariants.{Look, Next, Switch}
@@ -109,10 +108,8 @@ those_lanes {P} {Q} (Some l) h i = h l i
 
 -- ---- the turn of a step
 
-pub look_chosen : (s : Script) (past : List Event) (c : Chosen) (r : Rises) → c.step ≡ Look → r.value ≡ found_values s c.cpu past →
-    chosen_turn s past c ≡ LookTurn c.cpu r
-look_chosen s past c r h e =
-    ap (step_turn c.cpu (found_values s c.cpu past)) h ∙ ap (λ (vs : List ℕ). LookTurn c.cpu (record { value = vs })) (sym e)
+pub look_chosen : (s : Script) (past : List Event) (c : Chosen) → c.step ≡ Look → chosen_turn s past c ≡ look_of s c.cpu past
+look_chosen s past c h = ap (step_turn c.cpu (found_values s c.cpu past)) h
 
 pub switch_chosen : (s : Script) (past : List Event) (c : Chosen) (t : ThreadNo) → c.step ≡ Switch t → chosen_turn s past c ≡ SwitchTurn c.cpu t
 switch_chosen s past c t h = ap (step_turn c.cpu (found_values s c.cpu past)) h

@@ -22,6 +22,10 @@ step_turn p values Next = turns.Next p
 abbrev pub found_values : Script → CpuNo → List Event → List ℕ
 found_values s p past = look_values (own_of s p past) (λ k. asked s p k past)
 
+-- the look of the processor after this past
+abbrev pub look_of : Script → CpuNo → List Event → Turn
+look_of s p past = turns.Look p (record { value = found_values s p past })
+
 -- that of a processor which goes on so after this past
 abbrev pub chosen_turn : Script → List Event → Chosen → Turn
 chosen_turn s past c = step_turn c.cpu (found_values s c.cpu past) c.step

@@ -8,7 +8,7 @@ ghost use Rattle.nt_event.specs.Step.{is_cut, step, turn_of};
 ghost use Rattle.nt_cpu.specs.Choices.{turn_by};
 ghost use Rattle.nt_cpus.specs.Cycles.{last_cpu, next_cpu};
 ghost use Rattle.nt_cpus.specs.Following.{AreAfter, AreSound};
-ghost use Rattle.nt_cpus.specs.Steps.{chosen_turn, found_values, step_turn};
+ghost use Rattle.nt_cpus.specs.Steps.{chosen_turn, found_values, look_of, step_turn};
 
 use crate::processors::Processors;
 use nt_cpu::{Choice, Cpu};
@@ -192,13 +192,23 @@ impl<'s> Processors<'s> {
     {
         let cpu = chosen.cpu;
         match chosen.step {
-            Step::Look => {
-                let rises = self.rises_of(floor, cpu);
-                self.make(floor, cpu, &Choice::Look(&rises), event);
-            }
+            Step::Look => self.look(floor, cpu, event),
             Step::Switch(thread) => self.make(floor, cpu, &Choice::Switch(thread), event),
             Step::Next => self.make(floor, cpu, &Choice::Next, event),
         }
+    }
+
+    /// Has this processor look at what was asked for and not seen.
+    fn look<F: OpenFloor>(&mut self, floor: &mut F, cpu: CpuNo, event: &mut Event)
+        requires sound { AreSound self.old (F.script floor.old) (F.view floor.old) }
+        requires below { cpu.0 < self.old.script.cpus }
+        requires own { (past : List Event) → AreAfter past self.old (F.script floor.old) (F.view floor.old) → robin_turn_of self.old.script self.old.limit cpu past ≡ Some (look_of self.old.script cpu past) }
+        ensures event { (past : List Event) → AreAfter past self.old (F.script floor.old) (F.view floor.old) → (step self.old.script self.old.limit (look_of self.old.script cpu past) past ≡ Ok event.new) × AreAfter (event.new ∷ past) self.new (F.script floor.new) (F.view floor.new) }
+        ensures floor { F.script floor.new ≡ F.script floor.old }
+        ensures kept { (self.new.script ≡ self.old.script) × (self.new.limit ≡ self.old.limit) }
+    {
+        let rises = self.rises_of(floor, cpu);
+        self.make(floor, cpu, &Choice::Look(&rises), event);
     }
 
     /// Takes the turn of this choice, which is the robin rule's for the processor and so is never refused.

@@ -6,26 +6,24 @@ use Rattle.nt_cpus.specs.States.{CpusState}
 use Rattle.nt_cpus.proofs.Choosing.{look_chosen, next_chosen, switch_chosen}
 use Rattle.nt_cpus.proofs.processors.Processors.follow.Goals as goal
 
-pub make-requires-clause-own : goal.make-requires-clause-own
-make-requires-clause-own g c past h =
-    let looks = look_chosen c.args.self.now.script past c.args.chosen c.rises_of-rises.result c.in-Look.is (c.rises_of-rises.ensures past h) in
-    c.requires.own past h ∙ ap (λ (t : Turn). Some t) looks
+pub look-requires-clause-own : goal.look-requires-clause-own
+look-requires-clause-own g c past h =
+    c.requires.own past h ∙ ap (λ (t : Turn). Some t) (look_chosen c.args.self.now.script past c.args.chosen c.in-Look.is)
 
 pub returns-in-Look-clause-event : goal.returns-in-Look-clause-event
 returns-in-Look-clause-event g c past h =
     let s : CpusState = c.args.self.now in
-    let m = c.make.ensures.event past h in
-    let looks = look_chosen s.script past c.args.chosen c.rises_of-rises.result c.in-Look.is (c.rises_of-rises.ensures past h) in
-    (ap (λ (t : Turn). step s.script s.limit t past) looks ∙ m.0, m.1)
+    let m = c.look.ensures.event past h in
+    (ap (λ (t : Turn). step s.script s.limit t past) (look_chosen s.script past c.args.chosen c.in-Look.is) ∙ m.0, m.1)
 
-pub make-requires-in-Switch-clause-own : goal.make-requires-in-Switch-clause-own
-make-requires-in-Switch-clause-own g c past h =
+pub make-requires-clause-own : goal.make-requires-clause-own
+make-requires-clause-own g c past h =
     c.requires.own past h ∙ ap (λ (t : Turn). Some t) (switch_chosen c.args.self.now.script past c.args.chosen c.in-Switch.thread c.in-Switch.is)
 
 pub returns-in-Switch-clause-event : goal.returns-in-Switch-clause-event
 returns-in-Switch-clause-event g c past h =
     let s : CpusState = c.args.self.now in
-    let m = c.make-in-Switch.ensures.event past h in
+    let m = c.make.ensures.event past h in
     (ap (λ (t : Turn). step s.script s.limit t past) (switch_chosen s.script past c.args.chosen c.in-Switch.thread c.in-Switch.is) ∙ m.0, m.1)
 
 pub make-requires-in-Next-clause-own : goal.make-requires-in-Next-clause-own
