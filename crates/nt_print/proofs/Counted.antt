@@ -1,9 +1,9 @@
 -- How many events each processor made, event by event.
-use Rattle.std.proofs.Common.{◌≡◌, ◌∙◌, ℕ, ◌+◌, ◌^◌, ◌<◌, ◌≤◌, Bool, true, false, List, [], length, get_or, set, take, replicate, refl, sym, ap, subst, arith}
+use Rattle.std.proofs.Common.{◌≡◌, ◌∙◌, ℕ, ◌+◌, ◌<◌, Bool, true, false, List, length, get_or, set, take, refl, sym, ap, subst, arith}
 use Rattle.std.specs.Prelude.{◌==◌, nat_lt, if◌then◌else◌}
 use Rattle.std.proofs.lemmas.Bool.{eqb-false, eqb-true, lt-ltb}
-use Rattle.std.proofs.lemmas.List.{get_or-replicate, get_or-set_other, get_or-set_same, length-set, length-take-le}
-use Rattle.std.proofs.lemmas.List.Sums.{count_by-le-length, count_by_more_no, count_by_more_yes}
+use Rattle.std.proofs.lemmas.List.{get_or-set_other, get_or-set_same, length-set}
+use Rattle.std.proofs.lemmas.List.Sums.{count_by_more_no, count_by_more_yes}
 use Rattle.nt_event.specs.declared.events.Event.{Event}
 use Rattle.nt_print.specs.Counts.{TellsMade, counted}
 use Rattle.nt_print.specs.Report.{made}
@@ -15,10 +15,6 @@ made_by_it p events k e lt is by = count_by_more_yes (λ (x : Event). x.cpu.0 ==
 pub made_by_another : (p : ℕ) (events : List Event) (k : ℕ) (e : Event) → k < length events → e ≡ get_or events k e → (e.cpu.0 == p) ≡ false →
     made p (take (k + 1) events) ≡ made p (take k events)
 made_by_another p events k e lt is by = count_by_more_no (λ (x : Event). x.cpu.0 == p) events k e lt (ap (λ (x : Event). x.cpu.0 == p) (sym is) ∙ by)
-
--- none made more than there are
-pub made_few : (p : ℕ) (events : List Event) (k : ℕ) → k ≤ length events → made p (take k events) ≤ k
-made_few p events k le = let few = count_by-le-length (λ (x : Event). x.cpu.0 == p) (take k events) in omega (arith, few, length-take-le k events le)
 
 -- the counts when the next event was counted
 count_step : (events : List Event) (k : ℕ) (e : Event) (table : List ℕ) → k < length events → e ≡ get_or events k e → TellsMade (take k events) table →
@@ -50,15 +46,3 @@ count_step events k e table lt is tells p lp = go (nat_lt e.cpu.0 (length table)
 pub counts_next : (events : List Event) (k : ℕ) (e : Event) (table new : List ℕ) → k < length events → e ≡ get_or events k e →
     TellsMade (take k events) table → new ≡ counted table e.cpu.0 → TellsMade (take (k + 1) events) new
 counts_next events k e table new lt is tells n = subst (TellsMade (take (k + 1) events)) (sym n) (count_step events k e table lt is tells)
-
--- one more fits
-pub counts_fit : (events : List Event) (k p : ℕ) (table : List ℕ) → k < length events → length events < 2 ^ 64 → TellsMade (take k events) table →
-    p < length table → get_or table p 0 + 1 < 2 ^ 64
-counts_fit events k p table lt few tells lp =
-    let told = tells p lp in
-    let most = made_few p events k (omega (arith, lt)) in
-    omega (arith, told, most, lt, few)
-
--- a table of zeros
-pub zeros_made : (n : ℕ) (table : List ℕ) → table ≡ replicate n 0 → length table ≡ n → TellsMade [] table
-zeros_made n table z l p lp = ap (λ (xs : List ℕ). get_or xs p 0) z ∙ get_or-replicate n p 0 0 (omega (arith, lp, l))

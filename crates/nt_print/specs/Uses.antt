@@ -1,6 +1,6 @@
 -- What uses up inserts, as the printer keeps it: which inserts a Begin or Flush named, and where each object was
 -- removed last.
-use Rattle.std.specs.Prelude.{◌≡◌, ℕ, ◌<◌, Bool, true, false, ◌&&◌, ◌||◌, ◌==◌, not, nat_lt, List, [], ◌∷◌, length, map, get_or, slice_set, reverse, Option, Some, None, if◌then◌else◌}
+use Rattle.std.specs.Prelude.{◌≡◌, ℕ, ◌<◌, Bool, true, false, ◌&&◌, ◌||◌, ◌==◌, not, nat_lt, List, [], ◌∷◌, length, map, get_or, slice_set, Option, Some, None, if◌then◌else◌}
 use Rattle.nt_event.specs.declared.commands.Command.TheVariants as cmd
 use Rattle.nt_event.specs.declared.commands.Reply.TheVariants.{Yes}
 use Rattle.nt_event.specs.declared.events.Begun.TheVariants.{Apc, Dpc, Int, Threaded}
@@ -14,7 +14,6 @@ use Rattle.nt_event.specs.Script.{has_apc, has_dpc}
 use Rattle.nt_print.specs.declared.inserts.Insert.{Insert}
 use Rattle.nt_print.specs.declared.inserts.Object.{Object}
 use Rattle.nt_print.specs.declared.inserts.Object.TheVariants as object
-use Rattle.nt_print.specs.declared.uses.Uses.{Uses}
 
 -- ---- things
 
@@ -129,16 +128,29 @@ last_removal thing (e ∷ past) = if removes_it (removed_by e.what) thing then l
 abbrev pub inserted_at : List Event → ℕ → Option Thing
 inserted_at events n = get_or (map (λ e. inserted_thing e.what) events) n None
 
--- the table tells, for each insert, whether it was named
-abbrev pub TellsNamed : List Event → List Event → List Bool → Type 0
-TellsNamed events past table = (n : ℕ) (thing : Thing) → inserted_at events n ≡ Some thing → get_or table n false
-    ≡ was_named thing n past
+-- an insert by one of these events is open where none of them named it; what is no insert is never open
+abbrev pub is_open : Option Thing → ℕ → List Event → Bool
+is_open None n past = false
+is_open (Some thing) n past = nat_lt n (length past) && not (was_named thing n past)
 
--- the table when an event of this number named an insert
+-- the table tells, for the number of each event, whether it is an open insert of the events so far
+abbrev pub TellsOpen : List Event → List Event → List Bool → Type 0
+TellsOpen events past table = (n : ℕ) → get_or table n false ≡ is_open (inserted_at events n) n past
+
+-- the table when an event of this number named an insert, which is closed then
 abbrev pub with_named : List Event → ℕ → Option Inserted → List Bool → List Bool
 with_named events k None table = table
 with_named events k (Some i) table = if nat_lt i.number k && is_it i.thing (inserted_at events i.number)
-    then slice_set table i.number true else table
+    then slice_set table i.number false else table
+
+-- the table when an event of this number inserted a thing, which is open then
+abbrev pub with_inserted : ℕ → Option Thing → List Bool → List Bool
+with_inserted k None table = table
+with_inserted k (Some thing) table = slice_set table k true
+
+-- the table when an event of this number did this
+abbrev pub with_event : List Event → ℕ → What → List Bool → List Bool
+with_event events k w table = with_inserted k (inserted_thing w) (with_named events k (named_by w) table)
 
 -- the tables tell where each object was removed last
 pub record TellsRemovals (past : List Event) (dpc_table apc_table : List ℕ) : Type 0 where
@@ -157,28 +169,6 @@ dpcs_after k _ table = table
 abbrev pub apcs_after : ℕ → Option Thing → List ℕ → List ℕ
 apcs_after k (Some (ApcThing x)) table = put_at table x.0 k
 apcs_after k _ table = table
-
--- the tables of all events of a script
-pub record AreUses (s : Script) (events : List Event) (uses : Uses) : Type 0 where
-  pub named : length uses.named.items ≡ length events
-  pub dpcs : length uses.dpcs.items ≡ length s.dpcs
-  pub apcs : length uses.apcs.items ≡ length s.apcs
-  pub tells_named : TellsNamed events (reverse events) uses.named.items
-  pub tells_removals : TellsRemovals (reverse events) uses.dpcs.items uses.apcs.items
-
--- the tables have a place for the thing
-abbrev pub HasPlace : Uses → Thing → Type 0
-HasPlace uses (DpcThing d) = d.0 < length uses.dpcs.items
-HasPlace uses (ApcThing a) = a.0 < length uses.apcs.items
-
--- where the tables tell that the thing was removed last
-abbrev pub removal_at : Uses → Thing → ℕ
-removal_at uses (DpcThing d) = get_or uses.dpcs.items d.0 0
-removal_at uses (ApcThing a) = get_or uses.apcs.items a.0 0
-
--- the tables tell that no event used up the insert
-abbrev pub is_left : Uses → ℕ → Thing → Bool
-is_left uses n thing = not (get_or uses.named.items n false) && not (nat_lt n (removal_at uses thing))
 
 -- ---- what waits
 

@@ -5,8 +5,8 @@
 //! schedule of the history (`nt_log`). The definition of the text is in `specs::Report`; what waits is the definition of the
 //! fate of inserts (`nt_event::specs::Fate`). The whole grammar is this project's own (profile).
 //!
-//! Printing is linear in the history: one walk counts the events of the processors, one notes which inserts are used up, and
-//! each line looks into those tables.
+//! Printing is linear in the history: one walk notes what a report needs of its events, which is how many each processor made
+//! and which inserts are used up, and the lines look into those tables.
 #![tactic(auto)]
 
 mod cuts;
@@ -14,9 +14,9 @@ mod events;
 mod fields;
 mod inserts;
 mod laws;
+mod notes;
 mod printing;
 mod summaries;
-mod uses;
 mod waits;
 
 pub use laws::reports_are_histories;

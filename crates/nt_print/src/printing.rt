@@ -6,7 +6,7 @@ ghost use Rattle.nt_print.specs.Report.{report_text};
 
 use crate::cuts::put_cuts;
 use crate::events::put_events;
-use crate::uses::uses_of;
+use crate::notes::notes_of;
 use crate::waits::put_waits;
 use nt_event::History;
 use nt_log::put_schedule_of;
@@ -23,12 +23,12 @@ pub fn report(alloc: Global, input: &Input, history: &History) -> Result<Vec<u8>
     ensures { IfOk result (λ text. text.items ≡ report_text input.now history.now) }
 {
     let events = history.events.as_slice();
-    let uses = uses_of(alloc, &input.script, events)?;
+    let notes = notes_of(alloc, &input.script, events)?;
     let mut out = Vec::with_capacity(alloc, events.len().saturating_mul(BYTES_OF_EVENT))?;
     out.extend_from_slice(b"report\n")?;
     put_events(&mut out, input, events)?;
-    put_cuts(alloc, &mut out, input.script.cpus, history)?;
-    put_waits(&mut out, input, events, &uses)?;
+    put_cuts(&mut out, input.script.cpus, notes.made.as_slice(), history)?;
+    put_waits(&mut out, input, events, &notes)?;
     put_schedule_of(&mut out, input, history)?;
     Ok(out)
 }

@@ -7,10 +7,10 @@ ghost use Rattle.nt_script.specs.Sound.{IsSound};
 ghost use Rattle.nt_print.specs.Counts.{TellsMade};
 ghost use Rattle.nt_print.specs.Report.{cut_of, cut_rows, made, wait_rows};
 ghost use Rattle.nt_print.specs.Summary.{count_row, how_many, is_begin, is_call, is_refused, is_refused_call, summary_text};
-ghost use Rattle.nt_print.specs.Uses.{AreUses, inserted_at, waits_at};
+ghost use Rattle.nt_print.specs.Uses.{inserted_at, waits_at};
+ghost use Rattle.nt_print.specs.Notes.{AreNotes};
 
-use crate::cuts::made_by;
-use crate::uses::{Uses, uses_of, waiting};
+use crate::notes::{Notes, notes_of, waiting};
 use nt_event::{Event, History, Reply, What};
 use nt_script::Input;
 use nt_text::put_number;
@@ -133,28 +133,28 @@ fn cut_lines(cpus: u8, counts: &[usize], history: &History) -> u8
 }
 
 /// One for an event that is an insert which still waits, else none.
-fn wait_line(input: &Input, events: &[Event], uses: &Uses, number: usize) -> usize
+fn wait_line(input: &Input, events: &[Event], notes: &Notes, number: usize) -> usize
     requires fit { events_fit input.now.script events.now ≡ true }
-    requires uses { AreUses input.now.script events.now uses.now }
+    requires notes { AreNotes input.now.script events.now notes.now }
     requires number { number < length events.now }
     ensures line { result ≡ length (inserted_by number (waits_at (reverse events.now) number (inserted_at events.now number))) }
     ensures one { result ≤ 1 }
 {
-    match waiting(&input.script, events, uses, number) {
+    match waiting(&input.script, events, notes, number) {
         Some(_) => 1,
         None => 0,
     }
 }
 
 /// How many inserts no event used up.
-fn wait_lines(input: &Input, events: &[Event], uses: &Uses) -> usize
+fn wait_lines(input: &Input, events: &[Event], notes: &Notes) -> usize
     requires fit { events_fit input.now.script events.now ≡ true }
-    requires uses { AreUses input.now.script events.now uses.now }
+    requires notes { AreNotes input.now.script events.now notes.now }
     ensures { result ≡ length (wait_rows input.now.names (reverse events.now)) }
 {
     let mut lines: usize = 0;
     for number in 0..events.len() {
-        lines += wait_line(input, events, uses, number);
+        lines += wait_line(input, events, notes, number);
     }
     lines
 }
@@ -178,15 +178,14 @@ pub fn summary(alloc: Global, input: &Input, history: &History) -> Result<Vec<u8
     ensures { IfOk result (λ text. text.items ≡ summary_text input.now history.now) }
 {
     let events = history.events.as_slice();
-    let uses = uses_of(alloc, &input.script, events)?;
-    let counts = made_by(alloc, input.script.cpus, events)?;
-    let cut = cut_lines(input.script.cpus, counts.as_slice(), history);
+    let notes = notes_of(alloc, &input.script, events)?;
+    let cut = cut_lines(input.script.cpus, notes.made.as_slice(), history);
     let mut out = Vec::new(alloc);
     put_count(&mut out, b"events", events.len())?;
     put_count(&mut out, b"calls", calls(events))?;
     put_count(&mut out, b"refused", refused_calls(events))?;
     put_count(&mut out, b"begins", begins(events))?;
     put_count(&mut out, b"cut", cut as usize)?;
-    put_count(&mut out, b"waits", wait_lines(input, events, &uses))?;
+    put_count(&mut out, b"waits", wait_lines(input, events, &notes))?;
     Ok(out)
 }

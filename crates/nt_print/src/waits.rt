@@ -6,10 +6,11 @@ ghost use Rattle.nt_script.specs.Sound.{IsSound};
 ghost use Rattle.nt_text.specs.Lines.{spaced};
 ghost use Rattle.nt_event.specs.Fitting.{events_fit};
 ghost use Rattle.nt_print.specs.Report.{thing_row, wait_fields, wait_row, wait_rows};
-ghost use Rattle.nt_print.specs.Uses.{thing_of, inserted_of, inserted_at, thing_fits, waits_at, AreUses};
+ghost use Rattle.nt_print.specs.Uses.{thing_of, inserted_of, inserted_at, thing_fits, waits_at};
+ghost use Rattle.nt_print.specs.Notes.{AreNotes};
 
 use crate::inserts::{Insert, Object};
-use crate::uses::{Uses, waiting};
+use crate::notes::{Notes, waiting};
 use nt_event::Event;
 use nt_script::Input;
 use nt_text::{put_field, put_number};
@@ -58,16 +59,16 @@ fn put_wait_of(
     out: &mut Vec<u8>,
     input: &Input,
     events: &[Event],
-    uses: &Uses,
+    notes: &Notes,
     number: usize,
 ) -> Result<(), AllocError>
     requires sound { IsSound input.now }
     requires fit { events_fit input.now.script events.now ≡ true }
-    requires uses { AreUses input.now.script events.now uses.now }
+    requires notes { AreNotes input.now.script events.now notes.now }
     requires number { number < length events.now }
     ensures { OnOk result (out.new.items ≡ out.old.items ++ rows_text (map (wait_row input.now.names) (inserted_by number (waits_at (reverse events.now) number (inserted_at events.now number))))) }
 {
-    match waiting(&input.script, events, uses, number) {
+    match waiting(&input.script, events, notes, number) {
         Some(object) => put_wait(
             out,
             input,
@@ -85,15 +86,15 @@ pub(crate) fn put_waits(
     out: &mut Vec<u8>,
     input: &Input,
     events: &[Event],
-    uses: &Uses,
+    notes: &Notes,
 ) -> Result<(), AllocError>
     requires sound { IsSound input.now }
     requires fit { events_fit input.now.script events.now ≡ true }
-    requires uses { AreUses input.now.script events.now uses.now }
+    requires notes { AreNotes input.now.script events.now notes.now }
     ensures { OnOk result (out.new.items ≡ out.old.items ++ rows_text (wait_rows input.now.names (reverse events.now))) }
 {
     for number in 0..events.len() {
-        put_wait_of(out, input, events, uses, number)?;
+        put_wait_of(out, input, events, notes, number)?;
     }
     Ok(())
 }
