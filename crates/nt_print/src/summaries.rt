@@ -1,5 +1,5 @@
 //! The summary of a history.
-ghost use Rattle.std.specs.Prelude.{◌≡◌, ◌++◌, ◌<◌, ◌≤◌, true, count_by, length, reverse, IfOk, OnOk};
+ghost use Rattle.std.specs.Prelude.{◌≡◌, ◌++◌, ◌<◌, ◌≤◌, true, length, reverse, IfOk, OnOk};
 ghost use Rattle.nt_text.specs.Lines.{row_text};
 ghost use Rattle.nt_event.specs.Fate.{inserted_by};
 ghost use Rattle.nt_event.specs.Fitting.{events_fit};
@@ -85,25 +85,33 @@ fn is_begin(what: &What) -> bool
     }
 }
 
-fn calls(events: &[Event]) -> usize
-    ensures { result ≡ how_many is_call events.now }
-{
-    events.iter().filter(|event| is_call(&event.what)).count()
+/// How many events of a history were calls, refused calls and begins.
+#[derive(Clone, Copy)]
+struct Tally {
+    calls: usize,
+    refused: usize,
+    begins: usize,
 }
 
-fn refused_calls(events: &[Event]) -> usize
-    ensures { result ≡ how_many is_refused_call events.now }
+/// Counts calls, refused calls and begins, in one pass over the events.
+fn tally_of(events: &[Event]) -> Tally
+    ensures calls { result.calls ≡ how_many is_call events.now }
+    ensures refused { result.refused ≡ how_many is_refused_call events.now }
+    ensures begins { result.begins ≡ how_many is_begin events.now }
 {
-    events
-        .iter()
-        .filter(|event| is_refused_call(&event.what))
-        .count()
-}
-
-fn begins(events: &[Event]) -> usize
-    ensures { result ≡ how_many is_begin events.now }
-{
-    events.iter().filter(|event| is_begin(&event.what)).count()
+    let mut calls = 0;
+    let mut refused = 0;
+    let mut begins = 0;
+    for event in events {
+        calls += usize::from(is_call(&event.what));
+        refused += usize::from(is_refused_call(&event.what));
+        begins += usize::from(is_begin(&event.what));
+    }
+    Tally {
+        calls,
+        refused,
+        begins,
+    }
 }
 
 /// One for a processor that made as many events as it may, else none.
@@ -180,11 +188,12 @@ pub fn summary(alloc: Global, input: &Input, history: &History) -> Result<Vec<u8
     let events = history.events.as_slice();
     let notes = notes_of(alloc, &input.script, events)?;
     let cut = cut_lines(input.script.cpus, notes.made.as_slice(), history);
+    let tally = tally_of(events);
     let mut out = Vec::new(alloc);
     put_count(&mut out, b"events", events.len())?;
-    put_count(&mut out, b"calls", calls(events))?;
-    put_count(&mut out, b"refused", refused_calls(events))?;
-    put_count(&mut out, b"begins", begins(events))?;
+    put_count(&mut out, b"calls", tally.calls)?;
+    put_count(&mut out, b"refused", tally.refused)?;
+    put_count(&mut out, b"begins", tally.begins)?;
     put_count(&mut out, b"cut", cut as usize)?;
     put_count(&mut out, b"waits", wait_lines(input, events, &notes))?;
     Ok(out)

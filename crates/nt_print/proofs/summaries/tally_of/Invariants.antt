@@ -1,0 +1,10 @@
+use Rattle.std.proofs.Common.{◌≡◌, take}
+use Rattle.nt_print.specs.Summary.{how_many, is_begin, is_call, is_refused_call}
+use Rattle.nt_print.proofs.summaries.tally_of.Given as goal
+
+abbrev pub invariant-loop-event : goal.invariant-loop-event
+invariant-loop-event l = record {
+  calls : l.calls ≡ how_many is_call (take l.event-index l.events);
+  refused : l.refused ≡ how_many is_refused_call (take l.event-index l.events);
+  begins : l.begins ≡ how_many is_begin (take l.event-index l.events);
+}
