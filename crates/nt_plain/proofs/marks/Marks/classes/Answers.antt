@@ -1,21 +1,15 @@
-use Rattle.std.proofs.Common.{length, sym, ◌∙◌}
-use Rattle.std.proofs.lemmas.Bool.{ltb-false, ltb-true}
-use Rattle.nt_plain.proofs.AllRows.{none_read, row_below, row_read, some_read}
+use Rattle.std.proofs.Common.{sym, vec_capacity, ◌∙◌}
+use Rattle.nt_plain.proofs.AllRows.{found, missing, row_read}
 use Rattle.nt_plain.proofs.marks.Marks.classes.Goals as goal
 
-pub returns-in-Some : goal.returns-in-Some
-returns-in-Some c =
-    let rows = c.self.inside.rows.items in
-    let read = c.deref.result.now in
-    let low = row_below c.self.inside.count rows c.args.row c.args.self.now c.self.view_is c.requires in
-    some_read rows read c.args.row c.in-Some.classes.now c.deref.ensures.value (ltb-true c.args.row (length read) (sym c.in-Some.ensures.lookup.0))
-    c.in-Some.ensures.lookup.1
-    ∙ row_read c.self.inside.count rows c.args.row c.args.self.now c.self.view_is low
+pub returns-in-Ok : goal.returns-in-Ok
+returns-in-Ok c =
+    found 0 (vec_capacity c.self.inside.marked) c.in-Ok.place c.args.row c.index.result.now c.self.inside.marked.items c.self.invariant.1
+    (rw c.as_slice.ensures.value at c.in-Ok.ensures.found) c.index.ensures
+    ∙ row_read c.self.inside.count c.self.inside.marked.items c.args.row c.args.self.now c.self.view_is c.requires
 
-pub returns-in-None : goal.returns-in-None
-returns-in-None c =
-    let rows = c.self.inside.rows.items in
-    let read = c.deref.result.now in
-    let low = row_below c.self.inside.count rows c.args.row c.args.self.now c.self.view_is c.requires in
-    none_read rows read c.args.row c.deref.ensures.value (ltb-false c.args.row (length read) (sym c.in-None.ensures.lookup.0))
-    ∙ row_read c.self.inside.count rows c.args.row c.args.self.now c.self.view_is low
+pub returns-in-Err : goal.returns-in-Err
+returns-in-Err c =
+    sym (missing 0 (vec_capacity c.self.inside.marked) c.in-Err.field-0 c.args.row c.self.inside.marked.items c.self.invariant.1
+    (rw c.as_slice.ensures.value at c.in-Err.ensures.missing))
+    ∙ row_read c.self.inside.count c.self.inside.marked.items c.args.row c.args.self.now c.self.view_is c.requires

@@ -1,15 +1,21 @@
-use Rattle.std.proofs.Common.{arith}
-use Rattle.nt_plain.proofs.AllRows.{row_below, rows_marked}
+use Rattle.std.proofs.Common.{arith, vec_capacity, ◌*◌, ◌%◌, ◌^◌, ◌<◌}
+use Rattle.nt_plain.proofs.AllRows.{rises_with, row_below, rows_marked}
 use Rattle.nt_plain.proofs.marks.Marks.mark.Goals as goal
 
-pub reach-requires : goal.reach-requires
-reach-requires c =
-    let low = row_below c.self.inside.count c.self.inside.rows.items c.args.row c.args.self.now c.self.view_is c.requires.row in
-    let room = c.self.invariant in
-    omega (arith, low, room)
+pub put-requires-clause-row : goal.put-requires-clause-row
+put-requires-clause-row c =
+    let low = row_below c.self.inside.count c.self.inside.marked.items c.args.row c.args.self.now c.self.view_is c.requires.row in
+    omega (arith, low, c.self.invariant.0)
+
+pub invariant_of-self : goal.invariant_of-self
+invariant_of-self c =
+    let rows = c.self.inside.marked.items in
+    let low = row_below c.self.inside.count rows c.args.row c.args.self.now c.self.view_is c.requires.row in
+    let room : c.args.row < vec_capacity c.self.inside.marked = omega (arith, low, c.self.invariant.0) in
+    let rises = rises_with 0 (vec_capacity c.self.inside.marked) c.args.row (1 * 2 ^ c.args.class % 2 ^ 16) rows c.self.invariant.1 (omega arith) room in
+    rw (c.put.ensures.room, c.put.ensures.items) (c.self.invariant.0, rises)
 
 pub returns : goal.returns
 returns c =
-    let low = row_below c.self.inside.count c.self.inside.rows.items c.args.row c.args.self.now c.self.view_is c.requires.row in
-    rows_marked c.self.inside.count c.self.inside.rows.items c.reach.new.rows.items c.args.row c.index-old.result.now _ c.args.self.now c.self.view_is
-    c.reach.ensures.values c.reach.ensures.length low c.index-old.ensures
+    rw c.put.ensures.items (rows_marked c.self.inside.count (vec_capacity c.self.inside.marked) c.args.row (1 * 2 ^ c.args.class % 2 ^ 16)
+    c.self.inside.marked.items c.args.self.now c.self.invariant.1 c.self.view_is c.requires.row)
