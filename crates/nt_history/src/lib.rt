@@ -1,0 +1,74 @@
+//! The events of a history in little memory.
+//!
+//! An [`Event`](nt_event::Event) takes the room of the values of a look, and most events are none. [`Events`] keeps a [`Brief`] for each
+//! event, which is all of it but the values of a look, and the values of the looks beside. Contracts see the list of the events.
+#![tactic(auto)]
+
+mod brief;
+mod events;
+mod history;
+mod recorder;
+
+pub use brief::{Brief, Did};
+pub use events::{Briefs, Events};
+pub use history::History;
+pub use recorder::Recorder;
+
+#[cfg(test)]
+mod tests {
+    use super::{Did, Events, History, Recorder};
+    use nt_event::{CpuNo, Event, Level, Rises, ThreadNo, What};
+    use std::alloc::AllocError;
+
+    /// A look of processor 1, in which each class rises to this.
+    fn look(value: u64) -> Event {
+        Event {
+            cpu: CpuNo(1),
+            thread: None,
+            level: Level::PASSIVE,
+            what: What::Look {
+                rises: Rises { value: [value; 16] },
+            },
+        }
+    }
+
+    /// Thread 300 is gone from processor 2.
+    fn gone() -> Event {
+        Event {
+            cpu: CpuNo(2),
+            thread: Some(ThreadNo(300)),
+            level: Level::APC,
+            what: What::Gone {
+                thread: ThreadNo(300),
+            },
+        }
+    }
+
+    #[test]
+    fn each_look_has_its_values(rt: HostRuntime) -> Result<(), AllocError> {
+        let given = [look(1), gone(), look(2)];
+        let history = History::new(7, Events::of(rt.alloc(), &given)?);
+        assert_eq!(rt; history.turns(), 7);
+        assert_eq!(rt; history.len(), 3);
+        let lent = history.lend();
+        for number in 0..given.len() {
+            assert_eq!(rt; lent.event(number), given[number]);
+        }
+        assert!(rt; matches!(lent.briefs[1].did, Did::Gone { .. }));
+        Ok(())
+    }
+
+    #[test]
+    fn a_recorder_has_room(rt: HostRuntime) -> Result<(), AllocError> {
+        let mut recorder = Recorder::new(rt.alloc(), 2)?;
+        assert_eq!(rt; recorder.last_cpu(), None);
+        recorder.put(&look(5));
+        recorder.put(&gone());
+        assert_eq!(rt; recorder.len(), 2);
+        assert_eq!(rt; recorder.last_cpu(), Some(CpuNo(2)));
+        let events = recorder.finish();
+        assert!(rt; !events.is_empty());
+        assert_eq!(rt; events.lend().event(0), look(5));
+        Ok(())
+    }
+}
