@@ -2,14 +2,11 @@
 use Rattle.std.proofs.Common.{arith, ap, sym, ◌∙◌}
 use Rattle.std.proofs.lemmas.Bool.Decides.{nat_tests}
 use Rattle.std.proofs.lemmas.List.{get_or-set_other, get_or-set_same, length-set}
-use Rattle.std.specs.Prelude.{Bool, List, None, false, get_or, if◌then◌else◌, length, refl, set, true, ℕ, ◌<◌, ◌==◌, ◌≡◌, ◌≢◌, ◌≤◌}
-use Rattle.nt_event.specs.declared.events.Begun.TheVariants.{Int}
+use Rattle.std.specs.Prelude.{Bool, List, false, get_or, if◌then◌else◌, length, refl, set, true, ℕ, ◌<◌, ◌==◌, ◌≡◌, ◌≢◌, ◌≤◌}
 use Rattle.nt_event.specs.declared.events.What.{What}
-use Rattle.nt_event.specs.declared.events.What.TheVariants.{Begin, Clean}
-use Rattle.nt_event.specs.Requests.{served_after}
+use Rattle.nt_event.specs.Requests.{served_after, serves}
 use Rattle.nt_event.specs.Lists.{table, value_at}
 use Rattle.nt_event.proofs.Tables.{is_table, table-same}
-use Rattle.nt_cpu.specs.Due.{served_class}
 
 -- sixteen values are their table
 pub values_table : (xs : List ℕ) → length xs ≡ 16 → xs ≡ table 16 (λ c. value_at xs c)
@@ -25,17 +22,11 @@ set_table xs k v l h =
         let j : i ≡ k = grind (arith, nat_tests) in rw j (get_or-set_same xs k v 0 (omega (arith, l)))
     go i false e = let n : i ≢ k = λ j. grind (arith, nat_tests) in get_or-set_other xs k i v 0 n
 
--- an event serves its class, and no other
-pub serves_class : (w : What) (c seen old : ℕ) → served_class w ≡ None → served_after w c seen old ≡ old
-serves_class (Clean class) c seen old h = absurd cc
-serves_class (Begin (Int level) from) c seen old h = absurd cc
-serves_class _ c seen old h = refl
-
 -- an event that serves no class leaves the values
-pub serves_none : (w : What) (seen xs : List ℕ) → length xs ≡ 16 → served_class w ≡ None → xs
+pub serves_none : (w : What) (seen xs : List ℕ) → length xs ≡ 16 → ((c : ℕ) → serves c w ≡ false) → xs
     ≡ table 16 (λ c. served_after w c (value_at seen c) (value_at xs c))
 serves_none w seen xs l h =
-    values_table xs l ∙ table-same 16 _ _ (λ c b. sym (serves_class w c (value_at seen c) (value_at xs c) h))
+    values_table xs l ∙ table-same 16 _ _ (λ c b. sym (ap (λ (s : Bool). if s then value_at seen c else value_at xs c) (h c)))
 
 -- a class above 15 is none of them
 pub serves_far : (xs ys : List ℕ) (k : ℕ) → length xs ≡ 16 → 16 ≤ k → xs ≡ table 16 (λ c. if k == c then value_at ys c else value_at xs c)

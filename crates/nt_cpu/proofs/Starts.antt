@@ -12,6 +12,7 @@ use Rattle.nt_event.specs.Lists.{table}
 use Rattle.nt_event.proofs.Tables.{get_or-table, length-table_from}
 use Rattle.nt_frame.specs.Changes.{no_frames}
 use Rattle.nt_frame.proofs.Nested.{nested_start}
+use Rattle.nt_cpu.specs.declared.keeping.Kept.{Kept}
 use Rattle.nt_cpu.specs.Sound.{EndsInBase, IsSmall, IsSmallPart, IsSound}
 use Rattle.nt_cpu.proofs.Small.{part_nil}
 
@@ -20,8 +21,9 @@ each_empty P n h =
     All-from_get_or P _ [] (λ i b. let k : i < n = omega (arith, length-table_from {A = List Frame} 0 n (λ _. [])) in
     rw (get_or-table {A = List Frame} n i (λ _. []) [] k) h)
 
-pub sound_start : (s : Script) (p : CpuNo) (n : ℕ) (fs : Frames) (seen served : List ℕ) → IsTrue (fits s) → IsTrue (has_cpu s p) → n ≤ TURNS → fs
-    ≡ no_frames (length s.threads) → seen ≡ table 16 (λ c. 0) → served ≡ table 16 (λ c. 0) →
+pub sound_start : (s : Script) (p : CpuNo) (n : ℕ) (fs : Frames) (seen : List ℕ) (kept : Kept) → IsTrue (fits s) → IsTrue (has_cpu s p) → n ≤ TURNS → fs
+    ≡ no_frames (length s.threads) → seen ≡ table 16 (λ c. 0) → kept
+    ≡ record { served = table 16 (λ c. 0); rested = false; took = None; fire = None; sweep = false } →
     IsSound (record {
       script = s;
       cpu = p;
@@ -30,21 +32,21 @@ pub sound_start : (s : Script) (p : CpuNo) (n : ℕ) (fs : Frames) (seen served 
         made = 0;
         frames = fs;
         seen = seen;
-        served = served;
-        rested = false;
-        took = None;
-        fire = None;
-        sweep = false;
+        served = kept.served;
+        rested = kept.rested;
+        took = kept.took;
+        fire = kept.fire;
+        sweep = kept.sweep;
       };
     })
-sound_start s p n fs seen served f q l e a b =
-    rw (e) (record {
+sound_start s p n fs seen kept f q l e a b =
+    rw (e, b) (record {
       script = f;
       cpu = q;
       limit = l;
       made = omega arith;
       seen = ap (λ (xs : List ℕ). length xs) a ∙ length-table_from 0 16 (λ c. 0);
-      served = ap (λ (xs : List ℕ). length xs) b ∙ length-table_from 0 16 (λ c. 0);
+      served = length-table_from 0 16 (λ c. 0);
       threads = length-table_from {A = List Frame} 0 (length s.threads) (λ _. []);
       nested = nested_start (length s.threads);
       small = record { own = All-nil (IsSmall 0); threads = each_empty (IsSmallPart 0) (length s.threads) (part_nil 0) };

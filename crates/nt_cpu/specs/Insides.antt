@@ -15,14 +15,14 @@ state_in a =
         made = a.made;
         frames = a.frames;
         seen = a.seen;
-        served = a.served;
-        rested = a.rested;
-        took = a.took;
-        fire = a.fire;
-        sweep = a.sweep;
+        served = a.kept.served;
+        rested = a.kept.rested;
+        took = a.kept.took;
+        fire = a.kept.fire;
+        sweep = a.kept.sweep;
       };
     }
 
 pub record IsSoundInside (a : Inside) : Type 0 where
   pub sound : IsSound (state_in a)
-  pub due : a.due ≡ greatest_due a.seen a.served
+  pub due : a.due ≡ greatest_due a.seen a.kept.served

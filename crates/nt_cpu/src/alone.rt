@@ -123,7 +123,7 @@ impl<'s> Cpu<'s> {
             below,
             after: self.frames.after(),
             again,
-            sweep: self.sweep,
+            sweep: self.kept.sweep,
         }
     }
 

@@ -6,9 +6,10 @@ ghost use Rattle.nt_event.specs.Script.{fits, has_cpu};
 ghost use Rattle.nt_event.specs.Step.{is_cut};
 ghost use Rattle.nt_cpu.specs.Sound.{IsSound};
 
+use crate::keeping::Kept;
 use crate::values::Values;
 use nt_event::limits::TURNS;
-use nt_event::{CpuNo, DpcNo, Rises, Script, ThreadNo};
+use nt_event::{CpuNo, Rises, Script, ThreadNo};
 use nt_frame::Frames;
 use std::alloc::{AllocError, Global};
 use std::marker::Model;
@@ -22,13 +23,9 @@ pub struct Cpu<'s> {
     pub(crate) made: u32,
     pub(crate) frames: Frames,
     pub(crate) seen: Values,
-    pub(crate) served: Values,
+    pub(crate) kept: Kept,
     /// The greatest class of an interrupt that was noticed and not served.
     pub(crate) due: Option<u8>,
-    pub(crate) rested: bool,
-    pub(crate) took: Option<ThreadNo>,
-    pub(crate) fire: Option<DpcNo>,
-    pub(crate) sweep: bool,
 }
 
 impl<'s> Model for Cpu<'s> {
@@ -65,12 +62,8 @@ impl<'s> Cpu<'s> {
             made: 0,
             frames: Frames::new(alloc, cpu, script.thread_count())?,
             seen: Values::new(),
-            served: Values::new(),
+            kept: Kept::new(),
             due: None,
-            rested: false,
-            took: None,
-            fire: None,
-            sweep: false,
         })
     }
 
@@ -99,14 +92,14 @@ impl<'s> Cpu<'s> {
     pub fn took(&self) -> Option<ThreadNo>
         ensures { result ≡ self.now.own.took }
     {
-        self.took
+        self.kept.took
     }
 
     /// Whether its last event is Rest and nothing must be done.
     pub fn rests(&self) -> bool
         ensures { result ≡ rests_in self.now.own }
     {
-        self.rested && !self.must()
+        self.kept.rested && !self.must()
     }
 
     /// Whether it may take up a thread: it is not cut, no thread runs, no frame stands on its own part, and nothing must be done.

@@ -92,7 +92,7 @@ impl<'s> Cpu<'s> {
         if self.rests() {
             None
         } else if self.is_free() {
-            Some(Plan::Shared(Job::Pick(self.took)))
+            Some(Plan::Shared(Job::Pick(self.kept.took)))
         } else {
             self.task()
         }

@@ -10,7 +10,6 @@ ghost use Rattle.nt_cpu.specs.Notices.{HasClass, notice_of};
 use crate::cpu::Cpu;
 use crate::due::greatest_due;
 use crate::framing::apply;
-use crate::keeping::{fire_after, is_rest, serve, sweep_after, took_after};
 use crate::notice::Notice;
 use nt_event::Event;
 use nt_frame::Frames;
@@ -35,14 +34,9 @@ impl<'s> Cpu<'s> {
     {
         apply(&mut self.frames, self.script, event, n, due);
         nested(&self.frames);
-        let what = &event.what;
         self.made += 1;
         let noticed = self.seen.notice(notice);
-        let serves = serve(&mut self.served, &self.seen, what);
-        self.due = greatest_due(self.due, !noticed && !serves, &self.seen, &self.served);
-        self.rested = is_rest(what);
-        self.took = took_after(what, self.took);
-        self.fire = fire_after(self.script, what, self.fire);
-        self.sweep = sweep_after(what, self.sweep);
+        let serves = self.kept.take_up(self.script, &event.what, &self.seen);
+        self.due = greatest_due(self.due, !noticed && !serves, &self.seen, &self.kept.served);
     }
 }

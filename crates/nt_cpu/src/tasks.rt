@@ -29,7 +29,7 @@ impl<'s> Cpu<'s> {
         requires { class < 16 }
         ensures { result ≡ due_in self.now.own class }
     {
-        is_due(&self.seen, &self.served, class)
+        is_due(&self.seen, &self.kept.served, class)
     }
 
     fn due_interrupt(&self) -> Option<u8>
@@ -59,7 +59,7 @@ impl<'s> Cpu<'s> {
     fn may_drain(&self) -> bool
         ensures { result ≡ drain_in self.now.own }
     {
-        self.level().number() < 2 && (self.is_due(2) || self.sweep)
+        self.level().number() < 2 && (self.is_due(2) || self.kept.sweep)
     }
 
     /// Kernel APCs, at PASSIVE_LEVEL in a thread.
@@ -80,7 +80,7 @@ impl<'s> Cpu<'s> {
     fn must_task<'p>(&self) -> Option<Plan<'p>>
         ensures { planned result ≡ must_of self.now.own }
     {
-        if let Some(dpc) = self.fire {
+        if let Some(dpc) = self.kept.fire {
             return Some(Plan::Shared(Job::Fire(dpc)));
         }
         if let Some(class) = self.due_interrupt() {
@@ -102,7 +102,7 @@ impl<'s> Cpu<'s> {
     pub(crate) fn must(&self) -> bool
         ensures { result ≡ must_in self.now.own }
     {
-        if self.fire.is_some() || self.due_interrupt().is_some() {
+        if self.kept.fire.is_some() || self.due_interrupt().is_some() {
             return true;
         }
         self.may_drain() || self.may_apcs() || self.may_threaded()
@@ -149,7 +149,7 @@ impl<'s> Cpu<'s> {
     fn idle_task<'p>(&self) -> Option<Plan<'p>>
         ensures { planned result ≡ idle_of self.now.own }
     {
-        if !(self.rested && self.frames.running().is_none()) {
+        if !(self.kept.rested && self.frames.running().is_none()) {
             Some(Plan::Shared(Job::Idle))
         } else {
             None

@@ -13,21 +13,21 @@ pub returns-clause-value : goal.returns-clause-value
 returns-clause-value c =
     let i = c.self.inside in
     let level = c.number.ensures.same ∙ (c.level.ensures ∙ ap (λ (x : CpuState). level_at x.own) (sym c.self.view_is)) in
-    let here : c.above_level.result ≡ above_level (level_at (state_in i).own) (greatest_due i.seen i.served) = c.above_level.ensures
+    let here : c.above_level.result ≡ above_level (level_at (state_in i).own) (greatest_due i.seen i.kept.served) = c.above_level.ensures
     ∙ (ap (λ (o : Option ℕ). above_level c.number.result o) c.self.invariant.due
-    ∙ ap (λ (n : ℕ). above_level n (greatest_due i.seen i.served)) level) in
+    ∙ ap (λ (n : ℕ). above_level n (greatest_due i.seen i.kept.served)) level) in
     subst (λ (x : CpuState). c.above_level.result ≡ find (may_interrupt x.own) interrupt_classes) c.self.view_is
-    (here ∙ sym (due_found (level_at (state_in i).own) i.seen i.served))
+    (here ∙ sym (due_found (level_at (state_in i).own) i.seen i.kept.served))
 
 pub returns-clause-class : goal.returns-clause-class
 returns-clause-class c =
     let i = c.self.inside in
     let here = c.above_level.ensures ∙ ap (λ (o : Option ℕ). above_level c.number.result o) c.self.invariant.due in
-    subst (λ (o : Option ℕ). IfSome o (λ n. n < 16)) (sym here) (due_class c.number.result i.seen i.served).0
+    subst (λ (o : Option ℕ). IfSome o (λ n. n < 16)) (sym here) (due_class c.number.result i.seen i.kept.served).0
 
 pub returns-clause-asked : goal.returns-clause-asked
 returns-clause-asked c =
     let i = c.self.inside in
     let here = c.above_level.ensures ∙ ap (λ (o : Option ℕ). above_level c.number.result o) c.self.invariant.due in
     subst (λ (x : CpuState). IfSome c.above_level.result (λ n. 0 < value_at x.own.seen n)) c.self.view_is
-    (subst (λ (o : Option ℕ). IfSome o (λ n. 0 < value_at i.seen n)) (sym here) (due_class c.number.result i.seen i.served).1)
+    (subst (λ (o : Option ℕ). IfSome o (λ n. 0 < value_at i.seen n)) (sym here) (due_class c.number.result i.seen i.kept.served).1)

@@ -1,0 +1,62 @@
+use Rattle.std.proofs.Common.{ap, sym, ◌∙◌}
+use Rattle.nt_event.specs.declared.events.What.{What}
+use Rattle.nt_event.specs.Lists.{table, value_at}
+use Rattle.nt_event.specs.Regions.{sweep_after}
+use Rattle.nt_event.specs.Requests.{served_after, serves}
+use Rattle.nt_cpu.proofs.Served.{serves_none}
+use Rattle.nt_cpu.proofs.keeping.Kept.take_up.Goals as goal
+
+pub returns-in-Switch-clause-served : goal.returns-in-Switch-clause-served
+returns-in-Switch-clause-served c =
+    serves_none c.args.what.now c.args.seen.now c.args.self.now.served c.requires (λ k. ap (serves k) c.in-Switch.is)
+
+pub returns-in-Expire-clause-served : goal.returns-in-Expire-clause-served
+returns-in-Expire-clause-served c =
+    serves_none c.args.what.now c.args.seen.now c.args.self.now.served c.requires (λ k. ap (serves k) c.in-Expire.is)
+
+pub returns-in-Fire-clause-served : goal.returns-in-Fire-clause-served
+returns-in-Fire-clause-served c =
+    serves_none c.args.what.now c.args.seen.now c.args.self.now.served c.requires (λ k. ap (serves k) c.in-Fire.is)
+
+pub returns-in-Call-clause-served : goal.returns-in-Call-clause-served
+returns-in-Call-clause-served c =
+    serves_none c.args.what.now c.args.seen.now c.args.self.now.served c.requires (λ k. ap (serves k) c.in-Call.is)
+
+pub returns-in-Rest-clause-served : goal.returns-in-Rest-clause-served
+returns-in-Rest-clause-served c =
+    serves_none c.args.what.now c.args.seen.now c.args.self.now.served c.requires (λ k. ap (serves k) c.in-Rest.is)
+
+pub returns-in-Look-clause-served : goal.returns-in-Look-clause-served
+returns-in-Look-clause-served c =
+    serves_none c.args.what.now c.args.seen.now c.args.self.now.served c.requires (λ k. ap (serves k) c.in-Look.is)
+
+pub returns-in-Normal-clause-served : goal.returns-in-Normal-clause-served
+returns-in-Normal-clause-served c =
+    serves_none c.args.what.now c.args.seen.now c.args.self.now.served c.requires (λ k. ap (serves k) c.in-Normal.is)
+
+pub returns-in-End-clause-served : goal.returns-in-End-clause-served
+returns-in-End-clause-served c =
+    serves_none c.args.what.now c.args.seen.now c.args.self.now.served c.requires (λ k. ap (serves k) c.in-End.is)
+
+pub returns-in-Rewait-clause-served : goal.returns-in-Rewait-clause-served
+returns-in-Rewait-clause-served c =
+    serves_none c.args.what.now c.args.seen.now c.args.self.now.served c.requires (λ k. ap (serves k) c.in-Rewait.is)
+
+pub returns-in-Flush-clause-served : goal.returns-in-Flush-clause-served
+returns-in-Flush-clause-served c =
+    serves_none c.args.what.now c.args.seen.now c.args.self.now.served c.requires (λ k. ap (serves k) c.in-Flush.is)
+
+pub returns-in-Gone-clause-served : goal.returns-in-Gone-clause-served
+returns-in-Gone-clause-served c =
+    serves_none c.args.what.now c.args.seen.now c.args.self.now.served c.requires (λ k. ap (serves k) c.in-Gone.is)
+
+pub returns-in-Begin-clause-served : goal.returns-in-Begin-clause-served
+returns-in-Begin-clause-served c =
+    let k = c.in-Begin in
+    c.begin.ensures.served k.from
+    ∙ ap (λ (w : What). table 16 (λ i. served_after w i (value_at c.args.seen.now i) (value_at c.args.self.now.served i))) (sym k.is)
+
+pub returns-in-Call-clause-sweep : goal.returns-in-Call-clause-sweep
+returns-in-Call-clause-sweep c =
+    let k = c.in-Call in
+    c.sweep_after-self.ensures k.frame ∙ ap (λ (w : What). sweep_after w c.args.self.now.sweep) (sym k.is)
