@@ -187,6 +187,10 @@ pub task_of_frame : (s : Script) (p : CpuNo) (x : Own) (f : Frame) → must_task
 task_of_frame s p x f m i =
     rw (m, i) (or_frame (rewait_task f) (rundown_task f) (command_task x f (next_command s p f)) (normal_task f) (end_task f.name f.body) (idle_task x))
 
+-- where nothing must be done and there is no frame, the processor rests or seeks something to do
+pub task_of_none : (s : Script) (p : CpuNo) (x : Own) → must_task x ≡ None → innermost x.frames ≡ None → task s p x ≡ idle_task x
+task_of_none s p x m i = rw (m, i) refl
+
 pub none_of : {A : Type 0} (o : Option A) → is_some o ≡ false → o ≡ None
 none_of None h = refl
 none_of (Some x) h = absurd cc

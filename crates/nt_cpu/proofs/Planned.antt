@@ -5,6 +5,7 @@ use Rattle.std.specs.Prelude.{Bool, List, None, Option, Some, if◌then◌else�
 use Rattle.nt_event.specs.declared.commands.Command.{Command}
 use Rattle.nt_event.specs.declared.commands.Command.TheVariants.{ToUser}
 use Rattle.nt_event.specs.declared.commands.Regions.{Regions}
+use Rattle.nt_event.specs.declared.events.Event.{Event}
 use Rattle.nt_event.specs.declared.events.Rises.{Rises}
 use Rattle.nt_event.specs.declared.events.What.TheVariants.{Look}
 use Rattle.nt_event.specs.declared.frames.Frame.{Frame}
@@ -15,21 +16,30 @@ use Rattle.nt_event.specs.Commands.{refusal}
 use Rattle.nt_event.specs.Jobs.{chosen_task}
 use Rattle.nt_event.specs.Lists.{value_at}
 use Rattle.nt_event.specs.Robin.{look_values}
+use Rattle.nt_cpu.specs.Alone.{alone_event}
 use Rattle.nt_cpu.specs.States.{CpuState}
 use Rattle.nt_cpu.specs.Steps.{local_task}
-use Rattle.nt_cpu.specs.declared.plan.Deed.{Deed}
 use Rattle.nt_cpu.specs.declared.plan.Plan.{Plan}
 use Rattle.nt_cpu.specs.declared.plan.Plan.TheVariants.{Alone, Shared}
-use Rattle.nt_cpu.specs.Plans.{planned, what_in}
+use Rattle.nt_cpu.specs.Plans.{IsWritten, planned}
 
-pub planned_alone : (o : Option Plan) (d : Deed) → o ≡ Some (Alone d) → planned o ≡ Some (task.Alone (what_in d))
-planned_alone o d h = ap planned h
+pub planned_alone : (e : Event) (o : Option Plan) → o ≡ Some Alone → planned e o ≡ Some (task.Alone e.what)
+planned_alone e o h = ap (planned e) h
 
-pub planned_shared : (o : Option Plan) (job : Job) → o ≡ Some (Shared job) → planned o ≡ Some (task.Shared job)
-planned_shared o job h = ap planned h
+pub planned_shared : (e : Event) (o : Option Plan) (job : Job) → o ≡ Some (Shared job) → planned e o ≡ Some (task.Shared job)
+planned_shared e o job h = ap (planned e) h
 
-pub planned_none : (o : Option Plan) → o ≡ None → planned o ≡ None
-planned_none o h = ap planned h
+pub planned_none : (e : Event) (o : Option Plan) → o ≡ None → planned e o ≡ None
+planned_none e o h = ap (planned e) h
+
+-- an event that touches no lane was written whole
+pub written_alone : (c : CpuState) (old new : Event) (o : Option Plan) → IsWritten c old new o → o ≡ Some Alone → new
+    ≡ alone_event c.cpu new.what c.own.frames
+written_alone c old new o w h = rw h at w
+
+-- where there is nothing to do, nothing was written
+pub unwritten_none : (c : CpuState) (old new : Event) (o : Option Plan) → IsWritten c old new o → o ≡ None → new ≡ old
+unwritten_none c old new o w h = rw h at w
 
 -- what a processor has to do after looks, by the values that rose
 pub local_is : (c : CpuState) (answers : List ℕ) (r : Rises) (o : Option Task) → r.value ≡ look_values c.own (value_at answers) → o

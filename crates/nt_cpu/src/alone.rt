@@ -1,18 +1,18 @@
 //! Events that touch no lane.
 ghost use Rattle.std.specs.Prelude.{◌≡◌, ◌<◌, ◌≤◌, ◌+◌, ◌^◌, ◌||◌, ℕ, IfSome};
+ghost use Rattle.nt_event.specs.declared.events.Begun.{Begun};
+ghost use Rattle.nt_event.specs.declared.events.What.{What};
 ghost use Rattle.nt_event.specs.Own.{stand_in};
 ghost use Rattle.nt_event.specs.Regions.{some_came_to_0};
 ghost use Rattle.nt_event.specs.Lists.{value_at};
 ghost use Rattle.nt_floor.specs.Views.{HasWord, View};
 ghost use Rattle.nt_frame.specs.Nesting.{AreNamedBelow};
 ghost use Rattle.nt_cpu.specs.Notices.{HasClass, notice_of};
-ghost use Rattle.nt_cpu.specs.Plans.{what_in};
 ghost use Rattle.nt_cpu.specs.Alone.{IsAlone, IsMarkedFor, MayBe, alone_asks, alone_event, ask_when as asked_when, call_asks as call_asks_of, call_level as call_level_of, is_normal_end as ends_normal, noticed as noticed_of};
 
 use crate::cpu::Cpu;
 use crate::notice::Notice;
-use crate::plan::Deed;
-use nt_event::{ApcKind, Begun, Body, Command, CpuNo, Event, Level, Reply, Stand, What};
+use nt_event::{ApcKind, Begun, Body, Command, CpuNo, Event, Level, Reply, Rises, Stand, What};
 use nt_floor::Words;
 
 /// A class of a processor for which an event asks.
@@ -194,83 +194,87 @@ impl<'s> Cpu<'s> {
         }
     }
 
-    /// Makes the event that does this and touches no lane: draws its number, marks what it asks for, and writes it.
-    pub(crate) fn make_alone<W: Words>(&mut self, words: &mut W, deed: &Deed, event: &mut Event)
+    /// Makes the event that stands in its place and touches no lane: draws its number, marks what it asks for, and takes it up.
+    pub(crate) fn make_alone<W: Words>(&mut self, words: &mut W, event: &Event)
         requires room { self.old.own.made < self.old.limit }
         requires drawable { 1 ≤ (W.view words.old).drawable }
         requires cpus { (W.view words.old).cpus ≡ self.old.script.cpus }
         requires named { AreNamedBelow (W.view words.old).next self.old.own.frames }
-        requires may { MayBe self.old (what_in deed.now) }
-        ensures event { event.new ≡ alone_event self.old.cpu (what_in deed.now) self.old.own.frames }
-        ensures made { (n : ℕ) × (u : View) × IsAlone self.old self.new (what_in deed.now) n (W.view words.old) u (W.view words.new) }
+        requires event { event.now ≡ alone_event self.old.cpu event.now.what self.old.own.frames }
+        requires may { MayBe self.old event.now.what }
+        ensures made { (n : ℕ) × (u : View) × IsAlone self.old self.new event.now.what n (W.view words.old) u (W.view words.new) }
         ensures grows { W.grows words.old words.new }
     {
-        self.write(deed, event);
         let asked = self.asks(&event.what);
         let n = words.draw(event);
         mark(words, asked, n);
         self.take_up(event, n, None, &noticed(self.cpu, &event.what, asked, n));
     }
 
-    /// Writes the event that does this and touches no lane.
-    #[inline(always)]
-    fn write(&self, deed: &Deed, event: &mut Event)
-        ensures { event.new ≡ alone_event self.now.cpu (what_in deed.now) self.now.own.frames }
+    /// Writes the event that notices these values.
+    pub(crate) fn write_look(&self, rises: &Rises, event: &mut Event)
+        ensures { event.new ≡ alone_event self.now.cpu (What.Look rises.now) self.now.own.frames }
     {
-        let cpu = self.cpu;
-        let thread = self.frames.running();
-        match deed {
-            Deed::Look(rises) => {
-                *event = Event {
-                    cpu,
-                    thread: None,
-                    level: Level::PASSIVE,
-                    what: What::Look { rises: **rises },
-                }
-            }
-            Deed::Call {
+        *event = Event {
+            cpu: self.cpu,
+            thread: None,
+            level: Level::PASSIVE,
+            what: What::Look { rises: *rises },
+        };
+    }
+
+    /// Writes the event that calls this command, which is refused or done at once.
+    pub(crate) fn write_call(&self, frame: u64, command: &Command, reply: Reply, event: &mut Event)
+        ensures { event.new ≡ alone_event self.now.cpu (What.Call frame command.now reply) self.now.own.frames }
+    {
+        *event = Event {
+            cpu: self.cpu,
+            thread: self.frames.running(),
+            level: call_level(command, &reply, self.frames.level()),
+            what: What::Call {
                 frame,
-                command,
+                command: *command,
                 reply,
-            } => {
-                *event = Event {
-                    cpu,
-                    thread,
-                    level: call_level(command, reply, self.frames.level()),
-                    what: What::Call {
-                        frame: *frame,
-                        command: *command,
-                        reply: *reply,
-                    },
-                }
-            }
-            Deed::Interrupt { level, from } => {
-                *event = Event {
-                    cpu,
-                    thread,
-                    level: *level,
-                    what: What::Begin {
-                        begun: Begun::Int(*level),
-                        from: *from,
-                    },
-                }
-            }
-            Deed::Normal { frame } => {
-                *event = Event {
-                    cpu,
-                    thread,
-                    level: Level::PASSIVE,
-                    what: What::Normal { frame: *frame },
-                }
-            }
-            Deed::End { frame } => {
-                *event = Event {
-                    cpu,
-                    thread,
-                    level: self.frames.after(),
-                    what: What::End { frame: *frame },
-                }
-            }
-        }
+            },
+        };
+    }
+
+    /// Writes the event that begins the routine of an interrupt, for the ask of this number.
+    pub(crate) fn write_interrupt(&self, level: Level, from: u64, event: &mut Event)
+        ensures { event.new ≡ alone_event self.now.cpu (What.Begin (Begun.Int level) from) self.now.own.frames }
+    {
+        *event = Event {
+            cpu: self.cpu,
+            thread: self.frames.running(),
+            level,
+            what: What::Begin {
+                begun: Begun::Int(level),
+                from,
+            },
+        };
+    }
+
+    /// Writes the event that goes on to the normal routine.
+    pub(crate) fn write_normal(&self, frame: u64, event: &mut Event)
+        ensures { event.new ≡ alone_event self.now.cpu (What.Normal frame) self.now.own.frames }
+    {
+        *event = Event {
+            cpu: self.cpu,
+            thread: self.frames.running(),
+            level: Level::PASSIVE,
+            what: What::Normal { frame },
+        };
+    }
+
+    /// Writes the event that ends the routine.
+    pub(crate) fn write_end(&self, frame: u64, event: &mut Event)
+        ensures { event.new ≡ alone_event self.now.cpu (What.End frame) self.now.own.frames }
+    {
+        *event = Event {
+            cpu: self.cpu,
+            thread: self.frames.running(),
+            level: self.frames.after(),
+            what: What::End { frame },
+        };
     }
 }

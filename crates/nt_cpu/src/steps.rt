@@ -4,7 +4,7 @@ ghost use Rattle.nt_event.specs.Jobs.{chosen_task as chosen_of};
 ghost use Rattle.std.specs.List.{list_any};
 ghost use Rattle.nt_event.specs.Robin.{is_behind, look_values};
 ghost use Rattle.nt_event.specs.declared.events.What.{What};
-ghost use Rattle.nt_cpu.specs.Plans.{planned};
+ghost use Rattle.nt_cpu.specs.Plans.{IsWritten, planned};
 ghost use Rattle.nt_event.specs.Own.{stand_in};
 ghost use Rattle.nt_event.specs.Step.{is_cut};
 ghost use Rattle.nt_event.specs.Lists.{value_at};
@@ -18,7 +18,7 @@ ghost use Rattle.nt_cpu.specs.Turns.{IsShared, Serves};
 
 use crate::cpu::Cpu;
 use crate::looks::some_rises;
-use crate::plan::{Deed, Plan};
+use crate::plan::Plan;
 use crate::writing::no_event;
 use nt_event::class::is_used;
 use nt_event::{CpuNo, Event, Job, Rises};
@@ -86,26 +86,29 @@ impl<'s> Cpu<'s> {
     }
 
     /// What it chooses to do: nothing where it rests; a ready thread where one may be taken up; else what is next.
-    fn chosen_task<'p>(&self) -> Option<Plan<'p>>
-        ensures { planned result ≡ chosen_of self.now.script self.now.cpu self.now.own }
+    fn chosen_task(&self, event: &mut Event) -> Option<Plan>
+        ensures task { planned event.new result ≡ chosen_of self.now.script self.now.cpu self.now.own }
+        ensures written { IsWritten self.now event.old event.new result }
     {
         if self.rests() {
             None
         } else if self.is_free() {
             Some(Plan::Shared(Job::Pick(self.kept.took)))
         } else {
-            self.task()
+            self.task(event)
         }
     }
 
     /// What it has to do after looks that found these values risen.
-    fn local_task<'p>(&self, rises: &'p Rises) -> Option<Plan<'p>>
-        ensures { planned result ≡ (if list_any (λ v. nat_lt 0 v) rises.now.value then Some (Task.Alone (What.Look rises.now)) else chosen_of self.now.script self.now.cpu self.now.own) }
+    fn local_task(&self, rises: &Rises, event: &mut Event) -> Option<Plan>
+        ensures task { planned event.new result ≡ (if list_any (λ v. nat_lt 0 v) rises.now.value then Some (Task.Alone (What.Look rises.now)) else chosen_of self.now.script self.now.cpu self.now.own) }
+        ensures written { IsWritten self.now event.old event.new result }
     {
         if some_rises(&rises.value) {
-            Some(Plan::Alone(Deed::Look(rises)))
+            self.write_look(rises, event);
+            Some(Plan::Alone)
         } else {
-            self.chosen_task()
+            self.chosen_task(event)
         }
     }
 
@@ -126,11 +129,11 @@ impl<'s> Cpu<'s> {
         }
         let answers = look_all(words, self.cpu);
         let rises = self.rises(&answers);
-        match self.local_task(&rises) {
+        let mut event = no_event();
+        match self.local_task(&rises, &mut event) {
             None => Local::Quiet,
-            Some(Plan::Alone(deed)) => {
-                let mut event = no_event();
-                self.make_alone(words, &deed, &mut event);
+            Some(Plan::Alone) => {
+                self.make_alone(words, &event);
                 Local::Did(event)
             }
             Some(Plan::Shared(job)) => Local::NeedsLane(job),

@@ -1,21 +1,22 @@
 //! What a processor has to do next, as far as it knows alone.
 ghost use Rattle.std.specs.Prelude.{◌≡◌, ◌<◌, ◌-◌, IfSome, find, not};
 ghost use Rattle.nt_event.specs.declared.events.Begun.{Begun};
+ghost use Rattle.nt_event.specs.declared.events.Event.{Event};
 ghost use Rattle.nt_event.specs.declared.events.What.{What};
-ghost use Rattle.nt_event.specs.declared.jobs.Task.{Task};
 ghost use Rattle.nt_event.specs.Commands.{refusal as refusal_of};
-ghost use Rattle.nt_event.specs.Frames.{level_in, thread_part};
-ghost use Rattle.nt_event.specs.Jobs.{call_task as call_of, chosen_task as chosen_of, command_task as command_of, end_task as end_of, frame_task as frame_of, has_normal as goes_on, idle_task as idle_of, is_due as due_in, level_at, may_apcs as apcs_in, may_drain as drain_in, may_interrupt, may_switch as switch_in, may_threaded as threaded_in, must as must_in, must_task as must_of, normal_task as normal_of, rests as rests_in, rewait_task as rewait_of, rundown_task as rundown_of, task as task_of};
+ghost use Rattle.nt_event.specs.Frames.{thread_part};
+ghost use Rattle.nt_event.specs.Jobs.{call_task as call_of, command_task as command_of, end_task as end_of, frame_task as frame_of, has_normal as goes_on, idle_task as idle_of, is_due as due_in, level_at, may_apcs as apcs_in, may_drain as drain_in, may_interrupt, may_switch as switch_in, may_threaded as threaded_in, must as must_in, must_task as must_of, task as task_of};
 ghost use Rattle.nt_event.specs.Classes.{interrupt_classes};
 ghost use Rattle.nt_event.specs.Routines.{next_command as next_of};
 ghost use Rattle.nt_event.specs.Regions.{regions_of};
 ghost use Rattle.nt_event.specs.Lists.{is_null, value_at};
-ghost use Rattle.nt_cpu.specs.Plans.{ServeFor, planned, task_in};
+ghost use Rattle.nt_cpu.specs.Alone.{alone_event};
+ghost use Rattle.nt_cpu.specs.Plans.{IsWritten, ServeFor, planned, task_in};
 
 use crate::cpu::Cpu;
 use crate::due::{above_level, is_due};
-use crate::plan::{Deed, Plan};
-use nt_event::{ApcKind, Body, Command, Frame, Job, Level, Refusal, Regions, Reply};
+use crate::plan::Plan;
+use nt_event::{ApcKind, Body, Command, Event, Frame, Job, Level, Refusal, Regions, Reply};
 use nt_frame::{Frames, refusal};
 
 impl<'s> Cpu<'s> {
@@ -40,17 +41,14 @@ impl<'s> Cpu<'s> {
         above_level(self.level().number(), self.due)
     }
 
-    /// The interrupt of this class begins, with the number of the ask that it serves.
-    fn interrupt<'p>(&self, class: u8) -> Plan<'p>
+    /// Writes that the interrupt of this class begins, with the number of the ask that it serves.
+    fn interrupt(&self, class: u8, event: &mut Event)
         requires level { class < 16 }
         requires asked { 0 < value_at self.now.own.seen class }
-        ensures { task_in result ≡ Task.Alone (What.Begin (Begun.Int class) (value_at self.now.own.seen class - 1)) }
+        ensures { event.new ≡ alone_event self.now.cpu (What.Begin (Begun.Int class) (value_at self.now.own.seen class - 1)) self.now.own.frames }
     {
         match Level::new(class) {
-            Some(level) => Plan::Alone(Deed::Interrupt {
-                level,
-                from: self.seen.get(class) - 1,
-            }),
+            Some(level) => self.write_interrupt(level, self.seen.get(class) - 1, event),
             None => unreachable!(),
         }
     }
@@ -77,14 +75,16 @@ impl<'s> Cpu<'s> {
     }
 
     /// What it must do before it goes on.
-    fn must_task<'p>(&self) -> Option<Plan<'p>>
-        ensures { planned result ≡ must_of self.now.own }
+    fn must_task(&self, event: &mut Event) -> Option<Plan>
+        ensures task { planned event.new result ≡ must_of self.now.own }
+        ensures written { IsWritten self.now event.old event.new result }
     {
         if let Some(dpc) = self.kept.fire {
             return Some(Plan::Shared(Job::Fire(dpc)));
         }
         if let Some(class) = self.due_interrupt() {
-            return Some(self.interrupt(class));
+            self.interrupt(class, event);
+            return Some(Plan::Alone);
         }
         if self.may_drain() {
             return Some(Plan::Shared(Job::Drain));
@@ -116,18 +116,58 @@ impl<'s> Cpu<'s> {
     }
 
     /// The next command of the innermost frame is refused, called alone, or a job.
-    fn command_task<'p>(&self, frame: &Frame) -> Option<Plan<'p>>
-        ensures { planned result ≡ command_of self.now.own frame.now (next_of self.now.script self.now.cpu frame.now) }
+    fn command_task(&self, frame: &Frame, event: &mut Event) -> Option<Plan>
+        ensures task { planned event.new result ≡ command_of self.now.own frame.now (next_of self.now.script self.now.cpu frame.now) }
+        ensures written { IsWritten self.now event.old event.new result }
     {
         match self.script.next_command(self.cpu, frame) {
-            Some(command) => Some(call_in(&self.frames, frame, &command)),
+            Some(command) => Some(self.call_in(frame, &command, event)),
             None => None,
         }
     }
 
+    /// The call of this command in this innermost frame.
+    fn call_in(&self, frame: &Frame, command: &Command, event: &mut Event) -> Plan
+        ensures task { task_in event.new result ≡ call_of frame.now command.now (refusal_of (level_at self.now.own) (not (is_null self.now.own.frames.own)) (regions_of (thread_part self.now.own.frames)) frame.now command.now) }
+        ensures written { IsWritten self.now event.old event.new (Some result) }
+    {
+        let regions = regions_for(&self.frames, command);
+        let level = self.frames.level();
+        let refused = refusal(level, self.frames.has_own(), &regions, frame, command);
+        self.call_task(frame, command, refused, event)
+    }
+
+    /// The call is refused, begins a user APC at `touser`, needs lanes, or is done alone.
+    fn call_task(
+        &self,
+        frame: &Frame,
+        command: &Command,
+        refusal: Option<Refusal>,
+        event: &mut Event,
+    ) -> Plan
+        ensures task { task_in event.new result ≡ call_of frame.now command.now refusal }
+        ensures written { IsWritten self.now event.old event.new (Some result) }
+    {
+        let reply = match refusal {
+            Some(refusal) => Reply::Refused(refusal),
+            None => {
+                if matches!(command, Command::ToUser) {
+                    return Plan::Shared(Job::ToUser);
+                }
+                if command.needs_lane() {
+                    return Plan::Shared(Job::Call(*command));
+                }
+                Reply::Done
+            }
+        };
+        self.write_call(frame.name, command, reply, event);
+        Plan::Alone
+    }
+
     /// What the innermost frame has to do.
-    fn frame_task<'p>(&self, frame: &Frame) -> Option<Plan<'p>>
-        ensures { planned result ≡ frame_of self.now.script self.now.cpu self.now.own frame.now }
+    fn frame_task(&self, frame: &Frame, event: &mut Event) -> Option<Plan>
+        ensures task { planned event.new result ≡ frame_of self.now.script self.now.cpu self.now.own frame.now }
+        ensures written { IsWritten self.now event.old event.new result }
     {
         if frame.again.is_some() {
             return Some(Plan::Shared(Job::Rewait));
@@ -135,19 +175,40 @@ impl<'s> Cpu<'s> {
         if frame.leaving {
             return Some(Plan::Shared(Job::Rundown));
         }
-        let command = self.command_task(frame);
+        let command = self.command_task(frame, event);
         if command.is_some() {
             return command;
         }
         if frame.kernel_phase && has_normal(&frame.body) {
-            return Some(Plan::Alone(Deed::Normal { frame: frame.name }));
+            self.write_normal(frame.name, event);
+            return Some(Plan::Alone);
         }
-        Some(end_task(frame))
+        Some(self.end_task(frame, event))
+    }
+
+    /// The frame ends.
+    fn end_task(&self, frame: &Frame, event: &mut Event) -> Plan
+        ensures task { task_in event.new result ≡ end_of frame.now.name frame.now.body }
+        ensures written { IsWritten self.now event.old event.new (Some result) }
+    {
+        match &frame.body {
+            Body::Base(_) => Plan::Shared(Job::Leave),
+            Body::Apc(_, ApcKind::User) => Plan::Shared(Job::UserEnd),
+            Body::Int(_) | Body::Dpc(_) | Body::Threaded(_) | Body::Rundown(_) => {
+                self.write_end(frame.name, event);
+                Plan::Alone
+            }
+            Body::Apc(_, ApcKind::Special) | Body::Apc(_, ApcKind::Normal) => {
+                self.write_end(frame.name, event);
+                Plan::Alone
+            }
+        }
     }
 
     /// At rest with no running thread there is nothing to do; else ordinary DPCs, a needed Switch, or Rest.
-    fn idle_task<'p>(&self) -> Option<Plan<'p>>
-        ensures { planned result ≡ idle_of self.now.own }
+    fn idle_task(&self) -> Option<Plan>
+        ensures task { (event : Event) → planned event result ≡ idle_of self.now.own }
+        ensures unwritten { (event : Event) → IsWritten self.now event event result }
     {
         if !(self.kept.rested && self.frames.running().is_none()) {
             Some(Plan::Shared(Job::Idle))
@@ -156,28 +217,20 @@ impl<'s> Cpu<'s> {
         }
     }
 
-    /// What it has to do next, or None where there is nothing.
-    pub(crate) fn task<'p>(&self) -> Option<Plan<'p>>
-        ensures { planned result ≡ task_of self.now.script self.now.cpu self.now.own }
+    /// What it has to do next, or None where there is nothing. An event that touches no lane is written.
+    pub(crate) fn task(&self, event: &mut Event) -> Option<Plan>
+        ensures task { planned event.new result ≡ task_of self.now.script self.now.cpu self.now.own }
+        ensures written { IsWritten self.now event.old event.new result }
     {
-        let must = self.must_task();
+        let must = self.must_task(event);
         if must.is_some() {
             return must;
         }
         match self.frames.top() {
-            Some(frame) => self.frame_task(frame),
+            Some(frame) => self.frame_task(frame, event),
             None => self.idle_task(),
         }
     }
-}
-
-/// The call of this command in this innermost frame.
-fn call_in<'p>(frames: &Frames, frame: &Frame, command: &Command) -> Plan<'p>
-    ensures { task_in result ≡ call_of frame.now command.now (refusal_of (level_in frames.now) (not (is_null frames.now.own)) (regions_of (thread_part frames.now)) frame.now command.now) }
-{
-    let regions = regions_for(frames, command);
-    let refused = refusal(frames.level(), frames.has_own(), &regions, frame, command);
-    call_task(frame, command, refused)
 }
 
 /// The regions of the running thread where the refusal of the command depends on them; else none.
@@ -194,28 +247,6 @@ fn regions_for(frames: &Frames, command: &Command) -> Regions
     }
 }
 
-fn call_task<'p>(frame: &Frame, command: &Command, refusal: Option<Refusal>) -> Plan<'p>
-    ensures { task_in result ≡ call_of frame.now command.now refusal }
-{
-    let reply = match refusal {
-        Some(refusal) => Reply::Refused(refusal),
-        None => {
-            if matches!(command, Command::ToUser) {
-                return Plan::Shared(Job::ToUser);
-            }
-            if command.needs_lane() {
-                return Plan::Shared(Job::Call(*command));
-            }
-            Reply::Done
-        }
-    };
-    Plan::Alone(Deed::Call {
-        frame: frame.name,
-        command: *command,
-        reply,
-    })
-}
-
 /// Whether it is an APC that goes on to a normal routine.
 fn has_normal(body: &Body) -> bool
     ensures { result ≡ goes_on body.now }
@@ -224,19 +255,4 @@ fn has_normal(body: &Body) -> bool
         body,
         Body::Apc(_, ApcKind::Normal) | Body::Apc(_, ApcKind::User)
     )
-}
-
-fn end_task<'p>(frame: &Frame) -> Plan<'p>
-    ensures { task_in result ≡ end_of frame.now.name frame.now.body }
-{
-    match &frame.body {
-        Body::Base(_) => Plan::Shared(Job::Leave),
-        Body::Apc(_, ApcKind::User) => Plan::Shared(Job::UserEnd),
-        Body::Int(_) | Body::Dpc(_) | Body::Threaded(_) | Body::Rundown(_) => {
-            Plan::Alone(Deed::End { frame: frame.name })
-        }
-        Body::Apc(_, ApcKind::Special) | Body::Apc(_, ApcKind::Normal) => {
-            Plan::Alone(Deed::End { frame: frame.name })
-        }
-    }
 }

@@ -4,6 +4,7 @@ ghost use Rattle.nt_event.specs.Own.{stand_in};
 ghost use Rattle.nt_event.specs.Step.{cpu_at, is_cut};
 ghost use Rattle.nt_floor.specs.Acts.{Found};
 ghost use Rattle.nt_floor.specs.Views.{IsUnmoved};
+ghost use Rattle.nt_event.specs.declared.events.Event.{Event};
 ghost use Rattle.nt_event.specs.declared.events.What.{What};
 ghost use Rattle.nt_event.specs.declared.jobs.Job.{Job};
 ghost use Rattle.nt_event.specs.declared.jobs.Task.{Task};
@@ -13,13 +14,13 @@ ghost use Rattle.nt_event.specs.Lists.{when};
 ghost use Rattle.nt_cpu.specs.declared.turn.TurnRefusal.{TurnRefusal};
 ghost use Rattle.nt_event.specs.declared.numbers.CpuNo.{CpuNo};
 ghost use Rattle.nt_cpu.specs.Choices.{turn_by};
-ghost use Rattle.nt_cpu.specs.Plans.{planned};
+ghost use Rattle.nt_cpu.specs.Plans.{IsWritten, planned};
 ghost use Rattle.nt_cpu.specs.Turns.{IsTurned, IsTurnRefused, Serves, acts, rises as rises_in, turn_refusal as refusal_of, turn_task as task_of};
 
 use crate::choice::Choice;
 use crate::cpu::Cpu;
 use crate::looks::rise;
-use crate::plan::{Deed, Plan};
+use crate::plan::Plan;
 use crate::writing::no_event;
 use nt_event::{Event, Job, Rises, ThreadNo, Turn};
 use nt_floor::{ActRefusal, Floor};
@@ -56,31 +57,35 @@ impl<'s> Cpu<'s> {
         self.limit <= self.made
     }
 
-    /// What a turn has it do, or None where the turn is refused.
-    fn turn_task<'t>(&self, choice: &Choice<'t>) -> Option<Plan<'t>>
-        ensures { planned result ≡ task_of self.now.script self.now.cpu self.now.own (turn_by self.now.cpu choice.now) }
+    /// What a turn has it do, or None where the turn is refused. An event that touches no lane is written.
+    fn turn_task(&self, choice: &Choice, event: &mut Event) -> Option<Plan>
+        ensures task { planned event.new result ≡ task_of self.now.script self.now.cpu self.now.own (turn_by self.now.cpu choice.now) }
+        ensures written { IsWritten self.now event.old event.new result }
     {
         match choice {
-            Choice::Next => self.task(),
-            Choice::Look(rises) => self.look_task(rises),
+            Choice::Next => self.task(event),
+            Choice::Look(rises) => self.look_task(rises, event),
             Choice::Switch(thread) => self.switch_task(*thread),
         }
     }
 
     /// A look, where some value rises and each that does is above what was seen.
-    fn look_task<'t>(&self, rises: &'t Rises) -> Option<Plan<'t>>
-        ensures { planned result ≡ when (rises_in rises.now.value self.now.own.seen) (Some (Task.Alone (What.Look rises.now))) }
+    fn look_task(&self, rises: &Rises, event: &mut Event) -> Option<Plan>
+        ensures task { planned event.new result ≡ when (rises_in rises.now.value self.now.own.seen) (Some (Task.Alone (What.Look rises.now))) }
+        ensures written { IsWritten self.now event.old event.new result }
     {
         if rise(rises, &self.seen) {
-            Some(Plan::Alone(Deed::Look(rises)))
+            self.write_look(rises, event);
+            Some(Plan::Alone)
         } else {
             None
         }
     }
 
     /// A switch, where one may be made and the script has the thread.
-    fn switch_task<'t>(&self, thread: ThreadNo) -> Option<Plan<'t>>
-        ensures { planned result ≡ when (switch_in self.now.own && has_thread self.now.script thread) (Some (Task.Shared (Job.Switch thread))) }
+    fn switch_task(&self, thread: ThreadNo) -> Option<Plan>
+        ensures task { (event : Event) → planned event result ≡ when (switch_in self.now.own && has_thread self.now.script thread) (Some (Task.Shared (Job.Switch thread))) }
+        ensures unwritten { (event : Event) → IsWritten self.now event event result }
     {
         if self.is_free() && (thread.0 as usize) < self.script.threads.len() {
             Some(Plan::Shared(Job::Switch(thread)))
@@ -156,9 +161,9 @@ impl<'s> Cpu<'s> {
         if self.is_cut() {
             return Err(TurnRefusal::NothingToDo);
         }
-        match self.turn_task(choice) {
-            Some(Plan::Alone(deed)) => {
-                self.make_alone(floor, &deed, event);
+        match self.turn_task(choice, event) {
+            Some(Plan::Alone) => {
+                self.make_alone(floor, event);
                 Ok(())
             }
             Some(Plan::Shared(job)) => match self.make_shared(floor, job, event) {

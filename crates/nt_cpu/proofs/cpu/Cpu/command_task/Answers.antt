@@ -1,13 +1,13 @@
-use Rattle.std.proofs.Common.{ap, subst, sym, ◌∙◌}
+use Rattle.std.proofs.Common.{ap, sym, ◌∙◌}
 use Rattle.std.specs.Prelude.{Some, ◌≡◌}
-use Rattle.nt_event.specs.Jobs.{command_task}
 use Rattle.nt_event.specs.Routines.{next_command}
-use Rattle.nt_cpu.specs.Plans.{planned}
 use Rattle.nt_cpu.specs.States.{CpuState}
 use Rattle.nt_cpu.proofs.cpu.Cpu.command_task.Goals as goal
 
-pub returns-in-Some : goal.returns-in-Some
-returns-in-Some c =
+pub returns-in-Some-clause-task : goal.returns-in-Some-clause-task
+returns-in-Some-clause-task c =
+    let s : CpuState = c.args.self.now in
     let f = c.args.frame.now in
-    let next = sym c.next_command.ensures ∙ c.in-Some.is in
-    subst (λ (x : CpuState). planned (Some c.call_in.result) ≡ command_task x.own f (next_command x.script x.cpu f)) c.self.view_is (rw next (ap Some c.call_in.ensures))
+    let next : next_command s.script s.cpu f ≡ Some c.in-Some.command = ap (λ (x : CpuState). next_command x.script x.cpu f) (sym c.self.view_is)
+    ∙ (sym c.next_command.ensures ∙ c.in-Some.is) in
+    rw next (ap Some c.call_in.ensures.task)

@@ -1,14 +1,12 @@
 use Rattle.std.proofs.Common.{ap, max, subst, ◌∙◌}
 use Rattle.std.specs.Prelude.{None, Option, ℕ, ◌<◌, ◌≡◌}
 use Rattle.nt_event.specs.declared.events.Event.{Event}
-use Rattle.nt_event.specs.declared.events.What.{What}
 use Rattle.nt_event.specs.Own.{stand_in}
 use Rattle.nt_event.specs.Lists.{value_at}
 use Rattle.nt_floor.specs.Views.{IsDrawn}
 use Rattle.nt_cpu.specs.Alone.{IsMarkedFor, alone_asks, alone_event, noticed}
 use Rattle.nt_cpu.specs.Leaves.{own_with}
 use Rattle.nt_cpu.specs.Notices.{notice_of}
-use Rattle.nt_cpu.specs.Plans.{what_in}
 use Rattle.nt_cpu.specs.States.{CpuState}
 use Rattle.nt_cpu.specs.declared.alone.Asked.{Asked}
 use Rattle.nt_cpu.proofs.Taken.{own_with_same}
@@ -18,21 +16,19 @@ pub returns-clause-made : goal.returns-clause-made
 returns-clause-made g c =
     let n = c.draw-n.result in
     let s : CpuState = c.args.self.now in
-    let w = what_in c.args.deed.now in
+    let w = c.args.event.now.what in
     let v = g.W.Words.view c.args.words.now in
     let u = g.W.Words.view c.draw-n.new.self in
     let z = g.W.Words.view c.mark.new.words in
     let st = stand_in s.cpu s.own in
-    let is : c.write.new.event ≡ alone_event s.cpu w s.own.frames = c.write.ensures in
-    let does : c.write.new.event.what ≡ w = ap (λ (e : Event). e.what) is in
-    let asked : c.asks-asked.result ≡ alone_asks st w = c.asks-asked.ensures.asks ∙ ap (λ (x : What). alone_asks st x) does in
+    let is : c.args.event.now ≡ alone_event s.cpu w s.own.frames = c.requires.event in
+    let asked : c.asks-asked.result ≡ alone_asks st w = c.asks-asked.ensures.asks in
     let cpu = ap (λ (x : CpuState). x.cpu) c.take_up.view_is in
     let same : (k : ℕ) → k < 16 → max (value_at s.own.seen k) (notice_of c.noticed.result k)
     ≡ max (value_at s.own.seen k) (noticed s.cpu w (alone_asks st w) n k) = λ k b. ap (λ (y : ℕ). max (value_at s.own.seen k) y)
     (c.noticed.ensures.value k b
-    ∙ (ap (λ (p : _). noticed p c.write.new.event.what c.asks-asked.result n k) cpu
-    ∙ (ap (λ (x : What). noticed s.cpu x c.asks-asked.result n k) does
-    ∙ ap (λ (a : Option Asked). noticed s.cpu w a n k) asked))) in (
+    ∙ (ap (λ (p : _). noticed p w c.asks-asked.result n k) cpu
+    ∙ ap (λ (a : Option Asked). noticed s.cpu w a n k) asked)) in (
       n,
       u,
       record {

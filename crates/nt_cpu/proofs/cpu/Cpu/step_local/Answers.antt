@@ -5,11 +5,11 @@ use Rattle.nt_event.specs.declared.numbers.CpuNo.{CpuNo}
 use Rattle.nt_event.specs.Step.{is_cut}
 use Rattle.nt_event.proofs.Options.{holds_at}
 use Rattle.nt_cpu.specs.GoodTasks.{GoodTask}
-use Rattle.nt_cpu.specs.Plans.{planned, what_in}
+use Rattle.nt_cpu.specs.Plans.{planned}
 use Rattle.nt_cpu.specs.States.{CpuState}
 use Rattle.nt_cpu.specs.Steps.{AllLooked, local_task}
 use Rattle.nt_cpu.proofs.Knowing.{has_words, knows_alone, knows_looked, knows_of, serves_looked}
-use Rattle.nt_cpu.proofs.Planned.{local_is, planned_alone, planned_none}
+use Rattle.nt_cpu.proofs.Planned.{local_is, planned_alone, planned_none, written_alone}
 use Rattle.nt_cpu.proofs.StepsMade.{look_known, step_alone, step_good, step_none}
 use Rattle.nt_cpu.proofs.cpu.Cpu.step_local.Goals as goal
 
@@ -17,10 +17,10 @@ pub make_alone-requires-clause-may : goal.make_alone-requires-clause-may
 make_alone-requires-clause-may g c =
     let s : CpuState = c.args.self.now in
     let xs = c.look_all-answers.result in
-    let w = what_in c.in-Some-Alone.deed in
+    let w = c.local_task.new.event.what in
     holds_at (GoodTask s) (local_task s xs) (Alone w) (step_good s xs c.sound.ensures)
-    (sym (local_is s xs c.rises-rises.result (planned c.local_task.result) c.rises-rises.ensures c.local_task.ensures)
-    ∙ planned_alone c.local_task.result c.in-Some-Alone.deed (c.in-Some-Alone.is ∙ ap Some c.in-Some-Alone.field-0-is))
+    (sym (local_is s xs c.rises-rises.result (planned c.local_task.new.event c.local_task.result) c.rises-rises.ensures c.local_task.ensures.task)
+    ∙ planned_alone c.local_task.new.event c.local_task.result (c.in-Some-Alone.is ∙ ap Some c.in-Some-Alone.field-0-is))
 
 pub returns-in-None-clause-knows : goal.returns-in-None-clause-knows
 returns-in-None-clause-knows g c =
@@ -38,16 +38,19 @@ returns-in-Some-Alone-clause-step g c =
     let xs = c.look_all-answers.result in
     let v = g.W.Words.view c.args.words.now in
     let u = g.W.Words.view c.look_all-answers.new.words in
-    let w = what_in c.in-Some-Alone.deed in
+    let w = c.local_task.new.event.what in
     let cut : is_cut s.limit s.own ≡ false = sym c.is_cut.ensures ∙ c.if-is_cut.false in
-    let task : local_task s xs ≡ Some (Alone w) = sym (local_is s xs c.rises-rises.result (planned c.local_task.result) c.rises-rises.ensures c.local_task.ensures)
-    ∙ planned_alone c.local_task.result c.in-Some-Alone.deed (c.in-Some-Alone.is ∙ ap Some c.in-Some-Alone.field-0-is) in
+    let task : local_task s xs ≡ Some (Alone w) =
+    sym (local_is s xs c.rises-rises.result (planned c.local_task.new.event c.local_task.result) c.rises-rises.ensures c.local_task.ensures.task)
+    ∙ planned_alone c.local_task.new.event c.local_task.result (c.in-Some-Alone.is ∙ ap Some c.in-Some-Alone.field-0-is) in
     let looks = subst (λ (p : CpuNo). AllLooked p xs v u) (ap (λ (x : CpuState). x.cpu) c.self.view_is) c.look_all-answers.ensures.looks in
+    let event = written_alone s _ c.local_task.new.event c.local_task.result c.local_task.ensures.written
+    (c.in-Some-Alone.is ∙ ap Some c.in-Some-Alone.field-0-is) in
     let m = c.make_alone.ensures.made in (
       xs,
       u,
-      step_alone s c.make_alone.new.self xs w c.make_alone.new.event m.0 v u m.1 (g.W.Words.view c.make_alone.new.words) c.sound.ensures
-          (serves_looked s xs v u (has_words s v c.sound.ensures c.requires.serves.cpus) c.requires.serves looks) cut task looks c.make_alone.ensures.event m.2,
+      step_alone s c.make_alone.new.self xs w c.local_task.new.event m.0 v u m.1 (g.W.Words.view c.make_alone.new.words) c.sound.ensures
+          (serves_looked s xs v u (has_words s v c.sound.ensures c.requires.serves.cpus) c.requires.serves looks) cut task looks event m.2,
     )
 
 pub returns-in-Some-Alone-clause-knows : goal.returns-in-Some-Alone-clause-knows
@@ -56,9 +59,10 @@ returns-in-Some-Alone-clause-knows g c =
     let xs = c.look_all-answers.result in
     let v = g.W.Words.view c.args.words.now in
     let u = g.W.Words.view c.look_all-answers.new.words in
-    let w = what_in c.in-Some-Alone.deed in
-    let task : local_task s xs ≡ Some (Alone w) = sym (local_is s xs c.rises-rises.result (planned c.local_task.result) c.rises-rises.ensures c.local_task.ensures)
-    ∙ planned_alone c.local_task.result c.in-Some-Alone.deed (c.in-Some-Alone.is ∙ ap Some c.in-Some-Alone.field-0-is) in
+    let w = c.local_task.new.event.what in
+    let task : local_task s xs ≡ Some (Alone w) =
+    sym (local_is s xs c.rises-rises.result (planned c.local_task.new.event c.local_task.result) c.rises-rises.ensures c.local_task.ensures.task)
+    ∙ planned_alone c.local_task.new.event c.local_task.result (c.in-Some-Alone.is ∙ ap Some c.in-Some-Alone.field-0-is) in
     let looks = subst (λ (p : CpuNo). AllLooked p xs v u) (ap (λ (x : CpuState). x.cpu) c.self.view_is) c.look_all-answers.ensures.looks in
     let here = has_words s v c.sound.ensures c.requires.serves.cpus in
     let there = has_words s u c.sound.ensures (looks.same.cpus ∙ c.requires.serves.cpus) in
@@ -98,5 +102,7 @@ returns-in-None-clause-step g c =
     let u = g.W.Words.view c.look_all-answers.new.words in
     let looks = subst (λ (p : CpuNo). AllLooked p xs v u) (ap (λ (x : CpuState). x.cpu) c.self.view_is) c.look_all-answers.ensures.looks in
     let cut : is_cut s.limit s.own ≡ false = sym c.is_cut.ensures ∙ c.if-is_cut.false in
-    let task : local_task s xs ≡ None = sym (local_is s xs c.rises-rises.result (planned c.local_task.result) c.rises-rises.ensures c.local_task.ensures) ∙ planned_none c.local_task.result c.in-None.is in
+    let task : local_task s xs ≡ None =
+    sym (local_is s xs c.rises-rises.result (planned c.local_task.new.event c.local_task.result) c.rises-rises.ensures c.local_task.ensures.task)
+    ∙ planned_none c.local_task.new.event c.local_task.result c.in-None.is in
     (xs, u, step_none s xs v u c.sound.ensures cut task looks)

@@ -1,16 +1,37 @@
-use Rattle.std.proofs.Common.{ap, sym, ◌∙◌}
+use Rattle.std.proofs.Common.{ap, subst, sym, ◌∙◌}
 use Rattle.std.specs.Prelude.{None, Some, ◌≡◌}
+use Rattle.nt_event.specs.declared.events.Event.{Event}
 use Rattle.nt_event.specs.Frames.{innermost}
 use Rattle.nt_event.specs.Jobs.{must_task}
+use Rattle.nt_cpu.specs.Plans.{IsWritten}
 use Rattle.nt_cpu.specs.States.{CpuState}
-use Rattle.nt_cpu.proofs.DueTasks.{none_of, task_of_frame}
-use Rattle.nt_cpu.proofs.Planned.{planned_none}
+use Rattle.nt_cpu.proofs.DueTasks.{none_of, task_of_frame, task_of_none}
+use Rattle.nt_cpu.proofs.Planned.{planned_none, unwritten_none}
 use Rattle.nt_cpu.proofs.cpu.Cpu.task.Goals as goal
 
-pub returns-in-Some : goal.returns-in-Some
-returns-in-Some c =
+pub returns-in-Some-clause-task : goal.returns-in-Some-clause-task
+returns-in-Some-clause-task c =
     let s : CpuState = c.args.self.now in
     let f = c.in-Some.frame.now in
-    let must : must_task s.own ≡ None = sym c.must_task-must.ensures ∙ planned_none c.must_task-must.result (none_of c.must_task-must.result (sym c.is_some.ensures ∙ c.if-is_some.false)) in
+    let nothing = none_of c.must_task-must.result (sym c.is_some.ensures ∙ c.if-is_some.false) in
+    let must : must_task s.own ≡ None = sym c.must_task-must.ensures.task
+    ∙ planned_none c.must_task-must.new.event c.must_task-must.result nothing in
     let top : innermost s.own.frames ≡ Some f = sym (c.in-Some.ensures.value ∙ ap (λ (x : CpuState). innermost x.own.frames) c.self.view_is) in
-    c.frame_task.ensures ∙ sym (task_of_frame s.script s.cpu s.own f must top)
+    c.frame_task.ensures.task ∙ sym (task_of_frame s.script s.cpu s.own f must top)
+
+pub returns-in-None-clause-task : goal.returns-in-None-clause-task
+returns-in-None-clause-task c =
+    let s : CpuState = c.args.self.now in
+    let e = c.must_task-must.new.event in
+    let nothing = none_of c.must_task-must.result (sym c.is_some.ensures ∙ c.if-is_some.false) in
+    let must : must_task s.own ≡ None = sym c.must_task-must.ensures.task ∙ planned_none e c.must_task-must.result nothing in
+    let top : innermost s.own.frames ≡ None = sym (c.in-None.ensures.value ∙ ap (λ (x : CpuState). innermost x.own.frames) c.self.view_is) in
+    c.idle_task.ensures.task e ∙ sym (task_of_none s.script s.cpu s.own must top)
+
+pub returns-in-None-clause-written : goal.returns-in-None-clause-written
+returns-in-None-clause-written c =
+    let s : CpuState = c.args.self.now in
+    let e = c.must_task-must.new.event in
+    let nothing = none_of c.must_task-must.result (sym c.is_some.ensures ∙ c.if-is_some.false) in
+    let same = unwritten_none s c.args.event.now e c.must_task-must.result c.must_task-must.ensures.written nothing in
+    subst (λ (old : Event). IsWritten s old e c.idle_task.result) same (c.idle_task.ensures.unwritten e)
