@@ -127,3 +127,9 @@ pub fewer_put : (e : Event) (bs new : List Brief) (rises values : List Rises) �
 fewer_put e bs new rises values n v h =
     let one = one_at_most e.what in
     omega (arith, h, one, ap length n, ap length v, grown bs (brief_of (length rises) e ∷ []), grown rises (rises_of e.what))
+
+-- the values of each look stand there
+pub each_stands : (bs : List Brief) (rises : List Rises) (i : ℕ) (b : Brief) → i < length bs → HasEach bs rises → Stands (length rises) (get_or bs i b).did
+each_stands [] rises i b lt h = absurd (omega (arith, lt))
+each_stands (x ∷ bs) rises zero b lt h = h.0
+each_stands (x ∷ bs) rises (suc i) b lt h = each_stands bs rises i b (omega (arith, lt)) h.1
