@@ -8,7 +8,6 @@ use Rattle.nt_text.specs.declared.kind.ScriptKind.{ScriptKind}
 use Rattle.nt_text.specs.declared.kind.ScriptKind.TheVariants.{MissingField, UnknownWord}
 use Rattle.nt_text.specs.Lines.{Row, first, rest}
 use Rattle.nt_text.proofs.Decimals.{number_up_to_again}
-use Rattle.nt_event.specs.declared.events.Event.{Event}
 use Rattle.nt_event.specs.declared.events.Rises.{Rises}
 use Rattle.nt_event.specs.declared.events.Turn.{Turn}
 use Rattle.nt_event.specs.declared.events.Turn.TheVariants.{Next, Look, Switch}
@@ -17,6 +16,8 @@ use Rattle.nt_event.specs.declared.numbers.CpuNo.{CpuNo}
 use Rattle.nt_event.specs.declared.numbers.ThreadNo.{ThreadNo}
 use Rattle.nt_event.specs.declared.scripts.Script.{Script}
 use Rattle.nt_event.specs.Step.{cpu_at, turn_of}
+use Rattle.nt_history.specs.declared.brief.Brief.{Brief}
+use Rattle.nt_history.specs.Briefs.{event_in, events_in}
 use Rattle.nt_line.specs.Commands.{read1, read2}
 use Rattle.nt_line.specs.Fields.{read_cpu, read_thread}
 use Rattle.nt_line.specs.NameLists.{show_thread}
@@ -177,10 +178,11 @@ turn_again cpus input sound (Switch p t) h lt =
 
 -- ---- the turns of events
 
--- the turn of an event of a history whose turns fit
-pub each_fits : (s : Script) (es : List Event) (i : ℕ) (d : Event) → i < length es → turns_fit s (map turn_of es) ≡ true →
-    turn_fits s (turn_of (get_or es i d)) ≡ true
-each_fits s [] i d lt e = absurd (omega (arith, lt))
-each_fits s (e ∷ es) zero d lt h = (and_parts (turn_fits s (turn_of e)) (turns_fit s (map turn_of es)) h).0
-each_fits s (e ∷ es) (suc i) d lt h =
-    each_fits s es i d (omega (arith, lt)) (and_parts (turn_fits s (turn_of e)) (turns_fit s (map turn_of es)) h).1
+-- the turn of an event, where the turns of the events of these briefs fit
+pub each_fits : (s : Script) (bs : List Brief) (rises : List Rises) (i : ℕ) (b : Brief) → i < length bs →
+    turns_fit s (map turn_of (events_in bs rises)) ≡ true → turn_fits s (turn_of (event_in rises (get_or bs i b))) ≡ true
+each_fits s [] rises i b lt h = absurd (omega (arith, lt))
+each_fits s (x ∷ bs) rises zero b lt h = (and_parts (turn_fits s (turn_of (event_in rises x))) (turns_fit s (map turn_of (events_in bs rises))) h).0
+each_fits s (x ∷ bs) rises (suc i) b lt h =
+    let rest = and_parts (turn_fits s (turn_of (event_in rises x))) (turns_fit s (map turn_of (events_in bs rises))) h in
+    each_fits s bs rises i b (omega (arith, lt)) rest.1

@@ -1,8 +1,9 @@
 //! The text of a schedule.
-ghost use Rattle.std.specs.Prelude.{◌≡◌, ◌++◌, ◌∷◌, [], true, codes, map, IfOk, OnOk};
+ghost use Rattle.std.specs.Prelude.{◌≡◌, ◌++◌, ◌∷◌, [], true, codes, length, map, IfOk, OnOk};
 ghost use Rattle.nt_text.specs.Lines.{row_text, rows_text};
 ghost use Rattle.nt_event.specs.Script.{has_thread};
 ghost use Rattle.nt_event.specs.Step.{turn_of};
+ghost use Rattle.nt_history.specs.Briefs.{HasEach, Stands, event_in, events_in};
 ghost use Rattle.nt_line.specs.NameLists.{show_thread};
 ghost use Rattle.nt_line.specs.Rows.{show_cpu};
 ghost use Rattle.nt_script.specs.Sound.{IsSound};
@@ -10,7 +11,8 @@ ghost use Rattle.nt_text.specs.Lines.{spaced};
 ghost use Rattle.nt_log.specs.Schedules.{turn_fits, turns_fit, rise_field, rises_row, turn_row, limit_row, done_row, schedule_of, schedule_text};
 
 use crate::schedules::Schedule;
-use nt_event::{CpuNo, Event, History, Rises, ThreadNo, Turn, What};
+use nt_event::{CpuNo, Rises, ThreadNo, Turn};
+use nt_history::{Brief, Briefs, Did, History};
 use nt_script::Input;
 use nt_text::{put_digits, put_field, put_number};
 use nt_turns::{Turns, no_turn};
@@ -114,26 +116,32 @@ fn put_turn(out: &mut Vec<u8>, input: &Input, turn: &Turn) -> Result<(), AllocEr
     }
 }
 
-/// Adds the line of the turn that makes an event.
-fn put_turn_of(out: &mut Vec<u8>, input: &Input, event: &Event) -> Result<(), AllocError>
+/// Adds the line of the turn that makes an event, where these are the values of looks.
+fn put_turn_of(
+    out: &mut Vec<u8>,
+    input: &Input,
+    event: &Brief,
+    rises: &[Rises],
+) -> Result<(), AllocError>
     requires sound { IsSound input.now }
-    requires fits { turn_fits input.now.script (turn_of event.now) ≡ true }
-    ensures { OnOk result (out.new.items ≡ out.old.items ++ row_text (turn_row input.now.names (turn_of event.now))) }
+    requires stands { Stands (length rises.now) event.now.did }
+    requires fits { turn_fits input.now.script (turn_of (event_in rises.now event.now)) ≡ true }
+    ensures { OnOk result (out.new.items ≡ out.old.items ++ row_text (turn_row input.now.names (turn_of (event_in rises.now event.now)))) }
 {
-    match &event.what {
-        What::Look { rises } => put_look(out, event.cpu, rises),
-        What::Switch { thread, .. } => put_switch(out, input, event.cpu, *thread),
-        What::Call { .. }
-        | What::Begin { .. }
-        | What::Normal { .. }
-        | What::End { .. }
-        | What::Expire { .. }
-        | What::Fire { .. }
-        | What::Clean { .. }
-        | What::Rewait { .. }
-        | What::Flush { .. }
-        | What::Gone { .. }
-        | What::Rest => put_next(out, event.cpu),
+    match event.did {
+        Did::Look { at } => put_look(out, event.cpu, &rises[at]),
+        Did::Switch { thread, .. } => put_switch(out, input, event.cpu, thread),
+        Did::Call { .. }
+        | Did::Begin { .. }
+        | Did::Normal { .. }
+        | Did::End { .. }
+        | Did::Expire { .. }
+        | Did::Fire { .. }
+        | Did::Clean { .. }
+        | Did::Rewait { .. }
+        | Did::Flush { .. }
+        | Did::Gone { .. }
+        | Did::Rest => put_next(out, event.cpu),
     }
 }
 
@@ -151,13 +159,14 @@ fn put_turns(out: &mut Vec<u8>, input: &Input, turns: &Turns) -> Result<(), Allo
 }
 
 /// Adds the lines of the turns that make these events.
-fn put_turns_of(out: &mut Vec<u8>, input: &Input, events: &[Event]) -> Result<(), AllocError>
+fn put_turns_of(out: &mut Vec<u8>, input: &Input, events: &Briefs) -> Result<(), AllocError>
     requires sound { IsSound input.now }
-    requires fit { turns_fit input.now.script (map turn_of events.now) ≡ true }
-    ensures { OnOk result (out.new.items ≡ out.old.items ++ rows_text (map (turn_row input.now.names) (map turn_of events.now))) }
+    requires each { HasEach events.now.briefs.now events.now.rises.now }
+    requires fit { turns_fit input.now.script (map turn_of (events_in events.now.briefs.now events.now.rises.now)) ≡ true }
+    ensures { OnOk result (out.new.items ≡ out.old.items ++ rows_text (map (turn_row input.now.names) (map turn_of (events_in events.now.briefs.now events.now.rises.now)))) }
 {
-    for event in events {
-        put_turn_of(out, input, event)?;
+    for event in events.briefs {
+        put_turn_of(out, input, event, events.rises)?;
     }
     Ok(())
 }
@@ -201,8 +210,8 @@ pub fn put_schedule_of(
     requires fit { turns_fit input.now.script (schedule_of history.now).list ≡ true }
     ensures { OnOk result (out.new.items ≡ out.old.items ++ schedule_text input.now (schedule_of history.now)) }
 {
-    put_limit(out, history.turns)?;
-    put_turns_of(out, input, history.events.as_slice())?;
+    put_limit(out, history.turns())?;
+    put_turns_of(out, input, &history.lend())?;
     put_end(out)
 }
 
