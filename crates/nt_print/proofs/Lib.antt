@@ -1,3 +1,4 @@
+mod Lent
 mod CutRows
 mod Counted
 mod Fates

@@ -1,3 +1,4 @@
+pub mod Lent
 pub mod Report
 pub mod Conditions
 pub mod Counts

@@ -5,7 +5,7 @@ ghost use Rattle.nt_print.specs.Counts.{TellsMade};
 ghost use Rattle.nt_print.specs.Report.{made, cut_row, cut_of, cut_rows};
 
 use crate::fields::put_processor;
-use nt_event::History;
+use nt_history::History;
 use std::alloc::AllocError;
 
 fn put_cut(out: &mut Vec<u8>, cpu: u8) -> Result<(), AllocError>
@@ -22,7 +22,7 @@ fn put_cut_of(out: &mut Vec<u8>, cpu: u8, count: usize, history: &History) -> Re
     requires { count ≡ made cpu history.now.events }
     ensures { OnOk result (out.new.items ≡ out.old.items ++ rows_text (cut_of history.now cpu)) }
 {
-    if count == history.turns as usize {
+    if count == history.turns() as usize {
         put_cut(out, cpu)
     } else {
         Ok(())

@@ -8,10 +8,13 @@ ghost use Rattle.nt_line.specs.Rows.{command_row, command_args};
 ghost use Rattle.nt_line.specs.Keywords.{verb_text};
 ghost use Rattle.nt_event.specs.Fitting.{begun_fits, key_fits, what_fits, event_fits, events_fit};
 ghost use Rattle.nt_text.specs.Lines.{spaced};
+ghost use Rattle.nt_history.specs.Briefs.{event_of, no_rises, what_of};
+ghost use Rattle.nt_print.specs.Lent.{lent};
 ghost use Rattle.nt_print.specs.Report.{show_running, begun_row, key_row, status_row, kind_of, kind_word, what_row, event_fields, event_row, event_rows, line_rows};
 
 use crate::fields::{put_processor, put_replied, put_status, put_used};
-use nt_event::{ApcKind, ApcNo, Begun, Command, Event, ThreadNo, TimerKey, What};
+use nt_event::{ApcKind, ApcNo, Begun, Command, ThreadNo, TimerKey};
+use nt_history::{Brief, Briefs, Did};
 use nt_script::{Input, put_command};
 use nt_text::{put_digits, put_field, put_number};
 use std::alloc::AllocError;
@@ -102,13 +105,13 @@ fn put_called(out: &mut Vec<u8>, input: &Input, command: &Command) -> Result<(),
 }
 
 /// Adds what an event other than a look did.
-fn put_what(out: &mut Vec<u8>, input: &Input, what: &What) -> Result<(), AllocError>
+fn put_what(out: &mut Vec<u8>, input: &Input, did: &Did) -> Result<(), AllocError>
     requires sound { IsSound input.now }
-    requires fits { what_fits input.now.script what.now ≡ true }
-    ensures { OnOk result (out.new.items ≡ out.old.items ++ spaced (what_row input.now what.now)) }
+    requires fits { what_fits input.now.script (what_of no_rises did.now) ≡ true }
+    ensures { OnOk result (out.new.items ≡ out.old.items ++ spaced (what_row input.now (what_of no_rises did.now))) }
 {
-    match what {
-        What::Call {
+    match did {
+        Did::Call {
             frame,
             command,
             reply,
@@ -118,35 +121,35 @@ fn put_what(out: &mut Vec<u8>, input: &Input, what: &What) -> Result<(), AllocEr
             put_called(out, input, command)?;
             put_replied(out, *reply)
         }
-        What::Look { .. } => Ok(()),
-        What::Begin { begun, from } => {
+        Did::Look { .. } => Ok(()),
+        Did::Begin { begun, from } => {
             out.extend_from_slice(b" begin")?;
             put_begun(out, input, begun)?;
             put_used(out, *from)
         }
-        What::Normal { frame } => {
+        Did::Normal { frame } => {
             out.extend_from_slice(b" normal")?;
             put_number(out, *frame)
         }
-        What::End { frame } => {
+        Did::End { frame } => {
             out.extend_from_slice(b" end")?;
             put_number(out, *frame)
         }
-        What::Expire { key, from } => {
+        Did::Expire { key, from } => {
             out.extend_from_slice(b" expire")?;
             put_key(out, input, *key)?;
             put_used(out, *from)
         }
-        What::Fire { dpc, reply } => {
+        Did::Fire { dpc, reply } => {
             out.extend_from_slice(b" fire")?;
             put_field(out, input.names.dpc(*dpc).as_bytes())?;
             put_replied(out, *reply)
         }
-        What::Clean { class } => {
+        Did::Clean { class } => {
             out.extend_from_slice(b" clean")?;
             put_number(out, u64::from(*class))
         }
-        What::Switch { thread, status } => {
+        Did::Switch { thread, status } => {
             out.extend_from_slice(b" switch")?;
             put_field(out, input.names.thread(*thread).as_bytes())?;
             match status {
@@ -154,40 +157,40 @@ fn put_what(out: &mut Vec<u8>, input: &Input, what: &What) -> Result<(), AllocEr
                 None => Ok(()),
             }
         }
-        What::Rewait { frame, reply } => {
+        Did::Rewait { frame, reply } => {
             out.extend_from_slice(b" rewait")?;
             put_number(out, *frame)?;
             put_replied(out, *reply)
         }
-        What::Flush { apc, from } => {
+        Did::Flush { apc, from } => {
             out.extend_from_slice(b" flush")?;
             put_field(out, input.names.apc(*apc).as_bytes())?;
             put_used(out, *from)
         }
-        What::Gone { thread } => {
+        Did::Gone { thread } => {
             out.extend_from_slice(b" gone")?;
             put_field(out, input.names.thread(*thread).as_bytes())
         }
-        What::Rest => out.extend_from_slice(b" rest"),
+        Did::Rest => out.extend_from_slice(b" rest"),
     }
 }
 
 /// Adds what stands behind an event's number.
-fn put_event_fields(out: &mut Vec<u8>, input: &Input, event: &Event) -> Result<(), AllocError>
+fn put_event_fields(out: &mut Vec<u8>, input: &Input, event: &Brief) -> Result<(), AllocError>
     requires sound { IsSound input.now }
-    requires fits { event_fits input.now.script event.now ≡ true }
-    ensures { OnOk result (out.new.items ≡ out.old.items ++ spaced (event_fields input.now event.now)) }
+    requires fits { event_fits input.now.script (event_of no_rises event.now) ≡ true }
+    ensures { OnOk result (out.new.items ≡ out.old.items ++ spaced (event_fields input.now (event_of no_rises event.now))) }
 {
     put_processor(out, u64::from(event.cpu.0))?;
     put_running(out, input, event.thread)?;
     put_number(out, u64::from(event.level.number()))?;
-    put_what(out, input, &event.what)
+    put_what(out, input, &event.did)
 }
 
-fn put_event(out: &mut Vec<u8>, input: &Input, number: u64, event: &Event) -> Result<(), AllocError>
+fn put_event(out: &mut Vec<u8>, input: &Input, number: u64, event: &Brief) -> Result<(), AllocError>
     requires sound { IsSound input.now }
-    requires fits { event_fits input.now.script event.now ≡ true }
-    ensures { OnOk result (out.new.items ≡ out.old.items ++ row_text (event_row input.now number event.now)) }
+    requires fits { event_fits input.now.script (event_of no_rises event.now) ≡ true }
+    ensures { OnOk result (out.new.items ≡ out.old.items ++ row_text (event_row input.now number (event_of no_rises event.now))) }
 {
     put_digits(out, number)?;
     put_event_fields(out, input, event)?;
@@ -199,37 +202,37 @@ fn put_event(out: &mut Vec<u8>, input: &Input, number: u64, event: &Event) -> Re
 pub(crate) fn put_events(
     out: &mut Vec<u8>,
     input: &Input,
-    events: &[Event],
+    events: &Briefs,
 ) -> Result<(), AllocError>
     requires sound { IsSound input.now }
-    requires fit { events_fit input.now.script events.now ≡ true }
-    ensures { OnOk result (out.new.items ≡ out.old.items ++ rows_text (event_rows input.now 0 events.now)) }
+    requires fit { events_fit input.now.script (lent events.now) ≡ true }
+    ensures { OnOk result (out.new.items ≡ out.old.items ++ rows_text (event_rows input.now 0 (lent events.now))) }
 {
-    for (number, event) in events.iter().enumerate() {
+    for (number, event) in events.briefs.iter().enumerate() {
         put_line(out, input, number as u64, event)?;
     }
     Ok(())
 }
 
-/// Adds the line of an event, where it has one.
-fn put_line(out: &mut Vec<u8>, input: &Input, number: u64, event: &Event) -> Result<(), AllocError>
+/// Adds the line of an event, where it has one. No line has the values of a look.
+fn put_line(out: &mut Vec<u8>, input: &Input, number: u64, event: &Brief) -> Result<(), AllocError>
     requires sound { IsSound input.now }
-    requires fits { event_fits input.now.script event.now ≡ true }
-    ensures { OnOk result (out.new.items ≡ out.old.items ++ rows_text (line_rows input.now number event.now event.now.what)) }
+    requires fits { event_fits input.now.script (event_of no_rises event.now) ≡ true }
+    ensures { OnOk result (out.new.items ≡ out.old.items ++ rows_text (line_rows input.now number (event_of no_rises event.now) (what_of no_rises event.now.did))) }
 {
-    match event.what {
-        What::Look { .. } => Ok(()),
-        What::Call { .. }
-        | What::Begin { .. }
-        | What::Normal { .. }
-        | What::End { .. }
-        | What::Expire { .. }
-        | What::Fire { .. }
-        | What::Clean { .. }
-        | What::Switch { .. }
-        | What::Rewait { .. }
-        | What::Flush { .. }
-        | What::Gone { .. }
-        | What::Rest => put_event(out, input, number, event),
+    match event.did {
+        Did::Look { .. } => Ok(()),
+        Did::Call { .. }
+        | Did::Begin { .. }
+        | Did::Normal { .. }
+        | Did::End { .. }
+        | Did::Expire { .. }
+        | Did::Fire { .. }
+        | Did::Clean { .. }
+        | Did::Switch { .. }
+        | Did::Rewait { .. }
+        | Did::Flush { .. }
+        | Did::Gone { .. }
+        | Did::Rest => put_event(out, input, number, event),
     }
 }

@@ -1,9 +1,13 @@
 //! Objects that can be inserted, and what an event does to them.
 ghost use Rattle.std.specs.Prelude.{ℕ, ◌≡◌, option_map};
 ghost use Rattle.nt_event.specs.Fate.{inserted_thing};
+ghost use Rattle.nt_event.specs.declared.events.What.TheVariants as what;
+ghost use Rattle.nt_event.specs.declared.events.Rises.{Rises};
+ghost use Rattle.nt_history.specs.Briefs.{what_of};
 ghost use Rattle.nt_print.specs.Uses.{thing_of, inserted_of, same_thing, is_it, named_by, removed_by};
 
-use nt_event::{ApcNo, Begun, Command, DpcNo, Reply, What};
+use nt_event::{ApcNo, Begun, Command, DpcNo, Reply};
+use nt_history::Did;
 
 /// An object that can be inserted.
 #[derive(Clone, Copy)]
@@ -31,7 +35,7 @@ fn is_same(x: Object, y: Object) -> bool
 
 /// The object that a call inserts.
 fn inserted_by(command: &Command, reply: &Reply) -> Option<Object>
-    ensures { (f : ℕ) → option_map thing_of result ≡ inserted_thing (What.Call f command.now reply.now) }
+    ensures { (f : ℕ) → option_map thing_of result ≡ inserted_thing (what.Call f command.now reply.now) }
 {
     match (command, reply) {
         (Command::Queue(dpc), Reply::Yes) => Some(Object::Dpc(*dpc)),
@@ -64,80 +68,80 @@ fn inserted_by(command: &Command, reply: &Reply) -> Option<Object>
 }
 
 /// The object that an event inserts.
-pub(crate) fn inserted(what: &What) -> Option<Object>
-    ensures { option_map thing_of result ≡ inserted_thing what.now }
+pub(crate) fn inserted(did: &Did) -> Option<Object>
+    ensures { (r : Rises) → option_map thing_of result ≡ inserted_thing (what_of r did.now) }
 {
-    match what {
-        What::Call { command, reply, .. } => inserted_by(command, reply),
-        What::Fire { dpc, reply } => match reply {
+    match did {
+        Did::Call { command, reply, .. } => inserted_by(command, reply),
+        Did::Fire { dpc, reply } => match reply {
             Reply::Yes => Some(Object::Dpc(*dpc)),
             Reply::Done | Reply::No | Reply::Status(_) | Reply::Blocked | Reply::Refused(_) => None,
         },
-        What::Look { .. }
-        | What::Begin { .. }
-        | What::Normal { .. }
-        | What::End { .. }
-        | What::Expire { .. }
-        | What::Clean { .. }
-        | What::Switch { .. }
-        | What::Rewait { .. }
-        | What::Flush { .. }
-        | What::Gone { .. }
-        | What::Rest => None,
+        Did::Look { .. }
+        | Did::Begin { .. }
+        | Did::Normal { .. }
+        | Did::End { .. }
+        | Did::Expire { .. }
+        | Did::Clean { .. }
+        | Did::Switch { .. }
+        | Did::Rewait { .. }
+        | Did::Flush { .. }
+        | Did::Gone { .. }
+        | Did::Rest => None,
     }
 }
 
 /// Whether an event inserts the object.
-pub(crate) fn inserts(object: Object, what: &What) -> bool
-    ensures { result ≡ is_it (thing_of object) (inserted_thing what.now) }
+pub(crate) fn inserts(object: Object, did: &Did) -> bool
+    ensures { (r : Rises) → result ≡ is_it (thing_of object) (inserted_thing (what_of r did.now)) }
 {
-    match inserted(what) {
+    match inserted(did) {
         Some(found) => is_same(object, found),
         None => false,
     }
 }
 
 /// The insert that a Begin or Flush names.
-pub(crate) fn named(what: &What) -> Option<Insert>
-    ensures { option_map inserted_of result ≡ named_by what.now }
+pub(crate) fn named(did: &Did) -> Option<Insert>
+    ensures { (r : Rises) → option_map inserted_of result ≡ named_by (what_of r did.now) }
 {
-    match what {
-        What::Begin {
+    match did {
+        Did::Begin {
             begun: Begun::Dpc(dpc) | Begun::Threaded(dpc),
             from,
         } => Some(Insert {
             number: *from,
             object: Object::Dpc(*dpc),
         }),
-        What::Begin {
+        Did::Begin {
             begun: Begun::Apc(apc),
             from,
         }
-        | What::Flush { apc, from } => Some(Insert {
+        | Did::Flush { apc, from } => Some(Insert {
             number: *from,
             object: Object::Apc(*apc),
         }),
-        What::Begin {
+        Did::Begin {
             begun: Begun::Int(_),
             ..
         }
-        | What::Call { .. }
-        | What::Look { .. }
-        | What::Normal { .. }
-        | What::End { .. }
-        | What::Expire { .. }
-        | What::Fire { .. }
-        | What::Clean { .. }
-        | What::Switch { .. }
-        | What::Rewait { .. }
-        | What::Gone { .. }
-        | What::Rest => None,
+        | Did::Call { .. }
+        | Did::Look { .. }
+        | Did::Normal { .. }
+        | Did::End { .. }
+        | Did::Expire { .. }
+        | Did::Fire { .. }
+        | Did::Clean { .. }
+        | Did::Switch { .. }
+        | Did::Rewait { .. }
+        | Did::Gone { .. }
+        | Did::Rest => None,
     }
 }
 
 /// The object that a call removes.
 fn removed_by_call(command: &Command, reply: &Reply) -> Option<Object>
-    ensures { (f : ℕ) → option_map thing_of result ≡ removed_by (What.Call f command.now reply.now) }
+    ensures { (f : ℕ) → option_map thing_of result ≡ removed_by (what.Call f command.now reply.now) }
 {
     match (command, reply) {
         (Command::Unqueue(dpc), Reply::Yes) => Some(Object::Dpc(*dpc)),
@@ -170,22 +174,22 @@ fn removed_by_call(command: &Command, reply: &Reply) -> Option<Object>
 }
 
 /// The object that an event removes.
-pub(crate) fn removed(what: &What) -> Option<Object>
-    ensures { option_map thing_of result ≡ removed_by what.now }
+pub(crate) fn removed(did: &Did) -> Option<Object>
+    ensures { (r : Rises) → option_map thing_of result ≡ removed_by (what_of r did.now) }
 {
-    match what {
-        What::Call { command, reply, .. } => removed_by_call(command, reply),
-        What::Look { .. }
-        | What::Begin { .. }
-        | What::Normal { .. }
-        | What::End { .. }
-        | What::Expire { .. }
-        | What::Fire { .. }
-        | What::Clean { .. }
-        | What::Switch { .. }
-        | What::Rewait { .. }
-        | What::Flush { .. }
-        | What::Gone { .. }
-        | What::Rest => None,
+    match did {
+        Did::Call { command, reply, .. } => removed_by_call(command, reply),
+        Did::Look { .. }
+        | Did::Begin { .. }
+        | Did::Normal { .. }
+        | Did::End { .. }
+        | Did::Expire { .. }
+        | Did::Fire { .. }
+        | Did::Clean { .. }
+        | Did::Switch { .. }
+        | Did::Rewait { .. }
+        | Did::Flush { .. }
+        | Did::Gone { .. }
+        | Did::Rest => None,
     }
 }

@@ -1,12 +1,16 @@
 //! What a report needs of the events of a history, noted in one pass over them.
 ghost use Rattle.std.specs.Prelude.{◌≡◌, ◌+◌, ◌<◌, ◌≤◌, ◌^◌, [], get_or, length, take, reverse, IfOk, IfSome, true, false, option_map};
 ghost use Rattle.nt_event.specs.Fitting.{events_fit};
+ghost use Rattle.nt_event.specs.declared.events.Rises.{Rises};
+ghost use Rattle.nt_history.specs.Briefs.{what_of};
+ghost use Rattle.nt_print.specs.Lent.{lent};
 ghost use Rattle.nt_print.specs.Counts.{counted};
 ghost use Rattle.nt_print.specs.Uses.{thing_of, thing_fits, inserted_at, named_by, removed_by, with_named, with_event, put_at, dpcs_after, apcs_after, waits_at};
 ghost use Rattle.nt_print.specs.Notes.{AreNotes, HasPlace, HasPlaces, Tells, removal_at};
 
 use crate::inserts::{Object, inserted, inserts, named, removed};
-use nt_event::{Event, Script, What};
+use nt_event::Script;
+use nt_history::{Briefs, Did};
 use std::alloc::{AllocError, Global};
 
 /// What a report needs of the events of a history.
@@ -33,15 +37,15 @@ fn count(counts: &mut [usize], place: usize)
 }
 
 /// Closes the insert that the event of this number names.
-fn note_named(table: &mut [bool], events: &[Event], number: usize, what: &What)
-    requires room { length table.old ≡ length events.now }
-    requires number { number ≤ length events.now }
-    ensures { table.new ≡ with_named events.now number (named_by what.now) table.old }
+fn note_named(table: &mut [bool], events: &Briefs, number: usize, did: &Did)
+    requires room { length table.old ≡ length events.now.briefs.now }
+    requires number { number ≤ length events.now.briefs.now }
+    ensures { (r : Rises) → table.new ≡ with_named (lent events.now) number (named_by (what_of r did.now)) table.old }
 {
-    if let Some(insert) = named(what) {
+    if let Some(insert) = named(did) {
         if insert.number < number as u64 {
             let place = insert.number as usize;
-            if inserts(insert.object, &events[place].what) {
+            if inserts(insert.object, &events.briefs[place].did) {
                 table[place] = false;
             }
         }
@@ -49,13 +53,13 @@ fn note_named(table: &mut [bool], events: &[Event], number: usize, what: &What)
 }
 
 /// Closes the insert that the event of this number names, and opens its own.
-fn note_insert(table: &mut [bool], events: &[Event], number: usize, what: &What)
-    requires room { length table.old ≡ length events.now }
-    requires number { number < length events.now }
-    ensures { table.new ≡ with_event events.now number what.now table.old }
+fn note_insert(table: &mut [bool], events: &Briefs, number: usize, did: &Did)
+    requires room { length table.old ≡ length events.now.briefs.now }
+    requires number { number < length events.now.briefs.now }
+    ensures { (r : Rises) → table.new ≡ with_event (lent events.now) number (what_of r did.now) table.old }
 {
-    note_named(table, events, number, what);
-    if inserted(what).is_some() {
+    note_named(table, events, number, did);
+    if inserted(did).is_some() {
         table[number] = true;
     }
 }
@@ -70,11 +74,11 @@ fn put_at(table: &mut [usize], place: usize, number: usize)
 }
 
 /// Notes what the event of this number removes.
-fn note_removal(dpcs: &mut [usize], apcs: &mut [usize], number: usize, what: &What)
-    ensures dpcs { dpcs.new ≡ dpcs_after number (removed_by what.now) dpcs.old }
-    ensures apcs { apcs.new ≡ apcs_after number (removed_by what.now) apcs.old }
+fn note_removal(dpcs: &mut [usize], apcs: &mut [usize], number: usize, did: &Did)
+    ensures dpcs { (r : Rises) → dpcs.new ≡ dpcs_after number (removed_by (what_of r did.now)) dpcs.old }
+    ensures apcs { (r : Rises) → apcs.new ≡ apcs_after number (removed_by (what_of r did.now)) apcs.old }
 {
-    match removed(what) {
+    match removed(did) {
         Some(Object::Dpc(dpc)) => put_at(dpcs, dpc.0 as usize, number),
         Some(Object::Apc(apc)) => put_at(apcs, apc.0 as usize, number),
         None => {}
@@ -83,37 +87,32 @@ fn note_removal(dpcs: &mut [usize], apcs: &mut [usize], number: usize, what: &Wh
 
 impl Notes {
     /// Notes what the event of this number did, where those before it are noted.
-    fn note_event(&mut self, events: &[Event], number: usize)
-        requires number { number < length events.now }
-        requires room { length self.old.open_inserts.items ≡ length events.now }
-        requires tells { Tells events.now (take number events.now) self.old }
-        ensures places { (script : Script) → HasPlaces script events.now self.old → HasPlaces script events.now self.new }
-        ensures tells { Tells events.now (take (number + 1) events.now) self.new }
+    fn note_event(&mut self, events: &Briefs, number: usize)
+        requires number { number < length events.now.briefs.now }
+        requires room { length self.old.open_inserts.items ≡ length events.now.briefs.now }
+        requires tells { Tells (lent events.now) (take number (lent events.now)) self.old }
+        ensures places { (script : Script) → HasPlaces script (lent events.now) self.old → HasPlaces script (lent events.now) self.new }
+        ensures tells { Tells (lent events.now) (take (number + 1) (lent events.now)) self.new }
     {
-        let event = &events[number];
-        note_insert(
-            self.open_inserts.as_mut_slice(),
-            events,
-            number,
-            &event.what,
-        );
+        let event = &events.briefs[number];
+        note_insert(self.open_inserts.as_mut_slice(), events, number, &event.did);
         note_removal(
             self.dpcs.as_mut_slice(),
             self.apcs.as_mut_slice(),
             number,
-            &event.what,
+            &event.did,
         );
         count(self.made.as_mut_slice(), event.cpu.0 as usize);
     }
 }
 
 /// Tables that tell of no event yet.
-fn blank(alloc: Global, script: &Script, events: &[Event]) -> Result<Notes, AllocError>
-    ensures places { IfOk result (λ notes. HasPlaces script.now events.now notes) }
-    ensures tells { IfOk result (λ notes. Tells events.now [] notes) }
+fn blank(alloc: Global, script: &Script, events: &Briefs) -> Result<Notes, AllocError>
+    ensures places { IfOk result (λ notes. HasPlaces script.now (lent events.now) notes) }
+    ensures tells { IfOk result (λ notes. Tells (lent events.now) [] notes) }
 {
     Ok(Notes {
-        open_inserts: vec![in alloc; false; events.len()]?,
+        open_inserts: vec![in alloc; false; events.briefs.len()]?,
         dpcs: vec![in alloc; 0; script.dpcs.len()]?,
         apcs: vec![in alloc; 0; script.apcs.len()]?,
         made: vec![in alloc; 0; script.cpus as usize]?,
@@ -121,15 +120,11 @@ fn blank(alloc: Global, script: &Script, events: &[Event]) -> Result<Notes, Allo
 }
 
 /// What a report needs of the events of a history of a script.
-pub(crate) fn notes_of(
-    alloc: Global,
-    script: &Script,
-    events: &[Event],
-) -> Result<Notes, AllocError>
-    ensures { IfOk result (λ notes. AreNotes script.now events.now notes) }
+pub(crate) fn notes_of(alloc: Global, script: &Script, events: &Briefs) -> Result<Notes, AllocError>
+    ensures { IfOk result (λ notes. AreNotes script.now (lent events.now) notes) }
 {
     let mut notes = blank(alloc, script, events)?;
-    for number in 0..events.len() {
+    for number in 0..events.briefs.len() {
         notes.note_event(events, number);
     }
     Ok(notes)
@@ -155,27 +150,27 @@ fn last_removal(notes: &Notes, object: Object) -> usize
 }
 
 /// The object that the event of this number inserts.
-fn inserted_at(script: &Script, events: &[Event], number: usize) -> Option<Object>
-    requires number { number < length events.now }
-    requires fit { events_fit script.now events.now ≡ true }
-    ensures inserts { option_map thing_of result ≡ inserted_at events.now number }
+fn inserted_at(script: &Script, events: &Briefs, number: usize) -> Option<Object>
+    requires number { number < length events.now.briefs.now }
+    requires fit { events_fit script.now (lent events.now) ≡ true }
+    ensures inserts { option_map thing_of result ≡ inserted_at (lent events.now) number }
     ensures fits { IfSome result (λ x. thing_fits script.now (thing_of x) ≡ true) }
 {
-    inserted(&events[number].what)
+    inserted(&events.briefs[number].did)
 }
 
 /// The object that the event of this number inserts, where the insert still waits at the end. An event that is no open insert
 /// is not read.
 pub(crate) fn waiting(
     script: &Script,
-    events: &[Event],
+    events: &Briefs,
     notes: &Notes,
     number: usize,
 ) -> Option<Object>
-    requires number { number < length events.now }
-    requires fit { events_fit script.now events.now ≡ true }
-    requires notes { AreNotes script.now events.now notes.now }
-    ensures waits { option_map thing_of result ≡ waits_at (reverse events.now) number (inserted_at events.now number) }
+    requires number { number < length events.now.briefs.now }
+    requires fit { events_fit script.now (lent events.now) ≡ true }
+    requires notes { AreNotes script.now (lent events.now) notes.now }
+    ensures waits { option_map thing_of result ≡ waits_at (reverse (lent events.now)) number (inserted_at (lent events.now) number) }
     ensures fits { IfSome result (λ x. thing_fits script.now (thing_of x) ≡ true) }
 {
     if !is_open(notes, number) {

@@ -8,7 +8,7 @@ use crate::cuts::put_cuts;
 use crate::events::put_events;
 use crate::notes::notes_of;
 use crate::waits::put_waits;
-use nt_event::History;
+use nt_history::History;
 use nt_log::put_schedule_of;
 use nt_script::Input;
 use std::alloc::{AllocError, Global};
@@ -22,13 +22,13 @@ pub fn report(alloc: Global, input: &Input, history: &History) -> Result<Vec<u8>
     requires fit { events_fit input.now.script history.now.events ≡ true }
     ensures { IfOk result (λ text. text.items ≡ report_text input.now history.now) }
 {
-    let events = history.events.as_slice();
-    let notes = notes_of(alloc, &input.script, events)?;
-    let mut out = Vec::with_capacity(alloc, events.len().saturating_mul(BYTES_OF_EVENT))?;
+    let events = history.lend();
+    let notes = notes_of(alloc, &input.script, &events)?;
+    let mut out = Vec::with_capacity(alloc, events.briefs.len().saturating_mul(BYTES_OF_EVENT))?;
     out.extend_from_slice(b"report\n")?;
-    put_events(&mut out, input, events)?;
+    put_events(&mut out, input, &events)?;
     put_cuts(&mut out, input.script.cpus, notes.made.as_slice(), history)?;
-    put_waits(&mut out, input, events, &notes)?;
+    put_waits(&mut out, input, &events, &notes)?;
     put_schedule_of(&mut out, input, history)?;
     Ok(out)
 }

@@ -4,6 +4,9 @@ ghost use Rattle.nt_text.specs.Lines.{row_text};
 ghost use Rattle.nt_event.specs.Fate.{inserted_by};
 ghost use Rattle.nt_event.specs.Fitting.{events_fit};
 ghost use Rattle.nt_script.specs.Sound.{IsSound};
+ghost use Rattle.nt_event.specs.declared.events.Rises.{Rises};
+ghost use Rattle.nt_history.specs.Briefs.{what_of};
+ghost use Rattle.nt_print.specs.Lent.{lent};
 ghost use Rattle.nt_print.specs.Counts.{TellsMade};
 ghost use Rattle.nt_print.specs.Report.{cut_of, cut_rows, made, wait_rows};
 ghost use Rattle.nt_print.specs.Summary.{count_row, how_many, is_begin, is_call, is_refused, is_refused_call, summary_text};
@@ -11,28 +14,29 @@ ghost use Rattle.nt_print.specs.Uses.{inserted_at, waits_at};
 ghost use Rattle.nt_print.specs.Notes.{AreNotes};
 
 use crate::notes::{Notes, notes_of, waiting};
-use nt_event::{Event, History, Reply, What};
+use nt_event::Reply;
+use nt_history::{Briefs, Did, History};
 use nt_script::Input;
 use nt_text::put_number;
 use std::alloc::{AllocError, Global};
 
-fn is_call(what: &What) -> bool
-    ensures { result ≡ is_call what.now }
+fn is_call(did: &Did) -> bool
+    ensures { (r : Rises) → result ≡ is_call (what_of r did.now) }
 {
-    match what {
-        What::Call { .. } => true,
-        What::Look { .. }
-        | What::Begin { .. }
-        | What::Normal { .. }
-        | What::End { .. }
-        | What::Expire { .. }
-        | What::Fire { .. }
-        | What::Clean { .. }
-        | What::Switch { .. }
-        | What::Rewait { .. }
-        | What::Flush { .. }
-        | What::Gone { .. }
-        | What::Rest => false,
+    match did {
+        Did::Call { .. } => true,
+        Did::Look { .. }
+        | Did::Begin { .. }
+        | Did::Normal { .. }
+        | Did::End { .. }
+        | Did::Expire { .. }
+        | Did::Fire { .. }
+        | Did::Clean { .. }
+        | Did::Switch { .. }
+        | Did::Rewait { .. }
+        | Did::Flush { .. }
+        | Did::Gone { .. }
+        | Did::Rest => false,
     }
 }
 
@@ -45,43 +49,43 @@ fn is_refused(reply: &Reply) -> bool
     }
 }
 
-fn is_refused_call(what: &What) -> bool
-    ensures { result ≡ is_refused_call what.now }
+fn is_refused_call(did: &Did) -> bool
+    ensures { (r : Rises) → result ≡ is_refused_call (what_of r did.now) }
 {
-    match what {
-        What::Call { reply, .. } => is_refused(reply),
-        What::Look { .. }
-        | What::Begin { .. }
-        | What::Normal { .. }
-        | What::End { .. }
-        | What::Expire { .. }
-        | What::Fire { .. }
-        | What::Clean { .. }
-        | What::Switch { .. }
-        | What::Rewait { .. }
-        | What::Flush { .. }
-        | What::Gone { .. }
-        | What::Rest => false,
+    match did {
+        Did::Call { reply, .. } => is_refused(reply),
+        Did::Look { .. }
+        | Did::Begin { .. }
+        | Did::Normal { .. }
+        | Did::End { .. }
+        | Did::Expire { .. }
+        | Did::Fire { .. }
+        | Did::Clean { .. }
+        | Did::Switch { .. }
+        | Did::Rewait { .. }
+        | Did::Flush { .. }
+        | Did::Gone { .. }
+        | Did::Rest => false,
     }
 }
 
-fn is_begin(what: &What) -> bool
-    ensures { result ≡ is_begin what.now }
+fn is_begin(did: &Did) -> bool
+    ensures { (r : Rises) → result ≡ is_begin (what_of r did.now) }
 {
-    match what {
-        What::Begin { .. } => true,
-        What::Call { .. }
-        | What::Look { .. }
-        | What::Normal { .. }
-        | What::End { .. }
-        | What::Expire { .. }
-        | What::Fire { .. }
-        | What::Clean { .. }
-        | What::Switch { .. }
-        | What::Rewait { .. }
-        | What::Flush { .. }
-        | What::Gone { .. }
-        | What::Rest => false,
+    match did {
+        Did::Begin { .. } => true,
+        Did::Call { .. }
+        | Did::Look { .. }
+        | Did::Normal { .. }
+        | Did::End { .. }
+        | Did::Expire { .. }
+        | Did::Fire { .. }
+        | Did::Clean { .. }
+        | Did::Switch { .. }
+        | Did::Rewait { .. }
+        | Did::Flush { .. }
+        | Did::Gone { .. }
+        | Did::Rest => false,
     }
 }
 
@@ -94,18 +98,18 @@ struct Tally {
 }
 
 /// Counts calls, refused calls and begins, in one pass over the events.
-fn tally_of(events: &[Event]) -> Tally
-    ensures calls { result.calls ≡ how_many is_call events.now }
-    ensures refused { result.refused ≡ how_many is_refused_call events.now }
-    ensures begins { result.begins ≡ how_many is_begin events.now }
+fn tally_of(events: &Briefs) -> Tally
+    ensures calls { result.calls ≡ how_many is_call (lent events.now) }
+    ensures refused { result.refused ≡ how_many is_refused_call (lent events.now) }
+    ensures begins { result.begins ≡ how_many is_begin (lent events.now) }
 {
     let mut calls = 0;
     let mut refused = 0;
     let mut begins = 0;
-    for event in events {
-        calls += usize::from(is_call(&event.what));
-        refused += usize::from(is_refused_call(&event.what));
-        begins += usize::from(is_begin(&event.what));
+    for event in events.briefs {
+        calls += usize::from(is_call(&event.did));
+        refused += usize::from(is_refused_call(&event.did));
+        begins += usize::from(is_begin(&event.did));
     }
     Tally {
         calls,
@@ -120,7 +124,7 @@ fn cut_line(cpu: u8, count: usize, history: &History) -> u8
     ensures line { result ≡ length (cut_of history.now cpu) }
     ensures one { result ≤ 1 }
 {
-    if count == history.turns as usize {
+    if count == history.turns() as usize {
         1
     } else {
         0
@@ -141,11 +145,11 @@ fn cut_lines(cpus: u8, counts: &[usize], history: &History) -> u8
 }
 
 /// One for an event that is an insert which still waits, else none.
-fn wait_line(input: &Input, events: &[Event], notes: &Notes, number: usize) -> usize
-    requires fit { events_fit input.now.script events.now ≡ true }
-    requires notes { AreNotes input.now.script events.now notes.now }
-    requires number { number < length events.now }
-    ensures line { result ≡ length (inserted_by number (waits_at (reverse events.now) number (inserted_at events.now number))) }
+fn wait_line(input: &Input, events: &Briefs, notes: &Notes, number: usize) -> usize
+    requires fit { events_fit input.now.script (lent events.now) ≡ true }
+    requires notes { AreNotes input.now.script (lent events.now) notes.now }
+    requires number { number < length events.now.briefs.now }
+    ensures line { result ≡ length (inserted_by number (waits_at (reverse (lent events.now)) number (inserted_at (lent events.now) number))) }
     ensures one { result ≤ 1 }
 {
     match waiting(&input.script, events, notes, number) {
@@ -155,13 +159,13 @@ fn wait_line(input: &Input, events: &[Event], notes: &Notes, number: usize) -> u
 }
 
 /// How many inserts no event used up.
-fn wait_lines(input: &Input, events: &[Event], notes: &Notes) -> usize
-    requires fit { events_fit input.now.script events.now ≡ true }
-    requires notes { AreNotes input.now.script events.now notes.now }
-    ensures { result ≡ length (wait_rows input.now.names (reverse events.now)) }
+fn wait_lines(input: &Input, events: &Briefs, notes: &Notes) -> usize
+    requires fit { events_fit input.now.script (lent events.now) ≡ true }
+    requires notes { AreNotes input.now.script (lent events.now) notes.now }
+    ensures { result ≡ length (wait_rows input.now.names (reverse (lent events.now))) }
 {
     let mut lines: usize = 0;
-    for number in 0..events.len() {
+    for number in 0..events.briefs.len() {
         lines += wait_line(input, events, notes, number);
     }
     lines
@@ -185,16 +189,16 @@ pub fn summary(alloc: Global, input: &Input, history: &History) -> Result<Vec<u8
     requires fit { events_fit input.now.script history.now.events ≡ true }
     ensures { IfOk result (λ text. text.items ≡ summary_text input.now history.now) }
 {
-    let events = history.events.as_slice();
-    let notes = notes_of(alloc, &input.script, events)?;
+    let events = history.lend();
+    let notes = notes_of(alloc, &input.script, &events)?;
     let cut = cut_lines(input.script.cpus, notes.made.as_slice(), history);
-    let tally = tally_of(events);
+    let tally = tally_of(&events);
     let mut out = Vec::new(alloc);
-    put_count(&mut out, b"events", events.len())?;
+    put_count(&mut out, b"events", events.briefs.len())?;
     put_count(&mut out, b"calls", tally.calls)?;
     put_count(&mut out, b"refused", tally.refused)?;
     put_count(&mut out, b"begins", tally.begins)?;
     put_count(&mut out, b"cut", cut as usize)?;
-    put_count(&mut out, b"waits", wait_lines(input, events, &notes))?;
+    put_count(&mut out, b"waits", wait_lines(input, &events, &notes))?;
     Ok(out)
 }

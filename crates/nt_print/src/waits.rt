@@ -5,13 +5,14 @@ ghost use Rattle.nt_event.specs.Fate.{inserted_by};
 ghost use Rattle.nt_script.specs.Sound.{IsSound};
 ghost use Rattle.nt_text.specs.Lines.{spaced};
 ghost use Rattle.nt_event.specs.Fitting.{events_fit};
+ghost use Rattle.nt_print.specs.Lent.{lent};
 ghost use Rattle.nt_print.specs.Report.{thing_row, wait_fields, wait_row, wait_rows};
 ghost use Rattle.nt_print.specs.Uses.{thing_of, inserted_of, inserted_at, thing_fits, waits_at};
 ghost use Rattle.nt_print.specs.Notes.{AreNotes};
 
 use crate::inserts::{Insert, Object};
 use crate::notes::{Notes, waiting};
-use nt_event::Event;
+use nt_history::Briefs;
 use nt_script::Input;
 use nt_text::{put_field, put_number};
 use std::alloc::AllocError;
@@ -58,15 +59,15 @@ fn put_wait(out: &mut Vec<u8>, input: &Input, insert: Insert) -> Result<(), Allo
 fn put_wait_of(
     out: &mut Vec<u8>,
     input: &Input,
-    events: &[Event],
+    events: &Briefs,
     notes: &Notes,
     number: usize,
 ) -> Result<(), AllocError>
     requires sound { IsSound input.now }
-    requires fit { events_fit input.now.script events.now ≡ true }
-    requires notes { AreNotes input.now.script events.now notes.now }
-    requires number { number < length events.now }
-    ensures { OnOk result (out.new.items ≡ out.old.items ++ rows_text (map (wait_row input.now.names) (inserted_by number (waits_at (reverse events.now) number (inserted_at events.now number))))) }
+    requires fit { events_fit input.now.script (lent events.now) ≡ true }
+    requires notes { AreNotes input.now.script (lent events.now) notes.now }
+    requires number { number < length events.now.briefs.now }
+    ensures { OnOk result (out.new.items ≡ out.old.items ++ rows_text (map (wait_row input.now.names) (inserted_by number (waits_at (reverse (lent events.now)) number (inserted_at (lent events.now) number))))) }
 {
     match waiting(&input.script, events, notes, number) {
         Some(object) => put_wait(
@@ -85,15 +86,15 @@ fn put_wait_of(
 pub(crate) fn put_waits(
     out: &mut Vec<u8>,
     input: &Input,
-    events: &[Event],
+    events: &Briefs,
     notes: &Notes,
 ) -> Result<(), AllocError>
     requires sound { IsSound input.now }
-    requires fit { events_fit input.now.script events.now ≡ true }
-    requires notes { AreNotes input.now.script events.now notes.now }
-    ensures { OnOk result (out.new.items ≡ out.old.items ++ rows_text (wait_rows input.now.names (reverse events.now))) }
+    requires fit { events_fit input.now.script (lent events.now) ≡ true }
+    requires notes { AreNotes input.now.script (lent events.now) notes.now }
+    ensures { OnOk result (out.new.items ≡ out.old.items ++ rows_text (wait_rows input.now.names (reverse (lent events.now)))) }
 {
-    for number in 0..events.len() {
+    for number in 0..events.briefs.len() {
         put_wait_of(out, input, events, notes, number)?;
     }
     Ok(())

@@ -1,7 +1,9 @@
 use Rattle.std.proofs.Common.{◌≡◌, ◌++◌, reverse, take}
 use Rattle.nt_text.specs.Lines.{rows_text}
+use Rattle.nt_print.specs.Lent.{lent}
 use Rattle.nt_print.proofs.WaitRows.{waits_so_far}
 use Rattle.nt_print.proofs.waits.put_waits.Given as goal
 
 abbrev pub invariant-loop-number : goal.invariant-loop-number
-invariant-loop-number l = l.out.items ≡ l.fn.out.items ++ rows_text (waits_so_far l.input.names (reverse l.events) (reverse (take l.number l.events)))
+invariant-loop-number l = l.out.items ≡ l.fn.out.items
+    ++ rows_text (waits_so_far l.input.names (reverse (lent l.events)) (reverse (take l.number (lent l.events))))
