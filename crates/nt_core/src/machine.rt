@@ -1,5 +1,5 @@
 //! The machine.
-ghost use Rattle.std.specs.Prelude.{◌≡◌, ◌≤◌, ◌<◌, ◌*◌, [], Err, IfErr, IfOk, IsTrue, Ok, OnErr, OnOk, length, reverse, vec_capacity, ◌++◌, ◌∷◌};
+ghost use Rattle.std.specs.Prelude.{◌≡◌, ◌≤◌, ◌*◌, [], Err, IfErr, IfOk, IsTrue, Ok, OnErr, OnOk, length, reverse};
 ghost use Rattle.nt_event.specs.Script.{fits};
 ghost use Rattle.nt_event.specs.Step.{IsRun, step};
 ghost use Rattle.nt_cpus.specs.Cycles.{last_cpu};
@@ -9,7 +9,8 @@ ghost use Rattle.nt_core.specs.States.{with_event};
 use nt_cpu::no_event;
 use nt_cpus::{CoreRefusal, Processors};
 use nt_event::limits::{EVENTS, TURNS};
-use nt_event::{CpuNo, Event, History, Items, Script, Turn};
+use nt_event::{CpuNo, Event, Script, Turn};
+use nt_history::{History, Recorder};
 use nt_plain::PlainFloor;
 use std::alloc::{AllocError, Global};
 use std::marker::Model;
@@ -19,7 +20,7 @@ use std::marker::Model;
 pub struct Core<'s> {
     pub(crate) processors: Processors<'s>,
     pub(crate) floor: PlainFloor<'s>,
-    pub(crate) events: Vec<Event>,
+    pub(crate) events: Recorder,
 }
 
 impl<'s> Model for Core<'s> {
@@ -32,16 +33,6 @@ impl<'s> Model for Core<'s> {
     ghost view = { state_in };
 
     ghost invariant = { IsSoundInside };
-}
-
-/// Puts the item at the end. There is room for it.
-#[inline(always)]
-pub(crate) fn put<T: Copy>(items: &mut Vec<T>, item: &T)
-    requires { length items.old.items < vec_capacity items.old }
-    ensures items { items.new.items ≡ items.old.items ++ item.now ∷ [] }
-    ensures room { vec_capacity items.old ≤ vec_capacity items.new }
-{
-    items.push_reserved(*item);
 }
 
 impl<'s> Core<'s> {
@@ -58,7 +49,7 @@ impl<'s> Core<'s> {
         let count = u32::from(script.cpus) * turns;
         let processors = Processors::new(alloc, script, turns)?;
         let floor = PlainFloor::new(alloc, script, turns)?;
-        let events = Vec::with_capacity(alloc, count as usize)?;
+        let events = Recorder::new(alloc, count as usize)?;
         Ok(Core {
             processors,
             floor,
@@ -102,7 +93,7 @@ impl<'s> Core<'s> {
             Ok(()) => {}
             Err(refusal) => return Err(refusal),
         }
-        put(&mut self.events, event);
+        self.events.put(event);
         Ok(())
     }
 
@@ -110,11 +101,7 @@ impl<'s> Core<'s> {
     pub(crate) fn last_cpu(&self) -> Option<CpuNo>
         ensures { result ≡ last_cpu self.now.past }
     {
-        let count = self.events.len();
-        if count == 0 {
-            return None;
-        }
-        Some(self.events[count - 1].cpu)
+        self.events.last_cpu()
     }
 
     /// The history, with the turn limit.
@@ -127,9 +114,6 @@ impl<'s> Core<'s> {
             floor: _,
             events,
         } = self;
-        History {
-            turns: processors.limit(),
-            events: Items::from_vec(events),
-        }
+        History::new(processors.limit(), events.finish())
     }
 }

@@ -9,7 +9,8 @@ use crate::machine::Core;
 use crate::refusals::ScheduleRefusal;
 use nt_cpu::no_event;
 use nt_event::limits::{EVENTS, TURNS};
-use nt_event::{History, ScheduleKind, Script};
+use nt_event::{ScheduleKind, Script};
+use nt_history::History;
 use nt_turns::{Turns, no_turn};
 use std::alloc::Global;
 

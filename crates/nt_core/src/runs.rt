@@ -5,10 +5,11 @@ ghost use Rattle.nt_event.specs.Script.{fits};
 ghost use Rattle.nt_event.specs.Step.{IsRun, turn_of};
 ghost use Rattle.nt_core.specs.States.{with_event};
 
-use crate::machine::{Core, put};
+use crate::machine::Core;
 use nt_cpu::no_event;
 use nt_event::limits::{EVENTS, TURNS};
-use nt_event::{Event, History, Script};
+use nt_event::{Event, Script};
+use nt_history::History;
 use std::alloc::{AllocError, Global};
 
 impl<'s> Core<'s> {
@@ -21,7 +22,7 @@ impl<'s> Core<'s> {
         if !self.processors.go_on(&mut self.floor, last, event) {
             return false;
         }
-        put(&mut self.events, event);
+        self.events.put(event);
         true
     }
 }
