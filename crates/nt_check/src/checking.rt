@@ -3,12 +3,14 @@ ghost use Rattle.std.specs.Prelude.{◌≡◌, ◌≤◌, ◌*◌, ◌↔◌, []
 ghost use Rattle.nt_event.specs.Script.{fits};
 ghost use Rattle.nt_plain.specs.States.{view_of};
 ghost use Rattle.nt_cpus.specs.Following.{AreAfter};
+ghost use Rattle.nt_history.specs.Briefs.{events_in};
 ghost use Rattle.nt_check.specs.Verdicts.{IsVerdict, made_by};
 
 use nt_cpu::no_event;
 use nt_cpus::{CoreRefusal, Processors};
 use nt_event::limits::{EVENTS, TURNS};
-use nt_event::{Event, History, Script};
+use nt_event::{Event, Script};
+use nt_history::{Briefs, History};
 use nt_plain::PlainFloor;
 use std::alloc::{AllocError, Global};
 
@@ -34,23 +36,22 @@ fn is_made(taken: &Result<(), CoreRefusal>, made: &Event, event: &Event) -> bool
 }
 
 /// The verdict on these events by processors and a floor that made none.
-fn judge(processors: &mut Processors, floor: &mut PlainFloor, events: &[Event]) -> Verdict
+fn judge(processors: &mut Processors, floor: &mut PlainFloor, events: &Briefs<'_>) -> Verdict
     requires { AreAfter [] processors.old floor.old.script (view_of floor.old) }
-    ensures { IsVerdict processors.old.script processors.old.limit events.now result }
+    ensures { IsVerdict processors.old.script processors.old.limit (events_in events.now.briefs.now events.now.rises.now) result }
 {
     let mut made = no_event();
-    let mut number = 0;
-    for event in events {
+    for number in 0..events.briefs.len() {
+        let event = events.event(number);
         let taken = processors.turn(floor, &event.turn(), &mut made);
-        if !is_made(&taken, &made, event) {
-            return Verdict::IllegalAt(number);
+        if !is_made(&taken, &made, &event) {
+            return Verdict::IllegalAt(number as u64);
         }
-        number += 1;
     }
     if processors.settled(floor) {
         Verdict::Legal
     } else {
-        Verdict::IllegalAt(number)
+        Verdict::IllegalAt(events.briefs.len() as u64)
     }
 }
 
@@ -64,8 +65,7 @@ pub fn check(alloc: Global, script: &Script, history: &History) -> Result<Verdic
     requires all { script.now.cpus * history.now.turns ≤ EVENTS }
     ensures { IfOk result (λ v. IsVerdict script.now history.now.turns history.now.events v) }
 {
-    let mut processors = Processors::new(alloc, script, history.turns)?;
-    let mut floor = PlainFloor::new(alloc, script, history.turns)?;
-    let events = history.events.as_slice();
-    Ok(judge(&mut processors, &mut floor, events))
+    let mut processors = Processors::new(alloc, script, history.turns())?;
+    let mut floor = PlainFloor::new(alloc, script, history.turns())?;
+    Ok(judge(&mut processors, &mut floor, &history.lend()))
 }

@@ -1,13 +1,13 @@
 use Rattle.std.proofs.Common.{◌≡◌}
 use Rattle.nt_plain.specs.States.{view_of}
+use Rattle.nt_history.specs.Briefs.{events_in}
 use Rattle.nt_cpus.specs.Following.{AreAfter}
 use Rattle.nt_check.specs.Verdicts.{past_at}
 use Rattle.nt_check.proofs.checking.judge.Given as goal
 
-abbrev pub invariant-loop-event : goal.invariant-loop-event
-invariant-loop-event l = record {
-  after : AreAfter (past_at l.event-index l.events) l.processors l.floor.script (view_of l.floor);
+abbrev pub invariant-loop-number : goal.invariant-loop-number
+invariant-loop-number l = record {
+  after : AreAfter (past_at l.number (events_in l.events.briefs.now l.events.rises.now)) l.processors l.floor.script (view_of l.floor);
   script : l.processors.script ≡ l.fn.processors.script;
   limit : l.processors.limit ≡ l.fn.processors.limit;
-  number : l.number ≡ l.event-index;
 }
