@@ -12,7 +12,8 @@ ghost use Rattle.nt_live.specs.Gathered.{GoesByRobin};
 use nt_cpu::no_event;
 use nt_cpus::Processors;
 use nt_event::limits::{EVENTS, TURNS};
-use nt_event::{CpuNo, Event, History, Items, Script};
+use nt_event::{CpuNo, Event, Script};
+use nt_history::{Events, History};
 use nt_plain::PlainFloor;
 use std::alloc::{AllocError, Global};
 
@@ -72,6 +73,7 @@ fn go_on_all(
 
 /// The run that goes on from these events by the robin rule to its end, made by processors and a floor that nothing happened to.
 fn finished_by(
+    alloc: Global,
     processors: &mut Processors,
     floor: &mut PlainFloor,
     mut events: Vec<Event>,
@@ -86,16 +88,13 @@ fn finished_by(
     let turns = processors.limit();
     repeat_all(processors, floor, events.as_slice());
     go_on_all(processors, floor, &mut events)?;
-    Ok(History {
-        turns,
-        events: Items::from_vec(events),
-    })
+    Ok(History::new(turns, Events::of(alloc, events.as_slice())?))
 }
 
 /// The run that goes on from these events by the robin rule to its end, where each processor may make this many events.
 ///
-/// The script fits, the events are a run of it, and `turns` is 1 to 20,000 and at most 160,000 in all processors together. The list of the
-/// events itself becomes that of the run, with the events of the rule behind them.
+/// The script fits, the events are a run of it, and `turns` is 1 to 20,000 and at most 160,000 in all processors together. The events of
+/// the rule are put behind the others in their list, of which the history is made at the end.
 pub(crate) fn finished(
     alloc: Global,
     script: &Script,
@@ -113,5 +112,5 @@ pub(crate) fn finished(
 {
     let mut processors = Processors::new(alloc, script, turns)?;
     let mut floor = PlainFloor::new(alloc, script, turns)?;
-    finished_by(&mut processors, &mut floor, events)
+    finished_by(alloc, &mut processors, &mut floor, events)
 }

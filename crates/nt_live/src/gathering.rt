@@ -13,7 +13,8 @@ use crate::finishing::finished;
 use crate::team::Team;
 use crate::worker::Worker;
 use nt_cpu::no_event;
-use nt_event::{Event, History, Items, Plan};
+use nt_event::{Event, Plan};
+use nt_history::{Events, History};
 use nt_lane::Lanes;
 use nt_mark::{Marks, Pass, Shared};
 use std::alloc::{AllocError, Global};
@@ -90,10 +91,7 @@ pub fn gather<'s, N: Plan + Shared>(
     } = team;
     let events = merged::<N>(alloc, marks, lanes, pass, list.as_slice())?;
     if settled {
-        Ok(History {
-            turns,
-            events: Items::from_vec(events),
-        })
+        Ok(History::new(turns, Events::of(alloc, events.as_slice())?))
     } else {
         finished(alloc, script, turns, events)
     }

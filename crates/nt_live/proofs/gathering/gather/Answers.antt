@@ -1,5 +1,6 @@
-use Rattle.std.proofs.Common.{List, reverse, subst, sym}
+use Rattle.std.proofs.Common.{List, ap, reverse, subst, sym, ◌∙◌}
 use Rattle.nt_event.specs.declared.events.Event.{Event}
+use Rattle.nt_event.specs.declared.events.History.{History}
 use Rattle.nt_mark.specs.Names.{pass_view}
 use Rattle.nt_live.proofs.Gathers.{asked, gathered_already, gathered_as, team_order}
 use Rattle.nt_live.proofs.Worked.{settled, worked}
@@ -26,7 +27,8 @@ returns-then-settled-clause-gathered g c =
     let more : HaveNoMore limit v team.cpus.items = subst (λ n. HaveNoMore n v team.cpus.items) c.args.board.turns_is (e.more c.if-settled.true) in
     let rests = settled s limit ws team.cpus.items v w team.list.items es c.args.board.script_fits c.requires.all c.in_ok-team.ensures.team e.looked
     c.in_ok-events.ensures more in
-    subst (λ (xs : List Event). IsGathered s limit ws (reverse xs)) (sym c.from_vec.ensures) (gathered_already s limit ws (reverse es) did rests)
+    let same = ap (λ (h : History). h.events) c.new.ensures ∙ (c.in_ok-of.ensures ∙ c.as_slice-then-settled.ensures.value) in
+    subst (λ (xs : List Event). IsGathered s limit ws (reverse xs)) (sym same) (gathered_already s limit ws (reverse es) did rests)
 
 pub finished-requires-clause-run : goal.finished-requires-clause-run
 finished-requires-clause-run g c =
