@@ -7,7 +7,8 @@ ghost use Rattle.nt_live.specs.Teams.{AreOneEach};
 ghost use Rattle.nt_mark.specs.Names.{table_of};
 
 use crate::runs::judged;
-use nt_event::{CpuNo, Event, History, Plan, Script};
+use nt_event::{CpuNo, Plan, Script};
+use nt_history::{Brief, History};
 use nt_live::{Board, Opened, Worker, gather, prepare, work};
 use nt_mark::{Made, Shared};
 use nt_outside::OpenGate;
@@ -87,7 +88,7 @@ pub(crate) fn all_worked<R: Wait>(
 }
 
 /// How many events of processor 0 stand before all others.
-fn front(events: &[Event]) -> usize {
+fn front(events: &[Brief]) -> usize {
     for at in 0..events.len() {
         if events[at].cpu != CpuNo(0) {
             return at;
@@ -97,7 +98,7 @@ fn front(events: &[Event]) -> usize {
 }
 
 /// Whether processor 0 made events, and all of them stand before those of the others.
-fn is_first(events: &[Event]) -> bool {
+fn is_first(events: &[Brief]) -> bool {
     let first = front(events);
     for at in first..events.len() {
         if events[at].cpu == CpuNo(0) {
@@ -119,7 +120,7 @@ pub(crate) fn first_worked<R: Wait>(
     requires all { script.now.cpus * limit ≤ EVENTS }
 {
     let history = history(rt, alloc, script, limit, 1)?;
-    if !is_first(history.events.as_slice()) {
+    if !is_first(history.lend().briefs) {
         return Ok("its events aren't first");
     }
     judged(alloc, script, &history)

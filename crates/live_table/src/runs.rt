@@ -7,7 +7,8 @@ use crate::flags::Flags;
 use crate::gates::{Following, Meeting};
 use nt_check::{Verdict, check};
 use nt_core::{ScheduleRefusal, replay};
-use nt_event::{CpuNo, Event, History, Script};
+use nt_event::{CpuNo, Script};
+use nt_history::{Brief, History};
 use nt_live::live;
 use nt_log::turns_of;
 use nt_outside::OpenGate;
@@ -36,7 +37,7 @@ pub(crate) fn met<R: Threads + Wait + Sync>(
 }
 
 /// The place of a processor's event, where that many of its events stand before it.
-fn place_of(events: &[Event], cpu: CpuNo, before: u32) -> Option<usize> {
+fn place_of(events: &[Brief], cpu: CpuNo, before: u32) -> Option<usize> {
     let mut left = before;
     for at in 0..events.len() {
         if events[at].cpu == cpu {
@@ -50,7 +51,7 @@ fn place_of(events: &[Event], cpu: CpuNo, before: u32) -> Option<usize> {
 }
 
 /// Whether the second event of processor 0 has a greater number than the fifth of processor 1.
-fn is_later(events: &[Event]) -> bool {
+fn is_later(events: &[Brief]) -> bool {
     match (place_of(events, CpuNo(0), 1), place_of(events, CpuNo(1), 4)) {
         (Some(second), Some(fifth)) => fifth < second,
         _ => false,
@@ -73,11 +74,26 @@ pub(crate) fn followed<R: Threads + Wait + Sync>(
     if !flags.all_seen() {
         return Ok("it didn't see the other");
     }
-    Ok(if is_later(history.events.as_slice()) {
+    Ok(if is_later(history.lend().briefs) {
         "its second event is behind the other's fifth"
     } else {
         "its second event is before the other's fifth"
     })
+}
+
+/// Whether the histories have the same events, in all their fields.
+fn have_same_events(one: &History, other: &History) -> bool {
+    let one = one.lend();
+    let other = other.lend();
+    if one.briefs.len() != other.briefs.len() {
+        return false;
+    }
+    for at in 0..one.briefs.len() {
+        if one.event(at) != other.event(at) {
+            return false;
+        }
+    }
+    true
 }
 
 /// Whether the turns of a history give it again.
@@ -87,8 +103,8 @@ fn replayed(alloc: Global, script: &Script, history: &History) -> Result<&'stati
     requires all { script.now.cpus * history.now.turns ≤ EVENTS }
 {
     let schedule = turns_of(alloc, history)?;
-    match replay(alloc, script, history.turns, &schedule.list) {
-        Ok(again) => Ok(if again.events.as_slice() == history.events.as_slice() {
+    match replay(alloc, script, history.turns(), &schedule.list) {
+        Ok(again) => Ok(if have_same_events(&again, history) {
             "legal, and its turns give it again"
         } else {
             "its turns give another history"

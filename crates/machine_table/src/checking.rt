@@ -5,7 +5,8 @@ ghost use Rattle.nt_script.specs.Sound.{IsSound};
 use nt_check::{Verdict, check};
 use nt_core::run;
 use nt_event::limits::TURNS;
-use nt_event::{CpuNo, Event, History, Items, Level, What};
+use nt_event::{CpuNo, Event, Level, What};
+use nt_history::{Events, History};
 use nt_script::Input;
 use std::alloc::{AllocError, Global};
 
@@ -92,21 +93,31 @@ fn changed_place(change: &Change) -> Option<usize> {
     }
 }
 
-/// The events after the change.
-fn changed_events(
-    alloc: Global,
-    history: &History,
-    change: &Change,
-) -> Result<Vec<Event>, AllocError> {
-    let mut events = Vec::new(alloc);
-    events.extend_from_slice(history.events.as_slice())?;
-    if let Change::First(count) = change {
-        events.truncate(*count);
+/// How many of so many events are left after the change.
+fn left_of(count: usize, change: &Change) -> usize
+    ensures { result ≤ count }
+{
+    match change {
+        Change::First(first) => (*first).min(count),
+        Change::Nothing
+        | Change::Level(_, _)
+        | Change::Processor(_, _)
+        | Change::NoThread(_)
+        | Change::Rest(_)
+        | Change::Turns(_) => count,
     }
-    if let Some(at) = changed_place(change) {
-        if at < events.len() {
-            change_event(&mut events[at], change);
+}
+
+/// The events after the change.
+fn changed_events(alloc: Global, history: &History, change: &Change) -> Result<Events, AllocError> {
+    let given = history.lend();
+    let mut events = Events::new(alloc);
+    for at in 0..left_of(given.briefs.len(), change) {
+        let mut event = given.event(at);
+        if changed_place(change) == Some(at) {
+            change_event(&mut event, change);
         }
+        events.push(&event)?;
     }
     Ok(events)
 }
@@ -140,9 +151,6 @@ pub(crate) fn checked(
 {
     let history = run(alloc, &input.script, limit)?;
     let events = changed_events(alloc, &history, &change)?;
-    let changed = History {
-        turns: changed_turns(limit, &change),
-        events: Items::from_vec(events),
-    };
+    let changed = History::new(changed_turns(limit, &change), events);
     check(alloc, &input.script, &changed)
 }

@@ -5,7 +5,8 @@ ghost use Rattle.nt_script.specs.Sound.{IsSound};
 use nt_core::run;
 use nt_cpu::{Cpu, Local, Turned};
 use nt_event::limits::TURNS;
-use nt_event::{CpuNo, Event, History};
+use nt_event::{CpuNo, Event};
+use nt_history::History;
 use nt_plain::PlainFloor;
 use nt_print::report;
 use nt_script::Input;
@@ -66,7 +67,11 @@ fn by_advance(alloc: Global, input: &Input, limit: u32) -> Result<String, AllocE
 }
 
 fn first(history: &History) -> Option<Event> {
-    history.events.as_slice().first().copied()
+    let events = history.lend();
+    if events.briefs.is_empty() {
+        return None;
+    }
+    Some(events.event(0))
 }
 
 fn agreement(event: &str, first: &str) -> &'static str {

@@ -5,7 +5,7 @@ ghost use Rattle.nt_text.specs.declared.lines.TheConstants.{INPUT_LIMIT};
 ghost use Rattle.nt_script.specs.Sound.{IsSound};
 
 use crate::{Outcome, put_outcome, same_or_not, text_of};
-use nt_event::History;
+use nt_history::History;
 use nt_print::{report, summary};
 use nt_report::read_report;
 use nt_script::{Input, read};
