@@ -8,7 +8,7 @@ ghost use Rattle.nt_script.specs.Sound.{IsSound};
 ghost use Rattle.nt_report.specs.Reading.{compared, lines_alike};
 
 use crate::histories::wrong;
-use nt_event::History;
+use nt_history::History;
 use nt_print::report;
 use nt_script::{Input, ScriptRefusal};
 use nt_text::Lines;

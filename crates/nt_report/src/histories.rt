@@ -7,12 +7,12 @@ ghost use Rattle.nt_text.specs.declared.kind.ScriptKind.TheVariants.{WrongKind};
 
 use crate::events::EventLine;
 use crate::walk::Parts;
-use nt_event::{CpuNo, Event, History, Items, Level, Rises, Turn, What};
+use nt_event::{CpuNo, Event, Level, Rises, Turn, What};
+use nt_history::{Events, History};
 use nt_script::ScriptRefusal;
 use nt_text::ScriptKind;
 use nt_turns::{Turns, no_turn};
 use std::alloc::Global;
-use std::slice::from_ref;
 
 /// A look names no thread and has level 0.
 fn look_event(cpu: CpuNo, rises: Rises) -> Event
@@ -37,11 +37,11 @@ pub(crate) fn wrong(line: u32) -> ScriptRefusal
 }
 
 /// Adds an event behind the others.
-fn put(events: &mut Vec<Event>, event: &Event) -> Result<(), ScriptRefusal>
-    ensures events { OnOk result (events.new.items ≡ events.old.items ++ event.now ∷ []) }
+fn put(events: &mut Events, event: &Event) -> Result<(), ScriptRefusal>
+    ensures events { OnOk result (events.new ≡ events.old ++ event.now ∷ []) }
     ensures memory { IfErr result (λ e. e ≡ refusal.NoMemory) }
 {
-    match events.extend_from_slice(from_ref(event)) {
+    match events.push(event) {
         Ok(()) => Ok(()),
         Err(_) => Err(ScriptRefusal::NoMemory),
     }
@@ -56,11 +56,11 @@ fn events_of(
     turns: &Turns,
     lines: &[EventLine],
     line: u32,
-) -> Result<Items<Event>, ScriptRefusal>
+) -> Result<Events, ScriptRefusal>
     requires { line + length lines.now ≤ 4294967295 }
     ensures { GivesRead result (events_of [] turns.now lines.now line) }
 {
-    let mut made = Vec::new(alloc);
+    let mut made = Events::new(alloc);
     let mut left = lines;
     let mut at = line;
     let mut walk = turns.walk();
@@ -81,7 +81,7 @@ fn events_of(
             },
         }
     }
-    Ok(Items::from_vec(made))
+    Ok(made)
 }
 
 /// The history of the parts of a report, whose first line has this number.
@@ -95,8 +95,5 @@ pub(crate) fn history_of(alloc: Global, parts: &Parts, line: u32) -> Result<Hist
         parts.lines.as_slice(),
         line + 1,
     )?;
-    Ok(History {
-        turns: parts.schedule.turns,
-        events,
-    })
+    Ok(History::new(parts.schedule.turns, events))
 }

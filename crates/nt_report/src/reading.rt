@@ -12,7 +12,7 @@ use crate::comparing::compared;
 use crate::histories::history_of;
 use crate::line_input::LineInput;
 use crate::walk::{Parts, ReportWalk};
-use nt_event::History;
+use nt_history::History;
 use nt_script::{Input, ScriptRefusal, Stop};
 use nt_text::Lines;
 use std::alloc::Global;
