@@ -1,13 +1,44 @@
--- The looks of a history, one after another.
-use Rattle.std.proofs.Common.{◌≡◌, ℕ, ◌+◌, ◌<◌, List, length, subst, sym}
-use Rattle.std.proofs.lemmas.List.{take_more}
-use Rattle.std.specs.Prelude.{get_or, take}
-use Rattle.nt_event.specs.declared.events.Event.{Event}
+-- The looks of a history, whose values stand one after another.
+use Rattle.std.proofs.Common.{List, [], length, refl, ℕ, ◌∷◌, ◌≡◌}
+use Rattle.std.specs.List.{AllByRecursion}
+use Rattle.std.specs.Prelude.{get_or, suc, zero}
+use Rattle.nt_event.specs.declared.events.Rises.{Rises}
+use Rattle.nt_event.specs.Classes.{class_count}
+use Rattle.nt_history.specs.declared.brief.Brief.{Brief}
+use Rattle.nt_history.specs.declared.brief.Did.{Did}
+use Rattle.nt_history.specs.declared.brief.Did.TheVariants as did
+use Rattle.nt_history.specs.Briefs.{events_in, no_rises, place_of, what_of}
 use Rattle.nt_ranges.specs.Looks.{LookIsWhole, LooksAreWhole}
-use Rattle.nt_script.proofs.Kept.{all_more}
 
-pub one_more : (events : List Event) (i : ℕ) (e : Event) → i < length events → LooksAreWhole (take i events) → e ≡ get_or events i e → LookIsWhole e.what →
-    LooksAreWhole (take (i + 1) events)
-one_more events i e within so_far is whole =
-    subst LooksAreWhole (sym (take_more events i e within))
-    (all_more (λ (x : Event). LookIsWhole x.what) (take i events) (get_or events i e) so_far (subst (λ (x : Event). LookIsWhole x.what) is whole))
+-- there is a value for each class
+abbrev pub IsWhole : Rises → Type 0
+IsWhole r = length r.value ≡ class_count
+
+abbrev pub AreWhole : List Rises → Type 0
+AreWhole = AllByRecursion IsWhole
+
+-- also at a place where none stand
+each_whole : (rises : List Rises) (at : ℕ) → AreWhole rises → IsWhole (get_or rises at no_rises)
+each_whole [] at h = refl
+each_whole (r ∷ rises) zero h = h.0
+each_whole (r ∷ rises) (suc at) h = each_whole rises at h.1
+
+one_whole : (rises : List Rises) (d : Did) → AreWhole rises → LookIsWhole (what_of (get_or rises (place_of d) no_rises) d)
+one_whole rises (did.Look at) h = each_whole rises at h
+one_whole rises (did.Call f c y) h = tt
+one_whole rises (did.Begin b from) h = tt
+one_whole rises (did.Normal f) h = tt
+one_whole rises (did.End f) h = tt
+one_whole rises (did.Expire key from) h = tt
+one_whole rises (did.Fire d y) h = tt
+one_whole rises (did.Clean class) h = tt
+one_whole rises (did.Switch t status) h = tt
+one_whole rises (did.Rewait f y) h = tt
+one_whole rises (did.Flush a from) h = tt
+one_whole rises (did.Gone t) h = tt
+one_whole rises did.Rest h = tt
+
+-- so the looks of a history are whole, as the values of each are among these
+pub all_whole : (briefs : List Brief) (rises : List Rises) → AreWhole rises → LooksAreWhole (events_in briefs rises)
+all_whole [] rises h = tt
+all_whole (b ∷ briefs) rises h = (one_whole rises b.did h, all_whole briefs rises h)

@@ -8,7 +8,7 @@ ghost use Rattle.ntrun.specs.declared.task.Task.{Task};
 ghost use Rattle.nt_words.specs.Forms.{IsTurns, IsWithin};
 ghost use Rattle.ntrun.specs.Tasks.{IsSoundTask, both_parts, last_line, live_task, reads, report_task, run_task, schedule_task, tail_task, tail_word, two_parts, task_of};
 
-use nt_event::History;
+use nt_history::History;
 use nt_log::{Schedule, read_schedule};
 use nt_report::read_report;
 use nt_script::{Input, ScriptKind, ScriptRefusal, Split, read, split_at};

@@ -1,7 +1,7 @@
 //! What is answered to a script that is run on threads. Only these calls and the top call may wait.
 ghost use Rattle.std.specs.Prelude.{◌≡◌, IfOk, length};
 ghost use Rattle.nt_event.specs.Classes.{class_count};
-ghost use Rattle.nt_ranges.specs.Looks.{LookIsWhole, LooksAreWhole};
+ghost use Rattle.nt_ranges.specs.Looks.{LooksAreWhole};
 ghost use Rattle.nt_script.specs.Sound.{IsSound};
 ghost use Rattle.nt_words.specs.Forms.{IsTurns};
 ghost use Rattle.ntrun.specs.Answer.{IsAnswerTo, text_of};
@@ -10,7 +10,8 @@ ghost use Rattle.ntrun.specs.Tasks.{IsSoundTask};
 
 use crate::answer::{Answer, done, no_memory, reported};
 use crate::task::Task;
-use nt_event::{History, Rises, What};
+use nt_event::Rises;
+use nt_history::History;
 use nt_live::live;
 use nt_outside::Gate;
 use nt_script::Input;
@@ -26,24 +27,15 @@ fn values_of(rises: &Rises) -> [u64; 16]
     rises.value
 }
 
-/// Whether a look has a value for each class, as every look has.
-fn look_is_whole(what: &What) -> bool
-    ensures { LookIsWhole what.now }
-{
-    match what {
-        What::Look { rises } => values_of(rises).len() == 16,
-        _ => true,
-    }
-}
-
 /// Whether each look of a history has a value for each class, as every look has. The definition of a run leaves it open,
 /// and a report and its schedule are read again only where it holds.
 fn looks_are_whole(history: &History) -> bool
     ensures { LooksAreWhole history.now.events }
 {
     let mut whole = true;
-    for event in history.events.as_slice() {
-        whole = look_is_whole(&event.what) && whole;
+    let events = history.lend();
+    for rises in events.rises {
+        whole = values_of(rises).len() == 16 && whole;
     }
     whole
 }

@@ -1,7 +1,11 @@
-use Rattle.ntrun.proofs.Looks.{one_more}
+use Rattle.std.proofs.Common.{subst}
+use Rattle.std.proofs.lemmas.List.{take_all}
+use Rattle.nt_ranges.specs.Looks.{LooksAreWhole}
+use Rattle.ntrun.proofs.Looks.{AreWhole, all_whole}
 use Rattle.ntrun.proofs.threads.looks_are_whole.Goals as goal
 
-pub loop-event-preserved : goal.loop-event-preserved
-loop-event-preserved c =
-    one_more c.as_slice-event-items.result.now c.loop-event.event-index c.event-item.result c.loop-event-test.true c.loop-event.invariant c.event-item.is
-    c.look_is_whole.ensures
+pub returns : goal.returns
+returns c =
+    subst LooksAreWhole c.lend-events.ensures.events
+    (all_whole c.lend-events.result.briefs.now c.lend-events.result.rises.now
+    (subst AreWhole (take_all c.loop-rises.rises-index c.lend-events.result.rises.now c.loop-rises-test.false) c.loop-rises.invariant))
