@@ -1,5 +1,5 @@
 -- The events of a list of briefs to which one was added.
-use Rattle.std.proofs.Common.{List, [], ap, arith, length, refl, subst, sym, ◌∙◌, ◌++◌, ◌+◌, ◌∷◌, ◌≡◌, ◌<◌, ◌≤◌}
+use Rattle.std.proofs.Common.{List, [], slice_set, ap, arith, length, refl, subst, sym, ◌∙◌, ◌++◌, ◌+◌, ◌∷◌, ◌≡◌, ◌<◌, ◌≤◌}
 use Rattle.std.specs.Prelude.{get_or, length, suc, zero, ℕ}
 use Rattle.nt_event.specs.declared.events.Event.{Event}
 use Rattle.nt_event.specs.declared.events.Rises.{Rises}
@@ -25,6 +25,11 @@ grown : {A : Type 0} (xs ys : List A) → length (xs ++ ys) ≡ length xs + leng
 grown [] ys = omega arith
 grown (x ∷ xs) ys = let h = grown xs ys in omega arith
 
+-- the last place was written over
+pub written_last : {A : Type 0} (xs : List A) (x y : A) → slice_set (xs ++ x ∷ []) (length xs) y ≡ xs ++ y ∷ []
+written_last [] x y = refl
+written_last (z ∷ xs) x y = ap (λ ys. z ∷ ys) (written_last xs x y)
+
 -- ---- the events of before
 
 -- what an event did is the same where values were added
@@ -35,7 +40,7 @@ did_still rises more (did.Look at) h = (
   omega (arith, h, grown rises more),
   ap (λ (r : Rises). what.Look r) (before rises more at no_rises h),
 )
-did_still rises more (did.Call f c y) h = (h, refl)
+did_still rises more (did.Call c y f) h = (h, refl)
 did_still rises more (did.Begin b from) h = (h, refl)
 did_still rises more (did.Normal f) h = (h, refl)
 did_still rises more (did.End f) h = (h, refl)

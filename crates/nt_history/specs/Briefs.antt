@@ -1,5 +1,5 @@
 -- Which events a brief for each event and the values of the looks stand for.
-use Rattle.std.specs.Prelude.{List, [], get_or, length, map, replicate, ℕ, ◌<◌, ◌∷◌}
+use Rattle.std.specs.Prelude.{List, [], get_or, length, map, replicate, ℕ, ◌<◌, ◌≡◌, ◌∷◌}
 use Rattle.nt_event.specs.declared.events.Event.{Event}
 use Rattle.nt_event.specs.declared.events.Rises.{Rises}
 use Rattle.nt_event.specs.declared.events.What.{What}
@@ -10,7 +10,7 @@ use Rattle.nt_history.specs.declared.brief.Did.TheVariants as did
 
 -- what is kept of what an event does, where the values of a look stand at this place
 abbrev pub did_of : ℕ → What → Did
-did_of at (what.Call f c y) = did.Call f c y
+did_of at (what.Call f c y) = did.Call c y f
 did_of at (what.Look r) = did.Look at
 did_of at (what.Begin b from) = did.Begin b from
 did_of at (what.Normal f) = did.Normal f
@@ -26,7 +26,7 @@ did_of at what.Rest = did.Rest
 
 -- what an event does, where a look has these values
 abbrev pub what_of : Rises → Did → What
-what_of r (did.Call f c y) = what.Call f c y
+what_of r (did.Call c y f) = what.Call f c y
 what_of r (did.Look at) = what.Look r
 what_of r (did.Begin b from) = what.Begin b from
 what_of r (did.Normal f) = what.Normal f
@@ -68,7 +68,7 @@ no_rises = record { value = replicate 16 0 }
 -- the place of the values, where it is a look
 abbrev pub place_of : Did → ℕ
 place_of (did.Look at) = at
-place_of (did.Call f c y) = 0
+place_of (did.Call c y f) = 0
 place_of (did.Begin b from) = 0
 place_of (did.Normal f) = 0
 place_of (did.End f) = 0
@@ -80,6 +80,22 @@ place_of (did.Rewait f y) = 0
 place_of (did.Flush a from) = 0
 place_of (did.Gone t) = 0
 place_of did.Rest = 0
+
+-- these are the values of what an event does, where it is a look
+abbrev pub HasValues : Rises → What → Type 0
+HasValues r (what.Look values) = r ≡ values
+HasValues r (what.Call f c y) = Unit {0}
+HasValues r (what.Begin b from) = Unit {0}
+HasValues r (what.Normal f) = Unit {0}
+HasValues r (what.End f) = Unit {0}
+HasValues r (what.Expire key from) = Unit {0}
+HasValues r (what.Fire d y) = Unit {0}
+HasValues r (what.Clean class) = Unit {0}
+HasValues r (what.Switch t status) = Unit {0}
+HasValues r (what.Rewait f y) = Unit {0}
+HasValues r (what.Flush a from) = Unit {0}
+HasValues r (what.Gone t) = Unit {0}
+HasValues r what.Rest = Unit {0}
 
 -- the values that a brief refers to
 abbrev pub values_of : List Rises → Brief → Rises
@@ -94,7 +110,7 @@ events_in briefs rises = map (event_in rises) briefs
 -- where it is a look, its values stand among so many
 abbrev pub Stands : ℕ → Did → Type 0
 Stands n (did.Look at) = at < n
-Stands n (did.Call f c y) = Unit {0}
+Stands n (did.Call c y f) = Unit {0}
 Stands n (did.Begin b from) = Unit {0}
 Stands n (did.Normal f) = Unit {0}
 Stands n (did.End f) = Unit {0}

@@ -1,19 +1,21 @@
 //! An event without the values of a look.
-ghost use Rattle.std.specs.Prelude.{◌≡◌};
-ghost use Rattle.nt_history.specs.Briefs.{brief_of, did_of, event_of, place_of, what_of};
+ghost use Rattle.std.specs.Prelude.{◌≡◌, ◌↔◌, IsTrue};
+ghost use Rattle.nt_history.specs.Briefs.{brief_of, did_of, event_of, no_rises, place_of, what_of};
 
 use nt_event::{
     ApcNo, Begun, Command, CpuNo, DpcNo, Event, Level, Reply, Rises, ThreadNo, TimerKey, What,
 };
 
 /// What an event does, where a look has the place of its values.
-#[derive(Clone, Copy, Debug)]
+///
+/// The fields of a call stand in the order in which they take the least room: a brief has 40 bytes.
+#[derive(Clone, Copy, PartialEq, Eq, Debug)]
 pub enum Did {
     /// A routine calls a command.
     Call {
-        frame: u64,
         command: Command,
         reply: Reply,
+        frame: u64,
     },
     /// The processor notices requests; its values stand at this place among those of all looks.
     Look {
@@ -70,32 +72,35 @@ pub enum Did {
 }
 
 impl Did {
-    /// What is kept of this, where the values of a look stand at this place.
-    pub(crate) fn of(what: &What, at: usize) -> Did
-        ensures { result ≡ did_of at what.now }
+    /// Writes what is kept of this, where the values of a look stand at this place.
+    #[inline(always)]
+    pub(crate) fn write(&mut self, what: &What, at: usize)
+        ensures { self.new ≡ did_of at what.now }
     {
         match *what {
             What::Call {
                 frame,
                 command,
                 reply,
-            } => Did::Call {
-                frame,
-                command,
-                reply,
-            },
-            What::Look { .. } => Did::Look { at },
-            What::Begin { begun, from } => Did::Begin { begun, from },
-            What::Normal { frame } => Did::Normal { frame },
-            What::End { frame } => Did::End { frame },
-            What::Expire { key, from } => Did::Expire { key, from },
-            What::Fire { dpc, reply } => Did::Fire { dpc, reply },
-            What::Clean { class } => Did::Clean { class },
-            What::Switch { thread, status } => Did::Switch { thread, status },
-            What::Rewait { frame, reply } => Did::Rewait { frame, reply },
-            What::Flush { apc, from } => Did::Flush { apc, from },
-            What::Gone { thread } => Did::Gone { thread },
-            What::Rest => Did::Rest,
+            } => {
+                *self = Did::Call {
+                    frame,
+                    command,
+                    reply,
+                }
+            }
+            What::Look { .. } => *self = Did::Look { at },
+            What::Begin { begun, from } => *self = Did::Begin { begun, from },
+            What::Normal { frame } => *self = Did::Normal { frame },
+            What::End { frame } => *self = Did::End { frame },
+            What::Expire { key, from } => *self = Did::Expire { key, from },
+            What::Fire { dpc, reply } => *self = Did::Fire { dpc, reply },
+            What::Clean { class } => *self = Did::Clean { class },
+            What::Switch { thread, status } => *self = Did::Switch { thread, status },
+            What::Rewait { frame, reply } => *self = Did::Rewait { frame, reply },
+            What::Flush { apc, from } => *self = Did::Flush { apc, from },
+            What::Gone { thread } => *self = Did::Gone { thread },
+            What::Rest => *self = Did::Rest,
         }
     }
 
@@ -151,7 +156,7 @@ impl Did {
 }
 
 /// An event without the values of a look.
-#[derive(Clone, Copy, Debug)]
+#[derive(Clone, Copy, PartialEq, Eq, Debug)]
 pub struct Brief {
     /// The processor that made it.
     pub cpu: CpuNo,
@@ -164,16 +169,53 @@ pub struct Brief {
 }
 
 impl Brief {
+    /// A brief that is still to be written.
+    pub(crate) const BLANK: Brief = Brief {
+        cpu: CpuNo(0),
+        thread: None,
+        level: Level::PASSIVE,
+        did: Did::Rest,
+    };
+
     /// What is kept of the event, where the values of a look stand at this place.
-    pub(crate) fn of(event: &Event, at: usize) -> Brief
+    #[inline(always)]
+    pub fn of(event: &Event, at: usize) -> Brief
         ensures { result ≡ brief_of at event.now }
     {
-        Brief {
-            cpu: event.cpu,
-            thread: event.thread,
-            level: event.level,
-            did: Did::of(&event.what, at),
+        let mut brief = Brief::BLANK;
+        brief.write(event, at);
+        brief
+    }
+
+    /// Writes what is kept of the event, where the values of a look stand at this place.
+    #[inline(always)]
+    pub(crate) fn write(&mut self, event: &Event, at: usize)
+        ensures { self.new ≡ brief_of at event.now }
+    {
+        self.cpu = event.cpu;
+        self.thread = event.thread;
+        self.level = event.level;
+        self.did.write(&event.what, at);
+    }
+
+    /// The same, where the values of a look stand at this place.
+    #[inline(always)]
+    pub(crate) fn at(&self, at: usize) -> Brief
+        ensures { result ≡ brief_of at (event_of no_rises self.now) }
+    {
+        let mut brief = *self;
+        if let Did::Look { .. } = brief.did {
+            brief.did = Did::Look { at };
         }
+        brief
+    }
+
+    /// Whether they are the same.
+    #[inline(always)]
+    pub(crate) fn is_same(&self, other: &Brief) -> bool
+        ensures { IsTrue result ↔ (self.now ≡ other.now) }
+    {
+        *self == *other
     }
 
     /// The event, where a look has these values.

@@ -16,8 +16,8 @@ pub use recorder::Recorder;
 
 #[cfg(test)]
 mod tests {
-    use super::{Did, Events, History, Recorder};
-    use nt_event::{CpuNo, Event, Level, Rises, ThreadNo, What};
+    use super::{Brief, Did, Events, History, Recorder};
+    use nt_event::{CpuNo, Event, Level, Rises, ThreadNo, Turn, What};
     use std::alloc::AllocError;
 
     /// A look of processor 1, in which each class rises to this.
@@ -55,6 +55,32 @@ mod tests {
             assert_eq!(rt; lent.event(number), given[number]);
         }
         assert!(rt; matches!(lent.briefs[1].did, Did::Gone { .. }));
+        Ok(())
+    }
+
+    #[test]
+    fn an_event_is_known_by_its_number(rt: HostRuntime) -> Result<(), AllocError> {
+        let given = [look(1), gone(), look(2)];
+        let events = Events::of(rt.alloc(), &given)?;
+        let lent = events.lend();
+        let rises = Rises { value: [2; 16] };
+        assert_eq!(rt; lent.turn(1), Turn::Next(CpuNo(2)));
+        assert_eq!(rt; lent.turn(2), Turn::Look(CpuNo(1), rises));
+        assert!(rt; lent.is_event(1, &gone()));
+        assert!(rt; lent.is_event(2, &look(2)));
+        assert!(rt; !lent.is_event(2, &look(1)));
+        Ok(())
+    }
+
+    #[test]
+    fn a_brief_is_added_as_its_event(rt: HostRuntime) -> Result<(), AllocError> {
+        let mut events = Events::of(rt.alloc(), &[look(1)])?;
+        events.push_brief(&Brief::of(&gone(), 0))?;
+        events.push_brief(&Brief::of(&look(2), 0))?;
+        let lent = events.lend();
+        assert_eq!(rt; lent.event(0), look(1));
+        assert_eq!(rt; lent.event(1), gone());
+        assert_eq!(rt; lent.event(2), look(0));
         Ok(())
     }
 

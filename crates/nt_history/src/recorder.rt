@@ -4,7 +4,7 @@ ghost use Rattle.nt_history.specs.Briefs.{rises_of};
 ghost use Rattle.nt_history.specs.Recorded.{cpu_of_first};
 
 use crate::brief::Brief;
-use crate::events::{Events, put};
+use crate::events::{Events, put, put_brief};
 use nt_event::{CpuNo, Event, Rises, What};
 use std::alloc::{AllocError, Global};
 use std::marker::Model;
@@ -60,7 +60,7 @@ impl Recorder {
     {
         let at = self.rises.len();
         put_rises(&mut self.rises, &event.what);
-        put(&mut self.briefs, Brief::of(event, at));
+        put_brief(&mut self.briefs, event, at);
     }
 
     /// How many events there are.

@@ -4,23 +4,23 @@ use Rattle.nt_history.specs.Briefs.{HasEach, brief_of, events_in}
 use Rattle.nt_history.specs.Recorded.{Recorded}
 use Rattle.nt_history.proofs.Lists.{fewer_put, one_put}
 use Rattle.nt_history.proofs.recorder.Recorder.put.Goals as goal
-use Rattle.nt_history.proofs.recorder.Recorder.put.Goals.{After-put}
+use Rattle.nt_history.proofs.recorder.Recorder.put.Goals.{After-put_brief}
 
-is_put : (c : After-put) →
-    HasEach c.put.new.items.items c.put_rises.new.rises.items
-    × (events_in c.put.new.items.items c.put_rises.new.rises.items
+is_put : (c : After-put_brief) →
+    HasEach c.put_brief.new.briefs.items c.put_rises.new.rises.items
+    × (events_in c.put_brief.new.briefs.items c.put_rises.new.rises.items
     ≡ events_in c.self.inside.briefs.items c.self.inside.rises.items ++ c.args.event.now ∷ [])
 is_put c =
-    let e : c.put.new.items.items ≡ c.self.inside.briefs.items ++ brief_of (length c.self.inside.rises.items) c.args.event.now ∷ [] = cc in
+    let e : c.put_brief.new.briefs.items ≡ c.self.inside.briefs.items ++ brief_of (length c.self.inside.rises.items) c.args.event.now ∷ [] = cc in
     one_put c.args.event.now c.self.inside.briefs.items _ c.self.inside.rises.items _ e c.put_rises.ensures.items c.self.invariant.each
 
 pub invariant_of-self : goal.invariant_of-self
 invariant_of-self c = record {
   each = (is_put c).0;
   fewer =
-      let e : c.put.new.items.items ≡ c.self.inside.briefs.items ++ brief_of (length c.self.inside.rises.items) c.args.event.now ∷ [] = cc in
+      let e : c.put_brief.new.briefs.items ≡ c.self.inside.briefs.items ++ brief_of (length c.self.inside.rises.items) c.args.event.now ∷ [] = cc in
       fewer_put c.args.event.now c.self.inside.briefs.items _ c.self.inside.rises.items _ e c.put_rises.ensures.items c.self.invariant.fewer;
-  briefs = let h = c.self.invariant.briefs in let k = c.put.ensures.room in omega arith;
+  briefs = let h = c.self.invariant.briefs in let k = c.put_brief.ensures.room in omega arith;
   rises = let h = c.self.invariant.rises in let k = c.put_rises.ensures.room in omega arith;
 }
 
