@@ -1,4 +1,3 @@
 pub mod Stepping
 pub mod Verdicts
-pub mod Same
 pub mod SameEvents

@@ -32,116 +32,12 @@ use Rattle.nt_event.specs.contracts.numbers.CpuNoPartialEq.TheImpl as cpu_eq
 use Rattle.nt_event.specs.contracts.numbers.DpcNoPartialEq.TheImpl as dpc_eq
 use Rattle.nt_event.specs.contracts.numbers.ThreadNoPartialEq.TheImpl as thread_eq
 use Rattle.nt_event.specs.contracts.numbers.TimerNoPartialEq.TheImpl as timer_eq
-use Rattle.nt_check.proofs.Same.{Same, bool_same, enum_same, nat_same, none_same, one_same, option_same, three_same, two_same}
-
--- ---- numbers
-
-cpu_same : Same cpu_eq.ghosts.eq
-cpu_same x y h = ap cpu (eqb-true x.0 y.0 h)
-
-thread_same : Same thread_eq.ghosts.eq
-thread_same x y h = ap thread (eqb-true x.0 y.0 h)
-
-dpc_same : Same dpc_eq.ghosts.eq
-dpc_same x y h = ap dpc (eqb-true x.0 y.0 h)
-
-apc_same : Same apc_eq.ghosts.eq
-apc_same x y h = ap apc (eqb-true x.0 y.0 h)
-
-timer_same : Same timer_eq.ghosts.eq
-timer_same x y h = ap timer (eqb-true x.0 y.0 h)
-
--- ---- commands and replies
-
-mode_same : Same mode_eq.ghosts.eq
-mode_same = same_true mode.the_type tt
-
-importance_same : Same importance_eq.ghosts.eq
-importance_same = same_true importance.the_type tt
-
-refusal_same : Same refusal_eq.ghosts.eq
-refusal_same = same_true refusal.the_type tt
-
--- Done, Yes, No, Status, Blocked, Refused
-reply_same : Same reply_eq.ghosts.eq
-reply_same =
-    enum_same reply.enum _
-    (none_same, (none_same, (none_same, (one_same nat_same, (none_same, (one_same refusal_same, tt))))))
-
-key_same : Same key_eq.ghosts.eq
-key_same = enum_same key.enum _ (one_same timer_same, (one_same thread_same, tt))
-
-command_same : Same command_eq.ghosts.eq
-command_same = enum_same command.enum _ (
-  one_same nat_same,
-  (
-    one_same nat_same,
-    (
-      one_same dpc_same,
-      (
-        one_same dpc_same,
-        (
-          two_same dpc_same importance_same,
-          (
-            two_same dpc_same (option_same cpu_same),
-            (
-              three_same timer_same nat_same nat_same,
-              (
-                one_same timer_same,
-                (
-                  one_same apc_same,
-                  (
-                    one_same apc_same,
-                    (
-                      none_same,
-                      (
-                        none_same,
-                        (
-                          none_same,
-                          (
-                            none_same,
-                            (
-                              two_same mode_same (bool_same _ refl refl),
-                              (
-                                three_same mode_same (bool_same _ refl refl) nat_same,
-                                (
-                                  one_same thread_same,
-                                  (
-                                    two_same thread_same mode_same,
-                                    (
-                                      one_same mode_same,
-                                      (
-                                        two_same cpu_same nat_same,
-                                        (one_same nat_same, (none_same, (none_same, (one_same nat_same, tt)))),
-                                      ),
-                                    ),
-                                  ),
-                                ),
-                              ),
-                            ),
-                          ),
-                        ),
-                      ),
-                    ),
-                  ),
-                ),
-              ),
-            ),
-          ),
-        ),
-      ),
-    ),
-  ),
-)
-
--- ---- events
+use Rattle.nt_history.proofs.Same.{Same, bool_same, enum_same, nat_same, none_same, one_same, option_same, three_same, two_same}
+use Rattle.nt_history.proofs.SameParts.{apc_same, begun_same, command_same, cpu_same, dpc_same, key_same, reply_same, thread_same}
 
 rises_same : Same rises_eq.ghosts.eq
 rises_same x y h =
     ap (λ (v : List ℕ). record { value = v }) ((slice_eq-Decides Decides-eqb x.value y.value _ refl).0 h)
-
-begun_same : Same begun_eq.ghosts.eq
-begun_same = enum_same begun.enum _ (one_same nat_same, (one_same dpc_same, (one_same dpc_same, (one_same apc_same, tt))))
 
 what_same : Same what_eq.ghosts.eq
 what_same = enum_same what.enum _ (

@@ -3,7 +3,7 @@ use Rattle.std.proofs.Common.{ap, inr, subst, sym, ◌∙◌}
 use Rattle.std.proofs.lemmas.List.{reverse-append, take_more}
 use Rattle.std.proofs.lemmas.Option.{get_or_from_slice_get, slice_get_within}
 use Rattle.std.proofs.Math.Seq.{take-length}
-use Rattle.std.specs.Prelude.{Bool, Err, IfErr, IfOk, IsTrue, List, Ok, OnOk, Result, Some, [], false, length, reverse, slice_get, take, true, ℕ, ◌*◌, ◌++◌, ◌+◌, ◌<◌, ◌∷◌, ◌≡◌, ◌≤◌}
+use Rattle.std.specs.Prelude.{Bool, Err, IfErr, IfOk, IsTrue, List, None, Ok, OnOk, Option, Result, Some, [], false, length, option_map, refl, reverse, slice_get, take, true, ℕ, ◌*◌, ◌++◌, ◌+◌, ◌<◌, ◌∷◌, ◌≡◌, ◌≤◌}
 use Rattle.nt_event.specs.declared.events.Event.{Event}
 use Rattle.nt_event.specs.declared.events.Turn.{Turn}
 use Rattle.nt_event.specs.declared.limits.TheConstants.{EVENTS, TURNS}
@@ -34,6 +34,18 @@ past_more events n e h =
 -- all of them
 pub past_whole : (events : List Event) (n : ℕ) → n ≡ length events → past_at n events ≡ reverse events
 past_whole events n h = ap (λ (k : ℕ). past_at k events) h ∙ ap reverse (take-length events)
+
+pub same_some : (x y : Event) → Some x ≡ Some y → x ≡ y
+same_some x y h = cc
+
+pub same_ok : (u : Result (Unit {0}) CoreRefusal) (v : Unit {0}) (x y : Event) → u ≡ Ok v → made_by u x ≡ Ok y → x ≡ y
+same_ok (Ok u) v x y h k = cc
+same_ok (Err r) v x y h k = absurd cc
+
+-- the event at a place where one has a turn
+pub event_at : (x : Option Event) (t : Turn) → option_map turn_of x ≡ Some t → (e : Event) × ((x ≡ Some e) × (t ≡ turn_of e))
+event_at None t h = absurd cc
+event_at (Some e) t h = (e, (refl, cc))
 
 -- ---- what the processors do with them
 

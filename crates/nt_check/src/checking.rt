@@ -1,5 +1,7 @@
 //! The check of a history.
-ghost use Rattle.std.specs.Prelude.{◌≡◌, ◌≤◌, ◌*◌, ◌↔◌, [], IfOk, IsTrue, Ok};
+ghost use Rattle.std.specs.Prelude.{◌≡◌, ◌<◌, ◌≤◌, ◌*◌, ◌↔◌, [], IfOk, IsTrue, Ok, Some, length};
+ghost use Rattle.std.specs.List.{slice_get};
+ghost use Rattle.nt_event.specs.declared.events.Event.{Event as EventOf};
 ghost use Rattle.nt_event.specs.Script.{fits};
 ghost use Rattle.nt_plain.specs.States.{view_of};
 ghost use Rattle.nt_cpus.specs.Following.{AreAfter};
@@ -25,12 +27,18 @@ pub enum Verdict {
     IllegalAt(u64),
 }
 
-/// Whether a turn was taken and made this event, in all its fields.
-fn is_made(taken: &Result<(), CoreRefusal>, made: &Event, event: &Event) -> bool
-    ensures { IsTrue result ↔ (made_by taken.now made.now ≡ Ok event.now) }
+/// Whether a turn was taken and made the event of this number, in all its fields.
+fn is_made(
+    taken: &Result<(), CoreRefusal>,
+    made: &Event,
+    events: &Briefs<'_>,
+    number: usize,
+) -> bool
+    requires { number < length events.now.briefs.now }
+    ensures { (e : EventOf) → slice_get (events_in events.now.briefs.now events.now.rises.now) number ≡ Some e → IsTrue result ↔ (made_by taken.now made.now ≡ Ok e) }
 {
     match taken {
-        Ok(()) => *made == *event,
+        Ok(()) => events.is_event(number, made),
         Err(_) => false,
     }
 }
@@ -42,9 +50,8 @@ fn judge(processors: &mut Processors, floor: &mut PlainFloor, events: &Briefs<'_
 {
     let mut made = no_event();
     for number in 0..events.briefs.len() {
-        let event = events.event(number);
-        let taken = processors.turn(floor, &event.turn(), &mut made);
-        if !is_made(&taken, &made, &event) {
+        let taken = processors.turn(floor, &events.turn(number), &mut made);
+        if !is_made(&taken, &made, events, number) {
             return Verdict::IllegalAt(number as u64);
         }
     }

@@ -4,13 +4,14 @@ use Rattle.nt_plain.specs.States.{view_of}
 use Rattle.nt_history.specs.Briefs.{events_in}
 use Rattle.nt_history.proofs.Lists.{as_many}
 use Rattle.nt_check.specs.Verdicts.{made_by}
-use Rattle.nt_check.proofs.Stepping.{all_unsettled, illegal_here, legal_next, made_err, made_ok}
+use Rattle.nt_check.proofs.Stepping.{all_unsettled, event_at, illegal_here, legal_next, made_err, made_ok}
 use Rattle.nt_check.proofs.checking.judge.Goals as goal
 
 pub returns-then-not-is_made : goal.returns-then-not-is_made
 returns-then-not-is_made c =
     let i = c.loop-number.invariant in
-    let e = c.event-event.result in
+    let at = event_at _ c.turn.result c.turn.ensures in
+    let e = at.0 in
     let n = c.loop-number.number in
     let p = c.loop-number in
     let q = c.turn-taken.new in
@@ -22,15 +23,16 @@ returns-then-not-is_made c =
     let events = events_in c.args.events.now.briefs.now c.args.events.now.rises.now in
     inl (
       e,
-      illegal_here _ _ events n e p.processors q.self c.turn.result p.floor.script q.floor.script v w r i.after i.script i.limit c.event-event.ensures
-          c.turn.ensures made (made_err p.processors c.turn.result p.floor.script v c.turn-taken.result q.event t.err)
-          (λ k. let z = c.is_made.ensures.1 k in let y = c.if-not-is_made.true in cc),
+      illegal_here _ _ events n e p.processors q.self c.turn.result p.floor.script q.floor.script v w r i.after i.script i.limit at.1.0
+          at.1.1 made (made_err p.processors c.turn.result p.floor.script v c.turn-taken.result q.event t.err)
+          (λ k. let z = (c.is_made.ensures e at.1.0).1 k in let y = c.if-not-is_made.true in cc),
     )
 
 pub loop-number-preserved : goal.loop-number-preserved
 loop-number-preserved c =
     let i = c.loop-number.invariant in
-    let e = c.event-event.result in
+    let at = event_at _ c.turn.result c.turn.ensures in
+    let e = at.0 in
     let n = c.loop-number.number in
     let p = c.loop-number in
     let q = c.turn-taken.new in
@@ -41,8 +43,8 @@ loop-number-preserved c =
     let made = made_ok p.processors q.self c.turn.result p.floor.script q.floor.script v w c.turn-taken.result q.event t.ok in
     let events = events_in c.args.events.now.briefs.now c.args.events.now.rises.now in
     record {
-      after = legal_next events n e p.processors q.self c.turn.result p.floor.script q.floor.script v w r i.after c.event-event.ensures made
-          (c.is_made.ensures.0 (let y = c.if-not-is_made.false in cc));
+      after = legal_next events n e p.processors q.self c.turn.result p.floor.script q.floor.script v w r i.after at.1.0 made
+          ((c.is_made.ensures e at.1.0).0 (let y = c.if-not-is_made.false in cc));
       script = t.kept.0 ∙ i.script;
       limit = t.kept.1 ∙ i.limit;
     }
