@@ -102,29 +102,7 @@ impl<'s> Cpu<'s> {
     pub(crate) fn standing(&self) -> Stand
         ensures { result ≡ stand_in self.now.cpu self.now.own }
     {
-        let top = self.frames.top();
-        let (frame, body, again) = match top {
-            Some(frame) => (frame.name, Some(frame.body), frame.again),
-            None => (0, None, None),
-        };
-        let regions = self.frames.regions();
-        let below = if self.frames.has_own() {
-            regions
-        } else {
-            self.frames.below()
-        };
-        Stand {
-            cpu: self.cpu,
-            thread: self.frames.running(),
-            frame,
-            body,
-            level: self.frames.level(),
-            regions,
-            below,
-            after: self.frames.after(),
-            again,
-            sweep: self.kept.sweep,
-        }
+        self.frames.stand(self.cpu, self.kept.sweep)
     }
 
     /// What the call of a command asks for.

@@ -2,7 +2,7 @@
 ghost use Rattle.nt_frame.specs.Calls.{MayCallAll};
 
 use nt_event::{
-    Again, ApcKind, ApcNo, Body, Command, CpuNo, DpcNo, Mode, Region, Regions, ThreadNo,
+    Again, ApcKind, ApcNo, Body, Command, CpuNo, DpcNo, Mode, Region, Regions, Stand, ThreadNo,
 };
 use nt_frame::{FrameAnswer, FrameCall, FrameView, Frames, perform_all};
 use nt_level::Level;
@@ -64,6 +64,11 @@ fn write_innermost(rt: HostRuntime, frame: Option<FrameView>) -> io::Result<()> 
     println!(rt; "  innermost {frame:?}")
 }
 
+/// Writes where a processor stands that owes a sweep.
+fn write_stand(rt: HostRuntime, stand: Stand) -> io::Result<()> {
+    println!(rt; "  {stand:?}")
+}
+
 /// Writes what the frames tell.
 fn write_questions(rt: HostRuntime, frames: &Frames) -> io::Result<()> {
     write_levels(rt, frames.level(), frames.after())?;
@@ -71,7 +76,8 @@ fn write_questions(rt: HostRuntime, frames: &Frames) -> io::Result<()> {
     write_part(rt, frames.has_own(), frames.is_on_thread())?;
     write_regions(rt, frames.regions(), "")?;
     write_regions(rt, frames.below(), " then")?;
-    write_innermost(rt, frames.innermost())
+    write_innermost(rt, frames.innermost())?;
+    write_stand(rt, frames.stand(CpuNo(0), true))
 }
 
 /// Writes why the command would be refused, if it would.
