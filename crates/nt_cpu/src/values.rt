@@ -45,11 +45,10 @@ impl Values {
         ensures same { result ≡ false → self.new ≡ self.old }
     {
         match notice {
-            Notice::Nothing => return false,
+            Notice::Nothing => false,
             Notice::Own { class, value } => raise_one(&mut self.values, *class, *value),
             Notice::Values(rises) => raise(&mut self.values, &rises.value),
         }
-        true
     }
 
     /// The value of this class is the other's.
@@ -86,23 +85,33 @@ impl Values {
     }
 }
 
-fn raise(values: &mut [u64; 16], rises: &[u64; 16])
-    ensures { values.new ≡ table 16 (λ c. max (value_at values.old c) (value_at rises.now c)) }
+/// Raises each value to the other one of its class. False only where the values are as before.
+fn raise(values: &mut [u64; 16], rises: &[u64; 16]) -> bool
+    ensures values { values.new ≡ table 16 (λ c. max (value_at values.old c) (value_at rises.now c)) }
+    ensures same { result ≡ false → values.new ≡ values.old }
 {
+    let mut raised = false;
     for i in 0..16 {
         if values[i] < rises[i] {
             values[i] = rises[i];
+            raised = true;
         }
     }
+    raised
 }
 
-fn raise_one(values: &mut [u64; 16], class: u8, value: u64)
+/// Raises the value of this class to this one. False only where the values are as before.
+fn raise_one(values: &mut [u64; 16], class: u8, value: u64) -> bool
     requires { class < 16 }
-    ensures { values.new ≡ table 16 (λ c. max (value_at values.old c) (if class == c then value else 0)) }
+    ensures values { values.new ≡ table 16 (λ c. max (value_at values.old c) (if class == c then value else 0)) }
+    ensures same { result ≡ false → values.new ≡ values.old }
 {
     let place = class as usize;
     if values[place] < value {
         values[place] = value;
+        true
+    } else {
+        false
     }
 }
 
