@@ -1,4 +1,5 @@
 pub mod Steps
+pub mod BareLines
 pub mod Commands
 pub mod PlainFields
 pub mod PlainEvents

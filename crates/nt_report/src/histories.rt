@@ -5,7 +5,7 @@ ghost use Rattle.nt_report.specs.Reading.{events_of, history_of, look_event};
 ghost use Rattle.nt_script.specs.declared.reading.ScriptRefusal.TheVariants as refusal;
 ghost use Rattle.nt_text.specs.declared.kind.ScriptKind.TheVariants.{WrongKind};
 
-use crate::events::EventLine;
+use crate::kept::KeptLine;
 use crate::walk::Parts;
 use nt_event::{CpuNo, Event, Level, Rises, Turn, What};
 use nt_history::{Events, History};
@@ -47,6 +47,17 @@ fn put(events: &mut Events, event: &Event) -> Result<(), ScriptRefusal>
     }
 }
 
+/// Adds the event of a line behind the others.
+fn put_line(events: &mut Events, line: &KeptLine) -> Result<(), ScriptRefusal>
+    ensures events { OnOk result (events.new ≡ events.old ++ line.now.event ∷ []) }
+    ensures memory { IfErr result (λ e. e ≡ refusal.NoMemory) }
+{
+    match line.add_to(events) {
+        Ok(()) => Ok(()),
+        Err(_) => Err(ScriptRefusal::NoMemory),
+    }
+}
+
 /// The events of the turns: a look turn gives a look, and another turn the next event line, whose number is the turn's place.
 ///
 /// `line` is the number of the first event line in the text. WrongKind at the event line that has another number, or behind
@@ -54,7 +65,7 @@ fn put(events: &mut Events, event: &Event) -> Result<(), ScriptRefusal>
 fn events_of(
     alloc: Global,
     turns: &Turns,
-    lines: &[EventLine],
+    lines: &[KeptLine],
     line: u32,
 ) -> Result<Events, ScriptRefusal>
     requires { line + length lines.now ≤ 4294967295 }
@@ -70,10 +81,10 @@ fn events_of(
             Turn::Look(cpu, rises) => put(&mut made, &look_event(*cpu, *rises))?,
             Turn::Next(_) | Turn::Switch(_, _) => match left {
                 [first, more @ ..] => {
-                    if first.number != made.len() as u64 {
+                    if first.number() != made.len() as u64 {
                         return Err(wrong(at));
                     }
-                    put(&mut made, &first.event)?;
+                    put_line(&mut made, first)?;
                     left = more;
                     at += 1;
                 }

@@ -14,6 +14,7 @@ mod comparing;
 mod events;
 mod fields;
 mod histories;
+mod kept;
 mod line_input;
 mod places;
 mod reading;

@@ -1,9 +1,11 @@
 //! Reading the lines of a report, each by its form.
 ghost use Rattle.std.specs.Prelude.{◌≡◌, OnOk};
+ghost use Rattle.nt_history.specs.Briefs.{HasValues, no_rises};
 ghost use Rattle.nt_report.specs.Reading.{cut_line, kept, read_object, waits_line};
 
 use crate::events::{EventLine, event_line};
 use crate::fields::processor_of;
+use crate::kept::KeptLine;
 use crate::line_input::LineInput;
 use crate::places::{LineWord, ReportPlace, word_at};
 use nt_event::{CpuNo, Items, limits};
@@ -13,12 +15,11 @@ use nt_script::{Input, ScriptRefusal, Stop};
 use nt_text::{Fields, Line, ScriptKind};
 use std::alloc::{AllocError, Global};
 use std::marker::Model;
-use std::slice::from_ref;
 
 /// The event lines and the schedule of a report.
 #[derive(Drop)]
 pub(crate) struct Parts {
-    pub lines: Items<EventLine>,
+    pub lines: Items<KeptLine>,
     pub schedule: Schedule,
 }
 
@@ -28,7 +29,7 @@ pub(crate) struct ReportWalk {
     /// What was read last.
     place: ReportPlace,
     /// The event lines, as many as a schedule may have turns.
-    lines: Vec<EventLine>,
+    lines: Vec<KeptLine>,
     /// What was read of the schedule.
     schedule: ScheduleWalk,
 }
@@ -72,14 +73,16 @@ fn waits_line(names: &Names, args: &mut Fields) -> Result<Named, ScriptKind>
     read_object(names, kind, args.take())
 }
 
-/// Adds an event line behind the others, where a schedule may have a turn for it.
-fn keep_line(lines: &mut Vec<EventLine>, line: &EventLine) -> Result<(), AllocError>
+/// Adds an event line behind the others, where a schedule may have a turn for it. Its event is no look.
+fn keep_line(lines: &mut Vec<KeptLine>, line: &EventLine) -> Result<(), AllocError>
+    requires { HasValues no_rises line.now.event.what }
     ensures { OnOk result (lines.new.items ≡ kept lines.old.items line.now) }
 {
     if lines.len() >= limits::EVENTS as usize {
         return Ok(());
     }
-    lines.extend_from_slice(from_ref(line))
+    lines.push(KeptLine::of(line))?;
+    Ok(())
 }
 
 impl ReportWalk {
