@@ -3,8 +3,8 @@
 //! [`LaneAnswers`] is the interface of the small questions: is the object queued and where does an insert go, what is first in a part of
 //! a queue, what does a wait answer, which APC is due, is the timer set. The states of all lanes of a script answer them, and so do a few
 //! lanes that are held by their locks; both hand out the states of threads, which answer the questions of [`ThreadAnswers`] themselves.
-//! Over it stand what every floor needs before it makes an event: [`decide`] finds the event of a job, [`event_lanes`] the lanes that it
-//! touches, [`event`] and [`due`] make it, [`event_asks`] tells what it asks for.
+//! Over it stand what every floor needs before it makes an event: [`decide`] finds the event of a job, [`decide_into`] writes it where the
+//! caller keeps it, [`event_lanes`] finds the lanes that it touches, [`event`] and [`due`] make it, [`event_asks`] tells what it asks for.
 //!
 //! A value tells states of all lanes, and holds some of them: a question may be asked only of a lane that is held. What a value tells of a
 //! lane that it doesn't hold is nobody's state; no function here reads it. The lanes to be held are lists of small definitions
@@ -32,7 +32,7 @@ mod touching;
 
 pub use answers::LaneAnswers;
 pub use asking::{Asked, Asks, event_asks};
-pub use deciding::decide;
+pub use deciding::{decide, decide_into};
 pub use making::{complete, due, event};
 pub use telling::tell_own;
 pub use thread_answers::ThreadAnswers;
