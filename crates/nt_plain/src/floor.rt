@@ -60,11 +60,8 @@ impl<'s> Floor for PlainFloor<'s> {
     ) -> Result<Made, ActRefusal> {
         self.kept();
         self.kinds();
-        match self.decide(job, stand) {
-            Ok(what) => {
-                event.what = what;
-                Ok(self.make(stand, told, event))
-            }
+        match self.decide(job, stand, &mut event.what) {
+            Ok(()) => Ok(self.make(stand, told, event)),
             Err(refusal) => Err(refusal),
         }
     }

@@ -1,5 +1,5 @@
 //! The event of a job, and what it leaves of the floor.
-ghost use Rattle.std.specs.Prelude.{◌≡◌, ◌<◌, ◌^◌, All, IfErr, IfOk, IfSome, IsErrOf, Some};
+ghost use Rattle.std.specs.Prelude.{◌≡◌, ◌<◌, ◌^◌, All, IfErr, IfSome, IsErrOf, OnErr, OnOk, Some};
 ghost use Rattle.nt_event.specs.Acting.{acted_event};
 ghost use Rattle.nt_event.specs.Frames.{due_of};
 ghost use Rattle.nt_event.specs.Jobs.{job_event};
@@ -19,15 +19,18 @@ use nt_floor::{ActRefusal, Made};
 use nt_states::{Asks, Touched, tell_own};
 
 impl<'s> PlainFloor<'s> {
-    /// The event of the job for a processor that stands so, or why there is none.
-    pub(crate) fn decide(&self, job: &Job, stand: &Stand) -> Result<What, ActRefusal>
+    /// Writes the event of the job where the caller keeps it, for a processor that stands so, or answers why there is none.
+    ///
+    /// NothingToDo and BadChoice come as from [`nt_states::decide_into`], NoMemory never. After a refusal nothing was written.
+    pub(crate) fn decide(&self, job: &Job, stand: &Stand, into: &mut What) -> Result<(), ActRefusal>
         requires { MayDo (states_of self.now) stand.now job.now }
-        ensures event { IfOk result (λ w. job_event self.now.script stand.now self.now.lanes job.now ≡ Some w) }
-        ensures given { IfOk result (λ w. MayMake (states_of self.now) stand.now w) }
+        ensures event { OnOk result (job_event self.now.script stand.now self.now.lanes job.now ≡ Some into.new) }
+        ensures given { OnOk result (MayMake (states_of self.now) stand.now into.new) }
         ensures refused { IfErr result (λ r. (f : Found) → f.lanes ≡ self.now.lanes → IsRefused self.now.script f stand.now job.now r) }
+        ensures unwritten { OnErr result (into.new ≡ into.old) }
         ensures memory { IsErrOf result ActRefusal.NoMemory → ⊥ }
     {
-        nt_states::decide(&self.states, job, stand)
+        nt_states::decide_into(&self.states, job, stand, into)
     }
 
     /// The pending APCs are of their objects' kinds.

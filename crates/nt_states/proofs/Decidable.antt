@@ -1,5 +1,5 @@
 -- A job that may be done can be decided, and each lane of the whole states is held.
-use Rattle.std.specs.Prelude.{Err, IfOk, IfSome, List, None, Ok, Option, Result, Some, [], ◌∷◌, ◌≡◌}
+use Rattle.std.specs.Prelude.{Err, IfSome, List, None, Ok, OnOk, Option, Result, Some, [], ◌∷◌, ◌≡◌}
 use Rattle.nt_event.specs.declared.events.What.{What}
 use Rattle.nt_event.specs.declared.jobs.Job.{Job}
 use Rattle.nt_event.specs.declared.jobs.Job.TheVariants as job
@@ -51,8 +51,8 @@ module _ (x : AllStates) (st : Stand) where
   pub may_make : (j : Job) (w : What) → MayDo x st j → job_event x.script st x.lanes j ≡ Some w → IsGiven x.script x.lanes st w → MayMake x st w
   may_make j w m e g = record { job = j; may = m; gives = e; named = g.named; taken = g.taken }
 
--- the decision, where there is an event
-pub may_make_found : (x : AllStates) (st : Stand) (j : Job) (r : Result What ActRefusal) → MayDo x st j →
-    IfOk r (λ w. job_event x.script st x.lanes j ≡ Some w) → IfOk r (λ w. IsGiven x.script x.lanes st w) → IfOk r (λ w. MayMake x st w)
-may_make_found x st j (Ok w) m e g = may_make x st j w m e g
-may_make_found x st j (Err refusal) m e g = tt
+-- the event that was written, where there is one
+pub may_make_found : (x : AllStates) (st : Stand) (j : Job) (w : What) (r : Result (Unit {0}) ActRefusal) → MayDo x st j →
+    OnOk r (job_event x.script st x.lanes j ≡ Some w) → OnOk r (IsGiven x.script x.lanes st w) → OnOk r (MayMake x st w)
+may_make_found x st j w (Ok done) m e g = may_make x st j w m e g
+may_make_found x st j w (Err refusal) m e g = tt

@@ -12,18 +12,20 @@ pub returns-in-Ok-clause-event : goal.returns-in-Ok-clause-event
 returns-in-Ok-clause-event c =
     let f = c.args.self.now in
     let st = c.args.stand.now in
+    let w = c.decide.new.into in
     let e = c.make.new.event in
     let m = c.make.ensures in (
       found_of f,
       tt,
       (
-        is_acted f st c.args.job.now c.in-Ok.what (acted_of c.make.result e c.make.new.told) c.in-Ok.ensures.event c.kinds.ensures m.number m.event m.due
+        is_acted f st c.args.job.now w (acted_of c.make.result e c.make.new.told) c.in-Ok.ensures.event c.kinds.ensures m.number m.event m.due
             m.due_fits m.told,
-        is_moved f c.make.new.self st c.in-Ok.what c.make.result.number e c.kept.ensures c.requires.room m.lanes_named m.asks_named m.number m.event m.state,
+        is_moved f c.make.new.self st w c.make.result.number e c.kept.ensures c.requires.room m.lanes_named m.asks_named m.number m.event m.state,
       ),
     )
 
 pub returns-in-Ok-clause-told : goal.returns-in-Ok-clause-told
 returns-in-Ok-clause-told c =
-    is_told c.args.self.now c.make.new.self c.args.stand.now c.in-Ok.what c.make.new.told.value c.kept.ensures c.requires.stand.cpu c.make.ensures.asks_named
+    let w = c.decide.new.into in
+    is_told c.args.self.now c.make.new.self c.args.stand.now w c.make.new.told.value c.kept.ensures c.requires.stand.cpu c.make.ensures.asks_named
     c.make.ensures.state c.make.ensures.told

@@ -1,5 +1,5 @@
 use Rattle.std.proofs.Common.{subst, sym}
-use Rattle.std.specs.Prelude.{IfOk}
+use Rattle.std.specs.Prelude.{OnOk}
 use Rattle.nt_states.specs.Allowed.{MayDo, MayMake}
 use Rattle.nt_plain.specs.Insides.{state_in}
 use Rattle.nt_plain.specs.Made.{states_of}
@@ -12,5 +12,7 @@ returns-clause-given c =
     let st = c.args.stand.now in
     let may : MayDo (states_of (state_in c.self.inside)) st c.args.job.now = subst (λ (f : PlainState). MayDo (states_of f) st c.args.job.now)
     (sym c.self.view_is) c.requires in
-    subst (λ (f : PlainState). IfOk c.decide.result (λ w. MayMake (states_of f) st w)) c.self.view_is
-    (may_make_found (states_of (state_in c.self.inside)) st c.args.job.now c.decide.result may c.decide.ensures.event c.decide.ensures.given)
+    let into = c.decide_into.new.into in
+    subst (λ (f : PlainState). OnOk c.decide_into.result (MayMake (states_of f) st into)) c.self.view_is
+    (may_make_found (states_of (state_in c.self.inside)) st c.args.job.now into c.decide_into.result may c.decide_into.ensures.event
+    c.decide_into.ensures.given)
