@@ -2,6 +2,7 @@
 ghost use Rattle.std.specs.Prelude.{◌≡◌, ◌<◌, ◌≤◌, ◌+◌, ◌^◌, ◌||◌, ℕ, IfSome};
 ghost use Rattle.nt_event.specs.declared.events.Begun.{Begun};
 ghost use Rattle.nt_event.specs.declared.events.What.{What};
+ghost use Rattle.nt_event.specs.Frames.{level_in};
 ghost use Rattle.nt_event.specs.Own.{stand_in};
 ghost use Rattle.nt_event.specs.Regions.{some_came_to_0};
 ghost use Rattle.nt_event.specs.Lists.{value_at};
@@ -12,7 +13,9 @@ ghost use Rattle.nt_cpu.specs.Alone.{IsAlone, IsMarkedFor, MayBe, alone_asks, al
 
 use crate::cpu::Cpu;
 use crate::notice::Notice;
-use nt_event::{ApcKind, Begun, Body, Command, CpuNo, Event, Level, Reply, Rises, Stand, What};
+use nt_event::{
+    ApcKind, Begun, Body, Command, CpuNo, Event, Frame, Level, Reply, Rises, Stand, What,
+};
 use nt_floor::Words;
 
 /// A class of a processor for which an event asks.
@@ -201,16 +204,23 @@ impl<'s> Cpu<'s> {
         };
     }
 
-    /// Writes the event that calls this command, which is refused or done at once.
-    pub(crate) fn write_call(&self, frame: u64, command: &Command, reply: Reply, event: &mut Event)
-        ensures { event.new ≡ alone_event self.now.cpu (What.Call frame command.now reply) self.now.own.frames }
+    /// Writes the event that calls this command in the innermost frame, which is refused or done at once.
+    pub(crate) fn write_call(
+        &self,
+        frame: &Frame,
+        command: &Command,
+        reply: Reply,
+        event: &mut Event,
+    )
+        requires { frame.now.level ≡ level_in self.now.own.frames }
+        ensures { event.new ≡ alone_event self.now.cpu (What.Call frame.now.name command.now reply) self.now.own.frames }
     {
         *event = Event {
             cpu: self.cpu,
             thread: self.frames.running(),
-            level: call_level(command, &reply, self.frames.level()),
+            level: call_level(command, &reply, frame.level),
             what: What::Call {
-                frame,
+                frame: frame.name,
                 command: *command,
                 reply,
             },

@@ -1,5 +1,6 @@
 //! What a processor has to do next, as far as it knows alone.
-ghost use Rattle.std.specs.Prelude.{◌≡◌, ◌<◌, ◌-◌, IfSome, find, not};
+ghost use Rattle.std.specs.Prelude.{◌≡◌, ◌<◌, ◌-◌, IfSome, find, not, option_copied};
+ghost use Rattle.std.specs.Option.{option_map_or};
 ghost use Rattle.nt_event.specs.declared.events.Begun.{Begun};
 ghost use Rattle.nt_event.specs.declared.events.Event.{Event};
 ghost use Rattle.nt_event.specs.declared.events.What.{What};
@@ -33,12 +34,14 @@ impl<'s> Cpu<'s> {
         is_due(&self.seen, &self.kept.served, class)
     }
 
-    fn due_interrupt(&self) -> Option<u8>
+    /// The greatest class of an interrupt that is due above this level, which is the processor's.
+    fn due_interrupt(&self, level: Level) -> Option<u8>
+        requires { level ≡ level_at self.now.own }
         ensures value { result ≡ find (may_interrupt self.now.own) interrupt_classes }
         ensures class { IfSome result (λ c. c < 16) }
         ensures asked { IfSome result (λ c. 0 < value_at self.now.own.seen c) }
     {
-        above_level(self.level().number(), self.due)
+        above_level(level.number(), self.due)
     }
 
     /// Writes that the interrupt of this class begins, with the number of the ask that it serves.
@@ -53,46 +56,50 @@ impl<'s> Cpu<'s> {
         }
     }
 
-    /// DPCs and timers, below DISPATCH_LEVEL.
-    fn may_drain(&self) -> bool
+    /// DPCs and timers, below DISPATCH_LEVEL, where this is the level.
+    fn may_drain(&self, level: Level) -> bool
+        requires { level ≡ level_at self.now.own }
         ensures { result ≡ drain_in self.now.own }
     {
-        self.level().number() < 2 && (self.is_due(2) || self.kept.sweep)
+        level.number() < 2 && (self.is_due(2) || self.kept.sweep)
     }
 
-    /// Kernel APCs, at PASSIVE_LEVEL in a thread.
-    fn may_apcs(&self) -> bool
+    /// Kernel APCs, at PASSIVE_LEVEL in a thread, where this is the level.
+    fn may_apcs(&self, level: Level) -> bool
+        requires { level ≡ level_at self.now.own }
         ensures { result ≡ apcs_in self.now.own }
     {
-        self.level().number() == 0 && (self.frames.is_on_thread() && self.is_due(1))
+        level.number() == 0 && (self.frames.is_on_thread() && self.is_due(1))
     }
 
-    /// Threaded DPCs, at PASSIVE_LEVEL with no frame on the own part (profile).
-    fn may_threaded(&self) -> bool
+    /// Threaded DPCs, at PASSIVE_LEVEL with no frame on the own part (profile), where this is the level.
+    fn may_threaded(&self, level: Level) -> bool
+        requires { level ≡ level_at self.now.own }
         ensures { result ≡ threaded_in self.now.own }
     {
-        self.level().number() == 0 && (!self.frames.has_own() && self.is_due(0))
+        level.number() == 0 && (!self.frames.has_own() && self.is_due(0))
     }
 
-    /// What it must do before it goes on.
-    fn must_task(&self, event: &mut Event) -> Option<Plan>
+    /// What it must do before it goes on, at this level.
+    fn must_task(&self, level: Level, event: &mut Event) -> Option<Plan>
+        requires { level ≡ level_at self.now.own }
         ensures task { planned event.new result ≡ must_of self.now.own }
         ensures written { IsWritten self.now event.old event.new result }
     {
         if let Some(dpc) = self.kept.fire {
             return Some(Plan::Shared(Job::Fire(dpc)));
         }
-        if let Some(class) = self.due_interrupt() {
+        if let Some(class) = self.due_interrupt(level) {
             self.interrupt(class, event);
             return Some(Plan::Alone);
         }
-        if self.may_drain() {
+        if self.may_drain(level) {
             return Some(Plan::Shared(Job::Drain));
         }
-        if self.may_apcs() {
+        if self.may_apcs(level) {
             return Some(Plan::Shared(Job::Apcs));
         }
-        if self.may_threaded() {
+        if self.may_threaded(level) {
             return Some(Plan::Shared(Job::Threaded));
         }
         None
@@ -102,10 +109,11 @@ impl<'s> Cpu<'s> {
     pub(crate) fn must(&self) -> bool
         ensures { result ≡ must_in self.now.own }
     {
-        if self.kept.fire.is_some() || self.due_interrupt().is_some() {
+        let level = self.level();
+        if self.kept.fire.is_some() || self.due_interrupt(level).is_some() {
             return true;
         }
-        self.may_drain() || self.may_apcs() || self.may_threaded()
+        self.may_drain(level) || self.may_apcs(level) || self.may_threaded(level)
     }
 
     /// Whether no thread runs, no frame stands on the own part and nothing must be done.
@@ -117,6 +125,7 @@ impl<'s> Cpu<'s> {
 
     /// The next command of the innermost frame is refused, called alone, or a job.
     fn command_task(&self, frame: &Frame, event: &mut Event) -> Option<Plan>
+        requires { frame.now.level ≡ level_at self.now.own }
         ensures task { planned event.new result ≡ command_of self.now.own frame.now (next_of self.now.script self.now.cpu frame.now) }
         ensures written { IsWritten self.now event.old event.new result }
     {
@@ -128,12 +137,12 @@ impl<'s> Cpu<'s> {
 
     /// The call of this command in this innermost frame.
     fn call_in(&self, frame: &Frame, command: &Command, event: &mut Event) -> Plan
+        requires { frame.now.level ≡ level_at self.now.own }
         ensures task { task_in event.new result ≡ call_of frame.now command.now (refusal_of (level_at self.now.own) (not (is_null self.now.own.frames.own)) (regions_of (thread_part self.now.own.frames)) frame.now command.now) }
         ensures written { IsWritten self.now event.old event.new (Some result) }
     {
         let regions = regions_for(&self.frames, command);
-        let level = self.frames.level();
-        let refused = refusal(level, self.frames.has_own(), &regions, frame, command);
+        let refused = refusal(frame.level, self.frames.has_own(), &regions, frame, command);
         self.call_task(frame, command, refused, event)
     }
 
@@ -145,6 +154,7 @@ impl<'s> Cpu<'s> {
         refusal: Option<Refusal>,
         event: &mut Event,
     ) -> Plan
+        requires { frame.now.level ≡ level_at self.now.own }
         ensures task { task_in event.new result ≡ call_of frame.now command.now refusal }
         ensures written { IsWritten self.now event.old event.new (Some result) }
     {
@@ -160,12 +170,13 @@ impl<'s> Cpu<'s> {
                 Reply::Done
             }
         };
-        self.write_call(frame.name, command, reply, event);
+        self.write_call(frame, command, reply, event);
         Plan::Alone
     }
 
     /// What the innermost frame has to do.
     fn frame_task(&self, frame: &Frame, event: &mut Event) -> Option<Plan>
+        requires { frame.now.level ≡ level_at self.now.own }
         ensures task { planned event.new result ≡ frame_of self.now.script self.now.cpu self.now.own frame.now }
         ensures written { IsWritten self.now event.old event.new result }
     {
@@ -222,14 +233,25 @@ impl<'s> Cpu<'s> {
         ensures task { planned event.new result ≡ task_of self.now.script self.now.cpu self.now.own }
         ensures written { IsWritten self.now event.old event.new result }
     {
-        let must = self.must_task(event);
+        let top = self.frames.top();
+        let must = self.must_task(level_of(top), event);
         if must.is_some() {
             return must;
         }
-        match self.frames.top() {
+        match top {
             Some(frame) => self.frame_task(frame, event),
             None => self.idle_task(),
         }
+    }
+}
+
+/// The level of this innermost frame; PASSIVE_LEVEL where there is none.
+fn level_of(top: Option<&Frame>) -> Level
+    ensures { result ≡ option_map_or (λ f. f.level) (option_copied top.entry) 0 }
+{
+    match top {
+        Some(frame) => frame.level,
+        None => Level::PASSIVE,
     }
 }
 

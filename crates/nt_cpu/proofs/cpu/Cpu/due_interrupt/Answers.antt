@@ -12,7 +12,7 @@ use Rattle.nt_cpu.proofs.cpu.Cpu.due_interrupt.Goals as goal
 pub returns-clause-value : goal.returns-clause-value
 returns-clause-value c =
     let i = c.self.inside in
-    let level = c.number.ensures.same ∙ (c.level.ensures ∙ ap (λ (x : CpuState). level_at x.own) (sym c.self.view_is)) in
+    let level = c.number.ensures.same ∙ (c.requires ∙ ap (λ (x : CpuState). level_at x.own) (sym c.self.view_is)) in
     let here : c.above_level.result ≡ above_level (level_at (state_in i).own) (greatest_due i.seen i.kept.served) = c.above_level.ensures
     ∙ (ap (λ (o : Option ℕ). above_level c.number.result o) c.self.invariant.due
     ∙ ap (λ (n : ℕ). above_level n (greatest_due i.seen i.kept.served)) level) in
