@@ -1,6 +1,5 @@
 -- A brief and the event that it stands for.
 use Rattle.std.proofs.Common.{ap, refl, subst, sym, ◌∙◌, ◌≡◌}
-use Rattle.std.specs.Prelude.{ℕ}
 use Rattle.nt_event.specs.declared.events.Event.{Event}
 use Rattle.nt_event.specs.declared.events.Rises.{Rises}
 use Rattle.nt_event.specs.declared.events.What.{What}
@@ -8,11 +7,12 @@ use Rattle.nt_event.specs.declared.events.What.TheVariants as what
 use Rattle.nt_history.specs.declared.brief.Brief.{Brief}
 use Rattle.nt_history.specs.declared.brief.Did.{Did}
 use Rattle.nt_history.specs.declared.brief.Did.TheVariants as did
-use Rattle.nt_history.specs.Briefs.{HasValues, brief_of, did_of, event_of, place_of, what_of}
+use Rattle.nt_history.specs.declared.brief.Noticed.{Noticed}
+use Rattle.nt_history.specs.Briefs.{HasValues, brief_of, did_of, event_of, noticed_of, what_of}
 
 -- what is kept of what this stands for is this
-kept_again : (r : Rises) (d : Did) → did_of (place_of d) (what_of r d) ≡ d
-kept_again r (did.Look at) = refl
+kept_again : (r : Rises) (d : Did) → did_of (noticed_of d) (what_of r d) ≡ d
+kept_again r (did.Look k) = refl
 kept_again r (did.Call c y f) = refl
 kept_again r (did.Begin b from) = refl
 kept_again r (did.Normal f) = refl
@@ -27,7 +27,7 @@ kept_again r (did.Gone t) = refl
 kept_again r did.Rest = refl
 
 has_own : (r : Rises) (d : Did) → HasValues r (what_of r d)
-has_own r (did.Look at) = refl
+has_own r (did.Look k) = refl
 has_own r (did.Call c y f) = _
 has_own r (did.Begin b from) = _
 has_own r (did.Normal f) = _
@@ -42,20 +42,20 @@ has_own r (did.Gone t) = _
 has_own r did.Rest = _
 
 -- what stands for what was kept of this is this, where its values are these
-meant_again : (r : Rises) (at : ℕ) (w : What) → HasValues r w → what_of r (did_of at w) ≡ w
-meant_again r at (what.Look values) h = ap (λ (x : Rises). what.Look x) h
-meant_again r at (what.Call f c y) h = refl
-meant_again r at (what.Begin b from) h = refl
-meant_again r at (what.Normal f) h = refl
-meant_again r at (what.End f) h = refl
-meant_again r at (what.Expire key from) h = refl
-meant_again r at (what.Fire d y) h = refl
-meant_again r at (what.Clean class) h = refl
-meant_again r at (what.Switch t status) h = refl
-meant_again r at (what.Rewait f y) h = refl
-meant_again r at (what.Flush a from) h = refl
-meant_again r at (what.Gone t) h = refl
-meant_again r at what.Rest h = refl
+pub meant_again : (r : Rises) (k : Noticed) (w : What) → HasValues r w → what_of r (did_of k w) ≡ w
+meant_again r k (what.Look values) h = ap (λ (x : Rises). what.Look x) h
+meant_again r k (what.Call f c y) h = refl
+meant_again r k (what.Begin b from) h = refl
+meant_again r k (what.Normal f) h = refl
+meant_again r k (what.End f) h = refl
+meant_again r k (what.Expire key from) h = refl
+meant_again r k (what.Fire d y) h = refl
+meant_again r k (what.Clean class) h = refl
+meant_again r k (what.Switch t status) h = refl
+meant_again r k (what.Rewait f y) h = refl
+meant_again r k (what.Flush a from) h = refl
+meant_again r k (what.Gone t) h = refl
+meant_again r k what.Rest h = refl
 
 abbrev with_did : Brief → Did → Brief
 with_did b d = record { cpu = b.cpu; thread = b.thread; level = b.level; did = d }
@@ -64,12 +64,12 @@ abbrev with_what : Event → What → Event
 with_what e w = record { cpu = e.cpu; thread = e.thread; level = e.level; what = w }
 
 -- an event is the one of a brief where what is kept of it is the brief and its values are these
-pub is_event : (r : Rises) (b : Brief) (e : Event) → brief_of (place_of b.did) e ≡ b → HasValues r e.what → event_of r b ≡ e
+pub is_event : (r : Rises) (b : Brief) (e : Event) → brief_of (noticed_of b.did) e ≡ b → HasValues r e.what → event_of r b ≡ e
 is_event r b e h v =
-    ap (event_of r) (sym h) ∙ ap (with_what e) (meant_again r (place_of b.did) e.what v)
+    ap (event_of r) (sym h) ∙ ap (with_what e) (meant_again r (noticed_of b.did) e.what v)
 
-pub was_brief : (r : Rises) (b : Brief) (e : Event) → event_of r b ≡ e → brief_of (place_of b.did) e ≡ b
-was_brief r b e h = ap (brief_of (place_of b.did)) (sym h) ∙ ap (with_did b) (kept_again r b.did)
+pub was_brief : (r : Rises) (b : Brief) (e : Event) → event_of r b ≡ e → brief_of (noticed_of b.did) e ≡ b
+was_brief r b e h = ap (brief_of (noticed_of b.did)) (sym h) ∙ ap (with_did b) (kept_again r b.did)
 
 pub had_values : (r : Rises) (b : Brief) (e : Event) → event_of r b ≡ e → HasValues r e.what
 had_values r b e h = subst (λ (x : Event). HasValues r x.what) h (has_own r b.did)

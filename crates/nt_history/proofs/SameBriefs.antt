@@ -6,15 +6,20 @@ use Rattle.nt_history.specs.contracts.brief.BriefEq.TheImpl.Laws.{laws-law}
 use Rattle.nt_history.specs.contracts.brief.BriefPartialEq.TheImpl as brief_eq
 use Rattle.nt_history.specs.contracts.brief.Did as did
 use Rattle.nt_history.specs.contracts.brief.DidPartialEq.TheImpl as did_eq
+use Rattle.nt_history.specs.contracts.brief.Noticed as noticed
+use Rattle.nt_history.specs.contracts.brief.NoticedPartialEq.TheImpl as noticed_eq
 use Rattle.nt_history.specs.declared.brief.Brief.{Brief}
 use Rattle.nt_history.proofs.Same.{Same, enum_same, nat_same, none_same, one_same, option_same, three_same, two_same}
 use Rattle.nt_history.proofs.SameParts.{apc_same, begun_same, command_same, cpu_same, dpc_same, key_same, reply_same, thread_same}
+
+noticed_same : Same noticed_eq.ghosts.eq
+noticed_same = enum_same noticed.enum _ (two_same nat_same nat_same, (one_same nat_same, tt))
 
 did_same : Same did_eq.ghosts.eq
 did_same = enum_same did.enum _ (
   three_same command_same reply_same nat_same,
   (
-    one_same nat_same,
+    one_same noticed_same,
     (
       two_same begun_same nat_same,
       (

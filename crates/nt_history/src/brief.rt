@@ -1,12 +1,65 @@
 //! An event without the values of a look.
-ghost use Rattle.std.specs.Prelude.{◌≡◌, ◌↔◌, IsTrue};
-ghost use Rattle.nt_history.specs.Briefs.{brief_of, did_of, event_of, no_rises, place_of, what_of};
+ghost use Rattle.std.specs.Prelude.{◌≡◌, ◌↔◌, ◌<◌, IsTrue};
+ghost use Rattle.nt_history.specs.Briefs.{IsLook, brief_of, did_of, event_of, no_rises, nothing, noticed_of, one_rise as one_rise_of, what_of};
 
 use nt_event::{
     ApcNo, Begun, Command, CpuNo, DpcNo, Event, Level, Reply, Rises, ThreadNo, TimerKey, What,
 };
 
-/// What an event does, where a look has the place of its values.
+/// Where the values of a look are kept.
+#[derive(Clone, Copy, PartialEq, Eq, Debug)]
+pub enum Noticed {
+    /// Here: this class alone rose, to this value.
+    One { class: u8, value: u64 },
+    /// At this place among the values of the looks in which several classes rose.
+    Several { at: usize },
+}
+
+/// The values of a look in which this class alone rose, to this value.
+pub(crate) fn one_rise(class: u8, value: u64) -> Rises
+    ensures { result ≡ one_rise_of class value }
+{
+    let mut rises = NO_RISES;
+    if class < 16 {
+        rises.value[class as usize] = value;
+    }
+    rises
+}
+
+/// The first class that rose; 0 where none did.
+fn first_rise(rises: &Rises) -> u8
+    ensures { result < 16 }
+{
+    for class in 0..16 {
+        if rises.value[class as usize] != 0 {
+            return class;
+        }
+    }
+    0
+}
+
+impl Noticed {
+    /// That of a look in which nothing rose.
+    pub const NOTHING: Noticed = Noticed::One { class: 0, value: 0 };
+
+    /// Where these values of a look are kept: here where one class alone rose, else at this place.
+    pub(crate) fn of_look(rises: &Rises, at: usize) -> Noticed
+        ensures { IsLook at result rises.now }
+    {
+        let class = first_rise(rises);
+        let value = rises.value[class as usize];
+        if one_rise(class, value) == *rises {
+            Noticed::One { class, value }
+        } else {
+            Noticed::Several { at }
+        }
+    }
+}
+
+/// The values of a look that noticed nothing.
+pub(crate) const NO_RISES: Rises = Rises { value: [0; 16] };
+
+/// What an event does, where of a look it is kept where its values are.
 ///
 /// The fields of a call stand in the order in which they take the least room: a brief has 40 bytes.
 #[derive(Clone, Copy, PartialEq, Eq, Debug)]
@@ -17,9 +70,9 @@ pub enum Did {
         reply: Reply,
         frame: u64,
     },
-    /// The processor notices requests; its values stand at this place among those of all looks.
+    /// The processor notices requests, whose values are kept so.
     Look {
-        at: usize,
+        noticed: Noticed,
     },
     /// A routine begins.
     Begin {
@@ -72,10 +125,10 @@ pub enum Did {
 }
 
 impl Did {
-    /// Writes what is kept of this, where the values of a look stand at this place.
+    /// Writes what is kept of this, where the values of a look are kept so.
     #[inline(always)]
-    pub(crate) fn write(&mut self, what: &What, at: usize)
-        ensures { self.new ≡ did_of at what.now }
+    pub(crate) fn write(&mut self, what: &What, noticed: Noticed)
+        ensures { self.new ≡ did_of noticed what.now }
     {
         match *what {
             What::Call {
@@ -89,7 +142,7 @@ impl Did {
                     reply,
                 }
             }
-            What::Look { .. } => *self = Did::Look { at },
+            What::Look { .. } => *self = Did::Look { noticed },
             What::Begin { begun, from } => *self = Did::Begin { begun, from },
             What::Normal { frame } => *self = Did::Normal { frame },
             What::End { frame } => *self = Did::End { frame },
@@ -104,12 +157,12 @@ impl Did {
         }
     }
 
-    /// The place of the values, where it is a look; else 0.
-    pub(crate) fn place(&self) -> usize
-        ensures { result ≡ place_of self.now }
+    /// Where the values are kept, where it is a look; else nothing rose.
+    pub(crate) fn noticed(&self) -> Noticed
+        ensures { result ≡ noticed_of self.now }
     {
         match *self {
-            Did::Look { at } => at,
+            Did::Look { noticed } => noticed,
             Did::Call { .. }
             | Did::Begin { .. }
             | Did::Normal { .. }
@@ -121,7 +174,7 @@ impl Did {
             | Did::Rewait { .. }
             | Did::Flush { .. }
             | Did::Gone { .. }
-            | Did::Rest => 0,
+            | Did::Rest => Noticed::NOTHING,
         }
     }
 
@@ -177,35 +230,37 @@ impl Brief {
         did: Did::Rest,
     };
 
-    /// What is kept of the event, where the values of a look stand at this place.
+    /// What is kept of the event, where the values of a look are kept so.
     #[inline(always)]
-    pub fn of(event: &Event, at: usize) -> Brief
-        ensures { result ≡ brief_of at event.now }
+    pub fn of(event: &Event, noticed: Noticed) -> Brief
+        ensures { result ≡ brief_of noticed event.now }
     {
         let mut brief = Brief::BLANK;
-        brief.write(event, at);
+        brief.write(event, noticed);
         brief
     }
 
-    /// Writes what is kept of the event, where the values of a look stand at this place.
+    /// Writes what is kept of the event, where the values of a look are kept so.
     #[inline(always)]
-    pub(crate) fn write(&mut self, event: &Event, at: usize)
-        ensures { self.new ≡ brief_of at event.now }
+    pub(crate) fn write(&mut self, event: &Event, noticed: Noticed)
+        ensures { self.new ≡ brief_of noticed event.now }
     {
         self.cpu = event.cpu;
         self.thread = event.thread;
         self.level = event.level;
-        self.did.write(&event.what, at);
+        self.did.write(&event.what, noticed);
     }
 
-    /// The same, where the values of a look stand at this place.
+    /// The same, where in a look nothing rose.
     #[inline(always)]
-    pub(crate) fn at(&self, at: usize) -> Brief
-        ensures { result ≡ brief_of at (event_of no_rises self.now) }
+    pub(crate) fn with_nothing(&self) -> Brief
+        ensures { result ≡ brief_of nothing (event_of no_rises self.now) }
     {
         let mut brief = *self;
         if let Did::Look { .. } = brief.did {
-            brief.did = Did::Look { at };
+            brief.did = Did::Look {
+                noticed: Noticed::NOTHING,
+            };
         }
         brief
     }

@@ -1,8 +1,9 @@
 //! The list of events.
-ghost use Rattle.std.specs.Prelude.{◌≡◌, ◌<◌, ◌≤◌, ◌++◌, ◌∷◌, [], OnErr, OnOk, length, vec_capacity};
-ghost use Rattle.nt_history.specs.Briefs.{HasEach, brief_of, events_in, no_rises, rises_of, what_of};
+ghost use Rattle.std.specs.Prelude.{◌≡◌, ◌+◌, ◌<◌, ◌≤◌, ◌++◌, ◌∷◌, [], length, vec_capacity};
+ghost use Rattle.nt_event.specs.declared.events.What.{What};
+ghost use Rattle.nt_history.specs.Briefs.{HasEach, beside, brief_of, events_in};
 
-use crate::brief::{Brief, Did};
+use crate::brief::{Brief, Did, NO_RISES, Noticed, one_rise};
 use nt_event::{Event, Rises, Turn, What};
 use std::alloc::{AllocError, Global};
 use std::marker::Model;
@@ -12,7 +13,7 @@ use std::marker::Model;
 pub struct Events {
     /// A brief for each event.
     pub(crate) briefs: Vec<Brief>,
-    /// The values of the looks, in their order.
+    /// The values of the looks in which several classes rose, in their order.
     pub(crate) rises: Vec<Rises>,
 }
 
@@ -29,15 +30,12 @@ impl Model for Events {
     ghost invariant = { λ a. HasEach a.briefs.items a.rises.items };
 }
 
-/// The events of a list to be read: a brief for each event, and the values of the looks.
+/// The events of a list to be read: a brief for each event, and the values of the looks in which several classes rose.
 #[derive(Clone, Copy)]
 pub struct Briefs<'a> {
     pub briefs: &'a [Brief],
     pub rises: &'a [Rises],
 }
-
-/// The values of a look that noticed nothing.
-const NO_RISES: Rises = Rises { value: [0; 16] };
 
 impl<'a> Briefs<'a> {
     ghost use Rattle.std.specs.Prelude.{◌≡◌, ◌<◌, ◌↔◌, IsTrue, Some, length, option_map};
@@ -45,22 +43,23 @@ impl<'a> Briefs<'a> {
     ghost use Rattle.nt_event.specs.Step.{turn_of};
     ghost use Rattle.nt_history.specs.Briefs.{HasValues, event_in, events_in, values_of};
 
-    /// The values that a brief refers to.
-    fn values(&self, brief: &Brief) -> Rises
+    /// The values of the look of a brief, one of these; 0 for each class where it is no look.
+    pub fn values(&self, brief: &Brief) -> Rises
         ensures { result ≡ values_of self.now.rises.now brief.now }
     {
-        match self.rises.get(brief.did.place()) {
-            Some(values) => *values,
-            None => NO_RISES,
+        match brief.did.noticed() {
+            Noticed::One { class, value } => one_rise(class, value),
+            Noticed::Several { at } => match self.rises.get(at) {
+                Some(values) => *values,
+                None => NO_RISES,
+            },
         }
     }
 
-    /// The turn that makes the event of this number.
-    pub fn turn(&self, number: usize) -> Turn
-        requires { number < length self.now.briefs.now }
-        ensures { option_map turn_of (slice_get (events_in self.now.briefs.now self.now.rises.now) number) ≡ Some result }
+    /// The turn that makes the event of a brief, one of these.
+    pub fn turn_of(&self, brief: &Brief) -> Turn
+        ensures { result ≡ turn_of (event_in self.now.rises.now brief.now) }
     {
-        let brief = &self.briefs[number];
         match brief.did {
             Did::Look { .. } => Turn::Look(brief.cpu, self.values(brief)),
             Did::Switch { thread, .. } => Turn::Switch(brief.cpu, thread),
@@ -78,6 +77,14 @@ impl<'a> Briefs<'a> {
         }
     }
 
+    /// The turn that makes the event of this number.
+    pub fn turn(&self, number: usize) -> Turn
+        requires { number < length self.now.briefs.now }
+        ensures { option_map turn_of (slice_get (events_in self.now.briefs.now self.now.rises.now) number) ≡ Some result }
+    {
+        self.turn_of(&self.briefs[number])
+    }
+
     /// Whether this is the event of this number.
     pub fn is_event(&self, number: usize, event: &Event) -> bool
         requires { number < length self.now.briefs.now }
@@ -90,7 +97,7 @@ impl<'a> Briefs<'a> {
     fn stands_for(&self, brief: &Brief, event: &Event) -> bool
         ensures { IsTrue result ↔ (event_in self.now.rises.now brief.now ≡ event.now) }
     {
-        Brief::of(event, brief.did.place()).is_same(brief) && self.has_values(brief, &event.what)
+        Brief::of(event, brief.did.noticed()).is_same(brief) && self.has_values(brief, &event.what)
     }
 
     /// Whether the values that a brief refers to are those of a look; what is no look has none.
@@ -124,40 +131,18 @@ impl<'a> Briefs<'a> {
     }
 }
 
-/// Adds the values of what an event does, where it is a look. An error is want of memory, and then nothing was added.
-pub(crate) fn put_rises(rises: &mut Vec<Rises>, what: &What) -> Result<(), AllocError>
-    ensures ok { OnOk result (rises.new.items ≡ rises.old.items ++ rises_of what.now) }
-    ensures err { OnErr result (rises.new.items ≡ rises.old.items) }
-{
-    if let What::Look { rises: values } = what {
-        rises.push(*values)?;
-    }
-    Ok(())
-}
-
-/// Adds the values of a look that noticed nothing, where this is a look. An error is want of memory, and then nothing was added.
-fn put_no_rises(rises: &mut Vec<Rises>, did: &Did) -> Result<(), AllocError>
-    ensures ok { OnOk result (rises.new.items ≡ rises.old.items ++ rises_of (what_of no_rises did.now)) }
-    ensures err { OnErr result (rises.new.items ≡ rises.old.items) }
-{
-    if let Did::Look { .. } = did {
-        rises.push(NO_RISES)?;
-    }
-    Ok(())
-}
-
-/// Puts a brief of the event at the end, where the values of a look stand at this place. There is room for it.
+/// Puts a brief of the event at the end, where the values of a look are kept so. There is room for it.
 ///
 /// It is written where it is kept: made first and put then, it would be copied once more.
 #[inline(always)]
-pub(crate) fn put_brief(briefs: &mut Vec<Brief>, event: &Event, at: usize)
+pub(crate) fn put_brief(briefs: &mut Vec<Brief>, event: &Event, noticed: Noticed)
     requires { length briefs.old.items < vec_capacity briefs.old }
-    ensures items { briefs.new.items ≡ briefs.old.items ++ brief_of at event.now ∷ [] }
+    ensures items { briefs.new.items ≡ briefs.old.items ++ brief_of noticed event.now ∷ [] }
     ensures room { vec_capacity briefs.old ≤ vec_capacity briefs.new }
 {
     let last = briefs.len();
     briefs.push_reserved(Brief::BLANK);
-    briefs[last].write(event, at);
+    briefs[last].write(event, noticed);
 }
 
 /// Puts the item at the end. There is room for it.
@@ -170,9 +155,43 @@ pub(crate) fn put<T: Copy>(items: &mut Vec<T>, item: T)
     items.push_reserved(item);
 }
 
+/// Puts the values of a look that is kept so at the end, where several classes rose in it. There is room for them.
+fn put_beside(rises: &mut Vec<Rises>, noticed: &Noticed, values: &Rises)
+    requires { length rises.old.items < vec_capacity rises.old }
+    ensures items { rises.new.items ≡ rises.old.items ++ beside noticed.now values.now }
+    ensures room { vec_capacity rises.old ≤ vec_capacity rises.new }
+{
+    if let Noticed::Several { .. } = noticed {
+        put(rises, *values);
+    }
+}
+
+/// Puts a look with these values at the end. There is room for it, and for its values.
+pub(crate) fn put_look(
+    briefs: &mut Vec<Brief>,
+    rises: &mut Vec<Rises>,
+    event: &Event,
+    values: &Rises,
+)
+    requires look { event.now.what ≡ What.Look values.now }
+    requires briefs { length briefs.old.items < vec_capacity briefs.old }
+    requires rises { length rises.old.items < vec_capacity rises.old }
+    requires each { HasEach briefs.old.items rises.old.items }
+    ensures events { events_in briefs.new.items rises.new.items ≡ events_in briefs.old.items rises.old.items ++ event.now ∷ [] }
+    ensures each { HasEach briefs.new.items rises.new.items }
+    ensures one { length briefs.new.items ≡ 1 + length briefs.old.items }
+    ensures more { length rises.new.items ≤ 1 + length rises.old.items }
+    ensures room_for_briefs { vec_capacity briefs.old ≤ vec_capacity briefs.new }
+    ensures room_for_rises { vec_capacity rises.old ≤ vec_capacity rises.new }
+{
+    let noticed = Noticed::of_look(values, rises.len());
+    put_beside(rises, &noticed, values);
+    put_brief(briefs, event, noticed);
+}
+
 impl Events {
     ghost use Rattle.std.specs.Prelude.{◌≡◌, ◌↔◌, ◌++◌, ◌∷◌, [], length, IfOk, IsTrue, OnErr, OnOk};
-    ghost use Rattle.nt_history.specs.Briefs.{event_of};
+    ghost use Rattle.nt_history.specs.Briefs.{event_of, no_rises};
 
     /// An empty list, which keeps the allocator for its growth.
     pub fn new(alloc: Global) -> Events
@@ -201,9 +220,12 @@ impl Events {
         ensures err { OnErr result (self.new ≡ self.old) }
     {
         self.briefs.reserve(1)?;
-        let at = self.rises.len();
-        put_rises(&mut self.rises, &event.what)?;
-        put_brief(&mut self.briefs, event, at);
+        if let What::Look { rises } = &event.what {
+            self.rises.reserve(1)?;
+            put_look(&mut self.briefs, &mut self.rises, event, rises);
+        } else {
+            put_brief(&mut self.briefs, event, Noticed::NOTHING);
+        }
         Ok(())
     }
 
@@ -213,9 +235,7 @@ impl Events {
         ensures err { OnErr result (self.new ≡ self.old) }
     {
         self.briefs.reserve(1)?;
-        let at = self.rises.len();
-        put_no_rises(&mut self.rises, &brief.did)?;
-        put(&mut self.briefs, brief.at(at));
+        put(&mut self.briefs, brief.with_nothing());
         Ok(())
     }
 

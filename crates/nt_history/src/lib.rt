@@ -9,14 +9,14 @@ mod events;
 mod history;
 mod recorder;
 
-pub use brief::{Brief, Did};
+pub use brief::{Brief, Did, Noticed};
 pub use events::{Briefs, Events};
 pub use history::History;
 pub use recorder::Recorder;
 
 #[cfg(test)]
 mod tests {
-    use super::{Brief, Did, Events, History, Recorder};
+    use super::{Brief, Did, Events, History, Noticed, Recorder};
     use nt_event::{CpuNo, Event, Level, Rises, ThreadNo, Turn, What};
     use std::alloc::AllocError;
 
@@ -30,6 +30,16 @@ mod tests {
                 rises: Rises { value: [value; 16] },
             },
         }
+    }
+
+    /// A look of processor 3, in which class 13 alone rises.
+    fn clock() -> Event {
+        let mut event = look(0);
+        event.cpu = CpuNo(3);
+        if let What::Look { rises } = &mut event.what {
+            rises.value[13] = 8;
+        }
+        event
     }
 
     /// Thread 300 is gone from processor 2.
@@ -59,6 +69,20 @@ mod tests {
     }
 
     #[test]
+    fn a_look_of_one_class_keeps_its_value_itself(rt: HostRuntime) -> Result<(), AllocError> {
+        let given = [clock(), look(0), look(4), clock()];
+        let events = Events::of(rt.alloc(), &given)?;
+        let lent = events.lend();
+        for number in 0..given.len() {
+            assert_eq!(rt; lent.event(number), given[number]);
+        }
+        assert_eq!(rt; lent.rises.len(), 1);
+        let first = lent.briefs[0];
+        assert_eq!(rt; lent.values(&first).value[13], 8);
+        Ok(())
+    }
+
+    #[test]
     fn an_event_is_known_by_its_number(rt: HostRuntime) -> Result<(), AllocError> {
         let given = [look(1), gone(), look(2)];
         let events = Events::of(rt.alloc(), &given)?;
@@ -75,8 +99,8 @@ mod tests {
     #[test]
     fn a_brief_is_added_as_its_event(rt: HostRuntime) -> Result<(), AllocError> {
         let mut events = Events::of(rt.alloc(), &[look(1)])?;
-        events.push_brief(&Brief::of(&gone(), 0))?;
-        events.push_brief(&Brief::of(&look(2), 0))?;
+        events.push_brief(&Brief::of(&gone(), Noticed::NOTHING))?;
+        events.push_brief(&Brief::of(&look(2), Noticed::NOTHING))?;
         let lent = events.lend();
         assert_eq!(rt; lent.event(0), look(1));
         assert_eq!(rt; lent.event(1), gone());

@@ -1,10 +1,9 @@
 //! A list of events that has its room from the start.
 ghost use Rattle.std.specs.Prelude.{◌≡◌, ◌++◌, ◌∷◌, ◌<◌, ◌≤◌, [], IfOk, length, reverse, vec_capacity};
-ghost use Rattle.nt_history.specs.Briefs.{rises_of};
 ghost use Rattle.nt_history.specs.Recorded.{cpu_of_first};
 
-use crate::brief::Brief;
-use crate::events::{Events, put, put_brief};
+use crate::brief::{Brief, Noticed};
+use crate::events::{Events, put_brief, put_look};
 use nt_event::{CpuNo, Event, Rises, What};
 use std::alloc::{AllocError, Global};
 use std::marker::Model;
@@ -29,17 +28,6 @@ impl Model for Recorder {
     ghost invariant = { IsSoundInside };
 }
 
-/// Adds the values of what an event does, where it is a look. There is room for them.
-fn put_rises(rises: &mut Vec<Rises>, what: &What)
-    requires { length rises.old.items < vec_capacity rises.old }
-    ensures items { rises.new.items ≡ rises.old.items ++ rises_of what.now }
-    ensures room { vec_capacity rises.old ≤ vec_capacity rises.new }
-{
-    if let What::Look { rises: values } = what {
-        put(rises, *values);
-    }
-}
-
 impl Recorder {
     /// No event, and room for so many. All memory is taken here.
     pub fn new(alloc: Global, room: usize) -> Result<Recorder, AllocError>
@@ -58,9 +46,11 @@ impl Recorder {
         requires { length self.old.events < self.old.room }
         ensures { self.new ≡ record self.old { events = self.old.events ++ event.now ∷ [] } }
     {
-        let at = self.rises.len();
-        put_rises(&mut self.rises, &event.what);
-        put_brief(&mut self.briefs, event, at);
+        if let What::Look { rises } = &event.what {
+            put_look(&mut self.briefs, &mut self.rises, event, rises);
+        } else {
+            put_brief(&mut self.briefs, event, Noticed::NOTHING);
+        }
     }
 
     /// How many events there are.
