@@ -3,7 +3,7 @@ ghost use Rattle.std.specs.Prelude.{◌≡◌, ◌++◌, ◌∷◌, [], true, co
 ghost use Rattle.nt_text.specs.Lines.{row_text, rows_text};
 ghost use Rattle.nt_event.specs.Script.{has_thread};
 ghost use Rattle.nt_event.specs.Step.{turn_of};
-ghost use Rattle.nt_history.specs.Briefs.{HasEach, Stands, event_in, events_in};
+ghost use Rattle.nt_history.specs.Briefs.{event_in, events_in};
 ghost use Rattle.nt_line.specs.NameLists.{show_thread};
 ghost use Rattle.nt_line.specs.Rows.{show_cpu};
 ghost use Rattle.nt_script.specs.Sound.{IsSound};
@@ -116,20 +116,19 @@ fn put_turn(out: &mut Vec<u8>, input: &Input, turn: &Turn) -> Result<(), AllocEr
     }
 }
 
-/// Adds the line of the turn that makes an event, where these are the values of looks.
+/// Adds the line of the turn that makes the event of a brief, one of these.
 fn put_turn_of(
     out: &mut Vec<u8>,
     input: &Input,
+    events: &Briefs,
     event: &Brief,
-    rises: &[Rises],
 ) -> Result<(), AllocError>
     requires sound { IsSound input.now }
-    requires stands { Stands (length rises.now) event.now.did }
-    requires fits { turn_fits input.now.script (turn_of (event_in rises.now event.now)) ≡ true }
-    ensures { OnOk result (out.new.items ≡ out.old.items ++ row_text (turn_row input.now.names (turn_of (event_in rises.now event.now)))) }
+    requires fits { turn_fits input.now.script (turn_of (event_in events.now.rises.now event.now)) ≡ true }
+    ensures { OnOk result (out.new.items ≡ out.old.items ++ row_text (turn_row input.now.names (turn_of (event_in events.now.rises.now event.now)))) }
 {
     match event.did {
-        Did::Look { at } => put_look(out, event.cpu, &rises[at]),
+        Did::Look { .. } => put_look(out, event.cpu, &events.values(event)),
         Did::Switch { thread, .. } => put_switch(out, input, event.cpu, thread),
         Did::Call { .. }
         | Did::Begin { .. }
@@ -161,12 +160,11 @@ fn put_turns(out: &mut Vec<u8>, input: &Input, turns: &Turns) -> Result<(), Allo
 /// Adds the lines of the turns that make these events.
 fn put_turns_of(out: &mut Vec<u8>, input: &Input, events: &Briefs) -> Result<(), AllocError>
     requires sound { IsSound input.now }
-    requires each { HasEach events.now.briefs.now events.now.rises.now }
     requires fit { turns_fit input.now.script (map turn_of (events_in events.now.briefs.now events.now.rises.now)) ≡ true }
     ensures { OnOk result (out.new.items ≡ out.old.items ++ rows_text (map (turn_row input.now.names) (map turn_of (events_in events.now.briefs.now events.now.rises.now)))) }
 {
     for event in events.briefs {
-        put_turn_of(out, input, event, events.rises)?;
+        put_turn_of(out, input, events, event)?;
     }
     Ok(())
 }
