@@ -2,7 +2,7 @@
 ghost use Rattle.std.specs.Prelude.{◌≡◌};
 
 use crate::events::EventLine;
-use nt_history::{Brief, Events};
+use nt_history::{Brief, Events, Noticed};
 use std::alloc::AllocError;
 use std::marker::Model;
 
@@ -33,7 +33,7 @@ impl KeptLine {
     {
         KeptLine {
             number: line.number,
-            brief: Brief::of(&line.event, 0),
+            brief: Brief::of(&line.event, Noticed::NOTHING),
         }
     }
 

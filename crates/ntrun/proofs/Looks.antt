@@ -1,13 +1,15 @@
 -- The looks of a history, whose values stand one after another.
 use Rattle.std.proofs.Common.{List, [], length, refl, ℕ, ◌∷◌, ◌≡◌}
 use Rattle.std.specs.List.{AllByRecursion}
-use Rattle.std.specs.Prelude.{get_or, suc, zero}
+use Rattle.std.specs.Prelude.{get_or, replicate, suc, zero}
+use Rattle.std.proofs.lemmas.List.{length-set}
 use Rattle.nt_event.specs.declared.events.Rises.{Rises}
 use Rattle.nt_event.specs.Classes.{class_count}
 use Rattle.nt_history.specs.declared.brief.Brief.{Brief}
 use Rattle.nt_history.specs.declared.brief.Did.{Did}
 use Rattle.nt_history.specs.declared.brief.Did.TheVariants as did
-use Rattle.nt_history.specs.Briefs.{events_in, no_rises, place_of, what_of}
+use Rattle.nt_history.specs.declared.brief.Noticed.TheVariants.{One, Several}
+use Rattle.nt_history.specs.Briefs.{events_in, no_rises, noticed_of, values_at, what_of}
 use Rattle.nt_ranges.specs.Looks.{LookIsWhole, LooksAreWhole}
 
 -- there is a value for each class
@@ -23,8 +25,9 @@ each_whole [] at h = refl
 each_whole (r ∷ rises) zero h = h.0
 each_whole (r ∷ rises) (suc at) h = each_whole rises at h.1
 
-one_whole : (rises : List Rises) (d : Did) → AreWhole rises → LookIsWhole (what_of (get_or rises (place_of d) no_rises) d)
-one_whole rises (did.Look at) h = each_whole rises at h
+one_whole : (rises : List Rises) (d : Did) → AreWhole rises → LookIsWhole (what_of (values_at rises (noticed_of d)) d)
+one_whole rises (did.Look (One class value)) h = length-set (replicate 16 0) class value
+one_whole rises (did.Look (Several at)) h = each_whole rises at h
 one_whole rises (did.Call f c y) h = tt
 one_whole rises (did.Begin b from) h = tt
 one_whole rises (did.Normal f) h = tt

@@ -1,5 +1,5 @@
 //! What is answered to a script that is run on threads. Only these calls and the top call may wait.
-ghost use Rattle.std.specs.Prelude.{◌≡◌, IfOk, length};
+ghost use Rattle.std.specs.Prelude.{◌≡◌, IfOk, length, true};
 ghost use Rattle.nt_event.specs.Classes.{class_count};
 ghost use Rattle.nt_ranges.specs.Looks.{LooksAreWhole};
 ghost use Rattle.nt_script.specs.Sound.{IsSound};
@@ -30,7 +30,8 @@ fn values_of(rises: &Rises) -> [u64; 16]
 /// Whether each look of a history has a value for each class, as every look has. The definition of a run leaves it open,
 /// and a report and its schedule are read again only where it holds.
 fn looks_are_whole(history: &History) -> bool
-    ensures { LooksAreWhole history.now.events }
+    ensures answer { result ≡ true }
+    ensures looks { LooksAreWhole history.now.events }
 {
     let mut whole = true;
     let events = history.lend();

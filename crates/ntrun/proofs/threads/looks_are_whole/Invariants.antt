@@ -1,7 +1,10 @@
-use Rattle.std.specs.Prelude.{take}
+use Rattle.std.specs.Prelude.{take, true, ◌≡◌}
 use Rattle.ntrun.proofs.Looks.{AreWhole}
 use Rattle.ntrun.proofs.threads.looks_are_whole.Given as goal
 
--- the values so far are whole
+-- the values so far are whole, and found so
 abbrev pub invariant-loop-rises : goal.invariant-loop-rises
-invariant-loop-rises l = AreWhole (take l.rises-index l.rises-items)
+invariant-loop-rises l = record {
+  answer : l.whole ≡ true;
+  looks : AreWhole (take l.rises-index l.rises-items);
+}
