@@ -1,26 +1,12 @@
 -- What an event leaves of the values served.
 use Rattle.std.proofs.Common.{arith, ap, sym, ◌∙◌}
 use Rattle.std.proofs.lemmas.Bool.Decides.{nat_tests}
-use Rattle.std.proofs.lemmas.List.{get_or-set_other, get_or-set_same, length-set}
-use Rattle.std.specs.Prelude.{Bool, List, false, get_or, if◌then◌else◌, length, refl, set, true, ℕ, ◌<◌, ◌==◌, ◌≡◌, ◌≢◌, ◌≤◌}
+use Rattle.std.specs.Prelude.{Bool, List, false, if◌then◌else◌, length, refl, set, true, ℕ, ◌<◌, ◌==◌, ◌≡◌, ◌≤◌}
 use Rattle.nt_event.specs.declared.events.What.{What}
 use Rattle.nt_event.specs.Requests.{served_after, serves}
 use Rattle.nt_event.specs.Lists.{table, value_at}
-use Rattle.nt_event.proofs.Tables.{is_table, table-same}
-
--- sixteen values are their table
-pub values_table : (xs : List ℕ) → length xs ≡ 16 → xs ≡ table 16 (λ c. value_at xs c)
-values_table xs l = is_table xs 16 (λ c. value_at xs c) l (λ i h. refl)
-
--- one of sixteen values written
-pub set_table : (xs : List ℕ) (k v : ℕ) → length xs ≡ 16 → k < 16 → set xs k v ≡ table 16 (λ c. if k == c then v else value_at xs c)
-set_table xs k v l h =
-    is_table (set xs k v) 16 (λ c. if k == c then v else value_at xs c) (length-set xs k v ∙ l) (λ i b. go i (k == i) refl)
-  where
-    go : (i : ℕ) (b : Bool) → (k == i) ≡ b → get_or (set xs k v) i 0 ≡ (if b then v else value_at xs i)
-    go i true e =
-        let j : i ≡ k = grind (arith, nat_tests) in rw j (get_or-set_same xs k v 0 (omega (arith, l)))
-    go i false e = let n : i ≢ k = λ j. grind (arith, nat_tests) in get_or-set_other xs k i v 0 n
+use Rattle.nt_event.proofs.Tables.{table-same}
+use Rattle.nt_floor.proofs.Values.{set_table, values_table}
 
 -- an event that serves no class leaves the values
 pub serves_none : (w : What) (seen xs : List ℕ) → length xs ≡ 16 → ((c : ℕ) → serves c w ≡ false) → xs

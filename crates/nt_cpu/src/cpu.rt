@@ -7,9 +7,9 @@ ghost use Rattle.nt_event.specs.Step.{is_cut};
 ghost use Rattle.nt_cpu.specs.Sound.{IsSound};
 
 use crate::keeping::Kept;
-use crate::values::Values;
 use nt_event::limits::TURNS;
 use nt_event::{CpuNo, Rises, Script, ThreadNo};
+use nt_floor::Seen;
 use nt_frame::Frames;
 use std::alloc::{AllocError, Global};
 use std::marker::Model;
@@ -22,7 +22,7 @@ pub struct Cpu<'s> {
     pub(crate) limit: u32,
     pub(crate) made: u32,
     pub(crate) frames: Frames,
-    pub(crate) seen: Values,
+    pub(crate) seen: Seen,
     pub(crate) kept: Kept,
     /// The greatest class of an interrupt that was noticed and not served.
     pub(crate) due: Option<u8>,
@@ -61,7 +61,7 @@ impl<'s> Cpu<'s> {
             limit: turns,
             made: 0,
             frames: Frames::new(alloc, cpu, script.thread_count())?,
-            seen: Values::new(),
+            seen: Seen::new(),
             kept: Kept::new(),
             due: None,
         })

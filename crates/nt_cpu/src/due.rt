@@ -3,12 +3,13 @@ ghost use Rattle.std.specs.Prelude.{◌≡◌, ◌<◌, All, find, true};
 ghost use Rattle.nt_cpu.specs.Due.{above_level as above, greatest_due as greatest, is_unserved};
 
 use crate::values::Values;
+use nt_floor::Seen;
 
 /// The classes of interrupts, the greatest first; 12 is never requested.
 const CLASSES: [u8; 11] = [14, 13, 11, 10, 9, 8, 7, 6, 5, 4, 3];
 
 /// Whether a request of the class was noticed and not served.
-pub fn is_due(seen: &Values, served: &Values, class: u8) -> bool
+pub fn is_due(seen: &Seen, served: &Values, class: u8) -> bool
     requires { class < 16 }
     ensures { result ≡ is_unserved seen.now served.now class }
 {
@@ -16,7 +17,7 @@ pub fn is_due(seen: &Values, served: &Values, class: u8) -> bool
 }
 
 /// The first of these classes that is due.
-fn first_due(classes: &[u8], seen: &Values, served: &Values) -> Option<u8>
+fn first_due(classes: &[u8], seen: &Seen, served: &Values) -> Option<u8>
     requires { All (λ c. c < 16) classes.now }
     ensures { result ≡ find (is_unserved seen.now served.now) classes.now }
 {
@@ -29,7 +30,7 @@ fn first_due(classes: &[u8], seen: &Values, served: &Values) -> Option<u8>
 }
 
 /// The greatest class of an interrupt that is due: the one known before, where all is the same as then.
-pub fn greatest_due(before: Option<u8>, same: bool, seen: &Values, served: &Values) -> Option<u8>
+pub fn greatest_due(before: Option<u8>, same: bool, seen: &Seen, served: &Values) -> Option<u8>
     requires { same ≡ true → before ≡ greatest seen.now served.now }
     ensures { result ≡ greatest seen.now served.now }
 {

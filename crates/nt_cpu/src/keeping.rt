@@ -9,6 +9,7 @@ ghost use Rattle.nt_event.specs.Lists.{table, value_at};
 
 use crate::values::Values;
 use nt_event::{Begun, Command, DpcNo, Reply, Script, ThreadNo, TimerKey, What};
+use nt_floor::Seen;
 
 /// The class of dispatch, whose service ends a sweep of the timers.
 const DISPATCH: u8 = 2;
@@ -33,7 +34,7 @@ pub struct Kept {
 }
 
 /// What was seen of the class is served.
-fn serve(served: &mut Values, seen: &Values, class: u8)
+fn serve(served: &mut Values, seen: &Seen, class: u8)
     requires { length served.old ≡ 16 }
     ensures { served.new ≡ table 16 (λ c. if class == c then value_at seen.now c else value_at served.old c) }
 {
@@ -78,7 +79,7 @@ impl Kept {
 
     /// An interrupt that begins serves its class, and that of the clock owes a sweep; another beginning leaves all. False only
     /// where the values served are as before.
-    fn begin(&mut self, begun: &Begun, seen: &Values) -> bool
+    fn begin(&mut self, begun: &Begun, seen: &Seen) -> bool
         requires { length self.old.served ≡ 16 }
         ensures served { (from : ℕ) → self.new.served ≡ table 16 (λ c. served_after (What.Begin begun.now from) c (value_at seen.now c) (value_at self.old.served c)) }
         ensures same { result ≡ false → self.new.served ≡ self.old.served }
@@ -98,7 +99,7 @@ impl Kept {
     }
 
     /// Takes up this event, where these values are seen after it. False only where the values served are as before.
-    pub fn take_up(&mut self, script: &Script, what: &What, seen: &Values) -> bool
+    pub fn take_up(&mut self, script: &Script, what: &What, seen: &Seen) -> bool
         requires { length self.old.served ≡ 16 }
         ensures served { self.new.served ≡ table 16 (λ c. served_after what.now c (value_at seen.now c) (value_at self.old.served c)) }
         ensures same { result ≡ false → self.new.served ≡ self.old.served }

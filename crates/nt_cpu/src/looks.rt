@@ -3,8 +3,8 @@ ghost use Rattle.std.specs.Prelude.{◌≡◌, ◌≤◌, ◌==◌, length, nat_
 ghost use Rattle.std.specs.List.{list_any};
 ghost use Rattle.nt_cpu.specs.Turns.{rise_above, rises as rises_of};
 
-use crate::values::Values;
 use nt_event::Rises;
+use nt_floor::Seen;
 
 /// Whether one of the values rises.
 pub fn some_rises(values: &[u64]) -> bool
@@ -14,7 +14,7 @@ pub fn some_rises(values: &[u64]) -> bool
 }
 
 /// Whether each value that rises is above the one seen of its class.
-fn all_above(values: &[u64], seen: &Values) -> bool
+fn all_above(values: &[u64], seen: &Seen) -> bool
     requires { length values.now ≤ 16 }
     ensures { result ≡ rise_above 0 values.now seen.now }
 {
@@ -27,7 +27,7 @@ fn all_above(values: &[u64], seen: &Values) -> bool
 }
 
 /// Whether some value rises, and each that does is above what was seen.
-pub fn rise(rises: &Rises, seen: &Values) -> bool
+pub fn rise(rises: &Rises, seen: &Seen) -> bool
     ensures { result ≡ rises_of rises.now.value seen.now }
 {
     some_rises(&rises.value) && all_above(&rises.value, seen)

@@ -35,7 +35,7 @@ impl<'s> Cpu<'s> {
         apply(&mut self.frames, self.script, event, n, due);
         nested(&self.frames);
         self.made += 1;
-        let noticed = self.seen.notice(notice);
+        let noticed = notice.raise(&mut self.seen);
         let serves = self.kept.take_up(self.script, &event.what, &self.seen);
         self.due = greatest_due(self.due, !noticed && !serves, &self.seen, &self.kept.served);
     }

@@ -31,8 +31,8 @@ invariant_of-self c =
     let v = sym c.self.view_is in
     let k = c.take_up-serves.new.self in
     let e = c.take_up-serves.ensures in
-    let left = left_is i c.args.n c.args.due c.args.event.now (notice_of c.args.notice.now) c.apply.new.frames c.notice-noticed.new.self k.served
-    k.rested k.took k.fire k.sweep c.apply.ensures c.notice-noticed.ensures.values e.served e.rested e.took e.fire e.sweep in
+    let left = left_is i c.args.n c.args.due c.args.event.now (notice_of c.args.notice.now) c.apply.new.frames c.raise-noticed.new.seen k.served
+    k.rested k.took k.fire k.sweep c.apply.ensures c.raise-noticed.ensures.values e.served e.rested e.took e.fire e.sweep in
     let room = subst (λ (x : CpuState). x.own.made < x.limit) v c.requires.room in
     let allow = subst (λ (x : CpuState). Allow x.script c.args.event.now.what x.own.frames) v c.requires.allow in
     let thread = subst (λ (x : CpuState). c.args.event.now.thread ≡ thread_field c.args.event.now.what x.own.frames.running) v c.requires.thread in
@@ -48,8 +48,8 @@ returns c =
     let i : CpuState = state_in c.self.inside in
     let k = c.take_up-serves.new.self in
     let e = c.take_up-serves.ensures in
-    left_is i c.args.n c.args.due c.args.event.now (notice_of c.args.notice.now) c.apply.new.frames c.notice-noticed.new.self k.served
-    k.rested k.took k.fire k.sweep c.apply.ensures c.notice-noticed.ensures.values e.served e.rested e.took e.fire e.sweep
+    left_is i c.args.n c.args.due c.args.event.now (notice_of c.args.notice.now) c.apply.new.frames c.raise-noticed.new.seen k.served
+    k.rested k.took k.fire k.sweep c.apply.ensures c.raise-noticed.ensures.values e.served e.rested e.took e.fire e.sweep
     ∙ ap (λ (x : CpuState). record x {
       own = own_with x.script c.args.n c.args.due c.args.event.now
           (λ k. max (value_at x.own.seen k) (notice_of c.args.notice.now k)) x.own;
@@ -58,9 +58,9 @@ returns c =
 pub greatest_due-self-inside-requires : goal.greatest_due-self-inside-requires
 greatest_due-self-inside-requires c h =
     elim c.if-not-noticed.branch [
-      | then-not-noticed w ↦ (let n = c.notice-noticed.ensures.same w.if-not-noticed.true in
+      | then-not-noticed w ↦ (let n = c.raise-noticed.ensures.same w.if-not-noticed.true in
           let s = c.take_up-serves.ensures.same (not_true c.take_up-serves.result (sym w.greatest_due-is ∙ h)) in
           c.self.invariant.due ∙ (ap (λ (xs : List ℕ). greatest_due xs c.self.inside.kept.served) (sym n)
-          ∙ ap (greatest_due c.notice-noticed.new.self) (sym s)))
+          ∙ ap (greatest_due c.raise-noticed.new.seen) (sym s)))
       | else-not-noticed w ↦ (let e = sym w.greatest_due-is ∙ h in absurd cc)
     ]

@@ -1,6 +1,6 @@
 use Rattle.std.proofs.Common.{get_or, length, nat_lt, ℕ, ◌<◌, ◌≡◌, ◌≤◌}
 use Rattle.std.specs.Prelude.{if◌then◌else◌}
-use Rattle.nt_cpu.proofs.values.above.Given as goal
+use Rattle.nt_floor.proofs.seen.above.Given as goal
 
 abbrev pub invariant-loop-i : goal.invariant-loop-i
 invariant-loop-i l = record {

@@ -1,6 +1,6 @@
 use Rattle.std.proofs.Common.{arith, sym}
-use Rattle.nt_cpu.proofs.Noticed.{none_above, some_above}
-use Rattle.nt_cpu.proofs.values.some_above.Goals as goal
+use Rattle.nt_floor.proofs.Values.{none_above, some_above}
+use Rattle.nt_floor.proofs.seen.some_above.Goals as goal
 
 pub returns-then-seen-i : goal.returns-then-seen-i
 returns-then-seen-i c =

@@ -1,7 +1,7 @@
 use Rattle.std.proofs.Common.{nat_lt, ℕ, ◌<◌, ◌≡◌}
 use Rattle.std.specs.Prelude.{false}
 use Rattle.nt_event.specs.Lists.{value_at}
-use Rattle.nt_cpu.proofs.values.some_above.Given as goal
+use Rattle.nt_floor.proofs.seen.some_above.Given as goal
 
 abbrev pub invariant-loop-i : goal.invariant-loop-i
 invariant-loop-i l = record {

@@ -2,7 +2,7 @@ use Rattle.std.proofs.Common.{arith, nat_lt}
 use Rattle.std.specs.Prelude.{if◌then◌else◌}
 use Rattle.nt_event.specs.Lists.{value_at}
 use Rattle.nt_event.proofs.Tables.{is_table}
-use Rattle.nt_cpu.proofs.values.above.Goals as goal
+use Rattle.nt_floor.proofs.seen.above.Goals as goal
 
 pub returns : goal.returns
 returns c =

@@ -1,0 +1,116 @@
+//! What a processor has seen of requests.
+ghost use Rattle.std.specs.Prelude.{◌≡◌, ◌<◌, ◌==◌, ℕ, false, if◌then◌else◌, length, max, nat_lt};
+ghost use Rattle.std.specs.List.{list_any};
+ghost use Rattle.nt_event.specs.Lists.{table, value_at};
+
+use nt_event::Rises;
+use std::marker::Model;
+
+/// The greatest request that was seen of each of the classes 0 to 15; 0 is none.
+#[derive(Drop, Debug)]
+pub struct Seen {
+    values: [u64; 16],
+}
+
+impl Model for Seen {
+    ghost use Rattle.std.specs.Prelude.{ℕ, List};
+
+    ghost Value = { List ℕ };
+
+    ghost view = { λ a. a.values };
+}
+
+impl Seen {
+    /// Nothing was seen.
+    pub fn new() -> Self
+        ensures { result ≡ table 16 (λ c. 0) }
+    {
+        Seen { values: [0; 16] }
+    }
+
+    /// The value of a class.
+    pub fn get(&self, class: u8) -> u64
+        requires { class < 16 }
+        ensures { result ≡ value_at self.now class }
+    {
+        self.values[class as usize]
+    }
+
+    /// Raises the value of a class to this one. False only where the values are as before.
+    pub fn raise(&mut self, class: u8, to: u64) -> bool
+        requires { class < 16 }
+        ensures values { self.new ≡ table 16 (λ c. max (value_at self.old c) (if class == c then to else 0)) }
+        ensures same { result ≡ false → self.new ≡ self.old }
+    {
+        let place = class as usize;
+        let rises = self.values[place] < to;
+        if rises {
+            self.values[place] = to;
+        }
+        rises
+    }
+
+    /// Raises each value to this one of its class. False only where the values are as before.
+    pub fn raise_all(&mut self, values: &[u64; 16]) -> bool
+        ensures values { self.new ≡ table 16 (λ c. max (value_at self.old c) (value_at values.now c)) }
+        ensures same { result ≡ false → self.new ≡ self.old }
+    {
+        let mut raised = false;
+        for class in 0..16 {
+            if self.raise(class, values[class as usize]) {
+                raised = true;
+            }
+        }
+        raised
+    }
+
+    /// Whether one of these values is above that of the same class.
+    pub fn is_below(&self, values: &[u64]) -> bool
+        requires { length values.now ≡ 16 }
+        ensures { result ≡ list_any (λ v. nat_lt 0 v) (table 16 (λ c. if nat_lt (value_at self.now c) (value_at values.now c) then value_at values.now c else 0)) }
+    {
+        some_above(values, &self.values)
+    }
+
+    /// Which of these values are above those of the same class; 0 for the others.
+    pub fn below(&self, values: &[u64]) -> Rises
+        requires { length values.now ≡ 16 }
+        ensures { result.value ≡ table 16 (λ c. if nat_lt (value_at self.now c) (value_at values.now c) then value_at values.now c else 0) }
+    {
+        Rises {
+            value: above(values, &self.values),
+        }
+    }
+
+    /// The values.
+    pub fn rises(&self) -> Rises
+        ensures { result.value ≡ self.now }
+    {
+        Rises { value: self.values }
+    }
+}
+
+fn some_above(values: &[u64], seen: &[u64; 16]) -> bool
+    requires { length values.now ≡ 16 }
+    ensures { result ≡ list_any (λ v. nat_lt 0 v) (table 16 (λ c. if nat_lt (value_at seen.now c) (value_at values.now c) then value_at values.now c else 0)) }
+{
+    for i in 0..16 {
+        if seen[i] < values[i] {
+            return true;
+        }
+    }
+    false
+}
+
+fn above(values: &[u64], seen: &[u64; 16]) -> [u64; 16]
+    requires { length values.now ≡ 16 }
+    ensures { result ≡ table 16 (λ c. if nat_lt (value_at seen.now c) (value_at values.now c) then value_at values.now c else 0) }
+{
+    let mut rises = [0; 16];
+    for i in 0..16 {
+        if seen[i] < values[i] {
+            rises[i] = values[i];
+        }
+    }
+    rises
+}
