@@ -1,3 +1,4 @@
 pub mod Lists
 pub mod Acts
 pub mod Views
+pub mod Sums

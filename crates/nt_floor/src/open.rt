@@ -8,6 +8,7 @@ pub trait OpenFloor: Floor {
     ghost use Rattle.nt_event.specs.Lists.{value_at};
     ghost use Rattle.nt_event.specs.Jobs.{next_ready};
     ghost use Rattle.nt_event.specs.Lanes.{Lanes};
+    ghost use Rattle.nt_floor.specs.Sums.{sum_of};
     ghost use Rattle.nt_floor.specs.Views.{HasWord};
 
     /// The greatest requests for a processor, one for each of the 16 classes; 0 is none.
@@ -15,6 +16,11 @@ pub trait OpenFloor: Floor {
         requires { p.0 < (Self.view self.now).cpus }
         ensures classes { length result.now ≡ 16 }
         ensures values { (c : ℕ) → c < 16 → value_at result.now c ≡ (Self.view self.now).value p c };
+
+    /// The sum of the greatest requests for a processor.
+    fn asked_sum(&self, p: CpuNo) -> u128
+        requires { p.0 < (Self.view self.now).cpus }
+        ensures { result ≡ sum_of ((Self.view self.now).value p) };
 
     /// Whether the event of this number was marked as asking for a class of a processor.
     fn asks(&self, n: u64, p: CpuNo, class: u8) -> bool

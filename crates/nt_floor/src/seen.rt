@@ -2,6 +2,7 @@
 ghost use Rattle.std.specs.Prelude.{◌≡◌, ◌<◌, ◌==◌, ℕ, false, if◌then◌else◌, length, max, nat_lt};
 ghost use Rattle.std.specs.List.{list_any};
 ghost use Rattle.nt_event.specs.Lists.{table, value_at};
+ghost use Rattle.nt_floor.specs.Sums.{sum_of};
 
 use nt_event::Rises;
 use std::marker::Model;
@@ -10,6 +11,8 @@ use std::marker::Model;
 #[derive(Drop, Debug)]
 pub struct Seen {
     values: [u64; 16],
+    /// The sum of the values.
+    sum: u128,
 }
 
 impl Model for Seen {
@@ -17,7 +20,11 @@ impl Model for Seen {
 
     ghost Value = { List ℕ };
 
+    ghost use Rattle.nt_floor.specs.Sums.{IsSum};
+
     ghost view = { λ a. a.values };
+
+    ghost invariant = { λ a. IsSum a.sum a.values };
 }
 
 impl Seen {
@@ -25,7 +32,10 @@ impl Seen {
     pub fn new() -> Self
         ensures { result ≡ table 16 (λ c. 0) }
     {
-        Seen { values: [0; 16] }
+        Seen {
+            values: [0; 16],
+            sum: 0,
+        }
     }
 
     /// The value of a class.
@@ -43,9 +53,11 @@ impl Seen {
         ensures same { result ≡ false → self.new ≡ self.old }
     {
         let place = class as usize;
-        let rises = self.values[place] < to;
+        let old = self.values[place];
+        let rises = old < to;
         if rises {
             self.values[place] = to;
+            self.sum += u128::from(to - old);
         }
         rises
     }
@@ -62,6 +74,13 @@ impl Seen {
             }
         }
         raised
+    }
+
+    /// The sum of the values.
+    pub fn sum(&self) -> u128
+        ensures { result ≡ sum_of (value_at self.now) }
+    {
+        self.sum
     }
 
     /// Whether one of these values is above that of the same class.
