@@ -5,3 +5,4 @@ pub mod Classes
 pub mod Made
 pub mod Insides
 pub mod Kept
+pub mod Sums

@@ -12,6 +12,10 @@ impl<'s> OpenFloor for PlainFloor<'s> {
         self.words_of(p)
     }
 
+    fn asked_sum(&self, p: CpuNo) -> u128 {
+        self.sum_of_words(p)
+    }
+
     fn asks(&self, n: u64, p: CpuNo, class: u8) -> bool {
         self.has_mark(n, p, class)
     }

@@ -4,6 +4,7 @@ ghost use Rattle.nt_event.specs.Lists.{value_at};
 ghost use Rattle.nt_event.specs.Jobs.{next_ready};
 ghost use Rattle.nt_event.specs.Lanes as lanes;
 ghost use Rattle.nt_event.specs.Script.{fits};
+ghost use Rattle.nt_floor.specs.Sums.{sum_of};
 ghost use Rattle.nt_floor.specs.Views.{HasWord};
 ghost use Rattle.nt_plain.specs.Made.{IsKept, drawn, marked};
 ghost use Rattle.nt_plain.specs.States.{IsFresh, view_of};
@@ -129,6 +130,14 @@ impl<'s> PlainFloor<'s> {
         ensures values { (c : ℕ) → c < 16 → value_at result.now c ≡ (view_of self.now).value p c }
     {
         self.asked.row(p)
+    }
+
+    /// The sum of the words of a processor.
+    pub(crate) fn sum_of_words(&self, p: CpuNo) -> u128
+        requires { p.0 < (view_of self.now).cpus }
+        ensures { result ≡ sum_of ((view_of self.now).value p) }
+    {
+        self.asked.sum(p)
     }
 
     /// Whether the event of this number has the mark; one that may not be drawn has none.

@@ -2,6 +2,7 @@
 ghost use Rattle.std.specs.Prelude.{◌≡◌, ◌+◌, ◌*◌, ◌<◌, ◌≤◌, ℕ, All, IfOk, length, replicate};
 ghost use Rattle.nt_event.specs.Lists.{value_at};
 ghost use Rattle.nt_states.specs.LaneLists.{as_asks};
+ghost use Rattle.nt_floor.specs.Sums.{sum_of};
 ghost use Rattle.nt_plain.specs.Made.{raised_word, raised_words};
 ghost use Rattle.nt_plain.specs.Places.{value_in, word_place};
 
@@ -14,6 +15,8 @@ use std::marker::Model;
 #[derive(Drop, Debug)]
 pub(crate) struct RequestWords {
     values: Vec<u64>,
+    /// For each processor the sum of its words.
+    sums: Vec<u128>,
 }
 
 impl Model for RequestWords {
@@ -21,7 +24,11 @@ impl Model for RequestWords {
 
     ghost Value = { List ℕ };
 
+    ghost use Rattle.nt_plain.specs.Sums.{AreSums};
+
     ghost view = { λ a. a.values.items };
+
+    ghost invariant = { λ a. AreSums a.sums.items a.values.items };
 }
 
 impl RequestWords {
@@ -31,7 +38,8 @@ impl RequestWords {
     {
         let count = 16 * usize::from(cpus);
         let values = vec![in alloc; 0u64; count]?;
-        Ok(RequestWords { values })
+        let sums = vec![in alloc; 0u128; usize::from(cpus)]?;
+        Ok(RequestWords { values, sums })
     }
 
     /// The word of a processor and class.
@@ -52,19 +60,32 @@ impl RequestWords {
         &self.values[first..first + 16]
     }
 
+    /// The sum of the words of a processor.
+    pub(crate) fn sum(&self, p: CpuNo) -> u128
+        requires { 16 * p.0 + 16 ≤ length self.now }
+        ensures { result ≡ sum_of (value_in self.now p) }
+    {
+        self.sums[usize::from(p.0)]
+    }
+
     /// Raises the word of a processor and class to a value.
     pub(crate) fn raise(&mut self, p: CpuNo, class: u8, to: u64)
-        requires { word_place p class < length self.old }
+        requires class { class < 16 }
+        requires word { word_place p class < length self.old }
         ensures { self.new ≡ raised_word to p class self.old }
     {
         let at = place(p, class);
         let old = self.values[at];
-        self.values[at] = old.max(to);
+        if old < to {
+            self.values[at] = to;
+            self.sums[usize::from(p.0)] += u128::from(to - old);
+        }
     }
 
     /// Raises the words of these requests to a value.
     pub(crate) fn raise_all(&mut self, asks: &[Asked], to: u64)
-        requires { All (λ a. word_place a.cpu a.class < length self.old) asks.now }
+        requires classes { All (λ a. a.class < 16) asks.now }
+        requires words { All (λ a. word_place a.cpu a.class < length self.old) asks.now }
         ensures { self.new ≡ raised_words to (as_asks asks.now) self.old }
     {
         for ask in asks {

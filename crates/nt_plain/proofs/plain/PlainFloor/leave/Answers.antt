@@ -9,12 +9,16 @@ use Rattle.nt_states.proofs.Requests.{each_asked}
 use Rattle.nt_plain.proofs.Within.{marks_within, places_within, words_within}
 use Rattle.nt_plain.proofs.plain.PlainFloor.leave.Goals as goal
 
-pub raise_all-requires : goal.raise_all-requires
-raise_all-requires c =
+pub raise_all-requires-clause-words : goal.raise_all-requires-clause-words
+raise_all-requires-clause-words c =
     let planned : IsPlanned (state_in c.self.inside) c.args.stand.now c.args.event.now.what c.args.lanes.now c.args.asks.now = subst
     (λ (f : PlainState). IsPlanned f c.args.stand.now c.args.event.now.what c.args.lanes.now c.args.asks.now) (sym c.self.view_is) c.requires.planned in
     words_within c.self.inside.states.script c.self.inside.asked c.as_slice-asked.result.now c.args.asks.now c.self.invariant.asked_length
     c.as_slice-asked.ensures planned.asks_named
+
+pub raise_all-requires-clause-classes : goal.raise_all-requires-clause-classes
+raise_all-requires-clause-classes c k d l =
+    (each_asked (AskFits c.args.self.now.script) c.as_slice-asked.result.now c.args.asks.now c.as_slice-asked.ensures c.requires.planned.asks_named k d l).class
 
 pub mark_all-requires-clause-rows : goal.mark_all-requires-clause-rows
 mark_all-requires-clause-rows c =

@@ -1,11 +1,7 @@
-use Rattle.std.proofs.Common.{arith, get_or, refl, replicate, rules, suc, zero, ℕ, ◌≡◌}
+use Rattle.std.proofs.Common.{arith, rules}
 use Rattle.std.proofs.lemmas.Grind.{common_steps}
+use Rattle.nt_floor.proofs.Sums.{zeros}
 use Rattle.nt_plain.proofs.plain.PlainFloor.new.Goals as goal
-
-zeros : (n i : ℕ) → get_or {A = ℕ} (replicate {A = ℕ} n 0) i 0 ≡ 0
-zeros zero i = refl
-zeros (suc n) zero = refl
-zeros (suc n) (suc i) = zeros n i
 
 pub invariant_of-result : goal.invariant_of-result
 invariant_of-result c = record {
