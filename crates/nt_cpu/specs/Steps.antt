@@ -10,7 +10,7 @@ use Rattle.nt_event.specs.declared.numbers.CpuNo.{CpuNo}
 use Rattle.nt_event.specs.Classes.{is_used_class}
 use Rattle.nt_event.specs.Jobs.{chosen_task, rests}
 use Rattle.nt_event.specs.Lanes.{what_lanes}
-use Rattle.nt_event.specs.Own.{stand_in}
+use Rattle.nt_event.specs.Own.{Own, stand_in}
 use Rattle.nt_event.specs.Robin.{is_behind, look_values}
 use Rattle.nt_event.specs.Step.{event_at, is_cut}
 use Rattle.nt_event.specs.Lists.{value_at}
@@ -70,6 +70,10 @@ AllLooked p answers v u = LooksBelow 15 p answers v u
 pub record AreLooked (c : CpuState) (answers : List ℕ) (v u : View) : Type 0 where
   pub cut : is_cut c.limit c.own ≡ true → u ≡ v
   pub looks : is_cut c.limit c.own ≡ false → AllLooked c.cpu answers v u
+
+-- nothing was seen that is above these values, one for each of the 16 classes
+abbrev pub SeenWithin : Own → (ℕ → ℕ) → Type 0
+SeenWithin x values = (c : ℕ) → c < 16 → value_at x.seen c ≤ values c
 
 -- ---- the step
 

@@ -11,9 +11,10 @@ ghost use Rattle.nt_event.specs.Lists.{value_at};
 ghost use Rattle.nt_event.specs.declared.jobs.Job.{Job};
 ghost use Rattle.nt_event.specs.declared.jobs.Task.{Task};
 ghost use Rattle.nt_floor.specs.Acts.{Found};
+ghost use Rattle.nt_floor.specs.Sums.{sum_of};
 ghost use Rattle.nt_floor.specs.Views.{IsUnmoved, View};
 ghost use Rattle.nt_cpu.specs.declared.steps.Local.{Local};
-ghost use Rattle.nt_cpu.specs.Steps.{Advanced, AllLooked, AreLooked, IsStepped, Knows};
+ghost use Rattle.nt_cpu.specs.Steps.{Advanced, AllLooked, AreLooked, IsStepped, Knows, SeenWithin};
 ghost use Rattle.nt_cpu.specs.Turns.{IsShared, Serves};
 
 use crate::cpu::Cpu;
@@ -75,6 +76,14 @@ impl<'s> Cpu<'s> {
         ensures { result ≡ is_behind self.now.own (value_at answers.now) }
     {
         self.seen.is_below(answers)
+    }
+
+    /// Whether one of the 16 values that have this sum, none of them below what was seen of its class, is above it.
+    #[inline(always)]
+    pub fn is_behind_sum(&self, sum: u128) -> bool
+        ensures { (values : ℕ → ℕ) → SeenWithin self.now.own values → sum ≡ sum_of values → result ≡ is_behind self.now.own values }
+    {
+        self.seen.sum() < sum
     }
 
     /// Those of these values, one for each of the 16 classes, that are above what was seen; 0 for the other classes.
