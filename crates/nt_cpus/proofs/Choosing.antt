@@ -13,17 +13,18 @@ use Rattle.nt_event.specs.declared.scripts.Script.{Script}
 use Rattle.nt_event.specs.Jobs.{rests}
 use Rattle.nt_event.specs.Lanes.{Lanes, lanes_at}
 use Rattle.nt_event.specs.Own.{Own, own_of}
-use Rattle.nt_event.specs.Requests.{asked}
+use Rattle.nt_event.specs.Requests.{asked, seen}
 use Rattle.nt_event.specs.Robin.{go_on_turn, is_behind, is_done_with, look_value, look_values, robin_at, robin_from, robin_of}
 use Rattle.nt_event.specs.Script.{has_cpu}
 use Rattle.nt_event.specs.Step.{IsRun, is_cut}
 use Rattle.nt_event.specs.Numbers.{cpu}
 use Rattle.nt_event.specs.Lists.{table_from, value_at, when}
-use Rattle.nt_runs.proofs.Settled.{robin_of_done}
-use Rattle.nt_event.proofs.Tables.{table-same}
+use Rattle.nt_runs.proofs.Settled.{robin_of_done, seen_below}
+use Rattle.nt_event.proofs.Tables.{get_or-table, table-same}
 use Rattle.nt_floor.specs.Views.{View}
 use Rattle.nt_cpu.specs.Runs.{Follows, state_of}
 use Rattle.nt_cpu.specs.States.{CpuState}
+use Rattle.nt_cpu.specs.Steps.{SeenWithin}
 use Rattle.nt_cpus.specs.Cycles.{next_cpu}
 use Rattle.nt_cpus.specs.Steps.{chosen_turn, found_values, look_of, step_turn}
 use Rattle.nt_cpus.specs.declared.robins.Chosen.{Chosen}
@@ -56,6 +57,17 @@ pub values_given : (s : Script) (limit : ℕ) (p : CpuNo) (past : List Event) (c
 values_given s limit p past c v values b h k g =
     same_values c.own (value_at values) (v.value p) g ∙ values_found s limit p past c v b h k
 
+-- a processor has seen no more than was asked for
+pub seen_within : (s : Script) (limit : ℕ) (p : CpuNo) (past : List Event) (c : CpuState) (v : View) → p.0 < s.cpus → IsRun s limit past → Follows s past v →
+    c ≡ state_of s p limit past → SeenWithin c.own (v.value p)
+seen_within s limit p past c v b r h k n m =
+    let cpus = h.cpus in
+    let value = h.value p n (omega arith, m) in
+    let own : value_at c.own.seen n ≡ value_at (own_of s p past).seen n = ap (λ (x : CpuState). value_at x.own.seen n) k in
+    let kept : value_at (own_of s p past).seen n ≡ seen s p n past = get_or-table 16 n (λ i. seen s p i past) 0 m in
+    let below = seen_below s limit p n past r in
+    omega (arith, value, own, kept, below)
+
 -- the rule's turn of an uncut processor is what the processor and the floor give
 pub robin_found : (s floor : Script) (limit : ℕ) (p : CpuNo) (past : List Event) (c : CpuState) (v : View) (l : Lanes) → p.0 < s.cpus → Follows s past v →
     v.states ≡ Some l → floor ≡ s → c ≡ state_of s p limit past → is_cut limit (own_of s p past) ≡ false → robin_at floor p c.own l (v.value p)
@@ -76,27 +88,25 @@ abbrev by_tests : Script → CpuNo → Own → Lanes → (ℕ → ℕ) → Bool 
 by_tests s p x l asked b r =
     if b then Some (LookTurn p (record { value = look_values x asked })) else (if r then None else Some (go_on_turn s p x l))
 
-tested : (s : Script) (p : CpuNo) (x : Own) (l : Lanes) (values : List ℕ) (asked : ℕ → ℕ) (b r : Bool) → ((k : ℕ) → k < 16 → value_at values k ≡ asked k) →
-    is_behind x (value_at values) ≡ b → rests x ≡ r → robin_at s p x l asked ≡ by_tests s p x l asked b r
-tested s p x l values asked b r h i k =
-    ap (λ (z : Bool). by_tests s p x l asked z (rests x))
-    (ap (λ (vs : List ℕ). list_any (λ v. nat_lt 0 v) vs) (sym (same_values x (value_at values) asked h)) ∙ i)
-    ∙ ap (by_tests s p x l asked b) k
+tested : (s : Script) (p : CpuNo) (x : Own) (l : Lanes) (asked : ℕ → ℕ) (b r : Bool) → is_behind x asked ≡ b → rests x ≡ r → robin_at s p x l asked
+    ≡ by_tests s p x l asked b r
+tested s p x l asked b r i k =
+    ap (λ (z : Bool). by_tests s p x l asked z (rests x)) i ∙ ap (by_tests s p x l asked b) k
 
 -- it looks
-pub looks_turn : (s : Script) (p : CpuNo) (x : Own) (l : Lanes) (values : List ℕ) (asked : ℕ → ℕ) → ((k : ℕ) → k < 16 → value_at values k ≡ asked k) →
-    is_behind x (value_at values) ≡ true → Some (LookTurn p (record { value = look_values x asked })) ≡ robin_at s p x l asked
-looks_turn s p x l values asked h b = sym (tested s p x l values asked true (rests x) h b refl)
+pub looks_turn : (s : Script) (p : CpuNo) (x : Own) (l : Lanes) (asked : ℕ → ℕ) → is_behind x asked ≡ true →
+    Some (LookTurn p (record { value = look_values x asked })) ≡ robin_at s p x l asked
+looks_turn s p x l asked b = sym (tested s p x l asked true (rests x) b refl)
 
 -- it rests
-pub rests_turn : (s : Script) (p : CpuNo) (x : Own) (l : Lanes) (values : List ℕ) (asked : ℕ → ℕ) → ((k : ℕ) → k < 16 → value_at values k ≡ asked k) →
-    is_behind x (value_at values) ≡ false → rests x ≡ true → None ≡ robin_at s p x l asked
-rests_turn s p x l values asked h b r = sym (tested s p x l values asked false true h b r)
+pub rests_turn : (s : Script) (p : CpuNo) (x : Own) (l : Lanes) (asked : ℕ → ℕ) → is_behind x asked ≡ false → rests x ≡ true → None
+    ≡ robin_at s p x l asked
+rests_turn s p x l asked b r = sym (tested s p x l asked false true b r)
 
 -- it goes on
-pub goes_turn : (s : Script) (p : CpuNo) (x : Own) (l : Lanes) (values : List ℕ) (asked : ℕ → ℕ) (t : Turn) → ((k : ℕ) → k < 16 → value_at values k ≡ asked k) →
-    is_behind x (value_at values) ≡ false → rests x ≡ false → t ≡ go_on_turn s p x l → Some t ≡ robin_at s p x l asked
-goes_turn s p x l values asked t h b r e = ap (λ (u : Turn). Some u) e ∙ sym (tested s p x l values asked false false h b r)
+pub goes_turn : (s : Script) (p : CpuNo) (x : Own) (l : Lanes) (asked : ℕ → ℕ) (t : Turn) → is_behind x asked ≡ false → rests x ≡ false → t
+    ≡ go_on_turn s p x l → Some t ≡ robin_at s p x l asked
+goes_turn s p x l asked t b r e = ap (λ (u : Turn). Some u) e ∙ sym (tested s p x l asked false false b r)
 
 pub every_lanes : {P : Lanes → Type 0} (o : Option Lanes) → ((l : Lanes) → P l) → IfSome o P
 every_lanes {P} None h = tt

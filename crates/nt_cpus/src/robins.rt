@@ -6,6 +6,7 @@ ghost use Rattle.nt_event.specs.Robin.{first_cpu as first_of, go_on_turn, is_set
 ghost use Rattle.nt_event.specs.Script.{has_cpu};
 ghost use Rattle.nt_event.specs.Step.{is_cut, step, turn_of};
 ghost use Rattle.nt_cpu.specs.Choices.{turn_by};
+ghost use Rattle.nt_cpu.specs.Steps.{SeenWithin};
 ghost use Rattle.nt_cpus.specs.Cycles.{last_cpu, next_cpu};
 ghost use Rattle.nt_cpus.specs.Following.{AreAfter, AreSound};
 ghost use Rattle.nt_cpus.specs.Steps.{chosen_turn, found_values, look_of, step_turn};
@@ -50,13 +51,16 @@ fn going_on<F: OpenFloor>(cpu: &Cpu, floor: &F, p: CpuNo) -> Step
 }
 
 /// What a processor does that is not cut: it looks at what was asked for, does nothing where it rests, else it goes on.
+///
+/// No more was seen than was asked for, so it is behind exactly where the sum of what was seen is below that of the requests.
 #[inline(always)]
 fn uncut_step<F: OpenFloor>(cpu: &Cpu, floor: &F, p: CpuNo) -> Option<Step>
     requires cpu { p.0 < (F.view floor.now).cpus }
     requires uncut { is_cut cpu.now.limit cpu.now.own ≡ false }
+    requires seen { SeenWithin cpu.now.own ((F.view floor.now).value p) }
     ensures { IfSome (F.view floor.now).states (λ l. option_map (step_turn p (look_values cpu.now.own ((F.view floor.now).value p))) result ≡ robin_at (F.script floor.now) p cpu.now.own l ((F.view floor.now).value p)) }
 {
-    if cpu.is_behind(floor.asked(p)) {
+    if cpu.is_behind_sum(floor.asked_sum(p)) {
         return Some(Step::Look);
     }
     if cpu.rests() {

@@ -1,36 +1,34 @@
 use Rattle.std.proofs.Common.{sym, ◌∙◌}
 use Rattle.std.specs.Prelude.{false, true, ◌≡◌}
 use Rattle.nt_event.specs.Jobs.{rests}
-use Rattle.nt_event.specs.Lists.{value_at}
 use Rattle.nt_event.specs.Robin.{is_behind, look_values}
 use Rattle.nt_cpus.specs.Steps.{step_turn}
 use Rattle.nt_cpus.proofs.Choosing.{every_lanes, goes_turn, looks_turn, rests_turn, those_lanes}
 use Rattle.nt_cpus.proofs.robins.uncut_step.Goals as goal
 
-pub returns-then-is_behind : goal.returns-then-is_behind
-returns-then-is_behind g c =
+pub returns-then-is_behind_sum : goal.returns-then-is_behind_sum
+returns-then-is_behind_sum g c =
     let v = g.F.Words.view c.args.floor.now in
     let x = c.args.cpu.now.own in
-    let values = c.asked.result.now in
-    let b : is_behind x (value_at values) ≡ true = sym c.is_behind.ensures ∙ c.if-is_behind.true in
-    every_lanes v.states (λ l. looks_turn (g.F.Floor.script c.args.floor.now) c.args.p x l values (v.value c.args.p) c.asked.ensures.values b)
+    let asked = v.value c.args.p in
+    let b : is_behind x asked ≡ true = sym (c.is_behind_sum.ensures asked c.requires.seen c.asked_sum.ensures) ∙ c.if-is_behind_sum.true in
+    every_lanes v.states (λ l. looks_turn (g.F.Floor.script c.args.floor.now) c.args.p x l asked b)
 
 pub returns-then-rests : goal.returns-then-rests
 returns-then-rests g c =
     let v = g.F.Words.view c.args.floor.now in
     let x = c.args.cpu.now.own in
-    let values = c.asked.result.now in
-    let b : is_behind x (value_at values) ≡ false = sym c.is_behind.ensures ∙ c.if-is_behind.false in
+    let asked = v.value c.args.p in
+    let b : is_behind x asked ≡ false = sym (c.is_behind_sum.ensures asked c.requires.seen c.asked_sum.ensures) ∙ c.if-is_behind_sum.false in
     let r : rests x ≡ true = sym c.rests.ensures ∙ c.if-rests.true in
-    every_lanes v.states (λ l. rests_turn (g.F.Floor.script c.args.floor.now) c.args.p x l values (v.value c.args.p) c.asked.ensures.values b r)
+    every_lanes v.states (λ l. rests_turn (g.F.Floor.script c.args.floor.now) c.args.p x l asked b r)
 
 pub returns : goal.returns
 returns g c =
     let v = g.F.Words.view c.args.floor.now in
     let x = c.args.cpu.now.own in
-    let values = c.asked.result.now in
-    let b : is_behind x (value_at values) ≡ false = sym c.is_behind.ensures ∙ c.if-is_behind.false in
+    let asked = v.value c.args.p in
+    let b : is_behind x asked ≡ false = sym (c.is_behind_sum.ensures asked c.requires.seen c.asked_sum.ensures) ∙ c.if-is_behind_sum.false in
     let r : rests x ≡ false = sym c.rests.ensures ∙ c.if-rests.false in
-    those_lanes v.states (λ l e. goes_turn (g.F.Floor.script c.args.floor.now) c.args.p x l values (v.value c.args.p)
-    (step_turn c.args.p (look_values x (v.value c.args.p)) c.going_on.result) c.asked.ensures.values b r (e (look_values x (v.value c.args.p))))
-    c.going_on.ensures
+    those_lanes v.states (λ l e. goes_turn (g.F.Floor.script c.args.floor.now) c.args.p x l asked
+    (step_turn c.args.p (look_values x asked) c.going_on.result) b r (e (look_values x asked))) c.going_on.ensures

@@ -8,7 +8,7 @@ use Rattle.nt_cpu.specs.States.{CpuState}
 use Rattle.nt_cpus.specs.Following.{AreAfter}
 use Rattle.nt_cpus.specs.States.{CpusState}
 use Rattle.nt_cpus.specs.Steps.{found_values, step_turn}
-use Rattle.nt_cpus.proofs.Choosing.{robin_found, values_found}
+use Rattle.nt_cpus.proofs.Choosing.{robin_found, seen_within, values_found}
 use Rattle.nt_cpus.proofs.Holding.{cpu_held, cpus_held}
 use Rattle.nt_cpus.proofs.processors.Processors.step_of.Goals as goal
 
@@ -29,6 +29,14 @@ uncut_step-requires-clause-uncut g c =
     let u = subst (λ (x : CpusState). is_cut x.limit (own_of x.script c.args.p c.requires.sound.0) ≡ false) (sym c.self.view_is)
     (sym (c.is_cut.ensures c.requires.sound.0 c.requires.sound.1.every) ∙ c.if-is_cut.false) in
     ap (λ (x : CpuState). is_cut x.limit x.own) (c.index.ensures ∙ cpu_held _ _ _ _ c.args.p _ i.every b) ∙ u
+
+pub uncut_step-requires-clause-seen : goal.uncut_step-requires-clause-seen
+uncut_step-requires-clause-seen g c =
+    let v = g.F.Words.view c.args.floor.now in
+    let i = subst (λ (x : CpusState). AreAfter c.requires.sound.0 x (g.F.Floor.script c.args.floor.now) v) (sym c.self.view_is) c.requires.sound.1 in
+    let b : c.args.p.0 < c.self.inside.script.now.cpus = subst (λ (x : CpusState). c.args.p.0 < x.script.cpus) (sym c.self.view_is) c.requires.below in
+    let held = c.index.ensures ∙ cpu_held _ _ _ _ c.args.p _ i.every b in
+    seen_within _ _ c.args.p c.requires.sound.0 c.index.result.now v b i.run i.follows held
 
 pub returns : goal.returns
 returns g c past h =
