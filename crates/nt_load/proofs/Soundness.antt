@@ -6,38 +6,42 @@ use Rattle.nt_event.specs.declared.scripts.ApcDecl.{ApcDecl}
 use Rattle.nt_event.specs.declared.scripts.DpcDecl.{DpcDecl}
 use Rattle.nt_event.specs.declared.scripts.Isr.{Isr}
 use Rattle.nt_event.specs.declared.scripts.Routine.{Routine}
+use Rattle.nt_event.specs.declared.scripts.Script.{Script}
 use Rattle.nt_event.specs.declared.scripts.ThreadDecl.{ThreadDecl}
 use Rattle.nt_event.specs.declared.scripts.TimerDecl.{TimerDecl}
 use Rattle.nt_line.specs.NameLists.{NameLists}
 use Rattle.nt_load.proofs.Differing.{load_names_differ}
 use Rattle.nt_load.proofs.Fitting.{both_lengths, has_load, load_fits, load_ranges}
-use Rattle.nt_load.specs.Load.{all_apcs, busy_routine, busy_thread, idle_dpc, idle_isr, idle_routine, load_input, load_names, object_names, spelled, spelled_names, thing_names, timer_of_dpc}
+use Rattle.nt_load.specs.Load.{all_apcs, busy_routine, busy_thread, idle_dpc, idle_isr, idle_routine, load_input, load_names, load_script, object_names, spelled, spelled_names, thing_names, timer_of_dpc}
 use Rattle.nt_script.specs.Sound.{IsSound}
 use Rattle.nt_script.specs.declared.walk.Input.{Input}
 
--- an input of four processors with these parts
-abbrev pub with_parts : List Isr → List DpcDecl → List TimerDecl → List ThreadDecl → List ApcDecl → List Routine → NameLists → Input
-with_parts isrs dpcs timers threads apcs routines names = record {
-  script = record {
-    cpus = 4;
-    depth = None;
-    threaded = None;
-    isrs = isrs;
-    dpcs = dpcs;
-    timers = timers;
-    threads = threads;
-    apcs = apcs;
-    routines = routines;
-  };
-  names = names;
+-- a script of four processors with these parts
+abbrev pub with_parts : List Isr → List DpcDecl → List TimerDecl → List ThreadDecl → List ApcDecl → List Routine → Script
+with_parts isrs dpcs timers threads apcs routines = record {
+  cpus = 4;
+  depth = None;
+  threaded = None;
+  isrs = isrs;
+  dpcs = dpcs;
+  timers = timers;
+  threads = threads;
+  apcs = apcs;
+  routines = routines;
 }
 
-pub made_load : (seed number : ℕ) (isrs : List Isr) (dpcs : List DpcDecl) (timers : List TimerDecl) (threads : List ThreadDecl) (apcs : List ApcDecl)
-    (routines : List Routine) (names : NameLists) → number ≡ seed → isrs ≡ table 4 idle_isr → dpcs ≡ table 32 idle_dpc → timers ≡ table 8 timer_of_dpc →
-    threads ≡ table 32 busy_thread → apcs ≡ all_apcs → routines ≡ idle_routine ∷ table 32 (busy_routine number) → names ≡ load_names →
-    with_parts isrs dpcs timers threads apcs routines names ≡ load_input seed
+pub made_script : (seed : ℕ) (isrs : List Isr) (dpcs : List DpcDecl) (timers : List TimerDecl) (threads : List ThreadDecl) (apcs : List ApcDecl)
+    (routines : List Routine) → isrs ≡ table 4 idle_isr → dpcs ≡ table 32 idle_dpc → timers ≡ table 8 timer_of_dpc → threads ≡ table 32 busy_thread →
+    apcs ≡ all_apcs → routines ≡ idle_routine ∷ table 32 (busy_routine seed) → with_parts isrs dpcs timers threads apcs routines ≡ load_script seed
+made_script seed isrs dpcs timers threads apcs routines i d t h a r = rw (i, d, t, h, a, r) refl
+
+-- an input of a script and names
+abbrev pub input_of : Script → NameLists → Input
+input_of script names = record { script = script; names = names }
+
+pub made_load : (seed : ℕ) (script : Script) (names : NameLists) → script ≡ load_script seed → names ≡ load_names → input_of script names ≡ load_input seed
 unfolding load_input
-made_load seed number isrs dpcs timers threads apcs routines names n i d t h a r m = rw (i, d, t, h, a, r, m, n) refl
+made_load seed script names s n = rw (s, n) refl
 
 pub load_is_sound : (seed : ℕ) → IsSound (load_input seed)
 unfolding load_input load_names object_names thing_names

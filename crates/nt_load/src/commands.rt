@@ -28,7 +28,7 @@ pub enum Row {
 }
 
 /// The rows that a value below sixteen chooses; `queue` stands twice.
-const ROWS: [Row; 16] = [
+static ROWS: [Row; 16] = [
     Row::Raise,
     Row::Lower,
     Row::Queue,
@@ -48,7 +48,7 @@ const ROWS: [Row; 16] = [
 ];
 
 /// The importances that a value below four chooses.
-const IMPORTANCES: [Importance; 4] = [
+static IMPORTANCES: [Importance; 4] = [
     Importance::Low,
     Importance::Medium,
     Importance::MediumHigh,

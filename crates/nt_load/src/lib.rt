@@ -16,4 +16,4 @@ mod load;
 mod names;
 mod routines;
 
-pub use load::load_script;
+pub use load::{draw_script, load_script};

@@ -1,13 +1,24 @@
-use Rattle.std.proofs.Common.{refl, sym, ◌∙◌}
+use Rattle.std.proofs.Common.{arith, refl, sym, ◌∙◌}
 use Rattle.nt_load.proofs.Numbers.{begin_next, begin_none}
 use Rattle.nt_event.proofs.Tables.{table_grown, table_none}
 use Rattle.nt_load.proofs.routines.draw_routine.Goals as goal
 
 pub loop-i-init : goal.loop-i-init
-loop-i-init c = (c.new-drawn.ensures ∙ sym (table_none _), begin_none _)
+loop-i-init c = record {
+  drawn = c.in_ok-drawn.ensures.items ∙ sym (table_none _);
+  moved = begin_none _;
+  len = c.in_ok-drawn.ensures.len;
+  room = c.in_ok-drawn.ensures.capacity;
+}
+
+pub push_reserved-requires : goal.push_reserved-requires
+push_reserved-requires c = omega (arith, c.loop-i.invariant.len, c.loop-i.invariant.room, c.loop-i-test.true)
 
 pub loop-i-preserved : goal.loop-i-preserved
-loop-i-preserved c = (
-  table_grown _ _ _ _ _ c.in_ok-push.ensures.ok c.loop-i.invariant.0 (rw (c.draw_command.ensures.value, c.loop-i.invariant.1) refl),
-  begin_next _ _ _ _ c.loop-i.invariant.1 c.draw_command.ensures.moved,
-)
+loop-i-preserved c = record {
+  drawn = table_grown _ _ _ _ _ c.push_reserved.ensures.items c.loop-i.invariant.drawn
+      (rw (c.draw_command.ensures.value, c.loop-i.invariant.moved) refl);
+  moved = begin_next _ _ _ _ c.loop-i.invariant.moved c.draw_command.ensures.moved;
+  len = omega (arith, c.push_reserved.ensures.len, c.loop-i.invariant.len);
+  room = omega (arith, c.push_reserved.ensures.capacity, c.loop-i.invariant.room);
+}

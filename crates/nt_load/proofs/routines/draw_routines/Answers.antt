@@ -1,4 +1,4 @@
-use Rattle.std.proofs.Common.{List, [], ap, ◌∷◌}
+use Rattle.std.proofs.Common.{List, [], ap, ◌∙◌, ◌∷◌}
 use Rattle.nt_event.specs.declared.commands.Command.{Command}
 use Rattle.nt_load.proofs.Numbers.{begin_none, begin_routine, busy_routine_is}
 use Rattle.nt_load.proofs.Tables.{behind_grown, one_and_none}
@@ -9,7 +9,7 @@ pub loop-r-init : goal.loop-r-init
 loop-r-init c = (
   one_and_none _ _ _ _ _ c.in_ok-push.ensures.ok c.new-routines.ensures
       (ap (λ (cs : List Command). record { commands = cs }) c.new.ensures),
-  begin_none _,
+  c.new-draws.ensures ∙ begin_none _,
 )
 
 pub loop-r-preserved : goal.loop-r-preserved

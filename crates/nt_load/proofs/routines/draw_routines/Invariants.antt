@@ -6,4 +6,4 @@ use Rattle.nt_load.proofs.routines.draw_routines.Given as goal
 
 abbrev pub invariant-loop-r : goal.invariant-loop-r
 invariant-loop-r l =
-    (l.routines ≡ idle_routine ∷ table l.r (busy_routine l.fn.draws.number)) × l.draws.number ≡ begin (128 * l.r) l.fn.draws.number
+    (l.routines ≡ idle_routine ∷ table l.r (busy_routine l.seed)) × l.draws.number ≡ begin (128 * l.r) l.seed
