@@ -46,3 +46,11 @@ count_step events k e table lt is tells p lp = go (nat_lt e.cpu.0 (length table)
 pub counts_next : (events : List Event) (k : ℕ) (e : Event) (table new : List ℕ) → k < length events → e ≡ get_or events k e →
     TellsMade (take k events) table → new ≡ counted table e.cpu.0 → TellsMade (take (k + 1) events) new
 counts_next events k e table new lt is tells n = subst (TellsMade (take (k + 1) events)) (sym n) (count_step events k e table lt is tells)
+
+-- counting adds no place
+pub length-counted : (table : List ℕ) (place : ℕ) → length (counted table place) ≡ length table
+length-counted table place = go (nat_lt place (length table))
+  where
+    go : (b : Bool) → length (if b then set table place (get_or table place 0 + 1) else table) ≡ length table
+    go true = length-set table place (get_or table place 0 + 1)
+    go false = refl

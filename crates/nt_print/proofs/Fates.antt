@@ -16,7 +16,7 @@ or_false true = refl
 or_false false = refl
 
 -- an event uses up an insert by its number, or by its thing
-uses_split : (thing : Thing) (n : ℕ) (w : What) → uses_up thing n w ≡ (names_it (named_by w) thing n || removes_it (removed_by w) thing)
+pub uses_split : (thing : Thing) (n : ℕ) (w : What) → uses_up thing n w ≡ (names_it (named_by w) thing n || removes_it (removed_by w) thing)
 uses_split (DpcThing d) n (Begin (Dpc x) from) = sym (or_false ((x.0 == d.0) && (from == n)))
 uses_split (DpcThing d) n (Begin (Threaded x) from) = sym (or_false ((x.0 == d.0) && (from == n)))
 uses_split (DpcThing d) n (Call f (Unqueue x) Yes) = refl
@@ -34,7 +34,8 @@ comes (Flush a from) m = refl
 comes w m = refl
 
 -- of two fates neither has come
-both_wait : (f : Fate) (used : Bool) (w : What) (m : ℕ) → still_waits (first_fate f (if used then fate_by w m else StillWaits)) ≡ (still_waits f && not used)
+pub both_wait : (f : Fate) (used : Bool) (w : What) (m : ℕ) → still_waits (first_fate f (if used then fate_by w m else StillWaits))
+    ≡ (still_waits f && not used)
 both_wait StillWaits true w m = comes w m
 both_wait StillWaits false w m = refl
 both_wait (BegunBy k) used w m = refl

@@ -19,6 +19,7 @@ use Rattle.nt_history.specs.declared.brief.Did.TheVariants as did
 use Rattle.nt_history.specs.Briefs.{event_in, event_of, events_in, no_rises, values_of, what_of}
 use Rattle.nt_history.proofs.Lists.{as_many}
 use Rattle.nt_print.specs.declared.inserts.Object.{Object}
+use Rattle.nt_print.specs.Tally.{named_after}
 use Rattle.nt_print.specs.Uses.{inserted_at, is_it, thing_fits, thing_of, with_named}
 use Rattle.nt_print.proofs.Tables.{inserted_read}
 
@@ -44,6 +45,16 @@ named_by_it bs rises k i b o table so lt le at h =
     h ∙ ap (is_it i.thing) (inserts_at bs rises i.number b (omega (arith, lt, le)))
     ∙ ap (λ (x : Bool). x && is_it i.thing (inserted_at (events_in bs rises) i.number)) (sym (lt-ltb i.number k lt)) in
     ap (λ (x : Bool). if x then slice_set table i.number false else table) both ∙ ap (λ (x : Option Inserted). with_named (events_in bs rises) k x table) at
+
+-- the flags when an event named an insert, where it is told whether the event of that number inserts the thing
+pub flagged_by_it : (bs : List Brief) (rises : List Rises) (k : ℕ) (i : Inserted) (b : Brief) (flags : List Bool) (so : Bool) →
+    i.number < k → k ≤ length bs → so ≡ is_it i.thing (inserted_thing (event_in rises (get_or bs i.number b)).what) →
+    (if so then slice_set flags i.number true else flags) ≡ named_after (events_in bs rises) k (Some i) flags
+flagged_by_it bs rises k i b flags so lt le h =
+    let both : so ≡ (nat_lt i.number k && is_it i.thing (inserted_at (events_in bs rises) i.number)) =
+    h ∙ ap (is_it i.thing) (inserts_at bs rises i.number b (omega (arith, lt, le)))
+    ∙ ap (λ (x : Bool). x && is_it i.thing (inserted_at (events_in bs rises) i.number)) (sym (lt-ltb i.number k lt)) in
+    ap (λ (x : Bool). if x then slice_set flags i.number true else flags) both
 
 -- ---- what an event names, which is the same for all values of looks
 
@@ -83,3 +94,10 @@ object_fits s bs rises k b (Some x) lt h e =
     let at : Brief = get_or bs k b in
     subst (λ (o : Option Thing). IfSome o (λ thing. thing_fits s thing ≡ true)) (sym e)
     (thing_fit s (what_of no_rises at.did) (what_fit s (event_of no_rises at) (each_fits s bs rises k b lt h)))
+
+-- what the event of a brief inserts is of the script
+pub inserted_fits : (s : Script) (bs : List Brief) (rises : List Rises) (k : ℕ) (b : Brief) → k < length bs → events_fit s (events_in bs rises) ≡ true →
+    IfSome (inserted_thing (event_in rises (get_or bs k b)).what) (λ thing. thing_fits s thing ≡ true)
+inserted_fits s bs rises k b lt h =
+    let at : Brief = get_or bs k b in
+    thing_fit s (event_in rises at).what (what_fit s (event_in rises at) (sym (fits_same s rises at) ∙ each_fits s bs rises k b lt h))

@@ -4,6 +4,7 @@ mod Counted
 mod Fates
 mod Tables
 mod WaitRows
+mod Tallied
 mod Turns
 pub mod OneEvent
 pub mod OneReport

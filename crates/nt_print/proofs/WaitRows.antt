@@ -1,7 +1,7 @@
 -- The lines of the inserts that wait, event by event.
 use Rattle.std.proofs.Common.{◌≡◌, ◌∙◌, ℕ, zero, suc, ◌+◌, ◌<◌, Bool, true, false, List, [], ◌∷◌, ◌++◌, length, map, get_or, take, reverse, Option, Some, None, refl, sym, ap, arith}
 use Rattle.std.specs.Prelude.{filter, if◌then◌else◌}
-use Rattle.std.proofs.lemmas.List.{length-append, length-map, map-append}
+use Rattle.std.proofs.lemmas.List.{map-append}
 use Rattle.std.proofs.lemmas.List.Elements.{filter-append}
 use Rattle.nt_text.specs.Lines.{rows_text}
 use Rattle.nt_event.specs.declared.events.Event.{Event}
@@ -10,11 +10,9 @@ use Rattle.nt_line.specs.NameLists.{NameLists}
 use Rattle.nt_text.specs.Lines.{Row}
 use Rattle.nt_text.proofs.RowTexts.{parts_put}
 use Rattle.nt_print.specs.Report.{wait_row}
+use Rattle.nt_print.specs.Tally.{waits_in}
 use Rattle.nt_print.specs.Uses.{inserted_at, waits_at}
 use Rattle.nt_print.proofs.Tables.{inserted_read, past_length, past_more}
-
-abbrev pub waits_in : List Event → Inserted → Bool
-waits_in all x = still_waits (fate_of x.thing x.number all)
 
 -- the lines of the inserts of the events up to some, that wait behind all of them
 abbrev pub waits_so_far : NameLists → List Event → List Event → List Row
@@ -28,22 +26,28 @@ kept all n (Some thing) = go (still_waits (fate_of thing n all))
     go true = refl
     go false = refl
 
-pub waits_more : (names : NameLists) (events all : List Event) (k : ℕ) (e : Event) → k < length events → e ≡ get_or events k e
-    → waits_so_far names all (reverse (take k events)) ++ map (wait_row names) (inserted_by k (waits_at all k (inserted_at events k)))
-    ≡ waits_so_far names all (reverse (take (k + 1) events))
-waits_more names events all k e lt is =
+-- the inserts that wait, up to one event more
+pub waiting_more : (events all : List Event) (k : ℕ) (e : Event) → k < length events → e ≡ get_or events k e →
+    filter (waits_in all) (inserts (reverse (take k events))) ++ inserted_by k (waits_at all k (inserted_at events k))
+    ≡ filter (waits_in all) (inserts (reverse (take (k + 1) events)))
+waiting_more events all k e lt is =
     let past : List Event = reverse (take k events) in
     let here : List Inserted = inserted_by k (inserted_thing e.what) in
     let number : inserts (e ∷ past) ≡ inserts past ++ here = ap (λ (m : ℕ). inserts past ++ inserted_by m (inserted_thing e.what))
     (past_length events k (omega (arith, lt))) in
-    let split : waits_so_far names all (e ∷ past) ≡ waits_so_far names all past ++ map (wait_row names) (filter (waits_in all) here) =
-    ap (λ (xs : List Inserted). map (wait_row names) (filter (waits_in all) xs)) number
-    ∙ ap (map (wait_row names)) (filter-append (waits_in all) (inserts past) here)
-    ∙ map-append (wait_row names) (filter (waits_in all) (inserts past)) (filter (waits_in all) here) in
+    let split : filter (waits_in all) (inserts (e ∷ past)) ≡ filter (waits_in all) (inserts past) ++ filter (waits_in all) here =
+    ap (filter (waits_in all)) number ∙ filter-append (waits_in all) (inserts past) here in
     let same : filter (waits_in all) here ≡ inserted_by k (waits_at all k (inserted_at events k)) =
     kept all k (inserted_thing e.what) ∙ ap (λ (o : Option Thing). inserted_by k (waits_at all k o)) (inserted_read events k e lt is) in
-    ap (λ (xs : List Inserted). waits_so_far names all past ++ map (wait_row names) xs) (sym same) ∙ sym split
-    ∙ ap (waits_so_far names all) (sym (past_more events k e lt is))
+    ap (λ (xs : List Inserted). filter (waits_in all) (inserts past) ++ xs) (sym same) ∙ sym split
+    ∙ ap (λ (xs : List Event). filter (waits_in all) (inserts xs)) (sym (past_more events k e lt is))
+
+pub waits_more : (names : NameLists) (events all : List Event) (k : ℕ) (e : Event) → k < length events → e ≡ get_or events k e
+    → waits_so_far names all (reverse (take k events)) ++ map (wait_row names) (inserted_by k (waits_at all k (inserted_at events k)))
+    ≡ waits_so_far names all (reverse (take (k + 1) events))
+waits_more names events all k e lt is =
+    sym (map-append (wait_row names) (filter (waits_in all) (inserts (reverse (take k events)))) (inserted_by k (waits_at all k (inserted_at events k))))
+    ∙ ap (map (wait_row names)) (waiting_more events all k e lt is)
 
 element_at : {X : Type 0} (xs : List X) (k : ℕ) → k < length xs → (x : X) × (x ≡ get_or xs k x)
 element_at [] k lt = absurd (omega (arith, lt))
@@ -59,18 +63,3 @@ waits_put names events k old now next lt before line =
     parts_put old now next (waits_so_far names (reverse events) (reverse (take k events)))
     (map (wait_row names) (inserted_by k (waits_at (reverse events) k (inserted_at events k)))) before line
     ∙ ap (λ (rows : List Row). old ++ rows_text rows) (waits_more names events (reverse events) k e.0 lt e.1)
-
--- one more event is counted
-pub waits_counted : (names : NameLists) (events : List Event) (k n m : ℕ) → k < length events → n
-    ≡ length (waits_so_far names (reverse events) (reverse (take k events))) → m
-    ≡ length (inserted_by k (waits_at (reverse events) k (inserted_at events k))) → n + m
-    ≡ length (waits_so_far names (reverse events) (reverse (take (k + 1) events)))
-waits_counted names events k n m lt before line =
-    let e = element_at events k lt in
-    let here : List Inserted = inserted_by k (waits_at (reverse events) k (inserted_at events k)) in
-    let so_far : List Row = waits_so_far names (reverse events) (reverse (take k events)) in
-    let whole : length (so_far ++ map (wait_row names) here) ≡ length (waits_so_far names (reverse events) (reverse (take (k + 1) events))) =
-    ap (λ (rows : List Row). length rows) (waits_more names events (reverse events) k e.0 lt e.1) in
-    let parts : length (so_far ++ map (wait_row names) here) ≡ length so_far + length (map (wait_row names) here) =
-    length-append so_far (map (wait_row names) here) in
-    omega (arith, whole, parts, length-map here (wait_row names), before, line)

@@ -5,3 +5,4 @@ pub mod Counts
 pub mod Uses
 pub mod Notes
 pub mod Summary
+pub mod Tally

@@ -1,25 +1,22 @@
--- The tables in which the printer notes what a report needs of the events: which inserts are open, where each object
--- was removed last, and how many events each processor made.
+-- The tables in which the printer notes what a report needs of the events: which inserts are open, and where each
+-- object was removed last.
 use Rattle.std.specs.Prelude.{◌≡◌, ℕ, ◌<◌, List, length, get_or, reverse}
 use Rattle.nt_event.specs.declared.events.Event.{Event}
 use Rattle.nt_event.specs.declared.scripts.Script.{Script}
 use Rattle.nt_event.specs.Fate.{ApcThing, DpcThing, Thing}
 use Rattle.nt_print.specs.declared.notes.Notes.{Notes}
-use Rattle.nt_print.specs.Counts.{TellsMade}
 use Rattle.nt_print.specs.Uses.{TellsOpen, TellsRemovals}
 
--- the tables have a place for each event, and for each object and processor of the script
+-- the tables have a place for each event, and for each object of the script
 pub record HasPlaces (s : Script) (events : List Event) (notes : Notes) : Type 0 where
   pub open_inserts : length notes.open_inserts.items ≡ length events
   pub dpcs : length notes.dpcs.items ≡ length s.dpcs
   pub apcs : length notes.apcs.items ≡ length s.apcs
-  pub made : length notes.made.items ≡ s.cpus
 
 -- the tables tell what these events did, which are the first of all
 pub record Tells (events seen : List Event) (notes : Notes) : Type 0 where
   pub open_inserts : TellsOpen events (reverse seen) notes.open_inserts.items
   pub removals : TellsRemovals (reverse seen) notes.dpcs.items notes.apcs.items
-  pub made : TellsMade seen notes.made.items
 
 -- the tables of all events of a script
 pub record AreNotes (s : Script) (events : List Event) (notes : Notes) : Type 0 where

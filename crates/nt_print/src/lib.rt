@@ -5,18 +5,22 @@
 //! schedule of the history (`nt_log`). The definition of the text is in `specs::Report`; what waits is the definition of the
 //! fate of inserts (`nt_event::specs::Fate`). The whole grammar is this project's own (profile).
 //!
-//! Printing is linear in the history: one walk notes what a report needs of its events, which is how many each processor made
-//! and which inserts are used up, and the lines look into those tables.
+//! Printing is linear in the history: one walk notes which inserts are used up, one counts how many events each processor made,
+//! and the lines look into those tables. [`summary`] needs no line: it walks back from the last event, so that it knows of each
+//! insert that it comes to whether a later event used it up.
 #![tactic(auto)]
 
 mod cuts;
 mod events;
 mod fields;
+mod flags;
 mod inserts;
 mod laws;
+mod made;
 mod notes;
 mod printing;
 mod summaries;
+mod tally;
 mod waits;
 
 pub use laws::reports_are_histories;

@@ -1,10 +1,9 @@
 //! What a report needs of the events of a history, noted in one pass over them.
-ghost use Rattle.std.specs.Prelude.{◌≡◌, ◌+◌, ◌<◌, ◌≤◌, ◌^◌, [], get_or, length, take, reverse, IfOk, IfSome, true, false, option_map};
+ghost use Rattle.std.specs.Prelude.{◌≡◌, ◌+◌, ◌<◌, ◌≤◌, [], get_or, length, take, reverse, IfOk, IfSome, true, false, option_map};
 ghost use Rattle.nt_event.specs.Fitting.{events_fit};
 ghost use Rattle.nt_event.specs.declared.events.Rises.{Rises};
 ghost use Rattle.nt_history.specs.Briefs.{what_of};
 ghost use Rattle.nt_print.specs.Lent.{lent};
-ghost use Rattle.nt_print.specs.Counts.{counted};
 ghost use Rattle.nt_print.specs.Uses.{thing_of, thing_fits, inserted_at, named_by, removed_by, with_named, with_event, put_at, dpcs_after, apcs_after, waits_at};
 ghost use Rattle.nt_print.specs.Notes.{AreNotes, HasPlace, HasPlaces, Tells, removal_at};
 
@@ -22,18 +21,6 @@ pub(crate) struct Notes {
     pub dpcs: Vec<usize>,
     /// By APC object likewise.
     pub apcs: Vec<usize>,
-    /// By processor, how many events it made.
-    pub made: Vec<usize>,
-}
-
-/// Counts one more event of a processor, where the table has its place.
-fn count(counts: &mut [usize], place: usize)
-    requires { place < length counts.old → get_or counts.old place 0 + 1 < 2 ^ 64 }
-    ensures { counts.new ≡ counted counts.old place }
-{
-    if place < counts.len() {
-        counts[place] += 1;
-    }
 }
 
 /// Closes the insert that the event of this number names.
@@ -102,7 +89,6 @@ impl Notes {
             number,
             &event.did,
         );
-        count(self.made.as_mut_slice(), event.cpu.0 as usize);
     }
 }
 
@@ -115,7 +101,6 @@ fn blank(alloc: Global, script: &Script, events: &Briefs) -> Result<Notes, Alloc
         open_inserts: vec![in alloc; false; events.briefs.len()]?,
         dpcs: vec![in alloc; 0; script.dpcs.len()]?,
         apcs: vec![in alloc; 0; script.apcs.len()]?,
-        made: vec![in alloc; 0; script.cpus as usize]?,
     })
 }
 

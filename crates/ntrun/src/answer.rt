@@ -1,8 +1,10 @@
 //! What a call finds out, with the text that is written for it.
-ghost use Rattle.std.specs.Prelude.{◌≡◌, ◌≤◌, false, true, length, IfErr, IfOk, string_bytes};
+ghost use Rattle.std.specs.Prelude.{◌≡◌, ◌≤◌, false, true, length, IfErr, IfOk, IsTrue, string_bytes};
 ghost use Rattle.nt_core.specs.Refusals.{IsReplayRefused};
 ghost use Rattle.nt_event.specs.declared.events.History.{History as RunHistory};
 ghost use Rattle.nt_event.specs.Fitting.{events_fit};
+ghost use Rattle.nt_event.specs.Script.{fits};
+ghost use Rattle.nt_line.specs.NameLists.{NameLists};
 ghost use Rattle.nt_print.specs.Summary.{summary_text};
 ghost use Rattle.nt_script.specs.Sound.{IsSound};
 ghost use Rattle.nt_words.specs.Forms.{IsTurns, IsWithin};
@@ -14,9 +16,9 @@ use crate::status::Status;
 use crate::task::{Task, task_of};
 use nt_check::{Verdict, check};
 use nt_core::{ScheduleRefusal, replay, run};
-use nt_event::ScheduleKind;
+use nt_event::{ScheduleKind, Script};
 use nt_history::History;
-use nt_load::load_script;
+use nt_load::draw_script;
 use nt_log::Schedule;
 use nt_print::{report, summary};
 use nt_script::{Input, ScriptKind, ScriptRefusal};
@@ -247,14 +249,15 @@ pub(crate) fn done(alloc: Global, task: &Task) -> Answer
     }
 }
 
-/// The summary of the robin run of the input's script.
-fn run_summary(alloc: Global, input: &Input, turns: u32) -> Result<Vec<u8>, AllocError>
-    requires sound { IsSound input.now }
+/// The summary of the robin run of a script, whatever the names of its things are.
+fn run_summary(alloc: Global, script: &Script, turns: u32) -> Result<Vec<u8>, AllocError>
+    requires fits { IsTrue (fits script.now) }
+    requires cpus { script.now.cpus ≤ 8 }
     requires limit { IsTurns turns }
-    ensures { IfOk result (λ text. (h : RunHistory) × IsRobinRun input.now.script turns h × (text.items ≡ summary_text input.now h)) }
+    ensures { IfOk result (λ text. (h : RunHistory) × IsRobinRun script.now turns h × ((names : NameLists) → text.items ≡ summary_text (record { script = script.now; names = names }) h)) }
 {
-    let history = run(alloc, &input.script, turns)?;
-    let text = summary(alloc, input, &history)?;
+    let history = run(alloc, script, turns)?;
+    let text = summary(alloc, script, &history)?;
     Ok(text)
 }
 
@@ -263,8 +266,8 @@ fn load_summary(alloc: Global, seed: u32, turns: u32) -> Result<Vec<u8>, AllocEr
     requires { IsTurns turns }
     ensures { IfOk result (λ text. IsSummary seed turns text.items) }
 {
-    let input = load_script(alloc, seed)?;
-    let text = run_summary(alloc, &input, turns)?;
+    let script = draw_script(alloc, seed)?;
+    let text = run_summary(alloc, &script, turns)?;
     Ok(text)
 }
 

@@ -78,7 +78,7 @@ fn summary_of(alloc: Global, input: &Input, text: &[u8]) -> Result<Option<Vec<u8
     requires bytes { length text.now ≤ INPUT_LIMIT }
 {
     match read_report(alloc, input, text, 1) {
-        Ok(history) => Ok(Some(summary(alloc, input, &history)?)),
+        Ok(history) => Ok(Some(summary(alloc, &input.script, &history)?)),
         Err(_) => Ok(None),
     }
 }

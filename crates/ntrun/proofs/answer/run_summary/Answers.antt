@@ -3,7 +3,7 @@ use Rattle.ntrun.proofs.answer.run_summary.Goals as goal
 
 pub summary-requires-clause-fit : goal.summary-requires-clause-fit
 summary-requires-clause-fit c =
-    run_fits c.args.input.now.script _ c.in_ok-history.history.events c.requires.sound.fits c.in_ok-history.ensures.run
+    run_fits c.args.script.now _ c.in_ok-history.history.events c.requires.fits c.in_ok-history.ensures.run
 
 pub returns : goal.returns
 returns c = (

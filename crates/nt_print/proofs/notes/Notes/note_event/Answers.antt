@@ -1,11 +1,9 @@
-use Rattle.std.proofs.Common.{◌∙◌, List, ap, arith, get_or, ℕ}
+use Rattle.std.proofs.Common.{◌∙◌, List, ap, arith, get_or}
 use Rattle.std.proofs.lemmas.List.{with_items_is}
 use Rattle.nt_event.specs.declared.events.Event.{Event}
 use Rattle.nt_history.specs.Briefs.{event_in, events_in, values_of}
 use Rattle.nt_history.proofs.Lists.{as_many}
-use Rattle.nt_print.specs.Counts.{counted}
 use Rattle.nt_print.specs.Uses.{apcs_after, dpcs_after, removed_by, with_event}
-use Rattle.nt_print.proofs.Counted.{counts_next}
 use Rattle.nt_print.proofs.Lent.{below, event_at}
 use Rattle.nt_print.proofs.Tables.{open_next, removals_next}
 use Rattle.nt_print.proofs.notes.Notes.note_event.Goals as goal
@@ -32,7 +30,4 @@ returns-clause-tells c =
           ∙ ap (dpcs_after k (removed_by e.what)) c.as_mut_slice-2.ensures.value)
           (with_items_is old.apcs c.note_removal.new.apcs (omega arith) ∙ c.note_removal.ensures.apcs r
           ∙ ap (apcs_after k (removed_by e.what)) c.as_mut_slice-3.ensures.value);
-      made = counts_next events k e old.made.items _ lt is c.requires.tells.made
-          (with_items_is old.made c.count.new.counts (omega arith) ∙ c.count.ensures
-          ∙ ap (λ (table : List ℕ). counted table e.cpu.0) c.as_mut_slice-4.ensures.value);
     }

@@ -1,0 +1,5 @@
+use Rattle.nt_print.specs.Lent.{lent}
+use Rattle.nt_print.proofs.tally.Tally.note_did.Goals as goal
+
+pub returns-in-Call : goal.returns-in-Call
+returns-in-Call c = λ r. rw c.in-Call.is (c.note_call.ensures (lent c.args.events.now) c.in-Call.frame)
