@@ -2,12 +2,14 @@
 ghost use Rattle.std.specs.Prelude.{◌≡◌, ◌≤◌, ◌+◌, IfErr, IfOk, IsTrue, None, OnOk, length};
 ghost use Rattle.nt_event.specs.Script.{fits};
 ghost use Rattle.nt_floor.specs.Acts.{Found, IsActed, IsMet, IsRefused, StandFits, job_fits};
+ghost use Rattle.nt_frame.specs.Changes.{begun, no_frames};
 
 use nt_event::{
-    Command, CpuNo, DpcDecl, DpcNo, Event, Items, Job, Level, Regions, Rises, Routine, RoutineNo,
-    Script, Stand, ThreadDecl, ThreadNo, What,
+    Body, Command, CpuNo, DpcDecl, DpcNo, Event, Items, Job, Level, Rises, Routine, RoutineNo,
+    Script, ThreadDecl, ThreadNo, What,
 };
 use nt_floor::{ActRefusal, Acted, Floor, Words};
+use nt_frame::{Frames, StandView};
 use nt_plain::PlainFloor;
 use std::alloc::{AllocError, Global};
 use std::io;
@@ -77,43 +79,27 @@ fn declare(dpcs: &mut Items<DpcDecl>, threads: &mut Items<ThreadDecl>) -> Result
     })
 }
 
-/// A processor without a thread at DISPATCH_LEVEL, in a routine that event 7 began.
-fn stand(cpu: CpuNo) -> Stand
-    ensures cpu { result.cpu ≡ cpu }
-    ensures thread { result.thread ≡ None }
-    ensures again { result.again ≡ None }
+/// The frames of a processor without a thread at DISPATCH_LEVEL, in a DPC that event 7 began.
+fn frames(alloc: Global, cpu: CpuNo) -> Result<Frames, AllocError>
+    ensures { IfOk result (λ x. x ≡ begun 7 (Body.Dpc (record { 0 = 0 })) (no_frames 1)) }
 {
-    let regions = Regions {
-        crit: 0,
-        guard: 0,
-        busy: false,
-    };
-    Stand {
-        cpu,
-        thread: None,
-        frame: 7,
-        body: None,
-        level: Level::DISPATCH,
-        regions,
-        below: regions,
-        after: Level::PASSIVE,
-        again: None,
-        sweep: false,
-    }
+    let mut frames = Frames::new(alloc, cpu, 1)?;
+    frames.begin(Body::Dpc(DpcNo(0)), 7);
+    Ok(frames)
 }
 
 /// Has a floor make the event of a job, and tells all that it made.
-fn act<F: Floor>(floor: &mut F, job: Job, stand: Stand) -> Result<Acted, ActRefusal>
+fn act<F: Floor>(floor: &mut F, job: Job, stand: &StandView) -> Result<Acted, ActRefusal>
     requires room { 1 ≤ (F.view floor.old).drawable }
     requires job { IsTrue (job_fits (F.script floor.old) job) }
-    requires stand { StandFits (F.script floor.old) stand }
-    requires met { IsMet (F.script floor.old) (F.view floor.old).states stand job }
-    ensures event { IfOk result (λ a. (f : Found) × F.found floor.new a.number a.event stand f × IsActed (F.script floor.old) f stand job a) }
-    ensures cause { IfErr result (λ r. (f : Found) × F.shows floor.new stand job f × IsRefused (F.script floor.old) f stand job r) }
+    requires stand { StandFits (F.script floor.old) stand.now }
+    requires met { IsMet (F.script floor.old) (F.view floor.old).states stand.now job }
+    ensures event { IfOk result (λ a. (f : Found) × F.found floor.new a.number a.event stand.now f × IsActed (F.script floor.old) f stand.now job a) }
+    ensures cause { IfErr result (λ r. (f : Found) × F.shows floor.new stand.now job f × IsRefused (F.script floor.old) f stand.now job r) }
 {
     let mut told = Rises { value: [0; 16] };
-    let mut event = a_rest(stand.cpu);
-    let made = floor.act(&job, &stand, &mut told, &mut event)?;
+    let mut event = a_rest(stand.cpu());
+    let made = floor.act(&job, stand, &mut told, &mut event)?;
     Ok(Acted {
         number: made.number,
         event,
@@ -140,7 +126,9 @@ fn an_insert_asks(rt: HostRuntime, script: &Script) -> io::Result<()>
 {
     let mut floor = PlainFloor::new(rt.alloc(), script, 4)?;
     let queue = Command::Queue(DpcNo(0));
-    let acted = act(&mut floor, Job::Call(queue), stand(CpuNo(0)));
+    let frames = frames(rt.alloc(), CpuNo(0))?;
+    let stand = StandView::new(CpuNo(0), &frames, false);
+    let acted = act(&mut floor, Job::Call(queue), &stand);
     write_act(rt, acted)?;
     write_asks(rt, &floor)
 }
@@ -233,7 +221,9 @@ fn a_wrong_choice(rt: HostRuntime, script: &Script) -> io::Result<()>
     write_next(rt, "1", floor.next_ready(CpuNo(1), None))?;
     write_next(rt, "0", floor.next_ready(CpuNo(0), None))?;
     let taken = Job::Switch(ThreadNo(0));
-    write_made(rt, act(&mut floor, taken, stand(CpuNo(0))))
+    let frames = frames(rt.alloc(), CpuNo(0))?;
+    let stand = StandView::new(CpuNo(0), &frames, false);
+    write_made(rt, act(&mut floor, taken, &stand))
 }
 
 fn nothing_to_do(rt: HostRuntime, script: &Script) -> io::Result<()>
@@ -243,5 +233,7 @@ fn nothing_to_do(rt: HostRuntime, script: &Script) -> io::Result<()>
     requires threads { length script.now.threads ≡ 1 }
 {
     let mut floor = PlainFloor::new(rt.alloc(), script, 4)?;
-    write_made(rt, act(&mut floor, Job::Idle, stand(CpuNo(1))))
+    let frames = frames(rt.alloc(), CpuNo(1))?;
+    let stand = StandView::new(CpuNo(1), &frames, false);
+    write_made(rt, act(&mut floor, Job::Idle, &stand))
 }

@@ -1,12 +1,13 @@
 //! The threads of a small script, by the events that its processors make.
-ghost use Rattle.std.specs.Prelude.{◌≡◌, IsTrue, None, false, length};
+ghost use Rattle.std.specs.Prelude.{◌≡◌, ◌<◌, IsTrue, None, length};
 ghost use Rattle.nt_event.specs.declared.events.What.TheVariants.{Call};
 ghost use Rattle.nt_event.specs.Script.{fits, has_apc, has_thread};
 
 use nt_event::{
     ApcDecl, ApcKind, ApcNo, Command, CpuNo, Event, Items, Level, Mode, Pick, Regions, Reply,
-    Routine, RoutineNo, Script, Stand, ThreadDecl, ThreadNo, What,
+    Routine, RoutineNo, Script, ThreadDecl, ThreadNo, What,
 };
+use nt_frame::{Frames, StandView};
 use nt_states::ThreadAnswers;
 use nt_thread_lanes::Threads;
 use std::alloc::{AllocError, Global};
@@ -44,6 +45,12 @@ const FREE: Regions = Regions {
     guard: 0,
     busy: false,
 };
+
+/// The threads of the script.
+const THREADS: u32 = 3;
+
+/// A processor that isn't the first thread's.
+const OTHER: CpuNo = CpuNo(1);
 
 const FIRST: ThreadNo = ThreadNo(0);
 
@@ -101,27 +108,6 @@ fn declare(threads: &mut Items<ThreadDecl>, apcs: &mut Items<ApcDecl>) -> Result
     apcs.push(normal_apc(ApcKind::User))
 }
 
-/// A processor at PASSIVE_LEVEL in no region, on which this thread runs, or none.
-fn stand(cpu: CpuNo, thread: Option<ThreadNo>) -> Stand
-    ensures cpu { result.cpu ≡ cpu }
-    ensures thread { result.thread ≡ thread }
-    ensures level { result.level ≡ 0 }
-    ensures regions { result.regions ≡ record { crit = 0; guard = 0; busy = false } }
-{
-    Stand {
-        cpu,
-        thread,
-        frame: 0,
-        body: None,
-        level: Level::PASSIVE,
-        regions: FREE,
-        below: FREE,
-        after: Level::PASSIVE,
-        again: None,
-        sweep: false,
-    }
-}
-
 /// A call, by a routine on the processor's own part or of this thread.
 fn call(cpu: CpuNo, thread: Option<ThreadNo>, command: Command, reply: Reply) -> Event
     ensures cpu { result.cpu ≡ cpu }
@@ -141,12 +127,18 @@ fn call(cpu: CpuNo, thread: Option<ThreadNo>, command: Command, reply: Reply) ->
 }
 
 /// The thread is taken up, where it is ready.
-fn take_up(threads: &mut Threads<'_>, script: &Script, t: ThreadNo)
+fn take_up(
+    alloc: Global,
+    threads: &mut Threads<'_>,
+    script: &Script,
+    t: ThreadNo,
+) -> Result<(), AllocError>
     requires fits { IsTrue (fits script.now) }
     requires script { threads.old.script ≡ script.now }
     requires thread { IsTrue (has_thread script.now t) }
     ensures { threads.new.script ≡ script.now }
 {
+    let frames = Frames::new(alloc, script.cpu_of(t), THREADS)?;
     let cpu = script.cpu_of(t);
     let status = threads.status(t);
     if threads.is_ready(t) {
@@ -156,33 +148,47 @@ fn take_up(threads: &mut Threads<'_>, script: &Script, t: ThreadNo)
             level: Level::PASSIVE,
             what: What::Switch { thread: t, status },
         };
-        threads.leave(1, &stand(cpu, None), &event);
+        threads.leave(1, &StandView::new(cpu, &frames, false), &event);
     }
+    Ok(())
 }
 
-/// The thread waits in kernel mode, where it runs.
-fn wait(threads: &mut Threads<'_>, script: &Script, t: ThreadNo)
+/// The thread waits in kernel mode, where it runs, at a level of at most APC_LEVEL.
+fn wait(
+    alloc: Global,
+    threads: &mut Threads<'_>,
+    script: &Script,
+    t: ThreadNo,
+) -> Result<(), AllocError>
     requires fits { IsTrue (fits script.now) }
     requires script { threads.old.script ≡ script.now }
     requires thread { IsTrue (has_thread script.now t) }
+    requires three { t.0 < 3 }
     ensures { threads.new.script ≡ script.now }
 {
     let cpu = script.cpu_of(t);
-    let reply = threads.wait_reply(t, FREE, Level::PASSIVE, Mode::Kernel, false, None);
-    if threads.is_running(t) {
+    let mut frames = Frames::new(alloc, cpu, THREADS)?;
+    frames.switch_to(t);
+    let stand = StandView::new(cpu, &frames, false);
+    let (regions, level) = (stand.regions(), stand.level());
+    let reply = threads.wait_reply(t, regions, level, Mode::Kernel, false, None);
+    if threads.is_running(t) && level.number() <= 1 {
         let command = Command::StartWait(Mode::Kernel, false);
         let event = call(cpu, Some(t), command, reply);
-        threads.leave(2, &stand(cpu, Some(t)), &event);
+        threads.leave(2, &stand, &event);
     }
+    Ok(())
 }
 
-fn release(threads: &mut Threads<'_>, t: ThreadNo)
+fn release(alloc: Global, threads: &mut Threads<'_>, t: ThreadNo) -> Result<(), AllocError>
     requires { IsTrue (has_thread threads.old.script t) }
     ensures { threads.new.script ≡ threads.old.script }
 {
     let reply = Reply::yes_if(threads.ends_by_release(t));
-    let event = call(CpuNo(1), None, Command::Release(t), reply);
-    threads.leave(3, &stand(CpuNo(1), None), &event);
+    let event = call(OTHER, None, Command::Release(t), reply);
+    let frames = Frames::new(alloc, OTHER, THREADS)?;
+    threads.leave(3, &StandView::new(OTHER, &frames, false), &event);
+    Ok(())
 }
 
 /// The same, of a record in which the processor of the release tells nothing.
@@ -191,26 +197,30 @@ fn tell_release(threads: &mut Threads<'_>, t: ThreadNo)
     ensures { threads.new.script ≡ threads.old.script }
 {
     let reply = Reply::yes_if(threads.ends_by_release(t));
-    let event = call(CpuNo(1), None, Command::Release(t), reply);
+    let event = call(OTHER, None, Command::Release(t), reply);
     threads.tell(t, 3, &event.what);
 }
 
-fn insert(threads: &mut Threads<'_>, a: ApcNo, n: u64)
+fn insert(alloc: Global, threads: &mut Threads<'_>, a: ApcNo, n: u64) -> Result<(), AllocError>
     requires { IsTrue (has_apc threads.old.script a) }
     ensures { threads.new.script ≡ threads.old.script }
 {
     let reply = Reply::yes_if(threads.takes(a));
-    let event = call(CpuNo(1), None, Command::InsertApc(a), reply);
-    threads.leave(n, &stand(CpuNo(1), None), &event);
+    let event = call(OTHER, None, Command::InsertApc(a), reply);
+    let frames = Frames::new(alloc, OTHER, THREADS)?;
+    threads.leave(n, &StandView::new(OTHER, &frames, false), &event);
+    Ok(())
 }
 
-fn remove(threads: &mut Threads<'_>, a: ApcNo)
+fn remove(alloc: Global, threads: &mut Threads<'_>, a: ApcNo) -> Result<(), AllocError>
     requires { IsTrue (has_apc threads.old.script a) }
     ensures { threads.new.script ≡ threads.old.script }
 {
     let reply = Reply::yes_if(threads.is_inserted(a));
-    let event = call(CpuNo(1), None, Command::RemoveApc(a), reply);
-    threads.leave(9, &stand(CpuNo(1), None), &event);
+    let event = call(OTHER, None, Command::RemoveApc(a), reply);
+    let frames = Frames::new(alloc, OTHER, THREADS)?;
+    threads.leave(9, &StandView::new(OTHER, &frames, false), &event);
+    Ok(())
 }
 
 /// Writes an answer that is yes or no.
@@ -292,21 +302,21 @@ fn a_release_ends_a_wait(rt: HostRuntime, script: &Script) -> io::Result<()>
 {
     let mut threads = Threads::new(rt.alloc(), script)?;
     let t = FIRST;
-    take_up(&mut threads, script, t);
+    take_up(rt.alloc(), &mut threads, script, t)?;
     write_taken_up(
         rt,
         threads.is_running(t),
         threads.is_ready(t),
         threads.is_leaving(t),
     )?;
-    wait(&mut threads, script, t);
+    wait(rt.alloc(), &mut threads, script, t)?;
     let ends = [
         threads.ends_by_release(t),
         threads.ends_by_expiry(t, 2),
         threads.ends_by_alert(t, Mode::Kernel),
     ];
     write_waits(rt, threads.is_running(t), ends)?;
-    release(&mut threads, t);
+    release(rt.alloc(), &mut threads, t)?;
     write_released(rt, threads.is_ready(t), threads.status(t), threads.level(t))
 }
 
@@ -321,8 +331,8 @@ fn a_release_is_told(rt: HostRuntime, script: &Script) -> io::Result<()>
     requires apcs { length script.now.apcs ≡ 2 }
 {
     let mut threads = Threads::new(rt.alloc(), script)?;
-    take_up(&mut threads, script, SECOND);
-    wait(&mut threads, script, SECOND);
+    take_up(rt.alloc(), &mut threads, script, SECOND)?;
+    wait(rt.alloc(), &mut threads, script, SECOND)?;
     tell_release(&mut threads, SECOND);
     write_told(rt, threads.is_ready(SECOND), threads.status(SECOND))
 }
@@ -344,7 +354,7 @@ fn apcs_are_inserted_and_removed(rt: HostRuntime, script: &Script) -> io::Result
     let mut threads = Threads::new(rt.alloc(), script)?;
     let a = KERNEL_APC;
     write_yes(rt, "ends a wait", threads.ends_by_apc(a))?;
-    insert(&mut threads, a, 4);
+    insert(rt.alloc(), &mut threads, a, 4)?;
     write_inserted(
         rt,
         threads.is_inserted(a),
@@ -356,7 +366,7 @@ fn apcs_are_inserted_and_removed(rt: HostRuntime, script: &Script) -> io::Result
         "deliverable",
         threads.deliverable(FIRST, FREE, Level::PASSIVE),
     )?;
-    remove(&mut threads, a);
+    remove(rt.alloc(), &mut threads, a)?;
     let kernel = threads.has_kernel(FIRST);
     write_two(
         rt,
@@ -378,7 +388,7 @@ fn a_user_apc_ends_an_alertable_wait(rt: HostRuntime, script: &Script) -> io::Re
     requires apcs { length script.now.apcs ≡ 2 }
 {
     let mut threads = Threads::new(rt.alloc(), script)?;
-    insert(&mut threads, USER_APC, 5);
+    insert(rt.alloc(), &mut threads, USER_APC, 5)?;
     write_pick(rt, "first", threads.user_first(FIRST))?;
     write_pick(rt, "due", threads.user_due(FIRST))?;
     let alertable = threads.wait_reply(FIRST, FREE, Level::PASSIVE, Mode::User, true, None);

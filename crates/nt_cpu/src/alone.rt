@@ -13,10 +13,9 @@ ghost use Rattle.nt_cpu.specs.Alone.{IsAlone, IsMarkedFor, MayBe, alone_asks, al
 
 use crate::cpu::Cpu;
 use crate::notice::Notice;
-use nt_event::{
-    ApcKind, Begun, Body, Command, CpuNo, Event, Frame, Level, Reply, Rises, Stand, What,
-};
+use nt_event::{ApcKind, Begun, Body, Command, CpuNo, Event, Frame, Level, Reply, Rises, What};
 use nt_floor::Words;
+use nt_frame::StandView;
 
 /// A class of a processor for which an event asks.
 #[derive(Clone, Copy, PartialEq, Eq, Debug)]
@@ -102,10 +101,10 @@ fn mark<W: Words>(words: &mut W, asked: Option<Asked>, n: u64)
 impl<'s> Cpu<'s> {
     /// Where the processor stands.
     #[inline(always)]
-    pub(crate) fn standing(&self) -> Stand
+    pub(crate) fn standing(&self) -> StandView<'_>
         ensures { result ≡ stand_in self.now.cpu self.now.own }
     {
-        self.frames.stand(self.cpu, self.kept.sweep)
+        StandView::new(self.cpu, &self.frames, self.kept.sweep)
     }
 
     /// What the call of a command asks for.

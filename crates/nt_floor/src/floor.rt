@@ -1,6 +1,7 @@
 //! Events that touch lanes.
 use crate::words::Words;
-use nt_event::{Event, Job, Rises, Stand};
+use nt_event::{Event, Job, Rises};
+use nt_frame::StandView;
 
 /// All that one act made.
 #[derive(Clone, Copy, PartialEq, Eq, Debug)]
@@ -71,7 +72,7 @@ pub trait Floor: Words {
     fn act(
         &mut self,
         job: &Job,
-        stand: &Stand,
+        stand: &StandView,
         told: &mut Rises,
         event: &mut Event,
     ) -> Result<Made, ActRefusal>

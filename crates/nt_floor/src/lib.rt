@@ -11,7 +11,8 @@ mod seen;
 mod words;
 
 pub use floor::{ActRefusal, Acted, Floor, Made};
-pub use nt_event::{Job, Stand};
+pub use nt_event::Job;
+pub use nt_frame::StandView;
 pub use open::OpenFloor;
 pub use seen::Seen;
 pub use words::Words;

@@ -2,7 +2,7 @@
 ghost use Rattle.std.specs.Prelude.{◌≡◌, ◌<◌, ◌≤◌, ◌↔◌, ◌+◌, ◌==◌, false, not, length, option_copied, option_map, IsTrue, IsSome, IsOk, IfSome, IfOk, IfErr, OnOk, OnErr};
 ghost use Rattle.std.specs.Option.{ForSome, option_map_or, option_or};
 ghost use Rattle.nt_event.specs.Frames.{base_of, thread_part, done_to, frames_in, innermost, is_on_thread as on_thread_part, ended_base, level_in, normal_of};
-ghost use Rattle.nt_event.specs.Regions.{after_in, below_in, some_came_to_0, stand_of};
+ghost use Rattle.nt_event.specs.Regions.{after_in, below_in, some_came_to_0};
 ghost use Rattle.nt_event.specs.Lists.{is_null, head_of};
 ghost use Rattle.nt_frame.specs.Changes.{at_innermost, begun, closed, no_frames, without_innermost};
 ghost use Rattle.nt_frame.specs.Nesting.{AreNamedBelow, AreNested, IsThreadPart};
@@ -13,7 +13,7 @@ use crate::frame::{at_normal, is_own, leaving, new_frame};
 use crate::part::{NO_REGIONS, Part, is_normal_apc};
 use crate::refusals::refusal;
 use crate::{FrameView, parts};
-use nt_event::{Again, Body, Command, CpuNo, Frame, Refusal, Region, Regions, Stand, ThreadNo};
+use nt_event::{Again, Body, Command, CpuNo, Frame, Refusal, Region, Regions, ThreadNo};
 use nt_level::Level;
 use std::alloc::{AllocError, Global};
 use std::marker::Model;
@@ -29,14 +29,6 @@ pub struct Frames {
     own: Part<13>,
     running: Option<ThreadNo>,
     threads: Vec<Part<4>>,
-}
-
-/// The regions of the running thread, and what is left once the innermost frame has ended.
-#[derive(Clone, Copy)]
-struct Left {
-    regions: Regions,
-    below: Regions,
-    after: Level,
 }
 
 impl Model for Frames {
@@ -124,57 +116,6 @@ impl Frames {
         match self.running_part() {
             Some(part) => first_level(None, part.second()),
             None => Level::PASSIVE,
-        }
-    }
-
-    /// Where the processor of this number stands, by whether it owes a sweep of the timers.
-    #[inline(always)]
-    pub fn stand(&self, cpu: CpuNo, sweep: bool) -> Stand
-        ensures { result ≡ stand_of cpu self.now sweep }
-    {
-        let left = self.left();
-        let (frame, body, level, again) = match self.top() {
-            Some(frame) => (frame.name, Some(frame.body), frame.level, frame.again),
-            None => (0, None, Level::PASSIVE, None),
-        };
-        Stand {
-            cpu,
-            thread: self.running,
-            frame,
-            body,
-            level,
-            regions: left.regions,
-            below: left.below,
-            after: left.after,
-            again,
-            sweep,
-        }
-    }
-
-    /// The regions of the running thread, and what is left of them and of the level once the innermost frame has ended.
-    #[inline(always)]
-    fn left(&self) -> Left
-        ensures { result ≡ record { regions = regions_in self.now; below = below_in self.now; after = after_in self.now } }
-    {
-        let Some(part) = self.running_part() else {
-            return Left {
-                regions: NO_REGIONS,
-                below: NO_REGIONS,
-                after: first_level(self.own.second(), None),
-            };
-        };
-        let regions = part.regions();
-        if self.own.is_empty() {
-            return Left {
-                regions,
-                below: part.regions_below(),
-                after: first_level(None, part.second()),
-            };
-        }
-        Left {
-            regions,
-            below: regions,
-            after: first_level(self.own.second(), part.innermost()),
         }
     }
 

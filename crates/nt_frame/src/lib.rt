@@ -22,6 +22,7 @@ mod laws;
 mod part;
 mod parts;
 mod refusals;
+mod stand;
 mod view;
 
 pub use calls::{FrameAnswer, FrameCall, perform, perform_all};
@@ -29,4 +30,5 @@ pub use frames::Frames;
 pub use laws::{events_are_calls, histories_are_calls};
 pub use nt_event::{Again, Body, Region};
 pub use refusals::refusal;
+pub use stand::StandView;
 pub use view::FrameView;

@@ -10,8 +10,9 @@ use crate::foreseeing::foresee;
 use crate::lanes::Lanes;
 use crate::locks::lock;
 use crate::tries::{Tried, try_under};
-use nt_event::{Job, Plan, Stand};
+use nt_event::{Job, Plan};
 use nt_floor::{ActRefusal, Acted};
+use nt_frame::StandView;
 use nt_mark::{Marks, Pass, Shared};
 use std::sync::Wait;
 
@@ -23,7 +24,7 @@ pub(crate) fn act_under<'s, N: Plan + Shared, R: Wait>(
     marks: &Marks,
     pass: &mut Pass,
     job: &Job,
-    stand: &Stand,
+    stand: &StandView,
 ) -> Result<Acted, ActRefusal>
     requires table { (table_of marks.now ≡ N.table) × (pass_table pass.old ≡ N.table) }
     requires marks { (cpus_of marks.now ≡ N.script.cpus) × (lanes_of marks.now ≡ lane_count N.script) }

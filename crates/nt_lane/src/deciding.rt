@@ -6,8 +6,9 @@ ghost use Rattle.nt_lane.specs.Decided.{IsDecided};
 use crate::held::Held;
 use crate::reading::reads_job;
 use crate::standing::can_do;
-use nt_event::{Job, Stand, What};
+use nt_event::{Job, What};
 use nt_floor::ActRefusal;
+use nt_frame::StandView;
 use nt_states::LaneAnswers;
 
 /// What came of a job in the states of held lanes.
@@ -22,7 +23,7 @@ pub(crate) enum Decided {
 }
 
 /// Decides the job of a processor that stands so. The decision is that of `nt_states`, over the states of the held lanes.
-pub(crate) fn decide(held: &Held, job: &Job, stand: &Stand) -> Decided
+pub(crate) fn decide(held: &Held, job: &Job, stand: &StandView) -> Decided
     requires job { IsTrue (job_fits held.now.script job.now) }
     requires stand { StandFits held.now.script stand.now }
     ensures { IsDecided held.now stand.now job.now result }

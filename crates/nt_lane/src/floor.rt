@@ -1,8 +1,9 @@
 //! The seat of a processor as a floor: its acts take the locks of the lanes that they read and touch.
 use crate::acting::act_under;
 use crate::seat::LaneSeat;
-use nt_event::{Event, Job, Plan, Rises, Stand};
+use nt_event::{Event, Job, Plan, Rises};
 use nt_floor::{ActRefusal, Floor, Made};
+use nt_frame::StandView;
 use nt_mark::Shared;
 use std::sync::Wait;
 
@@ -26,7 +27,7 @@ impl<N: Plan + Shared, R: Wait> Floor for LaneSeat<'_, '_, N, R> {
     fn act(
         &mut self,
         job: &Job,
-        stand: &Stand,
+        stand: &StandView,
         told: &mut Rises,
         event: &mut Event,
     ) -> Result<Made, ActRefusal> {

@@ -3,7 +3,8 @@
 use crate::lanes::Lanes;
 use crate::needs::{Needs, needs_of_job};
 use crate::states::Object;
-use nt_event::{Command, CpuNo, DpcNo, Job, Lane, Part, Plan, Stand};
+use nt_event::{Command, CpuNo, DpcNo, Job, Lane, Part, Plan};
+use nt_frame::StandView;
 use nt_mark::Shared;
 use std::sync::Wait;
 
@@ -98,17 +99,17 @@ fn other_of_job<N: Plan + Shared, R: Wait>(
     rt: &R,
     lanes: &Lanes<'_, N>,
     job: &Job,
-    stand: &Stand,
+    stand: &StandView,
 ) -> Option<Lane> {
     match job {
-        Job::Call(command) => other_of_command(rt, lanes, stand.cpu, command),
-        Job::Fire(d) => look_at_object(rt, lanes, *d, Move::Insert(stand.cpu)),
+        Job::Call(command) => other_of_command(rt, lanes, stand.cpu(), command),
+        Job::Fire(d) => look_at_object(rt, lanes, *d, Move::Insert(stand.cpu())),
         Job::Drain | Job::Idle | Job::Pick(_) => {
-            look_at_queue(rt, lanes, stand.cpu, Part::Ordinary)
+            look_at_queue(rt, lanes, stand.cpu(), Part::Ordinary)
         }
-        Job::Threaded => look_at_queue(rt, lanes, stand.cpu, Part::Threaded),
-        Job::Switch(_) => Some(Lane::Queue(stand.cpu)),
-        Job::UserEnd | Job::Leave => Some(Lane::Threads(stand.cpu)),
+        Job::Threaded => look_at_queue(rt, lanes, stand.cpu(), Part::Threaded),
+        Job::Switch(_) => Some(Lane::Queue(stand.cpu())),
+        Job::UserEnd | Job::Leave => Some(Lane::Threads(stand.cpu())),
         Job::Apcs | Job::Rewait | Job::ToUser | Job::Rundown => None,
     }
 }
@@ -118,7 +119,7 @@ pub(crate) fn foresee<N: Plan + Shared, R: Wait>(
     rt: &R,
     lanes: &Lanes<'_, N>,
     job: &Job,
-    stand: &Stand,
+    stand: &StandView,
 ) -> Needs {
     let read = needs_of_job(lanes.script, job, stand);
     match other_of_job(rt, lanes, job, stand) {

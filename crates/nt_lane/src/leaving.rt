@@ -19,7 +19,8 @@ ghost use Rattle.nt_timer.specs.Laws.{IsSized};
 
 use crate::states::{Clock, Group, Object, Queue};
 use nt_dpc_lanes::{Change, change_of};
-use nt_event::{CpuNo, Event, Part, Script, Stand, What};
+use nt_event::{CpuNo, Event, Part, Script, What};
+use nt_frame::StandView;
 use nt_states::leave_timers;
 use nt_thread_lanes::named_thread;
 
@@ -139,7 +140,7 @@ impl Group<'_> {
     ///
     /// The event is one that a job gives in these states. Only where it names no thread has its maker to run in them, so the threads of
     /// another processor take it too.
-    pub(crate) fn leave(&mut self, script: &Script, n: u64, stand: &Stand, event: &Event)
+    pub(crate) fn leave(&mut self, script: &Script, n: u64, stand: &StandView, event: &Event)
         requires script { self.old.threads.script ≡ script.now }
         requires fits { IsTrue (fits script.now) }
         requires cpu { event.now.cpu ≡ stand.now.cpu }
@@ -157,7 +158,7 @@ impl Group<'_> {
 
 impl Clock {
     /// Takes in the event of this number, of a processor that stood so. The event is one that a job gives in these states.
-    pub(crate) fn leave(&mut self, script: &Script, n: u64, stand: &Stand, event: &Event)
+    pub(crate) fn leave(&mut self, script: &Script, n: u64, stand: &StandView, event: &Event)
         requires sized { IsSized script.now self.old }
         requires may { MayTime script.now self.old event.now event.now.what }
         requires time { self.old.now + 2 ^ 32 ≤ 2 ^ 50 }

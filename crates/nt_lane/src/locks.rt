@@ -17,7 +17,8 @@ use crate::needs::Needs;
 use crate::planning::{Planned, plan_job};
 use crate::record::Holds;
 use crate::states::{Clock, Group, Object, Queue};
-use nt_event::{CpuNo, DpcNo, Job, Lane as LaneName, Plan, Script, Stand};
+use nt_event::{CpuNo, DpcNo, Job, Lane as LaneName, Plan, Script};
+use nt_frame::StandView;
 use nt_mark::{Marks, Pass, Shared};
 use std::alloc::AllocError;
 use std::marker::Model;
@@ -281,7 +282,7 @@ impl<'l, 's, N: Plan + Shared> Locked<'l, 's, N> {
     ghost use Rattle.nt_lane.specs.Plans.{IsPlanned};
 
     /// What a job of a processor that stands so comes to in the states of the held lanes.
-    pub(crate) fn plan(&self, script: &Script, job: &Job, stand: &Stand) -> Planned
+    pub(crate) fn plan(&self, script: &Script, job: &Job, stand: &StandView) -> Planned
         requires script { (script.now ≡ N.script) × IsTrue (fits N.script) }
         requires job { IsTrue (job_fits N.script job.now) }
         requires stand { StandFits N.script stand.now }

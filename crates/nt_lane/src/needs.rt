@@ -4,7 +4,8 @@ ghost use Rattle.nt_lane.specs.Needed.{IsNeeded, with_lane, with_lanes};
 ghost use Rattle.nt_states.specs.Reads.{AreHeld, job_lanes, reply_lanes};
 
 use crate::reading::has_due;
-use nt_event::{Command, CpuNo, DpcNo, Job, Lane, Script, Stand};
+use nt_event::{Command, CpuNo, DpcNo, Job, Lane, Script};
+use nt_frame::StandView;
 
 /// The lanes whose locks an act takes, in the order of the locks: at most one of each kind.
 #[derive(Clone, Copy, PartialEq, Eq, Debug)]
@@ -93,16 +94,16 @@ fn needs_of_command(script: &Script, cpu: CpuNo, command: &Command) -> Needs
 }
 
 /// What a job of a processor that stands so reads before its event is known.
-pub(crate) fn needs_of_job(script: &Script, job: &Job, stand: &Stand) -> Needs
+pub(crate) fn needs_of_job(script: &Script, job: &Job, stand: &StandView) -> Needs
     ensures { AreHeld (IsNeeded result) (job_lanes script.now stand.now job.now) }
 {
-    let queue = Lane::Queue(stand.cpu);
-    let threads = Lane::Threads(stand.cpu);
+    let queue = Lane::Queue(stand.cpu());
+    let threads = Lane::Threads(stand.cpu());
     match job {
-        Job::Call(command) => needs_of_command(script, stand.cpu, command),
+        Job::Call(command) => needs_of_command(script, stand.cpu(), command),
         Job::Fire(d) => one(Lane::Object(*d)),
         Job::Drain => {
-            if stand.sweep {
+            if stand.sweep() {
                 one(queue).with(Lane::Timers)
             } else {
                 one(queue)

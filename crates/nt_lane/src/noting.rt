@@ -18,7 +18,8 @@ use crate::numbers::Numbers;
 use crate::planning::Plan;
 use crate::record::{Holds, Record};
 use crate::states::{Clock, Group, Object, Queue};
-use nt_event::{Script, Stand};
+use nt_event::Script;
+use nt_frame::StandView;
 use nt_mark::{Marks, Pass, Shared};
 
 /// An event that was drawn, of a processor that stands so, with the numbers of its lanes.
@@ -26,7 +27,7 @@ use nt_mark::{Marks, Pass, Shared};
 pub(crate) struct Step<'p> {
     pub(crate) script: &'p Script,
     pub(crate) number: u64,
-    pub(crate) stand: &'p Stand,
+    pub(crate) stand: &'p StandView<'p>,
     pub(crate) plan: &'p Plan,
     pub(crate) numbers: &'p Numbers,
 }
@@ -160,7 +161,7 @@ pub(crate) fn note_both<N: nt_event::Plan + Shared>(
         &mut object.state,
         &mut queue.state,
         step.number,
-        step.stand.cpu,
+        step.stand.cpu(),
         &step.plan.event.what,
     );
     note_step::<N, Object>(&mut object.log, marks, pass, step, &object.state);

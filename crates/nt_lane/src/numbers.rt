@@ -5,7 +5,8 @@ ghost use Rattle.nt_event.specs.Lanes.{Lanes, lane_count, lane_number as number_
 ghost use Rattle.nt_event.specs.Script.{fits};
 ghost use Rattle.nt_states.specs.LaneLists.{LaneFits};
 
-use nt_event::{Lane, Script, Stand, What};
+use nt_event::{Lane, Script, What};
+use nt_frame::StandView;
 use nt_states::Touched;
 use std::marker::Model;
 
@@ -109,7 +110,7 @@ pub(crate) fn lane_number(script: &Script, lane: Lane) -> u32
 /// The numbers of the lanes that an event touches. They rise, as the locks are taken, and each is one of the script's.
 pub(crate) fn touched_numbers(
     script: &Script,
-    stand: &Stand,
+    stand: &StandView,
     what: &What,
     lanes: &Touched,
 ) -> Numbers

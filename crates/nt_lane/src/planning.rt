@@ -24,8 +24,9 @@ use crate::held::Held;
 use crate::needs::{Needs, needs_of_job};
 use crate::reading::{holds_all, reads_event};
 use crate::states::{Clock, Group, Object, Queue};
-use nt_event::{Command, Event, Job, Lane, Script, Stand, What};
+use nt_event::{Command, Event, Job, Lane, Script, What};
 use nt_floor::ActRefusal;
+use nt_frame::StandView;
 use nt_states::{Asks, LaneAnswers, Touched};
 use nt_thread_lanes::named_thread;
 
@@ -62,19 +63,19 @@ fn kinds(script: &Script, group: Option<&Group>)
 }
 
 /// Whether the processor's thread, if there is one, runs in the group.
-fn runs_in(group: &Group, stand: &Stand) -> bool
+fn runs_in(group: &Group, stand: &StandView) -> bool
     requires stand { StandFits group.now.threads.script stand.now }
     requires own { RunsOwn group.now.threads.script stand.now }
     ensures { IsTrue result → IfSome stand.now.thread (RunsHere group.now.threads stand.now) }
 {
-    match stand.thread {
+    match stand.thread() {
         Some(thread) => group.inner().is_running(thread),
         None => true,
     }
 }
 
 /// Whether the maker of an event that names no thread runs in the group, where one is held.
-fn maker_runs(script: &Script, group: Option<&Group>, stand: &Stand, what: &What) -> bool
+fn maker_runs(script: &Script, group: Option<&Group>, stand: &StandView, what: &What) -> bool
     requires group { IfSome group (λ g. IsGroupThere script.now g.now) }
     requires stand { StandFits script.now stand.now }
     requires own { RunsOwn script.now stand.now }
@@ -90,14 +91,14 @@ fn maker_runs(script: &Script, group: Option<&Group>, stand: &Stand, what: &What
 }
 
 /// Whether the thread of a Rundown leaves.
-fn leaves(script: &Script, group: Option<&Group>, stand: &Stand, job: &Job) -> bool
+fn leaves(script: &Script, group: Option<&Group>, stand: &StandView, job: &Job) -> bool
     requires group { IfSome group (λ g. IsGroupThere script.now g.now) }
     requires stand { StandFits script.now stand.now }
     ensures { IsTrue result → Leaves (threads_told script.now (option_map (λ g. g.now) group.entry)) stand.now job.now }
 {
     let _script = script;
     match job {
-        Job::Rundown => match stand.thread {
+        Job::Rundown => match stand.thread() {
             Some(thread) => match group {
                 Some(group) => group.inner().is_leaving(thread),
                 None => false,
@@ -145,7 +146,7 @@ fn reads_due(held: &Held, what: &What) -> bool
 }
 
 /// The event with what it asks for, where its lanes are held.
-fn plan_of(held: &Held, stand: &Stand, what: &What, lanes: Touched) -> Plan
+fn plan_of(held: &Held, stand: &StandView, what: &What, lanes: Touched) -> Plan
     requires given { IsGiven held.now.script (held_lanes held.now) stand.now what.now }
     requires lanes { lanes ≡ what_lanes held.now.script stand.now what.now (held_lanes held.now) }
     requires held { AreHeld (IsHeld held.now) lanes }
@@ -175,7 +176,7 @@ fn plan_event(
     held: &Held,
     group: Option<&Group>,
     job: &Job,
-    stand: &Stand,
+    stand: &StandView,
     what: &What,
 ) -> Planned
     requires script { script.now ≡ held.now.script }
@@ -211,7 +212,7 @@ pub(crate) fn plan_job(
     group: Option<&Group>,
     timers: Option<&Clock>,
     job: &Job,
-    stand: &Stand,
+    stand: &StandView,
 ) -> Planned
     requires fits { IsTrue (fits script.now) }
     requires object { IfSome object (λ o. IsObjectThere script.now o.now) }

@@ -6,7 +6,8 @@ ghost use Rattle.nt_lane.specs.Answers.{IsHeld};
 ghost use Rattle.nt_states.specs.Reads.{AreHeld, found_lanes, job_lanes, reply_lanes};
 
 use crate::held::Held;
-use nt_event::{Command, CpuNo, Job, Lane, Stand, What};
+use nt_event::{Command, CpuNo, Job, Lane, What};
+use nt_frame::StandView;
 use nt_states::LaneAnswers;
 
 /// Whether the lanes are held that are read to find what a command of a routine on the processor replies.
@@ -42,25 +43,25 @@ fn reads_reply(held: &Held, cpu: CpuNo, command: &Command) -> bool
 }
 
 /// Whether the wait that is taken up again has a due time.
-pub(crate) fn has_due(stand: &Stand) -> bool
+pub(crate) fn has_due(stand: &StandView) -> bool
     ensures { result ≡ is_some (option_and_then (λ w. w.due) stand.now.again) }
 {
-    match stand.again {
+    match stand.again() {
         Some(wait) => wait.due.is_some(),
         None => false,
     }
 }
 
 /// Whether the lanes are held that are read to find the event of a job of a processor that stands so.
-pub(crate) fn reads_job(held: &Held, stand: &Stand, job: &Job) -> bool
+pub(crate) fn reads_job(held: &Held, stand: &StandView, job: &Job) -> bool
     ensures { IsTrue result ↔ AreHeld (IsHeld held.now) (job_lanes held.now.script stand.now job.now) }
 {
-    let queue = Lane::Queue(stand.cpu);
-    let threads = Lane::Threads(stand.cpu);
+    let queue = Lane::Queue(stand.cpu());
+    let threads = Lane::Threads(stand.cpu());
     match job {
-        Job::Call(command) => reads_reply(held, stand.cpu, command),
+        Job::Call(command) => reads_reply(held, stand.cpu(), command),
         Job::Fire(d) => held.holds(Lane::Object(*d)),
-        Job::Drain => held.holds(queue) && (!stand.sweep || held.holds(Lane::Timers)),
+        Job::Drain => held.holds(queue) && (!stand.sweep() || held.holds(Lane::Timers)),
         Job::Threaded => held.holds(queue),
         Job::Idle | Job::Pick(_) => held.holds(queue) && held.holds(threads),
         Job::Rewait => held.holds(threads) && (!has_due(stand) || held.holds(Lane::Timers)),

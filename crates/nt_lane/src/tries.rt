@@ -18,8 +18,9 @@ use crate::needs::Needs;
 use crate::noting::Step;
 use crate::numbers::{Numbers, touched_numbers};
 use crate::planning::{Plan, Planned};
-use nt_event::{Job, Rises, Script, Stand};
+use nt_event::{Job, Rises, Script};
 use nt_floor::{ActRefusal, Acted};
+use nt_frame::StandView;
 use nt_mark::{Marks, Pass, Shared};
 use nt_states::tell_own;
 
@@ -62,7 +63,7 @@ fn make<'s, N: nt_event::Plan + Shared>(
     pass: &mut Pass,
     plan: &Plan,
     job: &Job,
-    stand: &Stand,
+    stand: &StandView,
 ) -> Acted
     requires script { (script.now ≡ N.script) × IsTrue (fits N.script) }
     requires table { (table_of marks.now ≡ N.table) × (pass_table pass.old ≡ N.table) }
@@ -79,9 +80,9 @@ fn make<'s, N: nt_event::Plan + Shared>(
     let _job = job;
     locked.there();
     let numbers = touched_numbers(script, stand, &plan.event.what, &plan.lanes);
-    let mut value = locked.told(plan.lanes.as_slice(), stand.cpu);
+    let mut value = locked.told(plan.lanes.as_slice(), stand.cpu());
     let number = draw_plan::<N>(marks, pass, plan, &numbers);
-    tell_own(&mut value, plan.asks.as_slice(), stand.cpu, number + 1);
+    tell_own(&mut value, plan.asks.as_slice(), stand.cpu(), number + 1);
     let step = Step {
         script,
         number,
@@ -107,7 +108,7 @@ pub(crate) fn try_under<'s, N: nt_event::Plan + Shared>(
     marks: &Marks,
     pass: &mut Pass,
     job: &Job,
-    stand: &Stand,
+    stand: &StandView,
 ) -> Tried
     requires script { (script.now ≡ N.script) × IsTrue (fits N.script) }
     requires table { (table_of marks.now ≡ N.table) × (pass_table pass.old ≡ N.table) }

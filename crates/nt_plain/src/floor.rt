@@ -1,7 +1,8 @@
 //! The floor in memory as words and as a floor.
 use crate::plain::PlainFloor;
-use nt_event::{CpuNo, Event, Job, Rises, Stand};
+use nt_event::{CpuNo, Event, Job, Rises};
 use nt_floor::{ActRefusal, Floor, Made, Words};
+use nt_frame::StandView;
 
 impl<'s> Words for PlainFloor<'s> {
     ghost use Rattle.std.specs.Prelude.{◌≡◌, ◌<◌, ◌≤◌};
@@ -54,7 +55,7 @@ impl<'s> Floor for PlainFloor<'s> {
     fn act(
         &mut self,
         job: &Job,
-        stand: &Stand,
+        stand: &StandView,
         told: &mut Rises,
         event: &mut Event,
     ) -> Result<Made, ActRefusal> {

@@ -14,15 +14,21 @@ ghost use Rattle.nt_plain.specs.Made.{IsPlanned, made, states_of};
 ghost use Rattle.nt_plain.specs.Places.{told_in};
 
 use crate::plain::PlainFloor;
-use nt_event::{Event, Job, Rises, Stand, What};
+use nt_event::{Event, Job, Rises, What};
 use nt_floor::{ActRefusal, Made};
+use nt_frame::StandView;
 use nt_states::{Asks, Touched, tell_own};
 
 impl<'s> PlainFloor<'s> {
     /// Writes the event of the job where the caller keeps it, for a processor that stands so, or answers why there is none.
     ///
     /// NothingToDo and BadChoice come as from [`nt_states::decide_into`], NoMemory never. After a refusal nothing was written.
-    pub(crate) fn decide(&self, job: &Job, stand: &Stand, into: &mut What) -> Result<(), ActRefusal>
+    pub(crate) fn decide(
+        &self,
+        job: &Job,
+        stand: &StandView,
+        into: &mut What,
+    ) -> Result<(), ActRefusal>
         requires { MayDo (states_of self.now) stand.now job.now }
         ensures event { OnOk result (job_event self.now.script stand.now self.now.lanes job.now ≡ Some into.new) }
         ensures given { OnOk result (MayMake (states_of self.now) stand.now into.new) }
@@ -41,7 +47,7 @@ impl<'s> PlainFloor<'s> {
     }
 
     /// Makes the event of a processor that stands so which does what stands in its place.
-    pub(crate) fn make(&mut self, stand: &Stand, told: &mut Rises, event: &mut Event) -> Made
+    pub(crate) fn make(&mut self, stand: &StandView, told: &mut Rises, event: &mut Event) -> Made
         requires given { MayMake (states_of self.old) stand.now event.old.what }
         requires room { self.old.next < self.old.limit }
         ensures number { result.number ≡ self.old.next }
@@ -65,19 +71,26 @@ impl<'s> PlainFloor<'s> {
     }
 
     /// Writes what the lanes that an event touches tell for its processor, its own requests among it.
-    fn tell_by(&self, stand: &Stand, what: &What, lanes: &Touched, asks: &Asks, told: &mut Rises)
+    fn tell_by(
+        &self,
+        stand: &StandView,
+        what: &What,
+        lanes: &Touched,
+        asks: &Asks,
+        told: &mut Rises,
+    )
         requires { IsPlanned self.now stand.now what.now lanes.now asks.now }
         ensures { told.new.value ≡ table 16 (λ c. raised (asks_in self.now.script stand.now what.now self.now.lanes stand.now.cpu c) self.now.next (told_over (told_in self.now.script self.now.told) (what_lanes self.now.script stand.now what.now self.now.lanes) stand.now.cpu c)) }
     {
         let _what = what;
         let script = self.states.whole_script();
         self.told
-            .over(script, lanes.as_slice(), stand.cpu, &mut told.value);
-        tell_own(&mut told.value, asks.as_slice(), stand.cpu, self.next + 1);
+            .over(script, lanes.as_slice(), stand.cpu(), &mut told.value);
+        tell_own(&mut told.value, asks.as_slice(), stand.cpu(), self.next + 1);
     }
 
     /// What the event leaves of the floor.
-    fn leave(&mut self, stand: &Stand, event: &Event, lanes: &Touched, asks: &Asks)
+    fn leave(&mut self, stand: &StandView, event: &Event, lanes: &Touched, asks: &Asks)
         requires planned { IsPlanned self.old stand.now event.now.what lanes.now asks.now }
         requires event { event.now ≡ acted_event stand.now self.old.lanes event.now.what }
         ensures { self.new ≡ made stand.now event.now.what self.old }

@@ -19,9 +19,10 @@ use crate::answers::LaneAnswers;
 use crate::running::runner;
 use crate::thread_answers::ThreadAnswers;
 use nt_event::{
-    ApcKind, ApcNo, Body, Command, CpuNo, DpcNo, Mode, Regions, Reply, Stand, ThreadNo, TimerKey,
-    What, class,
+    ApcKind, ApcNo, Body, Command, CpuNo, DpcNo, Mode, Regions, Reply, ThreadNo, TimerKey, What,
+    class,
 };
+use nt_frame::StandView;
 use std::marker::Model;
 
 /// A class of a processor for which an event asks.
@@ -121,7 +122,7 @@ impl Asks {
 }
 
 /// What an event asks for, of a processor that stands so.
-pub fn event_asks<S: LaneAnswers>(states: &S, stand: &Stand, what: &What) -> Asks
+pub fn event_asks<S: LaneAnswers>(states: &S, stand: &StandView, what: &What) -> Asks
     requires given { IsGiven (S.script_of states.now) (S.lanes states.now) stand.now what.now }
     requires held { AreHeld (S.holds states.now) (what_lanes (S.script_of states.now) stand.now what.now (S.lanes states.now)) }
     ensures asks { result ≡ requests.what_asks (S.script_of states.now) stand.now what.now (S.lanes states.now) }
@@ -132,15 +133,13 @@ pub fn event_asks<S: LaneAnswers>(states: &S, stand: &Stand, what: &What) -> Ask
         What::Fire {
             dpc,
             reply: Reply::Yes,
-        } => insert_asks(states, stand.cpu, *dpc),
+        } => insert_asks(states, stand.cpu(), *dpc),
         What::Expire {
             key: TimerKey::Delay(t),
             from,
         } => expiry_asks(states, *t, *from),
-        What::Switch { thread, .. } => switch_asks(states, stand.cpu, *thread),
-        What::Normal { .. } => {
-            Asks::one_if(stand.below.came_to_0(&stand.regions), stand.cpu, class::APC)
-        }
+        What::Switch { thread, .. } => switch_asks(states, stand.cpu(), *thread),
+        What::Normal { .. } => Asks::one_if(stand.gives_up(), stand.cpu(), class::APC),
         What::End { .. } => end_asks(states, stand),
         What::Fire { .. }
         | What::Expire { .. }
@@ -155,7 +154,12 @@ pub fn event_asks<S: LaneAnswers>(states: &S, stand: &Stand, what: &What) -> Ask
 }
 
 /// What a call asks for.
-fn call_asks<S: LaneAnswers>(states: &S, stand: &Stand, command: &Command, reply: &Reply) -> Asks
+fn call_asks<S: LaneAnswers>(
+    states: &S,
+    stand: &StandView,
+    command: &Command,
+    reply: &Reply,
+) -> Asks
     requires command { IsTrue (command_fits (S.script_of states.now) command.now) }
     requires stand { StandFits (S.script_of states.now) stand.now }
     requires insert { InsertIsFree (S.lanes states.now) command.now reply.now }
@@ -164,18 +168,18 @@ fn call_asks<S: LaneAnswers>(states: &S, stand: &Stand, command: &Command, reply
     ensures named { All (AskFits (S.script_of states.now)) result }
 {
     match (command, reply) {
-        (Command::Queue(d), Reply::Yes) => insert_asks(states, stand.cpu, *d),
+        (Command::Queue(d), Reply::Yes) => insert_asks(states, stand.cpu(), *d),
         (Command::InsertApc(a), Reply::Yes) => apc_asks(states, *a),
         (Command::LeaveCrit, Reply::Done) => {
-            Asks::one_if(stand.regions.crit == 1, stand.cpu, class::APC)
+            Asks::one_if(stand.regions().crit == 1, stand.cpu(), class::APC)
         }
         (Command::LeaveGuard, Reply::Done) => {
-            Asks::one_if(stand.regions.guard == 1, stand.cpu, class::APC)
+            Asks::one_if(stand.regions().guard == 1, stand.cpu(), class::APC)
         }
         (Command::Release(t), Reply::Yes) => release_asks(states, *t),
         (Command::Alert(t, mode), Reply::No) => alert_asks(states, *t, *mode),
         (Command::Interrupt(cpu, level), Reply::Done) => Asks::one(*cpu, level.number()),
-        (Command::Clock(_), Reply::Done) => Asks::one(stand.cpu, class::CLOCK),
+        (Command::Clock(_), Reply::Done) => Asks::one(stand.cpu(), class::CLOCK),
         (Command::Raise(_), _)
         | (Command::Lower(_), _)
         | (Command::Queue(_), _)
@@ -276,36 +280,37 @@ fn switch_asks<S: LaneAnswers>(states: &S, p: CpuNo, t: ThreadNo) -> Asks
 }
 
 /// What the end of a frame asks for.
-fn end_asks<S: LaneAnswers>(states: &S, stand: &Stand) -> Asks
+fn end_asks<S: LaneAnswers>(states: &S, stand: &StandView) -> Asks
     requires stand { StandFits (S.script_of states.now) stand.now }
     requires own { RunsOwn (S.script_of states.now) stand.now }
     requires held { AreHeld (S.holds states.now) (end_lanes stand.now.cpu stand.now.body) }
     ensures asks { result ≡ requests.end_asks stand.now stand.now.body (S.lanes states.now) }
     ensures named { All (AskFits (S.script_of states.now)) result }
 {
-    let given_up = stand.below.came_to_0(&stand.regions);
-    match stand.body {
-        Some(Body::Apc(_, ApcKind::Normal)) => Asks::one(stand.cpu, class::APC),
+    let given_up = stand.gives_up();
+    match stand.body() {
+        Some(Body::Apc(_, ApcKind::Normal)) => Asks::one(stand.cpu(), class::APC),
         Some(Body::Base(_)) => {
-            Asks::one_if(given_up || has_kernel(states, stand), stand.cpu, class::APC)
+            let asks = given_up || has_kernel(states, stand);
+            Asks::one_if(asks, stand.cpu(), class::APC)
         }
         Some(Body::Int(_))
         | Some(Body::Dpc(_))
         | Some(Body::Threaded(_))
         | Some(Body::Apc(_, ApcKind::Special | ApcKind::User))
         | Some(Body::Rundown(_))
-        | None => Asks::one_if(given_up, stand.cpu, class::APC),
+        | None => Asks::one_if(given_up, stand.cpu(), class::APC),
     }
 }
 
 /// Whether the running thread, if there is one, has a kernel APC pending.
-fn has_kernel<S: LaneAnswers>(states: &S, stand: &Stand) -> bool
+fn has_kernel<S: LaneAnswers>(states: &S, stand: &StandView) -> bool
     requires stand { StandFits (S.script_of states.now) stand.now }
     requires own { RunsOwn (S.script_of states.now) stand.now }
     requires held { S.holds states.now (ThreadsLane stand.now.cpu) }
     ensures { result ≡ has_kernel_apc (facts_of (S.lanes states.now) stand.now.thread).apcs }
 {
-    match stand.thread {
+    match stand.thread() {
         Some(_) => states.threads().has_kernel(runner(states, stand)),
         None => false,
     }

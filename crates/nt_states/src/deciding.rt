@@ -25,10 +25,9 @@ use crate::answers::LaneAnswers;
 use crate::replying::{reply, wait_reply};
 use crate::running::runner;
 use crate::thread_answers::ThreadAnswers;
-use nt_event::{
-    Begun, Command, CpuNo, DpcNo, Job, Part, Pick, Reply, Stand, ThreadNo, What, class,
-};
+use nt_event::{Begun, Command, CpuNo, DpcNo, Job, Part, Pick, Reply, ThreadNo, What, class};
 use nt_floor::ActRefusal;
+use nt_frame::StandView;
 
 /// Writes that a DPC of the part begins.
 fn begin_dpc(part: Part, dpc: DpcNo, from: u64, into: &mut What)
@@ -56,7 +55,7 @@ fn begin_apc(pick: &Pick, into: &mut What)
 ///
 /// NothingToDo comes where it is idle, with no ordinary DPC and a ready thread; BadChoice where the thread is not its own, or not
 /// ready. NoMemory never comes.
-pub fn decide<S: LaneAnswers>(states: &S, job: &Job, stand: &Stand) -> Result<What, ActRefusal>
+pub fn decide<S: LaneAnswers>(states: &S, job: &Job, stand: &StandView) -> Result<What, ActRefusal>
     requires can { CanDecide (S.script_of states.now) stand.now job.now }
     requires held { AreHeld (S.holds states.now) (job_lanes (S.script_of states.now) stand.now job.now) }
     ensures event { IfOk result (λ w. jobs.job_event (S.script_of states.now) stand.now (S.lanes states.now) job.now ≡ Some w) }
@@ -77,7 +76,7 @@ pub fn decide<S: LaneAnswers>(states: &S, job: &Job, stand: &Stand) -> Result<Wh
 pub fn decide_into<S: LaneAnswers>(
     states: &S,
     job: &Job,
-    stand: &Stand,
+    stand: &StandView,
     into: &mut What,
 ) -> Result<(), ActRefusal>
     requires can { CanDecide (S.script_of states.now) stand.now job.now }
@@ -99,14 +98,16 @@ pub fn decide_into<S: LaneAnswers>(
         Job::Switch(thread) => switch(states, stand, *thread, into)?,
         Job::Rewait => rewait(states, stand, into),
         Job::ToUser => to_user(states, stand, into),
-        Job::UserEnd | Job::Leave => *into = What::End { frame: stand.frame },
+        Job::UserEnd | Job::Leave => *into = What::End {
+            frame: stand.frame(),
+        },
         Job::Rundown => rundown(states, stand, into),
     }
     Ok(())
 }
 
 /// Writes that a routine calls the command.
-fn call<S: LaneAnswers>(states: &S, stand: &Stand, command: &Command, into: &mut What)
+fn call<S: LaneAnswers>(states: &S, stand: &StandView, command: &Command, into: &mut What)
     requires command { IsTrue (command_fits (S.script_of states.now) command.now) }
     requires stand { StandFits (S.script_of states.now) stand.now }
     requires own { RunsOwn (S.script_of states.now) stand.now }
@@ -116,7 +117,7 @@ fn call<S: LaneAnswers>(states: &S, stand: &Stand, command: &Command, into: &mut
     ensures named { IsTrue (what_fits (S.script_of states.now) into.new) }
 {
     *into = What::Call {
-        frame: stand.frame,
+        frame: stand.frame(),
         command: *command,
         reply: reply(states, stand, command),
     };
@@ -169,16 +170,16 @@ fn expire_first<S: LaneAnswers>(states: &S, into: &mut What) -> bool
 }
 
 /// Writes that the first due key expires, where a sweep is owed; else that the first ordinary DPC begins, or that the class is served.
-fn drain<S: LaneAnswers>(states: &S, stand: &Stand, into: &mut What)
+fn drain<S: LaneAnswers>(states: &S, stand: &StandView, into: &mut What)
     requires stand { StandFits (S.script_of states.now) stand.now }
     requires held { AreHeld (S.holds states.now) (job_lanes (S.script_of states.now) stand.now Job.Drain) }
     ensures event { into.new ≡ jobs.drain_event stand.now (S.lanes states.now) }
     ensures named { IsTrue (what_fits (S.script_of states.now) into.new) }
 {
-    if stand.sweep && expire_first(states, into) {
+    if stand.sweep() && expire_first(states, into) {
         return;
     }
-    if !begin_first(states, Part::Ordinary, stand.cpu, into) {
+    if !begin_first(states, Part::Ordinary, stand.cpu(), into) {
         *into = What::Clean {
             class: class::DISPATCH,
         };
@@ -186,7 +187,7 @@ fn drain<S: LaneAnswers>(states: &S, stand: &Stand, into: &mut What)
 }
 
 /// Writes that the first kernel APC begins, where it is deliverable; else that the class is served.
-fn apcs<S: LaneAnswers>(states: &S, stand: &Stand, into: &mut What)
+fn apcs<S: LaneAnswers>(states: &S, stand: &StandView, into: &mut What)
     requires stand { StandFits (S.script_of states.now) stand.now }
     requires own { RunsOwn (S.script_of states.now) stand.now }
     requires runs { IsSome stand.now.thread }
@@ -196,7 +197,7 @@ fn apcs<S: LaneAnswers>(states: &S, stand: &Stand, into: &mut What)
 {
     match states
         .threads()
-        .deliverable(runner(states, stand), stand.regions, stand.level)
+        .deliverable(runner(states, stand), stand.regions(), stand.level())
     {
         Some(pick) => begin_apc(&pick, into),
         None => *into = What::Clean { class: class::APC },
@@ -204,13 +205,13 @@ fn apcs<S: LaneAnswers>(states: &S, stand: &Stand, into: &mut What)
 }
 
 /// Writes that the first threaded DPC begins, or that the class is served.
-fn threaded<S: LaneAnswers>(states: &S, stand: &Stand, into: &mut What)
+fn threaded<S: LaneAnswers>(states: &S, stand: &StandView, into: &mut What)
     requires stand { StandFits (S.script_of states.now) stand.now }
     requires queue { S.holds states.now (QueueLane stand.now.cpu) }
     ensures event { into.new ≡ jobs.threaded_event stand.now (S.lanes states.now) }
     ensures named { IsTrue (what_fits (S.script_of states.now) into.new) }
 {
-    if !begin_first(states, Part::Threaded, stand.cpu, into) {
+    if !begin_first(states, Part::Threaded, stand.cpu(), into) {
         *into = What::Clean {
             class: class::THREADED,
         };
@@ -220,7 +221,7 @@ fn threaded<S: LaneAnswers>(states: &S, stand: &Stand, into: &mut What)
 /// Writes that the first ordinary DPC begins, or that the processor rests where no thread is ready.
 ///
 /// NothingToDo comes where there is no such DPC and a thread is ready; then nothing was written.
-fn idle<S: LaneAnswers>(states: &S, stand: &Stand, into: &mut What) -> Result<(), ActRefusal>
+fn idle<S: LaneAnswers>(states: &S, stand: &StandView, into: &mut What) -> Result<(), ActRefusal>
     requires stand { StandFits (S.script_of states.now) stand.now }
     requires queue { S.holds states.now (QueueLane stand.now.cpu) }
     requires threads { S.holds states.now (ThreadsLane stand.now.cpu) }
@@ -229,10 +230,10 @@ fn idle<S: LaneAnswers>(states: &S, stand: &Stand, into: &mut What) -> Result<()
     ensures refused { IfErr result (λ r. (r ≡ ActRefusal.NothingToDo) × (jobs.idle_event (S.script_of states.now) stand.now (S.lanes states.now) ≡ None)) }
     ensures unwritten { OnErr result (into.new ≡ into.old) }
 {
-    if begin_first(states, Part::Ordinary, stand.cpu, into) {
+    if begin_first(states, Part::Ordinary, stand.cpu(), into) {
         return Ok(());
     }
-    rest(states, stand.cpu, into)
+    rest(states, stand.cpu(), into)
 }
 
 /// Writes that the processor rests, where no thread of it is ready.
@@ -252,7 +253,7 @@ fn rest<S: LaneAnswers>(states: &S, p: CpuNo, into: &mut What) -> Result<(), Act
 }
 
 /// Writes that the next ready thread is taken up; where none is ready, as [`idle`].
-fn pick<S: LaneAnswers>(states: &S, stand: &Stand, last: Option<ThreadNo>, into: &mut What)
+fn pick<S: LaneAnswers>(states: &S, stand: &StandView, last: Option<ThreadNo>, into: &mut What)
     requires stand { StandFits (S.script_of states.now) stand.now }
     requires queue { S.holds states.now (QueueLane stand.now.cpu) }
     requires threads { S.holds states.now (ThreadsLane stand.now.cpu) }
@@ -260,9 +261,9 @@ fn pick<S: LaneAnswers>(states: &S, stand: &Stand, last: Option<ThreadNo>, into:
     ensures taken { TakesOwn (S.script_of states.now) stand.now into.new }
     ensures named { IsTrue (what_fits (S.script_of states.now) into.new) }
 {
-    match states.threads().next_ready(stand.cpu, last) {
+    match states.threads().next_ready(stand.cpu(), last) {
         Some(thread) => switch_to(states, thread, into),
-        None => rest_or_begin(states, stand.cpu, into),
+        None => rest_or_begin(states, stand.cpu(), into),
     }
 }
 
@@ -296,7 +297,7 @@ fn switch_to<S: LaneAnswers>(states: &S, thread: ThreadNo, into: &mut What)
 /// BadChoice comes where it is not; then nothing was written.
 fn switch<S: LaneAnswers>(
     states: &S,
-    stand: &Stand,
+    stand: &StandView,
     thread: ThreadNo,
     into: &mut What,
 ) -> Result<(), ActRefusal>
@@ -307,7 +308,7 @@ fn switch<S: LaneAnswers>(
     ensures refused { IfErr result (λ r. (r ≡ ActRefusal.BadChoice) × (jobs.job_event (S.script_of states.now) stand.now (S.lanes states.now) (Job.Switch thread) ≡ None)) }
     ensures unwritten { OnErr result (into.new ≡ into.old) }
 {
-    if states.threads().may_take(stand.cpu, thread) {
+    if states.threads().may_take(stand.cpu(), thread) {
         switch_to(states, thread, into);
         Ok(())
     } else {
@@ -316,7 +317,7 @@ fn switch<S: LaneAnswers>(
 }
 
 /// Writes that the interrupted wait is taken up again.
-fn rewait<S: LaneAnswers>(states: &S, stand: &Stand, into: &mut What)
+fn rewait<S: LaneAnswers>(states: &S, stand: &StandView, into: &mut What)
     requires stand { StandFits (S.script_of states.now) stand.now }
     requires own { RunsOwn (S.script_of states.now) stand.now }
     requires runs { IsSome stand.now.thread }
@@ -325,10 +326,10 @@ fn rewait<S: LaneAnswers>(states: &S, stand: &Stand, into: &mut What)
     ensures event { jobs.job_event (S.script_of states.now) stand.now (S.lanes states.now) Job.Rewait ≡ Some into.new }
     ensures named { IsTrue (what_fits (S.script_of states.now) into.new) }
 {
-    match stand.again {
+    match stand.again() {
         Some(wait) => {
             *into = What::Rewait {
-                frame: stand.frame,
+                frame: stand.frame(),
                 reply: wait_reply(
                     states,
                     stand,
@@ -354,7 +355,7 @@ fn is_due<S: LaneAnswers>(states: &S, due: Option<u64>) -> Option<bool>
 }
 
 /// Writes that the first user APC begins, where one is due; else that the thread goes to user mode.
-fn to_user<S: LaneAnswers>(states: &S, stand: &Stand, into: &mut What)
+fn to_user<S: LaneAnswers>(states: &S, stand: &StandView, into: &mut What)
     requires stand { StandFits (S.script_of states.now) stand.now }
     requires own { RunsOwn (S.script_of states.now) stand.now }
     requires runs { IsSome stand.now.thread }
@@ -366,7 +367,7 @@ fn to_user<S: LaneAnswers>(states: &S, stand: &Stand, into: &mut What)
         Some(pick) => begin_apc(&pick, into),
         None => {
             *into = What::Call {
-                frame: stand.frame,
+                frame: stand.frame(),
                 command: Command::ToUser,
                 reply: Reply::Done,
             }
@@ -375,7 +376,7 @@ fn to_user<S: LaneAnswers>(states: &S, stand: &Stand, into: &mut What)
 }
 
 /// Writes that the leaving thread's first user APC is flushed; where there is none, that the thread is gone.
-fn rundown<S: LaneAnswers>(states: &S, stand: &Stand, into: &mut What)
+fn rundown<S: LaneAnswers>(states: &S, stand: &StandView, into: &mut What)
     requires stand { StandFits (S.script_of states.now) stand.now }
     requires own { RunsOwn (S.script_of states.now) stand.now }
     requires runs { IsSome stand.now.thread }

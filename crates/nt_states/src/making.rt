@@ -14,7 +14,8 @@ ghost use Rattle.nt_states.specs.Reads.{AreHeld};
 
 use crate::answers::LaneAnswers;
 use crate::thread_answers::ThreadAnswers;
-use nt_event::{Begun, Command, CpuNo, Event, Level, Reply, Stand, ThreadNo, What};
+use nt_event::{Begun, Command, CpuNo, Event, Level, Reply, ThreadNo, What};
+use nt_frame::StandView;
 
 /// The level after the call of a command.
 fn call_level(command: &Command, reply: &Reply, old: Level) -> Level
@@ -96,51 +97,51 @@ fn thread(what: &What, running: Option<ThreadNo>) -> Option<ThreadNo>
 }
 
 /// The event that does this, of a processor that stands so.
-pub fn event<S: LaneAnswers>(states: &S, stand: &Stand, what: &What) -> Event
+pub fn event<S: LaneAnswers>(states: &S, stand: &StandView, what: &What) -> Event
     requires given { IsGiven (S.script_of states.now) (S.lanes states.now) stand.now what.now }
     requires held { AreHeld (S.holds states.now) (what_lanes (S.script_of states.now) stand.now what.now (S.lanes states.now)) }
     ensures { result ≡ acting.acted_event stand.now (S.lanes states.now) what.now }
 {
     Event {
-        cpu: stand.cpu,
-        thread: thread(what, stand.thread),
+        cpu: stand.cpu(),
+        thread: thread(what, stand.thread()),
         level: level(states, stand, what),
         what: *what,
     }
 }
 
 /// Writes what an event of a processor that stands so has beside what it does, which stands in its place already.
-pub fn complete<S: LaneAnswers>(states: &S, stand: &Stand, event: &mut Event)
+pub fn complete<S: LaneAnswers>(states: &S, stand: &StandView, event: &mut Event)
     requires given { IsGiven (S.script_of states.now) (S.lanes states.now) stand.now event.old.what }
     requires held { AreHeld (S.holds states.now) (what_lanes (S.script_of states.now) stand.now event.old.what (S.lanes states.now)) }
     ensures { event.new ≡ acting.acted_event stand.now (S.lanes states.now) event.old.what }
 {
-    let thread = thread(&event.what, stand.thread);
+    let thread = thread(&event.what, stand.thread());
     let level = level(states, stand, &event.what);
-    event.cpu = stand.cpu;
+    event.cpu = stand.cpu();
     event.thread = thread;
     event.level = level;
 }
 
 /// The level after it.
-fn level<S: LaneAnswers>(states: &S, stand: &Stand, what: &What) -> Level
+fn level<S: LaneAnswers>(states: &S, stand: &StandView, what: &What) -> Level
     requires given { IsGiven (S.script_of states.now) (S.lanes states.now) stand.now what.now }
     requires held { AreHeld (S.holds states.now) (what_lanes (S.script_of states.now) stand.now what.now (S.lanes states.now)) }
     ensures { result ≡ acting.acted_level stand.now (S.lanes states.now) what.now }
 {
     match what {
-        What::Call { command, reply, .. } => call_level(command, reply, stand.level),
+        What::Call { command, reply, .. } => call_level(command, reply, stand.level()),
         What::Begin { begun, .. } => begin_level(begun),
-        What::Switch { thread, .. } => thread_level(states, stand.cpu, *thread),
-        What::Rewait { reply, .. } => rewait_level(reply, stand.level),
-        What::End { .. } => stand.after,
+        What::Switch { thread, .. } => thread_level(states, stand.cpu(), *thread),
+        What::Rewait { reply, .. } => rewait_level(reply, stand.level()),
+        What::End { .. } => stand.after(),
         What::Flush { .. } | What::Gone { .. } => Level::PASSIVE,
         What::Look { .. }
         | What::Normal { .. }
         | What::Expire { .. }
         | What::Fire { .. }
         | What::Clean { .. }
-        | What::Rest => stand.level,
+        | What::Rest => stand.level(),
     }
 }
 

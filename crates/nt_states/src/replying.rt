@@ -15,10 +15,11 @@ ghost use Rattle.nt_states.specs.Reads.{AreHeld, reply_lanes};
 use crate::answers::LaneAnswers;
 use crate::running::runner;
 use crate::thread_answers::ThreadAnswers;
-use nt_event::{Command, Mode, Reply, Stand, ThreadNo};
+use nt_event::{Command, Mode, Reply, ThreadNo};
+use nt_frame::StandView;
 
 /// What a command that is not refused replies.
-pub(crate) fn reply<S: LaneAnswers>(states: &S, stand: &Stand, command: &Command) -> Reply
+pub(crate) fn reply<S: LaneAnswers>(states: &S, stand: &StandView, command: &Command) -> Reply
     requires command { IsTrue (command_fits (S.script_of states.now) command.now) }
     requires stand { StandFits (S.script_of states.now) stand.now }
     requires own { RunsOwn (S.script_of states.now) stand.now }
@@ -65,7 +66,7 @@ pub(crate) fn reply<S: LaneAnswers>(states: &S, stand: &Stand, command: &Command
 /// What a wait of the running thread replies; of a delay, its due time is reached or not.
 pub(crate) fn wait_reply<S: LaneAnswers>(
     states: &S,
-    stand: &Stand,
+    stand: &StandView,
     mode: Mode,
     alertable: bool,
     reached: Option<bool>,
@@ -78,8 +79,8 @@ pub(crate) fn wait_reply<S: LaneAnswers>(
 {
     states.threads().wait_reply(
         runner(states, stand),
-        stand.regions,
-        stand.level,
+        stand.regions(),
+        stand.level(),
         mode,
         alertable,
         reached,
@@ -105,7 +106,7 @@ fn was_alerted<S: LaneAnswers>(states: &S, t: ThreadNo, mode: Mode) -> bool
 }
 
 /// Whether the running thread's flag is set.
-fn is_alerted<S: LaneAnswers>(states: &S, stand: &Stand, mode: Mode) -> bool
+fn is_alerted<S: LaneAnswers>(states: &S, stand: &StandView, mode: Mode) -> bool
     requires stand { StandFits (S.script_of states.now) stand.now }
     requires own { RunsOwn (S.script_of states.now) stand.now }
     requires runs { IsSome stand.now.thread }

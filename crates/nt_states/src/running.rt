@@ -7,10 +7,11 @@ ghost use Rattle.nt_floor.specs.Acts.{StandFits};
 ghost use Rattle.nt_states.specs.Given.{RunsOwn};
 
 use crate::answers::LaneAnswers;
-use nt_event::{Stand, ThreadNo};
+use nt_event::ThreadNo;
+use nt_frame::StandView;
 
 /// The thread that runs, where one does: its lane is the one of the processor's threads.
-pub(crate) fn runner<S: LaneAnswers>(states: &S, stand: &Stand) -> ThreadNo
+pub(crate) fn runner<S: LaneAnswers>(states: &S, stand: &StandView) -> ThreadNo
     requires stand { StandFits (S.script_of states.now) stand.now }
     requires own { RunsOwn (S.script_of states.now) stand.now }
     requires runs { IsSome stand.now.thread }
@@ -20,7 +21,7 @@ pub(crate) fn runner<S: LaneAnswers>(states: &S, stand: &Stand) -> ThreadNo
     ensures held { S.holds states.now (ThreadsLane (routines.cpu_of (S.script_of states.now) result)) }
 {
     let _states = states;
-    match stand.thread {
+    match stand.thread() {
         Some(t) => t,
         None => unreachable!(),
     }

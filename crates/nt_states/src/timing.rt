@@ -3,13 +3,14 @@ ghost use Rattle.std.specs.Prelude.{◌≡◌, ◌+◌, ◌-◌, ◌≤◌, ◌<
 ghost use Rattle.nt_event.specs.declared.scripts.Script.{Script};
 ghost use Rattle.nt_states.specs.Timed.{CallMayTime, MayTime, call_timed, delayed, timed};
 
-use nt_event::{Again, Command, Event, Reply, Stand, ThreadNo, What};
+use nt_event::{Again, Command, Event, Reply, ThreadNo, What};
+use nt_frame::StandView;
 use nt_timer::TimerQueue;
 
 /// Takes in the event of this number, of a processor that stood so: the timers are then as it leaves them.
 ///
 /// The event is one that a job gives in these timers. The time stays below 2^50, and grows by less than 2^32.
-pub fn leave_timers(timers: &mut TimerQueue, n: u64, stand: &Stand, event: &Event)
+pub fn leave_timers(timers: &mut TimerQueue, n: u64, stand: &StandView, event: &Event)
     requires may { (s : Script) × MayTime s timers.old event.now event.now.what }
     requires time { timers.old.now + 2 ^ 32 ≤ 2 ^ 50 }
     ensures timers { timers.new ≡ timed n stand.now event.now.thread event.now.what timers.old }
@@ -20,7 +21,7 @@ pub fn leave_timers(timers: &mut TimerQueue, n: u64, stand: &Stand, event: &Even
         What::Rewait {
             reply: Reply::Blocked,
             ..
-        } => leave_delay(timers, n, event.thread, due(stand.again)),
+        } => leave_delay(timers, n, event.thread, due(stand.again())),
         What::Expire { key, .. } => {
             timers.expire(*key, n);
         }

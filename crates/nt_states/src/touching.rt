@@ -14,9 +14,10 @@ ghost use Rattle.nt_states.specs.Reads.{AreHeld, found_lanes};
 
 use crate::answers::LaneAnswers;
 use nt_event::{
-    ApcKind, ApcNo, Begun, Body, Command, CpuNo, DpcNo, Lane, Reply, Stand, ThreadNo, TimerKey,
-    What, class,
+    ApcKind, ApcNo, Begun, Body, Command, CpuNo, DpcNo, Lane, Reply, ThreadNo, TimerKey, What,
+    class,
 };
+use nt_frame::StandView;
 use std::marker::Model;
 
 /// The lanes that an event touches: at most three.
@@ -99,32 +100,32 @@ impl Touched {
 }
 
 /// The lanes of the begin of a routine.
-fn begin_lanes(stand: &Stand, begun: &Begun) -> Touched
+fn begin_lanes(stand: &StandView, begun: &Begun) -> Touched
     ensures { result ≡ lanes.begin_lanes stand.now begun.now }
 {
     match begun {
         Begun::Int(_) => Touched::none(),
         Begun::Dpc(d) => Touched::three_if(
-            stand.sweep,
+            stand.sweep(),
             Lane::Object(*d),
-            Lane::Queue(stand.cpu),
+            Lane::Queue(stand.cpu()),
             Lane::Timers,
         ),
-        Begun::Threaded(d) => Touched::two(Lane::Object(*d), Lane::Queue(stand.cpu)),
-        Begun::Apc(_) => Touched::one(Lane::Threads(stand.cpu)),
+        Begun::Threaded(d) => Touched::two(Lane::Object(*d), Lane::Queue(stand.cpu())),
+        Begun::Apc(_) => Touched::one(Lane::Threads(stand.cpu())),
     }
 }
 
 /// The lanes of the end of serving a class.
-fn clean_lanes(stand: &Stand, served: u8) -> Touched
+fn clean_lanes(stand: &StandView, served: u8) -> Touched
     ensures { result ≡ lanes.clean_lanes stand.now served }
 {
     if served == class::APC {
-        Touched::one(Lane::Threads(stand.cpu))
+        Touched::one(Lane::Threads(stand.cpu()))
     } else {
         Touched::two_if(
-            stand.sweep && served == class::DISPATCH,
-            Lane::Queue(stand.cpu),
+            stand.sweep() && served == class::DISPATCH,
+            Lane::Queue(stand.cpu()),
             Lane::Timers,
         )
     }
@@ -146,17 +147,17 @@ fn end_lanes(cpu: CpuNo, body: &Option<Body>) -> Touched
 }
 
 /// Whether the wait that is taken up again has a due time.
-fn has_due(stand: &Stand) -> bool
+fn has_due(stand: &StandView) -> bool
     ensures { result ≡ is_some (option_and_then (λ w. w.due) stand.now.again) }
 {
-    match stand.again {
+    match stand.again() {
         Some(wait) => wait.due.is_some(),
         None => false,
     }
 }
 
 /// The lanes that an event touches, of a processor that stands so.
-pub fn event_lanes<S: LaneAnswers>(states: &S, stand: &Stand, what: &What) -> Touched
+pub fn event_lanes<S: LaneAnswers>(states: &S, stand: &StandView, what: &What) -> Touched
     requires given { IsGiven (S.script_of states.now) (S.lanes states.now) stand.now what.now }
     requires held { AreHeld (S.holds states.now) (found_lanes what.now) }
     ensures lanes { result ≡ lanes.what_lanes (S.script_of states.now) stand.now what.now (S.lanes states.now) }
@@ -167,15 +168,15 @@ pub fn event_lanes<S: LaneAnswers>(states: &S, stand: &Stand, what: &What) -> To
         What::Begin { begun, .. } => begin_lanes(stand, begun),
         What::Clean { class } => clean_lanes(stand, *class),
         What::Expire { key, .. } => expire_lanes(states, key),
-        What::Fire { dpc, reply } => insert_lanes(states, stand.cpu, *dpc, reply),
+        What::Fire { dpc, reply } => insert_lanes(states, stand.cpu(), *dpc, reply),
         What::Switch { .. } | What::Rest => {
-            Touched::two(Lane::Queue(stand.cpu), Lane::Threads(stand.cpu))
+            Touched::two(Lane::Queue(stand.cpu()), Lane::Threads(stand.cpu()))
         }
         What::Rewait { .. } => {
-            Touched::two_if(has_due(stand), Lane::Threads(stand.cpu), Lane::Timers)
+            Touched::two_if(has_due(stand), Lane::Threads(stand.cpu()), Lane::Timers)
         }
-        What::End { .. } => end_lanes(stand.cpu, &stand.body),
-        What::Flush { .. } | What::Gone { .. } => Touched::one(Lane::Threads(stand.cpu)),
+        What::End { .. } => end_lanes(stand.cpu(), &stand.body()),
+        What::Flush { .. } | What::Gone { .. } => Touched::one(Lane::Threads(stand.cpu())),
         What::Look { .. } | What::Normal { .. } => Touched::none(),
     }
 }
@@ -183,7 +184,7 @@ pub fn event_lanes<S: LaneAnswers>(states: &S, stand: &Stand, what: &What) -> To
 /// The lanes of a call.
 fn call_lanes<S: LaneAnswers>(
     states: &S,
-    stand: &Stand,
+    stand: &StandView,
     command: &Command,
     reply: &Reply,
 ) -> Touched
@@ -196,7 +197,7 @@ fn call_lanes<S: LaneAnswers>(
     if reply.is_refused() {
         Touched::none()
     } else {
-        command_lanes(states, stand.cpu, command, reply)
+        command_lanes(states, stand.cpu(), command, reply)
     }
 }
 

@@ -11,7 +11,8 @@ use crate::Threads;
 use crate::making::make;
 use crate::marks::mark;
 use crate::telling::{named_thread, tell};
-use nt_event::{Event, Stand, ThreadNo, What};
+use nt_event::{Event, ThreadNo, What};
+use nt_frame::StandView;
 
 impl<'s> Threads<'s> {
     /// Takes in the event of this number, of a processor that stood so: the thread that it names changes, or else the one that makes
@@ -19,7 +20,7 @@ impl<'s> Threads<'s> {
     ///
     /// The event is one that a job gives in these states, as the answers of the other calls say: a Switch takes up a ready thread of
     /// the processor with its status, a wait has the reply of [`Threads::wait_reply`], an APC begins where it is due, and so on.
-    pub fn leave(&mut self, n: u64, stand: &Stand, event: &Event)
+    pub fn leave(&mut self, n: u64, stand: &StandView, event: &Event)
         requires { MayLeave self.old stand.now event.now }
         ensures { self.new ≡ left n stand.now event.now self.old }
     {
@@ -30,7 +31,7 @@ impl<'s> Threads<'s> {
     }
 
     /// The same, of an event that names no thread.
-    fn make_event(&mut self, n: u64, stand: &Stand, event: &Event)
+    fn make_event(&mut self, n: u64, stand: &StandView, event: &Event)
         requires may { MayLeave self.old stand.now event.now }
         requires none { thread_of self.old.script event.now.what ≡ None }
         ensures { self.new ≡ left n stand.now event.now self.old }
@@ -42,7 +43,7 @@ impl<'s> Threads<'s> {
     }
 
     /// The state of the thread that makes the event changes.
-    fn make(&mut self, t: ThreadNo, n: u64, stand: &Stand, what: &What)
+    fn make(&mut self, t: ThreadNo, n: u64, stand: &StandView, what: &What)
         requires thread { IsTrue (has_thread self.old.script t) }
         requires none { thread_of self.old.script what.now ≡ None }
         requires may { CanMake stand.now what.now (facts_in self.old t) }

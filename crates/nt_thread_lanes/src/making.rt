@@ -6,11 +6,12 @@ ghost use Rattle.nt_event.specs.declared.scripts.Script.{Script as Declared};
 ghost use Rattle.nt_event.specs.Waits.{frame_ended, made_facts};
 ghost use Rattle.nt_states.specs.ThreadFits.{CanMake, TakesUp, is_over as over, over_if};
 
-use nt_event::{ApcKind, Begun, Body, Command, Mode, Pick, Reply, Script, Stand, What};
+use nt_event::{ApcKind, Begun, Body, Command, Mode, Pick, Reply, Script, What};
+use nt_frame::StandView;
 use nt_thread::{ThreadState, WaitSpec};
 
 /// Changes the state of the thread that makes the event, by the event's number and where its processor stood.
-pub fn make(state: &mut ThreadState, script: &Script, n: u64, stand: &Stand, what: &What)
+pub fn make(state: &mut ThreadState, script: &Script, n: u64, stand: &StandView, what: &What)
     requires { CanMake stand.now what.now state.old }
     ensures { state.new ≡ made_facts script.now n stand.now what.now state.old }
 {
@@ -21,7 +22,7 @@ pub fn make(state: &mut ThreadState, script: &Script, n: u64, stand: &Stand, wha
         What::Call { command, reply, .. } => call(state, n, stand, command, reply),
         What::Rewait { reply, .. } => rewait(state, n, stand, reply),
         What::Begin { begun, from } => begin(state, script, begun, *from),
-        What::End { .. } => end(state, &stand.body),
+        What::End { .. } => end(state, &stand.body()),
         What::Flush { .. } => {
             let _ = state.flush();
         }
@@ -35,7 +36,7 @@ pub fn make(state: &mut ThreadState, script: &Script, n: u64, stand: &Stand, wha
     }
 }
 
-fn call(state: &mut ThreadState, n: u64, stand: &Stand, command: &Command, reply: &Reply)
+fn call(state: &mut ThreadState, n: u64, stand: &StandView, command: &Command, reply: &Reply)
     requires { CanMake stand.now (Call 0 command.now reply.now) state.old }
     ensures { (s : Declared) (f : ℕ) → state.new ≡ made_facts s n stand.now (Call f command.now reply.now) state.old }
 {
@@ -47,7 +48,7 @@ fn call(state: &mut ThreadState, n: u64, stand: &Stand, command: &Command, reply
                 reached: None,
                 set: n,
             };
-            let _ = state.wait(spec, stand.regions, stand.level);
+            let _ = state.wait(spec, stand.regions(), stand.level());
         }
         Command::Delay(mode, alertable, _) => {
             let spec = WaitSpec {
@@ -56,12 +57,12 @@ fn call(state: &mut ThreadState, n: u64, stand: &Stand, command: &Command, reply
                 reached: Some(is_over(reply)),
                 set: n,
             };
-            let _ = state.wait(spec, stand.regions, stand.level);
+            let _ = state.wait(spec, stand.regions(), stand.level());
         }
         Command::TestAlert(mode) => {
             let _ = state.test_alert(*mode);
         }
-        Command::Yield => state.give_way(stand.level),
+        Command::Yield => state.give_way(stand.level()),
         Command::Raise(_)
         | Command::Lower(_)
         | Command::Queue(_)
@@ -102,18 +103,18 @@ fn reached(delay: bool, reply: &Reply) -> Option<bool>
     if delay { Some(is_over(reply)) } else { None }
 }
 
-fn rewait(state: &mut ThreadState, n: u64, stand: &Stand, reply: &Reply)
+fn rewait(state: &mut ThreadState, n: u64, stand: &StandView, reply: &Reply)
     requires { TakesUp stand.now reply.now state.old }
     ensures { (s : Declared) (f : ℕ) → state.new ≡ made_facts s n stand.now (Rewait f reply.now) state.old }
 {
-    if let Some(wait) = stand.again {
+    if let Some(wait) = stand.again() {
         let spec = WaitSpec {
             mode: wait.mode,
             alertable: wait.alertable,
             reached: reached(wait.due.is_some(), reply),
             set: n,
         };
-        let _ = state.wait(spec, stand.regions, stand.level);
+        let _ = state.wait(spec, stand.regions(), stand.level());
     }
 }
 

@@ -4,7 +4,7 @@ ghost use Rattle.nt_frame.specs.Calls.{MayCallAll};
 use nt_event::{
     Again, ApcKind, ApcNo, Body, Command, CpuNo, DpcNo, Mode, Region, Regions, Stand, ThreadNo,
 };
-use nt_frame::{FrameAnswer, FrameCall, FrameView, Frames, perform_all};
+use nt_frame::{FrameAnswer, FrameCall, FrameView, Frames, StandView, perform_all};
 use nt_level::Level;
 use std::io;
 
@@ -65,8 +65,20 @@ fn write_innermost(rt: HostRuntime, frame: Option<FrameView>) -> io::Result<()> 
 }
 
 /// Writes where a processor stands that owes a sweep.
-fn write_stand(rt: HostRuntime, stand: Stand) -> io::Result<()> {
-    println!(rt; "  {stand:?}")
+fn write_stand(rt: HostRuntime, stand: &StandView) -> io::Result<()> {
+    let answers = Stand {
+        cpu: stand.cpu(),
+        thread: stand.thread(),
+        frame: stand.frame(),
+        body: stand.body(),
+        level: stand.level(),
+        regions: stand.regions(),
+        below: stand.below(),
+        after: stand.after(),
+        again: stand.again(),
+        sweep: stand.sweep(),
+    };
+    println!(rt; "  {answers:?}")
 }
 
 /// Writes what the frames tell.
@@ -77,7 +89,7 @@ fn write_questions(rt: HostRuntime, frames: &Frames) -> io::Result<()> {
     write_regions(rt, frames.regions(), "")?;
     write_regions(rt, frames.below(), " then")?;
     write_innermost(rt, frames.innermost())?;
-    write_stand(rt, frames.stand(CpuNo(0), true))
+    write_stand(rt, &StandView::new(CpuNo(0), frames, true))
 }
 
 /// Writes why the command would be refused, if it would.

@@ -1,5 +1,5 @@
 -- The level that a case answers is the event's.
-use Rattle.std.proofs.Common.{ap, refl, sym, ◌∙◌}
+use Rattle.std.proofs.Common.{ap, sym, ◌∙◌}
 use Rattle.nt_event.specs.declared.events.What.{What}
 use Rattle.nt_event.specs.Acting.{acted_level}
 use Rattle.nt_states.proofs.making.level.Goals as goal
@@ -7,7 +7,7 @@ use Rattle.nt_states.proofs.making.level.Goals as goal
 pub returns-in-Call : goal.returns-in-Call
 returns-in-Call g c =
     let l = g.S.LaneAnswers.lanes c.args.states.now in
-    c.call_level.ensures c.in-Call.frame c.args.stand.now l refl ∙ ap (λ (w : What). acted_level c.args.stand.now l w) (sym c.in-Call.is)
+    c.call_level.ensures c.in-Call.frame c.args.stand.now l (sym c.level.ensures) ∙ ap (λ (w : What). acted_level c.args.stand.now l w) (sym c.in-Call.is)
 
 pub returns-in-Begin : goal.returns-in-Begin
 returns-in-Begin g c =
