@@ -1,5 +1,5 @@
 -- The events of a history that is read, one by one.
-use Rattle.std.proofs.Common.{◌≡◌, ◌∙◌, ℕ, zero, suc, ◌<◌, ◌≤◌, Bool, true, false, List, [], ◌∷◌, length, get_or, Option, Some, None, refl, sym, ap, subst, arith}
+use Rattle.std.proofs.Common.{◌≡◌, ◌∙◌, ℕ, zero, suc, ◌<◌, ◌≤◌, Bool, true, List, [], ◌∷◌, length, get_or, Option, Some, None, refl, sym, ap, subst, arith}
 use Rattle.std.specs.Prelude.{IfSome, ◌&&◌, nat_lt, option_map, slice_set, if◌then◌else◌}
 use Rattle.std.proofs.lemmas.Bool.{and_parts, lt-ltb}
 use Rattle.std.proofs.lemmas.List.{get_or-map}
@@ -20,8 +20,8 @@ use Rattle.nt_history.specs.Briefs.{event_in, event_of, events_in, no_rises, val
 use Rattle.nt_history.proofs.Lists.{as_many}
 use Rattle.nt_print.specs.declared.inserts.Object.{Object}
 use Rattle.nt_print.specs.Tally.{named_after}
-use Rattle.nt_print.specs.Uses.{inserted_at, is_it, thing_fits, thing_of, with_named}
-use Rattle.nt_print.proofs.Tables.{inserted_read}
+use Rattle.nt_print.specs.Uses.{inserted_at, is_it, thing_fits, thing_of}
+use Rattle.nt_print.proofs.Past.{inserted_read}
 
 pub below : (bs : List Brief) (rises : List Rises) (k : ℕ) → k < length bs → k < length (events_in bs rises)
 below bs rises k lt = let many = as_many bs rises in omega (arith, many, lt)
@@ -35,16 +35,6 @@ event_at bs rises k b lt = sym (get_or-map (event_in rises) bs k b (event_in ris
 pub inserts_at : (bs : List Brief) (rises : List Rises) (k : ℕ) (b : Brief) → k < length bs →
     inserted_thing (event_in rises (get_or bs k b)).what ≡ inserted_at (events_in bs rises) k
 inserts_at bs rises k b lt = inserted_read (events_in bs rises) k (event_in rises (get_or bs k b)) (below bs rises k lt) (event_at bs rises k b lt)
-
--- the table when an event named an insert, where it is told whether the event of that number inserts the thing
-pub named_by_it : (bs : List Brief) (rises : List Rises) (k : ℕ) (i : Inserted) (b : Brief) (o : Option Inserted) (table : List Bool) (so : Bool) →
-    i.number < k → k ≤ length bs → Some i ≡ o → so ≡ is_it i.thing (inserted_thing (event_in rises (get_or bs i.number b)).what) →
-    (if so then slice_set table i.number false else table) ≡ with_named (events_in bs rises) k o table
-named_by_it bs rises k i b o table so lt le at h =
-    let both : so ≡ (nat_lt i.number k && is_it i.thing (inserted_at (events_in bs rises) i.number)) =
-    h ∙ ap (is_it i.thing) (inserts_at bs rises i.number b (omega (arith, lt, le)))
-    ∙ ap (λ (x : Bool). x && is_it i.thing (inserted_at (events_in bs rises) i.number)) (sym (lt-ltb i.number k lt)) in
-    ap (λ (x : Bool). if x then slice_set table i.number false else table) both ∙ ap (λ (x : Option Inserted). with_named (events_in bs rises) k x table) at
 
 -- the flags when an event named an insert, where it is told whether the event of that number inserts the thing
 pub flagged_by_it : (bs : List Brief) (rises : List Rises) (k : ℕ) (i : Inserted) (b : Brief) (flags : List Bool) (so : Bool) →

@@ -2,7 +2,7 @@ mod Lent
 mod CutRows
 mod Counted
 mod Fates
-mod Tables
+mod Past
 mod WaitRows
 mod Tallied
 mod Turns

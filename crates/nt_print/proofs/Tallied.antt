@@ -1,78 +1,20 @@
 -- The tally with one event more, which comes before those that are tallied.
-use Rattle.std.proofs.Common.{◌≡◌, ◌≢◌, ◌∙◌, ℕ, ◌+◌, ◌<◌, ◌≤◌, Bool, true, false, List, [], ◌∷◌, ◌++◌, append_assoc, length, get_or, set, take, drop, reverse, Option, Some, None, refl, sym, ap, subst, arith}
-use Rattle.std.specs.Prelude.{◌&&◌, ◌||◌, ◌==◌, IfSome, cond, not, nat_lt, filter, if◌then◌else◌}
+use Rattle.std.proofs.Common.{◌≡◌, ◌≢◌, ◌∙◌, ℕ, ◌+◌, ◌<◌, ◌≤◌, Bool, true, false, List, ◌∷◌, length, get_or, set, take, drop, reverse, Option, Some, None, refl, sym, ap, subst, arith}
+use Rattle.std.specs.Prelude.{◌&&◌, ◌||◌, ◌==◌, IfSome, cond, is_some, not, nat_lt, filter, if◌then◌else◌}
 use Rattle.std.proofs.lemmas.Bool.{eqb-false, eqb-true, le-ltb, lt-ltb, ltb-true}
-use Rattle.std.proofs.lemmas.List.{drop_more, get_or-set_other, get_or-set_same, length-append, length-set, reverse-append, take-append-drop}
+use Rattle.std.proofs.lemmas.List.{drop_more, get_or-set_other, get_or-set_same, length-append, length-set}
 use Rattle.std.proofs.lemmas.List.Sums.{sum_by-drop_more}
 use Rattle.nt_event.specs.declared.events.Event.{Event}
 use Rattle.nt_event.specs.declared.events.What.{What}
 use Rattle.nt_event.specs.declared.scripts.Script.{Script}
-use Rattle.nt_event.specs.Fate.{ApcThing, DpcThing, Inserted, Thing, fate_of, inserted_by, inserted_thing, inserts, still_waits, uses_up}
+use Rattle.nt_event.specs.Fate.{ApcThing, DpcThing, Inserted, Thing, fate_of, inserted_by, inserted_thing, inserts, still_waits}
 use Rattle.nt_print.specs.declared.tally.Tally.{Tally}
 use Rattle.nt_print.specs.Summary.{how_many, is_begin, is_call, is_refused_call}
-use Rattle.nt_print.specs.Tally.{Counts, HasFlags, Tallies, Used, counted_if, is_removed, named_after, named_in, removed_apcs, removed_dpcs, removed_in, waits_after, waits_before, waits_in, with_what}
+use Rattle.nt_print.specs.Tally.{Counts, HasFlags, Tallies, TellsWaiting, Used, counted_if, is_removed, is_waiting, named_after, named_in, removed_apcs, removed_dpcs, removed_in, waiting_after, waits_after, waits_before, waits_in, with_what}
 use Rattle.nt_print.specs.Uses.{inserted_at, is_it, named_by, names_it, removed_by, removes_it, same_thing, thing_fits, waits_at}
-use Rattle.nt_print.proofs.Fates.{both_wait, uses_split}
-use Rattle.nt_print.proofs.Tables.{inserted_read, past_length}
+use Rattle.nt_print.proofs.Fates.{and_true, waits_unused}
+use Rattle.nt_print.proofs.Past.{below_next, inserted_read}
 use Rattle.nt_print.proofs.WaitRows.{waiting_more}
-
--- ---- the fate of an insert, by the events behind it
-
-and_true : (b : Bool) → (b && true) ≡ b
-and_true true = refl
-and_true false = refl
-
--- waits: it waited so far; n, r: the next event names it, or removes its thing; m, s: one of the events behind that does
-unused : (waits n r m s : Bool) → ((waits && not (n || r)) && not (m || s)) ≡ (waits && not ((n || m) || (r || s)))
-unused false n r m s = refl
-unused true true r m s = refl
-unused true false true true s = refl
-unused true false true false s = refl
-unused true false false m s = refl
-
--- an insert waits behind one event more, where that doesn't use it up
-one_later : (thing : Thing) (n : ℕ) (e : Event) (past : List Event) → n < length past → still_waits (fate_of thing n (e ∷ past))
-    ≡ (still_waits (fate_of thing n past) && not (names_it (named_by e.what) thing n || removes_it (removed_by e.what) thing))
-one_later thing n e past lt =
-    let m : ℕ = length past in
-    let waits : Bool = still_waits (fate_of thing n past) in
-    both_wait (fate_of thing n past) (nat_lt n m && uses_up thing n e.what) e.what m
-    ∙ ap (λ (b : Bool). waits && not (b && uses_up thing n e.what)) (lt-ltb n m lt)
-    ∙ ap (λ (b : Bool). waits && not b) (uses_split thing n e.what)
-
--- an insert waits behind later events, where none of them uses it up
-all_later : (thing : Thing) (n : ℕ) (later past : List Event) → n < length past → still_waits (fate_of thing n (reverse later ++ past))
-    ≡ (still_waits (fate_of thing n past) && not (named_in thing n later || removed_in thing later))
-all_later thing n [] past lt = sym (and_true (still_waits (fate_of thing n past)))
-all_later thing n (e ∷ later) past lt =
-    let order : reverse (e ∷ later) ++ past ≡ reverse later ++ (e ∷ past) =
-    ap (λ (xs : List Event). xs ++ past) (reverse-append (e ∷ []) later) ∙ append_assoc (reverse later) (e ∷ []) past in
-    ap (λ (xs : List Event). still_waits (fate_of thing n xs)) order
-    ∙ all_later thing n later (e ∷ past) (omega (arith, lt))
-    ∙ ap (λ (b : Bool). b && not (named_in thing n later || removed_in thing later)) (one_later thing n e past lt)
-    ∙ unused (still_waits (fate_of thing n past)) (names_it (named_by e.what) thing n) (removes_it (removed_by e.what) thing)
-    (named_in thing n later) (removed_in thing later)
-
--- up to its own event an insert waits
-waits_at_first : (thing : Thing) (n : ℕ) (past : List Event) → length past ≤ n + 1 → still_waits (fate_of thing n past) ≡ true
-waits_at_first thing n [] l = refl
-waits_at_first thing n (e ∷ past) l =
-    both_wait (fate_of thing n past) (nat_lt n (length past) && uses_up thing n e.what) e.what (length past)
-    ∙ ap (λ (b : Bool). still_waits (fate_of thing n past) && not (b && uses_up thing n e.what)) (le-ltb n (length past) (omega (arith, l)))
-    ∙ ap (λ (b : Bool). b && true) (waits_at_first thing n past (omega (arith, l)))
-
--- an insert waits at the end where none of the events behind its own uses it up
-waits_unused : (thing : Thing) (events : List Event) (k : ℕ) → k < length events → still_waits (fate_of thing k (reverse events))
-    ≡ not (named_in thing k (drop (k + 1) events) || removed_in thing (drop (k + 1) events))
-waits_unused thing events k lt =
-    let past : List Event = reverse (take (k + 1) events) in
-    let later : List Event = drop (k + 1) events in
-    let len : length past ≡ k + 1 = past_length events (k + 1) (omega (arith, lt)) in
-    let split : reverse events ≡ reverse later ++ past =
-    ap reverse (sym (take-append-drop (k + 1) events)) ∙ reverse-append (take (k + 1) events) later in
-    ap (λ (xs : List Event). still_waits (fate_of thing k xs)) split
-    ∙ all_later thing k later past (omega (arith, len))
-    ∙ ap (λ (b : Bool). b && not (named_in thing k later || removed_in thing later)) (waits_at_first thing k past (omega (arith, len)))
 
 -- ---- how many inserts wait
 
@@ -97,6 +39,15 @@ removal_told : (s : Script) (events : List Event) (k : ℕ) (t : Tally) (thing :
 removal_told s events k t (DpcThing d) u fits = u.dpcs d.0 (ltb-true d.0 (length s.dpcs) fits)
 removal_told s events k t (ApcThing a) u fits = u.apcs a.0 (ltb-true a.0 (length s.apcs) fits)
 
+-- what is flagged is used up
+used_told : (s : Script) (events : List Event) (k : ℕ) (t : Tally) (thing : Thing) → Some thing ≡ inserted_at events k → Used s events (k + 1) t →
+    thing_fits s thing ≡ true → (named_in thing k (drop (k + 1) events) || removed_in thing (drop (k + 1) events))
+    ≡ (get_or t.named k false || is_removed t thing)
+used_told s events k t thing at u fits =
+    let named : get_or t.named k false ≡ named_in thing k (drop (k + 1) events) = u.named k thing (omega arith) (sym at) in
+    ap (λ (b : Bool). b || removed_in thing (drop (k + 1) events)) (sym named)
+    ∙ ap (λ (b : Bool). get_or t.named k false || b) (sym (removal_told s events (k + 1) t thing u fits))
+
 waits_step : (s : Script) (events : List Event) (k total : ℕ) (e : Event) (t : Tally) → k < length events → e ≡ get_or events k e →
     IfSome (inserted_thing e.what) (λ thing. thing_fits s thing ≡ true) → Used s events (k + 1) t → t.waits + waits_before events (k + 1) ≡ total →
     waits_after t k (inserted_thing e.what) + waits_before events k ≡ total
@@ -114,12 +65,8 @@ waits_step s events k total e t lt is fits u h = go (inserted_thing e.what) (ins
     go (Some thing) at f =
         let whole : waits_before events (k + 1) ≡ waits_before events k + length (inserted_by k (waits_at past k (Some thing))) =
         waits_more events k e lt is ∙ ap (λ (o : Option Thing). waits_before events k + length (inserted_by k (waits_at past k o))) (sym at) in
-        let named : get_or t.named k false ≡ named_in thing k (drop (k + 1) events) = u.named k thing (omega arith) (sym at) in
-        let used : (named_in thing k (drop (k + 1) events) || removed_in thing (drop (k + 1) events)) ≡ (get_or t.named k false || is_removed t thing) =
-        ap (λ (b : Bool). b || removed_in thing (drop (k + 1) events)) (sym named)
-        ∙ ap (λ (b : Bool). get_or t.named k false || b) (sym (removal_told s events (k + 1) t thing u f)) in
         counted_or_not (get_or t.named k false || is_removed t thing) (still_waits (fate_of thing k past)) thing k t.waits
-        (waits_before events k) (waits_before events (k + 1)) total (waits_unused thing events k lt ∙ ap not used) whole h
+        (waits_before events k) (waits_before events (k + 1)) total (waits_unused thing events k lt ∙ ap not (used_told s events k t thing at u f)) whole h
 
 few_waits : (t : Tally) (k m : ℕ) (o : Option Thing) → t.waits + (k + 1) ≤ m → waits_after t k o + k ≤ m
 few_waits t k m None h = omega (arith, h)
@@ -163,6 +110,85 @@ counts_step s events k e t lt is fits u c =
       few_begins = few_step (is_begin e.what) t.begins k (length events) c.few_begins;
       few_waits = few_waits t k (length events) (inserted_thing e.what) c.few_waits;
     }
+
+-- ---- which inserts wait
+
+waiting_step : (s : Script) (events : List Event) (k : ℕ) (e : Event) (t : Tally) → k < length events → e ≡ get_or events k e →
+    IfSome (inserted_thing e.what) (λ thing. thing_fits s thing ≡ true) → HasFlags s events t → Used s events (k + 1) t →
+    TellsWaiting events (k + 1) t.waiting → TellsWaiting events k (waiting_after t k (inserted_thing e.what))
+waiting_step s events k e t lt is fits f u tells n l = go (n == k) refl
+  where
+    past : List Event
+    past = reverse events
+
+    len : length t.waiting ≡ length events
+    len = f.waiting
+
+    other : (o : Option Thing) → n ≢ k → get_or (waiting_after t k o) n false ≡ get_or t.waiting n false
+    other None apart = refl
+    other (Some thing) apart = choice (get_or t.named k false || is_removed t thing)
+      where
+        choice : (b : Bool) → get_or (if b then t.waiting else set t.waiting k true) n false ≡ get_or t.waiting n false
+        choice true = refl
+        choice false = get_or-set_other t.waiting k n true false apart
+
+    here : (o : Option Thing) → o ≡ inserted_at events k → IfSome o (λ thing. thing_fits s thing ≡ true) → get_or t.waiting k false ≡ false →
+        get_or (waiting_after t k o) k false ≡ is_some (waits_at past k o)
+    here None at g h = h
+    here (Some thing) at g h = choice (get_or t.named k false || is_removed t thing) (still_waits (fate_of thing k past))
+        (waits_unused thing events k lt ∙ ap not (used_told s events k t thing at u g))
+      where
+        choice : (used waits : Bool) → waits ≡ not used → get_or (if used then t.waiting else set t.waiting k true) k false
+            ≡ is_some (if waits then Some thing else None)
+        choice true false w = h
+        choice false true w = get_or-set_same t.waiting k true false (omega (arith, lt, len))
+        choice true true w = absurd cc
+        choice false false w = absurd cc
+
+    go : (b : Bool) → (n == k) ≡ b → get_or (waiting_after t k (inserted_thing e.what)) n false ≡ (if nat_lt n k then false else is_waiting events n)
+    go true q =
+        let same : n ≡ k = eqb-true n k q in
+        let shut : get_or t.waiting k false ≡ false =
+        tells k lt ∙ ap (λ (b : Bool). if b then false else is_waiting events k) (lt-ltb k (k + 1) (omega arith)) in
+        let now : get_or (waiting_after t k (inserted_thing e.what)) k false ≡ (if nat_lt k k then false else is_waiting events k) =
+        here (inserted_thing e.what) (inserted_read events k e lt is) fits shut
+        ∙ ap (λ (o : Option Thing). is_some (waits_at past k o)) (inserted_read events k e lt is)
+        ∙ ap (λ (b : Bool). if b then false else is_waiting events k) (sym (le-ltb k k (omega arith))) in
+        subst (λ (m : ℕ). get_or (waiting_after t k (inserted_thing e.what)) m false ≡ (if nat_lt m k then false else is_waiting events m)) (sym same) now
+    go false q =
+        let apart : n ≢ k = eqb-false n k q in
+        let far : nat_lt n (k + 1) ≡ nat_lt n k = ap (nat_lt n) (omega arith) ∙ sym (below_next n k apart) in
+        other (inserted_thing e.what) apart ∙ tells n l ∙ ap (λ (b : Bool). if b then false else is_waiting events n) far
+
+waits_is : (past : List Event) (n : ℕ) (o : Option Thing) → is_some (waits_at past n o) ≡ true → waits_at past n o ≡ o
+waits_is past n None h = refl
+waits_is past n (Some thing) h = go (still_waits (fate_of thing n past)) h
+  where
+    go : (b : Bool) → is_some (if b then Some thing else None) ≡ true → (if b then Some thing else None) ≡ Some thing
+    go true h = refl
+    go false h = absurd cc
+
+waits_not : (past : List Event) (n : ℕ) (o : Option Thing) → is_some (waits_at past n o) ≡ false → waits_at past n o ≡ None
+waits_not past n None h = refl
+waits_not past n (Some thing) h = go (still_waits (fate_of thing n past)) h
+  where
+    go : (b : Bool) → is_some (if b then Some thing else None) ≡ false → (if b then Some thing else None) ≡ None
+    go true h = absurd cc
+    go false h = refl
+
+-- what is flagged waits, and what is not flagged doesn't
+waiting_told : (s : Script) (events : List Event) (n : ℕ) (t : Tally) → n < length events → Tallies s events 0 t →
+    get_or t.waiting n false ≡ is_waiting events n
+waiting_told s events n t lt a =
+    a.waiting n lt ∙ ap (λ (b : Bool). if b then false else is_waiting events n) (le-ltb n 0 (omega arith))
+
+pub told_waits : (s : Script) (events : List Event) (n : ℕ) (t : Tally) → n < length events → Tallies s events 0 t → get_or t.waiting n false ≡ true →
+    waits_at (reverse events) n (inserted_at events n) ≡ inserted_at events n
+told_waits s events n t lt a h = waits_is (reverse events) n (inserted_at events n) (sym (waiting_told s events n t lt a) ∙ h)
+
+pub told_waits_not : (s : Script) (events : List Event) (n : ℕ) (t : Tally) → n < length events → Tallies s events 0 t → get_or t.waiting n false ≡ false →
+    waits_at (reverse events) n (inserted_at events n) ≡ None
+told_waits_not s events n t lt a h = waits_not (reverse events) n (inserted_at events n) (sym (waiting_told s events n t lt a) ∙ h)
 
 -- ---- which inserts were named
 
@@ -241,6 +267,14 @@ used_step s events k e t lt is f u =
 
 -- ---- the flags
 
+length-waiting_after : (t : Tally) (k : ℕ) (o : Option Thing) → length (waiting_after t k o) ≡ length t.waiting
+length-waiting_after t k None = refl
+length-waiting_after t k (Some thing) = go (get_or t.named k false || is_removed t thing)
+  where
+    go : (b : Bool) → length (if b then t.waiting else set t.waiting k true) ≡ length t.waiting
+    go true = refl
+    go false = length-set t.waiting k true
+
 length-named_after : (events : List Event) (k : ℕ) (o : Option Inserted) (flags : List Bool) → length (named_after events k o flags) ≡ length flags
 length-named_after events k None flags = refl
 length-named_after events k (Some i) flags = go (nat_lt i.number k && is_it i.thing (inserted_at events i.number))
@@ -261,6 +295,7 @@ length-removed_apcs (Some (ApcThing x)) flags = length-set flags x.0 true
 
 flags_step : (s : Script) (events : List Event) (k : ℕ) (w : What) (t : Tally) → HasFlags s events t → HasFlags s events (with_what events k w t)
 flags_step s events k w t f = record {
+  waiting = length-waiting_after t k (inserted_thing w) ∙ f.waiting;
   named = length-named_after events k (named_by w) t.named ∙ f.named;
   dpcs = length-removed_dpcs (removed_by w) t.dpcs ∙ f.dpcs;
   apcs = length-removed_apcs (removed_by w) t.apcs ∙ f.apcs;
@@ -273,5 +308,6 @@ pub tally_step : (s : Script) (events : List Event) (k : ℕ) (e : Event) (t : T
 tally_step s events k e t lt is fits a = record {
   counts = counts_step s events k e t lt is fits a.used a.counts;
   used = used_step s events k e t lt is a.flags a.used;
+  waiting = waiting_step s events k e t lt is fits a.flags a.used a.waiting;
   flags = flags_step s events k e.what t a.flags;
 }

@@ -12,7 +12,7 @@ use Rattle.nt_text.proofs.RowTexts.{parts_put}
 use Rattle.nt_print.specs.Report.{wait_row}
 use Rattle.nt_print.specs.Tally.{waits_in}
 use Rattle.nt_print.specs.Uses.{inserted_at, waits_at}
-use Rattle.nt_print.proofs.Tables.{inserted_read, past_length, past_more}
+use Rattle.nt_print.proofs.Past.{inserted_read, past_length, past_more}
 
 -- the lines of the inserts of the events up to some, that wait behind all of them
 abbrev pub waits_so_far : NameLists → List Event → List Event → List Row

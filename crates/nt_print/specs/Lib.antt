@@ -3,6 +3,5 @@ pub mod Report
 pub mod Conditions
 pub mod Counts
 pub mod Uses
-pub mod Notes
 pub mod Summary
 pub mod Tally

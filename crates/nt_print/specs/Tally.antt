@@ -1,12 +1,12 @@
--- The tally of the events of a history from one on, which a summary takes from the last event back to the first.
-use Rattle.std.specs.Prelude.{◌≡◌, ℕ, ◌+◌, ◌<◌, ◌≤◌, ◌^◌, Bool, true, false, ◌&&◌, ◌||◌, nat_lt, List, [], ◌∷◌, drop, filter, get_or, length, reverse, slice_set, take, Option, Some, None, if◌then◌else◌}
+-- The tally of the events of a history from one on, which is taken from the last event back to the first.
+use Rattle.std.specs.Prelude.{◌≡◌, ℕ, ◌+◌, ◌<◌, ◌≤◌, ◌^◌, Bool, true, false, ◌&&◌, ◌||◌, nat_lt, List, [], ◌∷◌, drop, filter, get_or, is_some, length, reverse, slice_set, take, Option, Some, None, if◌then◌else◌}
 use Rattle.nt_event.specs.declared.events.Event.{Event}
 use Rattle.nt_event.specs.declared.events.What.{What}
 use Rattle.nt_event.specs.declared.scripts.Script.{Script}
 use Rattle.nt_event.specs.Fate.{ApcThing, DpcThing, Inserted, Thing, fate_of, inserted_thing, inserts, still_waits}
 use Rattle.nt_print.specs.declared.tally.Tally.{Tally}
 use Rattle.nt_print.specs.Summary.{how_many, is_begin, is_call, is_refused_call}
-use Rattle.nt_print.specs.Uses.{inserted_at, is_it, named_by, names_it, removed_by, removes_it}
+use Rattle.nt_print.specs.Uses.{inserted_at, is_it, named_by, names_it, removed_by, removes_it, waits_at}
 
 -- ---- what the events from one on did; the oldest comes first
 
@@ -40,6 +40,12 @@ abbrev pub waits_after : Tally → ℕ → Option Thing → ℕ
 waits_after t k None = t.waits
 waits_after t k (Some thing) = if get_or t.named k false || is_removed t thing then t.waits else t.waits + 1
 
+-- which inserts wait, where the event of this number inserted a thing
+abbrev pub waiting_after : Tally → ℕ → Option Thing → List Bool
+waiting_after t k None = t.waiting
+waiting_after t k (Some thing) = if get_or t.named k false || is_removed t thing then t.waiting
+    else slice_set t.waiting k true
+
 -- which inserts were named, where an event of this number named one
 abbrev pub named_after : List Event → ℕ → Option Inserted → List Bool → List Bool
 named_after events k None flags = flags
@@ -59,6 +65,7 @@ removed_apcs _ flags = flags
 abbrev pub with_use : List Event → ℕ → What → Tally → Tally
 with_use events k w t = record t {
   waits = waits_after t k (inserted_thing w);
+  waiting = waiting_after t k (inserted_thing w);
   named = named_after events k (named_by w) t.named;
   dpcs = removed_dpcs (removed_by w) t.dpcs;
   apcs = removed_apcs (removed_by w) t.apcs;
@@ -106,8 +113,18 @@ pub record Used (s : Script) (events : List Event) (k : ℕ) (t : Tally) : Type 
   pub apcs : (a : ℕ) → a < length s.apcs →
       get_or t.apcs a false ≡ removed_in (ApcThing (record { 0 = a })) (drop k events)
 
+-- the event of this number inserted a thing and the insert waits at the end
+abbrev pub is_waiting : List Event → ℕ → Bool
+is_waiting events n = is_some (waits_at (reverse events) n (inserted_at events n))
+
+-- which of the events from number k on are inserts that wait at the end
+abbrev pub TellsWaiting : List Event → ℕ → List Bool → Type 0
+TellsWaiting events k flags = (n : ℕ) → n < length events →
+    get_or flags n false ≡ (if nat_lt n k then false else is_waiting events n)
+
 -- the tally has a flag for each event, and for each object of the script
 pub record HasFlags (s : Script) (events : List Event) (t : Tally) : Type 0 where
+  pub waiting : length t.waiting ≡ length events
   pub named : length t.named ≡ length events
   pub dpcs : length t.dpcs ≡ length s.dpcs
   pub apcs : length t.apcs ≡ length s.apcs
@@ -116,4 +133,5 @@ pub record HasFlags (s : Script) (events : List Event) (t : Tally) : Type 0 wher
 pub record Tallies (s : Script) (events : List Event) (k : ℕ) (t : Tally) : Type 0 where
   pub counts : Counts events k t
   pub used : Used s events k t
+  pub waiting : TellsWaiting events k t.waiting
   pub flags : HasFlags s events t

@@ -1,6 +1,6 @@
--- What uses up inserts, as the printer keeps it: which inserts a Begin or Flush named, and where each object was
--- removed last.
-use Rattle.std.specs.Prelude.{◌≡◌, ℕ, ◌<◌, Bool, true, false, ◌&&◌, ◌||◌, ◌==◌, not, nat_lt, List, [], ◌∷◌, length, map, get_or, slice_set, Option, Some, None, if◌then◌else◌}
+-- What inserts things and what uses the inserts up, as the printer notes it: a Begin or Flush names an insert, and a call
+-- removes a thing.
+use Rattle.std.specs.Prelude.{ℕ, Bool, false, ◌&&◌, ◌==◌, List, map, get_or, Option, Some, None, if◌then◌else◌}
 use Rattle.nt_event.specs.declared.commands.Command.TheVariants as cmd
 use Rattle.nt_event.specs.declared.commands.Reply.TheVariants.{Yes}
 use Rattle.nt_event.specs.declared.events.Begun.TheVariants.{Apc, Dpc, Int, Threaded}
@@ -110,67 +110,11 @@ abbrev pub removes_it : Option Thing → Thing → Bool
 removes_it None thing = false
 removes_it (Some x) thing = same_thing x thing
 
--- ---- what the events so far used up; the newest comes first
-
--- a later Begin or Flush named the insert
-abbrev pub was_named : Thing → ℕ → List Event → Bool
-was_named thing n [] = false
-was_named thing n (e ∷ past) = was_named thing n past || (nat_lt n (length past) && names_it (named_by e.what) thing n)
-
--- the number of the last event that removed the thing, or 0
-abbrev pub last_removal : Thing → List Event → ℕ
-last_removal thing [] = 0
-last_removal thing (e ∷ past) = if removes_it (removed_by e.what) thing then length past else last_removal thing past
-
--- ---- tables
+-- ---- what waits
 
 -- what the event of each number inserts
 abbrev pub inserted_at : List Event → ℕ → Option Thing
 inserted_at events n = get_or (map (λ e. inserted_thing e.what) events) n None
-
--- an insert by one of these events is open where none of them named it; what is no insert is never open
-abbrev pub is_open : Option Thing → ℕ → List Event → Bool
-is_open None n past = false
-is_open (Some thing) n past = nat_lt n (length past) && not (was_named thing n past)
-
--- the table tells, for the number of each event, whether it is an open insert of the events so far
-abbrev pub TellsOpen : List Event → List Event → List Bool → Type 0
-TellsOpen events past table = (n : ℕ) → get_or table n false ≡ is_open (inserted_at events n) n past
-
--- the table when an event of this number named an insert, which is closed then
-abbrev pub with_named : List Event → ℕ → Option Inserted → List Bool → List Bool
-with_named events k None table = table
-with_named events k (Some i) table = if nat_lt i.number k && is_it i.thing (inserted_at events i.number)
-    then slice_set table i.number false else table
-
--- the table when an event of this number inserted a thing, which is open then
-abbrev pub with_inserted : ℕ → Option Thing → List Bool → List Bool
-with_inserted k None table = table
-with_inserted k (Some thing) table = slice_set table k true
-
--- the table when an event of this number did this
-abbrev pub with_event : List Event → ℕ → What → List Bool → List Bool
-with_event events k w table = with_inserted k (inserted_thing w) (with_named events k (named_by w) table)
-
--- the tables tell where each object was removed last
-pub record TellsRemovals (past : List Event) (dpc_table apc_table : List ℕ) : Type 0 where
-  pub dpcs : (d : ℕ) → d < length dpc_table → get_or dpc_table d 0 ≡ last_removal (DpcThing (record { 0 = d })) past
-  pub apcs : (a : ℕ) → a < length apc_table → get_or apc_table a 0 ≡ last_removal (ApcThing (record { 0 = a })) past
-
--- a number at a place, where the table has it
-abbrev pub put_at : List ℕ → ℕ → ℕ → List ℕ
-put_at table place k = if nat_lt place (length table) then slice_set table place k else table
-
--- the tables when an event of this number removed a thing
-abbrev pub dpcs_after : ℕ → Option Thing → List ℕ → List ℕ
-dpcs_after k (Some (DpcThing x)) table = put_at table x.0 k
-dpcs_after k _ table = table
-
-abbrev pub apcs_after : ℕ → Option Thing → List ℕ → List ℕ
-apcs_after k (Some (ApcThing x)) table = put_at table x.0 k
-apcs_after k _ table = table
-
--- ---- what waits
 
 -- what the event of this number inserts, where it still waits at the end
 abbrev pub waits_at : List Event → ℕ → Option Thing → Option Thing

@@ -5,8 +5,9 @@ ghost use Rattle.nt_print.specs.Counts.{TellsMade};
 ghost use Rattle.nt_print.specs.Report.{made, cut_row, cut_of, cut_rows};
 
 use crate::fields::put_processor;
+use crate::made::made_by;
 use nt_history::History;
-use std::alloc::AllocError;
+use std::alloc::{AllocError, Global};
 
 fn put_cut(out: &mut Vec<u8>, cpu: u8) -> Result<(), AllocError>
     ensures { OnOk result (out.new.items ≡ out.old.items ++ row_text (cut_row cpu)) }
@@ -29,8 +30,8 @@ fn put_cut_of(out: &mut Vec<u8>, cpu: u8, count: usize, history: &History) -> Re
     }
 }
 
-/// Adds a line for each processor that made as many events as it may.
-pub(crate) fn put_cuts(
+/// Adds a line for each processor that made as many events as it may, where these are the counts of their events.
+fn put_each_cut(
     out: &mut Vec<u8>,
     cpus: u8,
     counts: &[usize],
@@ -44,4 +45,17 @@ pub(crate) fn put_cuts(
         put_cut_of(out, cpu, counts[cpu as usize], history)?;
     }
     Ok(())
+}
+
+/// Adds a line for each processor that made as many events as it may.
+pub(crate) fn put_cuts(
+    alloc: Global,
+    out: &mut Vec<u8>,
+    cpus: u8,
+    history: &History,
+) -> Result<(), AllocError>
+    ensures { OnOk result (out.new.items ≡ out.old.items ++ rows_text (cut_rows history.now 0 cpus)) }
+{
+    let counts = made_by(alloc, cpus, &history.lend())?;
+    put_each_cut(out, cpus, counts.as_slice(), history)
 }

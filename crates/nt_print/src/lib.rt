@@ -5,9 +5,9 @@
 //! schedule of the history (`nt_log`). The definition of the text is in `specs::Report`; what waits is the definition of the
 //! fate of inserts (`nt_event::specs::Fate`). The whole grammar is this project's own (profile).
 //!
-//! Printing is linear in the history: one walk notes which inserts are used up, one counts how many events each processor made,
-//! and the lines look into those tables. [`summary`] needs no line: it walks back from the last event, so that it knows of each
-//! insert that it comes to whether a later event used it up.
+//! Printing is linear in the history. One walk goes back from the last event, so that it knows of each insert that it comes to
+//! whether a later event used it up; the lines look into what it noted, and a [`summary`] gives what it counted. Another walk
+//! counts how many events each processor made.
 #![tactic(auto)]
 
 mod cuts;
@@ -17,7 +17,6 @@ mod flags;
 mod inserts;
 mod laws;
 mod made;
-mod notes;
 mod printing;
 mod summaries;
 mod tally;

@@ -1,5 +1,5 @@
-//! What a summary needs of the events of a history, tallied in one pass from the last event back to the first. So an insert
-//! waits at the end where no event that was passed before it used it up.
+//! What a report or a summary needs of the events of a history, tallied in one pass from the last event back to the first. So
+//! an insert waits at the end where no event that was passed before it used it up.
 ghost use Rattle.std.specs.Prelude.{◌≡◌, ◌+◌, ◌<◌, ◌≤◌, ◌^◌, ℕ, List, IfOk, length, true};
 ghost use Rattle.nt_event.specs.declared.commands.Reply.TheVariants.{Yes};
 ghost use Rattle.nt_event.specs.declared.events.Event.{Event};
@@ -8,7 +8,7 @@ ghost use Rattle.nt_event.specs.declared.events.What.TheVariants as what;
 ghost use Rattle.nt_event.specs.Fitting.{events_fit};
 ghost use Rattle.nt_history.specs.Briefs.{what_of};
 ghost use Rattle.nt_print.specs.Lent.{lent};
-ghost use Rattle.nt_print.specs.Tally.{HasRoom, Tallies, is_removed, named_after, removed_apcs, removed_dpcs, waits_after, with_use, with_what};
+ghost use Rattle.nt_print.specs.Tally.{HasRoom, Tallies, is_removed, named_after, removed_apcs, removed_dpcs, waiting_after, waits_after, with_use, with_what};
 ghost use Rattle.nt_print.specs.Uses.{inserted_of, thing_of};
 
 use crate::flags::Flags;
@@ -17,7 +17,7 @@ use nt_event::{Begun, Command, Reply, Script};
 use nt_history::{Briefs, Did};
 use std::alloc::{AllocError, Global};
 
-/// What a summary needs of the events of a history from one of them on.
+/// What a report or a summary needs of the events of a history from one of them on.
 #[derive(Drop)]
 pub(crate) struct Tally {
     /// How many of them are calls.
@@ -28,6 +28,8 @@ pub(crate) struct Tally {
     pub begins: usize,
     /// How many are inserts that still wait at the end.
     pub waits: usize,
+    /// By the number of an event, whether it is such an insert.
+    pub waiting: Flags,
     /// By the number of an event before them, whether it is an insert that a Begin or Flush named.
     pub named: Flags,
     /// By DPC object, whether an event removed it.
@@ -50,12 +52,13 @@ impl Tally {
     /// Counts the insert of the object by the event of this number, where it still waits.
     fn note_insert(&mut self, number: usize, object: Object)
         requires room { self.old.waits + 1 < 2 ^ 64 }
-        ensures { self.new ≡ record self.old { waits = waits_after self.old number (Some (thing_of object)) } }
+        ensures { self.new ≡ record self.old { waits = waits_after self.old number (Some (thing_of object)); waiting = waiting_after self.old number (Some (thing_of object)) } }
     {
         if self.named.is_set(number) || self.is_removed(object) {
             return;
         }
         self.waits += 1;
+        self.waiting.set(number);
     }
 
     /// Notes that the object was removed.
@@ -209,6 +212,7 @@ fn blank(alloc: Global, script: &Script, events: &Briefs) -> Result<Tally, Alloc
         refused: 0,
         begins: 0,
         waits: 0,
+        waiting: Flags::new(alloc, events.briefs.len())?,
         named: Flags::new(alloc, events.briefs.len())?,
         dpcs: Flags::new(alloc, script.dpcs.len())?,
         apcs: Flags::new(alloc, script.apcs.len())?,

@@ -1,5 +1,5 @@
 //! The lines of the inserts that still wait at the end.
-ghost use Rattle.std.specs.Prelude.{◌≡◌, ◌++◌, ◌<◌, ◌∷◌, [], true, OnOk, map, reverse, length};
+ghost use Rattle.std.specs.Prelude.{◌≡◌, ◌++◌, ◌<◌, ◌∷◌, [], true, OnOk, IfSome, map, option_map, reverse, length};
 ghost use Rattle.nt_text.specs.Lines.{row_text, rows_text};
 ghost use Rattle.nt_event.specs.Fate.{inserted_by};
 ghost use Rattle.nt_script.specs.Sound.{IsSound};
@@ -8,10 +8,11 @@ ghost use Rattle.nt_event.specs.Fitting.{events_fit};
 ghost use Rattle.nt_print.specs.Lent.{lent};
 ghost use Rattle.nt_print.specs.Report.{thing_row, wait_fields, wait_row, wait_rows};
 ghost use Rattle.nt_print.specs.Uses.{thing_of, inserted_of, inserted_at, thing_fits, waits_at};
-ghost use Rattle.nt_print.specs.Notes.{AreNotes};
+ghost use Rattle.nt_print.specs.Tally.{Tallies};
 
-use crate::inserts::{Insert, Object};
-use crate::notes::{Notes, waiting};
+use crate::inserts::{Insert, Object, inserted};
+use crate::tally::Tally;
+use nt_event::Script;
 use nt_history::Briefs;
 use nt_script::Input;
 use nt_text::{put_field, put_number};
@@ -55,21 +56,46 @@ fn put_wait(out: &mut Vec<u8>, input: &Input, insert: Insert) -> Result<(), Allo
     Ok(())
 }
 
+/// The object that the event of this number inserts.
+fn inserted_at(script: &Script, events: &Briefs, number: usize) -> Option<Object>
+    requires number { number < length events.now.briefs.now }
+    requires fit { events_fit script.now (lent events.now) ≡ true }
+    ensures inserts { option_map thing_of result ≡ inserted_at (lent events.now) number }
+    ensures fits { IfSome result (λ x. thing_fits script.now (thing_of x) ≡ true) }
+{
+    inserted(&events.briefs[number].did)
+}
+
+/// The object that the event of this number inserts, where the insert still waits at the end. Another event is not read.
+fn waiting(script: &Script, events: &Briefs, tally: &Tally, number: usize) -> Option<Object>
+    requires number { number < length events.now.briefs.now }
+    requires fit { events_fit script.now (lent events.now) ≡ true }
+    requires tally { Tallies script.now (lent events.now) 0 tally.now }
+    ensures waits { option_map thing_of result ≡ waits_at (reverse (lent events.now)) number (inserted_at (lent events.now) number) }
+    ensures fits { IfSome result (λ x. thing_fits script.now (thing_of x) ≡ true) }
+{
+    if tally.waiting.is_set(number) {
+        inserted_at(script, events, number)
+    } else {
+        None
+    }
+}
+
 /// Adds the line of the event of this number, where it is an insert that still waits.
 fn put_wait_of(
     out: &mut Vec<u8>,
     input: &Input,
     events: &Briefs,
-    notes: &Notes,
+    tally: &Tally,
     number: usize,
 ) -> Result<(), AllocError>
     requires sound { IsSound input.now }
     requires fit { events_fit input.now.script (lent events.now) ≡ true }
-    requires notes { AreNotes input.now.script (lent events.now) notes.now }
+    requires tally { Tallies input.now.script (lent events.now) 0 tally.now }
     requires number { number < length events.now.briefs.now }
     ensures { OnOk result (out.new.items ≡ out.old.items ++ rows_text (map (wait_row input.now.names) (inserted_by number (waits_at (reverse (lent events.now)) number (inserted_at (lent events.now) number))))) }
 {
-    match waiting(&input.script, events, notes, number) {
+    match waiting(&input.script, events, tally, number) {
         Some(object) => put_wait(
             out,
             input,
@@ -87,15 +113,15 @@ pub(crate) fn put_waits(
     out: &mut Vec<u8>,
     input: &Input,
     events: &Briefs,
-    notes: &Notes,
+    tally: &Tally,
 ) -> Result<(), AllocError>
     requires sound { IsSound input.now }
     requires fit { events_fit input.now.script (lent events.now) ≡ true }
-    requires notes { AreNotes input.now.script (lent events.now) notes.now }
+    requires tally { Tallies input.now.script (lent events.now) 0 tally.now }
     ensures { OnOk result (out.new.items ≡ out.old.items ++ rows_text (wait_rows input.now.names (reverse (lent events.now)))) }
 {
     for number in 0..events.briefs.len() {
-        put_wait_of(out, input, events, notes, number)?;
+        put_wait_of(out, input, events, tally, number)?;
     }
     Ok(())
 }

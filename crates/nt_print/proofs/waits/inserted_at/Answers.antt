@@ -1,7 +1,7 @@
 use Rattle.std.proofs.Common.{◌∙◌, get_or}
 use Rattle.nt_history.specs.Briefs.{no_rises, values_of}
 use Rattle.nt_print.proofs.Lent.{inserts_at, object_fits}
-use Rattle.nt_print.proofs.notes.inserted_at.Goals as goal
+use Rattle.nt_print.proofs.waits.inserted_at.Goals as goal
 
 pub returns-clause-inserts : goal.returns-clause-inserts
 returns-clause-inserts c =
