@@ -26,6 +26,7 @@ pub enum Change {
 }
 
 /// What an event changes.
+#[inline(always)]
 pub fn change_of(what: &What) -> Change
     ensures { result ≡ change_in what.now }
 {
