@@ -5,10 +5,10 @@ ghost use Rattle.nt_floor.specs.Acts.{Found, IsActed, IsMet, IsRefused, StandFit
 ghost use Rattle.nt_frame.specs.Changes.{begun, no_frames};
 
 use nt_event::{
-    Body, Command, CpuNo, DpcDecl, DpcNo, Event, Items, Job, Level, Rises, Routine, RoutineNo,
-    Script, ThreadDecl, ThreadNo, What,
+    Body, Command, CpuNo, DpcDecl, DpcNo, Event, Items, Job, Level, Routine, RoutineNo, Script,
+    ThreadDecl, ThreadNo, What,
 };
-use nt_floor::{ActRefusal, Acted, Floor, Words};
+use nt_floor::{ActRefusal, Acted, Floor, Seen, Words};
 use nt_frame::{Frames, StandView};
 use nt_plain::PlainFloor;
 use std::alloc::{AllocError, Global};
@@ -97,14 +97,14 @@ fn act<F: Floor>(floor: &mut F, job: Job, stand: &StandView) -> Result<Acted, Ac
     ensures event { IfOk result (λ a. (f : Found) × F.found floor.new a.number a.event stand.now f × IsActed (F.script floor.old) f stand.now job a) }
     ensures cause { IfErr result (λ r. (f : Found) × F.shows floor.new stand.now job f × IsRefused (F.script floor.old) f stand.now job r) }
 {
-    let mut told = Rises { value: [0; 16] };
+    let mut seen = Seen::new();
     let mut event = a_rest(stand.cpu());
-    let made = floor.act(&job, stand, &mut told, &mut event)?;
+    let made = floor.act(&job, stand, &mut seen, &mut event)?;
     Ok(Acted {
         number: made.number,
         event,
         due: made.due,
-        told,
+        told: seen.rises(),
     })
 }
 

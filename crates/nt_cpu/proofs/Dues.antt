@@ -2,8 +2,9 @@
 use Rattle.std.proofs.Common.{ap, arith, subst, sym, ◌∙◌}
 use Rattle.std.proofs.lemmas.Bool.Decides.{nat_tests}
 use Rattle.std.specs.Prelude.{Bool, IfSome, List, None, Option, Some, [], false, find, if◌then◌else◌, nat_le, nat_lt, refl, true, ℕ, ◌&&◌, ◌<◌, ◌∷◌, ◌≡◌, ◌≤◌}
-use Rattle.nt_event.specs.Classes.{interrupt_classes}
+use Rattle.nt_event.specs.Classes.{class_count, dispatch_class, interrupt_classes}
 use Rattle.nt_event.specs.Lists.{value_at}
+use Rattle.nt_floor.specs.Seen.{SameInterrupts}
 use Rattle.nt_cpu.specs.Due.{above_level, greatest_due, is_unserved}
 
 -- each class is at most the one before, the first at most m
@@ -114,3 +115,26 @@ same_none xs (c ∷ cs) =
 -- where all that was noticed is served, no class is due
 pub none_due : (seen served : List ℕ) → seen ≡ served → None ≡ greatest_due seen served
 none_due seen served e = subst (λ (xs : List ℕ). None ≡ greatest_due seen xs) e (sym (same_none seen interrupt_classes))
+
+-- ---- where interrupts are as before
+
+abbrev are_interrupts : List ℕ → Bool
+are_interrupts [] = true
+are_interrupts (x ∷ xs) = (nat_lt dispatch_class x && nat_lt x class_count) && are_interrupts xs
+
+find_same : (P Q : ℕ → Bool) (xs : List ℕ) → are_interrupts xs ≡ true → ((c : ℕ) → dispatch_class < c → c < class_count → P c ≡ Q c) → find P xs ≡ find Q xs
+find_same P Q [] a h = refl
+find_same P Q (x ∷ xs) a h =
+    let here : (nat_lt dispatch_class x && nat_lt x class_count) ≡ true = first_of (nat_lt dispatch_class x && nat_lt x class_count) (are_interrupts xs) a in
+    let low : nat_lt dispatch_class x ≡ true = first_of (nat_lt dispatch_class x) (nat_lt x class_count) here in
+    let high : nat_lt x class_count ≡ true = last_of (nat_lt dispatch_class x) (nat_lt x class_count) here in
+    ap (λ (b : Bool). if b then Some x else find P xs) (h x (grind (arith, nat_tests)) (grind (arith, nat_tests)))
+    ∙ ap (λ (o : Option ℕ). if Q x then Some x else o)
+    (find_same P Q xs (last_of (nat_lt dispatch_class x && nat_lt x class_count) (are_interrupts xs) a) h)
+
+-- the same interrupt is due
+pub due_same : (seen served seen_then served_then : List ℕ) → SameInterrupts seen seen_then → SameInterrupts served served_then →
+    greatest_due seen served ≡ greatest_due seen_then served_then
+due_same seen served seen_then served_then h k =
+    find_same (is_unserved seen served) (is_unserved seen_then served_then) interrupt_classes refl
+    (λ c a b. ap (λ (v : ℕ). nat_lt v (value_at seen c)) (sym (k c a b)) ∙ ap (nat_lt (value_at served_then c)) (sym (h c a b)))

@@ -3,9 +3,11 @@ use Rattle.std.proofs.Common.{arith, ap, sym, ◌∙◌}
 use Rattle.std.proofs.lemmas.Bool.Decides.{nat_tests}
 use Rattle.std.specs.Prelude.{Bool, List, false, if◌then◌else◌, length, refl, set, true, ℕ, ◌<◌, ◌==◌, ◌≡◌, ◌≤◌}
 use Rattle.nt_event.specs.declared.events.What.{What}
+use Rattle.nt_event.specs.Classes.{dispatch_class}
 use Rattle.nt_event.specs.Requests.{served_after, serves}
 use Rattle.nt_event.specs.Lists.{table, value_at}
-use Rattle.nt_event.proofs.Tables.{table-same}
+use Rattle.nt_event.proofs.Tables.{get_or-table, table-same}
+use Rattle.nt_floor.specs.Seen.{SameInterrupts}
 use Rattle.nt_floor.proofs.Values.{set_table, values_table}
 
 -- an event that serves no class leaves the values
@@ -18,6 +20,15 @@ serves_none w seen xs l h =
 pub serves_far : (xs ys : List ℕ) (k : ℕ) → length xs ≡ 16 → 16 ≤ k → xs ≡ table 16 (λ c. if k == c then value_at ys c else value_at xs c)
 serves_far xs ys k l h =
     values_table xs l ∙ table-same 16 _ _ (λ c b. let e : (k == c) ≡ false = grind (arith, nat_tests) in rw e)
+
+-- where the class is none of an interrupt, what was served of interrupts stays
+pub serves_below : (xs ys new : List ℕ) (k : ℕ) → k ≤ dispatch_class → new ≡ table 16 (λ c. if k == c then value_at ys c else value_at xs c) →
+    SameInterrupts xs new
+serves_below xs ys new k l e c a b =
+    let other : (k == c) ≡ false = grind (arith, nat_tests) in
+    ap (λ (zs : List ℕ). value_at zs c) e
+    ∙ (get_or-table 16 c (λ i. if k == i then value_at ys i else value_at xs i) 0 b
+    ∙ ap (λ (t : Bool). if t then value_at ys c else value_at xs c) other)
 
 -- the value of a class of another sixteen
 pub set_value : (xs ys : List ℕ) (k : ℕ) → length xs ≡ 16 → k < 16 → set xs k (value_at ys k) ≡ table 16 (λ c. if k == c then value_at ys c else value_at xs c)

@@ -1,7 +1,8 @@
 -- Events that a floor makes: what it asks of its caller, and what is left of the processor.
 use Rattle.std.proofs.Common.{ap, arith, max, ◌∙◌}
 use Rattle.std.proofs.lemmas.Bool.Decides.{nat_tests}
-use Rattle.std.specs.Prelude.{Bool, IfSome, IsTrue, None, Option, Some, false, length, option_and_then, refl, true, ℕ, ◌<◌, ◌^◌, ◌≡◌, ◌≤◌}
+use Rattle.std.specs.Prelude.{Bool, IfSome, IsTrue, List, None, Option, Some, false, length, option_and_then, refl, true, ℕ, ◌<◌, ◌^◌, ◌≡◌, ◌≤◌}
+use Rattle.nt_event.specs.declared.events.Event.{Event}
 use Rattle.nt_event.specs.declared.events.What.{What}
 use Rattle.nt_event.specs.declared.events.What.TheVariants.{Look}
 use Rattle.nt_event.specs.declared.frames.Frame.{Frame}
@@ -14,7 +15,7 @@ use Rattle.nt_event.specs.Lanes.{Lanes, what_lanes}
 use Rattle.nt_event.specs.Own.{stand_in}
 use Rattle.nt_event.specs.Requests.{asks_in, looked, raised, seen_after}
 use Rattle.nt_event.specs.Script.{has_thread}
-use Rattle.nt_event.specs.Lists.{value_at}
+use Rattle.nt_event.specs.Lists.{table, value_at}
 use Rattle.nt_event.proofs.Options.{holds_at}
 use Rattle.nt_floor.specs.declared.floor.Acted.{Acted}
 use Rattle.nt_floor.specs.Acts.{Found, IsActed, IsMet, StandFits, told_over}
@@ -24,7 +25,7 @@ use Rattle.nt_cpu.specs.Sound.{IsSound}
 use Rattle.nt_cpu.specs.States.{CpuState}
 use Rattle.nt_cpu.specs.Turns.{StandsIn, own_then}
 use Rattle.nt_cpu.proofs.ActedEvents.{GoodEvent, acted_good, is_look}
-use Rattle.nt_cpu.proofs.Taken.{innermost_small, own_with_same}
+use Rattle.nt_cpu.proofs.Taken.{innermost_small, own_with_same, taken_seen}
 
 -- where a processor stands fits the script
 pub stand_fits : (c : CpuState) → IsSound c → StandFits c.script (stand_in c.cpu c.own)
@@ -58,6 +59,15 @@ no_look _ k h = refl
 pub seen_told : (b : Bool) (n : ℕ) (w : What) (k t old : ℕ) → is_look w ≡ false → old ≤ n → max old (raised b n t) ≡ seen_after n w k b t old
 seen_told true n w k t old h l = omega arith
 seen_told false n w k t old h l = rw (no_look w k h) (omega arith)
+
+-- the event is taken up after what is told was seen
+pub acted_taken : (c i d : CpuState) (n : ℕ) (due : Option ℕ) (e : Event) (xs told : List ℕ) → i ≡ c → xs
+    ≡ table 16 (λ k. max (value_at i.own.seen k) (value_at told k)) → d
+    ≡ record i { own = own_with i.script n due e (λ k. value_at xs k) (record i.own { seen = xs }) } → d
+    ≡ record c { own = own_with c.script n due e (λ k. max (value_at c.own.seen k) (value_at told k)) c.own }
+acted_taken c i d n due e xs told view a b =
+    taken_seen i d n due e xs (λ k. max (value_at i.own.seen k) (value_at told k)) a b
+    ∙ ap (λ (x : CpuState). record x { own = own_with x.script n due e (λ k. max (value_at x.own.seen k) (value_at told k)) x.own }) view
 
 -- what is left of the processor
 pub acted_left : (c : CpuState) (job : Job) (f : Found) (a : Acted) → IsSound c → GoodJob c job → ((k : ℕ) → k < 16 → value_at c.own.seen k ≤ a.number) →

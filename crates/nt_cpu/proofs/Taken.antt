@@ -1,5 +1,5 @@
 -- What is left of a processor after an event.
-use Rattle.std.proofs.Common.{ap, arith, max, ◌∙◌}
+use Rattle.std.proofs.Common.{ap, arith, ◌∙◌}
 use Rattle.std.proofs.lemmas.List.Elements.{All-head}
 use Rattle.std.specs.Option.{option_map_or, option_or}
 use Rattle.std.specs.Prelude.{Bool, IfSome, List, None, Option, Some, [], length, refl, ℕ, ◌+◌, ◌<◌, ◌^◌, ◌∷◌, ◌≡◌}
@@ -16,6 +16,7 @@ use Rattle.nt_event.specs.Step.{thread_field}
 use Rattle.nt_event.specs.Lists.{head_of, table, value_at}
 use Rattle.nt_event.specs.Numbers.{is_by, thread}
 use Rattle.nt_event.proofs.Tables.{get_or-table, length-table_from, table-same}
+use Rattle.nt_floor.proofs.Values.{values_table}
 use Rattle.nt_frame.specs.Nesting.{AreNested}
 use Rattle.nt_cpu.specs.Fits.{Allow}
 use Rattle.nt_cpu.specs.Leaves.{own_with}
@@ -48,23 +49,34 @@ innermost_small n x f h k = go x.own refl k
         rw (← i) (All-head (IsSmall n) g gs (rw e at h.own))
 
 -- the record of what is left, field by field
-pub left_is : (c : CpuState) (n : ℕ) (due : Option ℕ) (e : Event) (told : ℕ → ℕ) (fs : Frames) (seen served : List ℕ) (rested : Bool) (took : Option ThreadNo)
-    (fire : Option DpcNo) (sweep : Bool) → fs ≡ frames_after c.script n due e c.own.frames → seen
-    ≡ table 16 (λ k. max (value_at c.own.seen k) (told k)) → served
-    ≡ table 16 (λ k. served_after e.what k (value_at seen k) (value_at c.own.served k)) → rested ≡ is_rest e.what → took ≡ took_after e.what c.own.took → fire
+pub left_is : (c : CpuState) (n : ℕ) (due : Option ℕ) (e : Event) (fs : Frames) (served : List ℕ) (rested : Bool) (took : Option ThreadNo)
+    (fire : Option DpcNo) (sweep : Bool) → length c.own.seen ≡ 16 → fs ≡ frames_after c.script n due e c.own.frames → served
+    ≡ table 16 (λ k. served_after e.what k (value_at c.own.seen k) (value_at c.own.served k)) → rested ≡ is_rest e.what → took ≡ took_after e.what c.own.took → fire
     ≡ fire_after c.script e.what c.own.fire → sweep ≡ sweep_after e.what c.own.sweep →
-    record c { own = record { made = c.own.made + 1; frames = fs; seen = seen; served = served; rested = rested; took = took; fire = fire; sweep = sweep } }
-    ≡ record c { own = own_with c.script n due e (λ k. max (value_at c.own.seen k) (told k)) c.own }
-left_is c n due e told fs seen served rested took fire sweep a b d r t f w =
-    λ i. record c { own = record { made = c.own.made + 1; frames = a i; seen = b i; served = s i; rested = r i; took = t i; fire = f i; sweep = w i } }
+    record c { own = record { made = c.own.made + 1; frames = fs; seen = c.own.seen; served = served; rested = rested; took = took; fire = fire; sweep = sweep } }
+    ≡ record c { own = own_with c.script n due e (λ k. value_at c.own.seen k) c.own }
+left_is c n due e fs served rested took fire sweep l a d r t f w =
+    λ i. record c { own = record { made = c.own.made + 1; frames = a i; seen = seen i; served = d i; rested = r i; took = t i; fire = f i; sweep = w i } }
   where
-    value : (k : ℕ) → k < 16 → value_at seen k ≡ max (value_at c.own.seen k) (told k)
-    value k h =
-        ap (λ (xs : List ℕ). value_at xs k) b ∙ get_or-table 16 k (λ k. max (value_at c.own.seen k) (told k)) 0 h
+    seen : c.own.seen ≡ table 16 (λ k. value_at c.own.seen k)
+    seen = values_table c.own.seen l
 
-    s : served ≡ table 16 (λ k. served_after e.what k (max (value_at c.own.seen k) (told k)) (value_at c.own.served k))
-    s =
-        d ∙ table-same 16 _ _ (λ k h. ap (λ (v : ℕ). served_after e.what k v (value_at c.own.served k)) (value k h))
+-- other values seen are as sound
+pub sound_seen : (c : CpuState) (xs : List ℕ) → IsSound c → length xs ≡ 16 → IsSound (record c { own = record c.own { seen = xs } })
+sound_seen c xs h l = record {
+  script = h.script;
+  cpu = h.cpu;
+  limit = h.limit;
+  made = h.made;
+  seen = l;
+  served = h.served;
+  threads = h.threads;
+  nested = h.nested;
+  small = h.small;
+  based = h.based;
+  waits = h.waits;
+  fire = h.fire;
+}
 
 -- what holds of a processor at any time holds after an event that its frames allow
 pub sound_after : (c : CpuState) (n : ℕ) (due : Option ℕ) (e : Event) (seen : ℕ → ℕ) → IsSound c → c.own.made < c.limit → IfSome due (λ d. d < 2 ^ 51) →
@@ -112,3 +124,12 @@ own_with_same s n due e f g x h =
     served : table 16 (λ k. served_after e.what k (f k) (value_at x.served k)) ≡ table 16 (λ k. served_after e.what k (g k) (value_at x.served k))
     served =
         table-same 16 _ _ (λ k b. ap (λ (v : ℕ). served_after e.what k v (value_at x.served k)) (h k b))
+
+-- what is left where these values were seen before the event
+pub taken_seen : (c d : CpuState) (n : ℕ) (due : Option ℕ) (e : Event) (xs : List ℕ) (f : ℕ → ℕ) → xs ≡ table 16 f → d
+    ≡ record c { own = own_with c.script n due e (λ k. value_at xs k) (record c.own { seen = xs }) } → d
+    ≡ record c { own = own_with c.script n due e f c.own }
+taken_seen c d n due e xs f a b =
+    b
+    ∙ (ap (λ (ys : List ℕ). record c { own = own_with c.script n due e (λ k. value_at ys k) (record c.own { seen = ys }) }) a
+    ∙ ap (λ (x : Own). record c { own = x }) (own_with_same c.script n due e (λ k. value_at (table 16 f) k) f c.own (λ k h. get_or-table 16 k f 0 h)))

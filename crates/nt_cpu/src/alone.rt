@@ -15,7 +15,6 @@ use crate::cpu::Cpu;
 use crate::notice::Notice;
 use nt_event::{ApcKind, Begun, Body, Command, CpuNo, Event, Frame, Level, Reply, Rises, What};
 use nt_floor::Words;
-use nt_frame::StandView;
 
 /// A class of a processor for which an event asks.
 #[derive(Clone, Copy, PartialEq, Eq, Debug)]
@@ -99,14 +98,6 @@ fn mark<W: Words>(words: &mut W, asked: Option<Asked>, n: u64)
 }
 
 impl<'s> Cpu<'s> {
-    /// Where the processor stands.
-    #[inline(always)]
-    pub(crate) fn standing(&self) -> StandView<'_>
-        ensures { result ≡ stand_in self.now.cpu self.now.own }
-    {
-        StandView::new(self.cpu, &self.frames, self.kept.sweep)
-    }
-
     /// What the call of a command asks for.
     fn call_asks(&self, command: &Command, reply: &Reply) -> Option<Asked>
         ensures asks { result ≡ call_asks_of (stand_in self.now.cpu self.now.own) command.now reply.now }
@@ -188,7 +179,8 @@ impl<'s> Cpu<'s> {
         let asked = self.asks(&event.what);
         let n = words.draw(event);
         mark(words, asked, n);
-        self.take_up(event, n, None, &noticed(self.cpu, &event.what, asked, n));
+        self.notice(&noticed(self.cpu, &event.what, asked, n));
+        self.take_up(event, n, None);
     }
 
     /// Writes the event that notices these values.

@@ -6,6 +6,7 @@ ghost use Rattle.nt_event.specs.Own.{fire_after, is_rest, took_after};
 ghost use Rattle.nt_event.specs.Regions.{sweep_after as sweep_left};
 ghost use Rattle.nt_event.specs.Requests.{served_after};
 ghost use Rattle.nt_event.specs.Lists.{table, value_at};
+ghost use Rattle.nt_floor.specs.Seen.{SameInterrupts};
 
 use crate::values::Values;
 use nt_event::{Begun, Command, DpcNo, Reply, Script, ThreadNo, TimerKey, What};
@@ -78,11 +79,11 @@ impl Kept {
     }
 
     /// An interrupt that begins serves its class, and that of the clock owes a sweep; another beginning leaves all. False only
-    /// where the values served are as before.
+    /// where what was served of interrupts is as before.
     fn begin(&mut self, begun: &Begun, seen: &Seen) -> bool
         requires { length self.old.served ≡ 16 }
         ensures served { (from : ℕ) → self.new.served ≡ table 16 (λ c. served_after (What.Begin begun.now from) c (value_at seen.now c) (value_at self.old.served c)) }
-        ensures same { result ≡ false → self.new.served ≡ self.old.served }
+        ensures interrupts { result ≡ false → SameInterrupts self.old.served self.new.served }
         ensures sweep { (from : ℕ) → self.new.sweep ≡ sweep_left (What.Begin begun.now from) self.old.sweep }
         ensures others { self.new ≡ record self.old { served = self.new.served; sweep = self.new.sweep } }
     {
@@ -98,11 +99,11 @@ impl Kept {
         }
     }
 
-    /// Takes up this event, where these values are seen after it. False only where the values served are as before.
+    /// Takes up this event, where these values are seen after it. False only where what was served of interrupts is as before.
     pub fn take_up(&mut self, script: &Script, what: &What, seen: &Seen) -> bool
         requires { length self.old.served ≡ 16 }
         ensures served { self.new.served ≡ table 16 (λ c. served_after what.now c (value_at seen.now c) (value_at self.old.served c)) }
-        ensures same { result ≡ false → self.new.served ≡ self.old.served }
+        ensures interrupts { result ≡ false → SameInterrupts self.old.served self.new.served }
         ensures rested { self.new.rested ≡ is_rest what.now }
         ensures took { self.new.took ≡ took_after what.now self.old.took }
         ensures fire { self.new.fire ≡ fire_after script.now what.now self.old.fire }
@@ -114,7 +115,7 @@ impl Kept {
             What::Clean { class } => {
                 self.sweep = *class != DISPATCH && self.sweep;
                 serve(&mut self.served, seen, *class);
-                true
+                DISPATCH < *class
             }
             What::Switch { thread, .. } => {
                 self.took = Some(*thread);

@@ -1,6 +1,7 @@
 //! What a processor notices as an event of its own happens.
 ghost use Rattle.std.specs.Prelude.{◌≡◌, false, length, max};
 ghost use Rattle.nt_event.specs.Lists.{table, value_at};
+ghost use Rattle.nt_floor.specs.Seen.{SameInterrupts};
 ghost use Rattle.nt_cpu.specs.Notices.{HasClass, notice_of};
 
 use nt_event::Rises;
@@ -17,12 +18,12 @@ pub enum Notice<'a> {
 }
 
 impl Notice<'_> {
-    /// Raises each value that was seen to what is noticed of its class. False only where the values are as before.
+    /// Raises each value that was seen to what is noticed of its class. False only where what was seen of interrupts is as before.
     pub fn raise(&self, seen: &mut Seen) -> bool
         requires classes { length seen.old ≡ 16 }
         requires class { HasClass self.now }
         ensures values { seen.new ≡ table 16 (λ c. max (value_at seen.old c) (notice_of self.now c)) }
-        ensures same { result ≡ false → seen.new ≡ seen.old }
+        ensures interrupts { result ≡ false → SameInterrupts seen.old seen.new }
     {
         match self {
             Notice::Nothing => false,

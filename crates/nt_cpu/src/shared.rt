@@ -10,9 +10,10 @@ ghost use Rattle.nt_cpu.specs.Steps.{Knows};
 ghost use Rattle.nt_cpu.specs.Turns.{IsShared, Serves};
 
 use crate::cpu::Cpu;
-use crate::notice::Notice;
-use nt_event::{Event, Job, Rises};
+use crate::due::greatest_due;
+use nt_event::{Event, Job};
 use nt_floor::{ActRefusal, Floor};
+use nt_frame::StandView;
 
 impl<'s> Cpu<'s> {
     /// Has the floor make the event of a job, takes it up, and writes it; after a refusal nothing was written.
@@ -37,10 +38,10 @@ impl<'s> Cpu<'s> {
         ensures grows { F.grows floor.old floor.new }
     {
         self.sound();
-        let stand = self.standing();
-        let mut told = Rises { value: [0; 16] };
-        let made = floor.act(&job, &stand, &mut told, event)?;
-        self.take_up(event, made.number, made.due, &Notice::Values(&told));
+        let stand = StandView::new(self.cpu, &self.frames, self.kept.sweep);
+        let made = floor.act(&job, &stand, &mut self.seen, event)?;
+        self.due = greatest_due(self.due, !made.interrupts, &self.seen, &self.kept.served);
+        self.take_up(event, made.number, made.due);
         Ok(())
     }
 }

@@ -1,7 +1,7 @@
 //! What an event leaves of a processor.
 ghost use Rattle.std.specs.Prelude.{◌≡◌, ◌<◌, ◌^◌, IfSome, max};
 ghost use Rattle.nt_event.specs.Step.{thread_field};
-ghost use Rattle.nt_event.specs.Lists.{value_at};
+ghost use Rattle.nt_event.specs.Lists.{table, value_at};
 ghost use Rattle.nt_frame.specs.Nesting.{AreNamedBelow, AreNested};
 ghost use Rattle.nt_cpu.specs.Fits.{Allow};
 ghost use Rattle.nt_cpu.specs.Leaves.{own_with};
@@ -22,21 +22,28 @@ fn nested(frames: &Frames)
 }
 
 impl<'s> Cpu<'s> {
-    /// The event of this number and due time happened, and this was noticed beside it.
-    pub(crate) fn take_up(&mut self, event: &Event, n: u64, due: Option<u64>, notice: &Notice)
+    /// This was noticed.
+    pub(crate) fn notice(&mut self, notice: &Notice)
+        requires { HasClass notice.now }
+        ensures { self.new ≡ record self.old { own = record self.old.own { seen = table 16 (λ c. max (value_at self.old.own.seen c) (notice_of notice.now c)) } } }
+    {
+        let interrupts = notice.raise(&mut self.seen);
+        self.due = greatest_due(self.due, !interrupts, &self.seen, &self.kept.served);
+    }
+
+    /// The event of this number and due time happened, and was noticed.
+    pub(crate) fn take_up(&mut self, event: &Event, n: u64, due: Option<u64>)
         requires room { self.old.own.made < self.old.limit }
         requires number { AreNamedBelow n self.old.own.frames }
         requires due { IfSome due (λ d. d < 2 ^ 51) }
         requires thread { event.now.thread ≡ thread_field event.now.what self.old.own.frames.running }
-        requires class { HasClass notice.now }
         requires allow { Allow self.old.script event.now.what self.old.own.frames }
-        ensures { self.new ≡ record self.old { own = own_with self.old.script n due event.now (λ c. max (value_at self.old.own.seen c) (notice_of notice.now c)) self.old.own } }
+        ensures { self.new ≡ record self.old { own = own_with self.old.script n due event.now (λ c. value_at self.old.own.seen c) self.old.own } }
     {
         apply(&mut self.frames, self.script, event, n, due);
         nested(&self.frames);
         self.made += 1;
-        let noticed = notice.raise(&mut self.seen);
         let serves = self.kept.take_up(self.script, &event.what, &self.seen);
-        self.due = greatest_due(self.due, !noticed && !serves, &self.seen, &self.kept.served);
+        self.due = greatest_due(self.due, !serves, &self.seen, &self.kept.served);
     }
 }

@@ -1,11 +1,13 @@
 -- What contracts see of words and floors, and what each call does to it.
-use Rattle.std.specs.Prelude.{Bool, IfSome, Option, Some, [], false, map, if◌then◌else◌, max, true, ℕ, ◌&&◌, ◌+◌, ◌<◌, ◌==◌, ◌^◌, ◌||◌, ◌≡◌, ◌≤◌}
+use Rattle.std.specs.Prelude.{Bool, IfSome, List, Option, Some, [], false, map, if◌then◌else◌, max, true, ℕ, ◌&&◌, ◌+◌, ◌<◌, ◌==◌, ◌^◌, ◌||◌, ◌≡◌, ◌≤◌}
 use Rattle.nt_event.specs.declared.events.Event.{Event}
+use Rattle.nt_event.specs.declared.events.Rises.{Rises}
 use Rattle.nt_event.specs.declared.jobs.Lane.{Lane}
 use Rattle.nt_event.specs.declared.jobs.Stand.{Stand}
 use Rattle.nt_event.specs.declared.numbers.CpuNo.{CpuNo}
 use Rattle.nt_event.specs.declared.scripts.Script.{Script}
 use Rattle.nt_event.specs.Lanes.{Lanes, lane_number, lanes_after, lanes_at, what_lanes}
+use Rattle.nt_event.specs.Lists.{table, value_at}
 use Rattle.nt_event.specs.Requests.{asks_in, raised, what_asks}
 use Rattle.nt_floor.specs.Acts.{Found, Told, told_after}
 use Rattle.nt_floor.specs.Lists.{Lists, with_draw, with_look, with_mark, with_marks}
@@ -104,6 +106,11 @@ pub record IsMoved (s : Script) (n : ℕ) (e : Event) (st : Stand) (f : Found) (
   pub told_before : v.alone ≡ true → (x : Lane) (q : CpuNo) (c : ℕ) → HasWord v q c → v.told x q c ≡ f.told x q c
   pub told_after : v.alone ≡ true → (x : Lane) (q : CpuNo) (c : ℕ) → HasWord v q c → w.told x q c
       ≡ told_after s n st e.what f x q c
+
+-- a processor that stood so was told these values: what it has seen rose to them, and its words know them
+pub record IsTold (st : Stand) (told : Rises) (old new : List ℕ) (w : View) : Type 0 where
+  pub seen : new ≡ table 16 (λ c. max (value_at old c) (value_at told.value c))
+  pub known : (c : ℕ) → c < 16 → (value_at told.value c ≤ w.value st.cpu c) × (value_at told.value c ≤ w.next)
 
 -- no event was made; a floor that is alone didn't change at all
 pub record IsUnmoved (v w : View) : Type 0 where

@@ -1,4 +1,5 @@
 //! Events that touch lanes.
+use crate::seen::Seen;
 use crate::words::Words;
 use nt_event::{Event, Job, Rises};
 use nt_frame::StandView;
@@ -22,6 +23,8 @@ pub struct Made {
     pub number: u64,
     /// The due time of the delay that the event calls, below 2^51.
     pub due: Option<u64>,
+    /// Whether what was seen of interrupts may have risen.
+    pub interrupts: bool,
 }
 
 /// Why no event was made.
@@ -37,14 +40,15 @@ pub enum ActRefusal {
 
 /// Makes events that touch what several processors share.
 pub trait Floor: Words {
-    ghost use Rattle.std.specs.Prelude.{◌≡◌, ◌<◌, ◌≤◌, ℕ, true, IfErr, IfOk, IsTrue, OnErr, IsErrOf};
+    ghost use Rattle.std.specs.Prelude.{◌≡◌, ◌≤◌, ℕ, false, true, IfErr, IfOk, IsTrue, OnErr, IsErrOf};
     ghost use Rattle.nt_event.specs.declared.events.Event.{Event};
+    ghost use Rattle.nt_event.specs.declared.events.Rises.{Rises};
     ghost use Rattle.nt_event.specs.declared.jobs.Job.{Job};
     ghost use Rattle.nt_event.specs.declared.jobs.Stand.{Stand};
     ghost use Rattle.nt_event.specs.declared.scripts.Script.{Script};
-    ghost use Rattle.nt_event.specs.Lists.{value_at};
     ghost use Rattle.nt_floor.specs.Acts.{Found, IsActed, IsMet, IsRefused, StandFits, acted_of, job_fits};
-    ghost use Rattle.nt_floor.specs.Views.{IsMoved, IsUnmoved, Tells};
+    ghost use Rattle.nt_floor.specs.Seen.{SameInterrupts};
+    ghost use Rattle.nt_floor.specs.Views.{IsMoved, IsTold, IsUnmoved, Tells};
 
     /// The script.
     ghost script: { Self → Script };
@@ -64,8 +68,8 @@ pub trait Floor: Words {
     /// of the lane's list.
     ghost shows: { Self → Stand → Job → Found → Type 0 };
 
-    /// Makes the event of a job for a processor that stands so, and marks exactly its asks. It writes the event, and what the touched
-    /// lanes tell the processor, where the caller keeps them.
+    /// Makes the event of a job for a processor that stands so, and marks exactly its asks. It writes the event where the caller keeps
+    /// it, and raises what the processor has seen to what the touched lanes tell it.
     ///
     /// The event is the one of the job in the states that were found; where the floor tells its states, it is made in those, and they
     /// are afterwards what the event leaves of them. After a refusal no event was made or written. A floor that is alone finds memory.
@@ -73,7 +77,7 @@ pub trait Floor: Words {
         &mut self,
         job: &Job,
         stand: &StandView,
-        told: &mut Rises,
+        seen: &mut Seen,
         event: &mut Event,
     ) -> Result<Made, ActRefusal>
         requires room { 1 ≤ (Self.view self.old).drawable }
@@ -81,12 +85,13 @@ pub trait Floor: Words {
         requires stand { StandFits (script self.old) stand.now }
         requires met { IsMet (script self.old) (Self.view self.old).states stand.now job.now }
 
-        ensures event { IfOk result (λ m. (f : Found) × found self.new m.number event.new stand.now f × (IsActed (script self.old) f stand.now job.now (acted_of m event.new told.new) × IsMoved (script self.old) m.number event.new stand.now f (Self.view self.old) (Self.view self.new))) }
-        ensures told { IfOk result (λ m. (c : ℕ) → c < 16 → (value_at told.new.value c ≤ (Self.view self.new).value stand.now.cpu c) × (value_at told.new.value c ≤ (Self.view self.new).next)) }
+        ensures event { IfOk result (λ m. (f : Found) × (told : Rises) × found self.new m.number event.new stand.now f × (IsActed (script self.old) f stand.now job.now (acted_of m event.new told) × (IsMoved (script self.old) m.number event.new stand.now f (Self.view self.old) (Self.view self.new) × IsTold stand.now told seen.old seen.new (Self.view self.new)))) }
+        ensures interrupts { IfOk result (λ m. m.interrupts ≡ false → SameInterrupts seen.old seen.new) }
 
         ensures cause { IfErr result (λ r. (f : Found) × shows self.new stand.now job.now f × (Tells (Self.view self.old).states f.lanes × IsRefused (script self.old) f stand.now job.now r)) }
         ensures refused { OnErr result (IsUnmoved (Self.view self.old) (Self.view self.new)) }
         ensures unwritten { OnErr result (event.new ≡ event.old) }
+        ensures unseen { OnErr result (seen.new ≡ seen.old) }
         ensures memory { (Self.view self.old).alone ≡ true → IsErrOf result ActRefusal.NoMemory → ⊥ }
 
         ensures script { script self.new ≡ script self.old }

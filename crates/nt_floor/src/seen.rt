@@ -2,9 +2,10 @@
 ghost use Rattle.std.specs.Prelude.{◌≡◌, ◌<◌, ◌==◌, ℕ, false, if◌then◌else◌, length, max, nat_lt};
 ghost use Rattle.std.specs.List.{list_any};
 ghost use Rattle.nt_event.specs.Lists.{table, value_at};
+ghost use Rattle.nt_floor.specs.Seen.{SameInterrupts};
 ghost use Rattle.nt_floor.specs.Sums.{sum_of};
 
-use nt_event::Rises;
+use nt_event::{Rises, class};
 use std::marker::Model;
 
 /// The greatest request that was seen of each of the classes 0 to 15; 0 is none.
@@ -38,6 +39,13 @@ impl Seen {
         }
     }
 
+    /// There is a value for each class.
+    pub fn classes(&self)
+        ensures { length self.now ≡ 16 }
+    {
+        let _values = &self.values;
+    }
+
     /// The value of a class.
     pub fn get(&self, class: u8) -> u64
         requires { class < 16 }
@@ -46,34 +54,35 @@ impl Seen {
         self.values[class as usize]
     }
 
-    /// Raises the value of a class to this one. False only where the values are as before.
+    /// Raises the value of a class to this one. False only where what was seen of interrupts is as before.
     pub fn raise(&mut self, class: u8, to: u64) -> bool
         requires { class < 16 }
         ensures values { self.new ≡ table 16 (λ c. max (value_at self.old c) (if class == c then to else 0)) }
-        ensures same { result ≡ false → self.new ≡ self.old }
+        ensures interrupts { result ≡ false → SameInterrupts self.old self.new }
     {
         let place = class as usize;
         let old = self.values[place];
-        let rises = old < to;
-        if rises {
+        if old < to {
             self.values[place] = to;
             self.sum += u128::from(to - old);
+            class::DISPATCH < class
+        } else {
+            false
         }
-        rises
     }
 
-    /// Raises each value to this one of its class. False only where the values are as before.
+    /// Raises each value to this one of its class. False only where what was seen of interrupts is as before.
     pub fn raise_all(&mut self, values: &[u64; 16]) -> bool
         ensures values { self.new ≡ table 16 (λ c. max (value_at self.old c) (value_at values.now c)) }
-        ensures same { result ≡ false → self.new ≡ self.old }
+        ensures interrupts { result ≡ false → SameInterrupts self.old self.new }
     {
-        let mut raised = false;
+        let mut interrupts = false;
         for class in 0..16 {
             if self.raise(class, values[class as usize]) {
-                raised = true;
+                interrupts = true;
             }
         }
-        raised
+        interrupts
     }
 
     /// The sum of the values.

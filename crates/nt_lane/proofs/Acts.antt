@@ -1,12 +1,14 @@
 -- What an act over locked lanes answers, as a floor says it.
-use Rattle.std.specs.Prelude.{◌≤◌}
+use Rattle.std.specs.Prelude.{List, max, ℕ, ◌≡◌, ◌≤◌}
+use Rattle.nt_event.specs.declared.events.Rises.{Rises}
 use Rattle.nt_event.specs.declared.jobs.Job.{Job}
 use Rattle.nt_event.specs.declared.jobs.Stand.{Stand}
 use Rattle.nt_event.specs.declared.scripts.Script.{Script}
+use Rattle.nt_event.specs.Lists.{table, value_at}
 use Rattle.nt_floor.specs.declared.floor.ActRefusal.{ActRefusal}
 use Rattle.nt_floor.specs.declared.floor.Acted.{Acted}
 use Rattle.nt_floor.specs.Acts.{Found, IsActed}
-use Rattle.nt_floor.specs.Views.{IsMoved}
+use Rattle.nt_floor.specs.Views.{IsMoved, IsTold}
 use Rattle.nt_mark.specs.declared.marks.Marks.{Marks}
 use Rattle.nt_mark.specs.declared.view.View.{View}
 use Rattle.nt_lane.specs.Seats.{AreListed, FoundBy}
@@ -17,9 +19,12 @@ use Rattle.nt_lane.proofs.Moves.{moved}
 use Rattle.nt_lane.proofs.Passes.{listed_grows}
 
 module _ (s : Script) (st : Stand) (j : Job) (v w : View) where
-  pub act_done : (m : Marks) (a : Acted) → 1 ≤ drawable_of m v → IsDone s st j v w a →
-      (f : Found) × FoundBy s w a.number a.event st f × (IsActed s f st j a × IsMoved s a.number a.event st f (words_of m v) (words_of m w))
-  act_done m a room d = (d.found, d.by, (d.acted, moved m s a.number a.event st d.found v w room d.made))
+  pub act_done : (m : Marks) (a : Acted) (old new : List ℕ) → 1 ≤ drawable_of m v → IsDone s st j v w a → new
+      ≡ table 16 (λ c. max (value_at old c) (value_at a.told.value c)) →
+      (f : Found) × (told : Rises) × FoundBy s w a.number a.event st f × (IsActed s f st j (record a { told = told }) ×
+      (IsMoved s a.number a.event st f (words_of m v) (words_of m w) × IsTold st told old new (words_of m w)))
+  act_done m a old new room d e =
+      (d.found, a.told, d.by, (d.acted, (moved m s a.number a.event st d.found v w room d.made, record { seen = e; known = d.told })))
 
   pub done_listed : (a : Acted) → IsDone s st j v w a → AreListed v → AreListed w
   done_listed a d old = listed_made s w a.number a.event st d.found _ _ v old d.made d.by.on

@@ -1,8 +1,8 @@
 //! The seat of a processor as a floor: its acts take the locks of the lanes that they read and touch.
 use crate::acting::act_under;
 use crate::seat::LaneSeat;
-use nt_event::{Event, Job, Plan, Rises};
-use nt_floor::{ActRefusal, Floor, Made};
+use nt_event::{Event, Job, Plan};
+use nt_floor::{ActRefusal, Floor, Made, Seen};
 use nt_frame::StandView;
 use nt_mark::Shared;
 use std::sync::Wait;
@@ -28,16 +28,16 @@ impl<N: Plan + Shared, R: Wait> Floor for LaneSeat<'_, '_, N, R> {
         &mut self,
         job: &Job,
         stand: &StandView,
-        told: &mut Rises,
+        seen: &mut Seen,
         event: &mut Event,
     ) -> Result<Made, ActRefusal> {
         let acted = act_under(self.rt, self.lanes, self.marks, &mut self.pass, job, stand)?;
         self.last = acted.number;
-        *told = acted.told;
         *event = acted.event;
         Ok(Made {
             number: acted.number,
             due: acted.due,
+            interrupts: seen.raise_all(&acted.told.value),
         })
     }
 }

@@ -5,7 +5,6 @@ use Rattle.std.specs.Prelude.{All, Bool, IfSome, IsTrue, List, None, Some, [], f
 use Rattle.nt_event.specs.declared.events.Event.{Event}
 use Rattle.nt_event.specs.declared.events.What.{What}
 use Rattle.nt_event.specs.declared.jobs.Job.{Job}
-use Rattle.nt_event.specs.declared.jobs.Lane.{Lane}
 use Rattle.nt_event.specs.declared.jobs.Stand.{Stand}
 use Rattle.nt_event.specs.declared.numbers.CpuNo.{CpuNo}
 use Rattle.nt_event.specs.Acting.{acted_event}
@@ -14,25 +13,24 @@ use Rattle.nt_event.specs.Jobs.{job_event}
 use Rattle.nt_event.specs.Lanes.{what_lanes}
 use Rattle.nt_event.specs.Requests.{Ask, asks_in, raised, what_asks}
 use Rattle.nt_event.specs.Script.{has_cpu}
-use Rattle.nt_event.specs.Lists.{table, value_at}
+use Rattle.nt_event.specs.Lists.{value_at}
 use Rattle.nt_event.proofs.Tables.{get_or-table}
 use Rattle.nt_floor.specs.declared.floor.Acted.{Acted}
-use Rattle.nt_floor.specs.Acts.{IsActed, KindsFit, Told, told_over}
+use Rattle.nt_floor.specs.Acts.{IsActed, KindsFit, told_over}
 use Rattle.nt_floor.specs.Lists.{with_marks}
 use Rattle.nt_floor.specs.Views.{IsMoved, IsUnmoved}
 use Rattle.nt_states.specs.LaneLists.{AskFits, LaneFits}
-use Rattle.nt_plain.specs.Made.{IsKept, found_of, made}
+use Rattle.nt_plain.specs.Made.{IsKept, found_of, made, told_values}
 use Rattle.nt_plain.specs.Places.{told_in, value_in}
 use Rattle.nt_plain.specs.States.{PlainState, view_of}
 use Rattle.nt_plain.proofs.Tells.{told_after_event}
-use Rattle.nt_plain.proofs.Within.{all_within}
+use Rattle.nt_plain.proofs.Within.{all_within, over_below}
 use Rattle.nt_states.proofs.Requests.{as_raised}
 use Rattle.nt_plain.proofs.Writes.{marks_after, words_after}
 
 -- the values that an answer tells
 abbrev pub TellsOf : PlainState → Stand → What → List ℕ → Type 0
-TellsOf f st w values = values ≡ table 16 (λ c. raised (asks_in f.script st w f.lanes st.cpu c) f.next
-    (told_over (told_in f.script f.told) (what_lanes f.script st w f.lanes) st.cpu c))
+TellsOf f st w values = values ≡ told_values f st w
 
 told_value : (f : PlainState) (st : Stand) (w : What) (values : List ℕ) (c : ℕ) → TellsOf f st w values → c < 16 → value_at values c
     ≡ raised (asks_in f.script st w f.lanes st.cpu c) f.next (told_over (told_in f.script f.told) (what_lanes f.script st w f.lanes) st.cpu c)
@@ -107,13 +105,6 @@ pub is_moved : (f g : PlainState) (st : Stand) (w : What) (n : ℕ) (e : Event) 
     ≡ acted_event st f.lanes w → g ≡ made st w f → IsMoved f.script n e st (found_of f) (view_of f) (view_of g)
 is_moved f g st w n e kept room lanes_named asks_named number event state =
     rw (number, event, state) (moved f st w kept room lanes_named asks_named)
-
-over_below : (told : Told) (lanes : List Lane) (p : CpuNo) (c v : ℕ) → ((x : Lane) → told x p c ≤ v) → told_over told lanes p c ≤ v
-over_below told [] p c v h = omega arith
-over_below told (x ∷ lanes) p c v h =
-    let here : told x p c ≤ v = h x in
-    let rest : told_over told lanes p c ≤ v = over_below told lanes p c v h in
-    omega (arith, here, rest)
 
 raised_below : (b : Bool) (n old value told word : ℕ) → old ≤ value → value ≤ n → told ≡ raised b n old → word ≡ raised b n value → (told ≤ word) ×
     (told ≤ n + 1)

@@ -14,8 +14,8 @@ in_row xs at i h =
 pub in_row_of : (xs ys : List ℕ) (at i : ℕ) → xs ≡ ys → i < 16 → get_or (slice_range xs at (at + 16)) i 0 ≡ get_or ys (at + i) 0
 in_row_of xs ys at i e h = in_row xs at i h ∙ ap (λ (zs : List ℕ). get_or zs (at + i) 0) e
 
-pub row_values : (xs ys old : List ℕ) (at : ℕ) → xs ≡ ys → table 16 (λ c. max (get_or (slice_range xs at (at + 16)) c 0) (value_at old c))
-    ≡ table 16 (λ c. max (get_or ys (at + c) 0) (value_at old c))
+pub row_values : (xs ys old : List ℕ) (at : ℕ) → xs ≡ ys → table 16 (λ c. max (value_at old c) (get_or (slice_range xs at (at + 16)) c 0))
+    ≡ table 16 (λ c. max (value_at old c) (get_or ys (at + c) 0))
 row_values xs ys old at e =
-    table-same 16 (λ c. max (get_or (slice_range xs at (at + 16)) c 0) (value_at old c)) (λ c. max (get_or ys (at + c) 0) (value_at old c))
-    (λ i h. ap (λ (v : ℕ). max v (value_at old i)) (in_row_of xs ys at i e h))
+    table-same 16 (λ c. max (value_at old c) (get_or (slice_range xs at (at + 16)) c 0)) (λ c. max (value_at old c) (get_or ys (at + c) 0))
+    (λ i h. ap (λ (v : ℕ). max (value_at old i) v) (in_row_of xs ys at i e h))

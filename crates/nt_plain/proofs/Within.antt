@@ -1,9 +1,9 @@
 -- Lanes and requests of the script stand within the lists of a floor.
-use Rattle.std.proofs.Common.{ap, arith, length, subst, ◌∙◌}
+use Rattle.std.proofs.Common.{ap, arith, length, max, subst, sym, ◌∙◌}
 use Rattle.std.proofs.Math.Nat.{mul-le-mul_right}
 use Rattle.std.proofs.lemmas.Bool.{ltb-true}
 use Rattle.std.specs.List.{list_any}
-use Rattle.std.specs.Prelude.{All, List, [], false, get_or, if◌then◌else◌, refl, true, ℕ, ◌*◌, ◌+◌, ◌<◌, ◌^◌, ◌∷◌, ◌≡◌, ◌≤◌}
+use Rattle.std.specs.Prelude.{All, Bool, List, [], false, get_or, if◌then◌else◌, refl, true, ℕ, ◌*◌, ◌+◌, ◌<◌, ◌^◌, ◌∷◌, ◌≡◌, ◌≤◌}
 use Rattle.nt_event.specs.declared.limits.TheConstants.{EVENTS}
 use Rattle.nt_event.specs.declared.events.What.{What}
 use Rattle.nt_event.specs.declared.jobs.Lane.{Lane}
@@ -13,16 +13,17 @@ use Rattle.nt_event.specs.declared.scripts.Script.{Script}
 use Rattle.nt_event.specs.Lanes.{lane_count, lane_number, what_lanes}
 use Rattle.nt_event.specs.Requests.{Ask, asks_in, is_ask, raised, what_asks}
 use Rattle.nt_event.specs.Lists.{table, value_at}
-use Rattle.nt_event.proofs.Tables.{get_or-table, table-same}
-use Rattle.nt_floor.specs.Acts.{told_over}
+use Rattle.nt_event.proofs.Tables.{get_or-table, is_table}
+use Rattle.nt_floor.specs.Acts.{Told, told_over}
 use Rattle.nt_states.specs.declared.asking.Asked.{Asked}
 use Rattle.nt_states.specs.LaneLists.{AskFits, LaneFits, as_asks, lane_fits}
 use Rattle.nt_plain.specs.Classes.{is_told_class}
-use Rattle.nt_plain.specs.Places.{row_of, row_value, told_in, told_place, word_place}
+use Rattle.nt_plain.specs.Made.{IsKept, told_values}
+use Rattle.nt_plain.specs.Places.{row_of, row_value, told_in, told_place, value_in, word_place}
 use Rattle.nt_plain.specs.States.{PlainState}
 use Rattle.nt_plain.proofs.Apart.{below_rows, below_values}
 use Rattle.nt_plain.proofs.Tells.{number_below}
-use Rattle.nt_states.proofs.Requests.{all_head, all_tail, as_raised, each_asked}
+use Rattle.nt_states.proofs.Requests.{all_head, all_tail, each_asked}
 use Rattle.nt_plain.proofs.Writes.{AskWithin}
 
 -- ---- requests
@@ -82,33 +83,56 @@ lanes_tell s told (x ∷ lanes) p c fits =
     let here : lane_fits s x ≡ true = all_head (LaneFits s) x lanes fits in
     rw (here, rest) refl
 
-pub own_told : (s : Script) (told : List ℕ) (lanes : List Lane) (asks : List Ask) (p : CpuNo) (n to : ℕ) (over own : List ℕ) → All (LaneFits s) lanes → to
-    ≡ n + 1 → over ≡ table 16 (λ c. told_over (row_value s told) lanes p c) → own
-    ≡ table 16 (λ c. if list_any (is_ask p c) asks then to else value_at over c) → own
-    ≡ table 16 (λ c. raised (list_any (is_ask p c) asks) n (told_over (told_in s told) lanes p c))
-own_told s told lanes asks p n to over own fits number e f =
-    f ∙ table-same 16 (λ c. if list_any (is_ask p c) asks then to else value_at over c)
-    (λ c. raised (list_any (is_ask p c) asks) n (told_over (told_in s told) lanes p c)) each
-  where
-    each : (c : ℕ) → c < 16 → (if list_any (is_ask p c) asks then to else value_at over c)
-        ≡ raised (list_any (is_ask p c) asks) n (told_over (told_in s told) lanes p c)
-    each c h =
-        let value : value_at over c ≡ told_over (told_in s told) lanes p c = ap (λ (v : List ℕ). value_at v c) e
-        ∙ (get_or-table 16 c (λ k. told_over (row_value s told) lanes p k) 0 h ∙ lanes_tell s told lanes p c fits) in
-        rw (number, value) (as_raised (list_any (is_ask p c) asks) n (told_over (told_in s told) lanes p c))
+pub over_below : (told : Told) (lanes : List Lane) (p : CpuNo) (c v : ℕ) → ((x : Lane) → told x p c ≤ v) → told_over told lanes p c ≤ v
+over_below told [] p c v h = omega arith
+over_below told (x ∷ lanes) p c v h =
+    let here : told x p c ≤ v = h x in
+    let rest : told_over told lanes p c ≤ v = over_below told lanes p c v h in
+    omega (arith, here, rest)
 
--- the values that a call finds, by the states of the floor
-pub told_of : (f : PlainState) (st : Stand) (w : What) (s : Script) (slice lanes : List Lane) (asked : List Asked) (asks : List Ask) (over own : List ℕ) → s
+own_told : (asked : Bool) (n told old over own : ℕ) → told ≤ n → over ≡ max old told → own ≡ max over (if asked then n + 1 else 0) → own
+    ≡ max old (raised asked n told)
+own_told true n told old over own l e f = omega (arith, l, e, f)
+own_told false n told old over own l e f = omega (arith, e, f)
+
+-- the values seen after a call that the lanes told of these, by the states of the floor
+pub told_of : (f : PlainState) (st : Stand) (w : What) (s : Script) (slice lanes : List Lane) (asked : List Asked) (asks : List Ask) (old over own : List ℕ) → s
     ≡ f.script → slice ≡ lanes → lanes ≡ what_lanes f.script st w f.lanes → as_asks asked ≡ asks → asks ≡ what_asks f.script st w f.lanes →
-    All (LaneFits f.script) lanes → over ≡ table 16 (λ c. told_over (row_value s f.told) slice st.cpu c) → own
-    ≡ table 16 (λ c. if list_any (is_ask st.cpu c) (as_asks asked) then f.next + 1 else value_at over c) → own
-    ≡ table 16 (λ c. raised (asks_in f.script st w f.lanes st.cpu c) f.next (told_over (told_in f.script f.told) (what_lanes f.script st w f.lanes) st.cpu c))
-told_of f st w s slice lanes asked asks over own script same_lanes touched same_asks requests fits e o =
-    own_told f.script f.told (what_lanes f.script st w f.lanes) (what_asks f.script st w f.lanes) st.cpu f.next (f.next + 1) over own
-    (subst (λ (l : List Lane). All (LaneFits f.script) l) touched fits) refl
-    (e ∙ (ap (λ (t : Script). table 16 (λ c. told_over (row_value t f.told) slice st.cpu c)) script
-    ∙ ap (λ (l : List Lane). table 16 (λ c. told_over (row_value f.script f.told) l st.cpu c)) (same_lanes ∙ touched)))
-    (o ∙ ap (λ (l : List Ask). table 16 (λ c. if list_any (is_ask st.cpu c) l then f.next + 1 else value_at over c)) (same_asks ∙ requests))
+    All (LaneFits f.script) lanes → IsKept f → st.cpu.0 < f.script.cpus → length own ≡ 16 →
+    ((c : ℕ) → c < 16 → value_at over c ≡ max (value_at old c) (told_over (row_value s f.told) slice st.cpu c)) →
+    ((c : ℕ) → c < 16 → value_at own c ≡ max (value_at over c) (if list_any (is_ask st.cpu c) (as_asks asked) then f.next + 1 else 0)) → own
+    ≡ table 16 (λ c. max (value_at old c) (value_at (told_values f st w) c))
+told_of f st w s slice lanes asked asks old over own script same_lanes touched same_asks requests fits kept cpu l e o =
+    is_table own 16 (λ c. max (value_at old c) (value_at (told_values f st w) c)) l each
+  where
+    told : ℕ → ℕ
+    told c = told_over (told_in f.script f.told) (what_lanes f.script st w f.lanes) st.cpu c
+
+    all_fit : All (LaneFits f.script) (what_lanes f.script st w f.lanes)
+    all_fit = subst (λ (x : List Lane). All (LaneFits f.script) x) touched fits
+
+    below : (c : ℕ) → c < 16 → told c ≤ f.next
+    below c h =
+        let most = kept.asked st.cpu c cpu h in
+        let over = over_below (told_in f.script f.told) (what_lanes f.script st w f.lanes) st.cpu c (value_in f.asked st.cpu c)
+        (λ x. kept.told x st.cpu c cpu h) in
+        omega (arith, most, over)
+
+    by_lanes : (c : ℕ) → c < 16 → value_at over c ≡ max (value_at old c) (told c)
+    by_lanes c h =
+        e c h ∙ ap (λ (v : ℕ). max (value_at old c) v)
+        (ap (λ (t : Script). told_over (row_value t f.told) slice st.cpu c) script
+        ∙ (ap (λ (x : List Lane). told_over (row_value f.script f.told) x st.cpu c) (same_lanes ∙ touched)
+        ∙ lanes_tell f.script f.told (what_lanes f.script st w f.lanes) st.cpu c all_fit))
+
+    by_own : (c : ℕ) → c < 16 → value_at own c ≡ max (value_at over c) (if asks_in f.script st w f.lanes st.cpu c then f.next + 1 else 0)
+    by_own c h =
+        o c h ∙ ap (λ (x : List Ask). max (value_at over c) (if list_any (is_ask st.cpu c) x then f.next + 1 else 0)) (same_asks ∙ requests)
+
+    each : (c : ℕ) → c < 16 → value_at own c ≡ max (value_at old c) (value_at (told_values f st w) c)
+    each c h =
+        own_told (asks_in f.script st w f.lanes st.cpu c) f.next (told c) (value_at old c) (value_at over c) (value_at own c) (below c h) (by_lanes c h) (by_own c h)
+        ∙ ap (λ (v : ℕ). max (value_at old c) v) (sym (get_or-table 16 c (λ k. raised (asks_in f.script st w f.lanes st.cpu k) f.next (told k)) 0 h))
 
 pub words_within : (s : Script) (words : List ℕ) (asked : List Asked) (asks : List Ask) → length words ≡ 16 * s.cpus → as_asks asked ≡ asks →
     All (AskFits s) asks → All (λ a. word_place a.cpu a.class < length words) asked

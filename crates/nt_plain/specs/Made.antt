@@ -9,8 +9,9 @@ use Rattle.nt_event.specs.declared.numbers.CpuNo.{CpuNo}
 use Rattle.nt_event.specs.declared.scripts.Script.{Script}
 use Rattle.nt_event.specs.Acting.{acted_event}
 use Rattle.nt_event.specs.Lanes.{lane_count, lanes_after, what_lanes}
-use Rattle.nt_event.specs.Requests.{Ask, what_asks}
-use Rattle.nt_floor.specs.Acts.{Found}
+use Rattle.nt_event.specs.Lists.{table}
+use Rattle.nt_event.specs.Requests.{Ask, asks_in, raised, what_asks}
+use Rattle.nt_floor.specs.Acts.{Found, told_over}
 use Rattle.nt_states.specs.AllStates.{AllStates}
 use Rattle.nt_states.specs.Allowed.{MayMake}
 use Rattle.nt_states.specs.LaneLists.{AskFits, LaneFits}
@@ -68,6 +69,14 @@ tell_lane s to x (a ∷ asks) told = tell_lane s to x asks (set told (told_place
 abbrev pub tell_lanes : Script → ℕ → List Lane → List Ask → List ℕ → List ℕ
 tell_lanes s to [] asks told = told
 tell_lanes s to (x ∷ lanes) asks told = tell_lanes s to lanes asks (tell_lane s to x asks told)
+
+-- ---- what is told
+
+-- the greatest values that the lanes that an event touches tell its processor, its own requests among them
+abbrev pub told_values : PlainState → Stand → What → List ℕ
+told_values f st w =
+    table 16 (λ c. raised (asks_in f.script st w f.lanes st.cpu c) f.next
+    (told_over (told_in f.script f.told) (what_lanes f.script st w f.lanes) st.cpu c))
 
 -- ---- calls
 

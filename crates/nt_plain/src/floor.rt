@@ -1,7 +1,7 @@
 //! The floor in memory as words and as a floor.
 use crate::plain::PlainFloor;
-use nt_event::{CpuNo, Event, Job, Rises};
-use nt_floor::{ActRefusal, Floor, Made, Words};
+use nt_event::{CpuNo, Event, Job};
+use nt_floor::{ActRefusal, Floor, Made, Seen, Words};
 use nt_frame::StandView;
 
 impl<'s> Words for PlainFloor<'s> {
@@ -56,13 +56,13 @@ impl<'s> Floor for PlainFloor<'s> {
         &mut self,
         job: &Job,
         stand: &StandView,
-        told: &mut Rises,
+        seen: &mut Seen,
         event: &mut Event,
     ) -> Result<Made, ActRefusal> {
         self.kept();
         self.kinds();
         match self.decide(job, stand, &mut event.what) {
-            Ok(()) => Ok(self.make(stand, told, event)),
+            Ok(()) => Ok(self.make(stand, seen, event)),
             Err(refusal) => Err(refusal),
         }
     }

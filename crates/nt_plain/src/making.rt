@@ -1,23 +1,24 @@
 //! The event of a job, and what it leaves of the floor.
-ghost use Rattle.std.specs.Prelude.{◌≡◌, ◌<◌, ◌^◌, All, IfErr, IfSome, IsErrOf, OnErr, OnOk, Some};
+ghost use Rattle.std.specs.Prelude.{◌≡◌, ◌<◌, ◌^◌, All, IfErr, IfSome, IsErrOf, OnErr, OnOk, Some, false, max};
 ghost use Rattle.nt_event.specs.Acting.{acted_event};
 ghost use Rattle.nt_event.specs.Frames.{due_of};
 ghost use Rattle.nt_event.specs.Jobs.{job_event};
 ghost use Rattle.nt_event.specs.Lanes.{what_lanes};
-ghost use Rattle.nt_event.specs.Requests.{asks_in, raised, what_asks};
-ghost use Rattle.nt_event.specs.Lists.{table};
+ghost use Rattle.nt_event.specs.Requests.{what_asks};
+ghost use Rattle.nt_event.specs.Lists.{table, value_at};
 ghost use Rattle.nt_floor.specs.declared.floor.ActRefusal.{ActRefusal};
-ghost use Rattle.nt_floor.specs.Acts.{Found, IsRefused, KindsFit, told_over};
+ghost use Rattle.nt_floor.specs.Acts.{Found, IsRefused, KindsFit};
+ghost use Rattle.nt_floor.specs.Seen.{SameInterrupts};
 ghost use Rattle.nt_states.specs.Allowed.{MayMake, MayDo};
 ghost use Rattle.nt_states.specs.LaneLists.{AskFits, LaneFits};
-ghost use Rattle.nt_plain.specs.Made.{IsPlanned, made, states_of};
-ghost use Rattle.nt_plain.specs.Places.{told_in};
+ghost use Rattle.nt_plain.specs.Made.{IsPlanned, made, states_of, told_values};
 
 use crate::plain::PlainFloor;
-use nt_event::{Event, Job, Rises, What};
-use nt_floor::{ActRefusal, Made};
+use crate::told::raise_own;
+use nt_event::{Event, Job, What};
+use nt_floor::{ActRefusal, Made, Seen};
 use nt_frame::StandView;
-use nt_states::{Asks, Touched, tell_own};
+use nt_states::{Asks, Touched};
 
 impl<'s> PlainFloor<'s> {
     /// Writes the event of the job where the caller keeps it, for a processor that stands so, or answers why there is none.
@@ -47,14 +48,15 @@ impl<'s> PlainFloor<'s> {
     }
 
     /// Makes the event of a processor that stands so which does what stands in its place.
-    pub(crate) fn make(&mut self, stand: &StandView, told: &mut Rises, event: &mut Event) -> Made
+    pub(crate) fn make(&mut self, stand: &StandView, seen: &mut Seen, event: &mut Event) -> Made
         requires given { MayMake (states_of self.old) stand.now event.old.what }
         requires room { self.old.next < self.old.limit }
         ensures number { result.number ≡ self.old.next }
         ensures event { event.new ≡ acted_event stand.now self.old.lanes event.old.what }
         ensures due { result.due ≡ due_of event.old.what self.old.lanes.timers.now }
         ensures due_fits { IfSome result.due (λ due. due < 2 ^ 51) }
-        ensures told { told.new.value ≡ table 16 (λ c. raised (asks_in self.old.script stand.now event.old.what self.old.lanes stand.now.cpu c) self.old.next (told_over (told_in self.old.script self.old.told) (what_lanes self.old.script stand.now event.old.what self.old.lanes) stand.now.cpu c)) }
+        ensures seen { seen.new ≡ table 16 (λ c. max (value_at seen.old c) (value_at (told_values self.old stand.now event.old.what) c)) }
+        ensures interrupts { result.interrupts ≡ false → SameInterrupts seen.old seen.new }
         ensures lanes_named { All (LaneFits self.old.script) (what_lanes self.old.script stand.now event.old.what self.old.lanes) }
         ensures asks_named { All (AskFits self.old.script) (what_asks self.old.script stand.now event.old.what self.old.lanes) }
         ensures state { self.new ≡ made stand.now event.old.what self.old }
@@ -65,28 +67,37 @@ impl<'s> PlainFloor<'s> {
         let due = nt_states::due(&self.states, what);
         let lanes = nt_states::event_lanes(&self.states, stand, what);
         let asks = nt_states::event_asks(&self.states, stand, what);
-        self.tell_by(stand, what, &lanes, &asks, told);
+        let interrupts = self.tell_by(stand, what, &lanes, &asks, seen);
         self.leave(stand, event, &lanes, &asks);
-        Made { number, due }
+        Made {
+            number,
+            due,
+            interrupts,
+        }
     }
 
-    /// Writes what the lanes that an event touches tell for its processor, its own requests among it.
+    /// Raises what the event's processor has seen to what the lanes that it touches tell, its own requests among it. False only where
+    /// what was seen of interrupts is as before.
     fn tell_by(
         &self,
         stand: &StandView,
         what: &What,
         lanes: &Touched,
         asks: &Asks,
-        told: &mut Rises,
-    )
+        seen: &mut Seen,
+    ) -> bool
         requires { IsPlanned self.now stand.now what.now lanes.now asks.now }
-        ensures { told.new.value ≡ table 16 (λ c. raised (asks_in self.now.script stand.now what.now self.now.lanes stand.now.cpu c) self.now.next (told_over (told_in self.now.script self.now.told) (what_lanes self.now.script stand.now what.now self.now.lanes) stand.now.cpu c)) }
+        ensures values { seen.new ≡ table 16 (λ c. max (value_at seen.old c) (value_at (told_values self.now stand.now what.now) c)) }
+        ensures interrupts { result ≡ false → SameInterrupts seen.old seen.new }
     {
         let _what = what;
         let script = self.states.whole_script();
-        self.told
-            .over(script, lanes.as_slice(), stand.cpu(), &mut told.value);
-        tell_own(&mut told.value, asks.as_slice(), stand.cpu(), self.next + 1);
+        let by_lanes = self
+            .told
+            .raise_over(script, lanes.as_slice(), stand.cpu(), seen);
+        let interrupts = raise_own(seen, asks.as_slice(), stand.cpu(), self.next + 1) || by_lanes;
+        seen.classes();
+        interrupts
     }
 
     /// What the event leaves of the floor.

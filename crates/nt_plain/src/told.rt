@@ -1,15 +1,19 @@
 //! What the lanes tell of requests.
-ghost use Rattle.std.specs.Prelude.{◌≡◌, ◌+◌, ◌*◌, ◌<◌, ◌≤◌, ◌^◌, ℕ, All, IfOk, false, get_or, length, max, replicate, set};
+ghost use Rattle.std.specs.List.{list_any};
+ghost use Rattle.std.specs.Prelude.{◌≡◌, ◌+◌, ◌*◌, ◌<◌, ◌≤◌, ◌^◌, ℕ, All, IfOk, false, get_or, if◌then◌else◌, length, max, replicate, set};
 ghost use Rattle.nt_event.specs.Lanes.{lane_number as number_of};
 ghost use Rattle.nt_event.specs.Lists.{table, value_at};
+ghost use Rattle.nt_event.specs.Requests.{is_ask};
 ghost use Rattle.nt_floor.specs.Acts.{told_over};
-ghost use Rattle.nt_states.specs.LaneLists.{as_asks};
+ghost use Rattle.nt_floor.specs.Seen.{SameInterrupts};
+ghost use Rattle.nt_states.specs.LaneLists.{as_ask, as_asks};
 ghost use Rattle.nt_plain.specs.Classes.{is_told_class, raised_class};
 ghost use Rattle.nt_plain.specs.Made.{tell_lane, tell_lanes};
 ghost use Rattle.nt_plain.specs.Places.{row_of as row_place, row_value, told_place};
 
 use crate::places::{lane_number, row_of};
 use nt_event::{CpuNo, Lane, Script, class};
+use nt_floor::Seen;
 use nt_states::Asked;
 use std::alloc::{AllocError, Global};
 use std::marker::Model;
@@ -48,28 +52,39 @@ impl ToldValues {
         self.values[row * 16 + usize::from(class)] = value;
     }
 
-    /// The greater ones of these values and those of a row.
-    pub(crate) fn raise(&self, row: usize, values: &mut [u64; 16])
+    /// Raises what was seen to the values of a row. False only where what was seen of interrupts is as before.
+    fn raise(&self, row: usize, seen: &mut Seen) -> bool
         requires row { row * 16 + 16 ≤ length self.now }
         requires others { (c : ℕ) → c < 16 → is_told_class c ≡ false → get_or self.now (row * 16 + c) 0 ≡ 0 }
-        ensures { values.new ≡ table 16 (λ c. max (get_or self.now (row * 16 + c) 0) (value_at values.old c)) }
+        ensures values { seen.new ≡ table 16 (λ c. max (value_at seen.old c) (get_or self.now (row * 16 + c) 0)) }
+        ensures interrupts { result ≡ false → SameInterrupts seen.old seen.new }
     {
-        raise_by(values, &self.values[row * 16..row * 16 + 16]);
+        raise_by(seen, &self.values[row * 16..row * 16 + 16])
     }
 
-    /// Writes what these lanes tell for a processor: for each class the greatest value.
-    pub(crate) fn over(&self, script: &Script, lanes: &[Lane], p: CpuNo, values: &mut [u64; 16])
+    /// Raises what a processor has seen to what these lanes tell it. False only where what was seen of interrupts is as before.
+    pub(crate) fn raise_over(
+        &self,
+        script: &Script,
+        lanes: &[Lane],
+        p: CpuNo,
+        seen: &mut Seen,
+    ) -> bool
         requires rows { All (λ x. row_place script.now.cpus (number_of script.now x) p * 16 + 16 ≤ length self.now) lanes.now }
         requires numbers { All (λ x. number_of script.now x < 2 ^ 32) lanes.now }
         requires room { length self.now < 2 ^ 32 }
         requires others { All (λ x. (c : ℕ) → c < 16 → is_told_class c ≡ false → row_value script.now self.now x p c ≡ 0) lanes.now }
-        ensures { values.new ≡ table 16 (λ c. told_over (row_value script.now self.now) lanes.now p c) }
+        ensures values { (c : ℕ) → c < 16 → value_at seen.new c ≡ max (value_at seen.old c) (told_over (row_value script.now self.now) lanes.now p c) }
+        ensures interrupts { result ≡ false → SameInterrupts seen.old seen.new }
     {
-        *values = [0; 16];
+        let mut interrupts = false;
         for lane in lanes {
             let row = row_of(script.cpus, lane_number(script, *lane), p);
-            self.raise(row, values);
+            if self.raise(row, seen) {
+                interrupts = true;
+            }
         }
+        interrupts
     }
 
     /// Each of these lanes tells of these requests with a value.
@@ -99,24 +114,52 @@ impl ToldValues {
     }
 }
 
-/// The greater one of each two values. Lanes tell of four classes alone, so the others are not looked at.
-fn raise_by(values: &mut [u64; 16], told: &[u64])
+/// Raises what was seen to these values. False only where what was seen of interrupts is as before. Lanes tell of four classes alone, so
+/// the others are not looked at.
+fn raise_by(seen: &mut Seen, told: &[u64]) -> bool
     requires classes { length told.now ≡ 16 }
     requires others { (c : ℕ) → c < 16 → is_told_class c ≡ false → get_or told.now c 0 ≡ 0 }
-    ensures { values.new ≡ table 16 (λ c. max (get_or told.now c 0) (value_at values.old c)) }
+    ensures values { seen.new ≡ table 16 (λ c. max (value_at seen.old c) (get_or told.now c 0)) }
+    ensures interrupts { result ≡ false → SameInterrupts seen.old seen.new }
 {
-    raise_class(values, told, class::THREADED);
-    raise_class(values, told, class::APC);
-    raise_class(values, told, class::DISPATCH);
-    raise_class(values, told, class::CLOCK);
+    raise_class(seen, told, class::THREADED);
+    raise_class(seen, told, class::APC);
+    raise_class(seen, told, class::DISPATCH);
+    raise_class(seen, told, class::CLOCK)
 }
 
-/// The greater one of two values of a class.
-fn raise_class(values: &mut [u64; 16], told: &[u64], class: u8)
+/// Raises what was seen of a class to the value told of it. False only where what was seen of interrupts is as before.
+fn raise_class(seen: &mut Seen, told: &[u64], class: u8) -> bool
     requires classes { length told.now ≡ 16 }
     requires class { class < 16 }
-    ensures { values.new ≡ raised_class class told.now values.old }
+    ensures values { seen.new ≡ raised_class class told.now seen.old }
+    ensures interrupts { result ≡ false → SameInterrupts seen.old seen.new }
 {
-    let at = usize::from(class);
-    values[at] = values[at].max(told[at]);
+    seen.raise(class, told[usize::from(class)])
+}
+
+/// Raises what a processor has seen to this value in the class that a request asks it for. False only where what was seen of interrupts
+/// is as before.
+fn raise_ask(seen: &mut Seen, ask: Asked, p: CpuNo, to: u64) -> bool
+    requires { ask.class < 16 }
+    ensures values { (c : ℕ) → c < 16 → value_at seen.new c ≡ max (value_at seen.old c) (if is_ask p c (as_ask ask) then to else 0) }
+    ensures interrupts { result ≡ false → SameInterrupts seen.old seen.new }
+{
+    ask.cpu.0 == p.0 && seen.raise(ask.class, to)
+}
+
+/// Raises what a processor has seen to this value in the classes that these requests ask it for. False only where what was seen of
+/// interrupts is as before.
+pub(crate) fn raise_own(seen: &mut Seen, asks: &[Asked], p: CpuNo, to: u64) -> bool
+    requires { All (λ a. a.class < 16) asks.now }
+    ensures values { (c : ℕ) → c < 16 → value_at seen.new c ≡ max (value_at seen.old c) (if list_any (is_ask p c) (as_asks asks.now) then to else 0) }
+    ensures interrupts { result ≡ false → SameInterrupts seen.old seen.new }
+{
+    let mut interrupts = false;
+    for ask in asks {
+        if raise_ask(seen, *ask, p, to) {
+            interrupts = true;
+        }
+    }
+    interrupts
 }

@@ -1,9 +1,10 @@
-use Rattle.std.proofs.Common.{ap, sym, ◌∙◌}
+use Rattle.std.proofs.Common.{ap, arith, sym, ◌∙◌}
+use Rattle.std.proofs.lemmas.Bool.Decides.{nat_tests}
 use Rattle.nt_event.specs.declared.events.What.{What}
 use Rattle.nt_event.specs.Lists.{table, value_at}
 use Rattle.nt_event.specs.Regions.{sweep_after}
 use Rattle.nt_event.specs.Requests.{served_after, serves}
-use Rattle.nt_cpu.proofs.Served.{serves_none}
+use Rattle.nt_cpu.proofs.Served.{serves_below, serves_none}
 use Rattle.nt_cpu.proofs.keeping.Kept.take_up.Goals as goal
 
 pub returns-in-Switch-clause-served : goal.returns-in-Switch-clause-served
@@ -60,3 +61,7 @@ pub returns-in-Call-clause-sweep : goal.returns-in-Call-clause-sweep
 returns-in-Call-clause-sweep c =
     let k = c.in-Call in
     c.sweep_after-self.ensures k.frame ∙ ap (λ (w : What). sweep_after w c.args.self.now.sweep) (sym k.is)
+
+pub returns-after-class-ne-DISPATCH-clause-interrupts : goal.returns-after-class-ne-DISPATCH-clause-interrupts
+returns-after-class-ne-DISPATCH-clause-interrupts c h =
+    serves_below c.args.self.now.served c.args.seen.now c.serve.new.served c.in-Clean.class (grind (arith, nat_tests)) c.serve.ensures

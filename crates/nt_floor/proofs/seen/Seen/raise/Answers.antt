@@ -5,16 +5,16 @@ use Rattle.nt_floor.proofs.Sums.{sum_fits, sum_rises}
 use Rattle.nt_floor.proofs.Values.{raised_already, raised_one}
 use Rattle.nt_floor.proofs.seen.Seen.raise.Goals as goal
 
-pub returns-then-rises-clause-values : goal.returns-then-rises-clause-values
-returns-then-rises-clause-values c =
-    let t = c.if-rises.true in
+pub returns-then-old-to-clause-values : goal.returns-then-old-to-clause-values
+returns-then-old-to-clause-values c =
+    let t = c.if-old-to.true in
     subst (λ (xs : List ℕ). slice_set c.self.inside.values c.args.class c.args.to
     ≡ table 16 (λ k. max (value_at xs k) (if c.args.class == k then c.args.to else 0))) c.self.view_is
     (raised_one c.self.inside.values c.args.class c.args.to c.self.told c.requires (omega (arith, t)))
 
-pub returns-else-rises-clause-values : goal.returns-else-rises-clause-values
-returns-else-rises-clause-values c =
-    let t = c.if-rises.false in
+pub returns-else-old-to-clause-values : goal.returns-else-old-to-clause-values
+returns-else-old-to-clause-values c =
+    let t = c.if-old-to.false in
     subst (λ (xs : List ℕ). xs ≡ table 16 (λ k. max (value_at xs k) (if c.args.class == k then c.args.to else 0))) c.self.view_is
     (raised_already c.self.inside.values c.args.class c.args.to c.self.told (omega (arith, t)))
 

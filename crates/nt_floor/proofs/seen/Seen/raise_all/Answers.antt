@@ -19,8 +19,8 @@ loop-class-preserved c = record {
   high = λ k h b. raised_other c.loop-class.self c.raise.new.self c.loop-class.class (value_at c.args.values.now c.loop-class.class) k c.raise.ensures.values b
       (λ e. omega (arith, h, e)) ∙ c.loop-class.invariant.high k (omega (arith, h)) b;
   values = search rules;
-  same = elim c.if-raise.branch [
-    | then-raise w ↦ (λ h. let e = sym w.raised-is ∙ h in absurd cc)
-    | else-raise w ↦ (λ h. c.raise.ensures.same w.if-raise.false ∙ c.loop-class.invariant.same (sym w.raised-is ∙ h))
+  interrupts = elim c.if-raise.branch [
+    | then-raise w ↦ (λ h. let e = sym w.interrupts-is ∙ h in absurd cc)
+    | else-raise w ↦ (λ h k a b. c.raise.ensures.interrupts w.if-raise.false k a b ∙ c.loop-class.invariant.interrupts (sym w.interrupts-is ∙ h) k a b)
   ];
 }

@@ -28,4 +28,4 @@ invariant_of-self-2 g c = record {
 pub returns-clause-event : goal.returns-clause-event
 returns-clause-event g c =
     act_done g.N.Plan.script c.args.stand.now c.args.job.now (pass_view c.args.self.now.pass) (pass_view c.act_under.new.pass) c.args.self.now.marks.now
-    c.in_ok-acted.acted c.requires.room c.in_ok-acted.ensures.done
+    c.in_ok-acted.acted c.args.seen.now c.raise_all.new.self c.requires.room c.in_ok-acted.ensures.done c.raise_all.ensures.values

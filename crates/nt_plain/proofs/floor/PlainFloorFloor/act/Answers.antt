@@ -1,6 +1,7 @@
 use Rattle.std.proofs.Common.{refl}
+use Rattle.nt_event.specs.declared.events.Rises.{Rises}
 use Rattle.nt_floor.specs.Acts.{acted_of}
-use Rattle.nt_plain.specs.Made.{found_of}
+use Rattle.nt_plain.specs.Made.{found_of, told_values}
 use Rattle.nt_plain.proofs.Acts.{is_acted, is_moved, is_told}
 use Rattle.nt_plain.proofs.floor.PlainFloorFloor.act.Goals as goal
 
@@ -14,18 +15,19 @@ returns-in-Ok-clause-event c =
     let st = c.args.stand.now in
     let w = c.decide.new.into in
     let e = c.make.new.event in
-    let m = c.make.ensures in (
+    let m = c.make.ensures in
+    let told : Rises = record { value = told_values f st w } in (
       found_of f,
+      told,
       tt,
       (
-        is_acted f st c.args.job.now w (acted_of c.make.result e c.make.new.told) c.in-Ok.ensures.event c.kinds.ensures m.number m.event m.due
-            m.due_fits m.told,
-        is_moved f c.make.new.self st w c.make.result.number e c.kept.ensures c.requires.room m.lanes_named m.asks_named m.number m.event m.state,
+        is_acted f st c.args.job.now w (acted_of c.make.result e told) c.in-Ok.ensures.event c.kinds.ensures m.number m.event m.due m.due_fits refl,
+        (
+          is_moved f c.make.new.self st w c.make.result.number e c.kept.ensures c.requires.room m.lanes_named m.asks_named m.number m.event m.state,
+          record {
+            seen = m.seen;
+            known = is_told f c.make.new.self st w told.value c.kept.ensures c.requires.stand.cpu m.asks_named m.state refl;
+          },
+        ),
       ),
     )
-
-pub returns-in-Ok-clause-told : goal.returns-in-Ok-clause-told
-returns-in-Ok-clause-told c =
-    let w = c.decide.new.into in
-    is_told c.args.self.now c.make.new.self c.args.stand.now w c.make.new.told.value c.kept.ensures c.requires.stand.cpu c.make.ensures.asks_named
-    c.make.ensures.state c.make.ensures.told

@@ -6,6 +6,6 @@ pub raise_by-requires-clause-others : goal.raise_by-requires-clause-others
 raise_by-requires-clause-others c k h other =
     in_row_of c.deref.result.now c.args.self.now (c.args.row * 16) k (c.deref.ensures.value ∙ c.self.view_is) h ∙ c.requires.others k h other
 
-pub returns : goal.returns
-returns c =
-    c.raise_by.ensures ∙ row_values c.deref.result.now c.args.self.now c.args.values.now (c.args.row * 16) (c.deref.ensures.value ∙ c.self.view_is)
+pub returns-clause-values : goal.returns-clause-values
+returns-clause-values c =
+    c.raise_by.ensures.values ∙ row_values c.deref.result.now c.args.self.now c.args.seen.now (c.args.row * 16) (c.deref.ensures.value ∙ c.self.view_is)
