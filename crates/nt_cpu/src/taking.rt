@@ -22,7 +22,7 @@ fn nested(frames: &Frames)
 }
 
 impl<'s> Cpu<'s> {
-    /// This was noticed.
+    /// This is noticed beside what was seen.
     pub(crate) fn notice(&mut self, notice: &Notice)
         requires { HasClass notice.now }
         ensures { self.new ≡ record self.old { own = record self.old.own { seen = table 16 (λ c. max (value_at self.old.own.seen c) (notice_of notice.now c)) } } }
@@ -31,7 +31,7 @@ impl<'s> Cpu<'s> {
         self.due = greatest_due(self.due, !interrupts, &self.seen, &self.kept.served);
     }
 
-    /// The event of this number and due time happened, and was noticed.
+    /// The event of this number and due time happened; what is noticed of it was seen before.
     pub(crate) fn take_up(&mut self, event: &Event, n: u64, due: Option<u64>)
         requires room { self.old.own.made < self.old.limit }
         requires number { AreNamedBelow n self.old.own.frames }

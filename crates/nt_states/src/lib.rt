@@ -13,7 +13,7 @@
 //! level and its due time are read on the lanes that it touches (`what_lanes` of nt_event). So a floor over locks takes the
 //! lanes of the job, decides, takes those that are touched, decides anew under them, and makes the event there.
 //!
-//! What every floor does once the event is made stands here too: [`tell_own`] is what its own requests tell, [`leave_timers`] what it leaves of
+//! What a floor does once the event is made stands here too: [`tell_own`] is what its own requests tell, [`leave_timers`] what it leaves of
 //! the timers. So do the definitions by which each part of the lanes says what an event leaves and when it may be made: of objects and
 //! queues `specs/DpcLanes.antt`, of threads `specs/ThreadLanes.antt` and `specs/ThreadFits.antt`, of timers `specs/Timed.antt`, and of all
 //! together `specs/AllStates.antt` and `specs/Allowed.antt`.
