@@ -1,7 +1,7 @@
 //! The floor in memory on a small script: its words, an act and the refusals of acts.
 ghost use Rattle.std.specs.Prelude.{◌≡◌, ◌≤◌, ◌+◌, IfErr, IfOk, IsTrue, None, OnOk, length};
 ghost use Rattle.nt_event.specs.Script.{fits};
-ghost use Rattle.nt_floor.specs.Acts.{Found, IsActed, IsMet, IsRefused, StandFits, job_fits};
+ghost use Rattle.nt_acts.specs.Acts.{Found, IsActed, IsMet, IsRefused, StandFits, job_fits};
 ghost use Rattle.nt_frame.specs.Changes.{begun, no_frames};
 
 use nt_event::{

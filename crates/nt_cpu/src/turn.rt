@@ -2,7 +2,7 @@
 ghost use Rattle.std.specs.Prelude.{◌≡◌, ◌&&◌, ℕ, true, IfErr, IfOk, IsErrOf, OnErr, OnOk, Some};
 ghost use Rattle.nt_event.specs.Own.{stand_in};
 ghost use Rattle.nt_event.specs.Step.{cpu_at, is_cut};
-ghost use Rattle.nt_floor.specs.Acts.{Found};
+ghost use Rattle.nt_acts.specs.Acts.{Found};
 ghost use Rattle.nt_floor.specs.Views.{IsUnmoved};
 ghost use Rattle.nt_event.specs.declared.events.Event.{Event};
 ghost use Rattle.nt_event.specs.declared.events.What.{What};

@@ -1,42 +1,9 @@
 //! Events that touch lanes.
 use crate::seen::Seen;
 use crate::words::Words;
-use nt_event::{Event, Job, Rises};
+use nt_acts::{ActRefusal, Made};
+use nt_event::{Event, Job};
 use nt_frame::StandView;
-
-/// All that one act made.
-#[derive(Clone, Copy, PartialEq, Eq, Debug)]
-pub struct Acted {
-    /// The event's number.
-    pub number: u64,
-    pub event: Event,
-    /// The due time of the delay that the event calls, below 2^51.
-    pub due: Option<u64>,
-    /// Per class, the greatest request for this processor that the touched lanes tell, the event's own among them; 0 is none.
-    pub told: Rises,
-}
-
-/// What an act answers beside what it writes in its places.
-#[derive(Clone, Copy, PartialEq, Eq, Debug)]
-pub struct Made {
-    /// The event's number.
-    pub number: u64,
-    /// The due time of the delay that the event calls, below 2^51.
-    pub due: Option<u64>,
-    /// Whether what was seen of interrupts may have risen.
-    pub interrupts: bool,
-}
-
-/// Why no event was made.
-#[derive(Clone, Copy, PartialEq, Eq, Debug)]
-pub enum ActRefusal {
-    /// Idle, with no ordinary DPC queued and a thread ready.
-    NothingToDo,
-    /// A switch to a thread that is not this processor's, or not ready.
-    BadChoice,
-    /// No memory was found.
-    NoMemory,
-}
 
 /// Makes events that touch what several processors share.
 pub trait Floor: Words {
@@ -46,7 +13,7 @@ pub trait Floor: Words {
     ghost use Rattle.nt_event.specs.declared.jobs.Job.{Job};
     ghost use Rattle.nt_event.specs.declared.jobs.Stand.{Stand};
     ghost use Rattle.nt_event.specs.declared.scripts.Script.{Script};
-    ghost use Rattle.nt_floor.specs.Acts.{Found, IsActed, IsMet, IsRefused, StandFits, acted_of, job_fits};
+    ghost use Rattle.nt_acts.specs.Acts.{Found, IsActed, IsMet, IsRefused, StandFits, acted_of, job_fits};
     ghost use Rattle.nt_floor.specs.Seen.{SameInterrupts};
     ghost use Rattle.nt_floor.specs.Views.{IsMoved, IsTold, IsUnmoved, Tells};
 

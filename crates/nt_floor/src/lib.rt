@@ -10,7 +10,8 @@ mod open;
 mod seen;
 mod words;
 
-pub use floor::{ActRefusal, Acted, Floor, Made};
+pub use floor::Floor;
+pub use nt_acts::{ActRefusal, Acted, Made};
 pub use nt_event::Job;
 pub use nt_frame::StandView;
 pub use open::OpenFloor;

@@ -11,7 +11,7 @@ use Rattle.nt_event.specs.LaneStates.{Entry as PieceEntry, entry_if, lane_piece}
 use Rattle.nt_event.specs.Lanes.{lane_count, lane_number, lanes_of, same_lane, touches, what_lanes}
 use Rattle.nt_event.specs.Own.{stand_in}
 use Rattle.nt_states.specs.LaneLists.{LaneFits}
-use Rattle.nt_floor.specs.Acts.{is_among}
+use Rattle.nt_acts.specs.Acts.{is_among}
 use Rattle.nt_mark.proofs.Sums.{in_first, in_none, in_rest, first_or_rest, with_number}
 use Rattle.nt_mark.specs.declared.seats.Keeper.{Keeper}
 use Rattle.nt_mark.specs.declared.view.Entry.{Entry}

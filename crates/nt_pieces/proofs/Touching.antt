@@ -14,7 +14,7 @@ use Rattle.nt_event.specs.Regions.{stand_at}
 use Rattle.nt_event.specs.Routines.{cpu_of}
 use Rattle.nt_event.specs.Waits.{facts}
 use Rattle.nt_event.proofs.Tables.{length-table_from}
-use Rattle.nt_floor.specs.Acts.{Found}
+use Rattle.nt_acts.specs.Acts.{Found}
 use Rattle.nt_runs.proofs.Locality.Jobs.{SameOn}
 use Rattle.nt_runs.proofs.Locality.Leaves.{lanes_same}
 use Rattle.nt_runs.proofs.Running.{own_runs}

@@ -16,7 +16,7 @@ use Rattle.nt_event.specs.declared.jobs.Job.{Job}
 use Rattle.nt_event.specs.declared.jobs.Task.TheVariants.{Shared}
 use Rattle.nt_event.specs.declared.numbers.CpuNo.{CpuNo}
 use Rattle.nt_event.specs.declared.scripts.Script.{Script}
-use Rattle.nt_floor.specs.Acts.{Found}
+use Rattle.nt_acts.specs.Acts.{Found}
 use Rattle.nt_floor.specs.Views.{View}
 use Rattle.std.specs.Prelude.{List, Ok, Some, false, true, ℕ, ◌<◌, ◌∷◌, ◌≡◌}
 

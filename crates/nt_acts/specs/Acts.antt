@@ -18,10 +18,10 @@ use Rattle.nt_event.specs.Requests.{asks_in, raised}
 use Rattle.nt_event.specs.Routines.{kind_of}
 use Rattle.nt_event.specs.Script.{command_fits, has_cpu, has_dpc, has_thread}
 use Rattle.nt_event.specs.Lists.{value_at}
-use Rattle.nt_floor.specs.declared.floor.ActRefusal.{ActRefusal}
-use Rattle.nt_floor.specs.declared.floor.ActRefusal.TheVariants.{BadChoice, NoMemory, NothingToDo}
-use Rattle.nt_floor.specs.declared.floor.Acted.{Acted}
-use Rattle.nt_floor.specs.declared.floor.Made.{Made}
+use Rattle.nt_acts.specs.declared.acts.ActRefusal.{ActRefusal}
+use Rattle.nt_acts.specs.declared.acts.ActRefusal.TheVariants.{BadChoice, NoMemory, NothingToDo}
+use Rattle.nt_acts.specs.declared.acts.Acted.{Acted}
+use Rattle.nt_acts.specs.declared.acts.Made.{Made}
 
 -- ---- conditions
 
