@@ -1,7 +1,10 @@
 //! The floor in memory on a small script: its words, an act and the refusals of acts.
 ghost use Rattle.std.specs.Prelude.{◌≡◌, ◌≤◌, ◌+◌, IfErr, IfOk, IsTrue, None, OnOk, length};
 ghost use Rattle.nt_event.specs.Script.{fits};
+ghost use Rattle.nt_event.specs.declared.events.Rises.{Rises};
+ghost use Rattle.nt_event.specs.Lists.{table};
 ghost use Rattle.nt_acts.specs.Acts.{Found, IsActed, IsMet, IsRefused, StandFits, job_fits};
+ghost use Rattle.nt_floor.specs.Views.{IsTold};
 ghost use Rattle.nt_frame.specs.Changes.{begun, no_frames};
 
 use nt_event::{
@@ -94,7 +97,7 @@ fn act<F: Floor>(floor: &mut F, job: Job, stand: &StandView) -> Result<Acted, Ac
     requires job { IsTrue (job_fits (F.script floor.old) job) }
     requires stand { StandFits (F.script floor.old) stand.now }
     requires met { IsMet (F.script floor.old) (F.view floor.old).states stand.now job }
-    ensures event { IfOk result (λ a. (f : Found) × F.found floor.new a.number a.event stand.now f × IsActed (F.script floor.old) f stand.now job a) }
+    ensures event { IfOk result (λ a. (f : Found) × (told : Rises) × F.found floor.new a.number a.event stand.now f × (IsActed (F.script floor.old) f stand.now job (record a { told = told }) × IsTold stand.now told (table 16 (λ c. 0)) a.told.value (F.view floor.new))) }
     ensures cause { IfErr result (λ r. (f : Found) × F.shows floor.new stand.now job f × IsRefused (F.script floor.old) f stand.now job r) }
 {
     let mut seen = Seen::new();

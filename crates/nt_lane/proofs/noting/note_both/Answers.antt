@@ -19,7 +19,7 @@ use Rattle.nt_lane.proofs.noting.note_both.Goals as goal
 
 pub leave_both-requires : goal.leave_both-requires
 leave_both-requires g c =
-    subst (λ (p : CpuNo). MayChangeBoth c.args.object.now.state c.args.queue.now.state p (change_of c.args.step.now.plan.now.event.what)) (sym c.requires.cpu)
+    subst (λ (p : CpuNo). MayChangeBoth c.args.object.now.state c.args.queue.now.state p (change_of c.args.step.now.plan.now.event.what)) (sym (c.cpu.ensures ∙ c.requires.cpu))
     c.requires.may.may
 
 pub note_step-requires-2-clause-step : goal.note_step-requires-2-clause-step
@@ -37,7 +37,7 @@ invariant_of-object g c =
     let n = c.args.step.now.number in
     let e = c.args.step.now.plan.now.event in
     let left : new ≡ object_left n e o =
-    c.leave_both.ensures.object ∙ ap (λ (p : CpuNo). record o { state = object_after o.dpc n p e.what o.state }) c.requires.cpu in
+    c.leave_both.ensures.object ∙ ap (λ (p : CpuNo). record o { state = object_after o.dpc n p e.what o.state }) (c.cpu.ensures ∙ c.requires.cpu) in
     let dpc : new.dpc ≡ o.dpc = ap (λ (x : ObjectFacts). x.dpc) left in
     let time : 0 ≤ next_of c.note_step.new.log.notes * 2 ^ 32 = omega arith in
     record {
@@ -58,7 +58,7 @@ invariant_of-queue g c =
     let e = c.args.step.now.plan.now.event in
     let objects = c.requires.known.0 in
     let left : new ≡ queue_left s n e objects q = c.leave_both.ensures.queue s objects c.requires.known.1
-    ∙ ap (λ (p : CpuNo). record q { state = queue_after s q.cpu n p e.what objects q.state }) c.requires.cpu in
+    ∙ ap (λ (p : CpuNo). record q { state = queue_after s q.cpu n p e.what objects q.state }) (c.cpu.ensures ∙ c.requires.cpu) in
     let cpu : new.cpu ≡ q.cpu = ap (λ (x : QueueFacts). x.cpu) left in
     let time : 0 ≤ next_of c.note_step-2.new.log.notes * 2 ^ 32 = omega arith in
     record {
@@ -85,7 +85,7 @@ returns-clause-object g c =
     let asks = c.args.step.now.plan.now.asks in
     let then_left = OfObject (object_left n e o).state in
     let left : new ≡ object_left n e o =
-    c.leave_both.ensures.object ∙ ap (λ (p : CpuNo). record o { state = object_after o.dpc n p e.what o.state }) c.requires.cpu in
+    c.leave_both.ensures.object ∙ ap (λ (p : CpuNo). record o { state = object_after o.dpc n p e.what o.state }) (c.cpu.ensures ∙ c.requires.cpu) in
     knows_later s (pass_view c.note_step.new.pass) (pass_view c.note_step-2.new.pass) n asks then_left old.log c.note_step-2.ensures.noted.learns
     (knows_noted s n c.args.step.now.plan.now.asks (OfObject new.state) old.log c.note_step.new.log (pass_view c.args.pass.now)
     (pass_view c.note_step.new.pass) c.note_step.ensures.noted asks then_left refl (ap (λ (x : ObjectFacts). OfObject x.state) left))
@@ -100,7 +100,7 @@ returns-clause-queue g c objects is =
     let e = c.args.step.now.plan.now.event in
     let asks = c.args.step.now.plan.now.asks in
     let left : new ≡ queue_left s n e objects q = c.leave_both.ensures.queue s objects is
-    ∙ ap (λ (p : CpuNo). record q { state = queue_after s q.cpu n p e.what objects q.state }) c.requires.cpu in
+    ∙ ap (λ (p : CpuNo). record q { state = queue_after s q.cpu n p e.what objects q.state }) (c.cpu.ensures ∙ c.requires.cpu) in
     knows_noted s n c.args.step.now.plan.now.asks (OfQueue new.state) old.log c.note_step-2.new.log (pass_view c.note_step.new.pass)
     (pass_view c.note_step-2.new.pass) c.note_step-2.ensures.noted asks (OfQueue (queue_left s n e objects q).state) refl
     (ap (λ (x : QueueFacts). OfQueue x.state) left)

@@ -1,9 +1,10 @@
 use Rattle.nt_laws.proofs.Named.RunFits.{run_fits}
 use Rattle.ntrun.proofs.answer.run_summary.Goals as goal
 
-pub summary-requires-clause-fit : goal.summary-requires-clause-fit
-summary-requires-clause-fit c =
-    run_fits c.args.script.now _ c.in_ok-history.history.events c.requires.fits c.in_ok-history.ensures.run
+pub summary-requires : goal.summary-requires
+summary-requires c = record {
+  fit = run_fits c.args.script.now _ c.in_ok-history.history.events c.requires.fits c.in_ok-history.ensures.run;
+}
 
 pub returns : goal.returns
 returns c = (

@@ -14,7 +14,7 @@ pub raise_over-by_lanes-requires-clause-rows : goal.raise_over-by_lanes-requires
 raise_over-by_lanes-requires-clause-rows c =
     let planned : IsPlanned (state_in c.self.inside) c.args.stand.now c.args.what.now c.args.lanes.now c.args.asks.now = subst
     (λ (f : PlainState). IsPlanned f c.args.stand.now c.args.what.now c.args.lanes.now c.args.asks.now) (sym c.self.view_is) c.requires in
-    rw (c.whole_script-script.ensures, c.as_slice.ensures)
+    rw (c.whole_script-script.ensures, c.as_slice.ensures, c.cpu.ensures)
     (rows_within c.self.inside.states.script c.self.inside.told c.args.lanes.now c.args.stand.now.cpu c.self.invariant.told_length planned.lanes_named
     (ltb-true c.args.stand.now.cpu.0 c.self.inside.states.script.cpus planned.given.may.stand.cpu))
 
@@ -23,7 +23,7 @@ raise_over-by_lanes-requires-clause-others c =
     let planned : IsPlanned (state_in c.self.inside) c.args.stand.now c.args.what.now c.args.lanes.now c.args.asks.now = subst
     (λ (f : PlainState). IsPlanned f c.args.stand.now c.args.what.now c.args.lanes.now c.args.asks.now) (sym c.self.view_is) c.requires in
     let cpu = ltb-true c.args.stand.now.cpu.0 c.self.inside.states.script.cpus planned.given.may.stand.cpu in
-    rw (c.whole_script-script.ensures, c.as_slice.ensures)
+    rw (c.whole_script-script.ensures, c.as_slice.ensures, c.cpu.ensures)
     (others_untold c.self.inside.states.script c.self.inside.told c.args.lanes.now c.args.stand.now.cpu planned.lanes_named
     (λ x k h other. c.self.invariant.told_others x c.args.stand.now.cpu k cpu h other))
 
@@ -38,11 +38,12 @@ returns-clause-values c =
     let planned : IsPlanned (state_in c.self.inside) st w c.args.lanes.now c.args.asks.now = subst
     (λ (f : PlainState). IsPlanned f st w c.args.lanes.now c.args.asks.now) (sym c.self.view_is) c.requires in
     let cpu = ltb-true st.cpu.0 c.self.inside.states.script.cpus planned.given.may.stand.cpu in
+    let by_lanes = rw c.cpu.ensures at c.raise_over-by_lanes.ensures.values in
+    let by_own = rw c.cpu-2.ensures at c.raise_own.ensures.values in
     subst (λ (f : PlainState). c.raise_own.new.seen ≡ table 16 (λ k. max (value_at c.args.seen.now k) (value_at (told_values f st w) k))) c.self.view_is
     (told_of (state_in c.self.inside) st w c.whole_script-script.result.now c.as_slice.result.now c.args.lanes.now c.as_slice-2.result.now c.args.asks.now
     c.args.seen.now c.raise_over-by_lanes.new.seen c.raise_own.new.seen c.whole_script-script.ensures c.as_slice.ensures planned.lanes
-    c.as_slice-2.ensures planned.asks planned.lanes_named c.self.invariant cpu c.classes.ensures c.raise_over-by_lanes.ensures.values
-    c.raise_own.ensures.values)
+    c.as_slice-2.ensures planned.asks planned.lanes_named c.self.invariant cpu c.classes.ensures by_lanes by_own)
 
 pub returns-clause-interrupts : goal.returns-clause-interrupts
 returns-clause-interrupts c =

@@ -5,7 +5,8 @@ use Rattle.nt_plain.proofs.states.States.leave.Goals as goal
 
 pub leave-requires-clause-event : goal.leave-requires-clause-event
 leave-requires-clause-event c =
-    may_leave_dpcs c.self.inside c.args.self.now c.args.stand.now c.args.event.now.what c.self.invariant c.self.view_is c.requires.given
+    rw c.cpu.ensures
+    (may_leave_dpcs c.self.inside c.args.self.now c.args.stand.now c.args.event.now.what c.self.invariant c.self.view_is c.requires.given)
 
 pub leave-requires-2 : goal.leave-requires-2
 leave-requires-2 c =
@@ -19,20 +20,22 @@ leave_timers-requires-clause-may c = (
 
 pub invariant_of-self : goal.invariant_of-self
 invariant_of-self c =
+    let dpcs = rw c.cpu.ensures at c.leave.ensures in
     kept_after c.self.inside (record {
       script = c.self.inside.script;
       dpcs = c.leave.new.self;
       threads = c.leave-2.new.self;
       timers = c.leave_timers.new.timers;
     }) c.args.self.now c.args.n c.args.stand.now c.args.event.now c.self.invariant c.self.view_is c.requires.given
-    c.requires.event (record { script = refl; dpcs = c.leave.ensures; threads = c.leave-2.ensures; timers = c.leave_timers.ensures.timers })
+    c.requires.event (record { script = refl; dpcs = dpcs; threads = c.leave-2.ensures; timers = c.leave_timers.ensures.timers })
 
 pub returns-clause-lanes : goal.returns-clause-lanes
 returns-clause-lanes c =
+    let dpcs = rw c.cpu.ensures at c.leave.ensures in
     all_left c.self.inside (record {
       script = c.self.inside.script;
       dpcs = c.leave.new.self;
       threads = c.leave-2.new.self;
       timers = c.leave_timers.new.timers;
     }) c.args.self.now c.args.n c.args.stand.now c.args.event.now c.self.invariant c.self.view_is c.requires.given
-    c.requires.event (record { script = refl; dpcs = c.leave.ensures; threads = c.leave-2.ensures; timers = c.leave_timers.ensures.timers })
+    c.requires.event (record { script = refl; dpcs = dpcs; threads = c.leave-2.ensures; timers = c.leave_timers.ensures.timers })
