@@ -99,6 +99,7 @@ fn mark<W: Words>(words: &mut W, asked: Option<Asked>, n: u64)
 
 impl<'s> Cpu<'s> {
     /// What the call of a command asks for.
+    #[inline(always)]
     fn call_asks(&self, command: &Command, reply: &Reply) -> Option<Asked>
         ensures asks { result ≡ call_asks_of (stand_in self.now.cpu self.now.own) command.now reply.now }
         ensures class { IfSome result (λ a. a.class < 16) }
@@ -126,6 +127,7 @@ impl<'s> Cpu<'s> {
     }
 
     /// Whether a normal kernel APC ends, or the running thread gives up its last region of a kind, where the innermost frame ends.
+    #[inline(always)]
     fn end_asks(&self) -> bool
         ensures { result ≡ (ends_normal (stand_in self.now.cpu self.now.own).body || some_came_to_0 (stand_in self.now.cpu self.now.own).regions (stand_in self.now.cpu self.now.own).below) }
     {

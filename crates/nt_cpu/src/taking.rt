@@ -23,6 +23,7 @@ fn nested(frames: &Frames)
 
 impl<'s> Cpu<'s> {
     /// This is noticed beside what was seen.
+    #[inline(always)]
     pub(crate) fn notice(&mut self, notice: &Notice)
         requires { HasClass notice.now }
         ensures { self.new ≡ record self.old { own = record self.old.own { seen = table 16 (λ c. max (value_at self.old.own.seen c) (notice_of notice.now c)) } } }

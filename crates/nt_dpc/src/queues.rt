@@ -216,6 +216,7 @@ impl DpcQueue {
     }
 
     /// Takes the object's entry out, if there is one.
+    #[inline(always)]
     fn take_out(&mut self, d: DpcNo)
         ensures { self.new ≡ without_entry d self.old }
     {

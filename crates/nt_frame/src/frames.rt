@@ -135,6 +135,7 @@ impl Frames {
 
     /// Why this command would be refused in the innermost frame, if it would: the first test that fails, in the order of the
     /// refusals' numbers. Where there is no frame, no thread calls it.
+    #[inline(always)]
     pub fn refusal(&self, command: &Command) -> Option<Refusal>
         ensures { result ≡ refusal_in command.now self.now }
     {
@@ -173,6 +174,7 @@ impl Frames {
     /// DPC at PASSIVE_LEVEL with no frame on the own part; a kernel APC at PASSIVE_LEVEL in a thread whose regions let it through; a
     /// user APC where `touser` would be accepted; the base of a thread that was just taken up and has no frame; a rundown routine in
     /// a leaving thread. The number is above the names of all frames.
+    #[inline(always)]
     pub fn begin(&mut self, body: Body, n: u64)
         requires rules { IsTrue (may_begin body self.old) }
         requires number { AreNamedBelow n self.old }
@@ -399,6 +401,7 @@ impl Frames {
     }
 
     /// The innermost frame, where it may call the command.
+    #[inline(always)]
     fn accepted(&self, command: &Command) -> Result<&Frame, Refusal>
         ensures frame { IfOk result (λ f. innermost self.now ≡ Some f.now) }
         ensures when { OnOk result (refusal_in command.now self.now ≡ None) }

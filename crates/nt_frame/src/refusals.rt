@@ -10,6 +10,7 @@ use nt_level::Level;
 
 /// Why a command is refused at this level, if it is: where the innermost frame is this one, stands on the processor's own part
 /// or not, and its thread is in these regions. The tests are made in the order of the refusals' numbers.
+#[inline(always)]
 pub fn refusal(
     level: Level,
     own: bool,

@@ -51,6 +51,7 @@ fn due(again: Option<Again>) -> Option<u64>
 }
 
 /// What a call in this thread leaves.
+#[inline(always)]
 fn leave_call(timers: &mut TimerQueue, n: u64, event: &Event, command: &Command, reply: &Reply)
     requires may { (s : Script) × CallMayTime s timers.old event.now command.now reply.now }
     requires time { timers.old.now + 2 ^ 32 ≤ 2 ^ 50 }

@@ -20,6 +20,7 @@ impl<'s> Threads<'s> {
     ///
     /// The event is one that a job gives in these states, as the answers of the other calls say: a Switch takes up a ready thread of
     /// the processor with its status, a wait has the reply of [`Threads::wait_reply`], an APC begins where it is due, and so on.
+    #[inline(always)]
     pub fn leave(&mut self, n: u64, stand: &StandView, event: &Event)
         requires { MayLeave self.old stand.now event.now }
         ensures { self.new ≡ left n stand.now event.now self.old }
@@ -56,6 +57,7 @@ impl<'s> Threads<'s> {
     /// The state of the thread that the event names changes, and no other, whoever makes the event: all that it leaves of the threads.
     ///
     /// Where the maker runs is not asked, so a record in which only another processor's threads tell anything takes it too.
+    #[inline(always)]
     pub fn tell(&mut self, t: ThreadNo, n: u64, what: &What)
         requires thread { IsTrue (has_thread self.old.script t) }
         requires named { thread_of self.old.script what.now ≡ Some t }

@@ -74,6 +74,7 @@ impl TimerQueue {
     }
 
     /// Lets the time advance by so many units.
+    #[inline(always)]
     pub fn advance(&mut self, units: u32)
         requires { self.old.now + units < 2 ^ 50 }
         ensures { self.new ≡ record self.old { now = self.old.now + units } }
