@@ -29,15 +29,21 @@ three n lo hi = rw (decimal_pair n lo (omega arith), decimal_digit (n / 100) (om
 pub four : (n : ℕ) → 1000 ≤ n → n < 10000 → decimal n ≡ two_digits (n / 100) ++ two_digits (n % 100)
 four n lo hi = rw (decimal_pair n (omega arith) (omega arith), decimal_two (n / 100) (omega arith) (omega arith)) refl
 
+pub four_again : (n : ℕ) → 1000 ≤ n → n < 10000 → decimal n ≡ two_digits (n % 10000 / 100) ++ two_digits (n % 10000 % 100)
+four_again n lo hi = let same : n % 10000 ≡ n = omega arith in rw same (four n lo hi)
+
 -- a longer number: what stands before its last four digits, and these
 pub longer : (n : ℕ) → 10000 ≤ n → n < 2 ^ 64 → decimal n ≡ decimal (n / 10000) ++ (two_digits (n % 10000 / 100) ++ two_digits (n % 10000 % 100))
 longer n lo hi = decimal_four n lo hi
 
 -- five and six digits
+pub five_by_first : (n : ℕ) → 10000 ≤ n → n < 100000 → decimal n ≡ (48 + n / 10000) ∷ (two_digits (n % 10000 / 100) ++ two_digits (n % 10000 % 100))
+five_by_first n lo hi = rw (longer n lo (omega arith), decimal_digit (n / 10000) (omega arith)) refl
+
 pub five : (n : ℕ) → 10000 ≤ n → n < 100000 → decimal n ≡ (48 + n / 10000 % 10) ∷ (two_digits (n % 10000 / 100) ++ two_digits (n % 10000 % 100))
 five n lo hi =
     let first : n / 10000 % 10 ≡ n / 10000 = omega arith in
-    rw (longer n lo (omega arith), decimal_digit (n / 10000) (omega arith), first) refl
+    rw (five_by_first n lo hi, first) refl
 
 pub six : (n : ℕ) → 100000 ≤ n → n < 1000000 → decimal n ≡ two_digits (n / 10000) ++ (two_digits (n % 10000 / 100) ++ two_digits (n % 10000 % 100))
 six n lo hi = rw (longer n (omega arith) (omega arith), decimal_two (n / 10000) (omega arith) (omega arith)) refl

@@ -73,12 +73,33 @@ pub fn put_digits(out: &mut Vec<u8>, n: u64) -> Result<(), AllocError>
     out.extend_from_slice(&four_digits(n % 10_000))
 }
 
-/// Adds a field behind others.
+/// Adds a field behind others. Most names are short, so these are added in one write of known length.
 pub fn put_field(out: &mut Vec<u8>, field: &[u8]) -> Result<(), AllocError>
     ensures { OnOk result (out.new.items ≡ out.old.items ++ spaced (field.now ∷ [])) }
 {
-    out.push(b' ')?;
-    out.extend_from_slice(field)
+    match field {
+        [a] => out.extend_from_slice(&[b' ', *a]),
+        [a, b] => out.extend_from_slice(&[b' ', *a, *b]),
+        [a, b, c] => out.extend_from_slice(&[b' ', *a, *b, *c]),
+        [a, b, c, d] => out.extend_from_slice(&[b' ', *a, *b, *c, *d]),
+        _ => {
+            out.push(b' ')?;
+            out.extend_from_slice(field)
+        }
+    }
+}
+
+/// Adds a number of four or five digits, as a field behind others.
+fn put_long_number(out: &mut Vec<u8>, n: u64) -> Result<(), AllocError>
+    requires { (1000 ≤ n) × (n < 100000) }
+    ensures { OnOk result (out.new.items ≡ out.old.items ++ spaced (decimal n ∷ [])) }
+{
+    let [thousands, hundreds, tens, ones] = four_digits(n % 10_000);
+    if n < 10_000 {
+        return out.extend_from_slice(&[b' ', thousands, hundreds, tens, ones]);
+    }
+    let first = b'0' + (n / 10_000) as u8;
+    out.extend_from_slice(&[b' ', first, thousands, hundreds, tens, ones])
 }
 
 /// Adds a number, in decimal digits, as a field behind others.
@@ -87,6 +108,9 @@ pub fn put_number(out: &mut Vec<u8>, n: u64) -> Result<(), AllocError>
 {
     if n < 10 {
         return out.extend_from_slice(&[b' ', b'0' + n as u8]);
+    }
+    if 1000 <= n && n < 100_000 {
+        return put_long_number(out, n);
     }
     out.push(b' ')?;
     put_digits(out, n)
