@@ -1,6 +1,7 @@
 -- Which events a brief for each event and the values of the looks stand for.
 use Rattle.std.specs.List.{slice_set}
 use Rattle.std.specs.Prelude.{List, [], get_or, length, map, replicate, ℕ, ◌<◌, ◌≡◌, ◌∷◌}
+use Rattle.nt_event.specs.Lists.{value_at}
 use Rattle.nt_event.specs.declared.events.Event.{Event}
 use Rattle.nt_event.specs.declared.events.Rises.{Rises}
 use Rattle.nt_event.specs.declared.events.What.{What}
@@ -17,6 +18,13 @@ no_rises = record { value = replicate 16 0 }
 
 abbrev pub one_rise : ℕ → ℕ → Rises
 one_rise class value = record { value = slice_set (replicate 16 0) class value }
+
+-- no class below this rose, and none above it
+abbrev pub NoneBelow : ℕ → Rises → Type 0
+NoneBelow class r = (c : ℕ) → c < class → value_at r.value c ≡ 0
+
+abbrev pub NoneAbove : ℕ → Rises → Type 0
+NoneAbove class r = (c : ℕ) → class < c → value_at r.value c ≡ 0
 
 -- where the values of a look in which nothing rose are kept
 abbrev pub nothing : Noticed

@@ -1,6 +1,6 @@
 //! An event without the values of a look.
 ghost use Rattle.std.specs.Prelude.{◌≡◌, ◌↔◌, ◌<◌, IsTrue};
-ghost use Rattle.nt_history.specs.Briefs.{IsLook, brief_of, did_of, event_of, no_rises, nothing, noticed_of, one_rise as one_rise_of, what_of};
+ghost use Rattle.nt_history.specs.Briefs.{IsLook, NoneAbove, NoneBelow, brief_of, did_of, event_of, no_rises, nothing, noticed_of, one_rise as one_rise_of, what_of};
 
 use nt_event::{
     ApcNo, Begun, Command, CpuNo, DpcNo, Event, Level, Reply, Rises, ThreadNo, TimerKey, What,
@@ -28,9 +28,23 @@ pub(crate) fn one_rise(class: u8, value: u64) -> Rises
 
 /// The first class that rose; 0 where none did.
 fn first_rise(rises: &Rises) -> u8
-    ensures { result < 16 }
+    ensures class { result < 16 }
+    ensures below { NoneBelow result rises.now }
 {
     for class in 0..16 {
+        if rises.value[class as usize] != 0 {
+            return class;
+        }
+    }
+    0
+}
+
+/// The last class that rose; 0 where none did.
+fn last_rise(rises: &Rises) -> u8
+    ensures { NoneAbove result rises.now }
+{
+    for passed in 0..16 {
+        let class = 15 - passed;
         if rises.value[class as usize] != 0 {
             return class;
         }
@@ -43,12 +57,15 @@ impl Noticed {
     pub const NOTHING: Noticed = Noticed::One { class: 0, value: 0 };
 
     /// Where these values of a look are kept: here where one class alone rose, else at this place.
+    ///
+    /// One alone rose where the first that rose is the last.
+    #[inline(always)]
     pub(crate) fn of_look(rises: &Rises, at: usize) -> Noticed
         ensures { IsLook at result rises.now }
     {
         let class = first_rise(rises);
         let value = rises.value[class as usize];
-        if one_rise(class, value) == *rises {
+        if class == last_rise(rises) {
             Noticed::One { class, value }
         } else {
             Noticed::Several { at }
