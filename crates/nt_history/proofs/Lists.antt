@@ -35,15 +35,17 @@ written_last (z ∷ xs) x y = ap (λ ys. z ∷ ys) (written_last xs x y)
 
 -- ---- the events of before
 
+-- the values that are kept so are the same where values were added
+pub values_still : (rises more : List Rises) (k : Noticed) → IsAmong (length rises) k →
+    IsAmong (length (rises ++ more)) k × (values_at (rises ++ more) k ≡ values_at rises k)
+values_still rises more (One class value) h = (_, refl)
+values_still rises more (Several at) h = (omega (arith, h, grown rises more), before rises more at no_rises h)
+
 -- what an event did is the same where values were added
 did_still : (rises more : List Rises) (d : Did) → Stands (length rises) d →
     (Stands (length (rises ++ more)) d)
     × (what_of (values_at (rises ++ more) (noticed_of d)) d ≡ what_of (values_at rises (noticed_of d)) d)
-did_still rises more (did.Look (One class value)) h = (_, refl)
-did_still rises more (did.Look (Several at)) h = (
-  omega (arith, h, grown rises more),
-  ap (λ (r : Rises). what.Look r) (before rises more at no_rises h),
-)
+did_still rises more (did.Look k) h = let s = values_still rises more k h in (s.0, ap (λ (r : Rises). what.Look r) s.1)
 did_still rises more (did.Call c y f) h = (h, refl)
 did_still rises more (did.Begin b from) h = (h, refl)
 did_still rises more (did.Normal f) h = (h, refl)
@@ -92,7 +94,7 @@ one_put e k bs rises more h stands values =
     )
 
 -- how a look is kept tells its values, once what is kept beside was put there
-look_kept : (rises : List Rises) (k : Noticed) (r : Rises) → IsLook (length rises) k r →
+pub look_kept : (rises : List Rises) (k : Noticed) (r : Rises) → IsLook (length rises) k r →
     IsAmong (length (rises ++ beside k r)) k × (values_at (rises ++ beside k r) k ≡ r)
 look_kept rises (One class value) r h = (_, h)
 look_kept rises (Several at) r h = (

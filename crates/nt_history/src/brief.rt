@@ -1,6 +1,6 @@
 //! An event without the values of a look.
 ghost use Rattle.std.specs.Prelude.{◌≡◌, ◌↔◌, ◌<◌, IsTrue};
-ghost use Rattle.nt_history.specs.Briefs.{IsLook, NoneAbove, NoneBelow, brief_of, did_of, event_of, no_rises, nothing, noticed_of, one_rise as one_rise_of, what_of};
+ghost use Rattle.nt_history.specs.Briefs.{IsLook, NoneAbove, NoneBelow, brief_of, did_of, event_of, no_rises, nothing, noticed_of, one_rise, values_at, what_of};
 
 use nt_event::{
     ApcNo, Begun, Command, CpuNo, DpcNo, Event, Level, Reply, Rises, ThreadNo, TimerKey, What,
@@ -15,15 +15,14 @@ pub enum Noticed {
     Several { at: usize },
 }
 
-/// The values of a look in which this class alone rose, to this value.
-pub(crate) fn one_rise(class: u8, value: u64) -> Rises
-    ensures { result ≡ one_rise_of class value }
+/// Writes the values of a look in which this class alone rose, to this value.
+fn write_one_rise(rises: &mut Rises, class: u8, value: u64)
+    ensures { rises.new ≡ one_rise class value }
 {
-    let mut rises = NO_RISES;
+    *rises = NO_RISES;
     if class < 16 {
         rises.value[class as usize] = value;
     }
-    rises
 }
 
 /// The first class that rose; 0 where none did.
@@ -60,7 +59,7 @@ impl Noticed {
     ///
     /// One alone rose where the first that rose is the last.
     #[inline(always)]
-    pub(crate) fn of_look(rises: &Rises, at: usize) -> Noticed
+    pub fn of_look(rises: &Rises, at: usize) -> Noticed
         ensures { IsLook at result rises.now }
     {
         let class = first_rise(rises);
@@ -69,6 +68,20 @@ impl Noticed {
             Noticed::One { class, value }
         } else {
             Noticed::Several { at }
+        }
+    }
+
+    /// Writes the values that are kept so, where several has those of the looks in which several classes rose.
+    #[inline(always)]
+    pub fn write_values(&self, several: &[Rises], rises: &mut Rises)
+        ensures { rises.new ≡ values_at several.now self.now }
+    {
+        match *self {
+            Noticed::One { class, value } => write_one_rise(rises, class, value),
+            Noticed::Several { at } => match several.get(at) {
+                Some(values) => *rises = *values,
+                None => *rises = NO_RISES,
+            },
         }
     }
 }

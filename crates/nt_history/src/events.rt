@@ -3,7 +3,7 @@ ghost use Rattle.std.specs.Prelude.{◌≡◌, ◌+◌, ◌<◌, ◌≤◌, ◌+
 ghost use Rattle.nt_event.specs.declared.events.What.{What};
 ghost use Rattle.nt_history.specs.Briefs.{HasEach, beside, brief_of, events_in};
 
-use crate::brief::{Brief, Did, NO_RISES, Noticed, one_rise};
+use crate::brief::{Brief, Did, NO_RISES, Noticed};
 use nt_event::{Event, Rises, Turn, What};
 use std::alloc::{AllocError, Global};
 use std::marker::Model;
@@ -47,13 +47,9 @@ impl<'a> Briefs<'a> {
     pub fn values(&self, brief: &Brief) -> Rises
         ensures { result ≡ values_of self.now.rises.now brief.now }
     {
-        match brief.did.noticed() {
-            Noticed::One { class, value } => one_rise(class, value),
-            Noticed::Several { at } => match self.rises.get(at) {
-                Some(values) => *values,
-                None => NO_RISES,
-            },
-        }
+        let mut rises = NO_RISES;
+        brief.did.noticed().write_values(self.rises, &mut rises);
+        rises
     }
 
     /// The turn that makes the event of a brief, one of these.
