@@ -3,6 +3,7 @@ use Rattle.std.specs.Prelude.{List, [], ◌∷◌, length, suc, zero, ℕ, ◌�
 use Rattle.nt_event.specs.declared.events.Rises.{Rises}
 use Rattle.nt_event.specs.declared.events.Turn.{Turn}
 use Rattle.nt_event.specs.declared.events.Turn.TheVariants as turn
+use Rattle.nt_event.specs.declared.numbers.CpuNo.{CpuNo}
 use Rattle.nt_turns.specs.declared.kept.Kept.{Kept}
 use Rattle.nt_turns.specs.declared.kept.Kept.TheVariants as kept
 
@@ -32,6 +33,10 @@ turns_in (kept.Next p ∷ more) rises = turn.Next p ∷ turns_in more rises
 turns_in (kept.Look p ∷ more) [] = []
 turns_in (kept.Look p ∷ more) (r ∷ rises) = turn.Look p r ∷ turns_in more rises
 turns_in (kept.Switch p t ∷ more) rises = turn.Switch p t ∷ turns_in more rises
+
+-- the turn in which the processor looks, with the first of these values; the others are left
+abbrev pub IsNextLook : CpuNo → List Rises → Turn → List Rises → Type 0
+IsNextLook p rises t more = (r : Rises) × (rises ≡ r ∷ more) × (t ≡ turn.Look p r)
 
 -- there are values for each look, and no others
 abbrev pub HasEach : List Kept → List Rises → Type 0

@@ -3,8 +3,9 @@ ghost use Rattle.std.specs.Prelude.{◌≡◌, ◌++◌, OnErr, OnOk};
 ghost use Rattle.nt_turns.specs.Kept.{rises_of};
 
 use crate::kept::Kept;
+use crate::looks::Looks;
 use crate::walk::TurnWalk;
-use nt_event::{Rises, Turn};
+use nt_event::Turn;
 use std::alloc::{AllocError, Global};
 use std::marker::Model;
 
@@ -14,7 +15,7 @@ pub struct Turns {
     /// An entry for each turn.
     kept: Vec<Kept>,
     /// The values of the looks, in their order.
-    rises: Vec<Rises>,
+    looks: Looks,
 }
 
 impl Model for Turns {
@@ -25,18 +26,18 @@ impl Model for Turns {
 
     ghost use Rattle.nt_turns.specs.Kept.{HasEach, turns_in};
 
-    ghost view = { λ a. turns_in a.kept.items a.rises.items };
+    ghost view = { λ a. turns_in a.kept.items a.looks };
 
-    ghost invariant = { λ a. HasEach a.kept.items a.rises.items };
+    ghost invariant = { λ a. HasEach a.kept.items a.looks };
 }
 
 /// Adds the values of the turn, where it is a look. An error is want of memory, and then nothing was added.
-fn put_rises(rises: &mut Vec<Rises>, turn: &Turn) -> Result<(), AllocError>
-    ensures ok { OnOk result (rises.new.items ≡ rises.old.items ++ rises_of turn.now) }
-    ensures err { OnErr result (rises.new.items ≡ rises.old.items) }
+fn put_rises(looks: &mut Looks, turn: &Turn) -> Result<(), AllocError>
+    ensures ok { OnOk result (looks.new ≡ looks.old ++ rises_of turn.now) }
+    ensures err { OnErr result (looks.new ≡ looks.old) }
 {
     if let Turn::Look(_, values) = turn {
-        rises.push(*values)?;
+        looks.push(values)?;
     }
     Ok(())
 }
@@ -50,7 +51,7 @@ impl Turns {
     {
         Turns {
             kept: Vec::new(alloc),
-            rises: Vec::new(alloc),
+            looks: Looks::new(alloc),
         }
     }
 
@@ -61,7 +62,7 @@ impl Turns {
         ensures err { OnErr result (self.new ≡ self.old) }
     {
         self.kept.reserve(1)?;
-        put_rises(&mut self.rises, turn)?;
+        put_rises(&mut self.looks, turn)?;
         self.kept.push_reserved(Kept::of(turn));
         Ok(())
     }
@@ -84,6 +85,6 @@ impl Turns {
     pub fn walk(&self) -> TurnWalk<'_>
         ensures { result ≡ self.now }
     {
-        TurnWalk::new(self.kept.as_slice(), self.rises.as_slice())
+        TurnWalk::new(self.kept.as_slice(), self.looks.walk())
     }
 }

@@ -1,8 +1,10 @@
 //! A way through a list of turns.
-ghost use Rattle.std.specs.Prelude.{◌≡◌};
+ghost use Rattle.std.specs.Prelude.{◌≡◌, ◌<◌, length};
+ghost use Rattle.nt_turns.specs.Kept.{IsNextLook};
 ghost use Rattle.nt_event.specs.declared.events.Turn.TheVariants as turns;
 
 use crate::kept::Kept;
+use crate::looks::LookWalk;
 use nt_event::{CpuNo, Rises, Turn};
 use std::marker::Model;
 
@@ -10,6 +12,9 @@ use std::marker::Model;
 pub fn no_turn() -> Turn {
     Turn::Next(CpuNo(0))
 }
+
+/// The values of a look before they are written.
+const NO_RISES: Rises = Rises { value: [0; 16] };
 
 /// Writes the turn of a processor's next event. Most turns are such, and where one was written last, the processor alone changes.
 fn put_next(turn: &mut Turn, cpu: CpuNo)
@@ -21,13 +26,25 @@ fn put_next(turn: &mut Turn, cpu: CpuNo)
     }
 }
 
+/// Writes the turn in which the processor looks, with the next of these values. There are some.
+fn put_look(turn: &mut Turn, cpu: CpuNo, looks: &mut LookWalk<'_>)
+    requires { 0 < length looks.old }
+    ensures { IsNextLook cpu looks.old turn.new looks.new }
+{
+    *turn = Turn::Look(cpu, NO_RISES);
+    match turn {
+        Turn::Look(_, values) => looks.take(values),
+        Turn::Next(_) | Turn::Switch(_, _) => unreachable!(),
+    }
+}
+
 /// The turns of a list that are left, in order. Contracts see the list of them.
 #[derive(Drop)]
 pub struct TurnWalk<'a> {
     /// The entries that are left.
     kept: &'a [Kept],
     /// The values of the looks that are left.
-    rises: &'a [Rises],
+    looks: LookWalk<'a>,
 }
 
 impl<'a> Model for TurnWalk<'a> {
@@ -38,9 +55,9 @@ impl<'a> Model for TurnWalk<'a> {
 
     ghost use Rattle.nt_turns.specs.Kept.{HasEach, turns_in};
 
-    ghost view = { λ a. turns_in a.kept.now a.rises.now };
+    ghost view = { λ a. turns_in a.kept.now a.looks };
 
-    ghost invariant = { λ a. HasEach a.kept.now a.rises.now };
+    ghost invariant = { λ a. HasEach a.kept.now a.looks };
 }
 
 impl<'a> TurnWalk<'a> {
@@ -48,11 +65,11 @@ impl<'a> TurnWalk<'a> {
     ghost use Rattle.nt_turns.specs.Kept.{HasEach, turns_in};
 
     /// All turns of these entries and values.
-    pub(crate) fn new(kept: &'a [Kept], rises: &'a [Rises]) -> TurnWalk<'a>
-        requires { HasEach kept.now rises.now }
-        ensures { result ≡ turns_in kept.now rises.now }
+    pub(crate) fn new(kept: &'a [Kept], looks: LookWalk<'a>) -> TurnWalk<'a>
+        requires { HasEach kept.now looks }
+        ensures { result ≡ turns_in kept.now looks.entry }
     {
-        TurnWalk { kept, rises }
+        TurnWalk { kept, looks }
     }
 
     /// Takes the first turn that is left, and writes it. False exactly where none is, and then nothing was written.
@@ -66,13 +83,7 @@ impl<'a> TurnWalk<'a> {
                 self.kept = more;
                 match first {
                     Kept::Next(cpu) => put_next(turn, *cpu),
-                    Kept::Look(cpu) => match self.rises {
-                        [values, rest @ ..] => {
-                            self.rises = rest;
-                            *turn = Turn::Look(*cpu, *values);
-                        }
-                        [] => unreachable!(),
-                    },
+                    Kept::Look(cpu) => put_look(turn, *cpu, &mut self.looks),
                     Kept::Switch(cpu, thread) => *turn = Turn::Switch(*cpu, *thread),
                 }
                 true

@@ -3,4 +3,4 @@ use Rattle.nt_turns.proofs.Lists.{as_many}
 use Rattle.nt_turns.proofs.turns.Turns.len.Goals as goal
 
 pub returns : goal.returns
-returns c = omega (arith, as_many c.self.inside.kept.items c.self.inside.rises.items c.self.invariant, ap length c.self.view_is)
+returns c = omega (arith, as_many c.self.inside.kept.items c.self.inside.looks c.self.invariant, ap length c.self.view_is)
