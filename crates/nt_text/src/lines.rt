@@ -1,9 +1,9 @@
 //! A text as lines, and a line as fields.
-ghost use Rattle.std.specs.Prelude.{◌≡◌, ◌≤◌, ℕ, length, drop, option_map, slice_get, Some, None, ◌∷◌, [], IfNone};
+ghost use Rattle.std.specs.Prelude.{◌≡◌, ◌≢◌, ◌≤◌, ◌+◌, ℕ, List, true, length, drop, option_map, slice_get, Some, None, ◌∷◌, [], IfNone, IfSome};
 ghost use Rattle.std.specs.List.{position, list_all};
 ghost use Rattle.std.specs.Option.{option_map_or};
 ghost use Rattle.std.specs.Result.{result_map_both};
-ghost use Rattle.nt_text.specs.Lines.{is_byte, parts, fields, is_printable, row_of, first, needed, rest};
+ghost use Rattle.nt_text.specs.Lines.{is_byte, parts, fields, is_printable, row_of, first, needed, rest, IsDigitBelow};
 
 use crate::kind::ScriptKind;
 use memchr::memchr;
@@ -44,6 +44,25 @@ fn field_count(line: &[u8]) -> usize
     ensures { result ≡ length (fields line.now) }
 {
     line.iter().filter(|b| **b == b' ').count() + 1
+}
+
+/// The digit of a number below `below` that these bytes begin with, where a line ends behind it, and what comes after that end.
+#[inline(always)]
+fn last_digit(bytes: &[u8], below: u8) -> Option<(u8, &[u8])>
+    ensures some { IfSome result (λ p. IsDigitBelow below p.0 × (bytes.now ≡ (48 + p.0) ∷ 10 ∷ p.1.now)) }
+    ensures none { IfNone result ((digit : ℕ) (rest : List ℕ) → IsDigitBelow below digit → bytes.now ≢ (48 + digit) ∷ 10 ∷ rest) }
+{
+    match bytes {
+        [byte, b'\n', rest @ ..] if byte.is_ascii_digit() => {
+            let digit = *byte - b'0';
+            if digit < below {
+                Some((digit, rest))
+            } else {
+                None
+            }
+        }
+        _ => None,
+    }
 }
 
 /// A line of a text.
@@ -99,7 +118,7 @@ impl<'a> Model for Lines<'a> {
 }
 
 impl<'a> Lines<'a> {
-    ghost use Rattle.nt_text.specs.Lines.{lines};
+    ghost use Rattle.nt_text.specs.Lines.{IsDigitBelow, digit_line, is_inner, lines};
 
     /// All lines of a text. Bytes behind the last byte 10, where there are any, are a line that isn't ended.
     #[tactic(auto, using(crate::proofs::Cuts::few_lines))]
@@ -133,6 +152,21 @@ impl<'a> Lines<'a> {
                 })
             }
         }
+    }
+
+    /// Takes the first line that is left, where it is ended and is `head` with the digit of a number below `below` behind it, and
+    /// gives that number. None, and no line is taken, exactly where it is another line or none is left.
+    #[inline(always)]
+    pub fn take_digit(&mut self, head: &[u8], below: u8) -> Option<u8>
+        requires { list_all is_inner head.now ≡ true }
+        ensures some { IfSome result (λ digit. IsDigitBelow below digit × (self.old ≡ digit_line head.now digit ∷ self.new)) }
+        ensures none { IfNone result (self.new ≡ self.old) }
+        ensures other { IfNone result ((digit : ℕ) → IsDigitBelow below digit → slice_get self.old 0 ≢ Some (digit_line head.now digit)) }
+    {
+        let behind = self.rest.strip_prefix(head)?;
+        let (digit, rest) = last_digit(behind, below)?;
+        self.rest = rest;
+        Some(digit)
     }
 }
 
