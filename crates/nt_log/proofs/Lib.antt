@@ -4,4 +4,3 @@ pub mod Looks
 pub mod TurnRows
 pub mod Both
 pub mod Contract
-pub mod Short

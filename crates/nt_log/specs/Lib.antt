@@ -1,3 +1,3 @@
 pub mod Schedules
 pub mod Reading
-pub mod Short
+pub mod Taking

@@ -29,15 +29,14 @@ fn read_lines(
     let mut walk = ScheduleWalk::new(alloc);
     let mut lines = Lines::new(bytes);
     let mut at = first_line;
-    while let Some(line) = lines.next() {
-        match walk.line(&input.names, limits::CPUS, &line) {
-            Ok(()) => {}
+    loop {
+        match walk.next_line(&input.names, limits::CPUS, &mut lines) {
+            Ok(true) => at += 1,
+            Ok(false) => return walk.finish(at),
             Err(Stop::NoMemory) => return Err(ScriptRefusal::NoMemory),
             Err(Stop::Bad(kind)) => return Err(ScriptRefusal::Bad { line: at, kind }),
         }
-        at += 1;
     }
-    walk.finish(at)
 }
 
 /// The schedule whose text the bytes are, for the script of an input, or the least bad line and what is wrong with it.

@@ -1,14 +1,13 @@
 //! Reading a schedule line by line.
-ghost use Rattle.std.specs.Prelude.{◌≡◌, IfSome};
+ghost use Rattle.std.specs.Prelude.{◌≡◌};
 ghost use Rattle.nt_log.specs.Reading.{read_limit};
-ghost use Rattle.nt_log.specs.Short.{IsShortNext};
 
 use crate::schedules::Schedule;
 use crate::turns::{count, turn};
 use nt_event::{CpuNo, Turn, limits};
 use nt_line::{Names, fields};
 use nt_script::{ScriptRefusal, Stop};
-use nt_text::{Fields, Line, ScriptKind, What10};
+use nt_text::{Fields, Line, Lines, ScriptKind, What10};
 use nt_turns::Turns;
 use std::alloc::Global;
 
@@ -32,28 +31,15 @@ pub struct ScheduleWalk {
     pub place: SchedulePlace,
 }
 
-/// The processor of a line `next P`, where it is below `cpus` and its number has one digit.
-fn one_digit(cpus: u8, line: &Line) -> Option<CpuNo>
-    ensures { IfSome result (λ cpu. IsShortNext cpus cpu line.now.bytes.now line.now.ended) }
-{
-    match line.bytes {
-        [b'n', b'e', b'x', b't', b' ', digit] if line.ended && digit.is_ascii_digit() => {
-            let cpu = *digit - b'0';
-            if cpu < cpus { Some(CpuNo(cpu)) } else { None }
-        }
-        _ => None,
-    }
-}
-
 impl ScheduleWalk {
-    ghost use Rattle.std.specs.Prelude.{◌≡◌, length, nat_lt, IfSome};
+    ghost use Rattle.std.specs.Prelude.{◌≡◌, ◌<◌, ◌↔◌, IsTrue, length, nat_lt};
     ghost use Rattle.nt_log.specs.declared.walk.SchedulePlace.TheVariants.{InTurns};
-    ghost use Rattle.nt_log.specs.Short.{IsShortNext};
     ghost use Rattle.nt_text.specs.declared.kind.ScriptKind.TheVariants.{TooMany};
     ghost use Rattle.nt_text.specs.declared.kind.What10.TheVariants as what;
     ghost use Rattle.nt_event.specs.declared.limits.TheConstants.{EVENTS};
     ghost use Rattle.nt_line.specs.Results.{ok_if};
     ghost use Rattle.nt_script.specs.Gives.{Gives, GivesRead};
+    ghost use Rattle.nt_log.specs.Taking.{TakesLine};
     ghost use Rattle.nt_log.specs.Reading.{start, first_step, turn_step, with_turn, step, line_step, finish};
 
     /// Nothing was read.
@@ -78,29 +64,45 @@ impl ScheduleWalk {
     pub fn line(&mut self, names: &Names, cpus: u8, line: &Line) -> Result<(), Stop>
         ensures { Gives result self.new (line_step cpus names.now self.old (line.now.bytes.now, line.now.ended)) }
     {
-        match self.short_next(cpus, line) {
-            Some(cpu) => self.add(&Turn::Next(cpu)),
-            None => self.row(names, cpus, line),
-        }
-    }
-
-    /// The processor of a line `next P` that is taken, where its number has one digit, as in most lines of a schedule.
-    #[inline(always)]
-    fn short_next(&self, cpus: u8, line: &Line) -> Option<CpuNo>
-        ensures { IfSome result (λ cpu. (self.now.place ≡ InTurns) × IsShortNext cpus cpu line.now.bytes.now line.now.ended) }
-    {
-        if self.place != SchedulePlace::InTurns {
-            return None;
-        }
-        one_digit(cpus, line)
-    }
-
-    /// Takes a line by its fields.
-    fn row(&mut self, names: &Names, cpus: u8, line: &Line) -> Result<(), Stop>
-        ensures { Gives result self.new (line_step cpus names.now self.old (line.now.bytes.now, line.now.ended)) }
-    {
         let mut row = line.fields()?;
         self.step(names, cpus, &mut row)
+    }
+
+    /// Takes the first line that is left, as [`ScheduleWalk::line`] does. Answers whether there was one; else nothing changes.
+    #[inline(always)]
+    pub fn next_line(&mut self, names: &Names, cpus: u8, lines: &mut Lines) -> Result<bool, Stop>
+        ensures { TakesLine (line_step cpus names.now self.old) result self.old self.new lines.old lines.new }
+    {
+        // Most lines of a schedule are `next P` with a processor of one digit.
+        if self.has_room() {
+            if let Some(cpu) = lines.take_digit(b"next ", cpus) {
+                self.schedule.list.push(&Turn::Next(CpuNo(cpu)))?;
+                return Ok(true);
+            }
+        }
+        self.any_line(names, cpus, lines)
+    }
+
+    /// Whether the line of a turn may come, and is not one too many.
+    #[inline(always)]
+    fn has_room(&self) -> bool
+        ensures { IsTrue result ↔ (self.now.place ≡ InTurns) × (length self.now.schedule.list < EVENTS) }
+    {
+        self.place == SchedulePlace::InTurns && self.schedule.list.len() < limits::EVENTS as usize
+    }
+
+    /// Takes the first line that is left, whatever its form.
+    #[inline(never)]
+    fn any_line(&mut self, names: &Names, cpus: u8, lines: &mut Lines) -> Result<bool, Stop>
+        ensures { TakesLine (line_step cpus names.now self.old) result self.old self.new lines.old lines.new }
+    {
+        match lines.next() {
+            Some(line) => {
+                self.line(names, cpus, &line)?;
+                Ok(true)
+            }
+            None => Ok(false),
+        }
     }
 
     /// The schedule, where the text may end here: NoEnd else. `line` is the number of the line behind the last.
@@ -154,7 +156,6 @@ impl ScheduleWalk {
     }
 
     /// Adds a turn.
-    #[inline(always)]
     fn add(&mut self, turn: &Turn) -> Result<(), Stop>
         ensures { Gives result self.new (ok_if (nat_lt (length self.old.schedule.list) EVENTS) (with_turn self.old turn.now) (TooMany what.Turns)) }
     {

@@ -5,11 +5,11 @@ use Rattle.nt_event.specs.declared.limits.TheConstants.{CPUS}
 use Rattle.nt_log.specs.Reading.{start, walk}
 use Rattle.nt_log.proofs.reading.read_lines.Given as goal
 
-abbrev pub invariant-loop-line : goal.invariant-loop-line
-invariant-loop-line l = record {
+abbrev pub invariant-loop-at : goal.invariant-loop-at
+invariant-loop-at l = record {
   rest : walk CPUS l.input.names l.walk l.at l.lines ≡ walk CPUS l.input.names start l.first_line (lines l.bytes);
   few : l.at + length l.lines ≤ l.first_line + INPUT_LIMIT;
 }
 
-abbrev pub decreases-loop-line : goal.decreases-loop-line
-decreases-loop-line l = length l.lines
+abbrev pub decreases-loop-at : goal.decreases-loop-at
+decreases-loop-at l = length l.lines
