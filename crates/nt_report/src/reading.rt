@@ -32,15 +32,14 @@ fn read_parts<'a>(
     let mut known = LineInput::new(input);
     let mut lines = Lines::new(bytes);
     let mut at = first_line;
-    while let Some(line) = lines.next() {
-        match walk.line(&mut known, &line) {
-            Ok(()) => {}
+    loop {
+        match walk.next_line(&mut known, &mut lines) {
+            Ok(true) => at += 1,
+            Ok(false) => return walk.finish(at),
             Err(Stop::NoMemory) => return Err(ScriptRefusal::NoMemory),
             Err(Stop::Bad(kind)) => return Err(ScriptRefusal::Bad { line: at, kind }),
         }
-        at += 1;
     }
-    walk.finish(at)
 }
 
 /// The lines by their form, then the history, then its text.

@@ -12,7 +12,7 @@ use nt_event::{CpuNo, Items, limits};
 use nt_line::{Named, Names, fields};
 use nt_log::{Schedule, ScheduleWalk, count};
 use nt_script::{Input, ScriptRefusal, Stop};
-use nt_text::{Fields, Line, ScriptKind};
+use nt_text::{Fields, Line, Lines, ScriptKind};
 use std::alloc::{AllocError, Global};
 use std::marker::Model;
 
@@ -88,6 +88,8 @@ fn keep_line(lines: &mut Vec<KeptLine>, line: &EventLine) -> Result<(), AllocErr
 impl ReportWalk {
     ghost use Rattle.std.specs.Prelude.{◌≡◌};
     ghost use Rattle.nt_script.specs.Gives.{Gives, GivesRead};
+    ghost use Rattle.nt_log.specs.Taking.{TakesLine};
+    ghost use Rattle.nt_report.specs.declared.places.ReportPlace.TheVariants.{InSchedule};
     ghost use Rattle.nt_report.specs.Reading.{cut_step, event_step, finish, front_step, line_step, report_step, schedule_step, start, waits_step};
 
     /// Nothing was read.
@@ -101,17 +103,22 @@ impl ReportWalk {
         }
     }
 
-    /// Takes a line.
-    pub fn line<'a>(&mut self, input: &mut LineInput<'a>, line: &Line<'a>) -> Result<(), Stop>
-        ensures walk { Gives result self.new (line_step input.old self.old (line.now.bytes.now, line.now.ended)) }
+    /// Takes the first line that is left. Answers whether there was one; else nothing changes.
+    #[inline(always)]
+    pub fn next_line<'a>(
+        &mut self,
+        input: &mut LineInput<'a>,
+        lines: &mut Lines<'a>,
+    ) -> Result<bool, Stop>
+        ensures walk { TakesLine (line_step input.old self.old) result self.old self.new lines.old lines.new }
         ensures input { input.new ≡ input.old }
     {
         match self.place {
-            ReportPlace::InSchedule => self.schedule_line(input.input(), line),
+            ReportPlace::InSchedule => self.next_turn_line(input.input(), lines),
             ReportPlace::Start
             | ReportPlace::InEvents
             | ReportPlace::InCuts
-            | ReportPlace::InWaits => self.front_line(input, line),
+            | ReportPlace::InWaits => self.next_front_line(input, lines),
         }
     }
 
@@ -134,7 +141,35 @@ impl ReportWalk {
         }
     }
 
-    /// Takes a line of the schedule.
+    /// Takes the first line that is left, within the schedule.
+    #[inline(always)]
+    fn next_turn_line(&mut self, input: &Input, lines: &mut Lines) -> Result<bool, Stop>
+        requires { self.old.place ≡ InSchedule }
+        ensures { TakesLine (schedule_step input.now self.old) result self.old self.new lines.old lines.new }
+    {
+        self.schedule
+            .next_line(&input.names, input.script.cpus, lines)
+    }
+
+    /// Takes the first line that is left, before the schedule or its first line.
+    fn next_front_line<'a>(
+        &mut self,
+        input: &mut LineInput<'a>,
+        lines: &mut Lines<'a>,
+    ) -> Result<bool, Stop>
+        ensures walk { TakesLine (front_step input.old self.old) result self.old self.new lines.old lines.new }
+        ensures input { input.new ≡ input.old }
+    {
+        match lines.next() {
+            Some(line) => {
+                self.front_line(input, &line)?;
+                Ok(true)
+            }
+            None => Ok(false),
+        }
+    }
+
+    /// Takes the first line of the schedule.
     fn schedule_line(&mut self, input: &Input, line: &Line) -> Result<(), Stop>
         ensures { Gives result self.new (schedule_step input.now self.old (line.now.bytes.now, line.now.ended)) }
     {

@@ -4,12 +4,12 @@ use Rattle.nt_text.specs.Lines.{lines}
 use Rattle.nt_report.specs.Reading.{start, walk}
 use Rattle.nt_report.proofs.reading.read_parts.Given as goal
 
-abbrev pub invariant-loop-line : goal.invariant-loop-line
-invariant-loop-line l = record {
+abbrev pub invariant-loop-at : goal.invariant-loop-at
+invariant-loop-at l = record {
   known : l.known ≡ l.input;
   rest : walk l.input l.walk l.at l.lines ≡ walk l.input start l.first_line (lines l.bytes);
   few : l.at + length l.lines ≤ INPUT_LIMIT + INPUT_LIMIT + 1;
 }
 
-abbrev pub decreases-loop-line : goal.decreases-loop-line
-decreases-loop-line l = length l.lines
+abbrev pub decreases-loop-at : goal.decreases-loop-at
+decreases-loop-at l = length l.lines
