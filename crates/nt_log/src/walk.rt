@@ -91,7 +91,7 @@ impl ScheduleWalk {
         self.place == SchedulePlace::InTurns && self.schedule.list.len() < limits::EVENTS as usize
     }
 
-    /// Takes the first line that is left, whatever its form.
+    /// Takes the first line that is left, whatever its form. It stands apart, so that the short way needs no registers of it.
     #[inline(never)]
     fn any_line(&mut self, names: &Names, cpus: u8, lines: &mut Lines) -> Result<bool, Stop>
         ensures { TakesLine (line_step cpus names.now self.old) result self.old self.new lines.old lines.new }
