@@ -1,7 +1,7 @@
 -- The events of a history that is read, one by one.
-use Rattle.std.proofs.Common.{◌≡◌, ◌∙◌, ℕ, zero, suc, ◌<◌, ◌≤◌, Bool, true, List, [], ◌∷◌, length, get_or, Option, Some, None, refl, sym, ap, subst, arith}
+use Rattle.std.proofs.Common.{◌≡◌, ◌∙◌, ℕ, zero, suc, ◌<◌, ◌≤◌, Bool, true, false, List, [], ◌∷◌, length, get_or, Option, Some, None, refl, sym, ap, subst, arith}
 use Rattle.std.specs.Prelude.{IfSome, ◌&&◌, nat_lt, option_map, slice_set, if◌then◌else◌}
-use Rattle.std.proofs.lemmas.Bool.{and_parts, lt-ltb}
+use Rattle.std.proofs.lemmas.Bool.{and_parts, lt-ltb, ltb-true}
 use Rattle.std.proofs.lemmas.List.{get_or-map}
 use Rattle.nt_event.specs.declared.commands.Command.TheVariants as cmd
 use Rattle.nt_event.specs.declared.commands.Reply.TheVariants.{Yes}
@@ -19,9 +19,10 @@ use Rattle.nt_history.specs.declared.brief.Did.TheVariants as did
 use Rattle.nt_history.specs.Briefs.{event_in, event_of, events_in, no_rises, values_of, what_of}
 use Rattle.nt_history.proofs.Lists.{as_many}
 use Rattle.nt_print.specs.declared.inserts.Object.{Object}
-use Rattle.nt_print.specs.Tally.{named_after}
+use Rattle.nt_print.specs.Tally.{with_named}
 use Rattle.nt_print.specs.Uses.{inserted_at, is_it, thing_fits, thing_of}
 use Rattle.nt_print.proofs.Past.{inserted_read}
+use Rattle.nt_print.proofs.WaitRows.{element_at}
 
 pub below : (bs : List Brief) (rises : List Rises) (k : ℕ) → k < length bs → k < length (events_in bs rises)
 below bs rises k lt = let many = as_many bs rises in omega (arith, many, lt)
@@ -36,15 +37,15 @@ pub inserts_at : (bs : List Brief) (rises : List Rises) (k : ℕ) (b : Brief) �
     inserted_thing (event_in rises (get_or bs k b)).what ≡ inserted_at (events_in bs rises) k
 inserts_at bs rises k b lt = inserted_read (events_in bs rises) k (event_in rises (get_or bs k b)) (below bs rises k lt) (event_at bs rises k b lt)
 
--- the flags when an event named an insert, where it is told whether the event of that number inserts the thing
-pub flagged_by_it : (bs : List Brief) (rises : List Rises) (k : ℕ) (i : Inserted) (b : Brief) (flags : List Bool) (so : Bool) →
+-- the flags of unnamed inserts when an event named one, where it is told whether the event of that number inserts the thing
+pub cleared_by_it : (bs : List Brief) (rises : List Rises) (k : ℕ) (i : Inserted) (b : Brief) (flags : List Bool) (so : Bool) →
     i.number < k → k ≤ length bs → so ≡ is_it i.thing (inserted_thing (event_in rises (get_or bs i.number b)).what) →
-    (if so then slice_set flags i.number true else flags) ≡ named_after (events_in bs rises) k (Some i) flags
-flagged_by_it bs rises k i b flags so lt le h =
+    (if so then slice_set flags i.number false else flags) ≡ with_named (events_in bs rises) k (Some i) flags
+cleared_by_it bs rises k i b flags so lt le h =
     let both : so ≡ (nat_lt i.number k && is_it i.thing (inserted_at (events_in bs rises) i.number)) =
     h ∙ ap (is_it i.thing) (inserts_at bs rises i.number b (omega (arith, lt, le)))
     ∙ ap (λ (x : Bool). x && is_it i.thing (inserted_at (events_in bs rises) i.number)) (sym (lt-ltb i.number k lt)) in
-    ap (λ (x : Bool). if x then slice_set flags i.number true else flags) both
+    ap (λ (x : Bool). if x then slice_set flags i.number false else flags) both
 
 -- ---- what an event names, which is the same for all values of looks
 
@@ -85,9 +86,19 @@ object_fits s bs rises k b (Some x) lt h e =
     subst (λ (o : Option Thing). IfSome o (λ thing. thing_fits s thing ≡ true)) (sym e)
     (thing_fit s (what_of no_rises at.did) (what_fit s (event_of no_rises at) (each_fits s bs rises k b lt h)))
 
--- what the event of a brief inserts is of the script
-pub inserted_fits : (s : Script) (bs : List Brief) (rises : List Rises) (k : ℕ) (b : Brief) → k < length bs → events_fit s (events_in bs rises) ≡ true →
-    IfSome (inserted_thing (event_in rises (get_or bs k b)).what) (λ thing. thing_fits s thing ≡ true)
-inserted_fits s bs rises k b lt h =
+-- what the event of a number inserts is of the script
+pub inserted_fits : (s : Script) (bs : List Brief) (rises : List Rises) (k : ℕ) → k < length bs → events_fit s (events_in bs rises) ≡ true →
+    IfSome (inserted_at (events_in bs rises) k) (λ thing. thing_fits s thing ≡ true)
+inserted_fits s bs rises k lt h =
+    let b : Brief = (element_at bs k lt).0 in
     let at : Brief = get_or bs k b in
-    thing_fit s (event_in rises at).what (what_fit s (event_in rises at) (sym (fits_same s rises at) ∙ each_fits s bs rises k b lt h))
+    subst (λ (o : Option Thing). IfSome o (λ thing. thing_fits s thing ≡ true)) (inserts_at bs rises k b lt)
+    (thing_fit s (event_in rises at).what (what_fit s (event_in rises at) (sym (fits_same s rises at) ∙ each_fits s bs rises k b lt h)))
+
+-- the processor of an event of a history is one of the script
+pub processor_fits : (s : Script) (bs : List Brief) (rises : List Rises) (k : ℕ) (b : Brief) → k < length bs → events_fit s (events_in bs rises) ≡ true →
+    (get_or bs k b).cpu.0 < s.cpus
+processor_fits s bs rises k b lt h =
+    let at : Event = event_of no_rises (get_or bs k b) in
+    let fits = and_parts (has_cpu s at.cpu && where_given (has_thread s) at.thread) (what_fits s at.what) (each_fits s bs rises k b lt h) in
+    ltb-true at.cpu.0 s.cpus (and_parts (has_cpu s at.cpu) (where_given (has_thread s) at.thread) fits.0).0

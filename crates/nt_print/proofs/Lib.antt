@@ -6,5 +6,6 @@ mod Past
 mod WaitRows
 mod Tallied
 mod Turns
+mod Whole
 pub mod OneEvent
 pub mod OneReport

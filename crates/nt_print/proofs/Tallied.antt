@@ -1,313 +1,287 @@
--- The tally with one event more, which comes before those that are tallied.
-use Rattle.std.proofs.Common.{◌≡◌, ◌≢◌, ◌∙◌, ℕ, ◌+◌, ◌<◌, ◌≤◌, Bool, true, false, List, ◌∷◌, length, get_or, set, take, drop, reverse, Option, Some, None, refl, sym, ap, subst, arith}
-use Rattle.std.specs.Prelude.{◌&&◌, ◌||◌, ◌==◌, IfSome, cond, is_some, not, nat_lt, filter, if◌then◌else◌}
-use Rattle.std.proofs.lemmas.Bool.{eqb-false, eqb-true, le-ltb, lt-ltb, ltb-true}
-use Rattle.std.proofs.lemmas.List.{drop_more, get_or-set_other, get_or-set_same, length-append, length-set}
-use Rattle.std.proofs.lemmas.List.Sums.{sum_by-drop_more}
+-- The tally with one event more.
+use Rattle.std.proofs.Common.{◌≡◌, ◌≢◌, ◌∙◌, ℕ, ◌+◌, ◌<◌, ◌≤◌, Bool, true, false, List, ◌∷◌, length, get_or, set, take, reverse, Option, Some, None, refl, sym, ap, subst, arith}
+use Rattle.std.specs.Prelude.{◌&&◌, ◌||◌, ◌==◌, IfSome, not, nat_le, nat_lt, if◌then◌else◌}
+use Rattle.std.proofs.Math.Seq.{take-length}
+use Rattle.std.proofs.lemmas.Bool.{eqb-false, eqb-true, le-leb, lt-leb, lt-ltb, ltb-false, ltb-true}
+use Rattle.std.proofs.lemmas.List.{get_or-set_other, get_or-set_same, get_or_past, length-set}
+use Rattle.std.proofs.lemmas.List.Sums.{count_by_more_no, count_by_more_yes}
 use Rattle.nt_event.specs.declared.events.Event.{Event}
 use Rattle.nt_event.specs.declared.events.What.{What}
 use Rattle.nt_event.specs.declared.scripts.Script.{Script}
-use Rattle.nt_event.specs.Fate.{ApcThing, DpcThing, Inserted, Thing, fate_of, inserted_by, inserted_thing, inserts, still_waits}
+use Rattle.nt_event.specs.Fate.{ApcThing, DpcThing, Inserted, Thing, fate_of, inserted_thing, still_waits}
 use Rattle.nt_print.specs.declared.tally.Tally.{Tally}
+use Rattle.nt_print.specs.Counts.{TellsMade}
 use Rattle.nt_print.specs.Summary.{how_many, is_begin, is_call, is_refused_call}
-use Rattle.nt_print.specs.Tally.{Counts, HasFlags, Tallies, TellsWaiting, Used, counted_if, is_removed, is_waiting, named_after, named_in, removed_apcs, removed_dpcs, removed_in, waiting_after, waits_after, waits_before, waits_in, with_what}
+use Rattle.nt_print.specs.Tally.{Counts, HasPlaces, Tallies, TalliesAll, TellsWaiting, counted_if, last_removal, removed_apcs, removed_dpcs, waits_by, with_event, with_inserted, with_named}
 use Rattle.nt_print.specs.Uses.{inserted_at, is_it, named_by, names_it, removed_by, removes_it, same_thing, thing_fits, waits_at}
-use Rattle.nt_print.proofs.Fates.{and_true, waits_unused}
-use Rattle.nt_print.proofs.Past.{below_next, inserted_read}
-use Rattle.nt_print.proofs.WaitRows.{waiting_more}
+use Rattle.nt_print.proofs.Counted.{count_step}
+use Rattle.nt_print.proofs.Fates.{one_later, waits_at_first}
+use Rattle.nt_print.proofs.Past.{inserted_read, past_length, past_more}
 
--- ---- how many inserts wait
-
--- one event more, whose insert waits or is none
-waits_more : (events : List Event) (k : ℕ) (e : Event) → k < length events → e ≡ get_or events k e → waits_before events (k + 1)
-    ≡ waits_before events k + length (inserted_by k (waits_at (reverse events) k (inserted_at events k)))
-waits_more events k e lt is =
-    ap (λ (xs : List Inserted). length xs) (sym (waiting_more events (reverse events) k e lt is))
-    ∙ length-append (filter (waits_in (reverse events)) (inserts (reverse (take k events))))
-    (inserted_by k (waits_at (reverse events) k (inserted_at events k)))
-
-counted_or_not : (used waits : Bool) (thing : Thing) (k w before behind total : ℕ) → waits ≡ not used →
-    behind ≡ before + length (inserted_by k (if waits then Some thing else None)) → w + behind ≡ total → (if used then w else w + 1) + before ≡ total
-counted_or_not true false thing k w before behind total e h t = omega (arith, h, t)
-counted_or_not false true thing k w before behind total e h t = omega (arith, h, t)
-counted_or_not true true thing k w before behind total e h t = absurd cc
-counted_or_not false false thing k w before behind total e h t = absurd cc
-
--- the flags of a thing's removal tell it, where the thing is of the script
-removal_told : (s : Script) (events : List Event) (k : ℕ) (t : Tally) (thing : Thing) → Used s events k t → thing_fits s thing ≡ true →
-    is_removed t thing ≡ removed_in thing (drop k events)
-removal_told s events k t (DpcThing d) u fits = u.dpcs d.0 (ltb-true d.0 (length s.dpcs) fits)
-removal_told s events k t (ApcThing a) u fits = u.apcs a.0 (ltb-true a.0 (length s.apcs) fits)
-
--- what is flagged is used up
-used_told : (s : Script) (events : List Event) (k : ℕ) (t : Tally) (thing : Thing) → Some thing ≡ inserted_at events k → Used s events (k + 1) t →
-    thing_fits s thing ≡ true → (named_in thing k (drop (k + 1) events) || removed_in thing (drop (k + 1) events))
-    ≡ (get_or t.named k false || is_removed t thing)
-used_told s events k t thing at u fits =
-    let named : get_or t.named k false ≡ named_in thing k (drop (k + 1) events) = u.named k thing (omega arith) (sym at) in
-    ap (λ (b : Bool). b || removed_in thing (drop (k + 1) events)) (sym named)
-    ∙ ap (λ (b : Bool). get_or t.named k false || b) (sym (removal_told s events (k + 1) t thing u fits))
-
-waits_step : (s : Script) (events : List Event) (k total : ℕ) (e : Event) (t : Tally) → k < length events → e ≡ get_or events k e →
-    IfSome (inserted_thing e.what) (λ thing. thing_fits s thing ≡ true) → Used s events (k + 1) t → t.waits + waits_before events (k + 1) ≡ total →
-    waits_after t k (inserted_thing e.what) + waits_before events k ≡ total
-waits_step s events k total e t lt is fits u h = go (inserted_thing e.what) (inserted_read events k e lt is) fits
-  where
-    past : List Event
-    past = reverse events
-
-    go : (o : Option Thing) → o ≡ inserted_at events k → IfSome o (λ thing. thing_fits s thing ≡ true) →
-        waits_after t k o + waits_before events k ≡ total
-    go None at f =
-        let whole : waits_before events (k + 1) ≡ waits_before events k + 0 =
-        waits_more events k e lt is ∙ ap (λ (o : Option Thing). waits_before events k + length (inserted_by k (waits_at past k o))) (sym at) in
-        omega (arith, whole, h)
-    go (Some thing) at f =
-        let whole : waits_before events (k + 1) ≡ waits_before events k + length (inserted_by k (waits_at past k (Some thing))) =
-        waits_more events k e lt is ∙ ap (λ (o : Option Thing). waits_before events k + length (inserted_by k (waits_at past k o))) (sym at) in
-        counted_or_not (get_or t.named k false || is_removed t thing) (still_waits (fate_of thing k past)) thing k t.waits
-        (waits_before events k) (waits_before events (k + 1)) total (waits_unused thing events k lt ∙ ap not (used_told s events k t thing at u f)) whole h
-
-few_waits : (t : Tally) (k m : ℕ) (o : Option Thing) → t.waits + (k + 1) ≤ m → waits_after t k o + k ≤ m
-few_waits t k m None h = omega (arith, h)
-few_waits t k m (Some thing) h = go (get_or t.named k false || is_removed t thing)
-  where
-    go : (b : Bool) → (if b then t.waits else t.waits + 1) + k ≤ m
-    go true = omega (arith, h)
-    go false = omega (arith, h)
-
--- ---- how many events did something
-
-many_step : (test : What → Bool) (events : List Event) (k n : ℕ) (e : Event) → k < length events → e ≡ get_or events k e →
-    n ≡ how_many test (drop (k + 1) events) → counted_if (test e.what) n ≡ how_many test (drop k events)
-many_step test events k n e lt is h = go (test e.what) ∙ sym more
-  where
-    behind : ℕ
-    behind = how_many test (drop (k + 1) events)
-
-    more : how_many test (drop k events) ≡ cond (test e.what) 1 0 + behind
-    more = sum_by-drop_more (λ (x : Event). cond (test x.what) 1 0) events k e lt ∙ ap (λ (x : Event). cond (test x.what) 1 0 + behind) (sym is)
-
-    go : (b : Bool) → counted_if b n ≡ cond b 1 0 + behind
-    go true = omega (arith, h)
-    go false = omega (arith, h)
-
-few_step : (b : Bool) (n k m : ℕ) → n + (k + 1) ≤ m → counted_if b n + k ≤ m
-few_step true n k m h = omega (arith, h)
-few_step false n k m h = omega (arith, h)
-
-counts_step : (s : Script) (events : List Event) (k : ℕ) (e : Event) (t : Tally) → k < length events → e ≡ get_or events k e →
-    IfSome (inserted_thing e.what) (λ thing. thing_fits s thing ≡ true) → Used s events (k + 1) t → Counts events (k + 1) t →
-    Counts events k (with_what events k e.what t)
-counts_step s events k e t lt is fits u c =
-    record {
-      calls = many_step is_call events k t.calls e lt is c.calls;
-      refused = many_step is_refused_call events k t.refused e lt is c.refused;
-      begins = many_step is_begin events k t.begins e lt is c.begins;
-      waits = waits_step s events k (waits_before events (length events)) e t lt is fits u c.waits;
-      few_calls = few_step (is_call e.what) t.calls k (length events) c.few_calls;
-      few_refused = few_step (is_refused_call e.what) t.refused k (length events) c.few_refused;
-      few_begins = few_step (is_begin e.what) t.begins k (length events) c.few_begins;
-      few_waits = few_waits t k (length events) (inserted_thing e.what) c.few_waits;
-    }
-
--- ---- which inserts wait
-
-waiting_step : (s : Script) (events : List Event) (k : ℕ) (e : Event) (t : Tally) → k < length events → e ≡ get_or events k e →
-    IfSome (inserted_thing e.what) (λ thing. thing_fits s thing ≡ true) → HasFlags s events t → Used s events (k + 1) t →
-    TellsWaiting events (k + 1) t.waiting → TellsWaiting events k (waiting_after t k (inserted_thing e.what))
-waiting_step s events k e t lt is fits f u tells n l = go (n == k) refl
-  where
-    past : List Event
-    past = reverse events
-
-    len : length t.waiting ≡ length events
-    len = f.waiting
-
-    other : (o : Option Thing) → n ≢ k → get_or (waiting_after t k o) n false ≡ get_or t.waiting n false
-    other None apart = refl
-    other (Some thing) apart = choice (get_or t.named k false || is_removed t thing)
-      where
-        choice : (b : Bool) → get_or (if b then t.waiting else set t.waiting k true) n false ≡ get_or t.waiting n false
-        choice true = refl
-        choice false = get_or-set_other t.waiting k n true false apart
-
-    here : (o : Option Thing) → o ≡ inserted_at events k → IfSome o (λ thing. thing_fits s thing ≡ true) → get_or t.waiting k false ≡ false →
-        get_or (waiting_after t k o) k false ≡ is_some (waits_at past k o)
-    here None at g h = h
-    here (Some thing) at g h = choice (get_or t.named k false || is_removed t thing) (still_waits (fate_of thing k past))
-        (waits_unused thing events k lt ∙ ap not (used_told s events k t thing at u g))
-      where
-        choice : (used waits : Bool) → waits ≡ not used → get_or (if used then t.waiting else set t.waiting k true) k false
-            ≡ is_some (if waits then Some thing else None)
-        choice true false w = h
-        choice false true w = get_or-set_same t.waiting k true false (omega (arith, lt, len))
-        choice true true w = absurd cc
-        choice false false w = absurd cc
-
-    go : (b : Bool) → (n == k) ≡ b → get_or (waiting_after t k (inserted_thing e.what)) n false ≡ (if nat_lt n k then false else is_waiting events n)
-    go true q =
-        let same : n ≡ k = eqb-true n k q in
-        let shut : get_or t.waiting k false ≡ false =
-        tells k lt ∙ ap (λ (b : Bool). if b then false else is_waiting events k) (lt-ltb k (k + 1) (omega arith)) in
-        let now : get_or (waiting_after t k (inserted_thing e.what)) k false ≡ (if nat_lt k k then false else is_waiting events k) =
-        here (inserted_thing e.what) (inserted_read events k e lt is) fits shut
-        ∙ ap (λ (o : Option Thing). is_some (waits_at past k o)) (inserted_read events k e lt is)
-        ∙ ap (λ (b : Bool). if b then false else is_waiting events k) (sym (le-ltb k k (omega arith))) in
-        subst (λ (m : ℕ). get_or (waiting_after t k (inserted_thing e.what)) m false ≡ (if nat_lt m k then false else is_waiting events m)) (sym same) now
-    go false q =
-        let apart : n ≢ k = eqb-false n k q in
-        let far : nat_lt n (k + 1) ≡ nat_lt n k = ap (nat_lt n) (omega arith) ∙ sym (below_next n k apart) in
-        other (inserted_thing e.what) apart ∙ tells n l ∙ ap (λ (b : Bool). if b then false else is_waiting events n) far
-
-waits_is : (past : List Event) (n : ℕ) (o : Option Thing) → is_some (waits_at past n o) ≡ true → waits_at past n o ≡ o
-waits_is past n None h = refl
-waits_is past n (Some thing) h = go (still_waits (fate_of thing n past)) h
-  where
-    go : (b : Bool) → is_some (if b then Some thing else None) ≡ true → (if b then Some thing else None) ≡ Some thing
-    go true h = refl
-    go false h = absurd cc
-
-waits_not : (past : List Event) (n : ℕ) (o : Option Thing) → is_some (waits_at past n o) ≡ false → waits_at past n o ≡ None
-waits_not past n None h = refl
-waits_not past n (Some thing) h = go (still_waits (fate_of thing n past)) h
-  where
-    go : (b : Bool) → is_some (if b then Some thing else None) ≡ false → (if b then Some thing else None) ≡ None
-    go true h = absurd cc
-    go false h = refl
-
--- what is flagged waits, and what is not flagged doesn't
-waiting_told : (s : Script) (events : List Event) (n : ℕ) (t : Tally) → n < length events → Tallies s events 0 t →
-    get_or t.waiting n false ≡ is_waiting events n
-waiting_told s events n t lt a =
-    a.waiting n lt ∙ ap (λ (b : Bool). if b then false else is_waiting events n) (le-ltb n 0 (omega arith))
-
-pub told_waits : (s : Script) (events : List Event) (n : ℕ) (t : Tally) → n < length events → Tallies s events 0 t → get_or t.waiting n false ≡ true →
-    waits_at (reverse events) n (inserted_at events n) ≡ inserted_at events n
-told_waits s events n t lt a h = waits_is (reverse events) n (inserted_at events n) (sym (waiting_told s events n t lt a) ∙ h)
-
-pub told_waits_not : (s : Script) (events : List Event) (n : ℕ) (t : Tally) → n < length events → Tallies s events 0 t → get_or t.waiting n false ≡ false →
-    waits_at (reverse events) n (inserted_at events n) ≡ None
-told_waits_not s events n t lt a h = waits_not (reverse events) n (inserted_at events n) (sym (waiting_told s events n t lt a) ∙ h)
-
--- ---- which inserts were named
+and_true : (b : Bool) → (b && true) ≡ b
+and_true true = refl
+and_true false = refl
 
 and_false : (b : Bool) → (b && false) ≡ false
 and_false true = refl
 and_false false = refl
 
--- the flag at the place that is named
-hit : (flags : List Bool) (n : ℕ) (same before : Bool) → n < length flags → get_or flags n false ≡ before →
-    get_or (if same then set flags n true else flags) n false ≡ (same || before)
-hit flags n true before l h = get_or-set_same flags n true false l
-hit flags n false before l h = h
+-- ---- how many events did something
 
-missed : (flags : List Bool) (m n : ℕ) (b : Bool) → m ≢ n → get_or (if b then set flags m true else flags) n false ≡ get_or flags n false
-missed flags m n true apart = get_or-set_other flags m n true false (λ e. apart (sym e))
+many_step : (test : What → Bool) (events : List Event) (k n : ℕ) (e : Event) → k < length events → e ≡ get_or events k e →
+    n ≡ how_many test (take k events) → counted_if (test e.what) n ≡ how_many test (take (k + 1) events)
+many_step test events k n e lt is h = go (test e.what) refl
+  where
+    does : Event → Bool
+    does x = test x.what
+
+    go : (b : Bool) → test e.what ≡ b → counted_if b n ≡ how_many test (take (k + 1) events)
+    go true d = ap (λ (m : ℕ). m + 1) h ∙ sym (count_by_more_yes does events k e lt (ap does (sym is) ∙ d))
+    go false d = h ∙ sym (count_by_more_no does events k e lt (ap does (sym is) ∙ d))
+
+counts_step : (events : List Event) (k : ℕ) (e : Event) (t : Tally) → k < length events → e ≡ get_or events k e → Counts (take k events) t →
+    Counts (take (k + 1) events) (with_event events k e t)
+counts_step events k e t lt is c = record {
+  calls = many_step is_call events k t.calls e lt is c.calls;
+  refused = many_step is_refused_call events k t.refused e lt is c.refused;
+  begins = many_step is_begin events k t.begins e lt is c.begins;
+  made = count_step events k e t.made lt is c.made;
+}
+
+-- ---- which inserts no event named
+
+-- the flag at the place that is named
+hit : (flags : List Bool) (n : ℕ) (same : Bool) → n < length flags →
+    get_or (if same then set flags n false else flags) n false ≡ (get_or flags n false && not same)
+hit flags n true l = get_or-set_same flags n false false l ∙ sym (and_false (get_or flags n false))
+hit flags n false l = sym (and_true (get_or flags n false))
+
+missed : (flags : List Bool) (m n : ℕ) (b : Bool) → m ≢ n → get_or (if b then set flags m false else flags) n false ≡ get_or flags n false
+missed flags m n true apart = get_or-set_other flags m n false false (λ e. apart (sym e))
 missed flags m n false apart = refl
 
-named_step : (events : List Event) (k n : ℕ) (o : Option Inserted) (thing : Thing) (flags : List Bool) (before : Bool) → n < k → n < length flags →
-    inserted_at events n ≡ Some thing → get_or flags n false ≡ before → get_or (named_after events k o flags) n false ≡ (names_it o thing n || before)
-named_step events k n None thing flags before lt l at h = h
-named_step events k n (Some i) thing flags before lt l at h = go (i.number == n) refl
+named_step : (events : List Event) (k n : ℕ) (o : Option Inserted) (thing : Thing) (flags : List Bool) → n < k → n < length flags →
+    inserted_at events n ≡ Some thing → get_or (with_named events k o flags) n false ≡ (get_or flags n false && not (names_it o thing n))
+named_step events k n None thing flags lt l at = sym (and_true (get_or flags n false))
+named_step events k n (Some i) thing flags lt l at = go (i.number == n) refl
   where
-    there : get_or (if nat_lt n k && is_it i.thing (inserted_at events n) then set flags n true else flags) n false ≡ (same_thing i.thing thing || before)
-    there = rw (at, lt-ltb n k lt) (hit flags n (same_thing i.thing thing) before l h)
+    before : Bool
+    before = get_or flags n false
 
-    go : (b : Bool) → (i.number == n) ≡ b → get_or (named_after events k (Some i) flags) n false ≡ ((same_thing i.thing thing && (i.number == n)) || before)
+    there : get_or (if nat_lt n k && is_it i.thing (inserted_at events n) then set flags n false else flags) n false
+        ≡ (before && not (same_thing i.thing thing))
+    there = rw (at, lt-ltb n k lt) (hit flags n (same_thing i.thing thing) l)
+
+    go : (b : Bool) → (i.number == n) ≡ b →
+        get_or (with_named events k (Some i) flags) n false ≡ (before && not (same_thing i.thing thing && (i.number == n)))
     go true e =
         let same : i.number ≡ n = eqb-true i.number n e in
         rw (e, and_true (same_thing i.thing thing))
-        (subst (λ (m : ℕ). get_or (if nat_lt m k && is_it i.thing (inserted_at events m) then set flags m true else flags) n false
-        ≡ (same_thing i.thing thing || before)) (sym same) there)
+        (subst (λ (m : ℕ). get_or (if nat_lt m k && is_it i.thing (inserted_at events m) then set flags m false else flags) n false
+        ≡ (before && not (same_thing i.thing thing))) (sym same) there)
     go false e =
-        rw (e, and_false (same_thing i.thing thing))
-        (missed flags i.number n (nat_lt i.number k && is_it i.thing (inserted_at events i.number)) (eqb-false i.number n e) ∙ h)
+        rw (e, and_false (same_thing i.thing thing), and_true before)
+        (missed flags i.number n (nat_lt i.number k && is_it i.thing (inserted_at events i.number)) (eqb-false i.number n e))
 
--- ---- what was removed
+inserted_elsewhere : (k n : ℕ) (o : Option Thing) (flags : List Bool) → n ≢ k → get_or (with_inserted k o flags) n false ≡ get_or flags n false
+inserted_elsewhere k n None flags apart = refl
+inserted_elsewhere k n (Some thing) flags apart = get_or-set_other flags k n true false apart
 
-set_reads : (flags : List Bool) (m n : ℕ) (before : Bool) → n < length flags → get_or flags n false ≡ before →
-    get_or (set flags m true) n false ≡ ((m == n) || before)
-set_reads flags m n before l h = go (m == n) refl
+-- ---- what was removed last
+
+number_step : (numbers : List ℕ) (x d k n : ℕ) → d < length numbers → n < k →
+    nat_le (get_or (set numbers x k) d 0) n ≡ (nat_le (get_or numbers d 0) n && not (x == d))
+number_step numbers x d k n l lt = go (x == d) refl
   where
-    go : (b : Bool) → (m == n) ≡ b → get_or (set flags m true) n false ≡ (b || before)
+    before : Bool
+    before = nat_le (get_or numbers d 0) n
+
+    go : (b : Bool) → (x == d) ≡ b → nat_le (get_or (set numbers x k) d 0) n ≡ (before && not b)
     go true e =
-        let same : m ≡ n = eqb-true m n e in
-        subst (λ (x : ℕ). get_or (set flags x true) n false ≡ true) (sym same) (get_or-set_same flags n true false l)
-    go false e = get_or-set_other flags m n true false (λ s. eqb-false m n e (sym s)) ∙ h
+        let same : x ≡ d = eqb-true x d e in
+        let here : get_or (set numbers x k) d 0 ≡ k = subst (λ (m : ℕ). get_or (set numbers m k) d 0 ≡ k) (sym same) (get_or-set_same numbers d k 0 l) in
+        ap (λ (m : ℕ). nat_le m n) here ∙ lt-leb k n lt ∙ sym (and_false before)
+    go false e =
+        ap (λ (m : ℕ). nat_le m n) (get_or-set_other numbers x d k 0 (λ s. eqb-false x d e (sym s))) ∙ sym (and_true before)
 
-dpc_step : (o : Option Thing) (d : ℕ) (flags : List Bool) (before : Bool) → d < length flags → get_or flags d false ≡ before →
-    get_or (removed_dpcs o flags) d false ≡ (removes_it o (DpcThing (record { 0 = d })) || before)
-dpc_step None d flags before l h = h
-dpc_step (Some (DpcThing x)) d flags before l h = set_reads flags x.0 d before l h
-dpc_step (Some (ApcThing x)) d flags before l h = h
+dpc_step : (o : Option Thing) (numbers : List ℕ) (d k n : ℕ) → d < length numbers → n < k →
+    nat_le (get_or (removed_dpcs k o numbers) d 0) n ≡ (nat_le (get_or numbers d 0) n && not (removes_it o (DpcThing (record { 0 = d }))))
+dpc_step None numbers d k n l lt = sym (and_true (nat_le (get_or numbers d 0) n))
+dpc_step (Some (DpcThing x)) numbers d k n l lt = number_step numbers x.0 d k n l lt
+dpc_step (Some (ApcThing x)) numbers d k n l lt = sym (and_true (nat_le (get_or numbers d 0) n))
 
-apc_step : (o : Option Thing) (a : ℕ) (flags : List Bool) (before : Bool) → a < length flags → get_or flags a false ≡ before →
-    get_or (removed_apcs o flags) a false ≡ (removes_it o (ApcThing (record { 0 = a })) || before)
-apc_step None a flags before l h = h
-apc_step (Some (DpcThing x)) a flags before l h = h
-apc_step (Some (ApcThing x)) a flags before l h = set_reads flags x.0 a before l h
+apc_step : (o : Option Thing) (numbers : List ℕ) (a k n : ℕ) → a < length numbers → n < k →
+    nat_le (get_or (removed_apcs k o numbers) a 0) n ≡ (nat_le (get_or numbers a 0) n && not (removes_it o (ApcThing (record { 0 = a }))))
+apc_step None numbers a k n l lt = sym (and_true (nat_le (get_or numbers a 0) n))
+apc_step (Some (DpcThing x)) numbers a k n l lt = sym (and_true (nat_le (get_or numbers a 0) n))
+apc_step (Some (ApcThing x)) numbers a k n l lt = number_step numbers x.0 a k n l lt
 
-event_and_later : (events : List Event) (k : ℕ) (e : Event) → k < length events → e ≡ get_or events k e → drop k events ≡ e ∷ drop (k + 1) events
-event_and_later events k e lt is = drop_more events k e lt ∙ ap (λ (x : Event). x ∷ drop (k + 1) events) (sym is)
+removal_step : (s : Script) (events : List Event) (k n : ℕ) (e : Event) (t : Tally) (thing : Thing) → HasPlaces s events t → thing_fits s thing ≡ true →
+    n < k → nat_le (last_removal (with_event events k e t) thing) n ≡ (nat_le (last_removal t thing) n && not (removes_it (removed_by e.what) thing))
+removal_step s events k n e t (DpcThing d) p fits lt =
+    let long = p.dpcs in
+    dpc_step (removed_by e.what) t.dpcs d.0 k n (omega (arith, long, ltb-true d.0 (length s.dpcs) fits)) lt
+removal_step s events k n e t (ApcThing a) p fits lt =
+    let long = p.apcs in
+    apc_step (removed_by e.what) t.apcs a.0 k n (omega (arith, long, ltb-true a.0 (length s.apcs) fits)) lt
 
-used_step : (s : Script) (events : List Event) (k : ℕ) (e : Event) (t : Tally) → k < length events → e ≡ get_or events k e → HasFlags s events t →
-    Used s events (k + 1) t → Used s events k (with_what events k e.what t)
-used_step s events k e t lt is f u =
-    let d : drop k events ≡ e ∷ drop (k + 1) events = event_and_later events k e lt is in
-    let named_len = f.named in
-    let dpcs_len = f.dpcs in
-    let apcs_len = f.apcs in
-    record {
-      named = λ n thing l at. named_step events k n (named_by e.what) thing t.named _ l (omega (arith, l, lt, named_len)) at
-          (u.named n thing (omega (arith, l)) at) ∙ ap (named_in thing n) (sym d);
-      dpcs = λ n l. dpc_step (removed_by e.what) n t.dpcs _ (omega (arith, l, dpcs_len)) (u.dpcs n l) ∙ ap (removed_in (DpcThing (record { 0 = n }))) (sym d);
-      apcs = λ n l. apc_step (removed_by e.what) n t.apcs _ (omega (arith, l, apcs_len)) (u.apcs n l) ∙ ap (removed_in (ApcThing (record { 0 = n }))) (sym d);
-    }
-
--- ---- the flags
-
-length-waiting_after : (t : Tally) (k : ℕ) (o : Option Thing) → length (waiting_after t k o) ≡ length t.waiting
-length-waiting_after t k None = refl
-length-waiting_after t k (Some thing) = go (get_or t.named k false || is_removed t thing)
+-- no removal is noted that comes behind the event of this number
+number_within : (numbers : List ℕ) (x d k : ℕ) → get_or numbers d 0 ≤ k → get_or (set numbers x k) d 0 ≤ k
+number_within numbers x d k h = go (x == d) refl
   where
-    go : (b : Bool) → length (if b then t.waiting else set t.waiting k true) ≡ length t.waiting
-    go true = refl
-    go false = length-set t.waiting k true
+    past : (b : Bool) → nat_lt d (length numbers) ≡ b → get_or (set numbers d k) d 0 ≤ k
+    past true l = let here = get_or-set_same numbers d k 0 (ltb-true d (length numbers) l) in omega (arith, here)
+    past false l =
+        let long = length-set numbers d k in
+        let none = get_or_past (set numbers d k) d 0 (omega (arith, long, ltb-false d (length numbers) l)) in
+        omega (arith, none)
 
-length-named_after : (events : List Event) (k : ℕ) (o : Option Inserted) (flags : List Bool) → length (named_after events k o flags) ≡ length flags
-length-named_after events k None flags = refl
-length-named_after events k (Some i) flags = go (nat_lt i.number k && is_it i.thing (inserted_at events i.number))
+    go : (b : Bool) → (x == d) ≡ b → get_or (set numbers x k) d 0 ≤ k
+    go true e = subst (λ (m : ℕ). get_or (set numbers m k) d 0 ≤ k) (sym (eqb-true x d e)) (past (nat_lt d (length numbers)) refl)
+    go false e = let other = get_or-set_other numbers x d k 0 (λ s. eqb-false x d e (sym s)) in omega (arith, other, h)
+
+dpc_within : (o : Option Thing) (numbers : List ℕ) (d k : ℕ) → get_or numbers d 0 ≤ k → get_or (removed_dpcs k o numbers) d 0 ≤ k
+dpc_within None numbers d k h = h
+dpc_within (Some (DpcThing x)) numbers d k h = number_within numbers x.0 d k h
+dpc_within (Some (ApcThing x)) numbers d k h = h
+
+apc_within : (o : Option Thing) (numbers : List ℕ) (a k : ℕ) → get_or numbers a 0 ≤ k → get_or (removed_apcs k o numbers) a 0 ≤ k
+apc_within None numbers a k h = h
+apc_within (Some (DpcThing x)) numbers a k h = h
+apc_within (Some (ApcThing x)) numbers a k h = number_within numbers x.0 a k h
+
+removal_within : (events : List Event) (k : ℕ) (e : Event) (t : Tally) (thing : Thing) → last_removal t thing ≤ k →
+    last_removal (with_event events k e t) thing ≤ k
+removal_within events k e t (DpcThing d) h = dpc_within (removed_by e.what) t.dpcs d.0 k h
+removal_within events k e t (ApcThing a) h = apc_within (removed_by e.what) t.apcs a.0 k h
+
+-- ---- what waits
+
+-- unnamed, before: no event named it, and none behind it removed its thing; names, removes: the next event does
+together : (unnamed names before removes : Bool) → ((unnamed && not names) && (before && not removes)) ≡ ((unnamed && before) && not (names || removes))
+together false names before removes = refl
+together true true false removes = refl
+together true true true removes = refl
+together true false false removes = refl
+together true false true removes = refl
+
+length-with_named : (events : List Event) (k : ℕ) (o : Option Inserted) (flags : List Bool) → length (with_named events k o flags) ≡ length flags
+length-with_named events k None flags = refl
+length-with_named events k (Some i) flags = go (nat_lt i.number k && is_it i.thing (inserted_at events i.number))
   where
-    go : (b : Bool) → length (if b then set flags i.number true else flags) ≡ length flags
-    go true = length-set flags i.number true
+    go : (b : Bool) → length (if b then set flags i.number false else flags) ≡ length flags
+    go true = length-set flags i.number false
     go false = refl
 
-length-removed_dpcs : (o : Option Thing) (flags : List Bool) → length (removed_dpcs o flags) ≡ length flags
-length-removed_dpcs None flags = refl
-length-removed_dpcs (Some (DpcThing x)) flags = length-set flags x.0 true
-length-removed_dpcs (Some (ApcThing x)) flags = refl
+length-with_inserted : (k : ℕ) (o : Option Thing) (flags : List Bool) → length (with_inserted k o flags) ≡ length flags
+length-with_inserted k None flags = refl
+length-with_inserted k (Some thing) flags = length-set flags k true
 
-length-removed_apcs : (o : Option Thing) (flags : List Bool) → length (removed_apcs o flags) ≡ length flags
-length-removed_apcs None flags = refl
-length-removed_apcs (Some (DpcThing x)) flags = refl
-length-removed_apcs (Some (ApcThing x)) flags = length-set flags x.0 true
+waiting_step : (s : Script) (events : List Event) (k : ℕ) (e : Event) (t : Tally) → k < length events → e ≡ get_or events k e → Tallies s events k t →
+    TellsWaiting s events (k + 1) (with_event events k e t)
+waiting_step s events k e t lt is a n thing below at fits = go (n == k) refl
+  where
+    next : Tally
+    next = with_event events k e t
 
-flags_step : (s : Script) (events : List Event) (k : ℕ) (w : What) (t : Tally) → HasFlags s events t → HasFlags s events (with_what events k w t)
-flags_step s events k w t f = record {
-  waiting = length-waiting_after t k (inserted_thing w) ∙ f.waiting;
-  named = length-named_after events k (named_by w) t.named ∙ f.named;
-  dpcs = length-removed_dpcs (removed_by w) t.dpcs ∙ f.dpcs;
-  apcs = length-removed_apcs (removed_by w) t.apcs ∙ f.apcs;
+    named : List Bool
+    named = with_named events k (named_by e.what) t.unnamed
+
+    long : length t.unnamed ≡ length events
+    long = a.places.unnamed
+
+    past : List Event
+    past = reverse (take k events)
+
+    many : length past ≡ k
+    many = past_length events k (omega (arith, lt))
+
+    later : still_waits (fate_of thing n (e ∷ past)) ≡ still_waits (fate_of thing n (reverse (take (k + 1) events)))
+    later = ap (λ (es : List Event). still_waits (fate_of thing n es)) (sym (past_more events k e lt is))
+
+    go : (b : Bool) → (n == k) ≡ b → waits_by next n thing ≡ still_waits (fate_of thing n (reverse (take (k + 1) events)))
+    go true q =
+        let same : n ≡ k = eqb-true n k q in
+        let inserted : inserted_thing e.what ≡ Some thing = inserted_read events k e lt is ∙ ap (inserted_at events) (sym same) ∙ at in
+        let flag : get_or next.unnamed n false ≡ true =
+        ap (λ (o : Option Thing). get_or (with_inserted k o named) n false) inserted
+        ∙ ap (λ (m : ℕ). get_or (set named k true) m false) same
+        ∙ get_or-set_same named k true false (omega (arith, lt, long, length-with_named events k (named_by e.what) t.unnamed)) in
+        let last : last_removal next thing ≤ n = let within = removal_within events k e t thing (a.removals thing) in omega (arith, within, same) in
+        ap (λ (b : Bool). b && nat_le (last_removal next thing) n) flag ∙ le-leb (last_removal next thing) n last
+        ∙ sym (waits_at_first thing n (e ∷ past) (omega (arith, many, same))) ∙ later
+    go false q =
+        let apart : n ≢ k = eqb-false n k q in
+        let before : n < k = omega (arith, below, apart) in
+        let flag : get_or next.unnamed n false ≡ (get_or t.unnamed n false && not (names_it (named_by e.what) thing n)) =
+        inserted_elsewhere k n (inserted_thing e.what) named apart
+        ∙ named_step events k n (named_by e.what) thing t.unnamed before (omega (arith, before, lt, long)) at in
+        ap (λ (b : Bool). b && nat_le (last_removal next thing) n) flag
+        ∙ ap (λ (b : Bool). (get_or t.unnamed n false && not (names_it (named_by e.what) thing n)) && b)
+        (removal_step s events k n e t thing a.places fits before)
+        ∙ together (get_or t.unnamed n false) (names_it (named_by e.what) thing n) (nat_le (last_removal t thing) n) (removes_it (removed_by e.what) thing)
+        ∙ ap (λ (b : Bool). b && not (names_it (named_by e.what) thing n || removes_it (removed_by e.what) thing)) (a.waiting n thing before at fits)
+        ∙ sym (one_later thing n e past (omega (arith, many, before))) ∙ later
+
+-- ---- the places
+
+length-removed_dpcs : (k : ℕ) (o : Option Thing) (numbers : List ℕ) → length (removed_dpcs k o numbers) ≡ length numbers
+length-removed_dpcs k None numbers = refl
+length-removed_dpcs k (Some (DpcThing x)) numbers = length-set numbers x.0 k
+length-removed_dpcs k (Some (ApcThing x)) numbers = refl
+
+length-removed_apcs : (k : ℕ) (o : Option Thing) (numbers : List ℕ) → length (removed_apcs k o numbers) ≡ length numbers
+length-removed_apcs k None numbers = refl
+length-removed_apcs k (Some (DpcThing x)) numbers = refl
+length-removed_apcs k (Some (ApcThing x)) numbers = length-set numbers x.0 k
+
+places_step : (s : Script) (events : List Event) (k : ℕ) (e : Event) (t : Tally) → HasPlaces s events t → HasPlaces s events (with_event events k e t)
+places_step s events k e t p = record {
+  made = length-set t.made e.cpu.0 (get_or t.made e.cpu.0 0 + 1) ∙ p.made;
+  unnamed = length-with_inserted k (inserted_thing e.what) (with_named events k (named_by e.what) t.unnamed)
+      ∙ length-with_named events k (named_by e.what) t.unnamed ∙ p.unnamed;
+  dpcs = length-removed_dpcs k (removed_by e.what) t.dpcs ∙ p.dpcs;
+  apcs = length-removed_apcs k (removed_by e.what) t.apcs ∙ p.apcs;
 }
 
 -- ---- the whole tally
 
-pub tally_step : (s : Script) (events : List Event) (k : ℕ) (e : Event) (t : Tally) → k < length events → e ≡ get_or events k e →
-    IfSome (inserted_thing e.what) (λ thing. thing_fits s thing ≡ true) → Tallies s events (k + 1) t → Tallies s events k (with_what events k e.what t)
-tally_step s events k e t lt is fits a = record {
-  counts = counts_step s events k e t lt is fits a.used a.counts;
-  used = used_step s events k e t lt is a.flags a.used;
-  waiting = waiting_step s events k e t lt is fits a.flags a.used a.waiting;
-  flags = flags_step s events k e.what t a.flags;
+pub tally_step : (s : Script) (events : List Event) (k : ℕ) (e : Event) (t : Tally) → k < length events → e ≡ get_or events k e → Tallies s events k t →
+    Tallies s events (k + 1) (with_event events k e t)
+tally_step s events k e t lt is a = record {
+  counts = counts_step events k e t lt is a.counts;
+  waiting = waiting_step s events k e t lt is a;
+  removals = λ thing. let within = removal_within events k e t thing (a.removals thing) in omega (arith, within);
+  places = places_step s events k e t a.places;
 }
+
+-- ---- what waits at the end
+
+-- the thing, where it waits by the tally
+abbrev waiting_by : Tally → ℕ → Option Thing → Option Thing
+waiting_by t n None = None
+waiting_by t n (Some thing) = if waits_by t n thing then Some thing else None
+
+-- what the event of a number inserts waits by the tally of all events exactly where it waits at the end
+waits_told : (s : Script) (events : List Event) (n : ℕ) (t : Tally) (o : Option Thing) → n < length events → TalliesAll s events t →
+    o ≡ inserted_at events n → IfSome o (λ thing. thing_fits s thing ≡ true) → waiting_by t n o ≡ waits_at (reverse events) n (inserted_at events n)
+waits_told s events n t None lt a at fits = ap (waits_at (reverse events) n) at
+waits_told s events n t (Some thing) lt a at fits =
+    ap (λ (b : Bool). if b then Some thing else None)
+    (a.waiting n thing lt (sym at) fits ∙ ap (λ (es : List Event). still_waits (fate_of thing n (reverse es))) (take-length events))
+    ∙ ap (waits_at (reverse events) n) at
+
+named_waits_not : (t : Tally) (n : ℕ) (o : Option Thing) → get_or t.unnamed n false ≡ false → waiting_by t n o ≡ None
+named_waits_not t n None h = refl
+named_waits_not t n (Some thing) h = ap (λ (b : Bool). if b && nat_le (last_removal t thing) n then Some thing else None) h
+
+-- no insert waits that an event named, and no event without an insert
+pub none_waits : (s : Script) (events : List Event) (n : ℕ) (t : Tally) → n < length events → TalliesAll s events t →
+    IfSome (inserted_at events n) (λ thing. thing_fits s thing ≡ true) → get_or t.unnamed n false ≡ false →
+    None ≡ waits_at (reverse events) n (inserted_at events n)
+none_waits s events n t lt a fits h =
+    sym (named_waits_not t n (inserted_at events n) h) ∙ waits_told s events n t (inserted_at events n) lt a refl fits
+
+-- the counts of the processors are those of all events
+pub all_made : (s : Script) (events all : List Event) (t : Tally) → TalliesAll s events t → events ≡ all → TellsMade all t.made
+all_made s events all t a is = subst (λ (es : List Event). TellsMade es t.made) (take-length events ∙ is) a.counts.made

@@ -5,9 +5,9 @@ ghost use Rattle.nt_print.specs.Counts.{TellsMade};
 ghost use Rattle.nt_print.specs.Report.{made, cut_row, cut_of, cut_rows};
 
 use crate::fields::put_processor;
-use crate::made::made_by;
+use crate::numbers::Numbers;
 use nt_history::History;
-use std::alloc::{AllocError, Global};
+use std::alloc::AllocError;
 
 fn put_cut(out: &mut Vec<u8>, cpu: u8) -> Result<(), AllocError>
     ensures { OnOk result (out.new.items ≡ out.old.items ++ row_text (cut_row cpu)) }
@@ -31,10 +31,10 @@ fn put_cut_of(out: &mut Vec<u8>, cpu: u8, count: usize, history: &History) -> Re
 }
 
 /// Adds a line for each processor that made as many events as it may, where these are the counts of their events.
-fn put_each_cut(
+pub(crate) fn put_cuts(
     out: &mut Vec<u8>,
     cpus: u8,
-    counts: &[usize],
+    counts: &Numbers,
     history: &History,
 ) -> Result<(), AllocError>
     requires len { length counts.now ≡ cpus }
@@ -42,20 +42,7 @@ fn put_each_cut(
     ensures { OnOk result (out.new.items ≡ out.old.items ++ rows_text (cut_rows history.now 0 cpus)) }
 {
     for cpu in 0..cpus {
-        put_cut_of(out, cpu, counts[cpu as usize], history)?;
+        put_cut_of(out, cpu, counts.at(cpu as usize), history)?;
     }
     Ok(())
-}
-
-/// Adds a line for each processor that made as many events as it may.
-pub(crate) fn put_cuts(
-    alloc: Global,
-    out: &mut Vec<u8>,
-    cpus: u8,
-    history: &History,
-) -> Result<(), AllocError>
-    ensures { OnOk result (out.new.items ≡ out.old.items ++ rows_text (cut_rows history.now 0 cpus)) }
-{
-    let counts = made_by(alloc, cpus, &history.lend())?;
-    put_each_cut(out, cpus, counts.as_slice(), history)
 }

@@ -11,8 +11,10 @@ ghost use Rattle.nt_text.specs.Lines.{spaced};
 ghost use Rattle.nt_history.specs.Briefs.{event_of, no_rises, what_of};
 ghost use Rattle.nt_print.specs.Lent.{lent};
 ghost use Rattle.nt_print.specs.Report.{show_running, begun_row, key_row, status_row, kind_of, kind_word, what_row, event_fields, event_row, event_rows, line_rows};
+ghost use Rattle.nt_print.specs.Tally.{Tallies, TalliesAll};
 
 use crate::fields::{put_processor, put_replied, put_status, put_used};
+use crate::tally::Tally;
 use nt_event::{ApcKind, ApcNo, Begun, Command, ThreadNo, TimerKey};
 use nt_history::{Brief, Briefs, Did};
 use nt_script::{Input, put_command};
@@ -198,17 +200,21 @@ fn put_event(out: &mut Vec<u8>, input: &Input, number: u64, event: &Brief) -> Re
     Ok(())
 }
 
-/// Adds the lines of the events, in order. A look has none.
+/// Adds the lines of the events, in order, and tallies the events. A look has no line.
 pub(crate) fn put_events(
     out: &mut Vec<u8>,
     input: &Input,
     events: &Briefs,
+    tally: &mut Tally,
 ) -> Result<(), AllocError>
     requires sound { IsSound input.now }
     requires fit { events_fit input.now.script (lent events.now) ≡ true }
-    ensures { OnOk result (out.new.items ≡ out.old.items ++ rows_text (event_rows input.now 0 (lent events.now))) }
+    requires tally { Tallies input.now.script (lent events.now) 0 tally.old }
+    ensures lines { OnOk result (out.new.items ≡ out.old.items ++ rows_text (event_rows input.now 0 (lent events.now))) }
+    ensures tally { OnOk result (TalliesAll input.now.script (lent events.now) tally.new) }
 {
     for (number, event) in events.briefs.iter().enumerate() {
+        tally.note_event(&input.script, events, number);
         put_line(out, input, number as u64, event)?;
     }
     Ok(())

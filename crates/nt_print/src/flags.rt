@@ -28,6 +28,13 @@ impl Flags {
         })
     }
 
+    /// The flags, in order.
+    pub(crate) fn as_slice(&self) -> &[bool]
+        ensures { result.now ≡ self.now }
+    {
+        self.flags.as_slice()
+    }
+
     /// Whether this number has a flag that is set.
     pub(crate) fn is_set(&self, number: usize) -> bool
         ensures { result ≡ get_or self.now number false }
@@ -45,6 +52,15 @@ impl Flags {
     {
         if number < self.flags.len() {
             self.flags[number] = true;
+        }
+    }
+
+    /// Clears the flag of this number, where it has one.
+    pub(crate) fn clear(&mut self, number: usize)
+        ensures { self.new ≡ slice_set self.old number false }
+    {
+        if number < self.flags.len() {
+            self.flags[number] = false;
         }
     }
 }

@@ -5,9 +5,9 @@
 //! schedule of the history (`nt_log`). The definition of the text is in `specs::Report`; what waits is the definition of the
 //! fate of inserts (`nt_event::specs::Fate`). The whole grammar is this project's own (profile).
 //!
-//! Printing is linear in the history. One walk goes back from the last event, so that it knows of each insert that it comes to
-//! whether a later event used it up; the lines look into what it noted, and a [`summary`] gives what it counted. Another walk
-//! counts how many events each processor made.
+//! Printing is linear in the history. One walk over the events adds their lines and notes what the lines behind them need: how
+//! many events each processor made, which inserts an event named, and what was removed last. A [`summary`] is printed from the
+//! same notes.
 #![tactic(auto)]
 
 mod cuts;
@@ -16,7 +16,7 @@ mod fields;
 mod flags;
 mod inserts;
 mod laws;
-mod made;
+mod numbers;
 mod printing;
 mod summaries;
 mod tally;

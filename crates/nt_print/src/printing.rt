@@ -6,7 +6,7 @@ ghost use Rattle.nt_print.specs.Report.{report_text};
 
 use crate::cuts::put_cuts;
 use crate::events::put_events;
-use crate::tally::tally_of;
+use crate::tally::Tally;
 use crate::waits::put_waits;
 use nt_history::History;
 use nt_log::put_schedule_of;
@@ -23,11 +23,11 @@ pub fn report(alloc: Global, input: &Input, history: &History) -> Result<Vec<u8>
     ensures { IfOk result (λ text. text.items ≡ report_text input.now history.now) }
 {
     let events = history.lend();
-    let tally = tally_of(alloc, &input.script, &events)?;
+    let mut tally = Tally::new(alloc, &input.script, &events)?;
     let mut out = Vec::with_capacity(alloc, events.briefs.len().saturating_mul(BYTES_OF_EVENT))?;
     out.extend_from_slice(b"report\n")?;
-    put_events(&mut out, input, &events)?;
-    put_cuts(alloc, &mut out, input.script.cpus, history)?;
+    put_events(&mut out, input, &events, &mut tally)?;
+    put_cuts(&mut out, input.script.cpus, &tally.made, history)?;
     put_waits(&mut out, input, &events, &tally)?;
     put_schedule_of(&mut out, input, history)?;
     Ok(out)

@@ -7,8 +7,9 @@ ghost use Rattle.nt_print.specs.Counts.{TellsMade};
 ghost use Rattle.nt_print.specs.Report.{cut_of, cut_rows, made};
 ghost use Rattle.nt_print.specs.Summary.{count_row, summary_text};
 
-use crate::made::made_by;
+use crate::numbers::Numbers;
 use crate::tally::tally_of;
+use crate::waits::count_waits;
 use nt_event::Script;
 use nt_history::History;
 use nt_text::put_number;
@@ -27,28 +28,17 @@ fn cut_line(cpu: u8, count: usize, history: &History) -> u8
     }
 }
 
-/// How many of these processors made as many events as they may.
-fn cut_of_all(cpus: u8, counts: &[usize], history: &History) -> u8
+/// How many of these processors made as many events as they may, where these are the counts of their events.
+fn cut_lines(cpus: u8, counts: &Numbers, history: &History) -> u8
     requires len { length counts.now ≡ cpus }
     requires made { TellsMade history.now.events counts.now }
     ensures { result ≡ length (cut_rows history.now 0 cpus) }
 {
     let mut lines: u8 = 0;
     for cpu in 0..cpus {
-        lines += cut_line(cpu, counts[cpu as usize], history);
+        lines += cut_line(cpu, counts.at(cpu as usize), history);
     }
     lines
-}
-
-/// How many processors made as many events as they may. Where there are fewer events than one may make, none did.
-fn cut_lines(alloc: Global, cpus: u8, history: &History) -> Result<u8, AllocError>
-    ensures { IfOk result (λ lines. lines ≡ length (cut_rows history.now 0 cpus)) }
-{
-    if history.len() < history.turns() as usize {
-        return Ok(0);
-    }
-    let counts = made_by(alloc, cpus, &history.lend())?;
-    Ok(cut_of_all(cpus, counts.as_slice(), history))
 }
 
 /// Adds a word and a count as a line.
@@ -70,13 +60,14 @@ pub fn summary(alloc: Global, script: &Script, history: &History) -> Result<Vec<
 {
     let events = history.lend();
     let tally = tally_of(alloc, script, &events)?;
-    let cut = cut_lines(alloc, script.cpus, history)?;
+    let cut = cut_lines(script.cpus, &tally.made, history);
+    let waits = count_waits(script, &events, &tally);
     let mut out = Vec::new(alloc);
     put_count(&mut out, b"events", events.briefs.len())?;
     put_count(&mut out, b"calls", tally.calls)?;
     put_count(&mut out, b"refused", tally.refused)?;
     put_count(&mut out, b"begins", tally.begins)?;
     put_count(&mut out, b"cut", cut as usize)?;
-    put_count(&mut out, b"waits", tally.waits)?;
+    put_count(&mut out, b"waits", waits)?;
     Ok(out)
 }

@@ -1,14 +1,14 @@
 //! The lines of the inserts that still wait at the end.
 ghost use Rattle.std.specs.Prelude.{◌≡◌, ◌++◌, ◌<◌, ◌∷◌, [], true, OnOk, IfSome, map, option_map, reverse, length};
 ghost use Rattle.nt_text.specs.Lines.{row_text, rows_text};
-ghost use Rattle.nt_event.specs.Fate.{inserted_by};
+ghost use Rattle.nt_event.specs.Fate.{inserted_by, waiting_inserts};
 ghost use Rattle.nt_script.specs.Sound.{IsSound};
 ghost use Rattle.nt_text.specs.Lines.{spaced};
 ghost use Rattle.nt_event.specs.Fitting.{events_fit};
 ghost use Rattle.nt_print.specs.Lent.{lent};
 ghost use Rattle.nt_print.specs.Report.{thing_row, wait_fields, wait_row, wait_rows};
 ghost use Rattle.nt_print.specs.Uses.{thing_of, inserted_of, inserted_at, thing_fits, waits_at};
-ghost use Rattle.nt_print.specs.Tally.{Tallies};
+ghost use Rattle.nt_print.specs.Tally.{TalliesAll};
 
 use crate::inserts::{Insert, Object, inserted};
 use crate::tally::Tally;
@@ -66,18 +66,21 @@ fn inserted_at(script: &Script, events: &Briefs, number: usize) -> Option<Object
     inserted(&events.briefs[number].did)
 }
 
-/// The object that the event of this number inserts, where the insert still waits at the end. Another event is not read.
+/// The object that the event of this number inserts, where the insert still waits at the end.
 fn waiting(script: &Script, events: &Briefs, tally: &Tally, number: usize) -> Option<Object>
     requires number { number < length events.now.briefs.now }
     requires fit { events_fit script.now (lent events.now) ≡ true }
-    requires tally { Tallies script.now (lent events.now) 0 tally.now }
+    requires tally { TalliesAll script.now (lent events.now) tally.now }
     ensures waits { option_map thing_of result ≡ waits_at (reverse (lent events.now)) number (inserted_at (lent events.now) number) }
     ensures fits { IfSome result (λ x. thing_fits script.now (thing_of x) ≡ true) }
 {
-    if tally.waiting.is_set(number) {
-        inserted_at(script, events, number)
-    } else {
-        None
+    match inserted_at(script, events, number) {
+        Some(object) => if tally.waits(number, object) {
+            Some(object)
+        } else {
+            None
+        },
+        None => None,
     }
 }
 
@@ -91,7 +94,7 @@ fn put_wait_of(
 ) -> Result<(), AllocError>
     requires sound { IsSound input.now }
     requires fit { events_fit input.now.script (lent events.now) ≡ true }
-    requires tally { Tallies input.now.script (lent events.now) 0 tally.now }
+    requires tally { TalliesAll input.now.script (lent events.now) tally.now }
     requires number { number < length events.now.briefs.now }
     ensures { OnOk result (out.new.items ≡ out.old.items ++ rows_text (map (wait_row input.now.names) (inserted_by number (waits_at (reverse (lent events.now)) number (inserted_at (lent events.now) number))))) }
 {
@@ -108,7 +111,7 @@ fn put_wait_of(
     }
 }
 
-/// Adds the lines of the inserts that still wait, by ascending number.
+/// Adds the lines of the inserts that still wait, by ascending number. No event is read but the inserts that no event named.
 pub(crate) fn put_waits(
     out: &mut Vec<u8>,
     input: &Input,
@@ -117,11 +120,28 @@ pub(crate) fn put_waits(
 ) -> Result<(), AllocError>
     requires sound { IsSound input.now }
     requires fit { events_fit input.now.script (lent events.now) ≡ true }
-    requires tally { Tallies input.now.script (lent events.now) 0 tally.now }
+    requires tally { TalliesAll input.now.script (lent events.now) tally.now }
     ensures { OnOk result (out.new.items ≡ out.old.items ++ rows_text (wait_rows input.now.names (reverse (lent events.now)))) }
 {
-    for number in 0..events.briefs.len() {
-        put_wait_of(out, input, events, tally, number)?;
+    for (number, unnamed) in tally.unnamed.as_slice().iter().enumerate() {
+        if *unnamed {
+            put_wait_of(out, input, events, tally, number)?;
+        }
     }
     Ok(())
+}
+
+/// How many inserts still wait at the end.
+pub(crate) fn count_waits(script: &Script, events: &Briefs, tally: &Tally) -> usize
+    requires fit { events_fit script.now (lent events.now) ≡ true }
+    requires tally { TalliesAll script.now (lent events.now) tally.now }
+    ensures { result ≡ length (waiting_inserts (reverse (lent events.now))) }
+{
+    let mut count = 0;
+    for (number, unnamed) in tally.unnamed.as_slice().iter().enumerate() {
+        if *unnamed && waiting(script, events, tally, number).is_some() {
+            count += 1;
+        }
+    }
+    count
 }

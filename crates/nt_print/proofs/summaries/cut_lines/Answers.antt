@@ -1,9 +1,10 @@
-use Rattle.std.proofs.Common.{List, ap, arith, length, sym}
-use Rattle.nt_text.specs.Lines.{Row}
-use Rattle.nt_print.proofs.CutRows.{none_cut}
+use Rattle.std.proofs.Common.{arith}
+use Rattle.nt_print.proofs.CutRows.{cuts_counted}
 use Rattle.nt_print.proofs.summaries.cut_lines.Goals as goal
 
-pub returns-then-len-turns : goal.returns-then-len-turns
-returns-then-len-turns c =
-    sym (ap (λ (rows : List Row). length rows)
-    (none_cut c.args.history.now 0 c.args.cpus (omega (arith, c.if-len-turns.true, c.len.ensures, c.turns.ensures))))
+pub loop-cpu-preserved : goal.loop-cpu-preserved
+loop-cpu-preserved c = record {
+  rest = cuts_counted c.args.history.now c.loop-cpu.cpu c.args.cpus c.loop-cpu.lines c.cut_line-lines.result _ c.loop-cpu-test.true
+      c.loop-cpu.invariant.rest c.cut_line-lines.ensures.line;
+  few = omega (arith, c.loop-cpu.invariant.few, c.cut_line-lines.ensures.one);
+}

@@ -1,6 +1,6 @@
 use Rattle.nt_text.proofs.RowTexts.{rows_put}
 use Rattle.nt_print.proofs.CutRows.{cuts_go_on}
-use Rattle.nt_print.proofs.cuts.put_each_cut.Goals as goal
+use Rattle.nt_print.proofs.cuts.put_cuts.Goals as goal
 
 pub loop-cpu-preserved : goal.loop-cpu-preserved
 loop-cpu-preserved c = rows_put _ _ _ _ _ _

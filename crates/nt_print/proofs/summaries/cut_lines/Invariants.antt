@@ -1,6 +1,6 @@
 use Rattle.std.proofs.Common.{◌≡◌, ◌+◌, ◌-◌, ◌≤◌, length}
 use Rattle.nt_print.specs.Report.{cut_rows}
-use Rattle.nt_print.proofs.summaries.cut_of_all.Given as goal
+use Rattle.nt_print.proofs.summaries.cut_lines.Given as goal
 
 abbrev pub invariant-loop-cpu : goal.invariant-loop-cpu
 invariant-loop-cpu l = record {
