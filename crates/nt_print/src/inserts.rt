@@ -4,9 +4,9 @@ ghost use Rattle.nt_event.specs.Fate.{inserted_thing};
 ghost use Rattle.nt_event.specs.declared.events.What.TheVariants as what;
 ghost use Rattle.nt_event.specs.declared.events.Rises.{Rises};
 ghost use Rattle.nt_history.specs.Briefs.{what_of};
-ghost use Rattle.nt_print.specs.Uses.{thing_of, inserted_of, same_thing, is_it, named_by, removed_by};
+ghost use Rattle.nt_print.specs.Uses.{thing_of, same_thing, is_it};
 
-use nt_event::{ApcNo, Begun, Command, DpcNo, Reply};
+use nt_event::{ApcNo, Command, DpcNo, Reply};
 use nt_history::Did;
 
 /// An object that can be inserted.
@@ -98,98 +98,5 @@ pub(crate) fn inserts(object: Object, did: &Did) -> bool
     match inserted(did) {
         Some(found) => is_same(object, found),
         None => false,
-    }
-}
-
-/// The insert that a Begin or Flush names.
-pub(crate) fn named(did: &Did) -> Option<Insert>
-    ensures { (r : Rises) → option_map inserted_of result ≡ named_by (what_of r did.now) }
-{
-    match did {
-        Did::Begin {
-            begun: Begun::Dpc(dpc) | Begun::Threaded(dpc),
-            from,
-        } => Some(Insert {
-            number: *from,
-            object: Object::Dpc(*dpc),
-        }),
-        Did::Begin {
-            begun: Begun::Apc(apc),
-            from,
-        }
-        | Did::Flush { apc, from } => Some(Insert {
-            number: *from,
-            object: Object::Apc(*apc),
-        }),
-        Did::Begin {
-            begun: Begun::Int(_),
-            ..
-        }
-        | Did::Call { .. }
-        | Did::Look { .. }
-        | Did::Normal { .. }
-        | Did::End { .. }
-        | Did::Expire { .. }
-        | Did::Fire { .. }
-        | Did::Clean { .. }
-        | Did::Switch { .. }
-        | Did::Rewait { .. }
-        | Did::Gone { .. }
-        | Did::Rest => None,
-    }
-}
-
-/// The object that a call removes.
-fn removed_by_call(command: &Command, reply: &Reply) -> Option<Object>
-    ensures { (f : ℕ) → option_map thing_of result ≡ removed_by (what.Call f command.now reply.now) }
-{
-    match (command, reply) {
-        (Command::Unqueue(dpc), Reply::Yes) => Some(Object::Dpc(*dpc)),
-        (Command::RemoveApc(apc), Reply::Yes) => Some(Object::Apc(*apc)),
-        (Command::Raise(_), _)
-        | (Command::Lower(_), _)
-        | (Command::Queue(_), _)
-        | (Command::Unqueue(_), _)
-        | (Command::SetImportance(_, _), _)
-        | (Command::SetTarget(_, _), _)
-        | (Command::SetTimer(_, _, _), _)
-        | (Command::CancelTimer(_), _)
-        | (Command::InsertApc(_), _)
-        | (Command::RemoveApc(_), _)
-        | (Command::EnterCrit, _)
-        | (Command::EnterGuard, _)
-        | (Command::LeaveCrit, _)
-        | (Command::LeaveGuard, _)
-        | (Command::StartWait(_, _), _)
-        | (Command::Delay(_, _, _), _)
-        | (Command::Release(_), _)
-        | (Command::Alert(_, _), _)
-        | (Command::TestAlert(_), _)
-        | (Command::Interrupt(_, _), _)
-        | (Command::Clock(_), _)
-        | (Command::ToUser, _)
-        | (Command::Yield, _)
-        | (Command::Note(_), _) => None,
-    }
-}
-
-/// The object that an event removes.
-pub(crate) fn removed(did: &Did) -> Option<Object>
-    ensures { (r : Rises) → option_map thing_of result ≡ removed_by (what_of r did.now) }
-{
-    match did {
-        Did::Call { command, reply, .. } => removed_by_call(command, reply),
-        Did::Look { .. }
-        | Did::Begin { .. }
-        | Did::Normal { .. }
-        | Did::End { .. }
-        | Did::Expire { .. }
-        | Did::Fire { .. }
-        | Did::Clean { .. }
-        | Did::Switch { .. }
-        | Did::Rewait { .. }
-        | Did::Flush { .. }
-        | Did::Gone { .. }
-        | Did::Rest => None,
     }
 }
