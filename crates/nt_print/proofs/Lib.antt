@@ -9,3 +9,5 @@ mod Turns
 mod Whole
 pub mod OneEvent
 pub mod OneReport
+mod Blocks
+mod Passed

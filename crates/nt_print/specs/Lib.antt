@@ -5,3 +5,4 @@ pub mod Counts
 pub mod Uses
 pub mod Summary
 pub mod Tally
+pub mod Flags

@@ -1,6 +1,46 @@
 //! A flag for each number below a count.
+ghost use Rattle.std.specs.Prelude.{◌≡◌, ◌<◌, ◌≤◌, length, true};
+ghost use Rattle.nt_print.specs.Flags.{AreClear};
+
 use std::alloc::{AllocError, Global};
 use std::marker::Model;
+
+/// How many flags are looked at at once.
+const BLOCK: usize = 64;
+
+/// Whether none of these flags is set. It looks at each, so that many are looked at at once.
+fn are_clear(flags: &[bool]) -> bool
+    ensures { result ≡ true → AreClear flags.now 0 (length flags.now) }
+{
+    let mut any = false;
+    for flag in flags {
+        any |= *flag;
+    }
+    !any
+}
+
+/// The place of the first of these flags that is set; 0 where none is.
+fn first_set(flags: &[bool]) -> usize
+    ensures place { result ≤ length flags.now }
+    ensures clear { AreClear flags.now 0 result }
+{
+    match flags.iter().position(|flag| *flag) {
+        Some(place) => place,
+        None => 0,
+    }
+}
+
+/// Where a block ends that begins at this number, of so many.
+fn block_end(number: usize, count: usize) -> usize
+    requires { number < count }
+    ensures { (number < result) × (result ≤ count) }
+{
+    if count - number < BLOCK {
+        count
+    } else {
+        number + BLOCK
+    }
+}
 
 /// A flag for each number below a count. Contracts see the list of them.
 #[derive(Drop)]
@@ -17,7 +57,8 @@ impl Model for Flags {
 }
 
 impl Flags {
-    ghost use Rattle.std.specs.Prelude.{◌≡◌, IfOk, false, true, get_or, replicate, slice_set};
+    ghost use Rattle.std.specs.Prelude.{◌≡◌, ◌≤◌, IfOk, false, true, get_or, length, replicate, slice_set};
+    ghost use Rattle.nt_print.specs.Flags.{AreClear};
 
     /// So many flags, none of which is set.
     pub(crate) fn new(alloc: Global, count: usize) -> Result<Flags, AllocError>
@@ -28,11 +69,23 @@ impl Flags {
         })
     }
 
-    /// The flags, in order.
-    pub(crate) fn as_slice(&self) -> &[bool]
-        ensures { result.now ≡ self.now }
+    /// A number from this one on, before which no flag is set. Whole blocks of flags that are clear are passed at once.
+    pub(crate) fn pass_clear(&self, from: usize) -> usize
+        requires { from ≤ length self.now }
+        ensures place { (from ≤ result) × (result ≤ length self.now) }
+        ensures clear { AreClear self.now from result }
     {
-        self.flags.as_slice()
+        let count = self.flags.len();
+        let mut number = from;
+        while number < count {
+            let end = block_end(number, count);
+            let block = &self.flags[number..end];
+            if !are_clear(block) {
+                return number + first_set(block);
+            }
+            number = end;
+        }
+        number
     }
 
     /// Whether this number has a flag that is set.

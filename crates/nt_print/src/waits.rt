@@ -123,10 +123,10 @@ pub(crate) fn put_waits(
     requires tally { TalliesAll input.now.script (lent events.now) tally.now }
     ensures { OnOk result (out.new.items ≡ out.old.items ++ rows_text (wait_rows input.now.names (reverse (lent events.now)))) }
 {
-    for (number, unnamed) in tally.unnamed.as_slice().iter().enumerate() {
-        if *unnamed {
-            put_wait_of(out, input, events, tally, number)?;
-        }
+    let mut number = tally.unnamed.pass_clear(0);
+    while number < events.briefs.len() {
+        put_wait_of(out, input, events, tally, number)?;
+        number = tally.unnamed.pass_clear(number + 1);
     }
     Ok(())
 }
@@ -138,10 +138,12 @@ pub(crate) fn count_waits(script: &Script, events: &Briefs, tally: &Tally) -> us
     ensures { result ≡ length (waiting_inserts (reverse (lent events.now))) }
 {
     let mut count = 0;
-    for (number, unnamed) in tally.unnamed.as_slice().iter().enumerate() {
-        if *unnamed && waiting(script, events, tally, number).is_some() {
+    let mut number = tally.unnamed.pass_clear(0);
+    while number < events.briefs.len() {
+        if waiting(script, events, tally, number).is_some() {
             count += 1;
         }
+        number = tally.unnamed.pass_clear(number + 1);
     }
     count
 }
