@@ -3,22 +3,24 @@ ghost use Rattle.std.specs.Prelude.{◌≡◌, ◌≤◌, ◌*◌, IfOk, IsTrue,
 ghost use Rattle.nt_event.specs.Robin.{IsRobin, is_settled, robin as robin_in};
 ghost use Rattle.nt_event.specs.Script.{fits};
 ghost use Rattle.nt_event.specs.Step.{IsRun, turn_of};
+ghost use Rattle.nt_cpus.specs.Cycles.{last_cpu};
 ghost use Rattle.nt_core.specs.States.{with_event};
 
 use crate::machine::Core;
 use nt_cpu::no_event;
 use nt_event::limits::{EVENTS, TURNS};
-use nt_event::{Event, Script};
+use nt_event::{CpuNo, Event, Script};
 use nt_history::History;
 use std::alloc::{AllocError, Global};
 
 impl<'s> Core<'s> {
-    /// Makes the event of the robin rule, and writes it; false where the rule has no turn, and then nothing changed.
-    fn go_on(&mut self, event: &mut Event) -> bool
+    /// Makes the event of the robin rule, where the last event is that of this processor, and writes it; false where the rule has
+    /// no turn, and then nothing changed.
+    fn go_on(&mut self, last: Option<CpuNo>, event: &mut Event) -> bool
+        requires { last ≡ last_cpu self.old.past }
         ensures event { result ≡ true → (robin_in self.old.script self.old.limit self.old.past ≡ Some (turn_of event.new)) × (self.new ≡ with_event event.new self.old) }
         ensures none { result ≡ false → (robin_in self.old.script self.old.limit self.old.past ≡ None) × (self.new ≡ self.old) }
     {
-        let last = self.last_cpu();
         if !self.processors.go_on(&mut self.floor, last, event) {
             return false;
         }
@@ -41,7 +43,9 @@ pub fn run(alloc: Global, script: &Script, turns: u32) -> Result<History, AllocE
 {
     let mut core = Core::new(alloc, script, turns)?;
     let mut event = no_event();
-    while core.go_on(&mut event) {
+    let mut last = None;
+    while core.go_on(last, &mut event) {
+        last = Some(event.cpu);
         core.is_run();
     }
     core.is_run();
