@@ -16,6 +16,7 @@ use std::alloc::{AllocError, Global};
 impl<'s> Core<'s> {
     /// Makes the event of the robin rule, where the last event is that of this processor, and writes it; false where the rule has
     /// no turn, and then nothing changed.
+    #[inline(always)]
     fn go_on(&mut self, last: Option<CpuNo>, event: &mut Event) -> bool
         requires { last ≡ last_cpu self.old.past }
         ensures event { result ≡ true → (robin_in self.old.script self.old.limit self.old.past ≡ Some (turn_of event.new)) × (self.new ≡ with_event event.new self.old) }
