@@ -135,6 +135,13 @@ fn script_case(rt: &HostRuntime, text: &[u8]) -> io::Result<()> {
     put_outcome(rt, read_again(rt.alloc(), text)?)
 }
 
+/// What a schedule is for the input's script, whose first line has this number.
+fn put_schedule(rt: &HostRuntime, input: &Input, schedule: &[u8], first_line: u32) -> io::Result<()>
+    requires { IsSound input.now }
+{
+    put_outcome(rt, schedule_again(rt.alloc(), input, schedule, first_line)?)
+}
+
 /// What a schedule of the table is: the number of its first line, the script, and the schedule.
 fn schedule_case(rt: &HostRuntime, number: &str, script: &[u8], schedule: &[u8]) -> io::Result<()> {
     let Ok(first_line) = number.parse::<u32>() else {
@@ -144,10 +151,7 @@ fn schedule_case(rt: &HostRuntime, number: &str, script: &[u8], schedule: &[u8])
         return println!(rt; "too long");
     }
     match read(rt.alloc(), script) {
-        Ok(input) => put_outcome(
-            rt,
-            schedule_again(rt.alloc(), &input, schedule, first_line)?,
-        ),
+        Ok(input) => put_schedule(rt, &input, schedule, first_line),
         Err(_) => println!(rt; "no script"),
     }
 }

@@ -45,13 +45,20 @@ fn report_again(
     }
 }
 
+/// What a report is for the input's script, whose first line has this number.
+fn put_report(rt: &HostRuntime, input: &Input, text: &[u8], first_line: u32) -> io::Result<()>
+    requires { IsSound input.now }
+{
+    put_outcome(rt, report_again(rt.alloc(), input, text, first_line)?)
+}
+
 /// What the report of a case is, for this script.
 fn report_case(rt: &HostRuntime, first_line: u32, script: &[u8], text: &[u8]) -> io::Result<()> {
     if script.len() > INPUT_LIMIT {
         return println!(rt; "too long");
     }
     match read(rt.alloc(), script) {
-        Ok(input) => put_outcome(rt, report_again(rt.alloc(), &input, text, first_line)?),
+        Ok(input) => put_report(rt, &input, text, first_line),
         Err(_) => println!(rt; "no script"),
     }
 }
