@@ -1,10 +1,12 @@
 //! Turns that a machine takes one by one.
-ghost use Rattle.std.specs.Prelude.{◌≡◌, ◌≤◌};
+ghost use Rattle.std.specs.Prelude.{◌≡◌, ◌≤◌, true};
+ghost use Rattle.nt_event.specs.Fitting.{events_fit};
 ghost use Rattle.nt_script.specs.Sound.{IsSound};
 
 use nt_core::Core;
 use nt_event::limits::TURNS;
 use nt_event::{ScheduleKind, Turn};
+use nt_history::History;
 use nt_print::report;
 use nt_script::Input;
 use nt_turns::{Turns, no_turn};
@@ -47,6 +49,43 @@ fn end(core: &Core) -> &'static str {
     }
 }
 
+/// Takes the turns of a list, and puts a line for each and whether the history is settled then.
+fn put_turns(core: &mut Core, list: &Turns, lines: &mut String) -> Result<(), AllocError>
+    ensures { core.new.script ≡ core.old.script }
+{
+    let mut walk = list.walk();
+    let mut turn = no_turn();
+    while walk.next(&mut turn) {
+        let by_rule = is_robins(core, &turn);
+        let refused = refusal(core, &turn);
+        put_line(lines, by_rule, refused)?;
+    }
+    lines.push_str(end(core))
+}
+
+/// The lines of the turns of a list, which a machine takes.
+fn turn_lines(alloc: Global, core: &mut Core, list: &Turns) -> Result<Vec<u8>, AllocError>
+    ensures { core.new.script ≡ core.old.script }
+{
+    let mut lines = String::new(alloc);
+    put_turns(core, list, &mut lines)?;
+    Ok(lines.into_bytes())
+}
+
+/// Puts the report of a history behind a text.
+fn put_report(
+    alloc: Global,
+    input: &Input,
+    history: &History,
+    text: &mut Vec<u8>,
+) -> Result<(), AllocError>
+    requires sound { IsSound input.now }
+    requires fit { events_fit input.now.script history.now.events ≡ true }
+{
+    let printed = report(alloc, input, history)?;
+    text.extend_from_slice(printed.as_slice())
+}
+
 /// A line for each turn, whether the history is settled then, and its report.
 pub(crate) fn taken(
     alloc: Global,
@@ -59,18 +98,9 @@ pub(crate) fn taken(
     requires few { limit ≤ TURNS }
 {
     let mut core = Core::new(alloc, &input.script, limit)?;
-    let mut lines = String::new(alloc);
-    let mut walk = list.walk();
-    let mut turn = no_turn();
-    while walk.next(&mut turn) {
-        let by_rule = is_robins(&core, &turn);
-        let refused = refusal(&mut core, &turn);
-        put_line(&mut lines, by_rule, refused)?;
-    }
-    lines.push_str(end(&core))?;
+    let mut text = turn_lines(alloc, &mut core, list)?;
     core.is_run();
     let history = core.finish();
-    let mut text = lines.into_bytes();
-    text.extend_from_slice(report(alloc, input, &history)?.as_slice())?;
+    put_report(alloc, input, &history, &mut text)?;
     Ok(text)
 }
