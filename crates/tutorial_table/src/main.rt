@@ -57,13 +57,22 @@ fn put_outcome(rt: &HostRuntime, outcome: &Outcome, wanted: &[u8]) -> io::Result
     }
 }
 
+/// What a form makes of a script, beside the report that stands in a file.
+fn put_form(rt: &HostRuntime, form: &str, input: &Input, wanted: &[u8]) -> io::Result<()>
+    requires sound { IsSound input.now }
+    requires bytes { length wanted.now ≤ INPUT_LIMIT }
+{
+    let outcome = outcome(rt.alloc(), form, input, wanted)?;
+    put_outcome(rt, &outcome, wanted)
+}
+
 /// A script and a report, as they stand in files.
 fn file_case(rt: &HostRuntime, form: &str, script: &[u8], wanted: &[u8]) -> io::Result<()> {
     if script.len() > INPUT_LIMIT || wanted.len() > INPUT_LIMIT {
         return println!(rt; "too long");
     }
     match read(rt.alloc(), script) {
-        Ok(input) => put_outcome(rt, &outcome(rt.alloc(), form, &input, wanted)?, wanted),
+        Ok(input) => put_form(rt, form, &input, wanted),
         Err(_) => println!(rt; "no script"),
     }
 }
