@@ -1,0 +1,99 @@
+//! Laws of histories that are alike but for the numbers of their events.
+//!
+//! Two schedules may bring a script to the same state and leave two histories in which frames, inserts and requests
+//! have other numbers. But the definitions ask of two numbers only which is less, and whether they are the same. So
+//! such histories go on alike. `Alike` says what has to be the same for that: what stands in the lanes and what each
+//! processor keeps, without numbers; which of two set keys that are due at one time was set first; and how many asks
+//! each processor hasn't noticed, and wouldn't have noticed were it told by a lane. Each event that may come after the
+//! one history then has its like after the other, and they leave histories that are alike.
+//!
+//! So a short list of histories can stand for all of a script. It is closed where each of them, however it goes on, is
+//! like one of the list. What none of the list shows no run shows, under any schedule and any turn limit. A monitor
+//! may keep a number beside, so that what is shown may rest on what came before. Whether a history ended quietly has
+//! one answer in alike histories.
+//!
+//! Each function's contract is a law; the functions do nothing. No program stands on them yet.
+#![tactic(auto)]
+
+ghost use Rattle.nt_alike.specs.Alike.{AlikeGoOn};
+ghost use Rattle.nt_alike.specs.Closed.{ClosedListsTellNever};
+ghost use Rattle.nt_alike.specs.Ends.{AlikeAreQuiet, ClosedListsTellOfEnds};
+ghost use Rattle.nt_alike.specs.Free.{FreeRunsAreRuns, RunsAreFree};
+ghost use Rattle.nt_alike.specs.Monitors.{ClosedListsTellNeverWith};
+ghost use Rattle.nt_alike.specs.Parts.{AsksAreBare, FactsAreBare, JobsAreBare, LanesAreBare, ObjectsAreBare, QueuesAreBare};
+
+// ---- runs at no turn limit
+
+/// A run at any turn limit is a free run, one at no limit.
+pub fn runs_are_free()
+    ensures { RunsAreFree }
+{}
+
+/// A free run is a run at each limit from its length on.
+pub fn free_runs_are_runs()
+    ensures { FreeRunsAreRuns }
+{}
+
+// ---- steps on the way: what the bare event and the bare states tell
+
+/// What an event leaves of a DPC object, but for numbers, is told by the event and the object but for numbers.
+pub fn objects_are_bare()
+    ensures { ObjectsAreBare }
+{}
+
+/// The same of a DPC queue.
+pub fn queues_are_bare()
+    ensures { QueuesAreBare }
+{}
+
+/// The same of the facts of a thread.
+pub fn facts_are_bare()
+    ensures { FactsAreBare }
+{}
+
+/// The event of a job, but for numbers, is told by where its processor stands and what stands in the lanes, without
+/// all numbers but those of the timers.
+pub fn jobs_are_bare()
+    ensures { JobsAreBare }
+{}
+
+/// What an event asks for is told so too.
+pub fn asks_are_bare()
+    ensures { AsksAreBare }
+{}
+
+/// And so is which lanes it touches.
+pub fn lanes_are_bare()
+    ensures { LanesAreBare }
+{}
+
+// ---- histories that are alike
+
+/// Where two free runs are alike, each event that may come after the one has its like after the other, and they leave
+/// histories that are alike.
+pub fn alike_histories_go_on_alike()
+    ensures { AlikeGoOn }
+{}
+
+/// Of histories that are alike both are quiet or neither is.
+pub fn alike_histories_are_quiet_alike()
+    ensures { AlikeAreQuiet }
+{}
+
+// ---- closed lists
+
+/// Where a list of histories is closed and none of them can go on by an event that the test finds, no run of the
+/// script has such an event, under any schedule and any turn limit.
+pub fn a_closed_list_tells_never()
+    ensures { ClosedListsTellNever }
+{}
+
+/// The same with a monitor: what the test finds may rest on what came before.
+pub fn a_closed_list_tells_never_with_a_monitor()
+    ensures { ClosedListsTellNeverWith }
+{}
+
+/// Where none of a closed list is quiet with the monitor keeping what is bad, no run ends quietly so.
+pub fn a_closed_list_tells_of_ends()
+    ensures { ClosedListsTellOfEnds }
+{}
