@@ -17,3 +17,4 @@ pub mod Relation
 pub mod Monitors
 pub mod Closed
 pub mod Quiet
+pub mod Questions

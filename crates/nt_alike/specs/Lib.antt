@@ -6,3 +6,4 @@ pub mod Alike
 pub mod Closed
 pub mod Monitors
 pub mod Ends
+pub mod Questions

@@ -9,8 +9,8 @@
 //!
 //! So a short list of histories can stand for all of a script. It is closed where each of them, however it goes on, is
 //! like one of the list. What none of the list shows no run shows, under any schedule and any turn limit. A monitor
-//! may keep a number beside, so that what is shown may rest on what came before. Whether a history ended quietly has
-//! one answer in alike histories.
+//! may keep a number beside, so that what is shown may rest on what came before. Questions about states have one
+//! answer in alike histories, and so has the question whether a history ended quietly.
 //!
 //! Each function's contract is a law; the functions do nothing. No program stands on them yet.
 #![tactic(auto)]
@@ -21,6 +21,7 @@ ghost use Rattle.nt_alike.specs.Ends.{AlikeAreQuiet, ClosedListsTellOfEnds};
 ghost use Rattle.nt_alike.specs.Free.{FreeRunsAreRuns, RunsAreFree};
 ghost use Rattle.nt_alike.specs.Monitors.{ClosedListsTellNeverWith};
 ghost use Rattle.nt_alike.specs.Parts.{AsksAreBare, FactsAreBare, JobsAreBare, LanesAreBare, ObjectsAreBare, QueuesAreBare};
+ghost use Rattle.nt_alike.specs.Questions.{AlikeAnswerAlike, AlikeStandAlike};
 
 // ---- runs at no turn limit
 
@@ -73,6 +74,18 @@ pub fn lanes_are_bare()
 /// histories that are alike.
 pub fn alike_histories_go_on_alike()
     ensures { AlikeGoOn }
+{}
+
+/// Every question about what processors keep and what stands in the lanes, but for numbers, has one answer after
+/// histories that are alike.
+pub fn questions_are_answered_alike()
+    ensures { AlikeAnswerAlike }
+{}
+
+/// So each processor is at the same level, runs the same thread and has the same frames open, each thread does the
+/// same, the same DPC and APC objects are inserted, and the same timers are set.
+pub fn alike_histories_stand_alike()
+    ensures { AlikeStandAlike }
 {}
 
 /// Of histories that are alike both are quiet or neither is.
