@@ -18,3 +18,4 @@ pub mod Monitors
 pub mod Closed
 pub mod Quiet
 pub mod Questions
+pub mod Ranks

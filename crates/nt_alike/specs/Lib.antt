@@ -7,3 +7,4 @@ pub mod Closed
 pub mod Monitors
 pub mod Ends
 pub mod Questions
+pub mod Ranks

@@ -10,7 +10,8 @@
 //! So a short list of histories can stand for all of a script. It is closed where each of them, however it goes on, is
 //! like one of the list. What none of the list shows no run shows, under any schedule and any turn limit. A monitor
 //! may keep a number beside, so that what is shown may rest on what came before. Questions about states have one
-//! answer in alike histories, and so has the question whether a history ended quietly.
+//! answer in alike histories, and so has the question whether a history ended quietly. A rank that falls with each
+//! event bounds the length of every run.
 //!
 //! Each function's contract is a law; the functions do nothing. No program stands on them yet.
 #![tactic(auto)]
@@ -22,6 +23,7 @@ ghost use Rattle.nt_alike.specs.Free.{FreeRunsAreRuns, RunsAreFree};
 ghost use Rattle.nt_alike.specs.Monitors.{ClosedListsTellNeverWith};
 ghost use Rattle.nt_alike.specs.Parts.{AsksAreBare, FactsAreBare, JobsAreBare, LanesAreBare, ObjectsAreBare, QueuesAreBare};
 ghost use Rattle.nt_alike.specs.Questions.{AlikeAnswerAlike, AlikeStandAlike};
+ghost use Rattle.nt_alike.specs.Ranks.{RanksBoundRuns};
 
 // ---- runs at no turn limit
 
@@ -109,4 +111,9 @@ pub fn a_closed_list_tells_never_with_a_monitor()
 /// Where none of a closed list is quiet with the monitor keeping what is bad, no run ends quietly so.
 pub fn a_closed_list_tells_of_ends()
     ensures { ClosedListsTellOfEnds }
+{}
+
+/// Where a closed list has ranks that fall with each event, no run of the script has more events than the bound.
+pub fn ranks_bound_every_run()
+    ensures { RanksBoundRuns }
 {}
