@@ -19,3 +19,7 @@ pub mod Closed
 pub mod Quiet
 pub mod Questions
 pub mod Ranks
+pub mod OneCpu
+pub mod Line
+pub mod Smallest
+pub mod RaiseQueueLower

@@ -8,3 +8,5 @@ pub mod Monitors
 pub mod Ends
 pub mod Questions
 pub mod Ranks
+pub mod Smallest
+pub mod RaiseQueueLower

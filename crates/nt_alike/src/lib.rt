@@ -13,6 +13,8 @@
 //! answer in alike histories, and so has the question whether a history ended quietly. A rank that falls with each
 //! event bounds the length of every run.
 //!
+//! Two closed lists are written out: that of the smallest script, and that of the worked row raise-queue-lower.
+//!
 //! Each function's contract is a law; the functions do nothing. No program stands on them yet.
 #![tactic(auto)]
 
@@ -23,7 +25,9 @@ ghost use Rattle.nt_alike.specs.Free.{FreeRunsAreRuns, RunsAreFree};
 ghost use Rattle.nt_alike.specs.Monitors.{ClosedListsTellNeverWith};
 ghost use Rattle.nt_alike.specs.Parts.{AsksAreBare, FactsAreBare, JobsAreBare, LanesAreBare, ObjectsAreBare, QueuesAreBare};
 ghost use Rattle.nt_alike.specs.Questions.{AlikeAnswerAlike, AlikeStandAlike};
+ghost use Rattle.nt_alike.specs.RaiseQueueLower.{DpcBeginsOnce, DpcWaitsForTheLower, RowEnds, RowIsClosed, RowIsRanked};
 ghost use Rattle.nt_alike.specs.Ranks.{RanksBoundRuns};
+ghost use Rattle.nt_alike.specs.Smallest.{OnlyRests};
 
 // ---- runs at no turn limit
 
@@ -116,4 +120,38 @@ pub fn a_closed_list_tells_of_ends()
 /// Where a closed list has ranks that fall with each event, no run of the script has more events than the bound.
 pub fn ranks_bound_every_run()
     ensures { RanksBoundRuns }
+{}
+
+// ---- two closed lists
+
+/// Of a script of one processor and nothing else, the histories with no event and with one Rest are a closed list, and
+/// only Rest ever comes.
+pub fn on_the_smallest_script_nothing_else_comes()
+    ensures { OnlyRests }
+{}
+
+/// The histories of the worked row raise-queue-lower, as they are written out, are a closed list, whatever a monitor
+/// keeps.
+pub fn raise_queue_lower_is_closed()
+    ensures { RowIsClosed }
+{}
+
+/// It has ranks: how many events are still to come.
+pub fn raise_queue_lower_is_ranked()
+    ensures { RowIsRanked }
+{}
+
+/// Its DPC never begins while the processor is at DISPATCH_LEVEL or above, under any schedule and any turn limit.
+pub fn raise_queue_lower_begins_no_dpc_at_dispatch()
+    ensures { DpcWaitsForTheLower }
+{}
+
+/// In each run of it that ends quietly the DPC has begun once.
+pub fn raise_queue_lower_begins_its_dpc_once()
+    ensures { DpcBeginsOnce }
+{}
+
+/// No run of it has more events than the worked one.
+pub fn raise_queue_lower_ends()
+    ensures { RowEnds }
 {}
