@@ -19,6 +19,8 @@ pub mod Closed
 pub mod Quiet
 pub mod Questions
 pub mod Ranks
+pub mod Declared
+pub mod Compared
 pub mod OneCpu
 pub mod Line
 pub mod Smallest

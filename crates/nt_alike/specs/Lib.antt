@@ -8,5 +8,6 @@ pub mod Monitors
 pub mod Ends
 pub mod Questions
 pub mod Ranks
+pub mod Declared
 pub mod Smallest
 pub mod RaiseQueueLower

@@ -11,7 +11,8 @@
 //! like one of the list. What none of the list shows no run shows, under any schedule and any turn limit. A monitor
 //! may keep a number beside, so that what is shown may rest on what came before. Questions about states have one
 //! answer in alike histories, and so has the question whether a history ended quietly. A rank that falls with each
-//! event bounds the length of every run.
+//! event bounds the length of every run. In a script that fits nothing happens on what it does not declare, so it is
+//! enough to compare what it declares.
 //!
 //! Two closed lists are written out: that of the smallest script, and that of the worked row raise-queue-lower.
 //!
@@ -20,6 +21,7 @@
 
 ghost use Rattle.nt_alike.specs.Alike.{AlikeGoOn};
 ghost use Rattle.nt_alike.specs.Closed.{ClosedListsTellNever};
+ghost use Rattle.nt_alike.specs.Declared.{DeclaredAreAlike, NothingBeyond};
 ghost use Rattle.nt_alike.specs.Ends.{AlikeAreQuiet, ClosedListsTellOfEnds};
 ghost use Rattle.nt_alike.specs.Free.{FreeRunsAreRuns, RunsAreFree};
 ghost use Rattle.nt_alike.specs.Monitors.{ClosedListsTellNeverWith};
@@ -97,6 +99,18 @@ pub fn alike_histories_stand_alike()
 /// Of histories that are alike both are quiet or neither is.
 pub fn alike_histories_are_quiet_alike()
     ensures { AlikeAreQuiet }
+{}
+
+/// In a run of a script that fits, at any turn limit, each event is by a processor of the script, asks processors of
+/// the script alone and for used classes alone, and touches lanes of the script alone.
+pub fn nothing_happens_on_what_is_not_declared()
+    ensures { NothingBeyond }
+{}
+
+/// So free runs of a script that fits are alike where they are so in the processors, lanes and keys that it declares
+/// and in the used classes.
+pub fn histories_alike_in_what_is_declared_are_alike()
+    ensures { DeclaredAreAlike }
 {}
 
 // ---- closed lists
