@@ -69,6 +69,7 @@ fn turn_beside<N: Plan + Shared + Send + Sync, R: Threads + Wait + Sync>(
     gate: Holding<'_>,
 ) -> Result<bool, AllocError>
     requires script { (script.now ≡ N.script) × IsTrue (fits script.now) }
+    requires locks { script.now.locks ≡ 0 }
     requires turns { (turns ≡ N.turns) × (turns ≤ TURNS) }
     requires table { (table_of made.marks ≡ N.table) × (pass_table made.pass ≡ N.table) }
     requires sizes { (cpus_of made.marks ≡ N.script.cpus) × ((lanes_of made.marks ≡ spec.lane_count N.script) × (limit_of made.marks ≡ N.turns)) }
@@ -102,6 +103,7 @@ pub(crate) fn turned_beside<R: Threads + Wait + Sync>(
     looks: u32,
 ) -> Result<&'static str, AllocError>
     requires script { IsTrue (fits script.now) }
+    requires locks { script.now.locks ≡ 0 }
     requires turns { (1 ≤ limit) × (limit ≤ TURNS) }
 {
     let count = lane_count(script);
@@ -158,6 +160,7 @@ fn hold_beside<N: Plan + Shared + Send + Sync, R: Threads + Wait + Sync>(
     gate: Holding<'_>,
 ) -> Result<(), AllocError>
     requires script { (script.now ≡ N.script) × IsTrue (fits script.now) }
+    requires locks { script.now.locks ≡ 0 }
     requires turns { turns ≡ N.turns }
     requires table { table_of marks.now ≡ N.table }
     requires keepers { AreNewKeepers (table_of marks.now) keepers.items × (vec_len keepers ≡ spec.lane_count script.now) }
@@ -197,6 +200,7 @@ pub(crate) fn held_beside<R: Threads + Wait + Sync>(
     second: u32,
 ) -> Result<&'static str, AllocError>
     requires script { IsTrue (fits script.now) }
+    requires locks { script.now.locks ≡ 0 }
     requires turns { (1 ≤ limit) × (limit ≤ TURNS) }
 {
     let count = lane_count(script);

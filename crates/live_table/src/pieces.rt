@@ -43,6 +43,7 @@ fn gathered<N: Plan + Shared, R: Wait>(
     count: u8,
 ) -> Result<History, AllocError>
     requires script { (script.now ≡ N.script) × IsTrue (fits script.now) }
+    requires locks { script.now.locks ≡ 0 }
     requires turns { (turns ≡ N.turns) × ((1 ≤ turns) × ((turns ≤ TURNS) × (script.now.cpus * turns ≤ EVENTS))) }
     requires table { table_of made.marks ≡ N.table }
     requires prepared { IsPrepared script.now turns made }
@@ -63,6 +64,7 @@ fn history<R: Wait>(
     count: u8,
 ) -> Result<History, AllocError>
     requires script { IsTrue (fits script.now) }
+    requires locks { script.now.locks ≡ 0 }
     requires turns { (1 ≤ limit) × (limit ≤ TURNS) }
     requires all { script.now.cpus * limit ≤ EVENTS }
     requires count { count ≤ script.now.cpus }
@@ -80,6 +82,7 @@ pub(crate) fn all_worked<R: Wait>(
     limit: u32,
 ) -> Result<&'static str, AllocError>
     requires script { IsTrue (fits script.now) }
+    requires locks { script.now.locks ≡ 0 }
     requires turns { (1 ≤ limit) × (limit ≤ TURNS) }
     requires all { script.now.cpus * limit ≤ EVENTS }
 {
@@ -116,6 +119,7 @@ pub(crate) fn first_worked<R: Wait>(
     limit: u32,
 ) -> Result<&'static str, AllocError>
     requires script { IsTrue (fits script.now) }
+    requires locks { script.now.locks ≡ 0 }
     requires turns { (1 ≤ limit) × (limit ≤ TURNS) }
     requires all { script.now.cpus * limit ≤ EVENTS }
 {

@@ -24,6 +24,7 @@ pub(crate) fn met<R: Threads + Wait + Sync>(
     limit: u32,
 ) -> Result<&'static str, AllocError>
     requires script { IsTrue (fits script.now) }
+    requires locks { script.now.locks ≡ 0 }
     requires turns { (1 ≤ limit) × (limit ≤ TURNS) }
     requires all { script.now.cpus * limit ≤ EVENTS }
 {
@@ -66,6 +67,7 @@ pub(crate) fn followed<R: Threads + Wait + Sync>(
     limit: u32,
 ) -> Result<&'static str, AllocError>
     requires script { IsTrue (fits script.now) }
+    requires locks { script.now.locks ≡ 0 }
     requires turns { (1 ≤ limit) × (limit ≤ TURNS) }
     requires all { script.now.cpus * limit ≤ EVENTS }
 {
@@ -138,6 +140,7 @@ pub(crate) fn lived<R: Threads + Wait + Sync>(
     limit: u32,
 ) -> Result<&'static str, AllocError>
     requires script { IsTrue (fits script.now) }
+    requires locks { script.now.locks ≡ 0 }
     requires turns { (1 ≤ limit) × (limit ≤ TURNS) }
     requires all { script.now.cpus * limit ≤ EVENTS }
 {

@@ -7,7 +7,7 @@ use Rattle.std.specs.List.{list_any}
 use Rattle.std.specs.Prelude.{Bool, IfSome, IsSome, IsTrue, List, None, Option, Some, [], false, true, ℕ, ◌++◌, ◌||◌, ◌∷◌, ◌≡◌}
 use Rattle.nt_event.specs.declared.events.Event.{Event}
 use Rattle.nt_event.specs.declared.jobs.Lane.{Lane}
-use Rattle.nt_event.specs.declared.jobs.Lane.TheVariants.{Object as ObjectLane, Queue as QueueLane, Threads as ThreadsLane, Timers as TimersLane}
+use Rattle.nt_event.specs.declared.jobs.Lane.TheVariants.{Lock as LockLane, Object as ObjectLane, Queue as QueueLane, Threads as ThreadsLane, Timers as TimersLane}
 use Rattle.nt_event.specs.declared.jobs.Stand.{Stand}
 use Rattle.nt_event.specs.declared.numbers.CpuNo.{CpuNo}
 use Rattle.nt_event.specs.declared.numbers.DpcNo.{DpcNo}
@@ -100,6 +100,7 @@ same_refl (ObjectLane d) = eq-eqb d.0 d.0 refl
 same_refl (QueueLane p) = eq-eqb p.0 p.0 refl
 same_refl (ThreadsLane p) = eq-eqb p.0 p.0 refl
 same_refl TimersLane = refl
+same_refl (LockLane k) = eq-eqb k.0 k.0 refl
 
 or_true : (b c d : Bool) → c ≡ true → (b || (c || d)) ≡ true
 or_true true c d h = refl
@@ -166,6 +167,7 @@ module _ (s : Script) (h : HeldLanes) (there : AreLanes s h) where
       shown_on s h TimersLane k.log (λ q c. ap (λ (y : Option (Kept Timers)). told_at (told_of y) q c) o.1) (OfTimers k.state) v
       lane.noted (timers_before states k.state at) (of_some (λ (k : Kept Timers). IsKnownBy k.log v) h.timers k o.1 known.timers)
       (of_some (λ (k : Kept Timers). IsLongest k.log.lane k.log.notes v) h.timers k o.1 longest.timers)
+  each_shown v known longest (LockLane k) held = absurd held
 
   pub all_shown : (v : View) → AreKnownBy h v → AreLongest h v → (xs : List Lane) → AreHeld (IsHeld states) xs → AreShownOn s v (found_in s h) xs
   all_shown v known longest [] held = tt
@@ -219,6 +221,7 @@ module _ (s : Script) (h : HeldLanes) (there : AreLanes s h) where
         found_on s h TimersLane k.log (λ q c. ap (λ (y : Option (Kept Timers)). told_at (told_of y) q c) o.1) n st e asks
         (OfTimers k.state) (OfTimers (timers_after s n st e k.state)) v lane.noted (timers_before states k.state at)
         (timers_then states n st e k.state at) same knows
+    each_found (LockLane k) held among = absurd held
 
     rest_found : (past xs : List Lane) → lanes ≡ past ++ xs → AreHeld (IsHeld states) xs → AreFoundOn s v n e st (found_in s h) xs
     rest_found past [] is held = tt

@@ -9,7 +9,7 @@ use Rattle.nt_event.specs.declared.events.Event.{Event}
 use Rattle.nt_event.specs.declared.jobs.Job.{Job}
 use Rattle.nt_event.specs.declared.jobs.Job.TheVariants as job
 use Rattle.nt_event.specs.declared.jobs.Lane.{Lane}
-use Rattle.nt_event.specs.declared.jobs.Lane.TheVariants.{Object as ObjectLane, Queue as QueueLane, Threads as ThreadsLane, Timers as TimersLane}
+use Rattle.nt_event.specs.declared.jobs.Lane.TheVariants.{Lock as LockLane, Object as ObjectLane, Queue as QueueLane, Threads as ThreadsLane, Timers as TimersLane}
 use Rattle.nt_event.specs.declared.jobs.Stand.{Stand}
 use Rattle.nt_event.specs.declared.numbers.CpuNo.{CpuNo}
 use Rattle.nt_event.specs.declared.numbers.DpcNo.{DpcNo}
@@ -59,6 +59,7 @@ same_number s (ObjectLane d) (ObjectLane x) h = eqb-true x.0 d.0 h
 same_number s (QueueLane p) (QueueLane x) h = let e : x.0 ≡ p.0 = eqb-true x.0 p.0 h in omega (arith, e)
 same_number s (ThreadsLane p) (ThreadsLane x) h = let e : x.0 ≡ p.0 = eqb-true x.0 p.0 h in omega (arith, e)
 same_number s TimersLane TimersLane h = refl
+same_number s (LockLane k) (LockLane x) h = let e : x.0 ≡ k.0 = eqb-true x.0 k.0 h in omega (arith, e)
 same_number s x y h = cc
 
 -- the number of a lane that is among these is among their numbers

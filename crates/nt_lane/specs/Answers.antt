@@ -1,7 +1,7 @@
 -- What a few held lanes tell: their own states, and any states of the other lanes.
-use Rattle.std.specs.Prelude.{IfSome, IsSome, IsTrue, List, None, Option, Some, length, option_map, replicate, ◌≡◌}
+use Rattle.std.specs.Prelude.{IfSome, IsSome, IsTrue, List, None, Option, Some, [], length, option_map, replicate, ◌≡◌}
 use Rattle.nt_event.specs.declared.jobs.Lane.{Lane}
-use Rattle.nt_event.specs.declared.jobs.Lane.TheVariants.{Object as ObjectLane, Queue as QueueLane, Threads as ThreadsLane, Timers as TimersLane}
+use Rattle.nt_event.specs.declared.jobs.Lane.TheVariants.{Lock as LockLane, Object as ObjectLane, Queue as QueueLane, Threads as ThreadsLane, Timers as TimersLane}
 use Rattle.nt_event.specs.declared.scripts.Script.{Script}
 use Rattle.nt_event.specs.Lanes.{Lanes}
 use Rattle.nt_event.specs.Objects.{ObjectState, start_object}
@@ -23,7 +23,8 @@ pub record HeldStates : Type 0 where
   pub group : Option GroupState
   pub timers : Option Timers
 
--- ---- the states that they tell of all lanes: an object or a queue that isn't held is told like the held one
+-- ---- the states that they tell of all lanes: an object or a queue that isn't held is told like the held one, and of
+-- spin locks nothing
 
 abbrev pub object_told : Option ObjectFacts → ObjectState
 object_told None = start_object
@@ -48,14 +49,16 @@ held_lanes h =
       queues = replicate h.script.cpus (queue_told h.queue);
       threads = threads_told h.script h.group;
       timers = timers_told h.script h.timers;
+      locks = [];
     }
 
--- the lane is held
+-- the lane is held; that of a spin lock never is
 abbrev pub IsHeld : HeldStates → Lane → Type 0
 IsHeld h (ObjectLane d) = IsSome h.object × IfSome h.object (λ o. o.dpc ≡ d)
 IsHeld h (QueueLane p) = IsSome h.queue × IfSome h.queue (λ q. q.cpu ≡ p)
 IsHeld h (ThreadsLane p) = IsSome h.group × IfSome h.group (λ g. g.cpu ≡ p)
 IsHeld h TimersLane = IsSome h.timers
+IsHeld h (LockLane k) = ⊥
 
 -- ---- what holds of them
 

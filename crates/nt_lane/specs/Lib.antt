@@ -11,6 +11,7 @@ pub mod Marked
 pub mod Changed
 pub mod Decided
 pub mod Needed
+pub mod Moving
 pub mod Locks
 pub mod Leaving
 pub mod Plans

@@ -1,7 +1,7 @@
 -- The lanes that an act holds: their states, with their records.
 use Rattle.std.specs.Prelude.{IfSome, List, None, Option, Some, [], option_map, ℕ, ◌*◌, ◌^◌, ◌≤◌}
 use Rattle.nt_event.specs.declared.jobs.Lane.{Lane}
-use Rattle.nt_event.specs.declared.jobs.Lane.TheVariants.{Object as ObjectLane, Queue as QueueLane, Threads as ThreadsLane, Timers as TimersLane}
+use Rattle.nt_event.specs.declared.jobs.Lane.TheVariants.{Lock as LockLane, Object as ObjectLane, Queue as QueueLane, Threads as ThreadsLane, Timers as TimersLane}
 use Rattle.nt_event.specs.declared.scripts.Script.{Script}
 use Rattle.nt_event.specs.LaneStates.{Content, OfObject, OfQueue, OfTimers, told_at}
 use Rattle.nt_event.specs.Timers.{Timers}
@@ -51,12 +51,13 @@ abbrev pub told_of : {A : Type 0} → Option (Kept A) → List (List ℕ)
 told_of None = []
 told_of (Some k) = k.log.told
 
--- what the held lanes tell: an object that isn't held tells like the held one
+-- what the held lanes tell: an object that isn't held tells like the held one, and a spin lock nothing
 abbrev pub told_in : HeldLanes → Told
 told_in h (ObjectLane d) p c = told_at (told_of h.object) p c
 told_in h (QueueLane q) p c = told_at (told_of h.queue) p c
 told_in h (ThreadsLane q) p c = told_at (told_of h.group) p c
 told_in h TimersLane p c = told_at (told_of h.timers) p c
+told_in h (LockLane k) p c = 0
 
 -- the states in which an act makes its event, with what the lanes tell of requests before it
 abbrev pub found_in : Script → HeldLanes → Found

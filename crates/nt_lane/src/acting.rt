@@ -2,6 +2,7 @@
 ghost use Rattle.std.specs.Prelude.{◌≡◌, ◌≤◌, IfErr, IfOk, IsTrue};
 ghost use Rattle.nt_event.specs.Lanes.{lane_count};
 ghost use Rattle.nt_acts.specs.Acts.{StandFits, job_fits};
+ghost use Rattle.nt_lane.specs.Moving.{is_move, job_move};
 ghost use Rattle.nt_lane.specs.Tries.{IsDone, IsNotDone};
 ghost use Rattle.nt_lane.specs.Views.{drawable_of};
 ghost use Rattle.nt_mark.specs.Names.{cpus_of, lanes_of, pass_table, pass_view, table_of};
@@ -10,14 +11,38 @@ use crate::foreseeing::foresee;
 use crate::lanes::Lanes;
 use crate::locks::lock;
 use crate::tries::{Tried, try_under};
-use nt_event::{Job, Plan};
+use nt_event::{Command, Job, Plan};
 use nt_floor::{ActRefusal, Acted};
 use nt_frame::StandView;
 use nt_mark::{Marks, Pass, Shared};
 use std::sync::Wait;
 
+/// Whether the job moves a spin lock: acquires, unlocks or frees it.
+fn moves_lock(job: &Job) -> bool
+    ensures { result ≡ is_move (job_move job.now) }
+{
+    match job {
+        Job::Call(command) => matches!(command, Command::Acquire(_) | Command::Unlock(_)),
+        Job::Free(_) => true,
+        Job::Fire(_)
+        | Job::Drain
+        | Job::Apcs
+        | Job::Threaded
+        | Job::Idle
+        | Job::Pick(_)
+        | Job::Switch(_)
+        | Job::Rewait
+        | Job::ToUser
+        | Job::UserEnd
+        | Job::Leave
+        | Job::Rundown => false,
+    }
+}
+
 /// Makes the event of a job for a processor that stands so: takes the locks that it foresees, in order, and tries under them; with
 /// other needs again, until it is done. It may wait.
+///
+/// The job moves no spin lock, since the script of these lanes has none.
 pub(crate) fn act_under<'s, N: Plan + Shared, R: Wait>(
     rt: &R,
     lanes: &Lanes<'s, N>,
@@ -36,6 +61,8 @@ pub(crate) fn act_under<'s, N: Plan + Shared, R: Wait>(
     ensures refused { IfErr result (λ r. IsNotDone N.script stand.now job.now (pass_view pass.old) (pass_view pass.new) r) }
 {
     let script = lanes.script;
+    let moves_lock = moves_lock(job);
+    prove!(!moves_lock);
     let mut needs = foresee(rt, lanes, job, stand);
     for _ in rt.forever() {
         let mut locked = lock(rt, lanes, &needs);

@@ -12,7 +12,7 @@ ghost use Rattle.nt_timer.specs.Laws.{IsSized};
 use crate::needs::Needs;
 use crate::states::{Clock, Group, Object, Queue};
 use nt_dpc::{DpcObject, DpcQueue};
-use nt_event::{CpuNo, DpcNo, Lane, Part, Script, TimerKey, TimerNo};
+use nt_event::{CpuNo, DpcNo, Lane, LockNo, Part, Script, TimerKey, TimerNo};
 use nt_states::LaneAnswers;
 use nt_thread_lanes::Threads;
 use nt_timer::TimerQueue;
@@ -108,7 +108,7 @@ impl<'h, 's> Held<'h, 's> {
         let _script = self.script;
     }
 
-    /// Whether this lane is held.
+    /// Whether this lane is held. The lane of a spin lock never is.
     pub(crate) fn holds(&self, lane: Lane) -> bool
         ensures { IsTrue result ↔ IsHeld self.now lane }
     {
@@ -126,6 +126,7 @@ impl<'h, 's> Held<'h, 's> {
                 None => false,
             },
             Lane::Timers => self.timers.is_some(),
+            Lane::Lock(_) => false,
         }
     }
 
@@ -148,6 +149,7 @@ impl<'h, 's> Held<'h, 's> {
             queue,
             group,
             timers: self.timers.is_some(),
+            lock: None,
         }
     }
 
@@ -251,5 +253,17 @@ impl<'h, 's> LaneAnswers for Held<'h, 's> {
     fn first_due(&self) -> Option<(TimerKey, u64)> {
         self.there();
         self.timers().first_due()
+    }
+
+    // No lane of a spin lock is held, so nobody may ask these two.
+
+    fn is_free(&self, k: LockNo) -> bool {
+        let _lock = k;
+        unreachable!()
+    }
+
+    fn spinners(&self, k: LockNo) -> &[bool] {
+        let _lock = k;
+        unreachable!()
     }
 }

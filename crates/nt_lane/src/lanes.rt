@@ -30,17 +30,18 @@ pub struct Pieces {
     pub keepers: Vec<Keeper>,
 }
 
-/// How many lanes a script has, which fits: one for each DPC object, two for each processor, and one for the timers.
+/// How many lanes a script has, which fits: one for each DPC object, two for each processor, one for the timers, and one for each spin
+/// lock.
 pub fn lane_count(script: &Script) -> u32
     requires { IsTrue (fits script.now) }
     ensures count { result ≡ spec.lane_count script.now }
 {
     let cpus = u32::from(script.cpus);
-    script.dpcs.len() as u32 + (cpus + (cpus + 1))
+    script.dpcs.len() as u32 + (cpus + (cpus + (1 + u32::from(script.locks))))
 }
 
-/// The lanes of a script: one lock for each DPC object, each processor's DPC queue, each processor's threads, and the timers. Locks
-/// are taken in this order, by number within a kind.
+/// The lanes of a script that has no spin locks: one lock for each DPC object, each processor's DPC queue, each processor's threads,
+/// and the timers. Locks are taken in this order, by number within a kind.
 #[derive(Drop)]
 pub struct Lanes<'s, N: Plan + Shared> {
     pub(crate) script: &'s Script,
@@ -52,6 +53,7 @@ pub struct Lanes<'s, N: Plan + Shared> {
     room: Mutex<Room<N>>,
     ghost script_is: { script.now ≡ N.script },
     ghost script_fits: { IsTrue (fits N.script) },
+    ghost no_locks: { N.script.locks ≡ 0 },
     ghost all_objects: { vec_len objects ≡ length N.script.dpcs },
     ghost all_queues: { vec_len queues ≡ N.script.cpus },
     ghost all_groups: { vec_len groups ≡ N.script.cpus },
@@ -68,8 +70,8 @@ pub(crate) struct Room<N: Plan> {
 }
 
 impl<'s, N: Plan + Shared> Lanes<'s, N> {
-    /// The lanes of N's script, on which nothing happened, with the keepers of N's table, one for each lane, in order. Room for the
-    /// lists is taken as they grow.
+    /// The lanes of N's script, which has no spin locks, on which nothing happened, with the keepers of N's table, one for each lane, in
+    /// order. Room for the lists is taken as they grow.
     pub fn new(
         alloc: Global,
         script: &'s Script,
@@ -77,6 +79,7 @@ impl<'s, N: Plan + Shared> Lanes<'s, N> {
         turns: u32,
     ) -> Result<Lanes<'s, N>, AllocError>
         requires script { (script.now ≡ N.script) × IsTrue (fits script.now) }
+        requires locks { script.now.locks ≡ 0 }
         requires turns { turns ≡ N.turns }
         requires keepers { AreNewKeepers N.table keepers.items × (vec_len keepers ≡ spec.lane_count script.now) }
     {

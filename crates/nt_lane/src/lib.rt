@@ -5,6 +5,9 @@
 //! lane's state, the list of its events with their numbers, per processor and class the greatest value asked on the lane, and the
 //! lane's keeper of `nt_mark`.
 //!
+//! Each spin lock of a script is a lane too. [`Lanes`] has none of them: its script has no spin locks. So no act holds the lane of a
+//! spin lock here, and no event is made that touches one.
+//!
 //! A [`LaneSeat`] draws, marks and looks by a pass of `nt_mark` without a lock (`Words`), and makes an event under the locks of the
 //! lanes that the event reads and touches (`Floor`). [`Lanes::close`] gives the lists and the keepers back.
 //!

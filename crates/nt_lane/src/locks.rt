@@ -73,7 +73,7 @@ fn cpu_place(cpu: Option<CpuNo>) -> Option<usize> {
     }
 }
 
-/// The locks of these lanes, taken in their order: object, queue, threads, timers. It may wait.
+/// The locks of these lanes, taken in their order: object, queue, threads, timers. The lane of a spin lock has none. It may wait.
 pub(crate) fn lock<'l, 's, N: Plan + Shared, R: Wait>(
     rt: &R,
     lanes: &'l Lanes<'s, N>,
@@ -259,6 +259,7 @@ impl<'l, 's, N: Plan + Shared> Locked<'l, 's, N> {
             LaneName::Queue(_) => raise_one::<N, Queue>(&self.queue, p, values),
             LaneName::Threads(_) => raise_one::<N, Group<'s>>(&self.group, p, values),
             LaneName::Timers => raise_one::<N, Clock>(&self.timers, p, values),
+            LaneName::Lock(_) => unreachable!(),
         }
     }
 

@@ -107,6 +107,7 @@ fn leaves(script: &Script, group: Option<&Group>, stand: &StandView, job: &Job) 
         },
         Job::Call(_)
         | Job::Fire(_)
+        | Job::Free(_)
         | Job::Drain
         | Job::Apcs
         | Job::Threaded
@@ -141,6 +142,7 @@ fn reads_due(held: &Held, what: &What) -> bool
         | What::Rewait { .. }
         | What::Flush { .. }
         | What::Gone { .. }
+        | What::Free { .. }
         | What::Rest => true,
     }
 }

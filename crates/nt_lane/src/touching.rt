@@ -25,19 +25,33 @@ fn same(a: LaneName, b: LaneName) -> bool
     match a {
         LaneName::Object(d) => match b {
             LaneName::Object(e) => e.0 == d.0,
-            LaneName::Queue(_) | LaneName::Threads(_) | LaneName::Timers => false,
+            LaneName::Queue(_) | LaneName::Threads(_) | LaneName::Timers | LaneName::Lock(_) => {
+                false
+            }
         },
         LaneName::Queue(p) => match b {
             LaneName::Queue(q) => q.0 == p.0,
-            LaneName::Object(_) | LaneName::Threads(_) | LaneName::Timers => false,
+            LaneName::Object(_) | LaneName::Threads(_) | LaneName::Timers | LaneName::Lock(_) => {
+                false
+            }
         },
         LaneName::Threads(p) => match b {
             LaneName::Threads(q) => q.0 == p.0,
-            LaneName::Object(_) | LaneName::Queue(_) | LaneName::Timers => false,
+            LaneName::Object(_) | LaneName::Queue(_) | LaneName::Timers | LaneName::Lock(_) => {
+                false
+            }
         },
         LaneName::Timers => match b {
             LaneName::Timers => true,
-            LaneName::Object(_) | LaneName::Queue(_) | LaneName::Threads(_) => false,
+            LaneName::Object(_) | LaneName::Queue(_) | LaneName::Threads(_) | LaneName::Lock(_) => {
+                false
+            }
+        },
+        LaneName::Lock(k) => match b {
+            LaneName::Lock(j) => j.0 == k.0,
+            LaneName::Object(_) | LaneName::Queue(_) | LaneName::Threads(_) | LaneName::Timers => {
+                false
+            }
         },
     }
 }

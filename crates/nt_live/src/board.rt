@@ -55,7 +55,7 @@ pub fn prepare(alloc: Global, script: &Script, turns: u32) -> Result<Made, Alloc
 
 impl<'s, N: Plan + Shared> Board<'s, N> {
     /// The board of marks that were prepared for N's script and turn limit, and whose table is N's; with a worker for each processor, none
-    /// of which made anything.
+    /// of which made anything. The script has no spin locks.
     pub fn new(
         alloc: Global,
         script: &'s Script,
@@ -63,6 +63,7 @@ impl<'s, N: Plan + Shared> Board<'s, N> {
         made: Made,
     ) -> Result<Opened<'s, N>, AllocError>
         requires script { (script.now ≡ N.script) × IsTrue (fits script.now) }
+        requires locks { script.now.locks ≡ 0 }
         requires turns { (turns ≡ N.turns) × ((1 ≤ turns) × ((turns ≤ TURNS) × (script.now.cpus * turns ≤ EVENTS))) }
         requires table { table_of made.marks ≡ N.table }
         requires prepared { IsPrepared script.now turns made }

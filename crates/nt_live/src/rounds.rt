@@ -96,6 +96,7 @@ fn live_of<'s, N: Plan + Shared + Send + Sync, G: Gate + Sync, R: Threads + Wait
     gate: &G,
 ) -> Result<History, AllocError>
     requires script { (script.now ≡ N.script) × IsTrue (fits script.now) }
+    requires locks { script.now.locks ≡ 0 }
     requires turns { (turns ≡ N.turns) × ((1 ≤ turns) × ((turns ≤ TURNS) × (script.now.cpus * turns ≤ EVENTS))) }
     requires table { table_of made.marks ≡ N.table }
     requires prepared { IsPrepared script.now turns made }
@@ -112,7 +113,8 @@ fn live_of<'s, N: Plan + Shared + Send + Sync, G: Gate + Sync, R: Threads + Wait
 ///
 /// Each processor has a thread of its own, where one can be made; they share what the script says that they share, with a lock for each
 /// DPC object, each processor's queue and threads, and the timers. The gate is passed before each turn of a processor, with its number
-/// and how many events it made. The script fits, and `turns` is 1 to 20,000 and at most 160,000 in all processors together.
+/// and how many events it made. The script fits and has no spin locks, and `turns` is 1 to 20,000 and at most 160,000 in all processors
+/// together.
 ///
 /// It may wait. AllocError comes where no memory was found; the workers ended their round first.
 pub fn live<G: Gate + Sync, R: Threads + Wait + Sync>(
@@ -123,6 +125,7 @@ pub fn live<G: Gate + Sync, R: Threads + Wait + Sync>(
     gate: &G,
 ) -> Result<History, AllocError>
     requires script { IsTrue (fits script.now) }
+    requires locks { script.now.locks ≡ 0 }
     requires turns { (1 ≤ turns) × (turns ≤ TURNS) }
     requires all { script.now.cpus * turns ≤ EVENTS }
     ensures turns { IfOk result (λ h. h.turns ≡ turns) }
