@@ -4,7 +4,7 @@ use Rattle.std.proofs.lemmas.Bool.{eqb-true, leb-true, lt-ltb, ltb-false, ltb-tr
 use Rattle.std.proofs.lemmas.List.{get_or_past}
 use Rattle.std.specs.List.{list_all, list_any}
 use Rattle.std.specs.Option.{option_map_or}
-use Rattle.std.specs.Prelude.{Bool, IfSome, List, None, Option, Some, [], false, if◌then◌else◌, is_some, length, nat_le, nat_lt, option_and_then, refl, slice_get, true, ℕ, ◌&&◌, ◌++◌, ◌+◌, ◌==◌, ◌||◌, ◌∷◌, ◌≡◌}
+use Rattle.std.specs.Prelude.{Bool, IfSome, List, None, Option, Some, [], false, get_or, if◌then◌else◌, is_some, length, nat_le, nat_lt, option_and_then, refl, slice_get, suc, true, ℕ, ◌&&◌, ◌++◌, ◌+◌, ◌==◌, ◌||◌, ◌∷◌, ◌≡◌, ◌≤◌}
 use Rattle.nt_event.specs.declared.commands.ApcKind.TheVariants.{Normal as NormalApc, User as UserApc}
 use Rattle.nt_event.specs.declared.commands.Command.{Command}
 use Rattle.nt_event.specs.declared.commands.Command.TheVariants as cmd
@@ -25,20 +25,22 @@ use Rattle.nt_event.specs.declared.jobs.Lane.TheVariants as lane
 use Rattle.nt_event.specs.declared.jobs.Stand.{Stand}
 use Rattle.nt_event.specs.declared.numbers.CpuNo.{CpuNo}
 use Rattle.nt_event.specs.declared.numbers.DpcNo.{DpcNo}
+use Rattle.nt_event.specs.declared.numbers.LockNo.{LockNo}
 use Rattle.nt_event.specs.declared.numbers.ThreadNo.{ThreadNo}
 use Rattle.nt_event.specs.declared.scripts.Script.{Script}
 use Rattle.nt_event.specs.declared.scripts.ThreadDecl.{ThreadDecl}
 use Rattle.nt_event.specs.Apcs.{has_kernel}
 use Rattle.nt_event.specs.Classes.{is_requested_level, is_used_class}
 use Rattle.nt_event.specs.Fitting.{what_fits}
-use Rattle.nt_event.specs.Lanes.{Lanes, command_lanes, end_lanes, facts_at, facts_of, insert_lanes, lane_if, lanes_at, object_at, queue_at, same_lane, standing_lanes, what_lanes}
+use Rattle.nt_event.specs.Lanes.{Lanes, command_lanes, end_lanes, facts_at, facts_of, insert_lanes, lane_if, lanes_at, lock_at, object_at, queue_at, same_lane, standing_lanes, what_lanes}
 use Rattle.nt_event.specs.Lists.{table}
-use Rattle.nt_event.specs.Numbers.{cpu, dpc}
+use Rattle.nt_event.specs.Locks.{Frees, Gets, LockMove, LockState, NoMove, Spins, lock_move, lock_moved, lock_of, spinners_with, start_lock}
+use Rattle.nt_event.specs.Numbers.{cpu, dpc, lock}
 use Rattle.nt_event.specs.Objects.{ObjectState, inserted_dpc, is_dpc, object_of, queue_for, standing, start_object, target_after, target_of, used_up_dpc}
 use Rattle.nt_event.specs.Queues.{QueueState, depth_of, insert_asks}
 use Rattle.nt_event.specs.Regions.{some_came_to_0, stand_at}
 use Rattle.nt_event.specs.Replies.{is_refused, is_yes}
-use Rattle.nt_event.specs.Requests.{Ask, ask, ask_if, command_asks, dpc_asks, end_asks, is_ask, queue_asks, what_asks}
+use Rattle.nt_event.specs.Requests.{Ask, ask, ask_if, command_asks, dpc_asks, end_asks, is_ask, queue_asks, release_asks, spinner_asks, what_asks}
 use Rattle.nt_event.specs.Routines.{cpu_of, depth_limit, is_kernel_kind, kind_of, owner_of, part_of}
 use Rattle.nt_event.specs.Script.{command_fits, fits, has_cpu, has_dpc, thread_fits, where_given}
 use Rattle.nt_event.specs.Step.{IsRun}
@@ -54,16 +56,16 @@ use Rattle.nt_alike.specs.Declared.{AllStayWithin, has_lane}
 
 -- ---- what a script that fits says of processors
 
-first_of_nine : (a b c d e f g h i : Bool) → (a && b && c && d && e && f && g && h && i) ≡ true → a ≡ true
-first_of_nine true b c d e f g h i k = refl
-first_of_nine false b c d e f g h i k = cc
+first_of_ten : (a b c d e f g h i j : Bool) → (a && b && c && d && e && f && g && h && i && j) ≡ true → a ≡ true
+first_of_ten true b c d e f g h i j k = refl
+first_of_ten false b c d e f g h i j k = cc
 
 -- the class of a requested level is used
-used : (a b c d : Bool) → ((a && b) || c) ≡ true → (b || (d || c)) ≡ true
-used true true c d h = refl
-used true false c d h = or_yes d c h
-used false true c d h = refl
-used false false c d h = or_yes d c h
+used : (a b c d e : Bool) → ((a && b) || c) ≡ true → (b || (e || (d || c))) ≡ true
+used true true c d e h = refl
+used true false c d e h = or_yes e (d || c) (or_yes d c h)
+used false true c d e h = refl
+used false false c d e h = or_yes e (d || c) (or_yes d c h)
 
 module _ (s : Script) (fit : fits s ≡ true) where
   abbrev IsCpu : CpuNo → Type 0
@@ -72,7 +74,7 @@ module _ (s : Script) (fit : fits s ≡ true) where
   first_cpu : IsCpu (cpu 0)
   first_cpu =
       let a = both _ _ fit in let b = both _ _ a.0 in let c = both _ _ b.0 in let d = both _ _ c.0 in let e = both _ _ d.0 in let f = both _ _ e.0 in
-      let some : nat_le 1 s.cpus ≡ true = first_of_nine _ _ _ _ _ _ _ _ _ (both _ _ f.0).0 in
+      let some : nat_le 1 s.cpus ≡ true = first_of_ten _ _ _ _ _ _ _ _ _ _ (both _ _ f.0).0 in
       lt-ltb 0 s.cpus (let l = leb-true 1 s.cpus some in omega (arith, l))
 
   threads_fit : list_all (thread_fits s) s.threads ≡ true
@@ -138,6 +140,48 @@ module _ (s : Script) (fit : fits s ≡ true) where
           subst ObjectFits (sym (get_or_past (table {A = ObjectState} (length s.dpcs) (λ d. object_of (dpc d) past)) d.0 start_object (omega (arith, n, g))))
           (record { target = tt; standing = tt })
 
+  -- ---- locks: as many flags of spinners as processors
+
+  abbrev FlagsFit : LockState → Type 0
+  FlagsFit x = length x.spinners ≤ s.cpus
+
+  flags_with : (p : CpuNo) (b : Bool) (xs : List Bool) → length (spinners_with s p b xs) ≤ s.cpus
+  flags_with p b xs = let n = length-table_from {A = Bool} 0 s.cpus (λ q. if q == p.0 then b else get_or xs q false) in omega (arith, n)
+
+  flags_left : (k : LockNo) (p : CpuNo) (m : LockMove) (old : LockState) → FlagsFit old → FlagsFit (lock_moved s k p m old)
+  flags_left k p (Gets x) old h = go (x.0 == k.0)
+    where
+      go : (b : Bool) → FlagsFit (if b then record { holder = Some p; spinners = spinners_with s p false old.spinners } else old)
+      go true = flags_with p false old.spinners
+      go false = h
+  flags_left k p (Spins x) old h = go (x.0 == k.0)
+    where
+      go : (b : Bool) → FlagsFit (if b then record old { spinners = spinners_with s p true old.spinners } else old)
+      go true = flags_with p true old.spinners
+      go false = h
+  flags_left k p (Frees x) old h = go (x.0 == k.0)
+    where
+      go : (b : Bool) → FlagsFit (if b then record old { holder = None } else old)
+      go true = h
+      go false = h
+  flags_left k p NoMove old h = h
+
+  lock_fits : (k : LockNo) (past : List Event) → FlagsFit (lock_of s k past)
+  lock_fits k [] = let n = length-table_from {A = Bool} 0 s.cpus (λ q. false) in omega (arith, n)
+  lock_fits k (e ∷ past) = flags_left k e.cpu (lock_move e.what) (lock_of s k past) (lock_fits k past)
+
+  flags_fit : (k : LockNo) (past : List Event) → FlagsFit (lock_at (lanes_at s past) k)
+  flags_fit k past = go (nat_lt k.0 s.locks) refl
+    where
+      go : (b : Bool) → nat_lt k.0 s.locks ≡ b → FlagsFit (lock_at (lanes_at s past) k)
+      go true l =
+          let e = get_or-table {A = LockState} s.locks k.0 (λ k. lock_of s (lock k) past) start_lock (ltb-true k.0 s.locks l) in
+          subst FlagsFit (sym e) (lock_fits k past)
+      go false l =
+          let n = length-table_from {A = LockState} 0 s.locks (λ k. lock_of s (lock k) past) in
+          let g = ltb-false k.0 s.locks l in
+          subst FlagsFit (sym (get_or_past (table {A = LockState} s.locks (λ k. lock_of s (lock k) past)) k.0 start_lock (omega (arith, n, g)))) (omega arith)
+
   -- ---- what an event asks for
 
   AsksWithin : List Ask → Type 0
@@ -168,13 +212,25 @@ module _ (s : Script) (fit : fits s ≡ true) where
       let q : CpuNo = queue_for (object_at l d).target by in
       dpc_within (part_of s d) (object_at l d) by q (queue_at l q) (queue_fits (object_at l d).target by o.target h)
 
-  AllObjectsFit : Lanes → Type 0
-  AllObjectsFit l = (d : DpcNo) → ObjectFits (object_at l d)
+  -- those that spin, from this processor on
+  spinners_within : (n : ℕ) (flags : List Bool) → n + length flags ≤ s.cpus → AsksWithin (spinner_asks n flags)
+  unfolding AsksWithin
+  spinners_within n [] h = tt
+  spinners_within n (b ∷ flags) h =
+      both_within (ask_if b (cpu n) 12) (spinner_asks (suc n) flags) (if_within b (cpu n) 12 (lt-ltb n s.cpus (omega (arith, h))) refl)
+      (spinners_within (suc n) flags (omega (arith, h)))
 
-  command_within : (st : Stand) (c : Command) (y : Reply) (l : Lanes) → IsCpu st.cpu → AllObjectsFit l → command_fits s c ≡ true →
+  record LanesFit (l : Lanes) : Type 0 where
+    object : (d : DpcNo) → ObjectFits (object_at l d)
+    flags : (k : LockNo) → FlagsFit (lock_at l k)
+
+  released_within : (k : LockNo) (l : Lanes) → LanesFit l → AsksWithin (release_asks k l)
+  released_within k l o = let h = o.flags k in spinners_within 0 (lock_at l k).spinners (omega (arith, h))
+
+  command_within : (st : Stand) (c : Command) (y : Reply) (l : Lanes) → IsCpu st.cpu → LanesFit l → command_fits s c ≡ true →
       AsksWithin (command_asks s st c y l)
-  unfolding AsksWithin AllObjectsFit
-  command_within st (cmd.Queue d) Yes l p o h = insert_within d st.cpu l (o d) p
+  unfolding AsksWithin
+  command_within st (cmd.Queue d) Yes l p o h = insert_within d st.cpu l (o.object d) p
   command_within st (cmd.InsertApc a) Yes l p o h =
       let t : ThreadNo = owner_of s a in
       both_within (ask_if (is_kernel_kind (kind_of s a)) (cpu_of s t) 1) (ask_if (ends_by_apc (new_pick s a 0) (facts_at l t)) (cpu_of s t) 2)
@@ -186,8 +242,9 @@ module _ (s : Script) (fit : fits s ≡ true) where
   command_within st (cmd.Alert t m) No l p o h = if_within _ (cpu_of s t) 2 (cpu_fits t) refl
   command_within st (cmd.Interrupt q level) Done l p o h =
       let k = both (has_cpu s q) (is_requested_level level) h in
-      one_within q level k.0 (used (nat_le 3 level) (nat_le level 11) (level == 14) (level == 13) k.1)
+      one_within q level k.0 (used (nat_le 3 level) (nat_le level 11) (level == 14) (level == 13) (level == 12) k.1)
   command_within st (cmd.Clock units) Done l p o h = one_within st.cpu 13 p refl
+  command_within st (cmd.Unlock k) Done l p o h = released_within k l o
   command_within st c y l p o h = tt
 
   end_within : (st : Stand) (b : Option Body) (l : Lanes) → IsCpu st.cpu → AsksWithin (end_asks st b l)
@@ -197,14 +254,15 @@ module _ (s : Script) (fit : fits s ≡ true) where
       if_within (some_came_to_0 st.regions st.below || has_kernel (facts_of l st.thread).apcs) st.cpu 1 p refl
   end_within st b l p = if_within (some_came_to_0 st.regions st.below) st.cpu 1 p refl
 
-  asks_within : (st : Stand) (w : What) (l : Lanes) → IsCpu st.cpu → AllObjectsFit l → what_fits s w ≡ true → AsksWithin (what_asks s st w l)
-  unfolding AsksWithin AllObjectsFit
+  asks_within : (st : Stand) (w : What) (l : Lanes) → IsCpu st.cpu → LanesFit l → what_fits s w ≡ true → AsksWithin (what_asks s st w l)
+  unfolding AsksWithin
   asks_within st (what.Call f c y) l p o h = command_within st c y l p o h
-  asks_within st (what.Fire d Yes) l p o h = insert_within d st.cpu l (o d) p
+  asks_within st (what.Fire d Yes) l p o h = insert_within d st.cpu l (o.object d) p
   asks_within st (what.Expire (keys.Delay t) from) l p o h = if_within (ends_by_expiry from (facts_at l t)) (cpu_of s t) 2 (cpu_fits t) refl
   asks_within st (what.Switch t status) l p o h = if_within (has_kernel (facts_at l t).apcs) st.cpu 1 p refl
   asks_within st (what.Normal f) l p o h = if_within (some_came_to_0 st.regions st.below) st.cpu 1 p refl
   asks_within st (what.End f) l p o h = end_within st st.body l p
+  asks_within st (what.Free f k) l p o h = released_within k l o
   asks_within st w l p o h = tt
 
   among_asks : (p : CpuNo) (c : ℕ) (xs : List Ask) → AsksWithin xs → list_any (is_ask p c) xs ≡ true → IsCpu p × (is_used_class c ≡ true)
@@ -243,11 +301,11 @@ module _ (s : Script) (fit : fits s ≡ true) where
   stood_within None h = tt
   stood_within (Some x) h = (h, tt)
 
-  command_lanes_within : (p : CpuNo) (c : Command) (y : Reply) (l : Lanes) → IsCpu p → AllObjectsFit l → command_fits s c ≡ true →
+  command_lanes_within : (p : CpuNo) (c : Command) (y : Reply) (l : Lanes) → IsCpu p → LanesFit l → command_fits s c ≡ true →
       LanesWithin (command_lanes s p c y l)
-  unfolding LanesWithin AllObjectsFit
-  command_lanes_within p (cmd.Queue d) y l h o k = inserted_within p d y l h (o d) k
-  command_lanes_within p (cmd.Unqueue d) y l h o k = (k, stood_within (object_at l d).standing (o d).standing)
+  unfolding LanesWithin
+  command_lanes_within p (cmd.Queue d) y l h o k = inserted_within p d y l h (o.object d) k
+  command_lanes_within p (cmd.Unqueue d) y l h o k = (k, stood_within (object_at l d).standing (o.object d).standing)
   command_lanes_within p (cmd.SetImportance d i) y l h o k = (k, tt)
   command_lanes_within p (cmd.SetTarget d t) y l h o k = ((both (has_dpc s d) _ k).0, tt)
   command_lanes_within p (cmd.SetTimer t due period) y l h o k = (refl, tt)
@@ -262,6 +320,8 @@ module _ (s : Script) (fit : fits s ≡ true) where
   command_lanes_within p (cmd.Clock units) y l h o k = (refl, tt)
   command_lanes_within p cmd.ToUser y l h o k = (h, tt)
   command_lanes_within p cmd.Yield y l h o k = (h, tt)
+  command_lanes_within p (cmd.Acquire x) y l h o k = (k, tt)
+  command_lanes_within p (cmd.Unlock x) y l h o k = (k, tt)
   command_lanes_within p c y l h o k = tt
 
   end_lanes_within : (p : CpuNo) (b : Option Body) → IsCpu p → LanesWithin (end_lanes p b)
@@ -276,8 +336,8 @@ module _ (s : Script) (fit : fits s ≡ true) where
   clean_within st true c h = (h, tt)
   clean_within st false c h = (h, lane_within c lane.Timers refl)
 
-  lanes_within : (st : Stand) (w : What) (l : Lanes) → IsCpu st.cpu → AllObjectsFit l → what_fits s w ≡ true → LanesWithin (what_lanes s st w l)
-  unfolding LanesWithin AllObjectsFit
+  lanes_within : (st : Stand) (w : What) (l : Lanes) → IsCpu st.cpu → LanesFit l → what_fits s w ≡ true → LanesWithin (what_lanes s st w l)
+  unfolding LanesWithin
   lanes_within st (what.Call f c y) l p o h = go (is_refused y)
     where
       go : (b : Bool) → LanesWithin (if b then [] else command_lanes s st.cpu c y l)
@@ -290,13 +350,14 @@ module _ (s : Script) (fit : fits s ≡ true) where
   lanes_within st (what.Clean class) l p o h = clean_within st (class == 1) (st.sweep && (class == 2)) p
   lanes_within st (what.Expire (keys.Timer t) from) l p o h = (refl, tt)
   lanes_within st (what.Expire (keys.Delay t) from) l p o h = (cpu_fits t, (refl, tt))
-  lanes_within st (what.Fire d y) l p o h = inserted_within st.cpu d y l p (o d) h
+  lanes_within st (what.Fire d y) l p o h = inserted_within st.cpu d y l p (o.object d) h
   lanes_within st (what.Switch t status) l p o h = (p, (p, tt))
   lanes_within st (what.Rewait f y) l p o h = (p, lane_within (is_some (option_and_then (λ w. w.due) st.again)) lane.Timers refl)
   lanes_within st what.Rest l p o h = (p, (p, tt))
   lanes_within st (what.End f) l p o h = end_lanes_within st.cpu st.body p
   lanes_within st (what.Flush a from) l p o h = (p, tt)
   lanes_within st (what.Gone t) l p o h = (p, tt)
+  lanes_within st (what.Free f k) l p o h = (h, tt)
   lanes_within st (what.Look r) l p o h = tt
   lanes_within st (what.Normal f) l p o h = tt
 
@@ -306,6 +367,7 @@ module _ (s : Script) (fit : fits s ≡ true) where
   same_has (lane.Queue p) (lane.Queue q) k h = subst (λ (n : ℕ). nat_lt n s.cpus ≡ true) (eqb-true q.0 p.0 k) h
   same_has (lane.Threads p) (lane.Threads q) k h = subst (λ (n : ℕ). nat_lt n s.cpus ≡ true) (eqb-true q.0 p.0 k) h
   same_has lane.Timers lane.Timers k h = refl
+  same_has (lane.Lock x) (lane.Lock y) k h = subst (λ (n : ℕ). nat_lt n s.locks ≡ true) (eqb-true y.0 x.0 k) h
   same_has x y k h = cc
 
   among_lanes : (x : Lane) (ys : List Lane) → LanesWithin ys → list_any (same_lane x) ys ≡ true → has_lane s x ≡ true
@@ -321,16 +383,15 @@ module _ (s : Script) (fit : fits s ≡ true) where
   -- ---- runs
 
   all_within : (past : List Event) → AllFit s past → AllStayWithin s past
-  unfolding AllObjectsFit
   all_within [] all = tt
   all_within (e ∷ past) all =
-      let objects : AllObjectsFit (lanes_at s past) = λ d. object_fits d past all.1 in (
+      let fits_there : LanesFit (lanes_at s past) = record { object = λ d. object_fits d past all.1; flags = λ k. flags_fit k past } in (
         record {
           cpu = all.0.cpu;
           asks = λ p c. among_asks p c (what_asks s (stand_at s e.cpu past) e.what (lanes_at s past))
-              (asks_within (stand_at s e.cpu past) e.what (lanes_at s past) all.0.cpu objects all.0.what);
+              (asks_within (stand_at s e.cpu past) e.what (lanes_at s past) all.0.cpu fits_there all.0.what);
           lanes = λ x. among_lanes x (what_lanes s (stand_at s e.cpu past) e.what (lanes_at s past))
-              (lanes_within (stand_at s e.cpu past) e.what (lanes_at s past) all.0.cpu objects all.0.what);
+              (lanes_within (stand_at s e.cpu past) e.what (lanes_at s past) all.0.cpu fits_there all.0.what);
         },
         all_within past all.1,
       )

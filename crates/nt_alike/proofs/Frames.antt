@@ -14,21 +14,21 @@ use Rattle.nt_event.specs.declared.events.Begun.{Begun}
 use Rattle.nt_event.specs.declared.events.Begun.TheVariants.{Apc, Dpc, Int, Threaded}
 use Rattle.nt_event.specs.declared.events.Event.{Event}
 use Rattle.nt_event.specs.declared.events.What.{What}
-use Rattle.nt_event.specs.declared.events.What.TheVariants.{Begin, Call, End, Flush, Gone, Normal, Rewait, Switch}
+use Rattle.nt_event.specs.declared.events.What.TheVariants.{Begin, Call, End, Flush, Free, Gone, Normal, Rewait, Switch}
 use Rattle.nt_event.specs.declared.frames.Again.{Again}
 use Rattle.nt_event.specs.declared.frames.Body.{Body}
 use Rattle.nt_event.specs.declared.frames.Body.TheVariants.{Apc as OnApc}
-use Rattle.nt_event.specs.declared.frames.Frame.{Frame}
+use Rattle.nt_event.specs.Frame.{Frame}
 use Rattle.nt_event.specs.declared.jobs.Stand.{Stand}
 use Rattle.nt_event.specs.declared.numbers.ApcNo.{ApcNo}
 use Rattle.nt_event.specs.declared.numbers.CpuNo.{CpuNo}
 use Rattle.nt_event.specs.declared.numbers.RoutineNo.{RoutineNo}
 use Rattle.nt_event.specs.declared.numbers.ThreadNo.{ThreadNo}
 use Rattle.nt_event.specs.declared.scripts.Script.{Script}
-use Rattle.nt_event.specs.Frames.{Frames, at_head, at_name, begin_own, called, end_on_thread, ended_base, ended_on_thread, flushed, frames_after, frames_in, innermost, is_base_body, is_normal_apc_body, level_in, new_frame, normal_of, own_after, resumed, rewaited, running_after, switched_to, thread_after, thread_if, thread_part, without}
+use Rattle.nt_event.specs.Frames.{Frames, at_head, at_name, begin_own, called, end_on_thread, ended_base, ended_on_thread, flushed, frames_after, freed, freed_level, frames_in, innermost, is_base_body, is_normal_apc_body, level_in, new_frame, normal_of, own_after, resumed, rewaited, running_after, switched_to, thread_after, thread_if, thread_part, without}
 use Rattle.nt_event.specs.Lists.{head_of, is_null, table, table_from, tail_of}
 use Rattle.nt_event.specs.Numbers.{is_by, thread}
-use Rattle.nt_event.specs.Regions.{after_in, below_in, first_level, regions_of, stand_of}
+use Rattle.nt_event.specs.Regions.{below_in, ended_level_in, first_level, freed_in, regions_of, stand_of}
 use Rattle.nt_event.specs.Routines.{kind_of, rundown_of}
 use Rattle.nt_event.proofs.Tables.{table-same}
 use Rattle.nt_event.proofs.Written.{read_map}
@@ -111,14 +111,21 @@ below_bare x = rw (part_bare x, null_map x.own) (go (is_null x.own))
     go true = ap regions_of (tail_map (thread_part x)) ∙ regions_bare (tail_of (thread_part x))
     go false = regions_bare (thread_part x)
 
-after_bare : (x : Frames) → after_in (bare_frames x) ≡ after_in x
-after_bare x = rw (part_bare x, null_map x.own) (go (is_null x.own))
+ended_level_bare : (x : Frames) → ended_level_in (bare_frames x) ≡ ended_level_in x
+ended_level_bare x = rw (part_bare x, null_map x.own) (go (is_null x.own))
   where
     go : (b : Bool) → (if b then first_level [] (tail_of (map bare_frame (thread_part x))) else first_level (tail_of (map bare_frame x.own))
         (map bare_frame (thread_part x)))
         ≡ (if b then first_level [] (tail_of (thread_part x)) else first_level (tail_of x.own) (thread_part x))
     go true = ap (first_level []) (tail_map (thread_part x)) ∙ first_level_bare [] (tail_of (thread_part x))
     go false = ap (λ (fs : List Frame). first_level fs (map bare_frame (thread_part x))) (tail_map x.own) ∙ first_level_bare (tail_of x.own) (thread_part x)
+
+freed_or : (o : Option Frame) → option_map_or freed_level (option_map bare_frame o) 0 ≡ option_map_or freed_level o 0
+freed_or None = refl
+freed_or (Some f) = refl
+
+freed_bare : (x : Frames) → freed_in (bare_frames x) ≡ freed_in x
+freed_bare x = ap (λ (o : Option Frame). option_map_or freed_level o 0) (innermost_bare x) ∙ freed_or (innermost x)
 
 name_or : (o : Option Frame) → option_map_or (λ (f : Frame). f.name) (option_map bare_frame o) 0 ≡ 0
 name_or None = refl
@@ -140,15 +147,28 @@ stand_bare p x sweep =
     let c = level_bare x in
     let d = ap regions_of (part_bare x) ∙ regions_bare (thread_part x) in
     let e = below_bare x in
-    let f = after_bare x in
-    let g = ap (option_and_then (λ (f : Frame). f.again)) i ∙ again_or (innermost x) in
-    same a b c d e f g
+    let f = ended_level_bare x in
+    let g = freed_bare x in
+    let h = ap (option_and_then (λ (f : Frame). f.again)) i ∙ again_or (innermost x) in
+    same a b c d e f g h
   where
-    same : {n m : ℕ} {b c : Option Body} {l k : ℕ} {r q : Regions} {v w : Regions} {f g : ℕ} {y z : Option Again} →
-        n ≡ m → b ≡ c → l ≡ k → r ≡ q → v ≡ w → f ≡ g → y ≡ z →
-        ◌≡◌ {A = Stand} (record { cpu = p; thread = x.running; frame = n; body = b; level = l; regions = r; below = v; after = f; again = y; sweep = sweep })
-        (record { cpu = p; thread = x.running; frame = m; body = c; level = k; regions = q; below = w; after = g; again = z; sweep = sweep })
-    same a b c d e f g = cc
+    same : {n m : ℕ} {b c : Option Body} {l k : ℕ} {r q : Regions} {v w : Regions} {f g i j : ℕ} {y z : Option Again} →
+        n ≡ m → b ≡ c → l ≡ k → r ≡ q → v ≡ w → f ≡ g → i ≡ j → y ≡ z →
+        ◌≡◌ {A = Stand} (record {
+          cpu = p;
+          thread = x.running;
+          frame = n;
+          body = b;
+          level = l;
+          regions = r;
+          below = v;
+          ended_level = f;
+          after = i;
+          again = y;
+          sweep = sweep;
+        })
+        (record { cpu = p; thread = x.running; frame = m; body = c; level = k; regions = q; below = w; ended_level = g; after = j; again = z; sweep = sweep })
+    same a b c d e f g h = cc
 
 -- ---- what an event leaves, by frames without names: it changes the innermost one
 
@@ -156,6 +176,7 @@ abbrev own_moved : Option ℕ → What → List Frame → List Frame
 own_moved due (Begin b from) fs = begin_own 0 b fs
 own_moved due (Call f c y) fs = at_head (called due c y) fs
 own_moved due (End f) fs = tail_of fs
+own_moved due (Free f k) fs = at_head freed fs
 own_moved due w fs = fs
 
 abbrev if_inner : Bool → List Frame → List Frame → List Frame
@@ -171,6 +192,7 @@ thread_moved s inner due (Call f c y) fs = if_inner inner (at_head (called due c
 thread_moved s inner due (Rewait f y) fs = if_inner inner (at_head (rewaited y) fs) fs
 thread_moved s inner due (Normal f) fs = if_inner inner (at_head normal_of fs) fs
 thread_moved s inner due (End f) fs = if_inner inner (ended_on_thread fs) fs
+thread_moved s inner due (Free f k) fs = if_inner inner (at_head freed fs) fs
 thread_moved s inner due (Gone t) fs = []
 thread_moved s inner due w fs = fs
 
@@ -180,6 +202,7 @@ NamesFrame m (Call n c y) = n ≡ m
 NamesFrame m (Rewait n y) = n ≡ m
 NamesFrame m (Normal n) = n ≡ m
 NamesFrame m (End n) = n ≡ m
+NamesFrame m (Free n k) = n ≡ m
 NamesFrame m w = ⊥
 
 map_table_from : {A B : Type 0} (f : A → B) (k n : ℕ) (g : ℕ → A) → map f (table_from k n g) ≡ table_from k n (λ i. f (g i))
@@ -246,6 +269,7 @@ own_bare n due (Begin b from) fs h = begin_own_bare n b fs
 own_bare n due (Call f c y) fs h =
     ap (map bare_frame) (named_at f (called due c y) fs (record { at = λ x e. h f x refl e })) ∙ head_bare (called due c y) (called_frame due c y) fs
 own_bare n due (End f) fs h = ap (map bare_frame) (without_at f fs (record { at = λ x e. h f x refl e })) ∙ sym (tail_map fs)
+own_bare n due (Free f k) fs h = ap (map bare_frame) (named_at f freed fs (record { at = λ x e. h f x refl e })) ∙ head_bare freed (λ x. refl) fs
 own_bare n due w fs h = refl
 
 -- ---- a thread's part
@@ -294,6 +318,7 @@ thread_bare s n due (Call f c y) inner fs h = named_inner inner f (called due c 
 thread_bare s n due (Rewait f y) inner fs h = named_inner inner f (rewaited y) fs (λ x. refl) (h f refl)
 thread_bare s n due (Normal f) inner fs h = named_inner inner f normal_of fs (λ x. refl) (h f refl)
 thread_bare s n due (End f) inner fs h = end_inner inner f fs (h f refl)
+thread_bare s n due (Free f k) inner fs h = named_inner inner f freed fs (λ x. refl) (h f refl)
 thread_bare s n due (Gone t) inner fs h = refl
 thread_bare s n due w inner fs h = refl
 

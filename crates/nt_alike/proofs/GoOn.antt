@@ -7,7 +7,7 @@ use Rattle.nt_event.specs.declared.events.ScheduleKind.TheVariants.{BadChoice, B
 use Rattle.nt_event.specs.declared.events.Turn.{Turn}
 use Rattle.nt_event.specs.declared.events.Turn.TheVariants.{Look as LookTurn, Next, Switch as SwitchTurn}
 use Rattle.nt_event.specs.declared.events.What.{What}
-use Rattle.nt_event.specs.declared.events.What.TheVariants.{Begin, Call, Clean, End, Expire, Fire, Flush, Gone, Look, Normal, Rest, Rewait, Switch}
+use Rattle.nt_event.specs.declared.events.What.TheVariants.{Begin, Call, Clean, End, Expire, Fire, Flush, Free, Gone, Look, Normal, Rest, Rewait, Switch}
 use Rattle.nt_event.specs.declared.jobs.Job.TheVariants.{Switch as SwitchJob}
 use Rattle.nt_event.specs.declared.numbers.CpuNo.{CpuNo}
 use Rattle.nt_event.specs.declared.numbers.ThreadNo.{ThreadNo}
@@ -64,6 +64,7 @@ inner_of s limit e past l = go e.what refl
     go (Rewait f y) q = known (Rewait f y) q refl (thread (Rewait f y) q)
     go (Normal f) q = known (Normal f) q refl (thread (Normal f) q)
     go (End f) q = known (End f) q refl (thread (End f) q)
+    go (Free f k) q = known (Free f k) q refl (thread (Free f k) q)
     go w q = none w q (λ m h. h)
 
 -- ---- the other event
@@ -194,6 +195,7 @@ module _ (s : Script) (h k : List Event) (rh : IsFreeRun s h) (rk : IsFreeRun s 
       is_switch (Rewait f y) h = cc
       is_switch (Flush a from) h = cc
       is_switch (Gone t) h = cc
+      is_switch (Free f l) h = cc
       is_switch Rest h = cc
 
   goes_look : (e : Event) (r : Rises) → e.what ≡ Look r → LookIsShort (Look r) → IsFreeStep s e h → HasItsLike s e h k

@@ -4,7 +4,7 @@ use Rattle.std.specs.Option.{option_or}
 use Rattle.std.specs.Prelude.{Bool, List, None, Option, Some, [], false, find, map, not, option_map, refl, reverse, suc, true, unwrap_or, ℕ, ◌++◌, ◌+◌, ◌==◌, ◌∷◌, ◌≡◌}
 use Rattle.nt_event.specs.declared.commands.ApcKind.TheVariants.{Normal as NormalApc}
 use Rattle.nt_event.specs.declared.commands.Command.{Command}
-use Rattle.nt_event.specs.declared.commands.Command.TheVariants.{Alert, Clock, Delay, InsertApc, Interrupt, LeaveCrit, LeaveGuard, Queue, Release, RemoveApc, StartWait, TestAlert, ToUser, Unqueue}
+use Rattle.nt_event.specs.declared.commands.Command.TheVariants.{Alert, Clock, Delay, InsertApc, Interrupt, LeaveCrit, LeaveGuard, Queue, Release, RemoveApc, StartWait, TestAlert, ToUser, Unlock, Unqueue}
 use Rattle.nt_event.specs.declared.commands.Mode.{Mode}
 use Rattle.nt_event.specs.declared.commands.Regions.{Regions}
 use Rattle.nt_event.specs.declared.commands.Reply.{Reply}
@@ -20,7 +20,7 @@ use Rattle.nt_event.specs.declared.inserts.Part.{Part}
 use Rattle.nt_event.specs.declared.inserts.Part.TheVariants.{Ordinary as OrdinaryPart, Threaded as ThreadedPart}
 use Rattle.nt_event.specs.declared.inserts.Pick.{Pick}
 use Rattle.nt_event.specs.declared.jobs.Job.{Job}
-use Rattle.nt_event.specs.declared.jobs.Job.TheVariants.{Apcs as ApcsJob, Call as CallJob, Drain as DrainJob, Fire as FireJob, Idle as IdleJob, Leave as LeaveJob, Pick as PickJob, Rewait as RewaitJob, Rundown as RundownJob, Switch as SwitchJob, Threaded as ThreadedJob, ToUser as ToUserJob, UserEnd as UserEndJob}
+use Rattle.nt_event.specs.declared.jobs.Job.TheVariants.{Apcs as ApcsJob, Call as CallJob, Drain as DrainJob, Fire as FireJob, Free as FreeJob, Idle as IdleJob, Leave as LeaveJob, Pick as PickJob, Rewait as RewaitJob, Rundown as RundownJob, Switch as SwitchJob, Threaded as ThreadedJob, ToUser as ToUserJob, UserEnd as UserEndJob}
 use Rattle.nt_event.specs.declared.jobs.Stand.{Stand}
 use Rattle.nt_event.specs.declared.numbers.CpuNo.{CpuNo}
 use Rattle.nt_event.specs.declared.numbers.DpcNo.{DpcNo}
@@ -240,6 +240,7 @@ pub job_bare : (s : Script) (st : Stand) (l : Lanes) (j : Job) →
     option_map bare_what (job_event s st l j) ≡ option_map bare_what (job_event s (bare_stand st) (bare_but_timers l) j)
 job_bare s st l (CallJob c) = ap (λ (y : Reply). Some (Call 0 c y)) (sym (reply_bare s st l c))
 job_bare s st l (FireJob d) = ap (λ (y : Reply). Some (Fire d y)) (sym (reply_bare s st l (Queue d)))
+job_bare s st l (FreeJob k) = refl
 job_bare s st l DrainJob = ap Some (sym (drain_bare st l))
 job_bare s st l ApcsJob = ap Some (sym (apcs_job_bare st l))
 job_bare s st l ThreadedJob = ap Some (sym (threaded_bare st l))
@@ -288,6 +289,7 @@ asks_bare s st (Call f LeaveGuard Done) l h = refl
 asks_bare s st (Call f (Release t) Yes) l h = refl
 asks_bare s st (Call f (Interrupt p level) Done) l h = refl
 asks_bare s st (Call f (Clock units) Done) l h = refl
+asks_bare s st (Call f (Unlock k) Done) l h = refl
 asks_bare s st (Call f c y) l h = refl
 asks_bare s st (Fire d Yes) l h = sym (queue_asks_bare s d st.cpu l)
 asks_bare s st (Expire (DelayKey t) from) l h =

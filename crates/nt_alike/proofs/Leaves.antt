@@ -20,9 +20,10 @@ use Rattle.nt_event.specs.declared.numbers.TimerNo.{TimerNo}
 use Rattle.nt_event.specs.declared.scripts.Script.{Script}
 use Rattle.nt_event.specs.Frames.{Frames, due_of, frames_after, frames_of, level_in, running, time}
 use Rattle.nt_event.specs.Jobs.{is_due}
-use Rattle.nt_event.specs.Lanes.{Lanes, facts_at, lanes_after, lanes_at, lanes_of, object_at, queue_at, same_lane, touches, what_lanes}
+use Rattle.nt_event.specs.Lanes.{Lanes, facts_at, lanes_after, lanes_at, lanes_of, lock_at, object_at, queue_at, same_lane, touches, what_lanes}
 use Rattle.nt_event.specs.Lists.{table}
-use Rattle.nt_event.specs.Numbers.{cpu, dpc, is_by, is_of, is_thread, thread}
+use Rattle.nt_event.specs.Locks.{LockMove, LockState, lock_move, lock_moved}
+use Rattle.nt_event.specs.Numbers.{cpu, dpc, is_by, is_of, is_thread, lock, thread}
 use Rattle.nt_event.specs.Objects.{ObjectState, object_after}
 use Rattle.nt_event.specs.Own.{Own, fire, fire_after, is_rest, own_after_event, own_of, rested}
 use Rattle.nt_event.specs.Queues.{QueueState, queue_after}
@@ -54,6 +55,11 @@ use Rattle.nt_event.proofs.Moves.{timers_move}
 
 -- ---- lanes
 
+-- a move of a lock has no number
+move_bare : (w : What) → lock_move w ≡ lock_move (bare_what w)
+move_bare (Call f c y) = refl
+move_bare w = refl
+
 lanes_left : (s : Script) (n : ℕ) (st : Stand) (e : Event) (l : Lanes) → ((t : ThreadNo) → IsTimely t e.what (facts_at l t)) →
     bare_lanes (lanes_after s n st e l) ≡ lanes_after s 0 (bare_stand st) (bare_event e) (bare_lanes l)
 lanes_left s n st e l timely =
@@ -73,11 +79,14 @@ lanes_left s n st e l timely =
     (λ t h. facts_bare s (thread t) n st e (facts_at l (thread t)) (timely (thread t))
     ∙ ap (facts_after s (thread t) 0 (bare_stand st) (bare_event e)) (sym (facts_read l (thread t)))) in
     let d = timers_bare s n st e l.timers in
-    same a b c d
+    let f = ap (λ (m : LockMove). table s.locks (λ k. lock_moved s (lock k) e.cpu m (lock_at l (lock k)))) (move_bare e.what) in
+    same a b c d f
   where
-    same : {a b : List ObjectState} {c d : List QueueState} {x y : List ThreadFacts} {t u : Timers} → a ≡ b → c ≡ d → x ≡ y → t ≡ u →
-        ◌≡◌ {A = Lanes} (record { objects = a; queues = c; threads = x; timers = t }) (record { objects = b; queues = d; threads = y; timers = u })
-    same h k l m = cc
+    same : {a b : List ObjectState} {c d : List QueueState} {x y : List ThreadFacts} {t u : Timers} {v w : List LockState} →
+        a ≡ b → c ≡ d → x ≡ y → t ≡ u → v ≡ w →
+        ◌≡◌ {A = Lanes} (record { objects = a; queues = c; threads = x; timers = t; locks = v })
+        (record { objects = b; queues = d; threads = y; timers = u; locks = w })
+    same h k l m n = cc
 
 -- in a run
 timely_there : (s : Script) (limit : ℕ) (e : Event) (past : List Event) → IsRun s limit (e ∷ past) → (t : ThreadNo) →

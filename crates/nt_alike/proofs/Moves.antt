@@ -4,19 +4,19 @@ use Rattle.std.proofs.lemmas.Bool.{ltb-false, ltb-true}
 use Rattle.std.proofs.lemmas.List.{get_or_past}
 use Rattle.std.specs.Prelude.{Bool, List, None, Option, Some, [], false, if◌then◌else◌, length, nat_lt, refl, true, ℕ, ◌||◌, ◌∷◌, ◌≡◌, ◌⊎◌}
 use Rattle.nt_event.specs.declared.commands.Command.{Command}
-use Rattle.nt_event.specs.declared.commands.Command.TheVariants.{Alert, Clock, InsertApc, Interrupt, LeaveCrit, LeaveGuard, Queue, Release, Unqueue}
+use Rattle.nt_event.specs.declared.commands.Command.TheVariants.{Alert, Clock, InsertApc, Interrupt, LeaveCrit, LeaveGuard, Queue, Release, Unlock, Unqueue}
 use Rattle.nt_event.specs.declared.commands.Reply.{Reply}
 use Rattle.nt_event.specs.declared.commands.Reply.TheVariants.{Done, No, Yes}
 use Rattle.nt_event.specs.declared.commands.TimerKey.TheVariants.{Delay as DelayKey}
 use Rattle.nt_event.specs.declared.events.Event.{Event}
 use Rattle.nt_event.specs.declared.events.What.{What}
-use Rattle.nt_event.specs.declared.events.What.TheVariants.{Call, End, Expire, Fire, Look, Normal, Rewait, Switch}
+use Rattle.nt_event.specs.declared.events.What.TheVariants.{Call, End, Expire, Fire, Free, Look, Normal, Rewait, Switch}
 use Rattle.nt_event.specs.declared.commands.ApcKind.TheVariants.{Normal as NormalApc}
 use Rattle.nt_event.specs.declared.frames.Body.{Body}
 use Rattle.nt_event.specs.declared.frames.Body.TheVariants.{Apc as OnApc, Base as OnBase}
 use Rattle.nt_event.specs.Apcs.{has_kernel}
 use Rattle.nt_event.specs.Replies.{is_refused}
-use Rattle.nt_event.specs.declared.frames.Frame.{Frame}
+use Rattle.nt_event.specs.Frame.{Frame}
 use Rattle.nt_event.specs.declared.jobs.Lane.{Lane}
 use Rattle.nt_event.specs.declared.jobs.Stand.{Stand}
 use Rattle.nt_event.specs.declared.numbers.CpuNo.{CpuNo}
@@ -60,6 +60,7 @@ asks_apart s st (Call f LeaveGuard Done) l x = refl
 asks_apart s st (Call f (Release t) Yes) l x = refl
 asks_apart s st (Call f (Interrupt q level) Done) l x = refl
 asks_apart s st (Call f (Clock units) Done) l x = refl
+asks_apart s st (Call f (Unlock k) Done) l x = refl
 asks_apart s st (Call f c y) l x = refl
 asks_apart s st (Fire d Yes) l x = refl
 asks_apart s st (Expire (DelayKey t) from) l x = refl
@@ -130,6 +131,7 @@ knows s p x l (Call n c y) k = λ m h. (k.frame, k.goes_on.inner, sym h ∙ k.na
 knows s p x l (Rewait n y) k = λ m h. (k.frame, k.goes_on.inner, sym h ∙ k.name)
 knows s p x l (Normal n) k = λ m h. (k.frame, k.goes_on.inner, sym h ∙ k.name)
 knows s p x l (End n) k = λ m h. (k.frame, k.goes_on.inner, sym h ∙ k.name)
+knows s p x l (Free n lock) k = λ m h. (k.frame, k.goes_on.inner, sym h ∙ k.name)
 knows s p x l w k = λ m h. absurd h
 
 pub names_inner : (s : Script) (p : CpuNo) (past : List Event) (e : Event) → Knows e.what (frames_of s p past) →

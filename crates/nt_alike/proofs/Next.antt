@@ -13,7 +13,7 @@ use Rattle.nt_event.specs.declared.events.What.TheVariants.{Call, Clean, Expire,
 use Rattle.nt_event.specs.declared.frames.Again.{Again}
 use Rattle.nt_event.specs.declared.inserts.Part.TheVariants.{Ordinary as OrdinaryPart}
 use Rattle.nt_event.specs.declared.jobs.Job.{Job}
-use Rattle.nt_event.specs.declared.jobs.Job.TheVariants.{Apcs as ApcsJob, Call as CallJob, Drain as DrainJob, Fire as FireJob, Idle as IdleJob, Leave as LeaveJob, Pick as PickJob, Rewait as RewaitJob, Rundown as RundownJob, Switch as SwitchJob, Threaded as ThreadedJob, ToUser as ToUserJob, UserEnd as UserEndJob}
+use Rattle.nt_event.specs.declared.jobs.Job.TheVariants.{Apcs as ApcsJob, Call as CallJob, Drain as DrainJob, Fire as FireJob, Free as FreeJob, Idle as IdleJob, Leave as LeaveJob, Pick as PickJob, Rewait as RewaitJob, Rundown as RundownJob, Switch as SwitchJob, Threaded as ThreadedJob, ToUser as ToUserJob, UserEnd as UserEndJob}
 use Rattle.nt_event.specs.declared.jobs.Stand.{Stand}
 use Rattle.nt_event.specs.declared.jobs.Task.{Task}
 use Rattle.nt_event.specs.declared.jobs.Task.TheVariants.{Alone, Shared}
@@ -97,6 +97,7 @@ module _ (s : Script) (st : Stand) (l : Lanes) (x y : Timers) (bare : bare_timer
   job_same : (j : Job) → option_map bare_what (job_event s st (record l { timers = x }) j) ≡ option_map bare_what (job_event s st (record l { timers = y }) j)
   job_same (CallJob c) = ap (λ (r : Reply). Some (Call 0 c r)) (reply_same c)
   job_same (FireJob d) = refl
+  job_same (FreeJob k) = refl
   job_same DrainJob =
       ap Some (drain_or (option_map expire_key (when st.sweep (first_due x))) (option_map expire_key (when st.sweep (first_due y)))
       (begin_first OrdinaryPart (queue_at l st.cpu))

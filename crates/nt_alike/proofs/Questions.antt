@@ -9,8 +9,8 @@ use Rattle.nt_event.specs.declared.numbers.TimerNo.{TimerNo}
 use Rattle.nt_event.specs.declared.scripts.Script.{Script}
 use Rattle.nt_event.specs.Apcs.{is_inserted}
 use Rattle.nt_event.specs.Frames.{frames_of}
-use Rattle.nt_event.specs.Jobs.{level_at, rests}
-use Rattle.nt_event.specs.Lanes.{Lanes, facts_at, lanes_at, object_at}
+use Rattle.nt_event.specs.Jobs.{level_at, rests, spins_still}
+use Rattle.nt_event.specs.Lanes.{Lanes, facts_at, lanes_at, lock_at, object_at}
 use Rattle.nt_event.specs.Lists.{table}
 use Rattle.nt_event.specs.Numbers.{cpu}
 use Rattle.nt_event.specs.Objects.{is_queued}
@@ -25,7 +25,7 @@ use Rattle.nt_alike.specs.Questions.{Question, StandAlike, answer}
 use Rattle.nt_alike.proofs.Facts.{is_inserted_bare, is_some_map}
 use Rattle.nt_alike.proofs.Frames.{level_bare}
 use Rattle.nt_alike.proofs.Jobs.{facts_read, queued_bare}
-use Rattle.nt_alike.proofs.Tasks.{rests_bare}
+use Rattle.nt_alike.proofs.Tasks.{rests_bare, spins_bare}
 use Rattle.nt_alike.proofs.Timers.{setting_read}
 
 pub answers_same : (s : Script) (question : Question) (h k : List Event) → Alike s h k → answer s question h ≡ answer s question k
@@ -56,6 +56,7 @@ module _ (s : Script) (h k : List Event) (al : Alike s h k) where
       record {
         level = λ p. sym (level_bare (frames_of s p h)) ∙ ap level_at (al.own p) ∙ level_bare (frames_of s p k);
         rests = λ p. rests_bare (own_of s p h) ∙ ap rests (al.own p) ∙ sym (rests_bare (own_of s p k));
+        spins = λ p. spins_bare (own_of s p h) ∙ ap spins_still (al.own p) ∙ sym (spins_bare (own_of s p k));
         running = λ p. ap (λ (x : Own). x.frames.running) (al.own p);
         frames = λ p. ap (λ (x : Own). x.frames) (al.own p);
         doing = λ t. ap (λ (x : ThreadFacts). x.doing) (facts_same t);
@@ -65,4 +66,6 @@ module _ (s : Script) (h k : List Event) (al : Alike s h k) where
         timers = λ t. sym (set_bare (lanes_at s h).timers t) ∙ ap (λ (l : Lanes). is_set_timer l.timers t) al.lanes
             ∙ set_bare (lanes_at s k).timers t;
         time = ap (λ (l : Lanes). l.timers.now) al.lanes;
+        holder = λ x. ap (λ (l : Lanes). (lock_at l x).holder) al.lanes;
+        spinners = λ x. ap (λ (l : Lanes). (lock_at l x).spinners) al.lanes;
       }

@@ -6,7 +6,7 @@ use Rattle.std.specs.Prelude.{Bool, List, [], false, length, max, refl, suc, tru
 use Rattle.nt_event.specs.declared.events.Event.{Event}
 use Rattle.nt_event.specs.declared.numbers.CpuNo.{CpuNo}
 use Rattle.nt_event.specs.declared.scripts.Script.{Script}
-use Rattle.nt_event.specs.Jobs.{rests}
+use Rattle.nt_event.specs.Jobs.{is_still}
 use Rattle.nt_event.specs.Lists.{value_at}
 use Rattle.nt_event.specs.Numbers.{cpu}
 use Rattle.nt_event.specs.Own.{own_of}
@@ -21,7 +21,7 @@ use Rattle.nt_alike.specs.Ends.{is_quiet}
 use Rattle.nt_alike.specs.Free.{IsFreeRun}
 use Rattle.nt_alike.proofs.Asked.{newer_none, newer_quiet, newer_strict}
 use Rattle.nt_alike.proofs.Free.{run_free}
-use Rattle.nt_alike.proofs.Tasks.{rests_bare}
+use Rattle.nt_alike.proofs.Tasks.{still_bare}
 
 module _ (s : Script) (p : CpuNo) (c : ℕ) where
   none_newer : (past : List Event) → newer s p c (asked s p c past) past ≡ 0
@@ -89,8 +89,8 @@ quiet_same s h k rh rk al = ap (list_all (λ q. q)) (table-same {A = Bool} s.cpu
         ∙ sym (seen_all s p c (suc (length k)) k (run_free s (suc (length k)) k (omega arith) rk))
         ∙ sym (ap (λ (n : ℕ). n == asked s p c k) (seen_there p c k l))))
 
-    one : (p : CpuNo) → (rests (own_of s p h) && has_seen (own_of s p h) (λ c. asked s p c h))
-        ≡ (rests (own_of s p k) && has_seen (own_of s p k) (λ c. asked s p c k))
+    one : (p : CpuNo) → (is_still (own_of s p h) && has_seen (own_of s p h) (λ c. asked s p c h))
+        ≡ (is_still (own_of s p k) && has_seen (own_of s p k) (λ c. asked s p c k))
     one p =
-        let a = rests_bare (own_of s p h) ∙ ap rests (al.own p) ∙ sym (rests_bare (own_of s p k)) in
-        ap (λ (b : Bool). b && has_seen (own_of s p h) (λ c. asked s p c h)) a ∙ ap (λ (b : Bool). rests (own_of s p k) && b) (all_same p)
+        let a = still_bare (own_of s p h) ∙ ap is_still (al.own p) ∙ sym (still_bare (own_of s p k)) in
+        ap (λ (b : Bool). b && has_seen (own_of s p h) (λ c. asked s p c h)) a ∙ ap (λ (b : Bool). is_still (own_of s p k) && b) (all_same p)

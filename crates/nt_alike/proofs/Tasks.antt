@@ -2,8 +2,8 @@
 use Rattle.std.proofs.Common.{ap, arith, sym, ◌∙◌}
 use Rattle.std.proofs.lemmas.Bool.{ltb-true}
 use Rattle.std.specs.List.{list_all}
-use Rattle.std.specs.Option.{option_or}
-use Rattle.std.specs.Prelude.{Bool, List, None, Option, Some, [], false, find, if◌then◌else◌, is_some, nat_lt, not, option_and_then, option_map, refl, true, ℕ, ◌&&◌, ◌-◌, ◌<◌, ◌∷◌, ◌≡◌}
+use Rattle.std.specs.Option.{option_map_or, option_or}
+use Rattle.std.specs.Prelude.{Bool, List, None, Option, Some, [], false, find, if◌then◌else◌, is_some, nat_lt, not, option_and_then, option_map, refl, true, ℕ, ◌&&◌, ◌-◌, ◌<◌, ◌∷◌, ◌≡◌, ◌||◌}
 use Rattle.nt_event.specs.declared.commands.ApcKind.TheVariants.{User as UserApc}
 use Rattle.nt_event.specs.declared.commands.Command.{Command}
 use Rattle.nt_event.specs.declared.commands.Command.TheVariants.{ToUser}
@@ -15,7 +15,7 @@ use Rattle.nt_event.specs.declared.events.What.{What}
 use Rattle.nt_event.specs.declared.events.What.TheVariants.{Begin, Call, Normal}
 use Rattle.nt_event.specs.declared.frames.Body.{Body}
 use Rattle.nt_event.specs.declared.frames.Body.TheVariants.{Apc as OnApc, Base as OnBase}
-use Rattle.nt_event.specs.declared.frames.Frame.{Frame}
+use Rattle.nt_event.specs.Frame.{Frame}
 use Rattle.nt_event.specs.declared.jobs.Job.{Job}
 use Rattle.nt_event.specs.declared.jobs.Job.TheVariants.{Apcs as ApcsJob, Call as CallJob, Drain as DrainJob, Threaded as ThreadedJob}
 use Rattle.nt_event.specs.declared.jobs.Stand.{Stand}
@@ -26,7 +26,7 @@ use Rattle.nt_event.specs.declared.scripts.Script.{Script}
 use Rattle.nt_event.specs.Classes.{interrupt_classes}
 use Rattle.nt_event.specs.Commands.{needs_lane, refusal}
 use Rattle.nt_event.specs.Frames.{Frames, innermost, is_on_thread, thread_part}
-use Rattle.nt_event.specs.Jobs.{call_task, command_task, end_task, fire_task, frame_task, has_normal, idle_task, interrupt_task, is_due, job_event, level_at, may_apcs, may_drain, may_interrupt, may_switch, may_threaded, must, must_task, next_what, normal_task, rests, rewait_task, rundown_task, task, task_event}
+use Rattle.nt_event.specs.Jobs.{call_task, command_task, end_task, fire_task, frame_task, free_task, go_on_task, has_normal, idle_task, interrupt_task, is_due, is_still, job_event, level_at, may_apcs, may_drain, may_interrupt, may_switch, may_threaded, must, must_task, next_what, normal_task, rests, rewait_task, rundown_task, spins_still, task, task_event, waits_for_lock}
 use Rattle.nt_event.specs.Lanes.{Lanes}
 use Rattle.nt_event.specs.Lists.{is_null, value_at, when}
 use Rattle.nt_event.specs.Own.{Own, stand_in}
@@ -137,6 +137,27 @@ may_switch_bare x = rw (is_must_bare x, null_map x.frames.own) refl
 pub rests_bare : (x : Own) → rests x ≡ rests (bare_own x)
 rests_bare x = rw (is_must_bare x) refl
 
+-- ---- it waits for a lock
+
+spins_or : (o : Option Frame) → option_map_or (λ (f : Frame). is_some f.spin) (option_map bare_frame o) false
+    ≡ option_map_or (λ (f : Frame). is_some f.spin) o false
+spins_or None = refl
+spins_or (Some f) = refl
+
+waits_bare : (x : Own) → waits_for_lock x ≡ waits_for_lock (bare_own x)
+waits_bare x =
+    let d = due_bare x 12 (omega arith) in
+    let i : option_map_or (λ (f : Frame). is_some f.spin) (innermost (bare_own x).frames) false
+    ≡ option_map_or (λ (f : Frame). is_some f.spin) (innermost x.frames) false =
+    ap (λ (o : Option Frame). option_map_or (λ (f : Frame). is_some f.spin) o false) (innermost_bare x.frames) ∙ spins_or (innermost x.frames) in
+    rw (i, d) refl
+
+pub spins_bare : (x : Own) → spins_still x ≡ spins_still (bare_own x)
+spins_bare x = rw (waits_bare x, is_must_bare x) refl
+
+pub still_bare : (x : Own) → is_still x ≡ is_still (bare_own x)
+still_bare x = ap (λ (b : Bool). b || spins_still x) (rests_bare x) ∙ ap (λ (b : Bool). rests (bare_own x) || b) (spins_bare x)
+
 -- ---- the innermost frame goes on
 
 end_bare : (n : ℕ) (b : Body) → bare_task (end_task n b) ≡ bare_task (end_task 0 b)
@@ -182,8 +203,9 @@ frame_bare s p x f =
     (or_task (rundown_task f) _ (rundown_task (bare_frame f)) _ refl
     (or_task (command_task x f (next_command s p f)) _ (command_task (bare_own x) (bare_frame f) (next_command s p (bare_frame f))) _
     (command_bare x f (next_command s p f))
+    (or_task (free_task f) _ (free_task (bare_frame f)) _ refl
     (or_task (normal_task f) (Some (end_task f.name f.body)) (normal_task (bare_frame f)) (Some (end_task 0 f.body))
-    (normal_bare f) (ap Some (end_bare f.name f.body)))))
+    (normal_bare f) (ap Some (end_bare f.name f.body))))))
 
 then_bare : (s : Script) (p : CpuNo) (x : Own) (o : Option Frame) →
     option_map bare_task (option_and_then (frame_task s p x) o)
@@ -191,13 +213,24 @@ then_bare : (s : Script) (p : CpuNo) (x : Own) (o : Option Frame) →
 then_bare s p x None = refl
 then_bare s p x (Some f) = frame_bare s p x f
 
+go_on_bare : (s : Script) (p : CpuNo) (x : Own) → option_map bare_task (go_on_task s p x) ≡ option_map bare_task (go_on_task s p (bare_own x))
+go_on_bare s p x =
+    or_task (option_and_then (frame_task s p x) (innermost x.frames)) (idle_task x)
+    (option_and_then (frame_task s p (bare_own x)) (innermost (bare_own x).frames)) (idle_task (bare_own x))
+    (then_bare s p x (innermost x.frames)
+    ∙ ap (λ (o : Option Frame). option_map bare_task (option_and_then (frame_task s p (bare_own x)) o)) (sym (innermost_bare x.frames))) refl
+
 task_bare : (s : Script) (p : CpuNo) (x : Own) → option_map bare_task (task s p x) ≡ option_map bare_task (task s p (bare_own x))
 task_bare s p x =
     or_task (must_task x) _ (must_task (bare_own x)) _ (must_bare x)
-    (or_task (option_and_then (frame_task s p x) (innermost x.frames)) (idle_task x)
-    (option_and_then (frame_task s p (bare_own x)) (innermost (bare_own x).frames)) (idle_task (bare_own x))
-    (then_bare s p x (innermost x.frames)
-    ∙ ap (λ (o : Option Frame). option_map bare_task (option_and_then (frame_task s p (bare_own x)) o)) (sym (innermost_bare x.frames))) refl)
+    (unless (waits_for_lock x) (waits_for_lock (bare_own x)) (go_on_task s p x) (go_on_task s p (bare_own x)) (waits_bare x) (go_on_bare s p x))
+  where
+    unless : (a b : Bool) (o q : Option Task) → a ≡ b → option_map bare_task o ≡ option_map bare_task q →
+        option_map bare_task (when (not a) o) ≡ option_map bare_task (when (not b) q)
+    unless true true o q h k = refl
+    unless false false o q h k = k
+    unless true false o q h k = cc
+    unless false true o q h k = cc
 
 -- ---- the next event
 

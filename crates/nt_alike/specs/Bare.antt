@@ -4,7 +4,7 @@ use Rattle.std.specs.Prelude.{None, [], if◌then◌else◌, map, option_map}
 use Rattle.nt_event.specs.declared.events.Event.{Event}
 use Rattle.nt_event.specs.declared.events.What.{What}
 use Rattle.nt_event.specs.declared.events.What.TheVariants as what
-use Rattle.nt_event.specs.declared.frames.Frame.{Frame}
+use Rattle.nt_event.specs.Frame.{Frame}
 use Rattle.nt_event.specs.declared.inserts.Insert.{Insert}
 use Rattle.nt_event.specs.declared.inserts.Pick.{Pick}
 use Rattle.nt_event.specs.declared.inserts.Setting.{Setting}
@@ -40,6 +40,7 @@ bare_what (what.Switch t status) = what.Switch t status
 bare_what (what.Rewait f y) = what.Rewait 0 y
 bare_what (what.Flush a from) = what.Flush a 0
 bare_what (what.Gone t) = what.Gone t
+bare_what (what.Free f k) = what.Free 0 k
 bare_what what.Rest = what.Rest
 
 abbrev pub bare_event : Event → Event
@@ -88,7 +89,7 @@ abbrev pub bare_timers : Timers → Timers
 bare_timers x =
     record x { timers = map (option_map bare_setting) x.timers; delays = map (option_map bare_setting) x.delays }
 
--- all lanes but the timers, which stay as they are
+-- all lanes but the timers, which stay as they are; locks have no numbers: who holds one, and who spins on it
 abbrev pub bare_but_timers : Lanes → Lanes
 bare_but_timers l =
     record l {
@@ -103,7 +104,7 @@ bare_lanes l = record (bare_but_timers l) { timers = bare_timers l.timers }
 
 -- ---- what a processor keeps
 
--- a frame without its name
+-- a frame without its name; the locks that it holds, the one on which it spins and the levels kept with them stay
 abbrev pub bare_frame : Frame → Frame
 bare_frame f = record f { name = 0 }
 

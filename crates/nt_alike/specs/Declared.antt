@@ -13,7 +13,7 @@ use Rattle.nt_event.specs.Fitting.{key_fits}
 use Rattle.nt_event.specs.Lanes.{lanes_at, touches}
 use Rattle.nt_event.specs.Own.{own_of}
 use Rattle.nt_event.specs.Requests.{asks, told_by}
-use Rattle.nt_event.specs.Script.{fits, has_cpu, has_dpc}
+use Rattle.nt_event.specs.Script.{fits, has_cpu, has_dpc, has_lock}
 use Rattle.nt_event.specs.Step.{IsRun}
 use Rattle.nt_timer.specs.Settings.{setting_at}
 use Rattle.nt_alike.specs.Alike.{Alike, unnoticed}
@@ -26,6 +26,7 @@ has_lane s (lane.Object d) = has_dpc s d
 has_lane s (lane.Queue p) = has_cpu s p
 has_lane s (lane.Threads p) = has_cpu s p
 has_lane s lane.Timers = true
+has_lane s (lane.Lock k) = has_lock s k
 
 -- the event is by a processor of the script, asks processors of the script alone, for used classes alone, and touches
 -- lanes of the script alone

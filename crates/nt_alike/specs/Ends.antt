@@ -1,10 +1,10 @@
--- Quiet histories: each processor rests and has seen what was asked. These are the settled ones in which no processor
--- was cut.
+-- Quiet histories: each processor rests or spins still, and has seen what was asked. These are the settled ones in
+-- which no processor was cut.
 use Rattle.std.specs.List.{list_all}
 use Rattle.std.specs.Prelude.{Bool, List, false, true, ℕ, ◌&&◌, ◌≡◌}
 use Rattle.nt_event.specs.declared.events.Event.{Event}
 use Rattle.nt_event.specs.declared.scripts.Script.{Script}
-use Rattle.nt_event.specs.Jobs.{rests}
+use Rattle.nt_event.specs.Jobs.{is_still}
 use Rattle.nt_event.specs.Lists.{table}
 use Rattle.nt_event.specs.Numbers.{cpu}
 use Rattle.nt_event.specs.Own.{own_of}
@@ -19,7 +19,7 @@ use Rattle.nt_alike.specs.Monitors.{IsClosedWith, Monitor, kept}
 abbrev pub is_quiet : Script → List Event → Bool
 is_quiet s past =
     list_all (λ quiet. quiet)
-    (table s.cpus (λ p. rests (own_of s (cpu p) past)
+    (table s.cpus (λ p. is_still (own_of s (cpu p) past)
     && has_seen (own_of s (cpu p) past) (λ c. asked s (cpu p) c past)))
 
 abbrev pub AlikeAreQuiet : Type 0

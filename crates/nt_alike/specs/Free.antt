@@ -35,6 +35,7 @@ LookIsShort (what.Switch t status) = Unit {0}
 LookIsShort (what.Rewait f y) = Unit {0}
 LookIsShort (what.Flush a from) = Unit {0}
 LookIsShort (what.Gone t) = Unit {0}
+LookIsShort (what.Free f k) = Unit {0}
 LookIsShort what.Rest = Unit {0}
 
 -- the event may come after this past

@@ -45,6 +45,7 @@ IsTimely t (what.Switch u status) x = Unit {0}
 IsTimely t (what.Rewait f y) x = Unit {0}
 IsTimely t (what.Flush a from) x = Unit {0}
 IsTimely t (what.Gone u) x = Unit {0}
+IsTimely t (what.Free f k) x = Unit {0}
 IsTimely t what.Rest x = Unit {0}
 
 abbrev pub FactsAreBare : Type 0

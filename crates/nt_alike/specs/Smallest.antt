@@ -6,22 +6,12 @@ use Rattle.nt_event.specs.declared.scripts.Script.{Script}
 use Rattle.nt_event.specs.Numbers.{cpu}
 use Rattle.nt_event.specs.Own.{is_rest}
 use Rattle.nt_event.specs.Step.{IsRun}
+use Rattle.nt_rows.specs.Plain.{plain}
 use Rattle.nt_alike.specs.Closed.{IsClosedList}
 use Rattle.nt_alike.specs.Free.{LooksAreShort}
 
 abbrev pub empty : Script
-empty =
-    record {
-      cpus = 1;
-      depth = None;
-      threaded = None;
-      isrs = [];
-      dpcs = [];
-      timers = [];
-      threads = [];
-      apcs = [];
-      routines = [];
-    }
+empty = plain
 
 abbrev pub rest : Event
 rest = record { cpu = cpu 0; thread = None; level = 0; what = Rest }

@@ -91,12 +91,14 @@ pub fn questions_are_answered_alike()
 {}
 
 /// So each processor is at the same level, runs the same thread and has the same frames open, each thread does the
-/// same, the same DPC and APC objects are inserted, and the same timers are set.
+/// same, the same DPC and APC objects are inserted, the same timers are set, and each spin lock is held by the same
+/// processor and spun on by the same ones.
 pub fn alike_histories_stand_alike()
     ensures { AlikeStandAlike }
 {}
 
-/// Of histories that are alike both are quiet or neither is.
+/// Of histories that are alike both are quiet or neither is: each processor rests or spins still, and has seen what was
+/// asked.
 pub fn alike_histories_are_quiet_alike()
     ensures { AlikeAreQuiet }
 {}

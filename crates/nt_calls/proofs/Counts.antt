@@ -1,6 +1,6 @@
 -- A thread's open frames have entered no more regions than its processor has made events.
 use Rattle.nt_event.specs.Calls.{wait_begun}
-use Rattle.nt_event.specs.Frames.{at_name, called, done_to, due_of, effect_by, ended_base, flushed, is_base_body, new_frame, normal_of, resumed, rewaited, thread_after, thread_frames, thread_if, time}
+use Rattle.nt_event.specs.Frames.{at_name, called, done_to, due_of, effect_by, ended_base, flushed, freed, is_base_body, new_frame, normal_of, resumed, rewaited, thread_after, thread_frames, thread_if, time}
 use Rattle.nt_event.specs.Numbers.{is_by, is_of}
 use Rattle.nt_event.specs.Own.{made}
 use Rattle.nt_event.specs.Regions.{crit_of, guard_of}
@@ -12,11 +12,11 @@ use Rattle.nt_event.specs.declared.commands.Reply.{Reply}
 use Rattle.nt_event.specs.declared.events.Begun.TheVariants.{Apc}
 use Rattle.nt_event.specs.declared.events.Event.{Event}
 use Rattle.nt_event.specs.declared.events.What.{What}
-use Rattle.nt_event.specs.declared.events.What.TheVariants.{Begin, Call, End, Flush, Gone, Normal, Rewait, Switch}
+use Rattle.nt_event.specs.declared.events.What.TheVariants.{Begin, Call, End, Flush, Free, Gone, Normal, Rewait, Switch}
 use Rattle.nt_event.specs.declared.frames.Again.{Again}
 use Rattle.nt_event.specs.declared.frames.Body.{Body}
 use Rattle.nt_event.specs.declared.frames.Body.TheVariants.{Apc as OnApc, Base as OnBase, Rundown as OnRundown}
-use Rattle.nt_event.specs.declared.frames.Frame.{Frame}
+use Rattle.nt_event.specs.Frame.{Frame}
 use Rattle.nt_event.specs.declared.numbers.CpuNo.{CpuNo}
 use Rattle.nt_event.specs.declared.numbers.RoutineNo.{RoutineNo}
 use Rattle.nt_event.specs.declared.numbers.ThreadNo.{ThreadNo}
@@ -31,6 +31,7 @@ record Counts (c : Frame → ℕ) : Type 0 where
   called : (due : Option ℕ) (k : Command) (y : Reply) (f : Frame) → c (called due k y f) ≤ c f + 1
   rewaited : (y : Reply) (f : Frame) → c (rewaited y f) ≡ c f
   normal : (f : Frame) → c (normal_of f) ≡ 0
+  freed : (f : Frame) → c (freed f) ≡ c f
   ended : (f : Frame) → c (ended_base f) ≡ 0
   resumed : (st : Option ℕ) (f : Frame) → c (resumed st f) ≡ c f
 
@@ -40,6 +41,7 @@ crit_counts = record {
   called = λ due k y f. go (wait_begun due k) k y f;
   rewaited = λ y f. refl;
   normal = λ f. refl;
+  freed = λ f. refl;
   ended = λ f. refl;
   resumed = λ st f. keeps st f;
 }
@@ -67,6 +69,7 @@ guard_counts = record {
   called = λ due k y f. go (wait_begun due k) k y f;
   rewaited = λ y f. refl;
   normal = λ f. refl;
+  freed = λ f. refl;
   ended = λ f. refl;
   resumed = λ st f. keeps st f;
 }
@@ -113,6 +116,7 @@ module _ (c : Frame → ℕ) (k : Counts c) where
   after_counts s n due (Call f m y) fs = at_name_counts f (called due m y) fs (λ g. k.called due m y g)
   after_counts s n due (Rewait f y) fs = at_name_counts f (rewaited y) fs (λ g. let z = k.rewaited y g in omega (arith, z))
   after_counts s n due (Normal f) fs = at_name_counts f normal_of fs (λ g. let z = k.normal g in omega (arith, z))
+  after_counts s n due (Free f m) fs = at_name_counts f freed fs (λ g. let z = k.freed g in omega (arith, z))
   after_counts s n due (End f) [] = omega arith
   after_counts s n due (End f) (g ∷ fs) = go (g.name == f) (is_base_body g.body)
     where

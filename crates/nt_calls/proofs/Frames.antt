@@ -1,6 +1,6 @@
 -- In a run the frames of each processor are nested, and its events are calls of them.
 use Rattle.nt_calls.proofs.Counts.{crit_called, crit_made, guard_called, guard_made}
-use Rattle.nt_calls.proofs.Says.{done_accepted, known_as, made_here, null_own, size, switch_says, thread_is}
+use Rattle.nt_calls.proofs.Says.{accepted, known_as, made_here, null_own, size, switch_says, thread_is}
 use Rattle.nt_calls.specs.Frames.{FramesAreCalls}
 use Rattle.nt_event.proofs.Moves.{frames_move, frames_stay}
 use Rattle.nt_event.proofs.Options.{Holds, both, holds_at, when_gives}
@@ -8,54 +8,55 @@ use Rattle.nt_event.proofs.Tables.{get_or-table, length-table_from}
 use Rattle.nt_event.specs.Apcs.{ApcQueues, deliverable, first_kernel, first_user, lets_through}
 use Rattle.nt_event.specs.Calls.{stops}
 use Rattle.nt_event.specs.Classes.{interrupt_classes, is_isr_level}
-use Rattle.nt_event.specs.Frames.{Frames, again_after, at_head, base_level, base_of, called, done_to, due_of, ended_base, frames_after, frames_in, frames_of, innermost, is_apc_body, is_base_body, normal_of, own_frames, resumed, rewaited, running, thread_frames, thread_part, time}
+use Rattle.nt_event.specs.Frames.{Frames, again_after, at_head, base_level, base_of, called, done_to, due_of, frames_after, frames_in, frames_of, innermost, is_apc_body, is_base_body, own_frames, resumed, rewaited, running, thread_frames, thread_part, time}
 use Rattle.nt_event.specs.Jobs.{has_normal, level_at, user_due}
 use Rattle.nt_event.specs.Lanes.{facts_of, lanes_at}
 use Rattle.nt_event.specs.Lists.{head_of, is_null, when}
 use Rattle.nt_event.specs.Numbers.{is_of, thread}
 use Rattle.nt_event.specs.Own.{made, own_of}
 use Rattle.nt_event.specs.Regions.{crit_of, guard_of, regions_of}
-use Rattle.nt_event.specs.Replies.{is_blocked, is_done}
+use Rattle.nt_event.specs.Replies.{is_blocked, is_refused}
 use Rattle.nt_event.specs.Routines.{kind_of, rundown_of}
 use Rattle.nt_event.specs.Step.{IsRun, is_cut, step, thread_field, turn_of}
 use Rattle.nt_event.specs.Threads.{ThreadFacts}
 use Rattle.nt_event.specs.declared.commands.ApcKind.{ApcKind}
 use Rattle.nt_event.specs.declared.commands.ApcKind.TheVariants.{User as UserApc}
 use Rattle.nt_event.specs.declared.commands.Command.{Command}
-use Rattle.nt_event.specs.declared.commands.Command.TheVariants.{Delay, Lower, Raise, StartWait, ToUser}
-use Rattle.nt_event.specs.declared.commands.Refusal.{Refusal}
+use Rattle.nt_event.specs.declared.commands.Command.TheVariants.{Acquire, Delay, Lower, Raise, StartWait, ToUser, Unlock}
 use Rattle.nt_event.specs.declared.commands.Regions.{Regions}
 use Rattle.nt_event.specs.declared.commands.Reply.{Reply}
-use Rattle.nt_event.specs.declared.commands.Reply.TheVariants.{Done, Status}
+use Rattle.nt_event.specs.declared.commands.Reply.TheVariants.{Done, Spin, Status}
 use Rattle.nt_event.specs.declared.events.Begun.{Begun}
 use Rattle.nt_event.specs.declared.events.Begun.TheVariants.{Apc, Dpc, Int, Threaded}
 use Rattle.nt_event.specs.declared.events.Event.{Event}
 use Rattle.nt_event.specs.declared.events.What.{What}
-use Rattle.nt_event.specs.declared.events.What.TheVariants.{Begin, Call, Clean, End, Expire, Fire, Flush, Gone, Look, Normal, Rest, Rewait, Switch}
+use Rattle.nt_event.specs.declared.events.What.TheVariants.{Begin, Call, Clean, End, Expire, Fire, Flush, Free, Gone, Look, Normal, Rest, Rewait, Switch}
+use Rattle.nt_event.specs.declared.frames.Again.{Again}
 use Rattle.nt_event.specs.declared.frames.Body.{Body}
 use Rattle.nt_event.specs.declared.frames.Body.TheVariants.{Apc as OnApc, Base as OnBase, Dpc as OnDpc, Int as OnInt, Rundown as OnRundown, Threaded as OnThreaded}
-use Rattle.nt_event.specs.declared.frames.Frame.{Frame}
+use Rattle.nt_event.specs.Frame.{Frame}
 use Rattle.nt_event.specs.declared.inserts.Pick.{Pick}
 use Rattle.nt_event.specs.declared.numbers.ApcNo.{ApcNo}
 use Rattle.nt_event.specs.declared.numbers.CpuNo.{CpuNo}
 use Rattle.nt_event.specs.declared.numbers.RoutineNo.{RoutineNo}
 use Rattle.nt_event.specs.declared.numbers.ThreadNo.{ThreadNo}
 use Rattle.nt_event.specs.declared.scripts.Script.{Script}
-use Rattle.nt_frame.proofs.Accepted.{lower_accepted, raise_accepted}
-use Rattle.nt_frame.proofs.After.{after_apc, after_call, after_clean, after_dpc, after_end, after_end_base, after_expire, after_fire, after_first_switch, after_flush, after_gone, after_int, after_look, after_normal, after_rest, after_rewait, after_rundown, after_switch, after_threaded}
+use Rattle.nt_frame.proofs.Accepted.{acquire_accepted, lower_accepted, raise_accepted}
+use Rattle.nt_frame.proofs.After.{after_apc, after_call, after_clean, after_dpc, after_end, after_end_base, after_expire, after_fire, after_first_switch, after_flush, after_free, after_gone, after_int, after_look, after_normal, after_rest, after_rewait, after_rundown, after_switch, after_threaded}
 use Rattle.nt_frame.proofs.Begun.{begun_nested}
 use Rattle.nt_frame.proofs.Changed.{MayStandFor, at_innermost_nested, at_innermost_same, innermost_frame}
 use Rattle.nt_frame.proofs.Ended.{closed_nested, stopped_nested, without_innermost_nested}
 use Rattle.nt_frame.proofs.EventLaw.{histories_are_calls}
 use Rattle.nt_frame.proofs.Events.{IsOurs}
-use Rattle.nt_frame.proofs.Kept.{again_nested, left_nested, normal_nested}
+use Rattle.nt_frame.proofs.Kept.{again_nested, freed_base, freed_nested, keep_tail, kept_base, left_nested, normal_nested}
 use Rattle.nt_frame.proofs.Nested.{nested_start}
 use Rattle.nt_frame.proofs.Tasks.{apc_may_begin, base_here, base_may_begin, leaving_here, normal_here, refusal_here, threaded_may_begin, user_may_begin}
 use Rattle.nt_frame.specs.Changes.{at_innermost, on_part, on_running, taken}
 use Rattle.nt_frame.specs.EventCalls.{EachIsMade, IsMade}
-use Rattle.nt_frame.specs.Nesting.{AreNamedBelow, AreNested, is_special_body, next_name}
+use Rattle.nt_frame.specs.HeldLocks.{KeepAtLeast}
+use Rattle.nt_frame.specs.Nesting.{AreNamedBelow, AreNested, IsFrame, is_special_body, next_name}
 use Rattle.nt_frame.specs.Rules.{is_leaving, may_begin, may_go_on, refusal_in}
-use Rattle.nt_runs.proofs.Known.{KnownBegin, KnownCall, KnownEnd, KnownInterrupt, KnownRewait, reply_or}
+use Rattle.nt_runs.proofs.Known.{KnownBegin, KnownCall, KnownEnd, KnownFree, KnownInterrupt, KnownRewait}
 use Rattle.nt_runs.proofs.Names.{AllBelow, all_named, called_name}
 use Rattle.nt_runs.proofs.Rundown.Run.{KernelPick, deliverable_fits, facts_fit_of, first_user_fits}
 use Rattle.nt_runs.proofs.Running.{called_body, same_cpu}
@@ -67,7 +68,7 @@ use Rattle.std.proofs.lemmas.Bool.{eqb-true, leb-false, lt-ltb, ltb-false, ltb-t
 use Rattle.std.proofs.lemmas.List.Elements.{All-from_get_or}
 use Rattle.std.specs.List.{list_all, list_any}
 use Rattle.std.specs.Option.{option_map_or, option_or}
-use Rattle.std.specs.Prelude.{Bool, List, None, Option, Some, [], false, if◌then◌else◌, length, nat_lt, not, option_and_then, true, ℕ, ◌&&◌, ◌+◌, ◌<◌, ◌==◌, ◌||◌, ◌∷◌, ◌≡◌, ◌≤◌}
+use Rattle.std.specs.Prelude.{Bool, IfSome, List, None, Option, Some, [], false, if◌then◌else◌, length, nat_lt, not, option_and_then, true, ℕ, ◌&&◌, ◌+◌, ◌<◌, ◌==◌, ◌||◌, ◌∷◌, ◌≡◌, ◌≤◌}
 
 -- ---- names
 
@@ -116,18 +117,25 @@ part_guard s p past = go (running p past)
 
 -- ---- a call
 
--- the level that a call leaves is not below the base level
-abbrev LevelKept : Frame → Frame → Type 0
-LevelKept f g = base_of f ≤ g.level
+-- the frame's level, and the levels that it keeps with locks, are not below this base level
+abbrev AreAbove : ℕ → Frame → Type 0
+AreAbove base f = (base ≤ f.level) × KeepAtLeast base f.held × IfSome f.spin (λ h. base ≤ h.kept)
 
-called_level : (x : Frames) (f : Frame) (due : Option ℕ) (c : Command) (y : Reply) → innermost x ≡ Some f → base_of f ≤ f.level →
-    (is_done y ≡ true → refusal_in c x ≡ None) → base_of f ≤ (called due c y f).level
-called_level x f due (StartWait m a) y i h r = h
-called_level x f due (Delay m a u) y i h r = h
-called_level x f due (Raise level) Done i h r = let l = raise_accepted f x level i (r refl) in omega (arith, l, h)
-called_level x f due (Lower level) Done i h r = lower_accepted f x level i (r refl)
-called_level x f due c Done i h r = h
-called_level x f due c y i h r = h
+-- so after a call
+called_above : (own : Bool) (x : Frames) (f : Frame) (due : Option ℕ) (c : Command) (y : Reply) → innermost x ≡ Some f → IsFrame own f →
+    (is_refused y ≡ false → refusal_in c x ≡ None) → AreAbove (base_of f) (called due c y f)
+called_above own x f due (StartWait m a) y i p r = (p.level, p.kept, tt)
+called_above own x f due (Delay m a u) y i p r = (p.level, p.kept, tt)
+called_above own x f due (Raise level) Done i p r =
+    let l = raise_accepted f x level i (r refl) in let b = p.level in (omega (arith, l, b), p.kept, tt)
+called_above own x f due (Lower level) Done i p r = (lower_accepted f x level i (r refl), p.kept, tt)
+called_above own x f due (Acquire k) Done i p r =
+    let l = (acquire_accepted f x k i (r refl)).0 in let b = p.level in (omega (arith, l, b), (kept_base own f p, p.kept), tt)
+called_above own x f due (Acquire k) Spin i p r =
+    let l = (acquire_accepted f x k i (r refl)).0 in let b = p.level in (omega (arith, l, b), p.kept, kept_base own f p)
+called_above own x f due (Unlock k) Done i p r = (freed_base own f p, keep_tail (base_of f) f.held p.kept, tt)
+called_above own x f due c Done i p r = (p.level, p.kept, tt)
+called_above own x f due c y i p r = (p.level, p.kept, tt)
 
 called_frame : (due : Option ℕ) (c : Command) (y : Reply) (f : Frame) → ((called due c y f).kernel_phase ≡ f.kernel_phase) ×
     ((called due c y f).leaving ≡ f.leaving)
@@ -141,7 +149,7 @@ called_frame due c Done f = done c
 called_frame due c y f = (refl, refl)
 
 call_stands : (x : Frames) (f : Frame) (due : Option ℕ) (c : Command) (y : Reply) → AreNested x → innermost x ≡ Some f →
-    (is_done y ≡ true → refusal_in c x ≡ None) → crit_of (thread_part x) + 1 < 2 ^ 32 → guard_of (thread_part x) + 1 < 2 ^ 32 →
+    (is_refused y ≡ false → refusal_in c x ≡ None) → crit_of (thread_part x) + 1 < 2 ^ 32 → guard_of (thread_part x) + 1 < 2 ^ 32 →
     MayStandFor f (called due c y f) x
 call_stands x f due c y h k r a b =
     let p = innermost_frame f x h k in
@@ -150,7 +158,8 @@ call_stands x f due c y h k r a b =
     let guard = guard_called due c y f in
     let body : (called due c y f).body ≡ f.body = called_body due c y f in
     let base : base_of (called due c y f) ≡ base_of f = ap (λ (z : Body). base_level z (called due c y f).kernel_phase) body ∙ ap (base_level f.body) q.0 in
-    let level : base_of f ≤ (called due c y f).level = called_level x f due c y k p.level r in
+    let above = called_above (not (is_null x.own)) x f due c y k p r in
+    let level : base_of f ≤ (called due c y f).level = above.0 in
     record {
       name = called_name due c y f;
       body = body;
@@ -158,15 +167,25 @@ call_stands x f due c y h k r a b =
       special = λ z. q.0 ∙ p.special (sym (ap is_special_body body) ∙ z);
       phase = λ z. ap is_apc_body body ∙ p.phase (sym q.0 ∙ z);
       leaving = λ z. ap is_base_body body ∙ p.leaving (sym q.1 ∙ z);
+      kept = subst (λ (n : ℕ). KeepAtLeast n (called due c y f).held) (sym base) above.1;
+      spun = subst (λ (n : ℕ). IfSome (called due c y f).spin (λ h. n ≤ h.kept)) (sym base) above.2;
       crit = omega (arith, a, crit);
       guard = omega (arith, b, guard);
     }
 
 call_nested : (x : Frames) (f : Frame) (due : Option ℕ) (c : Command) (y : Reply) (r : Option ThreadNo) → AreNested x → innermost x ≡ Some f →
-    (is_done y ≡ true → refusal_in c x ≡ None) → crit_of (thread_part x) + 1 < 2 ^ 32 → guard_of (thread_part x) + 1 < 2 ^ 32 →
+    (is_refused y ≡ false → refusal_in c x ≡ None) → crit_of (thread_part x) + 1 < 2 ^ 32 → guard_of (thread_part x) + 1 < 2 ^ 32 →
     AreNested (at_innermost (called due c y) x)
 call_nested x f due c y r h k a b d =
     subst AreNested (at_innermost_same (called due c y) f x k) (at_innermost_nested f (called due c y f) x h k (call_stands x f due c y h k a b d))
+
+-- a change of the innermost frame that leaves all of it but the wait to take up
+waits_nested : (g : Frame → Frame) (a : Option Again) (f : Frame) (x : Frames) → AreNested x → innermost x ≡ Some f → g f ≡ record f { again = a } →
+    AreNested (at_innermost g x)
+waits_nested g a f x h i e =
+    subst AreNested
+    (sym (at_innermost_same (λ y. record y { again = a }) f x i) ∙ ap (λ (z : Frame). at_innermost (λ _. z) x) (sym e) ∙ at_innermost_same g f x i)
+    (again_nested f x a h i)
 
 -- the running thread goes on, or stops
 runs_or_stops : (x : Frames) (b : Bool) → AreNested x → AreNested (record x { running = if b then None else x.running })
@@ -284,18 +303,13 @@ module _ (s : Script) (limit : ℕ) (e : Event) (past : List Event) (r : IsRun s
   called_nested name c y k =
       let known : KnownCall s e.cpu (own_of s e.cpu past) (lanes_at s past) name c y = known_as s limit e past r (Call name c y) k refl in
       let w : e.what ≡ Call known.frame.name c y = k ∙ ap (λ (m : ℕ). Call m c y) known.name in
-      let accepted : is_done y ≡ true → refusal_in c (frames_of s e.cpu past) ≡ None = λ d.
-      refusal_here c known.frame (frames_of s e.cpu past) known.goes_on.inner ∙ done_ok y _ _ d known.reply in
       subst AreNested (sym (after_call s (length past) (due_of e.what (time past)) e (frames_of s e.cpu past) known.frame c y
       (ours (named_by_what (Call name c y) k)) known.goes_on.inner w))
       (runs_on (stops c y) (at_innermost (called (due_of e.what (time past)) c y) (frames_of s e.cpu past))
-      (call_nested (frames_of s e.cpu past) known.frame (due_of e.what (time past)) c y None h known.goes_on.inner accepted crit_room guard_room)
+      (call_nested (frames_of s e.cpu past) known.frame (due_of e.what (time past)) c y None h known.goes_on.inner
+      (accepted s e.cpu (own_of s e.cpu past) (lanes_at s past) name c y known) crit_room guard_room)
       (running_same (called (due_of e.what (time past)) c y) (frames_of s e.cpu past)))
     where
-      done_ok : (y : Reply) (o : Option Refusal) (z : Reply) → is_done y ≡ true → y ≡ reply_or o z → o ≡ None
-      done_ok Done o z d q = done_accepted o z q
-      done_ok y o z d q = cc
-
       running_same : (g : Frame → Frame) (x : Frames) → (at_innermost g x).running ≡ x.running
       running_same g x = go (not (is_null x.own)) x.running
         where
@@ -315,6 +329,12 @@ module _ (s : Script) (limit : ℕ) (e : Event) (past : List Event) (r : IsRun s
   after_nested (Begin b from) k = begins_nested b from k
   after_nested (Call name c y) k = called_nested name c y k
   after_nested (Flush a from) k = flush_nested a from k
+  after_nested (Free name a) k =
+      let known : KnownFree s e.cpu (own_of s e.cpu past) name a = known_as s limit e past r (Free name a) k refl in
+      let f = known.frame in
+      let w : e.what ≡ Free f.name a = k ∙ ap (λ (m : ℕ). Free m a) known.name in
+      subst AreNested (sym (after_free s (length past) (due_of e.what (time past)) e (frames_of s e.cpu past) f a (ours (named_by_what (Free name a) k))
+      known.goes_on.inner w)) (freed_nested f (frames_of s e.cpu past) h known.goes_on.inner)
   after_nested (Look rises) k =
       subst AreNested (sym (after_look s (length past) (due_of e.what (time past)) e (frames_of s e.cpu past) rises (size s limit e past r)
       (named_by_what (Look rises) k) k)) h
@@ -338,7 +358,7 @@ module _ (s : Script) (limit : ℕ) (e : Event) (past : List Event) (r : IsRun s
       let may : may_go_on (frames_of s e.cpu past) ≡ true = normal_here f (frames_of s e.cpu past) known.goes_on.inner
       ∙ (ap (λ (b : Bool). b && has_normal f.body) known.kernel ∙ known.normal) in
       subst AreNested (sym (after_normal s (length past) (due_of e.what (time past)) e (frames_of s e.cpu past) f (ours (named_by_what (Normal name) k))
-      known.goes_on.inner may w ∙ sym (at_innermost_same normal_of f (frames_of s e.cpu past) known.goes_on.inner)))
+      known.goes_on.inner may w))
       (normal_nested f (frames_of s e.cpu past) h known.goes_on.inner may)
   after_nested (End name) k = go (is_base_body known.frame.body) refl
     where
@@ -351,7 +371,7 @@ module _ (s : Script) (limit : ℕ) (e : Event) (past : List Event) (r : IsRun s
       go : (b : Bool) → is_base_body known.frame.body ≡ b → AreNested (frames_after s (length past) (due_of e.what (time past)) e (frames_of s e.cpu past))
       go true q =
           subst AreNested (sym (after_end_base s (length past) (due_of e.what (time past)) e (frames_of s e.cpu past) known.frame (ours (named_by_what (End name) k))
-          known.goes_on.inner q w ∙ sym (at_innermost_same ended_base known.frame (frames_of s e.cpu past) known.goes_on.inner)))
+          known.goes_on.inner q w))
           (left_nested known.frame (frames_of s e.cpu past) h known.goes_on.inner
           (base_here known.frame (frames_of s e.cpu past) known.goes_on.inner ∙ q))
       go false q =
@@ -364,8 +384,7 @@ module _ (s : Script) (limit : ℕ) (e : Event) (past : List Event) (r : IsRun s
       let null : own_frames e.cpu past ≡ [] = null_own (own_frames e.cpu past)
       (rewait_on_thread e.cpu (own_of s e.cpu past) (lanes_at s past) name y known (none_again s limit e.cpu past r.1)) in
       let changed : AreNested (at_innermost (rewaited y) (frames_of s e.cpu past)) =
-      subst AreNested (at_innermost_same (rewaited y) f (frames_of s e.cpu past) known.goes_on.inner)
-      (again_nested f (frames_of s e.cpu past) (again_after y f.again f.again) h known.goes_on.inner) in
+      waits_nested (rewaited y) (again_after y f.again f.again) f (frames_of s e.cpu past) h known.goes_on.inner refl in
       subst AreNested (sym (after_rewait s (length past) (due_of e.what (time past)) e (frames_of s e.cpu past) f y (ours (named_by_what (Rewait name y) k))
       known.goes_on.inner null w)) (rewait_runs (is_blocked y) (at_innermost (rewaited y) (frames_of s e.cpu past)) changed
       (same_running (rewaited y) (frames_of s e.cpu past) null))
@@ -399,9 +418,8 @@ module _ (s : Script) (limit : ℕ) (e : Event) (past : List Event) (r : IsRun s
           (named_by_what (Switch t st) k) k head)) (resumed_nested st (taken t (frames_of s e.cpu past)) f (taken_nested (frames_of s e.cpu past) t h l) inner)
         where
           resumed_nested : (st : Option ℕ) (z : Frames) (f : Frame) → AreNested z → innermost z ≡ Some f → AreNested (at_innermost (resumed st) z)
-          resumed_nested None z f q i = subst AreNested (at_innermost_same (resumed None) f z i) (again_nested f z f.again q i)
-          resumed_nested (Some k) z f q i =
-              subst AreNested (at_innermost_same (resumed (Some k)) f z i) (again_nested f z (again_after (Status k) f.again f.again) q i)
+          resumed_nested None z f q i = waits_nested (resumed None) f.again f z q i refl
+          resumed_nested (Some k) z f q i = waits_nested (resumed (Some k)) (again_after (Status k) f.again f.again) f z q i refl
 
 nested_run : (s : Script) (limit : ℕ) (p : CpuNo) (past : List Event) → IsRun s limit past → limit < 2 ^ 32 → AreNested (frames_of s p past)
 nested_run s limit p [] r l = nested_start (length s.threads)

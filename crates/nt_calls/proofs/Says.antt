@@ -1,41 +1,42 @@
 -- In a run, what an event says of the frames of its processor is so.
 use Rattle.nt_event.proofs.Options.{both}
 use Rattle.nt_event.proofs.Tables.{length-table_from}
-use Rattle.nt_event.specs.Commands.{refusal, reply}
-use Rattle.nt_event.specs.Frames.{Frames, frames_of, innermost, own_frames, running, thread_frames, thread_part}
-use Rattle.nt_event.specs.Jobs.{has_normal, level_at}
+use Rattle.nt_event.specs.Frames.{Frames, frames_of, innermost, own_frames, running, thread_frames}
+use Rattle.nt_event.specs.Jobs.{has_normal}
 use Rattle.nt_event.specs.Lanes.{Lanes, lanes_at}
 use Rattle.nt_event.specs.Lists.{is_null}
 use Rattle.nt_event.specs.Numbers.{thread}
 use Rattle.nt_event.specs.Own.{Own, own_of, stand_in}
-use Rattle.nt_event.specs.Regions.{regions_of}
+use Rattle.nt_event.specs.Replies.{is_refused, is_spin}
 use Rattle.nt_event.specs.Script.{has_thread}
 use Rattle.nt_event.specs.Step.{IsRun, step, thread_field, turn_at}
 use Rattle.nt_event.specs.declared.commands.Command.{Command}
-use Rattle.nt_event.specs.declared.commands.Command.TheVariants.{Delay, StartWait}
-use Rattle.nt_event.specs.declared.commands.Refusal.{Refusal}
+use Rattle.nt_event.specs.declared.commands.Command.TheVariants.{Acquire, Delay, StartWait}
 use Rattle.nt_event.specs.declared.commands.Reply.{Reply}
-use Rattle.nt_event.specs.declared.commands.Reply.TheVariants.{Blocked, Done, No, Refused, Status, Yes}
+use Rattle.nt_event.specs.declared.commands.Reply.TheVariants.{Blocked, Done, No, Refused, Spin, Status, Yes}
 use Rattle.nt_event.specs.declared.events.Event.{Event}
 use Rattle.nt_event.specs.declared.events.Turn.TheVariants.{Switch as SwitchTurn}
 use Rattle.nt_event.specs.declared.events.What.{What}
-use Rattle.nt_event.specs.declared.events.What.TheVariants.{Begin, Call, Clean, End, Expire, Fire, Flush, Gone, Look, Normal, Rest, Rewait, Switch}
-use Rattle.nt_event.specs.declared.frames.Frame.{Frame}
+use Rattle.nt_event.specs.declared.events.What.TheVariants.{Begin, Call, Clean, End, Expire, Fire, Flush, Free, Gone, Look, Normal, Rest, Rewait, Switch}
+use Rattle.nt_event.specs.Frame.{Frame}
 use Rattle.nt_event.specs.declared.numbers.CpuNo.{CpuNo}
+use Rattle.nt_event.specs.declared.numbers.LockNo.{LockNo}
 use Rattle.nt_event.specs.declared.numbers.ThreadNo.{ThreadNo}
 use Rattle.nt_event.specs.declared.scripts.Script.{Script}
 use Rattle.nt_frame.proofs.Tasks.{normal_here, refusal_here}
-use Rattle.nt_frame.specs.EventCalls.{EventSays, IsInnermost, IsMade, IsNoWait, Replies, thread_of}
+use Rattle.nt_frame.specs.EventCalls.{EventSays, IsInnermost, IsMade, IsNoWait, IsTry, Replies, thread_of}
 use Rattle.nt_frame.specs.Nesting.{AreNested}
-use Rattle.nt_runs.proofs.Known.{Known, KnownCall, KnownEnd, KnownNormal, KnownRewait, legal_known, reply_or}
+use Rattle.nt_frame.specs.Rules.{refusal_in}
+use Rattle.nt_runs.proofs.Known.{Known, KnownCall, KnownEnd, KnownFree, KnownNormal, KnownRewait, legal_known}
 use Rattle.nt_runs.proofs.Running.{thread_named}
 use Rattle.nt_runs.proofs.Steps.{Gives, switch_gives}
-use Rattle.nt_runs.proofs.Stops.{blocked_call, is_wait, none_again, rewait_on_thread}
+use Rattle.nt_runs.proofs.Spins.{spin_acquires}
+use Rattle.nt_runs.proofs.Stops.{blocked_call, call_accepted, is_wait, none_again, rewait_on_thread}
 use Rattle.nt_runs.proofs.Turns.{is_next}
 use Rattle.std.proofs.Common.{ap, arith, refl, subst, sym, ◌∙◌}
 use Rattle.std.proofs.lemmas.Bool.{eq-eqb, ltb-true}
 use Rattle.std.specs.Option.{option_map_or}
-use Rattle.std.specs.Prelude.{Bool, List, None, Option, Some, [], false, is_none, length, not, true, ℕ, ◌&&◌, ◌<◌, ◌==◌, ◌∷◌, ◌≡◌}
+use Rattle.std.specs.Prelude.{Bool, List, None, Option, Some, [], false, is_none, length, true, ℕ, ◌&&◌, ◌<◌, ◌==◌, ◌∷◌, ◌≡◌}
 
 same_field : (w : What) (r : Option ThreadNo) → thread_field w r ≡ thread_of w r
 same_field (Switch t st) r = refl
@@ -45,27 +46,49 @@ same_field w r = refl
 innermost_named : (name : ℕ) (x : Frames) (f : Frame) → innermost x ≡ Some f → name ≡ f.name → IsInnermost name x
 innermost_named name x f h n = ap (λ (o : Option Frame). option_map_or (λ f. f.name == name) o false) h ∙ eq-eqb f.name name (sym n)
 
--- a command that is done isn't refused
-pub done_accepted : (o : Option Refusal) (y : Reply) → Done ≡ reply_or o y → o ≡ None
-done_accepted None y h = refl
-done_accepted (Some r) y h = cc
+abbrev is_try : Command → Bool
+is_try (Acquire a) = true
+is_try c = false
 
 module _ (s : Script) (p : CpuNo) (x : Own) (l : Lanes) (n : ℕ) where
-  no_wait : (c : Command) (y : Reply) → is_wait c ≡ false → KnownCall s p x l n c y → IsNoWait c y x.frames
-  no_wait c Blocked h k = let z = (blocked_call s p x l n c k).0 in cc
-  no_wait c Done h k =
-      let o = done_accepted (refusal (level_at x) (not (is_null x.frames.own)) (regions_of (thread_part x.frames)) k.frame c)
-      (reply s (stand_in p x) l c) k.reply in
-      refusal_here c k.frame x.frames k.goes_on.inner ∙ o
-  no_wait c Yes h k = tt
-  no_wait c No h k = tt
-  no_wait c (Status st) h k = tt
-  no_wait c (Refused r) h k = tt
+  -- a command whose reply is no refusal isn't refused
+  pub accepted : (c : Command) (y : Reply) (k : KnownCall s p x l n c y) → is_refused y ≡ false → refusal_in c x.frames ≡ None
+  accepted c y k h = refusal_here c k.frame x.frames k.goes_on.inner ∙ (call_accepted s p x l n c y k h).0
+
+  -- only a try of a lock spins
+  spins_no_other : (c : Command) → is_try c ≡ false → KnownCall s p x l n c Spin → ⊥
+  spins_no_other c t k =
+      let z = spin_acquires s (stand_in p x) l c (call_accepted s p x l n c Spin k refl).1 in
+      let q : is_try c ≡ true = ap is_try z.1 in
+      cc
+
+  no_wait : (c : Command) (y : Reply) → is_wait c ≡ false → is_try c ≡ false → KnownCall s p x l n c y → IsNoWait c y x.frames
+  no_wait c Blocked h t k = let z = (blocked_call s p x l n c k).0 in cc
+  no_wait c Done h t k = accepted c Done k refl
+  no_wait c Spin h t k = spins_no_other c t k
+  no_wait c Yes h t k = tt
+  no_wait c No h t k = tt
+  no_wait c (Status st) h t k = tt
+  no_wait c (Refused r) h t k = tt
+
+  not_spun : (c : Command) (y : Reply) → is_try c ≡ false → KnownCall s p x l n c y → is_spin y ≡ false
+  not_spun c Spin t k = absurd (spins_no_other c t k)
+  not_spun c y t k = refl
+
+  tries : (a : LockNo) (y : Reply) → KnownCall s p x l n (Acquire a) y → IsTry a y x.frames
+  tries a Blocked k = let z = (blocked_call s p x l n (Acquire a) k).0 in cc
+  tries a Done k = accepted (Acquire a) Done k refl
+  tries a Spin k = accepted (Acquire a) Spin k refl
+  tries a Yes k = tt
+  tries a No k = tt
+  tries a (Status st) k = tt
+  tries a (Refused r) k = tt
 
   replies : (c : Command) (y : Reply) → KnownCall s p x l n c y → Replies c y x.frames
-  replies (StartWait m a) y k = tt
-  replies (Delay m a u) y k = tt
-  replies c y k = no_wait c y refl k
+  replies (StartWait m a) y k = not_spun (StartWait m a) y refl k
+  replies (Delay m a u) y k = not_spun (Delay m a u) y refl k
+  replies (Acquire a) y k = tries a y k
+  replies c y k = no_wait c y refl refl k
 
 pub null_own : (fs : List Frame) → is_null fs ≡ true → fs ≡ []
 null_own [] h = refl
@@ -113,6 +136,9 @@ module _ (s : Script) (limit : ℕ) (e : Event) (past : List Event) (r : IsRun s
       )
   says_is (End n) k =
       let known : KnownEnd s e.cpu (own_of s e.cpu past) n = known_as (End n) k refl in
+      innermost_named n (frames_of s e.cpu past) known.frame known.goes_on.inner known.name
+  says_is (Free n a) k =
+      let known : KnownFree s e.cpu (own_of s e.cpu past) n a = known_as (Free n a) k refl in
       innermost_named n (frames_of s e.cpu past) known.frame known.goes_on.inner known.name
   says_is (Switch t st) k = switch_says t st k
   says_is (Look rises) k = tt

@@ -1,19 +1,19 @@
 -- A processor that isn't cut rests in a settled run: nothing must be done, each class is served, and it stands at PASSIVE_LEVEL with no frame.
-use Rattle.std.proofs.Common.{ap, arith, subst, sym, ◌∙◌}
+use Rattle.std.proofs.Common.{ap, arith, inl, inr, subst, sym, ◌∙◌}
 use Rattle.std.proofs.lemmas.Bool.{eqb-true, ltb-false, ltb-true}
 use Rattle.std.specs.List.{list_all, list_any}
 use Rattle.std.specs.Option.{option_map_or, option_or}
-use Rattle.std.specs.Prelude.{Bool, List, None, Option, Some, [], cond, false, find, is_some, nat_lt, not, option_map, refl, suc, true, zero, ℕ, ◌&&◌, ◌+◌, ◌-◌, ◌<◌, ◌==◌, ◌||◌, ◌∷◌, ◌≡◌, ◌≤◌}
+use Rattle.std.specs.Prelude.{Bool, List, None, Option, Some, [], cond, false, find, is_some, nat_lt, not, option_map, refl, suc, true, zero, ℕ, ◌&&◌, ◌+◌, ◌-◌, ◌<◌, ◌==◌, ◌||◌, ◌∷◌, ◌≡◌, ◌≤◌, ◌⊎◌}
 use Rattle.nt_event.specs.declared.events.Begun.TheVariants.{Int}
 use Rattle.nt_event.specs.declared.events.Event.{Event}
 use Rattle.nt_event.specs.declared.events.What.TheVariants.{Begin}
-use Rattle.nt_event.specs.declared.frames.Frame.{Frame}
+use Rattle.nt_event.specs.Frame.{Frame}
 use Rattle.nt_event.specs.declared.jobs.Job.TheVariants.{Apcs as ApcsJob, Drain as DrainJob, Threaded as ThreadedJob}
 use Rattle.nt_event.specs.declared.jobs.Task.TheVariants.{Alone, Shared}
 use Rattle.nt_event.specs.declared.numbers.CpuNo.{CpuNo}
 use Rattle.nt_event.specs.declared.scripts.Script.{Script}
 use Rattle.nt_event.specs.Frames.{frames_of, innermost, own_frames}
-use Rattle.nt_event.specs.Jobs.{fire_task, interrupt_task, is_due, level_at, may_apcs, may_drain, may_interrupt, may_threaded, must, must_task, rests}
+use Rattle.nt_event.specs.Jobs.{fire_task, interrupt_task, is_due, is_still, level_at, may_apcs, may_drain, may_interrupt, may_threaded, must, must_task, rests, spins_still, waits_for_lock}
 use Rattle.nt_event.specs.Classes.{interrupt_classes}
 use Rattle.nt_event.specs.Own.{Own, own_of, rested}
 use Rattle.nt_event.specs.Regions.{owes_sweep}
@@ -26,6 +26,7 @@ use Rattle.nt_event.proofs.Options.{both}
 use Rattle.nt_event.proofs.Tables.{get_or-table}
 use Rattle.nt_close.specs.Close.{IsClosed, IsWanted}
 use Rattle.nt_close.proofs.Rests.{IsClear, clear_inner, rested_clear}
+use Rattle.nt_event.proofs.Booleans.{and_both}
 
 -- ---- options, tests and tables
 
@@ -140,12 +141,52 @@ rest_of s limit p past r h =
         (all_from 16 (λ c. value_at (own_of s p past).seen c == asked s p c past) parts.1 c l) in
         sym v ∙ e
 
-pub closed_rests : (s : Script) (limit : ℕ) (p : CpuNo) (past : List Event) → IsClosed s limit p past → IsAtRest s p past
-closed_rests s limit p past k =
-    rest_of s limit p past k.run (first_of_or (is_cut limit (own_of s p past)) _ done k.uncut)
+-- a processor that isn't cut is still, and has seen what was asked
+pub closed_done : (s : Script) (limit : ℕ) (p : CpuNo) (past : List Event) → IsClosed s limit p past → (is_still (own_of s p past) ≡ true) ×
+    (has_seen (own_of s p past) (λ c. asked s p c past) ≡ true)
+closed_done s limit p past k =
+    both (is_still (own_of s p past)) (has_seen (own_of s p past) (λ c. asked s p c past))
+    (first_of_or (is_cut limit (own_of s p past)) _ done k.uncut)
   where
     done : is_done_with s limit p past ≡ true
     done = all_from s.cpus (λ p. is_done_with s limit (cpu p) past) k.settled p.0 (ltb-true p.0 s.cpus k.named)
+
+-- one that rests
+pub closed_rests : (s : Script) (limit : ℕ) (p : CpuNo) (past : List Event) → IsClosed s limit p past → rests (own_of s p past) ≡ true → IsAtRest s p past
+closed_rests s limit p past k h =
+    let seen = (closed_done s limit p past k).1 in
+    rest_of s limit p past k.run (and_both (rests (own_of s p past)) (has_seen (own_of s p past) (λ c. asked s p c past)) h seen)
+
+-- one that spins still
+pub record IsStuck (s : Script) (p : CpuNo) (past : List Event) : Type 0 where
+  pub idle : IsIdle (own_of s p past)
+  pub waits : waits_for_lock (own_of s p past) ≡ true
+  pub seen : (c : ℕ) → c < 16 → seen s p c past ≡ asked s p c past
+
+pub closed_stuck : (s : Script) (limit : ℕ) (p : CpuNo) (past : List Event) → IsClosed s limit p past → spins_still (own_of s p past) ≡ true →
+    IsStuck s p past
+closed_stuck s limit p past k h =
+    record { idle = idle_of (own_of s p past) (not_some (must_task (own_of s p past)) (not_true (must (own_of s p past)) z.1)); waits = z.0; seen = seen_here }
+  where
+    z : (waits_for_lock (own_of s p past) ≡ true) × (not (must (own_of s p past)) ≡ true)
+    z = both (waits_for_lock (own_of s p past)) (not (must (own_of s p past))) h
+
+    seen_here : (c : ℕ) → c < 16 → seen s p c past ≡ asked s p c past
+    seen_here c l =
+        let v : value_at (own_of s p past).seen c ≡ seen s p c past = get_or-table 16 c (λ c. seen s p c past) 0 l in
+        let e : value_at (own_of s p past).seen c ≡ asked s p c past = eqb-true (value_at (own_of s p past).seen c) (asked s p c past)
+        (all_from 16 (λ c. value_at (own_of s p past).seen c == asked s p c past) (closed_done s limit p past k).1 c l) in
+        sym v ∙ e
+
+-- it is one of the two
+pub closed_either : (s : Script) (limit : ℕ) (p : CpuNo) (past : List Event) → IsClosed s limit p past → (rests (own_of s p past) ≡ true) ⊎
+    (spins_still (own_of s p past) ≡ true)
+closed_either s limit p past k = go (rests (own_of s p past)) refl (closed_done s limit p past k).0
+  where
+    go : (b : Bool) → rests (own_of s p past) ≡ b → (b || spins_still (own_of s p past)) ≡ true → (rests (own_of s p past) ≡ true) ⊎
+        (spins_still (own_of s p past) ≡ true)
+    go true e h = inl e
+    go false e h = inr h
 
 pub rest_inner : (s : Script) (p : CpuNo) (past : List Event) → IsAtRest s p past → innermost (frames_of s p past) ≡ None
 rest_inner s p past k = clear_inner s p past k.clear

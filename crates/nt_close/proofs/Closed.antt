@@ -1,11 +1,11 @@
 -- At the close, nothing is eligible on a processor that isn't cut, and no DPC is pending there.
-use Rattle.std.proofs.Common.{ap, arith, subst, sym, ◌∙◌}
+use Rattle.std.proofs.Common.{ap, arith, inl, inr, subst, sym, ◌∙◌}
 use Rattle.std.proofs.lemmas.Bool.{lt-ltb}
 use Rattle.std.specs.List.{Contains}
 use Rattle.std.specs.Option.{option_map_or}
-use Rattle.std.specs.Prelude.{Bool, List, Option, [], false, nat_lt, not, refl, suc, true, zero, ℕ, ◌&&◌, ◌∷◌, ◌≡◌}
+use Rattle.std.specs.Prelude.{Bool, List, Option, [], false, nat_lt, not, refl, suc, true, zero, ℕ, ◌&&◌, ◌∷◌, ◌≡◌, ◌⊎◌}
 use Rattle.nt_event.specs.declared.events.Event.{Event}
-use Rattle.nt_event.specs.declared.frames.Frame.{Frame}
+use Rattle.nt_event.specs.Frame.{Frame}
 use Rattle.nt_event.specs.declared.inserts.Insert.{Insert}
 use Rattle.nt_event.specs.declared.inserts.Part.{Part}
 use Rattle.nt_event.specs.declared.inserts.Part.TheVariants.{Ordinary as OrdinaryPart, Threaded as ThreadedPart}
@@ -16,7 +16,7 @@ use Rattle.nt_event.specs.declared.scripts.Script.{Script}
 use Rattle.nt_event.specs.Eligible.{DpcRequest, ExpiryRequest, FlushRequest, IntRequest, KernelApcRequest, Request, ThreadedRequest, UserApcRequest, eligible, is_at_base, is_first_dpc}
 use Rattle.nt_event.specs.Classes.{is_interrupt_level}
 use Rattle.nt_event.specs.Frames.{frames_in, frames_of, is_base_body, is_on_thread, own_frames, thread_part}
-use Rattle.nt_event.specs.Jobs.{is_due}
+use Rattle.nt_event.specs.Jobs.{is_due, rests, spins_still}
 use Rattle.nt_event.specs.Lanes.{lanes_at, queue_at}
 use Rattle.nt_event.specs.Own.{own_of}
 use Rattle.nt_event.specs.Queues.{first_dpc, is_of_dpc, pending, same_part}
@@ -25,33 +25,36 @@ use Rattle.nt_event.specs.Lists.{is_null}
 use Rattle.nt_runs.proofs.Pending.{queue_there}
 use Rattle.nt_event.proofs.Elements.{contains_here}
 use Rattle.nt_close.specs.Close.{IsClosed}
-use Rattle.nt_close.proofs.AtRest.{IsAtRest, closed_rests, no_interrupt, no_sweep, none_wanted_0, none_wanted_2, rest_inner}
+use Rattle.nt_close.proofs.AtRest.{IsAtRest, closed_either, closed_rests, closed_stuck, no_interrupt, no_sweep, none_wanted_0, none_wanted_2, rest_inner}
 use Rattle.nt_close.proofs.PendingDpcs.{ordinary_wanted, threaded_wanted}
+use Rattle.nt_close.proofs.Spinning.{none_at_spin}
 
 -- ---- no DPC is pending
 
-pub no_dpc_is_left : (s : Script) (limit : ℕ) (p : CpuNo) (past : List Event) → IsClosed s limit p past → pending s p past ≡ []
-no_dpc_is_left s limit p past k = go (pending s p past) refl
+pub no_dpc_is_left : (s : Script) (limit : ℕ) (p : CpuNo) (past : List Event) → IsClosed s limit p past → rests (own_of s p past) ≡ true →
+    pending s p past ≡ []
+no_dpc_is_left s limit p past k q = go (pending s p past) refl
   where
     there : (x : Insert) (xs : List Insert) → pending s p past ≡ x ∷ xs → Contains (pending s p past) x
     there x xs e = subst (λ (ys : List Insert). Contains ys x) (sym e) (contains_here x xs)
 
     one : (x : Insert) → Contains (pending s p past) x → (part : Part) → x.part ≡ part → ⊥
     one x c OrdinaryPart e =
-        none_wanted_2 s p past (closed_rests s limit p past k)
-        (ordinary_wanted s limit p x past k.run k.named (closed_rests s limit p past k).rested c (ap (same_part OrdinaryPart) e))
+        none_wanted_2 s p past (closed_rests s limit p past k q)
+        (ordinary_wanted s limit p x past k.run k.named (closed_rests s limit p past k q).rested c (ap (same_part OrdinaryPart) e))
     one x c ThreadedPart e =
-        none_wanted_0 s p past (closed_rests s limit p past k) (threaded_wanted s limit p x past k.run k.named c (ap (same_part ThreadedPart) e))
+        none_wanted_0 s p past (closed_rests s limit p past k q) (threaded_wanted s limit p x past k.run k.named c (ap (same_part ThreadedPart) e))
 
     go : (xs : List Insert) → pending s p past ≡ xs → pending s p past ≡ []
     go [] e = e
     go (x ∷ xs) e = absurd (one x (there x xs e) x.part refl)
 
 none_first : (s : Script) (limit : ℕ) (p : CpuNo) (part : Part) (d : DpcNo) (past : List Event) → IsClosed s limit p past →
+    rests (own_of s p past) ≡ true →
     is_first_dpc part d (queue_at (lanes_at s past) p) ≡ false
-none_first s limit p part d past k =
+none_first s limit p part d past k q =
     ap (is_first_dpc part d) (queue_there s p past k.named)
-    ∙ ap (λ (xs : List Insert). option_map_or (is_of_dpc d) (first_dpc part xs) false) (no_dpc_is_left s limit p past k)
+    ∙ ap (λ (xs : List Insert). option_map_or (is_of_dpc d) (first_dpc part xs) false) (no_dpc_is_left s limit p past k q)
 
 -- ---- nothing is eligible
 
@@ -83,19 +86,27 @@ not_on_thread : (s : Script) (p : CpuNo) (past : List Event) → IsAtRest s p pa
 not_on_thread s p past k =
     fails_second (is_null (own_frames p past)) _ (ap (λ (fs : List Frame). not (is_null fs)) (no_part s p past k))
 
-pub nothing_is_eligible : (s : Script) (limit : ℕ) (p : CpuNo) (past : List Event) (r : Request) → IsClosed s limit p past → eligible s p r past ≡ false
-nothing_is_eligible s limit p past (IntRequest level) k =
+none_at_rest : (s : Script) (limit : ℕ) (p : CpuNo) (past : List Event) (r : Request) → IsClosed s limit p past → rests (own_of s p past) ≡ true →
+    eligible s p r past ≡ false
+none_at_rest s limit p past (IntRequest level) k q =
     tested_then (is_interrupt_level level) _ (λ i. fails_first (is_due (own_of s p past) level) _
-    (no_interrupt s p level past (closed_rests s limit p past k) i (above_0 level i)))
-nothing_is_eligible s limit p past (ExpiryRequest key) k =
-    fails_first (owes_sweep p past) _ (no_sweep s p past (closed_rests s limit p past k))
-nothing_is_eligible s limit p past (DpcRequest d) k =
-    fails_first (is_first_dpc OrdinaryPart d (queue_at (lanes_at s past) p)) _ (none_first s limit p OrdinaryPart d past k)
-nothing_is_eligible s limit p past (ThreadedRequest d) k =
-    fails_first (is_first_dpc ThreadedPart d (queue_at (lanes_at s past) p)) _ (none_first s limit p ThreadedPart d past k)
-nothing_is_eligible s limit p past (KernelApcRequest a) k =
-    fails_first (is_on_thread (frames_of s p past)) _ (not_on_thread s p past (closed_rests s limit p past k))
-nothing_is_eligible s limit p past (UserApcRequest a) k =
-    fails_second _ _ (fails_first (is_at_base (own_of s p past)) _ (not_at_base s p past (closed_rests s limit p past k)))
-nothing_is_eligible s limit p past (FlushRequest a) k =
-    fails_second _ _ (fails_second _ _ (fails_first (is_at_base (own_of s p past)) _ (not_at_base s p past (closed_rests s limit p past k))))
+    (no_interrupt s p level past (closed_rests s limit p past k q) i (above_0 level i)))
+none_at_rest s limit p past (ExpiryRequest key) k q =
+    fails_first (owes_sweep p past) _ (no_sweep s p past (closed_rests s limit p past k q))
+none_at_rest s limit p past (DpcRequest d) k q =
+    fails_first (is_first_dpc OrdinaryPart d (queue_at (lanes_at s past) p)) _ (none_first s limit p OrdinaryPart d past k q)
+none_at_rest s limit p past (ThreadedRequest d) k q =
+    fails_first (is_first_dpc ThreadedPart d (queue_at (lanes_at s past) p)) _ (none_first s limit p ThreadedPart d past k q)
+none_at_rest s limit p past (KernelApcRequest a) k q =
+    fails_first (is_on_thread (frames_of s p past)) _ (not_on_thread s p past (closed_rests s limit p past k q))
+none_at_rest s limit p past (UserApcRequest a) k q =
+    fails_second _ _ (fails_first (is_at_base (own_of s p past)) _ (not_at_base s p past (closed_rests s limit p past k q)))
+none_at_rest s limit p past (FlushRequest a) k q =
+    fails_second _ _ (fails_second _ _ (fails_first (is_at_base (own_of s p past)) _ (not_at_base s p past (closed_rests s limit p past k q))))
+
+pub nothing_is_eligible : (s : Script) (limit : ℕ) (p : CpuNo) (past : List Event) (r : Request) → IsClosed s limit p past → eligible s p r past ≡ false
+nothing_is_eligible s limit p past r k = go (closed_either s limit p past k)
+  where
+    go : (rests (own_of s p past) ≡ true) ⊎ (spins_still (own_of s p past) ≡ true) → eligible s p r past ≡ false
+    go (inl q) = none_at_rest s limit p past r k q
+    go (inr q) = none_at_spin s limit p past k.run (closed_stuck s limit p past k q) r

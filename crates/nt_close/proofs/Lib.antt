@@ -2,6 +2,8 @@ pub mod Wanted
 pub mod Rests
 pub mod PendingDpcs
 pub mod AtRest
+pub mod Spinning
+pub mod Spinners
 pub mod Closed
 pub mod Woken
 pub mod ReadyThreads

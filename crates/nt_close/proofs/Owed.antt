@@ -28,8 +28,9 @@ use Rattle.nt_runs.proofs.Known.{Known, KnownRewait, again_known, legal_known}
 use Rattle.nt_event.proofs.Options.{both}
 use Rattle.nt_runs.proofs.Turns.{is_next}
 use Rattle.nt_close.specs.Close.{IsClosed, IsOwed, IsWanted}
-use Rattle.nt_close.proofs.AtRest.{closed_rests, no_sweep, none_wanted_13}
+use Rattle.nt_close.proofs.AtRest.{IsAtRest, closed_either, closed_rests, no_sweep, none_wanted_13}
 use Rattle.nt_close.proofs.DueKeys.{IsDueAt, clock_owes, delay_blocks, due_before, expiry_owes, first_is_due, has_key, rewait_blocks, set_owes}
+use Rattle.nt_event.specs.Jobs.{rests, spins_still}
 
 -- ---- timers
 
@@ -134,22 +135,30 @@ a_due_key_is_owed s limit k past r h = due_owed s limit k.key past r (first_is_d
 -- ---- at the close
 
 pub no_due_key_is_left : (s : Script) (limit : ℕ) (past : List Event) → IsRun s limit past → is_settled s limit past ≡ true →
-    ((p : CpuNo) → nat_lt p.0 s.cpus ≡ true → is_cut limit (own_of s p past) ≡ false) → first_due (timers_at s past) ≡ None
+    ((p : CpuNo) → nat_lt p.0 s.cpus ≡ true → (is_cut limit (own_of s p past) ≡ false) × (spins_still (own_of s p past) ≡ false)) →
+    first_due (timers_at s past) ≡ None
 no_due_key_is_left s limit past r settled uncut = go (first_due (timers_at s past)) refl
   where
     closed : (p : CpuNo) → nat_lt p.0 s.cpus ≡ true → IsClosed s limit p past
-    closed p h = record { run = r; settled = settled; named = h; uncut = uncut p h }
+    closed p h = record { run = r; settled = settled; named = h; uncut = (uncut p h).0 }
 
     no : {A : Type 0} (b : Bool) → b ≡ true → b ≡ false → A
     no b x y = cc
+
+    rest : (p : CpuNo) → nat_lt p.0 s.cpus ≡ true → IsAtRest s p past
+    rest p h = go (closed_either s limit p past (closed p h))
+      where
+        go : (rests (own_of s p past) ≡ true) ⊎ (spins_still (own_of s p past) ≡ true) → IsAtRest s p past
+        go (inl q) = closed_rests s limit p past (closed p h) q
+        go (inr q) = no (spins_still (own_of s p past)) q (uncut p h).1
 
     none : IsOwed s past → ⊥
     none k = why k.why
       where
         why : IsWanted s k.cpu 13 past ⊎ (owes_sweep k.cpu past ≡ true) → ⊥
-        why (inl w) = none_wanted_13 s k.cpu past (closed_rests s limit k.cpu past (closed k.cpu k.named)) w
+        why (inl w) = none_wanted_13 s k.cpu past (rest k.cpu k.named) w
         why (inr w) =
-            no (owes_sweep k.cpu past) w (no_sweep s k.cpu past (closed_rests s limit k.cpu past (closed k.cpu k.named)))
+            no (owes_sweep k.cpu past) w (no_sweep s k.cpu past (rest k.cpu k.named))
 
     go : (o : Option SetKey) → first_due (timers_at s past) ≡ o → first_due (timers_at s past) ≡ None
     go None e = e

@@ -2,7 +2,7 @@
 use Rattle.std.proofs.Common.{ap, arith, inl, inr, subst, sym, ◌∙◌}
 use Rattle.std.proofs.lemmas.Bool.{both_ways, eq-eqb, eqb-true}
 use Rattle.std.specs.List.{Contains, list_any}
-use Rattle.std.specs.Prelude.{Bool, List, None, Option, Some, [], false, if◌then◌else◌, length, nat_lt, not, refl, true, ℕ, ◌+◌, ◌==◌, ◌∷◌, ◌≡◌, ◌⊎◌}
+use Rattle.std.specs.Prelude.{Bool, List, None, Option, Some, [], false, if◌then◌else◌, length, nat_lt, not, refl, true, ℕ, ◌&&◌, ◌+◌, ◌==◌, ◌∷◌, ◌≡◌, ◌⊎◌}
 use Rattle.nt_event.specs.declared.commands.Command.TheVariants.{Queue}
 use Rattle.nt_event.specs.declared.commands.Importance.{Importance}
 use Rattle.nt_event.specs.declared.commands.Importance.TheVariants.{High, Low, Medium, MediumHigh}
@@ -106,8 +106,12 @@ inserts_ask s p c e past d i a = go e.what refl i
     go w k i = cc
 
 -- and it serves no class
+and_none : (b : Bool) → (b && false) ≡ false
+and_none true = refl
+and_none false = refl
+
 inserts_serve : (c : ℕ) (w : What) (d : DpcNo) → inserted_dpc w ≡ Some d → serves c w ≡ false
-inserts_serve c (Call f (Queue x) Yes) d i = refl
+inserts_serve c (Call f (Queue x) Yes) d i = and_none (c == 12)
 inserts_serve c (Fire x Yes) d i = refl
 inserts_serve c w d i = cc
 

@@ -12,10 +12,10 @@ use Rattle.nt_event.specs.declared.scripts.ThreadDecl.{ThreadDecl}
 use Rattle.nt_event.specs.declared.threads.Doing.{Doing}
 use Rattle.nt_event.specs.declared.threads.Doing.TheVariants.{Blocked as IsBlocked, Gone as IsGone, Ready as IsReady, Running as IsRunning}
 use Rattle.nt_event.specs.Frames.{running, thread_frames}
-use Rattle.nt_event.specs.Jobs.{ready, ready_from}
+use Rattle.nt_event.specs.Jobs.{ready, ready_from, rests}
 use Rattle.nt_event.specs.Lanes.{Lanes, facts_at, lanes_at}
 use Rattle.nt_runs.specs.Laws.{Says}
-use Rattle.nt_event.specs.Own.{rested}
+use Rattle.nt_event.specs.Own.{own_of, rested}
 use Rattle.nt_event.specs.Regions.{stand_at}
 use Rattle.nt_event.specs.Routines.{cpu_of}
 use Rattle.nt_event.specs.Script.{has_thread}
@@ -102,12 +102,13 @@ ready_wanted s limit p t (e ∷ past) r has own h k =
 none_runs : (t : ThreadNo) → ◌≡◌ {A = Option ThreadNo} None (Some t) → ⊥
 none_runs t h = cc
 
-pub no_thread_is_left : (s : Script) (limit : ℕ) (p : CpuNo) (t : ThreadNo) (past : List Event) → IsClosed s limit p past → has_thread s t ≡ true →
+pub no_thread_is_left : (s : Script) (limit : ℕ) (p : CpuNo) (t : ThreadNo) (past : List Event) → IsClosed s limit p past →
+    rests (own_of s p past) ≡ true → has_thread s t ≡ true →
     (cpu_of s t).0 ≡ p.0 → is_stopped (facts s t past).doing ≡ true
-no_thread_is_left s limit p t past k has own = go (facts s t past).doing refl (agree s limit t past k.run)
+no_thread_is_left s limit p t past k q has own = go (facts s t past).doing refl (agree s limit t past k.run)
   where
     rest : IsAtRest s p past
-    rest = closed_rests s limit p past k
+    rest = closed_rests s limit p past k q
 
     here : cpu_of s t ≡ p
     here = ap (λ (n : ℕ). record { 0 = n }) own

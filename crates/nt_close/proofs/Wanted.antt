@@ -2,11 +2,11 @@
 use Rattle.std.proofs.Common.{ap, arith, subst, ◌∙◌}
 use Rattle.std.proofs.lemmas.Bool.{eqb-true}
 use Rattle.std.specs.List.{list_any}
-use Rattle.std.specs.Prelude.{Bool, List, false, length, refl, suc, true, zero, ℕ, ◌+◌, ◌==◌, ◌∷◌, ◌≡◌, ◌≤◌}
+use Rattle.std.specs.Prelude.{Bool, List, false, length, refl, suc, true, zero, ℕ, ◌&&◌, ◌+◌, ◌==◌, ◌∷◌, ◌≡◌, ◌≤◌}
 use Rattle.nt_event.specs.declared.events.Begun.TheVariants.{Int}
 use Rattle.nt_event.specs.declared.events.Event.{Event}
 use Rattle.nt_event.specs.declared.events.What.{What}
-use Rattle.nt_event.specs.declared.events.What.TheVariants.{Begin, Clean}
+use Rattle.nt_event.specs.declared.events.What.TheVariants.{Begin, Call, Clean}
 use Rattle.nt_event.specs.declared.numbers.CpuNo.{CpuNo}
 use Rattle.nt_event.specs.declared.scripts.Script.{Script}
 use Rattle.nt_event.specs.Classes.{interrupt_classes}
@@ -21,6 +21,7 @@ use Rattle.nt_runs.proofs.Settled.{asked_below, asked_grows, seen_below}
 use Rattle.nt_runs.proofs.Turns.{is_next}
 use Rattle.nt_runs.proofs.Rundown.{served_below}
 use Rattle.nt_close.specs.Close.{IsWanted}
+use Rattle.nt_event.specs.Replies.{is_spin}
 
 -- what is served was asked for
 pub served_asked : (s : Script) (limit : ℕ) (p : CpuNo) (c : ℕ) (past : List Event) → IsRun s limit past → served s p c past ≤ asked s p c past
@@ -77,4 +78,9 @@ serves_clean s limit p c e past l g o h = go e.what refl h
     go (Begin (Int level) from) i h =
         let k = subst (λ (w : What). is_next w ≡ true → Known s p (own_of s p past) (lanes_at s past) w) i (known_here s limit p e past o g) in
         let f = low_class c level l (k refl).class h in cc
+    go (Call f k y) i h = no_call (c == 12) refl h
+      where
+        no_call : (b : Bool) → (c == 12) ≡ b → (b && is_spin y) ≡ true → e.what ≡ Clean c
+        no_call true q z = let n : c ≡ 12 = eqb-true c 12 q in absurd (omega (arith, n, l))
+        no_call false q z = cc
     go w i h = cc

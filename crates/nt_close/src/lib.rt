@@ -1,9 +1,9 @@
 //! Laws of the close: what a settled run leaves. Each function's contract is a law; the functions do nothing.
 //!
-//! The definitions stand in nt_event. A history is settled where each processor is cut or rests and has seen what was asked.
+//! The definitions stand in nt_event. A history is settled where each processor is cut, or rests or spins still and has seen what was asked.
 #![tactic(auto)]
 
-ghost use Rattle.nt_close.specs.Close.{DueKeyIsOwed, NoDpcIsLeft, NoDueKeyIsLeft, NoThreadIsLeft, NothingIsEligible, NothingWaitsBehindABlock, OrdinaryIsWanted, ReadyIsWanted, ThreadedIsWanted};
+ghost use Rattle.nt_close.specs.Close.{DueKeyIsOwed, NoDpcIsLeft, NoDueKeyIsLeft, NoThreadIsLeft, NothingIsEligible, NothingWaitsBehindABlock, OrdinaryIsWanted, ReadyIsWanted, SpunLocksAreHeldElsewhere, ThreadedIsWanted};
 
 /// A pending threaded DPC is wanted: in every run, while one is pending in the queue of a processor of the script, class 0, that of
 /// threaded DPCs, was asked for there, and no event that served the class had noticed this yet.
@@ -34,12 +34,12 @@ pub fn nothing_is_eligible()
     ensures { NothingIsEligible }
 {}
 
-/// No DPC is left at the close: in a settled run, no DPC is pending in the queue of a processor of the script that isn't cut.
+/// No DPC is left at the close: in a settled run, no DPC is pending in the queue of a processor of the script that isn't cut and rests.
 pub fn no_dpc_is_left()
     ensures { NoDpcIsLeft }
 {}
 
-/// No thread is left at the close: in a settled run, each thread of a processor that isn't cut is blocked or gone.
+/// No thread is left at the close: in a settled run, each thread of a processor that isn't cut and rests is blocked or gone.
 pub fn no_thread_is_left()
     ensures { NoThreadIsLeft }
 {}
@@ -50,8 +50,14 @@ pub fn nothing_waits_behind_a_block()
     ensures { NothingWaitsBehindABlock }
 {}
 
-/// A due key is left only where a processor is cut: in a settled run in which no processor of the script is cut, no timer and no delay is
-/// due.
-pub fn a_due_key_is_left_only_where_a_processor_is_cut()
+/// A due key is left only where a processor is cut or spins still: in a settled run in which no processor of the script is cut or spins
+/// still, no timer and no delay is due.
+pub fn a_due_key_is_left_only_where_a_processor_is_cut_or_spins()
     ensures { NoDueKeyIsLeft }
+{}
+
+/// A spun lock is held elsewhere: in a settled run, where a frame of a processor that is not cut spins on a lock, a frame of another
+/// processor holds it, and that one is cut or spins still.
+pub fn a_spun_lock_is_held_elsewhere()
+    ensures { SpunLocksAreHeldElsewhere }
 {}

@@ -5,7 +5,8 @@ use Rattle.nt_event.specs.declared.events.Event.{Event}
 use Rattle.nt_event.specs.declared.numbers.CpuNo.{CpuNo}
 use Rattle.nt_event.specs.declared.scripts.Script.{Script}
 use Rattle.nt_event.specs.Frames.{due_of, frames_after, frames_in, frames_of, own_after, own_frames, running, running_after, thread_frames, thread_if, time, time_after}
-use Rattle.nt_event.specs.Lanes.{facts_at, lanes_after, lanes_at, queue_at}
+use Rattle.nt_event.specs.Lanes.{facts_at, lanes_after, lanes_at, lock_at, queue_at}
+use Rattle.nt_event.specs.Locks.{lock_after, lock_of, start_lock}
 use Rattle.nt_event.specs.Objects.{object_after, object_in, object_of, objects_at, start_object}
 use Rattle.nt_event.specs.Own.{fire, fire_after, is_rest, made, own_after_event, own_of, rested, took, took_after}
 use Rattle.nt_event.specs.Queues.{queue_after, queue_of, start_queue}
@@ -14,7 +15,7 @@ use Rattle.nt_event.specs.Requests.{asks, seen, seen_after, served, served_after
 use Rattle.nt_event.specs.Threads.{start_facts}
 use Rattle.nt_event.specs.Timers.{delay_after, delay_setting, setting_in, timer_after, timer_setting, timers_after, timers_at}
 use Rattle.nt_event.specs.Waits.{facts, facts_after}
-use Rattle.nt_event.specs.Numbers.{cpu, dpc, is_by, is_of, thread, timer}
+use Rattle.nt_event.specs.Numbers.{cpu, dpc, is_by, is_of, lock, thread, timer}
 use Rattle.nt_event.specs.Lists.{table, value_at}
 use Rattle.nt_event.proofs.Tables.{get_or-table, table-same}
 
@@ -50,9 +51,20 @@ timers_move s e past =
     (sym (get_or-table _ t (λ t. delay_setting s (thread t) past) None h))) in
     λ i. record { now = time_after e.what (time past); timers = t i; delays = d i }
 
+pub lock_moves : (s : Script) (e : Event) (past : List Event) → table s.locks (λ k. lock_of s (lock k) (e ∷ past))
+    ≡ table s.locks (λ k. lock_after s (lock k) e (lock_at (lanes_at s past) (lock k)))
+lock_moves s e past =
+    table-same _ _ _ (λ k h. ap (lock_after s (lock k) e) (sym (get_or-table _ k (λ k. lock_of s (lock k) past) start_lock h)))
+
 pub lanes_move : (s : Script) (e : Event) (past : List Event) → lanes_at s (e ∷ past) ≡ lanes_after s (length past) (stand_at s e.cpu past) e (lanes_at s past)
 lanes_move s e past =
-    λ i. record { objects = object_moves s e past i; queues = queue_moves s e past i; threads = thread_moves s e past i; timers = timers_move s e past i }
+    λ i. record {
+      objects = object_moves s e past i;
+      queues = queue_moves s e past i;
+      threads = thread_moves s e past i;
+      timers = timers_move s e past i;
+      locks = lock_moves s e past i;
+    }
 
 -- ---- a processor
 

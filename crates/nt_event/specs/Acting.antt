@@ -19,6 +19,7 @@ use Rattle.nt_event.specs.Calls.{stops}
 use Rattle.nt_event.specs.Commands.{needs_lane}
 use Rattle.nt_event.specs.Jobs.{may_switch, task}
 use Rattle.nt_event.specs.Lanes.{Lanes, facts_at}
+use Rattle.nt_event.specs.Locks.{Frees, Gets, LockMove, NoMove, Spins, call_move}
 use Rattle.nt_event.specs.Own.{Own}
 use Rattle.nt_event.specs.Routines.{cpu_of}
 use Rattle.nt_event.specs.Step.{thread_field}
@@ -27,16 +28,23 @@ use Rattle.nt_event.specs.Replies.{is_blocked}
 
 -- ---- the event
 
+-- the level after a call that moves a lock, else this one
+abbrev pub move_level : Stand → LockMove → ℕ → ℕ
+move_level st (Gets k) level = 2
+move_level st (Spins k) level = 2
+move_level st (Frees k) level = st.after
+move_level st NoMove level = level
+
 -- the level after an event that touches lanes, or is one of those that a job may give
 abbrev pub acted_level : Stand → Lanes → What → ℕ
-acted_level st l (what.Call f c y) = if stops c y then 0 else st.level
+acted_level st l (what.Call f c y) = move_level st (call_move c y) (if stops c y then 0 else st.level)
 acted_level st l (what.Begin (begun.Int level) from) = level
 acted_level st l (what.Begin (begun.Dpc d) from) = 2
 acted_level st l (what.Begin (begun.Threaded d) from) = 0
 acted_level st l (what.Begin (begun.Apc a) from) = 1
 acted_level st l (what.Switch t status) = doing_level (facts_at l t).doing
 acted_level st l (what.Rewait f y) = if is_blocked y then 0 else st.level
-acted_level st l (what.End f) = st.after
+acted_level st l (what.End f) = st.ended_level
 acted_level st l (what.Flush a from) = 0
 acted_level st l (what.Gone t) = 0
 acted_level st l (what.Look r) = st.level
@@ -44,6 +52,7 @@ acted_level st l (what.Normal f) = st.level
 acted_level st l (what.Expire key from) = st.level
 acted_level st l (what.Fire d y) = st.level
 acted_level st l (what.Clean class) = st.level
+acted_level st l (what.Free f k) = st.after
 acted_level st l what.Rest = st.level
 
 -- the event of a processor that stands so
@@ -103,6 +112,8 @@ IsCallable st (cmd.Alert t m) = Unit {0}
 IsCallable st (cmd.Interrupt q level) = Unit {0}
 IsCallable st (cmd.Clock units) = Unit {0}
 IsCallable st cmd.ToUser = Unit {0}
+IsCallable st (cmd.Acquire k) = Unit {0}
+IsCallable st (cmd.Unlock k) = Unit {0}
 IsCallable st (cmd.Note n) = Unit {0}
 
 abbrev pub IsAllowed : Lanes → Stand → Job → Type 0
@@ -114,6 +125,7 @@ IsAllowed l st jobs.UserEnd = IsSome st.thread
 IsAllowed l st jobs.Leave = IsSome st.thread
 IsAllowed l st jobs.Rundown = EndsThread l st
 IsAllowed l st (jobs.Fire d) = Unit {0}
+IsAllowed l st (jobs.Free k) = Unit {0}
 IsAllowed l st jobs.Drain = Unit {0}
 IsAllowed l st jobs.Threaded = Unit {0}
 IsAllowed l st jobs.Idle = Unit {0}
@@ -126,6 +138,7 @@ is_choice (jobs.Switch t) = true
 is_choice (jobs.Pick last) = true
 is_choice (jobs.Call c) = false
 is_choice (jobs.Fire d) = false
+is_choice (jobs.Free k) = false
 is_choice jobs.Drain = false
 is_choice jobs.Apcs = false
 is_choice jobs.Threaded = false

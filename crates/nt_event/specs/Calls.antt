@@ -32,6 +32,8 @@ wait_begun due (cmd.Interrupt q level) = None
 wait_begun due (cmd.Clock units) = None
 wait_begun due cmd.ToUser = None
 wait_begun due cmd.Yield = None
+wait_begun due (cmd.Acquire k) = None
+wait_begun due (cmd.Unlock k) = None
 wait_begun due (cmd.Note k) = None
 
 -- the thread that calls the command runs no more: it blocks, or gives way
@@ -60,4 +62,6 @@ stops (cmd.Interrupt q level) y = is_blocked y
 stops (cmd.Clock units) y = is_blocked y
 stops cmd.ToUser y = is_blocked y
 stops cmd.Yield y = is_blocked y
+stops (cmd.Acquire k) y = is_blocked y
+stops (cmd.Unlock k) y = is_blocked y
 stops (cmd.Note k) y = is_blocked y

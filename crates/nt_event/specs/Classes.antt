@@ -16,6 +16,10 @@ apc_class = 1
 abbrev pub dispatch_class : ℕ
 dispatch_class = 2
 
+-- the release of a spin lock, which is no interrupt (profile: the number)
+abbrev pub lock_class : ℕ
+lock_class = 12
+
 -- the clock interrupt, at CLOCK_LEVEL
 abbrev pub clock_class : ℕ
 clock_class = 13
@@ -48,6 +52,8 @@ interrupt_classes = ipi_class ∷ clock_class ∷ 11 ∷ 10 ∷ 9 ∷ 8 ∷ 7 �
 abbrev pub is_interrupt_level : ℕ → Bool
 is_interrupt_level level = list_any (λ c. c == level) interrupt_classes
 
--- a class that is used: threaded DPCs, kernel APCs, dispatch, devices, the clock and inter-processor interrupts
+-- a class that is used: threaded DPCs, kernel APCs, dispatch, devices, released locks, the clock and inter-processor
+-- interrupts
 abbrev pub is_used_class : ℕ → Bool
-is_used_class class = nat_le class 11 || ((class == clock_class) || (class == ipi_class))
+is_used_class class =
+    nat_le class 11 || ((class == lock_class) || ((class == clock_class) || (class == ipi_class)))

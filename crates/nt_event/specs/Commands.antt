@@ -1,18 +1,22 @@
 -- Commands: where each is refused, what it replies, and whether it touches a lane.
-use Rattle.std.specs.Prelude.{Bool, None, Option, Some, false, nat_le, nat_lt, not, true, ℕ, ◌&&◌, ◌+◌, ◌==◌}
+use Rattle.std.specs.List.{list_any}
+use Rattle.std.specs.Option.{option_map_or}
+use Rattle.std.specs.Prelude.{Bool, None, Option, Some, false, if◌then◌else◌, is_none, nat_le, nat_lt, not, true, ℕ, ◌&&◌, ◌+◌, ◌==◌}
 use Rattle.nt_event.specs.declared.commands.Command.{Command}
 use Rattle.nt_event.specs.declared.commands.Command.TheVariants as cmd
 use Rattle.nt_event.specs.declared.commands.Refusal.{Refusal}
-use Rattle.nt_event.specs.declared.commands.Refusal.TheVariants.{BelowBase, NotBase, NotEntered, NotGreater, NotLess, NotThread, RegionsOpen, TooHigh}
+use Rattle.nt_event.specs.declared.commands.Refusal.TheVariants.{BelowBase, HeldHere, LockHeld, NotBase, NotEntered, NotGreater, NotLast, NotLess, NotThread, RegionsOpen, TooHigh}
 use Rattle.nt_event.specs.declared.commands.Regions.{Regions}
 use Rattle.nt_event.specs.declared.commands.Reply.{Reply}
-use Rattle.nt_event.specs.declared.commands.Reply.TheVariants.{Done}
-use Rattle.nt_event.specs.declared.frames.Frame.{Frame}
+use Rattle.nt_event.specs.declared.commands.Reply.TheVariants.{Done, Spin}
+use Rattle.nt_event.specs.Frame.{Frame}
 use Rattle.nt_event.specs.declared.jobs.Stand.{Stand}
+use Rattle.nt_event.specs.declared.numbers.LockNo.{LockNo}
 use Rattle.nt_event.specs.declared.scripts.Script.{Script}
 use Rattle.nt_event.specs.Apcs.{is_inserted, takes}
 use Rattle.nt_event.specs.Frames.{base_of, is_base_body}
-use Rattle.nt_event.specs.Lanes.{Lanes, facts_at, facts_of, object_at}
+use Rattle.nt_event.specs.Lanes.{Lanes, facts_at, facts_of, lock_at, object_at}
+use Rattle.nt_event.specs.Lists.{head_of, is_null}
 use Rattle.nt_event.specs.Objects.{is_queued}
 use Rattle.nt_event.specs.Regions.{is_open}
 use Rattle.nt_event.specs.Routines.{owner_of}
@@ -30,11 +34,21 @@ refuse false r next = next
 abbrev pub not_above : ℕ → ℕ → Option Refusal → Option Refusal
 not_above n level next = refuse (nat_lt n level) TooHigh next
 
+-- the frame holds the lock
+abbrev pub holds : LockNo → Frame → Bool
+holds k f = list_any (λ h. h.lock.0 == k.0) f.held
+
+-- the lock is the one that the frame acquired last among those that it holds
+abbrev pub is_last : LockNo → Frame → Bool
+is_last k f = option_map_or (λ h. h.lock.0 == k.0) (head_of f.held) false
+
 -- the refusal of a command at this level, where the innermost frame stands on the processor's own part or not, and its
 -- thread is in these regions; the tests are made in the order of the refusals' numbers
 abbrev pub refusal : ℕ → Bool → Regions → Frame → Command → Option Refusal
 refusal level own r f (cmd.Raise l) = refuse (nat_lt l level) NotGreater None
-refusal level own r f (cmd.Lower l) = refuse (nat_lt level l) NotLess (refuse (nat_lt l (base_of f)) BelowBase None)
+refusal level own r f (cmd.Lower l) =
+    refuse (nat_lt level l) NotLess (refuse (nat_lt l (base_of f)) BelowBase
+    (refuse (not (is_null f.held) && nat_lt l 2) LockHeld None))
 refusal level own r f (cmd.Queue d) = None
 refusal level own r f (cmd.Unqueue d) = None
 refusal level own r f (cmd.SetImportance d i) = None
@@ -58,6 +72,8 @@ refusal level own r f cmd.ToUser =
     refuse own NotThread (refuse (not (is_base_body f.body)) NotBase
     (not_above 0 level (refuse (is_open r) RegionsOpen None)))
 refusal level own r f cmd.Yield = refuse own NotThread (not_above 1 level None)
+refusal level own r f (cmd.Acquire k) = not_above 2 level (refuse (holds k f) HeldHere None)
+refusal level own r f (cmd.Unlock k) = not_above 2 level (refuse (not (is_last k f)) NotLast None)
 refusal level own r f (cmd.Note n) = None
 
 -- a due time is reached
@@ -90,6 +106,8 @@ reply s st l (cmd.Interrupt q level) = Done
 reply s st l (cmd.Clock units) = Done
 reply s st l cmd.ToUser = Done
 reply s st l cmd.Yield = Done
+reply s st l (cmd.Acquire k) = if is_none (lock_at l k).holder then Done else Spin
+reply s st l (cmd.Unlock k) = Done
 reply s st l (cmd.Note n) = Done
 
 -- the command touches a lane where it isn't refused
@@ -118,3 +136,5 @@ needs_lane (cmd.TestAlert m) = true
 needs_lane (cmd.Clock units) = true
 needs_lane cmd.ToUser = true
 needs_lane cmd.Yield = true
+needs_lane (cmd.Acquire k) = true
+needs_lane (cmd.Unlock k) = true

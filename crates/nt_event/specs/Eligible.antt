@@ -14,7 +14,7 @@ use Rattle.nt_event.specs.declared.events.Begun.TheVariants as begun
 use Rattle.nt_event.specs.declared.events.Event.{Event}
 use Rattle.nt_event.specs.declared.events.What.{What}
 use Rattle.nt_event.specs.declared.events.What.TheVariants as what
-use Rattle.nt_event.specs.declared.frames.Frame.{Frame}
+use Rattle.nt_event.specs.Frame.{Frame}
 use Rattle.nt_event.specs.declared.inserts.Part.{Part}
 use Rattle.nt_event.specs.declared.inserts.Part.TheVariants.{Ordinary as OrdinaryPart, Threaded as ThreadedPart}
 use Rattle.nt_event.specs.declared.inserts.Pick.{Pick}
@@ -47,7 +47,8 @@ pub data Request : Type 0 where
 abbrev pub same_key : TimerKey → TimerKey → Bool
 same_key (keys.Timer t) (keys.Timer u) = t.0 == u.0
 same_key (keys.Delay t) (keys.Delay u) = t.0 == u.0
-same_key _ _ = false
+same_key (keys.Timer t) (keys.Delay u) = false
+same_key (keys.Delay t) (keys.Timer u) = false
 
 -- the DPC object is the first of p in its part
 abbrev pub is_first_dpc : Part → DpcNo → QueueState → Bool
@@ -118,4 +119,5 @@ request_of s (what.Clean class) = None
 request_of s (what.Switch t status) = None
 request_of s (what.Rewait f y) = None
 request_of s (what.Gone t) = None
+request_of s (what.Free f k) = None
 request_of s what.Rest = None

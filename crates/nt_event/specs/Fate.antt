@@ -42,6 +42,8 @@ inserted_thing (what.Call f (cmd.Interrupt q level) y) = None
 inserted_thing (what.Call f (cmd.Clock units) y) = None
 inserted_thing (what.Call f cmd.ToUser y) = None
 inserted_thing (what.Call f cmd.Yield y) = None
+inserted_thing (what.Call f (cmd.Acquire k) y) = None
+inserted_thing (what.Call f (cmd.Unlock k) y) = None
 inserted_thing (what.Call f (cmd.Note n) y) = None
 inserted_thing (what.Look r) = None
 inserted_thing (what.Begin b from) = None
@@ -54,6 +56,7 @@ inserted_thing (what.Switch t status) = None
 inserted_thing (what.Rewait f y) = None
 inserted_thing (what.Flush a from) = None
 inserted_thing (what.Gone t) = None
+inserted_thing (what.Free f k) = None
 inserted_thing what.Rest = None
 
 -- the event uses up the insert of this number: a Begin or Flush of the same object that names it, or a removal of the
@@ -88,6 +91,8 @@ uses_up (DpcThing d) n (what.Call f (cmd.Interrupt q level) y) = false
 uses_up (DpcThing d) n (what.Call f (cmd.Clock units) y) = false
 uses_up (DpcThing d) n (what.Call f cmd.ToUser y) = false
 uses_up (DpcThing d) n (what.Call f cmd.Yield y) = false
+uses_up (DpcThing d) n (what.Call f (cmd.Acquire k) y) = false
+uses_up (DpcThing d) n (what.Call f (cmd.Unlock k) y) = false
 uses_up (DpcThing d) n (what.Call f (cmd.Note k) y) = false
 uses_up (DpcThing d) n (what.Look r) = false
 uses_up (DpcThing d) n (what.Begin (begun.Int level) from) = false
@@ -101,6 +106,7 @@ uses_up (DpcThing d) n (what.Switch t status) = false
 uses_up (DpcThing d) n (what.Rewait f y) = false
 uses_up (DpcThing d) n (what.Flush a from) = false
 uses_up (DpcThing d) n (what.Gone t) = false
+uses_up (DpcThing d) n (what.Free f k) = false
 uses_up (DpcThing d) n what.Rest = false
 uses_up (ApcThing a) n (what.Call f (cmd.Raise level) y) = false
 uses_up (ApcThing a) n (what.Call f (cmd.Lower level) y) = false
@@ -125,6 +131,8 @@ uses_up (ApcThing a) n (what.Call f (cmd.Interrupt q level) y) = false
 uses_up (ApcThing a) n (what.Call f (cmd.Clock units) y) = false
 uses_up (ApcThing a) n (what.Call f cmd.ToUser y) = false
 uses_up (ApcThing a) n (what.Call f cmd.Yield y) = false
+uses_up (ApcThing a) n (what.Call f (cmd.Acquire k) y) = false
+uses_up (ApcThing a) n (what.Call f (cmd.Unlock k) y) = false
 uses_up (ApcThing a) n (what.Call f (cmd.Note k) y) = false
 uses_up (ApcThing a) n (what.Look r) = false
 uses_up (ApcThing a) n (what.Begin (begun.Int level) from) = false
@@ -138,6 +146,7 @@ uses_up (ApcThing a) n (what.Clean class) = false
 uses_up (ApcThing a) n (what.Switch t status) = false
 uses_up (ApcThing a) n (what.Rewait f y) = false
 uses_up (ApcThing a) n (what.Gone t) = false
+uses_up (ApcThing a) n (what.Free f k) = false
 uses_up (ApcThing a) n what.Rest = false
 
 -- with the number of the event that used it up
@@ -160,6 +169,7 @@ fate_by (what.Clean class) n = RemovedBy n
 fate_by (what.Switch t status) n = RemovedBy n
 fate_by (what.Rewait f y) n = RemovedBy n
 fate_by (what.Gone t) n = RemovedBy n
+fate_by (what.Free f k) n = RemovedBy n
 fate_by what.Rest n = RemovedBy n
 
 -- the earlier fate, where there is one

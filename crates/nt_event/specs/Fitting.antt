@@ -9,7 +9,7 @@ use Rattle.nt_event.specs.declared.events.Event.{Event}
 use Rattle.nt_event.specs.declared.events.What.{What}
 use Rattle.nt_event.specs.declared.events.What.TheVariants as what
 use Rattle.nt_event.specs.declared.scripts.Script.{Script}
-use Rattle.nt_event.specs.Script.{command_fits, has_apc, has_cpu, has_dpc, has_thread, has_timer, where_given}
+use Rattle.nt_event.specs.Script.{command_fits, has_apc, has_cpu, has_dpc, has_lock, has_thread, has_timer, where_given}
 
 abbrev pub begun_fits : Script → Begun → Bool
 begun_fits s (begun.Int level) = true
@@ -34,6 +34,7 @@ what_fits s (what.Switch t status) = has_thread s t
 what_fits s (what.Rewait frame reply) = true
 what_fits s (what.Flush a from) = has_apc s a
 what_fits s (what.Gone t) = has_thread s t
+what_fits s (what.Free f k) = has_lock s k
 what_fits s what.Rest = true
 
 abbrev pub event_fits : Script → Event → Bool

@@ -6,7 +6,7 @@ use Rattle.nt_event.specs.declared.commands.ApcKind.TheVariants.{Normal as Norma
 use Rattle.nt_event.specs.declared.commands.Command.{Command}
 use Rattle.nt_event.specs.declared.commands.Command.TheVariants as cmd
 use Rattle.nt_event.specs.declared.commands.Reply.{Reply}
-use Rattle.nt_event.specs.declared.commands.Reply.TheVariants.{Blocked, Done, No, Refused, Status, Yes}
+use Rattle.nt_event.specs.declared.commands.Reply.TheVariants.{Blocked, Done, No, Refused, Spin, Status, Yes}
 use Rattle.nt_event.specs.declared.events.Begun.{Begun}
 use Rattle.nt_event.specs.declared.events.Begun.TheVariants as begun
 use Rattle.nt_event.specs.declared.events.Event.{Event}
@@ -15,7 +15,8 @@ use Rattle.nt_event.specs.declared.events.What.TheVariants as what
 use Rattle.nt_event.specs.declared.frames.Again.{Again}
 use Rattle.nt_event.specs.declared.frames.Body.{Body}
 use Rattle.nt_event.specs.declared.frames.Body.TheVariants as on
-use Rattle.nt_event.specs.declared.frames.Frame.{Frame}
+use Rattle.nt_event.specs.Frame.{Frame}
+use Rattle.nt_event.specs.declared.frames.Held.{Held}
 use Rattle.nt_event.specs.declared.numbers.ApcNo.{ApcNo}
 use Rattle.nt_event.specs.declared.numbers.CpuNo.{CpuNo}
 use Rattle.nt_event.specs.declared.numbers.RoutineNo.{RoutineNo}
@@ -23,8 +24,9 @@ use Rattle.nt_event.specs.declared.numbers.ThreadNo.{ThreadNo}
 use Rattle.nt_event.specs.declared.scripts.Script.{Script}
 use Rattle.nt_event.specs.Calls.{stops, wait_begun}
 use Rattle.nt_event.specs.Routines.{kind_of, rundown_of}
-use Rattle.nt_event.specs.Lists.{head_of, is_null, table}
-use Rattle.nt_event.specs.Replies.{is_blocked, is_done, kernel_apc}
+use Rattle.nt_event.specs.Locks.{Frees, Gets, LockMove, NoMove, Spins, call_move}
+use Rattle.nt_event.specs.Lists.{head_of, is_null, table, tail_of}
+use Rattle.nt_event.specs.Replies.{is_blocked, is_done, is_spin, kernel_apc}
 use Rattle.nt_event.specs.Numbers.{is_by, is_of, thread}
 
 -- a new interrupt runs at its own level, a DPC at DISPATCH_LEVEL, an APC's kernel routine at APC_LEVEL, the others at
@@ -89,6 +91,8 @@ new_frame n b =
       kernel_phase = is_apc_body b;
       leaving = false;
       again = None;
+      spin = None;
+      held = [];
     }
 
 -- ---- a call
@@ -101,6 +105,43 @@ again_after Done w old = old
 again_after Yes w old = old
 again_after No w old = old
 again_after (Refused r) w old = old
+again_after Spin w old = old
+
+-- ---- locks
+
+-- the level that is kept with a lock: that of just before the first try
+abbrev pub kept_in : Frame → ℕ
+kept_in f = option_map_or (λ h. h.kept) f.spin f.level
+
+-- the level once the lock that it acquired last is free, or its level where it holds none
+abbrev pub freed_level : Frame → ℕ
+freed_level f = option_map_or (λ h. h.kept) (head_of f.held) f.level
+
+-- what a move of a lock by the frame leaves of its level: DISPATCH_LEVEL where it gets the lock or spins (driver
+-- documentation, "KeAcquireSpinLock"), the kept one where it frees it, else this one
+abbrev pub level_moved : LockMove → Frame → ℕ → ℕ
+level_moved (Gets k) f level = 2
+level_moved (Spins k) f level = 2
+level_moved (Frees k) f level = freed_level f
+level_moved NoMove f level = level
+
+-- of the lock on which it spins
+abbrev pub spin_moved : LockMove → Frame → Option Held
+spin_moved (Spins k) f = Some (record { lock = k; kept = kept_in f })
+spin_moved (Gets k) f = None
+spin_moved (Frees k) f = None
+spin_moved NoMove f = None
+
+-- and of the locks that it holds, of which it frees the one that it acquired last
+abbrev pub held_moved : LockMove → Frame → List Held
+held_moved (Gets k) f = record { lock = k; kept = kept_in f } ∷ f.held
+held_moved (Frees k) f = tail_of f.held
+held_moved (Spins k) f = f.held
+held_moved NoMove f = f.held
+
+-- the lock that the frame acquired last is free
+abbrev pub freed : Frame → Frame
+freed f = record f { level = freed_level f; held = tail_of f.held }
 
 -- what an accepted command without a reply does to its frame
 abbrev pub done_to : Command → Frame → Frame
@@ -127,10 +168,12 @@ done_to (cmd.Interrupt q level) f = f
 done_to (cmd.Clock units) f = f
 done_to cmd.ToUser f = f
 done_to cmd.Yield f = f
+done_to (cmd.Acquire k) f = f
+done_to (cmd.Unlock k) f = f
 done_to (cmd.Note n) f = f
 
--- what a call does to its frame, beside its place: one that begins a wait may leave it to be taken up again, another one
--- has its effect where it is done
+-- what a call does to its frame, beside its place and its locks: one that begins a wait may leave it to be taken up
+-- again, another one has its effect where it is done
 abbrev pub effect_by : Option Again → Command → Reply → Frame → Frame
 effect_by (Some w) c y f = record f { again = again_after y (Some w) f.again }
 effect_by None c y f = if is_done y then done_to c f else f
@@ -139,8 +182,18 @@ effect_by None c y f = if is_done y then done_to c f else f
 abbrev pub effect : Option ℕ → Command → Reply → Frame → Frame
 effect due c y f = effect_by (wait_begun due c) c y f
 
+-- a command that spins is tried again
+abbrev pub place_after : Reply → ℕ → ℕ
+place_after y n = if is_spin y then n else n + 1
+
 abbrev pub called : Option ℕ → Command → Reply → Frame → Frame
-called due c y f = record (effect due c y f) { place = f.place + 1 }
+called due c y f =
+    record (effect due c y f) {
+      place = place_after y f.place;
+      level = level_moved (call_move c y) f (effect due c y f).level;
+      spin = spin_moved (call_move c y) f;
+      held = held_moved (call_move c y) f;
+    }
 
 -- what taking up a wait again does to its frame
 abbrev pub rewaited : Reply → Frame → Frame
@@ -149,11 +202,11 @@ rewaited y f = record f { again = again_after y f.again f.again }
 -- an APC goes on to its normal routine: the phase begins anew at PASSIVE_LEVEL, and its regions are given up (profile)
 abbrev pub normal_of : Frame → Frame
 normal_of f =
-    record f { level = 0; place = 0; crit = 0; guard = 0; kernel_phase = false; again = None }
+    record f { level = 0; place = 0; crit = 0; guard = 0; kernel_phase = false; again = None; spin = None }
 
 -- a base frame stays until its thread is gone, at PASSIVE_LEVEL and with its regions given up (profile)
 abbrev pub ended_base : Frame → Frame
-ended_base f = record f { level = 0; place = 0; crit = 0; guard = 0; again = None; leaving = true }
+ended_base f = record f { level = 0; place = 0; crit = 0; guard = 0; again = None; leaving = true; spin = None }
 
 -- the status of the wait that ended comes with the Switch; only an interrupted one is to be taken up again
 abbrev pub resumed : Option ℕ → Frame → Frame
@@ -209,6 +262,7 @@ own_after n due (what.Switch t status) fs = fs
 own_after n due (what.Rewait f y) fs = fs
 own_after n due (what.Flush a from) fs = fs
 own_after n due (what.Gone t) fs = fs
+own_after n due (what.Free f k) fs = at_name f freed fs
 own_after n due what.Rest fs = fs
 
 -- the first Switch to a thread begins its base frame
@@ -238,6 +292,7 @@ thread_after s n due (what.Begin (begun.Threaded d) from) fs = fs
 thread_after s n due (what.Expire key from) fs = fs
 thread_after s n due (what.Fire d y) fs = fs
 thread_after s n due (what.Clean class) fs = fs
+thread_after s n due (what.Free f k) fs = at_name f freed fs
 thread_after s n due what.Rest fs = fs
 
 -- of a thread that the event names, or of another one
@@ -259,6 +314,7 @@ running_after (what.Expire key from) r = r
 running_after (what.Fire d y) r = r
 running_after (what.Clean class) r = r
 running_after (what.Flush a from) r = r
+running_after (what.Free f k) r = r
 running_after what.Rest r = r
 
 -- ---- the history's questions
@@ -289,6 +345,8 @@ time_after (what.Call f (cmd.Interrupt q level) y) now = now
 time_after (what.Call f (cmd.Clock units) y) now = now
 time_after (what.Call f cmd.ToUser y) now = now
 time_after (what.Call f cmd.Yield y) now = now
+time_after (what.Call f (cmd.Acquire k) y) now = now
+time_after (what.Call f (cmd.Unlock k) y) now = now
 time_after (what.Call f (cmd.Note n) y) now = now
 time_after (what.Look r) now = now
 time_after (what.Begin b from) now = now
@@ -301,6 +359,7 @@ time_after (what.Switch t status) now = now
 time_after (what.Rewait f y) now = now
 time_after (what.Flush a from) now = now
 time_after (what.Gone t) now = now
+time_after (what.Free f k) now = now
 time_after what.Rest now = now
 
 abbrev pub time : List Event → ℕ
@@ -332,6 +391,8 @@ due_of (what.Call f (cmd.Interrupt q level) y) now = None
 due_of (what.Call f (cmd.Clock units) y) now = None
 due_of (what.Call f cmd.ToUser y) now = None
 due_of (what.Call f cmd.Yield y) now = None
+due_of (what.Call f (cmd.Acquire k) y) now = None
+due_of (what.Call f (cmd.Unlock k) y) now = None
 due_of (what.Call f (cmd.Note n) y) now = None
 due_of (what.Look r) now = None
 due_of (what.Begin b from) now = None
@@ -344,6 +405,7 @@ due_of (what.Switch t status) now = None
 due_of (what.Rewait f y) now = None
 due_of (what.Flush a from) now = None
 due_of (what.Gone t) now = None
+due_of (what.Free f k) now = None
 due_of what.Rest now = None
 
 -- the frames on the own part of the processor, the innermost first

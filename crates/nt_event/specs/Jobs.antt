@@ -1,6 +1,6 @@
 -- The next event of a processor: what it has to do by what it keeps alone, and what a job gives by the states of the
 -- lanes.
-use Rattle.std.specs.Option.{option_or}
+use Rattle.std.specs.Option.{option_map_or, option_or}
 use Rattle.std.specs.Prelude.{Bool, List, None, Option, Some, [], false, find, if◌then◌else◌, is_none, is_some, nat_lt, not, option_and_then, option_map, suc, true, unwrap_or, ℕ, ◌&&◌, ◌-◌, ◌==◌, ◌||◌, ◌∷◌}
 use Rattle.nt_event.specs.declared.commands.ApcKind.TheVariants.{Special as SpecialApc, User as UserApc}
 use Rattle.nt_event.specs.declared.commands.Command.{Command}
@@ -14,7 +14,7 @@ use Rattle.nt_event.specs.declared.events.What.TheVariants as what
 use Rattle.nt_event.specs.declared.frames.Again.{Again}
 use Rattle.nt_event.specs.declared.frames.Body.{Body}
 use Rattle.nt_event.specs.declared.frames.Body.TheVariants as on
-use Rattle.nt_event.specs.declared.frames.Frame.{Frame}
+use Rattle.nt_event.specs.Frame.{Frame}
 use Rattle.nt_event.specs.declared.inserts.Insert.{Insert}
 use Rattle.nt_event.specs.declared.inserts.Part.{Part}
 use Rattle.nt_event.specs.declared.inserts.Part.TheVariants.{Ordinary as OrdinaryPart, Threaded as ThreadedPart}
@@ -42,7 +42,7 @@ use Rattle.nt_event.specs.Timers.{SetKey, first_due}
 use Rattle.nt_event.specs.Waits.{wait_reply}
 use Rattle.nt_event.specs.Lists.{head_of, is_null, value_at, when}
 use Rattle.nt_event.specs.Numbers.{thread}
-use Rattle.nt_event.specs.Classes.{apc_class, dispatch_class, interrupt_classes, threaded_class}
+use Rattle.nt_event.specs.Classes.{apc_class, dispatch_class, interrupt_classes, lock_class, threaded_class}
 
 -- ---- where the processor stands
 
@@ -92,6 +92,10 @@ must_task x =
 abbrev pub must : Own → Bool
 must x = is_some (must_task x)
 
+-- 5a: the innermost frame spins, and no release was noticed since its last try
+abbrev pub waits_for_lock : Own → Bool
+waits_for_lock x = option_map_or (λ f. is_some f.spin) (innermost x.frames) false && not (is_due x lock_class)
+
 -- 6: a wait is taken up again
 abbrev pub rewait_task : Frame → Option Task
 rewait_task f = when (is_some f.again) (Some (Shared jobs.Rewait))
@@ -110,6 +114,10 @@ abbrev pub command_task : Own → Frame → Option Command → Option Task
 command_task x f None = None
 command_task x f (Some c) =
     Some (call_task f c (refusal (level_at x) (not (is_null x.frames.own)) (regions_of (thread_part x.frames)) f c))
+
+-- 8a: the frame has no more commands and holds a lock: the one that it acquired last is freed (profile)
+abbrev pub free_task : Frame → Option Task
+free_task f = option_map (λ h. Shared (jobs.Free h.lock)) (head_of f.held)
 
 -- 9: an APC with a normal routine goes on to it
 abbrev pub has_normal : Body → Bool
@@ -138,16 +146,20 @@ end_task n (on.Rundown a) = Alone (what.End n)
 abbrev pub frame_task : Script → CpuNo → Own → Frame → Option Task
 frame_task s p x f =
     option_or (rewait_task f) (option_or (rundown_task f)
-    (option_or (command_task x f (next_command s p f)) (option_or (normal_task f) (Some (end_task f.name f.body)))))
+    (option_or (command_task x f (next_command s p f))
+    (option_or (free_task f) (option_or (normal_task f) (Some (end_task f.name f.body))))))
 
 -- 11: at rest with no running thread there is nothing to do; 12 to 14: else ordinary DPCs, a needed Switch, or Rest
 abbrev pub idle_task : Own → Option Task
 idle_task x = when (not (x.rested && is_none x.frames.running)) (Some (Shared jobs.Idle))
 
+-- cases 6 to 14
+abbrev pub go_on_task : Script → CpuNo → Own → Option Task
+go_on_task s p x = option_or (option_and_then (frame_task s p x) (innermost x.frames)) (idle_task x)
+
 -- what the processor has to do next, or none where there is nothing
 abbrev pub task : Script → CpuNo → Own → Option Task
-task s p x =
-    option_or (must_task x) (option_or (option_and_then (frame_task s p x) (innermost x.frames)) (idle_task x))
+task s p x = option_or (must_task x) (when (not (waits_for_lock x)) (go_on_task s p x))
 
 -- ---- what a job gives
 
@@ -229,6 +241,7 @@ rundown_event l t = unwrap_or (option_map (λ x. what.Flush x.apc x.number) (fir
 abbrev pub job_event : Script → Stand → Lanes → Job → Option What
 job_event s st l (jobs.Call c) = Some (what.Call st.frame c (reply s st l c))
 job_event s st l (jobs.Fire d) = Some (what.Fire d (reply s st l (cmd.Queue d)))
+job_event s st l (jobs.Free k) = Some (what.Free st.frame k)
 job_event s st l jobs.Drain = Some (drain_event st l)
 job_event s st l jobs.Apcs = Some (apcs_event st l)
 job_event s st l jobs.Threaded = Some (threaded_event st l)
@@ -260,10 +273,18 @@ may_switch x = is_none x.frames.running && (is_null x.frames.own && not (must x)
 abbrev pub rests : Own → Bool
 rests x = x.rested && not (must x)
 
+-- a processor spins still where it waits for a lock and nothing must be done
+abbrev pub spins_still : Own → Bool
+spins_still x = waits_for_lock x && not (must x)
+
+-- it has nothing to do: it rests, or spins still
+abbrev pub is_still : Own → Bool
+is_still x = rests x || spins_still x
+
 -- what a processor that chooses its threads itself has to do next: where a Switch may be made, it picks a ready thread
 abbrev pub chosen_task : Script → CpuNo → Own → Option Task
 chosen_task s p x =
-    if rests x then None else (if may_switch x then Some (Shared (jobs.Pick x.took)) else task s p x)
+    if is_still x then None else (if may_switch x then Some (Shared (jobs.Pick x.took)) else task s p x)
 
 -- the event that it makes so
 abbrev pub chosen_what : Script → CpuNo → Own → Lanes → Option What

@@ -3,12 +3,13 @@ use Rattle.std.specs.Prelude.{Bool, List, [], false, get_or, if◌then◌else◌
 use Rattle.nt_event.specs.declared.events.Event.{Event}
 use Rattle.nt_event.specs.declared.events.What.{What}
 use Rattle.nt_event.specs.declared.jobs.Lane.{Lane}
-use Rattle.nt_event.specs.declared.jobs.Lane.TheVariants.{Object as ObjectLane, Queue as QueueLane, Threads as ThreadsLane, Timers as TimersLane}
+use Rattle.nt_event.specs.declared.jobs.Lane.TheVariants.{Lock as LockLane, Object as ObjectLane, Queue as QueueLane, Threads as ThreadsLane, Timers as TimersLane}
 use Rattle.nt_event.specs.declared.jobs.Stand.{Stand}
 use Rattle.nt_event.specs.declared.numbers.CpuNo.{CpuNo}
 use Rattle.nt_event.specs.declared.scripts.Script.{Script}
 use Rattle.nt_event.specs.declared.scripts.ThreadDecl.{ThreadDecl}
-use Rattle.nt_event.specs.Lanes.{Lanes, facts_at, lanes_at, object_at, queue_at, touches}
+use Rattle.nt_event.specs.Lanes.{Lanes, facts_at, lanes_at, lock_at, object_at, queue_at, touches}
+use Rattle.nt_event.specs.Locks.{LockState}
 use Rattle.nt_event.specs.Objects.{ObjectState}
 use Rattle.nt_event.specs.Queues.{QueueState}
 use Rattle.nt_event.specs.Requests.{asks_in, raised, told_by}
@@ -28,6 +29,7 @@ pub data Content : Type 0 where
   OfQueue : QueueState → Content
   OfThreads : List ThreadFacts → Content
   OfTimers : Timers → Content
+  OfLock : LockState → Content
 
 -- what stands in a lane
 abbrev pub content : Script → Lanes → Lane → Content
@@ -35,6 +37,7 @@ content s l (ObjectLane d) = OfObject (object_at l d)
 content s l (QueueLane p) = OfQueue (queue_at l p)
 content s l (ThreadsLane p) = OfThreads (threads_from p 0 s.threads l)
 content s l TimersLane = OfTimers l.timers
+content s l (LockLane k) = OfLock (lock_at l k)
 
 -- the greatest value asked for each processor and class by the events that touch the lane
 abbrev pub told_table : Script → Lane → List Event → List (List ℕ)

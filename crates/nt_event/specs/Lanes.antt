@@ -1,4 +1,4 @@
--- The states of all lanes: DPC objects, queues, threads and timers.
+-- The states of all lanes: DPC objects, queues, threads, timers and spin locks.
 use Rattle.std.specs.List.{list_any}
 use Rattle.std.specs.Option.{option_map_or}
 use Rattle.std.specs.Prelude.{Bool, List, None, Option, Some, [], false, get_or, if◌then◌else◌, is_some, length, option_and_then, true, ℕ, ◌&&◌, ◌+◌, ◌==◌, ◌∷◌}
@@ -17,13 +17,15 @@ use Rattle.nt_event.specs.declared.frames.Body.{Body}
 use Rattle.nt_event.specs.declared.frames.Body.TheVariants as on
 use Rattle.nt_event.specs.declared.inserts.Standing.{Standing}
 use Rattle.nt_event.specs.declared.jobs.Lane.{Lane}
-use Rattle.nt_event.specs.declared.jobs.Lane.TheVariants.{Object as ObjectLane, Queue as QueueLane, Threads as ThreadsLane, Timers as TimersLane}
+use Rattle.nt_event.specs.declared.jobs.Lane.TheVariants.{Lock as LockLane, Object as ObjectLane, Queue as QueueLane, Threads as ThreadsLane, Timers as TimersLane}
 use Rattle.nt_event.specs.declared.jobs.Stand.{Stand}
 use Rattle.nt_event.specs.declared.numbers.CpuNo.{CpuNo}
 use Rattle.nt_event.specs.declared.numbers.DpcNo.{DpcNo}
+use Rattle.nt_event.specs.declared.numbers.LockNo.{LockNo}
 use Rattle.nt_event.specs.declared.numbers.ThreadNo.{ThreadNo}
 use Rattle.nt_event.specs.declared.scripts.Script.{Script}
 use Rattle.nt_event.specs.Classes.{apc_class, dispatch_class}
+use Rattle.nt_event.specs.Locks.{LockState, lock_after, lock_of, start_lock}
 use Rattle.nt_event.specs.Objects.{ObjectState, object_after, object_in, objects_at, queue_for}
 use Rattle.nt_event.specs.Queues.{QueueState, queue_after, queue_of, start_queue}
 use Rattle.nt_event.specs.Regions.{stand_at}
@@ -31,7 +33,7 @@ use Rattle.nt_event.specs.Routines.{cpu_of, owner_of}
 use Rattle.nt_event.specs.Threads.{ThreadFacts, start_facts}
 use Rattle.nt_event.specs.Timers.{Timers, timers_after, timers_at}
 use Rattle.nt_event.specs.Waits.{facts, facts_after}
-use Rattle.nt_event.specs.Numbers.{cpu, dpc, thread}
+use Rattle.nt_event.specs.Numbers.{cpu, dpc, lock, thread}
 use Rattle.nt_event.specs.Replies.{is_refused, is_yes}
 use Rattle.nt_event.specs.Lists.{table}
 
@@ -40,6 +42,7 @@ pub record Lanes : Type 0 where
   pub queues : List QueueState
   pub threads : List ThreadFacts
   pub timers : Timers
+  pub locks : List LockState
 
 abbrev pub lanes_at : Script → List Event → Lanes
 lanes_at s past =
@@ -48,6 +51,7 @@ lanes_at s past =
       queues = table s.cpus (λ p. queue_of s (cpu p) past);
       threads = table (length s.threads) (λ t. facts s (thread t) past);
       timers = timers_at s past;
+      locks = table s.locks (λ k. lock_of s (lock k) past);
     }
 
 abbrev pub object_at : Lanes → DpcNo → ObjectState
@@ -58,6 +62,9 @@ queue_at l p = get_or l.queues p.0 start_queue
 
 abbrev pub facts_at : Lanes → ThreadNo → ThreadFacts
 facts_at l t = get_or l.threads t.0 start_facts
+
+abbrev pub lock_at : Lanes → LockNo → LockState
+lock_at l k = get_or l.locks k.0 start_lock
 
 -- the facts of a thread that may be none
 abbrev pub facts_of : Lanes → Option ThreadNo → ThreadFacts
@@ -71,6 +78,7 @@ lanes_after s n st e l =
       queues = table s.cpus (λ p. queue_after s (cpu p) n e.cpu e.what l.objects (queue_at l (cpu p)));
       threads = table (length s.threads) (λ t. facts_after s (thread t) n st e (facts_at l (thread t)));
       timers = timers_after s n st e l.timers;
+      locks = table s.locks (λ k. lock_after s (lock k) e (lock_at l (lock k)));
     }
 
 -- ---- lanes that an event touches
@@ -80,17 +88,38 @@ same_lane (ObjectLane d) (ObjectLane x) = x.0 == d.0
 same_lane (QueueLane p) (QueueLane x) = x.0 == p.0
 same_lane (ThreadsLane p) (ThreadsLane x) = x.0 == p.0
 same_lane TimersLane TimersLane = true
-same_lane _ _ = false
+same_lane (LockLane k) (LockLane x) = x.0 == k.0
+same_lane (ObjectLane d) (QueueLane x) = false
+same_lane (ObjectLane d) (ThreadsLane x) = false
+same_lane (ObjectLane d) TimersLane = false
+same_lane (ObjectLane d) (LockLane x) = false
+same_lane (QueueLane p) (ObjectLane x) = false
+same_lane (QueueLane p) (ThreadsLane x) = false
+same_lane (QueueLane p) TimersLane = false
+same_lane (QueueLane p) (LockLane x) = false
+same_lane (ThreadsLane p) (ObjectLane x) = false
+same_lane (ThreadsLane p) (QueueLane x) = false
+same_lane (ThreadsLane p) TimersLane = false
+same_lane (ThreadsLane p) (LockLane x) = false
+same_lane TimersLane (ObjectLane x) = false
+same_lane TimersLane (QueueLane x) = false
+same_lane TimersLane (ThreadsLane x) = false
+same_lane TimersLane (LockLane x) = false
+same_lane (LockLane k) (ObjectLane x) = false
+same_lane (LockLane k) (QueueLane x) = false
+same_lane (LockLane k) (ThreadsLane x) = false
+same_lane (LockLane k) TimersLane = false
 
--- lanes are numbered from 0 in the order in which they are taken: objects, queues, threads, timers
+-- lanes are numbered from 0 in the order in which they are taken: objects, queues, threads, timers, spin locks
 abbrev pub lane_number : Script → Lane → ℕ
 lane_number s (ObjectLane d) = d.0
 lane_number s (QueueLane p) = length s.dpcs + p.0
 lane_number s (ThreadsLane p) = length s.dpcs + (s.cpus + p.0)
 lane_number s TimersLane = length s.dpcs + (s.cpus + s.cpus)
+lane_number s (LockLane k) = length s.dpcs + (s.cpus + (s.cpus + (1 + k.0)))
 
 abbrev pub lane_count : Script → ℕ
-lane_count s = length s.dpcs + (s.cpus + (s.cpus + 1))
+lane_count s = length s.dpcs + (s.cpus + (s.cpus + (1 + s.locks)))
 
 abbrev pub lane_if : Bool → Lane → List Lane
 lane_if true x = x ∷ []
@@ -130,6 +159,8 @@ command_lanes s p cmd.EnterGuard y l = []
 command_lanes s p cmd.LeaveCrit y l = []
 command_lanes s p cmd.LeaveGuard y l = []
 command_lanes s p (cmd.Interrupt q level) y l = []
+command_lanes s p (cmd.Acquire k) y l = LockLane k ∷ []
+command_lanes s p (cmd.Unlock k) y l = LockLane k ∷ []
 command_lanes s p (cmd.Note n) y l = []
 
 abbrev pub begin_lanes : Stand → Begun → List Lane
@@ -168,6 +199,7 @@ what_lanes s st (what.Fire d y) l = insert_lanes st.cpu d y l
 what_lanes s st (what.Switch t status) l = QueueLane st.cpu ∷ ThreadsLane st.cpu ∷ []
 what_lanes s st (what.Rewait f y) l =
     ThreadsLane st.cpu ∷ lane_if (is_some (option_and_then (λ w. w.due) st.again)) TimersLane
+what_lanes s st (what.Free f k) l = LockLane k ∷ []
 what_lanes s st what.Rest l = QueueLane st.cpu ∷ ThreadsLane st.cpu ∷ []
 what_lanes s st (what.End f) l = end_lanes st.cpu st.body
 what_lanes s st (what.Flush a from) l = ThreadsLane st.cpu ∷ []

@@ -7,6 +7,7 @@ pub mod Lists
 pub mod Replies
 pub mod Routines
 pub mod Calls
+pub mod Frame
 pub mod Frames
 pub mod Regions
 pub mod Objects
@@ -16,6 +17,7 @@ pub mod Apcs
 pub mod Threads
 pub mod Waits
 pub mod Timers
+pub mod Locks
 pub mod Lanes
 pub mod Requests
 pub mod Own

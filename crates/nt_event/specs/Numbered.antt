@@ -1,7 +1,7 @@
 -- The numbers and names of refusals, as reports and schedules' refusals write them.
 use Rattle.std.specs.Prelude.{ℕ, List, codes}
 use Rattle.nt_event.specs.declared.commands.Refusal.{Refusal}
-use Rattle.nt_event.specs.declared.commands.Refusal.TheVariants.{NotThread, NotBase, TooHigh, RegionsOpen, NotGreater, NotLess, BelowBase, NotEntered}
+use Rattle.nt_event.specs.declared.commands.Refusal.TheVariants.{NotThread, NotBase, TooHigh, RegionsOpen, NotGreater, NotLess, BelowBase, NotEntered, LockHeld, HeldHere, NotLast}
 use Rattle.nt_event.specs.declared.events.ScheduleKind.{ScheduleKind}
 use Rattle.nt_event.specs.declared.events.ScheduleKind.TheVariants.{NoSuchCpu, NothingToDo, BadLook, BadChoice, Unfinished}
 
@@ -15,6 +15,9 @@ refusal_number NotGreater = 5
 refusal_number NotLess = 6
 refusal_number BelowBase = 7
 refusal_number NotEntered = 8
+refusal_number LockHeld = 9
+refusal_number HeldHere = 10
+refusal_number NotLast = 11
 
 abbrev pub refusal_name : Refusal → List ℕ
 refusal_name NotThread = codes "NotThread"
@@ -25,6 +28,9 @@ refusal_name NotGreater = codes "NotGreater"
 refusal_name NotLess = codes "NotLess"
 refusal_name BelowBase = codes "BelowBase"
 refusal_name NotEntered = codes "NotEntered"
+refusal_name LockHeld = codes "LockHeld"
+refusal_name HeldHere = codes "HeldHere"
+refusal_name NotLast = codes "NotLast"
 
 -- the number of a refused turn's cause
 abbrev pub schedule_number : ScheduleKind → ℕ

@@ -4,6 +4,7 @@ use Rattle.nt_event.specs.declared.events.Event.{Event}
 use Rattle.nt_event.specs.declared.numbers.ApcNo.{ApcNo}
 use Rattle.nt_event.specs.declared.numbers.CpuNo.{CpuNo}
 use Rattle.nt_event.specs.declared.numbers.DpcNo.{DpcNo}
+use Rattle.nt_event.specs.declared.numbers.LockNo.{LockNo}
 use Rattle.nt_event.specs.declared.numbers.RoutineNo.{RoutineNo}
 use Rattle.nt_event.specs.declared.numbers.ThreadNo.{ThreadNo}
 use Rattle.nt_event.specs.declared.numbers.TimerNo.{TimerNo}
@@ -22,6 +23,9 @@ apc n = record { 0 = n }
 
 abbrev pub timer : ℕ → TimerNo
 timer n = record { 0 = n }
+
+abbrev pub lock : ℕ → LockNo
+lock n = record { 0 = n }
 
 abbrev pub routine : ℕ → RoutineNo
 routine n = record { 0 = n }

@@ -41,6 +41,8 @@ importance_after d (what.Call f (cmd.Interrupt q level) y) old = old
 importance_after d (what.Call f (cmd.Clock units) y) old = old
 importance_after d (what.Call f cmd.ToUser y) old = old
 importance_after d (what.Call f cmd.Yield y) old = old
+importance_after d (what.Call f (cmd.Acquire k) y) old = old
+importance_after d (what.Call f (cmd.Unlock k) y) old = old
 importance_after d (what.Call f (cmd.Note n) y) old = old
 importance_after d (what.Look r) old = old
 importance_after d (what.Begin b from) old = old
@@ -53,6 +55,7 @@ importance_after d (what.Switch t status) old = old
 importance_after d (what.Rewait f y) old = old
 importance_after d (what.Flush a from) old = old
 importance_after d (what.Gone t) old = old
+importance_after d (what.Free f k) old = old
 importance_after d what.Rest old = old
 
 abbrev pub importance_of : DpcNo → List Event → Importance
@@ -85,6 +88,8 @@ target_after d (what.Call f (cmd.Interrupt q level) y) old = old
 target_after d (what.Call f (cmd.Clock units) y) old = old
 target_after d (what.Call f cmd.ToUser y) old = old
 target_after d (what.Call f cmd.Yield y) old = old
+target_after d (what.Call f (cmd.Acquire k) y) old = old
+target_after d (what.Call f (cmd.Unlock k) y) old = old
 target_after d (what.Call f (cmd.Note n) y) old = old
 target_after d (what.Look r) old = old
 target_after d (what.Begin b from) old = old
@@ -97,6 +102,7 @@ target_after d (what.Switch t status) old = old
 target_after d (what.Rewait f y) old = old
 target_after d (what.Flush a from) old = old
 target_after d (what.Gone t) old = old
+target_after d (what.Free f k) old = old
 target_after d what.Rest old = old
 
 abbrev pub target_of : DpcNo → List Event → Option CpuNo
@@ -130,6 +136,8 @@ inserted_dpc (what.Call f (cmd.Interrupt q level) y) = None
 inserted_dpc (what.Call f (cmd.Clock units) y) = None
 inserted_dpc (what.Call f cmd.ToUser y) = None
 inserted_dpc (what.Call f cmd.Yield y) = None
+inserted_dpc (what.Call f (cmd.Acquire k) y) = None
+inserted_dpc (what.Call f (cmd.Unlock k) y) = None
 inserted_dpc (what.Call f (cmd.Note n) y) = None
 inserted_dpc (what.Look r) = None
 inserted_dpc (what.Begin b from) = None
@@ -142,6 +150,7 @@ inserted_dpc (what.Switch t status) = None
 inserted_dpc (what.Rewait f y) = None
 inserted_dpc (what.Flush a from) = None
 inserted_dpc (what.Gone t) = None
+inserted_dpc (what.Free f k) = None
 inserted_dpc what.Rest = None
 
 -- the object whose insert the event uses up: it begins, or a call of `unqueue` removes it
@@ -172,6 +181,8 @@ used_up_dpc (what.Call f (cmd.Interrupt q level) y) = None
 used_up_dpc (what.Call f (cmd.Clock units) y) = None
 used_up_dpc (what.Call f cmd.ToUser y) = None
 used_up_dpc (what.Call f cmd.Yield y) = None
+used_up_dpc (what.Call f (cmd.Acquire k) y) = None
+used_up_dpc (what.Call f (cmd.Unlock k) y) = None
 used_up_dpc (what.Call f (cmd.Note n) y) = None
 used_up_dpc (what.Look r) = None
 used_up_dpc (what.Begin (begun.Int level) from) = None
@@ -185,6 +196,7 @@ used_up_dpc (what.Switch t status) = None
 used_up_dpc (what.Rewait f y) = None
 used_up_dpc (what.Flush a from) = None
 used_up_dpc (what.Gone t) = None
+used_up_dpc (what.Free f k) = None
 used_up_dpc what.Rest = None
 
 abbrev pub is_dpc : Option DpcNo → DpcNo → Bool

@@ -22,6 +22,7 @@ made p [] = 0
 made p (e ∷ past) = if is_of e p then made p past + 1 else made p past
 
 abbrev pub is_rest : What → Bool
+is_rest (what.Free f k) = false
 is_rest what.Rest = true
 is_rest (what.Call f c y) = false
 is_rest (what.Look r) = false
@@ -54,6 +55,7 @@ took_after (what.Clean class) old = old
 took_after (what.Rewait f y) old = old
 took_after (what.Flush a from) old = old
 took_after (what.Gone t) old = old
+took_after (what.Free f k) old = old
 took_after what.Rest old = old
 
 -- the thread that it took up last
@@ -76,6 +78,7 @@ fire_after s (what.Switch t status) old = old
 fire_after s (what.Rewait f y) old = old
 fire_after s (what.Flush a from) old = old
 fire_after s (what.Gone t) old = old
+fire_after s (what.Free f k) old = old
 fire_after s what.Rest old = old
 
 -- the DPC that it has to fire

@@ -54,6 +54,7 @@ left_queue by (what.Switch t status) o = Some by
 left_queue by (what.Rewait f y) o = Some by
 left_queue by (what.Flush a from) o = Some by
 left_queue by (what.Gone t) o = Some by
+left_queue by (what.Free f k) o = Some by
 left_queue by what.Rest o = Some by
 
 abbrev pub drop_insert : CpuNo → CpuNo → What → Option DpcNo → List ObjectState → List Insert → List Insert
@@ -97,6 +98,7 @@ depth_of xs = count_by (is_in OrdinaryPart) xs
 
 -- profile: a processor is idle from a Rest to its next Switch
 abbrev pub idle_after : What → Bool → Bool
+idle_after (what.Free f k) old = old
 idle_after what.Rest old = true
 idle_after (what.Switch t status) old = false
 idle_after (what.Call f c y) old = old

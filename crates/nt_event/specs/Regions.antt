@@ -8,12 +8,12 @@ use Rattle.nt_event.specs.declared.events.Begun.TheVariants as begun
 use Rattle.nt_event.specs.declared.events.Event.{Event}
 use Rattle.nt_event.specs.declared.events.What.{What}
 use Rattle.nt_event.specs.declared.events.What.TheVariants as what
-use Rattle.nt_event.specs.declared.frames.Frame.{Frame}
+use Rattle.nt_event.specs.Frame.{Frame}
 use Rattle.nt_event.specs.declared.jobs.Stand.{Stand}
 use Rattle.nt_event.specs.declared.numbers.CpuNo.{CpuNo}
 use Rattle.nt_event.specs.declared.scripts.Script.{Script}
 use Rattle.nt_event.specs.Classes.{clock_class, dispatch_class}
-use Rattle.nt_event.specs.Frames.{Frames, frames_of, innermost, is_normal_apc_body, level_in, thread_part}
+use Rattle.nt_event.specs.Frames.{Frames, frames_of, freed_level, innermost, is_normal_apc_body, level_in, thread_part}
 use Rattle.nt_event.specs.Lists.{head_of, is_null, tail_of}
 use Rattle.nt_event.specs.Replies.{is_answer}
 use Rattle.nt_event.specs.Numbers.{is_of}
@@ -41,9 +41,13 @@ abbrev pub first_level : List Frame → List Frame → ℕ
 first_level own part = option_map_or (λ f. f.level) (option_or (head_of own) (head_of part)) 0
 
 -- the level once the innermost frame has ended
-abbrev pub after_in : Frames → ℕ
-after_in x =
+abbrev pub ended_level_in : Frames → ℕ
+ended_level_in x =
     if is_null x.own then first_level [] (tail_of (thread_part x)) else first_level (tail_of x.own) (thread_part x)
+
+-- the level once the lock that the innermost frame acquired last is free; the level where it holds none
+abbrev pub freed_in : Frames → ℕ
+freed_in x = option_map_or freed_level (innermost x) 0
 
 -- a region is entered
 abbrev pub is_open : Regions → Bool
@@ -86,6 +90,8 @@ sweep_after (what.Call f (cmd.Interrupt q level) y) old = old
 sweep_after (what.Call f (cmd.Clock units) y) old = old
 sweep_after (what.Call f cmd.ToUser y) old = old
 sweep_after (what.Call f cmd.Yield y) old = old
+sweep_after (what.Call f (cmd.Acquire k) y) old = old
+sweep_after (what.Call f (cmd.Unlock k) y) old = old
 sweep_after (what.Call f (cmd.Note n) y) old = old
 sweep_after (what.Look r) old = old
 sweep_after (what.Begin (begun.Dpc d) from) old = old
@@ -99,6 +105,7 @@ sweep_after (what.Switch t status) old = old
 sweep_after (what.Rewait f y) old = old
 sweep_after (what.Flush a from) old = old
 sweep_after (what.Gone t) old = old
+sweep_after (what.Free f k) old = old
 sweep_after what.Rest old = old
 
 abbrev pub owes_sweep : CpuNo → List Event → Bool
@@ -117,7 +124,8 @@ stand_of p x sweep =
       level = level_in x;
       regions = regions_of (thread_part x);
       below = below_in x;
-      after = after_in x;
+      ended_level = ended_level_in x;
+      after = freed_in x;
       again = option_and_then (λ f. f.again) (innermost x);
       sweep = sweep;
     }

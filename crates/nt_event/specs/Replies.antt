@@ -3,7 +3,7 @@ use Rattle.std.specs.Prelude.{Bool, false, true, ℕ}
 use Rattle.nt_event.specs.declared.commands.Mode.{Mode}
 use Rattle.nt_event.specs.declared.commands.Mode.TheVariants.{Kernel as KernelMode, User as UserMode}
 use Rattle.nt_event.specs.declared.commands.Reply.{Reply}
-use Rattle.nt_event.specs.declared.commands.Reply.TheVariants.{Blocked, Done, No, Refused, Status, Yes}
+use Rattle.nt_event.specs.declared.commands.Reply.TheVariants.{Blocked, Done, No, Refused, Spin, Status, Yes}
 
 abbrev pub is_done : Reply → Bool
 is_done Done = true
@@ -11,6 +11,7 @@ is_done Yes = false
 is_done No = false
 is_done (Status status) = false
 is_done Blocked = false
+is_done Spin = false
 is_done (Refused r) = false
 
 abbrev pub is_yes : Reply → Bool
@@ -19,6 +20,7 @@ is_yes Done = false
 is_yes No = false
 is_yes (Status status) = false
 is_yes Blocked = false
+is_yes Spin = false
 is_yes (Refused r) = false
 
 -- yes or no
@@ -28,6 +30,7 @@ is_answer No = true
 is_answer Done = false
 is_answer (Status status) = false
 is_answer Blocked = false
+is_answer Spin = false
 is_answer (Refused r) = false
 
 abbrev pub is_blocked : Reply → Bool
@@ -36,6 +39,7 @@ is_blocked Done = false
 is_blocked Yes = false
 is_blocked No = false
 is_blocked (Status status) = false
+is_blocked Spin = false
 is_blocked (Refused r) = false
 
 abbrev pub is_refused : Reply → Bool
@@ -45,6 +49,17 @@ is_refused Yes = false
 is_refused No = false
 is_refused (Status status) = false
 is_refused Blocked = false
+is_refused Spin = false
+
+-- the lock is held by another frame
+abbrev pub is_spin : Reply → Bool
+is_spin Spin = true
+is_spin Done = false
+is_spin Yes = false
+is_spin No = false
+is_spin (Status status) = false
+is_spin Blocked = false
+is_spin (Refused r) = false
 
 abbrev pub yes_if : Bool → Reply
 yes_if true = Yes

@@ -1,6 +1,6 @@
 -- Requests: which values an event asks for, and what a processor has noticed and served of them.
 use Rattle.std.specs.List.{list_any}
-use Rattle.std.specs.Prelude.{Bool, List, None, Option, Some, [], false, if◌then◌else◌, length, max, nat_lt, not, true, ℕ, ◌&&◌, ◌++◌, ◌+◌, ◌==◌, ◌||◌, ◌∷◌}
+use Rattle.std.specs.Prelude.{Bool, List, None, Option, Some, [], false, if◌then◌else◌, length, max, nat_lt, not, suc, true, ℕ, ◌&&◌, ◌++◌, ◌+◌, ◌==◌, ◌||◌, ◌∷◌}
 use Rattle.nt_event.specs.declared.commands.ApcKind.TheVariants.{Normal as NormalApc}
 use Rattle.nt_event.specs.declared.commands.Command.{Command}
 use Rattle.nt_event.specs.declared.commands.Command.TheVariants as cmd
@@ -20,18 +20,20 @@ use Rattle.nt_event.specs.declared.jobs.Stand.{Stand}
 use Rattle.nt_event.specs.declared.numbers.ApcNo.{ApcNo}
 use Rattle.nt_event.specs.declared.numbers.CpuNo.{CpuNo}
 use Rattle.nt_event.specs.declared.numbers.DpcNo.{DpcNo}
+use Rattle.nt_event.specs.declared.numbers.LockNo.{LockNo}
 use Rattle.nt_event.specs.declared.numbers.ThreadNo.{ThreadNo}
 use Rattle.nt_event.specs.declared.scripts.Script.{Script}
-use Rattle.nt_event.specs.Classes.{apc_class, clock_class, dispatch_class, threaded_class}
+use Rattle.nt_event.specs.Classes.{apc_class, clock_class, dispatch_class, lock_class, threaded_class}
 use Rattle.nt_event.specs.Apcs.{has_kernel}
-use Rattle.nt_event.specs.Lanes.{Lanes, facts_at, facts_of, lanes_at, lanes_of, object_at, queue_at, touches}
+use Rattle.nt_event.specs.Lanes.{Lanes, facts_at, facts_of, lanes_at, lanes_of, lock_at, object_at, queue_at, touches}
 use Rattle.nt_event.specs.Objects.{ObjectState, queue_for}
 use Rattle.nt_event.specs.Queues.{QueueState, depth_of, insert_asks}
 use Rattle.nt_event.specs.Regions.{some_came_to_0, stand_at}
 use Rattle.nt_event.specs.Routines.{cpu_of, depth_limit, is_kernel_kind, kind_of, owner_of, part_of}
 use Rattle.nt_event.specs.Threads.{ends_by_alert, ends_by_apc, ends_by_expiry, is_gone}
 use Rattle.nt_event.specs.Waits.{new_pick}
-use Rattle.nt_event.specs.Numbers.{is_of}
+use Rattle.nt_event.specs.Numbers.{cpu, is_of}
+use Rattle.nt_event.specs.Replies.{is_spin}
 use Rattle.nt_event.specs.Lists.{value_at}
 
 pub record Ask : Type 0 where
@@ -64,6 +66,14 @@ apc_asks s a l =
     ask_if (is_kernel_kind (kind_of s a)) (cpu_of s t) apc_class
     ++ ask_if (ends_by_apc (new_pick s a 0) (facts_at l t)) (cpu_of s t) dispatch_class
 
+-- a release asks each processor that spins on the lock to try again
+abbrev pub spinner_asks : ℕ → List Bool → List Ask
+spinner_asks n [] = []
+spinner_asks n (b ∷ more) = ask_if b (cpu n) lock_class ++ spinner_asks (suc n) more
+
+abbrev pub release_asks : LockNo → Lanes → List Ask
+release_asks k l = spinner_asks 0 (lock_at l k).spinners
+
 -- what a call asks for, by the states before it
 abbrev pub command_asks : Script → Stand → Command → Reply → Lanes → List Ask
 command_asks s st (cmd.Queue d) Yes l = queue_asks s d st.cpu l
@@ -75,6 +85,7 @@ command_asks s st (cmd.Alert t m) No l =
     ask_if (not (is_gone (facts_at l t)) && ends_by_alert m (facts_at l t)) (cpu_of s t) dispatch_class
 command_asks s st (cmd.Interrupt q level) Done l = ask q level
 command_asks s st (cmd.Clock units) Done l = ask st.cpu clock_class
+command_asks s st (cmd.Unlock k) Done l = release_asks k l
 command_asks s st (cmd.Raise level) y l = []
 command_asks s st (cmd.Lower level) y l = []
 command_asks s st (cmd.Queue d) y l = []
@@ -98,6 +109,8 @@ command_asks s st (cmd.Interrupt q level) y l = []
 command_asks s st (cmd.Clock units) y l = []
 command_asks s st cmd.ToUser y l = []
 command_asks s st cmd.Yield y l = []
+command_asks s st (cmd.Acquire k) y l = []
+command_asks s st (cmd.Unlock k) y l = []
 command_asks s st (cmd.Note n) y l = []
 
 -- what the end of a frame asks for
@@ -129,6 +142,7 @@ what_asks s st (what.Clean class) l = []
 what_asks s st (what.Rewait f y) l = []
 what_asks s st (what.Flush a from) l = []
 what_asks s st (what.Gone t) l = []
+what_asks s st (what.Free f k) l = release_asks k l
 what_asks s st what.Rest l = []
 
 abbrev pub is_ask : CpuNo → ℕ → Ask → Bool
@@ -181,6 +195,7 @@ looked (what.Switch t status) c = 0
 looked (what.Rewait f y) c = 0
 looked (what.Flush a from) c = 0
 looked (what.Gone t) c = 0
+looked (what.Free f k) c = 0
 looked what.Rest c = 0
 
 -- what is noticed after the event of this number, which asks or doesn't, and touches lanes that tell this value
@@ -198,7 +213,7 @@ seen s p c (e ∷ past) =
 abbrev pub serves : ℕ → What → Bool
 serves c (what.Clean k) = k == c
 serves c (what.Begin (begun.Int level) from) = level == c
-serves c (what.Call f command y) = false
+serves c (what.Call f command y) = (c == lock_class) && is_spin y
 serves c (what.Look r) = false
 serves c (what.Begin (begun.Dpc d) from) = false
 serves c (what.Begin (begun.Threaded d) from) = false
@@ -211,6 +226,7 @@ serves c (what.Switch t status) = false
 serves c (what.Rewait f y) = false
 serves c (what.Flush a from) = false
 serves c (what.Gone t) = false
+serves c (what.Free f k) = false
 serves c what.Rest = false
 
 -- what is served after an event, by what is seen after it

@@ -9,7 +9,7 @@ use Rattle.nt_event.specs.declared.events.Turn.TheVariants.{Look as LookTurn, Ne
 use Rattle.nt_event.specs.declared.numbers.CpuNo.{CpuNo}
 use Rattle.nt_event.specs.declared.numbers.ThreadNo.{ThreadNo}
 use Rattle.nt_event.specs.declared.scripts.Script.{Script}
-use Rattle.nt_event.specs.Jobs.{may_switch, next_ready, rests}
+use Rattle.nt_event.specs.Jobs.{is_still, may_switch, next_ready}
 use Rattle.nt_event.specs.Lanes.{Lanes, lanes_at}
 use Rattle.nt_event.specs.Own.{Own, own_of}
 use Rattle.nt_event.specs.Requests.{asked}
@@ -32,10 +32,10 @@ is_behind x asked = list_any (λ v. nat_lt 0 v) (look_values x asked)
 abbrev pub has_seen : Own → (ℕ → ℕ) → Bool
 has_seen x asked = list_all (λ same. same) (table 16 (λ c. value_at x.seen c == asked c))
 
--- a processor has no more to do: it is cut, or it rests and has seen what was asked
+-- a processor has no more to do: it is cut, or it rests or spins still and has seen what was asked
 abbrev pub is_done_with : Script → ℕ → CpuNo → List Event → Bool
 is_done_with s limit p past =
-    is_cut limit (own_of s p past) || (rests (own_of s p past) && has_seen (own_of s p past) (λ c. asked s p c past))
+    is_cut limit (own_of s p past) || (is_still (own_of s p past) && has_seen (own_of s p past) (λ c. asked s p c past))
 
 -- the history is settled where each processor is done
 abbrev pub is_settled : Script → ℕ → List Event → Bool
@@ -49,11 +49,11 @@ switch_or_next p None = Next p
 abbrev pub go_on_turn : Script → CpuNo → Own → Lanes → Turn
 go_on_turn s p x l = if may_switch x then switch_or_next p (next_ready s p x.took l) else Next p
 
--- the turn of a processor that isn't cut: 1, a look at what was asked; 2, none where it rests; 3 and 4
+-- the turn of a processor that isn't cut: 1, a look at what was asked; 2, none where it rests or spins still; 3 and 4
 abbrev pub robin_at : Script → CpuNo → Own → Lanes → (ℕ → ℕ) → Option Turn
 robin_at s p x l asked =
     if is_behind x asked then Some (LookTurn p (record { value = look_values x asked }))
-    else (if rests x then None else Some (go_on_turn s p x l))
+    else (if is_still x then None else Some (go_on_turn s p x l))
 
 abbrev pub robin_of : Script → ℕ → CpuNo → List Event → Option Turn
 robin_of s limit p past =

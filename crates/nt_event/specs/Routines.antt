@@ -6,7 +6,7 @@ use Rattle.nt_event.specs.declared.commands.ApcKind.TheVariants.{Special as Spec
 use Rattle.nt_event.specs.declared.commands.Command.{Command}
 use Rattle.nt_event.specs.declared.frames.Body.{Body}
 use Rattle.nt_event.specs.declared.frames.Body.TheVariants as on
-use Rattle.nt_event.specs.declared.frames.Frame.{Frame}
+use Rattle.nt_event.specs.Frame.{Frame}
 use Rattle.nt_event.specs.declared.inserts.Part.{Part}
 use Rattle.nt_event.specs.declared.inserts.Part.TheVariants.{Ordinary as OrdinaryPart, Threaded as ThreadedPart}
 use Rattle.nt_event.specs.declared.numbers.ApcNo.{ApcNo}
@@ -51,7 +51,8 @@ kind_of s a = option_map_or (λ x. x.kind) (slice_get s.apcs a.0) SpecialApc
 
 abbrev pub is_kernel_kind : ApcKind → Bool
 is_kernel_kind UserApc = false
-is_kernel_kind _ = true
+is_kernel_kind SpecialApc = true
+is_kernel_kind NormalApc = true
 
 -- the DPC object that a timer's expiry inserts
 abbrev pub dpc_of : Script → TimerNo → Option DpcNo
@@ -80,7 +81,10 @@ routine_of s p (on.Apc a kind) k = apc_routine k (slice_get s.apcs a.0)
 routine_of s p (on.Base t) k = option_map (λ x. x.routine) (slice_get s.threads t.0)
 routine_of s p (on.Rundown a) k = rundown_of s a
 
+-- the command at this place in the routine of a frame
+abbrev pub command_at : Script → CpuNo → Body → Bool → ℕ → Option Command
+command_at s p b k place = slice_get (commands_of s (routine_of s p b k)) place
+
 -- the frame's next command: the one at its place in the routine of its present phase; a leaving thread's base has none
 abbrev pub next_command : Script → CpuNo → Frame → Option Command
-next_command s p f =
-    if f.leaving then None else slice_get (commands_of s (routine_of s p f.body f.kernel_phase)) f.place
+next_command s p f = if f.leaving then None else command_at s p f.body f.kernel_phase f.place

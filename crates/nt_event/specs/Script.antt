@@ -6,6 +6,7 @@ use Rattle.nt_event.specs.declared.numbers.CpuNo.{CpuNo}
 use Rattle.nt_event.specs.declared.numbers.ThreadNo.{ThreadNo}
 use Rattle.nt_event.specs.declared.numbers.DpcNo.{DpcNo}
 use Rattle.nt_event.specs.declared.numbers.ApcNo.{ApcNo}
+use Rattle.nt_event.specs.declared.numbers.LockNo.{LockNo}
 use Rattle.nt_event.specs.declared.numbers.TimerNo.{TimerNo}
 use Rattle.nt_event.specs.declared.numbers.RoutineNo.{RoutineNo}
 use Rattle.nt_event.specs.declared.commands.ApcKind.{ApcKind}
@@ -45,6 +46,9 @@ has_apc s a = nat_lt a.0 (length s.apcs)
 abbrev pub has_timer : Script → TimerNo → Bool
 has_timer s t = nat_lt t.0 (length s.timers)
 
+abbrev pub has_lock : Script → LockNo → Bool
+has_lock s k = nat_lt k.0 s.locks
+
 abbrev pub has_routine : Script → RoutineNo → Bool
 has_routine s r = nat_lt r.0 (length s.routines)
 
@@ -64,6 +68,7 @@ meets_limits s =
     && nat_le (length s.timers) 64
     && nat_le (length s.dpcs) 256
     && nat_le (length s.apcs) 256
+    && nat_le s.locks 64
     && nat_le (length s.routines) 256
     && nat_le (command_count s.routines) 8192
 
@@ -126,6 +131,8 @@ command_fits s (cmd.TestAlert m) = true
 command_fits s (cmd.Clock units) = true
 command_fits s cmd.ToUser = true
 command_fits s cmd.Yield = true
+command_fits s (cmd.Acquire k) = has_lock s k
+command_fits s (cmd.Unlock k) = has_lock s k
 command_fits s (cmd.Note n) = true
 
 abbrev pub routine_fits : Script → Routine → Bool

@@ -35,6 +35,7 @@ thread_field (what.Clean class) r = r
 thread_field (what.Rewait f y) r = r
 thread_field (what.Flush a from) r = r
 thread_field (what.Gone t) r = r
+thread_field (what.Free f k) r = r
 thread_field what.Rest r = r
 
 abbrev pub is_look : What → Bool
@@ -50,6 +51,7 @@ is_look (what.Switch t status) = false
 is_look (what.Rewait f y) = false
 is_look (what.Flush a from) = false
 is_look (what.Gone t) = false
+is_look (what.Free f k) = false
 is_look what.Rest = false
 
 -- the event without its level
@@ -130,7 +132,18 @@ step s limit turn past =
 abbrev pub turn_at : CpuNo → What → Turn
 turn_at p (what.Look r) = LookTurn p r
 turn_at p (what.Switch t status) = SwitchTurn p t
-turn_at p w = Next p
+turn_at p (what.Call f c y) = Next p
+turn_at p (what.Begin b from) = Next p
+turn_at p (what.Normal f) = Next p
+turn_at p (what.End f) = Next p
+turn_at p (what.Expire key from) = Next p
+turn_at p (what.Fire d y) = Next p
+turn_at p (what.Clean class) = Next p
+turn_at p (what.Rewait f y) = Next p
+turn_at p (what.Flush a from) = Next p
+turn_at p (what.Gone t) = Next p
+turn_at p (what.Free f k) = Next p
+turn_at p what.Rest = Next p
 
 -- the turn of an event
 abbrev pub turn_of : Event → Turn

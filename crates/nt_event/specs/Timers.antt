@@ -61,6 +61,8 @@ timer_after t n now (what.Call f (cmd.Interrupt q level) y) old = old
 timer_after t n now (what.Call f (cmd.Clock units) y) old = old
 timer_after t n now (what.Call f cmd.ToUser y) old = old
 timer_after t n now (what.Call f cmd.Yield y) old = old
+timer_after t n now (what.Call f (cmd.Acquire k) y) old = old
+timer_after t n now (what.Call f (cmd.Unlock k) y) old = old
 timer_after t n now (what.Call f (cmd.Note k) y) old = old
 timer_after t n now (what.Look r) old = old
 timer_after t n now (what.Begin b from) old = old
@@ -73,6 +75,7 @@ timer_after t n now (what.Switch u status) old = old
 timer_after t n now (what.Rewait f y) old = old
 timer_after t n now (what.Flush a from) old = old
 timer_after t n now (what.Gone u) old = old
+timer_after t n now (what.Free f k) old = old
 timer_after t n now what.Rest old = old
 
 abbrev pub timer_setting : TimerNo → List Event → Option Setting
@@ -111,6 +114,8 @@ blocked_after n now again (what.Call f (cmd.Interrupt q level) y) old = old
 blocked_after n now again (what.Call f (cmd.Clock units) y) old = old
 blocked_after n now again (what.Call f cmd.ToUser y) old = old
 blocked_after n now again (what.Call f cmd.Yield y) old = old
+blocked_after n now again (what.Call f (cmd.Acquire k) y) old = old
+blocked_after n now again (what.Call f (cmd.Unlock k) y) old = old
 blocked_after n now again (what.Call f (cmd.Note k) y) old = old
 blocked_after n now again (what.Look r) old = old
 blocked_after n now again (what.Begin b from) old = old
@@ -123,6 +128,7 @@ blocked_after n now again (what.Switch t status) old = old
 blocked_after n now again (what.Rewait f y) old = old
 blocked_after n now again (what.Flush a from) old = old
 blocked_after n now again (what.Gone t) old = old
+blocked_after n now again (what.Free f k) old = old
 blocked_after n now again what.Rest old = old
 
 abbrev pub expired_delay : ThreadNo → What → Option Setting → Option Setting
@@ -139,6 +145,7 @@ expired_delay t (what.Switch u status) old = old
 expired_delay t (what.Rewait f y) old = old
 expired_delay t (what.Flush a from) old = old
 expired_delay t (what.Gone u) old = old
+expired_delay t (what.Free f k) old = old
 expired_delay t what.Rest old = old
 
 abbrev pub delay_after : Script → ThreadNo → ℕ → ℕ → Option Again → Event → Option Setting → Option Setting

@@ -7,7 +7,7 @@ use Rattle.nt_event.specs.declared.commands.Mode.{Mode}
 use Rattle.nt_event.specs.declared.commands.Mode.TheVariants.{Kernel as KernelMode, User as UserMode}
 use Rattle.nt_event.specs.declared.commands.Regions.{Regions}
 use Rattle.nt_event.specs.declared.commands.Reply.{Reply}
-use Rattle.nt_event.specs.declared.commands.Reply.TheVariants.{Blocked, Done, No, Refused, Status, Yes}
+use Rattle.nt_event.specs.declared.commands.Reply.TheVariants.{Blocked, Done, No, Refused, Spin, Status, Yes}
 use Rattle.nt_event.specs.declared.commands.TimerKey.TheVariants as keys
 use Rattle.nt_event.specs.declared.events.Begun.TheVariants as begun
 use Rattle.nt_event.specs.declared.events.Event.{Event}
@@ -74,6 +74,7 @@ waited n r level m alertable delay Done x = x
 waited n r level m alertable delay Yes x = x
 waited n r level m alertable delay No x = x
 waited n r level m alertable delay (Refused why) x = x
+waited n r level m alertable delay Spin x = x
 
 -- a wait that is taken up again has the mode, kind and due time of its call
 abbrev pub waited_again : ℕ → Regions → ℕ → Option Again → Reply → ThreadFacts → ThreadFacts
@@ -140,6 +141,8 @@ made_facts s n st (what.Call f (cmd.Interrupt q level) y) x = x
 made_facts s n st (what.Call f (cmd.Clock units) y) x = x
 made_facts s n st (what.Call f cmd.ToUser y) x = x
 made_facts s n st (what.Call f cmd.Yield y) x = x
+made_facts s n st (what.Call f (cmd.Acquire k) y) x = x
+made_facts s n st (what.Call f (cmd.Unlock k) y) x = x
 made_facts s n st (what.Call f (cmd.Note k) y) x = x
 made_facts s n st (what.Look r) x = x
 made_facts s n st (what.Begin (begun.Int level) from) x = x
@@ -149,6 +152,7 @@ made_facts s n st (what.Normal f) x = x
 made_facts s n st (what.Expire key from) x = x
 made_facts s n st (what.Fire d y) x = x
 made_facts s n st (what.Clean class) x = x
+made_facts s n st (what.Free f k) x = x
 made_facts s n st what.Rest x = x
 
 -- ---- events that name the thread, whoever makes them
@@ -207,6 +211,8 @@ named_facts s t n (what.Call f (cmd.Interrupt q level) y) x = x
 named_facts s t n (what.Call f (cmd.Clock units) y) x = x
 named_facts s t n (what.Call f cmd.ToUser y) x = x
 named_facts s t n (what.Call f cmd.Yield y) x = x
+named_facts s t n (what.Call f (cmd.Acquire k) y) x = x
+named_facts s t n (what.Call f (cmd.Unlock k) y) x = x
 named_facts s t n (what.Call f (cmd.Note k) y) x = x
 named_facts s t n (what.Look r) x = x
 named_facts s t n (what.Begin b from) x = x
@@ -219,6 +225,7 @@ named_facts s t n (what.Switch u status) x = x
 named_facts s t n (what.Rewait f y) x = x
 named_facts s t n (what.Flush a from) x = x
 named_facts s t n (what.Gone u) x = x
+named_facts s t n (what.Free f k) x = x
 named_facts s t n what.Rest x = x
 
 -- the event is one that the thread makes, on its own processor

@@ -43,6 +43,13 @@ impl Reply {
         matches!(self, Reply::Refused(_))
     }
 
+    /// Whether the lock is held by another routine.
+    pub fn is_spin(&self) -> bool
+        ensures { result ≡ replies.is_spin self.now }
+    {
+        matches!(self, Reply::Spin)
+    }
+
     /// The answer of a command that tells.
     pub fn yes_if(yes: bool) -> Reply
         ensures { result ≡ replies.yes_if yes }
@@ -80,7 +87,9 @@ impl Command {
             | Command::TestAlert(_)
             | Command::Clock(_)
             | Command::ToUser
-            | Command::Yield => true,
+            | Command::Yield
+            | Command::Acquire(_)
+            | Command::Unlock(_) => true,
         }
     }
 }

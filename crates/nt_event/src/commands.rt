@@ -2,7 +2,7 @@
 ghost use Rattle.std.specs.Prelude.{◌≡◌};
 ghost use Rattle.nt_event.specs.Numbered.{refusal_number, refusal_name};
 
-use crate::{ApcNo, CpuNo, DpcNo, ThreadNo, TimerNo};
+use crate::{ApcNo, CpuNo, DpcNo, LockNo, ThreadNo, TimerNo};
 use nt_level::Level;
 
 /// Where an insert puts a DPC object in its queue, and whether it asks for a dispatch interrupt.
@@ -100,6 +100,10 @@ pub enum Command {
     ToUser,
     /// Gives way to the other ready threads of the processor.
     Yield,
+    /// Acquires a spin lock, or spins on it and is tried again (KeAcquireSpinLock).
+    Acquire(LockNo),
+    /// Releases a spin lock (KeReleaseSpinLock).
+    Unlock(LockNo),
     /// Does nothing but stand in the report with this number.
     Note(u32),
 }
@@ -123,10 +127,16 @@ pub enum Refusal {
     BelowBase,
     /// The routine leaves a region that it did not enter.
     NotEntered,
+    /// A lower below DISPATCH_LEVEL while the routine holds a lock.
+    LockHeld,
+    /// The routine holds the lock already.
+    HeldHere,
+    /// The lock is not the one that the routine acquired last.
+    NotLast,
 }
 
 impl Refusal {
-    /// Its number in the report, 1 to 8.
+    /// Its number in the report, 1 to 11.
     pub fn number(self) -> u8
         ensures { result ≡ refusal_number self }
     {
@@ -139,6 +149,9 @@ impl Refusal {
             Refusal::NotLess => 6,
             Refusal::BelowBase => 7,
             Refusal::NotEntered => 8,
+            Refusal::LockHeld => 9,
+            Refusal::HeldHere => 10,
+            Refusal::NotLast => 11,
         }
     }
 
@@ -155,6 +168,9 @@ impl Refusal {
             Refusal::NotLess => "NotLess",
             Refusal::BelowBase => "BelowBase",
             Refusal::NotEntered => "NotEntered",
+            Refusal::LockHeld => "LockHeld",
+            Refusal::HeldHere => "HeldHere",
+            Refusal::NotLast => "NotLast",
         }
     }
 }
@@ -172,6 +188,8 @@ pub enum Reply {
     Status(u32),
     /// The thread waits and no longer runs.
     Blocked,
+    /// Another routine holds the lock; the command is tried again.
+    Spin,
     /// The command is refused and changed nothing.
     Refused(Refusal),
 }

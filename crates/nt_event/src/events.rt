@@ -3,7 +3,7 @@ ghost use Rattle.std.specs.Prelude.{◌≡◌};
 ghost use Rattle.nt_event.specs.Numbered.{schedule_number, schedule_name};
 ghost use Rattle.nt_event.specs.Step.{cpu_at, turn_of};
 
-use crate::{ApcNo, Command, CpuNo, DpcNo, Items, Reply, ThreadNo, TimerKey};
+use crate::{ApcNo, Command, CpuNo, DpcNo, Items, LockNo, Reply, ThreadNo, TimerKey};
 use nt_level::Level;
 
 /// What a look at a processor's request words found, by class: the value, or 0 where it did not rise. A value is one more
@@ -86,6 +86,11 @@ pub enum What {
     Gone {
         thread: ThreadNo,
     },
+    /// A routine that ends frees a lock that it holds.
+    Free {
+        frame: u64,
+        lock: LockNo,
+    },
     /// The processor has nothing to do.
     Rest,
 }
@@ -121,6 +126,7 @@ impl Event {
             | What::Rewait { .. }
             | What::Flush { .. }
             | What::Gone { .. }
+            | What::Free { .. }
             | What::Rest => Turn::Next(self.cpu),
         }
     }

@@ -5,8 +5,8 @@ ghost use Rattle.nt_event.specs.Classes as classes;
 ghost use Rattle.nt_event.specs.Script as spec;
 
 use crate::{
-    ApcDecl, ApcKind, ApcNo, Command, CpuNo, DpcDecl, DpcNo, Isr, Level, Routine, RoutineNo,
-    Script, ThreadDecl, ThreadNo, TimerDecl, TimerNo, class, limits,
+    ApcDecl, ApcKind, ApcNo, Command, CpuNo, DpcDecl, DpcNo, Isr, Level, LockNo, Routine,
+    RoutineNo, Script, ThreadDecl, ThreadNo, TimerDecl, TimerNo, class, limits,
 };
 
 pub(crate) fn isr_in(isrs: &[Isr], cpu: CpuNo, level: Level) -> Option<RoutineNo>
@@ -46,6 +46,12 @@ fn has_timer(script: &Script, timer: TimerNo) -> bool
     ensures { result ≡ spec.has_timer script.now timer }
 {
     (timer.0 as usize) < script.timers.len()
+}
+
+fn has_lock(script: &Script, lock: LockNo) -> bool
+    ensures { result ≡ spec.has_lock script.now lock }
+{
+    lock.0 < script.locks
 }
 
 fn has_routine(script: &Script, routine: RoutineNo) -> bool
@@ -110,6 +116,7 @@ pub(crate) fn meets_limits(script: &Script) -> bool
         && script.timers.len() <= limits::TIMERS
         && script.dpcs.len() <= limits::DPCS
         && script.apcs.len() <= limits::APCS
+        && script.locks <= limits::LOCKS
         && script.routines.len() <= limits::ROUTINES
         && commands_at_most(script.routines.as_slice(), limits::COMMANDS)
 }
@@ -231,6 +238,7 @@ fn command_fits(script: &Script, command: &Command) -> bool
         Command::SetTimer(timer, _, _) | Command::CancelTimer(timer) => has_timer(script, *timer),
         Command::InsertApc(apc) | Command::RemoveApc(apc) => has_apc(script, *apc),
         Command::Release(thread) | Command::Alert(thread, _) => has_thread(script, *thread),
+        Command::Acquire(lock) | Command::Unlock(lock) => has_lock(script, *lock),
         Command::Interrupt(cpu, level) => has_cpu(script, *cpu) && is_requested_level(*level),
         Command::Raise(_)
         | Command::Lower(_)

@@ -1,5 +1,5 @@
-//! Frames: the routines that run on a processor and on its threads.
-use crate::{ApcKind, ApcNo, DpcNo, Mode, ThreadNo};
+//! What runs in a frame, a routine that has begun on a processor or on one of its threads and has not ended.
+use crate::{ApcKind, ApcNo, DpcNo, LockNo, Mode, ThreadNo};
 use nt_level::Level;
 
 /// What runs in a frame. Interrupts, DPCs and threaded DPCs run on the processor's own part, the others on a thread's.
@@ -39,24 +39,10 @@ pub struct Again {
     pub due: Option<u64>,
 }
 
-/// A routine that has begun and has not ended.
+/// A lock that a routine holds or spins on.
 #[derive(Clone, Copy, PartialEq, Eq, Debug)]
-pub struct Frame {
-    /// The number of the event that began it.
-    pub name: u64,
-    pub body: Body,
-    /// The level of its last accepted raise or lower, else its base level.
-    pub level: Level,
-    /// How many commands its present routine has called.
-    pub place: u32,
-    /// How often its present routine has entered a critical region and not left it.
-    pub crit: u32,
-    /// How often its present routine has entered a guarded region and not left it.
-    pub guard: u32,
-    /// Whether it is an APC in its kernel routine.
-    pub kernel_phase: bool,
-    /// Whether it is the base of a thread whose base routine has ended.
-    pub leaving: bool,
-    /// The wait that a kernel APC interrupts or may interrupt: the thread is blocked in it, or has it to take up again.
-    pub again: Option<Again>,
+pub struct Held {
+    pub lock: LockNo,
+    /// The level of just before the first try.
+    pub kept: Level,
 }

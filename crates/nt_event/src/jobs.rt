@@ -1,5 +1,5 @@
 //! What a processor has to do next, and where it stands when it does it.
-use crate::{Again, Body, Command, CpuNo, DpcNo, Regions, ThreadNo, What};
+use crate::{Again, Body, Command, CpuNo, DpcNo, LockNo, Regions, ThreadNo, What};
 use nt_level::Level;
 
 /// A state that several processors share. An event touches at most three of them.
@@ -13,6 +13,8 @@ pub enum Lane {
     Threads(CpuNo),
     /// The time, the timers and the delays.
     Timers,
+    /// A spin lock.
+    Lock(LockNo),
 }
 
 /// A task for which a processor needs lanes.
@@ -22,6 +24,8 @@ pub enum Job {
     Call(Command),
     /// Inserts the DPC object of the timer that expired.
     Fire(DpcNo),
+    /// Frees the lock that the innermost frame acquired last.
+    Free(LockNo),
     /// Expires the first due key, where a sweep is owed; else begins the first ordinary DPC; else has served class 2.
     Drain,
     /// Begins the first kernel APC where it is deliverable; else has served class 1.
@@ -72,6 +76,9 @@ pub struct Stand {
     /// The same once the innermost frame has ended.
     pub below: Regions,
     /// The level once the innermost frame has ended.
+    pub ended_level: Level,
+    /// The level after an unlock or a free of the innermost frame: the one kept with the lock that it acquired last. The level
+    /// where it holds none.
     pub after: Level,
     /// The wait that the innermost frame has to take up again.
     pub again: Option<Again>,

@@ -1,7 +1,7 @@
 //! The data of the machine: scripts, commands, events, turns and histories.
 //!
-//! A [`Script`] says what a driver writer declares: processors, interrupt routines, DPC objects, timers, threads, APC objects
-//! and the routines that they run. A run of a script is a [`History`]: one [`Event`] for each atomic step of a processor, in
+//! A [`Script`] says what a driver writer declares: processors, interrupt routines, DPC objects, timers, threads, APC objects,
+//! spin locks and the routines that run. A run of a script is a [`History`]: one [`Event`] for each atomic step of a processor, in
 //! order. A [`Turn`] says which processor makes the next step, and where it has a choice, which one.
 //!
 //! Contracts see each `Items` as the list of its items, so a script or a history is a plain record of numbers and lists there.
@@ -26,12 +26,12 @@ mod threads;
 
 pub use commands::{ApcKind, Command, Importance, Mode, Refusal, Regions, Reply, TimerKey};
 pub use events::{Begun, Event, History, Rises, ScheduleKind, Turn, What};
-pub use frames::{Again, Body, Frame, Region};
+pub use frames::{Again, Body, Held, Region};
 pub use inserts::{Insert, Part, Pick, Setting, Standing};
 pub use jobs::{Job, Lane, Stand, Task};
 pub use lists::Items;
 pub use nt_level::Level;
-pub use numbers::{ApcNo, CpuNo, DpcNo, RoutineNo, ThreadNo, TimerNo};
+pub use numbers::{ApcNo, CpuNo, DpcNo, LockNo, RoutineNo, ThreadNo, TimerNo};
 pub use plans::Plan;
 pub use scripts::{ApcDecl, DpcDecl, Isr, Routine, Script, ThreadDecl, TimerDecl};
 pub use threads::{Doing, Waiting};

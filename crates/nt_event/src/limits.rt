@@ -15,6 +15,9 @@ pub const DPCS: usize = 256;
 /// APC objects of a script at most.
 pub const APCS: usize = 256;
 
+/// Spin locks of a script at most.
+pub const LOCKS: u16 = 64;
+
 /// Routines of a script at most.
 pub const ROUTINES: usize = 256;
 

@@ -3,9 +3,7 @@ ghost use Rattle.std.specs.Prelude.{◌≡◌, IsTrue, length};
 ghost use Rattle.nt_event.specs.Routines as routines;
 ghost use Rattle.nt_event.specs.Script.{fits, has_apc, has_cpu, has_thread};
 
-use crate::{
-    ApcKind, ApcNo, Body, Command, CpuNo, DpcNo, Frame, RoutineNo, Script, ThreadNo, TimerNo,
-};
+use crate::{ApcKind, ApcNo, Body, Command, CpuNo, DpcNo, RoutineNo, Script, ThreadNo, TimerNo};
 
 impl Script {
     /// How many threads there are.
@@ -105,14 +103,17 @@ impl Script {
         }
     }
 
-    /// The frame's next command: the one at its place in the routine of its present phase; a leaving thread's base has none.
-    pub fn next_command(&self, cpu: CpuNo, frame: &Frame) -> Option<Command>
-        ensures { result ≡ routines.next_command self.now cpu frame.now }
+    /// The command at this place in the routine of a frame, of an APC by its phase; None where the routine has no more.
+    pub fn command_at(
+        &self,
+        cpu: CpuNo,
+        body: &Body,
+        kernel_phase: bool,
+        place: u32,
+    ) -> Option<Command>
+        ensures { result ≡ routines.command_at self.now cpu body.now kernel_phase place }
     {
-        if frame.leaving {
-            return None;
-        }
-        let routine = self.routine_of(cpu, &frame.body, frame.kernel_phase);
-        self.commands_of(routine).get(frame.place as usize).copied()
+        let routine = self.routine_of(cpu, body, kernel_phase);
+        self.commands_of(routine).get(place as usize).copied()
     }
 }

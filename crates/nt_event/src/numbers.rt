@@ -20,6 +20,10 @@ pub struct ApcNo(pub u16);
 #[derive(Clone, Copy, PartialEq, Eq, PartialOrd, Ord, Debug)]
 pub struct TimerNo(pub u16);
 
+/// A spin lock, below the script's count of locks.
+#[derive(Clone, Copy, PartialEq, Eq, PartialOrd, Ord, Debug)]
+pub struct LockNo(pub u16);
+
 /// A place in the script's list of routines.
 #[derive(Clone, Copy, PartialEq, Eq, PartialOrd, Ord, Debug)]
 pub struct RoutineNo(pub u16);

@@ -17,7 +17,7 @@ pub trait Plan {
 impl Plan for Brand {
     ghost use Rattle.std.specs.Prelude.{[], None};
 
-    ghost script = { record { cpus = 1; depth = None; threaded = None; isrs = []; dpcs = []; timers = []; threads = []; apcs = []; routines = [] } };
+    ghost script = { record { cpus = 1; depth = None; threaded = None; isrs = []; dpcs = []; timers = []; threads = []; apcs = []; routines = []; locks = 0 } };
 
     ghost turns = { 1 };
 }

@@ -68,6 +68,8 @@ pub struct Script {
     pub threads: Items<ThreadDecl>,
     pub apcs: Items<ApcDecl>,
     pub routines: Items<Routine>,
+    /// How many spin locks there are.
+    pub locks: u16,
 }
 
 impl Script {
@@ -83,8 +85,8 @@ impl Script {
 
     /// Whether the script meets the limits and each number in it names a thing of its list.
     ///
-    /// The limits are 1 to 64 processors, 64 threads, 64 timers, 256 DPC objects, 256 APC objects, 256 routines, 8,192 commands
-    /// in all and a depth limit of at most 256. Interrupt routines are for levels 3 to 11, 13 and 14, at most one a processor
+    /// The limits are 1 to 64 processors, 64 threads, 64 timers, 64 spin locks, 256 DPC objects, 256 APC objects, 256
+    /// routines, 8,192 commands in all and a depth limit of at most 256. Interrupt routines are for levels 3 to 11, 13 and 14, at most one a processor
     /// and level; `interrupt` requests a level of 3 to 11 or 14. An APC object has a normal routine exactly where it is normal or
     /// user, and only a user one may have a rundown routine.
     pub fn fits(&self) -> bool

@@ -4,10 +4,10 @@ use Rattle.std.specs.Prelude.{Bool, List, None, Option, Some, [], false, length,
 use Rattle.nt_event.specs.declared.events.Begun.TheVariants.{Apc, Dpc, Int, Threaded}
 use Rattle.nt_event.specs.declared.events.Event.{Event}
 use Rattle.nt_event.specs.declared.events.What.{What}
-use Rattle.nt_event.specs.declared.events.What.TheVariants.{Begin, Call, Clean, End, Expire, Fire, Flush, Gone, Look, Normal, Rest, Rewait, Switch}
+use Rattle.nt_event.specs.declared.events.What.TheVariants.{Begin, Call, Clean, End, Expire, Fire, Flush, Free, Gone, Look, Normal, Rest, Rewait, Switch}
 use Rattle.nt_event.specs.declared.numbers.ThreadNo.{ThreadNo}
 use Rattle.nt_event.specs.declared.scripts.Script.{Script}
-use Rattle.nt_event.specs.Frames.{called, due_of, normal_of, rewaited, running, thread_after, thread_frames, time}
+use Rattle.nt_event.specs.Frames.{called, due_of, freed, normal_of, rewaited, running, thread_after, thread_frames, time}
 use Rattle.nt_event.specs.Regions.{stand_at}
 use Rattle.nt_event.specs.Requests.{serves}
 use Rattle.nt_event.specs.Routines.{cpu_of}
@@ -17,7 +17,7 @@ use Rattle.nt_event.specs.Threads.{ThreadFacts}
 use Rattle.nt_event.specs.Waits.{facts, made_facts, named_facts}
 use Rattle.nt_event.specs.Numbers.{is_by}
 use Rattle.nt_runs.proofs.Calm.{ran}
-use Rattle.nt_runs.proofs.Running.{called_keeps, normal_keeps, rewaited_keeps, same_thread, thread_named}
+use Rattle.nt_runs.proofs.Running.{called_keeps, freed_keeps, normal_keeps, rewaited_keeps, same_thread, thread_named}
 use Rattle.nt_runs.proofs.Turns.{is_next}
 use Rattle.nt_runs.proofs.Leaving.Facts.{is_end}
 use Rattle.nt_runs.proofs.Rundown.{Leaves, leaves_unnamed, unnamed_leaving}
@@ -74,6 +74,9 @@ leaves_named s limit t e past has b g r l ih = go e.what refl
     go (Clean c) k =
         cleaned s limit t e past has b g r (z (ap is_next k)) c k (was (Clean c) k refl) (ih (was (Clean c) k refl))
     go (Expire key from) k = keeps (Expire key from) k refl refl refl refl
+    go (Free f c) k =
+        changed s limit t e past has b g r (z (ap is_next k)) (Free f c) f freed k freed_keeps refl refl (was (Free f c) k refl)
+        (ih (was (Free f c) k refl))
     go (Fire d y) k = keeps (Fire d y) k refl refl refl refl
     go Rest k = keeps Rest k refl refl refl refl
     go (End f) k = ended_frame s limit t e past has b g r (z (ap is_next k)) f k l ih

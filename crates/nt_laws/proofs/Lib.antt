@@ -6,3 +6,4 @@ pub mod Left
 pub mod OwnParts
 pub mod Fates
 pub mod Named
+pub mod Holders

@@ -4,3 +4,4 @@ pub mod Deliveries
 pub mod Fates
 pub mod Named
 pub mod Objects
+pub mod Locks

@@ -4,7 +4,7 @@ use Rattle.std.specs.Prelude.{Bool, IfSome, List, None, Option, Some, [], length
 use Rattle.nt_event.specs.declared.events.Begun.TheVariants.{Apc, Dpc, Int, Threaded}
 use Rattle.nt_event.specs.declared.events.Event.{Event}
 use Rattle.nt_event.specs.declared.events.What.{What}
-use Rattle.nt_event.specs.declared.events.What.TheVariants.{Begin, Call, Clean, End, Expire, Fire, Flush, Gone, Look, Normal, Rest, Rewait, Switch}
+use Rattle.nt_event.specs.declared.events.What.TheVariants.{Begin, Call, Clean, End, Expire, Fire, Flush, Free, Gone, Look, Normal, Rest, Rewait, Switch}
 use Rattle.nt_event.specs.declared.scripts.Script.{Script}
 use Rattle.nt_event.specs.Classes.{is_interrupt_level, is_used_class, dispatch_class}
 use Rattle.nt_event.specs.Script.{fits, has_cpu, has_thread, where_given}
@@ -34,6 +34,7 @@ keeps_to_classes (Switch t status) = true
 keeps_to_classes (Rewait f y) = true
 keeps_to_classes (Flush a from) = true
 keeps_to_classes (Gone t) = true
+keeps_to_classes (Free f k) = true
 keeps_to_classes Rest = true
 
 -- the number of an earlier event that it tells: the one that began its frame, or the one whose request or setting it
@@ -45,6 +46,7 @@ earlier (Normal f) = Some f
 earlier (End f) = Some f
 earlier (Expire key from) = Some from
 earlier (Rewait f y) = Some f
+earlier (Free f k) = Some f
 earlier (Flush a from) = Some from
 earlier (Look r) = None
 earlier (Fire d y) = None

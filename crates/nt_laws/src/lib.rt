@@ -4,6 +4,7 @@
 #![tactic(auto)]
 
 mod inserts;
+mod locks;
 
 ghost use Rattle.nt_laws.specs.Counts.{MakesAtMostTheLimit, RunIsBounded, UncutHasRoom};
 ghost use Rattle.nt_laws.specs.Deliveries.{DeliveriesAreEligible};
@@ -16,6 +17,10 @@ pub use inserts::{
     an_apc_object_has_at_most_one_pending_insert, an_apc_object_stands_at_most_once,
     apcs_have_their_threads, no_insert_is_delivered_twice, queues_and_objects_agree,
     the_laws_over_inserts_hold_of_every_object, what_is_delivered_waits,
+};
+pub use locks::{
+    a_lane_tells_who_holds_and_spins, a_lock_is_held_by_at_most_one_frame,
+    a_processor_spins_on_at_most_one_lock, a_thread_that_does_not_run_holds_no_lock,
 };
 
 /// Deliveries are eligible: each Begin, Expire and Flush of a run delivers a request that was eligible just before it.

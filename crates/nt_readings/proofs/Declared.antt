@@ -14,7 +14,7 @@ use Rattle.nt_event.specs.declared.commands.TimerKey.TheVariants.{Delay as OfDel
 use Rattle.nt_event.specs.declared.events.Event.{Event}
 use Rattle.nt_event.specs.declared.events.What.{What}
 use Rattle.nt_event.specs.declared.events.What.TheVariants.{Call, Expire, Fire}
-use Rattle.nt_event.specs.declared.frames.Frame.{Frame}
+use Rattle.nt_event.specs.Frame.{Frame}
 use Rattle.nt_event.specs.declared.inserts.Insert.{Insert}
 use Rattle.nt_event.specs.declared.inserts.Pick.{Pick}
 use Rattle.nt_event.specs.declared.numbers.ApcNo.{ApcNo}

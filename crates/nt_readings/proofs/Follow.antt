@@ -8,15 +8,16 @@ use Rattle.nt_event.specs.declared.commands.Reply.{Reply}
 use Rattle.nt_event.specs.declared.events.Begun.TheVariants.{Apc, Dpc, Int, Threaded}
 use Rattle.nt_event.specs.declared.events.Event.{Event}
 use Rattle.nt_event.specs.declared.events.What.{What}
-use Rattle.nt_event.specs.declared.events.What.TheVariants.{Begin, Call, End, Flush, Gone, Normal, Rewait, Switch}
+use Rattle.nt_event.specs.declared.events.What.TheVariants.{Begin, Call, Clean, End, Expire, Fire, Flush, Free, Gone, Look, Normal, Rest, Rewait, Switch}
 use Rattle.nt_event.specs.declared.frames.Body.{Body}
 use Rattle.nt_event.specs.declared.frames.Body.TheVariants.{Apc as OnApc, Base as OnBase, Dpc as OnDpc, Int as OnInt, Rundown as OnRundown, Threaded as OnThreaded}
-use Rattle.nt_event.specs.declared.frames.Frame.{Frame}
+use Rattle.nt_event.specs.Frame.{Frame}
 use Rattle.nt_event.specs.declared.numbers.CpuNo.{CpuNo}
+use Rattle.nt_event.specs.declared.numbers.LockNo.{LockNo}
 use Rattle.nt_event.specs.declared.numbers.RoutineNo.{RoutineNo}
 use Rattle.nt_event.specs.declared.numbers.ThreadNo.{ThreadNo}
 use Rattle.nt_event.specs.declared.scripts.Script.{Script}
-use Rattle.nt_event.specs.Frames.{at_name, called, due_of, end_on_thread, flushed, frames_of, innermost, is_base_body, ended_base, new_frame, normal_of, own_after, own_frames, resumed, rewaited, running, switched_to, thread_after, thread_frames, thread_part, time, without}
+use Rattle.nt_event.specs.Frames.{at_name, called, due_of, end_on_thread, flushed, frames_of, freed, innermost, is_base_body, ended_base, new_frame, normal_of, own_after, own_frames, resumed, rewaited, running, switched_to, thread_after, thread_frames, thread_part, time, without}
 use Rattle.nt_event.specs.Jobs.{has_normal}
 use Rattle.nt_event.specs.Lanes.{lanes_at}
 use Rattle.nt_event.specs.Own.{own_of}
@@ -24,7 +25,7 @@ use Rattle.nt_event.specs.Routines.{cpu_of, kind_of, rundown_of}
 use Rattle.nt_event.specs.Step.{IsRun, thread_field}
 use Rattle.nt_event.specs.Lists.{head_of, is_null}
 use Rattle.nt_event.specs.Numbers.{is_by, is_of, is_thread}
-use Rattle.nt_runs.proofs.Known.{Known, KnownCall, KnownEnd, KnownNormal, KnownRewait, legal_known}
+use Rattle.nt_runs.proofs.Known.{Known, KnownCall, KnownEnd, KnownFree, KnownNormal, KnownRewait, legal_known}
 use Rattle.nt_runs.proofs.OwnPart.{AllOwn, all_own, is_own_body}
 use Rattle.nt_runs.proofs.Running.{part_of_running, running_here, same_cpu, same_thread, thread_named}
 use Rattle.nt_runs.proofs.Shared.{part_head, thread_runs}
@@ -48,7 +49,16 @@ names (Call f c y) = Some f
 names (Rewait f y) = Some f
 names (Normal f) = Some f
 names (End f) = Some f
-names w = None
+names (Free f k) = Some f
+names (Look r) = None
+names (Begin b from) = None
+names (Expire key from) = None
+names (Fire d y) = None
+names (Clean c) = None
+names (Switch t st) = None
+names (Flush a from) = None
+names (Gone t) = None
+names Rest = None
 
 -- the event doesn't name the frame
 abbrev pub IsAside : ℕ → What → Type 0
@@ -62,6 +72,8 @@ pub record Follows (s : Script) (limit : ℕ) (P : List Event → Frame → Type
   pub called : (e : Event) (past : List Event) (n : ℕ) (c : Command) (y : Reply) → IsRun s limit (e ∷ past) →
       (x : KnownCall s e.cpu (own_of s e.cpu past) (lanes_at s past) n c y) → e.what ≡ Call n c y → x.frame.name < length past → P past x.frame →
       P (e ∷ past) (called (due_of e.what (time past)) c y x.frame)
+  pub freed : (e : Event) (past : List Event) (n : ℕ) (c : LockNo) → IsRun s limit (e ∷ past) →
+      (x : KnownFree s e.cpu (own_of s e.cpu past) n c) → e.what ≡ Free n c → x.frame.name < length past → P past x.frame → P (e ∷ past) (freed x.frame)
   pub rewaited : (e : Event) (past : List Event) (y : Reply) (f : Frame) → e.what ≡ Rewait f.name y → f.name < length past → P past f →
       P (e ∷ past) (rewaited y f)
   pub normal : (e : Event) (past : List Event) (f : Frame) → e.what ≡ Normal f.name → has_normal f.body ≡ true → f.name < length past → P past f →
@@ -100,6 +112,19 @@ namer s limit q past f r h = go (own_frames q past) refl
         let here = running_here s limit q u.0 past r u.1 in
         let part : thread_part (frames_of s q past) ≡ thread_frames s q u.0 past = part_of_running s q u.0 past here.0 u.1 in
         inr (u.0, u.1, head_is (thread_frames s q u.0 past) f (sym (ap head_of part) ∙ head))
+
+-- what holds of each frame holds of an innermost one
+pub inner_has : (s : Script) (limit : ℕ) (q : CpuNo) (past : List Event) (P : Frame → Type 0) (f : Frame) → IsRun s limit past →
+    ((p : CpuNo) → EachFrame P (own_frames p past)) → ((t : ThreadNo) → EachFrame P (thread_frames s (cpu_of s t) t past)) →
+    innermost (frames_of s q past) ≡ Some f → P f
+inner_has s limit q past P f r own threads inner = go (namer s limit q past f r inner)
+  where
+    go : IsNamer s q past f → P f
+    go (inl h) = (subst (EachFrame P) h.1 (own q)).0
+    go (inr h) =
+        let here = running_here s limit q h.0 past r h.1 in
+        let cpu : cpu_of s h.0 ≡ q = ap (λ (n : ℕ). record { 0 = n }) here.1 in
+        (subst (EachFrame P) h.2.1 (subst (λ (p : CpuNo). EachFrame P (thread_frames s p h.0 past)) cpu (threads h.0))).0
 
 same_switch : (u t : ThreadNo) (w : What) → switches_to u w ≡ true → switches_to t w ≡ true → u ≡ t
 same_switch u t (Switch v st) h k =
@@ -314,6 +339,12 @@ module _ (s : Script) (limit : ℕ) (P : List Event → Frame → Type 0) (k : F
           (λ low old. k.called e past n c y r x q low old)
       calls n c y q x (inr d) = other_name e past n (called (due_of e.what (time past)) c y) x.frame (part_of s t past) d x.name (ap names q) l h
 
+      frees : (n : ℕ) (c : LockNo) → e.what ≡ Free n c → (x : KnownFree s e.cpu (own_of s e.cpu past) n c) → Names s t e past x.frame →
+          EachFrame (P (e ∷ past)) (at_name n freed (part_of s t past))
+      frees n c q x (inl d) =
+          named_head e past n freed x.frame (part_of s t past) d.1 x.name (ap names q) l h (λ low old. k.freed e past n c r x q low old)
+      frees n c q x (inr d) = other_name e past n freed x.frame (part_of s t past) d x.name (ap names q) l h
+
       rewaits : (n : ℕ) (y : Reply) → e.what ≡ Rewait n y → (x : KnownRewait e.cpu (own_of s e.cpu past) (lanes_at s past) n y) → Names s t e past x.frame →
           EachFrame (P (e ∷ past)) (at_name n (rewaited y) (part_of s t past))
       rewaits n y q x (inl d) =
@@ -348,6 +379,9 @@ module _ (s : Script) (limit : ℕ) (P : List Event → Frame → Type 0) (k : F
       go (Call n c y) q =
           let x : KnownCall s e.cpu (own_of s e.cpu past) (lanes_at s past) n c y = known (Call n c y) q refl in
           calls n c y q x (named_or_not s limit t e past x.frame r.1 x.goes_on.inner (by_running (Call n c y) q refl))
+      go (Free n c) q =
+          let x : KnownFree s e.cpu (own_of s e.cpu past) n c = known (Free n c) q refl in
+          frees n c q x (named_or_not s limit t e past x.frame r.1 x.goes_on.inner (by_running (Free n c) q refl))
       go (Rewait n y) q =
           let x : KnownRewait e.cpu (own_of s e.cpu past) (lanes_at s past) n y = known (Rewait n y) q refl in
           rewaits n y q x (named_or_not s limit t e past x.frame r.1 x.goes_on.inner (by_running (Rewait n y) q refl))
@@ -379,6 +413,9 @@ module _ (s : Script) (limit : ℕ) (P : List Event → Frame → Type 0) (k : F
       go (Call n c y) q =
           let x : KnownCall s e.cpu (own_of s e.cpu past) (lanes_at s past) n c y = known (Call n c y) q refl in
           at_frame x.frame n x.name (ap names q) (named_or_not s limit t e past x.frame r.1 x.goes_on.inner (by_running (Call n c y) q refl))
+      go (Free n c) q =
+          let x : KnownFree s e.cpu (own_of s e.cpu past) n c = known (Free n c) q refl in
+          at_frame x.frame n x.name (ap names q) (named_or_not s limit t e past x.frame r.1 x.goes_on.inner (by_running (Free n c) q refl))
       go (Rewait n y) q =
           let x : KnownRewait e.cpu (own_of s e.cpu past) (lanes_at s past) n y = known (Rewait n y) q refl in
           at_frame x.frame n x.name (ap names q) (named_or_not s limit t e past x.frame r.1 x.goes_on.inner (by_running (Rewait n y) q refl))
@@ -435,6 +472,14 @@ module _ (s : Script) (limit : ℕ) (P : List Event → Frame → Type 0) (k : F
           (own_falls p past) h
       calls false n c y q o x (inr d) = stays x.frame n x.name (ap names q) d
 
+      frees : (b : Bool) (n : ℕ) (c : LockNo) → e.what ≡ Free n c → is_of e p ≡ b → (x : KnownFree s e.cpu (own_of s e.cpu past) n c) →
+          OwnNames s p e past x.frame → EachFrame (P (e ∷ past)) (if b then at_name n freed (own_frames p past) else own_frames p past)
+      frees true n c q o x (inl d) =
+          named_head e past n freed x.frame (own_frames p past) d.1 x.name (ap names q) (own_falls p past) h (λ low old. k.freed e past n c r x q low old)
+      frees false n c q o x (inl d) = no_bool d.0 o
+      frees true n c q o x (inr d) = other_name e past n freed x.frame (own_frames p past) d x.name (ap names q) (own_falls p past) h
+      frees false n c q o x (inr d) = stays x.frame n x.name (ap names q) d
+
       ends : (b : Bool) (n : ℕ) → e.what ≡ End n → is_of e p ≡ b → (x : KnownEnd s e.cpu (own_of s e.cpu past) n) → OwnNames s p e past x.frame →
           EachFrame (P (e ∷ past)) (if b then without n (own_frames p past) else own_frames p past)
       ends true n q o x (inl d) = dropped_head e past n x.frame (own_frames p past) d.1 x.name q (own_falls p past) h
@@ -476,6 +521,9 @@ module _ (s : Script) (limit : ℕ) (P : List Event → Frame → Type 0) (k : F
       go b (Call n c y) q o =
           let x : KnownCall s e.cpu (own_of s e.cpu past) (lanes_at s past) n c y = known (Call n c y) q refl in
           calls b n c y q o x (own_named_or_not s limit p e past x.frame r.1 x.goes_on.inner)
+      go b (Free n c) q o =
+          let x : KnownFree s e.cpu (own_of s e.cpu past) n c = known (Free n c) q refl in
+          frees b n c q o x (own_named_or_not s limit p e past x.frame r.1 x.goes_on.inner)
       go b (End n) q o =
           let x : KnownEnd s e.cpu (own_of s e.cpu past) n = known (End n) q refl in
           ends b n q o x (own_named_or_not s limit p e past x.frame r.1 x.goes_on.inner)

@@ -8,15 +8,15 @@ use Rattle.nt_event.specs.declared.commands.Reply.{Reply}
 use Rattle.nt_event.specs.declared.events.Begun.TheVariants.{Apc, Dpc, Int, Threaded}
 use Rattle.nt_event.specs.declared.events.Event.{Event}
 use Rattle.nt_event.specs.declared.events.What.{What}
-use Rattle.nt_event.specs.declared.events.What.TheVariants.{Begin, Call, End, Flush, Gone, Normal, Rewait, Switch}
+use Rattle.nt_event.specs.declared.events.What.TheVariants.{Begin, Call, End, Flush, Free, Gone, Normal, Rewait, Switch}
 use Rattle.nt_event.specs.declared.frames.Body.{Body}
 use Rattle.nt_event.specs.declared.frames.Body.TheVariants.{Apc as OnApc, Base as OnBase, Dpc as OnDpc, Int as OnInt, Rundown as OnRundown, Threaded as OnThreaded}
-use Rattle.nt_event.specs.declared.frames.Frame.{Frame}
+use Rattle.nt_event.specs.Frame.{Frame}
 use Rattle.nt_event.specs.declared.numbers.CpuNo.{CpuNo}
 use Rattle.nt_event.specs.declared.numbers.RoutineNo.{RoutineNo}
 use Rattle.nt_event.specs.declared.numbers.ThreadNo.{ThreadNo}
 use Rattle.nt_event.specs.declared.scripts.Script.{Script}
-use Rattle.nt_event.specs.Frames.{at_name, called, due_of, end_on_thread, flushed, frames_of, is_base_body, ended_base, normal_of, own_after, own_frames, resumed, rewaited, running, thread_after, thread_frames, thread_part, time, without}
+use Rattle.nt_event.specs.Frames.{at_name, called, due_of, end_on_thread, flushed, frames_of, freed, is_base_body, ended_base, normal_of, own_after, own_frames, resumed, rewaited, running, thread_after, thread_frames, thread_part, time, without}
 use Rattle.nt_event.specs.Lanes.{lanes_at}
 use Rattle.nt_event.specs.Own.{own_of}
 use Rattle.nt_event.specs.Routines.{kind_of, rundown_of}
@@ -45,6 +45,9 @@ keep_called due c y = record { name = called_name due c y; body = called_body du
 
 pub keep_rewaited : (y : Reply) → Keeping (rewaited y)
 keep_rewaited y = record { name = λ f. refl; body = λ f. refl }
+
+pub keep_freed : Keeping freed
+keep_freed = record { name = λ f. refl; body = λ f. refl }
 
 pub keep_normal : Keeping normal_of
 keep_normal = record { name = λ f. refl; body = λ f. refl }
@@ -93,6 +96,8 @@ own_after_falls n due (Begin (Threaded d) from) fs h = (omega arith, h)
 own_after_falls n due (Call f c y) fs h =
     falls_from Frame (λ (f : Frame). f.name) n (suc n) (at_name f (called due c y) fs) (omega arith)
     (falls_named n f (called due c y) fs (keep_called due c y) h)
+own_after_falls n due (Free f k) fs h =
+    falls_from Frame (λ (f : Frame). f.name) n (suc n) (at_name f freed fs) (omega arith) (falls_named n f freed fs keep_freed h)
 own_after_falls n due (End f) fs h = falls_from Frame (λ (f : Frame). f.name) n (suc n) (without f fs) (omega arith) (falls_without n f fs h)
 own_after_falls n due w fs h = falls_from Frame (λ (f : Frame). f.name) n (suc n) fs (omega arith) h
 
@@ -122,6 +127,8 @@ thread_after_falls s n due (Rewait f y) fs h =
     falls_from Frame (λ (f : Frame). f.name) n (suc n) (at_name f (rewaited y) fs) (omega arith) (falls_named n f (rewaited y) fs (keep_rewaited y) h)
 thread_after_falls s n due (Normal f) fs h =
     falls_from Frame (λ (f : Frame). f.name) n (suc n) (at_name f normal_of fs) (omega arith) (falls_named n f normal_of fs keep_normal h)
+thread_after_falls s n due (Free f k) fs h =
+    falls_from Frame (λ (f : Frame). f.name) n (suc n) (at_name f freed fs) (omega arith) (falls_named n f freed fs keep_freed h)
 thread_after_falls s n due (End f) fs h = falls_from Frame (λ (f : Frame). f.name) n (suc n) (end_on_thread f fs) (omega arith) (falls_end n f fs h)
 thread_after_falls s n due (Gone t) fs h = tt
 thread_after_falls s n due w fs h = falls_from Frame (λ (f : Frame). f.name) n (suc n) fs (omega arith) h
@@ -190,6 +197,7 @@ own_after_each P n due (Begin (Int l) from) fs new h = (new (OnInt l) refl, h)
 own_after_each P n due (Begin (Dpc d) from) fs new h = (new (OnDpc d) refl, h)
 own_after_each P n due (Begin (Threaded d) from) fs new h = (new (OnThreaded d) refl, h)
 own_after_each P n due (Call f c y) fs new h = each_at_name P f (called due c y) fs (keep_called due c y) h
+own_after_each P n due (Free f k) fs new h = each_at_name P f freed fs keep_freed h
 own_after_each P n due (End f) fs new h = each_without P f fs h
 own_after_each P n due w fs new h = h
 
@@ -207,6 +215,7 @@ thread_after_each P s n due (Flush a from) fs base inner h = go (rundown_of s a)
 thread_after_each P s n due (Call f c y) fs base inner h = each_at_name P f (called due c y) fs (keep_called due c y) h
 thread_after_each P s n due (Rewait f y) fs base inner h = each_at_name P f (rewaited y) fs (keep_rewaited y) h
 thread_after_each P s n due (Normal f) fs base inner h = each_at_name P f normal_of fs keep_normal h
+thread_after_each P s n due (Free f k) fs base inner h = each_at_name P f freed fs keep_freed h
 thread_after_each P s n due (End f) fs base inner h = each_end P f fs h
 thread_after_each P s n due (Gone t) fs base inner h = tt
 thread_after_each P s n due w fs base inner h = h
@@ -441,6 +450,7 @@ own_stays n m b due (Begin (Int l) from) fs d h = inr h
 own_stays n m b due (Begin (Dpc x) from) fs d h = inr h
 own_stays n m b due (Begin (Threaded x) from) fs d h = inr h
 own_stays n m b due (Call f c y) fs d h = has_at_name n f b (called due c y) fs (keep_called due c y) h
+own_stays n m b due (Free f k) fs d h = has_at_name n f b freed fs keep_freed h
 own_stays n m b due (End f) fs d h = has_without n f b fs d h
 own_stays n m b due w fs d h = h
 

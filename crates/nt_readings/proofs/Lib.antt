@@ -12,5 +12,6 @@ pub mod Regions
 pub mod Deliverable
 pub mod Timers
 pub mod Declared
+pub mod Locks
 pub mod Phases
 pub mod OneFate

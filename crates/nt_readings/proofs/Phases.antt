@@ -1,99 +1,144 @@
 -- In a run each open frame has the level, place, phase and wait that the events of its present phase tell.
 use Rattle.std.proofs.Common.{ap, arith, inl, inr, subst, sym, ◌∙◌}
 use Rattle.std.proofs.lemmas.Bool.{both_ways, eq-eqb, lt-ltb}
-use Rattle.std.specs.Prelude.{Bool, List, None, Option, Some, false, if◌then◌else◌, length, refl, suc, true, ℕ, ◌+◌, ◌<◌, ◌==◌, ◌∷◌, ◌≡◌, ◌≤◌, ◌⊎◌}
+use Rattle.std.specs.Option.{option_map_or}
+use Rattle.std.specs.Prelude.{Bool, List, None, Option, Some, false, if◌then◌else◌, length, nat_lt, not, refl, suc, true, ℕ, ◌&&◌, ◌+◌, ◌<◌, ◌==◌, ◌∷◌, ◌≡◌, ◌≤◌, ◌⊎◌}
 use Rattle.nt_event.specs.declared.commands.Command.{Command}
-use Rattle.nt_event.specs.declared.commands.Command.TheVariants.{Delay, Lower, Raise, StartWait}
+use Rattle.nt_event.specs.declared.commands.Command.TheVariants.{Acquire, Delay, Lower, Raise, StartWait, Unlock}
+use Rattle.nt_event.specs.declared.commands.Refusal.TheVariants.{NotLast, TooHigh}
 use Rattle.nt_event.specs.declared.commands.Reply.{Reply}
-use Rattle.nt_event.specs.declared.commands.Reply.TheVariants.{Blocked, Done, Status}
+use Rattle.nt_event.specs.declared.commands.Reply.TheVariants.{Blocked, Done, Spin, Status}
 use Rattle.nt_event.specs.declared.events.Event.{Event}
 use Rattle.nt_event.specs.declared.events.What.{What}
-use Rattle.nt_event.specs.declared.events.What.TheVariants.{Call, End, Normal, Rewait, Switch}
+use Rattle.nt_event.specs.declared.events.What.TheVariants.{Call, Free, Normal, End, Rewait, Switch}
 use Rattle.nt_event.specs.declared.frames.Again.{Again}
 use Rattle.nt_event.specs.declared.frames.Body.{Body}
 use Rattle.nt_event.specs.declared.frames.Body.TheVariants.{Apc as OnApc, Base as OnBase}
-use Rattle.nt_event.specs.declared.frames.Frame.{Frame}
+use Rattle.nt_event.specs.declared.frames.Held.{Held}
+use Rattle.nt_event.specs.Frame.{Frame}
 use Rattle.nt_event.specs.declared.numbers.CpuNo.{CpuNo}
+use Rattle.nt_event.specs.declared.numbers.LockNo.{LockNo}
 use Rattle.nt_event.specs.declared.numbers.ThreadNo.{ThreadNo}
 use Rattle.nt_event.specs.declared.scripts.Script.{Script}
-use Rattle.nt_event.specs.Frames.{again_after, base_level, base_of, called, due_of, is_apc_body, is_base_body, ended_base, new_frame, normal_of, resumed, rewaited, thread_frames, time}
-use Rattle.nt_event.specs.Jobs.{has_normal}
-use Rattle.nt_event.specs.Lanes.{lanes_at}
-use Rattle.nt_event.specs.Own.{own_of}
+use Rattle.nt_event.specs.Frames.{again_after, base_level, base_of, called, due_of, freed, freed_level, is_apc_body, is_base_body, ended_base, new_frame, normal_of, place_after, resumed, rewaited, time}
+use Rattle.nt_event.proofs.Options.{not_false}
+use Rattle.nt_event.specs.Commands.{is_last}
+use Rattle.nt_event.specs.Jobs.{has_normal, level_at}
+use Rattle.nt_event.specs.Lanes.{Lanes, lanes_at}
+use Rattle.nt_event.specs.Lists.{head_of}
+use Rattle.nt_event.specs.Locks.{Frees, Gets, NoMove, Spins, lock_move}
+use Rattle.nt_event.specs.Own.{Own, own_of}
 use Rattle.nt_event.specs.Regions.{stand_at}
-use Rattle.nt_event.specs.Routines.{cpu_of}
 use Rattle.nt_event.specs.Step.{IsRun}
-use Rattle.nt_event.specs.Replies.{kernel_apc}
-use Rattle.nt_runs.proofs.Known.{Known, KnownRewait, again_known, legal_known}
-use Rattle.nt_runs.proofs.Running.{running_here}
+use Rattle.nt_event.specs.Replies.{is_spin, kernel_apc}
+use Rattle.nt_runs.proofs.Calm.{next_test}
+use Rattle.nt_runs.proofs.Known.{Known, KnownCall, KnownFree, KnownRewait, again_known, legal_known}
+use Rattle.nt_runs.proofs.Stops.{call_accepted, refuse_none}
 use Rattle.nt_runs.proofs.Turns.{is_next}
 use Rattle.nt_readings.specs.Positions.{At, EachAfter}
-use Rattle.nt_readings.specs.Phases.{FramesTold, IsLastWait, IsLeveled, IsPhased, IsTold, IsWaited, is_call_of, is_normal_of, is_wait_reply, level_set, wait_called}
-use Rattle.nt_readings.specs.Regions.{EachFrame, count_after, phase_of, renews}
-use Rattle.nt_readings.proofs.Follow.{Follows, IsAside, IsNamer, each_own, each_part, namer, not_equal}
+use Rattle.nt_readings.specs.Locks.{IsKeptWith, LocksToldOf}
+use Rattle.nt_readings.specs.Phases.{FramesTold, IsLastWait, IsLevelCall, IsLevelEvent, IsLeveled, IsPhased, IsTold, IsWaited, LeavesLevel, is_call_of, is_normal_of, is_wait_reply, wait_called}
+use Rattle.nt_readings.specs.Regions.{count_after, phase_of, renews}
+use Rattle.nt_readings.proofs.Follow.{Follows, IsAside, each_own, each_part, inner_has, names, not_equal}
 use Rattle.nt_readings.proofs.Frames.{keep_called}
-use Rattle.nt_readings.proofs.Regions.{count_none, count_silent, phase_below, phase_new, phase_silent, silent}
-use Rattle.nt_readings.proofs.Served.{none_after}
-
--- ---- phases
-
--- an event that begins the frame's phase anew
-phase_anew : (n : ℕ) (e : Event) (past : List Event) → n < length past → renews n e.what ≡ true → phase_of n (e ∷ past) ≡ length past
-phase_anew n e past l h = rw (lt-ltb n (length past) l, h) refl
-
-normal_anew : (n : ℕ) (w : What) → w ≡ Normal n → renews n w ≡ true
-normal_anew n w k = ap (renews n) k ∙ eq-eqb n n refl
-
-end_anew : (n : ℕ) (w : What) → w ≡ End n → renews n w ≡ true
-end_anew n w k = ap (renews n) k ∙ eq-eqb n n refl
-
-none_yet : (P : Event → List Event → Type 0) (n : ℕ) (e : Event) (past : List Event) → length past ≤ n → EachAfter P n (e ∷ past)
-none_yet P n e past l = (λ h. absurd (omega (arith, h, l)), none_after P n past l)
+use Rattle.nt_readings.proofs.Locks.{inner_told, last_kept}
+use Rattle.nt_readings.proofs.Regions.{count_none, count_silent, end_anew, normal_anew, phase_anew, phase_below, phase_new, phase_silent, silent}
+use Rattle.nt_readings.proofs.Served.{none_yet}
 
 -- ---- levels
 
 -- with a level, of a frame of this name and base level
-abbrev Leveled : List Event → ℕ → ℕ → ℕ → Type 0
-Leveled past n level base = ((level ≡ base) × EachAfter (λ e before. level_set n e.what ≡ None) (phase_of n past) past) ⊎
-    ((k : ℕ) × (phase_of n past < k) × At (λ e before. level_set n e.what ≡ Some level) k past × EachAfter (λ e before. level_set n e.what ≡ None) k past)
+abbrev Leveled : Script → List Event → ℕ → ℕ → ℕ → Type 0
+Leveled s past n level base = ((level ≡ base) × EachAfter (λ e before. IsLevelEvent n e.what → ⊥) (phase_of n past) past) ⊎
+    ((m : ℕ) × (phase_of n past < m) × At (LeavesLevel s n level) m past × EachAfter (λ e before. IsLevelEvent n e.what → ⊥) m past)
 
-level_aside : (n : ℕ) (w : What) → IsAside n w → level_set n w ≡ None
-level_aside n (Call f (Raise level) Done) h = ap (λ (b : Bool). if b then Some level else None) (not_equal f n (h f refl))
-level_aside n (Call f (Lower level) Done) h = ap (λ (b : Bool). if b then Some level else None) (not_equal f n (h f refl))
-level_aside n w h = refl
+-- an event that changes the level names its frame
+level_names : (n : ℕ) (w : What) → IsLevelEvent n w → names w ≡ Some n
+level_names n w (inl (v, inl q)) = ap names q
+level_names n w (inl (v, inr q)) = ap names q
+level_names n w (inr (inl (k, inl q))) = ap names q
+level_names n w (inr (inl (k, inr q))) = ap names q
+level_names n w (inr (inr (k, inl q))) = ap names q
+level_names n w (inr (inr (k, inr q))) = ap names q
 
-leveled_on : (n level base : ℕ) (e : Event) (past : List Event) → renews n e.what ≡ false → level_set n e.what ≡ None → Leveled past n level base →
-    Leveled (e ∷ past) n level base
-leveled_on n level base e past a b (inl h) =
+level_aside : (n : ℕ) (w : What) → IsAside n w → IsLevelEvent n w → ⊥
+level_aside n w a h = a n (level_names n w h) refl
+
+leveled_on : (s : Script) (n level base : ℕ) (e : Event) (past : List Event) → renews n e.what ≡ false → (IsLevelEvent n e.what → ⊥) →
+    Leveled s past n level base → Leveled s (e ∷ past) n level base
+leveled_on s n level base e past a b (inl h) =
     let p = phase_silent n e past a in
-    inl (h.0, subst (λ (m : ℕ). EachAfter (λ e before. level_set n e.what ≡ None) m (e ∷ past)) (sym p) ((λ l. b), h.1))
-leveled_on n level base e past a b (inr h) =
+    inl (h.0, subst (λ (m : ℕ). EachAfter (λ e before. IsLevelEvent n e.what → ⊥) m (e ∷ past)) (sym p) ((λ l. b), h.1))
+leveled_on s n level base e past a b (inr h) =
     let p = phase_silent n e past a in
     inr (h.0, subst (λ (m : ℕ). m < h.0) (sym p) h.1, inr h.2, ((λ l. b), h.3))
 
-leveled_anew : (n level base : ℕ) (e : Event) (past : List Event) → level ≡ base → phase_of n (e ∷ past) ≡ length past → Leveled (e ∷ past) n level base
-leveled_anew n level base e past h p =
+leveled_anew : (s : Script) (n level base : ℕ) (e : Event) (past : List Event) → level ≡ base → phase_of n (e ∷ past) ≡ length past →
+    Leveled s (e ∷ past) n level base
+leveled_anew s n level base e past h p =
     inl (
       h,
-      subst (λ (m : ℕ). EachAfter (λ e before. level_set n e.what ≡ None) m (e ∷ past)) (sym p)
-          (none_yet (λ e before. level_set n e.what ≡ None) (length past) e past (omega arith)),
+      subst (λ (m : ℕ). EachAfter (λ e before. IsLevelEvent n e.what → ⊥) m (e ∷ past)) (sym p)
+          (none_yet (λ e before. IsLevelEvent n e.what → ⊥) (length past) e past (omega arith)),
     )
 
-leveled_set : (n level base : ℕ) (e : Event) (past : List Event) → n < length past → renews n e.what ≡ false → level_set n e.what ≡ Some level →
-    Leveled (e ∷ past) n level base
-leveled_set n level base e past l a b =
+leveled_set : (s : Script) (n level base : ℕ) (e : Event) (past : List Event) → n < length past → renews n e.what ≡ false → LeavesLevel s n level e past →
+    Leveled s (e ∷ past) n level base
+leveled_set s n level base e past l a b =
     let p = phase_silent n e past a in
     let q = phase_below n past l in
-    inr (length past, omega (arith, p, q), inl (refl, b), none_yet (λ e before. level_set n e.what ≡ None) (length past) e past (omega arith))
+    inr (length past, omega (arith, p, q), inl (refl, b), none_yet (λ e before. IsLevelEvent n e.what → ⊥) (length past) e past (omega arith))
 
-call_level : (due : Option ℕ) (c : Command) (y : Reply) (f : Frame) → (level_set f.name (Call f.name c y) ≡ Some (called due c y f).level) ⊎
-    ((level_set f.name (Call f.name c y) ≡ None) × ((called due c y f).level ≡ f.level))
-call_level due (StartWait m a) y f = inr (refl, refl)
-call_level due (Delay m a u) y f = inr (refl, refl)
-call_level due (Raise level) Done f = inl (ap (λ (b : Bool). if b then Some level else None) (eq-eqb f.name f.name refl))
-call_level due (Lower level) Done f = inl (ap (λ (b : Bool). if b then Some level else None) (eq-eqb f.name f.name refl))
-call_level due c Done f = inr (refl, refl)
-call_level due c y f = inr (refl, refl)
+-- a call with this move of a lock is no accepted raise or lower, try or unlock
+level_moves : (n : ℕ) (w : What) → lock_move w ≡ NoMove → ((v : ℕ) → IsLevelCall n v w → ⊥) → IsLevelEvent n w → ⊥
+level_moves n w m c (inl (v, q)) = c v q
+level_moves n w m c (inr (inl (k, inl q))) = let z : Gets k ≡ NoMove = sym (ap lock_move q) ∙ m in cc
+level_moves n w m c (inr (inl (k, inr q))) = let z : Spins k ≡ NoMove = sym (ap lock_move q) ∙ m in cc
+level_moves n w m c (inr (inr (k, inl q))) = let z : Frees k ≡ NoMove = sym (ap lock_move q) ∙ m in cc
+level_moves n w m c (inr (inr (k, inr q))) = let z : Frees k ≡ NoMove = sym (ap lock_move q) ∙ m in cc
+
+-- what a call does to the level of its frame, whose locks are told
+abbrev CallLevel : Script → Command → Reply → Frame → ℕ → Event → List Event → Type 0
+CallLevel s c y f level e past = LeavesLevel s f.name level e past ⊎ ((IsLevelEvent f.name e.what → ⊥) × (level ≡ f.level))
+
+call_level : (s : Script) (p : CpuNo) (x : Own) (l : Lanes) (m : ℕ) (due : Option ℕ) (c : Command) (y : Reply) (k : KnownCall s p x l m c y) (e : Event)
+    (past : List Event) → e.what ≡ Call k.frame.name c y → LocksToldOf s past k.frame →
+    CallLevel s c y k.frame (called due c y k.frame).level e past
+call_level s p x l m due (Raise v) Done k e past q h = inl (inl (inl q))
+call_level s p x l m due (Lower v) Done k e past q h = inl (inl (inr q))
+call_level s p x l m due (Acquire a) Done k e past q h = inl (inr (inl (refl, (a, inl q))))
+call_level s p x l m due (Acquire a) Spin k e past q h = inl (inr (inl (refl, (a, inr q))))
+call_level s p x l m due (Unlock a) Done k e past q h =
+    inl (inr (inr (a, inl q, last_kept s past k.frame.name k.frame.held k.frame.spin a k.frame.level h last)))
+  where
+    last : is_last a k.frame ≡ true
+    last =
+        not_false (is_last a k.frame) (refuse_none (not (is_last a k.frame)) NotLast None (next_test (nat_lt 2 (level_at x)) TooHigh _
+        (call_accepted s p x l m (Unlock a) Done k refl).0))
+call_level s p x l m due (StartWait w a) y k e past q h =
+    inr (level_moves k.frame.name e.what (ap lock_move q) (λ v z. other v z q), refl)
+  where
+    other : (v : ℕ) → IsLevelCall k.frame.name v e.what → e.what ≡ Call k.frame.name (StartWait w a) y → ⊥
+    other v (inl i) j = cc
+    other v (inr i) j = cc
+call_level s p x l m due (Delay w a u) y k e past q h =
+    inr (level_moves k.frame.name e.what (ap lock_move q) (λ v z. other v z q), refl)
+  where
+    other : (v : ℕ) → IsLevelCall k.frame.name v e.what → e.what ≡ Call k.frame.name (Delay w a u) y → ⊥
+    other v (inl i) j = cc
+    other v (inr i) j = cc
+call_level s p x l m due c Done k e past q h =
+    inr (level_moves k.frame.name e.what (ap lock_move q) (λ v z. other v z q), refl)
+  where
+    other : (v : ℕ) → IsLevelCall k.frame.name v e.what → e.what ≡ Call k.frame.name c Done → ⊥
+    other v (inl i) j = cc
+    other v (inr i) j = cc
+call_level s p x l m due c y k e past q h =
+    inr (level_moves k.frame.name e.what (ap lock_move q) (λ v z. other v z q), refl)
+  where
+    other : (v : ℕ) → IsLevelCall k.frame.name v e.what → e.what ≡ Call k.frame.name c y → ⊥
+    other v (inl i) j = cc
+    other v (inr i) j = cc
 
 called_phase : (due : Option ℕ) (c : Command) (y : Reply) (f : Frame) → (called due c y f).kernel_phase ≡ f.kernel_phase
 called_phase due (StartWait m a) y f = refl
@@ -106,19 +151,17 @@ called_base : (due : Option ℕ) (c : Command) (y : Reply) (f : Frame) → base_
 called_base due c y f =
     ap (λ (b : Body). base_level b (called due c y f).kernel_phase) ((keep_called due c y).body f) ∙ ap (base_level f.body) (called_phase due c y f)
 
-call_leveled : (due : Option ℕ) (c : Command) (y : Reply) (f : Frame) (e : Event) (past : List Event) → f.name < length past → e.what ≡ Call f.name c y →
-    IsLeveled past f → Leveled (e ∷ past) f.name (called due c y f).level (base_of f)
-call_leveled due c y f e past l k h = go (call_level due c y f)
+call_leveled : (s : Script) (c : Command) (y : Reply) (f : Frame) (level : ℕ) (e : Event) (past : List Event) → f.name < length past →
+    e.what ≡ Call f.name c y → CallLevel s c y f level e past → IsLeveled s past f → Leveled s (e ∷ past) f.name level (base_of f)
+call_leveled s c y f level e past l k a h = go a
   where
     same : renews f.name e.what ≡ false
     same = ap (renews f.name) k
 
-    go : (level_set f.name (Call f.name c y) ≡ Some (called due c y f).level) ⊎
-        ((level_set f.name (Call f.name c y) ≡ None) × ((called due c y f).level ≡ f.level)) → Leveled (e ∷ past) f.name (called due c y f).level (base_of f)
-    go (inl a) = leveled_set f.name (called due c y f).level (base_of f) e past l same (ap (level_set f.name) k ∙ a)
+    go : CallLevel s c y f level e past → Leveled s (e ∷ past) f.name level (base_of f)
+    go (inl a) = leveled_set s f.name level (base_of f) e past l same a
     go (inr a) =
-        subst (λ (v : ℕ). Leveled (e ∷ past) f.name v (base_of f)) (sym a.1)
-        (leveled_on f.name f.level (base_of f) e past same (ap (level_set f.name) k ∙ a.0) h)
+        subst (λ (v : ℕ). Leveled s (e ∷ past) f.name v (base_of f)) (sym a.1) (leveled_on s f.name f.level (base_of f) e past same a.0 h)
 
 -- the base level of an APC in its normal routine, and of a base frame
 normal_base : (f : Frame) → has_normal f.body ≡ true → 0 ≡ base_of (normal_of f)
@@ -138,7 +181,7 @@ left_base f h = go f.body h
 -- ---- places
 
 call_aside : (n : ℕ) (w : What) → IsAside n w → is_call_of n w ≡ false
-call_aside n (Call f c y) h = not_equal f n (h f refl)
+call_aside n (Call f c y) h = ap (λ (b : Bool). b && not (is_spin y)) (not_equal f n (h f refl))
 call_aside n w h = refl
 
 placed_on : (n place : ℕ) (e : Event) (past : List Event) → renews n e.what ≡ false → is_call_of n e.what ≡ false → place
@@ -149,13 +192,20 @@ placed_on n place e past a b h =
     h ∙ sym (p ∙ q)
 
 placed_called : (n place : ℕ) (c : Command) (y : Reply) (e : Event) (past : List Event) → n < length past → e.what ≡ Call n c y → place
-    ≡ count_after (is_call_of n) (phase_of n past) past → place + 1 ≡ count_after (is_call_of n) (phase_of n (e ∷ past)) (e ∷ past)
-placed_called n place c y e past l k h =
-    let p = ap (λ (m : ℕ). count_after (is_call_of n) m (e ∷ past)) (phase_silent n e past (ap (renews n) k)) in
-    let q : count_after (is_call_of n) (phase_of n past) (e ∷ past)
-    ≡ suc (count_after (is_call_of n) (phase_of n past) past) = rw
-    (lt-ltb (phase_of n past) (length past) (phase_below n past l), k, eq-eqb n n refl) refl in
-    omega (arith, p, q, h)
+    ≡ count_after (is_call_of n) (phase_of n past) past → place_after y place ≡ count_after (is_call_of n) (phase_of n (e ∷ past)) (e ∷ past)
+placed_called n place c y e past l k h = go (is_spin y) refl
+  where
+    here : is_call_of n e.what ≡ not (is_spin y)
+    here = ap (is_call_of n) k ∙ ap (λ (b : Bool). b && not (is_spin y)) (eq-eqb n n refl)
+
+    go : (b : Bool) → is_spin y ≡ b → (if b then place else place + 1) ≡ count_after (is_call_of n) (phase_of n (e ∷ past)) (e ∷ past)
+    go true q = placed_on n place e past (ap (renews n) k) (here ∙ ap not q) h
+    go false q =
+        let p = ap (λ (m : ℕ). count_after (is_call_of n) m (e ∷ past)) (phase_silent n e past (ap (renews n) k)) in
+        let now : is_call_of n e.what ≡ true = here ∙ ap not q in
+        let z : count_after (is_call_of n) (phase_of n past) (e ∷ past)
+        ≡ suc (count_after (is_call_of n) (phase_of n past) past) = rw (lt-ltb (phase_of n past) (length past) (phase_below n past l), now) refl in
+        omega (arith, p, z, h)
 
 placed_anew : (n m : ℕ) (past : List Event) → phase_of n past ≡ m → length past ≤ suc m → 0 ≡ count_after (is_call_of n) (phase_of n past) past
 placed_anew n m past p l = sym (ap (λ (m : ℕ). count_after (is_call_of n) m past) p ∙ count_none (is_call_of n) m past l)
@@ -272,38 +322,62 @@ waited_same y n past o h = go (again_same y o)
     go (inl q) = subst (Waited past n) (sym q) h
     go (inr q) = subst (Waited past n) (sym q) (waited_none n past)
 
+-- ---- events that change no level
+
+level_quiet : (n : ℕ) (w v : What) → w ≡ v → (IsLevelEvent n v → ⊥) → IsLevelEvent n w → ⊥
+level_quiet n w v q a h = a (subst (IsLevelEvent n) q h)
+
+no_rewait : (n : ℕ) (y : Reply) → IsLevelEvent n (Rewait n y) → ⊥
+no_rewait n y (inl (v, inl q)) = cc
+no_rewait n y (inl (v, inr q)) = cc
+no_rewait n y (inr (inl (k, inl q))) = cc
+no_rewait n y (inr (inl (k, inr q))) = cc
+no_rewait n y (inr (inr (k, inl q))) = cc
+no_rewait n y (inr (inr (k, inr q))) = cc
+
+no_switch : (n : ℕ) (t : ThreadNo) (st : Option ℕ) → IsLevelEvent n (Switch t st) → ⊥
+no_switch n t st (inl (v, inl q)) = cc
+no_switch n t st (inl (v, inr q)) = cc
+no_switch n t st (inr (inl (k, inl q))) = cc
+no_switch n t st (inr (inl (k, inr q))) = cc
+no_switch n t st (inr (inr (k, inl q))) = cc
+no_switch n t st (inr (inr (k, inr q))) = cc
+
 -- ---- each open frame
 
-told_on : (e : Event) (past : List Event) (f : Frame) → renews f.name e.what ≡ false → level_set f.name e.what ≡ None → is_call_of f.name e.what ≡ false →
-    is_normal_of f.name e.what ≡ false → wait_called f.name (time past) e.what ≡ None → IsTold past f → IsTold (e ∷ past) f
-told_on e past f a b c d i h =
+told_on : (s : Script) (e : Event) (past : List Event) (f : Frame) → renews f.name e.what ≡ false → (IsLevelEvent f.name e.what → ⊥) →
+    is_call_of f.name e.what ≡ false → is_normal_of f.name e.what ≡ false → wait_called f.name (time past) e.what ≡ None → IsTold s past f →
+    IsTold s (e ∷ past) f
+told_on s e past f a b c d i h =
     record {
-      level = leveled_on f.name f.level (base_of f) e past a b h.level;
+      level = leveled_on s f.name f.level (base_of f) e past a b h.level;
       place = placed_on f.name f.place e past a c h.place;
       phase = phased_on e past f d h.phase;
       wait = waited_on f.name f.again e past a i h.wait;
     }
 
-told_new : (e : Event) (past : List Event) (b : Body) → IsTold (e ∷ past) (new_frame (length past) b)
-told_new e past b =
+told_new : (s : Script) (e : Event) (past : List Event) (b : Body) → IsTold s (e ∷ past) (new_frame (length past) b)
+told_new s e past b =
     let p = phase_new (length past) (e ∷ past) (omega arith) in
     record {
-      level = leveled_anew (length past) (base_level b (is_apc_body b)) (base_level b (is_apc_body b)) e past refl p;
+      level = leveled_anew s (length past) (base_level b (is_apc_body b)) (base_level b (is_apc_body b)) e past refl p;
       place = placed_anew (length past) (length past) (e ∷ past) p (omega arith);
       phase = (λ q. (q, none_yet (λ e before. is_normal_of (length past) e.what ≡ false) (length past) e past (omega arith)), λ q n. q);
       wait = waited_none (length past) (e ∷ past);
     }
 
-told_called : (c : Command) (y : Reply) (f : Frame) (e : Event) (past : List Event) → f.name < length past → e.what ≡ Call f.name c y → IsTold past f →
-    IsTold (e ∷ past) (called (due_of e.what (time past)) c y f)
-told_called c y f e past l k h =
+told_called : (s : Script) (c : Command) (y : Reply) (f : Frame) (e : Event) (past : List Event) → f.name < length past → e.what ≡ Call f.name c y →
+    CallLevel s c y f (called (due_of e.what (time past)) c y f).level e past → IsTold s past f →
+    IsTold s (e ∷ past) (called (due_of e.what (time past)) c y f)
+told_called s c y f e past l k a h =
     let due = due_of e.what (time past) in
     let name = (keep_called due c y).name f in
     let body = (keep_called due c y).body f in
     let kernel = called_phase due c y f in
-    let level = subst (λ (n : ℕ). Leveled (e ∷ past) n (called due c y f).level (base_of (called due c y f))) (sym name)
-    (subst (Leveled (e ∷ past) f.name (called due c y f).level) (sym (called_base due c y f)) (call_leveled due c y f e past l k h.level)) in
-    let place = subst (λ (n : ℕ). f.place + 1 ≡ count_after (is_call_of n) (phase_of n (e ∷ past)) (e ∷ past)) (sym name)
+    let level = subst (λ (n : ℕ). Leveled s (e ∷ past) n (called due c y f).level (base_of (called due c y f))) (sym name)
+    (subst (Leveled s (e ∷ past) f.name (called due c y f).level) (sym (called_base due c y f))
+    (call_leveled s c y f (called due c y f).level e past l k a h.level)) in
+    let place = subst (λ (n : ℕ). place_after y f.place ≡ count_after (is_call_of n) (phase_of n (e ∷ past)) (e ∷ past)) (sym name)
     (placed_called f.name f.place c y e past l k h.place) in
     let on = phased_on e past f (ap (is_normal_of f.name) k) h.phase in
     let wait = subst (λ (n : ℕ). Waited (e ∷ past) n (called due c y f).again) (sym name) (call_waited c y f e past l k h.wait) in
@@ -318,12 +392,12 @@ told_called c y f e past l k h =
           ∙ on.1 (ap is_apc_body (sym body) ∙ q) (subst (λ (n : ℕ). NoNormal n (e ∷ past)) name m),
     )
 
-told_normal : (f : Frame) (e : Event) (past : List Event) → f.name < length past → e.what ≡ Normal f.name → has_normal f.body ≡ true →
-    IsTold (e ∷ past) (normal_of f)
-told_normal f e past l k n =
+told_normal : (s : Script) (f : Frame) (e : Event) (past : List Event) → f.name < length past → e.what ≡ Normal f.name → has_normal f.body ≡ true →
+    IsTold s (e ∷ past) (normal_of f)
+told_normal s f e past l k n =
     let p = phase_anew f.name e past l (normal_anew f.name e.what k) in
     record {
-      level = leveled_anew f.name 0 (base_of (normal_of f)) e past (normal_base f n) p;
+      level = leveled_anew s f.name 0 (base_of (normal_of f)) e past (normal_base f n) p;
       place = placed_anew f.name (length past) (e ∷ past) p (omega arith);
       phase = (λ q. no_bool q, λ q m. absurd (both_ways (is_normal_of f.name e.what) (m.0 l) (ap (is_normal_of f.name) k ∙ eq-eqb f.name f.name refl)));
       wait = waited_none f.name (e ∷ past);
@@ -332,50 +406,79 @@ told_normal f e past l k n =
     no_bool : {A : Type 0} → false ≡ true → A
     no_bool q = cc
 
-told_left : (f : Frame) (e : Event) (past : List Event) → f.name < length past → e.what ≡ End f.name → is_base_body f.body ≡ true → IsTold past f →
-    IsTold (e ∷ past) (ended_base f)
-told_left f e past l k b h =
+told_left : (s : Script) (f : Frame) (e : Event) (past : List Event) → f.name < length past → e.what ≡ End f.name → is_base_body f.body ≡ true →
+    IsTold s past f → IsTold s (e ∷ past) (ended_base f)
+told_left s f e past l k b h =
     let p = phase_anew f.name e past l (end_anew f.name e.what k) in
     let on = phased_on e past f (ap (is_normal_of f.name) k) h.phase in
     record {
-      level = leveled_anew f.name 0 (base_of (ended_base f)) e past (left_base f b) p;
+      level = leveled_anew s f.name 0 (base_of (ended_base f)) e past (left_base f b) p;
       place = placed_anew f.name (length past) (e ∷ past) p (omega arith);
       phase = (on.0, on.1);
       wait = waited_none f.name (e ∷ past);
     }
 
-told_rewaited : (y : Reply) (f : Frame) (e : Event) (past : List Event) → e.what ≡ Rewait f.name y → IsTold past f → IsTold (e ∷ past) (rewaited y f)
-told_rewaited y f e past k h =
-    let on = told_on e past f (ap (renews f.name) k) (ap (level_set f.name) k) (ap (is_call_of f.name) k) (ap (is_normal_of f.name) k)
-    (ap (wait_called f.name (time past)) k) h in
+told_rewaited : (s : Script) (y : Reply) (f : Frame) (e : Event) (past : List Event) → e.what ≡ Rewait f.name y → IsTold s past f →
+    IsTold s (e ∷ past) (rewaited y f)
+told_rewaited s y f e past k h =
+    let on = told_on s e past f (ap (renews f.name) k) (level_quiet f.name e.what (Rewait f.name y) k (no_rewait f.name y)) (ap (is_call_of f.name) k)
+    (ap (is_normal_of f.name) k) (ap (wait_called f.name (time past)) k) h in
     record { level = on.level; place = on.place; phase = (on.phase.0, on.phase.1); wait = waited_same y f.name (e ∷ past) f.again on.wait }
 
-told_resumed : (st : Option ℕ) (t : ThreadNo) (f : Frame) (e : Event) (past : List Event) → e.what ≡ Switch t st → IsTold past f →
-    IsTold (e ∷ past) (resumed st f)
-told_resumed st t f e past k h = go st (told_on e past f (ap (renews f.name) k) (ap (level_set f.name) k) (ap (is_call_of f.name) k)
-    (ap (is_normal_of f.name) k) (ap (wait_called f.name (time past)) k) h)
+told_resumed : (s : Script) (st : Option ℕ) (t : ThreadNo) (f : Frame) (e : Event) (past : List Event) → e.what ≡ Switch t st → IsTold s past f →
+    IsTold s (e ∷ past) (resumed st f)
+told_resumed s st t f e past k h = go st (told_on s e past f (ap (renews f.name) k) (level_quiet f.name e.what (Switch t st) k (no_switch f.name t st))
+    (ap (is_call_of f.name) k) (ap (is_normal_of f.name) k) (ap (wait_called f.name (time past)) k) h)
   where
-    go : (st : Option ℕ) → IsTold (e ∷ past) f → IsTold (e ∷ past) (resumed st f)
+    go : (st : Option ℕ) → IsTold s (e ∷ past) f → IsTold s (e ∷ past) (resumed st f)
     go None on = on
     go (Some x) on =
         record { level = on.level; place = on.place; phase = (on.phase.0, on.phase.1); wait = waited_same (Status x) f.name (e ∷ past) f.again on.wait }
 
-frames_follow : (s : Script) (limit : ℕ) → Follows s limit IsTold
+-- a Free leaves the level that is kept with the lock
+told_freed : (s : Script) (limit : ℕ) (e : Event) (past : List Event) (n : ℕ) (k : LockNo) → IsRun s limit (e ∷ past) →
+    (x : KnownFree s e.cpu (own_of s e.cpu past) n k) → e.what ≡ Free x.frame.name k → x.frame.name < length past → IsTold s past x.frame →
+    IsTold s (e ∷ past) (freed x.frame)
+told_freed s limit e past n k r x q l h =
+    let f = x.frame in
+    let on = phased_on e past x.frame (ap (is_normal_of x.frame.name) q) h.phase in
+    record {
+      level = leveled_set s x.frame.name (freed_level x.frame) (base_of x.frame) e past l (ap (renews x.frame.name) q) (inr (inr (k, inr q, kept)));
+      place = placed_on x.frame.name x.frame.place e past (ap (renews x.frame.name) q) (ap (is_call_of x.frame.name) q) h.place;
+      phase = (on.0, on.1);
+      wait = waited_on x.frame.name x.frame.again e past (ap (renews x.frame.name) q) (ap (wait_called x.frame.name (time past)) q) h.wait;
+    }
+  where
+    first : option_map_or (λ a. a.lock.0 == k.0) (head_of x.frame.held) false ≡ true
+    first =
+        ap (λ (o : Option Held). option_map_or (λ a. a.lock.0 == k.0) o false) x.last ∙ eq-eqb x.held.lock.0 k.0 (ap (λ (j : LockNo). j.0) (sym x.lock))
+
+    kept : IsKeptWith s x.frame.name k (freed_level x.frame) past
+    kept =
+        last_kept s past x.frame.name x.frame.held x.frame.spin k x.frame.level (inner_told s limit e.cpu past x.frame r.1 x.goes_on.inner) first
+
+frames_follow : (s : Script) (limit : ℕ) → Follows s limit (IsTold s)
 frames_follow s limit =
     record {
-      begun = λ e past b n. told_new e past b;
-      aside = λ e past f l a h. told_on e past f (silent f.name e.what a).0 (level_aside f.name e.what a)
+      begun = λ e past b n. told_new s e past b;
+      aside = λ e past f l a h. told_on s e past f (silent f.name e.what a).0 (level_aside f.name e.what a)
           (call_aside f.name e.what a) (normal_aside f.name e.what a) (wait_aside f.name (time past) e.what a) h;
-      called = λ e past n c y r x q l h. told_called c y x.frame e past l (q ∙ ap (λ (n : ℕ). Call n c y) x.name) h;
-      rewaited = λ e past y f q l h. told_rewaited y f e past q h;
-      normal = λ e past f q n l h. told_normal f e past l q n;
-      left = λ e past f q b l h. told_left f e past l q b h;
-      resumed = λ e past t st f q l h. told_resumed st t f e past q h;
+      called = λ e past n c y r x q l h. let w : e.what ≡ Call x.frame.name c y = q ∙ ap (λ (n : ℕ). Call n c y) x.name in
+          told_called s c y x.frame e past l w (call_level s e.cpu (own_of s e.cpu past) (lanes_at s past) n (due_of e.what (time past)) c y x e past w
+          (inner_told s limit e.cpu past x.frame r.1 x.goes_on.inner)) h;
+      freed = λ e past n c r x q l h. told_freed s limit e past n c r x (q ∙ ap (λ (n : ℕ). Free n c) x.name) l h;
+      rewaited = λ e past y f q l h. told_rewaited s y f e past q h;
+      normal = λ e past f q n l h. told_normal s f e past l q n;
+      left = λ e past f q b l h. told_left s f e past l q b h;
+      resumed = λ e past t st f q l h. told_resumed s st t f e past q h;
     }
 
 pub frames_told : (s : Script) (limit : ℕ) (past : List Event) → IsRun s limit past → FramesTold s past
 frames_told s limit past r =
-    record { own = λ p. each_own s limit IsTold (frames_follow s limit) p past r; threads = λ t. each_part s limit IsTold (frames_follow s limit) t past r }
+    record {
+      own = λ p. each_own s limit (IsTold s) (frames_follow s limit) p past r;
+      threads = λ t. each_part s limit (IsTold s) (frames_follow s limit) t past r;
+    }
 
 -- ---- waits that are taken up
 
@@ -390,13 +493,7 @@ taken_up s limit e past n y r k = (
     known : KnownRewait e.cpu (own_of s e.cpu past) (lanes_at s past) n y
     known = subst (Known s e.cpu (own_of s e.cpu past) (lanes_at s past)) k (legal_known s limit e past r.0 (ap is_next k))
 
-    told : IsTold past known.frame
-    told = go (namer s limit e.cpu past known.frame r.1 known.goes_on.inner)
-      where
-        go : IsNamer s e.cpu past known.frame → IsTold past known.frame
-        go (inl h) = (subst (EachFrame (IsTold past)) h.1 ((frames_told s limit past r.1).own e.cpu)).0
-        go (inr h) =
-            let here = running_here s limit e.cpu h.0 past r.1 h.1 in
-            let cpu : cpu_of s h.0 ≡ e.cpu = ap (λ (n : ℕ). record { 0 = n }) here.1 in
-            (subst (EachFrame (IsTold past)) h.2.1 (subst (λ (q : CpuNo). EachFrame (IsTold past) (thread_frames s q h.0 past)) cpu
-            ((frames_told s limit past r.1).threads h.0))).0
+    told : IsTold s past known.frame
+    told =
+        let all = frames_told s limit past r.1 in
+        inner_has s limit e.cpu past (IsTold s past) known.frame r.1 (λ p. all.own p) (λ t. all.threads t) known.goes_on.inner

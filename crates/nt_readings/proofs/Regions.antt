@@ -10,12 +10,13 @@ use Rattle.nt_event.specs.declared.commands.Reply.{Reply}
 use Rattle.nt_event.specs.declared.commands.Reply.TheVariants.{Done}
 use Rattle.nt_event.specs.declared.events.Event.{Event}
 use Rattle.nt_event.specs.declared.events.What.{What}
-use Rattle.nt_event.specs.declared.events.What.TheVariants.{Call, End, Normal, Rewait, Switch}
+use Rattle.nt_event.specs.declared.events.What.TheVariants.{Call, End, Free, Normal, Rewait, Switch}
 use Rattle.nt_event.specs.declared.frames.Body.{Body}
-use Rattle.nt_event.specs.declared.frames.Frame.{Frame}
+use Rattle.nt_event.specs.Frame.{Frame}
 use Rattle.nt_event.specs.declared.frames.Region.{Region}
 use Rattle.nt_event.specs.declared.frames.Region.TheVariants.{Crit, Guard}
 use Rattle.nt_event.specs.declared.numbers.CpuNo.{CpuNo}
+use Rattle.nt_event.specs.declared.numbers.LockNo.{LockNo}
 use Rattle.nt_event.specs.declared.numbers.ThreadNo.{ThreadNo}
 use Rattle.nt_event.specs.declared.scripts.Script.{Script}
 use Rattle.nt_event.specs.Frames.{called, resumed, due_of, is_normal_apc_body, new_frame, thread_frames, time}
@@ -63,6 +64,16 @@ phase_below n (e ∷ past) h = go (nat_lt n (length past)) refl (renews n e.what
     go true l true ih = omega arith
     go true l false ih = let k = ih (ltb-true n (length past) l) in omega (arith, k)
     go false l c ih = past_end l
+
+-- an event that begins the frame's phase anew
+pub phase_anew : (n : ℕ) (e : Event) (past : List Event) → n < length past → renews n e.what ≡ true → phase_of n (e ∷ past) ≡ length past
+phase_anew n e past l h = rw (lt-ltb n (length past) l, h) refl
+
+pub normal_anew : (n : ℕ) (w : What) → w ≡ Normal n → renews n w ≡ true
+normal_anew n w k = ap (renews n) k ∙ eq-eqb n n refl
+
+pub end_anew : (n : ℕ) (w : What) → w ≡ End n → renews n w ≡ true
+end_anew n w k = ap (renews n) k ∙ eq-eqb n n refl
 
 -- ---- an event that the frame doesn't make
 
@@ -209,6 +220,9 @@ resumed_counted (Some x) past f h = h
 rewait_silent : (n m : ℕ) (y : Reply) (w : What) → w ≡ Rewait m y → IsSilent n w
 rewait_silent n m y w k = (ap (renews n) k, λ test. ap (has_done test n) k)
 
+free_silent : (n m : ℕ) (c : LockNo) (w : What) → w ≡ Free m c → IsSilent n w
+free_silent n m c w k = (ap (renews n) k, λ test. ap (has_done test n) k)
+
 switch_silent : (n : ℕ) (t : ThreadNo) (st : Option ℕ) (w : What) → w ≡ Switch t st → IsSilent n w
 switch_silent n t st w k = (ap (renews n) k, λ test. ap (has_done test n) k)
 
@@ -222,6 +236,7 @@ counts_follow s limit =
       aside = λ e past f l a h. counted_silent f e past (silent f.name e.what a) h;
       called = λ e past n c y r x q l h. call_counted s e.cpu (own_of s e.cpu past) (lanes_at s past)
           (due_of e.what (time past)) n c y x.frame e past x refl l q h;
+      freed = λ e past n c r x q l h. counted_silent x.frame e past (free_silent x.frame.name n c e.what q) h;
       rewaited = λ e past y f q l h. counted_silent f e past (rewait_silent f.name f.name y e.what q) h;
       normal = λ e past f q n l h. anew_counted e past f.name l (ap (renews f.name) q ∙ eq-eqb f.name f.name refl);
       left = λ e past f q b l h. anew_counted e past f.name l (ap (renews f.name) q ∙ eq-eqb f.name f.name refl);

@@ -8,7 +8,7 @@ use Rattle.nt_event.specs.declared.events.Turn.TheVariants.{Look as LookTurn}
 use Rattle.nt_event.specs.declared.events.What.{What}
 use Rattle.nt_event.specs.declared.events.What.TheVariants.{Look}
 use Rattle.nt_event.specs.declared.jobs.Lane.{Lane}
-use Rattle.nt_event.specs.declared.jobs.Lane.TheVariants.{Object as ObjectLane, Queue as QueueLane, Threads as ThreadsLane, Timers as TimersLane}
+use Rattle.nt_event.specs.declared.jobs.Lane.TheVariants.{Lock as LockLane, Object as ObjectLane, Queue as QueueLane, Threads as ThreadsLane, Timers as TimersLane}
 use Rattle.nt_event.specs.declared.numbers.CpuNo.{CpuNo}
 use Rattle.nt_event.specs.declared.scripts.Script.{Script}
 use Rattle.nt_event.specs.Lanes.{lanes_of, same_lane, touches}
@@ -37,12 +37,14 @@ lane_itself (ObjectLane d) = eq-eqb d.0 d.0 refl
 lane_itself (QueueLane p) = eq-eqb p.0 p.0 refl
 lane_itself (ThreadsLane p) = eq-eqb p.0 p.0 refl
 lane_itself TimersLane = refl
+lane_itself (LockLane k) = eq-eqb k.0 k.0 refl
 
 lane_is : (x y : Lane) → same_lane x y ≡ true → x ≡ y
 lane_is (ObjectLane d) (ObjectLane x) h = ap (λ (n : ℕ). ObjectLane (record { 0 = n })) (sym (eqb-true x.0 d.0 h))
 lane_is (QueueLane p) (QueueLane x) h = ap (λ (n : ℕ). QueueLane (record { 0 = n })) (sym (eqb-true x.0 p.0 h))
 lane_is (ThreadsLane p) (ThreadsLane x) h = ap (λ (n : ℕ). ThreadsLane (record { 0 = n })) (sym (eqb-true x.0 p.0 h))
 lane_is TimersLane TimersLane h = refl
+lane_is (LockLane k) (LockLane x) h = ap (λ (n : ℕ). LockLane (record { 0 = n })) (sym (eqb-true x.0 k.0 h))
 lane_is x y h = cc
 
 -- ---- values

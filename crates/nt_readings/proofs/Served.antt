@@ -1,17 +1,20 @@
 -- In a run, what a processor has served of a class is what it had seen just after it last served it.
-use Rattle.std.proofs.Common.{arith, inl, inr, subst, ap}
+use Rattle.std.proofs.Common.{ap, arith, inl, inr, subst, ◌∙◌}
 use Rattle.std.proofs.lemmas.Bool.{eq-eqb, eqb-true, ltb-true}
 use Rattle.std.specs.List.{list_all, list_any}
-use Rattle.std.specs.Prelude.{Bool, List, [], false, if◌then◌else◌, length, nat_lt, refl, true, ℕ, ◌<◌, ◌==◌, ◌||◌, ◌∷◌, ◌≡◌, ◌≤◌}
+use Rattle.std.specs.Prelude.{Bool, List, [], false, if◌then◌else◌, length, nat_lt, refl, true, ℕ, ◌&&◌, ◌<◌, ◌==◌, ◌||◌, ◌∷◌, ◌≡◌, ◌≤◌}
+use Rattle.nt_event.specs.declared.commands.Reply.{Reply}
+use Rattle.nt_event.specs.declared.commands.Reply.TheVariants.{Spin}
 use Rattle.nt_event.specs.declared.events.Begun.TheVariants.{Int}
 use Rattle.nt_event.specs.declared.events.Event.{Event}
 use Rattle.nt_event.specs.declared.events.What.{What}
-use Rattle.nt_event.specs.declared.events.What.TheVariants.{Begin, Clean}
+use Rattle.nt_event.specs.declared.events.What.TheVariants.{Begin, Call, Clean}
 use Rattle.nt_event.specs.declared.numbers.CpuNo.{CpuNo}
 use Rattle.nt_event.specs.declared.scripts.Script.{Script}
-use Rattle.nt_event.specs.Classes.{interrupt_classes}
+use Rattle.nt_event.specs.Classes.{interrupt_classes, lock_class}
 use Rattle.nt_event.specs.Lanes.{lanes_at}
 use Rattle.nt_event.specs.Own.{own_of}
+use Rattle.nt_event.specs.Replies.{is_spin}
 use Rattle.nt_event.specs.Requests.{seen, served, serves}
 use Rattle.nt_event.specs.Step.{IsLegal, IsRun}
 use Rattle.nt_event.specs.Numbers.{is_of}
@@ -26,6 +29,9 @@ pub none_after : (P : Event → List Event → Type 0) (n : ℕ) (past : List Ev
 none_after P n [] h = tt
 none_after P n (e ∷ past) h = (λ l. absurd (omega (arith, h, l)), none_after P n past (omega (arith, h)))
 
+pub none_yet : (P : Event → List Event → Type 0) (n : ℕ) (e : Event) (past : List Event) → length past ≤ n → EachAfter P n (e ∷ past)
+none_yet P n e past l = (λ h. absurd (omega (arith, h, l)), none_after P n past l)
+
 -- ---- which events serve a class
 
 above_two : (c : ℕ) (ks : List ℕ) → list_all (λ k. nat_lt 2 k) ks ≡ true → list_any (λ k. k == c) ks ≡ true → 2 < c
@@ -38,6 +44,15 @@ above_two c (k ∷ ks) h a = go (k == c) refl a (λ b. above_two c ks (both (nat
         let n = eqb-true k c e in
         omega (arith, l, n)
     go false e x ih = ih x
+
+-- the class of released locks is no interrupt
+no_interrupt : (c : ℕ) → list_any (λ k. k == c) interrupt_classes ≡ true → c ≡ lock_class → ⊥
+no_interrupt c a e =
+    let no : list_any (λ k. k == lock_class) interrupt_classes ≡ true = subst (λ (n : ℕ). list_any (λ k. k == n) interrupt_classes ≡ true) e a in cc
+
+spin_is : (y : Reply) → is_spin y ≡ true → y ≡ Spin
+spin_is Spin h = refl
+spin_is y h = cc
 
 clean_low : (s : Script) (limit : ℕ) (k : ℕ) (e : Event) (past : List Event) → IsLegal s limit e past → e.what ≡ Clean k → k < 3
 clean_low s limit k e past g q = go known
@@ -60,12 +75,15 @@ serving s limit c e past (Begin (Int level) from) g q h =
     let known : Known s e.cpu (own_of s e.cpu past) (lanes_at s past) (Begin (Int level) from) = subst
     (Known s e.cpu (own_of s e.cpu past) (lanes_at s past)) q (legal_known s limit e past g (ap is_next q)) in
     let l = above_two level interrupt_classes refl known.class in
-    (n, omega (arith, n, l))
+    (n, omega (arith, n, l), no_interrupt c (subst (λ (k : ℕ). list_any (λ j. j == k) interrupt_classes ≡ true) n known.class))
+serving s limit c e past (Call f command y) g q h =
+    let k = both (c == lock_class) (is_spin y) h in (eqb-true c lock_class k.0, spin_is y k.1)
 serving s limit c e past w g q h = cc
 
 serves_so : (c : ℕ) (w : What) → IsServing c w → serves c w ≡ true
 serves_so c (Clean k) h = eq-eqb k c h.0
 serves_so c (Begin (Int level) from) h = eq-eqb level c h.0
+serves_so c (Call f command y) h = ap (λ (b : Bool). b && is_spin y) (eq-eqb c lock_class h.0) ∙ ap is_spin h.1
 serves_so c w h = absurd h
 
 -- ---- the last service

@@ -8,17 +8,17 @@ use Rattle.nt_event.specs.declared.events.Begun.TheVariants.{Apc}
 use Rattle.nt_event.specs.declared.events.Event.{Event}
 use Rattle.nt_event.specs.declared.events.Turn.TheVariants.{Switch as SwitchTurn}
 use Rattle.nt_event.specs.declared.events.What.{What}
-use Rattle.nt_event.specs.declared.events.What.TheVariants.{Begin, Call, End, Flush, Gone, Look, Normal, Rewait, Switch}
+use Rattle.nt_event.specs.declared.events.What.TheVariants.{Begin, Call, End, Flush, Free, Gone, Look, Normal, Rewait, Switch}
 use Rattle.nt_event.specs.declared.frames.Body.{Body}
 use Rattle.nt_event.specs.declared.frames.Body.TheVariants.{Apc as OnApc, Base as OnBase, Rundown as OnRundown}
-use Rattle.nt_event.specs.declared.frames.Frame.{Frame}
+use Rattle.nt_event.specs.Frame.{Frame}
 use Rattle.nt_event.specs.declared.numbers.CpuNo.{CpuNo}
 use Rattle.nt_event.specs.declared.numbers.RoutineNo.{RoutineNo}
 use Rattle.nt_event.specs.declared.numbers.ThreadNo.{ThreadNo}
 use Rattle.nt_event.specs.declared.scripts.Script.{Script}
 use Rattle.nt_event.specs.declared.threads.Doing.{Doing}
 use Rattle.nt_event.specs.declared.threads.Doing.TheVariants.{Blocked as IsBlocked, Gone as IsGone, Running as IsRunning}
-use Rattle.nt_event.specs.Frames.{called, due_of, end_on_thread, flushed, frames_of, is_base_body, ended_base, normal_of, own_frames, rewaited, running, running_after, thread_after, thread_frames, thread_part, time}
+use Rattle.nt_event.specs.Frames.{called, due_of, end_on_thread, flushed, frames_of, freed, is_base_body, ended_base, normal_of, own_frames, rewaited, running, running_after, thread_after, thread_frames, thread_part, time}
 use Rattle.nt_event.specs.Lanes.{lanes_at}
 use Rattle.nt_runs.specs.Laws.{HasBase}
 use Rattle.nt_event.specs.Own.{own_of}
@@ -41,7 +41,7 @@ use Rattle.nt_runs.proofs.Steps.{Gives, switch_gives}
 use Rattle.nt_runs.proofs.Turns.{is_next}
 use Rattle.nt_readings.specs.Positions.{At, EachAfter, Everywhere, Somewhere}
 use Rattle.nt_readings.specs.Frames.{EachNamed, NamesFall, HasFrame, IsFirstSwitch, IsOpenInner, IsOpenOn, Lists, begun_inner, ends_frame, ends_thread, switches_to}
-use Rattle.nt_readings.proofs.Frames.{Heads, IsEnder, IsOwnBegin, IsThreadBegin, at_both, each_below, each_end, each_head, each_map, ender, has_at_name, inner_not_switch, keep_called, keep_normal, keep_resumed, keep_rewaited, own_apart, own_begun, switch_self, thread_after_each, thread_begun, thread_falls}
+use Rattle.nt_readings.proofs.Frames.{Heads, IsEnder, IsOwnBegin, IsThreadBegin, at_both, each_below, each_end, each_head, each_map, ender, has_at_name, inner_not_switch, keep_called, keep_freed, keep_normal, keep_resumed, keep_rewaited, own_apart, own_begun, switch_self, thread_after_each, thread_begun, thread_falls}
 use Rattle.nt_readings.proofs.Seen.{at_before}
 use Rattle.nt_readings.proofs.Served.{none_after}
 use Rattle.nt_runs.proofs.Rundown.Steps.{facts_there}
@@ -266,6 +266,7 @@ part_stays s n m b due (Flush a from) fs g d h = go (rundown_of s a)
 part_stays s n m b due (Call f c y) fs g d h = has_at_name n f b (called due c y) fs (keep_called due c y) h
 part_stays s n m b due (Rewait f y) fs g d h = has_at_name n f b (rewaited y) fs (keep_rewaited y) h
 part_stays s n m b due (Normal f) fs g d h = has_at_name n f b normal_of fs keep_normal h
+part_stays s n m b due (Free f k) fs g d h = has_at_name n f b freed fs keep_freed h
 part_stays s n m b due (End f) fs g d h = has_end n f b fs d h
 part_stays s n m b due (Gone t) fs g d h = cc
 part_stays s n m b due w fs g d h = h

@@ -7,4 +7,5 @@ pub mod FirstApcs
 pub mod Regions
 pub mod Timers
 pub mod Declared
+pub mod Locks
 pub mod Phases

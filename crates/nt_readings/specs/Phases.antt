@@ -1,14 +1,15 @@
 -- What an open frame tells, by the events of its present phase: its level, its place, its phase and the wait that it
 -- takes up.
-use Rattle.std.specs.Prelude.{Bool, List, None, Option, Some, false, if◌then◌else◌, true, ℕ, ◌+◌, ◌<◌, ◌==◌, ◌∷◌, ◌≡◌, ◌⊎◌}
+use Rattle.std.specs.Prelude.{Bool, List, None, Option, Some, false, if◌then◌else◌, not, true, ℕ, ◌&&◌, ◌+◌, ◌<◌, ◌==◌, ◌∷◌, ◌≡◌, ◌⊎◌}
 use Rattle.nt_event.specs.declared.commands.Command.TheVariants.{Delay, Lower, Raise, StartWait}
+use Rattle.nt_event.specs.declared.numbers.LockNo.{LockNo}
 use Rattle.nt_event.specs.declared.commands.Reply.{Reply}
 use Rattle.nt_event.specs.declared.commands.Reply.TheVariants.{Blocked, Done, Status}
 use Rattle.nt_event.specs.declared.events.Event.{Event}
 use Rattle.nt_event.specs.declared.events.What.{What}
-use Rattle.nt_event.specs.declared.events.What.TheVariants.{Call, Normal, Rewait}
+use Rattle.nt_event.specs.declared.events.What.TheVariants.{Begin, Call, Clean, End, Expire, Fire, Flush, Free, Gone, Look, Normal, Rest, Rewait, Switch}
 use Rattle.nt_event.specs.declared.frames.Again.{Again}
-use Rattle.nt_event.specs.declared.frames.Frame.{Frame}
+use Rattle.nt_event.specs.Frame.{Frame}
 use Rattle.nt_event.specs.declared.numbers.CpuNo.{CpuNo}
 use Rattle.nt_event.specs.declared.numbers.ThreadNo.{ThreadNo}
 use Rattle.nt_event.specs.declared.scripts.Script.{Script}
@@ -16,24 +17,47 @@ use Rattle.nt_event.specs.Frames.{base_of, is_apc_body, own_frames, thread_frame
 use Rattle.nt_event.specs.Regions.{stand_at}
 use Rattle.nt_event.specs.Routines.{cpu_of}
 use Rattle.nt_event.specs.Step.{IsRun}
+use Rattle.nt_event.specs.Replies.{is_spin}
+use Rattle.nt_readings.specs.Locks.{IsFreeing, IsGet, IsKeptWith, IsSpin}
 use Rattle.nt_readings.specs.Positions.{At, EachAfter}
 use Rattle.nt_readings.specs.Regions.{EachFrame, count_after, phase_of}
 
--- the frame calls a command
+-- the frame calls a command, which it needn't try again
 abbrev pub is_call_of : ℕ → What → Bool
-is_call_of n (Call f c y) = f == n
-is_call_of n w = false
+is_call_of n (Call f c y) = (f == n) && not (is_spin y)
+is_call_of n (Begin b from) = false
+is_call_of n (Normal f) = false
+is_call_of n (End f) = false
+is_call_of n (Expire key from) = false
+is_call_of n (Fire d y) = false
+is_call_of n (Clean c) = false
+is_call_of n (Look r) = false
+is_call_of n (Switch t status) = false
+is_call_of n (Rewait f y) = false
+is_call_of n (Flush a from) = false
+is_call_of n (Gone t) = false
+is_call_of n (Free f k) = false
+is_call_of n Rest = false
 
 -- the frame goes on to its normal routine
 abbrev pub is_normal_of : ℕ → What → Bool
 is_normal_of n (Normal f) = f == n
 is_normal_of n w = false
 
--- the level to which the frame raises or lowers, where the call is accepted
-abbrev pub level_set : ℕ → What → Option ℕ
-level_set n (Call f (Raise level) Done) = if f == n then Some level else None
-level_set n (Call f (Lower level) Done) = if f == n then Some level else None
-level_set n w = None
+-- the frame raises or lowers to this level, and the call is accepted
+abbrev pub IsLevelCall : ℕ → ℕ → What → Type 0
+IsLevelCall n v w = (w ≡ Call n (Raise v) Done) ⊎ (w ≡ Call n (Lower v) Done)
+
+-- the event changes the level of the frame: an accepted `raise` or `lower`, a try for a lock, a lock that is freed
+abbrev pub IsLevelEvent : ℕ → What → Type 0
+IsLevelEvent n w = ((v : ℕ) × IsLevelCall n v w) ⊎
+    (((k : LockNo) × (IsGet n k w ⊎ IsSpin n k w)) ⊎ ((k : LockNo) × IsFreeing n k w))
+
+-- and to this one: that of the `raise` or `lower`, DISPATCH_LEVEL, or the one kept with the lock
+abbrev pub LeavesLevel : Script → ℕ → ℕ → Event → List Event → Type 0
+LeavesLevel s n v e before = IsLevelCall n v e.what ⊎
+    (((v ≡ 2) × ((k : LockNo) × (IsGet n k e.what ⊎ IsSpin n k e.what))) ⊎
+    ((k : LockNo) × IsFreeing n k e.what × IsKeptWith s n k v before))
 
 -- a wait or delay answers with a status or blocks, where it isn't refused
 abbrev pub is_wait_reply : Reply → Bool
@@ -50,14 +74,14 @@ wait_called n now (Call f (Delay m a units) y) =
     else None) else None
 wait_called n now w = None
 
--- the level is that of the last accepted `raise` or `lower` of the present phase, else the frame's base level in it
-abbrev pub IsLeveled : List Event → Frame → Type 0
-IsLeveled past f = ((f.level ≡ base_of f) ×
-    EachAfter (λ e before. level_set f.name e.what ≡ None) (phase_of f.name past) past) ⊎
-    ((k : ℕ) × (phase_of f.name past < k) × At (λ e before. level_set f.name e.what ≡ Some f.level) k past ×
-    EachAfter (λ e before. level_set f.name e.what ≡ None) k past)
+-- the level is the one to which the last such event of the present phase changed it, else the frame's base level in it
+abbrev pub IsLeveled : Script → List Event → Frame → Type 0
+IsLeveled s past f = ((f.level ≡ base_of f) ×
+    EachAfter (λ e before. IsLevelEvent f.name e.what → ⊥) (phase_of f.name past) past) ⊎
+    ((m : ℕ) × (phase_of f.name past < m) × At (LeavesLevel s f.name f.level) m past ×
+    EachAfter (λ e before. IsLevelEvent f.name e.what → ⊥) m past)
 
--- the place is the count of the calls of the present phase
+-- the place is the count of the calls of the present phase that aren't tried again
 abbrev pub IsPlaced : List Event → Frame → Type 0
 IsPlaced past f = f.place ≡ count_after (is_call_of f.name) (phase_of f.name past) past
 
@@ -79,16 +103,16 @@ IsLastWait n w past = (k : ℕ) × (phase_of n past < k) ×
 abbrev pub IsWaited : List Event → Frame → Type 0
 IsWaited past f = (w : Again) → f.again ≡ Some w → IsLastWait f.name w past
 
-pub record IsTold (past : List Event) (f : Frame) : Type 0 where
-  pub level : IsLeveled past f
+pub record IsTold (s : Script) (past : List Event) (f : Frame) : Type 0 where
+  pub level : IsLeveled s past f
   pub place : IsPlaced past f
   pub phase : IsPhased past f
   pub wait : IsWaited past f
 
 -- in a run each open frame is told by the events of its present phase
 pub record FramesTold (s : Script) (past : List Event) : Type 0 where
-  pub own : (p : CpuNo) → EachFrame (IsTold past) (own_frames p past)
-  pub threads : (t : ThreadNo) → EachFrame (IsTold past) (thread_frames s (cpu_of s t) t past)
+  pub own : (p : CpuNo) → EachFrame (IsTold s past) (own_frames p past)
+  pub threads : (t : ThreadNo) → EachFrame (IsTold s past) (thread_frames s (cpu_of s t) t past)
 
 abbrev pub FramesAreTold : Type 0
 FramesAreTold = (s : Script) (limit : ℕ) (past : List Event) → IsRun s limit past → FramesTold s past

@@ -8,7 +8,7 @@ use Rattle.nt_event.specs.declared.events.Event.{Event}
 use Rattle.nt_event.specs.declared.events.What.{What}
 use Rattle.nt_event.specs.declared.events.What.TheVariants.{Call, End, Normal}
 use Rattle.nt_event.specs.declared.frames.Body.{Body}
-use Rattle.nt_event.specs.declared.frames.Frame.{Frame}
+use Rattle.nt_event.specs.Frame.{Frame}
 use Rattle.nt_event.specs.declared.frames.Region.{Region}
 use Rattle.nt_event.specs.declared.frames.Region.TheVariants.{Crit, Guard}
 use Rattle.nt_event.specs.declared.inserts.Pick.{Pick}

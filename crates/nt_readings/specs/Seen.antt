@@ -1,12 +1,14 @@
 -- What a processor has seen and served of a class, by positions in the history.
 use Rattle.std.specs.Prelude.{List, true, ℕ, ◌+◌, ◌<◌, ◌∷◌, ◌≡◌, ◌≤◌, ◌⊎◌}
-use Rattle.nt_event.specs.declared.events.Begun.TheVariants.{Int}
+use Rattle.nt_event.specs.declared.commands.Reply.TheVariants.{Spin}
+use Rattle.nt_event.specs.declared.events.Begun.TheVariants.{Apc, Dpc, Int, Threaded}
 use Rattle.nt_event.specs.declared.events.Event.{Event}
 use Rattle.nt_event.specs.declared.events.What.{What}
-use Rattle.nt_event.specs.declared.events.What.TheVariants.{Begin, Clean}
+use Rattle.nt_event.specs.declared.events.What.TheVariants.{Begin, Call, Clean, End, Expire, Fire, Flush, Free, Gone, Look, Normal, Rest, Rewait, Switch}
 use Rattle.nt_event.specs.declared.jobs.Lane.{Lane}
 use Rattle.nt_event.specs.declared.numbers.CpuNo.{CpuNo}
 use Rattle.nt_event.specs.declared.scripts.Script.{Script}
+use Rattle.nt_event.specs.Classes.{lock_class}
 use Rattle.nt_event.specs.Lanes.{touches}
 use Rattle.nt_event.specs.Requests.{asks, looked, seen, served}
 use Rattle.nt_event.specs.Step.{IsRun}
@@ -47,11 +49,26 @@ abbrev pub SeenIsGreatestNoticed : Type 0
 SeenIsGreatestNoticed = (s : Script) (limit : ℕ) (p : CpuNo) (c : ℕ) (past : List Event) → IsRun s limit past →
     IsGreatestNext (IsNoticedAsk s p c past) (seen s p c past)
 
--- the event serves the class: a Clean of it for the classes 0 to 2, a Begin of its interrupt for the others
+-- the event serves the class: a Clean of it for the classes 0 to 2, a call that spins for that of released locks, a
+-- Begin of its interrupt for the others
 abbrev pub IsServing : ℕ → What → Type 0
 IsServing c (Clean k) = (k ≡ c) × (c < 3)
-IsServing c (Begin (Int level) from) = (level ≡ c) × (2 < c)
-IsServing c w = ⊥
+IsServing c (Call f command y) = (c ≡ lock_class) × (y ≡ Spin)
+IsServing c (Begin (Int level) from) = (level ≡ c) × (2 < c) × (c ≡ lock_class → ⊥)
+IsServing c (Begin (Dpc d) from) = ⊥
+IsServing c (Begin (Threaded d) from) = ⊥
+IsServing c (Begin (Apc a) from) = ⊥
+IsServing c (Look r) = ⊥
+IsServing c (Normal f) = ⊥
+IsServing c (End f) = ⊥
+IsServing c (Expire key from) = ⊥
+IsServing c (Fire d y) = ⊥
+IsServing c (Switch t status) = ⊥
+IsServing c (Rewait f y) = ⊥
+IsServing c (Flush a from) = ⊥
+IsServing c (Gone t) = ⊥
+IsServing c (Free f k) = ⊥
+IsServing c Rest = ⊥
 
 -- an event of p doesn't serve the class
 abbrev pub IsNoService : CpuNo → ℕ → Event → List Event → Type 0
@@ -67,8 +84,9 @@ abbrev pub IsServed : Script → CpuNo → ℕ → ℕ → List Event → Type 0
 IsServed s p c v past = ((v ≡ 0) × Everywhere (IsNoService p c) past) ⊎
     ((n : ℕ) × IsServedAt s p c v n past × EachAfter (IsNoService p c) n past)
 
--- in a run, served is what was seen just after the last Clean of the class by the processor, for the classes 0 to 2, or
--- just after the last Begin of the class's interrupt on it, for the others, else 0
+-- in a run, served is what was seen just after the last Clean of the class by the processor, for the classes 0 to 2,
+-- just after its last call with reply spin, for that of released locks, or just after the last Begin of the class's
+-- interrupt on it, for the others, else 0
 abbrev pub ServedIsSeenAtLastService : Type 0
 ServedIsSeenAtLastService = (s : Script) (limit : ℕ) (p : CpuNo) (c : ℕ) (past : List Event) → IsRun s limit past →
     IsServed s p c (served s p c past) past

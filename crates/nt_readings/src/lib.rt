@@ -7,6 +7,7 @@ ghost use Rattle.nt_readings.specs.Declared.{CallsFit, InsertsOfFittingScripts};
 ghost use Rattle.nt_readings.specs.Fates.{EachInsertHasOneFate, FateIsFirstUse, InsertsAreListed, WaitingAreThePending, WaitingIsPending};
 ghost use Rattle.nt_readings.specs.FirstApcs.{FirstApcsAreByKindAndNumber, PendingApcsFall};
 ghost use Rattle.nt_readings.specs.Frames.{InnermostIsGreatest, OwnFramesAreOpen, RunningIsLastSwitched, ThreadFramesAreOpen};
+ghost use Rattle.nt_readings.specs.Locks.{LocksAreTold};
 ghost use Rattle.nt_readings.specs.Phases.{FramesAreTold, WaitsAreTakenUpAsCalled};
 ghost use Rattle.nt_readings.specs.Regions.{DeliverableByRegions, RegionsAreCounted};
 ghost use Rattle.nt_readings.specs.Seen.{SeenIsGreatestNoticed, ServedIsSeenAtLastService};
@@ -77,7 +78,8 @@ pub fn seen_is_the_greatest_that_was_noticed()
 {}
 
 /// Served is what was seen at the last service: in a run, what a processor has served of a class is what it had seen just after its
-/// last Clean of the class, for the classes 0 to 2, or just after the last Begin of the class's interrupt on it, for the others, else 0.
+/// last Clean of the class, for the classes 0 to 2, just after its last call with reply spin, for that of released locks, or just after
+/// the last Begin of the class's interrupt on it, for the others, else 0.
 pub fn served_is_what_was_seen_at_the_last_service()
     ensures { ServedIsSeenAtLastService }
 {}
@@ -107,11 +109,21 @@ pub fn the_innermost_frame_is_the_newest_open_one()
     ensures { InnermostIsGreatest }
 {}
 
-/// Each open frame is told by the events of its present phase: in a run its level is that of its last accepted `raise` or `lower` in it,
-/// else its base level; its place is the count of its calls in it; it is in its kernel routine exactly where it is an APC's and has no
-/// Normal; a wait to take up is the last that it called in it, with that call's mode, kind and due time.
+/// Each open frame is told by the events of its present phase: in a run its level is the one that the last of these left in it, else its
+/// base level: an accepted `raise` or `lower`, its level; an `acquire` that was done or spins, DISPATCH_LEVEL; an `unlock` that was done
+/// or a Free, the level that the frame kept with the lock. Its place is the count of its calls in it that do not spin; it is in its
+/// kernel routine exactly where it is an APC's and has no Normal; a wait to take up is the last that it called in it, with that call's
+/// mode, kind and due time.
 pub fn frames_are_told_by_their_present_phase()
     ensures { FramesAreTold }
+{}
+
+/// The locks of each open frame are told by its events: in a run it holds a lock exactly where it has an `acquire` of it that was done
+/// and no later `unlock` of it that was done and no later Free of it, and it holds them in the order of these; it spins on a lock exactly
+/// where its last call in its present phase is an `acquire` of it with reply spin. The level that it keeps with a lock is its level just
+/// before the first of the tries of the `acquire` that got it, or of the one that spins.
+pub fn locks_are_told_by_the_events_of_their_frame()
+    ensures { LocksAreTold }
 {}
 
 /// A wait is taken up as it was called: in a run a Rewait takes up the last wait or delay that its frame called in its present phase,

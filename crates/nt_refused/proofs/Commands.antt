@@ -3,13 +3,17 @@ use Rattle.nt_close.proofs.Rests.{clear_inner, rested_clear}
 use Rattle.nt_event.proofs.Moves.{own_stays, queue_moves}
 use Rattle.nt_event.proofs.Tables.{get_or-table, length-table_from, table-same}
 use Rattle.nt_event.specs.Calls.{stops, wait_begun}
-use Rattle.nt_event.specs.Frames.{Frames, at_head, at_name, called, due_of, effect_by, frames_in, frames_of, innermost, own_after, own_frames, running, running_after, thread_after, thread_frames, thread_if, thread_part, time, time_after}
+use Rattle.nt_event.specs.Classes.{lock_class}
+use Rattle.nt_event.specs.Commands.{reply}
+use Rattle.nt_event.specs.Frames.{Frames, at_head, at_name, called, due_of, effect_by, frames_in, frames_of, held_moved, innermost, level_moved, own_after, own_frames, running, running_after, spin_moved, thread_after, thread_frames, thread_if, thread_part, time, time_after}
 use Rattle.nt_event.specs.LaneStates.{lane_state}
-use Rattle.nt_event.specs.Lanes.{Lanes, lanes_at, lanes_of, queue_at, same_lane, what_lanes}
+use Rattle.nt_event.specs.Lanes.{Lanes, lanes_at, lanes_of, lock_at, queue_at, same_lane, what_lanes}
+use Rattle.nt_event.specs.Jobs.{level_at}
 use Rattle.nt_event.specs.Lists.{head_of, is_null, table}
-use Rattle.nt_event.specs.Numbers.{cpu, dpc, is_by, is_of, is_thread, thread, timer}
+use Rattle.nt_event.specs.Locks.{Frees, Gets, LockMove, NoMove, Spins, call_move, lock_move, lock_moved, lock_of}
+use Rattle.nt_event.specs.Numbers.{cpu, dpc, is_by, is_of, is_thread, lock, thread, timer}
 use Rattle.nt_event.specs.Objects.{ObjectState, object_after, object_of, objects_at}
-use Rattle.nt_event.specs.Own.{fire, fire_after, is_rest, made, own_of, rested, took, took_after}
+use Rattle.nt_event.specs.Own.{fire, fire_after, is_rest, made, own_of, rested, stand_in, took, took_after}
 use Rattle.nt_event.specs.Queues.{QueueState, queue_after, queue_of, start_queue}
 use Rattle.nt_event.specs.Regions.{owes_sweep, stand_at, sweep_after}
 use Rattle.nt_event.specs.Requests.{Ask, asked, asks, command_asks, is_ask, raised, seen, seen_after, served, served_after, told, told_by_all, what_asks}
@@ -18,14 +22,15 @@ use Rattle.nt_event.specs.Threads.{ThreadFacts}
 use Rattle.nt_event.specs.Timers.{blocked_after, delay_setting, expired_delay, timer_after, timer_setting, timers_at}
 use Rattle.nt_event.specs.Waits.{facts, is_of_thread, made_facts, named_facts}
 use Rattle.nt_event.specs.declared.commands.Command.{Command}
-use Rattle.nt_event.specs.declared.commands.Command.TheVariants.{Clock, Delay, Queue, Release, SetTimer, Yield}
+use Rattle.nt_event.specs.declared.commands.Command.TheVariants.{Acquire, Clock, Delay, Queue, Release, SetTimer, Unlock, Yield}
 use Rattle.nt_event.specs.declared.commands.Refusal.{Refusal}
-use Rattle.nt_event.specs.declared.commands.Reply.TheVariants.{Refused}
+use Rattle.nt_event.specs.declared.commands.Reply.TheVariants.{Done, Refused, Spin}
 use Rattle.nt_event.specs.declared.events.Event.{Event}
 use Rattle.nt_event.specs.declared.events.What.{What}
 use Rattle.nt_event.specs.declared.events.What.TheVariants.{Call}
 use Rattle.nt_event.specs.declared.frames.Again.{Again}
-use Rattle.nt_event.specs.declared.frames.Frame.{Frame}
+use Rattle.nt_event.specs.Frame.{Frame}
+use Rattle.nt_event.specs.declared.frames.Held.{Held}
 use Rattle.nt_event.specs.declared.inserts.Setting.{Setting}
 use Rattle.nt_event.specs.declared.jobs.Lane.{Lane}
 use Rattle.nt_event.specs.declared.jobs.Stand.{Stand}
@@ -35,28 +40,47 @@ use Rattle.nt_event.specs.declared.numbers.ThreadNo.{ThreadNo}
 use Rattle.nt_event.specs.declared.numbers.TimerNo.{TimerNo}
 use Rattle.nt_event.specs.declared.scripts.Script.{Script}
 use Rattle.nt_refused.specs.Commands.{LeavesAllButPlace, RefusedCommandsTakeTheirPlace, at_head_if, at_next_place, own_placed, placed, placed_on}
+use Rattle.nt_runs.proofs.Calm.{level_inner}
 use Rattle.nt_runs.proofs.Facts.{if_none}
-use Rattle.nt_runs.proofs.Known.{Known, KnownCall, legal_known}
+use Rattle.nt_runs.proofs.Known.{Known, KnownCall, legal_known, refusal_in, reply_or}
 use Rattle.nt_runs.proofs.Names.{Apart, NotAmong, all_named}
+use Rattle.nt_runs.proofs.Parts.{inner_locked}
 use Rattle.nt_runs.proofs.Running.{frames_when, part_of_running, running_here, same_thread, thread_named}
 use Rattle.nt_runs.proofs.Shared.{part_head}
 use Rattle.nt_runs.proofs.Turns.{is_next}
 use Rattle.nt_runs.proofs.Untouched.{untouched}
+use Rattle.nt_runs.specs.SomeFrame.{among}
 use Rattle.std.proofs.Common.{ap, refl, subst, sym, ◌∙◌}
 use Rattle.std.proofs.Math.Nat.{max-zero}
 use Rattle.std.proofs.lemmas.Bool.{eq-eqb, eqb-true}
 use Rattle.std.specs.List.{list_any}
 use Rattle.std.specs.Option.{option_or}
-use Rattle.std.specs.Prelude.{Bool, List, None, Option, Some, [], false, if◌then◌else◌, length, max, true, ℕ, ◌+◌, ◌<◌, ◌==◌, ◌∷◌, ◌≡◌}
+use Rattle.std.specs.Prelude.{Bool, List, None, Option, Some, [], false, if◌then◌else◌, is_none, is_some, length, max, true, ℕ, ◌&&◌, ◌+◌, ◌<◌, ◌==◌, ◌∷◌, ◌≡◌}
 
 -- ---- what a refused call does, command by command
 
-refused_next : (due : Option ℕ) (c : Command) (r : Refusal) (f : Frame) → called due c (Refused r) f ≡ at_next_place f
-refused_next due c r f = go (wait_begun due c)
+refused_move : (c : Command) (r : Refusal) → call_move c (Refused r) ≡ NoMove
+refused_move (Acquire x) r = refl
+refused_move (Unlock x) r = refl
+refused_move c r = refl
+
+-- of a frame that doesn't spin
+refused_next : (due : Option ℕ) (c : Command) (r : Refusal) (f : Frame) → f.spin ≡ None → called due c (Refused r) f ≡ at_next_place f
+refused_next due c r f q =
+    go (wait_begun due c) (call_move c (Refused r)) (refused_move c r) ∙ ap (λ (o : Option Held). record (at_next_place f) { spin = o }) (sym q)
   where
-    go : (o : Option Again) → record (effect_by o c (Refused r) f) { place = f.place + 1 } ≡ at_next_place f
-    go None = refl
-    go (Some w) = refl
+    go : (o : Option Again) (m : LockMove) → m ≡ NoMove →
+        record (effect_by o c (Refused r) f) {
+          place = f.place + 1;
+          level = level_moved m f (effect_by o c (Refused r) f).level;
+          spin = spin_moved m f;
+          held = held_moved m f;
+        } ≡ record (at_next_place f) { spin = None }
+    go None NoMove e = refl
+    go (Some w) NoMove e = refl
+    go o (Gets x) e = cc
+    go o (Spins x) e = cc
+    go o (Frees x) e = cc
 
 refused_goes_on : (c : Command) (r : Refusal) → stops c (Refused r) ≡ false
 refused_goes_on Yield r = refl
@@ -126,13 +150,14 @@ at_name_none n g [] h = refl
 at_name_none n g (f ∷ fs) h = ap (λ (b : Bool). (if b then g f else f) ∷ fs) (unequal f.name n h.0)
 
 -- the call of the first frame of a part
-head_placed : (due : Option ℕ) (c : Command) (r : Refusal) (f : Frame) (fs : List Frame) → head_of fs ≡ Some f →
+head_placed : (due : Option ℕ) (c : Command) (r : Refusal) (f : Frame) (fs : List Frame) → f.spin ≡ None → head_of fs ≡ Some f →
     at_name f.name (called due c (Refused r)) fs ≡ at_head at_next_place fs
-head_placed due c r f [] h = cc
-head_placed due c r f (g ∷ fs) h =
+head_placed due c r f [] q h = cc
+head_placed due c r f (g ∷ fs) q h =
     let same : g ≡ f = cc in
     let name : (g.name == f.name) ≡ true = eq-eqb g.name f.name (ap (λ (x : Frame). x.name) same) in
-    ap (λ (b : Bool). (if b then called due c (Refused r) g else g) ∷ fs) name ∙ ap (λ (x : Frame). x ∷ fs) (refused_next due c r g)
+    ap (λ (b : Bool). (if b then called due c (Refused r) g else g) ∷ fs) name
+    ∙ ap (λ (x : Frame). x ∷ fs) (refused_next due c r g (ap (λ (x : Frame). x.spin) same ∙ q))
 
 -- no frame of a thread's part has the name of the first one of the own part
 apart_head : (f : Frame) (gs fs : List Frame) → head_of gs ≡ Some f → Apart gs fs → NotAmong f.name fs
@@ -149,6 +174,35 @@ own_head x f h n = go x.own refl
         let k : option_or (head_of (g ∷ fs)) (head_of (thread_part x)) ≡ Some f = subst (λ (gs : List Frame). option_or (head_of gs) (head_of (thread_part x)) ≡ Some f) e h in
         cc
 
+-- ---- a frame that spins tries its lock again, which isn't refused; so the frame of a refused call spins on none
+
+not_refused : (b : Bool) (r : Refusal) → Refused r ≡ (if b then Done else Spin) → ⊥
+not_refused true r h = cc
+not_refused false r h = cc
+
+no_spin : (s : Script) (limit : ℕ) (p : CpuNo) (past : List Event) (n : ℕ) (c : Command) (r : Refusal) → IsRun s limit past →
+    (k : KnownCall s p (own_of s p past) (lanes_at s past) n c (Refused r)) → k.frame.spin ≡ None
+no_spin s limit p past n c r run k = go k.frame.spin refl
+  where
+    same_command : (a b : Command) → ◌≡◌ {A = Option Command} (Some a) (Some b) → a ≡ b
+    same_command a b e = cc
+
+    go : (o : Option Held) → k.frame.spin ≡ o → k.frame.spin ≡ None
+    go None q = q
+    go (Some h) q =
+        let locked = inner_locked s limit p past k.frame run k.goes_on.inner in
+        let again = locked.retry h q in
+        let command : c ≡ Acquire h.lock = same_command c (Acquire h.lock) (sym k.command ∙ again.0) in
+        let level : level_at (own_of s p past) ≡ 2 = level_inner (own_of s p past) k.frame k.goes_on.inner ∙ locked.spun (ap is_some q) in
+        let here : Refused r ≡ reply_or (refusal_in (own_of s p past) k.frame (Acquire h.lock))
+        (reply s (stand_in p (own_of s p past)) (lanes_at s past) (Acquire h.lock)) =
+        subst (λ (d : Command). Refused r ≡ reply_or (refusal_in (own_of s p past) k.frame d) (reply s (stand_in p (own_of s p past)) (lanes_at s past) d))
+        command k.reply in
+        let free : among h.lock k.frame.held ≡ false = again.1 in
+        let none : refusal_in (own_of s p past) k.frame (Acquire h.lock) ≡ None = rw (level, free) refl in
+        absurd (not_refused (is_none (lock_at (lanes_at s past) h.lock).holder) r
+        (here ∙ ap (λ (o : Option Refusal). reply_or o (reply s (stand_in p (own_of s p past)) (lanes_at s past) (Acquire h.lock))) none))
+
 -- ---- the frames
 
 -- the refused call of a processor of a run
@@ -156,6 +210,7 @@ record Refusing (s : Script) (limit : ℕ) (e : Event) (past : List Event) (c : 
   run : IsRun s limit (e ∷ past)
   is_call : e.what ≡ Call f.name c (Refused r)
   inner : innermost (frames_of s e.cpu past) ≡ Some f
+  spin : f.spin ≡ None
 
 module _ (s : Script) (limit : ℕ) (e : Event) (past : List Event) (c : Command) (r : Refusal) (f : Frame) (k : Refusing s limit e past c r f) where
   here : is_of e e.cpu ≡ true
@@ -189,7 +244,7 @@ module _ (s : Script) (limit : ℕ) (e : Event) (past : List Event) (c : Command
   -- with a frame on the own part
   own_placed_first : is_null (own_frames e.cpu past) ≡ false → own_frames e.cpu (e ∷ past) ≡ at_head at_next_place (own_frames e.cpu past)
   own_placed_first n =
-      own_after_call ∙ head_placed (due_of e.what (time past)) c r f (own_frames e.cpu past) (own_head (frames_of s e.cpu past) f k.inner n)
+      own_after_call ∙ head_placed (due_of e.what (time past)) c r f (own_frames e.cpu past) k.spin (own_head (frames_of s e.cpu past) f k.inner n)
 
   thread_stays : is_null (own_frames e.cpu past) ≡ false → (t : ThreadNo) → thread_frames s e.cpu t (e ∷ past) ≡ thread_frames s e.cpu t past
   thread_stays n t = thread_after_call t ∙ go (is_thread (running e.cpu past) t)
@@ -222,7 +277,7 @@ module _ (s : Script) (limit : ℕ) (e : Event) (past : List Event) (c : Command
           let run : running e.cpu past ≡ Some t = same_thread (running e.cpu past) t q in
           let there = running_here s limit e.cpu t past k.run.1 run in
           let part : thread_part (frames_of s e.cpu past) ≡ thread_frames s e.cpu t past = part_of_running s e.cpu t past there.0 run in
-          head_placed (due_of e.what (time past)) c r f (thread_frames s e.cpu t past)
+          head_placed (due_of e.what (time past)) c r f (thread_frames s e.cpu t past) k.spin
           (sym (ap head_of part) ∙ part_head (frames_of s e.cpu past) f k.inner n)
 
   frames_placed : frames_of s e.cpu (e ∷ past) ≡ placed (frames_of s e.cpu past)
@@ -276,7 +331,11 @@ module _ (s : Script) (limit : ℕ) (e : Event) (past : List Event) (c : Command
   served_stays : (class : ℕ) → served s e.cpu class (e ∷ past) ≡ served s e.cpu class past
   served_stays class =
       ap (λ (b : Bool). if b then served_after e.what class (seen s e.cpu class (e ∷ past)) (served s e.cpu class past) else served s e.cpu class past) here
-      ∙ ap (λ (w : What). served_after w class (seen s e.cpu class (e ∷ past)) (served s e.cpu class past)) k.is_call
+      ∙ ap (λ (w : What). served_after w class (seen s e.cpu class (e ∷ past)) (served s e.cpu class past)) k.is_call ∙ go (class == lock_class)
+    where
+      go : (b : Bool) → (if b && false then seen s e.cpu class (e ∷ past) else served s e.cpu class past) ≡ served s e.cpu class past
+      go true = refl
+      go false = refl
 
   not_rested : rested e.cpu past ≡ false
   not_rested = go (rested e.cpu past) refl
@@ -360,7 +419,7 @@ module _ (s : Script) (limit : ℕ) (e : Event) (past : List Event) (c : Command
       d = table-same _ _ _ (λ j l. one (thread j))
 
   lanes_stay : lanes_at s (e ∷ past) ≡ lanes_at s past
-  lanes_stay = λ i. record { objects = o i; queues = q i; threads = t i; timers = timers_stay i }
+  lanes_stay = λ i. record { objects = o i; queues = q i; threads = t i; timers = timers_stay i; locks = l i }
     where
       o : objects_at s (e ∷ past) ≡ objects_at s past
       o = table-same _ _ _ (λ j l. object_stays (dpc j))
@@ -376,6 +435,9 @@ module _ (s : Script) (limit : ℕ) (e : Event) (past : List Event) (c : Command
 
       t : table (length s.threads) (λ t. facts s (thread t) (e ∷ past)) ≡ table (length s.threads) (λ t. facts s (thread t) past)
       t = table-same _ _ _ (λ j l. facts_stay (thread j))
+
+      l : table s.locks (λ x. lock_of s (lock x) (e ∷ past)) ≡ table s.locks (λ x. lock_of s (lock x) past)
+      l = ap (λ (m : LockMove). table s.locks (λ x. lock_moved s (lock x) e.cpu m (lock_of s (lock x) past))) (ap lock_move k.is_call ∙ refused_move c r)
 
   stays_in_lane : (x : Lane) → lane_state s x (e ∷ past) ≡ lane_state s x past
   stays_in_lane x = untouched s x e past (ap (λ (xs : List Lane). list_any (same_lane x) xs) touches_none)
@@ -400,4 +462,9 @@ refused_takes_place s limit e past name c r run w =
     subst (λ (w : What). is_next w ≡ true → Known s e.cpu (own_of s e.cpu past) (lanes_at s past) w) w (λ n. legal_known s limit e past run.0 n) refl in
     let call : e.what ≡ Call known.frame.name c (Refused r) = w ∙ ap (λ (n : ℕ). Call n c (Refused r)) known.name in
     subst (LeavesAllButPlace s e past) (sym known.name)
-    (leaves_all s limit e past c r known.frame (record { run = run; is_call = call; inner = known.goes_on.inner }))
+    (leaves_all s limit e past c r known.frame (record {
+      run = run;
+      is_call = call;
+      inner = known.goes_on.inner;
+      spin = no_spin s limit e.cpu past name c r run.1 known;
+    }))

@@ -5,7 +5,7 @@ use Rattle.nt_event.specs.declared.commands.Refusal.{Refusal}
 use Rattle.nt_event.specs.declared.commands.Reply.TheVariants.{Refused}
 use Rattle.nt_event.specs.declared.events.Event.{Event}
 use Rattle.nt_event.specs.declared.events.What.TheVariants.{Call}
-use Rattle.nt_event.specs.declared.frames.Frame.{Frame}
+use Rattle.nt_event.specs.Frame.{Frame}
 use Rattle.nt_event.specs.declared.jobs.Lane.{Lane}
 use Rattle.nt_event.specs.declared.numbers.CpuNo.{CpuNo}
 use Rattle.nt_event.specs.declared.numbers.ThreadNo.{ThreadNo}

@@ -9,6 +9,7 @@ use Rattle.nt_event.specs.declared.numbers.RoutineNo.{RoutineNo}
 use Rattle.nt_event.specs.declared.numbers.ThreadNo.{ThreadNo}
 use Rattle.nt_event.specs.declared.scripts.Script.{Script}
 use Rattle.nt_event.specs.Numbers.{routine, thread}
+use Rattle.nt_rows.specs.Plain.{plain}
 use Rattle.nt_rows.specs.Rows.{event, runs, thread_on}
 
 abbrev pub a : ThreadNo
@@ -26,15 +27,9 @@ rb = routine 1
 -- the script
 abbrev pub script : Script
 script =
-    record {
+    record plain {
       cpus = 2;
-      depth = None;
-      threaded = None;
-      isrs = [];
-      dpcs = [];
-      timers = [];
       threads = thread_on 0 ra ∷ thread_on 1 rb ∷ [];
-      apcs = [];
       routines =
           runs [] ∷
           runs (cmd.Alert a Kernel ∷ cmd.Note 0 ∷ cmd.Alert a Kernel ∷ []) ∷

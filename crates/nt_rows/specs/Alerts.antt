@@ -9,6 +9,7 @@ use Rattle.nt_event.specs.declared.numbers.RoutineNo.{RoutineNo}
 use Rattle.nt_event.specs.declared.numbers.ThreadNo.{ThreadNo}
 use Rattle.nt_event.specs.declared.scripts.Script.{Script}
 use Rattle.nt_event.specs.Numbers.{routine, thread}
+use Rattle.nt_rows.specs.Plain.{plain}
 use Rattle.nt_rows.specs.Rows.{event, looks, runs, thread_on}
 
 abbrev pub w : ThreadNo
@@ -26,15 +27,9 @@ rx = routine 1
 -- the script
 abbrev pub script : Script
 script =
-    record {
+    record plain {
       cpus = 2;
-      depth = None;
-      threaded = None;
-      isrs = [];
-      dpcs = [];
-      timers = [];
       threads = thread_on 0 rw ∷ thread_on 1 rx ∷ [];
-      apcs = [];
       routines =
           runs (StartWait User true ∷ TestAlert User ∷ []) ∷
           runs (Alert w User ∷ Alert w User ∷ []) ∷

@@ -10,6 +10,7 @@ use Rattle.nt_event.specs.declared.numbers.RoutineNo.{RoutineNo}
 use Rattle.nt_event.specs.declared.numbers.ThreadNo.{ThreadNo}
 use Rattle.nt_event.specs.declared.scripts.Script.{Script}
 use Rattle.nt_event.specs.Numbers.{apc, routine, thread}
+use Rattle.nt_rows.specs.Plain.{plain}
 use Rattle.nt_rows.specs.Rows.{event, normal_apc, runs, special_apc, thread_on}
 
 abbrev pub main : ThreadNo
@@ -39,13 +40,7 @@ x = routine 3
 -- the script
 abbrev pub script : Script
 script =
-    record {
-      cpus = 1;
-      depth = None;
-      threaded = None;
-      isrs = [];
-      dpcs = [];
-      timers = [];
+    record plain {
       threads = thread_on 0 body ∷ [];
       apcs = special_apc main k ∷ normal_apc main k m ∷ normal_apc main k x ∷ [];
       routines =

@@ -12,6 +12,7 @@ use Rattle.nt_event.specs.declared.numbers.RoutineNo.{RoutineNo}
 use Rattle.nt_event.specs.declared.numbers.ThreadNo.{ThreadNo}
 use Rattle.nt_event.specs.declared.scripts.Script.{Script}
 use Rattle.nt_event.specs.Numbers.{cpu, dpc, routine, thread}
+use Rattle.nt_rows.specs.Plain.{plain}
 use Rattle.nt_rows.specs.Rows.{event, looks, runs, thread_on}
 
 abbrev pub a : ThreadNo
@@ -35,15 +36,10 @@ rb = routine 2
 -- the script
 abbrev pub script : Script
 script =
-    record {
+    record plain {
       cpus = 2;
-      depth = None;
-      threaded = None;
-      isrs = [];
       dpcs = record { threaded = false; routine = rd } ∷ [];
-      timers = [];
       threads = thread_on 0 ra ∷ thread_on 1 rb ∷ [];
-      apcs = [];
       routines =
           runs [] ∷
           runs (cmd.SetTarget d (Some (cpu 1)) ∷ cmd.SetImportance d Low ∷ cmd.Release b ∷ cmd.Note 0 ∷ cmd.Note 0 ∷

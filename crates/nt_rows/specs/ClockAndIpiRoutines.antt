@@ -12,6 +12,7 @@ use Rattle.nt_event.specs.declared.numbers.ThreadNo.{ThreadNo}
 use Rattle.nt_event.specs.declared.numbers.TimerNo.{TimerNo}
 use Rattle.nt_event.specs.declared.scripts.Script.{Script}
 use Rattle.nt_event.specs.Numbers.{cpu, dpc, routine, thread, timer}
+use Rattle.nt_rows.specs.Plain.{plain}
 use Rattle.nt_rows.specs.Rows.{event, looks, runs, thread_on}
 
 abbrev pub d : DpcNo
@@ -50,17 +51,14 @@ rb = routine 5
 -- the script
 abbrev pub script : Script
 script =
-    record {
+    record plain {
       cpus = 2;
-      depth = None;
-      threaded = None;
       isrs =
           record { cpu = cpu 0; level = 13; routine = r13 } ∷ record { cpu = cpu 1; level = 14; routine = r14 } ∷
           record { cpu = cpu 1; level = 3; routine = r3 } ∷ [];
       dpcs = record { threaded = false; routine = rd } ∷ [];
       timers = record { dpc = Some d } ∷ record { dpc = None } ∷ [];
       threads = thread_on 0 ra ∷ thread_on 1 rb ∷ [];
-      apcs = [];
       routines =
           runs (cmd.Note 13 ∷ cmd.Queue d ∷ []) ∷
           runs (cmd.Interrupt (cpu 1) 3 ∷ cmd.Note 14 ∷ []) ∷

@@ -10,6 +10,7 @@ use Rattle.nt_event.specs.declared.numbers.RoutineNo.{RoutineNo}
 use Rattle.nt_event.specs.declared.numbers.ThreadNo.{ThreadNo}
 use Rattle.nt_event.specs.declared.scripts.Script.{Script}
 use Rattle.nt_event.specs.Numbers.{cpu, dpc, routine, thread}
+use Rattle.nt_rows.specs.Plain.{plain}
 use Rattle.nt_rows.specs.Rows.{event, looks, runs, thread_on}
 
 abbrev pub a : ThreadNo
@@ -33,15 +34,11 @@ rb = routine 2
 -- the script
 abbrev pub script : Script
 script =
-    record {
+    record plain {
       cpus = 2;
       depth = Some 0;
-      threaded = None;
-      isrs = [];
       dpcs = record { threaded = false; routine = rd } ∷ [];
-      timers = [];
       threads = thread_on 0 ra ∷ thread_on 1 rb ∷ [];
-      apcs = [];
       routines =
           runs [] ∷
           runs (cmd.SetTarget d (Some (cpu 1)) ∷ cmd.Queue d ∷ []) ∷

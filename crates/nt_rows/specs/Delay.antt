@@ -11,6 +11,7 @@ use Rattle.nt_event.specs.declared.numbers.RoutineNo.{RoutineNo}
 use Rattle.nt_event.specs.declared.numbers.ThreadNo.{ThreadNo}
 use Rattle.nt_event.specs.declared.scripts.Script.{Script}
 use Rattle.nt_event.specs.Numbers.{routine, thread}
+use Rattle.nt_rows.specs.Plain.{plain}
 use Rattle.nt_rows.specs.Rows.{event, runs, thread_on}
 
 abbrev pub main : ThreadNo
@@ -28,15 +29,8 @@ c = routine 1
 -- the script
 abbrev pub script : Script
 script =
-    record {
-      cpus = 1;
-      depth = None;
-      threaded = None;
-      isrs = [];
-      dpcs = [];
-      timers = [];
+    record plain {
       threads = thread_on 0 m ∷ thread_on 0 c ∷ [];
-      apcs = [];
       routines =
           runs (Delay Kernel false 3 ∷ []) ∷
           runs (Clock 3 ∷ []) ∷

@@ -11,6 +11,7 @@ use Rattle.nt_event.specs.declared.numbers.RoutineNo.{RoutineNo}
 use Rattle.nt_event.specs.declared.numbers.ThreadNo.{ThreadNo}
 use Rattle.nt_event.specs.declared.scripts.Script.{Script}
 use Rattle.nt_event.specs.Numbers.{dpc, routine, thread}
+use Rattle.nt_rows.specs.Plain.{plain}
 use Rattle.nt_rows.specs.Rows.{event, runs, thread_on}
 
 abbrev pub d1 : DpcNo
@@ -40,18 +41,12 @@ q = routine 1
 -- the script
 abbrev pub script : Script
 script =
-    record {
-      cpus = 1;
-      depth = None;
-      threaded = None;
-      isrs = [];
+    record plain {
       dpcs =
           record { threaded = false; routine = q } ∷ record { threaded = false; routine = q } ∷
           record { threaded = false; routine = q } ∷ record { threaded = false; routine = q } ∷
           record { threaded = false; routine = q } ∷ [];
-      timers = [];
       threads = thread_on 0 body ∷ [];
-      apcs = [];
       routines =
           runs (SetImportance d1 Low ∷ SetImportance d2 Low ∷ SetImportance d3 Low ∷ SetImportance d4 Low ∷
           SetImportance d5 Low ∷ Queue d1 ∷ Queue d2 ∷ Queue d3 ∷ Queue d4 ∷ Queue d5 ∷ []) ∷

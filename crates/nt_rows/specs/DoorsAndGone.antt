@@ -10,6 +10,7 @@ use Rattle.nt_event.specs.declared.numbers.RoutineNo.{RoutineNo}
 use Rattle.nt_event.specs.declared.numbers.ThreadNo.{ThreadNo}
 use Rattle.nt_event.specs.declared.scripts.Script.{Script}
 use Rattle.nt_event.specs.Numbers.{apc, routine, thread}
+use Rattle.nt_rows.specs.Plain.{plain}
 use Rattle.nt_rows.specs.Rows.{event, normal_apc, runs, special_apc, thread_on, user_apc}
 
 abbrev pub a : ThreadNo
@@ -45,13 +46,8 @@ r = routine 4
 -- the script
 abbrev pub script : Script
 script =
-    record {
+    record plain {
       cpus = 2;
-      depth = None;
-      threaded = None;
-      isrs = [];
-      dpcs = [];
-      timers = [];
       threads = thread_on 0 ra ∷ thread_on 1 rb ∷ [];
       apcs = user_apc a k m (Some r) ∷ special_apc a k ∷ normal_apc a k m ∷ [];
       routines =

@@ -11,6 +11,7 @@ use Rattle.nt_event.specs.declared.numbers.RoutineNo.{RoutineNo}
 use Rattle.nt_event.specs.declared.numbers.ThreadNo.{ThreadNo}
 use Rattle.nt_event.specs.declared.scripts.Script.{Script}
 use Rattle.nt_event.specs.Numbers.{apc, dpc, routine, thread}
+use Rattle.nt_rows.specs.Plain.{plain}
 use Rattle.nt_rows.specs.Rows.{event, runs, special_apc, thread_on}
 
 abbrev pub main : ThreadNo
@@ -37,13 +38,8 @@ qw = routine 2
 -- the script
 abbrev pub script : Script
 script =
-    record {
-      cpus = 1;
-      depth = None;
-      threaded = None;
-      isrs = [];
+    record plain {
       dpcs = record { threaded = false; routine = q } ∷ record { threaded = true; routine = qw } ∷ [];
-      timers = [];
       threads = thread_on 0 body ∷ [];
       apcs = special_apc main q ∷ [];
       routines =

@@ -13,6 +13,7 @@ use Rattle.nt_event.specs.declared.numbers.ThreadNo.{ThreadNo}
 use Rattle.nt_event.specs.declared.numbers.TimerNo.{TimerNo}
 use Rattle.nt_event.specs.declared.scripts.Script.{Script}
 use Rattle.nt_event.specs.Numbers.{apc, cpu, dpc, routine, thread, timer}
+use Rattle.nt_rows.specs.Plain.{plain}
 use Rattle.nt_rows.specs.Rows.{event, looks, runs, special_apc, thread_on}
 
 abbrev pub d : DpcNo
@@ -54,10 +55,8 @@ device = routine 5
 -- the script
 abbrev pub script : Script
 script =
-    record {
+    record plain {
       cpus = 2;
-      depth = None;
-      threaded = None;
       isrs = record { cpu = cpu 0; level = 5; routine = isr5 } ∷ [];
       dpcs = record { threaded = false; routine = finish } ∷ record { threaded = false; routine = expired } ∷ [];
       timers = record { dpc = Some late } ∷ [];

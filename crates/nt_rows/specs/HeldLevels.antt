@@ -10,6 +10,7 @@ use Rattle.nt_event.specs.declared.numbers.RoutineNo.{RoutineNo}
 use Rattle.nt_event.specs.declared.numbers.ThreadNo.{ThreadNo}
 use Rattle.nt_event.specs.declared.scripts.Script.{Script}
 use Rattle.nt_event.specs.Numbers.{cpu, routine, thread}
+use Rattle.nt_rows.specs.Plain.{plain}
 use Rattle.nt_rows.specs.Rows.{event, runs, thread_on}
 
 abbrev pub main : ThreadNo
@@ -21,15 +22,8 @@ body = routine 0
 -- the script
 abbrev pub script : Script
 script =
-    record {
-      cpus = 1;
-      depth = None;
-      threaded = None;
-      isrs = [];
-      dpcs = [];
-      timers = [];
+    record plain {
       threads = thread_on 0 body ∷ [];
-      apcs = [];
       routines =
           runs (cmd.Raise 2 ∷ cmd.Raise 2 ∷ cmd.EnterGuard ∷ cmd.LeaveGuard ∷ cmd.Lower 2 ∷ cmd.Raise 15 ∷
           cmd.Interrupt (cpu 0) 3 ∷ cmd.Interrupt (cpu 0) 5 ∷ cmd.Lower 0 ∷ []) ∷

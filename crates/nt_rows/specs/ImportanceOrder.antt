@@ -11,6 +11,7 @@ use Rattle.nt_event.specs.declared.numbers.RoutineNo.{RoutineNo}
 use Rattle.nt_event.specs.declared.numbers.ThreadNo.{ThreadNo}
 use Rattle.nt_event.specs.declared.scripts.Script.{Script}
 use Rattle.nt_event.specs.Numbers.{dpc, routine, thread}
+use Rattle.nt_rows.specs.Plain.{plain}
 use Rattle.nt_rows.specs.Rows.{event, runs, thread_on}
 
 abbrev pub a : DpcNo
@@ -37,17 +38,11 @@ q = routine 1
 -- the script
 abbrev pub script : Script
 script =
-    record {
-      cpus = 1;
-      depth = None;
-      threaded = None;
-      isrs = [];
+    record plain {
       dpcs =
           record { threaded = false; routine = q } ∷ record { threaded = false; routine = q } ∷
           record { threaded = false; routine = q } ∷ record { threaded = false; routine = q } ∷ [];
-      timers = [];
       threads = thread_on 0 body ∷ [];
-      apcs = [];
       routines =
           runs (Raise 15 ∷ SetImportance b High ∷ SetImportance c High ∷ SetImportance e Low ∷ Queue a ∷ Queue b ∷
           Queue c ∷ Queue e ∷ Lower 0 ∷ []) ∷

@@ -9,6 +9,7 @@ use Rattle.nt_event.specs.declared.numbers.RoutineNo.{RoutineNo}
 use Rattle.nt_event.specs.declared.numbers.ThreadNo.{ThreadNo}
 use Rattle.nt_event.specs.declared.scripts.Script.{Script}
 use Rattle.nt_event.specs.Numbers.{cpu, routine, thread}
+use Rattle.nt_rows.specs.Plain.{plain}
 use Rattle.nt_rows.specs.Rows.{event, runs, thread_on}
 
 abbrev pub main : ThreadNo
@@ -29,15 +30,9 @@ q = routine 3
 -- the script
 abbrev pub script : Script
 script =
-    record {
-      cpus = 1;
-      depth = None;
-      threaded = None;
+    record plain {
       isrs = record { cpu = cpu 0; level = 5; routine = r5 } ∷ record { cpu = cpu 0; level = 9; routine = r9 } ∷ [];
-      dpcs = [];
-      timers = [];
       threads = thread_on 0 body ∷ [];
-      apcs = [];
       routines =
           runs (Interrupt (cpu 0) 5 ∷ []) ∷
           runs (Interrupt (cpu 0) 9 ∷ Interrupt (cpu 0) 3 ∷ []) ∷

@@ -9,6 +9,7 @@ use Rattle.nt_event.specs.declared.numbers.RoutineNo.{RoutineNo}
 use Rattle.nt_event.specs.declared.numbers.ThreadNo.{ThreadNo}
 use Rattle.nt_event.specs.declared.scripts.Script.{Script}
 use Rattle.nt_event.specs.Numbers.{cpu, routine, thread}
+use Rattle.nt_rows.specs.Plain.{plain}
 use Rattle.nt_rows.specs.Rows.{event, looks, runs, thread_on}
 
 abbrev pub a : ThreadNo
@@ -20,15 +21,9 @@ ra = routine 0
 -- the script
 abbrev pub script : Script
 script =
-    record {
+    record plain {
       cpus = 2;
-      depth = None;
-      threaded = None;
-      isrs = [];
-      dpcs = [];
-      timers = [];
       threads = thread_on 0 ra ∷ [];
-      apcs = [];
       routines =
           runs (Interrupt (cpu 1) 5 ∷ []) ∷
           [];

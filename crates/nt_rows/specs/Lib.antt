@@ -1,3 +1,4 @@
+pub mod Plain
 pub mod Rows
 pub mod Alerts
 pub mod BusyTarget
@@ -59,3 +60,15 @@ pub mod DelayOverAtRewait
 pub mod BusyAgain
 pub mod ApcTellsALane
 pub mod UnqueueTellsALane
+pub mod SpinLock
+pub mod SpinDeadlock
+pub mod SpinRefusals
+pub mod LockTriedAgain
+pub mod LockTakenBeforeTheSpinner
+pub mod LockLevelOfTheFirstTry
+pub mod LocksFreedAtTheEnd
+pub mod LockCycleOfThree
+pub mod InterruptWhileSpinning
+pub mod ApcsWaitForALock
+pub mod TimerDueBehindSpinners
+pub mod CutWhileHolding

@@ -11,6 +11,7 @@ use Rattle.nt_event.specs.declared.numbers.RoutineNo.{RoutineNo}
 use Rattle.nt_event.specs.declared.numbers.ThreadNo.{ThreadNo}
 use Rattle.nt_event.specs.declared.scripts.Script.{Script}
 use Rattle.nt_event.specs.Numbers.{dpc, routine, thread}
+use Rattle.nt_rows.specs.Plain.{plain}
 use Rattle.nt_rows.specs.Rows.{event, runs, thread_on}
 
 abbrev pub d : DpcNo
@@ -28,15 +29,9 @@ body = routine 1
 -- the script
 abbrev pub script : Script
 script =
-    record {
-      cpus = 1;
-      depth = None;
-      threaded = None;
-      isrs = [];
+    record plain {
       dpcs = record { threaded = false; routine = work } ∷ [];
-      timers = [];
       threads = thread_on 0 body ∷ [];
-      apcs = [];
       routines =
           runs (Lower 1 ∷ []) ∷
           runs (Raise 2 ∷ Queue d ∷ Lower 0 ∷ []) ∷

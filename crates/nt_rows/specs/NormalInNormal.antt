@@ -10,6 +10,7 @@ use Rattle.nt_event.specs.declared.numbers.RoutineNo.{RoutineNo}
 use Rattle.nt_event.specs.declared.numbers.ThreadNo.{ThreadNo}
 use Rattle.nt_event.specs.declared.scripts.Script.{Script}
 use Rattle.nt_event.specs.Numbers.{apc, routine, thread}
+use Rattle.nt_rows.specs.Plain.{plain}
 use Rattle.nt_rows.specs.Rows.{event, normal_apc, runs, thread_on}
 
 abbrev pub main : ThreadNo
@@ -33,13 +34,7 @@ q = routine 2
 -- the script: n's normal routine inserts m
 abbrev pub script : Script
 script =
-    record {
-      cpus = 1;
-      depth = None;
-      threaded = None;
-      isrs = [];
-      dpcs = [];
-      timers = [];
+    record plain {
       threads = thread_on 0 body ∷ [];
       apcs = normal_apc main q r ∷ normal_apc main q q ∷ [];
       routines =

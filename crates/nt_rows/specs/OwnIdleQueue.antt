@@ -11,6 +11,7 @@ use Rattle.nt_event.specs.declared.numbers.RoutineNo.{RoutineNo}
 use Rattle.nt_event.specs.declared.numbers.ThreadNo.{ThreadNo}
 use Rattle.nt_event.specs.declared.scripts.Script.{Script}
 use Rattle.nt_event.specs.Numbers.{cpu, dpc, routine, thread}
+use Rattle.nt_rows.specs.Plain.{plain}
 use Rattle.nt_rows.specs.Rows.{event, looks, runs, thread_on}
 
 abbrev pub main : ThreadNo
@@ -31,15 +32,11 @@ body = routine 2
 -- the script
 abbrev pub script : Script
 script =
-    record {
+    record plain {
       cpus = 2;
-      depth = None;
-      threaded = None;
       isrs = record { cpu = cpu 1; level = 5; routine = r5 } ∷ [];
       dpcs = record { threaded = false; routine = rd } ∷ [];
-      timers = [];
       threads = thread_on 0 body ∷ [];
-      apcs = [];
       routines =
           runs (cmd.Queue d ∷ []) ∷
           runs [] ∷

@@ -9,6 +9,7 @@ use Rattle.nt_event.specs.declared.numbers.RoutineNo.{RoutineNo}
 use Rattle.nt_event.specs.declared.numbers.ThreadNo.{ThreadNo}
 use Rattle.nt_event.specs.declared.scripts.Script.{Script}
 use Rattle.nt_event.specs.Numbers.{dpc, routine, thread}
+use Rattle.nt_rows.specs.Plain.{plain}
 use Rattle.nt_rows.specs.Rows.{event, runs, thread_on}
 
 abbrev pub d : DpcNo
@@ -26,15 +27,9 @@ q = routine 1
 -- the script
 abbrev pub script : Script
 script =
-    record {
-      cpus = 1;
-      depth = None;
-      threaded = None;
-      isrs = [];
+    record plain {
       dpcs = record { threaded = false; routine = q } ∷ [];
-      timers = [];
       threads = thread_on 0 body ∷ [];
-      apcs = [];
       routines =
           runs (Raise 2 ∷ Queue d ∷ Queue d ∷ Unqueue d ∷ Unqueue d ∷ Lower 0 ∷ []) ∷
           runs [] ∷

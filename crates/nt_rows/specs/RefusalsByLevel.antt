@@ -13,6 +13,7 @@ use Rattle.nt_event.specs.declared.numbers.ThreadNo.{ThreadNo}
 use Rattle.nt_event.specs.declared.numbers.TimerNo.{TimerNo}
 use Rattle.nt_event.specs.declared.scripts.Script.{Script}
 use Rattle.nt_event.specs.Numbers.{apc, routine, thread, timer}
+use Rattle.nt_rows.specs.Plain.{plain}
 use Rattle.nt_rows.specs.Rows.{event, normal_apc, runs, thread_on}
 
 abbrev pub t : TimerNo
@@ -36,12 +37,7 @@ body = routine 2
 -- the script
 abbrev pub script : Script
 script =
-    record {
-      cpus = 1;
-      depth = None;
-      threaded = None;
-      isrs = [];
-      dpcs = [];
+    record plain {
       timers = record { dpc = None } ∷ [];
       threads = thread_on 0 body ∷ [];
       apcs = normal_apc main nk nn ∷ [];

@@ -14,6 +14,7 @@ use Rattle.nt_event.specs.declared.numbers.ThreadNo.{ThreadNo}
 use Rattle.nt_event.specs.declared.numbers.TimerNo.{TimerNo}
 use Rattle.nt_event.specs.declared.scripts.Script.{Script}
 use Rattle.nt_event.specs.Numbers.{apc, cpu, dpc, routine, thread, timer}
+use Rattle.nt_rows.specs.Plain.{plain}
 use Rattle.nt_rows.specs.Rows.{event, runs, special_apc, thread_on}
 
 abbrev pub d : DpcNo
@@ -40,11 +41,7 @@ sk = routine 2
 -- the script
 abbrev pub script : Script
 script =
-    record {
-      cpus = 1;
-      depth = None;
-      threaded = None;
-      isrs = [];
+    record plain {
       dpcs = record { threaded = false; routine = rd } ∷ [];
       timers = record { dpc = None } ∷ [];
       threads = thread_on 0 body ∷ [];

@@ -1,5 +1,5 @@
 -- The worked row refused-turns: turns that give no event, after a thread asked another processor for an interrupt.
-use Rattle.std.specs.Prelude.{Err, List, None, [], length, ℕ, ◌∷◌, ◌≡◌}
+use Rattle.std.specs.Prelude.{Err, List, [], length, ℕ, ◌∷◌, ◌≡◌}
 use Rattle.nt_event.specs.declared.commands.Command.TheVariants.{Interrupt}
 use Rattle.nt_event.specs.declared.events.Event.{Event}
 use Rattle.nt_event.specs.declared.events.ScheduleKind.TheVariants.{BadChoice, BadLook, NoSuchCpu, NothingToDo}
@@ -11,6 +11,7 @@ use Rattle.nt_event.specs.declared.scripts.Script.{Script}
 use Rattle.nt_event.specs.Lists.{table}
 use Rattle.nt_event.specs.Numbers.{cpu, routine, thread}
 use Rattle.nt_event.specs.Step.{step}
+use Rattle.nt_rows.specs.Plain.{plain}
 use Rattle.nt_rows.specs.Rows.{made_by, risen, runs, thread_on}
 
 abbrev pub a : ThreadNo
@@ -22,15 +23,9 @@ ra = routine 0
 -- the script
 abbrev pub script : Script
 script =
-    record {
+    record plain {
       cpus = 2;
-      depth = None;
-      threaded = None;
-      isrs = [];
-      dpcs = [];
-      timers = [];
       threads = thread_on 0 ra ∷ [];
-      apcs = [];
       routines = runs (Interrupt (cpu 1) 5 ∷ []) ∷ [];
     }
 

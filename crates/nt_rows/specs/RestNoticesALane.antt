@@ -12,6 +12,7 @@ use Rattle.nt_event.specs.declared.numbers.RoutineNo.{RoutineNo}
 use Rattle.nt_event.specs.declared.numbers.ThreadNo.{ThreadNo}
 use Rattle.nt_event.specs.declared.scripts.Script.{Script}
 use Rattle.nt_event.specs.Numbers.{cpu, dpc, routine, thread}
+use Rattle.nt_rows.specs.Plain.{plain}
 use Rattle.nt_rows.specs.Rows.{event, runs, thread_on}
 
 abbrev pub w : DpcNo
@@ -29,15 +30,10 @@ q = routine 1
 -- the script
 abbrev pub script : Script
 script =
-    record {
+    record plain {
       cpus = 2;
-      depth = None;
-      threaded = None;
-      isrs = [];
       dpcs = record { threaded = true; routine = q } ∷ [];
-      timers = [];
       threads = thread_on 0 ra ∷ [];
-      apcs = [];
       routines =
           runs (SetTarget w (Some (cpu 1)) ∷ Queue w ∷ []) ∷
           runs [] ∷

@@ -12,6 +12,7 @@ use Rattle.nt_event.specs.declared.numbers.ThreadNo.{ThreadNo}
 use Rattle.nt_event.specs.declared.numbers.TimerNo.{TimerNo}
 use Rattle.nt_event.specs.declared.scripts.Script.{Script}
 use Rattle.nt_event.specs.Numbers.{cpu, dpc, routine, thread, timer}
+use Rattle.nt_rows.specs.Plain.{plain}
 use Rattle.nt_rows.specs.Rows.{event, runs, thread_on}
 
 abbrev pub main : ThreadNo
@@ -35,15 +36,11 @@ q = routine 1
 -- the script
 abbrev pub script : Script
 script =
-    record {
+    record plain {
       cpus = 2;
-      depth = None;
-      threaded = None;
-      isrs = [];
       dpcs = record { threaded = false; routine = q } ∷ [];
       timers = record { dpc = None } ∷ record { dpc = None } ∷ [];
       threads = thread_on 0 body ∷ [];
-      apcs = [];
       routines =
           runs (cmd.Raise 2 ∷ cmd.Queue d ∷ cmd.SetTarget d (Some (cpu 1)) ∷ cmd.Unqueue d ∷ cmd.Lower 0 ∷
           cmd.SetTimer t 1 0 ∷ cmd.SetTimer u 1 0 ∷ cmd.Clock 1 ∷ []) ∷

@@ -11,6 +11,7 @@ use Rattle.nt_event.specs.declared.numbers.RoutineNo.{RoutineNo}
 use Rattle.nt_event.specs.declared.numbers.ThreadNo.{ThreadNo}
 use Rattle.nt_event.specs.declared.scripts.Script.{Script}
 use Rattle.nt_event.specs.Numbers.{cpu, dpc, routine, thread}
+use Rattle.nt_rows.specs.Plain.{plain}
 use Rattle.nt_rows.specs.Rows.{event, looks, runs, thread_on}
 
 abbrev pub d : DpcNo
@@ -40,18 +41,14 @@ ra = routine 1
 -- the script
 abbrev pub script : Script
 script =
-    record {
+    record plain {
       cpus = 3;
       depth = Some 1;
-      threaded = None;
-      isrs = [];
       dpcs =
           record { threaded = false; routine = rd } ∷ record { threaded = false; routine = rd } ∷
           record { threaded = false; routine = rd } ∷ record { threaded = false; routine = rd } ∷
           record { threaded = true; routine = rd } ∷ [];
-      timers = [];
       threads = thread_on 0 ra ∷ [];
-      apcs = [];
       routines =
           runs [] ∷
           runs (cmd.Raise 2 ∷ cmd.SetTarget d (Some (cpu 1)) ∷ cmd.SetTarget d None ∷ cmd.SetImportance d Low ∷

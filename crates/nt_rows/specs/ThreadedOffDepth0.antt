@@ -12,6 +12,7 @@ use Rattle.nt_event.specs.declared.numbers.RoutineNo.{RoutineNo}
 use Rattle.nt_event.specs.declared.numbers.ThreadNo.{ThreadNo}
 use Rattle.nt_event.specs.declared.scripts.Script.{Script}
 use Rattle.nt_event.specs.Numbers.{cpu, dpc, routine, thread}
+use Rattle.nt_rows.specs.Plain.{plain}
 use Rattle.nt_rows.specs.Rows.{event, looks, runs, thread_on}
 
 abbrev pub w : DpcNo
@@ -35,15 +36,12 @@ ra = routine 2
 -- the script
 abbrev pub script : Script
 script =
-    record {
+    record plain {
       cpus = 2;
       depth = Some 0;
       threaded = Some false;
-      isrs = [];
       dpcs = record { threaded = true; routine = rw } ∷ record { threaded = false; routine = rd } ∷ [];
-      timers = [];
       threads = thread_on 0 ra ∷ [];
-      apcs = [];
       routines =
           runs (cmd.Note 1 ∷ []) ∷
           runs (cmd.EnterCrit ∷ []) ∷

@@ -12,6 +12,7 @@ use Rattle.nt_event.specs.declared.numbers.ThreadNo.{ThreadNo}
 use Rattle.nt_event.specs.declared.numbers.TimerNo.{TimerNo}
 use Rattle.nt_event.specs.declared.scripts.Script.{Script}
 use Rattle.nt_event.specs.Numbers.{dpc, routine, thread, timer}
+use Rattle.nt_rows.specs.Plain.{plain}
 use Rattle.nt_rows.specs.Rows.{event, runs, thread_on}
 
 abbrev pub d1 : DpcNo
@@ -38,15 +39,10 @@ q = routine 2
 -- the script
 abbrev pub script : Script
 script =
-    record {
-      cpus = 1;
-      depth = None;
-      threaded = None;
-      isrs = [];
+    record plain {
       dpcs = record { threaded = false; routine = c } ∷ record { threaded = false; routine = q } ∷ [];
       timers = record { dpc = Some d2 } ∷ [];
       threads = thread_on 0 body ∷ [];
-      apcs = [];
       routines =
           runs (Raise 2 ∷ SetTimer t 1 0 ∷ SetTimer t 2 0 ∷ Queue d1 ∷ Clock 2 ∷ Lower 0 ∷ []) ∷
           runs (CancelTimer t ∷ []) ∷

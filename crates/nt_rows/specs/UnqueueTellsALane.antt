@@ -13,6 +13,7 @@ use Rattle.nt_event.specs.declared.numbers.RoutineNo.{RoutineNo}
 use Rattle.nt_event.specs.declared.numbers.ThreadNo.{ThreadNo}
 use Rattle.nt_event.specs.declared.scripts.Script.{Script}
 use Rattle.nt_event.specs.Numbers.{cpu, dpc, routine, thread}
+use Rattle.nt_rows.specs.Plain.{plain}
 use Rattle.nt_rows.specs.Rows.{event, runs, thread_on}
 
 abbrev pub a : ThreadNo
@@ -39,15 +40,10 @@ rb = routine 2
 -- the script
 abbrev pub script : Script
 script =
-    record {
+    record plain {
       cpus = 2;
-      depth = None;
-      threaded = None;
-      isrs = [];
       dpcs = record { threaded = false; routine = q } ∷ record { threaded = true; routine = q } ∷ [];
-      timers = [];
       threads = thread_on 0 ra ∷ thread_on 1 rb ∷ [];
-      apcs = [];
       routines =
           runs [] ∷
           runs (cmd.SetTarget v (Some (cpu 1)) ∷ cmd.Queue v ∷ []) ∷

@@ -10,6 +10,7 @@ use Rattle.nt_event.specs.declared.numbers.RoutineNo.{RoutineNo}
 use Rattle.nt_event.specs.declared.numbers.ThreadNo.{ThreadNo}
 use Rattle.nt_event.specs.declared.scripts.Script.{Script}
 use Rattle.nt_event.specs.Numbers.{apc, routine, thread}
+use Rattle.nt_rows.specs.Plain.{plain}
 use Rattle.nt_rows.specs.Rows.{event, runs, thread_on, user_apc}
 
 abbrev pub main : ThreadNo
@@ -30,13 +31,7 @@ q = routine 1
 -- the script
 abbrev pub script : Script
 script =
-    record {
-      cpus = 1;
-      depth = None;
-      threaded = None;
-      isrs = [];
-      dpcs = [];
-      timers = [];
+    record plain {
       threads = thread_on 0 body ∷ [];
       apcs = user_apc main q q None ∷ user_apc main q q None ∷ [];
       routines =

@@ -11,6 +11,7 @@ use Rattle.nt_event.specs.declared.numbers.RoutineNo.{RoutineNo}
 use Rattle.nt_event.specs.declared.numbers.ThreadNo.{ThreadNo}
 use Rattle.nt_event.specs.declared.scripts.Script.{Script}
 use Rattle.nt_event.specs.Numbers.{apc, routine, thread}
+use Rattle.nt_rows.specs.Plain.{plain}
 use Rattle.nt_rows.specs.Rows.{event, looks, normal_apc, runs, thread_on}
 
 abbrev pub w : ThreadNo
@@ -34,13 +35,8 @@ q = routine 2
 -- the script
 abbrev pub script : Script
 script =
-    record {
+    record plain {
       cpus = 2;
-      depth = None;
-      threaded = None;
-      isrs = [];
-      dpcs = [];
-      timers = [];
       threads = thread_on 0 rw ∷ thread_on 1 rx ∷ [];
       apcs = normal_apc w q q ∷ [];
       routines =

@@ -11,6 +11,7 @@ use Rattle.nt_event.specs.declared.numbers.RoutineNo.{RoutineNo}
 use Rattle.nt_event.specs.declared.numbers.ThreadNo.{ThreadNo}
 use Rattle.nt_event.specs.declared.scripts.Script.{Script}
 use Rattle.nt_event.specs.Numbers.{apc, routine, thread}
+use Rattle.nt_rows.specs.Plain.{plain}
 use Rattle.nt_rows.specs.Rows.{event, runs, special_apc, thread_on}
 
 abbrev pub a : ThreadNo
@@ -34,13 +35,8 @@ k = routine 2
 -- the script
 abbrev pub script : Script
 script =
-    record {
+    record plain {
       cpus = 2;
-      depth = None;
-      threaded = None;
-      isrs = [];
-      dpcs = [];
-      timers = [];
       threads = thread_on 0 ra ∷ thread_on 1 rb ∷ [];
       apcs = special_apc a k ∷ [];
       routines =

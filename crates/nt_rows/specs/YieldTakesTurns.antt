@@ -8,6 +8,7 @@ use Rattle.nt_event.specs.declared.numbers.RoutineNo.{RoutineNo}
 use Rattle.nt_event.specs.declared.numbers.ThreadNo.{ThreadNo}
 use Rattle.nt_event.specs.declared.scripts.Script.{Script}
 use Rattle.nt_event.specs.Numbers.{routine, thread}
+use Rattle.nt_rows.specs.Plain.{plain}
 use Rattle.nt_rows.specs.Rows.{event, runs, thread_on}
 
 abbrev pub a : ThreadNo
@@ -34,15 +35,9 @@ rz = routine 2
 -- the script
 abbrev pub script : Script
 script =
-    record {
+    record plain {
       cpus = 2;
-      depth = None;
-      threaded = None;
-      isrs = [];
-      dpcs = [];
-      timers = [];
       threads = thread_on 0 ra ∷ thread_on 0 rb ∷ thread_on 0 rb ∷ thread_on 1 rz ∷ [];
-      apcs = [];
       routines =
           runs (cmd.Note 1 ∷ cmd.Yield ∷ cmd.Note 2 ∷ cmd.Raise 1 ∷ cmd.Yield ∷ cmd.Note 3 ∷ []) ∷
           runs (cmd.Yield ∷ cmd.Note 4 ∷ cmd.Yield ∷ []) ∷

@@ -66,6 +66,18 @@ ghost use Rattle.nt_rows.specs.OrderOfTests as order_of_tests_row;
 ghost use Rattle.nt_rows.specs.AlertOfAGoneThread as alert_of_a_gone_thread_row;
 ghost use Rattle.nt_rows.specs.RegionsGivenUp as regions_given_up_row;
 ghost use Rattle.nt_rows.specs.HeldLevels as held_levels_row;
+ghost use Rattle.nt_rows.specs.SpinLock as spin_lock_row;
+ghost use Rattle.nt_rows.specs.SpinDeadlock as spin_deadlock_row;
+ghost use Rattle.nt_rows.specs.SpinRefusals as spin_refusals_row;
+ghost use Rattle.nt_rows.specs.LockTriedAgain as lock_tried_again_row;
+ghost use Rattle.nt_rows.specs.LockTakenBeforeTheSpinner as lock_taken_before_the_spinner_row;
+ghost use Rattle.nt_rows.specs.LockLevelOfTheFirstTry as lock_level_of_the_first_try_row;
+ghost use Rattle.nt_rows.specs.LocksFreedAtTheEnd as locks_freed_at_the_end_row;
+ghost use Rattle.nt_rows.specs.LockCycleOfThree as lock_cycle_of_three_row;
+ghost use Rattle.nt_rows.specs.InterruptWhileSpinning as interrupt_while_spinning_row;
+ghost use Rattle.nt_rows.specs.ApcsWaitForALock as apcs_wait_for_a_lock_row;
+ghost use Rattle.nt_rows.specs.TimerDueBehindSpinners as timer_due_behind_spinners_row;
+ghost use Rattle.nt_rows.specs.CutWhileHolding as cut_while_holding_row;
 
 // ---- Levels and frames
 
@@ -380,6 +392,69 @@ pub fn apc_tells_a_lane()
 /// A removal notices what the lane of the queue tells where the object stood.
 pub fn unqueue_tells_a_lane()
     ensures { IsMade unqueue_tells_a_lane_row.script 10000 unqueue_tells_a_lane_row.schedule unqueue_tells_a_lane_row.history }
+{}
+
+// ---- Spin locks
+
+/// A thread spins on a lock that a thread of another processor holds, notices its release by a look, and gets it.
+pub fn spin_lock()
+    ensures { IsWorked spin_lock_row.script 10000 spin_lock_row.history }
+{}
+
+/// Two threads that acquire two locks in different orders spin for good, and the history is settled.
+pub fn spin_deadlock()
+    ensures { IsWorked spin_deadlock_row.script 10000 spin_deadlock_row.history }
+{}
+
+/// A thread is refused what a held lock forbids, and the lock is freed at the end of its routine.
+pub fn spin_refusals()
+    ensures { IsWorked spin_refusals_row.script 10000 spin_refusals_row.history }
+{}
+
+/// Two threads spin on a lock. One gets it after its release; the other tries, spins again, and gets it after the next
+/// release.
+pub fn lock_tried_again()
+    ensures { IsWorked lock_tried_again_row.script 10000 lock_tried_again_row.history }
+{}
+
+/// A thread releases a lock and acquires it again before those that spin on it try again: each of them spins again.
+pub fn lock_taken_before_the_spinner()
+    ensures { IsWorked lock_taken_before_the_spinner_row.script 10000 lock_taken_before_the_spinner_row.history }
+{}
+
+/// An unlock goes back to the level of before the first try, though the last try was made at DISPATCH_LEVEL.
+pub fn lock_level_of_the_first_try()
+    ensures { IsWorked lock_level_of_the_first_try_row.script 10000 lock_level_of_the_first_try_row.history }
+{}
+
+/// The locks of a DPC and of a thread are freed at their ends, the one acquired last first.
+pub fn locks_freed_at_the_end()
+    ensures { IsWorked locks_freed_at_the_end_row.script 10000 locks_freed_at_the_end_row.history }
+{}
+
+/// Two threads and a DPC, each of which waits for a lock of the next, spin for good, and the history is settled.
+pub fn lock_cycle_of_three()
+    ensures { IsWorked lock_cycle_of_three_row.script 10000 lock_cycle_of_three_row.history }
+{}
+
+/// An interrupt begins on a processor that spins. Its routine is refused the lock, and the thread tries again after it.
+pub fn interrupt_while_spinning()
+    ensures { IsWorked interrupt_while_spinning_row.script 10000 interrupt_while_spinning_row.history }
+{}
+
+/// Kernel APCs of a thread that holds a lock wait for its unlock, and acquire locks themselves.
+pub fn apcs_wait_for_a_lock()
+    ensures { IsWorked apcs_wait_for_a_lock_row.script 10000 apcs_wait_for_a_lock_row.history }
+{}
+
+/// A timer is due where each processor spins: it does not expire, and the history is settled.
+pub fn timer_due_behind_spinners()
+    ensures { IsWorked timer_due_behind_spinners_row.script 10000 timer_due_behind_spinners_row.history }
+{}
+
+/// A processor is cut while it holds a lock: the one that spins on it spins for good, and the history is settled.
+pub fn cut_while_holding()
+    ensures { IsWorked cut_while_holding_row.script 5 cut_while_holding_row.history }
 {}
 
 // ---- A driver in use

@@ -15,9 +15,9 @@ use Rattle.nt_event.specs.declared.events.What.TheVariants.{Begin, Call, Normal}
 use Rattle.nt_event.specs.declared.frames.Again.{Again}
 use Rattle.nt_event.specs.declared.frames.Body.{Body}
 use Rattle.nt_event.specs.declared.frames.Body.TheVariants.{Apc as OnApc, Base as OnBase}
-use Rattle.nt_event.specs.declared.frames.Frame.{Frame}
+use Rattle.nt_event.specs.Frame.{Frame}
 use Rattle.nt_event.specs.declared.jobs.Job.{Job}
-use Rattle.nt_event.specs.declared.jobs.Job.TheVariants.{Apcs as ApcsJob, Call as CallJob, Drain as DrainJob, Fire as FireJob, Idle as IdleJob, Leave as LeaveJob, Pick as PickJob, Rewait as RewaitJob, Rundown as RundownJob, Switch as SwitchJob, Threaded as ThreadedJob, ToUser as ToUserJob, UserEnd as UserEndJob}
+use Rattle.nt_event.specs.declared.jobs.Job.TheVariants.{Apcs as ApcsJob, Call as CallJob, Drain as DrainJob, Fire as FireJob, Free as FreeJob, Idle as IdleJob, Leave as LeaveJob, Pick as PickJob, Rewait as RewaitJob, Rundown as RundownJob, Switch as SwitchJob, Threaded as ThreadedJob, ToUser as ToUserJob, UserEnd as UserEndJob}
 use Rattle.nt_event.specs.declared.jobs.Task.{Task}
 use Rattle.nt_event.specs.declared.jobs.Task.TheVariants.{Alone, Shared}
 use Rattle.nt_event.specs.declared.numbers.CpuNo.{CpuNo}
@@ -27,7 +27,7 @@ use Rattle.nt_event.specs.declared.threads.Doing.TheVariants.{Running as IsRunni
 use Rattle.nt_event.specs.Acting.{EndsThread, InThread, IsAllowed, IsCallable, IsDue, StandHolds, RunsThere, TakesUp}
 use Rattle.nt_event.specs.Commands.{needs_lane, not_above, refuse}
 use Rattle.nt_event.specs.Frames.{frames_of, innermost, is_base_body, is_on_thread, level_in, own_frames, running, thread_frames, thread_part}
-use Rattle.nt_event.specs.Jobs.{call_task, command_task, end_task, fire_task, frame_task, has_normal, idle_task, interrupt_task, level_at, may_apcs, may_drain, may_interrupt, may_threaded, must_task, normal_task, rewait_task, rundown_task, task}
+use Rattle.nt_event.specs.Jobs.{call_task, command_task, end_task, fire_task, frame_task, free_task, go_on_task, has_normal, idle_task, interrupt_task, level_at, may_apcs, may_drain, may_interrupt, may_threaded, must_task, normal_task, rewait_task, rundown_task, task, waits_for_lock}
 use Rattle.nt_event.specs.Classes.{interrupt_classes}
 use Rattle.nt_event.specs.Lanes.{facts_at, lanes_at}
 use Rattle.nt_runs.specs.Laws.{level_of}
@@ -121,14 +121,16 @@ frame_due s p x f h =
     holds_or (TaskDue x) (rewait_task f) _ (holds_when (TaskDue x) (is_some f.again) (Some (Shared RewaitJob)) (λ e. (f, h, e)))
     (λ e. holds_or (TaskDue x) (rundown_task f) _ (holds_when (TaskDue x) f.leaving (Some (Shared RundownJob)) (λ e. (f, h, e)))
     (λ k. holds_or (TaskDue x) (command_task x f (next_command s p f)) _ (command_due x f (next_command s p f) h)
-    (λ k2. holds_or (TaskDue x) (normal_task f) _ (holds_when (TaskDue x) (f.kernel_phase && has_normal f.body) (Some (Alone (Normal f.name))) (λ e. tt))
-    (λ k3. end_due x f f.name h))))
+    (λ k2. holds_or (TaskDue x) (free_task f) _ (holds_map (TaskDue x) (λ h. Shared (FreeJob h.lock)) (head_of f.held) (λ h e. tt))
+    (λ k4. holds_or (TaskDue x) (normal_task f) _ (holds_when (TaskDue x) (f.kernel_phase && has_normal f.body) (Some (Alone (Normal f.name))) (λ e. tt))
+    (λ k3. end_due x f f.name h)))))
 
 task_due : (s : Script) (p : CpuNo) (x : Own) → Holds (TaskDue x) (task s p x)
 task_due s p x =
-    holds_or (TaskDue x) (must_task x) _ (must_due x) (λ e. holds_or (TaskDue x) (option_and_then (frame_task s p x) (innermost x.frames)) (idle_task x)
+    holds_or (TaskDue x) (must_task x) _ (must_due x) (λ e. holds_when (TaskDue x) (not (waits_for_lock x)) (go_on_task s p x)
+    (λ q. holds_or (TaskDue x) (option_and_then (frame_task s p x) (innermost x.frames)) (idle_task x)
     (holds_then (TaskDue x) (frame_task s p x) (innermost x.frames) (λ f k. frame_due s p x f k))
-    (λ k. holds_when (TaskDue x) (not (x.rested && is_none x.frames.running)) (Some (Shared IdleJob)) (λ h. tt)))
+    (λ k. holds_when (TaskDue x) (not (x.rested && is_none x.frames.running)) (Some (Shared IdleJob)) (λ h. tt))))
 
 -- ---- so it is allowed
 

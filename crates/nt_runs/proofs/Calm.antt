@@ -13,16 +13,16 @@ use Rattle.nt_event.specs.declared.commands.Reply.TheVariants.{Status}
 use Rattle.nt_event.specs.declared.events.Begun.TheVariants.{Apc}
 use Rattle.nt_event.specs.declared.events.Event.{Event}
 use Rattle.nt_event.specs.declared.events.What.{What}
-use Rattle.nt_event.specs.declared.events.What.TheVariants.{Begin, Call, End, Flush, Gone, Look, Normal, Rewait, Switch}
+use Rattle.nt_event.specs.declared.events.What.TheVariants.{Begin, Call, End, Flush, Free, Gone, Look, Normal, Rewait, Switch}
 use Rattle.nt_event.specs.declared.frames.Again.{Again}
-use Rattle.nt_event.specs.declared.frames.Frame.{Frame}
+use Rattle.nt_event.specs.Frame.{Frame}
 use Rattle.nt_event.specs.declared.numbers.ApcNo.{ApcNo}
 use Rattle.nt_event.specs.declared.numbers.CpuNo.{CpuNo}
 use Rattle.nt_event.specs.declared.numbers.RoutineNo.{RoutineNo}
 use Rattle.nt_event.specs.declared.numbers.ThreadNo.{ThreadNo}
 use Rattle.nt_event.specs.declared.scripts.Script.{Script}
 use Rattle.nt_event.specs.Commands.{not_above, refusal, refuse}
-use Rattle.nt_event.specs.Frames.{again_after, at_name, called, due_of, end_on_thread, flushed, frames_of, innermost, is_base_body, ended_base, normal_of, resumed, rewaited, running, switched_to, thread_after, thread_frames, thread_part, time}
+use Rattle.nt_event.specs.Frames.{again_after, at_name, called, due_of, end_on_thread, ended_base, flushed, frames_of, freed, innermost, is_base_body, normal_of, resumed, rewaited, running, switched_to, thread_after, thread_frames, thread_part, time}
 use Rattle.nt_event.specs.Jobs.{level_at}
 use Rattle.nt_event.specs.Lanes.{Lanes, lanes_at}
 use Rattle.nt_runs.specs.Laws.{level_of}
@@ -33,11 +33,12 @@ use Rattle.nt_event.specs.Step.{IsLegal, IsRun, thread_field}
 use Rattle.nt_event.specs.Lists.{head_of, is_null}
 use Rattle.nt_event.specs.Numbers.{is_by, is_of}
 use Rattle.nt_event.specs.Replies.{is_refused, kernel_apc}
-use Rattle.nt_runs.proofs.Known.{Known, KnownCall, legal_known}
+use Rattle.nt_runs.proofs.Known.{Known, KnownCall, KnownFree, legal_known}
 use Rattle.nt_runs.proofs.Names.{Apart, Named, all_named}
 use Rattle.nt_runs.proofs.Running.{called_leaving, frames_when, part_of_running, running_here, same_cpu, same_thread, thread_named}
 use Rattle.nt_runs.proofs.Stops.{call_accepted, effect_again, is_wait, refuse_none}
 use Rattle.nt_runs.proofs.Turns.{is_next}
+use Rattle.nt_event.specs.declared.numbers.LockNo.{LockNo}
 
 abbrev pub Calm : Frame → Type 0
 Calm f = (f.leaving ≡ true → f.level ≡ 0) × (is_some f.again ≡ true → f.level ≤ 1)
@@ -104,7 +105,7 @@ wait_low level own r f (StartWait m a) k h = not_above_gives 1 level (next_test 
 wait_low level own r f (Delay m a u) k h = not_above_gives 1 level (next_test own NotThread _ h)
 wait_low level own r f c k h = cc
 
-level_inner : (x : Own) (f : Frame) → innermost x.frames ≡ Some f → level_at x ≡ f.level
+pub level_inner : (x : Own) (f : Frame) → innermost x.frames ≡ Some f → level_at x ≡ f.level
 level_inner x f h = ap (λ (o : Option Frame). option_map_or (λ f. f.level) o 0) h
 
 wait_level : (due : Option ℕ) (c : Command) (y : Reply) (f : Frame) → is_wait c ≡ true → (called due c y f).level ≡ f.level
@@ -133,34 +134,44 @@ called_calm s p x l n due c y k =
         let f : (called due c y k.frame).level ≡ k.frame.level = wait_level due c y k.frame a in
         omega (arith, m, e, f)
 
--- the innermost frame of the thread's part, or one of another name
-call_calm : (s : Script) (p : CpuNo) (x : Own) (l : Lanes) (n m : ℕ) (due : Option ℕ) (c : Command) (y : Reply) (fs : List Frame) → KnownCall s p x l n c y →
-    thread_part x.frames ≡ fs → Named m x.frames.own fs → AllCalm fs → AllCalm (at_name n (called due c y) fs)
-call_calm s p x l n m due c y [] k e d h = h
-call_calm s p x l n m due c y (f ∷ fs) k e d h = go x.frames.own refl d.apart
+-- the innermost frame is changed: that of the thread's part, or one of another name
+inner_calm : (x : Own) (n m : ℕ) (g : Frame → Frame) (i : Frame) (fs : List Frame) → innermost x.frames ≡ Some i → n ≡ i.name → Calm (g i) →
+    thread_part x.frames ≡ fs → Named m x.frames.own fs → AllCalm fs → AllCalm (at_name n g fs)
+inner_calm x n m g i [] inner named calm e d h = h
+inner_calm x n m g i (f ∷ fs) inner named calm e d h = go x.frames.own refl d.apart
   where
-    go : (gs : List Frame) → x.frames.own ≡ gs → Apart gs (f ∷ fs) → AllCalm (at_name n (called due c y) (f ∷ fs))
+    go : (gs : List Frame) → x.frames.own ≡ gs → Apart gs (f ∷ fs) → AllCalm (at_name n g (f ∷ fs))
     go [] o a =
         let first : option_or (head_of {A = Frame} []) (head_of (f ∷ fs))
-        ≡ Some k.frame = subst (λ (hs : List Frame). option_or (head_of {A = Frame} []) (head_of hs) ≡ Some k.frame) e
-        (subst (λ (gs : List Frame). option_or (head_of gs) (head_of (thread_part x.frames)) ≡ Some k.frame) o k.goes_on.inner) in
-        let same : k.frame ≡ f = cc in
-        let calm : Calm (called due c y f) = subst (λ (g : Frame). Calm (called due c y g)) same (called_calm s p x l n due c y k) in
-        (either (f.name == n) calm, h.1)
+        ≡ Some i = subst (λ (hs : List Frame). option_or (head_of {A = Frame} []) (head_of hs) ≡ Some i) e
+        (subst (λ (gs : List Frame). option_or (head_of gs) (head_of (thread_part x.frames)) ≡ Some i) o inner) in
+        let same : i ≡ f = cc in
+        let after : Calm (g f) = subst (λ (z : Frame). Calm (g z)) same calm in
+        (either (f.name == n) after, h.1)
       where
-        either : (b : Bool) → Calm (called due c y f) → Calm (if b then called due c y f else f)
+        either : (b : Bool) → Calm (g f) → Calm (if b then g f else f)
         either true q = q
         either false q = h.0
-    go (g ∷ gs) o a =
-        let first : option_or (head_of (g ∷ gs)) (head_of (thread_part x.frames))
-        ≡ Some k.frame = subst (λ (gs : List Frame). option_or (head_of gs) (head_of (thread_part x.frames)) ≡ Some k.frame) o k.goes_on.inner in
-        let same : g ≡ k.frame = cc in
-        let name : g.name ≡ n = ap (λ (z : Frame). z.name) same ∙ sym k.name in
+    go (o1 ∷ gs) o a =
+        let first : option_or (head_of (o1 ∷ gs)) (head_of (thread_part x.frames))
+        ≡ Some i = subst (λ (gs : List Frame). option_or (head_of gs) (head_of (thread_part x.frames)) ≡ Some i) o inner in
+        let same : o1 ≡ i = cc in
+        let name : o1.name ≡ n = ap (λ (z : Frame). z.name) same ∙ sym named in
         (other (f.name == n) refl (λ q. a.0.0 (q ∙ sym name)), h.1)
       where
-        other : (b : Bool) → (f.name == n) ≡ b → (f.name ≡ n → ⊥) → Calm (if b then called due c y f else f)
+        other : (b : Bool) → (f.name == n) ≡ b → (f.name ≡ n → ⊥) → Calm (if b then g f else f)
         other true q differ = absurd (differ (eqb-true f.name n q))
         other false q differ = h.0
+
+call_calm : (s : Script) (p : CpuNo) (x : Own) (l : Lanes) (n m : ℕ) (due : Option ℕ) (c : Command) (y : Reply) (fs : List Frame) → KnownCall s p x l n c y →
+    thread_part x.frames ≡ fs → Named m x.frames.own fs → AllCalm fs → AllCalm (at_name n (called due c y) fs)
+call_calm s p x l n m due c y fs k e d h =
+    inner_calm x n m (called due c y) k.frame fs k.goes_on.inner k.name (called_calm s p x l n due c y k) e d h
+
+free_calm : (s : Script) (p : CpuNo) (x : Own) (n m : ℕ) (c : LockNo) (fs : List Frame) → KnownFree s p x n c → thread_part x.frames ≡ fs →
+    Named m x.frames.own fs → AllCalm fs → AllCalm (at_name n freed fs)
+free_calm s p x n m c fs k e d h =
+    inner_calm x n m freed k.frame fs k.goes_on.inner k.name (λ q. no_bool (sym k.leaving ∙ q), λ q. no_bool (sym k.again ∙ q)) e d h
 
 -- what a known event leaves of the running thread's part
 after_calm : (s : Script) (p : CpuNo) (x : Own) (l : Lanes) (n m : ℕ) (due : Option ℕ) (w : What) (fs : List Frame) →
@@ -174,6 +185,8 @@ after_calm s p x l n m due (Rewait f y) fs k d h = named_calm f (rewaited y) fs 
 after_calm s p x l n m due (Normal f) fs k d h =
     named_calm f normal_of fs (λ g c. (λ q. refl, λ q. omega arith)) h
 after_calm s p x l n m due (End f) fs k d h = end_calm f fs h
+after_calm s p x l n m due (Free f c) fs k d h =
+    let q = k refl in free_calm s p x f m c fs q.0 q.1 d h
 after_calm s p x l n m due (Gone t) fs k d h = tt
 after_calm s p x l n m due w fs k d h = h
 

@@ -10,7 +10,7 @@ use Rattle.nt_event.specs.declared.events.Turn.{Turn}
 use Rattle.nt_event.specs.declared.events.Turn.TheVariants.{Next, Switch as SwitchTurn}
 use Rattle.nt_event.specs.declared.events.What.{What}
 use Rattle.nt_event.specs.declared.events.What.TheVariants.{Rest}
-use Rattle.nt_event.specs.declared.frames.Frame.{Frame}
+use Rattle.nt_event.specs.Frame.{Frame}
 use Rattle.nt_event.specs.declared.inserts.Part.TheVariants.{Ordinary as OrdinaryPart}
 use Rattle.nt_event.specs.declared.jobs.Job.TheVariants.{Idle as IdleJob, Pick as PickJob}
 use Rattle.nt_event.specs.declared.jobs.Task.{Task}
@@ -19,14 +19,14 @@ use Rattle.nt_event.specs.declared.numbers.CpuNo.{CpuNo}
 use Rattle.nt_event.specs.declared.numbers.ThreadNo.{ThreadNo}
 use Rattle.nt_event.specs.declared.scripts.Script.{Script}
 use Rattle.nt_event.specs.Frames.{frames_in, frames_of, innermost, running, thread_part}
-use Rattle.nt_event.specs.Jobs.{begin_first, chosen_what, frame_task, idle_event, idle_task, may_switch, may_take, must, must_task, next_ready, next_what, ready, rests, switch_event, task, task_event}
+use Rattle.nt_event.specs.Jobs.{begin_first, chosen_what, frame_task, idle_event, idle_task, is_still, may_switch, may_take, must, must_task, next_ready, next_what, ready, switch_event, task, task_event}
 use Rattle.nt_event.specs.Lanes.{Lanes, lanes_at, queue_at}
 use Rattle.nt_event.specs.Own.{Own, own_of, rested, stand_in, took}
 use Rattle.nt_event.specs.Robin.{go_on_turn, switch_or_next}
 use Rattle.nt_event.specs.Step.{IsRun, cpu_at, event_at, event_or, is_cut, step, uncut_step}
 use Rattle.nt_event.specs.Lists.{head_of, is_null, when}
 use Rattle.nt_event.proofs.Options.{holds_at}
-use Rattle.nt_runs.proofs.Robin.{Comes, comes_or, comes_when, next_comes, none_ready}
+use Rattle.nt_runs.proofs.Robin.{Comes, awake as is_awake, comes_or, comes_when, next_comes, none_ready, task_goes_on}
 use Rattle.nt_event.proofs.Ready.{next_ready_taken}
 
 -- an uncut processor's turn gives the event that it names
@@ -51,26 +51,28 @@ null_head [] h = refl
 null_head (f ∷ fs) h = cc
 
 -- where a thread may be taken up, and the processor doesn't rest, it is idle
-idle_where : (s : Script) (p : CpuNo) (past : List Event) → may_switch (own_of s p past) ≡ true → rests (own_of s p past) ≡ false → task s p (own_of s p past)
+idle_where : (s : Script) (p : CpuNo) (past : List Event) → may_switch (own_of s p past) ≡ true → is_still (own_of s p past) ≡ false →
+    task s p (own_of s p past)
     ≡ Some (Shared IdleJob)
 idle_where s p past may awake =
     let x : Own = own_of s p past in
     let k = switch_parts (running p past) (is_null x.frames.own) (must x) may in
     let quiet : must_task x ≡ None = none_of_false (must_task x) k.2 in
-    let both : (rested p past && true) ≡ false = rw k.2 at awake in
+    let up = is_awake x awake quiet in
+    let both : (rested p past && true) ≡ false = rw k.2 at up.0 in
     let moved : rested p past ≡ false = sym (and-true (rested p past)) ∙ both in
     let part : thread_part x.frames ≡ [] = ap (λ (o : Option ThreadNo). option_map_or (frames_in x.frames.threads) o []) k.0 in
     let none : innermost x.frames ≡ None = ap (λ (o : Option Frame). option_or o (head_of (thread_part x.frames))) (null_head x.frames.own k.1)
     ∙ ap (λ (fs : List Frame). head_of fs) part in
     let idle : idle_task x ≡ Some (Shared IdleJob) = ap (λ (b : Bool). when (not (b && is_none x.frames.running)) (Some (Shared IdleJob))) moved in
-    ap (λ (o : Option Task). option_or o (option_or (option_and_then (frame_task s p x) (innermost x.frames)) (idle_task x))) quiet
+    task_goes_on s p x quiet up.1
     ∙ (ap (λ (o : Option Frame). option_or (option_and_then (frame_task s p x) o) (idle_task x)) none ∙ idle)
 
 pub chosen_is_its_turn : (s : Script) (limit : ℕ) (p : CpuNo) (past : List Event) (w : What) → IsRun s limit past → nat_lt p.0 s.cpus ≡ true →
     is_cut limit (own_of s p past) ≡ false → chosen_what s p (own_of s p past) (lanes_at s past) ≡ Some w →
     step s limit (go_on_turn s p (own_of s p past) (lanes_at s past)) past ≡ Ok (event_at s p w (frames_of s p past))
 chosen_is_its_turn s limit p past w r below uncut h =
-    rest (rests (own_of s p past)) (may_switch (own_of s p past)) refl refl h
+    rest (is_still (own_of s p past)) (may_switch (own_of s p past)) refl refl h
   where
     x : Own
     x = own_of s p past
@@ -81,7 +83,7 @@ chosen_is_its_turn s limit p past w r below uncut h =
     turn : Bool → Turn
     turn b = if b then switch_or_next p (next_ready s p (took p past) (lanes_at s past)) else Next p
 
-    picked : (o : Option ThreadNo) → next_ready s p (took p past) (lanes_at s past) ≡ o → may_switch (own_of s p past) ≡ true → rests (own_of s p past)
+    picked : (o : Option ThreadNo) → next_ready s p (took p past) (lanes_at s past) ≡ o → may_switch (own_of s p past) ≡ true → is_still (own_of s p past)
         ≡ false → option_or (option_map (λ t. switch_event t (lanes_at s past)) o) (idle_event s (stand_in p (own_of s p past)) (lanes_at s past)) ≡ Some w →
         step s limit (switch_or_next p o) past ≡ Ok (event_at s p w (frames_of s p past))
     picked (Some t) e may awake k =
@@ -94,7 +96,7 @@ chosen_is_its_turn s limit p past w r below uncut h =
         gives s limit (Next p) past NothingToDo (next_what s p (own_of s p past) (lanes_at s past)) w below uncut refl
         (ap (λ (o : Option Task). option_and_then (task_event s (stand_in p (own_of s p past)) (lanes_at s past)) o) idle ∙ k)
 
-    rest : (b m : Bool) → rests (own_of s p past) ≡ b → may_switch (own_of s p past) ≡ m →
+    rest : (b m : Bool) → is_still (own_of s p past) ≡ b → may_switch (own_of s p past) ≡ m →
         option_and_then (task_event s (stand_in p (own_of s p past)) (lanes_at s past))
         (if b then None else (if m then Some (Shared (PickJob (took p past))) else task s p (own_of s p past))) ≡ Some w →
         step s limit (if m then switch_or_next p (next_ready s p (took p past) (lanes_at s past)) else Next p) past ≡ Ok (event_at s p w (frames_of s p past))
@@ -107,10 +109,10 @@ some_of : {A : Type 0} (o : Option A) → Comes o → is_some o ≡ true
 some_of o h = rw h.1 refl
 
 pub chosen_comes : (s : Script) (limit : ℕ) (p : CpuNo) (past : List Event) → IsRun s limit past →
-    is_some (chosen_what s p (own_of s p past) (lanes_at s past)) ≡ not (rests (own_of s p past))
-chosen_comes s limit p past r = go (rests (own_of s p past)) (may_switch (own_of s p past)) refl refl
+    is_some (chosen_what s p (own_of s p past) (lanes_at s past)) ≡ not (is_still (own_of s p past))
+chosen_comes s limit p past r = go (is_still (own_of s p past)) (may_switch (own_of s p past)) refl refl
   where
-    picked : (o : Option ThreadNo) → next_ready s p (took p past) (lanes_at s past) ≡ o → may_switch (own_of s p past) ≡ true → rests (own_of s p past)
+    picked : (o : Option ThreadNo) → next_ready s p (took p past) (lanes_at s past) ≡ o → may_switch (own_of s p past) ≡ true → is_still (own_of s p past)
         ≡ false → is_some (option_or (option_map (λ t. switch_event t (lanes_at s past)) o) (idle_event s (stand_in p (own_of s p past)) (lanes_at s past)))
         ≡ true
     picked (Some t) e may awake = refl
@@ -120,7 +122,7 @@ chosen_comes s limit p past r = go (rests (own_of s p past)) (may_switch (own_of
         (comes_or (begin_first OrdinaryPart (queue_at (lanes_at s past) p)) (when (is_null (ready s p (lanes_at s past))) (Some Rest))
         (comes_when (is_null (ready s p (lanes_at s past))) (Some Rest) none (_, refl)))
 
-    go : (b m : Bool) → rests (own_of s p past) ≡ b → may_switch (own_of s p past) ≡ m →
+    go : (b m : Bool) → is_still (own_of s p past) ≡ b → may_switch (own_of s p past) ≡ m →
         is_some (option_and_then (task_event s (stand_in p (own_of s p past)) (lanes_at s past))
         (if b then None else (if m then Some (Shared (PickJob (took p past))) else task s p (own_of s p past)))) ≡ not b
     go true m a b = refl

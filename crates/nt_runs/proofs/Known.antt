@@ -6,7 +6,7 @@ use Rattle.std.specs.Option.{option_map_or, option_or}
 use Rattle.std.specs.Prelude.{Bool, List, None, Option, Some, [], cond, false, find, if◌then◌else◌, is_none, is_some, nat_lt, not, option_and_then, option_map, refl, true, ℕ, ◌&&◌, ◌-◌, ◌<◌, ◌==◌, ◌||◌, ◌∷◌, ◌≡◌, ◌⊎◌}
 use Rattle.nt_event.specs.declared.commands.ApcKind.TheVariants.{User as UserApc}
 use Rattle.nt_event.specs.declared.commands.Command.{Command}
-use Rattle.nt_event.specs.declared.commands.Command.TheVariants.{Alert, CancelTimer, Delay, InsertApc, Lower, Queue, Raise, Release, RemoveApc, SetTimer, StartWait, TestAlert, ToUser, Unqueue}
+use Rattle.nt_event.specs.declared.commands.Command.TheVariants.{Acquire, Alert, CancelTimer, Delay, InsertApc, Lower, Queue, Raise, Release, RemoveApc, SetTimer, StartWait, TestAlert, ToUser, Unlock, Unqueue}
 use Rattle.nt_event.specs.declared.commands.Refusal.{Refusal}
 use Rattle.nt_event.specs.declared.commands.Reply.{Reply}
 use Rattle.nt_event.specs.declared.commands.Reply.TheVariants.{Done, Refused}
@@ -17,16 +17,16 @@ use Rattle.nt_event.specs.declared.events.Event.{Event}
 use Rattle.nt_event.specs.declared.events.Turn.{Turn}
 use Rattle.nt_event.specs.declared.events.Turn.TheVariants.{Next}
 use Rattle.nt_event.specs.declared.events.What.{What}
-use Rattle.nt_event.specs.declared.events.What.TheVariants.{Begin, Call, Clean, End, Expire, Fire, Flush, Gone, Look, Normal, Rest, Rewait, Switch}
+use Rattle.nt_event.specs.declared.events.What.TheVariants.{Begin, Call, Clean, End, Expire, Fire, Flush, Free, Gone, Look, Normal, Rest, Rewait, Switch}
 use Rattle.nt_event.specs.declared.frames.Again.{Again}
 use Rattle.nt_event.specs.declared.frames.Body.{Body}
 use Rattle.nt_event.specs.declared.frames.Body.TheVariants.{Apc as OnApc, Base as OnBase}
-use Rattle.nt_event.specs.declared.frames.Frame.{Frame}
+use Rattle.nt_event.specs.Frame.{Frame}
 use Rattle.nt_event.specs.declared.inserts.Insert.{Insert}
 use Rattle.nt_event.specs.declared.inserts.Part.{Part}
 use Rattle.nt_event.specs.declared.inserts.Part.TheVariants.{Ordinary as OrdinaryPart, Threaded as ThreadedPart}
 use Rattle.nt_event.specs.declared.inserts.Pick.{Pick}
-use Rattle.nt_event.specs.declared.jobs.Job.TheVariants.{Apcs as ApcsJob, Call as CallJob, Drain as DrainJob, Fire as FireJob, Idle as IdleJob, Rewait as RewaitJob, Rundown as RundownJob, Threaded as ThreadedJob, ToUser as ToUserJob}
+use Rattle.nt_event.specs.declared.jobs.Job.TheVariants.{Apcs as ApcsJob, Call as CallJob, Drain as DrainJob, Fire as FireJob, Free as FreeJob, Idle as IdleJob, Rewait as RewaitJob, Rundown as RundownJob, Threaded as ThreadedJob, ToUser as ToUserJob}
 use Rattle.nt_event.specs.declared.jobs.Stand.{Stand}
 use Rattle.nt_event.specs.declared.jobs.Task.{Task}
 use Rattle.nt_event.specs.declared.jobs.Task.TheVariants.{Alone, Shared}
@@ -38,7 +38,7 @@ use Rattle.nt_event.specs.declared.scripts.Script.{Script}
 use Rattle.nt_event.specs.Apcs.{deliverable, first_user}
 use Rattle.nt_event.specs.Commands.{needs_lane, refusal, reply}
 use Rattle.nt_event.specs.Frames.{innermost, thread_part}
-use Rattle.nt_event.specs.Jobs.{apcs_event, begin_apc, begin_dpc, begin_first, call_task, command_task, drain_event, end_task, expire_key, fire_task, frame_task, has_normal, idle_event, idle_task, interrupt_task, level_at, may_apcs, may_drain, may_interrupt, may_threaded, must_task, next_what, normal_task, ready, rewait_reply, rewait_task, rundown_event, rundown_task, task, task_event, threaded_event, user_due}
+use Rattle.nt_event.specs.Jobs.{apcs_event, begin_apc, begin_dpc, begin_first, call_task, command_task, drain_event, end_task, expire_key, fire_task, frame_task, free_task, go_on_task, has_normal, idle_event, idle_task, interrupt_task, level_at, may_apcs, may_drain, may_interrupt, may_threaded, must_task, next_what, normal_task, ready, rewait_reply, rewait_task, rundown_event, rundown_task, task, task_event, threaded_event, user_due, waits_for_lock}
 use Rattle.nt_event.specs.Classes.{interrupt_classes}
 use Rattle.nt_event.specs.Lanes.{Lanes, facts_at, facts_of, lanes_at, queue_at}
 use Rattle.nt_event.specs.Own.{Own, own_of, stand_in}
@@ -47,15 +47,18 @@ use Rattle.nt_event.specs.Regions.{regions_of}
 use Rattle.nt_event.specs.Routines.{next_command}
 use Rattle.nt_event.specs.Step.{IsLegal, step, turn_at}
 use Rattle.nt_event.specs.Timers.{SetKey, first_due}
-use Rattle.nt_event.specs.Lists.{is_null, value_at, when}
-use Rattle.nt_event.proofs.Options.{Holds, both, holds_at, holds_else, holds_find, holds_map, holds_or, holds_then, holds_when, when_gives}
+use Rattle.nt_event.specs.Lists.{head_of, is_null, value_at, when}
+use Rattle.nt_event.proofs.Options.{Holds, both, holds_at, holds_else, holds_find, holds_map, holds_or, holds_then, holds_when, not_true, when_gives}
 use Rattle.nt_runs.proofs.Robin.{Comes, again_stands, frame_has, or_yes}
 use Rattle.nt_runs.proofs.Steps.{Gives, next_gives}
 use Rattle.nt_runs.proofs.Turns.{is_next}
+use Rattle.nt_event.specs.declared.numbers.LockNo.{LockNo}
+use Rattle.nt_event.specs.declared.frames.Held.{Held}
 
--- the innermost frame goes on: nothing must be done first
+-- the innermost frame goes on: nothing must be done first, and it waits for no lock
 pub record GoesOn (x : Own) (f : Frame) : Type 0 where
   pub quiet : must_task x ≡ None
+  pub awake : waits_for_lock x ≡ false
   pub inner : innermost x.frames ≡ Some f
 
 abbrev pub reply_or : Option Refusal → Reply → Reply
@@ -108,6 +111,19 @@ pub record KnownNormal (s : Script) (p : CpuNo) (x : Own) (n : ℕ) : Type 0 whe
   pub kernel : frame.kernel_phase ≡ true
   pub normal : has_normal frame.body ≡ true
   pub command : next_command s p frame ≡ None
+  pub free : head_of frame.held ≡ None
+
+-- the innermost frame holds locks, and this one it acquired last
+pub record KnownFree (s : Script) (p : CpuNo) (x : Own) (n : ℕ) (k : LockNo) : Type 0 where
+  pub frame : Frame
+  pub goes_on : GoesOn x frame
+  pub name : n ≡ frame.name
+  pub again : is_some frame.again ≡ false
+  pub leaving : frame.leaving ≡ false
+  pub command : next_command s p frame ≡ None
+  pub held : Held
+  pub last : head_of frame.held ≡ Some held
+  pub lock : k ≡ held.lock
 
 pub record KnownEnd (s : Script) (p : CpuNo) (x : Own) (n : ℕ) : Type 0 where
   pub frame : Frame
@@ -116,6 +132,7 @@ pub record KnownEnd (s : Script) (p : CpuNo) (x : Own) (n : ℕ) : Type 0 where
   pub again : is_some frame.again ≡ false
   pub leaving : frame.leaving ≡ false
   pub command : next_command s p frame ≡ None
+  pub free : head_of frame.held ≡ None
   pub last : (frame.kernel_phase && has_normal frame.body) ≡ false
 
 pub record KnownKey (x : Own) (l : Lanes) (named : TimerKey) (from : ℕ) : Type 0 where
@@ -174,6 +191,7 @@ Known s p x l (Switch t st) = ⊥
 Known s p x l (Rewait n y) = KnownRewait p x l n y
 Known s p x l (Flush a from) = (t : ThreadNo) × KnownRundown x t × KnownPick (first_user (facts_at l t).apcs) a from
 Known s p x l (Gone t) = KnownRundown x t × (first_user (facts_at l t).apcs ≡ None)
+Known s p x l (Free n k) = KnownFree s p x n k
 Known s p x l Rest = KnownRest s p x l
 
 -- ---- what must be done
@@ -290,6 +308,8 @@ lane_free s st l (Delay m a u) h = cc
 lane_free s st l (Release t) h = cc
 lane_free s st l (Alert t m) h = cc
 lane_free s st l (TestAlert m) h = cc
+lane_free s st l (Acquire k) h = cc
+lane_free s st l (Unlock k) h = cc
 lane_free s st l c h = refl
 
 -- what a call is known by, but for its frame's name and its reply
@@ -337,10 +357,28 @@ command_known s p x l f None g a b e = tt
 command_known s p x l f (Some c) g a b e =
     call_known s p x l f c (record { goes_on = g; again = a; leaving = b; command = e })
 
-normal_known : (s : Script) (p : CpuNo) (x : Own) (l : Lanes) (f : Frame) → GoesOn x f → next_command s p f ≡ None → Holds (Good s p x l) (normal_task f)
-normal_known s p x l f g e =
+free_known : (s : Script) (p : CpuNo) (x : Own) (l : Lanes) (f : Frame) → GoesOn x f → is_some f.again ≡ false → f.leaving ≡ false →
+    next_command s p f ≡ None → Holds (Good s p x l) (free_task f)
+free_known s p x l f g a b e =
+    holds_map (Good s p x l) (λ h. Shared (FreeJob h.lock)) (head_of f.held)
+    (λ h k. record {
+      frame = f;
+      goes_on = g;
+      name = frame_stands p x f g;
+      again = a;
+      leaving = b;
+      command = e;
+      held = h;
+      last = k;
+      lock = refl;
+    })
+
+normal_known : (s : Script) (p : CpuNo) (x : Own) (l : Lanes) (f : Frame) → GoesOn x f → next_command s p f ≡ None → head_of f.held ≡ None →
+    Holds (Good s p x l) (normal_task f)
+normal_known s p x l f g e q =
     holds_when (Good s p x l) (f.kernel_phase && has_normal f.body) (Some (Alone (Normal f.name)))
-    (λ h. let k = both f.kernel_phase (has_normal f.body) h in record { frame = f; goes_on = g; name = refl; kernel = k.0; normal = k.1; command = e })
+    (λ h. let k = both f.kernel_phase
+    (has_normal f.body) h in record { frame = f; goes_on = g; name = refl; kernel = k.0; normal = k.1; command = e; free = q })
 
 end_known : (s : Script) (p : CpuNo) (x : Own) (l : Lanes) (f : Frame) → KnownEnd s p x f.name → GoesOn x f → Good s p x l (end_task f.name f.body)
 end_known s p x l f k g = go f.body
@@ -367,7 +405,10 @@ frame_known s p x l f g =
     (λ e. holds_or (Good s p x l) (rundown_task f) _ (holds_when (Good s p x l) f.leaving (Some (Shared RundownJob)) (λ h. rundown_known s p x l f g h))
     (λ k. holds_or (Good s p x l) (command_task x f (next_command s p f)) _
     (command_known s p x l f (next_command s p f) g (when_none (is_some f.again) _ e) (when_none f.leaving _ k) refl)
-    (λ k2. holds_or (Good s p x l) (normal_task f) _ (normal_known s p x l f g (command_none x f (next_command s p f) k2))
+    (λ k2. holds_or (Good s p x l) (free_task f) _ (free_known s p x l f g (when_none (is_some f.again) _ e) (when_none f.leaving _ k)
+    (command_none x f (next_command s p f) k2))
+    (λ k4. let free : head_of f.held ≡ None = map_none (λ h. Shared (FreeJob h.lock)) (head_of f.held) k4 in
+    holds_or (Good s p x l) (normal_task f) _ (normal_known s p x l f g (command_none x f (next_command s p f) k2) free)
     (λ k3. end_known s p x l f (record {
       frame = f;
       goes_on = g;
@@ -375,8 +416,9 @@ frame_known s p x l f g =
       again = when_none (is_some f.again) _ e;
       leaving = when_none f.leaving _ k;
       command = command_none x f (next_command s p f) k2;
+      free = free;
       last = when_none (f.kernel_phase && has_normal f.body) _ k3;
-    }) g))))
+    }) g)))))
 
 -- ---- the next event
 
@@ -402,10 +444,12 @@ idle_known s p x l quiet none =
 pub task_known : (s : Script) (p : CpuNo) (x : Own) (l : Lanes) → Holds (Good s p x l) (task s p x)
 task_known s p x l =
     holds_or (Good s p x l) (must_task x) _ (must_known s p x l)
-    (λ e. holds_or (Good s p x l) (option_and_then (frame_task s p x) (innermost x.frames)) (idle_task x)
-    (holds_then (Good s p x l) (frame_task s p x) (innermost x.frames) (λ f k. frame_known s p x l f (record { quiet = e; inner = k })))
+    (λ e. holds_when (Good s p x l) (not (waits_for_lock x)) (go_on_task s p x)
+    (λ q. holds_or (Good s p x l) (option_and_then (frame_task s p x) (innermost x.frames)) (idle_task x)
+    (holds_then (Good s p x l) (frame_task s p x) (innermost x.frames)
+    (λ f k. frame_known s p x l f (record { quiet = e; awake = not_true (waits_for_lock x) q; inner = k })))
     (λ k. holds_when (Good s p x l) (not (x.rested && is_none x.frames.running)) (Some (Shared IdleJob))
-    (λ h. idle_known s p x l e (then_none s p x (innermost x.frames) k))))
+    (λ h. idle_known s p x l e (then_none s p x (innermost x.frames) k)))))
 
 -- the next event of a processor is known
 pub next_known : (s : Script) (p : CpuNo) (x : Own) (l : Lanes) → Holds (Known s p x l) (next_what s p x l)

@@ -16,11 +16,11 @@ use Rattle.nt_event.specs.declared.commands.TimerKey.TheVariants.{Delay as OfDel
 use Rattle.nt_event.specs.declared.events.Begun.TheVariants.{Apc, Dpc, Int, Threaded}
 use Rattle.nt_event.specs.declared.events.Event.{Event}
 use Rattle.nt_event.specs.declared.events.What.{What}
-use Rattle.nt_event.specs.declared.events.What.TheVariants.{Begin, Call, End, Expire, Flush, Gone, Look, Normal, Rewait, Switch}
+use Rattle.nt_event.specs.declared.events.What.TheVariants.{Begin, Call, End, Expire, Flush, Free, Gone, Look, Normal, Rewait, Switch}
 use Rattle.nt_event.specs.declared.frames.Again.{Again}
 use Rattle.nt_event.specs.declared.frames.Body.{Body}
 use Rattle.nt_event.specs.declared.frames.Body.TheVariants.{Apc as OnApc, Base as OnBase, Rundown as OnRundown}
-use Rattle.nt_event.specs.declared.frames.Frame.{Frame}
+use Rattle.nt_event.specs.Frame.{Frame}
 use Rattle.nt_event.specs.declared.inserts.Pick.{Pick}
 use Rattle.nt_event.specs.declared.jobs.Stand.{Stand}
 use Rattle.nt_event.specs.declared.numbers.ApcNo.{ApcNo}
@@ -29,7 +29,7 @@ use Rattle.nt_event.specs.declared.numbers.RoutineNo.{RoutineNo}
 use Rattle.nt_event.specs.declared.numbers.ThreadNo.{ThreadNo}
 use Rattle.nt_event.specs.declared.scripts.Script.{Script}
 use Rattle.nt_event.specs.Apcs.{has_user, with_apc, without_apc}
-use Rattle.nt_event.specs.Frames.{at_name, called, due_of, end_on_thread, ended_on_thread, flushed, is_base_body, new_frame, normal_of, resumed, rewaited, running, switched_to, thread_after, thread_frames, thread_part, time}
+use Rattle.nt_event.specs.Frames.{at_name, called, due_of, end_on_thread, ended_on_thread, flushed, freed, is_base_body, new_frame, normal_of, resumed, rewaited, running, switched_to, thread_after, thread_frames, thread_part, time}
 use Rattle.nt_event.specs.Lanes.{Lanes, lanes_at}
 use Rattle.nt_runs.specs.Laws.{HasBase}
 use Rattle.nt_event.specs.Own.{Own, own_of, stand_in}
@@ -46,7 +46,7 @@ use Rattle.nt_runs.proofs.Facts.{facts_made, named_here}
 use Rattle.nt_runs.proofs.Known.{Known, KnownEnd, legal_known}
 use Rattle.nt_runs.proofs.Names.{Apart, Named, NotAmong, all_named}
 use Rattle.nt_runs.proofs.OwnPart.{AllOwn, all_own, is_own_body}
-use Rattle.nt_runs.proofs.Running.{Keeps, based, called_keeps, frames_when, normal_keeps, part_of_running, resumed_keeps, rewaited_keeps, running_here, same_cpu}
+use Rattle.nt_runs.proofs.Running.{Keeps, based, called_keeps, frames_when, freed_keeps, normal_keeps, part_of_running, resumed_keeps, rewaited_keeps, running_here, same_cpu}
 use Rattle.nt_runs.proofs.Shared.{part_head}
 use Rattle.nt_runs.proofs.Turns.{is_next}
 use Rattle.nt_runs.proofs.Leaving.Facts.{facts_made_so, facts_named, is_end, tested_leaving}
@@ -112,7 +112,7 @@ own_end_leaving (OnBase t) x h = cc
 own_end_leaving (OnApc a k) x h = cc
 own_end_leaving b x h = refl
 
-end_elsewhere : (n : ℕ) (fs : List Frame) → NotAmong n fs → end_on_thread n fs ≡ fs
+pub end_elsewhere : (n : ℕ) (fs : List Frame) → NotAmong n fs → end_on_thread n fs ≡ fs
 end_elsewhere n [] h = refl
 end_elsewhere n (f ∷ fs) h = go (f.name == n) refl
   where
@@ -160,6 +160,7 @@ made_leaves s p o l t m n due (Call f c y) fs x k own d e b h =
 made_leaves s p o l t m n due (Rewait f y) fs x k own d e b h =
     facts_made_so s n (stand_in p o) (Rewait f y) x refl ∙ (h ∙ sym (named_leaving f (rewaited y) fs (rewaited_keeps y)))
 made_leaves s p o l t m n due (Normal f) fs x k own d e b h = h ∙ sym (named_leaving f normal_of fs normal_keeps)
+made_leaves s p o l t m n due (Free f c) fs x k own d e b h = h ∙ sym (named_leaving f freed fs freed_keeps)
 made_leaves s p o l t m n due (End f) fs x k own d e b h = known_end s p o t m f fs x k own d e b h
 made_leaves s p o l t m n due (Gone u) fs x k own d e b h = refl
 made_leaves s p o l t m n due (Switch u st) fs x k own d e b h = absurd k

@@ -6,9 +6,11 @@ pub mod OwnPart
 pub mod Robin
 pub mod Settled
 pub mod Chosen
+pub mod KeptLevels
 pub mod Known
 pub mod Agree
 pub mod Stops
+pub mod Spins
 pub mod Facts
 pub mod UserApcs
 pub mod Names
@@ -21,6 +23,13 @@ pub mod Pending
 pub mod Falling
 pub mod First
 pub mod ThreadFrames
+pub mod Locked
+pub mod Engaged
+pub mod Parts
+pub mod SomeFrame
+pub mod LocksAgree
+pub mod LocksRun
 pub mod Rundown
 pub mod Locality
 pub mod Declared
+pub mod HeldFits

@@ -9,14 +9,14 @@ use Rattle.nt_event.specs.declared.commands.Reply.TheVariants.{Done}
 use Rattle.nt_event.specs.declared.events.Begun.TheVariants.{Apc, Dpc, Int, Threaded}
 use Rattle.nt_event.specs.declared.events.Event.{Event}
 use Rattle.nt_event.specs.declared.events.What.{What}
-use Rattle.nt_event.specs.declared.events.What.TheVariants.{Begin, Call, End, Flush, Gone, Normal, Rewait, Switch}
+use Rattle.nt_event.specs.declared.events.What.TheVariants.{Begin, Call, End, Flush, Free, Gone, Normal, Rewait, Switch}
 use Rattle.nt_event.specs.declared.frames.Body.TheVariants.{Apc as OnApc, Base as OnBase, Rundown as OnRundown}
-use Rattle.nt_event.specs.declared.frames.Frame.{Frame}
+use Rattle.nt_event.specs.Frame.{Frame}
 use Rattle.nt_event.specs.declared.numbers.CpuNo.{CpuNo}
 use Rattle.nt_event.specs.declared.numbers.RoutineNo.{RoutineNo}
 use Rattle.nt_event.specs.declared.numbers.ThreadNo.{ThreadNo}
 use Rattle.nt_event.specs.declared.scripts.Script.{Script}
-use Rattle.nt_event.specs.Frames.{at_name, called, done_to, due_of, end_on_thread, flushed, is_base_body, ended_base, new_frame, normal_of, own_after, own_frames, resumed, rewaited, thread_after, thread_frames, time, without}
+use Rattle.nt_event.specs.Frames.{at_name, called, done_to, due_of, end_on_thread, ended_base, flushed, freed, is_base_body, new_frame, normal_of, own_after, own_frames, resumed, rewaited, thread_after, thread_frames, time, without}
 use Rattle.nt_event.specs.Routines.{kind_of, rundown_of}
 use Rattle.nt_event.specs.Numbers.{is_by, is_of}
 use Rattle.nt_runs.proofs.Running.{frames_when}
@@ -145,6 +145,10 @@ named_own n due (Call f c y) gs fs h = (
   below_more n (suc n) (at_name f (called due c y) gs) (omega arith) ((within_named f (called due c y) gs (called_name due c y)).0 n h.own),
   apart_named f (called due c y) gs fs (called_name due c y) h.apart,
 )
+named_own n due (Free f k) gs fs h = (
+  below_more n (suc n) (at_name f freed gs) (omega arith) ((within_named f freed gs (λ x. refl)).0 n h.own),
+  apart_named f freed gs fs (λ x. refl) h.apart,
+)
 named_own n due (End f) gs fs h =
     (below_more n (suc n) (without f gs) (omega arith) ((within_without f gs).0 n h.own), apart_without f gs fs h.apart)
 named_own n due w gs fs h = (below_more n (suc n) gs (omega arith) h.own, h.apart)
@@ -173,6 +177,8 @@ named_thread s n due (Rewait f y) gs fs h =
     moved_thread n gs (at_name f (rewaited y) fs) fs (within_named f (rewaited y) fs (λ x. refl)) h
 named_thread s n due (Normal f) gs fs h =
     moved_thread n gs (at_name f normal_of fs) fs (within_named f normal_of fs (λ x. refl)) h
+named_thread s n due (Free f k) gs fs h =
+    moved_thread n gs (at_name f freed fs) fs (within_named f freed fs (λ x. refl)) h
 named_thread s n due (End f) gs fs h =
     moved_thread n gs (end_on_thread f fs) fs (within_end f fs) h
 named_thread s n due (Gone t) gs fs h = (tt, none_apart gs)
@@ -204,6 +210,7 @@ own_within n due (Begin (Threaded d) from) gs h = cc
 own_within n due (Begin (Apc a) from) gs h = within_same gs
 own_within n due (Call f c y) gs h = within_named f (called due c y) gs (called_name due c y)
 own_within n due (End f) gs h = within_without f gs
+own_within n due (Free f k) gs h = within_named f freed gs (λ x. refl)
 own_within n due w gs h = within_same gs
 
 named_both : (s : Script) (n : ℕ) (due : Option ℕ) (w : What) (gs fs : List Frame) → Named n gs fs →

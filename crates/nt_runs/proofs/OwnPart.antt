@@ -4,14 +4,14 @@ use Rattle.std.specs.Prelude.{Bool, List, Option, [], false, if◌then◌else◌
 use Rattle.nt_event.specs.declared.events.Begun.TheVariants.{Apc, Dpc, Int, Threaded}
 use Rattle.nt_event.specs.declared.events.Event.{Event}
 use Rattle.nt_event.specs.declared.events.What.{What}
-use Rattle.nt_event.specs.declared.events.What.TheVariants.{Begin, Call, End}
+use Rattle.nt_event.specs.declared.events.What.TheVariants.{Begin, Call, End, Free}
 use Rattle.nt_event.specs.declared.frames.Body.{Body}
 use Rattle.nt_event.specs.declared.frames.Body.TheVariants.{Dpc as OnDpc, Int as OnInt, Threaded as OnThreaded}
-use Rattle.nt_event.specs.declared.frames.Frame.{Frame}
+use Rattle.nt_event.specs.Frame.{Frame}
 use Rattle.nt_event.specs.declared.numbers.CpuNo.{CpuNo}
-use Rattle.nt_event.specs.Frames.{at_name, called, due_of, own_after, own_frames, time, without}
+use Rattle.nt_event.specs.Frames.{at_name, called, due_of, freed, own_after, own_frames, time, without}
 use Rattle.nt_event.specs.Numbers.{is_of}
-use Rattle.nt_runs.proofs.Running.{Keeps, called_keeps}
+use Rattle.nt_runs.proofs.Running.{Keeps, called_keeps, freed_keeps}
 
 abbrev pub is_own_body : Body → Bool
 is_own_body (OnInt l) = true
@@ -52,6 +52,7 @@ after_own n due (Begin (Threaded d) from) fs h = ((refl, refl), h)
 after_own n due (Begin (Apc a) from) fs h = h
 after_own n due (Call f c y) fs h = named_own f (called due c y) fs (called_keeps due c y) h
 after_own n due (End f) fs h = without_own f fs h
+after_own n due (Free f k) fs h = named_own f freed fs freed_keeps h
 after_own n due w fs h = h
 
 own_if : (b : Bool) (fs gs : List Frame) → AllOwn fs → AllOwn gs → AllOwn (if b then fs else gs)

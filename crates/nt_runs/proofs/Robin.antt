@@ -21,9 +21,9 @@ use Rattle.nt_event.specs.declared.events.What.TheVariants.{Begin, Call, Look, N
 use Rattle.nt_event.specs.declared.frames.Again.{Again}
 use Rattle.nt_event.specs.declared.frames.Body.{Body}
 use Rattle.nt_event.specs.declared.frames.Body.TheVariants.{Apc as OnApc, Base as OnBase}
-use Rattle.nt_event.specs.declared.frames.Frame.{Frame}
+use Rattle.nt_event.specs.Frame.{Frame}
 use Rattle.nt_event.specs.declared.inserts.Part.TheVariants.{Ordinary as OrdinaryPart}
-use Rattle.nt_event.specs.declared.jobs.Job.TheVariants.{Apcs as ApcsJob, Call as CallJob, Drain as DrainJob, Fire as FireJob, Rewait as RewaitJob, Rundown as RundownJob, Threaded as ThreadedJob}
+use Rattle.nt_event.specs.declared.jobs.Job.TheVariants.{Apcs as ApcsJob, Call as CallJob, Drain as DrainJob, Fire as FireJob, Free as FreeJob, Rewait as RewaitJob, Rundown as RundownJob, Threaded as ThreadedJob}
 use Rattle.nt_event.specs.declared.jobs.Stand.{Stand}
 use Rattle.nt_event.specs.declared.jobs.Task.{Task}
 use Rattle.nt_event.specs.declared.jobs.Task.TheVariants.{Alone, Shared}
@@ -32,7 +32,7 @@ use Rattle.nt_event.specs.declared.numbers.ThreadNo.{ThreadNo}
 use Rattle.nt_event.specs.declared.scripts.Script.{Script}
 use Rattle.nt_event.specs.Commands.{needs_lane}
 use Rattle.nt_event.specs.Frames.{Frames, frames_in, frames_of, innermost, running, thread_part}
-use Rattle.nt_event.specs.Jobs.{begin_first, call_task, command_task, end_task, fire_task, frame_task, has_normal, idle_task, interrupt_task, is_after, may_apcs, may_drain, may_interrupt, may_switch, may_take, may_threaded, must, must_task, next_ready, next_what, normal_task, ready, rests, rewait_reply, rewait_task, rundown_task, switch_event, task, task_event}
+use Rattle.nt_event.specs.Jobs.{begin_first, call_task, command_task, end_task, fire_task, frame_task, free_task, go_on_task, has_normal, idle_task, interrupt_task, is_after, is_still, may_apcs, may_drain, may_interrupt, may_switch, may_take, may_threaded, must, must_task, next_ready, next_what, normal_task, ready, rests, rewait_reply, rewait_task, rundown_task, spins_still, switch_event, task, task_event, waits_for_lock}
 use Rattle.nt_event.specs.Classes.{interrupt_classes}
 use Rattle.nt_event.specs.Lanes.{Lanes, lanes_at, queue_at}
 use Rattle.nt_runs.specs.Laws.{HasBase}
@@ -119,14 +119,16 @@ frame_comes s st l p x f again leaves =
     (λ e. holds_or (EventOf s st l) (rundown_task f) _
     (holds_when (EventOf s st l) f.leaving (Some (Shared RundownJob)) (λ h. rundown_comes s st l (leaves h)))
     (λ k. holds_or (EventOf s st l) (command_task x f (next_command s p f)) _ (command_comes s st l x f (next_command s p f))
-    (λ k2. holds_or (EventOf s st l) (normal_task f) _
+    (λ k2. holds_or (EventOf s st l) (free_task f) _ (holds_map (EventOf s st l) (λ h. Shared (FreeJob h.lock)) (head_of f.held) (λ h e. (_, refl)))
+    (λ k4. holds_or (EventOf s st l) (normal_task f) _
     (holds_when (EventOf s st l) (f.kernel_phase && has_normal f.body) (Some (Alone (Normal f.name))) (λ h. (_, refl)))
-    (λ k3. end_comes s st l f.name f.body))))
+    (λ k3. end_comes s st l f.name f.body)))))
 
 -- a frame always has something to do
 pub frame_has : (s : Script) (p : CpuNo) (x : Own) (f : Frame) → Comes (frame_task s p x f)
 frame_has s p x f =
-    comes_or (rewait_task f) _ (comes_or (rundown_task f) _ (comes_or (command_task x f (next_command s p f)) _ (comes_or (normal_task f) _ (_, refl))))
+    comes_or (rewait_task f) _ (comes_or (rundown_task f) _ (comes_or (command_task x f (next_command s p f)) _
+    (comes_or (free_task f) _ (comes_or (normal_task f) _ (_, refl)))))
 
 -- ---- where a processor stands
 
@@ -207,50 +209,66 @@ idle_comes s limit p past r m h n w =
 
 -- the task of a processor, where something must be done, where it has a frame, and where it is idle
 
+-- nothing must be done and the processor waits for no lock: it goes on
+pub task_goes_on : (s : Script) (p : CpuNo) (x : Own) → must_task x ≡ None → waits_for_lock x ≡ false → task s p x ≡ go_on_task s p x
+task_goes_on s p x m q =
+    ap (λ (o : Option Task). option_or o (when (not (waits_for_lock x)) (go_on_task s p x))) m
+    ∙ ap (λ (b : Bool). when (not b) (go_on_task s p x)) q
+
+or_false : (a b : Bool) → (a || b) ≡ false → (a ≡ false) × (b ≡ false)
+or_false true b h = cc
+or_false false b h = (refl, h)
+
+-- a processor that isn't still and has nothing that it must do doesn't rest, and waits for no lock
+pub awake : (x : Own) → is_still x ≡ false → must_task x ≡ None → (rests x ≡ false) × (waits_for_lock x ≡ false)
+awake x h m =
+    let k = or_false (rests x) (spins_still x) h in
+    let quiet : must x ≡ false = ap (λ (o : Option Task). is_some o) m in
+    let both : (waits_for_lock x && true) ≡ false = rw quiet at k.1 in
+    (k.0, sym (and-true (waits_for_lock x)) ∙ both)
+
 task_must : (s : Script) (limit : ℕ) (p : CpuNo) (past : List Event) (t : Task) → must_task (own_of s p past) ≡ Some t →
     Comes (next_what s p (own_of s p past) (lanes_at s past))
 task_must s limit p past t m =
     let x : Own = own_of s p past in
     let l : Lanes = lanes_at s past in
     let st : Stand = stand_in p x in
-    let task_is : task s p x ≡ Some t = ap (λ (o : Option Task). option_or o
-    (option_or (option_and_then (frame_task s p x) (innermost x.frames)) (idle_task x))) m in
+    let task_is : task s p x ≡ Some t = ap (λ (o : Option Task). option_or o (when (not (waits_for_lock x)) (go_on_task s p x))) m in
     comes_then (task_event s st l) (task s p x) t task_is (holds_at (EventOf s st l) (must_task x) t (must_comes s st l x) m)
 
-task_frame : (s : Script) (p : CpuNo) (past : List Event) (f : Frame) → must_task (own_of s p past) ≡ None → innermost (frames_of s p past) ≡ Some f →
-    Comes (next_what s p (own_of s p past) (lanes_at s past))
-task_frame s p past f m h =
+task_frame : (s : Script) (p : CpuNo) (past : List Event) (f : Frame) → must_task (own_of s p past) ≡ None → waits_for_lock (own_of s p past) ≡ false →
+    innermost (frames_of s p past) ≡ Some f → Comes (next_what s p (own_of s p past) (lanes_at s past))
+task_frame s p past f m q h =
     let x : Own = own_of s p past in
     let l : Lanes = lanes_at s past in
     let st : Stand = stand_in p x in
     let t = frame_has s p x f in
     let framed : option_and_then (frame_task s p x) (innermost x.frames) ≡ Some t.0 = ap (λ (o : Option Frame). option_and_then (frame_task s p x) o) h ∙ t.1 in
-    let task_is : task s p x ≡ Some t.0 = ap (λ (o : Option Task). option_or o
-    (option_or (option_and_then (frame_task s p x) (innermost x.frames)) (idle_task x))) m ∙ ap (λ (o : Option Task). option_or o (idle_task x)) framed in
+    let task_is : task s p x ≡ Some t.0 = task_goes_on s p x m q ∙ ap (λ (o : Option Task). option_or o (idle_task x)) framed in
     comes_then (task_event s st l) (task s p x) t.0 task_is
     (holds_at (EventOf s st l) (frame_task s p x f) t.0
     (frame_comes s st l p x f (again_stands p x.frames x.sweep f h) (innermost_stands x.frames f h (all_own p past))) t.1)
 
-task_idle : (s : Script) (limit : ℕ) (p : CpuNo) (past : List Event) → IsRun s limit past → must_task (own_of s p past) ≡ None → innermost (frames_of s p past)
-    ≡ None → rests (own_of s p past) ≡ false → (may_switch (own_of s p past) ≡ true → is_null (ready s p (lanes_at s past)) ≡ true) →
+task_idle : (s : Script) (limit : ℕ) (p : CpuNo) (past : List Event) → IsRun s limit past → must_task (own_of s p past) ≡ None →
+    waits_for_lock (own_of s p past) ≡ false → innermost (frames_of s p past) ≡ None → rests (own_of s p past) ≡ false → (may_switch (own_of s p past)
+    ≡ true → is_null (ready s p (lanes_at s past)) ≡ true) →
     Comes (next_what s p (own_of s p past) (lanes_at s past))
-task_idle s limit p past r m h n w =
+task_idle s limit p past r m q h n w =
     let x : Own = own_of s p past in
-    let task_is : task s p x ≡ idle_task x = ap (λ (o : Option Task). option_or o
-    (option_or (option_and_then (frame_task s p x) (innermost x.frames)) (idle_task x))) m
+    let task_is : task s p x ≡ idle_task x = task_goes_on s p x m q
     ∙ ap (λ (o : Option Frame). option_or (option_and_then (frame_task s p x) o) (idle_task x)) h in
     subst (λ (o : Option Task). Comes (option_and_then (task_event s (stand_in p x) (lanes_at s past)) o)) (sym task_is) (idle_comes s limit p past r m h n w)
 
--- a processor that doesn't rest has a next event, or a thread to take up
-pub next_comes : (s : Script) (limit : ℕ) (p : CpuNo) (past : List Event) → IsRun s limit past → rests (own_of s p past) ≡ false →
+-- a processor that isn't still has a next event, or a thread to take up
+pub next_comes : (s : Script) (limit : ℕ) (p : CpuNo) (past : List Event) → IsRun s limit past → is_still (own_of s p past) ≡ false →
     (may_switch (own_of s p past) ≡ true → is_null (ready s p (lanes_at s past)) ≡ true) → Comes (next_what s p (own_of s p past) (lanes_at s past))
 next_comes s limit p past r n w = go (must_task (own_of s p past)) (innermost (frames_of s p past)) refl refl
   where
     go : (o : Option Task) (f : Option Frame) → must_task (own_of s p past) ≡ o → innermost (frames_of s p past) ≡ f →
         Comes (next_what s p (own_of s p past) (lanes_at s past))
     go (Some t) f m h = task_must s limit p past t m
-    go None (Some f) m h = task_frame s p past f m h
-    go None None m h = task_idle s limit p past r m h n w
+    go None (Some f) m h = task_frame s p past f m (awake (own_of s p past) n m).1 h
+    go None None m h = let a = awake (own_of s p past) n m in task_idle s limit p past r m a.1 h a.0 w
 
 -- ---- a step that is accepted
 
@@ -344,7 +362,7 @@ look_accepted s limit p r past below uncut good =
     (comes_when (is_good_look s p r.value (own_of s p past) past) _ good (_, refl))
 
 go_on_accepted : (s : Script) (limit : ℕ) (p : CpuNo) (past : List Event) → IsRun s limit past → nat_lt p.0 s.cpus ≡ true → is_cut limit (own_of s p past)
-    ≡ false → rests (own_of s p past) ≡ false → Accepts s limit (go_on_turn s p (own_of s p past) (lanes_at s past)) past
+    ≡ false → is_still (own_of s p past) ≡ false → Accepts s limit (go_on_turn s p (own_of s p past) (lanes_at s past)) past
 go_on_accepted s limit p past r below uncut awake = go (may_switch (own_of s p past)) refl
   where
     choice : (o : Option ThreadNo) → next_ready s p (took p past) (lanes_at s past) ≡ o → may_switch (own_of s p past) ≡ true →
@@ -369,18 +387,18 @@ pub robin_at_accepted : (s : Script) (limit : ℕ) (p : CpuNo) (past : List Even
 robin_at_accepted s limit p past r below uncut =
     looks (is_behind (own_of s p past) (λ c. asked s p c past)) refl
   where
-    goes : (b : Bool) → rests (own_of s p past) ≡ b → Holds (λ t. Accepts s limit t past)
+    goes : (b : Bool) → is_still (own_of s p past) ≡ b → Holds (λ t. Accepts s limit t past)
         (if b then None else Some (go_on_turn s p (own_of s p past) (lanes_at s past)))
     goes true e = tt
     goes false e = go_on_accepted s limit p past r below uncut e
 
     looks : (b : Bool) → is_behind (own_of s p past) (λ c. asked s p c past) ≡ b →
         Holds (λ t. Accepts s limit t past) (if b then Some (LookTurn p (record { value = look_values (own_of s p past) (λ c. asked s p c past) }))
-        else (if rests (own_of s p past) then None else Some (go_on_turn s p (own_of s p past) (lanes_at s past))))
+        else (if is_still (own_of s p past) then None else Some (go_on_turn s p (own_of s p past) (lanes_at s past))))
     looks true e =
         look_accepted s limit p (record { value = look_values (own_of s p past) (λ c. asked s p c past) }) past below uncut
         (behind_looks s p (own_of s p past) past e)
-    looks false e = goes (rests (own_of s p past)) refl
+    looks false e = goes (is_still (own_of s p past)) refl
 
 -- ---- the cycle
 

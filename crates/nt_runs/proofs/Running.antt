@@ -11,16 +11,16 @@ use Rattle.nt_event.specs.declared.events.Begun.TheVariants.{Apc}
 use Rattle.nt_event.specs.declared.events.Event.{Event}
 use Rattle.nt_event.specs.declared.events.Turn.TheVariants.{Switch as SwitchTurn}
 use Rattle.nt_event.specs.declared.events.What.{What}
-use Rattle.nt_event.specs.declared.events.What.TheVariants.{Begin, Call, End, Flush, Gone, Look, Normal, Rewait, Switch}
+use Rattle.nt_event.specs.declared.events.What.TheVariants.{Begin, Call, End, Flush, Free, Gone, Look, Normal, Rewait, Switch}
 use Rattle.nt_event.specs.declared.frames.Body.{Body}
 use Rattle.nt_event.specs.declared.frames.Body.TheVariants.{Apc as OnApc, Rundown as OnRundown}
-use Rattle.nt_event.specs.declared.frames.Frame.{Frame}
+use Rattle.nt_event.specs.Frame.{Frame}
 use Rattle.nt_event.specs.declared.numbers.ApcNo.{ApcNo}
 use Rattle.nt_event.specs.declared.numbers.CpuNo.{CpuNo}
 use Rattle.nt_event.specs.declared.numbers.RoutineNo.{RoutineNo}
 use Rattle.nt_event.specs.declared.numbers.ThreadNo.{ThreadNo}
 use Rattle.nt_event.specs.declared.scripts.Script.{Script}
-use Rattle.nt_event.specs.Frames.{at_name, called, done_to, due_of, end_on_thread, ended_on_thread, flushed, frames_in, frames_of, is_base_body, ended_base, new_frame, normal_of, resumed, rewaited, running, running_after, switched_to, thread_after, thread_frames, thread_if, thread_part, time}
+use Rattle.nt_event.specs.Frames.{at_name, called, done_to, due_of, end_on_thread, ended_base, ended_on_thread, flushed, frames_in, frames_of, freed, is_base_body, new_frame, normal_of, resumed, rewaited, running, running_after, switched_to, thread_after, thread_frames, thread_if, thread_part, time}
 use Rattle.nt_runs.specs.Laws.{HasBase, IsInner}
 use Rattle.nt_event.specs.Routines.{cpu_of, kind_of, rundown_of}
 use Rattle.nt_event.specs.Script.{has_thread}
@@ -62,6 +62,9 @@ called_keeps due c y = record { body = called_body due c y; leaving = called_lea
 
 pub rewaited_keeps : (y : Reply) → Keeps (rewaited y)
 rewaited_keeps y = record { body = λ f. refl; leaving = λ f. refl }
+
+pub freed_keeps : Keeps freed
+freed_keeps = record { body = λ f. refl; leaving = λ f. refl }
 
 pub normal_keeps : Keeps normal_of
 normal_keeps = record { body = λ f. refl; leaving = λ f. refl }
@@ -126,6 +129,7 @@ after_based t s n due (Call f c y) fs a b h = named_based t f (called due c y) f
 after_based t s n due (Rewait f y) fs a b h = named_based t f (rewaited y) fs (rewaited_keeps y) h
 after_based t s n due (Normal f) fs a b h = named_based t f normal_of fs normal_keeps h
 after_based t s n due (End f) fs a b h = end_based t f fs h
+after_based t s n due (Free f k) fs a b h = named_based t f freed fs freed_keeps h
 after_based t s n due w fs a b h = h
 
 -- a thread that is taken up has its base
@@ -140,7 +144,7 @@ pub thread_named : (s : Script) (limit : ℕ) (e : Event) (past : List Event) �
 thread_named s limit e past h = sym (ap (λ (f : Event). f.thread) (step_gives s limit e past h))
 
 -- an event but a Switch leaves the thread that ran, or none
-kept : (w : What) (r : Option ThreadNo) (t : ThreadNo) → is_switch w ≡ false → running_after w r ≡ Some t → r ≡ Some t
+pub kept : (w : What) (r : Option ThreadNo) (t : ThreadNo) → is_switch w ≡ false → running_after w r ≡ Some t → r ≡ Some t
 kept (Switch u st) r t n h = cc
 kept (Gone u) r t n h = cc
 kept (Call f Yield Done) r t n h = cc

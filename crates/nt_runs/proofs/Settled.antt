@@ -12,7 +12,7 @@ use Rattle.nt_event.specs.declared.events.What.TheVariants.{Look}
 use Rattle.nt_event.specs.declared.jobs.Lane.{Lane}
 use Rattle.nt_event.specs.declared.numbers.CpuNo.{CpuNo}
 use Rattle.nt_event.specs.declared.scripts.Script.{Script}
-use Rattle.nt_event.specs.Jobs.{rests}
+use Rattle.nt_event.specs.Jobs.{is_still, rests}
 use Rattle.nt_event.specs.Lanes.{lanes_of, touches}
 use Rattle.nt_event.specs.Own.{Own, own_of}
 use Rattle.nt_event.specs.Requests.{asked, asks, looked, raised, seen, seen_after, told, told_by, told_by_all}
@@ -187,7 +187,7 @@ turn_none false behind rests false t u h = rw h (go rests)
 pub robin_of_done : (s : Script) (limit : ℕ) (p : CpuNo) (past : List Event) → IsRun s limit past → is_none (robin_of s limit p past)
     ≡ is_done_with s limit p past
 robin_of_done s limit p past r =
-    turn_none (is_cut limit (own_of s p past)) (is_behind (own_of s p past) (λ c. asked s p c past)) (rests (own_of s p past))
+    turn_none (is_cut limit (own_of s p past)) (is_behind (own_of s p past) (λ c. asked s p c past)) (is_still (own_of s p past))
     (has_seen (own_of s p past) (λ c. asked s p c past)) _ _ (behind_seen s limit p past r)
 
 -- ---- the cycle visits each processor

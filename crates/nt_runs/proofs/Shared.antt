@@ -5,22 +5,22 @@ use Rattle.std.specs.Option.{option_map_or, option_or}
 use Rattle.std.specs.Prelude.{Bool, List, None, Option, Some, [], false, find, if◌then◌else◌, is_none, is_some, length, not, option_and_then, option_map, refl, true, ℕ, ◌&&◌, ◌-◌, ◌==◌, ◌∷◌, ◌≡◌}
 use Rattle.nt_event.specs.declared.commands.ApcKind.TheVariants.{User as UserApc}
 use Rattle.nt_event.specs.declared.commands.Command.{Command}
-use Rattle.nt_event.specs.declared.commands.Command.TheVariants.{Delay, EnterCrit, EnterGuard, LeaveCrit, LeaveGuard, Lower, Queue, Raise, StartWait, ToUser, Yield}
+use Rattle.nt_event.specs.declared.commands.Command.TheVariants.{Acquire, Delay, EnterCrit, EnterGuard, LeaveCrit, LeaveGuard, Lower, Queue, Raise, StartWait, ToUser, Unlock, Yield}
 use Rattle.nt_event.specs.declared.commands.Refusal.{Refusal}
 use Rattle.nt_event.specs.declared.commands.Reply.{Reply}
-use Rattle.nt_event.specs.declared.commands.Reply.TheVariants.{Blocked, Done}
+use Rattle.nt_event.specs.declared.commands.Reply.TheVariants.{Blocked, Done, Spin}
 use Rattle.nt_event.specs.declared.events.Begun.TheVariants.{Apc, Int}
 use Rattle.nt_event.specs.declared.events.Event.{Event}
 use Rattle.nt_event.specs.declared.events.What.{What}
-use Rattle.nt_event.specs.declared.events.What.TheVariants.{Begin, Call, Clean, End, Expire, Fire, Flush, Gone, Normal, Rest, Rewait, Switch}
+use Rattle.nt_event.specs.declared.events.What.TheVariants.{Begin, Call, Clean, End, Expire, Fire, Flush, Free, Gone, Normal, Rest, Rewait, Switch}
 use Rattle.nt_event.specs.declared.frames.Body.{Body}
 use Rattle.nt_event.specs.declared.frames.Body.TheVariants.{Apc as OnApc, Base as OnBase}
-use Rattle.nt_event.specs.declared.frames.Frame.{Frame}
+use Rattle.nt_event.specs.Frame.{Frame}
 use Rattle.nt_event.specs.declared.inserts.Insert.{Insert}
 use Rattle.nt_event.specs.declared.inserts.Part.{Part}
 use Rattle.nt_event.specs.declared.inserts.Part.TheVariants.{Ordinary as OrdinaryPart, Threaded as ThreadedPart}
 use Rattle.nt_event.specs.declared.jobs.Job.{Job}
-use Rattle.nt_event.specs.declared.jobs.Job.TheVariants.{Apcs as ApcsJob, Call as CallJob, Drain as DrainJob, Fire as FireJob, Idle as IdleJob, Leave as LeaveJob, Pick as PickJob, Rewait as RewaitJob, Rundown as RundownJob, Switch as SwitchJob, Threaded as ThreadedJob, ToUser as ToUserJob, UserEnd as UserEndJob}
+use Rattle.nt_event.specs.declared.jobs.Job.TheVariants.{Apcs as ApcsJob, Call as CallJob, Drain as DrainJob, Fire as FireJob, Free as FreeJob, Idle as IdleJob, Leave as LeaveJob, Pick as PickJob, Rewait as RewaitJob, Rundown as RundownJob, Switch as SwitchJob, Threaded as ThreadedJob, ToUser as ToUserJob, UserEnd as UserEndJob}
 use Rattle.nt_event.specs.declared.jobs.Stand.{Stand}
 use Rattle.nt_event.specs.declared.jobs.Task.{Task}
 use Rattle.nt_event.specs.declared.jobs.Task.TheVariants.{Alone, Shared}
@@ -31,18 +31,18 @@ use Rattle.nt_event.specs.declared.numbers.ThreadNo.{ThreadNo}
 use Rattle.nt_event.specs.declared.scripts.Script.{Script}
 use Rattle.nt_event.specs.declared.threads.Doing.{Doing}
 use Rattle.nt_event.specs.declared.threads.Doing.TheVariants.{Ready as IsReady}
-use Rattle.nt_event.specs.Acting.{IsDue, acted_event, acted_level}
+use Rattle.nt_event.specs.Acting.{IsDue, acted_event, acted_level, move_level}
 use Rattle.nt_event.specs.Apcs.{first_user}
 use Rattle.nt_event.specs.Commands.{needs_lane, reply}
 use Rattle.nt_event.specs.Calls.{stops}
-use Rattle.nt_event.specs.Frames.{Frames, at_name, called, end_on_thread, flushed, frames_after, frames_in, frames_of, innermost, is_base_body, is_on_thread, is_user_apc_body, level_in, own_after, own_frames, rewaited, running, running_after, switched_to, thread_after, thread_frames, thread_if, thread_part, without}
-use Rattle.nt_event.specs.Jobs.{begin_apc, begin_dpc, begin_first, call_task, command_task, end_task, expire_key, fire_task, frame_task, has_normal, idle_event, idle_task, interrupt_task, job_event, level_at, may_apcs, may_drain, may_interrupt, may_switch, may_take, may_threaded, must, must_task, next_ready, normal_task, ready, rewait_reply, rewait_task, rundown_event, rundown_task, switch_event, task, user_due}
+use Rattle.nt_event.specs.Frames.{Frames, at_name, called, effect, end_on_thread, flushed, frames_after, frames_in, frames_of, freed, freed_level, innermost, is_base_body, is_on_thread, is_user_apc_body, level_in, level_moved, own_after, own_frames, rewaited, running, running_after, switched_to, thread_after, thread_frames, thread_if, thread_part, without}
+use Rattle.nt_event.specs.Jobs.{begin_apc, begin_dpc, begin_first, call_task, command_task, end_task, expire_key, fire_task, frame_task, free_task, go_on_task, has_normal, idle_event, idle_task, interrupt_task, job_event, level_at, may_apcs, may_drain, may_interrupt, may_switch, may_take, may_threaded, must, must_task, next_ready, normal_task, ready, rewait_reply, rewait_task, rundown_event, rundown_task, switch_event, task, user_due, waits_for_lock}
 use Rattle.nt_event.specs.Classes.{interrupt_classes}
 use Rattle.nt_event.specs.Lanes.{Lanes, facts_at, facts_of, lanes_at, queue_at}
 use Rattle.nt_runs.specs.Laws.{HasBase, Says, level_of}
 use Rattle.nt_event.specs.Own.{Own, own_of}
 use Rattle.nt_event.specs.Queues.{first_dpc}
-use Rattle.nt_event.specs.Regions.{after_in, first_level, owes_sweep, stand_at}
+use Rattle.nt_event.specs.Regions.{ended_level_in, first_level, freed_in, owes_sweep, stand_at}
 use Rattle.nt_event.specs.Routines.{cpu_of, next_command, rundown_of}
 use Rattle.nt_event.specs.Script.{has_thread}
 use Rattle.nt_event.specs.Step.{IsRun, event_at, level_field, thread_field, unleveled}
@@ -55,7 +55,7 @@ use Rattle.nt_event.specs.Numbers.{is_by, is_thread, thread}
 use Rattle.nt_runs.proofs.Calm.{AllCalm, all_calm, leaving_low}
 use Rattle.nt_runs.proofs.Chosen.{null_head, switch_parts}
 use Rattle.nt_runs.proofs.Facts.{agree, if_none, level_on_thread, named_level, rewait_keeps}
-use Rattle.nt_runs.proofs.Known.{Deliverable, Good, Known, KnownBegin, KnownCall, KnownRewait, KnownRundown, task_known}
+use Rattle.nt_runs.proofs.Known.{Deliverable, Good, Known, KnownBegin, KnownCall, KnownFree, KnownRewait, KnownRundown, task_known}
 use Rattle.nt_event.proofs.Options.{Holds, both, holds_at, holds_else, holds_map, holds_more, holds_or, holds_then, holds_when}
 use Rattle.nt_runs.proofs.OwnPart.{AllOwn, all_own, is_own_body}
 use Rattle.nt_runs.proofs.Robin.{Comes}
@@ -65,6 +65,8 @@ use Rattle.nt_runs.proofs.Stops.{blocked_call, none_again, rewait_on_thread, yie
 use Rattle.nt_event.proofs.Tables.{get_or-table, table-same}
 use Rattle.nt_runs.proofs.Turns.{NextTask, is_chosen, task_next}
 use Rattle.nt_runs.proofs.UserApcs.{touser_low}
+use Rattle.nt_event.specs.declared.numbers.LockNo.{LockNo}
+use Rattle.nt_event.specs.Locks.{Frees, Gets, LockMove, NoMove, Spins, call_move}
 
 -- ---- what a job of the next event is known by, beside its event
 
@@ -113,14 +115,16 @@ frame_is s p x f h =
     holds_or (TaskIs x) (rewait_task f) _ (holds_when (TaskIs x) (is_some f.again) (Some (Shared RewaitJob)) (λ e. tt))
     (λ e. holds_or (TaskIs x) (rundown_task f) _ (holds_when (TaskIs x) f.leaving (Some (Shared RundownJob)) (λ e. tt))
     (λ k. holds_or (TaskIs x) (command_task x f (next_command s p f)) _ (command_is x f (next_command s p f))
-    (λ k2. holds_or (TaskIs x) (normal_task f) _ (holds_when (TaskIs x) (f.kernel_phase && has_normal f.body) (Some (Alone (Normal f.name))) (λ e. tt))
-    (λ k3. end_is x f f.name h))))
+    (λ k2. holds_or (TaskIs x) (free_task f) _ (holds_map (TaskIs x) (λ h. Shared (FreeJob h.lock)) (head_of f.held) (λ h e. tt))
+    (λ k4. holds_or (TaskIs x) (normal_task f) _ (holds_when (TaskIs x) (f.kernel_phase && has_normal f.body) (Some (Alone (Normal f.name))) (λ e. tt))
+    (λ k3. end_is x f f.name h)))))
 
 task_is : (s : Script) (p : CpuNo) (x : Own) → Holds (TaskIs x) (task s p x)
 task_is s p x =
-    holds_or (TaskIs x) (must_task x) _ (must_is x) (λ e. holds_or (TaskIs x) (option_and_then (frame_task s p x) (innermost x.frames)) (idle_task x)
+    holds_or (TaskIs x) (must_task x) _ (must_is x) (λ e. holds_when (TaskIs x) (not (waits_for_lock x)) (go_on_task s p x)
+    (λ q. holds_or (TaskIs x) (option_and_then (frame_task s p x) (innermost x.frames)) (idle_task x)
     (holds_then (TaskIs x) (frame_task s p x) (innermost x.frames) (λ f k. frame_is s p x f k))
-    (λ k. holds_when (TaskIs x) (not (x.rested && is_none x.frames.running)) (Some (Shared IdleJob)) (λ h. tt)))
+    (λ k. holds_when (TaskIs x) (not (x.rested && is_none x.frames.running)) (Some (Shared IdleJob)) (λ h. tt))))
 
 -- ---- the level after an event
 
@@ -137,7 +141,7 @@ part_after s due e x t h r b =
     ∙ (get_or-table (length s.threads) t.0 (λ k. thread_if (is_by e (thread k)) s 0 due e.what (frames_in x.threads (thread k))) []
     (ltb-true t.0 (length s.threads) h) ∙ ap (λ (c : Bool). thread_if c s 0 due e.what (frames_in x.threads t)) b)
 
-none_part : (x : Frames) → x.running ≡ None → thread_part x ≡ []
+pub none_part : (x : Frames) → x.running ≡ None → thread_part x ≡ []
 none_part x h = ap (λ (o : Option ThreadNo). option_map_or (frames_in x.threads) o []) h
 
 by_itself : (t : ThreadNo) (o : Option ThreadNo) → o ≡ Some t → is_thread o t ≡ true
@@ -266,20 +270,30 @@ raises (Raise l) = true
 raises (Lower l) = true
 raises c = false
 
--- a command that touches a lane keeps its frame's level
-call_keeps : (due : Option ℕ) (c : Command) (y : Reply) (f : Frame) → needs_lane c ≡ true → (called due c y f).level ≡ f.level
-call_keeps due (Raise l) y f h = cc
-call_keeps due (Lower l) y f h = cc
-call_keeps due (StartWait m a) y f h = refl
-call_keeps due (Delay m a u) y f h = refl
-call_keeps due Yield Done f h = refl
-call_keeps due (Queue d) Done f h = refl
-call_keeps due EnterCrit y f h = cc
-call_keeps due EnterGuard y f h = cc
-call_keeps due LeaveCrit y f h = cc
-call_keeps due LeaveGuard y f h = cc
-call_keeps due c Done f h = refl
-call_keeps due c y f h = refl
+-- a command that touches a lane and moves no lock keeps its frame's level
+call_keeps : (due : Option ℕ) (c : Command) (y : Reply) (f : Frame) → needs_lane c ≡ true → call_move c y ≡ NoMove → (called due c y f).level ≡ f.level
+call_keeps due (Raise l) y f h m = cc
+call_keeps due (Lower l) y f h m = cc
+call_keeps due (StartWait m a) y f h n = refl
+call_keeps due (Delay m a u) y f h n = refl
+call_keeps due Yield Done f h m = refl
+call_keeps due (Queue d) Done f h m = refl
+call_keeps due EnterCrit y f h m = cc
+call_keeps due EnterGuard y f h m = cc
+call_keeps due LeaveCrit y f h m = cc
+call_keeps due LeaveGuard y f h m = cc
+call_keeps due (Acquire k) Done f h m = cc
+call_keeps due (Acquire k) Spin f h m = cc
+call_keeps due (Unlock k) Done f h m = cc
+call_keeps due c Done f h m = refl
+call_keeps due c y f h m = refl
+
+-- a call that halts moves no lock
+pub halts_move : (c : Command) (y : Reply) → stops c y ≡ true → call_move c y ≡ NoMove
+halts_move (Acquire k) Done h = cc
+halts_move (Acquire k) Spin h = cc
+halts_move (Unlock k) Done h = cc
+halts_move c y h = refl
 
 halts_running : (f : ℕ) (c : Command) (y : Reply) (r : Option ThreadNo) → stops c y ≡ true → running_after (Call f c y) r ≡ None
 halts_running f c y r h = rw h refl
@@ -288,10 +302,13 @@ goes_running : (f : ℕ) (c : Command) (y : Reply) (r : Option ThreadNo) → sto
 goes_running f c y r h = if_none (stops c y) r h
 
 halts_level : (st : Stand) (l : Lanes) (f : ℕ) (c : Command) (y : Reply) → stops c y ≡ true → acted_level st l (Call f c y) ≡ 0
-halts_level st l f c y h = rw h refl
+halts_level st l f c y h =
+    ap (λ (m : LockMove). move_level st m (if stops c y then 0 else st.level)) (halts_move c y h) ∙ ap (λ (b : Bool). if b then 0 else st.level) h
 
-goes_level : (st : Stand) (l : Lanes) (f : ℕ) (c : Command) (y : Reply) → stops c y ≡ false → acted_level st l (Call f c y) ≡ st.level
-goes_level st l f c y h = go (stops c y) h
+goes_level : (st : Stand) (l : Lanes) (f : ℕ) (c : Command) (y : Reply) → call_move c y ≡ NoMove → stops c y ≡ false → acted_level st l (Call f c y)
+    ≡ st.level
+goes_level st l f c y m h =
+    ap (λ (m : LockMove). move_level st m (if stops c y then 0 else st.level)) m ∙ go (stops c y) h
   where
     go : (b : Bool) → b ≡ false → (if b then 0 else st.level) ≡ st.level
     go true h = cc
@@ -308,28 +325,90 @@ named_null : (n : ℕ) (g : Frame → Frame) (fs : List Frame) → is_null (at_n
 named_null n g [] = refl
 named_null n g (f ∷ fs) = refl
 
-named_lane_level : (n : ℕ) (due : Option ℕ) (c : Command) (y : Reply) (fs : List Frame) → needs_lane c ≡ true → level_of (at_name n (called due c y) fs)
-    ≡ level_of fs
-named_lane_level n due c y [] h = refl
-named_lane_level n due c y (f ∷ fs) h = go (f.name == n)
+named_lane_level : (n : ℕ) (due : Option ℕ) (c : Command) (y : Reply) (fs : List Frame) → needs_lane c ≡ true → call_move c y ≡ NoMove →
+    level_of (at_name n (called due c y) fs) ≡ level_of fs
+named_lane_level n due c y [] h m = refl
+named_lane_level n due c y (f ∷ fs) h m = go (f.name == n)
   where
     go : (b : Bool) → (if b then called due c y f else f).level ≡ f.level
-    go true = call_keeps due c y f h
+    go true = call_keeps due c y f h m
     go false = refl
 
 -- with a frame on the own part, a call leaves the level
 own_call_level : (n : ℕ) (c : Command) (y : Reply) (x y' : Frames) (fs : List Frame) → x.own ≡ fs → y'.own ≡ at_name n (called None c y) fs → is_null fs
-    ≡ false → needs_lane c ≡ true → level_in y' ≡ level_in x
-own_call_level n c y x y' [] a b h k = cc
-own_call_level n c y x y' (f ∷ fs) a b h k =
+    ≡ false → needs_lane c ≡ true → call_move c y ≡ NoMove → level_in y' ≡ level_in x
+own_call_level n c y x y' [] a b h k m = cc
+own_call_level n c y x y' (f ∷ fs) a b h k m =
     let u : level_in y' ≡ level_of (at_name n (called None c y) (f ∷ fs)) = ap
     (λ (gs : List Frame). option_map_or (λ f. f.level) (option_or (head_of gs) (head_of (thread_part y'))) 0) b in
     let v : level_in x ≡ level_of (f ∷ fs) = ap (λ (gs : List Frame). option_map_or (λ f. f.level) (option_or (head_of gs) (head_of (thread_part x))) 0) a in
-    u ∙ (named_lane_level n None c y (f ∷ fs) k ∙ sym v)
+    u ∙ (named_lane_level n None c y (f ∷ fs) k m ∙ sym v)
 
-call_tells : (s : Script) (limit : ℕ) (p : CpuNo) (past : List Event) (n : ℕ) (c : Command) (y : Reply) → IsRun s limit past →
-    KnownCall s p (own_of s p past) (lanes_at s past) n c y → needs_lane c ≡ true → Tells s p past (Call n c y)
-call_tells s limit p past n c y r k lane = go (stops c y) (is_null (own_frames p past)) refl refl
+-- the level after an event that changes the innermost frame alone
+named_head_level : (n : ℕ) (g : Frame → Frame) (i : Frame) (fs : List Frame) → head_of fs ≡ Some i → n ≡ i.name → level_of (at_name n g fs) ≡ (g i).level
+named_head_level n g i [] h e = cc
+named_head_level n g i (f ∷ fs) h e =
+    let same : f ≡ i = cc in
+    let named : (f.name == n) ≡ true = eq-eqb f.name n (ap (λ (x : Frame). x.name) same ∙ sym e) in
+    rw named (ap (λ (z : Frame). (g z).level) same)
+
+inner_level : (s : Script) (limit : ℕ) (p : CpuNo) (past : List Event) (w : What) (n : ℕ) (g : Frame → Frame) (i : Frame) → IsRun s limit past →
+    innermost (frames_of s p past) ≡ Some i → n ≡ i.name → thread_field w (running p past) ≡ running p past →
+    running_after w (running p past) ≡ running p past → own_after 0 None w (own_frames p past) ≡ at_name n g (own_frames p past) →
+    ((fs : List Frame) → thread_after s 0 None w fs ≡ at_name n g fs) →
+    level_in (frames_after s 0 None (unleveled p w (frames_of s p past)) (frames_of s p past)) ≡ (g i).level
+inner_level s limit p past w n g i r h e field still own thr = go (own_frames p past) refl
+  where
+    x : Frames
+    x = frames_of s p past
+
+    go : (fs : List Frame) → own_frames p past ≡ fs →
+        level_in (frames_after s 0 None (unleveled p w (frames_of s p past)) (frames_of s p past)) ≡ (g i).level
+    go [] o =
+        let null : is_null (own_frames p past) ≡ true = ap (λ (fs : List Frame). is_null fs) o in
+        let t = thread_runs (frames_of s p past) i h null in
+        let after : is_null (own_after 0 None w (own_frames p past)) ≡ true = ap (λ (fs : List Frame). is_null fs) own
+        ∙ (named_null n g (own_frames p past) ∙ null) in
+        thread_level s limit p past t.0 w r t.1 field (still ∙ t.1) after
+        ∙ (ap level_of (thr (thread_part (frames_of s p past)))
+        ∙ named_head_level n g i (thread_part (frames_of s p past)) (part_head (frames_of s p past) i h null) e)
+    go (f ∷ fs) o =
+        let first : option_or (head_of (f ∷ fs)) (head_of (thread_part (frames_of s p past)))
+        ≡ Some i = subst (λ (gs : List Frame). option_or (head_of gs) (head_of (thread_part (frames_of s p past))) ≡ Some i) o h in
+        let after : own_after 0 None w (own_frames p past) ≡ at_name n g (f ∷ fs) = own ∙ ap (at_name n g) o in
+        let y : Frames = frames_after s 0 None (unleveled p w (frames_of s p past)) (frames_of s p past) in
+        ap (λ (gs : List Frame). option_map_or (λ f. f.level) (option_or (head_of gs) (head_of (thread_part y))) 0) after
+        ∙ named_head_level n g i (f ∷ fs) first e
+
+-- a call that moves a lock
+moved_tells : (s : Script) (limit : ℕ) (p : CpuNo) (past : List Event) (n : ℕ) (c : Command) (y : Reply) → IsRun s limit past →
+    KnownCall s p (own_of s p past) (lanes_at s past) n c y → stops c y ≡ false → (m : LockMove) → call_move c y ≡ m → (m ≡ NoMove → ⊥) →
+    Tells s p past (Call n c y)
+moved_tells s limit p past n c y r k still m e moves =
+    inner_level s limit p past (Call n c y) n (called None c y) k.frame r k.goes_on.inner k.name refl (goes_running n c y (running p past) still) refl
+    (λ fs. refl) ∙ go m e moves
+  where
+    go : (m : LockMove) → call_move c y ≡ m → (m ≡ NoMove → ⊥) →
+        level_moved (call_move c y) k.frame (effect None c y k.frame).level
+        ≡ move_level (stand_at s p past) (call_move c y) (if stops c y then 0 else (stand_at s p past).level)
+    go (Gets x) e moves = rw e refl
+    go (Spins x) e moves = rw e refl
+    go (Frees x) e moves =
+        let freed : freed_in (frames_of s p past) ≡ freed_level k.frame = ap (λ (o : Option Frame). option_map_or freed_level o 0) k.goes_on.inner in
+        rw e (sym freed)
+    go NoMove e moves = absurd (moves refl)
+
+-- so does a Free
+free_tells : (s : Script) (limit : ℕ) (p : CpuNo) (past : List Event) (n : ℕ) (k : LockNo) → IsRun s limit past → KnownFree s p (own_of s p past) n k →
+    Tells s p past (Free n k)
+free_tells s limit p past n c r k =
+    let same : freed_in (frames_of s p past) ≡ freed_level k.frame = ap (λ (o : Option Frame). option_map_or freed_level o 0) k.goes_on.inner in
+    inner_level s limit p past (Free n c) n freed k.frame r k.goes_on.inner k.name refl refl refl (λ fs. refl) ∙ sym same
+
+-- a call that moves none
+still_tells : (s : Script) (limit : ℕ) (p : CpuNo) (past : List Event) (n : ℕ) (c : Command) (y : Reply) → IsRun s limit past →
+    KnownCall s p (own_of s p past) (lanes_at s past) n c y → needs_lane c ≡ true → call_move c y ≡ NoMove → Tells s p past (Call n c y)
+still_tells s limit p past n c y r k lane m = go (stops c y) (is_null (own_frames p past)) refl refl
   where
     x : Frames
     x = frames_of s p past
@@ -345,12 +424,38 @@ call_tells s limit p past n c y r k lane = go (stops c y) (is_null (own_frames p
     go false true a e =
         let t = thread_runs (frames_of s p past) k.frame k.goes_on.inner e in
         thread_level s limit p past t.0 (Call n c y) r t.1 refl (goes_running n c y (running p past) a ∙ t.1) (null_after e)
-        ∙ (named_lane_level n None c y (thread_part (frames_of s p past)) lane
+        ∙ (named_lane_level n None c y (thread_part (frames_of s p past)) lane m
         ∙ (sym (level_on_thread (frames_of s p past) (thread_part (frames_of s p past)) e refl)
-        ∙ sym (goes_level (stand_at s p past) (lanes_at s past) n c y a)))
+        ∙ sym (goes_level (stand_at s p past) (lanes_at s past) n c y m a)))
     go false false a e =
         own_call_level n c y (frames_of s p past) (frames_after s 0 None (unleveled p (Call n c y) (frames_of s p past)) (frames_of s p past))
-        (own_frames p past) refl refl e lane ∙ sym (goes_level (stand_at s p past) (lanes_at s past) n c y a)
+        (own_frames p past) refl refl e lane m ∙ sym (goes_level (stand_at s p past) (lanes_at s past) n c y m a)
+
+call_tells : (s : Script) (limit : ℕ) (p : CpuNo) (past : List Event) (n : ℕ) (c : Command) (y : Reply) → IsRun s limit past →
+    KnownCall s p (own_of s p past) (lanes_at s past) n c y → needs_lane c ≡ true → Tells s p past (Call n c y)
+call_tells s limit p past n c y r k lane = either (call_move c y) refl
+  where
+    move_stays : (m : LockMove) → call_move c y ≡ m → (m ≡ NoMove → ⊥) → stops c y ≡ false
+    move_stays m e moves = go (stops c y) refl
+      where
+        go : (b : Bool) → stops c y ≡ b → stops c y ≡ false
+        go true h = absurd (moves (sym e ∙ halts_move c y h))
+        go false h = h
+
+    either : (m : LockMove) → call_move c y ≡ m → Tells s p past (Call n c y)
+    either NoMove e = still_tells s limit p past n c y r k lane e
+    either (Gets x) e = let d : Gets x ≡ NoMove → ⊥ = λ q. differ_gets q in moved_tells s limit p past n c y r k (move_stays (Gets x) e d) (Gets x) e d
+      where
+        differ_gets : Gets x ≡ NoMove → ⊥
+        differ_gets q = cc
+    either (Spins x) e = let d : Spins x ≡ NoMove → ⊥ = λ q. differ_spins q in moved_tells s limit p past n c y r k (move_stays (Spins x) e d) (Spins x) e d
+      where
+        differ_spins : Spins x ≡ NoMove → ⊥
+        differ_spins q = cc
+    either (Frees x) e = let d : Frees x ≡ NoMove → ⊥ = λ q. differ_frees q in moved_tells s limit p past n c y r k (move_stays (Frees x) e d) (Frees x) e d
+      where
+        differ_frees : Frees x ≡ NoMove → ⊥
+        differ_frees q = cc
 
 -- ---- a wait that is taken up again
 
@@ -406,7 +511,7 @@ end_level t n f (g ∷ (x ∷ fs)) h e b =
     let named : (g.name == n) ≡ true = eq-eqb g.name n (ap (λ (x : Frame). x.name) same ∙ sym e) in
     rw (named, b.0.0) refl
 
-after_null : (x : Frames) → is_null x.own ≡ true → after_in x ≡ first_level [] (tail_of (thread_part x))
+after_null : (x : Frames) → is_null x.own ≡ true → ended_level_in x ≡ first_level [] (tail_of (thread_part x))
 after_null x h =
     ap (λ (b : Bool). if b then first_level [] (tail_of (thread_part x)) else first_level (tail_of x.own) (thread_part x)) h
 
@@ -419,7 +524,7 @@ end_tells s limit p past n f r h e own =
     thread_level s limit p past t.0 (End n) r t.1 refl t.1 (without_null n (own_frames p past) null)
     ∙ (end_level t.0 n f (thread_part (frames_of s p past)) (part_head (frames_of s p past) f h null) e b.2 ∙ sym (after_null (frames_of s p past) null))
 
-base_not_own : (b : Body) → is_base_body b ≡ true → is_own_body b ≡ false
+pub base_not_own : (b : Body) → is_base_body b ≡ true → is_own_body b ≡ false
 base_not_own (OnBase t) h = refl
 base_not_own b h = cc
 
@@ -536,6 +641,7 @@ next_job_tells : (s : Script) (limit : ℕ) (p : CpuNo) (past : List Event) (j :
 next_job_tells s limit p past (CallJob c) r n is = λ k. call_tells s limit p past _ c _ r k is
 next_job_tells s limit p past (FireJob d) r n is =
     λ k. kept_tells s p past (Fire d (reply s (stand_at s p past) (lanes_at s past) (Queue d))) refl
+next_job_tells s limit p past (FreeJob c) r n is = λ k. free_tells s limit p past _ c r k
 next_job_tells s limit p past DrainJob r n is =
     let keys : Option What = option_map expire_key (when (owes_sweep p past) (first_due (timers_at s past))) in
     let dpcs : Option What = begin_first OrdinaryPart (queue_at (lanes_at s past) p) in

@@ -3,22 +3,22 @@ use Rattle.std.proofs.Common.{ap, inl, inr, subst, sym, ◌∙◌}
 use Rattle.std.specs.Option.{option_or}
 use Rattle.std.specs.Prelude.{Bool, List, None, Option, Some, [], false, if◌then◌else◌, length, not, refl, true, ℕ, ◌==◌, ◌∷◌, ◌≡◌, ◌⊎◌}
 use Rattle.nt_event.specs.declared.commands.Command.{Command}
-use Rattle.nt_event.specs.declared.commands.Command.TheVariants.{Alert, CancelTimer, Delay, InsertApc, Queue, Raise, Release, RemoveApc, SetTimer, StartWait, TestAlert, Unqueue, Yield}
+use Rattle.nt_event.specs.declared.commands.Command.TheVariants.{Acquire, Alert, CancelTimer, Delay, InsertApc, Queue, Raise, Release, RemoveApc, SetTimer, StartWait, TestAlert, Unqueue, Yield}
 use Rattle.nt_event.specs.declared.commands.Refusal.{Refusal}
 use Rattle.nt_event.specs.declared.commands.Refusal.TheVariants.{NotThread}
 use Rattle.nt_event.specs.declared.commands.Regions.{Regions}
 use Rattle.nt_event.specs.declared.commands.Reply.{Reply}
-use Rattle.nt_event.specs.declared.commands.Reply.TheVariants.{Blocked, Done, Refused}
+use Rattle.nt_event.specs.declared.commands.Reply.TheVariants.{Blocked, Done, Refused, Spin}
 use Rattle.nt_event.specs.declared.events.Begun.TheVariants.{Apc, Dpc, Int, Threaded}
 use Rattle.nt_event.specs.declared.events.Event.{Event}
 use Rattle.nt_event.specs.declared.events.What.{What}
-use Rattle.nt_event.specs.declared.events.What.TheVariants.{Begin, Call, End}
-use Rattle.nt_event.specs.declared.frames.Frame.{Frame}
+use Rattle.nt_event.specs.declared.events.What.TheVariants.{Begin, Call, End, Free}
+use Rattle.nt_event.specs.Frame.{Frame}
 use Rattle.nt_event.specs.declared.jobs.Stand.{Stand}
 use Rattle.nt_event.specs.declared.numbers.CpuNo.{CpuNo}
 use Rattle.nt_event.specs.declared.scripts.Script.{Script}
 use Rattle.nt_event.specs.Commands.{refusal, refuse, reply}
-use Rattle.nt_event.specs.Frames.{at_name, called, done_to, due_of, own_after, own_frames, thread_part, time, without}
+use Rattle.nt_event.specs.Frames.{at_name, called, done_to, due_of, freed, own_after, own_frames, thread_part, time, without}
 use Rattle.nt_event.specs.Jobs.{level_at}
 use Rattle.nt_event.specs.Lanes.{Lanes, lanes_at}
 use Rattle.nt_event.specs.Own.{Own, own_of, stand_in}
@@ -42,6 +42,10 @@ yes_blocked : (b : Bool) → yes_if b ≡ Blocked → ⊥
 yes_blocked true h = cc
 yes_blocked false h = cc
 
+spin_blocked : (b : Bool) → (if b then Done else Spin) ≡ Blocked → ⊥
+spin_blocked true h = cc
+spin_blocked false h = cc
+
 reply_blocked : (s : Script) (st : Stand) (l : Lanes) (c : Command) → reply s st l c ≡ Blocked → is_wait c ≡ true
 reply_blocked s st l (StartWait m a) h = refl
 reply_blocked s st l (Delay m a u) h = refl
@@ -54,6 +58,7 @@ reply_blocked s st l (RemoveApc a) h = absurd (yes_blocked _ h)
 reply_blocked s st l (Release t) h = absurd (yes_blocked _ h)
 reply_blocked s st l (Alert t m) h = absurd (yes_blocked _ h)
 reply_blocked s st l (TestAlert m) h = absurd (yes_blocked _ h)
+reply_blocked s st l (Acquire k) h = absurd (spin_blocked _ h)
 reply_blocked s st l c h = cc
 
 -- an accepted wait or yield is called on a thread's part
@@ -170,6 +175,7 @@ own_again s p x l n due (Call f c y) [] e k h = h
 own_again s p x l n due (Call f c y) (g ∷ fs) e k h =
     named_again f (called due c y) (g ∷ fs) (λ x'. effect_again due c y x' (own_no_wait s p x l f c y (k refl) (ap (λ (gs : List Frame). is_null gs) e))) h
 own_again s p x l n due (End f) fs e k h = without_again f fs h
+own_again s p x l n due (Free f c) fs e k h = named_again f freed fs (λ x'. refl) h
 own_again s p x l n due w fs e k h = h
 
 pub none_again : (s : Script) (limit : ℕ) (p : CpuNo) (past : List Event) → IsRun s limit past → NoneAgain (own_frames p past)

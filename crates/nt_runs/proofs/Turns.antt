@@ -17,12 +17,12 @@ use Rattle.nt_event.specs.declared.events.What.{What}
 use Rattle.nt_event.specs.declared.events.What.TheVariants.{Begin, Call, Clean, Flush, Gone, Look, Normal, Rest, Rewait, Switch}
 use Rattle.nt_event.specs.declared.frames.Body.{Body}
 use Rattle.nt_event.specs.declared.frames.Body.TheVariants.{Apc as OnApc, Base as OnBase}
-use Rattle.nt_event.specs.declared.frames.Frame.{Frame}
+use Rattle.nt_event.specs.Frame.{Frame}
 use Rattle.nt_event.specs.declared.inserts.Insert.{Insert}
 use Rattle.nt_event.specs.declared.inserts.Part.{Part}
 use Rattle.nt_event.specs.declared.inserts.Part.TheVariants.{Ordinary as OrdinaryPart, Threaded as ThreadedPart}
 use Rattle.nt_event.specs.declared.jobs.Job.{Job}
-use Rattle.nt_event.specs.declared.jobs.Job.TheVariants.{Apcs as ApcsJob, Call as CallJob, Drain as DrainJob, Fire as FireJob, Idle as IdleJob, Leave as LeaveJob, Pick as PickJob, Rewait as RewaitJob, Rundown as RundownJob, Switch as SwitchJob, Threaded as ThreadedJob, ToUser as ToUserJob, UserEnd as UserEndJob}
+use Rattle.nt_event.specs.declared.jobs.Job.TheVariants.{Apcs as ApcsJob, Call as CallJob, Drain as DrainJob, Fire as FireJob, Free as FreeJob, Idle as IdleJob, Leave as LeaveJob, Pick as PickJob, Rewait as RewaitJob, Rundown as RundownJob, Switch as SwitchJob, Threaded as ThreadedJob, ToUser as ToUserJob, UserEnd as UserEndJob}
 use Rattle.nt_event.specs.declared.jobs.Stand.{Stand}
 use Rattle.nt_event.specs.declared.jobs.Task.{Task}
 use Rattle.nt_event.specs.declared.jobs.Task.TheVariants.{Alone, Shared}
@@ -31,7 +31,7 @@ use Rattle.nt_event.specs.declared.scripts.Script.{Script}
 use Rattle.nt_event.specs.Apcs.{deliverable, first_user}
 use Rattle.nt_event.specs.Commands.{needs_lane}
 use Rattle.nt_event.specs.Frames.{innermost}
-use Rattle.nt_event.specs.Jobs.{begin_apc, begin_dpc, begin_first, call_task, command_task, end_task, expire_key, fire_task, frame_task, has_normal, idle_event, idle_task, interrupt_task, job_event, may_apcs, may_drain, may_interrupt, may_threaded, must_task, next_what, normal_task, ready, rewait_reply, rewait_task, rundown_event, rundown_task, task, task_event, user_due}
+use Rattle.nt_event.specs.Jobs.{begin_apc, begin_dpc, begin_first, call_task, command_task, end_task, expire_key, fire_task, frame_task, free_task, go_on_task, has_normal, idle_event, idle_task, interrupt_task, job_event, may_apcs, may_drain, may_interrupt, may_threaded, must_task, next_what, normal_task, ready, rewait_reply, rewait_task, rundown_event, rundown_task, task, task_event, user_due, waits_for_lock}
 use Rattle.nt_event.specs.Classes.{interrupt_classes}
 use Rattle.nt_event.specs.Lanes.{Lanes, facts_at, facts_of, lanes_at, queue_at}
 use Rattle.nt_event.specs.Own.{Own, own_of, stand_in}
@@ -39,7 +39,7 @@ use Rattle.nt_event.specs.Queues.{QueueState, first_dpc}
 use Rattle.nt_event.specs.Routines.{next_command}
 use Rattle.nt_event.specs.Step.{IsRun, step, turn_at, turn_of, turns}
 use Rattle.nt_event.specs.Timers.{first_due}
-use Rattle.nt_event.specs.Lists.{is_null, value_at, when}
+use Rattle.nt_event.specs.Lists.{head_of, is_null, value_at, when}
 use Rattle.nt_event.proofs.Options.{Holds, holds_at, holds_else, holds_map, holds_or, holds_then, holds_when}
 use Rattle.nt_runs.proofs.Steps.{Gives, look_gives, next_gives, switch_gives}
 
@@ -78,6 +78,7 @@ idle_next s st l =
 job_next : (s : Script) (st : Stand) (l : Lanes) (j : Job) → is_chosen j ≡ false → Holds IsNext (job_event s st l j)
 job_next s st l (CallJob c) h = refl
 job_next s st l (FireJob d) h = refl
+job_next s st l (FreeJob k) h = refl
 job_next s st l DrainJob h =
     holds_else IsNext (option_or (option_map expire_key (when st.sweep (first_due l.timers))) (begin_first OrdinaryPart (queue_at l st.cpu))) (Clean 2)
     (holds_or IsNext (option_map expire_key (when st.sweep (first_due l.timers))) (begin_first OrdinaryPart (queue_at l st.cpu))
@@ -133,14 +134,16 @@ frame_next s p x f =
     holds_or NextTask (rewait_task f) _ (holds_when NextTask (is_some f.again) (Some (Shared RewaitJob)) (λ h. refl))
     (λ e. holds_or NextTask (rundown_task f) _ (holds_when NextTask f.leaving (Some (Shared RundownJob)) (λ h. refl))
     (λ k. holds_or NextTask (command_task x f (next_command s p f)) _ (command_next x f (next_command s p f))
-    (λ k2. holds_or NextTask (normal_task f) _ (holds_when NextTask (f.kernel_phase && has_normal f.body) (Some (Alone (Normal f.name))) (λ h. refl))
-    (λ k3. end_next f.name f.body))))
+    (λ k2. holds_or NextTask (free_task f) _ (holds_map NextTask (λ h. Shared (FreeJob h.lock)) (head_of f.held) (λ h e. refl))
+    (λ k4. holds_or NextTask (normal_task f) _ (holds_when NextTask (f.kernel_phase && has_normal f.body) (Some (Alone (Normal f.name))) (λ h. refl))
+    (λ k3. end_next f.name f.body)))))
 
 pub task_next : (s : Script) (p : CpuNo) (x : Own) → Holds NextTask (task s p x)
 task_next s p x =
-    holds_or NextTask (must_task x) _ (must_next x) (λ e. holds_or NextTask (option_and_then (frame_task s p x) (innermost x.frames)) (idle_task x)
+    holds_or NextTask (must_task x) _ (must_next x) (λ e. holds_when NextTask (not (waits_for_lock x)) (go_on_task s p x)
+    (λ q. holds_or NextTask (option_and_then (frame_task s p x) (innermost x.frames)) (idle_task x)
     (holds_then NextTask (frame_task s p x) (innermost x.frames) (λ f k. frame_next s p x f))
-    (λ k. holds_when NextTask (not (x.rested && is_none x.frames.running)) (Some (Shared IdleJob)) (λ h. refl)))
+    (λ k. holds_when NextTask (not (x.rested && is_none x.frames.running)) (Some (Shared IdleJob)) (λ h. refl))))
 
 pub next_is_next : (s : Script) (p : CpuNo) (x : Own) (l : Lanes) → Holds (λ w. is_next w ≡ true) (next_what s p x l)
 next_is_next s p x l =

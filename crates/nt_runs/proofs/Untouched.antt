@@ -1,24 +1,24 @@
 -- An event changes the states of its own lanes only.
-use Rattle.std.proofs.Common.{ap, arith, sym, ◌∙◌}
+use Rattle.std.proofs.Common.{ap, arith, inl, inr, sym, ◌∙◌}
 use Rattle.std.proofs.lemmas.Bool.{eq-eqb, eqb-true, ltb-false, ltb-true}
 use Rattle.std.specs.List.{list_any}
 use Rattle.std.specs.Option.{option_map_or}
-use Rattle.std.specs.Prelude.{Bool, List, None, Option, Some, [], false, get_or, if◌then◌else◌, is_some, length, nat_lt, option_and_then, option_map, refl, slice_get, suc, true, zero, ℕ, ◌&&◌, ◌+◌, ◌<◌, ◌==◌, ◌||◌, ◌∷◌, ◌≡◌, ◌≤◌}
+use Rattle.std.specs.Prelude.{Bool, List, None, Option, Some, [], false, get_or, if◌then◌else◌, is_some, length, nat_lt, option_and_then, option_map, refl, slice_get, suc, true, zero, ℕ, ◌&&◌, ◌+◌, ◌<◌, ◌==◌, ◌||◌, ◌∷◌, ◌≡◌, ◌≤◌, ◌⊎◌}
 use Rattle.nt_event.specs.declared.commands.ApcKind.TheVariants.{User as UserApc}
-use Rattle.nt_event.specs.declared.commands.Command.TheVariants.{Alert, CancelTimer, Clock, Delay, InsertApc, Queue, Release, RemoveApc, SetImportance, SetTarget, SetTimer, StartWait, TestAlert, Unqueue, Yield}
+use Rattle.nt_event.specs.declared.commands.Command.TheVariants.{Acquire, Alert, CancelTimer, Clock, Delay, InsertApc, Queue, Release, RemoveApc, SetImportance, SetTarget, SetTimer, StartWait, TestAlert, Unlock, Unqueue, Yield}
 use Rattle.nt_event.specs.declared.commands.Refusal.{Refusal}
-use Rattle.nt_event.specs.declared.commands.Reply.TheVariants.{Blocked, Done, Refused, Yes}
+use Rattle.nt_event.specs.declared.commands.Reply.TheVariants.{Blocked, Done, Refused, Spin, Yes}
 use Rattle.nt_event.specs.declared.commands.TimerKey.TheVariants.{Delay as OfDelay, Timer as OfTimer}
 use Rattle.nt_event.specs.declared.events.Begun.TheVariants.{Apc, Dpc, Threaded}
 use Rattle.nt_event.specs.declared.events.Event.{Event}
 use Rattle.nt_event.specs.declared.events.What.{What}
-use Rattle.nt_event.specs.declared.events.What.TheVariants.{Begin, Call, End, Expire, Fire, Flush, Gone, Rest, Rewait, Switch}
+use Rattle.nt_event.specs.declared.events.What.TheVariants.{Begin, Call, End, Expire, Fire, Flush, Free, Gone, Rest, Rewait, Switch}
 use Rattle.nt_event.specs.declared.frames.Body.{Body}
 use Rattle.nt_event.specs.declared.frames.Body.TheVariants.{Apc as OnApc, Base as OnBase}
 use Rattle.nt_event.specs.declared.inserts.Setting.{Setting}
 use Rattle.nt_event.specs.declared.inserts.Standing.{Standing}
 use Rattle.nt_event.specs.declared.jobs.Lane.{Lane}
-use Rattle.nt_event.specs.declared.jobs.Lane.TheVariants.{Object as ObjectLane, Queue as QueueLane, Threads as ThreadsLane, Timers as TimersLane}
+use Rattle.nt_event.specs.declared.jobs.Lane.TheVariants.{Lock as LockLane, Object as ObjectLane, Queue as QueueLane, Threads as ThreadsLane, Timers as TimersLane}
 use Rattle.nt_event.specs.declared.jobs.Stand.{Stand}
 use Rattle.nt_event.specs.declared.numbers.CpuNo.{CpuNo}
 use Rattle.nt_event.specs.declared.numbers.DpcNo.{DpcNo}
@@ -28,7 +28,7 @@ use Rattle.nt_event.specs.declared.scripts.Script.{Script}
 use Rattle.nt_event.specs.declared.scripts.ThreadDecl.{ThreadDecl}
 use Rattle.nt_event.specs.Apcs.{without_apc}
 use Rattle.nt_event.specs.Frames.{time, time_after}
-use Rattle.nt_event.specs.LaneStates.{OfObject, OfQueue, OfThreads, OfTimers, content, lane_state, threads_from, told_table}
+use Rattle.nt_event.specs.LaneStates.{OfLock, OfObject, OfQueue, OfThreads, OfTimers, content, lane_state, threads_from, told_table}
 use Rattle.nt_event.specs.Lanes.{Lanes, end_lanes, facts_at, lane_if, lanes_at, object_at, same_lane, standing_lanes, touches, what_lanes}
 use Rattle.nt_event.specs.Objects.{ObjectState, object_after, object_of, queue_for, start_object}
 use Rattle.nt_event.specs.Queues.{QueueState, is_queue, queue_after, queue_of, start_queue}
@@ -38,11 +38,13 @@ use Rattle.nt_event.specs.Routines.{cpu_of, owner_of}
 use Rattle.nt_event.specs.Threads.{ThreadFacts, start_facts}
 use Rattle.nt_event.specs.Timers.{Timers, blocked_after, delay_set, delay_setting, expired_delay, timer_after, timer_setting, timers_at}
 use Rattle.nt_event.specs.Waits.{alert_facts, expiry_facts, facts, frame_ended, insert_facts, is_of_thread, made_facts, named_facts, new_pick, release_facts}
-use Rattle.nt_event.specs.Numbers.{cpu, dpc, is_of, thread, timer}
+use Rattle.nt_event.specs.Numbers.{cpu, dpc, is_of, lock, thread, timer}
 use Rattle.nt_event.specs.Replies.{is_answer}
 use Rattle.nt_event.specs.Lists.{table, table_from}
 use Rattle.nt_event.proofs.Options.{both}
 use Rattle.nt_event.proofs.Tables.{get_or-table, table-same}
+use Rattle.nt_event.specs.Locks.{Frees, Gets, LockMove, LockState, Spins, lock_move, lock_moved, lock_of, start_lock}
+use Rattle.nt_event.specs.declared.numbers.LockNo.{LockNo}
 
 pub past_table : {A : Type 0} (k n i : ℕ) (f : ℕ → A) (d : A) → n ≤ i → get_or (table_from k n f) i d ≡ d
 unfolding table_from
@@ -269,6 +271,22 @@ timers_untouched s e past h = λ i. record { now = n i; timers = t i; delays = d
     d : table (length s.threads) (λ t. delay_setting s (thread t) (e ∷ past)) ≡ table (length s.threads) (λ t. delay_setting s (thread t) past)
     d = table-same _ _ _ (λ k l. delay_untouched s (thread k) e past h)
 
+-- ---- spin locks
+
+lock_other : (s : Script) (k : LockNo) (p : CpuNo) (m : LockMove) (x : LockNo) (old : LockState) → ((x.0 == k.0) || false) ≡ false →
+    (m ≡ Gets x) ⊎ ((m ≡ Spins x) ⊎ (m ≡ Frees x)) → lock_moved s k p m old ≡ old
+lock_other s k p m x old h (inl e) = let n : (x.0 == k.0) ≡ false = first_false _ false h in rw (e, n) refl
+lock_other s k p m x old h (inr (inl e)) = let n : (x.0 == k.0) ≡ false = first_false _ false h in rw (e, n) refl
+lock_other s k p m x old h (inr (inr e)) = let n : (x.0 == k.0) ≡ false = first_false _ false h in rw (e, n) refl
+
+lock_untouched : (s : Script) (st : Stand) (w : What) (l : Lanes) (k : LockNo) (p : CpuNo) (old : LockState) →
+    list_any (same_lane (LockLane k)) (what_lanes s st w l) ≡ false → lock_moved s k p (lock_move w) old ≡ old
+lock_untouched s st (Call f (Acquire x) Done) l k p old h = lock_other s k p (Gets x) x old h (inl refl)
+lock_untouched s st (Call f (Acquire x) Spin) l k p old h = lock_other s k p (Spins x) x old h (inr (inl refl))
+lock_untouched s st (Call f (Unlock x) Done) l k p old h = lock_other s k p (Frees x) x old h (inr (inr refl))
+lock_untouched s st (Free f x) l k p old h = lock_other s k p (Frees x) x old h (inr (inr refl))
+lock_untouched s st w l k p old h = refl
+
 -- ---- a lane's state
 
 content_untouched : (s : Script) (x : Lane) (e : Event) (past : List Event) → touches s x e past ≡ false → content s (lanes_at s (e ∷ past)) x
@@ -285,6 +303,9 @@ content_untouched s (ThreadsLane p) e past h =
     (λ t own. read_same (length s.threads) t.0 (λ t. facts s (thread t) (e ∷ past)) (λ t. facts s (thread t) past) start_facts
     (λ l. facts_untouched s p t e past own h)))
 content_untouched s TimersLane e past h = ap (λ (x : Timers). OfTimers x) (timers_untouched s e past h)
+content_untouched s (LockLane k) e past h =
+    ap (λ (x : LockState). OfLock x) (read_same s.locks k.0 (λ k. lock_of s (lock k) (e ∷ past)) (λ k. lock_of s (lock k) past) start_lock
+    (λ l. lock_untouched s (stand_at s e.cpu past) e.what (lanes_at s past) k e.cpu (lock_of s k past) h))
 
 told_untouched : (s : Script) (x : Lane) (e : Event) (past : List Event) (p : CpuNo) (c : ℕ) → touches s x e past ≡ false → told_by s x p c (e ∷ past)
     ≡ told_by s x p c past

@@ -7,17 +7,17 @@ use Rattle.nt_event.specs.declared.commands.Refusal.TheVariants.{NotBase, NotThr
 use Rattle.nt_event.specs.declared.events.Begun.TheVariants.{Apc}
 use Rattle.nt_event.specs.declared.events.Event.{Event}
 use Rattle.nt_event.specs.declared.events.What.{What}
-use Rattle.nt_event.specs.declared.events.What.TheVariants.{Begin, Call, End, Flush, Gone, Normal, Rewait, Switch}
+use Rattle.nt_event.specs.declared.events.What.TheVariants.{Begin, Call, End, Flush, Free, Gone, Normal, Rewait, Switch}
 use Rattle.nt_event.specs.declared.frames.Body.{Body}
 use Rattle.nt_event.specs.declared.frames.Body.TheVariants.{Apc as OnApc, Base as OnBase, Rundown as OnRundown}
-use Rattle.nt_event.specs.declared.frames.Frame.{Frame}
+use Rattle.nt_event.specs.Frame.{Frame}
 use Rattle.nt_event.specs.declared.numbers.ApcNo.{ApcNo}
 use Rattle.nt_event.specs.declared.numbers.CpuNo.{CpuNo}
 use Rattle.nt_event.specs.declared.numbers.RoutineNo.{RoutineNo}
 use Rattle.nt_event.specs.declared.numbers.ThreadNo.{ThreadNo}
 use Rattle.nt_event.specs.declared.scripts.Script.{Script}
 use Rattle.nt_event.specs.Commands.{not_above, refuse}
-use Rattle.nt_event.specs.Frames.{Frames, at_name, called, due_of, end_on_thread, flushed, frames_of, is_base_body, is_on_thread, is_user_apc_body, ended_base, new_frame, normal_of, resumed, rewaited, running, switched_to, thread_after, thread_frames, thread_part, time}
+use Rattle.nt_event.specs.Frames.{Frames, at_name, called, due_of, end_on_thread, ended_base, flushed, frames_of, freed, is_base_body, is_on_thread, is_user_apc_body, new_frame, normal_of, resumed, rewaited, running, switched_to, thread_after, thread_frames, thread_part, time}
 use Rattle.nt_event.specs.Jobs.{level_at, may_apcs}
 use Rattle.nt_event.specs.Lanes.{Lanes, lanes_at}
 use Rattle.nt_runs.specs.Laws.{level_of}
@@ -30,7 +30,7 @@ use Rattle.nt_event.specs.Lists.{is_null}
 use Rattle.nt_runs.proofs.Facts.{level_on_thread}
 use Rattle.nt_runs.proofs.Known.{Known, KnownBegin, KnownToUser, legal_known}
 use Rattle.nt_event.proofs.Options.{both}
-use Rattle.nt_runs.proofs.Running.{Keeps, called_keeps, frames_when, normal_keeps, part_of_running, resumed_keeps, rewaited_keeps, running_here, same_cpu, same_thread, thread_named}
+use Rattle.nt_runs.proofs.Running.{Keeps, called_keeps, frames_when, freed_keeps, normal_keeps, part_of_running, resumed_keeps, rewaited_keeps, running_here, same_cpu, same_thread, thread_named}
 use Rattle.nt_runs.proofs.Stops.{null_of, refuse_none}
 use Rattle.nt_runs.proofs.Turns.{is_next}
 
@@ -101,6 +101,7 @@ after_user s n due (Call f c y) fs l h = named_user f (called due c y) fs (calle
 after_user s n due (Rewait f y) fs l h = named_user f (rewaited y) fs (rewaited_keeps y) h
 after_user s n due (Normal f) fs l h = named_user f normal_of fs normal_keeps h
 after_user s n due (End f) fs l h = end_user f fs h
+after_user s n due (Free f k) fs l h = named_user f freed fs freed_keeps h
 after_user s n due (Gone t) fs l h = tt
 after_user s n due w fs l h = h
 

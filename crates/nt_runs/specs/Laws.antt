@@ -5,14 +5,14 @@ use Rattle.nt_event.specs.declared.events.Event.{Event}
 use Rattle.nt_event.specs.declared.events.Turn.{Turn}
 use Rattle.nt_event.specs.declared.events.What.{What}
 use Rattle.nt_event.specs.declared.frames.Body.TheVariants.{Base as OnBase}
-use Rattle.nt_event.specs.declared.frames.Frame.{Frame}
+use Rattle.nt_event.specs.Frame.{Frame}
 use Rattle.nt_event.specs.declared.numbers.CpuNo.{CpuNo}
 use Rattle.nt_event.specs.declared.numbers.ThreadNo.{ThreadNo}
 use Rattle.nt_event.specs.declared.scripts.Script.{Script}
 use Rattle.nt_event.specs.declared.threads.Doing.{Doing}
 use Rattle.nt_event.specs.declared.threads.Doing.TheVariants.{Blocked as IsBlocked, Gone as IsGone, Ready as IsReady, Running as IsRunning}
 use Rattle.nt_event.specs.Frames.{due_of, frames_of, is_base_body, level_in, running, thread_frames, thread_part, time}
-use Rattle.nt_event.specs.Jobs.{chosen_what, rests, job_event}
+use Rattle.nt_event.specs.Jobs.{chosen_what, is_still, job_event}
 use Rattle.nt_event.specs.Lanes.{lanes_after, lanes_at}
 use Rattle.nt_event.specs.Own.{own_after_event, own_of}
 use Rattle.nt_event.specs.Regions.{regions_of, stand_at}
@@ -92,10 +92,10 @@ ChosenIsItsTurn = (s : Script) (limit : ℕ) (p : CpuNo) (past : List Event) (w 
     chosen_what s p (own_of s p past) (lanes_at s past) ≡ Some w →
     step s limit (go_on_turn s p (own_of s p past) (lanes_at s past)) past ≡ Ok (event_at s p w (frames_of s p past))
 
--- and there is such an event exactly where the processor doesn't rest
+-- and there is such an event exactly where the processor neither rests nor spins still
 abbrev pub ChosenComes : Type 0
 ChosenComes = (s : Script) (limit : ℕ) (p : CpuNo) (past : List Event) → IsRun s limit past →
-    is_some (chosen_what s p (own_of s p past) (lanes_at s past)) ≡ not (rests (own_of s p past))
+    is_some (chosen_what s p (own_of s p past) (lanes_at s past)) ≡ not (is_still (own_of s p past))
 
 -- the level of the innermost frame of a thread
 abbrev pub level_of : List Frame → ℕ

@@ -56,7 +56,7 @@ pub fn chosen_is_its_turn()
     ensures { ChosenIsItsTurn }
 {}
 
-/// In a run, a processor that picks its threads itself has something to do exactly where it does not rest.
+/// In a run, a processor that picks its threads itself has something to do exactly where it neither rests nor spins still.
 pub fn chosen_comes()
     ensures { ChosenComes }
 {}

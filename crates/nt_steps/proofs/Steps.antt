@@ -10,7 +10,7 @@ use Rattle.nt_event.proofs.Options.{both}
 use Rattle.nt_event.specs.Acting.{IsDue, acted_event, is_choice}
 use Rattle.nt_event.specs.Classes.{is_used_class}
 use Rattle.nt_event.specs.Frames.{frames_of}
-use Rattle.nt_event.specs.Jobs.{chosen_task, chosen_what, job_event, may_switch, next_ready, rests, task, task_event}
+use Rattle.nt_event.specs.Jobs.{chosen_task, chosen_what, is_still, job_event, may_switch, next_ready, task, task_event}
 use Rattle.nt_event.specs.Lanes.{Lanes, lanes_at}
 use Rattle.nt_event.specs.Lists.{table_from, value_at}
 use Rattle.nt_event.specs.Numbers.{cpu}
@@ -102,7 +102,7 @@ module _ (s : Script) (limit : ℕ) (p : CpuNo) (past : List Event) (run : IsRun
 
   -- a job that the processor chooses is due
   chosen_due : (job : Job) → chosen_task s p (own_of s p past) ≡ Some (Shared job) → IsDue s p (own_of s p past) job
-  chosen_due job h = go (rests (own_of s p past)) (may_switch (own_of s p past)) refl h
+  chosen_due job h = go (is_still (own_of s p past)) (may_switch (own_of s p past)) refl h
     where
       go : (b m : Bool) → may_switch (own_of s p past) ≡ m →
           (if b then None else (if m then Some (Shared (PickJob (own_of s p past).took)) else task s p (own_of s p past))) ≡ Some (Shared job) →

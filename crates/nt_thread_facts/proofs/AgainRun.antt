@@ -1,6 +1,6 @@
 -- In a run each open frame of a thread tells whether its last wait event was interrupted.
 use Rattle.nt_event.proofs.Options.{both}
-use Rattle.nt_event.specs.Frames.{at_name, called, due_of, end_on_thread, ended_base, ended_on_thread, flushed, frames_of, innermost, is_base_body, new_frame, normal_of, own_frames, resumed, rewaited, running, switched_to, thread_after, thread_frames, time}
+use Rattle.nt_event.specs.Frames.{at_name, called, due_of, end_on_thread, ended_base, ended_on_thread, flushed, frames_of, freed, innermost, is_base_body, new_frame, normal_of, own_frames, resumed, rewaited, running, switched_to, thread_after, thread_frames, time}
 use Rattle.nt_event.specs.Jobs.{ready}
 use Rattle.nt_event.specs.Lanes.{lanes_at}
 use Rattle.nt_event.specs.Lists.{is_null}
@@ -19,11 +19,11 @@ use Rattle.nt_event.specs.declared.commands.Reply.TheVariants.{Blocked, Done, St
 use Rattle.nt_event.specs.declared.events.Begun.TheVariants.{Apc}
 use Rattle.nt_event.specs.declared.events.Event.{Event}
 use Rattle.nt_event.specs.declared.events.What.{What}
-use Rattle.nt_event.specs.declared.events.What.TheVariants.{Begin, Call, End, Flush, Gone, Normal, Rewait, Switch}
+use Rattle.nt_event.specs.declared.events.What.TheVariants.{Begin, Call, End, Flush, Free, Gone, Normal, Rewait, Switch}
 use Rattle.nt_event.specs.declared.frames.Again.{Again}
 use Rattle.nt_event.specs.declared.frames.Body.{Body}
 use Rattle.nt_event.specs.declared.frames.Body.TheVariants.{Apc as OnApc, Rundown as OnRundown}
-use Rattle.nt_event.specs.declared.frames.Frame.{Frame}
+use Rattle.nt_event.specs.Frame.{Frame}
 use Rattle.nt_event.specs.declared.numbers.ApcNo.{ApcNo}
 use Rattle.nt_event.specs.declared.numbers.CpuNo.{CpuNo}
 use Rattle.nt_event.specs.declared.numbers.RoutineNo.{RoutineNo}
@@ -39,7 +39,7 @@ use Rattle.nt_readings.specs.Frames.{NamesFall, is_switch_event}
 use Rattle.nt_readings.specs.Phases.{is_wait_reply}
 use Rattle.nt_readings.specs.Regions.{EachFrame, renews}
 use Rattle.nt_runs.proofs.Facts.{agree}
-use Rattle.nt_runs.proofs.Known.{Known, KnownCall, KnownEnd, KnownNormal, KnownRewait, again_known, legal_known}
+use Rattle.nt_runs.proofs.Known.{Known, KnownCall, KnownEnd, KnownFree, KnownNormal, KnownRewait, again_known, legal_known}
 use Rattle.nt_runs.proofs.Names.{Apart, NotAmong, all_named, called_name}
 use Rattle.nt_runs.proofs.Running.{same_cpu, same_thread, thread_named}
 use Rattle.nt_runs.proofs.Stops.{blocked_call, effect_again, none_again, rewait_on_thread}
@@ -266,19 +266,27 @@ module _ (s : Script) (limit : ℕ) (t : ThreadNo) (e : Event) (past : List Even
   quiet_step : (w : What) → e.what ≡ w → ((n : ℕ) → is_wait_event n w ≡ false) → ((n : ℕ) → renews n w ≡ false) → Inv s t (e ∷ past) IsRunning fs
   quiet_step w k a b = inv_runs s t (e ∷ past) fs (each_aside s t e past fs (quiet_what w k a b) each)
 
-  -- a call that is no wait event keeps its frame's wait
+  -- an event that is no wait event and begins no phase anew keeps the wait of the frame that it names
+  plain_step : (m : ℕ) (w : What) (h : Frame → Frame) (d : Doing) → e.what ≡ w → running e.cpu past ≡ Some t →
+      (g : Frame) → innermost (frames_of s e.cpu past) ≡ Some g → m ≡ g.name → ((n : ℕ) → is_wait_event n w ≡ false) → ((n : ℕ) → renews n w ≡ false) →
+      ((f : Frame) → (h f).name ≡ f.name) → ((f : Frame) → (h f).again ≡ f.again) →
+      ((gs : List Frame) → EachTells s t (e ∷ past) gs → Inv s t (e ∷ past) d gs) → Inv s t (e ∷ past) d (at_name m h fs)
+  plain_step m w h d k run g inner name none same named again inv =
+      let side = quiet_what w k none same in
+      named_on m g h d (sym name) (named_where g inner run) (λ n q. side n) named (λ o x. inv fs x)
+      (λ rest l old x. inv (h g ∷ rest) (
+        keeps_frame g (h g) (named g) (again g) (tells_on s t g.name e past (is_some g.again) (side g.name).0 (side g.name).1 old),
+        x,
+      ))
+
+  -- so does such a call
   plain_call : (m : ℕ) (c : Command) (y : Reply) (d : Doing) → e.what ≡ Call m c y → running e.cpu past ≡ Some t →
       (g : Frame) → innermost (frames_of s e.cpu past) ≡ Some g → m ≡ g.name → ((n : ℕ) → is_wait_event n (Call m c y) ≡ false) →
       ((f : Frame) → (called (due_of e.what (time past)) c y f).again ≡ f.again) →
       ((gs : List Frame) → EachTells s t (e ∷ past) gs → Inv s t (e ∷ past) d gs) → Inv s t (e ∷ past) d (at_name m (called (due_of e.what (time past)) c y) fs)
   plain_call m c y d k run g inner name none again inv =
-      named_on m g (called (due_of e.what (time past)) c y) d (sym name) (named_where g inner run)
-      (λ n q. call_side m c y k n (λ z. q (z ∙ name))) (called_name (due_of e.what (time past)) c y) (λ o x. inv fs x)
-      (λ rest l old x. inv (called (due_of e.what (time past)) c y g ∷ rest) (
-        keeps_frame g (called (due_of e.what (time past)) c y g) (called_name (due_of e.what (time past)) c y g) (again g)
-            (tells_on s t g.name e past (is_some g.again) (quiet_what (Call m c y) k none (λ n. refl) g.name).0 (quiet_what (Call m c y) k none (λ n. refl) g.name).1 old),
-        x,
-      ))
+      plain_step m (Call m c y) (called (due_of e.what (time past)) c y) d k run g inner name none (λ n. refl)
+      (called_name (due_of e.what (time past)) c y) again inv
 
   unanswered : (m n : ℕ) (y : Reply) → is_wait_reply y ≡ false → ((m == n) && is_wait_reply y) ≡ false
   unanswered m n y h = ap (λ (b : Bool). (m == n) && b) h ∙ and_no (m == n)
@@ -427,6 +435,10 @@ module _ (s : Script) (limit : ℕ) (t : ThreadNo) (e : Event) (past : List Even
   running_step (Rewait m y) k h run = rewait_step m y k run (known_of (Rewait m y) k refl)
   running_step (Normal m) k h run = normal_step m k run (known_of (Normal m) k refl)
   running_step (End m) k h run = end_step m k run (known_of (End m) k refl)
+  running_step (Free m a) k h run =
+      let known : KnownFree s e.cpu (own_of s e.cpu past) m a = known_of (Free m a) k refl in
+      plain_step m (Free m a) freed IsRunning k run known.frame known.goes_on.inner known.name (λ n. refl) (λ n. refl) (λ f. refl) (λ f. refl)
+      (λ gs x. inv_runs s t (e ∷ past) gs x)
   running_step (Switch u st) k h run = cc
   running_step w k h run = quiet_step w k (λ n. refl) (λ n. refl)
 

@@ -11,7 +11,7 @@ use Rattle.nt_event.specs.declared.commands.Command.TheVariants.{Alert, Delay, I
 use Rattle.nt_event.specs.declared.commands.Mode.{Mode}
 use Rattle.nt_event.specs.declared.commands.Mode.TheVariants.{Kernel as KernelMode, User as UserMode}
 use Rattle.nt_event.specs.declared.commands.Reply.{Reply}
-use Rattle.nt_event.specs.declared.commands.Reply.TheVariants.{Blocked, Done, No, Refused, Status, Yes}
+use Rattle.nt_event.specs.declared.commands.Reply.TheVariants.{Blocked, Done, No, Refused, Spin, Status, Yes}
 use Rattle.nt_event.specs.declared.commands.TimerKey.TheVariants.{Delay as OfDelay}
 use Rattle.nt_event.specs.declared.events.Begun.TheVariants.{Apc}
 use Rattle.nt_event.specs.declared.events.What.{What}
@@ -79,12 +79,14 @@ again_doing n st f None Done x = refl
 again_doing n st f None Yes x = refl
 again_doing n st f None No x = refl
 again_doing n st f None (Refused r) x = refl
+again_doing n st f None Spin x = refl
 again_doing n st f (Some w) Blocked x = refl
 again_doing n st f (Some w) (Status k) x = answered_doing k w.mode w.alertable (is_some w.due) x
 again_doing n st f (Some w) Done x = refl
 again_doing n st f (Some w) Yes x = refl
 again_doing n st f (Some w) No x = refl
 again_doing n st f (Some w) (Refused r) x = refl
+again_doing n st f (Some w) Spin x = refl
 
 pub made_doing : (s : Script) (n : ℕ) (st : Stand) (w : What) (x : ThreadFacts) → (made_facts s n st w x).doing ≡ made_to n st w x.doing
 made_doing s n st (Switch u status) x = refl

@@ -13,7 +13,7 @@ use Rattle.nt_event.specs.declared.commands.Command.TheVariants.{Alert, Delay, I
 use Rattle.nt_event.specs.declared.commands.Mode.{Mode}
 use Rattle.nt_event.specs.declared.commands.Mode.TheVariants.{Kernel as KernelMode, User as UserMode}
 use Rattle.nt_event.specs.declared.commands.Reply.{Reply}
-use Rattle.nt_event.specs.declared.commands.Reply.TheVariants.{Blocked, Done, No, Refused, Status, Yes}
+use Rattle.nt_event.specs.declared.commands.Reply.TheVariants.{Blocked, Done, No, Refused, Spin, Status, Yes}
 use Rattle.nt_event.specs.declared.commands.TimerKey.TheVariants.{Delay as OfDelay}
 use Rattle.nt_event.specs.declared.events.Begun.TheVariants.{Apc}
 use Rattle.nt_event.specs.declared.events.Event.{Event}
@@ -309,6 +309,7 @@ module _ (s : Script) (t : ThreadNo) where
   unanswered_step n st Yes x (Some w) h = refl
   unanswered_step n st No x (Some w) h = refl
   unanswered_step n st (Refused r) x (Some w) h = refl
+  unanswered_step n st Spin x (Some w) h = refl
 
   step_made : (n : ℕ) (st : Stand) (w : What) (x : ThreadFacts) → Step s t n st true w x
   step_made n st (Call f (Release u) y) x = released_by (is_answer y && (u.0 == t.0)) (ends_by_release x) (is_gone x) x
@@ -331,6 +332,7 @@ module _ (s : Script) (t : ThreadNo) where
   step_made n st (Rewait f Yes) x = unanswered_step n st Yes x st.again refl
   step_made n st (Rewait f No) x = unanswered_step n st No x st.again refl
   step_made n st (Rewait f (Refused r)) x = unanswered_step n st (Refused r) x st.again refl
+  step_made n st (Rewait f Spin) x = unanswered_step n st Spin x st.again refl
   step_made n st (Call f Yield Done) x = refl
   step_made n st (Begin (Apc a) from) x = go (kind_of s a)
     where

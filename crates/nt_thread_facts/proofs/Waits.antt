@@ -18,7 +18,7 @@ use Rattle.nt_event.specs.declared.events.Turn.TheVariants.{Switch as SwitchTurn
 use Rattle.nt_event.specs.declared.events.What.{What}
 use Rattle.nt_event.specs.declared.events.What.TheVariants.{Call, Expire, Gone, Look, Rewait, Switch}
 use Rattle.nt_event.specs.declared.frames.Again.{Again}
-use Rattle.nt_event.specs.declared.frames.Frame.{Frame}
+use Rattle.nt_event.specs.Frame.{Frame}
 use Rattle.nt_event.specs.declared.jobs.Stand.{Stand}
 use Rattle.nt_event.specs.declared.numbers.CpuNo.{CpuNo}
 use Rattle.nt_event.specs.declared.numbers.ThreadNo.{ThreadNo}

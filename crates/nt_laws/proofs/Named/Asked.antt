@@ -5,13 +5,13 @@ use Rattle.std.specs.List.{list_any}
 use Rattle.std.specs.Prelude.{Bool, List, Option, Some, [], false, length, nat_le, nat_lt, refl, suc, true, ℕ, ◌&&◌, ◌++◌, ◌+◌, ◌==◌, ◌||◌, ◌∷◌, ◌≡◌}
 use Rattle.nt_event.specs.declared.commands.ApcKind.TheVariants.{Normal as NormalApc}
 use Rattle.nt_event.specs.declared.commands.Command.{Command}
-use Rattle.nt_event.specs.declared.commands.Command.TheVariants.{Alert, Clock, InsertApc, Interrupt, LeaveCrit, LeaveGuard, Queue, Release}
+use Rattle.nt_event.specs.declared.commands.Command.TheVariants.{Alert, Clock, InsertApc, Interrupt, LeaveCrit, LeaveGuard, Queue, Release, Unlock}
 use Rattle.nt_event.specs.declared.commands.Reply.{Reply}
 use Rattle.nt_event.specs.declared.commands.Reply.TheVariants.{Done, No, Yes}
 use Rattle.nt_event.specs.declared.commands.TimerKey.TheVariants.{Delay as OfDelay}
 use Rattle.nt_event.specs.declared.events.Event.{Event}
 use Rattle.nt_event.specs.declared.events.What.{What}
-use Rattle.nt_event.specs.declared.events.What.TheVariants.{Call, End, Expire, Fire, Normal, Switch}
+use Rattle.nt_event.specs.declared.events.What.TheVariants.{Call, End, Expire, Fire, Free, Normal, Switch}
 use Rattle.nt_event.specs.declared.frames.Body.{Body}
 use Rattle.nt_event.specs.declared.frames.Body.TheVariants.{Apc as OnApc, Base as OnBase}
 use Rattle.nt_event.specs.declared.inserts.Part.{Part}
@@ -20,12 +20,12 @@ use Rattle.nt_event.specs.declared.jobs.Stand.{Stand}
 use Rattle.nt_event.specs.declared.numbers.CpuNo.{CpuNo}
 use Rattle.nt_event.specs.declared.scripts.Script.{Script}
 use Rattle.nt_event.specs.Apcs.{has_kernel}
-use Rattle.nt_event.specs.Lanes.{Lanes, facts_at, facts_of, lanes_at, object_at, queue_at}
+use Rattle.nt_event.specs.Lanes.{Lanes, facts_at, facts_of, lanes_at, lock_at, object_at, queue_at}
 use Rattle.nt_event.specs.Objects.{ObjectState, queue_for}
 use Rattle.nt_event.specs.Own.{Own}
 use Rattle.nt_event.specs.Queues.{QueueState, depth_of, insert_asks}
 use Rattle.nt_event.specs.Regions.{some_came_to_0, stand_at}
-use Rattle.nt_event.specs.Requests.{Ask, ask_if, asks, command_asks, dpc_asks, end_asks, is_ask, what_asks}
+use Rattle.nt_event.specs.Requests.{Ask, ask_if, asks, command_asks, dpc_asks, end_asks, is_ask, spinner_asks, what_asks}
 use Rattle.nt_event.specs.Routines.{cpu_of, depth_limit, is_kernel_kind, kind_of, owner_of, part_of}
 use Rattle.nt_event.specs.Script.{command_fits, has_cpu}
 use Rattle.nt_event.specs.Classes.{is_requested_level, is_used_class}
@@ -36,6 +36,7 @@ use Rattle.nt_event.specs.Lists.{value_at}
 use Rattle.nt_event.proofs.Options.{both}
 use Rattle.nt_laws.specs.Named.{AllFit, values_fit}
 use Rattle.nt_event.specs.Fitting.{what_fits}
+use Rattle.nt_event.specs.Numbers.{cpu}
 
 abbrev AreUsed : List Ask → Type 0
 AreUsed [] = Unit {0}
@@ -57,18 +58,22 @@ dpc_used s OrdinaryPart o by q x =
 requested_used : (level : ℕ) → is_requested_level level ≡ true → is_used_class level ≡ true
 requested_used level h = go (nat_le 3 level) (nat_le level 11) (level == 14) refl h
   where
-    go : (a b c : Bool) → nat_le level 11 ≡ b → ((a && b) || c) ≡ true → (b || ((level == 13) || c)) ≡ true
+    go : (a b c : Bool) → nat_le level 11 ≡ b → ((a && b) || c) ≡ true → (b || ((level == 12) || ((level == 13) || c))) ≡ true
     go a true c e k = refl
-    go true false c e k = or_right (level == 13) c k
+    go true false c e k = or_right (level == 12) _ (or_right (level == 13) c k)
       where
         or_right : (x y : Bool) → y ≡ true → (x || y) ≡ true
         or_right true y q = refl
         or_right false y q = q
-    go false false c e k = or_right (level == 13) c k
+    go false false c e k = or_right (level == 12) _ (or_right (level == 13) c k)
       where
         or_right : (x y : Bool) → y ≡ true → (x || y) ≡ true
         or_right true y q = refl
         or_right false y q = q
+
+spinners_used : (n : ℕ) (xs : List Bool) → AreUsed (spinner_asks n xs)
+spinners_used n [] = tt
+spinners_used n (b ∷ xs) = used_both (ask_if b (cpu n) 12) (spinner_asks (suc n) xs) (used_if b (cpu n) 12 refl) (spinners_used (suc n) xs)
 
 command_used : (s : Script) (st : Stand) (c : Command) (y : Reply) (l : Lanes) → command_fits s c ≡ true → AreUsed (command_asks s st c y l)
 command_used s st (Queue d) Yes l h = dpc_used s (part_of s d) (object_at l d) st.cpu (queue_for (object_at l d).target st.cpu)
@@ -84,6 +89,7 @@ command_used s st (Release t) Yes l h = (refl, tt)
 command_used s st (Alert t m) No l h = used_if _ (cpu_of s t) 2 refl
 command_used s st (Interrupt q level) Done l h = (requested_used level (both (has_cpu s q) (is_requested_level level) h).1, tt)
 command_used s st (Clock units) Done l h = (refl, tt)
+command_used s st (Unlock k) Done l h = spinners_used 0 (lock_at l k).spinners
 command_used s st c y l h = tt
 
 end_used : (st : Stand) (b : Option Body) (l : Lanes) → AreUsed (end_asks st b l)
@@ -99,6 +105,7 @@ what_used s st (Expire (OfDelay t) from) l h = used_if (ends_by_expiry from (fac
 what_used s st (Switch t status) l h = used_if (has_kernel (facts_at l t).apcs) st.cpu 1 refl
 what_used s st (Normal f) l h = used_if (some_came_to_0 st.regions st.below) st.cpu 1 refl
 what_used s st (End f) l h = end_used st st.body l
+what_used s st (Free f k) l h = spinners_used 0 (lock_at l k).spinners
 what_used s st w l h = tt
 
 used_among : (p : CpuNo) (c : ℕ) (xs : List Ask) → AreUsed xs → list_any (is_ask p c) xs ≡ true → is_used_class c ≡ true

@@ -11,8 +11,8 @@ use Rattle.nt_event.specs.declared.events.Begun.TheVariants.{Apc, Dpc, Int, Thre
 use Rattle.nt_event.specs.declared.events.Event.{Event}
 use Rattle.nt_event.specs.declared.events.Turn.TheVariants.{Look as LookTurn}
 use Rattle.nt_event.specs.declared.events.What.{What}
-use Rattle.nt_event.specs.declared.events.What.TheVariants.{Begin, Call, Clean, End, Expire, Fire, Flush, Gone, Look, Normal, Rest, Rewait, Switch}
-use Rattle.nt_event.specs.declared.frames.Frame.{Frame}
+use Rattle.nt_event.specs.declared.events.What.TheVariants.{Begin, Call, Clean, End, Expire, Fire, Flush, Free, Gone, Look, Normal, Rest, Rewait, Switch}
+use Rattle.nt_event.specs.Frame.{Frame}
 use Rattle.nt_event.specs.declared.numbers.ApcNo.{ApcNo}
 use Rattle.nt_event.specs.declared.numbers.CpuNo.{CpuNo}
 use Rattle.nt_event.specs.declared.numbers.DpcNo.{DpcNo}
@@ -25,7 +25,7 @@ use Rattle.nt_event.specs.Lanes.{lanes_at}
 use Rattle.nt_event.specs.Own.{fire, own_of}
 use Rattle.nt_event.specs.Requests.{seen}
 use Rattle.nt_event.specs.Routines.{owner_of}
-use Rattle.nt_event.specs.Script.{fits, has_apc, has_dpc, has_thread, where_given}
+use Rattle.nt_event.specs.Script.{fits, has_apc, has_dpc, has_lock, has_thread, where_given}
 use Rattle.nt_event.specs.Step.{IsRun, event_at, is_look, step, thread_field, turn_at}
 use Rattle.nt_event.specs.Lists.{head_of, table, value_at}
 use Rattle.nt_event.specs.Numbers.{thread}
@@ -47,6 +47,8 @@ use Rattle.nt_laws.proofs.Named.Asked.{rises_fit}
 use Rattle.nt_runs.proofs.Declared.{fire_fits, next_fits}
 use Rattle.nt_laws.proofs.Named.Inserted.{pending_fits, picks_fit}
 use Rattle.nt_laws.proofs.Named.Settings.{due_fits}
+use Rattle.nt_event.specs.declared.numbers.LockNo.{LockNo}
+use Rattle.nt_runs.proofs.HeldFits.{last_declared}
 
 -- ---- frames
 
@@ -172,6 +174,12 @@ what_of s limit e past h r all w eq = go w eq
         (apc_fits a from q.1, refl, (delivered_inserts_wait s limit e past (ApcThing a) from r refl (rw (k, named_here a.0, named_here from) refl)).0)
     go (Normal f) k = let q = known (Normal f) k refl in (refl, refl, frame_below q.frame f q.name q.goes_on.inner)
     go (End f) k = let q = known (End f) k refl in (refl, refl, frame_below q.frame f q.name q.goes_on.inner)
+    go (Free f c) k =
+        let q = known (Free f c) k refl in (
+          subst (λ (z : LockNo). has_lock s z ≡ true) (sym q.lock) (last_declared s limit e.cpu past q.frame q.held h r.1 q.goes_on.inner q.last),
+          refl,
+          frame_below q.frame f q.name q.goes_on.inner,
+        )
     go (Expire key from) k =
         let q = known (Expire key from) k refl in
         let due = due_fits s past q.set q.first in

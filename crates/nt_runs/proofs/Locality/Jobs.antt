@@ -3,13 +3,13 @@ use Rattle.std.proofs.Common.{ap, arith, subst, sym, ◌∙◌}
 use Rattle.std.proofs.lemmas.Bool.{eq-eqb, eqb-true, ltb-false, ltb-true}
 use Rattle.std.proofs.lemmas.Option.{slice_get-get_or}
 use Rattle.std.specs.Option.{option_map_or, option_or}
-use Rattle.std.specs.Prelude.{Bool, List, None, Option, Some, [], false, get_or, if◌then◌else◌, is_some, length, nat_lt, not, option_and_then, option_map, refl, slice_get, suc, true, unwrap_or, zero, ℕ, ◌&&◌, ◌+◌, ◌<◌, ◌==◌, ◌∷◌, ◌≡◌, ◌≤◌}
+use Rattle.std.specs.Prelude.{Bool, List, None, Option, Some, [], false, get_or, if◌then◌else◌, is_none, is_some, length, nat_lt, not, option_and_then, option_map, refl, slice_get, suc, true, unwrap_or, zero, ℕ, ◌&&◌, ◌+◌, ◌<◌, ◌==◌, ◌∷◌, ◌≡◌, ◌≤◌}
 use Rattle.nt_event.specs.declared.commands.Command.{Command}
-use Rattle.nt_event.specs.declared.commands.Command.TheVariants.{Alert, CancelTimer, Delay, InsertApc, Queue, Release, RemoveApc, SetTimer, StartWait, TestAlert, ToUser, Unqueue}
+use Rattle.nt_event.specs.declared.commands.Command.TheVariants.{Acquire, Alert, CancelTimer, Delay, InsertApc, Queue, Release, RemoveApc, SetTimer, StartWait, TestAlert, ToUser, Unqueue}
 use Rattle.nt_event.specs.declared.commands.Mode.{Mode}
 use Rattle.nt_event.specs.declared.commands.Regions.{Regions}
 use Rattle.nt_event.specs.declared.commands.Reply.{Reply}
-use Rattle.nt_event.specs.declared.commands.Reply.TheVariants.{Blocked, Done, Status}
+use Rattle.nt_event.specs.declared.commands.Reply.TheVariants.{Blocked, Done, Spin, Status}
 use Rattle.nt_event.specs.declared.commands.TimerKey.{TimerKey}
 use Rattle.nt_event.specs.declared.commands.TimerKey.TheVariants.{Delay as OfDelay, Timer as OfTimer}
 use Rattle.nt_event.specs.declared.events.Begun.TheVariants.{Apc, Dpc, Threaded}
@@ -20,9 +20,9 @@ use Rattle.nt_event.specs.declared.inserts.Insert.{Insert}
 use Rattle.nt_event.specs.declared.inserts.Part.TheVariants.{Ordinary as OrdinaryPart, Threaded as ThreadedPart}
 use Rattle.nt_event.specs.declared.inserts.Pick.{Pick}
 use Rattle.nt_event.specs.declared.jobs.Job.{Job}
-use Rattle.nt_event.specs.declared.jobs.Job.TheVariants.{Apcs as ApcsJob, Call as CallJob, Drain as DrainJob, Fire as FireJob, Idle as IdleJob, Leave as LeaveJob, Pick as PickJob, Rewait as RewaitJob, Rundown as RundownJob, Switch as SwitchJob, Threaded as ThreadedJob, ToUser as ToUserJob, UserEnd as UserEndJob}
+use Rattle.nt_event.specs.declared.jobs.Job.TheVariants.{Apcs as ApcsJob, Call as CallJob, Drain as DrainJob, Fire as FireJob, Free as FreeJob, Idle as IdleJob, Leave as LeaveJob, Pick as PickJob, Rewait as RewaitJob, Rundown as RundownJob, Switch as SwitchJob, Threaded as ThreadedJob, ToUser as ToUserJob, UserEnd as UserEndJob}
 use Rattle.nt_event.specs.declared.jobs.Lane.{Lane}
-use Rattle.nt_event.specs.declared.jobs.Lane.TheVariants.{Object as ObjectLane, Queue as QueueLane, Threads as ThreadsLane, Timers as TimersLane}
+use Rattle.nt_event.specs.declared.jobs.Lane.TheVariants.{Lock as LockLane, Object as ObjectLane, Queue as QueueLane, Threads as ThreadsLane, Timers as TimersLane}
 use Rattle.nt_event.specs.declared.jobs.Stand.{Stand}
 use Rattle.nt_event.specs.declared.numbers.CpuNo.{CpuNo}
 use Rattle.nt_event.specs.declared.numbers.DpcNo.{DpcNo}
@@ -33,8 +33,8 @@ use Rattle.nt_event.specs.declared.scripts.ThreadDecl.{ThreadDecl}
 use Rattle.nt_event.specs.Apcs.{deliverable, first_user, has_user, is_inserted, takes}
 use Rattle.nt_event.specs.Commands.{is_reached, reply}
 use Rattle.nt_event.specs.Jobs.{apcs_event, begin_apc, begin_dpc, begin_first, drain_event, expire_key, idle_event, job_event, may_take, ready, ready_from, rewait_reply, rundown_event, switch_event, threaded_event, touser_event, user_due}
-use Rattle.nt_event.specs.LaneStates.{OfObject, OfQueue, OfThreads, OfTimers, content, threads_from}
-use Rattle.nt_event.specs.Lanes.{Lanes, begin_lanes, clean_lanes, command_lanes, expire_lanes, facts_at, facts_of, lane_if, object_at, queue_at, what_lanes}
+use Rattle.nt_event.specs.LaneStates.{OfLock, OfObject, OfQueue, OfThreads, OfTimers, content, threads_from}
+use Rattle.nt_event.specs.Lanes.{Lanes, begin_lanes, clean_lanes, command_lanes, expire_lanes, facts_at, facts_of, lane_if, lock_at, object_at, queue_at, what_lanes}
 use Rattle.nt_event.specs.Objects.{ObjectState, is_queued}
 use Rattle.nt_event.specs.Queues.{QueueState, first_dpc}
 use Rattle.nt_event.specs.Routines.{cpu_of, owner_of}
@@ -46,6 +46,8 @@ use Rattle.nt_event.specs.Replies.{alerted, is_refused, is_user, kernel_apc, sat
 use Rattle.nt_event.specs.Numbers.{cpu, routine, thread}
 use Rattle.nt_event.specs.Lists.{is_null, when}
 use Rattle.nt_event.proofs.Options.{both, when_gives}
+use Rattle.nt_event.specs.Locks.{LockState}
+use Rattle.nt_event.specs.declared.numbers.LockNo.{LockNo}
 
 -- the lanes have the same states in both
 abbrev pub SameOn : Script → Lanes → Lanes → List Lane → Type 0
@@ -70,6 +72,12 @@ pub timers_same : (s : Script) (la lb : Lanes) → content s la TimersLane ≡ c
 timers_same s la lb e = same _ _ e
   where
     same : (a b : Timers) → OfTimers a ≡ OfTimers b → a ≡ b
+    same a b q = cc
+
+pub lock_same : (s : Script) (la lb : Lanes) (k : LockNo) → content s la (LockLane k) ≡ content s lb (LockLane k) → lock_at la k ≡ lock_at lb k
+lock_same s la lb k e = same _ _ e
+  where
+    same : (a b : LockState) → OfLock a ≡ OfLock b → a ≡ b
     same a b q = cc
 
 threads_at : (s : Script) (p : CpuNo) (n i : ℕ) (xs : List ThreadDecl) (x : ThreadDecl) (l m : Lanes) → threads_from p n xs l ≡ threads_from p n xs m →
@@ -138,6 +146,10 @@ not_refused_if : (b : Bool) → is_refused (yes_if b) ≡ false
 not_refused_if true = refl
 not_refused_if false = refl
 
+not_refused_spin : (b : Bool) → is_refused (if b then Done else Spin) ≡ false
+not_refused_spin true = refl
+not_refused_spin false = refl
+
 wait_accepted : (x : ThreadFacts) (r : Regions) (level : ℕ) (m : Mode) (a : Bool) (o : Option Bool) → is_refused (wait_reply x r level m a o) ≡ false
 wait_accepted x r level m a o =
     ifs (is_some (deliverable x.apcs r level)) (is_satisfied x o) (a && is_alerted m x) (a && (is_user m && has_user x.apcs)) (a && x.alerted_kernel)
@@ -186,6 +198,7 @@ module _ (s : Script) (la lb : Lanes) (wa : length la.threads ≡ length s.threa
   reply_same (Alert t m) y q =
       ap (λ (x : ThreadFacts). yes_if (not (is_gone x) && is_alerted m x)) (facts_same s la lb wa wb (cpu_of s t) t q.0 refl)
   reply_same (TestAlert m) y q = ap (λ (x : ThreadFacts). yes_if (is_alerted m x)) (own_facts q.0)
+  reply_same (Acquire k) y q = ap (λ (x : LockState). if is_none x.holder then Done else Spin) (lock_same s la lb k q.0)
   reply_same c y q = refl
 
   -- ---- the jobs
@@ -212,6 +225,7 @@ module _ (s : Script) (la lb : Lanes) (wa : length la.threads ≡ length s.threa
   accepted_reply (TestAlert m) = not_refused_if _
   accepted_reply (StartWait m a) = wait_accepted (facts_of la st.thread) st.regions st.level m a None
   accepted_reply (Delay m a u) = wait_accepted (facts_of la st.thread) st.regions st.level m a (Some (is_reached la.timers.now (la.timers.now + u)))
+  accepted_reply (Acquire k) = not_refused_spin _
   accepted_reply c = refl
 
   call_goes : (c : Command) → Goes (job_event s st la (CallJob c)) (job_event s st lb (CallJob c))
@@ -451,6 +465,7 @@ module _ (s : Script) (la lb : Lanes) (wa : length la.threads ≡ length s.threa
   pub job_goes : (j : Job) → is_pick j ≡ false → Goes (job_event s st la j) (job_event s st lb j)
   job_goes (CallJob c) n = call_goes c
   job_goes (FireJob d) n = fire_goes d
+  job_goes (FreeJob k) n = λ w e q. e
   job_goes DrainJob n = drain_goes
   job_goes ApcsJob n = apcs_goes
   job_goes ThreadedJob n = threaded_goes

@@ -3,20 +3,20 @@ use Rattle.std.proofs.Common.{ap, arith, ◌∙◌}
 use Rattle.std.specs.Prelude.{Bool, List, Option, Some, [], false, if◌then◌else◌, length, not, option_map, refl, true, ℕ, ◌&&◌, ◌++◌, ◌+◌, ◌<◌, ◌==◌, ◌||◌, ◌∷◌, ◌≡◌}
 use Rattle.nt_event.specs.declared.commands.ApcKind.TheVariants.{Normal as NormalApc}
 use Rattle.nt_event.specs.declared.commands.Command.{Command}
-use Rattle.nt_event.specs.declared.commands.Command.TheVariants.{Alert, Clock, Delay, InsertApc, Interrupt, LeaveCrit, LeaveGuard, Queue, Release, Unqueue}
+use Rattle.nt_event.specs.declared.commands.Command.TheVariants.{Alert, Clock, Delay, InsertApc, Interrupt, LeaveCrit, LeaveGuard, Queue, Release, Unlock, Unqueue}
 use Rattle.nt_event.specs.declared.commands.Reply.{Reply}
 use Rattle.nt_event.specs.declared.commands.Reply.TheVariants.{Done, No, Refused, Yes}
 use Rattle.nt_event.specs.declared.commands.TimerKey.TheVariants.{Delay as OfDelay}
 use Rattle.nt_event.specs.declared.events.Begun.TheVariants.{Dpc, Threaded}
 use Rattle.nt_event.specs.declared.events.Event.{Event}
 use Rattle.nt_event.specs.declared.events.What.{What}
-use Rattle.nt_event.specs.declared.events.What.TheVariants.{Begin, Call, End, Expire, Fire, Switch}
+use Rattle.nt_event.specs.declared.events.What.TheVariants.{Begin, Call, End, Expire, Fire, Free, Switch}
 use Rattle.nt_event.specs.declared.frames.Body.{Body}
 use Rattle.nt_event.specs.declared.frames.Body.TheVariants.{Apc as OnApc, Base as OnBase}
-use Rattle.nt_event.specs.declared.frames.Frame.{Frame}
+use Rattle.nt_event.specs.Frame.{Frame}
 use Rattle.nt_event.specs.declared.inserts.Insert.{Insert}
 use Rattle.nt_event.specs.declared.jobs.Lane.{Lane}
-use Rattle.nt_event.specs.declared.jobs.Lane.TheVariants.{Object as ObjectLane, Queue as QueueLane, Threads as ThreadsLane, Timers as TimersLane}
+use Rattle.nt_event.specs.declared.jobs.Lane.TheVariants.{Lock as LockLane, Object as ObjectLane, Queue as QueueLane, Threads as ThreadsLane, Timers as TimersLane}
 use Rattle.nt_event.specs.declared.jobs.Stand.{Stand}
 use Rattle.nt_event.specs.declared.numbers.CpuNo.{CpuNo}
 use Rattle.nt_event.specs.declared.numbers.DpcNo.{DpcNo}
@@ -24,23 +24,25 @@ use Rattle.nt_event.specs.declared.numbers.ThreadNo.{ThreadNo}
 use Rattle.nt_event.specs.declared.scripts.Script.{Script}
 use Rattle.nt_event.specs.Apcs.{has_kernel}
 use Rattle.nt_event.specs.Frames.{Frames, due_of, frames_after, frames_in, own_after, running_after, thread_after, thread_if}
-use Rattle.nt_event.specs.LaneStates.{OfObject, OfQueue, OfThreads, OfTimers, content}
-use Rattle.nt_event.specs.Lanes.{Lanes, lanes_after, command_lanes, end_lanes, facts_at, insert_lanes, lane_if, object_at, queue_at, standing_lanes, what_lanes}
+use Rattle.nt_event.specs.LaneStates.{OfLock, OfObject, OfQueue, OfThreads, OfTimers, content}
+use Rattle.nt_event.specs.Lanes.{Lanes, command_lanes, end_lanes, facts_at, insert_lanes, lane_if, lanes_after, lock_at, object_at, queue_at, standing_lanes, what_lanes}
 use Rattle.nt_event.specs.Objects.{ObjectState, object_after, queue_for, start_object}
 use Rattle.nt_event.specs.Own.{Own, fire_after, is_rest, own_after_event, took_after}
 use Rattle.nt_event.specs.Queues.{QueueState, idle_after, is_queue, new_insert, pending_after, queue_after, start_queue, without_dpc}
 use Rattle.nt_event.specs.Regions.{some_came_to_0, sweep_after}
-use Rattle.nt_event.specs.Requests.{ask_if, dpc_asks, end_asks, queue_asks, seen_after, served_after, what_asks}
+use Rattle.nt_event.specs.Requests.{ask_if, dpc_asks, end_asks, queue_asks, seen_after, served_after, spinner_asks, what_asks}
 use Rattle.nt_event.specs.Routines.{cpu_of, is_kernel_kind, kind_of, owner_of, part_of}
 use Rattle.nt_event.specs.Threads.{ThreadFacts, ends_by_alert, ends_by_apc, ends_by_expiry, is_gone, start_facts}
 use Rattle.nt_event.specs.Timers.{Timers, timers_after}
 use Rattle.nt_event.specs.Waits.{facts_after, new_pick}
-use Rattle.nt_event.specs.Numbers.{cpu, dpc, is_by, thread}
+use Rattle.nt_event.specs.Numbers.{cpu, dpc, is_by, lock, thread}
 use Rattle.nt_event.specs.Replies.{is_refused, is_yes}
 use Rattle.nt_event.specs.Lists.{table, value_at}
 use Rattle.nt_event.proofs.Tables.{table-same}
 use Rattle.nt_runs.proofs.Untouched.{read_same, threads_same}
-use Rattle.nt_runs.proofs.Locality.Jobs.{SameOn, facts_same, object_same, own_facts, queue_same, timers_same}
+use Rattle.nt_runs.proofs.Locality.Jobs.{SameOn, facts_same, lock_same, object_same, own_facts, queue_same, timers_same}
+use Rattle.nt_event.specs.Locks.{LockState, lock_after, start_lock}
+use Rattle.nt_event.specs.declared.numbers.LockNo.{LockNo}
 
 -- ---- lanes and asks
 
@@ -90,6 +92,8 @@ module _ (s : Script) (la lb : Lanes) (wa : length la.threads ≡ length s.threa
   asks_same (Call f (Release t) Yes) own q = refl
   asks_same (Call f (Interrupt p level) Done) own q = refl
   asks_same (Call f (Clock units) Done) own q = refl
+  asks_same (Call f (Unlock k) Done) own q = ap (λ (x : LockState). spinner_asks 0 x.spinners) (lock_same s la lb k q.0)
+  asks_same (Free f k) own q = ap (λ (x : LockState). spinner_asks 0 x.spinners) (lock_same s la lb k q.0)
   asks_same (Fire d Yes) own q = queue_asks_same d q
   asks_same (Expire (OfDelay t) from) own q =
       ap (λ (x : ThreadFacts). ask_if (ends_by_expiry from x) (cpu_of s t) 2) (facts_same s la lb wa wb (cpu_of s t) t q.0 refl)
@@ -138,6 +142,11 @@ module _ (s : Script) (la lb : Lanes) (wa : length la.threads ≡ length s.threa
       read_same (length s.threads) t.0 (λ t. facts_after s (thread t) n st e (facts_at la (thread t)))
       (λ t. facts_after s (thread t) n st e (facts_at lb (thread t))) start_facts (λ l. ap (facts_after s t n st e) a)
 
+  lock_left : (k : LockNo) → lock_at la k ≡ lock_at lb k → lock_at (lanes_after s n st e la) k ≡ lock_at (lanes_after s n st e lb) k
+  lock_left k a =
+      read_same s.locks k.0 (λ k. lock_after s (lock k) e (lock_at la (lock k))) (λ k. lock_after s (lock k) e (lock_at lb (lock k))) start_lock
+      (λ l. ap (lock_after s k e) a)
+
   pub content_left : (x : Lane) → content s la x ≡ content s lb x → content s (lanes_after s n st e la) x ≡ content s (lanes_after s n st e lb) x
   content_left (ObjectLane d) a = ap (λ (o : ObjectState). OfObject o) (object_left d (object_same s la lb d a))
   content_left (QueueLane p) a = ap (λ (o : QueueState). OfQueue o) (queue_left p (queue_same s la lb p a))
@@ -145,6 +154,7 @@ module _ (s : Script) (la lb : Lanes) (wa : length la.threads ≡ length s.threa
       ap (λ (xs : List ThreadFacts). OfThreads xs) (threads_same s p 0 s.threads (lanes_after s n st e la) (lanes_after s n st e lb)
       (λ i. let z : 0 + i ≡ i = omega arith in rw z refl) (λ t own. facts_left t (facts_same s la lb wa wb p t a own)))
   content_left TimersLane a = ap (λ (o : Timers). OfTimers (timers_after s n st e o)) (timers_same s la lb a)
+  content_left (LockLane k) a = ap (λ (o : LockState). OfLock o) (lock_left k (lock_same s la lb k a))
 
 -- ---- what the processor keeps
 

@@ -9,7 +9,7 @@ use Rattle.nt_event.specs.declared.commands.Regions.{Regions}
 use Rattle.nt_event.specs.declared.events.Event.{Event}
 use Rattle.nt_event.specs.declared.frames.Body.{Body}
 use Rattle.nt_event.specs.declared.frames.Body.TheVariants.{Apc as OnApc, Base as OnBase, Dpc as OnDpc, Int as OnInt, Rundown as OnRundown, Threaded as OnThreaded}
-use Rattle.nt_event.specs.declared.frames.Frame.{Frame}
+use Rattle.nt_event.specs.Frame.{Frame}
 use Rattle.nt_event.specs.declared.inserts.Pick.{Pick}
 use Rattle.nt_event.specs.declared.jobs.Job.TheVariants.{Apcs as ApcsJob, Drain as DrainJob, Threaded as ThreadedJob}
 use Rattle.nt_event.specs.declared.jobs.Task.{Task}
