@@ -5,7 +5,7 @@ use Rattle.nt_event.specs.declared.events.Event.{Event}
 use Rattle.nt_event.specs.declared.events.Rises.{Rises}
 use Rattle.nt_event.specs.declared.events.What.{What}
 use Rattle.nt_event.specs.declared.jobs.Job.{Job}
-use Rattle.nt_event.specs.declared.jobs.Job.TheVariants.{Call as CallJob, Fire as FireJob, Idle as IdleJob, Switch as SwitchJob}
+use Rattle.nt_event.specs.declared.jobs.Job.TheVariants as jobs
 use Rattle.nt_event.specs.declared.jobs.Lane.{Lane}
 use Rattle.nt_event.specs.declared.jobs.Stand.{Stand}
 use Rattle.nt_event.specs.declared.numbers.CpuNo.{CpuNo}
@@ -16,7 +16,7 @@ use Rattle.nt_event.specs.Jobs.{job_event}
 use Rattle.nt_event.specs.Lanes.{Lanes, same_lane, what_lanes}
 use Rattle.nt_event.specs.Requests.{asks_in, raised}
 use Rattle.nt_event.specs.Routines.{kind_of}
-use Rattle.nt_event.specs.Script.{command_fits, has_cpu, has_dpc, has_thread}
+use Rattle.nt_event.specs.Script.{command_fits, has_cpu, has_dpc, has_lock, has_thread}
 use Rattle.nt_event.specs.Lists.{value_at}
 use Rattle.nt_acts.specs.declared.acts.ActRefusal.{ActRefusal}
 use Rattle.nt_acts.specs.declared.acts.ActRefusal.TheVariants.{BadChoice, NoMemory, NothingToDo}
@@ -27,10 +27,20 @@ use Rattle.nt_acts.specs.declared.acts.Made.{Made}
 
 -- each number in the job names a thing of the script
 abbrev pub job_fits : Script → Job → Bool
-job_fits s (CallJob c) = command_fits s c
-job_fits s (FireJob d) = has_dpc s d
-job_fits s (SwitchJob t) = has_thread s t
-job_fits s job = true
+job_fits s (jobs.Call c) = command_fits s c
+job_fits s (jobs.Fire d) = has_dpc s d
+job_fits s (jobs.Free k) = has_lock s k
+job_fits s (jobs.Switch t) = has_thread s t
+job_fits s jobs.Drain = true
+job_fits s jobs.Apcs = true
+job_fits s jobs.Threaded = true
+job_fits s jobs.Idle = true
+job_fits s (jobs.Pick last) = true
+job_fits s jobs.Rewait = true
+job_fits s jobs.ToUser = true
+job_fits s jobs.UserEnd = true
+job_fits s jobs.Leave = true
+job_fits s jobs.Rundown = true
 
 -- the processor and the thread name things of the script, and a due time is below 2 ^ 51
 pub record StandFits (s : Script) (st : Stand) : Type 0 where
@@ -94,7 +104,32 @@ pub record IsActed (s : Script) (f : Found) (st : Stand) (job : Job) (a : Acted)
 -- why no event was made: nothing is to be done, of an idle processor that has no ordinary DPC and a ready thread; or
 -- the thread of a switch isn't the processor's, or isn't ready
 abbrev pub IsRefused : Script → Found → Stand → Job → ActRefusal → Type 0
-IsRefused s f st IdleJob NothingToDo = job_event s st f.lanes IdleJob ≡ None
-IsRefused s f st (SwitchJob t) BadChoice = job_event s st f.lanes (SwitchJob t) ≡ None
+IsRefused s f st jobs.Idle NothingToDo = job_event s st f.lanes jobs.Idle ≡ None
+IsRefused s f st (jobs.Call c) NothingToDo = ⊥
+IsRefused s f st (jobs.Fire d) NothingToDo = ⊥
+IsRefused s f st (jobs.Free k) NothingToDo = ⊥
+IsRefused s f st jobs.Drain NothingToDo = ⊥
+IsRefused s f st jobs.Apcs NothingToDo = ⊥
+IsRefused s f st jobs.Threaded NothingToDo = ⊥
+IsRefused s f st (jobs.Pick last) NothingToDo = ⊥
+IsRefused s f st (jobs.Switch t) NothingToDo = ⊥
+IsRefused s f st jobs.Rewait NothingToDo = ⊥
+IsRefused s f st jobs.ToUser NothingToDo = ⊥
+IsRefused s f st jobs.UserEnd NothingToDo = ⊥
+IsRefused s f st jobs.Leave NothingToDo = ⊥
+IsRefused s f st jobs.Rundown NothingToDo = ⊥
+IsRefused s f st (jobs.Switch t) BadChoice = job_event s st f.lanes (jobs.Switch t) ≡ None
+IsRefused s f st (jobs.Call c) BadChoice = ⊥
+IsRefused s f st (jobs.Fire d) BadChoice = ⊥
+IsRefused s f st (jobs.Free k) BadChoice = ⊥
+IsRefused s f st jobs.Drain BadChoice = ⊥
+IsRefused s f st jobs.Apcs BadChoice = ⊥
+IsRefused s f st jobs.Threaded BadChoice = ⊥
+IsRefused s f st jobs.Idle BadChoice = ⊥
+IsRefused s f st (jobs.Pick last) BadChoice = ⊥
+IsRefused s f st jobs.Rewait BadChoice = ⊥
+IsRefused s f st jobs.ToUser BadChoice = ⊥
+IsRefused s f st jobs.UserEnd BadChoice = ⊥
+IsRefused s f st jobs.Leave BadChoice = ⊥
+IsRefused s f st jobs.Rundown BadChoice = ⊥
 IsRefused s f st job NoMemory = Unit {0}
-IsRefused s f st job r = ⊥

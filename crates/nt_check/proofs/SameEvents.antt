@@ -33,7 +33,7 @@ use Rattle.nt_event.specs.contracts.numbers.DpcNoPartialEq.TheImpl as dpc_eq
 use Rattle.nt_event.specs.contracts.numbers.ThreadNoPartialEq.TheImpl as thread_eq
 use Rattle.nt_event.specs.contracts.numbers.TimerNoPartialEq.TheImpl as timer_eq
 use Rattle.nt_history.proofs.Same.{Same, bool_same, enum_same, nat_same, none_same, one_same, option_same, three_same, two_same}
-use Rattle.nt_history.proofs.SameParts.{apc_same, begun_same, command_same, cpu_same, dpc_same, key_same, reply_same, thread_same}
+use Rattle.nt_history.proofs.SameParts.{apc_same, begun_same, command_same, cpu_same, dpc_same, key_same, lock_same, reply_same, thread_same}
 
 rises_same : Same rises_eq.ghosts.eq
 rises_same x y h =
@@ -60,7 +60,7 @@ what_same = enum_same what.enum _ (
                   two_same thread_same (option_same nat_same),
                   (
                     two_same nat_same reply_same,
-                    (two_same apc_same nat_same, (one_same thread_same, (none_same, tt))),
+                    (two_same apc_same nat_same, (one_same thread_same, (two_same nat_same lock_same, (none_same, tt)))),
                   ),
                 ),
               ),

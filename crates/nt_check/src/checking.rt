@@ -20,7 +20,7 @@ use std::alloc::{AllocError, Global};
 #[derive(Clone, Copy, PartialEq, Eq, Debug)]
 pub enum Verdict {
     /// A settled run: each event is the one that the machine makes by its turn after those before it, and at the end each processor is
-    /// cut, or rests and has seen what was asked for.
+    /// cut, or rests or spins still and has seen what was asked for.
     Legal,
     /// The event of this number, from 0, is the first that is not the one that the machine makes by its turn; or it is the number of
     /// events, all are the machine's, and some processor has more to do.

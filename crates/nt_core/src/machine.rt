@@ -68,7 +68,7 @@ impl<'s> Core<'s> {
     /// Takes the turn: makes its event, or answers why there is none; then nothing changed. No memory is taken.
     ///
     /// NoSuchCpu comes where the script does not have the processor. NothingToDo comes where the processor made as many events as it
-    /// may, and for a turn Next where it rests or has to choose a thread; BadLook where no value rises, or one is not above what
+    /// may, and for a turn Next where it rests, spins still or has to choose a thread; BadLook where no value rises, or one is not above what
     /// was seen or was not asked for; BadChoice where the thread cannot be taken up or no choice may be made.
     pub fn turn(&mut self, turn: Turn) -> Result<Event, CoreRefusal>
         ensures ok { IfOk result (λ e. (step self.old.script self.old.limit turn self.old.past ≡ Ok e) × (self.new ≡ with_event e self.old)) }

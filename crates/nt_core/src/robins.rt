@@ -13,7 +13,7 @@ impl<'s> Core<'s> {
     /// The turn of the robin rule (profile); None exactly where the history is settled.
     ///
     /// The processors are tried in a cycle from the one after that of the last event: one that is cut has no turn; else it looks at
-    /// what was asked for and not seen; else it has no turn where it rests; else it takes up the next ready thread, where it may
+    /// what was asked for and not seen; else it has no turn where it rests or spins still; else it takes up the next ready thread, where it may
     /// take one up and one is ready; else it makes its next event.
     pub fn robin(&self) -> Option<Turn>
         ensures { result ≡ robin_in self.now.script self.now.limit self.now.past }
@@ -23,7 +23,7 @@ impl<'s> Core<'s> {
 
     /// The turn of the robin rule for this processor alone (profile): [`Core::robin`] is the first one in its cycle. It is never refused.
     ///
-    /// None comes exactly where the script has no such processor, or it is cut, or rests and has seen what was asked for in each class.
+    /// None comes exactly where the script has no such processor, or it is cut, or rests or spins still and has seen what was asked for in each class.
     /// Else it looks at what was asked for and not seen; else it takes up the next ready thread, where it may take one up and one is
     /// ready; else it makes its next event.
     pub fn robin_of(&self, p: CpuNo) -> Option<Turn>
@@ -35,7 +35,7 @@ impl<'s> Core<'s> {
         self.processors.robin_of(&self.floor, p)
     }
 
-    /// Whether the history is settled: each processor is cut, or rests and has seen what was asked for.
+    /// Whether the history is settled: each processor is cut, or rests or spins still and has seen what was asked for.
     pub fn settled(&self) -> bool
         ensures { result ≡ is_settled self.now.script self.now.limit self.now.past }
     {

@@ -8,18 +8,18 @@ use Rattle.std.specs.Prelude.{All, Bool, cond, List, None, Option, Some, [], fal
 use Rattle.nt_event.specs.declared.commands.ApcKind.{ApcKind}
 use Rattle.nt_event.specs.declared.commands.ApcKind.TheVariants.{Normal as NormalApc, Special as SpecialApc, User as UserApc}
 use Rattle.nt_event.specs.declared.commands.Command.{Command}
-use Rattle.nt_event.specs.declared.commands.Command.TheVariants.{Alert, CancelTimer, Delay, InsertApc, Queue, Release, RemoveApc, SetTimer, StartWait, TestAlert, ToUser, Unqueue}
+use Rattle.nt_event.specs.declared.commands.Command.TheVariants.{Acquire, Alert, CancelTimer, Delay, InsertApc, Queue, Release, RemoveApc, SetTimer, StartWait, TestAlert, ToUser, Unqueue}
 use Rattle.nt_event.specs.declared.commands.Mode.{Mode}
 use Rattle.nt_event.specs.declared.commands.Regions.{Regions}
-use Rattle.nt_event.specs.declared.commands.Reply.TheVariants.{Blocked, Done, Status}
+use Rattle.nt_event.specs.declared.commands.Reply.TheVariants.{Blocked, Done, Spin, Status}
 use Rattle.nt_event.specs.declared.events.What.{What}
 use Rattle.nt_event.specs.declared.events.What.TheVariants.{Call, Clean, End, Flush, Gone, Look, Rest, Rewait}
 use Rattle.nt_event.specs.declared.frames.Body.TheVariants.{Dpc as OnDpc, Threaded as OnThreaded}
-use Rattle.nt_event.specs.declared.frames.Frame.{Frame}
+use Rattle.nt_event.specs.Frame.{Frame}
 use Rattle.nt_event.specs.declared.inserts.Part.TheVariants.{Ordinary as OrdinaryPart, Threaded as ThreadedPart}
 use Rattle.nt_event.specs.declared.inserts.Pick.{Pick}
 use Rattle.nt_event.specs.declared.jobs.Job.{Job}
-use Rattle.nt_event.specs.declared.jobs.Job.TheVariants.{Apcs as ApcsJob, Call as CallJob, Drain as DrainJob, Fire as FireJob, Idle as IdleJob, Leave as LeaveJob, Pick as PickJob, Rewait as RewaitJob, Rundown as RundownJob, Switch as SwitchJob, Threaded as ThreadedJob, ToUser as ToUserJob, UserEnd as UserEndJob}
+use Rattle.nt_event.specs.declared.jobs.Job.TheVariants.{Apcs as ApcsJob, Call as CallJob, Drain as DrainJob, Fire as FireJob, Free as FreeJob, Idle as IdleJob, Leave as LeaveJob, Pick as PickJob, Rewait as RewaitJob, Rundown as RundownJob, Switch as SwitchJob, Threaded as ThreadedJob, ToUser as ToUserJob, UserEnd as UserEndJob}
 use Rattle.nt_event.specs.declared.jobs.Stand.{Stand}
 use Rattle.nt_event.specs.declared.numbers.DpcNo.{DpcNo}
 use Rattle.nt_event.specs.declared.numbers.ThreadNo.{ThreadNo}
@@ -28,7 +28,7 @@ use Rattle.nt_event.specs.Apcs.{ApcQueues, deliverable, first_kernel, first_of_k
 use Rattle.nt_event.specs.Commands.{is_reached, reply}
 use Rattle.nt_event.specs.Frames.{Frames, innermost}
 use Rattle.nt_event.specs.Jobs.{apcs_event, begin_apc, begin_dpc, begin_first, drain_event, expire_key, idle_event, job_event, may_apcs, may_drain, may_switch, may_take, must, next_ready, ready, rewait_reply, rundown_event, switch_event, user_due}
-use Rattle.nt_event.specs.Lanes.{Lanes, facts_at, facts_of, object_at, queue_at}
+use Rattle.nt_event.specs.Lanes.{Lanes, facts_at, facts_of, lock_at, object_at, queue_at}
 use Rattle.nt_event.specs.Objects.{is_queued}
 use Rattle.nt_event.specs.Own.{Own, stand_in}
 use Rattle.nt_event.specs.Queues.{QueueState, first_dpc}
@@ -37,7 +37,7 @@ use Rattle.nt_event.specs.Script.{has_thread}
 use Rattle.nt_event.specs.Threads.{ThreadFacts, ends_by_release, is_alerted, is_gone, is_ready, start_facts}
 use Rattle.nt_event.specs.Timers.{first_due, is_set_timer}
 use Rattle.nt_event.specs.Waits.{is_satisfied, wait_reply}
-use Rattle.nt_event.specs.Replies.{alerted, is_blocked, is_user, kernel_apc, satisfied, user_apc, yes_if}
+use Rattle.nt_event.specs.Replies.{alerted, is_user, kernel_apc, satisfied, user_apc, yes_if}
 use Rattle.nt_event.specs.Lists.{is_null, when}
 use Rattle.nt_event.proofs.Options.{Holds, both, holds_else, holds_map, holds_more, holds_or, holds_then, holds_at, holds_when, when_gives}
 use Rattle.nt_event.proofs.Ready.{next_ready_taken}
@@ -45,11 +45,11 @@ use Rattle.nt_acts.specs.Acts.{KindsFit}
 use Rattle.nt_frame.specs.Rules.{is_leaving, may_begin, refusal_in}
 use Rattle.nt_frame.proofs.Below.{awaiting_is_on_thread}
 use Rattle.nt_frame.proofs.Tasks.{apc_may_begin, dpc_may_begin, idle_dpc_may_begin, leaving_here, threaded_may_begin, user_may_begin}
-use Rattle.nt_cpu.specs.Fits.{Allow, IsAt, is_wait_reply, may_reply}
+use Rattle.nt_cpu.specs.Fits.{Allow, IsAt, goes_on, is_try_reply, is_wait_reply, may_reply}
 use Rattle.nt_cpu.specs.Sound.{IsSound}
 use Rattle.nt_cpu.specs.States.{CpuState}
 use Rattle.nt_cpu.specs.GoodTasks.{Awaits, GoodJob, Runs}
-use Rattle.nt_cpu.proofs.DueTasks.{accepted_call}
+use Rattle.nt_cpu.proofs.DueTasks.{accepted_call, own_lock}
 
 -- a job's event is no Look
 abbrev pub is_look : What → Bool
@@ -79,7 +79,7 @@ wait_replies x r level m a reached =
     wait_chain (is_some (deliverable x.apcs r level)) (is_satisfied x reached) (a && is_alerted m x) (a && (is_user m && has_user x.apcs))
     (a && x.alerted_kernel) (not a && (is_user m && x.user_pending))
 
-yes_unblocked : (b : Bool) → not (is_blocked (yes_if b)) ≡ true
+yes_unblocked : (b : Bool) → goes_on (yes_if b) ≡ true
 yes_unblocked true = refl
 yes_unblocked false = refl
 
@@ -96,6 +96,11 @@ replies s st l (RemoveApc a) = yes_unblocked (is_inserted a (facts_at l (owner_o
 replies s st l (Release t) = yes_unblocked (ends_by_release (facts_at l t))
 replies s st l (Alert t m) = yes_unblocked (not (is_gone (facts_at l t)) && is_alerted m (facts_at l t))
 replies s st l (TestAlert m) = yes_unblocked (is_alerted m (facts_of l st.thread))
+replies s st l (Acquire k) = tried (is_none (lock_at l k).holder)
+  where
+    tried : (b : Bool) → is_try_reply (if b then Done else Spin) ≡ true
+    tried true = refl
+    tried false = refl
 replies s st l _ = refl
 
 -- ---- the innermost frame
@@ -275,10 +280,12 @@ acted_good c l (CallJob k) h g f = record {
     at_innermost_frame c g.frame g.is,
     accepted_call k (reply c.script (stand_in c.cpu c.own) l k) c.own.frames g.accepted
         (replies c.script (stand_in c.cpu c.own) l k),
+    own_lock c.script k g.fits,
   );
   look = refl;
 }
 acted_good c l (FireJob d) h g f = record { allow = tt; look = refl }
+acted_good c l (FreeJob k) h g f = record { allow = at_innermost_frame c g.frame g.is; look = refl }
 acted_good c l DrainJob h g f = drain_good c l g
 acted_good c l ApcsJob h g f = apcs_good c l g f
 acted_good c l ThreadedJob h g f =
@@ -296,7 +303,7 @@ acted_good c l RewaitJob h g f = rewait_good c l h g
 acted_good c l ToUserJob h g f =
     holds_else (GoodEvent c) (option_map begin_apc (user_due (facts_of l c.own.frames.running))) (Call (stand_in c.cpu c.own).frame ToUser Done)
     (user_here c l g.accepted f) (λ _. record {
-      allow = (at_innermost_frame c g.frame g.is, accepted_call ToUser Done c.own.frames g.accepted refl);
+      allow = (at_innermost_frame c g.frame g.is, accepted_call ToUser Done c.own.frames g.accepted refl, refl);
       look = refl;
     })
 acted_good c l UserEndJob h g f = ended_good c g

@@ -17,7 +17,8 @@ use Rattle.nt_event.specs.Objects.{object_of}
 use Rattle.nt_event.specs.Queues.{queue_of}
 use Rattle.nt_event.specs.Timers.{delay_setting, timer_setting}
 use Rattle.nt_event.specs.Waits.{facts}
-use Rattle.nt_event.specs.Numbers.{cpu, dpc, thread, timer}
+use Rattle.nt_event.specs.Locks.{lock_of}
+use Rattle.nt_event.specs.Numbers.{lock, cpu, dpc, thread, timer}
 use Rattle.nt_event.specs.Lists.{value_at}
 use Rattle.nt_event.proofs.Tables.{length-table_from}
 use Rattle.nt_acts.specs.Acts.{Found, told_over}
@@ -127,6 +128,7 @@ have_states s past = record {
   threads = length-table_from 0 (length s.threads) (λ t. facts s (thread t) past);
   timers = length-table_from 0 (length s.timers) (λ t. timer_setting (timer t) past);
   delays = length-table_from 0 (length s.threads) (λ t. delay_setting s (thread t) past);
+  locks = length-table_from 0 s.locks (λ k. lock_of s (lock k) past);
 }
 
 -- the states that are told, or the opening ones, have one for each thing of the script

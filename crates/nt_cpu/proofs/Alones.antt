@@ -3,33 +3,33 @@ use Rattle.std.proofs.Common.{ap, sym, ◌∙◌}
 use Rattle.std.specs.Prelude.{Bool, List, None, Option, Some, [], false, if◌then◌else◌, length, not, option_map, refl, true, ℕ, ◌&&◌, ◌==◌, ◌||◌, ◌∷◌, ◌≡◌}
 use Rattle.nt_event.specs.declared.commands.ApcKind.TheVariants.{Normal as NormalApc, User as UserApc}
 use Rattle.nt_event.specs.declared.commands.Command.{Command}
-use Rattle.nt_event.specs.declared.commands.Command.TheVariants.{Alert, Clock, EnterCrit, EnterGuard, InsertApc, Interrupt, LeaveCrit, LeaveGuard, Lower, Note, Queue, Raise, Release}
+use Rattle.nt_event.specs.declared.commands.Command.TheVariants.{Alert, Clock, EnterCrit, EnterGuard, InsertApc, Interrupt, LeaveCrit, LeaveGuard, Lower, Note, Queue, Raise, Release, Unlock}
 use Rattle.nt_event.specs.declared.commands.Reply.{Reply}
-use Rattle.nt_event.specs.declared.commands.Reply.TheVariants.{Blocked, Done, No, Refused, Status, Yes}
+use Rattle.nt_event.specs.declared.commands.Reply.TheVariants.{Blocked, Done, No, Refused, Spin, Status, Yes}
 use Rattle.nt_event.specs.declared.events.Begun.TheVariants.{Int}
 use Rattle.nt_event.specs.declared.events.Event.{Event}
 use Rattle.nt_event.specs.declared.events.What.{What}
 use Rattle.nt_event.specs.declared.events.What.TheVariants.{Begin, Call, End, Look, Normal}
 use Rattle.nt_event.specs.declared.frames.Body.{Body}
 use Rattle.nt_event.specs.declared.frames.Body.TheVariants.{Apc as OnApc, Base as OnBase}
-use Rattle.nt_event.specs.declared.frames.Frame.{Frame}
+use Rattle.nt_event.specs.Frame.{Frame}
 use Rattle.nt_event.specs.declared.jobs.Stand.{Stand}
 use Rattle.nt_event.specs.declared.numbers.CpuNo.{CpuNo}
 use Rattle.nt_event.specs.declared.scripts.Script.{Script}
 use Rattle.nt_event.specs.Commands.{needs_lane}
 use Rattle.nt_event.specs.Frames.{Frames, done_to, due_of, frames_after, innermost, is_base_body, level_in, normal_of, thread_part}
 use Rattle.nt_event.specs.Lanes.{Lanes, command_lanes, end_lanes, what_lanes}
-use Rattle.nt_event.specs.Regions.{after_in, some_came_to_0}
+use Rattle.nt_event.specs.Regions.{ended_level_in, some_came_to_0}
 use Rattle.nt_event.specs.Requests.{ask_if, command_asks, end_asks, what_asks}
 use Rattle.nt_event.specs.Step.{event_at, level_field, thread_field, unleveled}
 use Rattle.nt_event.specs.Lists.{is_null, tail_of}
 use Rattle.nt_event.specs.Replies.{is_done, is_refused}
 use Rattle.nt_event.proofs.Options.{both, not_true}
-use Rattle.nt_frame.specs.Changes.{at_innermost, on_running, without_innermost}
+use Rattle.nt_frame.specs.Changes.{advanced, at_innermost, on_running, without_innermost}
 use Rattle.nt_frame.specs.Nesting.{AreNested}
 use Rattle.nt_frame.proofs.After.{after_end, after_int, after_normal}
 use Rattle.nt_frame.specs.Rules.{is_frames_own}
-use Rattle.nt_frame.proofs.Commands.{advanced, call_own, call_plain, call_refused, is_plain}
+use Rattle.nt_frame.proofs.Commands.{call_own, call_plain, call_refused, is_plain}
 use Rattle.nt_frame.proofs.Events.{IsOurs}
 use Rattle.nt_frame.proofs.Twice.{at_innermost-at_innermost, at_innermost_by}
 use Rattle.nt_cpu.specs.Alone.{alone_asks, alone_event, alone_level, as_list, ask_when, call_asks, call_level, ends_alone, is_alone, is_normal_end}
@@ -52,6 +52,7 @@ asks_call s st (InsertApc a) Yes l h = absurd cc
 asks_call s st (Release t) Yes l h = absurd cc
 asks_call s st (Alert t m) No l h = absurd cc
 asks_call s st (Clock u) Done l h = absurd cc
+asks_call s st (Unlock k) Done l h = absurd cc
 asks_call s st _ _ l h = refl
 
 asks_end : (st : Stand) (b : Option Body) (l : Lanes) → ends_alone b ≡ true → end_asks st b l
@@ -108,10 +109,10 @@ level_changed g x f h k = rw (innermost-at_innermost g x h, k) refl
 level_here : (x : Frames) (f : Frame) → innermost x ≡ Some f → level_in x ≡ f.level
 level_here x f k = rw k refl
 
-level_ended : (x : Frames) → AreNested x → level_in (without_innermost x) ≡ after_in x
+level_ended : (x : Frames) → AreNested x → level_in (without_innermost x) ≡ ended_level_in x
 level_ended x h = go x.own refl
   where
-    go : (os : List Frame) → x.own ≡ os → level_in (without_innermost x) ≡ after_in x
+    go : (os : List Frame) → x.own ≡ os → level_in (without_innermost x) ≡ ended_level_in x
     go [] e =
         let n : is_null x.own ≡ true = rw e refl in
         let o : (on_running tail_of x.running x).own ≡ [] = on_running_own tail_of x x.running ∙ e in
@@ -141,7 +142,7 @@ done_frames s n due e x f c o k b w = go (is_frames_own c) refl
         call_own s n due e x f c o k t w ∙ at_innermost-at_innermost advanced (done_to c) x o.nested
     go false t =
         let p = plain c t b in
-        call_plain s n due e x f c Done o k p.0 refl w
+        call_plain s n due e x f c Done o k p.0 refl refl w
         ∙ at_innermost_by advanced (λ g. advanced (done_to c g)) x (λ g. ap advanced (sym (p.1 g)))
 
 -- what a call that touches no lane leaves of the frames
@@ -154,6 +155,7 @@ refused_left c Done f h = absurd cc
 refused_left c Yes f h = absurd cc
 refused_left c No f h = absurd cc
 refused_left c Blocked f h = absurd cc
+refused_left c Spin f h = absurd cc
 refused_left c (Status st) f h = absurd cc
 
 pub call_frames : (s : Script) (n : ℕ) (due : Option ℕ) (e : Event) (x : Frames) (f : Frame) (c : Command) (y : Reply) → IsOurs s e x → innermost x ≡ Some f →
@@ -172,6 +174,11 @@ call_frames s n due e x f c No o k b w = absurd (no (needs_lane c) b)
     no true q = cc
     no false q = cc
 call_frames s n due e x f c Blocked o k b w = absurd (no (needs_lane c) b)
+  where
+    no : (t : Bool) → (not t && false) ≡ true → ⊥
+    no true q = cc
+    no false q = cc
+call_frames s n due e x f c Spin o k b w = absurd (no (needs_lane c) b)
   where
     no : (t : Bool) → (not t && false) ≡ true → ⊥
     no true q = cc
@@ -200,6 +207,7 @@ call_left_level : (c : Command) (y : Reply) (f : Frame) → (call_left c y f).le
 call_left_level c Done f = done_level c f
 call_left_level c Yes f = sym (undone_level c Yes f.level refl)
 call_left_level c No f = sym (undone_level c No f.level refl)
+call_left_level c Spin f = sym (undone_level c Spin f.level refl)
 call_left_level c Blocked f = sym (undone_level c Blocked f.level refl)
 call_left_level c (Status st) f = sym (undone_level c (Status st) f.level refl)
 call_left_level c (Refused r) f = sym (undone_level c (Refused r) f.level refl)

@@ -7,21 +7,22 @@ use Rattle.nt_event.specs.declared.events.Begun.{Begun}
 use Rattle.nt_event.specs.declared.events.Begun.TheVariants.{Apc, Dpc, Int, Threaded}
 use Rattle.nt_event.specs.declared.events.Event.{Event}
 use Rattle.nt_event.specs.declared.events.What.{What}
-use Rattle.nt_event.specs.declared.events.What.TheVariants.{Begin, Call, Clean, End, Expire, Fire, Flush, Gone, Look, Normal, Rest, Rewait, Switch}
+use Rattle.nt_event.specs.declared.events.What.TheVariants.{Begin, Call, Clean, End, Expire, Fire, Flush, Free, Gone, Look, Normal, Rest, Rewait, Switch}
 use Rattle.nt_event.specs.declared.frames.Body.TheVariants.{Base, Rundown}
-use Rattle.nt_event.specs.declared.frames.Frame.{Frame}
+use Rattle.nt_event.specs.Frame.{Frame}
 use Rattle.nt_event.specs.declared.numbers.ApcNo.{ApcNo}
+use Rattle.nt_event.specs.declared.numbers.LockNo.{LockNo}
 use Rattle.nt_event.specs.declared.numbers.RoutineNo.{RoutineNo}
 use Rattle.nt_event.specs.declared.numbers.ThreadNo.{ThreadNo}
 use Rattle.nt_event.specs.declared.scripts.Script.{Script}
-use Rattle.nt_event.specs.Frames.{Frames, called, frames_after, frames_in, is_base_body, ended_base, normal_of, resumed, rewaited, running_after}
+use Rattle.nt_event.specs.Frames.{Frames, called, frames_after, frames_in, freed, is_base_body, ended_base, normal_of, resumed, rewaited, running_after}
 use Rattle.nt_event.specs.Routines.{rundown_of}
 use Rattle.nt_event.specs.Step.{thread_field}
 use Rattle.nt_event.specs.Lists.{is_null}
 use Rattle.nt_frame.specs.Changes.{at_innermost, begun, closed, taken, without_innermost}
 use Rattle.nt_frame.specs.Nesting.{AreNested}
 use Rattle.nt_frame.specs.Rules.{is_at_base, may_go_on}
-use Rattle.nt_frame.proofs.After.{after_apc, after_call, after_clean, after_dpc, after_end, after_end_base, after_expire, after_fire, after_first_switch, after_flush, after_gone, after_int, after_look, after_normal, after_rest, after_rewait, after_rundown, after_switch, after_threaded}
+use Rattle.nt_frame.proofs.After.{after_apc, after_call, after_clean, after_dpc, after_end, after_end_base, after_expire, after_fire, after_first_switch, after_flush, after_free, after_gone, after_int, after_look, after_normal, after_rest, after_rewait, after_rundown, after_switch, after_threaded}
 use Rattle.nt_frame.proofs.Events.{IsOurs}
 use Rattle.nt_cpu.specs.Fits.{IsAt, body_of}
 use Rattle.nt_cpu.proofs.FramesLeft.{call_runs}
@@ -118,6 +119,11 @@ pub left_gone : (s : Script) (n : ℕ) (due : Option ℕ) (e : Event) (x z : Fra
 left_gone s n due e x z t o k h =
     h ∙ sym (after_gone s n due e x t (ours s e (Gone t) x o k refl) k)
 
+pub left_free : (s : Script) (n : ℕ) (due : Option ℕ) (e : Event) (x z : Frames) (f : ℕ) (k : LockNo) → Occurs s e x → e.what ≡ Free f k → IsAt f x →
+    z ≡ at_innermost freed x → z ≡ frames_after s n due e x
+left_free s n due e x z f k o w a h =
+    h ∙ sym (after_free s n due e x a.frame k (ours s e (Free f k) x o w refl) a.is (w ∙ ap (λ (m : ℕ). Free m k) (sym a.name)))
+
 -- the events that change no frame
 abbrev pub keeps_frames : What → Bool
 keeps_frames (Look r) = true
@@ -133,6 +139,7 @@ keeps_frames (Switch t st) = false
 keeps_frames (Rewait f y) = false
 keeps_frames (Flush a from) = false
 keeps_frames (Gone t) = false
+keeps_frames (Free f k) = false
 
 pub left_other : (s : Script) (n : ℕ) (due : Option ℕ) (e : Event) (x : Frames) (w : What) → Occurs s e x → e.what ≡ w → keeps_frames w ≡ true →
     x ≡ frames_after s n due e x

@@ -9,14 +9,14 @@ use Rattle.nt_event.specs.declared.commands.Reply.TheVariants.{Blocked, Done}
 use Rattle.nt_event.specs.declared.events.Begun.TheVariants.{Apc}
 use Rattle.nt_event.specs.declared.events.Event.{Event}
 use Rattle.nt_event.specs.declared.events.What.{What}
-use Rattle.nt_event.specs.declared.events.What.TheVariants.{Begin, Call, End, Flush, Gone, Look, Normal, Rewait, Switch}
+use Rattle.nt_event.specs.declared.events.What.TheVariants.{Free, Begin, Call, End, Flush, Gone, Look, Normal, Rewait, Switch}
 use Rattle.nt_event.specs.declared.frames.Body.TheVariants.{Apc as OnApc, Rundown as OnRundown}
-use Rattle.nt_event.specs.declared.frames.Frame.{Frame}
+use Rattle.nt_event.specs.Frame.{Frame}
 use Rattle.nt_event.specs.declared.numbers.ApcNo.{ApcNo}
 use Rattle.nt_event.specs.declared.numbers.RoutineNo.{RoutineNo}
 use Rattle.nt_event.specs.declared.numbers.ThreadNo.{ThreadNo}
 use Rattle.nt_event.specs.declared.scripts.Script.{Script}
-use Rattle.nt_event.specs.Frames.{Frames, at_name, called, end_on_thread, ended_on_thread, flushed, frames_after, frames_in, is_base_body, ended_base, new_frame, normal_of, rewaited, resumed, running_after, switched_to, thread_after, thread_if}
+use Rattle.nt_event.specs.Frames.{freed, Frames, at_name, called, end_on_thread, ended_on_thread, flushed, frames_after, frames_in, is_base_body, ended_base, new_frame, normal_of, rewaited, resumed, running_after, switched_to, thread_after, thread_if}
 use Rattle.nt_event.specs.Routines.{kind_of, rundown_of}
 use Rattle.nt_event.specs.Step.{thread_field}
 use Rattle.nt_event.specs.Numbers.{is_by, is_thread, thread}
@@ -87,6 +87,8 @@ ends_after s n due (Rewait f y) r t fs e o k =
     let h = name_ends f (rewaited y) fs (rewaited_keeps y).body (k e) in (inr h, λ _. h)
 ends_after s n due (Normal f) r t fs e o k =
     let h = name_ends f normal_of fs normal_keeps.body (k e) in (inr h, λ _. h)
+ends_after s n due (Free f l) r t fs e o k =
+    let h = name_ends f freed fs (λ f. refl) (k e) in (inr h, λ _. h)
 ends_after s n due (End f) r t fs e o k = let h = end_ends f fs (k e) in (inr h, λ _. h)
 ends_after s n due _ r t fs e o k = (inr (k e), λ _. k e)
 

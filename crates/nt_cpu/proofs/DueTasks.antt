@@ -1,11 +1,11 @@
 -- What holds of the task that a processor has to do next.
-use Rattle.std.proofs.Common.{arith, ◌∙◌}
+use Rattle.std.proofs.Common.{ap, arith, ◌∙◌, ◌∷◌, [], List}
 use Rattle.std.proofs.lemmas.Bool.Decides.{nat_tests}
-use Rattle.std.specs.Option.{option_or}
+use Rattle.std.specs.Option.{option_map_or, option_or}
 use Rattle.std.specs.Prelude.{Bool, IfSome, IsTrue, None, Option, Some, false, find, if◌then◌else◌, is_none, is_some, not, option_and_then, option_map, refl, true, ℕ, ◌&&◌, ◌-◌, ◌<◌, ◌||◌, ◌≡◌}
 use Rattle.nt_event.specs.declared.commands.ApcKind.TheVariants.{User as UserApc}
 use Rattle.nt_event.specs.declared.commands.Command.{Command}
-use Rattle.nt_event.specs.declared.commands.Command.TheVariants.{Delay, Interrupt, LeaveCrit, LeaveGuard, StartWait, ToUser}
+use Rattle.nt_event.specs.declared.commands.Command.TheVariants.{Acquire, Delay, Interrupt, LeaveCrit, LeaveGuard, StartWait, ToUser}
 use Rattle.nt_event.specs.declared.commands.Refusal.{Refusal}
 use Rattle.nt_event.specs.declared.commands.Reply.{Reply}
 use Rattle.nt_event.specs.declared.commands.Reply.TheVariants.{Done, Refused}
@@ -13,8 +13,9 @@ use Rattle.nt_event.specs.declared.events.Begun.TheVariants.{Int}
 use Rattle.nt_event.specs.declared.events.What.TheVariants.{Begin, Call}
 use Rattle.nt_event.specs.declared.frames.Body.{Body}
 use Rattle.nt_event.specs.declared.frames.Body.TheVariants.{Apc as OnApc, Base as OnBase}
-use Rattle.nt_event.specs.declared.frames.Frame.{Frame}
-use Rattle.nt_event.specs.declared.jobs.Job.TheVariants.{Apcs as ApcsJob, Call as CallJob, Drain as DrainJob, Fire as FireJob, Rundown as RundownJob}
+use Rattle.nt_event.specs.declared.frames.Held.{Held}
+use Rattle.nt_event.specs.Frame.{Frame}
+use Rattle.nt_event.specs.declared.jobs.Job.TheVariants.{Apcs as ApcsJob, Call as CallJob, Drain as DrainJob, Fire as FireJob, Free as FreeJob, Rundown as RundownJob}
 use Rattle.nt_event.specs.declared.jobs.Stand.{Stand}
 use Rattle.nt_event.specs.declared.jobs.Task.{Task}
 use Rattle.nt_event.specs.declared.jobs.Task.TheVariants.{Alone, Shared}
@@ -23,22 +24,23 @@ use Rattle.nt_event.specs.declared.numbers.DpcNo.{DpcNo}
 use Rattle.nt_event.specs.declared.scripts.Script.{Script}
 use Rattle.nt_event.specs.Commands.{needs_lane, refusal}
 use Rattle.nt_event.specs.Frames.{Frames, innermost, thread_part}
-use Rattle.nt_event.specs.Jobs.{call_task, command_task, end_task, fire_task, frame_task, has_normal, idle_task, interrupt_task, level_at, may_apcs, may_drain, may_interrupt, may_threaded, must_task, normal_task, rewait_task, rundown_task, task}
-use Rattle.nt_event.specs.Classes.{interrupt_classes, is_requested_level}
+use Rattle.nt_event.specs.Jobs.{call_task, command_task, end_task, fire_task, frame_task, free_task, go_on_task, has_normal, idle_task, interrupt_task, is_due, level_at, may_apcs, may_drain, may_interrupt, may_threaded, must_task, normal_task, rewait_task, rundown_task, task, waits_for_lock}
+use Rattle.nt_event.specs.Classes.{interrupt_classes, is_requested_level, lock_class}
 use Rattle.nt_event.specs.Own.{Own, stand_in}
 use Rattle.nt_event.specs.Regions.{regions_of}
 use Rattle.nt_event.specs.Routines.{next_command}
 use Rattle.nt_event.specs.Script.{command_fits, has_cpu, has_dpc}
-use Rattle.nt_event.specs.Lists.{is_null, value_at, when}
+use Rattle.nt_event.specs.Lists.{head_of, is_null, value_at, when}
 use Rattle.nt_event.specs.Replies.{is_refused}
 use Rattle.nt_event.proofs.Options.{Holds, both, holds_map, holds_or, holds_then, holds_when}
 use Rattle.nt_frame.specs.Rules.{refusal_in}
 use Rattle.nt_frame.proofs.Tasks.{int_may_begin, leaving_here, normal_here, refusal_here}
 use Rattle.nt_cpu.specs.Alone.{ask_when, call_asks}
 use Rattle.nt_cpu.specs.GoodTasks.{GoodTask}
-use Rattle.nt_cpu.specs.Fits.{IsAt, may_call, may_reply}
-use Rattle.nt_cpu.specs.Sound.{IsSound}
+use Rattle.nt_cpu.specs.Fits.{IsAt, lock_below, may_call, may_reply}
+use Rattle.nt_cpu.specs.Sound.{AreBelow, IsSound}
 use Rattle.nt_cpu.specs.States.{CpuState}
+use Rattle.nt_cpu.proofs.Taken.{innermost_small}
 use Rattle.nt_runs.proofs.Declared.{next_fits}
 
 -- ---- what an event that touches no lane asks for
@@ -81,11 +83,16 @@ accepted_call k y x a r = go (is_refused y)
 lane_free : (k : Command) → needs_lane k ≡ false → (not (needs_lane k) && true) ≡ true
 lane_free k h = rw h refl
 
+-- a command that fits acquires a lock of the script
+pub own_lock : (s : Script) (k : Command) → command_fits s k ≡ true → lock_below s.locks k ≡ true
+own_lock s (Acquire l) h = h
+own_lock s _ h = refl
+
 call_good : (c : CpuState) (f : Frame) (k : Command) (r : Option Refusal) → IsSound c → innermost c.own.frames ≡ Some f → refusal_in k c.own.frames ≡ r →
     command_fits c.script k ≡ true → GoodTask c (call_task f k r)
 call_good c f k (Some r) h i e q = record {
   alone = refl;
-  allow = (at_frame f c i, refl);
+  allow = (at_frame f c i, refl, own_lock c.script k q);
   asks = rw (refused_asks (stand_in c.cpu c.own) k r) tt;
 }
 call_good c f ToUser None h i e q = record { frame = f; is = i; accepted = e; fits = q }
@@ -95,7 +102,7 @@ call_good c f k None h i e q = go (needs_lane k) refl
     go true n = record { frame = f; is = i; accepted = e; fits = q }
     go false n = record {
       alone = lane_free k n;
-      allow = (at_frame f c i, accepted_call k Done c.own.frames e (reply_done k n));
+      allow = (at_frame f c i, accepted_call k Done c.own.frames e (reply_done k n), own_lock c.script k q);
       asks = asks_called c k h q;
     }
 
@@ -121,14 +128,23 @@ end_good c f h i l = go f.body refl
       asks = asks_own c _ 1 h;
     }
 
+-- the lock that is held last is one of the script
+free_good : (c : CpuState) (f : Frame) → IsSound c → innermost c.own.frames ≡ Some f → Holds (GoodTask c) (free_task f)
+free_good c f h i = go f.held (innermost_small c.script.locks c.own.made c.own.frames f h.small i).held
+  where
+    go : (hs : List Held) → AreBelow c.script.locks hs → Holds (GoodTask c) (option_map (λ h. Shared (FreeJob h.lock)) (head_of hs))
+    go [] b = tt
+    go (x ∷ xs) b = let l = b.0 in record { frame = f; is = i; fits = grind (arith, nat_tests) }
+
 frame_good : (c : CpuState) (f : Frame) → IsSound c → innermost c.own.frames ≡ Some f → Holds (GoodTask c) (frame_task c.script c.cpu c.own f)
 frame_good c f h i =
     holds_or (GoodTask c) (rewait_task f) _ (holds_when (GoodTask c) (is_some f.again) _ (λ a. record { frame = f; is = i; again = a }))
     (λ _. holds_or (GoodTask c) (rundown_task f) _ (holds_when (GoodTask c) f.leaving _ (λ a. leaving_here f c.own.frames i ∙ a))
     (λ l. holds_or (GoodTask c) (command_task c.own f (next_command c.script c.cpu f)) _ (command_good c f h i)
+    (λ _. holds_or (GoodTask c) (free_task f) _ (free_good c f h i)
     (λ _. holds_or (GoodTask c) (normal_task f) _ (holds_when (GoodTask c) (f.kernel_phase && has_normal f.body) _
     (λ a. record { alone = refl; allow = (at_frame f c i, normal_here f c.own.frames i ∙ a); asks = asks_own c _ 1 h }))
-    (λ _. end_good c f h i (stays f.leaving l)))))
+    (λ _. end_good c f h i (stays f.leaving l))))))
   where
     stays : (b : Bool) → when b (Some (Shared RundownJob)) ≡ None → b ≡ false
     stays true e = absurd cc
@@ -152,12 +168,13 @@ must_good c h =
     fired (Some d) k = k
 
 -- each frame has a task
-frame_has : (a b k d : Option Task) (e : Task) → option_or a (option_or b (option_or k (option_or d (Some e)))) ≡ None → ⊥
-frame_has None None None None e h = cc
-frame_has None None None (Some x) e h = cc
-frame_has None None (Some x) d e h = cc
-frame_has None (Some x) k d e h = cc
-frame_has (Some x) b k d e h = cc
+frame_has : (a b k l d : Option Task) (e : Task) → option_or a (option_or b (option_or k (option_or l (option_or d (Some e))))) ≡ None → ⊥
+frame_has None None None None None e h = cc
+frame_has None None None None (Some x) e h = cc
+frame_has None None None (Some x) d e h = cc
+frame_has None None (Some x) l d e h = cc
+frame_has None (Some x) k l d e h = cc
+frame_has (Some x) b k l d e h = cc
 
 pub no_frame : (c : CpuState) → option_and_then (frame_task c.script c.cpu c.own) (innermost c.own.frames) ≡ None → innermost c.own.frames ≡ None
 no_frame c = go (innermost c.own.frames)
@@ -165,31 +182,55 @@ no_frame c = go (innermost c.own.frames)
     go : (o : Option Frame) → option_and_then (frame_task c.script c.cpu c.own) o ≡ None → o ≡ None
     go None e = refl
     go (Some f) e =
-        absurd (frame_has (rewait_task f) (rundown_task f) (command_task c.own f (next_command c.script c.cpu f)) (normal_task f) (end_task f.name f.body) e)
+        absurd (frame_has (rewait_task f) (rundown_task f) (command_task c.own f (next_command c.script c.cpu f)) (free_task f) (normal_task f)
+        (end_task f.name f.body) e)
 
 pub task_good : (c : CpuState) → IsSound c → Holds (GoodTask c) (task c.script c.cpu c.own)
 task_good c h =
     holds_or (GoodTask c) (must_task c.own) _ (must_good c h)
+    (λ _. holds_when (GoodTask c) (not (waits_for_lock c.own)) (go_on_task c.script c.cpu c.own)
     (λ _. holds_or (GoodTask c) (option_and_then (frame_task c.script c.cpu c.own) (innermost c.own.frames)) _
     (holds_then (GoodTask c) (frame_task c.script c.cpu c.own) (innermost c.own.frames) (λ f i. frame_good c f h i))
-    (λ e. holds_when (GoodTask c) (not (c.own.rested && is_none c.own.frames.running)) _ (λ _. no_frame c e)))
+    (λ e. holds_when (GoodTask c) (not (c.own.rested && is_none c.own.frames.running)) _ (λ _. no_frame c e))))
 
-or_frame : (a b k d : Option Task) (e : Task) (o : Option Task) → option_or (option_or a (option_or b (option_or k (option_or d (Some e))))) o
-    ≡ option_or a (option_or b (option_or k (option_or d (Some e))))
-or_frame None None None None e o = refl
-or_frame None None None (Some x) e o = refl
-or_frame None None (Some x) d e o = refl
-or_frame None (Some x) k d e o = refl
-or_frame (Some x) b k d e o = refl
+or_frame : (a b k l d : Option Task) (e : Task) (o : Option Task) →
+    option_or (option_or a (option_or b (option_or k (option_or l (option_or d (Some e)))))) o
+    ≡ option_or a (option_or b (option_or k (option_or l (option_or d (Some e)))))
+or_frame None None None None None e o = refl
+or_frame None None None None (Some x) e o = refl
+or_frame None None None (Some x) d e o = refl
+or_frame None None (Some x) l d e o = refl
+or_frame None (Some x) k l d e o = refl
+or_frame (Some x) b k l d e o = refl
 
--- where nothing must be done, the innermost frame says what is next
-pub task_of_frame : (s : Script) (p : CpuNo) (x : Own) (f : Frame) → must_task x ≡ None → innermost x.frames ≡ Some f → task s p x ≡ frame_task s p x f
-task_of_frame s p x f m i =
-    rw (m, i) (or_frame (rewait_task f) (rundown_task f) (command_task x f (next_command s p f)) (normal_task f) (end_task f.name f.body) (idle_task x))
+-- a frame that waits for a lock has nothing to do
+pub task_of_waiting : (s : Script) (p : CpuNo) (x : Own) → must_task x ≡ None → waits_for_lock x ≡ true → task s p x ≡ None
+task_of_waiting s p x m w = ap (λ (o : Option Task). option_or o (when (not (waits_for_lock x)) (go_on_task s p x))) m
+    ∙ ap (λ (b : Bool). when (not b) (go_on_task s p x)) w
+
+-- where nothing must be done, and no lock is waited for, what goes on is next
+pub task_goes_on : (s : Script) (p : CpuNo) (x : Own) → must_task x ≡ None → waits_for_lock x ≡ false → task s p x ≡ go_on_task s p x
+task_goes_on s p x m w = ap (λ (o : Option Task). option_or o (when (not (waits_for_lock x)) (go_on_task s p x))) m
+    ∙ ap (λ (b : Bool). when (not b) (go_on_task s p x)) w
+
+-- so the innermost frame says what is next
+pub task_of_frame : (s : Script) (p : CpuNo) (x : Own) (f : Frame) → must_task x ≡ None → waits_for_lock x ≡ false → innermost x.frames ≡ Some f →
+    task s p x ≡ frame_task s p x f
+task_of_frame s p x f m w i =
+    task_goes_on s p x m w
+    ∙ ap (λ (o : Option Frame). option_or (option_and_then (frame_task s p x) o) (idle_task x)) i
+    ∙ or_frame (rewait_task f) (rundown_task f) (command_task x f (next_command s p f)) (free_task f) (normal_task f) (end_task f.name f.body) (idle_task x)
 
 -- where nothing must be done and there is no frame, the processor rests or seeks something to do
 pub task_of_none : (s : Script) (p : CpuNo) (x : Own) → must_task x ≡ None → innermost x.frames ≡ None → task s p x ≡ idle_task x
-task_of_none s p x m i = rw (m, i) refl
+task_of_none s p x m i =
+    let w : waits_for_lock x ≡ false = ap (λ (o : Option Frame). option_map_or (λ f. is_some f.spin) o false && not (is_due x lock_class)) i in
+    task_goes_on s p x m w ∙ ap (λ (o : Option Frame). option_or (option_and_then (frame_task s p x) o) (idle_task x)) i
+
+-- the innermost frame waits for a lock, or doesn't
+pub waits_here : (x : Own) (f : Frame) (b : Bool) → innermost x.frames ≡ Some f → (is_some f.spin && not (is_due x lock_class)) ≡ b → waits_for_lock x ≡ b
+waits_here x f b i h =
+    ap (λ (o : Option Frame). option_map_or (λ g. is_some g.spin) o false && not (is_due x lock_class)) i ∙ h
 
 pub none_of : {A : Type 0} (o : Option A) → is_some o ≡ false → o ≡ None
 none_of None h = refl

@@ -1,20 +1,27 @@
 -- What the calls of the frames leave is what an event leaves.
 use Rattle.std.proofs.Common.{ap, sym, ◌∙◌}
 use Rattle.std.proofs.lemmas.List.{get_or-set_same}
-use Rattle.std.specs.Prelude.{Bool, IsSome, List, None, Option, Some, [], false, get_or, if◌then◌else◌, option_map, refl, true, ℕ, ◌+◌, ◌<◌, ◌∷◌, ◌≡◌}
+use Rattle.std.specs.Prelude.{Bool, IsSome, List, None, Option, Some, [], false, get_or, if◌then◌else◌, is_none, option_map, refl, true, ℕ, ◌+◌, ◌<◌, ◌∷◌, ◌≡◌}
 use Rattle.nt_event.specs.declared.commands.Command.{Command}
-use Rattle.nt_event.specs.declared.commands.Command.TheVariants.{Delay, EnterCrit, EnterGuard, LeaveCrit, LeaveGuard, Lower, Raise, StartWait}
+use Rattle.nt_event.specs.declared.commands.Command.TheVariants.{Acquire, Delay, EnterCrit, EnterGuard, LeaveCrit, LeaveGuard, Lower, Raise, StartWait, Unlock, Yield}
 use Rattle.nt_event.specs.declared.commands.Reply.{Reply}
+use Rattle.nt_event.specs.declared.commands.Reply.TheVariants.{Blocked, Done, No, Refused, Spin, Status, Yes}
+use Rattle.nt_event.specs.declared.frames.Again.{Again}
+use Rattle.nt_event.specs.Locks.{Frees, Gets, LockMove, NoMove, Spins, call_move}
 use Rattle.nt_event.specs.declared.events.What.TheVariants.{Call}
-use Rattle.nt_event.specs.declared.frames.Frame.{Frame}
+use Rattle.nt_event.specs.Frame.{Frame}
+use Rattle.nt_event.specs.declared.numbers.LockNo.{LockNo}
 use Rattle.nt_event.specs.declared.numbers.ThreadNo.{ThreadNo}
 use Rattle.nt_event.specs.Calls.{stops, wait_begun}
-use Rattle.nt_event.specs.Frames.{Frames, at_head, called, done_to, effect, innermost, running_after, thread_part}
+use Rattle.nt_event.specs.Frames.{Frames, again_after, at_head, called, done_to, effect, effect_by, innermost, running_after, thread_part}
 use Rattle.nt_event.specs.Lists.{head_of, is_null}
-use Rattle.nt_event.specs.Replies.{is_done}
-use Rattle.nt_frame.specs.Changes.{at_innermost, on_running}
+use Rattle.nt_event.specs.Replies.{is_done, is_spin}
+use Rattle.nt_frame.specs.Changes.{advanced, at_innermost, on_running}
 use Rattle.nt_frame.specs.Nesting.{AreNested}
-use Rattle.nt_frame.proofs.Commands.{advanced}
+use Rattle.nt_event.proofs.Booleans.{and_right}
+use Rattle.nt_frame.specs.Rules.{refusal_in}
+use Rattle.nt_cpu.specs.Fits.{may_call, may_reply}
+use Rattle.nt_cpu.specs.Moved.{command_done, effect_made, moved}
 use Rattle.nt_frame.proofs.Twice.{at_innermost-at_innermost, at_innermost_by, at_innermost_id, running-at_innermost}
 
 -- a change that makes of each frame the frame itself
@@ -27,8 +34,49 @@ other_effect due (StartWait m a) y f h = cc
 other_effect due (Delay m a units) y f h = cc
 other_effect due _ y f h = refl
 
-pub undone : (due : Option ℕ) (c : Command) (y : Reply) (x : Frames) → wait_begun due c ≡ None → is_done y ≡ false → x ≡ at_innermost (effect due c y) x
-undone due c y x h d = unchanged (effect due c y) x (λ f. other_effect due c y f h ∙ rw d)
+-- only a command that is done, or spins, moves a lock
+no_move : (c : Command) (y : Reply) → is_done y ≡ false → is_spin y ≡ false → call_move c y ≡ NoMove
+no_move (Acquire k) Done d p = absurd (cc)
+no_move (Acquire k) Spin d p = absurd (cc)
+no_move (Unlock k) Done d p = absurd (cc)
+no_move c y d p = refl
+
+pub undone : (due : Option ℕ) (c : Command) (y : Reply) (x : Frames) → wait_begun due c ≡ None → is_done y ≡ false → is_spin y ≡ false →
+    x ≡ at_innermost (effect_made due c y) x
+undone due c y x h d p =
+    unchanged (effect_made due c y) x (λ f. ap (λ (m : LockMove). moved m (effect due c y f)) (no_move c y d p) ∙ (other_effect due c y f h ∙ rw d))
+
+-- one that is done has its effect
+pub done_made : (due : Option ℕ) (c : Command) (y : Reply) (x : Frames) → wait_begun due c ≡ None → is_done y ≡ true →
+    at_innermost (command_done c) x ≡ at_innermost (effect_made due c y) x
+done_made due c Done x h d =
+    at_innermost_by (command_done c) (effect_made due c Done) x (λ f. ap (moved (call_move c Done)) (sym (other_effect due c Done f h)))
+done_made due c Spin x h d = absurd (cc)
+done_made due c Yes x h d = absurd (cc)
+done_made due c No x h d = absurd (cc)
+done_made due c (Status status) x h d = absurd (cc)
+done_made due c Blocked x h d = absurd (cc)
+done_made due c (Refused why) x h d = absurd (cc)
+
+pub spin_made : (due : Option ℕ) (c : Command) (y : Reply) (x : Frames) → wait_begun due c ≡ None → is_spin y ≡ true →
+    at_innermost (moved (call_move c Spin)) x ≡ at_innermost (effect_made due c y) x
+spin_made due c Spin x h d =
+    at_innermost_by (moved (call_move c Spin)) (effect_made due c Spin) x (λ f. ap (moved (call_move c Spin)) (sym (other_effect due c Spin f h)))
+spin_made due c Done x h d = absurd (cc)
+spin_made due c Yes x h d = absurd (cc)
+spin_made due c No x h d = absurd (cc)
+spin_made due c (Status status) x h d = absurd (cc)
+spin_made due c Blocked x h d = absurd (cc)
+spin_made due c (Refused why) x h d = absurd (cc)
+
+-- a command that begins a wait moves no lock
+pub wait_made : (due : Option ℕ) (c : Command) (y : Reply) (w : Again) (x : Frames) → wait_begun due c ≡ Some w →
+    at_innermost (λ f. record f { again = again_after y (Some w) f.again }) x ≡ at_innermost (effect_made due c y) x
+wait_made due (StartWait m a) y w x h = at_innermost_by _ (effect_made due (StartWait m a) y) x
+    (λ f. ap (λ (o : Option Again). effect_by o (StartWait m a) y f) (sym h))
+wait_made due (Delay m a u) y w x h = at_innermost_by _ (effect_made due (Delay m a u) y) x
+    (λ f. ap (λ (o : Option Again). effect_by o (Delay m a u) y f) (sym h))
+wait_made due _ y w x h = cc
 
 -- the innermost frame of a part is changed
 head-at_head : (g : Frame → Frame) (fs : List Frame) → head_of (at_head g fs) ≡ option_map g (head_of fs)
@@ -73,19 +121,57 @@ if_place : (b : Bool) (g f : Frame) → g.place ≡ f.place → (if b then g els
 if_place true g f h = h
 if_place false g f h = refl
 
+moved_place : (m : LockMove) (f : Frame) → (moved m f).place ≡ f.place
+moved_place (Gets k) f = refl
+moved_place (Spins k) f = refl
+moved_place (Frees k) f = refl
+moved_place NoMove f = refl
+
 -- a call's effect leaves the place
 effect_place : (due : Option ℕ) (c : Command) (y : Reply) (f : Frame) → (effect due c y f).place ≡ f.place
 effect_place due (StartWait m a) y f = refl
 effect_place due (Delay m a u) y f = refl
 effect_place due c y f = if_place (is_done y) (done_to c f) f (done_place c f)
 
+pub made_place : (due : Option ℕ) (c : Command) (y : Reply) (f : Frame) → (effect_made due c y f).place ≡ f.place
+made_place due c y f = moved_place (call_move c y) (effect due c y f) ∙ effect_place due c y f
+
+called_made : (due : Option ℕ) (c : Command) (y : Reply) (f : Frame) → is_spin y ≡ false → advanced (effect_made due c y f) ≡ called due c y f
+called_made due c Spin f h = absurd (cc)
+called_made due (Raise l) Done f h = refl
+called_made due (Lower l) Done f h = refl
+called_made due EnterCrit Done f h = refl
+called_made due EnterGuard Done f h = refl
+called_made due LeaveCrit Done f h = refl
+called_made due LeaveGuard Done f h = refl
+called_made due (StartWait m a) Done f h = refl
+called_made due (Delay m a u) Done f h = refl
+called_made due (Acquire k) Done f h = refl
+called_made due (Unlock k) Done f h = refl
+called_made due (Raise l) Yes f h = refl
+called_made due (Raise l) No f h = refl
+called_made due (Raise l) (Status status) f h = refl
+called_made due (Raise l) Blocked f h = refl
+called_made due (Raise l) (Refused why) f h = refl
+called_made due c y f h = refl
+
+-- a try that spins is at its place
+called_spun : (due : Option ℕ) (c : Command) (y : Reply) (f : Frame) → is_spin y ≡ true → may_reply c y ≡ true → effect_made due c y f ≡ called due c y f
+called_spun due c Done f h r = absurd (cc)
+called_spun due c Yes f h r = absurd (cc)
+called_spun due c No f h r = absurd (cc)
+called_spun due c (Status status) f h r = absurd (cc)
+called_spun due c Blocked f h r = absurd (cc)
+called_spun due c (Refused why) f h r = absurd (cc)
+called_spun due (Acquire k) Spin f h r = refl
+called_spun due c Spin f h r = absurd (cc)
+
 -- the effect of a call, and then its place
-pub then_advanced : (due : Option ℕ) (c : Command) (y : Reply) (x : Frames) → AreNested x → at_innermost advanced (at_innermost (effect due c y) x)
-    ≡ at_innermost (called due c y) x
-then_advanced due c y x h =
-    at_innermost-at_innermost advanced (effect due c y) x h
-    ∙ at_innermost_by (λ f. advanced (effect due c y f)) (called due c y) x
-    (λ f. ap (λ (n : ℕ). record (effect due c y f) { place = n + 1 }) (effect_place due c y f))
+pub then_advanced : (due : Option ℕ) (c : Command) (y : Reply) (x : Frames) → AreNested x → is_spin y ≡ false →
+    at_innermost advanced (at_innermost (effect_made due c y) x) ≡ at_innermost (called due c y) x
+then_advanced due c y x h p =
+    at_innermost-at_innermost advanced (effect_made due c y) x h
+    ∙ at_innermost_by (λ f. advanced (effect_made due c y f)) (called due c y) x (λ f. called_made due c y f p)
 
 -- who runs after a call
 pub call_runs : (n : ℕ) (c : Command) (y : Reply) (r : Option ThreadNo) → running_after (Call n c y) r ≡ (if stops c y then None else r)
@@ -106,29 +192,54 @@ some_changed g x y h e q = rw (e, innermost-at_innermost g x h) (go (innermost x
     go None k = k
     go (Some f) k = k
 
-pub place_changed : (due : Option ℕ) (c : Command) (y : Reply) (x z : Frames) (n : ℕ) → AreNested x → z ≡ at_innermost (effect due c y) x →
+pub place_changed : (due : Option ℕ) (c : Command) (y : Reply) (x z : Frames) (n : ℕ) → AreNested x → z ≡ at_innermost (effect_made due c y) x →
     ((f : Frame) → innermost x ≡ Some f → f.place < n) → (f : Frame) → innermost z ≡ Some f → f.place < n
 place_changed due c y x z n h e b f k =
-    go (innermost x) refl (sym (innermost-at_innermost (effect due c y) x h) ∙ (ap innermost (sym e) ∙ k))
+    go (innermost x) refl (sym (innermost-at_innermost (effect_made due c y) x h) ∙ (ap innermost (sym e) ∙ k))
   where
-    go : (o : Option Frame) → innermost x ≡ o → option_map (effect due c y) o ≡ Some f → f.place < n
+    go : (o : Option Frame) → innermost x ≡ o → option_map (effect_made due c y) o ≡ Some f → f.place < n
     go None q i = absurd cc
     go (Some g) q i =
-        let j : effect due c y g ≡ f = cc in rw (← j, effect_place due c y g) (b g q)
+        let j : effect_made due c y g ≡ f = cc in rw (← j, made_place due c y g) (b g q)
 
-pub called_stopped : (due : Option ℕ) (c : Command) (y : Reply) (x a b d : Frames) → AreNested x → a ≡ at_innermost (effect due c y) x → b
+pub called_stopped : (due : Option ℕ) (c : Command) (y : Reply) (x a b d : Frames) → AreNested x → is_spin y ≡ false → a ≡ at_innermost (effect_made due c y) x → b
     ≡ at_innermost advanced a → d ≡ record b { running = None } → stops c y ≡ true → d
     ≡ record (at_innermost (called due c y) x) { running = running_after (Call 0 c y) x.running }
-called_stopped due c y x a b d h p q r t =
+called_stopped due c y x a b d h i p q r t =
     r
-    ∙ ap (λ (z : Frames). record z { running = None }) (q ∙ (ap (at_innermost advanced) p ∙ then_advanced due c y x h))
+    ∙ ap (λ (z : Frames). record z { running = None }) (q ∙ (ap (at_innermost advanced) p ∙ then_advanced due c y x h i))
     ∙ ap (λ (o : Option ThreadNo). record (at_innermost (called due c y) x) { running = o }) (sym (stopped_runs c y x.running t))
 
-pub called_going : (due : Option ℕ) (c : Command) (y : Reply) (x a b : Frames) → AreNested x → a ≡ at_innermost (effect due c y) x → b
+pub called_going : (due : Option ℕ) (c : Command) (y : Reply) (x a b : Frames) → AreNested x → is_spin y ≡ false → a ≡ at_innermost (effect_made due c y) x → b
     ≡ at_innermost advanced a → stops c y ≡ false → b ≡ record (at_innermost (called due c y) x) { running = running_after (Call 0 c y) x.running }
-called_going due c y x a b h p q t =
+called_going due c y x a b h i p q t =
     q
     ∙ ap (at_innermost advanced) p
-    ∙ then_advanced due c y x h
+    ∙ then_advanced due c y x h i
     ∙ ap (λ (o : Option ThreadNo). record (at_innermost (called due c y) x) { running = o })
     (running-at_innermost (called due c y) x ∙ sym (going_runs c y x.running t))
+
+-- a try that spins stops nobody
+spun_goes : (c : Command) (y : Reply) → is_spin y ≡ true → stops c y ≡ false
+spun_goes Yield Spin h = refl
+spun_goes c Spin h = refl
+spun_goes c y h = absurd (cc)
+
+pub called_spins : (due : Option ℕ) (c : Command) (y : Reply) (x a : Frames) → is_spin y ≡ true → may_reply c y ≡ true → a ≡ at_innermost (effect_made due c y) x →
+    a ≡ record (at_innermost (called due c y) x) { running = running_after (Call 0 c y) x.running }
+called_spins due c y x a h r p =
+    p
+    ∙ at_innermost_by (effect_made due c y) (called due c y) x (λ f. called_spun due c y f h r)
+    ∙ ap (λ (o : Option ThreadNo). record (at_innermost (called due c y) x) { running = o })
+    (running-at_innermost (called due c y) x ∙ sym (going_runs c y x.running (spun_goes c y h)))
+
+-- a reply that spins is one that the command may have
+pub spun_reply : (c : Command) (y : Reply) (x : Frames) → is_spin y ≡ true → may_call c y x ≡ true → may_reply c y ≡ true
+spun_reply c Spin x h m = and_right (is_none (refusal_in c x)) (may_reply c Spin) m
+spun_reply c y x h m = absurd (cc)
+
+-- another command than a try of a lock never spins, and moves none
+pub never_spins : (c : Command) (x : Frames) → ((k : LockNo) → c ≡ Acquire k → ⊥) → x ≡ at_innermost (moved (call_move c Spin)) x
+never_spins (Acquire k) x n = absurd (n k refl)
+never_spins (Raise l) x n = unchanged (moved NoMove) x (λ f. refl)
+never_spins c x n = unchanged (moved NoMove) x (λ f. refl)

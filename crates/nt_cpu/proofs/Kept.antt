@@ -4,14 +4,14 @@ use Rattle.std.specs.Prelude.{Bool, List, None, Option, [], false, if◌then◌e
 use Rattle.nt_event.specs.declared.commands.Command.{Command}
 use Rattle.nt_event.specs.declared.commands.Command.TheVariants.{Delay, EnterCrit, EnterGuard, LeaveCrit, LeaveGuard, Lower, Raise, StartWait}
 use Rattle.nt_event.specs.declared.commands.Reply.{Reply}
-use Rattle.nt_event.specs.declared.commands.Reply.TheVariants.{Blocked, Done, No, Refused, Status, Yes}
+use Rattle.nt_event.specs.declared.commands.Reply.TheVariants.{Spin, Blocked, Done, No, Refused, Status, Yes}
 use Rattle.nt_event.specs.declared.events.Begun.TheVariants.{Apc, Dpc, Int, Threaded}
 use Rattle.nt_event.specs.declared.events.What.{What}
-use Rattle.nt_event.specs.declared.events.What.TheVariants.{Begin, Call, End}
+use Rattle.nt_event.specs.declared.events.What.TheVariants.{Free, Begin, Call, End}
 use Rattle.nt_event.specs.declared.frames.Again.{Again}
-use Rattle.nt_event.specs.declared.frames.Frame.{Frame}
+use Rattle.nt_event.specs.Frame.{Frame}
 use Rattle.nt_event.specs.declared.scripts.Script.{Script}
-use Rattle.nt_event.specs.Frames.{Frames, again_after, at_name, called, done_to, own_after, without}
+use Rattle.nt_event.specs.Frames.{freed, Frames, again_after, at_name, called, done_to, own_after, without}
 use Rattle.nt_event.specs.Replies.{is_done, is_refused}
 use Rattle.nt_frame.specs.Nesting.{HaveNoWaits}
 use Rattle.nt_frame.specs.Rules.{refusal_in}
@@ -45,6 +45,7 @@ is_wait _ = false
 wait_none : (y : Reply) (m : Option Again) (old : Option Again) → is_refused y ≡ true → old ≡ None → again_after y m old ≡ None
 wait_none (Refused r) m old h k = k
 wait_none Done m old h k = absurd cc
+wait_none Spin m old h k = absurd cc
 wait_none Yes m old h k = absurd cc
 wait_none No m old h k = absurd cc
 wait_none (Status st) m old h k = absurd cc
@@ -98,5 +99,6 @@ waits_after s m due (Begin (Dpc d) from) x a h = (refl, h)
 waits_after s m due (Begin (Threaded d) from) x a h = (refl, h)
 waits_after s m due (Begin (Apc p) from) x a h = h
 waits_after s m due (Call f c y) x a h = waits_call m due f c y x a.1 h
+waits_after s m due (Free f l) x a h = waits_at_name f freed x.own (λ q k. k) h
 waits_after s m due (End f) x a h = waits_without f x.own h
 waits_after s m due _ x a h = h

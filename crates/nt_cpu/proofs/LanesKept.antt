@@ -1,15 +1,15 @@
 -- An event that touches no lane leaves the states of the lanes.
-use Rattle.std.proofs.Common.{◌∙◌}
+use Rattle.std.proofs.Common.{ap, ◌∙◌}
 use Rattle.std.specs.Prelude.{Bool, List, None, Option, Some, false, if◌then◌else◌, length, refl, true, ℕ, ◌==◌, ◌≡◌}
 use Rattle.nt_event.specs.declared.commands.ApcKind.TheVariants.{User as UserApc}
-use Rattle.nt_event.specs.declared.commands.Command.TheVariants.{Alert, CancelTimer, Clock, Delay, InsertApc, Queue, Release, RemoveApc, SetImportance, SetTarget, SetTimer, StartWait, TestAlert, Unqueue, Yield}
+use Rattle.nt_event.specs.declared.commands.Command.TheVariants.{Acquire, Alert, CancelTimer, Clock, Delay, InsertApc, Queue, Release, RemoveApc, SetImportance, SetTarget, SetTimer, StartWait, TestAlert, Unlock, Unqueue, Yield}
 use Rattle.nt_event.specs.declared.commands.Importance.{Importance}
-use Rattle.nt_event.specs.declared.commands.Reply.TheVariants.{Blocked, Done, No, Status, Yes}
+use Rattle.nt_event.specs.declared.commands.Reply.TheVariants.{Blocked, Done, No, Spin, Status, Yes}
 use Rattle.nt_event.specs.declared.commands.TimerKey.TheVariants.{Delay as OfDelay, Timer as OfTimer}
 use Rattle.nt_event.specs.declared.events.Begun.TheVariants.{Apc, Dpc, Threaded}
 use Rattle.nt_event.specs.declared.events.Event.{Event}
 use Rattle.nt_event.specs.declared.events.What.{What}
-use Rattle.nt_event.specs.declared.events.What.TheVariants.{Begin, Call, End, Expire, Fire, Flush, Gone, Rest, Rewait, Switch}
+use Rattle.nt_event.specs.declared.events.What.TheVariants.{Begin, Call, End, Expire, Fire, Flush, Free, Gone, Rest, Rewait, Switch}
 use Rattle.nt_event.specs.declared.frames.Again.{Again}
 use Rattle.nt_event.specs.declared.frames.Body.{Body}
 use Rattle.nt_event.specs.declared.frames.Body.TheVariants.{Apc as OnApc, Base as OnBase}
@@ -17,17 +17,19 @@ use Rattle.nt_event.specs.declared.inserts.Setting.{Setting}
 use Rattle.nt_event.specs.declared.jobs.Stand.{Stand}
 use Rattle.nt_event.specs.declared.numbers.CpuNo.{CpuNo}
 use Rattle.nt_event.specs.declared.numbers.DpcNo.{DpcNo}
+use Rattle.nt_event.specs.declared.numbers.LockNo.{LockNo}
 use Rattle.nt_event.specs.declared.numbers.ThreadNo.{ThreadNo}
 use Rattle.nt_event.specs.declared.numbers.TimerNo.{TimerNo}
 use Rattle.nt_event.specs.declared.scripts.Script.{Script}
 use Rattle.nt_event.specs.Frames.{time_after}
-use Rattle.nt_event.specs.Lanes.{Lanes, facts_at, lanes_after, object_at, queue_at}
+use Rattle.nt_event.specs.Lanes.{Lanes, facts_at, lanes_after, lock_at, object_at, queue_at}
+use Rattle.nt_event.specs.Locks.{LockMove, LockState, NoMove, lock_after, lock_move, lock_moved, start_lock}
 use Rattle.nt_event.specs.Objects.{ObjectState, importance_after, inserted_dpc, object_after, start_object, target_after, used_up_dpc}
 use Rattle.nt_event.specs.Queues.{QueueState, idle_after, queue_after, start_queue}
 use Rattle.nt_event.specs.Threads.{ThreadFacts, start_facts}
 use Rattle.nt_event.specs.Timers.{blocked_after, delay_after, expired_delay, setting_in, timer_after}
 use Rattle.nt_event.specs.Waits.{facts_after, frame_ended, is_of_thread, made_facts, named_facts}
-use Rattle.nt_event.specs.Numbers.{cpu, dpc, thread, timer}
+use Rattle.nt_event.specs.Numbers.{cpu, dpc, lock, thread, timer}
 use Rattle.nt_event.specs.Lists.{table}
 use Rattle.nt_event.proofs.Tables.{table-self}
 use Rattle.nt_cpu.specs.Alone.{ends_alone, is_alone}
@@ -150,12 +152,23 @@ delay_kept s t n now st e x h =
     m true = keeps_delay st.body e.what n now st.again x h
     m false = refl
 
+no_move : (b : Option Body) (w : What) → is_alone b w ≡ true → lock_move w ≡ NoMove
+no_move b (Call f (Acquire k) Done) h = absurd cc
+no_move b (Call f (Acquire k) Spin) h = absurd cc
+no_move b (Call f (Unlock k) Done) h = absurd cc
+no_move b (Free f k) h = absurd cc
+no_move b _ h = refl
+
+lock_kept : (b : Option Body) (s : Script) (k : LockNo) (e : Event) (x : LockState) → is_alone b e.what ≡ true → lock_after s k e x ≡ x
+lock_kept b s k e x h = ap (λ (m : LockMove). lock_moved s k e.cpu m x) (no_move b e.what h)
+
 pub lanes_kept : (s : Script) (n : ℕ) (st : Stand) (e : Event) (l : Lanes) → HaveStates s l → is_alone st.body e.what ≡ true → lanes_after s n st e l ≡ l
 lanes_kept s n st e l a h = λ i. record {
   objects = o i;
   queues = q i;
   threads = t i;
   timers = record { now = keeps_time st.body e.what l.timers.now h i; timers = k i; delays = d i };
+  locks = m i;
 }
   where
     o : table (length s.dpcs) (λ d. object_after (dpc d) n e.cpu e.what (object_at l (dpc d))) ≡ l.objects
@@ -169,6 +182,10 @@ lanes_kept s n st e l a h = λ i. record {
     t : table (length s.threads) (λ t. facts_after s (thread t) n st e (facts_at l (thread t))) ≡ l.threads
     t =
         table-self start_facts (length s.threads) l.threads _ a.threads (λ i b. facts_kept s (thread i) n st e (facts_at l (thread i)) h)
+
+    m : table s.locks (λ k. lock_after s (lock k) e (lock_at l (lock k))) ≡ l.locks
+    m =
+        table-self start_lock s.locks l.locks _ a.locks (λ i b. lock_kept st.body s (lock i) e (lock_at l (lock i)) h)
 
     k : table (length s.timers) (λ t. timer_after (timer t) n l.timers.now e.what (setting_in l.timers.timers t)) ≡ l.timers.timers
     k =

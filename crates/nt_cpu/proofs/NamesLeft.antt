@@ -7,13 +7,13 @@ use Rattle.std.specs.Prelude.{Bool, List, None, Option, Some, [], false, get_or,
 use Rattle.nt_event.specs.declared.events.Begun.TheVariants.{Apc, Dpc, Int, Threaded}
 use Rattle.nt_event.specs.declared.events.Event.{Event}
 use Rattle.nt_event.specs.declared.events.What.{What}
-use Rattle.nt_event.specs.declared.events.What.TheVariants.{Begin, Call, End, Flush, Gone, Normal, Rewait, Switch}
-use Rattle.nt_event.specs.declared.frames.Frame.{Frame}
+use Rattle.nt_event.specs.declared.events.What.TheVariants.{Free, Begin, Call, End, Flush, Gone, Normal, Rewait, Switch}
+use Rattle.nt_event.specs.Frame.{Frame}
 use Rattle.nt_event.specs.declared.numbers.ApcNo.{ApcNo}
 use Rattle.nt_event.specs.declared.numbers.RoutineNo.{RoutineNo}
 use Rattle.nt_event.specs.declared.numbers.ThreadNo.{ThreadNo}
 use Rattle.nt_event.specs.declared.scripts.Script.{Script}
-use Rattle.nt_event.specs.Frames.{Frames, at_name, called, end_on_thread, ended_on_thread, flushed, frames_after, frames_in, is_base_body, ended_base, normal_of, own_after, rewaited, switched_to, thread_after, thread_if, without}
+use Rattle.nt_event.specs.Frames.{freed, Frames, at_name, called, end_on_thread, ended_on_thread, flushed, frames_after, frames_in, is_base_body, ended_base, normal_of, own_after, rewaited, switched_to, thread_after, thread_if, without}
 use Rattle.nt_event.specs.Routines.{rundown_of}
 use Rattle.nt_event.specs.Numbers.{is_by, thread}
 use Rattle.nt_event.proofs.Tables.{get_or-table, length-table_from}
@@ -66,6 +66,7 @@ next_own n due (Begin (Dpc d) from) fs p h = omega arith
 next_own n due (Begin (Threaded d) from) fs p h = omega arith
 next_own n due (Begin (Apc a) from) fs p h = omega arith
 next_own n due (Call f c y) fs p h = next_named n f (called due c y) fs (called_name due c y) h
+next_own n due (Free f l) fs p h = next_named n f freed fs (λ f. refl) h
 next_own n due (End f) fs p h = next_without n f true fs p h
 next_own n due _ fs p h = omega arith
 
@@ -77,6 +78,7 @@ next_thread s n due (Flush a from) fs p h = next_flushed n a (rundown_of s a) fs
 next_thread s n due (Call f c y) fs p h = next_named n f (called due c y) fs (called_name due c y) h
 next_thread s n due (Rewait f y) fs p h = next_named n f (rewaited y) fs (λ f. refl) h
 next_thread s n due (Normal f) fs p h = next_named n f normal_of fs (λ f. refl) h
+next_thread s n due (Free f l) fs p h = next_named n f freed fs (λ f. refl) h
 next_thread s n due (End f) fs p h = next_ended n f fs p h
 next_thread s n due (Gone t) fs p h = omega arith
 next_thread s n due _ fs p h = omega arith

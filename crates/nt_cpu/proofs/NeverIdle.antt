@@ -1,7 +1,7 @@
 -- A processor that chooses its threads itself never has the job Idle, nor a Switch of a given thread.
-use Rattle.std.proofs.Common.{ap, inl, inr, subst}
+use Rattle.std.proofs.Common.{ap, inl, inr, subst, ◌∙◌}
 use Rattle.std.specs.Option.{option_map_or, option_or}
-use Rattle.std.specs.Prelude.{Bool, List, None, Option, Some, [], false, find, if◌then◌else◌, is_none, is_some, not, option_and_then, refl, true, ℕ, ◌&&◌, ◌-◌, ◌∷◌, ◌≡◌}
+use Rattle.std.specs.Prelude.{Bool, List, None, Option, Some, [], false, find, if◌then◌else◌, is_none, is_some, not, option_and_then, refl, true, ℕ, ◌&&◌, ◌-◌, ◌||◌, ◌∷◌, ◌≡◌}
 use Rattle.nt_event.specs.declared.commands.ApcKind.TheVariants.{User as UserApc}
 use Rattle.nt_event.specs.declared.commands.Command.{Command}
 use Rattle.nt_event.specs.declared.commands.Command.TheVariants.{ToUser}
@@ -11,9 +11,9 @@ use Rattle.nt_event.specs.declared.events.Begun.TheVariants.{Int}
 use Rattle.nt_event.specs.declared.events.What.TheVariants.{Begin, Call, Normal}
 use Rattle.nt_event.specs.declared.frames.Body.{Body}
 use Rattle.nt_event.specs.declared.frames.Body.TheVariants.{Apc as OnApc, Base as OnBase}
-use Rattle.nt_event.specs.declared.frames.Frame.{Frame}
+use Rattle.nt_event.specs.Frame.{Frame}
 use Rattle.nt_event.specs.declared.jobs.Job.{Job}
-use Rattle.nt_event.specs.declared.jobs.Job.TheVariants.{Apcs as ApcsJob, Call as CallJob, Drain as DrainJob, Fire as FireJob, Idle as IdleJob, Pick as PickJob, Rewait as RewaitJob, Rundown as RundownJob, Switch as SwitchJob, Threaded as ThreadedJob}
+use Rattle.nt_event.specs.declared.jobs.Job.TheVariants.{Apcs as ApcsJob, Call as CallJob, Drain as DrainJob, Fire as FireJob, Free as FreeJob, Idle as IdleJob, Pick as PickJob, Rewait as RewaitJob, Rundown as RundownJob, Switch as SwitchJob, Threaded as ThreadedJob}
 use Rattle.nt_event.specs.declared.jobs.Stand.{Stand}
 use Rattle.nt_event.specs.declared.jobs.Task.{Task}
 use Rattle.nt_event.specs.declared.jobs.Task.TheVariants.{Alone, Shared}
@@ -23,7 +23,7 @@ use Rattle.nt_event.specs.declared.scripts.Script.{Script}
 use Rattle.nt_event.specs.Acting.{IsDue, is_choice}
 use Rattle.nt_event.specs.Commands.{needs_lane, refusal}
 use Rattle.nt_event.specs.Frames.{Frames, frames_in, innermost, thread_part}
-use Rattle.nt_event.specs.Jobs.{call_task, chosen_task, command_task, end_task, fire_task, frame_task, has_normal, idle_task, interrupt_task, level_at, may_apcs, may_drain, may_interrupt, may_switch, may_threaded, must, must_task, normal_task, rests, rewait_task, rundown_task, task}
+use Rattle.nt_event.specs.Jobs.{call_task, chosen_task, command_task, end_task, fire_task, frame_task, free_task, go_on_task, has_normal, idle_task, interrupt_task, is_still, level_at, may_apcs, may_drain, may_interrupt, may_switch, may_threaded, must, must_task, normal_task, rests, rewait_task, rundown_task, spins_still, task, waits_for_lock}
 use Rattle.nt_event.specs.Classes.{interrupt_classes}
 use Rattle.nt_event.specs.Own.{Own}
 use Rattle.nt_event.specs.Regions.{regions_of}
@@ -68,8 +68,9 @@ frame_chosen s p x f =
     holds_or (IsChosen x) (rewait_task f) _ (holds_when (IsChosen x) (is_some f.again) (Some (Shared RewaitJob)) (λ _. tt))
     (λ _. holds_or (IsChosen x) (rundown_task f) _ (holds_when (IsChosen x) f.leaving (Some (Shared RundownJob)) (λ _. tt))
     (λ _. holds_or (IsChosen x) (command_task x f (next_command s p f)) _ (command_chosen x f (next_command s p f))
+    (λ _. holds_or (IsChosen x) (free_task f) _ (holds_map (IsChosen x) (λ h. Shared (FreeJob h.lock)) (head_of f.held) (λ h e. tt))
     (λ _. holds_or (IsChosen x) (normal_task f) _ (holds_when (IsChosen x) (f.kernel_phase && has_normal f.body) (Some (Alone (Normal f.name))) (λ _. tt))
-    (λ _. end_chosen x f.name f.body))))
+    (λ _. end_chosen x f.name f.body)))))
 
 must_chosen : (x : Own) → Holds (IsChosen x) (must_task x)
 must_chosen x =
@@ -112,9 +113,10 @@ free_there c h m i =
 task_chosen : (c : CpuState) → IsSound c → Holds (IsChosen c.own) (task c.script c.cpu c.own)
 task_chosen c h =
     holds_or (IsChosen c.own) (must_task c.own) _ (must_chosen c.own)
-    (λ m. holds_or (IsChosen c.own) (option_and_then (frame_task c.script c.cpu c.own) (innermost c.own.frames)) _
+    (λ m. holds_when (IsChosen c.own) (not (waits_for_lock c.own)) (go_on_task c.script c.cpu c.own)
+    (λ _. holds_or (IsChosen c.own) (option_and_then (frame_task c.script c.cpu c.own) (innermost c.own.frames)) _
     (holds_then (IsChosen c.own) (frame_task c.script c.cpu c.own) (innermost c.own.frames) (λ f i. frame_chosen c.script c.cpu c.own f))
-    (λ e. holds_when (IsChosen c.own) (not (c.own.rested && is_none c.own.frames.running)) (Some (Shared IdleJob)) (λ _. free_there c h m (no_frame c e))))
+    (λ e. holds_when (IsChosen c.own) (not (c.own.rested && is_none c.own.frames.running)) (Some (Shared IdleJob)) (λ _. free_there c h m (no_frame c e)))))
 
 -- ---- what a processor chooses
 
@@ -125,7 +127,7 @@ is_refusable (SwitchJob t) = true
 is_refusable job = false
 
 pub never_refused : (c : CpuState) (job : Job) → IsSound c → chosen_task c.script c.cpu c.own ≡ Some (Shared job) → is_refusable job ≡ false
-never_refused c job h e = resting (rests c.own) e
+never_refused c job h e = resting (is_still c.own) e
   where
     good : (job : Job) → may_switch c.own ≡ false → IsChosen c.own (Shared job) → is_refusable job ≡ false
     good IdleJob m k = absurd cc
@@ -146,7 +148,7 @@ never_refused c job h e = resting (rests c.own) e
 
 -- the job is due
 pub chosen_due : (c : CpuState) (job : Job) → chosen_task c.script c.cpu c.own ≡ Some (Shared job) → IsDue c.script c.cpu c.own job
-chosen_due c job e = resting (rests c.own) e
+chosen_due c job e = resting (is_still c.own) e
   where
     choosing : (b : Bool) → may_switch c.own ≡ b → (if b then Some (Shared (PickJob c.own.took)) else task c.script c.cpu c.own) ≡ Some (Shared job) →
         IsDue c.script c.cpu c.own job
@@ -161,7 +163,7 @@ chosen_due c job e = resting (rests c.own) e
 
 -- what holds of what it chooses
 pub chosen_good : (c : CpuState) → IsSound c → Holds (GoodTask c) (chosen_task c.script c.cpu c.own)
-chosen_good c h = resting (rests c.own)
+chosen_good c h = resting (is_still c.own)
   where
     choosing : (b : Bool) → may_switch c.own ≡ b → Holds (GoodTask c) (if b then Some (Shared (PickJob c.own.took)) else task c.script c.cpu c.own)
     choosing true m = m
@@ -171,16 +173,27 @@ chosen_good c h = resting (rests c.own)
     resting true = tt
     resting false = choosing (may_switch c.own) refl
 
--- it chooses nothing exactly where it rests
-pub none_rests : (c : CpuState) → IsSound c → chosen_task c.script c.cpu c.own ≡ None → rests c.own ≡ true
-none_rests c h e = resting (rests c.own) refl e
+-- a processor that waits for a lock, and has nothing that it must do, is still
+still_waiting : (x : Own) → waits_for_lock x ≡ true → must_task x ≡ None → is_still x ≡ true
+still_waiting x w a =
+    let m : must x ≡ false = ap (λ (o : Option Task). is_some o) a in
+    let s : spins_still x ≡ true = ap (λ (b : Bool). b && not (must x)) w ∙ ap (λ (b : Bool). not b) m in
+    ap (λ (b : Bool). rests x || b) s ∙ or_true (rests x)
   where
-    resting : (b : Bool) → rests c.own ≡ b → (if b then None else (if may_switch c.own then Some (Shared (PickJob c.own.took)) else task c.script c.cpu c.own))
-        ≡ None → rests c.own ≡ true
+    or_true : (b : Bool) → (b || true) ≡ true
+    or_true true = refl
+    or_true false = refl
+
+-- it chooses nothing only where it rests or spins still
+pub none_still : (c : CpuState) → IsSound c → chosen_task c.script c.cpu c.own ≡ None → is_still c.own ≡ true
+none_still c h e = resting (is_still c.own) refl e
+  where
+    resting : (b : Bool) → is_still c.own ≡ b → (if b then None else (if may_switch c.own then Some (Shared (PickJob c.own.took)) else task c.script c.cpu c.own))
+        ≡ None → is_still c.own ≡ true
     resting true r q = r
     resting false r q = choosing (may_switch c.own) refl q
       where
-        choosing : (b : Bool) → may_switch c.own ≡ b → (if b then Some (Shared (PickJob c.own.took)) else task c.script c.cpu c.own) ≡ None → rests c.own ≡ true
+        choosing : (b : Bool) → may_switch c.own ≡ b → (if b then Some (Shared (PickJob c.own.took)) else task c.script c.cpu c.own) ≡ None → is_still c.own ≡ true
         choosing true m q = absurd cc
         choosing false m q = absurd (busy (must_task c.own) refl q)
           where
@@ -189,10 +202,14 @@ none_rests c h e = resting (rests c.own) refl e
             idle None a i k = let f = free_there c h a (no_frame c i) in cc
             idle (Some x) a i k = cc
 
-            busy : (o : Option Task) → must_task c.own ≡ o →
-                option_or o (option_or (option_and_then (frame_task c.script c.cpu c.own) (innermost c.own.frames)) (idle_task c.own)) ≡ None → ⊥
-            busy None a k =
+            waiting : (b : Bool) → waits_for_lock c.own ≡ b → must_task c.own ≡ None → when (not b) (go_on_task c.script c.cpu c.own) ≡ None → ⊥
+            waiting true w a k =
+                let still : is_still c.own ≡ true = still_waiting c.own w a in cc
+            waiting false w a k =
                 idle (option_and_then (frame_task c.script c.cpu c.own) (innermost c.own.frames)) a refl k
+
+            busy : (o : Option Task) → must_task c.own ≡ o → option_or o (when (not (waits_for_lock c.own)) (go_on_task c.script c.cpu c.own)) ≡ None → ⊥
+            busy None a k = waiting (waits_for_lock c.own) refl a k
             busy (Some x) a k = cc
 
 -- a floor refuses such a job for want of memory alone

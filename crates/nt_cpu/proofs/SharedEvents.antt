@@ -5,7 +5,7 @@ use Rattle.std.specs.Prelude.{Bool, IfSome, IsTrue, List, None, Option, Some, fa
 use Rattle.nt_event.specs.declared.events.Event.{Event}
 use Rattle.nt_event.specs.declared.events.What.{What}
 use Rattle.nt_event.specs.declared.events.What.TheVariants.{Look}
-use Rattle.nt_event.specs.declared.frames.Frame.{Frame}
+use Rattle.nt_event.specs.Frame.{Frame}
 use Rattle.nt_event.specs.declared.jobs.Job.{Job}
 use Rattle.nt_event.specs.declared.numbers.ThreadNo.{ThreadNo}
 use Rattle.nt_event.specs.Acting.{IsDue}
@@ -37,7 +37,7 @@ stand_fits c h = record { cpu = h.cpu; thread = thread c.own.frames.running h.ne
 
     due : (o : Option Frame) → innermost c.own.frames ≡ o → IfSome (option_and_then (λ f. f.again) o) (λ w. IfSome w.due (λ d. d < 2 ^ 51))
     due None e = tt
-    due (Some f) e = (innermost_small c.own.made c.own.frames f h.small e).due
+    due (Some f) e = (innermost_small c.script.locks c.own.made c.own.frames f h.small e).due
 
 -- the floor is met by a job that is due, where it tells its states
 pub stands_met : (c : CpuState) (states : Option Lanes) (job : Job) → IfSome states (λ l. StandsIn c l) → IsDue c.script c.cpu c.own job →

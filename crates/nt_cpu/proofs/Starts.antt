@@ -3,7 +3,7 @@ use Rattle.std.proofs.Common.{ap, arith, inl, ◌∙◌}
 use Rattle.std.proofs.lemmas.List.Elements.{All-from_get_or, All-nil}
 use Rattle.std.specs.Prelude.{All, IsTrue, List, None, [], false, length, refl, ℕ, ◌<◌, ◌≡◌, ◌≤◌, ◌⊎◌}
 use Rattle.nt_event.specs.declared.limits.TheConstants.{TURNS}
-use Rattle.nt_event.specs.declared.frames.Frame.{Frame}
+use Rattle.nt_event.specs.Frame.{Frame}
 use Rattle.nt_event.specs.declared.numbers.CpuNo.{CpuNo}
 use Rattle.nt_event.specs.declared.scripts.Script.{Script}
 use Rattle.nt_event.specs.Frames.{Frames}
@@ -49,7 +49,7 @@ sound_start s p n fs seen kept f q l e a b =
       served = length-table_from 0 16 (λ c. 0);
       threads = length-table_from {A = List Frame} 0 (length s.threads) (λ _. []);
       nested = nested_start (length s.threads);
-      small = record { own = All-nil (IsSmall 0); threads = each_empty (IsSmallPart 0) (length s.threads) (part_nil 0) };
+      small = record { own = All-nil (IsSmall s.locks 0); threads = each_empty (IsSmallPart s.locks 0) (length s.threads) (part_nil s.locks 0) };
       based = record { parts = each_empty (λ fs. (fs ≡ []) ⊎ EndsInBase fs) (length s.threads) (inl refl); runs = tt };
       waits = tt;
       fire = tt;

@@ -9,7 +9,7 @@ use Rattle.nt_event.specs.declared.jobs.Job.{Job}
 use Rattle.nt_event.specs.declared.jobs.Job.TheVariants.{Pick as PickJob}
 use Rattle.nt_event.specs.declared.jobs.Task.{Task}
 use Rattle.nt_event.specs.declared.jobs.Task.TheVariants.{Alone, Shared}
-use Rattle.nt_event.specs.Jobs.{chosen_task, may_switch, rests, task}
+use Rattle.nt_event.specs.Jobs.{chosen_task, is_still, may_switch, task}
 use Rattle.nt_event.specs.Own.{Own, stand_in}
 use Rattle.nt_event.specs.Robin.{is_behind, look_values}
 use Rattle.nt_event.specs.Step.{is_cut}
@@ -27,7 +27,7 @@ use Rattle.nt_cpu.specs.declared.steps.Local.TheVariants.{Cut, Did, NeedsLane, Q
 use Rattle.nt_cpu.proofs.AloneMoves.{alone_left, alone_moved, found_by, told_have}
 use Rattle.nt_cpu.proofs.Alones.{event_alone, lanes_alone}
 use Rattle.nt_cpu.proofs.Knowing.{rises_known}
-use Rattle.nt_cpu.proofs.NeverIdle.{chosen_good, none_rests}
+use Rattle.nt_cpu.proofs.NeverIdle.{chosen_good, none_still}
 
 -- what holds of what it has to do
 pub step_good : (c : CpuState) (xs : List ℕ) → IsSound c → Holds (GoodTask c) (local_task c xs)
@@ -40,7 +40,7 @@ step_good c xs h = go (is_behind c.own (value_at xs))
 
 -- it chooses no look
 chosen_look : (c : CpuState) (r : Rises) → chosen_task c.script c.cpu c.own ≡ Some (Alone (Look r)) → ⊥
-chosen_look c r e = resting (rests c.own) e
+chosen_look c r e = resting (is_still c.own) e
   where
     choosing : (b : Bool) → (if b then Some (Shared (PickJob c.own.took)) else task c.script c.cpu c.own) ≡ Some (Alone (Look r)) → ⊥
     choosing true q = cc
@@ -115,20 +115,20 @@ needed_job c xs job e = cut (is_cut c.limit c.own) refl e
     cut false t q =
         (t, behind (is_behind c.own (value_at xs)) (answers (local_task c xs) q))
 
--- it is quiet where nothing rose and it rests
-quiet_rests : (c : CpuState) (xs : List ℕ) → IsSound c → local_task c xs ≡ None → rests c.own ≡ true
-quiet_rests c xs h e = go (is_behind c.own (value_at xs)) e
+-- it is quiet where nothing rose and it rests or spins still
+quiet_still : (c : CpuState) (xs : List ℕ) → IsSound c → local_task c xs ≡ None → is_still c.own ≡ true
+quiet_still c xs h e = go (is_behind c.own (value_at xs)) e
   where
     go : (b : Bool) → (if b then Some (Alone (Look (record { value = look_values c.own (value_at xs) }))) else chosen_task c.script c.cpu c.own) ≡ None →
-        rests c.own ≡ true
+        is_still c.own ≡ true
     go true q = cc
-    go false q = none_rests c h q
+    go false q = none_still c h q
 
 pub step_none : (c : CpuState) (xs : List ℕ) (v u : View) → IsSound c → is_cut c.limit c.own ≡ false → local_task c xs ≡ None → AllLooked c.cpu xs v u →
     IsStepped c c xs Quiet v u u
 step_none c xs v u h t q l = record {
   looked = record { cut = λ k. absurd (let x = rw t at k in cc); looks = λ k. l };
   answer = ap (local_answer c) (sym q) ∙ ap (λ (b : Bool). if b then Cut else local_answer c (local_task c xs)) (sym t);
-  quiet = λ k. quiet_rests c xs h q;
+  quiet = λ k. quiet_still c xs h q;
   left = (refl, refl);
 }

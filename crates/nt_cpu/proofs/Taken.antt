@@ -2,9 +2,14 @@
 use Rattle.std.proofs.Common.{ap, arith, ◌∙◌}
 use Rattle.std.proofs.lemmas.List.Elements.{All-head}
 use Rattle.std.specs.Option.{option_map_or, option_or}
-use Rattle.std.specs.Prelude.{Bool, IfSome, List, None, Option, Some, [], length, refl, ℕ, ◌+◌, ◌<◌, ◌^◌, ◌∷◌, ◌≡◌}
+use Rattle.std.proofs.lemmas.Bool.Decides.{nat_tests}
+use Rattle.std.specs.Prelude.{Bool, IfSome, List, None, Option, Some, [], false, length, nat_le, refl, true, ℕ, ◌&&◌, ◌+◌, ◌<◌, ◌^◌, ◌∷◌, ◌≡◌, ◌≤◌}
+use Rattle.nt_event.specs.declared.events.What.{What}
+use Rattle.nt_event.specs.Script.{fits, meets_limits}
+use Rattle.nt_event.proofs.Booleans.{and_left, and_right}
+use Rattle.nt_event.specs.declared.events.What.TheVariants.{Call}
 use Rattle.nt_event.specs.declared.events.Event.{Event}
-use Rattle.nt_event.specs.declared.frames.Frame.{Frame}
+use Rattle.nt_event.specs.Frame.{Frame}
 use Rattle.nt_event.specs.declared.numbers.DpcNo.{DpcNo}
 use Rattle.nt_event.specs.declared.numbers.ThreadNo.{ThreadNo}
 use Rattle.nt_event.specs.declared.scripts.Script.{Script}
@@ -25,28 +30,28 @@ use Rattle.nt_cpu.specs.States.{CpuState}
 use Rattle.nt_cpu.proofs.Based.{based_after}
 use Rattle.nt_runs.proofs.Declared.{fire_after_fits}
 use Rattle.nt_cpu.proofs.Kept.{waits_after}
-use Rattle.nt_cpu.proofs.Small.{part_nil, part_of, small_after}
+use Rattle.nt_cpu.proofs.Small.{LockFits, part_nil, part_of, small_after}
 
 -- the innermost frame is small
-pub innermost_small : (n : ℕ) (x : Frames) (f : Frame) → AreSmall n x → innermost x ≡ Some f → IsSmall n f
-innermost_small n x f h k = go x.own refl k
+pub innermost_small : (m n : ℕ) (x : Frames) (f : Frame) → AreSmall m n x → innermost x ≡ Some f → IsSmall m n f
+innermost_small m n x f h k = go x.own refl k
   where
-    part : (r : Option ThreadNo) → IsSmallPart n (option_map_or (frames_in x.threads) r [])
-    part None = part_nil n
-    part (Some t) = part_of n x.threads t.0 h.threads
+    part : (r : Option ThreadNo) → IsSmallPart m n (option_map_or (frames_in x.threads) r [])
+    part None = part_nil m n
+    part (Some t) = part_of m n x.threads t.0 h.threads
 
-    on_thread : (fs : List Frame) → thread_part x ≡ fs → head_of fs ≡ Some f → IsSmall n f
+    on_thread : (fs : List Frame) → thread_part x ≡ fs → head_of fs ≡ Some f → IsSmall m n f
     on_thread [] e q = absurd cc
     on_thread (g ∷ gs) e q =
         let i : g ≡ f = cc in
-        let p : IsSmallPart n (g ∷ gs) = rw (← e) (part x.running) in
-        rw (← i) (All-head (IsSmall n) g gs p.frames)
+        let p : IsSmallPart m n (g ∷ gs) = rw (← e) (part x.running) in
+        rw (← i) (All-head (IsSmall m n) g gs p.frames)
 
-    go : (os : List Frame) → x.own ≡ os → option_or (head_of os) (head_of (thread_part x)) ≡ Some f → IsSmall n f
+    go : (os : List Frame) → x.own ≡ os → option_or (head_of os) (head_of (thread_part x)) ≡ Some f → IsSmall m n f
     go [] e q = on_thread (thread_part x) refl q
     go (g ∷ gs) e q =
         let i : g ≡ f = cc in
-        rw (← i) (All-head (IsSmall n) g gs (rw e at h.own))
+        rw (← i) (All-head (IsSmall m n) g gs (rw e at h.own))
 
 -- the record of what is left, field by field
 pub left_is : (c : CpuState) (n : ℕ) (due : Option ℕ) (e : Event) (fs : Frames) (served : List ℕ) (rested : Bool) (took : Option ThreadNo)
@@ -78,6 +83,22 @@ sound_seen c xs h l = record {
   fire = h.fire;
 }
 
+first_test : (a b c d e f g h : Bool) → (a && b && c && d && e && f && g && h) ≡ true → a ≡ true
+first_test true b c d e f g h k = refl
+first_test false b c d e f g h k = k
+
+-- a script that fits has at most 64 locks
+pub locks_most : (s : Script) → fits s ≡ true → s.locks ≤ 64
+locks_most s f =
+    let m : meets_limits s ≡ true = first_test (meets_limits s) _ _ _ _ _ _ _ f in
+    let l : nat_le s.locks 64 ≡ true = and_right _ (nat_le s.locks 64) (and_left _ _ (and_left _ _ m)) in
+    grind (arith, nat_tests)
+
+-- an event that the frames allow acquires a lock of the script
+allowed_lock : (s : Script) (w : What) (x : Frames) → Allow s w x → LockFits s.locks w
+allowed_lock s (Call f c y) x a = a.2
+allowed_lock s _ x a = tt
+
 -- what holds of a processor at any time holds after an event that its frames allow
 pub sound_after : (c : CpuState) (n : ℕ) (due : Option ℕ) (e : Event) (seen : ℕ → ℕ) → IsSound c → c.own.made < c.limit → IfSome due (λ d. d < 2 ^ 51) →
     e.thread ≡ thread_field e.what c.own.frames.running → Allow c.script e.what c.own.frames → AreNested (frames_after c.script n due e c.own.frames) →
@@ -92,7 +113,7 @@ sound_after c n due e seen h m d t a nested = record {
   threads = length-table_from 0 (length c.script.threads)
       (λ t. thread_if (is_by e (thread t)) c.script n due e.what (frames_in c.own.frames.threads (thread t)));
   nested = nested;
-  small = small_after c.script c.own.made n due e c.own.frames d h.small;
+  small = small_after c.script.locks c.script c.own.made n due e c.own.frames d (allowed_lock c.script e.what c.own.frames a) h.small;
   based = based_after c.script n due e c.own.frames h.threads t
       (rw (
         length-table_from {A = List Frame} 0 (length c.script.threads)

@@ -7,14 +7,14 @@ use Rattle.nt_event.specs.declared.commands.Reply.{Reply}
 use Rattle.nt_event.specs.declared.commands.Reply.TheVariants.{Done}
 use Rattle.nt_event.specs.declared.events.Begun.TheVariants.{Apc, Dpc, Int, Threaded}
 use Rattle.nt_event.specs.declared.events.What.{What}
-use Rattle.nt_event.specs.declared.events.What.TheVariants.{Begin, Call, Clean, End, Expire, Fire, Flush, Gone, Look, Normal, Rest, Rewait, Switch}
+use Rattle.nt_event.specs.declared.events.What.TheVariants.{Begin, Call, Clean, End, Expire, Fire, Flush, Free, Gone, Look, Normal, Rest, Rewait, Switch}
 use Rattle.nt_event.specs.declared.frames.Body.{Body}
 use Rattle.nt_event.specs.declared.frames.Body.TheVariants.{Apc as OnApc, Base as OnBase}
 use Rattle.nt_event.specs.declared.jobs.Stand.{Stand}
 use Rattle.nt_event.specs.declared.numbers.CpuNo.{CpuNo}
 use Rattle.nt_event.specs.Commands.{needs_lane}
 use Rattle.nt_event.specs.Frames.{Frames, innermost, is_normal_apc_body, level_in}
-use Rattle.nt_event.specs.Regions.{after_in, some_came_to_0}
+use Rattle.nt_event.specs.Regions.{ended_level_in, some_came_to_0}
 use Rattle.nt_event.specs.Requests.{Ask}
 use Rattle.nt_event.specs.Replies.{is_done, is_refused}
 use Rattle.nt_event.specs.Lists.{value_at}
@@ -51,6 +51,7 @@ is_alone b (Switch t status) = false
 is_alone b (Rewait f y) = false
 is_alone b (Flush a from) = false
 is_alone b (Gone t) = false
+is_alone b (Free f k) = false
 is_alone b Rest = false
 
 -- the processor's level after it
@@ -80,13 +81,15 @@ call_level (cmd.Interrupt q level) y old = old
 call_level (cmd.Clock units) y old = old
 call_level cmd.ToUser y old = old
 call_level cmd.Yield y old = old
+call_level (cmd.Acquire k) y old = old
+call_level (cmd.Unlock k) y old = old
 call_level (cmd.Note k) y old = old
 
 abbrev pub alone_level : What → Frames → ℕ
 alone_level (Call f c y) x = call_level c y (level_in x)
 alone_level (Begin (Int level) from) x = level
 alone_level (Normal f) x = 0
-alone_level (End f) x = after_in x
+alone_level (End f) x = ended_level_in x
 alone_level (Look r) x = 0
 alone_level (Begin (Dpc d) from) x = level_in x
 alone_level (Begin (Threaded d) from) x = level_in x
@@ -98,6 +101,7 @@ alone_level (Switch t status) x = level_in x
 alone_level (Rewait f y) x = level_in x
 alone_level (Flush a from) x = level_in x
 alone_level (Gone t) x = level_in x
+alone_level (Free f k) x = level_in x
 alone_level Rest x = level_in x
 
 -- ---- what it asks for: nothing, or a class of a processor
@@ -133,6 +137,8 @@ call_asks st (cmd.Interrupt q level) y = None
 call_asks st (cmd.Clock units) y = None
 call_asks st cmd.ToUser y = None
 call_asks st cmd.Yield y = None
+call_asks st (cmd.Acquire k) y = None
+call_asks st (cmd.Unlock k) y = None
 call_asks st (cmd.Note k) y = None
 
 abbrev pub is_normal_end : Option Body → Bool
@@ -152,6 +158,7 @@ alone_asks st (Switch t status) = None
 alone_asks st (Rewait f y) = None
 alone_asks st (Flush a from) = None
 alone_asks st (Gone t) = None
+alone_asks st (Free f k) = None
 alone_asks st Rest = None
 
 abbrev pub as_list : Option Asked → List Ask

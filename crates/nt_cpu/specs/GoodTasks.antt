@@ -2,14 +2,15 @@
 use Rattle.std.specs.Prelude.{None, Some, is_some, true, false, ◌≡◌}
 use Rattle.nt_event.specs.declared.commands.Command.{Command}
 use Rattle.nt_event.specs.declared.commands.Command.TheVariants.{ToUser}
-use Rattle.nt_event.specs.declared.frames.Frame.{Frame}
+use Rattle.nt_event.specs.Frame.{Frame}
 use Rattle.nt_event.specs.declared.jobs.Job.{Job}
-use Rattle.nt_event.specs.declared.jobs.Job.TheVariants.{Apcs as ApcsJob, Call as CallJob, Drain as DrainJob, Fire as FireJob, Idle as IdleJob, Leave as LeaveJob, Pick as PickJob, Rewait as RewaitJob, Rundown as RundownJob, Switch as SwitchJob, Threaded as ThreadedJob, ToUser as ToUserJob, UserEnd as UserEndJob}
+use Rattle.nt_event.specs.declared.jobs.Job.TheVariants.{Apcs as ApcsJob, Call as CallJob, Drain as DrainJob, Fire as FireJob, Free as FreeJob, Idle as IdleJob, Leave as LeaveJob, Pick as PickJob, Rewait as RewaitJob, Rundown as RundownJob, Switch as SwitchJob, Threaded as ThreadedJob, ToUser as ToUserJob, UserEnd as UserEndJob}
 use Rattle.nt_event.specs.declared.jobs.Task.{Task}
 use Rattle.nt_event.specs.declared.jobs.Task.TheVariants.{Alone, Shared}
+use Rattle.nt_event.specs.declared.numbers.LockNo.{LockNo}
 use Rattle.nt_event.specs.Frames.{innermost}
 use Rattle.nt_event.specs.Jobs.{may_apcs, may_drain, may_switch, may_threaded}
-use Rattle.nt_event.specs.Script.{command_fits, has_dpc, has_thread}
+use Rattle.nt_event.specs.Script.{command_fits, has_dpc, has_lock, has_thread}
 use Rattle.nt_frame.specs.Rules.{is_leaving, refusal_in}
 use Rattle.nt_cpu.specs.Alone.{MayBe}
 use Rattle.nt_cpu.specs.States.{CpuState}
@@ -33,9 +34,16 @@ pub record Awaits (c : CpuState) : Type 0 where
   pub is : innermost c.own.frames ≡ Some frame
   pub again : is_some frame.again ≡ true
 
+-- the innermost frame holds this lock of the script
+pub record Frees (c : CpuState) (k : LockNo) : Type 0 where
+  pub frame : Frame
+  pub is : innermost c.own.frames ≡ Some frame
+  pub fits : has_lock c.script k ≡ true
+
 abbrev pub GoodJob : CpuState → Job → Type 0
 GoodJob c (CallJob k) = Calls c k
 GoodJob c (FireJob d) = has_dpc c.script d ≡ true
+GoodJob c (FreeJob k) = Frees c k
 GoodJob c DrainJob = may_drain c.own ≡ true
 GoodJob c ApcsJob = may_apcs c.own ≡ true
 GoodJob c ThreadedJob = may_threaded c.own ≡ true

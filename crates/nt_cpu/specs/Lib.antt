@@ -1,6 +1,7 @@
 pub mod States
 pub mod Due
 pub mod Fits
+pub mod Moved
 pub mod Notices
 pub mod Plans
 pub mod Leaves

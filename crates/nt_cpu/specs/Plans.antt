@@ -1,7 +1,7 @@
 -- The task that a plan stands for.
 use Rattle.std.specs.Prelude.{Bool, None, Option, Some, option_map, ℕ, ◌≡◌}
 use Rattle.nt_event.specs.declared.commands.Command.{Command}
-use Rattle.nt_event.specs.declared.frames.Frame.{Frame}
+use Rattle.nt_event.specs.Frame.{Frame}
 use Rattle.nt_event.specs.declared.commands.Regions.{Regions}
 use Rattle.nt_event.specs.Commands.{refusal}
 use Rattle.nt_event.specs.Frames.{Frames, thread_part}

@@ -8,7 +8,7 @@ use Rattle.nt_event.specs.declared.jobs.Task.{Task}
 use Rattle.nt_event.specs.declared.jobs.Task.TheVariants.{Alone, Shared}
 use Rattle.nt_event.specs.declared.numbers.CpuNo.{CpuNo}
 use Rattle.nt_event.specs.Classes.{is_used_class}
-use Rattle.nt_event.specs.Jobs.{chosen_task, rests}
+use Rattle.nt_event.specs.Jobs.{chosen_task, is_still}
 use Rattle.nt_event.specs.Lanes.{what_lanes}
 use Rattle.nt_event.specs.Own.{Own, stand_in}
 use Rattle.nt_event.specs.Robin.{is_behind, look_values}
@@ -106,11 +106,12 @@ abbrev pub LocalLeaves : CpuState → CpuState → Local → View → View → T
 LocalLeaves c d (LocalDid e) u w = (f : Found) × (n : ℕ) × IsApart c d f n e u w
 LocalLeaves c d r u w = (d ≡ c) × (w ≡ u)
 
--- after the looks the answer is what they and the processor's state give; it is Quiet only where the processor rests
+-- after the looks the answer is what they and the processor's state give; it is Quiet only where the processor rests or
+-- spins still
 pub record IsStepped (c d : CpuState) (answers : List ℕ) (r : Local) (v u w : View) : Type 0 where
   pub looked : AreLooked c answers v u
   pub answer : r ≡ local_gives c answers
-  pub quiet : r ≡ LocalQuiet → rests c.own ≡ true
+  pub quiet : r ≡ LocalQuiet → is_still c.own ≡ true
   pub left : LocalLeaves c d r u w
 
 -- ---- steps under lanes
@@ -135,12 +136,12 @@ pub record GoesOn (c d : CpuState) (v w : View) : Type 0 where
   pub alone : w.alone ≡ v.alone
 
 -- what an advance left, after looks with these answers: its event touched no lane; or a floor made it, as told by
--- `found`; or it rests and no request rose; or it is cut
+-- `found`; or it rests or spins still, and no request rose; or it is cut
 abbrev pub Advanced : CpuState → CpuState → List ℕ → (ℕ → Event → Stand → Found → Type 0) → Turned → View → View →
     Type 0
 Advanced c d answers found (Did e) u w =
     ((local_gives c answers ≡ LocalDid e) × LocalLeaves c d (LocalDid e) u w) ⊎
     ((job : Job) × (local_gives c answers ≡ NeedsLane job) ×
     ((f : Found) × (n : ℕ) × (IsShared c d job f n e u w × found n e (stand_in c.cpu c.own) f)))
-Advanced c d answers found Quiet u w = (local_gives c answers ≡ LocalQuiet) × (rests c.own ≡ true) × (d ≡ c) × (w ≡ u)
+Advanced c d answers found Quiet u w = (local_gives c answers ≡ LocalQuiet) × (is_still c.own ≡ true) × (d ≡ c) × (w ≡ u)
 Advanced c d answers found Cut u w = (local_gives c answers ≡ LocalCut) × (d ≡ c) × (w ≡ u)

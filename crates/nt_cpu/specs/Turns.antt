@@ -38,6 +38,7 @@ pub record HaveStates (s : Script) (l : Lanes) : Type 0 where
   pub threads : length l.threads ≡ length s.threads
   pub timers : length l.timers.timers ≡ length s.timers
   pub delays : length l.timers.delays ≡ length s.threads
+  pub locks : length l.locks ≡ s.locks
 
 -- in these states of the lanes the processor stands as it keeps, and each job that is due is allowed
 pub record StandsIn (c : CpuState) (l : Lanes) : Type 0 where

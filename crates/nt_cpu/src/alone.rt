@@ -13,8 +13,9 @@ ghost use Rattle.nt_cpu.specs.Alone.{IsAlone, IsMarkedFor, MayBe, alone_asks, al
 
 use crate::cpu::Cpu;
 use crate::notice::Notice;
-use nt_event::{ApcKind, Begun, Body, Command, CpuNo, Event, Frame, Level, Reply, Rises, What};
+use nt_event::{ApcKind, Begun, Body, Command, CpuNo, Event, Level, Reply, Rises, What};
 use nt_floor::Words;
+use nt_frame::Frame;
 
 /// A class of a processor for which an event asks.
 #[derive(Clone, Copy, PartialEq, Eq, Debug)]
@@ -61,6 +62,7 @@ fn call_level(command: &Command, reply: &Reply, old: Level) -> Level
         Command::StartWait(_, _) | Command::Delay(_, _, _) | Command::Release(_) => old,
         Command::Alert(_, _) | Command::TestAlert(_) => old,
         Command::ToUser | Command::Yield => old,
+        Command::Acquire(_) | Command::Unlock(_) => old,
     }
 }
 
@@ -123,6 +125,7 @@ impl<'s> Cpu<'s> {
             Command::StartWait(_, _) | Command::Delay(_, _, _) | Command::Release(_) => None,
             Command::Alert(_, _) | Command::TestAlert(_) => None,
             Command::ToUser | Command::Yield | Command::Note(_) => None,
+            Command::Acquire(_) | Command::Unlock(_) => None,
         }
     }
 
@@ -139,7 +142,7 @@ impl<'s> Cpu<'s> {
         ensures { result ≡ (stand_in self.now.cpu self.now.own).body }
     {
         match self.frames.top() {
-            Some(frame) => Some(frame.body),
+            Some(frame) => Some(frame.body()),
             None => None,
         }
     }
@@ -163,6 +166,7 @@ impl<'s> Cpu<'s> {
             | What::Rewait { .. }
             | What::Flush { .. }
             | What::Gone { .. }
+            | What::Free { .. }
             | What::Rest => None,
         }
     }
@@ -211,9 +215,9 @@ impl<'s> Cpu<'s> {
         *event = Event {
             cpu: self.cpu,
             thread: self.frames.running(),
-            level: call_level(command, &reply, frame.level),
+            level: call_level(command, &reply, frame.level()),
             what: What::Call {
-                frame: frame.name,
+                frame: frame.name(),
                 command: *command,
                 reply,
             },
@@ -254,7 +258,7 @@ impl<'s> Cpu<'s> {
         *event = Event {
             cpu: self.cpu,
             thread: self.frames.running(),
-            level: self.frames.after(),
+            level: self.frames.ended_level(),
             what: What::End { frame },
         };
     }

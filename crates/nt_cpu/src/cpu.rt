@@ -1,6 +1,6 @@
 //! What a processor keeps.
 ghost use Rattle.std.specs.Prelude.{◌≡◌, ◌<◌, ◌≤◌, ◌&&◌, [], IfOk, IsTrue, length, not};
-ghost use Rattle.nt_event.specs.Jobs.{may_switch as switch_in, rests as rests_in};
+ghost use Rattle.nt_event.specs.Jobs.{is_still as is_still_in, may_switch as switch_in, rests as rests_in, spins_still as spins_still_in};
 ghost use Rattle.nt_event.specs.Own.{own_of};
 ghost use Rattle.nt_event.specs.Script.{fits, has_cpu};
 ghost use Rattle.nt_event.specs.Step.{is_cut};
@@ -100,6 +100,20 @@ impl<'s> Cpu<'s> {
         ensures { result ≡ rests_in self.now.own }
     {
         self.kept.rested && !self.must()
+    }
+
+    /// Whether its innermost frame spins, no release was noticed since its last try, and nothing must be done.
+    pub fn spins_still(&self) -> bool
+        ensures { result ≡ spins_still_in self.now.own }
+    {
+        self.waits_for_lock() && !self.must()
+    }
+
+    /// Whether it has nothing to do: it rests, or spins still.
+    pub fn is_still(&self) -> bool
+        ensures { result ≡ is_still_in self.now.own }
+    {
+        (self.kept.rested || self.waits_for_lock()) && !self.must()
     }
 
     /// Whether it may take up a thread: it is not cut, no thread runs, no frame stands on its own part, and nothing must be done.

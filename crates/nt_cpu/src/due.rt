@@ -5,7 +5,7 @@ ghost use Rattle.nt_cpu.specs.Due.{above_level as above, greatest_due as greates
 use crate::values::Values;
 use nt_floor::Seen;
 
-/// The classes of interrupts, the greatest first; 12 is never requested.
+/// The classes of interrupts, the greatest first; 12, that of released locks, is none.
 const CLASSES: [u8; 11] = [14, 13, 11, 10, 9, 8, 7, 6, 5, 4, 3];
 
 /// Whether a request of the class was noticed and not served.

@@ -1,29 +1,33 @@
 //! What an event leaves of the frames.
-ghost use Rattle.std.specs.Prelude.{◌≡◌, ◌<◌, [], IsSome, IsTrue, Some, None, if◌then◌else◌, length, is_some, false, true};
+ghost use Rattle.std.specs.Prelude.{◌≡◌, ◌<◌, ◌≤◌, [], IsSome, IsTrue, Some, None, if◌then◌else◌, length, is_some, false, true};
 ghost use Rattle.std.specs.Option.{ForSome};
+ghost use Rattle.nt_event.specs.declared.commands.Reply.{Reply};
 ghost use Rattle.nt_event.specs.declared.events.What.{What};
 ghost use Rattle.nt_event.specs.declared.frames.Body.{Body};
 ghost use Rattle.nt_event.specs.declared.frames.Region.{Region};
-ghost use Rattle.nt_event.specs.Frames.{again_after, called, done_to, effect as effect_of, frames_after, frames_in, innermost, ended_base, rewaited, resumed, running_after};
+ghost use Rattle.nt_event.specs.Frames.{again_after, called, frames_after, frames_in, innermost, ended_base, rewaited, resumed, running_after};
+ghost use Rattle.nt_event.specs.Locks.{call_move};
 ghost use Rattle.nt_event.specs.Routines.{rundown_of};
 ghost use Rattle.nt_event.specs.Step.{thread_field};
 ghost use Rattle.nt_event.specs.Lists.{is_null};
 ghost use Rattle.nt_frame.specs.Changes.{at_innermost, begun, taken, without_innermost};
 ghost use Rattle.nt_frame.specs.Nesting.{AreNamedBelow, AreNested};
-ghost use Rattle.nt_frame.specs.Rules.{count_of, is_at_base, is_frames_own, is_leaving, refusal_in, regions_in};
-ghost use Rattle.nt_cpu.specs.Fits.{Allow, body_of as begun_body, is_wait_reply, may_call};
+ghost use Rattle.nt_frame.specs.Rules.{count_of, is_at_base, is_leaving, refusal_in, regions_in};
+ghost use Rattle.nt_cpu.specs.Fits.{Allow, body_of as begun_body, is_wait_reply, lock_below, may_call};
+ghost use Rattle.nt_cpu.specs.Moved.{command_done, effect_made, moved};
 ghost use Rattle.nt_event.specs.Calls.{stops as stops_of, wait_begun};
 
 use nt_event::status::KERNEL_APC;
 use nt_event::{Again, ApcNo, Begun, Body, Command, Event, Region, Reply, Script, ThreadNo, What};
 use nt_frame::Frames;
 
-/// A command that is done changes the innermost frame's level, or a count of its regions.
+/// A command that is done changes the innermost frame's level, a count of its regions, or the locks that it holds.
 fn do_command(frames: &mut Frames, command: &Command)
     requires frame { IsSome (innermost frames.old) }
-    requires may { is_frames_own command.now ≡ true → refusal_in command.now frames.old ≡ None }
+    requires may { refusal_in command.now frames.old ≡ None }
+    requires lock { IsTrue (lock_below 64 command.now) }
     requires room { (r : Region) → count_of r (regions_in frames.old) < 4294967295 }
-    ensures { frames.new ≡ at_innermost (done_to command.now) frames.old }
+    ensures { frames.new ≡ at_innermost (command_done command.now) frames.old }
 {
     match command {
         Command::Raise(level) => {
@@ -56,6 +60,12 @@ fn do_command(frames: &mut Frames, command: &Command)
                 unreachable!()
             }
         }
+        Command::Acquire(lock) => frames.acquired(*lock, true),
+        Command::Unlock(lock) => {
+            if frames.unlock(*lock).is_err() {
+                unreachable!()
+            }
+        }
         Command::Queue(_)
         | Command::Unqueue(_)
         | Command::SetImportance(_, _)
@@ -77,6 +87,18 @@ fn do_command(frames: &mut Frames, command: &Command)
     }
 }
 
+/// The innermost frame spins on the lock that the command tries.
+fn spin_on(frames: &mut Frames, command: &Command)
+    requires frame { IsSome (innermost frames.old) }
+    requires may { refusal_in command.now frames.old ≡ None }
+    requires lock { IsTrue (lock_below 64 command.now) }
+    ensures { frames.new ≡ at_innermost (moved (call_move command.now Reply.Spin)) frames.old }
+{
+    if let Command::Acquire(lock) = command {
+        frames.acquired(*lock, false);
+    }
+}
+
 /// A wait that blocks, or that a kernel APC interrupts, is kept to be taken up; another one is over.
 fn set_wait(frames: &mut Frames, wait: Again, reply: &Reply)
     requires { IsSome (innermost frames.old) }
@@ -91,7 +113,7 @@ fn set_wait(frames: &mut Frames, wait: Again, reply: &Reply)
             }
         }
         Reply::Blocked => frames.set_again(Some(wait)),
-        Reply::Done | Reply::Yes | Reply::No | Reply::Refused(_) => {}
+        Reply::Done | Reply::Yes | Reply::No | Reply::Spin | Reply::Refused(_) => {}
     }
 }
 
@@ -131,6 +153,8 @@ fn wait_of(command: &Command, due: Option<u64>) -> Option<Again>
         | Command::Clock(_)
         | Command::ToUser
         | Command::Yield
+        | Command::Acquire(_)
+        | Command::Unlock(_)
         | Command::Note(_) => None,
     }
 }
@@ -139,14 +163,17 @@ fn wait_of(command: &Command, due: Option<u64>) -> Option<Again>
 fn take_effect(frames: &mut Frames, command: &Command, reply: &Reply, due: Option<u64>)
     requires frame { IsSome (innermost frames.old) }
     requires may { IsTrue (may_call command.now reply.now frames.old) }
+    requires lock { IsTrue (lock_below 64 command.now) }
     requires room { (r : Region) → count_of r (regions_in frames.old) < 4294967295 }
-    ensures { frames.new ≡ at_innermost (effect_of due command.now reply.now) frames.old }
+    ensures { frames.new ≡ at_innermost (effect_made due command.now reply.now) frames.old }
 {
     match wait_of(command, due) {
         Some(wait) => set_wait(frames, wait, reply),
         None => {
             if reply.is_done() {
                 do_command(frames, command);
+            } else if reply.is_spin() {
+                spin_on(frames, command);
             }
         }
     }
@@ -165,10 +192,14 @@ fn call(frames: &mut Frames, command: &Command, reply: &Reply, due: Option<u64>)
     requires frame { IsSome (innermost frames.old) }
     requires place { ForSome (innermost frames.old) (λ f. f.place < 4294967295) }
     requires may { IsTrue (may_call command.now reply.now frames.old) }
+    requires lock { IsTrue (lock_below 64 command.now) }
     requires room { (r : Region) → count_of r (regions_in frames.old) < 4294967295 }
     ensures { frames.new ≡ record (at_innermost (called due command.now reply.now) frames.old) { running = running_after (What.Call 0 command.now reply.now) frames.old.running } }
 {
     take_effect(frames, command, reply, due);
+    if reply.is_spin() {
+        return;
+    }
     frames.advance_place();
     if stops(command, reply) {
         frames.switch_away();
@@ -189,7 +220,7 @@ fn rewait(frames: &mut Frames, reply: &Reply)
             }
         }
         Reply::Blocked => frames.switch_away(),
-        Reply::Done | Reply::Yes | Reply::No | Reply::Refused(_) => {}
+        Reply::Done | Reply::Yes | Reply::No | Reply::Spin | Reply::Refused(_) => {}
     }
 }
 
@@ -210,7 +241,7 @@ fn is_base(frames: &Frames) -> bool
     ensures { result ≡ is_at_base frames.now }
 {
     match frames.top() {
-        Some(frame) => matches!(&frame.body, Body::Base(_)),
+        Some(frame) => matches!(frame.body(), Body::Base(_)),
         None => false,
     }
 }
@@ -273,6 +304,7 @@ pub fn apply(frames: &mut Frames, script: &Script, event: &Event, n: u64, due: O
     requires number { AreNamedBelow n frames.old }
     requires place { ForSome (innermost frames.old) (λ f. f.place < 4294967295) }
     requires room { (r : Region) → count_of r (regions_in frames.old) < 4294967295 }
+    requires locks { script.now.locks ≤ 64 }
     requires thread { event.now.thread ≡ thread_field event.now.what frames.old.running }
     requires allow { Allow script.now event.now.what frames.old }
     ensures { frames.new ≡ frames_after script.now n due event.now frames.old }
@@ -288,6 +320,9 @@ pub fn apply(frames: &mut Frames, script: &Script, event: &Event, n: u64, due: O
         What::Rewait { reply, .. } => rewait(frames, reply),
         What::Flush { apc, .. } => flush(frames, script, *apc, n),
         What::Gone { .. } => frames.gone(),
+        What::Free { .. } => {
+            let _ = frames.free();
+        }
         What::Look { .. } => {}
         What::Expire { .. } => {}
         What::Fire { .. } => {}

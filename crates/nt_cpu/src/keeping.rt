@@ -15,6 +15,9 @@ use nt_floor::Seen;
 /// The class of dispatch, whose service ends a sweep of the timers.
 const DISPATCH: u8 = 2;
 
+/// The class of released locks, which a try that spins serves.
+const LOCK: u8 = 12;
+
 /// The class of the clock, whose interrupt owes a sweep of the timers.
 const CLOCK: u8 = 13;
 
@@ -131,6 +134,10 @@ impl Kept {
             }
             What::Call { command, reply, .. } => {
                 self.sweep = sweep_after(command, reply, self.sweep);
+                if reply.is_spin() {
+                    self.served.serve(LOCK, seen);
+                    return true;
+                }
                 false
             }
             What::Rest => {
@@ -143,6 +150,7 @@ impl Kept {
             What::Rewait { .. } => false,
             What::Flush { .. } => false,
             What::Gone { .. } => false,
+            What::Free { .. } => false,
         }
     }
 }

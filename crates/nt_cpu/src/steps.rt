@@ -36,7 +36,7 @@ pub enum Local {
     Did(Event),
     /// The next event needs a floor, for this job.
     NeedsLane(Job),
-    /// The processor rests, and no request rose.
+    /// The processor rests or spins still, and no request rose.
     Quiet,
     /// The processor made as many events as it may.
     Cut,
@@ -47,7 +47,7 @@ pub enum Local {
 pub enum Turned {
     /// It made this event.
     Did(Event),
-    /// The processor rests, and no request rose.
+    /// The processor rests or spins still, and no request rose.
     Quiet,
     /// The processor made as many events as it may.
     Cut,
@@ -94,12 +94,12 @@ impl<'s> Cpu<'s> {
         self.seen.below(answers)
     }
 
-    /// What it chooses to do: nothing where it rests; a ready thread where one may be taken up; else what is next.
+    /// What it chooses to do: nothing where it rests or spins still; a ready thread where one may be taken up; else what is next.
     fn chosen_task(&self, event: &mut Event) -> Option<Plan>
         ensures task { planned event.new result ≡ chosen_of self.now.script self.now.cpu self.now.own }
         ensures written { IsWritten self.now event.old event.new result }
     {
-        if self.rests() {
+        if self.is_still() {
             None
         } else if self.is_free() {
             Some(Plan::Shared(Job::Pick(self.kept.took)))
@@ -124,7 +124,7 @@ impl<'s> Cpu<'s> {
     /// Makes its next event where that touches no lane, and else tells what it needs; it waits for nobody.
     ///
     /// Unless the processor is cut, it first looks once at each used class of requests. Where a look gave more than the value seen,
-    /// the event is a Look with exactly these values. Else, where it rests, the answer is Quiet.
+    /// the event is a Look with exactly these values. Else, where it rests or spins still, the answer is Quiet.
     pub fn step_local<W: Words>(&mut self, words: &mut W) -> Local
         requires serves { Serves self.old (W.view words.old) }
         ensures step { (answers : List ℕ) × (u : View) × IsStepped self.old self.new answers result (W.view words.old) u (W.view words.new) }
@@ -174,7 +174,7 @@ impl<'s> Cpu<'s> {
 
     /// Makes its next event: looks, and then the event alone or with the floor; it takes up a ready thread where one may be taken.
     ///
-    /// Quiet comes where the processor rests and no look gave more than the value seen; Cut where it made as many events as it may.
+    /// Quiet comes where the processor rests or spins still and no look gave more than the value seen; Cut where it made as many events as it may.
     /// After NoMemory no event was made and the processor is as before; the floor has the looks more.
     pub fn advance<F: Floor>(&mut self, floor: &mut F) -> Result<Turned, AllocError>
         requires script { F.script floor.old ≡ self.old.script }

@@ -1,12 +1,12 @@
 //! What a processor has to do next, as far as it knows alone.
-ghost use Rattle.std.specs.Prelude.{◌≡◌, ◌<◌, ◌-◌, IfSome, find, not, option_copied};
+ghost use Rattle.std.specs.Prelude.{◌≡◌, ◌<◌, ◌-◌, ◌&&◌, IfSome, find, is_some, not, option_copied};
 ghost use Rattle.std.specs.Option.{option_map_or};
 ghost use Rattle.nt_event.specs.declared.events.Begun.{Begun};
 ghost use Rattle.nt_event.specs.declared.events.Event.{Event};
 ghost use Rattle.nt_event.specs.declared.events.What.{What};
 ghost use Rattle.nt_event.specs.Commands.{refusal as refusal_of};
 ghost use Rattle.nt_event.specs.Frames.{thread_part};
-ghost use Rattle.nt_event.specs.Jobs.{call_task as call_of, command_task as command_of, end_task as end_of, frame_task as frame_of, has_normal as goes_on, idle_task as idle_of, is_due as due_in, level_at, may_apcs as apcs_in, may_drain as drain_in, may_interrupt, may_switch as switch_in, may_threaded as threaded_in, must as must_in, must_task as must_of, task as task_of};
+ghost use Rattle.nt_event.specs.Jobs.{call_task as call_of, command_task as command_of, end_task as end_of, frame_task as frame_of, has_normal as goes_on, idle_task as idle_of, is_due as due_in, level_at, may_apcs as apcs_in, may_drain as drain_in, may_interrupt, may_switch as switch_in, may_threaded as threaded_in, must as must_in, must_task as must_of, task as task_of, waits_for_lock as waits_in_own};
 ghost use Rattle.nt_event.specs.Classes.{interrupt_classes};
 ghost use Rattle.nt_event.specs.Routines.{next_command as next_of};
 ghost use Rattle.nt_event.specs.Regions.{regions_of};
@@ -17,8 +17,8 @@ ghost use Rattle.nt_cpu.specs.Plans.{IsWritten, ServeFor, planned, task_in};
 use crate::cpu::Cpu;
 use crate::due::{above_level, is_due};
 use crate::plan::Plan;
-use nt_event::{ApcKind, Body, Command, Event, Frame, Job, Level, Refusal, Regions, Reply};
-use nt_frame::{Frames, refusal};
+use nt_event::{ApcKind, Body, Command, Event, Job, Level, Refusal, Regions, Reply, class};
+use nt_frame::{Frame, Frames, refusal};
 
 impl<'s> Cpu<'s> {
     fn level(&self) -> Level
@@ -116,11 +116,38 @@ impl<'s> Cpu<'s> {
         self.may_drain(level) || self.may_apcs(level) || self.may_threaded(level)
     }
 
+    /// Whether this innermost frame spins, and no release was noticed since its last try.
+    fn waits_in(&self, frame: &Frame) -> bool
+        ensures { result ≡ (is_some frame.now.spin && not (due_in self.now.own 12)) }
+    {
+        frame.spin().is_some() && !self.is_due(class::LOCK)
+    }
+
+    /// Whether the innermost frame spins, and no release was noticed since its last try.
+    pub(crate) fn waits_for_lock(&self) -> bool
+        ensures { result ≡ waits_in_own self.now.own }
+    {
+        match self.frames.top() {
+            Some(frame) => self.waits_in(frame),
+            None => false,
+        }
+    }
+
     /// Whether no thread runs, no frame stands on the own part and nothing must be done.
     pub(crate) fn is_free(&self) -> bool
         ensures { result ≡ switch_in self.now.own }
     {
         self.frames.running().is_none() && (!self.frames.has_own() && !self.must())
+    }
+
+    /// The next command of a frame; a leaving base has none.
+    fn next_command(&self, frame: &Frame) -> Option<Command>
+        ensures { result ≡ next_of self.now.script self.now.cpu frame.now }
+    {
+        if frame.leaving() {
+            return None;
+        }
+        self.script.command_at(self.cpu, &frame.body(), frame.kernel_phase(), frame.place())
     }
 
     /// The next command of the innermost frame is refused, called alone, or a job.
@@ -129,7 +156,7 @@ impl<'s> Cpu<'s> {
         ensures task { planned event.new result ≡ command_of self.now.own frame.now (next_of self.now.script self.now.cpu frame.now) }
         ensures written { IsWritten self.now event.old event.new result }
     {
-        match self.script.next_command(self.cpu, frame) {
+        match self.next_command(frame) {
             Some(command) => Some(self.call_in(frame, &command, event)),
             None => None,
         }
@@ -142,7 +169,13 @@ impl<'s> Cpu<'s> {
         ensures written { IsWritten self.now event.old event.new (Some result) }
     {
         let regions = regions_for(&self.frames, command);
-        let refused = refusal(frame.level, self.frames.has_own(), &regions, frame, command);
+        let refused = refusal(
+            frame.level(),
+            self.frames.has_own(),
+            &regions,
+            frame,
+            command,
+        );
         self.call_task(frame, command, refused, event)
     }
 
@@ -180,18 +213,21 @@ impl<'s> Cpu<'s> {
         ensures task { planned event.new result ≡ frame_of self.now.script self.now.cpu self.now.own frame.now }
         ensures written { IsWritten self.now event.old event.new result }
     {
-        if frame.again.is_some() {
+        if frame.again().is_some() {
             return Some(Plan::Shared(Job::Rewait));
         }
-        if frame.leaving {
+        if frame.leaving() {
             return Some(Plan::Shared(Job::Rundown));
         }
         let command = self.command_task(frame, event);
         if command.is_some() {
             return command;
         }
-        if frame.kernel_phase && has_normal(&frame.body) {
-            self.write_normal(frame.name, event);
+        if let Some(lock) = frame.last_held() {
+            return Some(Plan::Shared(Job::Free(lock)));
+        }
+        if frame.kernel_phase() && has_normal(&frame.body()) {
+            self.write_normal(frame.name(), event);
             return Some(Plan::Alone);
         }
         Some(self.end_task(frame, event))
@@ -202,15 +238,15 @@ impl<'s> Cpu<'s> {
         ensures task { task_in event.new result ≡ end_of frame.now.name frame.now.body }
         ensures written { IsWritten self.now event.old event.new (Some result) }
     {
-        match &frame.body {
+        match frame.body() {
             Body::Base(_) => Plan::Shared(Job::Leave),
             Body::Apc(_, ApcKind::User) => Plan::Shared(Job::UserEnd),
             Body::Int(_) | Body::Dpc(_) | Body::Threaded(_) | Body::Rundown(_) => {
-                self.write_end(frame.name, event);
+                self.write_end(frame.name(), event);
                 Plan::Alone
             }
             Body::Apc(_, ApcKind::Special) | Body::Apc(_, ApcKind::Normal) => {
-                self.write_end(frame.name, event);
+                self.write_end(frame.name(), event);
                 Plan::Alone
             }
         }
@@ -239,7 +275,13 @@ impl<'s> Cpu<'s> {
             return must;
         }
         match top {
-            Some(frame) => self.frame_task(frame, event),
+            Some(frame) => {
+                if self.waits_in(frame) {
+                    None
+                } else {
+                    self.frame_task(frame, event)
+                }
+            }
             None => self.idle_task(),
         }
     }
@@ -250,7 +292,7 @@ fn level_of(top: Option<&Frame>) -> Level
     ensures { result ≡ option_map_or (λ f. f.level) (option_copied top.entry) 0 }
 {
     match top {
-        Some(frame) => frame.level,
+        Some(frame) => frame.level(),
         None => Level::PASSIVE,
     }
 }

@@ -10,7 +10,7 @@ use Rattle.nt_event.specs.declared.events.Turn.TheVariants.{Look as LookTurn, Ne
 use Rattle.nt_event.specs.declared.numbers.CpuNo.{CpuNo}
 use Rattle.nt_event.specs.declared.numbers.ThreadNo.{ThreadNo}
 use Rattle.nt_event.specs.declared.scripts.Script.{Script}
-use Rattle.nt_event.specs.Jobs.{rests}
+use Rattle.nt_event.specs.Jobs.{is_still}
 use Rattle.nt_event.specs.Lanes.{Lanes, lanes_at}
 use Rattle.nt_event.specs.Own.{Own, own_of}
 use Rattle.nt_event.specs.Requests.{asked, seen}
@@ -36,7 +36,7 @@ use Rattle.nt_cpus.specs.declared.robins.Step.TheVariants.{Look, Next, Switch}
 -- the turn, by the values of a look
 abbrev by_values : Script → CpuNo → Own → Lanes → List ℕ → Option Turn
 by_values s p x l vs =
-    if list_any (λ v. nat_lt 0 v) vs then Some (LookTurn p (record { value = vs })) else (if rests x then None else Some (go_on_turn s p x l))
+    if list_any (λ v. nat_lt 0 v) vs then Some (LookTurn p (record { value = vs })) else (if is_still x then None else Some (go_on_turn s p x l))
 
 same_values : (x : Own) (f g : ℕ → ℕ) → ((k : ℕ) → k < 16 → f k ≡ g k) → look_values x f ≡ look_values x g
 same_values x f g h =
@@ -88,23 +88,23 @@ abbrev by_tests : Script → CpuNo → Own → Lanes → (ℕ → ℕ) → Bool 
 by_tests s p x l asked b r =
     if b then Some (LookTurn p (record { value = look_values x asked })) else (if r then None else Some (go_on_turn s p x l))
 
-tested : (s : Script) (p : CpuNo) (x : Own) (l : Lanes) (asked : ℕ → ℕ) (b r : Bool) → is_behind x asked ≡ b → rests x ≡ r → robin_at s p x l asked
+tested : (s : Script) (p : CpuNo) (x : Own) (l : Lanes) (asked : ℕ → ℕ) (b r : Bool) → is_behind x asked ≡ b → is_still x ≡ r → robin_at s p x l asked
     ≡ by_tests s p x l asked b r
 tested s p x l asked b r i k =
-    ap (λ (z : Bool). by_tests s p x l asked z (rests x)) i ∙ ap (by_tests s p x l asked b) k
+    ap (λ (z : Bool). by_tests s p x l asked z (is_still x)) i ∙ ap (by_tests s p x l asked b) k
 
 -- it looks
 pub looks_turn : (s : Script) (p : CpuNo) (x : Own) (l : Lanes) (asked : ℕ → ℕ) → is_behind x asked ≡ true →
     Some (LookTurn p (record { value = look_values x asked })) ≡ robin_at s p x l asked
-looks_turn s p x l asked b = sym (tested s p x l asked true (rests x) b refl)
+looks_turn s p x l asked b = sym (tested s p x l asked true (is_still x) b refl)
 
--- it rests
-pub rests_turn : (s : Script) (p : CpuNo) (x : Own) (l : Lanes) (asked : ℕ → ℕ) → is_behind x asked ≡ false → rests x ≡ true → None
+-- it rests or spins still
+pub rests_turn : (s : Script) (p : CpuNo) (x : Own) (l : Lanes) (asked : ℕ → ℕ) → is_behind x asked ≡ false → is_still x ≡ true → None
     ≡ robin_at s p x l asked
 rests_turn s p x l asked b r = sym (tested s p x l asked false true b r)
 
 -- it goes on
-pub goes_turn : (s : Script) (p : CpuNo) (x : Own) (l : Lanes) (asked : ℕ → ℕ) (t : Turn) → is_behind x asked ≡ false → rests x ≡ false → t
+pub goes_turn : (s : Script) (p : CpuNo) (x : Own) (l : Lanes) (asked : ℕ → ℕ) (t : Turn) → is_behind x asked ≡ false → is_still x ≡ false → t
     ≡ go_on_turn s p x l → Some t ≡ robin_at s p x l asked
 goes_turn s p x l asked t b r e = ap (λ (u : Turn). Some u) e ∙ sym (tested s p x l asked false false b r)
 

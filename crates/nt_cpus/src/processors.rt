@@ -68,7 +68,7 @@ impl<'s> Processors<'s> {
     ///
     /// The processors and the floor stand after some run; what comes is what the turn gives after it, and they stand after its event then.
     /// The event is written where the caller keeps it. NoSuchCpu comes where the script does not have the processor. NothingToDo comes
-    /// where the processor made as many events as it may, and for a turn Next where it rests or has to choose a thread; BadLook where no
+    /// where the processor made as many events as it may, and for a turn Next where it rests, spins still or has to choose a thread; BadLook where no
     /// value rises, or one is not above what was seen or was not asked for; BadChoice where the thread cannot be taken up or no choice may
     /// be made.
     pub fn turn<F: OpenFloor>(

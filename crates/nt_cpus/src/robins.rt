@@ -50,7 +50,7 @@ fn going_on<F: OpenFloor>(cpu: &Cpu, floor: &F, p: CpuNo) -> Step
     }
 }
 
-/// What a processor does that is not cut: it looks at what was asked for, does nothing where it rests, else it goes on.
+/// What a processor does that is not cut: it looks at what was asked for, does nothing where it rests or spins still, else it goes on.
 ///
 /// No more was seen than was asked for, so it is behind exactly where the sum of what was seen is below that of the requests.
 #[inline(always)]
@@ -63,7 +63,7 @@ fn uncut_step<F: OpenFloor>(cpu: &Cpu, floor: &F, p: CpuNo) -> Option<Step>
     if cpu.is_behind_sum(floor.asked_sum(p)) {
         return Some(Step::Look);
     }
-    if cpu.rests() {
+    if cpu.is_still() {
         return None;
     }
     Some(going_on(cpu, floor, p))
@@ -73,7 +73,7 @@ impl<'s> Processors<'s> {
     /// The turn of the robin rule (profile), where the last event is that of this processor; None exactly where all is settled.
     ///
     /// The processors are tried in a cycle from the one after that of the last event: one that is cut has no turn; else it looks at
-    /// what was asked for and not seen; else it has no turn where it rests; else it takes up the next ready thread, where it may
+    /// what was asked for and not seen; else it has no turn where it rests or spins still; else it takes up the next ready thread, where it may
     /// take one up and one is ready; else it makes its next event.
     pub fn robin<F: OpenFloor>(&self, floor: &F, last: Option<CpuNo>) -> Option<Turn>
         requires after { (past : List Event) × (AreAfter past self.now (F.script floor.now) (F.view floor.now) × (last ≡ last_cpu past)) }
@@ -87,7 +87,7 @@ impl<'s> Processors<'s> {
 
     /// The turn of the robin rule for this processor alone; None where the script has no such processor.
     ///
-    /// One that is cut has no turn; else it looks at what was asked for and not seen; else it has no turn where it rests; else it takes
+    /// One that is cut has no turn; else it looks at what was asked for and not seen; else it has no turn where it rests or spins still; else it takes
     /// up the next ready thread, where it may take one up and one is ready; else it makes its next event.
     pub fn robin_of<F: OpenFloor>(&self, floor: &F, p: CpuNo) -> Option<Turn>
         requires { AreSound self.now (F.script floor.now) (F.view floor.now) }
@@ -148,7 +148,7 @@ impl<'s> Processors<'s> {
         None
     }
 
-    /// What this processor does by the robin rule; None where it is cut, or rests and has seen all that was asked for.
+    /// What this processor does by the robin rule; None where it is cut, or rests or spins still and has seen all that was asked for.
     #[inline(always)]
     fn step_of<F: OpenFloor>(&self, floor: &F, p: CpuNo) -> Option<Step>
         requires sound { AreSound self.now (F.script floor.now) (F.view floor.now) }
@@ -231,7 +231,7 @@ impl<'s> Processors<'s> {
         }
     }
 
-    /// Whether all is settled: each processor is cut, or rests and has seen what was asked for.
+    /// Whether all is settled: each processor is cut, or rests or spins still and has seen what was asked for.
     pub fn settled<F: OpenFloor>(&self, floor: &F) -> bool
         requires { AreSound self.now (F.script floor.now) (F.view floor.now) }
         ensures { (past : List Event) → AreAfter past self.now (F.script floor.now) (F.view floor.now) → result ≡ is_settled self.now.script self.now.limit past }

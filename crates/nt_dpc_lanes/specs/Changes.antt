@@ -2,7 +2,7 @@
 use Rattle.std.specs.Prelude.{Bool, IfSome, IsTrue, None, Option, Some, false, if◌then◌else◌, option_map, set, true, ℕ}
 use Rattle.std.specs.Prelude.{◌≡◌}
 use Rattle.nt_event.specs.declared.commands.Command.{Command}
-use Rattle.nt_event.specs.declared.commands.Command.TheVariants.{Alert, CancelTimer, Clock, Delay, EnterCrit}
+use Rattle.nt_event.specs.declared.commands.Command.TheVariants.{Acquire, Alert, CancelTimer, Clock, Delay, EnterCrit}
 use Rattle.nt_event.specs.declared.commands.Command.TheVariants.{EnterGuard}
 use Rattle.nt_event.specs.declared.commands.Command.TheVariants.{InsertApc, Interrupt, LeaveCrit, LeaveGuard, Lower}
 use Rattle.nt_event.specs.declared.commands.Command.TheVariants.{Note, Queue}
@@ -10,12 +10,12 @@ use Rattle.nt_event.specs.declared.commands.Command.TheVariants.{Raise, Release,
 use Rattle.nt_event.specs.declared.commands.Command.TheVariants.{SetImportance as SetImportanceCall}
 use Rattle.nt_event.specs.declared.commands.Command.TheVariants.{SetTarget as SetTargetCall, SetTimer, StartWait}
 use Rattle.nt_event.specs.declared.commands.Command.TheVariants.{TestAlert, ToUser}
-use Rattle.nt_event.specs.declared.commands.Command.TheVariants.{Unqueue, Yield}
+use Rattle.nt_event.specs.declared.commands.Command.TheVariants.{Unlock, Unqueue, Yield}
 use Rattle.nt_event.specs.declared.commands.Reply.{Reply}
 use Rattle.nt_event.specs.declared.events.Begun.{Begun}
 use Rattle.nt_event.specs.declared.events.Begun.TheVariants.{Apc, Dpc, Int, Threaded}
 use Rattle.nt_event.specs.declared.events.What.{What}
-use Rattle.nt_event.specs.declared.events.What.TheVariants.{Begin, Call, Clean, End, Expire, Fire, Flush, Gone, Look}
+use Rattle.nt_event.specs.declared.events.What.TheVariants.{Begin, Call, Clean, End, Expire, Fire, Flush, Free, Gone, Look}
 use Rattle.nt_event.specs.declared.events.What.TheVariants.{Normal, Rest as RestEvent, Rewait, Switch}
 use Rattle.nt_event.specs.declared.inserts.Part.TheVariants.{Ordinary as OrdinaryPart, Threaded as ThreadedPart}
 use Rattle.nt_event.specs.declared.inserts.Standing.{Standing}
@@ -60,6 +60,8 @@ call_change (Interrupt p l) y = Nothing
 call_change (Clock units) y = Nothing
 call_change ToUser y = Nothing
 call_change Yield y = Nothing
+call_change (Acquire k) y = Nothing
+call_change (Unlock k) y = Nothing
 call_change (Note n) y = Nothing
 
 abbrev pub begin_change : Begun → Change
@@ -82,6 +84,7 @@ change_of (Switch t status) = Run
 change_of (Rewait f y) = Nothing
 change_of (Flush a from) = Nothing
 change_of (Gone t) = Nothing
+change_of (Free f k) = Nothing
 change_of RestEvent = Rest
 
 -- ---- what a change leaves, by what it leaves of an object and of a queue (nt_dpc)

@@ -43,7 +43,8 @@ pub fn change_of(what: &What) -> Change
         | What::Clean { .. }
         | What::Rewait { .. }
         | What::Flush { .. }
-        | What::Gone { .. } => Change::Nothing,
+        | What::Gone { .. }
+        | What::Free { .. } => Change::Nothing,
     }
 }
 
@@ -84,6 +85,8 @@ fn of_call(command: &Command, reply: &Reply) -> Change
         | Command::Clock(_)
         | Command::ToUser
         | Command::Yield
+        | Command::Acquire(_)
+        | Command::Unlock(_)
         | Command::Note(_) => Change::Nothing,
     }
 }

@@ -1,11 +1,13 @@
 -- What it says of the innermost frame that a command isn't refused.
-use Rattle.std.proofs.Common.{◌≡◌, ℕ, ◌≤◌, Bool, true, false, nat_lt, Option, None, Some, arith, refl}
+use Rattle.std.proofs.Common.{◌≡◌, ℕ, ◌≤◌, ◌&&◌, Bool, true, false, nat_lt, not, Option, None, Some, arith, refl}
 use Rattle.std.proofs.lemmas.Bool.Decides.{nat_tests}
-use Rattle.nt_event.specs.declared.commands.Command.TheVariants.{Lower, Raise}
+use Rattle.nt_event.specs.declared.commands.Command.TheVariants.{Acquire, Lower, Raise}
 use Rattle.nt_event.specs.declared.commands.Refusal.{Refusal}
-use Rattle.nt_event.specs.declared.commands.Refusal.TheVariants.{NotGreater}
-use Rattle.nt_event.specs.declared.frames.Frame.{Frame}
-use Rattle.nt_event.specs.Commands.{refuse}
+use Rattle.nt_event.specs.declared.commands.Refusal.TheVariants.{BelowBase, HeldHere, LockHeld, NotGreater, NotLess, TooHigh}
+use Rattle.nt_event.specs.Frame.{Frame}
+use Rattle.nt_event.specs.declared.numbers.LockNo.{LockNo}
+use Rattle.nt_event.specs.Commands.{holds, refuse}
+use Rattle.nt_event.specs.Lists.{is_null}
 use Rattle.nt_event.specs.Frames.{Frames, base_of, innermost}
 use Rattle.nt_frame.specs.Rules.{refusal_in}
 
@@ -27,4 +29,12 @@ raise_accepted f x l k m =
 
 pub lower_accepted : (f : Frame) (x : Frames) (l : ℕ) → innermost x ≡ Some f → refusal_in (Lower l) x ≡ None → base_of f ≤ l
 lower_accepted f x l k m =
-    not_lt l (base_of f) (passed _ _ None (passed_on (nat_lt f.level l) _ _ (rw k at m)))
+    not_lt l (base_of f) (passed (nat_lt l (base_of f)) BelowBase (refuse (not (is_null f.held) && nat_lt l 2) LockHeld None)
+    (passed_on (nat_lt f.level l) NotLess (refuse (nat_lt l (base_of f)) BelowBase (refuse (not (is_null f.held) && nat_lt l 2) LockHeld None)) (rw k at m)))
+
+pub acquire_accepted : (f : Frame) (x : Frames) (k : LockNo) → innermost x ≡ Some f → refusal_in (Acquire k) x ≡ None → (f.level ≤ 2) × (holds k f ≡ false)
+acquire_accepted f x l k m =
+    let n : refuse (nat_lt 2 f.level) TooHigh (refuse (holds l f) HeldHere None) ≡ None = rw k at m in (
+      not_lt 2 f.level (passed (nat_lt 2 f.level) TooHigh (refuse (holds l f) HeldHere None) n),
+      passed (holds l f) HeldHere None (passed_on (nat_lt 2 f.level) TooHigh (refuse (holds l f) HeldHere None) n),
+    )

@@ -7,15 +7,16 @@ use Rattle.nt_event.specs.declared.commands.TimerKey.{TimerKey}
 use Rattle.nt_event.specs.declared.events.Begun.TheVariants.{Apc as BeginApc, Dpc as BeginDpc, Int as BeginInt, Threaded as BeginThreaded}
 use Rattle.nt_event.specs.declared.events.Event.{Event}
 use Rattle.nt_event.specs.declared.events.Rises.{Rises}
-use Rattle.nt_event.specs.declared.events.What.TheVariants.{Begin, Call, Clean, End, Expire, Fire, Flush, Gone, Look, Normal, Rest, Rewait, Switch}
+use Rattle.nt_event.specs.declared.events.What.TheVariants.{Begin, Call, Clean, End, Expire, Fire, Flush, Free, Gone, Look, Normal, Rest, Rewait, Switch}
 use Rattle.nt_event.specs.declared.frames.Body.TheVariants.{Apc, Base, Dpc, Int, Rundown, Threaded}
-use Rattle.nt_event.specs.declared.frames.Frame.{Frame}
+use Rattle.nt_event.specs.Frame.{Frame}
 use Rattle.nt_event.specs.declared.numbers.ApcNo.{ApcNo}
 use Rattle.nt_event.specs.declared.numbers.DpcNo.{DpcNo}
+use Rattle.nt_event.specs.declared.numbers.LockNo.{LockNo}
 use Rattle.nt_event.specs.declared.numbers.RoutineNo.{RoutineNo}
 use Rattle.nt_event.specs.declared.numbers.ThreadNo.{ThreadNo}
 use Rattle.nt_event.specs.declared.scripts.Script.{Script}
-use Rattle.nt_event.specs.Frames.{Frames, at_head, at_name, called, end_on_thread, frames_after, frames_in, innermost, is_base_body, ended_base, new_frame}
+use Rattle.nt_event.specs.Frames.{Frames, at_head, at_name, called, end_on_thread, freed, frames_after, frames_in, innermost, is_base_body, ended_base, new_frame}
 use Rattle.nt_event.specs.Frames.{normal_of, resumed, rewaited, running_after, switched_to, thread_after, thread_part, without}
 use Rattle.nt_event.specs.Routines.{kind_of, rundown_of}
 use Rattle.nt_event.specs.Lists.{head_of, is_null, tail_of}
@@ -103,6 +104,13 @@ pub after_rewait : (s : Script) (n : ℕ) (due : Option ℕ) (e : Event) (x : Fr
 after_rewait s n due e x f y h q o k =
     frames_after_is s n due e (Rewait f.name y) x h k ∙ thread_change (running_after (Rewait f.name y) x.running) (at_name f.name (rewaited y))
     (at_head (rewaited y)) x o (at_name_head (rewaited y) f (thread_part x) (on_part_of f x o q))
+
+-- the innermost frame frees the lock that it acquired last
+pub after_free : (s : Script) (n : ℕ) (due : Option ℕ) (e : Event) (x : Frames) (f : Frame) (k : LockNo) → IsOurs s e x → innermost x ≡ Some f →
+    e.what ≡ Free f.name k → frames_after s n due e x ≡ at_innermost freed x
+after_free s n due e x f k h q i =
+    frames_after_is s n due e (Free f.name k) x h i ∙ named_change x.running f (at_name f.name freed) (at_name f.name freed) (at_head freed) x h.nested q refl
+    (at_name_head freed f) (at_name_head freed f) (at_name_older freed f.name) ∙ same_running (at_head freed) x
 
 -- ---- gone on and ended: `normal`, `finish`, `end_base`, `gone`
 

@@ -12,7 +12,7 @@ use Rattle.nt_event.specs.Commands.{refusal, refuse}
 use Rattle.nt_event.specs.declared.commands.Regions.{Regions}
 use Rattle.nt_event.specs.declared.frames.Body.{Body}
 use Rattle.nt_event.specs.declared.frames.Body.TheVariants.{Apc, Base, Dpc, Int, Rundown, Threaded}
-use Rattle.nt_event.specs.declared.frames.Frame.{Frame}
+use Rattle.nt_event.specs.Frame.{Frame}
 use Rattle.nt_event.specs.declared.numbers.ThreadNo.{ThreadNo}
 use Rattle.nt_event.specs.Frames.{Frames, base_of, frames_in, is_apc_body, is_base_body, is_normal_apc_body, is_on_thread, level_in, new_frame, thread_part}
 use Rattle.nt_event.specs.Regions.{busy_of}
@@ -45,6 +45,8 @@ new_frame_is n b i = record {
   special = level_of_special b;
   phase = λ h. h;
   leaving = λ h. absurd (cc);
+  kept = tt;
+  spun = tt;
 }
 
 isr_level_of : (b : Body) (x : Frames) → may_begin b x ≡ true → has_isr_level b ≡ true

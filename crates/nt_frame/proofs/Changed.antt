@@ -1,15 +1,18 @@
 -- Frames stay nested when the innermost one changes.
-use Rattle.std.proofs.Common.{◌≡◌, ℕ, ◌+◌, ◌<◌, ◌≤◌, ◌^◌, Bool, true, false, not, Option, None, Some, List, [], ◌∷◌, arith, ap, refl}
+use Rattle.std.proofs.Common.{◌≡◌, ℕ, ◌+◌, ◌<◌, ◌≤◌, ◌^◌, Bool, true, false, not, Option, None, Some, IfSome, List, [], ◌∷◌, arith, ap, refl}
+use Rattle.std.proofs.Common.{get_or, set}
+use Rattle.std.proofs.lemmas.List.{set-get_or}
 use Rattle.std.specs.List.{sum_by}
 use Rattle.std.proofs.lemmas.List.Sums.{sum_by-cons}
 use Rattle.std.specs.Option.{option_map_or, option_or}
-use Rattle.nt_event.specs.declared.frames.Frame.{Frame}
+use Rattle.nt_event.specs.Frame.{Frame}
 use Rattle.nt_event.specs.declared.numbers.ThreadNo.{ThreadNo}
 use Rattle.nt_event.specs.Frames.{Frames, at_head, base_of, frames_in, innermost, is_apc_body, is_base_body, thread_part}
 use Rattle.nt_event.specs.Regions.{crit_of, guard_of}
 use Rattle.nt_event.specs.Lists.{head_of, is_null}
 use Rattle.nt_frame.specs.Changes.{at_innermost, on_part, on_running}
 use Rattle.nt_frame.specs.Nesting.{AreNested, AreNewer, IsFrame, IsOver, IsPart, IsThreadPart, is_special_body}
+use Rattle.nt_frame.specs.HeldLocks.{KeepAtLeast}
 use Rattle.nt_frame.proofs.Nested.{on_own_nested, on_running_nested, thread_part_nested}
 
 -- ---- the innermost frame is known
@@ -34,6 +37,23 @@ at_innermost_same g f x h = go x.own refl h
     go (y ∷ ys) e k =
         let q : head_of x.own ≡ Some f = rw e k in simp (at_head_same g f x.own q)
 
+on_running_none : (g : Frame → Frame) (x : Frames) (r : Option ThreadNo) → head_of (option_map_or (frames_in x.threads) r []) ≡ None →
+    on_running (at_head g) r x ≡ x
+on_running_none g x None h = refl
+on_running_none g x (Some t) h = go (get_or x.threads t.0 []) refl h
+  where
+    go : (fs : List Frame) → get_or x.threads t.0 [] ≡ fs → head_of fs ≡ None → on_running (at_head g) (Some t) x ≡ x
+    go [] e q = rw e (ap (λ (ts : List (List Frame)). record { own = x.own; running = x.running; threads = ts }) (rw (← e) (set-get_or x.threads t.0 [])))
+    go (f ∷ fs) e q = cc
+
+-- where there is no frame, nothing is changed
+pub at_innermost_none : (g : Frame → Frame) (x : Frames) → innermost x ≡ None → at_innermost g x ≡ x
+at_innermost_none g x h = go x.own refl h
+  where
+    go : (os : List Frame) → x.own ≡ os → option_or (head_of os) (head_of (thread_part x)) ≡ None → on_part (not (is_null os)) (at_head g) x ≡ x
+    go [] e k = on_running_none g x x.running k
+    go (y ∷ ys) e k = cc
+
 -- the innermost frame is a frame of its part
 pub innermost_frame : (f : Frame) (x : Frames) → AreNested x → innermost x ≡ Some f → IsFrame (not (is_null x.own)) f
 innermost_frame f x h k = go x.own (thread_part x) h.own (thread_part_nested x h).part k
@@ -54,6 +74,8 @@ pub record MayStandFor (f g : Frame) (x : Frames) : Type 0 where
   pub special : is_special_body g.body ≡ true → g.kernel_phase ≡ true
   pub phase : g.kernel_phase ≡ true → is_apc_body g.body ≡ true
   pub leaving : g.leaving ≡ true → is_base_body g.body ≡ true
+  pub kept : KeepAtLeast (base_of g) g.held
+  pub spun : IfSome g.spin (λ h. base_of g ≤ h.kept)
   pub crit : crit_of (thread_part x) + g.crit < 2 ^ 32 + f.crit
   pub guard : guard_of (thread_part x) + g.guard < 2 ^ 32 + f.guard
 
@@ -65,6 +87,8 @@ stands own f g x p m = record {
   special = m.special;
   phase = m.phase;
   leaving = m.leaving;
+  kept = m.kept;
+  spun = m.spun;
 }
 
 over_same : (f g : Frame) (x : Frames) (fs : List Frame) → MayStandFor f g x → IsOver f fs → IsOver g fs

@@ -1,33 +1,30 @@
 -- What a call leaves of the frames, as the methods of `Frames` make it: the effect of the command, then the place.
 use Rattle.std.proofs.Common.{◌≡◌, ℕ, ◌+◌, ◌<◌, ◌==◌, Bool, true, false, Option, None, Some, if◌then◌else◌, [], length, sym, ◌∙◌, ap, refl}
 use Rattle.nt_event.specs.declared.commands.Command.{Command}
-use Rattle.nt_event.specs.declared.commands.Command.TheVariants.{Alert, CancelTimer, Clock, Delay, EnterCrit, EnterGuard, InsertApc, Interrupt, LeaveCrit}
+use Rattle.nt_event.specs.declared.commands.Command.TheVariants.{Acquire, Alert, CancelTimer, Clock, Delay, EnterCrit, EnterGuard, InsertApc, Interrupt, LeaveCrit}
 use Rattle.nt_event.specs.declared.commands.Command.TheVariants.{LeaveGuard, Lower, Note, Queue, Raise, Release, RemoveApc, SetImportance, SetTarget, SetTimer}
-use Rattle.nt_event.specs.declared.commands.Command.TheVariants.{StartWait, TestAlert, ToUser, Unqueue, Yield}
+use Rattle.nt_event.specs.declared.commands.Command.TheVariants.{StartWait, TestAlert, ToUser, Unlock, Unqueue, Yield}
 use Rattle.nt_event.specs.declared.commands.Mode.{Mode}
 use Rattle.nt_event.specs.declared.commands.Refusal.{Refusal}
 use Rattle.nt_event.specs.declared.commands.Reply.{Reply}
-use Rattle.nt_event.specs.declared.commands.Reply.TheVariants.{Blocked, Done, Refused, Status}
+use Rattle.nt_event.specs.declared.commands.Reply.TheVariants.{Blocked, Done, Refused, Spin, Status}
 use Rattle.nt_event.specs.declared.events.Event.{Event}
 use Rattle.nt_event.specs.declared.events.What.TheVariants.{Call, Rewait, Switch}
 use Rattle.nt_event.specs.declared.frames.Again.{Again}
-use Rattle.nt_event.specs.declared.frames.Frame.{Frame}
+use Rattle.nt_event.specs.Frame.{Frame}
 use Rattle.nt_event.specs.declared.frames.Region.{Region}
 use Rattle.nt_event.specs.declared.frames.Region.TheVariants.{Crit, Guard}
+use Rattle.nt_event.specs.declared.numbers.LockNo.{LockNo}
 use Rattle.nt_event.specs.declared.numbers.ThreadNo.{ThreadNo}
 use Rattle.nt_event.specs.declared.scripts.Script.{Script}
-use Rattle.nt_event.specs.Frames.{Frames, again_after, called, done_to, frames_after, frames_in, innermost, resumed, rewaited, running_after}
+use Rattle.nt_event.specs.Frames.{Frames, again_after, called, done_to, frames_after, freed, frames_in, innermost, resumed, rewaited, running_after}
 use Rattle.nt_event.specs.Lists.{head_of}
-use Rattle.nt_event.specs.Replies.{is_blocked, is_done, kernel_apc}
-use Rattle.nt_frame.specs.Changes.{at_innermost, taken}
+use Rattle.nt_event.specs.Replies.{is_blocked, is_done, is_spin, kernel_apc}
+use Rattle.nt_frame.specs.Changes.{acquired, advanced, at_innermost, taken}
 use Rattle.nt_frame.specs.Rules.{enter_of, is_frames_own, leave_of}
 use Rattle.nt_frame.proofs.After.{after_call, after_rewait, after_switch}
 use Rattle.nt_frame.proofs.Events.{IsOurs}
 use Rattle.nt_frame.proofs.Twice.{at_innermost-at_innermost, at_innermost_by, at_innermost_id, running-at_innermost}
-
--- one more command of the routine is called: `advance_place`
-abbrev pub advanced : Frame → Frame
-advanced f = record f { place = f.place + 1 }
 
 -- a wait is set to be taken up again: `set_again`
 abbrev pub awaiting : Option Again → Frame → Frame
@@ -55,6 +52,8 @@ call_by s n due e x f c y h q k place runs =
 refused_call : (due : Option ℕ) (c : Command) (why : Refusal) (f : Frame) → called due c (Refused why) f ≡ advanced f
 refused_call due (StartWait m a) why f = refl
 refused_call due (Delay m a units) why f = refl
+refused_call due (Acquire k) why f = refl
+refused_call due (Unlock k) why f = refl
 refused_call due _ why f = refl
 
 refused_runs : (n : ℕ) (c : Command) (why : Refusal) (r : Option ThreadNo) → running_after (Call n c (Refused why)) r ≡ r
@@ -78,37 +77,47 @@ is_plain LeaveGuard = false
 is_plain (StartWait m a) = false
 is_plain (Delay m a units) = false
 is_plain Yield = false
+is_plain (Acquire k) = false
+is_plain (Unlock k) = false
 is_plain _ = true
 
-plain_place : (b : Bool) (f : Frame) → record (if b then f else f) { place = f.place + 1 } ≡ advanced f
-plain_place true f = refl
-plain_place false f = refl
+plain_frame : (b c : Bool) (f : Frame) → b ≡ false →
+    record (if c then f else f) {
+      place = if b then f.place else (f.place + 1);
+      level = (if c then f else f).level;
+      spin = None;
+      held = f.held;
+    } ≡ advanced f
+plain_frame b true f h = rw h refl
+plain_frame b false f h = rw h refl
 
-plain_call : (due : Option ℕ) (c : Command) (y : Reply) → is_plain c ≡ true → (f : Frame) → called due c y f ≡ advanced f
-plain_call due (Raise level) y p f = cc
-plain_call due (Lower level) y p f = cc
-plain_call due EnterCrit y p f = cc
-plain_call due EnterGuard y p f = cc
-plain_call due LeaveCrit y p f = cc
-plain_call due LeaveGuard y p f = cc
-plain_call due (StartWait m a) y p f = cc
-plain_call due (Delay m a units) y p f = cc
-plain_call due Yield y p f = cc
-plain_call due (Queue d) y p f = plain_place (is_done y) f
-plain_call due (Unqueue d) y p f = plain_place (is_done y) f
-plain_call due (SetImportance d i) y p f = plain_place (is_done y) f
-plain_call due (SetTarget d t) y p f = plain_place (is_done y) f
-plain_call due (SetTimer t u v) y p f = plain_place (is_done y) f
-plain_call due (CancelTimer t) y p f = plain_place (is_done y) f
-plain_call due (InsertApc a) y p f = plain_place (is_done y) f
-plain_call due (RemoveApc a) y p f = plain_place (is_done y) f
-plain_call due (Release t) y p f = plain_place (is_done y) f
-plain_call due (Alert t m) y p f = plain_place (is_done y) f
-plain_call due (TestAlert m) y p f = plain_place (is_done y) f
-plain_call due (Interrupt q l) y p f = plain_place (is_done y) f
-plain_call due (Clock units) y p f = plain_place (is_done y) f
-plain_call due ToUser y p f = plain_place (is_done y) f
-plain_call due (Note m) y p f = plain_place (is_done y) f
+plain_call : (due : Option ℕ) (c : Command) (y : Reply) → is_plain c ≡ true → is_spin y ≡ false → (f : Frame) → called due c y f ≡ advanced f
+plain_call due (Raise level) y p b f = cc
+plain_call due (Lower level) y p b f = cc
+plain_call due EnterCrit y p b f = cc
+plain_call due EnterGuard y p b f = cc
+plain_call due LeaveCrit y p b f = cc
+plain_call due LeaveGuard y p b f = cc
+plain_call due (StartWait m a) y p b f = cc
+plain_call due (Delay m a units) y p b f = cc
+plain_call due Yield y p b f = cc
+plain_call due (Acquire k) y p b f = cc
+plain_call due (Unlock k) y p b f = cc
+plain_call due (Queue d) y p b f = plain_frame (is_spin y) (is_done y) f b
+plain_call due (Unqueue d) y p b f = plain_frame (is_spin y) (is_done y) f b
+plain_call due (SetImportance d i) y p b f = plain_frame (is_spin y) (is_done y) f b
+plain_call due (SetTarget d t) y p b f = plain_frame (is_spin y) (is_done y) f b
+plain_call due (SetTimer t u v) y p b f = plain_frame (is_spin y) (is_done y) f b
+plain_call due (CancelTimer t) y p b f = plain_frame (is_spin y) (is_done y) f b
+plain_call due (InsertApc a) y p b f = plain_frame (is_spin y) (is_done y) f b
+plain_call due (RemoveApc a) y p b f = plain_frame (is_spin y) (is_done y) f b
+plain_call due (Release t) y p b f = plain_frame (is_spin y) (is_done y) f b
+plain_call due (Alert t m) y p b f = plain_frame (is_spin y) (is_done y) f b
+plain_call due (TestAlert m) y p b f = plain_frame (is_spin y) (is_done y) f b
+plain_call due (Interrupt q l) y p b f = plain_frame (is_spin y) (is_done y) f b
+plain_call due (Clock units) y p b f = plain_frame (is_spin y) (is_done y) f b
+plain_call due ToUser y p b f = plain_frame (is_spin y) (is_done y) f b
+plain_call due (Note m) y p b f = plain_frame (is_spin y) (is_done y) f b
 
 plain_runs : (n : ℕ) (c : Command) (y : Reply) (r : Option ThreadNo) → is_plain c ≡ true → is_blocked y ≡ false → running_after (Call n c y) r ≡ r
 plain_runs n Yield y r p b = cc
@@ -116,9 +125,9 @@ plain_runs n _ y r p b = rw b
 
 -- one that changes nothing else of its frame, and doesn't block
 pub call_plain : (s : Script) (n : ℕ) (due : Option ℕ) (e : Event) (x : Frames) (f : Frame) (c : Command) (y : Reply) → IsOurs s e x → innermost x ≡ Some f →
-    is_plain c ≡ true → is_blocked y ≡ false → e.what ≡ Call f.name c y → frames_after s n due e x ≡ at_innermost advanced x
-call_plain s n due e x f c y h q p b k =
-    call_by s n due e x f c y h q k (plain_call due c y p) (plain_runs f.name c y x.running p b)
+    is_plain c ≡ true → is_blocked y ≡ false → is_spin y ≡ false → e.what ≡ Call f.name c y → frames_after s n due e x ≡ at_innermost advanced x
+call_plain s n due e x f c y h q p b i k =
+    call_by s n due e x f c y h q k (plain_call due c y p i) (plain_runs f.name c y x.running p b)
 
 -- ---- levels and regions: `raise`, `lower`, `enter`, `leave`
 
@@ -153,6 +162,31 @@ enter_is_own Guard = refl
 pub leave_is_own : (r : Region) → is_frames_own (leave_of r) ≡ true
 leave_is_own Crit = refl
 leave_is_own Guard = refl
+
+-- ---- locks: `acquired`, `unlock`
+
+pub call_acquire : (s : Script) (n : ℕ) (due : Option ℕ) (e : Event) (x : Frames) (f : Frame) (k : LockNo) → IsOurs s e x → innermost x ≡ Some f →
+    e.what ≡ Call f.name (Acquire k) Done → frames_after s n due e x ≡ at_innermost advanced (at_innermost (acquired k true) x)
+call_acquire s n due e x f k h q i =
+    after_call s n due e x f (Acquire k) Done h q i
+    ∙ stays (at_innermost (called due (Acquire k) Done) x) x x.running refl (running-at_innermost (called due (Acquire k) Done) x)
+    ∙ at_innermost_by (called due (Acquire k) Done) (λ g. advanced (acquired k true g)) x (λ g. refl)
+    ∙ sym (at_innermost-at_innermost advanced (acquired k true) x h.nested)
+
+pub call_spin : (s : Script) (n : ℕ) (due : Option ℕ) (e : Event) (x : Frames) (f : Frame) (k : LockNo) → IsOurs s e x → innermost x ≡ Some f →
+    e.what ≡ Call f.name (Acquire k) Spin → frames_after s n due e x ≡ at_innermost (acquired k false) x
+call_spin s n due e x f k h q i =
+    after_call s n due e x f (Acquire k) Spin h q i
+    ∙ stays (at_innermost (called due (Acquire k) Spin) x) x x.running refl (running-at_innermost (called due (Acquire k) Spin) x)
+    ∙ at_innermost_by (called due (Acquire k) Spin) (acquired k false) x (λ g. refl)
+
+pub call_unlock : (s : Script) (n : ℕ) (due : Option ℕ) (e : Event) (x : Frames) (f : Frame) (k : LockNo) → IsOurs s e x → innermost x ≡ Some f →
+    e.what ≡ Call f.name (Unlock k) Done → frames_after s n due e x ≡ at_innermost advanced (at_innermost freed x)
+call_unlock s n due e x f k h q i =
+    after_call s n due e x f (Unlock k) Done h q i
+    ∙ stays (at_innermost (called due (Unlock k) Done) x) x x.running refl (running-at_innermost (called due (Unlock k) Done) x)
+    ∙ at_innermost_by (called due (Unlock k) Done) (λ g. advanced (freed g)) x (λ g. refl)
+    ∙ sym (at_innermost-at_innermost advanced freed x h.nested)
 
 -- ---- waits: `set_again`, `advance_place` and, where it blocks, `switch_away`; a yield likewise
 

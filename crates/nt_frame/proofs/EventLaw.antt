@@ -3,34 +3,35 @@ use Rattle.std.proofs.Common.{◌≡◌, ℕ, ◌<◌, ◌==◌, Bool, true, fal
 use Rattle.std.proofs.lemmas.Bool.Decides.{nat_tests}
 use Rattle.std.specs.Option.{option_map_or}
 use Rattle.nt_event.specs.declared.commands.Command.{Command}
-use Rattle.nt_event.specs.declared.commands.Command.TheVariants.{Delay, EnterCrit, EnterGuard, LeaveCrit, LeaveGuard, Lower, Raise, StartWait, Yield}
+use Rattle.nt_event.specs.declared.commands.Command.TheVariants.{Acquire, Delay, EnterCrit, EnterGuard, LeaveCrit, LeaveGuard, Lower, Raise, StartWait, Unlock, Yield}
 use Rattle.nt_event.specs.declared.commands.Reply.{Reply}
-use Rattle.nt_event.specs.declared.commands.Reply.TheVariants.{Blocked, Done, Status}
+use Rattle.nt_event.specs.declared.commands.Reply.TheVariants.{Blocked, Done, Spin, Status}
 use Rattle.nt_event.specs.declared.events.Begun.TheVariants.{Apc as BeginApc, Dpc as BeginDpc, Int as BeginInt, Threaded as BeginThreaded}
 use Rattle.nt_event.specs.declared.events.Event.{Event}
 use Rattle.nt_event.specs.declared.events.What.{What}
-use Rattle.nt_event.specs.declared.events.What.TheVariants.{Begin, Call, Clean, End, Expire, Fire, Flush, Gone, Look, Normal, Rest, Rewait, Switch}
-use Rattle.nt_event.specs.declared.frames.Frame.{Frame}
+use Rattle.nt_event.specs.declared.events.What.TheVariants.{Begin, Call, Clean, End, Expire, Fire, Flush, Free, Gone, Look, Normal, Rest, Rewait, Switch}
+use Rattle.nt_event.specs.Frame.{Frame}
 use Rattle.nt_event.specs.declared.numbers.ApcNo.{ApcNo}
 use Rattle.nt_event.specs.declared.numbers.CpuNo.{CpuNo}
+use Rattle.nt_event.specs.declared.numbers.LockNo.{LockNo}
 use Rattle.nt_event.specs.declared.numbers.RoutineNo.{RoutineNo}
 use Rattle.nt_event.specs.declared.numbers.ThreadNo.{ThreadNo}
 use Rattle.nt_event.specs.declared.scripts.Script.{Script}
-use Rattle.nt_event.specs.Frames.{Frames, done_to, due_of, frames_after, frames_of, time, frames_in, innermost, is_base_body, resumed, rewaited}
+use Rattle.nt_event.specs.Frames.{Frames, done_to, due_of, freed, frames_after, frames_of, time, frames_in, innermost, is_base_body, resumed, rewaited}
 use Rattle.nt_event.specs.Routines.{rundown_of}
 use Rattle.nt_event.specs.Lists.{head_of}
 use Rattle.nt_event.specs.Numbers.{is_of}
 use Rattle.nt_event.specs.Replies.{kernel_apc}
 use Rattle.nt_event.proofs.Moves.{frames_move, frames_stay}
 use Rattle.nt_frame.specs.declared.calls.FrameCall.{FrameCall}
-use Rattle.nt_frame.specs.Calls.{commanded, left_by, left_by_all}
-use Rattle.nt_frame.specs.Changes.{at_innermost, no_frames, taken}
+use Rattle.nt_frame.specs.Calls.{commanded, left_by, left_by_all, unless_refused}
+use Rattle.nt_frame.specs.Changes.{acquired, advanced, at_innermost, no_frames, taken}
 use Rattle.nt_frame.specs.EventCalls.{EachIsMade, EventsAreCalls, HistoriesAreCalls, calls_in, EventSays, IsInnermost, Replies, calls_of, command_calls}
 use Rattle.nt_frame.specs.EventCalls.{rewait_calls, status_calls, switch_calls, thread_of}
 use Rattle.nt_frame.specs.Rules.{is_at_base, refusal_in}
 use Rattle.nt_frame.proofs.After.{after_apc, after_clean, after_dpc, after_end, after_end_base, after_expire, after_fire, after_first_switch, after_flush}
-use Rattle.nt_frame.proofs.After.{after_gone, after_int, after_look, after_normal, after_rest, after_rewait, after_rundown, after_switch, after_threaded}
-use Rattle.nt_frame.proofs.Commands.{advanced, awaiting, call_by, call_delay, call_delay_blocked, call_own, call_wait, call_wait_blocked, call_yield}
+use Rattle.nt_frame.proofs.After.{after_free, after_gone, after_int, after_look, after_normal, after_rest, after_rewait, after_rundown, after_switch, after_threaded}
+use Rattle.nt_frame.proofs.Commands.{awaiting, call_acquire, call_spin, call_unlock, call_by, call_delay, call_delay_blocked, call_own, call_wait, call_wait_blocked, call_yield}
 use Rattle.nt_frame.proofs.Commands.{rewait_blocked, stays}
 use Rattle.nt_frame.proofs.Events.{IsOurs}
 use Rattle.nt_frame.proofs.Tasks.{base_here}
@@ -49,17 +50,27 @@ named n x h = go (innermost x) refl h
 accepted : (c : Command) (x : Frames) → refusal_in c x ≡ None → at_innermost advanced (at_innermost (done_to c) x) ≡ at_innermost advanced (commanded c x)
 accepted c x h = rw h
 
+unlocked : (l : LockNo) (x : Frames) → refusal_in (Unlock l) x ≡ None →
+    at_innermost advanced (at_innermost freed x) ≡ at_innermost advanced (unless_refused (refusal_in (Unlock l) x) (at_innermost freed x) x)
+unlocked l x h = rw h
+
 call_case : (s : Script) (n : ℕ) (due : Option ℕ) (e : Event) (x : Frames) (f : Frame) (c : Command) (y : Reply) → IsOurs s e x → innermost x ≡ Some f →
     e.what ≡ Call f.name c y → Replies c y x → frames_after s n due e x ≡ left_by_all (command_calls due c y) x
 call_case s n due e x f (StartWait m a) (Status st) h q k r = call_wait s n due e x f m a st h q k
 call_case s n due e x f (StartWait m a) Blocked h q k r = call_wait_blocked s n due e x f m a h q k
+call_case s n due e x f (StartWait m a) Spin h q k r = absurd (cc)
 call_case s n due e x f (StartWait m a) y h q k r =
     call_by s n due e x f (StartWait m a) y h q k (λ g. refl) refl
 call_case s n due e x f (Delay m a units) (Status st) h q k r = call_delay s n due e x f m a units st h q k
 call_case s n due e x f (Delay m a units) Blocked h q k r = call_delay_blocked s n due e x f m a units h q k
+call_case s n due e x f (Delay m a units) Spin h q k r = absurd (cc)
 call_case s n due e x f (Delay m a units) y h q k r =
     call_by s n due e x f (Delay m a units) y h q k (λ g. refl) refl
+call_case s n due e x f (Acquire l) Done h q k r = call_acquire s n due e x f l h q k
+call_case s n due e x f (Acquire l) Spin h q k r = call_spin s n due e x f l h q k
+call_case s n due e x f (Unlock l) Done h q k r = call_unlock s n due e x f l h q k ∙ unlocked l x r
 call_case s n due e x f c Blocked h q k r = absurd r
+call_case s n due e x f c Spin h q k r = absurd r
 call_case s n due e x f (Raise l) Done h q k r =
     call_own s n due e x f (Raise l) h q refl k ∙ accepted (Raise l) x r
 call_case s n due e x f (Lower l) Done h q k r =
@@ -174,6 +185,10 @@ events_are_calls s n due e x h = go e.what refl h.thread h.says
         rewait_case s n due e x g.0 y (ours t) g.1 f.1 i
     go (Flush a from) k t f = flush_case s n due e x a from (rundown_of s a) refl (ours t) k
     go (Gone u) k t f = after_gone s n due e x u (ours t) k
+    go (Free name l) k t f =
+        let g : (f : Frame) × (innermost x ≡ Some f) × (f.name ≡ name) = named name x f in
+        let i : e.what ≡ Free g.0.name l = rw g.2 k in
+        after_free s n due e x g.0 l (ours t) g.1 i
     go Rest k t f = after_rest s n due e x (ours t) k
 
 -- ---- whole histories

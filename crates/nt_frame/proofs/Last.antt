@@ -2,7 +2,7 @@
 use Rattle.std.proofs.Common.{◌≡◌, ℕ, ◌-◌, ◌<◌, List, [], ◌∷◌, ◌++◌, length, reverse, take, refl, ◌∙◌, ap, subst, arith, get_or, length-append, set}
 use Rattle.std.proofs.lemmas.List.{get_or-reverse, length-reverse, reverse-append, reverse-reverse}
 use Rattle.std.proofs.Math.Seq.{set-append_seam, take-append_seam}
-use Rattle.nt_event.specs.declared.frames.Frame.{Frame}
+use Rattle.nt_event.specs.Frame.{Frame}
 use Rattle.nt_event.specs.Frames.{at_head}
 use Rattle.nt_event.specs.Lists.{tail_of}
 

@@ -1,7 +1,7 @@
 -- Two changes of the innermost frame are one.
 use Rattle.std.proofs.Common.{◌≡◌, ◌<◌, Bool, true, false, not, Option, None, Some, IfSome, List, [], ◌∷◌, length, ap, refl, get_or}
 use Rattle.std.proofs.lemmas.List.{get_or-set_same, set-get_or, set-set}
-use Rattle.nt_event.specs.declared.frames.Frame.{Frame}
+use Rattle.nt_event.specs.Frame.{Frame}
 use Rattle.nt_event.specs.declared.numbers.ThreadNo.{ThreadNo}
 use Rattle.nt_event.specs.Frames.{Frames, at_head, frames_in}
 use Rattle.nt_event.specs.Lists.{is_null}

@@ -2,19 +2,19 @@
 use Rattle.std.specs.Option.{ForSome}
 use Rattle.std.specs.Prelude.{IsSome, IsTrue, List, None, Option, Some, [], false, length, ◌+◌, ◌<◌, ◌==◌, ◌∷◌, ◌≡◌}
 use Rattle.nt_event.specs.declared.commands.Command.{Command}
-use Rattle.nt_event.specs.declared.commands.Command.TheVariants.{Lower as LowerCommand, Raise as RaiseCommand}
+use Rattle.nt_event.specs.declared.commands.Command.TheVariants.{Acquire as AcquireCommand, Lower as LowerCommand, Raise as RaiseCommand, Unlock as UnlockCommand}
 use Rattle.nt_event.specs.declared.commands.Refusal.{Refusal}
-use Rattle.nt_event.specs.Frames.{Frames, done_to, innermost, ended_base, normal_of}
+use Rattle.nt_event.specs.Frames.{Frames, done_to, innermost, ended_base, freed, normal_of}
 use Rattle.nt_event.specs.Regions.{below_in, some_came_to_0}
 use Rattle.nt_frame.specs.declared.calls.FrameAnswer.{FrameAnswer}
-use Rattle.nt_frame.specs.declared.calls.FrameAnswer.TheVariants.{Asks, Done, Refused}
+use Rattle.nt_frame.specs.declared.calls.FrameAnswer.TheVariants.{Asks, Done, Frees, Refused}
 use Rattle.nt_frame.specs.declared.calls.FrameCall.{FrameCall}
-use Rattle.nt_frame.specs.declared.calls.FrameCall.TheVariants.{AdvancePlace, Begin, EndBase, Enter, Finish, Gone}
+use Rattle.nt_frame.specs.declared.calls.FrameCall.TheVariants.{Acquired, AdvancePlace, Begin, EndBase, Enter, Finish, Free, Gone}
 use Rattle.nt_frame.specs.declared.calls.FrameCall.TheVariants.{Leave, Lower, Normal, Raise, SetAgain, SwitchAway}
-use Rattle.nt_frame.specs.declared.calls.FrameCall.TheVariants.{SwitchTo}
-use Rattle.nt_frame.specs.Changes.{at_innermost, begun, closed, without_innermost}
+use Rattle.nt_frame.specs.declared.calls.FrameCall.TheVariants.{SwitchTo, Unlock}
+use Rattle.nt_frame.specs.Changes.{acquired, advanced, at_innermost, begun, closed, without_innermost}
 use Rattle.nt_frame.specs.Nesting.{AreNamedBelow}
-use Rattle.nt_frame.specs.Rules.{count_of, end_asks_apc, enter_of, is_at_base, is_leaving, leave_of, may_begin}
+use Rattle.nt_frame.specs.Rules.{count_of, end_asks_apc, enter_of, is_at_base, is_leaving, last_held_in, leave_of, may_begin}
 use Rattle.nt_frame.specs.Rules.{may_go_on, refusal_in, regions_in}
 
 -- the condition of a call, as its method requires it
@@ -32,6 +32,9 @@ MayCall EndBase x = IsTrue (is_at_base x) × (is_leaving x ≡ false)
 MayCall Gone x = IsTrue (is_leaving x)
 MayCall (SetAgain a) x = IsSome (innermost x)
 MayCall AdvancePlace x = IsSome (innermost x) × ForSome (innermost x) (λ f. f.place < 4294967295)
+MayCall (Acquired k done) x = (k.0 < 64) × IsSome (innermost x) × (refusal_in (AcquireCommand k) x ≡ None)
+MayCall (Unlock k) x = Unit {0}
+MayCall Free x = Unit {0}
 
 -- a refused command changes nothing
 abbrev pub unless_refused : Option Refusal → Frames → Frames → Frames
@@ -55,13 +58,16 @@ left_by SwitchAway x = record x { running = None }
 left_by EndBase x = at_innermost ended_base x
 left_by Gone x = closed x
 left_by (SetAgain a) x = at_innermost (λ f. record f { again = a }) x
-left_by AdvancePlace x = at_innermost (λ f. record f { place = f.place + 1 }) x
+left_by AdvancePlace x = at_innermost advanced x
+left_by (Acquired k done) x = at_innermost (acquired k done) x
+left_by (Unlock k) x = unless_refused (refusal_in (UnlockCommand k) x) (at_innermost freed x) x
+left_by Free x = at_innermost freed x
 
 abbrev pub or_refused : Option Refusal → FrameAnswer → FrameAnswer
 or_refused None answer = answer
 or_refused (Some why) answer = Refused why
 
--- what a call answers: a refusal, whether it asks for kernel APCs, or nothing
+-- what a call answers: a refusal, whether it asks for kernel APCs, the lock that it frees, or nothing
 abbrev pub answer_to : FrameCall → Frames → FrameAnswer
 answer_to Normal x = Asks (some_came_to_0 (regions_in x) (below_in x))
 answer_to Finish x = Asks (end_asks_apc x)
@@ -76,6 +82,9 @@ answer_to EndBase x = Done
 answer_to Gone x = Done
 answer_to (SetAgain a) x = Done
 answer_to AdvancePlace x = Done
+answer_to (Acquired k done) x = Done
+answer_to (Unlock k) x = or_refused (refusal_in (UnlockCommand k) x) Done
+answer_to Free x = Frees (last_held_in x)
 
 -- ---- lists of calls, in their order
 

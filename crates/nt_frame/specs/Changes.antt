@@ -1,11 +1,18 @@
 -- What a call changes of a processor's frames.
-use Rattle.std.specs.Prelude.{Bool, List, None, Option, Some, [], false, not, set, true, ℕ, ◌∷◌}
+use Rattle.std.specs.Prelude.{Bool, List, None, Option, Some, [], false, not, set, true, ℕ, ◌+◌, ◌<◌, ◌∷◌, ◌≡◌}
 use Rattle.nt_event.specs.declared.frames.Body.{Body}
 use Rattle.nt_event.specs.declared.frames.Body.TheVariants.{Apc, Base, Dpc, Int, Rundown, Threaded}
-use Rattle.nt_event.specs.declared.frames.Frame.{Frame}
+use Rattle.nt_event.specs.declared.frames.Region.{Region}
+use Rattle.nt_event.specs.declared.frames.Region.TheVariants.{Crit, Guard}
+use Rattle.nt_event.specs.declared.numbers.LockNo.{LockNo}
 use Rattle.nt_event.specs.declared.numbers.ThreadNo.{ThreadNo}
-use Rattle.nt_event.specs.Frames.{Frames, at_head, frames_in, new_frame}
+use Rattle.nt_event.specs.Commands.{holds}
+use Rattle.nt_event.specs.Frame.{Frame}
+use Rattle.nt_event.specs.Frames.{Frames, at_head, ended_base, frames_in, freed, kept_in, new_frame, normal_of}
 use Rattle.nt_event.specs.Lists.{is_null, tail_of, table}
+use Rattle.nt_frame.specs.declared.change.Change.{Change}
+use Rattle.nt_frame.specs.declared.change.Change.TheVariants.{Acquire, AdvancePlace, EndBase, Free, GoOn, SetAgain}
+use Rattle.nt_frame.specs.declared.change.Change.TheVariants.{SetEntered, SetLevel, SpinOn}
 
 -- interrupts, DPCs and threaded DPCs run on the processor's own part, the others on a thread's
 abbrev pub is_own : Body → Bool
@@ -57,3 +64,47 @@ closed x = record (on_running (λ _. []) x.running x) { running = None }
 -- a thread taken up: it runs from here on
 abbrev pub taken : ThreadNo → Frames → Frames
 taken t x = record x { running = Some t }
+
+-- ---- the changes of one frame
+
+-- how often it has entered a region of the kind and not left it
+abbrev pub entered : Region → Frame → ℕ
+entered Crit f = f.crit
+entered Guard f = f.guard
+
+abbrev pub with_entered : Region → ℕ → Frame → Frame
+with_entered Crit n f = record f { crit = n }
+with_entered Guard n f = record f { guard = n }
+
+-- it has called one more command of its routine, and spins on no lock
+abbrev pub advanced : Frame → Frame
+advanced f = record f { place = f.place + 1; spin = None }
+
+-- it tried the lock, and got it or spins on it: either way at DISPATCH_LEVEL, and the level of just before the first try
+-- is kept
+abbrev pub acquired : LockNo → Bool → Frame → Frame
+acquired k true f = record f { level = 2; spin = None; held = record { lock = k; kept = kept_in f } ∷ f.held }
+acquired k false f = record f { level = 2; spin = Some (record { lock = k; kept = kept_in f }) }
+
+abbrev pub changed : Change → Frame → Frame
+changed (SetLevel level) f = record f { level = level }
+changed (SetAgain a) f = record f { again = a }
+changed AdvancePlace f = advanced f
+changed (SetEntered r n) f = with_entered r n f
+changed GoOn f = normal_of f
+changed EndBase f = ended_base f
+changed (Acquire k) f = acquired k true f
+changed (SpinOn k) f = acquired k false f
+changed Free f = freed f
+
+-- there is room for the change: for one more command called, or for one more lock held
+abbrev pub MayChange : Change → Frame → Type 0
+MayChange AdvancePlace f = f.place < 4294967295
+MayChange (Acquire k) f = (k.0 < 64) × (holds k f ≡ false)
+MayChange (SetLevel level) f = Unit {0}
+MayChange (SetAgain a) f = Unit {0}
+MayChange (SetEntered r n) f = Unit {0}
+MayChange GoOn f = Unit {0}
+MayChange EndBase f = Unit {0}
+MayChange (SpinOn k) f = Unit {0}
+MayChange Free f = Unit {0}

@@ -3,16 +3,16 @@ use Rattle.std.specs.Option.{option_map_or}
 use Rattle.std.specs.Prelude.{List, None, Option, Some, [], false, if◌then◌else◌, length, true, ℕ, ◌++◌, ◌<◌, ◌==◌, ◌∷◌}
 use Rattle.std.specs.Prelude.{◌≡◌}
 use Rattle.nt_event.specs.declared.commands.Command.{Command}
-use Rattle.nt_event.specs.declared.commands.Command.TheVariants.{Alert, CancelTimer, Clock, Delay, EnterCrit}
+use Rattle.nt_event.specs.declared.commands.Command.TheVariants.{Acquire, Alert, CancelTimer, Clock, Delay, EnterCrit}
 use Rattle.nt_event.specs.declared.commands.Command.TheVariants.{EnterGuard}
 use Rattle.nt_event.specs.declared.commands.Command.TheVariants.{InsertApc, Interrupt, LeaveCrit, LeaveGuard}
 use Rattle.nt_event.specs.declared.commands.Command.TheVariants.{Lower as LowerCommand, Note, Queue}
 use Rattle.nt_event.specs.declared.commands.Command.TheVariants.{Raise as RaiseCommand}
 use Rattle.nt_event.specs.declared.commands.Command.TheVariants.{Release, RemoveApc, SetImportance, SetTarget, SetTimer}
 use Rattle.nt_event.specs.declared.commands.Command.TheVariants.{StartWait}
-use Rattle.nt_event.specs.declared.commands.Command.TheVariants.{TestAlert, ToUser, Unqueue, Yield}
+use Rattle.nt_event.specs.declared.commands.Command.TheVariants.{TestAlert, ToUser, Unlock as UnlockCommand, Unqueue, Yield}
 use Rattle.nt_event.specs.declared.commands.Reply.{Reply}
-use Rattle.nt_event.specs.declared.commands.Reply.TheVariants.{Blocked, Done, No, Refused, Status, Yes}
+use Rattle.nt_event.specs.declared.commands.Reply.TheVariants.{Blocked, Done, No, Refused, Spin, Status, Yes}
 use Rattle.nt_event.specs.declared.events.Begun.{Begun}
 use Rattle.nt_event.specs.declared.events.Begun.TheVariants.{Apc as BeginApc, Dpc as BeginDpc, Int as BeginInt}
 use Rattle.nt_event.specs.declared.events.Begun.TheVariants.{Threaded as BeginThreaded}
@@ -21,25 +21,26 @@ use Rattle.nt_event.specs.declared.events.What.{What}
 use Rattle.nt_event.specs.declared.events.What.TheVariants.{Begin as BeginEvent, Call as CallEvent, Clean as CleanEvent}
 use Rattle.nt_event.specs.declared.events.What.TheVariants.{End as EndEvent}
 use Rattle.nt_event.specs.declared.events.What.TheVariants.{Expire as ExpireEvent, Fire as FireEvent}
-use Rattle.nt_event.specs.declared.events.What.TheVariants.{Flush as FlushEvent, Gone as GoneEvent}
+use Rattle.nt_event.specs.declared.events.What.TheVariants.{Flush as FlushEvent, Free as FreeEvent, Gone as GoneEvent}
 use Rattle.nt_event.specs.declared.events.What.TheVariants.{Look as LookEvent, Normal as NormalEvent, Rest as RestEvent}
 use Rattle.nt_event.specs.declared.events.What.TheVariants.{Rewait as RewaitEvent, Switch as SwitchEvent}
 use Rattle.nt_event.specs.declared.frames.Again.{Again}
 use Rattle.nt_event.specs.declared.frames.Body.{Body}
 use Rattle.nt_event.specs.declared.frames.Body.TheVariants.{Apc, Base, Dpc, Int, Rundown, Threaded}
-use Rattle.nt_event.specs.declared.frames.Frame.{Frame}
+use Rattle.nt_event.specs.Frame.{Frame}
 use Rattle.nt_event.specs.declared.frames.Region.TheVariants.{Crit, Guard}
 use Rattle.nt_event.specs.declared.numbers.CpuNo.{CpuNo}
+use Rattle.nt_event.specs.declared.numbers.LockNo.{LockNo}
 use Rattle.nt_event.specs.declared.numbers.ThreadNo.{ThreadNo}
 use Rattle.nt_event.specs.declared.scripts.Script.{Script}
 use Rattle.nt_event.specs.Frames.{Frames, again_after, due_of, frames_after, frames_in, frames_of, innermost, time}
 use Rattle.nt_event.specs.Routines.{kind_of, rundown_of}
 use Rattle.nt_event.specs.Numbers.{is_of}
-use Rattle.nt_event.specs.Replies.{is_done, kernel_apc}
+use Rattle.nt_event.specs.Replies.{is_done, is_spin, kernel_apc}
 use Rattle.nt_frame.specs.declared.calls.FrameCall.{FrameCall}
-use Rattle.nt_frame.specs.declared.calls.FrameCall.TheVariants.{AdvancePlace, Begin, EndBase, Enter, Finish, Gone}
+use Rattle.nt_frame.specs.declared.calls.FrameCall.TheVariants.{Acquired, AdvancePlace, Begin, EndBase, Enter, Finish, Free, Gone}
 use Rattle.nt_frame.specs.declared.calls.FrameCall.TheVariants.{Leave, Lower, Normal, Raise, SetAgain, SwitchAway}
-use Rattle.nt_frame.specs.declared.calls.FrameCall.TheVariants.{SwitchTo}
+use Rattle.nt_frame.specs.declared.calls.FrameCall.TheVariants.{SwitchTo, Unlock}
 use Rattle.nt_frame.specs.Calls.{left_by_all}
 use Rattle.nt_frame.specs.Changes.{no_frames}
 use Rattle.nt_frame.specs.Nesting.{AreNested}
@@ -64,6 +65,17 @@ wait_calls w Done = AdvancePlace ∷ []
 wait_calls w Yes = AdvancePlace ∷ []
 wait_calls w No = AdvancePlace ∷ []
 wait_calls w (Refused why) = AdvancePlace ∷ []
+wait_calls w Spin = AdvancePlace ∷ []
+
+-- a try of a lock gets it, or spins on it at the same place; a refused one changes the place alone
+abbrev pub acquire_calls : LockNo → Reply → List FrameCall
+acquire_calls k Done = Acquired k true ∷ AdvancePlace ∷ []
+acquire_calls k Spin = Acquired k false ∷ []
+acquire_calls k Yes = AdvancePlace ∷ []
+acquire_calls k No = AdvancePlace ∷ []
+acquire_calls k (Status status) = AdvancePlace ∷ []
+acquire_calls k Blocked = AdvancePlace ∷ []
+acquire_calls k (Refused why) = AdvancePlace ∷ []
 
 -- the calls of a command that is done; of one that isn't, the place alone
 abbrev pub where_done : Reply → List FrameCall → List FrameCall
@@ -94,6 +106,8 @@ command_calls due (TestAlert m) y = AdvancePlace ∷ []
 command_calls due (Interrupt p level) y = AdvancePlace ∷ []
 command_calls due (Clock units) y = AdvancePlace ∷ []
 command_calls due ToUser y = AdvancePlace ∷ []
+command_calls due (Acquire k) y = acquire_calls k y
+command_calls due (UnlockCommand k) y = where_done y (Unlock k ∷ AdvancePlace ∷ [])
 command_calls due (Note k) y = AdvancePlace ∷ []
 
 abbrev pub rewait_calls : Reply → List FrameCall
@@ -103,6 +117,7 @@ rewait_calls Done = []
 rewait_calls Yes = []
 rewait_calls No = []
 rewait_calls (Refused why) = []
+rewait_calls Spin = []
 
 -- the first Switch to a thread begins its base frame
 abbrev pub switch_calls : ℕ → ThreadNo → Option ℕ → List Frame → List FrameCall
@@ -119,6 +134,7 @@ calls_of s n due (SwitchEvent t status) x = switch_calls n t status (frames_in x
 calls_of s n due (RewaitEvent f y) x = rewait_calls y
 calls_of s n due (FlushEvent a from) x = option_map_or (λ r. Begin (Rundown a) n ∷ []) (rundown_of s a) []
 calls_of s n due (GoneEvent t) x = Gone ∷ []
+calls_of s n due (FreeEvent f k) x = Free ∷ []
 calls_of s n due (LookEvent r) x = []
 calls_of s n due (ExpireEvent k from) x = []
 calls_of s n due (FireEvent d y) x = []
@@ -131,7 +147,7 @@ calls_of s n due RestEvent x = []
 abbrev pub IsInnermost : ℕ → Frames → Type 0
 IsInnermost name x = option_map_or (λ f. f.name == name) (innermost x) false ≡ true
 
--- a command that is done isn't refused, and this one doesn't block
+-- a command that is done isn't refused, and this one neither blocks nor spins
 abbrev pub IsNoWait : Command → Reply → Frames → Type 0
 IsNoWait c Blocked x = ⊥
 IsNoWait c Done x = refusal_in c x ≡ None
@@ -139,11 +155,22 @@ IsNoWait c Yes x = Unit {0}
 IsNoWait c No x = Unit {0}
 IsNoWait c (Status status) x = Unit {0}
 IsNoWait c (Refused why) x = Unit {0}
+IsNoWait c Spin x = ⊥
 
--- only waits and delays block
+-- a try of a lock isn't refused where it gets the lock or spins on it
+abbrev pub IsTry : LockNo → Reply → Frames → Type 0
+IsTry k Blocked x = ⊥
+IsTry k Done x = refusal_in (Acquire k) x ≡ None
+IsTry k Spin x = refusal_in (Acquire k) x ≡ None
+IsTry k Yes x = Unit {0}
+IsTry k No x = Unit {0}
+IsTry k (Status status) x = Unit {0}
+IsTry k (Refused why) x = Unit {0}
+
+-- only waits and delays block, and only a try of a lock spins
 abbrev pub Replies : Command → Reply → Frames → Type 0
-Replies (StartWait m a) y x = Unit {0}
-Replies (Delay m a units) y x = Unit {0}
+Replies (StartWait m a) y x = is_spin y ≡ false
+Replies (Delay m a units) y x = is_spin y ≡ false
 Replies (RaiseCommand level) y x = IsNoWait (RaiseCommand level) y x
 Replies (LowerCommand level) y x = IsNoWait (LowerCommand level) y x
 Replies (Queue d) y x = IsNoWait (Queue d) y x
@@ -165,6 +192,8 @@ Replies (Interrupt p level) y x = IsNoWait (Interrupt p level) y x
 Replies (Clock units) y x = IsNoWait (Clock units) y x
 Replies ToUser y x = IsNoWait ToUser y x
 Replies Yield y x = IsNoWait Yield y x
+Replies (Acquire k) y x = IsTry k y x
+Replies (UnlockCommand k) y x = IsNoWait (UnlockCommand k) y x
 Replies (Note k) y x = IsNoWait (Note k) y x
 
 abbrev pub thread_of : What → Option ThreadNo → Option ThreadNo
@@ -180,6 +209,7 @@ thread_of (CleanEvent c) r = r
 thread_of (RewaitEvent f y) r = r
 thread_of (FlushEvent a from) r = r
 thread_of (GoneEvent t) r = r
+thread_of (FreeEvent f k) r = r
 thread_of RestEvent r = r
 
 -- what the event says of the frames is so: the routine that it names is the innermost one, its reply may come there, an
@@ -190,6 +220,7 @@ EventSays (CallEvent f c y) x = IsInnermost f x × Replies c y x
 EventSays (RewaitEvent f y) x = IsInnermost f x × (x.own ≡ [])
 EventSays (NormalEvent f) x = IsInnermost f x × (may_go_on x ≡ true)
 EventSays (EndEvent f) x = IsInnermost f x
+EventSays (FreeEvent f k) x = IsInnermost f x
 EventSays (SwitchEvent t status) x = (t.0 < length x.threads) × (x.own ≡ [])
 EventSays (LookEvent r) x = Unit {0}
 EventSays (BeginEvent b from) x = Unit {0}

@@ -5,11 +5,12 @@ use Rattle.nt_event.specs.declared.commands.ApcKind.{ApcKind}
 use Rattle.nt_event.specs.declared.commands.ApcKind.TheVariants.{Normal, Special, User}
 use Rattle.nt_event.specs.declared.frames.Body.{Body}
 use Rattle.nt_event.specs.declared.frames.Body.TheVariants.{Apc, Base, Dpc, Int, Rundown, Threaded}
-use Rattle.nt_event.specs.declared.frames.Frame.{Frame}
+use Rattle.nt_event.specs.Frame.{Frame}
 use Rattle.nt_event.specs.Frames.{Frames, base_of, is_apc_body, is_base_body}
 use Rattle.nt_event.specs.Regions.{crit_of, guard_of}
 use Rattle.nt_event.specs.Classes.{is_isr_level}
 use Rattle.nt_frame.specs.Changes.{is_own}
+use Rattle.nt_frame.specs.HeldLocks.{KeepAtLeast}
 
 -- how many frames there can be up to this one on its part. On the own part: a threaded DPC, a DPC, and an interrupt of
 -- each level of 3 to 11, 13 and 14. On a thread's: its base, a user APC or a rundown routine, a normal APC, a special
@@ -47,6 +48,8 @@ pub record IsFrame (own : Bool) (f : Frame) : Type 0 where
   pub special : is_special_body f.body ≡ true → f.kernel_phase ≡ true
   pub phase : f.kernel_phase ≡ true → is_apc_body f.body ≡ true
   pub leaving : f.leaving ≡ true → is_base_body f.body ≡ true
+  pub kept : KeepAtLeast (base_of f) f.held
+  pub spun : IfSome f.spin (λ h. base_of f ≤ h.kept)
 
 -- the frame may stand over these: it is of a higher rank, and newer
 abbrev pub IsOver : Frame → List Frame → Type 0

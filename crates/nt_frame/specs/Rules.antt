@@ -1,6 +1,6 @@
 -- Where a routine may begin, and which commands the frames refuse.
-use Rattle.std.specs.Option.{option_map_or}
-use Rattle.std.specs.Prelude.{Bool, Option, Some, false, is_none, nat_lt, not, true, ℕ, ◌&&◌, ◌==◌, ◌||◌}
+use Rattle.std.specs.Option.{ForSome, option_map_or}
+use Rattle.std.specs.Prelude.{Bool, Option, Some, false, is_none, nat_lt, not, option_and_then, option_map, true, ℕ, ◌&&◌, ◌+◌, ◌<◌, ◌==◌, ◌^◌, ◌||◌, ◌≡◌, ◌≤◌}
 use Rattle.nt_event.specs.declared.commands.ApcKind.TheVariants.{User as UserApc}
 use Rattle.nt_event.specs.declared.commands.Command.{Command}
 use Rattle.nt_event.specs.declared.commands.Command.TheVariants.{EnterCrit, EnterGuard, LeaveCrit, LeaveGuard, ToUser}
@@ -12,15 +12,20 @@ use Rattle.nt_event.specs.declared.frames.Body.{Body}
 use Rattle.nt_event.specs.declared.frames.Body.TheVariants.{Apc, Base, Dpc, Int, Rundown, Threaded}
 use Rattle.nt_event.specs.declared.frames.Region.{Region}
 use Rattle.nt_event.specs.declared.frames.Region.TheVariants.{Crit, Guard}
+use Rattle.nt_event.specs.declared.numbers.LockNo.{LockNo}
 use Rattle.nt_event.specs.Apcs.{lets_through}
 use Rattle.nt_event.specs.Commands.{refusal}
-use Rattle.nt_event.specs.Frames.{Frames, innermost, is_base_body, is_normal_apc_body, is_on_thread, level_in}
+use Rattle.nt_event.specs.Frames.{Frames, base_of, innermost, is_base_body, is_normal_apc_body, is_on_thread, level_in}
 use Rattle.nt_event.specs.Frames.{thread_part}
 use Rattle.nt_event.specs.Jobs.{has_normal}
 use Rattle.nt_event.specs.Regions.{below_in, regions_of, some_came_to_0}
 use Rattle.nt_event.specs.Classes.{is_isr_level}
-use Rattle.nt_event.specs.Lists.{is_null}
+use Rattle.nt_event.specs.Lists.{head_of, is_null}
 use Rattle.nt_event.specs.Numbers.{is_thread}
+use Rattle.nt_frame.specs.declared.change.Change.{Change}
+use Rattle.nt_frame.specs.declared.change.Change.TheVariants.{Acquire, AdvancePlace, EndBase, Free, GoOn, SetAgain}
+use Rattle.nt_frame.specs.declared.change.Change.TheVariants.{SetEntered, SetLevel, SpinOn}
+use Rattle.nt_frame.specs.Changes.{entered}
 
 -- the regions of the running thread
 abbrev pub regions_in : Frames → Regions
@@ -56,7 +61,16 @@ is_frames_own (cmd.Interrupt q level) = false
 is_frames_own (cmd.Clock units) = false
 is_frames_own cmd.ToUser = false
 is_frames_own cmd.Yield = false
+is_frames_own (cmd.Acquire k) = false
+is_frames_own (cmd.Unlock k) = false
 is_frames_own (cmd.Note k) = false
+
+-- the lock that the innermost frame acquired last among those that it holds, and the one on which it spins
+abbrev pub last_held_in : Frames → Option LockNo
+last_held_in x = option_and_then (λ f. option_map (λ h. h.lock) (head_of f.held)) (innermost x)
+
+abbrev pub spinning_in : Frames → Option LockNo
+spinning_in x = option_and_then (λ f. option_map (λ h. h.lock) f.spin) (innermost x)
 
 -- the command that enters a region, and the one that leaves it
 abbrev pub enter_of : Region → Command
@@ -102,3 +116,15 @@ may_begin (Rundown a) x = is_leaving x
 abbrev pub end_asks_apc : Frames → Bool
 end_asks_apc x =
     option_map_or (λ f. is_normal_apc_body f.body) (innermost x) false || some_came_to_0 (regions_in x) (below_in x)
+
+-- what a change of the innermost frame must meet, so that the frames stay nested
+abbrev pub KeepsNested : Change → Frames → Type 0
+KeepsNested (SetLevel level) x = ForSome (innermost x) (λ f. base_of f ≤ level)
+KeepsNested (SetEntered r n) x = ForSome (innermost x) (λ f. count_of r (regions_in x) + n < 2 ^ 32 + entered r f)
+KeepsNested GoOn x = may_go_on x ≡ true
+KeepsNested EndBase x = is_at_base x ≡ true
+KeepsNested (Acquire k) x = ForSome (innermost x) (λ f. f.level ≤ 2)
+KeepsNested (SpinOn k) x = ForSome (innermost x) (λ f. f.level ≤ 2)
+KeepsNested (SetAgain a) x = Unit {0}
+KeepsNested AdvancePlace x = Unit {0}
+KeepsNested Free x = Unit {0}

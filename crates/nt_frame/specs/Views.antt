@@ -1,5 +1,5 @@
 -- What callers see of a frame.
-use Rattle.nt_event.specs.declared.frames.Frame.{Frame}
+use Rattle.nt_event.specs.Frame.{Frame}
 use Rattle.nt_frame.specs.declared.view.FrameView.{FrameView}
 
 abbrev pub view_of : Frame → FrameView

@@ -3,7 +3,7 @@ ghost use Rattle.std.specs.Prelude.{◌≡◌, IfErr, IfOk, OnErr, OnOk};
 ghost use Rattle.nt_frame.specs.Calls.{MayCall, MayCallAll, answer_to, answers_to, left_by, left_by_all};
 
 use crate::Frames;
-use nt_event::{Again, Body, Refusal, Region, ThreadNo};
+use nt_event::{Again, Body, LockNo, Refusal, Region, ThreadNo};
 use nt_level::Level;
 use std::alloc::{AllocError, Global};
 
@@ -23,6 +23,9 @@ pub enum FrameCall {
     Gone,
     SetAgain(Option<Again>),
     AdvancePlace,
+    Acquired(LockNo, bool),
+    Unlock(LockNo),
+    Free,
 }
 
 /// What a call answers.
@@ -32,6 +35,8 @@ pub enum FrameAnswer {
     Done,
     /// It is done, and tells whether it asks for kernel APCs.
     Asks(bool),
+    /// It is done, and tells the lock that it freed, if it freed one.
+    Frees(Option<LockNo>),
     /// The command is refused, and nothing is changed.
     Refused(Refusal),
 }
@@ -56,6 +61,9 @@ pub fn perform(frames: &mut Frames, call: &FrameCall) -> FrameAnswer
         FrameCall::Gone => frames.gone(),
         FrameCall::SetAgain(a) => frames.set_again(*a),
         FrameCall::AdvancePlace => frames.advance_place(),
+        FrameCall::Acquired(lock, done) => frames.acquired(*lock, *done),
+        FrameCall::Unlock(lock) => return done(frames.unlock(*lock)),
+        FrameCall::Free => return FrameAnswer::Frees(frames.free()),
     }
     FrameAnswer::Done
 }

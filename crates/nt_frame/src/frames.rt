@@ -1,19 +1,20 @@
 //! The frames of one processor and its threads.
 ghost use Rattle.std.specs.Prelude.{◌≡◌, ◌<◌, ◌≤◌, ◌↔◌, ◌+◌, ◌==◌, false, not, length, option_copied, option_map, IsTrue, IsSome, IsOk, IfSome, IfOk, IfErr, OnOk, OnErr};
 ghost use Rattle.std.specs.Option.{ForSome, option_map_or, option_or};
-ghost use Rattle.nt_event.specs.Frames.{base_of, thread_part, done_to, frames_in, innermost, is_on_thread as on_thread_part, ended_base, level_in, normal_of};
-ghost use Rattle.nt_event.specs.Regions.{after_in, below_in, some_came_to_0};
+ghost use Rattle.nt_event.specs.Frames.{thread_part, done_to, frames_in, freed, innermost, is_on_thread as on_thread_part, ended_base, level_in, normal_of};
+ghost use Rattle.nt_event.specs.Regions.{ended_level_in, below_in, freed_in, some_came_to_0};
 ghost use Rattle.nt_event.specs.Lists.{is_null, head_of};
-ghost use Rattle.nt_frame.specs.Changes.{at_innermost, begun, closed, no_frames, without_innermost};
+ghost use Rattle.nt_frame.specs.Changes.{MayChange, acquired as frame_acquired, advanced, at_innermost, begun, changed, closed, no_frames, without_innermost};
 ghost use Rattle.nt_frame.specs.Nesting.{AreNamedBelow, AreNested, IsThreadPart};
-ghost use Rattle.nt_frame.specs.Rules.{count_of, end_asks_apc, enter_of, is_at_base, is_leaving, leave_of, may_begin, may_go_on, refusal_in, regions_in};
+ghost use Rattle.nt_frame.specs.Rules.{KeepsNested, count_of, end_asks_apc, enter_of, is_at_base, is_leaving, last_held_in, leave_of, may_begin, may_go_on, refusal_in, regions_in, spinning_in};
 ghost use Rattle.nt_frame.specs.Views.{view_of};
 
-use crate::frame::{at_normal, is_own, leaving, new_frame};
+use crate::change::Change;
+use crate::frame::is_own;
 use crate::part::{NO_REGIONS, Part, is_normal_apc};
 use crate::refusals::refusal;
-use crate::{FrameView, parts};
-use nt_event::{Again, Body, Command, CpuNo, Frame, Refusal, Region, Regions, ThreadNo};
+use crate::{Frame, FrameView, parts};
+use nt_event::{Again, Body, Command, CpuNo, LockNo, Refusal, Region, Regions, ThreadNo};
 use nt_level::Level;
 use std::alloc::{AllocError, Global};
 use std::marker::Model;
@@ -71,7 +72,7 @@ impl Frames {
         ensures { result ≡ level_in self.now }
     {
         match self.top() {
-            Some(frame) => frame.level,
+            Some(frame) => frame.level(),
             None => Level::PASSIVE,
         }
     }
@@ -107,8 +108,8 @@ impl Frames {
     }
 
     /// The level once the innermost frame has ended.
-    pub fn after(&self) -> Level
-        ensures { result ≡ after_in self.now }
+    pub fn ended_level(&self) -> Level
+        ensures { result ≡ ended_level_in self.now }
     {
         if !self.own.is_empty() {
             return first_level(self.own.second(), self.outermost_running());
@@ -117,6 +118,33 @@ impl Frames {
             Some(part) => first_level(None, part.second()),
             None => Level::PASSIVE,
         }
+    }
+
+    /// The level once the lock that the innermost frame acquired last is free; the level where it holds none.
+    pub fn level_after(&self) -> Level
+        ensures { result ≡ freed_in self.now }
+    {
+        match self.top() {
+            Some(frame) => frame.freed_level(),
+            None => Level::PASSIVE,
+        }
+    }
+
+    /// The lock that the innermost frame acquired last among those that it holds.
+    #[inline(always)]
+    pub fn last_held(&self) -> Option<LockNo>
+        ensures { result ≡ last_held_in self.now }
+    {
+        self.top()?.last_held()
+    }
+
+    /// The lock on which the innermost frame spins.
+    #[inline(always)]
+    pub fn spinning(&self) -> Option<LockNo>
+        ensures { result ≡ spinning_in self.now }
+    {
+        let held = self.top()?.spin()?;
+        Some(held.lock)
     }
 
     /// Whether a frame stands on the processor's own part.
@@ -143,7 +171,7 @@ impl Frames {
             return Some(Refusal::NotThread);
         };
         refusal(
-            frame.level,
+            frame.level(),
             !self.own.is_empty(),
             &self.regions(),
             frame,
@@ -159,12 +187,12 @@ impl Frames {
     {
         let frame = self.top()?;
         Some(FrameView {
-            frame: frame.name,
-            body: frame.body,
-            place: frame.place,
-            kernel_phase: frame.kernel_phase,
-            leaving: frame.leaving,
-            again: frame.again,
+            frame: frame.name(),
+            body: frame.body(),
+            place: frame.place(),
+            kernel_phase: frame.kernel_phase(),
+            leaving: frame.leaving(),
+            again: frame.again(),
         })
     }
 
@@ -181,11 +209,10 @@ impl Frames {
         ensures { self.new ≡ begun n body self.old }
     {
         let own = is_own(&body);
-        let frame = new_frame(n, body);
         if own {
-            self.own.push(frame);
+            self.own.begin(n, body);
         } else if let Some(t) = self.running {
-            parts::push(&mut self.threads, t, frame);
+            parts::begin(&mut self.threads, t, n, body);
         }
     }
 
@@ -197,11 +224,7 @@ impl Frames {
         ensures phase { self.new ≡ at_innermost normal_of self.old }
     {
         let asks = self.gives_up();
-        let Some(frame) = self.top() else {
-            unreachable!()
-        };
-        let frame = at_normal(frame);
-        self.set_innermost(frame);
+        self.change(&Change::GoOn);
         asks
     }
 
@@ -216,7 +239,7 @@ impl Frames {
         let Some(frame) = self.top() else {
             unreachable!()
         };
-        let asks = is_normal_apc(&frame.body) || self.gives_up();
+        let asks = is_normal_apc(&frame.body()) || self.gives_up();
         self.drop_innermost();
         asks
     }
@@ -239,12 +262,13 @@ impl Frames {
         ensures same { OnErr result (self.new ≡ self.old) }
     {
         self.accepted(&Command::Raise(l))?;
-        self.set_level(l);
+        self.change(&Change::SetLevel(l));
         Ok(())
     }
 
     /// Lowers the level of the innermost frame. NotLess exactly where it is below `l`, else BelowBase exactly where `l` is below
-    /// the level at which the present routine began.
+    /// the level at which the present routine began, else LockHeld exactly where the frame holds a lock and `l` is below
+    /// DISPATCH_LEVEL.
     pub fn lower(&mut self, l: Level) -> Result<(), Refusal>
         requires { IsSome (innermost self.old) }
         ensures when { IsOk result ↔ (refusal_in (Command.Lower l) self.old ≡ None) }
@@ -253,7 +277,7 @@ impl Frames {
         ensures same { OnErr result (self.new ≡ self.old) }
     {
         self.accepted(&Command::Lower(l))?;
-        self.set_level(l);
+        self.change(&Change::SetLevel(l));
         Ok(())
     }
 
@@ -266,17 +290,8 @@ impl Frames {
         ensures ok { OnOk result (self.new ≡ at_innermost (done_to (enter_of r)) self.old) }
         ensures same { OnErr result (self.new ≡ self.old) }
     {
-        let frame = *self.accepted(&enter_command(r))?;
-        self.set_innermost(match r {
-            Region::Crit => Frame {
-                crit: frame.crit + 1,
-                ..frame
-            },
-            Region::Guard => Frame {
-                guard: frame.guard + 1,
-                ..frame
-            },
-        });
+        let entered = self.accepted(&enter_command(r))?.entered(r);
+        self.change(&Change::SetEntered(r, entered + 1));
         Ok(())
     }
 
@@ -290,18 +305,9 @@ impl Frames {
         ensures ok { OnOk result (self.new ≡ at_innermost (done_to (leave_of r)) self.old) }
         ensures same { OnErr result (self.new ≡ self.old) }
     {
-        let frame = *self.accepted(&leave_command(r))?;
+        let entered = self.accepted(&leave_command(r))?.entered(r);
         let before = self.regions();
-        self.set_innermost(match r {
-            Region::Crit => Frame {
-                crit: frame.crit - 1,
-                ..frame
-            },
-            Region::Guard => Frame {
-                guard: frame.guard - 1,
-                ..frame
-            },
-        });
+        self.change(&Change::SetEntered(r, entered - 1));
         Ok(count(r, &before) == 1)
     }
 
@@ -329,11 +335,7 @@ impl Frames {
         requires runs { is_leaving self.old ≡ false }
         ensures { self.new ≡ at_innermost ended_base self.old }
     {
-        let Some(frame) = self.top() else {
-            unreachable!()
-        };
-        let base = leaving(frame);
-        self.set_innermost(base);
+        self.change(&Change::EndBase);
     }
 
     /// The running thread is gone: its base frame is closed, and no thread runs.
@@ -351,27 +353,70 @@ impl Frames {
         requires { IsSome (innermost self.old) }
         ensures { self.new ≡ at_innermost (λ f. record f { again = a }) self.old }
     {
-        if !self.own.is_empty() {
-            self.own.set_again(a);
-        } else if let Some(t) = self.running {
-            parts::set_again(&mut self.threads, t, a);
-        }
+        self.change(&Change::SetAgain(a));
     }
 
-    /// The innermost frame's routine has called one more command.
+    /// The innermost frame's routine has called one more command, and spins on no lock.
+    #[inline(always)]
     pub fn advance_place(&mut self)
         requires frame { IsSome (innermost self.old) }
         requires place { ForSome (innermost self.old) (λ f. f.place < 4294967295) }
-        ensures { self.new ≡ at_innermost (λ f. record f { place = f.place + 1 }) self.old }
+        ensures { self.new ≡ at_innermost advanced self.old }
     {
-        if !self.own.is_empty() {
-            self.own.advance_place();
-        } else if let Some(t) = self.running {
-            parts::advance_place(&mut self.threads, t);
+        self.change(&Change::AdvancePlace);
+    }
+
+    /// Whether the innermost frame may try the lock: TooHigh exactly above DISPATCH_LEVEL, else HeldHere exactly where the frame
+    /// holds it.
+    pub fn may_acquire(&self, l: LockNo) -> Result<(), Refusal>
+        ensures when { IsOk result ↔ (refusal_in (Command.Acquire l) self.now ≡ None) }
+        ensures why { IfErr result (λ why. refusal_in (Command.Acquire l) self.now ≡ Some why) }
+    {
+        self.accepted(&Command::Acquire(l))?;
+        Ok(())
+    }
+
+    /// The innermost frame tried the lock, as it may, and got it or spins on it. Either way it is at DISPATCH_LEVEL from here on,
+    /// and the level of just before the first try is kept with the lock.
+    pub fn acquired(&mut self, l: LockNo, done: bool)
+        requires lock { l.0 < 64 }
+        requires frame { IsSome (innermost self.old) }
+        requires accepted { refusal_in (Command.Acquire l) self.old ≡ None }
+        ensures { self.new ≡ at_innermost (frame_acquired l done) self.old }
+    {
+        if done {
+            self.change(&Change::Acquire(l));
+        } else {
+            self.change(&Change::SpinOn(l));
         }
     }
 
+    /// The innermost frame frees the lock that it acquired last: it is at the level kept with it from here on. TooHigh exactly
+    /// above DISPATCH_LEVEL, else NotLast exactly where the lock is not that one.
+    pub fn unlock(&mut self, l: LockNo) -> Result<(), Refusal>
+        ensures when { IsOk result ↔ (refusal_in (Command.Unlock l) self.old ≡ None) }
+        ensures why { IfErr result (λ why. refusal_in (Command.Unlock l) self.old ≡ Some why) }
+        ensures ok { OnOk result (self.new ≡ at_innermost freed self.old) }
+        ensures same { OnErr result (self.new ≡ self.old) }
+    {
+        self.accepted(&Command::Unlock(l))?;
+        self.change(&Change::Free);
+        Ok(())
+    }
+
+    /// The lock that the innermost frame acquired last is freed at the end of its routine: it is at the level kept with it from
+    /// here on. Tells which lock; None, and nothing is changed, exactly where it holds none.
+    pub fn free(&mut self) -> Option<LockNo>
+        ensures lock { result ≡ last_held_in self.old }
+        ensures freed { self.new ≡ at_innermost freed self.old }
+    {
+        let lock = self.last_held();
+        self.change(&Change::Free);
+        lock
+    }
+
     /// The innermost frame.
+    #[inline(always)]
     pub fn top(&self) -> Option<&Frame>
         ensures value { option_copied result ≡ innermost self.now }
         ensures nested { AreNested self.now }
@@ -415,26 +460,17 @@ impl Frames {
         }
     }
 
-    /// Sets the level of the innermost frame.
-    fn set_level(&mut self, level: Level)
-        requires { ForSome (innermost self.old) (λ f. base_of f ≤ level) }
-        ensures { self.new ≡ at_innermost (λ f. record f { level = level }) self.old }
+    /// Makes the change of the innermost frame.
+    #[inline(always)]
+    fn change(&mut self, change: &Change)
+        requires room { ForSome (innermost self.old) (MayChange change.now) }
+        requires nested { KeepsNested change.now self.old }
+        ensures { self.new ≡ at_innermost (changed change.now) self.old }
     {
         if !self.own.is_empty() {
-            self.own.set_level(level);
+            self.own.change(change);
         } else if let Some(t) = self.running {
-            parts::set_level(&mut self.threads, t, level);
-        }
-    }
-
-    fn set_innermost(&mut self, frame: Frame)
-        requires { AreNested (at_innermost (λ _. frame) self.old) }
-        ensures { self.new ≡ at_innermost (λ _. frame) self.old }
-    {
-        if !self.own.is_empty() {
-            self.own.set_innermost(frame);
-        } else if let Some(t) = self.running {
-            parts::set_innermost(&mut self.threads, t, frame);
+            parts::change(&mut self.threads, t, change);
         }
     }
 
@@ -483,9 +519,9 @@ fn first_level(first: Option<&Frame>, second: Option<&Frame>) -> Level
     ensures { result ≡ option_map_or (λ f. f.level) (option_or (option_copied first.entry) (option_copied second.entry)) 0 }
 {
     match first {
-        Some(frame) => frame.level,
+        Some(frame) => frame.level(),
         None => match second {
-            Some(frame) => frame.level,
+            Some(frame) => frame.level(),
             None => Level::PASSIVE,
         },
     }

@@ -16,6 +16,7 @@
 #![tactic(auto)]
 
 mod calls;
+mod change;
 mod frame;
 mod frames;
 mod laws;
@@ -26,6 +27,7 @@ mod stand;
 mod view;
 
 pub use calls::{FrameAnswer, FrameCall, perform, perform_all};
+pub use frame::Frame;
 pub use frames::Frames;
 pub use laws::{events_are_calls, histories_are_calls};
 pub use nt_event::{Again, Body, Region};

@@ -1,12 +1,14 @@
 //! One part: the frames that stand on a processor, or on a thread.
-ghost use Rattle.std.specs.Prelude.{◌≡◌, ◌<◌, ◌+◌, ◌^◌, [], ◌∷◌, length, option_copied, reverse, vec_capacity, IfOk};
+ghost use Rattle.std.specs.Prelude.{◌≡◌, ◌<◌, ◌^◌, [], ◌∷◌, length, option_copied, reverse, vec_capacity, IfOk};
 ghost use Rattle.std.specs.Option.{ForSome};
-ghost use Rattle.nt_event.specs.Frames.{at_head, is_normal_apc_body};
+ghost use Rattle.nt_event.specs.Frames.{at_head, is_normal_apc_body, new_frame};
 ghost use Rattle.nt_event.specs.Regions.{busy_of, crit_of, guard_of, regions_of};
 ghost use Rattle.nt_event.specs.Lists.{head_of, is_null, tail_of};
+ghost use Rattle.nt_frame.specs.Changes.{MayChange, changed};
 
-use nt_event::{Again, ApcKind, Body, Frame, Regions};
-use nt_level::Level;
+use crate::change::Change;
+use crate::frame::Frame;
+use nt_event::{ApcKind, Body, Regions};
 use std::alloc::{AllocError, Global};
 use std::marker::Model;
 
@@ -25,7 +27,7 @@ pub struct Part<const ROOM: usize> {
 
 impl<const ROOM: usize> Model for Part<ROOM> {
     ghost use Rattle.std.specs.Prelude.{List, reverse, ◌≤◌, vec_capacity};
-    ghost use Rattle.nt_event.specs.declared.frames.Frame.{Frame};
+    ghost use Rattle.nt_event.specs.Frame.{Frame};
 
     ghost Value = { List Frame };
 
@@ -63,11 +65,13 @@ impl<const ROOM: usize> Part<ROOM> {
         outer(self.frames.as_slice()).last()
     }
 
-    pub fn push(&mut self, frame: Frame)
+    /// Begins a frame by this name.
+    #[inline(always)]
+    pub fn begin(&mut self, name: u64, body: Body)
         requires { length self.old < ROOM }
-        ensures { self.new ≡ frame ∷ self.old }
+        ensures { self.new ≡ new_frame name body ∷ self.old }
     {
-        if self.frames.push(frame).is_err() {
+        if self.frames.push(Frame::new(name, body)).is_err() {
             unreachable!();
         }
     }
@@ -84,42 +88,16 @@ impl<const ROOM: usize> Part<ROOM> {
         self.frames.clear();
     }
 
-    /// Writes over the innermost frame.
-    pub fn set_innermost(&mut self, frame: Frame)
-        ensures { self.new ≡ at_head (λ _. frame) self.old }
-    {
-        set_last(&mut self.frames, frame);
-    }
-
-    /// Sets the level of the innermost frame.
-    pub fn set_level(&mut self, level: Level)
-        ensures { self.new ≡ at_head (λ f. record f { level = level }) self.old }
+    /// Makes the change of the innermost frame.
+    #[inline(always)]
+    pub fn change(&mut self, change: &Change)
+        requires { ForSome (head_of self.old) (MayChange change.now) }
+        ensures { self.new ≡ at_head (changed change.now) self.old }
     {
         let Some(last) = self.frames.last_mut() else {
             return;
         };
-        last.level = level;
-    }
-
-    /// Sets the wait that the innermost frame has to take up again.
-    pub fn set_again(&mut self, again: Option<Again>)
-        ensures { self.new ≡ at_head (λ f. record f { again = again }) self.old }
-    {
-        let Some(last) = self.frames.last_mut() else {
-            return;
-        };
-        last.again = again;
-    }
-
-    /// Moves the innermost frame's place on by one.
-    pub fn advance_place(&mut self)
-        requires { ForSome (head_of self.old) (λ f. f.place < 4294967295) }
-        ensures { self.new ≡ at_head (λ f. record f { place = f.place + 1 }) self.old }
-    {
-        let Some(last) = self.frames.last_mut() else {
-            return;
-        };
-        last.place += 1;
+        last.change(change);
     }
 
     /// The regions of the thread whose part this is.
@@ -156,9 +134,9 @@ fn regions(frames: &[Frame]) -> Regions
     match frames {
         [] => NO_REGIONS,
         [frame] => Regions {
-            crit: frame.crit,
-            guard: frame.guard,
-            busy: is_normal_apc(&frame.body),
+            crit: frame.crit(),
+            guard: frame.guard(),
+            busy: is_normal_apc(&frame.body()),
         },
         _ => Regions {
             crit: crit(frames),
@@ -179,27 +157,18 @@ fn crit(frames: &[Frame]) -> u32
     requires { crit_of (reverse frames.now) < 2 ^ 32 }
     ensures { result ≡ crit_of (reverse frames.now) }
 {
-    frames.iter().rev().map(|f| f.crit).sum()
+    frames.iter().rev().map(|f| f.crit()).sum()
 }
 
 fn guard(frames: &[Frame]) -> u32
     requires { guard_of (reverse frames.now) < 2 ^ 32 }
     ensures { result ≡ guard_of (reverse frames.now) }
 {
-    frames.iter().rev().map(|f| f.guard).sum()
+    frames.iter().rev().map(|f| f.guard()).sum()
 }
 
 fn is_busy(frames: &[Frame]) -> bool
     ensures { result ≡ busy_of (reverse frames.now) }
 {
-    frames.iter().rev().any(|f| is_normal_apc(&f.body))
-}
-
-fn set_last(frames: &mut Vec<Frame>, frame: Frame)
-    ensures items { reverse frames.new.items ≡ at_head (λ _. frame) (reverse frames.old.items) }
-    ensures capacity { vec_capacity frames.new ≡ vec_capacity frames.old }
-{
-    if let Some(last) = frames.last_mut() {
-        *last = frame;
-    }
+    frames.iter().rev().any(|f| is_normal_apc(&f.body()))
 }

@@ -1,11 +1,10 @@
 //! Where a command is refused.
-ghost use Rattle.std.specs.Prelude.{◌≡◌, ◌==◌, None, nat_lt};
+ghost use Rattle.std.specs.Prelude.{◌≡◌, ◌==◌, None};
 ghost use Rattle.nt_event.specs.Commands.{not_above as refused_above, refusal as refusal_of, refuse};
-ghost use Rattle.nt_event.specs.Frames.{base_of};
 ghost use Rattle.nt_event.specs.Regions.{is_open as some_open};
 
-use crate::frame::{base, is_base};
-use nt_event::{Command, Frame, Refusal, Regions};
+use crate::Frame;
+use nt_event::{Command, LockNo, Refusal, Regions};
 use nt_level::Level;
 
 /// Why a command is refused at this level, if it is: where the innermost frame is this one, stands on the processor's own part
@@ -22,7 +21,7 @@ pub fn refusal(
 {
     match command {
         Command::Raise(l) => refused_if(l.number() < level.number(), Refusal::NotGreater),
-        Command::Lower(l) => lower_refusal(level, *l, frame),
+        Command::Lower(l) => lower_refusal(level, own, regions, frame, *l),
         Command::SetTimer(_, _, _)
         | Command::CancelTimer(_)
         | Command::InsertApc(_)
@@ -34,10 +33,12 @@ pub fn refusal(
         | Command::StartWait(_, _)
         | Command::Delay(_, _, _)
         | Command::Yield => thread_refusal(own, Level::APC, level),
-        Command::LeaveCrit => leave_refusal(own, level, frame.crit),
-        Command::LeaveGuard => leave_refusal(own, level, frame.guard),
+        Command::LeaveCrit => leave_refusal(own, level, frame.crit()),
+        Command::LeaveGuard => leave_refusal(own, level, frame.guard()),
         Command::TestAlert(_) => thread_refusal(own, Level::DISPATCH, level),
         Command::ToUser => to_user_refusal(level, own, regions, frame),
+        Command::Acquire(lock) => acquire_refusal(level, own, regions, frame, *lock),
+        Command::Unlock(lock) => unlock_refusal(level, own, regions, frame, *lock),
         Command::Queue(_)
         | Command::Unqueue(_)
         | Command::SetImportance(_, _)
@@ -71,13 +72,57 @@ fn thread_refusal(own: bool, most: Level, level: Level) -> Option<Refusal>
     not_above(most, level)
 }
 
-fn lower_refusal(level: Level, l: Level, frame: &Frame) -> Option<Refusal>
-    ensures { result ≡ refuse (nat_lt level l) Refusal.NotLess (refuse (nat_lt l (base_of frame.now)) Refusal.BelowBase None) }
+fn lower_refusal(
+    level: Level,
+    own: bool,
+    regions: &Regions,
+    frame: &Frame,
+    l: Level,
+) -> Option<Refusal>
+    ensures { result ≡ refusal_of level own regions.now frame.now (Command.Lower l) }
 {
     if level.number() < l.number() {
         return Some(Refusal::NotLess);
     }
-    refused_if(l.number() < base(frame).number(), Refusal::BelowBase)
+    if l.number() < frame.base().number() {
+        return Some(Refusal::BelowBase);
+    }
+    refused_if(
+        frame.holds_any() && l.number() < Level::DISPATCH.number(),
+        Refusal::LockHeld,
+    )
+}
+
+fn acquire_refusal(
+    level: Level,
+    own: bool,
+    regions: &Regions,
+    frame: &Frame,
+    lock: LockNo,
+) -> Option<Refusal>
+    ensures { result ≡ refusal_of level own regions.now frame.now (Command.Acquire lock) }
+{
+    let refused = not_above(Level::DISPATCH, level);
+    if refused.is_some() {
+        return refused;
+    }
+    refused_if(frame.holds(lock), Refusal::HeldHere)
+}
+
+fn unlock_refusal(
+    level: Level,
+    own: bool,
+    regions: &Regions,
+    frame: &Frame,
+    lock: LockNo,
+) -> Option<Refusal>
+    ensures { result ≡ refusal_of level own regions.now frame.now (Command.Unlock lock) }
+{
+    let refused = not_above(Level::DISPATCH, level);
+    if refused.is_some() {
+        return refused;
+    }
+    refused_if(!frame.is_last(lock), Refusal::NotLast)
 }
 
 /// A region that the frame entered so often is left.
@@ -97,7 +142,7 @@ fn to_user_refusal(level: Level, own: bool, regions: &Regions, frame: &Frame) ->
     if own {
         return Some(Refusal::NotThread);
     }
-    if !is_base(&frame.body) {
+    if !frame.is_base() {
         return Some(Refusal::NotBase);
     }
     if Level::PASSIVE.number() < level.number() {

@@ -58,7 +58,7 @@ impl<'f> StandView<'f> {
         ensures { result ≡ self.now.frame }
     {
         match self.frames.top() {
-            Some(frame) => frame.name,
+            Some(frame) => frame.name(),
             None => 0,
         }
     }
@@ -69,7 +69,7 @@ impl<'f> StandView<'f> {
         ensures { result ≡ self.now.body }
     {
         match self.frames.top() {
-            Some(frame) => Some(frame.body),
+            Some(frame) => Some(frame.body()),
             None => None,
         }
     }
@@ -108,10 +108,18 @@ impl<'f> StandView<'f> {
 
     /// The level once the innermost frame has ended.
     #[inline(always)]
+    pub fn ended_level(&self) -> Level
+        ensures { result ≡ self.now.ended_level }
+    {
+        self.frames.ended_level()
+    }
+
+    /// The level after an unlock or a free of the innermost frame: the one kept with the lock that it acquired last. The level
+    /// where it holds none.
     pub fn after(&self) -> Level
         ensures { result ≡ self.now.after }
     {
-        self.frames.after()
+        self.frames.level_after()
     }
 
     /// The wait that the innermost frame has to take up again.
@@ -119,7 +127,7 @@ impl<'f> StandView<'f> {
     pub fn again(&self) -> Option<Again>
         ensures { result ≡ self.now.again }
     {
-        self.frames.top()?.again
+        self.frames.top()?.again()
     }
 
     /// Whether the processor owes a sweep of the timers.

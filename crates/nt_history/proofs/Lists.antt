@@ -57,6 +57,7 @@ did_still rises more (did.Switch t status) h = (h, refl)
 did_still rises more (did.Rewait f y) h = (h, refl)
 did_still rises more (did.Flush a from) h = (h, refl)
 did_still rises more (did.Gone t) h = (h, refl)
+did_still rises more (did.Free f l) h = (h, refl)
 did_still rises more did.Rest h = (h, refl)
 
 -- the event of a brief, by what it did
@@ -132,6 +133,7 @@ bare_values n rises (did.Switch t status) = (_, _)
 bare_values n rises (did.Rewait f y) = (_, _)
 bare_values n rises (did.Flush a from) = (_, _)
 bare_values n rises (did.Gone t) = (_, _)
+bare_values n rises (did.Free f l) = (_, _)
 bare_values n rises did.Rest = (_, _)
 
 -- what is no look needs no values
@@ -148,6 +150,7 @@ no_values n r (what.Switch t status) h = (_, _)
 no_values n r (what.Rewait f y) h = (_, _)
 no_values n r (what.Flush a from) h = (_, _)
 no_values n r (what.Gone t) h = (_, _)
+no_values n r (what.Free f l) h = (_, _)
 no_values n r what.Rest h = (_, _)
 
 -- the brief of an event was put behind the others, and nothing beside

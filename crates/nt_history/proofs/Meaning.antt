@@ -24,6 +24,7 @@ kept_again r (did.Switch t status) = refl
 kept_again r (did.Rewait f y) = refl
 kept_again r (did.Flush a from) = refl
 kept_again r (did.Gone t) = refl
+kept_again r (did.Free f l) = refl
 kept_again r did.Rest = refl
 
 has_own : (r : Rises) (d : Did) → HasValues r (what_of r d)
@@ -39,6 +40,7 @@ has_own r (did.Switch t status) = _
 has_own r (did.Rewait f y) = _
 has_own r (did.Flush a from) = _
 has_own r (did.Gone t) = _
+has_own r (did.Free f l) = _
 has_own r did.Rest = _
 
 -- what stands for what was kept of this is this, where its values are these
@@ -55,6 +57,7 @@ meant_again r k (what.Switch t status) h = refl
 meant_again r k (what.Rewait f y) h = refl
 meant_again r k (what.Flush a from) h = refl
 meant_again r k (what.Gone t) h = refl
+meant_again r k (what.Free f l) h = refl
 meant_again r k what.Rest h = refl
 
 abbrev with_did : Brief → Did → Brief

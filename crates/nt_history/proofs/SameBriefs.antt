@@ -10,7 +10,7 @@ use Rattle.nt_history.specs.contracts.brief.Noticed as noticed
 use Rattle.nt_history.specs.contracts.brief.NoticedPartialEq.TheImpl as noticed_eq
 use Rattle.nt_history.specs.declared.brief.Brief.{Brief}
 use Rattle.nt_history.proofs.Same.{Same, enum_same, nat_same, none_same, one_same, option_same, three_same, two_same}
-use Rattle.nt_history.proofs.SameParts.{apc_same, begun_same, command_same, cpu_same, dpc_same, key_same, reply_same, thread_same}
+use Rattle.nt_history.proofs.SameParts.{apc_same, begun_same, command_same, cpu_same, dpc_same, key_same, lock_same, reply_same, thread_same}
 
 noticed_same : Same noticed_eq.ghosts.eq
 noticed_same = enum_same noticed.enum _ (two_same nat_same nat_same, (one_same nat_same, tt))
@@ -36,7 +36,7 @@ did_same = enum_same did.enum _ (
                   two_same thread_same (option_same nat_same),
                   (
                     two_same nat_same reply_same,
-                    (two_same apc_same nat_same, (one_same thread_same, (none_same, tt))),
+                    (two_same apc_same nat_same, (one_same thread_same, (two_same nat_same lock_same, (none_same, tt)))),
                   ),
                 ),
               ),

@@ -2,7 +2,7 @@
 use Rattle.std.proofs.Common.{ap}
 use Rattle.std.proofs.lemmas.Bool.{eqb-true}
 use Rattle.std.specs.Prelude.{refl}
-use Rattle.nt_event.specs.Numbers.{apc, cpu, dpc, thread, timer}
+use Rattle.nt_event.specs.Numbers.{apc, cpu, dpc, lock, thread, timer}
 use denote.Enum.Bare.{same_true}
 use Rattle.nt_event.specs.contracts.commands.Command as command
 use Rattle.nt_event.specs.contracts.commands.CommandPartialEq.TheImpl as command_eq
@@ -21,6 +21,7 @@ use Rattle.nt_event.specs.contracts.events.BegunPartialEq.TheImpl as begun_eq
 use Rattle.nt_event.specs.contracts.numbers.ApcNoPartialEq.TheImpl as apc_eq
 use Rattle.nt_event.specs.contracts.numbers.CpuNoPartialEq.TheImpl as cpu_eq
 use Rattle.nt_event.specs.contracts.numbers.DpcNoPartialEq.TheImpl as dpc_eq
+use Rattle.nt_event.specs.contracts.numbers.LockNoPartialEq.TheImpl as lock_eq
 use Rattle.nt_event.specs.contracts.numbers.ThreadNoPartialEq.TheImpl as thread_eq
 use Rattle.nt_event.specs.contracts.numbers.TimerNoPartialEq.TheImpl as timer_eq
 use Rattle.nt_history.proofs.Same.{Same, bool_same, enum_same, nat_same, none_same, one_same, option_same, three_same, two_same}
@@ -42,6 +43,9 @@ apc_same x y h = ap apc (eqb-true x.0 y.0 h)
 pub timer_same : Same timer_eq.ghosts.eq
 timer_same x y h = ap timer (eqb-true x.0 y.0 h)
 
+pub lock_same : Same lock_eq.ghosts.eq
+lock_same x y h = ap lock (eqb-true x.0 y.0 h)
+
 -- ---- commands and replies
 
 pub mode_same : Same mode_eq.ghosts.eq
@@ -53,11 +57,11 @@ importance_same = same_true importance.the_type tt
 pub refusal_same : Same refusal_eq.ghosts.eq
 refusal_same = same_true refusal.the_type tt
 
--- Done, Yes, No, Status, Blocked, Refused
+-- Done, Yes, No, Status, Blocked, Spin, Refused
 pub reply_same : Same reply_eq.ghosts.eq
 reply_same =
     enum_same reply.enum _
-    (none_same, (none_same, (none_same, (one_same nat_same, (none_same, (one_same refusal_same, tt))))))
+    (none_same, (none_same, (none_same, (one_same nat_same, (none_same, (none_same, (one_same refusal_same, tt)))))))
 
 pub key_same : Same key_eq.ghosts.eq
 key_same = enum_same key.enum _ (one_same timer_same, (one_same thread_same, tt))
@@ -103,7 +107,7 @@ command_same = enum_same command.enum _ (
                                       one_same mode_same,
                                       (
                                         two_same cpu_same nat_same,
-                                        (one_same nat_same, (none_same, (none_same, (one_same nat_same, tt)))),
+                                        (one_same nat_same, (none_same, (none_same, (one_same lock_same, (one_same lock_same, (one_same nat_same, tt)))))),
                                       ),
                                     ),
                                   ),

@@ -59,6 +59,7 @@ did_of k (what.Switch t status) = did.Switch t status
 did_of k (what.Rewait f y) = did.Rewait f y
 did_of k (what.Flush a from) = did.Flush a from
 did_of k (what.Gone t) = did.Gone t
+did_of k (what.Free f l) = did.Free f l
 did_of k what.Rest = did.Rest
 
 -- what an event does, where a look has these values
@@ -75,6 +76,7 @@ what_of r (did.Switch t status) = what.Switch t status
 what_of r (did.Rewait f y) = what.Rewait f y
 what_of r (did.Flush a from) = what.Flush a from
 what_of r (did.Gone t) = what.Gone t
+what_of r (did.Free f l) = what.Free f l
 what_of r did.Rest = what.Rest
 
 abbrev pub brief_of : Noticed → Event → Brief
@@ -97,6 +99,7 @@ noticed_of (did.Switch t status) = nothing
 noticed_of (did.Rewait f y) = nothing
 noticed_of (did.Flush a from) = nothing
 noticed_of (did.Gone t) = nothing
+noticed_of (did.Free f l) = nothing
 noticed_of did.Rest = nothing
 
 -- these are the values of what an event does, where it is a look
@@ -113,6 +116,7 @@ HasValues r (what.Switch t status) = Unit {0}
 HasValues r (what.Rewait f y) = Unit {0}
 HasValues r (what.Flush a from) = Unit {0}
 HasValues r (what.Gone t) = Unit {0}
+HasValues r (what.Free f l) = Unit {0}
 HasValues r what.Rest = Unit {0}
 
 -- the values that a brief refers to
@@ -144,6 +148,7 @@ Stands n (did.Switch t status) = Unit {0}
 Stands n (did.Rewait f y) = Unit {0}
 Stands n (did.Flush a from) = Unit {0}
 Stands n (did.Gone t) = Unit {0}
+Stands n (did.Free f l) = Unit {0}
 Stands n did.Rest = Unit {0}
 
 -- the values of each look stand among these

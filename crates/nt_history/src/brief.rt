@@ -3,7 +3,8 @@ ghost use Rattle.std.specs.Prelude.{◌≡◌, ◌↔◌, ◌<◌, IsTrue};
 ghost use Rattle.nt_history.specs.Briefs.{IsLook, NoneAbove, NoneBelow, brief_of, did_of, event_of, no_rises, nothing, noticed_of, one_rise, values_at, what_of};
 
 use nt_event::{
-    ApcNo, Begun, Command, CpuNo, DpcNo, Event, Level, Reply, Rises, ThreadNo, TimerKey, What,
+    ApcNo, Begun, Command, CpuNo, DpcNo, Event, Level, LockNo, Reply, Rises, ThreadNo, TimerKey,
+    What,
 };
 
 /// Where the values of a look are kept.
@@ -150,6 +151,11 @@ pub enum Did {
     Gone {
         thread: ThreadNo,
     },
+    /// A routine that ends frees a lock that it holds.
+    Free {
+        frame: u64,
+        lock: LockNo,
+    },
     /// The processor has nothing to do.
     Rest,
 }
@@ -183,6 +189,7 @@ impl Did {
             What::Rewait { frame, reply } => *self = Did::Rewait { frame, reply },
             What::Flush { apc, from } => *self = Did::Flush { apc, from },
             What::Gone { thread } => *self = Did::Gone { thread },
+            What::Free { frame, lock } => *self = Did::Free { frame, lock },
             What::Rest => *self = Did::Rest,
         }
     }
@@ -204,6 +211,7 @@ impl Did {
             | Did::Rewait { .. }
             | Did::Flush { .. }
             | Did::Gone { .. }
+            | Did::Free { .. }
             | Did::Rest => Noticed::NOTHING,
         }
     }
@@ -233,6 +241,7 @@ impl Did {
             Did::Rewait { frame, reply } => What::Rewait { frame, reply },
             Did::Flush { apc, from } => What::Flush { apc, from },
             Did::Gone { thread } => What::Gone { thread },
+            Did::Free { frame, lock } => What::Free { frame, lock },
             Did::Rest => What::Rest,
         }
     }

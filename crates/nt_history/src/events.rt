@@ -69,6 +69,7 @@ impl<'a> Briefs<'a> {
             | Did::Rewait { .. }
             | Did::Flush { .. }
             | Did::Gone { .. }
+            | Did::Free { .. }
             | Did::Rest => Turn::Next(brief.cpu),
         }
     }
@@ -113,6 +114,7 @@ impl<'a> Briefs<'a> {
             | What::Rewait { .. }
             | What::Flush { .. }
             | What::Gone { .. }
+            | What::Free { .. }
             | What::Rest => true,
         }
     }

@@ -1,5 +1,6 @@
 -- What the calls leave of all states is what the event leaves.
 use Rattle.std.proofs.Common.{ap, subst, sym, ◌∙◌}
+use Rattle.std.proofs.lemmas.Bool.{ltb-true}
 use Rattle.std.specs.Prelude.{ℕ, ◌≡◌}
 use Rattle.nt_event.specs.declared.events.Event.{Event}
 use Rattle.nt_event.specs.declared.events.What.{What}
@@ -18,6 +19,8 @@ use Rattle.nt_plain.specs.declared.states.States.TheInside.{Inside}
 use Rattle.nt_states.specs.AllStates.{AllStates, dpcs_of, threads_of}
 use Rattle.nt_states.specs.Allowed.{MayMake}
 use Rattle.nt_plain.specs.Kept.{IsKept, states_in}
+use Rattle.nt_plain.specs.Locks.{MayMove, locks_left}
+use Rattle.nt_plain.proofs.LocksLeft.{still_locks}
 use Rattle.nt_states.specs.Sound.{IsSound}
 use Rattle.nt_states.specs.Timed.{MayTime, timed}
 use Rattle.nt_states.proofs.ForDpcs.{may_dpcs}
@@ -57,6 +60,12 @@ may_leave_timers a x st e kept same g made =
     (may_timers x st sound e.what g) in
     subst (λ (z : AllStates). MayTime z.script z.lanes.timers e e.what) (sym same) h
 
+pub may_move_locks : (a : Inside) (x : AllStates) (st : Stand) (w : What) → IsKept a → states_in a ≡ x → MayMake x st w →
+    MayMove a.script.now a.locks st.cpu w
+may_move_locks a x st w kept same g =
+    let h : MayMake (states_in a) st w = subst (λ (z : AllStates). MayMake z st w) (sym same) g in
+    record { locks = kept.locks; cpu = ltb-true st.cpu.0 a.script.now.cpus h.may.stand.cpu; named = h.named }
+
 -- ---- what is left
 
 -- the fields after the event
@@ -65,6 +74,7 @@ pub record AreLeft (a b : Inside) (n : ℕ) (st : Stand) (e : Event) : Type 0 wh
   pub dpcs : b.dpcs ≡ dpcs.left n st.cpu e.what a.dpcs
   pub threads : b.threads ≡ threads.left n st e a.threads
   pub timers : b.timers ≡ timed n st e.thread e.what a.timers
+  pub locks : b.locks ≡ locks_left a.script.now st.cpu e.what a.locks
 
 module _ (a b : Inside) (x : AllStates) (n : ℕ) (st : Stand) (e : Event) (kept : IsKept a) (same : states_in a ≡ x) (g : MayMake x st e.what)
     (made : e ≡ acted_event st x.lanes e.what) (left : AreLeft a b n st e) where
@@ -80,6 +90,7 @@ module _ (a b : Inside) (x : AllStates) (n : ℕ) (st : Stand) (e : Event) (kept
     };
     dpcs = ap (λ (d : DpcLanes). d.script) left.dpcs ∙ (kept.dpcs ∙ sym left.script);
     threads = ap (λ (t : ThreadLanes). t.script) left.threads ∙ (kept.threads ∙ sym left.script);
+    locks = rw (left.script, left.locks) (still_locks a.script.now st.cpu e.what a.locks kept.locks);
   }
 
   by_cpu : e.cpu ≡ st.cpu
@@ -93,8 +104,10 @@ module _ (a b : Inside) (x : AllStates) (n : ℕ) (st : Stand) (e : Event) (kept
       let t : b.threads ≡ threads.left n st e (threads_of (states_in a)) = left.threads
       ∙ ap (λ (z : ThreadLanes). threads.left n st e z) (sym (threads_are a kept)) in
       let u = times in
+      let k : b.locks ≡ locks_left a.script.now e.cpu e.what a.locks = left.locks
+      ∙ ap (λ (p : CpuNo). locks_left a.script.now p e.what a.locks) (sym by_cpu) in
       let s = left.script in
-      λ j. record { script = s j; lanes = record { objects = (d j).objects; queues = (d j).queues; threads = (t j).facts; timers = u j } }
+      λ j. record { script = s j; lanes = record { objects = (d j).objects; queues = (d j).queues; threads = (t j).facts; timers = u j; locks = k j } }
 
   -- all states are those that the event leaves
   pub all_left : states_in b ≡ record x { lanes = lanes_after x.script n st e x.lanes }

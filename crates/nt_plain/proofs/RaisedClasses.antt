@@ -2,12 +2,12 @@
 use Rattle.std.proofs.Common.{ap, arith, ◌∙◌}
 use Rattle.std.proofs.lemmas.Bool.Decides.{nat_tests}
 use Rattle.std.specs.Prelude.{Bool, List, false, get_or, if◌then◌else◌, length, max, refl, true, ℕ, ◌<◌, ◌==◌, ◌||◌, ◌≡◌}
-use Rattle.nt_event.specs.Classes.{apc_class, clock_class, dispatch_class, threaded_class}
+use Rattle.nt_event.specs.Classes.{apc_class, clock_class, dispatch_class, lock_class, threaded_class}
 use Rattle.nt_event.specs.Lists.{table, value_at}
 use Rattle.nt_event.proofs.Tables.{is_table, length-table_from}
 use Rattle.nt_floor.specs.Seen.{SameInterrupts}
 use Rattle.nt_floor.proofs.Values.{raised_other, raised_value}
-use Rattle.nt_plain.specs.Classes.{is_told_class, raised_class}
+use Rattle.nt_plain.specs.Classes.{is_work_class, raised_class}
 
 -- a value is raised to another one, where the test holds
 abbrev raised_if : Bool → ℕ → ℕ → ℕ
@@ -31,7 +31,7 @@ whole true to old h = refl
 whole false to old h = omega (arith, h refl)
 
 pub raised_row : (told v0 v1 v2 v3 v4 : List ℕ) → v1 ≡ raised_class threaded_class told v0 → v2 ≡ raised_class apc_class told v1 → v3
-    ≡ raised_class dispatch_class told v2 → v4 ≡ raised_class clock_class told v3 → ((c : ℕ) → c < 16 → is_told_class c ≡ false → get_or told c 0 ≡ 0) → v4
+    ≡ raised_class dispatch_class told v2 → v4 ≡ raised_class clock_class told v3 → ((c : ℕ) → c < 16 → is_work_class c ≡ false → get_or told c 0 ≡ 0) → v4
     ≡ table 16 (λ c. max (value_at v0 c) (get_or told c 0))
 raised_row told v0 v1 v2 v3 v4 e1 e2 e3 e4 others =
     is_table v4 16 (λ c. max (value_at v0 c) (get_or told c 0)) (ap (λ (v : List ℕ). length v) e4 ∙ length-table_from 0 16 _) each
@@ -47,7 +47,14 @@ raised_row told v0 v1 v2 v3 v4 e1 e2 e3 e4 others =
         ∙ twice (threaded_class == k) (apc_class == k) to (value_at v0 k)))
         ∙ twice (threaded_class == k || apc_class == k) (dispatch_class == k) to (value_at v0 k)))
         ∙ (twice ((threaded_class == k || apc_class == k) || dispatch_class == k) (clock_class == k) to (value_at v0 k)
-        ∙ whole (is_told_class k) to (value_at v0 k) (others k h)))
+        ∙ whole (is_work_class k) to (value_at v0 k) (others k h)))
+
+-- by a lock, in the class that it tells of
+pub raised_lock_row : (told old new : List ℕ) → new ≡ raised_class lock_class told old →
+    ((c : ℕ) → c < 16 → (lock_class == c) ≡ false → get_or told c 0 ≡ 0) → new ≡ table 16 (λ c. max (value_at old c) (get_or told c 0))
+raised_lock_row told old new e others =
+    is_table new 16 (λ c. max (value_at old c) (get_or told c 0)) (ap (λ (v : List ℕ). length v) e ∙ length-table_from 0 16 _)
+    (λ k h. read lock_class told old new k h e ∙ whole (lock_class == k) (get_or told k 0) (value_at old k) (others k h))
 
 -- where the clock's value stays, those of interrupts do
 pub row_interrupts : (told v0 v1 v2 v3 v4 : List ℕ) → v1 ≡ raised_class threaded_class told v0 → v2 ≡ raised_class apc_class told v1 → v3

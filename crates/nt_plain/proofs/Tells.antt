@@ -5,7 +5,7 @@ use Rattle.std.proofs.lemmas.List.{length-set}
 use Rattle.std.specs.List.{list_any}
 use Rattle.std.specs.Prelude.{All, Bool, List, [], false, if◌then◌else◌, refl, true, ℕ, ◌&&◌, ◌*◌, ◌+◌, ◌<◌, ◌||◌, ◌∷◌, ◌≡◌, ◌⊎◌}
 use Rattle.nt_event.specs.declared.jobs.Lane.{Lane}
-use Rattle.nt_event.specs.declared.jobs.Lane.TheVariants.{Object as ObjectLane, Queue as QueueLane, Threads as ThreadsLane, Timers as TimersLane}
+use Rattle.nt_event.specs.declared.jobs.Lane.TheVariants.{Lock as LockLane, Object as ObjectLane, Queue as QueueLane, Threads as ThreadsLane, Timers as TimersLane}
 use Rattle.nt_event.specs.declared.numbers.CpuNo.{CpuNo}
 use Rattle.nt_event.specs.declared.scripts.Script.{Script}
 use Rattle.nt_event.specs.Lanes.{lane_count, lane_number, same_lane}
@@ -26,6 +26,7 @@ number_below s (ObjectLane d) h = let k = ltb-true d.0 (length s.dpcs) h in omeg
 number_below s (QueueLane p) h = let k = ltb-true p.0 s.cpus h in omega arith
 number_below s (ThreadsLane p) h = let k = ltb-true p.0 s.cpus h in omega arith
 number_below s TimersLane h = omega arith
+number_below s (LockLane k) h = let e = ltb-true k.0 s.locks h in omega arith
 
 one_number : (s : Script) (y x : Lane) → same_lane y x ≡ true → lane_number s y ≡ lane_number s x
 one_number s (ObjectLane d) (ObjectLane e) h = sym (eqb-true e.0 d.0 h)
@@ -33,6 +34,8 @@ one_number s (QueueLane p) (QueueLane q) h = ap (λ (n : ℕ). length s.dpcs + n
 one_number s (ThreadsLane p) (ThreadsLane q) h =
     ap (λ (n : ℕ). length s.dpcs + (s.cpus + n)) (sym (eqb-true q.0 p.0 h))
 one_number s TimersLane TimersLane h = refl
+one_number s (LockLane k) (LockLane j) h =
+    ap (λ (n : ℕ). length s.dpcs + (s.cpus + (s.cpus + (1 + n)))) (sym (eqb-true j.0 k.0 h))
 one_number s (ObjectLane d) (QueueLane p) h = absurd (cc)
 one_number s (ObjectLane d) (ThreadsLane p) h = absurd (cc)
 one_number s (ObjectLane d) TimersLane h = absurd (cc)
@@ -45,6 +48,14 @@ one_number s (ThreadsLane d) TimersLane h = absurd (cc)
 one_number s TimersLane (ObjectLane p) h = absurd (cc)
 one_number s TimersLane (QueueLane p) h = absurd (cc)
 one_number s TimersLane (ThreadsLane p) h = absurd (cc)
+one_number s (ObjectLane d) (LockLane k) h = absurd (cc)
+one_number s (LockLane k) (ObjectLane d) h = absurd (cc)
+one_number s (QueueLane p) (LockLane k) h = absurd (cc)
+one_number s (LockLane k) (QueueLane p) h = absurd (cc)
+one_number s (ThreadsLane p) (LockLane k) h = absurd (cc)
+one_number s (LockLane k) (ThreadsLane p) h = absurd (cc)
+one_number s TimersLane (LockLane k) h = absurd (cc)
+one_number s (LockLane k) TimersLane h = absurd (cc)
 
 -- two lanes of the script have one number only where they are one
 two_numbers : (s : Script) (y x : Lane) → lane_fits s y ≡ true → lane_fits s x ≡ true → same_lane y x ≡ false → lane_number s y ≡ lane_number s x → ⊥
@@ -64,12 +75,22 @@ two_numbers s (ThreadsLane p) TimersLane f g h same = let k = ltb-true p.0 s.cpu
 two_numbers s TimersLane (ObjectLane d) f g h same = let k = ltb-true d.0 (length s.dpcs) g in omega arith
 two_numbers s TimersLane (QueueLane q) f g h same = let k = ltb-true q.0 s.cpus g in omega arith
 two_numbers s TimersLane (ThreadsLane p) f g h same = let k = ltb-true p.0 s.cpus g in omega arith
+two_numbers s (LockLane k) (LockLane j) f g h same = eqb-false j.0 k.0 h (omega arith)
+two_numbers s (ObjectLane d) (LockLane j) f g h same = let k = ltb-true d.0 (length s.dpcs) f in omega arith
+two_numbers s (LockLane j) (ObjectLane d) f g h same = let k = ltb-true d.0 (length s.dpcs) g in omega arith
+two_numbers s (QueueLane p) (LockLane j) f g h same = let k = ltb-true p.0 s.cpus f in omega arith
+two_numbers s (LockLane j) (QueueLane p) f g h same = let k = ltb-true p.0 s.cpus g in omega arith
+two_numbers s (ThreadsLane p) (LockLane j) f g h same = let k = ltb-true p.0 s.cpus f in omega arith
+two_numbers s (LockLane j) (ThreadsLane p) f g h same = let k = ltb-true p.0 s.cpus g in omega arith
+two_numbers s TimersLane (LockLane j) f g h same = omega arith
+two_numbers s (LockLane j) TimersLane f g h same = omega arith
 
 same_fits : (s : Script) (y x : Lane) → same_lane y x ≡ true → lane_fits s x ≡ true → lane_fits s y ≡ true
 same_fits s (ObjectLane d) (ObjectLane e) h g = rw (← eqb-true e.0 d.0 h) g
 same_fits s (QueueLane p) (QueueLane q) h g = rw (← eqb-true q.0 p.0 h) g
 same_fits s (ThreadsLane p) (ThreadsLane q) h g = rw (← eqb-true q.0 p.0 h) g
 same_fits s TimersLane TimersLane h g = refl
+same_fits s (LockLane k) (LockLane j) h g = rw (← eqb-true j.0 k.0 h) g
 same_fits s (ObjectLane d) (QueueLane p) h g = absurd (cc)
 same_fits s (ObjectLane d) (ThreadsLane p) h g = absurd (cc)
 same_fits s (ObjectLane d) TimersLane h g = absurd (cc)
@@ -82,6 +103,14 @@ same_fits s (ThreadsLane d) TimersLane h g = absurd (cc)
 same_fits s TimersLane (ObjectLane p) h g = absurd (cc)
 same_fits s TimersLane (QueueLane p) h g = absurd (cc)
 same_fits s TimersLane (ThreadsLane p) h g = absurd (cc)
+same_fits s (ObjectLane d) (LockLane k) h g = absurd (cc)
+same_fits s (LockLane k) (ObjectLane d) h g = absurd (cc)
+same_fits s (QueueLane p) (LockLane k) h g = absurd (cc)
+same_fits s (LockLane k) (QueueLane p) h g = absurd (cc)
+same_fits s (ThreadsLane p) (LockLane k) h g = absurd (cc)
+same_fits s (LockLane k) (ThreadsLane p) h g = absurd (cc)
+same_fits s TimersLane (LockLane k) h g = absurd (cc)
+same_fits s (LockLane k) TimersLane h g = absurd (cc)
 
 apart : (s : Script) (y x : Lane) → lane_fits s x ≡ true → lane_fits s y ≡ false → same_lane y x ≡ false
 apart s y x fits out = go (same_lane y x) refl

@@ -68,8 +68,8 @@ marks_room limit cpus marks len small few =
 
 -- their rows have nothing of the classes that lanes don't tell of
 pub others_untold : (s : Script) (told : List ℕ) (lanes : List Lane) (p : CpuNo) → All (LaneFits s) lanes →
-    ((x : Lane) (c : ℕ) → c < 16 → is_told_class c ≡ false → told_in s told x p c ≡ 0) →
-    All (λ x. (c : ℕ) → c < 16 → is_told_class c ≡ false → row_value s told x p c ≡ 0) lanes
+    ((x : Lane) (c : ℕ) → c < 16 → is_told_class x c ≡ false → told_in s told x p c ≡ 0) →
+    All (λ x. (c : ℕ) → c < 16 → is_told_class x c ≡ false → row_value s told x p c ≡ 0) lanes
 others_untold s told lanes p fits untold k d l c h other =
     let here : lane_fits s (get_or lanes k d) ≡ true = fits k d l in
     rw here at (untold (get_or lanes k d) c h other)

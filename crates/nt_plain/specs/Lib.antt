@@ -2,6 +2,7 @@ pub mod States
 pub mod Places
 pub mod Rows
 pub mod Classes
+pub mod Locks
 pub mod Made
 pub mod Insides
 pub mod Kept

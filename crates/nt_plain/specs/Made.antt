@@ -32,7 +32,7 @@ pub record IsKept (f : PlainState) : Type 0 where
   pub asked : (p : CpuNo) (c : ℕ) → p.0 < f.script.cpus → c < 16 → value_in f.asked p c ≤ f.next
   pub told : (x : Lane) (p : CpuNo) (c : ℕ) → p.0 < f.script.cpus → c < 16 →
       told_in f.script f.told x p c ≤ value_in f.asked p c
-  pub told_others : (x : Lane) (p : CpuNo) (c : ℕ) → p.0 < f.script.cpus → c < 16 → is_told_class c ≡ false →
+  pub told_others : (x : Lane) (p : CpuNo) (c : ℕ) → p.0 < f.script.cpus → c < 16 → is_told_class x c ≡ false →
       told_in f.script f.told x p c ≡ 0
   pub time : f.lanes.timers.now ≤ f.next * 2 ^ 32
 

@@ -7,6 +7,7 @@
 #![tactic(auto)]
 
 mod floor;
+mod locks;
 mod making;
 mod marks;
 mod open;

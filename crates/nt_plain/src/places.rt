@@ -13,7 +13,7 @@ pub(crate) fn row_of(cpus: u8, n: usize, p: CpuNo) -> usize
     n * usize::from(cpus) + usize::from(p.0)
 }
 
-/// The number of a lane, in the order in which lanes are taken: objects, queues, threads, timers.
+/// The number of a lane, in the order in which lanes are taken: objects, queues, threads, timers, locks.
 pub(crate) fn lane_number(script: &Script, lane: Lane) -> usize
     requires { lane_number script.now lane < 2 ^ 32 }
     ensures { result ≡ lane_number script.now lane }
@@ -25,5 +25,6 @@ pub(crate) fn lane_number(script: &Script, lane: Lane) -> usize
         Lane::Queue(p) => objects + usize::from(p.0),
         Lane::Threads(p) => objects + (cpus + usize::from(p.0)),
         Lane::Timers => objects + (cpus + cpus),
+        Lane::Lock(k) => objects + (cpus + (cpus + (1 + usize::from(k.0)))),
     }
 }

@@ -191,5 +191,5 @@ fn lane_count(script: &Script) -> usize
     ensures bound { result ≤ 1024 }
 {
     let cpus = usize::from(script.cpus);
-    script.dpcs.len() + (cpus + (cpus + 1))
+    script.dpcs.len() + (cpus + (cpus + (1 + usize::from(script.locks))))
 }

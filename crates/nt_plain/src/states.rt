@@ -1,7 +1,7 @@
-//! The states of all lanes in memory: DPC objects and queues, threads, and timers.
+//! The states of all lanes in memory: DPC objects and queues, threads, timers, and spin locks.
 ghost use Rattle.std.specs.Prelude.{◌≡◌, [], IfOk, IsTrue, length};
-ghost use Rattle.nt_event.specs.Lanes.{lanes_at};
-ghost use Rattle.nt_event.specs.Script.{fits};
+ghost use Rattle.nt_event.specs.Lanes.{lanes_at, lock_at};
+ghost use Rattle.nt_event.specs.Script.{fits, has_lock};
 ghost use Rattle.nt_acts.specs.Acts.{KindsFit};
 ghost use Rattle.nt_states.specs.AllStates.{dpcs_of};
 ghost use Rattle.nt_states.specs.Sound.{IsSound};
@@ -9,9 +9,10 @@ ghost use Rattle.nt_states.specs.Sound.{IsSound};
 mod answering;
 mod leaving;
 
+use crate::locks::Locks;
 use nt_dpc_lanes::Dpcs;
-use nt_event::Script;
-use nt_states::LaneAnswers;
+use nt_event::{LockNo, Script};
+use nt_states::{LaneAnswers, SpinLock};
 use nt_thread_lanes::Threads;
 use nt_timer::TimerQueue;
 use std::alloc::{AllocError, Global};
@@ -24,6 +25,7 @@ pub(crate) struct States<'s> {
     dpcs: Dpcs<'s>,
     threads: Threads<'s>,
     timers: TimerQueue,
+    locks: Locks,
 }
 
 impl<'s> Model for States<'s> {
@@ -47,11 +49,13 @@ impl<'s> States<'s> {
         let dpcs = Dpcs::new(alloc, script)?;
         let threads = Threads::new(alloc, script)?;
         let timers = TimerQueue::new(alloc, timer_count(script), script.thread_count())?;
+        let locks = Locks::new(alloc, script)?;
         Ok(States {
             script,
             dpcs,
             threads,
             timers,
+            locks,
         })
     }
 
@@ -81,6 +85,15 @@ impl<'s> States<'s> {
         ensures { result.now ≡ self.now.lanes.timers }
     {
         &self.timers
+    }
+
+    /// The state of a spin lock.
+    fn lock(&self, k: LockNo) -> &SpinLock
+        requires { IsTrue (has_lock self.now.script k) }
+        ensures lock { result.now ≡ lock_at self.now.lanes k }
+        ensures flags { length result.now.spinners ≡ self.now.script.cpus }
+    {
+        self.locks.get(k)
     }
 
     /// The APCs that are pending are of their objects' kinds.

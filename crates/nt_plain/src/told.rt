@@ -1,13 +1,14 @@
 //! What the lanes tell of requests.
 ghost use Rattle.std.specs.List.{list_any};
-ghost use Rattle.std.specs.Prelude.{◌≡◌, ◌+◌, ◌*◌, ◌<◌, ◌≤◌, ◌^◌, ℕ, All, IfOk, false, get_or, if◌then◌else◌, length, max, replicate, set};
+ghost use Rattle.std.specs.Prelude.{◌≡◌, ◌==◌, ◌+◌, ◌*◌, ◌<◌, ◌≤◌, ◌^◌, ℕ, All, IfOk, false, get_or, if◌then◌else◌, length, max, replicate, set};
+ghost use Rattle.nt_event.specs.Classes.{lock_class};
 ghost use Rattle.nt_event.specs.Lanes.{lane_number as number_of};
 ghost use Rattle.nt_event.specs.Lists.{table, value_at};
 ghost use Rattle.nt_event.specs.Requests.{is_ask};
 ghost use Rattle.nt_acts.specs.Acts.{told_over};
 ghost use Rattle.nt_floor.specs.Seen.{SameInterrupts};
 ghost use Rattle.nt_states.specs.LaneLists.{as_ask, as_asks};
-ghost use Rattle.nt_plain.specs.Classes.{is_told_class, raised_class};
+ghost use Rattle.nt_plain.specs.Classes.{is_lock, is_told_class, is_work_class, raised_class};
 ghost use Rattle.nt_plain.specs.Made.{tell_lane, tell_lanes};
 ghost use Rattle.nt_plain.specs.Places.{row_of as row_place, row_value, told_place};
 
@@ -52,14 +53,14 @@ impl ToldValues {
         self.values[row * 16 + usize::from(class)] = value;
     }
 
-    /// Raises what was seen to the values of a row. False only where what was seen of interrupts is as before.
-    fn raise(&self, row: usize, seen: &mut Seen) -> bool
+    /// Raises what was seen to the values of a row of the lane. False only where what was seen of interrupts is as before.
+    fn raise(&self, lane: Lane, row: usize, seen: &mut Seen) -> bool
         requires row { row * 16 + 16 ≤ length self.now }
-        requires others { (c : ℕ) → c < 16 → is_told_class c ≡ false → get_or self.now (row * 16 + c) 0 ≡ 0 }
+        requires others { (c : ℕ) → c < 16 → is_told_class lane c ≡ false → get_or self.now (row * 16 + c) 0 ≡ 0 }
         ensures values { seen.new ≡ table 16 (λ c. max (value_at seen.old c) (get_or self.now (row * 16 + c) 0)) }
         ensures interrupts { result ≡ false → SameInterrupts seen.old seen.new }
     {
-        raise_by(seen, &self.values[row * 16..row * 16 + 16])
+        raise_told(lane, seen, &self.values[row * 16..row * 16 + 16])
     }
 
     /// Raises what a processor has seen to what these lanes tell it. False only where what was seen of interrupts is as before.
@@ -73,14 +74,14 @@ impl ToldValues {
         requires rows { All (λ x. row_place script.now.cpus (number_of script.now x) p * 16 + 16 ≤ length self.now) lanes.now }
         requires numbers { All (λ x. number_of script.now x < 2 ^ 32) lanes.now }
         requires room { length self.now < 2 ^ 32 }
-        requires others { All (λ x. (c : ℕ) → c < 16 → is_told_class c ≡ false → row_value script.now self.now x p c ≡ 0) lanes.now }
+        requires others { All (λ x. (c : ℕ) → c < 16 → is_told_class x c ≡ false → row_value script.now self.now x p c ≡ 0) lanes.now }
         ensures values { (c : ℕ) → c < 16 → value_at seen.new c ≡ max (value_at seen.old c) (told_over (row_value script.now self.now) lanes.now p c) }
         ensures interrupts { result ≡ false → SameInterrupts seen.old seen.new }
     {
         let mut interrupts = false;
         for lane in lanes {
             let row = row_of(script.cpus, lane_number(script, *lane), p);
-            if self.raise(row, seen) {
+            if self.raise(*lane, row, seen) {
                 interrupts = true;
             }
         }
@@ -114,11 +115,45 @@ impl ToldValues {
     }
 }
 
-/// Raises what was seen to these values. False only where what was seen of interrupts is as before. Lanes tell of four classes alone, so
-/// the others are not looked at.
+/// Raises what was seen to these values, which the lane tells. False only where what was seen of interrupts is as before.
+fn raise_told(lane: Lane, seen: &mut Seen, told: &[u64]) -> bool
+    requires classes { length told.now ≡ 16 }
+    requires others { (c : ℕ) → c < 16 → is_told_class lane c ≡ false → get_or told.now c 0 ≡ 0 }
+    ensures values { seen.new ≡ table 16 (λ c. max (value_at seen.old c) (get_or told.now c 0)) }
+    ensures interrupts { result ≡ false → SameInterrupts seen.old seen.new }
+{
+    if is_lock(lane) {
+        raise_by_lock(seen, told)
+    } else {
+        raise_by(seen, told)
+    }
+}
+
+/// Whether the lane is a lock's.
+fn is_lock(lane: Lane) -> bool
+    ensures { result ≡ is_lock lane }
+{
+    match lane {
+        Lane::Lock(_) => true,
+        Lane::Object(_) | Lane::Queue(_) | Lane::Threads(_) | Lane::Timers => false,
+    }
+}
+
+/// Raises what was seen to these values, which a lock tells. False only where what was seen of interrupts is as before.
+fn raise_by_lock(seen: &mut Seen, told: &[u64]) -> bool
+    requires classes { length told.now ≡ 16 }
+    requires others { (c : ℕ) → c < 16 → (lock_class == c) ≡ false → get_or told.now c 0 ≡ 0 }
+    ensures values { seen.new ≡ table 16 (λ c. max (value_at seen.old c) (get_or told.now c 0)) }
+    ensures interrupts { result ≡ false → SameInterrupts seen.old seen.new }
+{
+    raise_class(seen, told, class::LOCK)
+}
+
+/// Raises what was seen to these values, which a lane tells that is no lock's. False only where what was seen of interrupts is as before.
+/// Such lanes tell of four classes alone, so the others are not looked at.
 fn raise_by(seen: &mut Seen, told: &[u64]) -> bool
     requires classes { length told.now ≡ 16 }
-    requires others { (c : ℕ) → c < 16 → is_told_class c ≡ false → get_or told.now c 0 ≡ 0 }
+    requires others { (c : ℕ) → c < 16 → is_work_class c ≡ false → get_or told.now c 0 ≡ 0 }
     ensures values { seen.new ≡ table 16 (λ c. max (value_at seen.old c) (get_or told.now c 0)) }
     ensures interrupts { result ≡ false → SameInterrupts seen.old seen.new }
 {

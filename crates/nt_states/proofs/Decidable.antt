@@ -27,6 +27,7 @@ module _ (x : AllStates) (st : Stand) where
   pub job_stands : (j : Job) → IsAllowed x.lanes st j → JobStands st j
   job_stands (job.Call c) h = h.1
   job_stands (job.Fire d) h = tt
+  job_stands (job.Free k) h = tt
   job_stands job.Drain h = tt
   job_stands job.Apcs h = h.thread
   job_stands job.Threaded h = tt

@@ -9,13 +9,13 @@ use Rattle.nt_event.specs.declared.commands.Reply.TheVariants.{Done}
 use Rattle.nt_event.specs.declared.commands.TimerKey.{TimerKey}
 use Rattle.nt_event.specs.declared.events.Begun.TheVariants.{Apc, Dpc, Threaded}
 use Rattle.nt_event.specs.declared.events.What.{What}
-use Rattle.nt_event.specs.declared.events.What.TheVariants.{Begin, Call, Clean, End, Expire, Fire, Flush, Gone, Rest, Rewait, Switch}
+use Rattle.nt_event.specs.declared.events.What.TheVariants.{Begin, Call, Clean, End, Expire, Fire, Flush, Free, Gone, Rest, Rewait, Switch}
 use Rattle.nt_event.specs.declared.frames.Again.{Again}
 use Rattle.nt_event.specs.declared.inserts.Part.{Part}
 use Rattle.nt_event.specs.declared.inserts.Part.TheVariants.{Ordinary as OrdinaryPart, Threaded as ThreadedPart}
 use Rattle.nt_event.specs.declared.inserts.Pick.{Pick}
 use Rattle.nt_event.specs.declared.jobs.Job.{Job}
-use Rattle.nt_event.specs.declared.jobs.Job.TheVariants.{Apcs as ApcsJob, Call as CallJob, Drain as DrainJob, Fire as FireJob, Idle as IdleJob, Leave as LeaveJob, Pick as PickJob, Rewait as RewaitJob, Rundown as RundownJob, Switch as SwitchJob, Threaded as ThreadedJob, ToUser as ToUserJob, UserEnd as UserEndJob}
+use Rattle.nt_event.specs.declared.jobs.Job.TheVariants.{Apcs as ApcsJob, Call as CallJob, Drain as DrainJob, Fire as FireJob, Free as FreeJob, Idle as IdleJob, Leave as LeaveJob, Pick as PickJob, Rewait as RewaitJob, Rundown as RundownJob, Switch as SwitchJob, Threaded as ThreadedJob, ToUser as ToUserJob, UserEnd as UserEndJob}
 use Rattle.nt_event.specs.declared.jobs.Stand.{Stand}
 use Rattle.nt_event.specs.declared.numbers.ApcNo.{ApcNo}
 use Rattle.nt_event.specs.declared.numbers.DpcNo.{DpcNo}
@@ -26,7 +26,7 @@ use Rattle.nt_event.specs.Commands.{reply}
 use Rattle.nt_event.specs.Jobs.{begin_apc, begin_dpc, begin_first, expire_key, idle_event, job_event, may_take, next_ready, ready, rewait_reply, rundown_event, switch_event, user_due}
 use Rattle.nt_event.specs.Lanes.{facts_at, facts_of, queue_at}
 use Rattle.nt_event.specs.Queues.{first_dpc}
-use Rattle.nt_event.specs.Script.{command_fits, has_dpc}
+use Rattle.nt_event.specs.Script.{command_fits, has_dpc, has_lock}
 use Rattle.nt_event.specs.Threads.{ended_status}
 use Rattle.nt_event.specs.Timers.{SetKey, first_due}
 use Rattle.nt_event.specs.Lists.{is_null, when}
@@ -87,6 +87,7 @@ Knows x st (Switch t status) = KnownSwitch x st t status
 Knows x st (Rewait f y) = KnownRewait x st y
 Knows x st (End f) = IsSome st.thread
 Knows x st (Expire key from) = option_map (λ k. k.0) (due_entry x.lanes.timers) ≡ Some key
+Knows x st (Free f k) = IsTrue (has_lock x.script k)
 Knows x st w = Unit {0}
 
 -- ---- by the job
@@ -157,6 +158,7 @@ module _ (x : AllStates) (st : Stand) where
   of_job : (j : Job) → IsTrue (job_fits x.script j) → IsAllowed x.lanes st j → Holds (Knows x st) (job_event x.script st x.lanes j)
   of_job (CallJob c) h a = record { answer = refl; fits = h; callable = a.1 }
   of_job (FireJob d) h a = record { answer = refl; fits = h }
+  of_job (FreeJob k) h a = h
   of_job DrainJob h a = drains
   of_job ApcsJob h a =
       holds_else (Knows x st) (option_map begin_apc (deliverable (facts_of x.lanes st.thread).apcs st.regions st.level)) (Clean 1) (delivered a.thread)

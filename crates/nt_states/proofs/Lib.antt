@@ -1,4 +1,5 @@
 pub mod Requests
+pub mod LockMoves
 pub mod Decidable
 pub mod Knowns
 pub mod ForDpcs

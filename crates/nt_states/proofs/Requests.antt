@@ -1,19 +1,32 @@
 -- Lists of requests, one request after another.
 use Rattle.std.proofs.Common.{arith, drop, length, subst}
-use Rattle.std.proofs.lemmas.Bool.{and_parts, eqb-true}
+use Rattle.std.proofs.lemmas.Bool.{and_parts, eqb-true, lt-ltb}
 use Rattle.std.proofs.lemmas.List.{drop_all, get_or-map, length-map}
 use Rattle.std.specs.List.{list_any}
-use Rattle.std.specs.Prelude.{All, Bool, List, false, get_or, if◌then◌else◌, refl, suc, true, ℕ, ◌+◌, ◌==◌, ◌∷◌, ◌≡◌, ◌≤◌}
+use Rattle.std.specs.Prelude.{All, Bool, List, [], false, get_or, if◌then◌else◌, refl, suc, true, zero, ℕ, ◌+◌, ◌==◌, ◌∷◌, ◌≡◌, ◌≤◌}
 use Rattle.nt_event.specs.declared.numbers.CpuNo.{CpuNo}
-use Rattle.nt_event.specs.Requests.{Ask, is_ask, raised}
+use Rattle.nt_event.specs.declared.scripts.Script.{Script}
+use Rattle.nt_event.specs.Requests.{Ask, is_ask, raised, spinner_asks}
 use Rattle.nt_states.specs.declared.asking.Asked.{Asked}
-use Rattle.nt_states.specs.LaneLists.{as_ask, as_asks}
+use Rattle.nt_states.specs.LaneLists.{AskFits, as_ask, as_asks}
 
 pub all_head : {A : Type 0} (P : A → Type 0) (x : A) (xs : List A) → All P (x ∷ xs) → P x
 all_head P x xs h = h 0 x (omega arith)
 
 pub all_tail : {A : Type 0} (P : A → Type 0) (x : A) (xs : List A) → All P (x ∷ xs) → All P xs
 all_tail P x xs h k d l = h (suc k) d (omega arith)
+
+all_more : {A : Type 0} (P : A → Type 0) (x : A) (xs : List A) → P x → All P xs → All P (x ∷ xs)
+all_more P x xs h t zero d l = h
+all_more P x xs h t (suc k) d l = t k d (omega arith)
+
+-- each processor that spins is one of the script's
+pub spinners_named : (s : Script) (n : ℕ) (flags : List Bool) → n + length flags ≤ s.cpus → All (AskFits s) (spinner_asks n flags)
+spinners_named s n [] h = λ k d l. absurd (omega arith)
+spinners_named s n (true ∷ flags) h =
+    all_more (AskFits s) _ (spinner_asks (suc n) flags) (record { cpu = lt-ltb n s.cpus (omega arith); class = omega arith })
+    (spinners_named s (suc n) flags (omega arith))
+spinners_named s n (false ∷ flags) h = spinners_named s (suc n) flags (omega arith)
 
 pub as_raised : (b : Bool) (n old : ℕ) → (if b then n + 1 else old) ≡ raised b n old
 as_raised true n old = refl

@@ -1,19 +1,19 @@
 -- The objects and queues of a script as contracts see them, what an event leaves of them, and when it may be made.
 use Rattle.std.specs.Prelude.{IfSome, IsTrue, List, Some, [], get_or, length, not, ℕ, ◌≡◌}
 use Rattle.nt_event.specs.declared.commands.Command.{Command}
-use Rattle.nt_event.specs.declared.commands.Command.TheVariants.{Alert, CancelTimer, Clock, Delay, EnterCrit}
+use Rattle.nt_event.specs.declared.commands.Command.TheVariants.{Acquire, Alert, CancelTimer, Clock, Delay, EnterCrit}
 use Rattle.nt_event.specs.declared.commands.Command.TheVariants.{EnterGuard}
 use Rattle.nt_event.specs.declared.commands.Command.TheVariants.{InsertApc, Interrupt, LeaveCrit, LeaveGuard, Lower}
 use Rattle.nt_event.specs.declared.commands.Command.TheVariants.{Note, Queue}
 use Rattle.nt_event.specs.declared.commands.Command.TheVariants.{Raise, Release, RemoveApc, SetImportance, SetTarget}
 use Rattle.nt_event.specs.declared.commands.Command.TheVariants.{SetTimer}
-use Rattle.nt_event.specs.declared.commands.Command.TheVariants.{StartWait, TestAlert, ToUser, Unqueue, Yield}
+use Rattle.nt_event.specs.declared.commands.Command.TheVariants.{StartWait, TestAlert, ToUser, Unlock, Unqueue, Yield}
 use Rattle.nt_event.specs.declared.commands.Reply.{Reply}
 use Rattle.nt_event.specs.declared.commands.Reply.TheVariants.{Done}
 use Rattle.nt_event.specs.declared.events.Begun.{Begun}
 use Rattle.nt_event.specs.declared.events.Begun.TheVariants.{Apc, Dpc, Int, Threaded}
 use Rattle.nt_event.specs.declared.events.What.{What}
-use Rattle.nt_event.specs.declared.events.What.TheVariants.{Begin, Call, Clean, End, Expire, Fire, Flush, Gone, Look}
+use Rattle.nt_event.specs.declared.events.What.TheVariants.{Begin, Call, Clean, End, Expire, Fire, Flush, Free, Gone, Look}
 use Rattle.nt_event.specs.declared.events.What.TheVariants.{Normal, Rest, Rewait, Switch}
 use Rattle.nt_event.specs.declared.inserts.Part.TheVariants.{Ordinary as OrdinaryPart, Threaded as ThreadedPart}
 use Rattle.nt_event.specs.declared.numbers.CpuNo.{CpuNo}
@@ -91,6 +91,8 @@ CommandSays x (Interrupt p l) y = Unit {0}
 CommandSays x (Clock units) y = Unit {0}
 CommandSays x ToUser y = Unit {0}
 CommandSays x Yield y = Unit {0}
+CommandSays x (Acquire k) y = Unit {0}
+CommandSays x (Unlock k) y = Unit {0}
 CommandSays x (Note n) y = Unit {0}
 
 -- what a Begin says of the processor's own queue: a DPC that begins is the first of its part, and that insert is named
@@ -114,4 +116,5 @@ MayLeave x by (Switch t status) = Unit {0}
 MayLeave x by (Rewait f y) = Unit {0}
 MayLeave x by (Flush a from) = Unit {0}
 MayLeave x by (Gone t) = Unit {0}
+MayLeave x by (Free f k) = Unit {0}
 MayLeave x by Rest = Unit {0}

@@ -33,6 +33,7 @@ RunsOwn s st = IfSome st.thread (λ t. cpu_of s t ≡ st.cpu)
 abbrev pub JobStands : Stand → Job → Type 0
 JobStands st (job.Call c) = IsCallable st c
 JobStands st (job.Fire d) = Unit {0}
+JobStands st (job.Free k) = Unit {0}
 JobStands st job.Drain = Unit {0}
 JobStands st job.Apcs = IsSome st.thread
 JobStands st job.Threaded = Unit {0}
@@ -70,6 +71,7 @@ TakesOwn s st (what.Switch t status) = IsTaken s st.cpu t
 TakesOwn s st (what.Rewait f y) = Unit {0}
 TakesOwn s st (what.Flush a from) = Unit {0}
 TakesOwn s st (what.Gone t) = Unit {0}
+TakesOwn s st (what.Free f k) = Unit {0}
 TakesOwn s st what.Rest = Unit {0}
 
 -- the event is the one of some job that can be decided, in these states, and names things of the script

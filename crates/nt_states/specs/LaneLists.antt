@@ -5,12 +5,12 @@ use Rattle.nt_event.specs.declared.commands.Command.TheVariants as cmd
 use Rattle.nt_event.specs.declared.commands.Reply.{Reply}
 use Rattle.nt_event.specs.declared.commands.Reply.TheVariants.{Yes}
 use Rattle.nt_event.specs.declared.jobs.Lane.{Lane}
-use Rattle.nt_event.specs.declared.jobs.Lane.TheVariants.{Object as ObjectLane, Queue as QueueLane, Threads as ThreadsLane, Timers as TimersLane}
+use Rattle.nt_event.specs.declared.jobs.Lane.TheVariants.{Lock as LockLane, Object as ObjectLane, Queue as QueueLane, Threads as ThreadsLane, Timers as TimersLane}
 use Rattle.nt_event.specs.declared.scripts.Script.{Script}
 use Rattle.nt_event.specs.Lanes.{Lanes, object_at}
 use Rattle.nt_event.specs.Objects.{is_queued}
 use Rattle.nt_event.specs.Requests.{Ask}
-use Rattle.nt_event.specs.Script.{has_cpu, has_dpc}
+use Rattle.nt_event.specs.Script.{has_cpu, has_dpc, has_lock}
 use Rattle.nt_states.specs.declared.asking.Asked.{Asked}
 
 -- the lane is one of the script's
@@ -19,6 +19,7 @@ lane_fits s (ObjectLane d) = has_dpc s d
 lane_fits s (QueueLane p) = has_cpu s p
 lane_fits s (ThreadsLane p) = has_cpu s p
 lane_fits s TimersLane = true
+lane_fits s (LockLane k) = has_lock s k
 
 abbrev pub LaneFits : Script → Lane → Type 0
 LaneFits s x = IsTrue (lane_fits s x)
@@ -60,4 +61,6 @@ InsertIsFree l (cmd.Interrupt q level) y = Unit {0}
 InsertIsFree l (cmd.Clock units) y = Unit {0}
 InsertIsFree l cmd.ToUser y = Unit {0}
 InsertIsFree l cmd.Yield y = Unit {0}
+InsertIsFree l (cmd.Acquire k) y = Unit {0}
+InsertIsFree l (cmd.Unlock k) y = Unit {0}
 InsertIsFree l (cmd.Note k) y = Unit {0}

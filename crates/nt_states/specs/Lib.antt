@@ -1,6 +1,8 @@
 pub mod Reads
 pub mod Given
 pub mod LaneLists
+pub mod KeptAsks
+pub mod LockMoves
 pub mod ThreadLanes
 pub mod ThreadFits
 pub mod DpcLanes

@@ -1,13 +1,13 @@
 -- The lanes that are read before an event is made, and when they are held.
 use Rattle.std.specs.Prelude.{List, [], is_some, option_and_then, ◌∷◌}
 use Rattle.nt_event.specs.declared.commands.Command.{Command}
-use Rattle.nt_event.specs.declared.commands.Command.TheVariants.{Alert, CancelTimer, Clock, Delay, EnterCrit, EnterGuard, InsertApc, Interrupt, LeaveCrit, LeaveGuard, Lower, Note, Queue, Raise, Release, RemoveApc, SetImportance, SetTarget, SetTimer, StartWait, TestAlert, ToUser, Unqueue, Yield}
+use Rattle.nt_event.specs.declared.commands.Command.TheVariants.{Acquire, Alert, CancelTimer, Clock, Delay, EnterCrit, EnterGuard, InsertApc, Interrupt, LeaveCrit, LeaveGuard, Lower, Note, Queue, Raise, Release, RemoveApc, SetImportance, SetTarget, SetTimer, StartWait, TestAlert, ToUser, Unlock, Unqueue, Yield}
 use Rattle.nt_event.specs.declared.events.What.{What}
 use Rattle.nt_event.specs.declared.events.What.TheVariants as what
 use Rattle.nt_event.specs.declared.jobs.Job.{Job}
 use Rattle.nt_event.specs.declared.jobs.Job.TheVariants as job
 use Rattle.nt_event.specs.declared.jobs.Lane.{Lane}
-use Rattle.nt_event.specs.declared.jobs.Lane.TheVariants.{Object as ObjectLane, Queue as QueueLane, Threads as ThreadsLane, Timers as TimersLane}
+use Rattle.nt_event.specs.declared.jobs.Lane.TheVariants.{Lock as LockLane, Object as ObjectLane, Queue as QueueLane, Threads as ThreadsLane, Timers as TimersLane}
 use Rattle.nt_event.specs.declared.jobs.Stand.{Stand}
 use Rattle.nt_event.specs.declared.numbers.CpuNo.{CpuNo}
 use Rattle.nt_event.specs.declared.scripts.Script.{Script}
@@ -49,6 +49,8 @@ reply_lanes s p (Interrupt q level) = []
 reply_lanes s p (Clock units) = []
 reply_lanes s p ToUser = []
 reply_lanes s p Yield = []
+reply_lanes s p (Acquire k) = LockLane k ∷ []
+reply_lanes s p (Unlock k) = []
 reply_lanes s p (Note n) = []
 
 -- the lanes that are read to find the event of a job: the first DPC of a queue and the first due key are found before
@@ -57,6 +59,7 @@ reply_lanes s p (Note n) = []
 abbrev pub job_lanes : Script → Stand → Job → List Lane
 job_lanes s st (job.Call c) = reply_lanes s st.cpu c
 job_lanes s st (job.Fire d) = ObjectLane d ∷ []
+job_lanes s st (job.Free k) = []
 job_lanes s st job.Drain = QueueLane st.cpu ∷ lane_if st.sweep TimersLane
 job_lanes s st job.Apcs = ThreadsLane st.cpu ∷ []
 job_lanes s st job.Threaded = QueueLane st.cpu ∷ []
@@ -96,6 +99,8 @@ found_lanes (what.Call f (Interrupt q level) y) = []
 found_lanes (what.Call f (Clock units) y) = []
 found_lanes (what.Call f ToUser y) = []
 found_lanes (what.Call f Yield y) = []
+found_lanes (what.Call f (Acquire k) y) = []
+found_lanes (what.Call f (Unlock k) y) = []
 found_lanes (what.Call f (Note k) y) = []
 found_lanes (what.Look rises) = []
 found_lanes (what.Begin b from) = []
@@ -108,4 +113,5 @@ found_lanes (what.Switch t status) = []
 found_lanes (what.Rewait f y) = []
 found_lanes (what.Flush a from) = []
 found_lanes (what.Gone t) = []
+found_lanes (what.Free f k) = []
 found_lanes what.Rest = []

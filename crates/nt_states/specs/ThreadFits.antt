@@ -4,7 +4,7 @@ use Rattle.nt_event.specs.declared.commands.ApcKind.TheVariants.{Normal as Norma
 use Rattle.nt_event.specs.declared.commands.Command.TheVariants as cmd
 use Rattle.nt_event.specs.declared.commands.Mode.{Mode}
 use Rattle.nt_event.specs.declared.commands.Reply.{Reply}
-use Rattle.nt_event.specs.declared.commands.Reply.TheVariants.{Blocked, Done, No, Refused, Status, Yes}
+use Rattle.nt_event.specs.declared.commands.Reply.TheVariants.{Blocked, Done, No, Refused, Spin, Status, Yes}
 use Rattle.nt_event.specs.declared.commands.TimerKey.TheVariants as keys
 use Rattle.nt_event.specs.declared.events.Begun.TheVariants as begun
 use Rattle.nt_event.specs.declared.events.Event.{Event}
@@ -95,6 +95,8 @@ CanMake st (what.Call f (cmd.Alert u m) y) facts = Unit {0}
 CanMake st (what.Call f (cmd.Interrupt q level) y) facts = Unit {0}
 CanMake st (what.Call f (cmd.Clock units) y) facts = Unit {0}
 CanMake st (what.Call f cmd.ToUser y) facts = Unit {0}
+CanMake st (what.Call f (cmd.Acquire k) y) facts = Unit {0}
+CanMake st (what.Call f (cmd.Unlock k) y) facts = Unit {0}
 CanMake st (what.Call f (cmd.Note k) y) facts = Unit {0}
 CanMake st (what.Look rises) facts = Unit {0}
 CanMake st (what.Begin (begun.Int level) from) facts = Unit {0}
@@ -105,6 +107,7 @@ CanMake st (what.End f) facts = Unit {0}
 CanMake st (what.Expire key from) facts = Unit {0}
 CanMake st (what.Fire d y) facts = Unit {0}
 CanMake st (what.Clean class) facts = Unit {0}
+CanMake st (what.Free f k) facts = Unit {0}
 CanMake st what.Rest facts = Unit {0}
 
 -- ---- of a thread that the event names, whoever makes it
@@ -135,6 +138,8 @@ named_thread s (what.Call f (cmd.Interrupt q level) y) = None
 named_thread s (what.Call f (cmd.Clock units) y) = None
 named_thread s (what.Call f cmd.ToUser y) = None
 named_thread s (what.Call f cmd.Yield y) = None
+named_thread s (what.Call f (cmd.Acquire k) y) = None
+named_thread s (what.Call f (cmd.Unlock k) y) = None
 named_thread s (what.Call f (cmd.Note k) y) = None
 named_thread s (what.Look rises) = None
 named_thread s (what.Begin b from) = None
@@ -147,6 +152,7 @@ named_thread s (what.Switch t status) = None
 named_thread s (what.Rewait f y) = None
 named_thread s (what.Flush a from) = None
 named_thread s (what.Gone t) = None
+named_thread s (what.Free f k) = None
 named_thread s what.Rest = None
 
 -- the object is one of the script's, and the reply is this answer
@@ -179,6 +185,8 @@ CanTell s (what.Call f (cmd.Interrupt q level) y) facts = Unit {0}
 CanTell s (what.Call f (cmd.Clock units) y) facts = Unit {0}
 CanTell s (what.Call f cmd.ToUser y) facts = Unit {0}
 CanTell s (what.Call f cmd.Yield y) facts = Unit {0}
+CanTell s (what.Call f (cmd.Acquire k) y) facts = Unit {0}
+CanTell s (what.Call f (cmd.Unlock k) y) facts = Unit {0}
 CanTell s (what.Call f (cmd.Note k) y) facts = Unit {0}
 CanTell s (what.Look rises) facts = Unit {0}
 CanTell s (what.Begin b from) facts = Unit {0}
@@ -191,6 +199,7 @@ CanTell s (what.Switch t status) facts = Unit {0}
 CanTell s (what.Rewait f y) facts = Unit {0}
 CanTell s (what.Flush a from) facts = Unit {0}
 CanTell s (what.Gone t) facts = Unit {0}
+CanTell s (what.Free f k) facts = Unit {0}
 CanTell s what.Rest facts = Unit {0}
 
 -- what the event of this number leaves of the facts of the thread that it names
@@ -221,6 +230,8 @@ told_facts s n (what.Call f (cmd.Interrupt q level) y) facts = facts
 told_facts s n (what.Call f (cmd.Clock units) y) facts = facts
 told_facts s n (what.Call f cmd.ToUser y) facts = facts
 told_facts s n (what.Call f cmd.Yield y) facts = facts
+told_facts s n (what.Call f (cmd.Acquire k) y) facts = facts
+told_facts s n (what.Call f (cmd.Unlock k) y) facts = facts
 told_facts s n (what.Call f (cmd.Note k) y) facts = facts
 told_facts s n (what.Look rises) facts = facts
 told_facts s n (what.Begin b from) facts = facts
@@ -233,6 +244,7 @@ told_facts s n (what.Switch t status) facts = facts
 told_facts s n (what.Rewait f y) facts = facts
 told_facts s n (what.Flush a from) facts = facts
 told_facts s n (what.Gone t) facts = facts
+told_facts s n (what.Free f k) facts = facts
 told_facts s n what.Rest facts = facts
 
 -- ---- a reply tells whether a delay's due time was reached
@@ -244,6 +256,7 @@ is_over Done = false
 is_over Yes = false
 is_over No = false
 is_over Blocked = false
+is_over Spin = false
 is_over (Refused r) = false
 
 -- of a delay
@@ -319,6 +332,8 @@ WhatFits x st (what.Call f cmd.LeaveGuard y) = Unit {0}
 WhatFits x st (what.Call f (cmd.Interrupt q level) y) = Unit {0}
 WhatFits x st (what.Call f (cmd.Clock units) y) = Unit {0}
 WhatFits x st (what.Call f cmd.ToUser y) = Unit {0}
+WhatFits x st (what.Call f (cmd.Acquire k) y) = Unit {0}
+WhatFits x st (what.Call f (cmd.Unlock k) y) = Unit {0}
 WhatFits x st (what.Call f (cmd.Note k) y) = Unit {0}
 WhatFits x st (what.Look rises) = Unit {0}
 WhatFits x st (what.Begin (begun.Int level) from) = Unit {0}
@@ -328,6 +343,7 @@ WhatFits x st (what.Normal f) = Unit {0}
 WhatFits x st (what.Expire (keys.Timer k) from) = Unit {0}
 WhatFits x st (what.Fire d y) = Unit {0}
 WhatFits x st (what.Clean class) = Unit {0}
+WhatFits x st (what.Free f k) = Unit {0}
 WhatFits x st what.Rest = Unit {0}
 
 -- the running thread is one of the script's and of the processor, and its facts say that it runs

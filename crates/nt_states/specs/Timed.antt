@@ -50,6 +50,8 @@ call_timed n r (cmd.Interrupt q level) y x = x
 call_timed n r (cmd.Clock units) y x = x
 call_timed n r cmd.ToUser y x = x
 call_timed n r cmd.Yield y x = x
+call_timed n r (cmd.Acquire k) y x = x
+call_timed n r (cmd.Unlock k) y x = x
 call_timed n r (cmd.Note k) y x = x
 
 -- what the event of this number leaves
@@ -67,6 +69,7 @@ timed n st r (what.Switch t status) x = x
 timed n st r (what.Rewait f y) x = x
 timed n st r (what.Flush a from) x = x
 timed n st r (what.Gone t) x = x
+timed n st r (what.Free f k) x = x
 timed n st r what.Rest x = x
 
 -- ---- when it may be made
@@ -101,6 +104,8 @@ CallMayTime s x e (cmd.Interrupt q level) y = Unit {0}
 CallMayTime s x e (cmd.Clock units) y = Unit {0}
 CallMayTime s x e cmd.ToUser y = Unit {0}
 CallMayTime s x e cmd.Yield y = Unit {0}
+CallMayTime s x e (cmd.Acquire k) y = Unit {0}
+CallMayTime s x e (cmd.Unlock k) y = Unit {0}
 CallMayTime s x e (cmd.Note k) y = Unit {0}
 
 abbrev pub MayTime : Script → Timers → Event → What → Type 0
@@ -117,4 +122,5 @@ MayTime s x e (what.Switch t status) = Unit {0}
 MayTime s x e (what.Rewait f y) = Unit {0}
 MayTime s x e (what.Flush a from) = Unit {0}
 MayTime s x e (what.Gone t) = Unit {0}
+MayTime s x e (what.Free f k) = Unit {0}
 MayTime s x e what.Rest = Unit {0}

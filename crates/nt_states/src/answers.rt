@@ -1,22 +1,22 @@
 //! The questions.
 use crate::thread_answers::ThreadAnswers;
-use nt_event::{CpuNo, DpcNo, Part, Script, TimerKey, TimerNo};
+use nt_event::{CpuNo, DpcNo, LockNo, Part, Script, TimerKey, TimerNo};
 
 /// What the states of lanes answer, each of a lane that is held.
 ///
 /// The whole states of a script hold each lane. A value over a few locked lanes holds those; the states that it tells of other lanes may
 /// be any.
 pub trait LaneAnswers {
-    ghost use Rattle.std.specs.Prelude.{◌≡◌, ◌<◌, ◌^◌, IfSome, IsTrue, false, option_map};
+    ghost use Rattle.std.specs.Prelude.{◌≡◌, ◌<◌, ◌^◌, IfSome, IsTrue, false, is_none, length, option_map};
     ghost use Rattle.nt_event.specs.declared.jobs.Lane.{Lane};
-    ghost use Rattle.nt_event.specs.declared.jobs.Lane.TheVariants.{Object as ObjectLane, Queue as QueueLane, Threads as ThreadsLane, Timers as TimersLane};
+    ghost use Rattle.nt_event.specs.declared.jobs.Lane.TheVariants.{Lock as LockLane, Object as ObjectLane, Queue as QueueLane, Threads as ThreadsLane, Timers as TimersLane};
     ghost use Rattle.nt_event.specs.declared.numbers.CpuNo.{CpuNo};
     ghost use Rattle.nt_event.specs.declared.scripts.Script.{Script};
-    ghost use Rattle.nt_event.specs.Lanes.{Lanes, object_at, queue_at};
+    ghost use Rattle.nt_event.specs.Lanes.{Lanes, lock_at, object_at, queue_at};
     ghost use Rattle.nt_event.specs.Objects as objects;
     ghost use Rattle.nt_event.specs.Queues.{first_dpc};
     ghost use Rattle.nt_event.specs.Requests.{queue_asks};
-    ghost use Rattle.nt_event.specs.Script.{fits, has_cpu, has_dpc};
+    ghost use Rattle.nt_event.specs.Script.{fits, has_cpu, has_dpc, has_lock};
     ghost use Rattle.nt_event.specs.Timers as timers;
     ghost use Rattle.nt_dpc.specs.Laws.{asks_on};
     ghost use Rattle.nt_event.specs.Fitting.{key_fits};
@@ -108,4 +108,19 @@ pub trait LaneAnswers {
         requires { holds self.now TimersLane }
         ensures value { result ≡ option_map (λ x. (x.key, x.setting.number)) (timers.first_due (lanes self.now).timers) }
         ensures named { IfSome result (λ k. IsTrue (key_fits (script_of self.now) k.0)) };
+
+    // ---- spin locks
+
+    /// Whether no processor holds the lock.
+    fn is_free(&self, k: LockNo) -> bool
+        requires lock { IsTrue (has_lock (script_of self.now) k) }
+        requires held { holds self.now (LockLane k) }
+        ensures { result ≡ is_none (lock_at (lanes self.now) k).holder };
+
+    /// For each processor whether it spins on the lock.
+    fn spinners(&self, k: LockNo) -> &[bool]
+        requires lock { IsTrue (has_lock (script_of self.now) k) }
+        requires held { holds self.now (LockLane k) }
+        ensures value { result.now ≡ (lock_at (lanes self.now) k).spinners }
+        ensures count { length result.now ≡ (script_of self.now).cpus };
 }

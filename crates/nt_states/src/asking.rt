@@ -1,13 +1,13 @@
 //! What an event asks for.
-ghost use Rattle.std.specs.Prelude.{◌≡◌, ◌++◌, ◌&&◌, All, IsTrue, [], false, if◌then◌else◌, not};
+ghost use Rattle.std.specs.Prelude.{◌≡◌, ◌≤◌, ◌++◌, ◌&&◌, All, IsTrue, [], false, if◌then◌else◌, length, not, take};
 ghost use Rattle.nt_event.specs.Apcs.{has_kernel as has_kernel_apc};
 ghost use Rattle.nt_event.specs.Lanes.{command_lanes, end_lanes, facts_at, facts_of, insert_lanes, object_at, what_lanes};
 ghost use Rattle.nt_event.specs.Replies.{is_refused as refuses};
-ghost use Rattle.nt_event.specs.declared.jobs.Lane.TheVariants.{Threads as ThreadsLane};
+ghost use Rattle.nt_event.specs.declared.jobs.Lane.TheVariants.{Lock as LockLane, Threads as ThreadsLane};
 ghost use Rattle.nt_event.specs.Objects.{is_queued};
 ghost use Rattle.nt_event.specs.Requests as requests;
 ghost use Rattle.nt_event.specs.Routines as routines;
-ghost use Rattle.nt_event.specs.Script.{command_fits, has_apc, has_cpu, has_dpc, has_thread};
+ghost use Rattle.nt_event.specs.Script.{command_fits, has_apc, has_cpu, has_dpc, has_lock, has_thread};
 ghost use Rattle.nt_event.specs.Threads.{ends_by_alert, ends_by_expiry, is_gone};
 ghost use Rattle.nt_dpc.specs.Laws.{asks_on};
 ghost use Rattle.nt_acts.specs.Acts.{StandFits};
@@ -19,8 +19,8 @@ use crate::answers::LaneAnswers;
 use crate::running::runner;
 use crate::thread_answers::ThreadAnswers;
 use nt_event::{
-    ApcKind, ApcNo, Body, Command, CpuNo, DpcNo, Mode, Regions, Reply, ThreadNo, TimerKey, What,
-    class,
+    ApcKind, ApcNo, Body, Command, CpuNo, DpcNo, LockNo, Mode, Regions, Reply, ThreadNo, TimerKey,
+    What, class,
 };
 use nt_frame::StandView;
 use std::marker::Model;
@@ -32,27 +32,43 @@ pub struct Asked {
     pub class: u8,
 }
 
-/// What an event asks for: at most two classes.
+/// What an event asks for: a class for each of at most 64 processors.
 #[derive(Drop, Debug)]
 pub struct Asks {
-    asks: [Asked; 2],
-    count: usize,
+    kept: KeptAsks,
+}
+
+/// Most events ask for two classes at most, so the room for more is taken only where it is needed.
+#[derive(Drop, Debug)]
+enum KeptAsks {
+    Few { asks: [Asked; 2], count: usize },
+    Many { asks: [Asked; 64], count: usize },
 }
 
 impl Model for Asks {
-    ghost use Rattle.std.specs.Prelude.{◌≤◌, List, take};
+    ghost use Rattle.std.specs.Prelude.{List};
     ghost use Rattle.nt_event.specs.Requests.{Ask};
 
     ghost Value = { List Ask };
 
-    ghost use Rattle.nt_states.specs.LaneLists.{as_asks};
+    ghost use Rattle.nt_states.specs.KeptAsks.{HasRoom, asks_of};
 
-    ghost view = { λ a. as_asks (take a.count a.asks) };
+    ghost view = { λ a. asks_of a.kept };
 
-    ghost invariant = { λ a. a.count ≤ 2 };
+    ghost invariant = { λ a. HasRoom a.kept };
 }
 
 impl Asks {
+    /// The first of these, so many.
+    fn few(asks: [Asked; 2], count: usize) -> Asks
+        requires { count ≤ 2 }
+        ensures { result ≡ as_asks (take count asks) }
+    {
+        Asks {
+            kept: KeptAsks::Few { asks, count },
+        }
+    }
+
     fn none() -> Asks
         ensures { result ≡ [] }
     {
@@ -60,20 +76,14 @@ impl Asks {
             cpu: CpuNo(0),
             class: 0,
         };
-        Asks {
-            asks: [unused, unused],
-            count: 0,
-        }
+        Asks::few([unused, unused], 0)
     }
 
     fn one(cpu: CpuNo, class: u8) -> Asks
         ensures { result ≡ requests.ask cpu class }
     {
         let ask = Asked { cpu, class };
-        Asks {
-            asks: [ask, ask],
-            count: 1,
-        }
+        Asks::few([ask, ask], 1)
     }
 
     /// The class, where the test holds.
@@ -92,10 +102,7 @@ impl Asks {
         ensures { result ≡ requests.ask_if first cpu a ++ requests.ask_if second cpu b }
     {
         if first && second {
-            Asks {
-                asks: [Asked { cpu, class: a }, Asked { cpu, class: b }],
-                count: 2,
-            }
+            Asks::few([Asked { cpu, class: a }, Asked { cpu, class: b }], 2)
         } else if first {
             Asks::one(cpu, a)
         } else {
@@ -113,11 +120,39 @@ impl Asks {
         }
     }
 
+    /// The class of released locks, for each processor that spins.
+    fn of_spinners(spinners: &[bool]) -> Asks
+        requires { length spinners.now ≤ 64 }
+        ensures { result ≡ requests.spinner_asks 0 spinners.now }
+    {
+        let unused = Asked {
+            cpu: CpuNo(0),
+            class: class::LOCK,
+        };
+        let mut asks = [unused; 64];
+        let mut count = 0;
+        for cpu in 0..spinners.len() {
+            if spinners[cpu] {
+                asks[count] = Asked {
+                    cpu: CpuNo(cpu as u8),
+                    class: class::LOCK,
+                };
+                count += 1;
+            }
+        }
+        Asks {
+            kept: KeptAsks::Many { asks, count },
+        }
+    }
+
     /// The classes in order.
     pub fn as_slice(&self) -> &[Asked]
         ensures { as_asks result.now ≡ self.now }
     {
-        &self.asks[..self.count]
+        match &self.kept {
+            KeptAsks::Few { asks, count } => &asks[..*count],
+            KeptAsks::Many { asks, count } => &asks[..*count],
+        }
     }
 }
 
@@ -141,6 +176,7 @@ pub fn event_asks<S: LaneAnswers>(states: &S, stand: &StandView, what: &What) ->
         What::Switch { thread, .. } => switch_asks(states, stand.cpu(), *thread),
         What::Normal { .. } => Asks::one_if(stand.gives_up(), stand.cpu(), class::APC),
         What::End { .. } => end_asks(states, stand),
+        What::Free { lock, .. } => spinner_asks(states, *lock),
         What::Fire { .. }
         | What::Expire { .. }
         | What::Look { .. }
@@ -180,6 +216,7 @@ fn call_asks<S: LaneAnswers>(
         (Command::Alert(t, mode), Reply::No) => alert_asks(states, *t, *mode),
         (Command::Interrupt(cpu, level), Reply::Done) => Asks::one(*cpu, level.number()),
         (Command::Clock(_), Reply::Done) => Asks::one(stand.cpu(), class::CLOCK),
+        (Command::Unlock(k), Reply::Done) => spinner_asks(states, *k),
         (Command::Raise(_), _)
         | (Command::Lower(_), _)
         | (Command::Queue(_), _)
@@ -203,6 +240,8 @@ fn call_asks<S: LaneAnswers>(
         | (Command::Clock(_), _)
         | (Command::ToUser, _)
         | (Command::Yield, _)
+        | (Command::Acquire(_), _)
+        | (Command::Unlock(_), _)
         | (Command::Note(_), _) => Asks::none(),
     }
 }
@@ -244,6 +283,17 @@ fn release_asks<S: LaneAnswers>(states: &S, t: ThreadNo) -> Asks
     ensures named { All (AskFits (S.script_of states.now)) result }
 {
     Asks::one(states.script().cpu_of(t), class::DISPATCH)
+}
+
+/// What the release of a lock asks for: each processor that spins on it is to try again.
+fn spinner_asks<S: LaneAnswers>(states: &S, k: LockNo) -> Asks
+    requires lock { IsTrue (has_lock (S.script_of states.now) k) }
+    requires held { S.holds states.now (LockLane k) }
+    ensures asks { result ≡ requests.release_asks k (S.lanes states.now) }
+    ensures named { All (AskFits (S.script_of states.now)) result }
+{
+    let _script = states.script();
+    Asks::of_spinners(states.spinners(k))
 }
 
 /// What an alert whose flag was clear asks for.

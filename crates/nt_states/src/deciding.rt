@@ -90,6 +90,10 @@ pub fn decide_into<S: LaneAnswers>(
     match job {
         Job::Call(command) => call(states, stand, command, into),
         Job::Fire(dpc) => fire(states, *dpc, into),
+        Job::Free(lock) => *into = What::Free {
+            frame: stand.frame(),
+            lock: *lock,
+        },
         Job::Drain => drain(states, stand, into),
         Job::Apcs => apcs(states, stand, into),
         Job::Threaded => threaded(states, stand, into),

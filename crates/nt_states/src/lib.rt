@@ -1,7 +1,8 @@
 //! What the states of lanes answer before an event, and the event that they give.
 //!
 //! [`LaneAnswers`] is the interface of the small questions: is the object queued and where does an insert go, what is first in a part of
-//! a queue, what does a wait answer, which APC is due, is the timer set. The states of all lanes of a script answer them, and so do a few
+//! a queue, what does a wait answer, which APC is due, is the timer set, is
+//! the lock free. The states of all lanes of a script answer them, and so do a few
 //! lanes that are held by their locks; both hand out the states of threads, which answer the questions of [`ThreadAnswers`] themselves.
 //! Over it stand what every floor needs before it makes an event: [`decide`] finds the event of a job, [`decide_into`] writes it where the
 //! caller keeps it, [`event_lanes`] finds the lanes that it touches, [`event`] and [`due`] make it, [`event_asks`] tells what it asks for.
@@ -14,7 +15,7 @@
 //! lanes of the job, decides, takes those that are touched, decides anew under them, and makes the event there.
 //!
 //! What a floor does once the event is made stands here too: [`tell_own`] is what its own requests tell, [`leave_timers`] what it leaves of
-//! the timers. So do the definitions by which each part of the lanes says what an event leaves and when it may be made: of objects and
+//! the timers, and [`SpinLock`] keeps the state of a spin lock. So do the definitions by which each part of the lanes says what an event leaves and when it may be made: of objects and
 //! queues `specs/DpcLanes.antt`, of threads `specs/ThreadLanes.antt` and `specs/ThreadFits.antt`, of timers `specs/Timed.antt`, and of all
 //! together `specs/AllStates.antt` and `specs/Allowed.antt`.
 #![tactic(auto)]
@@ -22,6 +23,7 @@
 mod answers;
 mod asking;
 mod deciding;
+mod locks;
 mod making;
 mod replying;
 mod running;
@@ -33,6 +35,7 @@ mod touching;
 pub use answers::LaneAnswers;
 pub use asking::{Asked, Asks, event_asks};
 pub use deciding::{decide, decide_into};
+pub use locks::{Move, SpinLock, moved_lock};
 pub use making::{complete, due, event};
 pub use telling::tell_own;
 pub use thread_answers::ThreadAnswers;

@@ -18,13 +18,29 @@ use nt_event::{Begun, Command, CpuNo, Event, Level, Reply, ThreadNo, What};
 use nt_frame::StandView;
 
 /// The level after the call of a command.
-fn call_level(command: &Command, reply: &Reply, old: Level) -> Level
-    ensures { (f : ℕ) (st : Stand) (l : Lanes) → st.level ≡ old → result ≡ acting.acted_level st l (What.Call f command.now reply.now) }
+fn call_level(stand: &StandView, command: &Command, reply: &Reply) -> Level
+    ensures { (f : ℕ) (l : Lanes) → result ≡ acting.acted_level stand.now l (What.Call f command.now reply.now) }
 {
+    let old = stand.level();
     match command {
         Command::Yield => match reply {
             Reply::Done | Reply::Blocked => Level::PASSIVE,
-            Reply::Yes | Reply::No | Reply::Status(_) | Reply::Refused(_) => old,
+            Reply::Yes | Reply::No | Reply::Status(_) | Reply::Spin | Reply::Refused(_) => old,
+        },
+        Command::Acquire(_) => match reply {
+            Reply::Done | Reply::Spin => Level::DISPATCH,
+            Reply::Yes | Reply::No | Reply::Status(_) | Reply::Blocked | Reply::Refused(_) => {
+                rewait_level(reply, old)
+            }
+        },
+        Command::Unlock(_) => match reply {
+            Reply::Done => stand.after(),
+            Reply::Yes
+            | Reply::No
+            | Reply::Status(_)
+            | Reply::Blocked
+            | Reply::Spin
+            | Reply::Refused(_) => rewait_level(reply, old),
         },
         Command::Raise(_)
         | Command::Lower(_)
@@ -92,6 +108,7 @@ fn thread(what: &What, running: Option<ThreadNo>) -> Option<ThreadNo>
         | What::Rewait { .. }
         | What::Flush { .. }
         | What::Gone { .. }
+        | What::Free { .. }
         | What::Rest => running,
     }
 }
@@ -130,11 +147,12 @@ fn level<S: LaneAnswers>(states: &S, stand: &StandView, what: &What) -> Level
     ensures { result ≡ acting.acted_level stand.now (S.lanes states.now) what.now }
 {
     match what {
-        What::Call { command, reply, .. } => call_level(command, reply, stand.level()),
+        What::Call { command, reply, .. } => call_level(stand, command, reply),
         What::Begin { begun, .. } => begin_level(begun),
         What::Switch { thread, .. } => thread_level(states, stand.cpu(), *thread),
         What::Rewait { reply, .. } => rewait_level(reply, stand.level()),
-        What::End { .. } => stand.after(),
+        What::End { .. } => stand.ended_level(),
+        What::Free { .. } => stand.after(),
         What::Flush { .. } | What::Gone { .. } => Level::PASSIVE,
         What::Look { .. }
         | What::Normal { .. }
@@ -177,6 +195,7 @@ pub fn due<S: LaneAnswers>(states: &S, what: &What) -> Option<u64>
         | What::Rewait { .. }
         | What::Flush { .. }
         | What::Gone { .. }
+        | What::Free { .. }
         | What::Rest => None,
     }
 }

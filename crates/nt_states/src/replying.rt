@@ -1,13 +1,13 @@
 //! What a command replies.
-ghost use Rattle.std.specs.Prelude.{◌≡◌, ◌&&◌, ◌+◌, IsSome, IsTrue, not};
+ghost use Rattle.std.specs.Prelude.{◌≡◌, ◌&&◌, ◌+◌, IsSome, IsTrue, if◌then◌else◌, is_none, not};
 ghost use Rattle.nt_event.specs.Acting.{IsCallable};
 ghost use Rattle.nt_event.specs.Commands.{is_reached, reply as reply_to};
-ghost use Rattle.nt_event.specs.Lanes.{facts_at, facts_of};
+ghost use Rattle.nt_event.specs.Lanes.{facts_at, facts_of, lock_at};
 ghost use Rattle.nt_event.specs.Routines.{cpu_of};
-ghost use Rattle.nt_event.specs.Script.{command_fits, has_thread};
+ghost use Rattle.nt_event.specs.Script.{command_fits, has_lock, has_thread};
 ghost use Rattle.nt_event.specs.Threads.{is_alerted, is_gone};
 ghost use Rattle.nt_event.specs.Waits.{wait_reply};
-ghost use Rattle.nt_event.specs.declared.jobs.Lane.TheVariants.{Threads as ThreadsLane, Timers as TimersLane};
+ghost use Rattle.nt_event.specs.declared.jobs.Lane.TheVariants.{Lock as LockLane, Threads as ThreadsLane, Timers as TimersLane};
 ghost use Rattle.nt_acts.specs.Acts.{StandFits};
 ghost use Rattle.nt_states.specs.Given.{RunsOwn};
 ghost use Rattle.nt_states.specs.Reads.{AreHeld, reply_lanes};
@@ -15,7 +15,7 @@ ghost use Rattle.nt_states.specs.Reads.{AreHeld, reply_lanes};
 use crate::answers::LaneAnswers;
 use crate::running::runner;
 use crate::thread_answers::ThreadAnswers;
-use nt_event::{Command, Mode, Reply, ThreadNo};
+use nt_event::{Command, LockNo, Mode, Reply, ThreadNo};
 use nt_frame::StandView;
 
 /// What a command that is not refused replies.
@@ -47,6 +47,7 @@ pub(crate) fn reply<S: LaneAnswers>(states: &S, stand: &StandView, command: &Com
         Command::Release(t) => Reply::yes_if(states.threads().ends_by_release(*t)),
         Command::Alert(t, mode) => Reply::yes_if(was_alerted(states, *t, *mode)),
         Command::TestAlert(mode) => Reply::yes_if(is_alerted(states, stand, *mode)),
+        Command::Acquire(k) => acquire_reply(states, *k),
         Command::Raise(_)
         | Command::Lower(_)
         | Command::SetImportance(_, _)
@@ -59,7 +60,21 @@ pub(crate) fn reply<S: LaneAnswers>(states: &S, stand: &StandView, command: &Com
         | Command::Clock(_)
         | Command::ToUser
         | Command::Yield
+        | Command::Unlock(_)
         | Command::Note(_) => Reply::Done,
+    }
+}
+
+/// What an acquire of the lock replies: it gets it where it is free, and else spins.
+fn acquire_reply<S: LaneAnswers>(states: &S, k: LockNo) -> Reply
+    requires lock { IsTrue (has_lock (S.script_of states.now) k) }
+    requires held { S.holds states.now (LockLane k) }
+    ensures { result ≡ (if is_none (lock_at (S.lanes states.now) k).holder then Reply.Done else Reply.Spin) }
+{
+    if states.is_free(k) {
+        Reply::Done
+    } else {
+        Reply::Spin
     }
 }
 

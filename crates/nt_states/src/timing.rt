@@ -36,6 +36,7 @@ pub fn leave_timers(timers: &mut TimerQueue, n: u64, stand: &StandView, event: &
         | What::Rewait { .. }
         | What::Flush { .. }
         | What::Gone { .. }
+        | What::Free { .. }
         | What::Rest => {}
     }
 }
@@ -93,6 +94,8 @@ fn leave_call(timers: &mut TimerQueue, n: u64, event: &Event, command: &Command,
         | (Command::Clock(_), _)
         | (Command::ToUser, _)
         | (Command::Yield, _)
+        | (Command::Acquire(_), _)
+        | (Command::Unlock(_), _)
         | (Command::Note(_), _) => {}
     }
 }

@@ -177,6 +177,7 @@ pub fn event_lanes<S: LaneAnswers>(states: &S, stand: &StandView, what: &What) -
         }
         What::End { .. } => end_lanes(stand.cpu(), &stand.body()),
         What::Flush { .. } | What::Gone { .. } => Touched::one(Lane::Threads(stand.cpu())),
+        What::Free { lock, .. } => Touched::one(Lane::Lock(*lock)),
         What::Look { .. } | What::Normal { .. } => Touched::none(),
     }
 }
@@ -223,6 +224,7 @@ fn command_lanes<S: LaneAnswers>(states: &S, p: CpuNo, command: &Command, reply:
             Touched::one(Lane::Threads(p)),
         Command::Delay(_, _, _) => Touched::two(Lane::Threads(p), Lane::Timers),
         Command::Release(t) | Command::Alert(t, _) => thread_lanes(states, *t),
+        Command::Acquire(k) | Command::Unlock(k) => Touched::one(Lane::Lock(*k)),
         Command::Raise(_)
         | Command::Lower(_)
         | Command::EnterCrit

@@ -12,7 +12,7 @@ use Rattle.nt_event.specs.declared.commands.ApcKind.TheVariants.{Normal as Norma
 use Rattle.nt_event.specs.declared.commands.Mode.{Mode}
 use Rattle.nt_event.specs.declared.commands.Mode.TheVariants.{Kernel as KernelMode, User as UserMode}
 use Rattle.nt_event.specs.declared.commands.Reply.{Reply}
-use Rattle.nt_event.specs.declared.commands.Reply.TheVariants.{Blocked, Done, No, Refused, Status, Yes}
+use Rattle.nt_event.specs.declared.commands.Reply.TheVariants.{Blocked, Done, No, Refused, Spin, Status, Yes}
 use Rattle.nt_event.specs.declared.inserts.Pick.{Pick}
 use Rattle.nt_event.specs.declared.numbers.ApcNo.{ApcNo}
 use Rattle.nt_thread.specs.Laws.{FactsAreLastLeft}
@@ -108,6 +108,7 @@ waited-alerted m w Done x = refl
 waited-alerted m w Yes x = refl
 waited-alerted m w No x = refl
 waited-alerted m w (Refused r) x = refl
+waited-alerted m w Spin x = refl
 
 set-alerted-user_pending : (k : Mode) (b : Bool) (x : ThreadFacts) → (set_alerted k b x).user_pending ≡ x.user_pending
 set-alerted-user_pending KernelMode b x = refl
@@ -140,6 +141,7 @@ waited-user_pending w Done x = refl
 waited-user_pending w Yes x = refl
 waited-user_pending w No x = refl
 waited-user_pending w (Refused r) x = refl
+waited-user_pending w Spin x = refl
 
 set-alerted-released : (k : Mode) (b : Bool) (x : ThreadFacts) → (set_alerted k b x).released ≡ x.released
 set-alerted-released KernelMode b x = refl
@@ -168,6 +170,7 @@ waited-released w Done x = refl
 waited-released w Yes x = refl
 waited-released w No x = refl
 waited-released w (Refused r) x = refl
+waited-released w Spin x = refl
 
 set-alerted-leaving : (k : Mode) (b : Bool) (x : ThreadFacts) → (set_alerted k b x).leaving ≡ x.leaving
 set-alerted-leaving KernelMode b x = refl
@@ -183,6 +186,7 @@ waited-leaving w Done x = refl
 waited-leaving w Yes x = refl
 waited-leaving w No x = refl
 waited-leaving w (Refused r) x = refl
+waited-leaving w Spin x = refl
 
 -- ---- inserts
 

@@ -12,7 +12,7 @@ use Rattle.nt_event.specs.declared.commands.ApcKind.TheVariants.{Normal as Norma
 use Rattle.nt_event.specs.declared.commands.Mode.{Mode}
 use Rattle.nt_event.specs.declared.commands.Mode.TheVariants.{Kernel as KernelMode, User as UserMode}
 use Rattle.nt_event.specs.declared.commands.Reply.{Reply}
-use Rattle.nt_event.specs.declared.commands.Reply.TheVariants.{Blocked, Done, No, Refused, Status, Yes}
+use Rattle.nt_event.specs.declared.commands.Reply.TheVariants.{Blocked, Done, No, Refused, Spin, Status, Yes}
 use Rattle.nt_event.specs.declared.inserts.Pick.{Pick}
 use Rattle.nt_event.specs.declared.numbers.ApcNo.{ApcNo}
 use Rattle.nt_event.specs.declared.threads.Doing.{Doing}
@@ -123,6 +123,7 @@ quiet-waited x w Done h b = h
 quiet-waited x w Yes h b = h
 quiet-waited x w No h b = h
 quiet-waited x w (Refused r) h b = h
+quiet-waited x w Spin h b = h
 
 -- ---- whole runs
 

@@ -36,6 +36,8 @@ changed_apc (what.Call f (cmd.Interrupt q level) y) = None
 changed_apc (what.Call f (cmd.Clock units) y) = None
 changed_apc (what.Call f cmd.ToUser y) = None
 changed_apc (what.Call f cmd.Yield y) = None
+changed_apc (what.Call f (cmd.Acquire k) y) = None
+changed_apc (what.Call f (cmd.Unlock k) y) = None
 changed_apc (what.Call f (cmd.Note k) y) = None
 changed_apc (what.Look rises) = None
 changed_apc (what.Begin (begun.Int level) from) = None
@@ -49,6 +51,7 @@ changed_apc (what.Clean class) = None
 changed_apc (what.Switch t status) = None
 changed_apc (what.Rewait f y) = None
 changed_apc (what.Gone t) = None
+changed_apc (what.Free f k) = None
 changed_apc what.Rest = None
 
 abbrev pub with_mark : Option (ApcNo × Bool) → List Bool → List Bool

@@ -32,6 +32,7 @@ pub fn make(state: &mut ThreadState, script: &Script, n: u64, stand: &StandView,
         | What::Expire { .. }
         | What::Fire { .. }
         | What::Clean { .. }
+        | What::Free { .. }
         | What::Rest => {}
     }
 }
@@ -82,6 +83,8 @@ fn call(state: &mut ThreadState, n: u64, stand: &StandView, command: &Command, r
         | Command::Interrupt(_, _)
         | Command::Clock(_)
         | Command::ToUser
+        | Command::Acquire(_)
+        | Command::Unlock(_)
         | Command::Note(_) => {}
     }
 }
@@ -92,7 +95,8 @@ fn is_over(reply: &Reply) -> bool
 {
     match reply {
         Reply::Status(status) => *status == nt_event::status::SUCCESS,
-        Reply::Done | Reply::Yes | Reply::No | Reply::Blocked | Reply::Refused(_) => false,
+        Reply::Done | Reply::Yes | Reply::No | Reply::Blocked | Reply::Spin | Reply::Refused(_) =>
+            false,
     }
 }
 

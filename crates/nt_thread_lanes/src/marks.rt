@@ -35,6 +35,8 @@ fn changed_apc(what: &What) -> Option<(ApcNo, bool)>
             | (Command::Clock(_), _)
             | (Command::ToUser, _)
             | (Command::Yield, _)
+            | (Command::Acquire(_), _)
+            | (Command::Unlock(_), _)
             | (Command::Note(_), _) => None,
         },
         What::Begin {
@@ -55,6 +57,7 @@ fn changed_apc(what: &What) -> Option<(ApcNo, bool)>
         | What::Switch { .. }
         | What::Rewait { .. }
         | What::Gone { .. }
+        | What::Free { .. }
         | What::Rest => None,
     }
 }

@@ -33,6 +33,8 @@ pub fn named_thread(script: &Script, what: &What) -> Option<ThreadNo>
             | Command::Clock(_)
             | Command::ToUser
             | Command::Yield
+            | Command::Acquire(_)
+            | Command::Unlock(_)
             | Command::Note(_) => None,
         },
         What::Expire {
@@ -53,6 +55,7 @@ pub fn named_thread(script: &Script, what: &What) -> Option<ThreadNo>
         | What::Rewait { .. }
         | What::Flush { .. }
         | What::Gone { .. }
+        | What::Free { .. }
         | What::Rest => None,
     }
 }
@@ -85,6 +88,7 @@ pub fn tell(state: &mut ThreadState, script: &Script, n: u64, what: &What)
         | What::Rewait { .. }
         | What::Flush { .. }
         | What::Gone { .. }
+        | What::Free { .. }
         | What::Rest => {}
     }
 }
@@ -130,6 +134,8 @@ fn tell_call(state: &mut ThreadState, script: &Script, n: u64, command: &Command
         | Command::Clock(_)
         | Command::ToUser
         | Command::Yield
+        | Command::Acquire(_)
+        | Command::Unlock(_)
         | Command::Note(_) => {}
     }
 }

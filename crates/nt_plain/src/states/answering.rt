@@ -1,6 +1,6 @@
 //! What the states of all lanes answer: each of them is held.
 use super::States;
-use nt_event::{CpuNo, DpcNo, Part, Script, TimerKey, TimerNo};
+use nt_event::{CpuNo, DpcNo, LockNo, Part, Script, TimerKey, TimerNo};
 use nt_states::LaneAnswers;
 use nt_thread_lanes::Threads;
 
@@ -53,5 +53,13 @@ impl<'s> LaneAnswers for States<'s> {
     fn first_due(&self) -> Option<(TimerKey, u64)> {
         self.sound();
         self.timers().first_due()
+    }
+
+    fn is_free(&self, k: LockNo) -> bool {
+        self.lock(k).is_free()
+    }
+
+    fn spinners(&self, k: LockNo) -> &[bool] {
+        self.lock(k).spinners()
     }
 }

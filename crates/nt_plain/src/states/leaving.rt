@@ -21,5 +21,6 @@ impl<'s> States<'s> {
         self.dpcs.leave(n, stand.cpu(), &event.what);
         self.threads.leave(n, stand, event);
         leave_timers(&mut self.timers, n, stand, event);
+        self.locks.leave(stand.cpu(), &event.what);
     }
 }

@@ -3,7 +3,7 @@ use Rattle.std.specs.Prelude.{refl}
 use Rattle.nt_event.specs.declared.events.What.TheVariants as what
 use Rattle.nt_event.specs.declared.frames.Body.{Body}
 use Rattle.nt_frame.specs.Changes.{begun}
-use Rattle.nt_cpu.proofs.Applied.{left_begin, left_call, left_end, left_flush, left_gone, left_normal, left_other, left_rewait, left_switch}
+use Rattle.nt_cpu.proofs.Applied.{left_begin, left_call, left_end, left_flush, left_free, left_gone, left_normal, left_other, left_rewait, left_switch}
 use Rattle.nt_cpu.proofs.framing.apply.Goals as goal
 
 pub returns-in-Call : goal.returns-in-Call
@@ -59,6 +59,13 @@ returns-in-Gone c =
     let k = c.in-Gone in
     left_gone c.args.script.now c.args.n c.args.due c.args.event.now c.args.frames.now c.gone.new.self k.thread
     (record { nested = c.requires.nested; threads = c.requires.threads; thread = c.requires.thread }) k.is c.gone.ensures
+
+pub returns-in-Free : goal.returns-in-Free
+returns-in-Free c =
+    let k = c.in-Free in
+    let a = rw k.is at c.requires.allow in
+    left_free c.args.script.now c.args.n c.args.due c.args.event.now c.args.frames.now c.free.new.self k.frame k.lock
+    (record { nested = c.requires.nested; threads = c.requires.threads; thread = c.requires.thread }) k.is a c.free.ensures.freed
 
 pub returns-in-Look : goal.returns-in-Look
 returns-in-Look c =

@@ -7,7 +7,7 @@ use Rattle.nt_states.proofs.making.level.Goals as goal
 pub returns-in-Call : goal.returns-in-Call
 returns-in-Call g c =
     let l = g.S.LaneAnswers.lanes c.args.states.now in
-    c.call_level.ensures c.in-Call.frame c.args.stand.now l (sym c.level.ensures) ∙ ap (λ (w : What). acted_level c.args.stand.now l w) (sym c.in-Call.is)
+    c.call_level.ensures c.in-Call.frame l ∙ ap (λ (w : What). acted_level c.args.stand.now l w) (sym c.in-Call.is)
 
 pub returns-in-Begin : goal.returns-in-Begin
 returns-in-Begin g c =

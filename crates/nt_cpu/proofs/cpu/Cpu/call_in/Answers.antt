@@ -15,8 +15,9 @@ returns-clause-task c =
     let k = c.args.command.now in
     let regions = regions_of (thread_part c.self.inside.frames) in
     let refused = c.refusal-refused.ensures
+    ∙ (ap (λ (n : ℕ). refusal n c.has_own.result c.regions_for-regions.result f k) c.level.ensures
     ∙ (c.regions_for-regions.ensures f.level c.has_own.result f
     ∙ (ap (λ (b : Bool). refusal f.level b regions f k) c.has_own.ensures
     ∙ (ap (λ (y : CpuState). refusal f.level (not (is_null y.own.frames.own)) (regions_of (thread_part y.own.frames)) f k) c.self.view_is
-    ∙ ap (λ (n : ℕ). refusal n (not (is_null c.args.self.now.own.frames.own)) (regions_of (thread_part c.args.self.now.own.frames)) f k) c.requires))) in
+    ∙ ap (λ (n : ℕ). refusal n (not (is_null c.args.self.now.own.frames.own)) (regions_of (thread_part c.args.self.now.own.frames)) f k) c.requires)))) in
     c.call_task.ensures.task ∙ ap (λ (r : Option Refusal). call_task f k r) refused

@@ -8,6 +8,5 @@ pub returns-in-Some-clause-task : goal.returns-in-Some-clause-task
 returns-in-Some-clause-task c =
     let s : CpuState = c.args.self.now in
     let f = c.args.frame.now in
-    let next : next_command s.script s.cpu f ≡ Some c.in-Some.command = ap (λ (x : CpuState). next_command x.script x.cpu f) (sym c.self.view_is)
-    ∙ (sym c.next_command.ensures ∙ c.in-Some.is) in
+    let next : next_command s.script s.cpu f ≡ Some c.in-Some.command = sym c.next_command.ensures ∙ c.in-Some.is in
     rw next (ap Some c.call_in.ensures.task)

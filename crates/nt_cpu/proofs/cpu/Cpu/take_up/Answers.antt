@@ -11,13 +11,13 @@ use Rattle.nt_cpu.specs.Leaves.{own_with}
 use Rattle.nt_cpu.specs.Sound.{IsSound}
 use Rattle.nt_cpu.specs.States.{CpuState}
 use Rattle.nt_cpu.proofs.Dues.{due_same}
-use Rattle.nt_cpu.proofs.Taken.{innermost_small, left_is, sound_after}
+use Rattle.nt_cpu.proofs.Taken.{innermost_small, left_is, locks_most, sound_after}
 use Rattle.nt_cpu.proofs.cpu.Cpu.take_up.Goals as goal
 
 pub apply-requires-clause-place : goal.apply-requires-clause-place
 apply-requires-clause-place c =
     let i = c.self.invariant.sound in
-    λ f k. let s = innermost_small c.self.inside.made c.self.inside.frames f i.small k in
+    λ f k. let s = innermost_small c.self.inside.script.now.locks c.self.inside.made c.self.inside.frames f i.small k in
     let p = s.place in
     let l = i.limit in
     let m = i.made in
@@ -55,3 +55,6 @@ greatest_due-self-inside-requires c h =
     c.self.invariant.due
     ∙ due_same c.self.inside.seen c.self.inside.kept.served c.self.inside.seen c.take_up-serves.new.self.served (λ k a b. refl)
     (c.take_up-serves.ensures.interrupts (not_true c.take_up-serves.result h))
+
+pub apply-requires-clause-locks : goal.apply-requires-clause-locks
+apply-requires-clause-locks c = locks_most c.self.inside.script.now c.self.invariant.sound.script

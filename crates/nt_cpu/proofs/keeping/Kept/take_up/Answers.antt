@@ -4,7 +4,7 @@ use Rattle.nt_event.specs.declared.events.What.{What}
 use Rattle.nt_event.specs.Lists.{table, value_at}
 use Rattle.nt_event.specs.Regions.{sweep_after}
 use Rattle.nt_event.specs.Requests.{served_after, serves}
-use Rattle.nt_cpu.proofs.Served.{serves_below, serves_none}
+use Rattle.nt_cpu.proofs.Served.{call_serves, call_serves_none, serves_below, serves_none, serves_try}
 use Rattle.nt_cpu.proofs.keeping.Kept.take_up.Goals as goal
 
 pub returns-in-Switch-clause-served : goal.returns-in-Switch-clause-served
@@ -19,9 +19,22 @@ pub returns-in-Fire-clause-served : goal.returns-in-Fire-clause-served
 returns-in-Fire-clause-served c =
     serves_none c.args.what.now c.args.seen.now c.args.self.now.served c.requires (λ k. ap (serves k) c.in-Fire.is)
 
-pub returns-in-Call-clause-served : goal.returns-in-Call-clause-served
-returns-in-Call-clause-served c =
-    serves_none c.args.what.now c.args.seen.now c.args.self.now.served c.requires (λ k. ap (serves k) c.in-Call.is)
+pub returns-then-is_spin-clause-served : goal.returns-then-is_spin-clause-served
+returns-then-is_spin-clause-served c =
+    let k = c.in-Call in
+    c.serve-then-is_spin.ensures
+    ∙ serves_try c.args.what.now c.args.seen.now c.args.self.now.served c.requires
+    (λ i. ap (serves i) k.is ∙ call_serves k.frame k.command k.reply i (sym c.is_spin.ensures ∙ c.if-is_spin.true))
+
+pub returns-else-is_spin-clause-served : goal.returns-else-is_spin-clause-served
+returns-else-is_spin-clause-served c =
+    let k = c.in-Call in
+    serves_none c.args.what.now c.args.seen.now c.args.self.now.served c.requires
+    (λ i. ap (serves i) k.is ∙ call_serves_none k.frame k.command k.reply i (sym c.is_spin.ensures ∙ c.if-is_spin.false))
+
+pub returns-in-Free-clause-served : goal.returns-in-Free-clause-served
+returns-in-Free-clause-served c =
+    serves_none c.args.what.now c.args.seen.now c.args.self.now.served c.requires (λ k. ap (serves k) c.in-Free.is)
 
 pub returns-in-Rest-clause-served : goal.returns-in-Rest-clause-served
 returns-in-Rest-clause-served c =
@@ -57,8 +70,13 @@ returns-in-Begin-clause-served c =
     c.begin.ensures.served k.from
     ∙ ap (λ (w : What). table 16 (λ i. served_after w i (value_at c.args.seen.now i) (value_at c.args.self.now.served i))) (sym k.is)
 
-pub returns-in-Call-clause-sweep : goal.returns-in-Call-clause-sweep
-returns-in-Call-clause-sweep c =
+pub returns-then-is_spin-clause-sweep : goal.returns-then-is_spin-clause-sweep
+returns-then-is_spin-clause-sweep c =
+    let k = c.in-Call in
+    c.sweep_after-self.ensures k.frame ∙ ap (λ (w : What). sweep_after w c.args.self.now.sweep) (sym k.is)
+
+pub returns-else-is_spin-clause-sweep : goal.returns-else-is_spin-clause-sweep
+returns-else-is_spin-clause-sweep c =
     let k = c.in-Call in
     c.sweep_after-self.ensures k.frame ∙ ap (λ (w : What). sweep_after w c.args.self.now.sweep) (sym k.is)
 

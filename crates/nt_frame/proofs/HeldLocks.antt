@@ -1,0 +1,115 @@
+-- The locks that a frame holds, in the two arrays that keep them.
+use Rattle.std.proofs.Common.{◌≡◌, ℕ, zero, suc, ◌+◌, ◌-◌, ◌<◌, ◌≤◌, ◌==◌, Bool, true, false, not, ◌||◌, List, [], ◌∷◌, ◌++◌, get_or, length, reverse, set, take}
+use Rattle.std.proofs.Common.{Some, add-one, ap, arith, refl, sym, ◌∙◌, All}
+use Rattle.std.proofs.Math.Seq.{take-suc}
+use Rattle.std.proofs.lemmas.Bool.Decides.{nat_tests}
+use Rattle.std.proofs.lemmas.List.{get_or-set_other, get_or-set_same, length-set, reverse-append}
+use Rattle.std.proofs.lemmas.List.Elements.{All-cons, All-nil, recursion_from_All}
+use Rattle.std.proofs.lemmas.Map.Keys.{IsDistinct-cons}
+use Rattle.std.proofs.lemmas.Map.Steps.{length-le_from_distinct_below}
+use Rattle.std.specs.List.{IsDistinct, list_any}
+use Rattle.std.specs.Prelude.{option_map}
+use Rattle.nt_event.specs.declared.frames.Held.{Held}
+use Rattle.nt_event.specs.declared.numbers.LockNo.{LockNo}
+use Rattle.nt_event.specs.Lists.{head_of, is_null, tail_of}
+use Rattle.nt_event.specs.Numbers.{lock}
+use Rattle.nt_frame.specs.HeldLocks.{AreArrays, AreLocks, held_in}
+
+-- ---- the arrays
+
+pub length-held : (n : ℕ) (ls ks : List ℕ) → length (held_in n ls ks) ≡ n
+length-held zero ls ks = refl
+length-held (suc n) ls ks = ap suc (length-held n ls ks)
+
+-- a write at or after the end changes no lock that is held
+held_same : (n m : ℕ) (ls ks : List ℕ) (a b : ℕ) → n ≤ m → held_in n (set ls m a) (set ks m b) ≡ held_in n ls ks
+held_same zero m ls ks a b h = refl
+held_same (suc n) m ls ks a b h =
+    rw (get_or-set_other ls m n a 0 (λ e. absurd (omega arith)), get_or-set_other ks m n b 0 (λ e. absurd (omega arith)), held_same n m ls ks a b (omega arith)) refl
+
+pub held_more : (n : ℕ) (ls ks : List ℕ) (a b : ℕ) → n < length ls → n < length ks →
+    held_in (n + 1) (set ls n a) (set ks n b) ≡ record { lock = lock a; kept = b } ∷ held_in n ls ks
+held_more n ls ks a b h k =
+    rw (add-one, get_or-set_same ls n a 0 h, get_or-set_same ks n b 0 k, held_same n n ls ks a b (omega arith)) refl
+
+-- where there is one, the last one and the others
+pub held_last : (n : ℕ) (ls ks : List ℕ) → 0 < n →
+    held_in n ls ks ≡ record { lock = lock (get_or ls (n - 1) 0); kept = get_or ks (n - 1) 0 } ∷ held_in (n - 1) ls ks
+held_last zero ls ks h = absurd (omega arith)
+held_last (suc n) ls ks h = let e : suc n - 1 ≡ n = omega arith in rw e refl
+
+pub held_null : (n : ℕ) (ls ks : List ℕ) → is_null (held_in n ls ks) ≡ (n == 0)
+held_null zero ls ks = refl
+held_null (suc n) ls ks = grind (arith, nat_tests)
+
+-- the lock is among them
+pub held_has : (k n : ℕ) (ls ks : List ℕ) → n ≤ length ls → list_any (λ l. l == k) (reverse (take n ls)) ≡ list_any (λ h. h.lock.0 == k) (held_in n ls ks)
+held_has k zero ls ks h = refl
+held_has k (suc n) ls ks h =
+    rw (take-suc ls n 0 (omega arith), reverse-append) (ap (λ (b : Bool). (get_or ls n 0 == k) || b) (held_has k n ls ks (omega arith)))
+
+-- ---- there is room for one more
+
+abbrev numbers : List Held → List ℕ
+numbers [] = []
+numbers (h ∷ hs) = h.lock.0 ∷ numbers hs
+
+length-numbers : (hs : List Held) → length (numbers hs) ≡ length hs
+length-numbers [] = refl
+length-numbers (h ∷ hs) = ap suc (length-numbers hs)
+
+none_is : (k : ℕ) (hs : List Held) → list_any (λ h. h.lock.0 == k) hs ≡ false → All (λ y. (k == y) ≡ false) (numbers hs)
+none_is k [] f = All-nil (λ y. (k == y) ≡ false)
+none_is k (h ∷ hs) f = go (h.lock.0 == k) refl f (none_is k hs)
+  where
+    go : (b : Bool) → (h.lock.0 == k) ≡ b → (b || list_any (λ g. g.lock.0 == k) hs) ≡ false →
+        (list_any (λ g. g.lock.0 == k) hs ≡ false → All (λ y. (k == y) ≡ false) (numbers hs)) → All (λ y. (k == y) ≡ false) (h.lock.0 ∷ numbers hs)
+    go true e q later = absurd (cc)
+    go false e q later = All-cons (λ y. (k == y) ≡ false) h.lock.0 (numbers hs) (grind (arith, nat_tests)) (later q)
+
+distinct : (hs : List Held) → AreLocks hs → IsDistinct (λ a b. a == b) (numbers hs)
+unfolding IsDistinct
+distinct [] a = tt
+distinct (h ∷ hs) a =
+    IsDistinct-cons (λ a b. a == b) h.lock.0 (numbers hs) (recursion_from_All (λ y. (h.lock.0 == y) ≡ false) (numbers hs) (none_is h.lock.0 hs a.1))
+    (distinct hs a.2)
+
+below : (hs : List Held) → AreLocks hs → (q : ℕ) → list_any (λ y. q == y) (numbers hs) ≡ true → q < 64
+below [] a q m = cc
+below (h ∷ hs) a q m = go (q == h.lock.0) refl m (below hs a.2 q)
+  where
+    go : (b : Bool) → (q == h.lock.0) ≡ b → (b || list_any (λ y. q == y) (numbers hs)) ≡ true → (list_any (λ y. q == y) (numbers hs) ≡ true → q < 64) → q < 64
+    go true e n later = let i : q ≡ h.lock.0 = grind (arith, nat_tests) in omega (arith, a.0)
+    go false e n later = later n
+
+pub held_room : (k : LockNo) (hs : List Held) → AreLocks hs → k.0 < 64 → list_any (λ h. h.lock.0 == k.0) hs ≡ false → length hs < 64
+held_room k hs a b f =
+    let all : AreLocks (record { lock = k; kept = 0 } ∷ hs) = (b, f, a) in
+    let n : length (numbers (record { lock = k; kept = 0 } ∷ hs)) ≤ 64 = length-le_from_distinct_below (numbers (record { lock = k; kept = 0 } ∷ hs)) 64
+    (distinct (record { lock = k; kept = 0 } ∷ hs) all) (below (record { lock = k; kept = 0 } ∷ hs) all) in
+    let m : suc (length (numbers hs)) ≤ 64 = n in
+    omega (arith, length-numbers hs)
+
+pub tail_locks : (hs : List Held) → AreLocks hs → AreLocks (tail_of hs)
+tail_locks [] a = tt
+tail_locks (h ∷ hs) a = a.2
+
+pub arrays_more : (n : ℕ) (ls ks : List ℕ) (k : LockNo) (level : ℕ) → AreArrays n ls ks → k.0 < 64 →
+    list_any (λ h. h.lock.0 == k.0) (held_in n ls ks) ≡ false → AreArrays (n + 1) (set ls n k.0) (set ks n level)
+arrays_more n ls ks k level a b f =
+    let room : n < 64 = omega (arith, held_room k (held_in n ls ks) a.held b f, length-held n ls ks) in
+    record {
+      count = omega arith;
+      locks = length-set ls n k.0 ∙ a.locks;
+      levels = length-set ks n level ∙ a.levels;
+      held = rw (held_more n ls ks k.0 level (omega (arith, a.locks)) (omega (arith, a.levels))) (b, f, a.held);
+    }
+
+pub arrays_room : (n : ℕ) (ls ks : List ℕ) (k : LockNo) → AreArrays n ls ks → k.0 < 64 → list_any (λ h. h.lock.0 == k.0) (held_in n ls ks) ≡ false → n < 64
+arrays_room n ls ks k a b f = omega (arith, held_room k (held_in n ls ks) a.held b f, length-held n ls ks)
+
+pub arrays_less : (n : ℕ) (ls ks : List ℕ) → AreArrays n ls ks → 0 < n → AreArrays (n - 1) ls ks
+arrays_less zero ls ks a h = absurd (omega arith)
+arrays_less (suc n) ls ks a h =
+    let e : suc n - 1 ≡ n = omega arith in
+    rw e (record { count = omega (arith, a.count); locks = a.locks; levels = a.levels; held = a.held.2 })
