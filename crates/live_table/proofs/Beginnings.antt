@@ -1,6 +1,7 @@
 -- A processor that made nothing, with a pass that knows nothing.
 use Rattle.std.proofs.Common.{subst, sym}
 use Rattle.std.specs.Prelude.{Some, [], refl, ◌≡◌, ◌≤◌, ℕ}
+use Rattle.atomic_table.specs.Seated.{TableId}
 use Rattle.nt_cpu.specs.States.{CpuState}
 use Rattle.nt_cpu.specs.Turns.{Serves}
 use Rattle.nt_event.specs.declared.scripts.Script.{Script}
@@ -10,6 +11,7 @@ use Rattle.nt_mark.specs.declared.marks.Marks.{Marks}
 use Rattle.nt_mark.specs.declared.seats.Pass.{Pass}
 use Rattle.nt_mark.specs.Names.{cpus_of, limit_of, pass_table, pass_view}
 use Rattle.nt_live.specs.Prepared.{fresh, new_worker}
+use Rattle.nt_live.specs.Turning.{IsSeated}
 use Rattle.nt_live.specs.Workers.{IsWorker}
 use Rattle.nt_live.proofs.Boarding.{new_is_worker}
 use Rattle.nt_live.proofs.Turning.{serves_at_work}
@@ -30,3 +32,11 @@ served_first s limit m n c p q some new cpus few nothing same marks =
     subst (λ (x : Marks). Serves c (words_of x (pass_view q))) (sym marks)
     (subst (λ (x : Pass). Serves c (words_of m (pass_view x))) (sym same)
     (served s limit m c p cpus few (new_is_worker (pass_table p) s limit (cpu 0) c p some new refl nothing)))
+
+-- its pass is what its events, none, made of it
+pub seated_first : (table : TableId) (s : Script) (limit : ℕ) (c : CpuState) (p : Pass) → 1 ≤ s.cpus → c ≡ (new_worker s limit (cpu 0)).cpu →
+    pass_table p ≡ table → pass_view p ≡ fresh 1 → IsSeated table s limit c p
+seated_first table s limit c p some new at nothing =
+    let w = new_is_worker table s limit (cpu 0) c p some new at nothing in
+    let e : p ≡ w.here = let h = w.pass_is in cc in
+    subst (λ (x : Pass). IsSeated table s limit c x) (sym e) (record { at = w.at; listed = w.listed; work = w.work; knows = w.knows })

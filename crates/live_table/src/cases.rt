@@ -11,6 +11,8 @@ pub(crate) enum Task {
     Meet,
     /// Processor 0 waits at a gate for a later event of processor 1.
     Follow,
+    /// Processors 0 and 1 meet at a gate, each with a lock that the other wants.
+    Cross,
     /// The processors run on threads.
     Live,
     /// The processors of the load of this seed run on threads.
@@ -21,6 +23,8 @@ pub(crate) enum Task {
     First,
     /// Processor 0 makes a turn while this lane is held, for so many looks at most.
     Turn(u32, u32),
+    /// Processor 0 makes its second event while this lane is held, for so many looks at most.
+    Next(u32, u32),
     /// The second lane is held while the first is.
     Hold(u32, u32),
 }
@@ -50,6 +54,7 @@ fn task_of(word: &str) -> Option<Task> {
     match word {
         "meet" => Some(Task::Meet),
         "follow" => Some(Task::Follow),
+        "cross" => Some(Task::Cross),
         "live" => Some(Task::Live),
         "pieces" => Some(Task::Pieces),
         "first" => Some(Task::First),
@@ -71,6 +76,7 @@ fn task_of_two(word: &str, first: &str, second: &str) -> Option<Task> {
     let second = second.parse::<u32>().ok()?;
     match word {
         "turn" => Some(Task::Turn(first, second)),
+        "next" => Some(Task::Next(first, second)),
         "hold" => Some(Task::Hold(first, second)),
         _ => None,
     }

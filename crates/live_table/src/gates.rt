@@ -24,6 +24,28 @@ impl Gate for Meeting<'_> {
     }
 }
 
+/// Processors 0 and 1 meet before their third events: each sets a flag there, and looks for the other's.
+#[derive(Drop)]
+pub(crate) struct Crossing<'a> {
+    pub(crate) flags: &'a Flags,
+}
+
+impl Gate for Crossing<'_> {
+    fn pass(&self, cpu: u8, own: u64) {
+        match (cpu, own) {
+            (0, 2) => {
+                self.flags.first.set();
+                self.flags.second.look_for(LOOKS);
+            }
+            (1, 2) => {
+                self.flags.second.set();
+                self.flags.first.look_for(LOOKS);
+            }
+            _ => {}
+        }
+    }
+}
+
 /// Processor 0 looks for the first flag before its second event, and processor 1 sets it when it made its fifth; the second flag is set
 /// there too.
 #[derive(Drop)]

@@ -7,7 +7,7 @@ ghost use Rattle.nt_live.specs.Prepared.{fresh};
 ghost use Rattle.nt_mark.specs.Closing.{AreNewKeepers};
 ghost use Rattle.nt_mark.specs.Names.{cpus_of, lanes_of, limit_of, pass_table, pass_view, table_of};
 
-use crate::beginning::Beginning;
+use crate::beginning::{Beginning, Which};
 use crate::flags::{Flags, LOOKS};
 use crate::gates::{Freeing, Holding};
 use nt_cpu::Cpu;
@@ -42,29 +42,31 @@ impl<N: Plan + Shared> Place<'_, '_, N> {
     }
 }
 
-/// A thread holds a lane, and another makes the turn of processor 0; whether that turn was made.
+/// A thread holds a lane, and another makes this event of processor 0; whether it was made.
 fn turn_meanwhile<N: Plan + Shared + Send + Sync, R: Threads + Wait + Sync>(
     rt: &R,
     place: Place<'_, '_, N>,
     beginning: Beginning<'_, '_, N>,
+    which: Which,
     gate: Holding<'_>,
 ) -> bool {
     let flags = gate.flags;
     let (_, made) = thread::join(
         rt,
         move || place.hold(rt, &gate),
-        move || beginning.turn_later(rt, flags),
+        move || beginning.make_later(rt, flags, which),
     );
     made
 }
 
-/// The turn of processor 0 is made while a lane of N's script is held; whether it was made.
+/// This event of processor 0 is made while a lane of N's script is held; whether it was made.
 fn turn_beside<N: Plan + Shared + Send + Sync, R: Threads + Wait + Sync>(
     rt: &R,
     alloc: Global,
     script: &Script,
     turns: u32,
     made: Made,
+    which: Which,
     lane: u32,
     gate: Holding<'_>,
 ) -> Result<bool, AllocError>
@@ -88,16 +90,16 @@ fn turn_beside<N: Plan + Shared + Send + Sync, R: Threads + Wait + Sync>(
         lanes: &lanes,
         lane,
     };
-    Ok(turn_meanwhile(rt, place, beginning, gate))
+    Ok(turn_meanwhile(rt, place, beginning, which, gate))
 }
 
-/// What is seen where processor 0 takes up the first thread while a lane is held, by a gate that looks so many times for the end of that
-/// turn.
+/// What is seen where processor 0 makes this event while a lane is held, by a gate that looks so many times for the end of that turn.
 pub(crate) fn turned_beside<R: Threads + Wait + Sync>(
     rt: &R,
     alloc: Global,
     script: &Script,
     limit: u32,
+    which: Which,
     lane: u32,
     looks: u32,
 ) -> Result<&'static str, AllocError>
@@ -114,7 +116,7 @@ pub(crate) fn turned_beside<R: Threads + Wait + Sync>(
         flags: &flags,
         looks,
     };
-    let turned = turn_beside::<Brand, R>(rt, alloc, script, limit, made, lane, gate)?;
+    let turned = turn_beside::<Brand, R>(rt, alloc, script, limit, made, which, lane, gate)?;
     Ok(turn_seen(turned, &flags))
 }
 

@@ -1,14 +1,18 @@
 //! What is seen of a case.
-ghost use Rattle.std.specs.Prelude.{◌≤◌};
-ghost use Rattle.nt_event.specs.declared.limits.TheConstants.{TURNS};
-ghost use Rattle.nt_script.specs.Sound.{IsSound};
+ghost use Rattle.std.specs.Prelude.{◌*◌, ◌≤◌, IsTrue};
+ghost use Rattle.nt_event.specs.declared.limits.TheConstants.{EVENTS};
+ghost use Rattle.nt_event.specs.Script.{fits};
 
+use crate::beginning::Which;
 use crate::cases::{Case, Task};
 use crate::lanes::{held_beside, turned_beside};
+use crate::lock_scripts::script_of;
 use crate::pieces::{all_worked, first_worked};
-use crate::runs::{followed, lived, met};
+use crate::runs::{crossed, followed, lived, met};
+use nt_event::Script;
+use nt_event::limits::EVENTS;
 use nt_load::load_script;
-use nt_script::{Input, ScriptRefusal, read};
+use nt_script::{ScriptRefusal, read};
 use nt_text::INPUT_LIMIT;
 use std::alloc::{AllocError, Global};
 use std::sync::Wait;
@@ -19,19 +23,25 @@ fn seen<R: Threads + Wait + Sync>(
     rt: &R,
     alloc: Global,
     case: &Case,
-    input: &Input,
+    script: &Script,
 ) -> Result<&'static str, AllocError>
-    requires sound { IsSound input.now }
+    requires script { IsTrue (fits script.now) }
+    requires all { script.now.cpus * case.now.limit ≤ EVENTS }
 {
-    let script = &input.script;
     let limit = case.limit;
     match case.task {
         Task::Meet => met(rt, alloc, script, limit),
         Task::Follow => followed(rt, alloc, script, limit),
+        Task::Cross => crossed(rt, alloc, script, limit),
         Task::Live | Task::Load(_) => lived(rt, alloc, script, limit),
         Task::Pieces => all_worked(rt, alloc, script, limit),
         Task::First => first_worked(rt, alloc, script, limit),
-        Task::Turn(lane, looks) => turned_beside(rt, alloc, script, limit, lane, looks),
+        Task::Turn(lane, looks) => {
+            turned_beside(rt, alloc, script, limit, Which::First, lane, looks)
+        }
+        Task::Next(lane, looks) => {
+            turned_beside(rt, alloc, script, limit, Which::Second, lane, looks)
+        }
         Task::Hold(first, second) => held_beside(rt, alloc, script, limit, first, second),
     }
 }
@@ -56,13 +66,30 @@ fn text_seen<R: Threads + Wait + Sync>(
         return Ok("no script");
     }
     match read(alloc, text) {
-        Ok(input) => seen(rt, alloc, case, &input),
+        Ok(input) => seen(rt, alloc, case, &input.script),
         Err(ScriptRefusal::Bad { .. }) => Ok("no script"),
         Err(ScriptRefusal::NoMemory) => Err(AllocError),
     }
 }
 
-/// What is seen of the case, with this script, in which `/` stands for the end of a line.
+/// What is seen of the case, on the script with spin locks of this name.
+fn named_seen<R: Threads + Wait + Sync>(
+    rt: &R,
+    alloc: Global,
+    case: &Case,
+    name: &str,
+) -> Result<&'static str, AllocError> {
+    let Some(script) = script_of(alloc, name)? else {
+        return Ok("no script");
+    };
+    if !script.fits() || u32::from(script.cpus) * case.limit > EVENTS {
+        return Ok("no script");
+    }
+    seen(rt, alloc, case, &script)
+}
+
+/// What is seen of the case, with this script, in which `/` stands for the end of a line; or with the script with spin locks whose name
+/// stands behind `locks`.
 pub(crate) fn outcome<R: Threads + Wait + Sync>(
     rt: &R,
     alloc: Global,
@@ -71,7 +98,10 @@ pub(crate) fn outcome<R: Threads + Wait + Sync>(
 ) -> Result<&'static str, AllocError> {
     if let Task::Load(seed) = case.task {
         let input = load_script(alloc, seed)?;
-        return seen(rt, alloc, case, &input);
+        return seen(rt, alloc, case, &input.script);
+    }
+    if let Some(("locks", name)) = script.split_once(' ') {
+        return named_seen(rt, alloc, case, name);
     }
     let text = lines_of(alloc, script)?;
     text_seen(rt, alloc, case, text.as_slice())

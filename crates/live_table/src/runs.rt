@@ -4,10 +4,10 @@ ghost use Rattle.nt_event.specs.declared.limits.TheConstants.{EVENTS, TURNS};
 ghost use Rattle.nt_event.specs.Script.{fits};
 
 use crate::flags::Flags;
-use crate::gates::{Following, Meeting};
+use crate::gates::{Crossing, Following, Meeting};
 use nt_check::{Verdict, check};
 use nt_core::{ScheduleRefusal, replay};
-use nt_event::{CpuNo, Script};
+use nt_event::{Command, CpuNo, Reply, Script, What};
 use nt_history::{Brief, History};
 use nt_live::live;
 use nt_log::turns_of;
@@ -78,6 +78,48 @@ pub(crate) fn followed<R: Threads + Wait + Sync>(
         "its second event is behind the other's fifth"
     } else {
         "its second event is before the other's fifth"
+    })
+}
+
+/// Whether the last event of the processor is an acquire that spins.
+fn spins_at_last(history: &History, cpu: CpuNo) -> bool {
+    let events = history.lend();
+    let mut spins = false;
+    for at in 0..events.briefs.len() {
+        if events.briefs[at].cpu == cpu {
+            spins = matches!(
+                events.event(at).what,
+                What::Call {
+                    command: Command::Acquire(_),
+                    reply: Reply::Spin,
+                    ..
+                }
+            );
+        }
+    }
+    spins
+}
+
+/// Processors 0 and 1 meet at a gate before their third events, where each has a lock that the other wants.
+pub(crate) fn crossed<R: Threads + Wait + Sync>(
+    rt: &R,
+    alloc: Global,
+    script: &Script,
+    limit: u32,
+) -> Result<&'static str, AllocError>
+    requires script { IsTrue (fits script.now) }
+    requires turns { (1 ≤ limit) × (limit ≤ TURNS) }
+    requires all { script.now.cpus * limit ≤ EVENTS }
+{
+    let flags = Flags::new();
+    let history = live(rt, alloc, script, limit, &Crossing { flags: &flags })?;
+    if !flags.all_seen() {
+        return Ok("they didn't meet");
+    }
+    Ok(if spins_at_last(&history, CpuNo(0)) && spins_at_last(&history, CpuNo(1)) {
+        "both spin still"
+    } else {
+        "one of them got on"
     })
 }
 

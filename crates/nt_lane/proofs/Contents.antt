@@ -3,18 +3,20 @@ use Rattle.std.proofs.Common.{ap, refl, sym, ◌∙◌}
 use Rattle.std.proofs.lemmas.Bool.{ltb-true}
 use Rattle.std.specs.Prelude.{IsTrue, List, Option, Some, cond, get_or, length, suc, ℕ, ◌==◌, ◌∷◌, ◌≡◌, []}
 use Rattle.nt_event.specs.declared.events.Event.{Event}
-use Rattle.nt_event.specs.declared.jobs.Lane.TheVariants.{Object as ObjectLane, Queue as QueueLane, Threads as ThreadsLane, Timers as TimersLane}
+use Rattle.nt_event.specs.declared.jobs.Lane.TheVariants.{Lock as LockLane, Object as ObjectLane, Queue as QueueLane, Threads as ThreadsLane, Timers as TimersLane}
 use Rattle.nt_event.specs.declared.jobs.Stand.{Stand}
 use Rattle.nt_event.specs.declared.numbers.CpuNo.{CpuNo}
 use Rattle.nt_event.specs.declared.numbers.DpcNo.{DpcNo}
+use Rattle.nt_event.specs.declared.numbers.LockNo.{LockNo}
 use Rattle.nt_event.specs.declared.scripts.ThreadDecl.{ThreadDecl}
-use Rattle.nt_event.specs.LaneStates.{OfObject, OfQueue, OfThreads, OfTimers, content, threads_from}
-use Rattle.nt_event.specs.Lanes.{Lanes, lanes_after, object_at, queue_at}
+use Rattle.nt_event.specs.LaneStates.{OfLock, OfObject, OfQueue, OfThreads, OfTimers, content, threads_from}
+use Rattle.nt_event.specs.Lanes.{Lanes, lanes_after, lock_at, object_at, queue_at}
 use Rattle.nt_event.specs.Lists.{table}
-use Rattle.nt_event.specs.Numbers.{cpu, dpc, thread}
+use Rattle.nt_event.specs.Locks.{LockState, lock_after, start_lock}
+use Rattle.nt_event.specs.Numbers.{cpu, dpc, lock, thread}
 use Rattle.nt_event.specs.Objects.{ObjectState, object_after, start_object}
 use Rattle.nt_event.specs.Queues.{QueueState, queue_after, start_queue}
-use Rattle.nt_event.specs.Script.{has_cpu, has_dpc}
+use Rattle.nt_event.specs.Script.{has_cpu, has_dpc, has_lock}
 use Rattle.nt_event.specs.Threads.{start_facts}
 use Rattle.nt_event.specs.Timers.{Timers, timers_after}
 use Rattle.nt_event.specs.Waits.{facts_after}
@@ -23,9 +25,9 @@ use Rattle.nt_dpc.specs.Objects.{ObjectFacts}
 use Rattle.nt_dpc.specs.Queues.{QueueFacts}
 use Rattle.nt_states.specs.ThreadLanes.{left}
 use Rattle.nt_lane.specs.Answers.{HeldStates, held_lanes, threads_told, timers_told}
-use Rattle.nt_lane.specs.Held.{GroupState, group_content, with_threads}
-use Rattle.nt_lane.specs.Steps.{object_left, queue_left}
-use Rattle.nt_lane.proofs.HeldTold.{object_is_told, queue_is_told}
+use Rattle.nt_lane.specs.Held.{GroupState, SpinFacts, group_content, with_threads}
+use Rattle.nt_lane.specs.Steps.{object_left, queue_left, spin_left}
+use Rattle.nt_lane.proofs.HeldTold.{object_is_told, queue_is_told, spin_is_told}
 
 module _ (h : HeldStates) where
   pub object_before : (d : DpcNo) (o : ObjectFacts) → IsTrue (has_dpc h.script d) → h.object ≡ Some o →
@@ -57,6 +59,10 @@ module _ (h : HeldStates) where
 
   pub timers_before : (t : Timers) → h.timers ≡ Some t → content h.script (held_lanes h) TimersLane ≡ OfTimers t
   timers_before t is = ap (λ (o : Option Timers). OfTimers (timers_told h.script o)) is
+
+  pub spin_before : (k : LockNo) (x : SpinFacts) → IsTrue (has_lock h.script k) → h.spin_lock ≡ Some x →
+      content h.script (held_lanes h) (LockLane k) ≡ OfLock x.state
+  spin_before k x named is = ap OfLock (sym (spin_is_told h k x named is))
 
 -- what the event leaves
 module _ (h : HeldStates) (n : ℕ) (st : Stand) (e : Event) where
@@ -103,3 +109,15 @@ module _ (h : HeldStates) (n : ℕ) (st : Stand) (e : Event) where
 
   pub timers_then : (t : Timers) → h.timers ≡ Some t → content h.script after TimersLane ≡ OfTimers (timers_after h.script n st e t)
   timers_then t is = ap (λ (o : Option Timers). OfTimers (timers_after h.script n st e (timers_told h.script o))) is
+
+  pub spin_then : (k : LockNo) (x : SpinFacts) → IsTrue (has_lock h.script k) → h.spin_lock ≡ Some x → x.lock ≡ k →
+      content h.script after (LockLane k) ≡ OfLock (spin_left h.script e x).state
+  spin_then k x named is same =
+      let below = ltb-true k.0 h.script.locks named in
+      let at : lock_at after k ≡ lock_after h.script k e (lock_at (held_lanes h) k) =
+      get_or-table h.script.locks k.0 (λ i. lock_after h.script (lock i) e (lock_at (held_lanes h) (lock i))) start_lock below in
+      let old : lock_after h.script k e (lock_at (held_lanes h) k) ≡ lock_after h.script k e x.state =
+      ap (λ (y : LockState). lock_after h.script k e y) (sym (spin_is_told h k x named is)) in
+      let number : lock_after h.script k e x.state ≡ lock_after h.script x.lock e x.state =
+      ap (λ (y : LockNo). lock_after h.script y e x.state) (sym same) in
+      ap OfLock (at ∙ (old ∙ number))

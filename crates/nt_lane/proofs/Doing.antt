@@ -7,7 +7,7 @@ use Rattle.std.specs.Prelude.{All, Bool, Contains, IfSome, List, None, Option, S
 use Rattle.nt_event.specs.declared.events.Event.{Event}
 use Rattle.nt_event.specs.declared.jobs.Job.{Job}
 use Rattle.nt_event.specs.declared.jobs.Lane.{Lane}
-use Rattle.nt_event.specs.declared.jobs.Lane.TheVariants.{Object as ObjectLane, Queue as QueueLane, Threads as ThreadsLane, Timers as TimersLane}
+use Rattle.nt_event.specs.declared.jobs.Lane.TheVariants.{Lock as LockLane, Object as ObjectLane, Queue as QueueLane, Threads as ThreadsLane, Timers as TimersLane}
 use Rattle.nt_event.specs.declared.jobs.Stand.{Stand}
 use Rattle.nt_event.specs.declared.numbers.CpuNo.{CpuNo}
 use Rattle.nt_event.specs.declared.scripts.Script.{Script}
@@ -78,6 +78,7 @@ each_below h v k p c (ObjectLane d) = one_below h.object v p c k.object
 each_below h v k p c (QueueLane q) = one_below h.queue v p c k.queue
 each_below h v k p c (ThreadsLane q) = one_below h.group v p c k.group
 each_below h v k p c TimersLane = one_below h.timers v p c k.timers
+each_below h v k p c (LockLane x) = one_below h.spin_lock v p c k.spin_lock
 
 raised_below : (b : Bool) (n old word value : ℕ) → old ≤ word → (b ≡ true → n + 1 ≤ word) → value ≡ raised b n old → value ≤ word
 raised_below true n old word value h k e = let a = k refl in omega (arith, a, e)

@@ -7,12 +7,13 @@ use Rattle.std.specs.List.{list_any}
 use Rattle.std.specs.Prelude.{Bool, IfSome, IsSome, IsTrue, List, None, Option, Some, [], false, true, ℕ, ◌++◌, ◌||◌, ◌∷◌, ◌≡◌}
 use Rattle.nt_event.specs.declared.events.Event.{Event}
 use Rattle.nt_event.specs.declared.jobs.Lane.{Lane}
-use Rattle.nt_event.specs.declared.jobs.Lane.TheVariants.{Object as ObjectLane, Queue as QueueLane, Threads as ThreadsLane, Timers as TimersLane}
+use Rattle.nt_event.specs.declared.jobs.Lane.TheVariants.{Lock as LockLane, Object as ObjectLane, Queue as QueueLane, Threads as ThreadsLane, Timers as TimersLane}
 use Rattle.nt_event.specs.declared.jobs.Stand.{Stand}
 use Rattle.nt_event.specs.declared.numbers.CpuNo.{CpuNo}
 use Rattle.nt_event.specs.declared.numbers.DpcNo.{DpcNo}
+use Rattle.nt_event.specs.declared.numbers.LockNo.{LockNo}
 use Rattle.nt_event.specs.declared.scripts.Script.{Script}
-use Rattle.nt_event.specs.LaneStates.{Content, LaneState, OfObject, OfQueue, OfTimers, content, told_at}
+use Rattle.nt_event.specs.LaneStates.{Content, LaneState, OfLock, OfObject, OfQueue, OfTimers, content, told_at}
 use Rattle.nt_event.specs.Lanes.{lanes_after, same_lane}
 use Rattle.nt_event.specs.Lists.{table}
 use Rattle.nt_event.specs.Numbers.{cpu}
@@ -26,12 +27,12 @@ use Rattle.nt_mark.specs.Rule.{IsLongest}
 use Rattle.nt_mark.specs.Views.{note_of}
 use Rattle.nt_states.specs.Reads.{AreHeld}
 use Rattle.nt_lane.specs.Answers.{HeldStates, IsHeld, held_lanes}
-use Rattle.nt_lane.specs.Held.{GroupState, IsLastNoted, group_content}
+use Rattle.nt_lane.specs.Held.{GroupState, IsLastNoted, SpinFacts, group_content}
 use Rattle.nt_lane.specs.Locks.{AreKnownBy, AreLanes, AreLongest, HeldLanes, IsKnownBy, IsLane, Kept, found_in, in_each, states_of, told_in, told_of}
 use Rattle.nt_lane.specs.Records.{LaneRecord, told_then}
 use Rattle.nt_lane.specs.Seats.{AreFoundOn, AreShownOn, IsFoundOn, IsShown, IsShownOn}
-use Rattle.nt_lane.specs.Steps.{AreLeftBy, DpcsLeft, KnowsLeft, LeavesGroup, LeavesTimers, LeavesObject, LeavesQueue, is_touched, object_left, object_name, objects_told, queue_left, queue_name}
-use Rattle.nt_lane.proofs.Contents.{group_before, group_then, object_before, object_then, queue_before, queue_then, timers_before, timers_then}
+use Rattle.nt_lane.specs.Steps.{AreLeftBy, DpcsLeft, KnowsLeft, LeavesGroup, LeavesObject, LeavesQueue, LeavesSpin, LeavesTimers, is_touched, object_left, object_name, objects_told, queue_left, queue_name, spin_left}
+use Rattle.nt_lane.proofs.Contents.{group_before, group_then, object_before, object_then, queue_before, queue_then, spin_before, spin_then, timers_before, timers_then}
 
 -- ---- one lane
 
@@ -100,6 +101,7 @@ same_refl (ObjectLane d) = eq-eqb d.0 d.0 refl
 same_refl (QueueLane p) = eq-eqb p.0 p.0 refl
 same_refl (ThreadsLane p) = eq-eqb p.0 p.0 refl
 same_refl TimersLane = refl
+same_refl (LockLane k) = eq-eqb k.0 k.0 refl
 
 or_true : (b c d : Bool) → c ≡ true → (b || (c || d)) ≡ true
 or_true true c d h = refl
@@ -166,6 +168,16 @@ module _ (s : Script) (h : HeldLanes) (there : AreLanes s h) where
       shown_on s h TimersLane k.log (λ q c. ap (λ (y : Option (Kept Timers)). told_at (told_of y) q c) o.1) (OfTimers k.state) v
       lane.noted (timers_before states k.state at) (of_some (λ (k : Kept Timers). IsKnownBy k.log v) h.timers k o.1 known.timers)
       (of_some (λ (k : Kept Timers). IsLongest k.log.lane k.log.notes v) h.timers k o.1 longest.timers)
+  each_shown v known longest (LockLane x) held =
+      let o = one_held (λ (k : Kept SpinFacts). k.state) (λ (y : SpinFacts). y.lock) x h.spin_lock held in
+      let k : Kept SpinFacts = o.0 in
+      let lane = of_some (λ (k : Kept SpinFacts). IsLane s (LockLane k.state.lock) (OfLock k.state.state) 0 _ k.log) h.spin_lock k o.1 there.spin_lock in
+      let at : in_each h.spin_lock (λ k. k.state) ≡ Some k.state = ap (λ (y : Option (Kept SpinFacts)). in_each y (λ k. k.state)) o.1 in
+      subst (λ (y : LockNo). IsShownOn s v (found_in s h) (LockLane y)) o.2
+      (shown_on s h (LockLane k.state.lock) k.log (λ q c. ap (λ (y : Option (Kept SpinFacts)). told_at (told_of y) q c) o.1) (OfLock k.state.state) v
+      lane.noted (spin_before states k.state.lock k.state lane.fits.named at)
+      (of_some (λ (k : Kept SpinFacts). IsKnownBy k.log v) h.spin_lock k o.1 known.spin_lock)
+      (of_some (λ (k : Kept SpinFacts). IsLongest k.log.lane k.log.notes v) h.spin_lock k o.1 longest.spin_lock))
 
   pub all_shown : (v : View) → AreKnownBy h v → AreLongest h v → (xs : List Lane) → AreHeld (IsHeld states) xs → AreShownOn s v (found_in s h) xs
   all_shown v known longest [] held = tt
@@ -219,6 +231,17 @@ module _ (s : Script) (h : HeldLanes) (there : AreLanes s h) where
         found_on s h TimersLane k.log (λ q c. ap (λ (y : Option (Kept Timers)). told_at (told_of y) q c) o.1) n st e asks
         (OfTimers k.state) (OfTimers (timers_after s n st e k.state)) v lane.noted (timers_before states k.state at)
         (timers_then states n st e k.state at) same knows
+    each_found (LockLane x) held among =
+        let o = one_held (λ (k : Kept SpinFacts). k.state) (λ (y : SpinFacts). y.lock) x h.spin_lock held in
+        let k : Kept SpinFacts = o.0 in
+        let lane = of_some (λ (k : Kept SpinFacts). IsLane s (LockLane k.state.lock) (OfLock k.state.state) 0 _ k.log) h.spin_lock k o.1 there.spin_lock in
+        let at : in_each h.spin_lock (λ k. k.state) ≡ Some k.state = ap (λ (y : Option (Kept SpinFacts)). in_each y (λ k. k.state)) o.1 in
+        let here : is_among (LockLane k.state.lock) lanes ≡ true = subst (λ (y : LockNo). is_among (LockLane y) lanes ≡ true) (sym o.2) among in
+        let knows = of_some (λ (k : Kept SpinFacts). IsTrue (is_among (LockLane k.state.lock) lanes) → LeavesSpin s n e asks k v) h.spin_lock k o.1 left.spin_lock here in
+        subst (λ (y : LockNo). IsFoundOn s v n e st (found_in s h) (LockLane y)) o.2
+        (found_on s h (LockLane k.state.lock) k.log (λ q c. ap (λ (y : Option (Kept SpinFacts)). told_at (told_of y) q c) o.1) n st e asks
+        (OfLock k.state.state) (OfLock (spin_left s e k.state).state) v lane.noted (spin_before states k.state.lock k.state lane.fits.named at)
+        (spin_then states n st e k.state.lock k.state lane.fits.named at refl) same knows)
 
     rest_found : (past xs : List Lane) → lanes ≡ past ++ xs → AreHeld (IsHeld states) xs → AreFoundOn s v n e st (found_in s h) xs
     rest_found past [] is held = tt

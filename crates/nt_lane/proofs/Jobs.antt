@@ -13,6 +13,7 @@ use Rattle.nt_lane.specs.Standing.{StandsFor}
 job_stands : (st : Stand) (j : Job) → StandsFor st j → JobStands st j
 job_stands st (job.Call c) h = h.1
 job_stands st (job.Fire d) h = tt
+job_stands st (job.Free k) h = tt
 job_stands st job.Drain h = tt
 job_stands st job.Apcs h = h.thread
 job_stands st job.Threaded h = tt
@@ -36,6 +37,7 @@ Leaves l st j = Unit {0}
 pub is_allowed : (l : Lanes) (st : Stand) (j : Job) → StandsFor st j → Leaves l st j → IsAllowed l st j
 is_allowed l st (job.Call c) h k = h
 is_allowed l st (job.Fire d) h k = tt
+is_allowed l st (job.Free x) h k = tt
 is_allowed l st job.Drain h k = tt
 is_allowed l st job.Apcs h k = h
 is_allowed l st job.Threaded h k = tt

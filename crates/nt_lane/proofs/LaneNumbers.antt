@@ -18,7 +18,7 @@ use Rattle.nt_event.specs.declared.frames.Body.{Body}
 use Rattle.nt_event.specs.declared.frames.Body.TheVariants as on
 use Rattle.nt_event.specs.declared.inserts.Standing.{Standing}
 use Rattle.nt_event.specs.declared.jobs.Lane.{Lane}
-use Rattle.nt_event.specs.declared.jobs.Lane.TheVariants.{Object as ObjectLane, Queue as QueueLane, Threads as ThreadsLane, Timers as TimersLane}
+use Rattle.nt_event.specs.declared.jobs.Lane.TheVariants.{Lock as LockLane, Object as ObjectLane, Queue as QueueLane, Threads as ThreadsLane, Timers as TimersLane}
 use Rattle.nt_event.specs.declared.jobs.Stand.{Stand}
 use Rattle.nt_event.specs.declared.numbers.CpuNo.{CpuNo}
 use Rattle.nt_event.specs.declared.numbers.DpcNo.{DpcNo}
@@ -36,6 +36,7 @@ number_within s (ObjectLane d) h = let b = ltb-true d.0 (length s.dpcs) h in ome
 number_within s (QueueLane p) h = let b = ltb-true p.0 s.cpus h in omega (arith, b)
 number_within s (ThreadsLane p) h = let b = ltb-true p.0 s.cpus h in omega (arith, b)
 number_within s TimersLane h = omega arith
+number_within s (LockLane k) h = let b = ltb-true k.0 s.locks h in omega (arith, b)
 
 pub numbers_within : (s : Script) (xs : List Lane) → All (LaneFits s) xs → All (λ n. n < lane_count s) (map (lane_number s) xs)
 numbers_within s xs h =
@@ -154,6 +155,8 @@ by_command s p (cmd.TestAlert m) y l = one s _
 by_command s p (cmd.Clock units) y l = one s _
 by_command s p cmd.ToUser y l = one s _
 by_command s p cmd.Yield y l = one s _
+by_command s p (cmd.Acquire k) y l = one s _
+by_command s p (cmd.Unlock k) y l = one s _
 by_command s p (cmd.Raise level) y l = none s
 by_command s p (cmd.Lower level) y l = none s
 by_command s p cmd.EnterCrit y l = none s
@@ -198,6 +201,7 @@ touched s st what.Rest l = queue_threads s st.cpu st.cpu
 touched s st (what.End f) l = by_end s st.cpu st.body
 touched s st (what.Flush a from) l = one s _
 touched s st (what.Gone t) l = one s _
+touched s st (what.Free f k) l = one s _
 touched s st (what.Look r) l = none s
 touched s st (what.Normal f) l = none s
 

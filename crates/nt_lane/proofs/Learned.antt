@@ -23,24 +23,28 @@ each_later None v w l h = tt
 each_later (Some k) v w l h = known_later k.log v w l h
 
 -- the lanes that were met one after another
-pub all_known : (h : HeldLanes) (a b c d : View) → Learns a b → Learns b c → Learns c d → IfSome h.object (λ k. IsKnownBy k.log a) →
-    IfSome h.queue (λ k. IsKnownBy k.log b) → IfSome h.group (λ k. IsKnownBy k.log c) → IfSome h.timers (λ k. IsKnownBy k.log d) → AreKnownBy h d
-all_known h a b c d ab bc cd object queue group timers =
-    let bd = learns_through b c d bc cd in
+pub all_known : (h : HeldLanes) (a b c d e : View) → Learns a b → Learns b c → Learns c d → Learns d e → IfSome h.object (λ k. IsKnownBy k.log a) →
+    IfSome h.queue (λ k. IsKnownBy k.log b) → IfSome h.group (λ k. IsKnownBy k.log c) → IfSome h.timers (λ k. IsKnownBy k.log d) →
+    IfSome h.spin_lock (λ k. IsKnownBy k.log e) → AreKnownBy h e
+all_known h a b c d e ab bc cd de object queue group timers spin_lock =
+    let ce = learns_through c d e cd de in
+    let be = learns_through b c e bc ce in
     record {
-      object = each_later h.object a d (learns_through a b d ab bd) object;
-      queue = each_later h.queue b d bd queue;
-      group = each_later h.group c d cd group;
-      timers = timers;
+      object = each_later h.object a e (learns_through a b e ab be) object;
+      queue = each_later h.queue b e be queue;
+      group = each_later h.group c e ce group;
+      timers = each_later h.timers d e de timers;
+      spin_lock = spin_lock;
     }
 
 -- the lanes that took in one after another what a pass knows, which stays as it is
-pub all_longest : (h : HeldLanes) (a b c d : View) → b ≡ a → c ≡ b → d ≡ c → IfSome h.object (λ k. IsLongest k.log.lane k.log.notes a) →
+pub all_longest : (h : HeldLanes) (a b c d e : View) → b ≡ a → c ≡ b → d ≡ c → e ≡ d → IfSome h.object (λ k. IsLongest k.log.lane k.log.notes a) →
     IfSome h.queue (λ k. IsLongest k.log.lane k.log.notes b) → IfSome h.group (λ k. IsLongest k.log.lane k.log.notes c) →
-    IfSome h.timers (λ k. IsLongest k.log.lane k.log.notes d) → AreLongest h d
-all_longest h a b c d ab bc cd object queue group timers = record {
-  object = subst (λ (v : View). IfSome h.object (λ k. IsLongest k.log.lane k.log.notes v)) (sym (cd ∙ (bc ∙ ab))) object;
-  queue = subst (λ (v : View). IfSome h.queue (λ k. IsLongest k.log.lane k.log.notes v)) (sym (cd ∙ bc)) queue;
-  group = subst (λ (v : View). IfSome h.group (λ k. IsLongest k.log.lane k.log.notes v)) (sym cd) group;
-  timers = timers;
+    IfSome h.timers (λ k. IsLongest k.log.lane k.log.notes d) → IfSome h.spin_lock (λ k. IsLongest k.log.lane k.log.notes e) → AreLongest h e
+all_longest h a b c d e ab bc cd de object queue group timers spin_lock = record {
+  object = subst (λ (v : View). IfSome h.object (λ k. IsLongest k.log.lane k.log.notes v)) (sym (de ∙ (cd ∙ (bc ∙ ab)))) object;
+  queue = subst (λ (v : View). IfSome h.queue (λ k. IsLongest k.log.lane k.log.notes v)) (sym (de ∙ (cd ∙ bc))) queue;
+  group = subst (λ (v : View). IfSome h.group (λ k. IsLongest k.log.lane k.log.notes v)) (sym (de ∙ cd)) group;
+  timers = subst (λ (v : View). IfSome h.timers (λ k. IsLongest k.log.lane k.log.notes v)) (sym de) timers;
+  spin_lock = spin_lock;
 }

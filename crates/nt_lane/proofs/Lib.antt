@@ -25,3 +25,4 @@ pub mod Noted
 pub mod Shapes
 pub mod Entering
 pub mod Refusing
+pub mod Spun

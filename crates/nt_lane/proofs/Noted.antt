@@ -3,7 +3,7 @@ use Rattle.std.proofs.Common.{ap, arith, subst, sym, ◌∙◌}
 use Rattle.std.specs.Prelude.{All, Bool, Contains, IfSome, IsTrue, None, Option, Some, false, true, List, [], get_or, ℕ, ◌*◌, ◌+◌, ◌-◌, length, ◌++◌, ◌<◌, ◌^◌, ◌∷◌, ◌≡◌, ◌≤◌}
 use Rattle.nt_event.specs.declared.events.Event.{Event}
 use Rattle.nt_event.specs.declared.jobs.Lane.{Lane}
-use Rattle.nt_event.specs.declared.jobs.Lane.TheVariants.{Threads as ThreadsLane, Timers as TimersLane}
+use Rattle.nt_event.specs.declared.jobs.Lane.TheVariants.{Lock as LockLane, Threads as ThreadsLane, Timers as TimersLane}
 use Rattle.nt_event.specs.declared.jobs.Stand.{Stand}
 use Rattle.nt_event.specs.declared.limits.TheConstants.{EVENTS}
 use Rattle.nt_event.specs.declared.scripts.Script.{Script}
@@ -20,11 +20,12 @@ use Rattle.nt_event.specs.Numbers.{thread}
 use Rattle.nt_event.specs.Waits.{facts_after}
 use Rattle.nt_states.specs.ThreadLanes.{facts_in, left}
 use Rattle.nt_event.proofs.Tables.{length-table_from}
+use Rattle.nt_event.specs.Timers.{Timers}
 use Rattle.nt_lane.specs.Held.{GroupState, IsGroupThere, IsLastNoted, next_of}
 use Rattle.nt_lane.specs.Locks.{HeldLanes, Kept, in_each}
 use Rattle.nt_lane.specs.Records.{IsAskKnown, IsNoted, LaneRecord, told_then}
 use Rattle.nt_lane.specs.Seats.{state_noted}
-use Rattle.nt_lane.specs.Steps.{AreLeftBy, DpcsLeft, IsStep, KnowsLeft, LeavesGroup, LeavesTimers, is_touched, note_left, object_name, queue_name}
+use Rattle.nt_lane.specs.Steps.{AreLeftBy, DpcsLeft, IsStep, KnowsLeft, LeavesGroup, LeavesSpin, LeavesTimers, is_touched, note_left, object_name, queue_name}
 use Rattle.nt_lane.specs.Views.{Learns}
 use Rattle.nt_lane.proofs.Ends.{next_more, shown_more}
 use Rattle.nt_lane.proofs.Tying.{learns_through}
@@ -116,14 +117,22 @@ module _ (s : Script) (n : ℕ) (st : Stand) (e : Event) (asks : List Ask) (v w 
   group_later lanes None h = tt
   group_later lanes (Some k) h = λ among. let a = h among in (a.0, l.grows.prefixes a.0 a.1, a.2, a.3)
 
--- the object and the queue left it first, then the threads, then the timers
-pub all_left : (s : Script) (n : ℕ) (st : Stand) (e : Event) (lanes : List Lane) (asks : List Ask) (h : HeldLanes) (u v w : View) → Learns u v → Learns v w →
+  timers_later : (lanes : List Lane) (o : Option (Kept Timers)) →
+      IfSome o (λ k. IsTrue (is_among TimersLane lanes) → LeavesTimers s n st e asks k v) →
+      IfSome o (λ k. IsTrue (is_among TimersLane lanes) → LeavesTimers s n st e asks k w)
+  timers_later lanes None h = tt
+  timers_later lanes (Some k) h = λ among. let a = h among in (a.0, l.grows.prefixes a.0 a.1, a.2, a.3)
+
+-- the object and the queue left it first, then the threads, then the timers, then the spin lock
+pub all_left : (s : Script) (n : ℕ) (st : Stand) (e : Event) (lanes : List Lane) (asks : List Ask) (h : HeldLanes) (u v w x : View) → Learns u v → Learns v w → Learns w x →
     DpcsLeft s n e asks u (is_touched (in_each h.object object_name) lanes) (is_touched (in_each h.queue queue_name) lanes) h.object h.queue →
     IfSome h.group (λ k. IsTrue (is_among (ThreadsLane k.state.cpu) lanes) → LeavesGroup s n st e asks k v) →
-    IfSome h.timers (λ k. IsTrue (is_among TimersLane lanes) → LeavesTimers s n st e asks k w) → AreLeftBy s n st e lanes asks h w
-all_left s n st e lanes asks h u v w a b dpcs group timers = record {
-  dpcs = dpcs_later s n st e asks u w (learns_through u v w a b) (is_touched (in_each h.object object_name) lanes)
+    IfSome h.timers (λ k. IsTrue (is_among TimersLane lanes) → LeavesTimers s n st e asks k w) →
+    IfSome h.spin_lock (λ k. IsTrue (is_among (LockLane k.state.lock) lanes) → LeavesSpin s n e asks k x) → AreLeftBy s n st e lanes asks h x
+all_left s n st e lanes asks h u v w x a b c dpcs group timers spin_lock = record {
+  dpcs = dpcs_later s n st e asks u x (learns_through u v x a (learns_through v w x b c)) (is_touched (in_each h.object object_name) lanes)
       (is_touched (in_each h.queue queue_name) lanes) h.object h.queue dpcs;
-  group = group_later s n st e asks v w b lanes h.group group;
-  timers = timers;
+  group = group_later s n st e asks v x (learns_through v w x b c) lanes h.group group;
+  timers = timers_later s n st e asks w x c lanes h.timers timers;
+  spin_lock = spin_lock;
 }

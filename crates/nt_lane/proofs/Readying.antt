@@ -9,7 +9,7 @@ use Rattle.nt_event.specs.declared.events.Event.{Event}
 use Rattle.nt_event.specs.declared.jobs.Job.{Job}
 use Rattle.nt_event.specs.declared.jobs.Job.TheVariants as job
 use Rattle.nt_event.specs.declared.jobs.Lane.{Lane}
-use Rattle.nt_event.specs.declared.jobs.Lane.TheVariants.{Object as ObjectLane, Queue as QueueLane, Threads as ThreadsLane, Timers as TimersLane}
+use Rattle.nt_event.specs.declared.jobs.Lane.TheVariants.{Lock as LockLane, Object as ObjectLane, Queue as QueueLane, Threads as ThreadsLane, Timers as TimersLane}
 use Rattle.nt_event.specs.declared.jobs.Stand.{Stand}
 use Rattle.nt_event.specs.declared.numbers.CpuNo.{CpuNo}
 use Rattle.nt_event.specs.declared.numbers.DpcNo.{DpcNo}
@@ -23,7 +23,7 @@ use Rattle.nt_dpc_lanes.specs.declared.changes.Change.{Change}
 use Rattle.nt_acts.specs.Acts.{is_among}
 use Rattle.nt_mark.specs.declared.view.View.{View}
 use Rattle.nt_mark.specs.Views.{reach, step_word}
-use Rattle.nt_event.specs.LaneStates.{OfObject, OfQueue, OfTimers}
+use Rattle.nt_event.specs.LaneStates.{OfLock, OfObject, OfQueue, OfTimers}
 use Rattle.nt_event.specs.Script.{fits}
 use Rattle.nt_event.specs.Timers.{Timers}
 use Rattle.nt_acts.specs.Acts.{StandFits, job_fits}
@@ -39,12 +39,12 @@ use Rattle.nt_states.specs.ThreadLanes.{ThreadLanes}
 use Rattle.nt_timer.specs.Laws.{IsSized}
 use Rattle.nt_lane.specs.declared.planning.Plan.{Plan}
 use Rattle.nt_lane.specs.Answers.{BothAgree, HeldStates, IsHeld, held_lanes, threads_told, timers_told}
-use Rattle.nt_lane.specs.Held.{GroupState, IsGroupThere, IsObjectThere, IsQueueThere, group_content}
+use Rattle.nt_lane.specs.Held.{GroupState, IsGroupThere, IsObjectThere, IsQueueThere, IsSpinThere, SpinFacts, group_content}
 use Rattle.nt_lane.specs.Leaving.{Leaves}
 use Rattle.nt_lane.specs.Locks.{AreKnownBy, AreLanes, AreRoomy, HeldLanes, IsKnownBy, IsLane, Kept, in_each, states_of}
 use Rattle.nt_lane.specs.Plans.{IsPlan}
 use Rattle.nt_lane.specs.Records.{LaneRecord}
-use Rattle.nt_lane.specs.Steps.{AreReadyFor, DpcsReady, IsReady, MayLeaveGroup, MayLeaveObject, MayLeaveQueue, MayLeaveTimers, is_touched, object_name, queue_name}
+use Rattle.nt_lane.specs.Steps.{AreReadyFor, DpcsReady, IsReady, MayLeaveGroup, MayLeaveObject, MayLeaveQueue, MayLeaveSpin, MayLeaveTimers, is_touched, object_name, queue_name}
 use Rattle.nt_lane.proofs.Entering.{both_may, object_may, queue_may}
 use Rattle.nt_lane.proofs.Founding.{one_held}
 use Rattle.nt_lane.proofs.HeldTold.{object_is_told, queue_is_told}
@@ -59,6 +59,7 @@ same_number s (ObjectLane d) (ObjectLane x) h = eqb-true x.0 d.0 h
 same_number s (QueueLane p) (QueueLane x) h = let e : x.0 ≡ p.0 = eqb-true x.0 p.0 h in omega (arith, e)
 same_number s (ThreadsLane p) (ThreadsLane x) h = let e : x.0 ≡ p.0 = eqb-true x.0 p.0 h in omega (arith, e)
 same_number s TimersLane TimersLane h = refl
+same_number s (LockLane k) (LockLane x) h = let e : x.0 ≡ k.0 = eqb-true x.0 k.0 h in omega (arith, e)
 same_number s x y h = cc
 
 -- the number of a lane that is among these is among their numbers
@@ -246,6 +247,18 @@ module _ (s : Script) (h : HeldLanes) (st : Stand) (j : Job) (p : Plan) (plan : 
         timers_may s h st j p plan there fit stand named k e,
       )
 
+  spin_ready : (o : Option (Kept SpinFacts)) → h.spin_lock ≡ o →
+      IfSome o (λ k. IsTrue (is_among (LockLane k.state.lock) p.lanes) → IsReady n numbers k.log × MayLeaveSpin s st p.event)
+  spin_ready None e = tt
+  spin_ready (Some k) e =
+      λ among. (
+        is_ready s n (LockLane k.state.lock) p.lanes numbers k.log v least is
+            (of_held (λ (k : Kept SpinFacts). IsLane s (LockLane k.state.lock) (OfLock k.state.state) 0 (IsSpinThere s k.state) k.log) h.spin_lock k e there.spin_lock).noted.number
+            (of_held (λ (k : Kept SpinFacts). IsKnownBy k.log v) h.spin_lock k e met.spin_lock)
+            (of_held (λ (k : Kept SpinFacts). 1 ≤ k.log.room) h.spin_lock k e room.spin_lock) among,
+        record { cpu = stand.cpu; own = by_cpu s h st j p plan there fit stand named },
+      )
+
   -- each held lane that the event touches may leave it
   pub all_ready : AreReadyFor s n st p.event p.lanes numbers h
   all_ready =
@@ -254,4 +267,5 @@ module _ (s : Script) (h : HeldLanes) (st : Stand) (j : Job) (p : Plan) (plan : 
         dpcs = dpcs_ready (subst (λ (xs : List Lane). Shape s l st.cpu xs c) (sym plan.lanes) (shape s st l p.event.what made));
         group = group_ready h.group refl;
         timers = timers_ready h.timers refl;
+        spin_lock = spin_ready h.spin_lock refl;
       }

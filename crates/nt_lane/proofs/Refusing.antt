@@ -23,6 +23,7 @@ memory s f st job.Idle = tt
 memory s f st (job.Switch t) = tt
 memory s f st (job.Call c) = tt
 memory s f st (job.Fire d) = tt
+memory s f st (job.Free k) = tt
 memory s f st job.Drain = tt
 memory s f st job.Apcs = tt
 memory s f st job.Threaded = tt

@@ -2,11 +2,13 @@
 use Rattle.std.specs.Prelude.{All, IfSome, IsTrue, List, [], length, ℕ, ◌+◌, ◌∷◌, ◌≡◌}
 use Rattle.nt_event.specs.declared.jobs.Lane.{Lane}
 use Rattle.nt_event.specs.declared.numbers.CpuNo.{CpuNo}
+use Rattle.nt_event.specs.declared.numbers.LockNo.{LockNo}
 use Rattle.nt_event.specs.declared.scripts.Script.{Script}
 use Rattle.nt_event.specs.LaneStates.{Content, OfThreads, threads_from}
 use Rattle.nt_event.specs.Lanes.{Lanes, lane_number, lanes_at}
+use Rattle.nt_event.specs.Locks.{LockState}
 use Rattle.nt_event.specs.Routines.{depth_limit, part_of}
-use Rattle.nt_event.specs.Script.{has_cpu, has_dpc}
+use Rattle.nt_event.specs.Script.{has_cpu, has_dpc, has_lock}
 use Rattle.nt_dpc.specs.Objects.{ObjectFacts}
 use Rattle.nt_dpc.specs.Queues.{QueueFacts}
 use Rattle.nt_mark.specs.declared.view.Note.{Note}
@@ -26,6 +28,11 @@ with_threads x = record (lanes_at x.script []) { threads = x.facts }
 -- the states of the processor's own threads
 abbrev pub group_content : GroupState → Content
 group_content g = OfThreads (threads_from g.cpu 0 g.threads.script.threads (with_threads g.threads))
+
+-- a spin lock: its number, who holds it, and who spins on it
+pub record SpinFacts : Type 0 where
+  pub lock : LockNo
+  pub state : LockState
 
 -- one more than the last number of a list, 0 where it is empty
 abbrev pub next_of : List Note → ℕ
@@ -54,6 +61,11 @@ pub record IsGroupThere (s : Script) (g : GroupState) : Type 0 where
   pub named : IsTrue (has_cpu s g.cpu)
   pub script : g.threads.script ≡ s
   pub count : length g.threads.facts ≡ length s.threads
+
+-- a spin lock, with a flag for each processor
+pub record IsSpinThere (s : Script) (x : SpinFacts) : Type 0 where
+  pub named : IsTrue (has_lock s x.lock)
+  pub flags : length x.state.spinners ≡ s.cpus
 
 -- ---- the whole lane
 

@@ -11,6 +11,7 @@ held_in a =
       queue = option_map (λ q. q.now) a.queue;
       group = option_map (λ g. g.now) a.group;
       timers = option_map (λ t. t.now) a.timers;
+      spin_lock = option_map (λ x. x.now) a.spin_lock;
     }
 
 abbrev pub AreThereInside : Inside → Type 0

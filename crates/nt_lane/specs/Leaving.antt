@@ -17,6 +17,7 @@ MakerRuns s group st w = IfSome group (λ g. named_thread s w ≡ None → IfSom
 abbrev pub Leaves : List ThreadFacts → Stand → Job → Type 0
 Leaves threads st (job.Call c) = Unit {0}
 Leaves threads st (job.Fire d) = Unit {0}
+Leaves threads st (job.Free k) = Unit {0}
 Leaves threads st job.Drain = Unit {0}
 Leaves threads st job.Apcs = Unit {0}
 Leaves threads st job.Threaded = Unit {0}

@@ -1,9 +1,9 @@
 -- The lanes that an act holds: their states, with their records.
 use Rattle.std.specs.Prelude.{IfSome, List, None, Option, Some, [], option_map, ℕ, ◌*◌, ◌^◌, ◌≤◌}
 use Rattle.nt_event.specs.declared.jobs.Lane.{Lane}
-use Rattle.nt_event.specs.declared.jobs.Lane.TheVariants.{Object as ObjectLane, Queue as QueueLane, Threads as ThreadsLane, Timers as TimersLane}
+use Rattle.nt_event.specs.declared.jobs.Lane.TheVariants.{Lock as LockLane, Object as ObjectLane, Queue as QueueLane, Threads as ThreadsLane, Timers as TimersLane}
 use Rattle.nt_event.specs.declared.scripts.Script.{Script}
-use Rattle.nt_event.specs.LaneStates.{Content, OfObject, OfQueue, OfTimers, told_at}
+use Rattle.nt_event.specs.LaneStates.{Content, OfLock, OfObject, OfQueue, OfTimers, told_at}
 use Rattle.nt_event.specs.Timers.{Timers}
 use Rattle.nt_dpc.specs.Objects.{ObjectFacts}
 use Rattle.nt_dpc.specs.Queues.{QueueFacts}
@@ -13,7 +13,7 @@ use Rattle.nt_mark.specs.Rule.{IsLongest}
 use Rattle.nt_mark.specs.Views.{reach, step_word}
 use Rattle.nt_timer.specs.Laws.{IsSized}
 use Rattle.nt_lane.specs.Answers.{HeldStates, held_lanes}
-use Rattle.nt_lane.specs.Held.{GroupState, IsGroupThere, IsLastNoted, IsObjectThere, IsQueueThere, group_content, next_of}
+use Rattle.nt_lane.specs.Held.{GroupState, IsGroupThere, IsLastNoted, IsObjectThere, IsQueueThere, IsSpinThere, SpinFacts, group_content, next_of}
 use Rattle.nt_lane.specs.Records.{AreKnown, Knows, LaneRecord}
 
 -- a state, with the lane's record
@@ -34,6 +34,7 @@ pub record HeldLanes : Type 0 where
   pub queue : Option (Kept QueueFacts)
   pub group : Option (Kept GroupState)
   pub timers : Option (Kept Timers)
+  pub spin_lock : Option (Kept SpinFacts)
 
 -- their states, of a script
 abbrev pub states_of : Script → HeldLanes → HeldStates
@@ -44,6 +45,7 @@ states_of s h =
       queue = in_each h.queue (λ k. k.state);
       group = in_each h.group (λ k. k.state);
       timers = in_each h.timers (λ k. k.state);
+      spin_lock = in_each h.spin_lock (λ k. k.state);
     }
 
 -- what a lane tells of requests; nothing where it isn't held
@@ -57,6 +59,7 @@ told_in h (ObjectLane d) p c = told_at (told_of h.object) p c
 told_in h (QueueLane q) p c = told_at (told_of h.queue) p c
 told_in h (ThreadsLane q) p c = told_at (told_of h.group) p c
 told_in h TimersLane p c = told_at (told_of h.timers) p c
+told_in h (LockLane k) p c = told_at (told_of h.spin_lock) p c
 
 -- the states in which an act makes its event, with what the lanes tell of requests before it
 abbrev pub found_in : Script → HeldLanes → Found
@@ -76,6 +79,7 @@ pub record AreLanes (s : Script) (h : HeldLanes) : Type 0 where
   pub queue : IfSome h.queue (λ k. IsLane s (QueueLane k.state.cpu) (OfQueue k.state.state) 0 (IsQueueThere s k.state) k.log)
   pub group : IfSome h.group (λ k. IsLane s (ThreadsLane k.state.cpu) (group_content k.state) 0 (IsGroupThere s k.state) k.log)
   pub timers : IfSome h.timers (λ k. IsLane s TimersLane (OfTimers k.state) k.state.now (IsSized s k.state) k.log)
+  pub spin_lock : IfSome h.spin_lock (λ k. IsLane s (LockLane k.state.lock) (OfLock k.state.state) 0 (IsSpinThere s k.state) k.log)
 
 -- ---- what a pass knows of them, once it met them
 
@@ -91,6 +95,7 @@ pub record AreKnownBy (h : HeldLanes) (v : View) : Type 0 where
   pub queue : IfSome h.queue (λ k. IsKnownBy k.log v)
   pub group : IfSome h.group (λ k. IsKnownBy k.log v)
   pub timers : IfSome h.timers (λ k. IsKnownBy k.log v)
+  pub spin_lock : IfSome h.spin_lock (λ k. IsKnownBy k.log v)
 
 -- the pass knows no list of one of them that goes beyond the lane's own
 pub record AreLongest (h : HeldLanes) (v : View) : Type 0 where
@@ -98,6 +103,7 @@ pub record AreLongest (h : HeldLanes) (v : View) : Type 0 where
   pub queue : IfSome h.queue (λ k. IsLongest k.log.lane k.log.notes v)
   pub group : IfSome h.group (λ k. IsLongest k.log.lane k.log.notes v)
   pub timers : IfSome h.timers (λ k. IsLongest k.log.lane k.log.notes v)
+  pub spin_lock : IfSome h.spin_lock (λ k. IsLongest k.log.lane k.log.notes v)
 
 -- each has room for one event more
 pub record AreRoomy (h : HeldLanes) : Type 0 where
@@ -105,3 +111,4 @@ pub record AreRoomy (h : HeldLanes) : Type 0 where
   pub queue : IfSome h.queue (λ k. 1 ≤ k.log.room)
   pub group : IfSome h.group (λ k. 1 ≤ k.log.room)
   pub timers : IfSome h.timers (λ k. 1 ≤ k.log.room)
+  pub spin_lock : IfSome h.spin_lock (λ k. 1 ≤ k.log.room)

@@ -16,6 +16,7 @@ StandsFor st job.UserEnd = IsSome st.thread
 StandsFor st job.Leave = IsSome st.thread
 StandsFor st job.Rundown = IsSome st.thread
 StandsFor st (job.Fire d) = Unit {0}
+StandsFor st (job.Free k) = Unit {0}
 StandsFor st job.Drain = Unit {0}
 StandsFor st job.Threaded = Unit {0}
 StandsFor st job.Idle = Unit {0}

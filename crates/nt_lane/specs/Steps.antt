@@ -2,14 +2,16 @@
 use Rattle.std.specs.Prelude.{All, Bool, Contains, IfSome, IsTrue, List, None, Option, Some, [], false, length, replicate, true, ℕ, ◌++◌, ◌<◌, ◌∷◌, ◌≡◌, ◌≤◌}
 use Rattle.nt_event.specs.declared.events.Event.{Event}
 use Rattle.nt_event.specs.declared.jobs.Lane.{Lane}
-use Rattle.nt_event.specs.declared.jobs.Lane.TheVariants.{Object as ObjectLane, Queue as QueueLane, Threads as ThreadsLane, Timers as TimersLane}
+use Rattle.nt_event.specs.declared.jobs.Lane.TheVariants.{Lock as LockLane, Object as ObjectLane, Queue as QueueLane, Threads as ThreadsLane, Timers as TimersLane}
 use Rattle.nt_event.specs.declared.jobs.Stand.{Stand}
 use Rattle.nt_event.specs.declared.limits.TheConstants.{EVENTS}
 use Rattle.nt_event.specs.declared.scripts.Script.{Script}
-use Rattle.nt_event.specs.LaneStates.{Content, OfObject, OfQueue, OfTimers}
+use Rattle.nt_event.specs.LaneStates.{Content, OfLock, OfObject, OfQueue, OfTimers}
+use Rattle.nt_event.specs.Locks.{lock_after}
 use Rattle.nt_event.specs.Objects.{ObjectState, object_after}
 use Rattle.nt_event.specs.Queues.{queue_after}
 use Rattle.nt_event.specs.Requests.{Ask}
+use Rattle.nt_event.specs.Script.{has_cpu}
 use Rattle.nt_event.specs.Step.{thread_field}
 use Rattle.nt_event.specs.Timers.{Timers, timers_after}
 use Rattle.nt_dpc.specs.Laws.{IsObject}
@@ -25,7 +27,7 @@ use Rattle.nt_states.specs.LaneLists.{AskFits}
 use Rattle.nt_states.specs.ThreadFits.{RunsHere, WhatFits, named_thread}
 use Rattle.nt_lane.specs.Changed.{MayChangeBoth, MayChangeObject, MayChangeQueue}
 use Rattle.nt_states.specs.ThreadLanes.{left}
-use Rattle.nt_lane.specs.Held.{GroupState, IsObjectThere, IsQueueThere, group_content, next_of}
+use Rattle.nt_lane.specs.Held.{GroupState, IsObjectThere, IsQueueThere, SpinFacts, group_content, next_of}
 use Rattle.nt_lane.specs.Answers.{object_told}
 use Rattle.nt_lane.specs.Locks.{HeldLanes, Kept, in_each}
 use Rattle.nt_lane.specs.Records.{IsAskKnown, Knows, LaneRecord, told_then}
@@ -61,6 +63,9 @@ object_left n e o = record o { state = object_after o.dpc n e.cpu e.what o.state
 abbrev pub queue_left : Script → ℕ → Event → List ObjectState → QueueFacts → QueueFacts
 queue_left s n e objects q = record q { state = queue_after s q.cpu n e.cpu e.what objects q.state }
 
+abbrev pub spin_left : Script → Event → SpinFacts → SpinFacts
+spin_left s e x = record x { state = lock_after s x.lock e x.state }
+
 pub record MayLeaveObject (s : Script) (n : ℕ) (e : Event) (o : ObjectFacts) : Type 0 where
   pub may : MayChangeObject o (change_of e.what)
   pub there : IsObjectThere s (object_left n e o)
@@ -85,6 +90,10 @@ pub record MayLeaveGroup (s : Script) (st : Stand) (e : Event) (g : GroupState) 
 pub record MayLeaveTimers (s : Script) (e : Event) (t : Timers) : Type 0 where
   pub may : MayTime s t e e.what
 
+pub record MayLeaveSpin (s : Script) (st : Stand) (e : Event) : Type 0 where
+  pub cpu : IsTrue (has_cpu s st.cpu)
+  pub own : e.cpu ≡ st.cpu
+
 -- ---- what the pass knows of a held lane after the event, by kind
 
 abbrev pub LeavesGroup : Script → ℕ → Stand → Event → List Ask → Kept GroupState → View → Type 0
@@ -92,6 +101,9 @@ LeavesGroup s n st e asks k v = KnowsLeft s n asks (group_content (record k.stat
 
 abbrev pub LeavesTimers : Script → ℕ → Stand → Event → List Ask → Kept Timers → View → Type 0
 LeavesTimers s n st e asks k v = KnowsLeft s n asks (OfTimers (timers_after s n st e k.state)) k.log v
+
+abbrev pub LeavesSpin : Script → ℕ → Event → List Ask → Kept SpinFacts → View → Type 0
+LeavesSpin s n e asks k v = KnowsLeft s n asks (OfLock (spin_left s e k.state).state) k.log v
 
 abbrev pub LeavesObject : Script → ℕ → Event → List Ask → Kept ObjectFacts → View → Type 0
 LeavesObject s n e asks k v = KnowsLeft s n asks (OfObject (object_left n e k.state).state) k.log v
@@ -138,9 +150,11 @@ pub record AreReadyFor (s : Script) (n : ℕ) (st : Stand) (e : Event) (lanes : 
   pub dpcs : DpcsReady s n e numbers (is_touched (in_each h.object object_name) lanes) (is_touched (in_each h.queue queue_name) lanes) h.object h.queue
   pub group : IfSome h.group (λ k. IsTrue (is_among (ThreadsLane k.state.cpu) lanes) → IsReady n numbers k.log × MayLeaveGroup s st e k.state)
   pub timers : IfSome h.timers (λ k. IsTrue (is_among TimersLane lanes) → IsReady n numbers k.log × MayLeaveTimers s e k.state)
+  pub spin_lock : IfSome h.spin_lock (λ k. IsTrue (is_among (LockLane k.state.lock) lanes) → IsReady n numbers k.log × MayLeaveSpin s st e)
 
 -- each of them did, as the pass knows
 pub record AreLeftBy (s : Script) (n : ℕ) (st : Stand) (e : Event) (lanes : List Lane) (asks : List Ask) (h : HeldLanes) (v : View) : Type 0 where
   pub dpcs : DpcsLeft s n e asks v (is_touched (in_each h.object object_name) lanes) (is_touched (in_each h.queue queue_name) lanes) h.object h.queue
   pub group : IfSome h.group (λ k. IsTrue (is_among (ThreadsLane k.state.cpu) lanes) → LeavesGroup s n st e asks k v)
   pub timers : IfSome h.timers (λ k. IsTrue (is_among TimersLane lanes) → LeavesTimers s n st e asks k v)
+  pub spin_lock : IfSome h.spin_lock (λ k. IsTrue (is_among (LockLane k.state.lock) lanes) → LeavesSpin s n e asks k v)

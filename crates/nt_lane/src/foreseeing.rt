@@ -74,6 +74,7 @@ fn other_of_command<N: Plan + Shared, R: Wait>(
         Command::SetImportance(d, _) | Command::SetTarget(d, _) => Some(Lane::Object(*d)),
         Command::Clock(_) => Some(Lane::Timers),
         Command::ToUser | Command::Yield => Some(Lane::Threads(cpu)),
+        Command::Unlock(k) => Some(Lane::Lock(*k)),
         Command::Raise(_)
         | Command::Lower(_)
         | Command::SetTimer(_, _, _)
@@ -90,6 +91,7 @@ fn other_of_command<N: Plan + Shared, R: Wait>(
         | Command::Alert(_, _)
         | Command::TestAlert(_)
         | Command::Interrupt(_, _)
+        | Command::Acquire(_)
         | Command::Note(_) => None,
     }
 }
@@ -109,6 +111,7 @@ fn other_of_job<N: Plan + Shared, R: Wait>(
         }
         Job::Threaded => look_at_queue(rt, lanes, stand.cpu(), Part::Threaded),
         Job::Switch(_) => Some(Lane::Queue(stand.cpu())),
+        Job::Free(k) => Some(Lane::Lock(*k)),
         Job::UserEnd | Job::Leave => Some(Lane::Threads(stand.cpu())),
         Job::Apcs | Job::Rewait | Job::ToUser | Job::Rundown => None,
     }

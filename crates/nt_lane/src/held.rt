@@ -1,19 +1,19 @@
 //! What a few held lanes answer.
-ghost use Rattle.std.specs.Prelude.{◌↔◌, ◌≡◌, IfSome, IsSome, IsTrue, Some, option_map};
-ghost use Rattle.nt_event.specs.declared.jobs.Lane.TheVariants.{Object as ObjectLane, Queue as QueueLane};
-ghost use Rattle.nt_event.specs.Lanes.{object_at, queue_at};
+ghost use Rattle.std.specs.Prelude.{◌↔◌, ◌≡◌, IfSome, IsSome, IsTrue, Some, length, option_map};
+ghost use Rattle.nt_event.specs.declared.jobs.Lane.TheVariants.{Lock as LockLane, Object as ObjectLane, Queue as QueueLane};
+ghost use Rattle.nt_event.specs.Lanes.{lock_at, object_at, queue_at};
 ghost use Rattle.nt_event.specs.Queues.{is_queue};
-ghost use Rattle.nt_event.specs.Script.{fits, has_cpu, has_dpc};
+ghost use Rattle.nt_event.specs.Script.{fits, has_cpu, has_dpc, has_lock};
 ghost use Rattle.nt_dpc.specs.Queues.{holds_dpc};
 ghost use Rattle.nt_lane.specs.Answers.{AreThere, BothAgree, IsHeld, held_lanes};
-ghost use Rattle.nt_lane.specs.Held.{IsGroupThere, IsObjectThere, IsQueueThere};
+ghost use Rattle.nt_lane.specs.Held.{IsGroupThere, IsObjectThere, IsQueueThere, IsSpinThere};
 ghost use Rattle.nt_timer.specs.Laws.{IsSized};
 
 use crate::needs::Needs;
-use crate::states::{Clock, Group, Object, Queue};
+use crate::states::{Clock, Group, Object, Queue, Spin};
 use nt_dpc::{DpcObject, DpcQueue};
-use nt_event::{CpuNo, DpcNo, Lane, Part, Script, TimerKey, TimerNo};
-use nt_states::LaneAnswers;
+use nt_event::{CpuNo, DpcNo, Lane, LockNo, Part, Script, TimerKey, TimerNo};
+use nt_states::{LaneAnswers, SpinLock};
 use nt_thread_lanes::Threads;
 use nt_timer::TimerQueue;
 use std::marker::Model;
@@ -48,9 +48,9 @@ fn both_agree(object: Option<&Object>, queue: Option<&Queue>) -> bool
     }
 }
 
-/// The states of up to four lanes that are held by their locks, at most one of each kind.
+/// The states of up to five lanes that are held by their locks, at most one of each kind.
 ///
-/// Of a lane that isn't held it tells any state: an object or a queue like the held one.
+/// Of a lane that isn't held it tells any state: an object, a queue or a spin lock like the held one.
 #[derive(Drop)]
 pub(crate) struct Held<'h, 's> {
     script: &'h Script,
@@ -58,6 +58,7 @@ pub(crate) struct Held<'h, 's> {
     queue: Option<&'h Queue>,
     group: Option<&'h Group<'s>>,
     timers: Option<&'h Clock>,
+    spin_lock: Option<&'h Spin>,
 }
 
 impl<'h, 's> Model for Held<'h, 's> {
@@ -80,13 +81,15 @@ impl<'h, 's> Held<'h, 's> {
         queue: Option<&'h Queue>,
         group: Option<&'h Group<'s>>,
         timers: Option<&'h Clock>,
+        spin_lock: Option<&'h Spin>,
     ) -> Option<Held<'h, 's>>
         requires fits { IsTrue (fits script.now) }
         requires object { IfSome object (λ o. IsObjectThere script.now o.now) }
         requires queue { IfSome queue (λ q. IsQueueThere script.now q.now) }
         requires group { IfSome group (λ g. IsGroupThere script.now g.now) }
         requires timers { IfSome timers (λ t. IsSized script.now t.now) }
-        ensures { IfSome result (λ h. h ≡ record { script = script.now; object = option_map (λ o. o.now) object.entry; queue = option_map (λ q. q.now) queue.entry; group = option_map (λ g. g.now) group.entry; timers = option_map (λ t. t.now) timers.entry }) }
+        requires spin_lock { IfSome spin_lock (λ x. IsSpinThere script.now x.now) }
+        ensures { IfSome result (λ h. h ≡ record { script = script.now; object = option_map (λ o. o.now) object.entry; queue = option_map (λ q. q.now) queue.entry; group = option_map (λ g. g.now) group.entry; timers = option_map (λ t. t.now) timers.entry; spin_lock = option_map (λ x. x.now) spin_lock.entry }) }
     {
         if both_agree(object, queue) {
             Some(Held {
@@ -95,6 +98,7 @@ impl<'h, 's> Held<'h, 's> {
                 queue,
                 group,
                 timers,
+                spin_lock,
             })
         } else {
             None
@@ -126,6 +130,10 @@ impl<'h, 's> Held<'h, 's> {
                 None => false,
             },
             Lane::Timers => self.timers.is_some(),
+            Lane::Lock(k) => match self.spin_lock {
+                Some(spin) => spin.lock.0 == k.0,
+                None => false,
+            },
         }
     }
 
@@ -143,11 +151,16 @@ impl<'h, 's> Held<'h, 's> {
             Some(group) => Some(group.cpu),
             None => None,
         };
+        let spin_lock = match self.spin_lock {
+            Some(spin) => Some(spin.lock),
+            None => None,
+        };
         Needs {
             object,
             queue,
             group,
             timers: self.timers.is_some(),
+            spin_lock,
         }
     }
 
@@ -190,6 +203,20 @@ impl<'h, 's> Held<'h, 's> {
     {
         match self.timers {
             Some(timers) => timers.inner(),
+            None => unreachable!(),
+        }
+    }
+
+    /// The spin lock, which is held.
+    fn spin_lock(&self, k: LockNo) -> &SpinLock
+        requires lock { IsTrue (has_lock self.now.script k) }
+        requires held { IsHeld self.now (LockLane k) }
+        ensures state { result.now ≡ lock_at (held_lanes self.now) k }
+        ensures flags { length result.now.spinners ≡ self.now.script.cpus }
+    {
+        let _lock = k;
+        match self.spin_lock {
+            Some(spin) => spin.inner(),
             None => unreachable!(),
         }
     }
@@ -251,5 +278,13 @@ impl<'h, 's> LaneAnswers for Held<'h, 's> {
     fn first_due(&self) -> Option<(TimerKey, u64)> {
         self.there();
         self.timers().first_due()
+    }
+
+    fn is_free(&self, k: LockNo) -> bool {
+        self.spin_lock(k).is_free()
+    }
+
+    fn spinners(&self, k: LockNo) -> &[bool] {
+        self.spin_lock(k).spinners()
     }
 }

@@ -8,7 +8,7 @@ ghost use Rattle.nt_mark.specs.Closing.{AreNewKeepers};
 use crate::lane::Lane;
 use crate::making::{self, NewKeepers};
 use crate::record::Holds;
-use crate::states::{Clock, Group, Object, Queue};
+use crate::states::{Clock, Group, Object, Queue, Spin};
 use nt_event::{Event, Plan, Script};
 use nt_mark::{Keeper, Shared};
 use nt_outside::Gate;
@@ -30,17 +30,18 @@ pub struct Pieces {
     pub keepers: Vec<Keeper>,
 }
 
-/// How many lanes a script has, which fits: one for each DPC object, two for each processor, and one for the timers.
+/// How many lanes a script has, which fits: one for each DPC object, two for each processor, one for the timers, and one for each spin
+/// lock.
 pub fn lane_count(script: &Script) -> u32
     requires { IsTrue (fits script.now) }
     ensures count { result ≡ spec.lane_count script.now }
 {
     let cpus = u32::from(script.cpus);
-    script.dpcs.len() as u32 + (cpus + (cpus + 1))
+    script.dpcs.len() as u32 + (cpus + (cpus + (1 + u32::from(script.locks))))
 }
 
-/// The lanes of a script: one lock for each DPC object, each processor's DPC queue, each processor's threads, and the timers. Locks
-/// are taken in this order, by number within a kind.
+/// The lanes of a script: one lock for each DPC object, each processor's DPC queue, each processor's threads, the timers, and each spin
+/// lock. Locks are taken in this order, by number within a kind.
 #[derive(Drop)]
 pub struct Lanes<'s, N: Plan + Shared> {
     pub(crate) script: &'s Script,
@@ -48,6 +49,7 @@ pub struct Lanes<'s, N: Plan + Shared> {
     pub(crate) queues: Vec<Mutex<Lane<N, Queue>>>,
     pub(crate) groups: Vec<Mutex<Lane<N, Group<'s>>>>,
     pub(crate) timers: Mutex<Lane<N, Clock>>,
+    pub(crate) spin_locks: Vec<Mutex<Lane<N, Spin>>>,
     /// A keeper is no thing to share, so it stands behind a lock too, which nobody takes.
     room: Mutex<Room<N>>,
     ghost script_is: { script.now ≡ N.script },
@@ -55,6 +57,7 @@ pub struct Lanes<'s, N: Plan + Shared> {
     ghost all_objects: { vec_len objects ≡ length N.script.dpcs },
     ghost all_queues: { vec_len queues ≡ N.script.cpus },
     ghost all_groups: { vec_len groups ≡ N.script.cpus },
+    ghost all_spin_locks: { vec_len spin_locks ≡ N.script.locks },
 }
 
 /// The empty lists that [`Lanes::close`] fills, with room for each lane.
@@ -68,8 +71,8 @@ pub(crate) struct Room<N: Plan> {
 }
 
 impl<'s, N: Plan + Shared> Lanes<'s, N> {
-    /// The lanes of N's script, on which nothing happened, with the keepers of N's table, one for each lane, in order. Room for the
-    /// lists is taken as they grow.
+    /// The lanes of N's script, on which nothing happened, with the keepers of N's table, one for each lane, in order. Room for the lists
+    /// is taken as they grow.
     pub fn new(
         alloc: Global,
         script: &'s Script,
@@ -87,6 +90,7 @@ impl<'s, N: Plan + Shared> Lanes<'s, N> {
         let queues = making::queues::<N>(alloc, script, &mut keepers)?;
         let groups = making::groups::<N>(alloc, script, &mut keepers)?;
         let timers = making::timers::<N>(alloc, script, &mut keepers)?;
+        let spin_locks = making::spin_locks::<N>(alloc, script, &mut keepers)?;
         let room = Room {
             lists,
             keepers: Vec::with_capacity(alloc, lane_count(script) as usize)?,
@@ -98,6 +102,7 @@ impl<'s, N: Plan + Shared> Lanes<'s, N> {
             queues,
             groups,
             timers,
+            spin_locks,
             room: Mutex::new(room),
         })
     }
@@ -110,6 +115,7 @@ impl<'s, N: Plan + Shared> Lanes<'s, N> {
         let queues = self.objects.len();
         let groups = queues + self.queues.len();
         let timers = groups + self.groups.len();
+        let spin_locks = timers + 1;
         if place < queues {
             let _held = self.objects[place].lock(rt);
             gate.pass(0, 0);
@@ -119,8 +125,11 @@ impl<'s, N: Plan + Shared> Lanes<'s, N> {
         } else if place < timers {
             let _held = self.groups[place - groups].lock(rt);
             gate.pass(0, 0);
-        } else {
+        } else if place < spin_locks {
             let _held = self.timers.lock(rt);
+            gate.pass(0, 0);
+        } else {
+            let _held = self.spin_locks[place - spin_locks].lock(rt);
             gate.pass(0, 0);
         }
     }
@@ -135,6 +144,7 @@ impl<'s, N: Plan + Shared> Lanes<'s, N> {
             queues,
             groups,
             timers,
+            spin_locks,
             room,
         } = self;
         let Room {
@@ -147,6 +157,7 @@ impl<'s, N: Plan + Shared> Lanes<'s, N> {
         pieces.add_all::<N, Queue>(queues);
         pieces.add_all::<N, Group<'s>>(groups);
         pieces.add_lane::<N, Clock>(timers);
+        pieces.add_all::<N, Spin>(spin_locks);
         pieces
     }
 }

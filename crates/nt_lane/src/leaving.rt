@@ -1,11 +1,12 @@
 //! What an event leaves of the state of a held lane.
-ghost use Rattle.std.specs.Prelude.{◌≡◌, ◌+◌, ◌-◌, ◌≤◌, ◌^◌, IfSome, IsTrue, List, None, Some, option_map, ℕ};
+ghost use Rattle.std.specs.Prelude.{◌≡◌, ◌+◌, ◌-◌, ◌<◌, ◌≤◌, ◌^◌, IfSome, IsTrue, List, None, Some, length, option_map, ℕ};
 ghost use Rattle.nt_dpc.specs.Laws.{IsObject};
 ghost use Rattle.nt_dpc.specs.Objects.{entry_of, queued_at, unqueued};
 ghost use Rattle.nt_dpc.specs.Queues.{StandsHereOrNowhere, first_entry, with_entry, without_entry};
 ghost use Rattle.nt_dpc_lanes.specs.Changes.{change_of as change_in};
 ghost use Rattle.nt_event.specs.declared.numbers.CpuNo.{CpuNo as Cpu};
 ghost use Rattle.nt_event.specs.declared.scripts.Script.{Script as Declared};
+ghost use Rattle.nt_event.specs.Locks.{lock_move, lock_moved};
 ghost use Rattle.nt_event.specs.Objects.{ObjectState, object_after};
 ghost use Rattle.nt_event.specs.Queues.{queue_after};
 ghost use Rattle.nt_event.specs.Script.{fits};
@@ -17,11 +18,11 @@ ghost use Rattle.nt_states.specs.ThreadFits.{RunsHere, WhatFits, named_thread as
 ghost use Rattle.nt_states.specs.ThreadLanes.{left};
 ghost use Rattle.nt_timer.specs.Laws.{IsSized};
 
-use crate::states::{Clock, Group, Object, Queue};
+use crate::states::{Clock, Group, Object, Queue, Spin};
 use nt_dpc_lanes::{Change, change_of};
 use nt_event::{CpuNo, Event, Part, Script, What};
 use nt_frame::StandView;
-use nt_states::leave_timers;
+use nt_states::{leave_timers, moved_lock};
 use nt_thread_lanes::named_thread;
 
 /// Inserts the object into the queue, by this processor in the event of this number.
@@ -168,5 +169,19 @@ impl Clock {
     {
         let _script = script;
         leave_timers(&mut self.state, n, stand, event);
+    }
+}
+
+impl Spin {
+    /// Takes in an event of this processor: what it does to the lock, if it moves this one.
+    pub(crate) fn leave(&mut self, p: CpuNo, what: &What)
+        requires { p.0 < length self.old.state.spinners }
+        ensures { (s : Declared) → s.cpus ≡ length self.old.state.spinners → self.new ≡ record self.old { state = lock_moved s self.old.lock p (lock_move what.now) self.old.state } }
+    {
+        if let Some((k, by)) = moved_lock(what) {
+            if k.0 == self.lock.0 {
+                self.state.leave(k, p, by);
+            }
+        }
     }
 }

@@ -16,8 +16,8 @@ use crate::lanes::Lanes;
 use crate::needs::Needs;
 use crate::planning::{Planned, plan_job};
 use crate::record::Holds;
-use crate::states::{Clock, Group, Object, Queue};
-use nt_event::{CpuNo, DpcNo, Job, Lane as LaneName, Plan, Script};
+use crate::states::{Clock, Group, Object, Queue, Spin};
+use nt_event::{CpuNo, DpcNo, Job, Lane as LaneName, LockNo, Plan, Script};
 use nt_frame::StandView;
 use nt_mark::{Marks, Pass, Shared};
 use std::alloc::AllocError;
@@ -31,6 +31,7 @@ pub(crate) struct Locked<'l, 's, N: Plan + Shared> {
     pub(crate) queue: Option<MutexGuard<'l, Lane<N, Queue>>>,
     pub(crate) group: Option<MutexGuard<'l, Lane<N, Group<'s>>>>,
     pub(crate) timers: Option<MutexGuard<'l, Lane<N, Clock>>>,
+    pub(crate) spin_lock: Option<MutexGuard<'l, Lane<N, Spin>>>,
 }
 
 impl<'l, 's, N: Plan + Shared> Model for Locked<'l, 's, N> {
@@ -39,7 +40,7 @@ impl<'l, 's, N: Plan + Shared> Model for Locked<'l, 's, N> {
 
     ghost Value = { HeldLanes };
 
-    ghost view = { λ a. record { object = in_each a.object (λ g. kept (mutex_guard_value g).state (mutex_guard_value g).log); queue = in_each a.queue (λ g. kept (mutex_guard_value g).state (mutex_guard_value g).log); group = in_each a.group (λ g. kept (mutex_guard_value g).state (mutex_guard_value g).log); timers = in_each a.timers (λ g. kept (mutex_guard_value g).state (mutex_guard_value g).log) } };
+    ghost view = { λ a. record { object = in_each a.object (λ g. kept (mutex_guard_value g).state (mutex_guard_value g).log); queue = in_each a.queue (λ g. kept (mutex_guard_value g).state (mutex_guard_value g).log); group = in_each a.group (λ g. kept (mutex_guard_value g).state (mutex_guard_value g).log); timers = in_each a.timers (λ g. kept (mutex_guard_value g).state (mutex_guard_value g).log); spin_lock = in_each a.spin_lock (λ g. kept (mutex_guard_value g).state (mutex_guard_value g).log) } };
 }
 
 /// The lock of one of these lanes, where it is asked for and there. It may wait.
@@ -73,7 +74,15 @@ fn cpu_place(cpu: Option<CpuNo>) -> Option<usize> {
     }
 }
 
-/// The locks of these lanes, taken in their order: object, queue, threads, timers. It may wait.
+/// The place of a spin lock.
+fn spin_place(lock: Option<LockNo>) -> Option<usize> {
+    match lock {
+        Some(k) => Some(k.0 as usize),
+        None => None,
+    }
+}
+
+/// The locks of these lanes, taken in their order: object, queue, threads, timers, spin lock. It may wait.
 pub(crate) fn lock<'l, 's, N: Plan + Shared, R: Wait>(
     rt: &R,
     lanes: &'l Lanes<'s, N>,
@@ -87,11 +96,17 @@ pub(crate) fn lock<'l, 's, N: Plan + Shared, R: Wait>(
     } else {
         None
     };
+    let spin_lock = lock_one::<N, Spin, R>(
+        rt,
+        lanes.spin_locks.as_slice(),
+        spin_place(needs.spin_lock),
+    );
     Locked {
         object,
         queue,
         group,
         timers,
+        spin_lock,
     }
 }
 
@@ -192,6 +207,7 @@ impl<'l, 's, N: Plan + Shared> Locked<'l, 's, N> {
         there_one::<N, Queue>(&self.queue);
         there_one::<N, Group<'s>>(&self.group);
         there_one::<N, Clock>(&self.timers);
+        there_one::<N, Spin>(&self.spin_lock);
     }
 
     /// Room for one event more on each of them.
@@ -202,6 +218,7 @@ impl<'l, 's, N: Plan + Shared> Locked<'l, 's, N> {
         reserve_one::<N, Queue>(&mut self.queue)?;
         reserve_one::<N, Group<'s>>(&mut self.group)?;
         reserve_one::<N, Clock>(&mut self.timers)?;
+        reserve_one::<N, Spin>(&mut self.spin_lock)?;
         Ok(())
     }
 
@@ -217,6 +234,7 @@ impl<'l, 's, N: Plan + Shared> Locked<'l, 's, N> {
         meet_one::<N, Queue>(&mut self.queue, marks, pass);
         meet_one::<N, Group<'s>>(&mut self.group, marks, pass);
         meet_one::<N, Clock>(&mut self.timers, marks, pass);
+        meet_one::<N, Spin>(&mut self.spin_lock, marks, pass);
     }
 
     /// Each of them and the pass tell each other what they know; whether each has room for one event more.
@@ -246,6 +264,7 @@ impl<'l, 's, N: Plan + Shared> Locked<'l, 's, N> {
         compare_one::<N, Queue>(&mut self.queue, marks, pass);
         compare_one::<N, Group<'s>>(&mut self.group, marks, pass);
         compare_one::<N, Clock>(&mut self.timers, marks, pass);
+        compare_one::<N, Spin>(&mut self.spin_lock, marks, pass);
     }
 
     /// The greater ones of these values and those that one of the lanes, which is held, tells for a processor.
@@ -259,6 +278,7 @@ impl<'l, 's, N: Plan + Shared> Locked<'l, 's, N> {
             LaneName::Queue(_) => raise_one::<N, Queue>(&self.queue, p, values),
             LaneName::Threads(_) => raise_one::<N, Group<'s>>(&self.group, p, values),
             LaneName::Timers => raise_one::<N, Clock>(&self.timers, p, values),
+            LaneName::Lock(_) => raise_one::<N, Spin>(&self.spin_lock, p, values),
         }
     }
 
@@ -295,6 +315,7 @@ impl<'l, 's, N: Plan + Shared> Locked<'l, 's, N> {
             state_of::<N, Queue>(&self.queue),
             state_of::<N, Group<'s>>(&self.group),
             state_of::<N, Clock>(&self.timers),
+            state_of::<N, Spin>(&self.spin_lock),
             job,
             stand,
         )

@@ -2,13 +2,13 @@
 ghost use Rattle.std.specs.Prelude.{◌≡◌, ◌+◌, ◌<◌, ◌^◌, [], IfOk, IsTrue, length, vec_len};
 ghost use Rattle.nt_event.specs.LaneStates.{content};
 ghost use Rattle.nt_event.specs.Lanes.{lane_count, lane_number, lanes_at};
-ghost use Rattle.nt_event.specs.Script.{fits, has_cpu, has_dpc};
+ghost use Rattle.nt_event.specs.Script.{fits, has_cpu, has_dpc, has_lock};
 ghost use Rattle.nt_mark.specs.Closing.{AreNewKeepers, IsNewKeeper};
 
 use crate::lane::Lane;
 use crate::record::{Holds, Record};
-use crate::states::{Clock, Group, Object, Queue};
-use nt_event::{CpuNo, DpcNo, Lane as LaneName, Plan, Script};
+use crate::states::{Clock, Group, Object, Queue, Spin};
+use nt_event::{CpuNo, DpcNo, Lane as LaneName, LockNo, Plan, Script};
 use nt_mark::{Keeper, Shared};
 use std::alloc::{AllocError, Global};
 use std::marker::{Model, PhantomData};
@@ -145,6 +145,22 @@ fn timer_lane<N: Plan + Shared>(
     opening::<N, Clock>(alloc, script, clock, number, keeper)
 }
 
+fn spin_lane<N: Plan + Shared>(
+    alloc: Global,
+    script: &Script,
+    k: LockNo,
+    number: u32,
+    keeper: Keeper,
+) -> Result<Lane<N, Spin>, AllocError>
+    requires script { script.now ≡ N.script }
+    requires lock { IsTrue (has_lock N.script k) }
+    requires number { number ≡ lane_number N.script (LaneName.Lock k) }
+    requires keeper { IsNewKeeper N.table number keeper }
+{
+    let spin = Spin::new(alloc, script, k)?;
+    opening::<N, Spin>(alloc, script, spin, number, keeper)
+}
+
 /// The lanes of the objects, with the first ones of the keepers.
 pub(crate) fn objects<N: Plan + Shared>(
     alloc: Global,
@@ -215,7 +231,7 @@ pub(crate) fn groups<'s, N: Plan + Shared>(
     Ok(lanes)
 }
 
-/// The lane of the timers, with the last keeper.
+/// The lane of the timers, with the next one of the keepers.
 pub(crate) fn timers<N: Plan + Shared>(
     alloc: Global,
     script: &Script,
@@ -225,8 +241,31 @@ pub(crate) fn timers<N: Plan + Shared>(
     requires fits { IsTrue (fits N.script) }
     requires next { keepers.old.next ≡ length N.script.dpcs + (N.script.cpus + N.script.cpus) }
     requires enough { keepers.old.next + keepers.old.count ≡ lane_count N.script }
+    ensures next { keepers.new.next ≡ length N.script.dpcs + (N.script.cpus + (N.script.cpus + 1)) }
+    ensures count { keepers.new.next + keepers.new.count ≡ lane_count N.script }
 {
     let (number, keeper) = keepers.take();
     let lane = timer_lane::<N>(alloc, script, number, keeper)?;
     Ok(Mutex::new(lane))
+}
+
+/// The lanes of the spin locks, with the last ones of the keepers.
+pub(crate) fn spin_locks<N: Plan + Shared>(
+    alloc: Global,
+    script: &Script,
+    keepers: &mut NewKeepers<N>,
+) -> Result<Vec<Mutex<Lane<N, Spin>>>, AllocError>
+    requires script { script.now ≡ N.script }
+    requires fits { IsTrue (fits N.script) }
+    requires next { keepers.old.next ≡ length N.script.dpcs + (N.script.cpus + (N.script.cpus + 1)) }
+    requires enough { keepers.old.next + keepers.old.count ≡ lane_count N.script }
+    ensures lanes { IfOk result (λ v. vec_len v ≡ N.script.locks) }
+{
+    let mut lanes = Vec::with_capacity(alloc, usize::from(script.locks))?;
+    for i in 0..script.locks {
+        let (number, keeper) = keepers.take();
+        let lane = spin_lane::<N>(alloc, script, LockNo(i), number, keeper)?;
+        lanes.push(Mutex::new(lane))?;
+    }
+    Ok(lanes)
 }

@@ -4,7 +4,7 @@ ghost use Rattle.nt_lane.specs.Needed.{IsNeeded, with_lane, with_lanes};
 ghost use Rattle.nt_states.specs.Reads.{AreHeld, job_lanes, reply_lanes};
 
 use crate::reading::has_due;
-use nt_event::{Command, CpuNo, DpcNo, Job, Lane, Script};
+use nt_event::{Command, CpuNo, DpcNo, Job, Lane, LockNo, Script};
 use nt_frame::StandView;
 
 /// The lanes whose locks an act takes, in the order of the locks: at most one of each kind.
@@ -14,6 +14,7 @@ pub(crate) struct Needs {
     pub(crate) queue: Option<CpuNo>,
     pub(crate) group: Option<CpuNo>,
     pub(crate) timers: bool,
+    pub(crate) spin_lock: Option<LockNo>,
 }
 
 impl Needs {
@@ -28,6 +29,7 @@ impl Needs {
             queue: None,
             group: None,
             timers: false,
+            spin_lock: None,
         }
     }
 
@@ -41,6 +43,7 @@ impl Needs {
             Lane::Queue(p) => needs.queue = Some(p),
             Lane::Threads(p) => needs.group = Some(p),
             Lane::Timers => needs.timers = true,
+            Lane::Lock(k) => needs.spin_lock = Some(k),
         }
         needs
     }
@@ -77,6 +80,7 @@ fn needs_of_command(script: &Script, cpu: CpuNo, command: &Command) -> Needs
         Command::Release(t) | Command::Alert(t, _) => one(Lane::Threads(script.cpu_of(*t))),
         Command::StartWait(_, _) | Command::TestAlert(_) => one(Lane::Threads(cpu)),
         Command::Delay(_, _, _) => Needs::none().with(Lane::Threads(cpu)).with(Lane::Timers),
+        Command::Acquire(k) => one(Lane::Lock(*k)),
         Command::Raise(_)
         | Command::Lower(_)
         | Command::SetImportance(_, _)
@@ -89,6 +93,7 @@ fn needs_of_command(script: &Script, cpu: CpuNo, command: &Command) -> Needs
         | Command::Clock(_)
         | Command::ToUser
         | Command::Yield
+        | Command::Unlock(_)
         | Command::Note(_) => Needs::none(),
     }
 }
@@ -119,6 +124,6 @@ pub(crate) fn needs_of_job(script: &Script, job: &Job, stand: &StandView) -> Nee
             }
         }
         Job::Apcs | Job::Switch(_) | Job::ToUser | Job::Rundown => one(threads),
-        Job::UserEnd | Job::Leave => Needs::none(),
+        Job::Free(_) | Job::UserEnd | Job::Leave => Needs::none(),
     }
 }

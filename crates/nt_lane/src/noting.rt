@@ -1,13 +1,13 @@
 //! An event on the lanes that it touches: each takes it in, and notes it.
 ghost use Rattle.std.specs.Prelude.{◌≡◌, ◌<◌, ◌≤◌, IsTrue, List};
 ghost use Rattle.nt_dpc.specs.Laws.{IsObject};
-ghost use Rattle.nt_event.specs.LaneStates.{OfObject, OfQueue, OfTimers};
+ghost use Rattle.nt_event.specs.LaneStates.{OfLock, OfObject, OfQueue, OfTimers};
 ghost use Rattle.nt_event.specs.Objects.{ObjectState};
 ghost use Rattle.nt_event.specs.Script.{fits};
 ghost use Rattle.nt_event.specs.Timers.{timers_after};
 ghost use Rattle.nt_lane.specs.Held.{group_content};
 ghost use Rattle.nt_lane.specs.Records.{IsNoted, told_then};
-ghost use Rattle.nt_lane.specs.Steps.{IsReady, IsStep, KnowsLeft, MayLeaveBoth, MayLeaveGroup, MayLeaveObject, MayLeaveQueue, MayLeaveTimers, note_left, object_left, queue_left};
+ghost use Rattle.nt_lane.specs.Steps.{IsReady, IsStep, KnowsLeft, MayLeaveBoth, MayLeaveGroup, MayLeaveObject, MayLeaveQueue, MayLeaveSpin, MayLeaveTimers, note_left, object_left, queue_left, spin_left};
 ghost use Rattle.nt_lane.specs.Views.{Learns};
 ghost use Rattle.nt_mark.specs.Names.{pass_table, pass_view, table_of};
 ghost use Rattle.nt_states.specs.ThreadLanes.{left};
@@ -17,7 +17,7 @@ use crate::leaving::leave_both;
 use crate::numbers::Numbers;
 use crate::planning::Plan;
 use crate::record::{Holds, Record};
-use crate::states::{Clock, Group, Object, Queue};
+use crate::states::{Clock, Group, Object, Queue, Spin};
 use nt_event::Script;
 use nt_frame::StandView;
 use nt_mark::{Marks, Pass, Shared};
@@ -97,6 +97,25 @@ pub(crate) fn note_timers<N: nt_event::Plan + Shared>(
     lane.state
         .leave(step.script, step.number, step.stand, &step.plan.event);
     note_step::<N, Clock>(&mut lane.log, marks, pass, step, &lane.state);
+}
+
+/// A spin lock takes in the event, and notes it.
+pub(crate) fn note_spin<N: nt_event::Plan + Shared>(
+    lane: &mut Lane<N, Spin>,
+    marks: &Marks,
+    pass: &mut Pass,
+    step: &Step,
+)
+    requires table { (table_of marks.now ≡ N.table) × (pass_table pass.old ≡ N.table) }
+    requires step { IsStep N.script (pass_view pass.old) step.now.number step.now.plan.now.event step.now.numbers.now step.now.plan.now.asks }
+    requires ready { IsReady step.now.number step.now.numbers.now lane.old.log }
+    requires may { MayLeaveSpin N.script step.now.stand.now step.now.plan.now.event }
+    ensures table { pass_table pass.new ≡ N.table }
+    ensures learns { Learns (pass_view pass.old) (pass_view pass.new) }
+    ensures noted { KnowsLeft N.script step.now.number step.now.plan.now.asks (OfLock (spin_left N.script step.now.plan.now.event lane.old.state).state) lane.old.log (pass_view pass.new) }
+{
+    lane.state.leave(step.stand.cpu(), &step.plan.event.what);
+    note_step::<N, Spin>(&mut lane.log, marks, pass, step, &lane.state);
 }
 
 /// A DPC object takes in the event, which touches no queue, and notes it.

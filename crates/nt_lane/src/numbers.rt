@@ -83,11 +83,12 @@ fn numbers_of(script: &Script, lanes: &[Lane]) -> Numbers
         0 => Numbers::none(),
         1 => Numbers::one(lane_number(script, lanes[0])),
         2 => Numbers::two(lane_number(script, lanes[0]), lane_number(script, lanes[1])),
-        _ => Numbers::three(
+        3 => Numbers::three(
             lane_number(script, lanes[0]),
             lane_number(script, lanes[1]),
             lane_number(script, lanes[2]),
         ),
+        _ => unreachable!(),
     }
 }
 
@@ -104,6 +105,7 @@ pub(crate) fn lane_number(script: &Script, lane: Lane) -> u32
         Lane::Queue(p) => objects + u32::from(p.0),
         Lane::Threads(p) => objects + (cpus + u32::from(p.0)),
         Lane::Timers => objects + (cpus + cpus),
+        Lane::Lock(k) => objects + (cpus + (cpus + (1 + u32::from(k.0)))),
     }
 }
 

@@ -10,7 +10,7 @@ ghost use Rattle.nt_event.specs.declared.jobs.Lane.TheVariants.{Timers as Timers
 ghost use Rattle.nt_acts.specs.Acts.{KindsFit, StandFits, job_fits};
 ghost use Rattle.nt_lane.specs.Answers.{IsHeld, held_lanes, threads_told};
 ghost use Rattle.nt_lane.specs.Decided.{IsEvent};
-ghost use Rattle.nt_lane.specs.Held.{IsGroupThere, IsObjectThere, IsQueueThere};
+ghost use Rattle.nt_lane.specs.Held.{IsGroupThere, IsObjectThere, IsQueueThere, IsSpinThere};
 ghost use Rattle.nt_lane.specs.Leaving.{Leaves, MakerRuns};
 ghost use Rattle.nt_lane.specs.Plans.{IsPlanned};
 ghost use Rattle.nt_states.specs.Given.{IsGiven, RunsOwn};
@@ -23,7 +23,7 @@ use crate::deciding::{Decided, decide};
 use crate::held::Held;
 use crate::needs::{Needs, needs_of_job};
 use crate::reading::{holds_all, reads_event};
-use crate::states::{Clock, Group, Object, Queue};
+use crate::states::{Clock, Group, Object, Queue, Spin};
 use nt_event::{Command, Event, Job, Lane, Script, What};
 use nt_floor::ActRefusal;
 use nt_frame::StandView;
@@ -107,6 +107,7 @@ fn leaves(script: &Script, group: Option<&Group>, stand: &StandView, job: &Job) 
         },
         Job::Call(_)
         | Job::Fire(_)
+        | Job::Free(_)
         | Job::Drain
         | Job::Apcs
         | Job::Threaded
@@ -141,6 +142,7 @@ fn reads_due(held: &Held, what: &What) -> bool
         | What::Rewait { .. }
         | What::Flush { .. }
         | What::Gone { .. }
+        | What::Free { .. }
         | What::Rest => true,
     }
 }
@@ -211,6 +213,7 @@ pub(crate) fn plan_job(
     queue: Option<&Queue>,
     group: Option<&Group>,
     timers: Option<&Clock>,
+    spin_lock: Option<&Spin>,
     job: &Job,
     stand: &StandView,
 ) -> Planned
@@ -219,12 +222,13 @@ pub(crate) fn plan_job(
     requires queue { IfSome queue (λ q. IsQueueThere script.now q.now) }
     requires group { IfSome group (λ g. IsGroupThere script.now g.now) }
     requires timers { IfSome timers (λ t. IsSized script.now t.now) }
+    requires spin_lock { IfSome spin_lock (λ x. IsSpinThere script.now x.now) }
     requires job { IsTrue (job_fits script.now job.now) }
     requires stand { StandFits script.now stand.now }
-    ensures { IsPlanned (record { script = script.now; object = option_map (λ o. o.now) object.entry; queue = option_map (λ q. q.now) queue.entry; group = option_map (λ g. g.now) group.entry; timers = option_map (λ t. t.now) timers.entry }) stand.now job.now result }
+    ensures { IsPlanned (record { script = script.now; object = option_map (λ o. o.now) object.entry; queue = option_map (λ q. q.now) queue.entry; group = option_map (λ g. g.now) group.entry; timers = option_map (λ t. t.now) timers.entry; spin_lock = option_map (λ x. x.now) spin_lock.entry }) stand.now job.now result }
 {
     kinds(script, group);
-    match Held::new(script, object, queue, group, timers) {
+    match Held::new(script, object, queue, group, timers, spin_lock) {
         Some(held) => match decide(&held, job, stand) {
             Decided::Event(what) => plan_event(script, &held, group, job, stand, &what),
             Decided::Refused(refusal) => Planned::Refused(refusal),

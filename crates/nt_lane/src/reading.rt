@@ -26,6 +26,7 @@ fn reads_reply(held: &Held, cpu: CpuNo, command: &Command) -> bool
         }
         Command::StartWait(_, _) | Command::TestAlert(_) => held.holds(Lane::Threads(cpu)),
         Command::Delay(_, _, _) => held.holds(Lane::Threads(cpu)) && held.holds(Lane::Timers),
+        Command::Acquire(k) => held.holds(Lane::Lock(*k)),
         Command::Raise(_)
         | Command::Lower(_)
         | Command::SetImportance(_, _)
@@ -38,6 +39,7 @@ fn reads_reply(held: &Held, cpu: CpuNo, command: &Command) -> bool
         | Command::Clock(_)
         | Command::ToUser
         | Command::Yield
+        | Command::Unlock(_)
         | Command::Note(_) => true,
     }
 }
@@ -66,7 +68,7 @@ pub(crate) fn reads_job(held: &Held, stand: &StandView, job: &Job) -> bool
         Job::Idle | Job::Pick(_) => held.holds(queue) && held.holds(threads),
         Job::Rewait => held.holds(threads) && (!has_due(stand) || held.holds(Lane::Timers)),
         Job::Apcs | Job::Switch(_) | Job::ToUser | Job::Rundown => held.holds(threads),
-        Job::UserEnd | Job::Leave => true,
+        Job::Free(_) | Job::UserEnd | Job::Leave => true,
     }
 }
 
@@ -97,6 +99,8 @@ fn reads_target(held: &Held, command: &Command) -> bool
         | Command::Clock(_)
         | Command::ToUser
         | Command::Yield
+        | Command::Acquire(_)
+        | Command::Unlock(_)
         | Command::Note(_) => true,
     }
 }
@@ -118,6 +122,7 @@ pub(crate) fn reads_event(held: &Held, what: &What) -> bool
         | What::Rewait { .. }
         | What::Flush { .. }
         | What::Gone { .. }
+        | What::Free { .. }
         | What::Rest => true,
     }
 }

@@ -51,6 +51,8 @@ fn is_callable(stand: &StandView, command: &Command) -> bool
         | Command::Interrupt(_, _)
         | Command::Clock(_)
         | Command::ToUser
+        | Command::Acquire(_)
+        | Command::Unlock(_)
         | Command::Note(_) => true,
     }
 }
@@ -64,9 +66,13 @@ fn stands_for(stand: &StandView, job: &Job) -> bool
         Job::Apcs | Job::ToUser => in_thread(stand, 0),
         Job::Rewait => in_thread(stand, 1) && stand.again().is_some(),
         Job::UserEnd | Job::Leave | Job::Rundown => stand.thread().is_some(),
-        Job::Fire(_) | Job::Drain | Job::Threaded | Job::Idle | Job::Pick(_) | Job::Switch(_) => {
-            true
-        }
+        Job::Fire(_)
+        | Job::Free(_)
+        | Job::Drain
+        | Job::Threaded
+        | Job::Idle
+        | Job::Pick(_)
+        | Job::Switch(_) => true,
     }
 }
 

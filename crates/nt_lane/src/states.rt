@@ -1,5 +1,6 @@
 //! What stands in a lane, of each kind.
 ghost use Rattle.std.specs.Prelude.{◌≡◌, ◌&&◌, IfOk, IsTrue, length, slice_get};
+ghost use Rattle.nt_event.specs.Locks.{free_lock};
 ghost use Rattle.nt_event.specs.Routines.{depth_limit, is_declared_threaded, part_of, threaded_on};
 ghost use Rattle.nt_event.specs.Script.{fits, has_cpu, has_dpc};
 ghost use Rattle.nt_dpc.specs.Objects.{new_object};
@@ -9,7 +10,8 @@ ghost use Rattle.nt_timer.specs.Settings.{new_timers};
 
 use crate::record::Holds;
 use nt_dpc::{DpcObject, DpcQueue};
-use nt_event::{CpuNo, DpcNo, Script};
+use nt_event::{CpuNo, DpcNo, LockNo, Script};
+use nt_states::SpinLock;
 use nt_thread_lanes::Threads;
 use nt_timer::TimerQueue;
 use std::alloc::{AllocError, Global};
@@ -148,6 +150,38 @@ impl Holds for Clock {
     ghost fits_prop = { λ s x. Prim.hlevel props };
 }
 
+/// A spin lock of a script.
+#[derive(Drop)]
+pub(crate) struct Spin {
+    pub(crate) lock: LockNo,
+    pub(crate) state: SpinLock,
+}
+
+impl Model for Spin {
+    ghost use Rattle.nt_lane.specs.Held.{SpinFacts};
+
+    ghost Value = { SpinFacts };
+
+    ghost view = { λ a. record { lock = a.lock; state = a.state } };
+}
+
+impl Holds for Spin {
+    ghost use Rattle.nt_event.specs.declared.jobs.Lane.TheVariants.{Lock as LockLane};
+    ghost use Rattle.nt_event.specs.LaneStates.{OfLock};
+    ghost use Rattle.std.proofs.Props.{props};
+    ghost use Rattle.nt_lane.specs.Held.{IsSpinThere};
+
+    ghost name = { λ x. LockLane x.lock };
+
+    ghost content = { λ x. OfLock x.state };
+
+    ghost time = { λ x. 0 };
+
+    ghost fits = { IsSpinThere };
+
+    ghost fits_prop = { λ s x. Prim.hlevel props };
+}
+
 /// Whether the object stands in the threaded part: it is declared threaded, and threaded DPCs are on.
 fn is_threaded(script: &Script, d: DpcNo) -> bool
     ensures { result ≡ (threaded_on script.now && is_declared_threaded (slice_get script.now.dpcs d.0)) }
@@ -238,5 +272,22 @@ impl Clock {
         let timers = script.timers.len() as u32;
         let state = TimerQueue::new(alloc, timers, script.thread_count())?;
         Ok(Clock { state })
+    }
+}
+
+impl Spin {
+    /// The state itself.
+    pub(crate) fn inner(&self) -> &SpinLock
+        ensures { result.now ≡ self.now.state }
+    {
+        &self.state
+    }
+
+    /// The lock before any event.
+    pub(crate) fn new(alloc: Global, script: &Script, lock: LockNo) -> Result<Spin, AllocError>
+        ensures { IfOk result (λ x. x ≡ record { lock = lock; state = free_lock script.now }) }
+    {
+        let state = SpinLock::new(alloc, script)?;
+        Ok(Spin { lock, state })
     }
 }

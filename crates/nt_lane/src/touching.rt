@@ -6,14 +6,14 @@ ghost use Rattle.nt_event.specs.Objects.{ObjectState};
 ghost use Rattle.nt_event.specs.Script.{fits};
 ghost use Rattle.nt_acts.specs.Acts.{is_among};
 ghost use Rattle.nt_lane.specs.Locks.{in_each, kept};
-ghost use Rattle.nt_lane.specs.Steps.{AreLeftBy, AreReadyFor, DpcsLeft, DpcsReady, IsReady, IsStep, LeavesGroup, LeavesObject, LeavesQueue, LeavesTimers, MayLeaveGroup, MayLeaveObject, MayLeaveQueue, MayLeaveTimers, is_touched, object_name, queue_name};
+ghost use Rattle.nt_lane.specs.Steps.{AreLeftBy, AreReadyFor, DpcsLeft, DpcsReady, IsReady, IsStep, LeavesGroup, LeavesObject, LeavesQueue, LeavesSpin, LeavesTimers, MayLeaveGroup, MayLeaveObject, MayLeaveQueue, MayLeaveSpin, MayLeaveTimers, is_touched, object_name, queue_name};
 ghost use Rattle.nt_lane.specs.Views.{Learns};
 ghost use Rattle.nt_mark.specs.Names.{pass_table, pass_view, table_of};
 
 use crate::lane::Lane;
 use crate::locks::Locked;
-use crate::noting::{Step, note_both, note_group, note_object, note_queue, note_timers};
-use crate::states::{Clock, Group, Object, Queue};
+use crate::noting::{Step, note_both, note_group, note_object, note_queue, note_spin, note_timers};
+use crate::states::{Clock, Group, Object, Queue, Spin};
 use nt_event::{Lane as LaneName, Plan};
 use nt_mark::{Marks, Pass, Shared};
 use std::sync::MutexGuard;
@@ -25,19 +25,33 @@ fn same(a: LaneName, b: LaneName) -> bool
     match a {
         LaneName::Object(d) => match b {
             LaneName::Object(e) => e.0 == d.0,
-            LaneName::Queue(_) | LaneName::Threads(_) | LaneName::Timers => false,
+            LaneName::Queue(_) | LaneName::Threads(_) | LaneName::Timers | LaneName::Lock(_) => {
+                false
+            }
         },
         LaneName::Queue(p) => match b {
             LaneName::Queue(q) => q.0 == p.0,
-            LaneName::Object(_) | LaneName::Threads(_) | LaneName::Timers => false,
+            LaneName::Object(_) | LaneName::Threads(_) | LaneName::Timers | LaneName::Lock(_) => {
+                false
+            }
         },
         LaneName::Threads(p) => match b {
             LaneName::Threads(q) => q.0 == p.0,
-            LaneName::Object(_) | LaneName::Queue(_) | LaneName::Timers => false,
+            LaneName::Object(_) | LaneName::Queue(_) | LaneName::Timers | LaneName::Lock(_) => {
+                false
+            }
         },
         LaneName::Timers => match b {
             LaneName::Timers => true,
-            LaneName::Object(_) | LaneName::Queue(_) | LaneName::Threads(_) => false,
+            LaneName::Object(_) | LaneName::Queue(_) | LaneName::Threads(_) | LaneName::Lock(_) => {
+                false
+            }
+        },
+        LaneName::Lock(k) => match b {
+            LaneName::Lock(j) => j.0 == k.0,
+            LaneName::Object(_) | LaneName::Queue(_) | LaneName::Threads(_) | LaneName::Timers => {
+                false
+            }
         },
     }
 }
@@ -94,6 +108,28 @@ fn touch_timers<N: Plan + Shared>(
         let lane = &mut **lane;
         if touches(LaneName::Timers, step.plan.lanes.as_slice()) {
             note_timers::<N>(lane, marks, pass, step);
+        }
+    }
+}
+
+/// The spin lock, if it is held and touched, takes in the event and notes it.
+fn touch_spin<N: Plan + Shared>(
+    lane: &mut Option<MutexGuard<Lane<N, Spin>>>,
+    marks: &Marks,
+    pass: &mut Pass,
+    step: &Step,
+)
+    requires table { (table_of marks.now ≡ N.table) × (pass_table pass.old ≡ N.table) }
+    requires step { IsStep N.script (pass_view pass.old) step.now.number step.now.plan.now.event step.now.numbers.now step.now.plan.now.asks }
+    requires ready { IfSome (in_each lane.old (λ g. kept (mutex_guard_value g).state (mutex_guard_value g).log)) (λ k. IsTrue (is_among (LaneName.Lock k.state.lock) step.now.plan.now.lanes) → IsReady step.now.number step.now.numbers.now k.log × MayLeaveSpin N.script step.now.stand.now step.now.plan.now.event) }
+    ensures table { pass_table pass.new ≡ N.table }
+    ensures learns { Learns (pass_view pass.old) (pass_view pass.new) }
+    ensures noted { IfSome (in_each lane.old (λ g. kept (mutex_guard_value g).state (mutex_guard_value g).log)) (λ k. IsTrue (is_among (LaneName.Lock k.state.lock) step.now.plan.now.lanes) → LeavesSpin N.script step.now.number step.now.plan.now.event step.now.plan.now.asks k (pass_view pass.new)) }
+{
+    if let Some(lane) = lane {
+        let lane = &mut **lane;
+        if touches(LaneName::Lock(lane.state.lock), step.plan.lanes.as_slice()) {
+            note_spin::<N>(lane, marks, pass, step);
         }
     }
 }
@@ -230,5 +266,6 @@ impl<'l, 's, N: Plan + Shared> Locked<'l, 's, N> {
         touch_dpcs::<N>(&mut self.object, &mut self.queue, marks, pass, step);
         touch_group::<N>(&mut self.group, marks, pass, step);
         touch_timers::<N>(&mut self.timers, marks, pass, step);
+        touch_spin::<N>(&mut self.spin_lock, marks, pass, step);
     }
 }

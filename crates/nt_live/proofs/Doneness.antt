@@ -9,7 +9,7 @@ use Rattle.nt_event.specs.declared.events.Turn.TheVariants.{Look as LookTurn, Ne
 use Rattle.nt_event.specs.declared.numbers.CpuNo.{CpuNo}
 use Rattle.nt_event.specs.declared.scripts.Script.{Script}
 use Rattle.nt_event.specs.Classes.{is_used_class}
-use Rattle.nt_event.specs.Jobs.{rests}
+use Rattle.nt_event.specs.Jobs.{is_still}
 use Rattle.nt_event.specs.Lists.{table_from, value_at}
 use Rattle.nt_event.specs.Numbers.{cpu}
 use Rattle.nt_event.specs.Own.{Own, own_of, stand_in}
@@ -173,7 +173,7 @@ module _ (s : Script) (limit : ℕ) (v : View) (mine : CpuNo → List Numbered) 
 
   done : (p : CpuNo) → p.0 < s.cpus → IsDoneWith s limit v p (mine p) → is_done_with s limit p (events h) ≡ true
   done p b (inl c) = first_yes _ _ (ap (is_cut limit) (sym (own p)) ∙ c)
-  done p b (inr r) = second_yes _ _ (both_yes _ _ (ap rests (sym (own p)) ∙ r.0) (all_seen p b r.1))
+  done p b (inr r) = second_yes _ _ (both_yes _ _ (ap is_still (sym (own p)) ∙ r.0) (all_seen p b r.1))
 
 pub all_done_settles : AllDoneSettles
 all_done_settles s limit v mine n h fit together whole all =

@@ -6,7 +6,7 @@ use Rattle.atomic_table.specs.Seated.{TableId}
 use Rattle.nt_cpu.specs.States.{CpuState}
 use Rattle.nt_event.specs.declared.events.Event.{Event}
 use Rattle.nt_event.specs.declared.scripts.Script.{Script}
-use Rattle.nt_event.specs.Jobs.{rests}
+use Rattle.nt_event.specs.Jobs.{is_still}
 use Rattle.nt_event.specs.Step.{is_cut}
 use Rattle.nt_mark.specs.declared.seats.Pass.{Pass}
 use Rattle.nt_mark.specs.declared.view.Entry.{Entry}
@@ -83,7 +83,7 @@ goes_through u v w g h = record {
 pub worked_later : (u v w : WorkerState) → GoesOnFrom u v → HasWorked v w → HasWorked u w
 worked_later u v w g h =
     ⊎_elim (λ (c : is_cut w.cpu.limit w.cpu.own ≡ true). inl c)
-    (λ (r : (rests w.cpu.own ≡ true) × LookedLast v w). inr (r.0, later r.1)) h
+    (λ (r : (is_still w.cpu.own ≡ true) × LookedLast v w). inr (r.0, later r.1)) h
   where
     later : LookedLast v w → LookedLast u w
     later l = (

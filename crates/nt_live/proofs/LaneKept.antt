@@ -4,7 +4,7 @@ use Rattle.std.proofs.lemmas.Bool.{eq-eqb, eqb-true, ltb-true}
 use Rattle.std.specs.List.Sorted.{IsStrictlyIncreasing}
 use Rattle.std.specs.Prelude.{Bool, Contains, List, [], false, get_or, if◌then◌else◌, length, refl, suc, true, ℕ, ◌++◌, ◌+◌, ◌<◌, ◌==◌, ◌∷◌, ◌||◌, ◌≡◌, ◌⊎◌}
 use Rattle.nt_event.specs.declared.jobs.Lane.{Lane}
-use Rattle.nt_event.specs.declared.jobs.Lane.TheVariants.{Object as ObjectLane, Queue as QueueLane, Threads as ThreadsLane, Timers as TimersLane}
+use Rattle.nt_event.specs.declared.jobs.Lane.TheVariants.{Lock as LockLane, Object as ObjectLane, Queue as QueueLane, Threads as ThreadsLane, Timers as TimersLane}
 use Rattle.nt_event.specs.declared.scripts.Script.{Script}
 use Rattle.nt_event.specs.LaneStates.{LaneState, lane_state}
 use Rattle.nt_event.specs.Lanes.{lane_number, same_lane}
@@ -25,6 +25,7 @@ same_itself (ObjectLane d) = eq-eqb d.0 d.0 refl
 same_itself (QueueLane p) = eq-eqb p.0 p.0 refl
 same_itself (ThreadsLane p) = eq-eqb p.0 p.0 refl
 same_itself TimersLane = refl
+same_itself (LockLane k) = eq-eqb k.0 k.0 refl
 
 -- two lanes of the script with one number are one
 pub one_lane : (s : Script) (x y : Lane) → lane_fits s x ≡ true → lane_fits s y ≡ true → lane_number s x ≡ lane_number s y → x ≡ y
@@ -32,6 +33,7 @@ one_lane s (ObjectLane d) (ObjectLane e) f g h = ap (λ (n : ℕ). ObjectLane (r
 one_lane s (QueueLane p) (QueueLane q) f g h = let e : p.0 ≡ q.0 = omega (arith, h) in ap (λ (n : ℕ). QueueLane (record { 0 = n })) e
 one_lane s (ThreadsLane p) (ThreadsLane q) f g h = let e : p.0 ≡ q.0 = omega (arith, h) in ap (λ (n : ℕ). ThreadsLane (record { 0 = n })) e
 one_lane s TimersLane TimersLane f g h = refl
+one_lane s (LockLane k) (LockLane m) f g h = let e : k.0 ≡ m.0 = omega (arith, h) in ap (λ (n : ℕ). LockLane (record { 0 = n })) e
 one_lane s (ObjectLane d) (QueueLane p) f g h = let k = ltb-true d.0 (length s.dpcs) f in absurd (omega (arith, h, k))
 one_lane s (ObjectLane d) (ThreadsLane p) f g h = let k = ltb-true d.0 (length s.dpcs) f in absurd (omega (arith, h, k))
 one_lane s (ObjectLane d) TimersLane f g h = let k = ltb-true d.0 (length s.dpcs) f in absurd (omega (arith, h, k))
@@ -44,6 +46,14 @@ one_lane s (ThreadsLane p) TimersLane f g h = let k = ltb-true p.0 s.cpus f in a
 one_lane s TimersLane (ObjectLane d) f g h = let k = ltb-true d.0 (length s.dpcs) g in absurd (omega (arith, h, k))
 one_lane s TimersLane (QueueLane q) f g h = let k = ltb-true q.0 s.cpus g in absurd (omega (arith, h, k))
 one_lane s TimersLane (ThreadsLane p) f g h = let k = ltb-true p.0 s.cpus g in absurd (omega (arith, h, k))
+one_lane s (ObjectLane d) (LockLane m) f g h = let k = ltb-true d.0 (length s.dpcs) f in absurd (omega (arith, h, k))
+one_lane s (QueueLane p) (LockLane m) f g h = let k = ltb-true p.0 s.cpus f in absurd (omega (arith, h, k))
+one_lane s (ThreadsLane p) (LockLane m) f g h = let k = ltb-true p.0 s.cpus f in absurd (omega (arith, h, k))
+one_lane s TimersLane (LockLane m) f g h = absurd (omega (arith, h))
+one_lane s (LockLane m) (ObjectLane d) f g h = let k = ltb-true d.0 (length s.dpcs) g in absurd (omega (arith, h, k))
+one_lane s (LockLane m) (QueueLane p) f g h = let k = ltb-true p.0 s.cpus g in absurd (omega (arith, h, k))
+one_lane s (LockLane m) (ThreadsLane p) f g h = let k = ltb-true p.0 s.cpus g in absurd (omega (arith, h, k))
+one_lane s (LockLane m) TimersLane f g h = absurd (omega (arith, h))
 
 -- a lane of a list is among it
 pub among : (x : Lane) (xs : List Lane) → Contains xs x → is_among x xs ≡ true

@@ -7,7 +7,7 @@ use Rattle.std.specs.Prelude.{Bool, List, false, get_or, length, nat_lt, not, se
 use Rattle.nt_cpu.specs.States.{CpuState}
 use Rattle.nt_event.specs.declared.numbers.CpuNo.{CpuNo}
 use Rattle.nt_event.specs.Classes.{is_used_class}
-use Rattle.nt_event.specs.Jobs.{rests}
+use Rattle.nt_event.specs.Jobs.{is_still}
 use Rattle.nt_event.specs.Lists.{value_at}
 use Rattle.nt_event.specs.Robin.{is_behind}
 use Rattle.nt_mark.specs.declared.view.View.{View}
@@ -82,11 +82,11 @@ off : (b : Bool) → not b ≡ true → b ≡ false
 off true h = cc
 off false h = refl
 
--- a processor that rests, and is not behind what looks found, has no more to do
-pub rests_then : (limit : ℕ) (v : View) (c : CpuState) (p : CpuNo) (answers : List ℕ) (behind : Bool) → c.cpu ≡ p → rests c.own ≡ true →
+-- a processor that rests or spins still, and is not behind what looks found, has no more to do
+pub still_then : (limit : ℕ) (v : View) (c : CpuState) (p : CpuNo) (answers : List ℕ) (behind : Bool) → c.cpu ≡ p → is_still c.own ≡ true →
     behind ≡ is_behind c.own (value_at answers) → not behind ≡ true →
     ((k : ℕ) → k < 16 → is_used_class k ≡ true → reach (request_word p k) v ≤ value_at answers k) → HasNoMore limit v c
-rests_then limit v c p answers behind at rest is h least = inr (
+still_then limit v c p answers behind at rest is h least = inr (
   rest,
   λ k l u.
       let a = least k l u in

@@ -8,7 +8,7 @@ use Rattle.nt_event.specs.declared.numbers.CpuNo.{CpuNo}
 use Rattle.nt_event.specs.declared.scripts.Script.{Script}
 use Rattle.nt_event.specs.LaneStates.{Entry as PieceEntry, cpu_piece, entry_if}
 use Rattle.nt_event.specs.Numbers.{cpu, is_of}
-use Rattle.nt_event.specs.Jobs.{rests}
+use Rattle.nt_event.specs.Jobs.{is_still}
 use Rattle.nt_event.specs.Lists.{value_at}
 use Rattle.nt_event.specs.Own.{Own}
 use Rattle.nt_event.specs.Robin.{is_settled}
@@ -169,7 +169,7 @@ module _ (s : Script) (limit : ℕ) (ws : List WorkerState) (cpus : List CpuStat
       let here : c.cpu ≡ p = x.at in
       ⊎_elim (λ k. inl (ap (is_cut limit) (sym own) ∙ k))
       (λ k. inr (
-        ap rests (sym own) ∙ k.0,
+        ap is_still (sym own) ∙ k.0,
         λ q l u.
             let a : reach (request_word c.cpu q) v ≤ value_at c.own.seen q = k.1 q l u in
             let e : request_word c.cpu q ≡ request_word p q = ap (λ (z : CpuNo). request_word z q) here in

@@ -4,7 +4,7 @@ use Rattle.std.specs.Prelude.{All, Contains, List, [], length, true, ℕ, ◌<�
 use Rattle.nt_event.specs.declared.numbers.CpuNo.{CpuNo}
 use Rattle.nt_event.specs.declared.scripts.Script.{Script}
 use Rattle.nt_event.specs.Classes.{is_used_class}
-use Rattle.nt_event.specs.Jobs.{rests}
+use Rattle.nt_event.specs.Jobs.{is_still}
 use Rattle.nt_event.specs.Lanes.{lane_count}
 use Rattle.nt_event.specs.Lists.{value_at}
 use Rattle.nt_event.specs.Robin.{is_settled}
@@ -72,9 +72,9 @@ Gathers = (s : Script) (limit : ℕ) (v : View) (mine : CpuNo → List Numbered)
 
 -- ---- settled
 
--- a processor has no more to do: it is cut; or it rests, and saw all that the pass knows to be asked
+-- a processor has no more to do: it is cut; or it rests or spins still, and saw all that the pass knows to be asked
 abbrev pub IsDoneWith : Script → ℕ → View → CpuNo → List Numbered → Type 0
-IsDoneWith s limit v p ms = (is_cut limit (own_by s p ms) ≡ true) ⊎ ((rests (own_by s p ms) ≡ true) ×
+IsDoneWith s limit v p ms = (is_cut limit (own_by s p ms) ≡ true) ⊎ ((is_still (own_by s p ms) ≡ true) ×
     ((c : ℕ) → c < 16 → is_used_class c ≡ true → reach (request_word p c) v ≤ value_at (own_by s p ms).seen c))
 
 -- where the script fits, and each processor has no more to do, as the pass that knows the events of all tells it, the

@@ -4,7 +4,7 @@ use Rattle.nt_event.specs.declared.events.Event.{Event}
 use Rattle.nt_event.specs.declared.numbers.CpuNo.{CpuNo}
 use Rattle.nt_event.specs.declared.scripts.Script.{Script}
 use Rattle.nt_event.specs.Classes.{is_used_class}
-use Rattle.nt_event.specs.Jobs.{rests}
+use Rattle.nt_event.specs.Jobs.{is_still}
 use Rattle.nt_event.specs.Lists.{value_at}
 use Rattle.nt_event.specs.Numbers.{cpu}
 use Rattle.nt_event.specs.Step.{is_cut}
@@ -62,9 +62,9 @@ pub record HasLooked (v w : View) : Type 0 where
   pub marks : w.marks ≡ v.marks
   pub covers : Covers v w
 
--- the processor is cut; or it rests, and has seen all that the pass knows to be asked
+-- the processor is cut; or it rests or spins still, and has seen all that the pass knows to be asked
 abbrev pub HasNoMore : ℕ → View → CpuState → Type 0
-HasNoMore limit v c = (is_cut limit c.own ≡ true) ⊎ ((rests c.own ≡ true) ×
+HasNoMore limit v c = (is_cut limit c.own ≡ true) ⊎ ((is_still c.own ≡ true) ×
     ((k : ℕ) → k < 16 → is_used_class k ≡ true → reach (request_word c.cpu k) v ≤ value_at c.own.seen k))
 
 -- each of them has

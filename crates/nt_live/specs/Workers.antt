@@ -5,7 +5,7 @@ use Rattle.nt_event.specs.declared.events.Event.{Event}
 use Rattle.nt_event.specs.declared.events.What.TheVariants.{Look as LookEvent}
 use Rattle.nt_event.specs.declared.numbers.CpuNo.{CpuNo}
 use Rattle.nt_event.specs.declared.scripts.Script.{Script}
-use Rattle.nt_event.specs.Jobs.{rests}
+use Rattle.nt_event.specs.Jobs.{is_still}
 use Rattle.nt_event.specs.Lanes.{lane_number, what_lanes}
 use Rattle.nt_event.specs.Lists.{value_at}
 use Rattle.nt_event.specs.Own.{Own, stand_in}
@@ -153,6 +153,6 @@ abbrev pub LookedLast : WorkerState → WorkerState → Type 0
 LookedLast old new = (before : List Look) × (last : List Look) × (new.view.looks ≡ old.view.looks ++ (before ++ last)) ×
     (map look_told last ≡ looks_below new.cpu.cpu 15 new.cpu.own.seen)
 
--- the processor is cut; or it rests, and since then it looked last at each class and saw no more than it had seen
+-- the processor is cut; or it rests or spins still, and since then it looked last at each class and saw no more than it had seen
 abbrev pub HasWorked : WorkerState → WorkerState → Type 0
-HasWorked old new = (is_cut new.cpu.limit new.cpu.own ≡ true) ⊎ ((rests new.cpu.own ≡ true) × LookedLast old new)
+HasWorked old new = (is_cut new.cpu.limit new.cpu.own ≡ true) ⊎ ((is_still new.cpu.own ≡ true) × LookedLast old new)

@@ -9,7 +9,7 @@ pub fn closed_events_are_one_run()
     ensures { Gathers }
 {}
 
-/// Where each processor is cut, or rests and has seen all that this pass knows to be asked, that run is settled.
+/// Where each processor is cut, or rests or spins still and has seen all that this pass knows to be asked, that run is settled.
 pub fn all_done_settles()
     ensures { AllDoneSettles }
 {}

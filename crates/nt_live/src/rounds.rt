@@ -111,8 +111,11 @@ fn live_of<'s, N: Plan + Shared + Send + Sync, G: Gate + Sync, R: Threads + Wait
 /// The history that processors on threads make of a script, where each makes at most this many events: a settled run.
 ///
 /// Each processor has a thread of its own, where one can be made; they share what the script says that they share, with a lock for each
-/// DPC object, each processor's queue and threads, and the timers. The gate is passed before each turn of a processor, with its number
-/// and how many events it made. The script fits, and `turns` is 1 to 20,000 and at most 160,000 in all processors together.
+/// DPC object, each processor's queue and threads, the timers, and each spin lock. The gate is passed before each turn of a processor,
+/// with its number and how many events it made. The script fits, and `turns` is 1 to 20,000 and at most 160,000 in all processors
+/// together.
+///
+/// A processor that spins on a lock stops as one at rest does, until it sees that the lock was freed.
 ///
 /// It may wait. AllocError comes where no memory was found; the workers ended their round first.
 pub fn live<G: Gate + Sync, R: Threads + Wait + Sync>(

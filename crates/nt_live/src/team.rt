@@ -73,7 +73,7 @@ impl<'s> Team<'s> {
         Ok(team)
     }
 
-    /// Whether no processor has more to do: each made `turns` events, or rests and has seen all that was asked of it.
+    /// Whether no processor has more to do: each made `turns` events, or rests or spins still and has seen all that was asked of it.
     pub(crate) fn has_no_more(&mut self, marks: &Marks, turns: u32) -> bool
         requires table { pass_table self.old.pass ≡ table_of marks.now }
         requires cpus { length self.old.cpus.items ≤ cpus_of marks.now }
@@ -122,7 +122,7 @@ fn look_all(marks: &Marks, pass: &mut Pass, cpu: CpuNo) -> [u64; 16]
     answers
 }
 
-/// Whether a processor has no more to do: it made `turns` events, or rests and has seen all that was asked of it.
+/// Whether a processor has no more to do: it made `turns` events, or rests or spins still and has seen all that was asked of it.
 fn has_no_more(marks: &Marks, pass: &mut Pass, number: CpuNo, cpu: &Cpu, turns: u32) -> bool
     requires table { pass_table pass.old ≡ table_of marks.now }
     requires cpu { (number.0 < cpus_of marks.now) × (cpu.now.cpu ≡ number) }
@@ -134,5 +134,5 @@ fn has_no_more(marks: &Marks, pass: &mut Pass, number: CpuNo, cpu: &Cpu, turns: 
         return true;
     }
     let answers = look_all(marks, pass, number);
-    cpu.rests() && !cpu.is_behind(&answers)
+    cpu.is_still() && !cpu.is_behind(&answers)
 }

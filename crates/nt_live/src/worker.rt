@@ -84,7 +84,7 @@ fn did(last: u64, turned: Result<Turned, AllocError>) -> Result<Option<(u64, Eve
 pub(crate) enum Turn {
     /// An event was made.
     Did,
-    /// The processor rests with nothing asked, or is cut.
+    /// The processor rests or spins still with nothing asked, or is cut.
     Stopped,
 }
 
@@ -179,8 +179,8 @@ impl<'s, N: Plan + Shared> Worker<'s, N> {
     }
 }
 
-/// Turns a worker's processor again and again, until it rests with nothing asked, or is cut. The gate is passed before each turn, with the
-/// processor's number and how many events it made so far. It may wait, for other workers that hold a lane.
+/// Turns a worker's processor again and again, until it rests or spins still with nothing asked, or is cut. The gate is passed before each
+/// turn, with the processor's number and how many events it made so far. It may wait, for other workers that hold a lane.
 ///
 /// AllocError comes where no memory was found; then the worker is as its last event left it, and can work again.
 pub fn work<'s, N: Plan + Shared, G: Gate, R: Wait>(

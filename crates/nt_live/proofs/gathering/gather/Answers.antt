@@ -25,10 +25,10 @@ returns-then-settled-clause-gathered g c =
     let e = c.has_no_more-settled.ensures in
     let did = worked s limit ws team.cpus.items v w team.list.items es c.args.board.script_fits c.requires.all c.in_ok-team.ensures.team e.looked c.in_ok-events.ensures in
     let more : HaveNoMore limit v team.cpus.items = subst (λ n. HaveNoMore n v team.cpus.items) c.args.board.turns_is (e.more c.if-settled.true) in
-    let rests = settled s limit ws team.cpus.items v w team.list.items es c.args.board.script_fits c.requires.all c.in_ok-team.ensures.team e.looked
+    let still = settled s limit ws team.cpus.items v w team.list.items es c.args.board.script_fits c.requires.all c.in_ok-team.ensures.team e.looked
     c.in_ok-events.ensures more in
     let same = ap (λ (h : History). h.events) c.new.ensures ∙ (c.in_ok-of.ensures ∙ c.as_slice-then-settled.ensures.value) in
-    subst (λ (xs : List Event). IsGathered s limit ws (reverse xs)) (sym same) (gathered_already s limit ws (reverse es) did rests)
+    subst (λ (xs : List Event). IsGathered s limit ws (reverse xs)) (sym same) (gathered_already s limit ws (reverse es) did still)
 
 pub finished-requires-clause-run : goal.finished-requires-clause-run
 finished-requires-clause-run g c =

@@ -12,7 +12,9 @@ returns-clause-learns g c =
     let u = pass_view c.touch_dpcs.new.pass in
     let v = pass_view c.touch_group.new.pass in
     let w = pass_view c.touch_timers.new.pass in
-    learns_through t v w (learns_through t u v c.touch_dpcs.ensures.learns c.touch_group.ensures.learns) c.touch_timers.ensures.learns
+    let x = pass_view c.touch_spin.new.pass in
+    learns_through t w x (learns_through t v w (learns_through t u v c.touch_dpcs.ensures.learns c.touch_group.ensures.learns) c.touch_timers.ensures.learns)
+    c.touch_spin.ensures.learns
 
 pub returns-clause-left : goal.returns-clause-left
 returns-clause-left g c =
@@ -26,6 +28,7 @@ returns-clause-left g c =
     let u = pass_view c.touch_dpcs.new.pass in
     let v = pass_view c.touch_group.new.pass in
     let w = pass_view c.touch_timers.new.pass in
-    subst (λ (h : HeldLanes). AreLeftBy s n st e lanes asks h w) c.self.view_is
-    (all_left s n st e lanes asks _ u v w c.touch_group.ensures.learns c.touch_timers.ensures.learns c.touch_dpcs.ensures.noted c.touch_group.ensures.noted
-    c.touch_timers.ensures.noted)
+    let x = pass_view c.touch_spin.new.pass in
+    subst (λ (h : HeldLanes). AreLeftBy s n st e lanes asks h x) c.self.view_is
+    (all_left s n st e lanes asks _ u v w x c.touch_group.ensures.learns c.touch_timers.ensures.learns c.touch_spin.ensures.learns c.touch_dpcs.ensures.noted
+    c.touch_group.ensures.noted c.touch_timers.ensures.noted c.touch_spin.ensures.noted)
