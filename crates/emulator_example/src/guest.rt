@@ -51,7 +51,7 @@ fn end(frames: &mut Frames, n: u64) -> bool
     ensures named { AreNamedBelow (n + 1) frames.new }
 {
     match frames.top() {
-        Some(frame) if !matches!(frame.body, Body::Base(_)) => {
+        Some(frame) if !matches!(frame.body(), Body::Base(_)) => {
             let _asks = frames.finish();
             true
         }

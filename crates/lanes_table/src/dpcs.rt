@@ -64,6 +64,7 @@ fn script(alloc: Global, threaded: Option<bool>) -> Result<Script, AllocError>
         threads: Items::new(alloc),
         apcs: Items::new(alloc),
         routines: Items::from_vec(vec![in alloc; routine]?),
+        locks: 0,
     };
     declare(&mut made.dpcs)?;
     Ok(made)

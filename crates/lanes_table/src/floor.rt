@@ -61,6 +61,7 @@ fn script(alloc: Global) -> Result<Script, AllocError>
         threads: Items::new(alloc),
         apcs: Items::new(alloc),
         routines: Items::from_vec(vec![in alloc; routine]?),
+        locks: 0,
     };
     declare(&mut made.dpcs, &mut made.threads)?;
     Ok(made)

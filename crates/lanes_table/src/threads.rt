@@ -94,6 +94,7 @@ fn script(alloc: Global) -> Result<Script, AllocError> {
         threads: Items::new(alloc),
         apcs: Items::new(alloc),
         routines: Items::from_vec(vec![in alloc; routine]?),
+        locks: 0,
     };
     declare(&mut made.threads, &mut made.apcs)?;
     Ok(made)

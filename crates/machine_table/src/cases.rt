@@ -30,6 +30,23 @@ pub(crate) struct Case<'a> {
     ghost few: { limit ≤ TURNS },
 }
 
+/// A script with spin locks, by its name, which is run.
+#[derive(Drop)]
+pub(crate) struct Named<'a> {
+    /// How many events each processor may make.
+    pub(crate) limit: u32,
+    pub(crate) name: &'a str,
+    ghost some: { 1 ≤ limit },
+    ghost few: { limit ≤ TURNS },
+}
+
+/// A line of the table.
+#[derive(Drop)]
+pub(crate) enum Entry<'a> {
+    Case(Case<'a>),
+    Named(Named<'a>),
+}
+
 fn limit_of(word: &str) -> Option<u32>
     ensures { IfSome result (λ n. (1 ≤ n) × (n ≤ TURNS)) }
 {
@@ -72,6 +89,11 @@ fn checked<'a>(limit: &str, rest: &'a str) -> Option<Case<'a>> {
     })
 }
 
+fn by_name<'a>(limit: &str, name: &'a str) -> Option<Named<'a>> {
+    let limit = limit_of(limit)?;
+    Some(Named { limit, name })
+}
+
 /// A case that is run or replayed.
 fn whole<'a>(limit: &str, rest: &'a str) -> Option<Case<'a>> {
     let limit = limit_of(limit)?;
@@ -89,14 +111,15 @@ fn whole<'a>(limit: &str, rest: &'a str) -> Option<Case<'a>> {
     }
 }
 
-/// The case of a line of the table.
-pub(crate) fn case_of(entry: &str) -> Option<Case<'_>> {
-    let (first, rest) = entry.split_once('|')?;
+/// What a line of the table says.
+pub(crate) fn entry_of(line: &str) -> Option<Entry<'_>> {
+    let (first, rest) = line.split_once('|')?;
     match first.split_once(' ') {
-        Some(("take", limit)) => taken(limit, rest),
-        Some(("step", limit)) => stepped(limit, rest),
-        Some(("check", limit)) => checked(limit, rest),
+        Some(("take", limit)) => Some(Entry::Case(taken(limit, rest)?)),
+        Some(("step", limit)) => Some(Entry::Case(stepped(limit, rest)?)),
+        Some(("check", limit)) => Some(Entry::Case(checked(limit, rest)?)),
+        Some(("locks", limit)) => Some(Entry::Named(by_name(limit, rest)?)),
         Some(_) => None,
-        None => whole(first, rest),
+        None => Some(Entry::Case(whole(first, rest)?)),
     }
 }

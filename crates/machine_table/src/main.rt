@@ -6,7 +6,9 @@
 //! history is settled, and the report follows. Where `step` stands there, the first processor makes its first event by itself, in
 //! two steps and by one; a line for each tells whether it is that of the run, and the report of the run follows. Where `check` stands
 //! there, a change follows the script behind a `|`; the history of the run is changed so and checked, and what is written is `legal`,
-//! or `illegal at` and a number. What is wanted stands in `stdout`: rows that were worked out by hand.
+//! or `illegal at` and a number. Where `locks` stands there, the name of a script with spin locks stands in the place of the script;
+//! its events are written, whether its turns replay them, and the checker's verdict. What is wanted stands in `stdout`: rows that
+//! were worked out by hand.
 #![tactic(auto)]
 
 ghost use Rattle.std.specs.Prelude.{◌≤◌};
@@ -14,12 +16,15 @@ ghost use Rattle.nt_script.specs.Sound.{IsSound};
 
 mod cases;
 mod checking;
+mod lock_scripts;
+mod locks;
 mod stepping;
 mod taking;
 mod turns;
 
-use crate::cases::{Case, Task, case_of};
+use crate::cases::{Case, Entry, Named, Task, entry_of};
 use crate::checking::{change_of, checked};
+use crate::locks::locked;
 use crate::stepping::stepped;
 use crate::taking::taken;
 use crate::turns::turns_of;
@@ -37,7 +42,7 @@ use std::io;
 /// What became of a case.
 #[derive(Drop)]
 enum Outcome {
-    /// A history, and this is its report.
+    /// A history, and this is its report, or its events in words.
     Report(Vec<u8>),
     /// The turns have no history.
     Refused { at: u32, kind: ScheduleKind },
@@ -161,9 +166,17 @@ fn case_outcome(alloc: Global, case: &Case<'_>) -> Result<Outcome, AllocError> {
     text_outcome(alloc, case, text.as_slice())
 }
 
-fn entry_outcome(alloc: Global, entry: &str) -> Result<Outcome, AllocError> {
-    match case_of(entry) {
-        Some(case) => case_outcome(alloc, &case),
+fn named_outcome(alloc: Global, named: &Named<'_>) -> Result<Outcome, AllocError> {
+    match locked(alloc, named.name, named.limit)? {
+        Some(text) => Ok(Outcome::Report(text)),
+        None => Ok(Outcome::NoReading),
+    }
+}
+
+fn entry_outcome(alloc: Global, line: &str) -> Result<Outcome, AllocError> {
+    match entry_of(line) {
+        Some(Entry::Case(case)) => case_outcome(alloc, &case),
+        Some(Entry::Named(named)) => named_outcome(alloc, &named),
         None => Ok(Outcome::BadLine),
     }
 }

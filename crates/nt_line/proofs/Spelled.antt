@@ -21,14 +21,14 @@ use Rattle.nt_line.specs.declared.keywords.Verb.TheVariants as verb
 use Rattle.nt_line.specs.declared.keywords.Keyword.{Keyword}
 use Rattle.nt_line.specs.declared.keywords.Keyword.TheVariants as keyword
 use Rattle.nt_line.specs.NameLists.{NameLists, show_dpc, show_timer, show_thread, show_apc, show_routine}
-use Rattle.nt_line.specs.Keywords.{verb_arity}
+use Rattle.nt_line.specs.Keywords.{text_of, verb_arity}
 use Rattle.nt_line.specs.Results.{◌>>=◌}
 use Rattle.nt_line.specs.Fields.{dash, read_dpc, read_timer, read_thread, read_apc, read_routine, read_timer_dpc, read_rundown}
 use Rattle.nt_line.specs.Commands.{read1, read2, read3, read4, command_of}
 use Rattle.nt_line.specs.Declarations.{isr_of, dpc_of, timer_of, thread_of, apc_of}
 use Rattle.nt_line.specs.Fits.{IsrFits, DpcFits, TimerFits, ThreadFits, ApcFits, CommandFits}
 use Rattle.nt_text.specs.Lines.{Row}
-use Rattle.nt_line.specs.Rows.{show_unless, command_verb, command_args, isr_args, dpc_args, timer_args, thread_args, apc_args}
+use Rattle.nt_line.specs.Rows.{show_unless, command_verb, verb_field, command_args, isr_args, dpc_args, timer_args, thread_args, apc_args}
 use Rattle.nt_line.proofs.Results.{bind_ok}
 use Rattle.nt_line.proofs.FieldTexts.{Takes, number_takes, level_takes, interrupt_takes, isr_level_takes, cpu_takes, target_takes, importance_takes, mode_takes, alertable_takes, number_again, importance_again, target_again, cpu_again, mode_again, alertable_again}
 use Rattle.nt_line.proofs.UsedNames.{AreFew, dpc_takes, timer_takes, thread_takes, apc_takes, routine_takes, timer_dpc_takes, rundown_takes}
@@ -136,8 +136,16 @@ takes4 t u v w P make good (a ∷ a' ∷ a'' ∷ a''' ∷ more ∷ args) c e len
 
 -- ---- what is read
 
+-- the verb of a command that has one
+abbrev pub verb_in : Option Verb → Verb
+verb_in (Some v) = v
+verb_in None = verb.Note
+
+abbrev pub line_verb : Command → Verb
+line_verb c = verb_in (command_verb c)
+
 abbrev pub command_keyword : Command → Keyword
-command_keyword c = keyword.Call (command_verb c)
+command_keyword c = keyword.Call (line_verb c)
 
 abbrev pub SpellsCommand : NameLists → ℕ → Keyword → Row → Command → Type 0
 SpellsCommand names cpus = Spells command_keyword (command_args names) (CommandFits names cpus)
@@ -278,7 +286,7 @@ pub record AreRead (names : NameLists) : Type 0 where
   pub rundowns : (o : Option RoutineNo) → IfSome o (λ x. x.0 < length names.routines) → read_rundown names (show_unless dash (show_routine names) o) ≡ Ok o
 
 pub command_again : (names : NameLists) (cpus : ℕ) → AreRead names → cpus ≤ 8 → (c : Command) → CommandFits names cpus c →
-    command_of names cpus (command_verb c) (command_args names c) ≡ Ok c
+    command_of names cpus (line_verb c) (command_args names c) ≡ Ok c
 command_again names cpus are le (cmd.Raise level) h = rw (number_again 15 level (lit< tt) h) refl
 command_again names cpus are le (cmd.Lower level) h = rw (number_again 15 level (lit< tt) h) refl
 command_again names cpus are le (cmd.Queue d) h = rw (are.dpcs d h) refl
@@ -304,33 +312,22 @@ command_again names cpus are le (cmd.Interrupt cpu level) h = rw (cpu_again cpus
 command_again names cpus are le (cmd.Clock units) h = rw (number_again 4294967295 units (lit< tt) h) refl
 command_again names cpus are le cmd.ToUser h = refl
 command_again names cpus are le cmd.Yield h = refl
+command_again names cpus are le (cmd.Acquire k) h = absurd h
+command_again names cpus are le (cmd.Unlock k) h = absurd h
 command_again names cpus are le (cmd.Note number) h = rw (number_again 4294967295 number (lit< tt) h) refl
 
-pub args_count : (names : NameLists) (c : Command) → length (command_args names c) ≡ verb_arity (command_verb c)
-args_count names (cmd.Raise level) = refl
-args_count names (cmd.Lower level) = refl
-args_count names (cmd.Queue d) = refl
-args_count names (cmd.Unqueue d) = refl
-args_count names (cmd.SetImportance d importance) = refl
-args_count names (cmd.SetTarget d target) = refl
-args_count names (cmd.SetTimer t due period) = refl
-args_count names (cmd.CancelTimer t) = refl
-args_count names (cmd.InsertApc a) = refl
-args_count names (cmd.RemoveApc a) = refl
-args_count names cmd.EnterCrit = refl
-args_count names cmd.EnterGuard = refl
-args_count names cmd.LeaveCrit = refl
-args_count names cmd.LeaveGuard = refl
-args_count names (cmd.StartWait mode alertable) = refl
-args_count names (cmd.Delay mode alertable units) = refl
-args_count names (cmd.Release t) = refl
-args_count names (cmd.Alert t mode) = refl
-args_count names (cmd.TestAlert mode) = refl
-args_count names (cmd.Interrupt cpu level) = refl
-args_count names (cmd.Clock units) = refl
-args_count names cmd.ToUser = refl
-args_count names cmd.Yield = refl
-args_count names (cmd.Note number) = refl
+-- a command that has a line has a verb, which is the line's keyword, and as many fields follow as that has
+pub args_count : (names : NameLists) (cpus : ℕ) (c : Command) → CommandFits names cpus c →
+    length (command_args names c) ≡ verb_arity (line_verb c)
+args_count names cpus (cmd.Acquire k) h = absurd h
+args_count names cpus (cmd.Unlock k) h = absurd h
+args_count names cpus c h = refl
+
+pub word_of_line : (names : NameLists) (cpus : ℕ) (c : Command) → CommandFits names cpus c →
+    verb_field (command_verb c) ≡ text_of (command_keyword c)
+word_of_line names cpus (cmd.Acquire k) h = absurd h
+word_of_line names cpus (cmd.Unlock k) h = absurd h
+word_of_line names cpus c h = refl
 
 pub isr_again : (names : NameLists) (cpus : ℕ) → AreRead names → cpus ≤ 8 → (x : Isr) → IsrFits names cpus x → isr_of names cpus (isr_args names x) ≡ Ok x
 isr_again names cpus are le x h = rw (cpu_again cpus x.cpu le h.0, number_again 15 x.level (lit< tt) h.1, h.2, are.routines x.routine h.3) refl

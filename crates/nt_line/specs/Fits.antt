@@ -31,6 +31,7 @@ pub record ApcFits (names : NameLists) (a : ApcDecl) : Type 0 where
   pub rundown : IfSome a.rundown (λ r. r.0 < length names.routines)
   pub routines : apc_has_its_routines a.kind a.normal a.rundown ≡ true
 
+-- the line of a command; none has a line that is of a lock
 abbrev pub CommandFits : NameLists → ℕ → Command → Type 0
 CommandFits names cpus (cmd.Raise level) = (level ≤ 15)
 CommandFits names cpus (cmd.Lower level) = (level ≤ 15)
@@ -56,9 +57,11 @@ CommandFits names cpus (cmd.Interrupt cpu level) = (cpu.0 < cpus) × ((level ≤
 CommandFits names cpus (cmd.Clock units) = (units ≤ 4294967295)
 CommandFits names cpus cmd.ToUser = Unit {0}
 CommandFits names cpus cmd.Yield = Unit {0}
+CommandFits names cpus (cmd.Acquire k) = ⊥
+CommandFits names cpus (cmd.Unlock k) = ⊥
 CommandFits names cpus (cmd.Note number) = (number ≤ 4294967295)
 
--- what the line of a command names has a name
+-- what the line of a command names has a name; none has a line that is of a lock
 abbrev pub CommandNamed : NameLists → Command → Type 0
 CommandNamed names (cmd.Raise level) = Unit {0}
 CommandNamed names (cmd.Lower level) = Unit {0}
@@ -83,6 +86,8 @@ CommandNamed names (cmd.Interrupt cpu level) = Unit {0}
 CommandNamed names (cmd.Clock units) = Unit {0}
 CommandNamed names cmd.ToUser = Unit {0}
 CommandNamed names cmd.Yield = Unit {0}
+CommandNamed names (cmd.Acquire k) = ⊥
+CommandNamed names (cmd.Unlock k) = ⊥
 CommandNamed names (cmd.Note number) = Unit {0}
 
 -- the numbers of a command are those of its types
@@ -110,4 +115,6 @@ HasRange (cmd.Interrupt cpu level) = Unit {0}
 HasRange (cmd.Clock units) = units ≤ 4294967295
 HasRange cmd.ToUser = Unit {0}
 HasRange cmd.Yield = Unit {0}
+HasRange (cmd.Acquire k) = Unit {0}
+HasRange (cmd.Unlock k) = Unit {0}
 HasRange (cmd.Note number) = number ≤ 4294967295

@@ -28,6 +28,7 @@ with_parts isrs dpcs timers threads apcs routines = record {
   threads = threads;
   apcs = apcs;
   routines = routines;
+  locks = 0;
 }
 
 pub made_script : (seed : ℕ) (isrs : List Isr) (dpcs : List DpcDecl) (timers : List TimerDecl) (threads : List ThreadDecl) (apcs : List ApcDecl)
@@ -50,6 +51,7 @@ load_is_sound seed =
     record {
       fits = load_fits seed;
       cpus = lit≤ tt;
+      locks = refl;
       ranges = load_ranges seed;
       dpcs = length-table_from 0 32 (spelled (100 ∷ [])) ∙ sym h.dpcs;
       timers = length-table_from 0 8 (spelled (107 ∷ [])) ∙ sym h.timers;

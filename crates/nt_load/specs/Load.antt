@@ -65,6 +65,7 @@ load_script seed = record {
   threads = table 32 busy_thread;
   apcs = all_apcs;
   routines = idle_routine ∷ table 32 (busy_routine seed);
+  locks = 0;
 }
 
 -- a name: a letter, or more, and a number

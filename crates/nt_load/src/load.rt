@@ -27,6 +27,7 @@ pub fn draw_script(alloc: Global, seed: u32) -> Result<Script, AllocError>
         threads: threads(alloc)?,
         apcs: apcs(alloc)?,
         routines: draw_routines(alloc, seed)?,
+        locks: 0,
     })
 }
 

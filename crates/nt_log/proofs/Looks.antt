@@ -9,12 +9,11 @@ use Rattle.nt_text.specs.declared.kind.ScriptKind.{ScriptKind}
 use Rattle.nt_text.specs.declared.kind.ScriptKind.TheVariants.{BadNumber}
 use Rattle.nt_text.specs.Lines.{Row, is_byte, parts}
 use Rattle.nt_text.proofs.Cuts.{cut_found, cut_missed}
-use Rattle.nt_event.specs.Classes.{is_used_class}
 use Rattle.nt_line.specs.Results.{◌>>=◌, ok_if}
 use Rattle.nt_line.specs.Fields.{read_number}
 use Rattle.nt_line.proofs.Results.{bind_ok, ok_if_ok}
 use Rattle.nt_line.proofs.FieldTexts.{Takes, level_of_takes, number_again, number_takes}
-use Rattle.nt_log.specs.Schedules.{rise_field, rise_in_classes, rises_row}
+use Rattle.nt_log.specs.Schedules.{is_written_class, rise_field, rise_in_classes, rises_row}
 use Rattle.nt_log.specs.Reading.{read_class, read_rise, read_value, rise_at, rises_from}
 use Rattle.nt_log.proofs.OneSchedule.{AreWords, rise_parts}
 
@@ -27,7 +26,7 @@ ok_is x y e = cc
 -- ---- a class, and a value
 
 abbrev is_class : ℕ → ℕ → Bool
-is_class least class = nat_le least class && is_used_class class
+is_class least class = nat_le least class && is_written_class class
 
 class_takes : (least : ℕ) → Takes (read_class least) decimal (λ c. (c ≤ 15) × (is_class least c ≡ true))
 class_takes least = level_of_takes (is_class least)
@@ -73,7 +72,7 @@ record Risen (least : ℕ) (f : List ℕ) (r : ℕ × ℕ) : Type 0 where
   shown : f ≡ rise_field r.0 r.1
   low : least ≤ r.0
   high : r.0 ≤ 15
-  used : is_used_class r.0 ≡ true
+  used : is_written_class r.0 ≡ true
   some : (r.1 == 0) ≡ false
   range : r.1 ≤ 18446744073709551615
 
@@ -88,7 +87,7 @@ rise_takes least f r e = go (position (is_byte 61) f) refl e
         let b = bind_ok (read_class least a) (λ c. read_value z >>= λ v. ok (c, v)) r e in
         let d = bind_ok (read_value z) (λ v. ok (b.value, v)) r b.then in
         let class = (class_takes least).fits a b.value b.is in
-        let both = and_parts (nat_le least b.value) (is_used_class b.value) class.1 in
+        let both = and_parts (nat_le least b.value) (is_written_class b.value) class.1 in
         let value = value_takes.fits z d.value d.is in
         subst (Risen least f) (ok_is (b.value, d.value) r d.then) (record {
           shown = cut_at f i is ∙ ap (λ (x : List ℕ). x ++ 61 ∷ z) ((class_takes least).shown a b.value b.is)
@@ -107,7 +106,7 @@ both_again : (least : ℕ) (a z : List ℕ) (c v : ℕ) → read_class least a �
     (read_class least a >>= λ class. read_value z >>= rise class) ≡ rise c v
 both_again least a z c v h k = rw (h, k) refl
 
-rise_again : (least c v : ℕ) → c ≤ 15 → least ≤ c → is_used_class c ≡ true → v ≤ 18446744073709551615 → (v == 0) ≡ false →
+rise_again : (least c v : ℕ) → c ≤ 15 → least ≤ c → is_written_class c ≡ true → v ≤ 18446744073709551615 → (v == 0) ≡ false →
     read_rise least (rise_field c v) ≡ Ok (c, v)
 rise_again least c v high low used range some = go (position (is_byte 61) (rise_field c v)) refl
   where
@@ -126,7 +125,7 @@ rise_again least c v high low used range some = go (position (is_byte 61) (rise_
         let tail : parts 61 z ≡ decimal v ∷ [] = cc in
         let last : z ≡ decimal v = sym (join_with_byte-slice_split 61 z) ∙ ap (join_with_byte 61) tail in
         both_again least a z c v
-        (ap (read_class least) head ∙ class_again least c high (and_from (nat_le least c) (is_used_class c) (le-leb least c low) used))
+        (ap (read_class least) head ∙ class_again least c high (and_from (nat_le least c) (is_written_class c) (le-leb least c low) used))
         (ap read_value last ∙ value_again v range some)
 
 -- ---- all values
@@ -160,7 +159,7 @@ none_first before n least row out r = record {
 }
 
 -- the class rises to this value
-value_first : (before : List ℕ) (n least value : ℕ) (f : List ℕ) (row : Row) (out : List ℕ) → f ≡ rise_field least value → is_used_class least ≡ true →
+value_first : (before : List ℕ) (n least value : ℕ) (f : List ℕ) (row : Row) (out : List ℕ) → f ≡ rise_field least value → is_written_class least ≡ true →
     (value == 0) ≡ false → value ≤ 18446744073709551615 → Rising (before ++ value ∷ []) n (least + 1) row out → Rising before (suc n) least (f ∷ row) out
 value_first before n least value f row out shown used some range r = record {
   tail = value ∷ r.tail;
@@ -194,7 +193,7 @@ set_here before c v more len =
 
 -- the next field is that of the class that stands this far behind
 at_class : (far : ℕ) (before : List ℕ) (n least class value : ℕ) (f : List ℕ) (row : Row) (out : List ℕ) → class ≡ least + far → length before ≡ least →
-    least + n ≡ 16 → class ≤ 15 → f ≡ rise_field class value → is_used_class class ≡ true → (value == 0) ≡ false → value ≤ 18446744073709551615 →
+    least + n ≡ 16 → class ≤ 15 → f ≡ rise_field class value → is_written_class class ≡ true → (value == 0) ≡ false → value ≤ 18446744073709551615 →
     ((before : List ℕ) (n : ℕ) → length before ≡ class + 1 → class + 1 + n ≡ 16 → rises_from (before ++ zeros n) (class + 1) row ≡ Ok out →
     Rising before n (class + 1) row out) →
     rises_from (set (before ++ zeros n) class value) (class + 1) row ≡ Ok out → Rising before n least (f ∷ row) out
@@ -227,17 +226,17 @@ pub rises_again : (vs before : List ℕ) (least class : ℕ) → length before �
     AreWords vs → rises_from (before ++ zeros (length vs)) least (rises_row class vs) ≡ Ok (before ++ vs)
 rises_again [] before least class len low all used range = refl
 rises_again (v ∷ vs) before least class len low all used range =
-    let both = and_parts (v == 0 || is_used_class class) (rise_in_classes (class + 1) vs) used in
+    let both = and_parts (v == 0 || is_written_class class) (rise_in_classes (class + 1) vs) used in
     let next : (w k : ℕ) → k ≤ class + 1 → rises_from ((before ++ w ∷ []) ++ zeros (length vs)) k (rises_row (class + 1) vs) ≡ Ok ((before ++ w ∷ []) ++ vs) =
     λ w k le. rises_again vs (before ++ w ∷ []) k (class + 1) (one_more before w class len) le (omega (arith, all)) both.1 range.1 in
     go next both.0 (v == 0) refl
   where
-    used_here : (b : Bool) → b ≡ false → (b || is_used_class class) ≡ true → is_used_class class ≡ true
+    used_here : (b : Bool) → b ≡ false → (b || is_written_class class) ≡ true → is_written_class class ≡ true
     used_here true none e = absurd cc
     used_here false none e = e
 
     go : ((w k : ℕ) → k ≤ class + 1 → rises_from ((before ++ w ∷ []) ++ zeros (length vs)) k (rises_row (class + 1) vs) ≡ Ok ((before ++ w ∷ []) ++ vs)) →
-        (v == 0 || is_used_class class) ≡ true → (b : Bool) → (v == 0) ≡ b →
+        (v == 0 || is_written_class class) ≡ true → (b : Bool) → (v == 0) ≡ b →
         rises_from (before ++ zeros (suc (length vs))) least (if b then rises_row (class + 1) vs else rise_field class v ∷ rises_row (class + 1) vs)
         ≡ Ok (before ++ v ∷ vs)
     go next h true is =

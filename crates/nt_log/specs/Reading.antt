@@ -11,12 +11,12 @@ use Rattle.nt_event.specs.declared.limits.TheConstants.{EVENTS, TURNS}
 use Rattle.nt_event.specs.declared.events.Rises.{Rises}
 use Rattle.nt_event.specs.declared.events.Turn.{Turn}
 use Rattle.nt_event.specs.declared.events.Turn.TheVariants.{Next, Look, Switch}
-use Rattle.nt_event.specs.Classes.{is_used_class}
 use Rattle.nt_line.specs.NameLists.{NameLists}
 use Rattle.nt_line.specs.Results.{◌>>=◌, ok_if}
 use Rattle.nt_line.specs.Fields.{read_number, read_cpu, read_thread}
 use Rattle.nt_line.specs.Commands.{read1, read2}
 use Rattle.nt_script.specs.Reading.{counted, go_on}
+use Rattle.nt_log.specs.Schedules.{is_written_class}
 use Rattle.nt_log.specs.declared.schedules.Schedule.{Schedule}
 use Rattle.nt_log.specs.declared.walk.ScheduleWalk.{ScheduleWalk}
 use Rattle.nt_log.specs.declared.walk.SchedulePlace.{SchedulePlace}
@@ -24,10 +24,10 @@ use Rattle.nt_log.specs.declared.walk.SchedulePlace.TheVariants.{Start, InTurns,
 
 -- ---- the values of a look
 
--- a class that is used and not below this one
+-- a class that a look may name and that is not below this one
 abbrev pub read_class : ℕ → List ℕ → Result ℕ ScriptKind
 read_class least field = read_number 15 field >>= λ class. ok_if
-    (nat_le least class && is_used_class class) class BadNumber
+    (nat_le least class && is_written_class class) class BadNumber
 
 -- a value of 64 bits above 0
 abbrev pub read_value : List ℕ → Result ℕ ScriptKind

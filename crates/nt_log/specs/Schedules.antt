@@ -8,7 +8,7 @@ use Rattle.nt_event.specs.declared.events.Rises.{Rises}
 use Rattle.nt_event.specs.declared.events.Turn.{Turn}
 use Rattle.nt_event.specs.declared.events.Turn.TheVariants.{Next, Look, Switch}
 use Rattle.nt_event.specs.declared.scripts.Script.{Script}
-use Rattle.nt_event.specs.Classes.{is_used_class}
+use Rattle.nt_event.specs.Classes.{is_used_class, lock_class}
 use Rattle.nt_event.specs.Script.{has_thread}
 use Rattle.nt_event.specs.Step.{cpu_at, turn_of}
 use Rattle.nt_script.specs.declared.walk.Input.{Input}
@@ -33,10 +33,14 @@ turn_fits s (Look p rises) = true
 abbrev pub turns_fit : Script → List Turn → Bool
 turns_fit s turns = list_all (turn_fits s) turns
 
+-- a class that a look of a text may name: each that is used but that of locks, for which the texts have no words
+abbrev pub is_written_class : ℕ → Bool
+is_written_class class = is_used_class class && not (class == lock_class)
+
 -- the values, of which the first is of this class, rise in such classes only
 abbrev pub rise_in_classes : ℕ → List ℕ → Bool
 rise_in_classes class [] = true
-rise_in_classes class (v ∷ vs) = (v == 0 || is_used_class class) && rise_in_classes (class + 1) vs
+rise_in_classes class (v ∷ vs) = (v == 0 || is_written_class class) && rise_in_classes (class + 1) vs
 
 -- a value for each class, of which one at least rises, and only those of such classes
 pub record AreRises (r : Rises) : Type 0 where

@@ -140,6 +140,7 @@ fn put_turn_of(
         | Did::Rewait { .. }
         | Did::Flush { .. }
         | Did::Gone { .. }
+        | Did::Free { .. }
         | Did::Rest => put_next(out, event.cpu),
     }
 }

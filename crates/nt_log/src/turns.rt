@@ -4,19 +4,27 @@ ghost use Rattle.std.specs.List.{position};
 ghost use Rattle.std.specs.Result.{result_map_both};
 ghost use Rattle.nt_text.specs.Lines.{is_byte};
 ghost use Rattle.nt_script.specs.Reading.{counted};
+ghost use Rattle.nt_log.specs.Schedules.{is_written_class};
 ghost use Rattle.nt_log.specs.Reading.{read_class, read_value, read_rise, read_rises, read_next, read_switch, read_look, read_turn};
 
 use nt_event::{Rises, Turn, class};
 use nt_line::{Names, fields};
 use nt_text::{Fields, ScriptKind, number};
 
-/// A class that is used and not below `least`.
-fn used_class(least: u8, field: &[u8]) -> Result<u8, ScriptKind>
+/// Whether a look of a text may name the class: each that is used but that of locks, for which the texts have no words.
+fn is_written(class: u8) -> bool
+    ensures { result ≡ is_written_class class }
+{
+    class::is_used(class) && class != class::LOCK
+}
+
+/// A class that a look may name and that is not below `least`.
+fn written_class(least: u8, field: &[u8]) -> Result<u8, ScriptKind>
     ensures value { result ≡ read_class least field.now }
     ensures within { IfOk result (λ class. class < 16) }
 {
     let class = fields::number(field, 15)? as u8;
-    if least <= class && class::is_used(class) {
+    if least <= class && is_written(class) {
         Ok(class)
     } else {
         Err(ScriptKind::BadNumber)
@@ -53,7 +61,7 @@ fn rise(least: u8, field: &[u8]) -> Result<(u8, u64), ScriptKind>
 {
     match equals_place(field) {
         Some(place) => {
-            let class = used_class(least, &field[..place])?;
+            let class = written_class(least, &field[..place])?;
             let value = value(&field[place + 1..])?;
             Ok((class, value))
         }

@@ -9,5 +9,6 @@ mod Turns
 mod Whole
 pub mod OneEvent
 pub mod OneReport
+pub mod Told
 mod Blocks
 mod Passed

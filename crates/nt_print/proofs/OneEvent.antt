@@ -11,25 +11,26 @@ use Rattle.nt_event.specs.declared.commands.ApcKind.{ApcKind}
 use Rattle.nt_event.specs.declared.commands.ApcKind.TheVariants as kind
 use Rattle.nt_event.specs.declared.commands.Command.{Command}
 use Rattle.nt_event.specs.declared.commands.Refusal.{Refusal}
-use Rattle.nt_event.specs.declared.commands.Refusal.TheVariants.{NotThread, NotBase, TooHigh, RegionsOpen, NotGreater, NotLess, BelowBase, NotEntered}
+use Rattle.nt_event.specs.declared.commands.Refusal.TheVariants.{NotThread, NotBase, TooHigh, RegionsOpen, NotGreater, NotLess, BelowBase, NotEntered, LockHeld, HeldHere, NotLast}
 use Rattle.nt_event.specs.declared.commands.Reply.{Reply}
-use Rattle.nt_event.specs.declared.commands.Reply.TheVariants.{Done, Yes, No, Status, Blocked, Refused}
+use Rattle.nt_event.specs.declared.commands.Reply.TheVariants.{Done, Yes, No, Status, Blocked, Spin, Refused}
 use Rattle.nt_event.specs.declared.commands.TimerKey.{TimerKey}
 use Rattle.nt_event.specs.declared.commands.TimerKey.TheVariants as key
 use Rattle.nt_event.specs.declared.events.Begun.{Begun}
 use Rattle.nt_event.specs.declared.events.Begun.TheVariants as begun
 use Rattle.nt_event.specs.declared.events.Event.{Event}
 use Rattle.nt_event.specs.declared.events.What.{What}
-use Rattle.nt_event.specs.declared.events.What.TheVariants.{Call, Look, Begin, Normal, End, Expire, Fire, Clean, Switch, Rewait, Flush, Gone, Rest}
+use Rattle.nt_event.specs.declared.events.What.TheVariants.{Call, Look, Begin, Normal, End, Expire, Fire, Clean, Switch, Rewait, Flush, Gone, Free, Rest}
 use Rattle.nt_event.specs.declared.numbers.ApcNo.{ApcNo}
 use Rattle.nt_event.specs.declared.numbers.CpuNo.{CpuNo}
 use Rattle.nt_event.specs.declared.numbers.DpcNo.{DpcNo}
+use Rattle.nt_event.specs.declared.numbers.LockNo.{LockNo}
 use Rattle.nt_event.specs.declared.numbers.ThreadNo.{ThreadNo}
 use Rattle.nt_event.specs.declared.numbers.TimerNo.{TimerNo}
 use Rattle.nt_event.specs.declared.scripts.ApcDecl.{ApcDecl}
 use Rattle.nt_event.specs.declared.scripts.Script.{Script}
 use Rattle.nt_event.specs.Numbered.{refusal_name, refusal_number}
-use Rattle.nt_event.specs.Script.{command_fits, has_apc, has_cpu, has_dpc, has_thread, has_timer, where_given}
+use Rattle.nt_event.specs.Script.{command_fits, has_apc, has_cpu, has_dpc, has_lock, has_thread, has_timer, where_given}
 use Rattle.nt_script.specs.declared.walk.Input.{Input}
 use Rattle.nt_line.specs.declared.keywords.Verb.{Verb}
 use Rattle.nt_line.specs.declared.keywords.Keyword.TheVariants as keyword
@@ -40,14 +41,14 @@ use Rattle.nt_line.specs.Fields.{dash, read_apc, read_dpc, read_thread, read_tim
 use Rattle.nt_line.specs.Fits.{HasRange}
 use Rattle.nt_script.specs.Sound.{IsSound}
 use Rattle.nt_text.specs.Lines.{Row}
-use Rattle.nt_line.specs.Rows.{command_args, command_row, command_verb}
+use Rattle.nt_line.specs.Rows.{command_args, command_row, command_verb, verb_field}
 use Rattle.nt_line.specs.Keywords.{text_of, verb_arity, keyword_of}
 use Rattle.nt_script.proofs.Again.{keyword_again}
 use Rattle.nt_script.proofs.Clean.{apc_field, command_clean, dpc_field, thread_field, timer_field}
 use Rattle.nt_script.proofs.Fit.{Fit}
 use Rattle.nt_line.proofs.Found.{are_read, is_new}
 use Rattle.nt_script.proofs.Soundness.{Counts, command_from, sound_fits}
-use Rattle.nt_line.proofs.Spelled.{AreRead, args_count, command_again}
+use Rattle.nt_line.proofs.Spelled.{AreRead, args_count, command_again, line_verb, word_of_line}
 use Rattle.nt_log.proofs.OneRow.{decimal_one, hexadecimal_field, hexadecimal_one, parts_one, read_one, row_from, row_to}
 use Rattle.nt_print.specs.Conditions.{BegunInRange, EventIsPlain, IsWord, ReplyInRange, StatusInRange, WhatInRange}
 use Rattle.nt_event.specs.Fitting.{begun_fits, event_fits, key_fits, what_fits}
@@ -73,7 +74,7 @@ known input s =
     record {
       fit = fit;
       are = are_read input.names fit.few fit.names;
-      counts = record { dpcs = s.dpcs; timers = s.timers; threads = s.threads; apcs = s.apcs; routines = s.routines };
+      counts = record { dpcs = s.dpcs; timers = s.timers; threads = s.threads; apcs = s.apcs; routines = s.routines; locks = s.locks };
     }
 
 below : (i n m : ℕ) → n ≡ m → nat_lt i m ≡ true → i < n
@@ -112,6 +113,10 @@ thread_one input k t u h g e = read_one (read_thread input.names) (show_thread i
 thread_clean : (input : Input) → Known input → (t : ThreadNo) → has_thread input.script t ≡ true → is_field (show_thread input.names t) ≡ true
 thread_clean input k t h = thread_field input.names k.fit.names t.0 (thread_at input k t h)
 
+-- a script that has a text has no locks
+pub no_lock : (input : Input) → Known input → (l : LockNo) → has_lock input.script l ≡ true → ⊥
+no_lock input k l h = let lt = ltb-true l.0 input.script.locks h in let none = k.counts.locks in omega (arith, lt, none)
+
 pub apc_at : (input : Input) → Known input → (a : ApcNo) → has_apc input.script a ≡ true → a.0 < length input.names.apcs
 apc_at input k a h = below a.0 (length input.names.apcs) (length input.script.apcs) k.counts.apcs h
 
@@ -144,6 +149,9 @@ refusal_small NotGreater = omega arith
 refusal_small NotLess = omega arith
 refusal_small BelowBase = omega arith
 refusal_small NotEntered = omega arith
+refusal_small LockHeld = omega arith
+refusal_small HeldHere = omega arith
+refusal_small NotLast = omega arith
 
 refusal_one : (r q : Refusal) → refusal_number r ≡ refusal_number q → r ≡ q
 refusal_one NotThread NotThread e = refl
@@ -154,6 +162,9 @@ refusal_one NotGreater NotGreater e = refl
 refusal_one NotLess NotLess e = refl
 refusal_one BelowBase BelowBase e = refl
 refusal_one NotEntered NotEntered e = refl
+refusal_one LockHeld LockHeld e = refl
+refusal_one HeldHere HeldHere e = refl
+refusal_one NotLast NotLast e = refl
 refusal_one r q e = absurd (omega (arith, e))
 
 refusal_clean : (r : Refusal) → is_field (refusal_name r) ≡ true
@@ -165,6 +176,9 @@ refusal_clean NotGreater = refl
 refusal_clean NotLess = refl
 refusal_clean BelowBase = refl
 refusal_clean NotEntered = refl
+refusal_clean LockHeld = refl
+refusal_clean HeldHere = refl
+refusal_clean NotLast = refl
 
 reply_one : (r q : Reply) → ReplyInRange r → ReplyInRange q → replied r ≡ replied q → r ≡ q
 unfolding initial
@@ -178,6 +192,8 @@ reply_one Blocked Blocked h g e = refl
 reply_one (Refused a) (Refused b) h g e =
     let field : decimal (refusal_number a) ≡ decimal (refusal_number b) = cc in
     ap (λ (r : Refusal). Refused r) (refusal_one a b (decimal_one (refusal_number a) (refusal_number b) (refusal_small a) (refusal_small b) field))
+reply_one Spin q h g e = absurd h
+reply_one r Spin h g e = absurd g
 reply_one r q h g e = absurd (omega (arith, ap (λ (row : Row). initial row 1) e))
 
 reply_clean : (r : Reply) → ReplyInRange r → list_all is_field (replied r) ≡ true
@@ -186,6 +202,7 @@ reply_clean Yes h = refl
 reply_clean No h = refl
 reply_clean (Status x) h = rw (hexadecimal_field x h) refl
 reply_clean Blocked h = refl
+reply_clean Spin h = absurd h
 reply_clean (Refused r) h = rw (decimal_field (refusal_number r) (refusal_small r), refusal_clean r) refl
 
 -- ---- commands
@@ -203,16 +220,19 @@ called_one : (input : Input) → Known input → (c d : Command) (r q : Reply) �
     → command_row input.names c ++ replied r ≡ command_row input.names d ++ replied q → (c ≡ d) × (r ≡ q)
 called_one input k c d r q hc hd rc rd hr hq e =
     let names = input.names in
-    let head : text_of (keyword.Call (command_verb c)) ≡ text_of (keyword.Call (command_verb d)) = cc in
+    let cpus = input.script.cpus in
+    let fits = command_plain input k c hc rc in
+    let fits_too = command_plain input k d hd rd in
+    let head : verb_field (command_verb c) ≡ verb_field (command_verb d) = cc in
     let more : command_args names c ++ replied r ≡ command_args names d ++ replied q = cc in
-    let verb : command_verb c ≡ command_verb d = verb_one (command_verb c) (command_verb d) head in
-    let long : length (command_args names c) ≡ length (command_args names d) = args_count names c ∙ ap verb_arity verb ∙ sym (args_count names d) in
+    let verb : line_verb c ≡ line_verb d = verb_one (line_verb c) (line_verb d)
+    (sym (word_of_line names cpus c fits) ∙ head ∙ word_of_line names cpus d fits_too) in
+    let long : length (command_args names c) ≡ length (command_args names d) =
+    args_count names cpus c fits ∙ ap verb_arity verb ∙ sym (args_count names cpus d fits_too) in
     let parts = parts_one (command_args names c) (command_args names d) (replied r) (replied q) long more in
     let args : command_args names c ≡ command_args names d = parts.0 in
-    let cpus = input.script.cpus in
-    let again : command_of names cpus (command_verb c) (command_args names c) ≡ command_of names cpus (command_verb d) (command_args names d) = cc in
-    let both = sym (command_again names cpus k.are k.fit.cpus.1 c (command_plain input k c hc rc)) ∙ again
-    ∙ command_again names cpus k.are k.fit.cpus.1 d (command_plain input k d hd rd) in
+    let again : command_of names cpus (line_verb c) (command_args names c) ≡ command_of names cpus (line_verb d) (command_args names d) = cc in
+    let both = sym (command_again names cpus k.are k.fit.cpus.1 c fits) ∙ again ∙ command_again names cpus k.are k.fit.cpus.1 d fits_too in
     (ok_one both, reply_one r q hr hq parts.1)
   where
     ok_one : {E : Type 0} {c d : Command} → ◌≡◌ {A = Result Command E} (Ok c) (Ok d) → c ≡ d
@@ -378,6 +398,8 @@ what_one input k (Flush a n) (Flush b m) hw hv ru rv l j e =
 what_one input k (Gone t) (Gone u) hw hv ru rv l m e = let field : show_thread input.names t ≡ show_thread input.names u = cc in
     ap (λ (t : ThreadNo). Gone t) (thread_one input k t u hw hv field)
 what_one input k Rest Rest hw hv ru rv l m e = refl
+what_one input k (Free f x) v hw hv ru rv l m e = absurd (no_lock input k x hw)
+what_one input k w (Free g y) hw hv ru rv l m e = absurd (no_lock input k y hv)
 what_one input k (Look a) v hw hv ru rv l m e = absurd cc
 what_one input k w (Look b) hw hv ru rv l m e = absurd cc
 what_one input k w v hw hv ru rv l m e = absurd (omega (arith, ap mark e))
@@ -399,6 +421,7 @@ what_clean input k (Switch t a) h g = rw (thread_clean input k t h, status_clean
 what_clean input k (Rewait f r) h g = rw (word_field f g.0, reply_clean r g.1) refl
 what_clean input k (Flush a n) h g = rw (apc_clean input k a h, word_field n g) refl
 what_clean input k (Gone t) h g = rw (thread_clean input k t h) refl
+what_clean input k (Free f l) h g = refl
 what_clean input k Rest h g = refl
 
 -- ---- events

@@ -3,13 +3,13 @@ use Rattle.std.specs.Prelude.{◌≡◌, ℕ, ◌≤◌, true, List, length, Non
 use Rattle.std.specs.List.{AllByRecursion}
 use Rattle.nt_event.specs.declared.limits.TheConstants.{EVENTS, TURNS}
 use Rattle.nt_event.specs.declared.commands.Reply.{Reply}
-use Rattle.nt_event.specs.declared.commands.Reply.TheVariants.{Blocked, Done, No, Refused, Status, Yes}
+use Rattle.nt_event.specs.declared.commands.Reply.TheVariants.{Blocked, Done, No, Refused, Spin, Status, Yes}
 use Rattle.nt_event.specs.declared.events.Begun.{Begun}
 use Rattle.nt_event.specs.declared.events.Begun.TheVariants.{Apc, Dpc, Int, Threaded}
 use Rattle.nt_event.specs.declared.events.Event.{Event}
 use Rattle.nt_event.specs.declared.events.History.{History}
 use Rattle.nt_event.specs.declared.events.What.{What}
-use Rattle.nt_event.specs.declared.events.What.TheVariants.{Begin, Call, Clean, End, Expire, Fire, Flush, Gone, Look, Normal, Rest, Rewait, Switch}
+use Rattle.nt_event.specs.declared.events.What.TheVariants.{Begin, Call, Clean, End, Expire, Fire, Flush, Free, Gone, Look, Normal, Rest, Rewait, Switch}
 use Rattle.nt_event.specs.declared.scripts.Script.{Script}
 use Rattle.nt_log.specs.Schedules.{AreRises}
 use Rattle.nt_script.specs.declared.walk.Input.{Input}
@@ -17,18 +17,21 @@ use Rattle.nt_line.specs.Fits.{HasRange}
 use Rattle.nt_script.specs.Sound.{IsSound}
 use Rattle.nt_event.specs.Fitting.{event_fits}
 use Rattle.nt_print.specs.Report.{report_text}
+use Rattle.nt_print.specs.Written.{is_written_refusal}
 
 -- a number of 32 bits
 abbrev pub IsWord : ℕ → Type 0
 IsWord n = n ≤ 4294967295
 
+-- a reply that a text can tell
 abbrev pub ReplyInRange : Reply → Type 0
 ReplyInRange (Status x) = IsWord x
 ReplyInRange Done = Unit {0}
 ReplyInRange Yes = Unit {0}
 ReplyInRange No = Unit {0}
 ReplyInRange Blocked = Unit {0}
-ReplyInRange (Refused r) = Unit {0}
+ReplyInRange Spin = ⊥
+ReplyInRange (Refused r) = is_written_refusal r ≡ true
 
 abbrev pub BegunInRange : Begun → Type 0
 BegunInRange (Int level) = level ≤ 15
@@ -40,7 +43,7 @@ abbrev pub StatusInRange : Option ℕ → Type 0
 StatusInRange None = Unit {0}
 StatusInRange (Some x) = IsWord x
 
--- the numbers of an event are in their ranges, and a look has values in classes only
+-- the numbers of an event are in their ranges, a text can tell its reply, and a look has values in classes only
 abbrev pub WhatInRange : What → Type 0
 WhatInRange (Call frame c reply) = IsWord frame × HasRange c × ReplyInRange reply
 WhatInRange (Look rises) = AreRises rises
@@ -54,6 +57,7 @@ WhatInRange (Switch t status) = StatusInRange status
 WhatInRange (Rewait frame reply) = IsWord frame × ReplyInRange reply
 WhatInRange (Flush a from) = IsWord from
 WhatInRange (Gone t) = Unit {0}
+WhatInRange (Free frame l) = IsWord frame
 WhatInRange Rest = Unit {0}
 
 -- a look names no thread and has level 0
@@ -70,6 +74,7 @@ LookIsBare e (Switch t status) = Unit {0}
 LookIsBare e (Rewait frame reply) = Unit {0}
 LookIsBare e (Flush a from) = Unit {0}
 LookIsBare e (Gone t) = Unit {0}
+LookIsBare e (Free frame l) = Unit {0}
 LookIsBare e Rest = Unit {0}
 
 abbrev pub EventInRange : Event → Type 0

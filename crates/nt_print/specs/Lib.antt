@@ -1,4 +1,5 @@
 pub mod Lent
+pub mod Written
 pub mod Report
 pub mod Conditions
 pub mod Counts

@@ -11,14 +11,14 @@ use Rattle.nt_event.specs.declared.commands.ApcKind.TheVariants as kind
 use Rattle.nt_event.specs.declared.commands.TimerKey.{TimerKey}
 use Rattle.nt_event.specs.declared.commands.TimerKey.TheVariants as key
 use Rattle.nt_event.specs.declared.commands.Reply.{Reply}
-use Rattle.nt_event.specs.declared.commands.Reply.TheVariants.{Done, Yes, No, Status, Blocked, Refused}
+use Rattle.nt_event.specs.declared.commands.Reply.TheVariants.{Done, Yes, No, Status, Blocked, Spin, Refused}
 use Rattle.nt_event.specs.declared.scripts.ApcDecl.{ApcDecl}
 use Rattle.nt_event.specs.declared.events.Begun.{Begun}
 use Rattle.nt_event.specs.declared.events.Begun.TheVariants as begun
 use Rattle.nt_event.specs.declared.events.Event.{Event}
 use Rattle.nt_event.specs.declared.events.History.{History}
 use Rattle.nt_event.specs.declared.events.What.{What}
-use Rattle.nt_event.specs.declared.events.What.TheVariants.{Call, Look, Begin, Normal, End, Expire, Fire, Clean, Switch, Rewait, Flush, Gone, Rest}
+use Rattle.nt_event.specs.declared.events.What.TheVariants.{Call, Look, Begin, Normal, End, Expire, Fire, Clean, Switch, Rewait, Flush, Gone, Free, Rest}
 use Rattle.nt_script.specs.declared.walk.Input.{Input}
 use Rattle.nt_line.specs.NameLists.{NameLists, show_dpc, show_timer, show_thread, show_apc}
 use Rattle.nt_text.specs.Lines.{Row}
@@ -40,7 +40,7 @@ show_running names (Some t) = show_thread names t
 abbrev pub hexadecimal : ℕ → List ℕ
 hexadecimal n = digits 16 false n
 
--- ---- what an event does
+-- ---- what an event does; a text has no words for locks
 
 abbrev pub reply_row : Reply → Row
 reply_row Done = codes "done" ∷ []
@@ -48,6 +48,7 @@ reply_row Yes = codes "yes" ∷ []
 reply_row No = codes "no" ∷ []
 reply_row (Status x) = codes "status" ∷ hexadecimal x ∷ []
 reply_row Blocked = codes "blocked" ∷ []
+reply_row Spin = []
 reply_row (Refused r) = codes "refused" ∷ decimal (refusal_number r) ∷ refusal_name r ∷ []
 
 -- `->` and the reply
@@ -94,6 +95,7 @@ what_row input (Switch t status) = codes "switch" ∷ show_thread input.names t 
 what_row input (Rewait frame r) = codes "rewait" ∷ decimal frame ∷ replied r
 what_row input (Flush a from) = codes "flush" ∷ show_apc input.names a ∷ used from
 what_row input (Gone t) = codes "gone" ∷ show_thread input.names t ∷ []
+what_row input (Free frame l) = []
 what_row input Rest = codes "rest" ∷ []
 
 -- what stands behind an event's number
@@ -118,6 +120,7 @@ line_rows input n e (Switch t status) = event_row input n e ∷ []
 line_rows input n e (Rewait frame reply) = event_row input n e ∷ []
 line_rows input n e (Flush a from) = event_row input n e ∷ []
 line_rows input n e (Gone t) = event_row input n e ∷ []
+line_rows input n e (Free frame l) = event_row input n e ∷ []
 line_rows input n e Rest = event_row input n e ∷ []
 
 -- the lines of the events, of which the first has this number

@@ -2,11 +2,11 @@
 use Rattle.std.specs.Prelude.{ℕ, Bool, true, false, List, [], ◌∷◌, count_by, length, reverse, codes, decimal}
 use Rattle.nt_text.specs.Lines.{Row, rows_text}
 use Rattle.nt_event.specs.declared.commands.Reply.{Reply}
-use Rattle.nt_event.specs.declared.commands.Reply.TheVariants.{Blocked, Done, No, Refused, Status, Yes}
+use Rattle.nt_event.specs.declared.commands.Reply.TheVariants.{Blocked, Done, No, Refused, Spin, Status, Yes}
 use Rattle.nt_event.specs.declared.events.Event.{Event}
 use Rattle.nt_event.specs.declared.events.History.{History}
 use Rattle.nt_event.specs.declared.events.What.{What}
-use Rattle.nt_event.specs.declared.events.What.TheVariants.{Begin, Call, Clean, End, Expire, Fire, Flush, Gone, Look, Normal, Rest, Rewait, Switch}
+use Rattle.nt_event.specs.declared.events.What.TheVariants.{Begin, Call, Clean, End, Expire, Fire, Flush, Free, Gone, Look, Normal, Rest, Rewait, Switch}
 use Rattle.nt_script.specs.declared.walk.Input.{Input}
 use Rattle.nt_print.specs.Report.{cut_rows, wait_rows}
 
@@ -25,6 +25,7 @@ is_call (Switch t status) = false
 is_call (Rewait frame reply) = false
 is_call (Flush a from) = false
 is_call (Gone t) = false
+is_call (Free frame l) = false
 is_call Rest = false
 
 abbrev pub is_refused : Reply → Bool
@@ -34,6 +35,7 @@ is_refused Yes = false
 is_refused No = false
 is_refused (Status x) = false
 is_refused Blocked = false
+is_refused Spin = false
 
 abbrev pub is_refused_call : What → Bool
 is_refused_call (Call frame c reply) = is_refused reply
@@ -48,6 +50,7 @@ is_refused_call (Switch t status) = false
 is_refused_call (Rewait frame reply) = false
 is_refused_call (Flush a from) = false
 is_refused_call (Gone t) = false
+is_refused_call (Free frame l) = false
 is_refused_call Rest = false
 
 abbrev pub is_begin : What → Bool
@@ -63,6 +66,7 @@ is_begin (Switch t status) = false
 is_begin (Rewait frame reply) = false
 is_begin (Flush a from) = false
 is_begin (Gone t) = false
+is_begin (Free frame l) = false
 is_begin Rest = false
 
 -- how many events did such a thing

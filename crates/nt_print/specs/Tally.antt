@@ -36,11 +36,13 @@ with_named events k (Some i) flags = if nat_lt i.number k && is_it i.thing (inse
 -- the last removals of objects, where the event of this number removed a thing
 abbrev pub removed_dpcs : ℕ → Option Thing → List ℕ → List ℕ
 removed_dpcs k (Some (DpcThing x)) numbers = slice_set numbers x.0 k
-removed_dpcs k _ numbers = numbers
+removed_dpcs k (Some (ApcThing x)) numbers = numbers
+removed_dpcs k None numbers = numbers
 
 abbrev pub removed_apcs : ℕ → Option Thing → List ℕ → List ℕ
 removed_apcs k (Some (ApcThing x)) numbers = slice_set numbers x.0 k
-removed_apcs k _ numbers = numbers
+removed_apcs k (Some (DpcThing x)) numbers = numbers
+removed_apcs k None numbers = numbers
 
 -- what the event of this number inserts, names and removes is noted
 abbrev pub with_use : List Event → ℕ → What → Tally → Tally

@@ -6,7 +6,7 @@ use Rattle.nt_event.specs.declared.commands.Reply.TheVariants.{Yes}
 use Rattle.nt_event.specs.declared.events.Begun.TheVariants.{Apc, Dpc, Int, Threaded}
 use Rattle.nt_event.specs.declared.events.Event.{Event}
 use Rattle.nt_event.specs.declared.events.What.{What}
-use Rattle.nt_event.specs.declared.events.What.TheVariants.{Begin, Call, Clean, End, Expire, Fire, Flush, Gone, Look, Normal, Rest, Rewait, Switch}
+use Rattle.nt_event.specs.declared.events.What.TheVariants.{Begin, Call, Clean, End, Expire, Fire, Flush, Free, Gone, Look, Normal, Rest, Rewait, Switch}
 use Rattle.nt_event.specs.declared.events.What.TheVariants as what
 use Rattle.nt_event.specs.declared.scripts.Script.{Script}
 use Rattle.nt_event.specs.Fate.{ApcThing, DpcThing, Inserted, Thing, fate_of, inserted_thing, still_waits}
@@ -31,7 +31,8 @@ thing_fits s (ApcThing a) = has_apc s a
 abbrev pub same_thing : Thing → Thing → Bool
 same_thing (DpcThing x) (DpcThing d) = x.0 == d.0
 same_thing (ApcThing x) (ApcThing a) = x.0 == a.0
-same_thing _ _ = false
+same_thing (DpcThing x) (ApcThing a) = false
+same_thing (ApcThing x) (DpcThing d) = false
 
 -- the thing is the one that was found
 abbrev pub is_it : Thing → Option Thing → Bool
@@ -57,6 +58,7 @@ named_by (Clean class) = None
 named_by (Switch t status) = None
 named_by (Rewait frame reply) = None
 named_by (Gone t) = None
+named_by (Free frame l) = None
 named_by Rest = None
 
 -- what is removed with reply yes
@@ -86,6 +88,8 @@ removed_by (Call f (cmd.Interrupt q level) y) = None
 removed_by (Call f (cmd.Clock units) y) = None
 removed_by (Call f cmd.ToUser y) = None
 removed_by (Call f cmd.Yield y) = None
+removed_by (Call f (cmd.Acquire l) y) = None
+removed_by (Call f (cmd.Unlock l) y) = None
 removed_by (Call f (cmd.Note k) y) = None
 removed_by (what.Look rises) = None
 removed_by (what.Begin b from) = None
@@ -98,6 +102,7 @@ removed_by (what.Switch t status) = None
 removed_by (what.Rewait f y) = None
 removed_by (what.Flush a from) = None
 removed_by (what.Gone t) = None
+removed_by (what.Free f l) = None
 removed_by what.Rest = None
 
 -- the insert that is named is this one

@@ -29,7 +29,7 @@ fn is_same(x: Object, y: Object) -> bool
     match (x, y) {
         (Object::Dpc(x), Object::Dpc(y)) => x.0 == y.0,
         (Object::Apc(x), Object::Apc(y)) => x.0 == y.0,
-        _ => false,
+        (Object::Dpc(_), Object::Apc(_)) | (Object::Apc(_), Object::Dpc(_)) => false,
     }
 }
 
@@ -63,6 +63,8 @@ fn inserted_by(command: &Command, reply: &Reply) -> Option<Object>
         | (Command::Clock(_), _)
         | (Command::ToUser, _)
         | (Command::Yield, _)
+        | (Command::Acquire(_), _)
+        | (Command::Unlock(_), _)
         | (Command::Note(_), _) => None,
     }
 }
@@ -75,7 +77,12 @@ pub(crate) fn inserted(did: &Did) -> Option<Object>
         Did::Call { command, reply, .. } => inserted_by(command, reply),
         Did::Fire { dpc, reply } => match reply {
             Reply::Yes => Some(Object::Dpc(*dpc)),
-            Reply::Done | Reply::No | Reply::Status(_) | Reply::Blocked | Reply::Refused(_) => None,
+            Reply::Done
+            | Reply::No
+            | Reply::Status(_)
+            | Reply::Blocked
+            | Reply::Spin
+            | Reply::Refused(_) => None,
         },
         Did::Look { .. }
         | Did::Begin { .. }
@@ -87,6 +94,7 @@ pub(crate) fn inserted(did: &Did) -> Option<Object>
         | Did::Rewait { .. }
         | Did::Flush { .. }
         | Did::Gone { .. }
+        | Did::Free { .. }
         | Did::Rest => None,
     }
 }

@@ -120,6 +120,8 @@ impl Tally {
             | Command::Clock(_)
             | Command::ToUser
             | Command::Yield
+            | Command::Acquire(_)
+            | Command::Unlock(_)
             | Command::Note(_) => {}
         }
     }
@@ -133,7 +135,7 @@ impl Tally {
         match reply {
             Reply::Refused(_) => self.refused += 1,
             Reply::Yes => self.note_done(number, command),
-            Reply::Done | Reply::No | Reply::Status(_) | Reply::Blocked => {}
+            Reply::Done | Reply::No | Reply::Status(_) | Reply::Blocked | Reply::Spin => {}
         }
     }
 
@@ -177,8 +179,12 @@ impl Tally {
             Did::Begin { begun, from } => self.note_begin(events, number, begun, *from),
             Did::Fire { reply, .. } => match reply {
                 Reply::Yes => self.unnamed.set(number),
-                Reply::Done | Reply::No | Reply::Status(_) | Reply::Blocked | Reply::Refused(_) =>
-                    {}
+                Reply::Done
+                | Reply::No
+                | Reply::Status(_)
+                | Reply::Blocked
+                | Reply::Spin
+                | Reply::Refused(_) => {}
             },
             Did::Flush { apc, from } => self.note_named(
                 events,
@@ -196,6 +202,7 @@ impl Tally {
             | Did::Switch { .. }
             | Did::Rewait { .. }
             | Did::Gone { .. }
+            | Did::Free { .. }
             | Did::Rest => {}
         }
     }

@@ -7,14 +7,14 @@ use Rattle.nt_event.specs.declared.commands.Command.{Command}
 use Rattle.nt_event.specs.declared.commands.Reply.{Reply}
 use Rattle.nt_event.specs.declared.events.Event.{Event}
 use Rattle.nt_event.specs.declared.events.What.TheVariants.{Call}
-use Rattle.nt_event.specs.declared.frames.Frame.{Frame}
+use Rattle.nt_event.specs.Frame.{Frame}
 use Rattle.nt_event.specs.declared.numbers.CpuNo.{CpuNo}
 use Rattle.nt_event.specs.declared.numbers.RoutineNo.{RoutineNo}
 use Rattle.nt_event.specs.declared.scripts.Routine.{Routine}
 use Rattle.nt_event.specs.declared.scripts.Script.{Script}
 use Rattle.nt_event.specs.Lanes.{lanes_at}
 use Rattle.nt_event.specs.Own.{own_of}
-use Rattle.nt_event.specs.Routines.{commands_of, next_command, routine_of}
+use Rattle.nt_event.specs.Routines.{command_at, commands_of, next_command, routine_of}
 use Rattle.nt_event.specs.Step.{IsRun}
 use Rattle.nt_runs.proofs.Known.{Known, KnownCall, legal_known}
 use Rattle.nt_runs.proofs.Turns.{is_next}
@@ -36,7 +36,7 @@ in_routine s (Some r) i c h e = go (slice_get s.routines r.0) refl e
 next_has_range : (s : Script) (p : CpuNo) (f : Frame) (c : Command) → CommandsHaveRange s → next_command s p f ≡ Some c → HasRange c
 next_has_range s p f c h e = go f.leaving e
   where
-    go : (b : Bool) → (if b then None else slice_get (commands_of s (routine_of s p f.body f.kernel_phase)) f.place) ≡ Some c → HasRange c
+    go : (b : Bool) → (if b then None else command_at s p f.body f.kernel_phase f.place) ≡ Some c → HasRange c
     go true q = absurd (no q)
       where
         no : ◌≡◌ {A = Option Command} None (Some c) → ⊥

@@ -6,14 +6,15 @@ use Rattle.std.specs.List.{AllByRecursion, list_all, list_any}
 use Rattle.std.specs.Prelude.{Bool, IfSome, List, None, Option, Some, [], false, length, nat_le, nat_lt, refl, true, ℕ, ◌<◌, ◌==◌, ◌||◌, ◌∷◌, ◌≡◌, ◌≤◌}
 use Rattle.nt_event.specs.declared.limits.TheConstants.{EVENTS}
 use Rattle.nt_event.specs.declared.commands.Reply.{Reply}
-use Rattle.nt_event.specs.declared.commands.Reply.TheVariants.{Status}
+use Rattle.nt_event.specs.declared.commands.Reply.TheVariants.{Refused, Spin, Status}
 use Rattle.nt_event.specs.declared.events.Begun.{Begun}
 use Rattle.nt_event.specs.declared.events.Begun.TheVariants.{Int}
 use Rattle.nt_event.specs.declared.events.Event.{Event}
 use Rattle.nt_event.specs.declared.events.What.{What}
-use Rattle.nt_event.specs.declared.events.What.TheVariants.{Begin, Call, Clean, End, Expire, Fire, Flush, Gone, Look, Normal, Rest, Rewait, Switch}
+use Rattle.nt_event.specs.declared.events.What.TheVariants.{Begin, Call, Clean, End, Expire, Fire, Flush, Free, Gone, Look, Normal, Rest, Rewait, Switch}
 use Rattle.nt_event.specs.declared.scripts.Script.{Script}
 use Rattle.nt_event.specs.Classes.{interrupt_classes}
+use Rattle.nt_event.specs.Fitting.{what_fits}
 use Rattle.nt_event.specs.Own.{own_of}
 use Rattle.nt_event.specs.Replies.{alerted, kernel_apc, satisfied, user_apc}
 use Rattle.nt_event.specs.Script.{fits}
@@ -25,13 +26,15 @@ use Rattle.nt_laws.specs.Named.{AllFit, EventFits, earlier, keeps_to_classes, va
 use Rattle.nt_laws.proofs.Named.EventsFit.{events_of_a_run_fit}
 use Rattle.nt_laws.proofs.Named.RunFits.{event_named}
 use Rattle.nt_print.specs.Conditions.{BegunInRange, EventIsPlain, IsWord, LookIsBare, ReplyInRange, StatusInRange, WhatInRange}
+use Rattle.nt_print.specs.Written.{is_written_reply, tells_written}
 use Rattle.nt_ranges.specs.Looks.{LookIsWhole}
 use Rattle.nt_ranges.specs.Statuses.{IsWaitStatus, ReplyIsOfWait, TellsWaitStatus}
 use Rattle.nt_ranges.proofs.Called.{CommandsHaveRange, called_has_range}
 use Rattle.nt_ranges.proofs.Levels.{AllKeepLevels, KeepsLevels, level_low}
 use Rattle.nt_ranges.proofs.Lists.{all_then}
-use Rattle.nt_ranges.proofs.Looks.{rises_below, rises_in_classes, some_rises}
+use Rattle.nt_ranges.proofs.Looks.{rises_below, some_rises}
 use Rattle.nt_ranges.proofs.Statuses.{statuses_are_those_of_waits}
+use Rattle.nt_ranges.proofs.Unlocked.{HasNoLocks, event_told, no_lock, no_move, rises_written}
 
 -- ---- levels
 
@@ -56,12 +59,16 @@ begun_low (Int level) from h = one_below level interrupt_classes refl h
 begun_low b from h = tt
 
 -- each event leaves levels in range
-pub keep_levels : (s : Script) (limit : ℕ) (past : List Event) → CommandsHaveRange s → AllFit s past → IsRun s limit past → AllKeepLevels past
-keep_levels s limit [] h f r = tt
-keep_levels s limit (e ∷ past) h f r = (go e.what refl, keep_levels s limit past h f.1 r.1)
+pub keep_levels : (s : Script) (limit : ℕ) (past : List Event) → CommandsHaveRange s → HasNoLocks s → AllFit s past → IsRun s limit past → AllKeepLevels past
+keep_levels s limit [] h none f r = tt
+keep_levels s limit (e ∷ past) h none f r = (go e.what refl, keep_levels s limit past h none f.1 r.1)
   where
     go : (w : What) → e.what ≡ w → KeepsLevels w
-    go (Call n c y) k = called_has_range s limit e past n c y h r k
+    go (Call n c y) k = (
+      called_has_range s limit e past n c y h r k,
+      no_move s none c y (subst (λ (w : What). what_fits s w ≡ true) k f.0.what),
+    )
+    go (Free n l) k = absurd (no_lock s none l (subst (λ (w : What). what_fits s w ≡ true) k f.0.what))
     go (Begin b from) k = begun_low b from (subst (λ (w : What). keeps_to_classes w ≡ true) k f.0.classes)
     go w k = tt
 
@@ -90,9 +97,11 @@ status_word x h = go (x == satisfied) (x == user_apc) (x == kernel_apc) (x == al
         no : false ≡ true → ⊥
         no e = cc
 
-reply_in_range : (y : Reply) → ReplyIsOfWait y → ReplyInRange y
-reply_in_range (Status x) h = status_word x h
-reply_in_range y h = tt
+reply_in_range : (y : Reply) → ReplyIsOfWait y → is_written_reply y ≡ true → ReplyInRange y
+reply_in_range (Status x) h told = status_word x h
+reply_in_range (Refused r) h told = told
+reply_in_range Spin h told = absurd cc
+reply_in_range y h told = tt
 
 status_in_range : (o : Option ℕ) → IfSome o IsWaitStatus → StatusInRange o
 status_in_range None h = tt
@@ -100,10 +109,13 @@ status_in_range (Some x) h = status_word x h
 
 -- ---- what an event does
 
-what_in_range : (s : Script) (limit : ℕ) (e : Event) (past : List Event) → EventFits s (length past) e → KeepsLevels e.what → length past ≤ EVENTS →
-    LookIsWhole e.what → IsRun s limit (e ∷ past) → (w : What) → e.what ≡ w → WhatInRange w
-what_in_range s limit e past f low few whole r w eq = go w eq
+what_in_range : (s : Script) (limit : ℕ) (e : Event) (past : List Event) → fits s ≡ true → HasNoLocks s → AllFit s (e ∷ past) → KeepsLevels e.what →
+    length past ≤ EVENTS → LookIsWhole e.what → IsRun s limit (e ∷ past) → (w : What) → e.what ≡ w → WhatInRange w
+what_in_range s limit e past fit none all low few whole r w eq = go w eq
   where
+    f : EventFits s (length past) e
+    f = all.0
+
     word : (w : What) (n : ℕ) → e.what ≡ w → earlier w ≡ Some n → IsWord n
     word w n k h = at (earlier w) h (subst (λ (w : What). IfSome (earlier w) (λ m. m < length past)) k f.earlier)
       where
@@ -114,11 +126,18 @@ what_in_range s limit e past f low few whole r w eq = go w eq
     tells : (w : What) → e.what ≡ w → TellsWaitStatus w
     tells w k = subst TellsWaitStatus k (statuses_are_those_of_waits s limit e past r)
 
+    told : (w : What) → e.what ≡ w → tells_written w ≡ true
+    told w k = subst (λ (v : What). tells_written v ≡ true) k (event_told s limit e past fit none r f.what)
+
     kept : (w : What) → e.what ≡ w → KeepsLevels w
     kept w k = subst KeepsLevels k low
 
     go : (w : What) → e.what ≡ w → WhatInRange w
-    go (Call n c y) k = (word (Call n c y) n k refl, kept (Call n c y) k, reply_in_range y (tells (Call n c y) k))
+    go (Call n c y) k = (
+      word (Call n c y) n k refl,
+      (kept (Call n c y) k).0,
+      reply_in_range y (tells (Call n c y) k) (told (Call n c y) k),
+    )
     go (Look x) k =
         let turn : Gives (step s limit (turn_at e.cpu (Look x)) past) e = subst (λ (v : What). Gives (step s limit (turn_at e.cpu v) past) e) k r.0 in
         let good = (look_gives s limit e.cpu x past e turn).0 in
@@ -128,7 +147,7 @@ what_in_range s limit e past f low few whole r w eq = go w eq
         record {
           classes = subst LookIsWhole k whole;
           some = some_rises x.value ∙ parts.0;
-          used = rises_in_classes 0 x.value ∙ parts.1;
+          used = rises_written s none e.cpu 0 x.value (own_of s e.cpu past) past all.1 rise;
           range = all_then (λ v. v ≤ length past) (λ v. v ≤ 18446744073709551615) (λ v h. omega (arith, h, few)) x.value
               (rises_below s e.cpu 0 x.value (own_of s e.cpu past) past rise);
         }
@@ -136,32 +155,33 @@ what_in_range s limit e past f low few whole r w eq = go w eq
     go (Normal n) k = word (Normal n) n k refl
     go (End n) k = word (End n) n k refl
     go (Expire key from) k = word (Expire key from) from k refl
-    go (Fire d y) k = reply_in_range y (tells (Fire d y) k)
+    go (Fire d y) k = reply_in_range y (tells (Fire d y) k) (told (Fire d y) k)
     go (Clean c) k =
         let few : nat_le c 2 ≡ true = subst (λ (w : What). keeps_to_classes w ≡ true) k f.classes in grind (arith, nat_tests)
     go (Switch t status) k = status_in_range status (tells (Switch t status) k)
-    go (Rewait n y) k = (word (Rewait n y) n k refl, reply_in_range y (tells (Rewait n y) k))
+    go (Rewait n y) k = (word (Rewait n y) n k refl, reply_in_range y (tells (Rewait n y) k) (told (Rewait n y) k))
     go (Flush a from) k = word (Flush a from) from k refl
     go (Gone t) k = tt
+    go (Free n l) k = absurd (no_lock s none l (subst (λ (w : What). what_fits s w ≡ true) k f.what))
     go Rest k = tt
 
 look_is_bare : (e : Event) (w : What) → (is_look w ≡ true → (e.thread ≡ None) × (e.level ≡ 0)) → LookIsBare e w
 look_is_bare e (Look x) h = h refl
 look_is_bare e w h = tt
 
-all_plain : (s : Script) (limit : ℕ) (past : List Event) → AllFit s past → AllKeepLevels past → length past ≤ EVENTS →
+all_plain : (s : Script) (limit : ℕ) (past : List Event) → fits s ≡ true → HasNoLocks s → AllFit s past → AllKeepLevels past → length past ≤ EVENTS →
     AllByRecursion (λ e. LookIsWhole e.what) past → IsRun s limit past → AllByRecursion (EventIsPlain s) past
-all_plain s limit [] f k few whole r = tt
-all_plain s limit (e ∷ past) f k few whole r =
+all_plain s limit [] fit none f k few whole r = tt
+all_plain s limit (e ∷ past) fit none f k few whole r =
     let fewer : length past ≤ EVENTS = omega (arith, few) in
-    let range = what_in_range s limit e past f.0 k.0 fewer whole.0 r e.what refl in (
+    let range = what_in_range s limit e past fit none f k.0 fewer whole.0 r e.what refl in (
       (event_named s (length past) e f.0, (event_low s limit e past f.0 k r, range, look_is_bare e e.what f.0.look)),
-      all_plain s limit past f.1 k.1 fewer whole.1 r.1,
+      all_plain s limit past fit none f.1 k.1 fewer whole.1 r.1,
     )
 
--- the events of a run are plain, where its script fits, its commands are in range, its looks are whole and it has not too many events
-pub events_are_plain : (s : Script) (limit : ℕ) (past : List Event) → fits s ≡ true → CommandsHaveRange s → length past ≤ EVENTS →
+-- the events of a run are plain, where its script fits and has no locks, its commands are in range, its looks are whole and it has not too many events
+pub events_are_plain : (s : Script) (limit : ℕ) (past : List Event) → fits s ≡ true → HasNoLocks s → CommandsHaveRange s → length past ≤ EVENTS →
     AllByRecursion (λ e. LookIsWhole e.what) past → IsRun s limit past → AllByRecursion (EventIsPlain s) past
-events_are_plain s limit past f c few whole r =
+events_are_plain s limit past f none c few whole r =
     let all : AllFit s past = events_of_a_run_fit s limit past f r in
-    all_plain s limit past all (keep_levels s limit past c all r) few whole r
+    all_plain s limit past f none all (keep_levels s limit past c none all r) few whole r

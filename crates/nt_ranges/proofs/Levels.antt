@@ -1,8 +1,8 @@
 -- Levels are at most 15: of each frame, where the commands that were called and the interrupts that began are in range.
-use Rattle.std.proofs.Common.{arith}
+use Rattle.std.proofs.Common.{arith, subst, sym}
 use Rattle.std.specs.List.{AllByRecursion}
 use Rattle.std.specs.Option.{option_map_or, option_or}
-use Rattle.std.specs.Prelude.{Bool, List, None, Option, Some, [], false, get_or, if◌then◌else◌, length, true, ℕ, ◌==◌, ◌∷◌, ◌≤◌}
+use Rattle.std.specs.Prelude.{Bool, List, None, Option, Some, [], false, get_or, if◌then◌else◌, length, true, ℕ, ◌==◌, ◌∷◌, ◌≡◌, ◌≤◌}
 use Rattle.nt_event.specs.declared.commands.Command.{Command}
 use Rattle.nt_event.specs.declared.commands.Command.TheVariants.{Delay, Lower, Raise, StartWait}
 use Rattle.nt_event.specs.declared.commands.Reply.{Reply}
@@ -10,24 +10,25 @@ use Rattle.nt_event.specs.declared.commands.Reply.TheVariants.{Done}
 use Rattle.nt_event.specs.declared.events.Begun.TheVariants.{Apc, Dpc, Int, Threaded}
 use Rattle.nt_event.specs.declared.events.Event.{Event}
 use Rattle.nt_event.specs.declared.events.What.{What}
-use Rattle.nt_event.specs.declared.events.What.TheVariants.{Begin, Call, Clean, End, Expire, Fire, Flush, Gone, Look, Normal, Rest, Rewait, Switch}
-use Rattle.nt_event.specs.declared.frames.Frame.{Frame}
+use Rattle.nt_event.specs.declared.events.What.TheVariants.{Begin, Call, Clean, End, Expire, Fire, Flush, Free, Gone, Look, Normal, Rest, Rewait, Switch}
+use Rattle.nt_event.specs.Frame.{Frame}
 use Rattle.nt_event.specs.declared.numbers.ApcNo.{ApcNo}
 use Rattle.nt_event.specs.declared.numbers.CpuNo.{CpuNo}
 use Rattle.nt_event.specs.declared.numbers.RoutineNo.{RoutineNo}
 use Rattle.nt_event.specs.declared.numbers.ThreadNo.{ThreadNo}
 use Rattle.nt_event.specs.declared.scripts.Script.{Script}
-use Rattle.nt_event.specs.Frames.{at_name, called, done_to, due_of, end_on_thread, ended_base, flushed, frames_of, is_base_body, level_in, normal_of, own_after, own_frames, resumed, rewaited, running, switched_to, thread_after, thread_frames, thread_if, time, without}
+use Rattle.nt_event.specs.Frames.{at_name, called, done_to, due_of, effect, end_on_thread, ended_base, flushed, frames_of, is_base_body, level_in, level_moved, normal_of, own_after, own_frames, resumed, rewaited, running, switched_to, thread_after, thread_frames, thread_if, time, without}
 use Rattle.nt_event.specs.Lists.{head_of, table}
+use Rattle.nt_event.specs.Locks.{LockMove, NoMove, call_move}
 use Rattle.nt_event.specs.Numbers.{is_by, is_of, thread}
 use Rattle.nt_event.specs.Routines.{rundown_of}
 use Rattle.nt_line.specs.Fits.{HasRange}
 use Rattle.nt_print.specs.Conditions.{BegunInRange}
 use Rattle.nt_ranges.proofs.Lists.{of_table}
 
--- an event that leaves levels in range where they were so
+-- an event that leaves levels in range where they were so; none moves a lock
 abbrev pub KeepsLevels : What → Type 0
-KeepsLevels (Call f c y) = HasRange c
+KeepsLevels (Call f c y) = HasRange c × (call_move c y ≡ NoMove)
 KeepsLevels (Begin b from) = BegunInRange b
 KeepsLevels (Look r) = Unit {0}
 KeepsLevels (Normal f) = Unit {0}
@@ -39,6 +40,7 @@ KeepsLevels (Switch t status) = Unit {0}
 KeepsLevels (Rewait f y) = Unit {0}
 KeepsLevels (Flush a from) = Unit {0}
 KeepsLevels (Gone t) = Unit {0}
+KeepsLevels (Free f k) = ⊥
 KeepsLevels Rest = Unit {0}
 
 abbrev IsLow : Frame → Type 0
@@ -54,11 +56,15 @@ done_low (Raise level) f h k = h
 done_low (Lower level) f h k = h
 done_low c f h k = k
 
-called_low : (due : Option ℕ) (c : Command) (y : Reply) (f : Frame) → HasRange c → IsLow f → IsLow (called due c y f)
-called_low due (StartWait m a) y f h k = k
-called_low due (Delay m a units) y f h k = k
-called_low due c Done f h k = done_low c f h k
-called_low due c y f h k = k
+effect_low : (due : Option ℕ) (c : Command) (y : Reply) (f : Frame) → HasRange c → IsLow f → IsLow (effect due c y f)
+effect_low due (StartWait m a) y f h k = k
+effect_low due (Delay m a units) y f h k = k
+effect_low due c Done f h k = done_low c f h k
+effect_low due c y f h k = k
+
+called_low : (due : Option ℕ) (c : Command) (y : Reply) (f : Frame) → KeepsLevels (Call f.name c y) → IsLow f → IsLow (called due c y f)
+called_low due c y f h k =
+    subst (λ (m : LockMove). level_moved m f (effect due c y f).level ≤ 15) (sym h.1) (effect_low due c y f h.0 k)
 
 resumed_low : (status : Option ℕ) (f : Frame) → IsLow f → IsLow (resumed status f)
 resumed_low None f h = h
@@ -106,6 +112,7 @@ own_low n due (Begin (Threaded d) from) fs h k = (omega arith, k)
 own_low n due (Begin (Apc a) from) fs h k = k
 own_low n due (Call f c y) fs h k = named_low f (called due c y) fs (λ g l. called_low due c y g h l) k
 own_low n due (End f) fs h k = without_low f fs k
+own_low n due (Free f l) fs h k = absurd h
 own_low n due w fs h k = k
 
 thread_low : (s : Script) (n : ℕ) (due : Option ℕ) (w : What) (fs : List Frame) → KeepsLevels w → AreLow fs → AreLow (thread_after s n due w fs)
@@ -117,6 +124,7 @@ thread_low s n due (Rewait f y) fs h k = named_low f (rewaited y) fs (λ g l. l)
 thread_low s n due (Normal f) fs h k = named_low f normal_of fs (λ g l. omega arith) k
 thread_low s n due (End f) fs h k = end_low f fs k
 thread_low s n due (Gone t) fs h k = tt
+thread_low s n due (Free f l) fs h k = absurd h
 thread_low s n due w fs h k = k
 
 -- ---- the frames of a history

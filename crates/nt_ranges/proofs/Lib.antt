@@ -3,6 +3,8 @@ pub mod Statuses
 pub mod Levels
 pub mod Looks
 pub mod Called
+pub mod Asked
+pub mod Unlocked
 pub mod Events
 pub mod Reports
 pub mod Whole

@@ -1,5 +1,5 @@
 -- The looks of a run: what rises in them, and where they have a value of each class.
-use Rattle.std.proofs.Common.{add-one, arith}
+use Rattle.std.proofs.Common.{arith}
 use Rattle.std.proofs.lemmas.Bool.Decides.{nat_tests}
 use Rattle.std.proofs.lemmas.Bool.{eqb-true}
 use Rattle.std.specs.List.{AllByRecursion, list_any}
@@ -12,8 +12,6 @@ use Rattle.nt_event.specs.Own.{Own}
 use Rattle.nt_event.specs.Step.{good_rises, was_asked}
 use Rattle.nt_event.proofs.Options.{both}
 use Rattle.nt_runs.proofs.Settled.{asked_below, was_asked_below}
-use Rattle.nt_laws.specs.Named.{values_fit}
-use Rattle.nt_log.specs.Schedules.{rise_in_classes}
 
 -- each value of a look that is accepted is at most the number of events before it
 pub rises_below : (s : Script) (p : CpuNo) (c : ℕ) (vs : List ℕ) (x : Own) (past : List Event) → good_rises s p c vs x past ≡ true →
@@ -30,12 +28,7 @@ rises_below s p c (v ∷ vs) x past h =
     go false true false e a k = cc
     go false false w e a k = cc
 
--- both ways to say that values rise in used classes alone are one
-pub rises_in_classes : (c : ℕ) (vs : List ℕ) → rise_in_classes c vs ≡ values_fit c vs
-rises_in_classes c [] = refl
-rises_in_classes c (v ∷ vs) = rw (add-one, rises_in_classes (suc c) vs) refl
-
--- and that some value rises
+-- both ways to say that some value rises are one
 pub some_rises : (vs : List ℕ) → list_any (λ v. not (v == 0)) vs ≡ list_any (λ v. nat_lt 0 v) vs
 some_rises [] = refl
 some_rises (v ∷ vs) = rw (positive v, some_rises vs) refl

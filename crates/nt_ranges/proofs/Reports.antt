@@ -40,7 +40,7 @@ a_run_has_a_report input h r =
     let same = length-reverse h.events in
     record {
       events = all_in_order (EventIsPlain input.script) h.events
-          (events_are_plain input.script h.turns (reverse h.events) r.sound.fits r.sound.ranges few
+          (events_are_plain input.script h.turns (reverse h.events) r.sound.fits r.sound.locks r.sound.ranges few
           (all_reversed (λ (e : Event). LookIsWhole e.what) h.events r.looks) r.run);
       few = omega (arith, few, same);
       limit = r.limit;

@@ -10,7 +10,7 @@ use Rattle.nt_event.specs.declared.commands.Mode.TheVariants.{Kernel as KernelMo
 use Rattle.nt_event.specs.declared.commands.Refusal.{Refusal}
 use Rattle.nt_event.specs.declared.commands.Regions.{Regions}
 use Rattle.nt_event.specs.declared.commands.Reply.{Reply}
-use Rattle.nt_event.specs.declared.commands.Reply.TheVariants.{Blocked, Done, Status, Yes}
+use Rattle.nt_event.specs.declared.commands.Reply.TheVariants.{Blocked, Done, Spin, Status, Yes}
 use Rattle.nt_event.specs.declared.commands.TimerKey.TheVariants.{Delay as OfDelay}
 use Rattle.nt_event.specs.declared.events.Begun.TheVariants.{Apc}
 use Rattle.nt_event.specs.declared.events.Event.{Event}
@@ -171,6 +171,10 @@ yes_of : (b : Bool) → ReplyIsOfWait (yes_if b)
 yes_of true = tt
 yes_of false = tt
 
+tried_of : (b : Bool) → ReplyIsOfWait (if b then Done else Spin)
+tried_of true = tt
+tried_of false = tt
+
 reply_of : (s : Script) (st : Stand) (l : Lanes) (c : Command) → ReplyIsOfWait (reply s st l c)
 reply_of s st l (cmd.StartWait m a) = wait_of (facts_of l st.thread) st.regions st.level m a None
 reply_of s st l (cmd.Delay m a units) =
@@ -184,6 +188,7 @@ reply_of s st l (cmd.RemoveApc a) = yes_of _
 reply_of s st l (cmd.Release t) = yes_of _
 reply_of s st l (cmd.Alert t m) = yes_of _
 reply_of s st l (cmd.TestAlert m) = yes_of _
+reply_of s st l (cmd.Acquire k) = tried_of _
 reply_of s st l c = tt
 
 or_of : (o : Option Refusal) (y : Reply) → ReplyIsOfWait y → ReplyIsOfWait (reply_or o y)

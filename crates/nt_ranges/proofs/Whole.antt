@@ -11,7 +11,7 @@ use Rattle.nt_event.specs.declared.numbers.CpuNo.{CpuNo}
 use Rattle.nt_event.specs.declared.numbers.ThreadNo.{ThreadNo}
 use Rattle.nt_event.specs.declared.scripts.Script.{Script}
 use Rattle.nt_event.specs.Classes.{class_count}
-use Rattle.nt_event.specs.Jobs.{may_switch, next_ready, rests}
+use Rattle.nt_event.specs.Jobs.{is_still, may_switch, next_ready}
 use Rattle.nt_event.specs.Lanes.{Lanes, lanes_at}
 use Rattle.nt_event.specs.Numbers.{cpu}
 use Rattle.nt_event.specs.Own.{Own, own_of}
@@ -44,7 +44,7 @@ go_on_whole s p x l = go (may_switch x) (next_ready s p x.took l)
     go false o = tt
 
 robin_at_whole : (s : Script) (p : CpuNo) (x : Own) (l : Lanes) (asked : ℕ → ℕ) → Holds TurnIsWhole (robin_at s p x l asked)
-robin_at_whole s p x l asked = go (is_behind x asked) (rests x)
+robin_at_whole s p x l asked = go (is_behind x asked) (is_still x)
   where
     go : (b r : Bool) → Holds TurnIsWhole (if b then Some (LookTurn p (record { value = look_values x asked }))
         else (if r then None else Some (go_on_turn s p x l)))

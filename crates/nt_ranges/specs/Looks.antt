@@ -4,7 +4,7 @@ use Rattle.std.specs.List.{AllByRecursion}
 use Rattle.nt_event.specs.declared.events.Event.{Event}
 use Rattle.nt_event.specs.declared.events.Turn.{Turn}
 use Rattle.nt_event.specs.declared.events.What.{What}
-use Rattle.nt_event.specs.declared.events.What.TheVariants.{Begin, Call, Clean, End, Expire, Fire, Flush, Gone, Look, Normal, Rest, Rewait, Switch}
+use Rattle.nt_event.specs.declared.events.What.TheVariants.{Begin, Call, Clean, End, Expire, Fire, Flush, Free, Gone, Look, Normal, Rest, Rewait, Switch}
 use Rattle.nt_event.specs.declared.scripts.Script.{Script}
 use Rattle.nt_event.specs.Classes.{class_count}
 use Rattle.nt_event.specs.Robin.{IsRobin}
@@ -25,6 +25,7 @@ LookIsWhole (Switch t status) = Unit {0}
 LookIsWhole (Rewait frame reply) = Unit {0}
 LookIsWhole (Flush a from) = Unit {0}
 LookIsWhole (Gone t) = Unit {0}
+LookIsWhole (Free frame l) = Unit {0}
 LookIsWhole Rest = Unit {0}
 
 abbrev pub LooksAreWhole : List Event → Type 0

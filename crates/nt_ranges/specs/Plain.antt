@@ -1,15 +1,18 @@
 -- The history of a run and its schedule are plain.
-use Rattle.std.specs.Prelude.{reverse, ◌<◌, ◌≡◌, ◌≤◌}
+use Rattle.std.specs.Prelude.{reverse, true, ◌<◌, ◌≡◌, ◌≤◌}
 use Rattle.std.specs.List.{AllByRecursion}
 use Rattle.nt_event.specs.declared.limits.TheConstants.{TURNS}
 use Rattle.nt_event.specs.declared.events.History.{History}
+use Rattle.nt_event.specs.declared.scripts.Script.{Script}
 use Rattle.nt_event.specs.Robin.{IsRobin}
+use Rattle.nt_event.specs.Script.{fits}
 use Rattle.nt_event.specs.Step.{IsRun, cpu_at}
 use Rattle.nt_script.specs.declared.walk.Input.{Input}
 use Rattle.nt_script.specs.Sound.{IsSound}
 use Rattle.nt_log.specs.Schedules.{schedule_of, IsPlain as ScheduleIsPlain}
 use Rattle.nt_print.specs.Conditions.{IsPlain as HistoryIsPlain}
 use Rattle.nt_print.specs.Report.{report_text}
+use Rattle.nt_print.specs.Written.{replies_written}
 use Rattle.nt_ranges.specs.Looks.{LooksAreWhole}
 
 -- the history is a run of the script of a sound input, whose turn limit is in its range and whose looks are whole
@@ -22,6 +25,11 @@ pub record IsRunOf (input : Input) (h : History) : Type 0 where
 -- such a history may have a report
 abbrev pub ARunHasAReport : Type 0
 ARunHasAReport = (input : Input) (h : History) → IsRunOf input h → HistoryIsPlain input.script h
+
+-- a run of a script that fits and has no locks replies nothing of locks: a text can tell each of its replies
+abbrev pub ItsRepliesAreWritten : Type 0
+ItsRepliesAreWritten = (s : Script) (h : History) → fits s ≡ true → s.locks ≡ 0 → IsRun s h.turns (reverse h.events) →
+    replies_written h.events ≡ true
 
 -- its schedule may have a text
 abbrev pub ItsScheduleIsPlain : Type 0

@@ -1,10 +1,10 @@
 -- The statuses that a run tells.
 use Rattle.std.specs.Prelude.{Bool, IfSome, List, true, ℕ, ◌==◌, ◌||◌, ◌∷◌, ◌≡◌}
 use Rattle.nt_event.specs.declared.commands.Reply.{Reply}
-use Rattle.nt_event.specs.declared.commands.Reply.TheVariants.{Blocked, Done, No, Refused, Status, Yes}
+use Rattle.nt_event.specs.declared.commands.Reply.TheVariants.{Blocked, Done, No, Refused, Spin, Status, Yes}
 use Rattle.nt_event.specs.declared.events.Event.{Event}
 use Rattle.nt_event.specs.declared.events.What.{What}
-use Rattle.nt_event.specs.declared.events.What.TheVariants.{Begin, Call, Clean, End, Expire, Fire, Flush, Gone, Look, Normal, Rest, Rewait, Switch}
+use Rattle.nt_event.specs.declared.events.What.TheVariants.{Begin, Call, Clean, End, Expire, Fire, Flush, Free, Gone, Look, Normal, Rest, Rewait, Switch}
 use Rattle.nt_event.specs.declared.scripts.Script.{Script}
 use Rattle.nt_event.specs.Replies.{alerted, kernel_apc, satisfied, user_apc}
 use Rattle.nt_event.specs.Step.{IsRun}
@@ -22,6 +22,7 @@ ReplyIsOfWait Done = Unit {0}
 ReplyIsOfWait Yes = Unit {0}
 ReplyIsOfWait No = Unit {0}
 ReplyIsOfWait Blocked = Unit {0}
+ReplyIsOfWait Spin = Unit {0}
 ReplyIsOfWait (Refused r) = Unit {0}
 
 -- the status that an event tells, if it tells one, is that of a wait
@@ -38,6 +39,7 @@ TellsWaitStatus (Expire key from) = Unit {0}
 TellsWaitStatus (Clean class) = Unit {0}
 TellsWaitStatus (Flush a from) = Unit {0}
 TellsWaitStatus (Gone t) = Unit {0}
+TellsWaitStatus (Free frame l) = Unit {0}
 TellsWaitStatus Rest = Unit {0}
 
 -- in a run each status that is told is that of a wait

@@ -8,13 +8,18 @@
 
 ghost use Rattle.nt_ranges.specs.Cuts.{CountsAreMade, CutLinesNameTheCut};
 ghost use Rattle.nt_ranges.specs.Looks.{AReplayLooksWhole, ARobinRunLooksWhole};
-ghost use Rattle.nt_ranges.specs.Plain.{AReplayIsOne, ARobinRunIsOne, ARunHasAReport, ItsScheduleIsPlain, ItsTurnsAreOfProcessors, OneReportOneHistory};
+ghost use Rattle.nt_ranges.specs.Plain.{AReplayIsOne, ARobinRunIsOne, ARunHasAReport, ItsRepliesAreWritten, ItsScheduleIsPlain, ItsTurnsAreOfProcessors, OneReportOneHistory};
 ghost use Rattle.nt_ranges.specs.Statuses.{StatusesAreThoseOfWaits};
 
 /// A run has a report: its history names things of the script, its numbers are in the ranges of their fields, and it has not too
 /// many events.
 pub fn a_run_has_a_report()
     ensures { ARunHasAReport }
+{}
+
+/// A text can tell each reply of a run of a script without locks: none is of locks.
+pub fn its_replies_are_written()
+    ensures { ItsRepliesAreWritten }
 {}
 
 /// Its schedule has a text, and each turn is one of a processor of the script.

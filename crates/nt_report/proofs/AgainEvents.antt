@@ -1,5 +1,5 @@
 -- The line of an event is read as the event.
-use Rattle.std.proofs.Common.{◌≡◌, ◌∙◌, ℕ, zero, suc, ◌<◌, Bool, true, false, List, [], ◌∷◌, ◌++◌, length, Option, Some, None, Result, Ok, refl, sym, arith, lit<}
+use Rattle.std.proofs.Common.{◌≡◌, ◌∙◌, ℕ, zero, suc, ◌<◌, Bool, true, false, List, [], ◌∷◌, ◌++◌, length, Option, Some, None, Result, Ok, refl, sym, ap, arith, lit<}
 use Rattle.std.specs.Prelude.{decimal}
 use Rattle.std.specs.Fmt.{digits}
 use Rattle.std.specs.List.{slice_get}
@@ -13,16 +13,16 @@ use Rattle.nt_event.specs.declared.commands.ApcKind.{ApcKind}
 use Rattle.nt_event.specs.declared.commands.ApcKind.TheVariants as kind
 use Rattle.nt_event.specs.declared.commands.Command.{Command}
 use Rattle.nt_event.specs.declared.commands.Refusal.{Refusal}
-use Rattle.nt_event.specs.declared.commands.Refusal.TheVariants.{NotThread, NotBase, TooHigh, RegionsOpen, NotGreater, NotLess, BelowBase, NotEntered}
+use Rattle.nt_event.specs.declared.commands.Refusal.TheVariants.{NotThread, NotBase, TooHigh, RegionsOpen, NotGreater, NotLess, BelowBase, NotEntered, LockHeld, HeldHere, NotLast}
 use Rattle.nt_event.specs.declared.commands.Reply.{Reply}
-use Rattle.nt_event.specs.declared.commands.Reply.TheVariants.{Blocked, Done, No, Refused, Status, Yes}
+use Rattle.nt_event.specs.declared.commands.Reply.TheVariants.{Blocked, Done, No, Refused, Spin, Status, Yes}
 use Rattle.nt_event.specs.declared.commands.TimerKey.{TimerKey}
 use Rattle.nt_event.specs.declared.commands.TimerKey.TheVariants as key
 use Rattle.nt_event.specs.declared.events.Begun.{Begun}
 use Rattle.nt_event.specs.declared.events.Begun.TheVariants as of_begun
 use Rattle.nt_event.specs.declared.events.Event.{Event}
 use Rattle.nt_event.specs.declared.events.What.{What}
-use Rattle.nt_event.specs.declared.events.What.TheVariants.{Begin, Call, Clean, End, Expire, Fire, Flush, Gone, Look, Normal, Rest, Rewait, Switch}
+use Rattle.nt_event.specs.declared.events.What.TheVariants.{Begin, Call, Clean, End, Expire, Fire, Flush, Free, Gone, Look, Normal, Rest, Rewait, Switch}
 use Rattle.nt_event.specs.declared.numbers.ThreadNo.{ThreadNo}
 use Rattle.nt_event.specs.declared.scripts.ApcDecl.{ApcDecl}
 use Rattle.nt_event.specs.Fitting.{begun_fits, key_fits, what_fits}
@@ -36,15 +36,16 @@ use Rattle.nt_line.specs.Commands.{behind, command_of, read1, read2, read3}
 use Rattle.nt_line.specs.Fields.{dash, read_alertable, read_apc, read_cpu, read_dpc, read_importance, read_interrupt, read_level, read_mode, read_number, read_target, read_thread, read_timer}
 use Rattle.nt_line.specs.Fits.{HasRange}
 use Rattle.nt_line.specs.Keywords.{text_of, verb_arity}
-use Rattle.nt_line.specs.Rows.{command_args, command_row, command_verb}
+use Rattle.nt_line.specs.Rows.{command_args, command_row, command_verb, verb_field}
 use Rattle.nt_line.proofs.FieldTexts.{cpu_again, number_again, unless_again}
 use Rattle.nt_line.proofs.Found.{is_new}
-use Rattle.nt_line.proofs.Spelled.{args_count, command_again}
+use Rattle.nt_line.proofs.Spelled.{args_count, command_again, line_verb, word_of_line}
 use Rattle.nt_script.specs.declared.walk.Input.{Input}
 use Rattle.nt_script.proofs.Again.{keyword_again}
 use Rattle.nt_print.specs.Conditions.{BegunInRange, EventIsPlain, IsWord, ReplyInRange, StatusInRange, WhatInRange}
+use Rattle.nt_print.specs.Written.{is_written_refusal}
 use Rattle.nt_print.specs.Report.{begun_row, event_fields, key_row, kind_word, replied as reply_fields, show_processor, show_running, status_row, used as used_fields, what_row}
-use Rattle.nt_print.proofs.OneEvent.{Known, apc_at, command_plain, dpc_at, event_parts, is_look, no_dash, thread_at, timer_at}
+use Rattle.nt_print.proofs.OneEvent.{Known, apc_at, command_plain, dpc_at, event_parts, is_look, no_dash, no_lock, thread_at, timer_at}
 use Rattle.nt_report.specs.declared.events.EventLine.{EventLine}
 use Rattle.nt_report.specs.declared.words.BegunWord.{BegunWord}
 use Rattle.nt_report.specs.declared.words.BegunWord.TheVariants as of_begin
@@ -100,16 +101,19 @@ kind_again kind.User = refl
 
 -- ---- replies
 
-refusal_again : (r : Refusal) → read_refusal (decimal (refusal_number r)) ≡ Ok r
+refusal_again : (r : Refusal) → is_written_refusal r ≡ true → read_refusal (decimal (refusal_number r)) ≡ Ok r
 unfolding refusal_of digits
-refusal_again NotThread = refl
-refusal_again NotBase = refl
-refusal_again TooHigh = refl
-refusal_again RegionsOpen = refl
-refusal_again NotGreater = refl
-refusal_again NotLess = refl
-refusal_again BelowBase = refl
-refusal_again NotEntered = refl
+refusal_again NotThread h = refl
+refusal_again NotBase h = refl
+refusal_again TooHigh h = refl
+refusal_again RegionsOpen h = refl
+refusal_again NotGreater h = refl
+refusal_again NotLess h = refl
+refusal_again BelowBase h = refl
+refusal_again NotEntered h = refl
+refusal_again LockHeld h = absurd cc
+refusal_again HeldHere h = absurd cc
+refusal_again NotLast h = absurd cc
 
 name_again : (f : List ℕ) (more : Row) → behind_word f (f ∷ more) ≡ Ok more
 name_again f more = rw ((bytes_eq-Decides f f).1 refl) refl
@@ -121,7 +125,8 @@ replied_again Yes h more = refl
 replied_again No h more = refl
 replied_again (Status x) h more = rw (hexadecimal_again x h) refl
 replied_again Blocked h more = refl
-replied_again (Refused r) h more = rw (refusal_again r, name_again (refusal_name r) more) refl
+replied_again Spin h more = absurd h
+replied_again (Refused r) h more = rw (refusal_again r h, name_again (refusal_name r) more) refl
 
 pub status_again : (s : Option ℕ) → StatusInRange s → status (status_row s) ≡ Ok (s, [])
 status_again None h = refl
@@ -192,10 +197,12 @@ called_again input k c h r more =
     let names = input.names in
     let cpus = input.script.cpus in
     let args = command_args names c in
-    let count : length args ≡ verb_arity (command_verb c) = args_count names c in
-    let again : command_of names cpus (command_verb c) (args ++ more) ≡ Ok c =
-    command_more names cpus (command_verb c) args more count ∙ command_again names cpus k.are k.fit.cpus.1 c (command_plain input k c h r) in
-    go (command_verb c) (args ++ more) (verb_again (command_verb c)) again (behind_more (verb_arity (command_verb c)) args more count)
+    let fits = command_plain input k c h r in
+    let count : length args ≡ verb_arity (line_verb c) = args_count names cpus c fits in
+    let again : command_of names cpus (line_verb c) (args ++ more) ≡ Ok c =
+    command_more names cpus (line_verb c) args more count ∙ command_again names cpus k.are k.fit.cpus.1 c fits in
+    ap (λ (f : List ℕ). command names cpus (f ∷ (args ++ more))) (word_of_line names cpus c fits)
+    ∙ go (line_verb c) (args ++ more) (verb_again (line_verb c)) again (behind_more (verb_arity (line_verb c)) args more count)
   where
     go : (v : Verb) (args : Row) → read_verb (text_of (keyword.Call v)) ≡ Ok v → command_of input.names input.script.cpus v args ≡ Ok c →
         behind (verb_arity v) args ≡ more → command input.names input.script.cpus (text_of (keyword.Call v) ∷ args) ≡ Ok (c, more)
@@ -234,6 +241,7 @@ replied_last Yes h = replied_again Yes h []
 replied_last No h = replied_again No h []
 replied_last (Status x) h = replied_again (Status x) h []
 replied_last Blocked h = replied_again Blocked h []
+replied_last Spin h = absurd h
 replied_last (Refused r) h = replied_again (Refused r) h []
 
 what_again : (input : Input) → Known input → (w : What) → what_fits input.script w ≡ true → WhatInRange w → is_look w ≡ false →
@@ -252,6 +260,7 @@ what_again input k (Switch t s) h r l = rw (event_word_again word.Switch, k.are.
 what_again input k (Rewait f y) h r l = rw (event_word_again word.Rewait, event_again f r.0, replied_last y r.1) refl
 what_again input k (Flush a from) h r l = rw (event_word_again word.Flush, k.are.apcs a (apc_at input k a h), used_last from r) refl
 what_again input k (Gone t) h r l = rw (event_word_again word.Gone, k.are.threads t (thread_at input k t h)) refl
+what_again input k (Free f x) h r l = absurd (no_lock input k x h)
 what_again input k Rest h r l = rw (event_word_again word.Rest) refl
 
 -- ---- the whole line

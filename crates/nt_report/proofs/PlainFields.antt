@@ -1,6 +1,7 @@
 -- What is read from fields is in range.
-use Rattle.std.proofs.Common.{◌≡◌, ℕ, ◌+◌, ◌*◌, ◌<◌, ◌≤◌, Bool, true, false, cond, List, [], ◌∷◌, length, Option, Some, None, Ok, Err, refl, arith, lit<}
-use Rattle.std.specs.Prelude.{IfSome, codes, nat_le, nat_lt, not, ◌&&◌, ◌||◌, ◌==◌}
+use Rattle.std.proofs.Common.{◌≡◌, ℕ, ◌+◌, ◌*◌, ◌<◌, ◌≤◌, Bool, true, false, cond, List, [], ◌∷◌, length, Option, Some, None, Ok, Err, refl, subst, arith, lit<}
+use Rattle.std.specs.List.{AllByRecursion}
+use Rattle.std.specs.Prelude.{IfSome, codes, find, nat_le, nat_lt, not, ◌&&◌, ◌||◌, ◌==◌}
 use Rattle.std.specs.Char.{is_ascii_digit}
 use Rattle.std.proofs.lemmas.Bool.{and_parts, leb-true, lt-ltb}
 use Rattle.nt_text.specs.declared.kind.ScriptKind.TheVariants.{BadNumber}
@@ -11,18 +12,20 @@ use Rattle.nt_event.specs.declared.commands.Reply.TheVariants.{Blocked, Done, No
 use Rattle.nt_event.specs.declared.numbers.CpuNo.{CpuNo}
 use Rattle.nt_event.specs.declared.numbers.ThreadNo.{ThreadNo}
 use Rattle.nt_event.specs.declared.scripts.Script.{Script}
-use Rattle.nt_event.specs.Numbered.{refusal_name}
+use Rattle.nt_event.specs.Numbered.{refusal_name, refusal_number}
 use Rattle.nt_event.specs.Script.{has_thread, where_given}
 use Rattle.nt_line.specs.NameLists.{NameLists}
-use Rattle.nt_line.specs.Results.{◌>>=◌}
-use Rattle.nt_line.specs.Fields.{dash, read_cpu}
-use Rattle.nt_line.proofs.Results.{or_error_ok}
+use Rattle.nt_line.specs.Results.{◌>>=◌, or_error}
+use Rattle.nt_line.specs.Fields.{dash, read_cpu, read_number}
+use Rattle.nt_line.proofs.Results.{bind_ok, or_error_ok}
 use Rattle.nt_line.proofs.FieldTexts.{cpu_takes, number_takes, unless_takes}
 use Rattle.nt_line.proofs.UsedNames.{AreFew, thread_takes}
 use Rattle.nt_print.specs.Conditions.{IsWord, ReplyInRange, StatusInRange}
+use Rattle.nt_print.specs.Written.{is_written_refusal}
+use Rattle.nt_report.specs.declared.fields.TheConstants.{REFUSALS}
 use Rattle.nt_report.specs.declared.words.ReplyWord.{ReplyWord}
 use Rattle.nt_report.specs.declared.words.ReplyWord.TheVariants as word
-use Rattle.nt_report.specs.Fields.{behind_word, hexadecimal_after, hexadecimal_of, hexadecimal_value, is_hexadecimal_digit, one_field, read_event, read_hexadecimal, read_processor, read_refusal, read_reply_word, read_running, refused, replied, reply_of, status, used}
+use Rattle.nt_report.specs.Fields.{behind_word, hexadecimal_after, hexadecimal_of, hexadecimal_value, is_hexadecimal_digit, one_field, read_event, read_hexadecimal, read_processor, read_refusal, read_reply_word, read_running, refusal_of, refused, replied, reply_of, status, used}
 use Rattle.nt_report.proofs.Steps.{kept, made, missed, ok, one_fits, one_ok, through}
 
 -- ---- processors and threads
@@ -82,11 +85,31 @@ hexadecimal_word row y e =
 abbrev pub ReplyRead : Reply × Row → Type 0
 ReplyRead y = ReplyInRange y.0
 
+-- a cause that is found among these has words
+found_written : (n : ℕ) (rs : List Refusal) (r : Refusal) → AllByRecursion (λ q. is_written_refusal q ≡ true) rs → find (λ q. refusal_number q == n) rs ≡ Some r →
+    is_written_refusal r ≡ true
+found_written n [] r all e = absurd cc
+found_written n (q ∷ rs) r all e = go (refusal_number q == n) e (λ later. found_written n rs r all.1 later)
+  where
+    go : (b : Bool) → cond b (Some q) (find (λ q. refusal_number q == n) rs) ≡ Some r →
+        (find (λ q. refusal_number q == n) rs ≡ Some r → is_written_refusal r ≡ true) → is_written_refusal r ≡ true
+    go true e more = let same : q ≡ r = cc in subst (λ (x : Refusal). is_written_refusal x ≡ true) same all.0
+    go false e more = more e
+
+refusal_written : (n : ℕ) (r : Refusal) → refusal_of n ≡ Some r → is_written_refusal r ≡ true
+unfolding refusal_of
+refusal_written n r e = found_written n REFUSALS r (refl, (refl, (refl, (refl, (refl, (refl, (refl, (refl, tt)))))))) e
+
+read_written : (f : List ℕ) (r : Refusal) → read_refusal f ≡ Ok r → is_written_refusal r ≡ true
+read_written f r e =
+    let b = bind_ok (read_number 8 f) (λ n. or_error BadNumber (refusal_of n)) r e in
+    refusal_written b.value r (or_error_ok BadNumber (refusal_of b.value) r b.then)
+
 refused_fits : (row : Row) (y : Reply × Row) → refused row ≡ Ok y → ReplyRead y
 refused_fits row y e =
     through ReplyRead (one_field read_refusal row) (λ (r : Refusal × Row). behind_word (refusal_name r.0) r.1 >>= λ left. ok (Refused r.0, left)) y e
     (λ r is then. through ReplyRead (behind_word (refusal_name r.0) r.1) (λ (left : Row). ok (Refused r.0, left)) y then
-    (λ left is' then'. made ReplyRead (Refused r.0, left) y then' tt))
+    (λ left is' then'. made ReplyRead (Refused r.0, left) y then' (let o = one_ok read_refusal row r is in read_written o.0 r.0 o.1)))
 
 reply_of_fits : (w : ReplyWord) (row : Row) (y : Reply × Row) → reply_of w row ≡ Ok y → ReplyRead y
 reply_of_fits word.Done row y e = made ReplyRead (Done, row) y e tt

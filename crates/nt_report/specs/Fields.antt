@@ -99,7 +99,7 @@ read_hexadecimal field = or_error BadNumber (hexadecimal_of field)
 
 -- ---- replies
 
--- the cause of this number
+-- the cause of this number, among those for which a text has words
 unfoldable pub refusal_of : ℕ → Option Refusal
 refusal_of n = find (λ r. refusal_number r == n) REFUSALS
 

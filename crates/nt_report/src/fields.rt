@@ -10,7 +10,7 @@ use nt_event::{CpuNo, Level, Refusal, Reply, ThreadNo};
 use nt_line::{Names, fields};
 use nt_text::{Fields, ScriptKind, is_word};
 
-/// Every cause of a refused command.
+/// Every cause of a refused command for which a text has words: none of those of locks.
 const REFUSALS: [Refusal; 8] = [
     Refusal::NotThread,
     Refusal::NotBase,

@@ -28,7 +28,7 @@ use Rattle.nt_line.specs.Rows.{isr_args, dpc_args, timer_args, thread_args, apc_
 use Rattle.nt_line.proofs.Results.{bind_ok, ok_if_ok}
 use Rattle.nt_line.proofs.FieldTexts.{number_takes, on_off_takes}
 use Rattle.nt_line.proofs.UsedNames.{AreFew, new_name_takes}
-use Rattle.nt_line.proofs.Spelled.{apc_fields, command_keyword, isr_keyword, dpc_keyword, timer_keyword, thread_keyword, apc_keyword, command_takes, isr_takes, dpc_line_takes, timer_line_takes, thread_line_takes, apc_line_takes}
+use Rattle.nt_line.proofs.Spelled.{apc_fields, command_keyword, word_of_line, isr_keyword, dpc_keyword, timer_keyword, thread_keyword, apc_keyword, command_takes, isr_takes, dpc_line_takes, timer_line_takes, thread_line_takes, apc_line_takes}
 use Rattle.nt_script.proofs.SoFar.{so_far}
 use Rattle.nt_script.proofs.Taken.{At, declared_ok, args_parts, one_field, field_and, step_ok}
 use Rattle.nt_script.proofs.Steps.{Good, put_cpus_ok, cpus_taken, depth_taken, threaded_taken, isr_taken, dpc_taken, timer_taken, thread_taken, apc_taken, routine_taken, exit_taken, command_taken}
@@ -123,7 +123,8 @@ act_taken all few w (keyword.Call verb) args new at len e good =
     let c = b.value in
     let t = command_takes all w.script.cpus few verb args c b.is len in
     let o = ok_if_ok (nat_lt w.commands 8192) (with_command w c) (TooMany what.Commands) new b.then in
-    moved all w (keyword.Call verb) (command_keyword c) args (command_args all c) (with_command w c) new t.keyword t.spelled o.1 (command_taken all w c at good)
+    moved all w (keyword.Call verb) (command_keyword c) args (command_args all c) (with_command w c) new t.keyword t.spelled o.1
+    (command_taken all w c at good ∙ ap (λ (f : List ℕ). so_far all w ++ (f ∷ command_args all c) ∷ []) (word_of_line all w.script.cpus c t.fits))
 
 pub step_taken : (all : NameLists) → AreFew all → (w : Walk) (row : Row) (new : Walk) → step all w row ≡ Ok new → Good w → so_far all new ≡ so_far all w
     ++ row ∷ []

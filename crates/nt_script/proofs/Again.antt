@@ -34,11 +34,11 @@ use Rattle.nt_line.specs.Declarations.{dpc_of, timer_of, thread_of, apc_of}
 use Rattle.nt_script.specs.Reading.{declaration, counted, step, act, with_cpus, with_depth, with_threaded, with_isr, with_dpc, with_timer, with_thread, with_apc, with_routine, with_exit, with_command}
 use Rattle.nt_line.specs.Fits.{IsrFits, DpcFits, TimerFits, ThreadFits, ApcFits, CommandFits}
 use Rattle.nt_text.specs.Lines.{Row}
-use Rattle.nt_line.specs.Rows.{number_row, isr_args, isr_row, dpc_args, dpc_row, timer_args, timer_row, thread_args, thread_row, apc_args, apc_row, command_verb, command_args, command_row}
+use Rattle.nt_line.specs.Rows.{number_row, isr_args, isr_row, dpc_args, dpc_row, timer_args, timer_row, thread_args, thread_row, apc_args, apc_row, command_args, command_row}
 use Rattle.nt_script.specs.Text.{declared_rows, begun_rows, exit_row, routine_rows}
 use Rattle.nt_line.specs.NameLists.{AreNew}
 use Rattle.nt_line.proofs.FieldTexts.{number_again, on_off_again}
-use Rattle.nt_line.proofs.Spelled.{AreRead, command_again, args_count, isr_again, dpc_again, timer_again, thread_again, apc_again, apc_count}
+use Rattle.nt_line.proofs.Spelled.{AreRead, command_again, command_keyword, args_count, word_of_line, isr_again, dpc_again, timer_again, thread_again, apc_again, apc_count}
 use Rattle.nt_line.proofs.Found.{nowhere_both}
 use Rattle.nt_script.proofs.Pairs.{no_pair}
 use Rattle.nt_script.proofs.Taken.{At, at_again}
@@ -287,8 +287,9 @@ after_commands w cs n p = record w { body = cs; commands = n; place = p }
 command_step : (all : NameLists) (w : Walk) (c : Command) → AreRead all → w.place ≡ InRoutine → w.script.cpus ≤ 8 → CommandFits all w.script.cpus c →
     w.commands < 8192 → step all w (command_row all c) ≡ Ok (with_command w c)
 command_step all w c are inside few fit room =
-    let at : At w.place (keyword.Call (command_verb c)) = rw inside (omega arith, omega arith) in
-    step_again all w (keyword.Call (command_verb c)) (command_args all c) at (args_count all c)
+    let at : At w.place (command_keyword c) = rw inside (omega arith, omega arith) in
+    ap (λ (f : List ℕ). step all w (f ∷ command_args all c)) (word_of_line all w.script.cpus c fit)
+    ∙ step_again all w (command_keyword c) (command_args all c) at (args_count all w.script.cpus c fit)
     ∙ rw (command_again all w.script.cpus are few c fit, lt-ltb w.commands 8192 room) refl
 
 commands_run : (all : NameLists) → AreRead all → (cs : List Command) (w : Walk) → w.place ≡ InRoutine → w.script.cpus ≤ 8 →

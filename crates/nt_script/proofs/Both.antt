@@ -66,15 +66,29 @@ after (x ∷ xs) p q low high h k = k
 wider : (p : Place) (high : ℕ) → Between 1 high p → Between 1 (high + 1) p
 wider p high h = (h.0, omega (arith, h.1))
 
--- the head was read
-abbrev begun : ℕ → Option ℕ → Option Bool → Place → Walk
-begun cpus depth threaded p = record {
-  script = record { cpus = cpus; depth = depth; threaded = threaded; isrs = []; dpcs = []; timers = []; threads = []; apcs = []; routines = [] };
+-- the head was read, of a script of so many locks
+abbrev begun_with : ℕ → ℕ → Option ℕ → Option Bool → Place → Walk
+begun_with locks cpus depth threaded p = record {
+  script = record {
+    cpus = cpus;
+    depth = depth;
+    threaded = threaded;
+    isrs = [];
+    dpcs = [];
+    timers = [];
+    threads = [];
+    apcs = [];
+    routines = [];
+    locks = locks;
+  };
   names = no_names;
   body = [];
   commands = 0;
   place = p;
 }
+
+abbrev begun : ℕ → Option ℕ → Option Bool → Place → Walk
+begun = begun_with 0
 
 abbrev part_rows : NameLists → Script → List Row
 part_rows names script = (map (isr_row names) script.isrs)
@@ -84,12 +98,12 @@ part_rows names script = (map (isr_row names) script.isrs)
     ++ ((declared_rows (apc_row names) names.apcs script.apcs) ++ (routine_rows names names.routines script.routines)))))
 
 parts_run : (input : Input) → Fit input → (p : Place) → Between 1 3 p →
-    Ran input.names (begun input.script.cpus input.script.depth input.script.threaded p) (part_rows input.names input.script) input.script input.names
+    Ran input.names (begun_with input.script.locks input.script.cpus input.script.depth input.script.threaded p) (part_rows input.names input.script) input.script input.names
 parts_run input s p at =
     let names = input.names in
     let script = input.script in
     let are = are_read names s.few s.names in
-    let w0 = begun script.cpus script.depth script.threaded p in
+    let w0 = begun_with script.locks script.cpus script.depth script.threaded p in
     let at4 = wider p 3 at in
     let p1 = place_after script.isrs p InIsrs in
     let w1 = after_isrs w0 script.isrs p1 in
@@ -185,7 +199,8 @@ input_run input s =
     let at2 = given script.threaded p1 HasThreaded 1 3 (wider p1 2 at1) (omega arith, omega arith) in
     let head = steps_then all (begun n None None HasCpus) (depth_rows script.depth) (threaded_rows script.threaded) (begun n script.depth None p1)
     (begun n script.depth script.threaded p2) (depth_run all n script.depth s.depth) (threaded_run all n script.depth script.threaded p1 at1) in
-    let r = parts_run input s p2 at2 in
+    let r = subst (λ (locks : ℕ). Ran all (begun_with locks n script.depth script.threaded p2) (part_rows all script) script all) s.locks
+    (parts_run input s p2 at2) in
     record {
       last = r.last;
       steps = (

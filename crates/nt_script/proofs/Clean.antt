@@ -137,6 +137,8 @@ command_clean names fit cpus few (cmd.Interrupt cpu level) h = (refl, (cpu_field
 command_clean names fit cpus few (cmd.Clock units) h = (refl, (decimal_field units (omega (arith, h)), tt))
 command_clean names fit cpus few cmd.ToUser h = (refl, tt)
 command_clean names fit cpus few cmd.Yield h = (refl, tt)
+command_clean names fit cpus few (cmd.Acquire k) h = absurd h
+command_clean names fit cpus few (cmd.Unlock k) h = absurd h
 command_clean names fit cpus few (cmd.Note number) h = (refl, (decimal_field number (omega (arith, h)), tt))
 
 isr_clean : (names : NameLists) (fit : NamesFit names) (cpus : ℕ) → cpus ≤ 8 → (x : Isr) → IsrFits names cpus x → IsRow (isr_row names x)

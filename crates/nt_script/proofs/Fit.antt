@@ -10,6 +10,7 @@ use Rattle.nt_line.proofs.Found.{NamesFit}
 
 pub record Fit (input : Input) : Type 0 where
   pub cpus : (1 ≤ input.script.cpus) × (input.script.cpus ≤ 8)
+  pub locks : input.script.locks ≡ 0
   pub depth : IfSome input.script.depth (λ n. n ≤ 256)
   pub few : AreFew input.names
   pub dpc_count : length input.names.dpcs ≡ length input.script.dpcs

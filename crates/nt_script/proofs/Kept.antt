@@ -191,6 +191,7 @@ pub record Things (all : NameLists) (cpus : ℕ) (is : List Isr) (ds : List DpcD
 
 pub record Kept (all : NameLists) (w : Walk) : Type 0 where
   pub cpus : 1 ≤ order w.place → (1 ≤ w.script.cpus) × (w.script.cpus ≤ 8)
+  pub locks : w.script.locks ≡ 0
   pub depth : IfSome w.script.depth (λ n. n ≤ 256)
   pub names : NamesFit w.names
   pub commands : Commanded all w.script.cpus w.script.routines w.body w.commands
@@ -223,6 +224,7 @@ act_kept all few w keyword.Cpus args new at len e good k0 =
     let l = good.later in
     subst (Kept all) (put_cpus_ok w n new b.then) (record {
       cpus = λ h. cpus_range w n new b.then;
+      locks = k0.locks;
       depth = k0.depth;
       names = k0.names;
       commands = record {
@@ -244,6 +246,7 @@ act_kept all few w keyword.Depth args new at len e good k0 =
     let b = bind_ok (read_number 256 (first args)) (λ n. ok (with_depth w n)) new e in
     subst (Kept all) (ok_is (with_depth w b.value) new b.then) (record {
       cpus = λ h. k0.cpus (omega (arith, at.0));
+      locks = k0.locks;
       depth = (number_takes 256 (lit< tt)).fits (first args) b.value b.is;
       names = k0.names;
       commands = k0.commands;
@@ -253,6 +256,7 @@ act_kept all few w keyword.Threaded args new at len e good k0 =
     let b = bind_ok (read_on_off (first args)) (λ on. ok (with_threaded w on)) new e in
     subst (Kept all) (ok_is (with_threaded w b.value) new b.then) (record {
       cpus = λ h. k0.cpus (omega (arith, at.0));
+      locks = k0.locks;
       depth = k0.depth;
       names = k0.names;
       commands = k0.commands;
@@ -264,6 +268,7 @@ act_kept all few w keyword.Isr args new at len e good k0 =
     let t = isr_takes all w.script.cpus few args b.value b.is len in
     subst (Kept all) o.1 (record {
       cpus = λ h. k0.cpus (omega (arith, at.0));
+      locks = k0.locks;
       depth = k0.depth;
       names = k0.names;
       commands = k0.commands;
@@ -284,6 +289,7 @@ act_kept all few w (keyword.Dpc b) args new at len e good k0 =
     let t = dpc_line_takes all few b (rest args) d.thing d.read_is a.1 in
     subst (Kept all) o.1 (record {
       cpus = λ h. k0.cpus (omega (arith, at.0));
+      locks = k0.locks;
       depth = k0.depth;
       names = fit_dpc w.names d.name k0.names (good.later.timers (omega (arith, at.1))).0 (good.later.threads (omega (arith, at.1))).0
           (good.later.apcs (omega (arith, at.1))).0 (good.later.routines (omega (arith, at.1))).0 d.named d.none;
@@ -305,6 +311,7 @@ act_kept all few w keyword.Timer args new at len e good k0 =
     let t = timer_line_takes all few (rest args) d.thing d.read_is a.1 in
     subst (Kept all) o.1 (record {
       cpus = λ h. k0.cpus (omega (arith, at.0));
+      locks = k0.locks;
       depth = k0.depth;
       names = fit_timer w.names d.name k0.names (good.later.threads (omega (arith, at.1))).0 (good.later.apcs (omega (arith, at.1))).0
           (good.later.routines (omega (arith, at.1))).0 d.named d.none;
@@ -327,6 +334,7 @@ act_kept all few w keyword.Thread args new at len e good k0 =
     let t = thread_line_takes all w.script.cpus few (rest args) d.thing d.read_is a.1 in
     subst (Kept all) o.1 (record {
       cpus = λ h. k0.cpus (omega (arith, at.0));
+      locks = k0.locks;
       depth = k0.depth;
       names = fit_thread w.names d.name k0.names (good.later.apcs (omega (arith, at.1))).0 (good.later.routines (omega (arith, at.1))).0 d.named d.none;
       commands = k0.commands;
@@ -347,6 +355,7 @@ act_kept all few w (keyword.Apc k) args new at len e good k0 =
     let t = apc_line_takes all few k (rest args) d.thing d.read_is a.1 in
     subst (Kept all) o.1 (record {
       cpus = λ h. k0.cpus (omega (arith, at.0));
+      locks = k0.locks;
       depth = k0.depth;
       names = fit_apc w.names d.name k0.names (good.later.routines (omega (arith, at.1))).0 d.named d.none;
       commands = k0.commands;
@@ -366,6 +375,7 @@ act_kept all few w keyword.Routine args new at len e good k0 =
     let f = (new_name_takes w.names).fits (first args) b.value b.is in
     subst (Kept all) o.1 (record {
       cpus = λ h. k0.cpus (omega (arith, at.0));
+      locks = k0.locks;
       depth = k0.depth;
       names = fit_routine w.names b.value k0.names f.0 f.1;
       commands = k0.commands;
@@ -374,6 +384,7 @@ act_kept all few w keyword.Routine args new at len e good k0 =
 act_kept all few w keyword.Exit args new at len e good k0 =
     subst (Kept all) (ok_is (with_exit w) new e) (record {
       cpus = λ h. k0.cpus (omega (arith, at.0));
+      locks = k0.locks;
       depth = k0.depth;
       names = k0.names;
       commands = record {
@@ -393,6 +404,7 @@ act_kept all few w (keyword.Call verb) args new at len e good k0 =
     let lt = ltb-true w.commands 8192 o.0 in
     subst (Kept all) o.1 (record {
       cpus = λ h. k0.cpus (omega (arith, at.0));
+      locks = k0.locks;
       depth = k0.depth;
       names = k0.names;
       commands = record {
@@ -409,6 +421,7 @@ act_kept all few w (keyword.Call verb) args new at len e good k0 =
 kept_start : (all : NameLists) → Kept all start
 kept_start all = record {
   cpus = λ h. absurd (omega (arith, h));
+  locks = refl;
   depth = tt;
   names = record { dpcs = tt; timers = tt; threads = tt; apcs = tt; routines = tt };
   commands = record {
@@ -462,6 +475,7 @@ reading_fits bytes input e =
     let closed = s.good.later.closed f.high in
     subst Fit f.made_is (record {
       cpus = k.cpus f.low;
+      locks = k.locks;
       depth = k.depth;
       few = s.few;
       dpc_count = s.good.dpcs;

@@ -41,10 +41,11 @@ eight_from : (a b c d e f g h : Bool) → a ≡ true → b ≡ true → c ≡ tr
     (a && b && c && d && e && f && g && h) ≡ true
 eight_from a b c d e f g h ea eb ec ed ee ef eg eh = rw (ea, eb, ec, ed, ee, ef, eg, eh) refl
 
-nine : (a b c d e f g h i : Bool) → (a && b && c && d && e && f && g && h && i) ≡ true → (a ≡ true) × (b ≡ true) × (c ≡ true) × (d ≡ true) × (e ≡ true) ×
-    (f ≡ true) × (g ≡ true) × (h ≡ true) × (i ≡ true)
-nine a b c d e f g h i e0 =
-    let p8 = and_parts (a && b && c && d && e && f && g && h) i e0 in
+ten : (a b c d e f g h i j : Bool) → (a && b && c && d && e && f && g && h && i && j) ≡ true → (a ≡ true) × (b ≡ true) × (c ≡ true) × (d ≡ true) ×
+    (e ≡ true) × (f ≡ true) × (g ≡ true) × (h ≡ true) × (i ≡ true) × (j ≡ true)
+ten a b c d e f g h i j e0 =
+    let p9 = and_parts (a && b && c && d && e && f && g && h && i) j e0 in
+    let p8 = and_parts (a && b && c && d && e && f && g && h) i p9.0 in
     let p7 = and_parts (a && b && c && d && e && f && g) h p8.0 in
     let p6 = and_parts (a && b && c && d && e && f) g p7.0 in
     let p5 = and_parts (a && b && c && d && e) f p6.0 in
@@ -52,11 +53,11 @@ nine a b c d e f g h i e0 =
     let p3 = and_parts (a && b && c) d p4.0 in
     let p2 = and_parts (a && b) c p3.0 in
     let p1 = and_parts (a) b p2.0 in
-    (p1.0, p1.1, p2.1, p3.1, p4.1, p5.1, p6.1, p7.1, p8.1)
+    (p1.0, p1.1, p2.1, p3.1, p4.1, p5.1, p6.1, p7.1, p8.1, p9.1)
 
-nine_from : (a b c d e f g h i : Bool) → a ≡ true → b ≡ true → c ≡ true → d ≡ true → e ≡ true → f ≡ true → g ≡ true → h ≡ true → i ≡ true →
-    (a && b && c && d && e && f && g && h && i) ≡ true
-nine_from a b c d e f g h i ea eb ec ed ee ef eg eh ei = rw (ea, eb, ec, ed, ee, ef, eg, eh, ei) refl
+ten_from : (a b c d e f g h i j : Bool) → a ≡ true → b ≡ true → c ≡ true → d ≡ true → e ≡ true → f ≡ true → g ≡ true → h ≡ true → i ≡ true → j ≡ true →
+    (a && b && c && d && e && f && g && h && i && j) ≡ true
+ten_from a b c d e f g h i j ea eb ec ed ee ef eg eh ei ej = rw (ea, eb, ec, ed, ee, ef, eg, eh, ei, ej) refl
 
 three : (a b c : Bool) → (a && b && c) ≡ true → (a ≡ true) × (b ≡ true) × (c ≡ true)
 three a b c e0 =
@@ -117,6 +118,7 @@ pub record Counts (s : Script) (names : NameLists) : Type 0 where
   pub threads : length names.threads ≡ length s.threads
   pub apcs : length names.apcs ≡ length s.apcs
   pub routines : length names.routines ≡ length s.routines
+  pub locks : s.locks ≡ 0
 
 routine_from : (s : Script) (names : NameLists) → Counts s names → (r : RoutineNo) → has_routine s r ≡ true → r.0 < length names.routines
 routine_from s names cs r e = below r.0 (length names.routines) (length s.routines) cs.routines e
@@ -202,6 +204,8 @@ command_from s names cs (cmd.Interrupt cpu level) e h = (let b = and_parts (has_
 command_from s names cs (cmd.Clock units) e h = h
 command_from s names cs cmd.ToUser e h = tt
 command_from s names cs cmd.Yield e h = tt
+command_from s names cs (cmd.Acquire k) e h = let lt = ltb-true k.0 s.locks e in absurd (omega (arith, lt, cs.locks))
+command_from s names cs (cmd.Unlock k) e h = let lt = ltb-true k.0 s.locks e in absurd (omega (arith, lt, cs.locks))
 command_from s names cs (cmd.Note number) e h = h
 
 pub command_to : (s : Script) (names : NameLists) → Counts s names → (c : Command) → CommandFits names s.cpus c → (command_fits s c ≡ true) × HasRange c
@@ -232,6 +236,8 @@ command_to s names cs (cmd.Interrupt cpu level) h = (and_from (has_cpu s cpu) (i
 command_to s names cs (cmd.Clock units) h = (refl, h)
 command_to s names cs cmd.ToUser h = (refl, tt)
 command_to s names cs cmd.Yield h = (refl, tt)
+command_to s names cs (cmd.Acquire k) h = absurd h
+command_to s names cs (cmd.Unlock k) h = absurd h
 command_to s names cs (cmd.Note number) h = (refl, h)
 
 commands_from : (s : Script) (names : NameLists) → Counts s names → (cs : List Command) → list_all (command_fits s) cs ≡ true → AllByRecursion HasRange cs →
@@ -269,29 +275,30 @@ pub sound_fits : (input : Input) → IsSound input → Fit input
 sound_fits input i =
     let s = input.script in
     let names = input.names in
-    let cs : Counts s names = record { dpcs = i.dpcs; timers = i.timers; threads = i.threads; apcs = i.apcs; routines = i.routines } in
+    let cs : Counts s names = record { dpcs = i.dpcs; timers = i.timers; threads = i.threads; apcs = i.apcs; routines = i.routines; locks = i.locks } in
     let f = eight (meets_limits s) (list_all (isr_fits s) s.isrs) (isrs_differ s.isrs) (list_all (dpc_fits s) s.dpcs) (list_all (timer_fits s) s.timers)
     (list_all (thread_fits s) s.threads) (list_all (apc_fits s) s.apcs) (list_all (routine_fits s) s.routines) i.fits in
-    let m = nine (nat_le 1 s.cpus) (nat_le s.cpus 64) (where_given (λ depth. nat_le depth 256) s.depth) (nat_le (length s.threads) 64)
-    (nat_le (length s.timers) 64) (nat_le (length s.dpcs) 256) (nat_le (length s.apcs) 256) (nat_le (length s.routines) 256)
+    let m = ten (nat_le 1 s.cpus) (nat_le s.cpus 64) (where_given (λ depth. nat_le depth 256) s.depth) (nat_le (length s.threads) 64)
+    (nat_le (length s.timers) 64) (nat_le (length s.dpcs) 256) (nat_le (length s.apcs) 256) (nat_le s.locks 64) (nat_le (length s.routines) 256)
     (nat_le (command_count s.routines) 8192) f.0 in
     let at_most : (n most k : ℕ) → k ≡ n → nat_le n most ≡ true → k ≤ most = λ n most k e t. (let le = leb-true n most t in omega (arith, e, le)) in
     record {
       cpus = (leb-true 1 s.cpus m.0, i.cpus);
+      locks = i.locks;
       depth = given_from (λ depth. nat_le depth 256) (λ n. n ≤ 256) (λ n t. leb-true n 256 t) s.depth m.2;
       few = record {
         dpcs = at_most (length s.dpcs) 256 (length names.dpcs) i.dpcs m.5;
         timers = at_most (length s.timers) 64 (length names.timers) i.timers m.4;
         threads = at_most (length s.threads) 64 (length names.threads) i.threads m.3;
         apcs = at_most (length s.apcs) 256 (length names.apcs) i.apcs m.6;
-        routines = at_most (length s.routines) 256 (length names.routines) i.routines m.7;
+        routines = at_most (length s.routines) 256 (length names.routines) i.routines m.8;
       };
       dpc_count = i.dpcs;
       timer_count = i.timers;
       thread_count = i.threads;
       apc_count = i.apcs;
       routine_count = i.routines;
-      command_count = leb-true (command_count s.routines) 8192 m.8;
+      command_count = leb-true (command_count s.routines) 8192 m.9;
       names = names_fit names i.names;
       apart = f.2;
       isrs = all_from (isr_fits s) (IsrFits names s.cpus) (isr_from s names cs) s.isrs f.1;
@@ -306,17 +313,17 @@ pub fit_sound : (input : Input) → Fit input → IsSound input
 fit_sound input i =
     let s = input.script in
     let names = input.names in
-    let cs : Counts s names = record { dpcs = i.dpc_count; timers = i.timer_count; threads = i.thread_count; apcs = i.apc_count; routines = i.routine_count } in
+    let cs : Counts s names = record { dpcs = i.dpc_count; timers = i.timer_count; threads = i.thread_count; apcs = i.apc_count; routines = i.routine_count; locks = i.locks } in
     let at_most : (n most k : ℕ) → k ≡ n → k ≤ most → nat_le n most ≡ true = λ n most k e h. le-leb n most (omega (arith, e, h)) in
-    let limits : meets_limits s ≡ true = nine_from (nat_le 1 s.cpus) (nat_le s.cpus 64) (where_given (λ depth. nat_le depth 256) s.depth)
-    (nat_le (length s.threads) 64) (nat_le (length s.timers) 64) (nat_le (length s.dpcs) 256) (nat_le (length s.apcs) 256) (nat_le (length s.routines) 256)
+    let limits : meets_limits s ≡ true = ten_from (nat_le 1 s.cpus) (nat_le s.cpus 64) (where_given (λ depth. nat_le depth 256) s.depth)
+    (nat_le (length s.threads) 64) (nat_le (length s.timers) 64) (nat_le (length s.dpcs) 256) (nat_le (length s.apcs) 256) (nat_le s.locks 64) (nat_le (length s.routines) 256)
     (nat_le (command_count s.routines) 8192)
     (le-leb 1 s.cpus i.cpus.0) (le-leb s.cpus 64 (omega (arith, i.cpus.1)))
     (given_to (λ depth. nat_le depth 256) (λ n. n ≤ 256) (λ n h. le-leb n 256 h) s.depth i.depth)
     (at_most (length s.threads) 64 (length names.threads) i.thread_count i.few.threads)
     (at_most (length s.timers) 64 (length names.timers) i.timer_count i.few.timers) (at_most (length s.dpcs) 256 (length names.dpcs) i.dpc_count i.few.dpcs)
     (at_most (length s.apcs) 256 (length names.apcs) i.apc_count i.few.apcs)
-    (at_most (length s.routines) 256 (length names.routines) i.routine_count i.few.routines) (le-leb (command_count s.routines) 8192 i.command_count) in
+    (le-leb s.locks 64 (omega (arith, i.locks))) (at_most (length s.routines) 256 (length names.routines) i.routine_count i.few.routines) (le-leb (command_count s.routines) 8192 i.command_count) in
     let r = routines_to s names cs s.routines i.routines in
     record {
       fits = eight_from (meets_limits s) (list_all (isr_fits s) s.isrs) (isrs_differ s.isrs) (list_all (dpc_fits s) s.dpcs) (list_all (timer_fits s) s.timers)
@@ -327,6 +334,7 @@ fit_sound input i =
           (all_to (thread_fits s) (ThreadFits names s.cpus) (thread_to s names cs) s.threads i.threads)
           (all_to (apc_fits s) (ApcFits names) (apc_to s names cs) s.apcs i.apcs) r.0;
       cpus = i.cpus.1;
+      locks = i.locks;
       ranges = r.1;
       dpcs = i.dpc_count;
       timers = i.timer_count;

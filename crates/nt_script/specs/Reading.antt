@@ -62,6 +62,7 @@ start = record {
     threads = [];
     apcs = [];
     routines = [];
+    locks = 0;
   };
   names = no_names;
   body = [];

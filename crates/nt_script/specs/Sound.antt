@@ -7,11 +7,12 @@ use Rattle.nt_line.specs.NameLists.{AreNew, all_names}
 use Rattle.nt_script.specs.declared.walk.Input.{Input}
 use Rattle.nt_script.specs.Text.{text}
 
--- an input that has a text: its script fits and has at most 8 processors, there are as many names of each kind as
--- things, and each is a name and all are different
+-- an input that has a text: its script fits, has at most 8 processors and no locks, there are as many names of each kind
+-- as things, and each is a name and all are different
 pub record IsSound (input : Input) : Type 0 where
   pub fits : IsTrue (fits input.script)
   pub cpus : input.script.cpus ≤ 8
+  pub locks : input.script.locks ≡ 0
   pub ranges : AllByRecursion (λ r. AllByRecursion HasRange r.commands) input.script.routines
   pub dpcs : length input.names.dpcs ≡ length input.script.dpcs
   pub timers : length input.names.timers ≡ length input.script.timers

@@ -89,6 +89,7 @@ impl Walk {
                 threads: Items::new(alloc),
                 apcs: Items::new(alloc),
                 routines: Items::new(alloc),
+                locks: 0,
             },
             names: Names::new(alloc),
             body: Items::new(alloc),

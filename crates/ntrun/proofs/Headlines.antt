@@ -1,7 +1,9 @@
 -- The headline, from what the call answered and the laws of runs.
-use Rattle.std.proofs.Common.{subst, sym, ◌≡◌, ℕ, List, [], ◌∷◌, Ok}
+use Rattle.std.proofs.Common.{inl, inr, subst, sym, ◌∙◌, ◌≡◌, ℕ, List, [], ◌∷◌, Ok}
 use Rattle.std.specs.Io.KnownBytes.{append_known}
 use Rattle.std.specs.Prelude.{reverse, true}
+use Rattle.std.proofs.lemmas.Bool.{false≢true}
+use Rattle.nt_close.proofs.AtRest.{closed_either}
 use Rattle.nt_close.proofs.Closed.{no_dpc_is_left, nothing_is_eligible}
 use Rattle.nt_close.proofs.Owed.{no_due_key_is_left}
 use Rattle.nt_close.proofs.Quiet.{nothing_waits_behind_a_block}
@@ -12,6 +14,8 @@ use Rattle.nt_event.specs.declared.events.History.{History}
 use Rattle.nt_event.specs.declared.numbers.CpuNo.{CpuNo}
 use Rattle.nt_event.specs.declared.scripts.Script.{Script}
 use Rattle.nt_event.specs.Script.{fits}
+use Rattle.nt_event.specs.Jobs.{rests}
+use Rattle.nt_event.specs.Own.{own_of}
 use Rattle.nt_event.specs.Robin.{is_settled}
 use Rattle.nt_event.specs.Step.{IsRun}
 use Rattle.nt_laws.proofs.Deliveries.{deliveries_are_eligible}
@@ -19,6 +23,7 @@ use Rattle.nt_laws.proofs.Named.Objects.{holds_of_every_object}
 use Rattle.nt_print.specs.Report.{report_text}
 use Rattle.nt_ranges.proofs.Cuts.{cut_lines_name_the_cut}
 use Rattle.nt_ranges.proofs.Programs.{one_report_one_history}
+use Rattle.nt_ranges.proofs.Unlocked.{HasNoLocks, never_spins}
 use Rattle.nt_readings.proofs.OneFate.{each_insert_has_one_fate, waiting_are_the_pending}
 use Rattle.nt_words.proofs.Answered.{form_within}
 use Rattle.nt_words.specs.declared.form.Form.{Form}
@@ -46,13 +51,24 @@ closed : (s : Script) (limit : ℕ) (past : List Event) (p : CpuNo) → IsRun s 
     IsClosed s limit p past
 closed s limit past p r d u = record { run = r; settled = d; named = u.named; uncut = u.uncut }
 
-nothing_left : (s : Script) (limit : ℕ) (past : List Event) → IsRun s limit past → is_settled s limit past ≡ true → NothingIsLeft s limit past
-nothing_left s limit past r d = record {
+-- in a settled run of a script without locks, a processor that isn't cut rests
+rests_then : (s : Script) (limit : ℕ) (past : List Event) (p : CpuNo) → fits s ≡ true → HasNoLocks s → IsClosed s limit p past →
+    rests (own_of s p past) ≡ true
+rests_then s limit past p fit none k =
+    elim (closed_either s limit p past k) [
+      | inl rest ↦ rest
+      | inr spun ↦ absurd (false≢true (sym (never_spins s limit p past fit none k.run) ∙ spun))
+    ]
+
+nothing_left : (s : Script) (limit : ℕ) (past : List Event) → fits s ≡ true → HasNoLocks s → IsRun s limit past → is_settled s limit past ≡ true →
+    NothingIsLeft s limit past
+nothing_left s limit past fit none r d = record {
   requests = λ p x u. nothing_is_eligible s limit p past x (closed s limit past p r d u);
-  dpcs = λ p u. no_dpc_is_left s limit p past (closed s limit past p r d u);
-  threads = λ p t u h k. no_thread_is_left s limit p t past (closed s limit past p r d u) h k;
+  dpcs = λ p u. no_dpc_is_left s limit p past (closed s limit past p r d u) (rests_then s limit past p fit none (closed s limit past p r d u));
+  threads = λ p t u h k. no_thread_is_left s limit p t past (closed s limit past p r d u)
+      (rests_then s limit past p fit none (closed s limit past p r d u)) h k;
   blocks = λ t w h k. nothing_waits_behind_a_block s limit t w past r h k;
-  keys = λ u. no_due_key_is_left s limit past r d u;
+  keys = λ u. no_due_key_is_left s limit past r d (λ p h. (u p h, never_spins s limit p past fit none r));
 }
 
 actual : (t : Task) (h : History) → IsPlainTask t → IsRunOf t h → IsActual t h
@@ -69,7 +85,7 @@ actual t h p i =
       due = all_due s (limit_of t) (reverse h.events) fit r.run;
       fates = λ x n k. each_insert_has_one_fate s (limit_of t) x n (reverse h.events) r.run fit k;
       waiting = λ x. waiting_are_the_pending s (limit_of t) x (reverse h.events) r.run fit;
-      left = nothing_left s (limit_of t) (reverse h.events) r.run r.settled;
+      left = nothing_left s (limit_of t) (reverse h.events) fit (sound_task t p).locks r.run r.settled;
       cut = λ n. cut_lines_name_the_cut s h n own.run;
       one = λ g k e. one_report_one_history (input_of t) h g own k e;
     }

@@ -39,6 +39,7 @@ one_whole rises (did.Switch t status) h = tt
 one_whole rises (did.Rewait f y) h = tt
 one_whole rises (did.Flush a from) h = tt
 one_whole rises (did.Gone t) h = tt
+one_whole rises (did.Free f l) h = tt
 one_whole rises did.Rest h = tt
 
 -- so the looks of a history are whole, as the values of each are among these

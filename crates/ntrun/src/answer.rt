@@ -4,6 +4,7 @@ ghost use Rattle.nt_core.specs.Refusals.{IsReplayRefused};
 ghost use Rattle.nt_event.specs.declared.events.History.{History as RunHistory};
 ghost use Rattle.nt_event.specs.Fitting.{events_fit};
 ghost use Rattle.nt_event.specs.Script.{fits};
+ghost use Rattle.nt_print.specs.Written.{replies_written};
 ghost use Rattle.nt_line.specs.NameLists.{NameLists};
 ghost use Rattle.nt_print.specs.Summary.{summary_text};
 ghost use Rattle.nt_script.specs.Sound.{IsSound};
@@ -120,6 +121,7 @@ fn turn_refused(alloc: Global, at: u32, kind: ScheduleKind) -> Answer
 pub(crate) fn reported(alloc: Global, input: &Input, history: &History) -> Answer
     requires sound { IsSound input.now }
     requires fit { events_fit input.now.script history.now.events ≡ true }
+    requires told { replies_written history.now.events ≡ true }
     ensures { IsReported input.now history.now result.status (text_of result.text) }
 {
     match report(alloc, input, history) {
@@ -135,6 +137,7 @@ pub(crate) fn reported(alloc: Global, input: &Input, history: &History) -> Answe
 fn made(alloc: Global, input: &Input, made: &Result<History, ScheduleRefusal>) -> Answer
     requires sound { IsSound input.now }
     requires fit { IfOk made.now (λ h. events_fit input.now.script h.events ≡ true) }
+    requires told { IfOk made.now (λ h. replies_written h.events ≡ true) }
     ensures { IsMade input.now made.now result.status (text_of result.text) }
 {
     match made {

@@ -5,14 +5,15 @@ use Rattle.std.proofs.lemmas.List.Sums.{AllPass-from_list_all}
 use Rattle.std.proofs.lemmas.Bool.Decides.{nat_tests}
 use Rattle.std.specs.List.{list_all}
 use Rattle.std.specs.Option.{ForSome, option_map_or}
-use Rattle.nt_event.specs.declared.frames.Frame.{Frame}
+use Rattle.nt_event.specs.declared.commands.Command.TheVariants.{Acquire}
+use Rattle.nt_event.specs.Frame.{Frame}
 use Rattle.nt_event.specs.Frames.{Frames, innermost}
 use Rattle.nt_frame.specs.declared.calls.FrameCall.{FrameCall}
-use Rattle.nt_frame.specs.declared.calls.FrameCall.TheVariants.{AdvancePlace, Begin, EndBase, Enter, Finish, Gone, Leave, Lower, Normal, Raise, SetAgain}
-use Rattle.nt_frame.specs.declared.calls.FrameCall.TheVariants.{SwitchAway, SwitchTo}
+use Rattle.nt_frame.specs.declared.calls.FrameCall.TheVariants.{Acquired, AdvancePlace, Begin, EndBase, Enter, Finish, Free, Gone, Leave, Lower, Normal, Raise, SetAgain}
+use Rattle.nt_frame.specs.declared.calls.FrameCall.TheVariants.{SwitchAway, SwitchTo, Unlock}
 use Rattle.nt_frame.specs.Calls.{MayCall, MayCallAll, left_by}
 use Rattle.nt_frame.specs.Nesting.{next_name}
-use Rattle.nt_frame.specs.Rules.{count_of, is_at_base, is_leaving, may_begin, may_go_on, regions_in}
+use Rattle.nt_frame.specs.Rules.{count_of, is_at_base, is_leaving, may_begin, may_go_on, refusal_in, regions_in}
 use Rattle.nt_event.proofs.Booleans.{and_left, and_right, lt_is, none_is}
 
 abbrev pub are_named_below : ℕ → Frames → Bool
@@ -34,6 +35,9 @@ may_call Gone x = is_leaving x
 may_call (SetAgain a) x = is_some (innermost x)
 may_call AdvancePlace x =
     is_some (innermost x) && option_map_or (λ f. nat_lt f.place 4294967295) (innermost x) false
+may_call (Acquired k done) x = nat_lt k.0 64 && (is_some (innermost x) && is_none (refusal_in (Acquire k) x))
+may_call (Unlock k) x = true
+may_call Free x = true
 
 abbrev pub may_call_all : List FrameCall → Frames → Bool
 may_call_all [] x = true
@@ -72,6 +76,11 @@ call_allowed Gone x h = h
 call_allowed (SetAgain a) x h = h
 call_allowed AdvancePlace x h =
     (and_left _ _ h, place_is (innermost x) (and_right (is_some (innermost x)) _ h))
+call_allowed (Acquired k done) x h =
+    let tries : (is_some (innermost x) && is_none (refusal_in (Acquire k) x)) ≡ true = and_right (nat_lt k.0 64) _ h in
+    (lt_is k.0 64 (and_left _ _ h), and_left _ _ tries, none_is (refusal_in (Acquire k) x) (and_right (is_some (innermost x)) _ tries))
+call_allowed (Unlock k) x h = tt
+call_allowed Free x h = tt
 
 pub calls_allowed : (cs : List FrameCall) (x : Frames) → may_call_all cs x ≡ true → MayCallAll cs x
 unfolding MayCallAll

@@ -37,7 +37,7 @@ fn write_stand(rt: HostRuntime, frames: &Frames) -> io::Result<()> {
     println!(rt;
         "  level {}, then {}, running {:?}",
         frames.level().number(),
-        frames.after().number(),
+        frames.ended_level().number(),
         frames.running()
     )
 }

@@ -1,7 +1,7 @@
 //! The data of the machine: which small scripts fit, what a script says of its things, and the small questions about the data.
 use crate::writing::{write_number, write_yes};
 use nt_event::{
-    ApcDecl, ApcKind, ApcNo, Body, Command, CpuNo, DpcDecl, DpcNo, Frame, Isr, Items, Level, Mode,
+    ApcDecl, ApcKind, ApcNo, Body, Command, CpuNo, DpcDecl, DpcNo, Isr, Items, Level, LockNo, Mode,
     Refusal, Regions, Reply, Routine, RoutineNo, ScheduleKind, Script, ThreadDecl, ThreadNo,
     TimerDecl, TimerNo, class,
 };
@@ -38,7 +38,7 @@ fn isr(cpu: u8) -> Isr {
     }
 }
 
-/// Two processors with a thread on the second, an interrupt routine on each, a DPC object, its timer, and one routine of these commands.
+/// Two processors with a thread on the second, an interrupt routine on each, a DPC object, its timer, a spin lock, and one routine of these commands.
 fn script(alloc: Global, commands: Vec<Command>) -> Result<Script, AllocError> {
     let routine = Routine {
         commands: Items::from_vec(commands),
@@ -53,6 +53,7 @@ fn script(alloc: Global, commands: Vec<Command>) -> Result<Script, AllocError> {
         threads: Items::new(alloc),
         apcs: Items::new(alloc),
         routines: Items::from_vec(vec![in alloc; routine]?),
+        locks: 1,
     };
     declare(&mut made)?;
     Ok(made)
@@ -122,6 +123,8 @@ fn commands(rt: HostRuntime) -> io::Result<()> {
     write_fits(rt, Command::Interrupt(CpuNo(1), Level::IPI))?;
     write_fits(rt, Command::Interrupt(CpuNo(1), Level::CLOCK))?;
     write_fits(rt, Command::Interrupt(CpuNo(1), Level::DISPATCH))?;
+    write_fits(rt, Command::Acquire(LockNo(0)))?;
+    write_fits(rt, Command::Unlock(LockNo(1)))?;
     write_fits(rt, Command::Note(4_294_967_295))
 }
 
@@ -207,21 +210,6 @@ fn write_routines(rt: HostRuntime, made: &Script) -> io::Result<()> {
     )
 }
 
-/// The base frame of thread 0 at this place.
-fn base(place: u32, leaving: bool) -> Frame {
-    Frame {
-        name: 3,
-        body: Body::Base(ThreadNo(0)),
-        level: Level::PASSIVE,
-        place,
-        crit: 0,
-        guard: 0,
-        kernel_phase: false,
-        leaving,
-        again: None,
-    }
-}
-
 fn write_next(rt: HostRuntime, at: &str, command: Option<Command>) -> io::Result<()> {
     println!(rt; "  {at} {command:?}")
 }
@@ -229,10 +217,10 @@ fn write_next(rt: HostRuntime, at: &str, command: Option<Command>) -> io::Result
 fn next_commands(rt: HostRuntime) -> io::Result<()> {
     let commands = vec![in rt.alloc(); Command::Note(1), Command::Note(2)]?;
     let made = script(rt.alloc(), commands)?;
-    write_next(rt, "at 0", made.next_command(CpuNo(1), &base(0, false)))?;
-    write_next(rt, "at 1", made.next_command(CpuNo(1), &base(1, false)))?;
-    write_next(rt, "at 2", made.next_command(CpuNo(1), &base(2, false)))?;
-    write_next(rt, "leaving", made.next_command(CpuNo(1), &base(0, true)))
+    let base = Body::Base(ThreadNo(0));
+    write_next(rt, "at 0", made.command_at(CpuNo(1), &base, false, 0))?;
+    write_next(rt, "at 1", made.command_at(CpuNo(1), &base, false, 1))?;
+    write_next(rt, "at 2", made.command_at(CpuNo(1), &base, false, 2))
 }
 
 fn write_refusal(rt: HostRuntime, refusal: Refusal) -> io::Result<()> {
@@ -247,6 +235,7 @@ fn numbers(rt: HostRuntime) -> io::Result<()> {
     write_refusal(rt, Refusal::NotThread)?;
     write_refusal(rt, Refusal::NotGreater)?;
     write_refusal(rt, Refusal::NotEntered)?;
+    write_refusal(rt, Refusal::NotLast)?;
     write_kind(rt, ScheduleKind::NoSuchCpu)?;
     write_kind(rt, ScheduleKind::Unfinished)
 }
@@ -277,6 +266,7 @@ fn write_reply(rt: HostRuntime, reply: Reply) -> io::Result<()> {
         reply.is_answer(),
         reply.is_blocked(),
         reply.is_refused(),
+        reply.is_spin(),
     );
     println!(rt; "  {reply:?} {is:?}")
 }
@@ -295,6 +285,7 @@ fn questions(rt: HostRuntime) -> io::Result<()> {
     write_reply(rt, Reply::yes_if(false))?;
     write_reply(rt, Reply::Blocked)?;
     write_reply(rt, Reply::Refused(Refusal::TooHigh))?;
+    write_reply(rt, Reply::Spin)?;
     write_lane(rt, Command::Yield)?;
     write_lane(rt, Command::EnterCrit)?;
     write_lane(rt, Command::StartWait(Mode::User, true))?;
@@ -307,9 +298,10 @@ fn questions(rt: HostRuntime) -> io::Result<()> {
     let now = Regions { crit: 0, ..before };
     write_two(rt, now.came_to_0(&before), before.came_to_0(&now))?;
     println!(rt;
-        "  {} {} {}",
+        "  {} {} {} {}",
         class::is_used(11),
-        class::is_used(12),
-        class::is_used(class::CLOCK)
+        class::is_used(class::LOCK),
+        class::is_used(class::CLOCK),
+        class::is_used(15)
     )
 }

@@ -2,7 +2,8 @@
 ghost use Rattle.nt_frame.specs.Calls.{MayCallAll};
 
 use nt_event::{
-    Again, ApcKind, ApcNo, Body, Command, CpuNo, DpcNo, Mode, Region, Regions, Stand, ThreadNo,
+    Again, ApcKind, ApcNo, Body, Command, CpuNo, DpcNo, LockNo, Mode, Region, Regions, Stand,
+    ThreadNo,
 };
 use nt_frame::{FrameAnswer, FrameCall, FrameView, Frames, StandView, perform_all};
 use nt_level::Level;
@@ -19,6 +20,7 @@ pub fn answer(rt: HostRuntime, case: &str) -> io::Result<()> {
         "levels and regions of a thread" => levels_and_regions_of_a_thread(rt),
         "routines over a thread" => routines_over_a_thread(rt),
         "threads come and go" => threads_come_and_go(rt),
+        "locks of a thread" => locks_of_a_thread(rt),
         _ => println!(rt; "  no such case"),
     }
 }
@@ -74,6 +76,7 @@ fn write_stand(rt: HostRuntime, stand: &StandView) -> io::Result<()> {
         level: stand.level(),
         regions: stand.regions(),
         below: stand.below(),
+        ended_level: stand.ended_level(),
         after: stand.after(),
         again: stand.again(),
         sweep: stand.sweep(),
@@ -83,13 +86,18 @@ fn write_stand(rt: HostRuntime, stand: &StandView) -> io::Result<()> {
 
 /// Writes what the frames tell.
 fn write_questions(rt: HostRuntime, frames: &Frames) -> io::Result<()> {
-    write_levels(rt, frames.level(), frames.after())?;
+    write_levels(rt, frames.level(), frames.ended_level())?;
     write_running(rt, frames.running())?;
     write_part(rt, frames.has_own(), frames.is_on_thread())?;
     write_regions(rt, frames.regions(), "")?;
     write_regions(rt, frames.below(), " then")?;
     write_innermost(rt, frames.innermost())?;
     write_stand(rt, &StandView::new(CpuNo(0), frames, true))
+}
+
+/// Writes which lock the innermost routine acquired last of those that it holds, and on which it spins.
+fn write_locks(rt: HostRuntime, held: Option<LockNo>, spun: Option<LockNo>) -> io::Result<()> {
+    println!(rt; "  holds {held:?}, spins on {spun:?}")
 }
 
 /// Writes why the command would be refused, if it would.
@@ -174,4 +182,24 @@ fn threads_come_and_go(rt: HostRuntime) -> io::Result<()> {
     ];
     write_calls(rt, &mut frames, &calls)?;
     write_questions(rt, &frames)
+}
+
+fn locks_of_a_thread(rt: HostRuntime) -> io::Result<()> {
+    let mut frames = Frames::new(rt.alloc(), CpuNo(0), 2)?;
+    let calls = [
+        FrameCall::SwitchTo(T1),
+        FrameCall::Begin(Body::Base(T1), 1),
+        FrameCall::Acquired(LockNo(2), true),
+        FrameCall::Acquired(LockNo(5), false),
+        FrameCall::Acquired(LockNo(5), true),
+        FrameCall::Unlock(LockNo(2)),
+        FrameCall::Lower(Level::PASSIVE),
+        FrameCall::Free,
+        FrameCall::Unlock(LockNo(2)),
+        FrameCall::Free,
+        FrameCall::Acquired(LockNo(5), false),
+    ];
+    write_calls(rt, &mut frames, &calls)?;
+    write_locks(rt, frames.last_held(), frames.spinning())?;
+    write_levels(rt, frames.level(), frames.level_after())
 }

@@ -1,5 +1,5 @@
 use Rattle.std.proofs.Common.{[], List, arith, length, subst, sym, ◌<◌}
-use Rattle.nt_event.specs.declared.frames.Frame.{Frame}
+use Rattle.nt_event.specs.Frame.{Frame}
 use Rattle.nt_event.specs.Frames.{Frames}
 use Rattle.nt_event.proofs.Tables.{length-table_from}
 use Rattle.lanes_table.proofs.threads.wait.Goals as goal
