@@ -1,7 +1,6 @@
 -- A processor that made nothing, with a pass that knows nothing.
 use Rattle.std.proofs.Common.{subst, sym}
 use Rattle.std.specs.Prelude.{Some, [], refl, ◌≡◌, ◌≤◌, ℕ}
-use Rattle.atomic_table.specs.Seated.{TableId}
 use Rattle.nt_cpu.specs.States.{CpuState}
 use Rattle.nt_cpu.specs.Turns.{Serves}
 use Rattle.nt_event.specs.declared.scripts.Script.{Script}
@@ -34,9 +33,9 @@ served_first s limit m n c p q some new cpus few nothing same marks =
     (served s limit m c p cpus few (new_is_worker (pass_table p) s limit (cpu 0) c p some new refl nothing)))
 
 -- its pass is what its events, none, made of it
-pub seated_first : (table : TableId) (s : Script) (limit : ℕ) (c : CpuState) (p : Pass) → 1 ≤ s.cpus → c ≡ (new_worker s limit (cpu 0)).cpu →
-    pass_table p ≡ table → pass_view p ≡ fresh 1 → IsSeated table s limit c p
-seated_first table s limit c p some new at nothing =
-    let w = new_is_worker table s limit (cpu 0) c p some new at nothing in
+pub seated_first : (s : Script) (limit : ℕ) (c : CpuState) (p : Pass) → 1 ≤ s.cpus → c ≡ (new_worker s limit (cpu 0)).cpu → pass_view p ≡ fresh 1 →
+    IsSeated (pass_table p) s limit c p
+seated_first s limit c p some new nothing =
+    let w = new_is_worker (pass_table p) s limit (cpu 0) c p some new refl nothing in
     let e : p ≡ w.here = let h = w.pass_is in cc in
-    subst (λ (x : Pass). IsSeated table s limit c x) (sym e) (record { at = w.at; listed = w.listed; work = w.work; knows = w.knows })
+    subst (λ (x : Pass). IsSeated (pass_table p) s limit c x) (sym e) (record { at = w.at; listed = w.listed; work = w.work; knows = w.knows })

@@ -15,6 +15,7 @@ returns c =
       level = 0;
       regions = free;
       below = free;
+      ended_level = 0;
       after = 0;
       again = None;
       sweep = false;
