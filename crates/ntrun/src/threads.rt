@@ -3,10 +3,9 @@ ghost use Rattle.std.specs.Prelude.{◌≡◌, IfOk, length, true};
 ghost use Rattle.nt_event.specs.Classes.{class_count};
 ghost use Rattle.nt_ranges.specs.Looks.{LooksAreWhole};
 ghost use Rattle.nt_script.specs.Sound.{IsSound};
-ghost use Rattle.nt_words.specs.Forms.{IsTurns};
 ghost use Rattle.ntrun.specs.Answer.{IsAnswerTo, text_of};
 ghost use Rattle.ntrun.specs.Outcome.{IsDone, IsLiveRun};
-ghost use Rattle.ntrun.specs.Tasks.{IsSoundTask};
+ghost use Rattle.ntrun.specs.Tasks.{IsLimit, IsSoundTask};
 
 use crate::answer::{Answer, done, no_memory, reported};
 use crate::task::Task;
@@ -50,7 +49,7 @@ fn live_run<G: Gate + Sync, R: Threads + Wait + Sync>(
     gate: &G,
 ) -> Result<History, AllocError>
     requires sound { IsSound input.now }
-    requires limit { IsTurns turns }
+    requires limit { IsLimit input.now turns }
     ensures { IfOk result (IsLiveRun input.now.script turns) }
 {
     let history = live(rt, alloc, &input.script, turns, gate)?;
@@ -67,7 +66,7 @@ fn lived<G: Gate + Sync, R: Threads + Wait + Sync>(
     gate: &G,
 ) -> Answer
     requires sound { IsSound input.now }
-    requires limit { IsTurns turns }
+    requires limit { IsLimit input.now turns }
     ensures { IsDone (Task.Live input.now turns) result.status (text_of result.text) }
 {
     match live_run(rt, alloc, input, turns, gate) {
@@ -88,7 +87,9 @@ fn done_on_threads<G: Gate + Sync, R: Threads + Wait + Sync>(
 {
     match task {
         Task::Live { input, turns } => lived(rt, alloc, input, *turns, gate),
-        _ => done(alloc, task),
+        Task::Run { .. } | Task::Replay { .. } | Task::Check { .. } | Task::Migrate { .. } => done(
+            alloc, task,
+        ),
     }
 }
 
