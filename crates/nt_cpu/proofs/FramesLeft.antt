@@ -1,7 +1,7 @@
 -- What the calls of the frames leave is what an event leaves.
 use Rattle.std.proofs.Common.{ap, sym, ◌∙◌}
 use Rattle.std.proofs.lemmas.List.{get_or-set_same}
-use Rattle.std.specs.Prelude.{Bool, IsSome, List, None, Option, Some, [], false, get_or, if◌then◌else◌, is_none, option_map, refl, true, ℕ, ◌+◌, ◌<◌, ◌∷◌, ◌≡◌}
+use Rattle.std.specs.Prelude.{Bool, IsSome, List, None, Option, Some, [], false, get_or, if◌then◌else◌, is_none, option_map, refl, true, ℕ, ◌<◌, ◌∷◌, ◌≡◌}
 use Rattle.nt_event.specs.declared.commands.Command.{Command}
 use Rattle.nt_event.specs.declared.commands.Command.TheVariants.{Acquire, Delay, EnterCrit, EnterGuard, LeaveCrit, LeaveGuard, Lower, Raise, StartWait, Unlock, Yield}
 use Rattle.nt_event.specs.declared.commands.Reply.{Reply}

@@ -24,3 +24,4 @@ pub mod Knowing
 pub mod StepsMade
 pub mod Rooms
 pub mod Dues
+pub mod Unlocked

@@ -21,7 +21,7 @@ use Rattle.nt_event.specs.declared.numbers.ApcNo.{ApcNo}
 use Rattle.nt_event.specs.declared.numbers.RoutineNo.{RoutineNo}
 use Rattle.nt_event.specs.declared.numbers.ThreadNo.{ThreadNo}
 use Rattle.nt_event.specs.declared.scripts.Script.{Script}
-use Rattle.nt_event.specs.Frames.{Frames, again_after, at_name, called, done_to, effect, end_on_thread, ended_on_thread, flushed, frames_after, frames_in, freed, held_moved, is_base_body, ended_base, new_frame, normal_of, own_after, resumed, rewaited, switched_to, thread_after, thread_if, without}
+use Rattle.nt_event.specs.Frames.{Frames, again_after, at_name, called, done_to, effect, end_on_thread, ended_on_thread, flushed, frames_after, frames_in, freed, held_moved, is_base_body, ended_base, new_frame, normal_of, own_after, resumed, rewaited, spin_moved, switched_to, thread_after, thread_if, without}
 use Rattle.nt_event.specs.Regions.{crit_of, guard_of}
 use Rattle.nt_event.specs.Routines.{rundown_of}
 use Rattle.nt_event.specs.Numbers.{is_by, thread}
@@ -49,7 +49,7 @@ pub record Grows (m₀ n : ℕ) (f g : Frame) : Type 0 where
 
 module _ (m₀ : ℕ) where
   more : (n : ℕ) (f : Frame) → IsSmall m₀ n f → IsSmall m₀ (n + 1) f
-  more n f h = let p = h.place in record { held = h.held; place = omega arith; due = h.due }
+  more n f h = let p = h.place in record { held = h.held; spin = h.spin; place = omega arith; due = h.due }
 
   grows_same : (n : ℕ) (f : Frame) → IsSmall m₀ n f → Grows m₀ n f f
   grows_same n f h = record { small = more n f h; crit = omega arith; guard = omega arith }
@@ -99,24 +99,30 @@ module _ (m₀ : ℕ) where
   moved_below (Unlock k) Done f l h = tail_below f.held h
   moved_below c y f l h = h
 
+  spins_below : (c : Command) (y : Reply) (f : Frame) → lock_below m₀ c ≡ true → IfSome (spin_moved (call_move c y) f) (λ h. h.lock.0 < m₀)
+  spins_below (Acquire k) Spin f l = grind (arith, nat_tests)
+  spins_below (Acquire k) Done f l = tt
+  spins_below (Unlock k) Done f l = tt
+  spins_below c y f l = tt
+
   called_grows : (n : ℕ) (due : Option ℕ) (c : Command) (y : Reply) (f : Frame) → IfSome due (λ d. d < 2 ^ 51) → lock_below m₀ c ≡ true → IsSmall m₀ n f →
       Grows m₀ n f (called due c y f)
   called_grows n due c y f d l h =
       let e = effect_grows due c y f d h.due in
       record {
-        small = record { held = moved_below c y f l h.held; place = place_fits (is_spin y) n f.place h.place; due = e.0 };
+        small = record { held = moved_below c y f l h.held; spin = spins_below c y f l; place = place_fits (is_spin y) n f.place h.place; due = e.0 };
         crit = e.1;
         guard = e.2;
       }
 
   freed_grows : (n : ℕ) (f : Frame) → IsSmall m₀ n f → Grows m₀ n f (freed f)
   freed_grows n f h =
-      let p = h.place in record { small = record { held = tail_below f.held h.held; place = omega arith; due = h.due }; crit = omega arith; guard = omega arith }
+      let p = h.place in record { small = record { held = tail_below f.held h.held; spin = h.spin; place = omega arith; due = h.due }; crit = omega arith; guard = omega arith }
 
   rewaited_grows : (n : ℕ) (y : Reply) (f : Frame) → IsSmall m₀ n f → Grows m₀ n f (rewaited y f)
   rewaited_grows n y f h =
       let p = h.place in record {
-        small = record { held = h.held; place = omega arith; due = again_fits y f.again f.again h.due h.due };
+        small = record { held = h.held; spin = h.spin; place = omega arith; due = again_fits y f.again f.again h.due h.due };
         crit = omega arith;
         guard = omega arith;
       }
@@ -126,13 +132,13 @@ module _ (m₀ : ℕ) where
   resumed_grows n (Some st) f h = rewaited_grows n (Status st) f h
 
   normal_grows : (n : ℕ) (f : Frame) → IsSmall m₀ n f → Grows m₀ n f (normal_of f)
-  normal_grows n f h = record { small = record { held = h.held; place = omega arith; due = tt }; crit = omega arith; guard = omega arith }
+  normal_grows n f h = record { small = record { held = h.held; spin = tt; place = omega arith; due = tt }; crit = omega arith; guard = omega arith }
 
   left_grows : (n : ℕ) (f : Frame) → IsSmall m₀ n f → Grows m₀ n f (ended_base f)
-  left_grows n f h = record { small = record { held = h.held; place = omega arith; due = tt }; crit = omega arith; guard = omega arith }
+  left_grows n f h = record { small = record { held = h.held; spin = tt; place = omega arith; due = tt }; crit = omega arith; guard = omega arith }
 
   new_small : (n m : ℕ) (b : Body) → IsSmall m₀ n (new_frame m b)
-  new_small n m b = record { held = tt; place = omega arith; due = tt }
+  new_small n m b = record { held = tt; spin = tt; place = omega arith; due = tt }
 
   -- ---- the own part
 

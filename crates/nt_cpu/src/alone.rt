@@ -142,7 +142,7 @@ impl<'s> Cpu<'s> {
         ensures { result ≡ (stand_in self.now.cpu self.now.own).body }
     {
         match self.frames.top() {
-            Some(frame) => Some(frame.body()),
+            Some(frame) => Some(*frame.body()),
             None => None,
         }
     }

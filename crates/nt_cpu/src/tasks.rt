@@ -1,11 +1,11 @@
 //! What a processor has to do next, as far as it knows alone.
-ghost use Rattle.std.specs.Prelude.{◌≡◌, ◌<◌, ◌-◌, ◌&&◌, IfSome, find, is_some, not, option_copied};
+ghost use Rattle.std.specs.Prelude.{◌≡◌, ◌<◌, ◌-◌, ◌&&◌, IfSome, Some, find, is_some, not, option_copied};
 ghost use Rattle.std.specs.Option.{option_map_or};
 ghost use Rattle.nt_event.specs.declared.events.Begun.{Begun};
 ghost use Rattle.nt_event.specs.declared.events.Event.{Event};
 ghost use Rattle.nt_event.specs.declared.events.What.{What};
 ghost use Rattle.nt_event.specs.Commands.{refusal as refusal_of};
-ghost use Rattle.nt_event.specs.Frames.{thread_part};
+ghost use Rattle.nt_event.specs.Frames.{innermost, thread_part};
 ghost use Rattle.nt_event.specs.Jobs.{call_task as call_of, command_task as command_of, end_task as end_of, frame_task as frame_of, has_normal as goes_on, idle_task as idle_of, is_due as due_in, level_at, may_apcs as apcs_in, may_drain as drain_in, may_interrupt, may_switch as switch_in, may_threaded as threaded_in, must as must_in, must_task as must_of, task as task_of, waits_for_lock as waits_in_own};
 ghost use Rattle.nt_event.specs.Classes.{interrupt_classes};
 ghost use Rattle.nt_event.specs.Routines.{next_command as next_of};
@@ -116,10 +116,14 @@ impl<'s> Cpu<'s> {
         self.may_drain(level) || self.may_apcs(level) || self.may_threaded(level)
     }
 
-    /// Whether this innermost frame spins, and no release was noticed since its last try.
+    /// Whether this innermost frame spins, and no release was noticed since its last try. In a script without locks none does.
     fn waits_in(&self, frame: &Frame) -> bool
+        requires { innermost self.now.own.frames ≡ Some frame.now }
         ensures { result ≡ (is_some frame.now.spin && not (due_in self.now.own 12)) }
     {
+        if self.script.locks == 0 {
+            return false;
+        }
         frame.spin().is_some() && !self.is_due(class::LOCK)
     }
 
@@ -127,6 +131,9 @@ impl<'s> Cpu<'s> {
     pub(crate) fn waits_for_lock(&self) -> bool
         ensures { result ≡ waits_in_own self.now.own }
     {
+        if self.script.locks == 0 {
+            return false;
+        }
         match self.frames.top() {
             Some(frame) => self.waits_in(frame),
             None => false,
@@ -147,7 +154,7 @@ impl<'s> Cpu<'s> {
         if frame.leaving() {
             return None;
         }
-        self.script.command_at(self.cpu, &frame.body(), frame.kernel_phase(), frame.place())
+        self.script.command_at(self.cpu, frame.body(), frame.kernel_phase(), frame.place())
     }
 
     /// The next command of the innermost frame is refused, called alone, or a job.
@@ -226,7 +233,7 @@ impl<'s> Cpu<'s> {
         if let Some(lock) = frame.last_held() {
             return Some(Plan::Shared(Job::Free(lock)));
         }
-        if frame.kernel_phase() && has_normal(&frame.body()) {
+        if frame.kernel_phase() && has_normal(frame.body()) {
             self.write_normal(frame.name(), event);
             return Some(Plan::Alone);
         }

@@ -1,6 +1,6 @@
 //! Limits of scripts, runs and histories.
 
-/// Processors of a script at most; the texts of scripts have at most 8.
+/// Processors of a script at most.
 pub const CPUS: u8 = 64;
 
 /// Threads of a script at most.

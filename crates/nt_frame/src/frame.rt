@@ -95,10 +95,10 @@ impl Frame {
 
     /// What runs in it.
     #[inline(always)]
-    pub fn body(&self) -> Body
-        ensures { result ≡ self.now.body }
+    pub fn body(&self) -> &Body
+        ensures { result.now ≡ self.now.body }
     {
-        self.body
+        &self.body
     }
 
     /// Its level.

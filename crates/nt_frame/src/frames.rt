@@ -78,6 +78,7 @@ impl Frames {
     }
 
     /// The regions of the running thread, in all its frames.
+    #[inline(always)]
     pub fn regions(&self) -> Regions
         ensures { result ≡ regions_in self.now }
     {
@@ -188,7 +189,7 @@ impl Frames {
         let frame = self.top()?;
         Some(FrameView {
             frame: frame.name(),
-            body: frame.body(),
+            body: *frame.body(),
             place: frame.place(),
             kernel_phase: frame.kernel_phase(),
             leaving: frame.leaving(),
@@ -239,7 +240,7 @@ impl Frames {
         let Some(frame) = self.top() else {
             unreachable!()
         };
-        let asks = is_normal_apc(&frame.body()) || self.gives_up();
+        let asks = is_normal_apc(frame.body()) || self.gives_up();
         self.drop_innermost();
         asks
     }

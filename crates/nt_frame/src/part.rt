@@ -136,7 +136,7 @@ fn regions(frames: &[Frame]) -> Regions
         [frame] => Regions {
             crit: frame.crit(),
             guard: frame.guard(),
-            busy: is_normal_apc(&frame.body()),
+            busy: is_normal_apc(frame.body()),
         },
         _ => Regions {
             crit: crit(frames),
@@ -170,5 +170,5 @@ fn guard(frames: &[Frame]) -> u32
 fn is_busy(frames: &[Frame]) -> bool
     ensures { result ≡ busy_of (reverse frames.now) }
 {
-    frames.iter().rev().any(|f| is_normal_apc(&f.body()))
+    frames.iter().rev().any(|f| is_normal_apc(f.body()))
 }

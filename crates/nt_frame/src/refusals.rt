@@ -72,6 +72,7 @@ fn thread_refusal(own: bool, most: Level, level: Level) -> Option<Refusal>
     not_above(most, level)
 }
 
+#[inline(always)]
 fn lower_refusal(
     level: Level,
     own: bool,

@@ -69,7 +69,7 @@ impl<'f> StandView<'f> {
         ensures { result ≡ self.now.body }
     {
         match self.frames.top() {
-            Some(frame) => Some(frame.body()),
+            Some(frame) => Some(*frame.body()),
             None => None,
         }
     }

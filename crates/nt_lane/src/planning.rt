@@ -162,7 +162,8 @@ fn plan_of(held: &Held, stand: &StandView, what: &What, lanes: Touched) -> Plan
 {
     let event = nt_states::event(held, stand, what);
     let due = nt_states::due(held, what);
-    let asks = nt_states::event_asks(held, stand, what);
+    let mut asks = Asks::none();
+    nt_states::event_asks(held, stand, what, &mut asks);
     Plan {
         event,
         due,

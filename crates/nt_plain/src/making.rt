@@ -66,7 +66,8 @@ impl<'s> PlainFloor<'s> {
         let what = &event.what;
         let due = nt_states::due(&self.states, what);
         let lanes = nt_states::event_lanes(&self.states, stand, what);
-        let asks = nt_states::event_asks(&self.states, stand, what);
+        let mut asks = Asks::none();
+        nt_states::event_asks(&self.states, stand, what, &mut asks);
         let interrupts = self.tell_by(stand, what, &lanes, &asks, seen);
         self.leave(stand, event, &lanes, &asks);
         Made {

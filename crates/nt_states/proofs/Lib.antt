@@ -7,3 +7,4 @@ pub mod ForThreads
 pub mod ForTimers
 pub mod TimersLeft
 pub mod DueKeys
+pub mod FilledAsks

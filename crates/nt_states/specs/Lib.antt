@@ -1,7 +1,6 @@
 pub mod Reads
 pub mod Given
 pub mod LaneLists
-pub mod KeptAsks
 pub mod LockMoves
 pub mod ThreadLanes
 pub mod ThreadFits

@@ -1,5 +1,5 @@
 //! What an event asks for.
-ghost use Rattle.std.specs.Prelude.{◌≡◌, ◌≤◌, ◌++◌, ◌&&◌, All, IsTrue, [], false, if◌then◌else◌, length, not, take};
+ghost use Rattle.std.specs.Prelude.{◌≡◌, ◌≤◌, ◌++◌, ◌&&◌, All, IsTrue, [], false, if◌then◌else◌, length, not};
 ghost use Rattle.nt_event.specs.Apcs.{has_kernel as has_kernel_apc};
 ghost use Rattle.nt_event.specs.Lanes.{command_lanes, end_lanes, facts_at, facts_of, insert_lanes, object_at, what_lanes};
 ghost use Rattle.nt_event.specs.Replies.{is_refused as refuses};
@@ -32,98 +32,97 @@ pub struct Asked {
     pub class: u8,
 }
 
-/// What an event asks for: a class for each of at most 64 processors.
+/// What an event asks for: a class for each of at most 64 processors. It is filled in place, since most events ask for two
+/// classes at most and room for 64 is expensive to move.
 #[derive(Drop, Debug)]
 pub struct Asks {
-    kept: KeptAsks,
-}
-
-/// Most events ask for two classes at most, so the room for more is taken only where it is needed.
-#[derive(Drop, Debug)]
-enum KeptAsks {
-    Few { asks: [Asked; 2], count: usize },
-    Many { asks: [Asked; 64], count: usize },
+    asks: [Asked; 64],
+    /// How many there are.
+    count: usize,
 }
 
 impl Model for Asks {
-    ghost use Rattle.std.specs.Prelude.{List};
+    ghost use Rattle.std.specs.Prelude.{List, length, take, ◌≡◌, ◌≤◌};
     ghost use Rattle.nt_event.specs.Requests.{Ask};
+    ghost use Rattle.nt_states.specs.LaneLists.{as_asks};
 
     ghost Value = { List Ask };
 
-    ghost use Rattle.nt_states.specs.KeptAsks.{HasRoom, asks_of};
+    ghost view = { λ a. as_asks (take a.count a.asks) };
 
-    ghost view = { λ a. asks_of a.kept };
-
-    ghost invariant = { λ a. HasRoom a.kept };
+    ghost invariant = { λ a. (a.count ≤ 64) × (length a.asks ≡ 64) };
 }
 
 impl Asks {
-    /// The first of these, so many.
-    fn few(asks: [Asked; 2], count: usize) -> Asks
-        requires { count ≤ 2 }
-        ensures { result ≡ as_asks (take count asks) }
-    {
-        Asks {
-            kept: KeptAsks::Few { asks, count },
-        }
-    }
-
-    fn none() -> Asks
+    /// No asks.
+    pub fn none() -> Asks
         ensures { result ≡ [] }
     {
         let unused = Asked {
             cpu: CpuNo(0),
             class: 0,
         };
-        Asks::few([unused, unused], 0)
+        Asks {
+            asks: [unused; 64],
+            count: 0,
+        }
     }
 
-    fn one(cpu: CpuNo, class: u8) -> Asks
-        ensures { result ≡ requests.ask cpu class }
+    /// Leaves none.
+    fn set_none(&mut self)
+        ensures { self.new ≡ [] }
     {
-        let ask = Asked { cpu, class };
-        Asks::few([ask, ask], 1)
+        self.count = 0;
     }
 
-    /// The class, where the test holds.
-    fn one_if(test: bool, cpu: CpuNo, class: u8) -> Asks
-        ensures { result ≡ requests.ask_if test cpu class }
+    /// Leaves this class alone.
+    fn set_one(&mut self, cpu: CpuNo, class: u8)
+        ensures { self.new ≡ requests.ask cpu class }
+    {
+        self.asks[0] = Asked { cpu, class };
+        self.count = 1;
+    }
+
+    /// Leaves the class, where the test holds.
+    fn set_one_if(&mut self, test: bool, cpu: CpuNo, class: u8)
+        ensures { self.new ≡ requests.ask_if test cpu class }
     {
         if test {
-            Asks::one(cpu, class)
+            self.set_one(cpu, class);
         } else {
-            Asks::none()
+            self.set_none();
         }
     }
 
-    /// Two classes of a processor, each where its test holds.
-    fn each_if(first: bool, second: bool, cpu: CpuNo, a: u8, b: u8) -> Asks
-        ensures { result ≡ requests.ask_if first cpu a ++ requests.ask_if second cpu b }
+    /// Leaves two classes of a processor, each where its test holds.
+    fn set_each_if(&mut self, first: bool, second: bool, cpu: CpuNo, a: u8, b: u8)
+        ensures { self.new ≡ requests.ask_if first cpu a ++ requests.ask_if second cpu b }
     {
         if first && second {
-            Asks::few([Asked { cpu, class: a }, Asked { cpu, class: b }], 2)
+            self.asks[0] = Asked { cpu, class: a };
+            self.asks[1] = Asked { cpu, class: b };
+            self.count = 2;
         } else if first {
-            Asks::one(cpu, a)
+            self.set_one(cpu, a);
         } else {
-            Asks::one_if(second, cpu, b)
+            self.set_one_if(second, cpu, b);
         }
     }
 
-    /// The class that an insert asks for, if any.
-    fn of_insert(cpu: CpuNo, class: Option<u8>) -> Asks
-        ensures { result ≡ asks_on cpu class }
+    /// Leaves the class that an insert asks for, if any.
+    fn set_insert(&mut self, cpu: CpuNo, class: Option<u8>)
+        ensures { self.new ≡ asks_on cpu class }
     {
         match class {
-            Some(class) => Asks::one(cpu, class),
-            None => Asks::none(),
+            Some(class) => self.set_one(cpu, class),
+            None => self.set_none(),
         }
     }
 
-    /// The class of released locks, for each processor that spins.
-    fn of_spinners(spinners: &[bool]) -> Asks
+    /// Leaves the class of released locks, for each processor that spins.
+    fn set_spinners(&mut self, spinners: &[bool])
         requires { length spinners.now ≤ 64 }
-        ensures { result ≡ requests.spinner_asks 0 spinners.now }
+        ensures { self.new ≡ requests.spinner_asks 0 spinners.now }
     {
         let unused = Asked {
             cpu: CpuNo(0),
@@ -140,43 +139,38 @@ impl Asks {
                 count += 1;
             }
         }
-        Asks {
-            kept: KeptAsks::Many { asks, count },
-        }
+        *self = Asks { asks, count };
     }
 
     /// The classes in order.
     pub fn as_slice(&self) -> &[Asked]
         ensures { as_asks result.now ≡ self.now }
     {
-        match &self.kept {
-            KeptAsks::Few { asks, count } => &asks[..*count],
-            KeptAsks::Many { asks, count } => &asks[..*count],
-        }
+        &self.asks[..self.count]
     }
 }
 
-/// What an event asks for, of a processor that stands so.
-pub fn event_asks<S: LaneAnswers>(states: &S, stand: &StandView, what: &What) -> Asks
+/// Fills in what an event asks for, of a processor that stands so.
+pub fn event_asks<S: LaneAnswers>(states: &S, stand: &StandView, what: &What, asks: &mut Asks)
     requires given { IsGiven (S.script_of states.now) (S.lanes states.now) stand.now what.now }
     requires held { AreHeld (S.holds states.now) (what_lanes (S.script_of states.now) stand.now what.now (S.lanes states.now)) }
-    ensures asks { result ≡ requests.what_asks (S.script_of states.now) stand.now what.now (S.lanes states.now) }
-    ensures named { All (AskFits (S.script_of states.now)) result }
+    ensures asks { asks.new ≡ requests.what_asks (S.script_of states.now) stand.now what.now (S.lanes states.now) }
+    ensures named { All (AskFits (S.script_of states.now)) asks.new }
 {
     match what {
-        What::Call { command, reply, .. } => call_asks(states, stand, command, reply),
+        What::Call { command, reply, .. } => call_asks(states, stand, command, reply, asks),
         What::Fire {
             dpc,
             reply: Reply::Yes,
-        } => insert_asks(states, stand.cpu(), *dpc),
+        } => insert_asks(states, stand.cpu(), *dpc, asks),
         What::Expire {
             key: TimerKey::Delay(t),
             from,
-        } => expiry_asks(states, *t, *from),
-        What::Switch { thread, .. } => switch_asks(states, stand.cpu(), *thread),
-        What::Normal { .. } => Asks::one_if(stand.gives_up(), stand.cpu(), class::APC),
-        What::End { .. } => end_asks(states, stand),
-        What::Free { lock, .. } => spinner_asks(states, *lock),
+        } => expiry_asks(states, *t, *from, asks),
+        What::Switch { thread, .. } => switch_asks(states, stand.cpu(), *thread, asks),
+        What::Normal { .. } => asks.set_one_if(stand.gives_up(), stand.cpu(), class::APC),
+        What::End { .. } => end_asks(states, stand, asks),
+        What::Free { lock, .. } => spinner_asks(states, *lock, asks),
         What::Fire { .. }
         | What::Expire { .. }
         | What::Look { .. }
@@ -185,7 +179,7 @@ pub fn event_asks<S: LaneAnswers>(states: &S, stand: &StandView, what: &What) ->
         | What::Rewait { .. }
         | What::Flush { .. }
         | What::Gone { .. }
-        | What::Rest => Asks::none(),
+        | What::Rest => asks.set_none(),
     }
 }
 
@@ -195,28 +189,29 @@ fn call_asks<S: LaneAnswers>(
     stand: &StandView,
     command: &Command,
     reply: &Reply,
-) -> Asks
+    asks: &mut Asks,
+)
     requires command { IsTrue (command_fits (S.script_of states.now) command.now) }
     requires stand { StandFits (S.script_of states.now) stand.now }
     requires insert { InsertIsFree (S.lanes states.now) command.now reply.now }
     requires held { AreHeld (S.holds states.now) (if refuses reply.now then [] else command_lanes (S.script_of states.now) stand.now.cpu command.now reply.now (S.lanes states.now)) }
-    ensures asks { result ≡ requests.command_asks (S.script_of states.now) stand.now command.now reply.now (S.lanes states.now) }
-    ensures named { All (AskFits (S.script_of states.now)) result }
+    ensures asks { asks.new ≡ requests.command_asks (S.script_of states.now) stand.now command.now reply.now (S.lanes states.now) }
+    ensures named { All (AskFits (S.script_of states.now)) asks.new }
 {
     match (command, reply) {
-        (Command::Queue(d), Reply::Yes) => insert_asks(states, stand.cpu(), *d),
-        (Command::InsertApc(a), Reply::Yes) => apc_asks(states, *a),
+        (Command::Queue(d), Reply::Yes) => insert_asks(states, stand.cpu(), *d, asks),
+        (Command::InsertApc(a), Reply::Yes) => apc_asks(states, *a, asks),
         (Command::LeaveCrit, Reply::Done) => {
-            Asks::one_if(stand.regions().crit == 1, stand.cpu(), class::APC)
+            asks.set_one_if(stand.regions().crit == 1, stand.cpu(), class::APC)
         }
         (Command::LeaveGuard, Reply::Done) => {
-            Asks::one_if(stand.regions().guard == 1, stand.cpu(), class::APC)
+            asks.set_one_if(stand.regions().guard == 1, stand.cpu(), class::APC)
         }
-        (Command::Release(t), Reply::Yes) => release_asks(states, *t),
-        (Command::Alert(t, mode), Reply::No) => alert_asks(states, *t, *mode),
-        (Command::Interrupt(cpu, level), Reply::Done) => Asks::one(*cpu, level.number()),
-        (Command::Clock(_), Reply::Done) => Asks::one(stand.cpu(), class::CLOCK),
-        (Command::Unlock(k), Reply::Done) => spinner_asks(states, *k),
+        (Command::Release(t), Reply::Yes) => release_asks(states, *t, asks),
+        (Command::Alert(t, mode), Reply::No) => alert_asks(states, *t, *mode, asks),
+        (Command::Interrupt(cpu, level), Reply::Done) => asks.set_one(*cpu, level.number()),
+        (Command::Clock(_), Reply::Done) => asks.set_one(stand.cpu(), class::CLOCK),
+        (Command::Unlock(k), Reply::Done) => spinner_asks(states, *k, asks),
         (Command::Raise(_), _)
         | (Command::Lower(_), _)
         | (Command::Queue(_), _)
@@ -242,33 +237,33 @@ fn call_asks<S: LaneAnswers>(
         | (Command::Yield, _)
         | (Command::Acquire(_), _)
         | (Command::Unlock(_), _)
-        | (Command::Note(_), _) => Asks::none(),
+        | (Command::Note(_), _) => asks.set_none(),
     }
 }
 
 /// What an insert of an object that is not queued asks for.
-fn insert_asks<S: LaneAnswers>(states: &S, p: CpuNo, d: DpcNo) -> Asks
+fn insert_asks<S: LaneAnswers>(states: &S, p: CpuNo, d: DpcNo, asks: &mut Asks)
     requires object { IsTrue (has_dpc (S.script_of states.now) d) }
     requires cpu { IsTrue (has_cpu (S.script_of states.now) p) }
     requires free { is_queued (object_at (S.lanes states.now) d) ≡ false }
     requires held { AreHeld (S.holds states.now) (insert_lanes p d Reply.Yes (S.lanes states.now)) }
-    ensures asks { result ≡ requests.queue_asks (S.script_of states.now) d p (S.lanes states.now) }
-    ensures named { All (AskFits (S.script_of states.now)) result }
+    ensures asks { asks.new ≡ requests.queue_asks (S.script_of states.now) d p (S.lanes states.now) }
+    ensures named { All (AskFits (S.script_of states.now)) asks.new }
 {
     let class = states.ask(d, p);
-    Asks::of_insert(states.queue_for(d, p), class)
+    asks.set_insert(states.queue_for(d, p), class)
 }
 
 /// What an insert of an APC asks for.
-fn apc_asks<S: LaneAnswers>(states: &S, a: ApcNo) -> Asks
+fn apc_asks<S: LaneAnswers>(states: &S, a: ApcNo, asks: &mut Asks)
     requires object { IsTrue (has_apc (S.script_of states.now) a) }
     requires held { S.holds states.now (ThreadsLane (routines.cpu_of (S.script_of states.now) (routines.owner_of (S.script_of states.now) a))) }
-    ensures asks { result ≡ requests.apc_asks (S.script_of states.now) a (S.lanes states.now) }
-    ensures named { All (AskFits (S.script_of states.now)) result }
+    ensures asks { asks.new ≡ requests.apc_asks (S.script_of states.now) a (S.lanes states.now) }
+    ensures named { All (AskFits (S.script_of states.now)) asks.new }
 {
     let kernel = states.script().kind_of(a).is_kernel();
     let cpu = states.script().cpu_of(states.script().owner_of(a));
-    Asks::each_if(
+    asks.set_each_if(
         kernel,
         states.threads().ends_by_apc(a),
         cpu,
@@ -278,78 +273,78 @@ fn apc_asks<S: LaneAnswers>(states: &S, a: ApcNo) -> Asks
 }
 
 /// What a release that ends a wait asks for.
-fn release_asks<S: LaneAnswers>(states: &S, t: ThreadNo) -> Asks
-    ensures asks { result ≡ requests.ask (routines.cpu_of (S.script_of states.now) t) 2 }
-    ensures named { All (AskFits (S.script_of states.now)) result }
+fn release_asks<S: LaneAnswers>(states: &S, t: ThreadNo, asks: &mut Asks)
+    ensures asks { asks.new ≡ requests.ask (routines.cpu_of (S.script_of states.now) t) 2 }
+    ensures named { All (AskFits (S.script_of states.now)) asks.new }
 {
-    Asks::one(states.script().cpu_of(t), class::DISPATCH)
+    asks.set_one(states.script().cpu_of(t), class::DISPATCH)
 }
 
 /// What the release of a lock asks for: each processor that spins on it is to try again.
-fn spinner_asks<S: LaneAnswers>(states: &S, k: LockNo) -> Asks
+fn spinner_asks<S: LaneAnswers>(states: &S, k: LockNo, asks: &mut Asks)
     requires lock { IsTrue (has_lock (S.script_of states.now) k) }
     requires held { S.holds states.now (LockLane k) }
-    ensures asks { result ≡ requests.release_asks k (S.lanes states.now) }
-    ensures named { All (AskFits (S.script_of states.now)) result }
+    ensures asks { asks.new ≡ requests.release_asks k (S.lanes states.now) }
+    ensures named { All (AskFits (S.script_of states.now)) asks.new }
 {
     let _script = states.script();
-    Asks::of_spinners(states.spinners(k))
+    asks.set_spinners(states.spinners(k))
 }
 
 /// What an alert whose flag was clear asks for.
-fn alert_asks<S: LaneAnswers>(states: &S, t: ThreadNo, mode: Mode) -> Asks
+fn alert_asks<S: LaneAnswers>(states: &S, t: ThreadNo, mode: Mode, asks: &mut Asks)
     requires thread { IsTrue (has_thread (S.script_of states.now) t) }
     requires held { S.holds states.now (ThreadsLane (routines.cpu_of (S.script_of states.now) t)) }
-    ensures asks { result ≡ requests.ask_if (not (is_gone (facts_at (S.lanes states.now) t)) && ends_by_alert mode (facts_at (S.lanes states.now) t)) (routines.cpu_of (S.script_of states.now) t) 2 }
-    ensures named { All (AskFits (S.script_of states.now)) result }
+    ensures asks { asks.new ≡ requests.ask_if (not (is_gone (facts_at (S.lanes states.now) t)) && ends_by_alert mode (facts_at (S.lanes states.now) t)) (routines.cpu_of (S.script_of states.now) t) 2 }
+    ensures named { All (AskFits (S.script_of states.now)) asks.new }
 {
     let ends = !states.threads().is_gone(t) && states.threads().ends_by_alert(t, mode);
-    Asks::one_if(ends, states.script().cpu_of(t), class::DISPATCH)
+    asks.set_one_if(ends, states.script().cpu_of(t), class::DISPATCH)
 }
 
 /// What the expiry of a delay asks for.
-fn expiry_asks<S: LaneAnswers>(states: &S, t: ThreadNo, from: u64) -> Asks
+fn expiry_asks<S: LaneAnswers>(states: &S, t: ThreadNo, from: u64, asks: &mut Asks)
     requires thread { IsTrue (has_thread (S.script_of states.now) t) }
     requires held { S.holds states.now (ThreadsLane (routines.cpu_of (S.script_of states.now) t)) }
-    ensures asks { result ≡ requests.ask_if (ends_by_expiry from (facts_at (S.lanes states.now) t)) (routines.cpu_of (S.script_of states.now) t) 2 }
-    ensures named { All (AskFits (S.script_of states.now)) result }
+    ensures asks { asks.new ≡ requests.ask_if (ends_by_expiry from (facts_at (S.lanes states.now) t)) (routines.cpu_of (S.script_of states.now) t) 2 }
+    ensures named { All (AskFits (S.script_of states.now)) asks.new }
 {
     let ends = states.threads().ends_by_expiry(t, from);
-    Asks::one_if(ends, states.script().cpu_of(t), class::DISPATCH)
+    asks.set_one_if(ends, states.script().cpu_of(t), class::DISPATCH)
 }
 
 /// What the taking up of a thread asks for.
-fn switch_asks<S: LaneAnswers>(states: &S, p: CpuNo, t: ThreadNo) -> Asks
+fn switch_asks<S: LaneAnswers>(states: &S, p: CpuNo, t: ThreadNo, asks: &mut Asks)
     requires cpu { IsTrue (has_cpu (S.script_of states.now) p) }
     requires taken { IsTaken (S.script_of states.now) p t }
     requires held { S.holds states.now (ThreadsLane p) }
-    ensures asks { result ≡ requests.ask_if (has_kernel_apc (facts_at (S.lanes states.now) t).apcs) p 1 }
-    ensures named { All (AskFits (S.script_of states.now)) result }
+    ensures asks { asks.new ≡ requests.ask_if (has_kernel_apc (facts_at (S.lanes states.now) t).apcs) p 1 }
+    ensures named { All (AskFits (S.script_of states.now)) asks.new }
 {
-    Asks::one_if(states.threads().has_kernel(t), p, class::APC)
+    asks.set_one_if(states.threads().has_kernel(t), p, class::APC)
 }
 
 /// What the end of a frame asks for.
-fn end_asks<S: LaneAnswers>(states: &S, stand: &StandView) -> Asks
+fn end_asks<S: LaneAnswers>(states: &S, stand: &StandView, asks: &mut Asks)
     requires stand { StandFits (S.script_of states.now) stand.now }
     requires own { RunsOwn (S.script_of states.now) stand.now }
     requires held { AreHeld (S.holds states.now) (end_lanes stand.now.cpu stand.now.body) }
-    ensures asks { result ≡ requests.end_asks stand.now stand.now.body (S.lanes states.now) }
-    ensures named { All (AskFits (S.script_of states.now)) result }
+    ensures asks { asks.new ≡ requests.end_asks stand.now stand.now.body (S.lanes states.now) }
+    ensures named { All (AskFits (S.script_of states.now)) asks.new }
 {
     let given_up = stand.gives_up();
     match stand.body() {
-        Some(Body::Apc(_, ApcKind::Normal)) => Asks::one(stand.cpu(), class::APC),
+        Some(Body::Apc(_, ApcKind::Normal)) => asks.set_one(stand.cpu(), class::APC),
         Some(Body::Base(_)) => {
-            let asks = given_up || has_kernel(states, stand);
-            Asks::one_if(asks, stand.cpu(), class::APC)
+            let test = given_up || has_kernel(states, stand);
+            asks.set_one_if(test, stand.cpu(), class::APC)
         }
         Some(Body::Int(_))
         | Some(Body::Dpc(_))
         | Some(Body::Threaded(_))
         | Some(Body::Apc(_, ApcKind::Special | ApcKind::User))
         | Some(Body::Rundown(_))
-        | None => Asks::one_if(given_up, stand.cpu(), class::APC),
+        | None => asks.set_one_if(given_up, stand.cpu(), class::APC),
     }
 }
 

@@ -18,6 +18,7 @@ use nt_event::{Begun, Command, CpuNo, Event, Level, Reply, ThreadNo, What};
 use nt_frame::StandView;
 
 /// The level after the call of a command.
+#[inline(always)]
 fn call_level(stand: &StandView, command: &Command, reply: &Reply) -> Level
     ensures { (f : ℕ) (l : Lanes) → result ≡ acting.acted_level stand.now l (What.Call f command.now reply.now) }
 {

@@ -4,5 +4,5 @@ use Rattle.nt_states.proofs.asking.spinner_asks.Goals as goal
 
 pub returns-clause-named : goal.returns-clause-named
 returns-clause-named g c =
-    rw c.of_spinners.ensures (spinners_named (g.S.LaneAnswers.script_of c.args.states.now) 0 c.spinners.result.now
+    rw c.set_spinners.ensures (spinners_named (g.S.LaneAnswers.script_of c.args.states.now) 0 c.spinners.result.now
     (let size = c.spinners.ensures.count in omega (arith, size)))
