@@ -107,15 +107,16 @@ impl<'a, 's, N: Plan + Shared> Beginning<'a, 's, N> {
         made
     }
 
-    /// Takes up the first thread once the first flag is seen, and sets the second one; whether the thread was taken up.
+    /// Is ready at once. Takes up the first thread once the first flag is seen, and sets the second one; whether the thread was taken up.
     fn turn_later<R: Wait>(self, rt: &R, flags: &Flags) -> bool {
+        flags.ready.set();
         flags.first.look_for(LOOKS);
         let made = self.turn(rt);
         flags.second.set();
         made
     }
 
-    /// Makes the first event, and the second once the first flag is seen, and sets the second flag; whether both were made.
+    /// Makes the first event and is ready; makes the second once the first flag is seen, and sets the second flag. Whether both were made.
     fn step_later<R: Wait>(self, rt: &R, flags: &Flags) -> bool {
         let Beginning {
             mut cpu,
@@ -124,13 +125,15 @@ impl<'a, 's, N: Plan + Shared> Beginning<'a, 's, N> {
             pass,
         } = self;
         let (pass, first) = step::<N, R>(rt, &mut cpu, lanes, marks, pass);
+        flags.ready.set();
         flags.first.look_for(LOOKS);
         let (_pass, second) = step::<N, R>(rt, &mut cpu, lanes, marks, pass);
         flags.second.set();
         first && second
     }
 
-    /// Makes this event once the first flag is seen, and sets the second one; whether it was made.
+    /// Makes the events before this one and is ready; makes this one once the first flag is seen, and sets the second one. Whether it was
+    /// made.
     pub(crate) fn make_later<R: Wait>(self, rt: &R, flags: &Flags, which: Which) -> bool {
         match which {
             Which::First => self.turn_later(rt, flags),

@@ -52,9 +52,10 @@ impl Flag {
     }
 }
 
-/// Two flags.
+/// Two flags, and one that is set when what comes before them is done.
 #[derive(Drop)]
 pub(crate) struct Flags {
+    pub(crate) ready: Flag,
     pub(crate) first: Flag,
     pub(crate) second: Flag,
 }
@@ -62,12 +63,13 @@ pub(crate) struct Flags {
 impl Flags {
     pub(crate) fn new() -> Flags {
         Flags {
+            ready: Flag::new(),
             first: Flag::new(),
             second: Flag::new(),
         }
     }
 
-    /// Whether both were set, and no look for one failed.
+    /// Whether the two were set, and no look for one of them failed.
     pub(crate) fn all_seen(&self) -> bool {
         self.first.is_set()
             && self.second.is_set()

@@ -35,6 +35,12 @@ impl<N: Plan + Shared> Place<'_, '_, N> {
         self.lanes.hold(rt, self.lane, gate);
     }
 
+    /// Holds the lane, while the gate is passed, once the other is ready.
+    fn hold_ready<R: Wait>(&self, rt: &R, gate: &Holding<'_>) {
+        gate.flags.ready.look_for(LOOKS);
+        self.hold(rt, gate);
+    }
+
     /// Holds the lane once the first flag is seen, and sets the second one.
     fn hold_later<R: Wait>(&self, rt: &R, flags: &Flags) {
         flags.first.look_for(LOOKS);
@@ -42,7 +48,7 @@ impl<N: Plan + Shared> Place<'_, '_, N> {
     }
 }
 
-/// A thread holds a lane, and another makes this event of processor 0; whether it was made.
+/// A thread holds a lane once the events before are made, and another makes this event of processor 0; whether it was made.
 fn turn_meanwhile<N: Plan + Shared + Send + Sync, R: Threads + Wait + Sync>(
     rt: &R,
     place: Place<'_, '_, N>,
@@ -53,7 +59,7 @@ fn turn_meanwhile<N: Plan + Shared + Send + Sync, R: Threads + Wait + Sync>(
     let flags = gate.flags;
     let (_, made) = thread::join(
         rt,
-        move || place.hold(rt, &gate),
+        move || place.hold_ready(rt, &gate),
         move || beginning.make_later(rt, flags, which),
     );
     made
@@ -124,7 +130,7 @@ pub(crate) fn turned_beside<R: Threads + Wait + Sync>(
 fn turn_seen(made: bool, flags: &Flags) -> &'static str {
     if !made {
         "the turn was refused"
-    } else if flags.first.was_missed() {
+    } else if flags.ready.was_missed() || flags.first.was_missed() {
         "the lane wasn't held first"
     } else if flags.second.was_missed() {
         "the turn waited for the lane"

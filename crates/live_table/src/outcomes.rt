@@ -66,7 +66,12 @@ fn text_seen<R: Threads + Wait + Sync>(
         return Ok("no script");
     }
     match read(alloc, text) {
-        Ok(input) => seen(rt, alloc, case, &input.script),
+        Ok(input) => {
+            if u32::from(input.script.cpus) * case.limit > EVENTS {
+                return Ok("no script");
+            }
+            seen(rt, alloc, case, &input.script)
+        }
         Err(ScriptRefusal::Bad { .. }) => Ok("no script"),
         Err(ScriptRefusal::NoMemory) => Err(AllocError),
     }
@@ -98,6 +103,9 @@ pub(crate) fn outcome<R: Threads + Wait + Sync>(
 ) -> Result<&'static str, AllocError> {
     if let Task::Load(seed) = case.task {
         let input = load_script(alloc, seed)?;
+        if u32::from(input.script.cpus) * case.limit > EVENTS {
+            return Ok("no script");
+        }
         return seen(rt, alloc, case, &input.script);
     }
     if let Some(("locks", name)) = script.split_once(' ') {

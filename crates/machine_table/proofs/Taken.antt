@@ -8,8 +8,6 @@ use Rattle.nt_event.specs.Fitting.{events_fit}
 use Rattle.nt_event.specs.Script.{fits}
 use Rattle.nt_event.specs.Step.{IsRun}
 use Rattle.nt_laws.proofs.Named.RunFits.{run_fits}
-use Rattle.nt_print.specs.Written.{replies_written}
-use Rattle.nt_ranges.proofs.Unlocked.{HasNoLocks, run_told}
 
 run_so_far : (s t : Script) (limit : ℕ) (past events : List Event) → t ≡ s → IsRun t limit past → events ≡ reverse past → IsRun s limit (reverse events)
 run_so_far s t limit past events same r e =
@@ -18,7 +16,3 @@ run_so_far s t limit past events same r e =
 pub history_fits : (s t : Script) (limit : ℕ) (past events : List Event) → t ≡ s → fits s ≡ true → IsRun t limit past → events ≡ reverse past →
     events_fit s events ≡ true
 history_fits s t limit past events same f r e = run_fits s limit events f (run_so_far s t limit past events same r e)
-
-pub history_told : (s t : Script) (limit : ℕ) (past events : List Event) → t ≡ s → fits s ≡ true → HasNoLocks s → IsRun t limit past →
-    events ≡ reverse past → replies_written events ≡ true
-history_told s t limit past events same f none r e = run_told s limit events f none (run_so_far s t limit past events same r e)

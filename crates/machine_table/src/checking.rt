@@ -146,6 +146,7 @@ pub(crate) fn checked(
     change: Change,
 ) -> Result<Verdict, AllocError>
     requires sound { IsSound input.now }
+    requires most { input.now.script.cpus ≤ 8 }
     requires some { 1 ≤ limit }
     requires few { limit ≤ TURNS }
 {

@@ -66,6 +66,7 @@ fn changed(alloc: Global, bytes: &[u8], from: u8, to: u8) -> Result<Vec<u8>, All
 /// The report of the run by the robin rule.
 fn run_outcome(alloc: Global, input: &Input, limit: u32) -> Result<Outcome, AllocError>
     requires sound { IsSound input.now }
+    requires most { input.now.script.cpus ≤ 8 }
     requires some { 1 ≤ limit }
     requires few { limit ≤ TURNS }
 {
@@ -81,6 +82,7 @@ fn replay_outcome(
     list: &Turns,
 ) -> Result<Outcome, AllocError>
     requires sound { IsSound input.now }
+    requires most { input.now.script.cpus ≤ 8 }
     requires some { 1 ≤ limit }
     requires few { limit ≤ TURNS }
 {
@@ -94,6 +96,7 @@ fn replay_outcome(
 /// The report of the turns in words, replayed.
 fn replayed(alloc: Global, input: &Input, limit: u32, words: &str) -> Result<Outcome, AllocError>
     requires sound { IsSound input.now }
+    requires most { input.now.script.cpus ≤ 8 }
     requires some { 1 ≤ limit }
     requires few { limit ≤ TURNS }
 {
@@ -111,6 +114,7 @@ fn taken_outcome(
     words: &str,
 ) -> Result<Outcome, AllocError>
     requires sound { IsSound input.now }
+    requires most { input.now.script.cpus ≤ 8 }
     requires some { 1 ≤ limit }
     requires few { limit ≤ TURNS }
 {
@@ -128,6 +132,7 @@ fn checked_outcome(
     words: &str,
 ) -> Result<Outcome, AllocError>
     requires sound { IsSound input.now }
+    requires most { input.now.script.cpus ≤ 8 }
     requires some { 1 ≤ limit }
     requires few { limit ≤ TURNS }
 {
@@ -137,9 +142,13 @@ fn checked_outcome(
     }
 }
 
+/// What comes of the case; the table's scripts have at most 8 processors.
 fn read_outcome(alloc: Global, case: &Case<'_>, input: &Input) -> Result<Outcome, AllocError>
     requires sound { IsSound input.now }
 {
+    if input.script.cpus > 8 {
+        return Ok(Outcome::BadLine);
+    }
     match case.task {
         Task::Run => run_outcome(alloc, input, case.limit),
         Task::Step => Ok(Outcome::Report(stepped(alloc, input, case.limit)?)),

@@ -39,6 +39,7 @@ fn shown_turned(alloc: Global, turned: Result<Turned, AllocError>) -> Result<Str
 /// The event in words, where it is made in two steps: alone, or by the floor where it needs a lane.
 fn by_steps(alloc: Global, input: &Input, limit: u32) -> Result<String, AllocError>
     requires sound { IsSound input.now }
+    requires most { input.now.script.cpus ≤ 8 }
     requires cpus { 0 < input.now.script.cpus }
     requires limit { (1 ≤ limit) × (limit ≤ TURNS) }
 {
@@ -58,6 +59,7 @@ fn by_steps(alloc: Global, input: &Input, limit: u32) -> Result<String, AllocErr
 /// The event in words, where it is made by one call.
 fn by_advance(alloc: Global, input: &Input, limit: u32) -> Result<String, AllocError>
     requires sound { IsSound input.now }
+    requires most { input.now.script.cpus ≤ 8 }
     requires cpus { 0 < input.now.script.cpus }
     requires limit { (1 ≤ limit) × (limit ≤ TURNS) }
 {
@@ -85,6 +87,7 @@ fn agreement(event: &str, first: &str) -> &'static str {
 /// A line for each way, whether it gives this event.
 fn agreements(alloc: Global, input: &Input, limit: u32, first: &str) -> Result<String, AllocError>
     requires sound { IsSound input.now }
+    requires most { input.now.script.cpus ≤ 8 }
     requires cpus { 0 < input.now.script.cpus }
     requires limit { (1 ≤ limit) × (limit ≤ TURNS) }
 {
@@ -98,6 +101,7 @@ fn agreements(alloc: Global, input: &Input, limit: u32, first: &str) -> Result<S
 /// Whether each way gives the first event of the run by the robin rule, and the report of that run.
 pub(crate) fn stepped(alloc: Global, input: &Input, limit: u32) -> Result<Vec<u8>, AllocError>
     requires sound { IsSound input.now }
+    requires most { input.now.script.cpus ≤ 8 }
     requires some { 1 ≤ limit }
     requires few { limit ≤ TURNS }
 {

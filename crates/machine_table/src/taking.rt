@@ -1,7 +1,6 @@
 //! Turns that a machine takes one by one.
 ghost use Rattle.std.specs.Prelude.{◌≡◌, ◌≤◌, true};
 ghost use Rattle.nt_event.specs.Fitting.{events_fit};
-ghost use Rattle.nt_print.specs.Written.{replies_written};
 ghost use Rattle.nt_script.specs.Sound.{IsSound};
 
 use nt_core::Core;
@@ -82,7 +81,6 @@ fn put_report(
 ) -> Result<(), AllocError>
     requires sound { IsSound input.now }
     requires fit { events_fit input.now.script history.now.events ≡ true }
-    requires told { replies_written history.now.events ≡ true }
 {
     let printed = report(alloc, input, history)?;
     text.extend_from_slice(printed.as_slice())
@@ -96,6 +94,7 @@ pub(crate) fn taken(
     list: &Turns,
 ) -> Result<Vec<u8>, AllocError>
     requires sound { IsSound input.now }
+    requires most { input.now.script.cpus ≤ 8 }
     requires some { 1 ≤ limit }
     requires few { limit ≤ TURNS }
 {

@@ -1,9 +1,8 @@
 -- A field that is read is spelled so, and what is spelled so is read: numbers and words.
-use Rattle.std.proofs.Common.{◌≡◌, ℕ, ◌+◌, ◌^◌, ◌<◌, ◌≤◌, Bool, true, false, cond, eqb, List, [], ◌∷◌, Option, Some, None, Result, Ok, Err, refl, ◌∙◌, ap, subst, arith, lit<}
+use Rattle.std.proofs.Common.{◌≡◌, ℕ, ◌^◌, ◌<◌, ◌≤◌, Bool, true, false, cond, List, [], ◌∷◌, Option, Some, None, Result, Ok, Err, refl, ◌∙◌, ap, subst, arith, lit<}
 use Rattle.std.specs.Prelude.{codes, decimal, nat_lt, IfSome, find}
 use Rattle.std.specs.Str.{bytes_eq}
-use Rattle.std.proofs.lemmas.Bool.{ltb-true, lt-ltb, and_right}
-use Rattle.std.proofs.lemmas.Fmt.{decimal_digit}
+use Rattle.std.proofs.lemmas.Bool.{ltb-true, lt-ltb}
 use Rattle.std.proofs.lemmas.Slice.Eq.{bytes_eq-Decides}
 use Rattle.nt_text.specs.declared.kind.ScriptKind.{ScriptKind}
 use Rattle.nt_text.specs.declared.kind.ScriptKind.TheVariants.{BadNumber, UnknownWord}
@@ -75,7 +74,7 @@ cpu_takes cpus = record {
         let same : b.value ≡ p.0 = ap (λ (p : CpuNo). p.0) o.1 in
         (b.is ∙ ap (λ (k : ℕ). Ok k) same, rw (← same) o.0)
 
-pub cpu_again : (cpus : ℕ) (p : CpuNo) → cpus ≤ 8 → p.0 < cpus → read_cpu cpus (show_cpu p) ≡ Ok p
+pub cpu_again : (cpus : ℕ) (p : CpuNo) → cpus ≤ 64 → p.0 < cpus → read_cpu cpus (show_cpu p) ≡ Ok p
 cpu_again cpus p le lt = rw (number_up_to_again 255 p.0 (lit< tt) (omega arith), lt-ltb p.0 cpus lt) refl
 
 -- ---- words
@@ -111,11 +110,21 @@ unless_again none read show x other e = rw (other, e) refl
 pub target_takes : (cpus : ℕ) → Takes (read_target cpus) show_target (λ o. IfSome o (λ p. p.0 < cpus))
 target_takes cpus = unless_takes own (cpu_takes cpus)
 
-pub target_again : (cpus : ℕ) (o : Option CpuNo) → cpus ≤ 8 → IfSome o (λ p. p.0 < cpus) → read_target cpus (show_target o) ≡ Ok o
+-- a number is not the word for no target
+number_not_own : (n : ℕ) → n ≤ 255 → bytes_eq (decimal n) own ≡ false
+number_not_own n le = go (bytes_eq (decimal n) own) refl
+  where
+    go : (b : Bool) → bytes_eq (decimal n) own ≡ b → b ≡ false
+    go false e = refl
+    go true e =
+        let same : decimal n ≡ own = same_text (decimal n) own e in
+        let read : number_up_to 255 own ≡ Some n = subst (λ (f : List ℕ). number_up_to 255 f ≡ Some n) same (number_up_to_again 255 n (lit< tt) le) in
+        absurd cc
+
+pub target_again : (cpus : ℕ) (o : Option CpuNo) → cpus ≤ 64 → IfSome o (λ p. p.0 < cpus) → read_target cpus (show_target o) ≡ Ok o
 target_again cpus None le h = refl
 target_again cpus (Some p) le h =
-    let other : bytes_eq (show_cpu p) own ≡ false = rw (decimal_digit p.0 (omega arith)) (and_right (eqb (48 + p.0) 111) false refl) in
-    unless_again own (read_cpu cpus) show_cpu p other (cpu_again cpus p le h)
+    unless_again own (read_cpu cpus) show_cpu p (number_not_own p.0 (omega (arith, le, h))) (cpu_again cpus p le h)
 
 pub find_passes : {A : Type 0} (p : A → Bool) (xs : List A) (x : A) → find p xs ≡ Some x → p x ≡ true
 find_passes p [] x e = absurd cc

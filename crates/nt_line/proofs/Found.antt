@@ -6,13 +6,14 @@ use Rattle.std.specs.List.{position_from}
 use Rattle.std.specs.Prelude.{IfSome, Ok}
 use Rattle.nt_text.specs.Fields.{is_name}
 use Rattle.nt_line.specs.Places.{place}
-use Rattle.nt_line.specs.NameLists.{NameLists, all_names, show_dpc, show_timer, show_thread, show_apc, show_routine}
-use Rattle.nt_line.specs.Fields.{dash, read_unless, read_dpc, read_timer, read_thread, read_apc, read_routine}
+use Rattle.nt_line.specs.NameLists.{NameLists, all_names, show_dpc, show_timer, show_thread, show_apc, show_lock, show_routine}
+use Rattle.nt_line.specs.Fields.{dash, read_unless, read_dpc, read_timer, read_thread, read_apc, read_lock, read_routine}
 use Rattle.nt_line.specs.Rows.{show_unless}
 use Rattle.nt_event.specs.declared.numbers.DpcNo.{DpcNo}
 use Rattle.nt_event.specs.declared.numbers.TimerNo.{TimerNo}
 use Rattle.nt_event.specs.declared.numbers.ThreadNo.{ThreadNo}
 use Rattle.nt_event.specs.declared.numbers.ApcNo.{ApcNo}
+use Rattle.nt_event.specs.declared.numbers.LockNo.{LockNo}
 use Rattle.nt_event.specs.declared.numbers.RoutineNo.{RoutineNo}
 use Rattle.nt_line.specs.NameLists.{AreNew}
 use Rattle.nt_line.proofs.FieldTexts.{same_text, text_same, unless_again}
@@ -74,7 +75,8 @@ pub record NamesFit (names : NameLists) : Type 0 where
   pub timers : AreNew names.dpcs names.timers
   pub threads : AreNew (names.dpcs ++ names.timers) names.threads
   pub apcs : AreNew ((names.dpcs ++ names.timers) ++ names.threads) names.apcs
-  pub routines : AreNew (((names.dpcs ++ names.timers) ++ names.threads) ++ names.apcs) names.routines
+  pub locks : AreNew (((names.dpcs ++ names.timers) ++ names.threads) ++ names.apcs) names.locks
+  pub routines : AreNew ((((names.dpcs ++ names.timers) ++ names.threads) ++ names.apcs) ++ names.locks) names.routines
 
 -- a list of new names in two parts
 pub new_parts : (before xs ys : List (List ℕ)) → AreNew before (xs ++ ys) → AreNew before xs × AreNew (before ++ xs) ys
@@ -94,18 +96,20 @@ new_from before (n ∷ ns) ys h k = (
 
 pub names_fit : (names : NameLists) → AreNew [] (all_names names) → NamesFit names
 names_fit names h =
-    let a = new_parts [] names.dpcs (names.timers ++ (names.threads ++ (names.apcs ++ names.routines))) h in
-    let b = new_parts names.dpcs names.timers (names.threads ++ (names.apcs ++ names.routines)) a.1 in
-    let c = new_parts (names.dpcs ++ names.timers) names.threads (names.apcs ++ names.routines) b.1 in
-    let d = new_parts ((names.dpcs ++ names.timers) ++ names.threads) names.apcs names.routines c.1 in
-    record { dpcs = a.0; timers = b.0; threads = c.0; apcs = d.0; routines = d.1 }
+    let a = new_parts [] names.dpcs (names.timers ++ (names.threads ++ (names.apcs ++ (names.locks ++ names.routines)))) h in
+    let b = new_parts names.dpcs names.timers (names.threads ++ (names.apcs ++ (names.locks ++ names.routines))) a.1 in
+    let c = new_parts (names.dpcs ++ names.timers) names.threads (names.apcs ++ (names.locks ++ names.routines)) b.1 in
+    let d = new_parts ((names.dpcs ++ names.timers) ++ names.threads) names.apcs (names.locks ++ names.routines) c.1 in
+    let e = new_parts (((names.dpcs ++ names.timers) ++ names.threads) ++ names.apcs) names.locks names.routines d.1 in
+    record { dpcs = a.0; timers = b.0; threads = c.0; apcs = d.0; locks = e.0; routines = e.1 }
 
 pub all_new : (names : NameLists) → NamesFit names → AreNew [] (all_names names)
 all_new names f =
-    let d = new_from ((names.dpcs ++ names.timers) ++ names.threads) names.apcs names.routines f.apcs f.routines in
-    let c = new_from (names.dpcs ++ names.timers) names.threads (names.apcs ++ names.routines) f.threads d in
-    let b = new_from names.dpcs names.timers (names.threads ++ (names.apcs ++ names.routines)) f.timers c in
-    new_from [] names.dpcs (names.timers ++ (names.threads ++ (names.apcs ++ names.routines))) f.dpcs b
+    let e = new_from (((names.dpcs ++ names.timers) ++ names.threads) ++ names.apcs) names.locks names.routines f.locks f.routines in
+    let d = new_from ((names.dpcs ++ names.timers) ++ names.threads) names.apcs (names.locks ++ names.routines) f.apcs e in
+    let c = new_from (names.dpcs ++ names.timers) names.threads (names.apcs ++ (names.locks ++ names.routines)) f.threads d in
+    let b = new_from names.dpcs names.timers (names.threads ++ (names.apcs ++ (names.locks ++ names.routines))) f.timers c in
+    new_from [] names.dpcs (names.timers ++ (names.threads ++ (names.apcs ++ (names.locks ++ names.routines)))) f.dpcs b
 
 -- a name is no dash
 name_no_dash : (f : List ℕ) → is_name f ≡ true → bytes_eq f dash ≡ false
@@ -121,6 +125,7 @@ record AreNamed (names : NameLists) : Type 0 where
   pub timers : (x : TimerNo) → x.0 < length names.timers → read_timer names (show_timer names x) ≡ Ok x
   pub threads : (x : ThreadNo) → x.0 < length names.threads → read_thread names (show_thread names x) ≡ Ok x
   pub apcs : (x : ApcNo) → x.0 < length names.apcs → read_apc names (show_apc names x) ≡ Ok x
+  pub locks : (x : LockNo) → x.0 < length names.locks → read_lock names (show_lock names x) ≡ Ok x
   pub routines : (x : RoutineNo) → x.0 < length names.routines → read_routine names (show_routine names x) ≡ Ok x
 
 are_named : (names : NameLists) → AreFew names → NamesFit names → AreNamed names
@@ -151,9 +156,9 @@ are_named names few fit = record {
         stands_here ((names.dpcs ++ names.timers) ++ names.threads) names.apcs x.0 fit.apcs lt,
         number_is x.0 (omega (arith, few.apcs)),
       ) refl;
-  routines = λ x lt.
-      let f = get_or names.routines x.0 [] in
-      let n = is_new (((names.dpcs ++ names.timers) ++ names.threads) ++ names.apcs) names.routines x.0 fit.routines lt in
+  locks = λ x lt.
+      let f = get_or names.locks x.0 [] in
+      let n = is_new (((names.dpcs ++ names.timers) ++ names.threads) ++ names.apcs) names.locks x.0 fit.locks lt in
       let m3 = nowhere_both f ((names.dpcs ++ names.timers) ++ names.threads) names.apcs 0 n.1 in
       let m2 = nowhere_both f (names.dpcs ++ names.timers) names.threads 0 m3.0 in
       let m1 = nowhere_both f names.dpcs names.timers 0 m2.0 in
@@ -163,7 +168,24 @@ are_named names few fit = record {
         m1.1,
         m2.1,
         m3.1,
-        stands_here (((names.dpcs ++ names.timers) ++ names.threads) ++ names.apcs) names.routines x.0 fit.routines lt,
+        stands_here (((names.dpcs ++ names.timers) ++ names.threads) ++ names.apcs) names.locks x.0 fit.locks lt,
+        number_is x.0 (omega (arith, few.locks)),
+      ) refl;
+  routines = λ x lt.
+      let f = get_or names.routines x.0 [] in
+      let n = is_new ((((names.dpcs ++ names.timers) ++ names.threads) ++ names.apcs) ++ names.locks) names.routines x.0 fit.routines lt in
+      let m4 = nowhere_both f (((names.dpcs ++ names.timers) ++ names.threads) ++ names.apcs) names.locks 0 n.1 in
+      let m3 = nowhere_both f ((names.dpcs ++ names.timers) ++ names.threads) names.apcs 0 m4.0 in
+      let m2 = nowhere_both f (names.dpcs ++ names.timers) names.threads 0 m3.0 in
+      let m1 = nowhere_both f names.dpcs names.timers 0 m2.0 in
+      rw (
+        n.0,
+        m1.0,
+        m1.1,
+        m2.1,
+        m3.1,
+        m4.1,
+        stands_here ((((names.dpcs ++ names.timers) ++ names.threads) ++ names.apcs) ++ names.locks) names.routines x.0 fit.routines lt,
         number_is x.0 (omega (arith, few.routines)),
       ) refl;
 }
@@ -178,7 +200,8 @@ optional_routine : (names : NameLists) → NamesFit names → AreNamed names →
     read_unless dash (read_routine names) (show_unless dash (show_routine names) o) ≡ Ok o
 optional_routine names fit named None h = refl
 optional_routine names fit named (Some x) h = unless_again dash (read_routine names) (show_routine names) x
-    (name_no_dash (get_or names.routines x.0 []) (is_new (((names.dpcs ++ names.timers) ++ names.threads) ++ names.apcs) names.routines x.0 fit.routines h).0)
+    (name_no_dash (get_or names.routines x.0 [])
+    (is_new ((((names.dpcs ++ names.timers) ++ names.threads) ++ names.apcs) ++ names.locks) names.routines x.0 fit.routines h).0)
     (named.routines x h)
 
 pub are_read : (names : NameLists) → AreFew names → NamesFit names → AreRead names
@@ -189,6 +212,7 @@ are_read names few fit =
       timers = named.timers;
       threads = named.threads;
       apcs = named.apcs;
+      locks = named.locks;
       routines = named.routines;
       timer_dpcs = λ o h. optional_dpc names fit named o h;
       rundowns = λ o h. optional_routine names fit named o h;

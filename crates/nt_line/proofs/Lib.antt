@@ -5,3 +5,4 @@ pub mod UsedNames
 pub mod Spelled
 pub mod Found
 pub mod Letters
+pub mod Words

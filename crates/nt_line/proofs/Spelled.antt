@@ -6,6 +6,7 @@ use Rattle.nt_event.specs.declared.numbers.DpcNo.{DpcNo}
 use Rattle.nt_event.specs.declared.numbers.TimerNo.{TimerNo}
 use Rattle.nt_event.specs.declared.numbers.ThreadNo.{ThreadNo}
 use Rattle.nt_event.specs.declared.numbers.ApcNo.{ApcNo}
+use Rattle.nt_event.specs.declared.numbers.LockNo.{LockNo}
 use Rattle.nt_event.specs.declared.numbers.RoutineNo.{RoutineNo}
 use Rattle.nt_event.specs.declared.commands.ApcKind.{ApcKind}
 use Rattle.nt_event.specs.declared.commands.ApcKind.TheVariants.{Special, Normal, User}
@@ -20,18 +21,18 @@ use Rattle.nt_line.specs.declared.keywords.Verb.{Verb}
 use Rattle.nt_line.specs.declared.keywords.Verb.TheVariants as verb
 use Rattle.nt_line.specs.declared.keywords.Keyword.{Keyword}
 use Rattle.nt_line.specs.declared.keywords.Keyword.TheVariants as keyword
-use Rattle.nt_line.specs.NameLists.{NameLists, show_dpc, show_timer, show_thread, show_apc, show_routine}
+use Rattle.nt_line.specs.NameLists.{NameLists, show_dpc, show_timer, show_thread, show_apc, show_lock, show_routine}
 use Rattle.nt_line.specs.Keywords.{text_of, verb_arity}
 use Rattle.nt_line.specs.Results.{◌>>=◌}
-use Rattle.nt_line.specs.Fields.{dash, read_dpc, read_timer, read_thread, read_apc, read_routine, read_timer_dpc, read_rundown}
+use Rattle.nt_line.specs.Fields.{dash, read_dpc, read_timer, read_thread, read_apc, read_lock, read_routine, read_timer_dpc, read_rundown}
 use Rattle.nt_line.specs.Commands.{read1, read2, read3, read4, command_of}
 use Rattle.nt_line.specs.Declarations.{isr_of, dpc_of, timer_of, thread_of, apc_of}
 use Rattle.nt_line.specs.Fits.{IsrFits, DpcFits, TimerFits, ThreadFits, ApcFits, CommandFits}
 use Rattle.nt_text.specs.Lines.{Row}
-use Rattle.nt_line.specs.Rows.{show_unless, command_verb, verb_field, command_args, isr_args, dpc_args, timer_args, thread_args, apc_args}
+use Rattle.nt_line.specs.Rows.{show_unless, command_verb, command_args, isr_args, dpc_args, timer_args, thread_args, apc_args}
 use Rattle.nt_line.proofs.Results.{bind_ok}
 use Rattle.nt_line.proofs.FieldTexts.{Takes, number_takes, level_takes, interrupt_takes, isr_level_takes, cpu_takes, target_takes, importance_takes, mode_takes, alertable_takes, number_again, importance_again, target_again, cpu_again, mode_again, alertable_again}
-use Rattle.nt_line.proofs.UsedNames.{AreFew, dpc_takes, timer_takes, thread_takes, apc_takes, routine_takes, timer_dpc_takes, rundown_takes}
+use Rattle.nt_line.proofs.UsedNames.{AreFew, dpc_takes, timer_takes, thread_takes, apc_takes, lock_takes, routine_takes, timer_dpc_takes, rundown_takes}
 
 -- a keyword and the fields behind it, or behind the name, are those of a thing, which fits
 pub record Spells {A : Type 0} (keyword_for : A → Keyword) (args_for : A → Row) (Fits : A → Type 0) (wd : Keyword) (args : Row) (x : A) : Type 0 where
@@ -136,16 +137,8 @@ takes4 t u v w P make good (a ∷ a' ∷ a'' ∷ a''' ∷ more ∷ args) c e len
 
 -- ---- what is read
 
--- the verb of a command that has one
-abbrev pub verb_in : Option Verb → Verb
-verb_in (Some v) = v
-verb_in None = verb.Note
-
-abbrev pub line_verb : Command → Verb
-line_verb c = verb_in (command_verb c)
-
 abbrev pub command_keyword : Command → Keyword
-command_keyword c = keyword.Call (line_verb c)
+command_keyword c = keyword.Call (command_verb c)
 
 abbrev pub SpellsCommand : NameLists → ℕ → Keyword → Row → Command → Type 0
 SpellsCommand names cpus = Spells command_keyword (command_args names) (CommandFits names cpus)
@@ -198,6 +191,10 @@ command_takes names cpus few verb.ToUser = takes0 (SpellsCommand names cpus (key
     (record { keyword = refl; spelled = refl; fits = tt })
 command_takes names cpus few verb.Yield = takes0 (SpellsCommand names cpus (keyword.Call verb.Yield)) cmd.Yield
     (record { keyword = refl; spelled = refl; fits = tt })
+command_takes names cpus few verb.Acquire = takes1 (lock_takes names few) (SpellsCommand names cpus (keyword.Call verb.Acquire)) cmd.Acquire
+    (λ x h. record { keyword = refl; spelled = refl; fits = h })
+command_takes names cpus few verb.Unlock = takes1 (lock_takes names few) (SpellsCommand names cpus (keyword.Call verb.Unlock)) cmd.Unlock
+    (λ x h. record { keyword = refl; spelled = refl; fits = h })
 command_takes names cpus few verb.Note = takes1 (number_takes 4294967295 (lit< tt)) (SpellsCommand names cpus (keyword.Call verb.Note)) cmd.Note
     (λ x h. record { keyword = refl; spelled = refl; fits = h })
 
@@ -281,12 +278,13 @@ pub record AreRead (names : NameLists) : Type 0 where
   pub timers : (x : TimerNo) → x.0 < length names.timers → read_timer names (show_timer names x) ≡ Ok x
   pub threads : (x : ThreadNo) → x.0 < length names.threads → read_thread names (show_thread names x) ≡ Ok x
   pub apcs : (x : ApcNo) → x.0 < length names.apcs → read_apc names (show_apc names x) ≡ Ok x
+  pub locks : (x : LockNo) → x.0 < length names.locks → read_lock names (show_lock names x) ≡ Ok x
   pub routines : (x : RoutineNo) → x.0 < length names.routines → read_routine names (show_routine names x) ≡ Ok x
   pub timer_dpcs : (o : Option DpcNo) → IfSome o (λ x. x.0 < length names.dpcs) → read_timer_dpc names (show_unless dash (show_dpc names) o) ≡ Ok o
   pub rundowns : (o : Option RoutineNo) → IfSome o (λ x. x.0 < length names.routines) → read_rundown names (show_unless dash (show_routine names) o) ≡ Ok o
 
-pub command_again : (names : NameLists) (cpus : ℕ) → AreRead names → cpus ≤ 8 → (c : Command) → CommandFits names cpus c →
-    command_of names cpus (line_verb c) (command_args names c) ≡ Ok c
+pub command_again : (names : NameLists) (cpus : ℕ) → AreRead names → cpus ≤ 64 → (c : Command) → CommandFits names cpus c →
+    command_of names cpus (command_verb c) (command_args names c) ≡ Ok c
 command_again names cpus are le (cmd.Raise level) h = rw (number_again 15 level (lit< tt) h) refl
 command_again names cpus are le (cmd.Lower level) h = rw (number_again 15 level (lit< tt) h) refl
 command_again names cpus are le (cmd.Queue d) h = rw (are.dpcs d h) refl
@@ -312,24 +310,16 @@ command_again names cpus are le (cmd.Interrupt cpu level) h = rw (cpu_again cpus
 command_again names cpus are le (cmd.Clock units) h = rw (number_again 4294967295 units (lit< tt) h) refl
 command_again names cpus are le cmd.ToUser h = refl
 command_again names cpus are le cmd.Yield h = refl
-command_again names cpus are le (cmd.Acquire k) h = absurd h
-command_again names cpus are le (cmd.Unlock k) h = absurd h
+command_again names cpus are le (cmd.Acquire k) h = rw (are.locks k h) refl
+command_again names cpus are le (cmd.Unlock k) h = rw (are.locks k h) refl
 command_again names cpus are le (cmd.Note number) h = rw (number_again 4294967295 number (lit< tt) h) refl
 
--- a command that has a line has a verb, which is the line's keyword, and as many fields follow as that has
-pub args_count : (names : NameLists) (cpus : ℕ) (c : Command) → CommandFits names cpus c →
-    length (command_args names c) ≡ verb_arity (line_verb c)
-args_count names cpus (cmd.Acquire k) h = absurd h
-args_count names cpus (cmd.Unlock k) h = absurd h
-args_count names cpus c h = refl
+-- as many fields stand behind a command's keyword as it wants
+pub args_count : (names : NameLists) (c : Command) → length (command_args names c) ≡ verb_arity (command_verb c)
+args_count names (cmd.Raise level) = refl
+args_count names c = refl
 
-pub word_of_line : (names : NameLists) (cpus : ℕ) (c : Command) → CommandFits names cpus c →
-    verb_field (command_verb c) ≡ text_of (command_keyword c)
-word_of_line names cpus (cmd.Acquire k) h = absurd h
-word_of_line names cpus (cmd.Unlock k) h = absurd h
-word_of_line names cpus c h = refl
-
-pub isr_again : (names : NameLists) (cpus : ℕ) → AreRead names → cpus ≤ 8 → (x : Isr) → IsrFits names cpus x → isr_of names cpus (isr_args names x) ≡ Ok x
+pub isr_again : (names : NameLists) (cpus : ℕ) → AreRead names → cpus ≤ 64 → (x : Isr) → IsrFits names cpus x → isr_of names cpus (isr_args names x) ≡ Ok x
 isr_again names cpus are le x h = rw (cpu_again cpus x.cpu le h.0, number_again 15 x.level (lit< tt) h.1, h.2, are.routines x.routine h.3) refl
 
 pub dpc_again : (names : NameLists) → AreRead names → (x : DpcDecl) → DpcFits names x → dpc_of names x.threaded (dpc_args names x) ≡ Ok x
@@ -338,7 +328,7 @@ dpc_again names are x h = rw (are.routines x.routine h) refl
 pub timer_again : (names : NameLists) → AreRead names → (x : TimerDecl) → TimerFits names x → timer_of names (timer_args names x) ≡ Ok x
 timer_again names are x h = rw (are.timer_dpcs x.dpc h) refl
 
-pub thread_again : (names : NameLists) (cpus : ℕ) → AreRead names → cpus ≤ 8 → (x : ThreadDecl) → ThreadFits names cpus x →
+pub thread_again : (names : NameLists) (cpus : ℕ) → AreRead names → cpus ≤ 64 → (x : ThreadDecl) → ThreadFits names cpus x →
     thread_of names cpus (thread_args names x) ≡ Ok x
 thread_again names cpus are le x h = rw (cpu_again cpus x.cpu le h.0, are.routines x.routine h.1) refl
 

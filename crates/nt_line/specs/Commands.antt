@@ -8,7 +8,7 @@ use Rattle.nt_line.specs.declared.keywords.Verb.{Verb}
 use Rattle.nt_line.specs.declared.keywords.Verb.TheVariants as verb
 use Rattle.nt_line.specs.NameLists.{NameLists}
 use Rattle.nt_line.specs.Results.{◌>>=◌}
-use Rattle.nt_line.specs.Fields.{read_number, read_level, read_interrupt, read_cpu, read_target, read_importance, read_mode, read_alertable, read_dpc, read_timer, read_thread, read_apc}
+use Rattle.nt_line.specs.Fields.{read_number, read_level, read_interrupt, read_cpu, read_target, read_importance, read_mode, read_alertable, read_dpc, read_timer, read_thread, read_apc, read_lock}
 
 -- the next field, which has to be there
 abbrev pub next_field : {A : Type 0} → (List ℕ → Result A ScriptKind) → List (List ℕ) → Result A ScriptKind
@@ -63,4 +63,6 @@ command_of names cpus verb.Interrupt args = read2 (read_cpu cpus) read_interrupt
 command_of names cpus verb.Clock args = read1 (read_number 4294967295) cmd.Clock args
 command_of names cpus verb.ToUser args = Ok cmd.ToUser
 command_of names cpus verb.Yield args = Ok cmd.Yield
+command_of names cpus verb.Acquire args = read1 (read_lock names) cmd.Acquire args
+command_of names cpus verb.Unlock args = read1 (read_lock names) cmd.Unlock args
 command_of names cpus verb.Note args = read1 (read_number 4294967295) cmd.Note args

@@ -9,6 +9,7 @@ use Rattle.nt_event.specs.declared.numbers.DpcNo.{DpcNo}
 use Rattle.nt_event.specs.declared.numbers.TimerNo.{TimerNo}
 use Rattle.nt_event.specs.declared.numbers.ThreadNo.{ThreadNo}
 use Rattle.nt_event.specs.declared.numbers.ApcNo.{ApcNo}
+use Rattle.nt_event.specs.declared.numbers.LockNo.{LockNo}
 use Rattle.nt_event.specs.declared.numbers.RoutineNo.{RoutineNo}
 use Rattle.nt_event.specs.declared.commands.Importance.{Importance}
 use Rattle.nt_event.specs.declared.commands.Importance.TheVariants.{Low, Medium, MediumHigh, High}
@@ -124,6 +125,13 @@ as_apc _ = Err WrongKind
 
 abbrev pub read_apc : NameLists → List ℕ → Result ApcNo ScriptKind
 read_apc names field = used names field >>= as_apc
+
+abbrev pub as_lock : Named → Result LockNo ScriptKind
+as_lock (named.Lock x) = Ok x
+as_lock _ = Err WrongKind
+
+abbrev pub read_lock : NameLists → List ℕ → Result LockNo ScriptKind
+read_lock names field = used names field >>= as_lock
 
 abbrev pub as_routine : Named → Result RoutineNo ScriptKind
 as_routine (named.Routine x) = Ok x

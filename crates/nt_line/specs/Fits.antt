@@ -31,7 +31,7 @@ pub record ApcFits (names : NameLists) (a : ApcDecl) : Type 0 where
   pub rundown : IfSome a.rundown (λ r. r.0 < length names.routines)
   pub routines : apc_has_its_routines a.kind a.normal a.rundown ≡ true
 
--- the line of a command; none has a line that is of a lock
+-- the line of a command
 abbrev pub CommandFits : NameLists → ℕ → Command → Type 0
 CommandFits names cpus (cmd.Raise level) = (level ≤ 15)
 CommandFits names cpus (cmd.Lower level) = (level ≤ 15)
@@ -57,11 +57,11 @@ CommandFits names cpus (cmd.Interrupt cpu level) = (cpu.0 < cpus) × ((level ≤
 CommandFits names cpus (cmd.Clock units) = (units ≤ 4294967295)
 CommandFits names cpus cmd.ToUser = Unit {0}
 CommandFits names cpus cmd.Yield = Unit {0}
-CommandFits names cpus (cmd.Acquire k) = ⊥
-CommandFits names cpus (cmd.Unlock k) = ⊥
+CommandFits names cpus (cmd.Acquire k) = (k.0 < length names.locks)
+CommandFits names cpus (cmd.Unlock k) = (k.0 < length names.locks)
 CommandFits names cpus (cmd.Note number) = (number ≤ 4294967295)
 
--- what the line of a command names has a name; none has a line that is of a lock
+-- what the line of a command names has a name
 abbrev pub CommandNamed : NameLists → Command → Type 0
 CommandNamed names (cmd.Raise level) = Unit {0}
 CommandNamed names (cmd.Lower level) = Unit {0}
@@ -86,8 +86,8 @@ CommandNamed names (cmd.Interrupt cpu level) = Unit {0}
 CommandNamed names (cmd.Clock units) = Unit {0}
 CommandNamed names cmd.ToUser = Unit {0}
 CommandNamed names cmd.Yield = Unit {0}
-CommandNamed names (cmd.Acquire k) = ⊥
-CommandNamed names (cmd.Unlock k) = ⊥
+CommandNamed names (cmd.Acquire k) = k.0 < length names.locks
+CommandNamed names (cmd.Unlock k) = k.0 < length names.locks
 CommandNamed names (cmd.Note number) = Unit {0}
 
 -- the numbers of a command are those of its types

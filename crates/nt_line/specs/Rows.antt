@@ -17,7 +17,7 @@ use Rattle.nt_line.specs.declared.keywords.Verb.{Verb}
 use Rattle.nt_line.specs.declared.keywords.Verb.TheVariants as verb
 use Rattle.nt_line.specs.declared.keywords.Keyword.{Keyword}
 use Rattle.nt_line.specs.declared.keywords.Keyword.TheVariants as keyword
-use Rattle.nt_line.specs.NameLists.{NameLists, show_dpc, show_timer, show_thread, show_apc, show_routine}
+use Rattle.nt_line.specs.NameLists.{NameLists, show_dpc, show_timer, show_thread, show_apc, show_lock, show_routine}
 use Rattle.nt_line.specs.Keywords.{text_of}
 use Rattle.nt_line.specs.Fields.{own, dash, importance_text, mode_text, alertable_text, on_off_text}
 
@@ -36,39 +36,34 @@ show_target target = show_unless own show_cpu target
 
 -- ---- commands
 
--- the keyword of a command; the text has none for locks
-abbrev pub command_verb : Command → Option Verb
-command_verb (cmd.Raise level) = Some verb.Raise
-command_verb (cmd.Lower level) = Some verb.Lower
-command_verb (cmd.Queue d) = Some verb.Queue
-command_verb (cmd.Unqueue d) = Some verb.Unqueue
-command_verb (cmd.SetImportance d importance) = Some verb.SetImportance
-command_verb (cmd.SetTarget d target) = Some verb.SetTarget
-command_verb (cmd.SetTimer t due period) = Some verb.SetTimer
-command_verb (cmd.CancelTimer t) = Some verb.CancelTimer
-command_verb (cmd.InsertApc a) = Some verb.InsertApc
-command_verb (cmd.RemoveApc a) = Some verb.RemoveApc
-command_verb cmd.EnterCrit = Some verb.EnterCrit
-command_verb cmd.EnterGuard = Some verb.EnterGuard
-command_verb cmd.LeaveCrit = Some verb.LeaveCrit
-command_verb cmd.LeaveGuard = Some verb.LeaveGuard
-command_verb (cmd.StartWait mode alertable) = Some verb.StartWait
-command_verb (cmd.Delay mode alertable units) = Some verb.Delay
-command_verb (cmd.Release t) = Some verb.Release
-command_verb (cmd.Alert t mode) = Some verb.Alert
-command_verb (cmd.TestAlert mode) = Some verb.TestAlert
-command_verb (cmd.Interrupt cpu level) = Some verb.Interrupt
-command_verb (cmd.Clock units) = Some verb.Clock
-command_verb cmd.ToUser = Some verb.ToUser
-command_verb cmd.Yield = Some verb.Yield
-command_verb (cmd.Acquire k) = None
-command_verb (cmd.Unlock k) = None
-command_verb (cmd.Note number) = Some verb.Note
-
--- its text
-abbrev pub verb_field : Option Verb → List ℕ
-verb_field None = []
-verb_field (Some verb) = text_of (keyword.Call verb)
+-- the keyword of a command
+abbrev pub command_verb : Command → Verb
+command_verb (cmd.Raise level) = verb.Raise
+command_verb (cmd.Lower level) = verb.Lower
+command_verb (cmd.Queue d) = verb.Queue
+command_verb (cmd.Unqueue d) = verb.Unqueue
+command_verb (cmd.SetImportance d importance) = verb.SetImportance
+command_verb (cmd.SetTarget d target) = verb.SetTarget
+command_verb (cmd.SetTimer t due period) = verb.SetTimer
+command_verb (cmd.CancelTimer t) = verb.CancelTimer
+command_verb (cmd.InsertApc a) = verb.InsertApc
+command_verb (cmd.RemoveApc a) = verb.RemoveApc
+command_verb cmd.EnterCrit = verb.EnterCrit
+command_verb cmd.EnterGuard = verb.EnterGuard
+command_verb cmd.LeaveCrit = verb.LeaveCrit
+command_verb cmd.LeaveGuard = verb.LeaveGuard
+command_verb (cmd.StartWait mode alertable) = verb.StartWait
+command_verb (cmd.Delay mode alertable units) = verb.Delay
+command_verb (cmd.Release t) = verb.Release
+command_verb (cmd.Alert t mode) = verb.Alert
+command_verb (cmd.TestAlert mode) = verb.TestAlert
+command_verb (cmd.Interrupt cpu level) = verb.Interrupt
+command_verb (cmd.Clock units) = verb.Clock
+command_verb cmd.ToUser = verb.ToUser
+command_verb cmd.Yield = verb.Yield
+command_verb (cmd.Acquire k) = verb.Acquire
+command_verb (cmd.Unlock k) = verb.Unlock
+command_verb (cmd.Note number) = verb.Note
 
 abbrev pub command_args : NameLists → Command → Row
 command_args names (cmd.Raise level) = decimal level ∷ []
@@ -94,12 +89,12 @@ command_args names (cmd.Interrupt cpu level) = show_cpu cpu ∷ decimal level �
 command_args names (cmd.Clock units) = decimal units ∷ []
 command_args names cmd.ToUser = []
 command_args names cmd.Yield = []
-command_args names (cmd.Acquire k) = []
-command_args names (cmd.Unlock k) = []
+command_args names (cmd.Acquire k) = show_lock names k ∷ []
+command_args names (cmd.Unlock k) = show_lock names k ∷ []
 command_args names (cmd.Note number) = decimal number ∷ []
 
 abbrev pub command_row : NameLists → Command → Row
-command_row names c = verb_field (command_verb c) ∷ command_args names c
+command_row names c = text_of (keyword.Call (command_verb c)) ∷ command_args names c
 
 -- ---- lines of one thing
 
@@ -155,3 +150,6 @@ apc_args names a = show_thread names a.thread ∷ show_routine names a.kernel �
 
 abbrev pub apc_row : NameLists → List ℕ → ApcDecl → Row
 apc_row names name a = text_of (keyword.Apc a.kind) ∷ name ∷ apc_args names a
+
+abbrev pub lock_row : List ℕ → Row
+lock_row name = text_of keyword.Spinlock ∷ name ∷ []

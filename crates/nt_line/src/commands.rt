@@ -111,6 +111,8 @@ pub fn command(
         Verb::Clock => Ok(Command::Clock(fields::number(args.need()?, u32::MAX)?)),
         Verb::ToUser => Ok(Command::ToUser),
         Verb::Yield => Ok(Command::Yield),
+        Verb::Acquire => Ok(Command::Acquire(fields::lock(names, args.need()?)?)),
+        Verb::Unlock => Ok(Command::Unlock(fields::lock(names, args.need()?)?)),
         Verb::Note => Ok(Command::Note(fields::number(args.need()?, u32::MAX)?)),
     }
 }

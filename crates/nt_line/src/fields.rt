@@ -5,10 +5,12 @@ ghost use Rattle.std.specs.Result.{result_map_both};
 ghost use Rattle.nt_line.specs.NameLists.{meaning};
 ghost use Rattle.nt_event.specs.Classes.{is_requested_level, is_isr_level};
 ghost use Rattle.nt_line.specs.Fields.{read_number, read_level, read_interrupt, read_isr_level, read_cpu, read_target, read_importance, read_mode, read_alertable, read_on_off, read_flag, importance_text, mode_text, alertable_text, on_off_text};
-ghost use Rattle.nt_line.specs.Fields.{used, read_dpc, read_timer, read_thread, read_apc, read_routine, read_timer_dpc, read_rundown, new_name};
+ghost use Rattle.nt_line.specs.Fields.{used, read_dpc, read_timer, read_thread, read_apc, read_lock, read_routine, read_timer_dpc, read_rundown, new_name};
 
 use crate::names::{Named, Names};
-use nt_event::{ApcNo, CpuNo, DpcNo, Importance, Level, Mode, RoutineNo, ThreadNo, TimerNo, class};
+use nt_event::{
+    ApcNo, CpuNo, DpcNo, Importance, Level, LockNo, Mode, RoutineNo, ThreadNo, TimerNo, class,
+};
 use nt_text::{ScriptKind, name};
 
 /// Every importance.
@@ -228,6 +230,16 @@ pub fn apc(names: &Names, field: &[u8]) -> Result<ApcNo, ScriptKind>
 {
     match used(names, field)? {
         Named::Apc(a) => Ok(a),
+        _ => Err(ScriptKind::WrongKind),
+    }
+}
+
+/// A spin lock by its name.
+pub fn lock(names: &Names, field: &[u8]) -> Result<LockNo, ScriptKind>
+    ensures { result ≡ read_lock names.now field.now }
+{
+    match used(names, field)? {
+        Named::Lock(l) => Ok(l),
         _ => Err(ScriptKind::WrongKind),
     }
 }

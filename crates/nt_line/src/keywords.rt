@@ -3,7 +3,7 @@ ghost use Rattle.std.specs.Prelude.{◌≡◌, filter, find};
 ghost use Rattle.std.specs.Str.{bytes_eq};
 ghost use Rattle.nt_line.specs.declared.keywords.TheConstants.{KEYWORDS};
 ghost use Rattle.nt_line.specs.Letters.{begins_with};
-ghost use Rattle.nt_line.specs.Keywords.{verb_text, verb_arity, text_of, keyword_of, arity, declaring, order, earliest, latest, stands};
+ghost use Rattle.nt_line.specs.Keywords.{verb_text, verb_arity, verb_since, text_of, word_of, keyword_of, arity, since, declaring, order, earliest, latest, stands};
 
 use crate::names::Kind;
 use nt_event::ApcKind;
@@ -35,12 +35,16 @@ pub enum Verb {
     Clock,
     ToUser,
     Yield,
+    Acquire,
+    Unlock,
     Note,
 }
 
 /// The keyword that begins a line.
 #[derive(Clone, Copy, PartialEq, Eq, Debug)]
 pub enum Keyword {
+    /// `version`.
+    Version,
     /// `cpus`.
     Cpus,
     /// `depth`.
@@ -57,6 +61,8 @@ pub enum Keyword {
     Thread,
     /// `special`, `normal` or `user`.
     Apc(ApcKind),
+    /// `spinlock`.
+    Spinlock,
     /// `routine`.
     Routine,
     /// `exit`.
@@ -68,8 +74,10 @@ pub enum Keyword {
 /// What was read last.
 #[derive(Clone, Copy, PartialEq, Eq, Debug)]
 pub enum Place {
-    /// Nothing.
+    /// Nothing, in a text of version 2.
     Start,
+    /// The line `version`; nothing, in a text of version 1, which has no such line.
+    HasVersion,
     /// The line `cpus`.
     HasCpus,
     /// The line `depth`.
@@ -86,6 +94,8 @@ pub enum Place {
     InThreads,
     /// A line `special`, `normal` or `user`.
     InApcs,
+    /// A line `spinlock`.
+    InLocks,
     /// A line `exit`.
     InRoutines,
     /// A line `routine` or a command.
@@ -93,7 +103,8 @@ pub enum Place {
 }
 
 /// Every keyword.
-pub const KEYWORDS: [Keyword; 37] = [
+pub const KEYWORDS: [Keyword; 41] = [
+    Keyword::Version,
     Keyword::Cpus,
     Keyword::Depth,
     Keyword::Threaded,
@@ -105,6 +116,7 @@ pub const KEYWORDS: [Keyword; 37] = [
     Keyword::Apc(ApcKind::Special),
     Keyword::Apc(ApcKind::Normal),
     Keyword::Apc(ApcKind::User),
+    Keyword::Spinlock,
     Keyword::Routine,
     Keyword::Exit,
     Keyword::Call(Verb::Raise),
@@ -130,6 +142,8 @@ pub const KEYWORDS: [Keyword; 37] = [
     Keyword::Call(Verb::Clock),
     Keyword::Call(Verb::ToUser),
     Keyword::Call(Verb::Yield),
+    Keyword::Call(Verb::Acquire),
+    Keyword::Call(Verb::Unlock),
     Keyword::Call(Verb::Note),
 ];
 
@@ -162,6 +176,8 @@ impl Verb {
             Verb::Clock => b"clock",
             Verb::ToUser => b"touser",
             Verb::Yield => b"yield",
+            Verb::Acquire => b"acquire",
+            Verb::Unlock => b"unlock",
             Verb::Note => b"note",
         }
     }
@@ -187,6 +203,8 @@ impl Verb {
             | Verb::Release
             | Verb::TestAlert
             | Verb::Clock
+            | Verb::Acquire
+            | Verb::Unlock
             | Verb::Note => 1,
             Verb::SetImportance
             | Verb::SetTarget
@@ -194,6 +212,39 @@ impl Verb {
             | Verb::Alert
             | Verb::Interrupt => 2,
             Verb::SetTimer | Verb::Delay => 3,
+        }
+    }
+
+    /// The first version of scripts that has the keyword.
+    fn since(self) -> u8
+        ensures { result ≡ verb_since self }
+    {
+        match self {
+            Verb::Acquire | Verb::Unlock => 2,
+            Verb::Raise
+            | Verb::Lower
+            | Verb::Queue
+            | Verb::Unqueue
+            | Verb::SetImportance
+            | Verb::SetTarget
+            | Verb::SetTimer
+            | Verb::CancelTimer
+            | Verb::InsertApc
+            | Verb::RemoveApc
+            | Verb::EnterCrit
+            | Verb::EnterGuard
+            | Verb::LeaveCrit
+            | Verb::LeaveGuard
+            | Verb::StartWait
+            | Verb::Delay
+            | Verb::Release
+            | Verb::Alert
+            | Verb::TestAlert
+            | Verb::Interrupt
+            | Verb::Clock
+            | Verb::ToUser
+            | Verb::Yield
+            | Verb::Note => 1,
         }
     }
 }
@@ -205,16 +256,18 @@ impl Place {
     {
         match self {
             Place::Start => 0,
-            Place::HasCpus => 1,
-            Place::HasDepth => 2,
-            Place::HasThreaded => 3,
-            Place::InIsrs => 4,
-            Place::InDpcs => 5,
-            Place::InTimers => 6,
-            Place::InThreads => 7,
-            Place::InApcs => 8,
-            Place::InRoutines => 9,
-            Place::InRoutine => 10,
+            Place::HasVersion => 1,
+            Place::HasCpus => 2,
+            Place::HasDepth => 3,
+            Place::HasThreaded => 4,
+            Place::InIsrs => 5,
+            Place::InDpcs => 6,
+            Place::InTimers => 7,
+            Place::InThreads => 8,
+            Place::InApcs => 9,
+            Place::InLocks => 10,
+            Place::InRoutines => 11,
+            Place::InRoutine => 12,
         }
     }
 }
@@ -225,6 +278,7 @@ impl Keyword {
         ensures { result.now ≡ text_of self }
     {
         match self {
+            Keyword::Version => b"version",
             Keyword::Cpus => b"cpus",
             Keyword::Depth => b"depth",
             Keyword::Threaded => b"threaded",
@@ -236,6 +290,7 @@ impl Keyword {
             Keyword::Apc(ApcKind::Special) => b"special",
             Keyword::Apc(ApcKind::Normal) => b"normal",
             Keyword::Apc(ApcKind::User) => b"user",
+            Keyword::Spinlock => b"spinlock",
             Keyword::Routine => b"routine",
             Keyword::Exit => b"exit",
             Keyword::Call(verb) => verb.text(),
@@ -248,7 +303,12 @@ impl Keyword {
     {
         match self {
             Keyword::Exit => 0,
-            Keyword::Cpus | Keyword::Depth | Keyword::Threaded | Keyword::Routine => 1,
+            Keyword::Version
+            | Keyword::Cpus
+            | Keyword::Depth
+            | Keyword::Threaded
+            | Keyword::Spinlock
+            | Keyword::Routine => 1,
             Keyword::Dpc { .. } | Keyword::Timer => 2,
             Keyword::Isr | Keyword::Thread | Keyword::Apc(ApcKind::Special) => 3,
             Keyword::Apc(ApcKind::Normal) => 4,
@@ -266,8 +326,35 @@ impl Keyword {
             Keyword::Timer => Some(Kind::Timer),
             Keyword::Thread => Some(Kind::Thread),
             Keyword::Apc(_) => Some(Kind::Apc),
+            Keyword::Spinlock => Some(Kind::Lock),
             Keyword::Routine => Some(Kind::Routine),
-            _ => None,
+            Keyword::Version
+            | Keyword::Cpus
+            | Keyword::Depth
+            | Keyword::Threaded
+            | Keyword::Isr
+            | Keyword::Exit
+            | Keyword::Call(_) => None,
+        }
+    }
+
+    /// The first version of scripts that has the keyword.
+    fn since(self) -> u8
+        ensures { result ≡ since self }
+    {
+        match self {
+            Keyword::Version | Keyword::Spinlock => 2,
+            Keyword::Cpus
+            | Keyword::Depth
+            | Keyword::Threaded
+            | Keyword::Isr
+            | Keyword::Dpc { .. }
+            | Keyword::Timer
+            | Keyword::Thread
+            | Keyword::Apc(_)
+            | Keyword::Routine
+            | Keyword::Exit => 1,
+            Keyword::Call(verb) => verb.since(),
         }
     }
 
@@ -276,9 +363,18 @@ impl Keyword {
         ensures { result ≡ earliest self }
     {
         match self {
-            Keyword::Cpus => 0,
-            Keyword::Exit | Keyword::Call(_) => 10,
-            _ => 1,
+            Keyword::Version => 0,
+            Keyword::Cpus => 1,
+            Keyword::Depth
+            | Keyword::Threaded
+            | Keyword::Isr
+            | Keyword::Dpc { .. }
+            | Keyword::Timer
+            | Keyword::Thread
+            | Keyword::Apc(_)
+            | Keyword::Spinlock
+            | Keyword::Routine => 2,
+            Keyword::Exit | Keyword::Call(_) => 12,
         }
     }
 
@@ -287,16 +383,18 @@ impl Keyword {
         ensures { result ≡ latest self }
     {
         match self {
-            Keyword::Cpus => 0,
-            Keyword::Depth => 1,
-            Keyword::Threaded => 2,
-            Keyword::Isr => 4,
-            Keyword::Dpc { .. } => 5,
-            Keyword::Timer => 6,
-            Keyword::Thread => 7,
-            Keyword::Apc(_) => 8,
-            Keyword::Routine => 9,
-            Keyword::Exit | Keyword::Call(_) => 10,
+            Keyword::Version => 0,
+            Keyword::Cpus => 1,
+            Keyword::Depth => 2,
+            Keyword::Threaded => 3,
+            Keyword::Isr => 5,
+            Keyword::Dpc { .. } => 6,
+            Keyword::Timer => 7,
+            Keyword::Thread => 8,
+            Keyword::Apc(_) => 9,
+            Keyword::Spinlock => 10,
+            Keyword::Routine => 11,
+            Keyword::Exit | Keyword::Call(_) => 12,
         }
     }
 
@@ -313,7 +411,11 @@ fn beginning_with(letter: u8) -> &'static [Keyword]
     ensures { result.now ≡ filter (begins_with letter) KEYWORDS }
 {
     match letter {
-        b'a' => &[Keyword::Call(Verb::InsertApc), Keyword::Call(Verb::Alert)],
+        b'a' => &[
+            Keyword::Call(Verb::InsertApc),
+            Keyword::Call(Verb::Alert),
+            Keyword::Call(Verb::Acquire),
+        ],
         b'c' => &[
             Keyword::Cpus,
             Keyword::Call(Verb::CancelTimer),
@@ -348,6 +450,7 @@ fn beginning_with(letter: u8) -> &'static [Keyword]
         ],
         b's' => &[
             Keyword::Apc(ApcKind::Special),
+            Keyword::Spinlock,
             Keyword::Call(Verb::SetTimer),
         ],
         b't' => &[
@@ -363,7 +466,9 @@ fn beginning_with(letter: u8) -> &'static [Keyword]
             Keyword::Apc(ApcKind::User),
             Keyword::Call(Verb::Unqueue),
             Keyword::Call(Verb::RemoveApc),
+            Keyword::Call(Verb::Unlock),
         ],
+        b'v' => &[Keyword::Version],
         b'w' => &[Keyword::Call(Verb::StartWait)],
         b'y' => &[Keyword::Call(Verb::Yield)],
         _ => &[],
@@ -379,13 +484,23 @@ fn search(keywords: &[Keyword], field: &[u8]) -> Option<Keyword>
         .find(|keyword| is_word(field, keyword.text()))
 }
 
-/// The keyword that a field is. Only those with its first letter are compared with it.
-#[tactic(auto, unfolding(crate::specs::Keywords::keyword_of))]
-pub fn keyword_of(field: &[u8]) -> Option<Keyword>
-    ensures { result ≡ keyword_of field.now }
+/// The keyword that a field is, of whatever version. Only those with its first letter are compared with it.
+#[tactic(auto, unfolding(crate::specs::Keywords::word_of))]
+fn word_of(field: &[u8]) -> Option<Keyword>
+    ensures { result ≡ word_of field.now }
 {
     match field {
         [letter, ..] => search(beginning_with(*letter), field),
         [] => None,
+    }
+}
+
+/// The keyword that a field is in texts of a version: version 1 has none of `version`, `spinlock`, `acquire` and `unlock`.
+pub fn keyword_of(version: u8, field: &[u8]) -> Option<Keyword>
+    ensures { result ≡ keyword_of version field.now }
+{
+    match word_of(field) {
+        Some(keyword) if keyword.since() <= version => Some(keyword),
+        _ => None,
     }
 }

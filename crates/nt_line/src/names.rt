@@ -1,6 +1,6 @@
 //! The names of a script's things.
 use crate::column::Column;
-use nt_event::{ApcNo, DpcNo, RoutineNo, ThreadNo, TimerNo};
+use nt_event::{ApcNo, DpcNo, LockNo, RoutineNo, ThreadNo, TimerNo};
 use std::alloc::{AllocError, Global};
 use std::marker::Model;
 
@@ -15,6 +15,8 @@ pub enum Kind {
     Thread,
     /// An APC object.
     Apc,
+    /// A spin lock.
+    Lock,
     /// A routine.
     Routine,
 }
@@ -30,18 +32,21 @@ pub enum Named {
     Thread(ThreadNo),
     /// An APC object.
     Apc(ApcNo),
+    /// A spin lock.
+    Lock(LockNo),
     /// A routine.
     Routine(RoutineNo),
 }
 
 /// The names of a script: for each kind of thing the list of them in order of declaration, so that the name of a thing stands
-/// at its number. Contracts see a record of five lists of names, each name a list of bytes.
+/// at its number. Contracts see a record of six lists of names, each name a list of bytes.
 #[derive(Drop)]
 pub struct Names {
     dpcs: Column,
     timers: Column,
     threads: Column,
     apcs: Column,
+    locks: Column,
     routines: Column,
 }
 
@@ -50,7 +55,7 @@ impl Model for Names {
 
     ghost Value = { NameLists };
 
-    ghost view = { λ a. record { dpcs = a.dpcs; timers = a.timers; threads = a.threads; apcs = a.apcs; routines = a.routines } };
+    ghost view = { λ a. record { dpcs = a.dpcs; timers = a.timers; threads = a.threads; apcs = a.apcs; locks = a.locks; routines = a.routines } };
 }
 
 ghost use Rattle.std.specs.Prelude.{◌≡◌};
@@ -66,8 +71,8 @@ fn number(place: usize) -> u16
 impl Names {
     ghost use Rattle.std.specs.Prelude.{◌≡◌, ◌<◌, length, option_map, OnOk, None};
     ghost use Rattle.nt_line.specs.Places.{place};
-    ghost use Rattle.nt_line.specs.NameLists.{show_dpc, show_timer, show_thread, show_apc, show_routine};
-    ghost use Rattle.nt_line.specs.NameLists.{no_names, routine_at, meaning, timer_or_later, thread_or_later, apc_or_routine, declared, with_name};
+    ghost use Rattle.nt_line.specs.NameLists.{show_dpc, show_timer, show_thread, show_apc, show_lock, show_routine};
+    ghost use Rattle.nt_line.specs.NameLists.{no_names, routine_at, meaning, timer_or_later, thread_or_later, apc_or_later, lock_or_routine, declared, with_name};
 
     /// No names.
     pub fn new(alloc: Global) -> Names
@@ -78,6 +83,7 @@ impl Names {
             timers: Column::new(alloc),
             threads: Column::new(alloc),
             apcs: Column::new(alloc),
+            locks: Column::new(alloc),
             routines: Column::new(alloc),
         }
     }
@@ -106,15 +112,24 @@ impl Names {
     {
         match self.threads.place(name) {
             Some(at) => Some(Named::Thread(ThreadNo(number(at)))),
-            None => self.apc_or_routine(name),
+            None => self.apc_or_later(name),
         }
     }
 
-    fn apc_or_routine(&self, name: &str) -> Option<Named>
-        ensures { result ≡ apc_or_routine name.now self.now }
+    fn apc_or_later(&self, name: &str) -> Option<Named>
+        ensures { result ≡ apc_or_later name.now self.now }
     {
         match self.apcs.place(name) {
             Some(at) => Some(Named::Apc(ApcNo(number(at)))),
+            None => self.lock_or_routine(name),
+        }
+    }
+
+    fn lock_or_routine(&self, name: &str) -> Option<Named>
+        ensures { result ≡ lock_or_routine name.now self.now }
+    {
+        match self.locks.place(name) {
+            Some(at) => Some(Named::Lock(LockNo(number(at)))),
             None => self.named_routine(name),
         }
     }
@@ -138,6 +153,7 @@ impl Names {
             Kind::Timer => self.timers.push(alloc, name),
             Kind::Thread => self.threads.push(alloc, name),
             Kind::Apc => self.apcs.push(alloc, name),
+            Kind::Lock => self.locks.push(alloc, name),
             Kind::Routine => self.routines.push(alloc, name),
         }
     }
@@ -182,6 +198,14 @@ impl Names {
         ensures { result.now ≡ show_apc self.now a }
     {
         self.apcs.at(a.0 as usize)
+    }
+
+    /// The name of a spin lock.
+    pub fn lock(&self, l: LockNo) -> &str
+        requires { l.0 < length self.now.locks }
+        ensures { result.now ≡ show_lock self.now l }
+    {
+        self.locks.at(l.0 as usize)
     }
 
     /// The name of a routine.

@@ -5,7 +5,7 @@ ghost use Rattle.nt_text.specs.Lines.{row_text, spaced};
 ghost use Rattle.nt_line.specs.Fields.{dash, mode_text, alertable_text};
 ghost use Rattle.nt_line.specs.NameLists.{show_dpc, show_timer, show_thread, show_apc, show_routine};
 ghost use Rattle.nt_line.specs.Fits.{IsrFits, DpcFits, TimerFits, ThreadFits, ApcFits, CommandNamed};
-ghost use Rattle.nt_line.specs.Rows.{show_target, show_unless, command_verb, verb_field, command_args, command_row, isr_args, isr_row, dpc_args, dpc_row, timer_args, timer_row, thread_args, thread_row, normal_args, rundown_args, apc_args, apc_row};
+ghost use Rattle.nt_line.specs.Rows.{show_target, show_unless, command_verb, command_args, command_row, isr_args, isr_row, dpc_args, dpc_row, timer_args, timer_row, thread_args, thread_row, normal_args, rundown_args, apc_args, apc_row};
 
 use crate::fields::{alertable_text, importance_text, mode_text};
 use crate::keywords::{Keyword, Verb};
@@ -27,46 +27,37 @@ fn put_target(out: &mut Vec<u8>, target: Option<CpuNo>) -> Result<(), AllocError
     }
 }
 
-/// The keyword of a command; the text has none for locks.
-fn verb_of(command: &Command) -> Option<Verb>
+/// The keyword of a command.
+fn verb_of(command: &Command) -> Verb
     ensures { result ≡ command_verb command.now }
 {
     match command {
-        Command::Raise(_) => Some(Verb::Raise),
-        Command::Lower(_) => Some(Verb::Lower),
-        Command::Queue(_) => Some(Verb::Queue),
-        Command::Unqueue(_) => Some(Verb::Unqueue),
-        Command::SetImportance(_, _) => Some(Verb::SetImportance),
-        Command::SetTarget(_, _) => Some(Verb::SetTarget),
-        Command::SetTimer(_, _, _) => Some(Verb::SetTimer),
-        Command::CancelTimer(_) => Some(Verb::CancelTimer),
-        Command::InsertApc(_) => Some(Verb::InsertApc),
-        Command::RemoveApc(_) => Some(Verb::RemoveApc),
-        Command::EnterCrit => Some(Verb::EnterCrit),
-        Command::EnterGuard => Some(Verb::EnterGuard),
-        Command::LeaveCrit => Some(Verb::LeaveCrit),
-        Command::LeaveGuard => Some(Verb::LeaveGuard),
-        Command::StartWait(_, _) => Some(Verb::StartWait),
-        Command::Delay(_, _, _) => Some(Verb::Delay),
-        Command::Release(_) => Some(Verb::Release),
-        Command::Alert(_, _) => Some(Verb::Alert),
-        Command::TestAlert(_) => Some(Verb::TestAlert),
-        Command::Interrupt(_, _) => Some(Verb::Interrupt),
-        Command::Clock(_) => Some(Verb::Clock),
-        Command::ToUser => Some(Verb::ToUser),
-        Command::Yield => Some(Verb::Yield),
-        Command::Acquire(_) | Command::Unlock(_) => None,
-        Command::Note(_) => Some(Verb::Note),
-    }
-}
-
-/// The text of the keyword of a command.
-fn verb_field(command: &Command) -> &'static [u8]
-    ensures { result.now ≡ verb_field (command_verb command.now) }
-{
-    match verb_of(command) {
-        Some(verb) => verb.text(),
-        None => b"",
+        Command::Raise(_) => Verb::Raise,
+        Command::Lower(_) => Verb::Lower,
+        Command::Queue(_) => Verb::Queue,
+        Command::Unqueue(_) => Verb::Unqueue,
+        Command::SetImportance(_, _) => Verb::SetImportance,
+        Command::SetTarget(_, _) => Verb::SetTarget,
+        Command::SetTimer(_, _, _) => Verb::SetTimer,
+        Command::CancelTimer(_) => Verb::CancelTimer,
+        Command::InsertApc(_) => Verb::InsertApc,
+        Command::RemoveApc(_) => Verb::RemoveApc,
+        Command::EnterCrit => Verb::EnterCrit,
+        Command::EnterGuard => Verb::EnterGuard,
+        Command::LeaveCrit => Verb::LeaveCrit,
+        Command::LeaveGuard => Verb::LeaveGuard,
+        Command::StartWait(_, _) => Verb::StartWait,
+        Command::Delay(_, _, _) => Verb::Delay,
+        Command::Release(_) => Verb::Release,
+        Command::Alert(_, _) => Verb::Alert,
+        Command::TestAlert(_) => Verb::TestAlert,
+        Command::Interrupt(_, _) => Verb::Interrupt,
+        Command::Clock(_) => Verb::Clock,
+        Command::ToUser => Verb::ToUser,
+        Command::Yield => Verb::Yield,
+        Command::Acquire(_) => Verb::Acquire,
+        Command::Unlock(_) => Verb::Unlock,
+        Command::Note(_) => Verb::Note,
     }
 }
 
@@ -79,6 +70,7 @@ fn put_wait(out: &mut Vec<u8>, mode: Mode, alertable: bool) -> Result<(), AllocE
 }
 
 /// Adds the fields behind a command's keyword.
+#[inline(always)]
 fn put_args(out: &mut Vec<u8>, names: &Names, command: &Command) -> Result<(), AllocError>
     requires { CommandNamed names.now command.now }
     ensures { OnOk result (out.new.items ≡ out.old.items ++ spaced (command_args names.now command.now)) }
@@ -126,17 +118,19 @@ fn put_args(out: &mut Vec<u8>, names: &Names, command: &Command) -> Result<(), A
         Command::Clock(units) => put_number(out, u64::from(*units)),
         Command::ToUser => Ok(()),
         Command::Yield => Ok(()),
-        Command::Acquire(_) | Command::Unlock(_) => Ok(()),
+        Command::Acquire(k) => put_field(out, names.lock(*k).as_bytes()),
+        Command::Unlock(k) => put_field(out, names.lock(*k).as_bytes()),
         Command::Note(number) => put_number(out, u64::from(*number)),
     }
 }
 
 /// Adds a command: its keyword and what stands behind it, with one space between two fields and no line end.
+#[inline(always)]
 pub fn put_command(out: &mut Vec<u8>, names: &Names, command: &Command) -> Result<(), AllocError>
     requires { CommandNamed names.now command.now }
     ensures { OnOk result (out.new.items ≡ out.old.items ++ join_with_byte 32 (command_row names.now command.now)) }
 {
-    out.extend_from_slice(verb_field(command))?;
+    out.extend_from_slice(verb_of(command).text())?;
     put_args(out, names, command)?;
     Ok(())
 }

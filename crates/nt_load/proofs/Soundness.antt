@@ -38,7 +38,7 @@ made_script seed isrs dpcs timers threads apcs routines i d t h a r = rw (i, d, 
 
 -- an input of a script and names
 abbrev pub input_of : Script → NameLists → Input
-input_of script names = record { script = script; names = names }
+input_of script names = record { version = 1; script = script; names = names }
 
 pub made_load : (seed : ℕ) (script : Script) (names : NameLists) → script ≡ load_script seed → names ≡ load_names → input_of script names ≡ load_input seed
 unfolding load_input
@@ -49,9 +49,10 @@ unfolding load_input load_names object_names thing_names
 load_is_sound seed =
     let h = has_load seed in
     record {
+      version = (lit≤ tt, lit≤ tt);
       fits = load_fits seed;
       cpus = lit≤ tt;
-      locks = refl;
+      no_locks = λ one. refl;
       ranges = load_ranges seed;
       dpcs = length-table_from 0 32 (spelled (100 ∷ [])) ∙ sym h.dpcs;
       timers = length-table_from 0 8 (spelled (107 ∷ [])) ∙ sym h.timers;
@@ -60,6 +61,7 @@ load_is_sound seed =
           (both_lengths (spelled_names (115 ∷ []) 32) (spelled_names (110 ∷ []) 32) 32 32
           (length-table_from 0 32 (spelled (115 ∷ []))) (length-table_from 0 32 (spelled (110 ∷ []))))
           (length-table_from 0 32 (spelled (117 ∷ []))) ∙ sym h.apcs;
+      locks = refl;
       routines = ap suc (length-table_from 0 32 (spelled (98 ∷ []))) ∙ sym h.routines;
       names = load_names_differ;
     }

@@ -7,7 +7,7 @@ use Rattle.std.specs.Prelude.{codes, decimal, option_map, ◌==◌}
 use Rattle.std.specs.Str.{bytes_eq}
 use Rattle.nt_event.specs.Lists.{table, table_from}
 use Rattle.nt_line.proofs.FieldTexts.{same_text}
-use Rattle.nt_line.specs.NameLists.{NameLists, apc_at, dpc_at, meaning, no_names, or_else, routine_at, thread_at, timer_at, with_name}
+use Rattle.nt_line.specs.NameLists.{NameLists, apc_at, dpc_at, lock_at, meaning, no_names, or_else, routine_at, thread_at, timer_at, with_name}
 use Rattle.nt_line.specs.Places.{place}
 use Rattle.nt_line.specs.declared.names.Kind.TheVariants as kind
 use Rattle.nt_line.specs.declared.names.Kind.{Kind}
@@ -71,25 +71,29 @@ pub record IsFree (name : List ℕ) (names : NameLists) : Type 0 where
   pub timers : place name names.timers ≡ None
   pub threads : place name names.threads ≡ None
   pub apcs : place name names.apcs ≡ None
+  pub locks : place name names.locks ≡ None
   pub routines : place name names.routines ≡ None
 
-parts : (d t h a r : Option ℕ) → or_else (option_map dpc_at d)
-    (or_else (option_map timer_at t) (or_else (option_map thread_at h) (or_else (option_map apc_at a) (option_map routine_at r)))) ≡ None →
-    (d ≡ None) × (t ≡ None) × (h ≡ None) × (a ≡ None) × (r ≡ None)
-parts None None None None None e = (refl, refl, refl, refl, refl)
-parts (Some d) t h a r e = absurd cc
-parts None (Some t) h a r e = absurd cc
-parts None None (Some h) a r e = absurd cc
-parts None None None (Some a) r e = absurd cc
-parts None None None None (Some r) e = absurd cc
+parts : (d t h a l r : Option ℕ) → or_else (option_map dpc_at d)
+    (or_else (option_map timer_at t)
+    (or_else (option_map thread_at h) (or_else (option_map apc_at a) (or_else (option_map lock_at l) (option_map routine_at r))))) ≡ None →
+    (d ≡ None) × (t ≡ None) × (h ≡ None) × (a ≡ None) × (l ≡ None) × (r ≡ None)
+parts None None None None None None e = (refl, refl, refl, refl, refl, refl)
+parts (Some d) t h a l r e = absurd cc
+parts None (Some t) h a l r e = absurd cc
+parts None None (Some h) a l r e = absurd cc
+parts None None None (Some a) l r e = absurd cc
+parts None None None None (Some l) r e = absurd cc
+parts None None None None None (Some r) e = absurd cc
 
 pub free_of : (name : List ℕ) (names : NameLists) → meaning name names ≡ None → IsFree name names
 free_of name names e =
-    let p = parts (place name names.dpcs) (place name names.timers) (place name names.threads) (place name names.apcs) (place name names.routines) e in
-    record { dpcs = p.0; timers = p.1; threads = p.2; apcs = p.3; routines = p.4 }
+    let p = parts (place name names.dpcs) (place name names.timers) (place name names.threads) (place name names.apcs) (place name names.locks)
+    (place name names.routines) e in
+    record { dpcs = p.0; timers = p.1; threads = p.2; apcs = p.3; locks = p.4; routines = p.5 }
 
 pub free_means : (name : List ℕ) (names : NameLists) → IsFree name names → meaning name names ≡ None
-free_means name names f = rw (f.dpcs, f.timers, f.threads, f.apcs, f.routines) refl
+free_means name names f = rw (f.dpcs, f.timers, f.threads, f.apcs, f.locks, f.routines) refl
 
 -- the next name of a letter is free where the ones before it were added
 pub still_free : (k : Kind) (letter : List ℕ) (n i : ℕ) (names : NameLists) → n ≤ i → i < 2 ^ 64 → meaning (spelled letter i) names ≡ None →
@@ -103,11 +107,26 @@ still_free k letter n i names l h e =
         (λ at. nowhere_from (spelled letter i) (spelled letter) 0 n at (λ j m. other_number letter (0 + j) i (omega arith) h))
 
     go : (k : Kind) → IsFree (spelled letter i) names → IsFree (spelled letter i) (with_spelled k letter n names)
-    go kind.Dpc f = record { dpcs = more names.dpcs f.dpcs; timers = f.timers; threads = f.threads; apcs = f.apcs; routines = f.routines }
-    go kind.Timer f = record { dpcs = f.dpcs; timers = more names.timers f.timers; threads = f.threads; apcs = f.apcs; routines = f.routines }
-    go kind.Thread f = record { dpcs = f.dpcs; timers = f.timers; threads = more names.threads f.threads; apcs = f.apcs; routines = f.routines }
-    go kind.Apc f = record { dpcs = f.dpcs; timers = f.timers; threads = f.threads; apcs = more names.apcs f.apcs; routines = f.routines }
-    go kind.Routine f = record { dpcs = f.dpcs; timers = f.timers; threads = f.threads; apcs = f.apcs; routines = more names.routines f.routines }
+    go kind.Dpc f = record { dpcs = more names.dpcs f.dpcs; timers = f.timers; threads = f.threads; apcs = f.apcs; locks = f.locks; routines = f.routines }
+    go kind.Timer f = record { dpcs = f.dpcs; timers = more names.timers f.timers; threads = f.threads; apcs = f.apcs; locks = f.locks; routines = f.routines }
+    go kind.Thread f = record {
+      dpcs = f.dpcs;
+      timers = f.timers;
+      threads = more names.threads f.threads;
+      apcs = f.apcs;
+      locks = f.locks;
+      routines = f.routines;
+    }
+    go kind.Apc f = record { dpcs = f.dpcs; timers = f.timers; threads = f.threads; apcs = more names.apcs f.apcs; locks = f.locks; routines = f.routines }
+    go kind.Lock f = record { dpcs = f.dpcs; timers = f.timers; threads = f.threads; apcs = f.apcs; locks = more names.locks f.locks; routines = f.routines }
+    go kind.Routine f = record {
+      dpcs = f.dpcs;
+      timers = f.timers;
+      threads = f.threads;
+      apcs = f.apcs;
+      locks = f.locks;
+      routines = more names.routines f.routines;
+    }
 
 pub none_spelled : (k : Kind) (letter : List ℕ) (names : NameLists) → with_spelled k letter 0 names ≡ names
 unfolding table_from with_spelled
@@ -115,6 +134,7 @@ none_spelled kind.Dpc letter names = ap (λ (xs : List (List ℕ)). record names
 none_spelled kind.Timer letter names = ap (λ (xs : List (List ℕ)). record names { timers = xs }) (append-nil names.timers)
 none_spelled kind.Thread letter names = ap (λ (xs : List (List ℕ)). record names { threads = xs }) (append-nil names.threads)
 none_spelled kind.Apc letter names = ap (λ (xs : List (List ℕ)). record names { apcs = xs }) (append-nil names.apcs)
+none_spelled kind.Lock letter names = ap (λ (xs : List (List ℕ)). record names { locks = xs }) (append-nil names.locks)
 none_spelled kind.Routine letter names = ap (λ (xs : List (List ℕ)). record names { routines = xs }) (append-nil names.routines)
 
 pub more_spelled : (k : Kind) (letter : List ℕ) (n : ℕ) (names : NameLists) →
@@ -132,6 +152,7 @@ more_spelled k letter n names = go k
     go kind.Timer = ap (λ (xs : List (List ℕ)). record names { timers = xs }) (more names.timers)
     go kind.Thread = ap (λ (xs : List (List ℕ)). record names { threads = xs }) (more names.threads)
     go kind.Apc = ap (λ (xs : List (List ℕ)). record names { apcs = xs }) (more names.apcs)
+    go kind.Lock = ap (λ (xs : List (List ℕ)). record names { locks = xs }) (more names.locks)
     go kind.Routine = ap (λ (xs : List (List ℕ)). record names { routines = xs }) (more names.routines)
 
 -- a name that begins with another letter stands nowhere in the names of a letter, nor in them behind a list
@@ -154,17 +175,25 @@ free_beside k letter n head rest names ne f = go k
     more xs a = place_beside xs letter n head rest ne a
 
     go : (k : Kind) → IsFree (head ∷ rest) (with_spelled k (letter ∷ []) n names)
-    go kind.Dpc = record { dpcs = more names.dpcs f.dpcs; timers = f.timers; threads = f.threads; apcs = f.apcs; routines = f.routines }
-    go kind.Timer = record { dpcs = f.dpcs; timers = more names.timers f.timers; threads = f.threads; apcs = f.apcs; routines = f.routines }
-    go kind.Thread = record { dpcs = f.dpcs; timers = f.timers; threads = more names.threads f.threads; apcs = f.apcs; routines = f.routines }
-    go kind.Apc = record { dpcs = f.dpcs; timers = f.timers; threads = f.threads; apcs = more names.apcs f.apcs; routines = f.routines }
-    go kind.Routine = record { dpcs = f.dpcs; timers = f.timers; threads = f.threads; apcs = f.apcs; routines = more names.routines f.routines }
+    go kind.Dpc = record { dpcs = more names.dpcs f.dpcs; timers = f.timers; threads = f.threads; apcs = f.apcs; locks = f.locks; routines = f.routines }
+    go kind.Timer = record { dpcs = f.dpcs; timers = more names.timers f.timers; threads = f.threads; apcs = f.apcs; locks = f.locks; routines = f.routines }
+    go kind.Thread = record { dpcs = f.dpcs; timers = f.timers; threads = more names.threads f.threads; apcs = f.apcs; locks = f.locks; routines = f.routines }
+    go kind.Apc = record { dpcs = f.dpcs; timers = f.timers; threads = f.threads; apcs = more names.apcs f.apcs; locks = f.locks; routines = f.routines }
+    go kind.Lock = record { dpcs = f.dpcs; timers = f.timers; threads = f.threads; apcs = f.apcs; locks = more names.locks f.locks; routines = f.routines }
+    go kind.Routine = record {
+      dpcs = f.dpcs;
+      timers = f.timers;
+      threads = f.threads;
+      apcs = f.apcs;
+      locks = f.locks;
+      routines = more names.routines f.routines;
+    }
 
 pub free_first : (name : List ℕ) (names : NameLists) → names ≡ no_names → IsFree name names
 free_first name names e = subst (λ (n : NameLists). IsFree name n) (sym e) none
   where
     none : IsFree name no_names
-    none = record { dpcs = refl; timers = refl; threads = refl; apcs = refl; routines = refl }
+    none = record { dpcs = refl; timers = refl; threads = refl; apcs = refl; locks = refl; routines = refl }
 
 pub free_behind : (k : Kind) (letter n head : ℕ) (rest : List ℕ) (names new : NameLists) → new ≡ with_spelled k (letter ∷ []) n names →
     (head == letter) ≡ false → IsFree (head ∷ rest) names → IsFree (head ∷ rest) new
@@ -185,6 +214,7 @@ free_behind_one name other names new e ne f = subst (λ (m : NameLists). IsFree 
       timers = f.timers;
       threads = f.threads;
       apcs = f.apcs;
+      locks = f.locks;
       routines = in_neither name names.routines (other ∷ []) f.routines nowhere;
     }
 
@@ -222,6 +252,7 @@ free_of_objects head rest names e d k t = subst (λ (n : NameLists). IsFree (hea
       timers = place_beside [] 107 8 head rest k refl;
       threads = place_beside [] 116 32 head rest t refl;
       apcs = refl;
+      locks = refl;
       routines = refl;
     }
 
@@ -242,5 +273,6 @@ free_of_things head rest names e d k t s n u = subst (λ (m : NameLists). IsFree
       timers = place_beside [] 107 8 head rest k refl;
       threads = place_beside [] 116 32 head rest t refl;
       apcs = place_beside (spelled_names (115 ∷ []) 32 ++ spelled_names (110 ∷ []) 32) 117 32 head rest u of_n;
+      locks = refl;
       routines = refl;
     }

@@ -82,6 +82,7 @@ with_spelled kind.Dpc letter n names = record names { dpcs = names.dpcs ++ spell
 with_spelled kind.Timer letter n names = record names { timers = names.timers ++ spelled_names letter n }
 with_spelled kind.Thread letter n names = record names { threads = names.threads ++ spelled_names letter n }
 with_spelled kind.Apc letter n names = record names { apcs = names.apcs ++ spelled_names letter n }
+with_spelled kind.Lock letter n names = record names { locks = names.locks ++ spelled_names letter n }
 with_spelled kind.Routine letter n names = record names { routines = names.routines ++ spelled_names letter n }
 
 -- the names of the DPC objects, timers and threads alone
@@ -91,6 +92,7 @@ object_names = record {
   timers = spelled_names (codes "k") 8;
   threads = spelled_names (codes "t") 32;
   apcs = [];
+  locks = [];
   routines = [];
 }
 
@@ -106,4 +108,4 @@ load_names = record thing_names { routines = codes "idle" ∷ spelled_names (cod
 
 -- the load of a seed
 unfoldable pub load_input : ℕ → Input
-load_input seed = record { script = load_script seed; names = load_names }
+load_input seed = record { version = 1; script = load_script seed; names = load_names }

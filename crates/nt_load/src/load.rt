@@ -39,6 +39,7 @@ pub fn load_script(alloc: Global, seed: u32) -> Result<Input, AllocError>
     ensures sound { IfOk result IsSound }
 {
     Ok(Input {
+        version: 1,
         script: draw_script(alloc, seed)?,
         names: load_names(alloc)?,
     })

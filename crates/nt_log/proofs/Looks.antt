@@ -25,14 +25,14 @@ ok_is x y e = cc
 
 -- ---- a class, and a value
 
-abbrev is_class : ℕ → ℕ → Bool
-is_class least class = nat_le least class && is_written_class class
+abbrev is_class : ℕ → ℕ → ℕ → Bool
+is_class ver least class = nat_le least class && is_written_class ver class
 
-class_takes : (least : ℕ) → Takes (read_class least) decimal (λ c. (c ≤ 15) × (is_class least c ≡ true))
-class_takes least = level_of_takes (is_class least)
+class_takes : (ver least : ℕ) → Takes (read_class ver least) decimal (λ c. (c ≤ 15) × (is_class ver least c ≡ true))
+class_takes ver least = level_of_takes (is_class ver least)
 
-class_again : (least c : ℕ) → c ≤ 15 → is_class least c ≡ true → read_class least (decimal c) ≡ Ok c
-class_again least c le used = rw (number_again 15 c (lit< tt) le, used) refl
+class_again : (ver least c : ℕ) → c ≤ 15 → is_class ver least c ≡ true → read_class ver least (decimal c) ≡ Ok c
+class_again ver least c le used = rw (number_again 15 c (lit< tt) le, used) refl
 
 value_takes : Takes read_value decimal (λ v. (v ≤ 18446744073709551615) × ((v == 0) ≡ false))
 value_takes = record { shown = λ f v e. (go f v e).0; fits = λ f v e. (go f v e).1 }
@@ -68,29 +68,29 @@ cut_at f i e =
     ∙ ap (λ (r : List ℕ). take i f ++ 61 ∷ r) (join_with_byte-slice_split 61 (drop (i + 1) f))
 
 -- a field that was read as a class, which is not below this one, and its value
-record Risen (least : ℕ) (f : List ℕ) (r : ℕ × ℕ) : Type 0 where
+record Risen (ver least : ℕ) (f : List ℕ) (r : ℕ × ℕ) : Type 0 where
   shown : f ≡ rise_field r.0 r.1
   low : least ≤ r.0
   high : r.0 ≤ 15
-  used : is_written_class r.0 ≡ true
+  used : is_written_class ver r.0 ≡ true
   some : (r.1 == 0) ≡ false
   range : r.1 ≤ 18446744073709551615
 
-rise_takes : (least : ℕ) (f : List ℕ) (r : ℕ × ℕ) → read_rise least f ≡ Ok r → Risen least f r
-rise_takes least f r e = go (position (is_byte 61) f) refl e
+rise_takes : (ver least : ℕ) (f : List ℕ) (r : ℕ × ℕ) → read_rise ver least f ≡ Ok r → Risen ver least f r
+rise_takes ver least f r e = go (position (is_byte 61) f) refl e
   where
-    go : (o : Option ℕ) → position (is_byte 61) f ≡ o → rise_at least f o ≡ Ok r → Risen least f r
+    go : (o : Option ℕ) → position (is_byte 61) f ≡ o → rise_at ver least f o ≡ Ok r → Risen ver least f r
     go None is e = absurd cc
     go (Some i) is e =
         let a = take i f in
         let z = drop (i + 1) f in
-        let b = bind_ok (read_class least a) (λ c. read_value z >>= λ v. ok (c, v)) r e in
+        let b = bind_ok (read_class ver least a) (λ c. read_value z >>= λ v. ok (c, v)) r e in
         let d = bind_ok (read_value z) (λ v. ok (b.value, v)) r b.then in
-        let class = (class_takes least).fits a b.value b.is in
-        let both = and_parts (nat_le least b.value) (is_written_class b.value) class.1 in
+        let class = (class_takes ver least).fits a b.value b.is in
+        let both = and_parts (nat_le least b.value) (is_written_class ver b.value) class.1 in
         let value = value_takes.fits z d.value d.is in
-        subst (Risen least f) (ok_is (b.value, d.value) r d.then) (record {
-          shown = cut_at f i is ∙ ap (λ (x : List ℕ). x ++ 61 ∷ z) ((class_takes least).shown a b.value b.is)
+        subst (Risen ver least f) (ok_is (b.value, d.value) r d.then) (record {
+          shown = cut_at f i is ∙ ap (λ (x : List ℕ). x ++ 61 ∷ z) ((class_takes ver least).shown a b.value b.is)
               ∙ ap (λ (x : List ℕ). decimal b.value ++ 61 ∷ x) (value_takes.shown z d.value d.is);
           low = leb-true least b.value both.0;
           high = class.0;
@@ -102,18 +102,18 @@ rise_takes least f r e = go (position (is_byte 61) f) refl e
 abbrev rise : ℕ → ℕ → Result (ℕ × ℕ) ScriptKind
 rise class value = Ok (class, value)
 
-both_again : (least : ℕ) (a z : List ℕ) (c v : ℕ) → read_class least a ≡ Ok c → read_value z ≡ Ok v →
-    (read_class least a >>= λ class. read_value z >>= rise class) ≡ rise c v
-both_again least a z c v h k = rw (h, k) refl
+both_again : (ver least : ℕ) (a z : List ℕ) (c v : ℕ) → read_class ver least a ≡ Ok c → read_value z ≡ Ok v →
+    (read_class ver least a >>= λ class. read_value z >>= rise class) ≡ rise c v
+both_again ver least a z c v h k = rw (h, k) refl
 
-rise_again : (least c v : ℕ) → c ≤ 15 → least ≤ c → is_written_class c ≡ true → v ≤ 18446744073709551615 → (v == 0) ≡ false →
-    read_rise least (rise_field c v) ≡ Ok (c, v)
-rise_again least c v high low used range some = go (position (is_byte 61) (rise_field c v)) refl
+rise_again : (ver least c v : ℕ) → c ≤ 15 → least ≤ c → is_written_class ver c ≡ true → v ≤ 18446744073709551615 → (v == 0) ≡ false →
+    read_rise ver least (rise_field c v) ≡ Ok (c, v)
+rise_again ver least c v high low used range some = go (position (is_byte 61) (rise_field c v)) refl
   where
     cut : parts 61 (rise_field c v) ≡ decimal c ∷ decimal v ∷ []
     cut = rise_parts c v (omega (arith, high)) (omega (arith, range))
 
-    go : (o : Option ℕ) → position (is_byte 61) (rise_field c v) ≡ o → rise_at least (rise_field c v) o ≡ Ok (c, v)
+    go : (o : Option ℕ) → position (is_byte 61) (rise_field c v) ≡ o → rise_at ver least (rise_field c v) o ≡ Ok (c, v)
     go None is =
         let one : rise_field c v ∷ [] ≡ decimal c ∷ decimal v ∷ [] = sym (cut_missed 61 (rise_field c v) is) ∙ cut in
         absurd cc
@@ -124,8 +124,8 @@ rise_again least c v high low used range some = go (position (is_byte 61) (rise_
         let head : a ≡ decimal c = cc in
         let tail : parts 61 z ≡ decimal v ∷ [] = cc in
         let last : z ≡ decimal v = sym (join_with_byte-slice_split 61 z) ∙ ap (join_with_byte 61) tail in
-        both_again least a z c v
-        (ap (read_class least) head ∙ class_again least c high (and_from (nat_le least c) (is_written_class c) (le-leb least c low) used))
+        both_again ver least a z c v
+        (ap (read_class ver least) head ∙ class_again ver least c high (and_from (nat_le least c) (is_written_class ver c) (le-leb least c low) used))
         (ap read_value last ∙ value_again v range some)
 
 -- ---- all values
@@ -137,18 +137,18 @@ one_more : (xs : List ℕ) (x n : ℕ) → length xs ≡ n → length (xs ++ x �
 one_more xs x n len = length-append xs (x ∷ []) ∙ ap (λ (k : ℕ). k + 1) len
 
 -- fields that were read as the values of the classes from this one on, behind those of the classes before
-pub record Rising (before : List ℕ) (n least : ℕ) (row : Row) (out : List ℕ) : Type 0 where
+pub record Rising (ver : ℕ) (before : List ℕ) (n least : ℕ) (row : Row) (out : List ℕ) : Type 0 where
   pub tail : List ℕ
   pub is : out ≡ before ++ tail
   pub size : length tail ≡ n
   pub row_is : row ≡ rises_row least tail
-  pub used : rise_in_classes least tail ≡ true
+  pub used : rise_in_classes ver least tail ≡ true
   pub range : AreWords tail
   pub some : 1 ≤ length row → list_any (λ v. not (v == 0)) tail ≡ true
 
 -- the class does not rise
-none_first : (before : List ℕ) (n least : ℕ) (row : Row) (out : List ℕ) → Rising (before ++ 0 ∷ []) n (least + 1) row out → Rising before (suc n) least row out
-none_first before n least row out r = record {
+none_first : (ver : ℕ) (before : List ℕ) (n least : ℕ) (row : Row) (out : List ℕ) → Rising ver (before ++ 0 ∷ []) n (least + 1) row out → Rising ver before (suc n) least row out
+none_first ver before n least row out r = record {
   tail = 0 ∷ r.tail;
   is = r.is ∙ append_assoc before (0 ∷ []) r.tail;
   size = ap (λ (k : ℕ). suc k) r.size;
@@ -159,9 +159,9 @@ none_first before n least row out r = record {
 }
 
 -- the class rises to this value
-value_first : (before : List ℕ) (n least value : ℕ) (f : List ℕ) (row : Row) (out : List ℕ) → f ≡ rise_field least value → is_written_class least ≡ true →
-    (value == 0) ≡ false → value ≤ 18446744073709551615 → Rising (before ++ value ∷ []) n (least + 1) row out → Rising before (suc n) least (f ∷ row) out
-value_first before n least value f row out shown used some range r = record {
+value_first : (ver : ℕ) (before : List ℕ) (n least value : ℕ) (f : List ℕ) (row : Row) (out : List ℕ) → f ≡ rise_field least value → is_written_class ver least ≡ true →
+    (value == 0) ≡ false → value ≤ 18446744073709551615 → Rising ver (before ++ value ∷ []) n (least + 1) row out → Rising ver before (suc n) least (f ∷ row) out
+value_first ver before n least value f row out shown used some range r = record {
   tail = value ∷ r.tail;
   is = r.is ∙ append_assoc before (value ∷ []) r.tail;
   size = ap (λ (k : ℕ). suc k) r.size;
@@ -171,8 +171,8 @@ value_first before n least value f row out shown used some range r = record {
   some = λ h. rw some refl;
 }
 
-nothing_rises : (before : List ℕ) (n least : ℕ) (out : List ℕ) → out ≡ before ++ zeros n → Rising before n least [] out
-nothing_rises before zero least out e = record {
+nothing_rises : (ver : ℕ) (before : List ℕ) (n least : ℕ) (out : List ℕ) → out ≡ before ++ zeros n → Rising ver before n least [] out
+nothing_rises ver before zero least out e = record {
   tail = [];
   is = e;
   size = refl;
@@ -181,8 +181,8 @@ nothing_rises before zero least out e = record {
   range = tt;
   some = λ h. absurd (omega (arith, h));
 }
-nothing_rises before (suc n) least out e =
-    none_first before n least [] out (nothing_rises (before ++ 0 ∷ []) n (least + 1) out (e ∙ sym (append_assoc before (0 ∷ []) (zeros n))))
+nothing_rises ver before (suc n) least out e =
+    none_first ver before n least [] out (nothing_rises ver (before ++ 0 ∷ []) n (least + 1) out (e ∙ sym (append_assoc before (0 ∷ []) (zeros n))))
 
 set_here : (before : List ℕ) (c v : ℕ) (more : List ℕ) → length before ≡ c → set (before ++ 0 ∷ more) c v ≡ (before ++ v ∷ []) ++ more
 set_here before c v more len =
@@ -192,58 +192,58 @@ set_here before c v more len =
     ∙ sym (append_assoc before (v ∷ []) more)
 
 -- the next field is that of the class that stands this far behind
-at_class : (far : ℕ) (before : List ℕ) (n least class value : ℕ) (f : List ℕ) (row : Row) (out : List ℕ) → class ≡ least + far → length before ≡ least →
-    least + n ≡ 16 → class ≤ 15 → f ≡ rise_field class value → is_written_class class ≡ true → (value == 0) ≡ false → value ≤ 18446744073709551615 →
-    ((before : List ℕ) (n : ℕ) → length before ≡ class + 1 → class + 1 + n ≡ 16 → rises_from (before ++ zeros n) (class + 1) row ≡ Ok out →
-    Rising before n (class + 1) row out) →
-    rises_from (set (before ++ zeros n) class value) (class + 1) row ≡ Ok out → Rising before n least (f ∷ row) out
-at_class far before zero least class value f row out is len all high shown used some range more e = absurd (omega (arith, all, high, is))
-at_class zero before (suc n) least class value f row out is len all high shown used some range more e =
+at_class : (ver far : ℕ) (before : List ℕ) (n least class value : ℕ) (f : List ℕ) (row : Row) (out : List ℕ) → class ≡ least + far → length before ≡ least →
+    least + n ≡ 16 → class ≤ 15 → f ≡ rise_field class value → is_written_class ver class ≡ true → (value == 0) ≡ false → value ≤ 18446744073709551615 →
+    ((before : List ℕ) (n : ℕ) → length before ≡ class + 1 → class + 1 + n ≡ 16 → rises_from ver (before ++ zeros n) (class + 1) row ≡ Ok out →
+    Rising ver before n (class + 1) row out) →
+    rises_from ver (set (before ++ zeros n) class value) (class + 1) row ≡ Ok out → Rising ver before n least (f ∷ row) out
+at_class ver far before zero least class value f row out is len all high shown used some range more e = absurd (omega (arith, all, high, is))
+at_class ver zero before (suc n) least class value f row out is len all high shown used some range more e =
     let here : class ≡ least = omega (arith, is) in
-    let now : rises_from ((before ++ value ∷ []) ++ zeros n) (class + 1) row ≡ Ok out =
-    ap (λ (vs : List ℕ). rises_from vs (class + 1) row) (sym (set_here before class value (zeros n) (omega (arith, len, here)))) ∙ e in
+    let now : rises_from ver ((before ++ value ∷ []) ++ zeros n) (class + 1) row ≡ Ok out =
+    ap (λ (vs : List ℕ). rises_from ver vs (class + 1) row) (sym (set_here before class value (zeros n) (omega (arith, len, here)))) ∙ e in
     let grown : length (before ++ value ∷ []) ≡ class + 1 = one_more before value class (omega (arith, len, here)) in
     let r = more (before ++ value ∷ []) n grown (omega (arith, all, here)) now in
-    subst (λ (k : ℕ). Rising before (suc n) k (f ∷ row) out) here (value_first before n class value f row out shown used some range r)
-at_class (suc far) before (suc n) least class value f row out is len all high shown used some range more e =
+    subst (λ (k : ℕ). Rising ver before (suc n) k (f ∷ row) out) here (value_first ver before n class value f row out shown used some range r)
+at_class ver (suc far) before (suc n) least class value f row out is len all high shown used some range more e =
     let grown : length (before ++ 0 ∷ []) ≡ least + 1 = one_more before 0 least len in
-    let now : rises_from (set ((before ++ 0 ∷ []) ++ zeros n) class value) (class + 1) row ≡ Ok out =
-    ap (λ (vs : List ℕ). rises_from (set vs class value) (class + 1) row) (append_assoc before (0 ∷ []) (zeros n)) ∙ e in
-    none_first before n least (f ∷ row) out
-    (at_class far (before ++ 0 ∷ []) n (least + 1) class value f row out (omega (arith, is)) grown (omega (arith, all)) high shown used some range more now)
+    let now : rises_from ver (set ((before ++ 0 ∷ []) ++ zeros n) class value) (class + 1) row ≡ Ok out =
+    ap (λ (vs : List ℕ). rises_from ver (set vs class value) (class + 1) row) (append_assoc before (0 ∷ []) (zeros n)) ∙ e in
+    none_first ver before n least (f ∷ row) out
+    (at_class ver far (before ++ 0 ∷ []) n (least + 1) class value f row out (omega (arith, is)) grown (omega (arith, all)) high shown used some range more now)
 
-pub rises_take : (row : Row) (before : List ℕ) (n least : ℕ) (out : List ℕ) → length before ≡ least → least + n ≡ 16 →
-    rises_from (before ++ zeros n) least row ≡ Ok out → Rising before n least row out
-rises_take [] before n least out len all e = nothing_rises before n least out (sym (ok_is (before ++ zeros n) out e))
-rises_take (f ∷ row) before n least out len all e =
-    let b = bind_ok (read_rise least f) (λ (r : ℕ × ℕ). rises_from (set (before ++ zeros n) r.0 r.1) (r.0 + 1) row) out e in
-    let t = rise_takes least f b.value b.is in
+pub rises_take : (ver : ℕ) (row : Row) (before : List ℕ) (n least : ℕ) (out : List ℕ) → length before ≡ least → least + n ≡ 16 →
+    rises_from ver (before ++ zeros n) least row ≡ Ok out → Rising ver before n least row out
+rises_take ver [] before n least out len all e = nothing_rises ver before n least out (sym (ok_is (before ++ zeros n) out e))
+rises_take ver (f ∷ row) before n least out len all e =
+    let b = bind_ok (read_rise ver least f) (λ (r : ℕ × ℕ). rises_from ver (set (before ++ zeros n) r.0 r.1) (r.0 + 1) row) out e in
+    let t = rise_takes ver least f b.value b.is in
     let low = t.low in
-    at_class (b.value.0 - least) before n least b.value.0 b.value.1 f row out (omega (arith, low)) len all t.high t.shown t.used t.some t.range
-    (λ other k l m h. rises_take row other k (b.value.0 + 1) out l m h) b.then
+    at_class ver (b.value.0 - least) before n least b.value.0 b.value.1 f row out (omega (arith, low)) len all t.high t.shown t.used t.some t.range
+    (λ other k l m h. rises_take ver row other k (b.value.0 + 1) out l m h) b.then
 
-pub rises_again : (vs before : List ℕ) (least class : ℕ) → length before ≡ class → least ≤ class → class + length vs ≡ 16 → rise_in_classes class vs ≡ true →
-    AreWords vs → rises_from (before ++ zeros (length vs)) least (rises_row class vs) ≡ Ok (before ++ vs)
-rises_again [] before least class len low all used range = refl
-rises_again (v ∷ vs) before least class len low all used range =
-    let both = and_parts (v == 0 || is_written_class class) (rise_in_classes (class + 1) vs) used in
-    let next : (w k : ℕ) → k ≤ class + 1 → rises_from ((before ++ w ∷ []) ++ zeros (length vs)) k (rises_row (class + 1) vs) ≡ Ok ((before ++ w ∷ []) ++ vs) =
-    λ w k le. rises_again vs (before ++ w ∷ []) k (class + 1) (one_more before w class len) le (omega (arith, all)) both.1 range.1 in
+pub rises_again : (ver : ℕ) (vs before : List ℕ) (least class : ℕ) → length before ≡ class → least ≤ class → class + length vs ≡ 16 → rise_in_classes ver class vs ≡ true →
+    AreWords vs → rises_from ver (before ++ zeros (length vs)) least (rises_row class vs) ≡ Ok (before ++ vs)
+rises_again ver [] before least class len low all used range = refl
+rises_again ver (v ∷ vs) before least class len low all used range =
+    let both = and_parts (v == 0 || is_written_class ver class) (rise_in_classes ver (class + 1) vs) used in
+    let next : (w k : ℕ) → k ≤ class + 1 → rises_from ver ((before ++ w ∷ []) ++ zeros (length vs)) k (rises_row (class + 1) vs) ≡ Ok ((before ++ w ∷ []) ++ vs) =
+    λ w k le. rises_again ver vs (before ++ w ∷ []) k (class + 1) (one_more before w class len) le (omega (arith, all)) both.1 range.1 in
     go next both.0 (v == 0) refl
   where
-    used_here : (b : Bool) → b ≡ false → (b || is_written_class class) ≡ true → is_written_class class ≡ true
+    used_here : (b : Bool) → b ≡ false → (b || is_written_class ver class) ≡ true → is_written_class ver class ≡ true
     used_here true none e = absurd cc
     used_here false none e = e
 
-    go : ((w k : ℕ) → k ≤ class + 1 → rises_from ((before ++ w ∷ []) ++ zeros (length vs)) k (rises_row (class + 1) vs) ≡ Ok ((before ++ w ∷ []) ++ vs)) →
-        (v == 0 || is_written_class class) ≡ true → (b : Bool) → (v == 0) ≡ b →
-        rises_from (before ++ zeros (suc (length vs))) least (if b then rises_row (class + 1) vs else rise_field class v ∷ rises_row (class + 1) vs)
+    go : ((w k : ℕ) → k ≤ class + 1 → rises_from ver ((before ++ w ∷ []) ++ zeros (length vs)) k (rises_row (class + 1) vs) ≡ Ok ((before ++ w ∷ []) ++ vs)) →
+        (v == 0 || is_written_class ver class) ≡ true → (b : Bool) → (v == 0) ≡ b →
+        rises_from ver (before ++ zeros (suc (length vs))) least (if b then rises_row (class + 1) vs else rise_field class v ∷ rises_row (class + 1) vs)
         ≡ Ok (before ++ v ∷ vs)
     go next h true is =
         let none : v ≡ 0 = eqb-true v 0 is in
-        ap (λ (xs : List ℕ). rises_from xs least (rises_row (class + 1) vs)) (sym (append_assoc before (0 ∷ []) (zeros (length vs))))
+        ap (λ (xs : List ℕ). rises_from ver xs least (rises_row (class + 1) vs)) (sym (append_assoc before (0 ∷ []) (zeros (length vs))))
         ∙ next 0 least (omega (arith, low)) ∙ ap ok (append_assoc before (0 ∷ []) vs ∙ ap (λ (w : ℕ). before ++ w ∷ vs) (sym none))
     go next h false is =
-        let here = rise_again least class v (omega (arith, all)) low (used_here (v == 0) is h) range.0 is in
-        rw here (ap (λ (xs : List ℕ). rises_from xs (class + 1) (rises_row (class + 1) vs)) (set_here before class v (zeros (length vs)) len)
+        let here = rise_again ver least class v (omega (arith, all)) low (used_here (v == 0) is h) range.0 is in
+        rw here (ap (λ (xs : List ℕ). rises_from ver xs (class + 1) (rises_row (class + 1) vs)) (set_here before class v (zeros (length vs)) len)
         ∙ next v (class + 1) (omega arith) ∙ ap ok (append_assoc before (v ∷ []) vs))

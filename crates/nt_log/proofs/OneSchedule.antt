@@ -27,7 +27,8 @@ use Rattle.nt_script.proofs.Clean.{rows_both, thread_field}
 use Rattle.nt_line.proofs.Found.{are_read}
 use Rattle.nt_script.proofs.Soundness.{sound_fits}
 use Rattle.nt_log.specs.declared.schedules.Schedule.{Schedule}
-use Rattle.nt_log.specs.Schedules.{IsPlain, IsTextOf, TurnIsPlain, done_row, limit_row, rise_field, rises_row, schedule_rows, turn_row}
+use Rattle.nt_event.specs.declared.limits.TheConstants.{TURNS}
+use Rattle.nt_log.specs.Schedules.{IsPlain, IsTextOf, TurnIsPlain, done_row, limit_row, rise_field, rises_row, schedule_rows, turn_bound, turn_row}
 use Rattle.nt_log.proofs.OneRow.{decimal_one, map_one, map_rows, all_map, read_one, row_from, rows_one, split_one}
 
 -- ---- things
@@ -125,7 +126,7 @@ rises_same r s e = ap (λ (v : List ℕ). record { value = v }) e
 first_byte : Row → ℕ
 first_byte row = get_or (get_or row 0 []) 0 0
 
-pub turn_one : (input : Input) → IsSound input → (t u : Turn) → TurnIsPlain input.script t → TurnIsPlain input.script u → turn_row input.names t
+pub turn_one : (input : Input) → IsSound input → (t u : Turn) → TurnIsPlain input t → TurnIsPlain input u → turn_row input.names t
     ≡ turn_row input.names u → t ≡ u
 unfolding first_byte
 turn_one input s (Next p) (Next q) h k e =
@@ -162,7 +163,7 @@ rises_clean k (v ∷ vs) few h = go (v == 0) (rises_clean (k + 1) vs (omega (ari
     go false more = and_from (is_field (rise_field k v)) (list_all is_field (rises_row (k + 1) vs))
         (rise_clean k v (omega (arith, few)) (omega (arith, h.0))) more
 
-pub turn_clean : (input : Input) → IsSound input → (t : Turn) → TurnIsPlain input.script t → IsRow (turn_row input.names t)
+pub turn_clean : (input : Input) → IsSound input → (t : Turn) → TurnIsPlain input t → IsRow (turn_row input.names t)
 turn_clean input s (Next p) h = (refl, (decimal_field p.0 (omega (arith, h)), tt))
 turn_clean input s (Look p r) h =
     let few = h.1.classes in
@@ -174,18 +175,27 @@ turn_clean input s (Switch p t) h =
 
 -- ---- the whole
 
-pub schedule_clean : (input : Input) → IsSound input → (s : Schedule) → IsPlain input.script s → AllRows (schedule_rows input.names s)
+-- a bound of the turn limit is at most the greatest limit
+pub most_turns : (cpus : ℕ) → turn_bound cpus ≤ TURNS
+most_turns cpus = go (nat_le cpus 8)
+  where
+    go : (b : Bool) → (if b then TURNS else 2500) ≤ TURNS
+    go true = omega arith
+    go false = omega arith
+
+pub schedule_clean : (input : Input) → IsSound input → (s : Schedule) → IsPlain input s → AllRows (schedule_rows input.names s)
 schedule_clean input sound s plain =
-    let most = plain.limit.1 in (
-      (refl, (decimal_field s.turns (omega (arith, most)), tt)),
+    let most = plain.limit.1 in
+    let bound = most_turns input.script.cpus in (
+      (refl, (decimal_field s.turns (omega (arith, most, bound)), tt)),
       rows_both (map (turn_row input.names) s.list) (done_row ∷ [])
-          (map_rows (TurnIsPlain input.script) (turn_row input.names) (turn_clean input sound) s.list plain.turns) ((refl, tt), tt),
+          (map_rows (TurnIsPlain input) (turn_row input.names) (turn_clean input sound) s.list plain.turns) ((refl, tt), tt),
     )
 
 is_done : Row → Bool
 is_done row = first_byte row == 100
 
-no_turn_is_done : (input : Input) (t : Turn) → TurnIsPlain input.script t → is_done (turn_row input.names t) ≡ false
+no_turn_is_done : (input : Input) (t : Turn) → TurnIsPlain input t → is_done (turn_row input.names t) ≡ false
 unfolding is_done first_byte
 no_turn_is_done input (Next p) h = refl
 no_turn_is_done input (Look p r) h = refl
@@ -197,14 +207,14 @@ schedule n xs = record { turns = n; list = xs }
 schedule_same : (s r : Schedule) → s.turns ≡ r.turns → s.list ≡ r.list → s ≡ r
 schedule_same s r turns list = ap (λ (n : ℕ). schedule n s.list) turns ∙ ap (λ (xs : List Turn). schedule r.turns xs) list
 
-pub turns_one : (input : Input) → IsSound input → (s r : Schedule) → IsPlain input.script s → IsPlain input.script r → schedule_rows input.names s
+pub turns_one : (input : Input) → IsSound input → (s r : Schedule) → IsPlain input s → IsPlain input r → schedule_rows input.names s
     ≡ schedule_rows input.names r → s ≡ r
 unfolding is_done first_byte
 turns_one input sound s r h k e =
     let head : limit_row s.turns ≡ limit_row r.turns = cc in
     let limit : decimal s.turns ≡ decimal r.turns = cc in
     let more : map (turn_row input.names) s.list ++ done_row ∷ [] ≡ map (turn_row input.names) r.list ++ done_row ∷ [] = cc in
-    let P = TurnIsPlain input.script in
+    let P = TurnIsPlain input in
     let row = turn_row input.names in
     let clean : (xs : List Turn) → AllByRecursion P xs →
     AllByRecursion (λ z. is_done z ≡ false) (map row xs) = all_map P (λ z. is_done z ≡ false) row (no_turn_is_done input) in
@@ -213,7 +223,8 @@ turns_one input sound s r h k e =
     let same : s.list ≡ r.list = map_one P row (turn_one input sound) s.list r.list h.turns k.turns lists in
     let most = h.limit.1 in
     let most2 = k.limit.1 in
-    schedule_same s r (decimal_one s.turns r.turns (omega (arith, most)) (omega (arith, most2)) limit) same
+    let bound = most_turns input.script.cpus in
+    schedule_same s r (decimal_one s.turns r.turns (omega (arith, most, bound)) (omega (arith, most2, bound)) limit) same
 
 pub one_schedule : (bytes : List ℕ) (input : Input) (s r : Schedule) → IsTextOf bytes input s → IsTextOf bytes input r → s ≡ r
 one_schedule bytes input s r h k =

@@ -49,7 +49,7 @@ ok_is x y e = cc
 record Says (cpus : ℕ) (input : Input) (word : List ℕ) (args : Row) (t : Turn) : Type 0 where
   word_is : word ≡ turn_word t
   fields_are : args ≡ turn_fields input.names t
-  plain : TurnIsPlain input.script t
+  plain : TurnIsPlain input t
   below : (cpu_at t).0 < cpus
 
 next_takes : (cpus : ℕ) (input : Input) → cpus ≤ CPUS → IsSound input → (args : Row) (t : Turn) → read_next cpus args ≡ Ok t →
@@ -74,22 +74,22 @@ two_there [] h = absurd (omega (arith, h))
 two_there (a ∷ []) h = absurd (omega (arith, h))
 two_there (a ∷ b ∷ args) h = (refl, omega arith)
 
-look_takes : (cpus : ℕ) (input : Input) → cpus ≤ CPUS → IsSound input → (args : Row) (t : Turn) → read_look cpus args ≡ Ok t →
+look_takes : (cpus : ℕ) (input : Input) → cpus ≤ CPUS → IsSound input → (args : Row) (t : Turn) → read_look cpus input.version args ≡ Ok t →
     Says cpus input (codes "look") args t
 look_takes cpus input most sound args t e = go (nat_lt (length args) 2) refl e
   where
     go : (b : Bool) → nat_lt (length args) 2 ≡ b →
-        (if b then Err MissingField else (read_cpu cpus (first args) >>= λ p. read_rises (rest args) >>= λ r. ok (Look p r))) ≡ Ok t →
+        (if b then Err MissingField else (read_cpu cpus (first args) >>= λ p. read_rises input.version (rest args) >>= λ r. ok (Look p r))) ≡ Ok t →
         Says cpus input (codes "look") args t
     go true few e = absurd cc
     go false few e =
         let there = two_there args (ltb-false (length args) 2 few) in
-        let p = bind_ok (read_cpu cpus (first args)) (λ p. read_rises (rest args) >>= λ r. ok (Look p r)) t e in
-        let r = bind_ok (read_rises (rest args)) (λ r. ok (Look p.value r)) t p.then in
-        let v = bind_ok (rises_from (replicate 16 0) 0 (rest args)) (λ (vs : List ℕ). ok {A = Rises} (record { value = vs })) r.value r.is in
-        let risen = rises_take (rest args) [] 16 0 v.value refl refl v.is in
+        let p = bind_ok (read_cpu cpus (first args)) (λ p. read_rises input.version (rest args) >>= λ r. ok (Look p r)) t e in
+        let r = bind_ok (read_rises input.version (rest args)) (λ r. ok (Look p.value r)) t p.then in
+        let v = bind_ok (rises_from input.version (replicate 16 0) 0 (rest args)) (λ (vs : List ℕ). ok {A = Rises} (record { value = vs })) r.value r.is in
+        let risen = rises_take input.version (rest args) [] 16 0 v.value refl refl v.is in
         let values : v.value ≡ risen.tail = risen.is in
-        let all : AreRises (record { value = v.value }) = record {
+        let all : AreRises input.version (record { value = v.value }) = record {
           classes = ap length values ∙ risen.size;
           some = ap (list_any (λ n. not (n == 0))) values ∙ risen.some there.1;
           used = rw values risen.used;
@@ -107,11 +107,11 @@ look_takes cpus input most sound args t e = go (nat_lt (length args) 2) refl e
 -- a row that was read is that of a turn that a text may have
 pub record TurnTaken (cpus : ℕ) (input : Input) (row : Row) (t : Turn) : Type 0 where
   pub row_is : row ≡ turn_row input.names t
-  pub plain : TurnIsPlain input.script t
+  pub plain : TurnIsPlain input t
   pub below : (cpu_at t).0 < cpus
 
 pub turn_takes : (cpus : ℕ) (input : Input) → cpus ≤ CPUS → IsSound input → (f : List ℕ) (args : Row) (t : Turn) →
-    read_turn cpus input.names (f ∷ args) ≡ Ok t → TurnTaken cpus input (f ∷ args) t
+    read_turn cpus input (f ∷ args) ≡ Ok t → TurnTaken cpus input (f ∷ args) t
 turn_takes cpus input most sound f args t e =
     go (bytes_eq f (codes "next")) (bytes_eq f (codes "switch")) (bytes_eq f (codes "look")) refl refl refl e
   where
@@ -123,7 +123,7 @@ turn_takes cpus input most sound f args t e =
     }
 
     go : (x y z : Bool) → bytes_eq f (codes "next") ≡ x → bytes_eq f (codes "switch") ≡ y → bytes_eq f (codes "look") ≡ z →
-        (if x then read_next cpus args else (if y then read_switch cpus input.names args else (if z then read_look cpus args else Err UnknownWord))) ≡ Ok t →
+        (if x then read_next cpus args else (if y then read_switch cpus input.names args else (if z then read_look cpus input.version args else Err UnknownWord))) ≡ Ok t →
         TurnTaken cpus input (f ∷ args) t
     go true y z p q r e = said (codes "next") (same_text f (codes "next") p) (next_takes cpus input most sound args t e)
     go false true z p q r e = said (codes "switch") (same_text f (codes "switch") q) (switch_takes cpus input most sound args t e)
@@ -154,24 +154,25 @@ some_rises class (v ∷ vs) e = go (v == 0) e (λ h. some_rises (class + 1) vs h
     go true e more = more e
     go false e more = omega arith
 
-look_again : (cpus : ℕ) (p : CpuNo) (r : Rises) → p.0 ≤ 63 → AreRises r → p.0 < cpus → read_look cpus (show_cpu p ∷ rises_row 0 r.value) ≡ Ok (Look p r)
-look_again cpus p r le all lt =
+look_again : (cpus ver : ℕ) (p : CpuNo) (r : Rises) → p.0 ≤ 63 → AreRises ver r → p.0 < cpus →
+    read_look cpus ver (show_cpu p ∷ rises_row 0 r.value) ≡ Ok (Look p r)
+look_again cpus ver p r le all lt =
     let there = some_rises 0 r.value all.some in
     let many : nat_lt (length (show_cpu p ∷ rises_row 0 r.value)) 2 ≡ false = le-ltb (length (show_cpu p ∷ rises_row 0 r.value)) 2 (omega (arith, there)) in
     let size = all.classes in
     let same : ◌≡◌ {A = List ℕ} (replicate 16 0) (replicate (length r.value) 0) = ap (λ (n : ℕ). replicate n 0) (sym size) in
-    let values : rises_from (replicate 16 0) 0 (rises_row 0 r.value) ≡ Ok r.value =
-    ap (λ (vs : List ℕ). rises_from vs 0 (rises_row 0 r.value)) same
-    ∙ rises_again r.value [] 0 0 refl (omega arith) (omega (arith, size)) all.used all.range in
+    let values : rises_from ver (replicate 16 0) 0 (rises_row 0 r.value) ≡ Ok r.value =
+    ap (λ (vs : List ℕ). rises_from ver vs 0 (rises_row 0 r.value)) same
+    ∙ rises_again ver r.value [] 0 0 refl (omega arith) (omega (arith, size)) all.used all.range in
     rw many
-    (bind_is (read_cpu cpus (show_cpu p)) (λ p. read_rises (rises_row 0 r.value) >>= λ r. ok (Look p r)) p (cpu_read cpus p le lt)
-    ∙ bind_is (read_rises (rises_row 0 r.value)) (λ r. ok (Look p r)) r
-    (bind_is (rises_from (replicate 16 0) 0 (rises_row 0 r.value)) (λ (vs : List ℕ). ok {A = Rises} (record { value = vs })) r.value values))
+    (bind_is (read_cpu cpus (show_cpu p)) (λ p. read_rises ver (rises_row 0 r.value) >>= λ r. ok (Look p r)) p (cpu_read cpus p le lt)
+    ∙ bind_is (read_rises ver (rises_row 0 r.value)) (λ r. ok (Look p r)) r
+    (bind_is (rises_from ver (replicate 16 0) 0 (rises_row 0 r.value)) (λ (vs : List ℕ). ok {A = Rises} (record { value = vs })) r.value values))
 
-pub turn_again : (cpus : ℕ) (input : Input) → IsSound input → (t : Turn) → TurnIsPlain input.script t → (cpu_at t).0 < cpus →
-    read_turn cpus input.names (turn_row input.names t) ≡ Ok t
+pub turn_again : (cpus : ℕ) (input : Input) → IsSound input → (t : Turn) → TurnIsPlain input t → (cpu_at t).0 < cpus →
+    read_turn cpus input (turn_row input.names t) ≡ Ok t
 turn_again cpus input sound (Next p) h lt = bind_is (read_cpu cpus (show_cpu p)) (λ p. ok (Next p)) p (cpu_read cpus p h lt)
-turn_again cpus input sound (Look p r) h lt = look_again cpus p r h.0 h.1 lt
+turn_again cpus input sound (Look p r) h lt = look_again cpus input.version p r h.0 h.1 lt
 turn_again cpus input sound (Switch p t) h lt =
     bind_is (read_cpu cpus (show_cpu p)) (λ p. read_thread input.names (show_thread input.names t) >>= λ t. ok (Switch p t)) p (cpu_read cpus p h.0 lt)
     ∙ bind_is (read_thread input.names (show_thread input.names t)) (λ t. ok (Switch p t)) t (thread_read input sound t h.1)

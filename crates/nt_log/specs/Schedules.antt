@@ -1,5 +1,5 @@
 -- The text of a schedule, as rows of fields: the turn limit, a line for each turn, and the end.
-use Rattle.std.specs.Prelude.{◌≡◌, ℕ, ◌+◌, ◌<◌, ◌≤◌, Bool, true, ◌&&◌, ◌||◌, not, List, [], ◌∷◌, ◌++◌, length, map, codes, decimal, ◌==◌, if◌then◌else◌}
+use Rattle.std.specs.Prelude.{◌≡◌, ℕ, ◌+◌, ◌<◌, ◌≤◌, Bool, true, ◌&&◌, ◌||◌, nat_le, not, List, [], ◌∷◌, ◌++◌, length, map, codes, decimal, ◌==◌, if◌then◌else◌}
 use Rattle.std.specs.List.{AllByRecursion, list_all, list_any}
 use Rattle.nt_text.specs.Lines.{rows_text}
 use Rattle.nt_event.specs.declared.limits.TheConstants.{EVENTS, TURNS}
@@ -33,37 +33,44 @@ turn_fits s (Look p rises) = true
 abbrev pub turns_fit : Script → List Turn → Bool
 turns_fit s turns = list_all (turn_fits s) turns
 
--- a class that a look of a text may name: each that is used but that of locks, for which the texts have no words
-abbrev pub is_written_class : ℕ → Bool
-is_written_class class = is_used_class class && not (class == lock_class)
+-- a class that a look of a text may name, by the version of the script's text: each that is used, and that of locks in
+-- version 2 alone
+abbrev pub is_written_class : ℕ → ℕ → Bool
+is_written_class version class = is_used_class class && (version == 2 || not (class == lock_class))
 
 -- the values, of which the first is of this class, rise in such classes only
-abbrev pub rise_in_classes : ℕ → List ℕ → Bool
-rise_in_classes class [] = true
-rise_in_classes class (v ∷ vs) = (v == 0 || is_written_class class) && rise_in_classes (class + 1) vs
+abbrev pub rise_in_classes : ℕ → ℕ → List ℕ → Bool
+rise_in_classes version class [] = true
+rise_in_classes version class (v ∷ vs) =
+    (v == 0 || is_written_class version class) && rise_in_classes version (class + 1) vs
 
 -- a value for each class, of which one at least rises, and only those of such classes
-pub record AreRises (r : Rises) : Type 0 where
+pub record AreRises (version : ℕ) (r : Rises) : Type 0 where
   pub classes : length r.value ≡ 16
   pub some : list_any (λ v. not (v == 0)) r.value ≡ true
-  pub used : rise_in_classes 0 r.value ≡ true
+  pub used : rise_in_classes version 0 r.value ≡ true
   pub range : AllByRecursion (λ v. v ≤ 18446744073709551615) r.value
 
-abbrev pub TurnIsPlain : Script → Turn → Type 0
-TurnIsPlain s (Next p) = p.0 ≤ 63
-TurnIsPlain s (Look p rises) = (p.0 ≤ 63) × AreRises rises
-TurnIsPlain s (Switch p t) = (p.0 ≤ 63) × (t.0 < length s.threads)
+abbrev pub TurnIsPlain : Input → Turn → Type 0
+TurnIsPlain input (Next p) = p.0 ≤ 63
+TurnIsPlain input (Look p rises) = (p.0 ≤ 63) × AreRises input.version rises
+TurnIsPlain input (Switch p t) = (p.0 ≤ 63) × (t.0 < length input.script.threads)
 
 -- each turn is of a processor below this
 abbrev pub AreBelow : ℕ → List Turn → Type 0
 AreBelow cpus turns = AllByRecursion (λ t. (cpu_at t).0 < cpus) turns
 
+-- the greatest turn limit for so many processors: 8 of them with the first bound make as many events as 64 with the
+-- second. Profile.
+abbrev pub turn_bound : ℕ → ℕ
+turn_bound cpus = if nat_le cpus 8 then TURNS else 2500
+
 -- a schedule that a text may have: each switch takes a thread of the script, processors are at most 63, looks have
--- values in classes only, and there are not too many turns. Profile.
-pub record IsPlain (s : Script) (schedule : Schedule) : Type 0 where
-  pub turns : AllByRecursion (TurnIsPlain s) schedule.list
+-- values in classes only, there are not too many turns, and the turn limit is in its range. Profile.
+pub record IsPlain (input : Input) (schedule : Schedule) : Type 0 where
+  pub turns : AllByRecursion (TurnIsPlain input) schedule.list
   pub few : length schedule.list ≤ EVENTS
-  pub limit : (1 ≤ schedule.turns) × (schedule.turns ≤ TURNS)
+  pub limit : (1 ≤ schedule.turns) × (schedule.turns ≤ turn_bound input.script.cpus)
 
 -- ---- its lines
 
@@ -106,5 +113,5 @@ schedule_text input s = rows_text (schedule_rows input.names s)
 -- the bytes are the text of the schedule, for the script of a sound input
 pub record IsTextOf (bytes : List ℕ) (input : Input) (s : Schedule) : Type 0 where
   pub sound : IsSound input
-  pub plain : IsPlain input.script s
+  pub plain : IsPlain input s
   pub text : bytes ≡ schedule_text input s

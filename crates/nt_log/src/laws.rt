@@ -20,10 +20,10 @@ pub fn texts_are_schedules()
 pub fn schedules_both_ways()
     // What is read is a schedule that a text may have, of processors below `cpus`, and the lines are those of its rows.
     ensures read { (cpus n : ℕ) (input : Input) (ls : List (List ℕ × Bool)) (s : Schedule) → cpus ≤ CPUS → IsSound input →
-        walk cpus input.names start n ls ≡ Ok s →
-        (ls ≡ map line_of (schedule_rows input.names s)) × IsPlain input.script s × AreBelow cpus s.list }
+        walk cpus input start n ls ≡ Ok s →
+        (ls ≡ map line_of (schedule_rows input.names s)) × IsPlain input s × AreBelow cpus s.list }
 
     // The lines of such a schedule's rows are read as this schedule.
-    ensures printed { (cpus n : ℕ) (input : Input) (s : Schedule) → IsSound input → IsPlain input.script s → AreBelow cpus s.list →
-        walk cpus input.names start n (map line_of (schedule_rows input.names s)) ≡ Ok s }
+    ensures printed { (cpus n : ℕ) (input : Input) (s : Schedule) → IsSound input → IsPlain input s → AreBelow cpus s.list →
+        walk cpus input start n (map line_of (schedule_rows input.names s)) ≡ Ok s }
 {}

@@ -22,6 +22,6 @@ pub use laws::{schedules_both_ways, texts_are_schedules};
 pub use nt_text::{put_field, put_number};
 pub use printing::{print_schedule, put_schedule, put_schedule_of};
 pub use reading::read_schedule;
-pub use schedules::{Schedule, turns_of};
+pub use schedules::{Schedule, turn_bound, turns_of};
 pub use turns::count;
 pub use walk::{SchedulePlace, ScheduleWalk};

@@ -24,13 +24,13 @@ fn read_lines(
 ) -> Result<Schedule, ScriptRefusal>
     requires bytes { length bytes.now ≤ INPUT_LIMIT }
     requires line { (1 ≤ first_line) × (first_line ≤ INPUT_LIMIT + 1) }
-    ensures { GivesRead result (reading CPUS input.now.names first_line bytes.now) }
+    ensures { GivesRead result (reading CPUS input.now first_line bytes.now) }
 {
     let mut walk = ScheduleWalk::new(alloc);
     let mut lines = Lines::new(bytes);
     let mut at = first_line;
     loop {
-        match walk.next_line(&input.names, limits::CPUS, &mut lines) {
+        match walk.next_line(input, limits::CPUS, &mut lines) {
             Ok(true) => at += 1,
             Ok(false) => return walk.finish(at),
             Err(Stop::NoMemory) => return Err(ScriptRefusal::NoMemory),
@@ -65,7 +65,7 @@ pub fn read_schedule(
     ensures only { (s : Schedule) → IsTextOf bytes.now input.now s → GivesRead result (Ok s) }
 
     // Which line is refused, and why.
-    ensures exact { GivesRead result (reading CPUS input.now.names first_line bytes.now) }
+    ensures exact { GivesRead result (reading CPUS input.now first_line bytes.now) }
 {
     read_lines(alloc, input, bytes, first_line)
 }

@@ -1,10 +1,29 @@
 //! Schedules, and those of histories.
 ghost use Rattle.std.specs.Prelude.{◌≡◌, map, IfOk};
+ghost use Rattle.nt_log.specs.Schedules.{turn_bound};
 ghost use Rattle.nt_event.specs.Step.{turn_of};
 
+use nt_event::limits;
 use nt_history::History;
 use nt_turns::Turns;
 use std::alloc::{AllocError, Global};
+
+/// As many processors as may each make the most turns.
+const FEW_CPUS: u8 = 8;
+
+/// The greatest turn limit of more processors: 64 of them make no more events than 8 with the greatest one.
+const TURNS_OF_MANY: u32 = 2_500;
+
+/// The greatest turn limit of a script with so many processors: 20,000 up to 8 of them, else 2,500. Profile.
+pub fn turn_bound(cpus: u8) -> u32
+    ensures { result ≡ turn_bound cpus }
+{
+    if cpus <= FEW_CPUS {
+        limits::TURNS
+    } else {
+        TURNS_OF_MANY
+    }
+}
 
 /// How many events each processor may make, and whose step is next each time.
 #[derive(Drop, Debug)]

@@ -9,22 +9,23 @@ ghost use Rattle.nt_log.specs.Reading.{read_class, read_value, read_rise, read_r
 
 use nt_event::{Rises, Turn, class};
 use nt_line::{Names, fields};
+use nt_script::Input;
 use nt_text::{Fields, ScriptKind, number};
 
-/// Whether a look of a text may name the class: each that is used but that of locks, for which the texts have no words.
-fn is_written(class: u8) -> bool
-    ensures { result ≡ is_written_class class }
+/// Whether a look of a text may name the class: each that is used, and that of locks in version 2 alone.
+fn is_written(version: u8, class: u8) -> bool
+    ensures { result ≡ is_written_class version class }
 {
-    class::is_used(class) && class != class::LOCK
+    class::is_used(class) && (version == 2 || class != class::LOCK)
 }
 
 /// A class that a look may name and that is not below `least`.
-fn written_class(least: u8, field: &[u8]) -> Result<u8, ScriptKind>
-    ensures value { result ≡ read_class least field.now }
+fn written_class(version: u8, least: u8, field: &[u8]) -> Result<u8, ScriptKind>
+    ensures value { result ≡ read_class version least field.now }
     ensures within { IfOk result (λ class. class < 16) }
 {
     let class = fields::number(field, 15)? as u8;
-    if least <= class && is_written(class) {
+    if least <= class && is_written(version, class) {
         Ok(class)
     } else {
         Err(ScriptKind::BadNumber)
@@ -55,13 +56,13 @@ fn equals_place(field: &[u8]) -> Option<usize>
 }
 
 /// A class that is not below `least`, and the value that rises in it.
-fn rise(least: u8, field: &[u8]) -> Result<(u8, u64), ScriptKind>
-    ensures value { result ≡ read_rise least field.now }
+fn rise(version: u8, least: u8, field: &[u8]) -> Result<(u8, u64), ScriptKind>
+    ensures value { result ≡ read_rise version least field.now }
     ensures within { IfOk result (λ rise. rise.0 < 16) }
 {
     match equals_place(field) {
         Some(place) => {
-            let class = written_class(least, &field[..place])?;
+            let class = written_class(version, least, &field[..place])?;
             let value = value(&field[place + 1..])?;
             Ok((class, value))
         }
@@ -70,13 +71,13 @@ fn rise(least: u8, field: &[u8]) -> Result<(u8, u64), ScriptKind>
 }
 
 /// The values that rise.
-fn rises(args: &mut Fields) -> Result<Rises, ScriptKind>
-    ensures { result ≡ read_rises args.old }
+fn rises(version: u8, args: &mut Fields) -> Result<Rises, ScriptKind>
+    ensures { result ≡ read_rises version args.old }
 {
     let mut value = [0; 16];
     let mut least = 0;
     while let Some(field) = args.next() {
-        let (class, risen) = rise(least, field)?;
+        let (class, risen) = rise(version, least, field)?;
         value[class as usize] = risen;
         least = class + 1;
     }
@@ -112,33 +113,33 @@ fn switch(names: &Names, cpus: u8, args: &mut Fields) -> Result<Turn, ScriptKind
     Ok(Turn::Switch(cpu, fields::thread(names, args.need()?)?))
 }
 
-fn look(cpus: u8, args: &mut Fields) -> Result<Turn, ScriptKind>
-    ensures { result ≡ read_look cpus args.old }
+fn look(cpus: u8, version: u8, args: &mut Fields) -> Result<Turn, ScriptKind>
+    ensures { result ≡ read_look cpus version args.old }
 {
     if args.count() < 2 {
         return Err(ScriptKind::MissingField);
     }
     let cpu = fields::cpu(cpus, args.take())?;
-    Ok(Turn::Look(cpu, rises(args)?))
+    Ok(Turn::Look(cpu, rises(version, args)?))
 }
 
 /// The turn of a line with this word.
 pub(crate) fn turn(
-    names: &Names,
+    input: &Input,
     cpus: u8,
     word: &[u8],
     args: &mut Fields,
 ) -> Result<Turn, ScriptKind>
-    ensures { result ≡ read_turn cpus names.now (word.now ∷ args.old) }
+    ensures { result ≡ read_turn cpus input.now (word.now ∷ args.old) }
 {
     if word == b"next".as_slice() {
         return next(cpus, args);
     }
     if word == b"switch".as_slice() {
-        return switch(names, cpus, args);
+        return switch(&input.names, cpus, args);
     }
     if word == b"look".as_slice() {
-        return look(cpus, args);
+        return look(cpus, input.version, args);
     }
     Err(ScriptKind::UnknownWord)
 }

@@ -1,12 +1,13 @@
 //! Reading a schedule line by line.
 ghost use Rattle.std.specs.Prelude.{◌≡◌};
 ghost use Rattle.nt_log.specs.Reading.{read_limit};
+ghost use Rattle.nt_log.specs.Schedules.{turn_bound};
 
-use crate::schedules::Schedule;
+use crate::schedules::{Schedule, turn_bound};
 use crate::turns::{count, turn};
 use nt_event::{CpuNo, Turn, limits};
-use nt_line::{Names, fields};
-use nt_script::{ScriptRefusal, Stop};
+use nt_line::fields;
+use nt_script::{Input, ScriptRefusal, Stop};
 use nt_text::{Fields, Line, Lines, ScriptKind, What10};
 use nt_turns::Turns;
 use std::alloc::Global;
@@ -55,23 +56,23 @@ impl ScheduleWalk {
         }
     }
 
-    /// Takes a line. `names` are those of the script, and each processor is below `cpus`.
+    /// Takes a line of a schedule for this input's script, in which each processor is below `cpus`.
     ///
     /// The first test that a line does not pass refuses it: NotAscii, NoEnd; a line behind `done` is ExtraField; UnknownWord
     /// where the first field is no word of this place; MissingField and ExtraField by the count of the fields, which of a
     /// look has no upper bound; each field from left to right, BadNumber or, of a thread, BadName, UnknownName and WrongKind;
     /// TooMany for a turn above the greatest count of events. `NoMemory` leaves the walk of no use.
-    pub fn line(&mut self, names: &Names, cpus: u8, line: &Line) -> Result<(), Stop>
-        ensures { Gives result self.new (line_step cpus names.now self.old (line.now.bytes.now, line.now.ended)) }
+    pub fn line(&mut self, input: &Input, cpus: u8, line: &Line) -> Result<(), Stop>
+        ensures { Gives result self.new (line_step cpus input.now self.old (line.now.bytes.now, line.now.ended)) }
     {
         let mut row = line.fields()?;
-        self.step(names, cpus, &mut row)
+        self.step(input, cpus, &mut row)
     }
 
     /// Takes the first line that is left, as [`ScheduleWalk::line`] does. Answers whether there was one; else nothing changes.
     #[inline(always)]
-    pub fn next_line(&mut self, names: &Names, cpus: u8, lines: &mut Lines) -> Result<bool, Stop>
-        ensures { TakesLine (line_step cpus names.now self.old) result self.old self.new lines.old lines.new }
+    pub fn next_line(&mut self, input: &Input, cpus: u8, lines: &mut Lines) -> Result<bool, Stop>
+        ensures { TakesLine (line_step cpus input.now self.old) result self.old self.new lines.old lines.new }
     {
         // Most lines of a schedule are `next P` with a processor of one digit.
         if self.has_room() {
@@ -80,7 +81,7 @@ impl ScheduleWalk {
                 return Ok(true);
             }
         }
-        self.any_line(names, cpus, lines)
+        self.any_line(input, cpus, lines)
     }
 
     /// Whether the line of a turn may come, and is not one too many.
@@ -93,12 +94,12 @@ impl ScheduleWalk {
 
     /// Takes the first line that is left, whatever its form. It stands apart, so that the short way needs no registers of it.
     #[inline(never)]
-    fn any_line(&mut self, names: &Names, cpus: u8, lines: &mut Lines) -> Result<bool, Stop>
-        ensures { TakesLine (line_step cpus names.now self.old) result self.old self.new lines.old lines.new }
+    fn any_line(&mut self, input: &Input, cpus: u8, lines: &mut Lines) -> Result<bool, Stop>
+        ensures { TakesLine (line_step cpus input.now self.old) result self.old self.new lines.old lines.new }
     {
         match lines.next() {
             Some(line) => {
-                self.line(names, cpus, &line)?;
+                self.line(input, cpus, &line)?;
                 Ok(true)
             }
             None => Ok(false),
@@ -119,31 +120,31 @@ impl ScheduleWalk {
         }
     }
 
-    fn step(&mut self, names: &Names, cpus: u8, row: &mut Fields) -> Result<(), Stop>
-        ensures { Gives result self.new (step cpus names.now self.old row.old) }
+    fn step(&mut self, input: &Input, cpus: u8, row: &mut Fields) -> Result<(), Stop>
+        ensures { Gives result self.new (step cpus input.now self.old row.old) }
     {
         match self.place {
-            SchedulePlace::Start => self.first_step(row),
-            SchedulePlace::InTurns => self.turn_step(names, cpus, row),
+            SchedulePlace::Start => self.first_step(input.script.cpus, row),
+            SchedulePlace::InTurns => self.turn_step(input, cpus, row),
             SchedulePlace::Done => Err(Stop::Bad(ScriptKind::ExtraField)),
         }
     }
 
-    /// Takes the first line.
-    fn first_step(&mut self, row: &mut Fields) -> Result<(), Stop>
-        ensures { Gives result self.new (first_step self.old row.old) }
+    /// Takes the first line, of a schedule for a script with so many processors.
+    fn first_step(&mut self, cpus: u8, row: &mut Fields) -> Result<(), Stop>
+        ensures { Gives result self.new (first_step (turn_bound cpus) self.old row.old) }
     {
         if row.take() != b"schedule".as_slice() {
             return Err(Stop::Bad(ScriptKind::UnknownWord));
         }
-        self.schedule.turns = limit(row)?;
+        self.schedule.turns = limit(turn_bound(cpus), row)?;
         self.place = SchedulePlace::InTurns;
         Ok(())
     }
 
     /// Takes a line behind the first.
-    fn turn_step(&mut self, names: &Names, cpus: u8, row: &mut Fields) -> Result<(), Stop>
-        ensures { Gives result self.new (turn_step cpus names.now self.old row.old) }
+    fn turn_step(&mut self, input: &Input, cpus: u8, row: &mut Fields) -> Result<(), Stop>
+        ensures { Gives result self.new (turn_step cpus input.now self.old row.old) }
     {
         let word = row.take();
         if word == b"done".as_slice() {
@@ -151,7 +152,7 @@ impl ScheduleWalk {
             self.place = SchedulePlace::Done;
             return Ok(());
         }
-        let turn = turn(names, cpus, word, row)?;
+        let turn = turn(input, cpus, word, row)?;
         self.add(&turn)
     }
 
@@ -167,12 +168,12 @@ impl ScheduleWalk {
     }
 }
 
-/// The turn limit of the first line.
-fn limit(args: &mut Fields) -> Result<u32, ScriptKind>
-    ensures { result ≡ read_limit args.old }
+/// The turn limit of the first line, 1 to this bound.
+fn limit(bound: u32, args: &mut Fields) -> Result<u32, ScriptKind>
+    ensures { result ≡ read_limit bound args.old }
 {
     count(args, 1)?;
-    let turns = fields::number(args.take(), limits::TURNS)?;
+    let turns = fields::number(args.take(), bound)?;
     if turns == 0 {
         return Err(ScriptKind::BadNumber);
     }

@@ -21,7 +21,6 @@ use Rattle.nt_history.proofs.Lists.{as_many}
 use Rattle.nt_print.specs.declared.inserts.Object.{Object}
 use Rattle.nt_print.specs.Tally.{with_named}
 use Rattle.nt_print.specs.Uses.{inserted_at, is_it, thing_fits, thing_of}
-use Rattle.nt_print.specs.Written.{replies_written, tells_written}
 use Rattle.nt_print.proofs.Past.{inserted_read}
 use Rattle.nt_print.proofs.WaitRows.{element_at}
 
@@ -65,21 +64,6 @@ each_fits s (x ∷ bs) rises zero b lt h = fits_same s rises x ∙ (and_parts (e
 each_fits s (x ∷ bs) rises (suc i) b lt h =
     let rest = and_parts (event_fits s (event_in rises x)) (events_fit s (events_in bs rises)) h in
     each_fits s bs rises i b (omega (arith, lt)) rest.1
-
-told_any : (d : Did) (r q : Rises) → tells_written (what_of r d) ≡ tells_written (what_of q d)
-told_any (did.Look at) r q = refl
-told_any d r q = refl
-
--- and a text can tell its reply
-pub each_told : (bs : List Brief) (rises : List Rises) (i : ℕ) (b : Brief) → i < length bs → replies_written (events_in bs rises) ≡ true →
-    tells_written (what_of no_rises (get_or bs i b).did) ≡ true
-each_told [] rises i b lt h = absurd (omega (arith, lt))
-each_told (x ∷ bs) rises zero b lt h =
-    told_any x.did no_rises (values_of rises x)
-    ∙ (and_parts (tells_written (event_in rises x).what) (replies_written (events_in bs rises)) h).0
-each_told (x ∷ bs) rises (suc i) b lt h =
-    let rest = and_parts (tells_written (event_in rises x).what) (replies_written (events_in bs rises)) h in
-    each_told bs rises i b (omega (arith, lt)) rest.1
 
 -- ---- what an event inserts
 

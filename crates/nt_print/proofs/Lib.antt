@@ -4,11 +4,13 @@ mod Counted
 mod Fates
 mod Past
 mod WaitRows
+mod Spinning
 mod Tallied
 mod Turns
 mod Whole
 pub mod OneEvent
 pub mod OneReport
-pub mod Told
+mod SpinRows
 mod Blocks
 mod Passed
+mod Versions

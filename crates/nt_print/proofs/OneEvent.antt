@@ -1,6 +1,6 @@
 -- The row of an event is the row of no other.
 use Rattle.std.proofs.Common.{◌≡◌, ◌≢◌, ◌∙◌, ℕ, ◌+◌, ◌*◌, ◌^◌, ◌<◌, Bool, true, false, List, [], ◌++◌, length, get_or, Option, Some, None, Result, Ok, refl, sym, ap, arith}
-use Rattle.std.specs.Prelude.{decimal, ◌&&◌, nat_lt}
+use Rattle.std.specs.Prelude.{decimal, ◌&&◌, ◌≤◌, nat_lt}
 use Rattle.std.specs.List.{list_all, slice_get}
 use Rattle.std.proofs.lemmas.Bool.{and_from, and_parts, ltb-true}
 use Rattle.std.proofs.lemmas.List.Folds.{list_all-append}
@@ -33,22 +33,23 @@ use Rattle.nt_event.specs.Numbered.{refusal_name, refusal_number}
 use Rattle.nt_event.specs.Script.{command_fits, has_apc, has_cpu, has_dpc, has_lock, has_thread, has_timer, where_given}
 use Rattle.nt_script.specs.declared.walk.Input.{Input}
 use Rattle.nt_line.specs.declared.keywords.Verb.{Verb}
+use Rattle.nt_line.specs.declared.keywords.Verb.TheVariants as verb
 use Rattle.nt_line.specs.declared.keywords.Keyword.TheVariants as keyword
 use Rattle.nt_line.specs.Commands.{command_of}
 use Rattle.nt_line.specs.Fits.{CommandFits}
-use Rattle.nt_line.specs.NameLists.{NameLists, show_apc, show_dpc, show_thread, show_timer}
-use Rattle.nt_line.specs.Fields.{dash, read_apc, read_dpc, read_thread, read_timer}
+use Rattle.nt_line.specs.NameLists.{NameLists, show_apc, show_dpc, show_lock, show_thread, show_timer}
+use Rattle.nt_line.specs.Fields.{dash, read_apc, read_dpc, read_lock, read_thread, read_timer}
 use Rattle.nt_line.specs.Fits.{HasRange}
 use Rattle.nt_script.specs.Sound.{IsSound}
 use Rattle.nt_text.specs.Lines.{Row}
-use Rattle.nt_line.specs.Rows.{command_args, command_row, command_verb, verb_field}
-use Rattle.nt_line.specs.Keywords.{text_of, verb_arity, keyword_of}
-use Rattle.nt_script.proofs.Again.{keyword_again}
-use Rattle.nt_script.proofs.Clean.{apc_field, command_clean, dpc_field, thread_field, timer_field}
+use Rattle.nt_line.specs.Rows.{command_args, command_row, command_verb}
+use Rattle.nt_line.specs.Keywords.{keyword_of, since, text_of, verb_arity}
+use Rattle.nt_script.proofs.Clean.{apc_field, command_clean, dpc_field, name_field, thread_field, timer_field}
 use Rattle.nt_script.proofs.Fit.{Fit}
 use Rattle.nt_line.proofs.Found.{are_read, is_new}
 use Rattle.nt_script.proofs.Soundness.{Counts, command_from, sound_fits}
-use Rattle.nt_line.proofs.Spelled.{AreRead, args_count, command_again, line_verb, word_of_line}
+use Rattle.nt_line.proofs.Spelled.{AreRead, args_count, command_again}
+use Rattle.nt_line.proofs.Words.{keyword_again}
 use Rattle.nt_log.proofs.OneRow.{decimal_one, hexadecimal_field, hexadecimal_one, parts_one, read_one, row_from, row_to}
 use Rattle.nt_print.specs.Conditions.{BegunInRange, EventIsPlain, IsWord, ReplyInRange, StatusInRange, WhatInRange}
 use Rattle.nt_event.specs.Fitting.{begun_fits, event_fits, key_fits, what_fits}
@@ -113,9 +114,19 @@ thread_one input k t u h g e = read_one (read_thread input.names) (show_thread i
 thread_clean : (input : Input) → Known input → (t : ThreadNo) → has_thread input.script t ≡ true → is_field (show_thread input.names t) ≡ true
 thread_clean input k t h = thread_field input.names k.fit.names t.0 (thread_at input k t h)
 
--- a script that has a text has no locks
-pub no_lock : (input : Input) → Known input → (l : LockNo) → has_lock input.script l ≡ true → ⊥
-no_lock input k l h = let lt = ltb-true l.0 input.script.locks h in let none = k.counts.locks in omega (arith, lt, none)
+pub lock_at : (input : Input) → Known input → (l : LockNo) → has_lock input.script l ≡ true → l.0 < length input.names.locks
+lock_at input k l h = below l.0 (length input.names.locks) input.script.locks k.counts.locks h
+
+lock_one : (input : Input) → Known input → (l m : LockNo) → has_lock input.script l ≡ true → has_lock input.script m ≡ true →
+    show_lock input.names l ≡ show_lock input.names m → l ≡ m
+lock_one input k l m h g e = read_one (read_lock input.names) (show_lock input.names l) (show_lock input.names m) l m
+    (k.are.locks l (lock_at input k l h)) (k.are.locks m (lock_at input k m g)) e
+
+pub lock_clean : (input : Input) → Known input → (l : LockNo) → has_lock input.script l ≡ true → is_field (show_lock input.names l) ≡ true
+lock_clean input k l h =
+    let names = input.names in
+    name_field (show_lock names l)
+    (is_new (((names.dpcs ++ names.timers) ++ names.threads) ++ names.apcs) names.locks l.0 k.fit.names.locks (lock_at input k l h)).0
 
 pub apc_at : (input : Input) → Known input → (a : ApcNo) → has_apc input.script a ≡ true → a.0 < length input.names.apcs
 apc_at input k a h = below a.0 (length input.names.apcs) (length input.script.apcs) k.counts.apcs h
@@ -192,8 +203,9 @@ reply_one Blocked Blocked h g e = refl
 reply_one (Refused a) (Refused b) h g e =
     let field : decimal (refusal_number a) ≡ decimal (refusal_number b) = cc in
     ap (λ (r : Refusal). Refused r) (refusal_one a b (decimal_one (refusal_number a) (refusal_number b) (refusal_small a) (refusal_small b) field))
-reply_one Spin q h g e = absurd h
-reply_one r Spin h g e = absurd g
+reply_one Spin Spin h g e = refl
+reply_one Spin (Status y) h g e = absurd cc
+reply_one (Status x) Spin h g e = absurd cc
 reply_one r q h g e = absurd (omega (arith, ap (λ (row : Row). initial row 1) e))
 
 reply_clean : (r : Reply) → ReplyInRange r → list_all is_field (replied r) ≡ true
@@ -202,7 +214,7 @@ reply_clean Yes h = refl
 reply_clean No h = refl
 reply_clean (Status x) h = rw (hexadecimal_field x h) refl
 reply_clean Blocked h = refl
-reply_clean Spin h = absurd h
+reply_clean Spin h = refl
 reply_clean (Refused r) h = rw (decimal_field (refusal_number r) (refusal_small r), refusal_clean r) refl
 
 -- ---- commands
@@ -212,7 +224,15 @@ pub command_plain : (input : Input) → Known input → (c : Command) → comman
 command_plain input k c h r = command_from input.script input.names k.counts c h r
 
 verb_one : (v u : Verb) → text_of (keyword.Call v) ≡ text_of (keyword.Call u) → v ≡ u
-verb_one v u e = let both : Some (keyword.Call v) ≡ Some (keyword.Call u) = sym (keyword_again (keyword.Call v)) ∙ ap keyword_of e ∙ keyword_again (keyword.Call u) in cc
+verb_one v u e =
+    let both : Some (keyword.Call v) ≡ Some (keyword.Call u) =
+    sym (keyword_again 2 (keyword.Call v) (since_two v)) ∙ ap (keyword_of 2) e ∙ keyword_again 2 (keyword.Call u) (since_two u) in
+    cc
+  where
+    since_two : (v : Verb) → since (keyword.Call v) ≤ 2
+    since_two verb.Acquire = omega arith
+    since_two verb.Unlock = omega arith
+    since_two v = omega arith
 
 -- a command and its reply
 called_one : (input : Input) → Known input → (c d : Command) (r q : Reply) → command_fits input.script c ≡ true → command_fits input.script d ≡ true →
@@ -223,15 +243,13 @@ called_one input k c d r q hc hd rc rd hr hq e =
     let cpus = input.script.cpus in
     let fits = command_plain input k c hc rc in
     let fits_too = command_plain input k d hd rd in
-    let head : verb_field (command_verb c) ≡ verb_field (command_verb d) = cc in
+    let head : text_of (keyword.Call (command_verb c)) ≡ text_of (keyword.Call (command_verb d)) = cc in
     let more : command_args names c ++ replied r ≡ command_args names d ++ replied q = cc in
-    let verb : line_verb c ≡ line_verb d = verb_one (line_verb c) (line_verb d)
-    (sym (word_of_line names cpus c fits) ∙ head ∙ word_of_line names cpus d fits_too) in
-    let long : length (command_args names c) ≡ length (command_args names d) =
-    args_count names cpus c fits ∙ ap verb_arity verb ∙ sym (args_count names cpus d fits_too) in
+    let verb : command_verb c ≡ command_verb d = verb_one (command_verb c) (command_verb d) head in
+    let long : length (command_args names c) ≡ length (command_args names d) = args_count names c ∙ ap verb_arity verb ∙ sym (args_count names d) in
     let parts = parts_one (command_args names c) (command_args names d) (replied r) (replied q) long more in
     let args : command_args names c ≡ command_args names d = parts.0 in
-    let again : command_of names cpus (line_verb c) (command_args names c) ≡ command_of names cpus (line_verb d) (command_args names d) = cc in
+    let again : command_of names cpus (command_verb c) (command_args names c) ≡ command_of names cpus (command_verb d) (command_args names d) = cc in
     let both = sym (command_again names cpus k.are k.fit.cpus.1 c fits) ∙ again ∙ command_again names cpus k.are k.fit.cpus.1 d fits_too in
     (ok_one both, reply_one r q hr hq parts.1)
   where
@@ -344,10 +362,10 @@ abbrev pub is_look : What → Bool
 is_look (Look rises) = true
 is_look _ = false
 
-pub what_one : (input : Input) → Known input → (w v : What) → what_fits input.script w ≡ true → what_fits input.script v ≡ true → WhatInRange w →
-    WhatInRange v → is_look w ≡ false → is_look v ≡ false → what_row input w ≡ what_row input v → w ≡ v
+pub what_one : (input : Input) → Known input → (ver : ℕ) (w v : What) → what_fits input.script w ≡ true → what_fits input.script v ≡ true →
+    WhatInRange ver w → WhatInRange ver v → is_look w ≡ false → is_look v ≡ false → what_row input w ≡ what_row input v → w ≡ v
 unfolding mark initial
-what_one input k (Call f c r) (Call g d q) hw hv ru rv l m e =
+what_one input k ver (Call f c r) (Call g d q) hw hv ru rv l m e =
     let field : decimal f ≡ decimal g = cc in
     let more : command_row input.names c ++ replied r ≡ command_row input.names d ++ replied q = cc in
     let frame : f ≡ g = word_one f g ru.0 rv.0 field in
@@ -355,74 +373,79 @@ what_one input k (Call f c r) (Call g d q) hw hv ru rv l m e =
     let command : c ≡ d = both.0 in
     let reply : r ≡ q = both.1 in
     cc
-what_one input k (Begin b n) (Begin c m) hw hv ru rv l j e =
+what_one input k ver (Begin b n) (Begin c m) hw hv ru rv l j e =
     let more : begun_row input b ++ used n ≡ begun_row input c ++ used m = cc in
     let parts = parts_one (begun_row input b) (begun_row input c) (used n) (used m) (begun_long input b ∙ sym (begun_long input c)) more in
     let same : b ≡ c = begun_same input k b c hw hv ru.0 rv.0 parts.0 in
     let from : n ≡ m = used_one n m ru.1 rv.1 parts.1 in
     cc
-what_one input k (Normal f) (Normal g) hw hv ru rv l m e = let field : decimal f ≡ decimal g = cc in ap (λ (n : ℕ). Normal n) (word_one f g ru rv field)
-what_one input k (End f) (End g) hw hv ru rv l m e = let field : decimal f ≡ decimal g = cc in ap (λ (n : ℕ). End n) (word_one f g ru rv field)
-what_one input k (Expire a n) (Expire b m) hw hv ru rv l j e =
+what_one input k ver (Normal f) (Normal g) hw hv ru rv l m e = let field : decimal f ≡ decimal g = cc in ap (λ (n : ℕ). Normal n) (word_one f g ru rv field)
+what_one input k ver (End f) (End g) hw hv ru rv l m e = let field : decimal f ≡ decimal g = cc in ap (λ (n : ℕ). End n) (word_one f g ru rv field)
+what_one input k ver (Expire a n) (Expire b m) hw hv ru rv l j e =
     let more : key_row input.names a ++ used n ≡ key_row input.names b ++ used m = cc in
     let parts = parts_one (key_row input.names a) (key_row input.names b) (used n) (used m) (key_long input.names a ∙ sym (key_long input.names b)) more in
     let same : a ≡ b = key_same input k a b hw hv parts.0 in
     let from : n ≡ m = used_one n m ru rv parts.1 in
     cc
-what_one input k (Fire d r) (Fire x q) hw hv ru rv l m e =
+what_one input k ver (Fire d r) (Fire x q) hw hv ru rv l m e =
     let field : show_dpc input.names d ≡ show_dpc input.names x = cc in
     let more : replied r ≡ replied q = cc in
     let same : d ≡ x = dpc_one input k d x hw hv field in
     let reply : r ≡ q = reply_one r q ru rv more in
     cc
-what_one input k (Clean c) (Clean d) hw hv ru rv l m e = let field : decimal c ≡ decimal d = cc in
+what_one input k ver (Clean c) (Clean d) hw hv ru rv l m e = let field : decimal c ≡ decimal d = cc in
     ap (λ (n : ℕ). Clean n) (decimal_one c d (omega (arith, ru)) (omega (arith, rv)) field)
-what_one input k (Switch t a) (Switch u b) hw hv ru rv l m e =
+what_one input k ver (Switch t a) (Switch u b) hw hv ru rv l m e =
     let field : show_thread input.names t ≡ show_thread input.names u = cc in
     let more : status_row a ≡ status_row b = cc in
     let same : t ≡ u = thread_one input k t u hw hv field in
     let status : a ≡ b = status_one a b ru rv more in
     cc
-what_one input k (Rewait f r) (Rewait g q) hw hv ru rv l m e =
+what_one input k ver (Rewait f r) (Rewait g q) hw hv ru rv l m e =
     let field : decimal f ≡ decimal g = cc in
     let more : replied r ≡ replied q = cc in
     let frame : f ≡ g = word_one f g ru.0 rv.0 field in
     let reply : r ≡ q = reply_one r q ru.1 rv.1 more in
     cc
-what_one input k (Flush a n) (Flush b m) hw hv ru rv l j e =
+what_one input k ver (Flush a n) (Flush b m) hw hv ru rv l j e =
     let field : show_apc input.names a ≡ show_apc input.names b = cc in
     let more : used n ≡ used m = cc in
     let same : a ≡ b = apc_one input k a b hw hv field in
     let from : n ≡ m = used_one n m ru rv more in
     cc
-what_one input k (Gone t) (Gone u) hw hv ru rv l m e = let field : show_thread input.names t ≡ show_thread input.names u = cc in
+what_one input k ver (Gone t) (Gone u) hw hv ru rv l m e = let field : show_thread input.names t ≡ show_thread input.names u = cc in
     ap (λ (t : ThreadNo). Gone t) (thread_one input k t u hw hv field)
-what_one input k Rest Rest hw hv ru rv l m e = refl
-what_one input k (Free f x) v hw hv ru rv l m e = absurd (no_lock input k x hw)
-what_one input k w (Free g y) hw hv ru rv l m e = absurd (no_lock input k y hv)
-what_one input k (Look a) v hw hv ru rv l m e = absurd cc
-what_one input k w (Look b) hw hv ru rv l m e = absurd cc
-what_one input k w v hw hv ru rv l m e = absurd (omega (arith, ap mark e))
+what_one input k ver Rest Rest hw hv ru rv l m e = refl
+what_one input k ver (Free f x) (Free g y) hw hv ru rv l m e =
+    let field : decimal f ≡ decimal g = cc in
+    let name : show_lock input.names x ≡ show_lock input.names y = cc in
+    let frame : f ≡ g = word_one f g ru rv field in
+    let same : x ≡ y = lock_one input k x y hw hv name in
+    cc
+what_one input k ver (Look a) v hw hv ru rv l m e = absurd cc
+what_one input k ver w (Look b) hw hv ru rv l m e = absurd cc
+what_one input k ver w v hw hv ru rv l m e = absurd (omega (arith, ap mark e))
 
-pub what_clean : (input : Input) → Known input → (w : What) → what_fits input.script w ≡ true → WhatInRange w → list_all is_field (what_row input w) ≡ true
-what_clean input k (Call f c r) h g = rw (word_field f g.0, called_clean input k c r h g.1 g.2) refl
-what_clean input k (Look rises) h g = refl
-what_clean input k (Begin b n) h g =
+pub what_clean : (input : Input) → Known input → (ver : ℕ) (w : What) → what_fits input.script w ≡ true → WhatInRange ver w →
+    list_all is_field (what_row input w) ≡ true
+what_clean input k ver (Call f c r) h g = rw (word_field f g.0, called_clean input k c r h g.1 g.2) refl
+what_clean input k ver (Look rises) h g = refl
+what_clean input k ver (Begin b n) h g =
     list_all-append is_field (begun_row input b) (used n)
     ∙ and_from (list_all is_field (begun_row input b)) (list_all is_field (used n)) (begun_clean input k b h g.0) (used_clean n g.1)
-what_clean input k (Normal f) h g = rw (word_field f g) refl
-what_clean input k (End f) h g = rw (word_field f g) refl
-what_clean input k (Expire a n) h g =
+what_clean input k ver (Normal f) h g = rw (word_field f g) refl
+what_clean input k ver (End f) h g = rw (word_field f g) refl
+what_clean input k ver (Expire a n) h g =
     list_all-append is_field (key_row input.names a) (used n)
     ∙ and_from (list_all is_field (key_row input.names a)) (list_all is_field (used n)) (key_clean input k a h) (used_clean n g)
-what_clean input k (Fire d r) h g = rw (dpc_clean input k d h, reply_clean r g) refl
-what_clean input k (Clean c) h g = rw (decimal_field c (omega (arith, g))) refl
-what_clean input k (Switch t a) h g = rw (thread_clean input k t h, status_clean a g) refl
-what_clean input k (Rewait f r) h g = rw (word_field f g.0, reply_clean r g.1) refl
-what_clean input k (Flush a n) h g = rw (apc_clean input k a h, word_field n g) refl
-what_clean input k (Gone t) h g = rw (thread_clean input k t h) refl
-what_clean input k (Free f l) h g = refl
-what_clean input k Rest h g = refl
+what_clean input k ver (Fire d r) h g = rw (dpc_clean input k d h, reply_clean r g) refl
+what_clean input k ver (Clean c) h g = rw (decimal_field c (omega (arith, g))) refl
+what_clean input k ver (Switch t a) h g = rw (thread_clean input k t h, status_clean a g) refl
+what_clean input k ver (Rewait f r) h g = rw (word_field f g.0, reply_clean r g.1) refl
+what_clean input k ver (Flush a n) h g = rw (apc_clean input k a h, word_field n g) refl
+what_clean input k ver (Gone t) h g = rw (thread_clean input k t h) refl
+what_clean input k ver (Free f l) h g = rw (word_field f g, lock_clean input k l h) refl
+what_clean input k ver Rest h g = refl
 
 -- ---- events
 
@@ -469,7 +492,7 @@ event_same e f c t l w =
     ap (λ (p : CpuNo). event p e.thread e.level e.what) c ∙ ap (λ (x : Option ThreadNo). event f.cpu x e.level e.what) t
     ∙ ap (λ (n : ℕ). event f.cpu f.thread n e.what) l ∙ ap (λ (v : What). event f.cpu f.thread f.level v) w
 
-pub event_one : (input : Input) → Known input → (n : ℕ) (e f : Event) → EventIsPlain input.script e → EventIsPlain input.script f → is_look e.what ≡ false →
+pub event_one : (input : Input) → Known input → (n : ℕ) (e f : Event) → EventIsPlain input e → EventIsPlain input f → is_look e.what ≡ false →
     is_look f.what ≡ false → event_row input n e ≡ event_row input n f → e ≡ f
 event_one input k n e f h g le lf r =
     let pe = event_parts input.script e h.0 in
@@ -482,9 +505,9 @@ event_one input k n e f h g le lf r =
     event_same e f (cpu_same e.cpu f.cpu (decimal_one e.cpu.0 f.cpu.0 (cpu_small input k e.cpu pe.cpu) (cpu_small input k f.cpu pf.cpu) number))
     (running_one input k e.thread f.thread pe.thread pf.thread running)
     (decimal_one e.level f.level (omega (arith, h.1.0)) (omega (arith, g.1.0)) level)
-    (what_one input k e.what f.what pe.what pf.what h.1.1 g.1.1 le lf what)
+    (what_one input k input.version e.what f.what pe.what pf.what h.1.1 g.1.1 le lf what)
 
-pub event_clean : (input : Input) → Known input → (n : ℕ) (e : Event) → n < 2 ^ 64 → EventIsPlain input.script e → IsRow (event_row input n e)
+pub event_clean : (input : Input) → Known input → (n : ℕ) (e : Event) → n < 2 ^ 64 → EventIsPlain input e → IsRow (event_row input n e)
 event_clean input k n e lt h =
     let p = event_parts input.script e h.0 in
     row_from (decimal n) (event_fields input e) (decimal_field n lt)
@@ -492,5 +515,5 @@ event_clean input k n e lt h =
       decimal_field e.cpu.0 (cpu_small input k e.cpu p.cpu),
       running_clean input k e.thread p.thread,
       decimal_field e.level (omega (arith, h.1.0)),
-      what_clean input k e.what p.what h.1.1,
+      what_clean input k input.version e.what p.what h.1.1,
     ) refl)

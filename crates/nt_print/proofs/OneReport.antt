@@ -1,10 +1,10 @@
 -- A text is the report of one history.
 use Rattle.std.proofs.Common.{◌≡◌, ◌∙◌, ℕ, zero, suc, ◌+◌, ◌^◌, ◌<◌, ◌≤◌, Bool, true, false, List, [], ◌∷◌, ◌++◌, length, get_or, map, reverse, Option, Some, None, refl, sym, ap, subst, append_assoc, append-nil, arith, rules}
-use Rattle.std.specs.Prelude.{IfSome, codes, decimal, filter, nat_le, ◌==◌, if◌then◌else◌}
+use Rattle.std.specs.Prelude.{IfSome, codes, decimal, filter, nat_le, ◌==◌, ◌||◌, if◌then◌else◌}
 use Rattle.std.specs.Char.{is_ascii_digit}
 use Rattle.std.specs.List.{AllByRecursion, list_all}
 use Rattle.std.specs.Str.{all_ascii_digits, bytes_eq}
-use Rattle.std.proofs.lemmas.Bool.{and_parts, false≢true, leb-true, ltb-true, ne_eqb}
+use Rattle.std.proofs.lemmas.Bool.{and_from, and_parts, leb-true, ltb-true}
 use Rattle.std.proofs.lemmas.Fmt.{decimal_nonempty, digits_decimal}
 use Rattle.std.proofs.lemmas.List.{length-map, length-reverse, reverse-append}
 use Rattle.std.proofs.lemmas.List.Elements.{filter-append}
@@ -12,8 +12,8 @@ use Rattle.std.proofs.lemmas.Slice.Eq.{bytes_eq-Decides}
 use Rattle.std.proofs.lemmas.Str.Parse.{IsNumeralModel, numerals_by_fold}
 use Rattle.nt_text.specs.Lines.{AllRows, IsRow, first, is_field}
 use Rattle.nt_text.proofs.Decimals.{decimal_field, read_on}
-use Rattle.nt_event.specs.declared.commands.Command.TheVariants.{InsertApc, Queue}
-use Rattle.nt_event.specs.declared.commands.Reply.TheVariants.{Yes}
+use Rattle.nt_event.specs.declared.commands.Command.TheVariants.{Acquire, InsertApc, Queue, Unlock}
+use Rattle.nt_event.specs.declared.commands.Reply.TheVariants.{Done, Spin as Spinning, Yes}
 use Rattle.nt_event.specs.declared.events.Event.{Event}
 use Rattle.nt_event.specs.declared.events.History.{History}
 use Rattle.nt_event.specs.declared.events.Turn.{Turn}
@@ -23,9 +23,13 @@ use Rattle.nt_event.specs.declared.events.What.TheVariants.{Call, Fire, Look, Sw
 use Rattle.nt_event.specs.declared.numbers.CpuNo.{CpuNo}
 use Rattle.nt_event.specs.declared.scripts.Script.{Script}
 use Rattle.nt_event.specs.Fate.{ApcThing, DpcThing, Inserted, Thing, fate_of, inserted_by, inserted_thing, inserts, still_waits, waiting_inserts}
+use Rattle.nt_event.specs.Locks.{lock_move}
+use Rattle.nt_event.specs.Numbers.{cpu, is_of}
+use Rattle.nt_event.specs.Own.{rested}
+use Rattle.nt_event.specs.Script.{has_lock}
 use Rattle.nt_event.specs.Step.{turn_at, turn_of}
 use Rattle.nt_script.specs.declared.walk.Input.{Input}
-use Rattle.nt_line.specs.NameLists.{NameLists}
+use Rattle.nt_line.specs.NameLists.{NameLists, show_lock}
 use Rattle.nt_script.specs.Sound.{IsSound}
 use Rattle.nt_script.proofs.Clean.{rows_both}
 use Rattle.nt_text.specs.Lines.{Row}
@@ -34,10 +38,12 @@ use Rattle.nt_log.specs.Schedules.{IsPlain as OfTurns, TurnIsPlain, limit_row, s
 use Rattle.nt_log.proofs.OneRow.{all_map, map_rows, row_from, rows_one, split_one}
 use Rattle.nt_log.proofs.OneSchedule.{schedule_clean, turns_one}
 use Rattle.nt_print.specs.Conditions.{EventIsPlain, IsPlain, IsReportOf, LookIsBare, WhatInRange}
-use Rattle.nt_event.specs.Fitting.{what_fits}
-use Rattle.nt_print.specs.Report.{cut_of, cut_row, cut_rows, event_row, event_rows, line_rows, made, report_rows, thing_row, wait_fields, wait_row, wait_rows}
+use Rattle.nt_print.specs.declared.spins.Spun.{Spun}
+use Rattle.nt_print.specs.Spins.{last_spin, spin_after}
+use Rattle.nt_event.specs.Fitting.{event_fits, events_fit, what_fits}
+use Rattle.nt_print.specs.Report.{cut_of, cut_row, cut_rows, event_row, event_rows, line_rows, made, report_rows, show_processor, spin_left, spin_of, spin_row, spin_rows, thing_row, used, wait_fields, wait_row, wait_rows}
 use Rattle.nt_print.specs.Uses.{thing_fits}
-use Rattle.nt_print.proofs.OneEvent.{Fits, Known, apc_clean, dpc_clean, event_clean, event_one, event_parts, event_same, is_look, known}
+use Rattle.nt_print.proofs.OneEvent.{Fits, Known, apc_clean, dpc_clean, event_clean, event_one, event_parts, event_same, is_look, known, lock_clean}
 
 -- ---- lines of events
 
@@ -68,8 +74,8 @@ bare_one e f (Look r) (Look q) i j l m h k t =
 bare_one e f (Look r) v i j l m h k t = absurd cc
 bare_one e f w v i j l m h k t = absurd cc
 
-events_one : (input : Input) → Known input → (n : ℕ) (es fs : List Event) → AllByRecursion (EventIsPlain input.script) es →
-    AllByRecursion (EventIsPlain input.script) fs → map turn_of es ≡ map turn_of fs → event_rows input n es ≡ event_rows input n fs → es ≡ fs
+events_one : (input : Input) → Known input → (n : ℕ) (es fs : List Event) → AllByRecursion (EventIsPlain input) es →
+    AllByRecursion (EventIsPlain input) fs → map turn_of es ≡ map turn_of fs → event_rows input n es ≡ event_rows input n fs → es ≡ fs
 events_one input k n [] [] h g t r = refl
 events_one input k n [] (f ∷ fs) h g t r = absurd cc
 events_one input k n (e ∷ es) [] h g t r = absurd cc
@@ -98,7 +104,7 @@ events_one input k n (e ∷ es) (f ∷ fs) h g t r =
     go true false i j t r more = let same = look_same e f t in absurd cc
     go false true i j t r more = let same = look_same e f t in absurd cc
 
-events_clean : (input : Input) → Known input → (n : ℕ) (es : List Event) → n + length es < 2 ^ 64 → AllByRecursion (EventIsPlain input.script) es →
+events_clean : (input : Input) → Known input → (n : ℕ) (es : List Event) → n + length es < 2 ^ 64 → AllByRecursion (EventIsPlain input) es →
     AllRows (event_rows input n es)
 events_clean input k n [] few h = tt
 events_clean input k n (e ∷ es) few h =
@@ -126,7 +132,7 @@ first_digit [] h l = absurd (omega (arith, l))
 first_digit (c ∷ cs) h l = (and_parts (is_ascii_digit c) (all_ascii_digits cs) h).0
 
 is_schedule : Row → Bool
-is_schedule row = initial row == 115
+is_schedule row = bytes_eq (first row) (codes "schedule")
 
 abbrev IsOther : Row → Type 0
 IsOther row = (is_numbered row ≡ false) × (is_schedule row ≡ false)
@@ -147,11 +153,17 @@ events_numbered input n (e ∷ es) few =
     go false h = (number_is_numbered input n e (omega (arith, few)), h)
 
 no_schedule : (row : Row) → is_numbered row ≡ true → is_schedule row ≡ false
-unfolding is_numbered is_schedule
-no_schedule row h =
-    let p = and_parts (nat_le 48 (initial row)) (nat_le (initial row) 57) h in
-    let most = leb-true (initial row) 57 p.1 in
-    ne_eqb (initial row) 115 (λ z. omega (arith, most))
+unfolding is_numbered is_schedule initial
+no_schedule row h = go (bytes_eq (first row) (codes "schedule")) refl
+  where
+    go : (b : Bool) → bytes_eq (first row) (codes "schedule") ≡ b → b ≡ false
+    go false e = refl
+    go true e =
+        let same : first row ≡ codes "schedule" = (bytes_eq-Decides (first row) (codes "schedule")).0 e in
+        let p = and_parts (nat_le 48 (get_or (first row) 0 0)) (nat_le (get_or (first row) 0 0) 57) h in
+        let most = leb-true (get_or (first row) 0 0) 57 p.1 in
+        let head : get_or (first row) 0 0 ≡ 115 = ap (λ (f : List ℕ). get_or f 0 0) same in
+        absurd (omega (arith, most, head))
 
 -- ---- lists
 
@@ -205,6 +217,88 @@ cuts_clean h p (suc n) few = rows_both (cut_of h p) (cut_rows h (p + 1) n) (go (
     go true = ((refl, (decimal_field p (omega (arith, few)), tt)), tt)
     go false = tt
 
+-- ---- lines of processors that spin
+
+spin_other : (names : NameLists) (p : ℕ) (x : Spun) → IsOther (spin_row names p x)
+unfolding is_numbered is_schedule initial
+spin_other names p x = (refl, refl)
+
+spins_other : (names : NameLists) (h : History) (p n : ℕ) → AllByRecursion IsOther (spin_rows names h p n)
+spins_other names h p zero = tt
+spins_other names h p (suc n) =
+    all_append IsOther (spin_of names p (spin_left h p)) (spin_rows names h (p + 1) n) (go (spin_left h p)) (spins_other names h (p + 1) n)
+  where
+    go : (o : Option Spun) → AllByRecursion IsOther (spin_of names p o)
+    go None = tt
+    go (Some x) = (spin_other names p x, tt)
+
+-- a spin of a history of so many events, for a lock of the script
+abbrev pub SpinIsPlain : Script → ℕ → Option Spun → Type 0
+SpinIsPlain s many o = IfSome o (λ x. (x.number < many) × (has_lock s x.lock ≡ true))
+
+spin_on : (s : Script) (n : ℕ) (o : Option Spun) → SpinIsPlain s n o → SpinIsPlain s (n + 1) o
+spin_on s n None k = tt
+spin_on s n (Some x) k = let lt = k.0 in (omega (arith, lt), k.1)
+
+spin_later : (s : Script) (n : ℕ) (w : What) (o : Option Spun) → what_fits s w ≡ true → SpinIsPlain s n o → SpinIsPlain s (n + 1) (spin_after n (lock_move w) o)
+spin_later s n (Call f (Acquire l) Spinning) o h k = (omega arith, h)
+spin_later s n (Call f (Acquire l) Done) o h k = spin_on s n o k
+spin_later s n (Call f (Unlock l) Done) o h k = spin_on s n o k
+spin_later s n w o h k = spin_on s n o k
+
+last_plain : (s : Script) (p : CpuNo) (past : List Event) → AllByRecursion (λ e. event_fits s e ≡ true) past → SpinIsPlain s (length past) (last_spin p past)
+last_plain s p [] h = tt
+last_plain s p (e ∷ past) h = go (is_of e p) (last_plain s p past h.1)
+  where
+    on : (o : Option Spun) → SpinIsPlain s (length past) o → SpinIsPlain s (suc (length past)) o
+    on None k = tt
+    on (Some x) k = let lt = k.0 in (omega (arith, lt), k.1)
+
+    go : (b : Bool) → SpinIsPlain s (length past) (last_spin p past) →
+        SpinIsPlain s (suc (length past)) (if b then spin_after (length past) (lock_move e.what) (last_spin p past) else last_spin p past)
+    go true k =
+        let next : length past + 1 ≡ suc (length past) = omega arith in
+        subst (λ (m : ℕ). SpinIsPlain s m (spin_after (length past) (lock_move e.what) (last_spin p past))) next
+        (spin_later s (length past) e.what (last_spin p past) (event_parts s e h.0).what k)
+    go false k = on (last_spin p past) k
+
+each_fits : (s : Script) (events : List Event) → events_fit s events ≡ true → AllByRecursion (λ e. event_fits s e ≡ true) events
+each_fits s [] h = tt
+each_fits s (e ∷ es) h =
+    let parts = and_parts (event_fits s e) (events_fit s es) h in
+    (parts.0, each_fits s es parts.1)
+
+-- the last spin of each processor is one of the history's events, for a lock of the script
+pub spin_plain : (s : Script) (p : CpuNo) (events : List Event) → events_fit s events ≡ true →
+    SpinIsPlain s (length events) (last_spin p (reverse events))
+spin_plain s p events h =
+    let long = length-reverse events in
+    subst (λ (m : ℕ). SpinIsPlain s m (last_spin p (reverse events))) long
+    (last_plain s p (reverse events) (all_reverse (λ e. event_fits s e ≡ true) events (each_fits s events h)))
+
+pub left_plain : (s : Script) (h : History) (p : ℕ) → events_fit s h.events ≡ true → SpinIsPlain s (length h.events) (spin_left h p)
+left_plain s h p k = go (made p h.events == h.turns || rested (cpu p) (reverse h.events))
+  where
+    go : (b : Bool) → SpinIsPlain s (length h.events) (if b then None else last_spin (cpu p) (reverse h.events))
+    go true = tt
+    go false = spin_plain s (cpu p) h.events k
+
+pub spin_clean : (input : Input) → Known input → (p : ℕ) (x : Spun) → p < 2 ^ 64 → x.number < 2 ^ 64 → has_lock input.script x.lock ≡ true →
+    IsRow (spin_row input.names p x)
+spin_clean input k p x few n h = row_from (codes "spins") (show_processor p ∷ show_lock input.names x.lock ∷ used x.number) refl
+    (rw (decimal_field p few, lock_clean input k x.lock h, decimal_field x.number n) refl)
+
+pub spins_clean : (input : Input) → Known input → (h : History) (p n : ℕ) → p + n < 2 ^ 64 → length h.events < 2 ^ 64 →
+    events_fit input.script h.events ≡ true → AllRows (spin_rows input.names h p n)
+spins_clean input k h p zero few many fit = tt
+spins_clean input k h p (suc n) few many fit =
+    rows_both (spin_of input.names p (spin_left h p)) (spin_rows input.names h (p + 1) n) (go (spin_left h p) (left_plain input.script h p fit))
+    (spins_clean input k h (p + 1) n (omega (arith, few)) many fit)
+  where
+    go : (o : Option Spun) → SpinIsPlain input.script (length h.events) o → AllRows (spin_of input.names p o)
+    go None q = tt
+    go (Some x) q = let lt = q.0 in (spin_clean input k p x (omega (arith, few)) (omega (arith, lt, many)) q.1, tt)
+
 -- ---- lines of inserts that wait
 
 wait_other : (names : NameLists) (i : Inserted) → IsOther (wait_row names i)
@@ -224,13 +318,16 @@ inserted_fits s (Call f (InsertApc a) Yes) h = h
 inserted_fits s (Fire d Yes) h = h
 inserted_fits s w h = tt
 
-pub inserts_plain : (s : Script) (past : List Event) → length past < 2 ^ 64 → AllByRecursion (EventIsPlain s) past →
-    AllByRecursion (WaitIsPlain s) (inserts past)
-inserts_plain s [] few h = tt
-inserts_plain s (e ∷ past) few h =
-    all_append (WaitIsPlain s) (inserts past) (inserted_by (length past) (inserted_thing e.what)) (inserts_plain s past (omega (arith, few)) h.1)
+pub inserts_plain : (input : Input) (past : List Event) → length past < 2 ^ 64 → AllByRecursion (EventIsPlain input) past →
+    AllByRecursion (WaitIsPlain input.script) (inserts past)
+inserts_plain input [] few h = tt
+inserts_plain input (e ∷ past) few h =
+    all_append (WaitIsPlain s) (inserts past) (inserted_by (length past) (inserted_thing e.what)) (inserts_plain input past (omega (arith, few)) h.1)
     (go (inserted_thing e.what) (inserted_fits s e.what (event_parts s e h.0.0).what))
   where
+    s : Script
+    s = input.script
+
     go : (o : Option Thing) → IfSome o (λ x. thing_fits s x ≡ true) → AllByRecursion (WaitIsPlain s) (inserted_by (length past) o)
     go None h = tt
     go (Some thing) h = ((omega (arith, few), h), tt)
@@ -242,15 +339,20 @@ wait_clean input k i h = row_from (codes "waits") (wait_fields input.names i) re
     go (DpcThing d) h = rw (dpc_clean input k d h) refl
     go (ApcThing a) h = rw (apc_clean input k a h) refl
 
-pub waits_clean : (input : Input) → Known input → (past : List Event) → length past < 2 ^ 64 → AllByRecursion (EventIsPlain input.script) past →
+pub waits_clean : (input : Input) → Known input → (past : List Event) → length past < 2 ^ 64 → AllByRecursion (EventIsPlain input) past →
     AllRows (wait_rows input.names past)
 waits_clean input k past few h =
     map_rows (WaitIsPlain input.script) (wait_row input.names) (wait_clean input k) (waiting_inserts past)
-    (all_filter (WaitIsPlain input.script) (λ x. still_waits (fate_of x.thing x.number past)) (inserts past) (inserts_plain input.script past few h))
+    (all_filter (WaitIsPlain input.script) (λ x. still_waits (fate_of x.thing x.number past)) (inserts past) (inserts_plain input past few h))
 
 -- ---- the schedule
 
-turn_plain : (input : Input) → Known input → (e : Event) → EventIsPlain input.script e → TurnIsPlain input.script (turn_of e)
+-- a plain history names things of the script
+pub plain_fits : (input : Input) (events : List Event) → AllByRecursion (EventIsPlain input) events → events_fit input.script events ≡ true
+plain_fits input [] h = refl
+plain_fits input (e ∷ es) h = and_from (event_fits input.script e) (events_fit input.script es) h.0.0 (plain_fits input es h.1)
+
+turn_plain : (input : Input) → Known input → (e : Event) → EventIsPlain input e → TurnIsPlain input (turn_of e)
 turn_plain input k e h = go e.what p.what h.1.1
   where
     p : Fits input.script e
@@ -259,46 +361,58 @@ turn_plain input k e h = go e.what p.what h.1.1
     few : e.cpu.0 ≤ 63
     few = let lt = ltb-true e.cpu.0 input.script.cpus p.cpu in let most = k.fit.cpus.1 in omega (arith, lt, most)
 
-    go : (w : What) → what_fits input.script w ≡ true → WhatInRange w → TurnIsPlain input.script (turn_at e.cpu w)
+    go : (w : What) → what_fits input.script w ≡ true → WhatInRange input.version w → TurnIsPlain input (turn_at e.cpu w)
     go (Look rises) f r = (few, r)
     go (Switch t status) f r = (few, ltb-true t.0 (length input.script.threads) f)
     go w f r = few
 
-pub schedule_plain : (input : Input) → Known input → (h : History) → IsPlain input.script h → OfTurns input.script (schedule_of h)
+pub schedule_plain : (input : Input) → Known input → (h : History) → IsPlain input h → OfTurns input (schedule_of h)
 schedule_plain input k h p = record {
-  turns = all_map (EventIsPlain input.script) (TurnIsPlain input.script) turn_of (turn_plain input k) h.events p.events;
+  turns = all_map (EventIsPlain input) (TurnIsPlain input) turn_of (turn_plain input k) h.events p.events;
   few = let few = p.few in omega (arith, few, length-map h.events turn_of);
   limit = p.limit;
 }
 
 -- ---- the whole
 
-regroup : {X : Type 0} (a b c d : List X) → a ++ (b ++ (c ++ d)) ≡ (a ++ (b ++ c)) ++ d
-regroup a b c d = ap (λ xs. a ++ xs) (sym (append_assoc b c d)) ∙ sym (append_assoc a (b ++ c) d)
+regroup : {X : Type 0} (a b c d e : List X) → a ++ (b ++ (c ++ (d ++ e))) ≡ (a ++ (b ++ (c ++ d))) ++ e
+regroup a b c d e =
+    ap (λ xs. a ++ (b ++ xs)) (sym (append_assoc c d e)) ∙ ap (λ xs. a ++ xs) (sym (append_assoc b (c ++ d) e))
+    ∙ sym (append_assoc a (b ++ (c ++ d)) e)
 
-pub report_clean : (input : Input) → IsSound input → (h : History) → IsPlain input.script h → AllRows (report_rows input h)
+pub report_clean : (input : Input) → IsSound input → (h : History) → IsPlain input h → AllRows (report_rows input h)
 report_clean input sound h p =
     let k = known input sound in
     let few = p.few in
     let cpus = k.fit.cpus.1 in (
       (refl, tt),
-      rows_both (event_rows input 0 h.events) (cut_rows h 0 input.script.cpus
-          ++ (wait_rows input.names (reverse h.events) ++ schedule_rows input.names (schedule_of h)))
+      rows_both (event_rows input 0 h.events) (cut_rows h 0 input.script.cpus ++ (spin_rows input.names h 0 input.script.cpus
+          ++ (wait_rows input.names (reverse h.events) ++ schedule_rows input.names (schedule_of h))))
           (events_clean input k 0 h.events (omega (arith, few)) p.events)
-          (rows_both (cut_rows h 0 input.script.cpus) (wait_rows input.names (reverse h.events) ++ schedule_rows input.names (schedule_of h))
+          (rows_both (cut_rows h 0 input.script.cpus)
+          (spin_rows input.names h 0 input.script.cpus ++ (wait_rows input.names (reverse h.events) ++ schedule_rows input.names (schedule_of h)))
           (cuts_clean h 0 input.script.cpus (omega (arith, cpus)))
+          (rows_both (spin_rows input.names h 0 input.script.cpus) (wait_rows input.names (reverse h.events) ++ schedule_rows input.names (schedule_of h))
+          (spins_clean input k h 0 input.script.cpus (omega (arith, cpus)) (omega (arith, few)) (plain_fits input h.events p.events))
           (rows_both (wait_rows input.names (reverse h.events)) (schedule_rows input.names (schedule_of h))
-          (waits_clean input k (reverse h.events) (omega (arith, few, length-reverse h.events)) (all_reverse (EventIsPlain input.script) h.events p.events))
-          (schedule_clean input sound (schedule_of h) (schedule_plain input k h p)))),
+          (waits_clean input k (reverse h.events) (omega (arith, few, length-reverse h.events)) (all_reverse (EventIsPlain input) h.events p.events))
+          (schedule_clean input sound (schedule_of h) (schedule_plain input k h p))))),
     )
+
+-- those behind the lines of events
+abbrev others : Input → History → List Row
+others input h = cut_rows h 0 input.script.cpus ++ (spin_rows input.names h 0 input.script.cpus ++ wait_rows input.names (reverse h.events))
 
 -- the lines before the schedule
 front : Input → History → List Row
-front input h = event_rows input 0 h.events ++ (cut_rows h 0 input.script.cpus ++ wait_rows input.names (reverse h.events))
+front input h = event_rows input 0 h.events ++ others input h
 
-others_other : (input : Input) (h : History) → AllByRecursion IsOther (cut_rows h 0 input.script.cpus ++ wait_rows input.names (reverse h.events))
-others_other input h = all_append IsOther (cut_rows h 0 input.script.cpus) (wait_rows input.names (reverse h.events)) (cuts_other h 0 input.script.cpus)
-    (waits_other input.names (waiting_inserts (reverse h.events)))
+others_other : (input : Input) (h : History) → AllByRecursion IsOther (others input h)
+others_other input h =
+    all_append IsOther (cut_rows h 0 input.script.cpus) (spin_rows input.names h 0 input.script.cpus ++ wait_rows input.names (reverse h.events))
+    (cuts_other h 0 input.script.cpus)
+    (all_append IsOther (spin_rows input.names h 0 input.script.cpus) (wait_rows input.names (reverse h.events))
+    (spins_other input.names h 0 input.script.cpus) (waits_other input.names (waiting_inserts (reverse h.events))))
 
 front_before : (input : Input) (h : History) → length h.events ≤ 160000 → AllByRecursion (λ z. is_schedule z ≡ false) (front input h)
 unfolding front
@@ -311,8 +425,8 @@ front_before input h few =
 front_events : (input : Input) (h : History) → length h.events ≤ 160000 → filter is_numbered (front input h) ≡ event_rows input 0 h.events
 unfolding front
 front_events input h few =
-    filter-append is_numbered (event_rows input 0 h.events) (cut_rows h 0 input.script.cpus ++ wait_rows input.names (reverse h.events))
-    ∙ ap (λ (a : List Row). a ++ filter is_numbered (cut_rows h 0 input.script.cpus ++ wait_rows input.names (reverse h.events)))
+    filter-append is_numbered (event_rows input 0 h.events) (others input h)
+    ∙ ap (λ (a : List Row). a ++ filter is_numbered (others input h))
     (filter_all is_numbered (event_rows input 0 h.events) (events_numbered input 0 h.events (omega (arith, few))))
     ∙ ap (λ (a : List Row). event_rows input 0 h.events ++ a)
     (filter_none is_numbered _ (all_to IsOther (λ z. is_numbered z ≡ false) (λ z o. o.0) _ (others_other input h)))
@@ -321,27 +435,17 @@ front_events input h few =
 report_front : (input : Input) (h : History) → report_rows input h ≡ (codes "report" ∷ []) ∷ (front input h ++ schedule_rows input.names (schedule_of h))
 unfolding front
 report_front input h = ap (λ (rows : List Row). (codes "report" ∷ []) ∷ rows)
-    (regroup (event_rows input 0 h.events) (cut_rows h 0 input.script.cpus) (wait_rows input.names (reverse h.events))
-    (schedule_rows input.names (schedule_of h)))
-
--- a row that begins with another byte begins with another word
-other_word : (z : Row) → is_schedule z ≡ false → bytes_eq (first z) (codes "schedule") ≡ false
-unfolding is_schedule initial
-other_word z h = go (bytes_eq (first z) (codes "schedule")) refl
-  where
-    go : (b : Bool) → bytes_eq (first z) (codes "schedule") ≡ b → b ≡ false
-    go false e = refl
-    go true e =
-        let same : first z ≡ codes "schedule" = (bytes_eq-Decides (first z) (codes "schedule")).0 e in
-        absurd (false≢true (sym h ∙ ap (λ (f : List ℕ). get_or f 0 0 == 115) same))
+    (regroup (event_rows input 0 h.events) (cut_rows h 0 input.script.cpus) (spin_rows input.names h 0 input.script.cpus)
+    (wait_rows input.names (reverse h.events)) (schedule_rows input.names (schedule_of h)))
 
 -- the lines of a report before its schedule, none of which begins with the word of a schedule
 pub before_schedule : (input : Input) (h : History) → length h.events ≤ 160000 → (rows : List Row) ×
     (report_rows input h ≡ rows ++ schedule_rows input.names (schedule_of h)) × AllByRecursion (λ z. bytes_eq (first z) (codes "schedule") ≡ false) rows
+unfolding is_schedule
 before_schedule input h few = (
   (codes "report" ∷ []) ∷ front input h,
   report_front input h,
-  (refl, all_to (λ z. is_schedule z ≡ false) (λ z. bytes_eq (first z) (codes "schedule") ≡ false) other_word (front input h) (front_before input h few)),
+  (refl, front_before input h few),
 )
 
 limit_is_schedule : (n : ℕ) → is_schedule (limit_row n) ≡ true
@@ -354,7 +458,7 @@ history n es = record { turns = n; events = es }
 history_same : (h g : History) → h.turns ≡ g.turns → h.events ≡ g.events → h ≡ g
 history_same h g turns events = ap (λ (n : ℕ). history n h.events) turns ∙ ap (λ (es : List Event). history g.turns es) events
 
-rows_same : (input : Input) → IsSound input → (h g : History) → IsPlain input.script h → IsPlain input.script g → report_rows input h ≡ report_rows input g → h
+rows_same : (input : Input) → IsSound input → (h g : History) → IsPlain input h → IsPlain input g → report_rows input h ≡ report_rows input g → h
     ≡ g
 rows_same input sound h g p q e =
     let k = known input sound in

@@ -8,6 +8,8 @@ use Rattle.std.proofs.lemmas.List.Sums.{count_by_more_no, count_by_more_yes}
 use Rattle.nt_event.specs.declared.events.Event.{Event}
 use Rattle.nt_event.specs.declared.events.What.{What}
 use Rattle.nt_event.specs.declared.scripts.Script.{Script}
+use Rattle.nt_event.specs.Locks.{lock_move}
+use Rattle.nt_event.specs.Own.{is_rest}
 use Rattle.nt_event.specs.Fate.{ApcThing, DpcThing, Inserted, Thing, fate_of, inserted_thing, still_waits}
 use Rattle.nt_print.specs.declared.tally.Tally.{Tally}
 use Rattle.nt_print.specs.Counts.{TellsMade}
@@ -16,6 +18,7 @@ use Rattle.nt_print.specs.Tally.{Counts, HasPlaces, Tallies, TalliesAll, TellsWa
 use Rattle.nt_print.specs.Uses.{inserted_at, is_it, named_by, names_it, removed_by, removes_it, same_thing, thing_fits, waits_at}
 use Rattle.nt_print.proofs.Counted.{count_step}
 use Rattle.nt_print.proofs.Fates.{one_later, waits_at_first}
+use Rattle.nt_print.proofs.Spinning.{length-noted_rest, length-noted_spin, spins_step}
 use Rattle.nt_print.proofs.Past.{inserted_read, past_length, past_more}
 
 and_true : (b : Bool) → (b && true) ≡ b
@@ -238,6 +241,8 @@ length-removed_apcs k (Some (ApcThing x)) numbers = length-set numbers x.0 k
 places_step : (s : Script) (events : List Event) (k : ℕ) (e : Event) (t : Tally) → HasPlaces s events t → HasPlaces s events (with_event events k e t)
 places_step s events k e t p = record {
   made = length-set t.made e.cpu.0 (get_or t.made e.cpu.0 0 + 1) ∙ p.made;
+  spins = length-noted_spin k e.cpu.0 (lock_move e.what) t.spins ∙ p.spins;
+  rested = length-noted_rest e.cpu.0 (get_or (set t.made e.cpu.0 (get_or t.made e.cpu.0 0 + 1)) e.cpu.0 0) (is_rest e.what) t.rested ∙ p.rested;
   unnamed = length-with_inserted k (inserted_thing e.what) (with_named events k (named_by e.what) t.unnamed)
       ∙ length-with_named events k (named_by e.what) t.unnamed ∙ p.unnamed;
   dpcs = length-removed_dpcs k (removed_by e.what) t.dpcs ∙ p.dpcs;
@@ -252,6 +257,7 @@ tally_step s events k e t lt is a = record {
   counts = counts_step events k e t lt is a.counts;
   waiting = waiting_step s events k e t lt is a;
   removals = λ thing. let within = removal_within events k e t thing (a.removals thing) in omega (arith, within);
+  spinning = spins_step events k e t lt is (a.places.rested ∙ sym a.places.made) a.spinning;
   places = places_step s events k e t a.places;
 }
 
@@ -281,6 +287,10 @@ pub none_waits : (s : Script) (events : List Event) (n : ℕ) (t : Tally) → n 
     None ≡ waits_at (reverse events) n (inserted_at events n)
 none_waits s events n t lt a fits h =
     sym (named_waits_not t n (inserted_at events n) h) ∙ waits_told s events n t (inserted_at events n) lt a refl fits
+
+-- the tally of all events is that of the same events
+pub all_tallied : (s : Script) (events all : List Event) (t : Tally) → TalliesAll s events t → events ≡ all → TalliesAll s all t
+all_tallied s events all t a is = subst (λ (es : List Event). TalliesAll s es t) is a
 
 -- the counts of the processors are those of all events
 pub all_made : (s : Script) (events all : List Event) (t : Tally) → TalliesAll s events t → events ≡ all → TellsMade all t.made

@@ -1,5 +1,5 @@
 pub mod Lent
-pub mod Written
+pub mod Spins
 pub mod Report
 pub mod Conditions
 pub mod Counts

@@ -1,6 +1,6 @@
--- The text of a report, as rows of fields: a line for each event but a look, then who was cut, what still waits, and
--- the schedule.
-use Rattle.std.specs.Prelude.{ℕ, zero, suc, ◌+◌, false, List, [], ◌∷◌, ◌++◌, count_by, map, reverse, Option, Some, None, codes, decimal, ◌==◌, if◌then◌else◌}
+-- The text of a report, as rows of fields: a line for each event but a look, then who was cut, who spins, what still
+-- waits, and the schedule.
+use Rattle.std.specs.Prelude.{ℕ, zero, suc, ◌+◌, false, List, [], ◌∷◌, ◌++◌, count_by, map, reverse, Option, Some, None, codes, decimal, ◌==◌, ◌||◌, if◌then◌else◌}
 use Rattle.std.specs.Fmt.{digits}
 use Rattle.std.specs.List.{slice_get}
 use Rattle.nt_text.specs.Lines.{rows_text}
@@ -20,12 +20,16 @@ use Rattle.nt_event.specs.declared.events.History.{History}
 use Rattle.nt_event.specs.declared.events.What.{What}
 use Rattle.nt_event.specs.declared.events.What.TheVariants.{Call, Look, Begin, Normal, End, Expire, Fire, Clean, Switch, Rewait, Flush, Gone, Free, Rest}
 use Rattle.nt_script.specs.declared.walk.Input.{Input}
-use Rattle.nt_line.specs.NameLists.{NameLists, show_dpc, show_timer, show_thread, show_apc}
+use Rattle.nt_line.specs.NameLists.{NameLists, show_dpc, show_timer, show_thread, show_apc, show_lock}
 use Rattle.nt_text.specs.Lines.{Row}
 use Rattle.nt_line.specs.Rows.{command_row}
 use Rattle.nt_line.specs.Fields.{dash}
+use Rattle.nt_event.specs.Numbers.{cpu}
+use Rattle.nt_event.specs.Own.{rested}
 use Rattle.nt_event.specs.Fate.{ApcThing, DpcThing, Inserted, Thing, waiting_inserts}
 use Rattle.nt_log.specs.Schedules.{schedule_of, schedule_rows}
+use Rattle.nt_print.specs.declared.spins.Spun.{Spun}
+use Rattle.nt_print.specs.Spins.{last_spin}
 
 -- ---- fields
 
@@ -40,7 +44,7 @@ show_running names (Some t) = show_thread names t
 abbrev pub hexadecimal : ℕ → List ℕ
 hexadecimal n = digits 16 false n
 
--- ---- what an event does; a text has no words for locks
+-- ---- what an event does
 
 abbrev pub reply_row : Reply → Row
 reply_row Done = codes "done" ∷ []
@@ -48,7 +52,7 @@ reply_row Yes = codes "yes" ∷ []
 reply_row No = codes "no" ∷ []
 reply_row (Status x) = codes "status" ∷ hexadecimal x ∷ []
 reply_row Blocked = codes "blocked" ∷ []
-reply_row Spin = []
+reply_row Spin = codes "spin" ∷ []
 reply_row (Refused r) = codes "refused" ∷ decimal (refusal_number r) ∷ refusal_name r ∷ []
 
 -- `->` and the reply
@@ -95,7 +99,7 @@ what_row input (Switch t status) = codes "switch" ∷ show_thread input.names t 
 what_row input (Rewait frame r) = codes "rewait" ∷ decimal frame ∷ replied r
 what_row input (Flush a from) = codes "flush" ∷ show_apc input.names a ∷ used from
 what_row input (Gone t) = codes "gone" ∷ show_thread input.names t ∷ []
-what_row input (Free frame l) = []
+what_row input (Free frame l) = codes "free" ∷ decimal frame ∷ show_lock input.names l ∷ []
 what_row input Rest = codes "rest" ∷ []
 
 -- what stands behind an event's number
@@ -146,6 +150,26 @@ abbrev pub cut_rows : History → ℕ → ℕ → List Row
 cut_rows h p zero = []
 cut_rows h p (suc n) = cut_of h p ++ cut_rows h (p + 1) n
 
+-- ---- who spins
+
+-- the processor's last call of `acquire` with reply spin, where it isn't cut and its last event isn't a Rest
+abbrev pub spin_left : History → ℕ → Option Spun
+spin_left h p = if made p h.events == h.turns || rested (cpu p) (reverse h.events) then None
+    else last_spin (cpu p) (reverse h.events)
+
+-- the line of such a call: the processor, the lock and the number of the call
+abbrev pub spin_row : NameLists → ℕ → Spun → Row
+spin_row names p x = codes "spins" ∷ show_processor p ∷ show_lock names x.lock ∷ used x.number
+
+abbrev pub spin_of : NameLists → ℕ → Option Spun → List Row
+spin_of names p None = []
+spin_of names p (Some x) = spin_row names p x ∷ []
+
+-- those lines of n processors, of which the first is this one
+abbrev pub spin_rows : NameLists → History → ℕ → ℕ → List Row
+spin_rows names h p zero = []
+spin_rows names h p (suc n) = spin_of names p (spin_left h p) ++ spin_rows names h (p + 1) n
+
 -- ---- what still waits
 
 abbrev pub thing_row : NameLists → Thing → Row
@@ -168,8 +192,8 @@ wait_rows names past = map (wait_row names) (waiting_inserts past)
 abbrev pub report_rows : Input → History → List Row
 report_rows input h =
     (codes "report" ∷ []) ∷ (event_rows input 0 h.events
-    ++ (cut_rows h 0 input.script.cpus
-    ++ (wait_rows input.names (reverse h.events) ++ schedule_rows input.names (schedule_of h))))
+    ++ (cut_rows h 0 input.script.cpus ++ (spin_rows input.names h 0 input.script.cpus
+    ++ (wait_rows input.names (reverse h.events) ++ schedule_rows input.names (schedule_of h)))))
 
 -- the one text of a history
 abbrev pub report_text : Input → History → List ℕ

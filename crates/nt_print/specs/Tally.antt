@@ -1,10 +1,15 @@
 -- The tally of the first events of a history, which is taken from the first event on.
-use Rattle.std.specs.Prelude.{◌≡◌, ℕ, ◌+◌, ◌<◌, ◌≤◌, ◌^◌, Bool, true, false, ◌&&◌, nat_le, nat_lt, List, get_or, length, reverse, slice_set, take, Option, Some, None, if◌then◌else◌}
+use Rattle.std.specs.Prelude.{◌≡◌, ℕ, ◌+◌, ◌<◌, ◌≤◌, ◌^◌, Bool, true, false, ◌&&◌, ◌==◌, nat_le, nat_lt, List, get_or, length, reverse, slice_set, take, Option, Some, None, if◌then◌else◌}
 use Rattle.nt_event.specs.declared.events.Event.{Event}
 use Rattle.nt_event.specs.declared.events.What.{What}
 use Rattle.nt_event.specs.declared.scripts.Script.{Script}
 use Rattle.nt_event.specs.Fate.{ApcThing, DpcThing, Inserted, Thing, fate_of, inserted_thing, still_waits}
+use Rattle.nt_event.specs.Locks.{Frees, Gets, LockMove, NoMove, Spins, lock_move}
+use Rattle.nt_event.specs.Numbers.{cpu}
+use Rattle.nt_event.specs.Own.{is_rest, rested}
+use Rattle.nt_print.specs.declared.spins.Spun.{Spun}
 use Rattle.nt_print.specs.declared.tally.Tally.{Tally}
+use Rattle.nt_print.specs.Spins.{last_spin}
 use Rattle.nt_print.specs.Counts.{TellsMade}
 use Rattle.nt_print.specs.Summary.{how_many, is_begin, is_call, is_refused_call}
 use Rattle.nt_print.specs.Uses.{inserted_at, is_it, named_by, removed_by, thing_fits}
@@ -44,12 +49,25 @@ removed_apcs k (Some (ApcThing x)) numbers = slice_set numbers x.0 k
 removed_apcs k (Some (DpcThing x)) numbers = numbers
 removed_apcs k None numbers = numbers
 
--- what the event of this number inserts, names and removes is noted
-abbrev pub with_use : List Event → ℕ → What → Tally → Tally
-with_use events k w t = record t {
+-- the last spins of the processors, where the event of this number, of this processor, moves a lock so
+abbrev pub noted_spin : ℕ → ℕ → LockMove → List (Option Spun) → List (Option Spun)
+noted_spin k p (Spins l) spins = slice_set spins p (Some (record { number = k; lock = l }))
+noted_spin k p (Gets l) spins = spins
+noted_spin k p (Frees l) spins = spins
+noted_spin k p NoMove spins = spins
+
+-- how many events the processors had made when they rested last, where the last of so many of this processor may be a
+-- Rest
+abbrev pub noted_rest : ℕ → ℕ → Bool → List ℕ → List ℕ
+noted_rest p made rest rested = if rest then slice_set rested p made else rested
+
+-- what the event of this number, of this processor, inserts, names, removes and tries for in vain is noted
+abbrev pub with_use : List Event → ℕ → ℕ → What → Tally → Tally
+with_use events k p w t = record t {
   unnamed = with_inserted k (inserted_thing w) (with_named events k (named_by w) t.unnamed);
   dpcs = removed_dpcs k (removed_by w) t.dpcs;
   apcs = removed_apcs k (removed_by w) t.apcs;
+  spins = noted_spin k p (lock_move w) t.spins;
 }
 
 -- a count with one more where this is so
@@ -57,18 +75,19 @@ abbrev pub counted_if : Bool → ℕ → ℕ
 counted_if true n = n + 1
 counted_if false n = n
 
--- the tally when an event of this number did this
-abbrev pub with_what : List Event → ℕ → What → Tally → Tally
-with_what events k w t = record (with_use events k w t) {
+-- the tally when an event of this number, of this processor, did this
+abbrev pub with_what : List Event → ℕ → ℕ → What → Tally → Tally
+with_what events k p w t = record (with_use events k p w t) {
   calls = counted_if (is_call w) t.calls;
   refused = counted_if (is_refused_call w) t.refused;
   begins = counted_if (is_begin w) t.begins;
+  rested = noted_rest p (get_or t.made p 0) (is_rest w) t.rested;
 }
 
 -- the tally with the event of this number
 abbrev pub with_event : List Event → ℕ → Event → Tally → Tally
 with_event events k e t =
-    with_what events k e.what (record t { made = slice_set t.made e.cpu.0 (get_or t.made e.cpu.0 0 + 1) })
+    with_what events k e.cpu.0 e.what (record t { made = slice_set t.made e.cpu.0 (get_or t.made e.cpu.0 0 + 1) })
 
 -- each count may rise by one
 pub record HasRoom (t : Tally) : Type 0 where
@@ -90,9 +109,21 @@ abbrev pub TellsWaiting : Script → List Event → ℕ → Tally → Type 0
 TellsWaiting s events k t = (n : ℕ) (thing : Thing) → n < k → inserted_at events n ≡ Some thing →
     thing_fits s thing ≡ true → waits_by t n thing ≡ still_waits (fate_of thing n (reverse (take k events)))
 
--- the tally has a flag for each event, and a number for each processor and each object of the script
+-- the last of these events that the processor made is a Rest: it made as many when it rested last as in all, and some
+abbrev pub rests_by : Tally → ℕ → Bool
+rests_by t p = nat_lt 0 (get_or t.rested p 0) && (get_or t.rested p 0 == get_or t.made p 0)
+
+-- of these events, the newest of which comes first, the last spins of the processors and which of them rested last
+pub record TellsSpins (past : List Event) (t : Tally) : Type 0 where
+  pub spins : (p : ℕ) → p < length t.spins → get_or t.spins p None ≡ last_spin (cpu p) past
+  pub rests : (p : ℕ) → p < length t.rested → rests_by t p ≡ rested (cpu p) past
+  pub before : (p : ℕ) → p < length t.rested → get_or t.rested p 0 ≤ get_or t.made p 0
+
+-- the tally has a flag for each event, and a place for each processor and each object of the script
 pub record HasPlaces (s : Script) (events : List Event) (t : Tally) : Type 0 where
   pub made : length t.made ≡ s.cpus
+  pub spins : length t.spins ≡ s.cpus
+  pub rested : length t.rested ≡ s.cpus
   pub unnamed : length t.unnamed ≡ length events
   pub dpcs : length t.dpcs ≡ length s.dpcs
   pub apcs : length t.apcs ≡ length s.apcs
@@ -102,6 +133,7 @@ pub record Tallies (s : Script) (events : List Event) (k : ℕ) (t : Tally) : Ty
   pub counts : Counts (take k events) t
   pub waiting : TellsWaiting s events k t
   pub removals : (thing : Thing) → last_removal t thing ≤ k
+  pub spinning : TellsSpins (reverse (take k events)) t
   pub places : HasPlaces s events t
 
 -- the tally of all the events

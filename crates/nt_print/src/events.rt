@@ -12,7 +12,6 @@ ghost use Rattle.nt_history.specs.Briefs.{event_of, no_rises, what_of};
 ghost use Rattle.nt_print.specs.Lent.{lent};
 ghost use Rattle.nt_print.specs.Report.{show_running, begun_row, key_row, status_row, kind_of, kind_word, what_row, event_fields, event_row, event_rows, line_rows};
 ghost use Rattle.nt_print.specs.Tally.{Tallies, TalliesAll};
-ghost use Rattle.nt_print.specs.Written.{replies_written, tells_written};
 
 use crate::fields::{put_processor, put_replied, put_status, put_used};
 use crate::tally::Tally;
@@ -111,7 +110,6 @@ fn put_called(out: &mut Vec<u8>, input: &Input, command: &Command) -> Result<(),
 fn put_what(out: &mut Vec<u8>, input: &Input, did: &Did) -> Result<(), AllocError>
     requires sound { IsSound input.now }
     requires fits { what_fits input.now.script (what_of no_rises did.now) ≡ true }
-    requires told { tells_written (what_of no_rises did.now) ≡ true }
     ensures { OnOk result (out.new.items ≡ out.old.items ++ spaced (what_row input.now (what_of no_rises did.now))) }
 {
     match did {
@@ -175,7 +173,11 @@ fn put_what(out: &mut Vec<u8>, input: &Input, did: &Did) -> Result<(), AllocErro
             out.extend_from_slice(b" gone")?;
             put_field(out, input.names.thread(*thread).as_bytes())
         }
-        Did::Free { .. } => unreachable!(),
+        Did::Free { frame, lock } => {
+            out.extend_from_slice(b" free")?;
+            put_number(out, *frame)?;
+            put_field(out, input.names.lock(*lock).as_bytes())
+        }
         Did::Rest => out.extend_from_slice(b" rest"),
     }
 }
@@ -184,7 +186,6 @@ fn put_what(out: &mut Vec<u8>, input: &Input, did: &Did) -> Result<(), AllocErro
 fn put_event_fields(out: &mut Vec<u8>, input: &Input, event: &Brief) -> Result<(), AllocError>
     requires sound { IsSound input.now }
     requires fits { event_fits input.now.script (event_of no_rises event.now) ≡ true }
-    requires told { tells_written (what_of no_rises event.now.did) ≡ true }
     ensures { OnOk result (out.new.items ≡ out.old.items ++ spaced (event_fields input.now (event_of no_rises event.now))) }
 {
     put_processor(out, u64::from(event.cpu.0))?;
@@ -196,7 +197,6 @@ fn put_event_fields(out: &mut Vec<u8>, input: &Input, event: &Brief) -> Result<(
 fn put_event(out: &mut Vec<u8>, input: &Input, number: u64, event: &Brief) -> Result<(), AllocError>
     requires sound { IsSound input.now }
     requires fits { event_fits input.now.script (event_of no_rises event.now) ≡ true }
-    requires told { tells_written (what_of no_rises event.now.did) ≡ true }
     ensures { OnOk result (out.new.items ≡ out.old.items ++ row_text (event_row input.now number (event_of no_rises event.now))) }
 {
     put_digits(out, number)?;
@@ -214,7 +214,6 @@ pub(crate) fn put_events(
 ) -> Result<(), AllocError>
     requires sound { IsSound input.now }
     requires fit { events_fit input.now.script (lent events.now) ≡ true }
-    requires told { replies_written (lent events.now) ≡ true }
     requires tally { Tallies input.now.script (lent events.now) 0 tally.old }
     ensures lines { OnOk result (out.new.items ≡ out.old.items ++ rows_text (event_rows input.now 0 (lent events.now))) }
     ensures tally { OnOk result (TalliesAll input.now.script (lent events.now) tally.new) }
@@ -230,7 +229,6 @@ pub(crate) fn put_events(
 fn put_line(out: &mut Vec<u8>, input: &Input, number: u64, event: &Brief) -> Result<(), AllocError>
     requires sound { IsSound input.now }
     requires fits { event_fits input.now.script (event_of no_rises event.now) ≡ true }
-    requires told { tells_written (what_of no_rises event.now.did) ≡ true }
     ensures { OnOk result (out.new.items ≡ out.old.items ++ rows_text (line_rows input.now number (event_of no_rises event.now) (what_of no_rises event.now.did))) }
 {
     match event.did {

@@ -1,8 +1,7 @@
 //! Fields of a line, each with a space before it.
-ghost use Rattle.std.specs.Prelude.{◌≡◌, ◌++◌, ◌∷◌, [], true, OnOk, decimal, codes};
+ghost use Rattle.std.specs.Prelude.{◌≡◌, ◌++◌, ◌∷◌, [], OnOk, decimal, codes};
 ghost use Rattle.nt_text.specs.Lines.{spaced};
 ghost use Rattle.nt_print.specs.Report.{show_processor, hexadecimal, replied, used};
-ghost use Rattle.nt_print.specs.Written.{is_written_reply};
 
 use nt_event::Reply;
 use nt_text::{put_digits, put_field, put_number};
@@ -35,9 +34,8 @@ pub(crate) fn put_status(out: &mut Vec<u8>, status: u32) -> Result<(), AllocErro
     put_hexadecimal(out, status)
 }
 
-/// Adds `->` and a reply that a text can tell.
+/// Adds `->` and a reply.
 pub(crate) fn put_replied(out: &mut Vec<u8>, reply: Reply) -> Result<(), AllocError>
-    requires { is_written_reply reply ≡ true }
     ensures { OnOk result (out.new.items ≡ out.old.items ++ spaced (replied reply)) }
 {
     match reply {
@@ -49,7 +47,7 @@ pub(crate) fn put_replied(out: &mut Vec<u8>, reply: Reply) -> Result<(), AllocEr
             put_hexadecimal(out, status)
         }
         Reply::Blocked => out.extend_from_slice(b" -> blocked"),
-        Reply::Spin => unreachable!(),
+        Reply::Spin => out.extend_from_slice(b" -> spin"),
         Reply::Refused(refusal) => {
             out.extend_from_slice(b" -> refused")?;
             put_number(out, u64::from(refusal.number()))?;

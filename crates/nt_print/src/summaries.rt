@@ -1,5 +1,5 @@
 //! The summary of a history.
-ghost use Rattle.std.specs.Prelude.{◌≡◌, ◌++◌, ◌≤◌, true, length, IfOk, OnOk};
+ghost use Rattle.std.specs.Prelude.{ℕ, ◌≡◌, ◌++◌, ◌≤◌, true, length, IfOk, OnOk};
 ghost use Rattle.nt_text.specs.Lines.{row_text};
 ghost use Rattle.nt_event.specs.Fitting.{events_fit};
 ghost use Rattle.nt_line.specs.NameLists.{NameLists};
@@ -56,7 +56,7 @@ fn put_count(out: &mut Vec<u8>, word: &[u8], count: usize) -> Result<(), AllocEr
 /// script. An error is want of memory. Profile.
 pub fn summary(alloc: Global, script: &Script, history: &History) -> Result<Vec<u8>, AllocError>
     requires fit { events_fit script.now history.now.events ≡ true }
-    ensures { IfOk result (λ text. (names : NameLists) → text.items ≡ summary_text (record { script = script.now; names = names }) history.now) }
+    ensures { IfOk result (λ text. (version : ℕ) (names : NameLists) → text.items ≡ summary_text (record { version = version; script = script.now; names = names }) history.now) }
 {
     let events = history.lend();
     let tally = tally_of(alloc, script, &events)?;

@@ -1,19 +1,20 @@
 //! What a report or a summary needs of the events of a history, noted event by event from the first on. So an insert waits as
 //! long as no Begin or Flush names it and no event behind it removes its object.
-ghost use Rattle.std.specs.Prelude.{◌≡◌, ◌+◌, ◌<◌, ◌≤◌, ℕ, List, IfOk, length, true};
-ghost use Rattle.nt_event.specs.declared.commands.Reply.TheVariants.{Yes};
+ghost use Rattle.std.specs.Prelude.{◌≡◌, ◌+◌, ◌<◌, ◌≤◌, ℕ, List, IfOk, get_or, length, true};
+ghost use Rattle.nt_event.specs.declared.commands.Reply.TheVariants.{Spin, Yes};
 ghost use Rattle.nt_event.specs.declared.events.Event.{Event};
 ghost use Rattle.nt_event.specs.declared.events.Rises.{Rises};
 ghost use Rattle.nt_event.specs.declared.events.What.TheVariants as what;
 ghost use Rattle.nt_event.specs.Fitting.{events_fit};
 ghost use Rattle.nt_history.specs.Briefs.{what_of};
 ghost use Rattle.nt_print.specs.Lent.{lent};
-ghost use Rattle.nt_print.specs.Tally.{HasRoom, Tallies, TalliesAll, with_named, last_removal, removed_apcs, removed_dpcs, waits_by, with_use, with_what};
+ghost use Rattle.nt_print.specs.Tally.{HasRoom, Tallies, TalliesAll, noted_rest, with_named, last_removal, removed_apcs, removed_dpcs, rests_by, waits_by, with_use, with_what};
 ghost use Rattle.nt_print.specs.Uses.{inserted_of, thing_of};
 
 use crate::flags::Flags;
 use crate::inserts::{Insert, Object, inserts};
 use crate::numbers::Numbers;
+use crate::spins::{Spins, Spun};
 use nt_event::{Begun, Command, Reply, Script};
 use nt_history::{Briefs, Did};
 use std::alloc::{AllocError, Global};
@@ -29,6 +30,10 @@ pub(crate) struct Tally {
     pub begins: usize,
     /// By processor, how many of them it made.
     pub made: Numbers,
+    /// By processor, how many of them it had made when it rested last, 0 where it never did.
+    pub rested: Numbers,
+    /// By processor, its last call of `acquire` with reply spin among them.
+    pub spins: Spins,
     /// By the number of an event, whether it is one of them and an insert that no Begin or Flush among them named.
     pub unnamed: Flags,
     /// By DPC object, the number of the last of them that removed it, 0 where none did. No insert comes before the event 0.
@@ -47,10 +52,20 @@ impl Tally {
             refused: 0,
             begins: 0,
             made: Numbers::new(alloc, script.cpus as usize)?,
+            rested: Numbers::new(alloc, script.cpus as usize)?,
+            spins: Spins::new(alloc, script.cpus as usize)?,
             unnamed: Flags::new(alloc, events.briefs.len())?,
             dpcs: Numbers::new(alloc, script.dpcs.len())?,
             apcs: Numbers::new(alloc, script.apcs.len())?,
         })
+    }
+
+    /// Whether the last of these events that the processor made is a Rest.
+    pub(crate) fn rests(&self, cpu: usize) -> bool
+        ensures { result ≡ rests_by self.now cpu }
+    {
+        let rested = self.rested.at(cpu);
+        0 < rested && rested == self.made.at(cpu)
     }
 
     /// The number of the last event that removed the object, 0 where none did.
@@ -95,7 +110,7 @@ impl Tally {
 
     /// Notes what a call with reply yes inserts or removes.
     fn note_done(&mut self, number: usize, command: &Command)
-        ensures { (events : List Event) (f : ℕ) → self.new ≡ with_use events number (what.Call f command.now Yes) self.old }
+        ensures { (events : List Event) (f p : ℕ) → self.new ≡ with_use events number p (what.Call f command.now Yes) self.old }
     {
         match command {
             Command::Queue(_) | Command::InsertApc(_) => self.unnamed.set(number),
@@ -126,16 +141,58 @@ impl Tally {
         }
     }
 
-    /// Tallies a call.
-    fn note_call(&mut self, number: usize, command: &Command, reply: &Reply)
+    /// Notes what the processor's call with reply spin tries for.
+    fn note_spin(&mut self, number: usize, cpu: usize, command: &Command)
+        ensures { (events : List Event) (f : ℕ) → self.new ≡ with_use events number cpu (what.Call f command.now Spin) self.old }
+    {
+        match command {
+            Command::Acquire(lock) => self.spins.set(
+                cpu,
+                Spun {
+                    number: number as u64,
+                    lock: *lock,
+                },
+            ),
+            Command::Raise(_)
+            | Command::Lower(_)
+            | Command::Queue(_)
+            | Command::Unqueue(_)
+            | Command::SetImportance(_, _)
+            | Command::SetTarget(_, _)
+            | Command::SetTimer(_, _, _)
+            | Command::CancelTimer(_)
+            | Command::InsertApc(_)
+            | Command::RemoveApc(_)
+            | Command::EnterCrit
+            | Command::EnterGuard
+            | Command::LeaveCrit
+            | Command::LeaveGuard
+            | Command::StartWait(_, _)
+            | Command::Delay(_, _, _)
+            | Command::Release(_)
+            | Command::Alert(_, _)
+            | Command::TestAlert(_)
+            | Command::Interrupt(_, _)
+            | Command::Clock(_)
+            | Command::ToUser
+            | Command::Yield
+            | Command::Unlock(_)
+            | Command::Note(_) => {}
+        }
+    }
+
+    /// Tallies a call of the processor.
+    #[inline(always)]
+    fn note_call(&mut self, number: usize, cpu: usize, command: &Command, reply: &Reply)
         requires room { HasRoom self.old }
-        ensures { (events : List Event) (f : ℕ) → self.new ≡ with_what events number (what.Call f command.now reply.now) self.old }
+        ensures { (events : List Event) (f : ℕ) → self.new ≡ with_what events number cpu (what.Call f command.now reply.now) self.old }
     {
         self.calls += 1;
         match reply {
             Reply::Refused(_) => self.refused += 1,
             Reply::Yes => self.note_done(number, command),
-            Reply::Done | Reply::No | Reply::Status(_) | Reply::Blocked | Reply::Spin => {}
+            Reply::Spin => self.note_spin(number, cpu, command),
+            Reply::Done | Reply::No | Reply::Status(_) | Reply::Blocked => {}
         }
     }
 
@@ -143,7 +200,7 @@ impl Tally {
     fn note_begin(&mut self, events: &Briefs, number: usize, begun: &Begun, from: u64)
         requires room { HasRoom self.old }
         requires number { number ≤ length events.now.briefs.now }
-        ensures { self.new ≡ with_what (lent events.now) number (what.Begin begun.now from) self.old }
+        ensures { (p : ℕ) → self.new ≡ with_what (lent events.now) number p (what.Begin begun.now from) self.old }
     {
         self.begins += 1;
         match begun {
@@ -167,15 +224,22 @@ impl Tally {
         }
     }
 
-    /// Tallies what the event of this number did.
+    /// Notes that the last of the events that the processor made is a Rest.
+    fn note_rest(&mut self, cpu: usize)
+        ensures { self.new ≡ record self.old { rested = noted_rest cpu (get_or self.old.made cpu 0) true self.old.rested } }
+    {
+        self.rested.set(cpu, self.made.at(cpu));
+    }
+
+    /// Tallies what the event of this number, one of the processor, did.
     #[inline(always)]
-    fn note_did(&mut self, events: &Briefs, number: usize, did: &Did)
+    fn note_did(&mut self, events: &Briefs, number: usize, cpu: usize, did: &Did)
         requires room { HasRoom self.old }
         requires number { number ≤ length events.now.briefs.now }
-        ensures { (r : Rises) → self.new ≡ with_what (lent events.now) number (what_of r did.now) self.old }
+        ensures { (r : Rises) → self.new ≡ with_what (lent events.now) number cpu (what_of r did.now) self.old }
     {
         match did {
-            Did::Call { command, reply, .. } => self.note_call(number, command, reply),
+            Did::Call { command, reply, .. } => self.note_call(number, cpu, command, reply),
             Did::Begin { begun, from } => self.note_begin(events, number, begun, *from),
             Did::Fire { reply, .. } => match reply {
                 Reply::Yes => self.unnamed.set(number),
@@ -194,6 +258,7 @@ impl Tally {
                     object: Object::Apc(*apc),
                 },
             ),
+            Did::Rest => self.note_rest(cpu),
             Did::Look { .. } => {}
             Did::Normal { .. }
             | Did::End { .. }
@@ -202,8 +267,7 @@ impl Tally {
             | Did::Switch { .. }
             | Did::Rewait { .. }
             | Did::Gone { .. }
-            | Did::Free { .. }
-            | Did::Rest => {}
+            | Did::Free { .. } => {}
         }
     }
 
@@ -216,8 +280,9 @@ impl Tally {
         ensures { Tallies script.now (lent events.now) (number + 1) self.new }
     {
         let event = &events.briefs[number];
-        self.made.count(event.cpu.0 as usize);
-        self.note_did(events, number, &event.did);
+        let cpu = event.cpu.0 as usize;
+        self.made.count(cpu);
+        self.note_did(events, number, cpu, &event.did);
     }
 }
 

@@ -35,9 +35,13 @@ at_limit n limit h = go (n == limit) (nat_le limit n) refl refl
     go false true i j = absurd (grind (arith, nat_tests))
     go false false i j = refl
 
+-- in a run, a processor made as many events as the limit exactly where it is cut
+pub made_is_cut : (s : Script) (h : History) (p : ℕ) → IsRun s h.turns (reverse h.events) → (printed_made p h.events == h.turns)
+    ≡ is_cut h.turns (own_of s (cpu p) (reverse h.events))
+made_is_cut s h p r =
+    let most : made (cpu p) (reverse h.events) ≤ h.turns = made_limit s h.turns (cpu p) (reverse h.events) r in
+    ap (λ (n : ℕ). n == h.turns) (counts_are_made p h.events) ∙ at_limit (made (cpu p) (reverse h.events)) h.turns most
+
 pub cut_lines_name_the_cut : (s : Script) (h : History) (p : ℕ) → IsRun s h.turns (reverse h.events) → cut_of h p
     ≡ (if is_cut h.turns (own_of s (cpu p) (reverse h.events)) then cut_row p ∷ [] else [])
-cut_lines_name_the_cut s h p r =
-    let most : made (cpu p) (reverse h.events) ≤ h.turns = made_limit s h.turns (cpu p) (reverse h.events) r in
-    ap (λ (n : ℕ). if n == h.turns then cut_row p ∷ [] else []) (counts_are_made p h.events)
-    ∙ ap (λ (b : Bool). if b then cut_row p ∷ [] else []) (at_limit (made (cpu p) (reverse h.events)) h.turns most)
+cut_lines_name_the_cut s h p r = ap (λ (b : Bool). if b then cut_row p ∷ [] else []) (made_is_cut s h p r)

@@ -6,7 +6,7 @@ use Rattle.std.specs.List.{AllByRecursion, list_all, list_any}
 use Rattle.std.specs.Prelude.{Bool, IfSome, List, None, Option, Some, [], false, length, nat_le, nat_lt, refl, true, ℕ, ◌<◌, ◌==◌, ◌||◌, ◌∷◌, ◌≡◌, ◌≤◌}
 use Rattle.nt_event.specs.declared.limits.TheConstants.{EVENTS}
 use Rattle.nt_event.specs.declared.commands.Reply.{Reply}
-use Rattle.nt_event.specs.declared.commands.Reply.TheVariants.{Refused, Spin, Status}
+use Rattle.nt_event.specs.declared.commands.Reply.TheVariants.{Status}
 use Rattle.nt_event.specs.declared.events.Begun.{Begun}
 use Rattle.nt_event.specs.declared.events.Begun.TheVariants.{Int}
 use Rattle.nt_event.specs.declared.events.Event.{Event}
@@ -14,7 +14,6 @@ use Rattle.nt_event.specs.declared.events.What.{What}
 use Rattle.nt_event.specs.declared.events.What.TheVariants.{Begin, Call, Clean, End, Expire, Fire, Flush, Free, Gone, Look, Normal, Rest, Rewait, Switch}
 use Rattle.nt_event.specs.declared.scripts.Script.{Script}
 use Rattle.nt_event.specs.Classes.{interrupt_classes}
-use Rattle.nt_event.specs.Fitting.{what_fits}
 use Rattle.nt_event.specs.Own.{own_of}
 use Rattle.nt_event.specs.Replies.{alerted, kernel_apc, satisfied, user_apc}
 use Rattle.nt_event.specs.Script.{fits}
@@ -25,8 +24,8 @@ use Rattle.nt_runs.proofs.Steps.{Gives, look_gives}
 use Rattle.nt_laws.specs.Named.{AllFit, EventFits, earlier, keeps_to_classes, values_fit}
 use Rattle.nt_laws.proofs.Named.EventsFit.{events_of_a_run_fit}
 use Rattle.nt_laws.proofs.Named.RunFits.{event_named}
+use Rattle.nt_script.specs.declared.walk.Input.{Input}
 use Rattle.nt_print.specs.Conditions.{BegunInRange, EventIsPlain, IsWord, LookIsBare, ReplyInRange, StatusInRange, WhatInRange}
-use Rattle.nt_print.specs.Written.{is_written_reply, tells_written}
 use Rattle.nt_ranges.specs.Looks.{LookIsWhole}
 use Rattle.nt_ranges.specs.Statuses.{IsWaitStatus, ReplyIsOfWait, TellsWaitStatus}
 use Rattle.nt_ranges.proofs.Called.{CommandsHaveRange, called_has_range}
@@ -34,7 +33,7 @@ use Rattle.nt_ranges.proofs.Levels.{AllKeepLevels, KeepsLevels, level_low}
 use Rattle.nt_ranges.proofs.Lists.{all_then}
 use Rattle.nt_ranges.proofs.Looks.{rises_below, some_rises}
 use Rattle.nt_ranges.proofs.Statuses.{statuses_are_those_of_waits}
-use Rattle.nt_ranges.proofs.Unlocked.{HasNoLocks, event_told, no_lock, no_move, rises_written}
+use Rattle.nt_ranges.proofs.NamedClasses.{MayNameLocks, rises_written}
 
 -- ---- levels
 
@@ -59,16 +58,12 @@ begun_low (Int level) from h = one_below level interrupt_classes refl h
 begun_low b from h = tt
 
 -- each event leaves levels in range
-pub keep_levels : (s : Script) (limit : ℕ) (past : List Event) → CommandsHaveRange s → HasNoLocks s → AllFit s past → IsRun s limit past → AllKeepLevels past
-keep_levels s limit [] h none f r = tt
-keep_levels s limit (e ∷ past) h none f r = (go e.what refl, keep_levels s limit past h none f.1 r.1)
+pub keep_levels : (s : Script) (limit : ℕ) (past : List Event) → CommandsHaveRange s → AllFit s past → IsRun s limit past → AllKeepLevels past
+keep_levels s limit [] h f r = tt
+keep_levels s limit (e ∷ past) h f r = (go e.what refl, keep_levels s limit past h f.1 r.1)
   where
     go : (w : What) → e.what ≡ w → KeepsLevels w
-    go (Call n c y) k = (
-      called_has_range s limit e past n c y h r k,
-      no_move s none c y (subst (λ (w : What). what_fits s w ≡ true) k f.0.what),
-    )
-    go (Free n l) k = absurd (no_lock s none l (subst (λ (w : What). what_fits s w ≡ true) k f.0.what))
+    go (Call n c y) k = called_has_range s limit e past n c y h r k
     go (Begin b from) k = begun_low b from (subst (λ (w : What). keeps_to_classes w ≡ true) k f.0.classes)
     go w k = tt
 
@@ -97,11 +92,9 @@ status_word x h = go (x == satisfied) (x == user_apc) (x == kernel_apc) (x == al
         no : false ≡ true → ⊥
         no e = cc
 
-reply_in_range : (y : Reply) → ReplyIsOfWait y → is_written_reply y ≡ true → ReplyInRange y
-reply_in_range (Status x) h told = status_word x h
-reply_in_range (Refused r) h told = told
-reply_in_range Spin h told = absurd cc
-reply_in_range y h told = tt
+reply_in_range : (y : Reply) → ReplyIsOfWait y → ReplyInRange y
+reply_in_range (Status x) h = status_word x h
+reply_in_range y h = tt
 
 status_in_range : (o : Option ℕ) → IfSome o IsWaitStatus → StatusInRange o
 status_in_range None h = tt
@@ -109,9 +102,9 @@ status_in_range (Some x) h = status_word x h
 
 -- ---- what an event does
 
-what_in_range : (s : Script) (limit : ℕ) (e : Event) (past : List Event) → fits s ≡ true → HasNoLocks s → AllFit s (e ∷ past) → KeepsLevels e.what →
-    length past ≤ EVENTS → LookIsWhole e.what → IsRun s limit (e ∷ past) → (w : What) → e.what ≡ w → WhatInRange w
-what_in_range s limit e past fit none all low few whole r w eq = go w eq
+what_in_range : (version : ℕ) (s : Script) (limit : ℕ) (e : Event) (past : List Event) → MayNameLocks version s → AllFit s (e ∷ past) → KeepsLevels e.what →
+    length past ≤ EVENTS → LookIsWhole e.what → IsRun s limit (e ∷ past) → (w : What) → e.what ≡ w → WhatInRange version w
+what_in_range version s limit e past may all low few whole r w eq = go w eq
   where
     f : EventFits s (length past) e
     f = all.0
@@ -126,17 +119,14 @@ what_in_range s limit e past fit none all low few whole r w eq = go w eq
     tells : (w : What) → e.what ≡ w → TellsWaitStatus w
     tells w k = subst TellsWaitStatus k (statuses_are_those_of_waits s limit e past r)
 
-    told : (w : What) → e.what ≡ w → tells_written w ≡ true
-    told w k = subst (λ (v : What). tells_written v ≡ true) k (event_told s limit e past fit none r f.what)
-
     kept : (w : What) → e.what ≡ w → KeepsLevels w
     kept w k = subst KeepsLevels k low
 
-    go : (w : What) → e.what ≡ w → WhatInRange w
+    go : (w : What) → e.what ≡ w → WhatInRange version w
     go (Call n c y) k = (
       word (Call n c y) n k refl,
-      (kept (Call n c y) k).0,
-      reply_in_range y (tells (Call n c y) k) (told (Call n c y) k),
+      kept (Call n c y) k,
+      reply_in_range y (tells (Call n c y) k),
     )
     go (Look x) k =
         let turn : Gives (step s limit (turn_at e.cpu (Look x)) past) e = subst (λ (v : What). Gives (step s limit (turn_at e.cpu v) past) e) k r.0 in
@@ -147,7 +137,7 @@ what_in_range s limit e past fit none all low few whole r w eq = go w eq
         record {
           classes = subst LookIsWhole k whole;
           some = some_rises x.value ∙ parts.0;
-          used = rises_written s none e.cpu 0 x.value (own_of s e.cpu past) past all.1 rise;
+          used = rises_written version s may e.cpu 0 x.value (own_of s e.cpu past) past all.1 rise;
           range = all_then (λ v. v ≤ length past) (λ v. v ≤ 18446744073709551615) (λ v h. omega (arith, h, few)) x.value
               (rises_below s e.cpu 0 x.value (own_of s e.cpu past) past rise);
         }
@@ -155,33 +145,37 @@ what_in_range s limit e past fit none all low few whole r w eq = go w eq
     go (Normal n) k = word (Normal n) n k refl
     go (End n) k = word (End n) n k refl
     go (Expire key from) k = word (Expire key from) from k refl
-    go (Fire d y) k = reply_in_range y (tells (Fire d y) k) (told (Fire d y) k)
+    go (Fire d y) k = reply_in_range y (tells (Fire d y) k)
     go (Clean c) k =
         let few : nat_le c 2 ≡ true = subst (λ (w : What). keeps_to_classes w ≡ true) k f.classes in grind (arith, nat_tests)
     go (Switch t status) k = status_in_range status (tells (Switch t status) k)
-    go (Rewait n y) k = (word (Rewait n y) n k refl, reply_in_range y (tells (Rewait n y) k) (told (Rewait n y) k))
+    go (Rewait n y) k = (word (Rewait n y) n k refl, reply_in_range y (tells (Rewait n y) k))
     go (Flush a from) k = word (Flush a from) from k refl
     go (Gone t) k = tt
-    go (Free n l) k = absurd (no_lock s none l (subst (λ (w : What). what_fits s w ≡ true) k f.what))
+    go (Free n l) k = word (Free n l) n k refl
     go Rest k = tt
 
 look_is_bare : (e : Event) (w : What) → (is_look w ≡ true → (e.thread ≡ None) × (e.level ≡ 0)) → LookIsBare e w
 look_is_bare e (Look x) h = h refl
 look_is_bare e w h = tt
 
-all_plain : (s : Script) (limit : ℕ) (past : List Event) → fits s ≡ true → HasNoLocks s → AllFit s past → AllKeepLevels past → length past ≤ EVENTS →
-    AllByRecursion (λ e. LookIsWhole e.what) past → IsRun s limit past → AllByRecursion (EventIsPlain s) past
-all_plain s limit [] fit none f k few whole r = tt
-all_plain s limit (e ∷ past) fit none f k few whole r =
+all_plain : (input : Input) (limit : ℕ) (past : List Event) → MayNameLocks input.version input.script → AllFit input.script past →
+    AllKeepLevels past → length past ≤ EVENTS → AllByRecursion (λ e. LookIsWhole e.what) past → IsRun input.script limit past →
+    AllByRecursion (EventIsPlain input) past
+all_plain input limit [] may f k few whole r = tt
+all_plain input limit (e ∷ past) may f k few whole r =
+    let s = input.script in
     let fewer : length past ≤ EVENTS = omega (arith, few) in
-    let range = what_in_range s limit e past fit none f k.0 fewer whole.0 r e.what refl in (
+    let range = what_in_range input.version s limit e past may f k.0 fewer whole.0 r e.what refl in (
       (event_named s (length past) e f.0, (event_low s limit e past f.0 k r, range, look_is_bare e e.what f.0.look)),
-      all_plain s limit past fit none f.1 k.1 fewer whole.1 r.1,
+      all_plain input limit past may f.1 k.1 fewer whole.1 r.1,
     )
 
--- the events of a run are plain, where its script fits and has no locks, its commands are in range, its looks are whole and it has not too many events
-pub events_are_plain : (s : Script) (limit : ℕ) (past : List Event) → fits s ≡ true → HasNoLocks s → CommandsHaveRange s → length past ≤ EVENTS →
-    AllByRecursion (λ e. LookIsWhole e.what) past → IsRun s limit past → AllByRecursion (EventIsPlain s) past
-events_are_plain s limit past f none c few whole r =
-    let all : AllFit s past = events_of_a_run_fit s limit past f r in
-    all_plain s limit past f none all (keep_levels s limit past c none all r) few whole r
+-- the events of a run are plain, where its script fits and has locks in version 2 alone, its commands are in range, its looks are whole and it
+-- has not too many events
+pub events_are_plain : (input : Input) (limit : ℕ) (past : List Event) → fits input.script ≡ true → MayNameLocks input.version input.script →
+    CommandsHaveRange input.script → length past ≤ EVENTS → AllByRecursion (λ e. LookIsWhole e.what) past → IsRun input.script limit past →
+    AllByRecursion (EventIsPlain input) past
+events_are_plain input limit past f may c few whole r =
+    let all : AllFit input.script past = events_of_a_run_fit input.script limit past f r in
+    all_plain input limit past may all (keep_levels input.script limit past c all r) few whole r

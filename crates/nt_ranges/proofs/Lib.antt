@@ -4,9 +4,10 @@ pub mod Levels
 pub mod Looks
 pub mod Called
 pub mod Asked
-pub mod Unlocked
+pub mod NamedClasses
 pub mod Events
 pub mod Reports
 pub mod Whole
 pub mod Cuts
+pub mod Spinners
 pub mod Programs

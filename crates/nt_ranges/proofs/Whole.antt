@@ -20,6 +20,7 @@ use Rattle.nt_event.specs.Robin.{IsRobin, first_cpu, go_on_turn, is_behind, look
 use Rattle.nt_event.specs.Step.{is_cut, turn_at, turn_of, turns}
 use Rattle.nt_event.proofs.Options.{Holds, holds_at, holds_or, holds_when}
 use Rattle.nt_event.proofs.Tables.{length-table_from}
+use Rattle.nt_script.specs.declared.walk.Input.{Input}
 use Rattle.nt_log.specs.Schedules.{TurnIsPlain}
 use Rattle.nt_ranges.specs.Looks.{LookIsWhole, LooksAreWhole}
 use Rattle.nt_ranges.proofs.Lists.{all_reversed}
@@ -77,15 +78,15 @@ a_robin_run_looks_whole s limit past h =
 
 -- ---- plain turns
 
-plain_whole : (s : Script) (t : Turn) → TurnIsPlain s t → TurnIsWhole t
-plain_whole s (LookTurn p rises) h = h.1.classes
-plain_whole s (Next p) h = tt
-plain_whole s (SwitchTurn p t) h = tt
+plain_whole : (input : Input) (t : Turn) → TurnIsPlain input t → TurnIsWhole t
+plain_whole input (LookTurn p rises) h = h.1.classes
+plain_whole input (Next p) h = tt
+plain_whole input (SwitchTurn p t) h = tt
 
-pub turns_whole : (s : Script) (events : List Event) → AllByRecursion (TurnIsPlain s) (map turn_of events) → LooksAreWhole events
-turns_whole s [] h = tt
-turns_whole s (e ∷ es) h = (look_whole e.cpu e.what (plain_whole s (turn_of e) h.0), turns_whole s es h.1)
+pub turns_whole : (input : Input) (events : List Event) → AllByRecursion (TurnIsPlain input) (map turn_of events) → LooksAreWhole events
+turns_whole input [] h = tt
+turns_whole input (e ∷ es) h = (look_whole e.cpu e.what (plain_whole input (turn_of e) h.0), turns_whole input es h.1)
 
-pub a_replay_looks_whole : (s : Script) (past : List Event) (list : List Turn) → turns past ≡ list → AllByRecursion (TurnIsPlain s) list →
+pub a_replay_looks_whole : (input : Input) (past : List Event) (list : List Turn) → turns past ≡ list → AllByRecursion (TurnIsPlain input) list →
     LooksAreWhole (reverse past)
-a_replay_looks_whole s past list e h = turns_whole s (reverse past) (subst (AllByRecursion (TurnIsPlain s)) (sym e) h)
+a_replay_looks_whole input past list e h = turns_whole input (reverse past) (subst (AllByRecursion (TurnIsPlain input)) (sym e) h)

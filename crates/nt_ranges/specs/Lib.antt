@@ -2,3 +2,4 @@ pub mod Looks
 pub mod Statuses
 pub mod Plain
 pub mod Cuts
+pub mod Spinners

@@ -9,6 +9,7 @@ use Rattle.nt_event.specs.declared.scripts.Script.{Script}
 use Rattle.nt_event.specs.Classes.{class_count}
 use Rattle.nt_event.specs.Robin.{IsRobin}
 use Rattle.nt_event.specs.Step.{turns}
+use Rattle.nt_script.specs.declared.walk.Input.{Input}
 use Rattle.nt_log.specs.Schedules.{TurnIsPlain}
 
 -- a look has a value for each class
@@ -38,5 +39,5 @@ ARobinRunLooksWhole = (s : Script) (limit : ℕ) (past : List Event) → IsRobin
 
 -- so are those of a run whose turns are plain, as those of a schedule that was read
 abbrev pub AReplayLooksWhole : Type 0
-AReplayLooksWhole = (s : Script) (past : List Event) (list : List Turn) → turns past ≡ list →
-    AllByRecursion (TurnIsPlain s) list → LooksAreWhole (reverse past)
+AReplayLooksWhole = (input : Input) (past : List Event) (list : List Turn) → turns past ≡ list →
+    AllByRecursion (TurnIsPlain input) list → LooksAreWhole (reverse past)

@@ -1,39 +1,30 @@
 -- The history of a run and its schedule are plain.
-use Rattle.std.specs.Prelude.{reverse, true, ◌<◌, ◌≡◌, ◌≤◌}
+use Rattle.std.specs.Prelude.{reverse, ◌<◌, ◌≡◌, ◌≤◌}
 use Rattle.std.specs.List.{AllByRecursion}
-use Rattle.nt_event.specs.declared.limits.TheConstants.{TURNS}
 use Rattle.nt_event.specs.declared.events.History.{History}
-use Rattle.nt_event.specs.declared.scripts.Script.{Script}
 use Rattle.nt_event.specs.Robin.{IsRobin}
-use Rattle.nt_event.specs.Script.{fits}
 use Rattle.nt_event.specs.Step.{IsRun, cpu_at}
 use Rattle.nt_script.specs.declared.walk.Input.{Input}
 use Rattle.nt_script.specs.Sound.{IsSound}
-use Rattle.nt_log.specs.Schedules.{schedule_of, IsPlain as ScheduleIsPlain}
+use Rattle.nt_log.specs.Schedules.{schedule_of, turn_bound, IsPlain as ScheduleIsPlain}
 use Rattle.nt_print.specs.Conditions.{IsPlain as HistoryIsPlain}
 use Rattle.nt_print.specs.Report.{report_text}
-use Rattle.nt_print.specs.Written.{replies_written}
 use Rattle.nt_ranges.specs.Looks.{LooksAreWhole}
 
 -- the history is a run of the script of a sound input, whose turn limit is in its range and whose looks are whole
 pub record IsRunOf (input : Input) (h : History) : Type 0 where
   pub sound : IsSound input
-  pub limit : (1 ≤ h.turns) × (h.turns ≤ TURNS)
+  pub limit : (1 ≤ h.turns) × (h.turns ≤ turn_bound input.script.cpus)
   pub run : IsRun input.script h.turns (reverse h.events)
   pub looks : LooksAreWhole h.events
 
 -- such a history may have a report
 abbrev pub ARunHasAReport : Type 0
-ARunHasAReport = (input : Input) (h : History) → IsRunOf input h → HistoryIsPlain input.script h
-
--- a run of a script that fits and has no locks replies nothing of locks: a text can tell each of its replies
-abbrev pub ItsRepliesAreWritten : Type 0
-ItsRepliesAreWritten = (s : Script) (h : History) → fits s ≡ true → s.locks ≡ 0 → IsRun s h.turns (reverse h.events) →
-    replies_written h.events ≡ true
+ARunHasAReport = (input : Input) (h : History) → IsRunOf input h → HistoryIsPlain input h
 
 -- its schedule may have a text
 abbrev pub ItsScheduleIsPlain : Type 0
-ItsScheduleIsPlain = (input : Input) (h : History) → IsRunOf input h → ScheduleIsPlain input.script (schedule_of h)
+ItsScheduleIsPlain = (input : Input) (h : History) → IsRunOf input h → ScheduleIsPlain input (schedule_of h)
 
 -- and each of its turns is one of a processor of the script
 abbrev pub ItsTurnsAreOfProcessors : Type 0
@@ -42,13 +33,14 @@ ItsTurnsAreOfProcessors = (input : Input) (h : History) → IsRunOf input h →
 
 -- the history of a robin run whose turn limit is in its range is such a run
 abbrev pub ARobinRunIsOne : Type 0
-ARobinRunIsOne = (input : Input) (h : History) → IsSound input → (1 ≤ h.turns) × (h.turns ≤ TURNS) →
-    IsRun input.script h.turns (reverse h.events) → IsRobin input.script h.turns (reverse h.events) → IsRunOf input h
+ARobinRunIsOne = (input : Input) (h : History) → IsSound input →
+    (1 ≤ h.turns) × (h.turns ≤ turn_bound input.script.cpus) → IsRun input.script h.turns (reverse h.events) →
+    IsRobin input.script h.turns (reverse h.events) → IsRunOf input h
 
 -- so is that of a replay: of a run whose schedule is plain
 abbrev pub AReplayIsOne : Type 0
 AReplayIsOne = (input : Input) (h : History) → IsSound input → IsRun input.script h.turns (reverse h.events) →
-    ScheduleIsPlain input.script (schedule_of h) → IsRunOf input h
+    ScheduleIsPlain input (schedule_of h) → IsRunOf input h
 
 -- and of two such runs of one input that have the same report, each is the other
 abbrev pub OneReportOneHistory : Type 0

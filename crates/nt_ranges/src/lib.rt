@@ -8,18 +8,14 @@
 
 ghost use Rattle.nt_ranges.specs.Cuts.{CountsAreMade, CutLinesNameTheCut};
 ghost use Rattle.nt_ranges.specs.Looks.{AReplayLooksWhole, ARobinRunLooksWhole};
-ghost use Rattle.nt_ranges.specs.Plain.{AReplayIsOne, ARobinRunIsOne, ARunHasAReport, ItsRepliesAreWritten, ItsScheduleIsPlain, ItsTurnsAreOfProcessors, OneReportOneHistory};
+ghost use Rattle.nt_ranges.specs.Plain.{AReplayIsOne, ARobinRunIsOne, ARunHasAReport, ItsScheduleIsPlain, ItsTurnsAreOfProcessors, OneReportOneHistory};
+ghost use Rattle.nt_ranges.specs.Spinners.{SpinsLinesNameTheLocks, SpinsLinesNameTheSpinners};
 ghost use Rattle.nt_ranges.specs.Statuses.{StatusesAreThoseOfWaits};
 
 /// A run has a report: its history names things of the script, its numbers are in the ranges of their fields, and it has not too
 /// many events.
 pub fn a_run_has_a_report()
     ensures { ARunHasAReport }
-{}
-
-/// A text can tell each reply of a run of a script without locks: none is of locks.
-pub fn its_replies_are_written()
-    ensures { ItsRepliesAreWritten }
 {}
 
 /// Its schedule has a text, and each turn is one of a processor of the script.
@@ -49,6 +45,13 @@ pub fn a_replay_looks_whole()
 pub fn a_report_names_the_cut()
     ensures counts { CountsAreMade }
     ensures lines { CutLinesNameTheCut }
+{}
+
+/// A report names the processors that spin: in a settled run it has a line `spins` for a processor exactly where the processor
+/// isn't cut and spins still, and the lock that the line names is the one on which it spins.
+pub fn a_report_names_the_spinners()
+    ensures processors { SpinsLinesNameTheSpinners }
+    ensures locks { SpinsLinesNameTheLocks }
 {}
 
 /// What the program makes is such a run: the history of a robin run whose turn limit is in its range, and that of a replay, a run

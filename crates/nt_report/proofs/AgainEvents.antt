@@ -1,6 +1,6 @@
 -- The line of an event is read as the event.
 use Rattle.std.proofs.Common.{◌≡◌, ◌∙◌, ℕ, zero, suc, ◌<◌, Bool, true, false, List, [], ◌∷◌, ◌++◌, length, Option, Some, None, Result, Ok, refl, sym, ap, arith, lit<}
-use Rattle.std.specs.Prelude.{decimal}
+use Rattle.std.specs.Prelude.{decimal, ◌≤◌}
 use Rattle.std.specs.Fmt.{digits}
 use Rattle.std.specs.List.{slice_get}
 use Rattle.std.specs.Str.{bytes_eq}
@@ -23,29 +23,29 @@ use Rattle.nt_event.specs.declared.events.Begun.TheVariants as of_begun
 use Rattle.nt_event.specs.declared.events.Event.{Event}
 use Rattle.nt_event.specs.declared.events.What.{What}
 use Rattle.nt_event.specs.declared.events.What.TheVariants.{Begin, Call, Clean, End, Expire, Fire, Flush, Free, Gone, Look, Normal, Rest, Rewait, Switch}
+use Rattle.nt_event.specs.declared.numbers.LockNo.{LockNo}
 use Rattle.nt_event.specs.declared.numbers.ThreadNo.{ThreadNo}
 use Rattle.nt_event.specs.declared.scripts.ApcDecl.{ApcDecl}
 use Rattle.nt_event.specs.Fitting.{begun_fits, key_fits, what_fits}
 use Rattle.nt_event.specs.Numbered.{refusal_name, refusal_number}
-use Rattle.nt_event.specs.Script.{command_fits, has_thread, where_given}
+use Rattle.nt_event.specs.Script.{command_fits, has_lock, has_thread, where_given}
 use Rattle.nt_line.specs.declared.keywords.Verb.{Verb}
 use Rattle.nt_line.specs.declared.keywords.Verb.TheVariants as verb
 use Rattle.nt_line.specs.declared.keywords.Keyword.TheVariants as keyword
-use Rattle.nt_line.specs.NameLists.{NameLists, show_thread}
+use Rattle.nt_line.specs.NameLists.{NameLists, show_lock, show_thread}
 use Rattle.nt_line.specs.Commands.{behind, command_of, read1, read2, read3}
-use Rattle.nt_line.specs.Fields.{dash, read_alertable, read_apc, read_cpu, read_dpc, read_importance, read_interrupt, read_level, read_mode, read_number, read_target, read_thread, read_timer}
+use Rattle.nt_line.specs.Fields.{dash, read_alertable, read_apc, read_cpu, read_dpc, read_importance, read_interrupt, read_level, read_lock, read_mode, read_number, read_target, read_thread, read_timer}
 use Rattle.nt_line.specs.Fits.{HasRange}
-use Rattle.nt_line.specs.Keywords.{text_of, verb_arity}
-use Rattle.nt_line.specs.Rows.{command_args, command_row, command_verb, verb_field}
+use Rattle.nt_line.specs.Keywords.{since, text_of, verb_arity}
+use Rattle.nt_line.specs.Rows.{command_args, command_row, command_verb}
 use Rattle.nt_line.proofs.FieldTexts.{cpu_again, number_again, unless_again}
 use Rattle.nt_line.proofs.Found.{is_new}
-use Rattle.nt_line.proofs.Spelled.{args_count, command_again, line_verb, word_of_line}
+use Rattle.nt_line.proofs.Spelled.{args_count, command_again}
+use Rattle.nt_line.proofs.Words.{command_since, keyword_again}
 use Rattle.nt_script.specs.declared.walk.Input.{Input}
-use Rattle.nt_script.proofs.Again.{keyword_again}
 use Rattle.nt_print.specs.Conditions.{BegunInRange, EventIsPlain, IsWord, ReplyInRange, StatusInRange, WhatInRange}
-use Rattle.nt_print.specs.Written.{is_written_refusal}
 use Rattle.nt_print.specs.Report.{begun_row, event_fields, key_row, kind_word, replied as reply_fields, show_processor, show_running, status_row, used as used_fields, what_row}
-use Rattle.nt_print.proofs.OneEvent.{Known, apc_at, command_plain, dpc_at, event_parts, is_look, no_dash, no_lock, thread_at, timer_at}
+use Rattle.nt_print.proofs.OneEvent.{Known, apc_at, command_plain, dpc_at, event_parts, is_look, lock_at, no_dash, thread_at, timer_at}
 use Rattle.nt_report.specs.declared.events.EventLine.{EventLine}
 use Rattle.nt_report.specs.declared.words.BegunWord.{BegunWord}
 use Rattle.nt_report.specs.declared.words.BegunWord.TheVariants as of_begin
@@ -82,6 +82,7 @@ event_word_again word.Switch = refl
 event_word_again word.Rewait = refl
 event_word_again word.Flush = refl
 event_word_again word.Gone = refl
+event_word_again word.Free = refl
 event_word_again word.Rest = refl
 
 begun_word_again : (w : BegunWord) → read_begun_word (begun_text w) ≡ Ok w
@@ -101,19 +102,19 @@ kind_again kind.User = refl
 
 -- ---- replies
 
-refusal_again : (r : Refusal) → is_written_refusal r ≡ true → read_refusal (decimal (refusal_number r)) ≡ Ok r
+refusal_again : (r : Refusal) → read_refusal (decimal (refusal_number r)) ≡ Ok r
 unfolding refusal_of digits
-refusal_again NotThread h = refl
-refusal_again NotBase h = refl
-refusal_again TooHigh h = refl
-refusal_again RegionsOpen h = refl
-refusal_again NotGreater h = refl
-refusal_again NotLess h = refl
-refusal_again BelowBase h = refl
-refusal_again NotEntered h = refl
-refusal_again LockHeld h = absurd cc
-refusal_again HeldHere h = absurd cc
-refusal_again NotLast h = absurd cc
+refusal_again NotThread = refl
+refusal_again NotBase = refl
+refusal_again TooHigh = refl
+refusal_again RegionsOpen = refl
+refusal_again NotGreater = refl
+refusal_again NotLess = refl
+refusal_again BelowBase = refl
+refusal_again NotEntered = refl
+refusal_again LockHeld = refl
+refusal_again HeldHere = refl
+refusal_again NotLast = refl
 
 name_again : (f : List ℕ) (more : Row) → behind_word f (f ∷ more) ≡ Ok more
 name_again f more = rw ((bytes_eq-Decides f f).1 refl) refl
@@ -125,8 +126,8 @@ replied_again Yes h more = refl
 replied_again No h more = refl
 replied_again (Status x) h more = rw (hexadecimal_again x h) refl
 replied_again Blocked h more = refl
-replied_again Spin h more = absurd h
-replied_again (Refused r) h more = rw (refusal_again r h, name_again (refusal_name r) more) refl
+replied_again Spin h more = refl
+replied_again (Refused r) h more = rw (refusal_again r, name_again (refusal_name r) more) refl
 
 pub status_again : (s : Option ℕ) → StatusInRange s → status (status_row s) ≡ Ok (s, [])
 status_again None h = refl
@@ -180,6 +181,8 @@ command_more names cpus verb.Interrupt args more e = more2 (read_cpu cpus) read_
 command_more names cpus verb.Clock args more e = more1 (read_number 4294967295) _ args more e
 command_more names cpus verb.ToUser args more e = refl
 command_more names cpus verb.Yield args more e = refl
+command_more names cpus verb.Acquire args more e = more1 (read_lock names) _ args more e
+command_more names cpus verb.Unlock args more e = more1 (read_lock names) _ args more e
 command_more names cpus verb.Note args more e = more1 (read_number 4294967295) _ args more e
 
 behind_more : (n : ℕ) (args more : Row) → length args ≡ n → behind n (args ++ more) ≡ more
@@ -188,24 +191,25 @@ behind_more zero (a ∷ args) more e = absurd (omega (arith, e))
 behind_more (suc n) [] more e = absurd (omega (arith, e))
 behind_more (suc n) (a ∷ args) more e = behind_more n args more (omega (arith, e))
 
-verb_again : (v : Verb) → read_verb (text_of (keyword.Call v)) ≡ Ok v
-verb_again v = rw (keyword_again (keyword.Call v)) refl
+verb_again : (version : ℕ) (v : Verb) → since (keyword.Call v) ≤ version → read_verb version (text_of (keyword.Call v)) ≡ Ok v
+verb_again version v le = rw (keyword_again version (keyword.Call v) le) refl
 
 called_again : (input : Input) → Known input → (c : Command) → command_fits input.script c ≡ true → HasRange c → (more : Row) →
-    command input.names input.script.cpus (command_row input.names c ++ more) ≡ Ok (c, more)
+    command input (command_row input.names c ++ more) ≡ Ok (c, more)
 called_again input k c h r more =
     let names = input.names in
     let cpus = input.script.cpus in
     let args = command_args names c in
     let fits = command_plain input k c h r in
-    let count : length args ≡ verb_arity (line_verb c) = args_count names cpus c fits in
-    let again : command_of names cpus (line_verb c) (args ++ more) ≡ Ok c =
-    command_more names cpus (line_verb c) args more count ∙ command_again names cpus k.are k.fit.cpus.1 c fits in
-    ap (λ (f : List ℕ). command names cpus (f ∷ (args ++ more))) (word_of_line names cpus c fits)
-    ∙ go (line_verb c) (args ++ more) (verb_again (line_verb c)) again (behind_more (verb_arity (line_verb c)) args more count)
+    let verb = command_verb c in
+    let count : length args ≡ verb_arity verb = args_count names c in
+    let again : command_of names cpus verb (args ++ more) ≡ Ok c =
+    command_more names cpus verb args more count ∙ command_again names cpus k.are k.fit.cpus.1 c fits in
+    let known : since (keyword.Call verb) ≤ input.version = command_since names cpus input.version k.fit.words c fits in
+    go verb (args ++ more) (verb_again input.version verb known) again (behind_more (verb_arity verb) args more count)
   where
-    go : (v : Verb) (args : Row) → read_verb (text_of (keyword.Call v)) ≡ Ok v → command_of input.names input.script.cpus v args ≡ Ok c →
-        behind (verb_arity v) args ≡ more → command input.names input.script.cpus (text_of (keyword.Call v) ∷ args) ≡ Ok (c, more)
+    go : (v : Verb) (args : Row) → read_verb input.version (text_of (keyword.Call v)) ≡ Ok v → command_of input.names input.script.cpus v args ≡ Ok c →
+        behind (verb_arity v) args ≡ more → command input (text_of (keyword.Call v) ∷ args) ≡ Ok (c, more)
     go v args e f g = rw (e, f, g) refl
 
 -- ---- what is begun, and what expires
@@ -230,6 +234,9 @@ key_again : (input : Input) → Known input → (t : TimerKey) → key_fits inpu
 key_again input k (key.Timer t) h more = rw (k.are.timers t (timer_at input k t h)) refl
 key_again input k (key.Delay t) h more = rw (k.are.threads t (thread_at input k t h)) refl
 
+pub lock_again : (input : Input) → Known input → (l : LockNo) → has_lock input.script l ≡ true → read_lock input.names (show_lock input.names l) ≡ Ok l
+lock_again input k l h = k.are.locks l (lock_at input k l h)
+
 -- ---- what an event did
 
 used_last : (n : ℕ) → IsWord n → used (used_fields n) ≡ Ok (n, [])
@@ -241,27 +248,27 @@ replied_last Yes h = replied_again Yes h []
 replied_last No h = replied_again No h []
 replied_last (Status x) h = replied_again (Status x) h []
 replied_last Blocked h = replied_again Blocked h []
-replied_last Spin h = absurd h
+replied_last Spin h = replied_again Spin h []
 replied_last (Refused r) h = replied_again (Refused r) h []
 
-what_again : (input : Input) → Known input → (w : What) → what_fits input.script w ≡ true → WhatInRange w → is_look w ≡ false →
-    what input.names input.script.cpus (what_row input w) ≡ Ok (w, [])
-what_again input k (Look rises) h r l = absurd cc
-what_again input k (Call f c y) h r l =
+what_again : (input : Input) → Known input → (ver : ℕ) (w : What) → what_fits input.script w ≡ true → WhatInRange ver w → is_look w ≡ false →
+    what input (what_row input w) ≡ Ok (w, [])
+what_again input k ver (Look rises) h r l = absurd cc
+what_again input k ver (Call f c y) h r l =
     rw (event_word_again word.Call, event_again f r.0, called_again input k c h r.1 (reply_fields y), replied_last y r.2) refl
-what_again input k (Begin b from) h r l =
+what_again input k ver (Begin b from) h r l =
     rw (event_word_again word.Begin, begun_again input k b h r.0 (used_fields from), used_last from r.1) refl
-what_again input k (Normal f) h r l = rw (event_word_again word.Normal, event_again f r) refl
-what_again input k (End f) h r l = rw (event_word_again word.End, event_again f r) refl
-what_again input k (Expire t from) h r l = rw (event_word_again word.Expire, key_again input k t h (used_fields from), used_last from r) refl
-what_again input k (Fire d y) h r l = rw (event_word_again word.Fire, k.are.dpcs d (dpc_at input k d h), replied_last y r) refl
-what_again input k (Clean class) h r l = rw (event_word_again word.Clean, number_again 2 class (lit< tt) r) refl
-what_again input k (Switch t s) h r l = rw (event_word_again word.Switch, k.are.threads t (thread_at input k t h), status_again s r) refl
-what_again input k (Rewait f y) h r l = rw (event_word_again word.Rewait, event_again f r.0, replied_last y r.1) refl
-what_again input k (Flush a from) h r l = rw (event_word_again word.Flush, k.are.apcs a (apc_at input k a h), used_last from r) refl
-what_again input k (Gone t) h r l = rw (event_word_again word.Gone, k.are.threads t (thread_at input k t h)) refl
-what_again input k (Free f x) h r l = absurd (no_lock input k x h)
-what_again input k Rest h r l = rw (event_word_again word.Rest) refl
+what_again input k ver (Normal f) h r l = rw (event_word_again word.Normal, event_again f r) refl
+what_again input k ver (End f) h r l = rw (event_word_again word.End, event_again f r) refl
+what_again input k ver (Expire t from) h r l = rw (event_word_again word.Expire, key_again input k t h (used_fields from), used_last from r) refl
+what_again input k ver (Fire d y) h r l = rw (event_word_again word.Fire, k.are.dpcs d (dpc_at input k d h), replied_last y r) refl
+what_again input k ver (Clean class) h r l = rw (event_word_again word.Clean, number_again 2 class (lit< tt) r) refl
+what_again input k ver (Switch t s) h r l = rw (event_word_again word.Switch, k.are.threads t (thread_at input k t h), status_again s r) refl
+what_again input k ver (Rewait f y) h r l = rw (event_word_again word.Rewait, event_again f r.0, replied_last y r.1) refl
+what_again input k ver (Flush a from) h r l = rw (event_word_again word.Flush, k.are.apcs a (apc_at input k a h), used_last from r) refl
+what_again input k ver (Gone t) h r l = rw (event_word_again word.Gone, k.are.threads t (thread_at input k t h)) refl
+what_again input k ver (Free f x) h r l = rw (event_word_again word.Free, event_again f r, lock_again input k x h) refl
+what_again input k ver Rest h r l = rw (event_word_again word.Rest) refl
 
 -- ---- the whole line
 
@@ -283,8 +290,8 @@ running_again input k (Some t) h =
 abbrev pub line : ℕ → Event → EventLine
 line n e = record { number = n; event = e }
 
-pub event_line_again : (input : Input) → Known input → (n : ℕ) (e : Event) → IsWord n → EventIsPlain input.script e → is_look e.what ≡ false →
-    event_line input.names input.script.cpus (decimal n) (event_fields input e) ≡ Ok (line n e)
+pub event_line_again : (input : Input) → Known input → (n : ℕ) (e : Event) → IsWord n → EventIsPlain input e → is_look e.what ≡ false →
+    event_line input (decimal n) (event_fields input e) ≡ Ok (line n e)
 event_line_again input k n e w h l =
     let p = event_parts input.script e h.0 in
     let lt = ltb-true e.cpu.0 input.script.cpus p.cpu in
@@ -294,5 +301,5 @@ event_line_again input k n e w h l =
       processor,
       running_again input k e.thread p.thread,
       number_again 15 e.level (lit< tt) h.1.0,
-      what_again input k e.what p.what h.1.1 l,
+      what_again input k input.version e.what p.what h.1.1 l,
     ) refl

@@ -13,6 +13,8 @@ use Rattle.nt_text.proofs.Decimals.{decimal_field, read_on}
 use Rattle.nt_text.proofs.Rows.{row_again}
 use Rattle.nt_event.specs.declared.events.Event.{Event}
 use Rattle.nt_event.specs.declared.events.History.{History}
+use Rattle.nt_event.specs.Fitting.{events_fit}
+use Rattle.nt_event.specs.Script.{has_lock}
 use Rattle.nt_event.specs.Fate.{ApcThing, DpcThing, Inserted, Thing}
 use Rattle.nt_line.proofs.FieldTexts.{cpu_again}
 use Rattle.nt_script.specs.declared.walk.Input.{Input}
@@ -21,21 +23,22 @@ use Rattle.nt_log.specs.declared.schedules.Schedule.{Schedule}
 use Rattle.nt_log.specs.declared.walk.ScheduleWalk.{ScheduleWalk}
 use Rattle.nt_log.specs.Reading.{start as schedule_start, line_step as schedule_line, walk as schedule_walk}
 use Rattle.nt_log.specs.Schedules.{done_row, limit_row, schedule_rows, turn_row}
-use Rattle.nt_print.specs.Conditions.{EventIsPlain}
-use Rattle.nt_print.specs.Report.{cut_row, cut_rows, event_row, event_rows, made, wait_row}
+use Rattle.nt_print.specs.Conditions.{EventIsPlain, IsWord}
+use Rattle.nt_print.specs.Report.{cut_row, cut_rows, event_row, event_rows, made, show_processor, spin_left, spin_of, spin_row, spin_rows, wait_row}
+use Rattle.nt_print.specs.declared.spins.Spun.{Spun}
 use Rattle.nt_print.specs.Uses.{thing_fits}
 use Rattle.nt_print.proofs.OneEvent.{Known, apc_at, dpc_at, event_clean, is_look}
-use Rattle.nt_print.proofs.OneReport.{line_split}
+use Rattle.nt_print.proofs.OneReport.{SpinIsPlain, left_plain, line_split, plain_fits, spin_clean}
 use Rattle.nt_report.specs.declared.events.EventLine.{EventLine}
 use Rattle.nt_report.specs.declared.places.LineWord.{LineWord}
 use Rattle.nt_report.specs.declared.places.LineWord.TheVariants as word
 use Rattle.nt_report.specs.declared.places.ReportPlace.{ReportPlace}
-use Rattle.nt_report.specs.declared.places.ReportPlace.TheVariants.{Start, InEvents, InCuts, InWaits, InSchedule}
+use Rattle.nt_report.specs.declared.places.ReportPlace.TheVariants.{Start, InEvents, InCuts, InSpins, InWaits, InSchedule}
 use Rattle.nt_report.specs.declared.walk.Parts.{Parts}
 use Rattle.nt_report.specs.Fields.{read_processor}
 use Rattle.nt_report.specs.Walked.{Walked}
 use Rattle.nt_report.specs.Reading.{act, front_step, is_numbered, line_step, line_word, schedule_step, start, step_at, walk, with_schedule, word_at}
-use Rattle.nt_report.proofs.AgainEvents.{event_again, event_line_again, line}
+use Rattle.nt_report.proofs.AgainEvents.{event_again, event_line_again, line, lock_again}
 use Rattle.nt_report.proofs.PlainLines.{TextLine, in_schedule, kept_room, more_length}
 use Rattle.nt_report.proofs.Steps.{ok}
 
@@ -50,6 +53,7 @@ not_inside None w e = absurd cc
 not_inside (Some word.Report) w e = absurd cc
 not_inside (Some word.Event) w e = absurd cc
 not_inside (Some word.Cut) w e = absurd cc
+not_inside (Some word.Spins) w e = absurd cc
 not_inside (Some word.Waits) w e = absurd cc
 not_inside (Some word.Schedule) w e = absurd cc
 
@@ -58,6 +62,7 @@ front_is : (input : Input) (p : ReportPlace) (w : Walked) (l : TextLine) (o : Op
 front_is input Start w l o wd e = refl
 front_is input InEvents w l o wd e = refl
 front_is input InCuts w l o wd e = refl
+front_is input InSpins w l o wd e = refl
 front_is input InWaits w l o wd e = refl
 front_is input InSchedule w l o wd e = absurd (not_inside o wd e)
 
@@ -87,7 +92,7 @@ numbered (c ∷ cs) h l = (and_parts (is_ascii_digit c) (all_ascii_digits cs) h)
 number_word : (n : ℕ) → n < 2 ^ 64 → line_word (decimal n) ≡ Some word.Event
 number_word n lt = rw (numbered (decimal n) (digits_decimal own n lt) (decimal_nonempty n lt)) refl
 
-event_step_again : (input : Input) → Known input → (n : ℕ) (e : Event) (ls : List EventLine) → n ≤ 160000 → length ls < 160000 → EventIsPlain input.script e →
+event_step_again : (input : Input) → Known input → (n : ℕ) (e : Event) (ls : List EventLine) → n ≤ 160000 → length ls < 160000 → EventIsPlain input e →
     is_look e.what ≡ false → line_step input (before InEvents ls) (line_of (event_row input n e)) ≡ Ok (before InEvents (ls ++ line n e ∷ []))
 event_step_again input k n e ls few room h l =
     step_again input (before InEvents ls) (event_row input n e) word.Event (before InEvents (ls ++ line n e ∷ []))
@@ -99,7 +104,7 @@ abbrev Behind : Input → Walked → ℕ → List TextLine → Walked → List T
 Behind input w n ls new more = (m : ℕ) × (walk input w n ls ≡ walk input new m more)
 
 events_run : (input : Input) → Known input → (n : ℕ) (es : List Event) (ls : List EventLine) (m : ℕ) (tail : List TextLine) → n + length es ≤ 160000 →
-    length ls ≤ n → AllByRecursion (EventIsPlain input.script) es →
+    length ls ≤ n → AllByRecursion (EventIsPlain input) es →
     Behind input (before InEvents ls) m (map line_of (event_rows input n es) ++ tail) (before InEvents (ls ++ event_lines n es)) tail
 unfolding event_lines
 events_run input k n [] ls m tail few room h = (m, ap (λ (xs : List EventLine). walk input (before InEvents xs) m tail) (sym (append_nil ls)))
@@ -126,22 +131,32 @@ events_run input k n (e ∷ es) ls m tail few room h =
               ∙ ap (λ (xs : List EventLine). walk input (before InEvents xs) r.0 tail) (append_assoc ls (line n e ∷ []) (event_lines (n + 1) es)),
         )
 
--- ---- lines of processors that were cut, and of inserts that wait
+-- ---- lines of processors that were cut, of those that spin, and of inserts that wait
 
 abbrev MayBe : LineWord → ReportPlace → Type 0
 MayBe w p = word_at p (Some w) ≡ Ok w
 
-cut_then_wait : (p : ReportPlace) → MayBe word.Cut p → MayBe word.Waits p
-cut_then_wait Start e = absurd cc
-cut_then_wait InEvents e = refl
-cut_then_wait InCuts e = refl
-cut_then_wait InWaits e = absurd cc
-cut_then_wait InSchedule e = absurd cc
+cut_then_spin : (p : ReportPlace) → MayBe word.Cut p → MayBe word.Spins p
+cut_then_spin Start e = absurd cc
+cut_then_spin InEvents e = refl
+cut_then_spin InCuts e = refl
+cut_then_spin InSpins e = absurd cc
+cut_then_spin InWaits e = absurd cc
+cut_then_spin InSchedule e = absurd cc
+
+spin_then_wait : (p : ReportPlace) → MayBe word.Spins p → MayBe word.Waits p
+spin_then_wait Start e = absurd cc
+spin_then_wait InEvents e = refl
+spin_then_wait InCuts e = refl
+spin_then_wait InSpins e = refl
+spin_then_wait InWaits e = absurd cc
+spin_then_wait InSchedule e = absurd cc
 
 wait_then_schedule : (p : ReportPlace) → MayBe word.Waits p → MayBe word.Schedule p
 wait_then_schedule Start e = absurd cc
 wait_then_schedule InEvents e = refl
 wait_then_schedule InCuts e = refl
+wait_then_schedule InSpins e = refl
 wait_then_schedule InWaits e = refl
 wait_then_schedule InSchedule e = absurd cc
 
@@ -171,6 +186,35 @@ cuts_run input k h c (suc count) p ls n tail few may =
         let r = more InCuts (n + 1) refl in
         let step = cut_step_again input k p ls c may (omega (arith, few)) in
         (r.0, r.1, (r.2.0, on input (before p ls) (before InCuts ls) n (line_of (cut_row c)) _ step ∙ r.2.1))
+
+spin_step_again : (input : Input) → Known input → (p : ReportPlace) (ls : List EventLine) (c : ℕ) (x : Spun) → MayBe word.Spins p → c < input.script.cpus →
+    IsWord x.number → has_lock input.script x.lock ≡ true →
+    line_step input (before p ls) (line_of (spin_row input.names c x)) ≡ Ok (before InSpins ls)
+spin_step_again input k p ls c x may lt n h =
+    let few = k.fit.cpus.1 in
+    let processor : read_processor input.script.cpus (show_processor c) ≡ Ok (record { 0 = c }) =
+    cpu_again input.script.cpus (record { 0 = c }) few lt in
+    step_again input (before p ls) (spin_row input.names c x) word.Spins (before InSpins ls)
+    (spin_clean input k c x (omega (arith, lt, few)) (omega (arith, n)) h) may
+    (rw (processor, lock_again input k x.lock h, event_again x.number n) refl)
+
+spins_run : (input : Input) → Known input → (h : History) → length h.events ≤ 160000 → events_fit input.script h.events ≡ true →
+    (c count : ℕ) (p : ReportPlace) (ls : List EventLine) (n : ℕ) (tail : List TextLine) → c + count ≤ input.script.cpus → MayBe word.Spins p →
+    BehindAt input word.Spins p ls n (map line_of (spin_rows input.names h c count) ++ tail) tail
+spins_run input k h short fit c zero p ls n tail few may = (p, may, (n, refl))
+spins_run input k h short fit c (suc count) p ls n tail few may =
+    go (spin_left h c) (left_plain input.script h c fit)
+    (λ q m2 may2. spins_run input k h short fit (c + 1) count q ls m2 tail (omega (arith, few)) may2)
+  where
+    go : (o : Option Spun) → SpinIsPlain input.script (length h.events) o → ((q : ReportPlace) (m2 : ℕ) → MayBe word.Spins q →
+        BehindAt input word.Spins q ls m2 (map line_of (spin_rows input.names h (c + 1) count) ++ tail) tail) →
+        BehindAt input word.Spins p ls n (map line_of (spin_of input.names c o ++ spin_rows input.names h (c + 1) count) ++ tail) tail
+    go None q more = more p n may
+    go (Some x) q more =
+        let r = more InSpins (n + 1) refl in
+        let lt = q.0 in
+        let step = spin_step_again input k p ls c x may (omega (arith, few)) (omega (arith, lt, short)) q.1 in
+        (r.0, r.1, (r.2.0, on input (before p ls) (before InSpins ls) n (line_of (spin_row input.names c x)) _ step ∙ r.2.1))
 
 -- an insert whose line can be read
 abbrev pub WaitFits : Input → Inserted → Type 0
@@ -205,18 +249,19 @@ at_inside input InSchedule w l e = refl
 at_inside input Start w l e = absurd cc
 at_inside input InEvents w l e = absurd cc
 at_inside input InCuts w l e = absurd cc
+at_inside input InSpins w l e = absurd cc
 at_inside input InWaits w l e = absurd cc
 
 inside_again : (input : Input) (w : Walked) (n : ℕ) (ls : List TextLine) (s : Schedule) → in_schedule w.place ≡ true →
-    schedule_walk input.script.cpus input.names w.schedule n ls ≡ Ok s → walk input w n ls ≡ Ok (parts w.lines s)
+    schedule_walk input.script.cpus input w.schedule n ls ≡ Ok s → walk input w n ls ≡ Ok (parts w.lines s)
 inside_again input w n [] s h e = rw e refl
 inside_again input w n (l ∷ more) s h e =
-    go (schedule_line input.script.cpus input.names w.schedule l) refl e
+    go (schedule_line input.script.cpus input w.schedule l) refl e
     (λ sw e2. inside_again input (with_schedule w sw) (n + 1) more s refl e2)
   where
-    go : (r : Result ScheduleWalk ScriptKind) → schedule_line input.script.cpus input.names w.schedule l ≡ r →
-        go_on n r (λ new. schedule_walk input.script.cpus input.names new (n + 1) more) ≡ Ok s →
-        ((sw : ScheduleWalk) → schedule_walk input.script.cpus input.names sw (n + 1) more ≡ Ok s →
+    go : (r : Result ScheduleWalk ScriptKind) → schedule_line input.script.cpus input w.schedule l ≡ r →
+        go_on n r (λ new. schedule_walk input.script.cpus input new (n + 1) more) ≡ Ok s →
+        ((sw : ScheduleWalk) → schedule_walk input.script.cpus input sw (n + 1) more ≡ Ok s →
         walk input (with_schedule w sw) (n + 1) more ≡ Ok (parts w.lines s)) → walk input w n (l ∷ more) ≡ Ok (parts w.lines s)
     go (Err kind) is e more2 = absurd cc
     go (Ok sw) is e more2 =
@@ -224,13 +269,13 @@ inside_again input w n (l ∷ more) s h e =
         on input w (with_schedule w sw) n l more step ∙ more2 sw e
 
 schedule_again : (input : Input) (p : ReportPlace) (ls : List EventLine) (n : ℕ) (turns : ℕ) (more : List TextLine) (s : Schedule) → MayBe word.Schedule p →
-    IsRow (limit_row turns) → schedule_walk input.script.cpus input.names schedule_start n (line_of (limit_row turns) ∷ more) ≡ Ok s →
+    IsRow (limit_row turns) → schedule_walk input.script.cpus input schedule_start n (line_of (limit_row turns) ∷ more) ≡ Ok s →
     walk input (before p ls) n (line_of (limit_row turns) ∷ more) ≡ Ok (parts ls s)
 schedule_again input p ls n turns more s may clean e =
-    go (schedule_line input.script.cpus input.names schedule_start (line_of (limit_row turns))) refl e
+    go (schedule_line input.script.cpus input schedule_start (line_of (limit_row turns))) refl e
   where
-    go : (r : Result ScheduleWalk ScriptKind) → schedule_line input.script.cpus input.names schedule_start (line_of (limit_row turns)) ≡ r →
-        go_on n r (λ new. schedule_walk input.script.cpus input.names new (n + 1) more) ≡ Ok s →
+    go : (r : Result ScheduleWalk ScriptKind) → schedule_line input.script.cpus input schedule_start (line_of (limit_row turns)) ≡ r →
+        go_on n r (λ new. schedule_walk input.script.cpus input new (n + 1) more) ≡ Ok s →
         walk input (before p ls) n (line_of (limit_row turns) ∷ more) ≡ Ok (parts ls s)
     go (Err kind) is e = absurd cc
     go (Ok sw) is e =
@@ -247,18 +292,22 @@ first_again input n more =
     (step_again input start (codes "report" ∷ []) word.Report (before InEvents []) (refl, tt) refl refl)
 
 pub lines_read : (input : Input) → Known input → (h : History) (xs : List Inserted) (s : Schedule) (n : ℕ) → length h.events ≤ 160000 →
-    AllByRecursion (EventIsPlain input.script) h.events → AllByRecursion (WaitFits input) xs → IsRow (limit_row s.turns) →
-    ((m : ℕ) → schedule_walk input.script.cpus input.names schedule_start m (map line_of (schedule_rows input.names s)) ≡ Ok s) →
+    AllByRecursion (EventIsPlain input) h.events → AllByRecursion (WaitFits input) xs → IsRow (limit_row s.turns) →
+    ((m : ℕ) → schedule_walk input.script.cpus input schedule_start m (map line_of (schedule_rows input.names s)) ≡ Ok s) →
     walk input start n (line_of (codes "report" ∷ []) ∷ (map line_of (event_rows input 0 h.events) ++ (map line_of (cut_rows h 0 input.script.cpus)
-    ++ (map line_of (map (wait_row input.names) xs) ++ map line_of (schedule_rows input.names s))))) ≡ Ok (parts (event_lines 0 h.events) s)
+    ++ (map line_of (spin_rows input.names h 0 input.script.cpus)
+    ++ (map line_of (map (wait_row input.names) xs) ++ map line_of (schedule_rows input.names s)))))) ≡ Ok (parts (event_lines 0 h.events) s)
 lines_read input k h xs s n few plain waits clean schedule =
     let ends : List TextLine = map line_of (schedule_rows input.names s) in
     let late : List TextLine = map line_of (map (wait_row input.names) xs) ++ ends in
-    let middle : List TextLine = map line_of (cut_rows h 0 input.script.cpus) ++ late in
+    let spinning : List TextLine = map line_of (spin_rows input.names h 0 input.script.cpus) ++ late in
+    let middle : List TextLine = map line_of (cut_rows h 0 input.script.cpus) ++ spinning in
     let lines : List EventLine = event_lines 0 h.events in
     let events = events_run input k 0 h.events [] (n + 1) middle (omega (arith, few)) (omega arith) plain in
-    let cuts = cuts_run input k h 0 input.script.cpus InEvents lines events.0 late (omega arith) refl in
-    let still = waits_run input k xs cuts.0 lines cuts.2.0 ends waits (cut_then_wait cuts.0 cuts.1) in
-    first_again input n (map line_of (event_rows input 0 h.events) ++ middle) ∙ (events.1 ∙ (cuts.2.1 ∙ (still.2.1
+    let cuts = cuts_run input k h 0 input.script.cpus InEvents lines events.0 spinning (omega arith) refl in
+    let spins = spins_run input k h few (plain_fits input h.events plain) 0 input.script.cpus cuts.0 lines cuts.2.0 late (omega arith)
+    (cut_then_spin cuts.0 cuts.1) in
+    let still = waits_run input k xs spins.0 lines spins.2.0 ends waits (spin_then_wait spins.0 spins.1) in
+    first_again input n (map line_of (event_rows input 0 h.events) ++ middle) ∙ (events.1 ∙ (cuts.2.1 ∙ (spins.2.1 ∙ (still.2.1
     ∙ schedule_again input still.0 lines still.2.0 s.turns (map line_of (map (turn_row input.names) s.list ++ done_row ∷ [])) s
-    (wait_then_schedule still.0 still.1) clean (schedule still.2.0))))
+    (wait_then_schedule still.0 still.1) clean (schedule still.2.0)))))

@@ -22,8 +22,9 @@ use Rattle.nt_script.specs.declared.walk.Input.{Input}
 use Rattle.nt_script.specs.Gives.{GivesRead}
 use Rattle.nt_log.specs.Schedules.{AreBelow, limit_row, schedule_of, schedule_rows}
 use Rattle.nt_log.proofs.Both.{walk_again}
+use Rattle.nt_log.proofs.OneSchedule.{most_turns}
 use Rattle.nt_print.specs.Conditions.{EventIsPlain, IsReportOf, LookIsBare}
-use Rattle.nt_print.specs.Report.{cut_rows, event_rows, report_rows, report_text, wait_rows}
+use Rattle.nt_print.specs.Report.{cut_rows, event_rows, report_rows, report_text, spin_rows, wait_rows}
 use Rattle.nt_print.specs.Uses.{thing_fits}
 use Rattle.nt_print.proofs.OneEvent.{Known, event_parts, event_same, is_look, known}
 use Rattle.nt_print.proofs.OneReport.{all_filter, all_reverse, inserted_fits, report_clean, schedule_plain, wait_clean}
@@ -71,7 +72,7 @@ events_again past (e ∷ es) at h =
 
 -- ---- the inserts that wait
 
-few_waits : (input : Input) → Known input → (past : List Event) → length past ≤ 160000 → AllByRecursion (EventIsPlain input.script) past →
+few_waits : (input : Input) → Known input → (past : List Event) → length past ≤ 160000 → AllByRecursion (EventIsPlain input) past →
     AllByRecursion (WaitFits input) (inserts past)
 few_waits input k [] few h = tt
 few_waits input k (e ∷ past) few h =
@@ -93,31 +94,35 @@ cpu_of p (Look r) = refl
 cpu_of p (Switch t s) = refl
 cpu_of p w = refl
 
-are_below : (input : Input) (es : List Event) → AllByRecursion (EventIsPlain input.script) es → AreBelow input.script.cpus (map turn_of es)
+are_below : (input : Input) (es : List Event) → AllByRecursion (EventIsPlain input) es → AreBelow input.script.cpus (map turn_of es)
 are_below input [] h = tt
 are_below input (e ∷ es) h =
     let lt : e.cpu.0 < input.script.cpus = ltb-true e.cpu.0 input.script.cpus (event_parts input.script e h.0.0).cpu in
     (subst (λ (p : CpuNo). p.0 < input.script.cpus) (sym (cpu_of e.cpu e.what)) lt, are_below input es h.1)
 
-all_bare : (input : Input) (es : List Event) → AllByRecursion (EventIsPlain input.script) es → AllByRecursion (λ e. LookIsBare e e.what) es
+all_bare : (input : Input) (es : List Event) → AllByRecursion (EventIsPlain input) es → AllByRecursion (λ e. LookIsBare e e.what) es
 all_bare input [] h = tt
 all_bare input (e ∷ es) h = (h.0.1.2, all_bare input es h.1)
 
 -- ---- the whole
 
--- the lines of four parts
-four : (a b c d : List Row) → map line_of (a ++ (b ++ (c ++ d))) ≡ map line_of a ++ (map line_of b ++ (map line_of c ++ map line_of d))
-four a b c d =
-    map-append line_of a (b ++ (c ++ d)) ∙ ap (λ (x : List TextLine). map line_of a ++ x)
-    (map-append line_of b (c ++ d) ∙ ap (λ (x : List TextLine). map line_of b ++ x) (map-append line_of c d))
+-- the lines of five parts
+five : (a b c d e : List Row) → map line_of (a ++ (b ++ (c ++ (d ++ e))))
+    ≡ map line_of a ++ (map line_of b ++ (map line_of c ++ (map line_of d ++ map line_of e)))
+five a b c d e =
+    map-append line_of a (b ++ (c ++ (d ++ e))) ∙ ap (λ (x : List TextLine). map line_of a ++ x)
+    (map-append line_of b (c ++ (d ++ e)) ∙ ap (λ (x : List TextLine). map line_of b ++ x)
+    (map-append line_of c (d ++ e) ∙ ap (λ (x : List TextLine). map line_of c ++ x) (map-append line_of d e)))
 
 lines_of_report : (bytes : List ℕ) (input : Input) (h : History) → IsReportOf bytes input h → lines bytes ≡ line_of (codes "report" ∷ [])
     ∷ (map line_of (event_rows input 0 h.events) ++ (map line_of (cut_rows h 0 input.script.cpus)
-    ++ (map line_of (wait_rows input.names (reverse h.events)) ++ map line_of (schedule_rows input.names (schedule_of h)))))
+    ++ (map line_of (spin_rows input.names h 0 input.script.cpus)
+    ++ (map line_of (wait_rows input.names (reverse h.events)) ++ map line_of (schedule_rows input.names (schedule_of h))))))
 lines_of_report bytes input h r =
     ap lines r.text ∙ lines_again (report_rows input h) (report_clean input r.sound h r.plain)
     ∙ ap (λ (x : List TextLine). line_of (codes "report" ∷ []) ∷ x)
-    (four (event_rows input 0 h.events) (cut_rows h 0 input.script.cpus) (wait_rows input.names (reverse h.events))
+    (five (event_rows input 0 h.events) (cut_rows h 0 input.script.cpus) (spin_rows input.names h 0 input.script.cpus)
+    (wait_rows input.names (reverse h.events))
     (schedule_rows input.names (schedule_of h)))
 
 walk_is : (bytes : List ℕ) (input : Input) (h : History) (n : ℕ) → IsReportOf bytes input h → walk input start n (lines bytes)
@@ -127,9 +132,10 @@ walk_is bytes input h n r =
     let few = r.plain.few in
     let past : List Event = reverse h.events in
     let waits = all_filter (WaitFits input) (λ x. still_waits (fate_of x.thing x.number past)) (inserts past)
-    (few_waits input k past (omega (arith, few, length-reverse h.events)) (all_reverse (EventIsPlain input.script) h.events r.plain.events)) in
+    (few_waits input k past (omega (arith, few, length-reverse h.events)) (all_reverse (EventIsPlain input) h.events r.plain.events)) in
     let limit = r.plain.limit in
-    let clean : IsRow (limit_row h.turns) = (refl, (decimal_field h.turns (omega (arith, limit)), tt)) in
+    let most = most_turns input.script.cpus in
+    let clean : IsRow (limit_row h.turns) = (refl, (decimal_field h.turns (omega (arith, limit, most)), tt)) in
     ap (walk input start n) (lines_of_report bytes input h r)
     ∙ lines_read input k h (waiting_inserts past) (schedule_of h) n (omega (arith, few)) r.plain.events waits clean
     (λ m. walk_again input.script.cpus m input (schedule_of h) r.sound (schedule_plain input k h r.plain) (are_below input h.events r.plain.events))

@@ -10,7 +10,7 @@ use Rattle.nt_line.specs.Keywords.{verb_arity}
 use Rattle.nt_line.specs.Results.{◌>>=◌}
 use Rattle.nt_line.specs.NameLists.{NameLists}
 use Rattle.nt_line.specs.Commands.{command_of, next_field, read1, read2, read3}
-use Rattle.nt_line.specs.Fields.{read_alertable, read_apc, read_cpu, read_dpc, read_importance, read_interrupt, read_level, read_mode, read_number, read_target, read_thread, read_timer}
+use Rattle.nt_line.specs.Fields.{read_alertable, read_apc, read_cpu, read_dpc, read_importance, read_interrupt, read_level, read_lock, read_mode, read_number, read_target, read_thread, read_timer}
 use Rattle.nt_line.specs.Fits.{CommandFits}
 use Rattle.nt_line.proofs.UsedNames.{AreFew}
 use Rattle.nt_line.proofs.Spelled.{command_takes}
@@ -75,6 +75,8 @@ command_front names cpus verb.Interrupt args c e = front2 (read_cpu cpus) read_i
 command_front names cpus verb.Clock args c e = front1 (read_number 4294967295) cmd.Clock args c e
 command_front names cpus verb.ToUser args c e = front0 cmd.ToUser c args e
 command_front names cpus verb.Yield args c e = front0 cmd.Yield c args e
+command_front names cpus verb.Acquire args c e = front1 (read_lock names) cmd.Acquire args c e
+command_front names cpus verb.Unlock args c e = front1 (read_lock names) cmd.Unlock args c e
 command_front names cpus verb.Note args c e = front1 (read_number 4294967295) cmd.Note args c e
 
 -- what is read as a command fits, whatever stands behind it

@@ -14,12 +14,11 @@ use Rattle.nt_script.specs.Gives.{GivesRead}
 use Rattle.nt_script.specs.Sound.{IsSound}
 use Rattle.nt_print.specs.Conditions.{IsReportOf}
 use Rattle.nt_print.specs.Report.{report_text}
-use Rattle.nt_print.specs.Written.{replies_written}
 use Rattle.nt_report.specs.declared.walk.Parts.{Parts}
 use Rattle.nt_report.specs.Reading.{and_then, compared, history_of, lines_alike, reading, start, walk}
 use Rattle.nt_report.proofs.Steps.{not_ok, ok_is}
-use Rattle.nt_report.proofs.PlainHistories.{history_plain, plain_fits}
-use Rattle.nt_print.proofs.Told.{plain_told}
+use Rattle.nt_report.proofs.PlainHistories.{history_plain}
+use Rattle.nt_print.proofs.OneReport.{plain_fits}
 use Rattle.nt_report.proofs.PlainLines.{parts_plain}
 
 -- what is read prints as the bytes
@@ -58,11 +57,3 @@ pub is_fit : (input : Input) → IsSound input → (n : ℕ) (bytes : List ℕ) 
     IfOk r (λ h. events_fit input.script h.events ≡ true)
 is_fit input sound n bytes (Ok h) e = report_fits bytes input h (reading_is_report input sound n bytes h e)
 is_fit input sound n bytes (Err x) e = tt
-
-pub report_told : (bytes : List ℕ) (input : Input) (h : History) → IsReportOf bytes input h → replies_written h.events ≡ true
-report_told bytes input h r = plain_told input.script h.events r.plain.events
-
-pub is_told : (input : Input) → IsSound input → (n : ℕ) (bytes : List ℕ) (r : Result History ScriptRefusal) → GivesRead r (reading input n bytes) →
-    IfOk r (λ h. replies_written h.events ≡ true)
-is_told input sound n bytes (Ok h) e = report_told bytes input h (reading_is_report input sound n bytes h e)
-is_told input sound n bytes (Err x) e = tt

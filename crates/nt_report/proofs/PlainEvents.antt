@@ -13,23 +13,24 @@ use Rattle.nt_event.specs.declared.events.Begun.{Begun}
 use Rattle.nt_event.specs.declared.events.Begun.TheVariants as of_begun
 use Rattle.nt_event.specs.declared.events.Event.{Event}
 use Rattle.nt_event.specs.declared.events.What.{What}
-use Rattle.nt_event.specs.declared.events.What.TheVariants.{Begin, Call, Clean, End, Expire, Fire, Flush, Gone, Normal, Rest, Rewait, Switch}
+use Rattle.nt_event.specs.declared.events.What.TheVariants.{Begin, Call, Clean, End, Expire, Fire, Flush, Free, Gone, Normal, Rest, Rewait, Switch}
 use Rattle.nt_event.specs.declared.numbers.ApcNo.{ApcNo}
 use Rattle.nt_event.specs.declared.numbers.CpuNo.{CpuNo}
 use Rattle.nt_event.specs.declared.numbers.DpcNo.{DpcNo}
+use Rattle.nt_event.specs.declared.numbers.LockNo.{LockNo}
 use Rattle.nt_event.specs.declared.numbers.ThreadNo.{ThreadNo}
 use Rattle.nt_event.specs.declared.numbers.TimerNo.{TimerNo}
 use Rattle.nt_event.specs.declared.scripts.Script.{Script}
 use Rattle.nt_event.specs.Fitting.{begun_fits, key_fits, what_fits}
-use Rattle.nt_event.specs.Script.{command_fits, has_apc, has_cpu, has_dpc, has_thread, has_timer, where_given}
+use Rattle.nt_event.specs.Script.{command_fits, has_apc, has_cpu, has_dpc, has_lock, has_thread, has_timer, where_given}
 use Rattle.nt_line.specs.declared.keywords.Verb.{Verb}
 use Rattle.nt_line.specs.Commands.{behind, command_of}
-use Rattle.nt_line.specs.Fields.{read_apc, read_dpc, read_level, read_thread, read_timer}
+use Rattle.nt_line.specs.Fields.{read_apc, read_dpc, read_level, read_lock, read_thread, read_timer}
 use Rattle.nt_line.specs.Fits.{HasRange}
 use Rattle.nt_line.specs.Keywords.{verb_arity}
 use Rattle.nt_line.specs.Results.{◌>>=◌}
 use Rattle.nt_line.proofs.FieldTexts.{level_takes, number_takes}
-use Rattle.nt_line.proofs.UsedNames.{apc_takes, dpc_takes, thread_takes, timer_takes}
+use Rattle.nt_line.proofs.UsedNames.{apc_takes, dpc_takes, lock_takes, thread_takes, timer_takes}
 use Rattle.nt_script.specs.declared.walk.Input.{Input}
 use Rattle.nt_script.proofs.Soundness.{command_to}
 use Rattle.nt_print.specs.Conditions.{BegunInRange, EventIsPlain, LookIsBare, WhatInRange}
@@ -62,17 +63,20 @@ thread_fits input k row y e =
 apc_fits : (input : Input) → Known input → (row : Row) (y : ApcNo × Row) → one_field (read_apc input.names) row ≡ Ok y → has_apc input.script y.0 ≡ true
 apc_fits input k row y e = has_it y.0.0 (length input.names.apcs) (length input.script.apcs) k.counts.apcs (one_fits (apc_takes input.names k.fit.few) row y e)
 
+lock_fits : (input : Input) → Known input → (row : Row) (y : LockNo × Row) → one_field (read_lock input.names) row ≡ Ok y → has_lock input.script y.0 ≡ true
+lock_fits input k row y e = has_it y.0.0 (length input.names.locks) input.script.locks k.counts.locks (one_fits (lock_takes input.names k.fit.few) row y e)
+
 -- ---- parts of what an event did
 
 abbrev CommandRead : Script → Command × Row → Type 0
 CommandRead s y = (command_fits s y.0 ≡ true) × HasRange y.0
 
-command_plain : (input : Input) → Known input → (row : Row) (y : Command × Row) → command input.names input.script.cpus row ≡ Ok y → CommandRead input.script y
+command_plain : (input : Input) → Known input → (row : Row) (y : Command × Row) → command input row ≡ Ok y → CommandRead input.script y
 command_plain input k row y e =
     let P = CommandRead input.script in
     let names = input.names in
     let cpus = input.script.cpus in
-    through P (one_field read_verb row) (λ (v : Verb × Row). command_of names cpus v.0 v.1 >>= λ c. ok (c, behind (verb_arity v.0) v.1)) y e
+    through P (one_field (read_verb input.version) row) (λ (v : Verb × Row). command_of names cpus v.0 v.1 >>= λ c. ok (c, behind (verb_arity v.0) v.1)) y e
     (λ v is then. through P (command_of names cpus v.0 v.1) (λ (c : Command). ok (c, behind (verb_arity v.0) v.1)) y then
     (λ c is' then'. made P (c, behind (verb_arity v.0) v.1) y then'
     (command_to input.script names k.counts c (command_of_fits names cpus k.fit.few v.0 v.1 c is'))))
@@ -123,106 +127,112 @@ expired_plain input k (f ∷ fs) y e = go (bytes_eq f (codes "timer")) (bytes_eq
 
 -- ---- what an event did
 
-pub record WhatIsPlain (s : Script) (w : What) : Type 0 where
-  pub fits : what_fits s w ≡ true
-  pub range : WhatInRange w
+pub record WhatIsPlain (input : Input) (w : What) : Type 0 where
+  pub fits : what_fits input.script w ≡ true
+  pub range : WhatInRange input.version w
   pub bare : (e : Event) → LookIsBare e w
 
-abbrev WhatRead : Script → What × Row → Type 0
-WhatRead s y = WhatIsPlain s y.0
+abbrev WhatRead : Input → What × Row → Type 0
+WhatRead input y = WhatIsPlain input y.0
 
-what_of_plain : (input : Input) → Known input → (w : EventWord) (row : Row) (y : What × Row) → what_of input.names input.script.cpus w row ≡ Ok y →
-    WhatRead input.script y
+what_of_plain : (input : Input) → Known input → (w : EventWord) (row : Row) (y : What × Row) → what_of input w row ≡ Ok y →
+    WhatRead input y
 what_of_plain input k word.Call row y e =
-    let P = WhatRead input.script in
+    let P = WhatRead input in
     through P (one_field read_event row)
-    (λ (f : ℕ × Row). command input.names input.script.cpus f.1 >>= λ c. replied c.1 >>= λ r. ok (Call f.0 c.0 r.0, r.1)) y e
-    (λ f is then. through P (command input.names input.script.cpus f.1) (λ (c : Command × Row). replied c.1 >>= λ r. ok (Call f.0 c.0 r.0, r.1)) y then
+    (λ (f : ℕ × Row). command input f.1 >>= λ c. replied c.1 >>= λ r. ok (Call f.0 c.0 r.0, r.1)) y e
+    (λ f is then. through P (command input f.1) (λ (c : Command × Row). replied c.1 >>= λ r. ok (Call f.0 c.0 r.0, r.1)) y then
     (λ c is' then'. through P (replied c.1) (λ (r : Reply × Row). ok (Call f.0 c.0 r.0, r.1)) y then'
     (λ r is'' then''.
     let p = command_plain input k f.1 c is' in
     made P (Call f.0 c.0 r.0, r.1) y then''
     (record { fits = p.0; range = (event_word row f is, p.1, replied_fits c.1 r is''); bare = λ e. tt }))))
 what_of_plain input k word.Begin row y e =
-    let P = WhatRead input.script in
+    let P = WhatRead input in
     through P (begun input.names row) (λ (b : Begun × Row). used b.1 >>= λ u. ok (Begin b.0 u.0, u.1)) y e
     (λ b is then. through P (used b.1) (λ (u : ℕ × Row). ok (Begin b.0 u.0, u.1)) y then
     (λ u is' then'.
     let p = begun_plain input k row b is in
     made P (Begin b.0 u.0, u.1) y then' (record { fits = p.0; range = (p.1, used_word b.1 u is'); bare = λ e. tt })))
 what_of_plain input k word.Normal row y e =
-    through (WhatRead input.script) (one_field read_event row) (λ (f : ℕ × Row). ok (Normal f.0, f.1)) y e
-    (λ f is then. made (WhatRead input.script) (Normal f.0, f.1) y then (record { fits = refl; range = event_word row f is; bare = λ e. tt }))
+    through (WhatRead input) (one_field read_event row) (λ (f : ℕ × Row). ok (Normal f.0, f.1)) y e
+    (λ f is then. made (WhatRead input) (Normal f.0, f.1) y then (record { fits = refl; range = event_word row f is; bare = λ e. tt }))
 what_of_plain input k word.End row y e =
-    through (WhatRead input.script) (one_field read_event row) (λ (f : ℕ × Row). ok (End f.0, f.1)) y e
-    (λ f is then. made (WhatRead input.script) (End f.0, f.1) y then (record { fits = refl; range = event_word row f is; bare = λ e. tt }))
+    through (WhatRead input) (one_field read_event row) (λ (f : ℕ × Row). ok (End f.0, f.1)) y e
+    (λ f is then. made (WhatRead input) (End f.0, f.1) y then (record { fits = refl; range = event_word row f is; bare = λ e. tt }))
 what_of_plain input k word.Expire row y e =
-    let P = WhatRead input.script in
+    let P = WhatRead input in
     through P (expired input.names row) (λ (t : TimerKey × Row). used t.1 >>= λ u. ok (Expire t.0 u.0, u.1)) y e
     (λ t is then. through P (used t.1) (λ (u : ℕ × Row). ok (Expire t.0 u.0, u.1)) y then
     (λ u is' then'. made P (Expire t.0 u.0, u.1) y then'
     (record { fits = expired_plain input k row t is; range = used_word t.1 u is'; bare = λ e. tt })))
 what_of_plain input k word.Fire row y e =
-    let P = WhatRead input.script in
+    let P = WhatRead input in
     through P (one_field (read_dpc input.names) row) (λ (d : DpcNo × Row). replied d.1 >>= λ r. ok (Fire d.0 r.0, r.1)) y e
     (λ d is then. through P (replied d.1) (λ (r : Reply × Row). ok (Fire d.0 r.0, r.1)) y then
     (λ r is' then'. made P (Fire d.0 r.0, r.1) y then'
     (record { fits = dpc_fits input k row d is; range = replied_fits d.1 r is'; bare = λ e. tt })))
 what_of_plain input k word.Clean row y e =
-    through (WhatRead input.script) (one_field read_class row) (λ (c : ℕ × Row). ok (Clean c.0, c.1)) y e
-    (λ c is then. made (WhatRead input.script) (Clean c.0, c.1) y then
+    through (WhatRead input) (one_field read_class row) (λ (c : ℕ × Row). ok (Clean c.0, c.1)) y e
+    (λ c is then. made (WhatRead input) (Clean c.0, c.1) y then
     (record { fits = refl; range = one_fits (number_takes 2 (lit< tt)) row c is; bare = λ e. tt }))
 what_of_plain input k word.Switch row y e =
-    let P = WhatRead input.script in
+    let P = WhatRead input in
     through P (one_field (read_thread input.names) row) (λ (t : ThreadNo × Row). status t.1 >>= λ s. ok (Switch t.0 s.0, s.1)) y e
     (λ t is then. through P (status t.1) (λ (s : Option ℕ × Row). ok (Switch t.0 s.0, s.1)) y then
     (λ s is' then'. made P (Switch t.0 s.0, s.1) y then'
     (record { fits = thread_fits input k row t is; range = status_fits t.1 s is'; bare = λ e. tt })))
 what_of_plain input k word.Rewait row y e =
-    let P = WhatRead input.script in
+    let P = WhatRead input in
     through P (one_field read_event row) (λ (f : ℕ × Row). replied f.1 >>= λ r. ok (Rewait f.0 r.0, r.1)) y e
     (λ f is then. through P (replied f.1) (λ (r : Reply × Row). ok (Rewait f.0 r.0, r.1)) y then
     (λ r is' then'. made P (Rewait f.0 r.0, r.1) y then'
     (record { fits = refl; range = (event_word row f is, replied_fits f.1 r is'); bare = λ e. tt })))
 what_of_plain input k word.Flush row y e =
-    let P = WhatRead input.script in
+    let P = WhatRead input in
     through P (one_field (read_apc input.names) row) (λ (a : ApcNo × Row). used a.1 >>= λ u. ok (Flush a.0 u.0, u.1)) y e
     (λ a is then. through P (used a.1) (λ (u : ℕ × Row). ok (Flush a.0 u.0, u.1)) y then
     (λ u is' then'. made P (Flush a.0 u.0, u.1) y then'
     (record { fits = apc_fits input k row a is; range = used_word a.1 u is'; bare = λ e. tt })))
 what_of_plain input k word.Gone row y e =
-    through (WhatRead input.script) (one_field (read_thread input.names) row) (λ (t : ThreadNo × Row). ok (Gone t.0, t.1)) y e
-    (λ t is then. made (WhatRead input.script) (Gone t.0, t.1) y then (record { fits = thread_fits input k row t is; range = tt; bare = λ e. tt }))
-what_of_plain input k word.Rest row y e = made (WhatRead input.script) (Rest, row) y e (record { fits = refl; range = tt; bare = λ e. tt })
+    through (WhatRead input) (one_field (read_thread input.names) row) (λ (t : ThreadNo × Row). ok (Gone t.0, t.1)) y e
+    (λ t is then. made (WhatRead input) (Gone t.0, t.1) y then (record { fits = thread_fits input k row t is; range = tt; bare = λ e. tt }))
+what_of_plain input k word.Free row y e =
+    let P = WhatRead input in
+    through P (one_field read_event row) (λ (f : ℕ × Row). one_field (read_lock input.names) f.1 >>= λ l. ok (Free f.0 l.0, l.1)) y e
+    (λ f is then. through P (one_field (read_lock input.names) f.1) (λ (l : LockNo × Row). ok (Free f.0 l.0, l.1)) y then
+    (λ l is' then'. made P (Free f.0 l.0, l.1) y then'
+    (record { fits = lock_fits input k f.1 l is'; range = event_word row f is; bare = λ e. tt })))
+what_of_plain input k word.Rest row y e = made (WhatRead input) (Rest, row) y e (record { fits = refl; range = tt; bare = λ e. tt })
 
-what_plain : (input : Input) → Known input → (row : Row) (y : What × Row) → what input.names input.script.cpus row ≡ Ok y → WhatRead input.script y
+what_plain : (input : Input) → Known input → (row : Row) (y : What × Row) → what input row ≡ Ok y → WhatRead input y
 what_plain input k row y e =
-    through (WhatRead input.script) (one_field read_event_word row) (λ (w : EventWord × Row). what_of input.names input.script.cpus w.0 w.1) y e
+    through (WhatRead input) (one_field read_event_word row) (λ (w : EventWord × Row). what_of input w.0 w.1) y e
     (λ w is then. what_of_plain input k w.0 w.1 y then)
 
 -- ---- the whole line
 
-abbrev LineRead : Script → EventLine → Type 0
-LineRead s line = EventIsPlain s line.event
+abbrev LineRead : Input → EventLine → Type 0
+LineRead input line = EventIsPlain input line.event
 
 line : ℕ → CpuNo → Option ThreadNo → ℕ → What → EventLine
 line n p t l w = record { number = n; event = record { cpu = p; thread = t; level = l; what = w } }
 
 pub event_line_plain : (input : Input) → Known input → (number : List ℕ) (row : Row) (y : EventLine) →
-    event_line input.names input.script.cpus number row ≡ Ok y → EventIsPlain input.script y.event
+    event_line input number row ≡ Ok y → EventIsPlain input y.event
 unfolding line
 event_line_plain input k number row y e =
-    let P = LineRead input.script in
+    let P = LineRead input in
     let names = input.names in
     let cpus = input.script.cpus in
     through P (read_event number) (λ (n : ℕ). one_field (read_processor cpus) row >>= λ p. one_field (read_running names) p.1 >>= λ t.
-    one_field read_level t.1 >>= λ l. what names cpus l.1 >>= λ w. at_end (line n p.0 t.0 l.0 w.0) w.1) y e
+    one_field read_level t.1 >>= λ l. what input l.1 >>= λ w. at_end (line n p.0 t.0 l.0 w.0) w.1) y e
     (λ n is0 e0. through P (one_field (read_processor cpus) row) (λ (p : CpuNo × Row). one_field (read_running names) p.1 >>= λ t.
-    one_field read_level t.1 >>= λ l. what names cpus l.1 >>= λ w. at_end (line n p.0 t.0 l.0 w.0) w.1) y e0
+    one_field read_level t.1 >>= λ l. what input l.1 >>= λ w. at_end (line n p.0 t.0 l.0 w.0) w.1) y e0
     (λ p is1 e1. through P (one_field (read_running names) p.1) (λ (t : Option ThreadNo × Row).
-    one_field read_level t.1 >>= λ l. what names cpus l.1 >>= λ w. at_end (line n p.0 t.0 l.0 w.0) w.1) y e1
-    (λ t is2 e2. through P (one_field read_level t.1) (λ (l : ℕ × Row). what names cpus l.1 >>= λ w. at_end (line n p.0 t.0 l.0 w.0) w.1) y e2
-    (λ l is3 e3. through P (what names cpus l.1) (λ (w : What × Row). at_end (line n p.0 t.0 l.0 w.0) w.1) y e3
+    one_field read_level t.1 >>= λ l. what input l.1 >>= λ w. at_end (line n p.0 t.0 l.0 w.0) w.1) y e1
+    (λ t is2 e2. through P (one_field read_level t.1) (λ (l : ℕ × Row). what input l.1 >>= λ w. at_end (line n p.0 t.0 l.0 w.0) w.1) y e2
+    (λ l is3 e3. through P (what input l.1) (λ (w : What × Row). at_end (line n p.0 t.0 l.0 w.0) w.1) y e3
     (λ w is4 e4.
     let o1 = one_ok (read_processor cpus) row p is1 in
     let o2 = one_ok (read_running names) p.1 t is2 in

@@ -8,7 +8,7 @@ use Rattle.nt_text.specs.declared.kind.ScriptKind.TheVariants.{BadNumber}
 use Rattle.nt_text.specs.Lines.{Row}
 use Rattle.nt_event.specs.declared.commands.Refusal.{Refusal}
 use Rattle.nt_event.specs.declared.commands.Reply.{Reply}
-use Rattle.nt_event.specs.declared.commands.Reply.TheVariants.{Blocked, Done, No, Refused, Status, Yes}
+use Rattle.nt_event.specs.declared.commands.Reply.TheVariants.{Blocked, Done, No, Refused, Spin, Status, Yes}
 use Rattle.nt_event.specs.declared.numbers.CpuNo.{CpuNo}
 use Rattle.nt_event.specs.declared.numbers.ThreadNo.{ThreadNo}
 use Rattle.nt_event.specs.declared.scripts.Script.{Script}
@@ -21,7 +21,6 @@ use Rattle.nt_line.proofs.Results.{bind_ok, or_error_ok}
 use Rattle.nt_line.proofs.FieldTexts.{cpu_takes, number_takes, unless_takes}
 use Rattle.nt_line.proofs.UsedNames.{AreFew, thread_takes}
 use Rattle.nt_print.specs.Conditions.{IsWord, ReplyInRange, StatusInRange}
-use Rattle.nt_print.specs.Written.{is_written_refusal}
 use Rattle.nt_report.specs.declared.fields.TheConstants.{REFUSALS}
 use Rattle.nt_report.specs.declared.words.ReplyWord.{ReplyWord}
 use Rattle.nt_report.specs.declared.words.ReplyWord.TheVariants as word
@@ -85,37 +84,18 @@ hexadecimal_word row y e =
 abbrev pub ReplyRead : Reply × Row → Type 0
 ReplyRead y = ReplyInRange y.0
 
--- a cause that is found among these has words
-found_written : (n : ℕ) (rs : List Refusal) (r : Refusal) → AllByRecursion (λ q. is_written_refusal q ≡ true) rs → find (λ q. refusal_number q == n) rs ≡ Some r →
-    is_written_refusal r ≡ true
-found_written n [] r all e = absurd cc
-found_written n (q ∷ rs) r all e = go (refusal_number q == n) e (λ later. found_written n rs r all.1 later)
-  where
-    go : (b : Bool) → cond b (Some q) (find (λ q. refusal_number q == n) rs) ≡ Some r →
-        (find (λ q. refusal_number q == n) rs ≡ Some r → is_written_refusal r ≡ true) → is_written_refusal r ≡ true
-    go true e more = let same : q ≡ r = cc in subst (λ (x : Refusal). is_written_refusal x ≡ true) same all.0
-    go false e more = more e
-
-refusal_written : (n : ℕ) (r : Refusal) → refusal_of n ≡ Some r → is_written_refusal r ≡ true
-unfolding refusal_of
-refusal_written n r e = found_written n REFUSALS r (refl, (refl, (refl, (refl, (refl, (refl, (refl, (refl, tt)))))))) e
-
-read_written : (f : List ℕ) (r : Refusal) → read_refusal f ≡ Ok r → is_written_refusal r ≡ true
-read_written f r e =
-    let b = bind_ok (read_number 8 f) (λ n. or_error BadNumber (refusal_of n)) r e in
-    refusal_written b.value r (or_error_ok BadNumber (refusal_of b.value) r b.then)
-
 refused_fits : (row : Row) (y : Reply × Row) → refused row ≡ Ok y → ReplyRead y
 refused_fits row y e =
     through ReplyRead (one_field read_refusal row) (λ (r : Refusal × Row). behind_word (refusal_name r.0) r.1 >>= λ left. ok (Refused r.0, left)) y e
     (λ r is then. through ReplyRead (behind_word (refusal_name r.0) r.1) (λ (left : Row). ok (Refused r.0, left)) y then
-    (λ left is' then'. made ReplyRead (Refused r.0, left) y then' (let o = one_ok read_refusal row r is in read_written o.0 r.0 o.1)))
+    (λ left is' then'. made ReplyRead (Refused r.0, left) y then' tt))
 
 reply_of_fits : (w : ReplyWord) (row : Row) (y : Reply × Row) → reply_of w row ≡ Ok y → ReplyRead y
 reply_of_fits word.Done row y e = made ReplyRead (Done, row) y e tt
 reply_of_fits word.Yes row y e = made ReplyRead (Yes, row) y e tt
 reply_of_fits word.No row y e = made ReplyRead (No, row) y e tt
 reply_of_fits word.Blocked row y e = made ReplyRead (Blocked, row) y e tt
+reply_of_fits word.Spin row y e = made ReplyRead (Spin, row) y e tt
 reply_of_fits word.Refused row y e = refused_fits row y e
 reply_of_fits word.Status row y e =
     through ReplyRead (one_field read_hexadecimal row) (λ (x : ℕ × Row). ok (Status x.0, x.1)) y e

@@ -8,6 +8,7 @@ use Rattle.nt_text.specs.declared.kind.ScriptKind.{ScriptKind}
 use Rattle.nt_text.specs.Lines.{Row, first, rest, row_of}
 use Rattle.nt_event.specs.declared.limits.TheConstants.{EVENTS}
 use Rattle.nt_event.specs.declared.numbers.CpuNo.{CpuNo}
+use Rattle.nt_event.specs.declared.numbers.LockNo.{LockNo}
 use Rattle.nt_line.specs.declared.names.Named.{Named}
 use Rattle.nt_line.specs.Results.{◌>>=◌}
 use Rattle.nt_script.specs.declared.walk.Input.{Input}
@@ -24,11 +25,11 @@ use Rattle.nt_report.specs.declared.events.EventLine.{EventLine}
 use Rattle.nt_report.specs.declared.places.LineWord.{LineWord}
 use Rattle.nt_report.specs.declared.places.LineWord.TheVariants as word
 use Rattle.nt_report.specs.declared.places.ReportPlace.{ReportPlace}
-use Rattle.nt_report.specs.declared.places.ReportPlace.TheVariants.{Start, InEvents, InCuts, InWaits, InSchedule}
+use Rattle.nt_report.specs.declared.places.ReportPlace.TheVariants.{Start, InEvents, InCuts, InSpins, InWaits, InSchedule}
 use Rattle.nt_report.specs.declared.walk.Parts.{Parts}
 use Rattle.nt_report.specs.Events.{event_line}
 use Rattle.nt_report.specs.Walked.{Walked}
-use Rattle.nt_report.specs.Reading.{act, and_then, cut_line, finish, front_step, kept, line_step, line_word, schedule_step, start, step_at, waits_line, walk, with_event, with_place, with_schedule, word_at}
+use Rattle.nt_report.specs.Reading.{act, and_then, cut_line, finish, front_step, kept, line_step, line_word, schedule_step, spins_line, start, step_at, waits_line, walk, with_event, with_place, with_schedule, word_at}
 use Rattle.nt_report.proofs.Steps.{made, ok, through}
 use Rattle.nt_report.proofs.PlainEvents.{event_line_plain}
 
@@ -59,7 +60,7 @@ pub kept_room : (lines : List EventLine) (line : EventLine) → length lines < E
 kept_room lines line room = cond-true (ltb (length lines) EVENTS) (lines ++ line ∷ []) lines (lt-ltb (length lines) EVENTS room)
 
 abbrev pub LineIsPlain : Input → EventLine → Type 0
-LineIsPlain input line = EventIsPlain input.script line.event
+LineIsPlain input line = EventIsPlain input line.event
 
 abbrev pub AllPlain : Input → List EventLine → Type 0
 AllPlain input lines = AllByRecursion (LineIsPlain input) lines
@@ -71,7 +72,7 @@ kept_plain input lines line one all = go (nat_lt (length lines) EVENTS)
     go true = all_more (LineIsPlain input) lines line all one
     go false = all
 
--- the part of the events, cuts and waits
+-- the part of the schedule
 abbrev pub in_schedule : ReportPlace → Bool
 in_schedule InSchedule = true
 in_schedule _ = false
@@ -81,14 +82,14 @@ pub record Taken (input : Input) (w : Walked) (line : TextLine) (new : Walked) :
   pub few : length new.lines ≤ length w.lines + 1
   pub plain : AllPlain input w.lines → AllPlain input new.lines
   pub part : ((in_schedule new.place ≡ false) × (new.schedule ≡ w.schedule)) ⊎
-      ((s : ScheduleWalk) × (schedule_line input.script.cpus input.names w.schedule line ≡ Ok s) × (new ≡ with_schedule w s))
+      ((s : ScheduleWalk) × (schedule_line input.script.cpus input w.schedule line ≡ Ok s) × (new ≡ with_schedule w s))
 
 same_lines : (input : Input) (w : Walked) (line : TextLine) (place : ReportPlace) → in_schedule place ≡ false → Taken input w line (with_place w place)
 same_lines input w line place h = record { few = omega arith; plain = λ p. p; part = inl (h, refl) }
 
 schedule_taken : (input : Input) (w : Walked) (line : TextLine) (new : Walked) → schedule_step input w line ≡ Ok new → Taken input w line new
 schedule_taken input w line new e =
-    through (Taken input w line) (schedule_line input.script.cpus input.names w.schedule line) (λ (s : ScheduleWalk). ok (with_schedule w s)) new e
+    through (Taken input w line) (schedule_line input.script.cpus input w.schedule line) (λ (s : ScheduleWalk). ok (with_schedule w s)) new e
     (λ s is so. made (Taken input w line) (with_schedule w s) new so
     (record { few = omega arith; plain = λ p. p; part = inr (s, is, refl) }))
 
@@ -98,7 +99,7 @@ act_taken input k w word.Report row line new h e =
     through (Taken input w line) (counted (length (rest row)) 0) (λ (b : Bool). ok (with_place w InEvents)) new e
     (λ b is so. made (Taken input w line) (with_place w InEvents) new so (same_lines input w line InEvents refl))
 act_taken input k w word.Event row line new h e =
-    through (Taken input w line) (event_line input.names input.script.cpus (first row) (rest row)) (λ (l : EventLine). ok (with_event w l)) new e
+    through (Taken input w line) (event_line input (first row) (rest row)) (λ (l : EventLine). ok (with_event w l)) new e
     (λ l is so.
     let plain = event_line_plain input k (first row) (rest row) l is in
     made (Taken input w line) (with_event w l) new so
@@ -110,6 +111,9 @@ act_taken input k w word.Event row line new h e =
 act_taken input k w word.Cut row line new h e =
     through (Taken input w line) (cut_line input.script.cpus (rest row)) (λ (p : CpuNo). ok (with_place w InCuts)) new e
     (λ p is so. made (Taken input w line) (with_place w InCuts) new so (same_lines input w line InCuts refl))
+act_taken input k w word.Spins row line new h e =
+    through (Taken input w line) (spins_line input.names input.script.cpus (rest row)) (λ (l : LockNo). ok (with_place w InSpins)) new e
+    (λ l is so. made (Taken input w line) (with_place w InSpins) new so (same_lines input w line InSpins refl))
 act_taken input k w word.Waits row line new h e =
     through (Taken input w line) (waits_line input.names (rest row)) (λ (x : Named). ok (with_place w InWaits)) new e
     (λ x is so. made (Taken input w line) (with_place w InWaits) new so (same_lines input w line InWaits refl))
@@ -130,6 +134,7 @@ step_taken input k w line new e = go w.place refl e
     go Start is e = front_taken input k w line new (ap in_schedule is) e
     go InEvents is e = front_taken input k w line new (ap in_schedule is) e
     go InCuts is e = front_taken input k w line new (ap in_schedule is) e
+    go InSpins is e = front_taken input k w line new (ap in_schedule is) e
     go InWaits is e = front_taken input k w line new (ap in_schedule is) e
 
 -- ---- all lines
@@ -186,17 +191,17 @@ lines_plain input k w n (line ∷ more) parts e h =
 
 -- the lines from one on are a schedule
 pub IsReadAs : Input → Schedule → Type 0
-IsReadAs input s = (n : ℕ) × (ls : List TextLine) × (schedule_walk input.script.cpus input.names schedule_start n ls ≡ Ok s)
+IsReadAs input s = (n : ℕ) × (ls : List TextLine) × (schedule_walk input.script.cpus input schedule_start n ls ≡ Ok s)
 
 -- inside the schedule
 inside : (input : Input) (w : Walked) (n : ℕ) (ls : List TextLine) (parts : Parts) → in_schedule w.place ≡ true → walk input w n ls ≡ Ok parts →
-    schedule_walk input.script.cpus input.names w.schedule n ls ≡ Ok parts.schedule
+    schedule_walk input.script.cpus input w.schedule n ls ≡ Ok parts.schedule
 inside input w n [] parts h e = (finish_takes w n parts e).1
 inside input w n (line ∷ more) parts h e =
     let g = went input w n line more parts e in
-    let P : Walked → Type 0 = λ new. walk input new (n + 1) more ≡ Ok parts → schedule_walk input.script.cpus input.names w.schedule n (line ∷ more)
+    let P : Walked → Type 0 = λ new. walk input new (n + 1) more ≡ Ok parts → schedule_walk input.script.cpus input w.schedule n (line ∷ more)
     ≡ Ok parts.schedule in
-    through P (schedule_line input.script.cpus input.names w.schedule line) (λ (s : ScheduleWalk). ok (with_schedule w s)) g.new (at w.place h g.step)
+    through P (schedule_line input.script.cpus input w.schedule line) (λ (s : ScheduleWalk). ok (with_schedule w s)) g.new (at w.place h g.step)
     (λ s is so. made P (with_schedule w s) g.new so
     (λ goes_on. rw is (inside input (with_schedule w s) (n + 1) more parts refl goes_on))) g.goes_on
   where
@@ -205,6 +210,7 @@ inside input w n (line ∷ more) parts h e =
     at Start h e = absurd cc
     at InEvents h e = absurd cc
     at InCuts h e = absurd cc
+    at InSpins h e = absurd cc
     at InWaits h e = absurd cc
 
 -- before it
@@ -222,20 +228,20 @@ before input k w n (line ∷ more) parts s h e =
   where
     go : (new : Walked) → walk input new (n + 1) more ≡ Ok parts → (new.schedule ≡ schedule_start → in_schedule new.place ≡ false →
         IsReadAs input parts.schedule) → ((in_schedule new.place ≡ false) × (new.schedule ≡ w.schedule)) ⊎
-        ((s : ScheduleWalk) × (schedule_line input.script.cpus input.names w.schedule line ≡ Ok s) × (new ≡ with_schedule w s)) →
+        ((s : ScheduleWalk) × (schedule_line input.script.cpus input w.schedule line ≡ Ok s) × (new ≡ with_schedule w s)) →
         IsReadAs input parts.schedule
     go new e again (inl stays) = again (stays.1 ∙ s) stays.0
     go new e again (inr enters) =
         let now : walk input (with_schedule w enters.0) (n + 1) more ≡ Ok parts = subst (λ (x : Walked). walk input x (n + 1) more ≡ Ok parts) enters.2 e in
         let rest = inside input (with_schedule w enters.0) (n + 1) more parts refl now in
-        let step : schedule_line input.script.cpus input.names schedule_start line ≡ Ok enters.0 =
-        subst (λ (x : ScheduleWalk). schedule_line input.script.cpus input.names x line ≡ Ok enters.0) s enters.1 in
+        let step : schedule_line input.script.cpus input schedule_start line ≡ Ok enters.0 =
+        subst (λ (x : ScheduleWalk). schedule_line input.script.cpus input x line ≡ Ok enters.0) s enters.1 in
         (n, line ∷ more, rw step rest)
 
 -- the parts of a report
 pub record PartsArePlain (input : Input) (parts : Parts) : Type 0 where
   pub lines : AllPlain input parts.lines
-  pub schedule : IsPlainSchedule input.script parts.schedule
+  pub schedule : IsPlainSchedule input parts.schedule
   pub below : AreBelow input.script.cpus parts.schedule.list
 
 pub parts_plain : (input : Input) → IsSound input → (n : ℕ) (ls : List TextLine) (parts : Parts) → walk input start n ls ≡ Ok parts →

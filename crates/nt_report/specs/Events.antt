@@ -10,15 +10,16 @@ use Rattle.nt_event.specs.declared.commands.TimerKey.TheVariants as key
 use Rattle.nt_event.specs.declared.events.Begun.{Begun}
 use Rattle.nt_event.specs.declared.events.Begun.TheVariants as of_begun
 use Rattle.nt_event.specs.declared.events.What.{What}
-use Rattle.nt_event.specs.declared.events.What.TheVariants.{Begin, Call, Clean, End, Expire, Fire, Flush, Gone, Normal, Rest, Rewait, Switch}
+use Rattle.nt_event.specs.declared.events.What.TheVariants.{Begin, Call, Clean, End, Expire, Fire, Flush, Free, Gone, Normal, Rest, Rewait, Switch}
 use Rattle.nt_line.specs.declared.keywords.Keyword.{Keyword}
 use Rattle.nt_line.specs.declared.keywords.Keyword.TheVariants as keyword
 use Rattle.nt_line.specs.declared.keywords.Verb.{Verb}
 use Rattle.nt_line.specs.Keywords.{keyword_of, verb_arity}
 use Rattle.nt_line.specs.NameLists.{NameLists}
 use Rattle.nt_line.specs.Results.{◌>>=◌, or_error}
-use Rattle.nt_line.specs.Fields.{read_apc, read_dpc, read_level, read_thread, read_timer}
+use Rattle.nt_line.specs.Fields.{read_apc, read_dpc, read_level, read_lock, read_thread, read_timer}
 use Rattle.nt_line.specs.Commands.{behind, command_of}
+use Rattle.nt_script.specs.declared.walk.Input.{Input}
 use Rattle.nt_report.specs.declared.events.EventLine.{EventLine}
 use Rattle.nt_report.specs.declared.words.BegunWord.{BegunWord}
 use Rattle.nt_report.specs.declared.words.BegunWord.TheVariants as of_begin
@@ -34,13 +35,13 @@ abbrev pub verb_of : Option Keyword → Result Verb ScriptKind
 verb_of (Some (keyword.Call verb)) = Ok verb
 verb_of _ = Err UnknownWord
 
-abbrev pub read_verb : List ℕ → Result Verb ScriptKind
-read_verb field = verb_of (keyword_of field)
+abbrev pub read_verb : ℕ → List ℕ → Result Verb ScriptKind
+read_verb version field = verb_of (keyword_of version field)
 
 -- a command as in the script
-abbrev pub command : NameLists → ℕ → Row → Result (Command × Row) ScriptKind
-command names cpus row = one_field read_verb row >>= λ v. command_of names cpus v.0 v.1 >>= λ c.
-    Ok (c, behind (verb_arity v.0) v.1)
+abbrev pub command : Input → Row → Result (Command × Row) ScriptKind
+command input row = one_field (read_verb input.version) row >>= λ v.
+    command_of input.names input.script.cpus v.0 v.1 >>= λ c. Ok (c, behind (verb_arity v.0) v.1)
 
 -- ---- what is begun, and what expires
 
@@ -74,24 +75,26 @@ abbrev pub read_event_word : List ℕ → Result EventWord ScriptKind
 read_event_word field = or_error UnknownWord (event_word field)
 
 -- what an event did, by its word and the fields behind it
-abbrev pub what_of : NameLists → ℕ → EventWord → Row → Result (What × Row) ScriptKind
-what_of names cpus word.Call row = one_field read_event row >>= λ f. command names cpus f.1 >>= λ c.
+abbrev pub what_of : Input → EventWord → Row → Result (What × Row) ScriptKind
+what_of input word.Call row = one_field read_event row >>= λ f. command input f.1 >>= λ c.
     replied c.1 >>= λ r. Ok (Call f.0 c.0 r.0, r.1)
-what_of names cpus word.Begin row = begun names row >>= λ b. used b.1 >>= λ u. Ok (Begin b.0 u.0, u.1)
-what_of names cpus word.Normal row = one_field read_event row >>= λ f. Ok (Normal f.0, f.1)
-what_of names cpus word.End row = one_field read_event row >>= λ f. Ok (End f.0, f.1)
-what_of names cpus word.Expire row = expired names row >>= λ k. used k.1 >>= λ u. Ok (Expire k.0 u.0, u.1)
-what_of names cpus word.Fire row = one_field (read_dpc names) row >>= λ d. replied d.1 >>= λ r. Ok (Fire d.0 r.0, r.1)
-what_of names cpus word.Clean row = one_field read_class row >>= λ c. Ok (Clean c.0, c.1)
-what_of names cpus word.Switch row = one_field (read_thread names) row >>= λ t. status t.1 >>= λ s.
+what_of input word.Begin row = begun input.names row >>= λ b. used b.1 >>= λ u. Ok (Begin b.0 u.0, u.1)
+what_of input word.Normal row = one_field read_event row >>= λ f. Ok (Normal f.0, f.1)
+what_of input word.End row = one_field read_event row >>= λ f. Ok (End f.0, f.1)
+what_of input word.Expire row = expired input.names row >>= λ k. used k.1 >>= λ u. Ok (Expire k.0 u.0, u.1)
+what_of input word.Fire row = one_field (read_dpc input.names) row >>= λ d. replied d.1 >>= λ r. Ok (Fire d.0 r.0, r.1)
+what_of input word.Clean row = one_field read_class row >>= λ c. Ok (Clean c.0, c.1)
+what_of input word.Switch row = one_field (read_thread input.names) row >>= λ t. status t.1 >>= λ s.
     Ok (Switch t.0 s.0, s.1)
-what_of names cpus word.Rewait row = one_field read_event row >>= λ f. replied f.1 >>= λ r. Ok (Rewait f.0 r.0, r.1)
-what_of names cpus word.Flush row = one_field (read_apc names) row >>= λ a. used a.1 >>= λ u. Ok (Flush a.0 u.0, u.1)
-what_of names cpus word.Gone row = one_field (read_thread names) row >>= λ t. Ok (Gone t.0, t.1)
-what_of names cpus word.Rest row = Ok (Rest, row)
+what_of input word.Rewait row = one_field read_event row >>= λ f. replied f.1 >>= λ r. Ok (Rewait f.0 r.0, r.1)
+what_of input word.Flush row = one_field (read_apc input.names) row >>= λ a. used a.1 >>= λ u. Ok (Flush a.0 u.0, u.1)
+what_of input word.Gone row = one_field (read_thread input.names) row >>= λ t. Ok (Gone t.0, t.1)
+what_of input word.Free row = one_field read_event row >>= λ f. one_field (read_lock input.names) f.1 >>= λ l.
+    Ok (Free f.0 l.0, l.1)
+what_of input word.Rest row = Ok (Rest, row)
 
-abbrev pub what : NameLists → ℕ → Row → Result (What × Row) ScriptKind
-what names cpus row = one_field read_event_word row >>= λ w. what_of names cpus w.0 w.1
+abbrev pub what : Input → Row → Result (What × Row) ScriptKind
+what input row = one_field read_event_word row >>= λ w. what_of input w.0 w.1
 
 -- ---- the whole line
 
@@ -100,7 +103,7 @@ abbrev pub blank : EventLine
 blank = record { number = 0; event = record { cpu = record { 0 = 0 }; thread = None; level = 0; what = Rest } }
 
 -- the event of a line, and the number that the line gives it: the first field, and those behind it
-abbrev pub event_line : NameLists → ℕ → List ℕ → Row → Result EventLine ScriptKind
-event_line names cpus number row = read_event number >>= λ n. one_field (read_processor cpus) row >>= λ p.
-    one_field (read_running names) p.1 >>= λ t. one_field read_level t.1 >>= λ l. what names cpus l.1 >>= λ w.
+abbrev pub event_line : Input → List ℕ → Row → Result EventLine ScriptKind
+event_line input number row = read_event number >>= λ n. one_field (read_processor input.script.cpus) row >>= λ p.
+    one_field (read_running input.names) p.1 >>= λ t. one_field read_level t.1 >>= λ l. what input l.1 >>= λ w.
     at_end (record { number = n; event = record { cpu = p.0; thread = t.0; level = l.0; what = w.0 } }) w.1

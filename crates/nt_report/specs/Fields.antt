@@ -8,7 +8,7 @@ use Rattle.nt_text.specs.declared.kind.ScriptKind.TheVariants.{BadNumber, ExtraF
 use Rattle.nt_text.specs.Lines.{Row, needed, rest}
 use Rattle.nt_event.specs.declared.commands.Refusal.{Refusal}
 use Rattle.nt_event.specs.declared.commands.Reply.{Reply}
-use Rattle.nt_event.specs.declared.commands.Reply.TheVariants.{Blocked, Done, No, Refused, Status, Yes}
+use Rattle.nt_event.specs.declared.commands.Reply.TheVariants.{Blocked, Done, No, Refused, Spin, Status, Yes}
 use Rattle.nt_event.specs.declared.numbers.CpuNo.{CpuNo}
 use Rattle.nt_event.specs.declared.numbers.ThreadNo.{ThreadNo}
 use Rattle.nt_event.specs.Numbered.{refusal_name, refusal_number}
@@ -99,12 +99,12 @@ read_hexadecimal field = or_error BadNumber (hexadecimal_of field)
 
 -- ---- replies
 
--- the cause of this number, among those for which a text has words
+-- the cause of this number
 unfoldable pub refusal_of : ℕ → Option Refusal
 refusal_of n = find (λ r. refusal_number r == n) REFUSALS
 
 abbrev pub read_refusal : List ℕ → Result Refusal ScriptKind
-read_refusal field = read_number 8 field >>= λ n. or_error BadNumber (refusal_of n)
+read_refusal field = read_number 11 field >>= λ n. or_error BadNumber (refusal_of n)
 
 abbrev pub read_reply_word : List ℕ → Result ReplyWord ScriptKind
 read_reply_word field = or_error UnknownWord (reply_word field)
@@ -120,6 +120,7 @@ reply_of word.Yes row = Ok (Yes, row)
 reply_of word.No row = Ok (No, row)
 reply_of word.Status row = one_field read_hexadecimal row >>= λ x. Ok (Status x.0, x.1)
 reply_of word.Blocked row = Ok (Blocked, row)
+reply_of word.Spin row = Ok (Spin, row)
 reply_of word.Refused row = refused row
 
 -- `->` and a reply

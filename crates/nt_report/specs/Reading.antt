@@ -8,6 +8,7 @@ use Rattle.nt_text.specs.declared.kind.ScriptKind.TheVariants.{UnknownWord, Wron
 use Rattle.nt_text.specs.Lines.{Row, first, rest, lines, row_of}
 use Rattle.nt_event.specs.declared.limits.TheConstants.{EVENTS}
 use Rattle.nt_event.specs.declared.numbers.CpuNo.{CpuNo}
+use Rattle.nt_event.specs.declared.numbers.LockNo.{LockNo}
 use Rattle.nt_event.specs.declared.events.Event.{Event}
 use Rattle.nt_event.specs.declared.events.History.{History}
 use Rattle.nt_event.specs.declared.events.Rises.{Rises}
@@ -18,7 +19,7 @@ use Rattle.nt_line.specs.declared.names.Named.{Named}
 use Rattle.nt_line.specs.declared.names.Named.TheVariants as named
 use Rattle.nt_line.specs.NameLists.{NameLists}
 use Rattle.nt_line.specs.Results.{◌>>=◌, ok_if}
-use Rattle.nt_line.specs.Fields.{read_apc, read_dpc}
+use Rattle.nt_line.specs.Fields.{read_apc, read_dpc, read_lock}
 use Rattle.nt_script.specs.declared.walk.Input.{Input}
 use Rattle.nt_script.specs.Reading.{counted, go_on}
 use Rattle.nt_log.specs.declared.walk.ScheduleWalk.{ScheduleWalk}
@@ -28,10 +29,10 @@ use Rattle.nt_report.specs.declared.events.EventLine.{EventLine}
 use Rattle.nt_report.specs.declared.places.LineWord.{LineWord}
 use Rattle.nt_report.specs.declared.places.LineWord.TheVariants as word
 use Rattle.nt_report.specs.declared.places.ReportPlace.{ReportPlace}
-use Rattle.nt_report.specs.declared.places.ReportPlace.TheVariants.{Start, InEvents, InCuts, InWaits, InSchedule}
+use Rattle.nt_report.specs.declared.places.ReportPlace.TheVariants.{Start, InEvents, InCuts, InSpins, InWaits, InSchedule}
 use Rattle.nt_report.specs.declared.walk.Parts.{Parts}
 use Rattle.nt_report.specs.Walked.{Walked}
-use Rattle.nt_report.specs.Fields.{read_event, read_processor}
+use Rattle.nt_report.specs.Fields.{one_field, read_event, read_processor, used}
 use Rattle.nt_report.specs.Events.{event_line}
 
 -- ---- which line it is
@@ -45,22 +46,25 @@ abbrev pub line_word : List ℕ → Option LineWord
 line_word field = if is_numbered field then Some word.Event
     else (if bytes_eq field (codes "report") then Some word.Report
     else (if bytes_eq field (codes "cut") then Some word.Cut
+    else (if bytes_eq field (codes "spins") then Some word.Spins
     else (if bytes_eq field (codes "waits") then Some word.Waits
-    else (if bytes_eq field (codes "schedule") then Some word.Schedule else None))))
+    else (if bytes_eq field (codes "schedule") then Some word.Schedule else None)))))
 
 -- the order of the parts
 abbrev pub order : ReportPlace → ℕ
 order Start = 0
 order InEvents = 1
 order InCuts = 2
-order InWaits = 3
-order InSchedule = 4
+order InSpins = 3
+order InWaits = 4
+order InSchedule = 5
 
 -- the first and the last place behind which such a line may stand
 abbrev pub earliest : LineWord → ℕ
 earliest word.Report = 0
 earliest word.Event = 1
 earliest word.Cut = 1
+earliest word.Spins = 1
 earliest word.Waits = 1
 earliest word.Schedule = 1
 
@@ -68,8 +72,9 @@ abbrev pub latest : LineWord → ℕ
 latest word.Report = 0
 latest word.Event = 1
 latest word.Cut = 2
-latest word.Waits = 3
-latest word.Schedule = 3
+latest word.Spins = 3
+latest word.Waits = 4
+latest word.Schedule = 4
 
 abbrev pub stands : ReportPlace → LineWord → Bool
 stands place word = nat_le (earliest word) (order place) && nat_le (order place) (latest word)
@@ -104,6 +109,11 @@ with_schedule w schedule = record w { place = InSchedule; schedule = schedule }
 abbrev pub cut_line : ℕ → Row → Result CpuNo ScriptKind
 cut_line cpus args = counted (length args) 1 >>= λ _. read_processor cpus (first args)
 
+-- the lock on which a processor spins, behind the processor and before the number of its call
+abbrev pub spins_line : NameLists → ℕ → Row → Result LockNo ScriptKind
+spins_line names cpus args = counted (length args) 4 >>= λ _. one_field (read_processor cpus) args >>= λ p.
+    one_field (read_lock names) p.1 >>= λ l. used l.1 >>= λ _. Ok l.0
+
 -- an object that can be inserted, by the word of its kind and its name
 abbrev pub read_object : NameLists → List ℕ → List ℕ → Result Named ScriptKind
 read_object names kind name = if bytes_eq kind (codes "dpc") then (read_dpc names name >>= λ d. Ok (named.Dpc d))
@@ -116,17 +126,20 @@ waits_line names args = counted (length args) 3 >>= λ _. read_event (first args
 
 -- a line of the schedule; processors are those of the script
 abbrev pub schedule_step : Input → Walked → List ℕ × Bool → Result Walked ScriptKind
-schedule_step input w line = schedule_line input.script.cpus input.names w.schedule line >>= λ s. Ok (with_schedule w s)
+schedule_step input w line = schedule_line input.script.cpus input w.schedule line >>= λ s. Ok (with_schedule w s)
 
 -- the first line
 abbrev pub report_step : Walked → Row → Result Walked ScriptKind
 report_step w args = counted (length args) 0 >>= λ _. Ok (with_place w InEvents)
 
-abbrev pub event_step : NameLists → ℕ → Walked → List ℕ → Row → Result Walked ScriptKind
-event_step names cpus w number args = event_line names cpus number args >>= λ line. Ok (with_event w line)
+abbrev pub event_step : Input → Walked → List ℕ → Row → Result Walked ScriptKind
+event_step input w number args = event_line input number args >>= λ line. Ok (with_event w line)
 
 abbrev pub cut_step : Input → Walked → Row → Result Walked ScriptKind
 cut_step input w args = cut_line input.script.cpus args >>= λ _. Ok (with_place w InCuts)
+
+abbrev pub spins_step : Input → Walked → Row → Result Walked ScriptKind
+spins_step input w args = spins_line input.names input.script.cpus args >>= λ _. Ok (with_place w InSpins)
 
 abbrev pub waits_step : Input → Walked → Row → Result Walked ScriptKind
 waits_step input w args = waits_line input.names args >>= λ _. Ok (with_place w InWaits)
@@ -134,8 +147,9 @@ waits_step input w args = waits_line input.names args >>= λ _. Ok (with_place w
 -- what a line before the schedule, or its first, makes of what was read before it
 abbrev pub act : Input → Walked → LineWord → Row → List ℕ × Bool → Result Walked ScriptKind
 act input w word.Report row line = report_step w (rest row)
-act input w word.Event row line = event_step input.names input.script.cpus w (first row) (rest row)
+act input w word.Event row line = event_step input w (first row) (rest row)
 act input w word.Cut row line = cut_step input w (rest row)
+act input w word.Spins row line = spins_step input w (rest row)
 act input w word.Waits row line = waits_step input w (rest row)
 act input w word.Schedule row line = schedule_step input w line
 

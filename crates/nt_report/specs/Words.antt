@@ -23,6 +23,7 @@ event_text event.Switch = codes "switch"
 event_text event.Rewait = codes "rewait"
 event_text event.Flush = codes "flush"
 event_text event.Gone = codes "gone"
+event_text event.Free = codes "free"
 event_text event.Rest = codes "rest"
 
 unfoldable pub event_word : List ℕ → Option EventWord
@@ -47,6 +48,7 @@ reply_text reply.Yes = codes "yes"
 reply_text reply.No = codes "no"
 reply_text reply.Status = codes "status"
 reply_text reply.Blocked = codes "blocked"
+reply_text reply.Spin = codes "spin"
 reply_text reply.Refused = codes "refused"
 
 unfoldable pub reply_word : List ℕ → Option ReplyWord

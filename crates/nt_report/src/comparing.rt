@@ -5,7 +5,6 @@ ghost use Rattle.nt_text.specs.Lines.{lines};
 ghost use Rattle.nt_event.specs.Fitting.{events_fit};
 ghost use Rattle.nt_script.specs.Gives.{GivesRead};
 ghost use Rattle.nt_script.specs.Sound.{IsSound};
-ghost use Rattle.nt_print.specs.Written.{replies_written};
 ghost use Rattle.nt_report.specs.Reading.{compared, lines_alike};
 
 use crate::histories::wrong;
@@ -48,7 +47,6 @@ pub(crate) fn compared(
 ) -> Result<History, ScriptRefusal>
     requires sound { IsSound input.now }
     requires fit { events_fit input.now.script history.events ≡ true }
-    requires told { replies_written history.events ≡ true }
     requires bytes { length bytes.now ≤ INPUT_LIMIT }
     requires line { first_line ≤ INPUT_LIMIT + 1 }
     ensures { GivesRead result (compared input.now bytes.now first_line history) }

@@ -1,14 +1,15 @@
 //! The lines of events.
 ghost use Rattle.std.specs.Prelude.{◌≡◌};
-ghost use Rattle.nt_line.specs.Fields.{read_apc, read_dpc};
+ghost use Rattle.nt_line.specs.Fields.{read_apc, read_dpc, read_lock};
 ghost use Rattle.nt_report.specs.Fields.{IsWritten, Reads, Writes, one_field};
 ghost use Rattle.nt_report.specs.Events.{begun, begun_of, blank, command, delay_key, event_line, expired, read_begun_word, read_event_word, read_verb, timer_key, what, what_of};
 
 use crate::fields::{class, event, level, processor, replied, running, status, thread, used, word};
 use crate::line_input::LineInput;
 use crate::words::{BegunWord, EventWord, begun_word, event_word};
-use nt_event::{ApcNo, Begun, Command, CpuNo, DpcNo, Event, Level, TimerKey, What};
+use nt_event::{ApcNo, Begun, Command, CpuNo, DpcNo, Event, Level, LockNo, TimerKey, What};
 use nt_line::{Keyword, Names, Verb, fields, keyword_of};
+use nt_script::Input;
 use nt_text::{Fields, ScriptKind};
 
 /// An event as its line gives it.
@@ -48,21 +49,28 @@ fn apc(names: &Names, row: &mut Fields) -> Result<ApcNo, ScriptKind>
     fields::apc(names, row.need()?)
 }
 
-fn verb_of(field: &[u8]) -> Result<Verb, ScriptKind>
-    ensures { result ≡ read_verb field.now }
+/// The lock of a name.
+pub(crate) fn lock(names: &Names, row: &mut Fields) -> Result<LockNo, ScriptKind>
+    ensures { Reads result row.new (one_field (read_lock names.now) row.old) }
 {
-    match keyword_of(field) {
+    fields::lock(names, row.need()?)
+}
+
+fn verb_of(version: u8, field: &[u8]) -> Result<Verb, ScriptKind>
+    ensures { result ≡ read_verb version field.now }
+{
+    match keyword_of(version, field) {
         Some(Keyword::Call(verb)) => Ok(verb),
         _ => Err(ScriptKind::UnknownWord),
     }
 }
 
 /// A command as in the script.
-fn command(names: &Names, cpus: u8, row: &mut Fields) -> Result<Command, ScriptKind>
-    ensures { Reads result row.new (command names.now cpus row.old) }
+fn command(input: &Input, row: &mut Fields) -> Result<Command, ScriptKind>
+    ensures { Reads result row.new (command input.now row.old) }
 {
-    let verb = verb_of(row.need()?)?;
-    nt_line::command(names, cpus, verb, row)
+    let verb = verb_of(input.version, row.need()?)?;
+    nt_line::command(&input.names, input.script.cpus, verb, row)
 }
 
 fn begun_of(names: &Names, word: BegunWord, row: &mut Fields) -> Result<Begun, ScriptKind>
@@ -118,18 +126,18 @@ fn expired(names: &Names, row: &mut Fields) -> Result<TimerKey, ScriptKind>
 
 /// Writes what an event did, by its word and the fields behind it.
 fn what_of(
-    names: &Names,
-    cpus: u8,
+    input: &Input,
     word: EventWord,
     row: &mut Fields,
     into: &mut What,
 ) -> Result<(), ScriptKind>
-    ensures { Writes result into.new row.new (what_of names.now cpus word row.old) }
+    ensures { Writes result into.new row.new (what_of input.now word row.old) }
 {
+    let names = &input.names;
     match word {
         EventWord::Call => {
             let frame = event(row)?;
-            let command = command(names, cpus, row)?;
+            let command = command(input, row)?;
             let reply = replied(row)?;
             *into = What::Call {
                 frame,
@@ -175,6 +183,11 @@ fn what_of(
                 thread: thread(names, row)?,
             };
         }
+        EventWord::Free => {
+            let frame = event(row)?;
+            let lock = lock(names, row)?;
+            *into = What::Free { frame, lock };
+        }
         EventWord::Rest => *into = What::Rest,
     }
     Ok(())
@@ -187,11 +200,11 @@ fn read_event_word(field: &[u8]) -> Result<EventWord, ScriptKind>
 }
 
 /// Writes what an event did.
-fn read_what(names: &Names, cpus: u8, row: &mut Fields, into: &mut What) -> Result<(), ScriptKind>
-    ensures { Writes result into.new row.new (what names.now cpus row.old) }
+fn read_what(input: &Input, row: &mut Fields, into: &mut What) -> Result<(), ScriptKind>
+    ensures { Writes result into.new row.new (what input.now row.old) }
 {
     let word = read_event_word(row.need()?)?;
-    what_of(names, cpus, word, row, into)
+    what_of(input, word, row, into)
 }
 
 /// Writes the event of a line, and the number that the line gives it: the first field, and those behind it.
@@ -202,7 +215,7 @@ pub(crate) fn event_line<'a>(
     row: &mut Fields<'a>,
     line: &mut EventLine,
 ) -> Result<(), ScriptKind>
-    ensures line { IsWritten result line.new (event_line input.old.names input.old.script.cpus number.now row.old) }
+    ensures line { IsWritten result line.new (event_line input.old number.now row.old) }
     ensures input { input.new ≡ input.old }
 {
     let whole = input.input();
@@ -211,7 +224,7 @@ pub(crate) fn event_line<'a>(
     line.event.cpu = cpu;
     line.event.thread = running(input, cpu, row)?;
     line.event.level = level(row)?;
-    read_what(&whole.names, whole.script.cpus, row, &mut line.event.what)?;
+    read_what(whole, row, &mut line.event.what)?;
     if row.count() > 0 {
         return Err(ScriptKind::ExtraField);
     }

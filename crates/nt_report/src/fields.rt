@@ -10,8 +10,8 @@ use nt_event::{CpuNo, Level, Refusal, Reply, ThreadNo};
 use nt_line::{Names, fields};
 use nt_text::{Fields, ScriptKind, is_word};
 
-/// Every cause of a refused command for which a text has words: none of those of locks.
-const REFUSALS: [Refusal; 8] = [
+/// Every cause of a refused command.
+const REFUSALS: [Refusal; 11] = [
     Refusal::NotThread,
     Refusal::NotBase,
     Refusal::TooHigh,
@@ -20,6 +20,9 @@ const REFUSALS: [Refusal; 8] = [
     Refusal::NotLess,
     Refusal::BelowBase,
     Refusal::NotEntered,
+    Refusal::LockHeld,
+    Refusal::HeldHere,
+    Refusal::NotLast,
 ];
 
 /// A field that has to be this word.
@@ -159,7 +162,7 @@ fn refusal_of(number: u32) -> Option<Refusal>
 fn refusal(field: &[u8]) -> Result<Refusal, ScriptKind>
     ensures { result ≡ read_refusal field.now }
 {
-    refusal_of(fields::number(field, 8)?).ok_or(ScriptKind::BadNumber)
+    refusal_of(fields::number(field, 11)?).ok_or(ScriptKind::BadNumber)
 }
 
 /// The number of a cause and its name.
@@ -180,6 +183,7 @@ fn reply_of(word: ReplyWord, row: &mut Fields) -> Result<Reply, ScriptKind>
         ReplyWord::No => Ok(Reply::No),
         ReplyWord::Status => Ok(Reply::Status(hexadecimal(row)?)),
         ReplyWord::Blocked => Ok(Reply::Blocked),
+        ReplyWord::Spin => Ok(Reply::Spin),
         ReplyWord::Refused => refused(row),
     }
 }

@@ -13,6 +13,8 @@ pub(crate) enum ReportPlace {
     InEvents,
     /// A `cut` line.
     InCuts,
+    /// A `spins` line.
+    InSpins,
     /// A `waits` line.
     InWaits,
     /// A line of the schedule.
@@ -28,6 +30,8 @@ pub(crate) enum LineWord {
     Event,
     /// `cut`.
     Cut,
+    /// `spins`.
+    Spins,
     /// `waits`.
     Waits,
     /// `schedule`.
@@ -56,6 +60,9 @@ fn line_word(field: &[u8]) -> Option<LineWord>
     if field == b"cut".as_slice() {
         return Some(LineWord::Cut);
     }
+    if field == b"spins".as_slice() {
+        return Some(LineWord::Spins);
+    }
     if field == b"waits".as_slice() {
         return Some(LineWord::Waits);
     }
@@ -74,8 +81,9 @@ impl ReportPlace {
             ReportPlace::Start => 0,
             ReportPlace::InEvents => 1,
             ReportPlace::InCuts => 2,
-            ReportPlace::InWaits => 3,
-            ReportPlace::InSchedule => 4,
+            ReportPlace::InSpins => 3,
+            ReportPlace::InWaits => 4,
+            ReportPlace::InSchedule => 5,
         }
     }
 }
@@ -87,7 +95,11 @@ impl LineWord {
     {
         match self {
             LineWord::Report => 0,
-            LineWord::Event | LineWord::Cut | LineWord::Waits | LineWord::Schedule => 1,
+            LineWord::Event
+            | LineWord::Cut
+            | LineWord::Spins
+            | LineWord::Waits
+            | LineWord::Schedule => 1,
         }
     }
 
@@ -99,7 +111,8 @@ impl LineWord {
             LineWord::Report => 0,
             LineWord::Event => 1,
             LineWord::Cut => 2,
-            LineWord::Waits | LineWord::Schedule => 3,
+            LineWord::Spins => 3,
+            LineWord::Waits | LineWord::Schedule => 4,
         }
     }
 

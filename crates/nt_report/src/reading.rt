@@ -6,7 +6,6 @@ ghost use Rattle.nt_event.specs.Fitting.{events_fit};
 ghost use Rattle.nt_script.specs.Gives.{GivesRead};
 ghost use Rattle.nt_script.specs.Sound.{IsSound};
 ghost use Rattle.nt_print.specs.Conditions.{IsReportOf};
-ghost use Rattle.nt_print.specs.Written.{replies_written};
 ghost use Rattle.nt_report.specs.Reading.{reading, start, walk};
 
 use crate::comparing::compared;
@@ -84,9 +83,8 @@ pub fn read_report(
     // The history of a report is answered, and no other history and no bad line.
     ensures only { (h : History) → IsReportOf bytes.now input.now h → GivesRead result (Ok h) }
 
-    // Its events name things of the script, and its replies can be told, as printing wants it.
+    // Its events name things of the script, as printing wants it.
     ensures fits { IfOk result (λ h. events_fit input.now.script h.events ≡ true) }
-    ensures told { IfOk result (λ h. replies_written h.events ≡ true) }
 
     // Which line is refused, and why.
     ensures exact { GivesRead result (reading input.now first_line bytes.now) }

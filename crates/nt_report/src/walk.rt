@@ -1,14 +1,14 @@
 //! Reading the lines of a report, each by its form.
 ghost use Rattle.std.specs.Prelude.{◌≡◌, OnOk};
 ghost use Rattle.nt_history.specs.Briefs.{HasValues, no_rises};
-ghost use Rattle.nt_report.specs.Reading.{cut_line, kept, read_object, waits_line};
+ghost use Rattle.nt_report.specs.Reading.{cut_line, kept, read_object, spins_line, waits_line};
 
-use crate::events::{EventLine, event_line};
-use crate::fields::processor_of;
+use crate::events::{EventLine, event_line, lock};
+use crate::fields::{processor, processor_of, used};
 use crate::kept::KeptLine;
 use crate::line_input::LineInput;
 use crate::places::{LineWord, ReportPlace, word_at};
-use nt_event::{CpuNo, Items, limits};
+use nt_event::{CpuNo, Items, LockNo, limits};
 use nt_line::{Named, Names, fields};
 use nt_log::{Schedule, ScheduleWalk, count};
 use nt_script::{Input, ScriptRefusal, Stop};
@@ -48,6 +48,17 @@ fn cut_line(cpus: u8, args: &mut Fields) -> Result<CpuNo, ScriptKind>
 {
     count(args, 1)?;
     processor_of(cpus, args.take())
+}
+
+/// The lock on which a processor spins.
+fn spins_line(names: &Names, cpus: u8, args: &mut Fields) -> Result<LockNo, ScriptKind>
+    ensures { result ≡ spins_line names.now cpus args.old }
+{
+    count(args, 4)?;
+    processor(cpus, args)?;
+    let lock = lock(names, args)?;
+    used(args)?;
+    Ok(lock)
 }
 
 /// An object that can be inserted, by the word of its kind and its name.
@@ -90,7 +101,7 @@ impl ReportWalk {
     ghost use Rattle.nt_script.specs.Gives.{Gives, GivesRead};
     ghost use Rattle.nt_log.specs.Taking.{TakesLine};
     ghost use Rattle.nt_report.specs.declared.places.ReportPlace.TheVariants.{InSchedule};
-    ghost use Rattle.nt_report.specs.Reading.{cut_step, event_step, finish, front_step, line_step, report_step, schedule_step, start, waits_step};
+    ghost use Rattle.nt_report.specs.Reading.{cut_step, event_step, finish, front_step, line_step, report_step, schedule_step, spins_step, start, waits_step};
 
     /// Nothing was read.
     pub fn new(alloc: Global) -> ReportWalk
@@ -118,6 +129,7 @@ impl ReportWalk {
             ReportPlace::Start
             | ReportPlace::InEvents
             | ReportPlace::InCuts
+            | ReportPlace::InSpins
             | ReportPlace::InWaits => self.next_front_line(input, lines),
         }
     }
@@ -147,8 +159,7 @@ impl ReportWalk {
         requires { self.old.place ≡ InSchedule }
         ensures { TakesLine (schedule_step input.now self.old) result self.old self.new lines.old lines.new }
     {
-        self.schedule
-            .next_line(&input.names, input.script.cpus, lines)
+        self.schedule.next_line(input, input.script.cpus, lines)
     }
 
     /// Takes the first line that is left, before the schedule or its first line.
@@ -173,7 +184,7 @@ impl ReportWalk {
     fn schedule_line(&mut self, input: &Input, line: &Line) -> Result<(), Stop>
         ensures { Gives result self.new (schedule_step input.now self.old (line.now.bytes.now, line.now.ended)) }
     {
-        self.schedule.line(&input.names, input.script.cpus, line)?;
+        self.schedule.line(input, input.script.cpus, line)?;
         self.place = ReportPlace::InSchedule;
         Ok(())
     }
@@ -189,6 +200,7 @@ impl ReportWalk {
             LineWord::Report => self.report_line(&row),
             LineWord::Event => self.event_line(input, field, &mut row),
             LineWord::Cut => self.cut_line(input.input(), &mut row),
+            LineWord::Spins => self.spins_line(input.input(), &mut row),
             LineWord::Waits => self.waits_line(input.input(), &mut row),
             LineWord::Schedule => self.schedule_line(input.input(), line),
         }
@@ -208,7 +220,7 @@ impl ReportWalk {
         number: &[u8],
         row: &mut Fields<'a>,
     ) -> Result<(), Stop>
-        ensures walk { Gives result self.new (event_step input.old.names input.old.script.cpus self.old number.now row.old) }
+        ensures walk { Gives result self.new (event_step input.old self.old number.now row.old) }
         ensures input { input.new ≡ input.old }
     {
         let mut line = EventLine::blank();
@@ -226,6 +238,14 @@ impl ReportWalk {
     {
         cut_line(input.script.cpus, row)?;
         self.place = ReportPlace::InCuts;
+        Ok(())
+    }
+
+    fn spins_line(&mut self, input: &Input, row: &mut Fields) -> Result<(), Stop>
+        ensures { Gives result self.new (spins_step input.now self.old row.old) }
+    {
+        spins_line(&input.names, input.script.cpus, row)?;
+        self.place = ReportPlace::InSpins;
         Ok(())
     }
 

@@ -20,6 +20,7 @@ pub(crate) enum EventWord {
     Rewait,
     Flush,
     Gone,
+    Free,
     Rest,
 }
 
@@ -40,10 +41,11 @@ pub(crate) enum ReplyWord {
     No,
     Status,
     Blocked,
+    Spin,
     Refused,
 }
 
-const EVENT_WORDS: [EventWord; 12] = [
+const EVENT_WORDS: [EventWord; 13] = [
     EventWord::Call,
     EventWord::Begin,
     EventWord::Normal,
@@ -55,6 +57,7 @@ const EVENT_WORDS: [EventWord; 12] = [
     EventWord::Rewait,
     EventWord::Flush,
     EventWord::Gone,
+    EventWord::Free,
     EventWord::Rest,
 ];
 
@@ -67,12 +70,13 @@ const BEGUN_WORDS: [BegunWord; 6] = [
     BegunWord::Apc(ApcKind::User),
 ];
 
-const REPLY_WORDS: [ReplyWord; 6] = [
+const REPLY_WORDS: [ReplyWord; 7] = [
     ReplyWord::Done,
     ReplyWord::Yes,
     ReplyWord::No,
     ReplyWord::Status,
     ReplyWord::Blocked,
+    ReplyWord::Spin,
     ReplyWord::Refused,
 ];
 
@@ -93,6 +97,7 @@ impl EventWord {
             EventWord::Rewait => b"rewait",
             EventWord::Flush => b"flush",
             EventWord::Gone => b"gone",
+            EventWord::Free => b"free",
             EventWord::Rest => b"rest",
         }
     }
@@ -159,6 +164,7 @@ impl ReplyWord {
             ReplyWord::No => b"no",
             ReplyWord::Status => b"status",
             ReplyWord::Blocked => b"blocked",
+            ReplyWord::Spin => b"spin",
             ReplyWord::Refused => b"refused",
         }
     }

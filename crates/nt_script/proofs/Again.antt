@@ -1,15 +1,14 @@
 -- The text of an input is read as the input: one line after the other.
-use Rattle.std.proofs.Common.{◌≡◌, ℕ, suc, ◌+◌, ◌<◌, ◌≤◌, Bool, true, false, List, [], ◌∷◌, ◌++◌, length, map, Some, None, Result, Ok, refl, sym, ◌∙◌, ap, subst, append_assoc, add-zero, arith, lit<}
-use Rattle.std.specs.Prelude.{decimal, is_none, nat_lt}
+use Rattle.std.proofs.Common.{◌≡◌, ℕ, suc, ◌+◌, ◌<◌, ◌≤◌, Bool, true, List, [], ◌∷◌, ◌++◌, length, map, None, Result, Ok, refl, sym, ◌∙◌, ap, subst, append_assoc, add-zero, arith, lit<, lit≤}
+use Rattle.std.specs.Prelude.{decimal, is_none, nat_lt, ◌==◌}
 use Rattle.std.specs.List.{AllByRecursion, sum_by}
 use Rattle.std.proofs.lemmas.Bool.{lt-ltb, le-ltb, ne_eqb}
 use Rattle.std.proofs.lemmas.List.Sums.{sum_by-cons}
 use Rattle.std.proofs.lemmas.List.{append-nil, length-append}
 use Rattle.nt_text.specs.declared.kind.ScriptKind.{ScriptKind}
-use Rattle.nt_text.specs.declared.kind.ScriptKind.TheVariants.{TooMany}
+use Rattle.nt_text.specs.declared.kind.ScriptKind.TheVariants.{BadNumber, TooMany}
 use Rattle.nt_text.specs.declared.kind.What10.TheVariants as what
 use Rattle.nt_text.specs.Fields.{is_name}
-use Rattle.nt_event.specs.declared.commands.ApcKind.TheVariants.{Special, Normal, User}
 use Rattle.nt_event.specs.declared.commands.Command.{Command}
 use Rattle.nt_event.specs.declared.scripts.Script.{Script}
 use Rattle.nt_event.specs.declared.scripts.Routine.{Routine}
@@ -19,81 +18,43 @@ use Rattle.nt_event.specs.declared.scripts.TimerDecl.{TimerDecl}
 use Rattle.nt_event.specs.declared.scripts.ThreadDecl.{ThreadDecl}
 use Rattle.nt_event.specs.declared.scripts.ApcDecl.{ApcDecl}
 use Rattle.nt_event.specs.Script.{isrs_differ, isr_of as isr_routine}
-use Rattle.nt_line.specs.declared.keywords.Verb.TheVariants as verb
 use Rattle.nt_line.specs.declared.keywords.Keyword.{Keyword}
 use Rattle.nt_line.specs.declared.keywords.Keyword.TheVariants as keyword
 use Rattle.nt_line.specs.declared.keywords.Place.{Place}
-use Rattle.nt_line.specs.declared.keywords.Place.TheVariants.{InIsrs, InDpcs, InTimers, InThreads, InApcs, InRoutine}
+use Rattle.nt_line.specs.declared.keywords.Place.TheVariants.{InIsrs, InDpcs, InTimers, InThreads, InApcs, InLocks, InRoutine}
 use Rattle.nt_script.specs.declared.walk.Walk.{Walk}
 use Rattle.nt_line.specs.Places.{place}
 use Rattle.nt_line.specs.NameLists.{NameLists, meaning}
-use Rattle.nt_line.specs.Keywords.{keyword_of, text_of, arity}
-use Rattle.nt_line.specs.Results.{ok_if}
+use Rattle.nt_line.specs.Keywords.{text_of, arity, since}
+use Rattle.nt_line.specs.Results.{◌>>=◌, ok_if}
 use Rattle.nt_line.specs.Fields.{new_name, on_off_text}
 use Rattle.nt_line.specs.Declarations.{dpc_of, timer_of, thread_of, apc_of}
-use Rattle.nt_script.specs.Reading.{declaration, counted, step, act, with_cpus, with_depth, with_threaded, with_isr, with_dpc, with_timer, with_thread, with_apc, with_routine, with_exit, with_command}
+use Rattle.nt_script.specs.Reading.{declaration, counted, step, act, with_version, with_cpus, with_depth, with_threaded, with_isr, with_dpc, with_timer, with_thread, with_apc, with_lock, with_routine, with_exit, with_command}
 use Rattle.nt_line.specs.Fits.{IsrFits, DpcFits, TimerFits, ThreadFits, ApcFits, CommandFits}
 use Rattle.nt_text.specs.Lines.{Row}
-use Rattle.nt_line.specs.Rows.{number_row, isr_args, isr_row, dpc_args, dpc_row, timer_args, timer_row, thread_args, thread_row, apc_args, apc_row, command_args, command_row}
+use Rattle.nt_line.specs.Rows.{number_row, isr_args, isr_row, dpc_args, dpc_row, timer_args, timer_row, thread_args, thread_row, apc_args, apc_row, lock_row, command_args, command_row}
 use Rattle.nt_script.specs.Text.{declared_rows, begun_rows, exit_row, routine_rows}
 use Rattle.nt_line.specs.NameLists.{AreNew}
 use Rattle.nt_line.proofs.FieldTexts.{number_again, on_off_again}
-use Rattle.nt_line.proofs.Spelled.{AreRead, command_again, command_keyword, args_count, word_of_line, isr_again, dpc_again, timer_again, thread_again, apc_again, apc_count}
+use Rattle.nt_line.proofs.Spelled.{AreRead, command_again, command_keyword, args_count, isr_again, dpc_again, timer_again, thread_again, apc_again, apc_count}
 use Rattle.nt_line.proofs.Found.{nowhere_both}
+use Rattle.nt_line.proofs.Words.{HasWords, keyword_again, command_since}
+use Rattle.nt_script.specs.Versions.{most_cpus}
+use Rattle.nt_script.proofs.Fit.{most_64}
 use Rattle.nt_script.proofs.Pairs.{no_pair}
 use Rattle.nt_script.proofs.Taken.{At, at_again}
 use Rattle.nt_script.proofs.Steps.{Between}
 use Rattle.nt_script.proofs.Acts.{apc_arity}
 
--- ---- keywords
-
-pub keyword_again : (w : Keyword) → keyword_of (text_of w) ≡ Some w
-unfolding keyword_of
-keyword_again keyword.Cpus = refl
-keyword_again keyword.Depth = refl
-keyword_again keyword.Threaded = refl
-keyword_again keyword.Isr = refl
-keyword_again (keyword.Dpc false) = refl
-keyword_again (keyword.Dpc true) = refl
-keyword_again keyword.Timer = refl
-keyword_again keyword.Thread = refl
-keyword_again (keyword.Apc Special) = refl
-keyword_again (keyword.Apc Normal) = refl
-keyword_again (keyword.Apc User) = refl
-keyword_again keyword.Routine = refl
-keyword_again keyword.Exit = refl
-keyword_again (keyword.Call verb.Raise) = refl
-keyword_again (keyword.Call verb.Lower) = refl
-keyword_again (keyword.Call verb.Queue) = refl
-keyword_again (keyword.Call verb.Unqueue) = refl
-keyword_again (keyword.Call verb.SetImportance) = refl
-keyword_again (keyword.Call verb.SetTarget) = refl
-keyword_again (keyword.Call verb.SetTimer) = refl
-keyword_again (keyword.Call verb.CancelTimer) = refl
-keyword_again (keyword.Call verb.InsertApc) = refl
-keyword_again (keyword.Call verb.RemoveApc) = refl
-keyword_again (keyword.Call verb.EnterCrit) = refl
-keyword_again (keyword.Call verb.EnterGuard) = refl
-keyword_again (keyword.Call verb.LeaveCrit) = refl
-keyword_again (keyword.Call verb.LeaveGuard) = refl
-keyword_again (keyword.Call verb.StartWait) = refl
-keyword_again (keyword.Call verb.Delay) = refl
-keyword_again (keyword.Call verb.Release) = refl
-keyword_again (keyword.Call verb.Alert) = refl
-keyword_again (keyword.Call verb.TestAlert) = refl
-keyword_again (keyword.Call verb.Interrupt) = refl
-keyword_again (keyword.Call verb.Clock) = refl
-keyword_again (keyword.Call verb.ToUser) = refl
-keyword_again (keyword.Call verb.Yield) = refl
-keyword_again (keyword.Call verb.Note) = refl
+-- ---- one row
 
 counted_again : (n : ℕ) → counted n n ≡ Ok true
 counted_again n = rw (le-ltb n n (omega arith)) refl
 
 -- a row of a keyword that may stand there, with its fields
-step_again : (all : NameLists) (w : Walk) (wd : Keyword) (args : Row) → At w.place wd → length args ≡ arity wd → step all w (text_of wd ∷ args)
-    ≡ act all w wd args
-step_again all w wd args at len = rw (keyword_again wd, at_again w.place wd at, len, counted_again (arity wd)) refl
+step_again : (all : NameLists) (w : Walk) (wd : Keyword) (args : Row) → At w.place wd → since wd ≤ w.version → length args ≡ arity wd →
+    step all w (text_of wd ∷ args) ≡ act all w wd args
+step_again all w wd args at old len = rw (keyword_again w.version wd old, at_again w.place wd at, len, counted_again (arity wd)) refl
 
 new_again : (names : NameLists) (n : List ℕ) → is_name n ≡ true → meaning n names ≡ None → new_name names n ≡ Ok n
 new_again names n named none = rw (named, none) refl
@@ -139,10 +100,10 @@ stays (x ∷ xs) p = refl
 
 pub part_run : {A : Type 0} (all : NameLists) (row : List ℕ → A → Row) (make : List (List ℕ) → List A → Place → Walk) (here : Place) (last : ℕ)
     (before : List (List ℕ)) (Fits : A → Type 0) (most : ℕ)
-    → ((ns : List (List ℕ)) (xs : List A) (p : Place) (n : List ℕ) (x : A) → Between 1 last p → is_name n ≡ true → place n (before ++ ns) ≡ None → Fits x →
+    → ((ns : List (List ℕ)) (xs : List A) (p : Place) (n : List ℕ) (x : A) → Between 2 last p → is_name n ≡ true → place n (before ++ ns) ≡ None → Fits x →
     length xs < most → step all (make ns xs p) (row n x) ≡ Ok (make (ns ++ n ∷ []) (xs ++ x ∷ []) here))
-    → Between 1 last here
-    → (ns : List (List ℕ)) (xs : List A) (ns' : List (List ℕ)) (xs' : List A) (p : Place) → Between 1 last p → length ns ≡ length xs →
+    → Between 2 last here
+    → (ns : List (List ℕ)) (xs : List A) (ns' : List (List ℕ)) (xs' : List A) (p : Place) → Between 2 last p → length ns ≡ length xs →
     AreNew (before ++ ns') ns → AllByRecursion Fits xs → length xs' + length xs ≤ most
     → Steps all (make ns' xs' p) (declared_rows row ns xs) (make (ns' ++ ns) (xs' ++ xs) (place_after xs p here))
 part_run all row make here last before Fits most one can [] [] ns' xs' p at len new fit room = rw (append-nil ns', append-nil xs') refl
@@ -165,20 +126,22 @@ part_run all row make here last before Fits most one can (n ∷ ns) (x ∷ xs) n
 abbrev pub after_isrs : Walk → List Isr → Place → Walk
 after_isrs w xs p = record w { script = record (w.script) { isrs = xs }; place = p }
 
-isr_step : (all : NameLists) (w : Walk) (x : Isr) → AreRead all → Between 1 4 w.place → w.script.cpus ≤ 8 → IsrFits all w.script.cpus x →
+isr_step : (all : NameLists) (w : Walk) (x : Isr) → AreRead all → HasWords all w.version → Between 2 5 w.place → w.script.cpus ≤ 64 →
+    IsrFits all w.script.cpus x →
     is_none (isr_routine w.script.isrs x.cpu x.level) ≡ true → step all w (isr_row all x) ≡ Ok (with_isr w x)
-isr_step all w x are at le fit new = step_again all w keyword.Isr (isr_args all x) at refl ∙ rw (isr_again all w.script.cpus are le x fit, new) refl
+isr_step all w x are has at le fit new = step_again all w keyword.Isr (isr_args all x) at has.from refl
+    ∙ rw (isr_again all w.script.cpus are le x fit, new) refl
 
-pub isrs_run : (all : NameLists) → AreRead all → (w : Walk) → w.script.cpus ≤ 8 → (xs xs' : List Isr) (p : Place) → Between 1 4 p →
+pub isrs_run : (all : NameLists) → AreRead all → (w : Walk) → HasWords all w.version → w.script.cpus ≤ 64 → (xs xs' : List Isr) (p : Place) → Between 2 5 p →
     AllByRecursion (IsrFits all w.script.cpus) xs → isrs_differ (xs' ++ xs) ≡ true →
     Steps all (after_isrs w xs' p) (map (isr_row all) xs) (after_isrs w (xs' ++ xs) (place_after xs p InIsrs))
-isrs_run all are w le [] xs' p at fit apart = rw (append-nil xs') refl
-isrs_run all are w le (x ∷ xs) xs' p at fit apart =
+isrs_run all are w has le [] xs' p at fit apart = rw (append-nil xs') refl
+isrs_run all are w has le (x ∷ xs) xs' p at fit apart =
     let mid = after_isrs w (xs' ++ x ∷ []) InIsrs in
     let apart' : isrs_differ ((xs' ++ x ∷ []) ++ xs) ≡ true = rw (append_assoc xs' (x ∷ []) xs) apart in
-    let more = isrs_run all are w le xs (xs' ++ x ∷ []) InIsrs (omega arith, omega arith) fit.1 apart' in (
+    let more = isrs_run all are w has le xs (xs' ++ x ∷ []) InIsrs (omega arith, omega arith) fit.1 apart' in (
       mid,
-      isr_step all (after_isrs w xs' p) x are at le fit.0 (no_pair xs' x xs apart),
+      isr_step all (after_isrs w xs' p) x are has at le fit.0 (no_pair xs' x xs apart),
       steps_to all mid (map (isr_row all) xs) (λ (ys : List Isr) (n : ℕ) (q : Place). after_isrs w ys q) ((xs' ++ x ∷ []) ++ xs) (xs' ++ x ∷ xs) 0 0
           (place_after xs InIsrs InIsrs) InIsrs
           (append_assoc xs' (x ∷ []) xs) refl (stays xs InIsrs) more,
@@ -187,119 +150,166 @@ isrs_run all are w le (x ∷ xs) xs' p at fit apart =
 abbrev pub after_dpcs : Walk → List (List ℕ) → List DpcDecl → Place → Walk
 after_dpcs w ns xs p = record w { script = record (w.script) { dpcs = xs }; names = record (w.names) { dpcs = ns }; place = p }
 
-dpc_step : (all : NameLists) (w : Walk) (n : List ℕ) (x : DpcDecl) → AreRead all → Between 1 5 w.place → is_name n ≡ true → meaning n w.names ≡ None →
+dpc_step : (all : NameLists) (w : Walk) (n : List ℕ) (x : DpcDecl) → AreRead all → HasWords all w.version → Between 2 6 w.place → is_name n ≡ true →
+    meaning n w.names ≡ None →
     (DpcFits all) x → length w.script.dpcs < 256 → step all w (dpc_row all n x) ≡ Ok (with_dpc w n x)
-dpc_step all w n x are at named none fit room =
+dpc_step all w n x are has at named none fit room =
     let put : List ℕ → DpcDecl → Result Walk ScriptKind = λ name x. ok_if (nat_lt (length w.script.dpcs) 256) (with_dpc w name x) (TooMany what.Dpcs) in
-    step_again all w (keyword.Dpc x.threaded) (n ∷ dpc_args all x) at refl
+    step_again all w (keyword.Dpc x.threaded) (n ∷ dpc_args all x) at has.from refl
     ∙ declaration_again w.names (dpc_of all x.threaded) put n (dpc_args all x) x named none (dpc_again all are x fit)
     ∙ rw (lt-ltb (length w.script.dpcs) 256 room) refl
 
-pub dpcs_run : (all : NameLists) → AreRead all → (w : Walk) → w.names.timers ≡ [] → w.names.threads ≡ [] → w.names.apcs ≡ [] → w.names.routines ≡ [] →
-    (ns : List (List ℕ)) (xs : List DpcDecl) (ns' : List (List ℕ)) (xs' : List DpcDecl) (p : Place) → Between 1 5 p → length ns ≡ length xs →
+pub dpcs_run : (all : NameLists) → AreRead all → (w : Walk) → HasWords all w.version → w.names.timers ≡ [] → w.names.threads ≡ [] → w.names.apcs ≡ [] →
+    w.names.locks ≡ [] → w.names.routines ≡ [] →
+    (ns : List (List ℕ)) (xs : List DpcDecl) (ns' : List (List ℕ)) (xs' : List DpcDecl) (p : Place) → Between 2 6 p → length ns ≡ length xs →
     AreNew ([] ++ ns') ns → AllByRecursion (DpcFits all) xs → length xs' + length xs ≤ 256
     → Steps all (after_dpcs w ns' xs' p) (declared_rows (dpc_row all) ns xs) (after_dpcs w (ns' ++ ns) (xs' ++ xs) (place_after xs p InDpcs))
-dpcs_run all are w nt nh na nr =
-    part_run all (dpc_row all) (after_dpcs w) InDpcs 5 [] (DpcFits all) 256
+dpcs_run all are w has nt nh na nk nr =
+    part_run all (dpc_row all) (after_dpcs w) InDpcs 6 [] (DpcFits all) 256
     (λ ns xs p n x at named none fit room.
-    let unknown : meaning n (record (w.names) { dpcs = ns }) ≡ None = rw (none, nt, nh, na, nr) refl in
-    dpc_step all (after_dpcs w ns xs p) n x are at named unknown fit room)
+    let unknown : meaning n (record (w.names) { dpcs = ns }) ≡ None = rw (none, nt, nh, na, nk, nr) refl in
+    dpc_step all (after_dpcs w ns xs p) n x are has at named unknown fit room)
     (omega arith, omega arith)
 
 abbrev pub after_timers : Walk → List (List ℕ) → List TimerDecl → Place → Walk
 after_timers w ns xs p = record w { script = record (w.script) { timers = xs }; names = record (w.names) { timers = ns }; place = p }
 
-timer_step : (all : NameLists) (w : Walk) (n : List ℕ) (x : TimerDecl) → AreRead all → Between 1 6 w.place → is_name n ≡ true → meaning n w.names ≡ None →
+timer_step : (all : NameLists) (w : Walk) (n : List ℕ) (x : TimerDecl) → AreRead all → HasWords all w.version → Between 2 7 w.place → is_name n ≡ true →
+    meaning n w.names ≡ None →
     (TimerFits all) x → length w.script.timers < 64 → step all w (timer_row all n x) ≡ Ok (with_timer w n x)
-timer_step all w n x are at named none fit room =
+timer_step all w n x are has at named none fit room =
     let put : List ℕ → TimerDecl → Result Walk ScriptKind = λ name x. ok_if (nat_lt (length w.script.timers) 64) (with_timer w name x) (TooMany what.Timers) in
-    step_again all w keyword.Timer (n ∷ timer_args all x) at refl
+    step_again all w keyword.Timer (n ∷ timer_args all x) at has.from refl
     ∙ declaration_again w.names (timer_of all) put n (timer_args all x) x named none (timer_again all are x fit)
     ∙ rw (lt-ltb (length w.script.timers) 64 room) refl
 
-pub timers_run : (all : NameLists) → AreRead all → (w : Walk) → w.names.threads ≡ [] → w.names.apcs ≡ [] → w.names.routines ≡ [] →
-    (ns : List (List ℕ)) (xs : List TimerDecl) (ns' : List (List ℕ)) (xs' : List TimerDecl) (p : Place) → Between 1 6 p → length ns ≡ length xs →
+pub timers_run : (all : NameLists) → AreRead all → (w : Walk) → HasWords all w.version → w.names.threads ≡ [] → w.names.apcs ≡ [] → w.names.locks ≡ [] →
+    w.names.routines ≡ [] →
+    (ns : List (List ℕ)) (xs : List TimerDecl) (ns' : List (List ℕ)) (xs' : List TimerDecl) (p : Place) → Between 2 7 p → length ns ≡ length xs →
     AreNew (w.names.dpcs ++ ns') ns → AllByRecursion (TimerFits all) xs → length xs' + length xs ≤ 64
     → Steps all (after_timers w ns' xs' p) (declared_rows (timer_row all) ns xs) (after_timers w (ns' ++ ns) (xs' ++ xs) (place_after xs p InTimers))
-timers_run all are w nh na nr =
-    part_run all (timer_row all) (after_timers w) InTimers 6 w.names.dpcs (TimerFits all) 64
+timers_run all are w has nh na nk nr =
+    part_run all (timer_row all) (after_timers w) InTimers 7 w.names.dpcs (TimerFits all) 64
     (λ ns xs p n x at named none fit room.
     let m1 = nowhere_both n w.names.dpcs ns 0 none in
-    let unknown : meaning n (record (w.names) { timers = ns }) ≡ None = rw (m1.0, m1.1, nh, na, nr) refl in
-    timer_step all (after_timers w ns xs p) n x are at named unknown fit room)
+    let unknown : meaning n (record (w.names) { timers = ns }) ≡ None = rw (m1.0, m1.1, nh, na, nk, nr) refl in
+    timer_step all (after_timers w ns xs p) n x are has at named unknown fit room)
     (omega arith, omega arith)
 
 abbrev pub after_threads : Walk → List (List ℕ) → List ThreadDecl → Place → Walk
 after_threads w ns xs p = record w { script = record (w.script) { threads = xs }; names = record (w.names) { threads = ns }; place = p }
 
-thread_step : (all : NameLists) (w : Walk) (n : List ℕ) (x : ThreadDecl) → AreRead all → Between 1 7 w.place → w.script.cpus ≤ 8 → is_name n ≡ true →
+thread_step : (all : NameLists) (w : Walk) (n : List ℕ) (x : ThreadDecl) → AreRead all → HasWords all w.version → Between 2 8 w.place → w.script.cpus ≤ 64 →
+    is_name n ≡ true →
     meaning n w.names ≡ None → (ThreadFits all w.script.cpus) x → length w.script.threads < 64 → step all w (thread_row all n x) ≡ Ok (with_thread w n x)
-thread_step all w n x are at le named none fit room =
+thread_step all w n x are has at le named none fit room =
     let put : List ℕ → ThreadDecl → Result Walk ScriptKind = λ name x. ok_if (nat_lt (length w.script.threads) 64) (with_thread w name x)
     (TooMany what.Threads) in
-    step_again all w keyword.Thread (n ∷ thread_args all x) at refl
+    step_again all w keyword.Thread (n ∷ thread_args all x) at has.from refl
     ∙ declaration_again w.names (thread_of all w.script.cpus) put n (thread_args all x) x named none (thread_again all w.script.cpus are le x fit)
     ∙ rw (lt-ltb (length w.script.threads) 64 room) refl
 
-pub threads_run : (all : NameLists) → AreRead all → (w : Walk) → w.script.cpus ≤ 8 → w.names.apcs ≡ [] → w.names.routines ≡ [] →
-    (ns : List (List ℕ)) (xs : List ThreadDecl) (ns' : List (List ℕ)) (xs' : List ThreadDecl) (p : Place) → Between 1 7 p → length ns ≡ length xs →
+pub threads_run : (all : NameLists) → AreRead all → (w : Walk) → HasWords all w.version → w.script.cpus ≤ 64 → w.names.apcs ≡ [] → w.names.locks ≡ [] →
+    w.names.routines ≡ [] →
+    (ns : List (List ℕ)) (xs : List ThreadDecl) (ns' : List (List ℕ)) (xs' : List ThreadDecl) (p : Place) → Between 2 8 p → length ns ≡ length xs →
     AreNew ((w.names.dpcs ++ w.names.timers) ++ ns') ns → AllByRecursion (ThreadFits all w.script.cpus) xs → length xs' + length xs ≤ 64
     → Steps all (after_threads w ns' xs' p) (declared_rows (thread_row all) ns xs) (after_threads w (ns' ++ ns) (xs' ++ xs) (place_after xs p InThreads))
-threads_run all are w le na nr =
-    part_run all (thread_row all) (after_threads w) InThreads 7 (w.names.dpcs ++ w.names.timers) (ThreadFits all w.script.cpus) 64
+threads_run all are w has le na nk nr =
+    part_run all (thread_row all) (after_threads w) InThreads 8 (w.names.dpcs ++ w.names.timers) (ThreadFits all w.script.cpus) 64
     (λ ns xs p n x at named none fit room.
     let m2 = nowhere_both n (w.names.dpcs ++ w.names.timers) ns 0 none in
     let m1 = nowhere_both n w.names.dpcs w.names.timers 0 m2.0 in
-    let unknown : meaning n (record (w.names) { threads = ns }) ≡ None = rw (m1.0, m1.1, m2.1, na, nr) refl in
-    thread_step all (after_threads w ns xs p) n x are at le named unknown fit room)
+    let unknown : meaning n (record (w.names) { threads = ns }) ≡ None = rw (m1.0, m1.1, m2.1, na, nk, nr) refl in
+    thread_step all (after_threads w ns xs p) n x are has at le named unknown fit room)
     (omega arith, omega arith)
 
 abbrev pub after_apcs : Walk → List (List ℕ) → List ApcDecl → Place → Walk
 after_apcs w ns xs p = record w { script = record (w.script) { apcs = xs }; names = record (w.names) { apcs = ns }; place = p }
 
-apc_step : (all : NameLists) (w : Walk) (n : List ℕ) (x : ApcDecl) → AreRead all → Between 1 8 w.place → is_name n ≡ true → meaning n w.names ≡ None →
+apc_step : (all : NameLists) (w : Walk) (n : List ℕ) (x : ApcDecl) → AreRead all → HasWords all w.version → Between 2 9 w.place → is_name n ≡ true →
+    meaning n w.names ≡ None →
     (ApcFits all) x → length w.script.apcs < 256 → step all w (apc_row all n x) ≡ Ok (with_apc w n x)
-apc_step all w n x are at named none fit room =
+apc_step all w n x are has at named none fit room =
     let put : List ℕ → ApcDecl → Result Walk ScriptKind = λ name x. ok_if (nat_lt (length w.script.apcs) 256) (with_apc w name x) (TooMany what.Apcs) in
-    step_again all w (keyword.Apc x.kind) (n ∷ apc_args all x) at (rw (apc_count all are x fit, apc_arity x.kind) refl)
+    step_again all w (keyword.Apc x.kind) (n ∷ apc_args all x) at has.from (rw (apc_count all are x fit, apc_arity x.kind) refl)
     ∙ declaration_again w.names (apc_of all x.kind) put n (apc_args all x) x named none (apc_again all are x fit)
     ∙ rw (lt-ltb (length w.script.apcs) 256 room) refl
 
-pub apcs_run : (all : NameLists) → AreRead all → (w : Walk) → w.names.routines ≡ [] →
-    (ns : List (List ℕ)) (xs : List ApcDecl) (ns' : List (List ℕ)) (xs' : List ApcDecl) (p : Place) → Between 1 8 p → length ns ≡ length xs →
+pub apcs_run : (all : NameLists) → AreRead all → (w : Walk) → HasWords all w.version → w.names.locks ≡ [] → w.names.routines ≡ [] →
+    (ns : List (List ℕ)) (xs : List ApcDecl) (ns' : List (List ℕ)) (xs' : List ApcDecl) (p : Place) → Between 2 9 p → length ns ≡ length xs →
     AreNew (((w.names.dpcs ++ w.names.timers) ++ w.names.threads) ++ ns') ns → AllByRecursion (ApcFits all) xs → length xs' + length xs ≤ 256
     → Steps all (after_apcs w ns' xs' p) (declared_rows (apc_row all) ns xs) (after_apcs w (ns' ++ ns) (xs' ++ xs) (place_after xs p InApcs))
-apcs_run all are w nr =
-    part_run all (apc_row all) (after_apcs w) InApcs 8 ((w.names.dpcs ++ w.names.timers) ++ w.names.threads) (ApcFits all) 256
+apcs_run all are w has nk nr =
+    part_run all (apc_row all) (after_apcs w) InApcs 9 ((w.names.dpcs ++ w.names.timers) ++ w.names.threads) (ApcFits all) 256
     (λ ns xs p n x at named none fit room.
     let m3 = nowhere_both n ((w.names.dpcs ++ w.names.timers) ++ w.names.threads) ns 0 none in
     let m2 = nowhere_both n (w.names.dpcs ++ w.names.timers) w.names.threads 0 m3.0 in
     let m1 = nowhere_both n w.names.dpcs w.names.timers 0 m2.0 in
-    let unknown : meaning n (record (w.names) { apcs = ns }) ≡ None = rw (m1.0, m1.1, m2.1, m3.1, nr) refl in
-    apc_step all (after_apcs w ns xs p) n x are at named unknown fit room)
+    let unknown : meaning n (record (w.names) { apcs = ns }) ≡ None = rw (m1.0, m1.1, m2.1, m3.1, nk, nr) refl in
+    apc_step all (after_apcs w ns xs p) n x are has at named unknown fit room)
     (omega arith, omega arith)
+
+abbrev pub after_locks : Walk → List (List ℕ) → Place → Walk
+after_locks w ns p = record w { script = record (w.script) { locks = length ns }; names = record (w.names) { locks = ns }; place = p }
+
+-- these names of locks, and a count of them
+abbrev with_count : Walk → List (List ℕ) → ℕ → Walk
+with_count w ns k = record w { script = record (w.script) { locks = k }; names = record (w.names) { locks = ns }; place = InLocks }
+
+abbrev read_as : Walk → Result Walk ScriptKind
+read_as w = Ok w
+
+lock_step : (all : NameLists) (w : Walk) (ns : List (List ℕ)) (p : Place) (n : List ℕ) → 2 ≤ w.version → Between 2 10 p → is_name n ≡ true →
+    meaning n (record (w.names) { locks = ns }) ≡ None → length ns < 64 → step all (after_locks w ns p) (lock_row n)
+    ≡ Ok (after_locks w (ns ++ n ∷ []) InLocks)
+lock_step all w ns p n two at named none room =
+    let one : step all (after_locks w ns p) (lock_row n) ≡ Ok (with_lock (after_locks w ns p) n) =
+    step_again all (after_locks w ns p) keyword.Spinlock (n ∷ []) at two refl
+    ∙ rw (new_again (record (w.names) { locks = ns }) n named none, lt-ltb (length ns) 64 room) refl in
+    one ∙ ap (λ (k : ℕ). read_as (with_count w (ns ++ n ∷ []) k)) (sym (length-append ns (n ∷ [])))
+
+pub locks_run : (all : NameLists) (w : Walk) → w.names.routines ≡ [] → (ns ns' : List (List ℕ)) (p : Place) → (1 ≤ length ns → 2 ≤ w.version) →
+    Between 2 10 p → AreNew ((((w.names.dpcs ++ w.names.timers) ++ w.names.threads) ++ w.names.apcs) ++ ns') ns → length ns' + length ns ≤ 64
+    → Steps all (after_locks w ns' p) (map lock_row ns) (after_locks w (ns' ++ ns) (place_after ns p InLocks))
+locks_run all w nr [] ns' p two at new room = rw (append-nil ns') refl
+locks_run all w nr (n ∷ ns) ns' p two at new room =
+    let m4 = nowhere_both n (((w.names.dpcs ++ w.names.timers) ++ w.names.threads) ++ w.names.apcs) ns' 0 new.1 in
+    let m3 = nowhere_both n ((w.names.dpcs ++ w.names.timers) ++ w.names.threads) w.names.apcs 0 m4.0 in
+    let m2 = nowhere_both n (w.names.dpcs ++ w.names.timers) w.names.threads 0 m3.0 in
+    let m1 = nowhere_both n w.names.dpcs w.names.timers 0 m2.0 in
+    let unknown : meaning n (record (w.names) { locks = ns' }) ≡ None = rw (m1.0, m1.1, m2.1, m3.1, m4.1, nr) refl in
+    let mid = after_locks w (ns' ++ n ∷ []) InLocks in
+    let new' : AreNew ((((w.names.dpcs ++ w.names.timers) ++ w.names.threads) ++ w.names.apcs) ++ (ns' ++ n ∷ [])) ns = subst
+    (λ (b : List (List ℕ)). AreNew b ns) (append_assoc (((w.names.dpcs ++ w.names.timers) ++ w.names.threads) ++ w.names.apcs) ns' (n ∷ [])) new.2 in
+    let more = locks_run all w nr ns (ns' ++ n ∷ []) InLocks (λ h. two (omega arith)) (omega arith, omega arith) new' (more_room ns' n (length ns) 64 room) in (
+      mid,
+      lock_step all w ns' p n (two (omega arith)) at new.0 unknown (less_room ns' (length ns) 64 room),
+      steps_to all mid (map lock_row ns) (λ (ks : List (List ℕ)) (k : ℕ) (q : Place). after_locks w ks q) ((ns' ++ n ∷ []) ++ ns) (ns' ++ n ∷ ns) 0 0
+          (place_after ns InLocks InLocks) InLocks
+          (append_assoc ns' (n ∷ []) ns) refl (stays ns InLocks) more,
+    )
 
 -- ---- commands
 
 abbrev after_commands : Walk → List Command → ℕ → Place → Walk
 after_commands w cs n p = record w { body = cs; commands = n; place = p }
 
-command_step : (all : NameLists) (w : Walk) (c : Command) → AreRead all → w.place ≡ InRoutine → w.script.cpus ≤ 8 → CommandFits all w.script.cpus c →
+command_step : (all : NameLists) (w : Walk) (c : Command) → AreRead all → HasWords all w.version → w.place ≡ InRoutine → w.script.cpus ≤ 64 →
+    CommandFits all w.script.cpus c →
     w.commands < 8192 → step all w (command_row all c) ≡ Ok (with_command w c)
-command_step all w c are inside few fit room =
+command_step all w c are has inside few fit room =
     let at : At w.place (command_keyword c) = rw inside (omega arith, omega arith) in
-    ap (λ (f : List ℕ). step all w (f ∷ command_args all c)) (word_of_line all w.script.cpus c fit)
-    ∙ step_again all w (command_keyword c) (command_args all c) at (args_count all w.script.cpus c fit)
+    step_again all w (command_keyword c) (command_args all c) at (command_since all w.script.cpus w.version has c fit) (args_count all c)
     ∙ rw (command_again all w.script.cpus are few c fit, lt-ltb w.commands 8192 room) refl
 
-commands_run : (all : NameLists) → AreRead all → (cs : List Command) (w : Walk) → w.place ≡ InRoutine → w.script.cpus ≤ 8 →
+commands_run : (all : NameLists) → AreRead all → (cs : List Command) (w : Walk) → HasWords all w.version → w.place ≡ InRoutine → w.script.cpus ≤ 64 →
     AllByRecursion (CommandFits all w.script.cpus) cs → w.commands + length cs ≤ 8192
     → Steps all w (map (command_row all) cs) (after_commands w (w.body ++ cs) (w.commands + length cs) w.place)
-commands_run all are [] w inside few fit room = rw (append-nil w.body, add-zero w.commands) refl
-commands_run all are (c ∷ cs) w inside few fit room =
+commands_run all are [] w has inside few fit room = rw (append-nil w.body, add-zero w.commands) refl
+commands_run all are (c ∷ cs) w has inside few fit room =
     let mid = with_command w c in
-    let one : step all w (command_row all c) ≡ Ok mid = command_step all w c are inside few fit.0 (omega arith) in
-    let more = commands_run all are cs mid inside few fit.1 (omega arith) in (
+    let one : step all w (command_row all c) ≡ Ok mid = command_step all w c are has inside few fit.0 (omega arith) in
+    let more = commands_run all are cs mid has inside few fit.1 (omega arith) in (
       mid,
       one,
       steps_to all mid (map (command_row all) cs) (after_commands w) ((w.body ++ c ∷ []) ++ cs) (w.body ++ c ∷ cs) (w.commands + 1 + length cs)
@@ -313,9 +323,10 @@ commands_run all are (c ∷ cs) w inside few fit room =
 pub record Ran (all : NameLists) (w : Walk) (rows : List Row) (script : Script) (names : NameLists) : Type 0 where
   pub last : Walk
   pub steps : Steps all w rows last
+  pub version_is : last.version ≡ w.version
   pub script_is : last.script ≡ script
   pub names_are : last.names ≡ names
-  pub opens : Between 1 9 last.place
+  pub opens : Between 2 11 last.place
 
 abbrev pub with_routines : Script → List Routine → Script
 with_routines s rs = record s { routines = rs }
@@ -323,67 +334,73 @@ with_routines s rs = record s { routines = rs }
 abbrev pub with_names : NameLists → List (List ℕ) → NameLists
 with_names names ns = record names { routines = ns }
 
-begin_step : (all : NameLists) (w : Walk) (n : List ℕ) → Between 1 9 w.place → is_name n ≡ true → meaning n w.names ≡ None → length w.script.routines < 256 →
+begin_step : (all : NameLists) (w : Walk) (n : List ℕ) → 1 ≤ w.version → Between 2 11 w.place → is_name n ≡ true → meaning n w.names ≡ None →
+    length w.script.routines < 256 →
     step all w (text_of keyword.Routine ∷ n ∷ []) ≡ Ok (with_routine w n)
-begin_step all w n at named none room = step_again all w keyword.Routine (n ∷ []) at refl
+begin_step all w n old at named none room = step_again all w keyword.Routine (n ∷ []) at old refl
     ∙ rw (new_again w.names n named none, lt-ltb (length w.script.routines) 256 room) refl
 
-exit_step : (all : NameLists) (w : Walk) → w.place ≡ InRoutine → step all w exit_row ≡ Ok (with_exit w)
-exit_step all w inside = let at : At w.place keyword.Exit = rw inside (omega arith, omega arith) in step_again all w keyword.Exit [] at refl
+exit_step : (all : NameLists) (w : Walk) → 1 ≤ w.version → w.place ≡ InRoutine → step all w exit_row ≡ Ok (with_exit w)
+exit_step all w old inside = let at : At w.place keyword.Exit = rw inside (omega arith, omega arith) in step_again all w keyword.Exit [] at old refl
 
 -- one routine
 abbrev routine_read : Walk → List ℕ → List Command → Walk
 routine_read w n cs = with_exit (after_commands (with_routine w n) ([] ++ cs) (w.commands + length cs) InRoutine)
 
-routine_run : (all : NameLists) → AreRead all → (w : Walk) (n : List ℕ) (cs : List Command) → Between 1 9 w.place → is_name n ≡ true → meaning n w.names
-    ≡ None → length w.script.routines < 256 → w.body ≡ [] → w.script.cpus ≤ 8
+routine_run : (all : NameLists) → AreRead all → (w : Walk) (n : List ℕ) (cs : List Command) → HasWords all w.version → Between 2 11 w.place →
+    is_name n ≡ true → meaning n w.names
+    ≡ None → length w.script.routines < 256 → w.body ≡ [] → w.script.cpus ≤ 64
     → AllByRecursion (CommandFits all w.script.cpus) cs → w.commands + length cs ≤ 8192 →
     Steps all w (begun_rows all n cs ++ exit_row ∷ []) (routine_read w n cs)
-routine_run all are w n cs at named none room empty few fit count =
+routine_run all are w n cs has at named none room empty few fit count =
     let begun = with_routine w n in
     let ran : Steps all begun (map (command_row all) cs)
-    (after_commands begun (w.body ++ cs) (w.commands + length cs) InRoutine) = commands_run all are cs begun refl few fit count in
+    (after_commands begun (w.body ++ cs) (w.commands + length cs) InRoutine) = commands_run all are cs begun has refl few fit count in
     let clean : Steps all begun (map (command_row all) cs) (after_commands begun ([] ++ cs) (w.commands + length cs) InRoutine) = subst
     (λ (b : List Command). Steps all begun (map (command_row all) cs) (after_commands begun (b ++ cs) (w.commands + length cs) InRoutine)) empty ran in
     let there = after_commands begun ([] ++ cs) (w.commands + length cs) InRoutine in (
       begun,
-      begin_step all w n at named none room,
+      begin_step all w n has.from at named none room,
       steps_then all begun (map (command_row all) cs) (exit_row ∷ []) there (with_exit there) clean
-          (with_exit there, exit_step all there refl, refl),
+          (with_exit there, exit_step all there has.from refl, refl),
     )
 
-pub routines_run : (all : NameLists) → AreRead all → (ns : List (List ℕ)) (rs : List Routine) (w : Walk) → length ns ≡ length rs →
-    AreNew ((((w.names.dpcs ++ w.names.timers) ++ w.names.threads) ++ w.names.apcs) ++ w.names.routines) ns → w.body ≡ [] → w.script.cpus ≤ 8
+pub routines_run : (all : NameLists) → AreRead all → (ns : List (List ℕ)) (rs : List Routine) (w : Walk) → HasWords all w.version → length ns ≡ length rs →
+    AreNew (((((w.names.dpcs ++ w.names.timers) ++ w.names.threads) ++ w.names.apcs) ++ w.names.locks) ++ w.names.routines) ns → w.body ≡ [] →
+    w.script.cpus ≤ 64
     → AllByRecursion (λ r. AllByRecursion (CommandFits all w.script.cpus) r.commands) rs → w.commands + sum_by (λ r. length r.commands) rs ≤ 8192 →
-    length w.script.routines + length rs ≤ 256 → Between 1 9 w.place
+    length w.script.routines + length rs ≤ 256 → Between 2 11 w.place
     → Ran all w (routine_rows all ns rs) (with_routines w.script (w.script.routines ++ rs)) (with_names w.names (w.names.routines ++ ns))
-routines_run all are [] [] w len new empty few fit count room at = record {
+routines_run all are [] [] w has len new empty few fit count room at = record {
   last = w;
   steps = refl;
+  version_is = refl;
   script_is = ap (with_routines w.script) (sym (append-nil w.script.routines));
   names_are = ap (with_names w.names) (sym (append-nil w.names.routines));
   opens = at;
 }
-routines_run all are [] (r ∷ rs) w len new empty few fit count room at = absurd (omega arith)
-routines_run all are (n ∷ ns) [] w len new empty few fit count room at = absurd (omega arith)
-routines_run all are (n ∷ ns) (r ∷ rs) w len new empty few fit count room at =
-    let m4 = nowhere_both n (((w.names.dpcs ++ w.names.timers) ++ w.names.threads) ++ w.names.apcs) w.names.routines 0 new.1 in
+routines_run all are [] (r ∷ rs) w has len new empty few fit count room at = absurd (omega arith)
+routines_run all are (n ∷ ns) [] w has len new empty few fit count room at = absurd (omega arith)
+routines_run all are (n ∷ ns) (r ∷ rs) w has len new empty few fit count room at =
+    let m5 = nowhere_both n ((((w.names.dpcs ++ w.names.timers) ++ w.names.threads) ++ w.names.apcs) ++ w.names.locks) w.names.routines 0 new.1 in
+    let m4 = nowhere_both n (((w.names.dpcs ++ w.names.timers) ++ w.names.threads) ++ w.names.apcs) w.names.locks 0 m5.0 in
     let m3 = nowhere_both n ((w.names.dpcs ++ w.names.timers) ++ w.names.threads) w.names.apcs 0 m4.0 in
     let m2 = nowhere_both n (w.names.dpcs ++ w.names.timers) w.names.threads 0 m3.0 in
     let m1 = nowhere_both n w.names.dpcs w.names.timers 0 m2.0 in
-    let none : meaning n w.names ≡ None = rw (m1.0, m1.1, m2.1, m3.1, m4.1) refl in
+    let none : meaning n w.names ≡ None = rw (m1.0, m1.1, m2.1, m3.1, m4.1, m5.1) refl in
     let total : w.commands + (length r.commands + sum_by (λ (r : Routine). length r.commands) rs) ≤ 8192 = rw
     (← sum_by-cons (λ (r : Routine). length r.commands) r rs) count in
-    let one = routine_run all are w n r.commands at new.0 none (less_room w.script.routines (length rs) 256 room) empty few fit.0 (omega (arith, total)) in
+    let one = routine_run all are w n r.commands has at new.0 none (less_room w.script.routines (length rs) 256 room) empty few fit.0 (omega (arith, total)) in
     let mid = routine_read w n r.commands in
-    let new' : AreNew ((((w.names.dpcs ++ w.names.timers) ++ w.names.threads) ++ w.names.apcs) ++ (w.names.routines ++ n ∷ [])) ns = subst
-    (λ (before : List (List ℕ)). AreNew before ns) (append_assoc (((w.names.dpcs ++ w.names.timers) ++ w.names.threads) ++ w.names.apcs) w.names.routines
-    (n ∷ [])) new.2 in
-    let more = routines_run all are ns rs mid (omega arith) new' refl few fit.1 (omega (arith, total)) (more_room w.script.routines r (length rs) 256 room)
+    let before = (((w.names.dpcs ++ w.names.timers) ++ w.names.threads) ++ w.names.apcs) ++ w.names.locks in
+    let new' : AreNew (before ++ (w.names.routines ++ n ∷ [])) ns = subst
+    (λ (before : List (List ℕ)). AreNew before ns) (append_assoc before w.names.routines (n ∷ [])) new.2 in
+    let more = routines_run all are ns rs mid has (omega arith) new' refl few fit.1 (omega (arith, total)) (more_room w.script.routines r (length rs) 256 room)
     (omega arith, omega arith) in
     record {
       last = more.last;
       steps = steps_then all w (begun_rows all n r.commands ++ exit_row ∷ []) (routine_rows all ns rs) mid more.last one more.steps;
+      version_is = more.version_is;
       script_is = more.script_is ∙ ap (with_routines w.script) (append_assoc w.script.routines (r ∷ []) rs);
       names_are = more.names_are ∙ ap (with_names w.names) (append_assoc w.names.routines (n ∷ []) ns);
       opens = more.opens;
@@ -391,13 +408,21 @@ routines_run all are (n ∷ ns) (r ∷ rs) w len new empty few fit count room at
 
 -- ---- the head
 
-pub cpus_step : (all : NameLists) (w : Walk) (n : ℕ) → Between 0 0 w.place → 1 ≤ n → n ≤ 8 → step all w (number_row keyword.Cpus n) ≡ Ok (with_cpus w n)
-cpus_step all w n at low high = step_again all w keyword.Cpus (decimal n ∷ []) at refl
-    ∙ rw (number_again 4294967295 n (lit< tt) (omega arith), ne_eqb n 0 (λ z. omega arith), le-ltb 8 n high) refl
+pub version_step : (all : NameLists) (w : Walk) → Between 0 0 w.place → 2 ≤ w.version → step all w (number_row keyword.Version 2) ≡ Ok (with_version w)
+version_step all w at two = step_again all w keyword.Version (decimal 2 ∷ []) at two refl
+    ∙ ap (λ (r : Result ℕ ScriptKind). r >>= λ (n : ℕ). ok_if (n == 2) (with_version w) BadNumber) (number_again 4294967295 2 (lit< tt) (lit≤ tt))
 
-pub depth_step : (all : NameLists) (w : Walk) (n : ℕ) → Between 1 1 w.place → n ≤ 256 → step all w (number_row keyword.Depth n) ≡ Ok (with_depth w n)
-depth_step all w n at high = step_again all w keyword.Depth (decimal n ∷ []) at refl ∙ rw (number_again 256 n (lit< tt) high) refl
+pub cpus_step : (all : NameLists) (w : Walk) (n : ℕ) → 1 ≤ w.version → Between 1 1 w.place → 1 ≤ n → n ≤ most_cpus w.version →
+    step all w (number_row keyword.Cpus n) ≡ Ok (with_cpus w n)
+cpus_step all w n old at low high =
+    let few = most_64 w.version n high in
+    step_again all w keyword.Cpus (decimal n ∷ []) at old refl
+    ∙ rw (number_again 4294967295 n (lit< tt) (omega (arith, few)), ne_eqb n 0 (λ z. omega arith), le-ltb (most_cpus w.version) n high) refl
 
-pub threaded_step : (all : NameLists) (w : Walk) (on : Bool) → Between 1 2 w.place → step all w (text_of keyword.Threaded ∷ on_off_text on ∷ [])
-    ≡ Ok (with_threaded w on)
-threaded_step all w on at = step_again all w keyword.Threaded (on_off_text on ∷ []) at refl ∙ rw (on_off_again on) refl
+pub depth_step : (all : NameLists) (w : Walk) (n : ℕ) → 1 ≤ w.version → Between 2 2 w.place → n ≤ 256 → step all w (number_row keyword.Depth n)
+    ≡ Ok (with_depth w n)
+depth_step all w n old at high = step_again all w keyword.Depth (decimal n ∷ []) at old refl ∙ rw (number_again 256 n (lit< tt) high) refl
+
+pub threaded_step : (all : NameLists) (w : Walk) (on : Bool) → 1 ≤ w.version → Between 2 3 w.place →
+    step all w (text_of keyword.Threaded ∷ on_off_text on ∷ []) ≡ Ok (with_threaded w on)
+threaded_step all w on old at = step_again all w keyword.Threaded (on_off_text on ∷ []) at old refl ∙ rw (on_off_again on) refl

@@ -1,5 +1,5 @@
 -- The rows of an input are rows of fields.
-use Rattle.std.proofs.Common.{◌≡◌, ℕ, ◌<◌, ◌≤◌, Bool, true, false, List, [], ◌∷◌, ◌++◌, length, map, get_or, Option, Some, None, refl, arith, inl, inr, lit≤}
+use Rattle.std.proofs.Common.{◌≡◌, ℕ, ◌<◌, ◌≤◌, Bool, true, false, cond, List, [], ◌∷◌, ◌++◌, length, map, get_or, Option, Some, None, refl, arith, inl, inr, lit≤}
 use Rattle.std.specs.Prelude.{◌&&◌, ◌||◌, not, ◌==◌, nat_le, IfSome}
 use Rattle.std.specs.Char.{is_ascii_digit, is_ascii_lowercase}
 use Rattle.std.specs.List.{AllByRecursion, list_all}
@@ -28,9 +28,10 @@ use Rattle.nt_line.specs.NameLists.{NameLists, show_dpc, show_routine}
 use Rattle.nt_line.specs.Fields.{dash, importance_text, mode_text, alertable_text, on_off_text}
 use Rattle.nt_line.specs.Fits.{IsrFits, DpcFits, TimerFits, ThreadFits, ApcFits, CommandFits}
 use Rattle.nt_text.specs.Lines.{Row}
-use Rattle.nt_line.specs.Rows.{show_cpu, show_unless, show_target, depth_rows, threaded_rows, isr_row, dpc_row, timer_row, thread_row, normal_args, rundown_args, apc_row, command_row}
-use Rattle.nt_script.specs.Text.{header_rows, declared_rows, begun_rows, exit_row, routine_rows, input_rows}
+use Rattle.nt_line.specs.Rows.{show_cpu, show_unless, show_target, depth_rows, threaded_rows, isr_row, dpc_row, timer_row, thread_row, normal_args, rundown_args, apc_row, lock_row, number_row, command_row}
+use Rattle.nt_script.specs.Text.{version_rows, header_rows, declared_rows, begun_rows, exit_row, routine_rows, input_rows}
 use Rattle.nt_line.specs.NameLists.{AreNew}
+use Rattle.nt_line.specs.declared.keywords.Keyword.TheVariants as keyword
 use Rattle.nt_line.proofs.Found.{NamesFit, is_new}
 use Rattle.nt_script.proofs.Fit.{Fit}
 
@@ -70,14 +71,18 @@ thread_field names fit i lt = name_field (get_or names.threads i []) (is_new (na
 pub apc_field : (names : NameLists) (fit : NamesFit names) (i : ℕ) → i < length names.apcs → is_field (get_or names.apcs i []) ≡ true
 apc_field names fit i lt = name_field (get_or names.apcs i []) (is_new ((names.dpcs ++ names.timers) ++ names.threads) names.apcs i fit.apcs lt).0
 
+lock_field : (names : NameLists) (fit : NamesFit names) (i : ℕ) → i < length names.locks → is_field (get_or names.locks i []) ≡ true
+lock_field names fit i lt = name_field (get_or names.locks i [])
+    (is_new (((names.dpcs ++ names.timers) ++ names.threads) ++ names.apcs) names.locks i fit.locks lt).0
+
 routine_field : (names : NameLists) (fit : NamesFit names) (i : ℕ) → i < length names.routines → is_field (get_or names.routines i []) ≡ true
 routine_field names fit i lt = name_field (get_or names.routines i [])
-    (is_new (((names.dpcs ++ names.timers) ++ names.threads) ++ names.apcs) names.routines i fit.routines lt).0
+    (is_new ((((names.dpcs ++ names.timers) ++ names.threads) ++ names.apcs) ++ names.locks) names.routines i fit.routines lt).0
 
-cpu_field : (p : CpuNo) (cpus : ℕ) → cpus ≤ 8 → p.0 < cpus → is_field (show_cpu p) ≡ true
+cpu_field : (p : CpuNo) (cpus : ℕ) → cpus ≤ 64 → p.0 < cpus → is_field (show_cpu p) ≡ true
 cpu_field p cpus few lt = decimal_field p.0 (omega arith)
 
-target_field : (o : Option CpuNo) (cpus : ℕ) → cpus ≤ 8 → IfSome o (λ p. p.0 < cpus) → is_field (show_target o) ≡ true
+target_field : (o : Option CpuNo) (cpus : ℕ) → cpus ≤ 64 → IfSome o (λ p. p.0 < cpus) → is_field (show_target o) ≡ true
 target_field None cpus few h = refl
 target_field (Some p) cpus few h = cpu_field p cpus few h
 
@@ -111,7 +116,7 @@ on_off_field false = refl
 
 -- ---- lines
 
-pub command_clean : (names : NameLists) (fit : NamesFit names) (cpus : ℕ) → cpus ≤ 8 → (c : Command) → CommandFits names cpus c → IsRow (command_row names c)
+pub command_clean : (names : NameLists) (fit : NamesFit names) (cpus : ℕ) → cpus ≤ 64 → (c : Command) → CommandFits names cpus c → IsRow (command_row names c)
 command_clean names fit cpus few (cmd.Raise level) h = (refl, (decimal_field level (omega (arith, h)), tt))
 command_clean names fit cpus few (cmd.Lower level) h = (refl, (decimal_field level (omega (arith, h)), tt))
 command_clean names fit cpus few (cmd.Queue d) h = (refl, (dpc_field names fit d.0 h, tt))
@@ -137,11 +142,11 @@ command_clean names fit cpus few (cmd.Interrupt cpu level) h = (refl, (cpu_field
 command_clean names fit cpus few (cmd.Clock units) h = (refl, (decimal_field units (omega (arith, h)), tt))
 command_clean names fit cpus few cmd.ToUser h = (refl, tt)
 command_clean names fit cpus few cmd.Yield h = (refl, tt)
-command_clean names fit cpus few (cmd.Acquire k) h = absurd h
-command_clean names fit cpus few (cmd.Unlock k) h = absurd h
+command_clean names fit cpus few (cmd.Acquire k) h = (refl, (lock_field names fit k.0 h, tt))
+command_clean names fit cpus few (cmd.Unlock k) h = (refl, (lock_field names fit k.0 h, tt))
 command_clean names fit cpus few (cmd.Note number) h = (refl, (decimal_field number (omega (arith, h)), tt))
 
-isr_clean : (names : NameLists) (fit : NamesFit names) (cpus : ℕ) → cpus ≤ 8 → (x : Isr) → IsrFits names cpus x → IsRow (isr_row names x)
+isr_clean : (names : NameLists) (fit : NamesFit names) (cpus : ℕ) → cpus ≤ 64 → (x : Isr) → IsrFits names cpus x → IsRow (isr_row names x)
 isr_clean names fit cpus few x h = (
   refl,
   (
@@ -158,7 +163,7 @@ dpc_clean names fit false r n named h = (refl, (name_field n named, (routine_fie
 timer_clean : (names : NameLists) (fit : NamesFit names) (x : TimerDecl) (n : List ℕ) → is_name n ≡ true → TimerFits names x → IsRow (timer_row names n x)
 timer_clean names fit x n named h = (refl, (name_field n named, (timer_dpc_field names fit x.dpc h, tt)))
 
-thread_clean : (names : NameLists) (fit : NamesFit names) (cpus : ℕ) → cpus ≤ 8 → (x : ThreadDecl) (n : List ℕ) → is_name n ≡ true → ThreadFits names cpus x →
+thread_clean : (names : NameLists) (fit : NamesFit names) (cpus : ℕ) → cpus ≤ 64 → (x : ThreadDecl) (n : List ℕ) → is_name n ≡ true → ThreadFits names cpus x →
     IsRow (thread_row names n x)
 thread_clean names fit cpus few x n named h = (refl, (name_field n named, (cpu_field x.cpu cpus few h.0, (routine_field names fit x.routine.0 h.1, tt))))
 
@@ -220,7 +225,7 @@ declared_clean row Fits clean before [] xs new h = tt
 declared_clean row Fits clean before (n ∷ ns) [] new h = tt
 declared_clean row Fits clean before (n ∷ ns) (x ∷ xs) new h = (clean x n new.0 h.0, declared_clean row Fits clean (before ++ n ∷ []) ns xs new.2 h.1)
 
-routines_clean : (names : NameLists) (fit : NamesFit names) (cpus : ℕ) → cpus ≤ 8 → (before ns : List (List ℕ)) (rs : List Routine) → AreNew before ns →
+routines_clean : (names : NameLists) (fit : NamesFit names) (cpus : ℕ) → cpus ≤ 64 → (before ns : List (List ℕ)) (rs : List Routine) → AreNew before ns →
     AllByRecursion (λ r. AllByRecursion (CommandFits names cpus) r.commands) rs → AllRows (routine_rows names ns rs)
 routines_clean names fit cpus few before [] rs new h = tt
 routines_clean names fit cpus few before (n ∷ ns) [] new h = tt
@@ -230,6 +235,17 @@ routines_clean names fit cpus few before (n ∷ ns) (r ∷ rs) new h =
     (rows_both (begun_rows names n r.commands) (exit_row ∷ []) ((refl, (name_field n new.0, tt)), commands) ((refl, tt), tt))
     (routines_clean names fit cpus few (before ++ n ∷ []) ns rs new.2 h.1)
 
+locks_clean : (before ns : List (List ℕ)) → AreNew before ns → AllRows (map lock_row ns)
+locks_clean before [] new = tt
+locks_clean before (n ∷ ns) new = ((refl, (name_field n new.0, tt)), locks_clean (before ++ n ∷ []) ns new.2)
+
+version_clean : (v : ℕ) → v ≤ 2 → AllRows (version_rows v)
+version_clean v le = go (nat_le 2 v)
+  where
+    go : (b : Bool) → AllRows (cond b (number_row keyword.Version v ∷ []) [])
+    go true = ((refl, (decimal_field v (omega (arith, le)), tt)), tt)
+    go false = tt
+
 depth_clean : (o : Option ℕ) → IfSome o (λ n. n ≤ 256) → AllRows (depth_rows o)
 depth_clean None h = tt
 depth_clean (Some n) h = ((refl, (decimal_field n (omega arith), tt)), tt)
@@ -238,21 +254,25 @@ threaded_clean : (o : Option Bool) → AllRows (threaded_rows o)
 threaded_clean None = tt
 threaded_clean (Some on) = ((refl, (on_off_field on, tt)), tt)
 
-all_parts : (h i d t s a o : List Row) → AllRows h → AllRows i → AllRows d → AllRows t → AllRows s → AllRows a → AllRows o →
-    AllRows (h ++ (i ++ (d ++ (t ++ (s ++ (a ++ o))))))
-all_parts h i d t s a o ph pi pd pt ps pa po = rows_both h (i ++ (d ++ (t ++ (s ++ (a ++ o))))) ph
-    (rows_both i (d ++ (t ++ (s ++ (a ++ o)))) pi (rows_both d (t ++ (s ++ (a ++ o))) pd
-    (rows_both t (s ++ (a ++ o)) pt (rows_both s (a ++ o) ps (rows_both a o pa po)))))
+all_parts : (h i d t s a k o : List Row) → AllRows h → AllRows i → AllRows d → AllRows t → AllRows s → AllRows a → AllRows k → AllRows o →
+    AllRows (h ++ (i ++ (d ++ (t ++ (s ++ (a ++ (k ++ o)))))))
+all_parts h i d t s a k o ph pi pd pt ps pa pk po = rows_both h (i ++ (d ++ (t ++ (s ++ (a ++ (k ++ o)))))) ph
+    (rows_both i (d ++ (t ++ (s ++ (a ++ (k ++ o))))) pi (rows_both d (t ++ (s ++ (a ++ (k ++ o)))) pd
+    (rows_both t (s ++ (a ++ (k ++ o))) pt (rows_both s (a ++ (k ++ o)) ps (rows_both a (k ++ o) pa (rows_both k o pk po))))))
 
 pub input_clean : (input : Input) → Fit input → AllRows (input_rows input)
 input_clean input s =
     let names = input.names in
     let script = input.script in
     let few = s.cpus.1 in
-    let head : AllRows (header_rows script.cpus script.depth script.threaded) = (
-      (refl, (decimal_field script.cpus (omega arith), tt)),
+    let cpus_row = number_row keyword.Cpus script.cpus in
+    let given = depth_rows script.depth ++ threaded_rows script.threaded in
+    let counted : AllRows (cpus_row ∷ given) = (
+      (refl, (decimal_field script.cpus (omega (arith, few)), tt)),
       rows_both (depth_rows script.depth) (threaded_rows script.threaded) (depth_clean script.depth s.depth) (threaded_clean script.threaded),
     ) in
+    let head : AllRows (header_rows input.version script.cpus script.depth script.threaded) =
+    rows_both (version_rows input.version) (cpus_row ∷ given) (version_clean input.version s.version.1) counted in
     let isrs = all_clean (isr_row names) (IsrFits names script.cpus) (isr_clean names s.names script.cpus few) script.isrs s.isrs in
     let dpcs = declared_clean (dpc_row names) (DpcFits names)
     (λ x n named h. dpc_clean names s.names x.threaded x.routine n named h) [] names.dpcs script.dpcs s.names.dpcs s.dpcs in
@@ -261,8 +281,11 @@ input_clean input s =
     (names.dpcs ++ names.timers) names.threads script.threads s.names.threads s.threads in
     let apcs = declared_clean (apc_row names) (ApcFits names) (λ x n named h. apc_clean names s.names x.kind x n refl named h)
     ((names.dpcs ++ names.timers) ++ names.threads) names.apcs script.apcs s.names.apcs s.apcs in
+    let locks = locks_clean (((names.dpcs ++ names.timers) ++ names.threads) ++ names.apcs) names.locks s.names.locks in
     let routines = routines_clean names s.names script.cpus few
-    (((names.dpcs ++ names.timers) ++ names.threads) ++ names.apcs) names.routines script.routines s.names.routines s.routines in
-    all_parts (header_rows script.cpus script.depth script.threaded) (map (isr_row names) script.isrs) (declared_rows (dpc_row names) names.dpcs script.dpcs)
+    ((((names.dpcs ++ names.timers) ++ names.threads) ++ names.apcs) ++ names.locks) names.routines script.routines s.names.routines s.routines in
+    all_parts (header_rows input.version script.cpus script.depth script.threaded) (map (isr_row names) script.isrs)
+    (declared_rows (dpc_row names) names.dpcs script.dpcs)
     (declared_rows (timer_row names) names.timers script.timers) (declared_rows (thread_row names) names.threads script.threads)
-    (declared_rows (apc_row names) names.apcs script.apcs) (routine_rows names names.routines script.routines) head isrs dpcs timers threads apcs routines
+    (declared_rows (apc_row names) names.apcs script.apcs) (map lock_row names.locks) (routine_rows names names.routines script.routines)
+    head isrs dpcs timers threads apcs locks routines

@@ -34,8 +34,8 @@ fits_named names cpus (cmd.Interrupt cpu level) h = tt
 fits_named names cpus (cmd.Clock units) h = tt
 fits_named names cpus cmd.ToUser h = tt
 fits_named names cpus cmd.Yield h = tt
-fits_named names cpus (cmd.Acquire k) h = absurd h
-fits_named names cpus (cmd.Unlock k) h = absurd h
+fits_named names cpus (cmd.Acquire k) h = h
+fits_named names cpus (cmd.Unlock k) h = h
 fits_named names cpus (cmd.Note number) h = tt
 
 -- a number of a thing of the script is that of a name
@@ -67,6 +67,6 @@ sound_named input s (cmd.Interrupt cpu level) h = tt
 sound_named input s (cmd.Clock units) h = tt
 sound_named input s cmd.ToUser h = tt
 sound_named input s cmd.Yield h = tt
-sound_named input s (cmd.Acquire k) h = let lt = ltb-true k.0 input.script.locks h in absurd (omega (arith, lt, s.locks))
-sound_named input s (cmd.Unlock k) h = let lt = ltb-true k.0 input.script.locks h in absurd (omega (arith, lt, s.locks))
+sound_named input s (cmd.Acquire k) h = below k.0 (length input.names.locks) input.script.locks s.locks h
+sound_named input s (cmd.Unlock k) h = below k.0 (length input.names.locks) input.script.locks s.locks h
 sound_named input s (cmd.Note number) h = tt

@@ -15,3 +15,4 @@ pub mod Contract
 pub mod CommandNames
 pub mod Printed
 pub mod Cutting
+pub mod Migrating

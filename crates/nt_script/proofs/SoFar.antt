@@ -5,31 +5,34 @@ use Rattle.nt_event.specs.declared.scripts.Routine.{Routine}
 use Rattle.nt_event.specs.declared.commands.Command.{Command}
 use Rattle.nt_line.specs.declared.keywords.Keyword.TheVariants as keyword
 use Rattle.nt_line.specs.declared.keywords.Place.{Place}
-use Rattle.nt_line.specs.declared.keywords.Place.TheVariants.{Start, HasCpus, HasDepth, HasThreaded, InIsrs, InDpcs, InTimers, InThreads, InApcs, InRoutines, InRoutine}
+use Rattle.nt_line.specs.declared.keywords.Place.TheVariants.{Start, HasVersion, HasCpus, HasDepth, HasThreaded, InIsrs, InDpcs, InTimers, InThreads, InApcs, InLocks, InRoutines, InRoutine}
 use Rattle.nt_script.specs.declared.walk.Walk.{Walk}
 use Rattle.nt_line.specs.NameLists.{NameLists}
 use Rattle.nt_line.specs.Keywords.{text_of, order}
 use Rattle.nt_text.specs.Lines.{Row}
-use Rattle.nt_line.specs.Rows.{command_row, isr_row, dpc_row, timer_row, thread_row, apc_row}
-use Rattle.nt_script.specs.Text.{header_rows, declared_rows, begun_rows, exit_row, routine_rows}
+use Rattle.nt_line.specs.Rows.{command_row, isr_row, dpc_row, timer_row, thread_row, apc_row, lock_row}
+use Rattle.nt_script.specs.Text.{version_rows, header_rows, declared_rows, begun_rows, exit_row, routine_rows}
 
-abbrev pub heads_at : Place → ℕ → Option ℕ → Option Bool → List Row
-heads_at Start cpus depth threaded = []
-heads_at _ cpus depth threaded = header_rows cpus depth threaded
+abbrev pub heads_at : Place → ℕ → ℕ → Option ℕ → Option Bool → List Row
+heads_at Start version cpus depth threaded = []
+heads_at HasVersion version cpus depth threaded = version_rows version
+heads_at _ version cpus depth threaded = header_rows version cpus depth threaded
 
-pub has_head : (p : Place) (cpus : ℕ) (depth : Option ℕ) (threaded : Option Bool) → 1 ≤ order p → heads_at p cpus depth threaded
-    ≡ header_rows cpus depth threaded
-has_head Start c d t h = absurd (omega (arith, h))
-has_head HasCpus c d t h = refl
-has_head HasDepth c d t h = refl
-has_head HasThreaded c d t h = refl
-has_head InIsrs c d t h = refl
-has_head InDpcs c d t h = refl
-has_head InTimers c d t h = refl
-has_head InThreads c d t h = refl
-has_head InApcs c d t h = refl
-has_head InRoutines c d t h = refl
-has_head InRoutine c d t h = refl
+pub has_head : (p : Place) (v cpus : ℕ) (depth : Option ℕ) (threaded : Option Bool) → 2 ≤ order p → heads_at p v cpus depth threaded
+    ≡ header_rows v cpus depth threaded
+has_head Start v c d t h = absurd (omega (arith, h))
+has_head HasVersion v c d t h = absurd (omega (arith, h))
+has_head HasCpus v c d t h = refl
+has_head HasDepth v c d t h = refl
+has_head HasThreaded v c d t h = refl
+has_head InIsrs v c d t h = refl
+has_head InDpcs v c d t h = refl
+has_head InTimers v c d t h = refl
+has_head InThreads v c d t h = refl
+has_head InApcs v c d t h = refl
+has_head InLocks v c d t h = refl
+has_head InRoutines v c d t h = refl
+has_head InRoutine v c d t h = refl
 
 -- the rows of the routines, of which the last may be open
 abbrev pub open_rows : NameLists → List Command → List (List ℕ) → List Routine → List Row
@@ -39,11 +42,11 @@ open_rows all body [] rs = []
 
 -- ---- the parts, one behind the other
 
-abbrev pub joined : List Row → List Row → List Row → List Row → List Row → List Row → List Row → List Row
-joined h i d t s a o = h ++ (i ++ (d ++ (t ++ (s ++ (a ++ o)))))
+abbrev pub joined : List Row → List Row → List Row → List Row → List Row → List Row → List Row → List Row → List Row
+joined h i d t s a k o = h ++ (i ++ (d ++ (t ++ (s ++ (a ++ (k ++ o))))))
 
 abbrev pub heads : Place → Walk → List Row
-heads p w = heads_at p w.script.cpus w.script.depth w.script.threaded
+heads p w = heads_at p w.version w.script.cpus w.script.depth w.script.threaded
 
 abbrev pub isrs : NameLists → Walk → List Row
 isrs all w = map (isr_row all) w.script.isrs
@@ -60,37 +63,46 @@ threads all w = declared_rows (thread_row all) w.names.threads w.script.threads
 abbrev pub apcs : NameLists → Walk → List Row
 apcs all w = declared_rows (apc_row all) w.names.apcs w.script.apcs
 
+abbrev pub locks : Walk → List Row
+locks w = map lock_row w.names.locks
+
 abbrev pub routines : NameLists → Walk → List Row
 routines all w = open_rows all w.body w.names.routines w.script.routines
 
 abbrev pub so_far : NameLists → Walk → List Row
-so_far all w = joined (heads w.place w) (isrs all w) (dpcs all w) (timers all w) (threads all w) (apcs all w) (routines all w)
+so_far all w =
+    joined (heads w.place w) (isrs all w) (dpcs all w) (timers all w) (threads all w) (apcs all w) (locks w) (routines all w)
 
 -- ---- a part grows, and the parts behind it are empty
 
-pub grow_heads : (h h' i d t s a o x : List Row) → h' ≡ h ++ x → i ≡ [] → d ≡ [] → t ≡ [] → s ≡ [] → a ≡ [] → o ≡ [] → joined h' i d t s a o
-    ≡ joined h i d t s a o ++ x
-grow_heads h h' i d t s a o x eh ei ed et es ea eo = rw (eh, ei, ed, et, es, ea, eo) (simp append-nil)
+pub grow_heads : (h h' i d t s a k o x : List Row) → h' ≡ h ++ x → i ≡ [] → d ≡ [] → t ≡ [] → s ≡ [] → a ≡ [] → k ≡ [] → o ≡ [] → joined h' i d t s a k o
+    ≡ joined h i d t s a k o ++ x
+grow_heads h h' i d t s a k o x eh ei ed et es ea ek eo = rw (eh, ei, ed, et, es, ea, ek, eo) (simp append-nil)
 
-pub grow_isrs : (h h' i i' d t s a o x : List Row) → h' ≡ h → i' ≡ i ++ x → d ≡ [] → t ≡ [] → s ≡ [] → a ≡ [] → o ≡ [] → joined h' i' d t s a o
-    ≡ joined h i d t s a o ++ x
-grow_isrs h h' i i' d t s a o x eh ex ed et es ea eo = rw (eh, ex, ed, et, es, ea, eo) (simp (append_assoc, append-nil))
+pub grow_isrs : (h h' i i' d t s a k o x : List Row) → h' ≡ h → i' ≡ i ++ x → d ≡ [] → t ≡ [] → s ≡ [] → a ≡ [] → k ≡ [] → o ≡ [] →
+    joined h' i' d t s a k o ≡ joined h i d t s a k o ++ x
+grow_isrs h h' i i' d t s a k o x eh ex ed et es ea ek eo = rw (eh, ex, ed, et, es, ea, ek, eo) (simp (append_assoc, append-nil))
 
-pub grow_dpcs : (h h' i d d' t s a o x : List Row) → h' ≡ h → d' ≡ d ++ x → t ≡ [] → s ≡ [] → a ≡ [] → o ≡ [] → joined h' i d' t s a o ≡ joined h i d t s a o
-    ++ x
-grow_dpcs h h' i d d' t s a o x eh ex et es ea eo = rw (eh, ex, et, es, ea, eo) (simp (append_assoc, append-nil))
+pub grow_dpcs : (h h' i d d' t s a k o x : List Row) → h' ≡ h → d' ≡ d ++ x → t ≡ [] → s ≡ [] → a ≡ [] → k ≡ [] → o ≡ [] → joined h' i d' t s a k o
+    ≡ joined h i d t s a k o ++ x
+grow_dpcs h h' i d d' t s a k o x eh ex et es ea ek eo = rw (eh, ex, et, es, ea, ek, eo) (simp (append_assoc, append-nil))
 
-pub grow_timers : (h h' i d t t' s a o x : List Row) → h' ≡ h → t' ≡ t ++ x → s ≡ [] → a ≡ [] → o ≡ [] → joined h' i d t' s a o ≡ joined h i d t s a o ++ x
-grow_timers h h' i d t t' s a o x eh ex es ea eo = rw (eh, ex, es, ea, eo) (simp (append_assoc, append-nil))
+pub grow_timers : (h h' i d t t' s a k o x : List Row) → h' ≡ h → t' ≡ t ++ x → s ≡ [] → a ≡ [] → k ≡ [] → o ≡ [] → joined h' i d t' s a k o
+    ≡ joined h i d t s a k o ++ x
+grow_timers h h' i d t t' s a k o x eh ex es ea ek eo = rw (eh, ex, es, ea, ek, eo) (simp (append_assoc, append-nil))
 
-pub grow_threads : (h h' i d t s s' a o x : List Row) → h' ≡ h → s' ≡ s ++ x → a ≡ [] → o ≡ [] → joined h' i d t s' a o ≡ joined h i d t s a o ++ x
-grow_threads h h' i d t s s' a o x eh ex ea eo = rw (eh, ex, ea, eo) (simp (append_assoc, append-nil))
+pub grow_threads : (h h' i d t s s' a k o x : List Row) → h' ≡ h → s' ≡ s ++ x → a ≡ [] → k ≡ [] → o ≡ [] → joined h' i d t s' a k o
+    ≡ joined h i d t s a k o ++ x
+grow_threads h h' i d t s s' a k o x eh ex ea ek eo = rw (eh, ex, ea, ek, eo) (simp (append_assoc, append-nil))
 
-pub grow_apcs : (h h' i d t s a a' o x : List Row) → h' ≡ h → a' ≡ a ++ x → o ≡ [] → joined h' i d t s a' o ≡ joined h i d t s a o ++ x
-grow_apcs h h' i d t s a a' o x eh ex eo = rw (eh, ex, eo) (simp (append_assoc, append-nil))
+pub grow_apcs : (h h' i d t s a a' k o x : List Row) → h' ≡ h → a' ≡ a ++ x → k ≡ [] → o ≡ [] → joined h' i d t s a' k o ≡ joined h i d t s a k o ++ x
+grow_apcs h h' i d t s a a' k o x eh ex ek eo = rw (eh, ex, ek, eo) (simp (append_assoc, append-nil))
 
-pub grow_routines : (h h' i d t s a o o' x : List Row) → h' ≡ h → o' ≡ o ++ x → joined h' i d t s a o' ≡ joined h i d t s a o ++ x
-grow_routines h h' i d t s a o o' x eh ex = rw (eh, ex) (simp (append_assoc))
+pub grow_locks : (h h' i d t s a k k' o x : List Row) → h' ≡ h → k' ≡ k ++ x → o ≡ [] → joined h' i d t s a k' o ≡ joined h i d t s a k o ++ x
+grow_locks h h' i d t s a k k' o x eh ex eo = rw (eh, ex, eo) (simp (append_assoc, append-nil))
+
+pub grow_routines : (h h' i d t s a k o o' x : List Row) → h' ≡ h → o' ≡ o ++ x → joined h' i d t s a k o' ≡ joined h i d t s a k o ++ x
+grow_routines h h' i d t s a k o o' x eh ex = rw (eh, ex) (simp (append_assoc))
 
 -- ---- one more
 

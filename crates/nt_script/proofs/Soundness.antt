@@ -1,5 +1,5 @@
 -- An input is sound exactly where it fits.
-use Rattle.std.proofs.Common.{◌≡◌, ℕ, ◌<◌, ◌≤◌, Bool, true, List, [], ◌∷◌, length, Option, Some, None, refl, arith, inl, inr}
+use Rattle.std.proofs.Common.{◌≡◌, ℕ, ◌<◌, ◌≤◌, Bool, true, List, [], ◌∷◌, length, Option, Some, None, refl, sym, ◌∙◌, arith, inl, inr}
 use Rattle.std.specs.Prelude.{◌&&◌, ◌==◌, nat_le, nat_lt, IfSome}
 use Rattle.std.specs.List.{AllByRecursion, list_all}
 use Rattle.std.proofs.lemmas.Bool.{and_parts, and_from, or_cases, ltb-true, lt-ltb, leb-true, le-leb, eqb-true}
@@ -118,7 +118,7 @@ pub record Counts (s : Script) (names : NameLists) : Type 0 where
   pub threads : length names.threads ≡ length s.threads
   pub apcs : length names.apcs ≡ length s.apcs
   pub routines : length names.routines ≡ length s.routines
-  pub locks : s.locks ≡ 0
+  pub locks : length names.locks ≡ s.locks
 
 routine_from : (s : Script) (names : NameLists) → Counts s names → (r : RoutineNo) → has_routine s r ≡ true → r.0 < length names.routines
 routine_from s names cs r e = below r.0 (length names.routines) (length s.routines) cs.routines e
@@ -204,8 +204,8 @@ command_from s names cs (cmd.Interrupt cpu level) e h = (let b = and_parts (has_
 command_from s names cs (cmd.Clock units) e h = h
 command_from s names cs cmd.ToUser e h = tt
 command_from s names cs cmd.Yield e h = tt
-command_from s names cs (cmd.Acquire k) e h = let lt = ltb-true k.0 s.locks e in absurd (omega (arith, lt, cs.locks))
-command_from s names cs (cmd.Unlock k) e h = let lt = ltb-true k.0 s.locks e in absurd (omega (arith, lt, cs.locks))
+command_from s names cs (cmd.Acquire k) e h = below k.0 (length names.locks) s.locks cs.locks e
+command_from s names cs (cmd.Unlock k) e h = below k.0 (length names.locks) s.locks cs.locks e
 command_from s names cs (cmd.Note number) e h = h
 
 pub command_to : (s : Script) (names : NameLists) → Counts s names → (c : Command) → CommandFits names s.cpus c → (command_fits s c ≡ true) × HasRange c
@@ -236,8 +236,8 @@ command_to s names cs (cmd.Interrupt cpu level) h = (and_from (has_cpu s cpu) (i
 command_to s names cs (cmd.Clock units) h = (refl, h)
 command_to s names cs cmd.ToUser h = (refl, tt)
 command_to s names cs cmd.Yield h = (refl, tt)
-command_to s names cs (cmd.Acquire k) h = absurd h
-command_to s names cs (cmd.Unlock k) h = absurd h
+command_to s names cs (cmd.Acquire k) h = (below_test k.0 (length names.locks) s.locks cs.locks h, tt)
+command_to s names cs (cmd.Unlock k) h = (below_test k.0 (length names.locks) s.locks cs.locks h, tt)
 command_to s names cs (cmd.Note number) h = (refl, h)
 
 commands_from : (s : Script) (names : NameLists) → Counts s names → (cs : List Command) → list_all (command_fits s) cs ≡ true → AllByRecursion HasRange cs →
@@ -283,20 +283,24 @@ sound_fits input i =
     (nat_le (command_count s.routines) 8192) f.0 in
     let at_most : (n most k : ℕ) → k ≡ n → nat_le n most ≡ true → k ≤ most = λ n most k e t. (let le = leb-true n most t in omega (arith, e, le)) in
     record {
-      cpus = (leb-true 1 s.cpus m.0, i.cpus);
-      locks = i.locks;
+      version = i.version;
+      cpus = (leb-true 1 s.cpus m.0, leb-true s.cpus 64 m.1);
+      most = i.cpus;
+      words = record { from = i.version.0; no_locks = λ h. i.locks ∙ i.no_locks (omega (arith, h, i.version.0)) };
       depth = given_from (λ depth. nat_le depth 256) (λ n. n ≤ 256) (λ n t. leb-true n 256 t) s.depth m.2;
       few = record {
         dpcs = at_most (length s.dpcs) 256 (length names.dpcs) i.dpcs m.5;
         timers = at_most (length s.timers) 64 (length names.timers) i.timers m.4;
         threads = at_most (length s.threads) 64 (length names.threads) i.threads m.3;
         apcs = at_most (length s.apcs) 256 (length names.apcs) i.apcs m.6;
+        locks = at_most s.locks 64 (length names.locks) i.locks m.7;
         routines = at_most (length s.routines) 256 (length names.routines) i.routines m.8;
       };
       dpc_count = i.dpcs;
       timer_count = i.timers;
       thread_count = i.threads;
       apc_count = i.apcs;
+      lock_count = i.locks;
       routine_count = i.routines;
       command_count = leb-true (command_count s.routines) 8192 m.9;
       names = names_fit names i.names;
@@ -313,17 +317,26 @@ pub fit_sound : (input : Input) → Fit input → IsSound input
 fit_sound input i =
     let s = input.script in
     let names = input.names in
-    let cs : Counts s names = record { dpcs = i.dpc_count; timers = i.timer_count; threads = i.thread_count; apcs = i.apc_count; routines = i.routine_count; locks = i.locks } in
+    let cs : Counts s names = record {
+      dpcs = i.dpc_count;
+      timers = i.timer_count;
+      threads = i.thread_count;
+      apcs = i.apc_count;
+      routines = i.routine_count;
+      locks = i.lock_count;
+    } in
     let at_most : (n most k : ℕ) → k ≡ n → k ≤ most → nat_le n most ≡ true = λ n most k e h. le-leb n most (omega (arith, e, h)) in
     let limits : meets_limits s ≡ true = ten_from (nat_le 1 s.cpus) (nat_le s.cpus 64) (where_given (λ depth. nat_le depth 256) s.depth)
-    (nat_le (length s.threads) 64) (nat_le (length s.timers) 64) (nat_le (length s.dpcs) 256) (nat_le (length s.apcs) 256) (nat_le s.locks 64) (nat_le (length s.routines) 256)
+    (nat_le (length s.threads) 64) (nat_le (length s.timers) 64) (nat_le (length s.dpcs) 256) (nat_le (length s.apcs) 256) (nat_le s.locks 64)
+    (nat_le (length s.routines) 256)
     (nat_le (command_count s.routines) 8192)
-    (le-leb 1 s.cpus i.cpus.0) (le-leb s.cpus 64 (omega (arith, i.cpus.1)))
+    (le-leb 1 s.cpus i.cpus.0) (le-leb s.cpus 64 i.cpus.1)
     (given_to (λ depth. nat_le depth 256) (λ n. n ≤ 256) (λ n h. le-leb n 256 h) s.depth i.depth)
     (at_most (length s.threads) 64 (length names.threads) i.thread_count i.few.threads)
     (at_most (length s.timers) 64 (length names.timers) i.timer_count i.few.timers) (at_most (length s.dpcs) 256 (length names.dpcs) i.dpc_count i.few.dpcs)
     (at_most (length s.apcs) 256 (length names.apcs) i.apc_count i.few.apcs)
-    (le-leb s.locks 64 (omega (arith, i.locks))) (at_most (length s.routines) 256 (length names.routines) i.routine_count i.few.routines) (le-leb (command_count s.routines) 8192 i.command_count) in
+    (at_most s.locks 64 (length names.locks) i.lock_count i.few.locks) (at_most (length s.routines) 256 (length names.routines) i.routine_count i.few.routines)
+    (le-leb (command_count s.routines) 8192 i.command_count) in
     let r = routines_to s names cs s.routines i.routines in
     record {
       fits = eight_from (meets_limits s) (list_all (isr_fits s) s.isrs) (isrs_differ s.isrs) (list_all (dpc_fits s) s.dpcs) (list_all (timer_fits s) s.timers)
@@ -333,13 +346,15 @@ fit_sound input i =
           (all_to (timer_fits s) (TimerFits names) (timer_to s names cs) s.timers i.timers)
           (all_to (thread_fits s) (ThreadFits names s.cpus) (thread_to s names cs) s.threads i.threads)
           (all_to (apc_fits s) (ApcFits names) (apc_to s names cs) s.apcs i.apcs) r.0;
-      cpus = i.cpus.1;
-      locks = i.locks;
+      version = i.version;
+      cpus = i.most;
+      no_locks = λ h. sym i.lock_count ∙ i.words.no_locks (omega (arith, h));
       ranges = r.1;
       dpcs = i.dpc_count;
       timers = i.timer_count;
       threads = i.thread_count;
       apcs = i.apc_count;
+      locks = i.lock_count;
       routines = i.routine_count;
       names = all_new names i.names;
     }

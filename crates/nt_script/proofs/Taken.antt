@@ -1,7 +1,6 @@
 -- A line that is taken: its keyword may stand there, and it has as many fields as its keyword wants.
 use Rattle.std.proofs.Common.{◌≡◌, ℕ, suc, ◌<◌, ◌≤◌, Bool, true, false, cond, List, [], ◌∷◌, length, Option, Some, None, Result, Ok, Err, refl, ◌∙◌, ap, subst, arith, lit<}
 use Rattle.std.specs.Prelude.{nat_lt, nat_le, is_some}
-use Rattle.std.specs.Str.{bytes_eq}
 use Rattle.std.proofs.lemmas.Bool.{ltb-false, and_parts, and_from, leb-true, le-leb}
 use Rattle.nt_text.specs.declared.kind.ScriptKind.{ScriptKind}
 use Rattle.nt_text.specs.declared.kind.ScriptKind.TheVariants.{MissingField, ExtraField}
@@ -13,16 +12,15 @@ use Rattle.nt_line.specs.declared.keywords.Verb.TheVariants as verb
 use Rattle.nt_line.specs.declared.keywords.Keyword.{Keyword}
 use Rattle.nt_line.specs.declared.keywords.Keyword.TheVariants as keyword
 use Rattle.nt_line.specs.declared.keywords.Place.{Place}
-use Rattle.nt_line.specs.declared.keywords.TheConstants.{KEYWORDS}
 use Rattle.nt_script.specs.declared.walk.Walk.{Walk}
 use Rattle.nt_line.specs.NameLists.{NameLists, meaning}
-use Rattle.nt_line.specs.Keywords.{keyword_of, text_of, arity, verb_text, order, earliest, latest, stands}
+use Rattle.nt_line.specs.Keywords.{keyword_of, text_of, arity, since, verb_text, order, earliest, latest, stands}
 use Rattle.nt_line.specs.Results.{◌>>=◌}
 use Rattle.nt_line.specs.Fields.{new_name}
 use Rattle.nt_script.specs.Reading.{counted, step, misplaced, keyword_at, declaration, act}
 use Rattle.nt_text.specs.Lines.{Row}
 use Rattle.nt_line.proofs.Results.{bind_ok, ok_if_ok}
-use Rattle.nt_line.proofs.FieldTexts.{same_text, find_passes}
+use Rattle.nt_line.proofs.Words.{keyword_is}
 use Rattle.nt_line.proofs.UsedNames.{new_name_takes}
 
 -- ---- the keyword
@@ -41,10 +39,6 @@ at_ok p (Some v) wd e =
 pub at_again : (p : Place) (wd : Keyword) → At p wd → keyword_at p (Some wd) ≡ Ok wd
 at_again p wd h = let b : stands p wd ≡ true = and_from (nat_le (earliest wd) (order p)) (nat_le (order p) (latest wd)) (le-leb (earliest wd) (order p) h.0)
     (le-leb (order p) (latest wd) h.1) in rw b refl
-
-first_keyword : (f : List ℕ) (w : Keyword) → keyword_of f ≡ Some w → f ≡ text_of w
-unfolding keyword_of
-first_keyword f w e = same_text f (text_of w) (find_passes (λ w. bytes_eq f (text_of w)) KEYWORDS w e)
 
 pub counted_ok : (there wanted : ℕ) (b : Bool) → counted there wanted ≡ Ok b → there ≡ wanted
 counted_ok there wanted b e = go (nat_lt there wanted) (nat_lt wanted there) refl refl e
@@ -79,9 +73,12 @@ verb_there verb.Interrupt = lit< tt
 verb_there verb.Clock = lit< tt
 verb_there verb.ToUser = lit< tt
 verb_there verb.Yield = lit< tt
+verb_there verb.Acquire = lit< tt
+verb_there verb.Unlock = lit< tt
 verb_there verb.Note = lit< tt
 
 text_there : (w : Keyword) → 0 < length (text_of w)
+text_there keyword.Version = lit< tt
 text_there keyword.Cpus = lit< tt
 text_there keyword.Depth = lit< tt
 text_there keyword.Threaded = lit< tt
@@ -93,6 +90,7 @@ text_there keyword.Thread = lit< tt
 text_there (keyword.Apc Special) = lit< tt
 text_there (keyword.Apc Normal) = lit< tt
 text_there (keyword.Apc User) = lit< tt
+text_there keyword.Spinlock = lit< tt
 text_there keyword.Routine = lit< tt
 text_there keyword.Exit = lit< tt
 text_there (keyword.Call v) = verb_there v
@@ -104,7 +102,8 @@ row_parts (f ∷ fs) w e = ap (λ (g : List ℕ). g ∷ fs) e
 -- what a line says that is taken
 pub record Line (all : NameLists) (w : Walk) (row : Row) (new : Walk) : Type 0 where
   pub keyword : Keyword
-  pub is : keyword_of (first row) ≡ Some keyword
+  pub is : keyword_of w.version (first row) ≡ Some keyword
+  pub since : since keyword ≤ w.version
   pub row_is : row ≡ text_of keyword ∷ rest row
   pub at : At w.place keyword
   pub count : length (rest row) ≡ arity keyword
@@ -112,15 +111,17 @@ pub record Line (all : NameLists) (w : Walk) (row : Row) (new : Walk) : Type 0 w
 
 pub step_ok : (all : NameLists) (w : Walk) (row : Row) (new : Walk) → step all w row ≡ Ok new → Line all w row new
 step_ok all w row new e =
-    let b = bind_ok (keyword_at w.place (keyword_of (first row)))
+    let b = bind_ok (keyword_at w.place (keyword_of w.version (first row)))
     (λ (keyword : Keyword). counted (length (rest row)) (arity keyword) >>= λ (b : Bool). act all w keyword (rest row)) new e in
     let keyword = b.value in
-    let o = at_ok w.place (keyword_of (first row)) keyword b.is in
+    let o = at_ok w.place (keyword_of w.version (first row)) keyword b.is in
+    let i = keyword_is w.version (first row) keyword o.0 in
     let k = bind_ok (counted (length (rest row)) (arity keyword)) (λ (b : Bool). act all w keyword (rest row)) new b.then in
     record {
       keyword = keyword;
       is = o.0;
-      row_is = row_parts row keyword (first_keyword (first row) keyword o.0);
+      since = i.1;
+      row_is = row_parts row keyword i.0;
       at = o.1;
       count = counted_ok (length (rest row)) (arity keyword) k.value k.is;
       acts = k.then;

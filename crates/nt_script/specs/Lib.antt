@@ -1,3 +1,4 @@
+pub mod Versions
 pub mod Reading
 pub mod Gives
 pub mod Text

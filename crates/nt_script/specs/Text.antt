@@ -1,5 +1,5 @@
 -- The one text of an input, as rows of fields.
-use Rattle.std.specs.Prelude.{ℕ, Bool, List, [], ◌∷◌, ◌++◌, map, Option}
+use Rattle.std.specs.Prelude.{ℕ, Bool, List, [], ◌∷◌, ◌++◌, map, nat_le, Option, if◌then◌else◌}
 use Rattle.nt_text.specs.Lines.{rows_text}
 use Rattle.nt_event.specs.declared.commands.Command.{Command}
 use Rattle.nt_event.specs.declared.scripts.Routine.{Routine}
@@ -7,7 +7,7 @@ use Rattle.nt_line.specs.declared.keywords.Keyword.TheVariants as keyword
 use Rattle.nt_line.specs.NameLists.{NameLists}
 use Rattle.nt_line.specs.Keywords.{text_of}
 use Rattle.nt_text.specs.Lines.{Row}
-use Rattle.nt_line.specs.Rows.{command_row, number_row, depth_rows, threaded_rows, isr_row, dpc_row, timer_row, thread_row, apc_row}
+use Rattle.nt_line.specs.Rows.{command_row, number_row, depth_rows, threaded_rows, isr_row, dpc_row, timer_row, thread_row, apc_row, lock_row}
 use Rattle.nt_script.specs.declared.walk.Input.{Input}
 
 -- ---- parts
@@ -28,19 +28,25 @@ abbrev pub routine_rows : NameLists → List (List ℕ) → List Routine → Lis
 routine_rows names (n ∷ ns) (r ∷ rs) = (begun_rows names n r.commands ++ exit_row ∷ []) ++ routine_rows names ns rs
 routine_rows names _ _ = []
 
-abbrev pub header_rows : ℕ → Option ℕ → Option Bool → List Row
-header_rows cpus depth threaded = number_row keyword.Cpus cpus ∷ (depth_rows depth ++ threaded_rows threaded)
+-- a text of version 1 has no line of its version
+abbrev pub version_rows : ℕ → List Row
+version_rows version = if nat_le 2 version then number_row keyword.Version version ∷ [] else []
+
+abbrev pub header_rows : ℕ → ℕ → Option ℕ → Option Bool → List Row
+header_rows version cpus depth threaded =
+    version_rows version ++ (number_row keyword.Cpus cpus ∷ (depth_rows depth ++ threaded_rows threaded))
 
 -- the lines of an input, part by part
 abbrev pub input_rows : Input → List Row
 input_rows input =
-    header_rows input.script.cpus input.script.depth input.script.threaded
+    header_rows input.version input.script.cpus input.script.depth input.script.threaded
     ++ (map (isr_row input.names) input.script.isrs
     ++ (declared_rows (dpc_row input.names) input.names.dpcs input.script.dpcs
     ++ (declared_rows (timer_row input.names) input.names.timers input.script.timers
     ++ (declared_rows (thread_row input.names) input.names.threads input.script.threads
     ++ (declared_rows (apc_row input.names) input.names.apcs input.script.apcs
-    ++ routine_rows input.names input.names.routines input.script.routines)))))
+    ++ (map lock_row input.names.locks
+    ++ routine_rows input.names input.names.routines input.script.routines))))))
 
 abbrev pub text : Input → List ℕ
 text input = rows_text (input_rows input)

@@ -5,14 +5,14 @@ ghost use Rattle.nt_line.specs.declared.keywords.Keyword.TheVariants as keyword;
 ghost use Rattle.nt_line.specs.Keywords.{text_of};
 ghost use Rattle.nt_line.specs.NameLists.{show_routine};
 ghost use Rattle.nt_line.specs.Fits.{IsrFits, DpcFits, TimerFits, ThreadFits, ApcFits, CommandFits};
-ghost use Rattle.nt_line.specs.Rows.{number_row, depth_rows, threaded_rows, command_row, isr_row, dpc_row, timer_row, thread_row, apc_row};
-ghost use Rattle.nt_script.specs.Text.{header_rows, declared_rows, begun_rows, exit_row, routine_rows, text};
+ghost use Rattle.nt_line.specs.Rows.{number_row, depth_rows, threaded_rows, command_row, isr_row, dpc_row, timer_row, thread_row, apc_row, lock_row};
+ghost use Rattle.nt_script.specs.Text.{version_rows, header_rows, declared_rows, begun_rows, exit_row, routine_rows, text};
 ghost use Rattle.nt_script.specs.Sound.{IsSound};
 
 use crate::walk::Input;
 use nt_event::{
-    ApcDecl, ApcNo, Command, DpcDecl, DpcNo, Isr, Routine, RoutineNo, Script, ThreadDecl, ThreadNo,
-    TimerDecl, TimerNo,
+    ApcDecl, ApcNo, Command, DpcDecl, DpcNo, Isr, LockNo, Routine, RoutineNo, Script, ThreadDecl,
+    ThreadNo, TimerDecl, TimerNo,
 };
 use nt_line::fields::on_off_text;
 use nt_line::{Keyword, Names, put_apc, put_command, put_dpc, put_isr, put_thread, put_timer};
@@ -154,6 +154,16 @@ fn put_apcs(out: &mut Vec<u8>, names: &Names, apcs: &[ApcDecl]) -> Result<(), Al
     Ok(())
 }
 
+fn put_locks(out: &mut Vec<u8>, names: &Names, locks: u16) -> Result<(), AllocError>
+    requires { length names.now.locks ≡ locks }
+    ensures { OnOk result (out.new.items ≡ out.old.items ++ rows_text (map lock_row names.now.locks)) }
+{
+    for k in 0..locks {
+        put_field_line(out, Keyword::Spinlock, names.lock(LockNo(k)).as_bytes())?;
+    }
+    Ok(())
+}
+
 fn put_routines(
     out: &mut Vec<u8>,
     names: &Names,
@@ -175,6 +185,17 @@ fn put_routines(
         )?;
     }
     Ok(())
+}
+
+/// Adds the line of the version, which a text of version 1 doesn't have.
+fn put_version(out: &mut Vec<u8>, version: u8) -> Result<(), AllocError>
+    ensures { OnOk result (out.new.items ≡ out.old.items ++ rows_text (version_rows version)) }
+{
+    if version >= 2 {
+        put_number_line(out, Keyword::Version, u64::from(version))
+    } else {
+        Ok(())
+    }
 }
 
 /// Adds the line of the processors.
@@ -205,9 +226,10 @@ fn put_threaded(out: &mut Vec<u8>, threaded: Option<bool>) -> Result<(), AllocEr
 }
 
 /// Adds the lines of the head.
-fn put_header(out: &mut Vec<u8>, script: &Script) -> Result<(), AllocError>
-    ensures { OnOk result (out.new.items ≡ out.old.items ++ rows_text (header_rows script.now.cpus script.now.depth script.now.threaded)) }
+fn put_header(out: &mut Vec<u8>, version: u8, script: &Script) -> Result<(), AllocError>
+    ensures { OnOk result (out.new.items ≡ out.old.items ++ rows_text (header_rows version script.now.cpus script.now.depth script.now.threaded)) }
 {
+    put_version(out, version)?;
     put_cpus(out, script.cpus)?;
     put_depth(out, script.depth)?;
     put_threaded(out, script.threaded)?;
@@ -223,12 +245,13 @@ pub fn print(alloc: Global, input: &Input) -> Result<Vec<u8>, AllocError>
     let names = &input.names;
     let cpus = script.cpus;
     let mut out = Vec::new(alloc);
-    put_header(&mut out, script)?;
+    put_header(&mut out, input.version, script)?;
     put_isrs(&mut out, names, cpus, script.isrs.as_slice())?;
     put_dpcs(&mut out, names, script.dpcs.as_slice())?;
     put_timers(&mut out, names, script.timers.as_slice())?;
     put_threads(&mut out, names, cpus, script.threads.as_slice())?;
     put_apcs(&mut out, names, script.apcs.as_slice())?;
+    put_locks(&mut out, names, script.locks)?;
     put_routines(&mut out, names, cpus, script.routines.as_slice())?;
     Ok(out)
 }

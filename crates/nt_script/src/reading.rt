@@ -3,11 +3,12 @@ ghost use Rattle.std.specs.Prelude.{◌≡◌, ◌≤◌, length, OnOk, IfOk, Ok
 ghost use Rattle.nt_text.specs.declared.lines.TheConstants.{INPUT_LIMIT};
 ghost use Rattle.nt_text.specs.Lines.{lines, fields};
 ghost use Rattle.nt_line.specs.NameLists.{no_names};
-ghost use Rattle.nt_script.specs.Reading.{input_of, names_after, names_from, start, walk, reading};
+ghost use Rattle.nt_script.specs.Reading.{input_of, names_after, names_from, reading_by, start, walk, reading};
 ghost use Rattle.nt_script.specs.Gives.{GivesAll, GivesRead};
 ghost use Rattle.nt_script.specs.Sound.{IsTextOf};
 ghost use Rattle.nt_script.specs.declared.walk.Input.{Input};
 
+use crate::versions::version_of;
 use crate::walk::{Input, Stop, Walk};
 use nt_line::{Names, keyword_of};
 use nt_text::{Fields, Lines, ScriptKind, name};
@@ -26,11 +27,11 @@ pub enum ScriptRefusal {
 }
 
 /// Adds the name that a line declares, if any: its first keyword is of a line that declares, and its second field is a name.
-fn note_name(alloc: Global, names: &mut Names, line: &[u8]) -> Result<(), AllocError>
-    ensures { OnOk result (names.new ≡ names_after names.old (fields line.now)) }
+fn note_name(alloc: Global, version: u8, names: &mut Names, line: &[u8]) -> Result<(), AllocError>
+    ensures { OnOk result (names.new ≡ names_after version names.old (fields line.now)) }
 {
     let mut row = Fields::new(line);
-    if let Some(keyword) = keyword_of(row.take()) {
+    if let Some(keyword) = keyword_of(version, row.take()) {
         if let Some(kind) = keyword.declares() {
             if let Some(name) = name(row.take()) {
                 names.declare(alloc, kind, name)?;
@@ -41,22 +42,22 @@ fn note_name(alloc: Global, names: &mut Names, line: &[u8]) -> Result<(), AllocE
 }
 
 /// Adds the names that the lines of a text declare.
-fn note_names(alloc: Global, names: &mut Names, bytes: &[u8]) -> Result<(), AllocError>
-    ensures { OnOk result (names.new ≡ names_from names.old (lines bytes.now)) }
+fn note_names(alloc: Global, version: u8, names: &mut Names, bytes: &[u8]) -> Result<(), AllocError>
+    ensures { OnOk result (names.new ≡ names_from version names.old (lines bytes.now)) }
 {
     let mut lines = Lines::new(bytes);
     while let Some(line) = lines.next() {
-        note_name(alloc, names, line.bytes)?;
+        note_name(alloc, version, names, line.bytes)?;
     }
     Ok(())
 }
 
 /// The names that the lines of a text declare, wherever they stand.
-fn names_of(alloc: Global, bytes: &[u8]) -> Result<Names, AllocError>
-    ensures { IfOk result (λ names. names ≡ names_from no_names (lines bytes.now)) }
+fn names_of(alloc: Global, version: u8, bytes: &[u8]) -> Result<Names, AllocError>
+    ensures { IfOk result (λ names. names ≡ names_from version no_names (lines bytes.now)) }
 {
     let mut names = Names::new(alloc);
-    note_names(alloc, &mut names, bytes)?;
+    note_names(alloc, version, &mut names, bytes)?;
     Ok(names)
 }
 
@@ -81,24 +82,32 @@ impl Walk {
 }
 
 /// The script of a text whose lines declare these names.
-fn read_with(alloc: Global, all: &Names, bytes: &[u8]) -> Result<Input, ScriptRefusal>
+fn read_with(alloc: Global, version: u8, all: &Names, bytes: &[u8]) -> Result<Input, ScriptRefusal>
     requires { length bytes.now ≤ INPUT_LIMIT }
-    ensures { GivesRead result (walk all.now start 1 (lines bytes.now)) }
+    ensures { GivesRead result (walk all.now (start version) 1 (lines bytes.now)) }
 {
-    let mut walk = Walk::new(alloc);
+    let mut walk = Walk::new(alloc, version);
     walk.read_lines(alloc, all, bytes)?;
     Ok(walk.into_input())
 }
 
-/// Two walks along the lines: one for the names, one for all else.
+/// Two walks along the lines of a text of this version: one for the names, one for all else.
+fn read_by(alloc: Global, version: u8, bytes: &[u8]) -> Result<Input, ScriptRefusal>
+    requires { length bytes.now ≤ INPUT_LIMIT }
+    ensures { GivesRead result (reading_by version (lines bytes.now)) }
+{
+    match names_of(alloc, version, bytes) {
+        Ok(all) => read_with(alloc, version, &all, bytes),
+        Err(_) => Err(ScriptRefusal::NoMemory),
+    }
+}
+
+/// The version is read first, then the lines by it.
 fn read_all(alloc: Global, bytes: &[u8]) -> Result<Input, ScriptRefusal>
     requires { length bytes.now ≤ INPUT_LIMIT }
     ensures { GivesRead result (reading bytes.now) }
 {
-    match names_of(alloc, bytes) {
-        Ok(all) => read_with(alloc, &all, bytes),
-        Err(_) => Err(ScriptRefusal::NoMemory),
-    }
+    read_by(alloc, version_of(bytes), bytes)
 }
 
 /// The input whose text the bytes are, or the least bad line and what is wrong with it.

@@ -1,5 +1,6 @@
 //! Reading a script line by line.
 use crate::reading::ScriptRefusal;
+use crate::versions::most_cpus;
 use nt_event::{
     ApcDecl, ApcKind, Command, DpcDecl, Items, Routine, Script, ThreadDecl, TimerDecl, limits,
 };
@@ -11,6 +12,8 @@ use std::mem;
 /// A script and the names of its things.
 #[derive(Drop)]
 pub struct Input {
+    /// The version of its text, 1 or 2.
+    pub version: u8,
     /// What is declared.
     pub script: Script,
     /// The names, in the order of the script's lists.
@@ -20,6 +23,8 @@ pub struct Input {
 /// What was read so far.
 #[derive(Drop)]
 pub struct Walk {
+    /// The version of the text.
+    pub version: u8,
     /// The script, without the routine whose `exit` has not come.
     pub script: Script,
     /// The names that the lines before declare.
@@ -71,14 +76,26 @@ impl Walk {
     ghost use Rattle.nt_line.specs.Results.{ok_if};
     ghost use Rattle.nt_line.specs.Keywords.{keyword_of};
     ghost use Rattle.nt_line.specs.NameLists.{no_names, meaning};
-    ghost use Rattle.nt_script.specs.Reading.{start, with_apc, with_command, with_dpc, with_thread, with_timer, keyword_at, step, act, line_step, finish, input_of};
+    ghost use Rattle.nt_script.specs.Reading.{first_place, start, with_apc, with_command, with_dpc, with_thread, with_timer, keyword_at, step, act, line_step, finish, input_of};
     ghost use Rattle.nt_script.specs.Gives.{Gives, GivesAll};
 
-    /// Nothing was read.
-    pub fn new(alloc: Global) -> Walk
-        ensures { result ≡ start }
+    /// The place before all lines.
+    fn first_place(version: u8) -> Place
+        ensures { result ≡ first_place version }
+    {
+        if version >= 2 {
+            Place::Start
+        } else {
+            Place::HasVersion
+        }
+    }
+
+    /// Nothing was read of a text of this version.
+    pub fn new(alloc: Global, version: u8) -> Walk
+        ensures { result ≡ start version }
     {
         Walk {
+            version,
             script: Script {
                 cpus: 1,
                 depth: None,
@@ -94,7 +111,7 @@ impl Walk {
             names: Names::new(alloc),
             body: Items::new(alloc),
             commands: 0,
-            place: Place::Start,
+            place: Walk::first_place(version),
         }
     }
 
@@ -103,7 +120,7 @@ impl Walk {
         ensures { GivesAll result (input_of self.now) (finish self.now.place self.now line) }
     {
         match self.place {
-            Place::Start => Err(ScriptRefusal::Bad {
+            Place::Start | Place::HasVersion => Err(ScriptRefusal::Bad {
                 line,
                 kind: ScriptKind::NoCpus,
             }),
@@ -111,22 +128,36 @@ impl Walk {
                 line,
                 kind: ScriptKind::NoEnd,
             }),
-            _ => Ok(()),
+            Place::HasCpus
+            | Place::HasDepth
+            | Place::HasThreaded
+            | Place::InIsrs
+            | Place::InDpcs
+            | Place::InTimers
+            | Place::InThreads
+            | Place::InApcs
+            | Place::InLocks
+            | Place::InRoutines => Ok(()),
         }
     }
 
-    /// The script and the names.
+    /// The version, the script and the names.
     pub fn into_input(self) -> Input
         ensures { result ≡ input_of self }
     {
         let Walk {
+            version,
             script,
             names,
             body: _,
             commands: _,
             place: _,
         } = self;
-        Input { script, names }
+        Input {
+            version,
+            script,
+            names,
+        }
     }
 
     /// Takes a line. `all` are the names that the lines of the whole text declare.
@@ -154,13 +185,23 @@ impl Walk {
 
     /// The keyword of a line at this place.
     fn keyword(&self, field: &[u8]) -> Result<Keyword, ScriptKind>
-        ensures { result ≡ keyword_at self.now.place (keyword_of field.now) }
+        ensures { result ≡ keyword_at self.now.place (keyword_of self.now.version field.now) }
     {
         let misplaced = match self.place {
-            Place::Start => ScriptKind::NoCpus,
-            _ => ScriptKind::UnknownWord,
+            Place::Start | Place::HasVersion => ScriptKind::NoCpus,
+            Place::HasCpus
+            | Place::HasDepth
+            | Place::HasThreaded
+            | Place::InIsrs
+            | Place::InDpcs
+            | Place::InTimers
+            | Place::InThreads
+            | Place::InApcs
+            | Place::InLocks
+            | Place::InRoutines
+            | Place::InRoutine => ScriptKind::UnknownWord,
         };
-        match keyword_of(field) {
+        match keyword_of(self.version, field) {
             Some(keyword) => {
                 if keyword.stands(self.place) {
                     Ok(keyword)
@@ -183,6 +224,7 @@ impl Walk {
         ensures { Gives result self.new (act all.now self.old keyword args.old) }
     {
         match keyword {
+            Keyword::Version => self.version(args),
             Keyword::Cpus => self.cpus(args),
             Keyword::Depth => self.depth(args),
             Keyword::Threaded => self.threaded(args),
@@ -191,10 +233,22 @@ impl Walk {
             Keyword::Timer => self.timer(alloc, all, args),
             Keyword::Thread => self.thread(alloc, all, args),
             Keyword::Apc(kind) => self.apc(alloc, all, kind, args),
+            Keyword::Spinlock => self.lock(alloc, args),
             Keyword::Routine => self.routine(alloc, args),
             Keyword::Exit => self.exit(alloc),
             Keyword::Call(verb) => self.command(all, verb, args),
         }
+    }
+
+    fn version(&mut self, args: &mut Fields) -> Result<(), Stop>
+        ensures { Gives result self.new (act no_names self.old Keyword.Version args.old) }
+    {
+        let n = fields::number(args.take(), u32::MAX)?;
+        if n != 2 {
+            return Err(Stop::Bad(ScriptKind::BadNumber));
+        }
+        self.place = Place::HasVersion;
+        Ok(())
     }
 
     fn cpus(&mut self, args: &mut Fields) -> Result<(), Stop>
@@ -204,7 +258,7 @@ impl Walk {
         if n == 0 {
             return Err(Stop::Bad(ScriptKind::BadNumber));
         }
-        if n > 8 {
+        if n > u32::from(most_cpus(self.version)) {
             return Err(Stop::Bad(ScriptKind::TooMany(What10::Cpus)));
         }
         self.script.cpus = n as u8;
@@ -333,6 +387,19 @@ impl Walk {
         self.script.apcs.push(apc)?;
         self.names.add(alloc, Kind::Apc, name)?;
         self.place = Place::InApcs;
+        Ok(())
+    }
+
+    fn lock(&mut self, alloc: Global, args: &mut Fields) -> Result<(), Stop>
+        ensures { Gives result self.new (act no_names self.old Keyword.Spinlock args.old) }
+    {
+        let name = fields::new_name(&self.names, args.take())?;
+        if self.script.locks >= limits::LOCKS {
+            return Err(Stop::Bad(ScriptKind::TooMany(What10::Spinlocks)));
+        }
+        self.script.locks += 1;
+        self.names.add(alloc, Kind::Lock, name)?;
+        self.place = Place::InLocks;
         Ok(())
     }
 

@@ -3,7 +3,7 @@ use Rattle.std.specs.Prelude.{ℕ, List, codes}
 use Rattle.nt_text.specs.declared.kind.ScriptKind.{ScriptKind}
 use Rattle.nt_text.specs.declared.kind.ScriptKind.TheVariants.{NotAscii, UnknownWord, MissingField, ExtraField, BadNumber, BadName, NameTwice, UnknownName, NoCpus, TooMany, NoEnd, WrongKind}
 use Rattle.nt_text.specs.declared.kind.What10.{What10}
-use Rattle.nt_text.specs.declared.kind.What10.TheVariants.{Cpus, Threads, Dpcs, Apcs, Timers, Routines, Commands, Turns}
+use Rattle.nt_text.specs.declared.kind.What10.TheVariants.{Cpus, Threads, Dpcs, Apcs, Timers, Spinlocks, Routines, Commands, Turns}
 
 abbrev pub kind_number : ScriptKind → ℕ
 kind_number NotAscii = 1
@@ -40,6 +40,7 @@ thing_name Threads = codes "threads"
 thing_name Dpcs = codes "dpcs"
 thing_name Apcs = codes "apcs"
 thing_name Timers = codes "timers"
+thing_name Spinlocks = codes "spinlocks"
 thing_name Routines = codes "routines"
 thing_name Commands = codes "commands"
 thing_name Turns = codes "turns"

@@ -15,6 +15,8 @@ pub enum What10 {
     Apcs,
     /// Timers.
     Timers,
+    /// Spin locks.
+    Spinlocks,
     /// Routines.
     Routines,
     /// Commands of all routines together.
@@ -34,6 +36,7 @@ impl What10 {
             What10::Dpcs => "dpcs",
             What10::Apcs => "apcs",
             What10::Timers => "timers",
+            What10::Spinlocks => "spinlocks",
             What10::Routines => "routines",
             What10::Commands => "commands",
             What10::Turns => "turns",
@@ -60,7 +63,7 @@ pub enum ScriptKind {
     NameTwice,
     /// A used name that no line declares.
     UnknownName,
-    /// The first line's first field is not `cpus`, or there is no line.
+    /// The first field of the line where `cpus` has to stand is another one, or the text ends before that line.
     NoCpus,
     /// The line is the first above a limit.
     TooMany(What10),

@@ -49,6 +49,7 @@ named_again command.Live built = cc
 named_again command.Replay built = cc
 named_again command.Check built = cc
 named_again command.Load built = cc
+named_again command.Migrate built = cc
 
 -- ---- numbers
 
@@ -146,6 +147,10 @@ form_taken command.Load pieces f turns_once seed_once e =
       options =
           (turns_taken pieces n turns_once turns, seed_taken pieces s seed_once seed);
     })))
+form_taken command.Migrate pieces f turns_once seed_once e =
+    option_and_then_some _ _ f e (λ x none rest. option_and_then_some _ _ f rest (λ y turns is.
+    let same : form.Migrate ≡ f = cc in
+    subst (IsFormOf command.Migrate pieces) same (record { command = refl; options = (none_taken _ y turns, none_taken _ x none) })))
 
 pub form_again : (f : Form) (pieces : List Piece) → HasOptions f pieces
     → form_from (command_of f) (slice_get (values_of Turns pieces) 0) (slice_get (values_of Seed pieces) 0) ≡ Some f
@@ -154,3 +159,4 @@ form_again (form.Live turns) pieces has = rw (has.1, turns_again pieces turns ha
 form_again form.Replay pieces has = rw (has.1, has.0) refl
 form_again form.Check pieces has = rw (has.1, has.0) refl
 form_again (form.Load seed turns) pieces has = rw (seed_again pieces seed has.1, turns_again pieces turns has.0) refl
+form_again form.Migrate pieces has = rw (has.1, has.0) refl

@@ -34,6 +34,7 @@ command_plain command.Run = refl
 command_plain command.Live = refl
 command_plain command.Replay = refl
 command_plain command.Check = refl
+command_plain command.Migrate = refl
 command_plain command.Load = refl
 
 -- none of these words has a hyphen
@@ -94,6 +95,8 @@ options_bare form.Replay ps has Turns = none_given _ has.0
 options_bare form.Replay ps has Seed = none_given _ has.1
 options_bare form.Check ps has Turns = none_given _ has.0
 options_bare form.Check ps has Seed = none_given _ has.1
+options_bare form.Migrate ps has Turns = none_given _ has.0
+options_bare form.Migrate ps has Seed = none_given _ has.1
 options_bare (form.Load seed turns) ps has Turns = turns_bare turns ps has.0
 options_bare (form.Load seed turns) ps has Seed = seed_bare seed ps has.1
 

@@ -42,6 +42,8 @@ form_from command.Check turns seed =
     option_and_then (λ _. option_and_then (λ _. Some form.Check) (none_from turns)) (none_from seed)
 form_from command.Load turns seed =
     option_and_then (λ s. option_and_then (λ n. Some (form.Load s n)) (turns_from turns)) (seed_from seed)
+form_from command.Migrate turns seed =
+    option_and_then (λ _. option_and_then (λ _. Some form.Migrate) (none_from turns)) (none_from seed)
 
 -- the form that a parser's rows are
 abbrev pub chosen : List Row → Option Form

@@ -11,6 +11,7 @@ command_word command.Live = codes "live"
 command_word command.Replay = codes "replay"
 command_word command.Check = codes "check"
 command_word command.Load = codes "load"
+command_word command.Migrate = codes "migrate"
 
 -- the program has the command
 abbrev pub is_built : Command → Bool
@@ -19,6 +20,7 @@ is_built command.Live = true
 is_built command.Replay = true
 is_built command.Check = true
 is_built command.Load = true
+is_built command.Migrate = true
 
 -- the word names the command, which is built
 abbrev pub names_built : List ℕ → Command → Bool

@@ -19,6 +19,7 @@ command_of (form.Live turns) = command.Live
 command_of form.Replay = command.Replay
 command_of form.Check = command.Check
 command_of (form.Load seed turns) = command.Load
+command_of form.Migrate = command.Migrate
 
 -- the option is given once, with this number in decimal, which lies within the bounds
 abbrev pub Gives : OptionName → ℕ → ℕ → ℕ → List Piece → Type 0
@@ -42,6 +43,7 @@ HasOptions (form.Live turns) pieces = HasTurns turns pieces × IsMissing Seed pi
 HasOptions form.Replay pieces = IsMissing Turns pieces × IsMissing Seed pieces
 HasOptions form.Check pieces = IsMissing Turns pieces × IsMissing Seed pieces
 HasOptions (form.Load seed turns) pieces = HasTurns turns pieces × HasSeed seed pieces
+HasOptions form.Migrate pieces = IsMissing Turns pieces × IsMissing Seed pieces
 
 -- the words are this form: its command word once, and its options, each once at most, in any order and spelling
 pub record IsForm (words : List (List ℕ)) (f : Form) : Type 0 where
@@ -61,6 +63,7 @@ IsWithin (form.Live turns) = IsTurns turns
 IsWithin form.Replay = Unit {0}
 IsWithin form.Check = Unit {0}
 IsWithin (form.Load seed turns) = (seed ≤ GREATEST_SEED) × IsTurns turns
+IsWithin form.Migrate = Unit {0}
 
 -- one of the words is `live`
 abbrev pub names_live : List (List ℕ) → Bool

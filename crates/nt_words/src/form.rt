@@ -8,7 +8,7 @@ use nt_event::limits::{TURNS, USUAL_TURNS};
 use nt_text::number;
 
 /// What is written where the words are no form: the forms that are built.
-pub const USAGE: &str = "usage: ntrun run|live|replay|check|load [--turns N] [--seed N]\n";
+pub const USAGE: &str = "usage: ntrun run|live|replay|check|load|migrate [--turns N] [--seed N]\n";
 
 /// The greatest seed of a load.
 pub const GREATEST_SEED: u32 = 4_294_967_295;
@@ -26,15 +26,18 @@ pub enum Command {
     Check,
     /// `load`: the summary of the run of a script that is made from a seed.
     Load,
+    /// `migrate`: the script in the newest version of its text.
+    Migrate,
 }
 
 /// Every command.
-pub const COMMANDS: [Command; 5] = [
+pub const COMMANDS: [Command; 6] = [
     Command::Run,
     Command::Live,
     Command::Replay,
     Command::Check,
     Command::Load,
+    Command::Migrate,
 ];
 
 /// What the words of a command line ask for. The turn limit is [`USUAL_TURNS`] where none is given.
@@ -50,6 +53,8 @@ pub enum Form {
     Check,
     /// `load`, with the seed and the turn limit of each processor.
     Load { seed: u32, turns: u32 },
+    /// `migrate`.
+    Migrate,
 }
 
 impl Command {
@@ -63,6 +68,7 @@ impl Command {
             Command::Replay => "replay",
             Command::Check => "check",
             Command::Load => "load",
+            Command::Migrate => "migrate",
         }
     }
 
@@ -76,6 +82,7 @@ impl Command {
             Command::Replay => true,
             Command::Check => true,
             Command::Load => true,
+            Command::Migrate => true,
         }
     }
 }
@@ -168,5 +175,10 @@ pub(crate) fn form_from(command: Command, turns: Option<&str>, seed: Option<&str
             seed: seed_from(seed)?,
             turns: turns_from(turns)?,
         }),
+        Command::Migrate => {
+            none_from(seed)?;
+            none_from(turns)?;
+            Some(Form::Migrate)
+        }
     }
 }

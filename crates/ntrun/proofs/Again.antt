@@ -16,7 +16,7 @@ use Rattle.nt_event.specs.declared.limits.TheConstants.{CPUS}
 use Rattle.nt_event.specs.declared.scripts.Script.{Script}
 use Rattle.nt_event.specs.Robin.{is_settled}
 use Rattle.nt_event.specs.Step.{IsRun, cpu_at, turn_of}
-use Rattle.nt_line.specs.Keywords.{keyword_of}
+use Rattle.nt_line.specs.Keywords.{keyword_of, word_of}
 use Rattle.nt_log.specs.declared.schedules.Schedule.{Schedule}
 use Rattle.nt_log.specs.Reading.{start, walk}
 use Rattle.nt_log.specs.Schedules.{AreBelow, IsPlain, limit_row, schedule_of, schedule_rows, schedule_text}
@@ -26,7 +26,7 @@ use Rattle.nt_print.proofs.OneReport.{before_schedule, report_clean}
 use Rattle.nt_print.specs.Conditions.{IsPlain as HistoryIsPlain}
 use Rattle.nt_print.specs.Report.{report_rows, report_text}
 use Rattle.nt_ranges.proofs.Lists.{all_then}
-use Rattle.nt_ranges.proofs.Reports.{a_run_has_a_report, its_schedule_is_plain, its_turns_are_of_processors}
+use Rattle.nt_ranges.proofs.Reports.{a_run_has_a_report, few_cpus, its_schedule_is_plain, its_turns_are_of_processors}
 use Rattle.nt_report.proofs.AgainWhole.{report_is_read}
 use Rattle.nt_script.specs.declared.walk.Input.{Input}
 use Rattle.nt_script.specs.Reading.{reading}
@@ -90,7 +90,7 @@ first_row : (input : Input) (s : Schedule) → AllRows (schedule_rows input.name
 first_row input s h = begins_row (tail_word tail.Schedule) (limit_row s.turns) h.0
 
 -- the schedule part of a report is the text of its history's schedule
-schedule_of_report : (input : Input) (h : History) → IsSound input → HistoryIsPlain input.script h → IsPlain input.script (schedule_of h) →
+schedule_of_report : (input : Input) (h : History) → IsSound input → HistoryIsPlain input h → IsPlain input (schedule_of h) →
     schedule_part (report_text input h) ≡ schedule_text input (schedule_of h)
 schedule_of_report input h sound plain sched =
     let parts = before_schedule input h plain.few in
@@ -99,10 +99,10 @@ schedule_of_report input h sound plain sched =
 
 -- ---- the two parts are read
 
-no_keyword : (k : Tail) → keyword_of (tail_word k) ≡ None
-unfolding keyword_of
-no_keyword tail.Schedule = refl
-no_keyword tail.Report = refl
+no_keyword : (version : ℕ) (k : Tail) → keyword_of version (tail_word k) ≡ None
+unfolding word_of
+no_keyword version tail.Schedule = refl
+no_keyword version tail.Report = refl
 
 read_parts : (k : Tail) (input : Input) (at line : ℕ) (bytes front rest : List ℕ) (t : Task) → take at bytes ≡ front → drop at bytes ≡ rest → reading front
     ≡ Ok input → tail_task k input line rest ≡ Ok t → two_parts k (Some (at, line)) bytes ≡ Ok t
@@ -115,11 +115,11 @@ both_again : (k : Tail) (input : Input) (rows : List Row) (t : Task) → IsSound
     two_parts k (behind (tail_word k) (text input ++ rows_text rows)) (text input ++ rows_text rows) ≡ Ok t
 both_again k input rows t sound clean there read =
     let first : first_begins (tail_word k) (lines (rows_text rows)) ≡ true = ap (first_begins (tail_word k)) (lines_again rows clean) ∙ there in
-    ap (λ (o : Option (ℕ × ℕ)). two_parts k o (text input ++ rows_text rows)) (found_behind (tail_word k) input rows (no_keyword k) sound clean first)
+    ap (λ (o : Option (ℕ × ℕ)). two_parts k o (text input ++ rows_text rows)) (found_behind (tail_word k) input rows (no_keyword input.version k) sound clean first)
     ∙ read_parts k input (length (text input)) (1 + length (lines (text input))) (text input ++ rows_text rows) (text input) (rows_text rows) t
     (take-append_seam (text input) (rows_text rows)) (drop-append_seam (text input) (rows_text rows)) (reading_again input (sound_fits input sound)) read
 
-task_again : (input : Input) (s : Schedule) → IsSound input → IsPlain input.script s → AreBelow CPUS s.list →
+task_again : (input : Input) (s : Schedule) → IsSound input → IsPlain input s → AreBelow CPUS s.list →
     task_of form.Replay (text input ++ schedule_text input s) ≡ Ok (task.Replay input s)
 task_again input s sound plain below =
     let rows = schedule_rows input.names s in
@@ -127,9 +127,9 @@ task_again input s sound plain below =
     let line = 1 + length (lines (text input)) in
     both_again tail.Schedule input rows (task.Replay input s) sound clean (first_row input s clean)
     (ap (λ (r : Result Schedule Bad). and_then r (λ x. Ok (task.Replay input x)))
-    (ap (walk CPUS input.names start line) (lines_again rows clean) ∙ walk_again CPUS line input s sound plain below))
+    (ap (walk CPUS input start line) (lines_again rows clean) ∙ walk_again CPUS line input s sound plain below))
 
-check_again : (input : Input) (h : History) → IsSound input → HistoryIsPlain input.script h → task_of form.Check (text input ++ report_text input h)
+check_again : (input : Input) (h : History) → IsSound input → HistoryIsPlain input h → task_of form.Check (text input ++ report_text input h)
     ≡ Ok (task.Check input h)
 check_again input h sound plain =
     let clean = report_clean input sound h plain in
@@ -192,7 +192,7 @@ written_again one words again f so sn ao an ko kn bo bn status w form_of given f
     let sound = sound_task t plain in
     let own = run_of_input t h plain w.actual.is in
     let sched = its_schedule_is_plain input h own in
-    let cpus = sound.cpus in
+    let cpus = few_cpus input sound in
     let below = below_all input.script.cpus (schedule_of h).list (omega (arith, cpus)) (its_turns_are_of_processors input h own) in
     let settled : is_settled input.script h.turns (reverse h.events) ≡ true =
     subst (λ (n : ℕ). is_settled input.script n (reverse h.events) ≡ true) (sym w.actual.turns) w.actual.settled in

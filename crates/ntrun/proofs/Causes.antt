@@ -93,6 +93,7 @@ few_by form.Replay so sn found text w other = few_from form.Replay so sn found t
 few_by form.Check so sn found text w other = few_from form.Check so sn found text w other
 few_by (form.Live turns) so sn found text w other = few_from (form.Live turns) so sn found text w other
 few_by (form.Load seed turns) so sn found text w other = few_same so sn w.0
+few_by form.Migrate so sn found text w other = few_from form.Migrate so sn found text w other
 
 few_starved : (words : List (List ℕ)) (so sn : Supply) → IsStarved words so sn → sn.taken ≤ so.taken + INPUT_LIMIT
 few_starved words so sn (inl e) = few_same so sn e
@@ -118,6 +119,7 @@ from_source form.Replay so sn found text r w = w
 from_source form.Check so sn found text r w = w
 from_source (form.Live turns) so sn found text r w = w
 from_source (form.Load seed turns) so sn found text r w = cc
+from_source form.Migrate so sn found text r w = w
 
 -- the source failed, or had too much
 read_by : (f : Form) (so sn : Supply) (text : List ℕ) → IsFoundBy f so sn exit.Read text → Rose so.faults sn.faults
@@ -126,6 +128,7 @@ read_by form.Replay so sn text w = w.0
 read_by form.Check so sn text w = w.0
 read_by (form.Live turns) so sn text w = w.0
 read_by (form.Load seed turns) so sn text w = absurd w.1
+read_by form.Migrate so sn text w = w.0
 
 many_by : (f : Form) (so sn : Supply) (text : List ℕ) → IsFoundBy f so sn exit.TooLong text → RoseBy (INPUT_LIMIT + 1) so.taken sn.taken
 many_by (form.Run turns) so sn text w = w.1
@@ -133,6 +136,7 @@ many_by form.Replay so sn text w = w.1
 many_by form.Check so sn text w = w.1
 many_by (form.Live turns) so sn text w = w.1
 many_by (form.Load seed turns) so sn text w = absurd w.1
+many_by form.Migrate so sn text w = w.1
 
 -- what is found in bytes, where the words are this form and nothing failed
 abbrev Which : Form → List ℕ → Status → Type 0
@@ -168,6 +172,7 @@ goes_well (task.Run input turns) text w = tt
 goes_well (task.Live input turns) text w = tt
 goes_well (task.Replay input schedule) text w = ap refused_in w.run.run
 goes_well (task.Check input history) text w = w.0
+goes_well (task.Migrate input) text w = tt
 
 -- and then none of its turns is refused, and its history goes wrong nowhere
 well_refused : (t : Task) → GoesWell t → IsSome (refused_turn t) → ⊥
@@ -175,17 +180,20 @@ well_refused (task.Run input turns) w some = false≢true some
 well_refused (task.Live input turns) w some = false≢true some
 well_refused (task.Replay input schedule) w some = is_none_not w some
 well_refused (task.Check input history) w some = false≢true some
+well_refused (task.Migrate input) w some = false≢true some
 
 wrong_refused : (t : Task) → GoesWrong t → IsSome (refused_turn t) → ⊥
 wrong_refused (task.Run input turns) w some = w.1
 wrong_refused (task.Live input turns) w some = w.1
 wrong_refused (task.Replay input schedule) w some = w.1
 wrong_refused (task.Check input history) w some = false≢true some
+wrong_refused (task.Migrate input) w some = w.1
 
 well_wrong : (t : Task) → GoesWell t → GoesWrong t → ⊥
 well_wrong (task.Run input turns) w v = v.1
 well_wrong (task.Live input turns) w v = v.1
 well_wrong (task.Replay input schedule) w v = v.1
+well_wrong (task.Migrate input) w v = v.1
 well_wrong (task.Check input history) w v =
     let one = one_verdict input.script history.turns history.events in
     go (one.1.1 verdict.Legal w ∙ sym (one.1.1 (verdict.IllegalAt v.0) v.1))

@@ -11,8 +11,6 @@ use Rattle.nt_event.specs.Fitting.{events_fit}
 use Rattle.nt_event.specs.Robin.{is_settled}
 use Rattle.nt_event.specs.Step.{IsRun}
 use Rattle.nt_laws.proofs.Named.RunFits.{run_fits}
-use Rattle.nt_print.specs.Written.{replies_written}
-use Rattle.nt_ranges.proofs.Unlocked.{run_told}
 use Rattle.nt_log.specs.declared.schedules.Schedule.{Schedule}
 use Rattle.nt_script.specs.declared.walk.Input.{Input}
 use Rattle.ntrun.specs.declared.task.Task.{Task}
@@ -33,23 +31,16 @@ run_of (task.Replay input schedule) h r =
     let i = replays_run input.script schedule.turns schedule.list (reverse h.events) r.run in
     record { turns = r.turns; run = i.run; settled = i.settled }
 run_of (task.Check input history) h r = absurd r
+run_of (task.Migrate input) h r = absurd r
 
 -- the events of a task's history name things of its script
 pub events_of : (t : Task) (h : History) → IsSoundTask t → IsRunOf t h → events_fit (input_of t).script h.events ≡ true
 events_of t h s r = run_fits (input_of t).script (limit_of t) h.events s.sound.fits (run_of t h r).run
 
--- and a text can tell its replies
-pub told_of : (t : Task) (h : History) → IsSoundTask t → IsRunOf t h → replies_written h.events ≡ true
-told_of t h s r = run_told (input_of t).script (limit_of t) h.events s.sound.fits s.sound.locks (run_of t h r).run
-
 pub fit_made : (t : Task) (r : Result History ScheduleRefusal) → IsSoundTask t → IfOk r (IsRunOf t) →
     IfOk r (λ h. events_fit (input_of t).script h.events ≡ true)
 fit_made t (Ok h) s k = events_of t h s k
 fit_made t (Err e) s k = tt
-
-pub told_made : (t : Task) (r : Result History ScheduleRefusal) → IsSoundTask t → IfOk r (IsRunOf t) → IfOk r (λ h. replies_written h.events ≡ true)
-told_made t (Ok h) s k = told_of t h s k
-told_made t (Err e) s k = tt
 
 -- a robin run is refused for want of memory alone
 pub never_bad : (input : Input) (turns : ℕ) (r : Result History ScheduleRefusal) → IfErr r (λ e. e ≡ NoMemory) → (at : ℕ) (kind : ScheduleKind) → r

@@ -1,21 +1,19 @@
 -- The headline, from what the call answered and the laws of runs.
-use Rattle.std.proofs.Common.{inl, inr, subst, sym, ◌∙◌, ◌≡◌, ℕ, List, [], ◌∷◌, Ok}
+use Rattle.std.proofs.Common.{refl, subst, sym, ◌≡◌, ℕ, List, [], ◌∷◌, Err, Ok, Result}
 use Rattle.std.specs.Io.KnownBytes.{append_known}
 use Rattle.std.specs.Prelude.{reverse, true}
-use Rattle.std.proofs.lemmas.Bool.{false≢true}
 use Rattle.nt_close.proofs.AtRest.{closed_either}
 use Rattle.nt_close.proofs.Closed.{no_dpc_is_left, nothing_is_eligible}
 use Rattle.nt_close.proofs.Owed.{no_due_key_is_left}
 use Rattle.nt_close.proofs.Quiet.{nothing_waits_behind_a_block}
 use Rattle.nt_close.proofs.ReadyThreads.{no_thread_is_left}
+use Rattle.nt_close.proofs.Spinners.{held_elsewhere}
 use Rattle.nt_close.specs.Close.{IsClosed}
 use Rattle.nt_event.specs.declared.events.Event.{Event}
 use Rattle.nt_event.specs.declared.events.History.{History}
 use Rattle.nt_event.specs.declared.numbers.CpuNo.{CpuNo}
 use Rattle.nt_event.specs.declared.scripts.Script.{Script}
 use Rattle.nt_event.specs.Script.{fits}
-use Rattle.nt_event.specs.Jobs.{rests}
-use Rattle.nt_event.specs.Own.{own_of}
 use Rattle.nt_event.specs.Robin.{is_settled}
 use Rattle.nt_event.specs.Step.{IsRun}
 use Rattle.nt_laws.proofs.Deliveries.{deliveries_are_eligible}
@@ -23,8 +21,12 @@ use Rattle.nt_laws.proofs.Named.Objects.{holds_of_every_object}
 use Rattle.nt_print.specs.Report.{report_text}
 use Rattle.nt_ranges.proofs.Cuts.{cut_lines_name_the_cut}
 use Rattle.nt_ranges.proofs.Programs.{one_report_one_history}
-use Rattle.nt_ranges.proofs.Unlocked.{HasNoLocks, never_spins}
+use Rattle.nt_ranges.proofs.Spinners.{spins_lines_name_the_locks, spins_lines_name_the_spinners}
+use Rattle.nt_ranges.specs.Spinners.{IsSettled}
 use Rattle.nt_readings.proofs.OneFate.{each_insert_has_one_fate, waiting_are_the_pending}
+use Rattle.nt_script.specs.declared.walk.Input.{Input}
+use Rattle.nt_script.specs.Reading.{reading}
+use Rattle.nt_script.specs.Text.{text as script_text}
 use Rattle.nt_words.proofs.Answered.{form_within}
 use Rattle.nt_words.specs.declared.form.Form.{Form}
 use Rattle.nt_words.specs.declared.form.Form.TheVariants as form
@@ -33,11 +35,11 @@ use Rattle.ntrun.specs.declared.status.Status.{Status}
 use Rattle.ntrun.specs.declared.status.Status.TheVariants as exit
 use Rattle.ntrun.specs.declared.task.Task.{Task}
 use Rattle.ntrun.specs.declared.task.Task.TheVariants as task
-use Rattle.ntrun.specs.Headline.{AllDue, HasWritten, Headline, IsActual, IsUncut, IsWhole, IsWholeCheck, IsWholeLoad, NothingIsLeft}
+use Rattle.ntrun.specs.Headline.{AllDue, HasWritten, Headline, IsActual, IsUncut, IsWhole, IsWholeCheck, IsWholeLoad, IsWholeMigrate, NothingIsLeft}
 use Rattle.ntrun.specs.Outcome.{Gave, IsFound, IsFoundBy, IsRunOf, IsWell, Store, Supply}
-use Rattle.ntrun.specs.Tasks.{input_of, limit_of, task_of}
+use Rattle.ntrun.specs.Tasks.{Bad, and_then, input_of, limit_of, migrated, task_of}
 use Rattle.ntrun.proofs.Done.{run_of}
-use Rattle.ntrun.proofs.Tasked.{IsCheck, IsNoCheck, check_is_one, live_is_no_check, replay_is_no_check, run_is_no_check}
+use Rattle.ntrun.proofs.Tasked.{IsCheck, IsRunTask, check_is_one, live_is_a_run, replay_is_a_run, run_is_a_run}
 use Rattle.ntrun.proofs.Plain.{IsPlainTask, run_of_input, sound_task, task_plain}
 
 all_due : (s : Script) (limit : ℕ) (past : List Event) → fits s ≡ true → IsRun s limit past → AllDue s past
@@ -51,24 +53,15 @@ closed : (s : Script) (limit : ℕ) (past : List Event) (p : CpuNo) → IsRun s 
     IsClosed s limit p past
 closed s limit past p r d u = record { run = r; settled = d; named = u.named; uncut = u.uncut }
 
--- in a settled run of a script without locks, a processor that isn't cut rests
-rests_then : (s : Script) (limit : ℕ) (past : List Event) (p : CpuNo) → fits s ≡ true → HasNoLocks s → IsClosed s limit p past →
-    rests (own_of s p past) ≡ true
-rests_then s limit past p fit none k =
-    elim (closed_either s limit p past k) [
-      | inl rest ↦ rest
-      | inr spun ↦ absurd (false≢true (sym (never_spins s limit p past fit none k.run) ∙ spun))
-    ]
-
-nothing_left : (s : Script) (limit : ℕ) (past : List Event) → fits s ≡ true → HasNoLocks s → IsRun s limit past → is_settled s limit past ≡ true →
-    NothingIsLeft s limit past
-nothing_left s limit past fit none r d = record {
+nothing_left : (s : Script) (limit : ℕ) (past : List Event) → IsRun s limit past → is_settled s limit past ≡ true → NothingIsLeft s limit past
+nothing_left s limit past r d = record {
+  still = λ p u. closed_either s limit p past (closed s limit past p r d u);
   requests = λ p x u. nothing_is_eligible s limit p past x (closed s limit past p r d u);
-  dpcs = λ p u. no_dpc_is_left s limit p past (closed s limit past p r d u) (rests_then s limit past p fit none (closed s limit past p r d u));
-  threads = λ p t u h k. no_thread_is_left s limit p t past (closed s limit past p r d u)
-      (rests_then s limit past p fit none (closed s limit past p r d u)) h k;
+  dpcs = λ p u q. no_dpc_is_left s limit p past (closed s limit past p r d u) q;
+  threads = λ p t u q h k. no_thread_is_left s limit p t past (closed s limit past p r d u) q h k;
+  locks = λ p x u l h. held_elsewhere s limit p x past (closed s limit past p r d u) l h;
   blocks = λ t w h k. nothing_waits_behind_a_block s limit t w past r h k;
-  keys = λ u. no_due_key_is_left s limit past r d (λ p h. (u p h, never_spins s limit p past fit none r));
+  keys = λ u. no_due_key_is_left s limit past r d u;
 }
 
 actual : (t : Task) (h : History) → IsPlainTask t → IsRunOf t h → IsActual t h
@@ -77,6 +70,11 @@ actual t h p i =
     let s = (input_of t).script in
     let fit = (sound_task t p).fits in
     let own = run_of_input t h p i in
+    let settled : IsSettled s h = record {
+      fits = fit;
+      run = own.run;
+      settled = subst (λ (n : ℕ). is_settled s n (reverse h.events) ≡ true) (sym r.turns) r.settled;
+    } in
     record {
       is = i;
       turns = r.turns;
@@ -85,8 +83,10 @@ actual t h p i =
       due = all_due s (limit_of t) (reverse h.events) fit r.run;
       fates = λ x n k. each_insert_has_one_fate s (limit_of t) x n (reverse h.events) r.run fit k;
       waiting = λ x. waiting_are_the_pending s (limit_of t) x (reverse h.events) r.run fit;
-      left = nothing_left s (limit_of t) (reverse h.events) fit (sound_task t p).locks r.run r.settled;
+      left = nothing_left s (limit_of t) (reverse h.events) r.run r.settled;
       cut = λ n. cut_lines_name_the_cut s h n own.run;
+      spins = λ n l. spins_lines_name_the_spinners s h n settled l;
+      spun = λ n x l e. spins_lines_name_the_locks s h n x settled l e;
       one = λ g k e. one_report_one_history (input_of t) h g own k e;
     }
 
@@ -103,9 +103,9 @@ whole f so sn ko kn bytes text t h within gave read run is added = record {
   written = subst (λ (x : List ℕ). kn.held ≡ append_known ko.held x) is added;
 }
 
--- a form that reports has no task of a check, and `check` no other
+-- a form that reports has the task of a run, and `check` that of a check
 reported : (f : Form) (so sn : Supply) (ko kn : Store) (bytes text : List ℕ) (t : Task) → IsWithin f → Gave bytes so sn → task_of f bytes ≡ Ok t →
-    IsWell t text → kn.held ≡ append_known ko.held text → IsNoCheck t → IsWhole f so sn ko kn
+    IsWell t text → kn.held ≡ append_known ko.held text → IsRunTask t → IsWhole f so sn ko kn
 reported f so sn ko kn bytes text (task.Run input turns) within gave read w added n =
     whole f so sn ko kn bytes text (task.Run input turns) w.history within gave read w.run w.is added
 reported f so sn ko kn bytes text (task.Live input turns) within gave read w added n =
@@ -113,12 +113,14 @@ reported f so sn ko kn bytes text (task.Live input turns) within gave read w add
 reported f so sn ko kn bytes text (task.Replay input schedule) within gave read w added n =
     whole f so sn ko kn bytes text (task.Replay input schedule) w.history within gave read w.run w.is added
 reported f so sn ko kn bytes text (task.Check input history) within gave read w added n = absurd n
+reported f so sn ko kn bytes text (task.Migrate input) within gave read w added n = absurd n
 
 checked : (so sn : Supply) (ko kn : Store) (bytes text : List ℕ) (t : Task) → Gave bytes so sn → task_of form.Check bytes ≡ Ok t → IsWell t text →
     kn.held ≡ append_known ko.held text → IsCheck t → IsWholeCheck so sn ko kn
 checked so sn ko kn bytes text (task.Run input turns) gave read w added n = absurd n
 checked so sn ko kn bytes text (task.Live input turns) gave read w added n = absurd n
 checked so sn ko kn bytes text (task.Replay input schedule) gave read w added n = absurd n
+checked so sn ko kn bytes text (task.Migrate input) gave read w added n = absurd n
 checked so sn ko kn bytes text (task.Check input history) gave read w added n = record {
   bytes = bytes;
   gave = gave;
@@ -139,16 +141,34 @@ load_written seed turns so sn ko kn text w added = record {
   written = subst (λ (x : List ℕ). kn.held ≡ append_known ko.held x) w.1.is added;
 }
 
+migrate_written : (so sn : Supply) (ko kn : Store) (bytes text : List ℕ) (t : Task) → Gave bytes so sn → task_of form.Migrate bytes ≡ Ok t → IsWell t text →
+    kn.held ≡ append_known ko.held text → IsWholeMigrate so sn ko kn
+migrate_written so sn ko kn bytes text t gave read w added = go (reading bytes) refl read
+  where
+    go : (r : Result Input Bad) → reading bytes ≡ r → and_then r (λ input. Ok (task.Migrate (migrated input))) ≡ Ok t → IsWholeMigrate so sn ko kn
+    go (Err bad) e k = cc
+    go (Ok input) e k =
+        let same : task.Migrate (migrated input) ≡ t = cc in
+        let is : text ≡ script_text (migrated input) = subst (λ (u : Task). IsWell u text) (sym same) w in
+        record {
+          bytes = bytes;
+          gave = gave;
+          input = input;
+          read = e;
+          written = subst (λ (x : List ℕ). kn.held ≡ append_known ko.held x) is added;
+        }
+
 written_by : (f : Form) (so sn : Supply) (ko kn : Store) (text : List ℕ) → IsWithin f → IsFoundBy f so sn exit.Ok text →
     kn.held ≡ append_known ko.held text → HasWritten f so sn ko kn
 written_by (form.Run turns) so sn ko kn text within w added =
-    reported (form.Run turns) so sn ko kn w.0 text w.2.0 within w.1 w.2.1 w.2.2 added (run_is_no_check turns w.0 w.2.0 w.2.1)
+    reported (form.Run turns) so sn ko kn w.0 text w.2.0 within w.1 w.2.1 w.2.2 added (run_is_a_run turns w.0 w.2.0 w.2.1)
 written_by (form.Live turns) so sn ko kn text within w added =
-    reported (form.Live turns) so sn ko kn w.0 text w.2.0 within w.1 w.2.1 w.2.2 added (live_is_no_check turns w.0 w.2.0 w.2.1)
+    reported (form.Live turns) so sn ko kn w.0 text w.2.0 within w.1 w.2.1 w.2.2 added (live_is_a_run turns w.0 w.2.0 w.2.1)
 written_by form.Replay so sn ko kn text within w added =
-    reported form.Replay so sn ko kn w.0 text w.2.0 within w.1 w.2.1 w.2.2 added (replay_is_no_check w.0 w.2.0 w.2.1)
+    reported form.Replay so sn ko kn w.0 text w.2.0 within w.1 w.2.1 w.2.2 added (replay_is_a_run w.0 w.2.0 w.2.1)
 written_by form.Check so sn ko kn text within w added = checked so sn ko kn w.0 text w.2.0 w.1 w.2.1 w.2.2 added (check_is_one w.0 w.2.0 w.2.1)
 written_by (form.Load seed turns) so sn ko kn text within w added = load_written seed turns so sn ko kn text w added
+written_by form.Migrate so sn ko kn text within w added = migrate_written so sn ko kn w.0 text w.2.0 w.1 w.2.1 w.2.2 added
 
 pub headline : Headline
 headline words so sn ko kn a =

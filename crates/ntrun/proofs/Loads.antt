@@ -19,15 +19,15 @@ pub drawn_cpus : (seed : ℕ) (script : Script) → script ≡ load_script seed 
 unfolding load_input
 drawn_cpus seed script e sound = subst (λ (s : Script). s.cpus ≤ 8) (sym e) sound.cpus
 
--- a script with names
-abbrev pub input_of : Script → NameLists → Input
-input_of script names = record { script = script; names = names }
+-- a script with a version and names
+abbrev pub input_of : Script → ℕ → NameLists → Input
+input_of script version names = record { version = version; script = script; names = names }
 
 pub summed_up : (seed limit : ℕ) (script : Script) (h : History) (text : List ℕ) → script ≡ load_script seed → IsRobinRun script limit h →
-    ((names : NameLists) → text ≡ summary_text (input_of script names) h) → IsSummary seed limit text
+    ((version : ℕ) (names : NameLists) → text ≡ summary_text (input_of script version names) h) → IsSummary seed limit text
 unfolding load_input
 summed_up seed limit script h text e r is = record {
   history = h;
   run = subst (λ (s : Script). IsRobinRun s limit h) e r;
-  is = is load_names ∙ ap (λ (s : Script). summary_text (input_of s load_names) h) e;
+  is = is 1 load_names ∙ ap (λ (s : Script). summary_text (input_of s 1 load_names) h) e;
 }

@@ -13,19 +13,22 @@ use Rattle.ntrun.specs.declared.task.Tail.{Tail}
 use Rattle.ntrun.specs.declared.task.Tail.TheVariants as tail
 use Rattle.ntrun.specs.declared.task.Task.{Task}
 use Rattle.ntrun.specs.declared.task.Task.TheVariants as task
-use Rattle.ntrun.specs.Tasks.{Bad, and_then, asks_threads, behind, is_threaded, last_line, reads, tail_task, tail_word, task_of, two_parts}
+use Rattle.ntrun.specs.Tasks.{Bad, and_then, asks_threads, behind, is_threaded, last_line, limited, migrated, reads, tail_task, tail_word, task_of, two_parts}
 
 abbrev pub IsCheck : Task → Type 0
 IsCheck (task.Run input turns) = ⊥
 IsCheck (task.Live input turns) = ⊥
 IsCheck (task.Replay input schedule) = ⊥
 IsCheck (task.Check input history) = Unit {0}
+IsCheck (task.Migrate input) = ⊥
 
-abbrev pub IsNoCheck : Task → Type 0
-IsNoCheck (task.Run input turns) = Unit {0}
-IsNoCheck (task.Live input turns) = Unit {0}
-IsNoCheck (task.Replay input schedule) = Unit {0}
-IsNoCheck (task.Check input history) = ⊥
+-- the task is one of a run, whose history is reported
+abbrev pub IsRunTask : Task → Type 0
+IsRunTask (task.Run input turns) = Unit {0}
+IsRunTask (task.Live input turns) = Unit {0}
+IsRunTask (task.Replay input schedule) = Unit {0}
+IsRunTask (task.Check input history) = ⊥
+IsRunTask (task.Migrate input) = ⊥
 
 -- what holds of a task that a reader made of what it read
 made : {A : Type 0} (P : Task → Type 0) (make : A → Task) → ((x : A) → P (make x)) → (r : Result A Bad) (t : Task) → and_then r (λ x. Ok (make x)) ≡ Ok t →
@@ -50,16 +53,16 @@ parted P k each (Some (at, line)) bytes t e = go (reading (take at bytes)) e
     go (Err bad) h = cc
     go (Ok input) h = each input line (drop at bytes) t h
 
-pub run_is_no_check : (turns : ℕ) (bytes : List ℕ) (t : Task) → task_of (form.Run turns) bytes ≡ Ok t → IsNoCheck t
-run_is_no_check turns bytes t e = made IsNoCheck (λ input. task.Run input turns) (λ x. tt) (reading bytes) t e
+pub run_is_a_run : (turns : ℕ) (bytes : List ℕ) (t : Task) → task_of (form.Run turns) bytes ≡ Ok t → IsRunTask t
+run_is_a_run turns bytes t e = made IsRunTask (λ input. task.Run input (limited input turns)) (λ x. tt) (reading bytes) t e
 
-pub live_is_no_check : (turns : ℕ) (bytes : List ℕ) (t : Task) → task_of (form.Live turns) bytes ≡ Ok t → IsNoCheck t
-live_is_no_check turns bytes t e = made IsNoCheck (λ input. task.Live input turns) (λ x. tt) (reading bytes) t e
+pub live_is_a_run : (turns : ℕ) (bytes : List ℕ) (t : Task) → task_of (form.Live turns) bytes ≡ Ok t → IsRunTask t
+live_is_a_run turns bytes t e = made IsRunTask (λ input. task.Live input (limited input turns)) (λ x. tt) (reading bytes) t e
 
-pub replay_is_no_check : (bytes : List ℕ) (t : Task) → task_of form.Replay bytes ≡ Ok t → IsNoCheck t
-replay_is_no_check bytes t e =
-    parted IsNoCheck tail.Schedule
-    (λ input line rest u h. made IsNoCheck (λ s. task.Replay input s) (λ x. tt) (schedule_reading CPUS input.names line rest) u h)
+pub replay_is_a_run : (bytes : List ℕ) (t : Task) → task_of form.Replay bytes ≡ Ok t → IsRunTask t
+replay_is_a_run bytes t e =
+    parted IsRunTask tail.Schedule
+    (λ input line rest u h. made IsRunTask (λ s. task.Replay input s) (λ x. tt) (schedule_reading CPUS input line rest) u h)
     (behind (tail_word tail.Schedule) bytes) bytes t e
 
 pub check_is_one : (bytes : List ℕ) (t : Task) → task_of form.Check bytes ≡ Ok t → IsCheck t
@@ -72,18 +75,20 @@ check_is_one bytes t e =
 -- a task that is done on threads is that of `live`
 pub threads_are_live : (f : Form) (bytes : List ℕ) (t : Task) → task_of f bytes ≡ Ok t → is_threaded t ≡ asks_threads f
 threads_are_live (form.Run turns) bytes t e =
-    made (λ u. is_threaded u ≡ false) (λ input. task.Run input turns) (λ x. refl) (reading bytes) t e
+    made (λ u. is_threaded u ≡ false) (λ input. task.Run input (limited input turns)) (λ x. refl) (reading bytes) t e
 threads_are_live (form.Live turns) bytes t e =
-    made (λ u. is_threaded u ≡ true) (λ input. task.Live input turns) (λ x. refl) (reading bytes) t e
+    made (λ u. is_threaded u ≡ true) (λ input. task.Live input (limited input turns)) (λ x. refl) (reading bytes) t e
 threads_are_live form.Replay bytes t e =
     parted (λ u. is_threaded u ≡ false) tail.Schedule
-    (λ input line rest u h. made (λ v. is_threaded v ≡ false) (λ s. task.Replay input s) (λ x. refl) (schedule_reading CPUS input.names line rest) u h)
+    (λ input line rest u h. made (λ v. is_threaded v ≡ false) (λ s. task.Replay input s) (λ x. refl) (schedule_reading CPUS input line rest) u h)
     (behind (tail_word tail.Schedule) bytes) bytes t e
 threads_are_live form.Check bytes t e =
     parted (λ u. is_threaded u ≡ false) tail.Report
     (λ input line rest u h. made (λ v. is_threaded v ≡ false) (λ x. task.Check input x) (λ x. refl) (report_reading input line rest) u h)
     (behind (tail_word tail.Report) bytes) bytes t e
 threads_are_live (form.Load seed turns) bytes t e = cc
+threads_are_live form.Migrate bytes t e =
+    made (λ u. is_threaded u ≡ false) (λ input. task.Migrate (migrated input)) (λ x. refl) (reading bytes) t e
 
 -- and a form that has a task reads it from the source
 pub tasks_are_read : (f : Form) (bytes : List ℕ) (t : Task) → task_of f bytes ≡ Ok t → reads f ≡ true
@@ -92,3 +97,4 @@ tasks_are_read (form.Live turns) bytes t e = refl
 tasks_are_read form.Replay bytes t e = refl
 tasks_are_read form.Check bytes t e = refl
 tasks_are_read (form.Load seed turns) bytes t e = cc
+tasks_are_read form.Migrate bytes t e = refl

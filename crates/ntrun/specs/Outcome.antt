@@ -11,6 +11,7 @@ use Rattle.nt_check.specs.declared.checking.Verdict.TheVariants as verdict
 use Rattle.nt_check.specs.Verdicts.{IsVerdict}
 use Rattle.nt_core.specs.Replays.{Refused, replayed}
 use Rattle.nt_script.specs.declared.walk.Input.{Input}
+use Rattle.nt_script.specs.Text.{text as script_text}
 use Rattle.nt_load.specs.Load.{load_input}
 use Rattle.nt_log.specs.declared.schedules.Schedule.{Schedule}
 use Rattle.nt_outside.specs.Bytes.{IsLonger, AddsFrontOf}
@@ -124,23 +125,25 @@ pub record IsReplayed (s : Script) (schedule : Schedule) (h : History) : Type 0 
   pub run : replayed s schedule.turns schedule.list ≡ Ok (reverse h.events)
 
 -- the history that the task asks for: the robin run, any settled run on threads, the run of the schedule's turns; a check
--- asks for none
+-- and a text that is migrated ask for none
 abbrev pub IsRunOf : Task → History → Type 0
 IsRunOf (task.Run input turns) h = IsRobinRun input.script turns h
 IsRunOf (task.Live input turns) h = IsLiveRun input.script turns h
 IsRunOf (task.Replay input schedule) h = IsReplayed input.script schedule h
 IsRunOf (task.Check input history) h = ⊥
+IsRunOf (task.Migrate input) h = ⊥
 
 abbrev pub refused_in : Result (List Event) Refused → Option Refused
 refused_in (Ok past) = None
 refused_in (Err r) = Some r
 
--- the turn at which the task's turns make no settled run, and why; a script that is run and a check have none
+-- the turn at which the task's turns make no settled run, and why; only a schedule has one
 abbrev pub refused_turn : Task → Option Refused
 refused_turn (task.Run input turns) = None
 refused_turn (task.Live input turns) = None
 refused_turn (task.Replay input schedule) = refused_in (replayed input.script schedule.turns schedule.list)
 refused_turn (task.Check input history) = None
+refused_turn (task.Migrate input) = None
 
 -- the text is the report of the task's history
 pub record IsReport (t : Task) (text : List ℕ) : Type 0 where
@@ -158,13 +161,15 @@ IsIllegal (task.Check input history) n = IsVerdict input.script history.turns hi
 IsIllegal (task.Run input turns) n = ⊥
 IsIllegal (task.Live input turns) n = ⊥
 IsIllegal (task.Replay input schedule) n = ⊥
+IsIllegal (task.Migrate input) n = ⊥
 
--- the task is done with this text: a report, or the line of a legal history
+-- the task is done with this text: a report, the line of a legal history, or the text of the script
 abbrev pub IsWell : Task → List ℕ → Type 0
 IsWell (task.Run input turns) text = IsReport (task.Run input turns) text
 IsWell (task.Live input turns) text = IsReport (task.Live input turns) text
 IsWell (task.Replay input schedule) text = IsReport (task.Replay input schedule) text
 IsWell (task.Check input history) text = IsLegal input history × (text ≡ legal_line)
+IsWell (task.Migrate input) text = text ≡ script_text input
 
 -- what is answered to a task, and its text
 abbrev pub IsDone : Task → Status → List ℕ → Type 0
@@ -220,6 +225,7 @@ IsFoundBy form.Replay old new status text = IsFoundFrom form.Replay old new stat
 IsFoundBy form.Check old new status text = IsFoundFrom form.Check old new status text
 IsFoundBy (form.Live turns) old new status text = IsFoundFrom (form.Live turns) old new status text
 IsFoundBy (form.Load seed turns) old new status text = (new ≡ old) × IsLoaded seed turns status text
+IsFoundBy form.Migrate old new status text = IsFoundFrom form.Migrate old new status text
 
 -- the words are a form that reads, and not too much was read
 pub record HasRead (given : List (List ℕ)) (old new : Supply) : Type 0 where
@@ -275,12 +281,13 @@ pub record IsAsked (words : List (List ℕ)) (f : Form) (bytes : List ℕ) (t : 
 abbrev pub GoesWrong : Task → Type 0
 GoesWrong t = (n : ℕ) × IsIllegal t n
 
--- a script is run; the turns of a schedule make a settled run; the history that is checked is one
+-- a script is run or migrated; the turns of a schedule make a settled run; the history that is checked is one
 abbrev pub GoesWell : Task → Type 0
 GoesWell (task.Run input turns) = Unit {0}
 GoesWell (task.Live input turns) = Unit {0}
 GoesWell (task.Replay input schedule) = refused_turn (task.Replay input schedule) ≡ None
 GoesWell (task.Check input history) = IsLegal input history
+GoesWell (task.Migrate input) = Unit {0}
 
 -- nothing is read, and the status is 0, but for want of memory and a fault of the sink
 pub record IsUnread (status : Status) (old new : Supply) : Type 0 where
@@ -305,7 +312,7 @@ pub record HasCause (words : List (List ℕ)) (source_old source_new : Supply) (
   -- the history that is checked is no settled run
   pub illegal : (form : Form) (bytes : List ℕ) (t : Task) → IsAsked words form bytes t source_old source_new →
       ComesExactly status exit.Illegal (GoesWrong t)
-  -- completeness: else the report is written, or that the history is legal
+  -- completeness: else the report or the script is written, or that the history is legal
   pub ok : (form : Form) (bytes : List ℕ) (t : Task) → IsAsked words form bytes t source_old source_new →
       ComesExactly status exit.Ok (GoesWell t)
   -- completeness of a load, which reads nothing

@@ -1,10 +1,11 @@
 -- What a form finds to do in the bytes of an input: what is read there, or the line that is refused.
-use Rattle.std.specs.Prelude.{◌+◌, ℕ, Bool, false, true, List, Ok, Err, Option, Some, None, Result, codes, drop, length, take}
+use Rattle.std.specs.Prelude.{◌+◌, ◌≤◌, ℕ, Bool, false, true, List, Ok, Err, Option, Some, None, Result, codes, drop, length, nat_le, take, if◌then◌else◌}
 use Rattle.nt_event.specs.declared.limits.TheConstants.{CPUS}
 use Rattle.nt_text.specs.declared.kind.ScriptKind.{ScriptKind}
 use Rattle.nt_text.specs.declared.kind.ScriptKind.TheVariants.{NoCpus, NoEnd}
 use Rattle.nt_text.specs.Lines.{lines}
 use Rattle.nt_log.specs.Reading.{reading as schedule_reading}
+use Rattle.nt_log.specs.Schedules.{turn_bound}
 use Rattle.nt_report.specs.Reading.{reading as report_reading}
 use Rattle.nt_script.specs.declared.walk.Input.{Input}
 use Rattle.nt_script.specs.Reading.{reading}
@@ -12,7 +13,6 @@ use Rattle.nt_script.specs.Sound.{IsSound}
 use Rattle.nt_script.specs.Splitting.{split_from}
 use Rattle.nt_words.specs.declared.form.Form.{Form}
 use Rattle.nt_words.specs.declared.form.Form.TheVariants as form
-use Rattle.nt_words.specs.Forms.{IsTurns}
 use Rattle.ntrun.specs.declared.task.Tail.{Tail}
 use Rattle.ntrun.specs.declared.task.Tail.TheVariants as tail
 use Rattle.ntrun.specs.declared.task.Task.{Task}
@@ -42,7 +42,7 @@ last_line bytes = 1 + length (lines bytes)
 
 -- a schedule behind this input, of which the first line has this number
 abbrev pub schedule_task : Input → ℕ → List ℕ → Result Task Bad
-schedule_task input line rest = and_then (schedule_reading CPUS input.names line rest)
+schedule_task input line rest = and_then (schedule_reading CPUS input line rest)
     (λ schedule. Ok (task.Replay input schedule))
 
 -- a report behind this input
@@ -64,12 +64,25 @@ two_parts t None bytes = and_then (reading bytes) (λ input. Err (last_line byte
 abbrev pub both_parts : Tail → List ℕ → Result Task Bad
 both_parts t bytes = two_parts t (behind (tail_word t) bytes) bytes
 
+-- the turn limit that is asked for, or the greatest one for so many processors where that is less
+abbrev pub limited : Input → ℕ → ℕ
+limited input turns =
+    if nat_le turns (turn_bound input.script.cpus) then turns else turn_bound input.script.cpus
+
 -- a script alone, to be run by the robin rule or on threads
 abbrev pub run_task : ℕ → List ℕ → Result Task Bad
-run_task turns bytes = and_then (reading bytes) (λ input. Ok (task.Run input turns))
+run_task turns bytes = and_then (reading bytes) (λ input. Ok (task.Run input (limited input turns)))
 
 abbrev pub live_task : ℕ → List ℕ → Result Task Bad
-live_task turns bytes = and_then (reading bytes) (λ input. Ok (task.Live input turns))
+live_task turns bytes = and_then (reading bytes) (λ input. Ok (task.Live input (limited input turns)))
+
+-- the input in the newest version of its text
+abbrev pub migrated : Input → Input
+migrated input = record input { version = 2 }
+
+-- a script alone, to be written in the newest version
+abbrev pub migrate_task : List ℕ → Result Task Bad
+migrate_task bytes = and_then (reading bytes) (λ input. Ok (task.Migrate (migrated input)))
 
 -- the form reads the input; `load` makes its own
 abbrev pub reads : Form → Bool
@@ -78,6 +91,7 @@ reads form.Replay = true
 reads form.Check = true
 reads (form.Live turns) = true
 reads (form.Load seed turns) = false
+reads form.Migrate = true
 
 -- what a form reads in the bytes. One that reads nothing finds nothing there.
 abbrev pub task_of : Form → List ℕ → Result Task Bad
@@ -86,6 +100,7 @@ task_of form.Replay bytes = both_parts tail.Schedule bytes
 task_of form.Check bytes = both_parts tail.Report bytes
 task_of (form.Live turns) bytes = live_task turns bytes
 task_of (form.Load seed turns) bytes = Err (1, NoCpus)
+task_of form.Migrate bytes = migrate_task bytes
 
 -- ---- what holds of a task
 
@@ -94,17 +109,31 @@ input_of (task.Run input turns) = input
 input_of (task.Live input turns) = input
 input_of (task.Replay input schedule) = input
 input_of (task.Check input history) = input
+input_of (task.Migrate input) = input
 
+-- the turn limit of its run; a text that is migrated has none
 abbrev pub limit_of : Task → ℕ
 limit_of (task.Run input turns) = turns
 limit_of (task.Live input turns) = turns
 limit_of (task.Replay input schedule) = schedule.turns
 limit_of (task.Check input history) = history.turns
+limit_of (task.Migrate input) = 0
+
+-- a turn limit of the input's script
+abbrev pub IsLimit : Input → ℕ → Type 0
+IsLimit input turns = (1 ≤ turns) × (turns ≤ turn_bound input.script.cpus)
+
+abbrev pub HasLimit : Task → Type 0
+HasLimit (task.Run input turns) = IsLimit input turns
+HasLimit (task.Live input turns) = IsLimit input turns
+HasLimit (task.Replay input schedule) = IsLimit input schedule.turns
+HasLimit (task.Check input history) = IsLimit input history.turns
+HasLimit (task.Migrate input) = Unit {0}
 
 -- what is read is sound, and its limit is in its range
 pub record IsSoundTask (t : Task) : Type 0 where
   pub sound : IsSound (input_of t)
-  pub limit : IsTurns (limit_of t)
+  pub limit : HasLimit t
 
 -- the task is done on threads, and so may wait
 abbrev pub is_threaded : Task → Bool
@@ -112,6 +141,7 @@ is_threaded (task.Run input turns) = false
 is_threaded (task.Live input turns) = true
 is_threaded (task.Replay input schedule) = false
 is_threaded (task.Check input history) = false
+is_threaded (task.Migrate input) = false
 
 -- the form asks for such a task
 abbrev pub asks_threads : Form → Bool
@@ -120,3 +150,4 @@ asks_threads (form.Live turns) = true
 asks_threads form.Replay = false
 asks_threads form.Check = false
 asks_threads (form.Load seed turns) = false
+asks_threads form.Migrate = false

@@ -1,17 +1,16 @@
 //! What a call finds out, with the text that is written for it.
-ghost use Rattle.std.specs.Prelude.{◌≡◌, ◌≤◌, false, true, length, IfErr, IfOk, IsTrue, string_bytes};
+ghost use Rattle.std.specs.Prelude.{ℕ, ◌≡◌, ◌≤◌, false, true, length, IfErr, IfOk, IsTrue, string_bytes};
 ghost use Rattle.nt_core.specs.Refusals.{IsReplayRefused};
 ghost use Rattle.nt_event.specs.declared.events.History.{History as RunHistory};
 ghost use Rattle.nt_event.specs.Fitting.{events_fit};
 ghost use Rattle.nt_event.specs.Script.{fits};
-ghost use Rattle.nt_print.specs.Written.{replies_written};
 ghost use Rattle.nt_line.specs.NameLists.{NameLists};
 ghost use Rattle.nt_print.specs.Summary.{summary_text};
 ghost use Rattle.nt_script.specs.Sound.{IsSound};
 ghost use Rattle.nt_words.specs.Forms.{IsTurns, IsWithin};
 ghost use Rattle.ntrun.specs.Answer.{AsksIn, IsAnswerTo, IsIllegalLine, IsMade, IsReported, IsTurnRefused, text_of};
 ghost use Rattle.ntrun.specs.Outcome.{illegal_line, kind_text, legal_line, script_line, memory_line, turn_line, IsDone, IsLoaded, IsRefused, IsReplayed, IsRobinRun, IsSummary};
-ghost use Rattle.ntrun.specs.Tasks.{IsSoundTask, is_threaded, reads};
+ghost use Rattle.ntrun.specs.Tasks.{IsLimit, IsSoundTask, is_threaded, reads};
 
 use crate::status::Status;
 use crate::task::{Task, task_of};
@@ -22,7 +21,7 @@ use nt_history::History;
 use nt_load::draw_script;
 use nt_log::Schedule;
 use nt_print::{report, summary};
-use nt_script::{Input, ScriptKind, ScriptRefusal};
+use nt_script::{Input, ScriptKind, ScriptRefusal, print};
 use nt_text::INPUT_LIMIT;
 use nt_words::Form;
 use std::alloc::{AllocError, Global};
@@ -121,7 +120,6 @@ fn turn_refused(alloc: Global, at: u32, kind: ScheduleKind) -> Answer
 pub(crate) fn reported(alloc: Global, input: &Input, history: &History) -> Answer
     requires sound { IsSound input.now }
     requires fit { events_fit input.now.script history.now.events ≡ true }
-    requires told { replies_written history.now.events ≡ true }
     ensures { IsReported input.now history.now result.status (text_of result.text) }
 {
     match report(alloc, input, history) {
@@ -137,7 +135,6 @@ pub(crate) fn reported(alloc: Global, input: &Input, history: &History) -> Answe
 fn made(alloc: Global, input: &Input, made: &Result<History, ScheduleRefusal>) -> Answer
     requires sound { IsSound input.now }
     requires fit { IfOk made.now (λ h. events_fit input.now.script h.events ≡ true) }
-    requires told { IfOk made.now (λ h. replies_written h.events ≡ true) }
     ensures { IsMade input.now made.now result.status (text_of result.text) }
 {
     match made {
@@ -150,7 +147,7 @@ fn made(alloc: Global, input: &Input, made: &Result<History, ScheduleRefusal>) -
 /// The run of the script by the robin rule.
 fn robin_run(alloc: Global, input: &Input, turns: u32) -> Result<History, ScheduleRefusal>
     requires sound { IsSound input.now }
-    requires limit { IsTurns turns }
+    requires limit { IsLimit input.now turns }
     ensures ok { IfOk result (IsRobinRun input.now.script turns) }
     ensures err { IfErr result (λ r. r ≡ ScheduleRefusal.NoMemory) }
 {
@@ -163,7 +160,7 @@ fn robin_run(alloc: Global, input: &Input, turns: u32) -> Result<History, Schedu
 /// What is answered to a script that is run.
 fn ran(alloc: Global, input: &Input, turns: u32) -> Answer
     requires sound { IsSound input.now }
-    requires limit { IsTurns turns }
+    requires limit { IsLimit input.now turns }
     ensures { IsDone (Task.Run input.now turns) result.status (text_of result.text) }
 {
     let history = robin_run(alloc, input, turns);
@@ -177,7 +174,7 @@ fn schedule_run(
     schedule: &Schedule,
 ) -> Result<History, ScheduleRefusal>
     requires sound { IsSound input.now }
-    requires limit { IsTurns schedule.now.turns }
+    requires limit { IsLimit input.now schedule.now.turns }
     ensures ok { IfOk result (IsReplayed input.now.script schedule.now) }
     ensures err { IfErr result (IsReplayRefused input.now.script schedule.now.turns schedule.now.list) }
 {
@@ -187,7 +184,7 @@ fn schedule_run(
 /// What is answered to a schedule that is replayed.
 fn replayed(alloc: Global, input: &Input, schedule: &Schedule) -> Answer
     requires sound { IsSound input.now }
-    requires limit { IsTurns schedule.now.turns }
+    requires limit { IsLimit input.now schedule.now.turns }
     ensures { IsDone (Task.Replay input.now schedule.now) result.status (text_of result.text) }
 {
     let history = schedule_run(alloc, input, schedule);
@@ -228,12 +225,26 @@ fn legal() -> Answer
 /// What is answered to a history that is checked.
 fn checked(alloc: Global, input: &Input, history: &History) -> Answer
     requires sound { IsSound input.now }
-    requires limit { IsTurns history.now.turns }
+    requires limit { IsLimit input.now history.now.turns }
     ensures { IsDone (Task.Check input.now history.now) result.status (text_of result.text) }
 {
     match check(alloc, &input.script, history) {
         Ok(Verdict::Legal) => legal(),
         Ok(Verdict::IllegalAt(number)) => illegal(alloc, number),
+        Err(_) => no_memory(),
+    }
+}
+
+/// What is answered to a script that is written in the newest version.
+fn migrated(alloc: Global, input: &Input) -> Answer
+    requires { IsSound input.now }
+    ensures { IsDone (Task.Migrate input.now) result.status (text_of result.text) }
+{
+    match print(alloc, input) {
+        Ok(text) => Answer {
+            status: Status::Ok,
+            text: Text::Made(text),
+        },
         Err(_) => no_memory(),
     }
 }
@@ -249,6 +260,7 @@ pub(crate) fn done(alloc: Global, task: &Task) -> Answer
         Task::Live { .. } => unreachable!(),
         Task::Replay { input, schedule } => replayed(alloc, input, schedule),
         Task::Check { input, history } => checked(alloc, input, history),
+        Task::Migrate { input } => migrated(alloc, input),
     }
 }
 
@@ -257,7 +269,7 @@ fn run_summary(alloc: Global, script: &Script, turns: u32) -> Result<Vec<u8>, Al
     requires fits { IsTrue (fits script.now) }
     requires cpus { script.now.cpus ≤ 8 }
     requires limit { IsTurns turns }
-    ensures { IfOk result (λ text. (h : RunHistory) × IsRobinRun script.now turns h × ((names : NameLists) → text.items ≡ summary_text (record { script = script.now; names = names }) h)) }
+    ensures { IfOk result (λ text. (h : RunHistory) × IsRobinRun script.now turns h × ((version : ℕ) (names : NameLists) → text.items ≡ summary_text (record { version = version; script = script.now; names = names }) h)) }
 {
     let history = run(alloc, script, turns)?;
     let text = summary(alloc, script, &history)?;

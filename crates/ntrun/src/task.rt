@@ -6,12 +6,12 @@ ghost use Rattle.nt_script.specs.declared.reading.ScriptRefusal.{ScriptRefusal};
 ghost use Rattle.ntrun.specs.declared.task.Tail.{Tail};
 ghost use Rattle.ntrun.specs.declared.task.Task.{Task};
 ghost use Rattle.nt_words.specs.Forms.{IsTurns, IsWithin};
-ghost use Rattle.ntrun.specs.Tasks.{IsSoundTask, both_parts, last_line, live_task, reads, report_task, run_task, schedule_task, tail_task, tail_word, two_parts, task_of};
+ghost use Rattle.ntrun.specs.Tasks.{IsLimit, IsSoundTask, both_parts, last_line, limited, live_task, migrate_task, reads, report_task, run_task, schedule_task, tail_task, tail_word, two_parts, task_of};
 
 use nt_history::History;
-use nt_log::{Schedule, read_schedule};
+use nt_log::{Schedule, read_schedule, turn_bound};
 use nt_report::read_report;
-use nt_script::{Input, ScriptKind, ScriptRefusal, Split, read, split_at};
+use nt_script::{Input, ScriptKind, ScriptRefusal, Split, migrate, read, split_at};
 use nt_text::{INPUT_LIMIT, Lines};
 use nt_words::Form;
 use std::alloc::Global;
@@ -27,6 +27,8 @@ pub(crate) enum Task {
     Replay { input: Input, schedule: Schedule },
     /// The history is checked.
     Check { input: Input, history: History },
+    /// The script is written in the newest version.
+    Migrate { input: Input },
 }
 
 /// What stands behind a script.
@@ -63,6 +65,16 @@ fn last_line(bytes: &[u8]) -> u32
     number
 }
 
+/// The turn limit that is asked for, or the greatest one for so many processors where that is less.
+fn limited(input: &Input, turns: u32) -> u32
+    requires { IsTurns turns }
+    ensures value { result ≡ limited input.now turns }
+    ensures limit { IsLimit input.now result }
+{
+    let most = turn_bound(input.script.cpus);
+    if turns <= most { turns } else { most }
+}
+
 /// A script alone, to be run by the robin rule.
 fn to_run(alloc: Global, bytes: &[u8], turns: u32) -> Result<Task, ScriptRefusal>
     requires bytes { length bytes.now ≤ INPUT_LIMIT }
@@ -71,6 +83,7 @@ fn to_run(alloc: Global, bytes: &[u8], turns: u32) -> Result<Task, ScriptRefusal
     ensures sound { IfOk result IsSoundTask }
 {
     let input = read(alloc, bytes)?;
+    let turns = limited(&input, turns);
     Ok(Task::Run { input, turns })
 }
 
@@ -82,7 +95,20 @@ fn to_live(alloc: Global, bytes: &[u8], turns: u32) -> Result<Task, ScriptRefusa
     ensures sound { IfOk result IsSoundTask }
 {
     let input = read(alloc, bytes)?;
+    let turns = limited(&input, turns);
     Ok(Task::Live { input, turns })
+}
+
+/// A script alone, to be written in the newest version.
+fn to_migrate(alloc: Global, bytes: &[u8]) -> Result<Task, ScriptRefusal>
+    requires bytes { length bytes.now ≤ INPUT_LIMIT }
+    ensures read { GivesRead result (migrate_task bytes.now) }
+    ensures sound { IfOk result IsSoundTask }
+{
+    let input = read(alloc, bytes)?;
+    Ok(Task::Migrate {
+        input: migrate(input),
+    })
 }
 
 /// The schedule behind a script that was read.
@@ -186,5 +212,6 @@ pub(crate) fn task_of(alloc: Global, form: Form, bytes: &[u8]) -> Result<Task, S
         Form::Replay => both_parts(alloc, Tail::Schedule, bytes),
         Form::Check => both_parts(alloc, Tail::Report, bytes),
         Form::Load { .. } => unreachable!(),
+        Form::Migrate => to_migrate(alloc, bytes),
     }
 }

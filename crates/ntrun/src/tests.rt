@@ -12,6 +12,7 @@ use std::test::Fail;
 use std::thread::Threads;
 
 mod live;
+mod locks;
 
 /// A thread raises the level, inserts a DPC object and lowers the level, and the DPC runs before the thread goes on.
 const RAISE_QUEUE_LOWER: &str =

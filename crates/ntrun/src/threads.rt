@@ -1,12 +1,12 @@
 //! What is answered to a script that is run on threads. Only these calls and the top call may wait.
-ghost use Rattle.std.specs.Prelude.{◌≡◌, IfOk, length, true};
+ghost use Rattle.std.specs.Prelude.{◌*◌, ◌≡◌, ◌≤◌, IfOk, length, true};
 ghost use Rattle.nt_event.specs.Classes.{class_count};
+ghost use Rattle.nt_event.specs.declared.limits.TheConstants.{EVENTS};
 ghost use Rattle.nt_ranges.specs.Looks.{LooksAreWhole};
 ghost use Rattle.nt_script.specs.Sound.{IsSound};
-ghost use Rattle.nt_words.specs.Forms.{IsTurns};
 ghost use Rattle.ntrun.specs.Answer.{IsAnswerTo, text_of};
 ghost use Rattle.ntrun.specs.Outcome.{IsDone, IsLiveRun};
-ghost use Rattle.ntrun.specs.Tasks.{IsSoundTask};
+ghost use Rattle.ntrun.specs.Tasks.{IsLimit, IsSoundTask};
 
 use crate::answer::{Answer, done, no_memory, reported};
 use crate::task::Task;
@@ -41,6 +41,16 @@ fn looks_are_whole(history: &History) -> bool
     whole
 }
 
+/// All processors together make no more events than a history may have.
+fn few_events(input: &Input, turns: u32)
+    requires sound { IsSound input.now }
+    requires limit { IsLimit input.now turns }
+    ensures { input.now.script.cpus * turns ≤ EVENTS }
+{
+    let _turns = turns;
+    let _input = input;
+}
+
 /// A settled run of the script on threads.
 fn live_run<G: Gate + Sync, R: Threads + Wait + Sync>(
     rt: &R,
@@ -50,9 +60,10 @@ fn live_run<G: Gate + Sync, R: Threads + Wait + Sync>(
     gate: &G,
 ) -> Result<History, AllocError>
     requires sound { IsSound input.now }
-    requires limit { IsTurns turns }
+    requires limit { IsLimit input.now turns }
     ensures { IfOk result (IsLiveRun input.now.script turns) }
 {
+    few_events(input, turns);
     let history = live(rt, alloc, &input.script, turns, gate)?;
     let _whole = looks_are_whole(&history);
     Ok(history)
@@ -67,7 +78,7 @@ fn lived<G: Gate + Sync, R: Threads + Wait + Sync>(
     gate: &G,
 ) -> Answer
     requires sound { IsSound input.now }
-    requires limit { IsTurns turns }
+    requires limit { IsLimit input.now turns }
     ensures { IsDone (Task.Live input.now turns) result.status (text_of result.text) }
 {
     match live_run(rt, alloc, input, turns, gate) {
@@ -88,7 +99,9 @@ fn done_on_threads<G: Gate + Sync, R: Threads + Wait + Sync>(
 {
     match task {
         Task::Live { input, turns } => lived(rt, alloc, input, *turns, gate),
-        _ => done(alloc, task),
+        Task::Run { .. } | Task::Replay { .. } | Task::Check { .. } | Task::Migrate { .. } => done(
+            alloc, task,
+        ),
     }
 }
 

@@ -230,6 +230,7 @@ fn put_named(rt: &HostRuntime, names: &Names, name: &str) -> io::Result<()> {
         Some(Named::Timer(t)) => println!(rt; "timer {}", t.0),
         Some(Named::Thread(t)) => println!(rt; "thread {}", t.0),
         Some(Named::Apc(a)) => println!(rt; "apc {}", a.0),
+        Some(Named::Lock(l)) => println!(rt; "lock {}", l.0),
         Some(Named::Routine(r)) => println!(rt; "routine {}", r.0),
         None => println!(rt; "none"),
     }

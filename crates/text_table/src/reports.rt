@@ -1,7 +1,6 @@
 //! Cases of reports.
 ghost use Rattle.std.specs.Prelude.{◌≡◌, ◌≤◌, length, true};
 ghost use Rattle.nt_event.specs.Fitting.{events_fit};
-ghost use Rattle.nt_print.specs.Written.{replies_written};
 ghost use Rattle.nt_text.specs.declared.lines.TheConstants.{INPUT_LIMIT};
 ghost use Rattle.nt_script.specs.Sound.{IsSound};
 
@@ -23,7 +22,6 @@ fn printed_again(
 ) -> Result<Outcome, AllocError>
     requires sound { IsSound input.now }
     requires fit { events_fit input.now.script history.now.events ≡ true }
-    requires told { replies_written history.now.events ≡ true }
 {
     let printed = report(alloc, input, history)?;
     Ok(same_or_not(printed.as_slice(), text))

@@ -1,13 +1,13 @@
 //! What the forms of the program make of a script and a report.
 ghost use Rattle.std.specs.Prelude.{◌≡◌, ◌≤◌, length};
-ghost use Rattle.nt_event.specs.declared.limits.TheConstants.{TURNS};
+ghost use Rattle.nt_log.specs.Schedules.{turn_bound};
 ghost use Rattle.nt_script.specs.Sound.{IsSound};
 ghost use Rattle.nt_text.specs.declared.lines.TheConstants.{INPUT_LIMIT};
 
 use nt_check::{Verdict, check};
 use nt_core::{ScheduleRefusal, replay, run};
 use nt_event::limits::USUAL_TURNS;
-use nt_log::{Schedule, read_schedule};
+use nt_log::{Schedule, read_schedule, turn_bound};
 use nt_print::report;
 use nt_report::read_report;
 use nt_script::{Input, split_at};
@@ -29,14 +29,15 @@ pub(crate) enum Outcome {
 pub(crate) fn ran(alloc: Global, input: &Input) -> Result<Outcome, AllocError>
     requires sound { IsSound input.now }
 {
-    let history = run(alloc, &input.script, USUAL_TURNS)?;
+    let turns = USUAL_TURNS.min(turn_bound(input.script.cpus));
+    let history = run(alloc, &input.script, turns)?;
     Ok(Outcome::Report(report(alloc, input, &history)?))
 }
 
 /// The turns of a schedule are taken.
 fn taken(alloc: Global, input: &Input, schedule: &Schedule) -> Result<Outcome, AllocError>
     requires sound { IsSound input.now }
-    requires turns { (1 ≤ schedule.now.turns) × (schedule.now.turns ≤ TURNS) }
+    requires turns { (1 ≤ schedule.now.turns) × (schedule.now.turns ≤ turn_bound input.now.script.cpus) }
 {
     match replay(alloc, &input.script, schedule.turns, &schedule.list) {
         Ok(history) => Ok(Outcome::Report(report(alloc, input, &history)?)),

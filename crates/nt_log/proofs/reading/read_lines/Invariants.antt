@@ -7,7 +7,7 @@ use Rattle.nt_log.proofs.reading.read_lines.Given as goal
 
 abbrev pub invariant-loop-at : goal.invariant-loop-at
 invariant-loop-at l = record {
-  rest : walk CPUS l.input.names l.walk l.at l.lines ≡ walk CPUS l.input.names start l.first_line (lines l.bytes);
+  rest : walk CPUS l.input l.walk l.at l.lines ≡ walk CPUS l.input start l.first_line (lines l.bytes);
   few : l.at + length l.lines ≤ l.first_line + INPUT_LIMIT;
 }
 

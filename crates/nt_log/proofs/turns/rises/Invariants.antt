@@ -4,7 +4,7 @@ use Rattle.nt_log.proofs.turns.rises.Given as goal
 
 abbrev pub invariant-loop-field : goal.invariant-loop-field
 invariant-loop-field l = record {
-  rest : rises_from l.value l.least l.args ≡ rises_from (replicate 16 0) 0 l.fn.args;
+  rest : rises_from l.version l.value l.least l.args ≡ rises_from l.version (replicate 16 0) 0 l.fn.args;
   size : length l.value ≡ 16;
 }
 

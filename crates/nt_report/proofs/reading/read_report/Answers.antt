@@ -1,5 +1,5 @@
 use Rattle.nt_report.proofs.AgainWhole.{is_only}
-use Rattle.nt_report.proofs.Contract.{is_fit, is_found, is_told}
+use Rattle.nt_report.proofs.Contract.{is_fit, is_found}
 use Rattle.nt_report.proofs.reading.read_report.Goals as goal
 
 pub returns-clause-found : goal.returns-clause-found
@@ -10,6 +10,3 @@ returns-clause-fits c = is_fit c.args.input.now c.requires.sound c.args.first_li
 
 pub returns-clause-only : goal.returns-clause-only
 returns-clause-only c = λ h t. is_only c.args.bytes.now c.args.input.now h c.args.first_line c.read_all.result c.read_all.ensures t
-
-pub returns-clause-told : goal.returns-clause-told
-returns-clause-told c = is_told c.args.input.now c.requires.sound c.args.first_line c.args.bytes.now c.read_all.result c.read_all.ensures

@@ -15,8 +15,9 @@ put_routines-requires-clause-fits c = routines_at c.args.input.now c.as_slice-6.
 
 pub returns : goal.returns
 returns c = printed c.args.input.now c.new-out.result.items c.put_header.new.out.items c.put_isrs.new.out.items c.put_dpcs.new.out.items
-    c.put_timers.new.out.items c.put_threads.new.out.items c.put_apcs.new.out.items c.put_routines.new.out.items c.as_slice.result.now c.as_slice-2.result.now
+    c.put_timers.new.out.items c.put_threads.new.out.items c.put_apcs.new.out.items c.put_locks.new.out.items
+    c.put_routines.new.out.items c.as_slice.result.now c.as_slice-2.result.now
     c.as_slice-3.result.now c.as_slice-4.result.now c.as_slice-5.result.now c.as_slice-6.result.now
     c.as_slice.ensures c.as_slice-2.ensures c.as_slice-3.ensures c.as_slice-4.ensures c.as_slice-5.ensures c.as_slice-6.ensures
     c.new-out.ensures.items c.in_ok-put_header.ensures c.in_ok-put_isrs.ensures c.in_ok-put_dpcs.ensures c.in_ok-put_timers.ensures c.in_ok-put_threads.ensures
-    c.in_ok-put_apcs.ensures c.in_ok-put_routines.ensures
+    c.in_ok-put_apcs.ensures c.in_ok-put_locks.ensures c.in_ok-put_routines.ensures

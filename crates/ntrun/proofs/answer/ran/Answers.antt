@@ -1,16 +1,12 @@
 use Rattle.ntrun.specs.Answer.{text_of}
 use Rattle.ntrun.specs.declared.task.Task.TheVariants as task
-use Rattle.ntrun.proofs.Done.{fit_made, never_bad, told_made}
+use Rattle.ntrun.proofs.Done.{fit_made, never_bad}
 use Rattle.ntrun.proofs.Found.{made_done}
 use Rattle.ntrun.proofs.answer.ran.Goals as goal
 
 pub made-requires-clause-fit : goal.made-requires-clause-fit
 made-requires-clause-fit c =
     fit_made (task.Run c.args.input.now c.args.turns) c.robin_run-history.result (record { sound = c.requires.sound; limit = c.requires.limit }) c.robin_run-history.ensures.ok
-
-pub made-requires-clause-told : goal.made-requires-clause-told
-made-requires-clause-told c =
-    told_made (task.Run c.args.input.now c.args.turns) c.robin_run-history.result (record { sound = c.requires.sound; limit = c.requires.limit }) c.robin_run-history.ensures.ok
 
 pub returns : goal.returns
 returns c =

@@ -1,17 +1,12 @@
 use Rattle.ntrun.specs.Answer.{text_of}
 use Rattle.ntrun.specs.declared.task.Task.TheVariants as task
-use Rattle.ntrun.proofs.Done.{fit_made, replay_bad, told_made}
+use Rattle.ntrun.proofs.Done.{fit_made, replay_bad}
 use Rattle.ntrun.proofs.Found.{made_done}
 use Rattle.ntrun.proofs.answer.replayed.Goals as goal
 
 pub made-requires-clause-fit : goal.made-requires-clause-fit
 made-requires-clause-fit c =
     fit_made (task.Replay c.args.input.now c.args.schedule.now) c.schedule_run-history.result
-    (record { sound = c.requires.sound; limit = c.requires.limit }) c.schedule_run-history.ensures.ok
-
-pub made-requires-clause-told : goal.made-requires-clause-told
-made-requires-clause-told c =
-    told_made (task.Replay c.args.input.now c.args.schedule.now) c.schedule_run-history.result
     (record { sound = c.requires.sound; limit = c.requires.limit }) c.schedule_run-history.ensures.ok
 
 pub returns : goal.returns

@@ -1,16 +1,12 @@
 use Rattle.ntrun.specs.Answer.{text_of}
 use Rattle.ntrun.specs.declared.task.Task.TheVariants as task
-use Rattle.ntrun.proofs.Done.{events_of, told_of}
+use Rattle.ntrun.proofs.Done.{events_of}
 use Rattle.ntrun.proofs.Found.{reported_done}
 use Rattle.ntrun.proofs.threads.lived.Goals as goal
 
 pub reported-requires-clause-fit : goal.reported-requires-clause-fit
 reported-requires-clause-fit g c =
     events_of (task.Live c.args.input.now c.args.turns) c.in-Ok.history (record { sound = c.requires.sound; limit = c.requires.limit }) c.in-Ok.ensures
-
-pub reported-requires-clause-told : goal.reported-requires-clause-told
-reported-requires-clause-told g c =
-    told_of (task.Live c.args.input.now c.args.turns) c.in-Ok.history (record { sound = c.requires.sound; limit = c.requires.limit }) c.in-Ok.ensures
 
 pub returns-in-Ok : goal.returns-in-Ok
 returns-in-Ok g c =

@@ -27,5 +27,5 @@ returns c =
     let e : Event = event_in rises b in
     let old : Tally = c.args.self.now in
     subst (Tallies script events (k + 1))
-    (sym (c.note_did.ensures (values_of rises b) ∙ ap (λ (made : List ℕ). with_what events k e.what (record old { made = made })) c.count.ensures))
+    (sym (c.note_did.ensures (values_of rises b) ∙ ap (λ (made : List ℕ). with_what events k e.cpu.0 e.what (record old { made = made })) c.count.ensures))
     (tally_step script events k e old (below briefs rises k c.requires.number) (event_at briefs rises k default c.requires.number) c.requires.tallies)
