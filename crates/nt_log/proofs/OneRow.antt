@@ -1,5 +1,5 @@
 -- A text has one list of rows, and a field one meaning.
-use Rattle.std.proofs.Common.{◌≡◌, ◌∙◌, ℕ, ◌^◌, ◌<◌, ◌≤◌, Bool, true, false, cond, List, [], ◌∷◌, ◌++◌, length, map, Result, Ok, refl, sym, ap, arith}
+use Rattle.std.proofs.Common.{◌≡◌, ◌∙◌, ℕ, ◌^◌, ◌<◌, ◌≤◌, Bool, true, false, cond, List, [], ◌∷◌, ◌++◌, length, map, Result, Ok, refl, sym, ap, arith, inl, inr, ◌+◌, ◌/◌, ◌%◌}
 use Rattle.std.specs.Prelude.{decimal, ◌&&◌, nat_le, nat_lt}
 use Rattle.std.specs.Char.{digit_value}
 use Rattle.std.specs.Fmt.{digits}
@@ -8,6 +8,7 @@ use Rattle.std.specs.Str.Parse.{AllDigits, digits_value}
 use Rattle.std.proofs.lemmas.Bool.{and_from, and_parts, le-leb, leb-true, le-ltb}
 use Rattle.std.proofs.lemmas.Fmt.{decimal_is_IsNumeral, digits_is_IsNumeral}
 use Rattle.nt_text.specs.Lines.{AllRows, IsRow, is_field, line_of, lines, row_of, rows_text}
+use Rattle.nt_text.proofs.NumberLines.{short}
 use Rattle.nt_text.proofs.Rows.{lines_again, row_again}
 use Rattle.nt_text.specs.Lines.{Row}
 
@@ -15,6 +16,13 @@ use Rattle.nt_text.specs.Lines.{Row}
 
 pub decimal_one : (m n : ℕ) → m < 2 ^ 64 → n < 2 ^ 64 → decimal m ≡ decimal n → m ≡ n
 decimal_one m n lm ln e = sym (decimal_is_IsNumeral m lm).1 ∙ ap (digits_value 10) e ∙ (decimal_is_IsNumeral n ln).1
+
+-- the digits of a number of two
+pub two_digits : (n : ℕ) → 10 ≤ n → n < 100 → decimal n ≡ (48 + n / 10) ∷ (48 + n % 10) ∷ []
+two_digits n least h = elim (short n h) [
+  | inl one ↦ let few = one.0 in absurd (omega (arith, least, few))
+  | inr two ↦ two.1
+]
 
 hexadecimal_number : (n : ℕ) → n ≤ 4294967295 → (AllDigits 16 (digits 16 false n)) × (digits_value 16 (digits 16 false n) ≡ n)
 hexadecimal_number n l = let r = digits_is_IsNumeral 16 false (omega arith) (omega arith) n (omega (arith, l)) in (r.0.1, r.1)

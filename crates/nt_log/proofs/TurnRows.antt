@@ -1,17 +1,19 @@
 -- The line of a turn: what is read is written so, and what is written so is read.
 use Rattle.std.proofs.Common.{◌≡◌, ◌∙◌, ℕ, zero, suc, ◌+◌, ◌<◌, ◌≤◌, Bool, true, false, List, [], ◌∷◌, length, get_or, map, replicate, Result, Ok, Err, refl, sym, ap, subst, arith, lit<}
-use Rattle.std.specs.Prelude.{codes, not, ◌||◌, ◌==◌, nat_lt, if◌then◌else◌}
+use Rattle.std.specs.Prelude.{codes, decimal, not, ◌||◌, ◌==◌, nat_lt, if◌then◌else◌}
 use Rattle.std.specs.List.{list_any}
 use Rattle.std.specs.Str.{bytes_eq}
 use Rattle.std.proofs.lemmas.Bool.{and_parts, le-ltb, lt-ltb, ltb-false}
 use Rattle.nt_text.specs.declared.kind.ScriptKind.{ScriptKind}
-use Rattle.nt_text.specs.declared.kind.ScriptKind.TheVariants.{MissingField, UnknownWord}
-use Rattle.nt_text.specs.Lines.{Row, first, rest}
-use Rattle.nt_text.proofs.Decimals.{number_up_to_again}
+use Rattle.nt_text.specs.declared.kind.ScriptKind.TheVariants.{MissingField, TooMany, UnknownWord}
+use Rattle.nt_text.specs.Lines.{Row, first, number_line, rest, row_of}
+use Rattle.nt_text.specs.declared.kind.What10.TheVariants as what
+use Rattle.nt_text.proofs.Decimals.{decimal_field, number_up_to_again}
+use Rattle.nt_text.proofs.Rows.{row_again}
 use Rattle.nt_event.specs.declared.events.Rises.{Rises}
 use Rattle.nt_event.specs.declared.events.Turn.{Turn}
 use Rattle.nt_event.specs.declared.events.Turn.TheVariants.{Next, Look, Switch}
-use Rattle.nt_event.specs.declared.limits.TheConstants.{CPUS}
+use Rattle.nt_event.specs.declared.limits.TheConstants.{CPUS, EVENTS}
 use Rattle.nt_event.specs.declared.numbers.CpuNo.{CpuNo}
 use Rattle.nt_event.specs.declared.numbers.ThreadNo.{ThreadNo}
 use Rattle.nt_event.specs.declared.scripts.Script.{Script}
@@ -21,7 +23,7 @@ use Rattle.nt_history.specs.Briefs.{event_in, events_in}
 use Rattle.nt_line.specs.Commands.{read1, read2}
 use Rattle.nt_line.specs.Fields.{read_cpu, read_thread}
 use Rattle.nt_line.specs.NameLists.{show_thread}
-use Rattle.nt_line.specs.Results.{◌>>=◌}
+use Rattle.nt_line.specs.Results.{ok_if, ◌>>=◌}
 use Rattle.nt_line.specs.Rows.{show_cpu}
 use Rattle.nt_line.proofs.FieldTexts.{cpu_takes, same_text}
 use Rattle.nt_line.proofs.Found.{are_read}
@@ -34,10 +36,13 @@ use Rattle.nt_script.specs.Sound.{IsSound}
 use Rattle.nt_script.proofs.Soundness.{sound_fits}
 use Rattle.nt_script.proofs.Taken.{counted_ok}
 use Rattle.nt_log.specs.Schedules.{AreRises, TurnIsPlain, rise_field, rises_row, turn_fields, turn_fits, turn_row, turn_word, turns_fit}
-use Rattle.nt_log.specs.Reading.{read_look, read_next, read_rises, read_switch, read_turn, rises_from}
+use Rattle.nt_log.specs.declared.walk.SchedulePlace.{SchedulePlace}
+use Rattle.nt_log.specs.declared.walk.SchedulePlace.TheVariants.{InTurns}
+use Rattle.nt_log.specs.declared.walk.ScheduleWalk.{ScheduleWalk}
+use Rattle.nt_log.specs.Reading.{line_step, step, step_at, with_turn, read_look, read_next, read_rises, read_switch, read_turn, rises_from}
 use Rattle.nt_log.proofs.Looks.{rises_again, rises_take}
 
-abbrev ok : {A : Type 0} → A → Result A ScriptKind
+abbrev pub ok : {A : Type 0} → A → Result A ScriptKind
 ok x = Ok x
 
 ok_is : {A : Type 0} (x y : A) → ok x ≡ Ok y → x ≡ y
@@ -132,8 +137,11 @@ turn_takes cpus input most sound f args t e =
 
 -- ---- what is written
 
+any_cpu_read : (cpus : ℕ) (p : CpuNo) → p.0 ≤ 255 → p.0 < cpus → read_cpu cpus (show_cpu p) ≡ Ok p
+any_cpu_read cpus p le lt = rw (number_up_to_again 255 p.0 (lit< tt) le, lt-ltb p.0 cpus lt) refl
+
 pub cpu_read : (cpus : ℕ) (p : CpuNo) → p.0 ≤ 63 → p.0 < cpus → read_cpu cpus (show_cpu p) ≡ Ok p
-cpu_read cpus p le lt = rw (number_up_to_again 255 p.0 (lit< tt) (omega (arith, le)), lt-ltb p.0 cpus lt) refl
+cpu_read cpus p le lt = any_cpu_read cpus p (omega (arith, le)) lt
 
 thread_read : (input : Input) → IsSound input → (t : ThreadNo) → t.0 < length input.script.threads → read_thread input.names (show_thread input.names t) ≡ Ok t
 thread_read input sound t lt =
@@ -176,6 +184,20 @@ turn_again cpus input sound (Look p r) h lt = look_again cpus input.version p r 
 turn_again cpus input sound (Switch p t) h lt =
     bind_is (read_cpu cpus (show_cpu p)) (λ p. read_thread input.names (show_thread input.names t) >>= λ t. ok (Switch p t)) p (cpu_read cpus p h.0 lt)
     ∙ bind_is (read_thread input.names (show_thread input.names t)) (λ t. ok (Switch p t)) t (thread_read input sound t h.1)
+
+-- the line of a turn that is neither a look nor a switch, among turns, where there is room for one more
+pub next_line_read : (cpus : ℕ) (input : Input) (w : ScheduleWalk) (n : ℕ) → n < 100 → n < cpus → w.place ≡ InTurns → length w.schedule.list < EVENTS →
+    line_step cpus input w (number_line (codes "next ") n) ≡ ok (with_turn w (Next (record { 0 = n })))
+next_line_read cpus input w n few lt place room =
+    let p : CpuNo = record { 0 = n } in
+    let row : Row = codes "next" ∷ decimal n ∷ [] in
+    let read : row_of (number_line (codes "next ") n) ≡ Ok row = row_again row (refl, (decimal_field n (omega (arith, few)), tt)) in
+    let turn : read_turn cpus input row ≡ ok (Next p) =
+    bind_is (read_cpu cpus (show_cpu p)) (λ p. ok (Next p)) p (any_cpu_read cpus p (omega (arith, few)) lt) in
+    bind_is (row_of (number_line (codes "next ") n)) (step cpus input w) row read
+    ∙ ap (λ (q : SchedulePlace). step_at q cpus input w row) place
+    ∙ bind_is (read_turn cpus input row) (λ turn. ok_if (nat_lt (length w.schedule.list) EVENTS) (with_turn w turn) (TooMany what.Turns)) (Next p) turn
+    ∙ ap (λ (b : Bool). ok_if b (with_turn w (Next p)) (TooMany what.Turns)) (lt-ltb (length w.schedule.list) EVENTS room)
 
 -- ---- the turns of events
 

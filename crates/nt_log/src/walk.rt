@@ -74,9 +74,9 @@ impl ScheduleWalk {
     pub fn next_line(&mut self, input: &Input, cpus: u8, lines: &mut Lines) -> Result<bool, Stop>
         ensures { TakesLine (line_step cpus input.now self.old) result self.old self.new lines.old lines.new }
     {
-        // Most lines of a schedule are `next P` with a processor of one digit.
+        // Most lines of a schedule are `next P`.
         if self.has_room() {
-            if let Some(cpu) = lines.take_digit(b"next ", cpus) {
+            if let Some(cpu) = lines.take_number(b"next ", cpus) {
                 self.schedule.list.push(&Turn::Next(CpuNo(cpu)))?;
                 return Ok(true);
             }

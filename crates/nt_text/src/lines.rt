@@ -1,9 +1,9 @@
 //! A text as lines, and a line as fields.
-ghost use Rattle.std.specs.Prelude.{◌≡◌, ◌≢◌, ◌≤◌, ◌+◌, ℕ, List, true, length, drop, option_map, slice_get, Some, None, ◌∷◌, [], IfNone, IfSome};
+ghost use Rattle.std.specs.Prelude.{◌≡◌, ◌≢◌, ◌<◌, ◌≤◌, ◌+◌, ◌++◌, ◌/◌, ◌%◌, ℕ, List, true, decimal, length, drop, option_map, slice_get, Some, None, ◌∷◌, [], IfNone, IfSome};
 ghost use Rattle.std.specs.List.{position, list_all};
 ghost use Rattle.std.specs.Option.{option_map_or};
 ghost use Rattle.std.specs.Result.{result_map_both};
-ghost use Rattle.nt_text.specs.Lines.{is_byte, parts, fields, is_printable, row_of, first, needed, rest, IsDigitBelow};
+ghost use Rattle.nt_text.specs.Lines.{is_byte, parts, fields, is_printable, row_of, first, needed, rest};
 
 use crate::kind::ScriptKind;
 use memchr::memchr;
@@ -46,23 +46,44 @@ fn field_count(line: &[u8]) -> usize
     line.iter().filter(|b| **b == b' ').count() + 1
 }
 
-/// The digit of a number below `below` that these bytes begin with, where a line ends behind it, and what comes after that end.
+/// The digit that these bytes begin with, where a line ends behind it, and what comes after that end.
 #[inline(always)]
-fn last_digit(bytes: &[u8], below: u8) -> Option<(u8, &[u8])>
-    ensures some { IfSome result (λ p. IsDigitBelow below p.0 × (bytes.now ≡ (48 + p.0) ∷ 10 ∷ p.1.now)) }
-    ensures none { IfNone result ((digit : ℕ) (rest : List ℕ) → IsDigitBelow below digit → bytes.now ≢ (48 + digit) ∷ 10 ∷ rest) }
+fn one_digit(bytes: &[u8]) -> Option<(u8, &[u8])>
+    ensures some { IfSome result (λ p. (p.0 < 10) × (bytes.now ≡ (48 + p.0) ∷ 10 ∷ p.1.now)) }
+    ensures none { IfNone result ((digit : ℕ) (rest : List ℕ) → digit < 10 → bytes.now ≢ (48 + digit) ∷ 10 ∷ rest) }
 {
     match bytes {
-        [byte, b'\n', rest @ ..] if byte.is_ascii_digit() => {
-            let digit = *byte - b'0';
-            if digit < below {
-                Some((digit, rest))
-            } else {
-                None
-            }
+        [byte, b'\n', rest @ ..] if byte.is_ascii_digit() => Some((*byte - b'0', rest)),
+        _ => None,
+    }
+}
+
+/// The two digits that these bytes begin with, of which the first is not 0.
+#[inline(always)]
+fn two_digits(bytes: &[u8]) -> Option<(u8, &[u8])>
+    ensures some { IfSome result (λ p. (10 ≤ p.0) × (p.0 < 100) × (bytes.now ≡ (48 + p.0 / 10) ∷ (48 + p.0 % 10) ∷ 10 ∷ p.1.now)) }
+    ensures none { IfNone result ((tens ones : ℕ) (rest : List ℕ) → 1 ≤ tens → tens < 10 → ones < 10 → bytes.now ≢ (48 + tens) ∷ (48 + ones) ∷ 10 ∷ rest) }
+{
+    match bytes {
+        [first, rest @ ..] if b'1' <= *first && *first <= b'9' => {
+            let (ones, behind) = one_digit(rest)?;
+            Some(((*first - b'0') * 10 + ones, behind))
         }
         _ => None,
     }
+}
+
+/// The number of one or two digits that these bytes begin with, where a line ends behind it, and what comes after that end.
+#[inline(always)]
+fn short_number(bytes: &[u8]) -> Option<(u8, &[u8])>
+    ensures some { IfSome result (λ p. (p.0 < 100) × (bytes.now ≡ decimal p.0 ++ 10 ∷ p.1.now)) }
+    ensures none { IfNone result ((n : ℕ) (rest : List ℕ) → n < 100 → bytes.now ≢ decimal n ++ 10 ∷ rest) }
+{
+    if let Some((digit, rest)) = one_digit(bytes) {
+        return Some((digit, rest));
+    }
+    let (number, rest) = two_digits(bytes)?;
+    Some((number, rest))
 }
 
 /// A line of a text.
@@ -118,7 +139,7 @@ impl<'a> Model for Lines<'a> {
 }
 
 impl<'a> Lines<'a> {
-    ghost use Rattle.nt_text.specs.Lines.{IsDigitBelow, digit_line, is_inner, lines};
+    ghost use Rattle.nt_text.specs.Lines.{IsShortBelow, is_inner, lines, number_line};
 
     /// All lines of a text. Bytes behind the last byte 10, where there are any, are a line that isn't ended.
     #[tactic(auto, using(crate::proofs::Cuts::few_lines))]
@@ -154,19 +175,22 @@ impl<'a> Lines<'a> {
         }
     }
 
-    /// Takes the first line that is left, where it is ended and is `head` with the digit of a number below `below` behind it, and
-    /// gives that number. None, and no line is taken, exactly where it is another line or none is left.
+    /// Takes the first line that is left, where it is ended and is `head` with a number below `below` of one or two digits behind
+    /// it, and gives that number. None, and no line is taken, exactly where it is another line or none is left.
     #[inline(always)]
-    pub fn take_digit(&mut self, head: &[u8], below: u8) -> Option<u8>
+    pub fn take_number(&mut self, head: &[u8], below: u8) -> Option<u8>
         requires { list_all is_inner head.now ≡ true }
-        ensures some { IfSome result (λ digit. IsDigitBelow below digit × (self.old ≡ digit_line head.now digit ∷ self.new)) }
+        ensures some { IfSome result (λ n. IsShortBelow below n × (self.old ≡ number_line head.now n ∷ self.new)) }
         ensures none { IfNone result (self.new ≡ self.old) }
-        ensures other { IfNone result ((digit : ℕ) → IsDigitBelow below digit → slice_get self.old 0 ≢ Some (digit_line head.now digit)) }
+        ensures other { IfNone result ((n : ℕ) → IsShortBelow below n → slice_get self.old 0 ≢ Some (number_line head.now n)) }
     {
         let behind = self.rest.strip_prefix(head)?;
-        let (digit, rest) = last_digit(behind, below)?;
+        let (number, rest) = short_number(behind)?;
+        if below <= number {
+            return None;
+        }
         self.rest = rest;
-        Some(digit)
+        Some(number)
     }
 }
 
