@@ -1,5 +1,5 @@
 -- The values of a look: what is read is written so, and what is written so is read.
-use Rattle.std.proofs.Common.{◌≡◌, ◌∙◌, ℕ, zero, suc, ◌+◌, ◌-◌, ◌≤◌, Bool, true, false, List, [], ◌∷◌, ◌++◌, length, set, take, drop, replicate, Option, Some, None, Result, Ok, refl, sym, ap, subst, append_assoc, arith, lit<}
+use Rattle.std.proofs.Common.{◌≡◌, ◌∙◌, ℕ, zero, suc, ◌+◌, ◌-◌, ◌<◌, ◌≤◌, Bool, true, false, List, [], ◌∷◌, ◌++◌, length, set, take, drop, replicate, Option, Some, None, Result, Ok, refl, sym, ap, subst, append_assoc, arith, lit<}
 use Rattle.std.specs.Prelude.{decimal, ◌&&◌, ◌||◌, ◌==◌, nat_le, not, if◌then◌else◌}
 use Rattle.std.specs.List.{join_with_byte, list_any, position}
 use Rattle.std.proofs.lemmas.Bool.{and_from, and_parts, eqb-true, leb-true, le-leb}
@@ -15,6 +15,7 @@ use Rattle.nt_line.proofs.Results.{bind_ok, ok_if_ok}
 use Rattle.nt_line.proofs.FieldTexts.{Takes, level_of_takes, number_again, number_takes}
 use Rattle.nt_log.specs.Schedules.{is_written_class, rise_field, rise_in_classes, rises_row}
 use Rattle.nt_log.specs.Reading.{read_class, read_rise, read_value, rise_at, rises_from}
+use Rattle.nt_history.specs.Briefs.{one_rise}
 use Rattle.nt_log.proofs.OneSchedule.{AreWords, rise_parts}
 
 abbrev ok : {A : Type 0} → A → Result A ScriptKind
@@ -247,3 +248,19 @@ rises_again ver (v ∷ vs) before least class len low all used range =
         let here = rise_again ver least class v (omega (arith, all)) low (used_here (v == 0) is h) range.0 is in
         rw here (ap (λ (xs : List ℕ). rises_from ver xs (class + 1) (rises_row (class + 1) vs)) (set_here before class v (zeros (length vs)) len)
         ∙ next v (class + 1) (omega arith) ∙ ap ok (append_assoc before (v ∷ []) vs))
+
+-- ---- a look in which one class alone rose
+
+-- where none rose, there is no field
+no_row : (class n : ℕ) → rises_row class (zeros n) ≡ []
+no_row class zero = refl
+no_row class (suc n) = no_row (class + 1) n
+
+-- where the class is none, no field
+far_set : (n i v : ℕ) → n ≤ i → set (zeros n) i v ≡ zeros n
+far_set zero i v h = refl
+far_set (suc n) zero v h = absurd (omega (arith, h))
+far_set (suc n) (suc i) v h = ap (λ (l : List ℕ). 0 ∷ l) (far_set n i v (omega (arith, h)))
+
+pub far_rise_row : (class value : ℕ) → 16 ≤ class → rises_row 0 (one_rise class value).value ≡ []
+far_rise_row class value h = ap (rises_row 0) (far_set 16 class value h) ∙ no_row 0 16

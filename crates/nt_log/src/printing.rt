@@ -3,7 +3,7 @@ ghost use Rattle.std.specs.Prelude.{◌≡◌, ◌++◌, ◌∷◌, [], true, co
 ghost use Rattle.nt_text.specs.Lines.{row_text, rows_text};
 ghost use Rattle.nt_event.specs.Script.{has_thread};
 ghost use Rattle.nt_event.specs.Step.{turn_of};
-ghost use Rattle.nt_history.specs.Briefs.{event_in, events_in};
+ghost use Rattle.nt_history.specs.Briefs.{event_in, events_in, one_rise};
 ghost use Rattle.nt_line.specs.NameLists.{show_thread};
 ghost use Rattle.nt_line.specs.Rows.{show_cpu};
 ghost use Rattle.nt_script.specs.Sound.{IsSound};
@@ -12,7 +12,7 @@ ghost use Rattle.nt_log.specs.Schedules.{turn_fits, turns_fit, rise_field, rises
 
 use crate::schedules::Schedule;
 use nt_event::{CpuNo, Rises, ThreadNo, Turn};
-use nt_history::{Brief, Briefs, Did, History};
+use nt_history::{Brief, Briefs, Did, History, Noticed};
 use nt_script::Input;
 use nt_text::{put_digits, put_field, put_number};
 use nt_turns::{Turns, no_turn};
@@ -47,6 +47,10 @@ fn put_next(out: &mut Vec<u8>, cpu: CpuNo) -> Result<(), AllocError>
     if cpu.0 < 10 {
         return out.extend_from_slice(&[b'n', b'e', b'x', b't', b' ', b'0' + cpu.0, b'\n']);
     }
+    if cpu.0 < 100 {
+        let (tens, ones) = (b'0' + cpu.0 / 10, b'0' + cpu.0 % 10);
+        return out.extend_from_slice(&[b'n', b'e', b'x', b't', b' ', tens, ones, b'\n']);
+    }
     out.extend_from_slice(b"next")?;
     put_number(out, u64::from(cpu.0))?;
     out.push(b'\n')?;
@@ -67,6 +71,42 @@ fn put_look(out: &mut Vec<u8>, cpu: CpuNo, rises: &Rises) -> Result<(), AllocErr
 {
     out.extend_from_slice(b"look")?;
     put_look_fields(out, cpu, rises)?;
+    out.push(b'\n')?;
+    Ok(())
+}
+
+/// Adds the class and the value of a look in which one class alone rose, where it did.
+fn put_one_rise(out: &mut Vec<u8>, class: u8, value: u64) -> Result<(), AllocError>
+    ensures { OnOk result (out.new.items ≡ out.old.items ++ spaced (rises_row 0 (one_rise class value).value)) }
+{
+    if 16 <= class {
+        return Ok(());
+    }
+    if value == 0 {
+        return Ok(());
+    }
+    put_rise(out, u64::from(class), value)
+}
+
+/// Adds a processor and the value that alone rose for it.
+fn put_one_look_fields(
+    out: &mut Vec<u8>,
+    cpu: CpuNo,
+    class: u8,
+    value: u64,
+) -> Result<(), AllocError>
+    ensures { OnOk result (out.new.items ≡ out.old.items ++ spaced (show_cpu cpu ∷ rises_row 0 (one_rise class value).value)) }
+{
+    put_number(out, u64::from(cpu.0))?;
+    put_one_rise(out, class, value)
+}
+
+/// Adds the line of a look in which one class alone rose, as in most.
+fn put_one_look(out: &mut Vec<u8>, cpu: CpuNo, class: u8, value: u64) -> Result<(), AllocError>
+    ensures { OnOk result (out.new.items ≡ out.old.items ++ row_text (codes "look" ∷ show_cpu cpu ∷ rises_row 0 (one_rise class value).value)) }
+{
+    out.extend_from_slice(b"look")?;
+    put_one_look_fields(out, cpu, class, value)?;
     out.push(b'\n')?;
     Ok(())
 }
@@ -128,7 +168,12 @@ fn put_turn_of(
     ensures { OnOk result (out.new.items ≡ out.old.items ++ row_text (turn_row input.now.names (turn_of (event_in events.now.rises.now event.now)))) }
 {
     match event.did {
-        Did::Look { .. } => put_look(out, event.cpu, &events.values(event)),
+        Did::Look {
+            noticed: Noticed::One { class, value },
+        } => put_one_look(out, event.cpu, class, value),
+        Did::Look {
+            noticed: Noticed::Several { .. },
+        } => put_look(out, event.cpu, &events.values(event)),
         Did::Switch { thread, .. } => put_switch(out, input, event.cpu, thread),
         Did::Call { .. }
         | Did::Begin { .. }

@@ -4,9 +4,9 @@ ghost use Rattle.nt_text.specs.Lines.{row_text, rows_text};
 ghost use Rattle.nt_print.specs.Counts.{TellsMade};
 ghost use Rattle.nt_print.specs.Report.{made, cut_row, cut_of, cut_rows};
 
-use crate::fields::put_processor;
 use crate::numbers::Numbers;
 use nt_history::History;
+use nt_text::put_processor;
 use std::alloc::AllocError;
 
 fn put_cut(out: &mut Vec<u8>, cpu: u8) -> Result<(), AllocError>

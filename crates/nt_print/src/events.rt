@@ -13,12 +13,12 @@ ghost use Rattle.nt_print.specs.Lent.{lent};
 ghost use Rattle.nt_print.specs.Report.{show_running, begun_row, key_row, status_row, kind_of, kind_word, what_row, event_fields, event_row, event_rows, line_rows};
 ghost use Rattle.nt_print.specs.Tally.{Tallies, TalliesAll};
 
-use crate::fields::{put_processor, put_replied, put_status, put_used};
+use crate::fields::{put_replied, put_status, put_used};
 use crate::tally::Tally;
 use nt_event::{ApcKind, ApcNo, Begun, Command, ThreadNo, TimerKey};
 use nt_history::{Brief, Briefs, Did};
 use nt_script::{Input, put_command};
-use nt_text::{put_digits, put_field, put_number};
+use nt_text::{put_digits, put_field, put_number, put_processor};
 use std::alloc::AllocError;
 
 /// Adds the thread that runs, or a dash.

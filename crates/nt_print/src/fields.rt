@@ -1,22 +1,11 @@
 //! Fields of a line, each with a space before it.
 ghost use Rattle.std.specs.Prelude.{◌≡◌, ◌++◌, ◌∷◌, [], OnOk, decimal, codes};
 ghost use Rattle.nt_text.specs.Lines.{spaced};
-ghost use Rattle.nt_print.specs.Report.{show_processor, hexadecimal, replied, used};
+ghost use Rattle.nt_print.specs.Report.{hexadecimal, replied, used};
 
 use nt_event::Reply;
-use nt_text::{put_digits, put_field, put_number};
+use nt_text::{put_field, put_number};
 use std::alloc::AllocError;
-
-/// Adds ` p` and a processor's number.
-pub(crate) fn put_processor(out: &mut Vec<u8>, n: u64) -> Result<(), AllocError>
-    ensures { OnOk result (out.new.items ≡ out.old.items ++ spaced (show_processor n ∷ [])) }
-{
-    if n < 10 {
-        return out.extend_from_slice(&[b' ', b'p', b'0' + n as u8]);
-    }
-    out.extend_from_slice(b" p")?;
-    put_digits(out, n)
-}
 
 /// Adds a number in hexadecimal.
 fn put_hexadecimal(out: &mut Vec<u8>, n: u32) -> Result<(), AllocError>

@@ -8,12 +8,12 @@ ghost use Rattle.nt_line.specs.NameLists.{show_lock};
 ghost use Rattle.nt_print.specs.Report.{show_processor, spin_left, spin_of, spin_row, spin_rows, used};
 ghost use Rattle.nt_print.specs.Tally.{TalliesAll, rests_by};
 
-use crate::fields::{put_processor, put_used};
+use crate::fields::put_used;
 use crate::tally::Tally;
 use nt_event::LockNo;
 use nt_history::History;
 use nt_script::Input;
-use nt_text::put_field;
+use nt_text::{put_field, put_processor};
 use std::alloc::{AllocError, Global};
 use std::marker::Model;
 

@@ -19,4 +19,4 @@ mod printing;
 pub use field::{is_word, name, number};
 pub use kind::{ScriptKind, What10};
 pub use lines::{Fields, INPUT_LIMIT, Line, Lines};
-pub use printing::{put_digits, put_field, put_number};
+pub use printing::{put_digits, put_field, put_number, put_processor};

@@ -1,4 +1,4 @@
-use Rattle.std.proofs.Common.{[], codes, rules, ◌∷◌}
+use Rattle.std.proofs.Common.{codes, rules, ◌∷◌}
 use Rattle.nt_text.proofs.RowTexts.{line_put}
 use Rattle.nt_line.specs.NameLists.{show_lock}
 use Rattle.nt_print.specs.Report.{show_processor, used}
