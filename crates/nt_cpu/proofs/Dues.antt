@@ -1,10 +1,11 @@
 -- The class that is due, by the greatest one that is not served.
 use Rattle.std.proofs.Common.{ap, arith, subst, sym, ◌∙◌}
+use Rattle.std.proofs.lemmas.Bool.{not-true}
 use Rattle.std.proofs.lemmas.Bool.Decides.{nat_tests}
-use Rattle.std.specs.Prelude.{Bool, IfSome, List, None, Option, Some, [], false, find, if◌then◌else◌, nat_le, nat_lt, refl, true, ℕ, ◌&&◌, ◌<◌, ◌∷◌, ◌≡◌, ◌≤◌}
-use Rattle.nt_event.specs.Classes.{class_count, dispatch_class, interrupt_classes}
+use Rattle.std.specs.Prelude.{Bool, IfSome, List, None, Option, Some, [], false, find, if◌then◌else◌, nat_le, nat_lt, not, refl, true, ℕ, ◌&&◌, ◌<◌, ◌==◌, ◌∷◌, ◌≡◌, ◌≤◌}
+use Rattle.nt_event.specs.Classes.{class_count, dispatch_class, interrupt_classes, lock_class}
 use Rattle.nt_event.specs.Lists.{value_at}
-use Rattle.nt_floor.specs.Seen.{SameInterrupts}
+use Rattle.nt_floor.specs.Seen.{IsInterrupt, SameInterrupts}
 use Rattle.nt_cpu.specs.Due.{above_level, greatest_due, is_unserved}
 
 -- each class is at most the one before, the first at most m
@@ -118,19 +119,24 @@ none_due seen served e = subst (λ (xs : List ℕ). None ≡ greatest_due seen x
 
 -- ---- where interrupts are as before
 
+abbrev is_interrupt : ℕ → Bool
+is_interrupt x = (nat_lt dispatch_class x && not (x == lock_class)) && nat_lt x class_count
+
 abbrev are_interrupts : List ℕ → Bool
 are_interrupts [] = true
-are_interrupts (x ∷ xs) = (nat_lt dispatch_class x && nat_lt x class_count) && are_interrupts xs
+are_interrupts (x ∷ xs) = is_interrupt x && are_interrupts xs
 
-find_same : (P Q : ℕ → Bool) (xs : List ℕ) → are_interrupts xs ≡ true → ((c : ℕ) → dispatch_class < c → c < class_count → P c ≡ Q c) → find P xs ≡ find Q xs
+find_same : (P Q : ℕ → Bool) (xs : List ℕ) → are_interrupts xs ≡ true → ((c : ℕ) → IsInterrupt c → c < class_count → P c ≡ Q c) → find P xs ≡ find Q xs
 find_same P Q [] a h = refl
 find_same P Q (x ∷ xs) a h =
-    let here : (nat_lt dispatch_class x && nat_lt x class_count) ≡ true = first_of (nat_lt dispatch_class x && nat_lt x class_count) (are_interrupts xs) a in
-    let low : nat_lt dispatch_class x ≡ true = first_of (nat_lt dispatch_class x) (nat_lt x class_count) here in
-    let high : nat_lt x class_count ≡ true = last_of (nat_lt dispatch_class x) (nat_lt x class_count) here in
-    ap (λ (b : Bool). if b then Some x else find P xs) (h x (grind (arith, nat_tests)) (grind (arith, nat_tests)))
+    let here : is_interrupt x ≡ true = first_of (is_interrupt x) (are_interrupts xs) a in
+    let kind = first_of (nat_lt dispatch_class x && not (x == lock_class)) (nat_lt x class_count) here in
+    let low : nat_lt dispatch_class x ≡ true = first_of (nat_lt dispatch_class x) (not (x == lock_class)) kind in
+    let other : not (x == lock_class) ≡ true = last_of (nat_lt dispatch_class x) (not (x == lock_class)) kind in
+    let high : nat_lt x class_count ≡ true = last_of (nat_lt dispatch_class x && not (x == lock_class)) (nat_lt x class_count) here in
+    ap (λ (b : Bool). if b then Some x else find P xs) (h x (grind (arith, nat_tests), not-true (x == lock_class) other) (grind (arith, nat_tests)))
     ∙ ap (λ (o : Option ℕ). if Q x then Some x else o)
-    (find_same P Q xs (last_of (nat_lt dispatch_class x && nat_lt x class_count) (are_interrupts xs) a) h)
+    (find_same P Q xs (last_of (is_interrupt x) (are_interrupts xs) a) h)
 
 -- the same interrupt is due
 pub due_same : (seen served seen_then served_then : List ℕ) → SameInterrupts seen seen_then → SameInterrupts served served_then →

@@ -29,6 +29,7 @@ serves_far xs ys k l h =
 pub serves_below : (xs ys new : List ℕ) (k : ℕ) → k ≤ dispatch_class → new ≡ table 16 (λ c. if k == c then value_at ys c else value_at xs c) →
     SameInterrupts xs new
 serves_below xs ys new k l e c a b =
+    let above = a.0 in
     let other : (k == c) ≡ false = grind (arith, nat_tests) in
     ap (λ (zs : List ℕ). value_at zs c) e
     ∙ (get_or-table 16 c (λ i. if k == i then value_at ys i else value_at xs i) 0 b

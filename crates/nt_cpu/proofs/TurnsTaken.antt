@@ -1,6 +1,6 @@
 -- What a turn gives.
 use Rattle.std.proofs.Common.{ap, arith, inl, inr, subst, sym, ◌∙◌}
-use Rattle.std.specs.Prelude.{Err, None, Ok, Option, Some, false, not, option_and_then, option_map, refl, true, ℕ, ◌&&◌, ◌<◌, ◌≡◌, ◌≤◌}
+use Rattle.std.specs.Prelude.{Bool, Err, None, Ok, Option, Some, false, if◌then◌else◌, nat_lt, not, option_and_then, option_map, refl, suc, true, zero, ℕ, ◌&&◌, ◌<◌, ◌==◌, ◌||◌, ◌≡◌, ◌≤◌}
 use Rattle.nt_event.specs.declared.events.Event.{Event}
 use Rattle.nt_event.specs.declared.events.Turn.{Turn}
 use Rattle.nt_event.specs.declared.events.Turn.TheVariants.{Look as LookTurn, Next, Switch as SwitchTurn}
@@ -16,14 +16,16 @@ use Rattle.nt_event.specs.Lanes.{Lanes}
 use Rattle.nt_event.specs.Own.{Own, stand_in}
 use Rattle.nt_event.specs.Script.{has_thread}
 use Rattle.nt_event.specs.Step.{event_at, is_cut}
-use Rattle.nt_event.specs.Lists.{value_at}
+use Rattle.nt_event.specs.Lists.{table_from, value_at}
+use Rattle.nt_event.specs.Robin.{is_behind, look_value, look_values}
+use Rattle.nt_event.proofs.Tables.{table-same}
 use Rattle.nt_event.proofs.Options.{Holds, both, holds_at, holds_when, when_gives}
 use Rattle.nt_floor.specs.Views.{View}
 use Rattle.nt_cpu.specs.Alone.{IsAlone, MayBe, alone_event}
 use Rattle.nt_cpu.specs.GoodTasks.{GoodTask}
 use Rattle.nt_cpu.specs.Sound.{IsSound}
 use Rattle.nt_cpu.specs.States.{CpuState}
-use Rattle.nt_cpu.specs.Turns.{IsTurnRefused, IsTurned, Serves, acts, event_or_refusal, is_shared, rises, task_makes, turn_gives, turn_refusal, turn_task}
+use Rattle.nt_cpu.specs.Turns.{IsTurnRefused, IsTurned, Serves, acts, event_or_refusal, is_shared, rise_above, rises, task_makes, turn_gives, turn_refusal, turn_task}
 use Rattle.nt_cpu.specs.declared.turn.TurnRefusal.{TurnRefusal}
 use Rattle.nt_cpu.specs.declared.turn.TurnRefusal.TheVariants.{NothingToDo}
 use Rattle.nt_cpu.proofs.Alones.{event_alone}
@@ -67,6 +69,36 @@ gives_alone c l t w h e = gives_task c l t h ∙ rw e refl
 pub gives_shared : (c : CpuState) (l : Lanes) (t : Turn) (job : Job) → is_cut c.limit c.own ≡ false → turn_task c.script c.cpu c.own t ≡ Some (Shared job) →
     turn_gives c l t ≡ event_or_refusal (turn_refusal t) (option_map (acted_event (stand_in c.cpu c.own) l) (job_event c.script (stand_in c.cpu c.own) l job))
 gives_shared c l t job h e = gives_task c l t h ∙ rw e refl
+
+-- ---- a look at what was asked for
+
+value_rises : (c : ℕ) (x : Own) (asked : ℕ → ℕ) (b : Bool) → nat_lt (value_at x.seen c) (asked c) ≡ b →
+    (((if b then asked c else 0) == 0) || nat_lt (value_at x.seen c) (if b then asked c else 0)) ≡ true
+value_rises c x asked false k = refl
+value_rises c x asked true k = rw k (or_yes (asked c == 0))
+  where
+    or_yes : (a : Bool) → (a || true) ≡ true
+    or_yes true = refl
+    or_yes false = refl
+
+values_rise : (x : Own) (asked : ℕ → ℕ) (n c : ℕ) → rise_above c (table_from c n (look_value x asked)) x.seen ≡ true
+unfolding table_from
+values_rise x asked zero c = refl
+values_rise x asked (suc n) c = rw (value_rises c x asked (nat_lt (value_at x.seen c) (asked c)) refl) (values_rise x asked n (suc c))
+
+-- where the processor is behind, the values of its look rise
+pub looks_rise : (x : Own) (asked : ℕ → ℕ) → is_behind x asked ≡ true → rises (look_values x asked) x.seen ≡ true
+looks_rise x asked h = rw (h, values_rise x asked 16 0) refl
+
+-- what a look finds, by the same values
+pub look_same : (x : Own) (f g : ℕ → ℕ) → ((k : ℕ) → k < 16 → f k ≡ g k) → look_values x f ≡ look_values x g
+look_same x f g h =
+    table-same 16 (look_value x f) (look_value x g) (λ k b. ap (λ (n : ℕ). if nat_lt (value_at x.seen k) n then n else 0) (h k b))
+
+-- the task of such a look
+pub look_task : (c : CpuState) (v : View) → is_behind c.own (v.value c.cpu) ≡ true → turn_task c.script c.cpu c.own
+    (LookTurn c.cpu (record { value = look_values c.own (v.value c.cpu) })) ≡ Some (Alone (Look (record { value = look_values c.own (v.value c.cpu) })))
+look_task c v h = rw (looks_rise c.own (v.value c.cpu) h) refl
 
 -- ---- the answers
 

@@ -1,9 +1,10 @@
 //! Events that touch no lane.
-ghost use Rattle.std.specs.Prelude.{◌≡◌, ◌<◌, ◌≤◌, ◌+◌, ◌^◌, ◌||◌, ℕ, IfSome};
+ghost use Rattle.std.specs.Prelude.{◌≡◌, ◌<◌, ◌≤◌, ◌+◌, ◌^◌, ◌||◌, ℕ, IfSome, length};
 ghost use Rattle.nt_event.specs.declared.events.Begun.{Begun};
 ghost use Rattle.nt_event.specs.declared.events.What.{What};
 ghost use Rattle.nt_event.specs.Frames.{level_in};
 ghost use Rattle.nt_event.specs.Own.{stand_in};
+ghost use Rattle.nt_event.specs.Robin.{look_values};
 ghost use Rattle.nt_event.specs.Regions.{some_came_to_0};
 ghost use Rattle.nt_event.specs.Lists.{value_at};
 ghost use Rattle.nt_floor.specs.Views.{HasWord, View};
@@ -34,13 +35,6 @@ fn ask_when(test: bool, cpu: CpuNo, class: u8) -> Option<Asked>
     } else {
         None
     }
-}
-
-/// Whether a normal kernel APC ends.
-fn is_normal_end(body: &Option<Body>) -> bool
-    ensures { result ≡ ends_normal body.now }
-{
-    matches!(body, Some(Body::Apc(_, ApcKind::Normal)))
 }
 
 /// The level after the call of a command.
@@ -129,22 +123,23 @@ impl<'s> Cpu<'s> {
         }
     }
 
+    /// Whether a normal kernel APC ends, where the innermost frame ends.
+    #[inline(always)]
+    fn ends_normal(&self) -> bool
+        ensures { result ≡ ends_normal (stand_in self.now.cpu self.now.own).body }
+    {
+        match self.frames.top() {
+            Some(frame) => matches!(frame.body(), Body::Apc(_, ApcKind::Normal)),
+            None => false,
+        }
+    }
+
     /// Whether a normal kernel APC ends, or the running thread gives up its last region of a kind, where the innermost frame ends.
     #[inline(always)]
     fn end_asks(&self) -> bool
         ensures { result ≡ (ends_normal (stand_in self.now.cpu self.now.own).body || some_came_to_0 (stand_in self.now.cpu self.now.own).regions (stand_in self.now.cpu self.now.own).below) }
     {
-        is_normal_end(&self.body()) || self.frames.gives_up()
-    }
-
-    /// What runs in the innermost frame.
-    fn body(&self) -> Option<Body>
-        ensures { result ≡ (stand_in self.now.cpu self.now.own).body }
-    {
-        match self.frames.top() {
-            Some(frame) => Some(*frame.body()),
-            None => None,
-        }
+        self.ends_normal() || self.frames.gives_up()
     }
 
     /// What an event that touches no lane asks for.
@@ -172,6 +167,7 @@ impl<'s> Cpu<'s> {
     }
 
     /// Makes the event that stands in its place and touches no lane: draws its number, marks what it asks for, and takes it up.
+    #[inline(always)]
     pub(crate) fn make_alone<W: Words>(&mut self, words: &mut W, event: &Event)
         requires room { self.old.own.made < self.old.limit }
         requires drawable { 1 ≤ (W.view words.old).drawable }
@@ -199,6 +195,18 @@ impl<'s> Cpu<'s> {
             level: Level::PASSIVE,
             what: What::Look { rises: *rises },
         };
+    }
+
+    /// Writes the event that notices those of these values that are above what was seen. They are written where they are kept:
+    /// made first and put then, all 16 would be copied twice.
+    pub(crate) fn write_asked(&self, answers: &[u64], event: &mut Event)
+        requires { length answers.now ≡ 16 }
+        ensures { event.new ≡ alone_event self.now.cpu (What.Look (record { value = look_values self.now.own (value_at answers.now) })) self.now.own.frames }
+    {
+        self.write_look(&Rises { value: [0; 16] }, event);
+        if let What::Look { rises } = &mut event.what {
+            self.seen.write_below(answers, rises);
+        }
     }
 
     /// Writes the event that calls this command in the innermost frame, which is refused or done at once.

@@ -29,15 +29,15 @@ fn first_due(classes: &[u8], seen: &Seen, served: &Values) -> Option<u8>
     None
 }
 
-/// The greatest class of an interrupt that is due: the one known before, where all is the same as then.
-pub fn greatest_due(before: Option<u8>, same: bool, seen: &Seen, served: &Values) -> Option<u8>
-    requires { same ≡ true → before ≡ greatest seen.now served.now }
-    ensures { result ≡ greatest seen.now served.now }
+/// Leaves the greatest class of an interrupt that is due. Where all is the same as before, it is the one known, and nothing is written.
+#[inline(always)]
+pub fn renew_due(due: &mut Option<u8>, same: bool, seen: &Seen, served: &Values)
+    requires { same ≡ true → due.old ≡ greatest seen.now served.now }
+    ensures { due.new ≡ greatest seen.now served.now }
 {
-    if same {
-        return before;
+    if !same {
+        *due = first_due(&CLASSES, seen, served);
     }
-    first_due(&CLASSES, seen, served)
 }
 
 /// The class, where it is above the level.

@@ -136,7 +136,6 @@ impl Kept {
                 self.sweep = sweep_after(command, reply, self.sweep);
                 if reply.is_spin() {
                     self.served.serve(LOCK, seen);
-                    return true;
                 }
                 false
             }

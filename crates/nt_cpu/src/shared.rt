@@ -10,7 +10,7 @@ ghost use Rattle.nt_cpu.specs.Steps.{Knows};
 ghost use Rattle.nt_cpu.specs.Turns.{IsShared, Serves};
 
 use crate::cpu::Cpu;
-use crate::due::greatest_due;
+use crate::due::renew_due;
 use nt_event::{Event, Job};
 use nt_floor::{ActRefusal, Floor};
 use nt_frame::StandView;
@@ -40,7 +40,12 @@ impl<'s> Cpu<'s> {
         self.sound();
         let stand = StandView::new(self.cpu, &self.frames, self.kept.sweep);
         let made = floor.act(&job, &stand, &mut self.seen, event)?;
-        self.due = greatest_due(self.due, !made.interrupts, &self.seen, &self.kept.served);
+        renew_due(
+            &mut self.due,
+            !made.interrupts,
+            &self.seen,
+            &self.kept.served,
+        );
         self.take_up(event, made.number, made.due);
         Ok(())
     }

@@ -8,7 +8,7 @@ ghost use Rattle.nt_cpu.specs.Leaves.{own_with};
 ghost use Rattle.nt_cpu.specs.Notices.{HasClass, notice_of};
 
 use crate::cpu::Cpu;
-use crate::due::greatest_due;
+use crate::due::renew_due;
 use crate::framing::apply;
 use crate::notice::Notice;
 use nt_event::Event;
@@ -29,7 +29,7 @@ impl<'s> Cpu<'s> {
         ensures { self.new ≡ record self.old { own = record self.old.own { seen = table 16 (λ c. max (value_at self.old.own.seen c) (notice_of notice.now c)) } } }
     {
         let interrupts = notice.raise(&mut self.seen);
-        self.due = greatest_due(self.due, !interrupts, &self.seen, &self.kept.served);
+        renew_due(&mut self.due, !interrupts, &self.seen, &self.kept.served);
     }
 
     /// The event of this number and due time happened; what is noticed of it was seen before.
@@ -45,6 +45,6 @@ impl<'s> Cpu<'s> {
         nested(&self.frames);
         self.made += 1;
         let serves = self.kept.take_up(self.script, &event.what, &self.seen);
-        self.due = greatest_due(self.due, !serves, &self.seen, &self.kept.served);
+        renew_due(&mut self.due, !serves, &self.seen, &self.kept.served);
     }
 }

@@ -1,11 +1,13 @@
 //! Turns.
-ghost use Rattle.std.specs.Prelude.{◌≡◌, ◌&&◌, ℕ, true, IfErr, IfOk, IsErrOf, OnErr, OnOk, Some};
+ghost use Rattle.std.specs.Prelude.{◌≡◌, ◌&&◌, ◌<◌, ℕ, false, true, IfErr, IfOk, IsErrOf, OnErr, OnOk, Some};
 ghost use Rattle.nt_event.specs.Own.{stand_in};
+ghost use Rattle.nt_event.specs.Robin.{is_behind, look_values};
 ghost use Rattle.nt_event.specs.Step.{cpu_at, is_cut};
 ghost use Rattle.nt_acts.specs.Acts.{Found};
 ghost use Rattle.nt_floor.specs.Views.{IsUnmoved};
 ghost use Rattle.nt_event.specs.declared.events.Event.{Event};
 ghost use Rattle.nt_event.specs.declared.events.What.{What};
+ghost use Rattle.nt_event.specs.declared.events.Turn.TheVariants.{Look as LookTurn};
 ghost use Rattle.nt_event.specs.declared.jobs.Job.{Job};
 ghost use Rattle.nt_event.specs.declared.jobs.Task.{Task};
 ghost use Rattle.nt_event.specs.Jobs.{may_switch as switch_in};
@@ -23,7 +25,7 @@ use crate::looks::rise;
 use crate::plan::Plan;
 use crate::writing::no_event;
 use nt_event::{Event, Job, Rises, ThreadNo, Turn};
-use nt_floor::{ActRefusal, Floor};
+use nt_floor::{ActRefusal, Floor, OpenFloor};
 
 /// Why a turn made no event.
 #[derive(Clone, Copy, PartialEq, Eq, Debug)]
@@ -138,6 +140,22 @@ impl<'s> Cpu<'s> {
         ensures grows { F.grows floor.old floor.new }
     {
         self.choose_into(floor, &Choice::of(choice), event)
+    }
+
+    /// Looks at what was asked for, where that is above what was seen: the turn of this look, which is not refused.
+    pub fn look_into<F: OpenFloor>(&mut self, floor: &mut F, event: &mut Event)
+        requires script { F.script floor.old ≡ self.old.script }
+        requires serves { Serves self.old (F.view floor.old) }
+        requires cpu { self.old.cpu.0 < (F.view floor.old).cpus }
+        requires uncut { is_cut self.old.limit self.old.own ≡ false }
+        requires behind { is_behind self.old.own ((F.view floor.old).value self.old.cpu) ≡ true }
+        ensures ok { (f : Found) × (n : ℕ) × IsTurned self.old self.new (LookTurn self.old.cpu (record { value = look_values self.old.own ((F.view floor.old).value self.old.cpu) })) f n event.new (F.view floor.old) (F.view floor.new) }
+        ensures script { F.script floor.new ≡ F.script floor.old }
+        ensures grows { F.grows floor.old floor.new }
+    {
+        self.sound();
+        self.write_asked(floor.asked(self.cpu), event);
+        self.make_alone(floor, event);
     }
 
     /// Takes its turn of this choice as [`Cpu::turn_into`] does.

@@ -1,25 +1,28 @@
 -- The robin rule, by what the processors keep and the floor tells.
-use Rattle.std.proofs.Common.{ap, arith, sym, ◌∙◌}
+use Rattle.std.proofs.Common.{ap, arith, subst, sym, ◌∙◌}
+use Rattle.std.proofs.lemmas.Bool.{not-true}
 use Rattle.std.proofs.lemmas.Bool.Decides.{nat_tests}
 use Rattle.std.specs.List.{list_all, list_any}
 use Rattle.std.specs.Option.{option_or}
 use Rattle.std.specs.Prelude.{Bool, IfSome, List, None, Option, Some, false, if◌then◌else◌, is_none, is_some, nat_lt, not, option_map, refl, suc, true, ℕ, ◌&&◌, ◌<◌, ◌≡◌}
 use Rattle.nt_event.specs.declared.events.Event.{Event}
+use Rattle.nt_event.specs.declared.events.Rises.{Rises}
 use Rattle.nt_event.specs.declared.events.Turn.{Turn}
 use Rattle.nt_event.specs.declared.events.Turn.TheVariants.{Look as LookTurn, Next as NextTurn, Switch as SwitchTurn}
 use Rattle.nt_event.specs.declared.numbers.CpuNo.{CpuNo}
 use Rattle.nt_event.specs.declared.numbers.ThreadNo.{ThreadNo}
 use Rattle.nt_event.specs.declared.scripts.Script.{Script}
-use Rattle.nt_event.specs.Jobs.{is_still}
+use Rattle.nt_event.specs.Jobs.{is_still, may_switch, next_ready}
 use Rattle.nt_event.specs.Lanes.{Lanes, lanes_at}
 use Rattle.nt_event.specs.Own.{Own, own_of}
 use Rattle.nt_event.specs.Requests.{asked, seen}
-use Rattle.nt_event.specs.Robin.{go_on_turn, is_behind, is_done_with, look_value, look_values, robin_at, robin_from, robin_of}
+use Rattle.nt_event.specs.Robin.{go_on_turn, is_behind, is_done_with, look_value, look_values, robin_at, robin_from, robin_of, switch_or_next}
 use Rattle.nt_event.specs.Script.{has_cpu}
 use Rattle.nt_event.specs.Step.{IsRun, is_cut}
 use Rattle.nt_event.specs.Numbers.{cpu}
 use Rattle.nt_event.specs.Lists.{table_from, value_at, when}
 use Rattle.nt_runs.proofs.Settled.{robin_of_done, seen_below}
+use Rattle.nt_event.proofs.Options.{when_gives}
 use Rattle.nt_event.proofs.Tables.{get_or-table, table-same}
 use Rattle.nt_floor.specs.Views.{View}
 use Rattle.nt_cpu.specs.Runs.{Follows, state_of}
@@ -107,6 +110,46 @@ rests_turn s p x l asked b r = sym (tested s p x l asked false true b r)
 pub goes_turn : (s : Script) (p : CpuNo) (x : Own) (l : Lanes) (asked : ℕ → ℕ) (t : Turn) → is_behind x asked ≡ false → is_still x ≡ false → t
     ≡ go_on_turn s p x l → Some t ≡ robin_at s p x l asked
 goes_turn s p x l asked t b r e = ap (λ (u : Turn). Some u) e ∙ sym (tested s p x l asked false false b r)
+
+-- what goes on doesn't look
+goes_no_look : (s : Script) (p q : CpuNo) (x : Own) (l : Lanes) (r : Rises) → Some (go_on_turn s p x l) ≡ Some (LookTurn q r) → ⊥
+goes_no_look s p q x l r e = go (may_switch x) (next_ready s p x.took l) e
+  where
+    go : (b : Bool) (o : Option ThreadNo) → Some (if b then switch_or_next p o else NextTurn p) ≡ Some (LookTurn q r) → ⊥
+    go true (Some t) e = cc
+    go true None e = cc
+    go false o e = cc
+
+-- where the rule has it look, it isn't cut and is behind
+pub look_behind : (s : Script) (limit : ℕ) (p q : CpuNo) (past : List Event) (r : Rises) → robin_of s limit p past ≡ Some (LookTurn q r) →
+    (is_cut limit (own_of s p past) ≡ false) × (is_behind (own_of s p past) (λ c. asked s p c past) ≡ true)
+look_behind s limit p q past r e =
+    let x = own_of s p past in
+    let l = lanes_at s past in
+    let known : ℕ → ℕ = λ c. asked s p c past in
+    let found = when_gives (not (is_cut limit x)) (robin_at s p x l known) (LookTurn q r) e in
+    (not-true (is_cut limit x) found.0, go (is_behind x known) (is_still x) refl refl found.1)
+  where
+    go : (b c : Bool) → is_behind (own_of s p past) (λ c. asked s p c past) ≡ b → is_still (own_of s p past) ≡ c →
+        robin_at s p (own_of s p past) (lanes_at s past) (λ c. asked s p c past) ≡ Some (LookTurn q r) →
+        is_behind (own_of s p past) (λ c. asked s p c past) ≡ true
+    go true c h k f = h
+    go false true h k f =
+        let none : None ≡ Some (LookTurn q r) = rests_turn s p (own_of s p past) (lanes_at s past) (λ c. asked s p c past) h k ∙ f in
+        absurd cc
+    go false false h k f =
+        absurd (goes_no_look s p q (own_of s p past) (lanes_at s past) r
+        (goes_turn s p (own_of s p past) (lanes_at s past) (λ c. asked s p c past) (go_on_turn s p (own_of s p past) (lanes_at s past)) h k refl ∙ f))
+
+-- the same, by what the processor keeps and the floor tells; and what it finds is what the rule says
+pub look_ready : (s : Script) (limit : ℕ) (p : CpuNo) (past : List Event) (x : CpuState) (v : View) → p.0 < s.cpus → Follows s past v →
+    x ≡ state_of s p limit past → robin_of s limit p past ≡ Some (look_of s p past) → (is_cut x.limit x.own ≡ false) × (is_behind x.own (v.value x.cpu) ≡ true)
+look_ready s limit p past x v b f h e =
+    let ready = look_behind s limit p p past (record { value = found_values s p past }) e in
+    let y = state_of s p limit past in
+    let found = values_found s limit p past y v b f refl in
+    subst (λ (x : CpuState). (is_cut x.limit x.own ≡ false) × (is_behind x.own (v.value x.cpu) ≡ true)) (sym h)
+    (ready.0, ap (list_any (λ v. nat_lt 0 v)) found ∙ ready.1)
 
 pub every_lanes : {P : Lanes → Type 0} (o : Option Lanes) → ((l : Lanes) → P l) → IfSome o P
 every_lanes {P} None h = tt

@@ -211,8 +211,7 @@ impl<'s> Processors<'s> {
         ensures floor { F.script floor.new ≡ F.script floor.old }
         ensures kept { (self.new.script ≡ self.old.script) × (self.new.limit ≡ self.old.limit) }
     {
-        let rises = self.rises_of(floor, cpu);
-        self.make(floor, cpu, &Choice::Look(&rises), event);
+        self.cpus[cpu.0 as usize].look_into(floor, event);
     }
 
     /// Takes the turn of this choice, which is the robin rule's for the processor and so is never refused.

@@ -1,12 +1,19 @@
 //! What a processor has seen of requests.
-ghost use Rattle.std.specs.Prelude.{◌≡◌, ◌<◌, ◌==◌, ℕ, false, if◌then◌else◌, length, max, nat_lt};
+ghost use Rattle.std.specs.Prelude.{◌≡◌, ◌<◌, ◌==◌, ◌↔◌, ℕ, IsTrue, false, if◌then◌else◌, length, max, nat_lt};
 ghost use Rattle.std.specs.List.{list_any};
 ghost use Rattle.nt_event.specs.Lists.{table, value_at};
-ghost use Rattle.nt_floor.specs.Seen.{SameInterrupts};
+ghost use Rattle.nt_floor.specs.Seen.{IsInterrupt, SameInterrupts};
 ghost use Rattle.nt_floor.specs.Sums.{sum_of};
 
 use nt_event::{Rises, class};
 use std::marker::Model;
+
+/// Whether the class is one of interrupts.
+fn is_interrupt(class: u8) -> bool
+    ensures { IsTrue result ↔ IsInterrupt class }
+{
+    class::DISPATCH < class && class != class::LOCK
+}
 
 /// The greatest request that was seen of each of the classes 0 to 15; 0 is none.
 #[derive(Drop, Debug)]
@@ -65,7 +72,7 @@ impl Seen {
         if old < to {
             self.values[place] = to;
             self.sum += u128::from(to - old);
-            class::DISPATCH < class
+            is_interrupt(class)
         } else {
             false
         }
@@ -105,8 +112,22 @@ impl Seen {
         requires { length values.now ≡ 16 }
         ensures { result.value ≡ table 16 (λ c. if nat_lt (value_at self.now c) (value_at values.now c) then value_at values.now c else 0) }
     {
-        Rises {
-            value: above(values, &self.values),
+        let mut rises = Rises { value: [0; 16] };
+        self.write_below(values, &mut rises);
+        rises
+    }
+
+    /// Writes which of these values are above those of the same class; 0 for the others.
+    pub fn write_below(&self, values: &[u64], rises: &mut Rises)
+        requires { length values.now ≡ 16 }
+        ensures { rises.new.value ≡ table 16 (λ c. if nat_lt (value_at self.now c) (value_at values.now c) then value_at values.now c else 0) }
+    {
+        for i in 0..16 {
+            rises.value[i] = if self.values[i] < values[i] {
+                values[i]
+            } else {
+                0
+            };
         }
     }
 
@@ -128,17 +149,4 @@ fn some_above(values: &[u64], seen: &[u64; 16]) -> bool
         }
     }
     false
-}
-
-fn above(values: &[u64], seen: &[u64; 16]) -> [u64; 16]
-    requires { length values.now ≡ 16 }
-    ensures { result ≡ table 16 (λ c. if nat_lt (value_at seen.now c) (value_at values.now c) then value_at values.now c else 0) }
-{
-    let mut rises = [0; 16];
-    for i in 0..16 {
-        if seen[i] < values[i] {
-            rises[i] = values[i];
-        }
-    }
-    rises
 }

@@ -61,6 +61,6 @@ pub row_interrupts : (told v0 v1 v2 v3 v4 : List ℕ) → v1 ≡ raised_class th
     ≡ raised_class dispatch_class told v2 → SameInterrupts v3 v4 → SameInterrupts v0 v4
 row_interrupts told v0 v1 v2 v3 v4 e1 e2 e3 same c a b =
     same c a b
-    ∙ (raised_other v2 v3 dispatch_class (get_or told dispatch_class 0) c e3 b (λ e. omega (arith, a, e))
-    ∙ (raised_other v1 v2 apc_class (get_or told apc_class 0) c e2 b (λ e. omega (arith, a, e))
-    ∙ raised_other v0 v1 threaded_class (get_or told threaded_class 0) c e1 b (λ e. omega (arith, a, e))))
+    ∙ (raised_other v2 v3 dispatch_class (get_or told dispatch_class 0) c e3 b (λ e. omega (arith, a.0, e))
+    ∙ (raised_other v1 v2 apc_class (get_or told apc_class 0) c e2 b (λ e. omega (arith, a.0, e))
+    ∙ raised_other v0 v1 threaded_class (get_or told threaded_class 0) c e1 b (λ e. omega (arith, a.0, e))))

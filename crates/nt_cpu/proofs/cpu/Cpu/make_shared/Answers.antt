@@ -42,8 +42,8 @@ act-requires-clause-met g c =
     (subst (λ (st : Stand). IsMet s.script states st c.args.job) (sym stood)
     (stands_met s states c.args.job c.requires.serves.stands c.requires.due))
 
-pub greatest_due-self-inside-requires : goal.greatest_due-self-inside-requires
-greatest_due-self-inside-requires g c h =
+pub renew_due-requires : goal.renew_due-requires
+renew_due-requires g c h =
     c.self.invariant.due
     ∙ due_same c.self.inside.seen c.self.inside.kept.served c.act.new.seen c.self.inside.kept.served
     (c.in_ok-made.ensures.interrupts (not_true c.in_ok-made.made.interrupts h)) (λ k a b. refl)
@@ -58,7 +58,7 @@ pub invariant_of-self-2 : goal.invariant_of-self-2
 invariant_of-self-2 g c = record {
   sound = sound_seen (state_in c.self.inside) c.act.new.seen c.self.invariant.sound
       (ap (λ (xs : List ℕ). length xs) c.in_ok-made.ensures.event.3.1.1.seen ∙ length-table_from 0 16 _);
-  due = c.greatest_due-self-inside.ensures;
+  due = c.renew_due.ensures;
 }
 
 pub take_up-requires-clause-number : goal.take_up-requires-clause-number

@@ -12,7 +12,7 @@ pub invariant_of-self : goal.invariant_of-self
 invariant_of-self c = record {
   sound = sound_seen (state_in c.self.inside) c.raise-interrupts.new.seen c.self.invariant.sound
       (ap (λ (xs : List ℕ). length xs) c.raise-interrupts.ensures.values ∙ length-table_from 0 16 _);
-  due = c.greatest_due-self-inside.ensures;
+  due = c.renew_due.ensures;
 }
 
 pub returns : goal.returns

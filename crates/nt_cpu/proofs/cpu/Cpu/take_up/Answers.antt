@@ -38,7 +38,7 @@ invariant_of-self c =
     record {
       sound = subst (λ (x : CpuState). IsSound x) (sym left) (sound_after i c.args.n c.args.due c.args.event.now
           (λ k. value_at i.own.seen k) c.self.invariant.sound room c.requires.due thread allow nested);
-      due = c.greatest_due-self-inside.ensures;
+      due = c.renew_due.ensures;
     }
 
 pub returns : goal.returns
@@ -50,8 +50,8 @@ returns c =
     c.apply.ensures e.served e.rested e.took e.fire e.sweep
     ∙ ap (λ (x : CpuState). record x { own = own_with x.script c.args.n c.args.due c.args.event.now (λ k. value_at x.own.seen k) x.own }) c.self.view_is
 
-pub greatest_due-self-inside-requires : goal.greatest_due-self-inside-requires
-greatest_due-self-inside-requires c h =
+pub renew_due-requires : goal.renew_due-requires
+renew_due-requires c h =
     c.self.invariant.due
     ∙ due_same c.self.inside.seen c.self.inside.kept.served c.self.inside.seen c.take_up-serves.new.self.served (λ k a b. refl)
     (c.take_up-serves.ensures.interrupts (not_true c.take_up-serves.result h))
