@@ -20,6 +20,12 @@ all_more : {A : Type 0} (P : A → Type 0) (x : A) (xs : List A) → P x → All
 all_more P x xs h t zero d l = h
 all_more P x xs h t (suc k) d l = t k d (omega arith)
 
+-- where none spins, a release asks for nothing
+pub none_spin : (n : ℕ) (flags : List Bool) → list_any (λ b. b) flags ≡ false → spinner_asks n flags ≡ []
+none_spin n [] e = refl
+none_spin n (true ∷ flags) e = absurd cc
+none_spin n (false ∷ flags) e = none_spin (suc n) flags e
+
 -- each processor that spins is one of the script's
 pub spinners_named : (s : Script) (n : ℕ) (flags : List Bool) → n + length flags ≤ s.cpus → All (AskFits s) (spinner_asks n flags)
 spinners_named s n [] h = λ k d l. absurd (omega arith)

@@ -1,5 +1,6 @@
 //! What an event asks for.
 ghost use Rattle.std.specs.Prelude.{◌≡◌, ◌≤◌, ◌++◌, ◌&&◌, All, IsTrue, [], false, if◌then◌else◌, length, not};
+ghost use Rattle.std.specs.List.{list_any};
 ghost use Rattle.nt_event.specs.Apcs.{has_kernel as has_kernel_apc};
 ghost use Rattle.nt_event.specs.Lanes.{command_lanes, end_lanes, facts_at, facts_of, insert_lanes, object_at, what_lanes};
 ghost use Rattle.nt_event.specs.Replies.{is_refused as refuses};
@@ -124,6 +125,18 @@ impl Asks {
         requires { length spinners.now ≤ 64 }
         ensures { self.new ≡ requests.spinner_asks 0 spinners.now }
     {
+        if some_spin(spinners) {
+            self.add_spinners(spinners);
+        } else {
+            self.set_none();
+        }
+    }
+
+    /// Leaves the class of released locks, for each processor that spins.
+    fn add_spinners(&mut self, spinners: &[bool])
+        requires { length spinners.now ≤ 64 }
+        ensures { self.new ≡ requests.spinner_asks 0 spinners.now }
+    {
         let unused = Asked {
             cpu: CpuNo(0),
             class: class::LOCK,
@@ -148,6 +161,17 @@ impl Asks {
     {
         &self.asks[..self.count]
     }
+}
+
+/// Whether a processor spins. It looks at each flag, so that many are tested at once.
+fn some_spin(spinners: &[bool]) -> bool
+    ensures { result ≡ list_any (λ b. b) spinners.now }
+{
+    let mut some = false;
+    for spins in spinners {
+        some |= *spins;
+    }
+    some
 }
 
 /// Fills in what an event asks for, of a processor that stands so.

@@ -1,7 +1,7 @@
 use Rattle.std.proofs.Common.{drop, length, take, ◌++◌, ◌≡◌, ◌≤◌}
 use Rattle.nt_event.specs.Requests.{spinner_asks}
 use Rattle.nt_states.specs.LaneLists.{as_asks}
-use Rattle.nt_states.proofs.asking.Asks.set_spinners.Given as goal
+use Rattle.nt_states.proofs.asking.Asks.add_spinners.Given as goal
 
 abbrev pub invariant-loop-cpu : goal.invariant-loop-cpu
 invariant-loop-cpu l = record {
