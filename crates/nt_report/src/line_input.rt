@@ -8,9 +8,9 @@ use nt_script::Input;
 use nt_text::{ScriptKind, is_word};
 use std::marker::Model;
 
-/// How many processors have a field of their own that is remembered: as many as a script of version 1 has at most. Processors
-/// that share one are only looked up more often.
-const PLACES: usize = 8;
+/// How many processors have a field of their own that is remembered: as many as a script has at most. Processors
+/// that share one would only be looked up more often.
+const PLACES: usize = 64;
 
 /// A field that names the running thread, and the thread that it names.
 #[derive(Clone, Copy)]

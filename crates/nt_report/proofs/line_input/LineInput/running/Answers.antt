@@ -6,6 +6,7 @@ use Rattle.std.proofs.lemmas.Slice.Eq.{bytes_eq-Decides}
 use Rattle.nt_line.specs.NameLists.{NameLists}
 use Rattle.nt_report.specs.declared.line_input.Running.{Running}
 use Rattle.nt_report.specs.Fields.{read_running}
+use Rattle.nt_report.specs.declared.line_input.TheConstants.{PLACES}
 use Rattle.nt_report.specs.LineInputs.{IsRead}
 use Rattle.nt_report.proofs.line_input.LineInput.running.Goals as goal
 
@@ -18,15 +19,15 @@ same_field names last field same read =
 pub returns-then-is_word-clause-thread : goal.returns-then-is_word-clause-thread
 returns-then-is_word-clause-thread c =
     let places = c.self.invariant.places in
-    let place : c.args.cpu.0 % 8 < length c.self.inside.last = omega (arith, places) in
+    let place : c.args.cpu.0 % PLACES < length c.self.inside.last = omega (arith, places) in
     let none : Running = record { field = record { ref_ptr = (0, 0); now = [] }; thread = None } in
-    let last : Running = slice_index_or c.self.inside.last (c.args.cpu.0 % 8) none in
-    let read = All-get_or (IsRead c.self.inside.input.now.names) c.self.inside.last (c.args.cpu.0 % 8) none place c.self.invariant.read in
+    let last : Running = slice_index_or c.self.inside.last (c.args.cpu.0 % PLACES) none in
+    let read = All-get_or (IsRead c.self.inside.input.now.names) c.self.inside.last (c.args.cpu.0 % PLACES) none place c.self.invariant.read in
     rw (← c.self.view_is) (same_field c.self.inside.input.now.names last c.args.field.now (sym c.is_word.ensures ∙ c.if-is_word.true) read)
 
 pub invariant_of-self : goal.invariant_of-self
 invariant_of-self c =
-    let place = c.args.cpu.0 % 8 in
+    let place = c.args.cpu.0 % PLACES in
     let seen : Running = record { field = c.args.field; thread = c.in_ok-thread.thread } in
     let read = sym c.in_ok-thread.ensures in
     record {
