@@ -1,7 +1,7 @@
 -- The headline, from what the call answered and the laws of runs.
 use Rattle.std.proofs.Common.{refl, subst, sym, ◌≡◌, ℕ, List, [], ◌∷◌, Err, Ok, Result}
 use Rattle.std.specs.Io.KnownBytes.{append_known}
-use Rattle.std.specs.Prelude.{reverse, true}
+use Rattle.std.specs.Prelude.{Option, Some, length, reverse, true}
 use Rattle.nt_close.proofs.AtRest.{closed_either}
 use Rattle.nt_close.proofs.Closed.{no_dpc_is_left, nothing_is_eligible}
 use Rattle.nt_close.proofs.Owed.{no_due_key_is_left}
@@ -13,12 +13,17 @@ use Rattle.nt_event.specs.declared.events.Event.{Event}
 use Rattle.nt_event.specs.declared.events.History.{History}
 use Rattle.nt_event.specs.declared.numbers.CpuNo.{CpuNo}
 use Rattle.nt_event.specs.declared.scripts.Script.{Script}
-use Rattle.nt_event.specs.Script.{fits}
+use Rattle.nt_event.specs.Fitting.{events_fit}
+use Rattle.nt_event.specs.Script.{fits, has_lock}
 use Rattle.nt_event.specs.Robin.{is_settled}
 use Rattle.nt_event.specs.Step.{IsRun}
 use Rattle.nt_laws.proofs.Deliveries.{deliveries_are_eligible}
+use Rattle.nt_laws.proofs.Fates.Deliveries.{deliveries_name_pending_inserts}
 use Rattle.nt_laws.proofs.Named.Objects.{holds_of_every_object}
-use Rattle.nt_print.specs.Report.{report_text}
+use Rattle.nt_laws.proofs.Named.RunFits.{run_fits}
+use Rattle.nt_print.proofs.OneReport.{SpinIsPlain, left_plain}
+use Rattle.nt_print.specs.Report.{report_text, spin_left}
+use Rattle.nt_print.specs.declared.spins.Spun.{Spun}
 use Rattle.nt_ranges.proofs.Cuts.{cut_lines_name_the_cut}
 use Rattle.nt_ranges.proofs.Programs.{one_report_one_history}
 use Rattle.nt_ranges.proofs.Spinners.{spins_lines_name_the_locks, spins_lines_name_the_spinners}
@@ -45,7 +50,11 @@ use Rattle.ntrun.proofs.Plain.{IsPlainTask, run_of_input, sound_task, task_plain
 all_due : (s : Script) (limit : ℕ) (past : List Event) → fits s ≡ true → IsRun s limit past → AllDue s past
 all_due s limit [] f r = tt
 all_due s limit (e ∷ past) f r = (
-  record { eligible = λ x k. deliveries_are_eligible s limit e past x r k; inserts = holds_of_every_object s limit e past f r },
+  record {
+    eligible = λ x k. deliveries_are_eligible s limit e past x r k;
+    pending = deliveries_name_pending_inserts s limit e past r;
+    inserts = holds_of_every_object s limit e past f r;
+  },
   all_due s limit past f r.1,
 )
 
@@ -63,6 +72,12 @@ nothing_left s limit past r d = record {
   blocks = λ t w h k. nothing_waits_behind_a_block s limit t w past r h k;
   keys = λ u. no_due_key_is_left s limit past r d u;
 }
+
+-- the lock of a line `spins` is one of the script
+lock_named : (s : Script) (h : History) (p : ℕ) (x : Spun) → events_fit s h.events ≡ true → spin_left h p ≡ Some x → has_lock s x.lock ≡ true
+lock_named s h p x fit e =
+    let plain = subst (λ (o : Option Spun). SpinIsPlain s (length h.events) o) e (left_plain s h p fit) in
+    plain.1
 
 actual : (t : Task) (h : History) → IsPlainTask t → IsRunOf t h → IsActual t h
 actual t h p i =
@@ -86,6 +101,7 @@ actual t h p i =
       left = nothing_left s (limit_of t) (reverse h.events) r.run r.settled;
       cut = λ n. cut_lines_name_the_cut s h n own.run;
       spins = λ n l. spins_lines_name_the_spinners s h n settled l;
+      locked = λ n x e. lock_named s h n x (run_fits s (limit_of t) h.events fit r.run) e;
       spun = λ n x l e. spins_lines_name_the_locks s h n x settled l e;
       one = λ g k e. one_report_one_history (input_of t) h g own k e;
     }

@@ -19,10 +19,11 @@ use Rattle.nt_event.specs.Own.{own_of}
 use Rattle.nt_event.specs.Queues.{pending}
 use Rattle.nt_event.specs.Robin.{is_settled}
 use Rattle.nt_event.specs.Routines.{cpu_of}
-use Rattle.nt_event.specs.Script.{has_thread}
+use Rattle.nt_event.specs.Script.{has_lock, has_thread}
 use Rattle.nt_event.specs.Step.{IsRun, is_cut}
 use Rattle.nt_event.specs.Timers.{first_due, timers_at}
 use Rattle.nt_event.specs.Waits.{facts}
+use Rattle.nt_laws.specs.Fates.{NamesPending}
 use Rattle.nt_laws.specs.Objects.{HoldsOfEveryObject}
 use Rattle.nt_load.specs.Load.{load_input}
 use Rattle.nt_print.specs.declared.spins.Spun.{Spun}
@@ -49,10 +50,12 @@ use Rattle.ntrun.specs.Tasks.{behind, input_of, limit_of, migrated, tail_word, t
 
 -- ---- the actual history
 
--- what an event delivers was eligible just before it, an insert of its object that was pending then and that no earlier
--- event delivered; and a removal that isn't refused answers yes exactly where there was an insert
+-- what an event delivers was eligible just before it, and is an insert of its object that was pending then (a DPC's in
+-- the queue of its processor, an APC's at the thread that runs there) and that no earlier event delivered; and a removal
+-- that isn't refused answers yes exactly where there was an insert
 pub record IsDue (s : Script) (e : Event) (past : List Event) : Type 0 where
   pub eligible : (r : Request) → request_of s e.what ≡ Some r → eligible s e.cpu r past ≡ true
+  pub pending : NamesPending s e.cpu e.what past
   pub inserts : HoldsOfEveryObject s e past
 
 abbrev pub AllDue : Script → List Event → Type 0
@@ -84,8 +87,8 @@ pub record NothingIsLeft (s : Script) (limit : ℕ) (past : List Event) : Type 0
 
 -- the history of a task: the robin run, the run on threads, or the run of the schedule's turns. It is a settled run of the
 -- written machine; each insert has exactly one fate, and the waiting ones are those that the report lists; a processor has a line `cut`
--- exactly where it is cut, and a line `spins` exactly where it isn't and spins still, with the lock on which it spins; and
--- no other run of the script has this report.
+-- exactly where it is cut, and a line `spins` exactly where it isn't and spins still, with the lock of the script on which
+-- it spins; and no other run of the script has this report.
 pub record IsActual (t : Task) (h : History) : Type 0 where
   pub is : IsRunOf t h
   pub turns : h.turns ≡ limit_of t
@@ -102,6 +105,7 @@ pub record IsActual (t : Task) (h : History) : Type 0 where
   pub spins : (p : ℕ) → p < (input_of t).script.cpus → is_some (spin_left h p) ≡
       (not (is_cut h.turns (own_of (input_of t).script (cpu p) (reverse h.events))) &&
       spins_still (own_of (input_of t).script (cpu p) (reverse h.events)))
+  pub locked : (p : ℕ) (x : Spun) → spin_left h p ≡ Some x → has_lock (input_of t).script x.lock ≡ true
   pub spun : (p : ℕ) (x : Spun) → p < (input_of t).script.cpus → spin_left h p ≡ Some x →
       some_frame (spins_lock x.lock) (input_of t).script (cpu p) (reverse h.events) ≡ true
   pub one : (g : History) → IsRunOfInput (input_of t) g → report_text (input_of t) h ≡ report_text (input_of t) g → h ≡ g

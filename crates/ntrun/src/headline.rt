@@ -7,9 +7,11 @@ use nt_words::words_have_one_form;
 /// that was read, of a run that its processors made on threads, or of the one run with the turns of the schedule behind
 /// it. That history is a settled run of the written machine: every delivery was eligible and names an insert that was
 /// pending just before, each insert was begun, removed or flushed by the first later event that uses it up, or is named
-/// as waiting, and nothing that may run is left but on a processor with a `cut` line. The bytes name this one history.
-/// `check` wrote with status 0 that the history of the report that was read is legal, and it is a settled run of the
-/// script. `load` read nothing and wrote with status 0 the summary of the robin run of the seed's load.
+/// as waiting, and nothing that may run is left but on a processor with a `cut` line. The `spins` lines are exactly those
+/// of the other processors that spin still. The bytes name this one history. `check` wrote with status 0 that the history
+/// of the report that was read is legal, and it is a settled run of the script. `load` read nothing and wrote with status 0
+/// the summary of the robin run of the seed's load. `migrate` wrote with status 0 the text of the script that was read, in
+/// version 2.
 pub fn the_report_is_that_of_the_actual_history()
     ensures { Headline }
 {}
