@@ -72,3 +72,13 @@ pub mod InterruptWhileSpinning
 pub mod ApcsWaitForALock
 pub mod TimerDueBehindSpinners
 pub mod CutWhileHolding
+pub mod MediumAgain
+pub mod FireToAnotherProcessor
+pub mod AlertEndsADelay
+pub mod DoorsClosedInADelay
+pub mod RegionLeftByAKernelRoutine
+pub mod SpecialInANormalRoutine
+pub mod WaitInterruptedAgain
+pub mod WaitInterruptedAtItsCall
+pub mod WaitTakenUpAndAlerted
+pub mod WaitTakenUpForAUserApc

@@ -78,6 +78,16 @@ ghost use Rattle.nt_rows.specs.InterruptWhileSpinning as interrupt_while_spinnin
 ghost use Rattle.nt_rows.specs.ApcsWaitForALock as apcs_wait_for_a_lock_row;
 ghost use Rattle.nt_rows.specs.TimerDueBehindSpinners as timer_due_behind_spinners_row;
 ghost use Rattle.nt_rows.specs.CutWhileHolding as cut_while_holding_row;
+ghost use Rattle.nt_rows.specs.MediumAgain as medium_again_row;
+ghost use Rattle.nt_rows.specs.FireToAnotherProcessor as fire_to_another_processor_row;
+ghost use Rattle.nt_rows.specs.AlertEndsADelay as alert_ends_a_delay_row;
+ghost use Rattle.nt_rows.specs.DoorsClosedInADelay as doors_closed_in_a_delay_row;
+ghost use Rattle.nt_rows.specs.RegionLeftByAKernelRoutine as region_left_by_a_kernel_routine_row;
+ghost use Rattle.nt_rows.specs.SpecialInANormalRoutine as special_in_a_normal_routine_row;
+ghost use Rattle.nt_rows.specs.WaitInterruptedAgain as wait_interrupted_again_row;
+ghost use Rattle.nt_rows.specs.WaitInterruptedAtItsCall as wait_interrupted_at_its_call_row;
+ghost use Rattle.nt_rows.specs.WaitTakenUpAndAlerted as wait_taken_up_and_alerted_row;
+ghost use Rattle.nt_rows.specs.WaitTakenUpForAUserApc as wait_taken_up_for_a_user_apc_row;
 
 // ---- Levels and frames
 
@@ -217,6 +227,11 @@ pub fn busy_again()
     ensures { IsWorked busy_again_row.script 10000 busy_again_row.history }
 {}
 
+/// An object whose importance is set back to medium goes to the back of the queue, as does one of medium-high importance.
+pub fn medium_again()
+    ensures { IsWorked medium_again_row.script 10000 medium_again_row.history }
+{}
+
 // ---- Waits, regions and APCs
 
 /// Critical and guarded regions hold back kernel APCs.
@@ -331,6 +346,36 @@ pub fn apcs_in_a_normal_routine()
     ensures { IsWorked apcs_in_a_normal_routine_row.script 10000 apcs_in_a_normal_routine_row.history }
 {}
 
+/// A kernel routine leaves one of its regions and gives up the other at its end; the special APC that it inserted comes right then.
+pub fn region_left_by_a_kernel_routine()
+    ensures { IsWorked region_left_by_a_kernel_routine_row.script 10000 region_left_by_a_kernel_routine_row.history }
+{}
+
+/// A special kernel APC passes a normal one that was inserted before it and waits for the end of a normal routine.
+pub fn special_in_a_normal_routine()
+    ensures { IsWorked special_in_a_normal_routine_row.script 10000 special_in_a_normal_routine_row.history }
+{}
+
+/// A wait that is taken up after a kernel APC is interrupted by another one, and a release between satisfies it the next time.
+pub fn wait_interrupted_again()
+    ensures { IsReplayed wait_interrupted_again_row.script 10000 wait_interrupted_again_row.schedule wait_interrupted_again_row.history }
+{}
+
+/// A kernel APC interrupts a wait before it blocks, though the thread was released; the wait is satisfied when it is taken up.
+pub fn wait_interrupted_at_its_call()
+    ensures { IsReplayed wait_interrupted_at_its_call_row.script 10000 wait_interrupted_at_its_call_row.schedule wait_interrupted_at_its_call_row.history }
+{}
+
+/// An alert of the thread by its own kernel APC ends the wait when it is taken up.
+pub fn wait_taken_up_and_alerted()
+    ensures { IsWorked wait_taken_up_and_alerted_row.script 10000 wait_taken_up_and_alerted_row.history }
+{}
+
+/// A user APC that a kernel APC inserts ends the wait when it is taken up, and is flushed where no `touser` follows.
+pub fn wait_taken_up_for_a_user_apc()
+    ensures { IsWorked wait_taken_up_for_a_user_apc_row.script 10000 wait_taken_up_for_a_user_apc_row.history }
+{}
+
 // ---- Threads that yield
 
 /// A yield gives the processor to the ready threads in turn, each at the level that it had.
@@ -363,6 +408,21 @@ pub fn delay_of_user_mode()
 /// The expiry of a delay that was ended early ends no later wait, and a thread goes on at the level at which it blocked.
 pub fn stale_delay()
     ensures { IsWorked stale_delay_row.script 10000 stale_delay_row.history }
+{}
+
+/// The DPC of a periodic timer is inserted for an idle processor, which runs it; the DPC cancels the timer, which was set anew.
+pub fn fire_to_another_processor()
+    ensures { IsWorked fire_to_another_processor_row.script 10000 fire_to_another_processor_row.history }
+{}
+
+/// An alert ends a delay. The next alert sets its flag, and the expiry of that delay ends nothing.
+pub fn alert_ends_a_delay()
+    ensures { IsWorked alert_ends_a_delay_row.script 10000 alert_ends_a_delay_row.history }
+{}
+
+/// A delay ends in a guarded region, which the thread's end gives up; a rundown routine inserts its own APC again in vain.
+pub fn doors_closed_in_a_delay()
+    ensures { IsWorked doors_closed_in_a_delay_row.script 10000 doors_closed_in_a_delay_row.history }
 {}
 
 // ---- Limits and turns
