@@ -1,4 +1,4 @@
-//! Scripts with spin locks, by their names. The texts have no words for locks, so they are made here.
+//! Scripts with spin locks, by their names.
 use nt_event::Command::{Acquire, Note, Unlock};
 use nt_event::{Command, CpuNo, DpcDecl, Items, LockNo, Routine, RoutineNo, Script, ThreadDecl};
 use std::alloc::{AllocError, Global};

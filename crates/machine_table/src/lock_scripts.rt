@@ -1,4 +1,4 @@
-//! Scripts with spin locks, by their names. The texts have no words for locks, so they are made here.
+//! Scripts with spin locks, by their names.
 use nt_event::Command::{
     Acquire, Clock, EnterCrit, InsertApc, Interrupt, Lower, Note, Queue, Raise, SetTarget,
     SetTimer, StartWait, Unlock,

@@ -1,4 +1,4 @@
-//! Runs of scripts with spin locks. The texts have no words for locks, so their events are written here.
+//! Runs of scripts with spin locks, whose events are written here field by field.
 ghost use Rattle.std.specs.Prelude.{IsTrue, ◌*◌, ◌≡◌, ◌≤◌};
 ghost use Rattle.nt_event.specs.Script.{fits};
 

@@ -1,14 +1,14 @@
 //! `ntrun` decides when deferred work may run, by the rules of Windows Internals and the driver documentation for x64,
 //! with marked choices.
 //!
-//! `ntrun run` reads a script of driver calls and interrupts for one to eight processors from standard input, runs it
-//! in a fixed order, and writes a report of every step and delivery to standard output, with the schedule taken.
-//! `ntrun live` runs the script with a worker for each processor, on threads, and writes the report of what they did.
-//! `ntrun replay` reads a script and behind it a schedule, takes the turns of the schedule, and writes the report of
-//! that run. `ntrun check` reads a script and behind it a report, and writes `legal` where the report's history is a
-//! settled run of the script, else the number at which it goes wrong. `ntrun load --seed N` reads nothing: it makes a
-//! long script from the seed, runs it in the fixed order, and writes how many events, calls, refusals and deliveries
-//! there were.
+//! `ntrun run` reads a script of driver calls and interrupts for one to 64 processors from standard input, runs it in a
+//! fixed order, and writes a report of every step and delivery to standard output, with the schedule taken. `ntrun live`
+//! runs the script with a worker for each processor, on threads, and writes the report of what they did. `ntrun replay`
+//! reads a script and after it a schedule, takes the turns of the schedule, and writes the report of that run. `ntrun
+//! check` reads a script and after it a report, and writes `legal` if the report's history is a settled run of the
+//! script, else the number at which it goes wrong. `ntrun load --seed N` reads nothing: it makes a long script from the
+//! seed, runs it in the fixed order, and writes how many events, calls, refusals and deliveries there were. `ntrun
+//! migrate` reads a script and writes it in version 2.
 //!
 //! [`ntrun`] is the whole program over a source, a sink and a gate; `main` gives it the standard streams. `nt_words`
 //! tells which form the words are. The bytes of the source are read whole and are a task: a script (`nt_script`), and
