@@ -19,10 +19,11 @@ use nt_states::Asked;
 use std::alloc::{AllocError, Global};
 use std::marker::Model;
 
-/// For each lane and processor a row of 16 values, one for each class.
+/// For each lane and processor a row of 16 values, one for each class. A value is at most the
+/// greatest number of events, so four bytes are enough.
 #[derive(Drop, Debug)]
 pub(crate) struct ToldValues {
-    values: Vec<u64>,
+    values: Vec<u32>,
 }
 
 impl Model for ToldValues {
@@ -41,16 +42,17 @@ impl ToldValues {
         ensures { IfOk result (λ x. x ≡ replicate (rows * 16) 0) }
     {
         let count = rows * 16;
-        let values = vec![in alloc; 0u64; count]?;
+        let values = vec![in alloc; 0u32; count]?;
         Ok(ToldValues { values })
     }
 
     /// Writes the value of a class in a row.
     pub(crate) fn put(&mut self, row: usize, class: u8, value: u64)
-        requires { row * 16 + class < length self.old }
+        requires place { row * 16 + class < length self.old }
+        requires bound { value < 2 ^ 32 }
         ensures { self.new ≡ set self.old (row * 16 + class) value }
     {
-        self.values[row * 16 + usize::from(class)] = value;
+        self.values[row * 16 + usize::from(class)] = value as u32;
     }
 
     /// Raises what was seen to the values of a row of the lane. False only where what was seen of interrupts is as before.
@@ -93,6 +95,7 @@ impl ToldValues {
         requires places { All (λ x. All (λ a. told_place script.now x a.cpu a.class < length self.old) asks.now) lanes.now }
         requires numbers { All (λ x. number_of script.now x < 2 ^ 32) lanes.now }
         requires room { length self.old < 2 ^ 32 }
+        requires bound { to < 2 ^ 32 }
         ensures { self.new ≡ tell_lanes script.now to lanes.now (as_asks asks.now) self.old }
     {
         for lane in lanes {
@@ -105,6 +108,7 @@ impl ToldValues {
         requires places { All (λ a. told_place script.now lane a.cpu a.class < length self.old) asks.now }
         requires number { number_of script.now lane < 2 ^ 32 }
         requires room { length self.old < 2 ^ 32 }
+        requires bound { to < 2 ^ 32 }
         ensures { self.new ≡ tell_lane script.now to lane (as_asks asks.now) self.old }
     {
         let number = lane_number(script, lane);
@@ -116,7 +120,7 @@ impl ToldValues {
 }
 
 /// Raises what was seen to these values, which the lane tells. False only where what was seen of interrupts is as before.
-fn raise_told(lane: Lane, seen: &mut Seen, told: &[u64]) -> bool
+fn raise_told(lane: Lane, seen: &mut Seen, told: &[u32]) -> bool
     requires classes { length told.now ≡ 16 }
     requires others { (c : ℕ) → c < 16 → is_told_class lane c ≡ false → get_or told.now c 0 ≡ 0 }
     ensures values { seen.new ≡ table 16 (λ c. max (value_at seen.old c) (get_or told.now c 0)) }
@@ -140,7 +144,7 @@ fn is_lock(lane: Lane) -> bool
 }
 
 /// Raises what was seen to these values, which a lock tells. False only where what was seen of interrupts is as before.
-fn raise_by_lock(seen: &mut Seen, told: &[u64]) -> bool
+fn raise_by_lock(seen: &mut Seen, told: &[u32]) -> bool
     requires classes { length told.now ≡ 16 }
     requires others { (c : ℕ) → c < 16 → (lock_class == c) ≡ false → get_or told.now c 0 ≡ 0 }
     ensures values { seen.new ≡ table 16 (λ c. max (value_at seen.old c) (get_or told.now c 0)) }
@@ -151,7 +155,7 @@ fn raise_by_lock(seen: &mut Seen, told: &[u64]) -> bool
 
 /// Raises what was seen to these values, which a lane tells that is no lock's. False only where what was seen of interrupts is as before.
 /// Such lanes tell of four classes alone, so the others are not looked at.
-fn raise_by(seen: &mut Seen, told: &[u64]) -> bool
+fn raise_by(seen: &mut Seen, told: &[u32]) -> bool
     requires classes { length told.now ≡ 16 }
     requires others { (c : ℕ) → c < 16 → is_work_class c ≡ false → get_or told.now c 0 ≡ 0 }
     ensures values { seen.new ≡ table 16 (λ c. max (value_at seen.old c) (get_or told.now c 0)) }
@@ -164,13 +168,13 @@ fn raise_by(seen: &mut Seen, told: &[u64]) -> bool
 }
 
 /// Raises what was seen of a class to the value told of it. False only where what was seen of interrupts is as before.
-fn raise_class(seen: &mut Seen, told: &[u64], class: u8) -> bool
+fn raise_class(seen: &mut Seen, told: &[u32], class: u8) -> bool
     requires classes { length told.now ≡ 16 }
     requires class { class < 16 }
     ensures values { seen.new ≡ raised_class class told.now seen.old }
     ensures interrupts { result ≡ false → SameInterrupts seen.old seen.new }
 {
-    seen.raise(class, told[usize::from(class)])
+    seen.raise(class, u64::from(told[usize::from(class)]))
 }
 
 /// Raises what a processor has seen to this value in the class that a request asks it for. False only where what was seen of interrupts

@@ -1,4 +1,4 @@
-use Rattle.std.proofs.Common.{subst, sym, ◌≡◌}
+use Rattle.std.proofs.Common.{arith, subst, sym, ◌≡◌}
 use Rattle.nt_event.specs.Acting.{acted_event}
 use Rattle.nt_plain.specs.Insides.{state_in}
 use Rattle.nt_states.specs.LaneLists.{AskFits}
@@ -39,6 +39,13 @@ tell-requires-clause-places c =
     rw (c.whole_script-script.ensures, c.as_slice-touched.ensures)
     (places_within c.self.inside.states.script c.self.inside.told c.args.lanes.now c.as_slice-asked.result.now c.args.asks.now c.self.invariant.told_length
     planned.lanes_named c.as_slice-asked.ensures planned.asks_named)
+
+pub tell-requires-clause-bound : goal.tell-requires-clause-bound
+tell-requires-clause-bound c =
+    let planned : IsPlanned (state_in c.self.inside) c.args.stand.now c.args.event.now.what c.args.lanes.now c.args.asks.now = subst
+    (λ (f : PlainState). IsPlanned f c.args.stand.now c.args.event.now.what c.args.lanes.now c.args.asks.now) (sym c.self.view_is) c.requires.planned in
+    let room = planned.room in
+    let limit = c.self.invariant.limit in omega (arith, room, limit)
 
 pub invariant_of-self : goal.invariant_of-self
 invariant_of-self c =
