@@ -3,7 +3,7 @@ ghost use Rattle.std.specs.Prelude.{◌≡◌, ◌≤◌, ◌+◌, IfErr, IfOk, 
 ghost use Rattle.nt_event.specs.Script.{fits};
 ghost use Rattle.nt_event.specs.declared.events.Rises.{Rises};
 ghost use Rattle.nt_event.specs.Lists.{table};
-ghost use Rattle.nt_acts.specs.Acts.{Found, IsActed, IsMet, IsRefused, StandFits, job_fits};
+ghost use Rattle.nt_event.specs.Acts.{Found, IsActed, IsMet, IsRefused, StandFits, job_fits};
 ghost use Rattle.nt_floor.specs.Views.{IsTold};
 ghost use Rattle.nt_frame.specs.Changes.{begun, no_frames};
 

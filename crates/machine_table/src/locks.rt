@@ -7,8 +7,7 @@ use nt_check::{Verdict, check};
 use nt_core::{ScheduleRefusal, replay, run};
 use nt_event::limits::{EVENTS, TURNS};
 use nt_event::{Event, Script, ThreadNo};
-use nt_history::History;
-use nt_turns::Turns;
+use nt_history::{History, Turns};
 use std::alloc::{AllocError, Global};
 
 fn put_thread(text: &mut String, thread: Option<ThreadNo>) -> Result<(), AllocError> {

@@ -35,7 +35,7 @@ use nt_event::limits::TURNS;
 use nt_print::report;
 use nt_script::{Input, ScriptRefusal, read};
 use nt_text::INPUT_LIMIT;
-use nt_turns::Turns;
+use nt_history::Turns;
 use std::alloc::{AllocError, Global};
 use std::io;
 

@@ -6,10 +6,9 @@ ghost use Rattle.nt_script.specs.Sound.{IsSound};
 use nt_core::Core;
 use nt_event::limits::TURNS;
 use nt_event::{ScheduleKind, Turn};
-use nt_history::History;
+use nt_history::{History, Turns, no_turn};
 use nt_print::report;
 use nt_script::Input;
-use nt_turns::{Turns, no_turn};
 use std::alloc::{AllocError, Global};
 
 /// Whether the turn is the robin rule's.

@@ -1,7 +1,7 @@
 //! Turns in the words of schedules.
 use nt_event::{CpuNo, Rises, ThreadNo, Turn};
 use nt_script::{Named, Names};
-use nt_turns::Turns;
+use nt_history::Turns;
 use std::alloc::{AllocError, Global};
 
 fn cpu(word: &str) -> Option<CpuNo> {

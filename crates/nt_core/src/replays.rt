@@ -10,8 +10,7 @@ use crate::refusals::ScheduleRefusal;
 use nt_cpu::no_event;
 use nt_event::limits::{EVENTS, TURNS};
 use nt_event::{ScheduleKind, Script};
-use nt_history::History;
-use nt_turns::{Turns, no_turn};
+use nt_history::{History, Turns, no_turn};
 use std::alloc::Global;
 
 impl<'s> Core<'s> {

@@ -41,7 +41,7 @@ use Rattle.nt_event.specs.Replies.{alerted, is_user, kernel_apc, satisfied, user
 use Rattle.nt_event.specs.Lists.{is_null, when}
 use Rattle.nt_event.proofs.Options.{Holds, both, holds_else, holds_map, holds_more, holds_or, holds_then, holds_at, holds_when, when_gives}
 use Rattle.nt_event.proofs.Ready.{next_ready_taken}
-use Rattle.nt_acts.specs.Acts.{KindsFit}
+use Rattle.nt_event.specs.Acts.{KindsFit}
 use Rattle.nt_frame.specs.Rules.{is_leaving, may_begin, refusal_in}
 use Rattle.nt_frame.proofs.Below.{awaiting_is_on_thread}
 use Rattle.nt_frame.proofs.Tasks.{apc_may_begin, dpc_may_begin, idle_dpc_may_begin, leaving_here, threaded_may_begin, user_may_begin}

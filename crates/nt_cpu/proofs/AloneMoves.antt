@@ -21,7 +21,7 @@ use Rattle.nt_event.specs.Locks.{lock_of}
 use Rattle.nt_event.specs.Numbers.{lock, cpu, dpc, thread, timer}
 use Rattle.nt_event.specs.Lists.{value_at}
 use Rattle.nt_event.proofs.Tables.{length-table_from}
-use Rattle.nt_acts.specs.Acts.{Found, told_over}
+use Rattle.nt_event.specs.Acts.{Found, told_over}
 use Rattle.nt_floor.specs.Lists.{Lists, with_draw, with_marks}
 use Rattle.nt_floor.specs.Views.{HasWord, IsMoved, Tells, View, is_word}
 use Rattle.nt_cpu.specs.Alone.{IsAlone, IsMarkedFor, MayBe, alone_asks, alone_event, alone_then, as_list, is_alone, noticed}

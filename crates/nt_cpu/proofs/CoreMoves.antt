@@ -21,7 +21,7 @@ use Rattle.nt_event.specs.Step.{event_at, is_cut}
 use Rattle.nt_event.specs.Numbers.{is_of}
 use Rattle.nt_event.specs.Lists.{value_at}
 use Rattle.nt_event.proofs.Moves.{lanes_move, own_moves_here, own_stays}
-use Rattle.nt_acts.specs.Acts.{Found, Told, is_among, told_over}
+use Rattle.nt_event.specs.Acts.{Found, Told, is_among, told_over}
 use Rattle.nt_floor.specs.Views.{HasWord, IsMoved, View}
 use Rattle.nt_cpu.specs.Leaves.{own_with}
 use Rattle.nt_cpu.specs.Runs.{Follows, asks_at, state_of}

@@ -32,9 +32,9 @@ use Rattle.nt_event.specs.Lists.{head_of, is_null, value_at, when}
 use Rattle.nt_event.proofs.Options.{Holds, holds_at, holds_map, holds_or, holds_then, holds_when}
 use Rattle.nt_cpu.specs.Sound.{AreBased, EndsInBase, IsSound}
 use Rattle.nt_cpu.specs.States.{CpuState}
-use Rattle.nt_acts.specs.declared.acts.ActRefusal.{ActRefusal}
-use Rattle.nt_acts.specs.declared.acts.ActRefusal.TheVariants.{NoMemory}
-use Rattle.nt_acts.specs.Acts.{Found, IsRefused}
+use Rattle.nt_event.specs.declared.acts.ActRefusal.{ActRefusal}
+use Rattle.nt_event.specs.declared.acts.ActRefusal.TheVariants.{NoMemory}
+use Rattle.nt_event.specs.Acts.{Found, IsRefused}
 use Rattle.nt_cpu.specs.GoodTasks.{GoodTask}
 use Rattle.nt_cpu.proofs.DueTasks.{no_frame, task_good}
 

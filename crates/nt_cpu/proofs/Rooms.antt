@@ -7,7 +7,7 @@ use Rattle.nt_event.specs.declared.events.What.{What}
 use Rattle.nt_event.specs.declared.jobs.Job.{Job}
 use Rattle.nt_event.specs.Own.{stand_in}
 use Rattle.nt_event.specs.Step.{is_cut}
-use Rattle.nt_acts.specs.Acts.{Found}
+use Rattle.nt_event.specs.Acts.{Found}
 use Rattle.nt_floor.specs.Views.{IsUnmoved, View}
 use Rattle.nt_cpu.specs.Alone.{IsAlone, alone_asks}
 use Rattle.nt_cpu.specs.States.{CpuState}

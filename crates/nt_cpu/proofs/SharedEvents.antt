@@ -17,8 +17,8 @@ use Rattle.nt_event.specs.Requests.{asks_in, looked, raised, seen_after}
 use Rattle.nt_event.specs.Script.{has_thread}
 use Rattle.nt_event.specs.Lists.{table, value_at}
 use Rattle.nt_event.proofs.Options.{holds_at}
-use Rattle.nt_acts.specs.declared.acts.Acted.{Acted}
-use Rattle.nt_acts.specs.Acts.{Found, IsActed, IsMet, StandFits, told_over}
+use Rattle.nt_event.specs.declared.acts.Acted.{Acted}
+use Rattle.nt_event.specs.Acts.{Found, IsActed, IsMet, StandFits, told_over}
 use Rattle.nt_cpu.specs.GoodTasks.{GoodJob}
 use Rattle.nt_cpu.specs.Leaves.{own_with}
 use Rattle.nt_cpu.specs.Sound.{IsSound}

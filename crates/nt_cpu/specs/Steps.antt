@@ -14,7 +14,7 @@ use Rattle.nt_event.specs.Own.{Own, stand_in}
 use Rattle.nt_event.specs.Robin.{is_behind, look_values}
 use Rattle.nt_event.specs.Step.{event_at, is_cut}
 use Rattle.nt_event.specs.Lists.{value_at}
-use Rattle.nt_acts.specs.Acts.{Found}
+use Rattle.nt_event.specs.Acts.{Found}
 use Rattle.nt_floor.specs.Lists.{Lists, Look}
 use Rattle.nt_floor.specs.Views.{HasWord, IsMoved, SameFloor, View}
 use Rattle.nt_frame.specs.Nesting.{AreNamedBelow}

@@ -22,7 +22,7 @@ use Rattle.nt_event.specs.Requests.{asks_in}
 use Rattle.nt_event.specs.Script.{has_thread}
 use Rattle.nt_event.specs.Step.{event_at, is_cut}
 use Rattle.nt_event.specs.Lists.{value_at, when}
-use Rattle.nt_acts.specs.Acts.{Found, told_over}
+use Rattle.nt_event.specs.Acts.{Found, told_over}
 use Rattle.nt_floor.specs.Views.{HasWord, IsMoved, Tells, View}
 use Rattle.nt_frame.specs.Nesting.{AreNamedBelow}
 use Rattle.nt_cpu.specs.States.{CpuState}

@@ -2,8 +2,8 @@
 ghost use Rattle.std.specs.Prelude.{◌≡◌, ◌<◌, ◌≤◌, ℕ, true, IfErr, OnOk, IsErrOf, OnErr};
 ghost use Rattle.nt_event.specs.Acting.{IsDue};
 ghost use Rattle.nt_event.specs.Own.{stand_in};
-ghost use Rattle.nt_acts.specs.declared.acts.ActRefusal.{ActRefusal};
-ghost use Rattle.nt_acts.specs.Acts.{Found, IsRefused};
+ghost use Rattle.nt_event.specs.declared.acts.ActRefusal.{ActRefusal};
+ghost use Rattle.nt_event.specs.Acts.{Found, IsRefused};
 ghost use Rattle.nt_floor.specs.Views.{IsUnmoved, Tells};
 ghost use Rattle.nt_cpu.specs.GoodTasks.{GoodJob};
 ghost use Rattle.nt_cpu.specs.Steps.{Knows};

@@ -10,7 +10,7 @@ ghost use Rattle.nt_event.specs.Step.{is_cut};
 ghost use Rattle.nt_event.specs.Lists.{value_at};
 ghost use Rattle.nt_event.specs.declared.jobs.Job.{Job};
 ghost use Rattle.nt_event.specs.declared.jobs.Task.{Task};
-ghost use Rattle.nt_acts.specs.Acts.{Found};
+ghost use Rattle.nt_event.specs.Acts.{Found};
 ghost use Rattle.nt_floor.specs.Sums.{sum_of};
 ghost use Rattle.nt_floor.specs.Views.{IsUnmoved, View};
 ghost use Rattle.nt_cpu.specs.declared.steps.Local.{Local};

@@ -3,7 +3,7 @@ ghost use Rattle.std.specs.Prelude.{◌≡◌, ◌&&◌, ◌<◌, ℕ, false, tr
 ghost use Rattle.nt_event.specs.Own.{stand_in};
 ghost use Rattle.nt_event.specs.Robin.{is_behind, look_values};
 ghost use Rattle.nt_event.specs.Step.{cpu_at, is_cut};
-ghost use Rattle.nt_acts.specs.Acts.{Found};
+ghost use Rattle.nt_event.specs.Acts.{Found};
 ghost use Rattle.nt_floor.specs.Views.{IsUnmoved};
 ghost use Rattle.nt_event.specs.declared.events.Event.{Event};
 ghost use Rattle.nt_event.specs.declared.events.What.{What};

@@ -16,7 +16,7 @@ use Rattle.nt_event.specs.Step.{IsRun, cpu_at, event_or, is_cut, refused_if, ste
 use Rattle.nt_event.specs.Numbers.{cpu}
 use Rattle.nt_event.specs.Lists.{when}
 use Rattle.nt_event.proofs.Tables.{get_or-table, length-table_from, table-self}
-use Rattle.nt_acts.specs.Acts.{Found}
+use Rattle.nt_event.specs.Acts.{Found}
 use Rattle.nt_floor.specs.Views.{View}
 use Rattle.nt_cpu.specs.Runs.{Follows, is_asked, state_of}
 use Rattle.nt_cpu.specs.States.{CpuState}

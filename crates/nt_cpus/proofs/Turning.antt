@@ -15,7 +15,7 @@ use Rattle.nt_event.proofs.Options.{holds_at, holds_when}
 use Rattle.nt_runs.proofs.Robin.{robin_at_accepted}
 use Rattle.nt_runs.proofs.Turns.{run_grows}
 use Rattle.nt_laws.proofs.Counts.{uncut_room}
-use Rattle.nt_acts.specs.Acts.{Found}
+use Rattle.nt_event.specs.Acts.{Found}
 use Rattle.nt_floor.specs.Views.{IsUnmoved, View}
 use Rattle.nt_cpu.specs.Choices.{turn_by}
 use Rattle.nt_cpu.specs.Runs.{is_asked, state_of}

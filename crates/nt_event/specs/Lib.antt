@@ -29,3 +29,4 @@ pub mod Eligible
 pub mod Fate
 pub mod LaneStates
 pub mod Acting
+pub mod Acts

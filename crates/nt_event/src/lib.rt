@@ -7,6 +7,7 @@
 //! Contracts see each `Items` as the list of its items, so a script or a history is a plain record of numbers and lists there.
 #![tactic(auto)]
 
+mod acts;
 mod asking;
 pub mod class;
 mod commands;
@@ -24,6 +25,7 @@ mod scripts;
 pub mod status;
 mod threads;
 
+pub use acts::{ActRefusal, Acted, Made};
 pub use commands::{ApcKind, Command, Importance, Mode, Refusal, Regions, Reply, TimerKey};
 pub use events::{Begun, Event, History, Rises, ScheduleKind, Turn, What};
 pub use frames::{Again, Body, Held, Region};

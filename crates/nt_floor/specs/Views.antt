@@ -9,7 +9,7 @@ use Rattle.nt_event.specs.declared.scripts.Script.{Script}
 use Rattle.nt_event.specs.Lanes.{Lanes, lane_number, lanes_after, lanes_at, what_lanes}
 use Rattle.nt_event.specs.Lists.{table, value_at}
 use Rattle.nt_event.specs.Requests.{asks_in, raised, what_asks}
-use Rattle.nt_acts.specs.Acts.{Found, Told, told_after}
+use Rattle.nt_event.specs.Acts.{Found, Told, told_after}
 use Rattle.nt_floor.specs.Lists.{Lists, with_draw, with_look, with_mark, with_marks}
 
 pub record View : Type 0 where

@@ -1,8 +1,7 @@
 //! Events that touch lanes.
 use crate::seen::Seen;
 use crate::words::Words;
-use nt_acts::{ActRefusal, Made};
-use nt_event::{Event, Job};
+use nt_event::{ActRefusal, Event, Job, Made};
 use nt_frame::StandView;
 
 /// Makes events that touch what several processors share.
@@ -13,7 +12,7 @@ pub trait Floor: Words {
     ghost use Rattle.nt_event.specs.declared.jobs.Job.{Job};
     ghost use Rattle.nt_event.specs.declared.jobs.Stand.{Stand};
     ghost use Rattle.nt_event.specs.declared.scripts.Script.{Script};
-    ghost use Rattle.nt_acts.specs.Acts.{Found, IsActed, IsMet, IsRefused, StandFits, acted_of, job_fits};
+    ghost use Rattle.nt_event.specs.Acts.{Found, IsActed, IsMet, IsRefused, StandFits, acted_of, job_fits};
     ghost use Rattle.nt_floor.specs.Seen.{SameInterrupts};
     ghost use Rattle.nt_floor.specs.Views.{IsMoved, IsTold, IsUnmoved, Tells};
 

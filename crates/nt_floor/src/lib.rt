@@ -11,8 +11,7 @@ mod seen;
 mod words;
 
 pub use floor::Floor;
-pub use nt_acts::{ActRefusal, Acted, Made};
-pub use nt_event::Job;
+pub use nt_event::{ActRefusal, Acted, Job, Made};
 pub use nt_frame::StandView;
 pub use open::OpenFloor;
 pub use seen::Seen;

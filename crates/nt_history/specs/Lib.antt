@@ -1,3 +1,5 @@
 pub mod Briefs
 pub mod Recorded
 pub mod RecorderInsides
+pub mod Kept
+pub mod Values

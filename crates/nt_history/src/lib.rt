@@ -1,22 +1,29 @@
-//! The events of a history in little memory.
+//! The events of a history and lists of turns in little memory.
 //!
 //! An [`Event`](nt_event::Event) takes the room of the values of a look, and most events are none. [`Events`] keeps a [`Brief`] for each
 //! event, which is all of it but the values of a look, and the values of the looks beside. Contracts see the list of the events.
+//! [`Turns`] keeps turns in the same way, and [`Turns::walk`] goes through them in order.
 #![tactic(auto)]
 
 mod brief;
 mod events;
 mod history;
+mod kept;
+mod looks;
 mod recorder;
+mod turns;
+mod walk;
 
 pub use brief::{Brief, Did, Noticed};
 pub use events::{Briefs, Events};
 pub use history::History;
 pub use recorder::Recorder;
+pub use turns::Turns;
+pub use walk::{TurnWalk, no_turn};
 
 #[cfg(test)]
 mod tests {
-    use super::{Brief, Did, Events, History, Noticed, Recorder};
+    use super::{Brief, Did, Events, History, Noticed, Recorder, Turns, no_turn};
     use nt_event::{CpuNo, Event, Level, Rises, ThreadNo, Turn, What};
     use std::alloc::AllocError;
 
@@ -119,6 +126,30 @@ mod tests {
         let events = recorder.finish();
         assert!(rt; !events.is_empty());
         assert_eq!(rt; events.lend().event(0), look(5));
+        Ok(())
+    }
+    #[test]
+    fn each_look_of_the_turns_has_its_values(rt: HostRuntime) -> Result<(), AllocError> {
+        let given = [
+            Turn::Look(CpuNo(0), Rises { value: [1; 16] }),
+            Turn::Next(CpuNo(1)),
+            clock().turn(),
+            Turn::Switch(CpuNo(2), ThreadNo(300)),
+            Turn::Look(CpuNo(3), Rises { value: [2; 16] }),
+        ];
+        let mut turns = Turns::new(rt.alloc());
+        assert!(rt; turns.is_empty());
+        for turn in &given {
+            turns.push(turn)?;
+        }
+        assert_eq!(rt; turns.len(), 5);
+        let mut walk = turns.walk();
+        let mut turn = no_turn();
+        for wanted in &given {
+            assert!(rt; walk.next(&mut turn));
+            assert_eq!(rt; turn, *wanted);
+        }
+        assert!(rt; !walk.next(&mut turn));
         Ok(())
     }
 }

@@ -5,9 +5,9 @@ use Rattle.nt_event.specs.declared.jobs.Job.{Job}
 use Rattle.nt_event.specs.declared.jobs.Stand.{Stand}
 use Rattle.nt_event.specs.declared.scripts.Script.{Script}
 use Rattle.nt_event.specs.Lists.{table, value_at}
-use Rattle.nt_acts.specs.declared.acts.ActRefusal.{ActRefusal}
-use Rattle.nt_acts.specs.declared.acts.Acted.{Acted}
-use Rattle.nt_acts.specs.Acts.{Found, IsActed}
+use Rattle.nt_event.specs.declared.acts.ActRefusal.{ActRefusal}
+use Rattle.nt_event.specs.declared.acts.Acted.{Acted}
+use Rattle.nt_event.specs.Acts.{Found, IsActed}
 use Rattle.nt_floor.specs.Views.{IsMoved, IsTold}
 use Rattle.nt_mark.specs.declared.marks.Marks.{Marks}
 use Rattle.nt_mark.specs.declared.view.View.{View}

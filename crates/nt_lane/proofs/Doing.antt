@@ -16,7 +16,7 @@ use Rattle.nt_event.specs.Lanes.{lane_number, what_lanes}
 use Rattle.nt_event.specs.Lists.{table, value_at}
 use Rattle.nt_event.specs.Requests.{Ask, is_ask, raised, what_asks}
 use Rattle.nt_event.proofs.Tables.{get_or-table}
-use Rattle.nt_acts.specs.Acts.{Told, told_over}
+use Rattle.nt_event.specs.Acts.{Told, told_over}
 use Rattle.nt_mark.specs.declared.view.Entry.{Entry}
 use Rattle.nt_mark.specs.declared.view.View.{View}
 use Rattle.nt_mark.specs.Views.{entry, reach, request_word, step_word}

@@ -21,7 +21,7 @@ use Rattle.nt_event.specs.Requests.{Ask, is_ask, raised, what_asks}
 use Rattle.nt_event.specs.Timers.{Timers, timers_after}
 use Rattle.nt_dpc.specs.Objects.{ObjectFacts}
 use Rattle.nt_dpc.specs.Queues.{QueueFacts}
-use Rattle.nt_acts.specs.Acts.{is_among}
+use Rattle.nt_event.specs.Acts.{is_among}
 use Rattle.nt_mark.specs.declared.view.View.{View}
 use Rattle.nt_mark.specs.Rule.{IsLongest}
 use Rattle.nt_mark.specs.Views.{note_of}

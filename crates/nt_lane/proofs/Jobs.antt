@@ -6,7 +6,7 @@ use Rattle.nt_event.specs.declared.jobs.Stand.{Stand}
 use Rattle.nt_event.specs.declared.scripts.Script.{Script}
 use Rattle.nt_event.specs.Acting.{IsAllowed}
 use Rattle.nt_event.specs.Lanes.{Lanes, facts_at}
-use Rattle.nt_acts.specs.Acts.{StandFits, job_fits}
+use Rattle.nt_event.specs.Acts.{StandFits, job_fits}
 use Rattle.nt_states.specs.Given.{CanDecide, JobStands, RunsOwn}
 use Rattle.nt_lane.specs.Standing.{StandsFor}
 

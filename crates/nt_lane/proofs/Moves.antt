@@ -10,7 +10,7 @@ use Rattle.nt_event.specs.declared.numbers.CpuNo.{CpuNo}
 use Rattle.nt_event.specs.declared.scripts.Script.{Script}
 use Rattle.nt_event.specs.Lanes.{lane_number, what_lanes}
 use Rattle.nt_event.specs.Requests.{Ask, is_ask, what_asks}
-use Rattle.nt_acts.specs.Acts.{Found}
+use Rattle.nt_event.specs.Acts.{Found}
 use Rattle.nt_floor.specs.Lists.{Lists, Mark as MarkTold, with_draw, with_marks}
 use Rattle.nt_floor.specs.Views.{IsMoved}
 use Rattle.nt_mark.specs.declared.marks.Marks.{Marks}

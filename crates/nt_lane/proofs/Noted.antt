@@ -11,7 +11,7 @@ use Rattle.nt_event.specs.LaneStates.{Content, lane_state}
 use Rattle.nt_event.specs.Requests.{Ask}
 use Rattle.nt_dpc.specs.Objects.{ObjectFacts}
 use Rattle.nt_dpc.specs.Queues.{QueueFacts}
-use Rattle.nt_acts.specs.Acts.{is_among}
+use Rattle.nt_event.specs.Acts.{is_among}
 use Rattle.nt_mark.specs.declared.view.Entry.{Entry}
 use Rattle.nt_mark.specs.declared.view.Note.{Note}
 use Rattle.nt_mark.specs.declared.view.View.{View}

@@ -20,13 +20,13 @@ use Rattle.nt_dpc.specs.Objects.{ObjectFacts}
 use Rattle.nt_dpc.specs.Queues.{QueueFacts}
 use Rattle.nt_dpc_lanes.specs.Changes.{change_of}
 use Rattle.nt_dpc_lanes.specs.declared.changes.Change.{Change}
-use Rattle.nt_acts.specs.Acts.{is_among}
+use Rattle.nt_event.specs.Acts.{is_among}
 use Rattle.nt_mark.specs.declared.view.View.{View}
 use Rattle.nt_mark.specs.Views.{reach, step_word}
 use Rattle.nt_event.specs.LaneStates.{OfLock, OfObject, OfQueue, OfTimers}
 use Rattle.nt_event.specs.Script.{fits}
 use Rattle.nt_event.specs.Timers.{Timers}
-use Rattle.nt_acts.specs.Acts.{StandFits, job_fits}
+use Rattle.nt_event.specs.Acts.{StandFits, job_fits}
 use Rattle.nt_states.specs.AllStates.{AllStates, threads_of}
 use Rattle.nt_states.specs.Sound.{IsSound}
 use Rattle.nt_states.specs.Timed.{MayTime}

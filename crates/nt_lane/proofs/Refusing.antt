@@ -4,9 +4,9 @@ use Rattle.nt_event.specs.declared.jobs.Job.{Job}
 use Rattle.nt_event.specs.declared.jobs.Job.TheVariants as job
 use Rattle.nt_event.specs.declared.jobs.Stand.{Stand}
 use Rattle.nt_event.specs.declared.scripts.Script.{Script}
-use Rattle.nt_acts.specs.declared.acts.ActRefusal.{ActRefusal}
-use Rattle.nt_acts.specs.declared.acts.ActRefusal.TheVariants.{NoMemory}
-use Rattle.nt_acts.specs.Acts.{Found, IsRefused}
+use Rattle.nt_event.specs.declared.acts.ActRefusal.{ActRefusal}
+use Rattle.nt_event.specs.declared.acts.ActRefusal.TheVariants.{NoMemory}
+use Rattle.nt_event.specs.Acts.{Found, IsRefused}
 use Rattle.nt_mark.specs.declared.view.View.{View}
 use Rattle.nt_states.specs.Reads.{job_lanes}
 use Rattle.nt_lane.specs.declared.planning.Plan.{Plan}

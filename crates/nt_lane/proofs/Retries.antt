@@ -6,8 +6,8 @@ use Rattle.nt_event.specs.declared.jobs.Job.{Job}
 use Rattle.nt_event.specs.declared.jobs.Stand.{Stand}
 use Rattle.nt_event.specs.declared.scripts.Script.{Script}
 use Rattle.nt_event.specs.Requests.{Ask}
-use Rattle.nt_acts.specs.declared.acts.ActRefusal.{ActRefusal}
-use Rattle.nt_acts.specs.declared.acts.Acted.{Acted}
+use Rattle.nt_event.specs.declared.acts.ActRefusal.{ActRefusal}
+use Rattle.nt_event.specs.declared.acts.Acted.{Acted}
 use Rattle.nt_mark.specs.declared.marks.Marks.{Marks}
 use Rattle.nt_mark.specs.declared.view.Entry.{Entry}
 use Rattle.nt_mark.specs.declared.view.Mark.{Mark}

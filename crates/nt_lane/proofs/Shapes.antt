@@ -28,7 +28,7 @@ use Rattle.nt_event.specs.Lanes.{Lanes, command_lanes, end_lanes, expire_lanes, 
 use Rattle.nt_event.specs.Objects.{is_queued, queue_for}
 use Rattle.nt_event.specs.Queues.{first_dpc}
 use Rattle.nt_event.specs.Replies.{is_refused, is_yes, yes_if}
-use Rattle.nt_acts.specs.Acts.{is_among}
+use Rattle.nt_event.specs.Acts.{is_among}
 use Rattle.nt_dpc_lanes.specs.Changes.{call_change, change_of, change_where}
 use Rattle.nt_states.specs.DpcLanes.{DpcLanes, MayLeave}
 use Rattle.nt_dpc_lanes.specs.declared.changes.Change.{Change}

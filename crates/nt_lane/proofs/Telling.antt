@@ -6,7 +6,7 @@ use Rattle.nt_event.specs.declared.jobs.Lane.{Lane}
 use Rattle.nt_event.specs.declared.numbers.CpuNo.{CpuNo}
 use Rattle.nt_event.specs.Lists.{table, value_at}
 use Rattle.nt_event.proofs.Tables.{get_or-table}
-use Rattle.nt_acts.specs.Acts.{Told, told_over}
+use Rattle.nt_event.specs.Acts.{Told, told_over}
 use Rattle.nt_states.specs.Reads.{AreHeld}
 
 rest_of : (lanes : List Lane) (i : ℕ) (d : Lane) → i < length lanes → drop i lanes ≡ get_or lanes i d ∷ drop (i + 1) lanes

@@ -4,8 +4,8 @@ use Rattle.nt_event.specs.declared.events.What.{What}
 use Rattle.nt_event.specs.declared.jobs.Job.{Job}
 use Rattle.nt_event.specs.declared.jobs.Stand.{Stand}
 use Rattle.nt_event.specs.Jobs.{job_event}
-use Rattle.nt_acts.specs.Acts.{Found, IsRefused}
-use Rattle.nt_acts.specs.declared.acts.ActRefusal.{ActRefusal}
+use Rattle.nt_event.specs.Acts.{Found, IsRefused}
+use Rattle.nt_event.specs.declared.acts.ActRefusal.{ActRefusal}
 use Rattle.nt_states.specs.Given.{IsGiven, RunsOwn}
 use Rattle.nt_states.specs.Reads.{AreHeld, job_lanes}
 use Rattle.nt_lane.specs.Answers.{HeldStates, IsHeld, held_lanes}

@@ -7,7 +7,7 @@ use Rattle.nt_event.specs.LaneStates.{Content, OfLock, OfObject, OfQueue, OfTime
 use Rattle.nt_event.specs.Timers.{Timers}
 use Rattle.nt_dpc.specs.Objects.{ObjectFacts}
 use Rattle.nt_dpc.specs.Queues.{QueueFacts}
-use Rattle.nt_acts.specs.Acts.{Found, Told}
+use Rattle.nt_event.specs.Acts.{Found, Told}
 use Rattle.nt_mark.specs.declared.view.View.{View}
 use Rattle.nt_mark.specs.Rule.{IsLongest}
 use Rattle.nt_mark.specs.Views.{reach, step_word}

@@ -6,7 +6,7 @@ use Rattle.nt_event.specs.Acting.{acted_event}
 use Rattle.nt_event.specs.Frames.{due_of}
 use Rattle.nt_event.specs.Lanes.{what_lanes}
 use Rattle.nt_event.specs.Requests.{what_asks}
-use Rattle.nt_acts.specs.Acts.{KindsFit}
+use Rattle.nt_event.specs.Acts.{KindsFit}
 use Rattle.nt_states.specs.LaneLists.{AskFits, LaneFits}
 use Rattle.nt_states.specs.Reads.{AreHeld}
 use Rattle.nt_lane.specs.Answers.{BothAgree, HeldStates, IsHeld, held_lanes}

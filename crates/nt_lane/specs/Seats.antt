@@ -8,7 +8,7 @@ use Rattle.nt_event.specs.declared.numbers.CpuNo.{CpuNo}
 use Rattle.nt_event.specs.declared.scripts.Script.{Script}
 use Rattle.nt_event.specs.LaneStates.{LaneState, content, lane_state, told_at}
 use Rattle.nt_event.specs.Lanes.{lane_number, what_lanes}
-use Rattle.nt_acts.specs.Acts.{Found}
+use Rattle.nt_event.specs.Acts.{Found}
 use Rattle.nt_mark.specs.declared.view.Entry.{Entry}
 use Rattle.nt_mark.specs.declared.view.LaneList.{LaneList}
 use Rattle.nt_mark.specs.declared.view.Note.{Note}

@@ -18,7 +18,7 @@ use Rattle.nt_dpc.specs.Laws.{IsObject}
 use Rattle.nt_dpc.specs.Objects.{ObjectFacts}
 use Rattle.nt_dpc.specs.Queues.{QueueFacts}
 use Rattle.nt_dpc_lanes.specs.Changes.{change_of}
-use Rattle.nt_acts.specs.Acts.{is_among}
+use Rattle.nt_event.specs.Acts.{is_among}
 use Rattle.nt_mark.specs.declared.view.Note.{Note}
 use Rattle.nt_mark.specs.declared.view.View.{View}
 use Rattle.nt_mark.specs.Views.{entry, note_of, reach, step_word}

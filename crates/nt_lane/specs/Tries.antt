@@ -7,9 +7,9 @@ use Rattle.nt_event.specs.declared.scripts.Script.{Script}
 use Rattle.nt_event.specs.Lanes.{lane_number, what_lanes}
 use Rattle.nt_event.specs.Lists.{value_at}
 use Rattle.nt_event.specs.Requests.{Ask, what_asks}
-use Rattle.nt_acts.specs.Acts.{Found, IsActed, IsRefused}
-use Rattle.nt_acts.specs.declared.acts.ActRefusal.{ActRefusal}
-use Rattle.nt_acts.specs.declared.acts.Acted.{Acted}
+use Rattle.nt_event.specs.Acts.{Found, IsActed, IsRefused}
+use Rattle.nt_event.specs.declared.acts.ActRefusal.{ActRefusal}
+use Rattle.nt_event.specs.declared.acts.Acted.{Acted}
 use Rattle.nt_mark.specs.declared.view.View.{View}
 use Rattle.nt_mark.specs.Views.{entry, reach, request_word, step_word}
 use Rattle.nt_states.specs.LaneLists.{AskFits}

@@ -1,7 +1,7 @@
 //! An act over locked lanes.
 ghost use Rattle.std.specs.Prelude.{◌≡◌, ◌≤◌, IfErr, IfOk, IsTrue};
 ghost use Rattle.nt_event.specs.Lanes.{lane_count};
-ghost use Rattle.nt_acts.specs.Acts.{StandFits, job_fits};
+ghost use Rattle.nt_event.specs.Acts.{StandFits, job_fits};
 ghost use Rattle.nt_lane.specs.Tries.{IsDone, IsNotDone};
 ghost use Rattle.nt_lane.specs.Views.{drawable_of};
 ghost use Rattle.nt_mark.specs.Names.{cpus_of, lanes_of, pass_table, pass_view, table_of};

@@ -1,6 +1,6 @@
 //! The event of a job, in the states of held lanes.
 ghost use Rattle.std.specs.Prelude.{IsTrue};
-ghost use Rattle.nt_acts.specs.Acts.{StandFits, job_fits};
+ghost use Rattle.nt_event.specs.Acts.{StandFits, job_fits};
 ghost use Rattle.nt_lane.specs.Decided.{IsDecided};
 
 use crate::held::Held;

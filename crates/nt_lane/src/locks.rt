@@ -3,7 +3,7 @@ ghost use Rattle.std.specs.Prelude.{◌≡◌, ◌*◌, ◌<◌, ◌≤◌, ◌^
 ghost use Rattle.std.specs.Sync.Mutex.{mutex_guard_value};
 ghost use Rattle.nt_event.specs.LaneStates.{told_at};
 ghost use Rattle.nt_event.specs.Lists.{table, value_at};
-ghost use Rattle.nt_acts.specs.Acts.{told_over};
+ghost use Rattle.nt_event.specs.Acts.{told_over};
 ghost use Rattle.nt_lane.specs.Answers.{IsHeld};
 ghost use Rattle.nt_lane.specs.Locks.{AreKnownBy, AreLanes, AreLongest, AreRoomy, IsKnownBy, IsLane, in_each, kept, states_of, told_in, told_of};
 ghost use Rattle.nt_lane.specs.Views.{Learns};
@@ -298,7 +298,7 @@ impl<'l, 's, N: Plan + Shared> Locked<'l, 's, N> {
 
 impl<'l, 's, N: Plan + Shared> Locked<'l, 's, N> {
     ghost use Rattle.nt_event.specs.Script.{fits};
-    ghost use Rattle.nt_acts.specs.Acts.{StandFits, job_fits};
+    ghost use Rattle.nt_event.specs.Acts.{StandFits, job_fits};
     ghost use Rattle.nt_lane.specs.Plans.{IsPlanned};
 
     /// What a job of a processor that stands so comes to in the states of the held lanes.

@@ -7,7 +7,7 @@ ghost use Rattle.nt_event.specs.Requests.{what_asks};
 ghost use Rattle.nt_event.specs.Routines.{kind_of};
 ghost use Rattle.nt_event.specs.Script.{fits};
 ghost use Rattle.nt_event.specs.declared.jobs.Lane.TheVariants.{Timers as TimersLane};
-ghost use Rattle.nt_acts.specs.Acts.{KindsFit, StandFits, job_fits};
+ghost use Rattle.nt_event.specs.Acts.{KindsFit, StandFits, job_fits};
 ghost use Rattle.nt_lane.specs.Answers.{IsHeld, held_lanes, threads_told};
 ghost use Rattle.nt_lane.specs.Decided.{IsEvent};
 ghost use Rattle.nt_lane.specs.Held.{IsGroupThere, IsObjectThere, IsQueueThere, IsSpinThere};

@@ -1,7 +1,7 @@
 //! Whether a job may be done where its processor stands, as far as no lane says it.
 ghost use Rattle.std.specs.Prelude.{◌↔◌, IsTrue};
 ghost use Rattle.nt_event.specs.Acting.{InThread, IsCallable};
-ghost use Rattle.nt_acts.specs.Acts.{StandFits};
+ghost use Rattle.nt_event.specs.Acts.{StandFits};
 ghost use Rattle.nt_lane.specs.Standing.{StandsFor};
 ghost use Rattle.nt_states.specs.Given.{RunsOwn};
 

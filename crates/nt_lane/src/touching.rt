@@ -4,7 +4,7 @@ ghost use Rattle.std.specs.Sync.Mutex.{mutex_guard_value};
 ghost use Rattle.nt_event.specs.Lanes.{same_lane};
 ghost use Rattle.nt_event.specs.Objects.{ObjectState};
 ghost use Rattle.nt_event.specs.Script.{fits};
-ghost use Rattle.nt_acts.specs.Acts.{is_among};
+ghost use Rattle.nt_event.specs.Acts.{is_among};
 ghost use Rattle.nt_lane.specs.Locks.{in_each, kept};
 ghost use Rattle.nt_lane.specs.Steps.{AreLeftBy, AreReadyFor, DpcsLeft, DpcsReady, IsReady, IsStep, LeavesGroup, LeavesObject, LeavesQueue, LeavesSpin, LeavesTimers, MayLeaveGroup, MayLeaveObject, MayLeaveQueue, MayLeaveSpin, MayLeaveTimers, is_touched, object_name, queue_name};
 ghost use Rattle.nt_lane.specs.Views.{Learns};

@@ -3,7 +3,7 @@ ghost use Rattle.std.specs.List.Sorted.{IsStrictlyIncreasing};
 ghost use Rattle.std.specs.Prelude.{◌≡◌, ◌≤◌, ◌<◌, All, IsTrue};
 ghost use Rattle.nt_event.specs.Lanes.{lane_count};
 ghost use Rattle.nt_event.specs.Script.{fits};
-ghost use Rattle.nt_acts.specs.Acts.{StandFits, job_fits};
+ghost use Rattle.nt_event.specs.Acts.{StandFits, job_fits};
 ghost use Rattle.nt_lane.specs.Locks.{AreKnownBy, AreRoomy, states_of};
 ghost use Rattle.nt_lane.specs.Plans.{IsPlan, IsPlanned};
 ghost use Rattle.nt_lane.specs.Steps.{IsStep};

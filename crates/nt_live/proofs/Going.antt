@@ -29,7 +29,7 @@ use Rattle.nt_event.specs.Own.{Own, stand_in}
 use Rattle.nt_event.specs.Requests.{asks_in, what_asks}
 use Rattle.nt_event.specs.Robin.{is_behind, look_values}
 use Rattle.nt_event.specs.Step.{event_at, is_cut}
-use Rattle.nt_acts.specs.Acts.{Found}
+use Rattle.nt_event.specs.Acts.{Found}
 use Rattle.nt_floor.specs.Lists.{Lists, with_draw, with_marks}
 use Rattle.nt_floor.specs.Views.{HasWord, IsMoved, View as WordsView}
 use Rattle.nt_lane.specs.Marked.{mark_for}

@@ -12,7 +12,7 @@ use Rattle.nt_event.specs.declared.scripts.Script.{Script}
 use Rattle.nt_event.specs.Numbers.{cpu}
 use Rattle.nt_event.specs.Own.{stand_in}
 use Rattle.nt_event.specs.Requests.{Ask, is_ask}
-use Rattle.nt_acts.specs.Acts.{Found}
+use Rattle.nt_event.specs.Acts.{Found}
 use Rattle.nt_compose.specs.Parts.{IsTail, Numbered, own_by}
 use Rattle.nt_lane.specs.Marked.{mark_for}
 use Rattle.nt_lane.specs.Seats.{AreFoundOn, FoundBy}

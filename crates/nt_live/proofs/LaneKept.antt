@@ -8,7 +8,7 @@ use Rattle.nt_event.specs.declared.jobs.Lane.TheVariants.{Lock as LockLane, Obje
 use Rattle.nt_event.specs.declared.scripts.Script.{Script}
 use Rattle.nt_event.specs.LaneStates.{LaneState, lane_state}
 use Rattle.nt_event.specs.Lanes.{lane_number, same_lane}
-use Rattle.nt_acts.specs.Acts.{is_among}
+use Rattle.nt_event.specs.Acts.{is_among}
 use Rattle.nt_mark.proofs.Sums.{first_or_rest, in_first, in_none, in_rest}
 use Rattle.nt_mark.specs.declared.seats.Keeper.{Keeper}
 use Rattle.nt_mark.specs.declared.view.Note.{Note}

@@ -27,7 +27,7 @@ use Rattle.nt_event.specs.Own.{Own, stand_in}
 use Rattle.nt_event.specs.Requests.{what_asks}
 use Rattle.nt_event.specs.Robin.{is_behind, look_value, look_values}
 use Rattle.nt_event.specs.Step.{is_cut}
-use Rattle.nt_acts.specs.Acts.{Found}
+use Rattle.nt_event.specs.Acts.{Found}
 use Rattle.nt_floor.specs.Lists.{Lists, Look as LookTold, with_draw, with_marks}
 use Rattle.nt_floor.specs.Views.{HasWord, IsMoved, IsUnmoved, View as WordsView}
 use Rattle.nt_lane.specs.Seats.{AreListed, FoundBy}

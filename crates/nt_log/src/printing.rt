@@ -12,10 +12,9 @@ ghost use Rattle.nt_log.specs.Schedules.{turn_fits, turns_fit, rise_field, rises
 
 use crate::schedules::Schedule;
 use nt_event::{CpuNo, Rises, ThreadNo, Turn};
-use nt_history::{Brief, Briefs, Did, History, Noticed};
+use nt_history::{Brief, Briefs, Did, History, Noticed, Turns, no_turn};
 use nt_script::Input;
 use nt_text::{put_digits, put_field, put_number};
-use nt_turns::{Turns, no_turn};
 use std::alloc::{AllocError, Global};
 
 /// Adds a class and the value that rises in it.

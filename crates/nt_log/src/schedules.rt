@@ -4,8 +4,7 @@ ghost use Rattle.nt_log.specs.Schedules.{turn_bound};
 ghost use Rattle.nt_event.specs.Step.{turn_of};
 
 use nt_event::limits;
-use nt_history::History;
-use nt_turns::Turns;
+use nt_history::{History, Turns};
 use std::alloc::{AllocError, Global};
 
 /// As many processors as may each make the most turns.

@@ -9,7 +9,7 @@ use nt_event::{CpuNo, Turn, limits};
 use nt_line::fields;
 use nt_script::{Input, ScriptRefusal, Stop};
 use nt_text::{Fields, Line, Lines, ScriptKind, What10};
-use nt_turns::Turns;
+use nt_history::Turns;
 use std::alloc::Global;
 
 /// The part of a schedule that was read last.

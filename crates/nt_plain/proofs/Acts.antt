@@ -15,8 +15,8 @@ use Rattle.nt_event.specs.Requests.{Ask, asks_in, raised, what_asks}
 use Rattle.nt_event.specs.Script.{has_cpu}
 use Rattle.nt_event.specs.Lists.{value_at}
 use Rattle.nt_event.proofs.Tables.{get_or-table}
-use Rattle.nt_acts.specs.declared.acts.Acted.{Acted}
-use Rattle.nt_acts.specs.Acts.{IsActed, KindsFit, told_over}
+use Rattle.nt_event.specs.declared.acts.Acted.{Acted}
+use Rattle.nt_event.specs.Acts.{IsActed, KindsFit, told_over}
 use Rattle.nt_floor.specs.Lists.{with_marks}
 use Rattle.nt_floor.specs.Views.{IsMoved, IsUnmoved}
 use Rattle.nt_states.specs.LaneLists.{AskFits, LaneFits}

@@ -10,7 +10,7 @@ use Rattle.nt_event.specs.Lanes.{lane_number}
 use Rattle.nt_event.specs.Requests.{Ask, is_ask}
 use Rattle.nt_event.specs.Lists.{table, value_at}
 use Rattle.nt_event.proofs.Tables.{get_or-table}
-use Rattle.nt_acts.specs.Acts.{Told, told_over}
+use Rattle.nt_event.specs.Acts.{Told, told_over}
 use Rattle.nt_states.specs.declared.asking.Asked.{Asked}
 use Rattle.nt_states.specs.LaneLists.{as_ask, as_asks}
 use Rattle.nt_plain.specs.Made.{tell_lane, tell_lanes}

@@ -10,7 +10,7 @@ use Rattle.nt_event.specs.declared.numbers.CpuNo.{CpuNo}
 use Rattle.nt_event.specs.declared.scripts.Script.{Script}
 use Rattle.nt_event.specs.Lanes.{lane_count, lane_number, same_lane}
 use Rattle.nt_event.specs.Requests.{Ask, is_ask, raised}
-use Rattle.nt_acts.specs.Acts.{is_among}
+use Rattle.nt_event.specs.Acts.{is_among}
 use Rattle.nt_states.specs.LaneLists.{lane_fits}
 use Rattle.nt_plain.specs.Made.{tell_lane, tell_lanes}
 use Rattle.nt_plain.specs.Places.{row_of, row_value, told_in, told_place}

@@ -39,7 +39,7 @@ use Rattle.nt_event.specs.Requests.{Ask, apc_asks, ask_if, asks_in, command_asks
 use Rattle.nt_event.specs.Routines.{cpu_of, depth_limit, is_kernel_kind, kind_of, owner_of, part_of}
 use Rattle.nt_event.specs.Threads.{ends_by_alert, ends_by_apc, ends_by_expiry, is_gone}
 use Rattle.nt_event.specs.Waits.{new_pick}
-use Rattle.nt_acts.specs.Acts.{is_among}
+use Rattle.nt_event.specs.Acts.{is_among}
 use Rattle.nt_plain.specs.Classes.{is_told_class, is_work_class}
 
 -- a class that isn't one of the four

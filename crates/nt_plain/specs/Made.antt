@@ -11,7 +11,7 @@ use Rattle.nt_event.specs.Acting.{acted_event}
 use Rattle.nt_event.specs.Lanes.{lane_count, lanes_after, what_lanes}
 use Rattle.nt_event.specs.Lists.{table}
 use Rattle.nt_event.specs.Requests.{Ask, asks_in, raised, what_asks}
-use Rattle.nt_acts.specs.Acts.{Found, told_over}
+use Rattle.nt_event.specs.Acts.{Found, told_over}
 use Rattle.nt_states.specs.AllStates.{AllStates}
 use Rattle.nt_states.specs.Allowed.{MayMake}
 use Rattle.nt_states.specs.LaneLists.{AskFits, LaneFits}

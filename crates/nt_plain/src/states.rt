@@ -2,7 +2,7 @@
 ghost use Rattle.std.specs.Prelude.{◌≡◌, [], IfOk, IsTrue, length};
 ghost use Rattle.nt_event.specs.Lanes.{lanes_at, lock_at};
 ghost use Rattle.nt_event.specs.Script.{fits, has_lock};
-ghost use Rattle.nt_acts.specs.Acts.{KindsFit};
+ghost use Rattle.nt_event.specs.Acts.{KindsFit};
 ghost use Rattle.nt_states.specs.AllStates.{dpcs_of};
 ghost use Rattle.nt_states.specs.Sound.{IsSound};
 

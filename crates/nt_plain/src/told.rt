@@ -5,7 +5,7 @@ ghost use Rattle.nt_event.specs.Classes.{lock_class};
 ghost use Rattle.nt_event.specs.Lanes.{lane_number as number_of};
 ghost use Rattle.nt_event.specs.Lists.{table, value_at};
 ghost use Rattle.nt_event.specs.Requests.{is_ask};
-ghost use Rattle.nt_acts.specs.Acts.{told_over};
+ghost use Rattle.nt_event.specs.Acts.{told_over};
 ghost use Rattle.nt_floor.specs.Seen.{SameInterrupts};
 ghost use Rattle.nt_states.specs.LaneLists.{as_ask, as_asks};
 ghost use Rattle.nt_plain.specs.Classes.{is_lock, is_told_class, is_work_class, raised_class};

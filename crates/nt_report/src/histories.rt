@@ -8,10 +8,9 @@ ghost use Rattle.nt_text.specs.declared.kind.ScriptKind.TheVariants.{WrongKind};
 use crate::kept::KeptLine;
 use crate::walk::Parts;
 use nt_event::{CpuNo, Event, Level, Rises, Turn, What};
-use nt_history::{Events, History};
+use nt_history::{Events, History, Turns, no_turn};
 use nt_script::ScriptRefusal;
 use nt_text::ScriptKind;
-use nt_turns::{Turns, no_turn};
 use std::alloc::Global;
 
 /// A look names no thread and has level 0.

@@ -9,7 +9,7 @@ use Rattle.nt_event.specs.declared.numbers.ThreadNo.{ThreadNo}
 use Rattle.nt_event.specs.Acting.{IsAllowed, RunsThere}
 use Rattle.nt_event.specs.Jobs.{job_event}
 use Rattle.nt_event.specs.Routines.{cpu_of}
-use Rattle.nt_acts.specs.declared.acts.ActRefusal.{ActRefusal}
+use Rattle.nt_event.specs.declared.acts.ActRefusal.{ActRefusal}
 use Rattle.nt_states.specs.AllStates.{AllStates}
 use Rattle.nt_states.specs.Allowed.{MayDo, MayMake}
 use Rattle.nt_states.specs.Given.{CanDecide, IsGiven, JobStands}

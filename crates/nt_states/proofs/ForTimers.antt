@@ -15,7 +15,7 @@ use Rattle.nt_event.specs.declared.numbers.ThreadNo.{ThreadNo}
 use Rattle.nt_event.specs.Acting.{acted_event}
 use Rattle.nt_event.specs.Routines.{cpu_of}
 use Rattle.nt_event.specs.Script.{has_thread}
-use Rattle.nt_acts.specs.Acts.{StandFits}
+use Rattle.nt_event.specs.Acts.{StandFits}
 use Rattle.nt_states.specs.Given.{RunsOwn}
 use Rattle.nt_states.specs.AllStates.{AllStates}
 use Rattle.nt_states.specs.Allowed.{MayMake}

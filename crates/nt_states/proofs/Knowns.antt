@@ -32,7 +32,7 @@ use Rattle.nt_event.specs.Timers.{SetKey, first_due}
 use Rattle.nt_event.specs.Lists.{is_null, when}
 use Rattle.nt_event.proofs.Options.{Holds, holds_at, holds_else, holds_map, holds_or, holds_when, when_gives}
 use Rattle.nt_event.proofs.Ready.{next_ready_taken}
-use Rattle.nt_acts.specs.Acts.{job_fits}
+use Rattle.nt_event.specs.Acts.{job_fits}
 use Rattle.nt_timer.specs.Settings.{due_entry}
 use Rattle.nt_states.specs.AllStates.{AllStates}
 use Rattle.nt_states.specs.Allowed.{MayMake}

@@ -6,7 +6,7 @@ use Rattle.nt_event.specs.declared.jobs.Stand.{Stand}
 use Rattle.nt_event.specs.Acting.{IsAllowed, StandHolds}
 use Rattle.nt_event.specs.Fitting.{what_fits}
 use Rattle.nt_event.specs.Jobs.{job_event}
-use Rattle.nt_acts.specs.Acts.{StandFits, job_fits}
+use Rattle.nt_event.specs.Acts.{StandFits, job_fits}
 use Rattle.nt_states.specs.AllStates.{AllStates}
 use Rattle.nt_states.specs.Given.{TakesOwn}
 

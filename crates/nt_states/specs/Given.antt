@@ -14,7 +14,7 @@ use Rattle.nt_event.specs.Jobs.{job_event}
 use Rattle.nt_event.specs.Lanes.{Lanes}
 use Rattle.nt_event.specs.Routines.{cpu_of}
 use Rattle.nt_event.specs.Script.{has_thread}
-use Rattle.nt_acts.specs.Acts.{StandFits, job_fits}
+use Rattle.nt_event.specs.Acts.{StandFits, job_fits}
 
 -- ---- jobs
 

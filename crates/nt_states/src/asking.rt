@@ -11,7 +11,7 @@ ghost use Rattle.nt_event.specs.Routines as routines;
 ghost use Rattle.nt_event.specs.Script.{command_fits, has_apc, has_cpu, has_dpc, has_lock, has_thread};
 ghost use Rattle.nt_event.specs.Threads.{ends_by_alert, ends_by_expiry, is_gone};
 ghost use Rattle.nt_dpc.specs.Laws.{asks_on};
-ghost use Rattle.nt_acts.specs.Acts.{StandFits};
+ghost use Rattle.nt_event.specs.Acts.{StandFits};
 ghost use Rattle.nt_states.specs.Given.{IsGiven, IsTaken, RunsOwn};
 ghost use Rattle.nt_states.specs.LaneLists.{AskFits, InsertIsFree, as_asks};
 ghost use Rattle.nt_states.specs.Reads.{AreHeld};

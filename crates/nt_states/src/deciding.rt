@@ -16,8 +16,8 @@ ghost use Rattle.nt_event.specs.declared.jobs.Lane.TheVariants.{Object as Object
 ghost use Rattle.nt_event.specs.declared.inserts.Part.{Part as PartOf};
 ghost use Rattle.nt_event.specs.declared.scripts.Script.{Script};
 ghost use Rattle.nt_event.specs.declared.events.What.{What};
-ghost use Rattle.nt_acts.specs.Acts.{Found, IsRefused, StandFits};
-ghost use Rattle.nt_acts.specs.declared.acts.ActRefusal.{ActRefusal};
+ghost use Rattle.nt_event.specs.Acts.{Found, IsRefused, StandFits};
+ghost use Rattle.nt_event.specs.declared.acts.ActRefusal.{ActRefusal};
 ghost use Rattle.nt_states.specs.Given.{CanDecide, IsGiven, RunsOwn, TakesOwn};
 ghost use Rattle.nt_states.specs.Reads.{AreHeld, job_lanes, reply_lanes};
 
@@ -25,8 +25,7 @@ use crate::answers::LaneAnswers;
 use crate::replying::{reply, wait_reply};
 use crate::running::runner;
 use crate::thread_answers::ThreadAnswers;
-use nt_acts::ActRefusal;
-use nt_event::{Begun, Command, CpuNo, DpcNo, Job, Part, Pick, Reply, ThreadNo, What, class};
+use nt_event::{ActRefusal, Begun, Command, CpuNo, DpcNo, Job, Part, Pick, Reply, ThreadNo, What, class};
 use nt_frame::StandView;
 
 /// Writes that a DPC of the part begins.

@@ -8,7 +8,7 @@ ghost use Rattle.nt_event.specs.Script.{command_fits, has_lock, has_thread};
 ghost use Rattle.nt_event.specs.Threads.{is_alerted, is_gone};
 ghost use Rattle.nt_event.specs.Waits.{wait_reply};
 ghost use Rattle.nt_event.specs.declared.jobs.Lane.TheVariants.{Lock as LockLane, Threads as ThreadsLane, Timers as TimersLane};
-ghost use Rattle.nt_acts.specs.Acts.{StandFits};
+ghost use Rattle.nt_event.specs.Acts.{StandFits};
 ghost use Rattle.nt_states.specs.Given.{RunsOwn};
 ghost use Rattle.nt_states.specs.Reads.{AreHeld, reply_lanes};
 

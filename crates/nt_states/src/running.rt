@@ -3,7 +3,7 @@ ghost use Rattle.std.specs.Prelude.{◌≡◌, IsSome, IsTrue, Some};
 ghost use Rattle.nt_event.specs.Routines as routines;
 ghost use Rattle.nt_event.specs.Script.{has_thread};
 ghost use Rattle.nt_event.specs.declared.jobs.Lane.TheVariants.{Threads as ThreadsLane};
-ghost use Rattle.nt_acts.specs.Acts.{StandFits};
+ghost use Rattle.nt_event.specs.Acts.{StandFits};
 ghost use Rattle.nt_states.specs.Given.{RunsOwn};
 
 use crate::answers::LaneAnswers;

@@ -7,7 +7,7 @@ ghost use Rattle.nt_event.specs.Replies.{is_refused as refuses};
 ghost use Rattle.nt_event.specs.declared.events.What.TheVariants.{Call};
 ghost use Rattle.nt_event.specs.declared.jobs.Lane.{Lane};
 ghost use Rattle.nt_event.specs.declared.jobs.Lane.TheVariants.{Object as ObjectLane};
-ghost use Rattle.nt_acts.specs.Acts.{StandFits};
+ghost use Rattle.nt_event.specs.Acts.{StandFits};
 ghost use Rattle.nt_states.specs.Given.{IsGiven};
 ghost use Rattle.nt_states.specs.LaneLists.{LaneFits};
 ghost use Rattle.nt_states.specs.Reads.{AreHeld, found_lanes};

@@ -6,7 +6,7 @@ use Rattle.nt_event.specs.declared.scripts.Script.{Script}
 use Rattle.nt_event.specs.Lanes.{lane_number, what_lanes}
 use Rattle.nt_event.specs.Lists.{table, value_at}
 use Rattle.nt_event.specs.Requests.{Ask, is_ask}
-use Rattle.nt_acts.specs.Acts.{told_over}
+use Rattle.nt_event.specs.Acts.{told_over}
 use Rattle.nt_mark.specs.Names.{pass_view}
 use Rattle.nt_states.proofs.Requests.{each_asked}
 use Rattle.nt_states.specs.LaneLists.{AskFits}

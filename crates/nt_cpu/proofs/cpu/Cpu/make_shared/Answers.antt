@@ -7,8 +7,8 @@ use Rattle.nt_event.specs.Own.{Own, stand_in}
 use Rattle.nt_event.specs.Lists.{value_at}
 use Rattle.nt_event.proofs.Options.{not_true}
 use Rattle.nt_event.proofs.Tables.{length-table_from}
-use Rattle.nt_acts.specs.declared.acts.Acted.{Acted}
-use Rattle.nt_acts.specs.Acts.{IsActed, IsMet, StandFits, acted_of}
+use Rattle.nt_event.specs.declared.acts.Acted.{Acted}
+use Rattle.nt_event.specs.Acts.{IsActed, IsMet, StandFits, acted_of}
 use Rattle.nt_floor.specs.Views.{IsMoved}
 use Rattle.nt_frame.specs.Nesting.{AreNamedBelow}
 use Rattle.nt_frame.proofs.Below.{below_more}

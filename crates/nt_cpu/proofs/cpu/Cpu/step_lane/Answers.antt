@@ -4,7 +4,7 @@ use Rattle.nt_event.specs.declared.jobs.Task.TheVariants.{Shared}
 use Rattle.nt_event.specs.Jobs.{chosen_task}
 use Rattle.nt_event.specs.Own.{stand_in}
 use Rattle.nt_event.proofs.Options.{holds_at}
-use Rattle.nt_acts.specs.declared.acts.ActRefusal.{ActRefusal}
+use Rattle.nt_event.specs.declared.acts.ActRefusal.{ActRefusal}
 use Rattle.nt_cpu.specs.GoodTasks.{GoodTask}
 use Rattle.nt_cpu.specs.States.{CpuState}
 use Rattle.nt_cpu.proofs.NeverIdle.{chosen_due, chosen_good, never_refused, refused_memory}

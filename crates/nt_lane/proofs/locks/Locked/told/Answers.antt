@@ -1,5 +1,5 @@
 use Rattle.nt_event.specs.declared.jobs.Lane.TheVariants.{Timers as TimersLane}
-use Rattle.nt_acts.specs.Acts.{told_over}
+use Rattle.nt_event.specs.Acts.{told_over}
 use Rattle.nt_event.proofs.Tables.{is_table}
 use Rattle.nt_lane.specs.Answers.{IsHeld}
 use Rattle.nt_lane.specs.Locks.{states_of, told_in}

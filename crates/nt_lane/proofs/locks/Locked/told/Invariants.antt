@@ -1,6 +1,6 @@
 use Rattle.std.proofs.Common.{drop, length, max, ℕ, ◌<◌, ◌≡◌}
 use Rattle.nt_event.specs.Lists.{value_at}
-use Rattle.nt_acts.specs.Acts.{told_over}
+use Rattle.nt_event.specs.Acts.{told_over}
 use Rattle.nt_lane.specs.Answers.{IsHeld}
 use Rattle.nt_lane.specs.Locks.{states_of, told_in}
 use Rattle.nt_states.specs.Reads.{AreHeld}

@@ -1,6 +1,6 @@
 use Rattle.std.proofs.Common.{refl}
 use Rattle.nt_event.specs.declared.events.Rises.{Rises}
-use Rattle.nt_acts.specs.Acts.{acted_of}
+use Rattle.nt_event.specs.Acts.{acted_of}
 use Rattle.nt_plain.specs.Made.{found_of, told_values}
 use Rattle.nt_plain.proofs.Acts.{is_acted, is_moved, is_told}
 use Rattle.nt_plain.proofs.floor.PlainFloorFloor.act.Goals as goal

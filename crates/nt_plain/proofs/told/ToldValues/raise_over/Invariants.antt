@@ -1,6 +1,6 @@
 use Rattle.std.proofs.Common.{drop, false, max, ℕ, ◌<◌, ◌≡◌}
 use Rattle.nt_event.specs.Lists.{value_at}
-use Rattle.nt_acts.specs.Acts.{told_over}
+use Rattle.nt_event.specs.Acts.{told_over}
 use Rattle.nt_floor.specs.Seen.{SameInterrupts}
 use Rattle.nt_plain.specs.Places.{row_value}
 use Rattle.nt_plain.proofs.told.ToldValues.raise_over.Given as goal

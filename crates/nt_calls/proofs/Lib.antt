@@ -1,5 +1,0 @@
-pub mod Counts
-pub mod Says
-pub mod Frames
-pub mod Apcs
-pub mod Threads

@@ -1,5 +1,0 @@
-use Rattle.nt_calls.proofs.Frames.{frames_are_calls}
-use Rattle.nt_calls.proofs.frames_are_calls.Goals as goal
-
-pub returns : goal.returns
-returns c = frames_are_calls

@@ -1,4 +1,0 @@
-pub mod Upward
-pub mod Touching
-pub mod Pieced
-pub mod PieceItems

@@ -1,0 +1,10 @@
+pub mod Commands
+pub mod Replays
+pub mod Frames
+pub mod Apcs
+pub mod Threads
+pub mod Flags
+pub mod Waits
+pub mod Again
+pub mod Steps
+pub mod LanePieces

@@ -1,5 +1,0 @@
-use Rattle.nt_refused.proofs.Commands.{refused_takes_place}
-use Rattle.nt_refused.proofs.a_refused_command_takes_its_place_alone.Goals as goal
-
-pub returns : goal.returns
-returns c = refused_takes_place

@@ -1,5 +1,0 @@
-use Rattle.nt_refused.proofs.Replays.{replays_refused}
-use Rattle.nt_refused.proofs.a_replay_is_refused_at_its_first_refused_turn.Goals as goal
-
-pub returns : goal.returns
-returns c = replays_refused

@@ -1,5 +1,0 @@
-use Rattle.nt_thread_facts.proofs.AgainRun.{taken_up_where_interrupted}
-use Rattle.nt_thread_facts.proofs.waits_are_taken_up_where_interrupted.Goals as goal
-
-pub returns : goal.returns
-returns c = taken_up_where_interrupted

@@ -1,6 +1,0 @@
-use Rattle.std.proofs.Common.{ap, arith, length}
-use Rattle.nt_turns.proofs.Lists.{as_many}
-use Rattle.nt_turns.proofs.turns.Turns.len.Goals as goal
-
-pub returns : goal.returns
-returns c = omega (arith, as_many c.self.inside.kept.items c.self.inside.looks c.self.invariant, ap length c.self.view_is)
