@@ -5,11 +5,11 @@ use Rattle.nt_event.specs.declared.events.ScheduleKind.{ScheduleKind}
 use Rattle.nt_event.specs.declared.events.ScheduleKind.TheVariants.{NoSuchCpu}
 use Rattle.nt_event.specs.declared.events.Turn.{Turn}
 use Rattle.nt_event.specs.declared.events.What.{What}
-use Rattle.nt_event.specs.declared.events.What.TheVariants as what
 use Rattle.nt_event.specs.declared.scripts.Script.{Script}
 use Rattle.nt_event.specs.Lanes.{lanes_at}
 use Rattle.nt_event.specs.Own.{own_of}
 use Rattle.nt_event.specs.Step.{IsRun, cpu_at, refused_if, turn_of, uncut_step}
+use Rattle.nt_event.specs.Families.{in_look}
 
 -- what the turn gives after this past where no processor is cut
 abbrev pub free_step : Script → Turn → List Event → Result Event ScheduleKind
@@ -23,20 +23,7 @@ IsFreeStep s e past = free_step s (turn_of e) past ≡ Ok e
 
 -- a Look has at most 16 values, one for each class; in the code that is a fact of its type
 abbrev pub LookIsShort : What → Type 0
-LookIsShort (what.Look r) = length r.value ≤ 16
-LookIsShort (what.Call f c y) = Unit {0}
-LookIsShort (what.Begin b from) = Unit {0}
-LookIsShort (what.Normal f) = Unit {0}
-LookIsShort (what.End f) = Unit {0}
-LookIsShort (what.Expire key from) = Unit {0}
-LookIsShort (what.Fire d y) = Unit {0}
-LookIsShort (what.Clean class) = Unit {0}
-LookIsShort (what.Switch t status) = Unit {0}
-LookIsShort (what.Rewait f y) = Unit {0}
-LookIsShort (what.Flush a from) = Unit {0}
-LookIsShort (what.Gone t) = Unit {0}
-LookIsShort (what.Free f k) = Unit {0}
-LookIsShort what.Rest = Unit {0}
+LookIsShort w = in_look (λ r. length r.value ≤ 16) (Unit {0}) w
 
 -- the event may come after this past
 abbrev pub MayCome : Script → Event → List Event → Type 0

@@ -2,9 +2,7 @@
 use Rattle.std.specs.Prelude.{Bool, IfSome, List, None, Option, Some, [], false, if◌then◌else◌, max, not, option_map, true, ℕ, ◌&&◌, ◌+◌, ◌<◌, ◌==◌, ◌||◌, ◌∷◌, ◌≡◌}
 use Rattle.nt_event.specs.declared.commands.ApcKind.TheVariants.{User as UserApc}
 use Rattle.nt_event.specs.declared.commands.Command.{Command}
-use Rattle.nt_event.specs.declared.commands.Command.TheVariants as cmd
 use Rattle.nt_event.specs.declared.commands.Reply.{Reply}
-use Rattle.nt_event.specs.declared.commands.Reply.TheVariants.{Done}
 use Rattle.nt_event.specs.declared.events.Begun.TheVariants.{Apc, Dpc, Int, Threaded}
 use Rattle.nt_event.specs.declared.events.What.{What}
 use Rattle.nt_event.specs.declared.events.What.TheVariants.{Begin, Call, Clean, End, Expire, Fire, Flush, Free, Gone, Look, Normal, Rest, Rewait, Switch}
@@ -26,6 +24,8 @@ use Rattle.nt_cpu.specs.declared.alone.Asked.{Asked}
 use Rattle.nt_cpu.specs.Fits.{Allow}
 use Rattle.nt_cpu.specs.Leaves.{own_with}
 use Rattle.nt_cpu.specs.States.{CpuState}
+use Rattle.nt_event.specs.Families.{AdvanceTime, CritEntered, CritLeft, EnterUser, GuardEntered, GuardLeft, LevelCall, LowerTo, PlainCall, RaiseTo, RegionCall, RequestAt, WriteNote, by_level_call, by_plain_call, by_region_call}
+use Rattle.nt_event.specs.Classes.{apc_class}
 
 -- the end of the frame touches no lane: it is neither a base nor a user APC
 abbrev pub ends_alone : Option Body → Bool
@@ -54,36 +54,13 @@ is_alone b (Gone t) = false
 is_alone b (Free f k) = false
 is_alone b Rest = false
 
+abbrev pub level_given : LevelCall → ℕ
+level_given (RaiseTo level) = level
+level_given (LowerTo level) = level
+
 -- the processor's level after it
 abbrev pub call_level : Command → Reply → ℕ → ℕ
-call_level (cmd.Raise level) Done old = level
-call_level (cmd.Lower level) Done old = level
-call_level (cmd.Raise level) y old = old
-call_level (cmd.Lower level) y old = old
-call_level (cmd.Queue d) y old = old
-call_level (cmd.Unqueue d) y old = old
-call_level (cmd.SetImportance d i) y old = old
-call_level (cmd.SetTarget d q) y old = old
-call_level (cmd.SetTimer t due period) y old = old
-call_level (cmd.CancelTimer t) y old = old
-call_level (cmd.InsertApc a) y old = old
-call_level (cmd.RemoveApc a) y old = old
-call_level cmd.EnterCrit y old = old
-call_level cmd.EnterGuard y old = old
-call_level cmd.LeaveCrit y old = old
-call_level cmd.LeaveGuard y old = old
-call_level (cmd.StartWait m a) y old = old
-call_level (cmd.Delay m a units) y old = old
-call_level (cmd.Release t) y old = old
-call_level (cmd.Alert t m) y old = old
-call_level (cmd.TestAlert m) y old = old
-call_level (cmd.Interrupt q level) y old = old
-call_level (cmd.Clock units) y old = old
-call_level cmd.ToUser y old = old
-call_level cmd.Yield y old = old
-call_level (cmd.Acquire k) y old = old
-call_level (cmd.Unlock k) y old = old
-call_level (cmd.Note k) y old = old
+call_level c y old = by_level_call (λ k. if is_done y then level_given k else old) old c
 
 abbrev pub alone_level : What → Frames → ℕ
 alone_level (Call f c y) x = call_level c y (level_in x)
@@ -110,36 +87,21 @@ abbrev pub ask_when : Bool → CpuNo → ℕ → Option Asked
 ask_when true p c = Some (record { cpu = p; class = c })
 ask_when false p c = None
 
+abbrev pub region_ask : Stand → RegionCall → Option Asked
+region_ask st CritLeft = ask_when (st.regions.crit == 1) st.cpu apc_class
+region_ask st GuardLeft = ask_when (st.regions.guard == 1) st.cpu apc_class
+region_ask st CritEntered = None
+region_ask st GuardEntered = None
+
+abbrev pub plain_ask : PlainCall → Option Asked
+plain_ask (RequestAt q level) = Some (record { cpu = q; class = level })
+plain_ask (AdvanceTime units) = None
+plain_ask EnterUser = None
+plain_ask (WriteNote n) = None
+
 abbrev pub call_asks : Stand → Command → Reply → Option Asked
-call_asks st cmd.LeaveCrit Done = ask_when (st.regions.crit == 1) st.cpu 1
-call_asks st cmd.LeaveGuard Done = ask_when (st.regions.guard == 1) st.cpu 1
-call_asks st (cmd.Interrupt q level) Done = Some (record { cpu = q; class = level })
-call_asks st (cmd.Raise level) y = None
-call_asks st (cmd.Lower level) y = None
-call_asks st (cmd.Queue d) y = None
-call_asks st (cmd.Unqueue d) y = None
-call_asks st (cmd.SetImportance d i) y = None
-call_asks st (cmd.SetTarget d q) y = None
-call_asks st (cmd.SetTimer t due period) y = None
-call_asks st (cmd.CancelTimer t) y = None
-call_asks st (cmd.InsertApc a) y = None
-call_asks st (cmd.RemoveApc a) y = None
-call_asks st cmd.EnterCrit y = None
-call_asks st cmd.EnterGuard y = None
-call_asks st cmd.LeaveCrit y = None
-call_asks st cmd.LeaveGuard y = None
-call_asks st (cmd.StartWait m b) y = None
-call_asks st (cmd.Delay m b units) y = None
-call_asks st (cmd.Release t) y = None
-call_asks st (cmd.Alert t m) y = None
-call_asks st (cmd.TestAlert m) y = None
-call_asks st (cmd.Interrupt q level) y = None
-call_asks st (cmd.Clock units) y = None
-call_asks st cmd.ToUser y = None
-call_asks st cmd.Yield y = None
-call_asks st (cmd.Acquire k) y = None
-call_asks st (cmd.Unlock k) y = None
-call_asks st (cmd.Note k) y = None
+call_asks st c y =
+    if is_done y then by_region_call (λ k. region_ask st k) (by_plain_call (λ k. plain_ask k) None c) c else None
 
 abbrev pub is_normal_end : Option Body → Bool
 is_normal_end (Some b) = is_normal_apc_body b

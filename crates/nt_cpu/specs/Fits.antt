@@ -1,7 +1,6 @@
 -- Which events the frames of a processor allow.
 use Rattle.std.specs.Prelude.{Bool, IsTrue, None, Some, [], false, is_none, length, nat_lt, true, ℕ, ◌&&◌, ◌<◌, ◌||◌, ◌≡◌}
 use Rattle.nt_event.specs.declared.commands.Command.{Command}
-use Rattle.nt_event.specs.declared.commands.Command.TheVariants.{Acquire, Alert, CancelTimer, Clock, Delay, EnterCrit, EnterGuard, InsertApc, Interrupt, LeaveCrit, LeaveGuard, Lower, Note, Queue, Raise, Release, RemoveApc, SetImportance, SetTarget, SetTimer, StartWait, TestAlert, ToUser, Unlock, Unqueue, Yield}
 use Rattle.nt_event.specs.declared.commands.Reply.{Reply}
 use Rattle.nt_event.specs.declared.commands.Reply.TheVariants.{Blocked, Done, No, Refused, Spin, Status, Yes}
 use Rattle.nt_event.specs.declared.events.Begun.{Begun}
@@ -16,6 +15,7 @@ use Rattle.nt_event.specs.Frames.{Frames, innermost}
 use Rattle.nt_event.specs.Routines.{kind_of}
 use Rattle.nt_event.specs.Replies.{is_done, is_refused, is_spin}
 use Rattle.nt_frame.specs.Rules.{is_leaving, may_begin, may_go_on, refusal_in}
+use Rattle.nt_event.specs.Families.{AcquireLock, DelaysIn, Family, ForApc, ForDpc, ForLevel, ForLock, ForOwn, ForPlain, ForRegion, ForThread, ForTimer, GivesWay, LockCall, OwnCall, TestsAlert, UnlockLock, WaitsIn, by_lock_call, family}
 
 -- what a Begin begins
 abbrev pub body_of : Script → Begun → Body
@@ -48,67 +48,42 @@ goes_on (Refused why) = true
 abbrev pub is_try_reply : Reply → Bool
 is_try_reply y = is_done y || is_spin y
 
+abbrev pub own_may_reply : OwnCall → Reply → Bool
+own_may_reply (WaitsIn m a) y = is_wait_reply y
+own_may_reply (DelaysIn m a units) y = is_wait_reply y
+own_may_reply (TestsAlert m) y = goes_on y
+own_may_reply GivesWay y = is_done y
+
+abbrev pub lock_may_reply : LockCall → Reply → Bool
+lock_may_reply (AcquireLock k) y = is_try_reply y
+lock_may_reply (UnlockLock k) y = is_done y
+
+abbrev pub family_may_reply : Family → Reply → Bool
+family_may_reply (ForLevel k) y = is_done y
+family_may_reply (ForRegion k) y = is_done y
+family_may_reply (ForOwn k) y = own_may_reply k y
+family_may_reply (ForLock k) y = lock_may_reply k y
+family_may_reply (ForDpc k) y = goes_on y
+family_may_reply (ForTimer k) y = goes_on y
+family_may_reply (ForApc k) y = goes_on y
+family_may_reply (ForThread k) y = goes_on y
+family_may_reply (ForPlain k) y = goes_on y
+
 -- what a command that isn't refused may reply
 abbrev pub may_reply : Command → Reply → Bool
-may_reply (Raise level) y = is_done y
-may_reply (Lower level) y = is_done y
-may_reply EnterCrit y = is_done y
-may_reply EnterGuard y = is_done y
-may_reply LeaveCrit y = is_done y
-may_reply LeaveGuard y = is_done y
-may_reply Yield y = is_done y
-may_reply (StartWait m a) y = is_wait_reply y
-may_reply (Delay m a units) y = is_wait_reply y
-may_reply (Interrupt q level) y = goes_on y
-may_reply (Note n) y = goes_on y
-may_reply (Queue d) y = goes_on y
-may_reply (Unqueue d) y = goes_on y
-may_reply (SetImportance d i) y = goes_on y
-may_reply (SetTarget d q) y = goes_on y
-may_reply (SetTimer t due period) y = goes_on y
-may_reply (CancelTimer t) y = goes_on y
-may_reply (InsertApc a) y = goes_on y
-may_reply (RemoveApc a) y = goes_on y
-may_reply (Release t) y = goes_on y
-may_reply (Alert t m) y = goes_on y
-may_reply (TestAlert m) y = goes_on y
-may_reply (Clock units) y = goes_on y
-may_reply ToUser y = goes_on y
-may_reply (Acquire k) y = is_try_reply y
-may_reply (Unlock k) y = is_done y
+may_reply c y = family_may_reply (family c) y
 
 -- the command may be called with this reply
 abbrev pub may_call : Command → Reply → Frames → Bool
 may_call c y x = is_refused y || (is_none (refusal_in c x) && may_reply c y)
 
+abbrev pub acquired_below : ℕ → LockCall → Bool
+acquired_below m (AcquireLock k) = nat_lt k.0 m
+acquired_below m (UnlockLock k) = true
+
 -- a lock that the command acquires is below this number
 abbrev pub lock_below : ℕ → Command → Bool
-lock_below m (Acquire k) = nat_lt k.0 m
-lock_below m (Raise level) = true
-lock_below m (Lower level) = true
-lock_below m EnterCrit = true
-lock_below m EnterGuard = true
-lock_below m LeaveCrit = true
-lock_below m LeaveGuard = true
-lock_below m Yield = true
-lock_below m (StartWait mode a) = true
-lock_below m (Delay mode a units) = true
-lock_below m (Interrupt q level) = true
-lock_below m (Note n) = true
-lock_below m (Queue d) = true
-lock_below m (Unqueue d) = true
-lock_below m (SetImportance d i) = true
-lock_below m (SetTarget d q) = true
-lock_below m (SetTimer t due period) = true
-lock_below m (CancelTimer t) = true
-lock_below m (InsertApc a) = true
-lock_below m (RemoveApc a) = true
-lock_below m (Release t) = true
-lock_below m (Alert t mode) = true
-lock_below m (TestAlert mode) = true
-lock_below m (Clock units) = true
-lock_below m ToUser = true
-lock_below m (Unlock k) = true
+lock_below m c = by_lock_call (λ k. acquired_below m k) true c
 
 -- the innermost frame has this name
 pub record IsAt (n : ℕ) (x : Frames) : Type 0 where

@@ -2,15 +2,6 @@
 use Rattle.std.specs.Prelude.{Bool, IfSome, IsTrue, None, Option, Some, false, if◌then◌else◌, option_map, set, true, ℕ}
 use Rattle.std.specs.Prelude.{◌≡◌}
 use Rattle.nt_event.specs.declared.commands.Command.{Command}
-use Rattle.nt_event.specs.declared.commands.Command.TheVariants.{Acquire, Alert, CancelTimer, Clock, Delay, EnterCrit}
-use Rattle.nt_event.specs.declared.commands.Command.TheVariants.{EnterGuard}
-use Rattle.nt_event.specs.declared.commands.Command.TheVariants.{InsertApc, Interrupt, LeaveCrit, LeaveGuard, Lower}
-use Rattle.nt_event.specs.declared.commands.Command.TheVariants.{Note, Queue}
-use Rattle.nt_event.specs.declared.commands.Command.TheVariants.{Raise, Release, RemoveApc}
-use Rattle.nt_event.specs.declared.commands.Command.TheVariants.{SetImportance as SetImportanceCall}
-use Rattle.nt_event.specs.declared.commands.Command.TheVariants.{SetTarget as SetTargetCall, SetTimer, StartWait}
-use Rattle.nt_event.specs.declared.commands.Command.TheVariants.{TestAlert, ToUser}
-use Rattle.nt_event.specs.declared.commands.Command.TheVariants.{Unlock, Unqueue, Yield}
 use Rattle.nt_event.specs.declared.commands.Reply.{Reply}
 use Rattle.nt_event.specs.declared.events.Begun.{Begun}
 use Rattle.nt_event.specs.declared.events.Begun.TheVariants.{Apc, Dpc, Int, Threaded}
@@ -31,38 +22,20 @@ use Rattle.nt_dpc_lanes.specs.declared.changes.Change.{Change}
 use Rattle.nt_dpc_lanes.specs.declared.changes.Change.TheVariants.{Insert, Nothing, Remove, Rest, Run, SetImportance}
 use Rattle.nt_dpc_lanes.specs.declared.changes.Change.TheVariants.{SetTarget, Take}
 use Rattle.nt_states.specs.DpcLanes.{DpcLanes, queue_in}
+use Rattle.nt_event.specs.Families.{DpcCall, GiveImportance, GiveTarget, InsertDpc, RemoveDpc, by_dpc_call}
 
 -- the change where the test holds, else none
 abbrev pub change_where : Bool → Change → Change
 change_where holds c = if holds then c else Nothing
 
+abbrev pub dpc_change : DpcCall → Reply → Change
+dpc_change (InsertDpc d) y = change_where (is_yes y) (Insert d)
+dpc_change (RemoveDpc d) y = change_where (is_yes y) (Remove d)
+dpc_change (GiveImportance d i) y = change_where (is_done y) (SetImportance d i)
+dpc_change (GiveTarget d t) y = change_where (is_done y) (SetTarget d t)
+
 abbrev pub call_change : Command → Reply → Change
-call_change (Queue d) y = change_where (is_yes y) (Insert d)
-call_change (Unqueue d) y = change_where (is_yes y) (Remove d)
-call_change (SetImportanceCall d i) y = change_where (is_done y) (SetImportance d i)
-call_change (SetTargetCall d t) y = change_where (is_done y) (SetTarget d t)
-call_change (Raise l) y = Nothing
-call_change (Lower l) y = Nothing
-call_change (SetTimer t due period) y = Nothing
-call_change (CancelTimer t) y = Nothing
-call_change (InsertApc a) y = Nothing
-call_change (RemoveApc a) y = Nothing
-call_change EnterCrit y = Nothing
-call_change EnterGuard y = Nothing
-call_change LeaveCrit y = Nothing
-call_change LeaveGuard y = Nothing
-call_change (StartWait m a) y = Nothing
-call_change (Delay m a units) y = Nothing
-call_change (Release t) y = Nothing
-call_change (Alert t m) y = Nothing
-call_change (TestAlert m) y = Nothing
-call_change (Interrupt p l) y = Nothing
-call_change (Clock units) y = Nothing
-call_change ToUser y = Nothing
-call_change Yield y = Nothing
-call_change (Acquire k) y = Nothing
-call_change (Unlock k) y = Nothing
-call_change (Note n) y = Nothing
+call_change c y = by_dpc_call (λ k. dpc_change k y) Nothing c
 
 abbrev pub begin_change : Begun → Change
 begin_change (Dpc d) = Take OrdinaryPart d

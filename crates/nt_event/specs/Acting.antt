@@ -2,7 +2,6 @@
 -- and what holds of a processor and a job in a run.
 use Rattle.std.specs.Prelude.{Bool, IfSome, IsSome, IsTrue, Some, false, if◌then◌else◌, length, true, ℕ, ◌<◌, ◌≡◌, ◌≤◌, ◌⊎◌}
 use Rattle.nt_event.specs.declared.commands.Command.{Command}
-use Rattle.nt_event.specs.declared.commands.Command.TheVariants as cmd
 use Rattle.nt_event.specs.declared.events.Begun.TheVariants as begun
 use Rattle.nt_event.specs.declared.events.Event.{Event}
 use Rattle.nt_event.specs.declared.events.What.{What}
@@ -25,6 +24,7 @@ use Rattle.nt_event.specs.Routines.{cpu_of}
 use Rattle.nt_event.specs.Step.{thread_field}
 use Rattle.nt_event.specs.Threads.{doing_level}
 use Rattle.nt_event.specs.Replies.{is_blocked}
+use Rattle.nt_event.specs.Families.{DelaysIn, GivesWay, OwnCall, TestsAlert, WaitsIn, by_own_call}
 
 -- ---- the event
 
@@ -87,34 +87,15 @@ pub record TakesUp (st : Stand) : Type 0 where
   pub level : st.level ≤ 1
   pub wait : IsSome st.again
 
+abbrev pub OwnIsCallable : Stand → OwnCall → Type 0
+OwnIsCallable st (WaitsIn m a) = InThread 1 st
+OwnIsCallable st (DelaysIn m a units) = InThread 1 st
+OwnIsCallable st (TestsAlert m) = InThread 2 st
+OwnIsCallable st GivesWay = InThread 1 st
+
 -- a command that is called under lanes: a wait, a delay, a test of an alert or a yield is called in a thread
 abbrev pub IsCallable : Stand → Command → Type 0
-IsCallable st (cmd.StartWait m a) = InThread 1 st
-IsCallable st (cmd.Delay m a units) = InThread 1 st
-IsCallable st (cmd.TestAlert m) = InThread 2 st
-IsCallable st cmd.Yield = InThread 1 st
-IsCallable st (cmd.Raise level) = Unit {0}
-IsCallable st (cmd.Lower level) = Unit {0}
-IsCallable st (cmd.Queue d) = Unit {0}
-IsCallable st (cmd.Unqueue d) = Unit {0}
-IsCallable st (cmd.SetImportance d i) = Unit {0}
-IsCallable st (cmd.SetTarget d q) = Unit {0}
-IsCallable st (cmd.SetTimer t due period) = Unit {0}
-IsCallable st (cmd.CancelTimer t) = Unit {0}
-IsCallable st (cmd.InsertApc a) = Unit {0}
-IsCallable st (cmd.RemoveApc a) = Unit {0}
-IsCallable st cmd.EnterCrit = Unit {0}
-IsCallable st cmd.EnterGuard = Unit {0}
-IsCallable st cmd.LeaveCrit = Unit {0}
-IsCallable st cmd.LeaveGuard = Unit {0}
-IsCallable st (cmd.Release t) = Unit {0}
-IsCallable st (cmd.Alert t m) = Unit {0}
-IsCallable st (cmd.Interrupt q level) = Unit {0}
-IsCallable st (cmd.Clock units) = Unit {0}
-IsCallable st cmd.ToUser = Unit {0}
-IsCallable st (cmd.Acquire k) = Unit {0}
-IsCallable st (cmd.Unlock k) = Unit {0}
-IsCallable st (cmd.Note n) = Unit {0}
+IsCallable st c = by_own_call (λ k. OwnIsCallable st k) (Unit {0}) c
 
 abbrev pub IsAllowed : Lanes → Stand → Job → Type 0
 IsAllowed l st (jobs.Call c) = IsTrue (needs_lane c) × IsCallable st c

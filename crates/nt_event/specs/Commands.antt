@@ -24,6 +24,7 @@ use Rattle.nt_event.specs.Threads.{ends_by_release, is_alerted, is_gone}
 use Rattle.nt_event.specs.Timers.{is_set_timer}
 use Rattle.nt_event.specs.Waits.{wait_reply}
 use Rattle.nt_event.specs.Replies.{yes_if}
+use Rattle.nt_event.specs.Families.{AdvanceTime, EnterUser, Family, ForApc, ForDpc, ForLevel, ForLock, ForOwn, ForPlain, ForRegion, ForThread, ForTimer, PlainCall, RequestAt, WriteNote, family}
 
 -- the first test that fails
 abbrev pub refuse : Bool → Refusal → Option Refusal → Option Refusal
@@ -110,31 +111,23 @@ reply s st l (cmd.Acquire k) = if is_none (lock_at l k).holder then Done else Sp
 reply s st l (cmd.Unlock k) = Done
 reply s st l (cmd.Note n) = Done
 
+abbrev pub plain_needs : PlainCall → Bool
+plain_needs (RequestAt q level) = false
+plain_needs (WriteNote n) = false
+plain_needs (AdvanceTime units) = true
+plain_needs EnterUser = true
+
+abbrev pub family_needs : Family → Bool
+family_needs (ForLevel k) = false
+family_needs (ForRegion k) = false
+family_needs (ForDpc k) = true
+family_needs (ForTimer k) = true
+family_needs (ForApc k) = true
+family_needs (ForOwn k) = true
+family_needs (ForThread k) = true
+family_needs (ForLock k) = true
+family_needs (ForPlain k) = plain_needs k
+
 -- the command touches a lane where it isn't refused
 abbrev pub needs_lane : Command → Bool
-needs_lane (cmd.Raise level) = false
-needs_lane (cmd.Lower level) = false
-needs_lane cmd.EnterCrit = false
-needs_lane cmd.EnterGuard = false
-needs_lane cmd.LeaveCrit = false
-needs_lane cmd.LeaveGuard = false
-needs_lane (cmd.Interrupt p level) = false
-needs_lane (cmd.Note n) = false
-needs_lane (cmd.Queue d) = true
-needs_lane (cmd.Unqueue d) = true
-needs_lane (cmd.SetImportance d i) = true
-needs_lane (cmd.SetTarget d q) = true
-needs_lane (cmd.SetTimer t due period) = true
-needs_lane (cmd.CancelTimer t) = true
-needs_lane (cmd.InsertApc a) = true
-needs_lane (cmd.RemoveApc a) = true
-needs_lane (cmd.StartWait m a) = true
-needs_lane (cmd.Delay m a units) = true
-needs_lane (cmd.Release t) = true
-needs_lane (cmd.Alert t m) = true
-needs_lane (cmd.TestAlert m) = true
-needs_lane (cmd.Clock units) = true
-needs_lane cmd.ToUser = true
-needs_lane cmd.Yield = true
-needs_lane (cmd.Acquire k) = true
-needs_lane (cmd.Unlock k) = true
+needs_lane c = family_needs (family c)

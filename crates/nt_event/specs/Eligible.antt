@@ -13,7 +13,6 @@ use Rattle.nt_event.specs.declared.events.Begun.{Begun}
 use Rattle.nt_event.specs.declared.events.Begun.TheVariants as begun
 use Rattle.nt_event.specs.declared.events.Event.{Event}
 use Rattle.nt_event.specs.declared.events.What.{What}
-use Rattle.nt_event.specs.declared.events.What.TheVariants as what
 use Rattle.nt_event.specs.Frame.{Frame}
 use Rattle.nt_event.specs.declared.inserts.Part.{Part}
 use Rattle.nt_event.specs.declared.inserts.Part.TheVariants.{Ordinary as OrdinaryPart, Threaded as ThreadedPart}
@@ -34,6 +33,7 @@ use Rattle.nt_event.specs.Regions.{regions_of}
 use Rattle.nt_event.specs.Routines.{kind_of, next_command}
 use Rattle.nt_event.specs.Timers.{first_due}
 use Rattle.nt_event.specs.Lists.{is_null}
+use Rattle.nt_event.specs.Families.{in_begin, in_expiry, in_flush}
 
 pub data Request : Type 0 where
   IntRequest : ℕ → Request
@@ -107,17 +107,6 @@ begun_request s (begun.Threaded d) = ThreadedRequest d
 begun_request s (begun.Apc a) = apc_request (kind_of s a) a
 
 abbrev pub request_of : Script → What → Option Request
-request_of s (what.Begin b from) = Some (begun_request s b)
-request_of s (what.Expire key from) = Some (ExpiryRequest key)
-request_of s (what.Flush a from) = Some (FlushRequest a)
-request_of s (what.Call f c y) = None
-request_of s (what.Look r) = None
-request_of s (what.Normal f) = None
-request_of s (what.End f) = None
-request_of s (what.Fire d y) = None
-request_of s (what.Clean class) = None
-request_of s (what.Switch t status) = None
-request_of s (what.Rewait f y) = None
-request_of s (what.Gone t) = None
-request_of s (what.Free f k) = None
-request_of s what.Rest = None
+request_of s w =
+    in_begin (λ b from. Some (begun_request s b))
+    (in_expiry (λ key from. Some (ExpiryRequest key)) (in_flush (λ a from. Some (FlushRequest a)) None w) w) w

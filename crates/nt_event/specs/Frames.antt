@@ -4,7 +4,6 @@ use Rattle.std.specs.Option.{option_map_or, option_or}
 use Rattle.std.specs.Prelude.{Bool, List, None, Option, Some, [], false, get_or, if◌then◌else◌, length, not, true, ℕ, ◌&&◌, ◌+◌, ◌-◌, ◌==◌, ◌∷◌}
 use Rattle.nt_event.specs.declared.commands.ApcKind.TheVariants.{Normal as NormalApc, User as UserApc}
 use Rattle.nt_event.specs.declared.commands.Command.{Command}
-use Rattle.nt_event.specs.declared.commands.Command.TheVariants as cmd
 use Rattle.nt_event.specs.declared.commands.Reply.{Reply}
 use Rattle.nt_event.specs.declared.commands.Reply.TheVariants.{Blocked, Done, No, Refused, Spin, Status, Yes}
 use Rattle.nt_event.specs.declared.events.Begun.{Begun}
@@ -28,6 +27,7 @@ use Rattle.nt_event.specs.Locks.{Frees, Gets, LockMove, NoMove, Spins, call_move
 use Rattle.nt_event.specs.Lists.{head_of, is_null, table, tail_of}
 use Rattle.nt_event.specs.Replies.{is_blocked, is_done, is_spin, kernel_apc}
 use Rattle.nt_event.specs.Numbers.{is_by, is_of, thread}
+use Rattle.nt_event.specs.Families.{AdvanceTime, CritEntered, CritLeft, DelaysIn, EnterUser, GivesWay, GuardEntered, GuardLeft, LevelCall, LowerTo, OwnCall, PlainCall, RaiseTo, RegionCall, RequestAt, TestsAlert, WaitsIn, WriteNote, by_level_call, by_own_call, by_plain_call, by_region_call, in_call}
 
 -- a new interrupt runs at its own level, a DPC at DISPATCH_LEVEL, an APC's kernel routine at APC_LEVEL, the others at
 -- PASSIVE_LEVEL (driver documentation, "Managing Hardware Priorities")
@@ -143,34 +143,19 @@ held_moved NoMove f = f.held
 abbrev pub freed : Frame → Frame
 freed f = record f { level = freed_level f; held = tail_of f.held }
 
+abbrev pub level_done : LevelCall → Frame → Frame
+level_done (RaiseTo level) f = record f { level = level }
+level_done (LowerTo level) f = record f { level = level }
+
+abbrev pub region_done : RegionCall → Frame → Frame
+region_done CritEntered f = record f { crit = f.crit + 1 }
+region_done GuardEntered f = record f { guard = f.guard + 1 }
+region_done CritLeft f = record f { crit = f.crit - 1 }
+region_done GuardLeft f = record f { guard = f.guard - 1 }
+
 -- what an accepted command without a reply does to its frame
 abbrev pub done_to : Command → Frame → Frame
-done_to (cmd.Raise level) f = record f { level = level }
-done_to (cmd.Lower level) f = record f { level = level }
-done_to cmd.EnterCrit f = record f { crit = f.crit + 1 }
-done_to cmd.EnterGuard f = record f { guard = f.guard + 1 }
-done_to cmd.LeaveCrit f = record f { crit = f.crit - 1 }
-done_to cmd.LeaveGuard f = record f { guard = f.guard - 1 }
-done_to (cmd.Queue d) f = f
-done_to (cmd.Unqueue d) f = f
-done_to (cmd.SetImportance d i) f = f
-done_to (cmd.SetTarget d q) f = f
-done_to (cmd.SetTimer t due period) f = f
-done_to (cmd.CancelTimer t) f = f
-done_to (cmd.InsertApc a) f = f
-done_to (cmd.RemoveApc a) f = f
-done_to (cmd.StartWait m a) f = f
-done_to (cmd.Delay m a units) f = f
-done_to (cmd.Release t) f = f
-done_to (cmd.Alert t m) f = f
-done_to (cmd.TestAlert m) f = f
-done_to (cmd.Interrupt q level) f = f
-done_to (cmd.Clock units) f = f
-done_to cmd.ToUser f = f
-done_to cmd.Yield f = f
-done_to (cmd.Acquire k) f = f
-done_to (cmd.Unlock k) f = f
-done_to (cmd.Note n) f = f
+done_to c f = by_level_call (λ k. level_done k f) (by_region_call (λ k. region_done k f) f c) c
 
 -- what a call does to its frame, beside its place and its locks: one that begins a wait may leave it to be taken up
 -- again, another one has its effect where it is done
@@ -319,94 +304,29 @@ running_after what.Rest r = r
 
 -- ---- the history's questions
 
+abbrev pub time_by : PlainCall → Reply → ℕ → ℕ
+time_by (AdvanceTime units) y now = if is_done y then now + units else now
+time_by (RequestAt q level) y now = now
+time_by EnterUser y now = now
+time_by (WriteNote n) y now = now
+
 -- the time is the sum of what `clock` advanced it by
 abbrev pub time_after : What → ℕ → ℕ
-time_after (what.Call f (cmd.Clock units) Done) now = now + units
-time_after (what.Call f (cmd.Raise level) y) now = now
-time_after (what.Call f (cmd.Lower level) y) now = now
-time_after (what.Call f (cmd.Queue d) y) now = now
-time_after (what.Call f (cmd.Unqueue d) y) now = now
-time_after (what.Call f (cmd.SetImportance d i) y) now = now
-time_after (what.Call f (cmd.SetTarget d q) y) now = now
-time_after (what.Call f (cmd.SetTimer t due period) y) now = now
-time_after (what.Call f (cmd.CancelTimer t) y) now = now
-time_after (what.Call f (cmd.InsertApc a) y) now = now
-time_after (what.Call f (cmd.RemoveApc a) y) now = now
-time_after (what.Call f cmd.EnterCrit y) now = now
-time_after (what.Call f cmd.EnterGuard y) now = now
-time_after (what.Call f cmd.LeaveCrit y) now = now
-time_after (what.Call f cmd.LeaveGuard y) now = now
-time_after (what.Call f (cmd.StartWait m a) y) now = now
-time_after (what.Call f (cmd.Delay m a units) y) now = now
-time_after (what.Call f (cmd.Release t) y) now = now
-time_after (what.Call f (cmd.Alert t m) y) now = now
-time_after (what.Call f (cmd.TestAlert m) y) now = now
-time_after (what.Call f (cmd.Interrupt q level) y) now = now
-time_after (what.Call f (cmd.Clock units) y) now = now
-time_after (what.Call f cmd.ToUser y) now = now
-time_after (what.Call f cmd.Yield y) now = now
-time_after (what.Call f (cmd.Acquire k) y) now = now
-time_after (what.Call f (cmd.Unlock k) y) now = now
-time_after (what.Call f (cmd.Note n) y) now = now
-time_after (what.Look r) now = now
-time_after (what.Begin b from) now = now
-time_after (what.Normal f) now = now
-time_after (what.End f) now = now
-time_after (what.Expire key from) now = now
-time_after (what.Fire d y) now = now
-time_after (what.Clean class) now = now
-time_after (what.Switch t status) now = now
-time_after (what.Rewait f y) now = now
-time_after (what.Flush a from) now = now
-time_after (what.Gone t) now = now
-time_after (what.Free f k) now = now
-time_after what.Rest now = now
+time_after w now = in_call (λ f c y. by_plain_call (λ k. time_by k y now) now c) now w
 
 abbrev pub time : List Event → ℕ
 time [] = 0
 time (e ∷ past) = time_after e.what (time past)
 
+abbrev pub due_by : OwnCall → ℕ → Option ℕ
+due_by (DelaysIn m a units) now = Some (now + units)
+due_by (WaitsIn m a) now = None
+due_by (TestsAlert m) now = None
+due_by GivesWay now = None
+
 -- the due time of the delay that the event calls
 abbrev pub due_of : What → ℕ → Option ℕ
-due_of (what.Call f (cmd.Delay m a units) y) now = Some (now + units)
-due_of (what.Call f (cmd.Raise level) y) now = None
-due_of (what.Call f (cmd.Lower level) y) now = None
-due_of (what.Call f (cmd.Queue d) y) now = None
-due_of (what.Call f (cmd.Unqueue d) y) now = None
-due_of (what.Call f (cmd.SetImportance d i) y) now = None
-due_of (what.Call f (cmd.SetTarget d q) y) now = None
-due_of (what.Call f (cmd.SetTimer t due period) y) now = None
-due_of (what.Call f (cmd.CancelTimer t) y) now = None
-due_of (what.Call f (cmd.InsertApc a) y) now = None
-due_of (what.Call f (cmd.RemoveApc a) y) now = None
-due_of (what.Call f cmd.EnterCrit y) now = None
-due_of (what.Call f cmd.EnterGuard y) now = None
-due_of (what.Call f cmd.LeaveCrit y) now = None
-due_of (what.Call f cmd.LeaveGuard y) now = None
-due_of (what.Call f (cmd.StartWait m a) y) now = None
-due_of (what.Call f (cmd.Release t) y) now = None
-due_of (what.Call f (cmd.Alert t m) y) now = None
-due_of (what.Call f (cmd.TestAlert m) y) now = None
-due_of (what.Call f (cmd.Interrupt q level) y) now = None
-due_of (what.Call f (cmd.Clock units) y) now = None
-due_of (what.Call f cmd.ToUser y) now = None
-due_of (what.Call f cmd.Yield y) now = None
-due_of (what.Call f (cmd.Acquire k) y) now = None
-due_of (what.Call f (cmd.Unlock k) y) now = None
-due_of (what.Call f (cmd.Note n) y) now = None
-due_of (what.Look r) now = None
-due_of (what.Begin b from) now = None
-due_of (what.Normal f) now = None
-due_of (what.End f) now = None
-due_of (what.Expire key from) now = None
-due_of (what.Fire d y) now = None
-due_of (what.Clean class) now = None
-due_of (what.Switch t status) now = None
-due_of (what.Rewait f y) now = None
-due_of (what.Flush a from) now = None
-due_of (what.Gone t) now = None
-due_of (what.Free f k) now = None
-due_of what.Rest now = None
+due_of w now = in_call (λ f c y. by_own_call (λ k. due_by k now) None c) None w
 
 -- the frames on the own part of the processor, the innermost first
 abbrev pub own_frames : CpuNo → List Event → List Frame

@@ -4,7 +4,6 @@ use Rattle.std.specs.Option.{option_map_or}
 use Rattle.std.specs.Prelude.{Bool, List, None, Option, Some, [], false, get_or, if◌then◌else◌, is_some, length, option_and_then, true, ℕ, ◌&&◌, ◌+◌, ◌==◌, ◌∷◌}
 use Rattle.nt_event.specs.declared.commands.ApcKind.TheVariants.{User as UserApc}
 use Rattle.nt_event.specs.declared.commands.Command.{Command}
-use Rattle.nt_event.specs.declared.commands.Command.TheVariants as cmd
 use Rattle.nt_event.specs.declared.commands.Reply.{Reply}
 use Rattle.nt_event.specs.declared.commands.TimerKey.{TimerKey}
 use Rattle.nt_event.specs.declared.commands.TimerKey.TheVariants as keys
@@ -36,6 +35,7 @@ use Rattle.nt_event.specs.Waits.{facts, facts_after}
 use Rattle.nt_event.specs.Numbers.{cpu, dpc, lock, thread}
 use Rattle.nt_event.specs.Replies.{is_refused, is_yes}
 use Rattle.nt_event.specs.Lists.{table}
+use Rattle.nt_event.specs.Families.{AdvanceTime, DelaysIn, DpcCall, EnterUser, Family, ForApc, ForDpc, ForLevel, ForLock, ForOwn, ForPlain, ForRegion, ForThread, ForTimer, GiveImportance, GiveTarget, GivesWay, InsertDpc, OwnCall, PlainCall, RemoveDpc, RequestAt, TestsAlert, WaitsIn, WriteNote, apc_named, family, lock_named, thread_named}
 
 pub record Lanes : Type 0 where
   pub objects : List ObjectState
@@ -134,34 +134,38 @@ abbrev pub standing_lanes : Option Standing → List Lane
 standing_lanes None = []
 standing_lanes (Some x) = QueueLane x.queue ∷ []
 
+abbrev pub dpc_lanes : CpuNo → DpcCall → Reply → Lanes → List Lane
+dpc_lanes p (InsertDpc d) y l = insert_lanes p d y l
+dpc_lanes p (RemoveDpc d) y l = ObjectLane d ∷ standing_lanes (object_at l d).standing
+dpc_lanes p (GiveImportance d i) y l = ObjectLane d ∷ []
+dpc_lanes p (GiveTarget d q) y l = ObjectLane d ∷ []
+
+abbrev pub own_lanes : CpuNo → OwnCall → List Lane
+own_lanes p (WaitsIn m a) = ThreadsLane p ∷ []
+own_lanes p (DelaysIn m a units) = ThreadsLane p ∷ TimersLane ∷ []
+own_lanes p (TestsAlert m) = ThreadsLane p ∷ []
+own_lanes p GivesWay = ThreadsLane p ∷ []
+
+abbrev pub plain_lanes : CpuNo → PlainCall → List Lane
+plain_lanes p (AdvanceTime units) = TimersLane ∷ []
+plain_lanes p EnterUser = ThreadsLane p ∷ []
+plain_lanes p (RequestAt q level) = []
+plain_lanes p (WriteNote n) = []
+
+abbrev pub family_lanes : Script → CpuNo → Family → Reply → Lanes → List Lane
+family_lanes s p (ForLevel k) y l = []
+family_lanes s p (ForDpc k) y l = dpc_lanes p k y l
+family_lanes s p (ForTimer k) y l = TimersLane ∷ []
+family_lanes s p (ForApc k) y l = ThreadsLane (cpu_of s (owner_of s (apc_named k))) ∷ []
+family_lanes s p (ForRegion k) y l = []
+family_lanes s p (ForOwn k) y l = own_lanes p k
+family_lanes s p (ForThread k) y l = ThreadsLane (cpu_of s (thread_named k)) ∷ []
+family_lanes s p (ForLock k) y l = LockLane (lock_named k) ∷ []
+family_lanes s p (ForPlain k) y l = plain_lanes p k
+
 -- the lanes of a command that isn't refused
 abbrev pub command_lanes : Script → CpuNo → Command → Reply → Lanes → List Lane
-command_lanes s p (cmd.Queue d) y l = insert_lanes p d y l
-command_lanes s p (cmd.Unqueue d) y l = ObjectLane d ∷ standing_lanes (object_at l d).standing
-command_lanes s p (cmd.SetImportance d i) y l = ObjectLane d ∷ []
-command_lanes s p (cmd.SetTarget d t) y l = ObjectLane d ∷ []
-command_lanes s p (cmd.SetTimer t due period) y l = TimersLane ∷ []
-command_lanes s p (cmd.CancelTimer t) y l = TimersLane ∷ []
-command_lanes s p (cmd.InsertApc a) y l = ThreadsLane (cpu_of s (owner_of s a)) ∷ []
-command_lanes s p (cmd.RemoveApc a) y l = ThreadsLane (cpu_of s (owner_of s a)) ∷ []
-command_lanes s p (cmd.StartWait m a) y l = ThreadsLane p ∷ []
-command_lanes s p (cmd.Delay m a units) y l = ThreadsLane p ∷ TimersLane ∷ []
-command_lanes s p (cmd.Release t) y l = ThreadsLane (cpu_of s t) ∷ []
-command_lanes s p (cmd.Alert t m) y l = ThreadsLane (cpu_of s t) ∷ []
-command_lanes s p (cmd.TestAlert m) y l = ThreadsLane p ∷ []
-command_lanes s p (cmd.Clock units) y l = TimersLane ∷ []
-command_lanes s p cmd.ToUser y l = ThreadsLane p ∷ []
-command_lanes s p cmd.Yield y l = ThreadsLane p ∷ []
-command_lanes s p (cmd.Raise level) y l = []
-command_lanes s p (cmd.Lower level) y l = []
-command_lanes s p cmd.EnterCrit y l = []
-command_lanes s p cmd.EnterGuard y l = []
-command_lanes s p cmd.LeaveCrit y l = []
-command_lanes s p cmd.LeaveGuard y l = []
-command_lanes s p (cmd.Interrupt q level) y l = []
-command_lanes s p (cmd.Acquire k) y l = LockLane k ∷ []
-command_lanes s p (cmd.Unlock k) y l = LockLane k ∷ []
-command_lanes s p (cmd.Note n) y l = []
+command_lanes s p c y l = family_lanes s p (family c) y l
 
 abbrev pub begin_lanes : Stand → Begun → List Lane
 begin_lanes st (begun.Int level) = []

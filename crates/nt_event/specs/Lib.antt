@@ -1,4 +1,5 @@
 pub mod Numbered
+pub mod Families
 pub mod Classes
 pub mod Script
 pub mod Fitting

@@ -2,9 +2,8 @@
 -- "KeAcquireSpinLock").
 use Rattle.std.specs.Prelude.{Bool, List, None, Option, Some, [], false, get_or, if◌then◌else◌, true, ◌==◌, ◌∷◌}
 use Rattle.nt_event.specs.declared.commands.Command.{Command}
-use Rattle.nt_event.specs.declared.commands.Command.TheVariants as cmd
 use Rattle.nt_event.specs.declared.commands.Reply.{Reply}
-use Rattle.nt_event.specs.declared.commands.Reply.TheVariants.{Done, Spin}
+use Rattle.nt_event.specs.declared.commands.Reply.TheVariants.{Spin}
 use Rattle.nt_event.specs.declared.events.Event.{Event}
 use Rattle.nt_event.specs.declared.events.What.{What}
 use Rattle.nt_event.specs.declared.events.What.TheVariants as what
@@ -12,6 +11,8 @@ use Rattle.nt_event.specs.declared.numbers.CpuNo.{CpuNo}
 use Rattle.nt_event.specs.declared.numbers.LockNo.{LockNo}
 use Rattle.nt_event.specs.declared.scripts.Script.{Script}
 use Rattle.nt_event.specs.Lists.{table}
+use Rattle.nt_event.specs.Families.{AcquireLock, LockCall, UnlockLock, by_lock_call}
+use Rattle.nt_event.specs.Replies.{is_done, is_spin}
 
 -- what an event does to a lock
 pub data LockMove : Type 0 where
@@ -20,37 +21,13 @@ pub data LockMove : Type 0 where
   Frees : LockNo → LockMove
   NoMove : LockMove
 
+abbrev pub lock_called : LockCall → Reply → LockMove
+lock_called (AcquireLock k) y = if is_done y then Gets k else (if is_spin y then Spins k else NoMove)
+lock_called (UnlockLock k) y = if is_done y then Frees k else NoMove
+
 -- an acquire gets the lock or spins on it, and an unlock frees it
 abbrev pub call_move : Command → Reply → LockMove
-call_move (cmd.Acquire k) Done = Gets k
-call_move (cmd.Acquire k) Spin = Spins k
-call_move (cmd.Unlock k) Done = Frees k
-call_move (cmd.Acquire k) y = NoMove
-call_move (cmd.Unlock k) y = NoMove
-call_move (cmd.Raise level) y = NoMove
-call_move (cmd.Lower level) y = NoMove
-call_move (cmd.Queue d) y = NoMove
-call_move (cmd.Unqueue d) y = NoMove
-call_move (cmd.SetImportance d i) y = NoMove
-call_move (cmd.SetTarget d q) y = NoMove
-call_move (cmd.SetTimer t due period) y = NoMove
-call_move (cmd.CancelTimer t) y = NoMove
-call_move (cmd.InsertApc a) y = NoMove
-call_move (cmd.RemoveApc a) y = NoMove
-call_move cmd.EnterCrit y = NoMove
-call_move cmd.EnterGuard y = NoMove
-call_move cmd.LeaveCrit y = NoMove
-call_move cmd.LeaveGuard y = NoMove
-call_move (cmd.StartWait m a) y = NoMove
-call_move (cmd.Delay m a units) y = NoMove
-call_move (cmd.Release t) y = NoMove
-call_move (cmd.Alert t m) y = NoMove
-call_move (cmd.TestAlert m) y = NoMove
-call_move (cmd.Interrupt q level) y = NoMove
-call_move (cmd.Clock units) y = NoMove
-call_move cmd.ToUser y = NoMove
-call_move cmd.Yield y = NoMove
-call_move (cmd.Note n) y = NoMove
+call_move c y = by_lock_call (λ k. lock_called k y) NoMove c
 
 -- so does a Free
 abbrev pub lock_move : What → LockMove

@@ -1,203 +1,76 @@
 -- DPC objects: importance, target and pending insert (Windows Internals, "Deferred procedure call interrupts").
-use Rattle.std.specs.Prelude.{Bool, List, None, Option, Some, [], false, get_or, if◌then◌else◌, is_some, length, unwrap_or, ℕ, ◌==◌, ◌∷◌}
-use Rattle.nt_event.specs.declared.commands.Command.TheVariants as cmd
+use Rattle.std.specs.Prelude.{Bool, List, None, Option, Some, [], false, get_or, if◌then◌else◌, is_some, length, unwrap_or, ℕ, ◌==◌, ◌∷◌, ◌&&◌}
 use Rattle.nt_event.specs.declared.commands.Importance.{Importance}
 use Rattle.nt_event.specs.declared.commands.Importance.TheVariants.{Medium}
-use Rattle.nt_event.specs.declared.commands.Reply.TheVariants.{Done, Yes}
 use Rattle.nt_event.specs.declared.events.Begun.TheVariants as begun
 use Rattle.nt_event.specs.declared.events.Event.{Event}
 use Rattle.nt_event.specs.declared.events.What.{What}
-use Rattle.nt_event.specs.declared.events.What.TheVariants as what
 use Rattle.nt_event.specs.declared.inserts.Standing.{Standing}
 use Rattle.nt_event.specs.declared.numbers.CpuNo.{CpuNo}
 use Rattle.nt_event.specs.declared.numbers.DpcNo.{DpcNo}
 use Rattle.nt_event.specs.declared.scripts.Script.{Script}
 use Rattle.nt_event.specs.Numbers.{dpc}
 use Rattle.nt_event.specs.Lists.{table}
+use Rattle.nt_event.specs.Families.{DpcCall, GiveImportance, GiveTarget, InsertDpc, RemoveDpc, by_dpc_call, in_begin, in_call, in_fire}
+use Rattle.nt_event.specs.declared.events.Begun.{Begun}
+use Rattle.nt_event.specs.declared.commands.Reply.{Reply}
+use Rattle.nt_event.specs.Replies.{is_done, some_if_yes}
 
 -- driver documentation, "KeSetImportanceDpc": Medium is the first setting
+abbrev pub importance_by : DpcNo → DpcCall → Reply → Importance → Importance
+importance_by d (GiveImportance x i) y old = if is_done y && (x.0 == d.0) then i else old
+importance_by d (InsertDpc x) y old = old
+importance_by d (RemoveDpc x) y old = old
+importance_by d (GiveTarget x q) y old = old
+
 abbrev pub importance_after : DpcNo → What → Importance → Importance
-importance_after d (what.Call f (cmd.SetImportance x i) Done) old = if x.0 == d.0 then i else old
-importance_after d (what.Call f (cmd.Raise level) y) old = old
-importance_after d (what.Call f (cmd.Lower level) y) old = old
-importance_after d (what.Call f (cmd.Queue e) y) old = old
-importance_after d (what.Call f (cmd.Unqueue e) y) old = old
-importance_after d (what.Call f (cmd.SetImportance e i) y) old = old
-importance_after d (what.Call f (cmd.SetTarget e q) y) old = old
-importance_after d (what.Call f (cmd.SetTimer t due period) y) old = old
-importance_after d (what.Call f (cmd.CancelTimer t) y) old = old
-importance_after d (what.Call f (cmd.InsertApc a) y) old = old
-importance_after d (what.Call f (cmd.RemoveApc a) y) old = old
-importance_after d (what.Call f cmd.EnterCrit y) old = old
-importance_after d (what.Call f cmd.EnterGuard y) old = old
-importance_after d (what.Call f cmd.LeaveCrit y) old = old
-importance_after d (what.Call f cmd.LeaveGuard y) old = old
-importance_after d (what.Call f (cmd.StartWait m a) y) old = old
-importance_after d (what.Call f (cmd.Delay m a units) y) old = old
-importance_after d (what.Call f (cmd.Release t) y) old = old
-importance_after d (what.Call f (cmd.Alert t m) y) old = old
-importance_after d (what.Call f (cmd.TestAlert m) y) old = old
-importance_after d (what.Call f (cmd.Interrupt q level) y) old = old
-importance_after d (what.Call f (cmd.Clock units) y) old = old
-importance_after d (what.Call f cmd.ToUser y) old = old
-importance_after d (what.Call f cmd.Yield y) old = old
-importance_after d (what.Call f (cmd.Acquire k) y) old = old
-importance_after d (what.Call f (cmd.Unlock k) y) old = old
-importance_after d (what.Call f (cmd.Note n) y) old = old
-importance_after d (what.Look r) old = old
-importance_after d (what.Begin b from) old = old
-importance_after d (what.Normal f) old = old
-importance_after d (what.End f) old = old
-importance_after d (what.Expire key from) old = old
-importance_after d (what.Fire e y) old = old
-importance_after d (what.Clean class) old = old
-importance_after d (what.Switch t status) old = old
-importance_after d (what.Rewait f y) old = old
-importance_after d (what.Flush a from) old = old
-importance_after d (what.Gone t) old = old
-importance_after d (what.Free f k) old = old
-importance_after d what.Rest old = old
+importance_after d w old = in_call (λ f c y. by_dpc_call (λ k. importance_by d k y old) old c) old w
 
 abbrev pub importance_of : DpcNo → List Event → Importance
 importance_of d [] = Medium
 importance_of d (e ∷ past) = importance_after d e.what (importance_of d past)
 
 -- driver documentation, "KeSetTargetProcessorDpc": no target is the first setting
+abbrev pub target_by : DpcNo → DpcCall → Reply → Option CpuNo → Option CpuNo
+target_by d (GiveTarget x q) y old = if is_done y && (x.0 == d.0) then q else old
+target_by d (InsertDpc x) y old = old
+target_by d (RemoveDpc x) y old = old
+target_by d (GiveImportance x i) y old = old
+
 abbrev pub target_after : DpcNo → What → Option CpuNo → Option CpuNo
-target_after d (what.Call f (cmd.SetTarget x t) Done) old = if x.0 == d.0 then t else old
-target_after d (what.Call f (cmd.Raise level) y) old = old
-target_after d (what.Call f (cmd.Lower level) y) old = old
-target_after d (what.Call f (cmd.Queue e) y) old = old
-target_after d (what.Call f (cmd.Unqueue e) y) old = old
-target_after d (what.Call f (cmd.SetImportance e i) y) old = old
-target_after d (what.Call f (cmd.SetTarget e q) y) old = old
-target_after d (what.Call f (cmd.SetTimer t due period) y) old = old
-target_after d (what.Call f (cmd.CancelTimer t) y) old = old
-target_after d (what.Call f (cmd.InsertApc a) y) old = old
-target_after d (what.Call f (cmd.RemoveApc a) y) old = old
-target_after d (what.Call f cmd.EnterCrit y) old = old
-target_after d (what.Call f cmd.EnterGuard y) old = old
-target_after d (what.Call f cmd.LeaveCrit y) old = old
-target_after d (what.Call f cmd.LeaveGuard y) old = old
-target_after d (what.Call f (cmd.StartWait m a) y) old = old
-target_after d (what.Call f (cmd.Delay m a units) y) old = old
-target_after d (what.Call f (cmd.Release t) y) old = old
-target_after d (what.Call f (cmd.Alert t m) y) old = old
-target_after d (what.Call f (cmd.TestAlert m) y) old = old
-target_after d (what.Call f (cmd.Interrupt q level) y) old = old
-target_after d (what.Call f (cmd.Clock units) y) old = old
-target_after d (what.Call f cmd.ToUser y) old = old
-target_after d (what.Call f cmd.Yield y) old = old
-target_after d (what.Call f (cmd.Acquire k) y) old = old
-target_after d (what.Call f (cmd.Unlock k) y) old = old
-target_after d (what.Call f (cmd.Note n) y) old = old
-target_after d (what.Look r) old = old
-target_after d (what.Begin b from) old = old
-target_after d (what.Normal f) old = old
-target_after d (what.End f) old = old
-target_after d (what.Expire key from) old = old
-target_after d (what.Fire e y) old = old
-target_after d (what.Clean class) old = old
-target_after d (what.Switch t status) old = old
-target_after d (what.Rewait f y) old = old
-target_after d (what.Flush a from) old = old
-target_after d (what.Gone t) old = old
-target_after d (what.Free f k) old = old
-target_after d what.Rest old = old
+target_after d w old = in_call (λ f c y. by_dpc_call (λ k. target_by d k y old) old c) old w
 
 abbrev pub target_of : DpcNo → List Event → Option CpuNo
 target_of d [] = None
 target_of d (e ∷ past) = target_after d e.what (target_of d past)
 
+abbrev pub dpc_inserted : DpcCall → Reply → Option DpcNo
+dpc_inserted (InsertDpc d) y = some_if_yes d y
+dpc_inserted (RemoveDpc d) y = None
+dpc_inserted (GiveImportance d i) y = None
+dpc_inserted (GiveTarget d q) y = None
+
 -- the object that the event inserts: a call of `queue`, or a Fire, with reply yes
 abbrev pub inserted_dpc : What → Option DpcNo
-inserted_dpc (what.Call f (cmd.Queue d) Yes) = Some d
-inserted_dpc (what.Fire d Yes) = Some d
-inserted_dpc (what.Call f (cmd.Raise level) y) = None
-inserted_dpc (what.Call f (cmd.Lower level) y) = None
-inserted_dpc (what.Call f (cmd.Queue d) y) = None
-inserted_dpc (what.Call f (cmd.Unqueue d) y) = None
-inserted_dpc (what.Call f (cmd.SetImportance d i) y) = None
-inserted_dpc (what.Call f (cmd.SetTarget d q) y) = None
-inserted_dpc (what.Call f (cmd.SetTimer t due period) y) = None
-inserted_dpc (what.Call f (cmd.CancelTimer t) y) = None
-inserted_dpc (what.Call f (cmd.InsertApc a) y) = None
-inserted_dpc (what.Call f (cmd.RemoveApc a) y) = None
-inserted_dpc (what.Call f cmd.EnterCrit y) = None
-inserted_dpc (what.Call f cmd.EnterGuard y) = None
-inserted_dpc (what.Call f cmd.LeaveCrit y) = None
-inserted_dpc (what.Call f cmd.LeaveGuard y) = None
-inserted_dpc (what.Call f (cmd.StartWait m a) y) = None
-inserted_dpc (what.Call f (cmd.Delay m a units) y) = None
-inserted_dpc (what.Call f (cmd.Release t) y) = None
-inserted_dpc (what.Call f (cmd.Alert t m) y) = None
-inserted_dpc (what.Call f (cmd.TestAlert m) y) = None
-inserted_dpc (what.Call f (cmd.Interrupt q level) y) = None
-inserted_dpc (what.Call f (cmd.Clock units) y) = None
-inserted_dpc (what.Call f cmd.ToUser y) = None
-inserted_dpc (what.Call f cmd.Yield y) = None
-inserted_dpc (what.Call f (cmd.Acquire k) y) = None
-inserted_dpc (what.Call f (cmd.Unlock k) y) = None
-inserted_dpc (what.Call f (cmd.Note n) y) = None
-inserted_dpc (what.Look r) = None
-inserted_dpc (what.Begin b from) = None
-inserted_dpc (what.Normal f) = None
-inserted_dpc (what.End f) = None
-inserted_dpc (what.Expire key from) = None
-inserted_dpc (what.Fire d y) = None
-inserted_dpc (what.Clean class) = None
-inserted_dpc (what.Switch t status) = None
-inserted_dpc (what.Rewait f y) = None
-inserted_dpc (what.Flush a from) = None
-inserted_dpc (what.Gone t) = None
-inserted_dpc (what.Free f k) = None
-inserted_dpc what.Rest = None
+inserted_dpc w =
+    in_call (λ f c y. by_dpc_call (λ k. dpc_inserted k y) None c) (in_fire (λ d y. some_if_yes d y) None w) w
+
+abbrev pub dpc_removed : DpcCall → Reply → Option DpcNo
+dpc_removed (RemoveDpc d) y = some_if_yes d y
+dpc_removed (InsertDpc d) y = None
+dpc_removed (GiveImportance d i) y = None
+dpc_removed (GiveTarget d q) y = None
+
+abbrev pub dpc_begun : Begun → Option DpcNo
+dpc_begun (begun.Dpc d) = Some d
+dpc_begun (begun.Threaded d) = Some d
+dpc_begun (begun.Int level) = None
+dpc_begun (begun.Apc a) = None
 
 -- the object whose insert the event uses up: it begins, or a call of `unqueue` removes it
 abbrev pub used_up_dpc : What → Option DpcNo
-used_up_dpc (what.Begin (begun.Dpc d) from) = Some d
-used_up_dpc (what.Begin (begun.Threaded d) from) = Some d
-used_up_dpc (what.Call f (cmd.Unqueue d) Yes) = Some d
-used_up_dpc (what.Call f (cmd.Raise level) y) = None
-used_up_dpc (what.Call f (cmd.Lower level) y) = None
-used_up_dpc (what.Call f (cmd.Queue d) y) = None
-used_up_dpc (what.Call f (cmd.Unqueue d) y) = None
-used_up_dpc (what.Call f (cmd.SetImportance d i) y) = None
-used_up_dpc (what.Call f (cmd.SetTarget d q) y) = None
-used_up_dpc (what.Call f (cmd.SetTimer t due period) y) = None
-used_up_dpc (what.Call f (cmd.CancelTimer t) y) = None
-used_up_dpc (what.Call f (cmd.InsertApc a) y) = None
-used_up_dpc (what.Call f (cmd.RemoveApc a) y) = None
-used_up_dpc (what.Call f cmd.EnterCrit y) = None
-used_up_dpc (what.Call f cmd.EnterGuard y) = None
-used_up_dpc (what.Call f cmd.LeaveCrit y) = None
-used_up_dpc (what.Call f cmd.LeaveGuard y) = None
-used_up_dpc (what.Call f (cmd.StartWait m a) y) = None
-used_up_dpc (what.Call f (cmd.Delay m a units) y) = None
-used_up_dpc (what.Call f (cmd.Release t) y) = None
-used_up_dpc (what.Call f (cmd.Alert t m) y) = None
-used_up_dpc (what.Call f (cmd.TestAlert m) y) = None
-used_up_dpc (what.Call f (cmd.Interrupt q level) y) = None
-used_up_dpc (what.Call f (cmd.Clock units) y) = None
-used_up_dpc (what.Call f cmd.ToUser y) = None
-used_up_dpc (what.Call f cmd.Yield y) = None
-used_up_dpc (what.Call f (cmd.Acquire k) y) = None
-used_up_dpc (what.Call f (cmd.Unlock k) y) = None
-used_up_dpc (what.Call f (cmd.Note n) y) = None
-used_up_dpc (what.Look r) = None
-used_up_dpc (what.Begin (begun.Int level) from) = None
-used_up_dpc (what.Begin (begun.Apc a) from) = None
-used_up_dpc (what.Normal f) = None
-used_up_dpc (what.End f) = None
-used_up_dpc (what.Expire key from) = None
-used_up_dpc (what.Fire d y) = None
-used_up_dpc (what.Clean class) = None
-used_up_dpc (what.Switch t status) = None
-used_up_dpc (what.Rewait f y) = None
-used_up_dpc (what.Flush a from) = None
-used_up_dpc (what.Gone t) = None
-used_up_dpc (what.Free f k) = None
-used_up_dpc what.Rest = None
+used_up_dpc w =
+    in_call (λ f c y. by_dpc_call (λ k. dpc_removed k y) None c) (in_begin (λ b from. dpc_begun b) None w) w
 
 abbrev pub is_dpc : Option DpcNo → DpcNo → Bool
 is_dpc None d = false

@@ -3,7 +3,6 @@ use Rattle.std.specs.Prelude.{Bool, List, None, Option, Some, [], false, if◌th
 use Rattle.nt_event.specs.declared.commands.TimerKey.TheVariants as keys
 use Rattle.nt_event.specs.declared.events.Event.{Event}
 use Rattle.nt_event.specs.declared.events.What.{What}
-use Rattle.nt_event.specs.declared.events.What.TheVariants as what
 use Rattle.nt_event.specs.declared.jobs.Stand.{Stand}
 use Rattle.nt_event.specs.declared.numbers.CpuNo.{CpuNo}
 use Rattle.nt_event.specs.declared.numbers.DpcNo.{DpcNo}
@@ -15,6 +14,8 @@ use Rattle.nt_event.specs.Requests.{asked, seen, seen_after, served, served_afte
 use Rattle.nt_event.specs.Routines.{dpc_of}
 use Rattle.nt_event.specs.Numbers.{is_of}
 use Rattle.nt_event.specs.Lists.{table, value_at}
+use Rattle.nt_event.specs.Families.{in_expiry, in_fire, in_rest, in_switch}
+use Rattle.nt_event.specs.declared.commands.TimerKey.{TimerKey}
 
 -- how many events the processor has made
 abbrev pub made : CpuNo → List Event → ℕ
@@ -22,20 +23,7 @@ made p [] = 0
 made p (e ∷ past) = if is_of e p then made p past + 1 else made p past
 
 abbrev pub is_rest : What → Bool
-is_rest (what.Free f k) = false
-is_rest what.Rest = true
-is_rest (what.Call f c y) = false
-is_rest (what.Look r) = false
-is_rest (what.Begin b from) = false
-is_rest (what.Normal f) = false
-is_rest (what.End f) = false
-is_rest (what.Expire key from) = false
-is_rest (what.Fire d y) = false
-is_rest (what.Clean class) = false
-is_rest (what.Switch t status) = false
-is_rest (what.Rewait f y) = false
-is_rest (what.Flush a from) = false
-is_rest (what.Gone t) = false
+is_rest w = in_rest true false w
 
 -- its last event is Rest
 abbrev pub rested : CpuNo → List Event → Bool
@@ -43,43 +31,20 @@ rested p [] = false
 rested p (e ∷ past) = if is_of e p then is_rest e.what else rested p past
 
 abbrev pub took_after : What → Option ThreadNo → Option ThreadNo
-took_after (what.Switch t status) old = Some t
-took_after (what.Call f c y) old = old
-took_after (what.Look r) old = old
-took_after (what.Begin b from) old = old
-took_after (what.Normal f) old = old
-took_after (what.End f) old = old
-took_after (what.Expire key from) old = old
-took_after (what.Fire d y) old = old
-took_after (what.Clean class) old = old
-took_after (what.Rewait f y) old = old
-took_after (what.Flush a from) old = old
-took_after (what.Gone t) old = old
-took_after (what.Free f k) old = old
-took_after what.Rest old = old
+took_after w old = in_switch (λ t status. Some t) old w
 
 -- the thread that it took up last
 abbrev pub took : CpuNo → List Event → Option ThreadNo
 took p [] = None
 took p (e ∷ past) = if is_of e p then took_after e.what (took p past) else took p past
 
+abbrev pub fire_of : Script → TimerKey → Option DpcNo
+fire_of s (keys.Timer t) = dpc_of s t
+fire_of s (keys.Delay t) = None
+
 -- profile: an expiry inserts the timer's DPC by the next event but a Look of that processor
 abbrev pub fire_after : Script → What → Option DpcNo → Option DpcNo
-fire_after s (what.Expire (keys.Timer t) from) old = dpc_of s t
-fire_after s (what.Expire (keys.Delay t) from) old = None
-fire_after s (what.Fire d y) old = None
-fire_after s (what.Call f c y) old = old
-fire_after s (what.Look r) old = old
-fire_after s (what.Begin b from) old = old
-fire_after s (what.Normal f) old = old
-fire_after s (what.End f) old = old
-fire_after s (what.Clean class) old = old
-fire_after s (what.Switch t status) old = old
-fire_after s (what.Rewait f y) old = old
-fire_after s (what.Flush a from) old = old
-fire_after s (what.Gone t) old = old
-fire_after s (what.Free f k) old = old
-fire_after s what.Rest old = old
+fire_after s w old = in_expiry (λ key from. fire_of s key) (in_fire (λ d y. None) old w) w
 
 -- the DPC that it has to fire
 abbrev pub fire : Script → CpuNo → List Event → Option DpcNo

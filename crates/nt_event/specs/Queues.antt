@@ -5,7 +5,6 @@ use Rattle.nt_event.specs.declared.commands.Importance.{Importance}
 use Rattle.nt_event.specs.declared.commands.Importance.TheVariants.{High, Low, Medium, MediumHigh}
 use Rattle.nt_event.specs.declared.events.Event.{Event}
 use Rattle.nt_event.specs.declared.events.What.{What}
-use Rattle.nt_event.specs.declared.events.What.TheVariants as what
 use Rattle.nt_event.specs.declared.inserts.Insert.{Insert}
 use Rattle.nt_event.specs.declared.inserts.Part.{Part}
 use Rattle.nt_event.specs.declared.inserts.Part.TheVariants.{Ordinary as OrdinaryPart, Threaded as ThreadedPart}
@@ -15,6 +14,7 @@ use Rattle.nt_event.specs.declared.scripts.Script.{Script}
 use Rattle.nt_event.specs.Objects.{ObjectState, inserted_dpc, object_in, objects_at, queue_for, used_up_dpc}
 use Rattle.nt_event.specs.Routines.{part_of}
 use Rattle.nt_event.specs.Numbers.{is_of}
+use Rattle.nt_event.specs.Families.{in_call, in_rest, in_switch}
 
 abbrev pub is_high : Importance → Bool
 is_high High = true
@@ -42,20 +42,7 @@ is_queue (Some q) p = q.0 == p.0
 
 -- the queue that an insert of the object leaves: a Begin's own, or the one where the removed insert stands
 abbrev pub left_queue : CpuNo → What → ObjectState → Option CpuNo
-left_queue by (what.Call f c y) o = option_map (λ x. x.queue) o.standing
-left_queue by (what.Look r) o = Some by
-left_queue by (what.Begin b from) o = Some by
-left_queue by (what.Normal f) o = Some by
-left_queue by (what.End f) o = Some by
-left_queue by (what.Expire key from) o = Some by
-left_queue by (what.Fire d y) o = Some by
-left_queue by (what.Clean class) o = Some by
-left_queue by (what.Switch t status) o = Some by
-left_queue by (what.Rewait f y) o = Some by
-left_queue by (what.Flush a from) o = Some by
-left_queue by (what.Gone t) o = Some by
-left_queue by (what.Free f k) o = Some by
-left_queue by what.Rest o = Some by
+left_queue by w o = in_call (λ f c y. option_map (λ x. x.queue) o.standing) (Some by) w
 
 abbrev pub drop_insert : CpuNo → CpuNo → What → Option DpcNo → List ObjectState → List Insert → List Insert
 drop_insert p by w None objects old = old
@@ -98,20 +85,7 @@ depth_of xs = count_by (is_in OrdinaryPart) xs
 
 -- profile: a processor is idle from a Rest to its next Switch
 abbrev pub idle_after : What → Bool → Bool
-idle_after (what.Free f k) old = old
-idle_after what.Rest old = true
-idle_after (what.Switch t status) old = false
-idle_after (what.Call f c y) old = old
-idle_after (what.Look r) old = old
-idle_after (what.Begin b from) old = old
-idle_after (what.Normal f) old = old
-idle_after (what.End f) old = old
-idle_after (what.Expire key from) old = old
-idle_after (what.Fire d y) old = old
-idle_after (what.Clean class) old = old
-idle_after (what.Rewait f y) old = old
-idle_after (what.Flush a from) old = old
-idle_after (what.Gone t) old = old
+idle_after w old = in_rest true (in_switch (λ t status. false) old w) w
 
 abbrev pub is_idle : CpuNo → List Event → Bool
 is_idle p [] = false

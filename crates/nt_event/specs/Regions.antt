@@ -2,12 +2,10 @@
 use Rattle.std.specs.List.{list_any}
 use Rattle.std.specs.Option.{option_map_or, option_or}
 use Rattle.std.specs.Prelude.{Bool, List, [], false, if◌then◌else◌, not, option_and_then, option_map, sum_by, ℕ, ◌&&◌, ◌==◌, ◌||◌, ◌∷◌}
-use Rattle.nt_event.specs.declared.commands.Command.TheVariants as cmd
 use Rattle.nt_event.specs.declared.commands.Regions.{Regions}
 use Rattle.nt_event.specs.declared.events.Begun.TheVariants as begun
 use Rattle.nt_event.specs.declared.events.Event.{Event}
 use Rattle.nt_event.specs.declared.events.What.{What}
-use Rattle.nt_event.specs.declared.events.What.TheVariants as what
 use Rattle.nt_event.specs.Frame.{Frame}
 use Rattle.nt_event.specs.declared.jobs.Stand.{Stand}
 use Rattle.nt_event.specs.declared.numbers.CpuNo.{CpuNo}
@@ -17,6 +15,9 @@ use Rattle.nt_event.specs.Frames.{Frames, frames_of, freed_level, innermost, is_
 use Rattle.nt_event.specs.Lists.{head_of, is_null, tail_of}
 use Rattle.nt_event.specs.Replies.{is_answer}
 use Rattle.nt_event.specs.Numbers.{is_of}
+use Rattle.nt_event.specs.Families.{StartTimer, StopTimer, TimerCall, by_timer_call, in_begin, in_call, in_clean}
+use Rattle.nt_event.specs.declared.commands.Reply.{Reply}
+use Rattle.nt_event.specs.declared.events.Begun.{Begun}
 
 -- how often the thread's open frames have entered a region of the kind and not left it
 abbrev pub crit_of : List Frame → ℕ
@@ -62,51 +63,23 @@ some_came_to_0 before now = came_to_0 before.crit now.crit || came_to_0 before.g
 
 -- ---- owed sweeps
 
+abbrev pub sweep_begun : Begun → Bool → Bool
+sweep_begun (begun.Int level) old = (level == clock_class) || old
+sweep_begun (begun.Dpc d) old = old
+sweep_begun (begun.Threaded d) old = old
+sweep_begun (begun.Apc a) old = old
+
+abbrev pub sweep_called : TimerCall → Reply → Bool → Bool
+sweep_called (StartTimer t due period) y old = (is_answer y && (due == 0)) || old
+sweep_called (StopTimer t) y old = old
+
 -- profile: a processor owes a sweep of the timers from the beginning of a clock interrupt on it, and from its own set
 -- of a timer that is due already, until its next Clean of dispatch
 abbrev pub sweep_after : What → Bool → Bool
-sweep_after (what.Begin (begun.Int level) from) old = (level == clock_class) || old
-sweep_after (what.Call f (cmd.SetTimer t due period) y) old = (is_answer y && (due == 0)) || old
-sweep_after (what.Clean class) old = not (class == dispatch_class) && old
-sweep_after (what.Call f (cmd.Raise level) y) old = old
-sweep_after (what.Call f (cmd.Lower level) y) old = old
-sweep_after (what.Call f (cmd.Queue d) y) old = old
-sweep_after (what.Call f (cmd.Unqueue d) y) old = old
-sweep_after (what.Call f (cmd.SetImportance d i) y) old = old
-sweep_after (what.Call f (cmd.SetTarget d q) y) old = old
-sweep_after (what.Call f (cmd.CancelTimer t) y) old = old
-sweep_after (what.Call f (cmd.InsertApc a) y) old = old
-sweep_after (what.Call f (cmd.RemoveApc a) y) old = old
-sweep_after (what.Call f cmd.EnterCrit y) old = old
-sweep_after (what.Call f cmd.EnterGuard y) old = old
-sweep_after (what.Call f cmd.LeaveCrit y) old = old
-sweep_after (what.Call f cmd.LeaveGuard y) old = old
-sweep_after (what.Call f (cmd.StartWait m a) y) old = old
-sweep_after (what.Call f (cmd.Delay m a units) y) old = old
-sweep_after (what.Call f (cmd.Release t) y) old = old
-sweep_after (what.Call f (cmd.Alert t m) y) old = old
-sweep_after (what.Call f (cmd.TestAlert m) y) old = old
-sweep_after (what.Call f (cmd.Interrupt q level) y) old = old
-sweep_after (what.Call f (cmd.Clock units) y) old = old
-sweep_after (what.Call f cmd.ToUser y) old = old
-sweep_after (what.Call f cmd.Yield y) old = old
-sweep_after (what.Call f (cmd.Acquire k) y) old = old
-sweep_after (what.Call f (cmd.Unlock k) y) old = old
-sweep_after (what.Call f (cmd.Note n) y) old = old
-sweep_after (what.Look r) old = old
-sweep_after (what.Begin (begun.Dpc d) from) old = old
-sweep_after (what.Begin (begun.Threaded d) from) old = old
-sweep_after (what.Begin (begun.Apc a) from) old = old
-sweep_after (what.Normal f) old = old
-sweep_after (what.End f) old = old
-sweep_after (what.Expire key from) old = old
-sweep_after (what.Fire d y) old = old
-sweep_after (what.Switch t status) old = old
-sweep_after (what.Rewait f y) old = old
-sweep_after (what.Flush a from) old = old
-sweep_after (what.Gone t) old = old
-sweep_after (what.Free f k) old = old
-sweep_after what.Rest old = old
+sweep_after w old =
+    in_begin (λ b from. sweep_begun b old)
+    (in_call (λ f c y. by_timer_call (λ k. sweep_called k y old) old c)
+    (in_clean (λ class. not (class == dispatch_class) && old) old w) w) w
 
 abbrev pub owes_sweep : CpuNo → List Event → Bool
 owes_sweep p [] = false

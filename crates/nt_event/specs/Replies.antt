@@ -1,5 +1,5 @@
 -- Replies: which are done, yes, an answer, blocked or refused; and the statuses of waits.
-use Rattle.std.specs.Prelude.{Bool, false, true, ℕ}
+use Rattle.std.specs.Prelude.{Bool, None, Option, Some, false, true, ℕ}
 use Rattle.nt_event.specs.declared.commands.Mode.{Mode}
 use Rattle.nt_event.specs.declared.commands.Mode.TheVariants.{Kernel as KernelMode, User as UserMode}
 use Rattle.nt_event.specs.declared.commands.Reply.{Reply}
@@ -22,6 +22,25 @@ is_yes (Status status) = false
 is_yes Blocked = false
 is_yes Spin = false
 is_yes (Refused r) = false
+
+abbrev pub is_no : Reply → Bool
+is_no No = true
+is_no Done = false
+is_no Yes = false
+is_no (Status status) = false
+is_no Blocked = false
+is_no Spin = false
+is_no (Refused r) = false
+
+-- the thing that a command with reply yes is about
+abbrev pub some_if_yes : {A : Type 0} → A → Reply → Option A
+some_if_yes x Yes = Some x
+some_if_yes x Done = None
+some_if_yes x No = None
+some_if_yes x (Status status) = None
+some_if_yes x Blocked = None
+some_if_yes x Spin = None
+some_if_yes x (Refused r) = None
 
 -- yes or no
 abbrev pub is_answer : Reply → Bool

@@ -3,9 +3,8 @@ use Rattle.std.specs.List.{list_any}
 use Rattle.std.specs.Prelude.{Bool, List, None, Option, Some, [], false, if◌then◌else◌, length, max, nat_lt, not, suc, true, ℕ, ◌&&◌, ◌++◌, ◌+◌, ◌==◌, ◌||◌, ◌∷◌}
 use Rattle.nt_event.specs.declared.commands.ApcKind.TheVariants.{Normal as NormalApc}
 use Rattle.nt_event.specs.declared.commands.Command.{Command}
-use Rattle.nt_event.specs.declared.commands.Command.TheVariants as cmd
 use Rattle.nt_event.specs.declared.commands.Reply.{Reply}
-use Rattle.nt_event.specs.declared.commands.Reply.TheVariants.{Done, No, Yes}
+use Rattle.nt_event.specs.declared.commands.Reply.TheVariants.{Yes}
 use Rattle.nt_event.specs.declared.commands.TimerKey.TheVariants as keys
 use Rattle.nt_event.specs.declared.events.Begun.TheVariants as begun
 use Rattle.nt_event.specs.declared.events.Event.{Event}
@@ -33,8 +32,10 @@ use Rattle.nt_event.specs.Routines.{cpu_of, depth_limit, is_kernel_kind, kind_of
 use Rattle.nt_event.specs.Threads.{ends_by_alert, ends_by_apc, ends_by_expiry, is_gone}
 use Rattle.nt_event.specs.Waits.{new_pick}
 use Rattle.nt_event.specs.Numbers.{cpu, is_of}
-use Rattle.nt_event.specs.Replies.{is_spin}
+use Rattle.nt_event.specs.Replies.{is_done, is_no, is_spin, is_yes}
 use Rattle.nt_event.specs.Lists.{value_at}
+use Rattle.nt_event.specs.Families.{AdvanceTime, AddApc, AlertThread, AcquireLock, ApcCall, CritEntered, CritLeft, DpcCall, EnterUser, Family, ForApc, ForDpc, ForLevel, ForLock, ForOwn, ForPlain, ForRegion, ForThread, ForTimer, GiveImportance, GiveTarget, GuardEntered, GuardLeft, InsertDpc, LockCall, PlainCall, RegionCall, ReleaseThread, RemoveDpc, RequestAt, TakeApc, ThreadCall, UnlockLock, WriteNote, family, in_begin, in_call, in_clean, in_look}
+use Rattle.nt_event.specs.declared.events.Begun.{Begun}
 
 pub record Ask : Type 0 where
   pub cpu : CpuNo
@@ -74,44 +75,58 @@ spinner_asks n (b ∷ more) = ask_if b (cpu n) lock_class ++ spinner_asks (suc n
 abbrev pub release_asks : LockNo → Lanes → List Ask
 release_asks k l = spinner_asks 0 (lock_at l k).spinners
 
+-- by family, of a command with this reply
+
+abbrev pub asks_if : Bool → List Ask → List Ask
+asks_if true xs = xs
+asks_if false xs = []
+
+abbrev pub dpc_call_asks : Script → Stand → DpcCall → Reply → Lanes → List Ask
+dpc_call_asks s st (InsertDpc d) y l = asks_if (is_yes y) (queue_asks s d st.cpu l)
+dpc_call_asks s st (RemoveDpc d) y l = []
+dpc_call_asks s st (GiveImportance d i) y l = []
+dpc_call_asks s st (GiveTarget d q) y l = []
+
+abbrev pub apc_call_asks : Script → ApcCall → Reply → Lanes → List Ask
+apc_call_asks s (AddApc a) y l = asks_if (is_yes y) (apc_asks s a l)
+apc_call_asks s (TakeApc a) y l = []
+
+abbrev pub region_asks : Stand → RegionCall → Reply → List Ask
+region_asks st CritLeft y = asks_if (is_done y) (ask_if (st.regions.crit == 1) st.cpu apc_class)
+region_asks st GuardLeft y = asks_if (is_done y) (ask_if (st.regions.guard == 1) st.cpu apc_class)
+region_asks st CritEntered y = []
+region_asks st GuardEntered y = []
+
+abbrev pub thread_asks : Script → ThreadCall → Reply → Lanes → List Ask
+thread_asks s (ReleaseThread t) y l = asks_if (is_yes y) (ask (cpu_of s t) dispatch_class)
+thread_asks s (AlertThread t m) y l =
+    asks_if (is_no y)
+    (ask_if (not (is_gone (facts_at l t)) && ends_by_alert m (facts_at l t)) (cpu_of s t) dispatch_class)
+
+abbrev pub lock_asks : LockCall → Reply → Lanes → List Ask
+lock_asks (UnlockLock k) y l = asks_if (is_done y) (release_asks k l)
+lock_asks (AcquireLock k) y l = []
+
+abbrev pub plain_asks : Stand → PlainCall → Reply → List Ask
+plain_asks st (RequestAt q level) y = asks_if (is_done y) (ask q level)
+plain_asks st (AdvanceTime units) y = asks_if (is_done y) (ask st.cpu clock_class)
+plain_asks st EnterUser y = []
+plain_asks st (WriteNote n) y = []
+
+abbrev pub family_asks : Script → Stand → Family → Reply → Lanes → List Ask
+family_asks s st (ForDpc k) y l = dpc_call_asks s st k y l
+family_asks s st (ForApc k) y l = apc_call_asks s k y l
+family_asks s st (ForRegion k) y l = region_asks st k y
+family_asks s st (ForThread k) y l = thread_asks s k y l
+family_asks s st (ForLock k) y l = lock_asks k y l
+family_asks s st (ForPlain k) y l = plain_asks st k y
+family_asks s st (ForLevel k) y l = []
+family_asks s st (ForTimer k) y l = []
+family_asks s st (ForOwn k) y l = []
+
 -- what a call asks for, by the states before it
 abbrev pub command_asks : Script → Stand → Command → Reply → Lanes → List Ask
-command_asks s st (cmd.Queue d) Yes l = queue_asks s d st.cpu l
-command_asks s st (cmd.InsertApc a) Yes l = apc_asks s a l
-command_asks s st cmd.LeaveCrit Done l = ask_if (st.regions.crit == 1) st.cpu apc_class
-command_asks s st cmd.LeaveGuard Done l = ask_if (st.regions.guard == 1) st.cpu apc_class
-command_asks s st (cmd.Release t) Yes l = ask (cpu_of s t) dispatch_class
-command_asks s st (cmd.Alert t m) No l =
-    ask_if (not (is_gone (facts_at l t)) && ends_by_alert m (facts_at l t)) (cpu_of s t) dispatch_class
-command_asks s st (cmd.Interrupt q level) Done l = ask q level
-command_asks s st (cmd.Clock units) Done l = ask st.cpu clock_class
-command_asks s st (cmd.Unlock k) Done l = release_asks k l
-command_asks s st (cmd.Raise level) y l = []
-command_asks s st (cmd.Lower level) y l = []
-command_asks s st (cmd.Queue d) y l = []
-command_asks s st (cmd.Unqueue d) y l = []
-command_asks s st (cmd.SetImportance d i) y l = []
-command_asks s st (cmd.SetTarget d q) y l = []
-command_asks s st (cmd.SetTimer t due period) y l = []
-command_asks s st (cmd.CancelTimer t) y l = []
-command_asks s st (cmd.InsertApc a) y l = []
-command_asks s st (cmd.RemoveApc a) y l = []
-command_asks s st cmd.EnterCrit y l = []
-command_asks s st cmd.EnterGuard y l = []
-command_asks s st cmd.LeaveCrit y l = []
-command_asks s st cmd.LeaveGuard y l = []
-command_asks s st (cmd.StartWait m a) y l = []
-command_asks s st (cmd.Delay m a units) y l = []
-command_asks s st (cmd.Release t) y l = []
-command_asks s st (cmd.Alert t m) y l = []
-command_asks s st (cmd.TestAlert m) y l = []
-command_asks s st (cmd.Interrupt q level) y l = []
-command_asks s st (cmd.Clock units) y l = []
-command_asks s st cmd.ToUser y l = []
-command_asks s st cmd.Yield y l = []
-command_asks s st (cmd.Acquire k) y l = []
-command_asks s st (cmd.Unlock k) y l = []
-command_asks s st (cmd.Note n) y l = []
+command_asks s st c y l = family_asks s st (family c) y l
 
 -- what the end of a frame asks for
 abbrev pub end_asks : Stand → Option Body → Lanes → List Ask
@@ -183,20 +198,7 @@ abbrev pub told : Script → CpuNo → ℕ → Event → List Event → ℕ
 told s p c e past = told_by_all s (lanes_of s e past) p c past
 
 abbrev pub looked : What → ℕ → ℕ
-looked (what.Look r) c = value_at r.value c
-looked (what.Call f command y) c = 0
-looked (what.Begin b from) c = 0
-looked (what.Normal f) c = 0
-looked (what.End f) c = 0
-looked (what.Expire key from) c = 0
-looked (what.Fire d y) c = 0
-looked (what.Clean class) c = 0
-looked (what.Switch t status) c = 0
-looked (what.Rewait f y) c = 0
-looked (what.Flush a from) c = 0
-looked (what.Gone t) c = 0
-looked (what.Free f k) c = 0
-looked what.Rest c = 0
+looked w c = in_look (λ r. value_at r.value c) 0 w
 
 -- what is noticed after the event of this number, which asks or doesn't, and touches lanes that tell this value
 abbrev pub seen_after : ℕ → What → ℕ → Bool → ℕ → ℕ → ℕ
@@ -209,25 +211,17 @@ seen s p c (e ∷ past) =
     if is_of e p then seen_after (length past) e.what c (asks s p c e past) (told s p c e past) (seen s p c past)
     else seen s p c past
 
+abbrev pub begins_class : ℕ → Begun → Bool
+begins_class c (begun.Int level) = level == c
+begins_class c (begun.Dpc d) = false
+begins_class c (begun.Threaded d) = false
+begins_class c (begun.Apc a) = false
+
 -- the event serves the class
 abbrev pub serves : ℕ → What → Bool
-serves c (what.Clean k) = k == c
-serves c (what.Begin (begun.Int level) from) = level == c
-serves c (what.Call f command y) = (c == lock_class) && is_spin y
-serves c (what.Look r) = false
-serves c (what.Begin (begun.Dpc d) from) = false
-serves c (what.Begin (begun.Threaded d) from) = false
-serves c (what.Begin (begun.Apc a) from) = false
-serves c (what.Normal f) = false
-serves c (what.End f) = false
-serves c (what.Expire key from) = false
-serves c (what.Fire d y) = false
-serves c (what.Switch t status) = false
-serves c (what.Rewait f y) = false
-serves c (what.Flush a from) = false
-serves c (what.Gone t) = false
-serves c (what.Free f k) = false
-serves c what.Rest = false
+serves c w =
+    in_clean (λ k. k == c)
+    (in_begin (λ b from. begins_class c b) (in_call (λ f command y. (c == lock_class) && is_spin y) false w) w) w
 
 -- what is served after an event, by what is seen after it
 abbrev pub served_after : What → ℕ → ℕ → ℕ → ℕ

@@ -19,40 +19,15 @@ use Rattle.nt_event.specs.Lanes.{Lanes, lanes_at}
 use Rattle.nt_event.specs.Own.{Own, own_of, stand_in}
 use Rattle.nt_event.specs.Requests.{asks}
 use Rattle.nt_event.specs.Lists.{value_at, when}
+use Rattle.nt_event.specs.Families.{in_look, in_switch}
 
 -- ---- an event
 
 abbrev pub thread_field : What → Option ThreadNo → Option ThreadNo
-thread_field (what.Switch t status) r = Some t
-thread_field (what.Look x) r = None
-thread_field (what.Call f c y) r = r
-thread_field (what.Begin b from) r = r
-thread_field (what.Normal f) r = r
-thread_field (what.End f) r = r
-thread_field (what.Expire key from) r = r
-thread_field (what.Fire d y) r = r
-thread_field (what.Clean class) r = r
-thread_field (what.Rewait f y) r = r
-thread_field (what.Flush a from) r = r
-thread_field (what.Gone t) r = r
-thread_field (what.Free f k) r = r
-thread_field what.Rest r = r
+thread_field w r = in_switch (λ t status. Some t) (in_look (λ x. None) r w) w
 
 abbrev pub is_look : What → Bool
-is_look (what.Look r) = true
-is_look (what.Call f c y) = false
-is_look (what.Begin b from) = false
-is_look (what.Normal f) = false
-is_look (what.End f) = false
-is_look (what.Expire key from) = false
-is_look (what.Fire d y) = false
-is_look (what.Clean class) = false
-is_look (what.Switch t status) = false
-is_look (what.Rewait f y) = false
-is_look (what.Flush a from) = false
-is_look (what.Gone t) = false
-is_look (what.Free f k) = false
-is_look what.Rest = false
+is_look w = in_look (λ r. true) false w
 
 -- the event without its level
 abbrev pub unleveled : CpuNo → What → Frames → Event
@@ -130,20 +105,7 @@ step s limit turn past =
 -- ---- turns and runs
 
 abbrev pub turn_at : CpuNo → What → Turn
-turn_at p (what.Look r) = LookTurn p r
-turn_at p (what.Switch t status) = SwitchTurn p t
-turn_at p (what.Call f c y) = Next p
-turn_at p (what.Begin b from) = Next p
-turn_at p (what.Normal f) = Next p
-turn_at p (what.End f) = Next p
-turn_at p (what.Expire key from) = Next p
-turn_at p (what.Fire d y) = Next p
-turn_at p (what.Clean class) = Next p
-turn_at p (what.Rewait f y) = Next p
-turn_at p (what.Flush a from) = Next p
-turn_at p (what.Gone t) = Next p
-turn_at p (what.Free f k) = Next p
-turn_at p what.Rest = Next p
+turn_at p w = in_look (λ r. LookTurn p r) (in_switch (λ t status. SwitchTurn p t) (Next p) w) w
 
 -- the turn of an event
 abbrev pub turn_of : Event → Turn

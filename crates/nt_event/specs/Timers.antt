@@ -1,13 +1,10 @@
 -- Time, timers and delays (Windows Internals, "Timer processing"; driver documentation, "KeSetTimerEx").
 use Rattle.std.specs.List.{reduce}
 use Rattle.std.specs.Prelude.{Bool, List, None, Option, Some, [], filter, get_or, if◌then◌else◌, is_some, length, nat_le, nat_lt, option_and_then, suc, ℕ, ◌&&◌, ◌++◌, ◌+◌, ◌==◌, ◌||◌, ◌∷◌}
-use Rattle.nt_event.specs.declared.commands.Command.TheVariants as cmd
-use Rattle.nt_event.specs.declared.commands.Reply.TheVariants.{Blocked, Yes}
 use Rattle.nt_event.specs.declared.commands.TimerKey.{TimerKey}
 use Rattle.nt_event.specs.declared.commands.TimerKey.TheVariants as keys
 use Rattle.nt_event.specs.declared.events.Event.{Event}
 use Rattle.nt_event.specs.declared.events.What.{What}
-use Rattle.nt_event.specs.declared.events.What.TheVariants as what
 use Rattle.nt_event.specs.declared.frames.Again.{Again}
 use Rattle.nt_event.specs.declared.inserts.Setting.{Setting}
 use Rattle.nt_event.specs.declared.jobs.Stand.{Stand}
@@ -20,6 +17,9 @@ use Rattle.nt_event.specs.Waits.{is_of_thread}
 use Rattle.nt_event.specs.Replies.{is_answer}
 use Rattle.nt_event.specs.Lists.{table}
 use Rattle.nt_event.specs.Numbers.{thread, timer}
+use Rattle.nt_event.specs.Families.{DelaysIn, GivesWay, OwnCall, StartTimer, StopTimer, TestsAlert, TimerCall, WaitsIn, by_own_call, by_timer_call, in_call, in_expiry, in_rewait}
+use Rattle.nt_event.specs.declared.commands.Reply.{Reply}
+use Rattle.nt_event.specs.Replies.{is_blocked, is_yes}
 
 -- the time, and for each timer and each thread's delay that is set, when it is due
 pub record Timers : Type 0 where
@@ -33,50 +33,21 @@ renewed n now None = None
 renewed n now (Some x) =
     if x.period == 0 then None else Some (record { due = now + x.period; number = n; period = x.period })
 
+-- what a call leaves of a timer: a set, whichever its answer, or a cancel
+abbrev pub timer_called : TimerNo → ℕ → ℕ → TimerCall → Reply → Option Setting → Option Setting
+timer_called t n now (StartTimer x due period) y old =
+    if is_answer y && (x.0 == t.0) then Some (record { due = now + due; number = n; period = period }) else old
+timer_called t n now (StopTimer x) y old = if is_yes y && (x.0 == t.0) then None else old
+
+abbrev pub timer_expired : TimerNo → ℕ → ℕ → TimerKey → Option Setting → Option Setting
+timer_expired t n now (keys.Timer x) old = if x.0 == t.0 then renewed n now old else old
+timer_expired t n now (keys.Delay u) old = old
+
 -- what the event of this number leaves of a timer at this time
 abbrev pub timer_after : TimerNo → ℕ → ℕ → What → Option Setting → Option Setting
-timer_after t n now (what.Call f (cmd.SetTimer x due period) y) old =
-    if is_answer y && (x.0 == t.0) then Some (record { due = now + due; number = n; period = period }) else old
-timer_after t n now (what.Call f (cmd.CancelTimer x) Yes) old = if x.0 == t.0 then None else old
-timer_after t n now (what.Expire (keys.Timer x) from) old = if x.0 == t.0 then renewed n now old else old
-timer_after t n now (what.Call f (cmd.Raise level) y) old = old
-timer_after t n now (what.Call f (cmd.Lower level) y) old = old
-timer_after t n now (what.Call f (cmd.Queue d) y) old = old
-timer_after t n now (what.Call f (cmd.Unqueue d) y) old = old
-timer_after t n now (what.Call f (cmd.SetImportance d i) y) old = old
-timer_after t n now (what.Call f (cmd.SetTarget d q) y) old = old
-timer_after t n now (what.Call f (cmd.CancelTimer u) y) old = old
-timer_after t n now (what.Call f (cmd.InsertApc a) y) old = old
-timer_after t n now (what.Call f (cmd.RemoveApc a) y) old = old
-timer_after t n now (what.Call f cmd.EnterCrit y) old = old
-timer_after t n now (what.Call f cmd.EnterGuard y) old = old
-timer_after t n now (what.Call f cmd.LeaveCrit y) old = old
-timer_after t n now (what.Call f cmd.LeaveGuard y) old = old
-timer_after t n now (what.Call f (cmd.StartWait m a) y) old = old
-timer_after t n now (what.Call f (cmd.Delay m a units) y) old = old
-timer_after t n now (what.Call f (cmd.Release u) y) old = old
-timer_after t n now (what.Call f (cmd.Alert u m) y) old = old
-timer_after t n now (what.Call f (cmd.TestAlert m) y) old = old
-timer_after t n now (what.Call f (cmd.Interrupt q level) y) old = old
-timer_after t n now (what.Call f (cmd.Clock units) y) old = old
-timer_after t n now (what.Call f cmd.ToUser y) old = old
-timer_after t n now (what.Call f cmd.Yield y) old = old
-timer_after t n now (what.Call f (cmd.Acquire k) y) old = old
-timer_after t n now (what.Call f (cmd.Unlock k) y) old = old
-timer_after t n now (what.Call f (cmd.Note k) y) old = old
-timer_after t n now (what.Look r) old = old
-timer_after t n now (what.Begin b from) old = old
-timer_after t n now (what.Normal f) old = old
-timer_after t n now (what.End f) old = old
-timer_after t n now (what.Expire (keys.Delay u) from) old = old
-timer_after t n now (what.Fire d y) old = old
-timer_after t n now (what.Clean class) old = old
-timer_after t n now (what.Switch u status) old = old
-timer_after t n now (what.Rewait f y) old = old
-timer_after t n now (what.Flush a from) old = old
-timer_after t n now (what.Gone u) old = old
-timer_after t n now (what.Free f k) old = old
-timer_after t n now what.Rest old = old
+timer_after t n now w old =
+    in_call (λ f c y. by_timer_call (λ k. timer_called t n now k y old) old c)
+    (in_expiry (λ key from. timer_expired t n now key old) old w) w
 
 abbrev pub timer_setting : TimerNo → List Event → Option Setting
 timer_setting t [] = None
@@ -87,66 +58,24 @@ abbrev pub delay_set : ℕ → Option ℕ → Option Setting → Option Setting
 delay_set n None old = old
 delay_set n (Some due) old = Some (record { due = due; number = n; period = 0 })
 
+abbrev pub delay_called : ℕ → ℕ → OwnCall → Reply → Option Setting → Option Setting
+delay_called n now (DelaysIn m a units) y old = if is_blocked y then delay_set n (Some (now + units)) old else old
+delay_called n now (WaitsIn m a) y old = old
+delay_called n now (TestsAlert m) y old = old
+delay_called n now GivesWay y old = old
+
 -- what an event that the thread makes leaves of its delay: a call at this time, or the wait that is taken up again
 abbrev pub blocked_after : ℕ → ℕ → Option Again → What → Option Setting → Option Setting
-blocked_after n now again (what.Call f (cmd.Delay m a units) Blocked) old = delay_set n (Some (now + units)) old
-blocked_after n now again (what.Rewait f Blocked) old = delay_set n (option_and_then (λ w. w.due) again) old
-blocked_after n now again (what.Call f (cmd.Raise level) y) old = old
-blocked_after n now again (what.Call f (cmd.Lower level) y) old = old
-blocked_after n now again (what.Call f (cmd.Queue d) y) old = old
-blocked_after n now again (what.Call f (cmd.Unqueue d) y) old = old
-blocked_after n now again (what.Call f (cmd.SetImportance d i) y) old = old
-blocked_after n now again (what.Call f (cmd.SetTarget d q) y) old = old
-blocked_after n now again (what.Call f (cmd.SetTimer t due period) y) old = old
-blocked_after n now again (what.Call f (cmd.CancelTimer t) y) old = old
-blocked_after n now again (what.Call f (cmd.InsertApc a) y) old = old
-blocked_after n now again (what.Call f (cmd.RemoveApc a) y) old = old
-blocked_after n now again (what.Call f cmd.EnterCrit y) old = old
-blocked_after n now again (what.Call f cmd.EnterGuard y) old = old
-blocked_after n now again (what.Call f cmd.LeaveCrit y) old = old
-blocked_after n now again (what.Call f cmd.LeaveGuard y) old = old
-blocked_after n now again (what.Call f (cmd.StartWait m a) y) old = old
-blocked_after n now again (what.Call f (cmd.Delay m a units) y) old = old
-blocked_after n now again (what.Call f (cmd.Release t) y) old = old
-blocked_after n now again (what.Call f (cmd.Alert t m) y) old = old
-blocked_after n now again (what.Call f (cmd.TestAlert m) y) old = old
-blocked_after n now again (what.Call f (cmd.Interrupt q level) y) old = old
-blocked_after n now again (what.Call f (cmd.Clock units) y) old = old
-blocked_after n now again (what.Call f cmd.ToUser y) old = old
-blocked_after n now again (what.Call f cmd.Yield y) old = old
-blocked_after n now again (what.Call f (cmd.Acquire k) y) old = old
-blocked_after n now again (what.Call f (cmd.Unlock k) y) old = old
-blocked_after n now again (what.Call f (cmd.Note k) y) old = old
-blocked_after n now again (what.Look r) old = old
-blocked_after n now again (what.Begin b from) old = old
-blocked_after n now again (what.Normal f) old = old
-blocked_after n now again (what.End f) old = old
-blocked_after n now again (what.Expire key from) old = old
-blocked_after n now again (what.Fire d y) old = old
-blocked_after n now again (what.Clean class) old = old
-blocked_after n now again (what.Switch t status) old = old
-blocked_after n now again (what.Rewait f y) old = old
-blocked_after n now again (what.Flush a from) old = old
-blocked_after n now again (what.Gone t) old = old
-blocked_after n now again (what.Free f k) old = old
-blocked_after n now again what.Rest old = old
+blocked_after n now again w old =
+    in_call (λ f c y. by_own_call (λ k. delay_called n now k y old) old c)
+    (in_rewait (λ f y. if is_blocked y then delay_set n (option_and_then (λ w. w.due) again) old else old) old w) w
+
+abbrev pub delay_expired : ThreadNo → TimerKey → Option Setting → Option Setting
+delay_expired t (keys.Delay u) old = if u.0 == t.0 then None else old
+delay_expired t (keys.Timer u) old = old
 
 abbrev pub expired_delay : ThreadNo → What → Option Setting → Option Setting
-expired_delay t (what.Expire (keys.Delay u) from) old = if u.0 == t.0 then None else old
-expired_delay t (what.Call f c y) old = old
-expired_delay t (what.Look r) old = old
-expired_delay t (what.Begin b from) old = old
-expired_delay t (what.Normal f) old = old
-expired_delay t (what.End f) old = old
-expired_delay t (what.Expire (keys.Timer u) from) old = old
-expired_delay t (what.Fire d y) old = old
-expired_delay t (what.Clean class) old = old
-expired_delay t (what.Switch u status) old = old
-expired_delay t (what.Rewait f y) old = old
-expired_delay t (what.Flush a from) old = old
-expired_delay t (what.Gone u) old = old
-expired_delay t (what.Free f k) old = old
-expired_delay t what.Rest old = old
+expired_delay t w old = in_expiry (λ key from. delay_expired t key old) old w
 
 abbrev pub delay_after : Script → ThreadNo → ℕ → ℕ → Option Again → Event → Option Setting → Option Setting
 delay_after s t n now again e old =

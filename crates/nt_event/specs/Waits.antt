@@ -2,7 +2,6 @@
 use Rattle.std.specs.Prelude.{Bool, List, None, Option, Some, [], false, if◌then◌else◌, is_some, length, not, true, ℕ, ◌&&◌, ◌==◌, ◌∷◌}
 use Rattle.nt_event.specs.declared.commands.ApcKind.{ApcKind}
 use Rattle.nt_event.specs.declared.commands.ApcKind.TheVariants.{User as UserApc}
-use Rattle.nt_event.specs.declared.commands.Command.TheVariants as cmd
 use Rattle.nt_event.specs.declared.commands.Mode.{Mode}
 use Rattle.nt_event.specs.declared.commands.Mode.TheVariants.{Kernel as KernelMode, User as UserMode}
 use Rattle.nt_event.specs.declared.commands.Regions.{Regions}
@@ -28,6 +27,10 @@ use Rattle.nt_event.specs.Routines.{cpu_of, is_kernel_kind, kind_of, owner_of}
 use Rattle.nt_event.specs.Threads.{ThreadFacts, ended, ends_by_alert, ends_by_apc, ends_by_expiry, ends_by_release, is_alerted, is_gone, set_alerted, start_facts}
 use Rattle.nt_event.specs.Replies.{alerted, is_answer, is_user, kernel_apc, satisfied, user_apc}
 use Rattle.nt_event.specs.Numbers.{is_by, is_of}
+use Rattle.nt_event.specs.Families.{AddApc, AlertThread, ApcCall, DelaysIn, GivesWay, OwnCall, ReleaseThread, TakeApc, TestsAlert, ThreadCall, WaitsIn, by_apc_call, by_own_call, by_thread_call, in_call, in_expiry}
+use Rattle.nt_event.specs.declared.commands.Command.{Command}
+use Rattle.nt_event.specs.declared.commands.TimerKey.{TimerKey}
+use Rattle.nt_event.specs.Replies.{is_done, is_yes}
 
 -- the wait is satisfied: the released mark is set, and of a delay, its due time is reached (profile)
 abbrev pub is_satisfied : ThreadFacts → Option Bool → Bool
@@ -110,40 +113,21 @@ frame_ended None x = x
 
 -- ---- events that the thread makes
 
+-- a call about the thread itself
+abbrev pub own_facts : ℕ → Stand → OwnCall → Reply → ThreadFacts → ThreadFacts
+own_facts n st (WaitsIn m a) y x = waited n st.regions st.level m a false y x
+own_facts n st (DelaysIn m a units) y x = waited n st.regions st.level m a true y x
+own_facts n st (TestsAlert m) y x = if is_answer y then alert_tested m x else x
+own_facts n st GivesWay y x = if is_done y then record x { doing = IsReady st.level None } else x
+
 abbrev pub made_facts : Script → ℕ → Stand → What → ThreadFacts → ThreadFacts
+made_facts s n st (what.Call f c y) x = by_own_call (λ k. own_facts n st k y x) x c
 made_facts s n st (what.Switch t status) x = record x { doing = IsRunning }
-made_facts s n st (what.Call f (cmd.StartWait m a) y) x = waited n st.regions st.level m a false y x
-made_facts s n st (what.Call f (cmd.Delay m a units) y) x = waited n st.regions st.level m a true y x
 made_facts s n st (what.Rewait f y) x = waited_again n st.regions st.level st.again y x
-made_facts s n st (what.Call f (cmd.TestAlert m) y) x = if is_answer y then alert_tested m x else x
-made_facts s n st (what.Call f cmd.Yield Done) x = record x { doing = IsReady st.level None }
 made_facts s n st (what.Begin (begun.Apc a) from) x = apc_taken (kind_of s a) a x
 made_facts s n st (what.End f) x = frame_ended st.body x
 made_facts s n st (what.Flush a from) x = record x { apcs = without_apc a x.apcs }
 made_facts s n st (what.Gone t) x = record x { doing = IsGone; leaving = false }
-made_facts s n st (what.Call f (cmd.Raise level) y) x = x
-made_facts s n st (what.Call f (cmd.Lower level) y) x = x
-made_facts s n st (what.Call f (cmd.Queue d) y) x = x
-made_facts s n st (what.Call f (cmd.Unqueue d) y) x = x
-made_facts s n st (what.Call f (cmd.SetImportance d i) y) x = x
-made_facts s n st (what.Call f (cmd.SetTarget d q) y) x = x
-made_facts s n st (what.Call f (cmd.SetTimer t due period) y) x = x
-made_facts s n st (what.Call f (cmd.CancelTimer t) y) x = x
-made_facts s n st (what.Call f (cmd.InsertApc a) y) x = x
-made_facts s n st (what.Call f (cmd.RemoveApc a) y) x = x
-made_facts s n st (what.Call f cmd.EnterCrit y) x = x
-made_facts s n st (what.Call f cmd.EnterGuard y) x = x
-made_facts s n st (what.Call f cmd.LeaveCrit y) x = x
-made_facts s n st (what.Call f cmd.LeaveGuard y) x = x
-made_facts s n st (what.Call f (cmd.Release t) y) x = x
-made_facts s n st (what.Call f (cmd.Alert t m) y) x = x
-made_facts s n st (what.Call f (cmd.Interrupt q level) y) x = x
-made_facts s n st (what.Call f (cmd.Clock units) y) x = x
-made_facts s n st (what.Call f cmd.ToUser y) x = x
-made_facts s n st (what.Call f cmd.Yield y) x = x
-made_facts s n st (what.Call f (cmd.Acquire k) y) x = x
-made_facts s n st (what.Call f (cmd.Unlock k) y) x = x
-made_facts s n st (what.Call f (cmd.Note k) y) x = x
 made_facts s n st (what.Look r) x = x
 made_facts s n st (what.Begin (begun.Int level) from) x = x
 made_facts s n st (what.Begin (begun.Dpc d) from) x = x
@@ -182,51 +166,30 @@ expiry_facts from x = if ends_by_expiry from x then ended satisfied x else x
 abbrev pub new_pick : Script → ApcNo → ℕ → Pick
 new_pick s a n = record { apc = a; kind = kind_of s a; number = n }
 
+-- a call that names the thread
+abbrev pub thread_called : ThreadNo → ThreadCall → Reply → ThreadFacts → ThreadFacts
+thread_called t (ReleaseThread u) y x = if is_answer y && (u.0 == t.0) then release_facts x else x
+thread_called t (AlertThread u m) y x = if is_answer y && (u.0 == t.0) then alert_facts m x else x
+
+-- a call that names an APC object of the thread
+abbrev pub apc_called : Script → ThreadNo → ℕ → ApcCall → Reply → ThreadFacts → ThreadFacts
+apc_called s t n (AddApc a) y x =
+    if is_yes y && ((owner_of s a).0 == t.0) then insert_facts (new_pick s a n) x else x
+apc_called s t n (TakeApc a) y x =
+    if is_yes y && ((owner_of s a).0 == t.0) then record x { apcs = without_apc a x.apcs } else x
+
+-- an expiry of the thread's delay
+abbrev pub key_expired : ThreadNo → TimerKey → ℕ → ThreadFacts → ThreadFacts
+key_expired t (keys.Delay u) from x = if u.0 == t.0 then expiry_facts from x else x
+key_expired t (keys.Timer u) from x = x
+
+abbrev pub named_by : Script → ThreadNo → ℕ → Command → Reply → ThreadFacts → ThreadFacts
+named_by s t n c y x =
+    by_thread_call (λ k. thread_called t k y x) (by_apc_call (λ k. apc_called s t n k y x) x c) c
+
 abbrev pub named_facts : Script → ThreadNo → ℕ → What → ThreadFacts → ThreadFacts
-named_facts s t n (what.Call f (cmd.Release u) y) x = if is_answer y && (u.0 == t.0) then release_facts x else x
-named_facts s t n (what.Call f (cmd.Alert u m) y) x = if is_answer y && (u.0 == t.0) then alert_facts m x else x
-named_facts s t n (what.Call f (cmd.InsertApc a) Yes) x =
-    if (owner_of s a).0 == t.0 then insert_facts (new_pick s a n) x else x
-named_facts s t n (what.Call f (cmd.RemoveApc a) Yes) x =
-    if (owner_of s a).0 == t.0 then record x { apcs = without_apc a x.apcs } else x
-named_facts s t n (what.Expire (keys.Delay u) from) x = if u.0 == t.0 then expiry_facts from x else x
-named_facts s t n (what.Call f (cmd.Raise level) y) x = x
-named_facts s t n (what.Call f (cmd.Lower level) y) x = x
-named_facts s t n (what.Call f (cmd.Queue d) y) x = x
-named_facts s t n (what.Call f (cmd.Unqueue d) y) x = x
-named_facts s t n (what.Call f (cmd.SetImportance d i) y) x = x
-named_facts s t n (what.Call f (cmd.SetTarget d q) y) x = x
-named_facts s t n (what.Call f (cmd.SetTimer u due period) y) x = x
-named_facts s t n (what.Call f (cmd.CancelTimer u) y) x = x
-named_facts s t n (what.Call f (cmd.InsertApc a) y) x = x
-named_facts s t n (what.Call f (cmd.RemoveApc a) y) x = x
-named_facts s t n (what.Call f cmd.EnterCrit y) x = x
-named_facts s t n (what.Call f cmd.EnterGuard y) x = x
-named_facts s t n (what.Call f cmd.LeaveCrit y) x = x
-named_facts s t n (what.Call f cmd.LeaveGuard y) x = x
-named_facts s t n (what.Call f (cmd.StartWait m a) y) x = x
-named_facts s t n (what.Call f (cmd.Delay m a units) y) x = x
-named_facts s t n (what.Call f (cmd.TestAlert m) y) x = x
-named_facts s t n (what.Call f (cmd.Interrupt q level) y) x = x
-named_facts s t n (what.Call f (cmd.Clock units) y) x = x
-named_facts s t n (what.Call f cmd.ToUser y) x = x
-named_facts s t n (what.Call f cmd.Yield y) x = x
-named_facts s t n (what.Call f (cmd.Acquire k) y) x = x
-named_facts s t n (what.Call f (cmd.Unlock k) y) x = x
-named_facts s t n (what.Call f (cmd.Note k) y) x = x
-named_facts s t n (what.Look r) x = x
-named_facts s t n (what.Begin b from) x = x
-named_facts s t n (what.Normal f) x = x
-named_facts s t n (what.End f) x = x
-named_facts s t n (what.Expire (keys.Timer u) from) x = x
-named_facts s t n (what.Fire d y) x = x
-named_facts s t n (what.Clean class) x = x
-named_facts s t n (what.Switch u status) x = x
-named_facts s t n (what.Rewait f y) x = x
-named_facts s t n (what.Flush a from) x = x
-named_facts s t n (what.Gone u) x = x
-named_facts s t n (what.Free f k) x = x
-named_facts s t n what.Rest x = x
+named_facts s t n w x =
+    in_call (λ f c y. named_by s t n c y x) (in_expiry (λ key from. key_expired t key from x) x w) w
 
 -- the event is one that the thread makes, on its own processor
 abbrev pub is_of_thread : Script → ThreadNo → Event → Bool

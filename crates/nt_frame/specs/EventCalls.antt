@@ -3,14 +3,7 @@ use Rattle.std.specs.Option.{option_map_or}
 use Rattle.std.specs.Prelude.{List, None, Option, Some, [], false, if◌then◌else◌, length, true, ℕ, ◌++◌, ◌<◌, ◌==◌, ◌∷◌}
 use Rattle.std.specs.Prelude.{◌≡◌}
 use Rattle.nt_event.specs.declared.commands.Command.{Command}
-use Rattle.nt_event.specs.declared.commands.Command.TheVariants.{Acquire, Alert, CancelTimer, Clock, Delay, EnterCrit}
-use Rattle.nt_event.specs.declared.commands.Command.TheVariants.{EnterGuard}
-use Rattle.nt_event.specs.declared.commands.Command.TheVariants.{InsertApc, Interrupt, LeaveCrit, LeaveGuard}
-use Rattle.nt_event.specs.declared.commands.Command.TheVariants.{Lower as LowerCommand, Note, Queue}
-use Rattle.nt_event.specs.declared.commands.Command.TheVariants.{Raise as RaiseCommand}
-use Rattle.nt_event.specs.declared.commands.Command.TheVariants.{Release, RemoveApc, SetImportance, SetTarget, SetTimer}
-use Rattle.nt_event.specs.declared.commands.Command.TheVariants.{StartWait}
-use Rattle.nt_event.specs.declared.commands.Command.TheVariants.{TestAlert, ToUser, Unlock as UnlockCommand, Unqueue, Yield}
+use Rattle.nt_event.specs.declared.commands.Command.TheVariants.{Acquire}
 use Rattle.nt_event.specs.declared.commands.Reply.{Reply}
 use Rattle.nt_event.specs.declared.commands.Reply.TheVariants.{Blocked, Done, No, Refused, Spin, Status, Yes}
 use Rattle.nt_event.specs.declared.events.Begun.{Begun}
@@ -45,6 +38,8 @@ use Rattle.nt_frame.specs.Calls.{left_by_all}
 use Rattle.nt_frame.specs.Changes.{no_frames}
 use Rattle.nt_frame.specs.Nesting.{AreNested}
 use Rattle.nt_frame.specs.Rules.{is_at_base, may_go_on, refusal_in}
+use Rattle.nt_event.specs.Families.{AcquireLock, CritEntered, CritLeft, DelaysIn, GivesWay, GuardEntered, GuardLeft, LevelCall, LockCall, LowerTo, OwnCall, RaiseTo, RegionCall, TestsAlert, UnlockLock, WaitsIn, by_level_call, by_lock_call, by_own_call, by_region_call}
+use Rattle.nt_event.specs.Step.{thread_field}
 
 -- what begins
 abbrev pub body_of : Script → Begun → Body
@@ -81,34 +76,31 @@ acquire_calls k (Refused why) = AdvancePlace ∷ []
 abbrev pub where_done : Reply → List FrameCall → List FrameCall
 where_done y calls = if is_done y then calls else (AdvancePlace ∷ [])
 
+abbrev pub level_calls : LevelCall → List FrameCall
+level_calls (RaiseTo level) = Raise level ∷ AdvancePlace ∷ []
+level_calls (LowerTo level) = Lower level ∷ AdvancePlace ∷ []
+
+abbrev pub region_calls : RegionCall → List FrameCall
+region_calls CritEntered = Enter Crit ∷ AdvancePlace ∷ []
+region_calls GuardEntered = Enter Guard ∷ AdvancePlace ∷ []
+region_calls CritLeft = Leave Crit ∷ AdvancePlace ∷ []
+region_calls GuardLeft = Leave Guard ∷ AdvancePlace ∷ []
+
+abbrev pub own_calls : Option ℕ → OwnCall → Reply → List FrameCall
+own_calls due (WaitsIn m a) y = wait_calls (record { mode = m; alertable = a; due = None }) y
+own_calls due (DelaysIn m a units) y = wait_calls (record { mode = m; alertable = a; due = due }) y
+own_calls due (TestsAlert m) y = AdvancePlace ∷ []
+own_calls due GivesWay y = where_done y (AdvancePlace ∷ SwitchAway ∷ [])
+
+abbrev pub lock_calls : LockCall → Reply → List FrameCall
+lock_calls (AcquireLock k) y = acquire_calls k y
+lock_calls (UnlockLock k) y = where_done y (Unlock k ∷ AdvancePlace ∷ [])
+
 -- a called command with this reply, whose due time this is; a refused one changes the place alone
 abbrev pub command_calls : Option ℕ → Command → Reply → List FrameCall
-command_calls due (RaiseCommand level) y = where_done y (Raise level ∷ AdvancePlace ∷ [])
-command_calls due (LowerCommand level) y = where_done y (Lower level ∷ AdvancePlace ∷ [])
-command_calls due EnterCrit y = where_done y (Enter Crit ∷ AdvancePlace ∷ [])
-command_calls due EnterGuard y = where_done y (Enter Guard ∷ AdvancePlace ∷ [])
-command_calls due LeaveCrit y = where_done y (Leave Crit ∷ AdvancePlace ∷ [])
-command_calls due LeaveGuard y = where_done y (Leave Guard ∷ AdvancePlace ∷ [])
-command_calls due Yield y = where_done y (AdvancePlace ∷ SwitchAway ∷ [])
-command_calls due (StartWait m a) y = wait_calls (record { mode = m; alertable = a; due = None }) y
-command_calls due (Delay m a units) y = wait_calls (record { mode = m; alertable = a; due = due }) y
-command_calls due (Queue d) y = AdvancePlace ∷ []
-command_calls due (Unqueue d) y = AdvancePlace ∷ []
-command_calls due (SetImportance d i) y = AdvancePlace ∷ []
-command_calls due (SetTarget d t) y = AdvancePlace ∷ []
-command_calls due (SetTimer t units period) y = AdvancePlace ∷ []
-command_calls due (CancelTimer t) y = AdvancePlace ∷ []
-command_calls due (InsertApc a) y = AdvancePlace ∷ []
-command_calls due (RemoveApc a) y = AdvancePlace ∷ []
-command_calls due (Release t) y = AdvancePlace ∷ []
-command_calls due (Alert t m) y = AdvancePlace ∷ []
-command_calls due (TestAlert m) y = AdvancePlace ∷ []
-command_calls due (Interrupt p level) y = AdvancePlace ∷ []
-command_calls due (Clock units) y = AdvancePlace ∷ []
-command_calls due ToUser y = AdvancePlace ∷ []
-command_calls due (Acquire k) y = acquire_calls k y
-command_calls due (UnlockCommand k) y = where_done y (Unlock k ∷ AdvancePlace ∷ [])
-command_calls due (Note k) y = AdvancePlace ∷ []
+command_calls due c y =
+    by_level_call (λ k. where_done y (level_calls k)) (by_region_call (λ k. where_done y (region_calls k))
+    (by_own_call (λ k. own_calls due k y) (by_lock_call (λ k. lock_calls k y) (AdvancePlace ∷ []) c) c) c) c
 
 abbrev pub rewait_calls : Reply → List FrameCall
 rewait_calls Blocked = SwitchAway ∷ []
@@ -167,50 +159,23 @@ IsTry k No x = Unit {0}
 IsTry k (Status status) x = Unit {0}
 IsTry k (Refused why) x = Unit {0}
 
+abbrev pub OwnReplies : Command → OwnCall → Reply → Frames → Type 0
+OwnReplies c (WaitsIn m a) y x = is_spin y ≡ false
+OwnReplies c (DelaysIn m a units) y x = is_spin y ≡ false
+OwnReplies c (TestsAlert m) y x = IsNoWait c y x
+OwnReplies c GivesWay y x = IsNoWait c y x
+
+abbrev pub LockReplies : Command → LockCall → Reply → Frames → Type 0
+LockReplies c (AcquireLock k) y x = IsTry k y x
+LockReplies c (UnlockLock k) y x = IsNoWait c y x
+
 -- only waits and delays block, and only a try of a lock spins
 abbrev pub Replies : Command → Reply → Frames → Type 0
-Replies (StartWait m a) y x = is_spin y ≡ false
-Replies (Delay m a units) y x = is_spin y ≡ false
-Replies (RaiseCommand level) y x = IsNoWait (RaiseCommand level) y x
-Replies (LowerCommand level) y x = IsNoWait (LowerCommand level) y x
-Replies (Queue d) y x = IsNoWait (Queue d) y x
-Replies (Unqueue d) y x = IsNoWait (Unqueue d) y x
-Replies (SetImportance d i) y x = IsNoWait (SetImportance d i) y x
-Replies (SetTarget d t) y x = IsNoWait (SetTarget d t) y x
-Replies (SetTimer t due period) y x = IsNoWait (SetTimer t due period) y x
-Replies (CancelTimer t) y x = IsNoWait (CancelTimer t) y x
-Replies (InsertApc a) y x = IsNoWait (InsertApc a) y x
-Replies (RemoveApc a) y x = IsNoWait (RemoveApc a) y x
-Replies EnterCrit y x = IsNoWait EnterCrit y x
-Replies EnterGuard y x = IsNoWait EnterGuard y x
-Replies LeaveCrit y x = IsNoWait LeaveCrit y x
-Replies LeaveGuard y x = IsNoWait LeaveGuard y x
-Replies (Release t) y x = IsNoWait (Release t) y x
-Replies (Alert t m) y x = IsNoWait (Alert t m) y x
-Replies (TestAlert m) y x = IsNoWait (TestAlert m) y x
-Replies (Interrupt p level) y x = IsNoWait (Interrupt p level) y x
-Replies (Clock units) y x = IsNoWait (Clock units) y x
-Replies ToUser y x = IsNoWait ToUser y x
-Replies Yield y x = IsNoWait Yield y x
-Replies (Acquire k) y x = IsTry k y x
-Replies (UnlockCommand k) y x = IsNoWait (UnlockCommand k) y x
-Replies (Note k) y x = IsNoWait (Note k) y x
+Replies c y x =
+    by_own_call (λ k. OwnReplies c k y x) (by_lock_call (λ k. LockReplies c k y x) (IsNoWait c y x) c) c
 
 abbrev pub thread_of : What → Option ThreadNo → Option ThreadNo
-thread_of (SwitchEvent t status) r = Some t
-thread_of (LookEvent k) r = None
-thread_of (CallEvent f c y) r = r
-thread_of (BeginEvent b from) r = r
-thread_of (NormalEvent f) r = r
-thread_of (EndEvent f) r = r
-thread_of (ExpireEvent k from) r = r
-thread_of (FireEvent d y) r = r
-thread_of (CleanEvent c) r = r
-thread_of (RewaitEvent f y) r = r
-thread_of (FlushEvent a from) r = r
-thread_of (GoneEvent t) r = r
-thread_of (FreeEvent f k) r = r
-thread_of RestEvent r = r
+thread_of w r = thread_field w r
 
 -- what the event says of the frames is so: the routine that it names is the innermost one, its reply may come there, an
 -- APC has a normal routine left, a thread that is taken up is one of the processor's and runs over no frame of its own

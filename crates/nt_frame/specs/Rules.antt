@@ -4,7 +4,6 @@ use Rattle.std.specs.Prelude.{Bool, Option, Some, false, is_none, nat_lt, not, o
 use Rattle.nt_event.specs.declared.commands.ApcKind.TheVariants.{User as UserApc}
 use Rattle.nt_event.specs.declared.commands.Command.{Command}
 use Rattle.nt_event.specs.declared.commands.Command.TheVariants.{EnterCrit, EnterGuard, LeaveCrit, LeaveGuard, ToUser}
-use Rattle.nt_event.specs.declared.commands.Command.TheVariants as cmd
 use Rattle.nt_event.specs.declared.commands.Refusal.{Refusal}
 use Rattle.nt_event.specs.declared.commands.Refusal.TheVariants.{NotThread}
 use Rattle.nt_event.specs.declared.commands.Regions.{Regions}
@@ -26,6 +25,7 @@ use Rattle.nt_frame.specs.declared.change.Change.{Change}
 use Rattle.nt_frame.specs.declared.change.Change.TheVariants.{Acquire, AdvancePlace, EndBase, Free, GoOn, SetAgain}
 use Rattle.nt_frame.specs.declared.change.Change.TheVariants.{SetEntered, SetLevel, SpinOn}
 use Rattle.nt_frame.specs.Changes.{entered}
+use Rattle.nt_event.specs.Families.{by_level_call, by_region_call}
 
 -- the regions of the running thread
 abbrev pub regions_in : Frames → Regions
@@ -38,32 +38,7 @@ refusal_in c x =
 
 -- the commands of levels and regions, which the frames alone answer
 abbrev pub is_frames_own : Command → Bool
-is_frames_own (cmd.Raise level) = true
-is_frames_own (cmd.Lower level) = true
-is_frames_own cmd.EnterCrit = true
-is_frames_own cmd.EnterGuard = true
-is_frames_own cmd.LeaveCrit = true
-is_frames_own cmd.LeaveGuard = true
-is_frames_own (cmd.Queue d) = false
-is_frames_own (cmd.Unqueue d) = false
-is_frames_own (cmd.SetImportance d i) = false
-is_frames_own (cmd.SetTarget d q) = false
-is_frames_own (cmd.SetTimer t due period) = false
-is_frames_own (cmd.CancelTimer t) = false
-is_frames_own (cmd.InsertApc a) = false
-is_frames_own (cmd.RemoveApc a) = false
-is_frames_own (cmd.StartWait m a) = false
-is_frames_own (cmd.Delay m a units) = false
-is_frames_own (cmd.Release t) = false
-is_frames_own (cmd.Alert t m) = false
-is_frames_own (cmd.TestAlert m) = false
-is_frames_own (cmd.Interrupt q level) = false
-is_frames_own (cmd.Clock units) = false
-is_frames_own cmd.ToUser = false
-is_frames_own cmd.Yield = false
-is_frames_own (cmd.Acquire k) = false
-is_frames_own (cmd.Unlock k) = false
-is_frames_own (cmd.Note k) = false
+is_frames_own c = by_level_call (λ k. true) (by_region_call (λ k. true) false c) c
 
 -- the lock that the innermost frame acquired last among those that it holds, and the one on which it spins
 abbrev pub last_held_in : Frames → Option LockNo

@@ -11,6 +11,7 @@ use Rattle.nt_history.specs.declared.brief.Did.{Did}
 use Rattle.nt_history.specs.declared.brief.Did.TheVariants as did
 use Rattle.nt_history.specs.declared.brief.Noticed.{Noticed}
 use Rattle.nt_history.specs.declared.brief.Noticed.TheVariants.{One, Several}
+use Rattle.nt_event.specs.Families.{in_look}
 
 -- a look in which nothing rose, and one in which this class alone rose, to this value
 abbrev pub no_rises : Rises
@@ -104,20 +105,7 @@ noticed_of did.Rest = nothing
 
 -- these are the values of what an event does, where it is a look
 abbrev pub HasValues : Rises → What → Type 0
-HasValues r (what.Look values) = r ≡ values
-HasValues r (what.Call f c y) = Unit {0}
-HasValues r (what.Begin b from) = Unit {0}
-HasValues r (what.Normal f) = Unit {0}
-HasValues r (what.End f) = Unit {0}
-HasValues r (what.Expire key from) = Unit {0}
-HasValues r (what.Fire d y) = Unit {0}
-HasValues r (what.Clean class) = Unit {0}
-HasValues r (what.Switch t status) = Unit {0}
-HasValues r (what.Rewait f y) = Unit {0}
-HasValues r (what.Flush a from) = Unit {0}
-HasValues r (what.Gone t) = Unit {0}
-HasValues r (what.Free f l) = Unit {0}
-HasValues r what.Rest = Unit {0}
+HasValues r w = in_look (λ values. r ≡ values) (Unit {0}) w
 
 -- the values that a brief refers to
 abbrev pub values_of : List Rises → Brief → Rises

@@ -1,11 +1,9 @@
 -- The fate of inserts in a run.
 use Rattle.std.specs.List.{Contains}
 use Rattle.std.specs.Prelude.{Bool, List, None, Option, Some, [], false, filter, if◌then◌else◌, is_some, length, map, true, ℕ, ◌&&◌, ◌<◌, ◌==◌, ◌∷◌, ◌≡◌, ◌≤◌}
-use Rattle.nt_event.specs.declared.commands.Command.TheVariants.{RemoveApc, Unqueue}
-use Rattle.nt_event.specs.declared.events.Begun.TheVariants.{Apc, Dpc, Threaded}
+use Rattle.nt_event.specs.declared.events.Begun.TheVariants.{Apc, Dpc, Threaded, Int}
 use Rattle.nt_event.specs.declared.events.Event.{Event}
 use Rattle.nt_event.specs.declared.events.What.{What}
-use Rattle.nt_event.specs.declared.events.What.TheVariants.{Begin, Call, Flush}
 use Rattle.nt_event.specs.declared.inserts.Insert.{Insert}
 use Rattle.nt_event.specs.declared.inserts.Pick.{Pick}
 use Rattle.nt_event.specs.declared.inserts.Standing.{Standing}
@@ -15,15 +13,18 @@ use Rattle.nt_event.specs.declared.numbers.DpcNo.{DpcNo}
 use Rattle.nt_event.specs.declared.numbers.ThreadNo.{ThreadNo}
 use Rattle.nt_event.specs.declared.scripts.Script.{Script}
 use Rattle.nt_event.specs.Apcs.{is_inserted, is_of_apc}
-use Rattle.nt_event.specs.Fate.{ApcThing, DpcThing, StillWaits, Thing, fate_of}
+use Rattle.nt_event.specs.Fate.{ApcThing, DpcThing, StillWaits, Thing, fate_of, apc_begun, is_apc}
 use Rattle.nt_event.specs.Frames.{running}
-use Rattle.nt_event.specs.Objects.{standing}
+use Rattle.nt_event.specs.Objects.{standing, dpc_begun, is_dpc}
 use Rattle.nt_event.specs.Queues.{is_of_dpc, pending}
 use Rattle.nt_event.specs.Routines.{owner_of}
 use Rattle.nt_event.specs.Script.{fits, has_apc, has_dpc, has_thread}
 use Rattle.nt_event.specs.Step.{IsRun}
 use Rattle.nt_event.specs.Waits.{facts}
 use Rattle.nt_event.specs.Replies.{is_refused, yes_if}
+use Rattle.nt_event.specs.Families.{AddApc, ApcCall, DpcCall, GiveImportance, GiveTarget, InsertDpc, RemoveDpc, TakeApc, by_apc_call, by_dpc_call, in_begin, in_call, in_flush}
+use Rattle.nt_event.specs.declared.events.Begun.{Begun}
+use Rattle.nt_event.specs.declared.commands.Reply.{Reply}
 
 -- the insert of the DPC object at this number is pending in the queue of p
 abbrev pub DpcIsPending : Script → CpuNo → DpcNo → ℕ → List Event → Type 0
@@ -34,28 +35,45 @@ abbrev pub ApcIsPending : Script → ThreadNo → ApcNo → ℕ → List Event �
 ApcIsPending s t a n past =
     (x : Pick) × Contains (facts s t past).apcs.pending x × (x.apc ≡ a) × (x.number ≡ n)
 
+-- the insert of the APC object at this number is pending at its own thread, which runs on p
+abbrev pub ApcIsDeliverable : Script → CpuNo → ApcNo → ℕ → List Event → Type 0
+ApcIsDeliverable s p a n past = (running p past ≡ Some (owner_of s a)) × ApcIsPending s (owner_of s a) a n past
+
+abbrev pub BeginNamesPending : Script → CpuNo → Begun → ℕ → List Event → Type 0
+BeginNamesPending s p (Dpc d) from past = DpcIsPending s p d from past
+BeginNamesPending s p (Threaded d) from past = DpcIsPending s p d from past
+BeginNamesPending s p (Apc a) from past = ApcIsDeliverable s p a from past
+BeginNamesPending s p (Int level) from past = Unit {0}
+
 -- what an event of p delivers is pending: a DPC in the queue of p, an APC at its own thread, which runs on p
 abbrev pub NamesPending : Script → CpuNo → What → List Event → Type 0
-NamesPending s p (Begin (Dpc d) from) past = DpcIsPending s p d from past
-NamesPending s p (Begin (Threaded d) from) past = DpcIsPending s p d from past
-NamesPending s p (Begin (Apc a) from) past = (running p past ≡ Some (owner_of s a)) ×
-    ApcIsPending s (owner_of s a) a from past
-NamesPending s p (Flush a from) past = (running p past ≡ Some (owner_of s a)) ×
-    ApcIsPending s (owner_of s a) a from past
-NamesPending s p w past = Unit {0}
+NamesPending s p w past =
+    in_begin (λ b from. BeginNamesPending s p b from past)
+    (in_flush (λ a from. ApcIsDeliverable s p a from past) (Unit {0}) w) w
 
 -- in a run each Begin of a DPC or APC and each Flush names an insert of its object that was pending just before it
 abbrev pub DeliveriesNamePendingInserts : Type 0
 DeliveriesNamePendingInserts = (s : Script) (limit : ℕ) (e : Event) (past : List Event) → IsRun s limit (e ∷ past) →
     NamesPending s e.cpu e.what past
 
+abbrev pub DpcRemovalTells : Script → DpcCall → Reply → List Event → Type 0
+DpcRemovalTells s (RemoveDpc d) y past =
+    has_dpc s d ≡ true → is_refused y ≡ false → y ≡ yes_if (is_some (standing d past))
+DpcRemovalTells s (InsertDpc d) y past = Unit {0}
+DpcRemovalTells s (GiveImportance d i) y past = Unit {0}
+DpcRemovalTells s (GiveTarget d q) y past = Unit {0}
+
+abbrev pub ApcRemovalTells : Script → ApcCall → Reply → List Event → Type 0
+ApcRemovalTells s (TakeApc a) y past =
+    has_thread s (owner_of s a) ≡ true → is_refused y ≡ false → y
+    ≡ yes_if (is_inserted a (facts s (owner_of s a) past).apcs)
+ApcRemovalTells s (AddApc a) y past = Unit {0}
+
 -- a removal of an object of the script that isn't refused answers yes exactly where the object is inserted, and else no
 abbrev pub RemovalTells : Script → What → List Event → Type 0
-RemovalTells s (Call f (Unqueue d) y) past = has_dpc s d ≡ true → is_refused y ≡ false → y
-    ≡ yes_if (is_some (standing d past))
-RemovalTells s (Call f (RemoveApc a) y) past = has_thread s (owner_of s a) ≡ true → is_refused y ≡ false → y
-    ≡ yes_if (is_inserted a (facts s (owner_of s a) past).apcs)
-RemovalTells s w past = Unit {0}
+RemovalTells s w past =
+    in_call (λ f c y. by_dpc_call (λ k. DpcRemovalTells s k y past)
+    (by_apc_call (λ k. ApcRemovalTells s k y past) (Unit {0}) c) c) (Unit {0}) w
 
 -- in a run each removal tells whether its object was inserted just before it
 abbrev pub RemovalsTell : Type 0
@@ -83,11 +101,9 @@ AtMostOnePendingInsert = (s : Script) (limit : ℕ) (d : DpcNo) (past : List Eve
 
 -- the event delivers the insert of the thing at this number: it is a Begin or Flush that names it
 abbrev pub delivers : Thing → ℕ → What → Bool
-delivers (DpcThing d) n (Begin (Dpc x) from) = (x.0 == d.0) && (from == n)
-delivers (DpcThing d) n (Begin (Threaded x) from) = (x.0 == d.0) && (from == n)
-delivers (ApcThing a) n (Begin (Apc x) from) = (x.0 == a.0) && (from == n)
-delivers (ApcThing a) n (Flush x from) = (x.0 == a.0) && (from == n)
-delivers thing n w = false
+delivers (DpcThing d) n w = in_begin (λ b from. is_dpc (dpc_begun b) d && (from == n)) false w
+delivers (ApcThing a) n w =
+    in_begin (λ b from. is_apc (apc_begun b) a && (from == n)) (in_flush (λ x from. (x.0 == a.0) && (from == n)) false w) w
 
 -- where it is a DPC object, the script has it
 abbrev pub is_declared : Script → Thing → Bool

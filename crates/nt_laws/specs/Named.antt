@@ -10,32 +10,26 @@ use Rattle.nt_event.specs.Classes.{is_interrupt_level, is_used_class, dispatch_c
 use Rattle.nt_event.specs.Script.{fits, has_cpu, has_thread, where_given}
 use Rattle.nt_event.specs.Step.{IsRun, is_look}
 use Rattle.nt_event.specs.Fitting.{what_fits}
+use Rattle.nt_event.specs.Families.{in_begin, in_clean, in_look}
+use Rattle.nt_event.specs.declared.events.Begun.{Begun}
 
 -- the values of a look, from this class on, rise in used classes alone
 abbrev pub values_fit : ℕ → List ℕ → Bool
 values_fit c [] = true
 values_fit c (v ∷ vs) = ((v == 0) || is_used_class c) && values_fit (suc c) vs
 
+abbrev pub begins_in_class : Begun → Bool
+begins_in_class (Int level) = is_interrupt_level level
+begins_in_class (Dpc d) = true
+begins_in_class (Threaded d) = true
+begins_in_class (Apc a) = true
+
 -- a look has a value, and values in used classes alone; an interrupt has the level of one; a Clean serves one of the
 -- first three
 abbrev pub keeps_to_classes : What → Bool
-keeps_to_classes (Look r) = list_any (λ v. nat_lt 0 v) r.value && values_fit 0 r.value
-keeps_to_classes (Begin (Int level) from) = is_interrupt_level level
-keeps_to_classes (Begin (Dpc d) from) = true
-keeps_to_classes (Begin (Threaded d) from) = true
-keeps_to_classes (Begin (Apc a) from) = true
-keeps_to_classes (Call f c y) = true
-keeps_to_classes (Normal f) = true
-keeps_to_classes (End f) = true
-keeps_to_classes (Expire key from) = true
-keeps_to_classes (Fire d y) = true
-keeps_to_classes (Clean c) = nat_le c dispatch_class
-keeps_to_classes (Switch t status) = true
-keeps_to_classes (Rewait f y) = true
-keeps_to_classes (Flush a from) = true
-keeps_to_classes (Gone t) = true
-keeps_to_classes (Free f k) = true
-keeps_to_classes Rest = true
+keeps_to_classes w =
+    in_look (λ r. list_any (λ v. nat_lt 0 v) r.value && values_fit 0 r.value)
+    (in_begin (λ b from. begins_in_class b) (in_clean (λ c. nat_le c dispatch_class) true w) w) w
 
 -- the number of an earlier event that it tells: the one that began its frame, or the one whose request or setting it
 -- uses up

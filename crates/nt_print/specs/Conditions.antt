@@ -16,6 +16,7 @@ use Rattle.nt_line.specs.Fits.{HasRange}
 use Rattle.nt_script.specs.Sound.{IsSound}
 use Rattle.nt_event.specs.Fitting.{event_fits}
 use Rattle.nt_print.specs.Report.{report_text}
+use Rattle.nt_event.specs.Families.{in_look}
 
 -- a number of 32 bits
 abbrev pub IsWord : ℕ → Type 0
@@ -60,20 +61,7 @@ WhatInRange version Rest = Unit {0}
 
 -- a look names no thread and has level 0
 abbrev pub LookIsBare : Event → What → Type 0
-LookIsBare e (Look rises) = (e.thread ≡ None) × (e.level ≡ 0)
-LookIsBare e (Call frame c reply) = Unit {0}
-LookIsBare e (Begin begun from) = Unit {0}
-LookIsBare e (Normal frame) = Unit {0}
-LookIsBare e (End frame) = Unit {0}
-LookIsBare e (Expire key from) = Unit {0}
-LookIsBare e (Fire d reply) = Unit {0}
-LookIsBare e (Clean class) = Unit {0}
-LookIsBare e (Switch t status) = Unit {0}
-LookIsBare e (Rewait frame reply) = Unit {0}
-LookIsBare e (Flush a from) = Unit {0}
-LookIsBare e (Gone t) = Unit {0}
-LookIsBare e (Free frame l) = Unit {0}
-LookIsBare e Rest = Unit {0}
+LookIsBare e w = in_look (λ rises. (e.thread ≡ None) × (e.level ≡ 0)) (Unit {0}) w
 
 abbrev pub EventInRange : ℕ → Event → Type 0
 EventInRange version e = (e.level ≤ 15) × WhatInRange version e.what × LookIsBare e e.what

@@ -6,27 +6,15 @@ use Rattle.nt_event.specs.declared.commands.Reply.TheVariants.{Blocked, Done, No
 use Rattle.nt_event.specs.declared.events.Event.{Event}
 use Rattle.nt_event.specs.declared.events.History.{History}
 use Rattle.nt_event.specs.declared.events.What.{What}
-use Rattle.nt_event.specs.declared.events.What.TheVariants.{Begin, Call, Clean, End, Expire, Fire, Flush, Free, Gone, Look, Normal, Rest, Rewait, Switch}
 use Rattle.nt_script.specs.declared.walk.Input.{Input}
 use Rattle.nt_print.specs.Report.{cut_rows, wait_rows}
+use Rattle.nt_event.specs.Families.{in_begin, in_call}
+use Rattle.nt_event.specs.Replies.{is_refused}
 
 -- ---- what is counted
 
 abbrev pub is_call : What → Bool
-is_call (Call frame c reply) = true
-is_call (Look rises) = false
-is_call (Begin begun from) = false
-is_call (Normal frame) = false
-is_call (End frame) = false
-is_call (Expire key from) = false
-is_call (Fire d reply) = false
-is_call (Clean class) = false
-is_call (Switch t status) = false
-is_call (Rewait frame reply) = false
-is_call (Flush a from) = false
-is_call (Gone t) = false
-is_call (Free frame l) = false
-is_call Rest = false
+is_call w = in_call (λ frame c reply. true) false w
 
 abbrev pub is_refused : Reply → Bool
 is_refused (Refused cause) = true
@@ -38,36 +26,10 @@ is_refused Blocked = false
 is_refused Spin = false
 
 abbrev pub is_refused_call : What → Bool
-is_refused_call (Call frame c reply) = is_refused reply
-is_refused_call (Look rises) = false
-is_refused_call (Begin begun from) = false
-is_refused_call (Normal frame) = false
-is_refused_call (End frame) = false
-is_refused_call (Expire key from) = false
-is_refused_call (Fire d reply) = false
-is_refused_call (Clean class) = false
-is_refused_call (Switch t status) = false
-is_refused_call (Rewait frame reply) = false
-is_refused_call (Flush a from) = false
-is_refused_call (Gone t) = false
-is_refused_call (Free frame l) = false
-is_refused_call Rest = false
+is_refused_call w = in_call (λ frame c reply. is_refused reply) false w
 
 abbrev pub is_begin : What → Bool
-is_begin (Begin begun from) = true
-is_begin (Call frame c reply) = false
-is_begin (Look rises) = false
-is_begin (Normal frame) = false
-is_begin (End frame) = false
-is_begin (Expire key from) = false
-is_begin (Fire d reply) = false
-is_begin (Clean class) = false
-is_begin (Switch t status) = false
-is_begin (Rewait frame reply) = false
-is_begin (Flush a from) = false
-is_begin (Gone t) = false
-is_begin (Free frame l) = false
-is_begin Rest = false
+is_begin w = in_begin (λ begun from. true) false w
 
 -- how many events did such a thing
 abbrev pub how_many : (What → Bool) → List Event → ℕ

@@ -1,19 +1,17 @@
 -- What inserts things and what uses the inserts up, as the printer notes it: a Begin or Flush names an insert, and a call
 -- removes a thing.
 use Rattle.std.specs.Prelude.{ℕ, Bool, false, ◌&&◌, ◌==◌, List, map, get_or, Option, Some, None, if◌then◌else◌}
-use Rattle.nt_event.specs.declared.commands.Command.TheVariants as cmd
-use Rattle.nt_event.specs.declared.commands.Reply.TheVariants.{Yes}
 use Rattle.nt_event.specs.declared.events.Begun.TheVariants.{Apc, Dpc, Int, Threaded}
 use Rattle.nt_event.specs.declared.events.Event.{Event}
 use Rattle.nt_event.specs.declared.events.What.{What}
-use Rattle.nt_event.specs.declared.events.What.TheVariants.{Begin, Call, Clean, End, Expire, Fire, Flush, Free, Gone, Look, Normal, Rest, Rewait, Switch}
-use Rattle.nt_event.specs.declared.events.What.TheVariants as what
 use Rattle.nt_event.specs.declared.scripts.Script.{Script}
-use Rattle.nt_event.specs.Fate.{ApcThing, DpcThing, Inserted, Thing, fate_of, inserted_thing, still_waits}
+use Rattle.nt_event.specs.Fate.{ApcThing, DpcThing, Inserted, Thing, fate_of, inserted_thing, still_waits, thing_removed}
 use Rattle.nt_event.specs.Script.{has_apc, has_dpc}
 use Rattle.nt_print.specs.declared.inserts.Insert.{Insert}
 use Rattle.nt_print.specs.declared.inserts.Object.{Object}
 use Rattle.nt_print.specs.declared.inserts.Object.TheVariants as object
+use Rattle.nt_event.specs.Families.{in_begin, in_call, in_flush}
+use Rattle.nt_event.specs.declared.events.Begun.{Begun}
 
 -- ---- things
 
@@ -41,69 +39,22 @@ is_it x (Some thing) = same_thing x thing
 
 -- ---- what an event uses up
 
+-- what begins by an insert, if anything
+abbrev pub insert_begun : ℕ → Begun → Option Inserted
+insert_begun n (Dpc x) = Some (record { number = n; thing = DpcThing x })
+insert_begun n (Threaded x) = Some (record { number = n; thing = DpcThing x })
+insert_begun n (Apc x) = Some (record { number = n; thing = ApcThing x })
+insert_begun n (Int level) = None
+
 -- the insert that a Begin or Flush names
 abbrev pub named_by : What → Option Inserted
-named_by (Begin (Dpc x) from) = Some (record { number = from; thing = DpcThing x })
-named_by (Begin (Threaded x) from) = Some (record { number = from; thing = DpcThing x })
-named_by (Begin (Apc x) from) = Some (record { number = from; thing = ApcThing x })
-named_by (Flush x from) = Some (record { number = from; thing = ApcThing x })
-named_by (Call frame c reply) = None
-named_by (Look rises) = None
-named_by (Begin (Int level) from) = None
-named_by (Normal frame) = None
-named_by (End frame) = None
-named_by (Expire key from) = None
-named_by (Fire d reply) = None
-named_by (Clean class) = None
-named_by (Switch t status) = None
-named_by (Rewait frame reply) = None
-named_by (Gone t) = None
-named_by (Free frame l) = None
-named_by Rest = None
+named_by w =
+    in_begin (λ b from. insert_begun from b)
+    (in_flush (λ x from. Some (record { number = from; thing = ApcThing x })) None w) w
 
 -- what is removed with reply yes
 abbrev pub removed_by : What → Option Thing
-removed_by (Call f (cmd.Unqueue x) Yes) = Some (DpcThing x)
-removed_by (Call f (cmd.RemoveApc x) Yes) = Some (ApcThing x)
-removed_by (Call f (cmd.Raise level) y) = None
-removed_by (Call f (cmd.Lower level) y) = None
-removed_by (Call f (cmd.Queue d) y) = None
-removed_by (Call f (cmd.Unqueue d) y) = None
-removed_by (Call f (cmd.SetImportance d i) y) = None
-removed_by (Call f (cmd.SetTarget d q) y) = None
-removed_by (Call f (cmd.SetTimer t due period) y) = None
-removed_by (Call f (cmd.CancelTimer t) y) = None
-removed_by (Call f (cmd.InsertApc a) y) = None
-removed_by (Call f (cmd.RemoveApc a) y) = None
-removed_by (Call f cmd.EnterCrit y) = None
-removed_by (Call f cmd.EnterGuard y) = None
-removed_by (Call f cmd.LeaveCrit y) = None
-removed_by (Call f cmd.LeaveGuard y) = None
-removed_by (Call f (cmd.StartWait m a) y) = None
-removed_by (Call f (cmd.Delay m a units) y) = None
-removed_by (Call f (cmd.Release t) y) = None
-removed_by (Call f (cmd.Alert t m) y) = None
-removed_by (Call f (cmd.TestAlert m) y) = None
-removed_by (Call f (cmd.Interrupt q level) y) = None
-removed_by (Call f (cmd.Clock units) y) = None
-removed_by (Call f cmd.ToUser y) = None
-removed_by (Call f cmd.Yield y) = None
-removed_by (Call f (cmd.Acquire l) y) = None
-removed_by (Call f (cmd.Unlock l) y) = None
-removed_by (Call f (cmd.Note k) y) = None
-removed_by (what.Look rises) = None
-removed_by (what.Begin b from) = None
-removed_by (what.Normal f) = None
-removed_by (what.End f) = None
-removed_by (what.Expire key from) = None
-removed_by (what.Fire d y) = None
-removed_by (what.Clean class) = None
-removed_by (what.Switch t status) = None
-removed_by (what.Rewait f y) = None
-removed_by (what.Flush a from) = None
-removed_by (what.Gone t) = None
-removed_by (what.Free f l) = None
-removed_by what.Rest = None
+removed_by w = in_call (λ f c y. thing_removed c y) None w
 
 -- the insert that is named is this one
 abbrev pub names_it : Option Inserted → Thing → ℕ → Bool

@@ -4,30 +4,17 @@ use Rattle.std.specs.List.{AllByRecursion}
 use Rattle.nt_event.specs.declared.events.Event.{Event}
 use Rattle.nt_event.specs.declared.events.Turn.{Turn}
 use Rattle.nt_event.specs.declared.events.What.{What}
-use Rattle.nt_event.specs.declared.events.What.TheVariants.{Begin, Call, Clean, End, Expire, Fire, Flush, Free, Gone, Look, Normal, Rest, Rewait, Switch}
 use Rattle.nt_event.specs.declared.scripts.Script.{Script}
 use Rattle.nt_event.specs.Classes.{class_count}
 use Rattle.nt_event.specs.Robin.{IsRobin}
 use Rattle.nt_event.specs.Step.{turns}
 use Rattle.nt_script.specs.declared.walk.Input.{Input}
 use Rattle.nt_log.specs.Schedules.{TurnIsPlain}
+use Rattle.nt_event.specs.Families.{in_look}
 
 -- a look has a value for each class
 abbrev pub LookIsWhole : What → Type 0
-LookIsWhole (Look rises) = length rises.value ≡ class_count
-LookIsWhole (Call frame c reply) = Unit {0}
-LookIsWhole (Begin begun from) = Unit {0}
-LookIsWhole (Normal frame) = Unit {0}
-LookIsWhole (End frame) = Unit {0}
-LookIsWhole (Expire key from) = Unit {0}
-LookIsWhole (Fire d reply) = Unit {0}
-LookIsWhole (Clean class) = Unit {0}
-LookIsWhole (Switch t status) = Unit {0}
-LookIsWhole (Rewait frame reply) = Unit {0}
-LookIsWhole (Flush a from) = Unit {0}
-LookIsWhole (Gone t) = Unit {0}
-LookIsWhole (Free frame l) = Unit {0}
-LookIsWhole Rest = Unit {0}
+LookIsWhole w = in_look (λ rises. length rises.value ≡ class_count) (Unit {0}) w
 
 abbrev pub LooksAreWhole : List Event → Type 0
 LooksAreWhole events = AllByRecursion (λ e. LookIsWhole e.what) events

@@ -4,7 +4,7 @@ use Rattle.nt_event.specs.declared.commands.Command.TheVariants.{Acquire, Unlock
 use Rattle.nt_event.specs.declared.commands.Reply.TheVariants.{Done, Spin}
 use Rattle.nt_event.specs.declared.events.Event.{Event}
 use Rattle.nt_event.specs.declared.events.What.{What}
-use Rattle.nt_event.specs.declared.events.What.TheVariants.{Begin, Call, Clean, End, Expire, Fire, Flush, Free, Gone, Look, Normal, Rest, Rewait, Switch}
+use Rattle.nt_event.specs.declared.events.What.TheVariants.{Call, Free}
 use Rattle.nt_event.specs.declared.frames.Held.{Held}
 use Rattle.nt_event.specs.declared.numbers.CpuNo.{CpuNo}
 use Rattle.nt_event.specs.declared.numbers.LockNo.{LockNo}
@@ -17,6 +17,7 @@ use Rattle.nt_event.specs.Step.{IsRun}
 use Rattle.nt_runs.specs.SomeFrame.{among}
 use Rattle.nt_readings.specs.Positions.{At, EachAfter, Everywhere}
 use Rattle.nt_readings.specs.Regions.{EachFrame, phase_of}
+use Rattle.nt_event.specs.Families.{in_call}
 
 -- ---- what an event does to a lock of its frame
 
@@ -34,20 +35,7 @@ IsFreeing n k w = (w ≡ Call n (Unlock k) Done) ⊎ (w ≡ Free n k)
 
 -- the frame calls a command
 abbrev pub IsCallOf : ℕ → What → Type 0
-IsCallOf n (Call f c y) = f ≡ n
-IsCallOf n (Begin b from) = ⊥
-IsCallOf n (Normal f) = ⊥
-IsCallOf n (End f) = ⊥
-IsCallOf n (Expire key from) = ⊥
-IsCallOf n (Fire d y) = ⊥
-IsCallOf n (Clean c) = ⊥
-IsCallOf n (Look r) = ⊥
-IsCallOf n (Switch t status) = ⊥
-IsCallOf n (Rewait f y) = ⊥
-IsCallOf n (Flush a from) = ⊥
-IsCallOf n (Gone t) = ⊥
-IsCallOf n (Free f k) = ⊥
-IsCallOf n Rest = ⊥
+IsCallOf n w = in_call (λ f c y. f ≡ n) ⊥ w
 
 -- ---- holding and spinning
 

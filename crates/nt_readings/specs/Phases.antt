@@ -7,7 +7,7 @@ use Rattle.nt_event.specs.declared.commands.Reply.{Reply}
 use Rattle.nt_event.specs.declared.commands.Reply.TheVariants.{Blocked, Done, Status}
 use Rattle.nt_event.specs.declared.events.Event.{Event}
 use Rattle.nt_event.specs.declared.events.What.{What}
-use Rattle.nt_event.specs.declared.events.What.TheVariants.{Begin, Call, Clean, End, Expire, Fire, Flush, Free, Gone, Look, Normal, Rest, Rewait, Switch}
+use Rattle.nt_event.specs.declared.events.What.TheVariants.{Call, Normal, Rewait}
 use Rattle.nt_event.specs.declared.frames.Again.{Again}
 use Rattle.nt_event.specs.Frame.{Frame}
 use Rattle.nt_event.specs.declared.numbers.CpuNo.{CpuNo}
@@ -21,23 +21,11 @@ use Rattle.nt_event.specs.Replies.{is_spin}
 use Rattle.nt_readings.specs.Locks.{IsFreeing, IsGet, IsKeptWith, IsSpin}
 use Rattle.nt_readings.specs.Positions.{At, EachAfter}
 use Rattle.nt_readings.specs.Regions.{EachFrame, count_after, phase_of}
+use Rattle.nt_event.specs.Families.{in_call}
 
 -- the frame calls a command, which it needn't try again
 abbrev pub is_call_of : ℕ → What → Bool
-is_call_of n (Call f c y) = (f == n) && not (is_spin y)
-is_call_of n (Begin b from) = false
-is_call_of n (Normal f) = false
-is_call_of n (End f) = false
-is_call_of n (Expire key from) = false
-is_call_of n (Fire d y) = false
-is_call_of n (Clean c) = false
-is_call_of n (Look r) = false
-is_call_of n (Switch t status) = false
-is_call_of n (Rewait f y) = false
-is_call_of n (Flush a from) = false
-is_call_of n (Gone t) = false
-is_call_of n (Free f k) = false
-is_call_of n Rest = false
+is_call_of n w = in_call (λ f c y. (f == n) && not (is_spin y)) false w
 
 -- the frame goes on to its normal routine
 abbrev pub is_normal_of : ℕ → What → Bool

@@ -4,7 +4,6 @@ use Rattle.nt_event.specs.declared.commands.Reply.TheVariants.{Spin}
 use Rattle.nt_event.specs.declared.events.Begun.TheVariants.{Apc, Dpc, Int, Threaded}
 use Rattle.nt_event.specs.declared.events.Event.{Event}
 use Rattle.nt_event.specs.declared.events.What.{What}
-use Rattle.nt_event.specs.declared.events.What.TheVariants.{Begin, Call, Clean, End, Expire, Fire, Flush, Free, Gone, Look, Normal, Rest, Rewait, Switch}
 use Rattle.nt_event.specs.declared.jobs.Lane.{Lane}
 use Rattle.nt_event.specs.declared.numbers.CpuNo.{CpuNo}
 use Rattle.nt_event.specs.declared.scripts.Script.{Script}
@@ -14,6 +13,8 @@ use Rattle.nt_event.specs.Requests.{asks, looked, seen, served}
 use Rattle.nt_event.specs.Step.{IsRun}
 use Rattle.nt_event.specs.Numbers.{is_of}
 use Rattle.nt_readings.specs.Positions.{At, EachAfter, Everywhere, IsGreatestNext, Somewhere}
+use Rattle.nt_event.specs.Families.{in_begin, in_call, in_clean}
+use Rattle.nt_event.specs.declared.events.Begun.{Begun}
 
 -- event n asks for the class on p
 abbrev pub IsAsk : Script → CpuNo → ℕ → ℕ → List Event → Type 0
@@ -49,26 +50,18 @@ abbrev pub SeenIsGreatestNoticed : Type 0
 SeenIsGreatestNoticed = (s : Script) (limit : ℕ) (p : CpuNo) (c : ℕ) (past : List Event) → IsRun s limit past →
     IsGreatestNext (IsNoticedAsk s p c past) (seen s p c past)
 
+abbrev pub BeginServes : ℕ → Begun → Type 0
+BeginServes c (Int level) = (level ≡ c) × (2 < c) × (c ≡ lock_class → ⊥)
+BeginServes c (Dpc d) = ⊥
+BeginServes c (Threaded d) = ⊥
+BeginServes c (Apc a) = ⊥
+
 -- the event serves the class: a Clean of it for the classes 0 to 2, a call that spins for that of released locks, a
 -- Begin of its interrupt for the others
 abbrev pub IsServing : ℕ → What → Type 0
-IsServing c (Clean k) = (k ≡ c) × (c < 3)
-IsServing c (Call f command y) = (c ≡ lock_class) × (y ≡ Spin)
-IsServing c (Begin (Int level) from) = (level ≡ c) × (2 < c) × (c ≡ lock_class → ⊥)
-IsServing c (Begin (Dpc d) from) = ⊥
-IsServing c (Begin (Threaded d) from) = ⊥
-IsServing c (Begin (Apc a) from) = ⊥
-IsServing c (Look r) = ⊥
-IsServing c (Normal f) = ⊥
-IsServing c (End f) = ⊥
-IsServing c (Expire key from) = ⊥
-IsServing c (Fire d y) = ⊥
-IsServing c (Switch t status) = ⊥
-IsServing c (Rewait f y) = ⊥
-IsServing c (Flush a from) = ⊥
-IsServing c (Gone t) = ⊥
-IsServing c (Free f k) = ⊥
-IsServing c Rest = ⊥
+IsServing c w =
+    in_clean (λ k. (k ≡ c) × (c < 3))
+    (in_call (λ f command y. (c ≡ lock_class) × (y ≡ Spin)) (in_begin (λ b from. BeginServes c b) ⊥ w) w) w
 
 -- an event of p doesn't serve the class
 abbrev pub IsNoService : CpuNo → ℕ → Event → List Event → Type 0

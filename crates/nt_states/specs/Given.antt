@@ -1,7 +1,6 @@
 -- Which jobs can be decided, and which events a job gives.
 use Rattle.std.specs.Prelude.{IfSome, IsSome, IsTrue, Some, ◌≡◌}
 use Rattle.nt_event.specs.declared.events.What.{What}
-use Rattle.nt_event.specs.declared.events.What.TheVariants as what
 use Rattle.nt_event.specs.declared.jobs.Job.{Job}
 use Rattle.nt_event.specs.declared.jobs.Job.TheVariants as job
 use Rattle.nt_event.specs.declared.jobs.Stand.{Stand}
@@ -15,6 +14,7 @@ use Rattle.nt_event.specs.Lanes.{Lanes}
 use Rattle.nt_event.specs.Routines.{cpu_of}
 use Rattle.nt_event.specs.Script.{has_thread}
 use Rattle.nt_event.specs.Acts.{StandFits, job_fits}
+use Rattle.nt_event.specs.Families.{in_switch}
 
 -- ---- jobs
 
@@ -59,20 +59,7 @@ pub record CanDecide (s : Script) (st : Stand) (j : Job) : Type 0 where
 
 -- a thread that is taken up is one of the script's, and the processor's own
 abbrev pub TakesOwn : Script → Stand → What → Type 0
-TakesOwn s st (what.Call f c y) = Unit {0}
-TakesOwn s st (what.Look rises) = Unit {0}
-TakesOwn s st (what.Begin b from) = Unit {0}
-TakesOwn s st (what.Normal f) = Unit {0}
-TakesOwn s st (what.End f) = Unit {0}
-TakesOwn s st (what.Expire key from) = Unit {0}
-TakesOwn s st (what.Fire d y) = Unit {0}
-TakesOwn s st (what.Clean class) = Unit {0}
-TakesOwn s st (what.Switch t status) = IsTaken s st.cpu t
-TakesOwn s st (what.Rewait f y) = Unit {0}
-TakesOwn s st (what.Flush a from) = Unit {0}
-TakesOwn s st (what.Gone t) = Unit {0}
-TakesOwn s st (what.Free f k) = Unit {0}
-TakesOwn s st what.Rest = Unit {0}
+TakesOwn s st w = in_switch (λ t status. IsTaken s st.cpu t) (Unit {0}) w
 
 -- the event is the one of some job that can be decided, in these states, and names things of the script
 pub record IsGiven (s : Script) (l : Lanes) (st : Stand) (w : What) : Type 0 where

@@ -1,17 +1,16 @@
 -- The lanes that an event touches and the classes that it asks for, as lists; when they name things of the script.
-use Rattle.std.specs.Prelude.{Bool, IsTrue, List, map, false, true, ◌<◌, ◌≡◌}
+use Rattle.std.specs.Prelude.{Bool, IsTrue, List, map, false, true, ◌<◌, ◌≡◌, IfSome, None}
 use Rattle.nt_event.specs.declared.commands.Command.{Command}
-use Rattle.nt_event.specs.declared.commands.Command.TheVariants as cmd
 use Rattle.nt_event.specs.declared.commands.Reply.{Reply}
-use Rattle.nt_event.specs.declared.commands.Reply.TheVariants.{Yes}
 use Rattle.nt_event.specs.declared.jobs.Lane.{Lane}
 use Rattle.nt_event.specs.declared.jobs.Lane.TheVariants.{Lock as LockLane, Object as ObjectLane, Queue as QueueLane, Threads as ThreadsLane, Timers as TimersLane}
 use Rattle.nt_event.specs.declared.scripts.Script.{Script}
 use Rattle.nt_event.specs.Lanes.{Lanes, object_at}
-use Rattle.nt_event.specs.Objects.{is_queued}
+use Rattle.nt_event.specs.Objects.{is_queued, dpc_inserted}
 use Rattle.nt_event.specs.Requests.{Ask}
 use Rattle.nt_event.specs.Script.{has_cpu, has_dpc, has_lock}
 use Rattle.nt_states.specs.declared.asking.Asked.{Asked}
+use Rattle.nt_event.specs.Families.{by_dpc_call}
 
 -- the lane is one of the script's
 abbrev pub lane_fits : Script → Lane → Bool
@@ -37,30 +36,5 @@ as_asks xs = map as_ask xs
 
 -- an object that a call inserts isn't queued
 abbrev pub InsertIsFree : Lanes → Command → Reply → Type 0
-InsertIsFree l (cmd.Queue d) Yes = is_queued (object_at l d) ≡ false
-InsertIsFree l (cmd.Raise level) y = Unit {0}
-InsertIsFree l (cmd.Lower level) y = Unit {0}
-InsertIsFree l (cmd.Queue d) y = Unit {0}
-InsertIsFree l (cmd.Unqueue d) y = Unit {0}
-InsertIsFree l (cmd.SetImportance d i) y = Unit {0}
-InsertIsFree l (cmd.SetTarget d q) y = Unit {0}
-InsertIsFree l (cmd.SetTimer t due period) y = Unit {0}
-InsertIsFree l (cmd.CancelTimer t) y = Unit {0}
-InsertIsFree l (cmd.InsertApc a) y = Unit {0}
-InsertIsFree l (cmd.RemoveApc a) y = Unit {0}
-InsertIsFree l cmd.EnterCrit y = Unit {0}
-InsertIsFree l cmd.EnterGuard y = Unit {0}
-InsertIsFree l cmd.LeaveCrit y = Unit {0}
-InsertIsFree l cmd.LeaveGuard y = Unit {0}
-InsertIsFree l (cmd.StartWait m a) y = Unit {0}
-InsertIsFree l (cmd.Delay m a units) y = Unit {0}
-InsertIsFree l (cmd.Release t) y = Unit {0}
-InsertIsFree l (cmd.Alert t m) y = Unit {0}
-InsertIsFree l (cmd.TestAlert m) y = Unit {0}
-InsertIsFree l (cmd.Interrupt q level) y = Unit {0}
-InsertIsFree l (cmd.Clock units) y = Unit {0}
-InsertIsFree l cmd.ToUser y = Unit {0}
-InsertIsFree l cmd.Yield y = Unit {0}
-InsertIsFree l (cmd.Acquire k) y = Unit {0}
-InsertIsFree l (cmd.Unlock k) y = Unit {0}
-InsertIsFree l (cmd.Note k) y = Unit {0}
+InsertIsFree l c y =
+    IfSome (by_dpc_call (λ k. dpc_inserted k y) None c) (λ d. is_queued (object_at l d) ≡ false)

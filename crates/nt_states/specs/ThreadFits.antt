@@ -1,7 +1,6 @@
 -- Which events a processor may make in these states of the threads: what a job gives there.
 use Rattle.std.specs.Prelude.{Bool, IfSome, IsSome, IsSomeAnd, IsTrue, None, Option, Some, false, if◌then◌else◌, is_some, length, not, ℕ, ◌&&◌, ◌<◌, ◌==◌, ◌≡◌, ◌≤◌, ◌⊎◌}
 use Rattle.nt_event.specs.declared.commands.ApcKind.TheVariants.{Normal as NormalApc, Special as SpecialApc, User as UserApc}
-use Rattle.nt_event.specs.declared.commands.Command.TheVariants as cmd
 use Rattle.nt_event.specs.declared.commands.Mode.{Mode}
 use Rattle.nt_event.specs.declared.commands.Reply.{Reply}
 use Rattle.nt_event.specs.declared.commands.Reply.TheVariants.{Blocked, Done, No, Refused, Spin, Status, Yes}
@@ -26,8 +25,11 @@ use Rattle.nt_event.specs.Script.{has_apc, has_thread}
 use Rattle.nt_event.specs.Step.{thread_field}
 use Rattle.nt_event.specs.Threads.{ThreadFacts, ended_status, ends_by_release, is_alerted, is_gone, is_ready}
 use Rattle.nt_event.specs.Waits.{alert_facts, expiry_facts, insert_facts, new_pick, release_facts, wait_reply}
-use Rattle.nt_event.specs.Replies.{satisfied, yes_if}
+use Rattle.nt_event.specs.Replies.{satisfied, yes_if, is_yes}
 use Rattle.nt_states.specs.ThreadLanes.{ThreadLanes, facts_in}
+use Rattle.nt_event.specs.Families.{AddApc, AlertThread, ApcCall, DelaysIn, GivesWay, OwnCall, ReleaseThread, TakeApc, TestsAlert, ThreadCall, WaitsIn, apc_named, by_apc_call, by_own_call, by_thread_call, in_call, in_expiry, thread_named}
+use Rattle.nt_event.specs.declared.commands.TimerKey.{TimerKey}
+use Rattle.nt_event.specs.declared.commands.Command.{Command}
 
 -- ---- of a thread that makes the event, by its facts
 
@@ -65,40 +67,22 @@ pub record Flushes (a : ApcNo) (from : ℕ) (facts : ThreadFacts) : Type 0 where
   pub apc : pick.apc ≡ a
   pub number : pick.number ≡ from
 
+-- a call about the thread itself replies so
+abbrev pub OwnFits : Stand → OwnCall → Reply → ThreadFacts → Type 0
+OwnFits st (WaitsIn m a) y facts = Waits st m a y facts
+OwnFits st (DelaysIn m a units) y facts = Delays st m a y facts
+OwnFits st (TestsAlert m) y facts = y ≡ yes_if (is_alerted m facts)
+OwnFits st GivesWay y facts = y ≡ Done
+
 -- the thread whose facts these are may make the event
 abbrev pub CanMake : Stand → What → ThreadFacts → Type 0
+CanMake st (what.Call f c y) facts = by_own_call (λ k. OwnFits st k y facts) (Unit {0}) c
 CanMake st (what.Switch t status) facts = IsTrue (is_ready facts) × (status ≡ ended_status facts)
-CanMake st (what.Call f (cmd.StartWait m a) y) facts = Waits st m a y facts
-CanMake st (what.Call f (cmd.Delay m a units) y) facts = Delays st m a y facts
-CanMake st (what.Call f (cmd.TestAlert m) y) facts = y ≡ yes_if (is_alerted m facts)
-CanMake st (what.Call f cmd.Yield y) facts = y ≡ Done
 CanMake st (what.Rewait f y) facts = TakesUp st y facts
 CanMake st (what.Begin (begun.Apc a) from) facts = Begins st a from facts
 CanMake st (what.Flush a from) facts = Flushes a from facts
 CanMake st (what.Gone t) facts = first_user facts.apcs ≡ None
-CanMake st (what.Call f (cmd.Raise level) y) facts = Unit {0}
-CanMake st (what.Call f (cmd.Lower level) y) facts = Unit {0}
-CanMake st (what.Call f (cmd.Queue d) y) facts = Unit {0}
-CanMake st (what.Call f (cmd.Unqueue d) y) facts = Unit {0}
-CanMake st (what.Call f (cmd.SetImportance d i) y) facts = Unit {0}
-CanMake st (what.Call f (cmd.SetTarget d q) y) facts = Unit {0}
-CanMake st (what.Call f (cmd.SetTimer k due period) y) facts = Unit {0}
-CanMake st (what.Call f (cmd.CancelTimer k) y) facts = Unit {0}
-CanMake st (what.Call f (cmd.InsertApc a) y) facts = Unit {0}
-CanMake st (what.Call f (cmd.RemoveApc a) y) facts = Unit {0}
-CanMake st (what.Call f cmd.EnterCrit y) facts = Unit {0}
-CanMake st (what.Call f cmd.EnterGuard y) facts = Unit {0}
-CanMake st (what.Call f cmd.LeaveCrit y) facts = Unit {0}
-CanMake st (what.Call f cmd.LeaveGuard y) facts = Unit {0}
-CanMake st (what.Call f (cmd.Release u) y) facts = Unit {0}
-CanMake st (what.Call f (cmd.Alert u m) y) facts = Unit {0}
-CanMake st (what.Call f (cmd.Interrupt q level) y) facts = Unit {0}
-CanMake st (what.Call f (cmd.Clock units) y) facts = Unit {0}
-CanMake st (what.Call f cmd.ToUser y) facts = Unit {0}
-CanMake st (what.Call f (cmd.Acquire k) y) facts = Unit {0}
-CanMake st (what.Call f (cmd.Unlock k) y) facts = Unit {0}
-CanMake st (what.Call f (cmd.Note k) y) facts = Unit {0}
-CanMake st (what.Look rises) facts = Unit {0}
+CanMake st (what.Look r) facts = Unit {0}
 CanMake st (what.Begin (begun.Int level) from) facts = Unit {0}
 CanMake st (what.Begin (begun.Dpc d) from) facts = Unit {0}
 CanMake st (what.Begin (begun.Threaded d) from) facts = Unit {0}
@@ -112,140 +96,53 @@ CanMake st what.Rest facts = Unit {0}
 
 -- ---- of a thread that the event names, whoever makes it
 
+abbrev pub delay_named : TimerKey → Option ThreadNo
+delay_named (keys.Delay u) = Some u
+delay_named (keys.Timer t) = None
+
 -- the thread that it names: the one that is released or alerted, the APC object's, or the one whose delay expires
 abbrev pub named_thread : Script → What → Option ThreadNo
-named_thread s (what.Call f (cmd.Release u) y) = Some u
-named_thread s (what.Call f (cmd.Alert u m) y) = Some u
-named_thread s (what.Call f (cmd.InsertApc a) y) = Some (owner_of s a)
-named_thread s (what.Call f (cmd.RemoveApc a) y) = Some (owner_of s a)
-named_thread s (what.Expire (keys.Delay u) from) = Some u
-named_thread s (what.Call f (cmd.Raise level) y) = None
-named_thread s (what.Call f (cmd.Lower level) y) = None
-named_thread s (what.Call f (cmd.Queue d) y) = None
-named_thread s (what.Call f (cmd.Unqueue d) y) = None
-named_thread s (what.Call f (cmd.SetImportance d i) y) = None
-named_thread s (what.Call f (cmd.SetTarget d q) y) = None
-named_thread s (what.Call f (cmd.SetTimer k due period) y) = None
-named_thread s (what.Call f (cmd.CancelTimer k) y) = None
-named_thread s (what.Call f cmd.EnterCrit y) = None
-named_thread s (what.Call f cmd.EnterGuard y) = None
-named_thread s (what.Call f cmd.LeaveCrit y) = None
-named_thread s (what.Call f cmd.LeaveGuard y) = None
-named_thread s (what.Call f (cmd.StartWait m a) y) = None
-named_thread s (what.Call f (cmd.Delay m a units) y) = None
-named_thread s (what.Call f (cmd.TestAlert m) y) = None
-named_thread s (what.Call f (cmd.Interrupt q level) y) = None
-named_thread s (what.Call f (cmd.Clock units) y) = None
-named_thread s (what.Call f cmd.ToUser y) = None
-named_thread s (what.Call f cmd.Yield y) = None
-named_thread s (what.Call f (cmd.Acquire k) y) = None
-named_thread s (what.Call f (cmd.Unlock k) y) = None
-named_thread s (what.Call f (cmd.Note k) y) = None
-named_thread s (what.Look rises) = None
-named_thread s (what.Begin b from) = None
-named_thread s (what.Normal f) = None
-named_thread s (what.End f) = None
-named_thread s (what.Expire (keys.Timer k) from) = None
-named_thread s (what.Fire d y) = None
-named_thread s (what.Clean class) = None
-named_thread s (what.Switch t status) = None
-named_thread s (what.Rewait f y) = None
-named_thread s (what.Flush a from) = None
-named_thread s (what.Gone t) = None
-named_thread s (what.Free f k) = None
-named_thread s what.Rest = None
+named_thread s w =
+    in_call (λ f c y. by_thread_call (λ k. Some (thread_named k))
+    (by_apc_call (λ k. Some (owner_of s (apc_named k))) None c) c)
+    (in_expiry (λ key from. delay_named key) None w) w
 
 -- the object is one of the script's, and the reply is this answer
 pub record Tells (s : Script) (a : ApcNo) (yes : Bool) (y : Reply) : Type 0 where
   pub apc : IsTrue (has_apc s a)
   pub reply : y ≡ yes_if yes
 
+abbrev pub ThreadTells : ThreadCall → Reply → ThreadFacts → Type 0
+ThreadTells (ReleaseThread u) y facts = y ≡ yes_if (ends_by_release facts)
+ThreadTells (AlertThread u m) y facts = y ≡ yes_if (not (is_gone facts) && is_alerted m facts)
+
+abbrev pub ApcTells : Script → ApcCall → Reply → ThreadFacts → Type 0
+ApcTells s (AddApc a) y facts = Tells s a (takes a facts.apcs) y
+ApcTells s (TakeApc a) y facts = Tells s a (is_inserted a facts.apcs) y
+
 -- the reply is the one that the facts of the named thread give
 abbrev pub CanTell : Script → What → ThreadFacts → Type 0
-CanTell s (what.Call f (cmd.Release u) y) facts = y ≡ yes_if (ends_by_release facts)
-CanTell s (what.Call f (cmd.Alert u m) y) facts = y ≡ yes_if (not (is_gone facts) && is_alerted m facts)
-CanTell s (what.Call f (cmd.InsertApc a) y) facts = Tells s a (takes a facts.apcs) y
-CanTell s (what.Call f (cmd.RemoveApc a) y) facts = Tells s a (is_inserted a facts.apcs) y
-CanTell s (what.Call f (cmd.Raise level) y) facts = Unit {0}
-CanTell s (what.Call f (cmd.Lower level) y) facts = Unit {0}
-CanTell s (what.Call f (cmd.Queue d) y) facts = Unit {0}
-CanTell s (what.Call f (cmd.Unqueue d) y) facts = Unit {0}
-CanTell s (what.Call f (cmd.SetImportance d i) y) facts = Unit {0}
-CanTell s (what.Call f (cmd.SetTarget d q) y) facts = Unit {0}
-CanTell s (what.Call f (cmd.SetTimer k due period) y) facts = Unit {0}
-CanTell s (what.Call f (cmd.CancelTimer k) y) facts = Unit {0}
-CanTell s (what.Call f cmd.EnterCrit y) facts = Unit {0}
-CanTell s (what.Call f cmd.EnterGuard y) facts = Unit {0}
-CanTell s (what.Call f cmd.LeaveCrit y) facts = Unit {0}
-CanTell s (what.Call f cmd.LeaveGuard y) facts = Unit {0}
-CanTell s (what.Call f (cmd.StartWait m a) y) facts = Unit {0}
-CanTell s (what.Call f (cmd.Delay m a units) y) facts = Unit {0}
-CanTell s (what.Call f (cmd.TestAlert m) y) facts = Unit {0}
-CanTell s (what.Call f (cmd.Interrupt q level) y) facts = Unit {0}
-CanTell s (what.Call f (cmd.Clock units) y) facts = Unit {0}
-CanTell s (what.Call f cmd.ToUser y) facts = Unit {0}
-CanTell s (what.Call f cmd.Yield y) facts = Unit {0}
-CanTell s (what.Call f (cmd.Acquire k) y) facts = Unit {0}
-CanTell s (what.Call f (cmd.Unlock k) y) facts = Unit {0}
-CanTell s (what.Call f (cmd.Note k) y) facts = Unit {0}
-CanTell s (what.Look rises) facts = Unit {0}
-CanTell s (what.Begin b from) facts = Unit {0}
-CanTell s (what.Normal f) facts = Unit {0}
-CanTell s (what.End f) facts = Unit {0}
-CanTell s (what.Expire key from) facts = Unit {0}
-CanTell s (what.Fire d y) facts = Unit {0}
-CanTell s (what.Clean class) facts = Unit {0}
-CanTell s (what.Switch t status) facts = Unit {0}
-CanTell s (what.Rewait f y) facts = Unit {0}
-CanTell s (what.Flush a from) facts = Unit {0}
-CanTell s (what.Gone t) facts = Unit {0}
-CanTell s (what.Free f k) facts = Unit {0}
-CanTell s what.Rest facts = Unit {0}
+CanTell s w facts =
+    in_call (λ f c y. by_thread_call (λ k. ThreadTells k y facts)
+    (by_apc_call (λ k. ApcTells s k y facts) (Unit {0}) c) c) (Unit {0}) w
+
+abbrev pub thread_told : ThreadCall → ThreadFacts → ThreadFacts
+thread_told (ReleaseThread u) facts = release_facts facts
+thread_told (AlertThread u m) facts = alert_facts m facts
+
+abbrev pub apc_told : Script → ℕ → ApcCall → Reply → ThreadFacts → ThreadFacts
+apc_told s n (AddApc a) y facts = if is_yes y then insert_facts (new_pick s a n) facts else facts
+apc_told s n (TakeApc a) y facts = if is_yes y then record facts { apcs = without_apc a facts.apcs } else facts
+
+abbrev pub key_told : TimerKey → ℕ → ThreadFacts → ThreadFacts
+key_told (keys.Delay u) from facts = expiry_facts from facts
+key_told (keys.Timer t) from facts = facts
 
 -- what the event of this number leaves of the facts of the thread that it names
 abbrev pub told_facts : Script → ℕ → What → ThreadFacts → ThreadFacts
-told_facts s n (what.Call f (cmd.Release u) y) facts = release_facts facts
-told_facts s n (what.Call f (cmd.Alert u m) y) facts = alert_facts m facts
-told_facts s n (what.Call f (cmd.InsertApc a) Yes) facts = insert_facts (new_pick s a n) facts
-told_facts s n (what.Call f (cmd.RemoveApc a) Yes) facts = record facts { apcs = without_apc a facts.apcs }
-told_facts s n (what.Expire (keys.Delay u) from) facts = expiry_facts from facts
-told_facts s n (what.Call f (cmd.Raise level) y) facts = facts
-told_facts s n (what.Call f (cmd.Lower level) y) facts = facts
-told_facts s n (what.Call f (cmd.Queue d) y) facts = facts
-told_facts s n (what.Call f (cmd.Unqueue d) y) facts = facts
-told_facts s n (what.Call f (cmd.SetImportance d i) y) facts = facts
-told_facts s n (what.Call f (cmd.SetTarget d q) y) facts = facts
-told_facts s n (what.Call f (cmd.SetTimer k due period) y) facts = facts
-told_facts s n (what.Call f (cmd.CancelTimer k) y) facts = facts
-told_facts s n (what.Call f (cmd.InsertApc a) y) facts = facts
-told_facts s n (what.Call f (cmd.RemoveApc a) y) facts = facts
-told_facts s n (what.Call f cmd.EnterCrit y) facts = facts
-told_facts s n (what.Call f cmd.EnterGuard y) facts = facts
-told_facts s n (what.Call f cmd.LeaveCrit y) facts = facts
-told_facts s n (what.Call f cmd.LeaveGuard y) facts = facts
-told_facts s n (what.Call f (cmd.StartWait m a) y) facts = facts
-told_facts s n (what.Call f (cmd.Delay m a units) y) facts = facts
-told_facts s n (what.Call f (cmd.TestAlert m) y) facts = facts
-told_facts s n (what.Call f (cmd.Interrupt q level) y) facts = facts
-told_facts s n (what.Call f (cmd.Clock units) y) facts = facts
-told_facts s n (what.Call f cmd.ToUser y) facts = facts
-told_facts s n (what.Call f cmd.Yield y) facts = facts
-told_facts s n (what.Call f (cmd.Acquire k) y) facts = facts
-told_facts s n (what.Call f (cmd.Unlock k) y) facts = facts
-told_facts s n (what.Call f (cmd.Note k) y) facts = facts
-told_facts s n (what.Look rises) facts = facts
-told_facts s n (what.Begin b from) facts = facts
-told_facts s n (what.Normal f) facts = facts
-told_facts s n (what.End f) facts = facts
-told_facts s n (what.Expire (keys.Timer k) from) facts = facts
-told_facts s n (what.Fire d y) facts = facts
-told_facts s n (what.Clean class) facts = facts
-told_facts s n (what.Switch t status) facts = facts
-told_facts s n (what.Rewait f y) facts = facts
-told_facts s n (what.Flush a from) facts = facts
-told_facts s n (what.Gone t) facts = facts
-told_facts s n (what.Free f k) facts = facts
-told_facts s n what.Rest facts = facts
+told_facts s n w facts =
+    in_call (λ f c y. by_thread_call (λ k. thread_told k facts) (by_apc_call (λ k. apc_told s n k y facts) facts c) c)
+    (in_expiry (λ key from. key_told key from facts) facts w) w
 
 -- ---- a reply tells whether a delay's due time was reached
 
@@ -298,43 +195,23 @@ pub record Goes (x : ThreadLanes) (st : Stand) (t : ThreadNo) : Type 0 where
   pub runs : st.thread ≡ Some t
   pub flushed : first_user (facts_in x t).apcs ≡ None
 
+-- a call replies so: one about the thread itself, about a thread that it names, or about an APC object
+abbrev pub CallFits : ThreadLanes → Stand → Command → Reply → Type 0
+CallFits x st c y =
+    by_own_call (λ k. InThread x st (OwnFits st k y))
+    (by_thread_call (λ k. OfThread x (thread_named k) (ThreadTells k y))
+    (by_apc_call (λ k. ApcTells x.script k y (facts_in x (owner_of x.script (apc_named k)))) (Unit {0}) c) c) c
+
 -- the event is one that a job gives in these states
 abbrev pub WhatFits : ThreadLanes → Stand → What → Type 0
+WhatFits x st (what.Call f c y) = CallFits x st c y
 WhatFits x st (what.Switch t status) = Takes x st t status
-WhatFits x st (what.Call f (cmd.StartWait m a) y) = InThread x st (Waits st m a y)
-WhatFits x st (what.Call f (cmd.Delay m a units) y) = InThread x st (Delays st m a y)
-WhatFits x st (what.Call f (cmd.TestAlert m) y) = InThread x st (λ facts. y ≡ yes_if (is_alerted m facts))
-WhatFits x st (what.Call f cmd.Yield y) = InThread x st (λ facts. y ≡ Done)
 WhatFits x st (what.Rewait f y) = InThread x st (TakesUp st y)
 WhatFits x st (what.Begin (begun.Apc a) from) = InThread x st (Begins st a from)
 WhatFits x st (what.Flush a from) = InThread x st (Flushes a from)
 WhatFits x st (what.Gone t) = Goes x st t
 WhatFits x st (what.End f) = EndFits st st.body
-WhatFits x st (what.Call f (cmd.Release u) y) = OfThread x u (λ facts. y ≡ yes_if (ends_by_release facts))
-WhatFits x st (what.Call f (cmd.Alert u m) y) = OfThread x u
-    (λ facts. y ≡ yes_if (not (is_gone facts) && is_alerted m facts))
-WhatFits x st (what.Call f (cmd.InsertApc a) y) = Tells x.script a (takes a (facts_in x (owner_of x.script a)).apcs) y
-WhatFits x st (what.Call f (cmd.RemoveApc a) y) = Tells x.script a
-    (is_inserted a (facts_in x (owner_of x.script a)).apcs) y
 WhatFits x st (what.Expire (keys.Delay u) from) = IsTrue (has_thread x.script u)
-WhatFits x st (what.Call f (cmd.Raise level) y) = Unit {0}
-WhatFits x st (what.Call f (cmd.Lower level) y) = Unit {0}
-WhatFits x st (what.Call f (cmd.Queue d) y) = Unit {0}
-WhatFits x st (what.Call f (cmd.Unqueue d) y) = Unit {0}
-WhatFits x st (what.Call f (cmd.SetImportance d i) y) = Unit {0}
-WhatFits x st (what.Call f (cmd.SetTarget d q) y) = Unit {0}
-WhatFits x st (what.Call f (cmd.SetTimer k due period) y) = Unit {0}
-WhatFits x st (what.Call f (cmd.CancelTimer k) y) = Unit {0}
-WhatFits x st (what.Call f cmd.EnterCrit y) = Unit {0}
-WhatFits x st (what.Call f cmd.EnterGuard y) = Unit {0}
-WhatFits x st (what.Call f cmd.LeaveCrit y) = Unit {0}
-WhatFits x st (what.Call f cmd.LeaveGuard y) = Unit {0}
-WhatFits x st (what.Call f (cmd.Interrupt q level) y) = Unit {0}
-WhatFits x st (what.Call f (cmd.Clock units) y) = Unit {0}
-WhatFits x st (what.Call f cmd.ToUser y) = Unit {0}
-WhatFits x st (what.Call f (cmd.Acquire k) y) = Unit {0}
-WhatFits x st (what.Call f (cmd.Unlock k) y) = Unit {0}
-WhatFits x st (what.Call f (cmd.Note k) y) = Unit {0}
 WhatFits x st (what.Look rises) = Unit {0}
 WhatFits x st (what.Begin (begun.Int level) from) = Unit {0}
 WhatFits x st (what.Begin (begun.Dpc d) from) = Unit {0}
