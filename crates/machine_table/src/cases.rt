@@ -2,49 +2,66 @@
 ghost use Rattle.std.specs.Prelude.{◌≤◌, IfSome};
 ghost use Rattle.nt_event.specs.declared.limits.TheConstants.{TURNS};
 
-use nt_event::limits::TURNS;
+use nt_event::limits::{TURNS, USUAL_TURNS};
 
-/// What is done with a script.
+/// What is done with a script alone.
 #[derive(Clone, Copy)]
-pub(crate) enum Task<'a> {
+pub(crate) enum ScriptForm {
     /// It is run by the robin rule.
     Run,
-    /// These turns are replayed.
-    Replay(&'a str),
-    /// A machine takes these turns, one by one, whether they are the robin rule's or not.
-    Take(&'a str),
     /// The first processor makes its first event by itself.
     Step,
-    /// The history of the run is changed so, and checked.
-    Check(&'a str),
+    /// It is run by the robin rule, and its events are written field by field.
+    Events,
+    /// The history of its run is changed and checked.
+    Change,
+}
+
+/// What is done with a script and a file.
+#[derive(Clone, Copy)]
+pub(crate) enum FileForm {
+    /// The turns of a report are taken.
+    Replay,
+    /// The history of a report is checked.
+    Check,
+    /// The turns of a schedule are taken.
+    Schedule,
+    /// A machine takes the turns of a schedule one by one, whether they are the robin rule's or not.
+    Take,
+}
+
+#[derive(Clone, Copy)]
+pub(crate) enum Form {
+    Script(ScriptForm),
+    File(FileForm),
 }
 
 /// A case of the table.
 #[derive(Drop)]
 pub(crate) struct Case<'a> {
-    /// How many events each processor may make.
+    pub(crate) form: Form,
+    /// How many events each processor may make in a run by the robin rule.
     pub(crate) limit: u32,
+    /// The name of the script.
     pub(crate) script: &'a str,
-    pub(crate) task: Task<'a>,
+    /// The name of a file, or the words of a change.
+    pub(crate) rest: &'a str,
     ghost some: { 1 ≤ limit },
     ghost few: { limit ≤ TURNS },
 }
 
-/// A script with spin locks, by its name, which is run.
-#[derive(Drop)]
-pub(crate) struct Named<'a> {
-    /// How many events each processor may make.
-    pub(crate) limit: u32,
-    pub(crate) name: &'a str,
-    ghost some: { 1 ≤ limit },
-    ghost few: { limit ≤ TURNS },
-}
-
-/// A line of the table.
-#[derive(Drop)]
-pub(crate) enum Entry<'a> {
-    Case(Case<'a>),
-    Named(Named<'a>),
+fn form_of(word: &str) -> Option<Form> {
+    match word {
+        "run" => Some(Form::Script(ScriptForm::Run)),
+        "step" => Some(Form::Script(ScriptForm::Step)),
+        "events" => Some(Form::Script(ScriptForm::Events)),
+        "change" => Some(Form::Script(ScriptForm::Change)),
+        "replay" => Some(Form::File(FileForm::Replay)),
+        "check" => Some(Form::File(FileForm::Check)),
+        "schedule" => Some(Form::File(FileForm::Schedule)),
+        "take" => Some(Form::File(FileForm::Take)),
+        _ => None,
+    }
 }
 
 fn limit_of(word: &str) -> Option<u32>
@@ -57,69 +74,27 @@ fn limit_of(word: &str) -> Option<u32>
     Some(limit)
 }
 
-/// A case whose turns are taken one by one.
-fn taken<'a>(limit: &str, rest: &'a str) -> Option<Case<'a>> {
-    let limit = limit_of(limit)?;
-    let (script, list) = rest.split_once('|')?;
-    Some(Case {
+/// A case by these words: the name of the script, and of the file if that is another one, or the words of a change.
+fn case_by<'a>(form: Form, limit: u32, words: &'a str) -> Case<'a>
+    requires some { 1 ≤ limit }
+    requires few { limit ≤ TURNS }
+{
+    let (script, rest) = words.split_once(' ').unwrap_or((words, words));
+    Case {
+        form,
         limit,
         script,
-        task: Task::Take(list),
-    })
-}
-
-/// A case whose first processor makes its first event by itself.
-fn stepped<'a>(limit: &str, script: &'a str) -> Option<Case<'a>> {
-    let limit = limit_of(limit)?;
-    Some(Case {
-        limit,
-        script,
-        task: Task::Step,
-    })
-}
-
-/// A case whose run is changed and checked.
-fn checked<'a>(limit: &str, rest: &'a str) -> Option<Case<'a>> {
-    let limit = limit_of(limit)?;
-    let (script, change) = rest.split_once('|')?;
-    Some(Case {
-        limit,
-        script,
-        task: Task::Check(change),
-    })
-}
-
-fn by_name<'a>(limit: &str, name: &'a str) -> Option<Named<'a>> {
-    let limit = limit_of(limit)?;
-    Some(Named { limit, name })
-}
-
-/// A case that is run or replayed.
-fn whole<'a>(limit: &str, rest: &'a str) -> Option<Case<'a>> {
-    let limit = limit_of(limit)?;
-    match rest.split_once('|') {
-        Some((script, list)) => Some(Case {
-            limit,
-            script,
-            task: Task::Replay(list),
-        }),
-        None => Some(Case {
-            limit,
-            script: rest,
-            task: Task::Run,
-        }),
+        rest,
     }
 }
 
-/// What a line of the table says.
-pub(crate) fn entry_of(line: &str) -> Option<Entry<'_>> {
-    let (first, rest) = line.split_once('|')?;
-    match first.split_once(' ') {
-        Some(("take", limit)) => Some(Entry::Case(taken(limit, rest)?)),
-        Some(("step", limit)) => Some(Entry::Case(stepped(limit, rest)?)),
-        Some(("check", limit)) => Some(Entry::Case(checked(limit, rest)?)),
-        Some(("locks", limit)) => Some(Entry::Named(by_name(limit, rest)?)),
-        Some(_) => None,
-        None => Some(Entry::Case(whole(first, rest)?)),
+/// What a line of the table says: the word of a form, the limit if it is not the usual one, and the names.
+pub(crate) fn case_of(line: &str) -> Option<Case<'_>> {
+    let (word, words) = line.split_once(' ')?;
+    let form = form_of(word)?;
+    let (first, others) = words.split_once(' ').unwrap_or(("", words));
+    match limit_of(first) {
+        Some(limit) => Some(case_by(form, limit, others)),
+        None => Some(case_by(form, USUAL_TURNS, words)),
     }
 }

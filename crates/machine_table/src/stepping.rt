@@ -36,7 +36,7 @@ fn shown_turned(alloc: Global, turned: Result<Turned, AllocError>) -> Result<Str
     }
 }
 
-/// The event in words, where it is made in two steps: alone, or by the floor where it needs a lane.
+/// The event in words, made in two steps: alone, or by the floor if it needs a lane.
 fn by_steps(alloc: Global, input: &Input, limit: u32) -> Result<String, AllocError>
     requires sound { IsSound input.now }
     requires most { input.now.script.cpus ≤ 8 }
@@ -56,7 +56,7 @@ fn by_steps(alloc: Global, input: &Input, limit: u32) -> Result<String, AllocErr
     shown_made(alloc, event)
 }
 
-/// The event in words, where it is made by one call.
+/// The event in words, made by one call.
 fn by_advance(alloc: Global, input: &Input, limit: u32) -> Result<String, AllocError>
     requires sound { IsSound input.now }
     requires most { input.now.script.cpus ≤ 8 }

@@ -16,7 +16,7 @@ fn is_robins(core: &Core, turn: &Turn) -> bool {
     core.robin() == Some(*turn)
 }
 
-/// Why the turn is refused, or None where it is taken.
+/// Why the turn is refused, or None if it is taken.
 fn refusal(core: &mut Core, turn: &Turn) -> Option<ScheduleKind>
     ensures { core.new.script ≡ core.old.script }
 {
@@ -26,7 +26,7 @@ fn refusal(core: &mut Core, turn: &Turn) -> Option<ScheduleKind>
     }
 }
 
-/// The line of a turn tells whether it is the robin rule's, and what became of it.
+/// The line of a turn says whether it is the robin rule's, and what became of it.
 fn put_line(
     lines: &mut String,
     is_robins: bool,
@@ -71,7 +71,7 @@ fn turn_lines(alloc: Global, core: &mut Core, list: &Turns) -> Result<Vec<u8>, A
     Ok(lines.into_bytes())
 }
 
-/// Puts the report of a history behind a text.
+/// Puts the report of a history after a text.
 fn put_report(
     alloc: Global,
     input: &Input,
@@ -86,7 +86,7 @@ fn put_report(
 }
 
 /// A line for each turn, whether the history is settled then, and its report.
-pub(crate) fn taken(
+pub(crate) fn taken_lines(
     alloc: Global,
     input: &Input,
     limit: u32,

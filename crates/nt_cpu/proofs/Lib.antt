@@ -22,6 +22,5 @@ pub mod NamesLeft
 pub mod NeverIdle
 pub mod Knowing
 pub mod StepsMade
-pub mod Rooms
 pub mod Dues
 pub mod Unlocked

@@ -1,5 +1,5 @@
 -- Steps that a processor chooses by itself: the looks before them, and what they are.
-use Rattle.std.specs.Prelude.{Bool, List, None, Option, Some, [], false, if◌then◌else◌, nat_lt, suc, true, zero, ℕ, ◌&&◌, ◌++◌, ◌+◌, ◌<◌, ◌==◌, ◌∷◌, ◌≡◌, ◌≤◌, ◌⊎◌}
+use Rattle.std.specs.Prelude.{Bool, List, None, Option, Some, [], false, if◌then◌else◌, nat_lt, suc, true, zero, ℕ, ◌&&◌, ◌++◌, ◌<◌, ◌==◌, ◌∷◌, ◌≡◌, ◌≤◌, ◌⊎◌}
 use Rattle.nt_event.specs.declared.events.Event.{Event}
 use Rattle.nt_event.specs.declared.events.What.TheVariants.{Look as LookEvent}
 use Rattle.nt_event.specs.declared.jobs.Job.{Job}
@@ -121,19 +121,6 @@ pub record Knows (c : CpuState) (v : View) : Type 0 where
   pub known : (k : ℕ) → k < 16 → value_at c.own.seen k ≤ v.value c.cpu k
   pub below : (k : ℕ) → k < 16 → value_at c.own.seen k ≤ v.next
   pub named : AreNamedBelow v.next c.own.frames
-
--- as many numbers may be drawn as the processor may still make events
-abbrev pub HasRoom : CpuState → View → Type 0
-HasRoom c v = c.limit ≤ v.drawable + c.own.made
-
--- the same processor, over the same words: a number was drawn for each event that it made
-pub record GoesOn (c d : CpuState) (v w : View) : Type 0 where
-  pub script : d.script ≡ c.script
-  pub cpu : d.cpu ≡ c.cpu
-  pub limit : d.limit ≡ c.limit
-  pub count : w.drawable + d.own.made ≡ v.drawable + c.own.made
-  pub cpus : w.cpus ≡ v.cpus
-  pub alone : w.alone ≡ v.alone
 
 -- what an advance left, after looks with these answers: its event touched no lane; or a floor made it, as told by
 -- `found`; or it rests or spins still, and no request rose; or it is cut

@@ -1,5 +1,5 @@
 -- A name that is read is that of the thing, and a thing's name is read as the thing.
-use Rattle.std.proofs.Common.{◌≡◌, ℕ, suc, ◌+◌, ◌<◌, ◌≤◌, Bool, true, false, cond, List, [], ◌∷◌, length, get_or, Option, Some, None, Result, Ok, Err, refl, sym, ◌∙◌, ap, arith}
+use Rattle.std.proofs.Common.{◌≡◌, ℕ, suc, ◌+◌, ◌<◌, ◌≤◌, Bool, true, false, cond, List, [], ◌∷◌, length, get_or, Option, Some, None, Result, Ok, Err, refl, ◌∙◌, ap, arith, subst}
 use Rattle.std.specs.Prelude.{option_map, is_some, IfSome}
 use Rattle.std.specs.Str.{bytes_eq}
 use Rattle.std.specs.List.{position_from}
@@ -52,239 +52,143 @@ pub record AreFew (names : NameLists) : Type 0 where
 pub number_is : (i : ℕ) → i < 65535 → number i ≡ i
 number_is i lt = rw (lt-ltb i 65535 lt) refl
 
-used_ok : (names : NameLists) (f : List ℕ) (x : Named) → used names f ≡ Ok x → (is_name f ≡ true) × (meaning f names ≡ Some x)
-used_ok names f x e = go (is_name f) e
+-- the name of a used thing means it
+used_ok : (names : NameLists) (field : List ℕ) (thing : Named) → used names field ≡ Ok thing → meaning field names ≡ Some thing
+used_ok names field thing e = go (is_name field) e
   where
-    go : (b : Bool) → cond b (or_error UnknownName (meaning f names)) (Err BadName) ≡ Ok x → (b ≡ true) × (meaning f names ≡ Some x)
-    go true e = (refl, or_error_ok UnknownName (meaning f names) x e)
+    go : (spelled : Bool) → cond spelled (or_error UnknownName (meaning field names)) (Err BadName) ≡ Ok thing → meaning field names ≡ Some thing
+    go true e = or_error_ok UnknownName (meaning field names) thing e
     go false e = absurd cc
 
--- ---- the things of a kind
+-- ---- a thing of any kind
 
--- where the lists say that a name stands; the first that has it decides
-abbrev first_of : (d t h a l r : Option ℕ) → Option Named
-first_of d t h a l r =
-    or_else (option_map dpc_at d)
-    (or_else (option_map timer_at t)
-    (or_else (option_map thread_at h) (or_else (option_map apc_at a) (or_else (option_map lock_at l) (option_map routine_at r)))))
+-- the names of the things of its kind
+abbrev pub names_beside : NameLists → Named → List (List ℕ)
+names_beside names (named.Dpc _) = names.dpcs
+names_beside names (named.Timer _) = names.timers
+names_beside names (named.Thread _) = names.threads
+names_beside names (named.Apc _) = names.apcs
+names_beside names (named.Lock _) = names.locks
+names_beside names (named.Routine _) = names.routines
 
--- a name that is read as a thing of a kind stands in the list of the kind, at the number of the thing
-thing_is : {X : Type 0} (make : X → Named) (number_in : X → ℕ) (kind_of : Named → Result X ScriptKind) (names : NameLists)
-    (ns : List (List ℕ)) (f : List ℕ) (x : X) → length ns < 65535
-    → ((m : Named) → kind_of m ≡ Ok x → m ≡ make x)
-    → (meaning f names ≡ Some (make x) → (i : ℕ) × (place f ns ≡ Some i) × (number_in x ≡ number i))
-    → (used names f >>= kind_of) ≡ Ok x → (f ≡ get_or ns (number_in x) []) × (number_in x < length ns)
-thing_is make number_in kind_of names ns f x few is found e =
-    let b = bind_ok (used names f) kind_of x e in
-    let u = used_ok names f b.value b.is in
-    let n = found (u.1 ∙ ap (λ (m : Named). Some m) (is b.value b.then)) in
-    let p = place_takes f ns n.0 n.1 in
-    let same : number_in x ≡ n.0 = n.2 ∙ number_is n.0 (omega (arith, few)) in
-    rw same (p.1, p.0)
+-- its number among them
+abbrev pub number_of : Named → ℕ
+number_of (named.Dpc x) = x.0
+number_of (named.Timer x) = x.0
+number_of (named.Thread x) = x.0
+number_of (named.Apc x) = x.0
+number_of (named.Lock x) = x.0
+number_of (named.Routine x) = x.0
 
--- ---- dpcs
+-- no kind has more things than it has numbers
+few_beside : (names : NameLists) → AreFew names → (thing : Named) → length (names_beside names thing) < 65535
+few_beside names few (named.Dpc _) = omega (arith, few.dpcs)
+few_beside names few (named.Timer _) = omega (arith, few.timers)
+few_beside names few (named.Thread _) = omega (arith, few.threads)
+few_beside names few (named.Apc _) = omega (arith, few.apcs)
+few_beside names few (named.Lock _) = omega (arith, few.locks)
+few_beside names few (named.Routine _) = omega (arith, few.routines)
 
-abbrev dpc_no : ℕ → DpcNo
-dpc_no i = record { 0 = number i }
+-- the name is in the list of the thing's kind, at the thing's number
+record IsAt (names : NameLists) (field : List ℕ) (thing : Named) : Type 0 where
+  pub place_of : ℕ
+  pub there : place field (names_beside names thing) ≡ Some place_of
+  pub numbered : number_of thing ≡ number place_of
 
-dpc_named : (d t h a l r : Option ℕ) (x : DpcNo) → first_of d t h a l r ≡ Some (named.Dpc x)
-    → (i : ℕ) × (d ≡ Some i) × (x.0 ≡ number i)
-dpc_named (Some i) t h a l r x e = let same : dpc_no i ≡ x = cc in (i, refl, sym (ap (λ (x : DpcNo). x.0) same))
-dpc_named None (Some i) h a l r x e = absurd cc
-dpc_named None None (Some i) a l r x e = absurd cc
-dpc_named None None None (Some i) l r x e = absurd cc
-dpc_named None None None None (Some i) r x e = absurd cc
-dpc_named None None None None None (Some i) x e = absurd cc
-dpc_named None None None None None None x e = absurd cc
+-- a thing that is made from a place in a list is at that place, where the list is that of its kind
+made_at : (make : ℕ → Named) (names : NameLists) (field : List ℕ) (thing : Named) (list : List (List ℕ))
+    → ((i : ℕ) → names_beside names (make i) ≡ list) → ((i : ℕ) → number_of (make i) ≡ number i)
+    → option_map make (place field list) ≡ Some thing → IsAt names field thing
+made_at make names field thing list beside numbered e = go (place field list) refl e
+  where
+    go : (found : Option ℕ) → place field list ≡ found → option_map make found ≡ Some thing → IsAt names field thing
+    go None is e = absurd cc
+    go (Some i) is e =
+        let same : make i ≡ thing = cc in
+        let there : place field (names_beside names (make i)) ≡ Some i = rw (beside i) is in
+        subst (IsAt names field) same (record { place_of = i; there = there; numbered = numbered i })
 
-as_dpc_ok : (m : Named) (x : DpcNo) → as_dpc m ≡ Ok x → m ≡ named.Dpc x
-as_dpc_ok (named.Dpc y) x e = cc
-as_dpc_ok (named.Timer y) x e = absurd cc
-as_dpc_ok (named.Thread y) x e = absurd cc
-as_dpc_ok (named.Apc y) x e = absurd cc
-as_dpc_ok (named.Lock y) x e = absurd cc
-as_dpc_ok (named.Routine y) x e = absurd cc
+-- what is the first of two is one of them
+one_of_two : {A P : Type 0} (first second : Option A) (x : A) → (first ≡ Some x → P) → (second ≡ Some x → P) → or_else first second ≡ Some x → P
+one_of_two (Some y) second x here there e = here e
+one_of_two None second x here there e = there e
 
-dpc_is : (names : NameLists) → AreFew names → (f : List ℕ) (x : DpcNo) → read_dpc names f ≡ Ok x
-    → (f ≡ show_dpc names x) × (x.0 < length names.dpcs)
-dpc_is names few f x =
-    let found = dpc_named (place f names.dpcs) (place f names.timers) (place f names.threads) (place f names.apcs)
-    (place f names.locks) (place f names.routines) x in
-    thing_is (λ (x : DpcNo). named.Dpc x) (λ (x : DpcNo). x.0) as_dpc names names.dpcs f x (omega (arith, few.dpcs))
-    (λ m. as_dpc_ok m x) found
+-- a name is in the list of the kind of the thing that it means: a line for each kind
+meaning_at : (names : NameLists) (field : List ℕ) (thing : Named) → meaning field names ≡ Some thing → IsAt names field thing
+meaning_at names field thing =
+    one_of_two _ _ thing (made_at dpc_at names field thing names.dpcs (λ i. refl) (λ i. refl))
+    (one_of_two _ _ thing (made_at timer_at names field thing names.timers (λ i. refl) (λ i. refl))
+    (one_of_two _ _ thing (made_at thread_at names field thing names.threads (λ i. refl) (λ i. refl))
+    (one_of_two _ _ thing (made_at apc_at names field thing names.apcs (λ i. refl) (λ i. refl))
+    (one_of_two _ _ thing (made_at lock_at names field thing names.locks (λ i. refl) (λ i. refl))
+    (made_at routine_at names field thing names.routines (λ i. refl) (λ i. refl))))))
+
+-- a used thing's name is the one that its kind's list has at its number
+used_is : (names : NameLists) → AreFew names → (field : List ℕ) (thing : Named) → used names field ≡ Ok thing
+    → (field ≡ get_or (names_beside names thing) (number_of thing) []) × (number_of thing < length (names_beside names thing))
+used_is names few field thing e =
+    let at = meaning_at names field thing (used_ok names field thing e) in
+    let taken = place_takes field (names_beside names thing) at.place_of at.there in
+    let small : at.place_of < 65535 = omega (arith, few_beside names few thing, taken.0) in
+    let same : number_of thing ≡ at.place_of = at.numbered ∙ number_is at.place_of small in
+    rw same (taken.1, taken.0)
+
+-- a field is taken as a thing of one kind, where the reader takes only what is made as one
+kind_takes : {X : Type 0} (make : X → Named) (kind_of : Named → Result X ScriptKind) (names : NameLists) → AreFew names
+    → ((thing : Named) (x : X) → kind_of thing ≡ Ok x → thing ≡ make x)
+    → Takes (λ field. used names field >>= kind_of) (λ x. get_or (names_beside names (make x)) (number_of (make x)) [])
+    (λ x. number_of (make x) < length (names_beside names (make x)))
+kind_takes {X = X} make kind_of names few only = record { shown = λ field x e. (go field x e).0; fits = λ field x e. (go field x e).1 }
+  where
+    go : (field : List ℕ) (x : X) → (used names field >>= kind_of) ≡ Ok x
+        → (field ≡ get_or (names_beside names (make x)) (number_of (make x)) []) × (number_of (make x) < length (names_beside names (make x)))
+    go field x e =
+        let bound = bind_ok (used names field) kind_of x e in
+        used_is names few field (make x) (bound.is ∙ ap (λ (thing : Named). Ok thing) (only bound.value x bound.then))
+
+-- ---- each kind: what is read as a thing of the kind is one, so its name is taken
+
+as_dpc_ok : (thing : Named) (x : DpcNo) → as_dpc thing ≡ Ok x → thing ≡ named.Dpc x
+as_dpc_ok (named.Dpc _) x e = cc
+as_dpc_ok _ x e = absurd cc
 
 pub dpc_takes : (names : NameLists) → AreFew names → Takes (read_dpc names) (show_dpc names) (λ x. x.0 < length names.dpcs)
-dpc_takes names few = record { shown = λ f x e. (dpc_is names few f x e).0; fits = λ f x e. (dpc_is names few f x e).1 }
+dpc_takes names few = kind_takes (λ (x : DpcNo). named.Dpc x) as_dpc names few as_dpc_ok
 
--- ---- timers
-
-abbrev timer_no : ℕ → TimerNo
-timer_no i = record { 0 = number i }
-
-timer_named : (d t h a l r : Option ℕ) (x : TimerNo) → first_of d t h a l r ≡ Some (named.Timer x)
-    → (i : ℕ) × (t ≡ Some i) × (x.0 ≡ number i)
-timer_named (Some i) t h a l r x e = absurd cc
-timer_named None (Some i) h a l r x e = let same : timer_no i ≡ x = cc in (i, refl, sym (ap (λ (x : TimerNo). x.0) same))
-timer_named None None (Some i) a l r x e = absurd cc
-timer_named None None None (Some i) l r x e = absurd cc
-timer_named None None None None (Some i) r x e = absurd cc
-timer_named None None None None None (Some i) x e = absurd cc
-timer_named None None None None None None x e = absurd cc
-
-as_timer_ok : (m : Named) (x : TimerNo) → as_timer m ≡ Ok x → m ≡ named.Timer x
-as_timer_ok (named.Dpc y) x e = absurd cc
-as_timer_ok (named.Timer y) x e = cc
-as_timer_ok (named.Thread y) x e = absurd cc
-as_timer_ok (named.Apc y) x e = absurd cc
-as_timer_ok (named.Lock y) x e = absurd cc
-as_timer_ok (named.Routine y) x e = absurd cc
-
-timer_is : (names : NameLists) → AreFew names → (f : List ℕ) (x : TimerNo) → read_timer names f ≡ Ok x
-    → (f ≡ show_timer names x) × (x.0 < length names.timers)
-timer_is names few f x =
-    let found = timer_named (place f names.dpcs) (place f names.timers) (place f names.threads) (place f names.apcs)
-    (place f names.locks) (place f names.routines) x in
-    thing_is (λ (x : TimerNo). named.Timer x) (λ (x : TimerNo). x.0) as_timer names names.timers f x (omega (arith, few.timers))
-    (λ m. as_timer_ok m x) found
+as_timer_ok : (thing : Named) (x : TimerNo) → as_timer thing ≡ Ok x → thing ≡ named.Timer x
+as_timer_ok (named.Timer _) x e = cc
+as_timer_ok _ x e = absurd cc
 
 pub timer_takes : (names : NameLists) → AreFew names → Takes (read_timer names) (show_timer names) (λ x. x.0 < length names.timers)
-timer_takes names few = record { shown = λ f x e. (timer_is names few f x e).0; fits = λ f x e. (timer_is names few f x e).1 }
+timer_takes names few = kind_takes (λ (x : TimerNo). named.Timer x) as_timer names few as_timer_ok
 
--- ---- threads
-
-abbrev thread_no : ℕ → ThreadNo
-thread_no i = record { 0 = number i }
-
-thread_named : (d t h a l r : Option ℕ) (x : ThreadNo) → first_of d t h a l r ≡ Some (named.Thread x)
-    → (i : ℕ) × (h ≡ Some i) × (x.0 ≡ number i)
-thread_named (Some i) t h a l r x e = absurd cc
-thread_named None (Some i) h a l r x e = absurd cc
-thread_named None None (Some i) a l r x e = let same : thread_no i ≡ x = cc in (i, refl, sym (ap (λ (x : ThreadNo). x.0) same))
-thread_named None None None (Some i) l r x e = absurd cc
-thread_named None None None None (Some i) r x e = absurd cc
-thread_named None None None None None (Some i) x e = absurd cc
-thread_named None None None None None None x e = absurd cc
-
-as_thread_ok : (m : Named) (x : ThreadNo) → as_thread m ≡ Ok x → m ≡ named.Thread x
-as_thread_ok (named.Dpc y) x e = absurd cc
-as_thread_ok (named.Timer y) x e = absurd cc
-as_thread_ok (named.Thread y) x e = cc
-as_thread_ok (named.Apc y) x e = absurd cc
-as_thread_ok (named.Lock y) x e = absurd cc
-as_thread_ok (named.Routine y) x e = absurd cc
-
-thread_is : (names : NameLists) → AreFew names → (f : List ℕ) (x : ThreadNo) → read_thread names f ≡ Ok x
-    → (f ≡ show_thread names x) × (x.0 < length names.threads)
-thread_is names few f x =
-    let found = thread_named (place f names.dpcs) (place f names.timers) (place f names.threads) (place f names.apcs)
-    (place f names.locks) (place f names.routines) x in
-    thing_is (λ (x : ThreadNo). named.Thread x) (λ (x : ThreadNo). x.0) as_thread names names.threads f x (omega (arith, few.threads))
-    (λ m. as_thread_ok m x) found
+as_thread_ok : (thing : Named) (x : ThreadNo) → as_thread thing ≡ Ok x → thing ≡ named.Thread x
+as_thread_ok (named.Thread _) x e = cc
+as_thread_ok _ x e = absurd cc
 
 pub thread_takes : (names : NameLists) → AreFew names → Takes (read_thread names) (show_thread names) (λ x. x.0 < length names.threads)
-thread_takes names few = record { shown = λ f x e. (thread_is names few f x e).0; fits = λ f x e. (thread_is names few f x e).1 }
+thread_takes names few = kind_takes (λ (x : ThreadNo). named.Thread x) as_thread names few as_thread_ok
 
--- ---- apcs
-
-abbrev apc_no : ℕ → ApcNo
-apc_no i = record { 0 = number i }
-
-apc_named : (d t h a l r : Option ℕ) (x : ApcNo) → first_of d t h a l r ≡ Some (named.Apc x)
-    → (i : ℕ) × (a ≡ Some i) × (x.0 ≡ number i)
-apc_named (Some i) t h a l r x e = absurd cc
-apc_named None (Some i) h a l r x e = absurd cc
-apc_named None None (Some i) a l r x e = absurd cc
-apc_named None None None (Some i) l r x e = let same : apc_no i ≡ x = cc in (i, refl, sym (ap (λ (x : ApcNo). x.0) same))
-apc_named None None None None (Some i) r x e = absurd cc
-apc_named None None None None None (Some i) x e = absurd cc
-apc_named None None None None None None x e = absurd cc
-
-as_apc_ok : (m : Named) (x : ApcNo) → as_apc m ≡ Ok x → m ≡ named.Apc x
-as_apc_ok (named.Dpc y) x e = absurd cc
-as_apc_ok (named.Timer y) x e = absurd cc
-as_apc_ok (named.Thread y) x e = absurd cc
-as_apc_ok (named.Apc y) x e = cc
-as_apc_ok (named.Lock y) x e = absurd cc
-as_apc_ok (named.Routine y) x e = absurd cc
-
-apc_is : (names : NameLists) → AreFew names → (f : List ℕ) (x : ApcNo) → read_apc names f ≡ Ok x
-    → (f ≡ show_apc names x) × (x.0 < length names.apcs)
-apc_is names few f x =
-    let found = apc_named (place f names.dpcs) (place f names.timers) (place f names.threads) (place f names.apcs)
-    (place f names.locks) (place f names.routines) x in
-    thing_is (λ (x : ApcNo). named.Apc x) (λ (x : ApcNo). x.0) as_apc names names.apcs f x (omega (arith, few.apcs))
-    (λ m. as_apc_ok m x) found
+as_apc_ok : (thing : Named) (x : ApcNo) → as_apc thing ≡ Ok x → thing ≡ named.Apc x
+as_apc_ok (named.Apc _) x e = cc
+as_apc_ok _ x e = absurd cc
 
 pub apc_takes : (names : NameLists) → AreFew names → Takes (read_apc names) (show_apc names) (λ x. x.0 < length names.apcs)
-apc_takes names few = record { shown = λ f x e. (apc_is names few f x e).0; fits = λ f x e. (apc_is names few f x e).1 }
+apc_takes names few = kind_takes (λ (x : ApcNo). named.Apc x) as_apc names few as_apc_ok
 
--- ---- locks
-
-abbrev lock_no : ℕ → LockNo
-lock_no i = record { 0 = number i }
-
-lock_named : (d t h a l r : Option ℕ) (x : LockNo) → first_of d t h a l r ≡ Some (named.Lock x)
-    → (i : ℕ) × (l ≡ Some i) × (x.0 ≡ number i)
-lock_named (Some i) t h a l r x e = absurd cc
-lock_named None (Some i) h a l r x e = absurd cc
-lock_named None None (Some i) a l r x e = absurd cc
-lock_named None None None (Some i) l r x e = absurd cc
-lock_named None None None None (Some i) r x e = let same : lock_no i ≡ x = cc in (i, refl, sym (ap (λ (x : LockNo). x.0) same))
-lock_named None None None None None (Some i) x e = absurd cc
-lock_named None None None None None None x e = absurd cc
-
-as_lock_ok : (m : Named) (x : LockNo) → as_lock m ≡ Ok x → m ≡ named.Lock x
-as_lock_ok (named.Dpc y) x e = absurd cc
-as_lock_ok (named.Timer y) x e = absurd cc
-as_lock_ok (named.Thread y) x e = absurd cc
-as_lock_ok (named.Apc y) x e = absurd cc
-as_lock_ok (named.Lock y) x e = cc
-as_lock_ok (named.Routine y) x e = absurd cc
-
-lock_is : (names : NameLists) → AreFew names → (f : List ℕ) (x : LockNo) → read_lock names f ≡ Ok x
-    → (f ≡ show_lock names x) × (x.0 < length names.locks)
-lock_is names few f x =
-    let found = lock_named (place f names.dpcs) (place f names.timers) (place f names.threads) (place f names.apcs)
-    (place f names.locks) (place f names.routines) x in
-    thing_is (λ (x : LockNo). named.Lock x) (λ (x : LockNo). x.0) as_lock names names.locks f x (omega (arith, few.locks))
-    (λ m. as_lock_ok m x) found
+as_lock_ok : (thing : Named) (x : LockNo) → as_lock thing ≡ Ok x → thing ≡ named.Lock x
+as_lock_ok (named.Lock _) x e = cc
+as_lock_ok _ x e = absurd cc
 
 pub lock_takes : (names : NameLists) → AreFew names → Takes (read_lock names) (show_lock names) (λ x. x.0 < length names.locks)
-lock_takes names few = record { shown = λ f x e. (lock_is names few f x e).0; fits = λ f x e. (lock_is names few f x e).1 }
+lock_takes names few = kind_takes (λ (x : LockNo). named.Lock x) as_lock names few as_lock_ok
 
--- ---- routines
-
-abbrev routine_no : ℕ → RoutineNo
-routine_no i = record { 0 = number i }
-
-routine_named : (d t h a l r : Option ℕ) (x : RoutineNo) → first_of d t h a l r ≡ Some (named.Routine x)
-    → (i : ℕ) × (r ≡ Some i) × (x.0 ≡ number i)
-routine_named (Some i) t h a l r x e = absurd cc
-routine_named None (Some i) h a l r x e = absurd cc
-routine_named None None (Some i) a l r x e = absurd cc
-routine_named None None None (Some i) l r x e = absurd cc
-routine_named None None None None (Some i) r x e = absurd cc
-routine_named None None None None None (Some i) x e = let same : routine_no i ≡ x = cc in (i, refl, sym (ap (λ (x : RoutineNo). x.0) same))
-routine_named None None None None None None x e = absurd cc
-
-as_routine_ok : (m : Named) (x : RoutineNo) → as_routine m ≡ Ok x → m ≡ named.Routine x
-as_routine_ok (named.Dpc y) x e = absurd cc
-as_routine_ok (named.Timer y) x e = absurd cc
-as_routine_ok (named.Thread y) x e = absurd cc
-as_routine_ok (named.Apc y) x e = absurd cc
-as_routine_ok (named.Lock y) x e = absurd cc
-as_routine_ok (named.Routine y) x e = cc
-
-routine_is : (names : NameLists) → AreFew names → (f : List ℕ) (x : RoutineNo) → read_routine names f ≡ Ok x
-    → (f ≡ show_routine names x) × (x.0 < length names.routines)
-routine_is names few f x =
-    let found = routine_named (place f names.dpcs) (place f names.timers) (place f names.threads) (place f names.apcs)
-    (place f names.locks) (place f names.routines) x in
-    thing_is (λ (x : RoutineNo). named.Routine x) (λ (x : RoutineNo). x.0) as_routine names names.routines f x (omega (arith, few.routines))
-    (λ m. as_routine_ok m x) found
+as_routine_ok : (thing : Named) (x : RoutineNo) → as_routine thing ≡ Ok x → thing ≡ named.Routine x
+as_routine_ok (named.Routine _) x e = cc
+as_routine_ok _ x e = absurd cc
 
 pub routine_takes : (names : NameLists) → AreFew names → Takes (read_routine names) (show_routine names) (λ x. x.0 < length names.routines)
-routine_takes names few = record { shown = λ f x e. (routine_is names few f x e).0; fits = λ f x e. (routine_is names few f x e).1 }
+routine_takes names few = kind_takes (λ (x : RoutineNo). named.Routine x) as_routine names few as_routine_ok
 
 -- ---- names that may be left out, and new ones
 

@@ -1,4 +1,4 @@
--- Laws over the definitions, each the contract of a function in laws.rt.
+-- Laws over the definitions, each the contract of a function in src/lib.rt.
 use Rattle.std.specs.Option.{option_map_or}
 use Rattle.std.specs.Prelude.{List, None, Ok, Some, [], false, if◌then◌else◌, is_some, length, nat_lt, not, true, ℕ, ◌↔◌, ◌∷◌, ◌≡◌, ◌≤◌}
 use Rattle.nt_event.specs.declared.events.Event.{Event}

@@ -1,5 +1,5 @@
 //! What no table of cases can make: faults of a source and a sink in memory, words that are no form, the greatest sizes, and the
-//! forms from the words in to the bytes out. The programs machine_table, text_table and words_table have the worked rows of the parts.
+//! forms from the words in to the bytes out. The programs machine_table and texts_table have the worked rows of the parts.
 ghost use Rattle.std.specs.Prelude.{◌<◌};
 
 use crate::{Status, ntrun, plain};

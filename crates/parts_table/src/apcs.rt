@@ -89,8 +89,8 @@ fn with_one(alloc: Global, kind: ApcKind) -> Result<ApcQueues, AllocError> {
     Ok(queues)
 }
 
-/// Writes whether an APC that stands first is let through, a special and a normal one; whether one of each kind would be where none
-/// stands; and whether a special one would be before the normal one.
+/// Writes whether an APC that is first is let through, a special and a normal one; whether one of each kind would be if none is
+/// queued; and whether a special one would be before the normal one.
 fn write_held(rt: HostRuntime, first: [bool; 2], alone: [bool; 3], before: bool) -> io::Result<()> {
     println!(rt;
         "{} {}, {} {} {}, {before}",
@@ -98,13 +98,13 @@ fn write_held(rt: HostRuntime, first: [bool; 2], alone: [bool; 3], before: bool)
     )
 }
 
-/// Whether an APC of this kind that stands first is let through.
+/// Whether an APC of this kind that is first is let through.
 fn first(alloc: Global, kind: ApcKind, regions: Regions, level: Level) -> Result<bool, AllocError> {
     let queues = with_one(alloc, kind)?;
     Ok(queues.deliverable(regions, level).is_some())
 }
 
-/// Whether APCs of each kind would be let through where none stands.
+/// Whether APCs of each kind would be let through if none is queued.
 fn alone(alloc: Global, regions: Regions, level: Level) -> Result<[bool; 3], AllocError> {
     let queues = ApcQueues::new(alloc, 1)?;
     Ok([

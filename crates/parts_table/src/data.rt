@@ -59,7 +59,7 @@ fn script(alloc: Global, commands: Vec<Command>) -> Result<Script, AllocError> {
     Ok(made)
 }
 
-/// Declares what stands in each of these scripts.
+/// Declares what is in each of these scripts.
 fn declare(made: &mut Script) -> Result<(), AllocError> {
     let routine = RoutineNo(0);
     made.isrs.push(isr(0))?;

@@ -123,7 +123,7 @@ fn a_deep_insert_asks(rt: HostRuntime) -> io::Result<()> {
     write_insert(rt, "insert", queue.insert(&mut third, OWN, 8))
 }
 
-/// Writes where the object stands, and whether the queue has it.
+/// Writes where the object is, and whether the queue has it.
 fn write_standing(rt: HostRuntime, standing: Option<CpuNo>, held: bool) -> io::Result<()> {
     println!(rt; "  standing {standing:?}, held {held}")
 }

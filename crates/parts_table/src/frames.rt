@@ -30,7 +30,11 @@ fn write_answer(rt: HostRuntime, call: &FrameCall, answer: &FrameAnswer) -> io::
 }
 
 /// Makes the calls and writes each with its answer.
-fn write_calls(rt: HostRuntime, frames: &mut Frames, calls: &[FrameCall]) -> io::Result<()>
+pub(crate) fn write_calls(
+    rt: HostRuntime,
+    frames: &mut Frames,
+    calls: &[FrameCall],
+) -> io::Result<()>
     requires { MayCallAll calls.now frames.old }
 {
     let answers = perform_all(rt.alloc(), frames, calls)?;
@@ -66,7 +70,7 @@ fn write_innermost(rt: HostRuntime, frame: Option<FrameView>) -> io::Result<()> 
     println!(rt; "  innermost {frame:?}")
 }
 
-/// Writes where a processor stands that owes a sweep.
+/// Writes where a processor is that owes a sweep.
 fn write_stand(rt: HostRuntime, stand: &StandView) -> io::Result<()> {
     let answers = Stand {
         cpu: stand.cpu(),
@@ -84,7 +88,7 @@ fn write_stand(rt: HostRuntime, stand: &StandView) -> io::Result<()> {
     println!(rt; "  {answers:?}")
 }
 
-/// Writes what the frames tell.
+/// Writes what the frames answer.
 fn write_questions(rt: HostRuntime, frames: &Frames) -> io::Result<()> {
     write_levels(rt, frames.level(), frames.ended_level())?;
     write_running(rt, frames.running())?;

@@ -194,7 +194,7 @@ fn write_status(rt: HostRuntime, call: &str, status: Option<u32>) -> io::Result<
     println!(rt; "  {call} {status:?}")
 }
 
-/// Resumes the thread and writes the status, where it is ready.
+/// Resumes the thread and writes the status, if it is ready.
 fn resumed(rt: HostRuntime, thread: &mut ThreadState) -> io::Result<()> {
     if thread.is_ready() {
         write_status(rt, "resume", thread.resume())?;
@@ -265,7 +265,7 @@ fn an_alert(rt: HostRuntime) -> io::Result<()> {
     write_yes(rt, "test alert", thread.test_alert(Mode::User))
 }
 
-/// Writes whether the thread takes the APC, and the user APC that stands first.
+/// Writes whether the thread takes the APC, and the user APC that is first.
 fn write_taking(rt: HostRuntime, takes: bool, first: Option<Pick>) -> io::Result<()> {
     println!(rt; "  takes {takes}, first {first:?}")
 }
@@ -282,7 +282,7 @@ fn a_user_apc(rt: HostRuntime) -> io::Result<()> {
     write_yes(rt, "unapc", thread.unapc(ApcNo(1)))
 }
 
-/// A normal kernel APC waits behind a critical region, and a special one ends the wait.
+/// A normal kernel APC waits for the end of a critical region, and a special one ends the wait.
 fn an_interrupted_wait(rt: HostRuntime) -> io::Result<()> {
     let mut thread = running(rt.alloc())?;
     let spec = wait(Mode::Kernel, false);

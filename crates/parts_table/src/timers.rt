@@ -16,15 +16,15 @@ pub fn answer(rt: HostRuntime, case: &str) -> io::Result<()> {
 }
 
 /// Writes the key that is due first, if any.
-fn write_first(rt: HostRuntime, queue: &TimerQueue) -> io::Result<()> {
+pub(crate) fn write_first(rt: HostRuntime, queue: &TimerQueue) -> io::Result<()> {
     println!(rt; "  first {:?}", queue.first_due())
 }
 
-fn write_set(rt: HostRuntime, answer: SetAnswer) -> io::Result<()> {
+pub(crate) fn write_set(rt: HostRuntime, answer: SetAnswer) -> io::Result<()> {
     println!(rt; "  set {answer:?}")
 }
 
-fn write_expiry(rt: HostRuntime, expired: Expired) -> io::Result<()> {
+pub(crate) fn write_expiry(rt: HostRuntime, expired: Expired) -> io::Result<()> {
     println!(rt; "  expire {expired:?}")
 }
 

@@ -1,8 +1,0 @@
-use Rattle.std.proofs.Common.{refl}
-use Rattle.nt_event.specs.Lists.{table_from}
-use Rattle.orders_table.proofs.FrameCalls.{calls_allowed}
-use Rattle.orders_table.proofs.frames.no_routine.Goals as goal
-
-pub write_calls-requires : goal.write_calls-requires
-unfolding table_from
-write_calls-requires c = rw c.requires (calls_allowed _ _ refl)
