@@ -12,7 +12,7 @@ use crate::flags::{Flags, LOOKS};
 use crate::gates::{Freeing, Holding};
 use nt_cpu::Cpu;
 use nt_event::{CpuNo, Plan, Script};
-use nt_lane::{Lanes, lane_count};
+use nt_lane::Lanes;
 use nt_mark::{Keeper, Made, Marks, Shared};
 use nt_outside::Gate;
 use std::alloc::{AllocError, Global};
@@ -112,7 +112,7 @@ pub(crate) fn turned_beside<R: Threads + Wait + Sync>(
     requires script { IsTrue (fits script.now) }
     requires turns { (1 ≤ limit) × (limit ≤ TURNS) }
 {
-    let count = lane_count(script);
+    let count = script.lane_count() as u32;
     if lane >= count {
         return Ok("no such lane");
     }
@@ -207,7 +207,7 @@ pub(crate) fn held_beside<R: Threads + Wait + Sync>(
     requires script { IsTrue (fits script.now) }
     requires turns { (1 ≤ limit) × (limit ≤ TURNS) }
 {
-    let count = lane_count(script);
+    let count = script.lane_count() as u32;
     if first >= count || second >= count || first == second {
         return Ok("no such lanes");
     }

@@ -29,7 +29,7 @@ use Rattle.nt_cpu.specs.Leaves.{own_with}
 use Rattle.nt_cpu.specs.Sound.{IsSound}
 use Rattle.nt_cpu.specs.States.{CpuState}
 use Rattle.nt_cpu.specs.Turns.{HaveStates, Serves, StandsIn, own_then}
-use Rattle.nt_cpu.specs.declared.alone.Asked.{Asked}
+use Rattle.nt_event.specs.declared.class.Asked.{Asked}
 use Rattle.nt_cpu.proofs.Alones.{asks_alone, due_alone, lanes_alone}
 use Rattle.nt_cpu.proofs.LanesKept.{lanes_kept}
 use Rattle.nt_cpu.proofs.Taken.{own_with_same}

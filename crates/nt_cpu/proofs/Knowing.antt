@@ -21,7 +21,7 @@ use Rattle.nt_cpu.specs.States.{CpuState}
 use Rattle.nt_event.specs.Classes.{is_used_class}
 use Rattle.nt_cpu.specs.Steps.{AllLooked, Knows, was_looked}
 use Rattle.nt_cpu.specs.Turns.{Serves}
-use Rattle.nt_cpu.specs.declared.alone.Asked.{Asked}
+use Rattle.nt_event.specs.declared.class.Asked.{Asked}
 use Rattle.nt_cpu.proofs.AloneMoves.{asked_for, marked_stays, marked_value}
 use Rattle.nt_cpu.proofs.NamesLeft.{named_after}
 

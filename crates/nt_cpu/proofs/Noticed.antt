@@ -6,7 +6,7 @@ use Rattle.nt_event.specs.declared.events.What.{What}
 use Rattle.nt_event.specs.declared.events.What.TheVariants.{Look}
 use Rattle.nt_event.specs.declared.numbers.CpuNo.{CpuNo}
 use Rattle.nt_cpu.specs.Alone.{noticed}
-use Rattle.nt_cpu.specs.declared.alone.Asked.{Asked}
+use Rattle.nt_event.specs.declared.class.Asked.{Asked}
 
 asked_is : (p : CpuNo) (w : What) (a : Asked) (n k : ℕ) → ((r : Rises) → w ≡ Look r → ⊥) → noticed p w (Some a) n k
     ≡ (if (a.cpu.0 == p.0) && (a.class == k) then n + 1 else 0)

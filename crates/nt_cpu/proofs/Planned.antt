@@ -1,4 +1,4 @@
--- The task that a plan stands for.
+-- The task of what comes next.
 use Rattle.std.proofs.Common.{ap, ◌∙◌}
 use Rattle.std.specs.List.{list_any}
 use Rattle.std.specs.Prelude.{Bool, List, None, Option, Some, if◌then◌else◌, nat_lt, refl, ℕ, ◌≡◌}
@@ -19,26 +19,26 @@ use Rattle.nt_event.specs.Robin.{look_values}
 use Rattle.nt_cpu.specs.Alone.{alone_event}
 use Rattle.nt_cpu.specs.States.{CpuState}
 use Rattle.nt_cpu.specs.Steps.{local_task}
-use Rattle.nt_cpu.specs.declared.plan.Plan.{Plan}
-use Rattle.nt_cpu.specs.declared.plan.Plan.TheVariants.{Alone, Shared}
+use Rattle.nt_cpu.specs.declared.next.Next.{Next}
+use Rattle.nt_cpu.specs.declared.next.Next.TheVariants.{Alone, Shared}
 use Rattle.nt_cpu.specs.Plans.{IsWritten, planned}
 
-pub planned_alone : (e : Event) (o : Option Plan) → o ≡ Some Alone → planned e o ≡ Some (task.Alone e.what)
+pub planned_alone : (e : Event) (o : Option Next) → o ≡ Some Alone → planned e o ≡ Some (task.Alone e.what)
 planned_alone e o h = ap (planned e) h
 
-pub planned_shared : (e : Event) (o : Option Plan) (job : Job) → o ≡ Some (Shared job) → planned e o ≡ Some (task.Shared job)
+pub planned_shared : (e : Event) (o : Option Next) (job : Job) → o ≡ Some (Shared job) → planned e o ≡ Some (task.Shared job)
 planned_shared e o job h = ap (planned e) h
 
-pub planned_none : (e : Event) (o : Option Plan) → o ≡ None → planned e o ≡ None
+pub planned_none : (e : Event) (o : Option Next) → o ≡ None → planned e o ≡ None
 planned_none e o h = ap (planned e) h
 
 -- an event that touches no lane was written whole
-pub written_alone : (c : CpuState) (old new : Event) (o : Option Plan) → IsWritten c old new o → o ≡ Some Alone → new
+pub written_alone : (c : CpuState) (old new : Event) (o : Option Next) → IsWritten c old new o → o ≡ Some Alone → new
     ≡ alone_event c.cpu new.what c.own.frames
 written_alone c old new o w h = rw h at w
 
 -- where there is nothing to do, nothing was written
-pub unwritten_none : (c : CpuState) (old new : Event) (o : Option Plan) → IsWritten c old new o → o ≡ None → new ≡ old
+pub unwritten_none : (c : CpuState) (old new : Event) (o : Option Next) → IsWritten c old new o → o ≡ None → new ≡ old
 unwritten_none c old new o w h = rw h at w
 
 -- what a processor has to do after looks, by the values that rose

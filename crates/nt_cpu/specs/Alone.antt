@@ -20,7 +20,7 @@ use Rattle.nt_event.specs.declared.events.Event.{Event}
 use Rattle.nt_event.specs.Own.{Own, stand_in}
 use Rattle.nt_event.specs.Step.{thread_field}
 use Rattle.nt_floor.specs.Views.{IsDrawn, IsMarked, View}
-use Rattle.nt_cpu.specs.declared.alone.Asked.{Asked}
+use Rattle.nt_event.specs.declared.class.Asked.{Asked}
 use Rattle.nt_cpu.specs.Fits.{Allow}
 use Rattle.nt_cpu.specs.Leaves.{own_with}
 use Rattle.nt_cpu.specs.States.{CpuState}

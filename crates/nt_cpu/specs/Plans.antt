@@ -1,4 +1,4 @@
--- The task that a plan stands for.
+-- The task of what comes next.
 use Rattle.std.specs.Prelude.{Bool, None, Option, Some, option_map, ℕ, ◌≡◌}
 use Rattle.nt_event.specs.declared.commands.Command.{Command}
 use Rattle.nt_event.specs.Frame.{Frame}
@@ -11,20 +11,20 @@ use Rattle.nt_event.specs.declared.jobs.Task.{Task}
 use Rattle.nt_event.specs.declared.jobs.Task.TheVariants as task
 use Rattle.nt_cpu.specs.Alone.{alone_event}
 use Rattle.nt_cpu.specs.States.{CpuState}
-use Rattle.nt_cpu.specs.declared.plan.Plan.{Plan}
-use Rattle.nt_cpu.specs.declared.plan.Plan.TheVariants.{Alone, Shared}
+use Rattle.nt_cpu.specs.declared.next.Next.{Next}
+use Rattle.nt_cpu.specs.declared.next.Next.TheVariants.{Alone, Shared}
 
 -- where the event in its place is this one
-abbrev pub task_in : Event → Plan → Task
+abbrev pub task_in : Event → Next → Task
 task_in e Alone = task.Alone e.what
 task_in e (Shared job) = task.Shared job
 
-abbrev pub planned : Event → Option Plan → Option Task
+abbrev pub planned : Event → Option Next → Option Task
 planned e o = option_map (task_in e) o
 
 -- the event in the place, this one before and that one after: where it touches no lane it was written whole, and else
 -- it is as before
-abbrev pub IsWritten : CpuState → Event → Event → Option Plan → Type 0
+abbrev pub IsWritten : CpuState → Event → Event → Option Next → Type 0
 IsWritten c old new (Some Alone) = new ≡ alone_event c.cpu new.what c.own.frames
 IsWritten c old new (Some (Shared job)) = new ≡ old
 IsWritten c old new None = new ≡ old

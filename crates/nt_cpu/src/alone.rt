@@ -14,16 +14,11 @@ ghost use Rattle.nt_cpu.specs.Alone.{IsAlone, IsMarkedFor, MayBe, alone_asks, al
 
 use crate::cpu::Cpu;
 use crate::notice::Notice;
-use nt_event::{ApcKind, Begun, Body, Command, CpuNo, Event, Level, Reply, Rises, What};
+use nt_event::{
+    ApcKind, Asked, Begun, Body, Command, CpuNo, Event, Level, Reply, Rises, What, class,
+};
 use nt_floor::Words;
 use nt_frame::Frame;
-
-/// A class of a processor for which an event asks.
-#[derive(Clone, Copy, PartialEq, Eq, Debug)]
-pub struct Asked {
-    pub cpu: CpuNo,
-    pub class: u8,
-}
 
 fn ask_when(test: bool, cpu: CpuNo, class: u8) -> Option<Asked>
     requires { class < 16 }
@@ -104,8 +99,8 @@ impl<'s> Cpu<'s> {
             return None;
         }
         match command {
-            Command::LeaveCrit => ask_when(self.frames.regions().crit == 1, self.cpu, 1),
-            Command::LeaveGuard => ask_when(self.frames.regions().guard == 1, self.cpu, 1),
+            Command::LeaveCrit => ask_when(self.frames.regions().crit == 1, self.cpu, class::APC),
+            Command::LeaveGuard => ask_when(self.frames.regions().guard == 1, self.cpu, class::APC),
             Command::Interrupt(cpu, level) => Some(Asked {
                 cpu: *cpu,
                 class: level.number(),
@@ -150,8 +145,8 @@ impl<'s> Cpu<'s> {
     {
         match what {
             What::Call { command, reply, .. } => self.call_asks(command, reply),
-            What::Normal { .. } => ask_when(self.frames.gives_up(), self.cpu, 1),
-            What::End { .. } => ask_when(self.end_asks(), self.cpu, 1),
+            What::Normal { .. } => ask_when(self.frames.gives_up(), self.cpu, class::APC),
+            What::End { .. } => ask_when(self.end_asks(), self.cpu, class::APC),
             What::Look { .. }
             | What::Begin { .. }
             | What::Expire { .. }
@@ -203,7 +198,12 @@ impl<'s> Cpu<'s> {
         requires { length answers.now ≡ 16 }
         ensures { event.new ≡ alone_event self.now.cpu (What.Look (record { value = look_values self.now.own (value_at answers.now) })) self.now.own.frames }
     {
-        self.write_look(&Rises { value: [0; 16] }, event);
+        self.write_look(
+            &Rises {
+                value: [0; class::COUNT],
+            },
+            event,
+        );
         if let What::Look { rises } = &mut event.what {
             self.seen.write_below(answers, rises);
         }

@@ -3,10 +3,11 @@ ghost use Rattle.std.specs.Prelude.{◌≡◌, ◌<◌, All, find, true};
 ghost use Rattle.nt_cpu.specs.Due.{above_level as above, greatest_due as greatest, is_unserved};
 
 use crate::values::Values;
+use nt_event::class;
 use nt_floor::Seen;
 
 /// The classes of interrupts, the greatest first; 12, that of released locks, is none.
-const CLASSES: [u8; 11] = [14, 13, 11, 10, 9, 8, 7, 6, 5, 4, 3];
+const CLASSES: [u8; 11] = [class::IPI, class::CLOCK, 11, 10, 9, 8, 7, 6, 5, 4, 3];
 
 /// Whether a request of the class was noticed and not served.
 pub fn is_due(seen: &Seen, served: &Values, class: u8) -> bool

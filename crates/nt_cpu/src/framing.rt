@@ -15,7 +15,7 @@ ghost use Rattle.nt_frame.specs.Nesting.{AreNamedBelow, AreNested};
 ghost use Rattle.nt_frame.specs.Rules.{count_of, is_at_base, is_leaving, refusal_in, regions_in};
 ghost use Rattle.nt_cpu.specs.Fits.{Allow, body_of as begun_body, is_wait_reply, lock_below, may_call};
 ghost use Rattle.nt_cpu.specs.Moved.{command_done, effect_made, moved};
-ghost use Rattle.nt_event.specs.Calls.{stops as stops_of, wait_begun};
+ghost use Rattle.nt_event.specs.Calls.{wait_begun};
 
 use nt_event::status::KERNEL_APC;
 use nt_event::{Again, ApcNo, Begun, Body, Command, Event, Region, Reply, Script, ThreadNo, What};
@@ -179,13 +179,6 @@ fn take_effect(frames: &mut Frames, command: &Command, reply: &Reply, due: Optio
     }
 }
 
-/// Whether the thread that calls the command runs no more.
-fn stops(command: &Command, reply: &Reply) -> bool
-    ensures { result ≡ stops_of command.now reply.now }
-{
-    reply.is_blocked() || matches!(command, Command::Yield) && reply.is_done()
-}
-
 /// The innermost frame calls a command.
 fn call(frames: &mut Frames, command: &Command, reply: &Reply, due: Option<u64>)
     requires nested { AreNested frames.old }
@@ -201,7 +194,7 @@ fn call(frames: &mut Frames, command: &Command, reply: &Reply, due: Option<u64>)
         return;
     }
     frames.advance_place();
-    if stops(command, reply) {
+    if command.stops(reply) {
         frames.switch_away();
     }
 }

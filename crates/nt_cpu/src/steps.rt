@@ -19,9 +19,9 @@ ghost use Rattle.nt_cpu.specs.Turns.{IsShared, Serves};
 
 use crate::cpu::Cpu;
 use crate::looks::some_rises;
-use crate::plan::Plan;
+use crate::next::Next;
 use crate::writing::no_event;
-use nt_event::class::is_used;
+use nt_event::class::{COUNT, is_used};
 use nt_event::{CpuNo, Event, Job, Rises};
 use nt_floor::{Floor, Words};
 use std::alloc::AllocError;
@@ -54,12 +54,12 @@ pub enum Turned {
 }
 
 /// Looks once at each used class of the processor, in order. The answers by class; 0 for a class that is not used.
-fn look_all<W: Words>(words: &mut W, cpu: CpuNo) -> [u64; 16]
+fn look_all<W: Words>(words: &mut W, cpu: CpuNo) -> [u64; COUNT]
     requires { cpu.0 < (W.view words.old).cpus }
     ensures looks { AllLooked cpu result (W.view words.old) (W.view words.new) }
     ensures grows { W.grows words.old words.new }
 {
-    let mut answers = [0; 16];
+    let mut answers = [0; COUNT];
     for class in 0..CLASSES {
         if is_used(class) {
             answers[class as usize] = words.look(cpu, class);
@@ -95,27 +95,27 @@ impl<'s> Cpu<'s> {
     }
 
     /// What it chooses to do: nothing where it rests or spins still; a ready thread where one may be taken up; else what is next.
-    fn chosen_task(&self, event: &mut Event) -> Option<Plan>
+    fn chosen_task(&self, event: &mut Event) -> Option<Next>
         ensures task { planned event.new result ≡ chosen_of self.now.script self.now.cpu self.now.own }
         ensures written { IsWritten self.now event.old event.new result }
     {
         if self.is_still() {
             None
         } else if self.is_free() {
-            Some(Plan::Shared(Job::Pick(self.kept.took)))
+            Some(Next::Shared(Job::Pick(self.kept.took)))
         } else {
             self.task(event)
         }
     }
 
     /// What it has to do after looks that found these values risen.
-    fn local_task(&self, rises: &Rises, event: &mut Event) -> Option<Plan>
+    fn local_task(&self, rises: &Rises, event: &mut Event) -> Option<Next>
         ensures task { planned event.new result ≡ (if list_any (λ v. nat_lt 0 v) rises.now.value then Some (Task.Alone (What.Look rises.now)) else chosen_of self.now.script self.now.cpu self.now.own) }
         ensures written { IsWritten self.now event.old event.new result }
     {
         if some_rises(&rises.value) {
             self.write_look(rises, event);
-            Some(Plan::Alone)
+            Some(Next::Alone)
         } else {
             self.chosen_task(event)
         }
@@ -141,11 +141,11 @@ impl<'s> Cpu<'s> {
         let mut event = no_event();
         match self.local_task(&rises, &mut event) {
             None => Local::Quiet,
-            Some(Plan::Alone) => {
+            Some(Next::Alone) => {
                 self.make_alone(words, &event);
                 Local::Did(event)
             }
-            Some(Plan::Shared(job)) => Local::NeedsLane(job),
+            Some(Next::Shared(job)) => Local::NeedsLane(job),
         }
     }
 

@@ -16,7 +16,7 @@ ghost use Rattle.nt_cpu.specs.Plans.{IsWritten, ServeFor, planned, task_in};
 
 use crate::cpu::Cpu;
 use crate::due::{above_level, is_due};
-use crate::plan::Plan;
+use crate::next::Next;
 use nt_event::{ApcKind, Body, Command, Event, Job, Level, Refusal, Regions, Reply, class};
 use nt_frame::{Frame, Frames, refusal};
 
@@ -61,7 +61,7 @@ impl<'s> Cpu<'s> {
         requires { level ≡ level_at self.now.own }
         ensures { result ≡ drain_in self.now.own }
     {
-        level.number() < 2 && (self.is_due(2) || self.kept.sweep)
+        level.number() < 2 && (self.is_due(class::DISPATCH) || self.kept.sweep)
     }
 
     /// Kernel APCs, at PASSIVE_LEVEL in a thread, where this is the level.
@@ -69,7 +69,7 @@ impl<'s> Cpu<'s> {
         requires { level ≡ level_at self.now.own }
         ensures { result ≡ apcs_in self.now.own }
     {
-        level.number() == 0 && (self.frames.is_on_thread() && self.is_due(1))
+        level.number() == 0 && (self.frames.is_on_thread() && self.is_due(class::APC))
     }
 
     /// Threaded DPCs, at PASSIVE_LEVEL with no frame on the own part (profile), where this is the level.
@@ -77,30 +77,30 @@ impl<'s> Cpu<'s> {
         requires { level ≡ level_at self.now.own }
         ensures { result ≡ threaded_in self.now.own }
     {
-        level.number() == 0 && (!self.frames.has_own() && self.is_due(0))
+        level.number() == 0 && (!self.frames.has_own() && self.is_due(class::THREADED))
     }
 
     /// What it must do before it goes on, at this level.
-    fn must_task(&self, level: Level, event: &mut Event) -> Option<Plan>
+    fn must_task(&self, level: Level, event: &mut Event) -> Option<Next>
         requires { level ≡ level_at self.now.own }
         ensures task { planned event.new result ≡ must_of self.now.own }
         ensures written { IsWritten self.now event.old event.new result }
     {
         if let Some(dpc) = self.kept.fire {
-            return Some(Plan::Shared(Job::Fire(dpc)));
+            return Some(Next::Shared(Job::Fire(dpc)));
         }
         if let Some(class) = self.due_interrupt(level) {
             self.interrupt(class, event);
-            return Some(Plan::Alone);
+            return Some(Next::Alone);
         }
         if self.may_drain(level) {
-            return Some(Plan::Shared(Job::Drain));
+            return Some(Next::Shared(Job::Drain));
         }
         if self.may_apcs(level) {
-            return Some(Plan::Shared(Job::Apcs));
+            return Some(Next::Shared(Job::Apcs));
         }
         if self.may_threaded(level) {
-            return Some(Plan::Shared(Job::Threaded));
+            return Some(Next::Shared(Job::Threaded));
         }
         None
     }
@@ -158,7 +158,7 @@ impl<'s> Cpu<'s> {
     }
 
     /// The next command of the innermost frame is refused, called alone, or a job.
-    fn command_task(&self, frame: &Frame, event: &mut Event) -> Option<Plan>
+    fn command_task(&self, frame: &Frame, event: &mut Event) -> Option<Next>
         requires { frame.now.level ≡ level_at self.now.own }
         ensures task { planned event.new result ≡ command_of self.now.own frame.now (next_of self.now.script self.now.cpu frame.now) }
         ensures written { IsWritten self.now event.old event.new result }
@@ -170,7 +170,7 @@ impl<'s> Cpu<'s> {
     }
 
     /// The call of this command in this innermost frame.
-    fn call_in(&self, frame: &Frame, command: &Command, event: &mut Event) -> Plan
+    fn call_in(&self, frame: &Frame, command: &Command, event: &mut Event) -> Next
         requires { frame.now.level ≡ level_at self.now.own }
         ensures task { task_in event.new result ≡ call_of frame.now command.now (refusal_of (level_at self.now.own) (not (is_null self.now.own.frames.own)) (regions_of (thread_part self.now.own.frames)) frame.now command.now) }
         ensures written { IsWritten self.now event.old event.new (Some result) }
@@ -193,7 +193,7 @@ impl<'s> Cpu<'s> {
         command: &Command,
         refusal: Option<Refusal>,
         event: &mut Event,
-    ) -> Plan
+    ) -> Next
         requires { frame.now.level ≡ level_at self.now.own }
         ensures task { task_in event.new result ≡ call_of frame.now command.now refusal }
         ensures written { IsWritten self.now event.old event.new (Some result) }
@@ -202,77 +202,77 @@ impl<'s> Cpu<'s> {
             Some(refusal) => Reply::Refused(refusal),
             None => {
                 if matches!(command, Command::ToUser) {
-                    return Plan::Shared(Job::ToUser);
+                    return Next::Shared(Job::ToUser);
                 }
                 if command.needs_lane() {
-                    return Plan::Shared(Job::Call(*command));
+                    return Next::Shared(Job::Call(*command));
                 }
                 Reply::Done
             }
         };
         self.write_call(frame, command, reply, event);
-        Plan::Alone
+        Next::Alone
     }
 
     /// What the innermost frame has to do.
-    fn frame_task(&self, frame: &Frame, event: &mut Event) -> Option<Plan>
+    fn frame_task(&self, frame: &Frame, event: &mut Event) -> Option<Next>
         requires { frame.now.level ≡ level_at self.now.own }
         ensures task { planned event.new result ≡ frame_of self.now.script self.now.cpu self.now.own frame.now }
         ensures written { IsWritten self.now event.old event.new result }
     {
         if frame.again().is_some() {
-            return Some(Plan::Shared(Job::Rewait));
+            return Some(Next::Shared(Job::Rewait));
         }
         if frame.leaving() {
-            return Some(Plan::Shared(Job::Rundown));
+            return Some(Next::Shared(Job::Rundown));
         }
         let command = self.command_task(frame, event);
         if command.is_some() {
             return command;
         }
         if let Some(lock) = frame.last_held() {
-            return Some(Plan::Shared(Job::Free(lock)));
+            return Some(Next::Shared(Job::Free(lock)));
         }
         if frame.kernel_phase() && has_normal(frame.body()) {
             self.write_normal(frame.name(), event);
-            return Some(Plan::Alone);
+            return Some(Next::Alone);
         }
         Some(self.end_task(frame, event))
     }
 
     /// The frame ends.
-    fn end_task(&self, frame: &Frame, event: &mut Event) -> Plan
+    fn end_task(&self, frame: &Frame, event: &mut Event) -> Next
         ensures task { task_in event.new result ≡ end_of frame.now.name frame.now.body }
         ensures written { IsWritten self.now event.old event.new (Some result) }
     {
         match frame.body() {
-            Body::Base(_) => Plan::Shared(Job::Leave),
-            Body::Apc(_, ApcKind::User) => Plan::Shared(Job::UserEnd),
+            Body::Base(_) => Next::Shared(Job::Leave),
+            Body::Apc(_, ApcKind::User) => Next::Shared(Job::UserEnd),
             Body::Int(_) | Body::Dpc(_) | Body::Threaded(_) | Body::Rundown(_) => {
                 self.write_end(frame.name(), event);
-                Plan::Alone
+                Next::Alone
             }
             Body::Apc(_, ApcKind::Special) | Body::Apc(_, ApcKind::Normal) => {
                 self.write_end(frame.name(), event);
-                Plan::Alone
+                Next::Alone
             }
         }
     }
 
     /// At rest with no running thread there is nothing to do; else ordinary DPCs, a needed Switch, or Rest.
-    fn idle_task(&self) -> Option<Plan>
+    fn idle_task(&self) -> Option<Next>
         ensures task { (event : Event) → planned event result ≡ idle_of self.now.own }
         ensures unwritten { (event : Event) → IsWritten self.now event event result }
     {
         if !(self.kept.rested && self.frames.running().is_none()) {
-            Some(Plan::Shared(Job::Idle))
+            Some(Next::Shared(Job::Idle))
         } else {
             None
         }
     }
 
     /// What it has to do next, or None where there is nothing. An event that touches no lane is written.
-    pub(crate) fn task(&self, event: &mut Event) -> Option<Plan>
+    pub(crate) fn task(&self, event: &mut Event) -> Option<Next>
         ensures task { planned event.new result ≡ task_of self.now.script self.now.cpu self.now.own }
         ensures written { IsWritten self.now event.old event.new result }
     {

@@ -22,7 +22,7 @@ ghost use Rattle.nt_cpu.specs.Turns.{IsTurned, IsTurnRefused, Serves, acts, rise
 use crate::choice::Choice;
 use crate::cpu::Cpu;
 use crate::looks::rise;
-use crate::plan::Plan;
+use crate::next::Next;
 use crate::writing::no_event;
 use nt_event::{Event, Job, Rises, ThreadNo, Turn};
 use nt_floor::{ActRefusal, Floor, OpenFloor};
@@ -41,7 +41,7 @@ pub enum TurnRefusal {
 }
 
 /// The refusal of a turn that gives no event.
-fn turn_refusal(choice: &Choice) -> TurnRefusal
+fn turn_refusal(choice: &Choice<&Rises>) -> TurnRefusal
     ensures { (p : CpuNo) → result ≡ refusal_of (turn_by p choice.now) }
 {
     match choice {
@@ -60,7 +60,7 @@ impl<'s> Cpu<'s> {
     }
 
     /// What a turn has it do, or None where the turn is refused. An event that touches no lane is written.
-    fn turn_task(&self, choice: &Choice, event: &mut Event) -> Option<Plan>
+    fn turn_task(&self, choice: &Choice<&Rises>, event: &mut Event) -> Option<Next>
         ensures task { planned event.new result ≡ task_of self.now.script self.now.cpu self.now.own (turn_by self.now.cpu choice.now) }
         ensures written { IsWritten self.now event.old event.new result }
     {
@@ -72,25 +72,25 @@ impl<'s> Cpu<'s> {
     }
 
     /// A look, where some value rises and each that does is above what was seen.
-    fn look_task(&self, rises: &Rises, event: &mut Event) -> Option<Plan>
+    fn look_task(&self, rises: &Rises, event: &mut Event) -> Option<Next>
         ensures task { planned event.new result ≡ when (rises_in rises.now.value self.now.own.seen) (Some (Task.Alone (What.Look rises.now))) }
         ensures written { IsWritten self.now event.old event.new result }
     {
         if rise(rises, &self.seen) {
             self.write_look(rises, event);
-            Some(Plan::Alone)
+            Some(Next::Alone)
         } else {
             None
         }
     }
 
     /// A switch, where one may be made and the script has the thread.
-    fn switch_task(&self, thread: ThreadNo) -> Option<Plan>
+    fn switch_task(&self, thread: ThreadNo) -> Option<Next>
         ensures task { (event : Event) → planned event result ≡ when (switch_in self.now.own && has_thread self.now.script thread) (Some (Task.Shared (Job.Switch thread))) }
         ensures unwritten { (event : Event) → IsWritten self.now event event result }
     {
         if self.is_free() && (thread.0 as usize) < self.script.threads.len() {
-            Some(Plan::Shared(Job::Switch(thread)))
+            Some(Next::Shared(Job::Switch(thread)))
         } else {
             None
         }
@@ -162,7 +162,7 @@ impl<'s> Cpu<'s> {
     pub fn choose_into<F: Floor>(
         &mut self,
         floor: &mut F,
-        choice: &Choice,
+        choice: &Choice<&Rises>,
         event: &mut Event,
     ) -> Result<(), TurnRefusal>
         requires script { F.script floor.old ≡ self.old.script }
@@ -180,11 +180,11 @@ impl<'s> Cpu<'s> {
             return Err(TurnRefusal::NothingToDo);
         }
         match self.turn_task(choice, event) {
-            Some(Plan::Alone) => {
+            Some(Next::Alone) => {
                 self.make_alone(floor, event);
                 Ok(())
             }
-            Some(Plan::Shared(job)) => match self.make_shared(floor, job, event) {
+            Some(Next::Shared(job)) => match self.make_shared(floor, job, event) {
                 Ok(()) => Ok(()),
                 Err(ActRefusal::NoMemory) => Err(TurnRefusal::NoMemory),
                 Err(_) => Err(turn_refusal(choice)),

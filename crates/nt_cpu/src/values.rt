@@ -2,13 +2,14 @@
 ghost use Rattle.std.specs.Prelude.{◌≡◌, ◌<◌, ℕ, slice_set};
 ghost use Rattle.nt_event.specs.Lists.{table, value_at};
 
+use nt_event::class;
 use nt_floor::Seen;
 use std::marker::Model;
 
-/// A value for each of the classes 0 to 15.
+/// A value for each class.
 #[derive(Drop, Debug)]
 pub struct Values {
-    values: [u64; 16],
+    values: [u64; class::COUNT],
 }
 
 impl Model for Values {
@@ -24,7 +25,9 @@ impl Values {
     pub fn new() -> Self
         ensures { result ≡ table 16 (λ c. 0) }
     {
-        Values { values: [0; 16] }
+        Values {
+            values: [0; class::COUNT],
+        }
     }
 
     /// The value of a class.

@@ -29,10 +29,8 @@ use Rattle.nt_cpu.specs.Runs.{Follows, state_of}
 use Rattle.nt_cpu.specs.States.{CpuState}
 use Rattle.nt_cpu.specs.Steps.{SeenWithin}
 use Rattle.nt_cpus.specs.Cycles.{next_cpu}
-use Rattle.nt_cpus.specs.Steps.{chosen_turn, found_values, look_of, step_turn}
-use Rattle.nt_cpus.specs.declared.robins.Chosen.{Chosen}
-use Rattle.nt_cpus.specs.declared.robins.Step.{Step}
-use Rattle.nt_cpus.specs.declared.robins.Step.TheVariants.{Look, Next, Switch}
+use Rattle.nt_cpus.specs.Steps.{CpuChoice, RobinChoice, chosen_turn, found_values, look_of, step_turn}
+use Rattle.nt_cpu.specs.declared.choice.Choice.TheVariants.{Look, Next, Switch}
 
 -- ---- the turn of one processor
 
@@ -161,23 +159,23 @@ those_lanes {P} {Q} (Some l) h i = h l i
 
 -- ---- the turn of a step
 
-pub look_chosen : (s : Script) (past : List Event) (c : Chosen) → c.step ≡ Look → chosen_turn s past c ≡ look_of s c.cpu past
-look_chosen s past c h = ap (step_turn c.cpu (found_values s c.cpu past)) h
+pub look_chosen : (s : Script) (past : List Event) (c : CpuChoice) (u : Unit {0}) → c.1 ≡ Look u → chosen_turn s past c ≡ look_of s c.0 past
+look_chosen s past c u h = ap (step_turn c.0 (found_values s c.0 past)) h
 
-pub switch_chosen : (s : Script) (past : List Event) (c : Chosen) (t : ThreadNo) → c.step ≡ Switch t → chosen_turn s past c ≡ SwitchTurn c.cpu t
-switch_chosen s past c t h = ap (step_turn c.cpu (found_values s c.cpu past)) h
+pub switch_chosen : (s : Script) (past : List Event) (c : CpuChoice) (t : ThreadNo) → c.1 ≡ Switch t → chosen_turn s past c ≡ SwitchTurn c.0 t
+switch_chosen s past c t h = ap (step_turn c.0 (found_values s c.0 past)) h
 
-pub next_chosen : (s : Script) (past : List Event) (c : Chosen) → c.step ≡ Next → chosen_turn s past c ≡ NextTurn c.cpu
-next_chosen s past c h = ap (step_turn c.cpu (found_values s c.cpu past)) h
+pub next_chosen : (s : Script) (past : List Event) (c : CpuChoice) → c.1 ≡ Next → chosen_turn s past c ≡ NextTurn c.0
+next_chosen s past c h = ap (step_turn c.0 (found_values s c.0 past)) h
 
 -- a step was found, or none
-pub some_step : (s : Script) (p : CpuNo) (past : List Event) (o : Option Step) (x : Step) (t : Option Turn) → o ≡ Some x →
+pub some_step : (s : Script) (p : CpuNo) (past : List Event) (o : Option RobinChoice) (x : RobinChoice) (t : Option Turn) → o ≡ Some x →
     option_map (step_turn p (found_values s p past)) o ≡ t → t ≡ Some (step_turn p (found_values s p past) x)
-some_step s p past o x t h e = sym e ∙ ap (λ (z : Option Step). option_map (step_turn p (found_values s p past)) z) h
+some_step s p past o x t h e = sym e ∙ ap (λ (z : Option RobinChoice). option_map (step_turn p (found_values s p past)) z) h
 
-pub no_step : (s : Script) (p : CpuNo) (past : List Event) (o : Option Step) (t : Option Turn) → o ≡ None →
+pub no_step : (s : Script) (p : CpuNo) (past : List Event) (o : Option RobinChoice) (t : Option Turn) → o ≡ None →
     option_map (step_turn p (found_values s p past)) o ≡ t → t ≡ None
-no_step s p past o t h e = sym e ∙ ap (λ (z : Option Step). option_map (step_turn p (found_values s p past)) z) h
+no_step s p past o t h e = sym e ∙ ap (λ (z : Option RobinChoice). option_map (step_turn p (found_values s p past)) z) h
 
 -- ---- the cycle
 

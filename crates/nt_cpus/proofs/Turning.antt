@@ -2,8 +2,10 @@
 use Rattle.std.proofs.Common.{ap, arith, set, subst, sym, ◌∙◌}
 use Rattle.std.proofs.lemmas.Bool.Decides.{nat_tests}
 use Rattle.std.proofs.lemmas.List.{set-get_or}
+use Rattle.std.specs.Borrow.{Bor}
 use Rattle.std.specs.Prelude.{Bool, Err, List, Ok, Some, false, get_or, nat_lt, not, refl, true, ℕ, ◌<◌, ◌∷◌, ◌≡◌, ◌≤◌}
 use Rattle.nt_event.specs.declared.events.Event.{Event}
+use Rattle.nt_event.specs.declared.events.Rises.{Rises}
 use Rattle.nt_event.specs.declared.events.Turn.{Turn}
 use Rattle.nt_event.specs.declared.numbers.CpuNo.{CpuNo}
 use Rattle.nt_event.specs.declared.scripts.Script.{Script}
@@ -130,7 +132,7 @@ rule_accepted s limit p past t r b h =
 -- ---- choices
 
 -- whose turn a choice is
-pub turn_cpu : (p : CpuNo) (ch : Choice) → p ≡ cpu_at (turn_by p ch)
+pub turn_cpu : (p : CpuNo) (ch : Choice (Bor Rises)) → p ≡ cpu_at (turn_by p ch)
 turn_cpu p Next = refl
 turn_cpu p (Look r) = refl
 turn_cpu p (Switch t) = refl

@@ -1,5 +1,5 @@
--- The turn that a step of the robin rule stands for.
-use Rattle.std.specs.Prelude.{List, ℕ}
+-- The turn that a choice of the robin rule stands for.
+use Rattle.std.specs.Prelude.{List, ℕ, ◌×◌}
 use Rattle.nt_event.specs.declared.events.Event.{Event}
 use Rattle.nt_event.specs.declared.events.Turn.{Turn}
 use Rattle.nt_event.specs.declared.events.Turn.TheVariants as turns
@@ -8,13 +8,20 @@ use Rattle.nt_event.specs.declared.scripts.Script.{Script}
 use Rattle.nt_event.specs.Own.{own_of}
 use Rattle.nt_event.specs.Requests.{asked}
 use Rattle.nt_event.specs.Robin.{look_values}
-use Rattle.nt_cpus.specs.declared.robins.Chosen.{Chosen}
-use Rattle.nt_cpus.specs.declared.robins.Step.{Step}
-use Rattle.nt_cpus.specs.declared.robins.Step.TheVariants.{Look, Next, Switch}
+use Rattle.nt_cpu.specs.declared.choice.Choice.{Choice}
+use Rattle.nt_cpu.specs.declared.choice.Choice.TheVariants.{Look, Next, Switch}
+
+-- what the robin rule has a processor do, where the values of a look are found once it is made
+abbrev pub RobinChoice : Type 0
+RobinChoice = Choice (Unit {0})
+
+-- a processor and what the rule has it do
+abbrev pub CpuChoice : Type 0
+CpuChoice = CpuNo × RobinChoice
 
 -- that of this processor, where a look finds these values
-abbrev pub step_turn : CpuNo → List ℕ → Step → Turn
-step_turn p values Look = turns.Look p (record { value = values })
+abbrev pub step_turn : CpuNo → List ℕ → RobinChoice → Turn
+step_turn p values (Look u) = turns.Look p (record { value = values })
 step_turn p values (Switch t) = turns.Switch p t
 step_turn p values Next = turns.Next p
 
@@ -27,5 +34,5 @@ abbrev pub look_of : Script → CpuNo → List Event → Turn
 look_of s p past = turns.Look p (record { value = found_values s p past })
 
 -- that of a processor which goes on so after this past
-abbrev pub chosen_turn : Script → List Event → Chosen → Turn
-chosen_turn s past c = step_turn c.cpu (found_values s c.cpu past) c.step
+abbrev pub chosen_turn : Script → List Event → CpuChoice → Turn
+chosen_turn s past c = step_turn c.0 (found_values s c.0 past) c.1

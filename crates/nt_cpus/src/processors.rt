@@ -15,7 +15,7 @@ use crate::asking::were_asked;
 use crate::refusals::{CoreRefusal, core_refusal};
 use nt_cpu::{Choice, Cpu};
 use nt_event::limits::TURNS;
-use nt_event::{CpuNo, Event, Script, Turn};
+use nt_event::{CpuNo, Event, Rises, Script, Turn};
 use nt_floor::{Floor, OpenFloor};
 use std::alloc::{AllocError, Global};
 use std::marker::Model;
@@ -112,7 +112,7 @@ impl<'s> Processors<'s> {
         &mut self,
         floor: &mut F,
         cpu: CpuNo,
-        choice: &Choice,
+        choice: &Choice<&Rises>,
         event: &mut Event,
     ) -> Result<(), CoreRefusal>
         requires after { AreSound self.old (F.script floor.old) (F.view floor.old) }

@@ -16,37 +16,19 @@ use nt_cpu::{Choice, Cpu};
 use nt_event::{CpuNo, Event, Rises, ThreadNo, Turn};
 use nt_floor::OpenFloor;
 
-/// What a processor does by the robin rule.
-#[derive(Clone, Copy, PartialEq, Eq, Debug)]
-pub enum Step {
-    /// It looks at what was asked for and not seen.
-    Look,
-    /// It takes up this ready thread.
-    Switch(ThreadNo),
-    /// It makes its next event.
-    Next,
-}
-
-/// The processor that goes on, and how.
-#[derive(Clone, Copy, PartialEq, Eq, Debug)]
-pub struct Chosen {
-    pub cpu: CpuNo,
-    pub step: Step,
-}
-
 /// The next ready thread is taken up where a thread may be and one is ready; else the next event is made.
 #[inline(always)]
-fn going_on<F: OpenFloor>(cpu: &Cpu, floor: &F, p: CpuNo) -> Step
+fn going_on<F: OpenFloor>(cpu: &Cpu, floor: &F, p: CpuNo) -> Choice<()>
     requires { is_cut cpu.now.limit cpu.now.own ≡ false }
     ensures { IfSome (F.view floor.now).states (λ l. (values : List ℕ) → step_turn p values result ≡ go_on_turn (F.script floor.now) p cpu.now.own l) }
 {
     if cpu.may_switch() {
         match floor.next_ready(p, cpu.took()) {
-            Some(thread) => Step::Switch(thread),
-            None => Step::Next,
+            Some(thread) => Choice::Switch(thread),
+            None => Choice::Next,
         }
     } else {
-        Step::Next
+        Choice::Next
     }
 }
 
@@ -54,14 +36,14 @@ fn going_on<F: OpenFloor>(cpu: &Cpu, floor: &F, p: CpuNo) -> Step
 ///
 /// No more was seen than was asked for, so it is behind exactly where the sum of what was seen is below that of the requests.
 #[inline(always)]
-fn uncut_step<F: OpenFloor>(cpu: &Cpu, floor: &F, p: CpuNo) -> Option<Step>
+fn uncut_step<F: OpenFloor>(cpu: &Cpu, floor: &F, p: CpuNo) -> Option<Choice<()>>
     requires cpu { p.0 < (F.view floor.now).cpus }
     requires uncut { is_cut cpu.now.limit cpu.now.own ≡ false }
     requires seen { SeenWithin cpu.now.own ((F.view floor.now).value p) }
     ensures { IfSome (F.view floor.now).states (λ l. option_map (step_turn p (look_values cpu.now.own ((F.view floor.now).value p))) result ≡ robin_at (F.script floor.now) p cpu.now.own l ((F.view floor.now).value p)) }
 {
     if cpu.is_behind_sum(floor.asked_sum(p)) {
-        return Some(Step::Look);
+        return Some(Choice::Look(()));
     }
     if cpu.is_still() {
         return None;
@@ -97,7 +79,7 @@ impl<'s> Processors<'s> {
             return None;
         }
         match self.step_of(floor, p) {
-            Some(step) => Some(self.turn_of(floor, Chosen { cpu: p, step })),
+            Some(choice) => Some(self.turn_of(floor, (p, choice))),
             None => None,
         }
     }
@@ -131,17 +113,21 @@ impl<'s> Processors<'s> {
 
     /// The first processor in the cycle that has something to do, where the last event is that of this one.
     #[inline(always)]
-    fn first_chosen<F: OpenFloor>(&self, floor: &F, last: Option<CpuNo>) -> Option<Chosen>
+    fn first_chosen<F: OpenFloor>(
+        &self,
+        floor: &F,
+        last: Option<CpuNo>,
+    ) -> Option<(CpuNo, Choice<()>)>
         requires after { (past : List Event) × (AreAfter past self.now (F.script floor.now) (F.view floor.now) × (last ≡ last_cpu past)) }
         ensures turn { (past : List Event) → AreAfter past self.now (F.script floor.now) (F.view floor.now) → last ≡ last_cpu past → option_map (chosen_turn self.now.script past) result ≡ robin_in self.now.script self.now.limit past }
-        ensures own { IfSome result (λ c. (past : List Event) → AreAfter past self.now (F.script floor.now) (F.view floor.now) → robin_turn_of self.now.script self.now.limit c.cpu past ≡ Some (chosen_turn self.now.script past c)) }
-        ensures below { IfSome result (λ c. c.cpu.0 < self.now.script.cpus) }
+        ensures own { IfSome result (λ c. (past : List Event) → AreAfter past self.now (F.script floor.now) (F.view floor.now) → robin_turn_of self.now.script self.now.limit c.0 past ≡ Some (chosen_turn self.now.script past c)) }
+        ensures below { IfSome result (λ c. c.0.0 < self.now.script.cpus) }
     {
         let mut p = self.first_cpu(last);
         for _ in 0..self.script.cpus {
             let cpu = CpuNo(p);
-            if let Some(step) = self.step_of(floor, cpu) {
-                return Some(Chosen { cpu, step });
+            if let Some(choice) = self.step_of(floor, cpu) {
+                return Some((cpu, choice));
             }
             p = self.after(p);
         }
@@ -150,7 +136,7 @@ impl<'s> Processors<'s> {
 
     /// What this processor does by the robin rule; None where it is cut, or rests or spins still and has seen all that was asked for.
     #[inline(always)]
-    fn step_of<F: OpenFloor>(&self, floor: &F, p: CpuNo) -> Option<Step>
+    fn step_of<F: OpenFloor>(&self, floor: &F, p: CpuNo) -> Option<Choice<()>>
         requires sound { AreSound self.now (F.script floor.now) (F.view floor.now) }
         requires below { p.0 < self.now.script.cpus }
         ensures { (past : List Event) → AreAfter past self.now (F.script floor.now) (F.view floor.now) → option_map (step_turn p (found_values self.now.script p past)) result ≡ robin_turn_of self.now.script self.now.limit p past }
@@ -171,34 +157,39 @@ impl<'s> Processors<'s> {
     }
 
     /// The turn of a processor that goes on so.
-    fn turn_of<F: OpenFloor>(&self, floor: &F, chosen: Chosen) -> Turn
+    fn turn_of<F: OpenFloor>(&self, floor: &F, chosen: (CpuNo, Choice<()>)) -> Turn
         requires sound { AreSound self.now (F.script floor.now) (F.view floor.now) }
-        requires below { chosen.cpu.0 < self.now.script.cpus }
+        requires below { chosen.0.0 < self.now.script.cpus }
         ensures { (past : List Event) → AreAfter past self.now (F.script floor.now) (F.view floor.now) → result ≡ chosen_turn self.now.script past chosen }
     {
-        let cpu = chosen.cpu;
-        match chosen.step {
-            Step::Look => Turn::Look(cpu, self.rises_of(floor, cpu)),
-            Step::Switch(thread) => Turn::Switch(cpu, thread),
-            Step::Next => Turn::Next(cpu),
+        let (cpu, choice) = chosen;
+        match choice {
+            Choice::Look(()) => Turn::Look(cpu, self.rises_of(floor, cpu)),
+            Choice::Switch(thread) => Turn::Switch(cpu, thread),
+            Choice::Next => Turn::Next(cpu),
         }
     }
 
     /// Makes the event of the processor that the robin rule has go on.
     #[inline(always)]
-    fn follow<F: OpenFloor>(&mut self, floor: &mut F, chosen: Chosen, event: &mut Event)
+    fn follow<F: OpenFloor>(
+        &mut self,
+        floor: &mut F,
+        chosen: (CpuNo, Choice<()>),
+        event: &mut Event,
+    )
         requires sound { AreSound self.old (F.script floor.old) (F.view floor.old) }
-        requires below { chosen.cpu.0 < self.old.script.cpus }
-        requires own { (past : List Event) → AreAfter past self.old (F.script floor.old) (F.view floor.old) → robin_turn_of self.old.script self.old.limit chosen.cpu past ≡ Some (chosen_turn self.old.script past chosen) }
+        requires below { chosen.0.0 < self.old.script.cpus }
+        requires own { (past : List Event) → AreAfter past self.old (F.script floor.old) (F.view floor.old) → robin_turn_of self.old.script self.old.limit chosen.0 past ≡ Some (chosen_turn self.old.script past chosen) }
         ensures event { (past : List Event) → AreAfter past self.old (F.script floor.old) (F.view floor.old) → (step self.old.script self.old.limit (chosen_turn self.old.script past chosen) past ≡ Ok event.new) × AreAfter (event.new ∷ past) self.new (F.script floor.new) (F.view floor.new) }
         ensures floor { F.script floor.new ≡ F.script floor.old }
         ensures kept { (self.new.script ≡ self.old.script) × (self.new.limit ≡ self.old.limit) }
     {
-        let cpu = chosen.cpu;
-        match chosen.step {
-            Step::Look => self.look(floor, cpu, event),
-            Step::Switch(thread) => self.make(floor, cpu, &Choice::Switch(thread), event),
-            Step::Next => self.make(floor, cpu, &Choice::Next, event),
+        let (cpu, choice) = chosen;
+        match choice {
+            Choice::Look(()) => self.look(floor, cpu, event),
+            Choice::Switch(thread) => self.make(floor, cpu, &Choice::Switch(thread), event),
+            Choice::Next => self.make(floor, cpu, &Choice::Next, event),
         }
     }
 
@@ -216,7 +207,13 @@ impl<'s> Processors<'s> {
 
     /// Takes the turn of this choice, which is the robin rule's for the processor and so is never refused.
     #[inline(always)]
-    fn make<F: OpenFloor>(&mut self, floor: &mut F, cpu: CpuNo, choice: &Choice, event: &mut Event)
+    fn make<F: OpenFloor>(
+        &mut self,
+        floor: &mut F,
+        cpu: CpuNo,
+        choice: &Choice<&Rises>,
+        event: &mut Event,
+    )
         requires sound { AreSound self.old (F.script floor.old) (F.view floor.old) }
         requires below { cpu.0 < self.old.script.cpus }
         requires own { (past : List Event) → AreAfter past self.old (F.script floor.old) (F.view floor.old) → robin_turn_of self.old.script self.old.limit cpu past ≡ Some (turn_by cpu choice.now) }

@@ -1,5 +1,7 @@
-//! Small questions about the data: which replies are which, which commands touch a lane, and when a region count came to 0.
+//! Small questions about the data: which replies are which, which commands touch a lane or stop their thread, and when a region
+//! count came to 0.
 ghost use Rattle.std.specs.Prelude.{◌≡◌};
+ghost use Rattle.nt_event.specs.Calls as calls;
 ghost use Rattle.nt_event.specs.Commands as commands;
 ghost use Rattle.nt_event.specs.Regions as regions;
 ghost use Rattle.nt_event.specs.Replies as replies;
@@ -59,6 +61,13 @@ impl Reply {
 }
 
 impl Command {
+    /// Whether the thread that calls the command runs no more after this reply.
+    pub fn stops(&self, reply: &Reply) -> bool
+        ensures { result ≡ calls.stops self.now reply.now }
+    {
+        reply.is_blocked() || matches!(self, Command::Yield) && reply.is_done()
+    }
+
     /// Whether a call of the command touches a lane where it is not refused.
     pub fn needs_lane(&self) -> bool
         ensures { result ≡ commands.needs_lane self.now }

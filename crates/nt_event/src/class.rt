@@ -5,6 +5,15 @@
 ghost use Rattle.std.specs.Prelude.{◌≡◌};
 ghost use Rattle.nt_event.specs.Classes.{is_used_class};
 
+use crate::CpuNo;
+
+/// A class of a processor for which an event asks.
+#[derive(Clone, Copy, PartialEq, Eq, Debug)]
+pub struct Asked {
+    pub cpu: CpuNo,
+    pub class: u8,
+}
+
 /// Threaded DPCs, at PASSIVE_LEVEL.
 pub const THREADED: u8 = 0;
 

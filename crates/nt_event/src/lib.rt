@@ -26,6 +26,7 @@ pub mod status;
 mod threads;
 
 pub use acts::{ActRefusal, Acted, Made};
+pub use class::Asked;
 pub use commands::{ApcKind, Command, Importance, Mode, Refusal, Regions, Reply, TimerKey};
 pub use events::{Begun, Event, History, Rises, ScheduleKind, Turn, What};
 pub use frames::{Again, Body, Held, Region};

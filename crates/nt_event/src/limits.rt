@@ -27,6 +27,9 @@ pub const COMMANDS: usize = 8_192;
 /// The depth limit of the DPC queues at most.
 pub const DEPTH: u32 = 256;
 
+/// The depth limit of the DPC queues where the script sets none.
+pub const USUAL_DEPTH: u32 = 4;
+
 /// Turns of a processor at most: the greatest turn limit of a run.
 pub const TURNS: u32 = 20_000;
 

@@ -1,11 +1,45 @@
-//! What a script says of its things: where a thread and an APC object belong, and which routine a frame runs.
-ghost use Rattle.std.specs.Prelude.{◌≡◌, IsTrue, length};
+//! What a script says of its things: where a thread and an APC object belong, which routine a frame runs, and how its lanes are
+//! numbered.
+ghost use Rattle.std.specs.Prelude.{◌≡◌, ◌<◌, ◌≤◌, ◌^◌, ◌&&◌, IsTrue, length, slice_get};
+ghost use Rattle.nt_event.specs.Lanes as lanes;
 ghost use Rattle.nt_event.specs.Routines as routines;
 ghost use Rattle.nt_event.specs.Script.{fits, has_apc, has_cpu, has_thread};
 
-use crate::{ApcKind, ApcNo, Body, Command, CpuNo, DpcNo, RoutineNo, Script, ThreadNo, TimerNo};
+use crate::limits::USUAL_DEPTH;
+use crate::{
+    ApcKind, ApcNo, Body, Command, CpuNo, DpcNo, Lane, RoutineNo, Script, ThreadNo, TimerNo,
+};
 
 impl Script {
+    /// How many lanes there are: one for each DPC object, two for each processor, one for the timers, and one for each spin lock.
+    pub fn lane_count(&self) -> usize
+        requires { IsTrue (fits self.now) }
+        ensures count { result ≡ lanes.lane_count self.now }
+        ensures bound { result ≤ 1024 }
+    {
+        let cpus = usize::from(self.cpus);
+        self.dpcs.len() + (cpus + (cpus + (1 + usize::from(self.locks))))
+    }
+
+    /// The depth limit of the DPC queues.
+    pub fn depth_limit(&self) -> u32
+        ensures { result ≡ routines.depth_limit self.now }
+    {
+        self.depth.unwrap_or(USUAL_DEPTH)
+    }
+
+    /// Whether the object is in the threaded part of its queue: it is declared threaded, and threaded DPCs are on.
+    pub fn is_threaded(&self, dpc: DpcNo) -> bool
+        ensures { result ≡ (routines.threaded_on self.now
+            && routines.is_declared_threaded (slice_get self.now.dpcs dpc.0)) }
+    {
+        let declared = match self.dpcs.as_slice().get(dpc.0 as usize) {
+            Some(declared) => declared.threaded,
+            None => false,
+        };
+        self.threaded.unwrap_or(true) && declared
+    }
+
     /// How many threads there are.
     pub fn thread_count(&self) -> u32
         requires { IsTrue (fits self.now) }
@@ -115,5 +149,23 @@ impl Script {
     {
         let routine = self.routine_of(cpu, body, kernel_phase);
         self.commands_of(routine).get(place as usize).copied()
+    }
+}
+
+impl Lane {
+    /// The lane's number, from 0, in the order in which lanes are taken: objects, queues, threads, timers, spin locks.
+    pub fn number(self, script: &Script) -> usize
+        requires { lanes.lane_number script.now self < 2 ^ 32 }
+        ensures { result ≡ lanes.lane_number script.now self }
+    {
+        let objects = script.dpcs.len();
+        let cpus = usize::from(script.cpus);
+        match self {
+            Lane::Object(d) => usize::from(d.0),
+            Lane::Queue(p) => objects + usize::from(p.0),
+            Lane::Threads(p) => objects + (cpus + usize::from(p.0)),
+            Lane::Timers => objects + (cpus + cpus),
+            Lane::Lock(k) => objects + (cpus + (cpus + (1 + usize::from(k.0)))),
+        }
     }
 }

@@ -58,7 +58,7 @@ pub struct Routine {
 pub struct Script {
     /// How many processors there are.
     pub cpus: u8,
-    /// The depth limit of the DPC queues, where one is set; else it is 4.
+    /// The depth limit of the DPC queues, where one is set; else it is the usual one.
     pub depth: Option<u32>,
     /// Whether threaded DPCs are on, where it is said; else they are.
     pub threaded: Option<bool>,

@@ -1,5 +1,5 @@
 //! Where a processor stands.
-ghost use Rattle.std.specs.Prelude.{◌≡◌};
+ghost use Rattle.std.specs.Prelude.{◌≡◌, is_some, option_and_then};
 ghost use Rattle.nt_event.specs.Regions.{some_came_to_0, stand_of};
 
 use crate::Frames;
@@ -128,6 +128,16 @@ impl<'f> StandView<'f> {
         ensures { result ≡ self.now.again }
     {
         self.frames.top()?.again()
+    }
+
+    /// Whether the wait that the innermost frame has to take up again has a due time.
+    pub fn has_due(&self) -> bool
+        ensures { result ≡ is_some (option_and_then (λ w. w.due) self.now.again) }
+    {
+        match self.again() {
+            Some(wait) => wait.due.is_some(),
+            None => false,
+        }
     }
 
     /// Whether the processor owes a sweep of the timers.

@@ -7,7 +7,7 @@ use Rattle.nt_event.specs.Requests.{Ask}
 use Rattle.nt_mark.specs.declared.view.View.{View}
 use Rattle.nt_mark.specs.Views.{marked, reach, reached_at, request_word, step_word}
 use Rattle.nt_mark.proofs.Reach.{greatest_append, one_other, one_this}
-use Rattle.nt_states.specs.declared.asking.Asked.{Asked}
+use Rattle.nt_event.specs.declared.class.Asked.{Asked}
 use Rattle.nt_states.specs.LaneLists.{as_asks}
 use Rattle.nt_lane.specs.Marked.{AreMarked, mark_for, marked_all}
 use Rattle.nt_lane.specs.Records.{IsAskKnown}

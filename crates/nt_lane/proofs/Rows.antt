@@ -14,7 +14,7 @@ use Rattle.nt_event.specs.Requests.{Ask, is_ask, raised, told_by}
 use Rattle.nt_event.proofs.Tables.{get_or-table, length-table_from, table-same}
 use Rattle.nt_mark.specs.declared.view.View.{View}
 use Rattle.nt_mark.specs.Views.{reach, request_word, step_word}
-use Rattle.nt_states.specs.declared.asking.Asked.{Asked}
+use Rattle.nt_event.specs.declared.class.Asked.{Asked}
 use Rattle.nt_states.specs.LaneLists.{AskFits, as_ask, as_asks}
 use Rattle.nt_lane.specs.Records.{AreKnown, IsAskKnown, raised_list, told_place, told_rows, told_then}
 

@@ -30,16 +30,6 @@ pub struct Pieces {
     pub keepers: Vec<Keeper>,
 }
 
-/// How many lanes a script has, which fits: one for each DPC object, two for each processor, one for the timers, and one for each spin
-/// lock.
-pub fn lane_count(script: &Script) -> u32
-    requires { IsTrue (fits script.now) }
-    ensures count { result ≡ spec.lane_count script.now }
-{
-    let cpus = u32::from(script.cpus);
-    script.dpcs.len() as u32 + (cpus + (cpus + (1 + u32::from(script.locks))))
-}
-
 /// The lanes of a script: one lock for each DPC object, each processor's DPC queue, each processor's threads, the timers, and each spin
 /// lock. Locks are taken in this order, by number within a kind.
 #[derive(Drop)]
@@ -84,7 +74,7 @@ impl<'s, N: Plan + Shared> Lanes<'s, N> {
         requires keepers { AreNewKeepers N.table keepers.items × (vec_len keepers ≡ spec.lane_count script.now) }
     {
         let _turns = turns;
-        let lists = Vec::with_capacity(alloc, lane_count(script) as usize)?;
+        let lists = Vec::with_capacity(alloc, script.lane_count())?;
         let mut keepers = NewKeepers::<N>::new(keepers);
         let objects = making::objects::<N>(alloc, script, &mut keepers)?;
         let queues = making::queues::<N>(alloc, script, &mut keepers)?;
@@ -93,7 +83,7 @@ impl<'s, N: Plan + Shared> Lanes<'s, N> {
         let spin_locks = making::spin_locks::<N>(alloc, script, &mut keepers)?;
         let room = Room {
             lists,
-            keepers: Vec::with_capacity(alloc, lane_count(script) as usize)?,
+            keepers: Vec::with_capacity(alloc, script.lane_count())?,
             of: PhantomData,
         };
         Ok(Lanes {

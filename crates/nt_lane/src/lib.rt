@@ -39,5 +39,5 @@ mod states;
 mod touching;
 mod tries;
 
-pub use lanes::{Lanes, Piece, Pieces, lane_count};
+pub use lanes::{Lanes, Piece, Pieces};
 pub use seat::LaneSeat;

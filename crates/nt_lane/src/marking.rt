@@ -5,8 +5,8 @@ ghost use Rattle.nt_mark.specs.Names.{cpus_of, pass_table, pass_view, table_of};
 ghost use Rattle.nt_mark.specs.Views.{entry_numbers};
 ghost use Rattle.nt_states.specs.LaneLists.{as_asks};
 
+use nt_event::Asked;
 use nt_mark::{Marks, Pass};
-use nt_states::Asked;
 
 /// Marks the event of a number that the pass drew as asking for each of these, in order. The pass draws, looks at and learns nothing
 /// else, and knows then that each of them was asked.

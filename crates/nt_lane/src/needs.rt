@@ -3,7 +3,6 @@ ghost use Rattle.std.specs.Prelude.{◌≡◌};
 ghost use Rattle.nt_lane.specs.Needed.{IsNeeded, with_lane, with_lanes};
 ghost use Rattle.nt_states.specs.Reads.{AreHeld, job_lanes, reply_lanes};
 
-use crate::reading::has_due;
 use nt_event::{Command, CpuNo, DpcNo, Job, Lane, LockNo, Script};
 use nt_frame::StandView;
 
@@ -117,7 +116,7 @@ pub(crate) fn needs_of_job(script: &Script, job: &Job, stand: &StandView) -> Nee
         Job::Threaded => one(queue),
         Job::Idle | Job::Pick(_) => Needs::none().with(queue).with(threads),
         Job::Rewait => {
-            if has_due(stand) {
+            if stand.has_due() {
                 one(threads).with(Lane::Timers)
             } else {
                 one(threads)

@@ -92,21 +92,13 @@ fn numbers_of(script: &Script, lanes: &[Lane]) -> Numbers
     }
 }
 
-/// The number of a lane of the script, from 0, in the order in which locks are taken.
-pub(crate) fn lane_number(script: &Script, lane: Lane) -> u32
+/// The number of a lane of the script, which is also its place in the order in which locks are taken.
+fn lane_number(script: &Script, lane: Lane) -> u32
     requires fits { IsTrue (fits script.now) }
     requires lane { LaneFits script.now lane }
     ensures { result ≡ number_of script.now lane }
 {
-    let objects = script.dpcs.len() as u32;
-    let cpus = u32::from(script.cpus);
-    match lane {
-        Lane::Object(d) => u32::from(d.0),
-        Lane::Queue(p) => objects + u32::from(p.0),
-        Lane::Threads(p) => objects + (cpus + u32::from(p.0)),
-        Lane::Timers => objects + (cpus + cpus),
-        Lane::Lock(k) => objects + (cpus + (cpus + (1 + u32::from(k.0)))),
-    }
+    lane.number(script) as u32
 }
 
 /// The numbers of the lanes that an event touches. They rise, as the locks are taken, and each is one of the script's.

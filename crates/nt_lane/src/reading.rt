@@ -1,5 +1,5 @@
 //! Whether the lanes that a job reads are held.
-ghost use Rattle.std.specs.Prelude.{◌↔◌, ◌≡◌, IsTrue, ℕ, is_some, option_and_then};
+ghost use Rattle.std.specs.Prelude.{◌↔◌, ◌≡◌, IsTrue, ℕ};
 ghost use Rattle.nt_event.specs.declared.commands.Reply.{Reply as Answer};
 ghost use Rattle.nt_event.specs.declared.events.What.TheVariants.{Call};
 ghost use Rattle.nt_lane.specs.Answers.{IsHeld};
@@ -44,16 +44,6 @@ fn reads_reply(held: &Held, cpu: CpuNo, command: &Command) -> bool
     }
 }
 
-/// Whether the wait that is taken up again has a due time.
-pub(crate) fn has_due(stand: &StandView) -> bool
-    ensures { result ≡ is_some (option_and_then (λ w. w.due) stand.now.again) }
-{
-    match stand.again() {
-        Some(wait) => wait.due.is_some(),
-        None => false,
-    }
-}
-
 /// Whether the lanes are held that are read to find the event of a job of a processor that stands so.
 pub(crate) fn reads_job(held: &Held, stand: &StandView, job: &Job) -> bool
     ensures { IsTrue result ↔ AreHeld (IsHeld held.now) (job_lanes held.now.script stand.now job.now) }
@@ -66,7 +56,7 @@ pub(crate) fn reads_job(held: &Held, stand: &StandView, job: &Job) -> bool
         Job::Drain => held.holds(queue) && (!stand.sweep() || held.holds(Lane::Timers)),
         Job::Threaded => held.holds(queue),
         Job::Idle | Job::Pick(_) => held.holds(queue) && held.holds(threads),
-        Job::Rewait => held.holds(threads) && (!has_due(stand) || held.holds(Lane::Timers)),
+        Job::Rewait => held.holds(threads) && (!stand.has_due() || held.holds(Lane::Timers)),
         Job::Apcs | Job::Switch(_) | Job::ToUser | Job::Rundown => held.holds(threads),
         Job::Free(_) | Job::UserEnd | Job::Leave => true,
     }

@@ -12,9 +12,8 @@ ghost use Rattle.nt_mark.specs.Views.{entry, note_of, reach, step_word};
 ghost use Rattle.nt_states.specs.LaneLists.{AskFits, as_asks};
 
 use crate::lanes::Piece;
-use nt_event::{CpuNo, Event, Plan};
+use nt_event::{Asked, CpuNo, Event, Plan};
 use nt_mark::{Keeper, Marks, Pass, Shared, Shows};
-use nt_states::Asked;
 use std::alloc::{AllocError, Global};
 use std::marker::{Model, PhantomData};
 

@@ -182,17 +182,6 @@ impl Holds for Spin {
     ghost fits_prop = { λ s x. Prim.hlevel props };
 }
 
-/// Whether the object stands in the threaded part: it is declared threaded, and threaded DPCs are on.
-fn is_threaded(script: &Script, d: DpcNo) -> bool
-    ensures { result ≡ (threaded_on script.now && is_declared_threaded (slice_get script.now.dpcs d.0)) }
-{
-    let declared = match script.dpcs.as_slice().get(d.0 as usize) {
-        Some(declared) => declared.threaded,
-        None => false,
-    };
-    script.threaded.unwrap_or(true) && declared
-}
-
 impl Object {
     /// The state itself.
     pub(crate) fn inner(&self) -> &DpcObject
@@ -208,7 +197,7 @@ impl Object {
     {
         Object {
             dpc,
-            state: DpcObject::new(dpc, is_threaded(script, dpc)),
+            state: DpcObject::new(dpc, script.is_threaded(dpc)),
         }
     }
 }
@@ -228,7 +217,7 @@ impl Queue {
         ensures { IfOk result (λ q. q ≡ new_queue cpu (length script.now.dpcs) (depth_limit script.now)) }
     {
         let count = script.dpcs.len() as u32;
-        let state = DpcQueue::new(alloc, cpu, count, script.depth.unwrap_or(4))?;
+        let state = DpcQueue::new(alloc, cpu, count, script.depth_limit())?;
         Ok(Queue { cpu, state })
     }
 }

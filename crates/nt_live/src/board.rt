@@ -8,7 +8,7 @@ ghost use Rattle.nt_mark.specs.Names.{cpus_of, lanes_of, limit_of, parts_of, pas
 
 use crate::worker::Worker;
 use nt_event::{CpuNo, Plan, Script};
-use nt_lane::{Lanes, lane_count};
+use nt_lane::Lanes;
 use nt_mark::{Made, Marks, Pass, Shared};
 use std::alloc::{AllocError, Global};
 
@@ -47,7 +47,7 @@ pub fn prepare(alloc: Global, script: &Script, turns: u32) -> Result<Made, Alloc
     Marks::new(
         alloc,
         script.cpus,
-        lane_count(script),
+        script.lane_count() as u32,
         u32::from(script.cpus),
         turns,
     )

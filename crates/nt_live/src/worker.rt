@@ -5,7 +5,7 @@ ghost use Rattle.nt_event.specs.Script.{fits, has_cpu};
 ghost use Rattle.nt_live.specs.Prepared.{fresh, new_worker};
 ghost use Rattle.nt_live.specs.Turning.{IsAdvanced, IsSeated, IsTakenApart, did_of};
 ghost use Rattle.nt_live.specs.Workers.{GoesOnFrom, HasWorked, WorkerState};
-ghost use Rattle.nt_live.specs.declared.worker.Turn.{Turn};
+ghost use Rattle.nt_live.specs.declared.worker.Outcome.{Outcome};
 ghost use Rattle.nt_mark.specs.Names.{pass_table, pass_view};
 
 use crate::board::Board;
@@ -81,7 +81,7 @@ fn did(last: u64, turned: Result<Turned, AllocError>) -> Result<Option<(u64, Eve
 
 /// What a turn of a worker came to.
 #[derive(Clone, Copy, PartialEq, Eq, Debug)]
-pub(crate) enum Turn {
+pub(crate) enum Outcome {
     /// An event was made.
     Did,
     /// The processor rests or spins still with nothing asked, or is cut.
@@ -120,9 +120,13 @@ impl<'s, N: Plan + Shared> Worker<'s, N> {
     }
 
     /// One turn: the processor makes its next event over the lanes, and what it made is put on the list. It may wait.
-    pub(crate) fn turn<R: Wait>(&mut self, rt: &R, board: &Board<'_, N>) -> Result<Turn, AllocError>
+    pub(crate) fn turn<R: Wait>(
+        &mut self,
+        rt: &R,
+        board: &Board<'_, N>,
+    ) -> Result<Outcome, AllocError>
         ensures goes { GoesOnFrom self.old self.new }
-        ensures stopped { IfOk result (λ t. t ≡ Turn.Stopped → HasWorked self.old self.new) }
+        ensures stopped { IfOk result (λ t. t ≡ Outcome.Stopped → HasWorked self.old self.new) }
     {
         self.list.reserve(1)?;
         let Some(pass) = self.pass.take() else {
@@ -133,9 +137,9 @@ impl<'s, N: Plan + Shared> Worker<'s, N> {
         match did? {
             Some(made) => {
                 self.list.push_reserved(made);
-                Ok(Turn::Did)
+                Ok(Outcome::Did)
             }
-            None => Ok(Turn::Stopped),
+            None => Ok(Outcome::Stopped),
         }
     }
 
@@ -194,7 +198,7 @@ pub fn work<'s, N: Plan + Shared, G: Gate, R: Wait>(
 {
     for _ in rt.forever() {
         worker.pass_gate(gate);
-        if let Turn::Stopped = worker.turn(rt, board)? {
+        if let Outcome::Stopped = worker.turn(rt, board)? {
             return Ok(());
         }
     }

@@ -13,7 +13,7 @@ use Rattle.nt_event.specs.Acting.{acted_event}
 use Rattle.nt_event.specs.Lanes.{lanes_after, what_lanes}
 use Rattle.nt_event.specs.Requests.{Ask, is_ask, raised, what_asks}
 use Rattle.nt_event.specs.Acts.{is_among}
-use Rattle.nt_states.specs.declared.asking.Asked.{Asked}
+use Rattle.nt_event.specs.declared.class.Asked.{Asked}
 use Rattle.nt_states.specs.AllStates.{AllStates}
 use Rattle.nt_states.specs.LaneLists.{AskFits, LaneFits, as_asks}
 use Rattle.nt_plain.specs.Made.{IsKept, IsPlanned, made, marked_all, marked_in, raised_word, raised_words, tell_lanes, with_bit}

@@ -11,7 +11,7 @@ use Rattle.nt_event.specs.Requests.{Ask, is_ask}
 use Rattle.nt_event.specs.Lists.{table, value_at}
 use Rattle.nt_event.proofs.Tables.{get_or-table}
 use Rattle.nt_event.specs.Acts.{Told, told_over}
-use Rattle.nt_states.specs.declared.asking.Asked.{Asked}
+use Rattle.nt_event.specs.declared.class.Asked.{Asked}
 use Rattle.nt_states.specs.LaneLists.{as_ask, as_asks}
 use Rattle.nt_plain.specs.Made.{tell_lane, tell_lanes}
 use Rattle.nt_plain.specs.Places.{row_of, row_value, told_place}

@@ -15,7 +15,7 @@ use Rattle.nt_event.specs.Requests.{Ask, asks_in, is_ask, raised, what_asks}
 use Rattle.nt_event.specs.Lists.{table, value_at}
 use Rattle.nt_event.proofs.Tables.{get_or-table, is_table}
 use Rattle.nt_event.specs.Acts.{Told, told_over}
-use Rattle.nt_states.specs.declared.asking.Asked.{Asked}
+use Rattle.nt_event.specs.declared.class.Asked.{Asked}
 use Rattle.nt_states.specs.LaneLists.{AskFits, LaneFits, as_asks, lane_fits}
 use Rattle.nt_plain.specs.Classes.{is_told_class}
 use Rattle.nt_plain.specs.Made.{IsKept, told_values}

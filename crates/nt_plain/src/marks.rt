@@ -8,7 +8,7 @@ ghost use Rattle.nt_plain.specs.Places.{row_of as row_place};
 ghost use Rattle.nt_plain.specs.Rows.{AreRising, GoesAt, StandsAt, with_classes};
 
 use crate::places::row_of;
-use nt_states::Asked;
+use nt_event::Asked;
 use std::alloc::{AllocError, Global};
 use std::marker::Model;
 

@@ -2,7 +2,6 @@
 ghost use Rattle.std.specs.Prelude.{◌≡◌, ◌*◌, ◌+◌, ◌<◌, ◌≤◌, ℕ, IfOk, IsTrue, false, length, ◌↔◌};
 ghost use Rattle.nt_event.specs.Lists.{value_at};
 ghost use Rattle.nt_event.specs.Jobs.{next_ready};
-ghost use Rattle.nt_event.specs.Lanes as lanes;
 ghost use Rattle.nt_event.specs.Script.{fits};
 ghost use Rattle.nt_floor.specs.Sums.{sum_of};
 ghost use Rattle.nt_floor.specs.Views.{HasWord};
@@ -59,7 +58,7 @@ impl<'s> PlainFloor<'s> {
         let limit = u64::from(script.cpus) * u64::from(turns);
         let asked = RequestWords::new(alloc, script.cpus)?;
         let marks = Marks::new(alloc, limit as usize * cpus)?;
-        let told = ToldValues::new(alloc, lane_count(script) * cpus)?;
+        let told = ToldValues::new(alloc, script.lane_count() * cpus)?;
         let states = States::new(alloc, script)?;
         Ok(PlainFloor {
             limit,
@@ -182,14 +181,4 @@ impl<'s> PlainFloor<'s> {
     {
         self.asked.get(p, class)
     }
-}
-
-/// How many lanes the script has.
-fn lane_count(script: &Script) -> usize
-    requires { IsTrue (fits script.now) }
-    ensures count { result ≡ lanes.lane_count script.now }
-    ensures bound { result ≤ 1024 }
-{
-    let cpus = usize::from(script.cpus);
-    script.dpcs.len() + (cpus + (cpus + (1 + usize::from(script.locks))))
 }

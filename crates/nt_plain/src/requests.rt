@@ -6,8 +6,7 @@ ghost use Rattle.nt_floor.specs.Sums.{sum_of};
 ghost use Rattle.nt_plain.specs.Made.{raised_word, raised_words};
 ghost use Rattle.nt_plain.specs.Places.{value_in, word_place};
 
-use nt_event::CpuNo;
-use nt_states::Asked;
+use nt_event::{Asked, CpuNo};
 use std::alloc::{AllocError, Global};
 use std::marker::Model;
 

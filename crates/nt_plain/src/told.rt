@@ -12,10 +12,9 @@ ghost use Rattle.nt_plain.specs.Classes.{is_lock, is_told_class, is_work_class, 
 ghost use Rattle.nt_plain.specs.Made.{tell_lane, tell_lanes};
 ghost use Rattle.nt_plain.specs.Places.{row_of as row_place, row_value, told_place};
 
-use crate::places::{lane_number, row_of};
-use nt_event::{CpuNo, Lane, Script, class};
+use crate::places::row_of;
+use nt_event::{Asked, CpuNo, Lane, Script, class};
 use nt_floor::Seen;
-use nt_states::Asked;
 use std::alloc::{AllocError, Global};
 use std::marker::Model;
 
@@ -82,7 +81,7 @@ impl ToldValues {
     {
         let mut interrupts = false;
         for lane in lanes {
-            let row = row_of(script.cpus, lane_number(script, *lane), p);
+            let row = row_of(script.cpus, lane.number(script), p);
             if self.raise(*lane, row, seen) {
                 interrupts = true;
             }
@@ -111,7 +110,7 @@ impl ToldValues {
         requires bound { to < 2 ^ 32 }
         ensures { self.new ≡ tell_lane script.now to lane (as_asks asks.now) self.old }
     {
-        let number = lane_number(script, lane);
+        let number = lane.number(script);
         for ask in asks {
             let row = row_of(script.cpus, number, ask.cpu);
             self.put(row, ask.class, to);

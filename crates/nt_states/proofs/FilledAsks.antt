@@ -1,7 +1,7 @@
 -- What stands in the first places of a list that was written there.
 use Rattle.std.proofs.Common.{slice_set}
 use Rattle.std.specs.Prelude.{List, [], length, refl, take, ◌∷◌, ◌≡◌}
-use Rattle.nt_states.specs.declared.asking.Asked.{Asked}
+use Rattle.nt_event.specs.declared.class.Asked.{Asked}
 use Rattle.nt_states.specs.LaneLists.{as_ask, as_asks}
 
 pub first_is : (xs : List Asked) (a : Asked) → length xs ≡ 64 → as_asks (take 1 (slice_set xs 0 a)) ≡ as_ask a ∷ []

@@ -7,7 +7,7 @@ use Rattle.std.specs.Prelude.{All, Bool, List, [], false, get_or, if◌then◌el
 use Rattle.nt_event.specs.declared.numbers.CpuNo.{CpuNo}
 use Rattle.nt_event.specs.declared.scripts.Script.{Script}
 use Rattle.nt_event.specs.Requests.{Ask, is_ask, raised, spinner_asks}
-use Rattle.nt_states.specs.declared.asking.Asked.{Asked}
+use Rattle.nt_event.specs.declared.class.Asked.{Asked}
 use Rattle.nt_states.specs.LaneLists.{AskFits, as_ask, as_asks}
 
 pub all_head : {A : Type 0} (P : A → Type 0) (x : A) (xs : List A) → All P (x ∷ xs) → P x

@@ -9,7 +9,7 @@ use Rattle.nt_event.specs.Lanes.{Lanes, object_at}
 use Rattle.nt_event.specs.Objects.{is_queued, dpc_inserted}
 use Rattle.nt_event.specs.Requests.{Ask}
 use Rattle.nt_event.specs.Script.{has_cpu, has_dpc, has_lock}
-use Rattle.nt_states.specs.declared.asking.Asked.{Asked}
+use Rattle.nt_event.specs.declared.class.Asked.{Asked}
 use Rattle.nt_event.specs.Families.{by_dpc_call}
 
 -- the lane is one of the script's

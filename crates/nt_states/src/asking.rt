@@ -20,18 +20,11 @@ use crate::answers::LaneAnswers;
 use crate::running::runner;
 use crate::thread_answers::ThreadAnswers;
 use nt_event::{
-    ApcKind, ApcNo, Body, Command, CpuNo, DpcNo, LockNo, Mode, Regions, Reply, ThreadNo, TimerKey,
-    What, class,
+    ApcKind, ApcNo, Asked, Body, Command, CpuNo, DpcNo, LockNo, Mode, Regions, Reply, ThreadNo,
+    TimerKey, What, class,
 };
 use nt_frame::StandView;
 use std::marker::Model;
-
-/// A class of a processor for which an event asks.
-#[derive(Clone, Copy, PartialEq, Eq, Debug)]
-pub struct Asked {
-    pub cpu: CpuNo,
-    pub class: u8,
-}
 
 /// What an event asks for: a class for each of at most 64 processors. It is filled in place, since most events ask for two
 /// classes at most and room for 64 is expensive to move.

@@ -25,7 +25,9 @@ use crate::answers::LaneAnswers;
 use crate::replying::{reply, wait_reply};
 use crate::running::runner;
 use crate::thread_answers::ThreadAnswers;
-use nt_event::{ActRefusal, Begun, Command, CpuNo, DpcNo, Job, Part, Pick, Reply, ThreadNo, What, class};
+use nt_event::{
+    ActRefusal, Begun, Command, CpuNo, DpcNo, Job, Part, Pick, Reply, ThreadNo, What, class,
+};
 use nt_frame::StandView;
 
 /// Writes that a DPC of the part begins.

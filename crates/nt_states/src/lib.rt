@@ -36,7 +36,7 @@ mod timing;
 mod touching;
 
 pub use answers::LaneAnswers;
-pub use asking::{Asked, Asks, event_asks};
+pub use asking::{Asks, event_asks};
 pub use deciding::{decide, decide_into};
 pub use locks::{Move, SpinLock, moved_lock};
 pub use making::{complete, due, event};

@@ -5,8 +5,7 @@ ghost use Rattle.nt_event.specs.Lists.{table, value_at};
 ghost use Rattle.nt_event.specs.Requests.{is_ask};
 ghost use Rattle.nt_states.specs.LaneLists.{as_asks};
 
-use crate::asking::Asked;
-use nt_event::CpuNo;
+use nt_event::{Asked, CpuNo};
 
 /// An event's own requests for a processor are told with a value, in place of what was told of their classes.
 pub fn tell_own(values: &mut [u64; 16], asks: &[Asked], p: CpuNo, to: u64)

@@ -1,5 +1,5 @@
 //! The lanes that an event touches.
-ghost use Rattle.std.specs.Prelude.{◌≡◌, ◌∷◌, All, IsTrue, [], if◌then◌else◌, is_some, option_and_then};
+ghost use Rattle.std.specs.Prelude.{◌≡◌, ◌∷◌, All, IsTrue, [], if◌then◌else◌};
 ghost use Rattle.nt_event.specs.Lanes as lanes;
 ghost use Rattle.nt_event.specs.Routines as routines;
 ghost use Rattle.nt_event.specs.Script.{command_fits, has_apc, has_cpu, has_dpc};
@@ -146,16 +146,6 @@ fn end_lanes(cpu: CpuNo, body: &Option<Body>) -> Touched
     }
 }
 
-/// Whether the wait that is taken up again has a due time.
-fn has_due(stand: &StandView) -> bool
-    ensures { result ≡ is_some (option_and_then (λ w. w.due) stand.now.again) }
-{
-    match stand.again() {
-        Some(wait) => wait.due.is_some(),
-        None => false,
-    }
-}
-
 /// The lanes that an event touches, of a processor that stands so.
 pub fn event_lanes<S: LaneAnswers>(states: &S, stand: &StandView, what: &What) -> Touched
     requires given { IsGiven (S.script_of states.now) (S.lanes states.now) stand.now what.now }
@@ -173,7 +163,7 @@ pub fn event_lanes<S: LaneAnswers>(states: &S, stand: &StandView, what: &What) -
             Touched::two(Lane::Queue(stand.cpu()), Lane::Threads(stand.cpu()))
         }
         What::Rewait { .. } => {
-            Touched::two_if(has_due(stand), Lane::Threads(stand.cpu()), Lane::Timers)
+            Touched::two_if(stand.has_due(), Lane::Threads(stand.cpu()), Lane::Timers)
         }
         What::End { .. } => end_lanes(stand.cpu(), &stand.body()),
         What::Flush { .. } | What::Gone { .. } => Touched::one(Lane::Threads(stand.cpu())),

@@ -8,4 +8,4 @@ loop-i-init c = c.in_ok-queues.ensures.items
 
 pub loop-i-preserved : goal.loop-i-preserved
 loop-i-preserved c =
-    rw (c.in_ok-push.ensures.items, c.loop-i.invariant, c.in_ok-new.ensures, c.len-count.ensures, c.unwrap_or-limit.ensures) (more_table _ _)
+    rw (c.in_ok-push.ensures.items, c.loop-i.invariant, c.in_ok-new.ensures, c.len-count.ensures, c.depth_limit-limit.ensures) (more_table _ _)

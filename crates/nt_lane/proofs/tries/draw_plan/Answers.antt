@@ -5,7 +5,7 @@ use Rattle.std.specs.Prelude.{Contains, List, [], get_or, ℕ, ◌+◌, ◌<◌,
 use Rattle.nt_mark.specs.Names.{pass_view}
 use Rattle.nt_mark.specs.Views.{entry_numbers, reach, step_word}
 use Rattle.nt_states.proofs.Requests.{each_asked}
-use Rattle.nt_states.specs.declared.asking.Asked.{Asked}
+use Rattle.nt_event.specs.declared.class.Asked.{Asked}
 use Rattle.nt_states.specs.LaneLists.{AskFits, as_asks}
 use Rattle.nt_lane.specs.Tries.{HasMade}
 use Rattle.nt_lane.proofs.Drawn.{has_made, made_contains}

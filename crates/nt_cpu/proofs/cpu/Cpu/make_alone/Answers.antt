@@ -8,7 +8,7 @@ use Rattle.nt_cpu.specs.Alone.{IsMarkedFor, alone_asks, alone_event, noticed}
 use Rattle.nt_cpu.specs.Leaves.{own_with}
 use Rattle.nt_cpu.specs.Notices.{notice_of}
 use Rattle.nt_cpu.specs.States.{CpuState}
-use Rattle.nt_cpu.specs.declared.alone.Asked.{Asked}
+use Rattle.nt_event.specs.declared.class.Asked.{Asked}
 use Rattle.nt_cpu.proofs.Taken.{own_with_same, taken_seen}
 use Rattle.nt_cpu.proofs.cpu.Cpu.make_alone.Goals as goal
 

@@ -8,8 +8,8 @@ use Rattle.nt_plain.proofs.told.ToldValues.raise_over.Goals as goal
 pub loop-lane-preserved : goal.loop-lane-preserved
 loop-lane-preserved c =
     record {
-      rest = λ k h. over_next c.args.script.now c.args.self.now c.args.lanes.now c.args.p c.loop-lane.lane-index _ c.lane_number.result c.row_of-row.result
-          c.loop-lane.seen c.raise.new.seen k _ c.loop-lane-test.true c.lane_number.ensures c.row_of-row.ensures c.raise.ensures.values h
+      rest = λ k h. over_next c.args.script.now c.args.self.now c.args.lanes.now c.args.p c.loop-lane.lane-index _ c.number.result c.row_of-row.result
+          c.loop-lane.seen c.raise.new.seen k _ c.loop-lane-test.true c.number.ensures c.row_of-row.ensures c.raise.ensures.values h
           (c.loop-lane.invariant.rest k h);
       interrupts = elim c.if-raise.branch [
         | then-raise w ↦ (λ h. let e = sym w.interrupts-is ∙ h in absurd cc)

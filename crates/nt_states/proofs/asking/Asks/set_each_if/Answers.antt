@@ -1,4 +1,4 @@
-use Rattle.nt_states.specs.declared.asking.Asked.{Asked}
+use Rattle.nt_event.specs.declared.class.Asked.{Asked}
 use Rattle.nt_states.proofs.FilledAsks.{first_two_are}
 use Rattle.nt_states.proofs.asking.Asks.set_each_if.Goals as goal
 

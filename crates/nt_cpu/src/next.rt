@@ -3,7 +3,7 @@ use nt_event::Job;
 
 /// What a processor has to do next.
 #[derive(Clone, Copy, Debug)]
-pub enum Plan {
+pub enum Next {
     /// The event that was written, which touches no lane.
     Alone,
     /// A job that needs lanes; no event was written.
