@@ -33,7 +33,8 @@ fn begin(frames: &mut Frames, body: Body, n: u64)
     frames.begin(body, n);
 }
 
-/// A device interrupts: its routine begins where its level is above the processor's. True exactly then.
+/// A device interrupts: its routine begins where its level is above the processor's. True exactly
+/// then.
 fn interrupt(frames: &mut Frames, level: Level, n: u64) -> bool
     requires named { AreNamedBelow n frames.old }
     ensures named { AreNamedBelow (n + 1) frames.new }
@@ -69,7 +70,8 @@ fn insert(queue: &mut DpcQueue, dpc: &mut DpcObject, n: u64) -> Inserted
 
 /// Whether the guest's DPC is the first one in the queue.
 fn is_first(queue: &DpcQueue) -> bool
-    ensures { IsTrue result → option_map (λ x. x.0) (first_entry Ordinary queue.now) ≡ Some (dpc 0) }
+    ensures { IsTrue result →
+        option_map (λ x. x.0) (first_entry Ordinary queue.now) ≡ Some (dpc 0) }
 {
     match queue.first(Part::Ordinary) {
         Some((first, _)) => first.0 == 0,

@@ -272,7 +272,8 @@ fn an_idle_processor_is_asked(rt: HostRuntime, dpcs: &mut Dpcs<'_>) -> io::Resul
     write_ask(rt, "other after a switch", ask(dpcs))
 }
 
-/// What an insert of the object that is declared threaded asks for, and whether it is then the first of the threaded part.
+/// What an insert of the object that is declared threaded asks for, and whether it is then the
+/// first of the threaded part.
 fn threaded_insert(dpcs: &mut Dpcs<'_>) -> (Option<u8>, bool)
     requires objects { length dpcs.old.script.dpcs ≡ 3 }
     requires cpus { dpcs.old.script.cpus ≡ 2 }
@@ -286,7 +287,8 @@ fn threaded_insert(dpcs: &mut Dpcs<'_>) -> (Option<u8>, bool)
     (class, dpcs.first(Part::Threaded, OWN) == Some((d, 5)))
 }
 
-/// What such an insert answers where threaded DPCs are on, off or not spoken of. None if the script doesn't fit.
+/// What such an insert answers where threaded DPCs are on, off or not spoken of. None if the script
+/// doesn't fit.
 fn threaded_answer(
     alloc: Global,
     threaded: Option<bool>,

@@ -98,8 +98,13 @@ fn act<F: Floor>(floor: &mut F, job: Job, stand: &StandView) -> Result<Acted, Ac
     requires job { IsTrue (job_fits (F.script floor.old) job) }
     requires stand { StandFits (F.script floor.old) stand.now }
     requires met { IsMet (F.script floor.old) (F.view floor.old).states stand.now job }
-    ensures event { IfOk result (λ a. (f : Found) × (told : Rises) × F.found floor.new a.number a.event stand.now f × (IsActed (F.script floor.old) f stand.now job (record a { told = told }) × IsTold stand.now told (table 16 (λ c. 0)) a.told.value (F.view floor.new))) }
-    ensures cause { IfErr result (λ r. (f : Found) × F.shows floor.new stand.now job f × IsRefused (F.script floor.old) f stand.now job r) }
+    ensures event { IfOk result (λ a.
+        (f : Found) × (told : Rises) × F.found floor.new a.number a.event stand.now f ×
+        (IsActed (F.script floor.old) f stand.now job (record a { told = told }) ×
+        IsTold stand.now told (table 16 (λ c. 0)) a.told.value (F.view floor.new))) }
+    ensures cause { IfErr result (λ r.
+        (f : Found) × F.shows floor.new stand.now job f ×
+        IsRefused (F.script floor.old) f stand.now job r) }
 {
     let mut seen = Seen::new();
     let mut event = a_rest(stand.cpu());

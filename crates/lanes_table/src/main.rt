@@ -1,6 +1,7 @@
-//! What the DPC objects and queues of a script, its threads and the floor in memory answer, one case a line of the input: the name
-//! of one of these, and of a case of it. What is written for a case is its line, and the answers of the calls, each in a line
-//! that begins with two spaces. What is wanted stands in `stdout`: the values of the rules, worked out by hand.
+//! What the DPC objects and queues of a script, its threads and the floor in memory answer, one
+//! case a line of the input: the name of one of these, and of a case of it. What is written for a
+//! case is its line, and the answers of the calls, each in a line that begins with two spaces. What
+//! is wanted stands in `stdout`: the values of the rules, worked out by hand.
 #![tactic(auto)]
 
 mod dpcs;

@@ -79,7 +79,8 @@ fn normal_apc(kind: ApcKind) -> ApcDecl {
     }
 }
 
-/// The first and the last thread on processor 0, the second on processor 1; a normal kernel APC and a user APC of the first.
+/// The first and the last thread on processor 0, the second on processor 1; a normal kernel APC and
+/// a user APC of the first.
 fn script(alloc: Global) -> Result<Script, AllocError> {
     let routine = Routine {
         commands: Items::new(alloc),
@@ -275,7 +276,8 @@ fn write_taken_up(rt: HostRuntime, runs: bool, ready: bool, leaves: bool) -> io:
     println!(rt; "  taken up: runs {runs}, ready {ready}, leaves {leaves}")
 }
 
-/// Writes whether the thread, which waits, runs, and whether a release, the expiry of its delay and an alert end its wait.
+/// Writes whether the thread, which waits, runs, and whether a release, the expiry of its delay and
+/// an alert end its wait.
 fn write_waits(rt: HostRuntime, runs: bool, ends: [bool; 3]) -> io::Result<()> {
     println!(rt;
         "  waits: runs {runs}, by release {}, by expiry {}, by alert {}",

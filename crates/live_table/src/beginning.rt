@@ -33,7 +33,8 @@ fn step<'s, N: Plan + Shared, R: Wait>(
     pass: Pass,
 ) -> (Pass, bool)
     requires words { table_of marks.now ≡ N.table }
-    requires sizes { (cpus_of marks.now ≡ N.script.cpus) × ((lanes_of marks.now ≡ spec.lane_count N.script) × (limit_of marks.now ≡ N.turns)) }
+    requires sizes { (cpus_of marks.now ≡ N.script.cpus) ×
+        ((lanes_of marks.now ≡ spec.lane_count N.script) × (limit_of marks.now ≡ N.turns)) }
     requires seated { IsSeated N.table N.script N.turns cpu.old pass }
     ensures { IsSeated N.table N.script N.turns cpu.new result.0 }
 {
@@ -52,7 +53,8 @@ fn has_made(turned: Result<Turned, AllocError>) -> bool {
     }
 }
 
-/// Processor 0, which made nothing, with lanes and marks of N's table, and a pass that knows nothing.
+/// Processor 0, which made nothing, with lanes and marks of N's table, and a pass that knows
+/// nothing.
 #[derive(Drop)]
 pub(crate) struct Beginning<'a, 's, N: Plan + Shared> {
     cpu: Cpu<'s>,
@@ -60,7 +62,12 @@ pub(crate) struct Beginning<'a, 's, N: Plan + Shared> {
     marks: &'a Marks,
     pass: Pass,
     ghost some: { 1 ≤ N.script.cpus },
-    ghost new: { cpu ≡ record { script = N.script; cpu = named.cpu 0; limit = N.turns; own = own_of N.script (named.cpu 0) [] } },
+    ghost new: { cpu ≡ record {
+      script = N.script;
+      cpu = named.cpu 0;
+      limit = N.turns;
+      own = own_of N.script (named.cpu 0) [];
+    } },
     ghost words: { table_of marks.now ≡ N.table },
     ghost cpus: { cpus_of marks.now ≡ N.script.cpus },
     ghost all_lanes: { lanes_of marks.now ≡ spec.lane_count N.script },
@@ -78,9 +85,15 @@ impl<'a, 's, N: Plan + Shared> Beginning<'a, 's, N> {
         pass: Pass,
     ) -> Beginning<'a, 's, N>
         requires some { 1 ≤ N.script.cpus }
-        requires cpu { cpu ≡ record { script = N.script; cpu = named.cpu 0; limit = N.turns; own = own_of N.script (named.cpu 0) [] } }
+        requires cpu { cpu ≡ record {
+          script = N.script;
+          cpu = named.cpu 0;
+          limit = N.turns;
+          own = own_of N.script (named.cpu 0) [];
+        } }
         requires table { (table_of marks.now ≡ N.table) × (pass_table pass ≡ N.table) }
-        requires sizes { (cpus_of marks.now ≡ N.script.cpus) × ((lanes_of marks.now ≡ spec.lane_count N.script) × (limit_of marks.now ≡ N.turns)) }
+        requires sizes { (cpus_of marks.now ≡ N.script.cpus) ×
+            ((lanes_of marks.now ≡ spec.lane_count N.script) × (limit_of marks.now ≡ N.turns)) }
         requires pass { pass_view pass ≡ fresh 1 }
     {
         Beginning {
@@ -107,7 +120,8 @@ impl<'a, 's, N: Plan + Shared> Beginning<'a, 's, N> {
         made
     }
 
-    /// Is ready at once. Takes up the first thread once the first flag is seen, and sets the second one; whether the thread was taken up.
+    /// Is ready at once. Takes up the first thread once the first flag is seen, and sets the second
+    /// one; whether the thread was taken up.
     fn turn_later<R: Wait>(self, rt: &R, flags: &Flags) -> bool {
         flags.ready.set();
         flags.first.look_for(LOOKS);
@@ -116,7 +130,8 @@ impl<'a, 's, N: Plan + Shared> Beginning<'a, 's, N> {
         made
     }
 
-    /// Makes the first event and is ready; makes the second once the first flag is seen, and sets the second flag. Whether both were made.
+    /// Makes the first event and is ready; makes the second once the first flag is seen, and sets
+    /// the second flag. Whether both were made.
     fn step_later<R: Wait>(self, rt: &R, flags: &Flags) -> bool {
         let Beginning {
             mut cpu,
@@ -132,8 +147,8 @@ impl<'a, 's, N: Plan + Shared> Beginning<'a, 's, N> {
         first && second
     }
 
-    /// Makes the events before this one and is ready; makes this one once the first flag is seen, and sets the second one. Whether it was
-    /// made.
+    /// Makes the events before this one and is ready; makes this one once the first flag is seen,
+    /// and sets the second one. Whether it was made.
     pub(crate) fn make_later<R: Wait>(self, rt: &R, flags: &Flags, which: Which) -> bool {
         match which {
             Which::First => self.turn_later(rt, flags),

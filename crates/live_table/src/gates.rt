@@ -2,7 +2,8 @@
 use crate::flags::{Flags, LOOKS};
 use nt_outside::Gate;
 
-/// Processors 0 and 1 meet before their second events: each sets a flag there, and looks for the other's.
+/// Processors 0 and 1 meet before their second events: each sets a flag there, and looks for the
+/// other's.
 #[derive(Drop)]
 pub(crate) struct Meeting<'a> {
     pub(crate) flags: &'a Flags,
@@ -24,7 +25,8 @@ impl Gate for Meeting<'_> {
     }
 }
 
-/// Processors 0 and 1 meet before their third events: each sets a flag there, and looks for the other's.
+/// Processors 0 and 1 meet before their third events: each sets a flag there, and looks for the
+/// other's.
 #[derive(Drop)]
 pub(crate) struct Crossing<'a> {
     pub(crate) flags: &'a Flags,
@@ -46,8 +48,8 @@ impl Gate for Crossing<'_> {
     }
 }
 
-/// Processor 0 looks for the first flag before its second event, and processor 1 sets it when it made its fifth; the second flag is set
-/// there too.
+/// Processor 0 looks for the first flag before its second event, and processor 1 sets it when it
+/// made its fifth; the second flag is set there too.
 #[derive(Drop)]
 pub(crate) struct Following<'a> {
     pub(crate) flags: &'a Flags,

@@ -48,7 +48,8 @@ impl<N: Plan + Shared> Place<'_, '_, N> {
     }
 }
 
-/// A thread holds a lane once the events before are made, and another makes this event of processor 0; whether it was made.
+/// A thread holds a lane once the events before are made, and another makes this event of processor
+/// 0; whether it was made.
 fn turn_meanwhile<N: Plan + Shared + Send + Sync, R: Threads + Wait + Sync>(
     rt: &R,
     place: Place<'_, '_, N>,
@@ -79,9 +80,11 @@ fn turn_beside<N: Plan + Shared + Send + Sync, R: Threads + Wait + Sync>(
     requires script { (script.now ≡ N.script) × IsTrue (fits script.now) }
     requires turns { (turns ≡ N.turns) × (turns ≤ TURNS) }
     requires table { (table_of made.marks ≡ N.table) × (pass_table made.pass ≡ N.table) }
-    requires sizes { (cpus_of made.marks ≡ N.script.cpus) × ((lanes_of made.marks ≡ spec.lane_count N.script) × (limit_of made.marks ≡ N.turns)) }
+    requires sizes { (cpus_of made.marks ≡ N.script.cpus) ×
+        ((lanes_of made.marks ≡ spec.lane_count N.script) × (limit_of made.marks ≡ N.turns)) }
     requires pass { pass_view made.pass ≡ fresh 1 }
-    requires keepers { AreNewKeepers (table_of made.marks) made.keepers.items × (vec_len made.keepers ≡ spec.lane_count script.now) }
+    requires keepers { AreNewKeepers (table_of made.marks) made.keepers.items ×
+        (vec_len made.keepers ≡ spec.lane_count script.now) }
     requires lane { lane < spec.lane_count N.script }
 {
     let Made {
@@ -99,7 +102,8 @@ fn turn_beside<N: Plan + Shared + Send + Sync, R: Threads + Wait + Sync>(
     Ok(turn_meanwhile(rt, place, beginning, which, gate))
 }
 
-/// What is seen where processor 0 makes this event while a lane is held, by a gate that looks so many times for the end of that turn.
+/// What is seen where processor 0 makes this event while a lane is held, by a gate that looks so
+/// many times for the end of that turn.
 pub(crate) fn turned_beside<R: Threads + Wait + Sync>(
     rt: &R,
     alloc: Global,
@@ -168,7 +172,8 @@ fn hold_beside<N: Plan + Shared + Send + Sync, R: Threads + Wait + Sync>(
     requires script { (script.now ≡ N.script) × IsTrue (fits script.now) }
     requires turns { turns ≡ N.turns }
     requires table { table_of marks.now ≡ N.table }
-    requires keepers { AreNewKeepers (table_of marks.now) keepers.items × (vec_len keepers ≡ spec.lane_count script.now) }
+    requires keepers { AreNewKeepers (table_of marks.now) keepers.items ×
+        (vec_len keepers ≡ spec.lane_count script.now) }
     requires lanes { (lanes.0 < spec.lane_count N.script) × (lanes.1 < spec.lane_count N.script) }
 {
     let _marks = marks;

@@ -1,14 +1,18 @@
-//! Processors on threads, one case a line of the input: a word, the turn limit and what more the case has in numbers, then `|`, and a
-//! script in which `/` stands for the end of a line. What is written for a case is what stands before `|`, and what was seen, which is the
-//! same in whatever order the threads get on. Where `locks` stands in the place of the script, the name of a script with spin locks
-//! follows.
+//! Processors on threads, one case a line of the input: a word, the turn limit and what more the
+//! case has in numbers, then `|`, and a script in which `/` stands for the end of a line. What is
+//! written for a case is what stands before `|`, and what was seen, which is the same in whatever
+//! order the threads get on. Where `locks` stands in the place of the script, the name of a script
+//! with spin locks follows.
 //!
-//! `meet`: two processors wait at a gate for each other. `follow`: one waits there for a later event of the other. `live`: the processors
-//! run on threads; the history is checked, and its turns are replayed. `load`: the same for the load of a seed, whose script isn't given.
-//! `pieces`: the workers work one after another on one thread, and what they made is gathered. `first`: only the first one works. `turn`:
-//! processor 0 takes up its first thread while a lane is held, by a gate that looks so many times for the end of that turn. `hold`: a
-//! second lane is held meanwhile. `next`: processor 0 makes its second event while a lane is held. `cross`: two processors wait at a gate
-//! for each other once each has a lock that the other wants. What is wanted stands in `stdout`.
+//! `meet`: two processors wait at a gate for each other. `follow`: one waits there for a later
+//! event of the other. `live`: the processors run on threads; the history is checked, and its turns
+//! are replayed. `load`: the same for the load of a seed, whose script isn't given. `pieces`: the
+//! workers work one after another on one thread, and what they made is gathered. `first`: only the
+//! first one works. `turn`: processor 0 takes up its first thread while a lane is held, by a gate
+//! that looks so many times for the end of that turn. `hold`: a second lane is held meanwhile.
+//! `next`: processor 0 makes its second event while a lane is held. `cross`: two processors wait at
+//! a gate for each other once each has a lock that the other wants. What is wanted stands in
+//! `stdout`.
 #![tactic(auto)]
 
 mod beginning;

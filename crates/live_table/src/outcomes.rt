@@ -93,8 +93,8 @@ fn named_seen<R: Threads + Wait + Sync>(
     seen(rt, alloc, case, &script)
 }
 
-/// What is seen of the case, with this script, in which `/` stands for the end of a line; or with the script with spin locks whose name
-/// stands behind `locks`.
+/// What is seen of the case, with this script, in which `/` stands for the end of a line; or with
+/// the script with spin locks whose name stands behind `locks`.
 pub(crate) fn outcome<R: Threads + Wait + Sync>(
     rt: &R,
     alloc: Global,

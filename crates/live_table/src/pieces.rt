@@ -43,7 +43,8 @@ fn gathered<N: Plan + Shared, R: Wait>(
     count: u8,
 ) -> Result<History, AllocError>
     requires script { (script.now ≡ N.script) × IsTrue (fits script.now) }
-    requires turns { (turns ≡ N.turns) × ((1 ≤ turns) × ((turns ≤ TURNS) × (script.now.cpus * turns ≤ EVENTS))) }
+    requires turns { (turns ≡ N.turns) ×
+        ((1 ≤ turns) × ((turns ≤ TURNS) × (script.now.cpus * turns ≤ EVENTS))) }
     requires table { table_of made.marks ≡ N.table }
     requires prepared { IsPrepared script.now turns made }
     requires count { count ≤ script.now.cpus }

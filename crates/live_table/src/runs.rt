@@ -100,7 +100,8 @@ fn spins_at_last(history: &History, cpu: CpuNo) -> bool {
     spins
 }
 
-/// Processors 0 and 1 meet at a gate before their third events, where each has a lock that the other wants.
+/// Processors 0 and 1 meet at a gate before their third events, where each has a lock that the
+/// other wants.
 pub(crate) fn crossed<R: Threads + Wait + Sync>(
     rt: &R,
     alloc: Global,

@@ -16,7 +16,8 @@ use Rattle.nt_cpus.proofs.Starting.{opening_follows}
 pub fresh_serves : (s : Script) (turns : ℕ) (c : CpuState) (f : PlainState) → 1 ≤ turns → 0 < s.cpus → c ≡ state_of s (cpu 0) turns [] → IsFresh s turns f →
     Serves c (view_of f)
 fresh_serves s turns c f h b e k =
-    subst (λ (x : CpuState). Serves x (view_of f)) (sym e) (serves_run s turns (cpu 0) [] (view_of f) tt b (opening_follows s (s.cpus * turns) (view_of f) (fresh_opening s turns f k)) (λ _. some))
+    subst (λ (x : CpuState). Serves x (view_of f)) (sym e)
+    (serves_run s turns (cpu 0) [] (view_of f) tt b (opening_follows s (s.cpus * turns) (view_of f) (fresh_opening s turns f k)) (λ _. some))
   where
     some : 1 ≤ (view_of f).drawable
     some =

@@ -26,7 +26,8 @@ pub(crate) enum FileForm {
     Check,
     /// The turns of a schedule are taken.
     Schedule,
-    /// A machine takes the turns of a schedule one by one, whether they are the robin rule's or not.
+    /// A machine takes the turns of a schedule one by one, whether they are the robin rule's or
+    /// not.
     Take,
 }
 
@@ -74,7 +75,8 @@ fn limit_of(word: &str) -> Option<u32>
     Some(limit)
 }
 
-/// A case by these words: the name of the script, and of the file if that is another one, or the words of a change.
+/// A case by these words: the name of the script, and of the file if that is another one, or the
+/// words of a change.
 fn case_by<'a>(form: Form, limit: u32, words: &'a str) -> Case<'a>
     requires some { 1 ≤ limit }
     requires few { limit ≤ TURNS }
@@ -88,7 +90,8 @@ fn case_by<'a>(form: Form, limit: u32, words: &'a str) -> Case<'a>
     }
 }
 
-/// What a line of the table says: the word of a form, the limit if it is not the usual one, and the names.
+/// What a line of the table says: the word of a form, the limit if it is not the usual one, and the
+/// names.
 pub(crate) fn case_of(line: &str) -> Option<Case<'_>> {
     let (word, words) = line.split_once(' ')?;
     let form = form_of(word)?;

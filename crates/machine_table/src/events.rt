@@ -63,7 +63,8 @@ fn is_replayed(
     }
 }
 
-/// Puts a line that says whether the turns of the history replay it, and one of the checker's verdict.
+/// Puts a line that says whether the turns of the history replay it, and one of the checker's
+/// verdict.
 fn put_ends(
     alloc: Global,
     script: &Script,

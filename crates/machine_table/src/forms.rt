@@ -72,7 +72,8 @@ pub(crate) fn changed(
 /// The turns of a schedule are taken.
 fn taken(alloc: Global, input: &Input, schedule: &Schedule) -> Result<Outcome, AllocError>
     requires sound { IsSound input.now }
-    requires turns { (1 ≤ schedule.now.turns) × (schedule.now.turns ≤ turn_bound input.now.script.cpus) }
+    requires turns { (1 ≤ schedule.now.turns) ×
+        (schedule.now.turns ≤ turn_bound input.now.script.cpus) }
 {
     match replay(alloc, &input.script, schedule.turns, &schedule.list) {
         Ok(history) => Ok(Outcome::Report(report(alloc, input, &history)?)),
@@ -110,7 +111,8 @@ pub(crate) fn checked(alloc: Global, input: &Input, text: &[u8]) -> Result<Outco
 /// Whether the turns of a schedule make a settled run, or why they don't.
 fn settled(alloc: Global, input: &Input, schedule: &Schedule) -> Result<Outcome, AllocError>
     requires sound { IsSound input.now }
-    requires turns { (1 ≤ schedule.now.turns) × (schedule.now.turns ≤ turn_bound input.now.script.cpus) }
+    requires turns { (1 ≤ schedule.now.turns) ×
+        (schedule.now.turns ≤ turn_bound input.now.script.cpus) }
 {
     match replay(alloc, &input.script, schedule.turns, &schedule.list) {
         Ok(_) => Ok(Outcome::Settled),

@@ -1,13 +1,16 @@
-//! What the pure machine makes of scripts, one case a line: the word of a form, a turn limit if it is not the usual one, and the
-//! name of a script. The scripts are files of `data/`, `NAME.script`. A second name is that of the form's other file, if it is not
-//! the script's name.
+//! What the pure machine makes of scripts, one case a line: the word of a form, a turn limit if it
+//! is not the usual one, and the name of a script. The scripts are files of `data/`, `NAME.script`.
+//! A second name is that of the form's other file, if it is not the script's name.
 //!
-//! With `run` the script is run by the robin rule; with `replay` the turns of the report's schedule are taken; with `take` a machine
-//! takes the turns of `NAME.schedule` one by one; with `step` the first processor makes its first event by itself; with `events` the
-//! run is written field by field, replayed and checked. The text is compared with a file (`NAME.report`, `.taken`, `.steps`,
-//! `.events`), and what is written is whether they are the same, or how many lines at the front are equal. With `check` it is the
-//! verdict on the history of the report; with `change` the one on the run's history with a change; with `schedule` why the turns of
-//! `NAME.schedule` make no settled run. What is wanted is in those files and in `stdout`: examples that were worked out by hand.
+//! With `run` the script is run by the robin rule; with `replay` the turns of the report's schedule
+//! are taken; with `take` a machine takes the turns of `NAME.schedule` one by one; with `step` the
+//! first processor makes its first event by itself; with `events` the run is written field by
+//! field, replayed and checked. The text is compared with a file (`NAME.report`, `.taken`,
+//! `.steps`, `.events`), and what is written is whether they are the same, or how many lines at the
+//! front are equal. With `check` it is the verdict on the history of the report; with `change` the
+//! one on the run's history with a change; with `schedule` why the turns of `NAME.schedule` make no
+//! settled run. What is wanted is in those files and in `stdout`: examples that were worked out by
+//! hand.
 #![tactic(auto)]
 
 ghost use Rattle.std.specs.Prelude.{◌≤◌, length};

@@ -4,7 +4,8 @@ use Rattle.std.proofs.lemmas.Bool.{eqb-true, leb-true, lt-ltb, ltb-false, ltb-tr
 use Rattle.std.proofs.lemmas.List.{get_or_past}
 use Rattle.std.specs.List.{list_all, list_any}
 use Rattle.std.specs.Option.{option_map_or}
-use Rattle.std.specs.Prelude.{Bool, IfSome, List, None, Option, Some, [], false, get_or, if◌then◌else◌, is_some, length, nat_le, nat_lt, option_and_then, refl, slice_get, suc, true, ℕ, ◌&&◌, ◌++◌, ◌+◌, ◌==◌, ◌||◌, ◌∷◌, ◌≡◌, ◌≤◌}
+use Rattle.std.specs.Prelude.{Bool, IfSome, List, None, Option, Some, [], false, get_or, if◌then◌else◌, is_some, length, nat_le, nat_lt, option_and_then, refl}
+use Rattle.std.specs.Prelude.{slice_get, suc, true, ℕ, ◌&&◌, ◌++◌, ◌+◌, ◌==◌, ◌||◌, ◌∷◌, ◌≡◌, ◌≤◌}
 use Rattle.nt_event.specs.declared.commands.ApcKind.TheVariants.{Normal as NormalApc, User as UserApc}
 use Rattle.nt_event.specs.declared.commands.Command.{Command}
 use Rattle.nt_event.specs.declared.commands.Command.TheVariants as cmd
@@ -32,7 +33,8 @@ use Rattle.nt_event.specs.declared.scripts.ThreadDecl.{ThreadDecl}
 use Rattle.nt_event.specs.Apcs.{has_kernel}
 use Rattle.nt_event.specs.Classes.{is_requested_level, is_used_class}
 use Rattle.nt_event.specs.Fitting.{what_fits}
-use Rattle.nt_event.specs.Lanes.{Lanes, command_lanes, end_lanes, facts_at, facts_of, insert_lanes, lane_if, lanes_at, lock_at, object_at, queue_at, same_lane, standing_lanes, what_lanes}
+use Rattle.nt_event.specs.Lanes.{Lanes, command_lanes, end_lanes, facts_at, facts_of, insert_lanes, lane_if, lanes_at, lock_at, object_at, queue_at, same_lane}
+use Rattle.nt_event.specs.Lanes.{standing_lanes, what_lanes}
 use Rattle.nt_event.specs.Lists.{table}
 use Rattle.nt_event.specs.Locks.{Frees, Gets, LockMove, LockState, NoMove, Spins, lock_move, lock_moved, lock_of, spinners_with, start_lock}
 use Rattle.nt_event.specs.Numbers.{cpu, dpc, lock}

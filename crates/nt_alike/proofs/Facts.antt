@@ -1,7 +1,8 @@
 -- What an event leaves of a thread's facts, but for numbers, depends on no number.
 use Rattle.std.proofs.Common.{ap, sym, ◌∙◌}
 use Rattle.std.specs.Option.{option_map_or}
-use Rattle.std.specs.Prelude.{Bool, List, None, Option, Some, false, if◌then◌else◌, is_some, not, option_and_then, option_map, refl, true, ℕ, ◌&&◌, ◌==◌, ◌||◌, ◌≡◌}
+use Rattle.std.specs.Prelude.{Bool, List, None, Option, Some, false, if◌then◌else◌, is_some, not, option_and_then, option_map, refl, true, ℕ, ◌&&◌, ◌==◌, ◌||◌}
+use Rattle.std.specs.Prelude.{◌≡◌}
 use Rattle.nt_event.specs.declared.commands.ApcKind.{ApcKind}
 use Rattle.nt_event.specs.declared.commands.ApcKind.TheVariants.{Normal as NormalApc, Special as SpecialApc, User as UserApc}
 use Rattle.nt_event.specs.declared.commands.Command.TheVariants.{Alert, Delay, InsertApc, Release, RemoveApc, StartWait, TestAlert, Yield}
@@ -26,12 +27,15 @@ use Rattle.nt_event.specs.declared.scripts.Script.{Script}
 use Rattle.nt_event.specs.declared.threads.Doing.{Doing}
 use Rattle.nt_event.specs.declared.threads.Doing.TheVariants.{Blocked as IsBlocked}
 use Rattle.nt_event.specs.declared.threads.Waiting.{Waiting}
-use Rattle.nt_event.specs.Apcs.{ApcQueues, deliverable, first_kernel, first_of_kind, first_user, has_kernel, has_user, is_inserted, is_of_apc, is_of_kind, lets_through, with_apc, without_apc}
+use Rattle.nt_event.specs.Apcs.{ApcQueues, deliverable, first_kernel, first_of_kind, first_user, has_kernel, has_user, is_inserted, is_of_apc, is_of_kind}
+use Rattle.nt_event.specs.Apcs.{lets_through, with_apc, without_apc}
 use Rattle.nt_event.specs.Lists.{when}
 use Rattle.nt_event.specs.Replies.{alerted, is_answer, is_user, kernel_apc, satisfied, user_apc}
 use Rattle.nt_event.specs.Routines.{is_kernel_kind, kind_of, owner_of}
-use Rattle.nt_event.specs.Threads.{ThreadFacts, doing_level, ended, ends_by_alert, ends_by_apc, ends_by_expiry, ends_by_kernel, ends_by_release, ends_by_user, gone_doing, is_alerted, is_gone, not_below, set_alerted, waiting_of, waits_as}
-use Rattle.nt_event.specs.Waits.{alert_facts, alert_taken, alert_tested, answered, apc_taken, expiry_facts, facts_after, frame_ended, insert_facts, is_of_thread, made_facts, named_facts, new_pick, release_facts, waited, waited_again}
+use Rattle.nt_event.specs.Threads.{ThreadFacts, doing_level, ended, ends_by_alert, ends_by_apc, ends_by_expiry, ends_by_kernel, ends_by_release, ends_by_user}
+use Rattle.nt_event.specs.Threads.{gone_doing, is_alerted, is_gone, not_below, set_alerted, waiting_of, waits_as}
+use Rattle.nt_event.specs.Waits.{alert_facts, alert_taken, alert_tested, answered, apc_taken, expiry_facts, facts_after, frame_ended, insert_facts}
+use Rattle.nt_event.specs.Waits.{is_of_thread, made_facts, named_facts, new_pick, release_facts, waited, waited_again}
 use Rattle.nt_alike.specs.Bare.{bare_apcs, bare_doing, bare_event, bare_facts, bare_pick, bare_stand, bare_waiting, bare_what}
 use Rattle.nt_alike.specs.Parts.{IsTimely}
 use Rattle.nt_alike.proofs.Mapped.{any_map, filter_map, find_reverse_map, map_or}

@@ -4,7 +4,8 @@ use Rattle.std.proofs.lemmas.Bool.{eqb-true}
 use Rattle.std.proofs.lemmas.List.Sums.{sum_by-cons}
 use Rattle.std.specs.List.{sum_by}
 use Rattle.std.specs.Option.{option_map_or, option_or}
-use Rattle.std.specs.Prelude.{Bool, List, None, Option, Some, [], false, if◌then◌else◌, length, map, option_and_then, option_map, refl, suc, true, zero, ℕ, ◌+◌, ◌==◌, ◌∷◌, ◌≡◌}
+use Rattle.std.specs.Prelude.{Bool, List, None, Option, Some, [], false, if◌then◌else◌, length, map, option_and_then, option_map, refl, suc, true, zero, ℕ, ◌+◌}
+use Rattle.std.specs.Prelude.{◌==◌, ◌∷◌, ◌≡◌}
 use Rattle.nt_event.specs.declared.commands.Command.{Command}
 use Rattle.nt_event.specs.declared.commands.Command.TheVariants.{Delay, StartWait}
 use Rattle.nt_event.specs.declared.commands.Regions.{Regions}
@@ -25,7 +26,9 @@ use Rattle.nt_event.specs.declared.numbers.CpuNo.{CpuNo}
 use Rattle.nt_event.specs.declared.numbers.RoutineNo.{RoutineNo}
 use Rattle.nt_event.specs.declared.numbers.ThreadNo.{ThreadNo}
 use Rattle.nt_event.specs.declared.scripts.Script.{Script}
-use Rattle.nt_event.specs.Frames.{Frames, at_head, at_name, begin_own, called, end_on_thread, ended_base, ended_on_thread, flushed, frames_after, freed, freed_level, frames_in, innermost, is_base_body, is_normal_apc_body, level_in, new_frame, normal_of, own_after, resumed, rewaited, running_after, switched_to, thread_after, thread_if, thread_part, without}
+use Rattle.nt_event.specs.Frames.{Frames, at_head, at_name, begin_own, called, end_on_thread, ended_base, ended_on_thread, flushed, frames_after, freed}
+use Rattle.nt_event.specs.Frames.{freed_level, frames_in, innermost, is_base_body, is_normal_apc_body, level_in, new_frame, normal_of, own_after, resumed}
+use Rattle.nt_event.specs.Frames.{rewaited, running_after, switched_to, thread_after, thread_if, thread_part, without}
 use Rattle.nt_event.specs.Lists.{head_of, is_null, table, table_from, tail_of}
 use Rattle.nt_event.specs.Numbers.{is_by, thread}
 use Rattle.nt_event.specs.Regions.{below_in, ended_level_in, first_level, freed_in, regions_of, stand_of}

@@ -1,10 +1,12 @@
 -- What a job gives and what an event asks for, but for numbers, depends on no number but those of the timers.
 use Rattle.std.proofs.Common.{ap, arith, sym, ◌∙◌}
 use Rattle.std.specs.Option.{option_or}
-use Rattle.std.specs.Prelude.{Bool, List, None, Option, Some, [], false, find, map, not, option_map, refl, reverse, suc, true, unwrap_or, ℕ, ◌++◌, ◌+◌, ◌==◌, ◌∷◌, ◌≡◌}
+use Rattle.std.specs.Prelude.{Bool, List, None, Option, Some, [], false, find, map, not, option_map, refl, reverse, suc, true, unwrap_or, ℕ, ◌++◌, ◌+◌, ◌==◌}
+use Rattle.std.specs.Prelude.{◌∷◌, ◌≡◌}
 use Rattle.nt_event.specs.declared.commands.ApcKind.TheVariants.{Normal as NormalApc}
 use Rattle.nt_event.specs.declared.commands.Command.{Command}
-use Rattle.nt_event.specs.declared.commands.Command.TheVariants.{Alert, Clock, Delay, InsertApc, Interrupt, LeaveCrit, LeaveGuard, Queue, Release, RemoveApc, StartWait, TestAlert, ToUser, Unlock, Unqueue}
+use Rattle.nt_event.specs.declared.commands.Command.TheVariants.{Alert, Clock, Delay, InsertApc, Interrupt, LeaveCrit, LeaveGuard, Queue, Release, RemoveApc}
+use Rattle.nt_event.specs.declared.commands.Command.TheVariants.{StartWait, TestAlert, ToUser, Unlock, Unqueue}
 use Rattle.nt_event.specs.declared.commands.Mode.{Mode}
 use Rattle.nt_event.specs.declared.commands.Regions.{Regions}
 use Rattle.nt_event.specs.declared.commands.Reply.{Reply}
@@ -20,7 +22,9 @@ use Rattle.nt_event.specs.declared.inserts.Part.{Part}
 use Rattle.nt_event.specs.declared.inserts.Part.TheVariants.{Ordinary as OrdinaryPart, Threaded as ThreadedPart}
 use Rattle.nt_event.specs.declared.inserts.Pick.{Pick}
 use Rattle.nt_event.specs.declared.jobs.Job.{Job}
-use Rattle.nt_event.specs.declared.jobs.Job.TheVariants.{Apcs as ApcsJob, Call as CallJob, Drain as DrainJob, Fire as FireJob, Free as FreeJob, Idle as IdleJob, Leave as LeaveJob, Pick as PickJob, Rewait as RewaitJob, Rundown as RundownJob, Switch as SwitchJob, Threaded as ThreadedJob, ToUser as ToUserJob, UserEnd as UserEndJob}
+use Rattle.nt_event.specs.declared.jobs.Job.TheVariants.{Apcs as ApcsJob, Call as CallJob, Drain as DrainJob, Fire as FireJob, Free as FreeJob, Idle as IdleJob}
+use Rattle.nt_event.specs.declared.jobs.Job.TheVariants.{Leave as LeaveJob, Pick as PickJob, Rewait as RewaitJob, Rundown as RundownJob, Switch as SwitchJob}
+use Rattle.nt_event.specs.declared.jobs.Job.TheVariants.{Threaded as ThreadedJob, ToUser as ToUserJob, UserEnd as UserEndJob}
 use Rattle.nt_event.specs.declared.jobs.Stand.{Stand}
 use Rattle.nt_event.specs.declared.numbers.CpuNo.{CpuNo}
 use Rattle.nt_event.specs.declared.numbers.DpcNo.{DpcNo}
@@ -31,7 +35,8 @@ use Rattle.nt_event.specs.declared.threads.Doing.{Doing}
 use Rattle.nt_event.specs.declared.threads.Doing.TheVariants.{Blocked as IsBlocked}
 use Rattle.nt_event.specs.Apcs.{deliverable, first_user}
 use Rattle.nt_event.specs.Commands.{is_reached, reply}
-use Rattle.nt_event.specs.Jobs.{apcs_event, begin_apc, begin_dpc, begin_first, drain_event, expire_key, idle_event, job_event, next_ready, ready, ready_from, rewait_reply, rundown_event, switch_event, threaded_event, touser_event, user_due}
+use Rattle.nt_event.specs.Jobs.{apcs_event, begin_apc, begin_dpc, begin_first, drain_event, expire_key, idle_event, job_event, next_ready, ready, ready_from}
+use Rattle.nt_event.specs.Jobs.{rewait_reply, rundown_event, switch_event, threaded_event, touser_event, user_due}
 use Rattle.nt_event.specs.Lanes.{Lanes, facts_at, facts_of, object_at, queue_at}
 use Rattle.nt_event.specs.Lists.{is_null, when}
 use Rattle.nt_event.specs.Numbers.{thread}
@@ -46,7 +51,8 @@ use Rattle.nt_event.specs.Waits.{new_pick, wait_reply}
 use Rattle.nt_event.proofs.Written.{read_map}
 use Rattle.nt_alike.specs.Bare.{bare_doing, bare_facts, bare_insert, bare_but_timers, bare_object, bare_pick, bare_queue, bare_stand, bare_standing, bare_what}
 use Rattle.nt_alike.specs.Parts.{IsTimely}
-use Rattle.nt_alike.proofs.Facts.{alerted_bare, by_alert_bare, by_apc_bare, by_release_bare, deliverable_bare, gone_bare, has_kernel_bare, has_user_bare, is_deliverable_bare, is_inserted_bare, is_some_map, user_bare, zero_expiry}
+use Rattle.nt_alike.proofs.Facts.{alerted_bare, by_alert_bare, by_apc_bare, by_release_bare, deliverable_bare, gone_bare, has_kernel_bare, has_user_bare}
+use Rattle.nt_alike.proofs.Facts.{is_deliverable_bare, is_inserted_bare, is_some_map, user_bare, zero_expiry}
 use Rattle.nt_alike.proofs.Mapped.{count_map, find_map, find_reverse_map, map_or}
 use Rattle.nt_alike.proofs.Parts.{object_read}
 

@@ -17,7 +17,8 @@ use Rattle.nt_event.specs.declared.numbers.CpuNo.{CpuNo}
 use Rattle.nt_event.specs.declared.numbers.DpcNo.{DpcNo}
 use Rattle.nt_event.specs.declared.scripts.Script.{Script}
 use Rattle.nt_event.specs.Lanes.{Lanes, command_lanes, object_at, standing_lanes, what_lanes}
-use Rattle.nt_event.specs.Objects.{ObjectState, importance_after, inserted_dpc, is_dpc, object_after, object_in, queue_for, standing_after, start_object, target_after, used_up_dpc}
+use Rattle.nt_event.specs.Objects.{ObjectState, importance_after, inserted_dpc, is_dpc, object_after, object_in, queue_for, standing_after, start_object}
+use Rattle.nt_event.specs.Objects.{target_after, used_up_dpc}
 use Rattle.nt_event.specs.Queues.{QueueState, add_insert, drop_insert, idle_after, is_of_dpc, is_queue, left_queue, new_insert, queue_after, without_dpc}
 use Rattle.nt_event.specs.Replies.{is_refused}
 use Rattle.nt_event.proofs.Written.{read_map}

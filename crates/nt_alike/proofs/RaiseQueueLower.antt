@@ -21,7 +21,8 @@ use Rattle.nt_alike.specs.Ends.{is_quiet}
 use Rattle.nt_alike.specs.Free.{IsFreeRun, MayCome}
 use Rattle.nt_alike.specs.Lists.{Each}
 use Rattle.nt_alike.specs.Monitors.{IsClosedWith, Monitor, NoneShowsWith, kept}
-use Rattle.nt_alike.specs.RaiseQueueLower.{DpcBeginsOnce, DpcWaitsForTheLower, RowEnds, begins_too_soon, begun_count, body_ended, cleaned, dpc_begun, dpc_ended, events_left, gone, histories, last_level, lowered, noted, queued, raised, rested, switched}
+use Rattle.nt_alike.specs.RaiseQueueLower.{DpcBeginsOnce, DpcWaitsForTheLower, RowEnds, begins_too_soon, begun_count, body_ended, cleaned, dpc_begun, dpc_ended}
+use Rattle.nt_alike.specs.RaiseQueueLower.{events_left, gone, histories, last_level, lowered, noted, queued, raised, rested, switched}
 use Rattle.nt_alike.specs.Ranks.{IsRanked}
 use Rattle.nt_alike.proofs.Free.{runs_free}
 use Rattle.nt_alike.proofs.Line.{EndsAt, GoesTo, Line, OnlyTo, ToNone, line_ranked, none_found}

@@ -3,7 +3,8 @@ use Rattle.std.proofs.Common.{ap, arith, sym, ◌∙◌}
 use Rattle.std.proofs.lemmas.Bool.{ltb-true}
 use Rattle.std.specs.List.{list_all}
 use Rattle.std.specs.Option.{option_map_or, option_or}
-use Rattle.std.specs.Prelude.{Bool, List, None, Option, Some, [], false, find, if◌then◌else◌, is_some, nat_lt, not, option_and_then, option_map, refl, true, ℕ, ◌&&◌, ◌-◌, ◌<◌, ◌∷◌, ◌≡◌, ◌||◌}
+use Rattle.std.specs.Prelude.{Bool, List, None, Option, Some, [], false, find, if◌then◌else◌, is_some, nat_lt, not, option_and_then, option_map, refl, true, ℕ}
+use Rattle.std.specs.Prelude.{◌&&◌, ◌-◌, ◌<◌, ◌∷◌, ◌≡◌, ◌||◌}
 use Rattle.nt_event.specs.declared.commands.ApcKind.TheVariants.{User as UserApc}
 use Rattle.nt_event.specs.declared.commands.Command.{Command}
 use Rattle.nt_event.specs.declared.commands.Command.TheVariants.{ToUser}
@@ -26,7 +27,9 @@ use Rattle.nt_event.specs.declared.scripts.Script.{Script}
 use Rattle.nt_event.specs.Classes.{interrupt_classes}
 use Rattle.nt_event.specs.Commands.{needs_lane, refusal}
 use Rattle.nt_event.specs.Frames.{Frames, innermost, is_on_thread, thread_part}
-use Rattle.nt_event.specs.Jobs.{call_task, command_task, end_task, fire_task, frame_task, free_task, go_on_task, has_normal, idle_task, interrupt_task, is_due, is_still, job_event, level_at, may_apcs, may_drain, may_interrupt, may_switch, may_threaded, must, must_task, next_what, normal_task, rests, rewait_task, rundown_task, spins_still, task, task_event, waits_for_lock}
+use Rattle.nt_event.specs.Jobs.{call_task, command_task, end_task, fire_task, frame_task, free_task, go_on_task, has_normal, idle_task, interrupt_task, is_due}
+use Rattle.nt_event.specs.Jobs.{is_still, job_event, level_at, may_apcs, may_drain, may_interrupt, may_switch, may_threaded, must, must_task, next_what}
+use Rattle.nt_event.specs.Jobs.{normal_task, rests, rewait_task, rundown_task, spins_still, task, task_event, waits_for_lock}
 use Rattle.nt_event.specs.Lanes.{Lanes}
 use Rattle.nt_event.specs.Lists.{is_null, value_at, when}
 use Rattle.nt_event.specs.Own.{Own, stand_in}

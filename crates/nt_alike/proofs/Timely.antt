@@ -36,9 +36,11 @@ use Rattle.nt_event.specs.Regions.{stand_at}
 use Rattle.nt_event.specs.Replies.{alerted, is_answer, satisfied, user_apc}
 use Rattle.nt_event.specs.Routines.{is_kernel_kind, kind_of, owner_of}
 use Rattle.nt_event.specs.Step.{IsLegal, IsRun}
-use Rattle.nt_event.specs.Threads.{ThreadFacts, ended, ends_by_alert, ends_by_apc, ends_by_expiry, ends_by_release, is_alerted, is_gone, set_alerted, waiting_of}
+use Rattle.nt_event.specs.Threads.{ThreadFacts, ended, ends_by_alert, ends_by_apc, ends_by_expiry, ends_by_release, is_alerted, is_gone, set_alerted}
+use Rattle.nt_event.specs.Threads.{waiting_of}
 use Rattle.nt_event.specs.Timers.{blocked_after, delay_set, delay_setting, expired_delay}
-use Rattle.nt_event.specs.Waits.{alert_facts, alert_tested, answered, apc_taken, expiry_facts, facts, frame_ended, insert_facts, is_of_thread, made_facts, named_facts, new_pick, release_facts, waited, waited_again}
+use Rattle.nt_event.specs.Waits.{alert_facts, alert_tested, answered, apc_taken, expiry_facts, facts, frame_ended, insert_facts, is_of_thread, made_facts}
+use Rattle.nt_event.specs.Waits.{named_facts, new_pick, release_facts, waited, waited_again}
 use Rattle.nt_event.proofs.Tables.{get_or-table, length-table_from}
 use Rattle.nt_event.specs.Own.{own_of}
 use Rattle.nt_event.specs.declared.commands.TimerKey.{TimerKey}

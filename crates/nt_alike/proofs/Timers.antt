@@ -2,7 +2,8 @@
 use Rattle.std.proofs.Common.{ap, arith, inl, inr, subst, sym, ◌∙◌}
 use Rattle.std.proofs.lemmas.Bool.{eqb-true, le-ltb, lt-ltb, ltb-false, ltb-true}
 use Rattle.std.specs.List.{fold, reduce}
-use Rattle.std.specs.Prelude.{Bool, List, None, Option, Some, [], false, filter, get_or, if◌then◌else◌, is_some, length, map, nat_lt, option_and_then, option_map, refl, suc, true, ℕ, ◌&&◌, ◌++◌, ◌+◌, ◌<◌, ◌==◌, ◌∷◌, ◌≡◌, ◌||◌}
+use Rattle.std.specs.Prelude.{Bool, List, None, Option, Some, [], false, filter, get_or, if◌then◌else◌, is_some, length, map, nat_lt, option_and_then}
+use Rattle.std.specs.Prelude.{option_map, refl, suc, true, ℕ, ◌&&◌, ◌++◌, ◌+◌, ◌<◌, ◌==◌, ◌∷◌, ◌≡◌, ◌||◌}
 use Rattle.nt_event.specs.declared.commands.Command.TheVariants.{CancelTimer, Delay, SetTimer}
 use Rattle.nt_event.specs.declared.commands.Reply.TheVariants.{Blocked, Yes}
 use Rattle.nt_event.specs.declared.commands.TimerKey.{TimerKey}
@@ -21,7 +22,8 @@ use Rattle.nt_event.specs.Lists.{table}
 use Rattle.nt_event.specs.Numbers.{thread, timer}
 use Rattle.nt_event.specs.Regions.{stand_at}
 use Rattle.nt_event.specs.Replies.{is_answer}
-use Rattle.nt_event.specs.Timers.{SetKey, Timers, blocked_after, delay_after, delay_set, earlier, expired_delay, first_due, is_due_key, is_earlier, keyed, renewed, set_keys, setting_in, timer_after, timers_after, timers_at}
+use Rattle.nt_event.specs.Timers.{SetKey, Timers, blocked_after, delay_after, delay_set, earlier, expired_delay, first_due, is_due_key, is_earlier, keyed}
+use Rattle.nt_event.specs.Timers.{renewed, set_keys, setting_in, timer_after, timers_after, timers_at}
 use Rattle.nt_event.specs.Waits.{is_of_thread}
 use Rattle.nt_event.proofs.Moves.{timers_move}
 use Rattle.nt_event.proofs.Tables.{get_or-table, length-table_from, table-same}

@@ -11,7 +11,8 @@ use Rattle.nt_event.specs.declared.inserts.Setting.{Setting}
 use Rattle.nt_event.specs.declared.inserts.Standing.{Standing}
 use Rattle.nt_event.specs.declared.jobs.Stand.{Stand}
 use Rattle.nt_event.specs.declared.threads.Doing.{Doing}
-use Rattle.nt_event.specs.declared.threads.Doing.TheVariants.{Blocked as IsBlocked, Gone as IsGone, Ready as IsReady, Running as IsRunning}
+use Rattle.nt_event.specs.declared.threads.Doing.TheVariants.{Blocked as IsBlocked, Gone as IsGone, Ready as IsReady}
+use Rattle.nt_event.specs.declared.threads.Doing.TheVariants.{Running as IsRunning}
 use Rattle.nt_event.specs.declared.threads.Waiting.{Waiting}
 use Rattle.nt_event.specs.Apcs.{ApcQueues}
 use Rattle.nt_event.specs.Frames.{Frames}

@@ -35,9 +35,9 @@ AlikeAnswerAlike = (s : Script) (question : Question) (h k : List Event) → Ali
     answer s question h ≡ answer s question k
 
 -- The questions that a reader asks, of any processor, thread, object and lock: at which level it is, whether it rests
--- or spins still, which thread runs, the open frames without their names; what a thread does (runs, is ready, is blocked
--- in which wait, is gone) and the rest of its facts; which DPC and APC objects are inserted; which timers are set, and
--- the time; which processor holds a spin lock, and which ones spin on it.
+-- or spins still, which thread runs, the open frames without their names; what a thread does (runs, is ready, is
+-- blocked in which wait, is gone) and the rest of its facts; which DPC and APC objects are inserted; which timers are
+-- set, and the time; which processor holds a spin lock, and which ones spin on it.
 pub record StandAlike (s : Script) (h k : List Event) : Type 0 where
   pub level : (p : CpuNo) → level_at (own_of s p h) ≡ level_at (own_of s p k)
   pub rests : (p : CpuNo) → rests (own_of s p h) ≡ rests (own_of s p k)

@@ -1,7 +1,8 @@
 -- The worked row raise-queue-lower: a thread raises to DISPATCH_LEVEL, queues a DPC and lowers. Its histories are
 -- written out, and they are a closed list: after each of them one event at most may come. On one processor what is
 -- asked is noticed at once, so no Look is good; and no thread but the one may be switched to.
-use Rattle.std.specs.Prelude.{Bool, List, None, Some, [], false, if◌then◌else◌, length, nat_le, true, ℕ, ◌&&◌, ◌+◌, ◌-◌, ◌∷◌, ◌≡◌, ◌≤◌}
+use Rattle.std.specs.Prelude.{Bool, List, None, Some, [], false, if◌then◌else◌, length, nat_le, true, ℕ, ◌&&◌, ◌+◌, ◌-◌}
+use Rattle.std.specs.Prelude.{◌∷◌, ◌≡◌, ◌≤◌}
 use Rattle.nt_event.specs.declared.commands.Command.TheVariants as cmd
 use Rattle.nt_event.specs.declared.commands.Reply.TheVariants.{Done, Yes}
 use Rattle.nt_event.specs.declared.events.Begun.TheVariants.{Dpc}

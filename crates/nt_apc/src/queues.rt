@@ -36,8 +36,8 @@ impl Model for ApcQueues {
 }
 
 impl ApcQueues {
-    /// Empty queues with open doors, and room for `count` objects and for no fewer than [`MOST_OBJECTS`]. No later call takes
-    /// memory.
+    /// Empty queues with open doors, and room for `count` objects and for no fewer than
+    /// [`MOST_OBJECTS`]. No later call takes memory.
     pub fn new(alloc: Global, count: u32) -> Result<ApcQueues, AllocError>
         ensures { IfOk result (λ q. q ≡ spec.start_apcs) }
     {
@@ -48,15 +48,16 @@ impl ApcQueues {
         })
     }
 
-    /// Inserts the object as the newest of its kind, under the number `n` of the inserting event. False exactly where the
-    /// object is inserted already or the doors are closed.
+    /// Inserts the object as the newest of its kind, under the number `n` of the inserting event.
+    /// False exactly where the object is inserted already or the doors are closed.
     ///
-    /// The numbers of a thread's inserts rise: `n` is meant to be above each number that was inserted here before, and then
-    /// the first of a kind is the one of least number.
+    /// The numbers of a thread's inserts rise: `n` is meant to be above each number that was
+    /// inserted here before, and then the first of a kind is the one of least number.
     pub fn insert(&mut self, a: ApcNo, kind: ApcKind, n: u64) -> bool
         requires { a.0 < 256 }
         ensures answer { result ≡ spec.takes a self.old }
-        ensures yes { OnTrue result (self.new ≡ spec.with_apc (record { apc = a; kind = kind; number = n }) self.old) }
+        ensures yes { OnTrue result
+            (self.new ≡ spec.with_apc (record { apc = a; kind = kind; number = n }) self.old) }
         ensures no { OnFalse result (self.new ≡ self.old) }
     {
         if !self.open_for(a) {
@@ -99,9 +100,12 @@ impl ApcQueues {
         }
     }
 
-    /// Whether a kernel APC would be deliverable, at this level and in these regions, once an APC of this kind is inserted.
+    /// Whether a kernel APC would be deliverable, at this level and in these regions, once an APC
+    /// of this kind is inserted.
     pub fn deliverable_with(&self, kind: ApcKind, regions: Regions, level: Level) -> bool
-        ensures { (a : Apc) (n : ℕ) → result ≡ is_some (spec.deliverable (spec.with_apc (record { apc = a; kind = kind; number = n }) self.now) regions level) }
+        ensures { (a : Apc) (n : ℕ) →
+            result ≡ is_some (spec.deliverable
+            (spec.with_apc (record { apc = a; kind = kind; number = n }) self.now) regions level) }
     {
         may_begin(self.first_kind_with(kind), regions, level)
     }
@@ -148,8 +152,8 @@ impl ApcQueues {
         self.kernel_first().is_some()
     }
 
-    /// Takes the pick out. It is meant to be one that [`ApcQueues::deliverable`] or [`ApcQueues::user_first`] answered on this
-    /// state.
+    /// Takes the pick out. It is meant to be one that [`ApcQueues::deliverable`] or
+    /// [`ApcQueues::user_first`] answered on this state.
     pub fn take(&mut self, pick: Pick)
         ensures { self.new ≡ spec.without_apc pick.apc self.old }
     {
@@ -163,7 +167,8 @@ impl ApcQueues {
         self.closed = true;
     }
 
-    /// Takes out the first user APC, and answers it with the number of its insert. None exactly where there is none.
+    /// Takes out the first user APC, and answers it with the number of its insert. None exactly
+    /// where there is none.
     pub fn flush_next(&mut self) -> Option<(ApcNo, u64)>
         ensures answer { result ≡ option_map (λ x. (x.apc, x.number)) (spec.first_user self.old) }
         ensures after { IfSome result (λ y. self.new ≡ spec.without_apc y.0 self.old) }
@@ -175,7 +180,8 @@ impl ApcQueues {
     }
 }
 
-/// Whether a kernel APC of this kind, where there is one, may begin at this level and in these regions.
+/// Whether a kernel APC of this kind, where there is one, may begin at this level and in these
+/// regions.
 fn may_begin(kind: Option<ApcKind>, regions: Regions, level: Level) -> bool
     ensures { result ≡ may_begin_of regions level kind }
 {

@@ -3,7 +3,8 @@ use Rattle.std.proofs.Common.{ap, arith, inl, inr, subst, sym, ◌∙◌}
 use Rattle.std.proofs.lemmas.Bool.Decides.{nat_tests}
 use Rattle.std.proofs.lemmas.Bool.{eqb-true, ltb-false, ltb-true}
 use Rattle.std.proofs.lemmas.Option.{slice_get-get_or, slice_get_cases, slice_get_within}
-use Rattle.std.specs.Prelude.{Bool, Err, IsTrue, List, None, Ok, Result, Some, false, get_or, length, nat_lt, refl, reverse, slice_get, suc, true, zero, ℕ, ◌+◌, ◌<◌, ◌==◌, ◌↔◌, ◌≡◌, ◌≤◌, ◌⊎◌, ◌≢◌}
+use Rattle.std.specs.Prelude.{Bool, Err, IsTrue, List, None, Ok, Result, Some, false, get_or, length, nat_lt, refl, reverse, slice_get, suc, true, zero, ℕ, ◌+◌}
+use Rattle.std.specs.Prelude.{◌<◌, ◌==◌, ◌↔◌, ◌≡◌, ◌≤◌, ◌⊎◌, ◌≢◌}
 use Rattle.nt_event.specs.declared.events.Event.{Event}
 use Rattle.nt_event.specs.declared.scripts.Script.{Script}
 use Rattle.nt_event.specs.Robin.{is_settled}

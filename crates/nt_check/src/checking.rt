@@ -19,11 +19,13 @@ use std::alloc::{AllocError, Global};
 /// What a history is.
 #[derive(Clone, Copy, PartialEq, Eq, Debug)]
 pub enum Verdict {
-    /// A settled run: each event is the one that the machine makes by its turn after those before it, and at the end each processor is
-    /// cut, or rests or spins still and has seen what was asked for.
+    /// A settled run: each event is the one that the machine makes by its turn after those before
+    /// it, and at the end each processor is cut, or rests or spins still and has seen what was
+    /// asked for.
     Legal,
-    /// The event of this number, from 0, is the first that is not the one that the machine makes by its turn; or it is the number of
-    /// events, all are the machine's, and some processor has more to do.
+    /// The event of this number, from 0, is the first that is not the one that the machine makes by
+    /// its turn; or it is the number of events, all are the machine's, and some processor has more
+    /// to do.
     IllegalAt(u64),
 }
 
@@ -35,7 +37,9 @@ fn is_made(
     number: usize,
 ) -> bool
     requires { number < length events.now.briefs.now }
-    ensures { (e : EventOf) → slice_get (events_in events.now.briefs.now events.now.rises.now) number ≡ Some e → IsTrue result ↔ (made_by taken.now made.now ≡ Ok e) }
+    ensures { (e : EventOf) →
+        slice_get (events_in events.now.briefs.now events.now.rises.now) number ≡ Some e →
+        IsTrue result ↔ (made_by taken.now made.now ≡ Ok e) }
 {
     match taken {
         Ok(()) => events.is_event(number, made),
@@ -46,7 +50,8 @@ fn is_made(
 /// The verdict on these events by processors and a floor that made none.
 fn judge(processors: &mut Processors, floor: &mut PlainFloor, events: &Briefs<'_>) -> Verdict
     requires { AreAfter [] processors.old floor.old.script (view_of floor.old) }
-    ensures { IsVerdict processors.old.script processors.old.limit (events_in events.now.briefs.now events.now.rises.now) result }
+    ensures { IsVerdict processors.old.script processors.old.limit
+        (events_in events.now.briefs.now events.now.rises.now) result }
 {
     let mut made = no_event();
     for number in 0..events.briefs.len() {
@@ -62,10 +67,12 @@ fn judge(processors: &mut Processors, floor: &mut PlainFloor, events: &Briefs<'_
     }
 }
 
-/// Whether the history is a settled run of the script, and if not, where it goes wrong first. An error is want of memory.
+/// Whether the history is a settled run of the script, and if not, where it goes wrong first. An
+/// error is want of memory.
 ///
-/// The script fits, and the history's turn limit is 1 to 20,000 and at most 160,000 in all processors together. Nothing is asked of its
-/// events: one whose processor the script does not have is illegal there.
+/// The script fits, and the history's turn limit is 1 to 20,000 and at most 160,000 in all
+/// processors together. Nothing is asked of its events: one whose processor the script does not
+/// have is illegal there.
 pub fn check(alloc: Global, script: &Script, history: &History) -> Result<Verdict, AllocError>
     requires script { IsTrue (fits script.now) }
     requires turns { (1 ≤ history.now.turns) × (history.now.turns ≤ TURNS) }

@@ -3,7 +3,8 @@ use Rattle.std.proofs.Common.{ap, arith, inl, inr, subst, sym, ◌∙◌}
 use Rattle.std.proofs.lemmas.Bool.{eqb-true, ltb-false, ltb-true}
 use Rattle.std.specs.List.{list_all, list_any}
 use Rattle.std.specs.Option.{option_map_or, option_or}
-use Rattle.std.specs.Prelude.{Bool, List, None, Option, Some, [], cond, false, find, is_some, nat_lt, not, option_map, refl, suc, true, zero, ℕ, ◌&&◌, ◌+◌, ◌-◌, ◌<◌, ◌==◌, ◌||◌, ◌∷◌, ◌≡◌, ◌≤◌, ◌⊎◌}
+use Rattle.std.specs.Prelude.{Bool, List, None, Option, Some, [], cond, false, find, is_some, nat_lt, not, option_map, refl, suc, true, zero, ℕ, ◌&&◌, ◌+◌, ◌-◌}
+use Rattle.std.specs.Prelude.{◌<◌, ◌==◌, ◌||◌, ◌∷◌, ◌≡◌, ◌≤◌, ◌⊎◌}
 use Rattle.nt_event.specs.declared.events.Begun.TheVariants.{Int}
 use Rattle.nt_event.specs.declared.events.Event.{Event}
 use Rattle.nt_event.specs.declared.events.What.TheVariants.{Begin}
@@ -13,7 +14,8 @@ use Rattle.nt_event.specs.declared.jobs.Task.TheVariants.{Alone, Shared}
 use Rattle.nt_event.specs.declared.numbers.CpuNo.{CpuNo}
 use Rattle.nt_event.specs.declared.scripts.Script.{Script}
 use Rattle.nt_event.specs.Frames.{frames_of, innermost, own_frames}
-use Rattle.nt_event.specs.Jobs.{fire_task, interrupt_task, is_due, is_still, level_at, may_apcs, may_drain, may_interrupt, may_threaded, must, must_task, rests, spins_still, waits_for_lock}
+use Rattle.nt_event.specs.Jobs.{fire_task, interrupt_task, is_due, is_still, level_at, may_apcs, may_drain, may_interrupt, may_threaded, must, must_task, rests}
+use Rattle.nt_event.specs.Jobs.{spins_still, waits_for_lock}
 use Rattle.nt_event.specs.Classes.{interrupt_classes}
 use Rattle.nt_event.specs.Own.{Own, own_of, rested}
 use Rattle.nt_event.specs.Regions.{owes_sweep}

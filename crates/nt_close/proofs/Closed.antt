@@ -13,7 +13,8 @@ use Rattle.nt_event.specs.declared.numbers.CpuNo.{CpuNo}
 use Rattle.nt_event.specs.declared.numbers.DpcNo.{DpcNo}
 use Rattle.nt_event.specs.declared.numbers.ThreadNo.{ThreadNo}
 use Rattle.nt_event.specs.declared.scripts.Script.{Script}
-use Rattle.nt_event.specs.Eligible.{DpcRequest, ExpiryRequest, FlushRequest, IntRequest, KernelApcRequest, Request, ThreadedRequest, UserApcRequest, eligible, is_at_base, is_first_dpc}
+use Rattle.nt_event.specs.Eligible.{DpcRequest, ExpiryRequest, FlushRequest, IntRequest, KernelApcRequest, Request, ThreadedRequest, UserApcRequest, eligible}
+use Rattle.nt_event.specs.Eligible.{is_at_base, is_first_dpc}
 use Rattle.nt_event.specs.Classes.{is_interrupt_level}
 use Rattle.nt_event.specs.Frames.{frames_in, frames_of, is_base_body, is_on_thread, own_frames, thread_part}
 use Rattle.nt_event.specs.Jobs.{is_due, rests, spins_still}

@@ -19,7 +19,8 @@ use Rattle.nt_event.specs.declared.scripts.Script.{Script}
 use Rattle.nt_event.specs.Lanes.{lanes_at, object_at, queue_at}
 use Rattle.nt_event.specs.Objects.{ObjectState, inserted_dpc, object_in, objects_at, queue_for, used_up_dpc}
 use Rattle.nt_event.specs.Own.{own_of, rested}
-use Rattle.nt_event.specs.Queues.{QueueState, add_insert, depth_of, drop_insert, first_dpc, insert_asks, is_in, is_of_dpc, is_queue, left_queue, new_insert, pending, same_part, without_dpc}
+use Rattle.nt_event.specs.Queues.{QueueState, add_insert, depth_of, drop_insert, first_dpc, insert_asks, is_in, is_of_dpc, is_queue, left_queue, new_insert}
+use Rattle.nt_event.specs.Queues.{pending, same_part, without_dpc}
 use Rattle.nt_event.specs.Regions.{stand_at}
 use Rattle.nt_event.specs.Requests.{ask, ask_if, asks, dpc_asks, is_ask, queue_asks, serves, what_asks}
 use Rattle.nt_event.specs.Routines.{depth_limit, part_of}

@@ -34,7 +34,8 @@ use Rattle.nt_event.specs.Routines.{owner_of}
 use Rattle.nt_event.specs.Script.{has_thread}
 use Rattle.nt_event.specs.Step.{IsLegal, IsRun, thread_field}
 use Rattle.nt_event.specs.Threads.{ThreadFacts, start_facts}
-use Rattle.nt_event.specs.Waits.{alert_facts, alert_tested, expiry_facts, facts, frame_ended, insert_facts, is_of_thread, made_facts, named_facts, new_pick, release_facts, wait_reply, waited, waited_again}
+use Rattle.nt_event.specs.Waits.{alert_facts, alert_tested, expiry_facts, facts, frame_ended, insert_facts, is_of_thread, made_facts, named_facts, new_pick}
+use Rattle.nt_event.specs.Waits.{release_facts, wait_reply, waited, waited_again}
 use Rattle.nt_event.specs.Replies.{is_answer}
 use Rattle.nt_event.specs.Numbers.{is_by, is_of}
 use Rattle.nt_runs.proofs.Known.{Known, KnownCall, KnownRewait, again_known, legal_known, refusal_in, reply_or}

@@ -1,7 +1,8 @@
 -- At the close nothing is eligible on a processor that spins still.
 use Rattle.std.proofs.Common.{ap, arith, subst, sym, ◌∙◌}
 use Rattle.std.proofs.lemmas.Bool.{both_ways, ltb-true}
-use Rattle.std.specs.Prelude.{Bool, List, None, Option, Some, [], false, is_none, is_some, length, nat_lt, not, option_and_then, refl, true, ℕ, ◌&&◌, ◌==◌, ◌∷◌, ◌≡◌}
+use Rattle.std.specs.Prelude.{Bool, List, None, Option, Some, [], false, is_none, is_some, length, nat_lt, not, option_and_then, refl, true, ℕ, ◌&&◌, ◌==◌, ◌∷◌}
+use Rattle.std.specs.Prelude.{◌≡◌}
 use Rattle.nt_event.specs.declared.commands.Command.{Command}
 use Rattle.nt_event.specs.declared.commands.Command.TheVariants.{ToUser}
 use Rattle.nt_event.specs.declared.commands.Refusal.{Refusal}
@@ -13,7 +14,8 @@ use Rattle.nt_event.specs.declared.numbers.ThreadNo.{ThreadNo}
 use Rattle.nt_event.specs.declared.scripts.Script.{Script}
 use Rattle.nt_runs.proofs.Calm.{AllCalm, all_calm}
 use Rattle.nt_event.specs.Apcs.{ApcQueues, deliverable, first_kernel, lets_through}
-use Rattle.nt_event.specs.Eligible.{DpcRequest, ExpiryRequest, FlushRequest, IntRequest, KernelApcRequest, Request, ThreadedRequest, UserApcRequest, eligible, goes_to_user, is_apc_pick, is_at_base, is_at_touser}
+use Rattle.nt_event.specs.Eligible.{DpcRequest, ExpiryRequest, FlushRequest, IntRequest, KernelApcRequest, Request, ThreadedRequest, UserApcRequest, eligible}
+use Rattle.nt_event.specs.Eligible.{goes_to_user, is_apc_pick, is_at_base, is_at_touser}
 use Rattle.nt_runs.proofs.ThreadFrames.{Each}
 use Rattle.nt_runs.specs.Laws.{HasBase}
 use Rattle.nt_event.specs.Step.{IsRun}

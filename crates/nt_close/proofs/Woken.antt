@@ -30,7 +30,8 @@ use Rattle.nt_event.specs.Requests.{ask, ask_if, asks, is_ask, what_asks}
 use Rattle.nt_event.specs.Routines.{cpu_of, is_kernel_kind, kind_of, owner_of}
 use Rattle.nt_event.specs.Script.{has_thread}
 use Rattle.nt_event.specs.Step.{IsLegal}
-use Rattle.nt_event.specs.Threads.{ThreadFacts, ended, ends_by_alert, ends_by_apc, ends_by_expiry, ends_by_release, ends_by_user, is_alerted, is_gone, is_ready, set_alerted, waiting}
+use Rattle.nt_event.specs.Threads.{ThreadFacts, ended, ends_by_alert, ends_by_apc, ends_by_expiry, ends_by_release, ends_by_user, is_alerted, is_gone, is_ready}
+use Rattle.nt_event.specs.Threads.{set_alerted, waiting}
 use Rattle.nt_event.specs.Waits.{alert_facts, expiry_facts, facts, insert_facts, named_facts, new_pick, release_facts}
 use Rattle.nt_event.specs.Replies.{alerted, is_answer, is_refused, kernel_apc, satisfied, user_apc, yes_if}
 use Rattle.nt_runs.proofs.Known.{Known, KnownCall, legal_known}

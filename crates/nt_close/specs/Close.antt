@@ -115,5 +115,7 @@ pub record IsHeldElsewhere (s : Script) (limit : ℕ) (p : CpuNo) (k : LockNo) (
 
 -- where a frame of it spins on a lock of the script, the lock is held elsewhere
 abbrev pub SpunLocksAreHeldElsewhere : Type 0
-SpunLocksAreHeldElsewhere = (s : Script) (limit : ℕ) (p : CpuNo) (k : LockNo) (past : List Event) →
-    IsClosed s limit p past → k.0 < s.locks → some_frame (spins_lock k) s p past ≡ true → IsHeldElsewhere s limit p k past
+SpunLocksAreHeldElsewhere =
+    (s : Script) (limit : ℕ) (p : CpuNo) (k : LockNo) (past : List Event) → IsClosed s limit p past → k.0 < s.locks →
+    some_frame (spins_lock k) s p past ≡ true →
+    IsHeldElsewhere s limit p k past

@@ -1,5 +1,5 @@
--- The record that contracts see of the machine's fields, and what holds of them: the history is a run, the processors and
--- the floor follow it, and there is room for all events.
+-- The record that contracts see of the machine's fields, and what holds of them: the history is a run, the processors
+-- and the floor follow it, and there is room for all events.
 use Rattle.std.specs.Prelude.{reverse, ◌*◌, ◌≤◌}
 use Rattle.nt_cpus.specs.Following.{AreAfter}
 use Rattle.nt_plain.specs.States.{view_of}

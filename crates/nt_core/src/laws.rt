@@ -1,7 +1,8 @@
 //! Laws of replays and of robin runs. Each function's contract is a law; the functions do nothing.
 ghost use Rattle.nt_core.specs.Laws.{OneRobinRun, ReplaysAreRuns, RunsReplay};
 
-/// A replay of turns gives a history exactly where the turns are those of the history, and it is a settled run.
+/// A replay of turns gives a history exactly where the turns are those of the history, and it is a
+/// settled run.
 pub fn replays_are_runs()
     ensures { ReplaysAreRuns }
 {}

@@ -1,9 +1,11 @@
 //! The pure machine: a history that grows by turns, the robin rule, runs, and replays of turns.
 //!
-//! A [`Core`] keeps the history of a script so far, and takes one [`Turn`](nt_event::Turn) after another; [`Core::robin`] names the
-//! turn of the robin rule. [`run`] makes the run of that rule, and [`replay`] the run that a list of turns stands for.
+//! A [`Core`] keeps the history of a script so far, and takes one [`Turn`](nt_event::Turn) after
+//! another; [`Core::robin`] names the turn of the robin rule. [`run`] makes the run of that rule,
+//! and [`replay`] the run that a list of turns stands for.
 //!
-//! Contracts see a `Core` as a `CoreState`: the script, the turn limit, and the history, its newest event first.
+//! Contracts see a `Core` as a `CoreState`: the script, the turn limit, and the history, its newest
+//! event first.
 #![tactic(auto)]
 
 mod laws;

@@ -1,5 +1,6 @@
 //! The machine.
-ghost use Rattle.std.specs.Prelude.{◌≡◌, ◌≤◌, ◌*◌, [], Err, IfErr, IfOk, IsTrue, Ok, OnErr, OnOk, length, reverse};
+ghost use Rattle.std.specs.Prelude.{◌≡◌, ◌≤◌, ◌*◌, [], Err, IfErr, IfOk, IsTrue, Ok, OnErr, OnOk};
+ghost use Rattle.std.specs.Prelude.{length, reverse};
 ghost use Rattle.nt_event.specs.Script.{fits};
 ghost use Rattle.nt_event.specs.Step.{IsRun, step};
 ghost use Rattle.nt_cpus.specs.Cycles.{last_cpu};
@@ -36,7 +37,8 @@ impl<'s> Model for Core<'s> {
 }
 
 impl<'s> Core<'s> {
-    /// A machine of the script with an empty history, where each processor may make this many events. All memory is taken here.
+    /// A machine of the script with an empty history, where each processor may make this many
+    /// events. All memory is taken here.
     ///
     /// The script fits, and `turns` is 1 to 20,000 and at most 160,000 in all processors together.
     #[tactic(auto, using(crate::proofs::Starting::start_sound))]
@@ -65,14 +67,19 @@ impl<'s> Core<'s> {
         let _events = self.events.len();
     }
 
-    /// Takes the turn: makes its event, or answers why there is none; then nothing changed. No memory is taken.
+    /// Takes the turn: makes its event, or answers why there is none; then nothing changed. No
+    /// memory is taken.
     ///
-    /// NoSuchCpu comes where the script does not have the processor. NothingToDo comes where the processor made as many events as it
-    /// may, and for a turn Next where it rests, spins still or has to choose a thread; BadLook where no value rises, or one is not above what
-    /// was seen or was not asked for; BadChoice where the thread cannot be taken up or no choice may be made.
+    /// NoSuchCpu comes where the script does not have the processor. NothingToDo comes where the
+    /// processor made as many events as it may, and for a turn Next where it rests, spins still or
+    /// has to choose a thread; BadLook where no value rises, or one is not above what was seen or
+    /// was not asked for; BadChoice where the thread cannot be taken up or no choice may be made.
     pub fn turn(&mut self, turn: Turn) -> Result<Event, CoreRefusal>
-        ensures ok { IfOk result (λ e. (step self.old.script self.old.limit turn self.old.past ≡ Ok e) × (self.new ≡ with_event e self.old)) }
-        ensures err { IfErr result (λ r. step self.old.script self.old.limit turn self.old.past ≡ Err (kind_of r)) }
+        ensures ok { IfOk result (λ e.
+            (step self.old.script self.old.limit turn self.old.past ≡ Ok e) ×
+            (self.new ≡ with_event e self.old)) }
+        ensures err { IfErr result
+            (λ r. step self.old.script self.old.limit turn self.old.past ≡ Err (kind_of r)) }
         ensures same { OnErr result (self.new ≡ self.old) }
     {
         let mut event = no_event();
@@ -85,8 +92,11 @@ impl<'s> Core<'s> {
     /// Takes the turn as [`Core::turn`] does, and writes its event where the caller keeps it too.
     #[inline(always)]
     pub(crate) fn make(&mut self, turn: &Turn, event: &mut Event) -> Result<(), CoreRefusal>
-        ensures ok { OnOk result ((step self.old.script self.old.limit turn.now self.old.past ≡ Ok event.new) × (self.new ≡ with_event event.new self.old)) }
-        ensures err { IfErr result (λ r. step self.old.script self.old.limit turn.now self.old.past ≡ Err (kind_of r)) }
+        ensures ok { OnOk result
+            ((step self.old.script self.old.limit turn.now self.old.past ≡ Ok event.new) ×
+            (self.new ≡ with_event event.new self.old)) }
+        ensures err { IfErr result
+            (λ r. step self.old.script self.old.limit turn.now self.old.past ≡ Err (kind_of r)) }
         ensures same { OnErr result (self.new ≡ self.old) }
     {
         match self.processors.turn(&mut self.floor, turn, event) {

@@ -27,8 +27,9 @@ impl<'s> Core<'s> {
 
 /// The run that a list of turns stands for, where each processor may make this many events.
 ///
-/// The script fits, and `turns` is 1 to 20,000 and at most 160,000 in all processors together. The first turn that is refused is told
-/// with its place, from 0, and its kind; Unfinished comes where all turns were taken and the history isn't settled, with their number.
+/// The script fits, and `turns` is 1 to 20,000 and at most 160,000 in all processors together. The
+/// first turn that is refused is told with its place, from 0, and its kind; Unfinished comes where
+/// all turns were taken and the history isn't settled, with their number.
 pub fn replay(
     alloc: Global,
     script: &Script,

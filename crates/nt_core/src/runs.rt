@@ -14,13 +14,16 @@ use nt_history::History;
 use std::alloc::{AllocError, Global};
 
 impl<'s> Core<'s> {
-    /// Makes the event of the robin rule, where the last event is that of this processor, and writes it; false where the rule has
-    /// no turn, and then nothing changed.
+    /// Makes the event of the robin rule, where the last event is that of this processor, and
+    /// writes it; false where the rule has no turn, and then nothing changed.
     #[inline(always)]
     fn go_on(&mut self, last: Option<CpuNo>, event: &mut Event) -> bool
         requires { last ≡ last_cpu self.old.past }
-        ensures event { result ≡ true → (robin_in self.old.script self.old.limit self.old.past ≡ Some (turn_of event.new)) × (self.new ≡ with_event event.new self.old) }
-        ensures none { result ≡ false → (robin_in self.old.script self.old.limit self.old.past ≡ None) × (self.new ≡ self.old) }
+        ensures event { result ≡ true →
+            (robin_in self.old.script self.old.limit self.old.past ≡ Some (turn_of event.new)) ×
+            (self.new ≡ with_event event.new self.old) }
+        ensures none { result ≡ false →
+            (robin_in self.old.script self.old.limit self.old.past ≡ None) × (self.new ≡ self.old) }
     {
         if !self.processors.go_on(&mut self.floor, last, event) {
             return false;
@@ -30,9 +33,11 @@ impl<'s> Core<'s> {
     }
 }
 
-/// The run of the script by the robin rule, to its end, where each processor may make this many events.
+/// The run of the script by the robin rule, to its end, where each processor may make this many
+/// events.
 ///
-/// The script fits, and `turns` is 1 to 20,000 and at most 160,000 in all processors together. Memory is taken before the first event.
+/// The script fits, and `turns` is 1 to 20,000 and at most 160,000 in all processors together.
+/// Memory is taken before the first event.
 pub fn run(alloc: Global, script: &Script, turns: u32) -> Result<History, AllocError>
     requires script { IsTrue (fits script.now) }
     requires turns { (1 ≤ turns) × (turns ≤ TURNS) }

@@ -22,7 +22,9 @@ use Rattle.nt_event.specs.Lists.{is_null}
 use Rattle.nt_frame.specs.Changes.{at_innermost, begun, closed, taken, without_innermost}
 use Rattle.nt_frame.specs.Nesting.{AreNested}
 use Rattle.nt_frame.specs.Rules.{is_at_base, may_go_on}
-use Rattle.nt_frame.proofs.After.{after_apc, after_call, after_clean, after_dpc, after_end, after_end_base, after_expire, after_fire, after_first_switch, after_flush, after_free, after_gone, after_int, after_look, after_normal, after_rest, after_rewait, after_rundown, after_switch, after_threaded}
+use Rattle.nt_frame.proofs.After.{after_apc, after_call, after_clean, after_dpc, after_end, after_end_base, after_expire, after_fire, after_first_switch}
+use Rattle.nt_frame.proofs.After.{after_flush, after_free, after_gone, after_int, after_look, after_normal, after_rest, after_rewait, after_rundown}
+use Rattle.nt_frame.proofs.After.{after_switch, after_threaded}
 use Rattle.nt_frame.proofs.Events.{IsOurs}
 use Rattle.nt_cpu.specs.Fits.{IsAt, body_of}
 use Rattle.nt_cpu.proofs.FramesLeft.{call_runs}

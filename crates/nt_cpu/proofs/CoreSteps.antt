@@ -3,11 +3,13 @@ use Rattle.std.proofs.Common.{ap, arith, inl, inr, sym, ◌∙◌}
 use Rattle.std.proofs.lemmas.Bool.Decides.{nat_tests}
 use Rattle.std.proofs.lemmas.List.Elements.{All-from_get_or}
 use Rattle.std.specs.List.{list_any}
-use Rattle.std.specs.Prelude.{Bool, Err, List, None, Ok, Option, Result, Some, [], false, if◌then◌else◌, length, nat_lt, not, option_and_then, option_map, refl, suc, true, ℕ, ◌&&◌, ◌<◌, ◌==◌, ◌||◌, ◌∷◌, ◌≡◌, ◌≤◌}
+use Rattle.std.specs.Prelude.{Bool, Err, List, None, Ok, Option, Result, Some, [], false, if◌then◌else◌, length, nat_lt, not, option_and_then, option_map, refl}
+use Rattle.std.specs.Prelude.{suc, true, ℕ, ◌&&◌, ◌<◌, ◌==◌, ◌||◌, ◌∷◌, ◌≡◌, ◌≤◌}
 use Rattle.nt_event.specs.declared.events.Event.{Event}
 use Rattle.nt_event.specs.declared.events.Rises.{Rises}
 use Rattle.nt_event.specs.declared.events.ScheduleKind.{ScheduleKind}
-use Rattle.nt_event.specs.declared.events.ScheduleKind.TheVariants.{BadChoice as BadChoiceKind, BadLook as BadLookKind, NoSuchCpu, NothingToDo as NothingToDoKind}
+use Rattle.nt_event.specs.declared.events.ScheduleKind.TheVariants.{BadChoice as BadChoiceKind, BadLook as BadLookKind, NoSuchCpu}
+use Rattle.nt_event.specs.declared.events.ScheduleKind.TheVariants.{NothingToDo as NothingToDoKind}
 use Rattle.nt_event.specs.declared.events.Turn.{Turn}
 use Rattle.nt_event.specs.declared.events.Turn.TheVariants.{Look as LookTurn, Next, Switch as SwitchTurn}
 use Rattle.nt_event.specs.declared.events.What.{What}

@@ -2,7 +2,8 @@
 use Rattle.std.proofs.Common.{ap, arith, ◌∙◌, ◌∷◌, [], List}
 use Rattle.std.proofs.lemmas.Bool.Decides.{nat_tests}
 use Rattle.std.specs.Option.{option_map_or, option_or}
-use Rattle.std.specs.Prelude.{Bool, IfSome, IsTrue, None, Option, Some, false, find, if◌then◌else◌, is_none, is_some, not, option_and_then, option_map, refl, true, ℕ, ◌&&◌, ◌-◌, ◌<◌, ◌||◌, ◌≡◌}
+use Rattle.std.specs.Prelude.{Bool, IfSome, IsTrue, None, Option, Some, false, find, if◌then◌else◌, is_none, is_some, not, option_and_then, option_map, refl}
+use Rattle.std.specs.Prelude.{true, ℕ, ◌&&◌, ◌-◌, ◌<◌, ◌||◌, ◌≡◌}
 use Rattle.nt_event.specs.declared.commands.ApcKind.TheVariants.{User as UserApc}
 use Rattle.nt_event.specs.declared.commands.Command.{Command}
 use Rattle.nt_event.specs.declared.commands.Command.TheVariants.{Acquire, Delay, Interrupt, LeaveCrit, LeaveGuard, StartWait, ToUser}
@@ -15,7 +16,8 @@ use Rattle.nt_event.specs.declared.frames.Body.{Body}
 use Rattle.nt_event.specs.declared.frames.Body.TheVariants.{Apc as OnApc, Base as OnBase}
 use Rattle.nt_event.specs.declared.frames.Held.{Held}
 use Rattle.nt_event.specs.Frame.{Frame}
-use Rattle.nt_event.specs.declared.jobs.Job.TheVariants.{Apcs as ApcsJob, Call as CallJob, Drain as DrainJob, Fire as FireJob, Free as FreeJob, Rundown as RundownJob}
+use Rattle.nt_event.specs.declared.jobs.Job.TheVariants.{Apcs as ApcsJob, Call as CallJob, Drain as DrainJob, Fire as FireJob, Free as FreeJob}
+use Rattle.nt_event.specs.declared.jobs.Job.TheVariants.{Rundown as RundownJob}
 use Rattle.nt_event.specs.declared.jobs.Stand.{Stand}
 use Rattle.nt_event.specs.declared.jobs.Task.{Task}
 use Rattle.nt_event.specs.declared.jobs.Task.TheVariants.{Alone, Shared}
@@ -24,7 +26,9 @@ use Rattle.nt_event.specs.declared.numbers.DpcNo.{DpcNo}
 use Rattle.nt_event.specs.declared.scripts.Script.{Script}
 use Rattle.nt_event.specs.Commands.{needs_lane, refusal}
 use Rattle.nt_event.specs.Frames.{Frames, innermost, thread_part}
-use Rattle.nt_event.specs.Jobs.{call_task, command_task, end_task, fire_task, frame_task, free_task, go_on_task, has_normal, idle_task, interrupt_task, is_due, level_at, may_apcs, may_drain, may_interrupt, may_threaded, must_task, normal_task, rewait_task, rundown_task, task, waits_for_lock}
+use Rattle.nt_event.specs.Jobs.{call_task, command_task, end_task, fire_task, frame_task, free_task, go_on_task, has_normal, idle_task, interrupt_task, is_due}
+use Rattle.nt_event.specs.Jobs.{level_at, may_apcs, may_drain, may_interrupt, may_threaded, must_task, normal_task, rewait_task, rundown_task, task}
+use Rattle.nt_event.specs.Jobs.{waits_for_lock}
 use Rattle.nt_event.specs.Classes.{interrupt_classes, is_requested_level, lock_class}
 use Rattle.nt_event.specs.Own.{Own, stand_in}
 use Rattle.nt_event.specs.Regions.{regions_of}

@@ -3,7 +3,8 @@ use Rattle.std.proofs.Common.{ap, sym, ◌∙◌}
 use Rattle.std.proofs.lemmas.List.{get_or-set_same}
 use Rattle.std.specs.Prelude.{Bool, IsSome, List, None, Option, Some, [], false, get_or, if◌then◌else◌, is_none, option_map, refl, true, ℕ, ◌<◌, ◌∷◌, ◌≡◌}
 use Rattle.nt_event.specs.declared.commands.Command.{Command}
-use Rattle.nt_event.specs.declared.commands.Command.TheVariants.{Acquire, Delay, EnterCrit, EnterGuard, LeaveCrit, LeaveGuard, Lower, Raise, StartWait, Unlock, Yield}
+use Rattle.nt_event.specs.declared.commands.Command.TheVariants.{Acquire, Delay, EnterCrit, EnterGuard, LeaveCrit, LeaveGuard, Lower, Raise, StartWait, Unlock}
+use Rattle.nt_event.specs.declared.commands.Command.TheVariants.{Yield}
 use Rattle.nt_event.specs.declared.commands.Reply.{Reply}
 use Rattle.nt_event.specs.declared.commands.Reply.TheVariants.{Blocked, Done, No, Refused, Spin, Status, Yes}
 use Rattle.nt_event.specs.declared.frames.Again.{Again}
@@ -202,9 +203,9 @@ place_changed due c y x z n h e b f k =
     go (Some g) q i =
         let j : effect_made due c y g ≡ f = cc in rw (← j, made_place due c y g) (b g q)
 
-pub called_stopped : (due : Option ℕ) (c : Command) (y : Reply) (x a b d : Frames) → AreNested x → is_spin y ≡ false → a ≡ at_innermost (effect_made due c y) x → b
-    ≡ at_innermost advanced a → d ≡ record b { running = None } → stops c y ≡ true → d
-    ≡ record (at_innermost (called due c y) x) { running = running_after (Call 0 c y) x.running }
+pub called_stopped : (due : Option ℕ) (c : Command) (y : Reply) (x a b d : Frames) → AreNested x → is_spin y ≡ false →
+    a ≡ at_innermost (effect_made due c y) x → b ≡ at_innermost advanced a → d ≡ record b { running = None } → stops c y ≡ true →
+    d ≡ record (at_innermost (called due c y) x) { running = running_after (Call 0 c y) x.running }
 called_stopped due c y x a b d h i p q r t =
     r
     ∙ ap (λ (z : Frames). record z { running = None }) (q ∙ (ap (at_innermost advanced) p ∙ then_advanced due c y x h i))
@@ -225,7 +226,8 @@ spun_goes Yield Spin h = refl
 spun_goes c Spin h = refl
 spun_goes c y h = absurd (cc)
 
-pub called_spins : (due : Option ℕ) (c : Command) (y : Reply) (x a : Frames) → is_spin y ≡ true → may_reply c y ≡ true → a ≡ at_innermost (effect_made due c y) x →
+pub called_spins : (due : Option ℕ) (c : Command) (y : Reply) (x a : Frames) → is_spin y ≡ true → may_reply c y ≡ true →
+    a ≡ at_innermost (effect_made due c y) x →
     a ≡ record (at_innermost (called due c y) x) { running = running_after (Call 0 c y) x.running }
 called_spins due c y x a h r p =
     p

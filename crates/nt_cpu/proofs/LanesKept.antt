@@ -2,7 +2,8 @@
 use Rattle.std.proofs.Common.{ap, ◌∙◌}
 use Rattle.std.specs.Prelude.{Bool, List, None, Option, Some, false, if◌then◌else◌, length, refl, true, ℕ, ◌==◌, ◌≡◌}
 use Rattle.nt_event.specs.declared.commands.ApcKind.TheVariants.{User as UserApc}
-use Rattle.nt_event.specs.declared.commands.Command.TheVariants.{Acquire, Alert, CancelTimer, Clock, Delay, InsertApc, Queue, Release, RemoveApc, SetImportance, SetTarget, SetTimer, StartWait, TestAlert, Unlock, Unqueue, Yield}
+use Rattle.nt_event.specs.declared.commands.Command.TheVariants.{Acquire, Alert, CancelTimer, Clock, Delay, InsertApc, Queue, Release, RemoveApc, SetImportance}
+use Rattle.nt_event.specs.declared.commands.Command.TheVariants.{SetTarget, SetTimer, StartWait, TestAlert, Unlock, Unqueue, Yield}
 use Rattle.nt_event.specs.declared.commands.Importance.{Importance}
 use Rattle.nt_event.specs.declared.commands.Reply.TheVariants.{Blocked, Done, No, Spin, Status, Yes}
 use Rattle.nt_event.specs.declared.commands.TimerKey.TheVariants.{Delay as OfDelay, Timer as OfTimer}

@@ -1,7 +1,8 @@
 -- A processor that chooses its threads itself never has the job Idle, nor a Switch of a given thread.
 use Rattle.std.proofs.Common.{ap, inl, inr, subst, ◌∙◌}
 use Rattle.std.specs.Option.{option_map_or, option_or}
-use Rattle.std.specs.Prelude.{Bool, List, None, Option, Some, [], false, find, if◌then◌else◌, is_none, is_some, not, option_and_then, refl, true, ℕ, ◌&&◌, ◌-◌, ◌||◌, ◌∷◌, ◌≡◌}
+use Rattle.std.specs.Prelude.{Bool, List, None, Option, Some, [], false, find, if◌then◌else◌, is_none, is_some, not, option_and_then, refl, true, ℕ, ◌&&◌, ◌-◌}
+use Rattle.std.specs.Prelude.{◌||◌, ◌∷◌, ◌≡◌}
 use Rattle.nt_event.specs.declared.commands.ApcKind.TheVariants.{User as UserApc}
 use Rattle.nt_event.specs.declared.commands.Command.{Command}
 use Rattle.nt_event.specs.declared.commands.Command.TheVariants.{ToUser}
@@ -13,7 +14,9 @@ use Rattle.nt_event.specs.declared.frames.Body.{Body}
 use Rattle.nt_event.specs.declared.frames.Body.TheVariants.{Apc as OnApc, Base as OnBase}
 use Rattle.nt_event.specs.Frame.{Frame}
 use Rattle.nt_event.specs.declared.jobs.Job.{Job}
-use Rattle.nt_event.specs.declared.jobs.Job.TheVariants.{Apcs as ApcsJob, Call as CallJob, Drain as DrainJob, Fire as FireJob, Free as FreeJob, Idle as IdleJob, Pick as PickJob, Rewait as RewaitJob, Rundown as RundownJob, Switch as SwitchJob, Threaded as ThreadedJob}
+use Rattle.nt_event.specs.declared.jobs.Job.TheVariants.{Apcs as ApcsJob, Call as CallJob, Drain as DrainJob, Fire as FireJob, Free as FreeJob, Idle as IdleJob}
+use Rattle.nt_event.specs.declared.jobs.Job.TheVariants.{Pick as PickJob, Rewait as RewaitJob, Rundown as RundownJob, Switch as SwitchJob}
+use Rattle.nt_event.specs.declared.jobs.Job.TheVariants.{Threaded as ThreadedJob}
 use Rattle.nt_event.specs.declared.jobs.Stand.{Stand}
 use Rattle.nt_event.specs.declared.jobs.Task.{Task}
 use Rattle.nt_event.specs.declared.jobs.Task.TheVariants.{Alone, Shared}
@@ -23,7 +26,9 @@ use Rattle.nt_event.specs.declared.scripts.Script.{Script}
 use Rattle.nt_event.specs.Acting.{IsDue, is_choice}
 use Rattle.nt_event.specs.Commands.{needs_lane, refusal}
 use Rattle.nt_event.specs.Frames.{Frames, frames_in, innermost, thread_part}
-use Rattle.nt_event.specs.Jobs.{call_task, chosen_task, command_task, end_task, fire_task, frame_task, free_task, go_on_task, has_normal, idle_task, interrupt_task, is_still, level_at, may_apcs, may_drain, may_interrupt, may_switch, may_threaded, must, must_task, normal_task, rests, rewait_task, rundown_task, spins_still, task, waits_for_lock}
+use Rattle.nt_event.specs.Jobs.{call_task, chosen_task, command_task, end_task, fire_task, frame_task, free_task, go_on_task, has_normal, idle_task}
+use Rattle.nt_event.specs.Jobs.{interrupt_task, is_still, level_at, may_apcs, may_drain, may_interrupt, may_switch, may_threaded, must, must_task, normal_task}
+use Rattle.nt_event.specs.Jobs.{rests, rewait_task, rundown_task, spins_still, task, waits_for_lock}
 use Rattle.nt_event.specs.Classes.{interrupt_classes}
 use Rattle.nt_event.specs.Own.{Own}
 use Rattle.nt_event.specs.Regions.{regions_of}
@@ -188,12 +193,14 @@ still_waiting x w a =
 pub none_still : (c : CpuState) → IsSound c → chosen_task c.script c.cpu c.own ≡ None → is_still c.own ≡ true
 none_still c h e = resting (is_still c.own) refl e
   where
-    resting : (b : Bool) → is_still c.own ≡ b → (if b then None else (if may_switch c.own then Some (Shared (PickJob c.own.took)) else task c.script c.cpu c.own))
-        ≡ None → is_still c.own ≡ true
+    resting : (b : Bool) → is_still c.own ≡ b →
+        (if b then None else (if may_switch c.own then Some (Shared (PickJob c.own.took)) else task c.script c.cpu c.own)) ≡ None →
+        is_still c.own ≡ true
     resting true r q = r
     resting false r q = choosing (may_switch c.own) refl q
       where
-        choosing : (b : Bool) → may_switch c.own ≡ b → (if b then Some (Shared (PickJob c.own.took)) else task c.script c.cpu c.own) ≡ None → is_still c.own ≡ true
+        choosing : (b : Bool) → may_switch c.own ≡ b → (if b then Some (Shared (PickJob c.own.took)) else task c.script c.cpu c.own) ≡ None →
+            is_still c.own ≡ true
         choosing true m q = absurd cc
         choosing false m q = absurd (busy (must_task c.own) refl q)
           where

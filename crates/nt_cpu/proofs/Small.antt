@@ -4,7 +4,8 @@ use Rattle.std.proofs.lemmas.Bool.Decides.{nat_tests}
 use Rattle.std.proofs.lemmas.List.{get_or_past}
 use Rattle.std.proofs.lemmas.List.Sums.{sum_by-cons}
 use Rattle.std.proofs.lemmas.List.Elements.{All-cons, All-from_get_or, All-head, All-nil, All-tail, All-weaker}
-use Rattle.std.specs.Prelude.{All, Bool, IfSome, List, None, Option, Some, [], false, get_or, if◌then◌else◌, length, nat_lt, refl, true, ℕ, ◌+◌, ◌<◌, ◌==◌, ◌^◌, ◌∷◌, ◌≡◌, ◌≤◌}
+use Rattle.std.specs.Prelude.{All, Bool, IfSome, List, None, Option, Some, [], false, get_or, if◌then◌else◌, length, nat_lt, refl, true, ℕ, ◌+◌, ◌<◌, ◌==◌, ◌^◌}
+use Rattle.std.specs.Prelude.{◌∷◌, ◌≡◌, ◌≤◌}
 use Rattle.nt_event.specs.declared.commands.Command.{Command}
 use Rattle.nt_event.specs.declared.commands.Command.TheVariants.{Acquire, Delay, EnterCrit, EnterGuard, LeaveCrit, LeaveGuard, Lower, Raise, StartWait, Unlock}
 use Rattle.nt_event.specs.declared.commands.Reply.{Reply}
@@ -21,7 +22,9 @@ use Rattle.nt_event.specs.declared.numbers.ApcNo.{ApcNo}
 use Rattle.nt_event.specs.declared.numbers.RoutineNo.{RoutineNo}
 use Rattle.nt_event.specs.declared.numbers.ThreadNo.{ThreadNo}
 use Rattle.nt_event.specs.declared.scripts.Script.{Script}
-use Rattle.nt_event.specs.Frames.{Frames, again_after, at_name, called, done_to, effect, end_on_thread, ended_on_thread, flushed, frames_after, frames_in, freed, held_moved, is_base_body, ended_base, new_frame, normal_of, own_after, resumed, rewaited, spin_moved, switched_to, thread_after, thread_if, without}
+use Rattle.nt_event.specs.Frames.{Frames, again_after, at_name, called, done_to, effect, end_on_thread, ended_on_thread, flushed, frames_after, frames_in}
+use Rattle.nt_event.specs.Frames.{freed, held_moved, is_base_body, ended_base, new_frame, normal_of, own_after, resumed, rewaited, spin_moved, switched_to}
+use Rattle.nt_event.specs.Frames.{thread_after, thread_if, without}
 use Rattle.nt_event.specs.Regions.{crit_of, guard_of}
 use Rattle.nt_event.specs.Routines.{rundown_of}
 use Rattle.nt_event.specs.Numbers.{is_by, thread}
@@ -67,7 +70,8 @@ module _ (m₀ : ℕ) where
   place_fits true n k h = omega arith
   place_fits false n k h = omega arith
 
-  done_grows : (c : Command) (f : Frame) → DueFits f.again → DueFits (done_to c f).again × ((done_to c f).crit ≤ f.crit + 1) × ((done_to c f).guard ≤ f.guard + 1)
+  done_grows : (c : Command) (f : Frame) → DueFits f.again →
+      DueFits (done_to c f).again × ((done_to c f).crit ≤ f.crit + 1) × ((done_to c f).guard ≤ f.guard + 1)
   done_grows (Raise l) f h = (h, omega arith, omega arith)
   done_grows (Lower l) f h = (h, omega arith, omega arith)
   done_grows EnterCrit f h = (h, omega arith, omega arith)
@@ -117,7 +121,8 @@ module _ (m₀ : ℕ) where
 
   freed_grows : (n : ℕ) (f : Frame) → IsSmall m₀ n f → Grows m₀ n f (freed f)
   freed_grows n f h =
-      let p = h.place in record { small = record { held = tail_below f.held h.held; spin = h.spin; place = omega arith; due = h.due }; crit = omega arith; guard = omega arith }
+      let p = h.place in
+      record { small = record { held = tail_below f.held h.held; spin = h.spin; place = omega arith; due = h.due }; crit = omega arith; guard = omega arith }
 
   rewaited_grows : (n : ℕ) (y : Reply) (f : Frame) → IsSmall m₀ n f → Grows m₀ n f (rewaited y f)
   rewaited_grows n y f h =
@@ -279,7 +284,8 @@ module _ (m₀ : ℕ) where
   small_part s n m due (Gone t) fs d l h = part_nil (n + 1)
   small_part s n m due _ fs d l h = part_more n fs h
 
-  small_if : (b : Bool) (s : Script) (n m : ℕ) (due : Option ℕ) (w : What) (fs : List Frame) → IfSome due (λ d. d < 2 ^ 51) → LockFits m₀ w → IsSmallPart m₀ n fs →
+  small_if : (b : Bool) (s : Script) (n m : ℕ) (due : Option ℕ) (w : What) (fs : List Frame) → IfSome due (λ d. d < 2 ^ 51) → LockFits m₀ w →
+      IsSmallPart m₀ n fs →
       IsSmallPart m₀ (n + 1) (thread_if b s m due w fs)
   small_if true s n m due w fs d l h = small_part s n m due w fs d l h
   small_if false s n m due w fs d l h = part_more n fs h
@@ -297,8 +303,10 @@ module _ (m₀ : ℕ) where
       AreSmall m₀ (n + 1) (frames_after s m due e x)
   small_after s n m due e x d l h = record {
     own = small_own n m due e.what x.own d l h.own;
-    threads = All-from_get_or (IsSmallPart m₀ (n + 1)) _ [] (λ i b. let k : i < length s.threads = omega
-        (arith, length-table_from {A = List Frame} 0 (length s.threads) (λ t. thread_if (is_by e (thread t)) s m due e.what (frames_in x.threads (thread t)))) in
+    threads = All-from_get_or (IsSmallPart m₀ (n + 1)) _ [] (λ i b. let k : i < length s.threads = omega (
+      arith,
+      length-table_from {A = List Frame} 0 (length s.threads) (λ t. thread_if (is_by e (thread t)) s m due e.what (frames_in x.threads (thread t))),
+    ) in
         rw (get_or-table {A = List Frame} (length s.threads) i (λ t. thread_if (is_by e (thread t)) s m due e.what (frames_in x.threads (thread t))) [] k)
         (small_if (is_by e (thread i)) s n m due e.what (get_or x.threads i []) d l (part_of n x.threads i h.threads)));
   }

@@ -55,10 +55,12 @@ innermost_small m n x f h k = go x.own refl k
 
 -- the record of what is left, field by field
 pub left_is : (c : CpuState) (n : ℕ) (due : Option ℕ) (e : Event) (fs : Frames) (served : List ℕ) (rested : Bool) (took : Option ThreadNo)
-    (fire : Option DpcNo) (sweep : Bool) → length c.own.seen ≡ 16 → fs ≡ frames_after c.script n due e c.own.frames → served
-    ≡ table 16 (λ k. served_after e.what k (value_at c.own.seen k) (value_at c.own.served k)) → rested ≡ is_rest e.what → took ≡ took_after e.what c.own.took → fire
-    ≡ fire_after c.script e.what c.own.fire → sweep ≡ sweep_after e.what c.own.sweep →
-    record c { own = record { made = c.own.made + 1; frames = fs; seen = c.own.seen; served = served; rested = rested; took = took; fire = fire; sweep = sweep } }
+    (fire : Option DpcNo) (sweep : Bool) → length c.own.seen ≡ 16 → fs ≡ frames_after c.script n due e c.own.frames →
+    served ≡ table 16 (λ k. served_after e.what k (value_at c.own.seen k) (value_at c.own.served k)) → rested ≡ is_rest e.what →
+    took ≡ took_after e.what c.own.took → fire ≡ fire_after c.script e.what c.own.fire → sweep ≡ sweep_after e.what c.own.sweep →
+    record c {
+      own = record { made = c.own.made + 1; frames = fs; seen = c.own.seen; served = served; rested = rested; took = took; fire = fire; sweep = sweep };
+    }
     ≡ record c { own = own_with c.script n due e (λ k. value_at c.own.seen k) c.own }
 left_is c n due e fs served rested took fire sweep l a d r t f w =
     λ i. record c { own = record { made = c.own.made + 1; frames = a i; seen = seen i; served = d i; rested = r i; took = t i; fire = f i; sweep = w i } }

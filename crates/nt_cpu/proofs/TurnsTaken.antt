@@ -1,6 +1,7 @@
 -- What a turn gives.
 use Rattle.std.proofs.Common.{ap, arith, inl, inr, subst, sym, ◌∙◌}
-use Rattle.std.specs.Prelude.{Bool, Err, None, Ok, Option, Some, false, if◌then◌else◌, nat_lt, not, option_and_then, option_map, refl, suc, true, zero, ℕ, ◌&&◌, ◌<◌, ◌==◌, ◌||◌, ◌≡◌, ◌≤◌}
+use Rattle.std.specs.Prelude.{Bool, Err, None, Ok, Option, Some, false, if◌then◌else◌, nat_lt, not, option_and_then, option_map, refl, suc, true, zero, ℕ, ◌&&◌}
+use Rattle.std.specs.Prelude.{◌<◌, ◌==◌, ◌||◌, ◌≡◌, ◌≤◌}
 use Rattle.nt_event.specs.declared.events.Event.{Event}
 use Rattle.nt_event.specs.declared.events.Turn.{Turn}
 use Rattle.nt_event.specs.declared.events.Turn.TheVariants.{Look as LookTurn, Next, Switch as SwitchTurn}
@@ -25,7 +26,8 @@ use Rattle.nt_cpu.specs.Alone.{IsAlone, MayBe, alone_event}
 use Rattle.nt_cpu.specs.GoodTasks.{GoodTask}
 use Rattle.nt_cpu.specs.Sound.{IsSound}
 use Rattle.nt_cpu.specs.States.{CpuState}
-use Rattle.nt_cpu.specs.Turns.{IsTurnRefused, IsTurned, Serves, acts, event_or_refusal, is_shared, rise_above, rises, task_makes, turn_gives, turn_refusal, turn_task}
+use Rattle.nt_cpu.specs.Turns.{IsTurnRefused, IsTurned, Serves, acts, event_or_refusal, is_shared, rise_above, rises, task_makes, turn_gives, turn_refusal}
+use Rattle.nt_cpu.specs.Turns.{turn_task}
 use Rattle.nt_cpu.specs.declared.turn.TurnRefusal.{TurnRefusal}
 use Rattle.nt_cpu.specs.declared.turn.TurnRefusal.TheVariants.{NothingToDo}
 use Rattle.nt_cpu.proofs.Alones.{event_alone}

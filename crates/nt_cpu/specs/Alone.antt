@@ -1,11 +1,13 @@
 -- Events that touch no lane: which they are, their level, and what they ask for, by where their processor stands.
-use Rattle.std.specs.Prelude.{Bool, IfSome, List, None, Option, Some, [], false, if◌then◌else◌, max, not, option_map, true, ℕ, ◌&&◌, ◌+◌, ◌<◌, ◌==◌, ◌||◌, ◌∷◌, ◌≡◌}
+use Rattle.std.specs.Prelude.{Bool, IfSome, List, None, Option, Some, [], false, if◌then◌else◌, max, not, option_map}
+use Rattle.std.specs.Prelude.{true, ℕ, ◌&&◌, ◌+◌, ◌<◌, ◌==◌, ◌||◌, ◌∷◌, ◌≡◌}
 use Rattle.nt_event.specs.declared.commands.ApcKind.TheVariants.{User as UserApc}
 use Rattle.nt_event.specs.declared.commands.Command.{Command}
 use Rattle.nt_event.specs.declared.commands.Reply.{Reply}
 use Rattle.nt_event.specs.declared.events.Begun.TheVariants.{Apc, Dpc, Int, Threaded}
 use Rattle.nt_event.specs.declared.events.What.{What}
-use Rattle.nt_event.specs.declared.events.What.TheVariants.{Begin, Call, Clean, End, Expire, Fire, Flush, Free, Gone, Look, Normal, Rest, Rewait, Switch}
+use Rattle.nt_event.specs.declared.events.What.TheVariants.{Begin, Call, Clean, End, Expire, Fire, Flush, Free, Gone}
+use Rattle.nt_event.specs.declared.events.What.TheVariants.{Look, Normal, Rest, Rewait, Switch}
 use Rattle.nt_event.specs.declared.frames.Body.{Body}
 use Rattle.nt_event.specs.declared.frames.Body.TheVariants.{Apc as OnApc, Base as OnBase}
 use Rattle.nt_event.specs.declared.jobs.Stand.{Stand}
@@ -24,7 +26,9 @@ use Rattle.nt_event.specs.declared.class.Asked.{Asked}
 use Rattle.nt_cpu.specs.Fits.{Allow}
 use Rattle.nt_cpu.specs.Leaves.{own_with}
 use Rattle.nt_cpu.specs.States.{CpuState}
-use Rattle.nt_event.specs.Families.{AdvanceTime, CritEntered, CritLeft, EnterUser, GuardEntered, GuardLeft, LevelCall, LowerTo, PlainCall, RaiseTo, RegionCall, RequestAt, WriteNote, by_level_call, by_plain_call, by_region_call}
+use Rattle.nt_event.specs.Families.{AdvanceTime, CritEntered, CritLeft, EnterUser, GuardEntered, GuardLeft, LevelCall}
+use Rattle.nt_event.specs.Families.{LowerTo, PlainCall, RaiseTo, RegionCall, RequestAt, WriteNote, by_level_call}
+use Rattle.nt_event.specs.Families.{by_plain_call, by_region_call}
 use Rattle.nt_event.specs.Classes.{apc_class}
 
 -- the end of the frame touches no lane: it is neither a base nor a user APC

@@ -1,21 +1,26 @@
 -- Which events the frames of a processor allow.
-use Rattle.std.specs.Prelude.{Bool, IsTrue, None, Some, [], false, is_none, length, nat_lt, true, ℕ, ◌&&◌, ◌<◌, ◌||◌, ◌≡◌}
+use Rattle.std.specs.Prelude.{Bool, IsTrue, None, Some, [], false, is_none, length, nat_lt, true, ℕ, ◌&&◌, ◌<◌, ◌||◌}
+use Rattle.std.specs.Prelude.{◌≡◌}
 use Rattle.nt_event.specs.declared.commands.Command.{Command}
 use Rattle.nt_event.specs.declared.commands.Reply.{Reply}
 use Rattle.nt_event.specs.declared.commands.Reply.TheVariants.{Blocked, Done, No, Refused, Spin, Status, Yes}
 use Rattle.nt_event.specs.declared.events.Begun.{Begun}
 use Rattle.nt_event.specs.declared.events.Begun.TheVariants.{Apc, Dpc, Int, Threaded}
 use Rattle.nt_event.specs.declared.events.What.{What}
-use Rattle.nt_event.specs.declared.events.What.TheVariants.{Begin, Call, Clean, End, Expire, Fire, Flush, Free, Gone, Look, Normal, Rest, Rewait, Switch}
+use Rattle.nt_event.specs.declared.events.What.TheVariants.{Begin, Call, Clean, End, Expire, Fire, Flush, Free, Gone}
+use Rattle.nt_event.specs.declared.events.What.TheVariants.{Look, Normal, Rest, Rewait, Switch}
 use Rattle.nt_event.specs.declared.frames.Body.{Body}
-use Rattle.nt_event.specs.declared.frames.Body.TheVariants.{Apc as OnApc, Dpc as OnDpc, Int as OnInt, Threaded as OnThreaded}
+use Rattle.nt_event.specs.declared.frames.Body.TheVariants.{Apc as OnApc, Dpc as OnDpc, Int as OnInt}
+use Rattle.nt_event.specs.declared.frames.Body.TheVariants.{Threaded as OnThreaded}
 use Rattle.nt_event.specs.Frame.{Frame}
 use Rattle.nt_event.specs.declared.scripts.Script.{Script}
 use Rattle.nt_event.specs.Frames.{Frames, innermost}
 use Rattle.nt_event.specs.Routines.{kind_of}
 use Rattle.nt_event.specs.Replies.{is_done, is_refused, is_spin}
 use Rattle.nt_frame.specs.Rules.{is_leaving, may_begin, may_go_on, refusal_in}
-use Rattle.nt_event.specs.Families.{AcquireLock, DelaysIn, Family, ForApc, ForDpc, ForLevel, ForLock, ForOwn, ForPlain, ForRegion, ForThread, ForTimer, GivesWay, LockCall, OwnCall, TestsAlert, UnlockLock, WaitsIn, by_lock_call, family}
+use Rattle.nt_event.specs.Families.{AcquireLock, DelaysIn, Family, ForApc, ForDpc, ForLevel, ForLock, ForOwn, ForPlain}
+use Rattle.nt_event.specs.Families.{ForRegion, ForThread, ForTimer, GivesWay, LockCall, OwnCall, TestsAlert, UnlockLock}
+use Rattle.nt_event.specs.Families.{WaitsIn, by_lock_call, family}
 
 -- what a Begin begins
 abbrev pub body_of : Script → Begun → Body

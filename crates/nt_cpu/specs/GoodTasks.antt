@@ -4,7 +4,12 @@ use Rattle.nt_event.specs.declared.commands.Command.{Command}
 use Rattle.nt_event.specs.declared.commands.Command.TheVariants.{ToUser}
 use Rattle.nt_event.specs.Frame.{Frame}
 use Rattle.nt_event.specs.declared.jobs.Job.{Job}
-use Rattle.nt_event.specs.declared.jobs.Job.TheVariants.{Apcs as ApcsJob, Call as CallJob, Drain as DrainJob, Fire as FireJob, Free as FreeJob, Idle as IdleJob, Leave as LeaveJob, Pick as PickJob, Rewait as RewaitJob, Rundown as RundownJob, Switch as SwitchJob, Threaded as ThreadedJob, ToUser as ToUserJob, UserEnd as UserEndJob}
+use Rattle.nt_event.specs.declared.jobs.Job.TheVariants.{Apcs as ApcsJob, Call as CallJob, Drain as DrainJob}
+use Rattle.nt_event.specs.declared.jobs.Job.TheVariants.{Fire as FireJob, Free as FreeJob, Idle as IdleJob}
+use Rattle.nt_event.specs.declared.jobs.Job.TheVariants.{Leave as LeaveJob, Pick as PickJob, Rewait as RewaitJob}
+use Rattle.nt_event.specs.declared.jobs.Job.TheVariants.{Rundown as RundownJob, Switch as SwitchJob}
+use Rattle.nt_event.specs.declared.jobs.Job.TheVariants.{Threaded as ThreadedJob, ToUser as ToUserJob}
+use Rattle.nt_event.specs.declared.jobs.Job.TheVariants.{UserEnd as UserEndJob}
 use Rattle.nt_event.specs.declared.jobs.Task.{Task}
 use Rattle.nt_event.specs.declared.jobs.Task.TheVariants.{Alone, Shared}
 use Rattle.nt_event.specs.declared.numbers.LockNo.{LockNo}

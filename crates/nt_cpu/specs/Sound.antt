@@ -14,8 +14,8 @@ abbrev pub AreBelow : ℕ → List Held → Type 0
 AreBelow locks [] = Unit {0}
 AreBelow locks (h ∷ hs) = (h.lock.0 < locks) × AreBelow locks hs
 
--- the frame called no more commands than this, a delay that it has to take up is due below 2 ^ 51, and the locks that it
--- holds and the one on which it spins are of the script, which has so many
+-- the frame called no more commands than this, a delay that it has to take up is due below 2 ^ 51, and the locks that
+-- it holds and the one on which it spins are of the script, which has so many
 pub record IsSmall (locks n : ℕ) (f : Frame) : Type 0 where
   pub held : AreBelow locks f.held
   pub spin : IfSome f.spin (λ h. h.lock.0 < locks)

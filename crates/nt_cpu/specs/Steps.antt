@@ -1,5 +1,6 @@
 -- Steps that a processor chooses by itself: the looks before them, and what they are.
-use Rattle.std.specs.Prelude.{Bool, List, None, Option, Some, [], false, if◌then◌else◌, nat_lt, suc, true, zero, ℕ, ◌&&◌, ◌++◌, ◌<◌, ◌==◌, ◌∷◌, ◌≡◌, ◌≤◌, ◌⊎◌}
+use Rattle.std.specs.Prelude.{Bool, List, None, Option, Some, [], false, if◌then◌else◌, nat_lt, suc, true, zero, ℕ}
+use Rattle.std.specs.Prelude.{◌&&◌, ◌++◌, ◌<◌, ◌==◌, ◌∷◌, ◌≡◌, ◌≤◌, ◌⊎◌}
 use Rattle.nt_event.specs.declared.events.Event.{Event}
 use Rattle.nt_event.specs.declared.events.What.TheVariants.{Look as LookEvent}
 use Rattle.nt_event.specs.declared.jobs.Job.{Job}
@@ -21,7 +22,8 @@ use Rattle.nt_frame.specs.Nesting.{AreNamedBelow}
 use Rattle.nt_cpu.specs.States.{CpuState}
 use Rattle.nt_cpu.specs.Turns.{HaveStates, IsShared, state_then}
 use Rattle.nt_cpu.specs.declared.steps.Local.{Local}
-use Rattle.nt_cpu.specs.declared.steps.Local.TheVariants.{Cut as LocalCut, Did as LocalDid, NeedsLane, Quiet as LocalQuiet}
+use Rattle.nt_cpu.specs.declared.steps.Local.TheVariants.{Cut as LocalCut, Did as LocalDid, NeedsLane}
+use Rattle.nt_cpu.specs.declared.steps.Local.TheVariants.{Quiet as LocalQuiet}
 use Rattle.nt_cpu.specs.declared.steps.Turned.{Turned}
 use Rattle.nt_cpu.specs.declared.steps.Turned.TheVariants.{Cut, Did, Quiet}
 
@@ -130,5 +132,6 @@ Advanced c d answers found (Did e) u w =
     ((local_gives c answers ≡ LocalDid e) × LocalLeaves c d (LocalDid e) u w) ⊎
     ((job : Job) × (local_gives c answers ≡ NeedsLane job) ×
     ((f : Found) × (n : ℕ) × (IsShared c d job f n e u w × found n e (stand_in c.cpu c.own) f)))
-Advanced c d answers found Quiet u w = (local_gives c answers ≡ LocalQuiet) × (is_still c.own ≡ true) × (d ≡ c) × (w ≡ u)
+Advanced c d answers found Quiet u w =
+    (local_gives c answers ≡ LocalQuiet) × (is_still c.own ≡ true) × (d ≡ c) × (w ≡ u)
 Advanced c d answers found Cut u w = (local_gives c answers ≡ LocalCut) × (d ≡ c) × (w ≡ u)

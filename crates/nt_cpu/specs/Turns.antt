@@ -1,6 +1,8 @@
 -- What a turn of a processor is and leaves.
 use Rattle.std.specs.List.{list_any}
-use Rattle.std.specs.Prelude.{Bool, Err, IfSome, List, None, Ok, Option, Result, Some, [], if◌then◌else◌, length, nat_lt, not, option_and_then, option_map, suc, true, ℕ, ◌&&◌, ◌==◌, ◌||◌, ◌∷◌, ◌<◌, ◌≡◌, ◌≤◌, ◌⊎◌, false}
+use Rattle.std.specs.Prelude.{Bool, Err, IfSome, List, None, Ok, Option, Result, Some, [], if◌then◌else◌, length}
+use Rattle.std.specs.Prelude.{nat_lt, not, option_and_then, option_map, suc, true, ℕ, ◌&&◌, ◌==◌, ◌||◌, ◌∷◌, ◌<◌, ◌≡◌}
+use Rattle.std.specs.Prelude.{◌≤◌, ◌⊎◌, false}
 use Rattle.nt_event.specs.declared.events.Event.{Event}
 use Rattle.nt_event.specs.declared.events.ScheduleKind.{ScheduleKind}
 use Rattle.nt_event.specs.declared.events.ScheduleKind.TheVariants as kind

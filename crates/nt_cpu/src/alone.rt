@@ -10,7 +10,10 @@ ghost use Rattle.nt_event.specs.Lists.{value_at};
 ghost use Rattle.nt_floor.specs.Views.{HasWord, View};
 ghost use Rattle.nt_frame.specs.Nesting.{AreNamedBelow};
 ghost use Rattle.nt_cpu.specs.Notices.{HasClass, notice_of};
-ghost use Rattle.nt_cpu.specs.Alone.{IsAlone, IsMarkedFor, MayBe, alone_asks, alone_event, ask_when as asked_when, call_asks as call_asks_of, call_level as call_level_of, is_normal_end as ends_normal, noticed as noticed_of};
+ghost use Rattle.nt_cpu.specs.Alone.{IsAlone, IsMarkedFor, MayBe, alone_asks, alone_event};
+ghost use Rattle.nt_cpu.specs.Alone.{ask_when as asked_when, call_asks as call_asks_of};
+ghost use Rattle.nt_cpu.specs.Alone.{call_level as call_level_of, is_normal_end as ends_normal};
+ghost use Rattle.nt_cpu.specs.Alone.{noticed as noticed_of};
 
 use crate::cpu::Cpu;
 use crate::notice::Notice;
@@ -92,7 +95,8 @@ impl<'s> Cpu<'s> {
     /// What the call of a command asks for.
     #[inline(always)]
     fn call_asks(&self, command: &Command, reply: &Reply) -> Option<Asked>
-        ensures asks { result ≡ call_asks_of (stand_in self.now.cpu self.now.own) command.now reply.now }
+        ensures asks { result
+            ≡ call_asks_of (stand_in self.now.cpu self.now.own) command.now reply.now }
         ensures class { IfSome result (λ a. a.class < 16) }
     {
         if !matches!(reply, Reply::Done) {
@@ -129,10 +133,13 @@ impl<'s> Cpu<'s> {
         }
     }
 
-    /// Whether a normal kernel APC ends, or the running thread gives up its last region of a kind, where the innermost frame ends.
+    /// Whether a normal kernel APC ends, or the running thread gives up its last region of a kind,
+    /// where the innermost frame ends.
     #[inline(always)]
     fn end_asks(&self) -> bool
-        ensures { result ≡ (ends_normal (stand_in self.now.cpu self.now.own).body || some_came_to_0 (stand_in self.now.cpu self.now.own).regions (stand_in self.now.cpu self.now.own).below) }
+        ensures { result ≡ (ends_normal (stand_in self.now.cpu self.now.own).body
+            || some_came_to_0 (stand_in self.now.cpu self.now.own).regions
+            (stand_in self.now.cpu self.now.own).below) }
     {
         self.ends_normal() || self.frames.gives_up()
     }
@@ -161,7 +168,8 @@ impl<'s> Cpu<'s> {
         }
     }
 
-    /// Makes the event that stands in its place and touches no lane: draws its number, marks what it asks for, and takes it up.
+    /// Makes the event that stands in its place and touches no lane: draws its number, marks what
+    /// it asks for, and takes it up.
     #[inline(always)]
     pub(crate) fn make_alone<W: Words>(&mut self, words: &mut W, event: &Event)
         requires room { self.old.own.made < self.old.limit }
@@ -170,7 +178,8 @@ impl<'s> Cpu<'s> {
         requires named { AreNamedBelow (W.view words.old).next self.old.own.frames }
         requires event { event.now ≡ alone_event self.old.cpu event.now.what self.old.own.frames }
         requires may { MayBe self.old event.now.what }
-        ensures made { (n : ℕ) × (u : View) × IsAlone self.old self.new event.now.what n (W.view words.old) u (W.view words.new) }
+        ensures made { (n : ℕ) × (u : View) ×
+            IsAlone self.old self.new event.now.what n (W.view words.old) u (W.view words.new) }
         ensures grows { W.grows words.old words.new }
     {
         let asked = self.asks(&event.what);
@@ -192,11 +201,13 @@ impl<'s> Cpu<'s> {
         };
     }
 
-    /// Writes the event that notices those of these values that are above what was seen. They are written where they are kept:
-    /// made first and put then, all 16 would be copied twice.
+    /// Writes the event that notices those of these values that are above what was seen. They are
+    /// written where they are kept: made first and put then, all 16 would be copied twice.
     pub(crate) fn write_asked(&self, answers: &[u64], event: &mut Event)
         requires { length answers.now ≡ 16 }
-        ensures { event.new ≡ alone_event self.now.cpu (What.Look (record { value = look_values self.now.own (value_at answers.now) })) self.now.own.frames }
+        ensures { event.new ≡ alone_event self.now.cpu
+            (What.Look (record { value = look_values self.now.own (value_at answers.now) }))
+            self.now.own.frames }
     {
         self.write_look(
             &Rises {
@@ -209,7 +220,8 @@ impl<'s> Cpu<'s> {
         }
     }
 
-    /// Writes the event that calls this command in the innermost frame, which is refused or done at once.
+    /// Writes the event that calls this command in the innermost frame, which is refused or done at
+    /// once.
     pub(crate) fn write_call(
         &self,
         frame: &Frame,
@@ -218,7 +230,8 @@ impl<'s> Cpu<'s> {
         event: &mut Event,
     )
         requires { frame.now.level ≡ level_in self.now.own.frames }
-        ensures { event.new ≡ alone_event self.now.cpu (What.Call frame.now.name command.now reply) self.now.own.frames }
+        ensures { event.new ≡ alone_event self.now.cpu (What.Call frame.now.name command.now reply)
+            self.now.own.frames }
     {
         *event = Event {
             cpu: self.cpu,
@@ -234,7 +247,8 @@ impl<'s> Cpu<'s> {
 
     /// Writes the event that begins the routine of an interrupt, for the ask of this number.
     pub(crate) fn write_interrupt(&self, level: Level, from: u64, event: &mut Event)
-        ensures { event.new ≡ alone_event self.now.cpu (What.Begin (Begun.Int level) from) self.now.own.frames }
+        ensures { event.new
+            ≡ alone_event self.now.cpu (What.Begin (Begun.Int level) from) self.now.own.frames }
     {
         *event = Event {
             cpu: self.cpu,

@@ -5,8 +5,8 @@ ghost use Rattle.nt_cpu.specs.Choices.{turn_by};
 
 use nt_event::{Rises, ThreadNo, Turn};
 
-/// What a processor is chosen to do. `V` is what is known of the values of a look: a turn names them; by the round-robin rule they
-/// are found once the look is made, and `V` is `()`.
+/// What a processor is chosen to do. `V` is what is known of the values of a look: a turn names
+/// them; by the round-robin rule they are found once the look is made, and `V` is `()`.
 #[derive(Clone, Copy, Debug)]
 pub enum Choice<V> {
     /// Makes its next event.

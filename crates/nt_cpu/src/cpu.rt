@@ -1,6 +1,7 @@
 //! What a processor keeps.
 ghost use Rattle.std.specs.Prelude.{◌≡◌, ◌<◌, ◌≤◌, ◌&&◌, [], IfOk, IsTrue, length, not};
-ghost use Rattle.nt_event.specs.Jobs.{is_still as is_still_in, may_switch as switch_in, rests as rests_in, spins_still as spins_still_in};
+ghost use Rattle.nt_event.specs.Jobs.{is_still as is_still_in, may_switch as switch_in};
+ghost use Rattle.nt_event.specs.Jobs.{rests as rests_in, spins_still as spins_still_in};
 ghost use Rattle.nt_event.specs.Own.{own_of};
 ghost use Rattle.nt_event.specs.Script.{fits, has_cpu};
 ghost use Rattle.nt_event.specs.Step.{is_cut};
@@ -53,7 +54,13 @@ impl<'s> Cpu<'s> {
         requires script { IsTrue (fits script.now) }
         requires cpu { IsTrue (has_cpu script.now cpu) }
         requires turns { turns ≤ TURNS }
-        ensures { IfOk result (λ c. c ≡ record { script = script.now; cpu = cpu; limit = turns; own = own_of script.now cpu [] }) }
+        ensures { IfOk result (λ c.
+            c ≡ record {
+              script = script.now;
+              cpu = cpu;
+              limit = turns;
+              own = own_of script.now cpu [];
+            }) }
     {
         Ok(Cpu {
             script,
@@ -81,7 +88,8 @@ impl<'s> Cpu<'s> {
         self.made
     }
 
-    /// Per class, the greatest request that it has noticed; a request is one more than the number of the event that asked.
+    /// Per class, the greatest request that it has noticed; a request is one more than the number
+    /// of the event that asked.
     pub fn seen(&self) -> Rises
         ensures { result.value ≡ self.now.own.seen }
     {
@@ -102,7 +110,8 @@ impl<'s> Cpu<'s> {
         self.kept.rested && !self.must()
     }
 
-    /// Whether its innermost frame spins, no release was noticed since its last try, and nothing must be done.
+    /// Whether its innermost frame spins, no release was noticed since its last try, and nothing
+    /// must be done.
     pub fn spins_still(&self) -> bool
         ensures { result ≡ spins_still_in self.now.own }
     {
@@ -116,7 +125,8 @@ impl<'s> Cpu<'s> {
         (self.kept.rested || self.waits_for_lock()) && !self.must()
     }
 
-    /// Whether it may take up a thread: it is not cut, no thread runs, no frame stands on its own part, and nothing must be done.
+    /// Whether it may take up a thread: it is not cut, no thread runs, no frame stands on its own
+    /// part, and nothing must be done.
     pub fn may_switch(&self) -> bool
         ensures { result ≡ (not (is_cut self.now.limit self.now.own) && switch_in self.now.own) }
     {

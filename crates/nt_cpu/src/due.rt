@@ -30,7 +30,8 @@ fn first_due(classes: &[u8], seen: &Seen, served: &Values) -> Option<u8>
     None
 }
 
-/// Leaves the greatest class of an interrupt that is due. Where all is the same as before, it is the one known, and nothing is written.
+/// Leaves the greatest class of an interrupt that is due. Where all is the same as before, it is
+/// the one known, and nothing is written.
 #[inline(always)]
 pub fn renew_due(due: &mut Option<u8>, same: bool, seen: &Seen, served: &Values)
     requires { same ≡ true → due.old ≡ greatest seen.now served.now }

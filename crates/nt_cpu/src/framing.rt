@@ -1,11 +1,13 @@
 //! What an event leaves of the frames.
-ghost use Rattle.std.specs.Prelude.{◌≡◌, ◌<◌, ◌≤◌, [], IsSome, IsTrue, Some, None, if◌then◌else◌, length, is_some, false, true};
+ghost use Rattle.std.specs.Prelude.{◌≡◌, ◌<◌, ◌≤◌, [], IsSome, IsTrue, Some, None, if◌then◌else◌};
+ghost use Rattle.std.specs.Prelude.{length, is_some, false, true};
 ghost use Rattle.std.specs.Option.{ForSome};
 ghost use Rattle.nt_event.specs.declared.commands.Reply.{Reply};
 ghost use Rattle.nt_event.specs.declared.events.What.{What};
 ghost use Rattle.nt_event.specs.declared.frames.Body.{Body};
 ghost use Rattle.nt_event.specs.declared.frames.Region.{Region};
-ghost use Rattle.nt_event.specs.Frames.{again_after, called, frames_after, frames_in, innermost, ended_base, rewaited, resumed, running_after};
+ghost use Rattle.nt_event.specs.Frames.{again_after, called, frames_after, frames_in, innermost};
+ghost use Rattle.nt_event.specs.Frames.{ended_base, rewaited, resumed, running_after};
 ghost use Rattle.nt_event.specs.Locks.{call_move};
 ghost use Rattle.nt_event.specs.Routines.{rundown_of};
 ghost use Rattle.nt_event.specs.Step.{thread_field};
@@ -13,7 +15,8 @@ ghost use Rattle.nt_event.specs.Lists.{is_null};
 ghost use Rattle.nt_frame.specs.Changes.{at_innermost, begun, taken, without_innermost};
 ghost use Rattle.nt_frame.specs.Nesting.{AreNamedBelow, AreNested};
 ghost use Rattle.nt_frame.specs.Rules.{count_of, is_at_base, is_leaving, refusal_in, regions_in};
-ghost use Rattle.nt_cpu.specs.Fits.{Allow, body_of as begun_body, is_wait_reply, lock_below, may_call};
+ghost use Rattle.nt_cpu.specs.Fits.{Allow, body_of as begun_body, is_wait_reply, lock_below};
+ghost use Rattle.nt_cpu.specs.Fits.{may_call};
 ghost use Rattle.nt_cpu.specs.Moved.{command_done, effect_made, moved};
 ghost use Rattle.nt_event.specs.Calls.{wait_begun};
 
@@ -21,7 +24,8 @@ use nt_event::status::KERNEL_APC;
 use nt_event::{Again, ApcNo, Begun, Body, Command, Event, Region, Reply, Script, ThreadNo, What};
 use nt_frame::Frames;
 
-/// A command that is done changes the innermost frame's level, a count of its regions, or the locks that it holds.
+/// A command that is done changes the innermost frame's level, a count of its regions, or the locks
+/// that it holds.
 fn do_command(frames: &mut Frames, command: &Command)
     requires frame { IsSome (innermost frames.old) }
     requires may { refusal_in command.now frames.old ≡ None }
@@ -99,10 +103,12 @@ fn spin_on(frames: &mut Frames, command: &Command)
     }
 }
 
-/// A wait that blocks, or that a kernel APC interrupts, is kept to be taken up; another one is over.
+/// A wait that blocks, or that a kernel APC interrupts, is kept to be taken up; another one is
+/// over.
 fn set_wait(frames: &mut Frames, wait: Again, reply: &Reply)
     requires { IsSome (innermost frames.old) }
-    ensures { frames.new ≡ at_innermost (λ f. record f { again = again_after reply.now (Some wait) f.again }) frames.old }
+    ensures { frames.new ≡ at_innermost
+        (λ f. record f { again = again_after reply.now (Some wait) f.again }) frames.old }
 {
     match reply {
         Reply::Status(status) => {
@@ -187,7 +193,9 @@ fn call(frames: &mut Frames, command: &Command, reply: &Reply, due: Option<u64>)
     requires may { IsTrue (may_call command.now reply.now frames.old) }
     requires lock { IsTrue (lock_below 64 command.now) }
     requires room { (r : Region) → count_of r (regions_in frames.old) < 4294967295 }
-    ensures { frames.new ≡ record (at_innermost (called due command.now reply.now) frames.old) { running = running_after (What.Call 0 command.now reply.now) frames.old.running } }
+    ensures { frames.new ≡ record (at_innermost (called due command.now reply.now) frames.old) {
+      running = running_after (What.Call 0 command.now reply.now) frames.old.running;
+    } }
 {
     take_effect(frames, command, reply, due);
     if reply.is_spin() {
@@ -204,7 +212,9 @@ fn rewait(frames: &mut Frames, reply: &Reply)
     requires frame { IsSome (innermost frames.old) }
     requires thread { frames.old.own ≡ [] }
     requires reply { IsTrue (is_wait_reply reply.now) }
-    ensures { frames.new ≡ record (at_innermost (rewaited reply.now) frames.old) { running = running_after (What.Rewait 0 reply.now) frames.old.running } }
+    ensures { frames.new ≡ record (at_innermost (rewaited reply.now) frames.old) {
+      running = running_after (What.Rewait 0 reply.now) frames.old.running;
+    } }
 {
     match reply {
         Reply::Status(status) => {
@@ -221,7 +231,8 @@ fn rewait(frames: &mut Frames, reply: &Reply)
 fn end(frames: &mut Frames)
     requires frame { IsSome (innermost frames.old) }
     requires runs { is_leaving frames.old ≡ false }
-    ensures { frames.new ≡ (if is_at_base frames.old then at_innermost ended_base frames.old else without_innermost frames.old) }
+    ensures { frames.new ≡ (if is_at_base frames.old then at_innermost ended_base frames.old
+        else without_innermost frames.old) }
 {
     if is_base(frames) {
         frames.end_base();
@@ -257,7 +268,9 @@ fn switch(frames: &mut Frames, thread: ThreadNo, status: Option<u32>, n: u64)
     requires idle { frames.old.running ≡ None }
     requires thread { thread.0 < length frames.old.threads }
     requires number { AreNamedBelow n frames.old }
-    ensures { frames.new ≡ (if is_null (frames_in frames.old.threads thread) then begun n (Body.Base thread) (taken thread frames.old) else at_innermost (resumed status) (taken thread frames.old)) }
+    ensures { frames.new ≡ (if is_null (frames_in frames.old.threads thread)
+        then begun n (Body.Base thread) (taken thread frames.old)
+        else at_innermost (resumed status) (taken thread frames.old)) }
 {
     frames.switch_to(thread);
     if frames.is_on_thread() {
@@ -271,7 +284,9 @@ fn switch(frames: &mut Frames, thread: ThreadNo, status: Option<u32>, n: u64)
 fn flush(frames: &mut Frames, script: &Script, apc: ApcNo, n: u64)
     requires leaving { IsTrue (is_leaving frames.old) }
     requires number { AreNamedBelow n frames.old }
-    ensures { frames.new ≡ (if is_some (rundown_of script.now apc) then begun n (Body.Rundown apc) frames.old else frames.old) }
+    ensures { frames.new ≡ (if is_some (rundown_of script.now apc)
+        then begun n (Body.Rundown apc) frames.old
+        else frames.old) }
 {
     if script.rundown_of(apc).is_some() {
         frames.begin(Body::Rundown(apc), n);

@@ -32,15 +32,16 @@ pub struct Kept {
     pub took: Option<ThreadNo>,
     /// The DPC object that is to be fired: that of the timer that expired, until it is fired.
     pub fire: Option<DpcNo>,
-    /// Whether a sweep of the timers is owed: from the beginning of a clock interrupt, and from the set of a timer that is due
-    /// already, until class 2 is served.
+    /// Whether a sweep of the timers is owed: from the beginning of a clock interrupt, and from the
+    /// set of a timer that is due already, until class 2 is served.
     pub sweep: bool,
 }
 
 /// What was seen of the class is served.
 fn serve(served: &mut Values, seen: &Seen, class: u8)
     requires { length served.old ≡ 16 }
-    ensures { served.new ≡ table 16 (λ c. if class == c then value_at seen.now c else value_at served.old c) }
+    ensures { served.new
+        ≡ table 16 (λ c. if class == c then value_at seen.now c else value_at served.old c) }
 {
     if class < 16 {
         served.serve(class, seen);
@@ -59,7 +60,8 @@ fn sweep_after(command: &Command, reply: &Reply, old: bool) -> bool
 
 /// The DPC object of the timer that expired; a delay has none.
 fn expired(script: &Script, key: &TimerKey) -> Option<DpcNo>
-    ensures { (from : ℕ) (old : Option DpcNo) → result ≡ fire_after script.now (What.Expire key.now from) old }
+    ensures { (from : ℕ) (old : Option DpcNo) →
+        result ≡ fire_after script.now (What.Expire key.now from) old }
 {
     match key {
         TimerKey::Timer(timer) => script.dpc_of(*timer),
@@ -70,7 +72,13 @@ fn expired(script: &Script, key: &TimerKey) -> Option<DpcNo>
 impl Kept {
     /// Of a processor that has made no event.
     pub fn new() -> Kept
-        ensures { result ≡ record { served = table 16 (λ c. 0); rested = false; took = None; fire = None; sweep = false } }
+        ensures { result ≡ record {
+          served = table 16 (λ c. 0);
+          rested = false;
+          took = None;
+          fire = None;
+          sweep = false;
+        } }
     {
         Kept {
             served: Values::new(),
@@ -81,14 +89,19 @@ impl Kept {
         }
     }
 
-    /// An interrupt that begins serves its class, and that of the clock owes a sweep; another beginning leaves all. False only
-    /// where what was served of interrupts is as before.
+    /// An interrupt that begins serves its class, and that of the clock owes a sweep; another
+    /// beginning leaves all. False only where what was served of interrupts is as before.
     fn begin(&mut self, begun: &Begun, seen: &Seen) -> bool
         requires { length self.old.served ≡ 16 }
-        ensures served { (from : ℕ) → self.new.served ≡ table 16 (λ c. served_after (What.Begin begun.now from) c (value_at seen.now c) (value_at self.old.served c)) }
+        ensures served { (from : ℕ) →
+            self.new.served ≡ table 16 (λ c.
+            served_after (What.Begin begun.now from) c (value_at seen.now c)
+            (value_at self.old.served c)) }
         ensures interrupts { result ≡ false → SameInterrupts self.old.served self.new.served }
-        ensures sweep { (from : ℕ) → self.new.sweep ≡ sweep_left (What.Begin begun.now from) self.old.sweep }
-        ensures others { self.new ≡ record self.old { served = self.new.served; sweep = self.new.sweep } }
+        ensures sweep { (from : ℕ) →
+            self.new.sweep ≡ sweep_left (What.Begin begun.now from) self.old.sweep }
+        ensures others { self.new
+            ≡ record self.old { served = self.new.served; sweep = self.new.sweep } }
     {
         match begun {
             Begun::Int(level) => {
@@ -102,10 +115,12 @@ impl Kept {
         }
     }
 
-    /// Takes up this event, where these values are seen after it. False only where what was served of interrupts is as before.
+    /// Takes up this event, where these values are seen after it. False only where what was served
+    /// of interrupts is as before.
     pub fn take_up(&mut self, script: &Script, what: &What, seen: &Seen) -> bool
         requires { length self.old.served ≡ 16 }
-        ensures served { self.new.served ≡ table 16 (λ c. served_after what.now c (value_at seen.now c) (value_at self.old.served c)) }
+        ensures served { self.new.served ≡ table 16
+            (λ c. served_after what.now c (value_at seen.now c) (value_at self.old.served c)) }
         ensures interrupts { result ≡ false → SameInterrupts self.old.served self.new.served }
         ensures rested { self.new.rested ≡ is_rest what.now }
         ensures took { self.new.took ≡ took_after what.now self.old.took }

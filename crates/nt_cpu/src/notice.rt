@@ -18,11 +18,13 @@ pub enum Notice<'a> {
 }
 
 impl Notice<'_> {
-    /// Raises each value that was seen to what is noticed of its class. False only where what was seen of interrupts is as before.
+    /// Raises each value that was seen to what is noticed of its class. False only where what was
+    /// seen of interrupts is as before.
     pub fn raise(&self, seen: &mut Seen) -> bool
         requires classes { length seen.old ≡ 16 }
         requires class { HasClass self.now }
-        ensures values { seen.new ≡ table 16 (λ c. max (value_at seen.old c) (notice_of self.now c)) }
+        ensures values { seen.new
+            ≡ table 16 (λ c. max (value_at seen.old c) (notice_of self.now c)) }
         ensures interrupts { result ≡ false → SameInterrupts seen.old seen.new }
     {
         match self {

@@ -16,7 +16,8 @@ use nt_floor::{ActRefusal, Floor};
 use nt_frame::StandView;
 
 impl<'s> Cpu<'s> {
-    /// Has the floor make the event of a job, takes it up, and writes it; after a refusal nothing was written.
+    /// Has the floor make the event of a job, takes it up, and writes it; after a refusal nothing
+    /// was written.
     pub(crate) fn make_shared<F: Floor>(
         &mut self,
         floor: &mut F,
@@ -28,9 +29,15 @@ impl<'s> Cpu<'s> {
         requires serves { Serves self.old (F.view floor.old) }
         requires due { IsDue self.old.script self.old.cpu self.old.own job }
         requires good { GoodJob self.old job }
-        ensures ok { OnOk result ((f : Found) × (n : ℕ) × (IsShared self.old self.new job f n event.new (F.view floor.old) (F.view floor.new) × F.found floor.new n event.new (stand_in self.old.cpu self.old.own) f)) }
-        ensures err { IfErr result (λ r. (f : Found) × F.shows floor.new (stand_in self.old.cpu self.old.own) job f × (Tells (F.view floor.old).states f.lanes × IsRefused self.old.script f (stand_in self.old.cpu self.old.own) job r)) }
-        ensures same { OnErr result ((self.new ≡ self.old) × IsUnmoved (F.view floor.old) (F.view floor.new)) }
+        ensures ok { OnOk result ((f : Found) × (n : ℕ) ×
+            (IsShared self.old self.new job f n event.new (F.view floor.old) (F.view floor.new) ×
+            F.found floor.new n event.new (stand_in self.old.cpu self.old.own) f)) }
+        ensures err { IfErr result (λ r.
+            (f : Found) × F.shows floor.new (stand_in self.old.cpu self.old.own) job f ×
+            (Tells (F.view floor.old).states f.lanes ×
+            IsRefused self.old.script f (stand_in self.old.cpu self.old.own) job r)) }
+        ensures same { OnErr result
+            ((self.new ≡ self.old) × IsUnmoved (F.view floor.old) (F.view floor.new)) }
         ensures unwritten { OnErr result (event.new ≡ event.old) }
         ensures memory { (F.view floor.old).alone ≡ true → IsErrOf result ActRefusal.NoMemory → ⊥ }
         ensures knows { Knows self.new (F.view floor.new) }

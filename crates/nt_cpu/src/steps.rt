@@ -1,5 +1,6 @@
 //! Steps that a processor chooses by itself.
-ghost use Rattle.std.specs.Prelude.{◌≡◌, ◌<◌, ◌≤◌, ℕ, List, false, true, IfOk, IfErr, OnErr, IsErr, Some, if◌then◌else◌, length, nat_lt};
+ghost use Rattle.std.specs.Prelude.{◌≡◌, ◌<◌, ◌≤◌, ℕ, List, false, true, IfOk, IfErr, OnErr, IsErr};
+ghost use Rattle.std.specs.Prelude.{Some, if◌then◌else◌, length, nat_lt};
 ghost use Rattle.nt_event.specs.Jobs.{chosen_task as chosen_of};
 ghost use Rattle.std.specs.List.{list_any};
 ghost use Rattle.nt_event.specs.Robin.{is_behind, look_values};
@@ -53,7 +54,8 @@ pub enum Turned {
     Cut,
 }
 
-/// Looks once at each used class of the processor, in order. The answers by class; 0 for a class that is not used.
+/// Looks once at each used class of the processor, in order. The answers by class; 0 for a class
+/// that is not used.
 fn look_all<W: Words>(words: &mut W, cpu: CpuNo) -> [u64; COUNT]
     requires { cpu.0 < (W.view words.old).cpus }
     ensures looks { AllLooked cpu result (W.view words.old) (W.view words.new) }
@@ -78,15 +80,18 @@ impl<'s> Cpu<'s> {
         self.seen.is_below(answers)
     }
 
-    /// Whether one of the 16 values that have this sum, none of them below what was seen of its class, is above it.
+    /// Whether one of the 16 values that have this sum, none of them below what was seen of its
+    /// class, is above it.
     #[inline(always)]
     pub fn is_behind_sum(&self, sum: u128) -> bool
-        ensures { (values : ℕ → ℕ) → SeenWithin self.now.own values → sum ≡ sum_of values → result ≡ is_behind self.now.own values }
+        ensures { (values : ℕ → ℕ) → SeenWithin self.now.own values → sum ≡ sum_of values →
+            result ≡ is_behind self.now.own values }
     {
         self.seen.sum() < sum
     }
 
-    /// Those of these values, one for each of the 16 classes, that are above what was seen; 0 for the other classes.
+    /// Those of these values, one for each of the 16 classes, that are above what was seen; 0 for
+    /// the other classes.
     pub fn rises(&self, answers: &[u64]) -> Rises
         requires { length answers.now ≡ 16 }
         ensures { result.value ≡ look_values self.now.own (value_at answers.now) }
@@ -94,9 +99,11 @@ impl<'s> Cpu<'s> {
         self.seen.below(answers)
     }
 
-    /// What it chooses to do: nothing where it rests or spins still; a ready thread where one may be taken up; else what is next.
+    /// What it chooses to do: nothing where it rests or spins still; a ready thread where one may
+    /// be taken up; else what is next.
     fn chosen_task(&self, event: &mut Event) -> Option<Next>
-        ensures task { planned event.new result ≡ chosen_of self.now.script self.now.cpu self.now.own }
+        ensures task { planned event.new result
+            ≡ chosen_of self.now.script self.now.cpu self.now.own }
         ensures written { IsWritten self.now event.old event.new result }
     {
         if self.is_still() {
@@ -110,7 +117,10 @@ impl<'s> Cpu<'s> {
 
     /// What it has to do after looks that found these values risen.
     fn local_task(&self, rises: &Rises, event: &mut Event) -> Option<Next>
-        ensures task { planned event.new result ≡ (if list_any (λ v. nat_lt 0 v) rises.now.value then Some (Task.Alone (What.Look rises.now)) else chosen_of self.now.script self.now.cpu self.now.own) }
+        ensures task { planned event.new result
+            ≡ (if list_any (λ v. nat_lt 0 v) rises.now.value
+            then Some (Task.Alone (What.Look rises.now))
+            else chosen_of self.now.script self.now.cpu self.now.own) }
         ensures written { IsWritten self.now event.old event.new result }
     {
         if some_rises(&rises.value) {
@@ -121,14 +131,18 @@ impl<'s> Cpu<'s> {
         }
     }
 
-    /// Makes its next event where that touches no lane, and else tells what it needs; it waits for nobody.
+    /// Makes its next event where that touches no lane, and else tells what it needs; it waits for
+    /// nobody.
     ///
-    /// Unless the processor is cut, it first looks once at each used class of requests. Where a look gave more than the value seen,
-    /// the event is a Look with exactly these values. Else, where it rests or spins still, the answer is Quiet.
+    /// Unless the processor is cut, it first looks once at each used class of requests. Where a
+    /// look gave more than the value seen, the event is a Look with exactly these values. Else,
+    /// where it rests or spins still, the answer is Quiet.
     pub fn step_local<W: Words>(&mut self, words: &mut W) -> Local
         requires serves { Serves self.old (W.view words.old) }
-        ensures step { (answers : List ℕ) × (u : View) × IsStepped self.old self.new answers result (W.view words.old) u (W.view words.new) }
-        ensures lane { (job : Job) → result ≡ Local.NeedsLane job → Serves self.new (W.view words.new) }
+        ensures step { (answers : List ℕ) × (u : View) ×
+            IsStepped self.old self.new answers result (W.view words.old) u (W.view words.new) }
+        ensures lane { (job : Job) → result ≡ Local.NeedsLane job →
+            Serves self.new (W.view words.new) }
         ensures knows { Knows self.new (W.view words.new) }
         ensures grows { W.grows words.old words.new }
     {
@@ -151,14 +165,20 @@ impl<'s> Cpu<'s> {
 
     /// Has the floor make the event of the job that [`Cpu::step_local`] told.
     ///
-    /// A floor that is alone finds memory. After NoMemory no event was made and the processor is as before.
+    /// A floor that is alone finds memory. After NoMemory no event was made and the processor is as
+    /// before.
     pub fn step_lane<F: Floor>(&mut self, floor: &mut F, job: Job) -> Result<Event, AllocError>
         requires uncut { is_cut self.old.limit self.old.own ≡ false }
-        requires job { chosen_of self.old.script self.old.cpu self.old.own ≡ Some (Task.Shared job) }
+        requires job { chosen_of self.old.script self.old.cpu self.old.own
+            ≡ Some (Task.Shared job) }
         requires script { F.script floor.old ≡ self.old.script }
         requires serves { Serves self.old (F.view floor.old) }
-        ensures ok { IfOk result (λ e. (f : Found) × (n : ℕ) × (IsShared self.old self.new job f n e (F.view floor.old) (F.view floor.new) × F.found floor.new n e (stand_in self.old.cpu self.old.own) f)) }
-        ensures same { OnErr result ((self.new ≡ self.old) × IsUnmoved (F.view floor.old) (F.view floor.new)) }
+        ensures ok { IfOk result (λ e.
+            (f : Found) × (n : ℕ) ×
+            (IsShared self.old self.new job f n e (F.view floor.old) (F.view floor.new) ×
+            F.found floor.new n e (stand_in self.old.cpu self.old.own) f)) }
+        ensures same { OnErr result
+            ((self.new ≡ self.old) × IsUnmoved (F.view floor.old) (F.view floor.new)) }
         ensures memory { (F.view floor.old).alone ≡ true → IsErr result → ⊥ }
         ensures script { F.script floor.new ≡ F.script floor.old }
         ensures knows { Knows self.new (F.view floor.new) }
@@ -172,15 +192,22 @@ impl<'s> Cpu<'s> {
         }
     }
 
-    /// Makes its next event: looks, and then the event alone or with the floor; it takes up a ready thread where one may be taken.
+    /// Makes its next event: looks, and then the event alone or with the floor; it takes up a ready
+    /// thread where one may be taken.
     ///
-    /// Quiet comes where the processor rests or spins still and no look gave more than the value seen; Cut where it made as many events as it may.
-    /// After NoMemory no event was made and the processor is as before; the floor has the looks more.
+    /// Quiet comes where the processor rests or spins still and no look gave more than the value
+    /// seen; Cut where it made as many events as it may. After NoMemory no event was made and the
+    /// processor is as before; the floor has the looks more.
     pub fn advance<F: Floor>(&mut self, floor: &mut F) -> Result<Turned, AllocError>
         requires script { F.script floor.old ≡ self.old.script }
         requires serves { Serves self.old (F.view floor.old) }
-        ensures ok { IfOk result (λ r. (answers : List ℕ) × (u : View) × (AreLooked self.old answers (F.view floor.old) u × Advanced self.old self.new answers (F.found floor.new) r u (F.view floor.new))) }
-        ensures same { OnErr result ((self.new ≡ self.old) × ((answers : List ℕ) × (u : View) × (AreLooked self.old answers (F.view floor.old) u × IsUnmoved u (F.view floor.new)))) }
+        ensures ok { IfOk result (λ r.
+            (answers : List ℕ) × (u : View) ×
+            (AreLooked self.old answers (F.view floor.old) u ×
+            Advanced self.old self.new answers (F.found floor.new) r u (F.view floor.new))) }
+        ensures same { OnErr result ((self.new ≡ self.old) ×
+            ((answers : List ℕ) × (u : View) ×
+            (AreLooked self.old answers (F.view floor.old) u × IsUnmoved u (F.view floor.new)))) }
         ensures memory { (F.view floor.old).alone ≡ true → IsErr result → ⊥ }
         ensures script { F.script floor.new ≡ F.script floor.old }
         ensures knows { Knows self.new (F.view floor.new) }

@@ -26,7 +26,11 @@ impl<'s> Cpu<'s> {
     #[inline(always)]
     pub(crate) fn notice(&mut self, notice: &Notice)
         requires { HasClass notice.now }
-        ensures { self.new ≡ record self.old { own = record self.old.own { seen = table 16 (λ c. max (value_at self.old.own.seen c) (notice_of notice.now c)) } } }
+        ensures { self.new ≡ record self.old {
+          own = record self.old.own {
+            seen = table 16 (λ c. max (value_at self.old.own.seen c) (notice_of notice.now c));
+          };
+        } }
     {
         let interrupts = notice.raise(&mut self.seen);
         renew_due(&mut self.due, !interrupts, &self.seen, &self.kept.served);
@@ -37,9 +41,14 @@ impl<'s> Cpu<'s> {
         requires room { self.old.own.made < self.old.limit }
         requires number { AreNamedBelow n self.old.own.frames }
         requires due { IfSome due (λ d. d < 2 ^ 51) }
-        requires thread { event.now.thread ≡ thread_field event.now.what self.old.own.frames.running }
+        requires thread { event.now.thread
+            ≡ thread_field event.now.what self.old.own.frames.running }
         requires allow { Allow self.old.script event.now.what self.old.own.frames }
-        ensures { self.new ≡ record self.old { own = own_with self.old.script n due event.now (λ c. value_at self.old.own.seen c) self.old.own } }
+        ensures { self.new ≡ record self.old {
+          own =
+              own_with self.old.script n due event.now
+              (λ c. value_at self.old.own.seen c) self.old.own;
+        } }
     {
         apply(&mut self.frames, self.script, event, n, due);
         nested(&self.frames);

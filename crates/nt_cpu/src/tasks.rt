@@ -1,12 +1,20 @@
 //! What a processor has to do next, as far as it knows alone.
-ghost use Rattle.std.specs.Prelude.{◌≡◌, ◌<◌, ◌-◌, ◌&&◌, IfSome, Some, find, is_some, not, option_copied};
+ghost use Rattle.std.specs.Prelude.{◌≡◌, ◌<◌, ◌-◌, ◌&&◌, IfSome, Some, find, is_some, not};
+ghost use Rattle.std.specs.Prelude.{option_copied};
 ghost use Rattle.std.specs.Option.{option_map_or};
 ghost use Rattle.nt_event.specs.declared.events.Begun.{Begun};
 ghost use Rattle.nt_event.specs.declared.events.Event.{Event};
 ghost use Rattle.nt_event.specs.declared.events.What.{What};
 ghost use Rattle.nt_event.specs.Commands.{refusal as refusal_of};
 ghost use Rattle.nt_event.specs.Frames.{innermost, thread_part};
-ghost use Rattle.nt_event.specs.Jobs.{call_task as call_of, command_task as command_of, end_task as end_of, frame_task as frame_of, has_normal as goes_on, idle_task as idle_of, is_due as due_in, level_at, may_apcs as apcs_in, may_drain as drain_in, may_interrupt, may_switch as switch_in, may_threaded as threaded_in, must as must_in, must_task as must_of, task as task_of, waits_for_lock as waits_in_own};
+ghost use Rattle.nt_event.specs.Jobs.{call_task as call_of, command_task as command_of};
+ghost use Rattle.nt_event.specs.Jobs.{end_task as end_of, frame_task as frame_of};
+ghost use Rattle.nt_event.specs.Jobs.{has_normal as goes_on, idle_task as idle_of};
+ghost use Rattle.nt_event.specs.Jobs.{is_due as due_in, level_at, may_apcs as apcs_in};
+ghost use Rattle.nt_event.specs.Jobs.{may_drain as drain_in, may_interrupt};
+ghost use Rattle.nt_event.specs.Jobs.{may_switch as switch_in, may_threaded as threaded_in};
+ghost use Rattle.nt_event.specs.Jobs.{must as must_in, must_task as must_of, task as task_of};
+ghost use Rattle.nt_event.specs.Jobs.{waits_for_lock as waits_in_own};
 ghost use Rattle.nt_event.specs.Classes.{interrupt_classes};
 ghost use Rattle.nt_event.specs.Routines.{next_command as next_of};
 ghost use Rattle.nt_event.specs.Regions.{regions_of};
@@ -48,7 +56,9 @@ impl<'s> Cpu<'s> {
     fn interrupt(&self, class: u8, event: &mut Event)
         requires level { class < 16 }
         requires asked { 0 < value_at self.now.own.seen class }
-        ensures { event.new ≡ alone_event self.now.cpu (What.Begin (Begun.Int class) (value_at self.now.own.seen class - 1)) self.now.own.frames }
+        ensures { event.new ≡ alone_event self.now.cpu
+            (What.Begin (Begun.Int class) (value_at self.now.own.seen class - 1))
+            self.now.own.frames }
     {
         match Level::new(class) {
             Some(level) => self.write_interrupt(level, self.seen.get(class) - 1, event),
@@ -72,7 +82,8 @@ impl<'s> Cpu<'s> {
         level.number() == 0 && (self.frames.is_on_thread() && self.is_due(class::APC))
     }
 
-    /// Threaded DPCs, at PASSIVE_LEVEL with no frame on the own part (profile), where this is the level.
+    /// Threaded DPCs, at PASSIVE_LEVEL with no frame on the own part (profile), where this is the
+    /// level.
     fn may_threaded(&self, level: Level) -> bool
         requires { level ≡ level_at self.now.own }
         ensures { result ≡ threaded_in self.now.own }
@@ -116,7 +127,8 @@ impl<'s> Cpu<'s> {
         self.may_drain(level) || self.may_apcs(level) || self.may_threaded(level)
     }
 
-    /// Whether this innermost frame spins, and no release was noticed since its last try. In a script without locks none does.
+    /// Whether this innermost frame spins, and no release was noticed since its last try. In a
+    /// script without locks none does.
     fn waits_in(&self, frame: &Frame) -> bool
         requires { innermost self.now.own.frames ≡ Some frame.now }
         ensures { result ≡ (is_some frame.now.spin && not (due_in self.now.own 12)) }
@@ -160,7 +172,8 @@ impl<'s> Cpu<'s> {
     /// The next command of the innermost frame is refused, called alone, or a job.
     fn command_task(&self, frame: &Frame, event: &mut Event) -> Option<Next>
         requires { frame.now.level ≡ level_at self.now.own }
-        ensures task { planned event.new result ≡ command_of self.now.own frame.now (next_of self.now.script self.now.cpu frame.now) }
+        ensures task { planned event.new result
+            ≡ command_of self.now.own frame.now (next_of self.now.script self.now.cpu frame.now) }
         ensures written { IsWritten self.now event.old event.new result }
     {
         match self.next_command(frame) {
@@ -172,7 +185,10 @@ impl<'s> Cpu<'s> {
     /// The call of this command in this innermost frame.
     fn call_in(&self, frame: &Frame, command: &Command, event: &mut Event) -> Next
         requires { frame.now.level ≡ level_at self.now.own }
-        ensures task { task_in event.new result ≡ call_of frame.now command.now (refusal_of (level_at self.now.own) (not (is_null self.now.own.frames.own)) (regions_of (thread_part self.now.own.frames)) frame.now command.now) }
+        ensures task { task_in event.new result
+            ≡ call_of frame.now command.now (refusal_of (level_at self.now.own)
+            (not (is_null self.now.own.frames.own)) (regions_of (thread_part self.now.own.frames))
+            frame.now command.now) }
         ensures written { IsWritten self.now event.old event.new (Some result) }
     {
         let regions = regions_for(&self.frames, command);
@@ -217,7 +233,8 @@ impl<'s> Cpu<'s> {
     /// What the innermost frame has to do.
     fn frame_task(&self, frame: &Frame, event: &mut Event) -> Option<Next>
         requires { frame.now.level ≡ level_at self.now.own }
-        ensures task { planned event.new result ≡ frame_of self.now.script self.now.cpu self.now.own frame.now }
+        ensures task { planned event.new result
+            ≡ frame_of self.now.script self.now.cpu self.now.own frame.now }
         ensures written { IsWritten self.now event.old event.new result }
     {
         if frame.again().is_some() {
@@ -259,7 +276,8 @@ impl<'s> Cpu<'s> {
         }
     }
 
-    /// At rest with no running thread there is nothing to do; else ordinary DPCs, a needed Switch, or Rest.
+    /// At rest with no running thread there is nothing to do; else ordinary DPCs, a needed Switch,
+    /// or Rest.
     fn idle_task(&self) -> Option<Next>
         ensures task { (event : Event) → planned event result ≡ idle_of self.now.own }
         ensures unwritten { (event : Event) → IsWritten self.now event event result }
@@ -271,9 +289,11 @@ impl<'s> Cpu<'s> {
         }
     }
 
-    /// What it has to do next, or None where there is nothing. An event that touches no lane is written.
+    /// What it has to do next, or None where there is nothing. An event that touches no lane is
+    /// written.
     pub(crate) fn task(&self, event: &mut Event) -> Option<Next>
-        ensures task { planned event.new result ≡ task_of self.now.script self.now.cpu self.now.own }
+        ensures task { planned event.new result
+            ≡ task_of self.now.script self.now.cpu self.now.own }
         ensures written { IsWritten self.now event.old event.new result }
     {
         let top = self.frames.top();

@@ -1,5 +1,6 @@
 //! Turns.
-ghost use Rattle.std.specs.Prelude.{◌≡◌, ◌&&◌, ◌<◌, ℕ, false, true, IfErr, IfOk, IsErrOf, OnErr, OnOk, Some};
+ghost use Rattle.std.specs.Prelude.{◌≡◌, ◌&&◌, ◌<◌, ℕ, false, true, IfErr, IfOk, IsErrOf, OnErr};
+ghost use Rattle.std.specs.Prelude.{OnOk, Some};
 ghost use Rattle.nt_event.specs.Own.{stand_in};
 ghost use Rattle.nt_event.specs.Robin.{is_behind, look_values};
 ghost use Rattle.nt_event.specs.Step.{cpu_at, is_cut};
@@ -17,7 +18,8 @@ ghost use Rattle.nt_cpu.specs.declared.turn.TurnRefusal.{TurnRefusal};
 ghost use Rattle.nt_event.specs.declared.numbers.CpuNo.{CpuNo};
 ghost use Rattle.nt_cpu.specs.Choices.{turn_by};
 ghost use Rattle.nt_cpu.specs.Plans.{IsWritten, planned};
-ghost use Rattle.nt_cpu.specs.Turns.{IsTurned, IsTurnRefused, Serves, acts, rises as rises_in, turn_refusal as refusal_of, turn_task as task_of};
+ghost use Rattle.nt_cpu.specs.Turns.{IsTurned, IsTurnRefused, Serves, acts, rises as rises_in};
+ghost use Rattle.nt_cpu.specs.Turns.{turn_refusal as refusal_of, turn_task as task_of};
 
 use crate::choice::Choice;
 use crate::cpu::Cpu;
@@ -59,9 +61,11 @@ impl<'s> Cpu<'s> {
         self.limit <= self.made
     }
 
-    /// What a turn has it do, or None where the turn is refused. An event that touches no lane is written.
+    /// What a turn has it do, or None where the turn is refused. An event that touches no lane is
+    /// written.
     fn turn_task(&self, choice: &Choice<&Rises>, event: &mut Event) -> Option<Next>
-        ensures task { planned event.new result ≡ task_of self.now.script self.now.cpu self.now.own (turn_by self.now.cpu choice.now) }
+        ensures task { planned event.new result
+            ≡ task_of self.now.script self.now.cpu self.now.own (turn_by self.now.cpu choice.now) }
         ensures written { IsWritten self.now event.old event.new result }
     {
         match choice {
@@ -73,7 +77,9 @@ impl<'s> Cpu<'s> {
 
     /// A look, where some value rises and each that does is above what was seen.
     fn look_task(&self, rises: &Rises, event: &mut Event) -> Option<Next>
-        ensures task { planned event.new result ≡ when (rises_in rises.now.value self.now.own.seen) (Some (Task.Alone (What.Look rises.now))) }
+        ensures task { planned event.new result
+            ≡ when (rises_in rises.now.value self.now.own.seen)
+            (Some (Task.Alone (What.Look rises.now))) }
         ensures written { IsWritten self.now event.old event.new result }
     {
         if rise(rises, &self.seen) {
@@ -86,7 +92,10 @@ impl<'s> Cpu<'s> {
 
     /// A switch, where one may be made and the script has the thread.
     fn switch_task(&self, thread: ThreadNo) -> Option<Next>
-        ensures task { (event : Event) → planned event result ≡ when (switch_in self.now.own && has_thread self.now.script thread) (Some (Task.Shared (Job.Switch thread))) }
+        ensures task { (event : Event) →
+            planned event result
+            ≡ when (switch_in self.now.own && has_thread self.now.script thread)
+            (Some (Task.Shared (Job.Switch thread))) }
         ensures unwritten { (event : Event) → IsWritten self.now event event result }
     {
         if self.is_free() && (thread.0 as usize) < self.script.threads.len() {
@@ -96,20 +105,32 @@ impl<'s> Cpu<'s> {
         }
     }
 
-    /// Takes the turn: makes its event, or answers why there is none; then nothing changed but what the floor learned.
+    /// Takes the turn: makes its event, or answers why there is none; then nothing changed but what
+    /// the floor learned.
     ///
-    /// The turn names this processor, and the values of a look were asked for. The floor is of this script, and serves the processor:
-    /// a number may be drawn unless the processor is cut, and where the floor tells its states, the processor stands in them.
-    /// NothingToDo comes where the processor is cut, and for a turn Next where it rests or has to choose a thread; BadLook where
-    /// no value rises or one is not above what was seen; BadChoice where the thread cannot be taken or no choice may be made.
-    /// NoMemory comes from a floor that is not alone.
+    /// The turn names this processor, and the values of a look were asked for. The floor is of this
+    /// script, and serves the processor: a number may be drawn unless the processor is cut, and
+    /// where the floor tells its states, the processor stands in them. NothingToDo comes where the
+    /// processor is cut, and for a turn Next where it rests or has to choose a thread; BadLook
+    /// where no value rises or one is not above what was seen; BadChoice where the thread cannot be
+    /// taken or no choice may be made. NoMemory comes from a floor that is not alone.
     pub fn turn<F: Floor>(&mut self, floor: &mut F, choice: &Turn) -> Result<Event, TurnRefusal>
         requires names { cpu_at choice.now ≡ self.old.cpu }
         requires script { F.script floor.old ≡ self.old.script }
         requires serves { Serves self.old (F.view floor.old) }
-        ensures ok { IfOk result (λ e. (f : Found) × (n : ℕ) × (IsTurned self.old self.new choice.now f n e (F.view floor.old) (F.view floor.new) × (acts self.old choice.now ≡ true → F.found floor.new n e (stand_in self.old.cpu self.old.own) f))) }
-        ensures err { IfErr result (λ r. (f : Found) × (IsTurnRefused self.old choice.now f r (F.view floor.old) × (acts self.old choice.now ≡ true → (job : Job) → task_of self.old.script self.old.cpu self.old.own choice.now ≡ Some (Task.Shared job) → F.shows floor.new (stand_in self.old.cpu self.old.own) job f))) }
-        ensures same { OnErr result ((self.new ≡ self.old) × IsUnmoved (F.view floor.old) (F.view floor.new)) }
+        ensures ok { IfOk result (λ e.
+            (f : Found) × (n : ℕ) ×
+            (IsTurned self.old self.new choice.now f n e (F.view floor.old) (F.view floor.new) ×
+            (acts self.old choice.now ≡ true →
+            F.found floor.new n e (stand_in self.old.cpu self.old.own) f))) }
+        ensures err { IfErr result (λ r.
+            (f : Found) ×
+            (IsTurnRefused self.old choice.now f r (F.view floor.old) ×
+            (acts self.old choice.now ≡ true → (job : Job) →
+            task_of self.old.script self.old.cpu self.old.own choice.now ≡ Some (Task.Shared job) →
+            F.shows floor.new (stand_in self.old.cpu self.old.own) job f))) }
+        ensures same { OnErr result
+            ((self.new ≡ self.old) × IsUnmoved (F.view floor.old) (F.view floor.new)) }
         ensures memory { (F.view floor.old).alone ≡ true → IsErrOf result TurnRefusal.NoMemory → ⊥ }
         ensures script { F.script floor.new ≡ F.script floor.old }
         ensures grows { F.grows floor.old floor.new }
@@ -121,7 +142,8 @@ impl<'s> Cpu<'s> {
         }
     }
 
-    /// Takes the turn as [`Cpu::turn`] does, and writes its event where the caller keeps it; after a refusal nothing was written.
+    /// Takes the turn as [`Cpu::turn`] does, and writes its event where the caller keeps it; after
+    /// a refusal nothing was written.
     pub fn turn_into<F: Floor>(
         &mut self,
         floor: &mut F,
@@ -131,9 +153,19 @@ impl<'s> Cpu<'s> {
         requires names { cpu_at choice.now ≡ self.old.cpu }
         requires script { F.script floor.old ≡ self.old.script }
         requires serves { Serves self.old (F.view floor.old) }
-        ensures ok { OnOk result ((f : Found) × (n : ℕ) × (IsTurned self.old self.new choice.now f n event.new (F.view floor.old) (F.view floor.new) × (acts self.old choice.now ≡ true → F.found floor.new n event.new (stand_in self.old.cpu self.old.own) f))) }
-        ensures err { IfErr result (λ r. (f : Found) × (IsTurnRefused self.old choice.now f r (F.view floor.old) × (acts self.old choice.now ≡ true → (job : Job) → task_of self.old.script self.old.cpu self.old.own choice.now ≡ Some (Task.Shared job) → F.shows floor.new (stand_in self.old.cpu self.old.own) job f))) }
-        ensures same { OnErr result ((self.new ≡ self.old) × IsUnmoved (F.view floor.old) (F.view floor.new)) }
+        ensures ok { OnOk result ((f : Found) × (n : ℕ) ×
+            (IsTurned self.old self.new choice.now f n event.new (F.view floor.old)
+            (F.view floor.new) ×
+            (acts self.old choice.now ≡ true →
+            F.found floor.new n event.new (stand_in self.old.cpu self.old.own) f))) }
+        ensures err { IfErr result (λ r.
+            (f : Found) ×
+            (IsTurnRefused self.old choice.now f r (F.view floor.old) ×
+            (acts self.old choice.now ≡ true → (job : Job) →
+            task_of self.old.script self.old.cpu self.old.own choice.now ≡ Some (Task.Shared job) →
+            F.shows floor.new (stand_in self.old.cpu self.old.own) job f))) }
+        ensures same { OnErr result
+            ((self.new ≡ self.old) × IsUnmoved (F.view floor.old) (F.view floor.new)) }
         ensures unwritten { OnErr result (event.new ≡ event.old) }
         ensures memory { (F.view floor.old).alone ≡ true → IsErrOf result TurnRefusal.NoMemory → ⊥ }
         ensures script { F.script floor.new ≡ F.script floor.old }
@@ -142,14 +174,19 @@ impl<'s> Cpu<'s> {
         self.choose_into(floor, &Choice::of(choice), event)
     }
 
-    /// Looks at what was asked for, where that is above what was seen: the turn of this look, which is not refused.
+    /// Looks at what was asked for, where that is above what was seen: the turn of this look, which
+    /// is not refused.
     pub fn look_into<F: OpenFloor>(&mut self, floor: &mut F, event: &mut Event)
         requires script { F.script floor.old ≡ self.old.script }
         requires serves { Serves self.old (F.view floor.old) }
         requires cpu { self.old.cpu.0 < (F.view floor.old).cpus }
         requires uncut { is_cut self.old.limit self.old.own ≡ false }
         requires behind { is_behind self.old.own ((F.view floor.old).value self.old.cpu) ≡ true }
-        ensures ok { (f : Found) × (n : ℕ) × IsTurned self.old self.new (LookTurn self.old.cpu (record { value = look_values self.old.own ((F.view floor.old).value self.old.cpu) })) f n event.new (F.view floor.old) (F.view floor.new) }
+        ensures ok { (f : Found) × (n : ℕ) ×
+            IsTurned self.old self.new
+            (LookTurn self.old.cpu
+            (record { value = look_values self.old.own ((F.view floor.old).value self.old.cpu) }))
+            f n event.new (F.view floor.old) (F.view floor.new) }
         ensures script { F.script floor.new ≡ F.script floor.old }
         ensures grows { F.grows floor.old floor.new }
     {
@@ -167,9 +204,20 @@ impl<'s> Cpu<'s> {
     ) -> Result<(), TurnRefusal>
         requires script { F.script floor.old ≡ self.old.script }
         requires serves { Serves self.old (F.view floor.old) }
-        ensures ok { OnOk result ((f : Found) × (n : ℕ) × (IsTurned self.old self.new (turn_by self.old.cpu choice.now) f n event.new (F.view floor.old) (F.view floor.new) × (acts self.old (turn_by self.old.cpu choice.now) ≡ true → F.found floor.new n event.new (stand_in self.old.cpu self.old.own) f))) }
-        ensures err { IfErr result (λ r. (f : Found) × (IsTurnRefused self.old (turn_by self.old.cpu choice.now) f r (F.view floor.old) × (acts self.old (turn_by self.old.cpu choice.now) ≡ true → (job : Job) → task_of self.old.script self.old.cpu self.old.own (turn_by self.old.cpu choice.now) ≡ Some (Task.Shared job) → F.shows floor.new (stand_in self.old.cpu self.old.own) job f))) }
-        ensures same { OnErr result ((self.new ≡ self.old) × IsUnmoved (F.view floor.old) (F.view floor.new)) }
+        ensures ok { OnOk result ((f : Found) × (n : ℕ) ×
+            (IsTurned self.old self.new (turn_by self.old.cpu choice.now) f n event.new
+            (F.view floor.old) (F.view floor.new) ×
+            (acts self.old (turn_by self.old.cpu choice.now) ≡ true →
+            F.found floor.new n event.new (stand_in self.old.cpu self.old.own) f))) }
+        ensures err { IfErr result (λ r.
+            (f : Found) ×
+            (IsTurnRefused self.old (turn_by self.old.cpu choice.now) f r (F.view floor.old) ×
+            (acts self.old (turn_by self.old.cpu choice.now) ≡ true → (job : Job) →
+            task_of self.old.script self.old.cpu self.old.own (turn_by self.old.cpu choice.now)
+            ≡ Some (Task.Shared job) →
+            F.shows floor.new (stand_in self.old.cpu self.old.own) job f))) }
+        ensures same { OnErr result
+            ((self.new ≡ self.old) × IsUnmoved (F.view floor.old) (F.view floor.new)) }
         ensures unwritten { OnErr result (event.new ≡ event.old) }
         ensures memory { (F.view floor.old).alone ≡ true → IsErrOf result TurnRefusal.NoMemory → ⊥ }
         ensures script { F.script floor.new ≡ F.script floor.old }

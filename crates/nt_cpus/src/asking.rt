@@ -5,7 +5,8 @@ ghost use Rattle.nt_cpus.specs.Asking.{are_marked};
 use nt_event::{CpuNo, Rises};
 use nt_floor::OpenFloor;
 
-/// Whether the value of a class does not rise, or is one more than the number of an event that was marked for it.
+/// Whether the value of a class does not rise, or is one more than the number of an event that was
+/// marked for it.
 fn was_asked<F: OpenFloor>(floor: &F, cpu: CpuNo, class: u8, value: u64) -> bool
     requires cpu { cpu.0 < (F.view floor.now).cpus }
     requires class { class < 16 }
@@ -14,7 +15,8 @@ fn was_asked<F: OpenFloor>(floor: &F, cpu: CpuNo, class: u8, value: u64) -> bool
     value == 0 || floor.asks(value - 1, cpu, class)
 }
 
-/// Whether each value that rises is one more than the number of an event that was marked for its class.
+/// Whether each value that rises is one more than the number of an event that was marked for its
+/// class.
 pub(crate) fn were_asked<F: OpenFloor>(floor: &F, cpu: CpuNo, rises: &Rises) -> bool
     requires { cpu.0 < (F.view floor.now).cpus }
     ensures value { result ≡ are_marked (F.view floor.now) cpu 0 rises.now.value }

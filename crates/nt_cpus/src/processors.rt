@@ -1,5 +1,6 @@
 //! The processors, and their turns.
-ghost use Rattle.std.specs.Prelude.{◌≡◌, ◌≤◌, ◌<◌, ◌*◌, ◌∷◌, [], Err, IfErr, IfOk, IsTrue, List, Ok, OnErr, OnOk, true};
+ghost use Rattle.std.specs.Prelude.{◌≡◌, ◌≤◌, ◌<◌, ◌*◌, ◌∷◌, [], Err, IfErr, IfOk, IsTrue, List};
+ghost use Rattle.std.specs.Prelude.{Ok, OnErr, OnOk, true};
 ghost use Rattle.nt_event.specs.declared.events.Event.{Event};
 ghost use Rattle.nt_event.specs.declared.scripts.Script.{Script};
 ghost use Rattle.nt_event.specs.Own.{own_of};
@@ -37,13 +38,15 @@ impl<'s> Model for Processors<'s> {
 }
 
 impl<'s> Processors<'s> {
-    /// The processors of the script, none of which made an event; each may make this many. All memory is taken here.
+    /// The processors of the script, none of which made an event; each may make this many. All
+    /// memory is taken here.
     ///
     /// The script fits, and `turns` is at most 20,000.
     pub fn new(alloc: Global, script: &'s Script, turns: u32) -> Result<Processors<'s>, AllocError>
         requires script { IsTrue (fits script.now) }
         requires turns { turns ≤ TURNS }
-        ensures { IfOk result (λ c. c ≡ record { script = script.now; limit = turns; cpus = cpus_of script.now turns [] }) }
+        ensures { IfOk result (λ c.
+            c ≡ record { script = script.now; limit = turns; cpus = cpus_of script.now turns [] }) }
     {
         let mut cpus = Vec::with_capacity(alloc, script.cpus as usize)?;
         for cpu in 0..script.cpus {
@@ -63,14 +66,15 @@ impl<'s> Processors<'s> {
         self.limit
     }
 
-    /// Takes the turn over the floor: makes its event, or answers why there is none; then nothing changed and nothing was
-    /// written. No memory is taken.
+    /// Takes the turn over the floor: makes its event, or answers why there is none; then nothing
+    /// changed and nothing was written. No memory is taken.
     ///
-    /// The processors and the floor stand after some run; what comes is what the turn gives after it, and they stand after its event then.
-    /// The event is written where the caller keeps it. NoSuchCpu comes where the script does not have the processor. NothingToDo comes
-    /// where the processor made as many events as it may, and for a turn Next where it rests, spins still or has to choose a thread; BadLook where no
-    /// value rises, or one is not above what was seen or was not asked for; BadChoice where the thread cannot be taken up or no choice may
-    /// be made.
+    /// The processors and the floor stand after some run; what comes is what the turn gives after
+    /// it, and they stand after its event then. The event is written where the caller keeps it.
+    /// NoSuchCpu comes where the script does not have the processor. NothingToDo comes where the
+    /// processor made as many events as it may, and for a turn Next where it rests, spins still or
+    /// has to choose a thread; BadLook where no value rises, or one is not above what was seen or
+    /// was not asked for; BadChoice where the thread cannot be taken up or no choice may be made.
     pub fn turn<F: OpenFloor>(
         &mut self,
         floor: &mut F,
@@ -78,9 +82,15 @@ impl<'s> Processors<'s> {
         event: &mut Event,
     ) -> Result<(), CoreRefusal>
         requires { AreSound self.old (F.script floor.old) (F.view floor.old) }
-        ensures ok { OnOk result ((past : List Event) → AreAfter past self.old (F.script floor.old) (F.view floor.old) → (step self.old.script self.old.limit turn.now past ≡ Ok event.new) × AreAfter (event.new ∷ past) self.new (F.script floor.new) (F.view floor.new)) }
-        ensures err { IfErr result (λ r. (past : List Event) → AreAfter past self.old (F.script floor.old) (F.view floor.old) → step self.old.script self.old.limit turn.now past ≡ Err (kind_of r)) }
-        ensures same { OnErr result ((self.new ≡ self.old) × IsUnmoved (F.view floor.old) (F.view floor.new)) }
+        ensures ok { OnOk result ((past : List Event) →
+            AreAfter past self.old (F.script floor.old) (F.view floor.old) →
+            (step self.old.script self.old.limit turn.now past ≡ Ok event.new) ×
+            AreAfter (event.new ∷ past) self.new (F.script floor.new) (F.view floor.new)) }
+        ensures err { IfErr result (λ r.
+            (past : List Event) → AreAfter past self.old (F.script floor.old) (F.view floor.old) →
+            step self.old.script self.old.limit turn.now past ≡ Err (kind_of r)) }
+        ensures same { OnErr result
+            ((self.new ≡ self.old) × IsUnmoved (F.view floor.old) (F.view floor.new)) }
         ensures unwritten { OnErr result (event.new ≡ event.old) }
         ensures floor { F.script floor.new ≡ F.script floor.old }
         ensures kept { (self.new.script ≡ self.old.script) × (self.new.limit ≡ self.old.limit) }
@@ -100,9 +110,12 @@ impl<'s> Processors<'s> {
 
     /// Whether the processor made as many events as it may.
     pub(crate) fn is_cut(&self, cpu: CpuNo) -> bool
-        requires every { (past : List Event) × (self.now.cpus ≡ cpus_of self.now.script self.now.limit past) }
+        requires every { (past : List Event) ×
+            (self.now.cpus ≡ cpus_of self.now.script self.now.limit past) }
         requires cpu { cpu.0 < self.now.script.cpus }
-        ensures { (past : List Event) → self.now.cpus ≡ cpus_of self.now.script self.now.limit past → result ≡ is_cut_in self.now.limit (own_of self.now.script cpu past) }
+        ensures { (past : List Event) →
+            self.now.cpus ≡ cpus_of self.now.script self.now.limit past →
+            result ≡ is_cut_in self.now.limit (own_of self.now.script cpu past) }
     {
         self.limit <= self.cpus[cpu.0 as usize].made()
     }
@@ -116,11 +129,19 @@ impl<'s> Processors<'s> {
         event: &mut Event,
     ) -> Result<(), CoreRefusal>
         requires after { AreSound self.old (F.script floor.old) (F.view floor.old) }
-        requires asked { (past : List Event) → AreAfter past self.old (F.script floor.old) (F.view floor.old) → was_asked_for self.old.script (turn_by cpu choice.now) past ≡ true }
+        requires asked { (past : List Event) →
+            AreAfter past self.old (F.script floor.old) (F.view floor.old) →
+            was_asked_for self.old.script (turn_by cpu choice.now) past ≡ true }
         requires cpu { cpu.0 < self.old.script.cpus }
-        ensures ok { OnOk result ((past : List Event) → AreAfter past self.old (F.script floor.old) (F.view floor.old) → (step self.old.script self.old.limit (turn_by cpu choice.now) past ≡ Ok event.new) × AreAfter (event.new ∷ past) self.new (F.script floor.new) (F.view floor.new)) }
-        ensures err { IfErr result (λ r. (past : List Event) → AreAfter past self.old (F.script floor.old) (F.view floor.old) → step self.old.script self.old.limit (turn_by cpu choice.now) past ≡ Err (kind_of r)) }
-        ensures same { OnErr result ((self.new ≡ self.old) × IsUnmoved (F.view floor.old) (F.view floor.new)) }
+        ensures ok { OnOk result ((past : List Event) →
+            AreAfter past self.old (F.script floor.old) (F.view floor.old) →
+            (step self.old.script self.old.limit (turn_by cpu choice.now) past ≡ Ok event.new) ×
+            AreAfter (event.new ∷ past) self.new (F.script floor.new) (F.view floor.new)) }
+        ensures err { IfErr result (λ r.
+            (past : List Event) → AreAfter past self.old (F.script floor.old) (F.view floor.old) →
+            step self.old.script self.old.limit (turn_by cpu choice.now) past ≡ Err (kind_of r)) }
+        ensures same { OnErr result
+            ((self.new ≡ self.old) × IsUnmoved (F.view floor.old) (F.view floor.new)) }
         ensures unwritten { OnErr result (event.new ≡ event.old) }
         ensures floor { F.script floor.new ≡ F.script floor.old }
         ensures kept { (self.new.script ≡ self.old.script) × (self.new.limit ≡ self.old.limit) }
@@ -136,7 +157,9 @@ impl<'s> Processors<'s> {
 /// Whether the values of a look were asked for.
 fn is_asked<F: OpenFloor>(floor: &F, turn: &Turn) -> bool
     requires { (cpu_at turn.now).0 < (F.view floor.now).cpus }
-    ensures { (s : Script) → (past : List Event) → Follows s past (F.view floor.now) → (cpu_at turn.now).0 < s.cpus → result ≡ was_asked_for s turn.now past }
+    ensures { (s : Script) → (past : List Event) → Follows s past (F.view floor.now) →
+        (cpu_at turn.now).0 < s.cpus →
+        result ≡ was_asked_for s turn.now past }
 {
     match turn {
         Turn::Look(cpu, rises) => were_asked(floor, *cpu, rises),

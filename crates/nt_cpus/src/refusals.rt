@@ -14,7 +14,8 @@ pub enum CoreRefusal {
     NoSuchCpu,
     /// The processor has no next event, or made as many as it may.
     NothingToDo,
-    /// A look in which no value rises, one that is not above what was seen, or one that no event asked for.
+    /// A look in which no value rises, one that is not above what was seen, or one that no event
+    /// asked for.
     BadLook,
     /// A switch to a thread that cannot be taken up, or where none can.
     BadChoice,

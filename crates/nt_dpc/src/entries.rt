@@ -1,6 +1,7 @@
 //! Entries in order of insertion: the first of a part, and the depth.
 ghost use Rattle.std.specs.Prelude.{◌≡◌, ◌≤◌, find, length, position, reverse};
-ghost use Rattle.nt_event.specs.Queues.{depth_of, first_dpc, insert_asks, is_high_in, is_in, is_of_dpc};
+ghost use Rattle.nt_event.specs.Queues.{depth_of, first_dpc, insert_asks, is_high_in, is_in};
+ghost use Rattle.nt_event.specs.Queues.{is_of_dpc};
 ghost use Rattle.nt_dpc.specs.Queues.{holds_dpc};
 
 use nt_event::{DpcNo, Importance, Insert, Part};
@@ -12,7 +13,8 @@ fn is_in(part: Part, x: &Insert) -> bool
     part == x.part
 }
 
-/// The High entry of the part that was inserted last, else the entry of the part that was inserted first.
+/// The High entry of the part that was inserted last, else the entry of the part that was inserted
+/// first.
 pub(crate) fn first(items: &[Insert], part: Part) -> Option<Insert>
     ensures { result ≡ first_dpc part (reverse items.now) }
 {
@@ -60,8 +62,9 @@ pub(crate) fn place_of(items: &[Insert], d: DpcNo) -> Option<usize>
     items.iter().position(|x| x.dpc.0 == d.0)
 }
 
-/// Whether an ordinary insert asks for a dispatch interrupt, by importance, whether the queue is the inserting processor's
-/// own, whether its depth is above the limit and whether its processor is idle (profile).
+/// Whether an ordinary insert asks for a dispatch interrupt, by importance, whether the queue is
+/// the inserting processor's own, whether its depth is above the limit and whether its processor is
+/// idle (profile).
 pub(crate) fn insert_asks(importance: Importance, own: bool, deep: bool, idle: bool) -> bool
     ensures { result ≡ insert_asks importance own deep idle }
 {

@@ -1,8 +1,10 @@
 //! Laws of DPC queues: over every list of accepted calls, and over the events of the machine.
-ghost use Rattle.nt_dpc.specs.Laws.{AskIsTheEvents, FirstByNumber, ObjectCallsAreEvents, OneEntryEach, QueueCallsAreEvents, RemovedIsGone};
+ghost use Rattle.nt_dpc.specs.Laws.{AskIsTheEvents, FirstByNumber, ObjectCallsAreEvents};
+ghost use Rattle.nt_dpc.specs.Laws.{OneEntryEach, QueueCallsAreEvents, RemovedIsGone};
 
-/// Where each insert has a number above those before it, the first of a part is the pending High insert of greatest number, else
-/// the pending insert of least number, and there is none exactly where nothing of the part is pending.
+/// Where each insert has a number above those before it, the first of a part is the pending High
+/// insert of greatest number, else the pending insert of least number, and there is none exactly
+/// where nothing of the part is pending.
 pub fn first_by_number()
     ensures { FirstByNumber }
 {}

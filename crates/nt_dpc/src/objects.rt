@@ -1,12 +1,14 @@
 //! DPC objects.
 ghost use Rattle.std.specs.Prelude.{◌≡◌};
 ghost use Rattle.nt_event.specs.Objects.{is_queued, queue_for};
-ghost use Rattle.nt_dpc.specs.Objects.{entry_of, new_object, queued_at, standing_cpu, unqueued, with_importance, with_target};
+ghost use Rattle.nt_dpc.specs.Objects.{entry_of, new_object, queued_at, standing_cpu, unqueued};
+ghost use Rattle.nt_dpc.specs.Objects.{with_importance, with_target};
 
 use nt_event::{CpuNo, DpcNo, Importance, Insert, Part, Standing};
 use std::marker::Model;
 
-/// A DPC object: its number, its part of a queue, its importance and target, and where its entry stands.
+/// A DPC object: its number, its part of a queue, its importance and target, and where its entry
+/// stands.
 #[derive(Drop, Debug)]
 pub struct DpcObject {
     dpc: DpcNo,
@@ -21,12 +23,16 @@ impl Model for DpcObject {
 
     ghost Value = { ObjectFacts };
 
-    ghost view = { λ a. record { dpc = a.dpc; part = a.part; state = record { importance = a.importance; target = a.target; standing = a.standing } } };
+    ghost view = { λ a. record {
+      dpc = a.dpc;
+      part = a.part;
+      state = record { importance = a.importance; target = a.target; standing = a.standing };
+    } };
 }
 
 impl DpcObject {
-    /// An object of Medium importance with no target, which isn't queued (KeInitializeDpc, KeInitializeThreadedDpc). `threaded`
-    /// is false where threaded DPCs are switched off.
+    /// An object of Medium importance with no target, which isn't queued (KeInitializeDpc,
+    /// KeInitializeThreadedDpc). `threaded` is false where threaded DPCs are switched off.
     pub fn new(no: DpcNo, threaded: bool) -> DpcObject
         ensures { result ≡ new_object no threaded }
     {
@@ -50,7 +56,8 @@ impl DpcObject {
         self.importance = i;
     }
 
-    /// Sets the target processor, or none, which counts from the next insert on (profile). KeSetTargetProcessorDpc.
+    /// Sets the target processor, or none, which counts from the next insert on (profile).
+    /// KeSetTargetProcessorDpc.
     pub fn set_target(&mut self, t: Option<CpuNo>)
         ensures { self.new ≡ record self.old { state = with_target t self.old.state } }
     {

@@ -1,11 +1,14 @@
 //! DPC queues.
 ghost use Rattle.std.specs.List.{list_any};
 ghost use Rattle.std.specs.Bool.{OnFalse, OnTrue};
-ghost use Rattle.std.specs.Prelude.{◌≡◌, ◌<◌, ◌≤◌, false, true, is_some, length, not, IfOk, Some, option_map};
+ghost use Rattle.std.specs.Prelude.{◌≡◌, ◌<◌, ◌≤◌, false, true, is_some, length, not, IfOk, Some};
+ghost use Rattle.std.specs.Prelude.{option_map};
 ghost use Rattle.nt_event.specs.Objects.{is_queued};
 ghost use Rattle.nt_event.specs.Queues.{depth_of, first_dpc, is_in};
 ghost use Rattle.nt_dpc.specs.Objects.{ObjectFacts, entry_of, queued_at, unqueued};
-ghost use Rattle.nt_dpc.specs.Queues.{MayInsert, StandsHereOrNowhere, asked_class, first_entry, holds_dpc, new_queue, queue_with, with_entry, with_idle, without_entry};
+ghost use Rattle.nt_dpc.specs.Queues.{MayInsert, StandsHereOrNowhere, asked_class, first_entry};
+ghost use Rattle.nt_dpc.specs.Queues.{holds_dpc, new_queue, queue_with, with_entry, with_idle};
+ghost use Rattle.nt_dpc.specs.Queues.{without_entry};
 
 use crate::entries;
 use crate::objects::DpcObject;
@@ -16,23 +19,26 @@ use std::marker::Model;
 /// What an insert answers.
 #[derive(Clone, Copy, PartialEq, Eq, Debug)]
 pub struct Inserted {
-    /// Whether the object was inserted. False exactly where it was queued already, and then nothing changed.
+    /// Whether the object was inserted. False exactly where it was queued already, and then nothing
+    /// changed.
     pub yes: bool,
-    /// The request class that the insert asks for on the queue's processor: 0 for a threaded DPC, 2 (DISPATCH_LEVEL) or none for
-    /// an ordinary one.
+    /// The request class that the insert asks for on the queue's processor: 0 for a threaded DPC, 2
+    /// (DISPATCH_LEVEL) or none for an ordinary one.
     pub ask: Option<u8>,
     /// How many ordinary entries the queue has afterwards.
     pub depth: u32,
 }
 
-/// The DPC queue of a processor. It has room for its objects from the start: no call but [`DpcQueue::new`] takes memory.
+/// The DPC queue of a processor. It has room for its objects from the start: no call but
+/// [`DpcQueue::new`] takes memory.
 #[derive(Drop, Debug)]
 pub struct DpcQueue {
     cpu: CpuNo,
     count: u32,
     limit: u32,
     idle: bool,
-    /// The entries, the newest last. There are at most as many as objects, so the first of a part is found by a walk.
+    /// The entries, the newest last. There are at most as many as objects, so the first of a part
+    /// is found by a walk.
     items: Vec<Insert>,
 }
 
@@ -43,13 +49,21 @@ impl Model for DpcQueue {
 
     ghost Value = { QueueFacts };
 
-    ghost view = { λ a. record { cpu = a.cpu; count = a.count; limit = a.limit; state = record { pending = reverse a.items.items; idle = a.idle } } };
+    ghost view = { λ a. record {
+      cpu = a.cpu;
+      count = a.count;
+      limit = a.limit;
+      state = record { pending = reverse a.items.items; idle = a.idle };
+    } };
 
-    ghost invariant = { λ a. (a.count < 2 ^ 32) × (a.count ≤ vec_capacity a.items) × EachOnceBelow a.count (reverse a.items.items) };
+    ghost invariant = { λ a.
+        (a.count < 2 ^ 32) × (a.count ≤ vec_capacity a.items) ×
+        EachOnceBelow a.count (reverse a.items.items) };
 }
 
 impl DpcQueue {
-    /// An empty queue of the processor, with room for `count` objects and the depth limit `depth`. No later call takes memory.
+    /// An empty queue of the processor, with room for `count` objects and the depth limit `depth`.
+    /// No later call takes memory.
     pub fn new(alloc: Global, cpu: CpuNo, count: u32, depth: u32) -> Result<DpcQueue, AllocError>
         ensures { IfOk result (λ q. q ≡ new_queue cpu count depth) }
     {
@@ -74,7 +88,8 @@ impl DpcQueue {
 
         // the queue has the new entry, and the object stands there
         ensures queue { OnTrue result.yes (self.new ≡ with_entry (entry_of n d.old) self.old) }
-        ensures object { OnTrue result.yes (d.new ≡ queued_at (record { queue = self.old.cpu; number = n }) d.old) }
+        ensures object { OnTrue result.yes
+            (d.new ≡ queued_at (record { queue = self.old.cpu; number = n }) d.old) }
 
         // a refusal changes nothing
         ensures same_queue { OnFalse result.yes (self.new ≡ self.old) }
@@ -151,7 +166,8 @@ impl DpcQueue {
         entries::holds(self.items.as_slice(), d)
     }
 
-    /// The first entry of the part, by its object and the number of its event; None exactly where the part is empty.
+    /// The first entry of the part, by its object and the number of its event; None exactly where
+    /// the part is empty.
     pub fn first(&self, part: Part) -> Option<(DpcNo, u64)>
         ensures value { result ≡ first_entry part self.now }
         ensures found { is_some result ≡ list_any (is_in part) self.now.state.pending }
@@ -162,7 +178,8 @@ impl DpcQueue {
         }
     }
 
-    /// Takes the object, which is the first one of the part, out of the queue. Answers the number of the event that inserted it.
+    /// Takes the object, which is the first one of the part, out of the queue. Answers the number
+    /// of the event that inserted it.
     pub fn take(&mut self, part: Part, d: &mut DpcObject) -> u64
         requires { option_map (λ x. x.0) (first_entry part self.old) ≡ Some d.old.dpc }
         ensures number { first_entry part self.old ≡ Some (d.old.dpc, result) }

@@ -1,6 +1,7 @@
 //! What an event changes of objects and queues.
 ghost use Rattle.std.specs.Prelude.{◌≡◌};
-ghost use Rattle.nt_dpc_lanes.specs.Changes.{begin_change, call_change, change_of as change_in, change_where as change_if};
+ghost use Rattle.nt_dpc_lanes.specs.Changes.{begin_change, call_change, change_of as change_in};
+ghost use Rattle.nt_dpc_lanes.specs.Changes.{change_where as change_if};
 
 use nt_event::{Begun, Command, CpuNo, DpcNo, Importance, Part, Reply, What};
 

@@ -9,7 +9,8 @@ ghost use Rattle.nt_dpc.specs.Laws.{asks_on};
 ghost use Rattle.nt_dpc.specs.Objects.{with_importance, with_target};
 ghost use Rattle.nt_dpc.specs.Queues.{set_idle};
 ghost use Rattle.nt_dpc_lanes.specs.Agree.{Agrees, IsObjectOf, IsQueueOf};
-ghost use Rattle.nt_dpc_lanes.specs.Changes.{MayChange, changed, inserted_at, removed_at, removed_from, with_object, with_queue};
+ghost use Rattle.nt_dpc_lanes.specs.Changes.{MayChange, changed, inserted_at, removed_at};
+ghost use Rattle.nt_dpc_lanes.specs.Changes.{removed_from, with_object, with_queue};
 ghost use Rattle.nt_states.specs.DpcLanes.{MayLeave, left, queue_in, start};
 
 use crate::changes::{Change, change_of};
@@ -40,7 +41,8 @@ impl<'s> Model for Dpcs<'s> {
 }
 
 impl<'s> Dpcs<'s> {
-    /// The objects and queues of the script, which fits, before any event, with room for all that there may be.
+    /// The objects and queues of the script, which fits, before any event, with room for all that
+    /// there may be.
     pub fn new(alloc: Global, script: &'s Script) -> Result<Dpcs<'s>, AllocError>
         requires { IsTrue (fits script.now) }
         ensures { IfOk result (λ x. x ≡ start script.now) }
@@ -81,24 +83,27 @@ impl<'s> Dpcs<'s> {
         self.object(d).standing()
     }
 
-    /// The first entry of the part of the processor's queue, by its object and the number of its event; None exactly where the
-    /// part is empty.
+    /// The first entry of the part of the processor's queue, by its object and the number of its
+    /// event; None exactly where the part is empty.
     pub fn first(&self, part: Part, p: CpuNo) -> Option<(DpcNo, u64)>
         requires { IsTrue (has_cpu self.now.script p) }
-        ensures value { result ≡ option_map (λ x. (x.dpc, x.number)) (first_dpc part (queue_in self.now.queues p).pending) }
+        ensures value { result ≡ option_map (λ x. (x.dpc, x.number))
+            (first_dpc part (queue_in self.now.queues p).pending) }
         ensures object { IfSome result (λ x. IsTrue (has_dpc self.now.script x.0)) }
     {
         self.agree();
         self.queue(p).first(part)
     }
 
-    /// The request class that an insert of the object, which isn't queued, by the processor `by` asks for on the processor of
-    /// [`Dpcs::queue_for`]; None where it asks for none.
+    /// The request class that an insert of the object, which isn't queued, by the processor `by`
+    /// asks for on the processor of [`Dpcs::queue_for`]; None where it asks for none.
     pub fn ask(&self, d: DpcNo, by: CpuNo) -> Option<u8>
         requires object { IsTrue (has_dpc self.now.script d) }
         requires cpu { IsTrue (has_cpu self.now.script by) }
         requires free { is_queued (object_in self.now.objects d) ≡ false }
-        ensures asks { (l : Lanes) → l.objects ≡ self.now.objects → l.queues ≡ self.now.queues → queue_asks self.now.script d by l ≡ asks_on (queue_for (object_in self.now.objects d).target by) result }
+        ensures asks { (l : Lanes) → l.objects ≡ self.now.objects → l.queues ≡ self.now.queues →
+            queue_asks self.now.script d by l
+            ≡ asks_on (queue_for (object_in self.now.objects d).target by) result }
         ensures class { IfSome result (λ c. c < 16) }
     {
         self.agree();
@@ -106,8 +111,8 @@ impl<'s> Dpcs<'s> {
         self.queue(p).answer(self.object(d), by).ask
     }
 
-    /// What the event `what` of this number, made by the processor `by`, leaves. It is an event that may be made now. Takes no
-    /// memory.
+    /// What the event `what` of this number, made by the processor `by`, leaves. It is an event
+    /// that may be made now. Takes no memory.
     pub fn leave(&mut self, n: u64, by: CpuNo, what: &What)
         requires cpu { IsTrue (has_cpu self.old.script by) }
         requires event { MayLeave self.old by what.now }
@@ -162,7 +167,8 @@ impl<'s> Dpcs<'s> {
         requires object { IsTrue (has_dpc self.old.script d) }
         requires cpu { IsTrue (has_cpu self.old.script by) }
         requires free { is_queued (object_in self.old.objects d) ≡ false }
-        ensures { self.new ≡ inserted_at n (queue_for (object_in self.old.objects d).target by) d self.old }
+        ensures { self.new
+            ≡ inserted_at n (queue_for (object_in self.old.objects d).target by) d self.old }
     {
         let p = self.queue_for(d, by);
         pairs::insert(&mut self.objects, &mut self.queues, d, p, by, n);
@@ -180,7 +186,9 @@ impl<'s> Dpcs<'s> {
     fn take(&mut self, part: Part, p: CpuNo, d: DpcNo)
         requires object { IsTrue (has_dpc self.old.script d) }
         requires cpu { IsTrue (has_cpu self.old.script p) }
-        requires first { option_map (λ x. x.dpc) (first_dpc part (queue_in self.old.queues p).pending) ≡ Some d }
+        requires first { option_map (λ x. x.dpc)
+            (first_dpc part (queue_in self.old.queues p).pending)
+            ≡ Some d }
         ensures { self.new ≡ removed_at p d self.old }
     {
         pairs::take(&mut self.objects, &mut self.queues, d, p, part);
@@ -188,7 +196,8 @@ impl<'s> Dpcs<'s> {
 
     fn set_importance(&mut self, d: DpcNo, i: Importance)
         requires { IsTrue (has_dpc self.old.script d) }
-        ensures { self.new ≡ with_object d (with_importance i (object_in self.old.objects d)) self.old }
+        ensures { self.new
+            ≡ with_object d (with_importance i (object_in self.old.objects d)) self.old }
     {
         pairs::set_importance(&mut self.objects, d, i);
     }

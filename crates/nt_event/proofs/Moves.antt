@@ -4,7 +4,8 @@ use Rattle.std.specs.Prelude.{Bool, List, None, [], false, if◌then◌else◌, 
 use Rattle.nt_event.specs.declared.events.Event.{Event}
 use Rattle.nt_event.specs.declared.numbers.CpuNo.{CpuNo}
 use Rattle.nt_event.specs.declared.scripts.Script.{Script}
-use Rattle.nt_event.specs.Frames.{due_of, frames_after, frames_in, frames_of, own_after, own_frames, running, running_after, thread_frames, thread_if, time, time_after}
+use Rattle.nt_event.specs.Frames.{due_of, frames_after, frames_in, frames_of, own_after, own_frames, running, running_after, thread_frames, thread_if, time}
+use Rattle.nt_event.specs.Frames.{time_after}
 use Rattle.nt_event.specs.Lanes.{facts_at, lanes_after, lanes_at, lock_at, queue_at}
 use Rattle.nt_event.specs.Locks.{lock_after, lock_of, start_lock}
 use Rattle.nt_event.specs.Objects.{object_after, object_in, object_of, objects_at, start_object}

@@ -7,14 +7,16 @@ use Rattle.std.proofs.lemmas.List.Elements.{filter-append}
 use Rattle.std.proofs.lemmas.List.Sorted.{IsPermutation-reverse, list_any-IsPermutation}
 use Rattle.std.proofs.lemmas.List.Sums.{length-filter}
 
-filter-one : {X : Type 0} (p : X → Bool) (x : X) (b : Bool) (xs : List X) → p x ≡ b → reverse (filter p xs) ++ filter p (x ∷ []) ≡ reverse (cond b (x ∷ filter p xs) (filter p xs))
+filter-one : {X : Type 0} (p : X → Bool) (x : X) (b : Bool) (xs : List X) → p x ≡ b →
+    reverse (filter p xs) ++ filter p (x ∷ []) ≡ reverse (cond b (x ∷ filter p xs) (filter p xs))
 filter-one p x true xs e = rw e (sym (reverse-append (x ∷ []) (filter p xs)))
 filter-one p x false xs e = rw e (append-nil (reverse (filter p xs)))
 
 pub filter-reverse : {X : Type 0} (p : X → Bool) (xs : List X) → filter p (reverse xs) ≡ reverse (filter p xs)
 filter-reverse p [] = refl
 filter-reverse {X} p (x ∷ xs) =
-    rw (reverse-append (x ∷ []) xs) (filter-append p (reverse xs) (x ∷ []) ∙ ap (λ (ys : List X). ys ++ filter p (x ∷ [])) (filter-reverse p xs) ∙ filter-one p x (p x) xs refl)
+    rw (reverse-append (x ∷ []) xs)
+    (filter-append p (reverse xs) (x ∷ []) ∙ ap (λ (ys : List X). ys ++ filter p (x ∷ [])) (filter-reverse p xs) ∙ filter-one p x (p x) xs refl)
 
 pub count_by-reverse : {X : Type 0} (p : X → Bool) (xs : List X) → count_by p (reverse xs) ≡ count_by p xs
 count_by-reverse p xs =

@@ -22,11 +22,15 @@ read_map f (x ∷ xs) (suc i) d = read_map f xs i d
 
 -- ---- tables in which one place changes
 
-set_reads : {A : Type 0} (xs : List A) (t i : ℕ) (v d : A) (f : ℕ → A) → i < length xs → (eqb t i ≡ true → f i ≡ v) → (eqb t i ≡ false → f i ≡ get_or xs i d) → (b : Bool) → eqb t i ≡ b → f i ≡ get_or (set xs t v) i d
+set_reads : {A : Type 0} (xs : List A) (t i : ℕ) (v d : A) (f : ℕ → A) → i < length xs → (eqb t i ≡ true → f i ≡ v) → (eqb t i ≡ false → f i ≡ get_or xs i d) →
+    (b : Bool) → eqb t i ≡ b →
+    f i ≡ get_or (set xs t v) i d
 set_reads xs t i v d f h same other true e = same e ∙ sym (read_same xs t i v d e (let at = eqb-true t i e in omega arith))
 set_reads xs t i v d f h same other false e = other e ∙ sym (read_other xs t i v d e)
 
 -- a table whose elements are those of the list but at t is the list with that place written
-pub table_set : {A : Type 0} (xs : List A) (n t : ℕ) (v d : A) (f : ℕ → A) → length xs ≡ n → ((i : ℕ) → eqb t i ≡ true → f i ≡ v) → ((i : ℕ) → eqb t i ≡ false → f i ≡ get_or xs i d) → table n f ≡ set xs t v
+pub table_set : {A : Type 0} (xs : List A) (n t : ℕ) (v d : A) (f : ℕ → A) → length xs ≡ n → ((i : ℕ) → eqb t i ≡ true → f i ≡ v) →
+    ((i : ℕ) → eqb t i ≡ false → f i ≡ get_or xs i d) →
+    table n f ≡ set xs t v
 table_set xs n t v d f l same other =
     table-self d n (set xs t v) f (length-set xs t v ∙ l) (λ i h. set_reads xs t i v d f (omega arith) (same i) (other i) (eqb t i) refl)

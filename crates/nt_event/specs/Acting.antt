@@ -1,6 +1,7 @@
 -- Jobs under lanes: the whole event that a job makes, by where its processor stands and the states of the lanes alone,
 -- and what holds of a processor and a job in a run.
-use Rattle.std.specs.Prelude.{Bool, IfSome, IsSome, IsTrue, Some, false, if◌then◌else◌, length, true, ℕ, ◌<◌, ◌≡◌, ◌≤◌, ◌⊎◌}
+use Rattle.std.specs.Prelude.{Bool, IfSome, IsSome, IsTrue, Some, false, if◌then◌else◌, length, true, ℕ, ◌<◌, ◌≡◌, ◌≤◌}
+use Rattle.std.specs.Prelude.{◌⊎◌}
 use Rattle.nt_event.specs.declared.commands.Command.{Command}
 use Rattle.nt_event.specs.declared.events.Begun.TheVariants as begun
 use Rattle.nt_event.specs.declared.events.Event.{Event}

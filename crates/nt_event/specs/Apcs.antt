@@ -2,9 +2,11 @@
 -- "Asynchronous procedure calls").
 use Rattle.std.specs.List.{list_any}
 use Rattle.std.specs.Option.{option_or}
-use Rattle.std.specs.Prelude.{Bool, List, Option, Some, [], false, filter, find, is_some, not, option_and_then, reverse, true, ℕ, ◌&&◌, ◌==◌, ◌∷◌}
+use Rattle.std.specs.Prelude.{Bool, List, Option, Some, [], false, filter, find, is_some, not, option_and_then, reverse}
+use Rattle.std.specs.Prelude.{true, ℕ, ◌&&◌, ◌==◌, ◌∷◌}
 use Rattle.nt_event.specs.declared.commands.ApcKind.{ApcKind}
-use Rattle.nt_event.specs.declared.commands.ApcKind.TheVariants.{Normal as NormalApc, Special as SpecialApc, User as UserApc}
+use Rattle.nt_event.specs.declared.commands.ApcKind.TheVariants.{Normal as NormalApc, Special as SpecialApc}
+use Rattle.nt_event.specs.declared.commands.ApcKind.TheVariants.{User as UserApc}
 use Rattle.nt_event.specs.declared.commands.Regions.{Regions}
 use Rattle.nt_event.specs.declared.inserts.Pick.{Pick}
 use Rattle.nt_event.specs.declared.numbers.ApcNo.{ApcNo}

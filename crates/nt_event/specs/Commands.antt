@@ -1,11 +1,14 @@
 -- Commands: where each is refused, what it replies, and whether it touches a lane.
 use Rattle.std.specs.List.{list_any}
 use Rattle.std.specs.Option.{option_map_or}
-use Rattle.std.specs.Prelude.{Bool, None, Option, Some, false, if◌then◌else◌, is_none, nat_le, nat_lt, not, true, ℕ, ◌&&◌, ◌+◌, ◌==◌}
+use Rattle.std.specs.Prelude.{Bool, None, Option, Some, false, if◌then◌else◌, is_none, nat_le, nat_lt, not, true, ℕ}
+use Rattle.std.specs.Prelude.{◌&&◌, ◌+◌, ◌==◌}
 use Rattle.nt_event.specs.declared.commands.Command.{Command}
 use Rattle.nt_event.specs.declared.commands.Command.TheVariants as cmd
 use Rattle.nt_event.specs.declared.commands.Refusal.{Refusal}
-use Rattle.nt_event.specs.declared.commands.Refusal.TheVariants.{BelowBase, HeldHere, LockHeld, NotBase, NotEntered, NotGreater, NotLast, NotLess, NotThread, RegionsOpen, TooHigh}
+use Rattle.nt_event.specs.declared.commands.Refusal.TheVariants.{BelowBase, HeldHere, LockHeld, NotBase, NotEntered}
+use Rattle.nt_event.specs.declared.commands.Refusal.TheVariants.{NotGreater, NotLast, NotLess, NotThread, RegionsOpen}
+use Rattle.nt_event.specs.declared.commands.Refusal.TheVariants.{TooHigh}
 use Rattle.nt_event.specs.declared.commands.Regions.{Regions}
 use Rattle.nt_event.specs.declared.commands.Reply.{Reply}
 use Rattle.nt_event.specs.declared.commands.Reply.TheVariants.{Done, Spin}
@@ -24,7 +27,8 @@ use Rattle.nt_event.specs.Threads.{ends_by_release, is_alerted, is_gone}
 use Rattle.nt_event.specs.Timers.{is_set_timer}
 use Rattle.nt_event.specs.Waits.{wait_reply}
 use Rattle.nt_event.specs.Replies.{yes_if}
-use Rattle.nt_event.specs.Families.{AdvanceTime, EnterUser, Family, ForApc, ForDpc, ForLevel, ForLock, ForOwn, ForPlain, ForRegion, ForThread, ForTimer, PlainCall, RequestAt, WriteNote, family}
+use Rattle.nt_event.specs.Families.{AdvanceTime, EnterUser, Family, ForApc, ForDpc, ForLevel, ForLock, ForOwn, ForPlain}
+use Rattle.nt_event.specs.Families.{ForRegion, ForThread, ForTimer, PlainCall, RequestAt, WriteNote, family}
 
 -- the first test that fails
 abbrev pub refuse : Bool → Refusal → Option Refusal → Option Refusal

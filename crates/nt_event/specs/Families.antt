@@ -1,5 +1,6 @@
--- Each command and each event once: families of commands, and what is done in an event of one kind or else. A table over
--- one family lists its own commands and has one line for all others; a new command is refused here until it has a family.
+-- Each command and each event once: families of commands, and what is done in an event of one kind or else. A table
+-- over one family lists its own commands and has one line for all others; a new command is refused here until it has a
+-- family.
 use Rattle.std.specs.Prelude.{Bool, Option, ℕ}
 use Rattle.nt_event.specs.declared.commands.Command.{Command}
 use Rattle.nt_event.specs.declared.commands.Command.TheVariants as cmd

@@ -1,11 +1,13 @@
 -- The fate of inserts: each is begun, removed, flushed, or waits at the end.
-use Rattle.std.specs.Prelude.{Bool, List, None, Option, Some, [], false, filter, if◌then◌else◌, length, nat_lt, true, ℕ, ◌&&◌, ◌++◌, ◌==◌, ◌∷◌, option_map}
+use Rattle.std.specs.Prelude.{Bool, List, None, Option, Some, [], false, filter, if◌then◌else◌, length, nat_lt, true, ℕ}
+use Rattle.std.specs.Prelude.{◌&&◌, ◌++◌, ◌==◌, ◌∷◌, option_map}
 use Rattle.nt_event.specs.declared.events.Begun.TheVariants as begun
 use Rattle.nt_event.specs.declared.events.Event.{Event}
 use Rattle.nt_event.specs.declared.events.What.{What}
 use Rattle.nt_event.specs.declared.numbers.ApcNo.{ApcNo}
 use Rattle.nt_event.specs.declared.numbers.DpcNo.{DpcNo}
-use Rattle.nt_event.specs.Families.{AddApc, ApcCall, TakeApc, by_apc_call, by_dpc_call, in_begin, in_call, in_fire, in_flush}
+use Rattle.nt_event.specs.Families.{AddApc, ApcCall, TakeApc, by_apc_call, by_dpc_call, in_begin, in_call, in_fire}
+use Rattle.nt_event.specs.Families.{in_flush}
 use Rattle.nt_event.specs.declared.events.Begun.{Begun}
 use Rattle.nt_event.specs.declared.commands.Command.{Command}
 use Rattle.nt_event.specs.declared.commands.Reply.{Reply}

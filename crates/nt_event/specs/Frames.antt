@@ -1,7 +1,8 @@
 -- Frames: the routines that have begun on a processor and its threads and have not ended, and what each event leaves of
 -- them. A frame is named by the number of the event that began it.
 use Rattle.std.specs.Option.{option_map_or, option_or}
-use Rattle.std.specs.Prelude.{Bool, List, None, Option, Some, [], false, get_or, if◌then◌else◌, length, not, true, ℕ, ◌&&◌, ◌+◌, ◌-◌, ◌==◌, ◌∷◌}
+use Rattle.std.specs.Prelude.{Bool, List, None, Option, Some, [], false, get_or, if◌then◌else◌, length, not, true, ℕ}
+use Rattle.std.specs.Prelude.{◌&&◌, ◌+◌, ◌-◌, ◌==◌, ◌∷◌}
 use Rattle.nt_event.specs.declared.commands.ApcKind.TheVariants.{Normal as NormalApc, User as UserApc}
 use Rattle.nt_event.specs.declared.commands.Command.{Command}
 use Rattle.nt_event.specs.declared.commands.Reply.{Reply}
@@ -27,7 +28,10 @@ use Rattle.nt_event.specs.Locks.{Frees, Gets, LockMove, NoMove, Spins, call_move
 use Rattle.nt_event.specs.Lists.{head_of, is_null, table, tail_of}
 use Rattle.nt_event.specs.Replies.{is_blocked, is_done, is_spin, kernel_apc}
 use Rattle.nt_event.specs.Numbers.{is_by, is_of, thread}
-use Rattle.nt_event.specs.Families.{AdvanceTime, CritEntered, CritLeft, DelaysIn, EnterUser, GivesWay, GuardEntered, GuardLeft, LevelCall, LowerTo, OwnCall, PlainCall, RaiseTo, RegionCall, RequestAt, TestsAlert, WaitsIn, WriteNote, by_level_call, by_own_call, by_plain_call, by_region_call, in_call}
+use Rattle.nt_event.specs.Families.{AdvanceTime, CritEntered, CritLeft, DelaysIn, EnterUser, GivesWay, GuardEntered}
+use Rattle.nt_event.specs.Families.{GuardLeft, LevelCall, LowerTo, OwnCall, PlainCall, RaiseTo, RegionCall, RequestAt}
+use Rattle.nt_event.specs.Families.{TestsAlert, WaitsIn, WriteNote, by_level_call, by_own_call, by_plain_call}
+use Rattle.nt_event.specs.Families.{by_region_call, in_call}
 
 -- a new interrupt runs at its own level, a DPC at DISPATCH_LEVEL, an APC's kernel routine at APC_LEVEL, the others at
 -- PASSIVE_LEVEL (driver documentation, "Managing Hardware Priorities")

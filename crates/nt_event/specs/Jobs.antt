@@ -1,7 +1,8 @@
 -- The next event of a processor: what it has to do by what it keeps alone, and what a job gives by the states of the
 -- lanes.
 use Rattle.std.specs.Option.{option_map_or, option_or}
-use Rattle.std.specs.Prelude.{Bool, List, None, Option, Some, [], false, find, if◌then◌else◌, is_none, is_some, nat_lt, not, option_and_then, option_map, suc, true, unwrap_or, ℕ, ◌&&◌, ◌-◌, ◌==◌, ◌||◌, ◌∷◌}
+use Rattle.std.specs.Prelude.{Bool, List, None, Option, Some, [], false, find, if◌then◌else◌, is_none, is_some, nat_lt}
+use Rattle.std.specs.Prelude.{not, option_and_then, option_map, suc, true, unwrap_or, ℕ, ◌&&◌, ◌-◌, ◌==◌, ◌||◌, ◌∷◌}
 use Rattle.nt_event.specs.declared.commands.ApcKind.TheVariants.{Special as SpecialApc, User as UserApc}
 use Rattle.nt_event.specs.declared.commands.Command.{Command}
 use Rattle.nt_event.specs.declared.commands.Command.TheVariants as cmd

@@ -1,7 +1,8 @@
 -- The states of all lanes: DPC objects, queues, threads, timers and spin locks.
 use Rattle.std.specs.List.{list_any}
 use Rattle.std.specs.Option.{option_map_or}
-use Rattle.std.specs.Prelude.{Bool, List, None, Option, Some, [], false, get_or, if◌then◌else◌, is_some, length, option_and_then, true, ℕ, ◌&&◌, ◌+◌, ◌==◌, ◌∷◌}
+use Rattle.std.specs.Prelude.{Bool, List, None, Option, Some, [], false, get_or, if◌then◌else◌, is_some, length}
+use Rattle.std.specs.Prelude.{option_and_then, true, ℕ, ◌&&◌, ◌+◌, ◌==◌, ◌∷◌}
 use Rattle.nt_event.specs.declared.commands.ApcKind.TheVariants.{User as UserApc}
 use Rattle.nt_event.specs.declared.commands.Command.{Command}
 use Rattle.nt_event.specs.declared.commands.Reply.{Reply}
@@ -16,7 +17,8 @@ use Rattle.nt_event.specs.declared.frames.Body.{Body}
 use Rattle.nt_event.specs.declared.frames.Body.TheVariants as on
 use Rattle.nt_event.specs.declared.inserts.Standing.{Standing}
 use Rattle.nt_event.specs.declared.jobs.Lane.{Lane}
-use Rattle.nt_event.specs.declared.jobs.Lane.TheVariants.{Lock as LockLane, Object as ObjectLane, Queue as QueueLane, Threads as ThreadsLane, Timers as TimersLane}
+use Rattle.nt_event.specs.declared.jobs.Lane.TheVariants.{Lock as LockLane, Object as ObjectLane, Queue as QueueLane}
+use Rattle.nt_event.specs.declared.jobs.Lane.TheVariants.{Threads as ThreadsLane, Timers as TimersLane}
 use Rattle.nt_event.specs.declared.jobs.Stand.{Stand}
 use Rattle.nt_event.specs.declared.numbers.CpuNo.{CpuNo}
 use Rattle.nt_event.specs.declared.numbers.DpcNo.{DpcNo}
@@ -35,7 +37,10 @@ use Rattle.nt_event.specs.Waits.{facts, facts_after}
 use Rattle.nt_event.specs.Numbers.{cpu, dpc, lock, thread}
 use Rattle.nt_event.specs.Replies.{is_refused, is_yes}
 use Rattle.nt_event.specs.Lists.{table}
-use Rattle.nt_event.specs.Families.{AdvanceTime, DelaysIn, DpcCall, EnterUser, Family, ForApc, ForDpc, ForLevel, ForLock, ForOwn, ForPlain, ForRegion, ForThread, ForTimer, GiveImportance, GiveTarget, GivesWay, InsertDpc, OwnCall, PlainCall, RemoveDpc, RequestAt, TestsAlert, WaitsIn, WriteNote, apc_named, family, lock_named, thread_named}
+use Rattle.nt_event.specs.Families.{AdvanceTime, DelaysIn, DpcCall, EnterUser, Family, ForApc, ForDpc, ForLevel}
+use Rattle.nt_event.specs.Families.{ForLock, ForOwn, ForPlain, ForRegion, ForThread, ForTimer, GiveImportance}
+use Rattle.nt_event.specs.Families.{GiveTarget, GivesWay, InsertDpc, OwnCall, PlainCall, RemoveDpc, RequestAt}
+use Rattle.nt_event.specs.Families.{TestsAlert, WaitsIn, WriteNote, apc_named, family, lock_named, thread_named}
 
 pub record Lanes : Type 0 where
   pub objects : List ObjectState

@@ -1,9 +1,12 @@
 -- The numbers and names of refusals, as reports and schedules' refusals write them.
 use Rattle.std.specs.Prelude.{ℕ, List, codes}
 use Rattle.nt_event.specs.declared.commands.Refusal.{Refusal}
-use Rattle.nt_event.specs.declared.commands.Refusal.TheVariants.{NotThread, NotBase, TooHigh, RegionsOpen, NotGreater, NotLess, BelowBase, NotEntered, LockHeld, HeldHere, NotLast}
+use Rattle.nt_event.specs.declared.commands.Refusal.TheVariants.{NotThread, NotBase, TooHigh, RegionsOpen, NotGreater}
+use Rattle.nt_event.specs.declared.commands.Refusal.TheVariants.{NotLess, BelowBase, NotEntered, LockHeld, HeldHere}
+use Rattle.nt_event.specs.declared.commands.Refusal.TheVariants.{NotLast}
 use Rattle.nt_event.specs.declared.events.ScheduleKind.{ScheduleKind}
-use Rattle.nt_event.specs.declared.events.ScheduleKind.TheVariants.{NoSuchCpu, NothingToDo, BadLook, BadChoice, Unfinished}
+use Rattle.nt_event.specs.declared.events.ScheduleKind.TheVariants.{NoSuchCpu, NothingToDo, BadLook, BadChoice}
+use Rattle.nt_event.specs.declared.events.ScheduleKind.TheVariants.{Unfinished}
 
 -- the number of a refused command's cause, in the order of the tests
 abbrev pub refusal_number : Refusal → ℕ

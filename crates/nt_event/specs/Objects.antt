@@ -1,5 +1,6 @@
 -- DPC objects: importance, target and pending insert (Windows Internals, "Deferred procedure call interrupts").
-use Rattle.std.specs.Prelude.{Bool, List, None, Option, Some, [], false, get_or, if◌then◌else◌, is_some, length, unwrap_or, ℕ, ◌==◌, ◌∷◌, ◌&&◌}
+use Rattle.std.specs.Prelude.{Bool, List, None, Option, Some, [], false, get_or, if◌then◌else◌, is_some, length}
+use Rattle.std.specs.Prelude.{unwrap_or, ℕ, ◌==◌, ◌∷◌, ◌&&◌}
 use Rattle.nt_event.specs.declared.commands.Importance.{Importance}
 use Rattle.nt_event.specs.declared.commands.Importance.TheVariants.{Medium}
 use Rattle.nt_event.specs.declared.events.Begun.TheVariants as begun
@@ -11,7 +12,8 @@ use Rattle.nt_event.specs.declared.numbers.DpcNo.{DpcNo}
 use Rattle.nt_event.specs.declared.scripts.Script.{Script}
 use Rattle.nt_event.specs.Numbers.{dpc}
 use Rattle.nt_event.specs.Lists.{table}
-use Rattle.nt_event.specs.Families.{DpcCall, GiveImportance, GiveTarget, InsertDpc, RemoveDpc, by_dpc_call, in_begin, in_call, in_fire}
+use Rattle.nt_event.specs.Families.{DpcCall, GiveImportance, GiveTarget, InsertDpc, RemoveDpc, by_dpc_call, in_begin}
+use Rattle.nt_event.specs.Families.{in_call, in_fire}
 use Rattle.nt_event.specs.declared.events.Begun.{Begun}
 use Rattle.nt_event.specs.declared.commands.Reply.{Reply}
 use Rattle.nt_event.specs.Replies.{is_done, some_if_yes}

@@ -1,6 +1,7 @@
 -- DPC queues: the pending inserts of a processor, the first of each part, and what an insert asks for.
 use Rattle.std.specs.Option.{option_or}
-use Rattle.std.specs.Prelude.{Bool, List, None, Option, Some, [], count_by, false, filter, find, if◌then◌else◌, length, not, option_map, reverse, true, ℕ, ◌&&◌, ◌==◌, ◌||◌, ◌∷◌}
+use Rattle.std.specs.Prelude.{Bool, List, None, Option, Some, [], count_by, false, filter, find, if◌then◌else◌, length}
+use Rattle.std.specs.Prelude.{not, option_map, reverse, true, ℕ, ◌&&◌, ◌==◌, ◌||◌, ◌∷◌}
 use Rattle.nt_event.specs.declared.commands.Importance.{Importance}
 use Rattle.nt_event.specs.declared.commands.Importance.TheVariants.{High, Low, Medium, MediumHigh}
 use Rattle.nt_event.specs.declared.events.Event.{Event}

@@ -1,7 +1,8 @@
 -- Regions: what holds back the kernel APCs of a thread, and where a processor stands.
 use Rattle.std.specs.List.{list_any}
 use Rattle.std.specs.Option.{option_map_or, option_or}
-use Rattle.std.specs.Prelude.{Bool, List, [], false, if◌then◌else◌, not, option_and_then, option_map, sum_by, ℕ, ◌&&◌, ◌==◌, ◌||◌, ◌∷◌}
+use Rattle.std.specs.Prelude.{Bool, List, [], false, if◌then◌else◌, not, option_and_then, option_map, sum_by, ℕ, ◌&&◌}
+use Rattle.std.specs.Prelude.{◌==◌, ◌||◌, ◌∷◌}
 use Rattle.nt_event.specs.declared.commands.Regions.{Regions}
 use Rattle.nt_event.specs.declared.events.Begun.TheVariants as begun
 use Rattle.nt_event.specs.declared.events.Event.{Event}

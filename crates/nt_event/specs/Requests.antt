@@ -1,6 +1,7 @@
 -- Requests: which values an event asks for, and what a processor has noticed and served of them.
 use Rattle.std.specs.List.{list_any}
-use Rattle.std.specs.Prelude.{Bool, List, None, Option, Some, [], false, if◌then◌else◌, length, max, nat_lt, not, suc, true, ℕ, ◌&&◌, ◌++◌, ◌+◌, ◌==◌, ◌||◌, ◌∷◌}
+use Rattle.std.specs.Prelude.{Bool, List, None, Option, Some, [], false, if◌then◌else◌, length, max, nat_lt, not, suc}
+use Rattle.std.specs.Prelude.{true, ℕ, ◌&&◌, ◌++◌, ◌+◌, ◌==◌, ◌||◌, ◌∷◌}
 use Rattle.nt_event.specs.declared.commands.ApcKind.TheVariants.{Normal as NormalApc}
 use Rattle.nt_event.specs.declared.commands.Command.{Command}
 use Rattle.nt_event.specs.declared.commands.Reply.{Reply}
@@ -34,7 +35,12 @@ use Rattle.nt_event.specs.Waits.{new_pick}
 use Rattle.nt_event.specs.Numbers.{cpu, is_of}
 use Rattle.nt_event.specs.Replies.{is_done, is_no, is_spin, is_yes}
 use Rattle.nt_event.specs.Lists.{value_at}
-use Rattle.nt_event.specs.Families.{AdvanceTime, AddApc, AlertThread, AcquireLock, ApcCall, CritEntered, CritLeft, DpcCall, EnterUser, Family, ForApc, ForDpc, ForLevel, ForLock, ForOwn, ForPlain, ForRegion, ForThread, ForTimer, GiveImportance, GiveTarget, GuardEntered, GuardLeft, InsertDpc, LockCall, PlainCall, RegionCall, ReleaseThread, RemoveDpc, RequestAt, TakeApc, ThreadCall, UnlockLock, WriteNote, family, in_begin, in_call, in_clean, in_look}
+use Rattle.nt_event.specs.Families.{AdvanceTime, AddApc, AlertThread, AcquireLock, ApcCall, CritEntered, CritLeft}
+use Rattle.nt_event.specs.Families.{DpcCall, EnterUser, Family, ForApc, ForDpc, ForLevel, ForLock, ForOwn, ForPlain}
+use Rattle.nt_event.specs.Families.{ForRegion, ForThread, ForTimer, GiveImportance, GiveTarget, GuardEntered, GuardLeft}
+use Rattle.nt_event.specs.Families.{InsertDpc, LockCall, PlainCall, RegionCall, ReleaseThread, RemoveDpc, RequestAt}
+use Rattle.nt_event.specs.Families.{TakeApc, ThreadCall, UnlockLock, WriteNote, family, in_begin, in_call, in_clean}
+use Rattle.nt_event.specs.Families.{in_look}
 use Rattle.nt_event.specs.declared.events.Begun.{Begun}
 
 pub record Ask : Type 0 where

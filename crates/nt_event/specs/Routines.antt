@@ -1,6 +1,7 @@
 -- What the script says of processors, objects and routines.
 use Rattle.std.specs.Option.{option_map_or}
-use Rattle.std.specs.Prelude.{Bool, List, None, Option, Some, [], false, if◌then◌else◌, option_and_then, option_map, slice_get, true, unwrap_or, ℕ, ◌&&◌}
+use Rattle.std.specs.Prelude.{Bool, List, None, Option, Some, [], false, if◌then◌else◌, option_and_then, option_map}
+use Rattle.std.specs.Prelude.{slice_get, true, unwrap_or, ℕ, ◌&&◌}
 use Rattle.nt_event.specs.declared.commands.ApcKind.{ApcKind}
 use Rattle.nt_event.specs.declared.commands.ApcKind.TheVariants.{Special as SpecialApc, User as UserApc}
 use Rattle.nt_event.specs.declared.commands.Command.{Command}

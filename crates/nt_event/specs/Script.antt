@@ -1,5 +1,6 @@
 -- What a script declares, and when it fits: it meets the limits, and each number in it names a thing of its list.
-use Rattle.std.specs.Prelude.{ℕ, Bool, true, ◌&&◌, not, ◌==◌, nat_lt, nat_le, List, [], ◌∷◌, length, sum_by, find, Option, option_map, is_some, is_none}
+use Rattle.std.specs.Prelude.{ℕ, Bool, true, ◌&&◌, not, ◌==◌, nat_lt, nat_le, List, [], ◌∷◌, length, sum_by, find}
+use Rattle.std.specs.Prelude.{Option, option_map, is_some, is_none}
 use Rattle.std.specs.List.{list_all, list_any}
 use Rattle.std.specs.Option.{option_map_or}
 use Rattle.nt_event.specs.declared.numbers.CpuNo.{CpuNo}

@@ -1,6 +1,7 @@
 -- Time, timers and delays (Windows Internals, "Timer processing"; driver documentation, "KeSetTimerEx").
 use Rattle.std.specs.List.{reduce}
-use Rattle.std.specs.Prelude.{Bool, List, None, Option, Some, [], filter, get_or, if◌then◌else◌, is_some, length, nat_le, nat_lt, option_and_then, suc, ℕ, ◌&&◌, ◌++◌, ◌+◌, ◌==◌, ◌||◌, ◌∷◌}
+use Rattle.std.specs.Prelude.{Bool, List, None, Option, Some, [], filter, get_or, if◌then◌else◌, is_some, length}
+use Rattle.std.specs.Prelude.{nat_le, nat_lt, option_and_then, suc, ℕ, ◌&&◌, ◌++◌, ◌+◌, ◌==◌, ◌||◌, ◌∷◌}
 use Rattle.nt_event.specs.declared.commands.TimerKey.{TimerKey}
 use Rattle.nt_event.specs.declared.commands.TimerKey.TheVariants as keys
 use Rattle.nt_event.specs.declared.events.Event.{Event}
@@ -17,7 +18,8 @@ use Rattle.nt_event.specs.Waits.{is_of_thread}
 use Rattle.nt_event.specs.Replies.{is_answer}
 use Rattle.nt_event.specs.Lists.{table}
 use Rattle.nt_event.specs.Numbers.{thread, timer}
-use Rattle.nt_event.specs.Families.{DelaysIn, GivesWay, OwnCall, StartTimer, StopTimer, TestsAlert, TimerCall, WaitsIn, by_own_call, by_timer_call, in_call, in_expiry, in_rewait}
+use Rattle.nt_event.specs.Families.{DelaysIn, GivesWay, OwnCall, StartTimer, StopTimer, TestsAlert, TimerCall, WaitsIn}
+use Rattle.nt_event.specs.Families.{by_own_call, by_timer_call, in_call, in_expiry, in_rewait}
 use Rattle.nt_event.specs.declared.commands.Reply.{Reply}
 use Rattle.nt_event.specs.Replies.{is_blocked, is_yes}
 

@@ -1,5 +1,6 @@
 -- Waits: the tests at a wait, and what an event leaves of a thread's facts.
-use Rattle.std.specs.Prelude.{Bool, List, None, Option, Some, [], false, if◌then◌else◌, is_some, length, not, true, ℕ, ◌&&◌, ◌==◌, ◌∷◌}
+use Rattle.std.specs.Prelude.{Bool, List, None, Option, Some, [], false, if◌then◌else◌, is_some, length, not, true, ℕ}
+use Rattle.std.specs.Prelude.{◌&&◌, ◌==◌, ◌∷◌}
 use Rattle.nt_event.specs.declared.commands.ApcKind.{ApcKind}
 use Rattle.nt_event.specs.declared.commands.ApcKind.TheVariants.{User as UserApc}
 use Rattle.nt_event.specs.declared.commands.Mode.{Mode}
@@ -20,14 +21,18 @@ use Rattle.nt_event.specs.declared.jobs.Stand.{Stand}
 use Rattle.nt_event.specs.declared.numbers.ApcNo.{ApcNo}
 use Rattle.nt_event.specs.declared.numbers.ThreadNo.{ThreadNo}
 use Rattle.nt_event.specs.declared.scripts.Script.{Script}
-use Rattle.nt_event.specs.declared.threads.Doing.TheVariants.{Blocked as IsBlocked, Gone as IsGone, Ready as IsReady, Running as IsRunning}
+use Rattle.nt_event.specs.declared.threads.Doing.TheVariants.{Blocked as IsBlocked, Gone as IsGone, Ready as IsReady}
+use Rattle.nt_event.specs.declared.threads.Doing.TheVariants.{Running as IsRunning}
 use Rattle.nt_event.specs.Apcs.{closed_apcs, deliverable, has_user, with_apc, without_apc}
 use Rattle.nt_event.specs.Regions.{stand_at}
 use Rattle.nt_event.specs.Routines.{cpu_of, is_kernel_kind, kind_of, owner_of}
-use Rattle.nt_event.specs.Threads.{ThreadFacts, ended, ends_by_alert, ends_by_apc, ends_by_expiry, ends_by_release, is_alerted, is_gone, set_alerted, start_facts}
+use Rattle.nt_event.specs.Threads.{ThreadFacts, ended, ends_by_alert, ends_by_apc, ends_by_expiry, ends_by_release}
+use Rattle.nt_event.specs.Threads.{is_alerted, is_gone, set_alerted, start_facts}
 use Rattle.nt_event.specs.Replies.{alerted, is_answer, is_user, kernel_apc, satisfied, user_apc}
 use Rattle.nt_event.specs.Numbers.{is_by, is_of}
-use Rattle.nt_event.specs.Families.{AddApc, AlertThread, ApcCall, DelaysIn, GivesWay, OwnCall, ReleaseThread, TakeApc, TestsAlert, ThreadCall, WaitsIn, by_apc_call, by_own_call, by_thread_call, in_call, in_expiry}
+use Rattle.nt_event.specs.Families.{AddApc, AlertThread, ApcCall, DelaysIn, GivesWay, OwnCall, ReleaseThread, TakeApc}
+use Rattle.nt_event.specs.Families.{TestsAlert, ThreadCall, WaitsIn, by_apc_call, by_own_call, by_thread_call, in_call}
+use Rattle.nt_event.specs.Families.{in_expiry}
 use Rattle.nt_event.specs.declared.commands.Command.{Command}
 use Rattle.nt_event.specs.declared.commands.TimerKey.{TimerKey}
 use Rattle.nt_event.specs.Replies.{is_done, is_yes}

@@ -9,7 +9,8 @@ pub struct Acted {
     pub event: Event,
     /// The due time of the delay that the event calls, below 2^51.
     pub due: Option<u64>,
-    /// Per class, the greatest request for this processor that the touched lanes tell, the event's own among them; 0 is none.
+    /// Per class, the greatest request for this processor that the touched lanes tell, the event's
+    /// own among them; 0 is none.
     pub told: Rises,
 }
 

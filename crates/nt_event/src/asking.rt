@@ -1,5 +1,5 @@
-//! Small questions about the data: which replies are which, which commands touch a lane or stop their thread, and when a region
-//! count came to 0.
+//! Small questions about the data: which replies are which, which commands touch a lane or stop
+//! their thread, and when a region count came to 0.
 ghost use Rattle.std.specs.Prelude.{◌≡◌};
 ghost use Rattle.nt_event.specs.Calls as calls;
 ghost use Rattle.nt_event.specs.Commands as commands;

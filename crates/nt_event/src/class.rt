@@ -1,7 +1,8 @@
 //! The classes of requests: what a processor may be asked to do.
 //!
-//! The first three are software interrupts, 12 is the release of a spin lock and no interrupt, the others are the levels of hardware
-//! interrupts (Windows Internals, "Interrupt request levels"; the numbers of the first three and of 12: profile).
+//! The first three are software interrupts, 12 is the release of a spin lock and no interrupt, the
+//! others are the levels of hardware interrupts (Windows Internals, "Interrupt request levels"; the
+//! numbers of the first three and of 12: profile).
 ghost use Rattle.std.specs.Prelude.{◌≡◌};
 ghost use Rattle.nt_event.specs.Classes.{is_used_class};
 

@@ -12,7 +12,8 @@ use nt_level::Level;
 pub enum Importance {
     /// At the back; asks only where the queue is deep or its processor idle.
     Low,
-    /// At the back; asks where the queue is the inserting processor's own, is deep, or its processor is idle. The first setting.
+    /// At the back; asks where the queue is the inserting processor's own, is deep, or its
+    /// processor is idle. The first setting.
     Medium,
     /// At the back; always asks.
     MediumHigh,
@@ -108,7 +109,8 @@ pub enum Command {
     Note(u32),
 }
 
-/// Why a command is refused, in the order of the tests. A refused command changes nothing but the place in its routine.
+/// Why a command is refused, in the order of the tests. A refused command changes nothing but the
+/// place in its routine.
 #[derive(Clone, Copy, PartialEq, Eq, Debug)]
 pub enum Refusal {
     /// The innermost routine runs in no thread.

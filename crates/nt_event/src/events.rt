@@ -6,8 +6,8 @@ ghost use Rattle.nt_event.specs.Step.{cpu_at, turn_of};
 use crate::{ApcNo, Command, CpuNo, DpcNo, Items, LockNo, Reply, ThreadNo, TimerKey};
 use nt_level::Level;
 
-/// What a look at a processor's request words found, by class: the value, or 0 where it did not rise. A value is one more
-/// than the number of the event that asked.
+/// What a look at a processor's request words found, by class: the value, or 0 where it did not
+/// rise. A value is one more than the number of the event that asked.
 #[derive(Clone, Copy, PartialEq, Eq, Debug)]
 pub struct Rises {
     pub value: [u64; 16],
@@ -26,8 +26,8 @@ pub enum Begun {
     Apc(ApcNo),
 }
 
-/// What an event does. A `frame` is the number of the event that began the routine; a `from` is the number of the insert, ask
-/// or setting that is used up.
+/// What an event does. A `frame` is the number of the event that began the routine; a `from` is the
+/// number of the insert, ask or setting that is used up.
 #[derive(Clone, Copy, PartialEq, Eq, Debug)]
 pub enum What {
     /// A routine calls a command.
@@ -100,7 +100,8 @@ pub enum What {
 pub struct Event {
     /// The processor that made it.
     pub cpu: CpuNo,
-    /// The thread that ran on the processor before it; for a Switch the thread that is taken; none for a Look.
+    /// The thread that ran on the processor before it; for a Switch the thread that is taken; none
+    /// for a Look.
     pub thread: Option<ThreadNo>,
     /// The processor's level after it; 0 for a Look.
     pub level: Level,

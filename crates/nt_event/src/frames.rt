@@ -1,8 +1,10 @@
-//! What runs in a frame, a routine that has begun on a processor or on one of its threads and has not ended.
+//! What runs in a frame, a routine that has begun on a processor or on one of its threads and has
+//! not ended.
 use crate::{ApcKind, ApcNo, DpcNo, LockNo, Mode, ThreadNo};
 use nt_level::Level;
 
-/// What runs in a frame. Interrupts, DPCs and threaded DPCs run on the processor's own part, the others on a thread's.
+/// What runs in a frame. Interrupts, DPCs and threaded DPCs run on the processor's own part, the
+/// others on a thread's.
 #[derive(Clone, Copy, PartialEq, Eq, Debug)]
 pub enum Body {
     /// The routine of the interrupt of this level.
@@ -11,7 +13,8 @@ pub enum Body {
     Dpc(DpcNo),
     /// The routine of a threaded DPC at PASSIVE_LEVEL.
     Threaded(DpcNo),
-    /// The routines of an APC object: first its kernel routine, then its normal routine, if it has one.
+    /// The routines of an APC object: first its kernel routine, then its normal routine, if it has
+    /// one.
     Apc(ApcNo, ApcKind),
     /// The base routine of a thread.
     Base(ThreadNo),

@@ -1,4 +1,5 @@
-//! Pending inserts of DPC and APC objects, and settings of timers. Each is named by the number of its event.
+//! Pending inserts of DPC and APC objects, and settings of timers. Each is named by the number of
+//! its event.
 use crate::{ApcKind, ApcNo, CpuNo, DpcNo};
 
 /// The two parts of a processor's DPC queue.

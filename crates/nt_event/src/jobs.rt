@@ -26,7 +26,8 @@ pub enum Job {
     Fire(DpcNo),
     /// Frees the lock that the innermost frame acquired last.
     Free(LockNo),
-    /// Expires the first due key, where a sweep is owed; else begins the first ordinary DPC; else has served class 2.
+    /// Expires the first due key, where a sweep is owed; else begins the first ordinary DPC; else
+    /// has served class 2.
     Drain,
     /// Begins the first kernel APC where it is deliverable; else has served class 1.
     Apcs,
@@ -59,7 +60,8 @@ pub enum Task {
     Shared(Job),
 }
 
-/// Where a processor stands: what an event that touches lanes needs of what the processor alone knows.
+/// Where a processor stands: what an event that touches lanes needs of what the processor alone
+/// knows.
 #[derive(Clone, Copy, PartialEq, Eq, Debug)]
 pub struct Stand {
     pub cpu: CpuNo,
@@ -77,8 +79,8 @@ pub struct Stand {
     pub below: Regions,
     /// The level once the innermost frame has ended.
     pub ended_level: Level,
-    /// The level after an unlock or a free of the innermost frame: the one kept with the lock that it acquired last. The level
-    /// where it holds none.
+    /// The level after an unlock or a free of the innermost frame: the one kept with the lock that
+    /// it acquired last. The level where it holds none.
     pub after: Level,
     /// The wait that the innermost frame has to take up again.
     pub again: Option<Again>,

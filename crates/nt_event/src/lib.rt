@@ -1,10 +1,12 @@
 //! The data of the machine: scripts, commands, events, turns and histories.
 //!
-//! A [`Script`] says what a driver writer declares: processors, interrupt routines, DPC objects, timers, threads, APC objects,
-//! spin locks and the routines that run. A run of a script is a [`History`]: one [`Event`] for each atomic step of a processor, in
-//! order. A [`Turn`] says which processor makes the next step, and where it has a choice, which one.
+//! A [`Script`] says what a driver writer declares: processors, interrupt routines, DPC objects,
+//! timers, threads, APC objects, spin locks and the routines that run. A run of a script is a
+//! [`History`]: one [`Event`] for each atomic step of a processor, in order. A [`Turn`] says which
+//! processor makes the next step, and where it has a choice, which one.
 //!
-//! Contracts see each `Items` as the list of its items, so a script or a history is a plain record of numbers and lists there.
+//! Contracts see each `Items` as the list of its items, so a script or a history is a plain record
+//! of numbers and lists there.
 #![tactic(auto)]
 
 mod acts;

@@ -43,7 +43,8 @@ impl<T> Items<T> {
         items
     }
 
-    /// Puts an item at the end. Where no memory is found, the list is as before and the item is gone.
+    /// Puts an item at the end. Where no memory is found, the list is as before and the item is
+    /// gone.
     pub fn push(&mut self, item: T) -> Result<(), AllocError>
     where
         T: Drop,

@@ -1,5 +1,5 @@
-//! What a script says of its things: where a thread and an APC object belong, which routine a frame runs, and how its lanes are
-//! numbered.
+//! What a script says of its things: where a thread and an APC object belong, which routine a frame
+//! runs, and how its lanes are numbered.
 ghost use Rattle.std.specs.Prelude.{◌≡◌, ◌<◌, ◌≤◌, ◌^◌, ◌&&◌, IsTrue, length, slice_get};
 ghost use Rattle.nt_event.specs.Lanes as lanes;
 ghost use Rattle.nt_event.specs.Routines as routines;
@@ -11,7 +11,8 @@ use crate::{
 };
 
 impl Script {
-    /// How many lanes there are: one for each DPC object, two for each processor, one for the timers, and one for each spin lock.
+    /// How many lanes there are: one for each DPC object, two for each processor, one for the
+    /// timers, and one for each spin lock.
     pub fn lane_count(&self) -> usize
         requires { IsTrue (fits self.now) }
         ensures count { result ≡ lanes.lane_count self.now }
@@ -28,7 +29,8 @@ impl Script {
         self.depth.unwrap_or(USUAL_DEPTH)
     }
 
-    /// Whether the object is in the threaded part of its queue: it is declared threaded, and threaded DPCs are on.
+    /// Whether the object is in the threaded part of its queue: it is declared threaded, and
+    /// threaded DPCs are on.
     pub fn is_threaded(&self, dpc: DpcNo) -> bool
         ensures { result ≡ (routines.threaded_on self.now
             && routines.is_declared_threaded (slice_get self.now.dpcs dpc.0)) }
@@ -48,8 +50,8 @@ impl Script {
         self.threads.len() as u32
     }
 
-    /// The processor that the thread is bound to; the first one past the last thread. In a script that fits, it is one of
-    /// the script's.
+    /// The processor that the thread is bound to; the first one past the last thread. In a script
+    /// that fits, it is one of the script's.
     pub fn cpu_of(&self, thread: ThreadNo) -> CpuNo
         ensures cpu { result ≡ routines.cpu_of self.now thread }
         ensures named { IsTrue (fits self.now) → IsTrue (has_cpu self.now result) }
@@ -60,11 +62,12 @@ impl Script {
         }
     }
 
-    /// The thread of an APC object; the first one past the last object. In a script that fits, an object's thread is one of
-    /// the script's.
+    /// The thread of an APC object; the first one past the last object. In a script that fits, an
+    /// object's thread is one of the script's.
     pub fn owner_of(&self, apc: ApcNo) -> ThreadNo
         ensures owner { result ≡ routines.owner_of self.now apc }
-        ensures named { IsTrue (fits self.now) → IsTrue (has_apc self.now apc) → IsTrue (has_thread self.now result) }
+        ensures named { IsTrue (fits self.now) → IsTrue (has_apc self.now apc) →
+            IsTrue (has_thread self.now result) }
     {
         match self.apcs.as_slice().get(apc.0 as usize) {
             Some(decl) => decl.thread,
@@ -111,7 +114,8 @@ impl Script {
         }
     }
 
-    /// The routine of a frame, of an APC by its phase; an interrupt for which the script has no line has none.
+    /// The routine of a frame, of an APC by its phase; an interrupt for which the script has no
+    /// line has none.
     pub fn routine_of(&self, cpu: CpuNo, body: &Body, kernel_phase: bool) -> Option<RoutineNo>
         ensures { result ≡ routines.routine_of self.now cpu body.now kernel_phase }
     {
@@ -137,7 +141,8 @@ impl Script {
         }
     }
 
-    /// The command at this place in the routine of a frame, of an APC by its phase; None where the routine has no more.
+    /// The command at this place in the routine of a frame, of an APC by its phase; None where the
+    /// routine has no more.
     pub fn command_at(
         &self,
         cpu: CpuNo,
@@ -153,7 +158,8 @@ impl Script {
 }
 
 impl Lane {
-    /// The lane's number, from 0, in the order in which lanes are taken: objects, queues, threads, timers, spin locks.
+    /// The lane's number, from 0, in the order in which lanes are taken: objects, queues, threads,
+    /// timers, spin locks.
     pub fn number(self, script: &Script) -> usize
         requires { lanes.lane_number script.now self < 2 ^ 32 }
         ensures { result ≡ lanes.lane_number script.now self }

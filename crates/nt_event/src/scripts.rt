@@ -17,7 +17,8 @@ pub struct Isr {
 /// A DPC object and its routine.
 #[derive(Clone, Copy, PartialEq, Eq, Debug)]
 pub struct DpcDecl {
-    /// Whether it runs in a system thread at PASSIVE_LEVEL where threaded DPCs are on (KeInitializeThreadedDpc).
+    /// Whether it runs in a system thread at PASSIVE_LEVEL where threaded DPCs are on
+    /// (KeInitializeThreadedDpc).
     pub threaded: bool,
     pub routine: RoutineNo,
 }
@@ -76,7 +77,8 @@ impl Script {
     ghost use Rattle.std.specs.Prelude.{◌≡◌};
     ghost use Rattle.nt_event.specs.Script as spec;
 
-    /// The routine of the interrupt of a level on a processor, None exactly where the script declares none.
+    /// The routine of the interrupt of a level on a processor, None exactly where the script
+    /// declares none.
     pub fn isr_of(&self, cpu: CpuNo, level: Level) -> Option<RoutineNo>
         ensures { result ≡ spec.isr_of self.now.isrs cpu level }
     {
@@ -85,10 +87,11 @@ impl Script {
 
     /// Whether the script meets the limits and each number in it names a thing of its list.
     ///
-    /// The limits are 1 to 64 processors, 64 threads, 64 timers, 64 spin locks, 256 DPC objects, 256 APC objects, 256
-    /// routines, 8,192 commands in all and a depth limit of at most 256. Interrupt routines are for levels 3 to 11, 13 and 14, at most one a processor
-    /// and level; `interrupt` requests a level of 3 to 11 or 14. An APC object has a normal routine exactly where it is normal or
-    /// user, and only a user one may have a rundown routine.
+    /// The limits are 1 to 64 processors, 64 threads, 64 timers, 64 spin locks, 256 DPC objects,
+    /// 256 APC objects, 256 routines, 8,192 commands in all and a depth limit of at most 256.
+    /// Interrupt routines are for levels 3 to 11, 13 and 14, at most one a processor and level;
+    /// `interrupt` requests a level of 3 to 11 or 14. An APC object has a normal routine exactly
+    /// where it is normal or user, and only a user one may have a rundown routine.
     pub fn fits(&self) -> bool
         ensures { result ≡ spec.fits self.now }
     {

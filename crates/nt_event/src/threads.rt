@@ -24,7 +24,8 @@ pub enum Doing {
     Ready {
         /// The level at which it last blocked or gave way; 0 before its first run.
         level: Level,
-        /// The status of the wait that ended, which its next Switch carries; None at the first run and after a yield.
+        /// The status of the wait that ended, which its next Switch carries; None at the first run
+        /// and after a yield.
         status: Option<u32>,
     },
     /// It runs on its processor.

@@ -4,7 +4,8 @@ use Rattle.std.proofs.lemmas.Bool.{eqb-false, eqb-true, le-ltb, lt-ltb, ltb-fals
 use Rattle.std.proofs.lemmas.List.{get_or-set_other, get_or-set_same, length-set}
 use Rattle.std.proofs.lemmas.List.Sums.{sum_by-cons, sum_by-set}
 use Rattle.std.specs.List.{list_any}
-use Rattle.std.specs.Prelude.{Bool, List, false, if◌then◌else◌, nat_lt, refl, replicate, suc, sum, true, zero, ℕ, ◌*◌, ◌+◌, ◌-◌, ◌<◌, ◌==◌, ◌^◌, ◌||◌, ◌∷◌, ◌≡◌, ◌≤◌}
+use Rattle.std.specs.Prelude.{Bool, List, false, if◌then◌else◌, nat_lt, refl, replicate, suc, sum, true, zero, ℕ, ◌*◌, ◌+◌, ◌-◌, ◌<◌, ◌==◌, ◌^◌, ◌||◌, ◌∷◌, ◌≡◌}
+use Rattle.std.specs.Prelude.{◌≤◌}
 use Rattle.nt_event.specs.Lists.{table, table_from, value_at}
 use Rattle.nt_event.proofs.Tables.{get_or-table, is_table, length-table_from, table-same}
 use Rattle.nt_floor.specs.Sums.{IsSum, sum_of}

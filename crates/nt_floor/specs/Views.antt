@@ -1,5 +1,6 @@
 -- What contracts see of words and floors, and what each call does to it.
-use Rattle.std.specs.Prelude.{Bool, IfSome, List, Option, Some, [], false, map, if◌then◌else◌, max, true, ℕ, ◌&&◌, ◌+◌, ◌<◌, ◌==◌, ◌^◌, ◌||◌, ◌≡◌, ◌≤◌}
+use Rattle.std.specs.Prelude.{Bool, IfSome, List, Option, Some, [], false, map, if◌then◌else◌, max, true, ℕ, ◌&&◌, ◌+◌}
+use Rattle.std.specs.Prelude.{◌<◌, ◌==◌, ◌^◌, ◌||◌, ◌≡◌, ◌≤◌}
 use Rattle.nt_event.specs.declared.events.Event.{Event}
 use Rattle.nt_event.specs.declared.events.Rises.{Rises}
 use Rattle.nt_event.specs.declared.jobs.Lane.{Lane}

@@ -2,7 +2,8 @@
 use crate::floor::Floor;
 use nt_event::{CpuNo, ThreadNo};
 
-/// A floor that tells its states, and whose requests, marks and ready threads are read without a step of anybody, as the floor in memory.
+/// A floor that tells its states, and whose requests, marks and ready threads are read without a
+/// step of anybody, as the floor in memory.
 pub trait OpenFloor: Floor {
     ghost use Rattle.std.specs.Prelude.{◌≡◌, ◌<◌, IfSome, Some, length, ℕ};
     ghost use Rattle.nt_event.specs.Lists.{value_at};
@@ -15,7 +16,8 @@ pub trait OpenFloor: Floor {
     fn asked(&self, p: CpuNo) -> &[u64]
         requires { p.0 < (Self.view self.now).cpus }
         ensures classes { length result.now ≡ 16 }
-        ensures values { (c : ℕ) → c < 16 → value_at result.now c ≡ (Self.view self.now).value p c };
+        ensures values { (c : ℕ) → c < 16 →
+            value_at result.now c ≡ (Self.view self.now).value p c };
 
     /// The sum of the greatest requests for a processor.
     fn asked_sum(&self, p: CpuNo) -> u128
@@ -27,9 +29,11 @@ pub trait OpenFloor: Floor {
         requires { HasWord (Self.view self.now) p class }
         ensures { result ≡ (Self.view self.now).marked n p class };
 
-    /// The thread of the processor that is taken up next, after this one in a cycle; None exactly where none is ready.
+    /// The thread of the processor that is taken up next, after this one in a cycle; None exactly
+    /// where none is ready.
     fn next_ready(&self, p: CpuNo, after: Option<ThreadNo>) -> Option<ThreadNo>
-        ensures { IfSome (Self.view self.now).states (λ l. result ≡ next_ready (Self.script self.now) p after l) };
+        ensures { IfSome (Self.view self.now).states
+            (λ l. result ≡ next_ready (Self.script self.now) p after l) };
 
     /// It tells its states.
     ghost tells: { (x : Self) → (l : Lanes) × ((Self.view x).states ≡ Some l) };

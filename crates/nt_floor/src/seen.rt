@@ -1,5 +1,6 @@
 //! What a processor has seen of requests.
-ghost use Rattle.std.specs.Prelude.{◌≡◌, ◌<◌, ◌==◌, ◌↔◌, ℕ, IsTrue, false, if◌then◌else◌, length, max, nat_lt};
+ghost use Rattle.std.specs.Prelude.{◌≡◌, ◌<◌, ◌==◌, ◌↔◌, ℕ, IsTrue, false, if◌then◌else◌, length};
+ghost use Rattle.std.specs.Prelude.{max, nat_lt};
 ghost use Rattle.std.specs.List.{list_any};
 ghost use Rattle.nt_event.specs.Lists.{table, value_at};
 ghost use Rattle.nt_floor.specs.Seen.{IsInterrupt, SameInterrupts};
@@ -61,10 +62,12 @@ impl Seen {
         self.values[class as usize]
     }
 
-    /// Raises the value of a class to this one. False only where what was seen of interrupts is as before.
+    /// Raises the value of a class to this one. False only where what was seen of interrupts is as
+    /// before.
     pub fn raise(&mut self, class: u8, to: u64) -> bool
         requires { class < 16 }
-        ensures values { self.new ≡ table 16 (λ c. max (value_at self.old c) (if class == c then to else 0)) }
+        ensures values { self.new
+            ≡ table 16 (λ c. max (value_at self.old c) (if class == c then to else 0)) }
         ensures interrupts { result ≡ false → SameInterrupts self.old self.new }
     {
         let place = class as usize;
@@ -78,9 +81,11 @@ impl Seen {
         }
     }
 
-    /// Raises each value to this one of its class. False only where what was seen of interrupts is as before.
+    /// Raises each value to this one of its class. False only where what was seen of interrupts is
+    /// as before.
     pub fn raise_all(&mut self, values: &[u64; 16]) -> bool
-        ensures values { self.new ≡ table 16 (λ c. max (value_at self.old c) (value_at values.now c)) }
+        ensures values { self.new
+            ≡ table 16 (λ c. max (value_at self.old c) (value_at values.now c)) }
         ensures interrupts { result ≡ false → SameInterrupts self.old self.new }
     {
         let mut interrupts = false;
@@ -102,7 +107,9 @@ impl Seen {
     /// Whether one of these values is above that of the same class.
     pub fn is_below(&self, values: &[u64]) -> bool
         requires { length values.now ≡ 16 }
-        ensures { result ≡ list_any (λ v. nat_lt 0 v) (table 16 (λ c. if nat_lt (value_at self.now c) (value_at values.now c) then value_at values.now c else 0)) }
+        ensures { result ≡ list_any (λ v. nat_lt 0 v) (table 16 (λ c.
+            if nat_lt (value_at self.now c) (value_at values.now c) then value_at values.now c
+            else 0)) }
     {
         some_above(values, &self.values)
     }
@@ -110,7 +117,9 @@ impl Seen {
     /// Which of these values are above those of the same class; 0 for the others.
     pub fn below(&self, values: &[u64]) -> Rises
         requires { length values.now ≡ 16 }
-        ensures { result.value ≡ table 16 (λ c. if nat_lt (value_at self.now c) (value_at values.now c) then value_at values.now c else 0) }
+        ensures { result.value ≡ table 16 (λ c.
+            if nat_lt (value_at self.now c) (value_at values.now c) then value_at values.now c
+            else 0) }
     {
         let mut rises = Rises { value: [0; 16] };
         self.write_below(values, &mut rises);
@@ -120,7 +129,9 @@ impl Seen {
     /// Writes which of these values are above those of the same class; 0 for the others.
     pub fn write_below(&self, values: &[u64], rises: &mut Rises)
         requires { length values.now ≡ 16 }
-        ensures { rises.new.value ≡ table 16 (λ c. if nat_lt (value_at self.now c) (value_at values.now c) then value_at values.now c else 0) }
+        ensures { rises.new.value ≡ table 16 (λ c.
+            if nat_lt (value_at self.now c) (value_at values.now c) then value_at values.now c
+            else 0) }
     {
         for i in 0..16 {
             rises.value[i] = if self.values[i] < values[i] {
@@ -141,7 +152,9 @@ impl Seen {
 
 fn some_above(values: &[u64], seen: &[u64; 16]) -> bool
     requires { length values.now ≡ 16 }
-    ensures { result ≡ list_any (λ v. nat_lt 0 v) (table 16 (λ c. if nat_lt (value_at seen.now c) (value_at values.now c) then value_at values.now c else 0)) }
+    ensures { result ≡ list_any (λ v. nat_lt 0 v) (table 16 (λ c.
+        if nat_lt (value_at seen.now c) (value_at values.now c) then value_at values.now c
+        else 0)) }
 {
     for i in 0..16 {
         if seen[i] < values[i] {

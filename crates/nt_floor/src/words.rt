@@ -3,8 +3,8 @@ use nt_event::{CpuNo, Event};
 
 /// What draws the numbers of events, and marks and looks at requests.
 ///
-/// A request for a class of a processor is one more than the number of the event that asks for it. The word of a processor and class
-/// is the greatest request for them so far.
+/// A request for a class of a processor is one more than the number of the event that asks for it.
+/// The word of a processor and class is the greatest request for them so far.
 pub trait Words {
     ghost use Rattle.std.specs.Prelude.{◌<◌, ◌≤◌, ℕ};
     ghost use Rattle.nt_floor.specs.Views.{View, HasWord, IsDrawn, IsMarked, IsLooked};

@@ -16,7 +16,8 @@ use Rattle.nt_event.specs.declared.numbers.LockNo.{LockNo}
 use Rattle.nt_event.specs.declared.numbers.RoutineNo.{RoutineNo}
 use Rattle.nt_event.specs.declared.numbers.ThreadNo.{ThreadNo}
 use Rattle.nt_event.specs.declared.scripts.Script.{Script}
-use Rattle.nt_event.specs.Frames.{Frames, at_head, at_name, called, end_on_thread, freed, frames_after, frames_in, innermost, is_base_body, ended_base, new_frame}
+use Rattle.nt_event.specs.Frames.{Frames, at_head, at_name, called, end_on_thread, freed, frames_after, frames_in, innermost, is_base_body, ended_base}
+use Rattle.nt_event.specs.Frames.{new_frame}
 use Rattle.nt_event.specs.Frames.{normal_of, resumed, rewaited, running_after, switched_to, thread_after, thread_part, without}
 use Rattle.nt_event.specs.Routines.{kind_of, rundown_of}
 use Rattle.nt_event.specs.Lists.{head_of, is_null, tail_of}

@@ -1,7 +1,8 @@
 -- What a call leaves of the frames, as the methods of `Frames` make it: the effect of the command, then the place.
 use Rattle.std.proofs.Common.{◌≡◌, ℕ, ◌+◌, ◌<◌, ◌==◌, Bool, true, false, Option, None, Some, if◌then◌else◌, [], length, sym, ◌∙◌, ap, refl}
 use Rattle.nt_event.specs.declared.commands.Command.{Command}
-use Rattle.nt_event.specs.declared.commands.Command.TheVariants.{Acquire, Alert, CancelTimer, Clock, Delay, EnterCrit, EnterGuard, InsertApc, Interrupt, LeaveCrit}
+use Rattle.nt_event.specs.declared.commands.Command.TheVariants.{Acquire, Alert, CancelTimer, Clock, Delay, EnterCrit, EnterGuard, InsertApc, Interrupt}
+use Rattle.nt_event.specs.declared.commands.Command.TheVariants.{LeaveCrit}
 use Rattle.nt_event.specs.declared.commands.Command.TheVariants.{LeaveGuard, Lower, Note, Queue, Raise, Release, RemoveApc, SetImportance, SetTarget, SetTimer}
 use Rattle.nt_event.specs.declared.commands.Command.TheVariants.{StartWait, TestAlert, ToUser, Unlock, Unqueue, Yield}
 use Rattle.nt_event.specs.declared.commands.Mode.{Mode}

@@ -3,7 +3,8 @@ use Rattle.std.proofs.Common.{◌≡◌, ℕ, ◌<◌, ◌==◌, Bool, true, fal
 use Rattle.std.proofs.lemmas.Bool.Decides.{nat_tests}
 use Rattle.std.specs.Option.{option_map_or}
 use Rattle.nt_event.specs.declared.commands.Command.{Command}
-use Rattle.nt_event.specs.declared.commands.Command.TheVariants.{Acquire, Delay, EnterCrit, EnterGuard, LeaveCrit, LeaveGuard, Lower, Raise, StartWait, Unlock, Yield}
+use Rattle.nt_event.specs.declared.commands.Command.TheVariants.{Acquire, Delay, EnterCrit, EnterGuard, LeaveCrit, LeaveGuard, Lower, Raise, StartWait, Unlock}
+use Rattle.nt_event.specs.declared.commands.Command.TheVariants.{Yield}
 use Rattle.nt_event.specs.declared.commands.Reply.{Reply}
 use Rattle.nt_event.specs.declared.commands.Reply.TheVariants.{Blocked, Done, Spin, Status}
 use Rattle.nt_event.specs.declared.events.Begun.TheVariants.{Apc as BeginApc, Dpc as BeginDpc, Int as BeginInt, Threaded as BeginThreaded}
@@ -30,8 +31,10 @@ use Rattle.nt_frame.specs.EventCalls.{EachIsMade, EventsAreCalls, HistoriesAreCa
 use Rattle.nt_frame.specs.EventCalls.{rewait_calls, status_calls, switch_calls, thread_of}
 use Rattle.nt_frame.specs.Rules.{is_at_base, refusal_in}
 use Rattle.nt_frame.proofs.After.{after_apc, after_clean, after_dpc, after_end, after_end_base, after_expire, after_fire, after_first_switch, after_flush}
-use Rattle.nt_frame.proofs.After.{after_free, after_gone, after_int, after_look, after_normal, after_rest, after_rewait, after_rundown, after_switch, after_threaded}
-use Rattle.nt_frame.proofs.Commands.{awaiting, call_acquire, call_spin, call_unlock, call_by, call_delay, call_delay_blocked, call_own, call_wait, call_wait_blocked, call_yield}
+use Rattle.nt_frame.proofs.After.{after_free, after_gone, after_int, after_look, after_normal, after_rest, after_rewait, after_rundown, after_switch}
+use Rattle.nt_frame.proofs.After.{after_threaded}
+use Rattle.nt_frame.proofs.Commands.{awaiting, call_acquire, call_spin, call_unlock, call_by, call_delay, call_delay_blocked, call_own, call_wait}
+use Rattle.nt_frame.proofs.Commands.{call_wait_blocked, call_yield}
 use Rattle.nt_frame.proofs.Commands.{rewait_blocked, stays}
 use Rattle.nt_frame.proofs.Events.{IsOurs}
 use Rattle.nt_frame.proofs.Tasks.{base_here}

@@ -1,5 +1,6 @@
 -- The locks that a frame holds, in the two arrays that keep them.
-use Rattle.std.proofs.Common.{◌≡◌, ℕ, zero, suc, ◌+◌, ◌-◌, ◌<◌, ◌≤◌, ◌==◌, Bool, true, false, not, ◌||◌, List, [], ◌∷◌, ◌++◌, get_or, length, reverse, set, take}
+use Rattle.std.proofs.Common.{◌≡◌, ℕ, zero, suc, ◌+◌, ◌-◌, ◌<◌, ◌≤◌, ◌==◌, Bool, true, false, not, ◌||◌, List, [], ◌∷◌, ◌++◌, get_or, length, reverse, set}
+use Rattle.std.proofs.Common.{take}
 use Rattle.std.proofs.Common.{Some, add-one, ap, arith, refl, sym, ◌∙◌, All}
 use Rattle.std.proofs.Math.Seq.{take-suc}
 use Rattle.std.proofs.lemmas.Bool.Decides.{nat_tests}
@@ -25,7 +26,8 @@ length-held (suc n) ls ks = ap suc (length-held n ls ks)
 held_same : (n m : ℕ) (ls ks : List ℕ) (a b : ℕ) → n ≤ m → held_in n (set ls m a) (set ks m b) ≡ held_in n ls ks
 held_same zero m ls ks a b h = refl
 held_same (suc n) m ls ks a b h =
-    rw (get_or-set_other ls m n a 0 (λ e. absurd (omega arith)), get_or-set_other ks m n b 0 (λ e. absurd (omega arith)), held_same n m ls ks a b (omega arith)) refl
+    rw (get_or-set_other ls m n a 0 (λ e. absurd (omega arith)), get_or-set_other ks m n b 0 (λ e. absurd (omega arith)), held_same n m ls ks a b (omega arith))
+    refl
 
 pub held_more : (n : ℕ) (ls ks : List ℕ) (a b : ℕ) → n < length ls → n < length ks →
     held_in (n + 1) (set ls n a) (set ks n b) ≡ record { lock = lock a; kept = b } ∷ held_in n ls ks

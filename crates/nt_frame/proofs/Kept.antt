@@ -1,5 +1,6 @@
 -- Frames stay nested at each change of the innermost one.
-use Rattle.std.proofs.Common.{◌≡◌, ℕ, ◌+◌, ◌<◌, ◌≤◌, ◌^◌, Bool, true, false, not, ◌&&◌, Option, None, Some, IfSome, List, [], ◌∷◌, arith, refl, lit≤, set, subst}
+use Rattle.std.proofs.Common.{◌≡◌, ℕ, ◌+◌, ◌<◌, ◌≤◌, ◌^◌, Bool, true, false, not, ◌&&◌, Option, None, Some, IfSome, List, [], ◌∷◌, arith, refl, lit≤, set}
+use Rattle.std.proofs.Common.{subst}
 use Rattle.std.specs.Option.{option_map_or}
 use Rattle.nt_event.specs.declared.commands.ApcKind.TheVariants.{Normal, Special, User}
 use Rattle.nt_event.specs.declared.frames.Again.{Again}
@@ -10,7 +11,8 @@ use Rattle.nt_event.specs.declared.frames.Region.TheVariants.{Crit, Guard}
 use Rattle.nt_event.specs.declared.numbers.LockNo.{LockNo}
 use Rattle.nt_event.specs.declared.numbers.ThreadNo.{ThreadNo}
 use Rattle.nt_event.specs.Frame.{Frame}
-use Rattle.nt_event.specs.Frames.{Frames, at_head, base_level, base_of, frames_in, freed, freed_level, innermost, is_base_body, ended_base, kept_in, normal_of, thread_part}
+use Rattle.nt_event.specs.Frames.{Frames, at_head, base_level, base_of, frames_in, freed, freed_level, innermost, is_base_body, ended_base, kept_in, normal_of}
+use Rattle.nt_event.specs.Frames.{thread_part}
 use Rattle.nt_event.specs.Jobs.{has_normal}
 use Rattle.nt_event.specs.Regions.{crit_of, guard_of}
 use Rattle.nt_event.specs.Lists.{head_of, is_null, tail_of}
@@ -55,7 +57,8 @@ freed_base own f p = go f.held p.kept
 changes : (g : Frame → Frame) (f : Frame) (x : Frames) → AreNested x → innermost x ≡ Some f → MayStandFor f (g f) x → AreNested (at_innermost g x)
 changes g f x h k m = rw (← at_innermost_same g f x k) (at_innermost_nested f (g f) x h k m)
 
-pub level_nested : (f : Frame) (x : Frames) (l : ℕ) → AreNested x → innermost x ≡ Some f → base_of f ≤ l → AreNested (at_innermost (λ y. record y { level = l }) x)
+pub level_nested : (f : Frame) (x : Frames) (l : ℕ) → AreNested x → innermost x ≡ Some f → base_of f ≤ l →
+    AreNested (at_innermost (λ y. record y { level = l }) x)
 level_nested f x l h k b =
     let p : IsFrame (not (is_null x.own)) f = innermost_frame f x h k in
     let t : IsThreadPart (thread_part x) = thread_part_nested x h in

@@ -2,19 +2,22 @@
 use Rattle.std.specs.Option.{ForSome}
 use Rattle.std.specs.Prelude.{IsSome, IsTrue, List, None, Option, Some, [], false, length, ◌+◌, ◌<◌, ◌==◌, ◌∷◌, ◌≡◌}
 use Rattle.nt_event.specs.declared.commands.Command.{Command}
-use Rattle.nt_event.specs.declared.commands.Command.TheVariants.{Acquire as AcquireCommand, Lower as LowerCommand, Raise as RaiseCommand, Unlock as UnlockCommand}
+use Rattle.nt_event.specs.declared.commands.Command.TheVariants.{Acquire as AcquireCommand, Lower as LowerCommand}
+use Rattle.nt_event.specs.declared.commands.Command.TheVariants.{Raise as RaiseCommand, Unlock as UnlockCommand}
 use Rattle.nt_event.specs.declared.commands.Refusal.{Refusal}
 use Rattle.nt_event.specs.Frames.{Frames, done_to, innermost, ended_base, freed, normal_of}
 use Rattle.nt_event.specs.Regions.{below_in, some_came_to_0}
 use Rattle.nt_frame.specs.declared.calls.FrameAnswer.{FrameAnswer}
 use Rattle.nt_frame.specs.declared.calls.FrameAnswer.TheVariants.{Asks, Done, Frees, Refused}
 use Rattle.nt_frame.specs.declared.calls.FrameCall.{FrameCall}
-use Rattle.nt_frame.specs.declared.calls.FrameCall.TheVariants.{Acquired, AdvancePlace, Begin, EndBase, Enter, Finish, Free, Gone}
+use Rattle.nt_frame.specs.declared.calls.FrameCall.TheVariants.{Acquired, AdvancePlace, Begin, EndBase, Enter, Finish}
+use Rattle.nt_frame.specs.declared.calls.FrameCall.TheVariants.{Free, Gone}
 use Rattle.nt_frame.specs.declared.calls.FrameCall.TheVariants.{Leave, Lower, Normal, Raise, SetAgain, SwitchAway}
 use Rattle.nt_frame.specs.declared.calls.FrameCall.TheVariants.{SwitchTo, Unlock}
 use Rattle.nt_frame.specs.Changes.{acquired, advanced, at_innermost, begun, closed, without_innermost}
 use Rattle.nt_frame.specs.Nesting.{AreNamedBelow}
-use Rattle.nt_frame.specs.Rules.{count_of, end_asks_apc, enter_of, is_at_base, is_leaving, last_held_in, leave_of, may_begin}
+use Rattle.nt_frame.specs.Rules.{count_of, end_asks_apc, enter_of, is_at_base, is_leaving, last_held_in, leave_of}
+use Rattle.nt_frame.specs.Rules.{may_begin}
 use Rattle.nt_frame.specs.Rules.{may_go_on, refusal_in, regions_in}
 
 -- the condition of a call, as its method requires it

@@ -80,8 +80,8 @@ with_entered Guard n f = record f { guard = n }
 abbrev pub advanced : Frame → Frame
 advanced f = record f { place = f.place + 1; spin = None }
 
--- it tried the lock, and got it or spins on it: either way at DISPATCH_LEVEL, and the level of just before the first try
--- is kept
+-- it tried the lock, and got it or spins on it: either way at DISPATCH_LEVEL, and the level of just before the first
+-- try is kept
 abbrev pub acquired : LockNo → Bool → Frame → Frame
 acquired k true f = record f { level = 2; spin = None; held = record { lock = k; kept = kept_in f } ∷ f.held }
 acquired k false f = record f { level = 2; spin = Some (record { lock = k; kept = kept_in f }) }

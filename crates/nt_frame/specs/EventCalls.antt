@@ -31,14 +31,17 @@ use Rattle.nt_event.specs.Routines.{kind_of, rundown_of}
 use Rattle.nt_event.specs.Numbers.{is_of}
 use Rattle.nt_event.specs.Replies.{is_done, is_spin, kernel_apc}
 use Rattle.nt_frame.specs.declared.calls.FrameCall.{FrameCall}
-use Rattle.nt_frame.specs.declared.calls.FrameCall.TheVariants.{Acquired, AdvancePlace, Begin, EndBase, Enter, Finish, Free, Gone}
+use Rattle.nt_frame.specs.declared.calls.FrameCall.TheVariants.{Acquired, AdvancePlace, Begin, EndBase, Enter, Finish}
+use Rattle.nt_frame.specs.declared.calls.FrameCall.TheVariants.{Free, Gone}
 use Rattle.nt_frame.specs.declared.calls.FrameCall.TheVariants.{Leave, Lower, Normal, Raise, SetAgain, SwitchAway}
 use Rattle.nt_frame.specs.declared.calls.FrameCall.TheVariants.{SwitchTo, Unlock}
 use Rattle.nt_frame.specs.Calls.{left_by_all}
 use Rattle.nt_frame.specs.Changes.{no_frames}
 use Rattle.nt_frame.specs.Nesting.{AreNested}
 use Rattle.nt_frame.specs.Rules.{is_at_base, may_go_on, refusal_in}
-use Rattle.nt_event.specs.Families.{AcquireLock, CritEntered, CritLeft, DelaysIn, GivesWay, GuardEntered, GuardLeft, LevelCall, LockCall, LowerTo, OwnCall, RaiseTo, RegionCall, TestsAlert, UnlockLock, WaitsIn, by_level_call, by_lock_call, by_own_call, by_region_call}
+use Rattle.nt_event.specs.Families.{AcquireLock, CritEntered, CritLeft, DelaysIn, GivesWay, GuardEntered, GuardLeft}
+use Rattle.nt_event.specs.Families.{LevelCall, LockCall, LowerTo, OwnCall, RaiseTo, RegionCall, TestsAlert, UnlockLock}
+use Rattle.nt_event.specs.Families.{WaitsIn, by_level_call, by_lock_call, by_own_call, by_region_call}
 use Rattle.nt_event.specs.Step.{thread_field}
 
 -- what begins

@@ -1,6 +1,7 @@
 -- Where a routine may begin, and which commands the frames refuse.
 use Rattle.std.specs.Option.{ForSome, option_map_or}
-use Rattle.std.specs.Prelude.{Bool, Option, Some, false, is_none, nat_lt, not, option_and_then, option_map, true, ℕ, ◌&&◌, ◌+◌, ◌<◌, ◌==◌, ◌^◌, ◌||◌, ◌≡◌, ◌≤◌}
+use Rattle.std.specs.Prelude.{Bool, Option, Some, false, is_none, nat_lt, not, option_and_then, option_map, true, ℕ}
+use Rattle.std.specs.Prelude.{◌&&◌, ◌+◌, ◌<◌, ◌==◌, ◌^◌, ◌||◌, ◌≡◌, ◌≤◌}
 use Rattle.nt_event.specs.declared.commands.ApcKind.TheVariants.{User as UserApc}
 use Rattle.nt_event.specs.declared.commands.Command.{Command}
 use Rattle.nt_event.specs.declared.commands.Command.TheVariants.{EnterCrit, EnterGuard, LeaveCrit, LeaveGuard, ToUser}

@@ -1,6 +1,7 @@
 //! Calls of [`Frames`] as data: what a list of them answers and leaves.
 ghost use Rattle.std.specs.Prelude.{◌≡◌, IfErr, IfOk, OnErr, OnOk};
-ghost use Rattle.nt_frame.specs.Calls.{MayCall, MayCallAll, answer_to, answers_to, left_by, left_by_all};
+ghost use Rattle.nt_frame.specs.Calls.{MayCall, MayCallAll, answer_to, answers_to, left_by};
+ghost use Rattle.nt_frame.specs.Calls.{left_by_all};
 
 use crate::Frames;
 use nt_event::{Again, Body, LockNo, Refusal, Region, ThreadNo};

@@ -2,9 +2,12 @@
 ghost use Rattle.std.specs.List.{list_any};
 ghost use Rattle.std.specs.Prelude.{◌≡◌, ◌<◌, ◌==◌, None, false, not, option_map, reverse};
 ghost use Rattle.nt_event.specs.Commands.{holds as holds_lock, is_last as is_last_lock};
-ghost use Rattle.nt_event.specs.Frames.{base_level as base_level_of, base_of, freed_level as level_freed, is_apc_body, is_base_body, kept_in, new_frame as made_frame};
+ghost use Rattle.nt_event.specs.Frames.{base_level as base_level_of, base_of};
+ghost use Rattle.nt_event.specs.Frames.{freed_level as level_freed, is_apc_body, is_base_body};
+ghost use Rattle.nt_event.specs.Frames.{kept_in, new_frame as made_frame};
 ghost use Rattle.nt_event.specs.Lists.{head_of, is_null};
-ghost use Rattle.nt_frame.specs.Changes.{MayChange, changed, entered as entered_of, is_own as is_own_body};
+ghost use Rattle.nt_frame.specs.Changes.{MayChange, changed, entered as entered_of};
+ghost use Rattle.nt_frame.specs.Changes.{is_own as is_own_body};
 
 use crate::change::Change;
 use nt_event::{Again, Body, Held, LockNo, Region};
@@ -280,7 +283,14 @@ impl Frame {
     /// Its phase begins anew at PASSIVE_LEVEL, and its regions are given up.
     #[inline(always)]
     fn begin_anew(&mut self)
-        ensures { self.new ≡ record self.old { level = 0; place = 0; crit = 0; guard = 0; again = None; spin = None } }
+        ensures { self.new ≡ record self.old {
+          level = 0;
+          place = 0;
+          crit = 0;
+          guard = 0;
+          again = None;
+          spin = None;
+        } }
     {
         self.level = Level::PASSIVE;
         self.place = 0;

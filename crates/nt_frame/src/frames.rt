@@ -1,12 +1,20 @@
 //! The frames of one processor and its threads.
-ghost use Rattle.std.specs.Prelude.{◌≡◌, ◌<◌, ◌≤◌, ◌↔◌, ◌+◌, ◌==◌, false, not, length, option_copied, option_map, IsTrue, IsSome, IsOk, IfSome, IfOk, IfErr, OnOk, OnErr};
+ghost use Rattle.std.specs.Prelude.{◌≡◌, ◌<◌, ◌≤◌, ◌↔◌, ◌+◌, ◌==◌, false, not, length};
+ghost use Rattle.std.specs.Prelude.{option_copied, option_map, IsTrue, IsSome, IsOk, IfSome, IfOk};
+ghost use Rattle.std.specs.Prelude.{IfErr, OnOk, OnErr};
 ghost use Rattle.std.specs.Option.{ForSome, option_map_or, option_or};
-ghost use Rattle.nt_event.specs.Frames.{thread_part, done_to, frames_in, freed, innermost, is_on_thread as on_thread_part, ended_base, level_in, normal_of};
+ghost use Rattle.nt_event.specs.Frames.{thread_part, done_to, frames_in, freed, innermost};
+ghost use Rattle.nt_event.specs.Frames.{is_on_thread as on_thread_part, ended_base, level_in};
+ghost use Rattle.nt_event.specs.Frames.{normal_of};
 ghost use Rattle.nt_event.specs.Regions.{ended_level_in, below_in, freed_in, some_came_to_0};
 ghost use Rattle.nt_event.specs.Lists.{is_null, head_of};
-ghost use Rattle.nt_frame.specs.Changes.{MayChange, acquired as frame_acquired, advanced, at_innermost, begun, changed, closed, no_frames, without_innermost};
+ghost use Rattle.nt_frame.specs.Changes.{MayChange, acquired as frame_acquired, advanced};
+ghost use Rattle.nt_frame.specs.Changes.{at_innermost, begun, changed, closed, no_frames};
+ghost use Rattle.nt_frame.specs.Changes.{without_innermost};
 ghost use Rattle.nt_frame.specs.Nesting.{AreNamedBelow, AreNested, IsThreadPart};
-ghost use Rattle.nt_frame.specs.Rules.{KeepsNested, count_of, end_asks_apc, enter_of, is_at_base, is_leaving, last_held_in, leave_of, may_begin, may_go_on, refusal_in, regions_in, spinning_in};
+ghost use Rattle.nt_frame.specs.Rules.{KeepsNested, count_of, end_asks_apc, enter_of, is_at_base};
+ghost use Rattle.nt_frame.specs.Rules.{is_leaving, last_held_in, leave_of, may_begin, may_go_on};
+ghost use Rattle.nt_frame.specs.Rules.{refusal_in, regions_in, spinning_in};
 ghost use Rattle.nt_frame.specs.Views.{view_of};
 
 use crate::change::Change;
@@ -21,8 +29,9 @@ use std::marker::Model;
 
 /// The frames of one processor: those on its own part, and those of each thread.
 ///
-/// Contracts see the lists of frames, the innermost first, and the running thread. Profile: at most 13 frames stand on the own
-/// part and 4 on a thread's; the conditions of [`Frames::begin`] see to it.
+/// Contracts see the lists of frames, the innermost first, and the running thread. Profile: at most
+/// 13 frames stand on the own part and 4 on a thread's; the conditions of [`Frames::begin`] see to
+/// it.
 #[derive(Drop, Debug)]
 pub struct Frames {
     /// Whose frames these are, for `Debug` alone.
@@ -40,7 +49,8 @@ impl Model for Frames {
 
     ghost view = { λ a. record { own = a.own; running = a.running; threads = a.threads.items } };
 
-    ghost invariant = { λ a. AreNested (record { own = a.own; running = a.running; threads = a.threads.items }) };
+    ghost invariant = { λ a.
+        AreNested (record { own = a.own; running = a.running; threads = a.threads.items }) };
 }
 
 impl Frames {
@@ -101,7 +111,8 @@ impl Frames {
         }
     }
 
-    /// Whether a count of the running thread's regions comes to 0 once the innermost frame has ended.
+    /// Whether a count of the running thread's regions comes to 0 once the innermost frame has
+    /// ended.
     pub fn gives_up(&self) -> bool
         ensures { result ≡ some_came_to_0 (regions_in self.now) (below_in self.now) }
     {
@@ -121,7 +132,8 @@ impl Frames {
         }
     }
 
-    /// The level once the lock that the innermost frame acquired last is free; the level where it holds none.
+    /// The level once the lock that the innermost frame acquired last is free; the level where it
+    /// holds none.
     pub fn level_after(&self) -> Level
         ensures { result ≡ freed_in self.now }
     {
@@ -162,8 +174,8 @@ impl Frames {
         self.own.is_empty() && self.top().is_some()
     }
 
-    /// Why this command would be refused in the innermost frame, if it would: the first test that fails, in the order of the
-    /// refusals' numbers. Where there is no frame, no thread calls it.
+    /// Why this command would be refused in the innermost frame, if it would: the first test that
+    /// fails, in the order of the refusals' numbers. Where there is no frame, no thread calls it.
     #[inline(always)]
     pub fn refusal(&self, command: &Command) -> Option<Refusal>
         ensures { result ≡ refusal_in command.now self.now }
@@ -180,8 +192,8 @@ impl Frames {
         )
     }
 
-    /// The newest frame of the own part, else that of the running thread. `nested` is what every value keeps: how its frames
-    /// stand over each other.
+    /// The newest frame of the own part, else that of the running thread. `nested` is what every
+    /// value keeps: how its frames stand over each other.
     pub fn innermost(&self) -> Option<FrameView>
         ensures view { result ≡ option_map view_of (innermost self.now) }
         ensures nested { AreNested self.now }
@@ -199,10 +211,11 @@ impl Frames {
 
     /// A routine begins, in a frame that this number names: that of the event which begins it.
     ///
-    /// The rules let such a routine begin here (`may_begin`): an interrupt above the level; a DPC below DISPATCH_LEVEL; a threaded
-    /// DPC at PASSIVE_LEVEL with no frame on the own part; a kernel APC at PASSIVE_LEVEL in a thread whose regions let it through; a
-    /// user APC where `touser` would be accepted; the base of a thread that was just taken up and has no frame; a rundown routine in
-    /// a leaving thread. The number is above the names of all frames.
+    /// The rules let such a routine begin here (`may_begin`): an interrupt above the level; a DPC
+    /// below DISPATCH_LEVEL; a threaded DPC at PASSIVE_LEVEL with no frame on the own part; a
+    /// kernel APC at PASSIVE_LEVEL in a thread whose regions let it through; a user APC where
+    /// `touser` would be accepted; the base of a thread that was just taken up and has no frame; a
+    /// rundown routine in a leaving thread. The number is above the names of all frames.
     #[inline(always)]
     pub fn begin(&mut self, body: Body, n: u64)
         requires rules { IsTrue (may_begin body self.old) }
@@ -217,8 +230,9 @@ impl Frames {
         }
     }
 
-    /// An APC goes on from its kernel routine to its normal routine, and gives up the regions that its kernel routine entered.
-    /// True exactly where this asks for kernel APCs: a count of the thread's regions came to 0.
+    /// An APC goes on from its kernel routine to its normal routine, and gives up the regions that
+    /// its kernel routine entered. True exactly where this asks for kernel APCs: a count of the
+    /// thread's regions came to 0.
     pub fn normal(&mut self) -> bool
         requires { IsTrue (may_go_on self.old) }
         ensures asks { result ≡ some_came_to_0 (regions_in self.old) (below_in self.old) }
@@ -229,8 +243,9 @@ impl Frames {
         asks
     }
 
-    /// The innermost routine ends, and its frame with it: the level below comes back, and the regions that it entered are given
-    /// up. True exactly where this asks for kernel APCs: a normal kernel APC ended, or a count of the thread's regions came to 0.
+    /// The innermost routine ends, and its frame with it: the level below comes back, and the
+    /// regions that it entered are given up. True exactly where this asks for kernel APCs: a normal
+    /// kernel APC ended, or a count of the thread's regions came to 0.
     pub fn finish(&mut self) -> bool
         requires frame { IsSome (innermost self.old) }
         requires no_base { is_at_base self.old ≡ false }
@@ -245,7 +260,8 @@ impl Frames {
         asks
     }
 
-    /// The innermost routine ends as by [`Frames::finish`], for a caller who knows by itself whether this asks for kernel APCs.
+    /// The innermost routine ends as by [`Frames::finish`], for a caller who knows by itself
+    /// whether this asks for kernel APCs.
     pub fn end_routine(&mut self)
         requires frame { IsSome (innermost self.old) }
         requires no_base { is_at_base self.old ≡ false }
@@ -267,9 +283,9 @@ impl Frames {
         Ok(())
     }
 
-    /// Lowers the level of the innermost frame. NotLess exactly where it is below `l`, else BelowBase exactly where `l` is below
-    /// the level at which the present routine began, else LockHeld exactly where the frame holds a lock and `l` is below
-    /// DISPATCH_LEVEL.
+    /// Lowers the level of the innermost frame. NotLess exactly where it is below `l`, else
+    /// BelowBase exactly where `l` is below the level at which the present routine began, else
+    /// LockHeld exactly where the frame holds a lock and `l` is below DISPATCH_LEVEL.
     pub fn lower(&mut self, l: Level) -> Result<(), Refusal>
         requires { IsSome (innermost self.old) }
         ensures when { IsOk result ↔ (refusal_in (Command.Lower l) self.old ≡ None) }
@@ -282,8 +298,8 @@ impl Frames {
         Ok(())
     }
 
-    /// The running thread enters a region, which counts for its innermost frame. NotThread exactly where that stands on no
-    /// thread's part, else TooHigh exactly above APC_LEVEL.
+    /// The running thread enters a region, which counts for its innermost frame. NotThread exactly
+    /// where that stands on no thread's part, else TooHigh exactly above APC_LEVEL.
     pub fn enter(&mut self, r: Region) -> Result<(), Refusal>
         requires { count_of r (regions_in self.old) < 4294967295 }
         ensures when { IsOk result ↔ (refusal_in (enter_of r) self.old ≡ None) }
@@ -296,9 +312,10 @@ impl Frames {
         Ok(())
     }
 
-    /// The running thread leaves a region that its innermost frame entered. NotThread exactly where that stands on no thread's
-    /// part, else TooHigh exactly above APC_LEVEL, else NotEntered exactly where the frame has no open entry of the kind. True
-    /// exactly where the thread's count of the kind came to 0, which asks for kernel APCs.
+    /// The running thread leaves a region that its innermost frame entered. NotThread exactly where
+    /// that stands on no thread's part, else TooHigh exactly above APC_LEVEL, else NotEntered
+    /// exactly where the frame has no open entry of the kind. True exactly where the thread's count
+    /// of the kind came to 0, which asks for kernel APCs.
     pub fn leave(&mut self, r: Region) -> Result<bool, Refusal>
         ensures when { IsOk result ↔ (refusal_in (leave_of r) self.old ≡ None) }
         ensures why { IfErr result (λ why. refusal_in (leave_of r) self.old ≡ Some why) }
@@ -329,8 +346,8 @@ impl Frames {
         self.running = None;
     }
 
-    /// The base routine of the running thread ends: the frame stays until [`Frames::gone`], at PASSIVE_LEVEL and with its regions
-    /// given up.
+    /// The base routine of the running thread ends: the frame stays until [`Frames::gone`], at
+    /// PASSIVE_LEVEL and with its regions given up.
     pub fn end_base(&mut self)
         requires base { IsTrue (is_at_base self.old) }
         requires runs { is_leaving self.old ≡ false }
@@ -367,8 +384,8 @@ impl Frames {
         self.change(&Change::AdvancePlace);
     }
 
-    /// Whether the innermost frame may try the lock: TooHigh exactly above DISPATCH_LEVEL, else HeldHere exactly where the frame
-    /// holds it.
+    /// Whether the innermost frame may try the lock: TooHigh exactly above DISPATCH_LEVEL, else
+    /// HeldHere exactly where the frame holds it.
     pub fn may_acquire(&self, l: LockNo) -> Result<(), Refusal>
         ensures when { IsOk result ↔ (refusal_in (Command.Acquire l) self.now ≡ None) }
         ensures why { IfErr result (λ why. refusal_in (Command.Acquire l) self.now ≡ Some why) }
@@ -377,8 +394,9 @@ impl Frames {
         Ok(())
     }
 
-    /// The innermost frame tried the lock, as it may, and got it or spins on it. Either way it is at DISPATCH_LEVEL from here on,
-    /// and the level of just before the first try is kept with the lock.
+    /// The innermost frame tried the lock, as it may, and got it or spins on it. Either way it is
+    /// at DISPATCH_LEVEL from here on, and the level of just before the first try is kept with the
+    /// lock.
     pub fn acquired(&mut self, l: LockNo, done: bool)
         requires lock { l.0 < 64 }
         requires frame { IsSome (innermost self.old) }
@@ -392,8 +410,9 @@ impl Frames {
         }
     }
 
-    /// The innermost frame frees the lock that it acquired last: it is at the level kept with it from here on. TooHigh exactly
-    /// above DISPATCH_LEVEL, else NotLast exactly where the lock is not that one.
+    /// The innermost frame frees the lock that it acquired last: it is at the level kept with it
+    /// from here on. TooHigh exactly above DISPATCH_LEVEL, else NotLast exactly where the lock is
+    /// not that one.
     pub fn unlock(&mut self, l: LockNo) -> Result<(), Refusal>
         ensures when { IsOk result ↔ (refusal_in (Command.Unlock l) self.old ≡ None) }
         ensures why { IfErr result (λ why. refusal_in (Command.Unlock l) self.old ≡ Some why) }
@@ -405,8 +424,9 @@ impl Frames {
         Ok(())
     }
 
-    /// The lock that the innermost frame acquired last is freed at the end of its routine: it is at the level kept with it from
-    /// here on. Tells which lock; None, and nothing is changed, exactly where it holds none.
+    /// The lock that the innermost frame acquired last is freed at the end of its routine: it is at
+    /// the level kept with it from here on. Tells which lock; None, and nothing is changed, exactly
+    /// where it holds none.
     pub fn free(&mut self) -> Option<LockNo>
         ensures lock { result ≡ last_held_in self.old }
         ensures freed { self.new ≡ at_innermost freed self.old }
@@ -437,7 +457,8 @@ impl Frames {
 
     /// The part of the running thread.
     fn running_part(&self) -> Option<&Part<4>>
-        ensures value { option_copied result ≡ option_map (frames_in self.now.threads) self.now.running }
+        ensures value { option_copied result
+            ≡ option_map (frames_in self.now.threads) self.now.running }
         ensures part { IfSome result (λ part. IsThreadPart part.now) }
     {
         match self.running {
@@ -515,9 +536,11 @@ fn leave_command(r: Region) -> Command
     }
 }
 
-/// The level of the first of these frames, else of the second; PASSIVE_LEVEL where there is neither.
+/// The level of the first of these frames, else of the second; PASSIVE_LEVEL where there is
+/// neither.
 fn first_level(first: Option<&Frame>, second: Option<&Frame>) -> Level
-    ensures { result ≡ option_map_or (λ f. f.level) (option_or (option_copied first.entry) (option_copied second.entry)) 0 }
+    ensures { result ≡ option_map_or (λ f. f.level)
+        (option_or (option_copied first.entry) (option_copied second.entry)) 0 }
 {
     match first {
         Some(frame) => frame.level(),

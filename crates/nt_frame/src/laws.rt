@@ -6,8 +6,8 @@ pub fn events_are_calls()
     ensures { EventsAreCalls }
 {}
 
-/// The frames of a processor in a history are what the calls for its events leave, one after another, beginning with none. So
-/// [`crate::perform_all`] on these calls gives them.
+/// The frames of a processor in a history are what the calls for its events leave, one after
+/// another, beginning with none. So [`crate::perform_all`] on these calls gives them.
 pub fn histories_are_calls()
     ensures { HistoriesAreCalls }
 {}

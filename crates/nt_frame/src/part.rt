@@ -1,5 +1,6 @@
 //! One part: the frames that stand on a processor, or on a thread.
-ghost use Rattle.std.specs.Prelude.{◌≡◌, ◌<◌, ◌^◌, [], ◌∷◌, length, option_copied, reverse, vec_capacity, IfOk};
+ghost use Rattle.std.specs.Prelude.{◌≡◌, ◌<◌, ◌^◌, [], ◌∷◌, length, option_copied, reverse};
+ghost use Rattle.std.specs.Prelude.{vec_capacity, IfOk};
 ghost use Rattle.std.specs.Option.{ForSome};
 ghost use Rattle.nt_event.specs.Frames.{at_head, is_normal_apc_body, new_frame};
 ghost use Rattle.nt_event.specs.Regions.{busy_of, crit_of, guard_of, regions_of};
@@ -19,7 +20,8 @@ pub(crate) const NO_REGIONS: Regions = Regions {
     busy: false,
 };
 
-/// The frames of one part, of which there are at most `ROOM`. Contracts see the list of them, the innermost first.
+/// The frames of one part, of which there are at most `ROOM`. Contracts see the list of them, the
+/// innermost first.
 #[derive(Drop, Debug)]
 pub struct Part<const ROOM: usize> {
     frames: Vec<Frame>,

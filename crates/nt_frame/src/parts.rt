@@ -14,7 +14,8 @@ use nt_event::{Body, ThreadNo};
 pub fn begin(threads: &mut Vec<Part<4>>, t: ThreadNo, name: u64, body: Body)
     requires thread { t.0 < vec_len threads.old }
     requires room { length (frames_in threads.old.items t) < 4 }
-    ensures { threads.new.items ≡ set threads.old.items t.0 (new_frame name body ∷ frames_in threads.old.items t) }
+    ensures { threads.new.items
+        ≡ set threads.old.items t.0 (new_frame name body ∷ frames_in threads.old.items t) }
 {
     threads[t.0 as usize].begin(name, body);
 }
@@ -22,7 +23,8 @@ pub fn begin(threads: &mut Vec<Part<4>>, t: ThreadNo, name: u64, body: Body)
 /// Takes the newest frame from the thread's part.
 pub fn pop(threads: &mut Vec<Part<4>>, t: ThreadNo)
     requires { t.0 < vec_len threads.old }
-    ensures { threads.new.items ≡ set threads.old.items t.0 (tail_of (frames_in threads.old.items t)) }
+    ensures { threads.new.items
+        ≡ set threads.old.items t.0 (tail_of (frames_in threads.old.items t)) }
 {
     threads[t.0 as usize].pop();
 }
@@ -40,7 +42,8 @@ pub fn clear(threads: &mut Vec<Part<4>>, t: ThreadNo)
 pub fn change(threads: &mut Vec<Part<4>>, t: ThreadNo, change: &Change)
     requires thread { t.0 < vec_len threads.old }
     requires room { ForSome (head_of (frames_in threads.old.items t)) (MayChange change.now) }
-    ensures { threads.new.items ≡ set threads.old.items t.0 (at_head (changed change.now) (frames_in threads.old.items t)) }
+    ensures { threads.new.items
+        ≡ set threads.old.items t.0 (at_head (changed change.now) (frames_in threads.old.items t)) }
 {
     threads[t.0 as usize].change(change);
 }

@@ -1,14 +1,16 @@
 //! Where a command is refused.
 ghost use Rattle.std.specs.Prelude.{◌≡◌, ◌==◌, None};
-ghost use Rattle.nt_event.specs.Commands.{not_above as refused_above, refusal as refusal_of, refuse};
+ghost use Rattle.nt_event.specs.Commands.{not_above as refused_above, refusal as refusal_of};
+ghost use Rattle.nt_event.specs.Commands.{refuse};
 ghost use Rattle.nt_event.specs.Regions.{is_open as some_open};
 
 use crate::Frame;
 use nt_event::{Command, LockNo, Refusal, Regions};
 use nt_level::Level;
 
-/// Why a command is refused at this level, if it is: where the innermost frame is this one, stands on the processor's own part
-/// or not, and its thread is in these regions. The tests are made in the order of the refusals' numbers.
+/// Why a command is refused at this level, if it is: where the innermost frame is this one, stands
+/// on the processor's own part or not, and its thread is in these regions. The tests are made in
+/// the order of the refusals' numbers.
 #[inline(always)]
 pub fn refusal(
     level: Level,
@@ -128,7 +130,8 @@ fn unlock_refusal(
 
 /// A region that the frame entered so often is left.
 fn leave_refusal(own: bool, level: Level, entered: u32) -> Option<Refusal>
-    ensures { result ≡ refuse own Refusal.NotThread (refused_above 1 level (refuse (entered == 0) Refusal.NotEntered None)) }
+    ensures { result ≡ refuse own Refusal.NotThread
+        (refused_above 1 level (refuse (entered == 0) Refusal.NotEntered None)) }
 {
     let refused = thread_refusal(own, Level::APC, level);
     if refused.is_some() {

@@ -7,8 +7,8 @@ use nt_event::{Again, Body, CpuNo, Regions, ThreadNo};
 use nt_level::Level;
 use std::marker::Model;
 
-/// Where a processor stands: what an event that touches lanes needs of what the processor alone knows. Each question is answered
-/// from its frames when it is asked.
+/// Where a processor stands: what an event that touches lanes needs of what the processor alone
+/// knows. Each question is answered from its frames when it is asked.
 ///
 /// Contracts see the record `Stand` of all answers.
 #[derive(Drop)]
@@ -28,7 +28,8 @@ impl<'f> Model for StandView<'f> {
 }
 
 impl<'f> StandView<'f> {
-    /// Where the processor of this number and these frames stands, by whether it owes a sweep of the timers.
+    /// Where the processor of this number and these frames stands, by whether it owes a sweep of
+    /// the timers.
     #[inline(always)]
     pub fn new(cpu: CpuNo, frames: &'f Frames, sweep: bool) -> StandView<'f>
         ensures { result ≡ stand_of cpu frames.now sweep }
@@ -98,7 +99,8 @@ impl<'f> StandView<'f> {
         self.frames.below()
     }
 
-    /// Whether a count of the running thread's regions comes to 0 once the innermost frame has ended.
+    /// Whether a count of the running thread's regions comes to 0 once the innermost frame has
+    /// ended.
     #[inline(always)]
     pub fn gives_up(&self) -> bool
         ensures { result ≡ some_came_to_0 self.now.regions self.now.below }
@@ -114,8 +116,8 @@ impl<'f> StandView<'f> {
         self.frames.ended_level()
     }
 
-    /// The level after an unlock or a free of the innermost frame: the one kept with the lock that it acquired last. The level
-    /// where it holds none.
+    /// The level after an unlock or a free of the innermost frame: the one kept with the lock that
+    /// it acquired last. The level where it holds none.
     pub fn after(&self) -> Level
         ensures { result ≡ self.now.after }
     {

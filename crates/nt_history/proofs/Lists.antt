@@ -11,7 +11,8 @@ use Rattle.nt_history.specs.declared.brief.Did.TheVariants as did
 use Rattle.nt_history.specs.declared.brief.Noticed.{Noticed}
 use Rattle.nt_history.specs.declared.brief.Noticed.TheVariants.{One, Several}
 use Rattle.nt_history.proofs.Meaning.{meant_again}
-use Rattle.nt_history.specs.Briefs.{HasEach, HasValues, IsAmong, IsLook, Stands, beside, brief_of, did_of, event_in, event_of, events_in, no_rises, nothing, noticed_of, values_at, what_of}
+use Rattle.nt_history.specs.Briefs.{HasEach, HasValues, IsAmong, IsLook, Stands, beside, brief_of, did_of, event_in, event_of, events_in, no_rises, nothing}
+use Rattle.nt_history.specs.Briefs.{noticed_of, values_at, what_of}
 
 -- ---- places of a list that grew
 

@@ -1,6 +1,8 @@
 //! An event without the values of a look.
 ghost use Rattle.std.specs.Prelude.{◌≡◌, ◌↔◌, ◌<◌, IsTrue};
-ghost use Rattle.nt_history.specs.Briefs.{IsLook, NoneAbove, NoneBelow, brief_of, did_of, event_of, no_rises, nothing, noticed_of, one_rise, values_at, what_of};
+ghost use Rattle.nt_history.specs.Briefs.{IsLook, NoneAbove, NoneBelow, brief_of, did_of, event_of};
+ghost use Rattle.nt_history.specs.Briefs.{no_rises, nothing, noticed_of, one_rise, values_at};
+ghost use Rattle.nt_history.specs.Briefs.{what_of};
 
 use nt_event::{
     ApcNo, Begun, Command, CpuNo, DpcNo, Event, Level, LockNo, Reply, Rises, ThreadNo, TimerKey,
@@ -72,7 +74,8 @@ impl Noticed {
         }
     }
 
-    /// Writes the values that are kept so, where several has those of the looks in which several classes rose.
+    /// Writes the values that are kept so, where several has those of the looks in which several
+    /// classes rose.
     #[inline(always)]
     pub fn write_values(&self, several: &[Rises], rises: &mut Rises)
         ensures { rises.new ≡ values_at several.now self.now }
@@ -252,7 +255,8 @@ impl Did {
 pub struct Brief {
     /// The processor that made it.
     pub cpu: CpuNo,
-    /// The thread that ran on the processor before it; for a Switch the thread that is taken; none for a Look.
+    /// The thread that ran on the processor before it; for a Switch the thread that is taken; none
+    /// for a Look.
     pub thread: Option<ThreadNo>,
     /// The processor's level after it; 0 for a Look.
     pub level: Level,

@@ -30,7 +30,8 @@ impl Model for Events {
     ghost invariant = { λ a. HasEach a.briefs.items a.rises.items };
 }
 
-/// The events of a list to be read: a brief for each event, and the values of the looks in which several classes rose.
+/// The events of a list to be read: a brief for each event, and the values of the looks in which
+/// several classes rose.
 #[derive(Clone, Copy)]
 pub struct Briefs<'a> {
     pub briefs: &'a [Brief],
@@ -77,7 +78,9 @@ impl<'a> Briefs<'a> {
     /// The turn that makes the event of this number.
     pub fn turn(&self, number: usize) -> Turn
         requires { number < length self.now.briefs.now }
-        ensures { option_map turn_of (slice_get (events_in self.now.briefs.now self.now.rises.now) number) ≡ Some result }
+        ensures { option_map turn_of
+            (slice_get (events_in self.now.briefs.now self.now.rises.now) number)
+            ≡ Some result }
     {
         self.turn_of(&self.briefs[number])
     }
@@ -85,7 +88,8 @@ impl<'a> Briefs<'a> {
     /// Whether this is the event of this number.
     pub fn is_event(&self, number: usize, event: &Event) -> bool
         requires { number < length self.now.briefs.now }
-        ensures { IsTrue result ↔ (slice_get (events_in self.now.briefs.now self.now.rises.now) number ≡ Some event.now) }
+        ensures { IsTrue result ↔
+            (slice_get (events_in self.now.briefs.now self.now.rises.now) number ≡ Some event.now) }
     {
         self.stands_for(&self.briefs[number], event)
     }
@@ -122,14 +126,16 @@ impl<'a> Briefs<'a> {
     /// The event of this number.
     pub fn event(&self, number: usize) -> Event
         requires { number < length self.now.briefs.now }
-        ensures { slice_get (events_in self.now.briefs.now self.now.rises.now) number ≡ Some result }
+        ensures { slice_get (events_in self.now.briefs.now self.now.rises.now) number
+            ≡ Some result }
     {
         let brief = &self.briefs[number];
         brief.event(&self.values(brief))
     }
 }
 
-/// Puts a brief of the event at the end, where the values of a look are kept so. There is room for it.
+/// Puts a brief of the event at the end, where the values of a look are kept so. There is room for
+/// it.
 ///
 /// It is written where it is kept: made first and put then, it would be copied once more.
 #[inline(always)]
@@ -153,7 +159,8 @@ pub(crate) fn put<T: Copy>(items: &mut Vec<T>, item: T)
     items.push_reserved(item);
 }
 
-/// Puts the values of a look that is kept so at the end, where several classes rose in it. There is room for them.
+/// Puts the values of a look that is kept so at the end, where several classes rose in it. There is
+/// room for them.
 fn put_beside(rises: &mut Vec<Rises>, noticed: &Noticed, values: &Rises)
     requires { length rises.old.items < vec_capacity rises.old }
     ensures items { rises.new.items ≡ rises.old.items ++ beside noticed.now values.now }
@@ -175,7 +182,8 @@ pub(crate) fn put_look(
     requires briefs { length briefs.old.items < vec_capacity briefs.old }
     requires rises { length rises.old.items < vec_capacity rises.old }
     requires each { HasEach briefs.old.items rises.old.items }
-    ensures events { events_in briefs.new.items rises.new.items ≡ events_in briefs.old.items rises.old.items ++ event.now ∷ [] }
+    ensures events { events_in briefs.new.items rises.new.items
+        ≡ events_in briefs.old.items rises.old.items ++ event.now ∷ [] }
     ensures each { HasEach briefs.new.items rises.new.items }
     ensures one { length briefs.new.items ≡ 1 + length briefs.old.items }
     ensures more { length rises.new.items ≤ 1 + length rises.old.items }
@@ -227,7 +235,8 @@ impl Events {
         Ok(())
     }
 
-    /// Puts the event of a brief at the end, where a look noticed nothing. Where no memory is found, the list is as before.
+    /// Puts the event of a brief at the end, where a look noticed nothing. Where no memory is
+    /// found, the list is as before.
     pub fn push_brief(&mut self, brief: &Brief) -> Result<(), AllocError>
         ensures ok { OnOk result (self.new ≡ self.old ++ event_of no_rises brief.now ∷ []) }
         ensures err { OnErr result (self.new ≡ self.old) }

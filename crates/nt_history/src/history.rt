@@ -2,7 +2,8 @@
 use crate::events::{Briefs, Events};
 use std::marker::Model;
 
-/// The events of a run so far and the turn limit: how many events each processor may make. Contracts see it as the record of both.
+/// The events of a run so far and the turn limit: how many events each processor may make.
+/// Contracts see it as the record of both.
 #[derive(Drop, Debug)]
 pub struct History {
     turns: u32,

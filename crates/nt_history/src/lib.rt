@@ -1,8 +1,9 @@
 //! The events of a history and lists of turns in little memory.
 //!
-//! An [`Event`](nt_event::Event) takes the room of the values of a look, and most events are none. [`Events`] keeps a [`Brief`] for each
-//! event, which is all of it but the values of a look, and the values of the looks beside. Contracts see the list of the events.
-//! [`Turns`] keeps turns in the same way, and [`Turns::walk`] goes through them in order.
+//! An [`Event`](nt_event::Event) takes the room of the values of a look, and most events are none.
+//! [`Events`] keeps a [`Brief`] for each event, which is all of it but the values of a look, and
+//! the values of the looks beside. Contracts see the list of the events. [`Turns`] keeps turns in
+//! the same way, and [`Turns::walk`] goes through them in order.
 #![tactic(auto)]
 
 mod brief;
@@ -128,6 +129,7 @@ mod tests {
         assert_eq!(rt; events.lend().event(0), look(5));
         Ok(())
     }
+
     #[test]
     fn each_look_of_the_turns_has_its_values(rt: HostRuntime) -> Result<(), AllocError> {
         let given = [

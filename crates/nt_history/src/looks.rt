@@ -29,9 +29,11 @@ impl Model for Looks {
     ghost invariant = { λ a. AreAmong a.noticed.items a.several.items };
 }
 
-/// Adds the values of a look that is kept so, where several classes rose in it. An error is want of memory, and then nothing was added.
+/// Adds the values of a look that is kept so, where several classes rose in it. An error is want of
+/// memory, and then nothing was added.
 fn put_beside(several: &mut Vec<Rises>, noticed: &Noticed, values: &Rises) -> Result<(), AllocError>
-    ensures ok { OnOk result (several.new.items ≡ several.old.items ++ beside noticed.now values.now) }
+    ensures ok { OnOk result
+        (several.new.items ≡ several.old.items ++ beside noticed.now values.now) }
     ensures err { OnErr result (several.new.items ≡ several.old.items) }
 {
     if let Noticed::Several { .. } = noticed {

@@ -1,5 +1,6 @@
 //! A list of events that has its room from the start.
-ghost use Rattle.std.specs.Prelude.{◌≡◌, ◌++◌, ◌∷◌, ◌<◌, ◌≤◌, [], IfOk, length, reverse, vec_capacity};
+ghost use Rattle.std.specs.Prelude.{◌≡◌, ◌++◌, ◌∷◌, ◌<◌, ◌≤◌, [], IfOk, length, reverse};
+ghost use Rattle.std.specs.Prelude.{vec_capacity};
 ghost use Rattle.nt_history.specs.Recorded.{cpu_of_first};
 
 use crate::brief::{Brief, Noticed};
@@ -8,7 +9,8 @@ use nt_event::{CpuNo, Event, Rises, What};
 use std::alloc::{AllocError, Global};
 use std::marker::Model;
 
-/// The events of a run while it is made, with room for so many: putting one takes no memory. Contracts see the events and the room.
+/// The events of a run while it is made, with room for so many: putting one takes no memory.
+/// Contracts see the events and the room.
 #[derive(Drop)]
 pub struct Recorder {
     room: usize,

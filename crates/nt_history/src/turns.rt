@@ -31,7 +31,8 @@ impl Model for Turns {
     ghost invariant = { λ a. HasEach a.kept.items a.looks };
 }
 
-/// Adds the values of the turn, where it is a look. An error is want of memory, and then nothing was added.
+/// Adds the values of the turn, where it is a look. An error is want of memory, and then nothing
+/// was added.
 fn put_rises(looks: &mut Looks, turn: &Turn) -> Result<(), AllocError>
     ensures ok { OnOk result (looks.new ≡ looks.old ++ rises_of turn.now) }
     ensures err { OnErr result (looks.new ≡ looks.old) }

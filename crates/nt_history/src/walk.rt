@@ -14,7 +14,8 @@ pub fn no_turn() -> Turn {
     Turn::Next(CpuNo(0))
 }
 
-/// Writes the turn of a processor's next event. Most turns are such, and where one was written last, the processor alone changes.
+/// Writes the turn of a processor's next event. Most turns are such, and where one was written
+/// last, the processor alone changes.
 fn put_next(turn: &mut Turn, cpu: CpuNo)
     ensures { turn.new ≡ turns.Next cpu }
 {
@@ -70,7 +71,8 @@ impl<'a> TurnWalk<'a> {
         TurnWalk { kept, looks }
     }
 
-    /// Takes the first turn that is left, and writes it. False exactly where none is, and then nothing was written.
+    /// Takes the first turn that is left, and writes it. False exactly where none is, and then
+    /// nothing was written.
     #[inline(always)]
     pub fn next(&mut self, turn: &mut Turn) -> bool
         ensures some { result ≡ true → self.old ≡ turn.new ∷ self.new }

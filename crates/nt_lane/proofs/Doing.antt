@@ -3,11 +3,13 @@ use Rattle.std.proofs.Common.{ap, arith, refl, subst, sym, ◌∙◌}
 use Rattle.std.proofs.lemmas.List.{length-replicate}
 use Rattle.std.proofs.lemmas.List.Elements.{Contains-append_right}
 use Rattle.std.specs.List.{list_any}
-use Rattle.std.specs.Prelude.{All, Bool, Contains, IfSome, List, None, Option, Some, [], false, get_or, if◌then◌else◌, length, map, true, ℕ, ◌+◌, ◌<◌, ◌^◌, ◌∷◌, ◌≡◌, ◌≤◌}
+use Rattle.std.specs.Prelude.{All, Bool, Contains, IfSome, List, None, Option, Some, [], false, get_or, if◌then◌else◌, length, map, true, ℕ, ◌+◌, ◌<◌, ◌^◌, ◌∷◌}
+use Rattle.std.specs.Prelude.{◌≡◌, ◌≤◌}
 use Rattle.nt_event.specs.declared.events.Event.{Event}
 use Rattle.nt_event.specs.declared.jobs.Job.{Job}
 use Rattle.nt_event.specs.declared.jobs.Lane.{Lane}
-use Rattle.nt_event.specs.declared.jobs.Lane.TheVariants.{Lock as LockLane, Object as ObjectLane, Queue as QueueLane, Threads as ThreadsLane, Timers as TimersLane}
+use Rattle.nt_event.specs.declared.jobs.Lane.TheVariants.{Lock as LockLane, Object as ObjectLane, Queue as QueueLane, Threads as ThreadsLane}
+use Rattle.nt_event.specs.declared.jobs.Lane.TheVariants.{Timers as TimersLane}
 use Rattle.nt_event.specs.declared.jobs.Stand.{Stand}
 use Rattle.nt_event.specs.declared.numbers.CpuNo.{CpuNo}
 use Rattle.nt_event.specs.declared.scripts.Script.{Script}
@@ -116,7 +118,8 @@ module _ (s : Script) (h : HeldLanes) (st : Stand) (p : Plan) (n : ℕ) (over va
 threads_long : (s : Script) (h : HeldLanes) → AreLanes s h → length (held_lanes (states_of s h)).threads ≡ length s.threads
 threads_long s h there = go h.group there.group
   where
-    go : (o : Option (Kept GroupState)) → IfSome o (λ k. IsLane s (ThreadsLane k.state.cpu) (group_content k.state) 0 (IsGroupThere s k.state) k.log) → length (threads_told s (in_each o (λ k. k.state))) ≡ length s.threads
+    go : (o : Option (Kept GroupState)) → IfSome o (λ k. IsLane s (ThreadsLane k.state.cpu) (group_content k.state) 0 (IsGroupThere s k.state) k.log) →
+        length (threads_told s (in_each o (λ k. k.state))) ≡ length s.threads
     go None k = length-replicate (length s.threads) _
     go (Some g) k = k.fits.count
 

@@ -2,7 +2,8 @@
 use Rattle.std.proofs.Common.{ap, refl, subst, sym, ◌∙◌}
 use Rattle.std.proofs.lemmas.Bool.{eq-eqb, ltb-true}
 use Rattle.std.proofs.lemmas.List.Elements.{All-cons, All-nil}
-use Rattle.std.specs.Prelude.{All, Bool, IsTrue, List, None, Option, Some, [], false, filter, is_some, length, not, option_map, true, unwrap_or, ℕ, ◌<◌, ◌∷◌, ◌≡◌}
+use Rattle.std.specs.Prelude.{All, Bool, IsTrue, List, None, Option, Some, [], false, filter, is_some, length, not, option_map, true, unwrap_or, ℕ, ◌<◌, ◌∷◌}
+use Rattle.std.specs.Prelude.{◌≡◌}
 use Rattle.nt_event.specs.declared.events.Event.{Event}
 use Rattle.nt_event.specs.declared.inserts.Insert.{Insert as InsertEntry}
 use Rattle.nt_event.specs.declared.inserts.Standing.{Standing}
@@ -119,8 +120,12 @@ module _ (s : Script) (l : Lanes) (by : CpuNo) (o : ObjectFacts) (q : QueueFacts
   moves (Remove d) h =
       let at : o.state.standing ≡ Some h.1 = subst (λ (x : ObjectState). x.standing ≡ Some h.1) os h.2 in
       (h.0, ap (λ (x : Option Standing). is_some x) at, stands_here q o.dpc o.state.standing h.1 at h.3 agree)
-  moves (Take part d) h =
-      (h.0, h.1, first_of (first_dpc part q.state.pending) o.dpc (subst (λ (x : QueueState). option_map (λ (i : InsertEntry). i.dpc) (first_dpc part x.pending) ≡ Some o.dpc) qs h.2))
+  moves (Take part d) h = (
+    h.0,
+    h.1,
+    first_of (first_dpc part q.state.pending) o.dpc
+        (subst (λ (x : QueueState). option_map (λ (i : InsertEntry). i.dpc) (first_dpc part x.pending) ≡ Some o.dpc) qs h.2),
+  )
   moves (SetImportance d i) h = absurd h
   moves (SetTarget d t) h = absurd h
   moves Nothing h = absurd h

@@ -7,7 +7,8 @@ use Rattle.std.specs.List.{list_any}
 use Rattle.std.specs.Prelude.{Bool, IfSome, IsSome, IsTrue, List, None, Option, Some, [], false, true, ℕ, ◌++◌, ◌||◌, ◌∷◌, ◌≡◌}
 use Rattle.nt_event.specs.declared.events.Event.{Event}
 use Rattle.nt_event.specs.declared.jobs.Lane.{Lane}
-use Rattle.nt_event.specs.declared.jobs.Lane.TheVariants.{Lock as LockLane, Object as ObjectLane, Queue as QueueLane, Threads as ThreadsLane, Timers as TimersLane}
+use Rattle.nt_event.specs.declared.jobs.Lane.TheVariants.{Lock as LockLane, Object as ObjectLane, Queue as QueueLane, Threads as ThreadsLane}
+use Rattle.nt_event.specs.declared.jobs.Lane.TheVariants.{Timers as TimersLane}
 use Rattle.nt_event.specs.declared.jobs.Stand.{Stand}
 use Rattle.nt_event.specs.declared.numbers.CpuNo.{CpuNo}
 use Rattle.nt_event.specs.declared.numbers.DpcNo.{DpcNo}
@@ -31,8 +32,10 @@ use Rattle.nt_lane.specs.Held.{GroupState, IsLastNoted, SpinFacts, group_content
 use Rattle.nt_lane.specs.Locks.{AreKnownBy, AreLanes, AreLongest, HeldLanes, IsKnownBy, IsLane, Kept, found_in, in_each, states_of, told_in, told_of}
 use Rattle.nt_lane.specs.Records.{LaneRecord, told_then}
 use Rattle.nt_lane.specs.Seats.{AreFoundOn, AreShownOn, IsFoundOn, IsShown, IsShownOn}
-use Rattle.nt_lane.specs.Steps.{AreLeftBy, DpcsLeft, KnowsLeft, LeavesGroup, LeavesObject, LeavesQueue, LeavesSpin, LeavesTimers, is_touched, object_left, object_name, objects_told, queue_left, queue_name, spin_left}
-use Rattle.nt_lane.proofs.Contents.{group_before, group_then, object_before, object_then, queue_before, queue_then, spin_before, spin_then, timers_before, timers_then}
+use Rattle.nt_lane.specs.Steps.{AreLeftBy, DpcsLeft, KnowsLeft, LeavesGroup, LeavesObject, LeavesQueue, LeavesSpin, LeavesTimers, is_touched, object_left}
+use Rattle.nt_lane.specs.Steps.{object_name, objects_told, queue_left, queue_name, spin_left}
+use Rattle.nt_lane.proofs.Contents.{group_before, group_then, object_before, object_then, queue_before, queue_then, spin_before, spin_then, timers_before}
+use Rattle.nt_lane.proofs.Contents.{timers_then}
 
 -- ---- one lane
 
@@ -62,7 +65,8 @@ module _ (s : Script) (h : HeldLanes) (x : Lane) (r : LaneRecord) (told : (q : C
       let state : record { content = next; told = told_then s.cpus n asks r.told }
       ≡ record {
         content = content s (lanes_after s n st e (held_lanes (states_of s h))) x;
-        told = table s.cpus (λ q. table 16 (λ c. raised (list_any (is_ask (cpu q) c) (what_asks s st e.what (held_lanes (states_of s h)))) n (told_in h x (cpu q) c)));
+        told = table s.cpus
+            (λ q. table 16 (λ c. raised (list_any (is_ask (cpu q) c) (what_asks s st e.what (held_lanes (states_of s h)))) n (told_in h x (cpu q) c)));
       } = λ i. record {
         content = sym then i;
         told = table s.cpus (λ q. table 16 (λ c. raised (list_any (is_ask (cpu q) c) (same i)) n (sym (told (cpu q) c) i)));
@@ -78,7 +82,8 @@ module _ (s : Script) (n : ℕ) (e : Event) (asks : List Ask) (v : View) (lanes 
   pub left_object : (k : Kept ObjectFacts) (q : Option (Kept QueueFacts)) → is_among (object_name k) lanes ≡ true →
       DpcsLeft s n e asks v (is_among (object_name k) lanes) (is_touched (in_each q queue_name) lanes) (Some k) q → LeavesObject s n e asks k v
   left_object k None t l = subst (λ (b : Bool). DpcsLeft s n e asks v b false (Some k) None) t l
-  left_object k (Some y) t l = go (is_among (queue_name y) lanes) (subst (λ (b : Bool). DpcsLeft s n e asks v b (is_among (queue_name y) lanes) (Some k) (Some y)) t l)
+  left_object k (Some y) t l =
+      go (is_among (queue_name y) lanes) (subst (λ (b : Bool). DpcsLeft s n e asks v b (is_among (queue_name y) lanes) (Some k) (Some y)) t l)
     where
       go : (b : Bool) → DpcsLeft s n e asks v true b (Some k) (Some y) → LeavesObject s n e asks k v
       go true z = z.0
@@ -88,7 +93,8 @@ module _ (s : Script) (n : ℕ) (e : Event) (asks : List Ask) (v : View) (lanes 
       DpcsLeft s n e asks v (is_touched (in_each o object_name) lanes) (is_among (queue_name k) lanes) o (Some k) →
       LeavesQueue s n e (objects_told s o) asks k v
   left_queue None k t l = subst (λ (b : Bool). DpcsLeft s n e asks v false b None (Some k)) t l
-  left_queue (Some x) k t l = go (is_among (object_name x) lanes) (subst (λ (b : Bool). DpcsLeft s n e asks v (is_among (object_name x) lanes) b (Some x) (Some k)) t l)
+  left_queue (Some x) k t l =
+      go (is_among (object_name x) lanes) (subst (λ (b : Bool). DpcsLeft s n e asks v (is_among (object_name x) lanes) b (Some x) (Some k)) t l)
     where
       go : (b : Bool) → DpcsLeft s n e asks v b true (Some x) (Some k) → LeavesQueue s n e (objects_told s (Some x)) asks k v
       go true z = z.1
@@ -205,7 +211,8 @@ module _ (s : Script) (h : HeldLanes) (there : AreLanes s h) where
         let lane = of_some (λ (k : Kept QueueFacts). IsLane s (QueueLane k.state.cpu) (OfQueue k.state.state) 0 _ k.log) h.queue k o.1 there.queue in
         let at : in_each h.queue (λ k. k.state) ≡ Some k.state = ap (λ (y : Option (Kept QueueFacts)). in_each y (λ k. k.state)) o.1 in
         let here : is_among (queue_name k) lanes ≡ true = subst (λ (y : CpuNo). is_among (QueueLane y) lanes ≡ true) (sym o.2) among in
-        let knows : LeavesQueue s n e (objects_told s h.object) asks k v = left_queue s n e asks v lanes h.object k here (subst (λ (y : Option (Kept QueueFacts)).
+        let knows : LeavesQueue s n e (objects_told s h.object) asks k v =
+        left_queue s n e asks v lanes h.object k here (subst (λ (y : Option (Kept QueueFacts)).
         DpcsLeft s n e asks v (is_touched (in_each h.object object_name) lanes) (is_touched (in_each y queue_name) lanes) h.object y) o.1 left.dpcs) in
         subst (λ (y : CpuNo). IsFoundOn s v n e st (found_in s h) (QueueLane y)) o.2
         (found_on s h (QueueLane k.state.cpu) k.log (λ q c. ap (λ (y : Option (Kept QueueFacts)). told_at (told_of y) q c) o.1) n st e asks
@@ -217,7 +224,9 @@ module _ (s : Script) (h : HeldLanes) (there : AreLanes s h) where
         let lane = of_some (λ (k : Kept GroupState). IsLane s (ThreadsLane k.state.cpu) (group_content k.state) 0 _ k.log) h.group k o.1 there.group in
         let at : in_each h.group (λ k. k.state) ≡ Some k.state = ap (λ (y : Option (Kept GroupState)). in_each y (λ k. k.state)) o.1 in
         let here : is_among (ThreadsLane k.state.cpu) lanes ≡ true = subst (λ (y : CpuNo). is_among (ThreadsLane y) lanes ≡ true) (sym o.2) among in
-        let knows = of_some (λ (k : Kept GroupState). IsTrue (is_among (ThreadsLane k.state.cpu) lanes) → LeavesGroup s n st e asks k v) h.group k o.1 left.group here in
+        let knows =
+        of_some (λ (k : Kept GroupState). IsTrue (is_among (ThreadsLane k.state.cpu) lanes) → LeavesGroup s n st e asks k v) h.group k o.1
+        left.group here in
         subst (λ (y : CpuNo). IsFoundOn s v n e st (found_in s h) (ThreadsLane y)) o.2
         (found_on s h (ThreadsLane k.state.cpu) k.log (λ q c. ap (λ (y : Option (Kept GroupState)). told_at (told_of y) q c) o.1) n st e asks
         (group_content k.state) _ v lane.noted (group_before states k.state.cpu k.state at refl lane.fits.script)
@@ -237,7 +246,9 @@ module _ (s : Script) (h : HeldLanes) (there : AreLanes s h) where
         let lane = of_some (λ (k : Kept SpinFacts). IsLane s (LockLane k.state.lock) (OfLock k.state.state) 0 _ k.log) h.spin_lock k o.1 there.spin_lock in
         let at : in_each h.spin_lock (λ k. k.state) ≡ Some k.state = ap (λ (y : Option (Kept SpinFacts)). in_each y (λ k. k.state)) o.1 in
         let here : is_among (LockLane k.state.lock) lanes ≡ true = subst (λ (y : LockNo). is_among (LockLane y) lanes ≡ true) (sym o.2) among in
-        let knows = of_some (λ (k : Kept SpinFacts). IsTrue (is_among (LockLane k.state.lock) lanes) → LeavesSpin s n e asks k v) h.spin_lock k o.1 left.spin_lock here in
+        let knows =
+        of_some (λ (k : Kept SpinFacts). IsTrue (is_among (LockLane k.state.lock) lanes) → LeavesSpin s n e asks k v) h.spin_lock k o.1
+        left.spin_lock here in
         subst (λ (y : LockNo). IsFoundOn s v n e st (found_in s h) (LockLane y)) o.2
         (found_on s h (LockLane k.state.lock) k.log (λ q c. ap (λ (y : Option (Kept SpinFacts)). told_at (told_of y) q c) o.1) n st e asks
         (OfLock k.state.state) (OfLock (spin_left s e k.state).state) v lane.noted (spin_before states k.state.lock k.state lane.fits.named at)

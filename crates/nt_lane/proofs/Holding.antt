@@ -1,7 +1,8 @@
 -- What held lanes tell.
 use Rattle.std.proofs.Common.{ap, arith, inl, inr, refl, subst, sym, ◌∙◌}
 use Rattle.std.proofs.lemmas.Bool.{false≢true}
-use Rattle.std.specs.Prelude.{All, Bool, IfSome, IsSome, IsTrue, List, None, Option, Some, [], false, if◌then◌else◌, is_some, option_map, suc, true, unwrap_or, ℕ, ◌<◌, ◌∷◌, ◌≡◌}
+use Rattle.std.specs.Prelude.{All, Bool, IfSome, IsSome, IsTrue, List, None, Option, Some, [], false, if◌then◌else◌, is_some, option_map, suc, true, unwrap_or}
+use Rattle.std.specs.Prelude.{ℕ, ◌<◌, ◌∷◌, ◌≡◌}
 use Rattle.nt_event.specs.declared.inserts.Insert.{Insert}
 use Rattle.nt_event.specs.declared.inserts.Part.{Part}
 use Rattle.nt_event.specs.declared.inserts.Part.TheVariants.{Ordinary as OrdinaryPart, Threaded as ThreadedPart}
@@ -28,7 +29,8 @@ use Rattle.nt_lane.specs.Answers.{AreThere, BothAgree, HeldStates, held_lanes, t
 
 -- ---- the objects and processors that they name are the script's
 
-pub named_for : (s : Script) (o : Option CpuNo) (by : CpuNo) → IfSome o (λ p. IsTrue (has_cpu s p)) → IsTrue (has_cpu s by) → IsTrue (has_cpu s (unwrap_or o by))
+pub named_for : (s : Script) (o : Option CpuNo) (by : CpuNo) → IfSome o (λ p. IsTrue (has_cpu s p)) → IsTrue (has_cpu s by) →
+    IsTrue (has_cpu s (unwrap_or o by))
 named_for s None by h k = k
 named_for s (Some p) by h k = h
 
@@ -60,16 +62,17 @@ nowhere (Some y) p h = cc
 pub may_insert : (o : ObjectFacts) (q : QueueFacts) (by : CpuNo) → BothAgree (Some o) (Some q) → queue_for o.state.target by ≡ q.cpu → MayInsert q o by
 may_insert o q by agree to = λ free. (to, agree ∙ nowhere o.state.standing q.cpu free)
 
-pub held_asks : (h : HeldStates) (d : DpcNo) (by p : CpuNo) (o : ObjectFacts) (q : QueueFacts) (class : Option ℕ) → is_queued (object_at (held_lanes h) d) ≡ false →
-    p ≡ queue_for (object_at (held_lanes h) d).target by → o.dpc ≡ d → o.state ≡ object_at (held_lanes h) d → o.part ≡ part_of h.script o.dpc →
-    q.state ≡ queue_at (held_lanes h) p → q.cpu ≡ p → q.limit ≡ depth_limit h.script → class ≡ asked_class q o by →
+pub held_asks : (h : HeldStates) (d : DpcNo) (by p : CpuNo) (o : ObjectFacts) (q : QueueFacts) (class : Option ℕ) →
+    is_queued (object_at (held_lanes h) d) ≡ false → p ≡ queue_for (object_at (held_lanes h) d).target by → o.dpc ≡ d → o.state ≡ object_at (held_lanes h) d →
+    o.part ≡ part_of h.script o.dpc → q.state ≡ queue_at (held_lanes h) p → q.cpu ≡ p → q.limit ≡ depth_limit h.script → class ≡ asked_class q o by →
     queue_asks h.script d by (held_lanes h) ≡ asks_on (queue_for (object_at (held_lanes h) d).target by) class
 held_asks h d by p o q class free to od os op qs qc limit e =
     let object : IsObject h.script (held_lanes h).objects o = record { state = rw od (sym os); part = sym op } in
     let at : queue_at (held_lanes h) q.cpu ≡ q.state = rw qc (sym qs) in
     let goes : queue_for o.state.target by ≡ q.cpu = rw (os, qc) (sym to) in
     let f : is_queued o.state ≡ false = rw os free in
-    let main : queue_asks h.script o.dpc by (held_lanes h) ≡ asks_on q.cpu (asked_class q o by) = ask_is_the_events h.script (held_lanes h) o q by object at limit
+    let main : queue_asks h.script o.dpc by (held_lanes h) ≡ asks_on q.cpu (asked_class q o by) =
+    ask_is_the_events h.script (held_lanes h) o q by object at limit
     goes f in
     let at_d = ap (λ (x : DpcNo). queue_asks h.script x by (held_lanes h)) (sym od) in
     at_d ∙ (main ∙ (ap (λ (x : CpuNo). asks_on x (asked_class q o by)) (qc ∙ to)

@@ -3,7 +3,8 @@ use Rattle.std.proofs.Common.{arith}
 use Rattle.std.proofs.lemmas.Bool.{ltb-true}
 use Rattle.std.proofs.lemmas.List.Elements.{All-map, All-weaker}
 use Rattle.std.specs.List.Sorted.{IsStrictlyIncreasing}
-use Rattle.std.specs.Prelude.{All, Bool, List, Option, None, Some, [], false, if◌then◌else◌, is_some, length, map, option_and_then, suc, true, zero, ℕ, ◌&&◌, ◌+◌, ◌<◌, ◌==◌, ◌∷◌, ◌≤◌}
+use Rattle.std.specs.Prelude.{All, Bool, List, Option, None, Some, [], false, if◌then◌else◌, is_some, length, map, option_and_then, suc, true, zero, ℕ, ◌&&◌}
+use Rattle.std.specs.Prelude.{◌+◌, ◌<◌, ◌==◌, ◌∷◌, ◌≤◌}
 use Rattle.nt_event.specs.declared.commands.ApcKind.TheVariants.{User as UserApc}
 use Rattle.nt_event.specs.declared.commands.Command.{Command}
 use Rattle.nt_event.specs.declared.commands.Command.TheVariants as cmd
@@ -18,13 +19,15 @@ use Rattle.nt_event.specs.declared.frames.Body.{Body}
 use Rattle.nt_event.specs.declared.frames.Body.TheVariants as on
 use Rattle.nt_event.specs.declared.inserts.Standing.{Standing}
 use Rattle.nt_event.specs.declared.jobs.Lane.{Lane}
-use Rattle.nt_event.specs.declared.jobs.Lane.TheVariants.{Lock as LockLane, Object as ObjectLane, Queue as QueueLane, Threads as ThreadsLane, Timers as TimersLane}
+use Rattle.nt_event.specs.declared.jobs.Lane.TheVariants.{Lock as LockLane, Object as ObjectLane, Queue as QueueLane, Threads as ThreadsLane}
+use Rattle.nt_event.specs.declared.jobs.Lane.TheVariants.{Timers as TimersLane}
 use Rattle.nt_event.specs.declared.jobs.Stand.{Stand}
 use Rattle.nt_event.specs.declared.numbers.CpuNo.{CpuNo}
 use Rattle.nt_event.specs.declared.numbers.DpcNo.{DpcNo}
 use Rattle.nt_event.specs.declared.scripts.Script.{Script}
 use Rattle.nt_event.specs.Classes.{apc_class, dispatch_class}
-use Rattle.nt_event.specs.Lanes.{Lanes, begin_lanes, command_lanes, end_lanes, expire_lanes, insert_lanes, lane_count, lane_if, lane_number, object_at, standing_lanes, what_lanes}
+use Rattle.nt_event.specs.Lanes.{Lanes, begin_lanes, command_lanes, end_lanes, expire_lanes, insert_lanes, lane_count, lane_if, lane_number, object_at}
+use Rattle.nt_event.specs.Lanes.{standing_lanes, what_lanes}
 use Rattle.nt_event.specs.Objects.{queue_for}
 use Rattle.nt_event.specs.Replies.{is_refused, is_yes}
 use Rattle.nt_states.specs.LaneLists.{LaneFits}

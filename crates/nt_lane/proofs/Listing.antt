@@ -33,7 +33,8 @@ module _ (s : Script) (w : View) (n : ℕ) (e : Event) (st : Stand) (f : Found) 
         k.1,
         k.2,
         subst (λ (ns : List Note). Contains (note_numbers ns) n) (sym k.3)
-            (subst (λ (ms : List ℕ). Contains ms n) (sym (map-append (λ (z : Note). z.number) h.0 _)) (Contains-append_right (note_numbers h.0) (n ∷ []) n (here n))),
+            (subst (λ (ms : List ℕ). Contains ms n) (sym (map-append (λ (z : Note). z.number) h.0 _))
+            (Contains-append_right (note_numbers h.0) (n ∷ []) n (here n))),
       )
 
   listed_each : (xs : List Lane) → AreFoundOn s w n e st f xs → (lane : ℕ) → Contains (map (lane_number s) xs) lane → IsListedOn w n lane

@@ -1,6 +1,7 @@
 -- A lane that noted an event.
 use Rattle.std.proofs.Common.{ap, arith, subst, sym, ◌∙◌}
-use Rattle.std.specs.Prelude.{All, Bool, Contains, IfSome, IsTrue, None, Option, Some, false, true, List, [], get_or, ℕ, ◌*◌, ◌+◌, ◌-◌, length, ◌++◌, ◌<◌, ◌^◌, ◌∷◌, ◌≡◌, ◌≤◌}
+use Rattle.std.specs.Prelude.{All, Bool, Contains, IfSome, IsTrue, None, Option, Some, false, true, List, [], get_or, ℕ, ◌*◌, ◌+◌, ◌-◌, length, ◌++◌, ◌<◌, ◌^◌}
+use Rattle.std.specs.Prelude.{◌∷◌, ◌≡◌, ◌≤◌}
 use Rattle.nt_event.specs.declared.events.Event.{Event}
 use Rattle.nt_event.specs.declared.jobs.Lane.{Lane}
 use Rattle.nt_event.specs.declared.jobs.Lane.TheVariants.{Lock as LockLane, Threads as ThreadsLane, Timers as TimersLane}
@@ -124,11 +125,12 @@ module _ (s : Script) (n : ℕ) (st : Stand) (e : Event) (asks : List Ask) (v w 
   timers_later lanes (Some k) h = λ among. let a = h among in (a.0, l.grows.prefixes a.0 a.1, a.2, a.3)
 
 -- the object and the queue left it first, then the threads, then the timers, then the spin lock
-pub all_left : (s : Script) (n : ℕ) (st : Stand) (e : Event) (lanes : List Lane) (asks : List Ask) (h : HeldLanes) (u v w x : View) → Learns u v → Learns v w → Learns w x →
-    DpcsLeft s n e asks u (is_touched (in_each h.object object_name) lanes) (is_touched (in_each h.queue queue_name) lanes) h.object h.queue →
+pub all_left : (s : Script) (n : ℕ) (st : Stand) (e : Event) (lanes : List Lane) (asks : List Ask) (h : HeldLanes) (u v w x : View) → Learns u v → Learns v w →
+    Learns w x → DpcsLeft s n e asks u (is_touched (in_each h.object object_name) lanes) (is_touched (in_each h.queue queue_name) lanes) h.object h.queue →
     IfSome h.group (λ k. IsTrue (is_among (ThreadsLane k.state.cpu) lanes) → LeavesGroup s n st e asks k v) →
     IfSome h.timers (λ k. IsTrue (is_among TimersLane lanes) → LeavesTimers s n st e asks k w) →
-    IfSome h.spin_lock (λ k. IsTrue (is_among (LockLane k.state.lock) lanes) → LeavesSpin s n e asks k x) → AreLeftBy s n st e lanes asks h x
+    IfSome h.spin_lock (λ k. IsTrue (is_among (LockLane k.state.lock) lanes) → LeavesSpin s n e asks k x) →
+    AreLeftBy s n st e lanes asks h x
 all_left s n st e lanes asks h u v w x a b c dpcs group timers spin_lock = record {
   dpcs = dpcs_later s n st e asks u x (learns_through u v x a (learns_through v w x b c)) (is_touched (in_each h.object object_name) lanes)
       (is_touched (in_each h.queue queue_name) lanes) h.object h.queue dpcs;

@@ -9,7 +9,8 @@ use Rattle.nt_event.specs.declared.events.Event.{Event}
 use Rattle.nt_event.specs.declared.jobs.Job.{Job}
 use Rattle.nt_event.specs.declared.jobs.Job.TheVariants as job
 use Rattle.nt_event.specs.declared.jobs.Lane.{Lane}
-use Rattle.nt_event.specs.declared.jobs.Lane.TheVariants.{Lock as LockLane, Object as ObjectLane, Queue as QueueLane, Threads as ThreadsLane, Timers as TimersLane}
+use Rattle.nt_event.specs.declared.jobs.Lane.TheVariants.{Lock as LockLane, Object as ObjectLane, Queue as QueueLane, Threads as ThreadsLane}
+use Rattle.nt_event.specs.declared.jobs.Lane.TheVariants.{Timers as TimersLane}
 use Rattle.nt_event.specs.declared.jobs.Stand.{Stand}
 use Rattle.nt_event.specs.declared.numbers.CpuNo.{CpuNo}
 use Rattle.nt_event.specs.declared.numbers.DpcNo.{DpcNo}
@@ -44,7 +45,8 @@ use Rattle.nt_lane.specs.Leaving.{Leaves}
 use Rattle.nt_lane.specs.Locks.{AreKnownBy, AreLanes, AreRoomy, HeldLanes, IsKnownBy, IsLane, Kept, in_each, states_of}
 use Rattle.nt_lane.specs.Plans.{IsPlan}
 use Rattle.nt_lane.specs.Records.{LaneRecord}
-use Rattle.nt_lane.specs.Steps.{AreReadyFor, DpcsReady, IsReady, MayLeaveGroup, MayLeaveObject, MayLeaveQueue, MayLeaveSpin, MayLeaveTimers, is_touched, object_name, queue_name}
+use Rattle.nt_lane.specs.Steps.{AreReadyFor, DpcsReady, IsReady, MayLeaveGroup, MayLeaveObject, MayLeaveQueue, MayLeaveSpin, MayLeaveTimers, is_touched}
+use Rattle.nt_lane.specs.Steps.{object_name, queue_name}
 use Rattle.nt_lane.proofs.Entering.{both_may, object_may, queue_may}
 use Rattle.nt_lane.proofs.Founding.{one_held}
 use Rattle.nt_lane.proofs.HeldTold.{object_is_told, queue_is_told}
@@ -116,14 +118,18 @@ module _ (s : Script) (h : HeldLanes) (st : Stand) (j : Job) (p : Plan) (plan : 
   pub group_may : (k : Kept GroupState) → h.group ≡ Some k → MayLeaveGroup s st p.event k.state
   group_may k is =
       let at : in_each h.group (λ k. k.state) ≡ Some k.state = ap (λ (y : Option (Kept GroupState)). in_each y (λ k. k.state)) is in
-      let lane = of_held (λ (k : Kept GroupState). IsLane s (ThreadsLane k.state.cpu) (group_content k.state) 0 (IsGroupThere s k.state) k.log) h.group k is there.group in
+      let lane =
+      of_held (λ (k : Kept GroupState). IsLane s (ThreadsLane k.state.cpu) (group_content k.state) 0 (IsGroupThere s k.state) k.log) h.group k
+      is there.group in
       let same : threads_of all ≡ k.state.threads = λ i. record { script = sym lane.fits.script i; facts = threads_told s (at i) } in
       record {
         script = lane.fits.script;
         cpu = by_cpu;
         thread = ap (λ (e : Event). e.thread) plan.event;
         what = subst (λ (t : ThreadLanes). WhatFits t st p.event.what) same (may_threads.fits all st p.event.what known plan.decided.given.named);
-        runs = of_held (λ (g : GroupState). named_thread s p.event.what ≡ None → IfSome st.thread (RunsHere g.threads st)) (in_each h.group (λ k. k.state)) k.state at plan.runs;
+        runs =
+            of_held (λ (g : GroupState). named_thread s p.event.what ≡ None → IfSome st.thread (RunsHere g.threads st)) (in_each h.group (λ k. k.state)) k.state
+            at plan.runs;
       }
 
   pub timers_may : (k : Kept Timers) → h.timers ≡ Some k → MayLeaveTimers s p.event k.state
@@ -133,7 +139,9 @@ module _ (s : Script) (h : HeldLanes) (st : Stand) (j : Job) (p : Plan) (plan : 
       let told : (held_lanes states).timers ≡ k.state = ap (λ (o : Option Timers). timers_told s o) at in
       let sound : IsSound all = record { script = fit; timers = subst (λ (t : Timers). IsSized s t) (sym told) lane.fits } in
       record {
-        may = subst (λ (t : Timers). MayTime s t p.event p.event.what) told (subst (λ (e : Event). MayTime s (held_lanes states).timers e p.event.what) (sym plan.event)
+        may =
+            subst (λ (t : Timers). MayTime s t p.event p.event.what) told
+            (subst (λ (e : Event). MayTime s (held_lanes states).timers e p.event.what) (sym plan.event)
             (may_timers.of_what all st sound p.event.what stand plan.decided.can.own known));
       }
 
@@ -166,12 +174,14 @@ module _ (s : Script) (h : HeldLanes) (st : Stand) (j : Job) (p : Plan) (plan : 
   object_ready : (k : Kept ObjectFacts) → h.object ≡ Some k → is_among (object_name k) p.lanes ≡ true → IsReady n numbers k.log
   object_ready k e among =
       is_ready s n (object_name k) p.lanes numbers k.log v least is (of_held object_lane h.object k e there.object).noted.number
-      (of_held (λ (k : Kept ObjectFacts). IsKnownBy k.log v) h.object k e met.object) (of_held (λ (k : Kept ObjectFacts). 1 ≤ k.log.room) h.object k e room.object) among
+      (of_held (λ (k : Kept ObjectFacts). IsKnownBy k.log v) h.object k e met.object)
+      (of_held (λ (k : Kept ObjectFacts). 1 ≤ k.log.room) h.object k e room.object) among
 
   queue_ready : (k : Kept QueueFacts) → h.queue ≡ Some k → is_among (queue_name k) p.lanes ≡ true → IsReady n numbers k.log
   queue_ready k e among =
       is_ready s n (queue_name k) p.lanes numbers k.log v least is (of_held queue_lane h.queue k e there.queue).noted.number
-      (of_held (λ (k : Kept QueueFacts). IsKnownBy k.log v) h.queue k e met.queue) (of_held (λ (k : Kept QueueFacts). 1 ≤ k.log.room) h.queue k e room.queue) among
+      (of_held (λ (k : Kept QueueFacts). IsKnownBy k.log v) h.queue k e met.queue) (of_held (λ (k : Kept QueueFacts). 1 ≤ k.log.room) h.queue k e room.queue)
+      among
 
   abbrev Ready : Bool → Bool → Type 0
   Ready a b = DpcsReady s n p.event numbers a b h.object h.queue
@@ -188,8 +198,10 @@ module _ (s : Script) (h : HeldLanes) (st : Stand) (j : Job) (p : Plan) (plan : 
       let k : Kept ObjectFacts = o.0 in
       let among : is_among (object_name k) p.lanes ≡ true = ob.among k.state.dpc ∙ eq-eqb d.0 k.state.dpc.0 (ap (λ (x : DpcNo). x.0) (sym o.2)) in
       with_both true false (one_touched object_name h.object k p.lanes o.1 among) (none_touched queue_name h.queue p.lanes (λ k. nq k.state.cpu))
-      (subst (λ (y : Option (Kept ObjectFacts)). IfSome y (λ x. IsReady n numbers x.log × MayLeaveObject s n p.event x.state)) (sym o.1)
-      (object_ready k o.1 among, object_may s n p.event k.state (subst (λ (x : DpcNo). Sets s x c) (sym o.2) sets) (of_held object_lane h.object k o.1 there.object).fits))
+      (subst (λ (y : Option (Kept ObjectFacts)). IfSome y (λ x. IsReady n numbers x.log × MayLeaveObject s n p.event x.state)) (sym o.1) (
+        object_ready k o.1 among,
+        object_may s n p.event k.state (subst (λ (x : DpcNo). Sets s x c) (sym o.2) sets) (of_held object_lane h.object k o.1 there.object).fits,
+      ))
   dpcs_ready (Own without qb may) =
       let o = one_held (λ (k : Kept QueueFacts). k.state) (λ (y : QueueFacts). y.cpu) st.cpu h.queue (qb.held (IsHeld (states_of s h)) plan.held) in
       let k : Kept QueueFacts = o.0 in
@@ -220,7 +232,10 @@ module _ (s : Script) (h : HeldLanes) (st : Stand) (j : Job) (p : Plan) (plan : 
       (subst (λ (y : Option (Kept QueueFacts)). DpcsReady s n p.event numbers true true (Some k) y) (sym u.1) (
         (object_ready k o.1 object_among, queue_ready m u.1 queue_among),
         (
-          record { state = get_or-replicate (length s.dpcs) k.state.dpc.0 k.state.state start_object (ltb-true k.state.dpc.0 (length s.dpcs) ot.named); part = sym ot.part },
+          record {
+            state = get_or-replicate (length s.dpcs) k.state.dpc.0 k.state.state start_object (ltb-true k.state.dpc.0 (length s.dpcs) ot.named);
+            part = sym ot.part;
+          },
           both_may s l st.cpu k.state m.state os qs agree ot qt n p.event (sym (by_cpu s h st j p plan there fit stand named)) here,
         ),
       )))
@@ -231,8 +246,10 @@ module _ (s : Script) (h : HeldLanes) (st : Stand) (j : Job) (p : Plan) (plan : 
   group_ready (Some k) e =
       λ among. (
         is_ready s n (ThreadsLane k.state.cpu) p.lanes numbers k.log v least is
-            (of_held (λ (k : Kept GroupState). IsLane s (ThreadsLane k.state.cpu) (group_content k.state) 0 (IsGroupThere s k.state) k.log) h.group k e there.group).noted.number
-            (of_held (λ (k : Kept GroupState). IsKnownBy k.log v) h.group k e met.group) (of_held (λ (k : Kept GroupState). 1 ≤ k.log.room) h.group k e room.group) among,
+            (of_held (λ (k : Kept GroupState). IsLane s (ThreadsLane k.state.cpu) (group_content k.state) 0 (IsGroupThere s k.state) k.log) h.group k
+            e there.group).noted.number
+            (of_held (λ (k : Kept GroupState). IsKnownBy k.log v) h.group k e met.group)
+            (of_held (λ (k : Kept GroupState). 1 ≤ k.log.room) h.group k e room.group) among,
         group_may s h st j p plan there fit stand named k e,
       )
 
@@ -243,7 +260,8 @@ module _ (s : Script) (h : HeldLanes) (st : Stand) (j : Job) (p : Plan) (plan : 
       λ among. (
         is_ready s n TimersLane p.lanes numbers k.log v least is
             (of_held (λ (k : Kept Timers). IsLane s TimersLane (OfTimers k.state) k.state.now (IsSized s k.state) k.log) h.timers k e there.timers).noted.number
-            (of_held (λ (k : Kept Timers). IsKnownBy k.log v) h.timers k e met.timers) (of_held (λ (k : Kept Timers). 1 ≤ k.log.room) h.timers k e room.timers) among,
+            (of_held (λ (k : Kept Timers). IsKnownBy k.log v) h.timers k e met.timers) (of_held (λ (k : Kept Timers). 1 ≤ k.log.room) h.timers k e room.timers)
+            among,
         timers_may s h st j p plan there fit stand named k e,
       )
 
@@ -253,7 +271,8 @@ module _ (s : Script) (h : HeldLanes) (st : Stand) (j : Job) (p : Plan) (plan : 
   spin_ready (Some k) e =
       λ among. (
         is_ready s n (LockLane k.state.lock) p.lanes numbers k.log v least is
-            (of_held (λ (k : Kept SpinFacts). IsLane s (LockLane k.state.lock) (OfLock k.state.state) 0 (IsSpinThere s k.state) k.log) h.spin_lock k e there.spin_lock).noted.number
+            (of_held (λ (k : Kept SpinFacts). IsLane s (LockLane k.state.lock) (OfLock k.state.state) 0 (IsSpinThere s k.state) k.log) h.spin_lock k e
+            there.spin_lock).noted.number
             (of_held (λ (k : Kept SpinFacts). IsKnownBy k.log v) h.spin_lock k e met.spin_lock)
             (of_held (λ (k : Kept SpinFacts). 1 ≤ k.log.room) h.spin_lock k e room.spin_lock) among,
         record { cpu = stand.cpu; own = by_cpu s h st j p plan there fit stand named },

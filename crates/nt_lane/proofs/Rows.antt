@@ -1,7 +1,8 @@
 -- What a lane tells of requests, as a list of values and as rows.
 use Rattle.std.proofs.Common.{ap, arith, get_or, inl, inr, length, set, sym, ◌∙◌}
 use Rattle.std.proofs.lemmas.Bool.{and_cases, and_parts, cases_lt, eqb-false, eqb-true, ltb-true}
-use Rattle.std.proofs.lemmas.List.{drop_all, get_or-map, get_or-replicate, get_or-set_other, get_or-set_same, get_or_past, length-map, length-replicate, length-set}
+use Rattle.std.proofs.lemmas.List.{drop_all, get_or-map, get_or-replicate, get_or-set_other, get_or-set_same, get_or_past, length-map, length-replicate}
+use Rattle.std.proofs.lemmas.List.{length-set}
 use Rattle.std.specs.List.{list_any}
 use Rattle.std.specs.Prelude.{All, Bool, List, [], drop, false, if◌then◌else◌, refl, replicate, suc, true, ℕ, ◌*◌, ◌+◌, ◌<◌, ◌==◌, ◌||◌, ◌∷◌, ◌≡◌, ◌≤◌, ◌⊎◌}
 use Rattle.nt_event.specs.declared.numbers.CpuNo.{CpuNo}

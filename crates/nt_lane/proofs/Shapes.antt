@@ -1,7 +1,8 @@
 -- Which DPC object and which queue an event touches, and how it changes them.
 use Rattle.std.proofs.Common.{ap, refl, subst, sym, ◌∙◌}
 use Rattle.std.specs.List.{list_any}
-use Rattle.std.specs.Prelude.{Bool, IfSome, IsTrue, List, None, Option, Some, [], false, if◌then◌else◌, is_some, not, option_and_then, option_map, true, ℕ, ◌&&◌, ◌==◌, ◌||◌, ◌∷◌, ◌≡◌}
+use Rattle.std.specs.Prelude.{Bool, IfSome, IsTrue, List, None, Option, Some, [], false, if◌then◌else◌, is_some, not, option_and_then, option_map, true, ℕ}
+use Rattle.std.specs.Prelude.{◌&&◌, ◌==◌, ◌||◌, ◌∷◌, ◌≡◌}
 use Rattle.nt_event.specs.declared.commands.ApcKind.TheVariants.{User as UserApc}
 use Rattle.nt_event.specs.declared.commands.Command.{Command}
 use Rattle.nt_event.specs.declared.commands.Command.TheVariants.{Queue, SetImportance as SetImportanceCall, SetTarget as SetTargetCall, Unqueue}
@@ -24,7 +25,8 @@ use Rattle.nt_event.specs.declared.numbers.DpcNo.{DpcNo}
 use Rattle.nt_event.specs.declared.scripts.Script.{Script}
 use Rattle.nt_event.specs.Jobs.{begin_dpc}
 use Rattle.nt_event.specs.Classes.{apc_class, dispatch_class}
-use Rattle.nt_event.specs.Lanes.{Lanes, command_lanes, end_lanes, expire_lanes, insert_lanes, lane_if, object_at, queue_at, same_lane, standing_lanes, what_lanes}
+use Rattle.nt_event.specs.Lanes.{Lanes, command_lanes, end_lanes, expire_lanes, insert_lanes, lane_if, object_at, queue_at, same_lane, standing_lanes}
+use Rattle.nt_event.specs.Lanes.{what_lanes}
 use Rattle.nt_event.specs.Objects.{is_queued, queue_for}
 use Rattle.nt_event.specs.Queues.{first_dpc}
 use Rattle.nt_event.specs.Replies.{is_refused, is_yes, yes_if}

@@ -1,7 +1,8 @@
 -- What a few held lanes tell: their own states, and any states of the other lanes.
 use Rattle.std.specs.Prelude.{IfSome, IsSome, IsTrue, List, None, Option, Some, length, option_map, replicate, ◌≡◌}
 use Rattle.nt_event.specs.declared.jobs.Lane.{Lane}
-use Rattle.nt_event.specs.declared.jobs.Lane.TheVariants.{Lock as LockLane, Object as ObjectLane, Queue as QueueLane, Threads as ThreadsLane, Timers as TimersLane}
+use Rattle.nt_event.specs.declared.jobs.Lane.TheVariants.{Lock as LockLane, Object as ObjectLane, Queue as QueueLane}
+use Rattle.nt_event.specs.declared.jobs.Lane.TheVariants.{Threads as ThreadsLane, Timers as TimersLane}
 use Rattle.nt_event.specs.declared.scripts.Script.{Script}
 use Rattle.nt_event.specs.Lanes.{Lanes}
 use Rattle.nt_event.specs.Locks.{LockState, start_lock}
@@ -70,7 +71,8 @@ IsHeld h (LockLane k) = IsSome h.spin_lock × IfSome h.spin_lock (λ x. x.lock �
 
 -- a queue has an entry of an object exactly where the object stands in it
 abbrev pub BothAgree : Option ObjectFacts → Option QueueFacts → Type 0
-BothAgree (Some o) (Some q) = holds_dpc o.dpc q.state.pending ≡ is_queue (option_map (λ at. at.queue) o.state.standing) q.cpu
+BothAgree (Some o) (Some q) =
+    holds_dpc o.dpc q.state.pending ≡ is_queue (option_map (λ at. at.queue) o.state.standing) q.cpu
 BothAgree (Some o) None = Unit {0}
 BothAgree None q = Unit {0}
 

@@ -13,7 +13,8 @@ use Rattle.nt_lane.specs.Standing.{StandsFor}
 use Rattle.nt_lane.specs.declared.deciding.Decided.{Decided}
 use Rattle.nt_lane.specs.declared.deciding.Decided.TheVariants as decided
 
--- the stand serves the job, and the lanes are held that the job reads: so their states are those that the decision is made in
+-- the stand serves the job, and the lanes are held that the job reads: so their states are those that the decision is
+-- made in
 pub record CanBeDecided (h : HeldStates) (st : Stand) (j : Job) : Type 0 where
   pub own : RunsOwn h.script st
   pub stands : StandsFor st j

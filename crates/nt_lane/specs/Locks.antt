@@ -1,7 +1,8 @@
 -- The lanes that an act holds: their states, with their records.
 use Rattle.std.specs.Prelude.{IfSome, List, None, Option, Some, [], option_map, ℕ, ◌*◌, ◌^◌, ◌≤◌}
 use Rattle.nt_event.specs.declared.jobs.Lane.{Lane}
-use Rattle.nt_event.specs.declared.jobs.Lane.TheVariants.{Lock as LockLane, Object as ObjectLane, Queue as QueueLane, Threads as ThreadsLane, Timers as TimersLane}
+use Rattle.nt_event.specs.declared.jobs.Lane.TheVariants.{Lock as LockLane, Object as ObjectLane, Queue as QueueLane}
+use Rattle.nt_event.specs.declared.jobs.Lane.TheVariants.{Threads as ThreadsLane, Timers as TimersLane}
 use Rattle.nt_event.specs.declared.scripts.Script.{Script}
 use Rattle.nt_event.specs.LaneStates.{Content, OfLock, OfObject, OfQueue, OfTimers, told_at}
 use Rattle.nt_event.specs.Timers.{Timers}
@@ -13,7 +14,8 @@ use Rattle.nt_mark.specs.Rule.{IsLongest}
 use Rattle.nt_mark.specs.Views.{reach, step_word}
 use Rattle.nt_timer.specs.Laws.{IsSized}
 use Rattle.nt_lane.specs.Answers.{HeldStates, held_lanes}
-use Rattle.nt_lane.specs.Held.{GroupState, IsGroupThere, IsLastNoted, IsObjectThere, IsQueueThere, IsSpinThere, SpinFacts, group_content, next_of}
+use Rattle.nt_lane.specs.Held.{GroupState, IsGroupThere, IsLastNoted, IsObjectThere, IsQueueThere, IsSpinThere}
+use Rattle.nt_lane.specs.Held.{SpinFacts, group_content, next_of}
 use Rattle.nt_lane.specs.Records.{AreKnown, Knows, LaneRecord}
 
 -- a state, with the lane's record
@@ -67,19 +69,24 @@ found_in s h = record { lanes = held_lanes (states_of s h); told = told_in h }
 
 -- ---- what holds of each at any time
 
--- the state is the one that was noted last, the time is as far as the events of the list may have let it advance, and the state is of
--- the script
-pub record IsLane (s : Script) (name : Lane) (content : Content) (time : ℕ) (Fits : Type 0) (r : LaneRecord) : Type 0 where
+-- the state is the one that was noted last, the time is as far as the events of the list may have let it advance, and
+-- the state is of the script
+pub record IsLane (s : Script) (name : Lane) (content : Content) (time : ℕ) (Fits : Type 0)
+    (r : LaneRecord) : Type 0 where
   pub noted : IsLastNoted s name content r
   pub time_is : time ≤ next_of r.notes * 2 ^ 32
   pub fits : Fits
 
 pub record AreLanes (s : Script) (h : HeldLanes) : Type 0 where
-  pub object : IfSome h.object (λ k. IsLane s (ObjectLane k.state.dpc) (OfObject k.state.state) 0 (IsObjectThere s k.state) k.log)
-  pub queue : IfSome h.queue (λ k. IsLane s (QueueLane k.state.cpu) (OfQueue k.state.state) 0 (IsQueueThere s k.state) k.log)
-  pub group : IfSome h.group (λ k. IsLane s (ThreadsLane k.state.cpu) (group_content k.state) 0 (IsGroupThere s k.state) k.log)
+  pub object : IfSome h.object
+      (λ k. IsLane s (ObjectLane k.state.dpc) (OfObject k.state.state) 0 (IsObjectThere s k.state) k.log)
+  pub queue : IfSome h.queue
+      (λ k. IsLane s (QueueLane k.state.cpu) (OfQueue k.state.state) 0 (IsQueueThere s k.state) k.log)
+  pub group : IfSome h.group
+      (λ k. IsLane s (ThreadsLane k.state.cpu) (group_content k.state) 0 (IsGroupThere s k.state) k.log)
   pub timers : IfSome h.timers (λ k. IsLane s TimersLane (OfTimers k.state) k.state.now (IsSized s k.state) k.log)
-  pub spin_lock : IfSome h.spin_lock (λ k. IsLane s (LockLane k.state.lock) (OfLock k.state.state) 0 (IsSpinThere s k.state) k.log)
+  pub spin_lock : IfSome h.spin_lock
+      (λ k. IsLane s (LockLane k.state.lock) (OfLock k.state.state) 0 (IsSpinThere s k.state) k.log)
 
 -- ---- what a pass knows of them, once it met them
 

@@ -1,7 +1,8 @@
 -- Which lanes an act wants the locks of.
 use Rattle.std.specs.Prelude.{List, None, Some, [], false, true, ◌∷◌, ◌≡◌}
 use Rattle.nt_event.specs.declared.jobs.Lane.{Lane}
-use Rattle.nt_event.specs.declared.jobs.Lane.TheVariants.{Lock as LockLane, Object as ObjectLane, Queue as QueueLane, Threads as ThreadsLane, Timers as TimersLane}
+use Rattle.nt_event.specs.declared.jobs.Lane.TheVariants.{Lock as LockLane, Object as ObjectLane, Queue as QueueLane}
+use Rattle.nt_event.specs.declared.jobs.Lane.TheVariants.{Threads as ThreadsLane, Timers as TimersLane}
 use Rattle.nt_lane.specs.declared.needs.Needs.{Needs}
 
 abbrev pub no_needs : Needs

@@ -37,8 +37,8 @@ pub record IsShown (s : Script) (f : Found) (x : Lane) (notes : List Note) : Typ
   pub content : content s f.lanes x ≡ (state_noted s x notes).content
   pub told : (q : CpuNo) (c : ℕ) → q.0 < s.cpus → c < 16 → f.told x q c ≡ told_at (state_noted s x notes).told q c
 
--- the pass knows a beginning of the lane's list that ends with the event and the state that it leaves, where what stands
--- before it leaves the state found
+-- the pass knows a beginning of the lane's list that ends with the event and the state that it leaves, where what
+-- stands before it leaves the state found
 abbrev pub IsFoundOn : Script → View → ℕ → Event → Stand → Found → Lane → Type 0
 IsFoundOn s v n e st f x = (notes : List Note) × IsShown s f x notes × Knows (lane_number s x)
     (notes ++ note_of n (state_then s n st (record { event = e; found = f }) x ∷ []) ∷ []) v
@@ -63,7 +63,12 @@ found_on_later s v w n e st f (x ∷ xs) g h =
 pub found_later : (s : Script) (v w : View) (n : ℕ) (e : Event) (st : Stand) (f : Found) → Grows v w →
     FoundBy s v n e st f → FoundBy s w n e st f
 found_later s v w n e st f g h =
-    record { drawn = g.entries _ h.drawn; threads = h.threads; named = h.named; on = found_on_later s v w n e st f _ g h.on }
+    record {
+      drawn = g.entries _ h.drawn;
+      threads = h.threads;
+      named = h.named;
+      on = found_on_later s v w n e st f _ g h.on;
+    }
 
 -- the longest beginning of the lane's list that the pass knows leaves the state found: that is the last state that it
 -- knows of the lane

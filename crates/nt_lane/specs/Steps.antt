@@ -1,8 +1,10 @@
 -- The steps of an act on the lanes that it holds, once its event was drawn.
-use Rattle.std.specs.Prelude.{All, Bool, Contains, IfSome, IsTrue, List, None, Option, Some, [], false, length, replicate, true, ℕ, ◌++◌, ◌<◌, ◌∷◌, ◌≡◌, ◌≤◌}
+use Rattle.std.specs.Prelude.{All, Bool, Contains, IfSome, IsTrue, List, None, Option, Some, [], false, length}
+use Rattle.std.specs.Prelude.{replicate, true, ℕ, ◌++◌, ◌<◌, ◌∷◌, ◌≡◌, ◌≤◌}
 use Rattle.nt_event.specs.declared.events.Event.{Event}
 use Rattle.nt_event.specs.declared.jobs.Lane.{Lane}
-use Rattle.nt_event.specs.declared.jobs.Lane.TheVariants.{Lock as LockLane, Object as ObjectLane, Queue as QueueLane, Threads as ThreadsLane, Timers as TimersLane}
+use Rattle.nt_event.specs.declared.jobs.Lane.TheVariants.{Lock as LockLane, Object as ObjectLane, Queue as QueueLane}
+use Rattle.nt_event.specs.declared.jobs.Lane.TheVariants.{Threads as ThreadsLane, Timers as TimersLane}
 use Rattle.nt_event.specs.declared.jobs.Stand.{Stand}
 use Rattle.nt_event.specs.declared.limits.TheConstants.{EVENTS}
 use Rattle.nt_event.specs.declared.scripts.Script.{Script}
@@ -97,7 +99,8 @@ pub record MayLeaveSpin (s : Script) (st : Stand) (e : Event) : Type 0 where
 -- ---- what the pass knows of a held lane after the event, by kind
 
 abbrev pub LeavesGroup : Script → ℕ → Stand → Event → List Ask → Kept GroupState → View → Type 0
-LeavesGroup s n st e asks k v = KnowsLeft s n asks (group_content (record k.state { threads = left n st e k.state.threads })) k.log v
+LeavesGroup s n st e asks k v =
+    KnowsLeft s n asks (group_content (record k.state { threads = left n st e k.state.threads })) k.log v
 
 abbrev pub LeavesTimers : Script → ℕ → Stand → Event → List Ask → Kept Timers → View → Type 0
 LeavesTimers s n st e asks k v = KnowsLeft s n asks (OfTimers (timers_after s n st e k.state)) k.log v
@@ -129,7 +132,8 @@ abbrev pub objects_told : Script → Option (Kept ObjectFacts) → List ObjectSt
 objects_told s o = replicate (length s.dpcs) (object_told (in_each o (λ k. k.state)))
 
 -- an object and a queue, each held or not, each touched or not, may leave the event
-abbrev pub DpcsReady : Script → ℕ → Event → List ℕ → Bool → Bool → Option (Kept ObjectFacts) → Option (Kept QueueFacts) → Type 0
+abbrev pub DpcsReady : Script → ℕ → Event → List ℕ → Bool → Bool → Option (Kept ObjectFacts) →
+    Option (Kept QueueFacts) → Type 0
 DpcsReady s n e numbers true true o q =
     IfSome o (λ x. IfSome q (λ y. (IsReady n numbers x.log × IsReady n numbers y.log) ×
     (IsObject s (objects_told s o) x.state × MayLeaveBoth s n e x.state y.state)))
@@ -138,7 +142,8 @@ DpcsReady s n e numbers false true o q = IfSome q (λ y. IsReady n numbers y.log
 DpcsReady s n e numbers false false o q = Unit {0}
 
 -- they left it
-abbrev pub DpcsLeft : Script → ℕ → Event → List Ask → View → Bool → Bool → Option (Kept ObjectFacts) → Option (Kept QueueFacts) → Type 0
+abbrev pub DpcsLeft : Script → ℕ → Event → List Ask → View → Bool → Bool → Option (Kept ObjectFacts) →
+    Option (Kept QueueFacts) → Type 0
 DpcsLeft s n e asks v true true o q =
     IfSome o (λ x. IfSome q (λ y. LeavesObject s n e asks x v × LeavesQueue s n e (objects_told s o) asks y v))
 DpcsLeft s n e asks v true false o q = IfSome o (λ x. LeavesObject s n e asks x v)
@@ -146,15 +151,22 @@ DpcsLeft s n e asks v false true o q = IfSome q (λ y. LeavesQueue s n e (object
 DpcsLeft s n e asks v false false o q = Unit {0}
 
 -- each of the held lanes that is touched may leave the event
-pub record AreReadyFor (s : Script) (n : ℕ) (st : Stand) (e : Event) (lanes : List Lane) (numbers : List ℕ) (h : HeldLanes) : Type 0 where
-  pub dpcs : DpcsReady s n e numbers (is_touched (in_each h.object object_name) lanes) (is_touched (in_each h.queue queue_name) lanes) h.object h.queue
-  pub group : IfSome h.group (λ k. IsTrue (is_among (ThreadsLane k.state.cpu) lanes) → IsReady n numbers k.log × MayLeaveGroup s st e k.state)
-  pub timers : IfSome h.timers (λ k. IsTrue (is_among TimersLane lanes) → IsReady n numbers k.log × MayLeaveTimers s e k.state)
-  pub spin_lock : IfSome h.spin_lock (λ k. IsTrue (is_among (LockLane k.state.lock) lanes) → IsReady n numbers k.log × MayLeaveSpin s st e)
+pub record AreReadyFor (s : Script) (n : ℕ) (st : Stand) (e : Event) (lanes : List Lane) (numbers : List ℕ)
+    (h : HeldLanes) : Type 0 where
+  pub dpcs : DpcsReady s n e numbers (is_touched (in_each h.object object_name) lanes)
+      (is_touched (in_each h.queue queue_name) lanes) h.object h.queue
+  pub group : IfSome h.group
+      (λ k. IsTrue (is_among (ThreadsLane k.state.cpu) lanes) → IsReady n numbers k.log × MayLeaveGroup s st e k.state)
+  pub timers : IfSome h.timers
+      (λ k. IsTrue (is_among TimersLane lanes) → IsReady n numbers k.log × MayLeaveTimers s e k.state)
+  pub spin_lock : IfSome h.spin_lock
+      (λ k. IsTrue (is_among (LockLane k.state.lock) lanes) → IsReady n numbers k.log × MayLeaveSpin s st e)
 
 -- each of them did, as the pass knows
-pub record AreLeftBy (s : Script) (n : ℕ) (st : Stand) (e : Event) (lanes : List Lane) (asks : List Ask) (h : HeldLanes) (v : View) : Type 0 where
-  pub dpcs : DpcsLeft s n e asks v (is_touched (in_each h.object object_name) lanes) (is_touched (in_each h.queue queue_name) lanes) h.object h.queue
+pub record AreLeftBy (s : Script) (n : ℕ) (st : Stand) (e : Event) (lanes : List Lane) (asks : List Ask)
+    (h : HeldLanes) (v : View) : Type 0 where
+  pub dpcs : DpcsLeft s n e asks v (is_touched (in_each h.object object_name) lanes)
+      (is_touched (in_each h.queue queue_name) lanes) h.object h.queue
   pub group : IfSome h.group (λ k. IsTrue (is_among (ThreadsLane k.state.cpu) lanes) → LeavesGroup s n st e asks k v)
   pub timers : IfSome h.timers (λ k. IsTrue (is_among TimersLane lanes) → LeavesTimers s n st e asks k v)
   pub spin_lock : IfSome h.spin_lock (λ k. IsTrue (is_among (LockLane k.state.lock) lanes) → LeavesSpin s n e asks k v)

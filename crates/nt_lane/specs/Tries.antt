@@ -21,8 +21,8 @@ use Rattle.nt_lane.specs.Records.{IsAskKnown}
 use Rattle.nt_lane.specs.Seats.{AreShownOn, FoundBy}
 use Rattle.nt_lane.specs.Views.{Grows, Learns}
 
--- the pass drew this event as touching these lanes, marked its asks, and drew, marked and looked at nothing else; what it knows may be
--- more
+-- the pass drew this event as touching these lanes, marked its asks, and drew, marked and looked at nothing else; what
+-- it knows may be more
 pub record HasMade (n : ℕ) (e : Event) (lanes : List ℕ) (asks : List Ask) (v w : View) : Type 0 where
   pub entries : w.entries ≡ v.entries ++ entry n e lanes ∷ []
   pub marks : w.marks ≡ v.marks ++ map (mark_for n) asks

@@ -1,7 +1,8 @@
 -- What words and floors see of a pass.
 use Rattle.std.proofs.Common.{ap, append-nil, append_assoc, sym, ◌∙◌}
 use Rattle.std.specs.List.{list_any}
-use Rattle.std.specs.Prelude.{Bool, Contains, List, None, Some, [], false, length, map, refl, ℕ, ◌&&◌, ◌*◌, ◌++◌, ◌-◌, ◌==◌, ◌∷◌, ◌≡◌, ◌≤◌}
+use Rattle.std.specs.Prelude.{Bool, Contains, List, None, Some, [], false, length, map, refl, ℕ, ◌&&◌, ◌*◌, ◌++◌, ◌-◌}
+use Rattle.std.specs.Prelude.{◌==◌, ◌∷◌, ◌≡◌, ◌≤◌}
 use Rattle.nt_event.specs.declared.numbers.CpuNo.{CpuNo}
 use Rattle.nt_floor.specs.Lists.{Draw, Lists, Look as LookTold, Mark as MarkTold}
 use Rattle.nt_floor.specs.Views.{View as WordsView}
@@ -77,7 +78,8 @@ pub last_drawn_of : (n : ℕ) (xs ys : List Entry) → last_drawn (last_drawn n 
 last_drawn_of n [] ys = refl
 last_drawn_of n (x ∷ xs) ys = last_drawn_of x.number xs ys
 
--- the second seat has and knows all that the first had and knew; it may have drawn more, and tells the number of the last of it
+-- the second seat has and knows all that the first had and knew; it may have drawn more, and tells the number of the
+-- last of it
 pub record SeatGrows (m n : ℕ) (v w : View) : Type 0 where
   pub view : Grows v w
   pub more : List Entry

@@ -16,8 +16,8 @@ use nt_frame::StandView;
 use nt_mark::{Marks, Pass, Shared};
 use std::sync::Wait;
 
-/// Makes the event of a job for a processor that stands so: takes the locks that it foresees, in order, and tries under them; with
-/// other needs again, until it is done. It may wait.
+/// Makes the event of a job for a processor that stands so: takes the locks that it foresees, in
+/// order, and tries under them; with other needs again, until it is done. It may wait.
 pub(crate) fn act_under<'s, N: Plan + Shared, R: Wait>(
     rt: &R,
     lanes: &Lanes<'s, N>,
@@ -27,13 +27,16 @@ pub(crate) fn act_under<'s, N: Plan + Shared, R: Wait>(
     stand: &StandView,
 ) -> Result<Acted, ActRefusal>
     requires table { (table_of marks.now ≡ N.table) × (pass_table pass.old ≡ N.table) }
-    requires marks { (cpus_of marks.now ≡ N.script.cpus) × (lanes_of marks.now ≡ lane_count N.script) }
+    requires marks { (cpus_of marks.now ≡ N.script.cpus) ×
+        (lanes_of marks.now ≡ lane_count N.script) }
     requires room { 1 ≤ drawable_of marks.now (pass_view pass.old) }
     requires job { IsTrue (job_fits N.script job.now) }
     requires stand { StandFits N.script stand.now }
     ensures table { pass_table pass.new ≡ N.table }
-    ensures done { IfOk result (λ a. IsDone N.script stand.now job.now (pass_view pass.old) (pass_view pass.new) a) }
-    ensures refused { IfErr result (λ r. IsNotDone N.script stand.now job.now (pass_view pass.old) (pass_view pass.new) r) }
+    ensures done { IfOk result
+        (λ a. IsDone N.script stand.now job.now (pass_view pass.old) (pass_view pass.new) a) }
+    ensures refused { IfErr result
+        (λ r. IsNotDone N.script stand.now job.now (pass_view pass.old) (pass_view pass.new) r) }
 {
     let script = lanes.script;
     let mut needs = foresee(rt, lanes, job, stand);

@@ -18,11 +18,13 @@ pub(crate) enum Decided {
     Event(What),
     /// There is no event.
     Refused(ActRefusal),
-    /// It can't be said: not each lane that the job reads is held, or the processor stands as it can't stand.
+    /// It can't be said: not each lane that the job reads is held, or the processor stands as it
+    /// can't stand.
     Unknown,
 }
 
-/// Decides the job of a processor that stands so. The decision is that of `nt_states`, over the states of the held lanes.
+/// Decides the job of a processor that stands so. The decision is that of `nt_states`, over the
+/// states of the held lanes.
 pub(crate) fn decide(held: &Held, job: &Job, stand: &StandView) -> Decided
     requires job { IsTrue (job_fits held.now.script job.now) }
     requires stand { StandFits held.now.script stand.now }

@@ -1,4 +1,5 @@
-//! The seat of a processor as a floor: its acts take the locks of the lanes that they read and touch.
+//! The seat of a processor as a floor: its acts take the locks of the lanes that they read and
+//! touch.
 use crate::acting::act_under;
 use crate::seat::LaneSeat;
 use nt_event::{Event, Job, Plan};
@@ -18,9 +19,11 @@ impl<N: Plan + Shared, R: Wait> Floor for LaneSeat<'_, '_, N, R> {
 
     ghost found = { λ x n e st f. FoundBy N.script (pass_view x.pass) n e st f };
 
-    ghost shows = { λ x st j f. AreShownOn N.script (pass_view x.pass) f (job_lanes N.script st j) };
+    ghost shows = { λ x st j f.
+        AreShownOn N.script (pass_view x.pass) f (job_lanes N.script st j) };
 
-    ghost found_later = { λ x y n e st f g h. found_later N.script (pass_view x.pass) (pass_view y.pass) n e st f g.view h };
+    ghost found_later = { λ x y n e st f g h.
+        found_later N.script (pass_view x.pass) (pass_view y.pass) n e st f g.view h };
 
     ghost script_stays = { λ x y g. refl };
 

@@ -1,5 +1,6 @@
-//! Which locks an act takes at first: those of the lanes that its job reads, and those that its event will touch, as one of these lanes
-//! tells while it is locked alone. What is told may have changed when the locks are taken, so it is a guess.
+//! Which locks an act takes at first: those of the lanes that its job reads, and those that its
+//! event will touch, as one of these lanes tells while it is locked alone. What is told may have
+//! changed when the locks are taken, so it is a guess.
 use crate::lanes::Lanes;
 use crate::needs::{Needs, needs_of_job};
 use crate::states::Object;

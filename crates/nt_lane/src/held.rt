@@ -1,6 +1,8 @@
 //! What a few held lanes answer.
 ghost use Rattle.std.specs.Prelude.{◌↔◌, ◌≡◌, IfSome, IsSome, IsTrue, Some, length, option_map};
-ghost use Rattle.nt_event.specs.declared.jobs.Lane.TheVariants.{Lock as LockLane, Object as ObjectLane, Queue as QueueLane};
+ghost use Rattle.nt_event.specs.declared.jobs.Lane.TheVariants.{Lock as LockLane};
+ghost use Rattle.nt_event.specs.declared.jobs.Lane.TheVariants.{Object as ObjectLane};
+ghost use Rattle.nt_event.specs.declared.jobs.Lane.TheVariants.{Queue as QueueLane};
 ghost use Rattle.nt_event.specs.Lanes.{lock_at, object_at, queue_at};
 ghost use Rattle.nt_event.specs.Queues.{is_queue};
 ghost use Rattle.nt_event.specs.Script.{fits, has_cpu, has_dpc, has_lock};
@@ -30,14 +32,17 @@ fn stands_in(object: &Object, p: CpuNo) -> bool
 
 /// Whether the queue has an entry of the object exactly where the object stands in it.
 fn agree(object: &Object, queue: &Queue) -> bool
-    ensures { IsTrue result ↔ (holds_dpc object.now.dpc queue.now.state.pending ≡ is_queue (option_map (λ at. at.queue) object.now.state.standing) queue.now.cpu) }
+    ensures { IsTrue result ↔
+        (holds_dpc object.now.dpc queue.now.state.pending
+        ≡ is_queue (option_map (λ at. at.queue) object.now.state.standing) queue.now.cpu) }
 {
     queue.inner().holds(object.dpc) == stands_in(object, queue.cpu)
 }
 
 /// The same, where both are held.
 fn both_agree(object: Option<&Object>, queue: Option<&Queue>) -> bool
-    ensures { IsTrue result ↔ BothAgree (option_map (λ o. o.now) object.entry) (option_map (λ q. q.now) queue.entry) }
+    ensures { IsTrue result ↔
+        BothAgree (option_map (λ o. o.now) object.entry) (option_map (λ q. q.now) queue.entry) }
 {
     match object {
         Some(object) => match queue {
@@ -50,7 +55,8 @@ fn both_agree(object: Option<&Object>, queue: Option<&Queue>) -> bool
 
 /// The states of up to five lanes that are held by their locks, at most one of each kind.
 ///
-/// Of a lane that isn't held it tells any state: an object, a queue or a spin lock like the held one.
+/// Of a lane that isn't held it tells any state: an object, a queue or a spin lock like the held
+/// one.
 #[derive(Drop)]
 pub(crate) struct Held<'h, 's> {
     script: &'h Script,
@@ -73,8 +79,8 @@ impl<'h, 's> Model for Held<'h, 's> {
 }
 
 impl<'h, 's> Held<'h, 's> {
-    /// The states of held lanes of the script; None where a held object and a held queue don't agree on where the object stands, which
-    /// no history makes.
+    /// The states of held lanes of the script; None where a held object and a held queue don't
+    /// agree on where the object stands, which no history makes.
     pub(crate) fn new(
         script: &'h Script,
         object: Option<&'h Object>,
@@ -89,7 +95,15 @@ impl<'h, 's> Held<'h, 's> {
         requires group { IfSome group (λ g. IsGroupThere script.now g.now) }
         requires timers { IfSome timers (λ t. IsSized script.now t.now) }
         requires spin_lock { IfSome spin_lock (λ x. IsSpinThere script.now x.now) }
-        ensures { IfSome result (λ h. h ≡ record { script = script.now; object = option_map (λ o. o.now) object.entry; queue = option_map (λ q. q.now) queue.entry; group = option_map (λ g. g.now) group.entry; timers = option_map (λ t. t.now) timers.entry; spin_lock = option_map (λ x. x.now) spin_lock.entry }) }
+        ensures { IfSome result (λ h.
+            h ≡ record {
+              script = script.now;
+              object = option_map (λ o. o.now) object.entry;
+              queue = option_map (λ q. q.now) queue.entry;
+              group = option_map (λ g. g.now) group.entry;
+              timers = option_map (λ t. t.now) timers.entry;
+              spin_lock = option_map (λ x. x.now) spin_lock.entry;
+            }) }
     {
         if both_agree(object, queue) {
             Some(Held {

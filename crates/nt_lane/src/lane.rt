@@ -6,8 +6,9 @@ use crate::record::{Holds, Record};
 use nt_event::Plan;
 use nt_mark::Shared;
 
-/// What stands in a lane, with its record. Whenever the lock is free, the state is the one that was noted last, and the time is at most
-/// as far as events of numbers up to the last one on its list may have let it advance.
+/// What stands in a lane, with its record. Whenever the lock is free, the state is the one that was
+/// noted last, and the time is at most as far as events of numbers up to the last one on its list
+/// may have let it advance.
 #[derive(Drop)]
 pub(crate) struct Lane<N: Plan + Shared, S: Holds> {
     pub(crate) state: S,

@@ -1,5 +1,6 @@
 //! All lanes, each with a lock of its own.
-ghost use Rattle.std.specs.Prelude.{◌≡◌, ◌<◌, ◌≤◌, ◌+◌, IfOk, IsTrue, length, vec_capacity, vec_len};
+ghost use Rattle.std.specs.Prelude.{◌≡◌, ◌<◌, ◌≤◌, ◌+◌, IfOk, IsTrue, length, vec_capacity};
+ghost use Rattle.std.specs.Prelude.{vec_len};
 ghost use Rattle.nt_event.specs.Lanes as spec;
 ghost use Rattle.nt_event.specs.Script.{fits};
 ghost use Rattle.nt_lane.specs.Pieces.{AreClosed, ArePiecesOf};
@@ -30,8 +31,9 @@ pub struct Pieces {
     pub keepers: Vec<Keeper>,
 }
 
-/// The lanes of a script: one lock for each DPC object, each processor's DPC queue, each processor's threads, the timers, and each spin
-/// lock. Locks are taken in this order, by number within a kind.
+/// The lanes of a script: one lock for each DPC object, each processor's DPC queue, each
+/// processor's threads, the timers, and each spin lock. Locks are taken in this order, by number
+/// within a kind.
 #[derive(Drop)]
 pub struct Lanes<'s, N: Plan + Shared> {
     pub(crate) script: &'s Script,
@@ -57,12 +59,13 @@ pub(crate) struct Room<N: Plan> {
     keepers: Vec<Keeper>,
     of: PhantomData<N>,
     ghost empty: { (vec_len lists ≡ 0) × (vec_len keepers ≡ 0) },
-    ghost room: { (spec.lane_count N.script ≤ vec_capacity lists) × (spec.lane_count N.script ≤ vec_capacity keepers) },
+    ghost room: { (spec.lane_count N.script ≤ vec_capacity lists) ×
+        (spec.lane_count N.script ≤ vec_capacity keepers) },
 }
 
 impl<'s, N: Plan + Shared> Lanes<'s, N> {
-    /// The lanes of N's script, on which nothing happened, with the keepers of N's table, one for each lane, in order. Room for the lists
-    /// is taken as they grow.
+    /// The lanes of N's script, on which nothing happened, with the keepers of N's table, one for
+    /// each lane, in order. Room for the lists is taken as they grow.
     pub fn new(
         alloc: Global,
         script: &'s Script,
@@ -71,7 +74,8 @@ impl<'s, N: Plan + Shared> Lanes<'s, N> {
     ) -> Result<Lanes<'s, N>, AllocError>
         requires script { (script.now ≡ N.script) × IsTrue (fits script.now) }
         requires turns { turns ≡ N.turns }
-        requires keepers { AreNewKeepers N.table keepers.items × (vec_len keepers ≡ spec.lane_count script.now) }
+        requires keepers { AreNewKeepers N.table keepers.items ×
+            (vec_len keepers ≡ spec.lane_count script.now) }
     {
         let _turns = turns;
         let lists = Vec::with_capacity(alloc, script.lane_count())?;
@@ -155,10 +159,13 @@ impl<'s, N: Plan + Shared> Lanes<'s, N> {
 impl Pieces {
     /// Adds the list of a lane.
     fn add_lane<N: Plan + Shared, S: Holds + Drop>(&mut self, lane: Mutex<Lane<N, S>>)
-        requires room { (vec_len self.old.lists < vec_capacity self.old.lists) × (vec_len self.old.keepers < vec_capacity self.old.keepers) }
+        requires room { (vec_len self.old.lists < vec_capacity self.old.lists) ×
+            (vec_len self.old.keepers < vec_capacity self.old.keepers) }
         requires pieces { ArePiecesOf N.table self.old.lists.items self.old.keepers.items }
-        ensures count { (vec_len self.new.lists ≡ vec_len self.old.lists + 1) × (vec_len self.new.keepers ≡ vec_len self.old.keepers + 1) }
-        ensures room { (vec_capacity self.new.lists ≡ vec_capacity self.old.lists) × (vec_capacity self.new.keepers ≡ vec_capacity self.old.keepers) }
+        ensures count { (vec_len self.new.lists ≡ vec_len self.old.lists + 1) ×
+            (vec_len self.new.keepers ≡ vec_len self.old.keepers + 1) }
+        ensures room { (vec_capacity self.new.lists ≡ vec_capacity self.old.lists) ×
+            (vec_capacity self.new.keepers ≡ vec_capacity self.old.keepers) }
         ensures pieces { ArePiecesOf N.table self.new.lists.items self.new.keepers.items }
     {
         let Lane { state: _, log } = lane.into_inner();
@@ -169,10 +176,13 @@ impl Pieces {
 
     /// Adds the lists of lanes, in order.
     fn add_all<N: Plan + Shared, S: Holds + Drop>(&mut self, mut lanes: Vec<Mutex<Lane<N, S>>>)
-        requires room { (vec_len self.old.lists + vec_len lanes ≤ vec_capacity self.old.lists) × (vec_len self.old.keepers + vec_len lanes ≤ vec_capacity self.old.keepers) }
+        requires room { (vec_len self.old.lists + vec_len lanes ≤ vec_capacity self.old.lists) ×
+            (vec_len self.old.keepers + vec_len lanes ≤ vec_capacity self.old.keepers) }
         requires pieces { ArePiecesOf N.table self.old.lists.items self.old.keepers.items }
-        ensures count { (vec_len self.new.lists ≡ vec_len self.old.lists + vec_len lanes) × (vec_len self.new.keepers ≡ vec_len self.old.keepers + vec_len lanes) }
-        ensures room { (vec_capacity self.new.lists ≡ vec_capacity self.old.lists) × (vec_capacity self.new.keepers ≡ vec_capacity self.old.keepers) }
+        ensures count { (vec_len self.new.lists ≡ vec_len self.old.lists + vec_len lanes) ×
+            (vec_len self.new.keepers ≡ vec_len self.old.keepers + vec_len lanes) }
+        ensures room { (vec_capacity self.new.lists ≡ vec_capacity self.old.lists) ×
+            (vec_capacity self.new.keepers ≡ vec_capacity self.old.keepers) }
         ensures pieces { ArePiecesOf N.table self.new.lists.items self.new.keepers.items }
     {
         for _ in 0..lanes.len() {

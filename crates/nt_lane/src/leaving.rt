@@ -1,5 +1,6 @@
 //! What an event leaves of the state of a held lane.
-ghost use Rattle.std.specs.Prelude.{◌≡◌, ◌+◌, ◌-◌, ◌<◌, ◌≤◌, ◌^◌, IfSome, IsTrue, List, None, Some, length, option_map, ℕ};
+ghost use Rattle.std.specs.Prelude.{◌≡◌, ◌+◌, ◌-◌, ◌<◌, ◌≤◌, ◌^◌, IfSome, IsTrue, List, None, Some};
+ghost use Rattle.std.specs.Prelude.{length, option_map, ℕ};
 ghost use Rattle.nt_dpc.specs.Laws.{IsObject};
 ghost use Rattle.nt_dpc.specs.Objects.{entry_of, queued_at, unqueued};
 ghost use Rattle.nt_dpc.specs.Queues.{StandsHereOrNowhere, first_entry, with_entry, without_entry};
@@ -12,7 +13,8 @@ ghost use Rattle.nt_event.specs.Queues.{queue_after};
 ghost use Rattle.nt_event.specs.Script.{fits};
 ghost use Rattle.nt_event.specs.Step.{thread_field};
 ghost use Rattle.nt_event.specs.Timers.{timers_after};
-ghost use Rattle.nt_lane.specs.Changed.{MayChangeBoth, MayChangeObject, MayChangeQueue, MayEnter, object_moved, object_set, queue_idle, queue_moved};
+ghost use Rattle.nt_lane.specs.Changed.{MayChangeBoth, MayChangeObject, MayChangeQueue, MayEnter};
+ghost use Rattle.nt_lane.specs.Changed.{object_moved, object_set, queue_idle, queue_moved};
 ghost use Rattle.nt_states.specs.Timed.{MayTime};
 ghost use Rattle.nt_states.specs.ThreadFits.{RunsHere, WhatFits, named_thread as thread_of};
 ghost use Rattle.nt_states.specs.ThreadLanes.{left};
@@ -28,7 +30,8 @@ use nt_thread_lanes::named_thread;
 /// Inserts the object into the queue, by this processor in the event of this number.
 fn insert(object: &mut Object, queue: &mut Queue, n: u64, by: CpuNo)
     requires { MayEnter object.old queue.old by }
-    ensures object { object.new ≡ queued_at (record { queue = queue.old.cpu; number = n }) object.old }
+    ensures object { object.new
+        ≡ queued_at (record { queue = queue.old.cpu; number = n }) object.old }
     ensures queue { queue.new ≡ with_entry (entry_of n object.old) queue.old }
 {
     let _ = queue.state.insert(&mut object.state, by, n);
@@ -70,12 +73,16 @@ fn change_both(object: &mut Object, queue: &mut Queue, n: u64, by: CpuNo, change
     }
 }
 
-/// Takes in the event of this number, by this processor, of an object and of the queue that it is inserted into, removed from or taken
-/// from.
+/// Takes in the event of this number, by this processor, of an object and of the queue that it is
+/// inserted into, removed from or taken from.
 pub(crate) fn leave_both(object: &mut Object, queue: &mut Queue, n: u64, by: CpuNo, what: &What)
     requires { MayChangeBoth object.old queue.old by (change_in what.now) }
-    ensures object { object.new ≡ record object.old { state = object_after object.old.dpc n by what.now object.old.state } }
-    ensures queue { (s : Declared) (objects : List ObjectState) → IsObject s objects object.old → queue.new ≡ record queue.old { state = queue_after s queue.old.cpu n by what.now objects queue.old.state } }
+    ensures object { object.new
+        ≡ record object.old { state = object_after object.old.dpc n by what.now object.old.state } }
+    ensures queue { (s : Declared) (objects : List ObjectState) → IsObject s objects object.old →
+        queue.new ≡ record queue.old {
+          state = queue_after s queue.old.cpu n by what.now objects queue.old.state;
+        } }
 {
     let change = change_of(what);
     change_both(object, queue, n, by, change);
@@ -85,7 +92,9 @@ impl Object {
     /// Takes in an event that touches the object, and no queue: it is set, or stays as it is.
     pub(crate) fn leave(&mut self, what: &What)
         requires { MayChangeObject self.old (change_in what.now) }
-        ensures { (n : ℕ) (by : Cpu) → self.new ≡ record self.old { state = object_after self.old.dpc n by what.now self.old.state } }
+        ensures { (n : ℕ) (by : Cpu) →
+            self.new
+            ≡ record self.old { state = object_after self.old.dpc n by what.now self.old.state } }
     {
         let change = change_of(what);
         self.set(change);
@@ -109,17 +118,21 @@ impl Object {
 }
 
 impl Queue {
-    /// Takes in an event of the queue's processor that touches the queue, and no object: the processor rests or runs from now on, or the
-    /// queue stays as it is.
+    /// Takes in an event of the queue's processor that touches the queue, and no object: the
+    /// processor rests or runs from now on, or the queue stays as it is.
     pub(crate) fn leave(&mut self, what: &What)
         requires { MayChangeQueue (change_in what.now) }
-        ensures { (s : Declared) (objects : List ObjectState) (n : ℕ) → self.new ≡ record self.old { state = queue_after s self.old.cpu n self.old.cpu what.now objects self.old.state } }
+        ensures { (s : Declared) (objects : List ObjectState) (n : ℕ) →
+            self.new ≡ record self.old {
+              state = queue_after s self.old.cpu n self.old.cpu what.now objects self.old.state;
+            } }
     {
         let change = change_of(what);
         self.rest_or_run(change);
     }
 
-    /// The processor rests or runs from now on, as the change says. Another change leaves the queue as it is.
+    /// The processor rests or runs from now on, as the change says. Another change leaves the queue
+    /// as it is.
     fn rest_or_run(&mut self, change: Change)
         ensures { self.new ≡ queue_idle change self.old }
     {
@@ -137,18 +150,21 @@ impl Queue {
 }
 
 impl Group<'_> {
-    /// Takes in the event of this number, of a processor that stood so: the thread that it names changes, or else the one that makes it.
+    /// Takes in the event of this number, of a processor that stood so: the thread that it names
+    /// changes, or else the one that makes it.
     ///
-    /// The event is one that a job gives in these states. Only where it names no thread has its maker to run in them, so the threads of
-    /// another processor take it too.
+    /// The event is one that a job gives in these states. Only where it names no thread has its
+    /// maker to run in them, so the threads of another processor take it too.
     pub(crate) fn leave(&mut self, script: &Script, n: u64, stand: &StandView, event: &Event)
         requires script { self.old.threads.script ≡ script.now }
         requires fits { IsTrue (fits script.now) }
         requires cpu { event.now.cpu ≡ stand.now.cpu }
         requires thread { event.now.thread ≡ thread_field event.now.what stand.now.thread }
         requires what { WhatFits self.old.threads stand.now event.now.what }
-        requires runs { thread_of script.now event.now.what ≡ None → IfSome stand.now.thread (RunsHere self.old.threads stand.now) }
-        ensures { self.new ≡ record self.old { threads = left n stand.now event.now self.old.threads } }
+        requires runs { thread_of script.now event.now.what ≡ None →
+            IfSome stand.now.thread (RunsHere self.old.threads stand.now) }
+        ensures { self.new
+            ≡ record self.old { threads = left n stand.now event.now self.old.threads } }
     {
         match named_thread(script, &event.what) {
             Some(thread) => self.state.tell(thread, n, &event.what),
@@ -158,7 +174,8 @@ impl Group<'_> {
 }
 
 impl Clock {
-    /// Takes in the event of this number, of a processor that stood so. The event is one that a job gives in these states.
+    /// Takes in the event of this number, of a processor that stood so. The event is one that a job
+    /// gives in these states.
     pub(crate) fn leave(&mut self, script: &Script, n: u64, stand: &StandView, event: &Event)
         requires sized { IsSized script.now self.old }
         requires may { MayTime script.now self.old event.now event.now.what }
@@ -176,7 +193,10 @@ impl Spin {
     /// Takes in an event of this processor: what it does to the lock, if it moves this one.
     pub(crate) fn leave(&mut self, p: CpuNo, what: &What)
         requires { p.0 < length self.old.state.spinners }
-        ensures { (s : Declared) → s.cpus ≡ length self.old.state.spinners → self.new ≡ record self.old { state = lock_moved s self.old.lock p (lock_move what.now) self.old.state } }
+        ensures { (s : Declared) → s.cpus ≡ length self.old.state.spinners →
+            self.new ≡ record self.old {
+              state = lock_moved s self.old.lock p (lock_move what.now) self.old.state;
+            } }
     {
         if let Some((k, by)) = moved_lock(what) {
             if k.0 == self.lock.0 {

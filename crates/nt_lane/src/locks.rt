@@ -1,11 +1,13 @@
 //! The lanes that an act holds by their locks.
-ghost use Rattle.std.specs.Prelude.{◌≡◌, ◌*◌, ◌<◌, ◌≤◌, ◌^◌, IfSome, IsSome, IsTrue, OnOk, max, option_map};
+ghost use Rattle.std.specs.Prelude.{◌≡◌, ◌*◌, ◌<◌, ◌≤◌, ◌^◌, IfSome, IsSome, IsTrue, OnOk, max};
+ghost use Rattle.std.specs.Prelude.{option_map};
 ghost use Rattle.std.specs.Sync.Mutex.{mutex_guard_value};
 ghost use Rattle.nt_event.specs.LaneStates.{told_at};
 ghost use Rattle.nt_event.specs.Lists.{table, value_at};
 ghost use Rattle.nt_event.specs.Acts.{told_over};
 ghost use Rattle.nt_lane.specs.Answers.{IsHeld};
-ghost use Rattle.nt_lane.specs.Locks.{AreKnownBy, AreLanes, AreLongest, AreRoomy, IsKnownBy, IsLane, in_each, kept, states_of, told_in, told_of};
+ghost use Rattle.nt_lane.specs.Locks.{AreKnownBy, AreLanes, AreLongest, AreRoomy, IsKnownBy};
+ghost use Rattle.nt_lane.specs.Locks.{IsLane, in_each, kept, states_of, told_in, told_of};
 ghost use Rattle.nt_lane.specs.Views.{Learns};
 ghost use Rattle.nt_mark.specs.Names.{pass_table, pass_view, table_of};
 ghost use Rattle.nt_mark.specs.Rule.{IsLongest};
@@ -40,7 +42,14 @@ impl<'l, 's, N: Plan + Shared> Model for Locked<'l, 's, N> {
 
     ghost Value = { HeldLanes };
 
-    ghost view = { λ a. record { object = in_each a.object (λ g. kept (mutex_guard_value g).state (mutex_guard_value g).log); queue = in_each a.queue (λ g. kept (mutex_guard_value g).state (mutex_guard_value g).log); group = in_each a.group (λ g. kept (mutex_guard_value g).state (mutex_guard_value g).log); timers = in_each a.timers (λ g. kept (mutex_guard_value g).state (mutex_guard_value g).log); spin_lock = in_each a.spin_lock (λ g. kept (mutex_guard_value g).state (mutex_guard_value g).log) } };
+    ghost view = { λ a. record {
+      object = in_each a.object (λ g. kept (mutex_guard_value g).state (mutex_guard_value g).log);
+      queue = in_each a.queue (λ g. kept (mutex_guard_value g).state (mutex_guard_value g).log);
+      group = in_each a.group (λ g. kept (mutex_guard_value g).state (mutex_guard_value g).log);
+      timers = in_each a.timers (λ g. kept (mutex_guard_value g).state (mutex_guard_value g).log);
+      spin_lock =
+          in_each a.spin_lock (λ g. kept (mutex_guard_value g).state (mutex_guard_value g).log);
+    } };
 }
 
 /// The lock of one of these lanes, where it is asked for and there. It may wait.
@@ -82,7 +91,8 @@ fn spin_place(lock: Option<LockNo>) -> Option<usize> {
     }
 }
 
-/// The locks of these lanes, taken in their order: object, queue, threads, timers, spin lock. It may wait.
+/// The locks of these lanes, taken in their order: object, queue, threads, timers, spin lock. It
+/// may wait.
 pub(crate) fn lock<'l, 's, N: Plan + Shared, R: Wait>(
     rt: &R,
     lanes: &'l Lanes<'s, N>,
@@ -112,7 +122,10 @@ pub(crate) fn lock<'l, 's, N: Plan + Shared, R: Wait>(
 
 /// What holds of a lane that is held.
 fn there_one<N: Plan + Shared, S: Holds>(lane: &Option<MutexGuard<Lane<N, S>>>)
-    ensures { IfSome (in_each lane.now (λ g. kept (mutex_guard_value g).state (mutex_guard_value g).log)) (λ k. IsLane N.script (S.name k.state) (S.content k.state) (S.time k.state) (S.fits N.script k.state) k.log) }
+    ensures { IfSome
+        (in_each lane.now (λ g. kept (mutex_guard_value g).state (mutex_guard_value g).log)) (λ k.
+        IsLane N.script (S.name k.state) (S.content k.state) (S.time k.state)
+        (S.fits N.script k.state) k.log) }
 {
     match lane {
         Some(lane) => {
@@ -126,7 +139,10 @@ fn there_one<N: Plan + Shared, S: Holds>(lane: &Option<MutexGuard<Lane<N, S>>>)
 fn state_of<'x, N: Plan + Shared, S: Holds>(
     lane: &'x Option<MutexGuard<Lane<N, S>>>,
 ) -> Option<&'x S>
-    ensures { option_map (λ s. s.now) result ≡ in_each (in_each lane.now (λ g. kept (mutex_guard_value g).state (mutex_guard_value g).log)) (λ k. k.state) }
+    ensures { option_map (λ s. s.now) result
+        ≡ in_each
+        (in_each lane.now (λ g. kept (mutex_guard_value g).state (mutex_guard_value g).log))
+        (λ k. k.state) }
 {
     match lane {
         Some(lane) => Some(&lane.state),
@@ -138,7 +154,9 @@ fn state_of<'x, N: Plan + Shared, S: Holds>(
 fn reserve_one<N: Plan + Shared, S: Holds>(
     lane: &mut Option<MutexGuard<Lane<N, S>>>,
 ) -> Result<(), AllocError>
-    ensures { OnOk result (IfSome (in_each lane.new (λ g. kept (mutex_guard_value g).state (mutex_guard_value g).log)) (λ k. 1 ≤ k.log.room)) }
+    ensures { OnOk result (IfSome
+        (in_each lane.new (λ g. kept (mutex_guard_value g).state (mutex_guard_value g).log))
+        (λ k. 1 ≤ k.log.room)) }
 {
     if let Some(lane) = lane {
         let lane = &mut **lane;
@@ -155,8 +173,14 @@ fn meet_one<N: Plan + Shared, S: Holds>(
 )
     requires table { (table_of marks.now ≡ N.table) × (pass_table pass.old ≡ N.table) }
     ensures table { pass_table pass.new ≡ N.table }
-    ensures known { IfSome (in_each lane.new (λ g. kept (mutex_guard_value g).state (mutex_guard_value g).log)) (λ k. IsKnownBy k.log (pass_view pass.new)) }
-    ensures room { IfSome (in_each lane.old (λ g. kept (mutex_guard_value g).state (mutex_guard_value g).log)) (λ k. 1 ≤ k.log.room) → IfSome (in_each lane.new (λ g. kept (mutex_guard_value g).state (mutex_guard_value g).log)) (λ k. 1 ≤ k.log.room) }
+    ensures known { IfSome
+        (in_each lane.new (λ g. kept (mutex_guard_value g).state (mutex_guard_value g).log))
+        (λ k. IsKnownBy k.log (pass_view pass.new)) }
+    ensures room { IfSome
+        (in_each lane.old (λ g. kept (mutex_guard_value g).state (mutex_guard_value g).log))
+        (λ k. 1 ≤ k.log.room) →
+        IfSome (in_each lane.new (λ g. kept (mutex_guard_value g).state (mutex_guard_value g).log))
+        (λ k. 1 ≤ k.log.room) }
     ensures learns { Learns (pass_view pass.old) (pass_view pass.new) }
 {
     if let Some(lane) = lane {
@@ -174,7 +198,9 @@ fn compare_one<N: Plan + Shared, S: Holds>(
     requires table { (table_of marks.now ≡ N.table) × (pass_table pass.old ≡ N.table) }
     ensures table { pass_table pass.new ≡ N.table }
     ensures pass { pass_view pass.new ≡ pass_view pass.old }
-    ensures longest { IfSome (in_each lane.old (λ g. kept (mutex_guard_value g).state (mutex_guard_value g).log)) (λ k. IsLongest k.log.lane k.log.notes (pass_view pass.new)) }
+    ensures longest { IfSome
+        (in_each lane.old (λ g. kept (mutex_guard_value g).state (mutex_guard_value g).log))
+        (λ k. IsLongest k.log.lane k.log.notes (pass_view pass.new)) }
 {
     if let Some(lane) = lane {
         let lane = &mut **lane;
@@ -190,7 +216,11 @@ fn raise_one<N: Plan + Shared, S: Holds>(
 )
     requires held { IsSome lane.now }
     requires cpu { p.0 < N.script.cpus }
-    ensures { values.new ≡ table 16 (λ c. max (told_at (told_of (in_each lane.now (λ g. kept (mutex_guard_value g).state (mutex_guard_value g).log))) p c) (value_at values.old c)) }
+    ensures { values.new ≡ table 16 (λ c.
+        max (told_at (told_of
+        (in_each lane.now (λ g. kept (mutex_guard_value g).state (mutex_guard_value g).log)))
+        p c)
+        (value_at values.old c)) }
 {
     match lane {
         Some(lane) => lane.log.raise(p, values),
@@ -237,7 +267,8 @@ impl<'l, 's, N: Plan + Shared> Locked<'l, 's, N> {
         meet_one::<N, Spin>(&mut self.spin_lock, marks, pass);
     }
 
-    /// Each of them and the pass tell each other what they know; whether each has room for one event more.
+    /// Each of them and the pass tell each other what they know; whether each has room for one
+    /// event more.
     pub(crate) fn prepare(&mut self, marks: &Marks, pass: &mut Pass) -> bool
         requires table { (table_of marks.now ≡ N.table) × (pass_table pass.old ≡ N.table) }
         ensures table { pass_table pass.new ≡ N.table }
@@ -253,7 +284,8 @@ impl<'l, 's, N: Plan + Shared> Locked<'l, 's, N> {
         roomy
     }
 
-    /// Each of them takes in what the pass knows, which tells that their lists are the longest ones that the pass knows.
+    /// Each of them takes in what the pass knows, which tells that their lists are the longest ones
+    /// that the pass knows.
     pub(crate) fn compare(&mut self, marks: &Marks, pass: &mut Pass)
         requires table { (table_of marks.now ≡ N.table) × (pass_table pass.old ≡ N.table) }
         ensures table { pass_table pass.new ≡ N.table }
@@ -267,11 +299,13 @@ impl<'l, 's, N: Plan + Shared> Locked<'l, 's, N> {
         compare_one::<N, Spin>(&mut self.spin_lock, marks, pass);
     }
 
-    /// The greater ones of these values and those that one of the lanes, which is held, tells for a processor.
+    /// The greater ones of these values and those that one of the lanes, which is held, tells for a
+    /// processor.
     fn raise(&self, lane: LaneName, p: CpuNo, values: &mut [u64; 16])
         requires cpu { p.0 < N.script.cpus }
         requires held { IsHeld (states_of N.script self.now) lane }
-        ensures { values.new ≡ table 16 (λ c. max (told_in self.now lane p c) (value_at values.old c)) }
+        ensures { values.new
+            ≡ table 16 (λ c. max (told_in self.now lane p c) (value_at values.old c)) }
     {
         match lane {
             LaneName::Object(_) => raise_one::<N, Object>(&self.object, p, values),

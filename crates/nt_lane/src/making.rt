@@ -219,7 +219,8 @@ pub(crate) fn groups<'s, N: Plan + Shared>(
     requires next { keepers.old.next ≡ length N.script.dpcs + N.script.cpus }
     requires enough { keepers.old.next + keepers.old.count ≡ lane_count N.script }
     ensures lanes { IfOk result (λ v. vec_len v ≡ N.script.cpus) }
-    ensures next { IfOk result (λ v. keepers.new.next ≡ length N.script.dpcs + (N.script.cpus + N.script.cpus)) }
+    ensures next { IfOk result
+        (λ v. keepers.new.next ≡ length N.script.dpcs + (N.script.cpus + N.script.cpus)) }
     ensures count { IfOk result (λ v. keepers.new.next + keepers.new.count ≡ lane_count N.script) }
 {
     let mut lanes = Vec::with_capacity(alloc, script.cpus as usize)?;
@@ -257,7 +258,8 @@ pub(crate) fn spin_locks<N: Plan + Shared>(
 ) -> Result<Vec<Mutex<Lane<N, Spin>>>, AllocError>
     requires script { script.now ≡ N.script }
     requires fits { IsTrue (fits N.script) }
-    requires next { keepers.old.next ≡ length N.script.dpcs + (N.script.cpus + (N.script.cpus + 1)) }
+    requires next { keepers.old.next
+        ≡ length N.script.dpcs + (N.script.cpus + (N.script.cpus + 1)) }
     requires enough { keepers.old.next + keepers.old.count ≡ lane_count N.script }
     ensures lanes { IfOk result (λ v. vec_len v ≡ N.script.locks) }
 {

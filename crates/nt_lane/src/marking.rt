@@ -8,8 +8,8 @@ ghost use Rattle.nt_states.specs.LaneLists.{as_asks};
 use nt_event::Asked;
 use nt_mark::{Marks, Pass};
 
-/// Marks the event of a number that the pass drew as asking for each of these, in order. The pass draws, looks at and learns nothing
-/// else, and knows then that each of them was asked.
+/// Marks the event of a number that the pass drew as asking for each of these, in order. The pass
+/// draws, looks at and learns nothing else, and knows then that each of them was asked.
 pub(crate) fn mark_all(marks: &Marks, pass: &mut Pass, n: u64, asks: &[Asked])
     requires table { pass_table pass.old ≡ table_of marks.now }
     requires words { All (λ a. (a.cpu.0 < cpus_of marks.now) × (a.class < 16)) asks.now }

@@ -92,7 +92,8 @@ fn numbers_of(script: &Script, lanes: &[Lane]) -> Numbers
     }
 }
 
-/// The number of a lane of the script, which is also its place in the order in which locks are taken.
+/// The number of a lane of the script, which is also its place in the order in which locks are
+/// taken.
 fn lane_number(script: &Script, lane: Lane) -> u32
     requires fits { IsTrue (fits script.now) }
     requires lane { LaneFits script.now lane }
@@ -101,7 +102,8 @@ fn lane_number(script: &Script, lane: Lane) -> u32
     lane.number(script) as u32
 }
 
-/// The numbers of the lanes that an event touches. They rise, as the locks are taken, and each is one of the script's.
+/// The numbers of the lanes that an event touches. They rise, as the locks are taken, and each is
+/// one of the script's.
 pub(crate) fn touched_numbers(
     script: &Script,
     stand: &StandView,

@@ -53,7 +53,8 @@ pub(crate) enum Planned {
 /// Pending APCs are of their objects' kinds, where a group is held; where none is, none is pending.
 fn kinds(script: &Script, group: Option<&Group>)
     requires { IfSome group (λ g. IsGroupThere script.now g.now) }
-    ensures { All (λ x. All (λ pick. pick.kind ≡ kind_of script.now pick.apc) x.apcs.pending) (threads_told script.now (option_map (λ g. g.now) group.entry)) }
+    ensures { All (λ x. All (λ pick. pick.kind ≡ kind_of script.now pick.apc) x.apcs.pending)
+        (threads_told script.now (option_map (λ g. g.now) group.entry)) }
 {
     let _script = script;
     match group {
@@ -79,7 +80,8 @@ fn maker_runs(script: &Script, group: Option<&Group>, stand: &StandView, what: &
     requires group { IfSome group (λ g. IsGroupThere script.now g.now) }
     requires stand { StandFits script.now stand.now }
     requires own { RunsOwn script.now stand.now }
-    ensures { IsTrue result → MakerRuns script.now (option_map (λ g. g.now) group.entry) stand.now what.now }
+    ensures { IsTrue result →
+        MakerRuns script.now (option_map (λ g. g.now) group.entry) stand.now what.now }
 {
     match group {
         Some(group) => match named_thread(script, what) {
@@ -94,7 +96,8 @@ fn maker_runs(script: &Script, group: Option<&Group>, stand: &StandView, what: &
 fn leaves(script: &Script, group: Option<&Group>, stand: &StandView, job: &Job) -> bool
     requires group { IfSome group (λ g. IsGroupThere script.now g.now) }
     requires stand { StandFits script.now stand.now }
-    ensures { IsTrue result → Leaves (threads_told script.now (option_map (λ g. g.now) group.entry)) stand.now job.now }
+    ensures { IsTrue result →
+        Leaves (threads_told script.now (option_map (λ g. g.now) group.entry)) stand.now job.now }
 {
     let _script = script;
     match job {
@@ -157,7 +160,8 @@ fn plan_of(held: &Held, stand: &StandView, what: &What, lanes: Touched) -> Plan
     ensures due { result.due ≡ due_of what.now (held_lanes held.now).timers.now }
     ensures due_fits { IfSome result.due (λ due. due < 2 ^ 51) }
     ensures lanes { result.lanes ≡ lanes }
-    ensures asks { result.asks ≡ what_asks held.now.script stand.now what.now (held_lanes held.now) }
+    ensures asks { result.asks
+        ≡ what_asks held.now.script stand.now what.now (held_lanes held.now) }
     ensures asks_named { All (AskFits held.now.script) result.asks }
 {
     let event = nt_states::event(held, stand, what);
@@ -172,8 +176,9 @@ fn plan_of(held: &Held, stand: &StandView, what: &What, lanes: Touched) -> Plan
     }
 }
 
-/// What becomes of an event that is decided: it is made where the lanes that are held are exactly those that its job reads and those
-/// that it touches, so that it is never made under a lock that it doesn't need.
+/// What becomes of an event that is decided: it is made where the lanes that are held are exactly
+/// those that its job reads and those that it touches, so that it is never made under a lock that
+/// it doesn't need.
 fn plan_event(
     script: &Script,
     held: &Held,
@@ -226,7 +231,15 @@ pub(crate) fn plan_job(
     requires spin_lock { IfSome spin_lock (λ x. IsSpinThere script.now x.now) }
     requires job { IsTrue (job_fits script.now job.now) }
     requires stand { StandFits script.now stand.now }
-    ensures { IsPlanned (record { script = script.now; object = option_map (λ o. o.now) object.entry; queue = option_map (λ q. q.now) queue.entry; group = option_map (λ g. g.now) group.entry; timers = option_map (λ t. t.now) timers.entry; spin_lock = option_map (λ x. x.now) spin_lock.entry }) stand.now job.now result }
+    ensures { IsPlanned (record {
+      script = script.now;
+      object = option_map (λ o. o.now) object.entry;
+      queue = option_map (λ q. q.now) queue.entry;
+      group = option_map (λ g. g.now) group.entry;
+      timers = option_map (λ t. t.now) timers.entry;
+      spin_lock = option_map (λ x. x.now) spin_lock.entry;
+    })
+        stand.now job.now result }
 {
     kinds(script, group);
     match Held::new(script, object, queue, group, timers, spin_lock) {

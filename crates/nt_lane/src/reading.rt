@@ -10,9 +10,11 @@ use nt_event::{Command, CpuNo, Job, Lane, What};
 use nt_frame::StandView;
 use nt_states::LaneAnswers;
 
-/// Whether the lanes are held that are read to find what a command of a routine on the processor replies.
+/// Whether the lanes are held that are read to find what a command of a routine on the processor
+/// replies.
 fn reads_reply(held: &Held, cpu: CpuNo, command: &Command) -> bool
-    ensures { IsTrue result ↔ AreHeld (IsHeld held.now) (reply_lanes held.now.script cpu command.now) }
+    ensures { IsTrue result ↔
+        AreHeld (IsHeld held.now) (reply_lanes held.now.script cpu command.now) }
 {
     let script = held.script();
     match command {
@@ -44,9 +46,11 @@ fn reads_reply(held: &Held, cpu: CpuNo, command: &Command) -> bool
     }
 }
 
-/// Whether the lanes are held that are read to find the event of a job of a processor that stands so.
+/// Whether the lanes are held that are read to find the event of a job of a processor that stands
+/// so.
 pub(crate) fn reads_job(held: &Held, stand: &StandView, job: &Job) -> bool
-    ensures { IsTrue result ↔ AreHeld (IsHeld held.now) (job_lanes held.now.script stand.now job.now) }
+    ensures { IsTrue result ↔
+        AreHeld (IsHeld held.now) (job_lanes held.now.script stand.now job.now) }
 {
     let queue = Lane::Queue(stand.cpu());
     let threads = Lane::Threads(stand.cpu());
@@ -64,7 +68,8 @@ pub(crate) fn reads_job(held: &Held, stand: &StandView, job: &Job) -> bool
 
 /// Whether the lane is held that is read to find which lanes a command touches.
 fn reads_target(held: &Held, command: &Command) -> bool
-    ensures { (f : ℕ) (y : Answer) → IsTrue result ↔ AreHeld (IsHeld held.now) (found_lanes (Call f command.now y)) }
+    ensures { (f : ℕ) (y : Answer) →
+        IsTrue result ↔ AreHeld (IsHeld held.now) (found_lanes (Call f command.now y)) }
 {
     match command {
         Command::Queue(d) | Command::Unqueue(d) => held.holds(Lane::Object(*d)),
@@ -95,7 +100,8 @@ fn reads_target(held: &Held, command: &Command) -> bool
     }
 }
 
-/// Whether the lane is held that is read to find which lanes an event touches: the object of an insert or a removal.
+/// Whether the lane is held that is read to find which lanes an event touches: the object of an
+/// insert or a removal.
 pub(crate) fn reads_event(held: &Held, what: &What) -> bool
     ensures { IsTrue result ↔ AreHeld (IsHeld held.now) (found_lanes what.now) }
 {

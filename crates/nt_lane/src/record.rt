@@ -1,10 +1,12 @@
 //! What stands behind a lane's lock beside its state.
-ghost use Rattle.std.specs.Prelude.{◌≡◌, ◌*◌, ◌+◌, ◌≤◌, ◌<◌, ◌^◌, ◌++◌, ◌∷◌, [], All, Contains, IfOk, OnOk, get_or, length, max, replicate};
+ghost use Rattle.std.specs.Prelude.{◌≡◌, ◌*◌, ◌+◌, ◌≤◌, ◌<◌, ◌^◌, ◌++◌, ◌∷◌, [], All, Contains};
+ghost use Rattle.std.specs.Prelude.{IfOk, OnOk, get_or, length, max, replicate};
 ghost use Rattle.nt_event.specs.LaneStates.{told_at};
 ghost use Rattle.nt_event.specs.Lists.{table, value_at};
 ghost use Rattle.nt_lane.specs.Held.{next_of};
 ghost use Rattle.nt_lane.specs.Pieces.{IsPieceOf};
-ghost use Rattle.nt_lane.specs.Records.{IsAskKnown, IsMet, IsNoted, raised_list, told_rows, told_then};
+ghost use Rattle.nt_lane.specs.Records.{IsAskKnown, IsMet, IsNoted, raised_list, told_rows};
+ghost use Rattle.nt_lane.specs.Records.{told_then};
 ghost use Rattle.nt_mark.specs.Closing.{IsNewKeeper};
 ghost use Rattle.nt_mark.specs.Names.{keeper_lane, keeper_table, pass_table, pass_view, table_of};
 ghost use Rattle.nt_mark.specs.Rule.{IsLongest};
@@ -17,7 +19,8 @@ use nt_mark::{Keeper, Marks, Pass, Shared, Shows};
 use std::alloc::{AllocError, Global};
 use std::marker::{Model, PhantomData};
 
-/// A lane's number, the list of its events, per processor and class the greatest value asked on it, and its keeper.
+/// A lane's number, the list of its events, per processor and class the greatest value asked on it,
+/// and its keeper.
 #[derive(Drop)]
 pub(crate) struct Record<N: Plan + Shared> {
     number: u32,
@@ -36,9 +39,18 @@ impl<N: Plan + Shared> Model for Record<N> {
 
     ghost Value = { LaneRecord };
 
-    ghost view = { λ s. record { lane = s.number; notes = keeper_notes s.keeper; told = told_rows N.script.cpus s.told.items; known = reach step_word (keeper_view s.keeper); room = vec_capacity s.items - vec_len s.items } };
+    ghost view = { λ s. record {
+      lane = s.number;
+      notes = keeper_notes s.keeper;
+      told = told_rows N.script.cpus s.told.items;
+      known = reach step_word (keeper_view s.keeper);
+      room = vec_capacity s.items - vec_len s.items;
+    } };
 
-    ghost invariant = { λ s. (length s.told.items ≡ N.script.cpus * 16) × IsTied N.table s.number (told_rows N.script.cpus s.told.items) s.items.items (keeper_table s.keeper) (keeper_lane s.keeper) (keeper_view s.keeper) };
+    ghost invariant = { λ s.
+        (length s.told.items ≡ N.script.cpus * 16) ×
+        IsTied N.table s.number (told_rows N.script.cpus s.told.items) s.items.items
+        (keeper_table s.keeper) (keeper_lane s.keeper) (keeper_view s.keeper) };
 }
 
 impl<N: Plan + Shared> Record<N> {
@@ -52,7 +64,8 @@ impl<N: Plan + Shared> Record<N> {
         requires cpus { cpus ≡ N.script.cpus }
         requires keeper { IsNewKeeper N.table number keeper }
         ensures lane { IfOk result (λ r. (r.lane ≡ number) × (r.notes ≡ [])) }
-        ensures told { IfOk result (λ r. r.told ≡ told_rows N.script.cpus (replicate (cpus * 16) 0)) }
+        ensures told { IfOk result
+            (λ r. r.told ≡ told_rows N.script.cpus (replicate (cpus * 16) 0)) }
     {
         let count = usize::from(cpus) * 16;
         let told = nothing_told(alloc, count)?;
@@ -95,7 +108,8 @@ impl<N: Plan + Shared> Record<N> {
     /// Room for one event more.
     pub(crate) fn reserve(&mut self) -> Result<(), AllocError>
         ensures ok { OnOk result (1 ≤ self.new.room) }
-        ensures same { (self.new.lane ≡ self.old.lane) × (self.new.notes ≡ self.old.notes) × (self.new.told ≡ self.old.told) × (self.new.known ≡ self.old.known) }
+        ensures same { (self.new.lane ≡ self.old.lane) × (self.new.notes ≡ self.old.notes) ×
+            (self.new.told ≡ self.old.told) × (self.new.known ≡ self.old.known) }
     {
         self.items.reserve(1)?;
         Ok(())
@@ -111,11 +125,13 @@ impl<N: Plan + Shared> Record<N> {
         marks.share(&mut self.keeper, pass);
     }
 
-    /// The lane takes in what a pass knows, which tells that the pass knows no list of the lane that goes beyond its own.
+    /// The lane takes in what a pass knows, which tells that the pass knows no list of the lane
+    /// that goes beyond its own.
     pub(crate) fn compare(&mut self, marks: &Marks, pass: &mut Pass)
         requires table { (table_of marks.now ≡ N.table) × (pass_table pass.old ≡ N.table) }
         ensures table { pass_table pass.new ≡ N.table }
-        ensures same { (self.new.lane ≡ self.old.lane) × (self.new.notes ≡ self.old.notes) × (self.new.told ≡ self.old.told) }
+        ensures same { (self.new.lane ≡ self.old.lane) × (self.new.notes ≡ self.old.notes) ×
+            (self.new.told ≡ self.old.told) }
         ensures pass { pass_view pass.new ≡ pass_view pass.old }
         ensures longest { IsLongest self.old.lane self.old.notes (pass_view pass.new) }
     {
@@ -125,7 +141,8 @@ impl<N: Plan + Shared> Record<N> {
     /// The greater ones of these values and those that the lane tells for a processor, by class.
     pub(crate) fn raise(&self, p: CpuNo, values: &mut [u64; 16])
         requires { p.0 < N.script.cpus }
-        ensures { values.new ≡ table 16 (λ c. max (told_at self.now.told p c) (value_at values.old c)) }
+        ensures { values.new
+            ≡ table 16 (λ c. max (told_at self.now.told p c) (value_at values.old c)) }
     {
         let first = usize::from(p.0) * 16;
         raise_from(values, self.told.as_slice(), first);
@@ -142,7 +159,8 @@ fn nothing_told(alloc: Global, count: usize) -> Result<Vec<u64>, AllocError>
 /// The greater one of each of these values and of the 16 from this place on.
 fn raise_from(values: &mut [u64; 16], told: &[u64], first: usize)
     requires { first + 16 ≤ length told.now }
-    ensures { values.new ≡ table 16 (λ c. max (get_or told.now (first + c) 0) (value_at values.old c)) }
+    ensures { values.new
+        ≡ table 16 (λ c. max (get_or told.now (first + c) 0) (value_at values.old c)) }
 {
     for i in 0..16 {
         let value = told[first + i];
@@ -197,13 +215,19 @@ impl<N: Plan, C: Holds> Shows for Shown<'_, N, C> {
     ghost use Rattle.std.specs.Prelude.{[], ◌∷◌};
     ghost use Rattle.nt_lane.specs.Records.{told_rows};
 
-    ghost states = { λ s. record { content = C.content s.content.now; told = told_rows N.script.cpus s.told.now.items } ∷ [] };
+    ghost states = { λ s.
+        record {
+          content = C.content s.content.now;
+          told = told_rows N.script.cpus s.told.now.items;
+        } ∷ [] };
 }
 
 impl<N: Plan + Shared> Record<N> {
-    /// Notes an event of the pass, with the content that it leaves and the asks that it adds to what the lane tells.
+    /// Notes an event of the pass, with the content that it leaves and the asks that it adds to
+    /// what the lane tells.
     ///
-    /// The pass drew it after it met the lane, with this lane among its lanes, and knows each of its asks.
+    /// The pass drew it after it met the lane, with this lane among its lanes, and knows each of
+    /// its asks.
     pub(crate) fn note<C: Holds>(
         &mut self,
         marks: &Marks,
@@ -223,7 +247,13 @@ impl<N: Plan + Shared> Record<N> {
         requires asks { All (AskFits N.script) (as_asks asks.now) }
         requires asked { All (IsAskKnown n (pass_view pass.old)) (as_asks asks.now) }
         ensures table { pass_table pass.new ≡ N.table }
-        ensures noted { IsNoted self.old self.new (pass_view pass.old) (pass_view pass.new) (note_of n (record { content = C.content content.now; told = told_then N.script.cpus n (as_asks asks.now) self.old.told } ∷ [])) (told_then N.script.cpus n (as_asks asks.now) self.old.told) }
+        ensures noted { IsNoted self.old self.new (pass_view pass.old) (pass_view pass.new)
+            (note_of n
+            (record {
+              content = C.content content.now;
+              told = told_then N.script.cpus n (as_asks asks.now) self.old.told;
+            } ∷ []))
+            (told_then N.script.cpus n (as_asks asks.now) self.old.told) }
     {
         marks.share(&mut self.keeper, pass);
         tell(&mut self.told, asks, n);

@@ -9,9 +9,11 @@ use nt_event::{CpuNo, Event, Plan};
 use nt_floor::Words;
 use nt_mark::{Marks, Pass, Shared};
 
-/// A pass, with the lanes and the marks that it is of, and the number that it drew last. Contracts see it as its pass.
+/// A pass, with the lanes and the marks that it is of, and the number that it drew last. Contracts
+/// see it as its pass.
 ///
-/// It draws, marks and looks without a lock; an act takes the locks of the lanes that it reads and touches.
+/// It draws, marks and looks without a lock; an act takes the locks of the lanes that it reads and
+/// touches.
 pub struct LaneSeat<'a, 's, N: Plan + Shared, R> {
     pub(crate) rt: &'a R,
     pub(crate) lanes: &'a Lanes<'s, N>,
@@ -26,8 +28,8 @@ pub struct LaneSeat<'a, 's, N: Plan + Shared, R> {
 }
 
 impl<'a, 's, N: Plan + Shared, R> LaneSeat<'a, 's, N, R> {
-    /// The seat of a pass of N's table, with marks for its script's processors and lanes. The pass knows each of its entries on the list
-    /// of each lane of that entry.
+    /// The seat of a pass of N's table, with marks for its script's processors and lanes. The pass
+    /// knows each of its entries on the list of each lane of that entry.
     pub fn new(
         rt: &'a R,
         lanes: &'a Lanes<'s, N>,
@@ -35,7 +37,8 @@ impl<'a, 's, N: Plan + Shared, R> LaneSeat<'a, 's, N, R> {
         pass: Pass,
     ) -> LaneSeat<'a, 's, N, R>
         requires table { (table_of marks.now ≡ N.table) × (pass_table pass ≡ N.table) }
-        requires marks { (cpus_of marks.now ≡ N.script.cpus) × (lanes_of marks.now ≡ lane_count N.script) }
+        requires marks { (cpus_of marks.now ≡ N.script.cpus) ×
+            (lanes_of marks.now ≡ lane_count N.script) }
         requires listed { ∥ AreListed (pass_view pass) ∥₁ }
         ensures { (result.pass ≡ pass) × ((result.marks.now ≡ marks.now) × (result.last ≡ 0)) }
     {
@@ -89,7 +92,9 @@ impl<N: Plan + Shared, R> Words for LaneSeat<'_, '_, N, R> {
 
     ghost grows_same = { λ x. seat_same x.last (pass_view x.pass) };
 
-    ghost grows_through = { λ x y z g h. seat_through x.last y.last z.last (pass_view x.pass) (pass_view y.pass) (pass_view z.pass) g h };
+    ghost grows_through = { λ x y z g h.
+        seat_through x.last y.last z.last (pass_view x.pass) (pass_view y.pass) (pass_view z.pass)
+        g h };
 
     fn draw(&mut self, event: &Event) -> u64 {
         self.last = self.marks.draw(&mut self.pass, event, &[]);

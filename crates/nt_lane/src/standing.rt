@@ -25,7 +25,8 @@ fn in_thread(stand: &StandView, most: u8) -> bool
     stand.thread().is_some() && stand.level().number() <= most
 }
 
-/// Whether the command may be called there: a wait, a delay, the test of an alert and a yield are called in a thread.
+/// Whether the command may be called there: a wait, a delay, the test of an alert and a yield are
+/// called in a thread.
 fn is_callable(stand: &StandView, command: &Command) -> bool
     ensures { IsTrue result ↔ IsCallable stand.now command.now }
 {
@@ -76,8 +77,8 @@ fn stands_for(stand: &StandView, job: &Job) -> bool
     }
 }
 
-/// Whether the job may be done by a processor that stands so: its thread is its own, and the stand serves the job. Of the states of
-/// lanes it asks nothing, so no lock is needed for it.
+/// Whether the job may be done by a processor that stands so: its thread is its own, and the stand
+/// serves the job. Of the states of lanes it asks nothing, so no lock is needed for it.
 pub(crate) fn can_do(script: &Script, job: &Job, stand: &StandView) -> bool
     ensures { IsTrue result ↔ (RunsOwn script.now stand.now × StandsFor stand.now job.now) }
 {

@@ -87,7 +87,8 @@ impl Holds for Queue {
     ghost fits_prop = { λ s x. Prim.hlevel props };
 }
 
-/// The threads of a processor of a script: the states of all threads, of which those of other processors tell nothing.
+/// The threads of a processor of a script: the states of all threads, of which those of other
+/// processors tell nothing.
 #[derive(Drop)]
 pub(crate) struct Group<'s> {
     pub(crate) cpu: CpuNo,
@@ -193,7 +194,8 @@ impl Object {
     /// The object before any event.
     pub(crate) fn new(script: &Script, dpc: DpcNo) -> Object
         requires object { IsTrue (has_dpc script.now dpc) }
-        ensures { result ≡ new_object dpc (threaded_on script.now && is_declared_threaded (slice_get script.now.dpcs dpc.0)) }
+        ensures { result ≡ new_object dpc
+            (threaded_on script.now && is_declared_threaded (slice_get script.now.dpcs dpc.0)) }
     {
         Object {
             dpc,
@@ -214,7 +216,8 @@ impl Queue {
     pub(crate) fn new(alloc: Global, script: &Script, cpu: CpuNo) -> Result<Queue, AllocError>
         requires fits { IsTrue (fits script.now) }
         requires cpu { IsTrue (has_cpu script.now cpu) }
-        ensures { IfOk result (λ q. q ≡ new_queue cpu (length script.now.dpcs) (depth_limit script.now)) }
+        ensures { IfOk result
+            (λ q. q ≡ new_queue cpu (length script.now.dpcs) (depth_limit script.now)) }
     {
         let count = script.dpcs.len() as u32;
         let state = DpcQueue::new(alloc, cpu, count, script.depth_limit())?;
@@ -256,7 +259,8 @@ impl Clock {
     /// The timers before any event.
     pub(crate) fn new(alloc: Global, script: &Script) -> Result<Clock, AllocError>
         requires fits { IsTrue (fits script.now) }
-        ensures { IfOk result (λ t. t ≡ new_timers (length script.now.timers) (length script.now.threads)) }
+        ensures { IfOk result
+            (λ t. t ≡ new_timers (length script.now.timers) (length script.now.threads)) }
     {
         let timers = script.timers.len() as u32;
         let state = TimerQueue::new(alloc, timers, script.thread_count())?;

@@ -6,7 +6,11 @@ ghost use Rattle.nt_event.specs.Objects.{ObjectState};
 ghost use Rattle.nt_event.specs.Script.{fits};
 ghost use Rattle.nt_event.specs.Acts.{is_among};
 ghost use Rattle.nt_lane.specs.Locks.{in_each, kept};
-ghost use Rattle.nt_lane.specs.Steps.{AreLeftBy, AreReadyFor, DpcsLeft, DpcsReady, IsReady, IsStep, LeavesGroup, LeavesObject, LeavesQueue, LeavesSpin, LeavesTimers, MayLeaveGroup, MayLeaveObject, MayLeaveQueue, MayLeaveSpin, MayLeaveTimers, is_touched, object_name, queue_name};
+ghost use Rattle.nt_lane.specs.Steps.{AreLeftBy, AreReadyFor, DpcsLeft, DpcsReady, IsReady, IsStep};
+ghost use Rattle.nt_lane.specs.Steps.{LeavesGroup, LeavesObject, LeavesQueue, LeavesSpin};
+ghost use Rattle.nt_lane.specs.Steps.{LeavesTimers, MayLeaveGroup, MayLeaveObject, MayLeaveQueue};
+ghost use Rattle.nt_lane.specs.Steps.{MayLeaveSpin, MayLeaveTimers, is_touched, object_name};
+ghost use Rattle.nt_lane.specs.Steps.{queue_name};
 ghost use Rattle.nt_lane.specs.Views.{Learns};
 ghost use Rattle.nt_mark.specs.Names.{pass_table, pass_view, table_of};
 
@@ -72,11 +76,20 @@ fn touch_group<'s, N: Plan + Shared>(
 )
     requires table { (table_of marks.now ≡ N.table) × (pass_table pass.old ≡ N.table) }
     requires script { (step.now.script.now ≡ N.script) × IsTrue (fits N.script) }
-    requires step { IsStep N.script (pass_view pass.old) step.now.number step.now.plan.now.event step.now.numbers.now step.now.plan.now.asks }
-    requires ready { IfSome (in_each lane.old (λ g. kept (mutex_guard_value g).state (mutex_guard_value g).log)) (λ k. IsTrue (is_among (LaneName.Threads k.state.cpu) step.now.plan.now.lanes) → IsReady step.now.number step.now.numbers.now k.log × MayLeaveGroup N.script step.now.stand.now step.now.plan.now.event k.state) }
+    requires step { IsStep N.script (pass_view pass.old) step.now.number step.now.plan.now.event
+        step.now.numbers.now step.now.plan.now.asks }
+    requires ready { IfSome
+        (in_each lane.old (λ g. kept (mutex_guard_value g).state (mutex_guard_value g).log)) (λ k.
+        IsTrue (is_among (LaneName.Threads k.state.cpu) step.now.plan.now.lanes) →
+        IsReady step.now.number step.now.numbers.now k.log ×
+        MayLeaveGroup N.script step.now.stand.now step.now.plan.now.event k.state) }
     ensures table { pass_table pass.new ≡ N.table }
     ensures learns { Learns (pass_view pass.old) (pass_view pass.new) }
-    ensures noted { IfSome (in_each lane.old (λ g. kept (mutex_guard_value g).state (mutex_guard_value g).log)) (λ k. IsTrue (is_among (LaneName.Threads k.state.cpu) step.now.plan.now.lanes) → LeavesGroup N.script step.now.number step.now.stand.now step.now.plan.now.event step.now.plan.now.asks k (pass_view pass.new)) }
+    ensures noted { IfSome
+        (in_each lane.old (λ g. kept (mutex_guard_value g).state (mutex_guard_value g).log)) (λ k.
+        IsTrue (is_among (LaneName.Threads k.state.cpu) step.now.plan.now.lanes) →
+        LeavesGroup N.script step.now.number step.now.stand.now step.now.plan.now.event
+        step.now.plan.now.asks k (pass_view pass.new)) }
 {
     if let Some(lane) = lane {
         let lane = &mut **lane;
@@ -98,11 +111,20 @@ fn touch_timers<N: Plan + Shared>(
 )
     requires table { (table_of marks.now ≡ N.table) × (pass_table pass.old ≡ N.table) }
     requires script { step.now.script.now ≡ N.script }
-    requires step { IsStep N.script (pass_view pass.old) step.now.number step.now.plan.now.event step.now.numbers.now step.now.plan.now.asks }
-    requires ready { IfSome (in_each lane.old (λ g. kept (mutex_guard_value g).state (mutex_guard_value g).log)) (λ k. IsTrue (is_among LaneName.Timers step.now.plan.now.lanes) → IsReady step.now.number step.now.numbers.now k.log × MayLeaveTimers N.script step.now.plan.now.event k.state) }
+    requires step { IsStep N.script (pass_view pass.old) step.now.number step.now.plan.now.event
+        step.now.numbers.now step.now.plan.now.asks }
+    requires ready { IfSome
+        (in_each lane.old (λ g. kept (mutex_guard_value g).state (mutex_guard_value g).log)) (λ k.
+        IsTrue (is_among LaneName.Timers step.now.plan.now.lanes) →
+        IsReady step.now.number step.now.numbers.now k.log ×
+        MayLeaveTimers N.script step.now.plan.now.event k.state) }
     ensures table { pass_table pass.new ≡ N.table }
     ensures learns { Learns (pass_view pass.old) (pass_view pass.new) }
-    ensures noted { IfSome (in_each lane.old (λ g. kept (mutex_guard_value g).state (mutex_guard_value g).log)) (λ k. IsTrue (is_among LaneName.Timers step.now.plan.now.lanes) → LeavesTimers N.script step.now.number step.now.stand.now step.now.plan.now.event step.now.plan.now.asks k (pass_view pass.new)) }
+    ensures noted { IfSome
+        (in_each lane.old (λ g. kept (mutex_guard_value g).state (mutex_guard_value g).log)) (λ k.
+        IsTrue (is_among LaneName.Timers step.now.plan.now.lanes) →
+        LeavesTimers N.script step.now.number step.now.stand.now step.now.plan.now.event
+        step.now.plan.now.asks k (pass_view pass.new)) }
 {
     if let Some(lane) = lane {
         let lane = &mut **lane;
@@ -120,11 +142,20 @@ fn touch_spin<N: Plan + Shared>(
     step: &Step,
 )
     requires table { (table_of marks.now ≡ N.table) × (pass_table pass.old ≡ N.table) }
-    requires step { IsStep N.script (pass_view pass.old) step.now.number step.now.plan.now.event step.now.numbers.now step.now.plan.now.asks }
-    requires ready { IfSome (in_each lane.old (λ g. kept (mutex_guard_value g).state (mutex_guard_value g).log)) (λ k. IsTrue (is_among (LaneName.Lock k.state.lock) step.now.plan.now.lanes) → IsReady step.now.number step.now.numbers.now k.log × MayLeaveSpin N.script step.now.stand.now step.now.plan.now.event) }
+    requires step { IsStep N.script (pass_view pass.old) step.now.number step.now.plan.now.event
+        step.now.numbers.now step.now.plan.now.asks }
+    requires ready { IfSome
+        (in_each lane.old (λ g. kept (mutex_guard_value g).state (mutex_guard_value g).log)) (λ k.
+        IsTrue (is_among (LaneName.Lock k.state.lock) step.now.plan.now.lanes) →
+        IsReady step.now.number step.now.numbers.now k.log ×
+        MayLeaveSpin N.script step.now.stand.now step.now.plan.now.event) }
     ensures table { pass_table pass.new ≡ N.table }
     ensures learns { Learns (pass_view pass.old) (pass_view pass.new) }
-    ensures noted { IfSome (in_each lane.old (λ g. kept (mutex_guard_value g).state (mutex_guard_value g).log)) (λ k. IsTrue (is_among (LaneName.Lock k.state.lock) step.now.plan.now.lanes) → LeavesSpin N.script step.now.number step.now.plan.now.event step.now.plan.now.asks k (pass_view pass.new)) }
+    ensures noted { IfSome
+        (in_each lane.old (λ g. kept (mutex_guard_value g).state (mutex_guard_value g).log)) (λ k.
+        IsTrue (is_among (LaneName.Lock k.state.lock) step.now.plan.now.lanes) →
+        LeavesSpin N.script step.now.number step.now.plan.now.event step.now.plan.now.asks k
+        (pass_view pass.new)) }
 {
     if let Some(lane) = lane {
         let lane = &mut **lane;
@@ -139,7 +170,10 @@ fn object_touched<N: Plan + Shared>(
     lane: &Option<MutexGuard<Lane<N, Object>>>,
     lanes: &[LaneName],
 ) -> bool
-    ensures { result ≡ is_touched (in_each (in_each lane.now (λ g. kept (mutex_guard_value g).state (mutex_guard_value g).log)) object_name) lanes.now }
+    ensures { result ≡ is_touched (in_each
+        (in_each lane.now (λ g. kept (mutex_guard_value g).state (mutex_guard_value g).log))
+        object_name)
+        lanes.now }
 {
     match lane {
         Some(lane) => touches(LaneName::Object(lane.state.dpc), lanes),
@@ -152,7 +186,10 @@ fn queue_touched<N: Plan + Shared>(
     lane: &Option<MutexGuard<Lane<N, Queue>>>,
     lanes: &[LaneName],
 ) -> bool
-    ensures { result ≡ is_touched (in_each (in_each lane.now (λ g. kept (mutex_guard_value g).state (mutex_guard_value g).log)) queue_name) lanes.now }
+    ensures { result ≡ is_touched (in_each
+        (in_each lane.now (λ g. kept (mutex_guard_value g).state (mutex_guard_value g).log))
+        queue_name)
+        lanes.now }
 {
     match lane {
         Some(lane) => touches(LaneName::Queue(lane.state.cpu), lanes),
@@ -168,11 +205,18 @@ fn touch_object<N: Plan + Shared>(
     step: &Step,
 )
     requires table { (table_of marks.now ≡ N.table) × (pass_table pass.old ≡ N.table) }
-    requires step { IsStep N.script (pass_view pass.old) step.now.number step.now.plan.now.event step.now.numbers.now step.now.plan.now.asks }
-    requires ready { IfSome (in_each lane.old (λ g. kept (mutex_guard_value g).state (mutex_guard_value g).log)) (λ k. IsReady step.now.number step.now.numbers.now k.log × MayLeaveObject N.script step.now.number step.now.plan.now.event k.state) }
+    requires step { IsStep N.script (pass_view pass.old) step.now.number step.now.plan.now.event
+        step.now.numbers.now step.now.plan.now.asks }
+    requires ready { IfSome
+        (in_each lane.old (λ g. kept (mutex_guard_value g).state (mutex_guard_value g).log)) (λ k.
+        IsReady step.now.number step.now.numbers.now k.log ×
+        MayLeaveObject N.script step.now.number step.now.plan.now.event k.state) }
     ensures table { pass_table pass.new ≡ N.table }
     ensures learns { Learns (pass_view pass.old) (pass_view pass.new) }
-    ensures noted { IfSome (in_each lane.old (λ g. kept (mutex_guard_value g).state (mutex_guard_value g).log)) (λ k. LeavesObject N.script step.now.number step.now.plan.now.event step.now.plan.now.asks k (pass_view pass.new)) }
+    ensures noted { IfSome
+        (in_each lane.old (λ g. kept (mutex_guard_value g).state (mutex_guard_value g).log)) (λ k.
+        LeavesObject N.script step.now.number step.now.plan.now.event step.now.plan.now.asks k
+        (pass_view pass.new)) }
 {
     if let Some(lane) = lane {
         note_object::<N>(&mut **lane, marks, pass, step);
@@ -187,11 +231,19 @@ fn touch_queue<N: Plan + Shared>(
     step: &Step,
 )
     requires table { (table_of marks.now ≡ N.table) × (pass_table pass.old ≡ N.table) }
-    requires step { IsStep N.script (pass_view pass.old) step.now.number step.now.plan.now.event step.now.numbers.now step.now.plan.now.asks }
-    requires ready { IfSome (in_each lane.old (λ g. kept (mutex_guard_value g).state (mutex_guard_value g).log)) (λ k. IsReady step.now.number step.now.numbers.now k.log × MayLeaveQueue N.script step.now.number step.now.plan.now.event k.state) }
+    requires step { IsStep N.script (pass_view pass.old) step.now.number step.now.plan.now.event
+        step.now.numbers.now step.now.plan.now.asks }
+    requires ready { IfSome
+        (in_each lane.old (λ g. kept (mutex_guard_value g).state (mutex_guard_value g).log)) (λ k.
+        IsReady step.now.number step.now.numbers.now k.log ×
+        MayLeaveQueue N.script step.now.number step.now.plan.now.event k.state) }
     ensures table { pass_table pass.new ≡ N.table }
     ensures learns { Learns (pass_view pass.old) (pass_view pass.new) }
-    ensures noted { (objects : List ObjectState) → IfSome (in_each lane.old (λ g. kept (mutex_guard_value g).state (mutex_guard_value g).log)) (λ k. LeavesQueue N.script step.now.number step.now.plan.now.event objects step.now.plan.now.asks k (pass_view pass.new)) }
+    ensures noted { (objects : List ObjectState) →
+        IfSome (in_each lane.old (λ g. kept (mutex_guard_value g).state (mutex_guard_value g).log))
+        (λ k.
+        LeavesQueue N.script step.now.number step.now.plan.now.event objects step.now.plan.now.asks
+        k (pass_view pass.new)) }
 {
     if let Some(lane) = lane {
         note_queue::<N>(&mut **lane, marks, pass, step);
@@ -208,11 +260,18 @@ fn touch_both<N: Plan + Shared>(
 )
     requires table { (table_of marks.now ≡ N.table) × (pass_table pass.old ≡ N.table) }
     requires cpu { step.now.stand.now.cpu ≡ step.now.plan.now.event.cpu }
-    requires step { IsStep N.script (pass_view pass.old) step.now.number step.now.plan.now.event step.now.numbers.now step.now.plan.now.asks }
-    requires ready { DpcsReady N.script step.now.number step.now.plan.now.event step.now.numbers.now true true (in_each object.old (λ g. kept (mutex_guard_value g).state (mutex_guard_value g).log)) (in_each queue.old (λ g. kept (mutex_guard_value g).state (mutex_guard_value g).log)) }
+    requires step { IsStep N.script (pass_view pass.old) step.now.number step.now.plan.now.event
+        step.now.numbers.now step.now.plan.now.asks }
+    requires ready { DpcsReady N.script step.now.number step.now.plan.now.event step.now.numbers.now
+        true true
+        (in_each object.old (λ g. kept (mutex_guard_value g).state (mutex_guard_value g).log))
+        (in_each queue.old (λ g. kept (mutex_guard_value g).state (mutex_guard_value g).log)) }
     ensures table { pass_table pass.new ≡ N.table }
     ensures learns { Learns (pass_view pass.old) (pass_view pass.new) }
-    ensures noted { DpcsLeft N.script step.now.number step.now.plan.now.event step.now.plan.now.asks (pass_view pass.new) true true (in_each object.old (λ g. kept (mutex_guard_value g).state (mutex_guard_value g).log)) (in_each queue.old (λ g. kept (mutex_guard_value g).state (mutex_guard_value g).log)) }
+    ensures noted { DpcsLeft N.script step.now.number step.now.plan.now.event step.now.plan.now.asks
+        (pass_view pass.new) true true
+        (in_each object.old (λ g. kept (mutex_guard_value g).state (mutex_guard_value g).log))
+        (in_each queue.old (λ g. kept (mutex_guard_value g).state (mutex_guard_value g).log)) }
 {
     if let Some(object) = object {
         if let Some(queue) = queue {
@@ -231,11 +290,33 @@ fn touch_dpcs<N: Plan + Shared>(
 )
     requires table { (table_of marks.now ≡ N.table) × (pass_table pass.old ≡ N.table) }
     requires cpu { step.now.stand.now.cpu ≡ step.now.plan.now.event.cpu }
-    requires step { IsStep N.script (pass_view pass.old) step.now.number step.now.plan.now.event step.now.numbers.now step.now.plan.now.asks }
-    requires ready { DpcsReady N.script step.now.number step.now.plan.now.event step.now.numbers.now (is_touched (in_each (in_each object.old (λ g. kept (mutex_guard_value g).state (mutex_guard_value g).log)) object_name) step.now.plan.now.lanes) (is_touched (in_each (in_each queue.old (λ g. kept (mutex_guard_value g).state (mutex_guard_value g).log)) queue_name) step.now.plan.now.lanes) (in_each object.old (λ g. kept (mutex_guard_value g).state (mutex_guard_value g).log)) (in_each queue.old (λ g. kept (mutex_guard_value g).state (mutex_guard_value g).log)) }
+    requires step { IsStep N.script (pass_view pass.old) step.now.number step.now.plan.now.event
+        step.now.numbers.now step.now.plan.now.asks }
+    requires ready { DpcsReady N.script step.now.number step.now.plan.now.event step.now.numbers.now
+        (is_touched (in_each
+        (in_each object.old (λ g. kept (mutex_guard_value g).state (mutex_guard_value g).log))
+        object_name)
+        step.now.plan.now.lanes)
+        (is_touched (in_each
+        (in_each queue.old (λ g. kept (mutex_guard_value g).state (mutex_guard_value g).log))
+        queue_name)
+        step.now.plan.now.lanes)
+        (in_each object.old (λ g. kept (mutex_guard_value g).state (mutex_guard_value g).log))
+        (in_each queue.old (λ g. kept (mutex_guard_value g).state (mutex_guard_value g).log)) }
     ensures table { pass_table pass.new ≡ N.table }
     ensures learns { Learns (pass_view pass.old) (pass_view pass.new) }
-    ensures noted { DpcsLeft N.script step.now.number step.now.plan.now.event step.now.plan.now.asks (pass_view pass.new) (is_touched (in_each (in_each object.old (λ g. kept (mutex_guard_value g).state (mutex_guard_value g).log)) object_name) step.now.plan.now.lanes) (is_touched (in_each (in_each queue.old (λ g. kept (mutex_guard_value g).state (mutex_guard_value g).log)) queue_name) step.now.plan.now.lanes) (in_each object.old (λ g. kept (mutex_guard_value g).state (mutex_guard_value g).log)) (in_each queue.old (λ g. kept (mutex_guard_value g).state (mutex_guard_value g).log)) }
+    ensures noted { DpcsLeft N.script step.now.number step.now.plan.now.event step.now.plan.now.asks
+        (pass_view pass.new)
+        (is_touched (in_each
+        (in_each object.old (λ g. kept (mutex_guard_value g).state (mutex_guard_value g).log))
+        object_name)
+        step.now.plan.now.lanes)
+        (is_touched (in_each
+        (in_each queue.old (λ g. kept (mutex_guard_value g).state (mutex_guard_value g).log))
+        queue_name)
+        step.now.plan.now.lanes)
+        (in_each object.old (λ g. kept (mutex_guard_value g).state (mutex_guard_value g).log))
+        (in_each queue.old (λ g. kept (mutex_guard_value g).state (mutex_guard_value g).log)) }
 {
     let lanes = step.plan.lanes.as_slice();
     let with_object = object_touched::<N>(object, lanes);
@@ -257,11 +338,14 @@ impl<'l, 's, N: Plan + Shared> Locked<'l, 's, N> {
         requires table { (table_of marks.now ≡ N.table) × (pass_table pass.old ≡ N.table) }
         requires script { (step.now.script.now ≡ N.script) × IsTrue (fits N.script) }
         requires cpu { step.now.stand.now.cpu ≡ step.now.plan.now.event.cpu }
-        requires step { IsStep N.script (pass_view pass.old) step.now.number step.now.plan.now.event step.now.numbers.now step.now.plan.now.asks }
-        requires ready { AreReadyFor N.script step.now.number step.now.stand.now step.now.plan.now.event step.now.plan.now.lanes step.now.numbers.now self.old }
+        requires step { IsStep N.script (pass_view pass.old) step.now.number step.now.plan.now.event
+            step.now.numbers.now step.now.plan.now.asks }
+        requires ready { AreReadyFor N.script step.now.number step.now.stand.now
+            step.now.plan.now.event step.now.plan.now.lanes step.now.numbers.now self.old }
         ensures table { pass_table pass.new ≡ N.table }
         ensures learns { Learns (pass_view pass.old) (pass_view pass.new) }
-        ensures left { AreLeftBy N.script step.now.number step.now.stand.now step.now.plan.now.event step.now.plan.now.lanes step.now.plan.now.asks self.old (pass_view pass.new) }
+        ensures left { AreLeftBy N.script step.now.number step.now.stand.now step.now.plan.now.event
+            step.now.plan.now.lanes step.now.plan.now.asks self.old (pass_view pass.new) }
     {
         touch_dpcs::<N>(&mut self.object, &mut self.queue, marks, pass, step);
         touch_group::<N>(&mut self.group, marks, pass, step);

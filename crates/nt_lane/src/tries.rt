@@ -34,7 +34,8 @@ pub(crate) enum Tried {
     Again(Needs),
 }
 
-/// Draws the number of a plan's event, as touching the lanes of these numbers, and marks it for what it asks.
+/// Draws the number of a plan's event, as touching the lanes of these numbers, and marks it for
+/// what it asks.
 fn draw_plan<N: nt_event::Plan + Shared>(
     marks: &Marks,
     pass: &mut Pass,
@@ -43,12 +44,15 @@ fn draw_plan<N: nt_event::Plan + Shared>(
 ) -> u64
     requires table { (table_of marks.now ≡ N.table) × (pass_table pass.old ≡ N.table) }
     requires cpus { cpus_of marks.now ≡ N.script.cpus }
-    requires lanes { IsStrictlyIncreasing numbers.now × All (λ x. x < lanes_of marks.now) numbers.now }
+    requires lanes { IsStrictlyIncreasing numbers.now ×
+        All (λ x. x < lanes_of marks.now) numbers.now }
     requires room { 1 ≤ drawable_of marks.now (pass_view pass.old) }
     requires asks { All (AskFits N.script) plan.now.asks }
     ensures table { pass_table pass.new ≡ N.table }
-    ensures step { IsStep N.script (pass_view pass.new) result plan.now.event numbers.now plan.now.asks }
-    ensures made { HasMade result plan.now.event numbers.now plan.now.asks (pass_view pass.old) (pass_view pass.new) }
+    ensures step { IsStep N.script (pass_view pass.new) result plan.now.event
+        numbers.now plan.now.asks }
+    ensures made { HasMade result plan.now.event numbers.now plan.now.asks (pass_view pass.old)
+        (pass_view pass.new) }
 {
     let n = marks.draw(pass, &plan.event, numbers.as_slice());
     mark_all(marks, pass, n, plan.asks.as_slice());
@@ -67,7 +71,8 @@ fn make<'s, N: nt_event::Plan + Shared>(
 ) -> Acted
     requires script { (script.now ≡ N.script) × IsTrue (fits N.script) }
     requires table { (table_of marks.now ≡ N.table) × (pass_table pass.old ≡ N.table) }
-    requires marks { (cpus_of marks.now ≡ N.script.cpus) × (lanes_of marks.now ≡ lane_count N.script) }
+    requires marks { (cpus_of marks.now ≡ N.script.cpus) ×
+        (lanes_of marks.now ≡ lane_count N.script) }
     requires room { 1 ≤ drawable_of marks.now (pass_view pass.old) }
     requires job { IsTrue (job_fits N.script job.now) }
     requires stand { StandFits N.script stand.now }
@@ -75,7 +80,8 @@ fn make<'s, N: nt_event::Plan + Shared>(
     requires known { AreKnownBy locked.old (pass_view pass.old) }
     requires roomy { AreRoomy locked.old }
     ensures table { pass_table pass.new ≡ N.table }
-    ensures done { IsDone N.script stand.now job.now (pass_view pass.old) (pass_view pass.new) result }
+    ensures done { IsDone N.script stand.now job.now (pass_view pass.old)
+        (pass_view pass.new) result }
 {
     let _job = job;
     locked.there();
@@ -99,7 +105,8 @@ fn make<'s, N: nt_event::Plan + Shared>(
     }
 }
 
-/// Makes the event of the job in the states of the lanes that are held, or says which others it takes.
+/// Makes the event of the job in the states of the lanes that are held, or says which others it
+/// takes.
 ///
 /// The event is decided under the locks, and made only where each lane that it touches is held.
 pub(crate) fn try_under<'s, N: nt_event::Plan + Shared>(
@@ -112,12 +119,14 @@ pub(crate) fn try_under<'s, N: nt_event::Plan + Shared>(
 ) -> Tried
     requires script { (script.now ≡ N.script) × IsTrue (fits N.script) }
     requires table { (table_of marks.now ≡ N.table) × (pass_table pass.old ≡ N.table) }
-    requires marks { (cpus_of marks.now ≡ N.script.cpus) × (lanes_of marks.now ≡ lane_count N.script) }
+    requires marks { (cpus_of marks.now ≡ N.script.cpus) ×
+        (lanes_of marks.now ≡ lane_count N.script) }
     requires room { 1 ≤ drawable_of marks.now (pass_view pass.old) }
     requires job { IsTrue (job_fits N.script job.now) }
     requires stand { StandFits N.script stand.now }
     ensures table { pass_table pass.new ≡ N.table }
-    ensures tried { IsTried N.script stand.now job.now (pass_view pass.old) (pass_view pass.new) result }
+    ensures tried { IsTried N.script stand.now job.now (pass_view pass.old)
+        (pass_view pass.new) result }
 {
     let roomy = locked.prepare(marks, pass);
     locked.there();

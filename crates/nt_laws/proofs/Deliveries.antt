@@ -23,7 +23,8 @@ use Rattle.nt_event.specs.declared.numbers.DpcNo.{DpcNo}
 use Rattle.nt_event.specs.declared.numbers.ThreadNo.{ThreadNo}
 use Rattle.nt_event.specs.declared.scripts.Script.{Script}
 use Rattle.nt_event.specs.Apcs.{first_user, has_kernel, is_of_apc}
-use Rattle.nt_event.specs.Eligible.{ExpiryRequest, FlushRequest, IntRequest, KernelApcRequest, Request, UserApcRequest, apc_request, eligible, is_apc_pick, is_at_base, is_at_touser, is_eligible, is_first_dpc, request_of, same_key}
+use Rattle.nt_event.specs.Eligible.{ExpiryRequest, FlushRequest, IntRequest, KernelApcRequest, Request, UserApcRequest, apc_request, eligible, is_apc_pick}
+use Rattle.nt_event.specs.Eligible.{is_at_base, is_at_touser, is_eligible, is_first_dpc, request_of, same_key}
 use Rattle.nt_event.specs.Classes.{is_interrupt_level}
 use Rattle.nt_event.specs.Frames.{frames_of, innermost, is_base_body, is_on_thread, own_frames, running, thread_frames, thread_part}
 use Rattle.nt_event.specs.Jobs.{is_due, level_at, user_due}

@@ -132,10 +132,12 @@ one_busy : (s : Script) (limit : ℕ) (p : CpuNo) (past : List Event) (f g : Fra
 one_busy s limit p past f g r (inl c) (inl d) bf bg = one_own s p (own_frames p past) f g (own_locked s limit p past r) (parted s limit p past r).own c d bf bg
 one_busy s limit p past f g r (inl c) (inr d) bf bg =
     let w = runs_there s limit p past g r d in
-    absurd (one_side s p (own_frames p past) (thread_frames s p w.0 past) f g (own_locked s limit p past r) ((parted s limit p past r).over w.0 w.1) c w.2 bf bg)
+    absurd
+    (one_side s p (own_frames p past) (thread_frames s p w.0 past) f g (own_locked s limit p past r) ((parted s limit p past r).over w.0 w.1) c w.2 bf bg)
 one_busy s limit p past f g r (inr c) (inl d) bf bg =
     let w = runs_there s limit p past f r c in
-    absurd (one_side s p (own_frames p past) (thread_frames s p w.0 past) g f (own_locked s limit p past r) ((parted s limit p past r).over w.0 w.1) d w.2 bg bf)
+    absurd
+    (one_side s p (own_frames p past) (thread_frames s p w.0 past) g f (own_locked s limit p past r) ((parted s limit p past r).over w.0 w.1) d w.2 bg bf)
 one_busy s limit p past f g r (inr c) (inr d) bf bg =
     let v = runs_there s limit p past f r c in
     let w = runs_there s limit p past g r d in

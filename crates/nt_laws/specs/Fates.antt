@@ -1,6 +1,7 @@
 -- The fate of inserts in a run.
 use Rattle.std.specs.List.{Contains}
-use Rattle.std.specs.Prelude.{Bool, List, None, Option, Some, [], false, filter, if◌then◌else◌, is_some, length, map, true, ℕ, ◌&&◌, ◌<◌, ◌==◌, ◌∷◌, ◌≡◌, ◌≤◌}
+use Rattle.std.specs.Prelude.{Bool, List, None, Option, Some, [], false, filter, if◌then◌else◌, is_some, length, map}
+use Rattle.std.specs.Prelude.{true, ℕ, ◌&&◌, ◌<◌, ◌==◌, ◌∷◌, ◌≡◌, ◌≤◌}
 use Rattle.nt_event.specs.declared.events.Begun.TheVariants.{Apc, Dpc, Threaded, Int}
 use Rattle.nt_event.specs.declared.events.Event.{Event}
 use Rattle.nt_event.specs.declared.events.What.{What}
@@ -22,7 +23,8 @@ use Rattle.nt_event.specs.Script.{fits, has_apc, has_dpc, has_thread}
 use Rattle.nt_event.specs.Step.{IsRun}
 use Rattle.nt_event.specs.Waits.{facts}
 use Rattle.nt_event.specs.Replies.{is_refused, yes_if}
-use Rattle.nt_event.specs.Families.{AddApc, ApcCall, DpcCall, GiveImportance, GiveTarget, InsertDpc, RemoveDpc, TakeApc, by_apc_call, by_dpc_call, in_begin, in_call, in_flush}
+use Rattle.nt_event.specs.Families.{AddApc, ApcCall, DpcCall, GiveImportance, GiveTarget, InsertDpc, RemoveDpc, TakeApc}
+use Rattle.nt_event.specs.Families.{by_apc_call, by_dpc_call, in_begin, in_call, in_flush}
 use Rattle.nt_event.specs.declared.events.Begun.{Begun}
 use Rattle.nt_event.specs.declared.commands.Reply.{Reply}
 
@@ -103,7 +105,8 @@ AtMostOnePendingInsert = (s : Script) (limit : ℕ) (d : DpcNo) (past : List Eve
 abbrev pub delivers : Thing → ℕ → What → Bool
 delivers (DpcThing d) n w = in_begin (λ b from. is_dpc (dpc_begun b) d && (from == n)) false w
 delivers (ApcThing a) n w =
-    in_begin (λ b from. is_apc (apc_begun b) a && (from == n)) (in_flush (λ x from. (x.0 == a.0) && (from == n)) false w) w
+    in_begin (λ b from. is_apc (apc_begun b) a && (from == n))
+    (in_flush (λ x from. (x.0 == a.0) && (from == n)) false w) w
 
 -- where it is a DPC object, the script has it
 abbrev pub is_declared : Script → Thing → Bool

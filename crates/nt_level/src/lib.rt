@@ -1,10 +1,11 @@
 //! The interrupt request levels (IRQL) of the NT kernel on x64.
 //!
-//! A level is a number of 0 to 15 that belongs to a processor: while a processor is at a level, no request at that level
-//! or below begins on it. [`Level::allows`] is that rule. Contracts see a [`Level`] as its number.
+//! A level is a number of 0 to 15 that belongs to a processor: while a processor is at a level, no
+//! request at that level or below begins on it. [`Level::allows`] is that rule. Contracts see a
+//! [`Level`] as its number.
 //!
-//! Sources: Windows Internals, "Interrupt request levels (IRQLs)"; the driver documentation, "Managing Hardware
-//! Priorities".
+//! Sources: Windows Internals, "Interrupt request levels (IRQLs)"; the driver documentation,
+//! "Managing Hardware Priorities".
 #![tactic(auto)]
 
 use std::marker::Model;
@@ -95,7 +96,8 @@ impl Level {
         self.number >= 3 && self.number <= 11
     }
 
-    /// Whether a request at this other level may begin on a processor at this level: exactly where it is above.
+    /// Whether a request at this other level may begin on a processor at this level: exactly where
+    /// it is above.
     pub fn allows(self, request: Level) -> bool
         ensures { IsTrue result ↔ (self < request) }
     {

@@ -1,5 +1,6 @@
 -- A field that is read is spelled so, and what is spelled so is read: numbers and words.
-use Rattle.std.proofs.Common.{◌≡◌, ℕ, ◌^◌, ◌<◌, ◌≤◌, Bool, true, false, cond, List, [], ◌∷◌, Option, Some, None, Result, Ok, Err, refl, ◌∙◌, ap, subst, arith, lit<}
+use Rattle.std.proofs.Common.{◌≡◌, ℕ, ◌^◌, ◌<◌, ◌≤◌, Bool, true, false, cond, List, [], ◌∷◌, Option, Some, None, Result, Ok, Err, refl, ◌∙◌, ap, subst, arith}
+use Rattle.std.proofs.Common.{lit<}
 use Rattle.std.specs.Prelude.{codes, decimal, nat_lt, IfSome, find}
 use Rattle.std.specs.Str.{bytes_eq}
 use Rattle.std.proofs.lemmas.Bool.{ltb-true, lt-ltb}
@@ -16,7 +17,8 @@ use Rattle.nt_event.specs.declared.commands.Mode.TheVariants.{Kernel, User}
 use Rattle.nt_event.specs.Classes.{is_requested_level, is_isr_level}
 use Rattle.nt_line.specs.declared.fields.TheConstants.{IMPORTANCES}
 use Rattle.nt_line.specs.Results.{◌>>=◌, ok_if}
-use Rattle.nt_line.specs.Fields.{own, read_number, read_level, read_interrupt, read_isr_level, read_cpu, read_unless, read_target, importance_text, read_importance, mode_text, read_mode, flag_text, read_flag, alertable_text, read_alertable, on_off_text, read_on_off}
+use Rattle.nt_line.specs.Fields.{own, read_number, read_level, read_interrupt, read_isr_level, read_cpu, read_unless, read_target, importance_text}
+use Rattle.nt_line.specs.Fields.{read_importance, mode_text, read_mode, flag_text, read_flag, alertable_text, read_alertable, on_off_text, read_on_off}
 use Rattle.nt_line.specs.Rows.{show_cpu, show_unless, show_target}
 use Rattle.nt_line.proofs.Results.{bind_ok, or_error_ok, ok_if_ok}
 

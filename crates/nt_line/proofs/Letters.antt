@@ -25,9 +25,10 @@ same_letter : (letter : ℕ) (more text : List ℕ) → bytes_eq (letter ∷ mor
 same_letter letter more [] e = absurd cc
 same_letter letter more (c ∷ text) e = first_of_both _ _ e
 
-pub among_letter : (letter : ℕ) (more : List ℕ) (keywords : List Keyword) → find (λ w. bytes_eq (letter ∷ more) (text_of w)) (filter (begins_with letter) keywords)
-    ≡ find (λ w. bytes_eq (letter ∷ more) (text_of w)) keywords
-among_letter letter more keywords = find-filter (λ w. bytes_eq (letter ∷ more) (text_of w)) (begins_with letter) (λ w. same_letter letter more (text_of w)) keywords
+pub among_letter : (letter : ℕ) (more : List ℕ) (keywords : List Keyword) →
+    find (λ w. bytes_eq (letter ∷ more) (text_of w)) (filter (begins_with letter) keywords) ≡ find (λ w. bytes_eq (letter ∷ more) (text_of w)) keywords
+among_letter letter more keywords =
+    find-filter (λ w. bytes_eq (letter ∷ more) (text_of w)) (begins_with letter) (λ w. same_letter letter more (text_of w)) keywords
 
 pub among_field : (field : List ℕ) (d : ℕ) → 1 ≤ length field → find (λ w. bytes_eq field (text_of w)) (filter (begins_with (get_or field 0 d)) KEYWORDS)
     ≡ find (λ w. bytes_eq field (text_of w)) KEYWORDS

@@ -31,7 +31,8 @@ use Rattle.nt_line.specs.Fits.{IsrFits, DpcFits, TimerFits, ThreadFits, ApcFits,
 use Rattle.nt_text.specs.Lines.{Row}
 use Rattle.nt_line.specs.Rows.{show_unless, command_verb, command_args, isr_args, dpc_args, timer_args, thread_args, apc_args}
 use Rattle.nt_line.proofs.Results.{bind_ok}
-use Rattle.nt_line.proofs.FieldTexts.{Takes, number_takes, level_takes, interrupt_takes, isr_level_takes, cpu_takes, target_takes, importance_takes, mode_takes, alertable_takes, number_again, importance_again, target_again, cpu_again, mode_again, alertable_again}
+use Rattle.nt_line.proofs.FieldTexts.{Takes, number_takes, level_takes, interrupt_takes, isr_level_takes, cpu_takes, target_takes, importance_takes, mode_takes}
+use Rattle.nt_line.proofs.FieldTexts.{alertable_takes, number_again, importance_again, target_again, cpu_again, mode_again, alertable_again}
 use Rattle.nt_line.proofs.UsedNames.{AreFew, dpc_takes, timer_takes, thread_takes, apc_takes, lock_takes, routine_takes, timer_dpc_takes, rundown_takes}
 
 -- a keyword and the fields behind it, or behind the name, are those of a thing, which fits

@@ -1,5 +1,6 @@
 -- A name that is read is that of the thing, and a thing's name is read as the thing.
-use Rattle.std.proofs.Common.{◌≡◌, ℕ, suc, ◌+◌, ◌<◌, ◌≤◌, Bool, true, false, cond, List, [], ◌∷◌, length, get_or, Option, Some, None, Result, Ok, Err, refl, ◌∙◌, ap, arith, subst}
+use Rattle.std.proofs.Common.{◌≡◌, ℕ, suc, ◌+◌, ◌<◌, ◌≤◌, Bool, true, false, cond, List, [], ◌∷◌, length, get_or, Option, Some, None, Result, Ok, Err, refl}
+use Rattle.std.proofs.Common.{◌∙◌, ap, arith, subst}
 use Rattle.std.specs.Prelude.{option_map, is_some, IfSome}
 use Rattle.std.specs.Str.{bytes_eq}
 use Rattle.std.specs.List.{position_from}
@@ -16,9 +17,11 @@ use Rattle.nt_event.specs.declared.numbers.RoutineNo.{RoutineNo}
 use Rattle.nt_line.specs.declared.names.Named.{Named}
 use Rattle.nt_line.specs.declared.names.Named.TheVariants as named
 use Rattle.nt_line.specs.Places.{place}
-use Rattle.nt_line.specs.NameLists.{NameLists, meaning, number, dpc_at, timer_at, thread_at, apc_at, lock_at, routine_at, or_else, show_dpc, show_timer, show_thread, show_apc, show_lock, show_routine}
+use Rattle.nt_line.specs.NameLists.{NameLists, meaning, number, dpc_at, timer_at, thread_at, apc_at, lock_at, routine_at, or_else, show_dpc, show_timer}
+use Rattle.nt_line.specs.NameLists.{show_thread, show_apc, show_lock, show_routine}
 use Rattle.nt_line.specs.Results.{◌>>=◌, or_error}
-use Rattle.nt_line.specs.Fields.{dash, used, as_dpc, as_timer, as_thread, as_apc, as_lock, as_routine, read_dpc, read_timer, read_thread, read_apc, read_lock, read_routine, read_timer_dpc, read_rundown, new_name}
+use Rattle.nt_line.specs.Fields.{dash, used, as_dpc, as_timer, as_thread, as_apc, as_lock, as_routine, read_dpc, read_timer, read_thread, read_apc, read_lock}
+use Rattle.nt_line.specs.Fields.{read_routine, read_timer_dpc, read_rundown, new_name}
 use Rattle.nt_line.specs.Rows.{show_unless}
 use Rattle.nt_line.proofs.Results.{bind_ok, or_error_ok}
 use Rattle.nt_line.proofs.FieldTexts.{Takes, same_text, unless_takes}

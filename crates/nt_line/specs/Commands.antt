@@ -8,7 +8,8 @@ use Rattle.nt_line.specs.declared.keywords.Verb.{Verb}
 use Rattle.nt_line.specs.declared.keywords.Verb.TheVariants as verb
 use Rattle.nt_line.specs.NameLists.{NameLists}
 use Rattle.nt_line.specs.Results.{◌>>=◌}
-use Rattle.nt_line.specs.Fields.{read_number, read_level, read_interrupt, read_cpu, read_target, read_importance, read_mode, read_alertable, read_dpc, read_timer, read_thread, read_apc, read_lock}
+use Rattle.nt_line.specs.Fields.{read_number, read_level, read_interrupt, read_cpu, read_target, read_importance}
+use Rattle.nt_line.specs.Fields.{read_mode, read_alertable, read_dpc, read_timer, read_thread, read_apc, read_lock}
 
 -- the next field, which has to be there
 abbrev pub next_field : {A : Type 0} → (List ℕ → Result A ScriptKind) → List (List ℕ) → Result A ScriptKind

@@ -1,8 +1,10 @@
 -- What a field may be, and what it is then.
-use Rattle.std.specs.Prelude.{ℕ, Bool, true, false, List, Option, Some, None, Result, Ok, Err, codes, find, is_some, nat_lt, if◌then◌else◌}
+use Rattle.std.specs.Prelude.{ℕ, Bool, true, false, List, Option, Some, None, Result, Ok, Err, codes, find, is_some}
+use Rattle.std.specs.Prelude.{nat_lt, if◌then◌else◌}
 use Rattle.std.specs.Str.{bytes_eq}
 use Rattle.nt_text.specs.declared.kind.ScriptKind.{ScriptKind}
-use Rattle.nt_text.specs.declared.kind.ScriptKind.TheVariants.{BadNumber, BadName, UnknownName, WrongKind, UnknownWord, NameTwice}
+use Rattle.nt_text.specs.declared.kind.ScriptKind.TheVariants.{BadNumber, BadName, UnknownName, WrongKind, UnknownWord}
+use Rattle.nt_text.specs.declared.kind.ScriptKind.TheVariants.{NameTwice}
 use Rattle.nt_text.specs.Fields.{number_up_to, is_name}
 use Rattle.nt_event.specs.declared.numbers.CpuNo.{CpuNo}
 use Rattle.nt_event.specs.declared.numbers.DpcNo.{DpcNo}

@@ -7,9 +7,12 @@ use Rattle.nt_line.specs.declared.names.Kind.TheVariants as kind
 use Rattle.nt_line.specs.declared.keywords.Verb.{Verb}
 use Rattle.nt_line.specs.declared.keywords.Verb.TheVariants as verb
 use Rattle.nt_line.specs.declared.keywords.Keyword.{Keyword}
-use Rattle.nt_line.specs.declared.keywords.Keyword.TheVariants.{Version, Cpus, Depth, Threaded, Isr, Dpc, Timer, Thread, Apc, Spinlock, Routine, Exit, Call}
+use Rattle.nt_line.specs.declared.keywords.Keyword.TheVariants.{Version, Cpus, Depth, Threaded, Isr, Dpc, Timer, Thread}
+use Rattle.nt_line.specs.declared.keywords.Keyword.TheVariants.{Apc, Spinlock, Routine, Exit, Call}
 use Rattle.nt_line.specs.declared.keywords.Place.{Place}
-use Rattle.nt_line.specs.declared.keywords.Place.TheVariants.{Start, HasVersion, HasCpus, HasDepth, HasThreaded, InIsrs, InDpcs, InTimers, InThreads, InApcs, InLocks, InRoutines, InRoutine}
+use Rattle.nt_line.specs.declared.keywords.Place.TheVariants.{Start, HasVersion, HasCpus, HasDepth, HasThreaded, InIsrs}
+use Rattle.nt_line.specs.declared.keywords.Place.TheVariants.{InDpcs, InTimers, InThreads, InApcs, InLocks, InRoutines}
+use Rattle.nt_line.specs.declared.keywords.Place.TheVariants.{InRoutine}
 use Rattle.nt_line.specs.declared.keywords.TheConstants.{KEYWORDS}
 
 abbrev pub verb_text : Verb → List ℕ

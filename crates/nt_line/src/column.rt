@@ -17,7 +17,8 @@ impl Model for Column {
 }
 
 impl Column {
-    ghost use Rattle.std.specs.Prelude.{◌≡◌, ◌<◌, [], ◌∷◌, ◌++◌, length, slice_index_or, IfOk, OnOk, OnErr, is_some, if◌then◌else◌};
+    ghost use Rattle.std.specs.Prelude.{◌≡◌, ◌<◌, [], ◌∷◌, ◌++◌, length, slice_index_or, IfOk};
+    ghost use Rattle.std.specs.Prelude.{OnOk, OnErr, is_some, if◌then◌else◌};
     ghost use Rattle.nt_line.specs.Places.{place, placed};
 
     pub fn new(alloc: Global) -> Column

@@ -1,7 +1,9 @@
 //! The command of a line in a routine.
 ghost use Rattle.std.specs.Prelude.{◌≡◌, IfOk};
 ghost use Rattle.nt_event.specs.declared.commands.Command.TheVariants as cmd;
-ghost use Rattle.nt_line.specs.Fields.{read_number, read_interrupt, read_cpu, read_target, read_importance, read_mode, read_alertable, read_dpc, read_timer, read_thread};
+ghost use Rattle.nt_line.specs.Fields.{read_number, read_interrupt, read_cpu, read_target};
+ghost use Rattle.nt_line.specs.Fields.{read_importance, read_mode, read_alertable, read_dpc};
+ghost use Rattle.nt_line.specs.Fields.{read_timer, read_thread};
 ghost use Rattle.nt_line.specs.Keywords.{verb_arity};
 ghost use Rattle.nt_line.specs.Commands.{read2, read3, behind, command_of};
 
@@ -30,7 +32,8 @@ fn set_target(names: &Names, cpus: u8, args: &mut Fields) -> Result<Command, Scr
 }
 
 fn set_timer(names: &Names, args: &mut Fields) -> Result<Command, ScriptKind>
-    ensures value { result ≡ read3 (read_timer names.now) (read_number 4294967295) (read_number 4294967295) cmd.SetTimer args.old }
+    ensures value { result ≡ read3 (read_timer names.now) (read_number 4294967295)
+        (read_number 4294967295) cmd.SetTimer args.old }
     ensures rest { IfOk result (λ c. args.new ≡ behind 3 args.old) }
 {
     let timer = fields::timer(names, args.need()?)?;
@@ -49,7 +52,8 @@ fn start_wait(args: &mut Fields) -> Result<Command, ScriptKind>
 }
 
 fn delay(args: &mut Fields) -> Result<Command, ScriptKind>
-    ensures value { result ≡ read3 read_mode read_alertable (read_number 4294967295) cmd.Delay args.old }
+    ensures value { result
+        ≡ read3 read_mode read_alertable (read_number 4294967295) cmd.Delay args.old }
     ensures rest { IfOk result (λ c. args.new ≡ behind 3 args.old) }
 {
     let mode = fields::mode(args.need()?)?;
@@ -76,8 +80,9 @@ fn interrupt(cpus: u8, args: &mut Fields) -> Result<Command, ScriptKind>
     Ok(Command::Interrupt(cpu, level))
 }
 
-/// The command of a verb and the fields behind it. The fields are tested from left to right; MissingField comes at the first
-/// that is not there. After the command stand the fields that are left.
+/// The command of a verb and the fields behind it. The fields are tested from left to right;
+/// MissingField comes at the first that is not there. After the command stand the fields that are
+/// left.
 pub fn command(
     names: &Names,
     cpus: u8,

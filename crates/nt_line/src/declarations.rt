@@ -46,8 +46,8 @@ pub fn thread(names: &Names, cpus: u8, args: &mut Fields) -> Result<ThreadDecl, 
     Ok(ThreadDecl { cpu, routine })
 }
 
-/// An APC object: thread, kernel routine; of a normal or user one the normal routine; of a user one the rundown routine or
-/// none.
+/// An APC object: thread, kernel routine; of a normal or user one the normal routine; of a user one
+/// the rundown routine or none.
 pub fn apc(names: &Names, kind: ApcKind, args: &mut Fields) -> Result<ApcDecl, ScriptKind>
     ensures { result ≡ apc_of names.now kind args.old }
 {

@@ -1,11 +1,17 @@
-//! What may stand in a field of a line, one function for each kind of field. Each tests in the order of the refusals.
+//! What may stand in a field of a line, one function for each kind of field. Each tests in the
+//! order of the refusals.
 ghost use Rattle.std.specs.Prelude.{◌≡◌, ◌≤◌, find, IfOk, None};
 ghost use Rattle.std.specs.Str.{bytes_eq};
 ghost use Rattle.std.specs.Result.{result_map_both};
 ghost use Rattle.nt_line.specs.NameLists.{meaning};
 ghost use Rattle.nt_event.specs.Classes.{is_requested_level, is_isr_level};
-ghost use Rattle.nt_line.specs.Fields.{read_number, read_level, read_interrupt, read_isr_level, read_cpu, read_target, read_importance, read_mode, read_alertable, read_on_off, read_flag, importance_text, mode_text, alertable_text, on_off_text};
-ghost use Rattle.nt_line.specs.Fields.{used, read_dpc, read_timer, read_thread, read_apc, read_lock, read_routine, read_timer_dpc, read_rundown, new_name};
+ghost use Rattle.nt_line.specs.Fields.{read_number, read_level, read_interrupt, read_isr_level};
+ghost use Rattle.nt_line.specs.Fields.{read_cpu, read_target, read_importance, read_mode};
+ghost use Rattle.nt_line.specs.Fields.{read_alertable, read_on_off, read_flag, importance_text};
+ghost use Rattle.nt_line.specs.Fields.{mode_text, alertable_text, on_off_text};
+ghost use Rattle.nt_line.specs.Fields.{used, read_dpc, read_timer, read_thread, read_apc};
+ghost use Rattle.nt_line.specs.Fields.{read_lock, read_routine, read_timer_dpc, read_rundown};
+ghost use Rattle.nt_line.specs.Fields.{new_name};
 
 use crate::names::{Named, Names};
 use nt_event::{

@@ -3,7 +3,9 @@ ghost use Rattle.std.specs.Prelude.{◌≡◌, filter, find};
 ghost use Rattle.std.specs.Str.{bytes_eq};
 ghost use Rattle.nt_line.specs.declared.keywords.TheConstants.{KEYWORDS};
 ghost use Rattle.nt_line.specs.Letters.{begins_with};
-ghost use Rattle.nt_line.specs.Keywords.{verb_text, verb_arity, verb_since, text_of, word_of, keyword_of, arity, since, declaring, order, earliest, latest, stands};
+ghost use Rattle.nt_line.specs.Keywords.{verb_text, verb_arity, verb_since, text_of, word_of};
+ghost use Rattle.nt_line.specs.Keywords.{keyword_of, arity, since, declaring, order, earliest};
+ghost use Rattle.nt_line.specs.Keywords.{latest, stands};
 
 use crate::names::Kind;
 use nt_event::ApcKind;
@@ -484,7 +486,8 @@ fn search(keywords: &[Keyword], field: &[u8]) -> Option<Keyword>
         .find(|keyword| is_word(field, keyword.text()))
 }
 
-/// The keyword that a field is, of whatever version. Only those with its first letter are compared with it.
+/// The keyword that a field is, of whatever version. Only those with its first letter are compared
+/// with it.
 #[tactic(auto, unfolding(crate::specs::Keywords::word_of))]
 fn word_of(field: &[u8]) -> Option<Keyword>
     ensures { result ≡ word_of field.now }
@@ -495,7 +498,8 @@ fn word_of(field: &[u8]) -> Option<Keyword>
     }
 }
 
-/// The keyword that a field is in texts of a version: version 1 has none of `version`, `spinlock`, `acquire` and `unlock`.
+/// The keyword that a field is in texts of a version: version 1 has none of `version`, `spinlock`,
+/// `acquire` and `unlock`.
 pub fn keyword_of(version: u8, field: &[u8]) -> Option<Keyword>
     ensures { result ≡ keyword_of version field.now }
 {

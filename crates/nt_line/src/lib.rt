@@ -1,9 +1,11 @@
 //! One line of a script: its keyword, the fields behind it, and the names of the script's things.
 //!
-//! A line begins with a [`Keyword`]; [`fields`] says what each field behind it may be, [`command`] and [`declarations`] read
-//! what the fields of a line say, and the `put_` calls print such a line. [`Names`] are the names of a script's things. The
-//! grammar of a line is in `specs::Rows`: the row of fields of a command and of what is declared; reading is a function of the
-//! fields (`specs::Fields`, `specs::Commands`, `specs::Declarations`). How lines make a script is the crate `nt_script`.
+//! A line begins with a [`Keyword`]; [`fields`] says what each field behind it may be, [`command`]
+//! and [`declarations`] read what the fields of a line say, and the `put_` calls print such a line.
+//! [`Names`] are the names of a script's things. The grammar of a line is in `specs::Rows`: the row
+//! of fields of a command and of what is declared; reading is a function of the fields
+//! (`specs::Fields`, `specs::Commands`, `specs::Declarations`). How lines make a script is the
+//! crate `nt_script`.
 #![tactic(auto)]
 
 mod column;

@@ -38,8 +38,9 @@ pub enum Named {
     Routine(RoutineNo),
 }
 
-/// The names of a script: for each kind of thing the list of them in order of declaration, so that the name of a thing stands
-/// at its number. Contracts see a record of six lists of names, each name a list of bytes.
+/// The names of a script: for each kind of thing the list of them in order of declaration, so that
+/// the name of a thing stands at its number. Contracts see a record of six lists of names, each
+/// name a list of bytes.
 #[derive(Drop)]
 pub struct Names {
     dpcs: Column,
@@ -55,13 +56,21 @@ impl Model for Names {
 
     ghost Value = { NameLists };
 
-    ghost view = { λ a. record { dpcs = a.dpcs; timers = a.timers; threads = a.threads; apcs = a.apcs; locks = a.locks; routines = a.routines } };
+    ghost view = { λ a. record {
+      dpcs = a.dpcs;
+      timers = a.timers;
+      threads = a.threads;
+      apcs = a.apcs;
+      locks = a.locks;
+      routines = a.routines;
+    } };
 }
 
 ghost use Rattle.std.specs.Prelude.{◌≡◌};
 ghost use Rattle.nt_line.specs.NameLists.{number};
 
-/// A place as a number of its kind. No script has so many things of a kind that this is another number.
+/// A place as a number of its kind. No script has so many things of a kind that this is another
+/// number.
 fn number(place: usize) -> u16
     ensures { result ≡ number place }
 {
@@ -71,8 +80,11 @@ fn number(place: usize) -> u16
 impl Names {
     ghost use Rattle.std.specs.Prelude.{◌≡◌, ◌<◌, length, option_map, OnOk, None};
     ghost use Rattle.nt_line.specs.Places.{place};
-    ghost use Rattle.nt_line.specs.NameLists.{show_dpc, show_timer, show_thread, show_apc, show_lock, show_routine};
-    ghost use Rattle.nt_line.specs.NameLists.{no_names, routine_at, meaning, timer_or_later, thread_or_later, apc_or_later, lock_or_routine, declared, with_name};
+    ghost use Rattle.nt_line.specs.NameLists.{show_dpc, show_timer, show_thread, show_apc};
+    ghost use Rattle.nt_line.specs.NameLists.{show_lock, show_routine};
+    ghost use Rattle.nt_line.specs.NameLists.{no_names, routine_at, meaning, timer_or_later};
+    ghost use Rattle.nt_line.specs.NameLists.{thread_or_later, apc_or_later, lock_or_routine};
+    ghost use Rattle.nt_line.specs.NameLists.{declared, with_name};
 
     /// No names.
     pub fn new(alloc: Global) -> Names

@@ -3,9 +3,14 @@ ghost use Rattle.std.specs.Prelude.{◌≡◌, ◌<◌, ◌∷◌, ◌++◌, [],
 ghost use Rattle.std.specs.List.{join_with_byte};
 ghost use Rattle.nt_text.specs.Lines.{row_text, spaced};
 ghost use Rattle.nt_line.specs.Fields.{dash, mode_text, alertable_text};
-ghost use Rattle.nt_line.specs.NameLists.{show_dpc, show_timer, show_thread, show_apc, show_routine};
-ghost use Rattle.nt_line.specs.Fits.{IsrFits, DpcFits, TimerFits, ThreadFits, ApcFits, CommandNamed};
-ghost use Rattle.nt_line.specs.Rows.{show_target, show_unless, command_verb, command_args, command_row, isr_args, isr_row, dpc_args, dpc_row, timer_args, timer_row, thread_args, thread_row, normal_args, rundown_args, apc_args, apc_row};
+ghost use Rattle.nt_line.specs.NameLists.{show_dpc, show_timer, show_thread, show_apc};
+ghost use Rattle.nt_line.specs.NameLists.{show_routine};
+ghost use Rattle.nt_line.specs.Fits.{IsrFits, DpcFits, TimerFits, ThreadFits, ApcFits};
+ghost use Rattle.nt_line.specs.Fits.{CommandNamed};
+ghost use Rattle.nt_line.specs.Rows.{show_target, show_unless, command_verb, command_args};
+ghost use Rattle.nt_line.specs.Rows.{command_row, isr_args, isr_row, dpc_args, dpc_row, timer_args};
+ghost use Rattle.nt_line.specs.Rows.{timer_row, thread_args, thread_row, normal_args, rundown_args};
+ghost use Rattle.nt_line.specs.Rows.{apc_args, apc_row};
 
 use crate::fields::{alertable_text, importance_text, mode_text};
 use crate::keywords::{Keyword, Verb};
@@ -63,7 +68,8 @@ fn verb_of(command: &Command) -> Verb
 
 /// Adds the fields of a wait.
 fn put_wait(out: &mut Vec<u8>, mode: Mode, alertable: bool) -> Result<(), AllocError>
-    ensures { OnOk result (out.new.items ≡ out.old.items ++ spaced (mode_text mode ∷ alertable_text alertable ∷ [])) }
+    ensures { OnOk result
+        (out.new.items ≡ out.old.items ++ spaced (mode_text mode ∷ alertable_text alertable ∷ [])) }
 {
     put_field(out, mode_text(mode))?;
     put_field(out, alertable_text(alertable))
@@ -73,7 +79,8 @@ fn put_wait(out: &mut Vec<u8>, mode: Mode, alertable: bool) -> Result<(), AllocE
 #[inline(always)]
 fn put_args(out: &mut Vec<u8>, names: &Names, command: &Command) -> Result<(), AllocError>
     requires { CommandNamed names.now command.now }
-    ensures { OnOk result (out.new.items ≡ out.old.items ++ spaced (command_args names.now command.now)) }
+    ensures { OnOk result
+        (out.new.items ≡ out.old.items ++ spaced (command_args names.now command.now)) }
 {
     match command {
         Command::Raise(level) => put_number(out, u64::from(level.number())),
@@ -124,11 +131,13 @@ fn put_args(out: &mut Vec<u8>, names: &Names, command: &Command) -> Result<(), A
     }
 }
 
-/// Adds a command: its keyword and what stands behind it, with one space between two fields and no line end.
+/// Adds a command: its keyword and what stands behind it, with one space between two fields and no
+/// line end.
 #[inline(always)]
 pub fn put_command(out: &mut Vec<u8>, names: &Names, command: &Command) -> Result<(), AllocError>
     requires { CommandNamed names.now command.now }
-    ensures { OnOk result (out.new.items ≡ out.old.items ++ join_with_byte 32 (command_row names.now command.now)) }
+    ensures { OnOk result
+        (out.new.items ≡ out.old.items ++ join_with_byte 32 (command_row names.now command.now)) }
 {
     out.extend_from_slice(verb_of(command).text())?;
     put_args(out, names, command)?;
@@ -160,7 +169,8 @@ pub fn put_isr(out: &mut Vec<u8>, names: &Names, cpus: u8, isr: &Isr) -> Result<
 fn put_dpc_args(out: &mut Vec<u8>, names: &Names, d: DpcNo, dpc: &DpcDecl) -> Result<(), AllocError>
     requires named { d.0 < length names.now.dpcs }
     requires fits { DpcFits names.now dpc.now }
-    ensures { OnOk result (out.new.items ≡ out.old.items ++ spaced (show_dpc names.now d ∷ dpc_args names.now dpc.now)) }
+    ensures { OnOk result (out.new.items
+        ≡ out.old.items ++ spaced (show_dpc names.now d ∷ dpc_args names.now dpc.now)) }
 {
     put_field(out, names.dpc(d).as_bytes())?;
     put_field(out, names.routine(dpc.routine).as_bytes())
@@ -170,7 +180,8 @@ fn put_dpc_args(out: &mut Vec<u8>, names: &Names, d: DpcNo, dpc: &DpcDecl) -> Re
 pub fn put_dpc(out: &mut Vec<u8>, names: &Names, d: DpcNo, dpc: &DpcDecl) -> Result<(), AllocError>
     requires named { d.0 < length names.now.dpcs }
     requires fits { DpcFits names.now dpc.now }
-    ensures { OnOk result (out.new.items ≡ out.old.items ++ row_text (dpc_row names.now (show_dpc names.now d) dpc.now)) }
+    ensures { OnOk result (out.new.items
+        ≡ out.old.items ++ row_text (dpc_row names.now (show_dpc names.now d) dpc.now)) }
 {
     out.extend_from_slice(Keyword::Dpc {
         threaded: dpc.threaded,
@@ -184,7 +195,8 @@ pub fn put_dpc(out: &mut Vec<u8>, names: &Names, d: DpcNo, dpc: &DpcDecl) -> Res
 /// Adds the DPC object of a timer, `-` for none.
 fn put_timer_dpc(out: &mut Vec<u8>, names: &Names, timer: &TimerDecl) -> Result<(), AllocError>
     requires { TimerFits names.now timer.now }
-    ensures { OnOk result (out.new.items ≡ out.old.items ++ spaced (timer_args names.now timer.now)) }
+    ensures { OnOk result
+        (out.new.items ≡ out.old.items ++ spaced (timer_args names.now timer.now)) }
 {
     match timer.dpc {
         Some(d) => put_field(out, names.dpc(d).as_bytes()),
@@ -201,7 +213,8 @@ fn put_timer_args(
 ) -> Result<(), AllocError>
     requires named { t.0 < length names.now.timers }
     requires fits { TimerFits names.now timer.now }
-    ensures { OnOk result (out.new.items ≡ out.old.items ++ spaced (show_timer names.now t ∷ timer_args names.now timer.now)) }
+    ensures { OnOk result (out.new.items
+        ≡ out.old.items ++ spaced (show_timer names.now t ∷ timer_args names.now timer.now)) }
 {
     put_field(out, names.timer(t).as_bytes())?;
     put_timer_dpc(out, names, timer)
@@ -216,7 +229,8 @@ pub fn put_timer(
 ) -> Result<(), AllocError>
     requires named { t.0 < length names.now.timers }
     requires fits { TimerFits names.now timer.now }
-    ensures { OnOk result (out.new.items ≡ out.old.items ++ row_text (timer_row names.now (show_timer names.now t) timer.now)) }
+    ensures { OnOk result (out.new.items
+        ≡ out.old.items ++ row_text (timer_row names.now (show_timer names.now t) timer.now)) }
 {
     out.extend_from_slice(Keyword::Timer.text())?;
     put_timer_args(out, names, t, timer)?;
@@ -234,7 +248,8 @@ fn put_thread_args(
 ) -> Result<(), AllocError>
     requires named { t.0 < length names.now.threads }
     requires fits { ThreadFits names.now cpus thread.now }
-    ensures { OnOk result (out.new.items ≡ out.old.items ++ spaced (show_thread names.now t ∷ thread_args names.now thread.now)) }
+    ensures { OnOk result (out.new.items
+        ≡ out.old.items ++ spaced (show_thread names.now t ∷ thread_args names.now thread.now)) }
 {
     put_field(out, names.thread(t).as_bytes())?;
     put_number(out, u64::from(thread.cpu.0))?;
@@ -251,7 +266,8 @@ pub fn put_thread(
 ) -> Result<(), AllocError>
     requires named { t.0 < length names.now.threads }
     requires fits { ThreadFits names.now cpus thread.now }
-    ensures { OnOk result (out.new.items ≡ out.old.items ++ row_text (thread_row names.now (show_thread names.now t) thread.now)) }
+    ensures { OnOk result (out.new.items
+        ≡ out.old.items ++ row_text (thread_row names.now (show_thread names.now t) thread.now)) }
 {
     out.extend_from_slice(Keyword::Thread.text())?;
     put_thread_args(out, names, cpus, t, thread)?;
@@ -277,7 +293,8 @@ fn put_rundown(
     rundown: Option<RoutineNo>,
 ) -> Result<(), AllocError>
     requires { IfSome rundown (λ r. r.0 < length names.now.routines) }
-    ensures { OnOk result (out.new.items ≡ out.old.items ++ spaced (show_unless dash (show_routine names.now) rundown ∷ [])) }
+    ensures { OnOk result (out.new.items
+        ≡ out.old.items ++ spaced (show_unless dash (show_routine names.now) rundown ∷ [])) }
 {
     match rundown {
         Some(r) => put_field(out, names.routine(r).as_bytes()),
@@ -288,7 +305,8 @@ fn put_rundown(
 /// Adds the rundown routine of an APC object, where such an object has the field.
 fn put_rundown_of(out: &mut Vec<u8>, names: &Names, apc: &ApcDecl) -> Result<(), AllocError>
     requires { ApcFits names.now apc.now }
-    ensures { OnOk result (out.new.items ≡ out.old.items ++ spaced (rundown_args names.now apc.now.kind apc.now.rundown)) }
+    ensures { OnOk result (out.new.items
+        ≡ out.old.items ++ spaced (rundown_args names.now apc.now.kind apc.now.rundown)) }
 {
     match apc.kind {
         ApcKind::Special => Ok(()),
@@ -301,7 +319,9 @@ fn put_rundown_of(out: &mut Vec<u8>, names: &Names, apc: &ApcDecl) -> Result<(),
 #[tactic(auto, using(nt_text::proofs::RowTexts::spaced_append))]
 fn put_apc_routines(out: &mut Vec<u8>, names: &Names, apc: &ApcDecl) -> Result<(), AllocError>
     requires { ApcFits names.now apc.now }
-    ensures { OnOk result (out.new.items ≡ out.old.items ++ spaced (normal_args names.now apc.now.normal ++ rundown_args names.now apc.now.kind apc.now.rundown)) }
+    ensures { OnOk result (out.new.items ≡ out.old.items ++ spaced
+        (normal_args names.now apc.now.normal
+        ++ rundown_args names.now apc.now.kind apc.now.rundown)) }
 {
     put_normal(out, names, apc.normal)?;
     put_rundown_of(out, names, apc)
@@ -311,7 +331,8 @@ fn put_apc_routines(out: &mut Vec<u8>, names: &Names, apc: &ApcDecl) -> Result<(
 fn put_apc_args(out: &mut Vec<u8>, names: &Names, a: ApcNo, apc: &ApcDecl) -> Result<(), AllocError>
     requires named { a.0 < length names.now.apcs }
     requires fits { ApcFits names.now apc.now }
-    ensures { OnOk result (out.new.items ≡ out.old.items ++ spaced (show_apc names.now a ∷ apc_args names.now apc.now)) }
+    ensures { OnOk result (out.new.items
+        ≡ out.old.items ++ spaced (show_apc names.now a ∷ apc_args names.now apc.now)) }
 {
     put_field(out, names.apc(a).as_bytes())?;
     put_field(out, names.thread(apc.thread).as_bytes())?;
@@ -323,7 +344,8 @@ fn put_apc_args(out: &mut Vec<u8>, names: &Names, a: ApcNo, apc: &ApcDecl) -> Re
 pub fn put_apc(out: &mut Vec<u8>, names: &Names, a: ApcNo, apc: &ApcDecl) -> Result<(), AllocError>
     requires named { a.0 < length names.now.apcs }
     requires fits { ApcFits names.now apc.now }
-    ensures { OnOk result (out.new.items ≡ out.old.items ++ row_text (apc_row names.now (show_apc names.now a) apc.now)) }
+    ensures { OnOk result (out.new.items
+        ≡ out.old.items ++ row_text (apc_row names.now (show_apc names.now a) apc.now)) }
 {
     out.extend_from_slice(Keyword::Apc(apc.kind).text())?;
     put_apc_args(out, names, a, apc)?;

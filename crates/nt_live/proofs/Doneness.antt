@@ -78,7 +78,8 @@ module _ (s : Script) (limit : ℕ) (v : View) (h : List Placed) (known : (q : C
       here : asks s p c y.event (events past) ≡ true → length past + 1 ≤ reach (request_word p c) v
       here z =
           known y.event.cpu a.0.cpu (Here y past) (part y.event.cpu past)
-          (subst (λ (k : List Placed). IsTail (Here y past ∷ part y.event.cpu past) (part y.event.cpu k)) (sym is) (in_part front past y)) p c inside class (asks_found s limit y past p c a z)
+          (subst (λ (k : List Placed). IsTail (Here y past ∷ part y.event.cpu past) (part y.event.cpu k)) (sym is) (in_part front past y)) p c inside class
+          (asks_found s limit y past p c a z)
 
       go : (m b : Bool) → (n == length (events past) + 1) ≡ m → asks s p c y.event (events past) ≡ b → ((m && b) || was_asked s p c n (events past)) ≡ true →
           (was_asked s p c n (events past) ≡ true → n ≤ reach (request_word p c) v) → n ≤ reach (request_word p c) v

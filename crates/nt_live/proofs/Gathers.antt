@@ -43,8 +43,9 @@ gathered_as events s t limit n ws es (Ok x) a b w run settled added =
     }
 
 -- the processors of a team stand in their order
-pub team_order : (s : Script) (limit : ℕ) (met : List WorkerState) (cpus : List CpuState) (v : View) (list : List (ℕ × Event)) → IsTeam s limit met cpus v list →
-    (k : ℕ) (c : CpuState) → k < length cpus → (get_or cpus k c).cpu ≡ cpu k
+pub team_order : (s : Script) (limit : ℕ) (met : List WorkerState) (cpus : List CpuState) (v : View) (list : List (ℕ × Event)) →
+    IsTeam s limit met cpus v list → (k : ℕ) (c : CpuState) → k < length cpus →
+    (get_or cpus k c).cpu ≡ cpu k
 team_order s limit met cpus v list t k c l =
     let count = t.count in
     let m = t.members k (record { cpu = c; view = v }) (omega (arith, l, count)) in

@@ -4,7 +4,8 @@ use Rattle.std.proofs.lemmas.Bool.{ltb-false, ltb-true}
 use Rattle.std.proofs.lemmas.Bool.Decides.{nat_tests}
 use Rattle.std.proofs.lemmas.List.{map-append}
 use Rattle.std.proofs.lemmas.List.Elements.{All-nil, Contains-append_cases, Contains-append_left, Contains-append_right}
-use Rattle.std.specs.Prelude.{All, Bool, Contains, List, None, Option, Some, [], false, if◌then◌else◌, map, nat_lt, option_map, refl, suc, true, zero, ℕ, ◌&&◌, ◌++◌, ◌+◌, ◌<◌, ◌==◌, ◌∷◌, ◌≡◌, ◌≤◌, ◌⊎◌}
+use Rattle.std.specs.Prelude.{All, Bool, Contains, List, None, Option, Some, [], false, if◌then◌else◌, map, nat_lt, option_map, refl, suc, true, zero, ℕ, ◌&&◌}
+use Rattle.std.specs.Prelude.{◌++◌, ◌+◌, ◌<◌, ◌==◌, ◌∷◌, ◌≡◌, ◌≤◌, ◌⊎◌}
 use Rattle.nt_compose.specs.Choices.{GoesOn}
 use Rattle.nt_compose.specs.Parts.{Numbered, own_by}
 use Rattle.nt_cpu.specs.States.{CpuState}

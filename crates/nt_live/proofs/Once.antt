@@ -2,7 +2,8 @@
 use Rattle.std.proofs.Common.{ap, arith, inl, inr, sym, ◌∙◌}
 use Rattle.std.proofs.lemmas.Bool.{lt-ltb, ltb-true}
 use Rattle.std.proofs.lemmas.List.Sums.{get_or-le-sum_by, sum_by-cons}
-use Rattle.std.specs.Prelude.{Bool, Contains, List, [], count_by, false, get_or, if◌then◌else◌, map, nat_lt, refl, sum_by, true, ℕ, ◌<◌, ◌==◌, ◌∷◌, ◌≡◌, ◌≤◌, ◌⊎◌}
+use Rattle.std.specs.Prelude.{Bool, Contains, List, [], count_by, false, get_or, if◌then◌else◌, map, nat_lt, refl, sum_by, true, ℕ, ◌<◌, ◌==◌, ◌∷◌, ◌≡◌, ◌≤◌}
+use Rattle.std.specs.Prelude.{◌⊎◌}
 use Rattle.nt_mark.proofs.Sums.{at_one, at_one_here, first_or_rest, in_none, some_with}
 use Rattle.nt_mark.specs.Closing.{IsEachOnce}
 

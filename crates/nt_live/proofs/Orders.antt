@@ -4,7 +4,8 @@ use Rattle.std.proofs.lemmas.List.{drop_more, get_or-drop, length-take-le, take_
 use Rattle.std.specs.List.{remove}
 use Rattle.std.specs.Prelude.{List, [], get_or, ℕ, ◌++◌, ◌+◌, ◌<◌, ◌∷◌, ◌≡◌}
 
-module _ {A : Type 0} (ws old new : List A) (n : ℕ) (x : A) (l : n < length ws) (is : old ≡ drop n ws) (value : x ≡ get_or old 0 x) (items : new ≡ remove old 0) where
+module _ {A : Type 0} (ws old new : List A) (n : ℕ) (x : A) (l : n < length ws) (is : old ≡ drop n ws) (value : x ≡ get_or old 0 x)
+    (items : new ≡ remove old 0) where
   pub taken_at : get_or ws n x ≡ x
   taken_at =
       let z : n + 0 ≡ n = omega arith in

@@ -119,7 +119,9 @@ module _ (s : Script) (limit : ℕ) (met : List WorkerState) (cpus : List CpuSta
   unfolding now_mine
   team_joined = record {
     mine = now_mine;
-    together = joined s limit v u t.mine c.cpu work.mine (t.later c.cpu (let z = is_next in omega (arith, z))) t.together work.inside work.made work.entries work.marks;
+    together =
+        joined s limit v u t.mine c.cpu work.mine (t.later c.cpu (let z = is_next in omega (arith, z))) t.together work.inside work.made
+        work.entries work.marks;
     later = λ p l. more_later p l;
     members = λ k d l. members k d l;
     count = (let count = t.count in let a = length-append cpus (c ∷ []) in let b = length-append met (newcomer ∷ []) in omega (arith, count, a, b));

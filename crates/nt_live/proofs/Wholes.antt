@@ -27,7 +27,8 @@ use Rattle.nt_compose.specs.Noted.{Noted, Rises}
 use Rattle.nt_compose.specs.Parts.{IsTail, Numbered, own_by, part}
 use Rattle.nt_lane.specs.Seats.{AreFoundOn, IsFoundOn}
 use Rattle.nt_live.specs.Gathering.{AreTogether, Gathers, IsClosed}
-use Rattle.nt_live.proofs.LaneKept.{among, images, images_append, images_has, images_last, images_rise, kept_cases, kept_found, kept_list, kept_notes, lane_list, one_lane}
+use Rattle.nt_live.proofs.LaneKept.{among, images, images_append, images_has, images_last, images_rise, kept_cases, kept_found, kept_list, kept_notes}
+use Rattle.nt_live.proofs.LaneKept.{lane_list, one_lane}
 use Rattle.nt_live.proofs.Looked.{looks_back}
 use Rattle.nt_live.proofs.Once.{the_one}
 use Rattle.nt_live.proofs.Picked.{inside, picked, step_in}

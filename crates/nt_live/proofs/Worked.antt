@@ -2,7 +2,8 @@
 use Rattle.std.proofs.Common.{ap, arith, inl, inr, refl, subst, sym, ⊎_elim, ◌∙◌}
 use Rattle.std.proofs.lemmas.Bool.{ltb-false, ltb-true}
 use Rattle.std.proofs.lemmas.List.{append_assoc, length-append, map-append, reverse-append, reverse-reverse, take_all, take_more}
-use Rattle.std.specs.Prelude.{Bool, Contains, List, [], false, get_or, if◌then◌else◌, length, map, nat_lt, reverse, suc, take, true, zero, ℕ, ◌++◌, ◌+◌, ◌<◌, ◌∷◌, ◌≡◌, ◌≤◌}
+use Rattle.std.specs.Prelude.{Bool, Contains, List, [], false, get_or, if◌then◌else◌, length, map, nat_lt, reverse, suc, take, true, zero, ℕ, ◌++◌, ◌+◌, ◌<◌}
+use Rattle.std.specs.Prelude.{◌∷◌, ◌≡◌, ◌≤◌}
 use Rattle.nt_event.specs.declared.events.Event.{Event}
 use Rattle.nt_event.specs.declared.numbers.CpuNo.{CpuNo}
 use Rattle.nt_event.specs.declared.scripts.Script.{Script}
@@ -94,7 +95,8 @@ module _ (s : Script) (limit : ℕ) (v : View) (mine : CpuNo → List Numbered) 
   tail_of : (y : Placed) (past front : List Placed) → h ≡ front ++ y ∷ past → IsTail (Here y past ∷ part y.event.cpu past) (mine y.event.cpu)
   tail_of y past front e =
       let p : CpuNo = y.event.cpu in
-      subst (λ (zs : List Numbered). IsTail (Here y past ∷ part p past) zs) (ap (λ (xs : List Placed). part p xs) (sym e) ∙ whole.parts p) (in_part front past y)
+      subst (λ (zs : List Numbered). IsTail (Here y past ∷ part p past) zs) (ap (λ (xs : List Placed). part p xs) (sym e) ∙ whole.parts p)
+      (in_part front past y)
 
   inside : (y : Placed) (past front : List Placed) → h ≡ front ++ y ∷ past → y.event.cpu.0 < s.cpus
   inside y past front e = go (nat_lt y.event.cpu.0 s.cpus) refl
@@ -132,7 +134,8 @@ module _ (s : Script) (limit : ℕ) (v : View) (mine : CpuNo → List Numbered) 
 -- ---- the law
 
 module _ (s : Script) (limit : ℕ) (ws : List WorkerState) (cpus : List CpuState) (v w : View)
-    (list : List (ℕ × Event)) (es : List Event) (fit : fits s ≡ true) (one : AreOneEach s ws) (t : IsTeam s limit ws cpus v list) (l : HasLooked v w) (m : IsMerged s w es) where
+    (list : List (ℕ × Event)) (es : List Event) (fit : fits s ≡ true) (one : AreOneEach s ws) (t : IsTeam s limit ws cpus v list) (l : HasLooked v w)
+    (m : IsMerged s w es) where
   together : AreTogether s limit w t.mine
   together = looked_on s limit v w t.mine l t.together
 

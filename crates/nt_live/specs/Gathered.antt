@@ -17,7 +17,8 @@ IsItsPart worked w = map pair_of (reverse (cpu_piece w.cpu.cpu worked)) ≡ pair
 -- the history goes on from these events by the turns of the robin rule
 abbrev pub GoesByRobin : Script → ℕ → List Event → List Event → Type 0
 GoesByRobin s limit worked [] = worked ≡ []
-GoesByRobin s limit worked (e ∷ past) = (worked ≡ e ∷ past) ⊎ ((robin s limit past ≡ Some (turn_of e)) × GoesByRobin s limit worked past)
+GoesByRobin s limit worked (e ∷ past) =
+    (worked ≡ e ∷ past) ⊎ ((robin s limit past ≡ Some (turn_of e)) × GoesByRobin s limit worked past)
 
 -- a settled run: what the workers did, each event once and at its number, and then turns of the robin rule
 pub record IsGathered (s : Script) (limit : ℕ) (ws : List WorkerState) (h : List Event) : Type 0 where

@@ -41,7 +41,8 @@ pub record IsMarkedBy (s : Script) (mine : CpuNo → List Numbered) (k : Mark) :
   pub number : k.number ≡ event.number
   pub asks : asks_then s by event before k.cpu k.class
 
--- one pass knows the events of all processors, each by its list, the newest first, and has the entries and marks of no others
+-- one pass knows the events of all processors, each by its list, the newest first, and has the entries and marks of no
+-- others
 pub record AreTogether (s : Script) (limit : ℕ) (v : View) (mine : CpuNo → List Numbered) : Type 0 where
   pub made : (p : CpuNo) → p.0 < s.cpus → AreMade s limit p v (mine p)
   pub others : (p : CpuNo) → s.cpus ≤ p.0 → mine p ≡ []

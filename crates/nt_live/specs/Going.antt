@@ -18,7 +18,8 @@ use Rattle.nt_live.specs.Workers.{IsAtWork}
 
 -- what is known of a worker's work goes on through an advance of its processor that made an event
 abbrev pub AdvancesKeepWork : Type 0
-AdvancesKeepWork = (s : Script) (limit : ℕ) (m : Marks) (c d : CpuState) (v w : View) (answers : List ℕ) (u : WordsView) (e : Event) →
+AdvancesKeepWork =
+    (s : Script) (limit : ℕ) (m : Marks) (c d : CpuState) (v w : View) (answers : List ℕ) (u : WordsView) (e : Event) →
     cpus_of m ≡ s.cpus → IsAtWork s limit (record { cpu = c; view = v }) → AreLooked c answers (words_of m v) u →
     Advanced c d answers (λ n e st f. FoundBy s w n e st f) (Did e) u (words_of m w) → Grows v w →
     IsAtWork s limit (record { cpu = d; view = w })

@@ -28,7 +28,8 @@ abbrev pub pair_of_entry : Entry → ℕ × Event
 pair_of_entry e = (e.number, e.event)
 
 -- a worker that has met: its processor is there, and its list was that of its events
-pub record IsMember (s : Script) (limit : ℕ) (cpus : List CpuState) (mine : CpuNo → List Numbered) (k : ℕ) (w : WorkerState) : Type 0 where
+pub record IsMember (s : Script) (limit : ℕ) (cpus : List CpuState) (mine : CpuNo → List Numbered) (k : ℕ)
+    (w : WorkerState) : Type 0 where
   pub at : w.cpu.cpu ≡ cpu k
   pub script : w.cpu.script ≡ s
   pub limit_is : w.cpu.limit ≡ limit
@@ -37,7 +38,8 @@ pub record IsMember (s : Script) (limit : ℕ) (cpus : List CpuState) (mine : Cp
   pub there : (d : CpuState) → get_or cpus k d ≡ w.cpu
 
 -- these workers have met, those of the first processors in order; those of the others have not
-pub record IsTeam (s : Script) (limit : ℕ) (met : List WorkerState) (cpus : List CpuState) (v : View) (list : List (ℕ × Event)) : Type 0 where
+pub record IsTeam (s : Script) (limit : ℕ) (met : List WorkerState) (cpus : List CpuState) (v : View)
+    (list : List (ℕ × Event)) : Type 0 where
   pub mine : CpuNo → List Numbered
   pub together : AreTogether s limit v mine
   pub later : (p : CpuNo) → length met ≤ p.0 → mine p ≡ []

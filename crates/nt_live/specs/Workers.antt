@@ -1,5 +1,7 @@
--- What a worker did: the events of its processor with the states in which they were made, and what its pass tells of them.
-use Rattle.std.specs.Prelude.{Contains, List, None, Option, Some, [], false, map, true, ℕ, ◌+◌, ◌++◌, ◌<◌, ◌∷◌, ◌≡◌, ◌≤◌, ◌⊎◌}
+-- What a worker did: the events of its processor with the states in which they were made, and what its pass tells of
+-- them.
+use Rattle.std.specs.Prelude.{Contains, List, None, Option, Some, [], false, map, true, ℕ, ◌+◌, ◌++◌, ◌<◌, ◌∷◌, ◌≡◌}
+use Rattle.std.specs.Prelude.{◌≤◌, ◌⊎◌}
 use Rattle.atomic_table.specs.Seated.{TableId}
 use Rattle.nt_event.specs.declared.events.Event.{Event}
 use Rattle.nt_event.specs.declared.events.What.TheVariants.{Look as LookEvent}
@@ -72,8 +74,10 @@ asks_then s p m past q c =
 
 -- the pass knows what each of them asked
 abbrev pub AreAsked : Script → CpuNo → View → List Numbered → Type 0
-AreAsked s p v ms = (m : Numbered) (past : List Numbered) → IsTail (m ∷ past) ms → (q : CpuNo) (c : ℕ) → q.0 < s.cpus → c < 16 →
-    asks_then s p m past q c → m.number + 1 ≤ reach (request_word q c) v
+AreAsked s p v ms =
+    (m : Numbered) (past : List Numbered) → IsTail (m ∷ past) ms → (q : CpuNo) (c : ℕ) → q.0 < s.cpus → c < 16 →
+    asks_then s p m past q c →
+    m.number + 1 ≤ reach (request_word q c) v
 
 -- a processor made these events, as the pass knows
 pub record AreMade (s : Script) (limit : ℕ) (p : CpuNo) (v : View) (ms : List Numbered) : Type 0 where
@@ -122,7 +126,8 @@ abbrev pub KnowsSeen : CpuState → View → Type 0
 KnowsSeen c v = (m : Marks) → Knows c (words_of m v)
 
 -- what stands in a worker whenever nobody turns it
-pub record IsWorker (table : TableId) (s : Script) (limit : ℕ) (cpu : CpuState) (pass : Option Pass) (list : List (ℕ × Event)) : Type 0 where
+pub record IsWorker (table : TableId) (s : Script) (limit : ℕ) (cpu : CpuState) (pass : Option Pass)
+    (list : List (ℕ × Event)) : Type 0 where
   pub here : Pass
   pub pass_is : pass ≡ Some here
   pub at : pass_table here ≡ table
@@ -153,6 +158,7 @@ abbrev pub LookedLast : WorkerState → WorkerState → Type 0
 LookedLast old new = (before : List Look) × (last : List Look) × (new.view.looks ≡ old.view.looks ++ (before ++ last)) ×
     (map look_told last ≡ looks_below new.cpu.cpu 15 new.cpu.own.seen)
 
--- the processor is cut; or it rests or spins still, and since then it looked last at each class and saw no more than it had seen
+-- the processor is cut; or it rests or spins still, and since then it looked last at each class and saw no more than it
+-- had seen
 abbrev pub HasWorked : WorkerState → WorkerState → Type 0
 HasWorked old new = (is_cut new.cpu.limit new.cpu.own ≡ true) ⊎ ((is_still new.cpu.own ≡ true) × LookedLast old new)

@@ -4,7 +4,8 @@ ghost use Rattle.nt_event.specs.declared.limits.TheConstants.{EVENTS, TURNS};
 ghost use Rattle.nt_event.specs.Lanes as spec;
 ghost use Rattle.nt_event.specs.Script.{fits};
 ghost use Rattle.nt_live.specs.Prepared.{AreOpened, IsPrepared, fresh};
-ghost use Rattle.nt_mark.specs.Names.{cpus_of, lanes_of, limit_of, parts_of, pass_table, pass_view, table_of};
+ghost use Rattle.nt_mark.specs.Names.{cpus_of, lanes_of, limit_of, parts_of, pass_table, pass_view};
+ghost use Rattle.nt_mark.specs.Names.{table_of};
 
 use crate::worker::Worker;
 use nt_event::{CpuNo, Plan, Script};
@@ -12,7 +13,8 @@ use nt_lane::Lanes;
 use nt_mark::{Made, Marks, Pass, Shared};
 use std::alloc::{AllocError, Global};
 
-/// The words and the lanes that all workers of a script share: those of N's table, for N's script and turn limit.
+/// The words and the lanes that all workers of a script share: those of N's table, for N's script
+/// and turn limit.
 #[derive(Drop)]
 pub struct Board<'s, N: Plan + Shared> {
     pub(crate) marks: Marks,
@@ -37,8 +39,9 @@ pub struct Opened<'s, N: Plan + Shared> {
     pub workers: Vec<Worker<'s, N>>,
 }
 
-/// The marks of a script that fits, whose processors make at most `turns` events each: with a part for each processor, and the keeper of
-/// each lane. `turns` is 1 to 20,000, and at most 160,000 events are made in all.
+/// The marks of a script that fits, whose processors make at most `turns` events each: with a part
+/// for each processor, and the keeper of each lane. `turns` is 1 to 20,000, and at most 160,000
+/// events are made in all.
 pub fn prepare(alloc: Global, script: &Script, turns: u32) -> Result<Made, AllocError>
     requires script { IsTrue (fits script.now) }
     requires turns { (1 ≤ turns) × ((turns ≤ TURNS) × (script.now.cpus * turns ≤ EVENTS)) }
@@ -54,8 +57,8 @@ pub fn prepare(alloc: Global, script: &Script, turns: u32) -> Result<Made, Alloc
 }
 
 impl<'s, N: Plan + Shared> Board<'s, N> {
-    /// The board of marks that were prepared for N's script and turn limit, and whose table is N's; with a worker for each processor, none
-    /// of which made anything.
+    /// The board of marks that were prepared for N's script and turn limit, and whose table is N's;
+    /// with a worker for each processor, none of which made anything.
     pub fn new(
         alloc: Global,
         script: &'s Script,
@@ -63,7 +66,8 @@ impl<'s, N: Plan + Shared> Board<'s, N> {
         made: Made,
     ) -> Result<Opened<'s, N>, AllocError>
         requires script { (script.now ≡ N.script) × IsTrue (fits script.now) }
-        requires turns { (turns ≡ N.turns) × ((1 ≤ turns) × ((turns ≤ TURNS) × (script.now.cpus * turns ≤ EVENTS))) }
+        requires turns { (turns ≡ N.turns) ×
+            ((1 ≤ turns) × ((turns ≤ TURNS) × (script.now.cpus * turns ≤ EVENTS))) }
         requires table { table_of made.marks ≡ N.table }
         requires prepared { IsPrepared script.now turns made }
         ensures opened { IfOk result (λ o. AreOpened N.script N.turns o.workers.items) }
@@ -85,7 +89,8 @@ impl<'s, N: Plan + Shared> Board<'s, N> {
     }
 }
 
-/// A worker for each processor, in order, each with one part of the pass, which did nothing and has a part for each.
+/// A worker for each processor, in order, each with one part of the pass, which did nothing and has
+/// a part for each.
 fn all_workers<'s, N: Plan + Shared>(
     alloc: Global,
     script: &'s Script,

@@ -1,5 +1,7 @@
-//! The end of a run that was begun elsewhere: the turns of its events, and then those of the robin rule.
-ghost use Rattle.std.specs.Prelude.{◌≡◌, ◌≤◌, ◌*◌, ◌∷◌, [], IfOk, IsTrue, List, Ok, OnOk, reverse, true};
+//! The end of a run that was begun elsewhere: the turns of its events, and then those of the robin
+//! rule.
+ghost use Rattle.std.specs.Prelude.{◌≡◌, ◌≤◌, ◌*◌, ◌∷◌, [], IfOk, IsTrue, List, Ok, OnOk, reverse};
+ghost use Rattle.std.specs.Prelude.{true};
 ghost use Rattle.nt_event.specs.declared.events.Event.{Event};
 ghost use Rattle.nt_event.specs.Robin.{is_settled};
 ghost use Rattle.nt_event.specs.Script.{fits};
@@ -19,9 +21,15 @@ use std::alloc::{AllocError, Global};
 
 /// Takes the turn of an event that is the next one of a run; the event is written once more.
 fn repeat(processors: &mut Processors, floor: &mut PlainFloor, event: &Event, made: &mut Event)
-    requires { (past : List Event) × (AreAfter past processors.old floor.old.script (view_of floor.old) × (step processors.old.script processors.old.limit (turn_of event.now) past ≡ Ok event.now)) }
-    ensures after { (past : List Event) → AreAfter past processors.old floor.old.script (view_of floor.old) → step processors.old.script processors.old.limit (turn_of event.now) past ≡ Ok event.now → AreAfter (event.now ∷ past) processors.new floor.new.script (view_of floor.new) }
-    ensures kept { (processors.new.script ≡ processors.old.script) × (processors.new.limit ≡ processors.old.limit) }
+    requires { (past : List Event) ×
+        (AreAfter past processors.old floor.old.script (view_of floor.old) ×
+        (step processors.old.script processors.old.limit (turn_of event.now) past ≡ Ok event.now)) }
+    ensures after { (past : List Event) →
+        AreAfter past processors.old floor.old.script (view_of floor.old) →
+        step processors.old.script processors.old.limit (turn_of event.now) past ≡ Ok event.now →
+        AreAfter (event.now ∷ past) processors.new floor.new.script (view_of floor.new) }
+    ensures kept { (processors.new.script ≡ processors.old.script) ×
+        (processors.new.limit ≡ processors.old.limit) }
 {
     match processors.turn(floor, &event.turn(), made) {
         Ok(()) => {}
@@ -33,8 +41,10 @@ fn repeat(processors: &mut Processors, floor: &mut PlainFloor, event: &Event, ma
 fn repeat_all(processors: &mut Processors, floor: &mut PlainFloor, events: &[Event])
     requires start { AreAfter [] processors.old floor.old.script (view_of floor.old) }
     requires run { IsRun processors.old.script processors.old.limit (reverse events.now) }
-    ensures after { AreAfter (reverse events.now) processors.new floor.new.script (view_of floor.new) }
-    ensures kept { (processors.new.script ≡ processors.old.script) × (processors.new.limit ≡ processors.old.limit) }
+    ensures after { AreAfter (reverse events.now) processors.new floor.new.script
+        (view_of floor.new) }
+    ensures kept { (processors.new.script ≡ processors.old.script) ×
+        (processors.new.limit ≡ processors.old.limit) }
 {
     let mut made = no_event();
     for event in events {
@@ -59,10 +69,14 @@ fn go_on_all(
     floor: &mut PlainFloor,
     events: &mut Vec<Event>,
 ) -> Result<(), AllocError>
-    requires { AreAfter (reverse events.old.items) processors.old floor.old.script (view_of floor.old) }
-    ensures run { OnOk result (IsRun processors.old.script processors.old.limit (reverse events.new.items)) }
-    ensures added { OnOk result (GoesByRobin processors.old.script processors.old.limit (reverse events.old.items) (reverse events.new.items)) }
-    ensures settled { OnOk result (is_settled processors.old.script processors.old.limit (reverse events.new.items) ≡ true) }
+    requires { AreAfter (reverse events.old.items) processors.old floor.old.script
+        (view_of floor.old) }
+    ensures run { OnOk result
+        (IsRun processors.old.script processors.old.limit (reverse events.new.items)) }
+    ensures added { OnOk result (GoesByRobin processors.old.script processors.old.limit
+        (reverse events.old.items) (reverse events.new.items)) }
+    ensures settled { OnOk result
+        (is_settled processors.old.script processors.old.limit (reverse events.new.items) ≡ true) }
 {
     let mut made = no_event();
     while processors.go_on(floor, last_cpu(events.as_slice()), &mut made) {
@@ -71,7 +85,8 @@ fn go_on_all(
     Ok(())
 }
 
-/// The run that goes on from these events by the robin rule to its end, made by processors and a floor that nothing happened to.
+/// The run that goes on from these events by the robin rule to its end, made by processors and a
+/// floor that nothing happened to.
 fn finished_by(
     alloc: Global,
     processors: &mut Processors,
@@ -81,9 +96,13 @@ fn finished_by(
     requires start { AreAfter [] processors.old floor.old.script (view_of floor.old) }
     requires run { IsRun processors.old.script processors.old.limit (reverse events.items) }
     ensures turns { IfOk result (λ h. h.turns ≡ processors.old.limit) }
-    ensures run { IfOk result (λ h. IsRun processors.old.script processors.old.limit (reverse h.events)) }
-    ensures settled { IfOk result (λ h. is_settled processors.old.script processors.old.limit (reverse h.events) ≡ true) }
-    ensures added { IfOk result (λ h. GoesByRobin processors.old.script processors.old.limit (reverse events.items) (reverse h.events)) }
+    ensures run { IfOk result
+        (λ h. IsRun processors.old.script processors.old.limit (reverse h.events)) }
+    ensures settled { IfOk result
+        (λ h. is_settled processors.old.script processors.old.limit (reverse h.events) ≡ true) }
+    ensures added { IfOk result (λ h.
+        GoesByRobin processors.old.script processors.old.limit (reverse events.items)
+        (reverse h.events)) }
 {
     let turns = processors.limit();
     repeat_all(processors, floor, events.as_slice());
@@ -91,10 +110,12 @@ fn finished_by(
     Ok(History::new(turns, Events::of(alloc, events.as_slice())?))
 }
 
-/// The run that goes on from these events by the robin rule to its end, where each processor may make this many events.
+/// The run that goes on from these events by the robin rule to its end, where each processor may
+/// make this many events.
 ///
-/// The script fits, the events are a run of it, and `turns` is 1 to 20,000 and at most 160,000 in all processors together. The events of
-/// the rule are put behind the others in their list, of which the history is made at the end.
+/// The script fits, the events are a run of it, and `turns` is 1 to 20,000 and at most 160,000 in
+/// all processors together. The events of the rule are put behind the others in their list, of
+/// which the history is made at the end.
 pub(crate) fn finished(
     alloc: Global,
     script: &Script,
@@ -108,7 +129,8 @@ pub(crate) fn finished(
     ensures turns { IfOk result (λ h. h.turns ≡ turns) }
     ensures run { IfOk result (λ h. IsRun script.now turns (reverse h.events)) }
     ensures settled { IfOk result (λ h. is_settled script.now turns (reverse h.events) ≡ true) }
-    ensures added { IfOk result (λ h. GoesByRobin script.now turns (reverse events.items) (reverse h.events)) }
+    ensures added { IfOk result
+        (λ h. GoesByRobin script.now turns (reverse events.items) (reverse h.events)) }
 {
     let mut processors = Processors::new(alloc, script, turns)?;
     let mut floor = PlainFloor::new(alloc, script, turns)?;

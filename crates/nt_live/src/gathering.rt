@@ -41,7 +41,8 @@ fn by_number(alloc: Global, list: &[(u64, Event)]) -> Result<Vec<Event>, AllocEr
     Ok(events)
 }
 
-/// Closes the lanes and the marks, whose parts the pass holds all, and puts its events in the order of their numbers.
+/// Closes the lanes and the marks, whose parts the pass holds all, and puts its events in the order
+/// of their numbers.
 fn merged<'s, N: Plan + Shared>(
     alloc: Global,
     marks: Marks,
@@ -60,13 +61,15 @@ fn merged<'s, N: Plan + Shared>(
     by_number(alloc, list)
 }
 
-/// Puts the events of all workers of a board together, each at its number, and makes the turns that are left by the robin rule: a settled
-/// run of N's script, where each processor makes at most N's turns.
+/// Puts the events of all workers of a board together, each at its number, and makes the turns that
+/// are left by the robin rule: a settled run of N's script, where each processor makes at most N's
+/// turns.
 ///
-/// The workers are those that were made with the board, in order, so that their passes together hold all parts of N's table. What they made
-/// is a run, of which each worker's list is its processor's part. Where some processor has more to do, the turns of that run are taken
-/// again in memory, and the robin rule goes on from there. AllocError comes where no memory was found; the board and the workers are gone
-/// then too.
+/// The workers are those that were made with the board, in order, so that their passes together
+/// hold all parts of N's table. What they made is a run, of which each worker's list is its
+/// processor's part. Where some processor has more to do, the turns of that run are taken again in
+/// memory, and the robin rule goes on from there. AllocError comes where no memory was found; the
+/// board and the workers are gone then too.
 pub fn gather<'s, N: Plan + Shared>(
     alloc: Global,
     board: Board<'s, N>,
@@ -74,7 +77,8 @@ pub fn gather<'s, N: Plan + Shared>(
 ) -> Result<History, AllocError>
     requires all { AreOneEach N.script workers.items }
     ensures turns { IfOk result (λ h. h.turns ≡ N.turns) }
-    ensures gathered { IfOk result (λ h. IsGathered N.script N.turns workers.entry.items (reverse h.events)) }
+    ensures gathered { IfOk result
+        (λ h. IsGathered N.script N.turns workers.entry.items (reverse h.events)) }
 {
     let Board {
         marks,

@@ -1,4 +1,5 @@
-//! Processors on threads: each stands in a worker with a pass of its own, and turns over lanes with a lock each.
+//! Processors on threads: each stands in a worker with a pass of its own, and turns over lanes with
+//! a lock each.
 #![tactic(auto)]
 
 mod board;

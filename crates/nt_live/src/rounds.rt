@@ -64,8 +64,8 @@ fn some_moved<N: Plan + Shared>(workers: &[Worker<'_, N>]) -> bool {
     false
 }
 
-/// Rounds of all workers, until one makes no event; each round but the last makes one. Where some worker finds no memory, the round is
-/// ended first.
+/// Rounds of all workers, until one makes no event; each round but the last makes one. Where some
+/// worker finds no memory, the round is ended first.
 fn rounds<'s, N: Plan + Shared + Send + Sync, G: Gate + Sync, R: Threads + Wait + Sync>(
     rt: &R,
     workers: &mut [Worker<'s, N>],
@@ -96,7 +96,8 @@ fn live_of<'s, N: Plan + Shared + Send + Sync, G: Gate + Sync, R: Threads + Wait
     gate: &G,
 ) -> Result<History, AllocError>
     requires script { (script.now ≡ N.script) × IsTrue (fits script.now) }
-    requires turns { (turns ≡ N.turns) × ((1 ≤ turns) × ((turns ≤ TURNS) × (script.now.cpus * turns ≤ EVENTS))) }
+    requires turns { (turns ≡ N.turns) ×
+        ((1 ≤ turns) × ((turns ≤ TURNS) × (script.now.cpus * turns ≤ EVENTS))) }
     requires table { table_of made.marks ≡ N.table }
     requires prepared { IsPrepared script.now turns made }
     ensures turns { IfOk result (λ h. h.turns ≡ turns) }
@@ -108,14 +109,17 @@ fn live_of<'s, N: Plan + Shared + Send + Sync, G: Gate + Sync, R: Threads + Wait
     gather(alloc, board, workers)
 }
 
-/// The history that processors on threads make of a script, where each makes at most this many events: a settled run.
+/// The history that processors on threads make of a script, where each makes at most this many
+/// events: a settled run.
 ///
-/// Each processor has a thread of its own, where one can be made; they share what the script says that they share, with a lock for each
-/// DPC object, each processor's queue and threads, the timers, and each spin lock. The gate is passed before each turn of a processor,
-/// with its number and how many events it made. The script fits, and `turns` is 1 to 20,000 and at most 160,000 in all processors
-/// together.
+/// Each processor has a thread of its own, where one can be made; they share what the script says
+/// that they share, with a lock for each DPC object, each processor's queue and threads, the
+/// timers, and each spin lock. The gate is passed before each turn of a processor, with its number
+/// and how many events it made. The script fits, and `turns` is 1 to 20,000 and at most 160,000 in
+/// all processors together.
 ///
-/// A processor that spins on a lock stops as one at rest does, until it sees that the lock was freed.
+/// A processor that spins on a lock stops as one at rest does, until it sees that the lock was
+/// freed.
 ///
 /// It may wait. AllocError comes where no memory was found; the workers ended their round first.
 pub fn live<G: Gate + Sync, R: Threads + Wait + Sync>(

@@ -20,8 +20,9 @@ use std::sync::Wait;
 
 /// A processor, its pass, and the list of the events that it made, with their numbers.
 ///
-/// Contracts see its processor, and what its pass has and knows. The pass is of N's table, has one part, and is what the events made of
-/// it; the list has the number and event of each entry of the pass.
+/// Contracts see its processor, and what its pass has and knows. The pass is of N's table, has one
+/// part, and is what the events made of it; the list has the number and event of each entry of the
+/// pass.
 #[derive(Drop)]
 pub struct Worker<'s, N: Plan + Shared> {
     number: u8,
@@ -44,14 +45,15 @@ impl<'s, N: Plan + Shared> Model for Worker<'s, N> {
     ghost invariant = { λ w. IsWorker N.table N.script N.turns w.cpu w.pass w.list.items };
 }
 
-/// What an advance came to: the pass again, and the event that was made with its number, or None where the processor has none to make.
+/// What an advance came to: the pass again, and the event that was made with its number, or None
+/// where the processor has none to make.
 struct Advance {
     pass: Pass,
     did: Result<Option<(u64, Event)>, AllocError>,
 }
 
-/// Has the processor make its next event over the lanes. It may wait. The pass is what its events made of it, and so it is again; where
-/// no memory was found, no event was made.
+/// Has the processor make its next event over the lanes. It may wait. The pass is what its events
+/// made of it, and so it is again; where no memory was found, no event was made.
 fn make_next<'s, N: Plan + Shared, R: Wait>(
     rt: &R,
     cpu: &mut Cpu<'s>,
@@ -89,7 +91,8 @@ pub(crate) enum Outcome {
 }
 
 impl<'s, N: Plan + Shared> Worker<'s, N> {
-    /// The worker of a processor of N's script that made nothing, with a pass of N's table that has one part and knows nothing.
+    /// The worker of a processor of N's script that made nothing, with a pass of N's table that has
+    /// one part and knows nothing.
     pub(crate) fn new(
         alloc: Global,
         script: &'s Script,
@@ -119,7 +122,8 @@ impl<'s, N: Plan + Shared> Worker<'s, N> {
         gate.pass(self.number, u64::from(self.cpu.made()));
     }
 
-    /// One turn: the processor makes its next event over the lanes, and what it made is put on the list. It may wait.
+    /// One turn: the processor makes its next event over the lanes, and what it made is put on the
+    /// list. It may wait.
     pub(crate) fn turn<R: Wait>(
         &mut self,
         rt: &R,
@@ -167,7 +171,8 @@ impl<'s, N: Plan + Shared> Worker<'s, N> {
 
     /// The processor, the pass, and the list of the events with their numbers.
     pub(crate) fn into_parts(self) -> (Cpu<'s>, Pass, Vec<(u64, Event)>)
-        ensures { IsTakenApart N.table N.script N.turns self.entry result.0 result.1 result.2.items }
+        ensures { IsTakenApart N.table N.script N.turns self.entry result.0
+            result.1 result.2.items }
     {
         let Worker {
             number: _,
@@ -183,10 +188,12 @@ impl<'s, N: Plan + Shared> Worker<'s, N> {
     }
 }
 
-/// Turns a worker's processor again and again, until it rests or spins still with nothing asked, or is cut. The gate is passed before each
-/// turn, with the processor's number and how many events it made so far. It may wait, for other workers that hold a lane.
+/// Turns a worker's processor again and again, until it rests or spins still with nothing asked, or
+/// is cut. The gate is passed before each turn, with the processor's number and how many events it
+/// made so far. It may wait, for other workers that hold a lane.
 ///
-/// AllocError comes where no memory was found; then the worker is as its last event left it, and can work again.
+/// AllocError comes where no memory was found; then the worker is as its last event left it, and
+/// can work again.
 pub fn work<'s, N: Plan + Shared, G: Gate, R: Wait>(
     rt: &R,
     worker: &mut Worker<'s, N>,

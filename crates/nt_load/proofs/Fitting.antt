@@ -9,7 +9,8 @@ use Rattle.std.specs.List.{AllByRecursion, list_all, sum_by}
 use Rattle.std.specs.Prelude.{nat_le, nat_lt, ◌&&◌}
 use Rattle.nt_event.proofs.Tables.{length-table_from}
 use Rattle.nt_event.specs.Lists.{table, table_from}
-use Rattle.nt_event.specs.Script.{apc_fits, command_count, command_fits, dpc_fits, fits, isr_fits, isrs_differ, meets_limits, routine_fits, thread_fits, timer_fits}
+use Rattle.nt_event.specs.Script.{apc_fits, command_count, command_fits, dpc_fits, fits, isr_fits, isrs_differ, meets_limits, routine_fits, thread_fits}
+use Rattle.nt_event.specs.Script.{timer_fits}
 use Rattle.nt_event.specs.declared.commands.ApcKind.TheVariants.{Normal, Special, User}
 use Rattle.nt_event.specs.declared.commands.ApcKind.{ApcKind}
 use Rattle.nt_event.specs.declared.scripts.Script.{Script}

@@ -12,7 +12,8 @@ use Rattle.nt_event.specs.declared.scripts.TimerDecl.{TimerDecl}
 use Rattle.nt_line.specs.NameLists.{NameLists}
 use Rattle.nt_load.proofs.Differing.{load_names_differ}
 use Rattle.nt_load.proofs.Fitting.{both_lengths, has_load, load_fits, load_ranges}
-use Rattle.nt_load.specs.Load.{all_apcs, busy_routine, busy_thread, idle_dpc, idle_isr, idle_routine, load_input, load_names, load_script, object_names, spelled, spelled_names, thing_names, timer_of_dpc}
+use Rattle.nt_load.specs.Load.{all_apcs, busy_routine, busy_thread, idle_dpc, idle_isr, idle_routine, load_input, load_names, load_script, object_names}
+use Rattle.nt_load.specs.Load.{spelled, spelled_names, thing_names, timer_of_dpc}
 use Rattle.nt_script.specs.Sound.{IsSound}
 use Rattle.nt_script.specs.declared.walk.Input.{Input}
 

@@ -2,7 +2,8 @@
 ghost use Rattle.std.specs.Prelude.{◌≡◌, ℕ, ◌+◌, ◌<◌};
 ghost use Rattle.nt_event.specs.Numbers.{apc, cpu, dpc, timer};
 ghost use Rattle.nt_load.specs.Draws.{after, draw};
-ghost use Rattle.nt_load.specs.Commands.{command_of, draw_count, field_count, importance, importances, row_at, rows};
+ghost use Rattle.nt_load.specs.Commands.{command_of, draw_count, field_count, importance};
+ghost use Rattle.nt_load.specs.Commands.{importances, row_at, rows};
 
 use crate::draws::Draws;
 use nt_event::{ApcNo, Command, CpuNo, DpcNo, Importance, Level, TimerNo};

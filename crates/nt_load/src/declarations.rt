@@ -1,7 +1,8 @@
 //! What the load declares, the same for each seed.
 ghost use Rattle.std.specs.Prelude.{◌≡◌, ◌++◌, IfOk, OnOk};
 ghost use Rattle.nt_event.specs.Lists.{table};
-ghost use Rattle.nt_load.specs.Load.{all_apcs, apc_decl, busy_thread, idle_dpc, idle_isr, normal_of, timer_of_dpc};
+ghost use Rattle.nt_load.specs.Load.{all_apcs, apc_decl, busy_thread, idle_dpc, idle_isr};
+ghost use Rattle.nt_load.specs.Load.{normal_of, timer_of_dpc};
 
 use crate::commands::device_level;
 use nt_event::{

@@ -16,7 +16,8 @@ impl Draws {
         Draws { number: seed }
     }
 
-    /// Draws a value below `limit`. The product of two numbers below 2^32 and 2^31 and the increment fit 64 bits.
+    /// Draws a value below `limit`. The product of two numbers below 2^32 and 2^31 and the
+    /// increment fit 64 bits.
     #[tactic(auto, unfolding(crate::specs::Draws::after, crate::specs::Draws::next))]
     pub fn draw(&mut self, limit: u32) -> u32
         requires { 0 < limit }

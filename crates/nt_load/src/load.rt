@@ -10,7 +10,8 @@ use nt_event::Script;
 use nt_script::Input;
 use std::alloc::{AllocError, Global};
 
-/// The script of a seed's load, without the names of its things, which a run doesn't need. Two calls with one seed give the same.
+/// The script of a seed's load, without the names of its things, which a run doesn't need. Two
+/// calls with one seed give the same.
 ///
 /// Errors: no memory is left.
 pub fn draw_script(alloc: Global, seed: u32) -> Result<Script, AllocError>
@@ -31,7 +32,8 @@ pub fn draw_script(alloc: Global, seed: u32) -> Result<Script, AllocError>
     })
 }
 
-/// The load of a seed: its script and the names of its things. Two calls with one seed give the same.
+/// The load of a seed: its script and the names of its things. Two calls with one seed give the
+/// same.
 ///
 /// Errors: no memory is left.
 pub fn load_script(alloc: Global, seed: u32) -> Result<Input, AllocError>

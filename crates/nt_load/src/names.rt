@@ -13,7 +13,8 @@ fn spell(alloc: Global, letter: &str, i: u16) -> Result<String, AllocError>
     format!(in alloc; "{letter}{i}")
 }
 
-/// Names `count` things of a kind, each by the letter and a number from 0 on. None of these names is taken yet.
+/// Names `count` things of a kind, each by the letter and a number from 0 on. None of these names
+/// is taken yet.
 fn name_things(
     alloc: Global,
     names: &mut Names,

@@ -1,5 +1,6 @@
 -- The values of a look: what is read is written so, and what is written so is read.
-use Rattle.std.proofs.Common.{◌≡◌, ◌∙◌, ℕ, zero, suc, ◌+◌, ◌-◌, ◌<◌, ◌≤◌, Bool, true, false, List, [], ◌∷◌, ◌++◌, length, set, take, drop, replicate, Option, Some, None, Result, Ok, refl, sym, ap, subst, append_assoc, arith, lit<}
+use Rattle.std.proofs.Common.{◌≡◌, ◌∙◌, ℕ, zero, suc, ◌+◌, ◌-◌, ◌<◌, ◌≤◌, Bool, true, false, List, [], ◌∷◌, ◌++◌, length, set, take, drop, replicate, Option}
+use Rattle.std.proofs.Common.{Some, None, Result, Ok, refl, sym, ap, subst, append_assoc, arith, lit<}
 use Rattle.std.specs.Prelude.{decimal, ◌&&◌, ◌||◌, ◌==◌, nat_le, not, if◌then◌else◌}
 use Rattle.std.specs.List.{join_with_byte, list_any, position}
 use Rattle.std.proofs.lemmas.Bool.{and_from, and_parts, eqb-true, leb-true, le-leb}
@@ -148,7 +149,8 @@ pub record Rising (ver : ℕ) (before : List ℕ) (n least : ℕ) (row : Row) (o
   pub some : 1 ≤ length row → list_any (λ v. not (v == 0)) tail ≡ true
 
 -- the class does not rise
-none_first : (ver : ℕ) (before : List ℕ) (n least : ℕ) (row : Row) (out : List ℕ) → Rising ver (before ++ 0 ∷ []) n (least + 1) row out → Rising ver before (suc n) least row out
+none_first : (ver : ℕ) (before : List ℕ) (n least : ℕ) (row : Row) (out : List ℕ) → Rising ver (before ++ 0 ∷ []) n (least + 1) row out →
+    Rising ver before (suc n) least row out
 none_first ver before n least row out r = record {
   tail = 0 ∷ r.tail;
   is = r.is ∙ append_assoc before (0 ∷ []) r.tail;
@@ -160,8 +162,9 @@ none_first ver before n least row out r = record {
 }
 
 -- the class rises to this value
-value_first : (ver : ℕ) (before : List ℕ) (n least value : ℕ) (f : List ℕ) (row : Row) (out : List ℕ) → f ≡ rise_field least value → is_written_class ver least ≡ true →
-    (value == 0) ≡ false → value ≤ 18446744073709551615 → Rising ver (before ++ value ∷ []) n (least + 1) row out → Rising ver before (suc n) least (f ∷ row) out
+value_first : (ver : ℕ) (before : List ℕ) (n least value : ℕ) (f : List ℕ) (row : Row) (out : List ℕ) → f ≡ rise_field least value →
+    is_written_class ver least ≡ true → (value == 0) ≡ false → value ≤ 18446744073709551615 → Rising ver (before ++ value ∷ []) n (least + 1) row out →
+    Rising ver before (suc n) least (f ∷ row) out
 value_first ver before n least value f row out shown used some range r = record {
   tail = value ∷ r.tail;
   is = r.is ∙ append_assoc before (value ∷ []) r.tail;
@@ -223,12 +226,14 @@ rises_take ver (f ∷ row) before n least out len all e =
     at_class ver (b.value.0 - least) before n least b.value.0 b.value.1 f row out (omega (arith, low)) len all t.high t.shown t.used t.some t.range
     (λ other k l m h. rises_take ver row other k (b.value.0 + 1) out l m h) b.then
 
-pub rises_again : (ver : ℕ) (vs before : List ℕ) (least class : ℕ) → length before ≡ class → least ≤ class → class + length vs ≡ 16 → rise_in_classes ver class vs ≡ true →
-    AreWords vs → rises_from ver (before ++ zeros (length vs)) least (rises_row class vs) ≡ Ok (before ++ vs)
+pub rises_again : (ver : ℕ) (vs before : List ℕ) (least class : ℕ) → length before ≡ class → least ≤ class → class + length vs ≡ 16 →
+    rise_in_classes ver class vs ≡ true → AreWords vs →
+    rises_from ver (before ++ zeros (length vs)) least (rises_row class vs) ≡ Ok (before ++ vs)
 rises_again ver [] before least class len low all used range = refl
 rises_again ver (v ∷ vs) before least class len low all used range =
     let both = and_parts (v == 0 || is_written_class ver class) (rise_in_classes ver (class + 1) vs) used in
-    let next : (w k : ℕ) → k ≤ class + 1 → rises_from ver ((before ++ w ∷ []) ++ zeros (length vs)) k (rises_row (class + 1) vs) ≡ Ok ((before ++ w ∷ []) ++ vs) =
+    let next : (w k : ℕ) → k ≤ class + 1 →
+    rises_from ver ((before ++ w ∷ []) ++ zeros (length vs)) k (rises_row (class + 1) vs) ≡ Ok ((before ++ w ∷ []) ++ vs) =
     λ w k le. rises_again ver vs (before ++ w ∷ []) k (class + 1) (one_more before w class len) le (omega (arith, all)) both.1 range.1 in
     go next both.0 (v == 0) refl
   where

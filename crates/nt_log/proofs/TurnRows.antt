@@ -1,5 +1,6 @@
 -- The line of a turn: what is read is written so, and what is written so is read.
-use Rattle.std.proofs.Common.{◌≡◌, ◌∙◌, ℕ, zero, suc, ◌+◌, ◌<◌, ◌≤◌, Bool, true, false, List, [], ◌∷◌, length, get_or, map, replicate, Result, Ok, Err, refl, sym, ap, subst, arith, lit<}
+use Rattle.std.proofs.Common.{◌≡◌, ◌∙◌, ℕ, zero, suc, ◌+◌, ◌<◌, ◌≤◌, Bool, true, false, List, [], ◌∷◌, length, get_or, map, replicate, Result, Ok, Err, refl}
+use Rattle.std.proofs.Common.{sym, ap, subst, arith, lit<}
 use Rattle.std.specs.Prelude.{codes, decimal, not, ◌||◌, ◌==◌, nat_lt, if◌then◌else◌}
 use Rattle.std.specs.List.{list_any}
 use Rattle.std.specs.Str.{bytes_eq}
@@ -128,7 +129,9 @@ turn_takes cpus input most sound f args t e =
     }
 
     go : (x y z : Bool) → bytes_eq f (codes "next") ≡ x → bytes_eq f (codes "switch") ≡ y → bytes_eq f (codes "look") ≡ z →
-        (if x then read_next cpus args else (if y then read_switch cpus input.names args else (if z then read_look cpus input.version args else Err UnknownWord))) ≡ Ok t →
+        (if x then read_next cpus args
+        else (if y then read_switch cpus input.names args else (if z then read_look cpus input.version args else Err UnknownWord)))
+        ≡ Ok t →
         TurnTaken cpus input (f ∷ args) t
     go true y z p q r e = said (codes "next") (same_text f (codes "next") p) (next_takes cpus input most sound args t e)
     go false true z p q r e = said (codes "switch") (same_text f (codes "switch") q) (switch_takes cpus input most sound args t e)

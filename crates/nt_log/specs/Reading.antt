@@ -1,10 +1,12 @@
 -- What is read of a schedule line by line, and what is wrong with a line. The tests of a line come in the order in
 -- which the steps `>>=` stand. Processor numbers are below `cpus`.
-use Rattle.std.specs.Prelude.{ℕ, ◌+◌, Bool, List, [], ◌∷◌, ◌++◌, length, take, drop, replicate, slice_set, Option, Some, None, Result, Ok, Err, codes, nat_lt, nat_le, ◌==◌, ◌&&◌, not, if◌then◌else◌}
+use Rattle.std.specs.Prelude.{ℕ, ◌+◌, Bool, List, [], ◌∷◌, ◌++◌, length, take, drop, replicate, slice_set, Option, Some}
+use Rattle.std.specs.Prelude.{None, Result, Ok, Err, codes, nat_lt, nat_le, ◌==◌, ◌&&◌, not, if◌then◌else◌}
 use Rattle.std.specs.List.{position}
 use Rattle.std.specs.Str.{bytes_eq}
 use Rattle.nt_text.specs.declared.kind.ScriptKind.{ScriptKind}
-use Rattle.nt_text.specs.declared.kind.ScriptKind.TheVariants.{BadNumber, UnknownWord, MissingField, ExtraField, TooMany, NoEnd}
+use Rattle.nt_text.specs.declared.kind.ScriptKind.TheVariants.{BadNumber, UnknownWord, MissingField, ExtraField}
+use Rattle.nt_text.specs.declared.kind.ScriptKind.TheVariants.{TooMany, NoEnd}
 use Rattle.nt_text.specs.declared.kind.What10.TheVariants as what
 use Rattle.nt_text.specs.Lines.{Row, first, rest, is_byte, lines, row_of}
 use Rattle.nt_event.specs.declared.limits.TheConstants.{EVENTS}

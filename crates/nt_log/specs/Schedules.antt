@@ -1,5 +1,6 @@
 -- The text of a schedule, as rows of fields: the turn limit, a line for each turn, and the end.
-use Rattle.std.specs.Prelude.{◌≡◌, ℕ, ◌+◌, ◌<◌, ◌≤◌, Bool, true, ◌&&◌, ◌||◌, nat_le, not, List, [], ◌∷◌, ◌++◌, length, map, codes, decimal, ◌==◌, if◌then◌else◌}
+use Rattle.std.specs.Prelude.{◌≡◌, ℕ, ◌+◌, ◌<◌, ◌≤◌, Bool, true, ◌&&◌, ◌||◌, nat_le, not, List, [], ◌∷◌, ◌++◌, length}
+use Rattle.std.specs.Prelude.{map, codes, decimal, ◌==◌, if◌then◌else◌}
 use Rattle.std.specs.List.{AllByRecursion, list_all, list_any}
 use Rattle.nt_text.specs.Lines.{rows_text}
 use Rattle.nt_event.specs.declared.limits.TheConstants.{EVENTS, TURNS}

@@ -9,8 +9,8 @@ abbrev pub IsTaken : {A : Type 0} → (List ℕ × Bool → Result A ScriptKind)
     List (List ℕ × Bool) → Type 0
 IsTaken step said lines left = (line : List ℕ × Bool) × (lines ≡ line ∷ left) × (step line ≡ said)
 
--- a call that takes the first line, answers whether there was one, and changes an old value to a new one by it, or stops,
--- does what step says of that line, unless memory ran out; where there is none, nothing changes
+-- a call that takes the first line, answers whether there was one, and changes an old value to a new one by it, or
+-- stops, does what step says of that line, unless memory ran out; where there is none, nothing changes
 abbrev pub TakesLine : {A : Type 0} → (List ℕ × Bool → Result A ScriptKind) → Result Bool Stop → A → A →
     List (List ℕ × Bool) → List (List ℕ × Bool) → Type 0
 TakesLine step (Ok true) old new lines left = IsTaken step (Ok new) lines left

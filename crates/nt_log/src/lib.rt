@@ -1,12 +1,13 @@
 //! Schedules: which processor makes which step, and their text.
 //!
-//! A [`Schedule`] is a turn limit and a list of turns; [`turns_of`] gives that of a history. Its text is the line
-//! `schedule N`, a line for each turn, `next P`, `switch P THREAD` or `look P C=V ..`, and the line `done`;
-//! [`print_schedule`] gives it, and [`put_schedule`] adds it to another text, [`put_schedule_of`] that of a history.
-//! [`read_schedule`] answers the schedule of a text, or the least bad line and what is wrong with it, and [`ScheduleWalk`] reads
-//! one line by line within another text. The definition of the text is in `specs::Schedules`, that of the reading in
-//! `specs::Reading`, and [`schedules_both_ways`] says that each undoes the other. The whole grammar is this project's own
-//! (profile).
+//! A [`Schedule`] is a turn limit and a list of turns; [`turns_of`] gives that of a history. Its
+//! text is the line `schedule N`, a line for each turn, `next P`, `switch P THREAD` or
+//! `look P C=V ..`, and the line `done`; [`print_schedule`] gives it, and [`put_schedule`] adds it
+//! to another text, [`put_schedule_of`] that of a history. [`read_schedule`] answers the schedule
+//! of a text, or the least bad line and what is wrong with it, and [`ScheduleWalk`] reads one line
+//! by line within another text. The definition of the text is in `specs::Schedules`, that of the
+//! reading in `specs::Reading`, and [`schedules_both_ways`] says that each undoes the other. The
+//! whole grammar is this project's own (profile).
 //!
 //! [`put_field`] and [`put_number`] add fields of a line to a text.
 #![tactic(auto)]

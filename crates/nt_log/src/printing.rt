@@ -8,7 +8,8 @@ ghost use Rattle.nt_line.specs.NameLists.{show_thread};
 ghost use Rattle.nt_line.specs.Rows.{show_cpu};
 ghost use Rattle.nt_script.specs.Sound.{IsSound};
 ghost use Rattle.nt_text.specs.Lines.{spaced};
-ghost use Rattle.nt_log.specs.Schedules.{turn_fits, turns_fit, rise_field, rises_row, turn_row, limit_row, done_row, schedule_of, schedule_text};
+ghost use Rattle.nt_log.specs.Schedules.{turn_fits, turns_fit, rise_field, rises_row, turn_row};
+ghost use Rattle.nt_log.specs.Schedules.{limit_row, done_row, schedule_of, schedule_text};
 
 use crate::schedules::Schedule;
 use nt_event::{CpuNo, Rises, ThreadNo, Turn};
@@ -40,7 +41,8 @@ fn put_rises(out: &mut Vec<u8>, values: &[u64]) -> Result<(), AllocError>
 
 /// Adds the line of a turn that is neither a look nor a switch.
 fn put_next(out: &mut Vec<u8>, cpu: CpuNo) -> Result<(), AllocError>
-    ensures { OnOk result (out.new.items ≡ out.old.items ++ row_text (codes "next" ∷ show_cpu cpu ∷ [])) }
+    ensures { OnOk result
+        (out.new.items ≡ out.old.items ++ row_text (codes "next" ∷ show_cpu cpu ∷ [])) }
 {
     // Most lines of a schedule are this one.
     if cpu.0 < 10 {
@@ -58,7 +60,8 @@ fn put_next(out: &mut Vec<u8>, cpu: CpuNo) -> Result<(), AllocError>
 
 /// Adds a processor and the values that rise for it.
 fn put_look_fields(out: &mut Vec<u8>, cpu: CpuNo, rises: &Rises) -> Result<(), AllocError>
-    ensures { OnOk result (out.new.items ≡ out.old.items ++ spaced (show_cpu cpu ∷ rises_row 0 rises.now.value)) }
+    ensures { OnOk result
+        (out.new.items ≡ out.old.items ++ spaced (show_cpu cpu ∷ rises_row 0 rises.now.value)) }
 {
     put_number(out, u64::from(cpu.0))?;
     put_rises(out, &rises.value)
@@ -66,7 +69,8 @@ fn put_look_fields(out: &mut Vec<u8>, cpu: CpuNo, rises: &Rises) -> Result<(), A
 
 /// Adds the line of a look.
 fn put_look(out: &mut Vec<u8>, cpu: CpuNo, rises: &Rises) -> Result<(), AllocError>
-    ensures { OnOk result (out.new.items ≡ out.old.items ++ row_text (codes "look" ∷ show_cpu cpu ∷ rises_row 0 rises.now.value)) }
+    ensures { OnOk result (out.new.items
+        ≡ out.old.items ++ row_text (codes "look" ∷ show_cpu cpu ∷ rises_row 0 rises.now.value)) }
 {
     out.extend_from_slice(b"look")?;
     put_look_fields(out, cpu, rises)?;
@@ -76,7 +80,8 @@ fn put_look(out: &mut Vec<u8>, cpu: CpuNo, rises: &Rises) -> Result<(), AllocErr
 
 /// Adds the class and the value of a look in which one class alone rose, where it did.
 fn put_one_rise(out: &mut Vec<u8>, class: u8, value: u64) -> Result<(), AllocError>
-    ensures { OnOk result (out.new.items ≡ out.old.items ++ spaced (rises_row 0 (one_rise class value).value)) }
+    ensures { OnOk result
+        (out.new.items ≡ out.old.items ++ spaced (rises_row 0 (one_rise class value).value)) }
 {
     if 16 <= class {
         return Ok(());
@@ -94,7 +99,8 @@ fn put_one_look_fields(
     class: u8,
     value: u64,
 ) -> Result<(), AllocError>
-    ensures { OnOk result (out.new.items ≡ out.old.items ++ spaced (show_cpu cpu ∷ rises_row 0 (one_rise class value).value)) }
+    ensures { OnOk result (out.new.items
+        ≡ out.old.items ++ spaced (show_cpu cpu ∷ rises_row 0 (one_rise class value).value)) }
 {
     put_number(out, u64::from(cpu.0))?;
     put_one_rise(out, class, value)
@@ -102,7 +108,8 @@ fn put_one_look_fields(
 
 /// Adds the line of a look in which one class alone rose, as in most.
 fn put_one_look(out: &mut Vec<u8>, cpu: CpuNo, class: u8, value: u64) -> Result<(), AllocError>
-    ensures { OnOk result (out.new.items ≡ out.old.items ++ row_text (codes "look" ∷ show_cpu cpu ∷ rises_row 0 (one_rise class value).value)) }
+    ensures { OnOk result (out.new.items ≡ out.old.items
+        ++ row_text (codes "look" ∷ show_cpu cpu ∷ rises_row 0 (one_rise class value).value)) }
 {
     out.extend_from_slice(b"look")?;
     put_one_look_fields(out, cpu, class, value)?;
@@ -119,7 +126,8 @@ fn put_switch_fields(
 ) -> Result<(), AllocError>
     requires sound { IsSound input.now }
     requires fits { has_thread input.now.script thread ≡ true }
-    ensures { OnOk result (out.new.items ≡ out.old.items ++ spaced (show_cpu cpu ∷ show_thread input.now.names thread ∷ [])) }
+    ensures { OnOk result (out.new.items
+        ≡ out.old.items ++ spaced (show_cpu cpu ∷ show_thread input.now.names thread ∷ [])) }
 {
     put_number(out, u64::from(cpu.0))?;
     put_field(out, input.names.thread(thread).as_bytes())
@@ -134,7 +142,8 @@ fn put_switch(
 ) -> Result<(), AllocError>
     requires sound { IsSound input.now }
     requires fits { has_thread input.now.script thread ≡ true }
-    ensures { OnOk result (out.new.items ≡ out.old.items ++ row_text (codes "switch" ∷ show_cpu cpu ∷ show_thread input.now.names thread ∷ [])) }
+    ensures { OnOk result (out.new.items ≡ out.old.items
+        ++ row_text (codes "switch" ∷ show_cpu cpu ∷ show_thread input.now.names thread ∷ [])) }
 {
     out.extend_from_slice(b"switch")?;
     put_switch_fields(out, input, cpu, thread)?;
@@ -146,7 +155,8 @@ fn put_switch(
 fn put_turn(out: &mut Vec<u8>, input: &Input, turn: &Turn) -> Result<(), AllocError>
     requires sound { IsSound input.now }
     requires fits { turn_fits input.now.script turn.now ≡ true }
-    ensures { OnOk result (out.new.items ≡ out.old.items ++ row_text (turn_row input.now.names turn.now)) }
+    ensures { OnOk result
+        (out.new.items ≡ out.old.items ++ row_text (turn_row input.now.names turn.now)) }
 {
     match turn {
         Turn::Next(cpu) => put_next(out, *cpu),
@@ -163,8 +173,10 @@ fn put_turn_of(
     event: &Brief,
 ) -> Result<(), AllocError>
     requires sound { IsSound input.now }
-    requires fits { turn_fits input.now.script (turn_of (event_in events.now.rises.now event.now)) ≡ true }
-    ensures { OnOk result (out.new.items ≡ out.old.items ++ row_text (turn_row input.now.names (turn_of (event_in events.now.rises.now event.now)))) }
+    requires fits { turn_fits input.now.script (turn_of (event_in events.now.rises.now event.now))
+        ≡ true }
+    ensures { OnOk result (out.new.items ≡ out.old.items ++ row_text
+        (turn_row input.now.names (turn_of (event_in events.now.rises.now event.now)))) }
 {
     match event.did {
         Did::Look {
@@ -192,7 +204,8 @@ fn put_turn_of(
 fn put_turns(out: &mut Vec<u8>, input: &Input, turns: &Turns) -> Result<(), AllocError>
     requires sound { IsSound input.now }
     requires fit { turns_fit input.now.script turns.now ≡ true }
-    ensures { OnOk result (out.new.items ≡ out.old.items ++ rows_text (map (turn_row input.now.names) turns.now)) }
+    ensures { OnOk result
+        (out.new.items ≡ out.old.items ++ rows_text (map (turn_row input.now.names) turns.now)) }
 {
     let mut walk = turns.walk();
     let mut turn = no_turn();
@@ -205,8 +218,12 @@ fn put_turns(out: &mut Vec<u8>, input: &Input, turns: &Turns) -> Result<(), Allo
 /// Adds the lines of the turns that make these events.
 fn put_turns_of(out: &mut Vec<u8>, input: &Input, events: &Briefs) -> Result<(), AllocError>
     requires sound { IsSound input.now }
-    requires fit { turns_fit input.now.script (map turn_of (events_in events.now.briefs.now events.now.rises.now)) ≡ true }
-    ensures { OnOk result (out.new.items ≡ out.old.items ++ rows_text (map (turn_row input.now.names) (map turn_of (events_in events.now.briefs.now events.now.rises.now)))) }
+    requires fit { turns_fit input.now.script
+        (map turn_of (events_in events.now.briefs.now events.now.rises.now))
+        ≡ true }
+    ensures { OnOk result (out.new.items ≡ out.old.items ++ rows_text (map
+        (turn_row input.now.names)
+        (map turn_of (events_in events.now.briefs.now events.now.rises.now)))) }
 {
     for event in events.briefs {
         put_turn_of(out, input, events, event)?;
@@ -231,7 +248,8 @@ fn put_end(out: &mut Vec<u8>) -> Result<(), AllocError>
     out.extend_from_slice(b"done\n")
 }
 
-/// Adds the text of a schedule to another text. An error is want of memory, and the text may then have more at its end.
+/// Adds the text of a schedule to another text. An error is want of memory, and the text may then
+/// have more at its end.
 pub fn put_schedule(out: &mut Vec<u8>, input: &Input, schedule: &Schedule) -> Result<(), AllocError>
     requires sound { IsSound input.now }
     requires fit { turns_fit input.now.script schedule.now.list ≡ true }
@@ -242,8 +260,8 @@ pub fn put_schedule(out: &mut Vec<u8>, input: &Input, schedule: &Schedule) -> Re
     put_end(out)
 }
 
-/// Adds the text of a history's schedule to another text, turn by turn, without the schedule as a value. An error is want of
-/// memory, and the text may then have more at its end.
+/// Adds the text of a history's schedule to another text, turn by turn, without the schedule as a
+/// value. An error is want of memory, and the text may then have more at its end.
 pub fn put_schedule_of(
     out: &mut Vec<u8>,
     input: &Input,
@@ -251,14 +269,16 @@ pub fn put_schedule_of(
 ) -> Result<(), AllocError>
     requires sound { IsSound input.now }
     requires fit { turns_fit input.now.script (schedule_of history.now).list ≡ true }
-    ensures { OnOk result (out.new.items ≡ out.old.items ++ schedule_text input.now (schedule_of history.now)) }
+    ensures { OnOk result
+        (out.new.items ≡ out.old.items ++ schedule_text input.now (schedule_of history.now)) }
 {
     put_limit(out, history.turns())?;
     put_turns_of(out, input, &history.lend())?;
     put_end(out)
 }
 
-/// The text of a schedule whose switches take threads of the input's script. An error is want of memory.
+/// The text of a schedule whose switches take threads of the input's script. An error is want of
+/// memory.
 pub fn print_schedule(
     alloc: Global,
     input: &Input,

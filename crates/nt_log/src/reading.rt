@@ -39,12 +39,14 @@ fn read_lines(
     }
 }
 
-/// The schedule whose text the bytes are, for the script of an input, or the least bad line and what is wrong with it.
+/// The schedule whose text the bytes are, for the script of an input, or the least bad line and
+/// what is wrong with it.
 ///
-/// `first_line` is the number of the first line of the bytes, which stand behind a script. Processor numbers are at most 63.
-/// Ok exactly where the bytes are the text of a schedule, with that schedule; `Bad` else, of which [`ScheduleWalk::line`] has
-/// the order of tests. Where no line is bad and none is `done`, it is NoEnd at the line behind the last; so empty input is
-/// NoEnd at the first line (profile). `NoMemory` may come at any call.
+/// `first_line` is the number of the first line of the bytes, which stand behind a script.
+/// Processor numbers are at most 63. Ok exactly where the bytes are the text of a schedule, with
+/// that schedule; `Bad` else, of which [`ScheduleWalk::line`] has the order of tests. Where no line
+/// is bad and none is `done`, it is NoEnd at the line behind the last; so empty input is NoEnd at
+/// the first line (profile). `NoMemory` may come at any call.
 pub fn read_schedule(
     alloc: Global,
     input: &Input,

@@ -1,18 +1,21 @@
-//! What the line of a turn says, one function for each part of it. Each tests in the order of the refusals.
+//! What the line of a turn says, one function for each part of it. Each tests in the order of the
+//! refusals.
 ghost use Rattle.std.specs.Prelude.{◌≡◌, ◌<◌, ◌∷◌, true, length, IfOk};
 ghost use Rattle.std.specs.List.{position};
 ghost use Rattle.std.specs.Result.{result_map_both};
 ghost use Rattle.nt_text.specs.Lines.{is_byte};
 ghost use Rattle.nt_script.specs.Reading.{counted};
 ghost use Rattle.nt_log.specs.Schedules.{is_written_class};
-ghost use Rattle.nt_log.specs.Reading.{read_class, read_value, read_rise, read_rises, read_next, read_switch, read_look, read_turn};
+ghost use Rattle.nt_log.specs.Reading.{read_class, read_value, read_rise, read_rises, read_next};
+ghost use Rattle.nt_log.specs.Reading.{read_switch, read_look, read_turn};
 
 use nt_event::{Rises, Turn, class};
 use nt_line::{Names, fields};
 use nt_script::Input;
 use nt_text::{Fields, ScriptKind, number};
 
-/// Whether a look of a text may name the class: each that is used, and that of locks in version 2 alone.
+/// Whether a look of a text may name the class: each that is used, and that of locks in version 2
+/// alone.
 fn is_written(version: u8, class: u8) -> bool
     ensures { result ≡ is_written_class version class }
 {
@@ -84,7 +87,8 @@ fn rises(version: u8, args: &mut Fields) -> Result<Rises, ScriptKind>
     Ok(Rises { value })
 }
 
-/// Tests that so many fields are left: MissingField where there are fewer, ExtraField where there are more.
+/// Tests that so many fields are left: MissingField where there are fewer, ExtraField where there
+/// are more.
 pub fn count(args: &Fields, wanted: usize) -> Result<(), ScriptKind>
     ensures { result_map_both (λ _. true) (λ kind. kind) result ≡ counted (length args.now) wanted }
 {

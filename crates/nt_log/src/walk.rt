@@ -6,10 +6,10 @@ ghost use Rattle.nt_log.specs.Schedules.{turn_bound};
 use crate::schedules::{Schedule, turn_bound};
 use crate::turns::{count, turn};
 use nt_event::{CpuNo, Turn, limits};
+use nt_history::Turns;
 use nt_line::fields;
 use nt_script::{Input, ScriptRefusal, Stop};
 use nt_text::{Fields, Line, Lines, ScriptKind, What10};
-use nt_history::Turns;
 use std::alloc::Global;
 
 /// The part of a schedule that was read last.
@@ -41,7 +41,8 @@ impl ScheduleWalk {
     ghost use Rattle.nt_line.specs.Results.{ok_if};
     ghost use Rattle.nt_script.specs.Gives.{Gives, GivesRead};
     ghost use Rattle.nt_log.specs.Taking.{TakesLine};
-    ghost use Rattle.nt_log.specs.Reading.{start, first_step, turn_step, with_turn, step, line_step, finish};
+    ghost use Rattle.nt_log.specs.Reading.{start, first_step, turn_step, with_turn, step};
+    ghost use Rattle.nt_log.specs.Reading.{line_step, finish};
 
     /// Nothing was read.
     pub fn new(alloc: Global) -> ScheduleWalk
@@ -58,21 +59,25 @@ impl ScheduleWalk {
 
     /// Takes a line of a schedule for this input's script, in which each processor is below `cpus`.
     ///
-    /// The first test that a line does not pass refuses it: NotAscii, NoEnd; a line behind `done` is ExtraField; UnknownWord
-    /// where the first field is no word of this place; MissingField and ExtraField by the count of the fields, which of a
-    /// look has no upper bound; each field from left to right, BadNumber or, of a thread, BadName, UnknownName and WrongKind;
-    /// TooMany for a turn above the greatest count of events. `NoMemory` leaves the walk of no use.
+    /// The first test that a line does not pass refuses it: NotAscii, NoEnd; a line behind `done`
+    /// is ExtraField; UnknownWord where the first field is no word of this place; MissingField and
+    /// ExtraField by the count of the fields, which of a look has no upper bound; each field from
+    /// left to right, BadNumber or, of a thread, BadName, UnknownName and WrongKind; TooMany for a
+    /// turn above the greatest count of events. `NoMemory` leaves the walk of no use.
     pub fn line(&mut self, input: &Input, cpus: u8, line: &Line) -> Result<(), Stop>
-        ensures { Gives result self.new (line_step cpus input.now self.old (line.now.bytes.now, line.now.ended)) }
+        ensures { Gives result self.new
+            (line_step cpus input.now self.old (line.now.bytes.now, line.now.ended)) }
     {
         let mut row = line.fields()?;
         self.step(input, cpus, &mut row)
     }
 
-    /// Takes the first line that is left, as [`ScheduleWalk::line`] does. Answers whether there was one; else nothing changes.
+    /// Takes the first line that is left, as [`ScheduleWalk::line`] does. Answers whether there was
+    /// one; else nothing changes.
     #[inline(always)]
     pub fn next_line(&mut self, input: &Input, cpus: u8, lines: &mut Lines) -> Result<bool, Stop>
-        ensures { TakesLine (line_step cpus input.now self.old) result self.old self.new lines.old lines.new }
+        ensures { TakesLine (line_step cpus input.now self.old) result self.old self.new
+            lines.old lines.new }
     {
         // Most lines of a schedule are `next P`.
         if self.has_room() {
@@ -87,15 +92,18 @@ impl ScheduleWalk {
     /// Whether the line of a turn may come, and is not one too many.
     #[inline(always)]
     fn has_room(&self) -> bool
-        ensures { IsTrue result ↔ (self.now.place ≡ InTurns) × (length self.now.schedule.list < EVENTS) }
+        ensures { IsTrue result ↔
+            (self.now.place ≡ InTurns) × (length self.now.schedule.list < EVENTS) }
     {
         self.place == SchedulePlace::InTurns && self.schedule.list.len() < limits::EVENTS as usize
     }
 
-    /// Takes the first line that is left, whatever its form. It stands apart, so that the short way needs no registers of it.
+    /// Takes the first line that is left, whatever its form. It stands apart, so that the short way
+    /// needs no registers of it.
     #[inline(never)]
     fn any_line(&mut self, input: &Input, cpus: u8, lines: &mut Lines) -> Result<bool, Stop>
-        ensures { TakesLine (line_step cpus input.now self.old) result self.old self.new lines.old lines.new }
+        ensures { TakesLine (line_step cpus input.now self.old) result self.old self.new
+            lines.old lines.new }
     {
         match lines.next() {
             Some(line) => {
@@ -106,7 +114,8 @@ impl ScheduleWalk {
         }
     }
 
-    /// The schedule, where the text may end here: NoEnd else. `line` is the number of the line behind the last.
+    /// The schedule, where the text may end here: NoEnd else. `line` is the number of the line
+    /// behind the last.
     pub fn finish(self, line: u32) -> Result<Schedule, ScriptRefusal>
         ensures { GivesRead result (finish self.place self.schedule line) }
     {
@@ -158,7 +167,8 @@ impl ScheduleWalk {
 
     /// Adds a turn.
     fn add(&mut self, turn: &Turn) -> Result<(), Stop>
-        ensures { Gives result self.new (ok_if (nat_lt (length self.old.schedule.list) EVENTS) (with_turn self.old turn.now) (TooMany what.Turns)) }
+        ensures { Gives result self.new (ok_if (nat_lt (length self.old.schedule.list) EVENTS)
+            (with_turn self.old turn.now) (TooMany what.Turns)) }
     {
         if self.schedule.list.len() >= limits::EVENTS as usize {
             return Err(Stop::Bad(ScriptKind::TooMany(What10::Turns)));

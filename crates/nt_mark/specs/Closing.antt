@@ -1,5 +1,6 @@
 -- What stands at the start, and what all seats together show at the end.
-use Rattle.std.specs.Prelude.{◌≡◌, ◌⊎◌, ℕ, ◌+◌, ◌<◌, ◌==◌, nat_lt, List, [], ◌∷◌, ◌++◌, length, slice_index_or, All, Contains, count_by, if◌then◌else◌}
+use Rattle.std.specs.Prelude.{◌≡◌, ◌⊎◌, ℕ, ◌+◌, ◌<◌, ◌==◌, nat_lt, List, [], ◌∷◌, ◌++◌, length, slice_index_or, All}
+use Rattle.std.specs.Prelude.{Contains, count_by, if◌then◌else◌}
 use Rattle.atomic_table.specs.Seated.{TableId}
 use Rattle.nt_mark.specs.declared.view.Entry.{Entry}
 use Rattle.nt_mark.specs.declared.view.Look.{Look}
@@ -10,7 +11,8 @@ use Rattle.nt_mark.specs.declared.seats.Pass.{Pass}
 use Rattle.nt_mark.specs.declared.seats.Keeper.{Keeper}
 use Rattle.nt_mark.specs.Views.{both, mark_of}
 use Rattle.nt_mark.specs.Rule.{IsBeginning}
-use Rattle.nt_mark.specs.Names.{pass_view, pass_views, keeper_table, keeper_lane, keeper_view, keeper_views, keeper_notes}
+use Rattle.nt_mark.specs.Names.{pass_view, pass_views, keeper_table, keeper_lane, keeper_view, keeper_views}
+use Rattle.nt_mark.specs.Names.{keeper_notes}
 
 -- the keeper of this lane of the table, with an empty list, which knows nothing yet
 pub record IsNewKeeper (table : TableId) (lane : ℕ) (k : Keeper) : Type 0 where

@@ -1,5 +1,6 @@
 -- The rule of the table, which holds between any two steps, and what each kind of step tells.
-use Rattle.std.specs.Prelude.{◌≡◌, ◌⊎◌, ℕ, zero, suc, ◌+◌, ◌*◌, ◌<◌, ◌≤◌, List, [], ◌∷◌, ◌++◌, length, slice_index, slice_index_or, All, Contains, sum_by}
+use Rattle.std.specs.Prelude.{◌≡◌, ◌⊎◌, ℕ, zero, suc, ◌+◌, ◌*◌, ◌<◌, ◌≤◌, List, [], ◌∷◌, ◌++◌, length, slice_index}
+use Rattle.std.specs.Prelude.{slice_index_or, All, Contains, sum_by}
 use mathlib.Core.Option.{some}
 use lib.ListN.{get_elem?}
 use Rattle.std.specs.List.Sorted.{IsStrictlyIncreasing}
@@ -16,7 +17,8 @@ use Rattle.nt_mark.specs.declared.view.LaneList.{LaneList}
 use Rattle.nt_mark.specs.declared.view.Reached.{Reached}
 use Rattle.nt_mark.specs.declared.view.View.{View}
 use Rattle.nt_mark.specs.declared.view.Sizes.{Sizes}
-use Rattle.nt_mark.specs.Views.{step_word, request_word, lane_word, mark_of, drawn, marked, looked, noted, note_numbers, first_notes, reach}
+use Rattle.nt_mark.specs.Views.{step_word, request_word, lane_word, mark_of, drawn, marked, looked, noted, note_numbers}
+use Rattle.nt_mark.specs.Views.{first_notes, reach}
 
 -- h of each number below n, added up
 abbrev pub sum_below : (ℕ → ℕ) → ℕ → ℕ

@@ -16,7 +16,8 @@ impl TableRule<u8, View, Sizes> for Law {
     ghost first = { opening_view };
 }
 
-/// What one thread draws, marks and looks with. It holds at least one part of its marks and keeps no lane. It has no bytes.
+/// What one thread draws, marks and looks with. It holds at least one part of its marks and keeps
+/// no lane. It has no bytes.
 #[derive(Drop)]
 pub struct Pass {
     pub(crate) seat: Seat<u8, View>,
@@ -25,8 +26,8 @@ pub struct Pass {
     ghost no_slot: { seat.me.1 ≡ [] },
 }
 
-/// What notes the events of one lane, and what passes tell each other by. It holds no part, so it draws and marks nothing. It
-/// is meant to lie behind the lane's lock.
+/// What notes the events of one lane, and what passes tell each other by. It holds no part, so it
+/// draws and marks nothing. It is meant to lie behind the lane's lock.
 #[derive(Drop)]
 pub struct Keeper {
     pub(crate) seat: Seat<u8, View>,

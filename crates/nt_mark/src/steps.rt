@@ -1,5 +1,6 @@
-//! What the steps on the table tell. A step is told by a type, so what it puts into a view (an event, a request, states) is
-//! given by ghost members of a type parameter, which the calls of `Marks` pick.
+//! What the steps on the table tell. A step is told by a type, so what it puts into a view (an
+//! event, a request, states) is given by ghost members of a type parameter, which the calls of
+//! `Marks` pick.
 use crate::view::View;
 use atomic_table::{Join, Play, Split};
 use std::marker::{Brand, PhantomData};

@@ -3,7 +3,9 @@ ghost use Rattle.std.specs.Prelude.{◌≡◌, ◌<◌, ◌≤◌, ◌+◌, ◌*
 ghost use Rattle.nt_mark.specs.declared.view.Entry.{Entry};
 ghost use Rattle.nt_mark.specs.Views.{reach};
 ghost use Rattle.nt_mark.specs.Rule.{IsAbove};
-ghost use Rattle.nt_mark.specs.Names.{keeper_view, table_of, cpus_of, lanes_of, limit_of, keeper_table, keeper_lane, keeper_notes, pass_table, pass_view};
+ghost use Rattle.nt_mark.specs.Names.{keeper_view, table_of, cpus_of, lanes_of, limit_of};
+ghost use Rattle.nt_mark.specs.Names.{keeper_table, keeper_lane, keeper_notes, pass_table};
+ghost use Rattle.nt_mark.specs.Names.{pass_view};
 ghost use Rattle.nt_mark.specs.Closing.{AreNewKeepers, IsNewKeeper};
 
 use crate::{Keeper, Made, Marks, Pass, Shared, Shows};
@@ -46,10 +48,14 @@ fn only(marks: &Marks, mut keepers: Vec<Keeper>) -> Keeper
 
 // Tells the keeper of the pass's event of this number and notes it; the place on the keeper's list.
 fn noted(marks: &Marks, keeper: &mut Keeper, pass: &mut Pass, n: u64) -> u64
-    requires table { (keeper_table keeper.old ≡ table_of marks.now) × (pass_table pass.old ≡ table_of marks.now) }
-    requires drew { (e : Entry) × Contains (pass_view pass.old).entries e × (e.number ≡ n) × Contains e.lanes (keeper_lane keeper.old) }
+    requires table { (keeper_table keeper.old ≡ table_of marks.now) ×
+        (pass_table pass.old ≡ table_of marks.now) }
+    requires drew { (e : Entry) × Contains (pass_view pass.old).entries e × (e.number ≡ n) ×
+        Contains e.lanes (keeper_lane keeper.old) }
     requires above { IsAbove n (keeper_notes keeper.old) }
-    ensures table { (keeper_table keeper.new ≡ table_of marks.now) × (pass_table pass.new ≡ table_of marks.now) × (keeper_lane keeper.new ≡ keeper_lane keeper.old) }
+    ensures table { (keeper_table keeper.new ≡ table_of marks.now) ×
+        (pass_table pass.new ≡ table_of marks.now) ×
+        (keeper_lane keeper.new ≡ keeper_lane keeper.old) }
     ensures last { (m : ℕ) → n < m → IsAbove m (keeper_notes keeper.new) }
     ensures words { (w : ℕ) → reach w (pass_view pass.old) ≤ reach w (keeper_view keeper.new) }
     ensures parts { (pass_view pass.new).parts ≡ (pass_view pass.old).parts }
@@ -89,11 +95,13 @@ fn marks(rt: HostRuntime) -> Result<(), Fail> {
     Ok(())
 }
 
-// Draws this many times, asks the other processor by each number, and looks for requests to its own.
+// Draws this many times, asks the other processor by each number, and looks for requests to its
+// own.
 fn work(marks: &Marks, mut pass: Pass, own: CpuNo, other: CpuNo, rounds: u64) -> Pass
     requires table { pass_table pass ≡ table_of marks.now }
     requires cpus { (own.0 < cpus_of marks.now) × (other.0 < cpus_of marks.now) }
-    requires room { length (pass_view pass).entries + rounds ≤ limit_of marks.now * (pass_view pass).parts }
+    requires room { length (pass_view pass).entries + rounds
+        ≤ limit_of marks.now * (pass_view pass).parts }
     ensures table { pass_table result ≡ table_of marks.now }
     ensures parts { (pass_view result).parts ≡ (pass_view pass).parts }
 {
@@ -130,8 +138,9 @@ fn two_threads_draw_each_number_once(rt: HostRuntime) -> Result<(), Fail> {
     Ok(())
 }
 
-// A lane that shows no state: what lies behind its lock is known by its type alone, so the type keeps that the keeper is of N's
-// table, and that it knows of the step word more than the last number on its list.
+// A lane that shows no state: what lies behind its lock is known by its type alone, so the type
+// keeps that the keeper is of N's table, and that it knows of the step word more than the last
+// number on its list.
 struct Lane<N: Shared> {
     keeper: Keeper,
     of: PhantomData<N>,
@@ -147,7 +156,9 @@ impl<N: Shared> Model for Lane<N> {
 
     ghost view = { λ s. keeper_lane s.keeper };
 
-    ghost invariant = { λ s. (keeper_table s.keeper ≡ N.table) × (keeper_lane s.keeper ≡ 0) × IsAbove (reach step_word (keeper_view s.keeper)) (keeper_notes s.keeper) };
+    ghost invariant = { λ s.
+        (keeper_table s.keeper ≡ N.table) × (keeper_lane s.keeper ≡ 0) ×
+        IsAbove (reach step_word (keeper_view s.keeper)) (keeper_notes s.keeper) };
 }
 
 impl<N: Shared> Lane<N> {
@@ -155,10 +166,12 @@ impl<N: Shared> Lane<N> {
     fn act(&mut self, marks: &Marks, pass: &mut Pass)
         requires table { (table_of marks.now ≡ N.table) × (pass_table pass.old ≡ N.table) }
         requires lane { 0 < lanes_of marks.now }
-        requires room { length (pass_view pass.old).entries < limit_of marks.now * (pass_view pass.old).parts }
+        requires room { length (pass_view pass.old).entries
+            < limit_of marks.now * (pass_view pass.old).parts }
         ensures table { pass_table pass.new ≡ N.table }
         ensures parts { (pass_view pass.new).parts ≡ (pass_view pass.old).parts }
-        ensures drew { length (pass_view pass.new).entries ≡ length (pass_view pass.old).entries + 1 }
+        ensures drew { length (pass_view pass.new).entries
+            ≡ length (pass_view pass.old).entries + 1 }
     {
         marks.share(&mut self.keeper, pass);
         let n = marks.draw(pass, &rest(), &[0]);
@@ -176,7 +189,8 @@ fn act_often<N: Shared, R: Wait>(
 ) -> Pass
     requires table { (table_of marks.now ≡ N.table) × (pass_table pass ≡ N.table) }
     requires lanes { lanes_of marks.now ≡ 1 }
-    requires room { length (pass_view pass).entries + rounds ≤ limit_of marks.now * (pass_view pass).parts }
+    requires room { length (pass_view pass).entries + rounds
+        ≤ limit_of marks.now * (pass_view pass).parts }
     ensures table { pass_table result ≡ N.table }
     ensures parts { (pass_view result).parts ≡ (pass_view pass).parts }
 {
@@ -187,7 +201,8 @@ fn act_often<N: Shared, R: Wait>(
     pass
 }
 
-// Two threads make events that touch the lane, each with a pass of its own; the passes and the keeper after them.
+// Two threads make events that touch the lane, each with a pass of its own; the passes and the
+// keeper after them.
 fn act_on_threads<N: Shared + Send + Sync, R: Threads + Wait + Sync>(
     rt: &R,
     marks: &Marks,
@@ -197,11 +212,16 @@ fn act_on_threads<N: Shared + Send + Sync, R: Threads + Wait + Sync>(
 ) -> (Pass, Pass, Keeper)
     requires names { N.table ≡ table_of marks.now }
     requires keeper { IsNewKeeper (table_of marks.now) 0 keeper }
-    requires table { (pass_table pass ≡ table_of marks.now) × (pass_table other ≡ table_of marks.now) }
+    requires table { (pass_table pass ≡ table_of marks.now) ×
+        (pass_table other ≡ table_of marks.now) }
     requires lanes { lanes_of marks.now ≡ 1 }
-    requires room { (length (pass_view pass).entries + 100 ≤ limit_of marks.now * (pass_view pass).parts) × (length (pass_view other).entries + 100 ≤ limit_of marks.now * (pass_view other).parts) }
-    ensures table { (pass_table result.0 ≡ table_of marks.now) × (pass_table result.1 ≡ table_of marks.now) × (keeper_table result.2 ≡ table_of marks.now) }
-    ensures parts { ((pass_view result.0).parts ≡ (pass_view pass).parts) × ((pass_view result.1).parts ≡ (pass_view other).parts) }
+    requires room { (length (pass_view pass).entries + 100
+        ≤ limit_of marks.now * (pass_view pass).parts) ×
+        (length (pass_view other).entries + 100 ≤ limit_of marks.now * (pass_view other).parts) }
+    ensures table { (pass_table result.0 ≡ table_of marks.now) ×
+        (pass_table result.1 ≡ table_of marks.now) × (keeper_table result.2 ≡ table_of marks.now) }
+    ensures parts { ((pass_view result.0).parts ≡ (pass_view pass).parts) ×
+        ((pass_view result.1).parts ≡ (pass_view other).parts) }
 {
     let lane = Mutex::new(Lane::<N> {
         keeper,

@@ -1,4 +1,5 @@
-//! What a seat has and knows. No value of these types is made: contracts and the rule of the table alone speak of them.
+//! What a seat has and knows. No value of these types is made: contracts and the rule of the table
+//! alone speak of them.
 use nt_event::{CpuNo, Event};
 use std::collections::LinkedList;
 use std::marker::Model;
@@ -24,7 +25,8 @@ pub struct Look {
     pub value: u64,
 }
 
-/// The states of the lanes behind one lock. Contracts see it as the record of the specs, which no code looks into.
+/// The states of the lanes behind one lock. Contracts see it as the record of the specs, which no
+/// code looks into.
 pub struct Shown {
     nothing: u64,
 }
@@ -56,8 +58,8 @@ pub struct Reached {
     pub value: u64,
 }
 
-/// What a seat has: parts, lanes, entries, marks and looks. And what it knows: values that words have reached, entries, and
-/// beginnings of lanes' lists.
+/// What a seat has: parts, lanes, entries, marks and looks. And what it knows: values that words
+/// have reached, entries, and beginnings of lanes' lists.
 pub struct View {
     pub parts: u64,
     pub kept: LinkedList<LaneList>,

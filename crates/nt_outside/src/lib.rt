@@ -1,6 +1,6 @@
-// The outside world of the project, as traits: where the input comes from, where the text goes, and what
-// stands before each turn of a worker. Contracts see the bytes that a source has left and a sink holds,
-// where the object tells them, and counts of bytes and of faults.
+// The outside world of the project, as traits: where the input comes from, where the text goes, and
+// what stands before each turn of a worker. Contracts see the bytes that a source has left and a
+// sink holds, where the object tells them, and counts of bytes and of faults.
 #![tactic(auto)]
 
 mod calls;

@@ -1,6 +1,7 @@
 // A sink in memory, whose calls fail where its maker wants it, and where it is full.
 ghost use Rattle.std.specs.Prelude.{◌≡◌, ◌≤◌, ◌↔◌, length, IsErr, IfOk, Some};
-ghost use Rattle.nt_outside.specs.MemorySink.{new_sink, RefusesNext, piece_of, after_give, IsMemorySink};
+ghost use Rattle.nt_outside.specs.MemorySink.{new_sink, RefusesNext, piece_of, after_give};
+ghost use Rattle.nt_outside.specs.MemorySink.{IsMemorySink};
 
 use crate::calls::Calls;
 use crate::error::Failed;
@@ -24,15 +25,21 @@ impl Model for MemorySink {
 
     ghost Value = { SinkState };
 
-    ghost view = { λ s. record { held = s.bytes.items; room = s.room; piece = s.piece; calls = s.calls } };
+    ghost view = { λ s. record {
+      held = s.bytes.items;
+      room = s.room;
+      piece = s.piece;
+      calls = s.calls;
+    } };
 
-    ghost invariant = { λ s. (vec_len s.bytes ≤ s.room) × (s.room ≤ vec_capacity s.bytes) × (1 ≤ s.piece) };
+    ghost invariant = { λ s.
+        (vec_len s.bytes ≤ s.room) × (s.room ≤ vec_capacity s.bytes) × (1 ≤ s.piece) };
 }
 
 impl MemorySink {
-    /// An empty sink with room for `room` bytes, whose memory it takes here. A call moves at most `piece`
-    /// bytes. Calls are counted from 0, and those in `fails` answer `Failed` and raise the count of faults.
-    /// So does a call with bytes where the sink is full.
+    /// An empty sink with room for `room` bytes, whose memory it takes here. A call moves at most
+    /// `piece` bytes. Calls are counted from 0, and those in `fails` answer `Failed` and raise the
+    /// count of faults. So does a call with bytes where the sink is full.
     pub fn new(
         alloc: Global,
         room: usize,

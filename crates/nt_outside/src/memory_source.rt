@@ -24,14 +24,19 @@ impl Model for MemorySource {
 
     ghost Value = { SourceState };
 
-    ghost view = { λ s. record { left = drop s.taken s.bytes.items; taken = s.taken; piece = s.piece; calls = s.calls } };
+    ghost view = { λ s. record {
+      left = drop s.taken s.bytes.items;
+      taken = s.taken;
+      piece = s.piece;
+      calls = s.calls;
+    } };
 
     ghost invariant = { λ s. (s.taken ≤ vec_len s.bytes) × (1 ≤ s.piece) };
 }
 
 impl MemorySource {
-    /// A source of these bytes. A call moves at most `piece` bytes. Calls are counted from 0, and those in
-    /// `fails` answer `Failed` and raise the count of faults.
+    /// A source of these bytes. A call moves at most `piece` bytes. Calls are counted from 0, and
+    /// those in `fails` answer `Failed` and raise the count of faults.
     pub fn new(bytes: Vec<u8>, piece: usize, fails: Vec<u64>) -> MemorySource
         requires { 1 ≤ piece }
         ensures { result ≡ new_source bytes.items piece fails.items }

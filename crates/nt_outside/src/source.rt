@@ -17,11 +17,12 @@ pub trait Source {
     // How many calls met a fault so far: a count, which stays at its last value.
     ghost faults: { Self → ℕ };
 
-    /// Takes the next bytes into the front of `into` and says how many: at most its length.
-    /// `Ok(0)` for an `into` that isn't empty is the end of the input. After `Failed` nothing was taken.
+    /// Takes the next bytes into the front of `into` and says how many: at most its length. `Ok(0)`
+    /// for an `into` that isn't empty is the end of the input. After `Failed` nothing was taken.
     fn take(&mut self, into: &mut [u8]) -> Result<usize, Failed>
         ensures within { moved result ≤ length into.old }
-        ensures bytes { left self.old ≡ prepend_known (take (moved result) into.new) (left self.new) }
+        ensures bytes { left self.old
+            ≡ prepend_known (take (moved result) into.new) (left self.new) }
         ensures taken { taken self.new ≡ counted (taken self.old) (moved result) }
         ensures end { result ≡ Ok 0 → 0 < length into.old → IsAtEnd (left self.new) }
         ensures failed { OnErr result (Rose (faults self.old) (faults self.new)) }

@@ -1,5 +1,5 @@
-// The standard streams: the edge of what is proved. They tell no bytes, and what the system gives and takes
-// is its own affair.
+// The standard streams: the edge of what is proved. They tell no bytes, and what the system gives
+// and takes is its own affair.
 ghost use Rattle.std.specs.Prelude.{◌≡◌, ◌<◌, ◌≤◌, length, IfOk, None};
 ghost use Rattle.nt_outside.specs.Bytes.{moved};
 ghost use Rattle.nt_outside.specs.Counts.{last_count};

@@ -1,5 +1,5 @@
-// Sources and sinks in memory, over pieces and failing calls; whole inputs at their limit; the standard
-// streams.
+// Sources and sinks in memory, over pieces and failing calls; whole inputs at their limit; the
+// standard streams.
 ghost use Rattle.std.specs.Prelude.{◌≤◌};
 
 use crate::{

@@ -9,8 +9,8 @@ use crate::sink::Sink;
 
 /// Adds all of `bytes` to the sink, and offers it at each turn all that are left.
 ///
-/// `WriteFault` comes only where the sink's count of faults rose. Then the sink has got a front part of the
-/// bytes, and not all of them. Takes no memory.
+/// `WriteFault` comes only where the sink's count of faults rose. Then the sink has got a front
+/// part of the bytes, and not all of them. Takes no memory.
 pub fn write_all<K: Sink>(sink: &mut K, bytes: &[u8]) -> Result<(), WriteFault>
     ensures added { OnOk result (K.held sink.new ≡ append_known (K.held sink.old) bytes.now) }
     ensures fault { OnErr result (Rose (K.faults sink.old) (K.faults sink.new)) }

@@ -42,8 +42,9 @@ start_locks s =
       flags = λ i d l. rw (get_or-table s.locks i (λ k. free_lock s) d (omega (arith, size, l))) (length-table_from 0 s.cpus (λ q. false));
     }
 
-pub start_states : (s : Script) (d : DpcLanes) (t : ThreadLanes) (x : Timers) (k : List LockState) (n m : ℕ) → d ≡ dpcs.start s → t ≡ threads.start s → x ≡ new_timers n m → n
-    ≡ length s.timers → m ≡ length s.threads → k ≡ table s.locks (λ i. free_lock s) → states_of s d t x k ≡ record { script = s; lanes = lanes_at s [] }
+pub start_states : (s : Script) (d : DpcLanes) (t : ThreadLanes) (x : Timers) (k : List LockState) (n m : ℕ) → d ≡ dpcs.start s → t ≡ threads.start s →
+    x ≡ new_timers n m → n ≡ length s.timers → m ≡ length s.threads → k ≡ table s.locks (λ i. free_lock s) →
+    states_of s d t x k ≡ record { script = s; lanes = lanes_at s [] }
 start_states s d t x k n m hd ht hx hn hm hk =
     let times = start_times s x n m hx hn hm in
     λ j. record { script = s; lanes = record { objects = (hd j).objects; queues = (hd j).queues; threads = (ht j).facts; timers = times j; locks = hk j } }

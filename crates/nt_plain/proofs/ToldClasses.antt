@@ -2,7 +2,8 @@
 use Rattle.std.proofs.Common.{inl, inr}
 use Rattle.std.proofs.lemmas.Bool.{and_left, and_right, or_from, or_parts}
 use Rattle.std.specs.List.{list_any}
-use Rattle.std.specs.Prelude.{Bool, List, None, Option, Some, [], false, if◌then◌else◌, is_some, nat_lt, not, option_and_then, refl, suc, true, ℕ, ◌&&◌, ◌++◌, ◌+◌, ◌==◌, ◌||◌, ◌∷◌, ◌≡◌, ◌⊎◌}
+use Rattle.std.specs.Prelude.{Bool, List, None, Option, Some, [], false, if◌then◌else◌, is_some, nat_lt, not, option_and_then, refl, suc, true, ℕ, ◌&&◌, ◌++◌}
+use Rattle.std.specs.Prelude.{◌+◌, ◌==◌, ◌||◌, ◌∷◌, ◌≡◌, ◌⊎◌}
 use Rattle.nt_event.specs.declared.commands.ApcKind.TheVariants as kinds
 use Rattle.nt_event.specs.declared.commands.Command.{Command}
 use Rattle.nt_event.specs.declared.commands.Command.TheVariants as cmd
@@ -20,7 +21,8 @@ use Rattle.nt_event.specs.declared.inserts.Part.{Part}
 use Rattle.nt_event.specs.declared.inserts.Part.TheVariants.{Ordinary as OrdinaryPart, Threaded as ThreadedPart}
 use Rattle.nt_event.specs.declared.inserts.Standing.{Standing}
 use Rattle.nt_event.specs.declared.jobs.Lane.{Lane}
-use Rattle.nt_event.specs.declared.jobs.Lane.TheVariants.{Lock as LockLane, Object as ObjectLane, Queue as QueueLane, Threads as ThreadsLane, Timers as TimersLane}
+use Rattle.nt_event.specs.declared.jobs.Lane.TheVariants.{Lock as LockLane, Object as ObjectLane, Queue as QueueLane, Threads as ThreadsLane}
+use Rattle.nt_event.specs.declared.jobs.Lane.TheVariants.{Timers as TimersLane}
 use Rattle.nt_event.specs.declared.jobs.Stand.{Stand}
 use Rattle.nt_event.specs.declared.numbers.ApcNo.{ApcNo}
 use Rattle.nt_event.specs.declared.numbers.CpuNo.{CpuNo}
@@ -29,7 +31,8 @@ use Rattle.nt_event.specs.declared.numbers.LockNo.{LockNo}
 use Rattle.nt_event.specs.declared.scripts.Script.{Script}
 use Rattle.nt_event.specs.Apcs.{has_kernel}
 use Rattle.nt_event.specs.Classes.{apc_class, clock_class, dispatch_class, lock_class, threaded_class}
-use Rattle.nt_event.specs.Lanes.{Lanes, begin_lanes, command_lanes, end_lanes, expire_lanes, facts_at, facts_of, insert_lanes, lane_if, lock_at, object_at, queue_at, standing_lanes, what_lanes}
+use Rattle.nt_event.specs.Lanes.{Lanes, begin_lanes, command_lanes, end_lanes, expire_lanes, facts_at, facts_of, insert_lanes, lane_if, lock_at, object_at}
+use Rattle.nt_event.specs.Lanes.{queue_at, standing_lanes, what_lanes}
 use Rattle.nt_event.specs.Numbers.{cpu}
 use Rattle.nt_event.specs.Objects.{ObjectState, queue_for}
 use Rattle.nt_event.specs.Queues.{QueueState, depth_of, insert_asks}

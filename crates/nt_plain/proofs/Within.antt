@@ -131,7 +131,8 @@ told_of f st w s slice lanes asked asks old over own script same_lanes touched s
 
     each : (c : ℕ) → c < 16 → value_at own c ≡ max (value_at old c) (value_at (told_values f st w) c)
     each c h =
-        own_told (asks_in f.script st w f.lanes st.cpu c) f.next (told c) (value_at old c) (value_at over c) (value_at own c) (below c h) (by_lanes c h) (by_own c h)
+        own_told (asks_in f.script st w f.lanes st.cpu c) f.next (told c) (value_at old c) (value_at over c) (value_at own c) (below c h)
+        (by_lanes c h) (by_own c h)
         ∙ ap (λ (v : ℕ). max (value_at old c) v) (sym (get_or-table 16 c (λ k. raised (asks_in f.script st w f.lanes st.cpu k) f.next (told k)) 0 h))
 
 pub words_within : (s : Script) (words : List ℕ) (asked : List Asked) (asks : List Ask) → length words ≡ 16 * s.cpus → as_asks asked ≡ asks →

@@ -1,7 +1,8 @@
 -- The classes that a lane tells of: an event that touches it asks for no other one.
 use Rattle.std.specs.Prelude.{Bool, List, false, get_or, if◌then◌else◌, max, true, ℕ, ◌==◌, ◌||◌}
 use Rattle.nt_event.specs.declared.jobs.Lane.{Lane}
-use Rattle.nt_event.specs.declared.jobs.Lane.TheVariants.{Lock as LockLane, Object as ObjectLane, Queue as QueueLane, Threads as ThreadsLane, Timers as TimersLane}
+use Rattle.nt_event.specs.declared.jobs.Lane.TheVariants.{Lock as LockLane, Object as ObjectLane, Queue as QueueLane}
+use Rattle.nt_event.specs.declared.jobs.Lane.TheVariants.{Threads as ThreadsLane, Timers as TimersLane}
 use Rattle.nt_event.specs.Classes.{apc_class, clock_class, dispatch_class, lock_class, threaded_class}
 use Rattle.nt_event.specs.Lists.{table, value_at}
 

@@ -48,7 +48,8 @@ impl Locks {
     /// Takes in what an event of the processor does to a lock, if it does.
     pub(crate) fn leave(&mut self, p: CpuNo, what: &What)
         requires may { (s : Script) × MayMove s self.old p what.now }
-        ensures { (s : Script) → MayMove s self.old p what.now → self.new ≡ locks_left s p what.now self.old }
+        ensures { (s : Script) → MayMove s self.old p what.now →
+            self.new ≡ locks_left s p what.now self.old }
     {
         if let Some((k, by)) = moved_lock(what) {
             self.locks[usize::from(k.0)].leave(k, p, by);

@@ -1,5 +1,6 @@
 //! The event of a job, and what it leaves of the floor.
-ghost use Rattle.std.specs.Prelude.{◌≡◌, ◌<◌, ◌^◌, All, IfErr, IfSome, IsErrOf, OnErr, OnOk, Some, false, max};
+ghost use Rattle.std.specs.Prelude.{◌≡◌, ◌<◌, ◌^◌, All, IfErr, IfSome, IsErrOf, OnErr, OnOk, Some};
+ghost use Rattle.std.specs.Prelude.{false, max};
 ghost use Rattle.nt_event.specs.Acting.{acted_event};
 ghost use Rattle.nt_event.specs.Frames.{due_of};
 ghost use Rattle.nt_event.specs.Jobs.{job_event};
@@ -21,9 +22,11 @@ use nt_frame::StandView;
 use nt_states::{Asks, Touched};
 
 impl<'s> PlainFloor<'s> {
-    /// Writes the event of the job where the caller keeps it, for a processor that stands so, or answers why there is none.
+    /// Writes the event of the job where the caller keeps it, for a processor that stands so, or
+    /// answers why there is none.
     ///
-    /// NothingToDo and BadChoice come as from [`nt_states::decide_into`], NoMemory never. After a refusal nothing was written.
+    /// NothingToDo and BadChoice come as from [`nt_states::decide_into`], NoMemory never. After a
+    /// refusal nothing was written.
     pub(crate) fn decide(
         &self,
         job: &Job,
@@ -31,9 +34,12 @@ impl<'s> PlainFloor<'s> {
         into: &mut What,
     ) -> Result<(), ActRefusal>
         requires { MayDo (states_of self.now) stand.now job.now }
-        ensures event { OnOk result (job_event self.now.script stand.now self.now.lanes job.now ≡ Some into.new) }
+        ensures event { OnOk result
+            (job_event self.now.script stand.now self.now.lanes job.now ≡ Some into.new) }
         ensures given { OnOk result (MayMake (states_of self.now) stand.now into.new) }
-        ensures refused { IfErr result (λ r. (f : Found) → f.lanes ≡ self.now.lanes → IsRefused self.now.script f stand.now job.now r) }
+        ensures refused { IfErr result (λ r.
+            (f : Found) → f.lanes ≡ self.now.lanes →
+            IsRefused self.now.script f stand.now job.now r) }
         ensures unwritten { OnErr result (into.new ≡ into.old) }
         ensures memory { IsErrOf result ActRefusal.NoMemory → ⊥ }
     {
@@ -55,10 +61,14 @@ impl<'s> PlainFloor<'s> {
         ensures event { event.new ≡ acted_event stand.now self.old.lanes event.old.what }
         ensures due { result.due ≡ due_of event.old.what self.old.lanes.timers.now }
         ensures due_fits { IfSome result.due (λ due. due < 2 ^ 51) }
-        ensures seen { seen.new ≡ table 16 (λ c. max (value_at seen.old c) (value_at (told_values self.old stand.now event.old.what) c)) }
+        ensures seen { seen.new ≡ table 16 (λ c.
+            max (value_at seen.old c)
+            (value_at (told_values self.old stand.now event.old.what) c)) }
         ensures interrupts { result.interrupts ≡ false → SameInterrupts seen.old seen.new }
-        ensures lanes_named { All (LaneFits self.old.script) (what_lanes self.old.script stand.now event.old.what self.old.lanes) }
-        ensures asks_named { All (AskFits self.old.script) (what_asks self.old.script stand.now event.old.what self.old.lanes) }
+        ensures lanes_named { All (LaneFits self.old.script)
+            (what_lanes self.old.script stand.now event.old.what self.old.lanes) }
+        ensures asks_named { All (AskFits self.old.script)
+            (what_asks self.old.script stand.now event.old.what self.old.lanes) }
         ensures state { self.new ≡ made stand.now event.old.what self.old }
     {
         let number = self.next;
@@ -77,8 +87,8 @@ impl<'s> PlainFloor<'s> {
         }
     }
 
-    /// Raises what the event's processor has seen to what the lanes that it touches tell, its own requests among it. False only where
-    /// what was seen of interrupts is as before.
+    /// Raises what the event's processor has seen to what the lanes that it touches tell, its own
+    /// requests among it. False only where what was seen of interrupts is as before.
     fn tell_by(
         &self,
         stand: &StandView,
@@ -88,7 +98,8 @@ impl<'s> PlainFloor<'s> {
         seen: &mut Seen,
     ) -> bool
         requires { IsPlanned self.now stand.now what.now lanes.now asks.now }
-        ensures values { seen.new ≡ table 16 (λ c. max (value_at seen.old c) (value_at (told_values self.now stand.now what.now) c)) }
+        ensures values { seen.new ≡ table 16 (λ c.
+            max (value_at seen.old c) (value_at (told_values self.now stand.now what.now) c)) }
         ensures interrupts { result ≡ false → SameInterrupts seen.old seen.new }
     {
         let _what = what;

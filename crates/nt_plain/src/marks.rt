@@ -1,5 +1,6 @@
 //! The marks: for each event and processor, the classes that the event was marked for.
-ghost use Rattle.std.specs.Prelude.{◌≡◌, ◌==◌, ◌<◌, ◌≤◌, ◌^◌, ℕ, All, IfErr, IfOk, get_or, length, replicate, set, vec_capacity};
+ghost use Rattle.std.specs.Prelude.{◌≡◌, ◌==◌, ◌<◌, ◌≤◌, ◌^◌, ℕ, All, IfErr, IfOk, get_or, length};
+ghost use Rattle.std.specs.Prelude.{replicate, set, vec_capacity};
 ghost use Rattle.std.specs.Int.{bit_at};
 ghost use Rattle.std.specs.List.{insert};
 ghost use Rattle.nt_states.specs.LaneLists.{as_asks};
@@ -20,11 +21,12 @@ struct MarkedRow {
     classes: u16,
 }
 
-/// For each event and processor a row of bits, one for each class. The rows that have a mark are kept, in rising order; there is room
-/// for all from the start.
+/// For each event and processor a row of bits, one for each class. The rows that have a mark are
+/// kept, in rising order; there is room for all from the start.
 ///
-/// A row is sought from the last one backward, by steps that double: nearly each mark is of the newest event, and nearly each mark that
-/// is asked for is among the last few. Any other takes a time that grows with the logarithm of how far back it stands.
+/// A row is sought from the last one backward, by steps that double: nearly each mark is of the
+/// newest event, and nearly each mark that is asked for is among the last few. Any other takes a
+/// time that grows with the logarithm of how far back it stands.
 #[derive(Drop, Debug)]
 pub(crate) struct Marks {
     /// How many rows there may be.
@@ -40,7 +42,8 @@ impl Model for Marks {
 
     ghost view = { λ a. all_rows a.count a.marked.items };
 
-    ghost invariant = { λ a. (a.count ≤ vec_capacity a.marked) × AreRising 0 (vec_capacity a.marked) a.marked.items };
+    ghost invariant = { λ a.
+        (a.count ≤ vec_capacity a.marked) × AreRising 0 (vec_capacity a.marked) a.marked.items };
 }
 
 impl Marks {
@@ -120,7 +123,8 @@ fn place_of(marked: &[MarkedRow], row: usize) -> Result<usize, usize>
     Err(low)
 }
 
-/// Where to seek next between two places, of so many: twice as far back as before, while no row is known to be below; then halfway.
+/// Where to seek next between two places, of so many: twice as far back as before, while no row is
+/// known to be below; then halfway.
 fn next_place(low: usize, high: usize, count: usize) -> usize
     requires { (low < high) × (high ≤ count) }
     ensures { (low ≤ result) × (result < high) }

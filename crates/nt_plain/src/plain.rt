@@ -19,8 +19,9 @@ use nt_states::{LaneAnswers, ThreadAnswers};
 use std::alloc::{AllocError, Global};
 use std::marker::Model;
 
-/// The floor of a script in memory, for one thread: the next number, the request words, the marks of each event, the states of all
-/// lanes, and what each lane tells of requests. It has its room from the start: no call but [`PlainFloor::new`] takes memory.
+/// The floor of a script in memory, for one thread: the next number, the request words, the marks
+/// of each event, the states of all lanes, and what each lane tells of requests. It has its room
+/// from the start: no call but [`PlainFloor::new`] takes memory.
 #[derive(Drop)]
 pub struct PlainFloor<'s> {
     /// How many numbers may be drawn in all.
@@ -45,7 +46,8 @@ impl<'s> Model for PlainFloor<'s> {
 }
 
 impl<'s> PlainFloor<'s> {
-    /// A floor of the script on which nothing happened, where each processor may make this many events.
+    /// A floor of the script on which nothing happened, where each processor may make this many
+    /// events.
     ///
     /// The script fits, there are at most 20,000 turns, and at most 160,000 numbers in all.
     pub fn new(alloc: Global, script: &'s Script, turns: u32) -> Result<PlainFloor<'s>, AllocError>
@@ -77,9 +79,11 @@ impl<'s> PlainFloor<'s> {
         let _next = self.next;
     }
 
-    /// The greatest request for a class of a processor; 0 where there is none, or the script has no such processor or class.
+    /// The greatest request for a class of a processor; 0 where there is none, or the script has no
+    /// such processor or class.
     pub fn asked(&self, p: CpuNo, class: u8) -> u64
-        ensures known { HasWord (view_of self.now) p class → result ≡ (view_of self.now).value p class }
+        ensures known { HasWord (view_of self.now) p class →
+            result ≡ (view_of self.now).value p class }
         ensures otherwise { (HasWord (view_of self.now) p class → ⊥) → result ≡ 0 }
     {
         if self.has_word(p, class) {
@@ -91,7 +95,8 @@ impl<'s> PlainFloor<'s> {
 
     /// Whether the event of this number was marked as asking for a class of a processor.
     pub fn asks(&self, n: u64, p: CpuNo, class: u8) -> bool
-        ensures known { HasWord (view_of self.now) p class → result ≡ (view_of self.now).marked n p class }
+        ensures known { HasWord (view_of self.now) p class →
+            result ≡ (view_of self.now).marked n p class }
         ensures otherwise { (HasWord (view_of self.now) p class → ⊥) → result ≡ false }
     {
         if self.has_word(p, class) {
@@ -101,7 +106,8 @@ impl<'s> PlainFloor<'s> {
         }
     }
 
-    /// The thread of the processor that is taken up next, after this one in a cycle; None exactly where none is ready.
+    /// The thread of the processor that is taken up next, after this one in a cycle; None exactly
+    /// where none is ready.
     pub fn next_ready(&self, p: CpuNo, after: Option<ThreadNo>) -> Option<ThreadNo>
         ensures { result ≡ next_ready self.now.script p after self.now.lanes }
     {

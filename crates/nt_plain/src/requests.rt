@@ -10,7 +10,8 @@ use nt_event::{Asked, CpuNo};
 use std::alloc::{AllocError, Global};
 use std::marker::Model;
 
-/// A word for each processor and class, 16 a processor. A request is one more than the number of the event that asks; 0 is none.
+/// A word for each processor and class, 16 a processor. A request is one more than the number of
+/// the event that asks; 0 is none.
 #[derive(Drop, Debug)]
 pub(crate) struct RequestWords {
     values: Vec<u64>,

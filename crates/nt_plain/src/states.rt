@@ -18,7 +18,8 @@ use nt_timer::TimerQueue;
 use std::alloc::{AllocError, Global};
 use std::marker::Model;
 
-/// The states of all lanes of a script. They have their room from the start: no call but [`States::new`] takes memory.
+/// The states of all lanes of a script. They have their room from the start: no call but
+/// [`States::new`] takes memory.
 #[derive(Drop)]
 pub(crate) struct States<'s> {
     script: &'s Script,
@@ -44,7 +45,8 @@ impl<'s> States<'s> {
     /// The states before any event. The script fits.
     pub(crate) fn new(alloc: Global, script: &'s Script) -> Result<States<'s>, AllocError>
         requires { IsTrue (fits script.now) }
-        ensures { IfOk result (λ x. x ≡ record { script = script.now; lanes = lanes_at script.now [] }) }
+        ensures { IfOk result
+            (λ x. x ≡ record { script = script.now; lanes = lanes_at script.now [] }) }
     {
         let dpcs = Dpcs::new(alloc, script)?;
         let threads = Threads::new(alloc, script)?;

@@ -1,6 +1,7 @@
 //! What the lanes tell of requests.
 ghost use Rattle.std.specs.List.{list_any};
-ghost use Rattle.std.specs.Prelude.{◌≡◌, ◌==◌, ◌+◌, ◌*◌, ◌<◌, ◌≤◌, ◌^◌, ℕ, All, IfOk, false, get_or, if◌then◌else◌, length, max, replicate, set};
+ghost use Rattle.std.specs.Prelude.{◌≡◌, ◌==◌, ◌+◌, ◌*◌, ◌<◌, ◌≤◌, ◌^◌, ℕ, All, IfOk, false};
+ghost use Rattle.std.specs.Prelude.{get_or, if◌then◌else◌, length, max, replicate, set};
 ghost use Rattle.nt_event.specs.Classes.{lock_class};
 ghost use Rattle.nt_event.specs.Lanes.{lane_number as number_of};
 ghost use Rattle.nt_event.specs.Lists.{table, value_at};
@@ -54,17 +55,21 @@ impl ToldValues {
         self.values[row * 16 + usize::from(class)] = value as u32;
     }
 
-    /// Raises what was seen to the values of a row of the lane. False only where what was seen of interrupts is as before.
+    /// Raises what was seen to the values of a row of the lane. False only where what was seen of
+    /// interrupts is as before.
     fn raise(&self, lane: Lane, row: usize, seen: &mut Seen) -> bool
         requires row { row * 16 + 16 ≤ length self.now }
-        requires others { (c : ℕ) → c < 16 → is_told_class lane c ≡ false → get_or self.now (row * 16 + c) 0 ≡ 0 }
-        ensures values { seen.new ≡ table 16 (λ c. max (value_at seen.old c) (get_or self.now (row * 16 + c) 0)) }
+        requires others { (c : ℕ) → c < 16 → is_told_class lane c ≡ false →
+            get_or self.now (row * 16 + c) 0 ≡ 0 }
+        ensures values { seen.new
+            ≡ table 16 (λ c. max (value_at seen.old c) (get_or self.now (row * 16 + c) 0)) }
         ensures interrupts { result ≡ false → SameInterrupts seen.old seen.new }
     {
         raise_told(lane, seen, &self.values[row * 16..row * 16 + 16])
     }
 
-    /// Raises what a processor has seen to what these lanes tell it. False only where what was seen of interrupts is as before.
+    /// Raises what a processor has seen to what these lanes tell it. False only where what was seen
+    /// of interrupts is as before.
     pub(crate) fn raise_over(
         &self,
         script: &Script,
@@ -72,11 +77,17 @@ impl ToldValues {
         p: CpuNo,
         seen: &mut Seen,
     ) -> bool
-        requires rows { All (λ x. row_place script.now.cpus (number_of script.now x) p * 16 + 16 ≤ length self.now) lanes.now }
+        requires rows { All
+            (λ x. row_place script.now.cpus (number_of script.now x) p * 16 + 16 ≤ length self.now)
+            lanes.now }
         requires numbers { All (λ x. number_of script.now x < 2 ^ 32) lanes.now }
         requires room { length self.now < 2 ^ 32 }
-        requires others { All (λ x. (c : ℕ) → c < 16 → is_told_class x c ≡ false → row_value script.now self.now x p c ≡ 0) lanes.now }
-        ensures values { (c : ℕ) → c < 16 → value_at seen.new c ≡ max (value_at seen.old c) (told_over (row_value script.now self.now) lanes.now p c) }
+        requires others { All (λ x.
+            (c : ℕ) → c < 16 → is_told_class x c ≡ false → row_value script.now self.now x p c ≡ 0)
+            lanes.now }
+        ensures values { (c : ℕ) → c < 16 →
+            value_at seen.new c
+            ≡ max (value_at seen.old c) (told_over (row_value script.now self.now) lanes.now p c) }
         ensures interrupts { result ≡ false → SameInterrupts seen.old seen.new }
     {
         let mut interrupts = false;
@@ -91,7 +102,9 @@ impl ToldValues {
 
     /// Each of these lanes tells of these requests with a value.
     pub(crate) fn tell(&mut self, script: &Script, lanes: &[Lane], asks: &[Asked], to: u64)
-        requires places { All (λ x. All (λ a. told_place script.now x a.cpu a.class < length self.old) asks.now) lanes.now }
+        requires places { All
+            (λ x. All (λ a. told_place script.now x a.cpu a.class < length self.old) asks.now)
+            lanes.now }
         requires numbers { All (λ x. number_of script.now x < 2 ^ 32) lanes.now }
         requires room { length self.old < 2 ^ 32 }
         requires bound { to < 2 ^ 32 }
@@ -104,7 +117,8 @@ impl ToldValues {
 
     /// The lane tells of these requests with a value.
     fn tell_lane(&mut self, script: &Script, lane: Lane, asks: &[Asked], to: u64)
-        requires places { All (λ a. told_place script.now lane a.cpu a.class < length self.old) asks.now }
+        requires places { All (λ a. told_place script.now lane a.cpu a.class < length self.old)
+            asks.now }
         requires number { number_of script.now lane < 2 ^ 32 }
         requires room { length self.old < 2 ^ 32 }
         requires bound { to < 2 ^ 32 }
@@ -118,7 +132,8 @@ impl ToldValues {
     }
 }
 
-/// Raises what was seen to these values, which the lane tells. False only where what was seen of interrupts is as before.
+/// Raises what was seen to these values, which the lane tells. False only where what was seen of
+/// interrupts is as before.
 fn raise_told(lane: Lane, seen: &mut Seen, told: &[u32]) -> bool
     requires classes { length told.now ≡ 16 }
     requires others { (c : ℕ) → c < 16 → is_told_class lane c ≡ false → get_or told.now c 0 ≡ 0 }
@@ -142,7 +157,8 @@ fn is_lock(lane: Lane) -> bool
     }
 }
 
-/// Raises what was seen to these values, which a lock tells. False only where what was seen of interrupts is as before.
+/// Raises what was seen to these values, which a lock tells. False only where what was seen of
+/// interrupts is as before.
 fn raise_by_lock(seen: &mut Seen, told: &[u32]) -> bool
     requires classes { length told.now ≡ 16 }
     requires others { (c : ℕ) → c < 16 → (lock_class == c) ≡ false → get_or told.now c 0 ≡ 0 }
@@ -152,8 +168,9 @@ fn raise_by_lock(seen: &mut Seen, told: &[u32]) -> bool
     raise_class(seen, told, class::LOCK)
 }
 
-/// Raises what was seen to these values, which a lane tells that is no lock's. False only where what was seen of interrupts is as before.
-/// Such lanes tell of four classes alone, so the others are not looked at.
+/// Raises what was seen to these values, which a lane tells that is no lock's. False only where
+/// what was seen of interrupts is as before. Such lanes tell of four classes alone, so the others
+/// are not looked at.
 fn raise_by(seen: &mut Seen, told: &[u32]) -> bool
     requires classes { length told.now ≡ 16 }
     requires others { (c : ℕ) → c < 16 → is_work_class c ≡ false → get_or told.now c 0 ≡ 0 }
@@ -166,7 +183,8 @@ fn raise_by(seen: &mut Seen, told: &[u32]) -> bool
     raise_class(seen, told, class::CLOCK)
 }
 
-/// Raises what was seen of a class to the value told of it. False only where what was seen of interrupts is as before.
+/// Raises what was seen of a class to the value told of it. False only where what was seen of
+/// interrupts is as before.
 fn raise_class(seen: &mut Seen, told: &[u32], class: u8) -> bool
     requires classes { length told.now ≡ 16 }
     requires class { class < 16 }
@@ -176,21 +194,25 @@ fn raise_class(seen: &mut Seen, told: &[u32], class: u8) -> bool
     seen.raise(class, u64::from(told[usize::from(class)]))
 }
 
-/// Raises what a processor has seen to this value in the class that a request asks it for. False only where what was seen of interrupts
-/// is as before.
+/// Raises what a processor has seen to this value in the class that a request asks it for. False
+/// only where what was seen of interrupts is as before.
 fn raise_ask(seen: &mut Seen, ask: Asked, p: CpuNo, to: u64) -> bool
     requires { ask.class < 16 }
-    ensures values { (c : ℕ) → c < 16 → value_at seen.new c ≡ max (value_at seen.old c) (if is_ask p c (as_ask ask) then to else 0) }
+    ensures values { (c : ℕ) → c < 16 →
+        value_at seen.new c
+        ≡ max (value_at seen.old c) (if is_ask p c (as_ask ask) then to else 0) }
     ensures interrupts { result ≡ false → SameInterrupts seen.old seen.new }
 {
     ask.cpu.0 == p.0 && seen.raise(ask.class, to)
 }
 
-/// Raises what a processor has seen to this value in the classes that these requests ask it for. False only where what was seen of
-/// interrupts is as before.
+/// Raises what a processor has seen to this value in the classes that these requests ask it for.
+/// False only where what was seen of interrupts is as before.
 pub(crate) fn raise_own(seen: &mut Seen, asks: &[Asked], p: CpuNo, to: u64) -> bool
     requires { All (λ a. a.class < 16) asks.now }
-    ensures values { (c : ℕ) → c < 16 → value_at seen.new c ≡ max (value_at seen.old c) (if list_any (is_ask p c) (as_asks asks.now) then to else 0) }
+    ensures values { (c : ℕ) → c < 16 →
+        value_at seen.new c
+        ≡ max (value_at seen.old c) (if list_any (is_ask p c) (as_asks asks.now) then to else 0) }
     ensures interrupts { result ≡ false → SameInterrupts seen.old seen.new }
 {
     let mut interrupts = false;

@@ -1,5 +1,6 @@
 -- The row of an event is the row of no other.
-use Rattle.std.proofs.Common.{◌≡◌, ◌≢◌, ◌∙◌, ℕ, ◌+◌, ◌*◌, ◌^◌, ◌<◌, Bool, true, false, List, [], ◌++◌, length, get_or, Option, Some, None, Result, Ok, refl, sym, ap, arith}
+use Rattle.std.proofs.Common.{◌≡◌, ◌≢◌, ◌∙◌, ℕ, ◌+◌, ◌*◌, ◌^◌, ◌<◌, Bool, true, false, List, [], ◌++◌, length, get_or, Option, Some, None, Result, Ok, refl}
+use Rattle.std.proofs.Common.{sym, ap, arith}
 use Rattle.std.specs.Prelude.{decimal, ◌&&◌, ◌≤◌, nat_lt}
 use Rattle.std.specs.List.{list_all, slice_get}
 use Rattle.std.proofs.lemmas.Bool.{and_from, and_parts, ltb-true}
@@ -11,7 +12,8 @@ use Rattle.nt_event.specs.declared.commands.ApcKind.{ApcKind}
 use Rattle.nt_event.specs.declared.commands.ApcKind.TheVariants as kind
 use Rattle.nt_event.specs.declared.commands.Command.{Command}
 use Rattle.nt_event.specs.declared.commands.Refusal.{Refusal}
-use Rattle.nt_event.specs.declared.commands.Refusal.TheVariants.{NotThread, NotBase, TooHigh, RegionsOpen, NotGreater, NotLess, BelowBase, NotEntered, LockHeld, HeldHere, NotLast}
+use Rattle.nt_event.specs.declared.commands.Refusal.TheVariants.{NotThread, NotBase, TooHigh, RegionsOpen, NotGreater, NotLess, BelowBase, NotEntered, LockHeld}
+use Rattle.nt_event.specs.declared.commands.Refusal.TheVariants.{HeldHere, NotLast}
 use Rattle.nt_event.specs.declared.commands.Reply.{Reply}
 use Rattle.nt_event.specs.declared.commands.Reply.TheVariants.{Done, Yes, No, Status, Blocked, Spin, Refused}
 use Rattle.nt_event.specs.declared.commands.TimerKey.{TimerKey}
@@ -53,7 +55,8 @@ use Rattle.nt_line.proofs.Words.{keyword_again}
 use Rattle.nt_log.proofs.OneRow.{decimal_one, hexadecimal_field, hexadecimal_one, parts_one, read_one, row_from, row_to}
 use Rattle.nt_print.specs.Conditions.{BegunInRange, EventIsPlain, IsWord, ReplyInRange, StatusInRange, WhatInRange}
 use Rattle.nt_event.specs.Fitting.{begun_fits, event_fits, key_fits, what_fits}
-use Rattle.nt_print.specs.Report.{begun_row, event_fields, event_row, hexadecimal, key_row, kind_of, kind_word, replied, show_processor, show_running, status_row, used, what_row}
+use Rattle.nt_print.specs.Report.{begun_row, event_fields, event_row, hexadecimal, key_row, kind_of, kind_word, replied, show_processor, show_running}
+use Rattle.nt_print.specs.Report.{status_row, used, what_row}
 
 -- ---- numbers and names
 

@@ -1,5 +1,6 @@
 -- A text is the report of one history.
-use Rattle.std.proofs.Common.{◌≡◌, ◌∙◌, ℕ, zero, suc, ◌+◌, ◌^◌, ◌<◌, ◌≤◌, Bool, true, false, List, [], ◌∷◌, ◌++◌, length, get_or, map, reverse, Option, Some, None, refl, sym, ap, subst, append_assoc, append-nil, arith, rules}
+use Rattle.std.proofs.Common.{◌≡◌, ◌∙◌, ℕ, zero, suc, ◌+◌, ◌^◌, ◌<◌, ◌≤◌, Bool, true, false, List, [], ◌∷◌, ◌++◌, length, get_or, map, reverse, Option, Some}
+use Rattle.std.proofs.Common.{None, refl, sym, ap, subst, append_assoc, append-nil, arith, rules}
 use Rattle.std.specs.Prelude.{IfSome, codes, decimal, filter, nat_le, ◌==◌, ◌||◌, if◌then◌else◌}
 use Rattle.std.specs.Char.{is_ascii_digit}
 use Rattle.std.specs.List.{AllByRecursion, list_all}
@@ -41,7 +42,8 @@ use Rattle.nt_print.specs.Conditions.{EventIsPlain, IsPlain, IsReportOf, LookIsB
 use Rattle.nt_print.specs.declared.spins.Spun.{Spun}
 use Rattle.nt_print.specs.Spins.{last_spin, spin_after}
 use Rattle.nt_event.specs.Fitting.{event_fits, events_fit, what_fits}
-use Rattle.nt_print.specs.Report.{cut_of, cut_row, cut_rows, event_row, event_rows, line_rows, made, report_rows, show_processor, spin_left, spin_of, spin_row, spin_rows, thing_row, used, wait_fields, wait_row, wait_rows}
+use Rattle.nt_print.specs.Report.{cut_of, cut_row, cut_rows, event_row, event_rows, line_rows, made, report_rows, show_processor, spin_left, spin_of, spin_row}
+use Rattle.nt_print.specs.Report.{spin_rows, thing_row, used, wait_fields, wait_row, wait_rows}
 use Rattle.nt_print.specs.Uses.{thing_fits}
 use Rattle.nt_print.proofs.OneEvent.{Fits, Known, apc_clean, dpc_clean, event_clean, event_one, event_parts, event_same, is_look, known, lock_clean}
 

@@ -1,5 +1,6 @@
 -- The tally with one event more.
-use Rattle.std.proofs.Common.{◌≡◌, ◌≢◌, ◌∙◌, ℕ, ◌+◌, ◌<◌, ◌≤◌, Bool, true, false, List, ◌∷◌, length, get_or, set, take, reverse, Option, Some, None, refl, sym, ap, subst, arith}
+use Rattle.std.proofs.Common.{◌≡◌, ◌≢◌, ◌∙◌, ℕ, ◌+◌, ◌<◌, ◌≤◌, Bool, true, false, List, ◌∷◌, length, get_or, set, take, reverse, Option, Some, None, refl, sym}
+use Rattle.std.proofs.Common.{ap, subst, arith}
 use Rattle.std.specs.Prelude.{◌&&◌, ◌||◌, ◌==◌, IfSome, not, nat_le, nat_lt, if◌then◌else◌}
 use Rattle.std.proofs.Math.Seq.{take-length}
 use Rattle.std.proofs.lemmas.Bool.{eqb-false, eqb-true, le-leb, lt-leb, lt-ltb, ltb-false, ltb-true}
@@ -14,7 +15,8 @@ use Rattle.nt_event.specs.Fate.{ApcThing, DpcThing, Inserted, Thing, fate_of, in
 use Rattle.nt_print.specs.declared.tally.Tally.{Tally}
 use Rattle.nt_print.specs.Counts.{TellsMade}
 use Rattle.nt_print.specs.Summary.{how_many, is_begin, is_call, is_refused_call}
-use Rattle.nt_print.specs.Tally.{Counts, HasPlaces, Tallies, TalliesAll, TellsWaiting, counted_if, last_removal, removed_apcs, removed_dpcs, waits_by, with_event, with_inserted, with_named}
+use Rattle.nt_print.specs.Tally.{Counts, HasPlaces, Tallies, TalliesAll, TellsWaiting, counted_if, last_removal, removed_apcs, removed_dpcs, waits_by}
+use Rattle.nt_print.specs.Tally.{with_event, with_inserted, with_named}
 use Rattle.nt_print.specs.Uses.{inserted_at, is_it, named_by, names_it, removed_by, removes_it, same_thing, thing_fits, waits_at}
 use Rattle.nt_print.proofs.Counted.{count_step}
 use Rattle.nt_print.proofs.Fates.{one_later, waits_at_first}

@@ -23,7 +23,8 @@ report_put input h events first lines cuts spins waits whole all head events_put
     let behind_head : first ++ rows_text (event_lines ++ (cut ++ (spinning ++ (waiting ++ schedule)))) ≡ text =
     ap (λ (xs : List ℕ). xs ++ rows_text (event_lines ++ (cut ++ (spinning ++ (waiting ++ schedule))))) head in
     let behind_events : lines ++ rows_text (cut ++ (spinning ++ (waiting ++ schedule))) ≡ text =
-    rows_put first lines text event_lines (cut ++ (spinning ++ (waiting ++ schedule))) (event_lines ++ (cut ++ (spinning ++ (waiting ++ schedule)))) refl behind_head
+    rows_put first lines text event_lines (cut ++ (spinning ++ (waiting ++ schedule))) (event_lines ++ (cut ++ (spinning ++ (waiting ++ schedule))))
+    refl behind_head
     (events_put ∙ ap (λ (es : List Event). first ++ rows_text (event_rows input 0 es)) all) in
     let behind_cuts : cuts ++ rows_text (spinning ++ (waiting ++ schedule)) ≡ text =
     rows_put lines cuts text cut (spinning ++ (waiting ++ schedule)) (cut ++ (spinning ++ (waiting ++ schedule))) refl behind_events cuts_put in

@@ -1,6 +1,7 @@
 -- The text of a report, as rows of fields: a line for each event but a look, then who was cut, who spins, what still
 -- waits, and the schedule.
-use Rattle.std.specs.Prelude.{ℕ, zero, suc, ◌+◌, false, List, [], ◌∷◌, ◌++◌, count_by, map, reverse, Option, Some, None, codes, decimal, ◌==◌, ◌||◌, if◌then◌else◌}
+use Rattle.std.specs.Prelude.{ℕ, zero, suc, ◌+◌, false, List, [], ◌∷◌, ◌++◌, count_by, map, reverse, Option, Some, None}
+use Rattle.std.specs.Prelude.{codes, decimal, ◌==◌, ◌||◌, if◌then◌else◌}
 use Rattle.std.specs.Fmt.{digits}
 use Rattle.std.specs.List.{slice_get}
 use Rattle.nt_text.specs.Lines.{rows_text}
@@ -18,7 +19,8 @@ use Rattle.nt_event.specs.declared.events.Begun.TheVariants as begun
 use Rattle.nt_event.specs.declared.events.Event.{Event}
 use Rattle.nt_event.specs.declared.events.History.{History}
 use Rattle.nt_event.specs.declared.events.What.{What}
-use Rattle.nt_event.specs.declared.events.What.TheVariants.{Call, Look, Begin, Normal, End, Expire, Fire, Clean, Switch, Rewait, Flush, Gone, Free, Rest}
+use Rattle.nt_event.specs.declared.events.What.TheVariants.{Call, Look, Begin, Normal, End, Expire, Fire, Clean, Switch}
+use Rattle.nt_event.specs.declared.events.What.TheVariants.{Rewait, Flush, Gone, Free, Rest}
 use Rattle.nt_script.specs.declared.walk.Input.{Input}
 use Rattle.nt_line.specs.NameLists.{NameLists, show_dpc, show_timer, show_thread, show_apc, show_lock}
 use Rattle.nt_text.specs.Lines.{Row}

@@ -1,11 +1,12 @@
--- What inserts things and what uses the inserts up, as the printer notes it: a Begin or Flush names an insert, and a call
--- removes a thing.
+-- What inserts things and what uses the inserts up, as the printer notes it: a Begin or Flush names an insert, and a
+-- call removes a thing.
 use Rattle.std.specs.Prelude.{ℕ, Bool, false, ◌&&◌, ◌==◌, List, map, get_or, Option, Some, None, if◌then◌else◌}
 use Rattle.nt_event.specs.declared.events.Begun.TheVariants.{Apc, Dpc, Int, Threaded}
 use Rattle.nt_event.specs.declared.events.Event.{Event}
 use Rattle.nt_event.specs.declared.events.What.{What}
 use Rattle.nt_event.specs.declared.scripts.Script.{Script}
-use Rattle.nt_event.specs.Fate.{ApcThing, DpcThing, Inserted, Thing, fate_of, inserted_thing, still_waits, thing_removed}
+use Rattle.nt_event.specs.Fate.{ApcThing, DpcThing, Inserted, Thing, fate_of, inserted_thing, still_waits}
+use Rattle.nt_event.specs.Fate.{thing_removed}
 use Rattle.nt_event.specs.Script.{has_apc, has_dpc}
 use Rattle.nt_print.specs.declared.inserts.Insert.{Insert}
 use Rattle.nt_print.specs.declared.inserts.Object.{Object}

@@ -30,7 +30,8 @@ fn put_cut_of(out: &mut Vec<u8>, cpu: u8, count: usize, history: &History) -> Re
     }
 }
 
-/// Adds a line for each processor that made as many events as it may, where these are the counts of their events.
+/// Adds a line for each processor that made as many events as it may, where these are the counts of
+/// their events.
 pub(crate) fn put_cuts(
     out: &mut Vec<u8>,
     cpus: u8,
@@ -39,7 +40,8 @@ pub(crate) fn put_cuts(
 ) -> Result<(), AllocError>
     requires len { length counts.now ≡ cpus }
     requires made { TellsMade history.now.events counts.now }
-    ensures { OnOk result (out.new.items ≡ out.old.items ++ rows_text (cut_rows history.now 0 cpus)) }
+    ensures { OnOk result
+        (out.new.items ≡ out.old.items ++ rows_text (cut_rows history.now 0 cpus)) }
 {
     for cpu in 0..cpus {
         put_cut_of(out, cpu, counts.at(cpu as usize), history)?;

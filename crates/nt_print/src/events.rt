@@ -2,7 +2,8 @@
 ghost use Rattle.std.specs.Prelude.{◌≡◌, ◌++◌, ◌<◌, ◌∷◌, [], true, OnOk, length};
 ghost use Rattle.std.specs.List.{slice_get};
 ghost use Rattle.nt_text.specs.Lines.{row_text, rows_text};
-ghost use Rattle.nt_event.specs.Script.{where_given, has_thread, has_dpc, has_timer, has_apc, command_fits};
+ghost use Rattle.nt_event.specs.Script.{where_given, has_thread, has_dpc, has_timer, has_apc};
+ghost use Rattle.nt_event.specs.Script.{command_fits};
 ghost use Rattle.nt_script.specs.Sound.{IsSound};
 ghost use Rattle.nt_line.specs.Rows.{command_row, command_args};
 ghost use Rattle.nt_line.specs.Keywords.{verb_text};
@@ -10,7 +11,9 @@ ghost use Rattle.nt_event.specs.Fitting.{begun_fits, key_fits, what_fits, event_
 ghost use Rattle.nt_text.specs.Lines.{spaced};
 ghost use Rattle.nt_history.specs.Briefs.{event_of, no_rises, what_of};
 ghost use Rattle.nt_print.specs.Lent.{lent};
-ghost use Rattle.nt_print.specs.Report.{show_running, begun_row, key_row, status_row, kind_of, kind_word, what_row, event_fields, event_row, event_rows, line_rows};
+ghost use Rattle.nt_print.specs.Report.{show_running, begun_row, key_row, status_row, kind_of};
+ghost use Rattle.nt_print.specs.Report.{kind_word, what_row, event_fields, event_row, event_rows};
+ghost use Rattle.nt_print.specs.Report.{line_rows};
 ghost use Rattle.nt_print.specs.Tally.{Tallies, TalliesAll};
 
 use crate::fields::{put_replied, put_status, put_used};
@@ -25,7 +28,8 @@ use std::alloc::AllocError;
 fn put_running(out: &mut Vec<u8>, input: &Input, thread: Option<ThreadNo>) -> Result<(), AllocError>
     requires sound { IsSound input.now }
     requires fits { where_given (has_thread input.now.script) thread ≡ true }
-    ensures { OnOk result (out.new.items ≡ out.old.items ++ spaced (show_running input.now.names thread ∷ [])) }
+    ensures { OnOk result
+        (out.new.items ≡ out.old.items ++ spaced (show_running input.now.names thread ∷ [])) }
 {
     match thread {
         Some(thread) => put_field(out, input.names.thread(thread).as_bytes()),
@@ -56,7 +60,8 @@ fn kind_of(input: &Input, apc: ApcNo) -> &'static [u8]
 fn put_begun(out: &mut Vec<u8>, input: &Input, begun: &Begun) -> Result<(), AllocError>
     requires sound { IsSound input.now }
     requires fits { begun_fits input.now.script begun.now ≡ true }
-    ensures { OnOk result (out.new.items ≡ out.old.items ++ spaced (begun_row input.now begun.now)) }
+    ensures { OnOk result
+        (out.new.items ≡ out.old.items ++ spaced (begun_row input.now begun.now)) }
 {
     match begun {
         Begun::Int(level) => {
@@ -99,7 +104,8 @@ fn put_key(out: &mut Vec<u8>, input: &Input, key: TimerKey) -> Result<(), AllocE
 fn put_called(out: &mut Vec<u8>, input: &Input, command: &Command) -> Result<(), AllocError>
     requires sound { IsSound input.now }
     requires fits { command_fits input.now.script command.now ≡ true }
-    ensures { OnOk result (out.new.items ≡ out.old.items ++ spaced (command_row input.now.names command.now)) }
+    ensures { OnOk result
+        (out.new.items ≡ out.old.items ++ spaced (command_row input.now.names command.now)) }
 {
     out.push(b' ')?;
     put_command(out, &input.names, command)?;
@@ -110,7 +116,8 @@ fn put_called(out: &mut Vec<u8>, input: &Input, command: &Command) -> Result<(),
 fn put_what(out: &mut Vec<u8>, input: &Input, did: &Did) -> Result<(), AllocError>
     requires sound { IsSound input.now }
     requires fits { what_fits input.now.script (what_of no_rises did.now) ≡ true }
-    ensures { OnOk result (out.new.items ≡ out.old.items ++ spaced (what_row input.now (what_of no_rises did.now))) }
+    ensures { OnOk result
+        (out.new.items ≡ out.old.items ++ spaced (what_row input.now (what_of no_rises did.now))) }
 {
     match did {
         Did::Call {
@@ -186,7 +193,8 @@ fn put_what(out: &mut Vec<u8>, input: &Input, did: &Did) -> Result<(), AllocErro
 fn put_event_fields(out: &mut Vec<u8>, input: &Input, event: &Brief) -> Result<(), AllocError>
     requires sound { IsSound input.now }
     requires fits { event_fits input.now.script (event_of no_rises event.now) ≡ true }
-    ensures { OnOk result (out.new.items ≡ out.old.items ++ spaced (event_fields input.now (event_of no_rises event.now))) }
+    ensures { OnOk result (out.new.items
+        ≡ out.old.items ++ spaced (event_fields input.now (event_of no_rises event.now))) }
 {
     put_processor(out, u64::from(event.cpu.0))?;
     put_running(out, input, event.thread)?;
@@ -197,7 +205,8 @@ fn put_event_fields(out: &mut Vec<u8>, input: &Input, event: &Brief) -> Result<(
 fn put_event(out: &mut Vec<u8>, input: &Input, number: u64, event: &Brief) -> Result<(), AllocError>
     requires sound { IsSound input.now }
     requires fits { event_fits input.now.script (event_of no_rises event.now) ≡ true }
-    ensures { OnOk result (out.new.items ≡ out.old.items ++ row_text (event_row input.now number (event_of no_rises event.now))) }
+    ensures { OnOk result (out.new.items
+        ≡ out.old.items ++ row_text (event_row input.now number (event_of no_rises event.now))) }
 {
     put_digits(out, number)?;
     put_event_fields(out, input, event)?;
@@ -215,7 +224,8 @@ pub(crate) fn put_events(
     requires sound { IsSound input.now }
     requires fit { events_fit input.now.script (lent events.now) ≡ true }
     requires tally { Tallies input.now.script (lent events.now) 0 tally.old }
-    ensures lines { OnOk result (out.new.items ≡ out.old.items ++ rows_text (event_rows input.now 0 (lent events.now))) }
+    ensures lines { OnOk result
+        (out.new.items ≡ out.old.items ++ rows_text (event_rows input.now 0 (lent events.now))) }
     ensures tally { OnOk result (TalliesAll input.now.script (lent events.now) tally.new) }
 {
     for (number, event) in events.briefs.iter().enumerate() {
@@ -229,7 +239,8 @@ pub(crate) fn put_events(
 fn put_line(out: &mut Vec<u8>, input: &Input, number: u64, event: &Brief) -> Result<(), AllocError>
     requires sound { IsSound input.now }
     requires fits { event_fits input.now.script (event_of no_rises event.now) ≡ true }
-    ensures { OnOk result (out.new.items ≡ out.old.items ++ rows_text (line_rows input.now number (event_of no_rises event.now) (what_of no_rises event.now.did))) }
+    ensures { OnOk result (out.new.items ≡ out.old.items ++ rows_text (line_rows input.now number
+        (event_of no_rises event.now) (what_of no_rises event.now.did))) }
 {
     match event.did {
         Did::Look { .. } => Ok(()),

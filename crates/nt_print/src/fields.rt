@@ -17,7 +17,8 @@ fn put_hexadecimal(out: &mut Vec<u8>, n: u32) -> Result<(), AllocError>
 
 /// Adds `status` and a wait's status.
 pub(crate) fn put_status(out: &mut Vec<u8>, status: u32) -> Result<(), AllocError>
-    ensures { OnOk result (out.new.items ≡ out.old.items ++ spaced (codes "status" ∷ hexadecimal status ∷ [])) }
+    ensures { OnOk result
+        (out.new.items ≡ out.old.items ++ spaced (codes "status" ∷ hexadecimal status ∷ [])) }
 {
     out.extend_from_slice(b" status")?;
     put_hexadecimal(out, status)

@@ -57,7 +57,8 @@ impl Model for Flags {
 }
 
 impl Flags {
-    ghost use Rattle.std.specs.Prelude.{◌≡◌, ◌≤◌, IfOk, false, true, get_or, length, replicate, slice_set};
+    ghost use Rattle.std.specs.Prelude.{◌≡◌, ◌≤◌, IfOk, false, true, get_or, length, replicate};
+    ghost use Rattle.std.specs.Prelude.{slice_set};
     ghost use Rattle.nt_print.specs.Flags.{AreClear};
 
     /// So many flags, none of which is set.
@@ -69,7 +70,8 @@ impl Flags {
         })
     }
 
-    /// A number from this one on, before which no flag is set. Whole blocks of flags that are clear are passed at once.
+    /// A number from this one on, before which no flag is set. Whole blocks of flags that are clear
+    /// are passed at once.
     pub(crate) fn pass_clear(&self, from: usize) -> usize
         requires { from ≤ length self.now }
         ensures place { (from ≤ result) × (result ≤ length self.now) }

@@ -35,7 +35,8 @@ fn is_same(x: Object, y: Object) -> bool
 
 /// The object that a call inserts.
 fn inserted_by(command: &Command, reply: &Reply) -> Option<Object>
-    ensures { (f : ℕ) → option_map thing_of result ≡ inserted_thing (what.Call f command.now reply.now) }
+    ensures { (f : ℕ) →
+        option_map thing_of result ≡ inserted_thing (what.Call f command.now reply.now) }
 {
     match (command, reply) {
         (Command::Queue(dpc), Reply::Yes) => Some(Object::Dpc(*dpc)),

@@ -17,7 +17,8 @@ impl Model for Numbers {
 }
 
 impl Numbers {
-    ghost use Rattle.std.specs.Prelude.{◌≡◌, ◌+◌, ◌<◌, ◌^◌, IfOk, get_or, length, replicate, slice_set};
+    ghost use Rattle.std.specs.Prelude.{◌≡◌, ◌+◌, ◌<◌, ◌^◌, IfOk, get_or, length, replicate};
+    ghost use Rattle.std.specs.Prelude.{slice_set};
 
     /// So many places, each with 0.
     pub(crate) fn new(alloc: Global, count: usize) -> Result<Numbers, AllocError>

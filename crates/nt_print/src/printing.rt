@@ -14,10 +14,12 @@ use nt_log::put_schedule_of;
 use nt_script::Input;
 use std::alloc::{AllocError, Global};
 
-/// How many bytes an event is taken to have in a report, with its turn in the schedule. A report may have more.
+/// How many bytes an event is taken to have in a report, with its turn in the schedule. A report
+/// may have more.
 const BYTES_OF_EVENT: usize = 48;
 
-/// The report of a history, whose events name things of the input's script. An error is want of memory.
+/// The report of a history, whose events name things of the input's script. An error is want of
+/// memory.
 pub fn report(alloc: Global, input: &Input, history: &History) -> Result<Vec<u8>, AllocError>
     requires sound { IsSound input.now }
     requires fit { events_fit input.now.script history.now.events ≡ true }

@@ -1,11 +1,14 @@
-//! The processors that spin at the end: for each the last call of `acquire` with reply spin, and their lines.
-ghost use Rattle.std.specs.Prelude.{◌≡◌, ◌++◌, ◌<◌, ◌==◌, ◌||◌, ◌∷◌, [], IfSome, None, OnOk, get_or, if◌then◌else◌, true};
+//! The processors that spin at the end: for each the last call of `acquire` with reply spin, and
+//! their lines.
+ghost use Rattle.std.specs.Prelude.{◌≡◌, ◌++◌, ◌<◌, ◌==◌, ◌||◌, ◌∷◌, [], IfSome, None, OnOk};
+ghost use Rattle.std.specs.Prelude.{get_or, if◌then◌else◌, true};
 ghost use Rattle.nt_event.specs.Fitting.{events_fit};
 ghost use Rattle.nt_event.specs.Script.{has_lock};
 ghost use Rattle.nt_script.specs.Sound.{IsSound};
 ghost use Rattle.nt_text.specs.Lines.{row_text, rows_text, spaced};
 ghost use Rattle.nt_line.specs.NameLists.{show_lock};
-ghost use Rattle.nt_print.specs.Report.{show_processor, spin_left, spin_of, spin_row, spin_rows, used};
+ghost use Rattle.nt_print.specs.Report.{show_processor, spin_left, spin_of, spin_row, spin_rows};
+ghost use Rattle.nt_print.specs.Report.{used};
 ghost use Rattle.nt_print.specs.Tally.{TalliesAll, rests_by};
 
 use crate::fields::put_used;
@@ -25,7 +28,8 @@ pub struct Spun {
     pub lock: LockNo,
 }
 
-/// For each place below a count, the last such call, where there is one. Contracts see the list of them.
+/// For each place below a count, the last such call, where there is one. Contracts see the list of
+/// them.
 #[derive(Drop)]
 pub(crate) struct Spins {
     spins: Vec<Option<Spun>>,
@@ -75,7 +79,8 @@ impl Spins {
 
 /// Whether a processor is cut, or its last event is a Rest, by the tally of the history's events.
 fn is_cut_or_rests(history: &History, tally: &Tally, cpu: usize) -> bool
-    ensures { result ≡ ((get_or tally.now.made cpu 0 == history.now.turns) || rests_by tally.now cpu) }
+    ensures { result
+        ≡ ((get_or tally.now.made cpu 0 == history.now.turns) || rests_by tally.now cpu) }
 {
     tally.made.at(cpu) == history.turns() as usize || tally.rests(cpu)
 }
@@ -87,7 +92,8 @@ fn unless(so: bool, spin: Option<Spun>) -> Option<Spun>
     if so { None } else { spin }
 }
 
-/// The last call of `acquire` with reply spin by a processor that isn't cut and whose last event isn't a Rest.
+/// The last call of `acquire` with reply spin by a processor that isn't cut and whose last event
+/// isn't a Rest.
 fn spin_left(input: &Input, history: &History, tally: &Tally, cpu: u8) -> Option<Spun>
     requires cpu { cpu < input.now.script.cpus }
     requires fit { events_fit input.now.script history.now.events ≡ true }
@@ -105,7 +111,8 @@ fn spin_left(input: &Input, history: &History, tally: &Tally, cpu: u8) -> Option
 fn put_spin_fields(out: &mut Vec<u8>, input: &Input, cpu: u8, spin: Spun) -> Result<(), AllocError>
     requires sound { IsSound input.now }
     requires fits { has_lock input.now.script spin.lock ≡ true }
-    ensures { OnOk result (out.new.items ≡ out.old.items ++ spaced (show_processor cpu ∷ show_lock input.now.names spin.lock ∷ used spin.number)) }
+    ensures { OnOk result (out.new.items ≡ out.old.items
+        ++ spaced (show_processor cpu ∷ show_lock input.now.names spin.lock ∷ used spin.number)) }
 {
     put_processor(out, u64::from(cpu))?;
     put_field(out, input.names.lock(spin.lock).as_bytes())?;
@@ -116,7 +123,8 @@ fn put_spin_fields(out: &mut Vec<u8>, input: &Input, cpu: u8, spin: Spun) -> Res
 fn put_spin(out: &mut Vec<u8>, input: &Input, cpu: u8, spin: Spun) -> Result<(), AllocError>
     requires sound { IsSound input.now }
     requires fits { has_lock input.now.script spin.lock ≡ true }
-    ensures { OnOk result (out.new.items ≡ out.old.items ++ row_text (spin_row input.now.names cpu spin)) }
+    ensures { OnOk result
+        (out.new.items ≡ out.old.items ++ row_text (spin_row input.now.names cpu spin)) }
 {
     out.extend_from_slice(b"spins")?;
     put_spin_fields(out, input, cpu, spin)?;
@@ -136,7 +144,8 @@ fn put_spin_of(
     requires cpu { cpu < input.now.script.cpus }
     requires fit { events_fit input.now.script history.now.events ≡ true }
     requires tally { TalliesAll input.now.script history.now.events tally.now }
-    ensures { OnOk result (out.new.items ≡ out.old.items ++ rows_text (spin_of input.now.names cpu (spin_left history.now cpu))) }
+    ensures { OnOk result (out.new.items
+        ≡ out.old.items ++ rows_text (spin_of input.now.names cpu (spin_left history.now cpu))) }
 {
     match spin_left(input, history, tally, cpu) {
         Some(spin) => put_spin(out, input, cpu, spin),
@@ -144,8 +153,8 @@ fn put_spin_of(
     }
 }
 
-/// Adds a line for each processor that isn't cut, whose last event isn't a Rest, and that has a call of `acquire` with reply
-/// spin, where this is the tally of the history's events.
+/// Adds a line for each processor that isn't cut, whose last event isn't a Rest, and that has a
+/// call of `acquire` with reply spin, where this is the tally of the history's events.
 pub(crate) fn put_spins(
     out: &mut Vec<u8>,
     input: &Input,
@@ -155,7 +164,8 @@ pub(crate) fn put_spins(
     requires sound { IsSound input.now }
     requires fit { events_fit input.now.script history.now.events ≡ true }
     requires tally { TalliesAll input.now.script history.now.events tally.now }
-    ensures { OnOk result (out.new.items ≡ out.old.items ++ rows_text (spin_rows input.now.names history.now 0 input.now.script.cpus)) }
+    ensures { OnOk result (out.new.items ≡ out.old.items
+        ++ rows_text (spin_rows input.now.names history.now 0 input.now.script.cpus)) }
 {
     for cpu in 0..input.script.cpus {
         put_spin_of(out, input, history, tally, cpu)?;

@@ -28,7 +28,8 @@ fn cut_line(cpu: u8, count: usize, history: &History) -> u8
     }
 }
 
-/// How many of these processors made as many events as they may, where these are the counts of their events.
+/// How many of these processors made as many events as they may, where these are the counts of
+/// their events.
 fn cut_lines(cpus: u8, counts: &Numbers, history: &History) -> u8
     requires len { length counts.now ≡ cpus }
     requires made { TellsMade history.now.events counts.now }
@@ -51,12 +52,16 @@ fn put_count(out: &mut Vec<u8>, word: &[u8], count: usize) -> Result<(), AllocEr
     Ok(())
 }
 
-/// Six counts of a history, a line each: `events`, `calls`, `refused` (calls that were refused), `begins`, and how many `cut`
-/// and `waits` lines its report has, whatever the names of the script's things are. The history's events name things of the
-/// script. An error is want of memory. Profile.
+/// Six counts of a history, a line each: `events`, `calls`, `refused` (calls that were refused),
+/// `begins`, and how many `cut` and `waits` lines its report has, whatever the names of the
+/// script's things are. The history's events name things of the script. An error is want of memory.
+/// Profile.
 pub fn summary(alloc: Global, script: &Script, history: &History) -> Result<Vec<u8>, AllocError>
     requires fit { events_fit script.now history.now.events ≡ true }
-    ensures { IfOk result (λ text. (version : ℕ) (names : NameLists) → text.items ≡ summary_text (record { version = version; script = script.now; names = names }) history.now) }
+    ensures { IfOk result (λ text.
+        (version : ℕ) (names : NameLists) →
+        text.items ≡ summary_text (record { version = version; script = script.now; names = names })
+        history.now) }
 {
     let events = history.lend();
     let tally = tally_of(alloc, script, &events)?;

@@ -1,5 +1,6 @@
-//! What a report or a summary needs of the events of a history, noted event by event from the first on. So an insert waits as
-//! long as no Begin or Flush names it and no event behind it removes its object.
+//! What a report or a summary needs of the events of a history, noted event by event from the first
+//! on. So an insert waits as long as no Begin or Flush names it and no event behind it removes its
+//! object.
 ghost use Rattle.std.specs.Prelude.{◌≡◌, ◌+◌, ◌<◌, ◌≤◌, ℕ, List, IfOk, get_or, length, true};
 ghost use Rattle.nt_event.specs.declared.commands.Reply.TheVariants.{Spin, Yes};
 ghost use Rattle.nt_event.specs.declared.events.Event.{Event};
@@ -8,7 +9,9 @@ ghost use Rattle.nt_event.specs.declared.events.What.TheVariants as what;
 ghost use Rattle.nt_event.specs.Fitting.{events_fit};
 ghost use Rattle.nt_history.specs.Briefs.{what_of};
 ghost use Rattle.nt_print.specs.Lent.{lent};
-ghost use Rattle.nt_print.specs.Tally.{HasRoom, Tallies, TalliesAll, noted_rest, with_named, last_removal, removed_apcs, removed_dpcs, rests_by, waits_by, with_use, with_what};
+ghost use Rattle.nt_print.specs.Tally.{HasRoom, Tallies, TalliesAll, noted_rest, with_named};
+ghost use Rattle.nt_print.specs.Tally.{last_removal, removed_apcs, removed_dpcs, rests_by};
+ghost use Rattle.nt_print.specs.Tally.{waits_by, with_use, with_what};
 ghost use Rattle.nt_print.specs.Uses.{inserted_of, thing_of};
 
 use crate::flags::Flags;
@@ -34,9 +37,11 @@ pub(crate) struct Tally {
     pub rested: Numbers,
     /// By processor, its last call of `acquire` with reply spin among them.
     pub spins: Spins,
-    /// By the number of an event, whether it is one of them and an insert that no Begin or Flush among them named.
+    /// By the number of an event, whether it is one of them and an insert that no Begin or Flush
+    /// among them named.
     pub unnamed: Flags,
-    /// By DPC object, the number of the last of them that removed it, 0 where none did. No insert comes before the event 0.
+    /// By DPC object, the number of the last of them that removed it, 0 where none did. No insert
+    /// comes before the event 0.
     pub dpcs: Numbers,
     /// By APC object likewise.
     pub apcs: Numbers,
@@ -78,7 +83,8 @@ impl Tally {
         }
     }
 
-    /// Whether the insert of the object by the event of this number waits behind the events that are tallied.
+    /// Whether the insert of the object by the event of this number waits behind the events that
+    /// are tallied.
     pub(crate) fn waits(&self, number: usize, object: Object) -> bool
         ensures { result ≡ waits_by self.now number (thing_of object) }
     {
@@ -87,7 +93,10 @@ impl Tally {
 
     /// Notes that the event of this number removed the object.
     fn note_removal(&mut self, number: usize, object: Object)
-        ensures { self.new ≡ record self.old { dpcs = removed_dpcs number (Some (thing_of object)) self.old.dpcs; apcs = removed_apcs number (Some (thing_of object)) self.old.apcs } }
+        ensures { self.new ≡ record self.old {
+          dpcs = removed_dpcs number (Some (thing_of object)) self.old.dpcs;
+          apcs = removed_apcs number (Some (thing_of object)) self.old.apcs;
+        } }
     {
         match object {
             Object::Dpc(dpc) => self.dpcs.set(dpc.0 as usize, number),
@@ -98,7 +107,10 @@ impl Tally {
     /// Notes that the event of this number named an insert.
     fn note_named(&mut self, events: &Briefs, number: usize, insert: Insert)
         requires number { number ≤ length events.now.briefs.now }
-        ensures { self.new ≡ record self.old { unnamed = with_named (lent events.now) number (Some (inserted_of insert)) self.old.unnamed } }
+        ensures { self.new ≡ record self.old {
+          unnamed =
+              with_named (lent events.now) number (Some (inserted_of insert)) self.old.unnamed;
+        } }
     {
         if insert.number < number as u64 {
             let place = insert.number as usize;
@@ -110,7 +122,8 @@ impl Tally {
 
     /// Notes what a call with reply yes inserts or removes.
     fn note_done(&mut self, number: usize, command: &Command)
-        ensures { (events : List Event) (f p : ℕ) → self.new ≡ with_use events number p (what.Call f command.now Yes) self.old }
+        ensures { (events : List Event) (f p : ℕ) →
+            self.new ≡ with_use events number p (what.Call f command.now Yes) self.old }
     {
         match command {
             Command::Queue(_) | Command::InsertApc(_) => self.unnamed.set(number),
@@ -143,7 +156,8 @@ impl Tally {
 
     /// Notes what the processor's call with reply spin tries for.
     fn note_spin(&mut self, number: usize, cpu: usize, command: &Command)
-        ensures { (events : List Event) (f : ℕ) → self.new ≡ with_use events number cpu (what.Call f command.now Spin) self.old }
+        ensures { (events : List Event) (f : ℕ) →
+            self.new ≡ with_use events number cpu (what.Call f command.now Spin) self.old }
     {
         match command {
             Command::Acquire(lock) => self.spins.set(
@@ -185,7 +199,8 @@ impl Tally {
     #[inline(always)]
     fn note_call(&mut self, number: usize, cpu: usize, command: &Command, reply: &Reply)
         requires room { HasRoom self.old }
-        ensures { (events : List Event) (f : ℕ) → self.new ≡ with_what events number cpu (what.Call f command.now reply.now) self.old }
+        ensures { (events : List Event) (f : ℕ) →
+            self.new ≡ with_what events number cpu (what.Call f command.now reply.now) self.old }
     {
         self.calls += 1;
         match reply {
@@ -200,7 +215,8 @@ impl Tally {
     fn note_begin(&mut self, events: &Briefs, number: usize, begun: &Begun, from: u64)
         requires room { HasRoom self.old }
         requires number { number ≤ length events.now.briefs.now }
-        ensures { (p : ℕ) → self.new ≡ with_what (lent events.now) number p (what.Begin begun.now from) self.old }
+        ensures { (p : ℕ) →
+            self.new ≡ with_what (lent events.now) number p (what.Begin begun.now from) self.old }
     {
         self.begins += 1;
         match begun {
@@ -226,7 +242,9 @@ impl Tally {
 
     /// Notes that the last of the events that the processor made is a Rest.
     fn note_rest(&mut self, cpu: usize)
-        ensures { self.new ≡ record self.old { rested = noted_rest cpu (get_or self.old.made cpu 0) true self.old.rested } }
+        ensures { self.new ≡ record self.old {
+          rested = noted_rest cpu (get_or self.old.made cpu 0) true self.old.rested;
+        } }
     {
         self.rested.set(cpu, self.made.at(cpu));
     }
@@ -236,7 +254,8 @@ impl Tally {
     fn note_did(&mut self, events: &Briefs, number: usize, cpu: usize, did: &Did)
         requires room { HasRoom self.old }
         requires number { number ≤ length events.now.briefs.now }
-        ensures { (r : Rises) → self.new ≡ with_what (lent events.now) number cpu (what_of r did.now) self.old }
+        ensures { (r : Rises) →
+            self.new ≡ with_what (lent events.now) number cpu (what_of r did.now) self.old }
     {
         match did {
             Did::Call { command, reply, .. } => self.note_call(number, cpu, command, reply),

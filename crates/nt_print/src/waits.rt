@@ -1,5 +1,6 @@
 //! The lines of the inserts that still wait at the end.
-ghost use Rattle.std.specs.Prelude.{◌≡◌, ◌++◌, ◌<◌, ◌∷◌, [], true, OnOk, IfSome, map, option_map, reverse, length};
+ghost use Rattle.std.specs.Prelude.{◌≡◌, ◌++◌, ◌<◌, ◌∷◌, [], true, OnOk, IfSome, map, option_map};
+ghost use Rattle.std.specs.Prelude.{reverse, length};
 ghost use Rattle.nt_text.specs.Lines.{row_text, rows_text};
 ghost use Rattle.nt_event.specs.Fate.{inserted_by, waiting_inserts};
 ghost use Rattle.nt_script.specs.Sound.{IsSound};
@@ -21,7 +22,8 @@ use std::alloc::AllocError;
 fn put_object(out: &mut Vec<u8>, input: &Input, object: Object) -> Result<(), AllocError>
     requires sound { IsSound input.now }
     requires fits { thing_fits input.now.script (thing_of object) ≡ true }
-    ensures { OnOk result (out.new.items ≡ out.old.items ++ spaced (thing_row input.now.names (thing_of object))) }
+    ensures { OnOk result
+        (out.new.items ≡ out.old.items ++ spaced (thing_row input.now.names (thing_of object))) }
 {
     match object {
         Object::Dpc(dpc) => {
@@ -38,7 +40,8 @@ fn put_object(out: &mut Vec<u8>, input: &Input, object: Object) -> Result<(), Al
 fn put_wait_fields(out: &mut Vec<u8>, input: &Input, insert: Insert) -> Result<(), AllocError>
     requires sound { IsSound input.now }
     requires fits { thing_fits input.now.script (thing_of insert.object) ≡ true }
-    ensures { OnOk result (out.new.items ≡ out.old.items ++ spaced (wait_fields input.now.names (inserted_of insert))) }
+    ensures { OnOk result (out.new.items
+        ≡ out.old.items ++ spaced (wait_fields input.now.names (inserted_of insert))) }
 {
     put_number(out, insert.number)?;
     put_object(out, input, insert.object)
@@ -48,7 +51,8 @@ fn put_wait_fields(out: &mut Vec<u8>, input: &Input, insert: Insert) -> Result<(
 fn put_wait(out: &mut Vec<u8>, input: &Input, insert: Insert) -> Result<(), AllocError>
     requires sound { IsSound input.now }
     requires fits { thing_fits input.now.script (thing_of insert.object) ≡ true }
-    ensures { OnOk result (out.new.items ≡ out.old.items ++ row_text (wait_row input.now.names (inserted_of insert))) }
+    ensures { OnOk result (out.new.items
+        ≡ out.old.items ++ row_text (wait_row input.now.names (inserted_of insert))) }
 {
     out.extend_from_slice(b"waits")?;
     put_wait_fields(out, input, insert)?;
@@ -71,7 +75,8 @@ fn waiting(script: &Script, events: &Briefs, tally: &Tally, number: usize) -> Op
     requires number { number < length events.now.briefs.now }
     requires fit { events_fit script.now (lent events.now) ≡ true }
     requires tally { TalliesAll script.now (lent events.now) tally.now }
-    ensures waits { option_map thing_of result ≡ waits_at (reverse (lent events.now)) number (inserted_at (lent events.now) number) }
+    ensures waits { option_map thing_of result
+        ≡ waits_at (reverse (lent events.now)) number (inserted_at (lent events.now) number) }
     ensures fits { IfSome result (λ x. thing_fits script.now (thing_of x) ≡ true) }
 {
     match inserted_at(script, events, number) {
@@ -96,7 +101,9 @@ fn put_wait_of(
     requires fit { events_fit input.now.script (lent events.now) ≡ true }
     requires tally { TalliesAll input.now.script (lent events.now) tally.now }
     requires number { number < length events.now.briefs.now }
-    ensures { OnOk result (out.new.items ≡ out.old.items ++ rows_text (map (wait_row input.now.names) (inserted_by number (waits_at (reverse (lent events.now)) number (inserted_at (lent events.now) number))))) }
+    ensures { OnOk result (out.new.items ≡ out.old.items ++ rows_text (map
+        (wait_row input.now.names) (inserted_by number
+        (waits_at (reverse (lent events.now)) number (inserted_at (lent events.now) number))))) }
 {
     match waiting(&input.script, events, tally, number) {
         Some(object) => put_wait(
@@ -111,7 +118,8 @@ fn put_wait_of(
     }
 }
 
-/// Adds the lines of the inserts that still wait, by ascending number. No event is read but the inserts that no event named.
+/// Adds the lines of the inserts that still wait, by ascending number. No event is read but the
+/// inserts that no event named.
 pub(crate) fn put_waits(
     out: &mut Vec<u8>,
     input: &Input,
@@ -121,7 +129,8 @@ pub(crate) fn put_waits(
     requires sound { IsSound input.now }
     requires fit { events_fit input.now.script (lent events.now) ≡ true }
     requires tally { TalliesAll input.now.script (lent events.now) tally.now }
-    ensures { OnOk result (out.new.items ≡ out.old.items ++ rows_text (wait_rows input.now.names (reverse (lent events.now)))) }
+    ensures { OnOk result (out.new.items
+        ≡ out.old.items ++ rows_text (wait_rows input.now.names (reverse (lent events.now)))) }
 {
     let mut number = tally.unnamed.pass_clear(0);
     while number < events.briefs.len() {

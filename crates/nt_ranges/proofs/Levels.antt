@@ -18,7 +18,9 @@ use Rattle.nt_event.specs.declared.numbers.CpuNo.{CpuNo}
 use Rattle.nt_event.specs.declared.numbers.RoutineNo.{RoutineNo}
 use Rattle.nt_event.specs.declared.numbers.ThreadNo.{ThreadNo}
 use Rattle.nt_event.specs.declared.scripts.Script.{Script}
-use Rattle.nt_event.specs.Frames.{at_name, called, done_to, due_of, effect, end_on_thread, ended_base, flushed, frames_of, freed, freed_level, held_moved, is_base_body, kept_in, level_in, level_moved, normal_of, own_after, own_frames, resumed, rewaited, running, spin_moved, switched_to, thread_after, thread_frames, thread_if, time, without}
+use Rattle.nt_event.specs.Frames.{at_name, called, done_to, due_of, effect, end_on_thread, ended_base, flushed, frames_of, freed, freed_level, held_moved}
+use Rattle.nt_event.specs.Frames.{is_base_body, kept_in, level_in, level_moved, normal_of, own_after, own_frames, resumed, rewaited, running, spin_moved}
+use Rattle.nt_event.specs.Frames.{switched_to, thread_after, thread_frames, thread_if, time, without}
 use Rattle.nt_event.specs.Lists.{head_of, table, tail_of}
 use Rattle.nt_event.specs.Locks.{Frees, Gets, LockMove, NoMove, Spins, call_move}
 use Rattle.nt_event.specs.Numbers.{is_by, is_of, thread}

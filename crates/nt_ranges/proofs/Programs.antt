@@ -15,8 +15,9 @@ use Rattle.nt_ranges.specs.Plain.{IsRunOf}
 use Rattle.nt_ranges.proofs.Reports.{a_run_has_a_report}
 use Rattle.nt_ranges.proofs.Whole.{a_robin_run_looks_whole, turns_whole}
 
-pub a_robin_run_is_one : (input : Input) (h : History) → IsSound input → (1 ≤ h.turns) × (h.turns ≤ turn_bound input.script.cpus) → IsRun input.script h.turns (reverse h.events) →
-    IsRobin input.script h.turns (reverse h.events) → IsRunOf input h
+pub a_robin_run_is_one : (input : Input) (h : History) → IsSound input → (1 ≤ h.turns) × (h.turns ≤ turn_bound input.script.cpus) →
+    IsRun input.script h.turns (reverse h.events) → IsRobin input.script h.turns (reverse h.events) →
+    IsRunOf input h
 a_robin_run_is_one input h sound limit run robin =
     record {
       sound = sound;

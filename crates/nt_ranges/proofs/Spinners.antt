@@ -2,7 +2,8 @@
 use Rattle.std.proofs.Common.{ap, arith, inl, inr, subst, sym, ◌∙◌}
 use Rattle.std.proofs.lemmas.Bool.{both_ways, eq-eqb, eqb-false, eqb-true, lt-ltb, ltb-true, ne_eqb}
 use Rattle.std.specs.Option.{option_map_or}
-use Rattle.std.specs.Prelude.{Bool, List, None, Option, Some, [], false, get_or, if◌then◌else◌, is_some, not, refl, reverse, true, ℕ, ◌&&◌, ◌<◌, ◌==◌, ◌||◌, ◌∷◌, ◌≡◌, ◌≤◌, ◌⊎◌, length}
+use Rattle.std.specs.Prelude.{Bool, List, None, Option, Some, [], false, get_or, if◌then◌else◌, is_some, not, refl, reverse, true, ℕ, ◌&&◌, ◌<◌, ◌==◌, ◌||◌}
+use Rattle.std.specs.Prelude.{◌∷◌, ◌≡◌, ◌≤◌, ◌⊎◌, length}
 use Rattle.nt_event.specs.declared.commands.Command.TheVariants.{Acquire, Unlock}
 use Rattle.nt_event.specs.declared.commands.Reply.TheVariants.{Done, Spin as Spinning}
 use Rattle.nt_event.specs.declared.events.Event.{Event}

@@ -1,6 +1,7 @@
 -- The statuses of a run are those of waits: that of a thread whose wait has ended, and those of replies.
 use Rattle.std.proofs.Common.{subst, sym}
-use Rattle.std.specs.Prelude.{Bool, IfSome, List, None, Option, Some, false, if◌then◌else◌, is_some, length, not, option_map, refl, true, ℕ, ◌&&◌, ◌+◌, ◌==◌, [], ◌∷◌, ◌≡◌}
+use Rattle.std.specs.Prelude.{Bool, IfSome, List, None, Option, Some, false, if◌then◌else◌, is_some, length, not, option_map, refl, true, ℕ, ◌&&◌, ◌+◌, ◌==◌}
+use Rattle.std.specs.Prelude.{[], ◌∷◌, ◌≡◌}
 use Rattle.nt_event.specs.declared.commands.ApcKind.{ApcKind}
 use Rattle.nt_event.specs.declared.commands.ApcKind.TheVariants.{User as UserApc}
 use Rattle.nt_event.specs.declared.commands.Command.{Command}
@@ -36,8 +37,10 @@ use Rattle.nt_event.specs.Regions.{stand_at}
 use Rattle.nt_event.specs.Replies.{alerted, is_answer, is_user, kernel_apc, satisfied, user_apc, yes_if}
 use Rattle.nt_event.specs.Routines.{is_kernel_kind, kind_of, owner_of}
 use Rattle.nt_event.specs.Step.{IsRun, event_at, step, turn_at}
-use Rattle.nt_event.specs.Threads.{ThreadFacts, ended, ended_status, ends_by_alert, ends_by_apc, ends_by_expiry, ends_by_release, is_alerted, is_gone, set_alerted, start_facts}
-use Rattle.nt_event.specs.Waits.{alert_facts, alert_taken, alert_tested, answered, apc_taken, expiry_facts, facts, frame_ended, insert_facts, is_of_thread, is_satisfied, made_facts, named_facts, new_pick, release_facts, wait_reply, waited, waited_again}
+use Rattle.nt_event.specs.Threads.{ThreadFacts, ended, ended_status, ends_by_alert, ends_by_apc, ends_by_expiry, ends_by_release, is_alerted, is_gone}
+use Rattle.nt_event.specs.Threads.{set_alerted, start_facts}
+use Rattle.nt_event.specs.Waits.{alert_facts, alert_taken, alert_tested, answered, apc_taken, expiry_facts, facts, frame_ended, insert_facts, is_of_thread}
+use Rattle.nt_event.specs.Waits.{is_satisfied, made_facts, named_facts, new_pick, release_facts, wait_reply, waited, waited_again}
 use Rattle.nt_runs.proofs.Known.{Known, legal_known, reply_or, refusal_in}
 use Rattle.nt_runs.proofs.Steps.{Gives, switch_gives}
 use Rattle.nt_runs.proofs.Turns.{is_next}

@@ -22,7 +22,8 @@ both_ways true h k = cc
 both_ways false h k = cc
 
 -- two facts at one place
-at_meet : (P Q : Event → List Event → Type 0) (n : ℕ) (past : List Event) → At P n past → At Q n past → ((e : Event) (before : List Event) → P e before → Q e before → ⊥) → ⊥
+at_meet : (P Q : Event → List Event → Type 0) (n : ℕ) (past : List Event) → At P n past → At Q n past →
+    ((e : Event) (before : List Event) → P e before → Q e before → ⊥) → ⊥
 at_meet P Q n past h k never = at_both P Q n past h k never
 
 -- a fact after a place and one at a later place
@@ -85,7 +86,8 @@ module _ (s : Script) (t : ThreadNo) (n : ℕ) (e : Event) (past : List Event) w
 
   -- an event that is no wait event of the frame and doesn't begin it anew
   pub tells_on : (b : Bool) → waits_by s t n e ≡ false → renews_by s t n e ≡ false → Tells s t n b past → Tells s t n b (e ∷ past)
-  tells_on b w r h = ((λ q. more (h.0.0 q), λ q. h.0.1 (less q)), λ k o. h.1 k (last_old k w o.0, at_old Blocking k e past (below_last k (last_old k w o.0)) o.1, o.2.1))
+  tells_on b w r h =
+      ((λ q. more (h.0.0 q), λ q. h.0.1 (less q)), λ k o. h.1 k (last_old k w o.0, at_old Blocking k e past (below_last k (last_old k w o.0)) o.1, o.2.1))
     where
       more : IsInterrupted s t n past → IsInterrupted s t n (e ∷ past)
       more (k, last, out) = (k, last_more k w r last, outcome_more k kernel_apc out)
@@ -93,12 +95,14 @@ module _ (s : Script) (t : ThreadNo) (n : ℕ) (e : Event) (past : List Event) w
       less : IsInterrupted s t n (e ∷ past) → IsInterrupted s t n past
       less (k, last, out) = go (outcome_old k kernel_apc (below_last k (last_old k w last)) out)
         where
-          go : IsOutcome s t k kernel_apc past ⊎ (At Blocking k past × EachAfter (NotTaken s t) k past × (takes_up s t e ≡ true) × (carried e.what ≡ Some kernel_apc)) →
+          go : IsOutcome s t k kernel_apc past ⊎
+              (At Blocking k past × EachAfter (NotTaken s t) k past × (takes_up s t e ≡ true) × (carried e.what ≡ Some kernel_apc)) →
               IsInterrupted s t n past
           go (inl o) = (k, last_old k w last, o)
           go (inr o) = absurd (h.1 k (last_old k w last, o.0, o.1))
 
-  pub stopped_on : (b : Bool) → waits_by s t n e ≡ false → renews_by s t n e ≡ false → takes_up s t e ≡ false → Stopped s t n b past → Stopped s t n b (e ∷ past)
+  pub stopped_on : (b : Bool) → waits_by s t n e ≡ false → renews_by s t n e ≡ false → takes_up s t e ≡ false → Stopped s t n b past →
+      Stopped s t n b (e ∷ past)
   stopped_on b w r f (q, (k, o)) = (q, (k, (last_more k w r o.0, inr o.1, ((λ l. f), o.2))))
 
   -- the thread is taken up with this status
@@ -135,14 +139,17 @@ module _ (s : Script) (t : ThreadNo) (n : ℕ) (e : Event) (past : List Event) w
           blocked_answers (Rewait g Blocked) x y = cc
           blocked_answers v x y = cc
 
-          go : IsOutcome s t m kernel_apc past ⊎ (At Blocking m past × EachAfter (NotTaken s t) m past × (takes_up s t e ≡ true) × (carried e.what ≡ Some kernel_apc)) →
-              m ≡ k → (st == kernel_apc) ≡ true
+          go : IsOutcome s t m kernel_apc past ⊎
+              (At Blocking m past × EachAfter (NotTaken s t) m past × (takes_up s t e ≡ true) × (carried e.what ≡ Some kernel_apc)) →
+              m ≡ k →
+              (st == kernel_apc) ≡ true
           go (inl (inl a)) i =
               absurd (at_meet (λ e before. wait_blocks e.what ≡ true) (λ e before. wait_status e.what ≡ Some kernel_apc) k past o.1
               (subst (λ (v : ℕ). At (λ e before. wait_status e.what ≡ Some kernel_apc) v past) i a) (λ e before u v. blocked_answers e.what u v))
           go (inl (inr a)) i =
               let j = a.1.1 in
-              absurd (after_meet (NotTaken s t) (λ e before. (takes_up s t e ≡ true) × (carried e.what ≡ Some kernel_apc) × EachAfter (NotTaken s t) m before) k a.1.0 past o.2
+              absurd (after_meet (NotTaken s t) (λ e before. (takes_up s t e ≡ true) × (carried e.what ≡ Some kernel_apc) × EachAfter (NotTaken s t) m before) k
+              a.1.0 past o.2
               a.1.2 (omega (arith, i, j)) (λ e before u v. both_ways (takes_up s t e) v.0 u))
           go (inr a) i =
               let z : Some st ≡ Some kernel_apc = sym c ∙ a.3 in

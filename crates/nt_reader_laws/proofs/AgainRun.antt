@@ -1,6 +1,7 @@
 -- In a run each open frame of a thread tells whether its last wait event was interrupted.
 use Rattle.nt_event.proofs.Options.{both}
-use Rattle.nt_event.specs.Frames.{at_name, called, due_of, end_on_thread, ended_base, ended_on_thread, flushed, frames_of, freed, innermost, is_base_body, new_frame, normal_of, own_frames, resumed, rewaited, running, switched_to, thread_after, thread_frames, time}
+use Rattle.nt_event.specs.Frames.{at_name, called, due_of, end_on_thread, ended_base, ended_on_thread, flushed, frames_of, freed, innermost, is_base_body}
+use Rattle.nt_event.specs.Frames.{new_frame, normal_of, own_frames, resumed, rewaited, running, switched_to, thread_after, thread_frames, time}
 use Rattle.nt_event.specs.Jobs.{ready}
 use Rattle.nt_event.specs.Lanes.{lanes_at}
 use Rattle.nt_event.specs.Lists.{is_null}
@@ -52,7 +53,8 @@ use Rattle.nt_reader_laws.specs.Again.{IsInterrupted, WaitsAreTakenUpWhereInterr
 use Rattle.nt_reader_laws.specs.Waits.{ends_it, takes_up, waiting_as}
 use Rattle.std.proofs.Common.{ap, arith, inl, inr, refl, subst, sym, ◌∙◌}
 use Rattle.std.proofs.lemmas.Bool.{eq-eqb}
-use Rattle.std.specs.Prelude.{Bool, List, None, Option, Some, [], false, if◌then◌else◌, is_some, length, option_map, true, ℕ, ◌&&◌, ◌<◌, ◌==◌, ◌↔◌, ◌∷◌, ◌≡◌, ◌⊎◌}
+use Rattle.std.specs.Prelude.{Bool, List, None, Option, Some, [], false, if◌then◌else◌, is_some, length, option_map, true, ℕ, ◌&&◌, ◌<◌, ◌==◌, ◌↔◌, ◌∷◌, ◌≡◌}
+use Rattle.std.specs.Prelude.{◌⊎◌}
 
 abbrev EachTells : Script → ThreadNo → List Event → List Frame → Type 0
 EachTells s t past fs = EachFrame (λ f. Tells s t f.name (is_some f.again) past) fs
@@ -185,10 +187,10 @@ module _ (s : Script) (limit : ℕ) (t : ThreadNo) (e : Event) (past : List Even
 
   -- the named frame is the first one and is left so, or the list stays
   named_on : (m : ℕ) (g : Frame) (h : Frame → Frame) (d : Doing) → g.name ≡ m → (HeadIs g (own_frames e.cpu past) × NotAmong g.name fs) ⊎ HeadIs g fs →
-      ((n : ℕ) → (n ≡ g.name → ⊥) → (waits_by s t n e ≡ false) × (renews_by s t n e ≡ false)) →
-      ((f : Frame) → (h f).name ≡ f.name) →
+      ((n : ℕ) → (n ≡ g.name → ⊥) → (waits_by s t n e ≡ false) × (renews_by s t n e ≡ false)) → ((f : Frame) → (h f).name ≡ f.name) →
       (HeadIs g (own_frames e.cpu past) → EachTells s t (e ∷ past) fs → Inv s t (e ∷ past) d fs) →
-      ((rest : List Frame) → g.name < length past → Tells s t g.name (is_some g.again) past → EachTells s t (e ∷ past) rest → Inv s t (e ∷ past) d (h g ∷ rest)) →
+      ((rest : List Frame) → g.name < length past → Tells s t g.name (is_some g.again) past → EachTells s t (e ∷ past) rest →
+      Inv s t (e ∷ past) d (h g ∷ rest)) →
       Inv s t (e ∷ past) d (at_name m h fs)
   named_on m g h d name (inl w) a keeps stays changes =
       let same : at_name m h fs ≡ fs = ap (λ (v : ℕ). at_name v h fs) (sym name) ∙ at_name_none g.name h fs w.1 in
@@ -302,13 +304,15 @@ module _ (s : Script) (limit : ℕ) (t : ThreadNo) (e : Event) (past : List Even
       named_on m g (called (due_of e.what (time past)) (StartWait v a) (Status st)) IsRunning (sym known.name) (named_where g known.goes_on.inner run)
       (λ n q. call_side m (StartWait v a) (Status st) k n (λ z. q (z ∙ known.name))) (λ f. refl) (λ o x. inv_runs s t (e ∷ past) fs x)
       (λ rest l old x. (
-        answered_now g (is_some (if st == kernel_apc then Some (record { mode = v; alertable = a; due = None }) else None)) st (Call m (StartWait v a) (Status st)) k l
+        answered_now g (is_some (if st == kernel_apc then Some (record { mode = v; alertable = a; due = None }) else None)) st
+            (Call m (StartWait v a) (Status st)) k l
             (named_true m g.name (Status st) known.name refl) refl refl (some_if (st == kernel_apc) _),
         x,
       ))
   call_step m (StartWait v a) Blocked k run known =
       let g = known.frame in
-      named_on m g (called (due_of e.what (time past)) (StartWait v a) Blocked) (made_to (length past) (stand_at s e.cpu past) (Call m (StartWait v a) Blocked) IsRunning)
+      named_on m g (called (due_of e.what (time past)) (StartWait v a) Blocked)
+      (made_to (length past) (stand_at s e.cpu past) (Call m (StartWait v a) Blocked) IsRunning)
       (sym known.name) (named_where g known.goes_on.inner run)
       (λ n q. call_side m (StartWait v a) Blocked k n (λ z. q (z ∙ known.name))) (λ f. refl)
       (λ o x. own_null g o (blocked_call s e.cpu (own_of s e.cpu past) (lanes_at s past) m (StartWait v a) known).1)
@@ -328,7 +332,8 @@ module _ (s : Script) (limit : ℕ) (t : ThreadNo) (e : Event) (past : List Even
       ))
   call_step m (Delay v a u) Blocked k run known =
       let g = known.frame in
-      named_on m g (called (due_of e.what (time past)) (Delay v a u) Blocked) (made_to (length past) (stand_at s e.cpu past) (Call m (Delay v a u) Blocked) IsRunning)
+      named_on m g (called (due_of e.what (time past)) (Delay v a u) Blocked)
+      (made_to (length past) (stand_at s e.cpu past) (Call m (Delay v a u) Blocked) IsRunning)
       (sym known.name) (named_where g known.goes_on.inner run)
       (λ n q. call_side m (Delay v a u) Blocked k n (λ z. q (z ∙ known.name))) (λ f. refl)
       (λ o x. own_null g o (blocked_call s e.cpu (own_of s e.cpu past) (lanes_at s past) m (Delay v a u) known).1)
@@ -382,7 +387,8 @@ module _ (s : Script) (limit : ℕ) (t : ThreadNo) (e : Event) (past : List Even
       Tells s t g.name false (e ∷ past)
   anew g w k l a b =
       tells_anew s t g.name e past l
-      (ap (λ (v : What). is_of_thread s t e && is_wait_event g.name v) k ∙ (ap (λ (c : Bool). is_of_thread s t e && c) (a g.name) ∙ and_no (is_of_thread s t e)))
+      (ap (λ (v : What). is_of_thread s t e && is_wait_event g.name v) k
+      ∙ (ap (λ (c : Bool). is_of_thread s t e && c) (a g.name) ∙ and_no (is_of_thread s t e)))
       (and_yes (is_of_thread s t e) (renews g.name e.what) own (ap (renews g.name) k ∙ b))
 
   end_step : (m : ℕ) → e.what ≡ End m → running e.cpu past ≡ Some t → KnownEnd s e.cpu (own_of s e.cpu past) m →
@@ -396,7 +402,8 @@ module _ (s : Script) (limit : ℕ) (t : ThreadNo) (e : Event) (past : List Even
       end_none n [] h = refl
       end_none n (f ∷ gs) h = ap (λ (b : Bool). if b then ended_on_thread (f ∷ gs) else (f ∷ gs)) (not_equal f.name n h.0)
 
-      go : (HeadIs known.frame (own_frames e.cpu past) × NotAmong known.frame.name fs) ⊎ HeadIs known.frame fs → Inv s t (e ∷ past) IsRunning (end_on_thread m fs)
+      go : (HeadIs known.frame (own_frames e.cpu past) × NotAmong known.frame.name fs) ⊎ HeadIs known.frame fs →
+          Inv s t (e ∷ past) IsRunning (end_on_thread m fs)
       go (inl w) =
           let same : end_on_thread m fs ≡ fs = ap (λ (v : ℕ). end_on_thread v fs) known.name ∙ end_none known.frame.name fs w.1 in
           subst (Inv s t (e ∷ past) IsRunning) (sym same) (inv_runs s t (e ∷ past) fs (each_other s t e past known.frame.name fs w.1 side each))
@@ -448,7 +455,8 @@ some_kept : (b : Bool) (o : Option Again) → is_some o ≡ true → is_some (if
 some_kept true o h = h
 some_kept false o h = refl
 
-module _ (s : Script) (t : ThreadNo) (e : Event) (past : List Event) (own : is_of_thread s t e ≡ true) (u : ThreadNo) (st : Option ℕ) (k : e.what ≡ Switch u st) where
+module _ (s : Script) (t : ThreadNo) (e : Event) (past : List Event) (own : is_of_thread s t e ≡ true) (u : ThreadNo) (st : Option ℕ)
+    (k : e.what ≡ Switch u st) where
   switch_side : (n : ℕ) → (waits_by s t n e ≡ false) × (renews_by s t n e ≡ false)
   switch_side n = (
     ap (λ (v : What). is_of_thread s t e && is_wait_event n v) k ∙ and_no (is_of_thread s t e),
@@ -529,7 +537,8 @@ module _ (s : Script) (limit : ℕ) (t : ThreadNo) (e : Event) (past : List Even
           let same : u ≡ t = cc in
           let status : st ≡ ended_status (facts s t past) = switch_tells s limit t e past st r (k ∙ ap (λ (v : ThreadNo). Switch v st) same) in
           let after : IsRunning ≡ (facts s t (e ∷ past)).doing =
-          sym (ap (λ (w : What). made_to (length past) (stand_at s e.cpu past) w (facts s t past).doing) k) ∙ doing (ready_waits_not (facts s t past).doing ready) in
+          sym (ap (λ (w : What). made_to (length past) (stand_at s e.cpu past) w (facts s t past).doing) k)
+          ∙ doing (ready_waits_not (facts s t past).doing ready) in
           subst (λ (z : Doing). Inv s t (e ∷ past) z (switched_to (length past) u st (thread_frames s (cpu_of s t) t past))) after
           (inv_runs s t (e ∷ past) (switched_to (length past) u st (thread_frames s (cpu_of s t) t past))
           (taken_step s t e past own u st k (facts s t past).doing (thread_frames s (cpu_of s t) t past) ready status ih))
@@ -539,14 +548,16 @@ module _ (s : Script) (limit : ℕ) (t : ThreadNo) (e : Event) (past : List Even
           (thread_after s (length past) (due_of e.what (time past)) e.what (thread_frames s (cpu_of s t) t past))
       go (inl m) = switched e.what refl m.0 m.1
       go (inr m) =
-          let run : running (cpu_of s t) past ≡ Some t = says_runs (facts s t past).doing (thread_frames s (cpu_of s t) t past) (running (cpu_of s t) past ≡ Some t)
+          let run : running (cpu_of s t) past ≡ Some t =
+          says_runs (facts s t past).doing (thread_frames s (cpu_of s t) t past) (running (cpu_of s t) past ≡ Some t)
           m.1 (agree s limit t past r.1) in
           let here : running e.cpu past ≡ Some t = ap (λ (p : CpuNo). running p past) (same_cpu e (cpu_of s t) cpu) ∙ run in
           let each : EachTells s t past (thread_frames s (cpu_of s t) t past) =
           runs_inv s t past (thread_frames s (cpu_of s t) t past) (subst (λ (z : Doing). Inv s t past z (thread_frames s (cpu_of s t) t past)) m.1 ih) in
           let after : made_to (length past) (stand_at s e.cpu past) e.what IsRunning ≡ (facts s t (e ∷ past)).doing =
           sym (ap (λ (d : Doing). made_to (length past) (stand_at s e.cpu past) e.what d) m.1) ∙ doing (ap waiting_of m.1) in
-          subst (λ (z : Doing). Inv s t (e ∷ past) z (thread_after s (length past) (due_of e.what (time past)) e.what (thread_frames s (cpu_of s t) t past))) after
+          subst (λ (z : Doing). Inv s t (e ∷ past) z (thread_after s (length past) (due_of e.what (time past)) e.what (thread_frames s (cpu_of s t) t past)))
+          after
           (running_step s limit t e past r own (thread_frames s (cpu_of s t) t past) refl each e.what refl m.0 here)
 
   step_by : (b : Bool) → is_by e t ≡ b → Inv s t (e ∷ past) (facts s t (e ∷ past)).doing (thread_frames s (cpu_of s t) t (e ∷ past))

@@ -7,7 +7,8 @@ use Rattle.nt_event.specs.Regions.{stand_at}
 use Rattle.nt_event.specs.Replies.{alerted, is_answer, is_user, kernel_apc, satisfied, user_apc}
 use Rattle.nt_event.specs.Routines.{is_kernel_kind, kind_of, owner_of}
 use Rattle.nt_event.specs.Threads.{ThreadFacts, ended, ends_by_alert, ends_by_apc, ends_by_expiry, ends_by_release, is_alerted, is_gone, set_alerted}
-use Rattle.nt_event.specs.Waits.{alert_facts, alert_taken, alert_tested, answered, apc_taken, facts, frame_ended, insert_facts, is_of_thread, made_facts, named_facts, new_pick, release_facts, waited, waited_again}
+use Rattle.nt_event.specs.Waits.{alert_facts, alert_taken, alert_tested, answered, apc_taken, facts, frame_ended, insert_facts, is_of_thread, made_facts}
+use Rattle.nt_event.specs.Waits.{named_facts, new_pick, release_facts, waited, waited_again}
 use Rattle.nt_event.specs.declared.commands.ApcKind.{ApcKind}
 use Rattle.nt_event.specs.declared.commands.ApcKind.TheVariants.{User as UserApc}
 use Rattle.nt_event.specs.declared.commands.Command.TheVariants.{Alert, Delay, InsertApc, Release, RemoveApc, StartWait, TestAlert, Yield}
@@ -157,9 +158,11 @@ left-append (x ∷ xs) ys q = ap (after x) (left-append xs ys q)
 event_step : (s : Script) (t : ThreadNo) (e : Event) (past : List Event) → (facts s t (e ∷ past)).apcs
     ≡ left_by_acts (apc_acts s t (length past) (stand_at s e.cpu past) (is_of_thread s t e) e.what) (facts s t past).apcs
 event_step s t e past =
-    named_step s t (length past) e.what (if is_of_thread s t e then made_facts s (length past) (stand_at s e.cpu past) e.what (facts s t past) else facts s t past)
+    named_step s t (length past) e.what
+    (if is_of_thread s t e then made_facts s (length past) (stand_at s e.cpu past) e.what (facts s t past) else facts s t past)
     ∙ (ap (left_by_acts (named_apcs s t (length past) e.what)) (go (is_of_thread s t e))
-    ∙ sym (left-append (named_apcs s t (length past) e.what) (if is_of_thread s t e then made_apcs (stand_at s e.cpu past).body e.what else []) (facts s t past).apcs))
+    ∙ sym (left-append (named_apcs s t (length past) e.what) (if is_of_thread s t e then made_apcs (stand_at s e.cpu past).body e.what else [])
+    (facts s t past).apcs))
   where
     go : (b : Bool) → (if b then made_facts s (length past) (stand_at s e.cpu past) e.what (facts s t past) else facts s t past).apcs
         ≡ left_by_acts (if b then made_apcs (stand_at s e.cpu past).body e.what else []) (facts s t past).apcs
@@ -220,7 +223,8 @@ named_below s t n (Call f (RemoveApc a) Yes) acts h = go ((owner_of s a).0 == t.
     go false = below_more n (suc n) acts (omega arith) h
 named_below s t n w acts h = below_more n (suc n) acts (omega arith) h
 
-named_rise : (s : Script) (t : ThreadNo) (n : ℕ) (w : What) (acts : List Act) → NumbersBelow n acts → NumbersRise acts → NumbersRise (named_apcs s t n w ++ acts)
+named_rise : (s : Script) (t : ThreadNo) (n : ℕ) (w : What) (acts : List Act) → NumbersBelow n acts → NumbersRise acts →
+    NumbersRise (named_apcs s t n w ++ acts)
 named_rise s t n (Call f (InsertApc a) Yes) acts h k = go ((owner_of s a).0 == t.0)
   where
     go : (b : Bool) → NumbersRise (acts_if b (Inserts (new_pick s a n)) ++ acts)

@@ -5,7 +5,8 @@ use Rattle.nt_event.proofs.Tables.{get_or-table, length-table_from, table-same}
 use Rattle.nt_event.specs.Calls.{stops, wait_begun}
 use Rattle.nt_event.specs.Classes.{lock_class}
 use Rattle.nt_event.specs.Commands.{reply}
-use Rattle.nt_event.specs.Frames.{Frames, at_head, at_name, called, due_of, effect_by, frames_in, frames_of, held_moved, innermost, level_moved, own_after, own_frames, running, running_after, spin_moved, thread_after, thread_frames, thread_if, thread_part, time, time_after}
+use Rattle.nt_event.specs.Frames.{Frames, at_head, at_name, called, due_of, effect_by, frames_in, frames_of, held_moved, innermost, level_moved, own_after}
+use Rattle.nt_event.specs.Frames.{own_frames, running, running_after, spin_moved, thread_after, thread_frames, thread_if, thread_part, time, time_after}
 use Rattle.nt_event.specs.LaneStates.{lane_state}
 use Rattle.nt_event.specs.Lanes.{Lanes, lanes_at, lanes_of, lock_at, queue_at, same_lane, what_lanes}
 use Rattle.nt_event.specs.Jobs.{level_at}
@@ -171,7 +172,8 @@ own_head x f h n = go x.own refl
     go : (fs : List Frame) → x.own ≡ fs → head_of fs ≡ Some f
     go [] e = let k : is_null {A = Frame} [] ≡ false = subst (λ (fs : List Frame). is_null fs ≡ false) e n in cc
     go (g ∷ fs) e =
-        let k : option_or (head_of (g ∷ fs)) (head_of (thread_part x)) ≡ Some f = subst (λ (gs : List Frame). option_or (head_of gs) (head_of (thread_part x)) ≡ Some f) e h in
+        let k : option_or (head_of (g ∷ fs)) (head_of (thread_part x)) ≡ Some f =
+        subst (λ (gs : List Frame). option_or (head_of gs) (head_of (thread_part x)) ≡ Some f) e h in
         cc
 
 -- ---- a frame that spins tries its lock again, which isn't refused; so the frame of a refused call spins on none
@@ -239,7 +241,8 @@ module _ (s : Script) (limit : ℕ) (e : Event) (past : List Event) (c : Command
       go false = refl
 
   running_stays : running e.cpu (e ∷ past) ≡ running e.cpu past
-  running_stays = rw here (ap (λ (w : What). running_after w (running e.cpu past)) k.is_call ∙ if_none (stops c (Refused r)) (running e.cpu past) (refused_goes_on c r))
+  running_stays =
+      rw here (ap (λ (w : What). running_after w (running e.cpu past)) k.is_call ∙ if_none (stops c (Refused r)) (running e.cpu past) (refused_goes_on c r))
 
   -- with a frame on the own part
   own_placed_first : is_null (own_frames e.cpu past) ≡ false → own_frames e.cpu (e ∷ past) ≡ at_head at_next_place (own_frames e.cpu past)
@@ -288,7 +291,8 @@ module _ (s : Script) (limit : ℕ) (e : Event) (past : List Event) (c : Command
           else record (frames_of s e.cpu past) { own = at_head at_next_place (own_frames e.cpu past) })
       go false n = λ i. record { own = own_placed_first n i; running = running_stays i; threads = parts i }
         where
-          parts : table (length s.threads) (λ t. thread_frames s e.cpu (thread t) (e ∷ past)) ≡ table (length s.threads) (λ t. thread_frames s e.cpu (thread t) past)
+          parts : table (length s.threads) (λ t. thread_frames s e.cpu (thread t) (e ∷ past))
+              ≡ table (length s.threads) (λ t. thread_frames s e.cpu (thread t) past)
           parts = table-same _ _ _ (λ t l. thread_stays n (thread t))
       go true n = λ i. record { own = own_stays_empty n i; running = running_stays i; threads = parts i }
         where
@@ -426,7 +430,8 @@ module _ (s : Script) (limit : ℕ) (e : Event) (past : List Event) (c : Command
 
       queue_table : table s.cpus (λ p. queue_after s (cpu p) (length past) e.cpu e.what (objects_at s past) (queue_at (lanes_at s past) (cpu p)))
           ≡ table s.cpus (λ p. queue_of s (cpu p) past)
-      queue_table = table-same _ _ _ (λ j l. ap (λ (w : What). queue_after s (cpu j) (length past) e.cpu w (objects_at s past) (queue_at (lanes_at s past) (cpu j))) k.is_call
+      queue_table = table-same _ _ _
+          (λ j l. ap (λ (w : What). queue_after s (cpu j) (length past) e.cpu w (objects_at s past) (queue_at (lanes_at s past) (cpu j))) k.is_call
           ∙ (refused_queue s (cpu j) (length past) f.name e.cpu c r (objects_at s past) (queue_at (lanes_at s past) (cpu j))
           ∙ get_or-table s.cpus j (λ p. queue_of s (cpu p) past) start_queue l))
 

@@ -1,6 +1,7 @@
 -- A thread's open frames have entered no more regions than its processor has made events.
 use Rattle.nt_event.specs.Calls.{wait_begun}
-use Rattle.nt_event.specs.Frames.{at_name, called, done_to, due_of, effect_by, ended_base, flushed, freed, is_base_body, new_frame, normal_of, resumed, rewaited, thread_after, thread_frames, thread_if, time}
+use Rattle.nt_event.specs.Frames.{at_name, called, done_to, due_of, effect_by, ended_base, flushed, freed, is_base_body, new_frame, normal_of, resumed}
+use Rattle.nt_event.specs.Frames.{rewaited, thread_after, thread_frames, thread_if, time}
 use Rattle.nt_event.specs.Numbers.{is_by, is_of}
 use Rattle.nt_event.specs.Own.{made}
 use Rattle.nt_event.specs.Regions.{crit_of, guard_of}

@@ -4,7 +4,8 @@ use Rattle.nt_event.specs.Lists.{when}
 use Rattle.nt_event.specs.Replies.{alerted, is_answer, is_blocked, is_user, kernel_apc, satisfied, user_apc}
 use Rattle.nt_event.specs.Routines.{is_kernel_kind, kind_of, owner_of}
 use Rattle.nt_event.specs.Threads.{ThreadFacts, ended, is_alerted, not_below, set_alerted, waiting, waiting_of}
-use Rattle.nt_event.specs.Waits.{alert_facts, alert_taken, alert_tested, answered, apc_taken, expiry_facts, frame_ended, insert_facts, made_facts, named_facts, new_pick, release_facts, waited_again}
+use Rattle.nt_event.specs.Waits.{alert_facts, alert_taken, alert_tested, answered, apc_taken, expiry_facts, frame_ended, insert_facts, made_facts, named_facts}
+use Rattle.nt_event.specs.Waits.{new_pick, release_facts, waited_again}
 use Rattle.nt_event.specs.declared.commands.ApcKind.{ApcKind}
 use Rattle.nt_event.specs.declared.commands.ApcKind.TheVariants.{User as UserApc}
 use Rattle.nt_event.specs.declared.commands.Command.TheVariants.{Alert, Delay, InsertApc, Release, RemoveApc, StartWait, TestAlert, Yield}
@@ -148,7 +149,8 @@ named_blocked s t n (Call f (InsertApc a) Yes) w x =
     y : ThreadFacts
     y = record x { doing = IsBlocked w; apcs = with_apc (new_pick s a n) x.apcs }
 
-    go : (b k e u : Bool) → (if b then (if (if k then e else u) then (if k then ended kernel_apc (record x { doing = IsBlocked w; apcs = with_apc (new_pick s a n) x.apcs })
+    go : (b k e u : Bool) →
+        (if b then (if (if k then e else u) then (if k then ended kernel_apc (record x { doing = IsBlocked w; apcs = with_apc (new_pick s a n) x.apcs })
         else record (ended user_apc (record x { doing = IsBlocked w; apcs = with_apc (new_pick s a n) x.apcs })) { user_pending = true })
         else record x { doing = IsBlocked w; apcs = with_apc (new_pick s a n) x.apcs }) else with_doing (IsBlocked w) x).doing
         ≡ doing_of (when b (if k then when e (Some kernel_apc) else when u (Some user_apc))) w
@@ -201,7 +203,8 @@ named_other s t n (Call f (Alert u m) y) d x h = go (is_answer y && (u.0 == t.0)
     go false d h = refl
 named_other s t n (Call f (InsertApc a) Yes) d x h = go ((owner_of s a).0 == t.0) d h
   where
-    quiet : (k : Bool) (d : Doing) (z : ThreadFacts) → (if (if k then false else false) then z else record x { doing = d; apcs = with_apc (new_pick s a n) x.apcs }).doing ≡ d
+    quiet : (k : Bool) (d : Doing) (z : ThreadFacts) →
+        (if (if k then false else false) then z else record x { doing = d; apcs = with_apc (new_pick s a n) x.apcs }).doing ≡ d
     quiet true d z = refl
     quiet false d z = refl
 

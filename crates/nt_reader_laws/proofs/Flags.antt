@@ -5,8 +5,10 @@ use Rattle.nt_event.specs.Lists.{when}
 use Rattle.nt_event.specs.Regions.{stand_at}
 use Rattle.nt_event.specs.Replies.{alerted, is_answer, kernel_apc, satisfied, user_apc}
 use Rattle.nt_event.specs.Routines.{is_kernel_kind, kind_of, owner_of}
-use Rattle.nt_event.specs.Threads.{ThreadFacts, ended, ends_by_alert, ends_by_expiry, ends_by_kernel, ends_by_release, ends_by_user, is_alerted, is_gone, set_alerted}
-use Rattle.nt_event.specs.Waits.{alert_taken, alert_tested, answered, apc_taken, facts, frame_ended, is_of_thread, made_facts, named_facts, new_pick, waited_again}
+use Rattle.nt_event.specs.Threads.{ThreadFacts, ended, ends_by_alert, ends_by_expiry, ends_by_kernel, ends_by_release, ends_by_user, is_alerted, is_gone}
+use Rattle.nt_event.specs.Threads.{set_alerted}
+use Rattle.nt_event.specs.Waits.{alert_taken, alert_tested, answered, apc_taken, facts, frame_ended, is_of_thread, made_facts, named_facts, new_pick}
+use Rattle.nt_event.specs.Waits.{waited_again}
 use Rattle.nt_event.specs.declared.commands.ApcKind.{ApcKind}
 use Rattle.nt_event.specs.declared.commands.ApcKind.TheVariants.{User as UserApc}
 use Rattle.nt_event.specs.declared.commands.Command.TheVariants.{Alert, Delay, InsertApc, Release, RemoveApc, StartWait, TestAlert, Yield}
@@ -30,11 +32,14 @@ use Rattle.nt_event.specs.declared.scripts.Script.{Script}
 use Rattle.nt_runs.proofs.Facts.{facts_made}
 use Rattle.nt_thread.specs.Rows.{same_mode}
 use Rattle.nt_reader_laws.proofs.SetAndKept.{flag_after, set_and_kept}
-use Rattle.nt_reader_laws.specs.Flags.{FlagsAreSetAndKept, IsSetAndKept, alert_mode, alerted_wait, alerts, begins_user, clears_alerted, clears_leaving, clears_released, clears_user_pending, ends_base, is_gone_event, is_mode, releases, satisfies, sets_alerted, sets_leaving, sets_released, sets_user_pending, tested_mode, user_ends, user_wait}
+use Rattle.nt_reader_laws.specs.Flags.{FlagsAreSetAndKept, IsSetAndKept, alert_mode, alerted_wait, alerts, begins_user, clears_alerted, clears_leaving}
+use Rattle.nt_reader_laws.specs.Flags.{clears_released, clears_user_pending, ends_base, is_gone_event, is_mode, releases, satisfies, sets_alerted, sets_leaving}
+use Rattle.nt_reader_laws.specs.Flags.{sets_released, sets_user_pending, tested_mode, user_ends, user_wait}
 use Rattle.std.proofs.Common.{ap, arith, refl, sym, ◌∙◌}
 use Rattle.std.proofs.lemmas.Bool.{eqb-true}
 use Rattle.std.specs.Option.{option_map_or}
-use Rattle.std.specs.Prelude.{Bool, List, None, Option, Some, false, if◌then◌else◌, is_none, is_some, length, not, option_and_then, option_map, true, ℕ, ◌&&◌, ◌==◌, ◌||◌, ◌↔◌, ◌∷◌, ◌≡◌}
+use Rattle.std.specs.Prelude.{Bool, List, None, Option, Some, false, if◌then◌else◌, is_none, is_some, length, not, option_and_then, option_map, true, ℕ, ◌&&◌}
+use Rattle.std.specs.Prelude.{◌==◌, ◌||◌, ◌↔◌, ◌∷◌, ◌≡◌}
 
 -- ---- the flags and marks together
 

@@ -8,7 +8,8 @@ use Rattle.nt_event.proofs.Tables.{get_or-table, length-table_from}
 use Rattle.nt_event.specs.Apcs.{ApcQueues, deliverable, first_kernel, first_user, lets_through}
 use Rattle.nt_event.specs.Calls.{stops}
 use Rattle.nt_event.specs.Classes.{interrupt_classes, is_isr_level}
-use Rattle.nt_event.specs.Frames.{Frames, again_after, at_head, base_level, base_of, called, done_to, due_of, frames_after, frames_in, frames_of, innermost, is_apc_body, is_base_body, own_frames, resumed, rewaited, running, thread_frames, thread_part, time}
+use Rattle.nt_event.specs.Frames.{Frames, again_after, at_head, base_level, base_of, called, done_to, due_of, frames_after, frames_in, frames_of, innermost}
+use Rattle.nt_event.specs.Frames.{is_apc_body, is_base_body, own_frames, resumed, rewaited, running, thread_frames, thread_part, time}
 use Rattle.nt_event.specs.Jobs.{has_normal, level_at, user_due}
 use Rattle.nt_event.specs.Lanes.{facts_of, lanes_at}
 use Rattle.nt_event.specs.Lists.{head_of, is_null, when}
@@ -33,7 +34,8 @@ use Rattle.nt_event.specs.declared.events.What.{What}
 use Rattle.nt_event.specs.declared.events.What.TheVariants.{Begin, Call, Clean, End, Expire, Fire, Flush, Free, Gone, Look, Normal, Rest, Rewait, Switch}
 use Rattle.nt_event.specs.declared.frames.Again.{Again}
 use Rattle.nt_event.specs.declared.frames.Body.{Body}
-use Rattle.nt_event.specs.declared.frames.Body.TheVariants.{Apc as OnApc, Base as OnBase, Dpc as OnDpc, Int as OnInt, Rundown as OnRundown, Threaded as OnThreaded}
+use Rattle.nt_event.specs.declared.frames.Body.TheVariants.{Apc as OnApc, Base as OnBase, Dpc as OnDpc, Int as OnInt, Rundown as OnRundown}
+use Rattle.nt_event.specs.declared.frames.Body.TheVariants.{Threaded as OnThreaded}
 use Rattle.nt_event.specs.Frame.{Frame}
 use Rattle.nt_event.specs.declared.inserts.Pick.{Pick}
 use Rattle.nt_event.specs.declared.numbers.ApcNo.{ApcNo}
@@ -42,7 +44,9 @@ use Rattle.nt_event.specs.declared.numbers.RoutineNo.{RoutineNo}
 use Rattle.nt_event.specs.declared.numbers.ThreadNo.{ThreadNo}
 use Rattle.nt_event.specs.declared.scripts.Script.{Script}
 use Rattle.nt_frame.proofs.Accepted.{acquire_accepted, lower_accepted, raise_accepted}
-use Rattle.nt_frame.proofs.After.{after_apc, after_call, after_clean, after_dpc, after_end, after_end_base, after_expire, after_fire, after_first_switch, after_flush, after_free, after_gone, after_int, after_look, after_normal, after_rest, after_rewait, after_rundown, after_switch, after_threaded}
+use Rattle.nt_frame.proofs.After.{after_apc, after_call, after_clean, after_dpc, after_end, after_end_base, after_expire, after_fire, after_first_switch}
+use Rattle.nt_frame.proofs.After.{after_flush, after_free, after_gone, after_int, after_look, after_normal, after_rest, after_rewait, after_rundown}
+use Rattle.nt_frame.proofs.After.{after_switch, after_threaded}
 use Rattle.nt_frame.proofs.Begun.{begun_nested}
 use Rattle.nt_frame.proofs.Changed.{MayStandFor, at_innermost_nested, at_innermost_same, innermost_frame}
 use Rattle.nt_frame.proofs.Ended.{closed_nested, stopped_nested, without_innermost_nested}
@@ -68,7 +72,8 @@ use Rattle.std.proofs.lemmas.Bool.{eqb-true, leb-false, lt-ltb, ltb-false, ltb-t
 use Rattle.std.proofs.lemmas.List.Elements.{All-from_get_or}
 use Rattle.std.specs.List.{list_all, list_any}
 use Rattle.std.specs.Option.{option_map_or, option_or}
-use Rattle.std.specs.Prelude.{Bool, IfSome, List, None, Option, Some, [], false, if◌then◌else◌, length, nat_lt, not, option_and_then, true, ℕ, ◌&&◌, ◌+◌, ◌<◌, ◌==◌, ◌||◌, ◌∷◌, ◌≡◌, ◌≤◌}
+use Rattle.std.specs.Prelude.{Bool, IfSome, List, None, Option, Some, [], false, if◌then◌else◌, length, nat_lt, not, option_and_then, true, ℕ, ◌&&◌, ◌+◌, ◌<◌}
+use Rattle.std.specs.Prelude.{◌==◌, ◌||◌, ◌∷◌, ◌≡◌, ◌≤◌}
 
 -- ---- names
 
@@ -233,22 +238,28 @@ module _ (s : Script) (limit : ℕ) (e : Event) (past : List Event) (r : IsRun s
   guard_room : guard_of (thread_part (frames_of s e.cpu past)) + 1 < 2 ^ 32
   guard_room = let a = part_guard s e.cpu past in let u = uncut in omega (arith, a, u, small)
 
-  begins_nested : (b : Begun) (from : ℕ) → e.what ≡ Begin b from → AreNested (frames_after s (length past) (due_of e.what (time past)) e (frames_of s e.cpu past))
+  begins_nested : (b : Begun) (from : ℕ) → e.what ≡ Begin b from →
+      AreNested (frames_after s (length past) (due_of e.what (time past)) e (frames_of s e.cpu past))
   begins_nested (Int c) from k =
       let known : KnownInterrupt (own_of s e.cpu past) c from = known_as s limit e past r (Begin (Int c) from) k refl in
       let may = both (nat_lt (level_at (own_of s e.cpu past)) c) _ known.may in
-      subst AreNested (sym (after_int s (length past) (due_of e.what (time past)) e (frames_of s e.cpu past) c from (ours (named_by_what (Begin (Int c) from) k)) k))
-      (begun_nested (length past) (OnInt c) (frames_of s e.cpu past) h (both_hold (is_isr_level c) _ (isr_class interrupt_classes c refl known.class) may.0) below)
+      subst AreNested
+      (sym (after_int s (length past) (due_of e.what (time past)) e (frames_of s e.cpu past) c from (ours (named_by_what (Begin (Int c) from) k)) k))
+      (begun_nested (length past) (OnInt c) (frames_of s e.cpu past) h
+      (both_hold (is_isr_level c) _ (isr_class interrupt_classes c refl known.class) may.0) below)
   begins_nested (Dpc d) from k =
       let known = known_as s limit e past r (Begin (Dpc d) from) k refl in
-      subst AreNested (sym (after_dpc s (length past) (due_of e.what (time past)) e (frames_of s e.cpu past) d from (ours (named_by_what (Begin (Dpc d) from) k)) k))
+      subst AreNested
+      (sym (after_dpc s (length past) (due_of e.what (time past)) e (frames_of s e.cpu past) d from (ours (named_by_what (Begin (Dpc d) from) k)) k))
       (begun_nested (length past) (OnDpc d) (frames_of s e.cpu past) h (lt-ltb (level_at (own_of s e.cpu past)) 2 known.0) below)
   begins_nested (Threaded d) from k =
       let known = known_as s limit e past r (Begin (Threaded d) from) k refl in
-      subst AreNested (sym (after_threaded s (length past) (due_of e.what (time past)) e (frames_of s e.cpu past) d from (ours (named_by_what (Begin (Threaded d) from) k)) k))
+      subst AreNested (sym
+      (after_threaded s (length past) (due_of e.what (time past)) e (frames_of s e.cpu past) d from (ours (named_by_what (Begin (Threaded d) from) k)) k))
       (begun_nested (length past) (OnThreaded d) (frames_of s e.cpu past) h (threaded_may_begin (own_of s e.cpu past) d known.0) below)
   begins_nested (Apc a) from k =
-      subst AreNested (sym (after_apc s (length past) (due_of e.what (time past)) e (frames_of s e.cpu past) a from (ours (named_by_what (Begin (Apc a) from) k)) k))
+      subst AreNested
+      (sym (after_apc s (length past) (due_of e.what (time past)) e (frames_of s e.cpu past) a from (ours (named_by_what (Begin (Apc a) from) k)) k))
       (begun_nested (length past) (OnApc a (kind_of s a)) (frames_of s e.cpu past) h (may (known_as s limit e past r (Begin (Apc a) from) k refl)) below)
     where
       fits_at : (P : Pick → Type 0) (o : Option Pick) (z : Pick) → Holds P o → o ≡ Some z → P z
@@ -268,7 +279,8 @@ module _ (s : Script) (limit : ℕ) (e : Event) (past : List Event) (r : IsRun s
           lets_of : (q : ApcQueues) (reg : Regions) (level : ℕ) (z : Pick) → deliverable q reg level ≡ Some z → lets_through reg z.kind ≡ true
           lets_of q reg level z w = go (first_kernel q) w
             where
-              go : (o : Option Pick) → option_and_then (λ x. when ((level == 0) && lets_through reg x.kind) (Some x)) o ≡ Some z → lets_through reg z.kind ≡ true
+              go : (o : Option Pick) → option_and_then (λ x. when ((level == 0) && lets_through reg x.kind) (Some x)) o ≡ Some z →
+                  lets_through reg z.kind ≡ true
               go None w = cc
               go (Some y) w =
                   let g = when_gives ((level == 0) && lets_through reg y.kind) (Some y) z w in
@@ -286,16 +298,20 @@ module _ (s : Script) (limit : ℕ) (e : Event) (past : List Event) (r : IsRun s
           user_first : (q : ThreadFacts) (z : Pick) → user_due q ≡ Some z → first_user q.apcs ≡ Some z
           user_first q z w = (when_gives q.user_pending (first_user q.apcs) z w).1
 
-  flush_nested : (a : ApcNo) (from : ℕ) → e.what ≡ Flush a from → AreNested (frames_after s (length past) (due_of e.what (time past)) e (frames_of s e.cpu past))
+  flush_nested : (a : ApcNo) (from : ℕ) → e.what ≡ Flush a from →
+      AreNested (frames_after s (length past) (due_of e.what (time past)) e (frames_of s e.cpu past))
   flush_nested a from k = go (rundown_of s a) refl
     where
       go : (o : Option RoutineNo) → rundown_of s a ≡ o → AreNested (frames_after s (length past) (due_of e.what (time past)) e (frames_of s e.cpu past))
       go None q =
-          subst AreNested (sym (after_flush s (length past) (due_of e.what (time past)) e (frames_of s e.cpu past) a from (ours (named_by_what (Flush a from) k)) k q)) h
+          subst AreNested
+          (sym (after_flush s (length past) (due_of e.what (time past)) e (frames_of s e.cpu past) a from (ours (named_by_what (Flush a from) k)) k q)) h
       go (Some m) q =
           let known = known_as s limit e past r (Flush a from) k refl in
-          let leaves : is_leaving (frames_of s e.cpu past) ≡ true = leaving_here known.1.frame (frames_of s e.cpu past) known.1.goes_on.inner ∙ known.1.leaving in
-          subst AreNested (sym (after_rundown s (length past) (due_of e.what (time past)) e (frames_of s e.cpu past) a from m (ours (named_by_what (Flush a from) k)) k q))
+          let leaves : is_leaving (frames_of s e.cpu past) ≡ true =
+          leaving_here known.1.frame (frames_of s e.cpu past) known.1.goes_on.inner ∙ known.1.leaving in
+          subst AreNested
+          (sym (after_rundown s (length past) (due_of e.what (time past)) e (frames_of s e.cpu past) a from m (ours (named_by_what (Flush a from) k)) k q))
           (begun_nested (length past) (OnRundown a) (frames_of s e.cpu past) h leaves below)
 
   called_nested : (name : ℕ) (c : Command) (y : Reply) → e.what ≡ Call name c y →
@@ -321,7 +337,8 @@ module _ (s : Script) (limit : ℕ) (e : Event) (past : List Event) (r : IsRun s
               on None = refl
               on (Some t) = refl
 
-      runs_on : (b : Bool) (z : Frames) → AreNested z → z.running ≡ running e.cpu past → AreNested (record z { running = if b then None else running e.cpu past })
+      runs_on : (b : Bool) (z : Frames) → AreNested z → z.running ≡ running e.cpu past →
+          AreNested (record z { running = if b then None else running e.cpu past })
       runs_on true z q w = stopped_nested z q
       runs_on false z q w = subst (λ (o : Option ThreadNo). AreNested (record z { running = o })) w q
 
@@ -339,11 +356,13 @@ module _ (s : Script) (limit : ℕ) (e : Event) (past : List Event) (r : IsRun s
       subst AreNested (sym (after_look s (length past) (due_of e.what (time past)) e (frames_of s e.cpu past) rises (size s limit e past r)
       (named_by_what (Look rises) k) k)) h
   after_nested (Expire key from) k =
-      subst AreNested (sym (after_expire s (length past) (due_of e.what (time past)) e (frames_of s e.cpu past) key from (ours (named_by_what (Expire key from) k)) k)) h
+      subst AreNested
+      (sym (after_expire s (length past) (due_of e.what (time past)) e (frames_of s e.cpu past) key from (ours (named_by_what (Expire key from) k)) k)) h
   after_nested (Fire d y) k =
       subst AreNested (sym (after_fire s (length past) (due_of e.what (time past)) e (frames_of s e.cpu past) d y (ours (named_by_what (Fire d y) k)) k)) h
   after_nested (Clean class) k =
-      subst AreNested (sym (after_clean s (length past) (due_of e.what (time past)) e (frames_of s e.cpu past) class (ours (named_by_what (Clean class) k)) k)) h
+      subst AreNested
+      (sym (after_clean s (length past) (due_of e.what (time past)) e (frames_of s e.cpu past) class (ours (named_by_what (Clean class) k)) k)) h
   after_nested Rest k =
       subst AreNested (sym (after_rest s (length past) (due_of e.what (time past)) e (frames_of s e.cpu past) (ours (named_by_what Rest k)) k)) h
   after_nested (Gone u) k =
@@ -370,7 +389,8 @@ module _ (s : Script) (limit : ℕ) (e : Event) (past : List Event) (r : IsRun s
 
       go : (b : Bool) → is_base_body known.frame.body ≡ b → AreNested (frames_after s (length past) (due_of e.what (time past)) e (frames_of s e.cpu past))
       go true q =
-          subst AreNested (sym (after_end_base s (length past) (due_of e.what (time past)) e (frames_of s e.cpu past) known.frame (ours (named_by_what (End name) k))
+          subst AreNested
+          (sym (after_end_base s (length past) (due_of e.what (time past)) e (frames_of s e.cpu past) known.frame (ours (named_by_what (End name) k))
           known.goes_on.inner q w))
           (left_nested known.frame (frames_of s e.cpu past) h known.goes_on.inner
           (base_here known.frame (frames_of s e.cpu past) known.goes_on.inner ∙ q))
@@ -396,7 +416,8 @@ module _ (s : Script) (limit : ℕ) (e : Event) (past : List Event) (r : IsRun s
           on None = refl
           on (Some t) = refl
 
-      rewait_runs : (b : Bool) (z : Frames) → AreNested z → z.running ≡ running e.cpu past → AreNested (record z { running = if b then None else running e.cpu past })
+      rewait_runs : (b : Bool) (z : Frames) → AreNested z → z.running ≡ running e.cpu past →
+          AreNested (record z { running = if b then None else running e.cpu past })
       rewait_runs true z q w = stopped_nested z q
       rewait_runs false z q w = subst (λ (o : Option ThreadNo). AreNested (record z { running = o })) w q
   after_nested (Switch t st) k =
@@ -430,7 +451,8 @@ nested_run s limit p (e ∷ past) r l = go (is_of e p) refl (nested_run s limit 
     go true o h =
         let same : e.cpu ≡ p = same_cpu e p o in
         let here : AreNested (frames_of s e.cpu past) = subst (λ (q : CpuNo). AreNested (frames_of s q past)) (sym same) h in
-        let left : AreNested (frames_after s (length past) (due_of e.what (time past)) e (frames_of s e.cpu past)) = after_nested s limit e past r l here e.what refl in
+        let left : AreNested (frames_after s (length past) (due_of e.what (time past)) e (frames_of s e.cpu past)) =
+        after_nested s limit e past r l here e.what refl in
         subst AreNested (sym (frames_move s p e past o))
         (subst (λ (q : CpuNo). AreNested (frames_after s (length past) (due_of e.what (time past)) e (frames_of s q past))) same left)
 

@@ -85,7 +85,8 @@ refusing_back s limit list r h =
     let place : length h.history ≡ r.at = sym (turns_length h.history) ∙ (ap length h.turns ∙ sym h.place) in
     ap (replayed s limit) (h.parts ∙ ap (λ (x : List Turn). x ++ h.turn ∷ h.after) (sym h.turns))
     ∙ (replay_through s limit h.history (h.turn ∷ h.after) h.run
-    ∙ (ap (λ (x : Result Event ScheduleKind). goes_on (length h.history) x (λ e. replayed_from s limit (suc (length h.history)) (e ∷ h.history) h.after)) h.refused
+    ∙ (ap (λ (x : Result Event ScheduleKind). goes_on (length h.history) x (λ e. replayed_from s limit (suc (length h.history)) (e ∷ h.history) h.after))
+    h.refused
     ∙ ap (λ (n : ℕ). refused_at n r.kind) place))
 
 unsettled_back : (s : Script) (limit : ℕ) (list : List Turn) (r : Refused) → IsUnsettled s limit list r → replayed s limit list ≡ Err r

@@ -35,7 +35,8 @@ module _ (q : List Event → Bool) (sets clears : Event → List Event → Bool)
           let h = ih old in
           (h.0, inr h.1, ((λ l. y), h.2))
 
-  kept_back : (past : List Event) (n : ℕ) → At (λ e before. sets e before ≡ true) n past → EachAfter (λ e before. clears e before ≡ false) n past → q past ≡ true
+  kept_back : (past : List Event) (n : ℕ) → At (λ e before. sets e before ≡ true) n past → EachAfter (λ e before. clears e before ≡ false) n past →
+      q past ≡ true
   kept_back [] n h k = absurd h
   kept_back (e ∷ past) n (inl h) k =
       step e past ∙ ap (λ (a : Bool). flag_after a (clears e past) (q past)) h.1

@@ -42,7 +42,8 @@ use Rattle.nt_reader_laws.specs.Steps.{AdvancesAreSteps, IsItsStep, LaneStepsAre
 use Rattle.std.proofs.Common.{ap, arith, inl, inr, refl, subst, sym, zero, ◌∙◌}
 use Rattle.std.proofs.lemmas.Bool.{eqb-true, lt-ltb, ltb-false, ltb-true}
 use Rattle.std.specs.List.{list_any}
-use Rattle.std.specs.Prelude.{Bool, List, None, Ok, Option, Some, [], false, if◌then◌else◌, nat_lt, option_and_then, suc, true, ℕ, ◌&&◌, ◌+◌, ◌<◌, ◌==◌, ◌||◌, ◌∷◌, ◌≡◌, ◌⊎◌}
+use Rattle.std.specs.Prelude.{Bool, List, None, Ok, Option, Some, [], false, if◌then◌else◌, nat_lt, option_and_then, suc, true, ℕ, ◌&&◌, ◌+◌, ◌<◌, ◌==◌, ◌||◌}
+use Rattle.std.specs.Prelude.{◌∷◌, ◌≡◌, ◌⊎◌}
 
 -- ---- looks
 
@@ -129,7 +130,8 @@ module _ (s : Script) (limit : ℕ) (p : CpuNo) (past : List Event) (run : IsRun
 
   value_good : (k : ℕ) (x : Own) (v : ℕ) → (v ≡ 0) ⊎ (v ≡ asked s p k past) →
       (((if nat_lt (value_at x.seen k) v then v else 0) == 0) ||
-      (nat_lt (value_at x.seen k) (if nat_lt (value_at x.seen k) v then v else 0) && was_asked s p k (if nat_lt (value_at x.seen k) v then v else 0) past)) ≡ true
+      (nat_lt (value_at x.seen k) (if nat_lt (value_at x.seen k) v then v else 0) && was_asked s p k (if nat_lt (value_at x.seen k) v then v else 0) past))
+      ≡ true
   value_good k x v h = go (nat_lt (value_at x.seen k) v) refl
     where
       was : (v ≡ 0) ⊎ (v ≡ asked s p k past) → nat_lt (value_at x.seen k) v ≡ true → was_asked s p k v past ≡ true
@@ -191,7 +193,8 @@ module _ (s : Script) (limit : ℕ) (p : CpuNo) (past : List Event) (run : IsRun
       task_of false q u k = choose (chosen_task s p (own_of s p past)) refl u k
 
       go : (b : Bool) → is_cut limit (own_of s p past) ≡ b →
-          LocalDid e ≡ (if b then LocalCut else local_answer (state_of s p limit past) (local_task (state_of s p limit past) answers)) → IsItsStep s limit p past e
+          LocalDid e ≡ (if b then LocalCut else local_answer (state_of s p limit past) (local_task (state_of s p limit past) answers)) →
+          IsItsStep s limit p past e
       go true q k = cc
       go false q k = task_of (is_behind (own_of s p past) (value_at answers)) refl q k
 
@@ -223,7 +226,8 @@ pub lane_steps : LaneStepsAreSteps
 lane_steps s limit p past c d job f n e v w h uncut chosen k =
     let z : IsShared (state_of s p limit past) d job f n e v w = subst (λ (c : CpuState). IsShared c d job f n e v w) h.state k in
     let q : is_cut limit (own_of s p past) ≡ false = subst (λ (c : CpuState). is_cut c.limit c.own ≡ false) h.state uncut in
-    let t : chosen_task s p (own_of s p past) ≡ Some (Shared job) = subst (λ (c : CpuState). chosen_task c.script c.cpu c.own ≡ Some (Shared job)) h.state chosen in
+    let t : chosen_task s p (own_of s p past) ≡ Some (Shared job) =
+    subst (λ (c : CpuState). chosen_task c.script c.cpu c.own ≡ Some (Shared job)) h.state chosen in
     lane_core s limit p past h.run job f.lanes e (lt-ltb p.0 s.cpus h.cpu) q t (found_lanes s past v.states f.lanes h.follows.states z.floor.before)
     z.what z.event
 
@@ -239,7 +243,8 @@ needs_lane_of s limit p past answers job h = go (is_cut limit (own_of s p past))
     choose (Some (Shared j)) k = let same : j ≡ job = cc in ap (λ (x : Job). Some (Shared x)) same
 
     task_of : (b : Bool) → local_answer (state_of s p limit past)
-        (if b then Some (Alone (Look (record { value = look_values (own_of s p past) (value_at answers) }))) else chosen_task s p (own_of s p past)) ≡ NeedsLane job →
+        (if b then Some (Alone (Look (record { value = look_values (own_of s p past) (value_at answers) }))) else chosen_task s p (own_of s p past))
+        ≡ NeedsLane job →
         chosen_task s p (own_of s p past) ≡ Some (Shared job)
     task_of true k = cc
     task_of false k = choose (chosen_task s p (own_of s p past)) k

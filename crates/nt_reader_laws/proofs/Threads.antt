@@ -1,7 +1,8 @@
 -- In a run what each event leaves of a thread's facts is what its calls leave.
 use Rattle.nt_reader_laws.proofs.Says.{known_as}
 use Rattle.nt_reader_laws.specs.Apcs.{acts_if}
-use Rattle.nt_reader_laws.specs.Threads.{ThreadEventsAreCalls, ThreadHistoriesAreCalls, acts_in, acts_of, again_act, end_acts, facts_left, made_acts, named_acts, wait_of}
+use Rattle.nt_reader_laws.specs.Threads.{ThreadEventsAreCalls, ThreadHistoriesAreCalls, acts_in, acts_of, again_act, end_acts, facts_left, made_acts}
+use Rattle.nt_reader_laws.specs.Threads.{named_acts, wait_of}
 use Rattle.nt_event.proofs.Options.{both}
 use Rattle.nt_event.specs.Apcs.{takes, without_apc}
 use Rattle.nt_event.specs.Commands.{is_reached}
@@ -16,7 +17,8 @@ use Rattle.nt_event.specs.Routines.{cpu_of, owner_of}
 use Rattle.nt_event.specs.Script.{has_thread}
 use Rattle.nt_event.specs.Step.{IsRun}
 use Rattle.nt_event.specs.Threads.{ThreadFacts}
-use Rattle.nt_event.specs.Waits.{alert_facts, alert_tested, expiry_facts, facts, frame_ended, insert_facts, is_of_thread, made_facts, named_facts, new_pick, release_facts, wait_reply, waited, waited_again}
+use Rattle.nt_event.specs.Waits.{alert_facts, alert_tested, expiry_facts, facts, frame_ended, insert_facts, is_of_thread, made_facts, named_facts, new_pick}
+use Rattle.nt_event.specs.Waits.{release_facts, wait_reply, waited, waited_again}
 use Rattle.nt_event.specs.declared.commands.ApcKind.TheVariants.{User as UserApc}
 use Rattle.nt_event.specs.declared.commands.Command.TheVariants.{Alert, Delay, InsertApc, Release, RemoveApc, StartWait, TestAlert, Yield}
 use Rattle.nt_event.specs.declared.commands.Mode.{Mode}
@@ -175,7 +177,8 @@ module _ (s : Script) (limit : ℕ) (t : ThreadNo) (e : Event) (past : List Even
       let both_of : Some known.wait ≡ Some w = sym told ∙ q in
       let same : known.wait ≡ w = cc in
       known.reply ∙ (ap (λ (v : Again). rewait_reply (stand_at s e.cpu past) (lanes_at s past) v) same
-      ∙ ap (λ (x : ThreadFacts). wait_reply x (stand_at s e.cpu past).regions (stand_at s e.cpu past).level w.mode w.alertable (option_map (is_reached (time past)) w.due))
+      ∙ ap (λ (x : ThreadFacts).
+      wait_reply x (stand_at s e.cpu past).regions (stand_at s e.cpu past).level w.mode w.alertable (option_map (is_reached (time past)) w.due))
       (runs_here b (ap is_next k)))
   waits_true b w k = tt
 
@@ -195,7 +198,8 @@ module _ (s : Script) (limit : ℕ) (t : ThreadNo) (e : Event) (past : List Even
 
   made_same : (w : What) → e.what ≡ w → InsertsTrue s t
       (if is_of_thread s t e then made_facts s (length past) (stand_at s e.cpu past) w (facts s t past) else facts s t past) w
-  made_same (Call f (InsertApc a) Yes) k = inserts_true (if is_of_thread s t e then facts s t past else facts s t past) (plain (is_of_thread s t e)) (Call f (InsertApc a) Yes) k
+  made_same (Call f (InsertApc a) Yes) k =
+      inserts_true (if is_of_thread s t e then facts s t past else facts s t past) (plain (is_of_thread s t e)) (Call f (InsertApc a) Yes) k
     where
       plain : (b : Bool) → (if b then facts s t past else facts s t past).apcs ≡ (facts s t past).apcs
       plain true = refl
@@ -204,7 +208,8 @@ module _ (s : Script) (limit : ℕ) (t : ThreadNo) (e : Event) (past : List Even
 
   event_step : facts s t (e ∷ past) ≡ facts_left (acts_of s t e past) (facts s t past)
   event_step =
-      named_step s t (length past) e.what (if is_of_thread s t e then made_facts s (length past) (stand_at s e.cpu past) e.what (facts s t past) else facts s t past)
+      named_step s t (length past) e.what
+      (if is_of_thread s t e then made_facts s (length past) (stand_at s e.cpu past) e.what (facts s t past) else facts s t past)
       (made_same e.what refl) ∙ (ap (facts_left (named_acts s t (length past) e.what)) (go (is_of_thread s t e) refl)
       ∙ sym (left-append (named_acts s t (length past) e.what)
       (if is_of_thread s t e then made_acts s (length past) (time past) (stand_at s e.cpu past) e.what else []) (facts s t past)))
@@ -224,4 +229,5 @@ facts-append (act ∷ xs) ys = ap (after act) (facts-append xs ys)
 pub thread_history : ThreadHistoriesAreCalls
 thread_history s limit t [] r has = refl
 thread_history s limit t (e ∷ past) r has =
-    event_step s limit t e past r has ∙ (ap (facts_left (acts_of s t e past)) (thread_history s limit t past r.1 has) ∙ facts-append (acts_of s t e past) (acts_in s t past))
+    event_step s limit t e past r has
+    ∙ (ap (facts_left (acts_of s t e past)) (thread_history s limit t past r.1 has) ∙ facts-append (acts_of s t e past) (acts_in s t past))

@@ -200,7 +200,8 @@ Blocks s t w e before = blocks_in s t e before ≡ Some w
 abbrev Stays : Script → ThreadNo → Waiting → Event → List Event → Type 0
 Stays s t w e before = ends_it s t w e before ≡ None
 
-waits_forth : (s : Script) (limit : ℕ) (t : ThreadNo) (w : Waiting) (past : List Event) → IsRun s limit past → waiting (facts s t past) ≡ Some w → IsWaiting s t w past
+waits_forth : (s : Script) (limit : ℕ) (t : ThreadNo) (w : Waiting) (past : List Event) → IsRun s limit past → waiting (facts s t past) ≡ Some w →
+    IsWaiting s t w past
 waits_forth s limit t w [] r h = cc
 waits_forth s limit t w (e ∷ past) r h = go (waiting (facts s t past)) refl (λ k. waits_forth s limit t w past r.1 k)
   where
@@ -393,7 +394,8 @@ module _ (s : Script) (limit : ℕ) (t : ThreadNo) (e : Event) (past : List Even
       let quiet = gone_waits_not (facts s t past).doing h in
       let d = gone_doing_is (facts s t past).doing h in
       let none : is_of_thread s t e ≡ false = idle_makes_none s limit t e past r quiet.1 (λ m. cc) in
-      ap gone_doing (other_after s limit t e past r quiet.0 ∙ ap (λ (b : Bool). if b then made_to (length past) (stand_at s e.cpu past) e.what (facts s t past).doing
+      ap gone_doing
+      (other_after s limit t e past r quiet.0 ∙ ap (λ (b : Bool). if b then made_to (length past) (stand_at s e.cpu past) e.what (facts s t past).doing
       else (facts s t past).doing) none) ∙ h
 
   gone_anew : is_gone (facts s t past) ≡ false → is_gone (facts s t (e ∷ past)) ≡ true → ends_thread t e.what ≡ true

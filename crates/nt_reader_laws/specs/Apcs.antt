@@ -54,8 +54,10 @@ left_by_acts (act ∷ acts) q = after act (left_by_acts acts q)
 -- what each event leaves of a thread's APC queues is what its calls leave; so after a history they are what all calls
 -- leave, on new queues, and each insert has a number above those before it
 pub record ApcsAreCalls (s : Script) (t : ThreadNo) : Type 0 where
-  pub event : (e : Event) (past : List Event) → (facts s t (e ∷ past)).apcs
-      ≡ left_by_acts (apc_acts s t (length past) (stand_at s e.cpu past) (is_of_thread s t e) e.what) (facts s t past).apcs
+  pub event : (e : Event) (past : List Event) →
+      (facts s t (e ∷ past)).apcs
+      ≡ left_by_acts (apc_acts s t (length past) (stand_at s e.cpu past) (is_of_thread s t e) e.what)
+      (facts s t past).apcs
   pub history : (past : List Event) → (facts s t past).apcs ≡ queues_of (apc_acts_in s t past)
   pub numbers : (past : List Event) → NumbersRise (apc_acts_in s t past)
 

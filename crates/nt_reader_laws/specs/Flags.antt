@@ -23,7 +23,8 @@ use Rattle.nt_event.specs.declared.scripts.Script.{Script}
 use Rattle.nt_readings.specs.Positions.{At, EachAfter}
 use Rattle.nt_thread.specs.Rows.{same_mode}
 use Rattle.std.specs.Option.{option_map_or}
-use Rattle.std.specs.Prelude.{Bool, List, None, Option, Some, false, if◌then◌else◌, is_none, not, option_and_then, option_map, true, ℕ, ◌&&◌, ◌==◌, ◌||◌, ◌↔◌, ◌≡◌}
+use Rattle.std.specs.Prelude.{Bool, List, None, Option, Some, false, if◌then◌else◌, is_none, not, option_and_then}
+use Rattle.std.specs.Prelude.{option_map, true, ℕ, ◌&&◌, ◌==◌, ◌||◌, ◌↔◌, ◌≡◌}
 
 -- event n sets the flag, and no later event clears it
 abbrev pub IsSetAndKept : (Event → List Event → Bool) → (Event → List Event → Bool) → List Event → Type 0

@@ -10,7 +10,8 @@ use Rattle.nt_event.specs.Step.{IsRun}
 use Rattle.nt_event.specs.Threads.{ThreadFacts}
 use Rattle.nt_event.specs.Waits.{facts, is_of_thread, new_pick}
 use Rattle.nt_event.specs.declared.commands.ApcKind.TheVariants.{User as UserApc}
-use Rattle.nt_event.specs.declared.commands.Command.TheVariants.{Alert, Delay, InsertApc, Release, RemoveApc, StartWait, TestAlert, Yield}
+use Rattle.nt_event.specs.declared.commands.Command.TheVariants.{Alert, Delay, InsertApc, Release, RemoveApc, StartWait}
+use Rattle.nt_event.specs.declared.commands.Command.TheVariants.{TestAlert, Yield}
 use Rattle.nt_event.specs.declared.commands.Mode.{Mode}
 use Rattle.nt_event.specs.declared.commands.Mode.TheVariants.{User as UserMode}
 use Rattle.nt_event.specs.declared.commands.Reply.TheVariants.{Done, Yes}
@@ -25,9 +26,11 @@ use Rattle.nt_event.specs.declared.frames.Body.TheVariants.{Apc as OnApc, Base a
 use Rattle.nt_event.specs.declared.jobs.Stand.{Stand}
 use Rattle.nt_event.specs.declared.numbers.ThreadNo.{ThreadNo}
 use Rattle.nt_event.specs.declared.scripts.Script.{Script}
-use Rattle.nt_thread.specs.Runs.{Act, Alerts, EndsDelay, GivesWay, Goes, Inserts, Leaves, Releases, Removes, Resumes, Takes, TestsAlert, Wait, Waits, after, facts_of}
+use Rattle.nt_thread.specs.Runs.{Act, Alerts, EndsDelay, GivesWay, Goes, Inserts, Leaves, Releases, Removes, Resumes}
+use Rattle.nt_thread.specs.Runs.{Takes, TestsAlert, Wait, Waits, after, facts_of}
 use Rattle.std.proofs.Common.{◌++◌}
-use Rattle.std.specs.Prelude.{Bool, List, None, Option, Some, [], if◌then◌else◌, length, not, option_map, true, ℕ, ◌&&◌, ◌+◌, ◌==◌, ◌∷◌, ◌≡◌}
+use Rattle.std.specs.Prelude.{Bool, List, None, Option, Some, [], if◌then◌else◌, length, not, option_map, true, ℕ, ◌&&◌}
+use Rattle.std.specs.Prelude.{◌+◌, ◌==◌, ◌∷◌, ◌≡◌}
 
 -- the wait of a call, where the processor stands so, with its due time reached or not
 abbrev pub wait_of : ℕ → Stand → Mode → Bool → Option Bool → Wait

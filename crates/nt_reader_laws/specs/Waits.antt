@@ -21,7 +21,8 @@ use Rattle.nt_event.specs.declared.scripts.Script.{Script}
 use Rattle.nt_event.specs.declared.threads.Waiting.{Waiting}
 use Rattle.nt_readings.specs.Frames.{ends_thread, is_switch_event}
 use Rattle.nt_readings.specs.Positions.{At, EachAfter, Somewhere}
-use Rattle.std.specs.Prelude.{Bool, List, None, Option, Some, false, if◌then◌else◌, is_some, length, not, option_map, true, ℕ, ◌&&◌, ◌==◌, ◌||◌, ◌↔◌, ◌∷◌, ◌≡◌}
+use Rattle.std.specs.Prelude.{Bool, List, None, Option, Some, false, if◌then◌else◌, is_some, length, not, option_map}
+use Rattle.std.specs.Prelude.{true, ℕ, ◌&&◌, ◌==◌, ◌||◌, ◌↔◌, ◌∷◌, ◌≡◌}
 
 -- ---- what blocks a thread
 
@@ -57,7 +58,8 @@ blocks_in s t e before = when (is_of_thread s t e) (blocked_in (length before) (
 -- or the user-pending mark is set
 abbrev pub apc_ends : Pick → ThreadFacts → Waiting → Option ℕ
 apc_ends pick x w =
-    if is_kernel_kind pick.kind then when (is_some (deliverable (with_apc pick x.apcs) w.regions w.level)) (Some kernel_apc)
+    if is_kernel_kind pick.kind
+    then when (is_some (deliverable (with_apc pick x.apcs) w.regions w.level)) (Some kernel_apc)
     else when (is_user w.mode && (w.alertable || x.user_pending)) (Some user_apc)
 
 -- the status with which the event of this number ends the wait of the thread, by its flags, mark and APCs before it: a

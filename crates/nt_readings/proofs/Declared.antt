@@ -5,7 +5,8 @@ use Rattle.std.proofs.lemmas.List.Folds.{list_all_at}
 use Rattle.std.proofs.lemmas.Option.{get_or_from_slice_get, slice_get_within}
 use Rattle.std.specs.List.{Contains, list_all, slice_get}
 use Rattle.std.specs.Option.{option_map_or}
-use Rattle.std.specs.Prelude.{Bool, List, None, Option, Some, [], false, get_or, if◌then◌else◌, length, option_and_then, refl, true, ℕ, ◌&&◌, ◌==◌, ◌∷◌, ◌↔◌, ◌≡◌, ◌⊎◌}
+use Rattle.std.specs.Prelude.{Bool, List, None, Option, Some, [], false, get_or, if◌then◌else◌, length, option_and_then, refl, true, ℕ, ◌&&◌, ◌==◌, ◌∷◌, ◌↔◌}
+use Rattle.std.specs.Prelude.{◌≡◌, ◌⊎◌}
 use Rattle.nt_event.specs.declared.commands.Command.{Command}
 use Rattle.nt_event.specs.declared.commands.Command.TheVariants.{InsertApc, Queue}
 use Rattle.nt_event.specs.declared.commands.Reply.{Reply}
@@ -32,7 +33,8 @@ use Rattle.nt_event.specs.Objects.{ObjectState, inserted_dpc, object_in, objects
 use Rattle.nt_event.specs.Own.{fire, fire_after, own_of}
 use Rattle.nt_event.specs.Queues.{add_insert, drop_insert, is_queue, left_queue, new_insert, pending, without_dpc}
 use Rattle.nt_event.specs.Routines.{commands_of, dpc_of, next_command, owner_of, routine_of}
-use Rattle.nt_event.specs.Script.{apc_fits, command_fits, dpc_fits, fits, has_dpc, has_thread, isr_fits, isrs_differ, meets_limits, routine_fits, thread_fits, timer_fits, where_given}
+use Rattle.nt_event.specs.Script.{apc_fits, command_fits, dpc_fits, fits, has_dpc, has_thread, isr_fits, isrs_differ, meets_limits, routine_fits, thread_fits}
+use Rattle.nt_event.specs.Script.{timer_fits, where_given}
 use Rattle.nt_event.specs.Step.{IsRun}
 use Rattle.nt_event.specs.Waits.{facts, is_of_thread}
 use Rattle.nt_event.specs.Numbers.{is_of}

@@ -13,7 +13,8 @@ use Rattle.nt_event.specs.declared.numbers.ApcNo.{ApcNo}
 use Rattle.nt_event.specs.declared.numbers.CpuNo.{CpuNo}
 use Rattle.nt_event.specs.declared.numbers.DpcNo.{DpcNo}
 use Rattle.nt_event.specs.declared.scripts.Script.{Script}
-use Rattle.nt_event.specs.Fate.{ApcThing, BegunBy, DpcThing, Fate, FlushedBy, Inserted, RemovedBy, StillWaits, Thing, fate_by, fate_of, first_fate, inserted_by, inserted_thing, inserts, still_waits, uses_up, waiting_inserts}
+use Rattle.nt_event.specs.Fate.{ApcThing, BegunBy, DpcThing, Fate, FlushedBy, Inserted, RemovedBy, StillWaits, Thing, fate_by, fate_of, first_fate, inserted_by}
+use Rattle.nt_event.specs.Fate.{inserted_thing, inserts, still_waits, uses_up, waiting_inserts}
 use Rattle.nt_event.specs.Objects.{inserted_dpc, queue_for, target_of}
 use Rattle.nt_event.specs.Routines.{owner_of}
 use Rattle.nt_event.specs.Step.{IsRun}

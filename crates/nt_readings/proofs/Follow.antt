@@ -10,14 +10,16 @@ use Rattle.nt_event.specs.declared.events.Event.{Event}
 use Rattle.nt_event.specs.declared.events.What.{What}
 use Rattle.nt_event.specs.declared.events.What.TheVariants.{Begin, Call, Clean, End, Expire, Fire, Flush, Free, Gone, Look, Normal, Rest, Rewait, Switch}
 use Rattle.nt_event.specs.declared.frames.Body.{Body}
-use Rattle.nt_event.specs.declared.frames.Body.TheVariants.{Apc as OnApc, Base as OnBase, Dpc as OnDpc, Int as OnInt, Rundown as OnRundown, Threaded as OnThreaded}
+use Rattle.nt_event.specs.declared.frames.Body.TheVariants.{Apc as OnApc, Base as OnBase, Dpc as OnDpc, Int as OnInt, Rundown as OnRundown}
+use Rattle.nt_event.specs.declared.frames.Body.TheVariants.{Threaded as OnThreaded}
 use Rattle.nt_event.specs.Frame.{Frame}
 use Rattle.nt_event.specs.declared.numbers.CpuNo.{CpuNo}
 use Rattle.nt_event.specs.declared.numbers.LockNo.{LockNo}
 use Rattle.nt_event.specs.declared.numbers.RoutineNo.{RoutineNo}
 use Rattle.nt_event.specs.declared.numbers.ThreadNo.{ThreadNo}
 use Rattle.nt_event.specs.declared.scripts.Script.{Script}
-use Rattle.nt_event.specs.Frames.{at_name, called, due_of, end_on_thread, flushed, frames_of, freed, innermost, is_base_body, ended_base, new_frame, normal_of, own_after, own_frames, resumed, rewaited, running, switched_to, thread_after, thread_frames, thread_part, time, without}
+use Rattle.nt_event.specs.Frames.{at_name, called, due_of, end_on_thread, flushed, frames_of, freed, innermost, is_base_body, ended_base, new_frame, normal_of}
+use Rattle.nt_event.specs.Frames.{own_after, own_frames, resumed, rewaited, running, switched_to, thread_after, thread_frames, thread_part, time, without}
 use Rattle.nt_event.specs.Jobs.{has_normal}
 use Rattle.nt_event.specs.Lanes.{lanes_at}
 use Rattle.nt_event.specs.Own.{own_of}
@@ -33,7 +35,8 @@ use Rattle.nt_runs.proofs.Stops.{NoneAgain, none_again}
 use Rattle.nt_runs.proofs.Turns.{is_next}
 use Rattle.nt_readings.specs.Frames.{EachNamed, NamesFall, begun_inner, begun_own, switches_to}
 use Rattle.nt_readings.specs.Regions.{EachFrame}
-use Rattle.nt_readings.proofs.Frames.{IsOwnBegin, IsThreadBegin, at_both, each_map, inner_not_switch, own_apart, own_begun, own_falls, thread_begun, thread_falls}
+use Rattle.nt_readings.proofs.Frames.{IsOwnBegin, IsThreadBegin, at_both, each_map, inner_not_switch, own_apart, own_begun, own_falls, thread_begun}
+use Rattle.nt_readings.proofs.Frames.{thread_falls}
 use Rattle.nt_readings.proofs.Threads.{part_moves, part_of, part_same}
 
 pub not_equal : (m n : ℕ) → (m ≡ n → ⊥) → (m == n) ≡ false

@@ -21,7 +21,8 @@ use Rattle.nt_event.specs.Numbers.{is_of}
 use Rattle.nt_runs.proofs.Facts.{if_none}
 use Rattle.nt_runs.proofs.Running.{part_of_running, running_here}
 use Rattle.nt_readings.specs.Positions.{At, EachAfter}
-use Rattle.nt_readings.specs.Frames.{NamesFall, HasFrame, HasNone, IsGreatest, IsInnermost, IsLastSwitched, IsOpenOn, IsOpenOwn, Lists, is_switch_event, stops_thread, switches_to}
+use Rattle.nt_readings.specs.Frames.{NamesFall, HasFrame, HasNone, IsGreatest, IsInnermost, IsLastSwitched, IsOpenOn, IsOpenOwn, Lists, is_switch_event}
+use Rattle.nt_readings.specs.Frames.{stops_thread, switches_to}
 use Rattle.nt_readings.proofs.Frames.{own_lists}
 use Rattle.nt_readings.proofs.Seen.{at_before}
 use Rattle.nt_readings.proofs.Served.{none_after}

@@ -32,7 +32,8 @@ use Rattle.nt_runs.proofs.Locked.{Distinct, Locked}
 use Rattle.nt_runs.proofs.Parts.{inner_locked}
 use Rattle.nt_runs.proofs.Stops.{call_accepted, refuse_none}
 use Rattle.nt_runs.specs.SomeFrame.{among}
-use Rattle.nt_readings.specs.Locks.{AreHeld, EachLocksTold, EachSpins, HoldsSince, IsCallOf, IsFreeing, IsGet, IsHolding, IsKept, IsKeptWith, IsSpin, IsSpinning, LocksTold, LocksToldOf, SpinsSince}
+use Rattle.nt_readings.specs.Locks.{AreHeld, EachLocksTold, EachSpins, HoldsSince, IsCallOf, IsFreeing, IsGet, IsHolding, IsKept, IsKeptWith, IsSpin}
+use Rattle.nt_readings.specs.Locks.{IsSpinning, LocksTold, LocksToldOf, SpinsSince}
 use Rattle.nt_readings.specs.Positions.{At, EachAfter}
 use Rattle.nt_readings.specs.Regions.{phase_of, renews}
 use Rattle.nt_readings.proofs.Follow.{Follows, IsAside, each_own, each_part, inner_has, names}

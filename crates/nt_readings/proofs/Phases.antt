@@ -2,7 +2,8 @@
 use Rattle.std.proofs.Common.{ap, arith, inl, inr, subst, sym, ◌∙◌}
 use Rattle.std.proofs.lemmas.Bool.{both_ways, eq-eqb, lt-ltb}
 use Rattle.std.specs.Option.{option_map_or}
-use Rattle.std.specs.Prelude.{Bool, List, None, Option, Some, false, if◌then◌else◌, length, nat_lt, not, refl, suc, true, ℕ, ◌&&◌, ◌+◌, ◌<◌, ◌==◌, ◌∷◌, ◌≡◌, ◌≤◌, ◌⊎◌}
+use Rattle.std.specs.Prelude.{Bool, List, None, Option, Some, false, if◌then◌else◌, length, nat_lt, not, refl, suc, true, ℕ, ◌&&◌, ◌+◌, ◌<◌, ◌==◌, ◌∷◌, ◌≡◌}
+use Rattle.std.specs.Prelude.{◌≤◌, ◌⊎◌}
 use Rattle.nt_event.specs.declared.commands.Command.{Command}
 use Rattle.nt_event.specs.declared.commands.Command.TheVariants.{Acquire, Delay, Lower, Raise, StartWait, Unlock}
 use Rattle.nt_event.specs.declared.commands.Refusal.TheVariants.{NotLast, TooHigh}
@@ -20,7 +21,8 @@ use Rattle.nt_event.specs.declared.numbers.CpuNo.{CpuNo}
 use Rattle.nt_event.specs.declared.numbers.LockNo.{LockNo}
 use Rattle.nt_event.specs.declared.numbers.ThreadNo.{ThreadNo}
 use Rattle.nt_event.specs.declared.scripts.Script.{Script}
-use Rattle.nt_event.specs.Frames.{again_after, base_level, base_of, called, due_of, freed, freed_level, is_apc_body, is_base_body, ended_base, new_frame, normal_of, place_after, resumed, rewaited, time}
+use Rattle.nt_event.specs.Frames.{again_after, base_level, base_of, called, due_of, freed, freed_level, is_apc_body, is_base_body, ended_base, new_frame}
+use Rattle.nt_event.specs.Frames.{normal_of, place_after, resumed, rewaited, time}
 use Rattle.nt_event.proofs.Options.{not_false}
 use Rattle.nt_event.specs.Commands.{is_last}
 use Rattle.nt_event.specs.Jobs.{has_normal, level_at}
@@ -37,7 +39,8 @@ use Rattle.nt_runs.proofs.Stops.{call_accepted, refuse_none}
 use Rattle.nt_runs.proofs.Turns.{is_next}
 use Rattle.nt_readings.specs.Positions.{At, EachAfter}
 use Rattle.nt_readings.specs.Locks.{IsKeptWith, LocksToldOf}
-use Rattle.nt_readings.specs.Phases.{FramesTold, IsLastWait, IsLevelCall, IsLevelEvent, IsLeveled, IsPhased, IsTold, IsWaited, LeavesLevel, is_call_of, is_normal_of, is_wait_reply, wait_called}
+use Rattle.nt_readings.specs.Phases.{FramesTold, IsLastWait, IsLevelCall, IsLevelEvent, IsLeveled, IsPhased, IsTold, IsWaited, LeavesLevel, is_call_of}
+use Rattle.nt_readings.specs.Phases.{is_normal_of, is_wait_reply, wait_called}
 use Rattle.nt_readings.specs.Regions.{count_after, phase_of, renews}
 use Rattle.nt_readings.proofs.Follow.{Follows, IsAside, each_own, each_part, inner_has, names, not_equal}
 use Rattle.nt_readings.proofs.Frames.{keep_called}

@@ -18,7 +18,8 @@ use Rattle.nt_event.specs.declared.numbers.ThreadNo.{ThreadNo}
 use Rattle.nt_event.specs.declared.scripts.Script.{Script}
 use Rattle.nt_event.specs.declared.threads.Doing.{Doing}
 use Rattle.nt_event.specs.declared.threads.Doing.TheVariants.{Blocked as IsBlocked, Gone as IsGone, Running as IsRunning}
-use Rattle.nt_event.specs.Frames.{called, due_of, end_on_thread, flushed, frames_of, freed, is_base_body, ended_base, normal_of, own_frames, rewaited, running, running_after, thread_after, thread_frames, thread_part, time}
+use Rattle.nt_event.specs.Frames.{called, due_of, end_on_thread, flushed, frames_of, freed, is_base_body, ended_base, normal_of, own_frames, rewaited, running}
+use Rattle.nt_event.specs.Frames.{running_after, thread_after, thread_frames, thread_part, time}
 use Rattle.nt_event.specs.Lanes.{lanes_at}
 use Rattle.nt_runs.specs.Laws.{HasBase}
 use Rattle.nt_event.specs.Own.{own_of}
@@ -40,8 +41,11 @@ use Rattle.nt_runs.proofs.Shared.{leaving_null, part_head}
 use Rattle.nt_runs.proofs.Steps.{Gives, switch_gives}
 use Rattle.nt_runs.proofs.Turns.{is_next}
 use Rattle.nt_readings.specs.Positions.{At, EachAfter, Everywhere, Somewhere}
-use Rattle.nt_readings.specs.Frames.{EachNamed, NamesFall, HasFrame, IsFirstSwitch, IsOpenInner, IsOpenOn, Lists, begun_inner, ends_frame, ends_thread, switches_to}
-use Rattle.nt_readings.proofs.Frames.{Heads, IsEnder, IsOwnBegin, IsThreadBegin, at_both, each_below, each_end, each_head, each_map, ender, has_at_name, inner_not_switch, keep_called, keep_freed, keep_normal, keep_resumed, keep_rewaited, own_apart, own_begun, switch_self, thread_after_each, thread_begun, thread_falls}
+use Rattle.nt_readings.specs.Frames.{EachNamed, NamesFall, HasFrame, IsFirstSwitch, IsOpenInner, IsOpenOn, Lists, begun_inner, ends_frame, ends_thread}
+use Rattle.nt_readings.specs.Frames.{switches_to}
+use Rattle.nt_readings.proofs.Frames.{Heads, IsEnder, IsOwnBegin, IsThreadBegin, at_both, each_below, each_end, each_head, each_map, ender, has_at_name}
+use Rattle.nt_readings.proofs.Frames.{inner_not_switch, keep_called, keep_freed, keep_normal, keep_resumed, keep_rewaited, own_apart, own_begun, switch_self}
+use Rattle.nt_readings.proofs.Frames.{thread_after_each, thread_begun, thread_falls}
 use Rattle.nt_readings.proofs.Seen.{at_before}
 use Rattle.nt_readings.proofs.Served.{none_after}
 use Rattle.nt_runs.proofs.Rundown.Steps.{facts_there}

@@ -2,7 +2,8 @@
 use Rattle.std.proofs.Common.{ap, arith, inl, inr, subst, sym, ◌∙◌}
 use Rattle.std.proofs.lemmas.Bool.{eqb-true, ltb-false, ltb-true}
 use Rattle.std.proofs.lemmas.List.{get_or_past}
-use Rattle.std.specs.Prelude.{Bool, List, MatchOption, None, Option, Some, [], false, if◌then◌else◌, length, nat_lt, refl, suc, true, zero, ℕ, ◌+◌, ◌<◌, ◌==◌, ◌∷◌, ◌↔◌, ◌≡◌, ◌≤◌, ◌⊎◌}
+use Rattle.std.specs.Prelude.{Bool, List, MatchOption, None, Option, Some, [], false, if◌then◌else◌, length, nat_lt, refl, suc, true, zero, ℕ, ◌+◌, ◌<◌, ◌==◌}
+use Rattle.std.specs.Prelude.{◌∷◌, ◌↔◌, ◌≡◌, ◌≤◌, ◌⊎◌}
 use Rattle.nt_event.specs.declared.commands.Command.TheVariants.{CancelTimer, Delay, SetTimer}
 use Rattle.nt_event.specs.declared.commands.Reply.TheVariants.{Blocked, Yes}
 use Rattle.nt_event.specs.declared.commands.TimerKey.{TimerKey}
@@ -17,7 +18,8 @@ use Rattle.nt_event.specs.declared.numbers.TimerNo.{TimerNo}
 use Rattle.nt_event.specs.declared.scripts.Script.{Script}
 use Rattle.nt_event.specs.Frames.{time}
 use Rattle.nt_event.specs.Regions.{stand_at}
-use Rattle.nt_event.specs.Timers.{SetKey, blocked_after, delay_set, delay_setting, expired_delay, first_due, renewed, setting_in, timer_after, timer_setting, timers_at}
+use Rattle.nt_event.specs.Timers.{SetKey, blocked_after, delay_set, delay_setting, expired_delay, first_due, renewed, setting_in, timer_after, timer_setting}
+use Rattle.nt_event.specs.Timers.{timers_at}
 use Rattle.nt_event.specs.Waits.{is_of_thread}
 use Rattle.nt_event.specs.Lists.{table}
 use Rattle.nt_event.specs.Numbers.{thread, timer}
@@ -26,7 +28,8 @@ use Rattle.nt_timer.specs.Laws.{IsFirstDue}
 use Rattle.nt_timer.specs.Settings.{setting_at}
 use Rattle.nt_timer.proofs.Order.{first_due_is_first}
 use Rattle.nt_readings.specs.Positions.{At, EachAfter}
-use Rattle.nt_readings.specs.Timers.{IsDelaySet, IsDelaySetBy, IsFirstDueKey, IsKeySet, IsPeriod, IsTimerSet, IsTimerSetBy, LeavesDelay, LeavesTimer, blocked_due, cancels_timer, due_blocked, expires_delay, expires_timer, named_due, named_period, sets_timer}
+use Rattle.nt_readings.specs.Timers.{IsDelaySet, IsDelaySetBy, IsFirstDueKey, IsKeySet, IsPeriod, IsTimerSet, IsTimerSetBy, LeavesDelay, LeavesTimer}
+use Rattle.nt_readings.specs.Timers.{blocked_due, cancels_timer, due_blocked, expires_delay, expires_timer, named_due, named_period, sets_timer}
 use Rattle.nt_readings.proofs.Seen.{at_before}
 use Rattle.nt_readings.proofs.Served.{none_after}
 

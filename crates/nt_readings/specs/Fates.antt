@@ -6,7 +6,8 @@ use Rattle.nt_event.specs.declared.events.What.{What}
 use Rattle.nt_event.specs.declared.events.What.TheVariants.{Begin, Call, Flush}
 use Rattle.nt_event.specs.declared.numbers.CpuNo.{CpuNo}
 use Rattle.nt_event.specs.declared.scripts.Script.{Script}
-use Rattle.nt_event.specs.Fate.{ApcThing, BegunBy, DpcThing, Fate, FlushedBy, Inserted, RemovedBy, StillWaits, Thing, fate_of, inserted_thing, inserts, uses_up, waiting_inserts}
+use Rattle.nt_event.specs.Fate.{ApcThing, BegunBy, DpcThing, Fate, FlushedBy, Inserted, RemovedBy, StillWaits, Thing}
+use Rattle.nt_event.specs.Fate.{fate_of, inserted_thing, inserts, uses_up, waiting_inserts}
 use Rattle.nt_event.specs.Routines.{owner_of}
 use Rattle.nt_event.specs.Script.{fits, has_dpc, has_thread}
 use Rattle.nt_event.specs.Step.{IsRun}

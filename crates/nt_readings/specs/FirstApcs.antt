@@ -2,7 +2,8 @@
 use Rattle.std.specs.List.{Contains}
 use Rattle.std.specs.Prelude.{List, None, Option, Some, false, length, true, ℕ, ◌≡◌, ◌≤◌, ◌⊎◌}
 use Rattle.nt_event.specs.declared.commands.ApcKind.{ApcKind}
-use Rattle.nt_event.specs.declared.commands.ApcKind.TheVariants.{Normal as NormalApc, Special as SpecialApc, User as UserApc}
+use Rattle.nt_event.specs.declared.commands.ApcKind.TheVariants.{Normal as NormalApc, Special as SpecialApc}
+use Rattle.nt_event.specs.declared.commands.ApcKind.TheVariants.{User as UserApc}
 use Rattle.nt_event.specs.declared.events.Event.{Event}
 use Rattle.nt_event.specs.declared.inserts.Pick.{Pick}
 use Rattle.nt_event.specs.declared.numbers.ThreadNo.{ThreadNo}

@@ -1,6 +1,7 @@
 -- Regions and deliverable APCs, by positions: accepted enters less accepted leaves, in the present phase of each open
 -- frame.
-use Rattle.std.specs.Prelude.{Bool, List, Some, [], false, if◌then◌else◌, length, nat_lt, suc, sum_by, true, ℕ, ◌&&◌, ◌+◌, ◌-◌, ◌==◌, ◌∷◌, ◌↔◌, ◌≡◌}
+use Rattle.std.specs.Prelude.{Bool, List, Some, [], false, if◌then◌else◌, length, nat_lt, suc, sum_by, true, ℕ, ◌&&◌}
+use Rattle.std.specs.Prelude.{◌+◌, ◌-◌, ◌==◌, ◌∷◌, ◌↔◌, ◌≡◌}
 use Rattle.nt_event.specs.declared.commands.ApcKind.TheVariants.{Normal as NormalApc}
 use Rattle.nt_event.specs.declared.commands.Command.{Command}
 use Rattle.nt_event.specs.declared.commands.Command.TheVariants.{EnterCrit, EnterGuard, LeaveCrit, LeaveGuard}

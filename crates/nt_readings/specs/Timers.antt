@@ -1,5 +1,6 @@
 -- Keys that are set and the first due one, by positions in the history.
-use Rattle.std.specs.Prelude.{Bool, List, None, Option, Some, false, length, option_and_then, true, ℕ, ◌&&◌, ◌+◌, ◌<◌, ◌==◌, ◌↔◌, ◌≡◌, ◌≤◌, ◌⊎◌}
+use Rattle.std.specs.Prelude.{Bool, List, None, Option, Some, false, length, option_and_then, true, ℕ, ◌&&◌, ◌+◌, ◌<◌}
+use Rattle.std.specs.Prelude.{◌==◌, ◌↔◌, ◌≡◌, ◌≤◌, ◌⊎◌}
 use Rattle.nt_event.specs.declared.commands.Command.TheVariants.{CancelTimer, Delay, SetTimer}
 use Rattle.nt_event.specs.declared.commands.Reply.TheVariants.{Blocked, Yes}
 use Rattle.nt_event.specs.declared.commands.TimerKey.{TimerKey}

@@ -1,5 +1,6 @@
 -- The line of an event is read as the event.
-use Rattle.std.proofs.Common.{◌≡◌, ◌∙◌, ℕ, zero, suc, ◌<◌, Bool, true, false, List, [], ◌∷◌, ◌++◌, length, Option, Some, None, Result, Ok, refl, sym, ap, arith, lit<}
+use Rattle.std.proofs.Common.{◌≡◌, ◌∙◌, ℕ, zero, suc, ◌<◌, Bool, true, false, List, [], ◌∷◌, ◌++◌, length, Option, Some, None, Result, Ok, refl, sym, ap, arith}
+use Rattle.std.proofs.Common.{lit<}
 use Rattle.std.specs.Prelude.{decimal, ◌≤◌}
 use Rattle.std.specs.Fmt.{digits}
 use Rattle.std.specs.List.{slice_get}
@@ -13,7 +14,8 @@ use Rattle.nt_event.specs.declared.commands.ApcKind.{ApcKind}
 use Rattle.nt_event.specs.declared.commands.ApcKind.TheVariants as kind
 use Rattle.nt_event.specs.declared.commands.Command.{Command}
 use Rattle.nt_event.specs.declared.commands.Refusal.{Refusal}
-use Rattle.nt_event.specs.declared.commands.Refusal.TheVariants.{NotThread, NotBase, TooHigh, RegionsOpen, NotGreater, NotLess, BelowBase, NotEntered, LockHeld, HeldHere, NotLast}
+use Rattle.nt_event.specs.declared.commands.Refusal.TheVariants.{NotThread, NotBase, TooHigh, RegionsOpen, NotGreater, NotLess, BelowBase, NotEntered, LockHeld}
+use Rattle.nt_event.specs.declared.commands.Refusal.TheVariants.{HeldHere, NotLast}
 use Rattle.nt_event.specs.declared.commands.Reply.{Reply}
 use Rattle.nt_event.specs.declared.commands.Reply.TheVariants.{Blocked, Done, No, Refused, Spin, Status, Yes}
 use Rattle.nt_event.specs.declared.commands.TimerKey.{TimerKey}
@@ -34,7 +36,8 @@ use Rattle.nt_line.specs.declared.keywords.Verb.TheVariants as verb
 use Rattle.nt_line.specs.declared.keywords.Keyword.TheVariants as keyword
 use Rattle.nt_line.specs.NameLists.{NameLists, show_lock, show_thread}
 use Rattle.nt_line.specs.Commands.{behind, command_of, read1, read2, read3}
-use Rattle.nt_line.specs.Fields.{dash, read_alertable, read_apc, read_cpu, read_dpc, read_importance, read_interrupt, read_level, read_lock, read_mode, read_number, read_target, read_thread, read_timer}
+use Rattle.nt_line.specs.Fields.{dash, read_alertable, read_apc, read_cpu, read_dpc, read_importance, read_interrupt, read_level, read_lock, read_mode}
+use Rattle.nt_line.specs.Fields.{read_number, read_target, read_thread, read_timer}
 use Rattle.nt_line.specs.Fits.{HasRange}
 use Rattle.nt_line.specs.Keywords.{since, text_of, verb_arity}
 use Rattle.nt_line.specs.Rows.{command_args, command_row, command_verb}
@@ -44,7 +47,8 @@ use Rattle.nt_line.proofs.Spelled.{args_count, command_again}
 use Rattle.nt_line.proofs.Words.{command_since, keyword_again}
 use Rattle.nt_script.specs.declared.walk.Input.{Input}
 use Rattle.nt_print.specs.Conditions.{BegunInRange, EventIsPlain, IsWord, ReplyInRange, StatusInRange, WhatInRange}
-use Rattle.nt_print.specs.Report.{begun_row, event_fields, key_row, kind_word, replied as reply_fields, show_processor, show_running, status_row, used as used_fields, what_row}
+use Rattle.nt_print.specs.Report.{begun_row, event_fields, key_row, kind_word, replied as reply_fields, show_processor, show_running, status_row}
+use Rattle.nt_print.specs.Report.{used as used_fields, what_row}
 use Rattle.nt_print.proofs.OneEvent.{Known, apc_at, command_plain, dpc_at, event_parts, is_look, lock_at, no_dash, thread_at, timer_at}
 use Rattle.nt_report.specs.declared.events.EventLine.{EventLine}
 use Rattle.nt_report.specs.declared.words.BegunWord.{BegunWord}

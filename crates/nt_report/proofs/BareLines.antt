@@ -63,7 +63,8 @@ what_of_bare input word.Flush row y e =
     (λ a is then. through IsBare (used a.1) (λ (u : ℕ × Row). ok (Flush a.0 u.0, u.1)) y then
     (λ u is' then'. made IsBare (Flush a.0 u.0, u.1) y then' tt))
 what_of_bare input word.Gone row y e =
-    through IsBare (one_field (read_thread input.names) row) (λ (t : ThreadNo × Row). ok (Gone t.0, t.1)) y e (λ t is then. made IsBare (Gone t.0, t.1) y then tt)
+    through IsBare (one_field (read_thread input.names) row) (λ (t : ThreadNo × Row). ok (Gone t.0, t.1)) y e
+    (λ t is then. made IsBare (Gone t.0, t.1) y then tt)
 what_of_bare input word.Free row y e =
     through IsBare (one_field read_event row) (λ (f : ℕ × Row). one_field (read_lock input.names) f.1 >>= λ l. ok (Free f.0 l.0, l.1)) y e
     (λ f is then. through IsBare (one_field (read_lock input.names) f.1) (λ (l : LockNo × Row). ok (Free f.0 l.0, l.1)) y then

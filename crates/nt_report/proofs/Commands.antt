@@ -10,7 +10,8 @@ use Rattle.nt_line.specs.Keywords.{verb_arity}
 use Rattle.nt_line.specs.Results.{◌>>=◌}
 use Rattle.nt_line.specs.NameLists.{NameLists}
 use Rattle.nt_line.specs.Commands.{command_of, next_field, read1, read2, read3}
-use Rattle.nt_line.specs.Fields.{read_alertable, read_apc, read_cpu, read_dpc, read_importance, read_interrupt, read_level, read_lock, read_mode, read_number, read_target, read_thread, read_timer}
+use Rattle.nt_line.specs.Fields.{read_alertable, read_apc, read_cpu, read_dpc, read_importance, read_interrupt, read_level, read_lock, read_mode, read_number}
+use Rattle.nt_line.specs.Fields.{read_target, read_thread, read_timer}
 use Rattle.nt_line.specs.Fits.{CommandFits}
 use Rattle.nt_line.proofs.UsedNames.{AreFew}
 use Rattle.nt_line.proofs.Spelled.{command_takes}

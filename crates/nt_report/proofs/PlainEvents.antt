@@ -41,7 +41,8 @@ use Rattle.nt_report.specs.declared.words.BegunWord.TheVariants as of_begin
 use Rattle.nt_report.specs.declared.words.EventWord.{EventWord}
 use Rattle.nt_report.specs.declared.words.EventWord.TheVariants as word
 use Rattle.nt_report.specs.Fields.{at_end, one_field, read_class, read_event, read_processor, read_running, replied, status, used}
-use Rattle.nt_report.specs.Events.{begun, begun_of, command, delay_key, event_line, expired, read_begun_word, read_event_word, read_verb, timer_key, what, what_of}
+use Rattle.nt_report.specs.Events.{begun, begun_of, command, delay_key, event_line, expired, read_begun_word, read_event_word, read_verb, timer_key, what}
+use Rattle.nt_report.specs.Events.{what_of}
 use Rattle.nt_report.proofs.Steps.{end_ok, made, ok, one_fits, one_ok, through}
 use Rattle.nt_report.proofs.Commands.{command_of_fits}
 use Rattle.nt_report.proofs.PlainFields.{event_word, has_it, processor_fits, replied_fits, running_fits, status_fits, used_word}

@@ -24,7 +24,9 @@ use Rattle.nt_print.specs.Conditions.{IsWord, ReplyInRange, StatusInRange}
 use Rattle.nt_report.specs.declared.fields.TheConstants.{REFUSALS}
 use Rattle.nt_report.specs.declared.words.ReplyWord.{ReplyWord}
 use Rattle.nt_report.specs.declared.words.ReplyWord.TheVariants as word
-use Rattle.nt_report.specs.Fields.{behind_word, hexadecimal_after, hexadecimal_of, hexadecimal_value, is_hexadecimal_digit, one_field, read_event, read_hexadecimal, read_processor, read_refusal, read_reply_word, read_running, refusal_of, refused, replied, reply_of, status, used}
+use Rattle.nt_report.specs.Fields.{behind_word, hexadecimal_after, hexadecimal_of, hexadecimal_value, is_hexadecimal_digit, one_field, read_event}
+use Rattle.nt_report.specs.Fields.{read_hexadecimal, read_processor, read_refusal, read_reply_word, read_running, refusal_of, refused, replied, reply_of}
+use Rattle.nt_report.specs.Fields.{status, used}
 use Rattle.nt_report.proofs.Steps.{kept, made, missed, ok, one_fits, one_ok, through}
 
 -- ---- processors and threads

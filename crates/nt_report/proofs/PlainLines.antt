@@ -1,6 +1,7 @@
 -- What is read of the lines: plain events, and a schedule that is plain for the processors of the script.
 use lib.Dec.{ltb}
-use Rattle.std.proofs.Common.{◌≡◌, ℕ, ◌+◌, ◌<◌, ◌≤◌, ◌⊎◌, inl, inr, Bool, true, false, List, [], ◌∷◌, ◌++◌, length, Result, Ok, Err, refl, sym, ◌∙◌, ap, subst, arith}
+use Rattle.std.proofs.Common.{◌≡◌, ℕ, ◌+◌, ◌<◌, ◌≤◌, ◌⊎◌, inl, inr, Bool, true, false, List, [], ◌∷◌, ◌++◌, length, Result, Ok, Err, refl, sym, ◌∙◌, ap, subst}
+use Rattle.std.proofs.Common.{arith}
 use Rattle.std.specs.Prelude.{nat_lt, if◌then◌else◌}
 use Rattle.std.specs.List.{AllByRecursion}
 use Rattle.std.proofs.lemmas.Bool.{cond-true, lt-ltb}
@@ -29,7 +30,8 @@ use Rattle.nt_report.specs.declared.places.ReportPlace.TheVariants.{Start, InEve
 use Rattle.nt_report.specs.declared.walk.Parts.{Parts}
 use Rattle.nt_report.specs.Events.{event_line}
 use Rattle.nt_report.specs.Walked.{Walked}
-use Rattle.nt_report.specs.Reading.{act, and_then, cut_line, finish, front_step, kept, line_step, line_word, schedule_step, spins_line, start, step_at, waits_line, walk, with_event, with_place, with_schedule, word_at}
+use Rattle.nt_report.specs.Reading.{act, and_then, cut_line, finish, front_step, kept, line_step, line_word, schedule_step, spins_line, start, step_at}
+use Rattle.nt_report.specs.Reading.{waits_line, walk, with_event, with_place, with_schedule, word_at}
 use Rattle.nt_report.proofs.Steps.{made, ok, through}
 use Rattle.nt_report.proofs.PlainEvents.{event_line_plain}
 

@@ -10,7 +10,8 @@ use Rattle.nt_event.specs.declared.commands.TimerKey.TheVariants as key
 use Rattle.nt_event.specs.declared.events.Begun.{Begun}
 use Rattle.nt_event.specs.declared.events.Begun.TheVariants as of_begun
 use Rattle.nt_event.specs.declared.events.What.{What}
-use Rattle.nt_event.specs.declared.events.What.TheVariants.{Begin, Call, Clean, End, Expire, Fire, Flush, Free, Gone, Normal, Rest, Rewait, Switch}
+use Rattle.nt_event.specs.declared.events.What.TheVariants.{Begin, Call, Clean, End, Expire, Fire, Flush, Free, Gone}
+use Rattle.nt_event.specs.declared.events.What.TheVariants.{Normal, Rest, Rewait, Switch}
 use Rattle.nt_line.specs.declared.keywords.Keyword.{Keyword}
 use Rattle.nt_line.specs.declared.keywords.Keyword.TheVariants as keyword
 use Rattle.nt_line.specs.declared.keywords.Verb.{Verb}
@@ -26,7 +27,8 @@ use Rattle.nt_report.specs.declared.words.BegunWord.TheVariants as of_begin
 use Rattle.nt_report.specs.declared.words.EventWord.{EventWord}
 use Rattle.nt_report.specs.declared.words.EventWord.TheVariants as word
 use Rattle.nt_report.specs.Words.{begun_word, event_word}
-use Rattle.nt_report.specs.Fields.{at_end, one_field, read_class, read_event, read_processor, read_running, replied, status, used}
+use Rattle.nt_report.specs.Fields.{at_end, one_field, read_class, read_event, read_processor, read_running, replied}
+use Rattle.nt_report.specs.Fields.{status, used}
 
 -- ---- commands
 

@@ -1,6 +1,7 @@
 -- Reading a report: each line by its form, then the history of the turns and the events, then the text of that history,
 -- which has to be what was read. The tests of a line come in the order in which the steps `>>=` stand.
-use Rattle.std.specs.Prelude.{ℕ, ◌+◌, Bool, false, ◌&&◌, List, [], ◌∷◌, ◌++◌, length, Option, Some, None, Result, Ok, Err, codes, nat_le, nat_lt, ◌==◌, if◌then◌else◌}
+use Rattle.std.specs.Prelude.{ℕ, ◌+◌, Bool, false, ◌&&◌, List, [], ◌∷◌, ◌++◌, length, Option, Some, None, Result, Ok}
+use Rattle.std.specs.Prelude.{Err, codes, nat_le, nat_lt, ◌==◌, if◌then◌else◌}
 use Rattle.std.specs.Char.{is_ascii_digit}
 use Rattle.std.specs.Str.{bytes_eq}
 use Rattle.nt_text.specs.declared.kind.ScriptKind.{ScriptKind}
@@ -29,7 +30,8 @@ use Rattle.nt_report.specs.declared.events.EventLine.{EventLine}
 use Rattle.nt_report.specs.declared.places.LineWord.{LineWord}
 use Rattle.nt_report.specs.declared.places.LineWord.TheVariants as word
 use Rattle.nt_report.specs.declared.places.ReportPlace.{ReportPlace}
-use Rattle.nt_report.specs.declared.places.ReportPlace.TheVariants.{Start, InEvents, InCuts, InSpins, InWaits, InSchedule}
+use Rattle.nt_report.specs.declared.places.ReportPlace.TheVariants.{Start, InEvents, InCuts, InSpins, InWaits}
+use Rattle.nt_report.specs.declared.places.ReportPlace.TheVariants.{InSchedule}
 use Rattle.nt_report.specs.declared.walk.Parts.{Parts}
 use Rattle.nt_report.specs.Walked.{Walked}
 use Rattle.nt_report.specs.Fields.{one_field, read_event, read_processor, used}

@@ -37,7 +37,8 @@ fn lines_alike(text: &[u8], other: &[u8]) -> u32
     alike
 }
 
-/// The history, where its text is what was read, whose first line has this number. WrongKind at the first line that differs.
+/// The history, where its text is what was read, whose first line has this number. WrongKind at the
+/// first line that differs.
 pub(crate) fn compared(
     alloc: Global,
     input: &Input,

@@ -2,7 +2,9 @@
 ghost use Rattle.std.specs.Prelude.{◌≡◌};
 ghost use Rattle.nt_line.specs.Fields.{read_apc, read_dpc, read_lock};
 ghost use Rattle.nt_report.specs.Fields.{IsWritten, Reads, Writes, one_field};
-ghost use Rattle.nt_report.specs.Events.{begun, begun_of, blank, command, delay_key, event_line, expired, read_begun_word, read_event_word, read_verb, timer_key, what, what_of};
+ghost use Rattle.nt_report.specs.Events.{begun, begun_of, blank, command, delay_key, event_line};
+ghost use Rattle.nt_report.specs.Events.{expired, read_begun_word, read_event_word, read_verb};
+ghost use Rattle.nt_report.specs.Events.{timer_key, what, what_of};
 
 use crate::fields::{class, event, level, processor, replied, running, status, thread, used, word};
 use crate::line_input::LineInput;
@@ -207,7 +209,8 @@ fn read_what(input: &Input, row: &mut Fields, into: &mut What) -> Result<(), Scr
     what_of(input, word, row, into)
 }
 
-/// Writes the event of a line, and the number that the line gives it: the first field, and those behind it.
+/// Writes the event of a line, and the number that the line gives it: the first field, and those
+/// behind it.
 #[tactic(auto, using(crate::proofs::Steps::extra))]
 pub(crate) fn event_line<'a>(
     input: &mut LineInput<'a>,

@@ -2,7 +2,12 @@
 ghost use Rattle.std.specs.Prelude.{◌≡◌, ◌==◌, find, true};
 ghost use Rattle.nt_event.specs.Numbered.{refusal_number};
 ghost use Rattle.nt_line.specs.Fields.{read_level, read_thread};
-ghost use Rattle.nt_report.specs.Fields.{Passes, Reads, behind_word, hexadecimal_after, hexadecimal_of, hexadecimal_value, is_hexadecimal_digit, one_field, read_class, read_event, read_hexadecimal, read_processor, read_refusal, read_reply_word, read_running, refusal_of, refused, replied, reply_of, status, used};
+ghost use Rattle.nt_report.specs.Fields.{Passes, Reads, behind_word, hexadecimal_after};
+ghost use Rattle.nt_report.specs.Fields.{hexadecimal_of, hexadecimal_value, is_hexadecimal_digit};
+ghost use Rattle.nt_report.specs.Fields.{one_field, read_class, read_event, read_hexadecimal};
+ghost use Rattle.nt_report.specs.Fields.{read_processor, read_refusal, read_reply_word};
+ghost use Rattle.nt_report.specs.Fields.{read_running, refusal_of, refused, replied, reply_of};
+ghost use Rattle.nt_report.specs.Fields.{status, used};
 
 use crate::line_input::LineInput;
 use crate::words::{ReplyWord, reply_word};

@@ -57,10 +57,11 @@ fn put_line(events: &mut Events, line: &KeptLine) -> Result<(), ScriptRefusal>
     }
 }
 
-/// The events of the turns: a look turn gives a look, and another turn the next event line, whose number is the turn's place.
+/// The events of the turns: a look turn gives a look, and another turn the next event line, whose
+/// number is the turn's place.
 ///
-/// `line` is the number of the first event line in the text. WrongKind at the event line that has another number, or behind
-/// the last.
+/// `line` is the number of the first event line in the text. WrongKind at the event line that has
+/// another number, or behind the last.
 fn events_of(
     alloc: Global,
     turns: &Turns,

@@ -8,8 +8,8 @@ use nt_script::Input;
 use nt_text::{ScriptKind, is_word};
 use std::marker::Model;
 
-/// How many processors have a field of their own that is remembered: as many as a script has at most. Processors
-/// that share one would only be looked up more often.
+/// How many processors have a field of their own that is remembered: as many as a script has at
+/// most. Processors that share one would only be looked up more often.
 const PLACES: usize = 64;
 
 /// A field that names the running thread, and the thread that it names.
@@ -19,8 +19,9 @@ pub(crate) struct Running<'a> {
     pub thread: Option<ThreadNo>,
 }
 
-/// The input of a report, with what the last event line of each processor names as its running thread. The same field names the
-/// same thread, so it is not looked up again. Contracts see the input alone.
+/// The input of a report, with what the last event line of each processor names as its running
+/// thread. The same field names the same thread, so it is not looked up again. Contracts see the
+/// input alone.
 #[derive(Drop)]
 pub(crate) struct LineInput<'a> {
     input: &'a Input,

@@ -1,6 +1,7 @@
 //! The parts of a report, and which line begins which.
 ghost use Rattle.std.specs.Prelude.{◌≡◌};
-ghost use Rattle.nt_report.specs.Reading.{earliest, is_numbered, latest, line_word, order, stands, word_at};
+ghost use Rattle.nt_report.specs.Reading.{earliest, is_numbered, latest, line_word, order, stands};
+ghost use Rattle.nt_report.specs.Reading.{word_at};
 
 use nt_text::ScriptKind;
 

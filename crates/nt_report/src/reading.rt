@@ -61,12 +61,14 @@ fn read_all(
     compared(alloc, input, bytes, first_line, history)
 }
 
-/// The history whose report the bytes are, for the script of an input, or a bad line and what is wrong with it.
+/// The history whose report the bytes are, for the script of an input, or a bad line and what is
+/// wrong with it.
 ///
-/// First each line is read by its form; the first line that is bad is refused. Then the history is made: a look turn of the
-/// schedule gives a look, and another turn takes the next event line, whose number has to be the turn's place; WrongKind at
-/// the first event line of another number, or behind the last. Then the history is printed; WrongKind at the first line that
-/// is not as it was read. `first_line` is the number of the first line. `NoMemory` may come at any call. Profile.
+/// First each line is read by its form; the first line that is bad is refused. Then the history is
+/// made: a look turn of the schedule gives a look, and another turn takes the next event line,
+/// whose number has to be the turn's place; WrongKind at the first event line of another number, or
+/// behind the last. Then the history is printed; WrongKind at the first line that is not as it was
+/// read. `first_line` is the number of the first line. `NoMemory` may come at any call. Profile.
 pub fn read_report(
     alloc: Global,
     input: &Input,

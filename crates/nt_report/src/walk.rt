@@ -84,7 +84,8 @@ fn waits_line(names: &Names, args: &mut Fields) -> Result<Named, ScriptKind>
     read_object(names, kind, args.take())
 }
 
-/// Adds an event line behind the others, where a schedule may have a turn for it. Its event is no look.
+/// Adds an event line behind the others, where a schedule may have a turn for it. Its event is no
+/// look.
 fn keep_line(lines: &mut Vec<KeptLine>, line: &EventLine) -> Result<(), AllocError>
     requires { HasValues no_rises line.now.event.what }
     ensures { OnOk result (lines.new.items ≡ kept lines.old.items line.now) }
@@ -101,7 +102,9 @@ impl ReportWalk {
     ghost use Rattle.nt_script.specs.Gives.{Gives, GivesRead};
     ghost use Rattle.nt_log.specs.Taking.{TakesLine};
     ghost use Rattle.nt_report.specs.declared.places.ReportPlace.TheVariants.{InSchedule};
-    ghost use Rattle.nt_report.specs.Reading.{cut_step, event_step, finish, front_step, line_step, report_step, schedule_step, spins_step, start, waits_step};
+    ghost use Rattle.nt_report.specs.Reading.{cut_step, event_step, finish, front_step, line_step};
+    ghost use Rattle.nt_report.specs.Reading.{report_step, schedule_step, spins_step, start};
+    ghost use Rattle.nt_report.specs.Reading.{waits_step};
 
     /// Nothing was read.
     pub fn new(alloc: Global) -> ReportWalk
@@ -121,7 +124,8 @@ impl ReportWalk {
         input: &mut LineInput<'a>,
         lines: &mut Lines<'a>,
     ) -> Result<bool, Stop>
-        ensures walk { TakesLine (line_step input.old self.old) result self.old self.new lines.old lines.new }
+        ensures walk { TakesLine (line_step input.old self.old) result self.old self.new
+            lines.old lines.new }
         ensures input { input.new ≡ input.old }
     {
         match self.place {
@@ -134,8 +138,8 @@ impl ReportWalk {
         }
     }
 
-    /// The event lines and the schedule, where the text may end here: NoEnd else. `line` is the number of the line behind the
-    /// last.
+    /// The event lines and the schedule, where the text may end here: NoEnd else. `line` is the
+    /// number of the line behind the last.
     pub fn finish(self, line: u32) -> Result<Parts, ScriptRefusal>
         ensures { GivesRead result (finish self line) }
     {
@@ -157,7 +161,8 @@ impl ReportWalk {
     #[inline(always)]
     fn next_turn_line(&mut self, input: &Input, lines: &mut Lines) -> Result<bool, Stop>
         requires { self.old.place ≡ InSchedule }
-        ensures { TakesLine (schedule_step input.now self.old) result self.old self.new lines.old lines.new }
+        ensures { TakesLine (schedule_step input.now self.old) result self.old self.new
+            lines.old lines.new }
     {
         self.schedule.next_line(input, input.script.cpus, lines)
     }
@@ -168,7 +173,8 @@ impl ReportWalk {
         input: &mut LineInput<'a>,
         lines: &mut Lines<'a>,
     ) -> Result<bool, Stop>
-        ensures walk { TakesLine (front_step input.old self.old) result self.old self.new lines.old lines.new }
+        ensures walk { TakesLine (front_step input.old self.old) result self.old self.new
+            lines.old lines.new }
         ensures input { input.new ≡ input.old }
     {
         match lines.next() {
@@ -182,7 +188,8 @@ impl ReportWalk {
 
     /// Takes the first line of the schedule.
     fn schedule_line(&mut self, input: &Input, line: &Line) -> Result<(), Stop>
-        ensures { Gives result self.new (schedule_step input.now self.old (line.now.bytes.now, line.now.ended)) }
+        ensures { Gives result self.new
+            (schedule_step input.now self.old (line.now.bytes.now, line.now.ended)) }
     {
         self.schedule.line(input, input.script.cpus, line)?;
         self.place = ReportPlace::InSchedule;
@@ -191,7 +198,8 @@ impl ReportWalk {
 
     /// Takes a line before the schedule, or its first line.
     fn front_line<'a>(&mut self, input: &mut LineInput<'a>, line: &Line<'a>) -> Result<(), Stop>
-        ensures walk { Gives result self.new (front_step input.old self.old (line.now.bytes.now, line.now.ended)) }
+        ensures walk { Gives result self.new
+            (front_step input.old self.old (line.now.bytes.now, line.now.ended)) }
         ensures input { input.new ≡ input.old }
     {
         let mut row = line.fields()?;

@@ -1,7 +1,8 @@
 //! The words of an event's line.
 ghost use Rattle.std.specs.Prelude.{◌≡◌, find};
 ghost use Rattle.std.specs.Str.{bytes_eq};
-ghost use Rattle.nt_report.specs.Words.{event_text, event_word, begun_text, begun_word, reply_text, reply_word};
+ghost use Rattle.nt_report.specs.Words.{event_text, event_word, begun_text, begun_word, reply_text};
+ghost use Rattle.nt_report.specs.Words.{reply_word};
 
 use nt_event::ApcKind;
 use nt_text::is_word;

@@ -1,4 +1,5 @@
--- The worked row held-levels: a raise and a lower to the level that holds, regions at level 2, and two interrupts at once.
+-- The worked row held-levels: a raise and a lower to the level that holds, regions at level 2, and two interrupts at
+-- once.
 use Rattle.std.specs.Prelude.{List, None, Some, [], ◌∷◌}
 use Rattle.nt_event.specs.declared.commands.Command.TheVariants as cmd
 use Rattle.nt_event.specs.declared.commands.Refusal.TheVariants.{TooHigh}

@@ -1,4 +1,5 @@
--- The worked row regions-given-up: an inner region asks for nothing, and a kernel routine gives up the region that it entered.
+-- The worked row regions-given-up: an inner region asks for nothing, and a kernel routine gives up the region that it
+-- entered.
 use Rattle.std.specs.Prelude.{List, None, Some, [], ◌∷◌}
 use Rattle.nt_event.specs.declared.commands.Command.TheVariants as cmd
 use Rattle.nt_event.specs.declared.commands.Refusal.TheVariants.{NotEntered}

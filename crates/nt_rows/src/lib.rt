@@ -1,8 +1,9 @@
 //! Worked rows: scripts whose robin runs were worked out by hand, beside what the definitions give.
 //!
-//! Each function here is a law without parameters or body: its contract says that the script fits, that the robin run that the
-//! definitions of nt_event give for it from nothing is this history, event for event, and that the history is settled. The prover
-//! computes each from the definitions. So a definition that says something else than was meant is refused by a row.
+//! Each function here is a law without parameters or body: its contract says that the script fits,
+//! that the robin run that the definitions of nt_event give for it from nothing is this history,
+//! event for event, and that the history is settled. The prover computes each from the definitions.
+//! So a definition that says something else than was meant is refused by a row.
 #![tactic(auto)]
 
 ghost use Rattle.nt_rows.specs.Rows.{IsWorked, IsReplayed, IsUnfinished, IsMade};
@@ -91,7 +92,8 @@ ghost use Rattle.nt_rows.specs.WaitTakenUpForAUserApc as wait_taken_up_for_a_use
 
 // ---- Levels and frames
 
-/// A thread raises to DISPATCH_LEVEL, queues a DPC and lowers: the DPC runs before the thread goes on.
+/// A thread raises to DISPATCH_LEVEL, queues a DPC and lowers: the DPC runs before the thread goes
+/// on.
 pub fn raise_queue_lower()
     ensures { IsWorked raise_queue_lower_row.script 10000 raise_queue_lower_row.history }
 {}
@@ -123,26 +125,30 @@ pub fn interrupt_in_interrupt()
 
 /// A thread requests an interrupt on another processor, which notices it by a look.
 pub fn interrupt_other_processor()
-    ensures { IsWorked interrupt_other_processor_row.script 10000 interrupt_other_processor_row.history }
+    ensures { IsWorked interrupt_other_processor_row.script 10000
+        interrupt_other_processor_row.history }
 {}
 
-/// A thread is refused what its level, its routine or its regions forbid, and the test of lowest number decides.
+/// A thread is refused what its level, its routine or its regions forbid, and the test of lowest
+/// number decides.
 pub fn refusals_by_level()
     ensures { IsWorked refusals_by_level_row.script 10000 refusals_by_level_row.history }
 {}
 
-/// A DPC is refused what only a thread may call and, raised above DISPATCH_LEVEL, what stops at that level too.
+/// A DPC is refused what only a thread may call and, raised above DISPATCH_LEVEL, what stops at
+/// that level too.
 pub fn refusals_of_a_dpc()
     ensures { IsWorked refusals_of_a_dpc_row.script 10000 refusals_of_a_dpc_row.history }
 {}
 
-/// The routines of levels 13 and 14 run at their levels, and a raise to 14 holds back the interrupt of 14.
+/// The routines of levels 13 and 14 run at their levels, and a raise to 14 holds back the interrupt
+/// of 14.
 pub fn clock_and_ipi_routines()
     ensures { IsWorked clock_and_ipi_routines_row.script 10000 clock_and_ipi_routines_row.history }
 {}
 
-/// A raise and a lower to the level that holds are done, regions are refused at DISPATCH_LEVEL, and of two interrupts the higher
-/// begins first.
+/// A raise and a lower to the level that holds are done, regions are refused at DISPATCH_LEVEL, and
+/// of two interrupts the higher begins first.
 pub fn held_levels()
     ensures { IsWorked held_levels_row.script 10000 held_levels_row.history }
 {}
@@ -164,7 +170,8 @@ pub fn depth_limit()
     ensures { IsWorked depth_limit_row.script 10000 depth_limit_row.history }
 {}
 
-/// An insert for another processor that is not idle asks for nothing, and runs when that processor has no thread.
+/// An insert for another processor that is not idle asks for nothing, and runs when that processor
+/// has no thread.
 pub fn busy_target()
     ensures { IsWorked busy_target_row.script 10000 busy_target_row.history }
 {}
@@ -189,25 +196,29 @@ pub fn threaded_off()
     ensures { IsWorked threaded_off_row.script 10000 threaded_off_row.history }
 {}
 
-/// A Rest that itself notices a threaded DPC, by the lane of its queue: the processor has more to do, and without those turns the
-/// history is unfinished.
+/// A Rest that itself notices a threaded DPC, by the lane of its queue: the processor has more to
+/// do, and without those turns the history is unfinished.
 pub fn rest_notices_a_lane()
-    ensures replayed { IsReplayed rest_notices_a_lane_row.script 10000 rest_notices_a_lane_row.schedule rest_notices_a_lane_row.history }
-    ensures unfinished { IsUnfinished rest_notices_a_lane_row.script 10000 rest_notices_a_lane_row.unfinished }
+    ensures replayed { IsReplayed rest_notices_a_lane_row.script 10000
+        rest_notices_a_lane_row.schedule rest_notices_a_lane_row.history }
+    ensures unfinished { IsUnfinished rest_notices_a_lane_row.script 10000
+        rest_notices_a_lane_row.unfinished }
 {}
 
-/// An insert goes to the target set last, else stays; MediumHigh and High always ask another processor, Low an idle one.
+/// An insert goes to the target set last, else stays; MediumHigh and High always ask another
+/// processor, Low an idle one.
 pub fn targets_and_importance()
     ensures { IsWorked targets_and_importance_row.script 10000 targets_and_importance_row.history }
 {}
 
-/// With a depth limit of 0 a first DPC of low importance asks; threaded DPCs that are switched off run at DISPATCH_LEVEL.
+/// With a depth limit of 0 a first DPC of low importance asks; threaded DPCs that are switched off
+/// run at DISPATCH_LEVEL.
 pub fn threaded_off_depth_0()
     ensures { IsWorked threaded_off_depth_0_row.script 10000 threaded_off_depth_0_row.history }
 {}
 
-/// A target that is set after an insert leaves the object where it stands; of timers that are due at one time the one set first
-/// expires first.
+/// A target that is set after an insert leaves the object where it stands; of timers that are due
+/// at one time the one set first expires first.
 pub fn target_after_insert()
     ensures { IsWorked target_after_insert_row.script 10000 target_after_insert_row.history }
 {}
@@ -222,12 +233,14 @@ pub fn deep_target()
     ensures { IsWorked deep_target_row.script 10000 deep_target_row.history }
 {}
 
-/// A processor that takes up a thread is idle no more, so an insert of low importance for it asks for nothing.
+/// A processor that takes up a thread is idle no more, so an insert of low importance for it asks
+/// for nothing.
 pub fn busy_again()
     ensures { IsWorked busy_again_row.script 10000 busy_again_row.history }
 {}
 
-/// An object whose importance is set back to medium goes to the back of the queue, as does one of medium-high importance.
+/// An object whose importance is set back to medium goes to the back of the queue, as does one of
+/// medium-high importance.
 pub fn medium_again()
     ensures { IsWorked medium_again_row.script 10000 medium_again_row.history }
 {}
@@ -269,7 +282,8 @@ pub fn normal_in_normal()
     ensures { IsWorked normal_in_normal_row.script 10000 normal_in_normal_row.history }
 {}
 
-/// A kernel APC for a thread that does not run, whose request was served meanwhile, is delivered once the thread is taken up.
+/// A kernel APC for a thread that does not run, whose request was served meanwhile, is delivered
+/// once the thread is taken up.
 pub fn switch_asks_again()
     ensures { IsWorked switch_asks_again_row.script 10000 switch_asks_again_row.history }
 {}
@@ -281,20 +295,24 @@ pub fn released_once()
 
 /// At a delay whose due time is reached already, a deliverable kernel APC is tested first.
 pub fn kernel_apc_before_satisfied()
-    ensures { IsMade kernel_apc_before_satisfied_row.script 10000 kernel_apc_before_satisfied_row.schedule kernel_apc_before_satisfied_row.history }
+    ensures { IsMade kernel_apc_before_satisfied_row.script 10000
+        kernel_apc_before_satisfied_row.schedule kernel_apc_before_satisfied_row.history }
 {}
 
-/// An APC of each kind is removed once while it waits, is not delivered then, and may be inserted again.
+/// An APC of each kind is removed once while it waits, is not delivered then, and may be inserted
+/// again.
 pub fn removed_apcs()
     ensures { IsWorked removed_apcs_row.script 10000 removed_apcs_row.history }
 {}
 
-/// A user APC ends an alertable wait of user mode, and the one that came after it is delivered at its end.
+/// A user APC ends an alertable wait of user mode, and the one that came after it is delivered at
+/// its end.
 pub fn user_apc_ends_a_wait()
     ensures { IsWorked user_apc_ends_a_wait_row.script 10000 user_apc_ends_a_wait_row.history }
 {}
 
-/// A wait takes the alert of its own mode; with the user-pending mark set, user APCs end plain waits and delays too.
+/// A wait takes the alert of its own mode; with the user-pending mark set, user APCs end plain
+/// waits and delays too.
 pub fn alerts_of_both_modes()
     ensures { IsWorked alerts_of_both_modes_row.script 10000 alerts_of_both_modes_row.history }
 {}
@@ -304,7 +322,8 @@ pub fn wait_released_before()
     ensures { IsWorked wait_released_before_row.script 10000 wait_released_before_row.history }
 {}
 
-/// A release ends any wait and a kernel alert one of user mode; an APC held back and an alert of a higher mode end none.
+/// A release ends any wait and a kernel alert one of user mode; an APC held back and an alert of a
+/// higher mode end none.
 pub fn release_ends_a_wait()
     ensures { IsWorked release_ends_a_wait_row.script 10000 release_ends_a_wait_row.history }
 {}
@@ -314,8 +333,8 @@ pub fn doors_and_gone()
     ensures { IsWorked doors_and_gone_row.script 10000 doors_and_gone_row.history }
 {}
 
-/// Only the last leave of a region asks for kernel APCs, and an APC gives up the region of its kernel routine before its normal
-/// one.
+/// Only the last leave of a region asks for kernel APCs, and an APC gives up the region of its
+/// kernel routine before its normal one.
 pub fn regions_given_up()
     ensures { IsWorked regions_given_up_row.script 10000 regions_given_up_row.history }
 {}
@@ -325,8 +344,8 @@ pub fn alert_of_a_gone_thread()
     ensures { IsWorked alert_of_a_gone_thread_row.script 10000 alert_of_a_gone_thread_row.history }
 {}
 
-/// An alert of its mode ends a wait before a user APC does, and that before a kernel alert; the user-pending mark ends no
-/// alertable wait.
+/// An alert of its mode ends a wait before a user APC does, and that before a kernel alert; the
+/// user-pending mark ends no alertable wait.
 pub fn order_of_tests()
     ensures { IsWorked order_of_tests_row.script 10000 order_of_tests_row.history }
 {}
@@ -338,42 +357,55 @@ pub fn marks_cleared()
 
 /// A user APC is not delivered on the way to user mode where the user-pending mark is clear.
 pub fn touser_without_the_mark()
-    ensures { IsWorked touser_without_the_mark_row.script 10000 touser_without_the_mark_row.history }
+    ensures { IsWorked touser_without_the_mark_row.script 10000
+        touser_without_the_mark_row.history }
 {}
 
 /// A special kernel APC interrupts a normal routine, and a normal one waits for its end.
 pub fn apcs_in_a_normal_routine()
-    ensures { IsWorked apcs_in_a_normal_routine_row.script 10000 apcs_in_a_normal_routine_row.history }
+    ensures { IsWorked apcs_in_a_normal_routine_row.script 10000
+        apcs_in_a_normal_routine_row.history }
 {}
 
-/// A kernel routine leaves one of its regions and gives up the other at its end; the special APC that it inserted comes right then.
+/// A kernel routine leaves one of its regions and gives up the other at its end; the special APC
+/// that it inserted comes right then.
 pub fn region_left_by_a_kernel_routine()
-    ensures { IsWorked region_left_by_a_kernel_routine_row.script 10000 region_left_by_a_kernel_routine_row.history }
+    ensures { IsWorked region_left_by_a_kernel_routine_row.script 10000
+        region_left_by_a_kernel_routine_row.history }
 {}
 
-/// A special kernel APC passes a normal one that was inserted before it and waits for the end of a normal routine.
+/// A special kernel APC passes a normal one that was inserted before it and waits for the end of a
+/// normal routine.
 pub fn special_in_a_normal_routine()
-    ensures { IsWorked special_in_a_normal_routine_row.script 10000 special_in_a_normal_routine_row.history }
+    ensures { IsWorked special_in_a_normal_routine_row.script 10000
+        special_in_a_normal_routine_row.history }
 {}
 
-/// A wait that is taken up after a kernel APC is interrupted by another one, and a release between satisfies it the next time.
+/// A wait that is taken up after a kernel APC is interrupted by another one, and a release between
+/// satisfies it the next time.
 pub fn wait_interrupted_again()
-    ensures { IsReplayed wait_interrupted_again_row.script 10000 wait_interrupted_again_row.schedule wait_interrupted_again_row.history }
+    ensures { IsReplayed wait_interrupted_again_row.script 10000 wait_interrupted_again_row.schedule
+        wait_interrupted_again_row.history }
 {}
 
-/// A kernel APC interrupts a wait before it blocks, though the thread was released; the wait is satisfied when it is taken up.
+/// A kernel APC interrupts a wait before it blocks, though the thread was released; the wait is
+/// satisfied when it is taken up.
 pub fn wait_interrupted_at_its_call()
-    ensures { IsReplayed wait_interrupted_at_its_call_row.script 10000 wait_interrupted_at_its_call_row.schedule wait_interrupted_at_its_call_row.history }
+    ensures { IsReplayed wait_interrupted_at_its_call_row.script 10000
+        wait_interrupted_at_its_call_row.schedule wait_interrupted_at_its_call_row.history }
 {}
 
 /// An alert of the thread by its own kernel APC ends the wait when it is taken up.
 pub fn wait_taken_up_and_alerted()
-    ensures { IsWorked wait_taken_up_and_alerted_row.script 10000 wait_taken_up_and_alerted_row.history }
+    ensures { IsWorked wait_taken_up_and_alerted_row.script 10000
+        wait_taken_up_and_alerted_row.history }
 {}
 
-/// A user APC that a kernel APC inserts ends the wait when it is taken up, and is flushed where no `touser` follows.
+/// A user APC that a kernel APC inserts ends the wait when it is taken up, and is flushed where no
+/// `touser` follows.
 pub fn wait_taken_up_for_a_user_apc()
-    ensures { IsWorked wait_taken_up_for_a_user_apc_row.script 10000 wait_taken_up_for_a_user_apc_row.history }
+    ensures { IsWorked wait_taken_up_for_a_user_apc_row.script 10000
+        wait_taken_up_for_a_user_apc_row.history }
 {}
 
 // ---- Threads that yield
@@ -400,19 +432,23 @@ pub fn delay()
     ensures { IsWorked delay_row.script 10000 delay_row.history }
 {}
 
-/// A user APC ends an alertable delay, a kernel APC interrupts one until its old due time, and a release ends none.
+/// A user APC ends an alertable delay, a kernel APC interrupts one until its old due time, and a
+/// release ends none.
 pub fn delay_of_user_mode()
     ensures { IsWorked delay_of_user_mode_row.script 10000 delay_of_user_mode_row.history }
 {}
 
-/// The expiry of a delay that was ended early ends no later wait, and a thread goes on at the level at which it blocked.
+/// The expiry of a delay that was ended early ends no later wait, and a thread goes on at the level
+/// at which it blocked.
 pub fn stale_delay()
     ensures { IsWorked stale_delay_row.script 10000 stale_delay_row.history }
 {}
 
-/// The DPC of a periodic timer is inserted for an idle processor, which runs it; the DPC cancels the timer, which was set anew.
+/// The DPC of a periodic timer is inserted for an idle processor, which runs it; the DPC cancels
+/// the timer, which was set anew.
 pub fn fire_to_another_processor()
-    ensures { IsWorked fire_to_another_processor_row.script 10000 fire_to_another_processor_row.history }
+    ensures { IsWorked fire_to_another_processor_row.script 10000
+        fire_to_another_processor_row.history }
 {}
 
 /// An alert ends a delay. The next alert sets its flag, and the expiry of that delay ends nothing.
@@ -420,9 +456,11 @@ pub fn alert_ends_a_delay()
     ensures { IsWorked alert_ends_a_delay_row.script 10000 alert_ends_a_delay_row.history }
 {}
 
-/// A delay ends in a guarded region, which the thread's end gives up; a rundown routine inserts its own APC again in vain.
+/// A delay ends in a guarded region, which the thread's end gives up; a rundown routine inserts its
+/// own APC again in vain.
 pub fn doors_closed_in_a_delay()
-    ensures { IsWorked doors_closed_in_a_delay_row.script 10000 doors_closed_in_a_delay_row.history }
+    ensures { IsWorked doors_closed_in_a_delay_row.script 10000
+        doors_closed_in_a_delay_row.history }
 {}
 
 // ---- Limits and turns
@@ -432,9 +470,8 @@ pub fn cut_at_the_limit()
     ensures { IsWorked cut_at_the_limit_row.script 3 cut_at_the_limit_row.history }
 {}
 
-/// A turn is refused of a processor that there is not or that rests, as is a look of what no event asked for and a switch to a
-/// thread
-/// that may not be taken.
+/// A turn is refused of a processor that there is not or that rests, as is a look of what no event
+/// asked for and a switch to a thread that may not be taken.
 pub fn refused_turns()
     ensures { refused_turns_row.AreRefused }
 {}
@@ -444,24 +481,29 @@ pub fn delay_over_at_rewait()
     ensures { IsWorked delay_over_at_rewait_row.script 10000 delay_over_at_rewait_row.history }
 {}
 
-/// An insert of an APC for a thread of another processor is noticed there by the lane of its threads.
+/// An insert of an APC for a thread of another processor is noticed there by the lane of its
+/// threads.
 pub fn apc_tells_a_lane()
-    ensures { IsMade apc_tells_a_lane_row.script 10000 apc_tells_a_lane_row.schedule apc_tells_a_lane_row.history }
+    ensures { IsMade apc_tells_a_lane_row.script 10000 apc_tells_a_lane_row.schedule
+        apc_tells_a_lane_row.history }
 {}
 
 /// A removal notices what the lane of the queue tells where the object stood.
 pub fn unqueue_tells_a_lane()
-    ensures { IsMade unqueue_tells_a_lane_row.script 10000 unqueue_tells_a_lane_row.schedule unqueue_tells_a_lane_row.history }
+    ensures { IsMade unqueue_tells_a_lane_row.script 10000 unqueue_tells_a_lane_row.schedule
+        unqueue_tells_a_lane_row.history }
 {}
 
 // ---- Spin locks
 
-/// A thread spins on a lock that a thread of another processor holds, notices its release by a look, and gets it.
+/// A thread spins on a lock that a thread of another processor holds, notices its release by a
+/// look, and gets it.
 pub fn spin_lock()
     ensures { IsWorked spin_lock_row.script 10000 spin_lock_row.history }
 {}
 
-/// Two threads that acquire two locks in different orders spin for good, and the history is settled.
+/// Two threads that acquire two locks in different orders spin for good, and the history is
+/// settled.
 pub fn spin_deadlock()
     ensures { IsWorked spin_deadlock_row.script 10000 spin_deadlock_row.history }
 {}
@@ -471,20 +513,24 @@ pub fn spin_refusals()
     ensures { IsWorked spin_refusals_row.script 10000 spin_refusals_row.history }
 {}
 
-/// Two threads spin on a lock. One gets it after its release; the other tries, spins again, and gets it after the next
-/// release.
+/// Two threads spin on a lock. One gets it after its release; the other tries, spins again, and
+/// gets it after the next release.
 pub fn lock_tried_again()
     ensures { IsWorked lock_tried_again_row.script 10000 lock_tried_again_row.history }
 {}
 
-/// A thread releases a lock and acquires it again before those that spin on it try again: each of them spins again.
+/// A thread releases a lock and acquires it again before those that spin on it try again: each of
+/// them spins again.
 pub fn lock_taken_before_the_spinner()
-    ensures { IsWorked lock_taken_before_the_spinner_row.script 10000 lock_taken_before_the_spinner_row.history }
+    ensures { IsWorked lock_taken_before_the_spinner_row.script 10000
+        lock_taken_before_the_spinner_row.history }
 {}
 
-/// An unlock goes back to the level of before the first try, though the last try was made at DISPATCH_LEVEL.
+/// An unlock goes back to the level of before the first try, though the last try was made at
+/// DISPATCH_LEVEL.
 pub fn lock_level_of_the_first_try()
-    ensures { IsWorked lock_level_of_the_first_try_row.script 10000 lock_level_of_the_first_try_row.history }
+    ensures { IsWorked lock_level_of_the_first_try_row.script 10000
+        lock_level_of_the_first_try_row.history }
 {}
 
 /// The locks of a DPC and of a thread are freed at their ends, the one acquired last first.
@@ -492,14 +538,17 @@ pub fn locks_freed_at_the_end()
     ensures { IsWorked locks_freed_at_the_end_row.script 10000 locks_freed_at_the_end_row.history }
 {}
 
-/// Two threads and a DPC, each of which waits for a lock of the next, spin for good, and the history is settled.
+/// Two threads and a DPC, each of which waits for a lock of the next, spin for good, and the
+/// history is settled.
 pub fn lock_cycle_of_three()
     ensures { IsWorked lock_cycle_of_three_row.script 10000 lock_cycle_of_three_row.history }
 {}
 
-/// An interrupt begins on a processor that spins. Its routine is refused the lock, and the thread tries again after it.
+/// An interrupt begins on a processor that spins. Its routine is refused the lock, and the thread
+/// tries again after it.
 pub fn interrupt_while_spinning()
-    ensures { IsWorked interrupt_while_spinning_row.script 10000 interrupt_while_spinning_row.history }
+    ensures { IsWorked interrupt_while_spinning_row.script 10000
+        interrupt_while_spinning_row.history }
 {}
 
 /// Kernel APCs of a thread that holds a lock wait for its unlock, and acquire locks themselves.
@@ -509,10 +558,12 @@ pub fn apcs_wait_for_a_lock()
 
 /// A timer is due where each processor spins: it does not expire, and the history is settled.
 pub fn timer_due_behind_spinners()
-    ensures { IsWorked timer_due_behind_spinners_row.script 10000 timer_due_behind_spinners_row.history }
+    ensures { IsWorked timer_due_behind_spinners_row.script 10000
+        timer_due_behind_spinners_row.history }
 {}
 
-/// A processor is cut while it holds a lock: the one that spins on it spins for good, and the history is settled.
+/// A processor is cut while it holds a lock: the one that spins on it spins for good, and the
+/// history is settled.
 pub fn cut_while_holding()
     ensures { IsWorked cut_while_holding_row.script 5 cut_while_holding_row.history }
 {}

@@ -21,7 +21,8 @@ use Rattle.nt_event.specs.Apcs.{deliverable, with_apc, without_apc}
 use Rattle.nt_runs.specs.Laws.{Says, level_of}
 use Rattle.nt_event.specs.Regions.{regions_of}
 use Rattle.nt_event.specs.Routines.{is_kernel_kind, owner_of}
-use Rattle.nt_event.specs.Threads.{ThreadFacts, doing_level, ended, ends_by_alert, ends_by_apc, ends_by_expiry, ends_by_kernel, ends_by_release, ends_by_user, is_alerted, is_gone, not_below, set_alerted, waiting_of, waits_as}
+use Rattle.nt_event.specs.Threads.{ThreadFacts, doing_level, ended, ends_by_alert, ends_by_apc, ends_by_expiry, ends_by_kernel, ends_by_release, ends_by_user}
+use Rattle.nt_event.specs.Threads.{is_alerted, is_gone, not_below, set_alerted, waiting_of, waits_as}
 use Rattle.nt_event.specs.Waits.{alert_facts, expiry_facts, insert_facts, named_facts, new_pick, release_facts}
 use Rattle.nt_event.specs.Replies.{alerted, is_answer, is_user, kernel_apc, satisfied, user_apc}
 use Rattle.nt_event.proofs.Options.{both}

@@ -2,7 +2,8 @@
 use Rattle.std.proofs.Common.{ap, arith, inl, inr, subst, sym, ◌∙◌}
 use Rattle.std.proofs.lemmas.Bool.{both_ways, ltb-false, ltb-true}
 use Rattle.std.specs.Option.{option_or}
-use Rattle.std.specs.Prelude.{Bool, IfSome, IsSome, IsTrue, List, None, Option, Some, [], false, find, if◌then◌else◌, is_none, is_some, length, nat_lt, not, option_and_then, refl, true, ℕ, ◌&&◌, ◌-◌, ◌<◌, ◌==◌, ◌∷◌, ◌≡◌, ◌≤◌}
+use Rattle.std.specs.Prelude.{Bool, IfSome, IsSome, IsTrue, List, None, Option, Some, [], false, find, if◌then◌else◌, is_none, is_some, length, nat_lt, not}
+use Rattle.std.specs.Prelude.{option_and_then, refl, true, ℕ, ◌&&◌, ◌-◌, ◌<◌, ◌==◌, ◌∷◌, ◌≡◌, ◌≤◌}
 use Rattle.nt_event.specs.declared.commands.ApcKind.TheVariants.{User as UserApc}
 use Rattle.nt_event.specs.declared.commands.Command.{Command}
 use Rattle.nt_event.specs.declared.commands.Command.TheVariants.{Delay, StartWait, TestAlert, ToUser, Yield}
@@ -17,7 +18,9 @@ use Rattle.nt_event.specs.declared.frames.Body.{Body}
 use Rattle.nt_event.specs.declared.frames.Body.TheVariants.{Apc as OnApc, Base as OnBase}
 use Rattle.nt_event.specs.Frame.{Frame}
 use Rattle.nt_event.specs.declared.jobs.Job.{Job}
-use Rattle.nt_event.specs.declared.jobs.Job.TheVariants.{Apcs as ApcsJob, Call as CallJob, Drain as DrainJob, Fire as FireJob, Free as FreeJob, Idle as IdleJob, Leave as LeaveJob, Pick as PickJob, Rewait as RewaitJob, Rundown as RundownJob, Switch as SwitchJob, Threaded as ThreadedJob, ToUser as ToUserJob, UserEnd as UserEndJob}
+use Rattle.nt_event.specs.declared.jobs.Job.TheVariants.{Apcs as ApcsJob, Call as CallJob, Drain as DrainJob, Fire as FireJob, Free as FreeJob, Idle as IdleJob}
+use Rattle.nt_event.specs.declared.jobs.Job.TheVariants.{Leave as LeaveJob, Pick as PickJob, Rewait as RewaitJob, Rundown as RundownJob, Switch as SwitchJob}
+use Rattle.nt_event.specs.declared.jobs.Job.TheVariants.{Threaded as ThreadedJob, ToUser as ToUserJob, UserEnd as UserEndJob}
 use Rattle.nt_event.specs.declared.jobs.Task.{Task}
 use Rattle.nt_event.specs.declared.jobs.Task.TheVariants.{Alone, Shared}
 use Rattle.nt_event.specs.declared.numbers.CpuNo.{CpuNo}
@@ -27,7 +30,9 @@ use Rattle.nt_event.specs.declared.threads.Doing.TheVariants.{Running as IsRunni
 use Rattle.nt_event.specs.Acting.{EndsThread, InThread, IsAllowed, IsCallable, IsDue, StandHolds, RunsThere, TakesUp}
 use Rattle.nt_event.specs.Commands.{needs_lane, not_above, refuse}
 use Rattle.nt_event.specs.Frames.{frames_of, innermost, is_base_body, is_on_thread, level_in, own_frames, running, thread_frames, thread_part}
-use Rattle.nt_event.specs.Jobs.{call_task, command_task, end_task, fire_task, frame_task, free_task, go_on_task, has_normal, idle_task, interrupt_task, level_at, may_apcs, may_drain, may_interrupt, may_threaded, must_task, normal_task, rewait_task, rundown_task, task, waits_for_lock}
+use Rattle.nt_event.specs.Jobs.{call_task, command_task, end_task, fire_task, frame_task, free_task, go_on_task, has_normal, idle_task, interrupt_task}
+use Rattle.nt_event.specs.Jobs.{level_at, may_apcs, may_drain, may_interrupt, may_threaded, must_task, normal_task, rewait_task, rundown_task, task}
+use Rattle.nt_event.specs.Jobs.{waits_for_lock}
 use Rattle.nt_event.specs.Classes.{interrupt_classes}
 use Rattle.nt_event.specs.Lanes.{facts_at, lanes_at}
 use Rattle.nt_runs.specs.Laws.{level_of}

@@ -22,7 +22,8 @@ use Rattle.nt_event.specs.declared.numbers.RoutineNo.{RoutineNo}
 use Rattle.nt_event.specs.declared.numbers.ThreadNo.{ThreadNo}
 use Rattle.nt_event.specs.declared.scripts.Script.{Script}
 use Rattle.nt_event.specs.Commands.{not_above, refusal, refuse}
-use Rattle.nt_event.specs.Frames.{again_after, at_name, called, due_of, end_on_thread, ended_base, flushed, frames_of, freed, innermost, is_base_body, normal_of, resumed, rewaited, running, switched_to, thread_after, thread_frames, thread_part, time}
+use Rattle.nt_event.specs.Frames.{again_after, at_name, called, due_of, end_on_thread, ended_base, flushed, frames_of, freed, innermost, is_base_body}
+use Rattle.nt_event.specs.Frames.{normal_of, resumed, rewaited, running, switched_to, thread_after, thread_frames, thread_part, time}
 use Rattle.nt_event.specs.Jobs.{level_at}
 use Rattle.nt_event.specs.Lanes.{Lanes, lanes_at}
 use Rattle.nt_runs.specs.Laws.{level_of}

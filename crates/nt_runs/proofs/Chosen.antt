@@ -2,7 +2,8 @@
 use Rattle.std.proofs.Common.{ap, sym, ◌∙◌}
 use Rattle.std.proofs.Math.Bool.{and-true}
 use Rattle.std.specs.Option.{option_map_or, option_or}
-use Rattle.std.specs.Prelude.{Bool, List, None, Ok, Option, Some, [], false, if◌then◌else◌, is_none, is_some, nat_lt, not, option_and_then, option_map, refl, true, ℕ, ◌&&◌, ◌∷◌, ◌≡◌}
+use Rattle.std.specs.Prelude.{Bool, List, None, Ok, Option, Some, [], false, if◌then◌else◌, is_none, is_some, nat_lt, not, option_and_then, option_map, refl}
+use Rattle.std.specs.Prelude.{true, ℕ, ◌&&◌, ◌∷◌, ◌≡◌}
 use Rattle.nt_event.specs.declared.events.Event.{Event}
 use Rattle.nt_event.specs.declared.events.ScheduleKind.{ScheduleKind}
 use Rattle.nt_event.specs.declared.events.ScheduleKind.TheVariants.{BadChoice, NothingToDo}
@@ -19,7 +20,8 @@ use Rattle.nt_event.specs.declared.numbers.CpuNo.{CpuNo}
 use Rattle.nt_event.specs.declared.numbers.ThreadNo.{ThreadNo}
 use Rattle.nt_event.specs.declared.scripts.Script.{Script}
 use Rattle.nt_event.specs.Frames.{frames_in, frames_of, innermost, running, thread_part}
-use Rattle.nt_event.specs.Jobs.{begin_first, chosen_what, frame_task, idle_event, idle_task, is_still, may_switch, may_take, must, must_task, next_ready, next_what, ready, switch_event, task, task_event}
+use Rattle.nt_event.specs.Jobs.{begin_first, chosen_what, frame_task, idle_event, idle_task, is_still, may_switch, may_take, must, must_task, next_ready}
+use Rattle.nt_event.specs.Jobs.{next_what, ready, switch_event, task, task_event}
 use Rattle.nt_event.specs.Lanes.{Lanes, lanes_at, queue_at}
 use Rattle.nt_event.specs.Own.{Own, own_of, rested, stand_in, took}
 use Rattle.nt_event.specs.Robin.{go_on_turn, switch_or_next}

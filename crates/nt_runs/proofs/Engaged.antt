@@ -21,7 +21,8 @@ use Rattle.nt_event.specs.Step.{IsLegal, IsRun}
 use Rattle.nt_runs.proofs.Known.{Known, legal_known}
 use Rattle.nt_event.specs.Lanes.{Lanes, lanes_at}
 use Rattle.nt_event.specs.Own.{Own, own_of}
-use Rattle.nt_event.specs.Frames.{at_name, base_of, called, due_of, end_on_thread, ended_base, flushed, frames_of, freed, innermost, is_base_body, level_in, normal_of, own_after, own_frames, rewaited, running, switched_to, thread_after, thread_frames, thread_part, time, without}
+use Rattle.nt_event.specs.Frames.{at_name, base_of, called, due_of, end_on_thread, ended_base, flushed, frames_of, freed, innermost, is_base_body, level_in}
+use Rattle.nt_event.specs.Frames.{normal_of, own_after, own_frames, rewaited, running, switched_to, thread_after, thread_frames, thread_part, time, without}
 use Rattle.nt_runs.proofs.Facts.{level_on_thread}
 use Rattle.nt_event.proofs.Options.{both}
 use Rattle.nt_runs.proofs.Leaving.{end_elsewhere}

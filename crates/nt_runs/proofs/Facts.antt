@@ -3,7 +3,8 @@ use Rattle.std.proofs.Common.{ap, subst, sym, ◌∙◌}
 use Rattle.std.proofs.lemmas.Bool.{eq-eqb}
 use Rattle.std.specs.List.{list_any}
 use Rattle.std.specs.Option.{option_map_or, option_or}
-use Rattle.std.specs.Prelude.{Bool, List, None, Option, Some, [], false, fold, if◌then◌else◌, is_some, length, refl, sum_by, true, ℕ, ◌&&◌, ◌+◌, ◌==◌, ◌||◌, ◌∷◌, ◌≡◌}
+use Rattle.std.specs.Prelude.{Bool, List, None, Option, Some, [], false, fold, if◌then◌else◌, is_some, length, refl, sum_by, true, ℕ, ◌&&◌, ◌+◌, ◌==◌, ◌||◌}
+use Rattle.std.specs.Prelude.{◌∷◌, ◌≡◌}
 use Rattle.nt_event.specs.declared.commands.ApcKind.{ApcKind}
 use Rattle.nt_event.specs.declared.commands.ApcKind.TheVariants.{User as UserApc}
 use Rattle.nt_event.specs.declared.commands.Command.{Command}
@@ -31,7 +32,8 @@ use Rattle.nt_event.specs.declared.threads.Doing.{Doing}
 use Rattle.nt_event.specs.declared.threads.Doing.TheVariants.{Blocked as IsBlocked, Running as IsRunning}
 use Rattle.nt_event.specs.Apcs.{has_user}
 use Rattle.nt_event.specs.Calls.{stops}
-use Rattle.nt_event.specs.Frames.{Frames, at_name, called, due_of, frames_of, is_normal_apc_body, level_in, own_frames, rewaited, running, running_after, thread_after, thread_frames, thread_part, time}
+use Rattle.nt_event.specs.Frames.{Frames, at_name, called, due_of, frames_of, is_normal_apc_body, level_in, own_frames, rewaited, running, running_after}
+use Rattle.nt_event.specs.Frames.{thread_after, thread_frames, thread_part, time}
 use Rattle.nt_event.specs.Jobs.{must}
 use Rattle.nt_event.specs.Lanes.{Lanes, lanes_at}
 use Rattle.nt_runs.specs.Laws.{Agrees, Says, level_of}
@@ -40,14 +42,16 @@ use Rattle.nt_event.specs.Regions.{regions_of, stand_at}
 use Rattle.nt_event.specs.Routines.{cpu_of, kind_of}
 use Rattle.nt_event.specs.Step.{IsLegal, IsRun, step, thread_field, turn_at}
 use Rattle.nt_event.specs.Threads.{ThreadFacts, is_alerted, set_alerted}
-use Rattle.nt_event.specs.Waits.{alert_taken, alert_tested, answered, apc_taken, facts, frame_ended, is_of_thread, made_facts, named_facts, waited, waited_again}
+use Rattle.nt_event.specs.Waits.{alert_taken, alert_tested, answered, apc_taken, facts, frame_ended, is_of_thread, made_facts, named_facts, waited}
+use Rattle.nt_event.specs.Waits.{waited_again}
 use Rattle.nt_event.specs.Replies.{alerted, is_answer, is_blocked, is_user, satisfied, user_apc}
 use Rattle.nt_event.specs.Lists.{head_of, is_null}
 use Rattle.nt_event.specs.Numbers.{is_by, is_of, is_thread}
 use Rattle.nt_runs.proofs.Agree.{Ends, named_ends, runs_as, says_ended, says_same}
 use Rattle.nt_runs.proofs.Chosen.{null_head, switch_parts}
 use Rattle.nt_runs.proofs.Known.{Known, again_known, legal_known}
-use Rattle.nt_runs.proofs.Running.{frames_when, is_switch, not_itself, part_of_running, running_here, running_own, same_cpu, same_thread, taken, thread_named, unnamed_by}
+use Rattle.nt_runs.proofs.Running.{frames_when, is_switch, not_itself, part_of_running, running_here, running_own, same_cpu, same_thread, taken, thread_named}
+use Rattle.nt_runs.proofs.Running.{unnamed_by}
 use Rattle.nt_runs.proofs.Steps.{Gives, switch_gives}
 use Rattle.nt_runs.proofs.Stops.{NoneAgain, blocked_call, is_wait, none_again, rewait_on_thread, yield_call}
 use Rattle.nt_runs.proofs.Turns.{is_next}

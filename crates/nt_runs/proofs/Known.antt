@@ -3,10 +3,12 @@ use Rattle.std.proofs.Common.{ap, arith, inl, inr, subst, sym, ◌∙◌}
 use Rattle.std.proofs.lemmas.Bool.{eq-eqb, ltb-true}
 use Rattle.std.specs.List.{list_any}
 use Rattle.std.specs.Option.{option_map_or, option_or}
-use Rattle.std.specs.Prelude.{Bool, List, None, Option, Some, [], cond, false, find, if◌then◌else◌, is_none, is_some, nat_lt, not, option_and_then, option_map, refl, true, ℕ, ◌&&◌, ◌-◌, ◌<◌, ◌==◌, ◌||◌, ◌∷◌, ◌≡◌, ◌⊎◌}
+use Rattle.std.specs.Prelude.{Bool, List, None, Option, Some, [], cond, false, find, if◌then◌else◌, is_none, is_some, nat_lt, not, option_and_then, option_map}
+use Rattle.std.specs.Prelude.{refl, true, ℕ, ◌&&◌, ◌-◌, ◌<◌, ◌==◌, ◌||◌, ◌∷◌, ◌≡◌, ◌⊎◌}
 use Rattle.nt_event.specs.declared.commands.ApcKind.TheVariants.{User as UserApc}
 use Rattle.nt_event.specs.declared.commands.Command.{Command}
-use Rattle.nt_event.specs.declared.commands.Command.TheVariants.{Acquire, Alert, CancelTimer, Delay, InsertApc, Lower, Queue, Raise, Release, RemoveApc, SetTimer, StartWait, TestAlert, ToUser, Unlock, Unqueue}
+use Rattle.nt_event.specs.declared.commands.Command.TheVariants.{Acquire, Alert, CancelTimer, Delay, InsertApc, Lower, Queue, Raise, Release, RemoveApc}
+use Rattle.nt_event.specs.declared.commands.Command.TheVariants.{SetTimer, StartWait, TestAlert, ToUser, Unlock, Unqueue}
 use Rattle.nt_event.specs.declared.commands.Refusal.{Refusal}
 use Rattle.nt_event.specs.declared.commands.Reply.{Reply}
 use Rattle.nt_event.specs.declared.commands.Reply.TheVariants.{Done, Refused}
@@ -26,7 +28,8 @@ use Rattle.nt_event.specs.declared.inserts.Insert.{Insert}
 use Rattle.nt_event.specs.declared.inserts.Part.{Part}
 use Rattle.nt_event.specs.declared.inserts.Part.TheVariants.{Ordinary as OrdinaryPart, Threaded as ThreadedPart}
 use Rattle.nt_event.specs.declared.inserts.Pick.{Pick}
-use Rattle.nt_event.specs.declared.jobs.Job.TheVariants.{Apcs as ApcsJob, Call as CallJob, Drain as DrainJob, Fire as FireJob, Free as FreeJob, Idle as IdleJob, Rewait as RewaitJob, Rundown as RundownJob, Threaded as ThreadedJob, ToUser as ToUserJob}
+use Rattle.nt_event.specs.declared.jobs.Job.TheVariants.{Apcs as ApcsJob, Call as CallJob, Drain as DrainJob, Fire as FireJob, Free as FreeJob, Idle as IdleJob}
+use Rattle.nt_event.specs.declared.jobs.Job.TheVariants.{Rewait as RewaitJob, Rundown as RundownJob, Threaded as ThreadedJob, ToUser as ToUserJob}
 use Rattle.nt_event.specs.declared.jobs.Stand.{Stand}
 use Rattle.nt_event.specs.declared.jobs.Task.{Task}
 use Rattle.nt_event.specs.declared.jobs.Task.TheVariants.{Alone, Shared}
@@ -38,7 +41,10 @@ use Rattle.nt_event.specs.declared.scripts.Script.{Script}
 use Rattle.nt_event.specs.Apcs.{deliverable, first_user}
 use Rattle.nt_event.specs.Commands.{needs_lane, refusal, reply}
 use Rattle.nt_event.specs.Frames.{innermost, thread_part}
-use Rattle.nt_event.specs.Jobs.{apcs_event, begin_apc, begin_dpc, begin_first, call_task, command_task, drain_event, end_task, expire_key, fire_task, frame_task, free_task, go_on_task, has_normal, idle_event, idle_task, interrupt_task, level_at, may_apcs, may_drain, may_interrupt, may_threaded, must_task, next_what, normal_task, ready, rewait_reply, rewait_task, rundown_event, rundown_task, task, task_event, threaded_event, user_due, waits_for_lock}
+use Rattle.nt_event.specs.Jobs.{apcs_event, begin_apc, begin_dpc, begin_first, call_task, command_task, drain_event, end_task, expire_key, fire_task}
+use Rattle.nt_event.specs.Jobs.{frame_task, free_task, go_on_task, has_normal, idle_event, idle_task, interrupt_task, level_at, may_apcs, may_drain}
+use Rattle.nt_event.specs.Jobs.{may_interrupt, may_threaded, must_task, next_what, normal_task, ready, rewait_reply, rewait_task, rundown_event, rundown_task}
+use Rattle.nt_event.specs.Jobs.{task, task_event, threaded_event, user_due, waits_for_lock}
 use Rattle.nt_event.specs.Classes.{interrupt_classes}
 use Rattle.nt_event.specs.Lanes.{Lanes, facts_at, facts_of, lanes_at, queue_at}
 use Rattle.nt_event.specs.Own.{Own, own_of, stand_in}

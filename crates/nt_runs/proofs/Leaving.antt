@@ -29,7 +29,8 @@ use Rattle.nt_event.specs.declared.numbers.RoutineNo.{RoutineNo}
 use Rattle.nt_event.specs.declared.numbers.ThreadNo.{ThreadNo}
 use Rattle.nt_event.specs.declared.scripts.Script.{Script}
 use Rattle.nt_event.specs.Apcs.{has_user, with_apc, without_apc}
-use Rattle.nt_event.specs.Frames.{at_name, called, due_of, end_on_thread, ended_on_thread, flushed, freed, is_base_body, new_frame, normal_of, resumed, rewaited, running, switched_to, thread_after, thread_frames, thread_part, time}
+use Rattle.nt_event.specs.Frames.{at_name, called, due_of, end_on_thread, ended_on_thread, flushed, freed, is_base_body, new_frame, normal_of, resumed}
+use Rattle.nt_event.specs.Frames.{rewaited, running, switched_to, thread_after, thread_frames, thread_part, time}
 use Rattle.nt_event.specs.Lanes.{Lanes, lanes_at}
 use Rattle.nt_runs.specs.Laws.{HasBase}
 use Rattle.nt_event.specs.Own.{Own, own_of, stand_in}
@@ -37,7 +38,8 @@ use Rattle.nt_event.specs.Regions.{stand_at}
 use Rattle.nt_event.specs.Routines.{cpu_of, is_kernel_kind, kind_of, owner_of, rundown_of}
 use Rattle.nt_event.specs.Step.{IsLegal, IsRun}
 use Rattle.nt_event.specs.Threads.{ThreadFacts, ended, ends_by_alert, ends_by_apc, ends_by_expiry, ends_by_release, is_alerted, is_gone, set_alerted}
-use Rattle.nt_event.specs.Waits.{alert_facts, alert_taken, alert_tested, answered, apc_taken, expiry_facts, facts, frame_ended, insert_facts, is_of_thread, made_facts, named_facts, new_pick, release_facts, waited, waited_again}
+use Rattle.nt_event.specs.Waits.{alert_facts, alert_taken, alert_tested, answered, apc_taken, expiry_facts, facts, frame_ended, insert_facts, is_of_thread}
+use Rattle.nt_event.specs.Waits.{made_facts, named_facts, new_pick, release_facts, waited, waited_again}
 use Rattle.nt_event.specs.Replies.{alerted, is_answer, is_user, kernel_apc, satisfied, user_apc}
 use Rattle.nt_event.specs.Lists.{head_of, is_null}
 use Rattle.nt_event.specs.Numbers.{is_by, is_of}
@@ -46,7 +48,8 @@ use Rattle.nt_runs.proofs.Facts.{facts_made, named_here}
 use Rattle.nt_runs.proofs.Known.{Known, KnownEnd, legal_known}
 use Rattle.nt_runs.proofs.Names.{Apart, Named, NotAmong, all_named}
 use Rattle.nt_runs.proofs.OwnPart.{AllOwn, all_own, is_own_body}
-use Rattle.nt_runs.proofs.Running.{Keeps, based, called_keeps, frames_when, freed_keeps, normal_keeps, part_of_running, resumed_keeps, rewaited_keeps, running_here, same_cpu}
+use Rattle.nt_runs.proofs.Running.{Keeps, based, called_keeps, frames_when, freed_keeps, normal_keeps, part_of_running, resumed_keeps, rewaited_keeps}
+use Rattle.nt_runs.proofs.Running.{running_here, same_cpu}
 use Rattle.nt_runs.proofs.Shared.{part_head}
 use Rattle.nt_runs.proofs.Turns.{is_next}
 use Rattle.nt_runs.proofs.Leaving.Facts.{facts_made_so, facts_named, is_end, tested_leaving}

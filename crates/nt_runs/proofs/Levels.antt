@@ -16,7 +16,8 @@ use Rattle.nt_event.specs.declared.numbers.CpuNo.{CpuNo}
 use Rattle.nt_event.specs.declared.numbers.RoutineNo.{RoutineNo}
 use Rattle.nt_event.specs.declared.numbers.ThreadNo.{ThreadNo}
 use Rattle.nt_event.specs.declared.scripts.Script.{Script}
-use Rattle.nt_event.specs.Frames.{Frames, at_name, called, due_of, flushed, frames_after, frames_in, frames_of, level_in, own_after, running_after, thread_if, thread_part, time}
+use Rattle.nt_event.specs.Frames.{Frames, at_name, called, due_of, flushed, frames_after, frames_in, frames_of, level_in, own_after, running_after, thread_if}
+use Rattle.nt_event.specs.Frames.{thread_part, time}
 use Rattle.nt_event.specs.Routines.{rundown_of}
 use Rattle.nt_event.specs.Step.{IsLegal, event_at, is_look, level_field, unleveled}
 use Rattle.nt_event.specs.Lists.{head_of, table, table_from}

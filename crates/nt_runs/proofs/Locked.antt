@@ -18,7 +18,8 @@ use Rattle.nt_event.specs.declared.numbers.CpuNo.{CpuNo}
 use Rattle.nt_event.specs.declared.numbers.LockNo.{LockNo}
 use Rattle.nt_event.specs.declared.scripts.Script.{Script}
 use Rattle.nt_event.specs.Commands.{holds, not_above}
-use Rattle.nt_event.specs.Frames.{base_level, base_of, called, effect, ended_base, freed, freed_level, held_moved, is_base_body, kept_in, level_moved, new_frame, normal_of, resumed, spin_moved}
+use Rattle.nt_event.specs.Frames.{base_level, base_of, called, effect, ended_base, freed, freed_level, held_moved, is_base_body, kept_in, level_moved}
+use Rattle.nt_event.specs.Frames.{new_frame, normal_of, resumed, spin_moved}
 use Rattle.nt_event.specs.Jobs.{has_normal, level_at}
 use Rattle.nt_event.specs.Lanes.{Lanes}
 use Rattle.nt_event.specs.Locks.{LockMove, NoMove, call_move}

@@ -1,7 +1,8 @@
 -- The lanes of locks and the frames agree: by induction over a run.
 use Rattle.std.proofs.Common.{ap, arith, inl, inr, subst, sym, ◌∙◌}
 use Rattle.std.proofs.lemmas.Bool.{eq-eqb, eqb-true}
-use Rattle.std.specs.Prelude.{Bool, List, None, Option, Some, [], false, get_or, if◌then◌else◌, length, nat_le, nat_lt, not, refl, true, ℕ, ◌<◌, ◌==◌, ◌||◌, ◌∷◌, ◌≡◌, ◌≤◌, ◌⊎◌}
+use Rattle.std.specs.Prelude.{Bool, List, None, Option, Some, [], false, get_or, if◌then◌else◌, length, nat_le, nat_lt, not, refl, true, ℕ, ◌<◌, ◌==◌, ◌||◌}
+use Rattle.std.specs.Prelude.{◌∷◌, ◌≡◌, ◌≤◌, ◌⊎◌}
 use Rattle.nt_event.specs.declared.commands.Command.{Command}
 use Rattle.nt_event.specs.declared.commands.Command.TheVariants.{Acquire, Unlock}
 use Rattle.nt_event.specs.declared.commands.Refusal.TheVariants.{NotLast, TooHigh}
@@ -22,7 +23,8 @@ use Rattle.nt_event.specs.Step.{IsLegal, IsRun, thread_field}
 use Rattle.nt_runs.proofs.Names.{NotAmong}
 use Rattle.nt_runs.proofs.Engaged.{Over, Parted, Under, elsewhere, known_of, own_named}
 use Rattle.nt_runs.proofs.SomeFrame.{any_clear, some_frame_same, named_in, or_only, own_next, part_named}
-use Rattle.nt_event.specs.Frames.{at_name, base_of, called, due_of, frames_of, freed, innermost, own_after, own_frames, running, running_after, thread_after, thread_frames, thread_part, time}
+use Rattle.nt_event.specs.Frames.{at_name, base_of, called, due_of, frames_of, freed, innermost, own_after, own_frames, running, running_after, thread_after}
+use Rattle.nt_event.specs.Frames.{thread_frames, thread_part, time}
 use Rattle.nt_event.specs.Lists.{head_of, is_null, tail_of}
 use Rattle.nt_event.specs.Numbers.{is_of}
 use Rattle.std.specs.List.{list_any}

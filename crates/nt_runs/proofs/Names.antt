@@ -16,7 +16,8 @@ use Rattle.nt_event.specs.declared.numbers.CpuNo.{CpuNo}
 use Rattle.nt_event.specs.declared.numbers.RoutineNo.{RoutineNo}
 use Rattle.nt_event.specs.declared.numbers.ThreadNo.{ThreadNo}
 use Rattle.nt_event.specs.declared.scripts.Script.{Script}
-use Rattle.nt_event.specs.Frames.{at_name, called, done_to, due_of, end_on_thread, ended_base, flushed, freed, is_base_body, new_frame, normal_of, own_after, own_frames, resumed, rewaited, thread_after, thread_frames, time, without}
+use Rattle.nt_event.specs.Frames.{at_name, called, done_to, due_of, end_on_thread, ended_base, flushed, freed, is_base_body, new_frame, normal_of, own_after}
+use Rattle.nt_event.specs.Frames.{own_frames, resumed, rewaited, thread_after, thread_frames, time, without}
 use Rattle.nt_event.specs.Routines.{kind_of, rundown_of}
 use Rattle.nt_event.specs.Numbers.{is_by, is_of}
 use Rattle.nt_runs.proofs.Running.{frames_when}

@@ -23,11 +23,13 @@ use Rattle.nt_event.specs.Step.{IsLegal, IsRun, step, thread_field, turn_at}
 use Rattle.nt_runs.proofs.Known.{Known, KnownCall, KnownRewait}
 use Rattle.nt_event.specs.Lanes.{Lanes, lanes_at}
 use Rattle.nt_event.specs.Locks.{LockMove, NoMove, call_move}
-use Rattle.nt_runs.proofs.Engaged.{Over, Parted, Under, begins_thread, interrupt_high, known_of, low_all, over_both, over_end, over_null, over_thread, own_locked, tail_after, thread_locked, threaded_low, under_after}
+use Rattle.nt_runs.proofs.Engaged.{Over, Parted, Under, begins_thread, interrupt_high, known_of, low_all, over_both, over_end, over_null, over_thread}
+use Rattle.nt_runs.proofs.Engaged.{own_locked, tail_after, thread_locked, threaded_low, under_after}
 use Rattle.nt_event.specs.Own.{Own, own_of}
 use Rattle.nt_event.specs.declared.events.Turn.TheVariants.{Switch as SwitchTurn}
 use Rattle.nt_runs.proofs.Names.{all_named}
-use Rattle.nt_event.specs.Frames.{at_name, called, due_of, frames_of, freed, held_moved, innermost, level_in, normal_of, own_after, own_frames, rewaited, running, running_after, spin_moved, thread_after, thread_frames, thread_part, time}
+use Rattle.nt_event.specs.Frames.{at_name, called, due_of, frames_of, freed, held_moved, innermost, level_in, normal_of, own_after, own_frames, rewaited}
+use Rattle.nt_event.specs.Frames.{running, running_after, spin_moved, thread_after, thread_frames, thread_part, time}
 use Rattle.nt_runs.proofs.UserApcs.{begin_low}
 use Rattle.nt_runs.proofs.Stops.{blocked_call, call_accepted, none_again, rewait_on_thread}
 use Rattle.std.proofs.lemmas.Bool.{both_ways}

@@ -20,7 +20,9 @@ use Rattle.nt_event.specs.declared.numbers.CpuNo.{CpuNo}
 use Rattle.nt_event.specs.declared.numbers.RoutineNo.{RoutineNo}
 use Rattle.nt_event.specs.declared.numbers.ThreadNo.{ThreadNo}
 use Rattle.nt_event.specs.declared.scripts.Script.{Script}
-use Rattle.nt_event.specs.Frames.{at_name, called, done_to, due_of, end_on_thread, ended_base, ended_on_thread, flushed, frames_in, frames_of, freed, is_base_body, new_frame, normal_of, resumed, rewaited, running, running_after, switched_to, thread_after, thread_frames, thread_if, thread_part, time}
+use Rattle.nt_event.specs.Frames.{at_name, called, done_to, due_of, end_on_thread, ended_base, ended_on_thread, flushed, frames_in, frames_of, freed}
+use Rattle.nt_event.specs.Frames.{is_base_body, new_frame, normal_of, resumed, rewaited, running, running_after, switched_to, thread_after, thread_frames}
+use Rattle.nt_event.specs.Frames.{thread_if, thread_part, time}
 use Rattle.nt_runs.specs.Laws.{HasBase, IsInner}
 use Rattle.nt_event.specs.Routines.{cpu_of, kind_of, rundown_of}
 use Rattle.nt_event.specs.Script.{has_thread}

@@ -1,7 +1,8 @@
 -- The lanes of locks and the frames agree: in a run a processor's frames hold a lock, or spin on it, exactly where its lane says so.
 use Rattle.std.proofs.Common.{ap, arith, subst, sym, ◌∙◌}
 use Rattle.std.proofs.lemmas.Bool.{both_ways, eqb-true}
-use Rattle.std.specs.Prelude.{Bool, List, None, Option, Some, [], false, if◌then◌else◌, is_none, is_some, length, nat_le, nat_lt, refl, true, ℕ, ◌==◌, ◌||◌, ◌∷◌, ◌≡◌, ◌≤◌}
+use Rattle.std.specs.Prelude.{Bool, List, None, Option, Some, [], false, if◌then◌else◌, is_none, is_some, length, nat_le, nat_lt, refl, true, ℕ, ◌==◌, ◌||◌}
+use Rattle.std.specs.Prelude.{◌∷◌, ◌≡◌, ◌≤◌}
 use Rattle.nt_event.specs.declared.commands.Command.{Command}
 use Rattle.nt_event.specs.declared.commands.Command.TheVariants.{Acquire}
 use Rattle.nt_event.specs.declared.commands.Reply.{Reply}
@@ -27,7 +28,9 @@ use Rattle.nt_event.specs.Own.{Own, own_of, stand_in}
 use Rattle.nt_runs.proofs.Engaged.{Parted, known_of, low_all, without_each}
 use Rattle.nt_event.specs.declared.commands.Refusal.{Refusal}
 use Rattle.nt_event.specs.declared.numbers.RoutineNo.{RoutineNo}
-use Rattle.nt_event.specs.Frames.{at_name, called, due_of, end_on_thread, ended_base, flushed, frames_of, held_moved, innermost, is_base_body, level_in, normal_of, own_after, own_frames, resumed, rewaited, running, running_after, spin_moved, switched_to, thread_after, thread_frames, thread_if, thread_part, time, without}
+use Rattle.nt_event.specs.Frames.{at_name, called, due_of, end_on_thread, ended_base, flushed, frames_of, held_moved, innermost, is_base_body, level_in}
+use Rattle.nt_event.specs.Frames.{normal_of, own_after, own_frames, resumed, rewaited, running, running_after, spin_moved, switched_to, thread_after}
+use Rattle.nt_event.specs.Frames.{thread_frames, thread_if, thread_part, time, without}
 use Rattle.nt_runs.proofs.Parts.{begins_low, called_clear, clear_named, halts_low, inner_locked, leaving_low_level, named_by_it, rewait_low, switched}
 use Rattle.nt_runs.proofs.Declared.{each}
 use Rattle.nt_runs.proofs.Running.{frames_when, part_of_running, running_here, running_own}

@@ -17,7 +17,9 @@ use Rattle.nt_event.specs.declared.numbers.RoutineNo.{RoutineNo}
 use Rattle.nt_event.specs.declared.numbers.ThreadNo.{ThreadNo}
 use Rattle.nt_event.specs.declared.scripts.Script.{Script}
 use Rattle.nt_event.specs.Commands.{not_above, refuse}
-use Rattle.nt_event.specs.Frames.{Frames, at_name, called, due_of, end_on_thread, ended_base, flushed, frames_of, freed, is_base_body, is_on_thread, is_user_apc_body, new_frame, normal_of, resumed, rewaited, running, switched_to, thread_after, thread_frames, thread_part, time}
+use Rattle.nt_event.specs.Frames.{Frames, at_name, called, due_of, end_on_thread, ended_base, flushed, frames_of, freed, is_base_body, is_on_thread}
+use Rattle.nt_event.specs.Frames.{is_user_apc_body, new_frame, normal_of, resumed, rewaited, running, switched_to, thread_after, thread_frames, thread_part}
+use Rattle.nt_event.specs.Frames.{time}
 use Rattle.nt_event.specs.Jobs.{level_at, may_apcs}
 use Rattle.nt_event.specs.Lanes.{Lanes, lanes_at}
 use Rattle.nt_runs.specs.Laws.{level_of}
@@ -30,7 +32,8 @@ use Rattle.nt_event.specs.Lists.{is_null}
 use Rattle.nt_runs.proofs.Facts.{level_on_thread}
 use Rattle.nt_runs.proofs.Known.{Known, KnownBegin, KnownToUser, legal_known}
 use Rattle.nt_event.proofs.Options.{both}
-use Rattle.nt_runs.proofs.Running.{Keeps, called_keeps, frames_when, freed_keeps, normal_keeps, part_of_running, resumed_keeps, rewaited_keeps, running_here, same_cpu, same_thread, thread_named}
+use Rattle.nt_runs.proofs.Running.{Keeps, called_keeps, frames_when, freed_keeps, normal_keeps, part_of_running, resumed_keeps, rewaited_keeps, running_here}
+use Rattle.nt_runs.proofs.Running.{same_cpu, same_thread, thread_named}
 use Rattle.nt_runs.proofs.Stops.{null_of, refuse_none}
 use Rattle.nt_runs.proofs.Turns.{is_next}
 

@@ -1,6 +1,7 @@
 -- Laws over the definitions, each the contract of a function in src/lib.rt.
 use Rattle.std.specs.Option.{option_map_or}
-use Rattle.std.specs.Prelude.{List, None, Ok, Some, [], false, if◌then◌else◌, is_some, length, nat_lt, not, true, ℕ, ◌↔◌, ◌∷◌, ◌≡◌, ◌≤◌}
+use Rattle.std.specs.Prelude.{List, None, Ok, Some, [], false, if◌then◌else◌, is_some, length, nat_lt, not, true, ℕ}
+use Rattle.std.specs.Prelude.{◌↔◌, ◌∷◌, ◌≡◌, ◌≤◌}
 use Rattle.nt_event.specs.declared.events.Event.{Event}
 use Rattle.nt_event.specs.declared.events.Turn.{Turn}
 use Rattle.nt_event.specs.declared.events.What.{What}
@@ -10,7 +11,8 @@ use Rattle.nt_event.specs.declared.numbers.CpuNo.{CpuNo}
 use Rattle.nt_event.specs.declared.numbers.ThreadNo.{ThreadNo}
 use Rattle.nt_event.specs.declared.scripts.Script.{Script}
 use Rattle.nt_event.specs.declared.threads.Doing.{Doing}
-use Rattle.nt_event.specs.declared.threads.Doing.TheVariants.{Blocked as IsBlocked, Gone as IsGone, Ready as IsReady, Running as IsRunning}
+use Rattle.nt_event.specs.declared.threads.Doing.TheVariants.{Blocked as IsBlocked, Gone as IsGone, Ready as IsReady}
+use Rattle.nt_event.specs.declared.threads.Doing.TheVariants.{Running as IsRunning}
 use Rattle.nt_event.specs.Frames.{due_of, frames_of, is_base_body, level_in, running, thread_frames, thread_part, time}
 use Rattle.nt_event.specs.Jobs.{chosen_what, is_still, job_event}
 use Rattle.nt_event.specs.Lanes.{lanes_after, lanes_at}

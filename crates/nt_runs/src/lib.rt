@@ -1,17 +1,24 @@
-//! What holds in every run of the machine, and what the laws above stand on. Each function's contract is a law; the functions do nothing.
+//! What holds in every run of the machine, and what the laws above stand on. Each function's
+//! contract is a law; the functions do nothing.
 //!
-//! The definitions stand in nt_event; a run is a history each of whose events is the one that its turn gives.
+//! The definitions stand in nt_event; a run is a history each of whose events is the one that its
+//! turn gives.
 #![tactic(auto)]
 
-ghost use Rattle.nt_runs.specs.Laws.{OwnMoves, LanesMove, TurnsDecide, RunGrows, LevelsHold, RunningHasBase, RobinIsAccepted, SeenWasAsked, RobinEndsSettled, ChosenIsItsTurn, ChosenComes, FactsAgree, EventsAgree, ProcessorsStand, JobsAllowed};
+ghost use Rattle.nt_runs.specs.Laws.{OwnMoves, LanesMove, TurnsDecide, RunGrows, LevelsHold};
+ghost use Rattle.nt_runs.specs.Laws.{RunningHasBase, RobinIsAccepted, SeenWasAsked};
+ghost use Rattle.nt_runs.specs.Laws.{RobinEndsSettled, ChosenIsItsTurn, ChosenComes, FactsAgree};
+ghost use Rattle.nt_runs.specs.Laws.{EventsAgree, ProcessorsStand, JobsAllowed};
 
-/// What a processor keeps moves as the history does: an event of its own changes it as the definitions of the step say, by the
-/// event's number, its due time, its asks and what its lanes tell; an event of another processor leaves it.
+/// What a processor keeps moves as the history does: an event of its own changes it as the
+/// definitions of the step say, by the event's number, its due time, its asks and what its lanes
+/// tell; an event of another processor leaves it.
 pub fn own_moves()
     ensures { OwnMoves }
 {}
 
-/// The states of the lanes move as the history does, by the event's number and where its processor stood.
+/// The states of the lanes move as the history does, by the event's number and where its processor
+/// stood.
 pub fn lanes_move()
     ensures { LanesMove }
 {}
@@ -31,7 +38,8 @@ pub fn levels_hold()
     ensures { LevelsHold }
 {}
 
-/// In a run the thread that runs on a processor is one of its own, and its frames are its base frame and those begun on it.
+/// In a run the thread that runs on a processor is one of its own, and its frames are its base
+/// frame and those begun on it.
 pub fn running_has_base()
     ensures { RunningHasBase }
 {}
@@ -51,29 +59,33 @@ pub fn robin_ends_settled()
     ensures { RobinEndsSettled }
 {}
 
-/// In a run, what an uncut processor that picks its threads itself does is what the robin rule's turn of it gives, but for looks.
+/// In a run, what an uncut processor that picks its threads itself does is what the robin rule's
+/// turn of it gives, but for looks.
 pub fn chosen_is_its_turn()
     ensures { ChosenIsItsTurn }
 {}
 
-/// In a run, a processor that picks its threads itself has something to do exactly where it neither rests nor spins still.
+/// In a run, a processor that picks its threads itself has something to do exactly where it neither
+/// rests nor spins still.
 pub fn chosen_comes()
     ensures { ChosenComes }
 {}
 
-/// In a run the facts of each thread agree with its frames: it runs where its facts say so, one that does not run has the level
-/// and, blocked, the regions with which it stopped, and one that is gone has no frame.
+/// In a run the facts of each thread agree with its frames: it runs where its facts say so, one
+/// that does not run has the level and, blocked, the regions with which it stopped, and one that is
+/// gone has no frame.
 pub fn facts_agree()
     ensures { FactsAgree }
 {}
 
-/// In a run the event of a job that is due is told by where its processor stands and the states of the lanes alone: its thread and
-/// its level too.
+/// In a run the event of a job that is due is told by where its processor stands and the states of
+/// the lanes alone: its thread and its level too.
 pub fn events_agree()
     ensures { EventsAgree }
 {}
 
-/// In a run a processor stands as its lanes say: the thread that runs on it is one of its own, and its facts say that it runs.
+/// In a run a processor stands as its lanes say: the thread that runs on it is one of its own, and
+/// its facts say that it runs.
 pub fn processors_stand()
     ensures { ProcessorsStand }
 {}

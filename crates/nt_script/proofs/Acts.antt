@@ -23,16 +23,19 @@ use Rattle.nt_line.specs.Results.{ok_if}
 use Rattle.nt_line.specs.Fields.{read_number, read_on_off, new_name}
 use Rattle.nt_line.specs.Commands.{command_of}
 use Rattle.nt_line.specs.Declarations.{isr_of, dpc_of, timer_of, thread_of, apc_of}
-use Rattle.nt_script.specs.Reading.{put_cpus, with_version, with_cpus, with_depth, with_threaded, with_isr, with_dpc, with_timer, with_thread, with_apc, with_lock, with_routine, with_exit, with_command, act, step}
+use Rattle.nt_script.specs.Reading.{put_cpus, with_version, with_cpus, with_depth, with_threaded, with_isr, with_dpc, with_timer, with_thread, with_apc}
+use Rattle.nt_script.specs.Reading.{with_lock, with_routine, with_exit, with_command, act, step}
 use Rattle.nt_text.specs.Lines.{Row}
 use Rattle.nt_line.specs.Rows.{isr_args, dpc_args, timer_args, thread_args, apc_args, command_args}
 use Rattle.nt_line.proofs.Results.{bind_ok, ok_if_ok}
 use Rattle.nt_line.proofs.FieldTexts.{number_takes, on_off_takes}
 use Rattle.nt_line.proofs.UsedNames.{AreFew, new_name_takes}
-use Rattle.nt_line.proofs.Spelled.{apc_fields, command_keyword, isr_keyword, dpc_keyword, timer_keyword, thread_keyword, apc_keyword, command_takes, isr_takes, dpc_line_takes, timer_line_takes, thread_line_takes, apc_line_takes}
+use Rattle.nt_line.proofs.Spelled.{apc_fields, command_keyword, isr_keyword, dpc_keyword, timer_keyword, thread_keyword, apc_keyword, command_takes, isr_takes}
+use Rattle.nt_line.proofs.Spelled.{dpc_line_takes, timer_line_takes, thread_line_takes, apc_line_takes}
 use Rattle.nt_script.proofs.SoFar.{so_far}
 use Rattle.nt_script.proofs.Taken.{At, declared_ok, args_parts, one_field, field_and, step_ok}
-use Rattle.nt_script.proofs.Steps.{Good, put_cpus_ok, version_taken, cpus_taken, depth_taken, threaded_taken, isr_taken, dpc_taken, timer_taken, thread_taken, apc_taken, lock_taken, routine_taken, exit_taken, command_taken}
+use Rattle.nt_script.proofs.Steps.{Good, put_cpus_ok, version_taken, cpus_taken, depth_taken, threaded_taken, isr_taken, dpc_taken, timer_taken, thread_taken}
+use Rattle.nt_script.proofs.Steps.{apc_taken, lock_taken, routine_taken, exit_taken, command_taken}
 
 abbrev pub ok : {A : Type 0} → A → Result A ScriptKind
 ok x = Ok x

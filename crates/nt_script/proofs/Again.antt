@@ -1,5 +1,6 @@
 -- The text of an input is read as the input: one line after the other.
-use Rattle.std.proofs.Common.{◌≡◌, ℕ, suc, ◌+◌, ◌<◌, ◌≤◌, Bool, true, List, [], ◌∷◌, ◌++◌, length, map, None, Result, Ok, refl, sym, ◌∙◌, ap, subst, append_assoc, add-zero, arith, lit<, lit≤}
+use Rattle.std.proofs.Common.{◌≡◌, ℕ, suc, ◌+◌, ◌<◌, ◌≤◌, Bool, true, List, [], ◌∷◌, ◌++◌, length, map, None, Result, Ok, refl, sym, ◌∙◌, ap, subst}
+use Rattle.std.proofs.Common.{append_assoc, add-zero, arith, lit<, lit≤}
 use Rattle.std.specs.Prelude.{decimal, is_none, nat_lt, ◌==◌}
 use Rattle.std.specs.List.{AllByRecursion, sum_by}
 use Rattle.std.proofs.lemmas.Bool.{lt-ltb, le-ltb, ne_eqb}
@@ -29,10 +30,12 @@ use Rattle.nt_line.specs.Keywords.{text_of, arity, since}
 use Rattle.nt_line.specs.Results.{◌>>=◌, ok_if}
 use Rattle.nt_line.specs.Fields.{new_name, on_off_text}
 use Rattle.nt_line.specs.Declarations.{dpc_of, timer_of, thread_of, apc_of}
-use Rattle.nt_script.specs.Reading.{declaration, counted, step, act, with_version, with_cpus, with_depth, with_threaded, with_isr, with_dpc, with_timer, with_thread, with_apc, with_lock, with_routine, with_exit, with_command}
+use Rattle.nt_script.specs.Reading.{declaration, counted, step, act, with_version, with_cpus, with_depth, with_threaded, with_isr, with_dpc, with_timer}
+use Rattle.nt_script.specs.Reading.{with_thread, with_apc, with_lock, with_routine, with_exit, with_command}
 use Rattle.nt_line.specs.Fits.{IsrFits, DpcFits, TimerFits, ThreadFits, ApcFits, CommandFits}
 use Rattle.nt_text.specs.Lines.{Row}
-use Rattle.nt_line.specs.Rows.{number_row, isr_args, isr_row, dpc_args, dpc_row, timer_args, timer_row, thread_args, thread_row, apc_args, apc_row, lock_row, command_args, command_row}
+use Rattle.nt_line.specs.Rows.{number_row, isr_args, isr_row, dpc_args, dpc_row, timer_args, timer_row, thread_args, thread_row, apc_args, apc_row, lock_row}
+use Rattle.nt_line.specs.Rows.{command_args, command_row}
 use Rattle.nt_script.specs.Text.{declared_rows, begun_rows, exit_row, routine_rows}
 use Rattle.nt_line.specs.NameLists.{AreNew}
 use Rattle.nt_line.proofs.FieldTexts.{number_again, on_off_again}

@@ -1,5 +1,6 @@
 -- The text of an input is read as the input: all parts together.
-use Rattle.std.proofs.Common.{◌≡◌, ℕ, zero, suc, ◌+◌, ◌≤◌, Bool, cond, List, [], ◌∷◌, ◌++◌, length, map, Option, Some, None, Result, Ok, refl, sym, ◌∙◌, ap, subst, arith, lit≤}
+use Rattle.std.proofs.Common.{◌≡◌, ℕ, zero, suc, ◌+◌, ◌≤◌, Bool, cond, List, [], ◌∷◌, ◌++◌, length, map, Option, Some, None, Result, Ok, refl, sym, ◌∙◌, ap}
+use Rattle.std.proofs.Common.{subst, arith, lit≤}
 use Rattle.std.specs.Prelude.{IfSome}
 use Rattle.std.specs.Str.{bytes_eq}
 use Rattle.nt_line.specs.Keywords.{text_of}
@@ -10,7 +11,8 @@ use Rattle.nt_text.specs.Lines.{AllRows, line_of, lines, fields, first}
 use Rattle.nt_text.proofs.Rows.{fields_again, row_again, lines_again}
 use Rattle.nt_event.specs.declared.scripts.Script.{Script}
 use Rattle.nt_line.specs.declared.keywords.Place.{Place}
-use Rattle.nt_line.specs.declared.keywords.Place.TheVariants.{Start, HasVersion, HasCpus, HasDepth, HasThreaded, InIsrs, InDpcs, InTimers, InThreads, InApcs, InLocks, InRoutines, InRoutine}
+use Rattle.nt_line.specs.declared.keywords.Place.TheVariants.{Start, HasVersion, HasCpus, HasDepth, HasThreaded, InIsrs, InDpcs, InTimers, InThreads, InApcs}
+use Rattle.nt_line.specs.declared.keywords.Place.TheVariants.{InLocks, InRoutines, InRoutine}
 use Rattle.nt_script.specs.declared.walk.Walk.{Walk}
 use Rattle.nt_script.specs.declared.walk.Input.{Input}
 use Rattle.nt_line.specs.NameLists.{NameLists, no_names}
@@ -28,7 +30,8 @@ use Rattle.nt_script.proofs.Whole.{made, step_named, good_start, few_none}
 use Rattle.nt_line.proofs.Found.{are_read}
 use Rattle.nt_line.proofs.Words.{lock_since}
 use Rattle.nt_script.proofs.Clean.{input_clean}
-use Rattle.nt_script.proofs.Again.{Steps, steps_then, place_after, Ran, version_step, cpus_step, depth_step, threaded_step, after_isrs, isrs_run, after_dpcs, dpcs_run, after_timers, timers_run, after_threads, threads_run, after_apcs, apcs_run, after_locks, locks_run, routines_run}
+use Rattle.nt_script.proofs.Again.{Steps, steps_then, place_after, Ran, version_step, cpus_step, depth_step, threaded_step, after_isrs, isrs_run, after_dpcs}
+use Rattle.nt_script.proofs.Again.{dpcs_run, after_timers, timers_run, after_threads, threads_run, after_apcs, apcs_run, after_locks, locks_run, routines_run}
 
 abbrev done : Input → Result Input (ℕ × ScriptKind)
 done input = Ok input

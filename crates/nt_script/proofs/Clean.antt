@@ -1,5 +1,6 @@
 -- The rows of an input are rows of fields.
-use Rattle.std.proofs.Common.{◌≡◌, ℕ, ◌<◌, ◌≤◌, Bool, true, false, cond, List, [], ◌∷◌, ◌++◌, length, map, get_or, Option, Some, None, refl, arith, inl, inr, lit≤}
+use Rattle.std.proofs.Common.{◌≡◌, ℕ, ◌<◌, ◌≤◌, Bool, true, false, cond, List, [], ◌∷◌, ◌++◌, length, map, get_or, Option, Some, None, refl, arith, inl, inr}
+use Rattle.std.proofs.Common.{lit≤}
 use Rattle.std.specs.Prelude.{◌&&◌, ◌||◌, not, ◌==◌, nat_le, IfSome}
 use Rattle.std.specs.Char.{is_ascii_digit, is_ascii_lowercase}
 use Rattle.std.specs.List.{AllByRecursion, list_all}
@@ -28,7 +29,8 @@ use Rattle.nt_line.specs.NameLists.{NameLists, show_dpc, show_routine}
 use Rattle.nt_line.specs.Fields.{dash, importance_text, mode_text, alertable_text, on_off_text}
 use Rattle.nt_line.specs.Fits.{IsrFits, DpcFits, TimerFits, ThreadFits, ApcFits, CommandFits}
 use Rattle.nt_text.specs.Lines.{Row}
-use Rattle.nt_line.specs.Rows.{show_cpu, show_unless, show_target, depth_rows, threaded_rows, isr_row, dpc_row, timer_row, thread_row, normal_args, rundown_args, apc_row, lock_row, number_row, command_row}
+use Rattle.nt_line.specs.Rows.{show_cpu, show_unless, show_target, depth_rows, threaded_rows, isr_row, dpc_row, timer_row, thread_row, normal_args}
+use Rattle.nt_line.specs.Rows.{rundown_args, apc_row, lock_row, number_row, command_row}
 use Rattle.nt_script.specs.Text.{version_rows, header_rows, declared_rows, begun_rows, exit_row, routine_rows, input_rows}
 use Rattle.nt_line.specs.NameLists.{AreNew}
 use Rattle.nt_line.specs.declared.keywords.Keyword.TheVariants as keyword

@@ -1,5 +1,6 @@
 -- What is read fits.
-use Rattle.std.proofs.Common.{◌≡◌, ℕ, zero, suc, ◌+◌, ◌≤◌, Bool, true, false, cond, List, [], ◌∷◌, ◌++◌, length, Option, Some, None, Result, Ok, Err, refl, sym, ◌∙◌, ap, subst, append_assoc, arith, lit<}
+use Rattle.std.proofs.Common.{◌≡◌, ℕ, zero, suc, ◌+◌, ◌≤◌, Bool, true, false, cond, List, [], ◌∷◌, ◌++◌, length, Option, Some, None, Result, Ok, Err, refl, sym}
+use Rattle.std.proofs.Common.{◌∙◌, ap, subst, append_assoc, arith, lit<}
 use Rattle.std.specs.Prelude.{nat_lt, ◌==◌, is_some, is_none, option_map, IfSome}
 use Rattle.std.specs.Str.{bytes_eq}
 use Rattle.std.specs.List.{AllByRecursion, sum_by, position_from}
@@ -31,7 +32,8 @@ use Rattle.nt_line.specs.Results.{ok_if}
 use Rattle.nt_line.specs.Fields.{read_number, read_on_off, new_name}
 use Rattle.nt_line.specs.Commands.{command_of}
 use Rattle.nt_line.specs.Declarations.{isr_of, dpc_of, timer_of, thread_of, apc_of}
-use Rattle.nt_script.specs.Reading.{put_cpus, with_version, with_cpus, with_depth, with_threaded, with_isr, with_dpc, with_timer, with_thread, with_apc, with_lock, with_routine, with_exit, with_command, act, start, finish, walk, names_from, reading}
+use Rattle.nt_script.specs.Reading.{put_cpus, with_version, with_cpus, with_depth, with_threaded, with_isr, with_dpc, with_timer, with_thread, with_apc}
+use Rattle.nt_script.specs.Reading.{with_lock, with_routine, with_exit, with_command, act, start, finish, walk, names_from, reading}
 use Rattle.nt_line.specs.Fits.{IsrFits, DpcFits, TimerFits, ThreadFits, ApcFits, CommandFits}
 use Rattle.nt_line.specs.NameLists.{AreNew}
 use Rattle.nt_line.proofs.Results.{bind_ok, ok_if_ok}

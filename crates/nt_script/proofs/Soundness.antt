@@ -13,7 +13,8 @@ use Rattle.nt_event.specs.declared.scripts.Isr.{Isr}
 use Rattle.nt_event.specs.declared.scripts.TimerDecl.{TimerDecl}
 use Rattle.nt_event.specs.declared.scripts.ThreadDecl.{ThreadDecl}
 use Rattle.nt_event.specs.declared.scripts.ApcDecl.{ApcDecl}
-use Rattle.nt_event.specs.Script.{has_cpu, has_thread, has_dpc, has_routine, where_given, command_count, meets_limits, isr_fits, isrs_differ, dpc_fits, timer_fits, thread_fits, apc_has_its_routines, apc_fits, command_fits, routine_fits}
+use Rattle.nt_event.specs.Script.{has_cpu, has_thread, has_dpc, has_routine, where_given, command_count, meets_limits, isr_fits, isrs_differ, dpc_fits}
+use Rattle.nt_event.specs.Script.{timer_fits, thread_fits, apc_has_its_routines, apc_fits, command_fits, routine_fits}
 use Rattle.nt_event.specs.Classes.{is_requested_level, is_isr_level}
 use Rattle.nt_script.specs.declared.walk.Input.{Input}
 use Rattle.nt_line.specs.NameLists.{NameLists}

@@ -1,5 +1,6 @@
 -- What holds of what was read, and what a line adds to it.
-use Rattle.std.proofs.Common.{◌≡◌, ℕ, suc, ◌≤◌, Bool, true, false, cond, List, [], ◌∷◌, ◌++◌, length, Option, None, Ok, Err, refl, sym, ◌∙◌, append_assoc, arith}
+use Rattle.std.proofs.Common.{◌≡◌, ℕ, suc, ◌≤◌, Bool, true, false, cond, List, [], ◌∷◌, ◌++◌, length, Option, None, Ok, Err, refl, sym, ◌∙◌, append_assoc}
+use Rattle.std.proofs.Common.{arith}
 use Rattle.std.specs.Prelude.{◌==◌, nat_lt}
 use Rattle.std.proofs.lemmas.List.{append-nil, map-append, length-append}
 use Rattle.nt_text.specs.declared.kind.ScriptKind.TheVariants.{BadNumber, TooMany}
@@ -12,17 +13,21 @@ use Rattle.nt_event.specs.declared.scripts.ThreadDecl.{ThreadDecl}
 use Rattle.nt_event.specs.declared.scripts.ApcDecl.{ApcDecl}
 use Rattle.nt_line.specs.declared.keywords.Keyword.TheVariants as keyword
 use Rattle.nt_line.specs.declared.keywords.Place.{Place}
-use Rattle.nt_line.specs.declared.keywords.Place.TheVariants.{Start, HasVersion, HasCpus, HasDepth, HasThreaded, InIsrs, InDpcs, InTimers, InThreads, InApcs, InLocks, InRoutines, InRoutine}
+use Rattle.nt_line.specs.declared.keywords.Place.TheVariants.{Start, HasVersion, HasCpus, HasDepth, HasThreaded, InIsrs, InDpcs, InTimers, InThreads, InApcs}
+use Rattle.nt_line.specs.declared.keywords.Place.TheVariants.{InLocks, InRoutines, InRoutine}
 use Rattle.nt_script.specs.declared.walk.Walk.{Walk}
 use Rattle.nt_line.specs.NameLists.{NameLists}
 use Rattle.nt_line.specs.Keywords.{text_of, order}
 use Rattle.nt_line.specs.Fields.{on_off_text}
-use Rattle.nt_script.specs.Reading.{put_cpus, with_version, with_cpus, with_depth, with_threaded, with_isr, with_dpc, with_timer, with_thread, with_apc, with_lock, with_routine, with_exit, with_command}
+use Rattle.nt_script.specs.Reading.{put_cpus, with_version, with_cpus, with_depth, with_threaded, with_isr, with_dpc, with_timer, with_thread, with_apc}
+use Rattle.nt_script.specs.Reading.{with_lock, with_routine, with_exit, with_command}
 use Rattle.nt_text.specs.Lines.{Row}
 use Rattle.nt_line.specs.Rows.{command_row, number_row, depth_rows, isr_row, dpc_row, timer_row, thread_row, apc_row, lock_row}
 use Rattle.nt_script.specs.Text.{version_rows, exit_row}
 use Rattle.nt_script.specs.Versions.{most_cpus}
-use Rattle.nt_script.proofs.SoFar.{heads_at, has_head, heads, isrs, dpcs, timers, threads, apcs, locks, routines, so_far, grow_heads, grow_isrs, grow_dpcs, grow_timers, grow_threads, grow_apcs, grow_locks, grow_routines, declared_more, none_declared, none_opened, routine_more, command_more, exit_more}
+use Rattle.nt_script.proofs.SoFar.{heads_at, has_head, heads, isrs, dpcs, timers, threads, apcs, locks, routines, so_far, grow_heads, grow_isrs, grow_dpcs}
+use Rattle.nt_script.proofs.SoFar.{grow_timers, grow_threads, grow_apcs, grow_locks, grow_routines, declared_more, none_declared, none_opened, routine_more}
+use Rattle.nt_script.proofs.SoFar.{command_more, exit_more}
 
 -- nothing stands there of the parts behind the place with this number
 pub record Later (k : ℕ) (w : Walk) : Type 0 where

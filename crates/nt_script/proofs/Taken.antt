@@ -1,5 +1,6 @@
 -- A line that is taken: its keyword may stand there, and it has as many fields as its keyword wants.
-use Rattle.std.proofs.Common.{◌≡◌, ℕ, suc, ◌<◌, ◌≤◌, Bool, true, false, cond, List, [], ◌∷◌, length, Option, Some, None, Result, Ok, Err, refl, ◌∙◌, ap, subst, arith, lit<}
+use Rattle.std.proofs.Common.{◌≡◌, ℕ, suc, ◌<◌, ◌≤◌, Bool, true, false, cond, List, [], ◌∷◌, length, Option, Some, None, Result, Ok, Err, refl, ◌∙◌, ap, subst}
+use Rattle.std.proofs.Common.{arith, lit<}
 use Rattle.std.specs.Prelude.{nat_lt, nat_le, is_some}
 use Rattle.std.proofs.lemmas.Bool.{ltb-false, and_parts, and_from, leb-true, le-leb}
 use Rattle.nt_text.specs.declared.kind.ScriptKind.{ScriptKind}

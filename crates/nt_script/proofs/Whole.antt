@@ -1,5 +1,6 @@
 -- A text that is read is the text of what is read.
-use Rattle.std.proofs.Common.{◌≡◌, ℕ, zero, suc, ◌+◌, ◌≤◌, Bool, cond, List, [], ◌∷◌, ◌++◌, false, true, length, map, Some, Result, Ok, Err, refl, sym, ◌∙◌, ap, subst, append_assoc, arith}
+use Rattle.std.proofs.Common.{◌≡◌, ℕ, zero, suc, ◌+◌, ◌≤◌, Bool, cond, List, [], ◌∷◌, ◌++◌, false, true, length, map, Some, Result, Ok, Err, refl, sym, ◌∙◌, ap}
+use Rattle.std.proofs.Common.{subst, append_assoc, arith}
 use Rattle.std.specs.Prelude.{nat_le, nat_lt, ◌==◌, is_some, is_none}
 use Rattle.std.specs.Str.{bytes_eq}
 use Rattle.std.proofs.lemmas.Bool.{ltb-true}
@@ -20,7 +21,8 @@ use Rattle.nt_line.specs.declared.keywords.Keyword.{Keyword}
 use Rattle.nt_line.specs.declared.keywords.Keyword.TheVariants as keyword
 use Rattle.nt_script.specs.declared.walk.Walk.{Walk}
 use Rattle.nt_line.specs.declared.keywords.Place.{Place}
-use Rattle.nt_line.specs.declared.keywords.Place.TheVariants.{Start, HasVersion, HasCpus, HasDepth, HasThreaded, InIsrs, InDpcs, InTimers, InThreads, InApcs, InLocks, InRoutines, InRoutine}
+use Rattle.nt_line.specs.declared.keywords.Place.TheVariants.{Start, HasVersion, HasCpus, HasDepth, HasThreaded, InIsrs, InDpcs, InTimers, InThreads, InApcs}
+use Rattle.nt_line.specs.declared.keywords.Place.TheVariants.{InLocks, InRoutines, InRoutine}
 use Rattle.nt_script.specs.declared.walk.Input.{Input}
 use Rattle.nt_line.specs.declared.names.Kind.{Kind}
 use Rattle.nt_line.specs.declared.names.Kind.TheVariants as kind
@@ -30,7 +32,9 @@ use Rattle.nt_line.specs.Results.{ok_if}
 use Rattle.nt_line.specs.Fields.{read_number, read_on_off, new_name}
 use Rattle.nt_line.specs.Commands.{command_of}
 use Rattle.nt_line.specs.Declarations.{isr_of, dpc_of, timer_of, thread_of, apc_of}
-use Rattle.nt_script.specs.Reading.{names_after, names_from, first_place, start, put_cpus, with_version, with_depth, with_threaded, with_isr, with_dpc, with_timer, with_thread, with_apc, with_lock, with_routine, with_exit, with_command, act, step, finish, line_step, go_on, walk, reading}
+use Rattle.nt_script.specs.Reading.{names_after, names_from, first_place, start, put_cpus, with_version, with_depth, with_threaded, with_isr, with_dpc}
+use Rattle.nt_script.specs.Reading.{with_timer, with_thread, with_apc, with_lock, with_routine, with_exit, with_command, act, step, finish, line_step, go_on}
+use Rattle.nt_script.specs.Reading.{walk, reading}
 use Rattle.nt_text.specs.Lines.{Row}
 use Rattle.nt_script.specs.Versions.{version_of}
 use Rattle.nt_script.specs.Text.{header_rows, input_rows, text, routine_rows}
@@ -38,7 +42,8 @@ use Rattle.nt_line.proofs.Results.{bind_ok, ok_if_ok}
 use Rattle.nt_line.proofs.UsedNames.{AreFew, new_name_takes}
 use Rattle.nt_script.proofs.SoFar.{so_far, has_head, heads, isrs, dpcs, timers, threads, apcs, locks, routines, joined, all_ended}
 use Rattle.nt_script.proofs.Taken.{At, declared_ok, step_ok}
-use Rattle.nt_script.proofs.Steps.{Good, put_cpus_ok, version_good, cpus_good, depth_good, threaded_good, isr_good, dpc_good, timer_good, thread_good, apc_good, lock_good, routine_good, exit_good, command_good}
+use Rattle.nt_script.proofs.Steps.{Good, put_cpus_ok, version_good, cpus_good, depth_good, threaded_good, isr_good, dpc_good, timer_good, thread_good, apc_good}
+use Rattle.nt_script.proofs.Steps.{lock_good, routine_good, exit_good, command_good}
 use Rattle.nt_script.proofs.Acts.{ok, ok_is, step_taken}
 
 -- ---- the names, with no look at the names that are used

@@ -1,8 +1,10 @@
 -- Reading a script line by line: what each line makes of what was read before it, or what is wrong with it.
 -- The tests of a line come in the order in which the steps `>>=` stand.
-use Rattle.std.specs.Prelude.{ℕ, ◌+◌, Bool, true, List, [], ◌∷◌, ◌++◌, length, Option, Some, None, Result, Ok, Err, nat_le, nat_lt, ◌==◌, is_none, if◌then◌else◌}
+use Rattle.std.specs.Prelude.{ℕ, ◌+◌, Bool, true, List, [], ◌∷◌, ◌++◌, length, Option, Some, None, Result, Ok, Err}
+use Rattle.std.specs.Prelude.{nat_le, nat_lt, ◌==◌, is_none, if◌then◌else◌}
 use Rattle.nt_text.specs.declared.kind.ScriptKind.{ScriptKind}
-use Rattle.nt_text.specs.declared.kind.ScriptKind.TheVariants.{BadNumber, UnknownWord, MissingField, ExtraField, NameTwice, TooMany, NoCpus, NoEnd}
+use Rattle.nt_text.specs.declared.kind.ScriptKind.TheVariants.{BadNumber, UnknownWord, MissingField, ExtraField}
+use Rattle.nt_text.specs.declared.kind.ScriptKind.TheVariants.{NameTwice, TooMany, NoCpus, NoEnd}
 use Rattle.nt_text.specs.declared.kind.What10.TheVariants as what
 use Rattle.nt_text.specs.Lines.{first, rest, row_of, lines, fields}
 use Rattle.nt_text.specs.Fields.{is_name}
@@ -19,7 +21,9 @@ use Rattle.nt_line.specs.declared.names.Kind.TheVariants as kind
 use Rattle.nt_line.specs.declared.keywords.Keyword.{Keyword}
 use Rattle.nt_line.specs.declared.keywords.Keyword.TheVariants as keyword
 use Rattle.nt_line.specs.declared.keywords.Place.{Place}
-use Rattle.nt_line.specs.declared.keywords.Place.TheVariants.{Start, HasVersion, HasCpus, HasDepth, HasThreaded, InIsrs, InDpcs, InTimers, InThreads, InApcs, InLocks, InRoutines, InRoutine}
+use Rattle.nt_line.specs.declared.keywords.Place.TheVariants.{Start, HasVersion, HasCpus, HasDepth, HasThreaded, InIsrs}
+use Rattle.nt_line.specs.declared.keywords.Place.TheVariants.{InDpcs, InTimers, InThreads, InApcs, InLocks, InRoutines}
+use Rattle.nt_line.specs.declared.keywords.Place.TheVariants.{InRoutine}
 use Rattle.nt_script.specs.declared.walk.Walk.{Walk}
 use Rattle.nt_script.specs.declared.walk.Input.{Input}
 use Rattle.nt_line.specs.NameLists.{NameLists, no_names, declared, with_name}

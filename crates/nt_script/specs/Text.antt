@@ -7,7 +7,8 @@ use Rattle.nt_line.specs.declared.keywords.Keyword.TheVariants as keyword
 use Rattle.nt_line.specs.NameLists.{NameLists}
 use Rattle.nt_line.specs.Keywords.{text_of}
 use Rattle.nt_text.specs.Lines.{Row}
-use Rattle.nt_line.specs.Rows.{command_row, number_row, depth_rows, threaded_rows, isr_row, dpc_row, timer_row, thread_row, apc_row, lock_row}
+use Rattle.nt_line.specs.Rows.{command_row, number_row, depth_rows, threaded_rows, isr_row, dpc_row, timer_row}
+use Rattle.nt_line.specs.Rows.{thread_row, apc_row, lock_row}
 use Rattle.nt_script.specs.declared.walk.Input.{Input}
 
 -- ---- parts

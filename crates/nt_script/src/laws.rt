@@ -17,12 +17,15 @@ pub fn texts_both_ways()
     ensures printed { (input : Input) → IsSound input → reading (text input) ≡ Ok input }
 
     // What is read as an input is the text of it, and the input is sound.
-    ensures read { (bytes : List ℕ) (input : Input) → reading bytes ≡ Ok input → IsTextOf bytes input }
+    ensures read { (bytes : List ℕ) (input : Input) → reading bytes ≡ Ok input →
+        IsTextOf bytes input }
 {}
 
-/// What is migrated has one line more in its text, the first; what is of version 2 already stays as it is.
+/// What is migrated has one line more in its text, the first; what is of version 2 already stays as
+/// it is.
 pub fn migration_adds_one_line()
-    ensures added { (i : Input) → i.version ≡ 1 → text (migrated i) ≡ row_text (number_row keyword.Version 2) ++ text i }
+    ensures added { (i : Input) → i.version ≡ 1 →
+        text (migrated i) ≡ row_text (number_row keyword.Version 2) ++ text i }
     ensures stays { (i : Input) → i.version ≡ 2 → migrated i ≡ i }
 {}
 
@@ -31,8 +34,12 @@ pub fn one_text()
     ensures { (a b : Input) → IsSound a → IsSound b → text a ≡ text b → a ≡ b }
 {}
 
-/// Lines behind the text of a script are found by the first field of their first line, where that is no keyword of scripts
-/// of its version.
+/// Lines behind the text of a script are found by the first field of their first line, where that
+/// is no keyword of scripts of its version.
 pub fn what_stands_behind_is_found()
-    ensures { (word : List ℕ) (input : Input) (rows : List Row) → keyword_of input.version word ≡ None → IsSound input → AllRows rows → first_begins word (lines (rows_text rows)) ≡ true → split_from word 0 1 (lines (text input ++ rows_text rows)) ≡ Some (length (text input), 1 + length (lines (text input))) }
+    ensures { (word : List ℕ) (input : Input) (rows : List Row) →
+        keyword_of input.version word ≡ None → IsSound input → AllRows rows →
+        first_begins word (lines (rows_text rows)) ≡ true →
+        split_from word 0 1 (lines (text input ++ rows_text rows))
+        ≡ Some (length (text input), 1 + length (lines (text input))) }
 {}

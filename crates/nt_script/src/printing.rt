@@ -5,8 +5,10 @@ ghost use Rattle.nt_line.specs.declared.keywords.Keyword.TheVariants as keyword;
 ghost use Rattle.nt_line.specs.Keywords.{text_of};
 ghost use Rattle.nt_line.specs.NameLists.{show_routine};
 ghost use Rattle.nt_line.specs.Fits.{IsrFits, DpcFits, TimerFits, ThreadFits, ApcFits, CommandFits};
-ghost use Rattle.nt_line.specs.Rows.{number_row, depth_rows, threaded_rows, command_row, isr_row, dpc_row, timer_row, thread_row, apc_row, lock_row};
-ghost use Rattle.nt_script.specs.Text.{version_rows, header_rows, declared_rows, begun_rows, exit_row, routine_rows, text};
+ghost use Rattle.nt_line.specs.Rows.{number_row, depth_rows, threaded_rows, command_row, isr_row};
+ghost use Rattle.nt_line.specs.Rows.{dpc_row, timer_row, thread_row, apc_row, lock_row};
+ghost use Rattle.nt_script.specs.Text.{version_rows, header_rows, declared_rows, begun_rows};
+ghost use Rattle.nt_script.specs.Text.{exit_row, routine_rows, text};
 ghost use Rattle.nt_script.specs.Sound.{IsSound};
 
 use crate::walk::Input;
@@ -31,7 +33,8 @@ fn put_number_line(out: &mut Vec<u8>, keyword: Keyword, n: u64) -> Result<(), Al
 
 /// Adds a line of a keyword and a field.
 fn put_field_line(out: &mut Vec<u8>, keyword: Keyword, field: &[u8]) -> Result<(), AllocError>
-    ensures { OnOk result (out.new.items ≡ out.old.items ++ row_text (text_of keyword ∷ field.now ∷ [])) }
+    ensures { OnOk result
+        (out.new.items ≡ out.old.items ++ row_text (text_of keyword ∷ field.now ∷ [])) }
 {
     out.extend_from_slice(keyword.text())?;
     put_field(out, field)?;
@@ -42,7 +45,8 @@ fn put_field_line(out: &mut Vec<u8>, keyword: Keyword, field: &[u8]) -> Result<(
 /// Adds the first line of a routine.
 fn put_begin(out: &mut Vec<u8>, names: &Names, r: RoutineNo) -> Result<(), AllocError>
     requires { r.0 < length names.now.routines }
-    ensures { OnOk result (out.new.items ≡ out.old.items ++ row_text (text_of keyword.Routine ∷ show_routine names.now r ∷ [])) }
+    ensures { OnOk result (out.new.items
+        ≡ out.old.items ++ row_text (text_of keyword.Routine ∷ show_routine names.now r ∷ [])) }
 {
     put_field_line(out, Keyword::Routine, names.routine(r).as_bytes())
 }
@@ -66,7 +70,8 @@ fn put_routine(
 ) -> Result<(), AllocError>
     requires named { r.0 < length names.now.routines }
     requires fits { All (CommandFits names.now cpus) commands.now }
-    ensures { OnOk result (out.new.items ≡ out.old.items ++ rows_text (begun_rows names.now (show_routine names.now r) commands.now ++ exit_row ∷ [])) }
+    ensures { OnOk result (out.new.items ≡ out.old.items ++ rows_text
+        (begun_rows names.now (show_routine names.now r) commands.now ++ exit_row ∷ [])) }
 {
     put_begin(out, names, r)?;
     put_commands(out, names, cpus, commands)?;
@@ -82,7 +87,8 @@ fn put_commands(
     commands: &[Command],
 ) -> Result<(), AllocError>
     requires { All (CommandFits names.now cpus) commands.now }
-    ensures { OnOk result (out.new.items ≡ out.old.items ++ rows_text (map (command_row names.now) commands.now)) }
+    ensures { OnOk result
+        (out.new.items ≡ out.old.items ++ rows_text (map (command_row names.now) commands.now)) }
 {
     for command in commands {
         put_command(out, names, command)?;
@@ -93,7 +99,8 @@ fn put_commands(
 
 fn put_isrs(out: &mut Vec<u8>, names: &Names, cpus: u8, isrs: &[Isr]) -> Result<(), AllocError>
     requires { All (IsrFits names.now cpus) isrs.now }
-    ensures { OnOk result (out.new.items ≡ out.old.items ++ rows_text (map (isr_row names.now) isrs.now)) }
+    ensures { OnOk result
+        (out.new.items ≡ out.old.items ++ rows_text (map (isr_row names.now) isrs.now)) }
 {
     for isr in isrs {
         put_isr(out, names, cpus, isr)?;
@@ -105,7 +112,8 @@ fn put_dpcs(out: &mut Vec<u8>, names: &Names, dpcs: &[DpcDecl]) -> Result<(), Al
     requires count { length names.now.dpcs ≡ length dpcs.now }
     requires few { length dpcs.now ≤ 256 }
     requires fits { All (DpcFits names.now) dpcs.now }
-    ensures { OnOk result (out.new.items ≡ out.old.items ++ rows_text (declared_rows (dpc_row names.now) names.now.dpcs dpcs.now)) }
+    ensures { OnOk result (out.new.items
+        ≡ out.old.items ++ rows_text (declared_rows (dpc_row names.now) names.now.dpcs dpcs.now)) }
 {
     for (i, dpc) in dpcs.iter().enumerate() {
         put_dpc(out, names, DpcNo(i as u16), dpc)?;
@@ -117,7 +125,8 @@ fn put_timers(out: &mut Vec<u8>, names: &Names, timers: &[TimerDecl]) -> Result<
     requires count { length names.now.timers ≡ length timers.now }
     requires few { length timers.now ≤ 256 }
     requires fits { All (TimerFits names.now) timers.now }
-    ensures { OnOk result (out.new.items ≡ out.old.items ++ rows_text (declared_rows (timer_row names.now) names.now.timers timers.now)) }
+    ensures { OnOk result (out.new.items ≡ out.old.items
+        ++ rows_text (declared_rows (timer_row names.now) names.now.timers timers.now)) }
 {
     for (i, timer) in timers.iter().enumerate() {
         put_timer(out, names, TimerNo(i as u16), timer)?;
@@ -134,7 +143,8 @@ fn put_threads(
     requires count { length names.now.threads ≡ length threads.now }
     requires few { length threads.now ≤ 256 }
     requires fits { All (ThreadFits names.now cpus) threads.now }
-    ensures { OnOk result (out.new.items ≡ out.old.items ++ rows_text (declared_rows (thread_row names.now) names.now.threads threads.now)) }
+    ensures { OnOk result (out.new.items ≡ out.old.items
+        ++ rows_text (declared_rows (thread_row names.now) names.now.threads threads.now)) }
 {
     for (i, thread) in threads.iter().enumerate() {
         put_thread(out, names, cpus, ThreadNo(i as u16), thread)?;
@@ -146,7 +156,8 @@ fn put_apcs(out: &mut Vec<u8>, names: &Names, apcs: &[ApcDecl]) -> Result<(), Al
     requires count { length names.now.apcs ≡ length apcs.now }
     requires few { length apcs.now ≤ 256 }
     requires fits { All (ApcFits names.now) apcs.now }
-    ensures { OnOk result (out.new.items ≡ out.old.items ++ rows_text (declared_rows (apc_row names.now) names.now.apcs apcs.now)) }
+    ensures { OnOk result (out.new.items
+        ≡ out.old.items ++ rows_text (declared_rows (apc_row names.now) names.now.apcs apcs.now)) }
 {
     for (i, apc) in apcs.iter().enumerate() {
         put_apc(out, names, ApcNo(i as u16), apc)?;
@@ -156,7 +167,8 @@ fn put_apcs(out: &mut Vec<u8>, names: &Names, apcs: &[ApcDecl]) -> Result<(), Al
 
 fn put_locks(out: &mut Vec<u8>, names: &Names, locks: u16) -> Result<(), AllocError>
     requires { length names.now.locks ≡ locks }
-    ensures { OnOk result (out.new.items ≡ out.old.items ++ rows_text (map lock_row names.now.locks)) }
+    ensures { OnOk result
+        (out.new.items ≡ out.old.items ++ rows_text (map lock_row names.now.locks)) }
 {
     for k in 0..locks {
         put_field_line(out, Keyword::Spinlock, names.lock(LockNo(k)).as_bytes())?;
@@ -173,7 +185,8 @@ fn put_routines(
     requires count { length names.now.routines ≡ length routines.now }
     requires few { length routines.now ≤ 256 }
     requires fits { All (λ r. All (CommandFits names.now cpus) r.commands) routines.now }
-    ensures { OnOk result (out.new.items ≡ out.old.items ++ rows_text (routine_rows names.now names.now.routines routines.now)) }
+    ensures { OnOk result (out.new.items
+        ≡ out.old.items ++ rows_text (routine_rows names.now names.now.routines routines.now)) }
 {
     for (i, routine) in routines.iter().enumerate() {
         put_routine(
@@ -200,7 +213,8 @@ fn put_version(out: &mut Vec<u8>, version: u8) -> Result<(), AllocError>
 
 /// Adds the line of the processors.
 fn put_cpus(out: &mut Vec<u8>, cpus: u8) -> Result<(), AllocError>
-    ensures { OnOk result (out.new.items ≡ out.old.items ++ row_text (number_row keyword.Cpus cpus)) }
+    ensures { OnOk result
+        (out.new.items ≡ out.old.items ++ row_text (number_row keyword.Cpus cpus)) }
 {
     put_number_line(out, Keyword::Cpus, u64::from(cpus))
 }
@@ -227,7 +241,8 @@ fn put_threaded(out: &mut Vec<u8>, threaded: Option<bool>) -> Result<(), AllocEr
 
 /// Adds the lines of the head.
 fn put_header(out: &mut Vec<u8>, version: u8, script: &Script) -> Result<(), AllocError>
-    ensures { OnOk result (out.new.items ≡ out.old.items ++ rows_text (header_rows version script.now.cpus script.now.depth script.now.threaded)) }
+    ensures { OnOk result (out.new.items ≡ out.old.items
+        ++ rows_text (header_rows version script.now.cpus script.now.depth script.now.threaded)) }
 {
     put_version(out, version)?;
     put_cpus(out, script.cpus)?;

@@ -3,7 +3,8 @@ ghost use Rattle.std.specs.Prelude.{◌≡◌, ◌≤◌, length, OnOk, IfOk, Ok
 ghost use Rattle.nt_text.specs.declared.lines.TheConstants.{INPUT_LIMIT};
 ghost use Rattle.nt_text.specs.Lines.{lines, fields};
 ghost use Rattle.nt_line.specs.NameLists.{no_names};
-ghost use Rattle.nt_script.specs.Reading.{input_of, names_after, names_from, reading_by, start, walk, reading};
+ghost use Rattle.nt_script.specs.Reading.{input_of, names_after, names_from, reading_by, start};
+ghost use Rattle.nt_script.specs.Reading.{walk, reading};
 ghost use Rattle.nt_script.specs.Gives.{GivesAll, GivesRead};
 ghost use Rattle.nt_script.specs.Sound.{IsTextOf};
 ghost use Rattle.nt_script.specs.declared.walk.Input.{Input};
@@ -26,7 +27,8 @@ pub enum ScriptRefusal {
     NoMemory,
 }
 
-/// Adds the name that a line declares, if any: its first keyword is of a line that declares, and its second field is a name.
+/// Adds the name that a line declares, if any: its first keyword is of a line that declares, and
+/// its second field is a name.
 fn note_name(alloc: Global, version: u8, names: &mut Names, line: &[u8]) -> Result<(), AllocError>
     ensures { OnOk result (names.new ≡ names_after version names.old (fields line.now)) }
 {
@@ -62,7 +64,8 @@ fn names_of(alloc: Global, version: u8, bytes: &[u8]) -> Result<Names, AllocErro
 }
 
 impl Walk {
-    /// Takes all lines of a text that may end behind them. `all` are the names that the lines declare.
+    /// Takes all lines of a text that may end behind them. `all` are the names that the lines
+    /// declare.
     fn read_lines(&mut self, alloc: Global, all: &Names, bytes: &[u8]) -> Result<(), ScriptRefusal>
         requires { length bytes.now ≤ INPUT_LIMIT }
         ensures { GivesAll result (input_of self.new) (walk all.now self.old 1 (lines bytes.now)) }
@@ -112,7 +115,8 @@ fn read_all(alloc: Global, bytes: &[u8]) -> Result<Input, ScriptRefusal>
 
 /// The input whose text the bytes are, or the least bad line and what is wrong with it.
 ///
-/// Ok exactly where the bytes are the text of a sound input, with that input; `Bad` else. `NoMemory` may come at any call.
+/// Ok exactly where the bytes are the text of a sound input, with that input; `Bad` else.
+/// `NoMemory` may come at any call.
 pub fn read(alloc: Global, bytes: &[u8]) -> Result<Input, ScriptRefusal>
     requires { length bytes.now ≤ INPUT_LIMIT }
 

@@ -19,7 +19,8 @@ pub struct Split {
 /// The first line with this first field, found by its number and the bytes before it.
 fn find_line(bytes: &[u8], keyword: &[u8]) -> Option<Split>
     requires { length bytes.now ≤ INPUT_LIMIT }
-    ensures { option_map (λ s. (s.at, s.line)) result ≡ split_from keyword.now 0 1 (lines bytes.now) }
+    ensures { option_map (λ s. (s.at, s.line)) result
+        ≡ split_from keyword.now 0 1 (lines bytes.now) }
 {
     let mut lines = Lines::new(bytes);
     let mut at: usize = 0;
@@ -34,10 +35,12 @@ fn find_line(bytes: &[u8], keyword: &[u8]) -> Option<Split>
     None
 }
 
-/// Where the first line begins whose first field is `keyword`. None exactly where there is no such line.
+/// Where the first line begins whose first field is `keyword`. None exactly where there is no such
+/// line.
 pub fn split_at(bytes: &[u8], keyword: &str) -> Option<Split>
     requires { length bytes.now ≤ INPUT_LIMIT }
-    ensures exact { option_map (λ s. (s.at, s.line)) result ≡ split_from keyword.now 0 1 (lines bytes.now) }
+    ensures exact { option_map (λ s. (s.at, s.line)) result
+        ≡ split_from keyword.now 0 1 (lines bytes.now) }
     ensures none { IfNone result (list_any (begins keyword.now) (lines bytes.now) ≡ false) }
     ensures some { IfSome result (λ s. Splits keyword.now bytes.now s.at s.line) }
 {

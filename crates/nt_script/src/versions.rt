@@ -1,4 +1,5 @@
-//! The two versions of texts: which one a text is of, the limit that depends on it, and the way from the first to the second.
+//! The two versions of texts: which one a text is of, the limit that depends on it, and the way
+//! from the first to the second.
 ghost use Rattle.std.specs.Prelude.{◌≡◌};
 ghost use Rattle.nt_text.specs.Lines.{lines};
 ghost use Rattle.nt_script.specs.Versions.{version_of, most_cpus, migrated};

@@ -72,11 +72,14 @@ impl Walk {
     ghost use Rattle.std.specs.Prelude.{◌≡◌, [], None, length, nat_lt};
     ghost use Rattle.nt_text.specs.declared.kind.ScriptKind.TheVariants.{TooMany};
     ghost use Rattle.nt_text.specs.declared.kind.What10.TheVariants as what;
-    ghost use Rattle.nt_event.specs.declared.limits.TheConstants.{APCS, COMMANDS, DPCS, THREADS, TIMERS};
+    ghost use Rattle.nt_event.specs.declared.limits.TheConstants.{APCS, COMMANDS, DPCS, THREADS};
+    ghost use Rattle.nt_event.specs.declared.limits.TheConstants.{TIMERS};
     ghost use Rattle.nt_line.specs.Results.{ok_if};
     ghost use Rattle.nt_line.specs.Keywords.{keyword_of};
     ghost use Rattle.nt_line.specs.NameLists.{no_names, meaning};
-    ghost use Rattle.nt_script.specs.Reading.{first_place, start, with_apc, with_command, with_dpc, with_thread, with_timer, keyword_at, step, act, line_step, finish, input_of};
+    ghost use Rattle.nt_script.specs.Reading.{first_place, start, with_apc, with_command, with_dpc};
+    ghost use Rattle.nt_script.specs.Reading.{with_thread, with_timer, keyword_at, step, act};
+    ghost use Rattle.nt_script.specs.Reading.{line_step, finish, input_of};
     ghost use Rattle.nt_script.specs.Gives.{Gives, GivesAll};
 
     /// The place before all lines.
@@ -162,7 +165,8 @@ impl Walk {
 
     /// Takes a line. `all` are the names that the lines of the whole text declare.
     pub fn line(&mut self, alloc: Global, all: &Names, line: &Line) -> Result<(), Stop>
-        ensures { Gives result self.new (line_step all.now self.old (line.now.bytes.now, line.now.ended)) }
+        ensures { Gives result self.new
+            (line_step all.now self.old (line.now.bytes.now, line.now.ended)) }
     {
         let mut row = line.fields()?;
         self.step(alloc, all, &mut row)
@@ -310,7 +314,8 @@ impl Walk {
 
     fn add_dpc(&mut self, alloc: Global, name: &str, dpc: DpcDecl) -> Result<(), Stop>
         requires { meaning name.now self.old.names ≡ None }
-        ensures { Gives result self.new (ok_if (nat_lt (length self.old.script.dpcs) DPCS) (with_dpc self.old name.now dpc) (TooMany what.Dpcs)) }
+        ensures { Gives result self.new (ok_if (nat_lt (length self.old.script.dpcs) DPCS)
+            (with_dpc self.old name.now dpc) (TooMany what.Dpcs)) }
     {
         if self.script.dpcs.len() >= limits::DPCS {
             return Err(Stop::Bad(ScriptKind::TooMany(What10::Dpcs)));
@@ -331,7 +336,8 @@ impl Walk {
 
     fn add_timer(&mut self, alloc: Global, name: &str, timer: TimerDecl) -> Result<(), Stop>
         requires { meaning name.now self.old.names ≡ None }
-        ensures { Gives result self.new (ok_if (nat_lt (length self.old.script.timers) TIMERS) (with_timer self.old name.now timer) (TooMany what.Timers)) }
+        ensures { Gives result self.new (ok_if (nat_lt (length self.old.script.timers) TIMERS)
+            (with_timer self.old name.now timer) (TooMany what.Timers)) }
     {
         if self.script.timers.len() >= limits::TIMERS {
             return Err(Stop::Bad(ScriptKind::TooMany(What10::Timers)));
@@ -352,7 +358,8 @@ impl Walk {
 
     fn add_thread(&mut self, alloc: Global, name: &str, thread: ThreadDecl) -> Result<(), Stop>
         requires { meaning name.now self.old.names ≡ None }
-        ensures { Gives result self.new (ok_if (nat_lt (length self.old.script.threads) THREADS) (with_thread self.old name.now thread) (TooMany what.Threads)) }
+        ensures { Gives result self.new (ok_if (nat_lt (length self.old.script.threads) THREADS)
+            (with_thread self.old name.now thread) (TooMany what.Threads)) }
     {
         if self.script.threads.len() >= limits::THREADS {
             return Err(Stop::Bad(ScriptKind::TooMany(What10::Threads)));
@@ -379,7 +386,8 @@ impl Walk {
 
     fn add_apc(&mut self, alloc: Global, name: &str, apc: ApcDecl) -> Result<(), Stop>
         requires { meaning name.now self.old.names ≡ None }
-        ensures { Gives result self.new (ok_if (nat_lt (length self.old.script.apcs) APCS) (with_apc self.old name.now apc) (TooMany what.Apcs)) }
+        ensures { Gives result self.new (ok_if (nat_lt (length self.old.script.apcs) APCS)
+            (with_apc self.old name.now apc) (TooMany what.Apcs)) }
     {
         if self.script.apcs.len() >= limits::APCS {
             return Err(Stop::Bad(ScriptKind::TooMany(What10::Apcs)));
@@ -432,7 +440,8 @@ impl Walk {
     }
 
     fn add_command(&mut self, command: Command) -> Result<(), Stop>
-        ensures { Gives result self.new (ok_if (nat_lt self.old.commands COMMANDS) (with_command self.old command) (TooMany what.Commands)) }
+        ensures { Gives result self.new (ok_if (nat_lt self.old.commands COMMANDS)
+            (with_command self.old command) (TooMany what.Commands)) }
     {
         if self.commands >= limits::COMMANDS as u32 {
             return Err(Stop::Bad(ScriptKind::TooMany(What10::Commands)));

@@ -15,7 +15,9 @@ use Rattle.nt_event.specs.declared.inserts.Part.{Part}
 use Rattle.nt_event.specs.declared.inserts.Part.TheVariants.{Ordinary as OrdinaryPart, Threaded as ThreadedPart}
 use Rattle.nt_event.specs.declared.inserts.Pick.{Pick}
 use Rattle.nt_event.specs.declared.jobs.Job.{Job}
-use Rattle.nt_event.specs.declared.jobs.Job.TheVariants.{Apcs as ApcsJob, Call as CallJob, Drain as DrainJob, Fire as FireJob, Free as FreeJob, Idle as IdleJob, Leave as LeaveJob, Pick as PickJob, Rewait as RewaitJob, Rundown as RundownJob, Switch as SwitchJob, Threaded as ThreadedJob, ToUser as ToUserJob, UserEnd as UserEndJob}
+use Rattle.nt_event.specs.declared.jobs.Job.TheVariants.{Apcs as ApcsJob, Call as CallJob, Drain as DrainJob, Fire as FireJob, Free as FreeJob, Idle as IdleJob}
+use Rattle.nt_event.specs.declared.jobs.Job.TheVariants.{Leave as LeaveJob, Pick as PickJob, Rewait as RewaitJob, Rundown as RundownJob, Switch as SwitchJob}
+use Rattle.nt_event.specs.declared.jobs.Job.TheVariants.{Threaded as ThreadedJob, ToUser as ToUserJob, UserEnd as UserEndJob}
 use Rattle.nt_event.specs.declared.jobs.Stand.{Stand}
 use Rattle.nt_event.specs.declared.numbers.ApcNo.{ApcNo}
 use Rattle.nt_event.specs.declared.numbers.DpcNo.{DpcNo}
@@ -23,7 +25,8 @@ use Rattle.nt_event.specs.declared.numbers.ThreadNo.{ThreadNo}
 use Rattle.nt_event.specs.Acting.{IsAllowed, IsCallable}
 use Rattle.nt_event.specs.Apcs.{deliverable, first_user}
 use Rattle.nt_event.specs.Commands.{reply}
-use Rattle.nt_event.specs.Jobs.{begin_apc, begin_dpc, begin_first, expire_key, idle_event, job_event, may_take, next_ready, ready, rewait_reply, rundown_event, switch_event, user_due}
+use Rattle.nt_event.specs.Jobs.{begin_apc, begin_dpc, begin_first, expire_key, idle_event, job_event, may_take, next_ready, ready, rewait_reply, rundown_event}
+use Rattle.nt_event.specs.Jobs.{switch_event, user_due}
 use Rattle.nt_event.specs.Lanes.{facts_at, facts_of, queue_at}
 use Rattle.nt_event.specs.Queues.{first_dpc}
 use Rattle.nt_event.specs.Script.{command_fits, has_dpc, has_lock}

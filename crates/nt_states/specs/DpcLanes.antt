@@ -18,7 +18,8 @@ use Rattle.nt_event.specs.Script.{has_cpu, has_dpc}
 use Rattle.nt_event.specs.Numbers.{cpu, dpc}
 use Rattle.nt_event.specs.Lists.{table}
 use Rattle.nt_event.specs.Replies.{yes_if}
-use Rattle.nt_event.specs.Families.{DpcCall, GiveImportance, GiveTarget, InsertDpc, RemoveDpc, by_dpc_call, in_begin, in_call, in_fire}
+use Rattle.nt_event.specs.Families.{DpcCall, GiveImportance, GiveTarget, InsertDpc, RemoveDpc, by_dpc_call, in_begin}
+use Rattle.nt_event.specs.Families.{in_call, in_fire}
 
 -- the script, the state of each of its objects, and that of the queue of each of its processors
 pub record DpcLanes : Type 0 where

@@ -3,7 +3,8 @@ use Rattle.std.specs.Prelude.{Bool, IsTrue, List, map, false, true, ◌<◌, ◌
 use Rattle.nt_event.specs.declared.commands.Command.{Command}
 use Rattle.nt_event.specs.declared.commands.Reply.{Reply}
 use Rattle.nt_event.specs.declared.jobs.Lane.{Lane}
-use Rattle.nt_event.specs.declared.jobs.Lane.TheVariants.{Lock as LockLane, Object as ObjectLane, Queue as QueueLane, Threads as ThreadsLane, Timers as TimersLane}
+use Rattle.nt_event.specs.declared.jobs.Lane.TheVariants.{Lock as LockLane, Object as ObjectLane, Queue as QueueLane}
+use Rattle.nt_event.specs.declared.jobs.Lane.TheVariants.{Threads as ThreadsLane, Timers as TimersLane}
 use Rattle.nt_event.specs.declared.scripts.Script.{Script}
 use Rattle.nt_event.specs.Lanes.{Lanes, object_at}
 use Rattle.nt_event.specs.Objects.{is_queued, dpc_inserted}

@@ -5,13 +5,17 @@ use Rattle.nt_event.specs.declared.events.What.{What}
 use Rattle.nt_event.specs.declared.jobs.Job.{Job}
 use Rattle.nt_event.specs.declared.jobs.Job.TheVariants as job
 use Rattle.nt_event.specs.declared.jobs.Lane.{Lane}
-use Rattle.nt_event.specs.declared.jobs.Lane.TheVariants.{Lock as LockLane, Object as ObjectLane, Queue as QueueLane, Threads as ThreadsLane, Timers as TimersLane}
+use Rattle.nt_event.specs.declared.jobs.Lane.TheVariants.{Lock as LockLane, Object as ObjectLane, Queue as QueueLane}
+use Rattle.nt_event.specs.declared.jobs.Lane.TheVariants.{Threads as ThreadsLane, Timers as TimersLane}
 use Rattle.nt_event.specs.declared.jobs.Stand.{Stand}
 use Rattle.nt_event.specs.declared.numbers.CpuNo.{CpuNo}
 use Rattle.nt_event.specs.declared.scripts.Script.{Script}
 use Rattle.nt_event.specs.Lanes.{lane_if}
 use Rattle.nt_event.specs.Routines.{cpu_of, owner_of}
-use Rattle.nt_event.specs.Families.{AcquireLock, DelaysIn, DpcCall, Family, ForApc, ForDpc, ForLevel, ForLock, ForOwn, ForPlain, ForRegion, ForThread, ForTimer, GiveImportance, GiveTarget, GivesWay, InsertDpc, LockCall, OwnCall, RemoveDpc, TestsAlert, UnlockLock, WaitsIn, apc_named, by_dpc_call, family, in_call, in_fire, thread_named}
+use Rattle.nt_event.specs.Families.{AcquireLock, DelaysIn, DpcCall, Family, ForApc, ForDpc, ForLevel, ForLock, ForOwn}
+use Rattle.nt_event.specs.Families.{ForPlain, ForRegion, ForThread, ForTimer, GiveImportance, GiveTarget, GivesWay}
+use Rattle.nt_event.specs.Families.{InsertDpc, LockCall, OwnCall, RemoveDpc, TestsAlert, UnlockLock, WaitsIn, apc_named}
+use Rattle.nt_event.specs.Families.{by_dpc_call, family, in_call, in_fire, thread_named}
 
 -- each of these lanes is held
 abbrev pub AreHeld : (Lane → Type 0) → List Lane → Type 0

@@ -1,6 +1,8 @@
 -- Which events a processor may make in these states of the threads: what a job gives there.
-use Rattle.std.specs.Prelude.{Bool, IfSome, IsSome, IsSomeAnd, IsTrue, None, Option, Some, false, if◌then◌else◌, is_some, length, not, ℕ, ◌&&◌, ◌<◌, ◌==◌, ◌≡◌, ◌≤◌, ◌⊎◌}
-use Rattle.nt_event.specs.declared.commands.ApcKind.TheVariants.{Normal as NormalApc, Special as SpecialApc, User as UserApc}
+use Rattle.std.specs.Prelude.{Bool, IfSome, IsSome, IsSomeAnd, IsTrue, None, Option, Some, false, if◌then◌else◌}
+use Rattle.std.specs.Prelude.{is_some, length, not, ℕ, ◌&&◌, ◌<◌, ◌==◌, ◌≡◌, ◌≤◌, ◌⊎◌}
+use Rattle.nt_event.specs.declared.commands.ApcKind.TheVariants.{Normal as NormalApc, Special as SpecialApc}
+use Rattle.nt_event.specs.declared.commands.ApcKind.TheVariants.{User as UserApc}
 use Rattle.nt_event.specs.declared.commands.Mode.{Mode}
 use Rattle.nt_event.specs.declared.commands.Reply.{Reply}
 use Rattle.nt_event.specs.declared.commands.Reply.TheVariants.{Blocked, Done, No, Refused, Spin, Status, Yes}
@@ -11,7 +13,8 @@ use Rattle.nt_event.specs.declared.events.What.{What}
 use Rattle.nt_event.specs.declared.events.What.TheVariants as what
 use Rattle.nt_event.specs.declared.frames.Again.{Again}
 use Rattle.nt_event.specs.declared.frames.Body.{Body}
-use Rattle.nt_event.specs.declared.frames.Body.TheVariants.{Apc as OnApc, Base as OnBase, Dpc as OnDpc, Int as OnInt, Rundown as OnRundown, Threaded as OnThreaded}
+use Rattle.nt_event.specs.declared.frames.Body.TheVariants.{Apc as OnApc, Base as OnBase, Dpc as OnDpc, Int as OnInt}
+use Rattle.nt_event.specs.declared.frames.Body.TheVariants.{Rundown as OnRundown, Threaded as OnThreaded}
 use Rattle.nt_event.specs.declared.inserts.Pick.{Pick}
 use Rattle.nt_event.specs.declared.jobs.Stand.{Stand}
 use Rattle.nt_event.specs.declared.numbers.ApcNo.{ApcNo}
@@ -27,7 +30,9 @@ use Rattle.nt_event.specs.Threads.{ThreadFacts, ended_status, ends_by_release, i
 use Rattle.nt_event.specs.Waits.{alert_facts, expiry_facts, insert_facts, new_pick, release_facts, wait_reply}
 use Rattle.nt_event.specs.Replies.{satisfied, yes_if, is_yes}
 use Rattle.nt_states.specs.ThreadLanes.{ThreadLanes, facts_in}
-use Rattle.nt_event.specs.Families.{AddApc, AlertThread, ApcCall, DelaysIn, GivesWay, OwnCall, ReleaseThread, TakeApc, TestsAlert, ThreadCall, WaitsIn, apc_named, by_apc_call, by_own_call, by_thread_call, in_call, in_expiry, thread_named}
+use Rattle.nt_event.specs.Families.{AddApc, AlertThread, ApcCall, DelaysIn, GivesWay, OwnCall, ReleaseThread, TakeApc}
+use Rattle.nt_event.specs.Families.{TestsAlert, ThreadCall, WaitsIn, apc_named, by_apc_call, by_own_call}
+use Rattle.nt_event.specs.Families.{by_thread_call, in_call, in_expiry, thread_named}
 use Rattle.nt_event.specs.declared.commands.TimerKey.{TimerKey}
 use Rattle.nt_event.specs.declared.commands.Command.{Command}
 

@@ -1,5 +1,6 @@
 -- What an event leaves of the timers, as a change of the time or of one setting, and when it may be made.
-use Rattle.std.specs.Prelude.{IfSome, None, Option, Some, length, option_and_then, option_map, ℕ, ◌+◌, ◌<◌, ◌≡◌, if◌then◌else◌}
+use Rattle.std.specs.Prelude.{IfSome, None, Option, Some, length, option_and_then, option_map, ℕ, ◌+◌, ◌<◌, ◌≡◌}
+use Rattle.std.specs.Prelude.{if◌then◌else◌}
 use Rattle.nt_event.specs.declared.commands.Command.{Command}
 use Rattle.nt_event.specs.declared.commands.Reply.{Reply}
 use Rattle.nt_event.specs.declared.commands.Reply.TheVariants.{Blocked, Done, No, Yes, Refused, Spin, Status}
@@ -12,7 +13,8 @@ use Rattle.nt_event.specs.declared.scripts.Script.{Script}
 use Rattle.nt_event.specs.Timers.{Timers}
 use Rattle.nt_timer.specs.Laws.{IsMadeBy}
 use Rattle.nt_timer.specs.Settings.{due_at, due_entry, expired, with_setting}
-use Rattle.nt_event.specs.Families.{DelaysIn, GivesWay, OwnCall, StartTimer, StopTimer, TestsAlert, TimerCall, WaitsIn, by_own_call, by_plain_call, by_timer_call, in_call, in_expiry, in_rewait}
+use Rattle.nt_event.specs.Families.{DelaysIn, GivesWay, OwnCall, StartTimer, StopTimer, TestsAlert, TimerCall, WaitsIn}
+use Rattle.nt_event.specs.Families.{by_own_call, by_plain_call, by_timer_call, in_call, in_expiry, in_rewait}
 use Rattle.nt_event.specs.Replies.{is_answer, is_blocked, is_yes}
 use Rattle.nt_event.specs.Frames.{time_by}
 

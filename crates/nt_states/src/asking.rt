@@ -1,14 +1,18 @@
 //! What an event asks for.
-ghost use Rattle.std.specs.Prelude.{◌≡◌, ◌≤◌, ◌++◌, ◌&&◌, All, IsTrue, [], false, if◌then◌else◌, length, not};
+ghost use Rattle.std.specs.Prelude.{◌≡◌, ◌≤◌, ◌++◌, ◌&&◌, All, IsTrue, [], false, if◌then◌else◌};
+ghost use Rattle.std.specs.Prelude.{length, not};
 ghost use Rattle.std.specs.List.{list_any};
 ghost use Rattle.nt_event.specs.Apcs.{has_kernel as has_kernel_apc};
-ghost use Rattle.nt_event.specs.Lanes.{command_lanes, end_lanes, facts_at, facts_of, insert_lanes, object_at, what_lanes};
+ghost use Rattle.nt_event.specs.Lanes.{command_lanes, end_lanes, facts_at, facts_of, insert_lanes};
+ghost use Rattle.nt_event.specs.Lanes.{object_at, what_lanes};
 ghost use Rattle.nt_event.specs.Replies.{is_refused as refuses};
-ghost use Rattle.nt_event.specs.declared.jobs.Lane.TheVariants.{Lock as LockLane, Threads as ThreadsLane};
+ghost use Rattle.nt_event.specs.declared.jobs.Lane.TheVariants.{Lock as LockLane};
+ghost use Rattle.nt_event.specs.declared.jobs.Lane.TheVariants.{Threads as ThreadsLane};
 ghost use Rattle.nt_event.specs.Objects.{is_queued};
 ghost use Rattle.nt_event.specs.Requests as requests;
 ghost use Rattle.nt_event.specs.Routines as routines;
-ghost use Rattle.nt_event.specs.Script.{command_fits, has_apc, has_cpu, has_dpc, has_lock, has_thread};
+ghost use Rattle.nt_event.specs.Script.{command_fits, has_apc, has_cpu, has_dpc, has_lock};
+ghost use Rattle.nt_event.specs.Script.{has_thread};
 ghost use Rattle.nt_event.specs.Threads.{ends_by_alert, ends_by_expiry, is_gone};
 ghost use Rattle.nt_dpc.specs.Laws.{asks_on};
 ghost use Rattle.nt_event.specs.Acts.{StandFits};
@@ -26,8 +30,8 @@ use nt_event::{
 use nt_frame::StandView;
 use std::marker::Model;
 
-/// What an event asks for: a class for each of at most 64 processors. It is filled in place, since most events ask for two
-/// classes at most and room for 64 is expensive to move.
+/// What an event asks for: a class for each of at most 64 processors. It is filled in place, since
+/// most events ask for two classes at most and room for 64 is expensive to move.
 #[derive(Drop, Debug)]
 pub struct Asks {
     asks: [Asked; 64],
@@ -170,8 +174,10 @@ fn some_spin(spinners: &[bool]) -> bool
 /// Fills in what an event asks for, of a processor that stands so.
 pub fn event_asks<S: LaneAnswers>(states: &S, stand: &StandView, what: &What, asks: &mut Asks)
     requires given { IsGiven (S.script_of states.now) (S.lanes states.now) stand.now what.now }
-    requires held { AreHeld (S.holds states.now) (what_lanes (S.script_of states.now) stand.now what.now (S.lanes states.now)) }
-    ensures asks { asks.new ≡ requests.what_asks (S.script_of states.now) stand.now what.now (S.lanes states.now) }
+    requires held { AreHeld (S.holds states.now)
+        (what_lanes (S.script_of states.now) stand.now what.now (S.lanes states.now)) }
+    ensures asks { asks.new
+        ≡ requests.what_asks (S.script_of states.now) stand.now what.now (S.lanes states.now) }
     ensures named { All (AskFits (S.script_of states.now)) asks.new }
 {
     match what {
@@ -211,8 +217,12 @@ fn call_asks<S: LaneAnswers>(
     requires command { IsTrue (command_fits (S.script_of states.now) command.now) }
     requires stand { StandFits (S.script_of states.now) stand.now }
     requires insert { InsertIsFree (S.lanes states.now) command.now reply.now }
-    requires held { AreHeld (S.holds states.now) (if refuses reply.now then [] else command_lanes (S.script_of states.now) stand.now.cpu command.now reply.now (S.lanes states.now)) }
-    ensures asks { asks.new ≡ requests.command_asks (S.script_of states.now) stand.now command.now reply.now (S.lanes states.now) }
+    requires held { AreHeld (S.holds states.now)
+        (if refuses reply.now then []
+        else command_lanes (S.script_of states.now) stand.now.cpu command.now reply.now
+        (S.lanes states.now)) }
+    ensures asks { asks.new ≡ requests.command_asks (S.script_of states.now) stand.now command.now
+        reply.now (S.lanes states.now) }
     ensures named { All (AskFits (S.script_of states.now)) asks.new }
 {
     match (command, reply) {
@@ -264,7 +274,8 @@ fn insert_asks<S: LaneAnswers>(states: &S, p: CpuNo, d: DpcNo, asks: &mut Asks)
     requires cpu { IsTrue (has_cpu (S.script_of states.now) p) }
     requires free { is_queued (object_at (S.lanes states.now) d) ≡ false }
     requires held { AreHeld (S.holds states.now) (insert_lanes p d Reply.Yes (S.lanes states.now)) }
-    ensures asks { asks.new ≡ requests.queue_asks (S.script_of states.now) d p (S.lanes states.now) }
+    ensures asks { asks.new
+        ≡ requests.queue_asks (S.script_of states.now) d p (S.lanes states.now) }
     ensures named { All (AskFits (S.script_of states.now)) asks.new }
 {
     let class = states.ask(d, p);
@@ -274,7 +285,8 @@ fn insert_asks<S: LaneAnswers>(states: &S, p: CpuNo, d: DpcNo, asks: &mut Asks)
 /// What an insert of an APC asks for.
 fn apc_asks<S: LaneAnswers>(states: &S, a: ApcNo, asks: &mut Asks)
     requires object { IsTrue (has_apc (S.script_of states.now) a) }
-    requires held { S.holds states.now (ThreadsLane (routines.cpu_of (S.script_of states.now) (routines.owner_of (S.script_of states.now) a))) }
+    requires held { S.holds states.now (ThreadsLane
+        (routines.cpu_of (S.script_of states.now) (routines.owner_of (S.script_of states.now) a))) }
     ensures asks { asks.new ≡ requests.apc_asks (S.script_of states.now) a (S.lanes states.now) }
     ensures named { All (AskFits (S.script_of states.now)) asks.new }
 {
@@ -312,7 +324,10 @@ fn spinner_asks<S: LaneAnswers>(states: &S, k: LockNo, asks: &mut Asks)
 fn alert_asks<S: LaneAnswers>(states: &S, t: ThreadNo, mode: Mode, asks: &mut Asks)
     requires thread { IsTrue (has_thread (S.script_of states.now) t) }
     requires held { S.holds states.now (ThreadsLane (routines.cpu_of (S.script_of states.now) t)) }
-    ensures asks { asks.new ≡ requests.ask_if (not (is_gone (facts_at (S.lanes states.now) t)) && ends_by_alert mode (facts_at (S.lanes states.now) t)) (routines.cpu_of (S.script_of states.now) t) 2 }
+    ensures asks { asks.new ≡ requests.ask_if
+        (not (is_gone (facts_at (S.lanes states.now) t))
+        && ends_by_alert mode (facts_at (S.lanes states.now) t))
+        (routines.cpu_of (S.script_of states.now) t) 2 }
     ensures named { All (AskFits (S.script_of states.now)) asks.new }
 {
     let ends = !states.threads().is_gone(t) && states.threads().ends_by_alert(t, mode);
@@ -323,7 +338,9 @@ fn alert_asks<S: LaneAnswers>(states: &S, t: ThreadNo, mode: Mode, asks: &mut As
 fn expiry_asks<S: LaneAnswers>(states: &S, t: ThreadNo, from: u64, asks: &mut Asks)
     requires thread { IsTrue (has_thread (S.script_of states.now) t) }
     requires held { S.holds states.now (ThreadsLane (routines.cpu_of (S.script_of states.now) t)) }
-    ensures asks { asks.new ≡ requests.ask_if (ends_by_expiry from (facts_at (S.lanes states.now) t)) (routines.cpu_of (S.script_of states.now) t) 2 }
+    ensures asks { asks.new ≡ requests.ask_if
+        (ends_by_expiry from (facts_at (S.lanes states.now) t))
+        (routines.cpu_of (S.script_of states.now) t) 2 }
     ensures named { All (AskFits (S.script_of states.now)) asks.new }
 {
     let ends = states.threads().ends_by_expiry(t, from);
@@ -335,7 +352,8 @@ fn switch_asks<S: LaneAnswers>(states: &S, p: CpuNo, t: ThreadNo, asks: &mut Ask
     requires cpu { IsTrue (has_cpu (S.script_of states.now) p) }
     requires taken { IsTaken (S.script_of states.now) p t }
     requires held { S.holds states.now (ThreadsLane p) }
-    ensures asks { asks.new ≡ requests.ask_if (has_kernel_apc (facts_at (S.lanes states.now) t).apcs) p 1 }
+    ensures asks { asks.new
+        ≡ requests.ask_if (has_kernel_apc (facts_at (S.lanes states.now) t).apcs) p 1 }
     ensures named { All (AskFits (S.script_of states.now)) asks.new }
 {
     asks.set_one_if(states.threads().has_kernel(t), p, class::APC)

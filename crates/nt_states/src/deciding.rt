@@ -1,5 +1,6 @@
 //! The event of a job, written where the caller keeps it.
-ghost use Rattle.std.specs.Prelude.{◌≡◌, IfErr, IfOk, IsErrOf, IsSome, IsTrue, OnErr, OnOk, false, if◌then◌else◌, not, option_map, true, unwrap_or};
+ghost use Rattle.std.specs.Prelude.{◌≡◌, IfErr, IfOk, IsErrOf, IsSome, IsTrue, OnErr, OnOk, false};
+ghost use Rattle.std.specs.Prelude.{if◌then◌else◌, not, option_map, true, unwrap_or};
 ghost use Rattle.nt_event.specs.Acting.{IsCallable};
 ghost use Rattle.nt_event.specs.Commands.{is_reached};
 ghost use Rattle.nt_event.specs.Fitting.{what_fits};
@@ -12,7 +13,10 @@ ghost use Rattle.nt_event.specs.Script.{command_fits, has_apc, has_cpu, has_dpc,
 ghost use Rattle.nt_event.specs.Timers.{first_due};
 ghost use Rattle.nt_event.specs.Lists.{is_null};
 ghost use Rattle.nt_event.specs.declared.jobs.Job.{Job};
-ghost use Rattle.nt_event.specs.declared.jobs.Lane.TheVariants.{Object as ObjectLane, Queue as QueueLane, Threads as ThreadsLane, Timers as TimersLane};
+ghost use Rattle.nt_event.specs.declared.jobs.Lane.TheVariants.{Object as ObjectLane};
+ghost use Rattle.nt_event.specs.declared.jobs.Lane.TheVariants.{Queue as QueueLane};
+ghost use Rattle.nt_event.specs.declared.jobs.Lane.TheVariants.{Threads as ThreadsLane};
+ghost use Rattle.nt_event.specs.declared.jobs.Lane.TheVariants.{Timers as TimersLane};
 ghost use Rattle.nt_event.specs.declared.inserts.Part.{Part as PartOf};
 ghost use Rattle.nt_event.specs.declared.scripts.Script.{Script};
 ghost use Rattle.nt_event.specs.declared.events.What.{What};
@@ -32,7 +36,8 @@ use nt_frame::StandView;
 
 /// Writes that a DPC of the part begins.
 fn begin_dpc(part: Part, dpc: DpcNo, from: u64, into: &mut What)
-    ensures { into.new ≡ jobs.begin_dpc part (record { dpc = dpc; number = from; part = part; high = false }) }
+    ensures { into.new
+        ≡ jobs.begin_dpc part (record { dpc = dpc; number = from; part = part; high = false }) }
 {
     let begun = match part {
         Part::Ordinary => Begun::Dpc(dpc),
@@ -52,16 +57,22 @@ fn begin_apc(pick: &Pick, into: &mut What)
     };
 }
 
-/// The event of the job for a processor that stands so, in the states of the lanes that it reads: what [`decide_into`] writes.
+/// The event of the job for a processor that stands so, in the states of the lanes that it reads:
+/// what [`decide_into`] writes.
 ///
-/// NothingToDo comes where it is idle, with no ordinary DPC and a ready thread; BadChoice where the thread is not its own, or not
-/// ready. NoMemory never comes.
+/// NothingToDo comes where it is idle, with no ordinary DPC and a ready thread; BadChoice where the
+/// thread is not its own, or not ready. NoMemory never comes.
 pub fn decide<S: LaneAnswers>(states: &S, job: &Job, stand: &StandView) -> Result<What, ActRefusal>
     requires can { CanDecide (S.script_of states.now) stand.now job.now }
-    requires held { AreHeld (S.holds states.now) (job_lanes (S.script_of states.now) stand.now job.now) }
-    ensures event { IfOk result (λ w. jobs.job_event (S.script_of states.now) stand.now (S.lanes states.now) job.now ≡ Some w) }
-    ensures given { IfOk result (λ w. IsGiven (S.script_of states.now) (S.lanes states.now) stand.now w) }
-    ensures refused { IfErr result (λ r. (f : Found) → f.lanes ≡ (S.lanes states.now) → IsRefused (S.script_of states.now) f stand.now job.now r) }
+    requires held { AreHeld (S.holds states.now)
+        (job_lanes (S.script_of states.now) stand.now job.now) }
+    ensures event { IfOk result (λ w.
+        jobs.job_event (S.script_of states.now) stand.now (S.lanes states.now) job.now ≡ Some w) }
+    ensures given { IfOk result
+        (λ w. IsGiven (S.script_of states.now) (S.lanes states.now) stand.now w) }
+    ensures refused { IfErr result (λ r.
+        (f : Found) → f.lanes ≡ (S.lanes states.now) →
+        IsRefused (S.script_of states.now) f stand.now job.now r) }
     ensures memory { IsErrOf result ActRefusal.NoMemory → ⊥ }
 {
     let mut what = What::Rest;
@@ -69,10 +80,11 @@ pub fn decide<S: LaneAnswers>(states: &S, job: &Job, stand: &StandView) -> Resul
     Ok(what)
 }
 
-/// Writes the event of the job where the caller keeps it, for a processor that stands so, in the states of the lanes that it reads.
+/// Writes the event of the job where the caller keeps it, for a processor that stands so, in the
+/// states of the lanes that it reads.
 ///
-/// NothingToDo comes where it is idle, with no ordinary DPC and a ready thread; BadChoice where the thread is not its own, or not
-/// ready. NoMemory never comes. After a refusal nothing was written.
+/// NothingToDo comes where it is idle, with no ordinary DPC and a ready thread; BadChoice where the
+/// thread is not its own, or not ready. NoMemory never comes. After a refusal nothing was written.
 #[inline(always)]
 pub fn decide_into<S: LaneAnswers>(
     states: &S,
@@ -81,10 +93,16 @@ pub fn decide_into<S: LaneAnswers>(
     into: &mut What,
 ) -> Result<(), ActRefusal>
     requires can { CanDecide (S.script_of states.now) stand.now job.now }
-    requires held { AreHeld (S.holds states.now) (job_lanes (S.script_of states.now) stand.now job.now) }
-    ensures event { OnOk result (jobs.job_event (S.script_of states.now) stand.now (S.lanes states.now) job.now ≡ Some into.new) }
-    ensures given { OnOk result (IsGiven (S.script_of states.now) (S.lanes states.now) stand.now into.new) }
-    ensures refused { IfErr result (λ r. (f : Found) → f.lanes ≡ (S.lanes states.now) → IsRefused (S.script_of states.now) f stand.now job.now r) }
+    requires held { AreHeld (S.holds states.now)
+        (job_lanes (S.script_of states.now) stand.now job.now) }
+    ensures event { OnOk result
+        (jobs.job_event (S.script_of states.now) stand.now (S.lanes states.now) job.now
+        ≡ Some into.new) }
+    ensures given { OnOk result
+        (IsGiven (S.script_of states.now) (S.lanes states.now) stand.now into.new) }
+    ensures refused { IfErr result (λ r.
+        (f : Found) → f.lanes ≡ (S.lanes states.now) →
+        IsRefused (S.script_of states.now) f stand.now job.now r) }
     ensures unwritten { OnErr result (into.new ≡ into.old) }
     ensures memory { IsErrOf result ActRefusal.NoMemory → ⊥ }
 {
@@ -117,8 +135,11 @@ fn call<S: LaneAnswers>(states: &S, stand: &StandView, command: &Command, into: 
     requires stand { StandFits (S.script_of states.now) stand.now }
     requires own { RunsOwn (S.script_of states.now) stand.now }
     requires callable { IsCallable stand.now command.now }
-    requires held { AreHeld (S.holds states.now) (reply_lanes (S.script_of states.now) stand.now.cpu command.now) }
-    ensures event { jobs.job_event (S.script_of states.now) stand.now (S.lanes states.now) (Job.Call command.now) ≡ Some into.new }
+    requires held { AreHeld (S.holds states.now)
+        (reply_lanes (S.script_of states.now) stand.now.cpu command.now) }
+    ensures event { jobs.job_event (S.script_of states.now) stand.now (S.lanes states.now)
+        (Job.Call command.now)
+        ≡ Some into.new }
     ensures named { IsTrue (what_fits (S.script_of states.now) into.new) }
 {
     *into = What::Call {
@@ -132,7 +153,8 @@ fn call<S: LaneAnswers>(states: &S, stand: &StandView, command: &Command, into: 
 fn fire<S: LaneAnswers>(states: &S, dpc: DpcNo, into: &mut What)
     requires object { IsTrue (has_dpc (S.script_of states.now) dpc) }
     requires held { S.holds states.now (ObjectLane dpc) }
-    ensures event { into.new ≡ What.Fire dpc (yes_if (not (is_queued (object_at (S.lanes states.now) dpc)))) }
+    ensures event { into.new
+        ≡ What.Fire dpc (yes_if (not (is_queued (object_at (S.lanes states.now) dpc)))) }
     ensures named { IsTrue (what_fits (S.script_of states.now) into.new) }
 {
     *into = What::Fire {
@@ -141,11 +163,13 @@ fn fire<S: LaneAnswers>(states: &S, dpc: DpcNo, into: &mut What)
     };
 }
 
-/// Writes that the first DPC of the part begins. False exactly where there is none; then nothing was written.
+/// Writes that the first DPC of the part begins. False exactly where there is none; then nothing
+/// was written.
 fn begin_first<S: LaneAnswers>(states: &S, part: Part, p: CpuNo, into: &mut What) -> bool
     requires cpu { IsTrue (has_cpu (S.script_of states.now) p) }
     requires queue { S.holds states.now (QueueLane p) }
-    ensures event { jobs.begin_first part (queue_at (S.lanes states.now) p) ≡ (if result then Some into.new else None) }
+    ensures event { jobs.begin_first part (queue_at (S.lanes states.now) p)
+        ≡ (if result then Some into.new else None) }
     ensures named { result ≡ true → IsTrue (what_fits (S.script_of states.now) into.new) }
     ensures unwritten { result ≡ false → into.new ≡ into.old }
 {
@@ -158,10 +182,12 @@ fn begin_first<S: LaneAnswers>(states: &S, part: Part, p: CpuNo, into: &mut What
     }
 }
 
-/// Writes that the first due key expires. False exactly where none is due; then nothing was written.
+/// Writes that the first due key expires. False exactly where none is due; then nothing was
+/// written.
 fn expire_first<S: LaneAnswers>(states: &S, into: &mut What) -> bool
     requires { S.holds states.now TimersLane }
-    ensures event { option_map jobs.expire_key (first_due (S.lanes states.now).timers) ≡ (if result then Some into.new else None) }
+    ensures event { option_map jobs.expire_key (first_due (S.lanes states.now).timers)
+        ≡ (if result then Some into.new else None) }
     ensures named { result ≡ true → IsTrue (what_fits (S.script_of states.now) into.new) }
     ensures unwritten { result ≡ false → into.new ≡ into.old }
 {
@@ -174,10 +200,12 @@ fn expire_first<S: LaneAnswers>(states: &S, into: &mut What) -> bool
     }
 }
 
-/// Writes that the first due key expires, where a sweep is owed; else that the first ordinary DPC begins, or that the class is served.
+/// Writes that the first due key expires, where a sweep is owed; else that the first ordinary DPC
+/// begins, or that the class is served.
 fn drain<S: LaneAnswers>(states: &S, stand: &StandView, into: &mut What)
     requires stand { StandFits (S.script_of states.now) stand.now }
-    requires held { AreHeld (S.holds states.now) (job_lanes (S.script_of states.now) stand.now Job.Drain) }
+    requires held { AreHeld (S.holds states.now)
+        (job_lanes (S.script_of states.now) stand.now Job.Drain) }
     ensures event { into.new ≡ jobs.drain_event stand.now (S.lanes states.now) }
     ensures named { IsTrue (what_fits (S.script_of states.now) into.new) }
 {
@@ -230,9 +258,12 @@ fn idle<S: LaneAnswers>(states: &S, stand: &StandView, into: &mut What) -> Resul
     requires stand { StandFits (S.script_of states.now) stand.now }
     requires queue { S.holds states.now (QueueLane stand.now.cpu) }
     requires threads { S.holds states.now (ThreadsLane stand.now.cpu) }
-    ensures event { OnOk result (jobs.idle_event (S.script_of states.now) stand.now (S.lanes states.now) ≡ Some into.new) }
+    ensures event { OnOk result
+        (jobs.idle_event (S.script_of states.now) stand.now (S.lanes states.now) ≡ Some into.new) }
     ensures named { OnOk result (IsTrue (what_fits (S.script_of states.now) into.new)) }
-    ensures refused { IfErr result (λ r. (r ≡ ActRefusal.NothingToDo) × (jobs.idle_event (S.script_of states.now) stand.now (S.lanes states.now) ≡ None)) }
+    ensures refused { IfErr result (λ r.
+        (r ≡ ActRefusal.NothingToDo) ×
+        (jobs.idle_event (S.script_of states.now) stand.now (S.lanes states.now) ≡ None)) }
     ensures unwritten { OnErr result (into.new ≡ into.old) }
 {
     if begin_first(states, Part::Ordinary, stand.cpu(), into) {
@@ -246,8 +277,11 @@ fn idle<S: LaneAnswers>(states: &S, stand: &StandView, into: &mut What) -> Resul
 /// NothingToDo comes where one is; then nothing was written.
 fn rest<S: LaneAnswers>(states: &S, p: CpuNo, into: &mut What) -> Result<(), ActRefusal>
     requires { S.holds states.now (ThreadsLane p) }
-    ensures event { OnOk result ((into.new ≡ What.Rest) × (is_null (jobs.ready (S.script_of states.now) p (S.lanes states.now)) ≡ true)) }
-    ensures refused { IfErr result (λ r. (r ≡ ActRefusal.NothingToDo) × (is_null (jobs.ready (S.script_of states.now) p (S.lanes states.now)) ≡ false)) }
+    ensures event { OnOk result ((into.new ≡ What.Rest) ×
+        (is_null (jobs.ready (S.script_of states.now) p (S.lanes states.now)) ≡ true)) }
+    ensures refused { IfErr result (λ r.
+        (r ≡ ActRefusal.NothingToDo) ×
+        (is_null (jobs.ready (S.script_of states.now) p (S.lanes states.now)) ≡ false)) }
     ensures unwritten { OnErr result (into.new ≡ into.old) }
 {
     if states.threads().any_ready(p) {
@@ -262,7 +296,9 @@ fn pick<S: LaneAnswers>(states: &S, stand: &StandView, last: Option<ThreadNo>, i
     requires stand { StandFits (S.script_of states.now) stand.now }
     requires queue { S.holds states.now (QueueLane stand.now.cpu) }
     requires threads { S.holds states.now (ThreadsLane stand.now.cpu) }
-    ensures event { jobs.job_event (S.script_of states.now) stand.now (S.lanes states.now) (Job.Pick last) ≡ Some into.new }
+    ensures event { jobs.job_event (S.script_of states.now) stand.now (S.lanes states.now)
+        (Job.Pick last)
+        ≡ Some into.new }
     ensures taken { TakesOwn (S.script_of states.now) stand.now into.new }
     ensures named { IsTrue (what_fits (S.script_of states.now) into.new) }
 {
@@ -276,7 +312,8 @@ fn pick<S: LaneAnswers>(states: &S, stand: &StandView, last: Option<ThreadNo>, i
 fn rest_or_begin<S: LaneAnswers>(states: &S, p: CpuNo, into: &mut What)
     requires cpu { IsTrue (has_cpu (S.script_of states.now) p) }
     requires queue { S.holds states.now (QueueLane p) }
-    ensures event { into.new ≡ unwrap_or (jobs.begin_first PartOf.Ordinary (queue_at (S.lanes states.now) p)) What.Rest }
+    ensures event { into.new
+        ≡ unwrap_or (jobs.begin_first PartOf.Ordinary (queue_at (S.lanes states.now) p)) What.Rest }
     ensures named { IsTrue (what_fits (S.script_of states.now) into.new) }
 {
     if !begin_first(states, Part::Ordinary, p, into) {
@@ -307,10 +344,15 @@ fn switch<S: LaneAnswers>(
     into: &mut What,
 ) -> Result<(), ActRefusal>
     requires { S.holds states.now (ThreadsLane stand.now.cpu) }
-    ensures event { OnOk result (jobs.job_event (S.script_of states.now) stand.now (S.lanes states.now) (Job.Switch thread) ≡ Some into.new) }
+    ensures event { OnOk result
+        (jobs.job_event (S.script_of states.now) stand.now (S.lanes states.now) (Job.Switch thread)
+        ≡ Some into.new) }
     ensures taken { OnOk result (TakesOwn (S.script_of states.now) stand.now into.new) }
     ensures named { OnOk result (IsTrue (what_fits (S.script_of states.now) into.new)) }
-    ensures refused { IfErr result (λ r. (r ≡ ActRefusal.BadChoice) × (jobs.job_event (S.script_of states.now) stand.now (S.lanes states.now) (Job.Switch thread) ≡ None)) }
+    ensures refused { IfErr result (λ r.
+        (r ≡ ActRefusal.BadChoice) ×
+        (jobs.job_event (S.script_of states.now) stand.now (S.lanes states.now) (Job.Switch thread)
+        ≡ None)) }
     ensures unwritten { OnErr result (into.new ≡ into.old) }
 {
     if states.threads().may_take(stand.cpu(), thread) {
@@ -326,9 +368,12 @@ fn rewait<S: LaneAnswers>(states: &S, stand: &StandView, into: &mut What)
     requires stand { StandFits (S.script_of states.now) stand.now }
     requires own { RunsOwn (S.script_of states.now) stand.now }
     requires runs { IsSome stand.now.thread }
-    requires held { AreHeld (S.holds states.now) (job_lanes (S.script_of states.now) stand.now Job.Rewait) }
+    requires held { AreHeld (S.holds states.now)
+        (job_lanes (S.script_of states.now) stand.now Job.Rewait) }
     requires wait { IsSome stand.now.again }
-    ensures event { jobs.job_event (S.script_of states.now) stand.now (S.lanes states.now) Job.Rewait ≡ Some into.new }
+    ensures event { jobs.job_event (S.script_of states.now) stand.now
+        (S.lanes states.now) Job.Rewait
+        ≡ Some into.new }
     ensures named { IsTrue (what_fits (S.script_of states.now) into.new) }
 {
     match stand.again() {
@@ -380,13 +425,16 @@ fn to_user<S: LaneAnswers>(states: &S, stand: &StandView, into: &mut What)
     }
 }
 
-/// Writes that the leaving thread's first user APC is flushed; where there is none, that the thread is gone.
+/// Writes that the leaving thread's first user APC is flushed; where there is none, that the thread
+/// is gone.
 fn rundown<S: LaneAnswers>(states: &S, stand: &StandView, into: &mut What)
     requires stand { StandFits (S.script_of states.now) stand.now }
     requires own { RunsOwn (S.script_of states.now) stand.now }
     requires runs { IsSome stand.now.thread }
     requires held { S.holds states.now (ThreadsLane stand.now.cpu) }
-    ensures event { jobs.job_event (S.script_of states.now) stand.now (S.lanes states.now) Job.Rundown ≡ Some into.new }
+    ensures event { jobs.job_event (S.script_of states.now) stand.now
+        (S.lanes states.now) Job.Rundown
+        ≡ Some into.new }
     ensures named { IsTrue (what_fits (S.script_of states.now) into.new) }
 {
     let thread = runner(states, stand);

@@ -78,7 +78,8 @@ fn lock_of_call(command: &Command, reply: &Reply) -> Option<(LockNo, Move)>
     }
 }
 
-/// The state of a spin lock: the processor whose frame holds it, and for each processor whether it spins on it.
+/// The state of a spin lock: the processor whose frame holds it, and for each processor whether it
+/// spins on it.
 #[derive(Drop, Debug)]
 pub struct SpinLock {
     holder: Option<CpuNo>,
@@ -122,7 +123,8 @@ impl SpinLock {
     /// Takes in what an event of the processor does to it. Its number is k.
     pub fn leave(&mut self, k: LockNo, p: CpuNo, by: Move)
         requires { p.0 < length self.old.spinners }
-        ensures { (s : Script) → s.cpus ≡ length self.old.spinners → self.new ≡ locks.lock_moved s k p (move_of k by) self.old }
+        ensures { (s : Script) → s.cpus ≡ length self.old.spinners →
+            self.new ≡ locks.lock_moved s k p (move_of k by) self.old }
     {
         let _lock = k;
         match by {

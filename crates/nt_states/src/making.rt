@@ -8,7 +8,8 @@ ghost use Rattle.nt_event.specs.Threads.{doing_level};
 ghost use Rattle.nt_event.specs.Replies.{is_blocked as blocks};
 ghost use Rattle.nt_event.specs.declared.events.What.{What};
 ghost use Rattle.nt_event.specs.declared.jobs.Stand.{Stand};
-ghost use Rattle.nt_event.specs.declared.jobs.Lane.TheVariants.{Threads as ThreadsLane, Timers as TimersLane};
+ghost use Rattle.nt_event.specs.declared.jobs.Lane.TheVariants.{Threads as ThreadsLane};
+ghost use Rattle.nt_event.specs.declared.jobs.Lane.TheVariants.{Timers as TimersLane};
 ghost use Rattle.nt_states.specs.Given.{IsGiven, IsTaken};
 ghost use Rattle.nt_states.specs.Reads.{AreHeld};
 
@@ -20,7 +21,8 @@ use nt_frame::StandView;
 /// The level after the call of a command.
 #[inline(always)]
 fn call_level(stand: &StandView, command: &Command, reply: &Reply) -> Level
-    ensures { (f : ℕ) (l : Lanes) → result ≡ acting.acted_level stand.now l (What.Call f command.now reply.now) }
+    ensures { (f : ℕ) (l : Lanes) →
+        result ≡ acting.acted_level stand.now l (What.Call f command.now reply.now) }
 {
     let old = stand.level();
     match command {
@@ -69,7 +71,8 @@ fn call_level(stand: &StandView, command: &Command, reply: &Reply) -> Level
     }
 }
 
-/// The level after a reply, of a wait that is taken up again or of a call by which no thread gives way.
+/// The level after a reply, of a wait that is taken up again or of a call by which no thread gives
+/// way.
 fn rewait_level(reply: &Reply, old: Level) -> Level
     ensures { result ≡ (if blocks reply.now then 0 else old) }
 {
@@ -82,7 +85,8 @@ fn rewait_level(reply: &Reply, old: Level) -> Level
 
 /// The level after the begin of a routine.
 fn begin_level(begun: &Begun) -> Level
-    ensures { (from : ℕ) (st : Stand) (l : Lanes) → result ≡ acting.acted_level st l (What.Begin begun.now from) }
+    ensures { (from : ℕ) (st : Stand) (l : Lanes) →
+        result ≡ acting.acted_level st l (What.Begin begun.now from) }
 {
     match begun {
         Begun::Int(level) => *level,
@@ -117,7 +121,8 @@ fn thread(what: &What, running: Option<ThreadNo>) -> Option<ThreadNo>
 /// The event that does this, of a processor that stands so.
 pub fn event<S: LaneAnswers>(states: &S, stand: &StandView, what: &What) -> Event
     requires given { IsGiven (S.script_of states.now) (S.lanes states.now) stand.now what.now }
-    requires held { AreHeld (S.holds states.now) (what_lanes (S.script_of states.now) stand.now what.now (S.lanes states.now)) }
+    requires held { AreHeld (S.holds states.now)
+        (what_lanes (S.script_of states.now) stand.now what.now (S.lanes states.now)) }
     ensures { result ≡ acting.acted_event stand.now (S.lanes states.now) what.now }
 {
     Event {
@@ -128,10 +133,13 @@ pub fn event<S: LaneAnswers>(states: &S, stand: &StandView, what: &What) -> Even
     }
 }
 
-/// Writes what an event of a processor that stands so has beside what it does, which stands in its place already.
+/// Writes what an event of a processor that stands so has beside what it does, which stands in its
+/// place already.
 pub fn complete<S: LaneAnswers>(states: &S, stand: &StandView, event: &mut Event)
-    requires given { IsGiven (S.script_of states.now) (S.lanes states.now) stand.now event.old.what }
-    requires held { AreHeld (S.holds states.now) (what_lanes (S.script_of states.now) stand.now event.old.what (S.lanes states.now)) }
+    requires given { IsGiven (S.script_of states.now) (S.lanes states.now)
+        stand.now event.old.what }
+    requires held { AreHeld (S.holds states.now)
+        (what_lanes (S.script_of states.now) stand.now event.old.what (S.lanes states.now)) }
     ensures { event.new ≡ acting.acted_event stand.now (S.lanes states.now) event.old.what }
 {
     let thread = thread(&event.what, stand.thread());
@@ -144,7 +152,8 @@ pub fn complete<S: LaneAnswers>(states: &S, stand: &StandView, event: &mut Event
 /// The level after it.
 fn level<S: LaneAnswers>(states: &S, stand: &StandView, what: &What) -> Level
     requires given { IsGiven (S.script_of states.now) (S.lanes states.now) stand.now what.now }
-    requires held { AreHeld (S.holds states.now) (what_lanes (S.script_of states.now) stand.now what.now (S.lanes states.now)) }
+    requires held { AreHeld (S.holds states.now)
+        (what_lanes (S.script_of states.now) stand.now what.now (S.lanes states.now)) }
     ensures { result ≡ acting.acted_level stand.now (S.lanes states.now) what.now }
 {
     match what {

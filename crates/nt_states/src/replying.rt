@@ -7,7 +7,9 @@ ghost use Rattle.nt_event.specs.Routines.{cpu_of};
 ghost use Rattle.nt_event.specs.Script.{command_fits, has_lock, has_thread};
 ghost use Rattle.nt_event.specs.Threads.{is_alerted, is_gone};
 ghost use Rattle.nt_event.specs.Waits.{wait_reply};
-ghost use Rattle.nt_event.specs.declared.jobs.Lane.TheVariants.{Lock as LockLane, Threads as ThreadsLane, Timers as TimersLane};
+ghost use Rattle.nt_event.specs.declared.jobs.Lane.TheVariants.{Lock as LockLane};
+ghost use Rattle.nt_event.specs.declared.jobs.Lane.TheVariants.{Threads as ThreadsLane};
+ghost use Rattle.nt_event.specs.declared.jobs.Lane.TheVariants.{Timers as TimersLane};
 ghost use Rattle.nt_event.specs.Acts.{StandFits};
 ghost use Rattle.nt_states.specs.Given.{RunsOwn};
 ghost use Rattle.nt_states.specs.Reads.{AreHeld, reply_lanes};
@@ -24,8 +26,10 @@ pub(crate) fn reply<S: LaneAnswers>(states: &S, stand: &StandView, command: &Com
     requires stand { StandFits (S.script_of states.now) stand.now }
     requires own { RunsOwn (S.script_of states.now) stand.now }
     requires callable { IsCallable stand.now command.now }
-    requires held { AreHeld (S.holds states.now) (reply_lanes (S.script_of states.now) stand.now.cpu command.now) }
-    ensures { result ≡ reply_to (S.script_of states.now) stand.now (S.lanes states.now) command.now }
+    requires held { AreHeld (S.holds states.now)
+        (reply_lanes (S.script_of states.now) stand.now.cpu command.now) }
+    ensures { result
+        ≡ reply_to (S.script_of states.now) stand.now (S.lanes states.now) command.now }
 {
     match command {
         Command::Queue(d) => Reply::yes_if(!states.is_queued(*d)),
@@ -69,7 +73,8 @@ pub(crate) fn reply<S: LaneAnswers>(states: &S, stand: &StandView, command: &Com
 fn acquire_reply<S: LaneAnswers>(states: &S, k: LockNo) -> Reply
     requires lock { IsTrue (has_lock (S.script_of states.now) k) }
     requires held { S.holds states.now (LockLane k) }
-    ensures { result ≡ (if is_none (lock_at (S.lanes states.now) k).holder then Reply.Done else Reply.Spin) }
+    ensures { result
+        ≡ (if is_none (lock_at (S.lanes states.now) k).holder then Reply.Done else Reply.Spin) }
 {
     if states.is_free(k) {
         Reply::Done
@@ -90,7 +95,8 @@ pub(crate) fn wait_reply<S: LaneAnswers>(
     requires own { RunsOwn (S.script_of states.now) stand.now }
     requires runs { IsSome stand.now.thread }
     requires held { S.holds states.now (ThreadsLane stand.now.cpu) }
-    ensures { result ≡ wait_reply (facts_of (S.lanes states.now) stand.now.thread) stand.now.regions stand.now.level mode alertable reached }
+    ensures { result ≡ wait_reply (facts_of (S.lanes states.now) stand.now.thread) stand.now.regions
+        stand.now.level mode alertable reached }
 {
     states.threads().wait_reply(
         runner(states, stand),
@@ -105,7 +111,8 @@ pub(crate) fn wait_reply<S: LaneAnswers>(
 /// Whether a delay of so many units is over at once.
 fn is_over<S: LaneAnswers>(states: &S, units: u32) -> bool
     requires { S.holds states.now TimersLane }
-    ensures { result ≡ is_reached (S.lanes states.now).timers.now ((S.lanes states.now).timers.now + units) }
+    ensures { result
+        ≡ is_reached (S.lanes states.now).timers.now ((S.lanes states.now).timers.now + units) }
 {
     let now = states.now();
     now + u64::from(units) <= now
@@ -115,7 +122,8 @@ fn is_over<S: LaneAnswers>(states: &S, units: u32) -> bool
 fn was_alerted<S: LaneAnswers>(states: &S, t: ThreadNo, mode: Mode) -> bool
     requires thread { IsTrue (has_thread (S.script_of states.now) t) }
     requires held { S.holds states.now (ThreadsLane (cpu_of (S.script_of states.now) t)) }
-    ensures { result ≡ (not (is_gone (facts_at (S.lanes states.now) t)) && is_alerted mode (facts_at (S.lanes states.now) t)) }
+    ensures { result ≡ (not (is_gone (facts_at (S.lanes states.now) t))
+        && is_alerted mode (facts_at (S.lanes states.now) t)) }
 {
     !states.threads().is_gone(t) && states.threads().is_alerted(t, mode)
 }

@@ -18,7 +18,8 @@ pub(crate) fn runner<S: LaneAnswers>(states: &S, stand: &StandView) -> ThreadNo
     requires held { S.holds states.now (ThreadsLane stand.now.cpu) }
     ensures thread { stand.now.thread ≡ Some result }
     ensures named { IsTrue (has_thread (S.script_of states.now) result) }
-    ensures held { S.holds states.now (ThreadsLane (routines.cpu_of (S.script_of states.now) result)) }
+    ensures held { S.holds states.now
+        (ThreadsLane (routines.cpu_of (S.script_of states.now) result)) }
 {
     let _states = states;
     match stand.thread() {

@@ -3,8 +3,9 @@ use nt_event::{ApcNo, CpuNo, Level, Mode, Pick, Regions, Reply, Script, ThreadNo
 
 /// What the states of a script's threads answer, each of a thread that they may be asked of.
 ///
-/// Who gets them from a value over lanes ([`threads`](crate::LaneAnswers::threads)) may ask of the threads whose lane is held there, and
-/// of no others: the facts that they tell of those may be any.
+/// Who gets them from a value over lanes ([`threads`](crate::LaneAnswers::threads)) may ask of the
+/// threads whose lane is held there, and of no others: the facts that they tell of those may be
+/// any.
 pub trait ThreadAnswers {
     ghost use Rattle.std.specs.Prelude.{◌≡◌, IfSome, IsTrue, List, not, ℕ};
     ghost use Rattle.nt_event.specs.declared.numbers.CpuNo.{CpuNo};
@@ -32,22 +33,26 @@ pub trait ThreadAnswers {
 
     // ---- the threads of a processor
 
-    /// The thread that the processor takes up next: the ready one of its threads of least number above the one that it took last,
-    /// else of least number. None exactly where none is ready.
+    /// The thread that the processor takes up next: the ready one of its threads of least number
+    /// above the one that it took last, else of least number. None exactly where none is ready.
     fn next_ready(&self, p: CpuNo, after: Option<ThreadNo>) -> Option<ThreadNo>
         requires told { tells self.now p }
-        ensures next { (l : Lanes) → l.threads ≡ facts self.now → result ≡ jobs.next_ready (script_of self.now) p after l }
+        ensures next { (l : Lanes) → l.threads ≡ facts self.now →
+            result ≡ jobs.next_ready (script_of self.now) p after l }
         ensures taken { IfSome result (IsTaken (script_of self.now) p) };
 
     /// Whether one of the processor's threads is ready.
     fn any_ready(&self, p: CpuNo) -> bool
         requires told { tells self.now p }
-        ensures { (l : Lanes) → l.threads ≡ facts self.now → result ≡ not (is_null (jobs.ready (script_of self.now) p l)) };
+        ensures { (l : Lanes) → l.threads ≡ facts self.now →
+            result ≡ not (is_null (jobs.ready (script_of self.now) p l)) };
 
-    /// Whether the processor may take up the thread: it is one of the processor's, and ready. No number past the last thread is.
+    /// Whether the processor may take up the thread: it is one of the processor's, and ready. No
+    /// number past the last thread is.
     fn may_take(&self, p: CpuNo, t: ThreadNo) -> bool
         requires told { tells self.now p }
-        ensures value { (l : Lanes) → l.threads ≡ facts self.now → result ≡ jobs.may_take (script_of self.now) p t l }
+        ensures value { (l : Lanes) → l.threads ≡ facts self.now →
+            result ≡ jobs.may_take (script_of self.now) p t l }
         ensures taken { IsTrue result → IsTaken (script_of self.now) p t };
 
     // ---- what a thread is doing
@@ -58,14 +63,15 @@ pub trait ThreadAnswers {
         requires told { tells self.now (cpu_of (script_of self.now) t) }
         ensures { result ≡ threads.is_gone (facts_among (facts self.now) t) };
 
-    /// The status of the wait that ended, which the thread's next Switch carries; None at its first run, after a yield, and where it
-    /// is not ready.
+    /// The status of the wait that ended, which the thread's next Switch carries; None at its first
+    /// run, after a yield, and where it is not ready.
     fn status(&self, t: ThreadNo) -> Option<u32>
         requires thread { IsTrue (has_thread (script_of self.now) t) }
         requires told { tells self.now (cpu_of (script_of self.now) t) }
         ensures { result ≡ threads.ended_status (facts_among (facts self.now) t) };
 
-    /// The level at which the thread is taken up: the one at which it last blocked or gave way, PASSIVE before its first run.
+    /// The level at which the thread is taken up: the one at which it last blocked or gave way,
+    /// PASSIVE before its first run.
     fn level(&self, t: ThreadNo) -> Level
         requires thread { IsTrue (has_thread (script_of self.now) t) }
         requires told { tells self.now (cpu_of (script_of self.now) t) }
@@ -73,8 +79,8 @@ pub trait ThreadAnswers {
 
     // ---- waits and alerts
 
-    /// What a wait of the thread of this mode replies at this level and in these regions. `reached` is None for a wait; for a delay,
-    /// whether its due time is reached.
+    /// What a wait of the thread of this mode replies at this level and in these regions. `reached`
+    /// is None for a wait; for a delay, whether its due time is reached.
     fn wait_reply(
         &self,
         t: ThreadNo,
@@ -86,7 +92,8 @@ pub trait ThreadAnswers {
     ) -> Reply
         requires thread { IsTrue (has_thread (script_of self.now) t) }
         requires told { tells self.now (cpu_of (script_of self.now) t) }
-        ensures { result ≡ waits.wait_reply (facts_among (facts self.now) t) regions level mode alertable reached };
+        ensures { result ≡ waits.wait_reply (facts_among (facts self.now) t) regions level mode
+            alertable reached };
 
     /// Whether the thread's alerted flag of this mode is set.
     fn is_alerted(&self, t: ThreadNo, mode: Mode) -> bool
@@ -118,10 +125,12 @@ pub trait ThreadAnswers {
     fn deliverable(&self, t: ThreadNo, regions: Regions, level: Level) -> Option<Pick>
         requires thread { IsTrue (has_thread (script_of self.now) t) }
         requires told { tells self.now (cpu_of (script_of self.now) t) }
-        ensures value { result ≡ apcs.deliverable (facts_among (facts self.now) t).apcs regions level }
+        ensures value { result
+            ≡ apcs.deliverable (facts_among (facts self.now) t).apcs regions level }
         ensures named { IfSome result (λ x. IsTrue (has_apc (script_of self.now) x.apc)) };
 
-    /// The thread's user APC that is due on the way to user mode: the first one, where the user-pending mark is set.
+    /// The thread's user APC that is due on the way to user mode: the first one, where the
+    /// user-pending mark is set.
     fn user_due(&self, t: ThreadNo) -> Option<Pick>
         requires thread { IsTrue (has_thread (script_of self.now) t) }
         requires told { tells self.now (cpu_of (script_of self.now) t) }
@@ -144,18 +153,25 @@ pub trait ThreadAnswers {
     /// Whether the APC object would be inserted: it isn't yet, and its thread still takes APCs.
     fn takes(&self, a: ApcNo) -> bool
         requires object { IsTrue (has_apc (script_of self.now) a) }
-        requires told { tells self.now (cpu_of (script_of self.now) (owner_of (script_of self.now) a)) }
-        ensures { result ≡ apcs.takes a (facts_among (facts self.now) (owner_of (script_of self.now) a)).apcs };
+        requires told { tells self.now
+            (cpu_of (script_of self.now) (owner_of (script_of self.now) a)) }
+        ensures { result
+            ≡ apcs.takes a (facts_among (facts self.now) (owner_of (script_of self.now) a)).apcs };
 
     /// Whether the APC object is inserted.
     fn is_inserted(&self, a: ApcNo) -> bool
         requires object { IsTrue (has_apc (script_of self.now) a) }
-        requires told { tells self.now (cpu_of (script_of self.now) (owner_of (script_of self.now) a)) }
-        ensures { result ≡ apcs.is_inserted a (facts_among (facts self.now) (owner_of (script_of self.now) a)).apcs };
+        requires told { tells self.now
+            (cpu_of (script_of self.now) (owner_of (script_of self.now) a)) }
+        ensures { result ≡ apcs.is_inserted a
+            (facts_among (facts self.now) (owner_of (script_of self.now) a)).apcs };
 
     /// Whether an insert of the APC object ends a wait of its thread, whatever its number is.
     fn ends_by_apc(&self, a: ApcNo) -> bool
         requires object { IsTrue (has_apc (script_of self.now) a) }
-        requires told { tells self.now (cpu_of (script_of self.now) (owner_of (script_of self.now) a)) }
-        ensures { (n : ℕ) → result ≡ threads.ends_by_apc (waits.new_pick (script_of self.now) a n) (facts_among (facts self.now) (owner_of (script_of self.now) a)) };
+        requires told { tells self.now
+            (cpu_of (script_of self.now) (owner_of (script_of self.now) a)) }
+        ensures { (n : ℕ) →
+            result ≡ threads.ends_by_apc (waits.new_pick (script_of self.now) a n)
+            (facts_among (facts self.now) (owner_of (script_of self.now) a)) };
 }

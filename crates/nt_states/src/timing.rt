@@ -7,9 +7,11 @@ use nt_event::{Again, Command, Event, Reply, ThreadNo, What};
 use nt_frame::StandView;
 use nt_timer::TimerQueue;
 
-/// Takes in the event of this number, of a processor that stood so: the timers are then as it leaves them.
+/// Takes in the event of this number, of a processor that stood so: the timers are then as it
+/// leaves them.
 ///
-/// The event is one that a job gives in these timers. The time stays below 2^50, and grows by less than 2^32.
+/// The event is one that a job gives in these timers. The time stays below 2^50, and grows by less
+/// than 2^32.
 #[inline(always)]
 pub fn leave_timers(timers: &mut TimerQueue, n: u64, stand: &StandView, event: &Event)
     requires may { (s : Script) × MayTime s timers.old event.now event.now.what }

@@ -150,7 +150,8 @@ fn end_lanes(cpu: CpuNo, body: &Option<Body>) -> Touched
 pub fn event_lanes<S: LaneAnswers>(states: &S, stand: &StandView, what: &What) -> Touched
     requires given { IsGiven (S.script_of states.now) (S.lanes states.now) stand.now what.now }
     requires held { AreHeld (S.holds states.now) (found_lanes what.now) }
-    ensures lanes { result ≡ lanes.what_lanes (S.script_of states.now) stand.now what.now (S.lanes states.now) }
+    ensures lanes { result
+        ≡ lanes.what_lanes (S.script_of states.now) stand.now what.now (S.lanes states.now) }
     ensures named { All (LaneFits (S.script_of states.now)) result }
 {
     match what {
@@ -182,7 +183,9 @@ fn call_lanes<S: LaneAnswers>(
     requires command { IsTrue (command_fits (S.script_of states.now) command.now) }
     requires stand { StandFits (S.script_of states.now) stand.now }
     requires held { AreHeld (S.holds states.now) (found_lanes (Call 0 command.now reply.now)) }
-    ensures lanes { result ≡ (if refuses reply.now then [] else lanes.command_lanes (S.script_of states.now) stand.now.cpu command.now reply.now (S.lanes states.now)) }
+    ensures lanes { result ≡ (if refuses reply.now then []
+        else lanes.command_lanes (S.script_of states.now) stand.now.cpu command.now reply.now
+        (S.lanes states.now)) }
     ensures named { All (LaneFits (S.script_of states.now)) result }
 {
     if reply.is_refused() {
@@ -197,7 +200,8 @@ fn command_lanes<S: LaneAnswers>(states: &S, p: CpuNo, command: &Command, reply:
     requires command { IsTrue (command_fits (S.script_of states.now) command.now) }
     requires cpu { IsTrue (has_cpu (S.script_of states.now) p) }
     requires held { AreHeld (S.holds states.now) (found_lanes (Call 0 command.now reply.now)) }
-    ensures lanes { result ≡ lanes.command_lanes (S.script_of states.now) p command.now reply.now (S.lanes states.now) }
+    ensures lanes { result ≡ lanes.command_lanes (S.script_of states.now) p command.now reply.now
+        (S.lanes states.now) }
     ensures named { All (LaneFits (S.script_of states.now)) result }
 {
     match command {
@@ -242,7 +246,8 @@ fn insert_lanes<S: LaneAnswers>(states: &S, p: CpuNo, d: DpcNo, reply: &Reply) -
 fn removal_lanes<S: LaneAnswers>(states: &S, d: DpcNo) -> Touched
     requires object { IsTrue (has_dpc (S.script_of states.now) d) }
     requires held { S.holds states.now (ObjectLane d) }
-    ensures lanes { result ≡ Lane.Object d ∷ lanes.standing_lanes (lanes.object_at (S.lanes states.now) d).standing }
+    ensures lanes { result
+        ≡ Lane.Object d ∷ lanes.standing_lanes (lanes.object_at (S.lanes states.now) d).standing }
     ensures named { All (LaneFits (S.script_of states.now)) result }
 {
     match states.standing(d) {
@@ -262,7 +267,9 @@ fn thread_lanes<S: LaneAnswers>(states: &S, t: ThreadNo) -> Touched
 /// The lane of the threads among which an APC object's is.
 fn apc_lanes<S: LaneAnswers>(states: &S, a: ApcNo) -> Touched
     requires { IsTrue (has_apc (S.script_of states.now) a) }
-    ensures lanes { result ≡ Lane.Threads (routines.cpu_of (S.script_of states.now) (routines.owner_of (S.script_of states.now) a)) ∷ [] }
+    ensures lanes { result ≡ Lane.Threads
+        (routines.cpu_of (S.script_of states.now) (routines.owner_of (S.script_of states.now) a)) ∷
+        [] }
     ensures named { All (LaneFits (S.script_of states.now)) result }
 {
     thread_lanes(states, states.script().owner_of(a))

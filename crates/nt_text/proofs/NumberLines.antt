@@ -1,5 +1,6 @@
 -- A first line that ends in a number of one or two digits.
-use Rattle.std.proofs.Common.{◌≡◌, ◌∙◌, ℕ, zero, suc, ◌+◌, Bool, true, false, cond, List, [], ◌∷◌, ◌++◌, length, Some, refl, sym, ap, append_assoc, arith, inl, inr, ◌/◌, ◌%◌, ◌<◌, ◌≤◌}
+use Rattle.std.proofs.Common.{◌≡◌, ◌∙◌, ℕ, zero, suc, ◌+◌, Bool, true, false, cond, List, [], ◌∷◌, ◌++◌, length, Some, refl, sym, ap, append_assoc, arith, inl}
+use Rattle.std.proofs.Common.{inr, ◌/◌, ◌%◌, ◌<◌, ◌≤◌}
 use Rattle.std.specs.Prelude.{◌==◌, All, nat_lt, slice_get, ◌⊎◌}
 use Rattle.std.specs.Fmt.{decimal}
 use Rattle.std.specs.List.{list_all, join_with_byte}
@@ -78,7 +79,8 @@ ended_first bytes line e = go (parts 10 bytes) (sym (join_with_byte-slice_split 
     one x true e = absurd cc
     one x false e = let same : (x, false) ≡ (line, true) = cc in false≢true (ap (λ (l : List ℕ × Bool). l.1) same)
 
-    go : (ps : List (List ℕ)) → bytes ≡ join_with_byte 10 ps → slice_get {X = List ℕ × Bool} (lines_of_parts ps) 0 ≡ Some (line, true) → (rest : List ℕ) × (bytes ≡ line ++ 10 ∷ rest)
+    go : (ps : List (List ℕ)) → bytes ≡ join_with_byte 10 ps → slice_get {X = List ℕ × Bool} (lines_of_parts ps) 0 ≡ Some (line, true) →
+        (rest : List ℕ) × (bytes ≡ line ++ 10 ∷ rest)
     go [] is e = absurd cc
     go (x ∷ []) is e = absurd (one x (length x == 0) e)
     go (x ∷ y ∷ ps) is e =

@@ -1,9 +1,12 @@
 -- The numbers and names of what may be wrong with a line.
 use Rattle.std.specs.Prelude.{ℕ, List, codes}
 use Rattle.nt_text.specs.declared.kind.ScriptKind.{ScriptKind}
-use Rattle.nt_text.specs.declared.kind.ScriptKind.TheVariants.{NotAscii, UnknownWord, MissingField, ExtraField, BadNumber, BadName, NameTwice, UnknownName, NoCpus, TooMany, NoEnd, WrongKind}
+use Rattle.nt_text.specs.declared.kind.ScriptKind.TheVariants.{NotAscii, UnknownWord, MissingField, ExtraField}
+use Rattle.nt_text.specs.declared.kind.ScriptKind.TheVariants.{BadNumber, BadName, NameTwice, UnknownName, NoCpus}
+use Rattle.nt_text.specs.declared.kind.ScriptKind.TheVariants.{TooMany, NoEnd, WrongKind}
 use Rattle.nt_text.specs.declared.kind.What10.{What10}
-use Rattle.nt_text.specs.declared.kind.What10.TheVariants.{Cpus, Threads, Dpcs, Apcs, Timers, Spinlocks, Routines, Commands, Turns}
+use Rattle.nt_text.specs.declared.kind.What10.TheVariants.{Cpus, Threads, Dpcs, Apcs, Timers, Spinlocks, Routines}
+use Rattle.nt_text.specs.declared.kind.What10.TheVariants.{Commands, Turns}
 
 abbrev pub kind_number : ScriptKind → ℕ
 kind_number NotAscii = 1

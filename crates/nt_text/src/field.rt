@@ -2,7 +2,8 @@
 ghost use Rattle.std.specs.Prelude.{◌≡◌, ◌≤◌, option_map, IfSome};
 ghost use Rattle.std.specs.List.{list_all};
 ghost use Rattle.std.specs.Str.{bytes_eq};
-ghost use Rattle.nt_text.specs.Fields.{digits_after, at_most, number_up_to, is_name_byte, is_name, name_of};
+ghost use Rattle.nt_text.specs.Fields.{digits_after, at_most, number_up_to, is_name_byte, is_name};
+ghost use Rattle.nt_text.specs.Fields.{name_of};
 
 /// The number that decimal digits stand for, where all bytes are digits and it is at most `most`.
 fn digits(field: &[u8], most: u64) -> Option<u64>
@@ -19,7 +20,8 @@ fn digits(field: &[u8], most: u64) -> Option<u64>
     if value <= most { Some(value) } else { None }
 }
 
-/// The decimal number of a field: digits without leading zeros, at most `most`. None exactly where it is no such number.
+/// The decimal number of a field: digits without leading zeros, at most `most`. None exactly where
+/// it is no such number.
 pub fn number(field: &[u8], most: u64) -> Option<u64>
     ensures value { result ≡ number_up_to most field.now }
     ensures within { IfSome result (λ n. n ≤ most) }

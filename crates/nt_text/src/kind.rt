@@ -63,7 +63,8 @@ pub enum ScriptKind {
     NameTwice,
     /// A used name that no line declares.
     UnknownName,
-    /// The first field of the line where `cpus` has to stand is another one, or the text ends before that line.
+    /// The first field of the line where `cpus` has to stand is another one, or the text ends
+    /// before that line.
     NoCpus,
     /// The line is the first above a limit.
     TooMany(What10),

@@ -1,9 +1,12 @@
 //! A text as lines, and a line as fields.
-ghost use Rattle.std.specs.Prelude.{◌≡◌, ◌≢◌, ◌<◌, ◌≤◌, ◌+◌, ◌++◌, ◌/◌, ◌%◌, ℕ, List, true, decimal, length, drop, option_map, slice_get, Some, None, ◌∷◌, [], IfNone, IfSome};
+ghost use Rattle.std.specs.Prelude.{◌≡◌, ◌≢◌, ◌<◌, ◌≤◌, ◌+◌, ◌++◌, ◌/◌, ◌%◌, ℕ, List, true};
+ghost use Rattle.std.specs.Prelude.{decimal, length, drop, option_map, slice_get, Some, None, ◌∷◌};
+ghost use Rattle.std.specs.Prelude.{[], IfNone, IfSome};
 ghost use Rattle.std.specs.List.{position, list_all};
 ghost use Rattle.std.specs.Option.{option_map_or};
 ghost use Rattle.std.specs.Result.{result_map_both};
-ghost use Rattle.nt_text.specs.Lines.{is_byte, parts, fields, is_printable, row_of, first, needed, rest};
+ghost use Rattle.nt_text.specs.Lines.{is_byte, parts, fields, is_printable, row_of, first, needed};
+ghost use Rattle.nt_text.specs.Lines.{rest};
 
 use crate::kind::ScriptKind;
 use memchr::memchr;
@@ -26,10 +29,12 @@ fn line_end(bytes: &[u8]) -> Option<usize>
     memchr(b'\n', bytes)
 }
 
-/// The part before the first such byte, which stands at `place`, and what comes after it, where there is one.
+/// The part before the first such byte, which stands at `place`, and what comes after it, where
+/// there is one.
 fn cut(byte: u8, bytes: &[u8], place: Option<usize>) -> (&[u8], Option<&[u8]>)
     requires { place ≡ position (is_byte byte) bytes.now }
-    ensures parts { parts byte bytes.now ≡ result.0.now ∷ option_map_or (λ r. parts byte r.now) result.1 [] }
+    ensures parts { parts byte bytes.now
+        ≡ result.0.now ∷ option_map_or (λ r. parts byte r.now) result.1 [] }
     ensures whole { IfNone result.1 (result.0.now ≡ bytes.now) }
 {
     match place {
@@ -46,11 +51,13 @@ fn field_count(line: &[u8]) -> usize
     line.iter().filter(|b| **b == b' ').count() + 1
 }
 
-/// The digit that these bytes begin with, where a line ends behind it, and what comes after that end.
+/// The digit that these bytes begin with, where a line ends behind it, and what comes after that
+/// end.
 #[inline(always)]
 fn one_digit(bytes: &[u8]) -> Option<(u8, &[u8])>
     ensures some { IfSome result (λ p. (p.0 < 10) × (bytes.now ≡ (48 + p.0) ∷ 10 ∷ p.1.now)) }
-    ensures none { IfNone result ((digit : ℕ) (rest : List ℕ) → digit < 10 → bytes.now ≢ (48 + digit) ∷ 10 ∷ rest) }
+    ensures none { IfNone result
+        ((digit : ℕ) (rest : List ℕ) → digit < 10 → bytes.now ≢ (48 + digit) ∷ 10 ∷ rest) }
 {
     match bytes {
         [byte, b'\n', rest @ ..] if byte.is_ascii_digit() => Some((*byte - b'0', rest)),
@@ -61,8 +68,11 @@ fn one_digit(bytes: &[u8]) -> Option<(u8, &[u8])>
 /// The two digits that these bytes begin with, of which the first is not 0.
 #[inline(always)]
 fn two_digits(bytes: &[u8]) -> Option<(u8, &[u8])>
-    ensures some { IfSome result (λ p. (10 ≤ p.0) × (p.0 < 100) × (bytes.now ≡ (48 + p.0 / 10) ∷ (48 + p.0 % 10) ∷ 10 ∷ p.1.now)) }
-    ensures none { IfNone result ((tens ones : ℕ) (rest : List ℕ) → 1 ≤ tens → tens < 10 → ones < 10 → bytes.now ≢ (48 + tens) ∷ (48 + ones) ∷ 10 ∷ rest) }
+    ensures some { IfSome result (λ p.
+        (10 ≤ p.0) × (p.0 < 100) × (bytes.now ≡ (48 + p.0 / 10) ∷ (48 + p.0 % 10) ∷ 10 ∷ p.1.now)) }
+    ensures none { IfNone result ((tens ones : ℕ) (rest : List ℕ) → 1 ≤ tens → tens < 10 →
+        ones < 10 →
+        bytes.now ≢ (48 + tens) ∷ (48 + ones) ∷ 10 ∷ rest) }
 {
     match bytes {
         [first, rest @ ..] if b'1' <= *first && *first <= b'9' => {
@@ -73,11 +83,13 @@ fn two_digits(bytes: &[u8]) -> Option<(u8, &[u8])>
     }
 }
 
-/// The number of one or two digits that these bytes begin with, where a line ends behind it, and what comes after that end.
+/// The number of one or two digits that these bytes begin with, where a line ends behind it, and
+/// what comes after that end.
 #[inline(always)]
 fn short_number(bytes: &[u8]) -> Option<(u8, &[u8])>
     ensures some { IfSome result (λ p. (p.0 < 100) × (bytes.now ≡ decimal p.0 ++ 10 ∷ p.1.now)) }
-    ensures none { IfNone result ((n : ℕ) (rest : List ℕ) → n < 100 → bytes.now ≢ decimal n ++ 10 ∷ rest) }
+    ensures none { IfNone result
+        ((n : ℕ) (rest : List ℕ) → n < 100 → bytes.now ≢ decimal n ++ 10 ∷ rest) }
 {
     if let Some((digit, rest)) = one_digit(bytes) {
         return Some((digit, rest));
@@ -109,7 +121,8 @@ fn is_printable(bytes: &[u8]) -> bool
 impl<'a> Line<'a> {
     /// The fields of the line.
     ///
-    /// NotAscii exactly where a byte outside 32 to 126 stands in it; else NoEnd exactly where its end is missing.
+    /// NotAscii exactly where a byte outside 32 to 126 stands in it; else NoEnd exactly where its
+    /// end is missing.
     pub fn fields(&self) -> Result<Fields<'a>, ScriptKind>
         ensures { result ≡ row_of (self.now.bytes.now, self.now.ended) }
     {
@@ -123,7 +136,8 @@ impl<'a> Line<'a> {
     }
 }
 
-/// The lines of a text that are left, in order. Contracts see the list of them, each with whether it was ended.
+/// The lines of a text that are left, in order. Contracts see the list of them, each with whether
+/// it was ended.
 #[derive(Drop)]
 pub struct Lines<'a> {
     rest: &'a [u8],
@@ -141,7 +155,8 @@ impl<'a> Model for Lines<'a> {
 impl<'a> Lines<'a> {
     ghost use Rattle.nt_text.specs.Lines.{IsShortBelow, is_inner, lines, number_line};
 
-    /// All lines of a text. Bytes behind the last byte 10, where there are any, are a line that isn't ended.
+    /// All lines of a text. Bytes behind the last byte 10, where there are any, are a line that
+    /// isn't ended.
     #[tactic(auto, using(crate::proofs::Cuts::few_lines))]
     pub fn new(bytes: &'a [u8]) -> Lines<'a>
         ensures lines { result ≡ lines bytes.now }
@@ -175,14 +190,17 @@ impl<'a> Lines<'a> {
         }
     }
 
-    /// Takes the first line that is left, where it is ended and is `head` with a number below `below` of one or two digits behind
-    /// it, and gives that number. None, and no line is taken, exactly where it is another line or none is left.
+    /// Takes the first line that is left, where it is ended and is `head` with a number below
+    /// `below` of one or two digits behind it, and gives that number. None, and no line is taken,
+    /// exactly where it is another line or none is left.
     #[inline(always)]
     pub fn take_number(&mut self, head: &[u8], below: u8) -> Option<u8>
         requires { list_all is_inner head.now ≡ true }
-        ensures some { IfSome result (λ n. IsShortBelow below n × (self.old ≡ number_line head.now n ∷ self.new)) }
+        ensures some { IfSome result
+            (λ n. IsShortBelow below n × (self.old ≡ number_line head.now n ∷ self.new)) }
         ensures none { IfNone result (self.new ≡ self.old) }
-        ensures other { IfNone result ((n : ℕ) → IsShortBelow below n → slice_get self.old 0 ≢ Some (number_line head.now n)) }
+        ensures other { IfNone result ((n : ℕ) → IsShortBelow below n →
+            slice_get self.old 0 ≢ Some (number_line head.now n)) }
     {
         let behind = self.rest.strip_prefix(head)?;
         let (number, rest) = short_number(behind)?;

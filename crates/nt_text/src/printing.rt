@@ -83,7 +83,8 @@ fn put_any(out: &mut Vec<u8>, n: u64) -> Result<(), AllocError>
 pub fn put_digits(out: &mut Vec<u8>, n: u64) -> Result<(), AllocError>
     ensures { OnOk result (out.new.items ≡ out.old.items ++ decimal n) }
 {
-    // Where there is room, as there most often is, no memory is asked for, so that no register has to be kept for the call.
+    // Where there is room, as there most often is, no memory is asked for, so that no register has
+    // to be kept for the call.
     if room(out) < 6 {
         return put_digits_and_grow(out, n);
     }
@@ -111,7 +112,8 @@ fn put_digits_within(out: &mut Vec<u8>, n: u64) -> Result<(), AllocError>
     put_any(out, n)
 }
 
-/// Adds a field behind others. Most names are short, so these are added in one write of known length.
+/// Adds a field behind others. Most names are short, so these are added in one write of known
+/// length.
 pub fn put_field(out: &mut Vec<u8>, field: &[u8]) -> Result<(), AllocError>
     ensures { OnOk result (out.new.items ≡ out.old.items ++ spaced (field.now ∷ [])) }
 {

@@ -1,6 +1,7 @@
 //! The state of one thread.
 ghost use Rattle.std.specs.Bool.{OnFalse, OnTrue};
-ghost use Rattle.std.specs.Prelude.{◌≡◌, ◌<◌, ◌&&◌, ◌||◌, ◌↔◌, IfOk, IfNone, IfSome, IsTrue, None, false, if◌then◌else◌, is_some, not, option_map, true, ℕ};
+ghost use Rattle.std.specs.Prelude.{◌≡◌, ◌<◌, ◌&&◌, ◌||◌, ◌↔◌, IfOk, IfNone, IfSome, IsTrue, None};
+ghost use Rattle.std.specs.Prelude.{false, if◌then◌else◌, is_some, not, option_map, true, ℕ};
 ghost use Rattle.nt_event.specs.Apcs as queues;
 ghost use Rattle.nt_event.specs.Jobs.{user_due as due_of};
 ghost use Rattle.nt_event.specs.Threads as spec;
@@ -20,8 +21,8 @@ use std::marker::Model;
 
 /// The state of one thread.
 ///
-/// Contracts see what it is doing, its alerted flags, the user-pending mark, the released mark, whether its base routine has
-/// ended, and its APCs.
+/// Contracts see what it is doing, its alerted flags, the user-pending mark, the released mark,
+/// whether its base routine has ended, and its APCs.
 #[derive(Drop)]
 pub struct ThreadState {
     doing: Doing,
@@ -39,14 +40,22 @@ impl Model for ThreadState {
 
     ghost Value = { ThreadFacts };
 
-    ghost view = { λ a. record { doing = a.doing; alerted_kernel = a.alerted_kernel; alerted_user = a.alerted_user; user_pending = a.user_pending; released = a.released; leaving = a.leaving; apcs = a.apcs } };
+    ghost view = { λ a. record {
+      doing = a.doing;
+      alerted_kernel = a.alerted_kernel;
+      alerted_user = a.alerted_user;
+      user_pending = a.user_pending;
+      released = a.released;
+      leaving = a.leaving;
+      apcs = a.apcs;
+    } };
 
     ghost invariant = { λ a. QuietDoing a.doing a.apcs };
 }
 
 impl ThreadState {
-    /// A thread that has not run: ready, with no flags, no APCs and open doors. Room is taken for its `apcs` APC objects, and no
-    /// later call takes memory.
+    /// A thread that has not run: ready, with no flags, no APCs and open doors. Room is taken for
+    /// its `apcs` APC objects, and no later call takes memory.
     pub fn new(alloc: Global, apcs: u32) -> Result<ThreadState, AllocError>
         ensures { IfOk result (λ x. x ≡ spec.start_facts) }
     {
@@ -98,7 +107,8 @@ impl ThreadState {
         matches!(&self.doing, Doing::Gone)
     }
 
-    /// The level of a thread that doesn't run: the one at which it last blocked or gave way, PASSIVE before its first run.
+    /// The level of a thread that doesn't run: the one at which it last blocked or gave way,
+    /// PASSIVE before its first run.
     pub fn level(&self) -> Level
         ensures { result ≡ spec.doing_level self.now.doing }
     {
@@ -109,7 +119,8 @@ impl ThreadState {
         }
     }
 
-    /// The thread is taken up. Answers the status of the wait that ended, None at the first run and after a yield.
+    /// The thread is taken up. Answers the status of the wait that ended, None at the first run and
+    /// after a yield.
     pub fn resume(&mut self) -> Option<u32>
         requires { IsTrue (spec.is_ready self.old) }
         ensures status { result ≡ spec.ended_status self.old }
@@ -123,7 +134,8 @@ impl ThreadState {
         status
     }
 
-    /// The running thread gives way at this level: it is ready, and its next [`ThreadState::resume`] has no status.
+    /// The running thread gives way at this level: it is ready, and its next
+    /// [`ThreadState::resume`] has no status.
     pub fn give_way(&mut self, level: Level)
         ensures { self.new ≡ record self.old { doing = Doing.Ready level None } }
     {
@@ -135,12 +147,14 @@ impl ThreadState {
 
     // ---- waits
 
-    /// The running thread waits, at this level and in these regions. The tests at a wait are made in their order, and what the
-    /// one that holds sets or clears is done; where none holds, the thread is blocked from here on. A wait that is taken up
-    /// again is the same call.
+    /// The running thread waits, at this level and in these regions. The tests at a wait are made
+    /// in their order, and what the one that holds sets or clears is done; where none holds, the
+    /// thread is blocked from here on. A wait that is taken up again is the same call.
     pub fn wait(&mut self, w: WaitSpec, regions: Regions, level: Level) -> WaitAnswer
-        ensures answer { reply_of result ≡ waits.wait_reply self.old regions level w.mode w.alertable w.reached }
-        ensures after { self.new ≡ waits.waited w.set regions level w.mode w.alertable (is_some w.reached) (reply_of result) self.old }
+        ensures answer { reply_of result
+            ≡ waits.wait_reply self.old regions level w.mode w.alertable w.reached }
+        ensures after { self.new ≡ waits.waited w.set regions level w.mode w.alertable
+            (is_some w.reached) (reply_of result) self.old }
         ensures quiet { NothingBehind self.new }
     {
         let answer = self.wait_answer(w, regions, level);
@@ -162,7 +176,8 @@ impl ThreadState {
 
     /// What [`ThreadState::wait`] would answer now, whatever `w.set` is.
     pub fn wait_answer(&self, w: WaitSpec, regions: Regions, level: Level) -> WaitAnswer
-        ensures { reply_of result ≡ waits.wait_reply self.now regions level w.mode w.alertable w.reached }
+        ensures { reply_of result
+            ≡ waits.wait_reply self.now regions level w.mode w.alertable w.reached }
     {
         if self.apcs.deliverable(regions, level).is_some() {
             return WaitAnswer::Now(status::KERNEL_APC);
@@ -265,7 +280,8 @@ impl ThreadState {
 
     // ---- what ends a wait
 
-    /// The wait ends with this status: the thread is ready, and [`ThreadState::resume`] gives the status.
+    /// The wait ends with this status: the thread is ready, and [`ThreadState::resume`] gives the
+    /// status.
     fn end_wait(&mut self, status: u32)
         ensures { self.new ≡ spec.ended status self.old }
     {
@@ -286,7 +302,8 @@ impl ThreadState {
         }
     }
 
-    /// Ends a wait that isn't a delay; else sets the released mark, unless the thread is gone. True exactly where it ended a wait.
+    /// Ends a wait that isn't a delay; else sets the released mark, unless the thread is gone. True
+    /// exactly where it ended a wait.
     pub fn release(&mut self) -> bool
         ensures answer { result ≡ spec.ends_by_release self.old }
         ensures after { self.new ≡ waits.release_facts self.old }
@@ -309,7 +326,8 @@ impl ThreadState {
         }
     }
 
-    /// The delay that was set under this number is over. True exactly where the thread was blocked in it.
+    /// The delay that was set under this number is over. True exactly where the thread was blocked
+    /// in it.
     pub fn end_delay(&mut self, set: u64) -> bool
         ensures answer { result ≡ spec.ends_by_expiry set self.old }
         ensures after { self.new ≡ waits.expiry_facts set self.old }
@@ -330,11 +348,13 @@ impl ThreadState {
         }
     }
 
-    /// Alerts the thread for this mode: where the flag was clear, an alertable wait whose mode isn't below ends, else the flag is
-    /// set. For a gone thread both answers are false and nothing changes.
+    /// Alerts the thread for this mode: where the flag was clear, an alertable wait whose mode
+    /// isn't below ends, else the flag is set. For a gone thread both answers are false and nothing
+    /// changes.
     pub fn alert(&mut self, m: Mode) -> AlertAnswer
         ensures was { result.was ≡ (not (spec.is_gone self.old) && spec.is_alerted m self.old) }
-        ensures ended { result.ended ≡ (not (spec.is_gone self.old) && spec.ends_by_alert m self.old) }
+        ensures ended { result.ended
+            ≡ (not (spec.is_gone self.old) && spec.ends_by_alert m self.old) }
         ensures after { self.new ≡ waits.alert_facts m self.old }
     {
         if self.is_gone() {
@@ -364,8 +384,8 @@ impl ThreadState {
         }
     }
 
-    /// Tests the alerted flag of this mode, and clears it. Where it was clear, for user mode with a user APC queued, the
-    /// user-pending mark is set. True exactly where the flag was set.
+    /// Tests the alerted flag of this mode, and clears it. Where it was clear, for user mode with a
+    /// user APC queued, the user-pending mark is set. True exactly where the flag was set.
     pub fn test_alert(&mut self, m: Mode) -> bool
         ensures answer { result ≡ spec.is_alerted m self.old }
         ensures after { self.new ≡ waits.alert_tested m self.old }
@@ -381,17 +401,21 @@ impl ThreadState {
 
     // ---- APCs
 
-    /// Inserts the APC object, under the number `n` of the inserting event. Not `yes` exactly where the object is inserted already
-    /// or the thread no longer takes APCs, and then nothing changes. A kernel APC that is deliverable then ends a wait inwardly
-    /// with STATUS_KERNEL_APC; a user APC ends an alertable user wait, or a plain one where the user-pending mark is set, with
+    /// Inserts the APC object, under the number `n` of the inserting event. Not `yes` exactly where
+    /// the object is inserted already or the thread no longer takes APCs, and then nothing changes.
+    /// A kernel APC that is deliverable then ends a wait inwardly with STATUS_KERNEL_APC; a user
+    /// APC ends an alertable user wait, or a plain one where the user-pending mark is set, with
     /// STATUS_USER_APC, and sets the mark.
     ///
-    /// The numbers of a thread's inserts rise: `n` is meant to be above each number that was inserted here before.
+    /// The numbers of a thread's inserts rise: `n` is meant to be above each number that was
+    /// inserted here before.
     pub fn apc(&mut self, a: ApcNo, k: ApcKind, n: u64) -> ApcAnswer
         requires { a.0 < 256 }
         ensures yes { result.yes ≡ queues.takes a self.old.apcs }
-        ensures ended { result.ended ≡ (queues.takes a self.old.apcs && spec.ends_by_apc (record { apc = a; kind = k; number = n }) self.old) }
-        ensures after { OnTrue result.yes (self.new ≡ waits.insert_facts (record { apc = a; kind = k; number = n }) self.old) }
+        ensures ended { result.ended ≡ (queues.takes a self.old.apcs
+            && spec.ends_by_apc (record { apc = a; kind = k; number = n }) self.old) }
+        ensures after { OnTrue result.yes
+            (self.new ≡ waits.insert_facts (record { apc = a; kind = k; number = n }) self.old) }
         ensures same { OnFalse result.yes (self.new ≡ self.old) }
         ensures quiet { NothingBehind self.new }
     {
@@ -431,7 +455,9 @@ impl ThreadState {
     /// What [`ThreadState::apc`] would answer now.
     pub fn apc_answer(&self, a: ApcNo, k: ApcKind) -> ApcAnswer
         ensures yes { result.yes ≡ queues.takes a self.now.apcs }
-        ensures ended { (n : ℕ) → result.ended ≡ (queues.takes a self.now.apcs && spec.ends_by_apc (record { apc = a; kind = k; number = n }) self.now) }
+        ensures ended { (n : ℕ) →
+            result.ended ≡ (queues.takes a self.now.apcs
+            && spec.ends_by_apc (record { apc = a; kind = k; number = n }) self.now) }
         ensures quiet { NothingBehind self.now }
     {
         let yes = self.apcs.open_for(a);
@@ -443,7 +469,8 @@ impl ThreadState {
 
     /// Whether an APC of this kind ends the wait once it is inserted.
     fn waits_for_apc(&self, k: ApcKind) -> bool
-        ensures { (a : Apc) (n : ℕ) → result ≡ spec.ends_by_apc (record { apc = a; kind = k; number = n }) self.now }
+        ensures { (a : Apc) (n : ℕ) →
+            result ≡ spec.ends_by_apc (record { apc = a; kind = k; number = n }) self.now }
     {
         match k {
             ApcKind::User => self.waits_for_user(),
@@ -463,7 +490,9 @@ impl ThreadState {
     }
 
     fn waits_for_kernel(&self, k: ApcKind) -> bool
-        ensures { (a : Apc) (n : ℕ) → result ≡ spec.ends_by_kernel (queues.with_apc (record { apc = a; kind = k; number = n }) self.now.apcs) self.now }
+        ensures { (a : Apc) (n : ℕ) →
+            result ≡ spec.ends_by_kernel
+            (queues.with_apc (record { apc = a; kind = k; number = n }) self.now.apcs) self.now }
     {
         match &self.doing {
             Doing::Blocked(waiting) => {
@@ -503,7 +532,8 @@ impl ThreadState {
         self.apcs.deliverable(regions, level)
     }
 
-    /// The user APC that is due on the way to user mode: the first one, where the user-pending mark is set.
+    /// The user APC that is due on the way to user mode: the first one, where the user-pending mark
+    /// is set.
     pub fn user_due(&self) -> Option<Pick>
         ensures { result ≡ due_of self.now }
     {
@@ -521,8 +551,9 @@ impl ThreadState {
         self.apcs.has_kernel()
     }
 
-    /// The running thread begins the APC: it is no longer queued, and a user one clears the user-pending mark. The pick is meant to
-    /// be one that [`ThreadState::deliverable`] or [`ThreadState::user_due`] answered on this state.
+    /// The running thread begins the APC: it is no longer queued, and a user one clears the
+    /// user-pending mark. The pick is meant to be one that [`ThreadState::deliverable`] or
+    /// [`ThreadState::user_due`] answered on this state.
     pub fn take(&mut self, p: Pick)
         ensures { self.new ≡ waits.apc_taken p.kind p.apc self.old }
     {
@@ -542,11 +573,13 @@ impl ThreadState {
         self.apcs.close_doors();
     }
 
-    /// Takes out the first user APC of a leaving thread, and answers it with the number of its insert. None exactly where there is
-    /// none.
+    /// Takes out the first user APC of a leaving thread, and answers it with the number of its
+    /// insert. None exactly where there is none.
     pub fn flush(&mut self) -> Option<(ApcNo, u64)>
-        ensures answer { result ≡ option_map (λ x. (x.apc, x.number)) (queues.first_user self.old.apcs) }
-        ensures after { IfSome result (λ y. self.new ≡ record self.old { apcs = queues.without_apc y.0 self.old.apcs }) }
+        ensures answer { result
+            ≡ option_map (λ x. (x.apc, x.number)) (queues.first_user self.old.apcs) }
+        ensures after { IfSome result
+            (λ y. self.new ≡ record self.old { apcs = queues.without_apc y.0 self.old.apcs }) }
         ensures none { IfNone result (self.new ≡ self.old) }
     {
         self.apcs.flush_next()
@@ -563,8 +596,8 @@ impl ThreadState {
 
     // ---- questions, for a caller that asks and leaves the state as it is
 
-    /// The status of the wait that ended, which the next [`ThreadState::resume`] answers; None at the first run, after a yield, and
-    /// where the thread is not ready.
+    /// The status of the wait that ended, which the next [`ThreadState::resume`] answers; None at
+    /// the first run, after a yield, and where the thread is not ready.
     pub fn status(&self) -> Option<u32>
         ensures { result ≡ spec.ended_status self.now }
     {
@@ -602,9 +635,11 @@ impl ThreadState {
         self.waits_for_alert(m)
     }
 
-    /// Whether an APC of this kind would end the wait once it is inserted, whichever object it is and under whichever number.
+    /// Whether an APC of this kind would end the wait once it is inserted, whichever object it is
+    /// and under whichever number.
     pub fn ends_by_apc(&self, k: ApcKind) -> bool
-        ensures { (a : Apc) (n : ℕ) → result ≡ spec.ends_by_apc (record { apc = a; kind = k; number = n }) self.now }
+        ensures { (a : Apc) (n : ℕ) →
+            result ≡ spec.ends_by_apc (record { apc = a; kind = k; number = n }) self.now }
     {
         self.waits_for_apc(k)
     }

@@ -1,5 +1,6 @@
 -- An event leaves one thread changed: the one that it names, or else the one that makes it.
-use Rattle.std.proofs.Common.{◌≡◌, ◌∙◌, ◌<◌, Bool, List, None, Some, ap, arith, eqb, false, get_or, if◌then◌else◌, length, refl, set, subst, sym, true, ℕ, ◌&&◌, ◌==◌}
+use Rattle.std.proofs.Common.{◌≡◌, ◌∙◌, ◌<◌, Bool, List, None, Some, ap, arith, eqb, false, get_or, if◌then◌else◌, length, refl, set, subst, sym, true, ℕ, ◌&&◌}
+use Rattle.std.proofs.Common.{◌==◌}
 use Rattle.std.proofs.lemmas.Bool.{and_right, eq-eqb, eqb-false, eqb-true}
 use Rattle.std.proofs.lemmas.List.{get_or-set_other, get_or-set_same, length-set}
 use Rattle.nt_event.specs.declared.commands.Command.TheVariants.{Alert, InsertApc, Release, RemoveApc}

@@ -1,5 +1,6 @@
 -- The marks of the APC objects say which are inserted, after each event.
-use Rattle.std.proofs.Common.{◌≡◌, ◌<◌, Bool, IsTrue, List, Option, None, Some, ap, eqb, false, get_or, if◌then◌else◌, length, not, refl, replicate, set, subst, suc, sym, true, zero, ℕ, ◌==◌, ◌||◌, ◌∙◌}
+use Rattle.std.proofs.Common.{◌≡◌, ◌<◌, Bool, IsTrue, List, Option, None, Some, ap, eqb, false, get_or, if◌then◌else◌, length, not, refl, replicate, set, subst}
+use Rattle.std.proofs.Common.{suc, sym, true, zero, ℕ, ◌==◌, ◌||◌, ◌∙◌}
 use Rattle.std.proofs.lemmas.Bool.{eqb-false, eqb-true, false≢true, ltb-true}
 use Rattle.std.proofs.lemmas.List.{get_or-set_other, get_or-set_same, length-replicate, length-set}
 use Rattle.std.proofs.lemmas.Map.Views.{any-filter_same}

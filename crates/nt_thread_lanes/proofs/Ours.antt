@@ -1,5 +1,6 @@
 -- What an event leaves of the states is as sound as they were.
-use Rattle.std.proofs.Common.{◌≡◌, ◌∷◌, ◌<◌, Bool, IsTrue, List, Option, Some, ap, eqb, false, get_or, if◌then◌else◌, length, not, refl, replicate, set, subst, suc, sym, true, zero, ℕ, ◌∙◌}
+use Rattle.std.proofs.Common.{◌≡◌, ◌∷◌, ◌<◌, Bool, IsTrue, List, Option, Some, ap, eqb, false, get_or, if◌then◌else◌, length, not, refl, replicate, set, subst}
+use Rattle.std.proofs.Common.{suc, sym, true, zero, ℕ, ◌∙◌}
 use Rattle.std.proofs.lemmas.Bool.{eqb-false, eqb-true}
 use Rattle.std.proofs.lemmas.List.{get_or-set_other, get_or-set_same, length-replicate, length-set}
 use Rattle.std.proofs.lemmas.List.Elements.{All-cons, All-filter, All-from_get_or, All-nil, All-weaker}

@@ -1,5 +1,6 @@
 -- What holds of the threads of a script holds after each change of one.
-use Rattle.std.proofs.Common.{◌≡◌, ◌∷◌, ◌<◌, ◌∙◌, [], Bool, IsTrue, List, None, Some, ap, arith, false, get_or, length, replicate, set, subst, suc, sym, true, zero, ℕ, refl}
+use Rattle.std.proofs.Common.{◌≡◌, ◌∷◌, ◌<◌, ◌∙◌, [], Bool, IsTrue, List, None, Some, ap, arith, false, get_or, length, replicate, set, subst, suc, sym, true}
+use Rattle.std.proofs.Common.{zero, ℕ, refl}
 use Rattle.std.proofs.lemmas.Bool.{ltb-true}
 use Rattle.nt_event.specs.declared.events.What.{What}
 use Rattle.nt_event.specs.declared.jobs.Stand.{Stand}

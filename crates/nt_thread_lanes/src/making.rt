@@ -10,7 +10,8 @@ use nt_event::{ApcKind, Begun, Body, Command, Mode, Pick, Reply, Script, What};
 use nt_frame::StandView;
 use nt_thread::{ThreadState, WaitSpec};
 
-/// Changes the state of the thread that makes the event, by the event's number and where its processor stood.
+/// Changes the state of the thread that makes the event, by the event's number and where its
+/// processor stood.
 pub fn make(state: &mut ThreadState, script: &Script, n: u64, stand: &StandView, what: &What)
     requires { CanMake stand.now what.now state.old }
     ensures { state.new ≡ made_facts script.now n stand.now what.now state.old }
@@ -39,7 +40,8 @@ pub fn make(state: &mut ThreadState, script: &Script, n: u64, stand: &StandView,
 
 fn call(state: &mut ThreadState, n: u64, stand: &StandView, command: &Command, reply: &Reply)
     requires { CanMake stand.now (Call 0 command.now reply.now) state.old }
-    ensures { (s : Declared) (f : ℕ) → state.new ≡ made_facts s n stand.now (Call f command.now reply.now) state.old }
+    ensures { (s : Declared) (f : ℕ) →
+        state.new ≡ made_facts s n stand.now (Call f command.now reply.now) state.old }
 {
     match command {
         Command::StartWait(mode, alertable) => {
@@ -109,7 +111,8 @@ fn reached(delay: bool, reply: &Reply) -> Option<bool>
 
 fn rewait(state: &mut ThreadState, n: u64, stand: &StandView, reply: &Reply)
     requires { TakesUp stand.now reply.now state.old }
-    ensures { (s : Declared) (f : ℕ) → state.new ≡ made_facts s n stand.now (Rewait f reply.now) state.old }
+    ensures { (s : Declared) (f : ℕ) →
+        state.new ≡ made_facts s n stand.now (Rewait f reply.now) state.old }
 {
     if let Some(wait) = stand.again() {
         let spec = WaitSpec {
@@ -123,7 +126,8 @@ fn rewait(state: &mut ThreadState, n: u64, stand: &StandView, reply: &Reply)
 }
 
 fn begin(state: &mut ThreadState, script: &Script, begun: &Begun, from: u64)
-    ensures { (st : Place) (n : ℕ) → state.new ≡ made_facts script.now n st (Begin begun.now from) state.old }
+    ensures { (st : Place) (n : ℕ) →
+        state.new ≡ made_facts script.now n st (Begin begun.now from) state.old }
 {
     match begun {
         Begun::Apc(apc) => state.take(Pick {

@@ -1,4 +1,5 @@
-//! Which APC objects are inserted: a mark for each, since a thread's state tells of the first ones alone.
+//! Which APC objects are inserted: a mark for each, since a thread's state tells of the first ones
+//! alone.
 ghost use Rattle.std.specs.Prelude.{◌≡◌, set};
 ghost use Rattle.nt_thread_lanes.specs.Marks.{changed_apc as changed_by, marks_after};
 

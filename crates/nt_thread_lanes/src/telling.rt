@@ -6,7 +6,8 @@ ghost use Rattle.nt_states.specs.ThreadFits.{CanTell, named_thread as thread_of,
 use nt_event::{Command, Reply, Script, ThreadNo, TimerKey, What};
 use nt_thread::ThreadState;
 
-/// The thread that the event names: the one that is released or alerted, the APC object's, or the one whose delay expires.
+/// The thread that the event names: the one that is released or alerted, the APC object's, or the
+/// one whose delay expires.
 pub fn named_thread(script: &Script, what: &What) -> Option<ThreadNo>
     ensures { result ≡ thread_of script.now what.now }
 {
@@ -96,7 +97,8 @@ pub fn tell(state: &mut ThreadState, script: &Script, n: u64, what: &What)
 fn tell_call(state: &mut ThreadState, script: &Script, n: u64, command: &Command, reply: &Reply)
     requires apcs { length script.now.apcs ≤ 256 }
     requires may { CanTell script.now (Call 0 command.now reply.now) state.old }
-    ensures { (f : ℕ) → state.new ≡ told_facts script.now n (Call f command.now reply.now) state.old }
+    ensures { (f : ℕ) →
+        state.new ≡ told_facts script.now n (Call f command.now reply.now) state.old }
 {
     match command {
         Command::Release(_) => {

@@ -35,7 +35,8 @@ impl<'s> Model for Threads<'s> {
 }
 
 impl<'s> Threads<'s> {
-    /// The threads of a script that fits, before any event. Room is taken for all APC objects, and no later call takes memory.
+    /// The threads of a script that fits, before any event. Room is taken for all APC objects, and
+    /// no later call takes memory.
     pub fn new(alloc: Global, script: &'s Script) -> Result<Threads<'s>, AllocError>
         requires { IsTrue (fits script.now) }
         ensures { IfOk result (λ x. x ≡ start script.now) }
@@ -99,7 +100,9 @@ impl<'s> Threads<'s> {
 
     /// Each pending APC is of the kind of its object.
     pub fn kinds(&self)
-        ensures { All (λ x. All (λ pick. pick.kind ≡ kind_in self.now.script pick.apc) x.apcs.pending) self.now.facts }
+        ensures { All
+            (λ x. All (λ pick. pick.kind ≡ kind_in self.now.script pick.apc) x.apcs.pending)
+            self.now.facts }
     {
         let _script = self.script;
     }

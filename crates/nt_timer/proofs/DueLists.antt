@@ -4,7 +4,8 @@ use Rattle.std.proofs.Common.{length, refl, subst, suc, sym, zero, ◌∙◌}
 use Rattle.nt_timer.specs.declared.due.DueKey.{DueKey}
 use Rattle.nt_timer.specs.Due.{AreSorted, EachOnce, IsBefore, IsIn, is_before, is_of_key, place_in, place_of, placed, without}
 use Rattle.std.specs.List.{AllByRecursion, IsDistinct, insert, list_any, remove}
-use Rattle.std.proofs.lemmas.Bool.{and_cases, and_from, eq-eqb, lt-ltb, or_left, or_right, and_parts, cases_lt, eqb-false, eqb-true, ltb-false, ltb-true, ne_eqb, or_cases, or_parts}
+use Rattle.std.proofs.lemmas.Bool.{and_cases, and_from, eq-eqb, lt-ltb, or_left, or_right, and_parts, cases_lt, eqb-false, eqb-true, ltb-false, ltb-true}
+use Rattle.std.proofs.lemmas.Bool.{ne_eqb, or_cases, or_parts}
 use Rattle.std.proofs.lemmas.Map.Keys.{IsDistinct-cons}
 use Rattle.std.proofs.lemmas.Map.Steps.{length-le_from_distinct_below}
 

@@ -11,7 +11,8 @@ use Rattle.std.specs.Option.{MatchOption}
 use Rattle.std.proofs.lemmas.Bool.{cases_lt}
 use Rattle.std.proofs.lemmas.List.{get_or_past}
 
-listed_if : (now k : ℕ) (due : List DueKey) (o : Option Setting) (h : ℕ) (s : Setting) → o ≡ Some s → Stands now due k o h → s.due ≤ now → IsIn (due_key k s) due
+listed_if : (now k : ℕ) (due : List DueKey) (o : Option Setting) (h : ℕ) (s : Setting) → o ≡ Some s → Stands now due k o h → s.due ≤ now →
+    IsIn (due_key k s) due
 listed_if now k due None h s e st r = absurd (cc)
 listed_if now k due (Some t) h s e st r =
     let same : t ≡ s = cc in subst (λ (z : Setting). IsIn (due_key k z) due) same (st.1 (rw same r))

@@ -1,5 +1,6 @@
 -- The key that comes first by its number too is the first due key.
-use Rattle.std.proofs.Common.{◌≡◌, ◌⊎◌, ◌<◌, ◌≤◌, ◌+◌, ◌-◌, ◌++◌, Bool, true, false, List, [], ◌∷◌, Option, Some, None, ℕ, ◌&&◌, ap, arith, cond, drop, eqb, inl, inr, ltb}
+use Rattle.std.proofs.Common.{◌≡◌, ◌⊎◌, ◌<◌, ◌≤◌, ◌+◌, ◌-◌, ◌++◌, Bool, true, false, List, [], ◌∷◌, Option, Some, None, ℕ, ◌&&◌, ap, arith, cond, drop, eqb}
+use Rattle.std.proofs.Common.{inl, inr, ltb}
 use Rattle.std.proofs.Common.{refl, subst, suc, sym, take, ◌∙◌}
 use Rattle.nt_event.specs.declared.commands.TimerKey.{TimerKey}
 use Rattle.nt_event.specs.declared.commands.TimerKey.TheVariants.{Delay as OfDelay, Timer as OfTimer}
@@ -32,7 +33,8 @@ index_of_key timers i = go (cases_lt i timers)
     go (inl less) = rw (lt-ltb i timers less) refl
     go (inr most) = rw (le-ltb i timers most) (omega arith)
 
-pub setting_of_key : (now timers i : ℕ) (settings : List (Option Setting)) → setting_at (key_of timers i) (timers_of now timers settings) ≡ setting_in settings i
+pub setting_of_key : (now timers i : ℕ) (settings : List (Option Setting)) →
+    setting_at (key_of timers i) (timers_of now timers settings) ≡ setting_in settings i
 setting_of_key now timers i settings = go (cases_lt i timers)
   where
     go : (i < timers) ⊎ (timers ≤ i) → setting_at (key_of timers i) (timers_of now timers settings) ≡ setting_in settings i
@@ -48,7 +50,10 @@ setting_by_index now timers settings (OfTimer t) s h = go (cases_lt t.0 timers)
     go : (t.0 < timers) ⊎ (timers ≤ t.0) → setting_in settings t.0 ≡ Some s
     go (inl less) = sym (get_or-take timers settings t.0 None less) ∙ h
     go (inr most) =
-        absurd (let none : setting_in (take timers settings) t.0 ≡ None = get_or_past (take timers settings) t.0 None (omega (arith, length-take timers settings)) in cc)
+        absurd
+        (let none : setting_in (take timers settings) t.0 ≡ None =
+        get_or_past (take timers settings) t.0 None (omega (arith, length-take timers settings)) in
+        cc)
 setting_by_index now timers settings (OfDelay t) s h = sym (get_or-drop timers settings t.0 None) ∙ h
 
 -- ---- keys in the order of their numbers
@@ -189,9 +194,11 @@ first_among now timers settings e x (Some m) h s at same r =
     due_among view (key_of timers e.key) s (setting_of_key now timers e.key settings ∙ at) r in
     let own : entry timers k ≡ e = ap (λ (n : ℕ). due_key n s) (index_of_key timers e.key) ∙ sym same in
     let m_in = filter_among (is_due_key now) m (set_keys view) (reduce_among (filter (is_due_key now) (set_keys view)) m h) in
-    let m_set : setting_in settings (index_of timers m.key) ≡ Some m.setting = setting_by_index now timers settings m.key m.setting (set_key_is_set view m m_in.0) in
+    let m_set : setting_in settings (index_of timers m.key) ≡ Some m.setting =
+    setting_by_index now timers settings m.key m.setting (set_key_is_set view m m_in.0) in
     let m_due : m.setting.due ≤ now = leb-true m.setting.due now m_in.1 in
-    elim (reduce_first timers (filter (is_due_key now) (set_keys view)) m k (filter_rises timers (is_due_key now) (set_keys view) (keys_rise now timers settings)) h among) [
+    elim (reduce_first timers (filter (is_due_key now) (set_keys view)) m k
+    (filter_rises timers (is_due_key now) (set_keys view) (keys_rise now timers settings)) h among) [
       | inl is ↦ ap (λ (z : SetKey). Some z) (sym is)
       | inr before ↦ absurd (wrong (index_of timers m.key) m.setting m_set m_due (subst (λ (z : DueKey). IsBefore (entry timers m) z) own before))
     ]
@@ -213,8 +220,8 @@ first_due_is now timers settings e x =
     let n : x.setting.number ≡ e.number = ap (λ (z : DueKey). z.number) (sym x.same) in
     rw (h, n) refl
 
-none_first : (now timers : ℕ) (settings : List (Option Setting)) → ((k : ℕ) (s : Setting) → setting_in settings k ≡ Some s → now < s.due) → (o : Option SetKey) →
-    first_due (timers_of now timers settings) ≡ o → o ≡ None
+none_first : (now timers : ℕ) (settings : List (Option Setting)) → ((k : ℕ) (s : Setting) → setting_in settings k ≡ Some s → now < s.due) →
+    (o : Option SetKey) → first_due (timers_of now timers settings) ≡ o → o ≡ None
 none_first now timers settings h None e = refl
 none_first now timers settings h (Some m) e =
     let view : Timers = timers_of now timers settings in

@@ -41,8 +41,10 @@ delay_put now timers settings t o key x w e k h =
 
 pub delay_numbered : (timers : ℕ) (settings settings' : List (Option Setting)) (t : ℕ) (o : Option Setting) → settings' ≡ set settings (timers + t) o →
     t < 65536 → IsNumbered (take timers settings) → IsNumbered (drop timers settings) → IsNumbered (take timers settings') × IsNumbered (drop timers settings')
-delay_numbered timers settings settings' t o e less a b =
-    (rw (e, take-set-le timers settings (timers + t) o (omega arith)) a, rw (e, drop-set-add timers settings t o) (numbered_set (drop timers settings) t o less b))
+delay_numbered timers settings settings' t o e less a b = (
+  rw (e, take-set-le timers settings (timers + t) o (omega arith)) a,
+  rw (e, drop-set-add timers settings t o) (numbered_set (drop timers settings) t o less b),
+)
 
 -- ---- a new table
 

@@ -380,7 +380,8 @@ detached_links next previous home k h less other =
     } in
     record {
       next_all = length-set (set next (get_or previous k 0) (get_or next k 0)) k k ∙ length-set next (get_or previous k 0) (get_or next k 0) ∙ a ∙ sym lengths;
-      previous_all = length-set (set previous (get_or next k 0) (get_or previous k 0)) k k ∙ length-set previous (get_or next k 0) (get_or previous k 0) ∙ b ∙ sym
+      previous_all =
+          length-set (set previous (get_or next k 0) (get_or previous k 0)) k k ∙ length-set previous (get_or next k 0) (get_or previous k 0) ∙ b ∙ sym
           lengths;
       rank = h.rank;
       nodes = rw lengths (detached (length home) (λ i. get_or next i 0) (λ i. get_or previous i 0) (λ i. get_or home i 0) h.rank

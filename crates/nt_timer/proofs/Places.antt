@@ -34,15 +34,17 @@ Sooner f past now due = (due ≤ now) ⊎ (index_from f now due < index_from f p
 up : (past now : ℕ) → past < now → (past / 64 ≡ now / 64 → ⊥) → past / 64 < now / 64
 up past now h e = omega arith
 
-later_far : (f past now due : ℕ) → past < now → past < due → Later f (past / 64) (now / 64) (due / 64) → (past / 64 ≡ now / 64 → ⊥) → (past / 64 ≡ due / 64 → ⊥) →
+later_far : (f past now due : ℕ) → past < now → past < due → Later f (past / 64) (now / 64) (due / 64) → (past / 64 ≡ now / 64 → ⊥) →
+    (past / 64 ≡ due / 64 → ⊥) →
     Later (suc f) past now due
 later_far f past now due h k r e d =
     let less : now < due = let l = r.0 in omega arith in
     let ne : now / 64 ≡ due / 64 → ⊥ = λ z. let l = r.0 in omega arith in
     (less, far f now due ne ∙ ap (λ (n : ℕ). 64 + n) r.1 ∙ sym (far f past due d))
 
-sooner_far : (f past now due : ℕ) → past < now → past < due → Sooner f (past / 64) (now / 64) (due / 64) → (past / 64 ≡ now / 64 → ⊥) → (past / 64 ≡ due / 64 → ⊥) →
-    (now / 64 ≡ due / 64) ⊎ (now / 64 ≡ due / 64 → ⊥) → Sooner (suc f) past now due
+sooner_far : (f past now due : ℕ) → past < now → past < due → Sooner f (past / 64) (now / 64) (due / 64) → (past / 64 ≡ now / 64 → ⊥) →
+    (past / 64 ≡ due / 64 → ⊥) → (now / 64 ≡ due / 64) ⊎ (now / 64 ≡ due / 64 → ⊥) →
+    Sooner (suc f) past now due
 sooner_far f past now due h k r e d (inl same) =
     let a = near f now due same in let b = far f past due d in inr (omega arith)
 sooner_far f past now due h k (inl low) e d (inr ne) = inl (omega arith)
@@ -200,10 +202,12 @@ higher now due level slot level' slot' x l s =
 digits_step : (f now due : ℕ) → now < due → (now / 64 < due / 64 → IsSlotOf (now / 64) (due / 64) (index_from f (now / 64) (due / 64) / 64)
     (index_from f (now / 64) (due / 64) % 64)) → (now / 64 ≡ due / 64) ⊎ (now / 64 ≡ due / 64 → ⊥) →
     IsSlotOf now due (index_from (suc f) now due / 64) (index_from (suc f) now due % 64)
-digits_step f now due h rest (inl e) = let a = near f now due e in lowest now due (index_from (suc f) now due / 64) (index_from (suc f) now due % 64) h e (omega arith) (omega arith)
+digits_step f now due h rest (inl e) = let a = near f now due e in
+    lowest now due (index_from (suc f) now due / 64) (index_from (suc f) now due % 64) h e (omega arith) (omega arith)
 digits_step f now due h rest (inr e) =
     let a = far f now due e in
-    higher now due (index_from f (now / 64) (due / 64) / 64) (index_from f (now / 64) (due / 64) % 64) (index_from (suc f) now due / 64) (index_from (suc f) now due % 64)
+    higher now due (index_from f (now / 64) (due / 64) / 64) (index_from f (now / 64) (due / 64) % 64) (index_from (suc f) now due / 64)
+    (index_from (suc f) now due % 64)
     (rest (up now due h e)) (omega arith) (omega arith)
 
 digits : (f now due : ℕ) → now < due → due < reach f → IsSlotOf now due (index_from f now due / 64) (index_from f now due % 64)

@@ -1,5 +1,6 @@
 -- Keys that are set, taken back and moved stand where they should.
-use Rattle.std.proofs.Common.{◌≡◌, ◌⊎◌, ◌<◌, ◌≤◌, ◌+◌, ◌-◌, ◌^◌, Bool, true, false, List, Option, Some, None, ℕ, ap, arith, cond, eqb, leb, inl, inr, get_or, length, refl, set, subst, suc}
+use Rattle.std.proofs.Common.{◌≡◌, ◌⊎◌, ◌<◌, ◌≤◌, ◌+◌, ◌-◌, ◌^◌, Bool, true, false, List, Option, Some, None, ℕ, ap, arith, cond, eqb, leb, inl, inr, get_or}
+use Rattle.std.proofs.Common.{length, refl, set, subst, suc}
 use Rattle.std.proofs.Common.{[], ◌∷◌, sym, zero, ◌∙◌}
 use Rattle.nt_event.specs.declared.inserts.Setting.{Setting}
 use Rattle.nt_event.specs.Timers.{setting_in}
@@ -9,7 +10,8 @@ use Rattle.nt_timer.specs.Due.{AreSorted, EachOnce, IsIn, placed, without}
 use Rattle.nt_timer.specs.Rings.{IsOfRing}
 use Rattle.nt_timer.specs.Slots.{slot_index}
 use Rattle.nt_timer.specs.Wheel.{IsKept, IsListed, IsPassed, IsTurned, IsWheel, Stands, Waits, due_key, due_with, due_without, home_of}
-use Rattle.nt_timer.proofs.DueLists.{gone_without, in_placed, in_without, kept_without, new_placed, old_placed, once_placed, once_without, room_left, sorted_placed}
+use Rattle.nt_timer.proofs.DueLists.{gone_without, in_placed, in_without, kept_without, new_placed, old_placed, once_placed, once_without, room_left}
+use Rattle.nt_timer.proofs.DueLists.{sorted_placed}
 use Rattle.nt_timer.proofs.DueLists.{sorted_without}
 use Rattle.nt_timer.proofs.Places.{moves, stays, within}
 use Rattle.std.proofs.lemmas.Bool.{cases_eq, cases_lt, eq-eqb, le-leb, leb-false, leb-true, lt-leb, lt-ltb, le-ltb, ne_eqb}
@@ -139,7 +141,10 @@ stood now Allowed Excepted Excepted' settings homes due k s x less at apart ok r
     own j e =
         let here : get_or (set homes (HEADS + k) (home_of now s.due k)) (HEADS + k) 0 ≡ home_of now s.due k =
         own_home homes k (home_of now s.due k) (let n = x.nodes in omega arith) in
-        rw e (stands_set now k s due (setting_in settings k) (get_or (set homes (HEADS + k) (home_of now s.due k)) (HEADS + k) 0) at here, subst Allowed (sym here) ok)
+        rw e (
+          stands_set now k s due (setting_in settings k) (get_or (set homes (HEADS + k) (home_of now s.due k)) (HEADS + k) 0) at here,
+          subst Allowed (sym here) ok,
+        )
 
     other : (j : ℕ) → j < length settings → (j ≡ k → ⊥) → (Stands now (due_with now k s due) j (setting_in settings j)
         (get_or (set homes (HEADS + k) (home_of now s.due k)) (HEADS + j) 0) × Allowed (get_or (set homes (HEADS + k) (home_of now s.due k)) (HEADS + j) 0)) ⊎
@@ -230,8 +235,9 @@ fewer_stands now k j old due (Some t) h ne st = (st.0, λ r. kept_in now k old d
 pub IsLifted : ℕ → ℕ → ℕ → List (Option Setting) → List ℕ → List DueKey → Type 0
 IsLifted low now k settings homes due = IsKept now (λ home. low ≤ home) (λ j home. j ≡ k) settings homes due
 
-pub lifted : (low now k : ℕ) (old new : Option Setting) (settings : List (Option Setting)) (homes : List ℕ) (due : List DueKey) → IsWheel low now settings homes due →
-    setting_in settings k ≡ old → IsLifted low now k (set settings k new) (set homes (HEADS + k) (HEADS + k)) (due_without now k old due)
+pub lifted : (low now k : ℕ) (old new : Option Setting) (settings : List (Option Setting)) (homes : List ℕ) (due : List DueKey) →
+    IsWheel low now settings homes due → setting_in settings k ≡ old →
+    IsLifted low now k (set settings k new) (set homes (HEADS + k) (HEADS + k)) (due_without now k old due)
 unfolding IsLifted
 lifted low now k old new settings homes due x at =
     record {
@@ -263,8 +269,9 @@ lifted low now k old new settings homes due x at =
 stands_none : (now j : ℕ) (due : List DueKey) (o : Option Setting) (h : ℕ) → o ≡ None → h ≡ HEADS + j → Stands now due j o h
 stands_none now j due o h e at = subst (λ (p : Option Setting). Stands now due j p h) (sym e) at
 
-pub settled_none : (low now k : ℕ) (settings : List (Option Setting)) (homes : List ℕ) (due : List DueKey) → IsLifted low now k settings homes due → low ≤ HEADS →
-    setting_in settings k ≡ None → get_or homes (HEADS + k) 0 ≡ HEADS + k → IsWheel low now settings homes due
+pub settled_none : (low now k : ℕ) (settings : List (Option Setting)) (homes : List ℕ) (due : List DueKey) → IsLifted low now k settings homes due →
+    low ≤ HEADS → setting_in settings k ≡ None → get_or homes (HEADS + k) 0 ≡ HEADS + k →
+    IsWheel low now settings homes due
 unfolding IsLifted
 settled_none low now k settings homes due x small none alone =
     record {
@@ -418,8 +425,9 @@ waiting_from : (past now slot : ℕ) (o : Option Setting) (h : ℕ) → h ≡ sl
 waiting_from past now slot None h e w = absurd w
 waiting_from past now slot (Some s) h e w = record { setting = s; set = refl; late = w.0; slot_is = sym e ∙ w.1 }
 
-pub waiting : (lowest past now slot k : ℕ) (settings : List (Option Setting)) (homes : List ℕ) (due : List DueKey) → IsTurned lowest past now slot settings homes due →
-    slot ≤ slot_index past now → k < length settings → get_or homes (HEADS + k) 0 ≡ slot → IsWaiting past now slot (setting_in settings k)
+pub waiting : (lowest past now slot k : ℕ) (settings : List (Option Setting)) (homes : List ℕ) (due : List DueKey) →
+    IsTurned lowest past now slot settings homes due → slot ≤ slot_index past now → k < length settings → get_or homes (HEADS + k) 0 ≡ slot →
+    IsWaiting past now slot (setting_in settings k)
 waiting lowest past now slot k settings homes due x top less at =
     elim (x.stands k less) [
       | inl st ↦ absurd (elim st.1.1 [ inl low ↦ omega arith | inr high ↦ omega arith ])
@@ -525,10 +533,12 @@ stepped low low' past now slot node s settings homes homes' homes'' due due' x l
           (other_slot past now slot k s less few top late is)),
     )
 
-pub step_room : (low past now slot node : ℕ) (settings : List (Option Setting)) (homes : List ℕ) (due : List DueKey) → IsTurned low past now slot settings homes due →
-    slot < HEADS → IsOfRing homes slot node → length due < length settings
+pub step_room : (low past now slot node : ℕ) (settings : List (Option Setting)) (homes : List ℕ) (due : List DueKey) →
+    IsTurned low past now slot settings homes due → slot < HEADS → IsOfRing homes slot node →
+    length due < length settings
 step_room low past now slot node settings homes due x small ring =
     let nk = node_key (length settings) (length homes) node x.nodes ring.other ring.below in
     let here : get_or homes (HEADS + (node - HEADS)) 0 ≡ slot = rw nk.0 ring.here in
-    room now (λ home. (low ≤ home) × IsPassed past now slot home) (λ j home. Waits past now slot (setting_in settings j) home) settings homes due (node - HEADS) x nk.1
+    room now (λ home. (low ≤ home) × IsPassed past now slot home) (λ j home. Waits past now slot (setting_in settings j) home) settings homes due (node - HEADS)
+    x nk.1
     (waiting_apart low past now slot (node - HEADS) settings homes due x small here)

@@ -4,7 +4,8 @@ use Rattle.nt_timer.specs.declared.due.DueKey.{DueKey}
 
 abbrev pub is_before : DueKey → DueKey → Bool
 is_before a b =
-    nat_lt a.due b.due || ((a.due == b.due) && (nat_lt a.number b.number || ((a.number == b.number) && nat_lt a.key b.key)))
+    nat_lt a.due b.due
+    || ((a.due == b.due) && (nat_lt a.number b.number || ((a.number == b.number) && nat_lt a.key b.key)))
 
 abbrev pub is_of_key : ℕ → DueKey → Bool
 is_of_key k x = x.key == k

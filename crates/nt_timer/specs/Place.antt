@@ -10,7 +10,8 @@ use Rattle.nt_timer.specs.declared.slots.Slot.{Slot}
 abbrev pub digit : ℕ → ℕ → ℕ
 digit place x = x / 64 ^ place % 64
 
--- the level is the greatest place at which the digits of the time and of the due time differ, the slot is that digit of the due time
+-- the level is the greatest place at which the digits of the time and of the due time differ, the slot is that digit of
+-- the due time
 pub record IsSlotOf (now due level slot : ℕ) : Type 0 where
   pub own : slot ≡ digit level due
   pub differs : digit level now ≡ digit level due → ⊥

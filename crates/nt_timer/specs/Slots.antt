@@ -1,8 +1,8 @@
 -- The slots of a wheel: levels of 64, by digits of six bits.
 use Rattle.std.specs.Prelude.{if◌then◌else◌, suc, zero, ℕ, ◌%◌, ◌+◌, ◌/◌, ◌==◌}
 
--- the slot of a due time, counted from the first slot of this level; `now` and `due` without the digits below; the highest level
--- takes what is left
+-- the slot of a due time, counted from the first slot of this level; `now` and `due` without the digits below; the
+-- highest level takes what is left
 unfoldable pub index_from : ℕ → ℕ → ℕ → ℕ
 index_from zero now due = due
 index_from (suc higher) now due =

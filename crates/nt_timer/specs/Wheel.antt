@@ -1,5 +1,6 @@
 -- The wheel of timers: where each key stands.
-use Rattle.std.specs.Prelude.{List, None, Option, Some, if◌then◌else◌, length, nat_le, nat_lt, slice_index, ℕ, ◌+◌, ◌<◌, ◌≡◌, ◌≤◌, ◌⊎◌}
+use Rattle.std.specs.Prelude.{List, None, Option, Some, if◌then◌else◌, length, nat_le, nat_lt, slice_index, ℕ, ◌+◌, ◌<◌}
+use Rattle.std.specs.Prelude.{◌≡◌, ◌≤◌, ◌⊎◌}
 use Rattle.nt_event.specs.declared.inserts.Setting.{Setting}
 use Rattle.nt_event.specs.Timers.{setting_in}
 use Rattle.nt_timer.specs.declared.due.DueKey.{DueKey}
@@ -35,20 +36,24 @@ pub record IsListed (now : ℕ) (settings : List (Option Setting)) (homes : List
   pub alone : slice_index homes (HEADS + e.key) ≡ HEADS + e.key
 
 -- each key stands where its setting says, in a ring that is allowed, or is one of those that are excepted there
-pub record IsKept (now : ℕ) (Allowed : ℕ → Type 0) (Excepted : ℕ → ℕ → Type 0) (settings : List (Option Setting)) (homes : List ℕ)
+pub record IsKept (now : ℕ) (Allowed : ℕ → Type 0) (Excepted : ℕ → ℕ → Type 0) (settings : List (Option Setting))
+    (homes : List ℕ)
     (due : List DueKey) : Type 0 where
   pub nodes : length homes ≡ HEADS + length settings
   pub sorted : AreSorted due
   pub once : EachOnce due
   pub listed : (e : DueKey) → IsIn e due → IsListed now settings homes e
-  pub stands : (k : ℕ) → k < length settings → (Stands now due k (setting_in settings k) (slice_index homes (HEADS + k)) × Allowed (slice_index homes (HEADS + k))) ⊎
+  pub stands : (k : ℕ) → k < length settings →
+      (Stands now due k (setting_in settings k) (slice_index homes (HEADS + k)) ×
+      Allowed (slice_index homes (HEADS + k))) ⊎
       Excepted k (slice_index homes (HEADS + k))
 
 -- no key stands in a slot below the lowest
 abbrev pub IsWheel : ℕ → ℕ → List (Option Setting) → List ℕ → List DueKey → Type 0
 IsWheel lowest now settings homes due = IsKept now (λ home. lowest ≤ home) (λ k home. ⊥) settings homes due
 
--- while the time goes on from `past` to `now`, a key may still wait in a slot from this one on, up to that of the new time
+-- while the time goes on from `past` to `now`, a key may still wait in a slot from this one on, up to that of the new
+-- time
 abbrev pub Waits : ℕ → ℕ → ℕ → Option Setting → ℕ → Type 0
 Waits past now from None home = ⊥
 Waits past now from (Some s) home =
@@ -59,7 +64,8 @@ IsPassed past now from home = (home < from) ⊎ (slot_index past now < home)
 
 abbrev pub IsTurned : ℕ → ℕ → ℕ → ℕ → List (Option Setting) → List ℕ → List DueKey → Type 0
 IsTurned lowest past now from settings homes due =
-    IsKept now (λ home. (lowest ≤ home) × IsPassed past now from home) (λ k home. Waits past now from (setting_in settings k) home) settings homes due
+    IsKept now (λ home. (lowest ≤ home) × IsPassed past now from home)
+    (λ k home. Waits past now from (setting_in settings k) home) settings homes due
 
 -- what is left of the due keys without the key that has this setting
 abbrev pub due_without : ℕ → ℕ → Option Setting → List DueKey → List DueKey
@@ -76,4 +82,5 @@ pub record IsFirstKey (now : ℕ) (settings : List (Option Setting)) (e : DueKey
   pub set : setting_in settings e.key ≡ Some setting
   pub same : e ≡ due_key e.key setting
   pub reached : setting.due ≤ now
-  pub first : (k : ℕ) (s : Setting) → setting_in settings k ≡ Some s → s.due ≤ now → (k ≡ e.key) ⊎ IsBefore e (due_key k s)
+  pub first : (k : ℕ) (s : Setting) → setting_in settings k ≡ Some s → s.due ≤ now →
+      (k ≡ e.key) ⊎ IsBefore e (due_key k s)

@@ -11,7 +11,8 @@ pub(crate) struct DueKey {
     pub(crate) key: usize,
 }
 
-/// Whether a key expires before another: by due time, then by the number of the event that set it, then by its own number.
+/// Whether a key expires before another: by due time, then by the number of the event that set it,
+/// then by its own number.
 fn is_before(a: &DueKey, b: &DueKey) -> bool
     ensures { result ≡ is_before a.now b.now }
 {
@@ -19,8 +20,8 @@ fn is_before(a: &DueKey, b: &DueKey) -> bool
         || (a.due == b.due && (a.number < b.number || (a.number == b.number && a.key < b.key)))
 }
 
-/// How many of the keys expire before this one: all, as where keys come due one after another, or those up to the first that
-/// doesn't.
+/// How many of the keys expire before this one: all, as where keys come due one after another, or
+/// those up to the first that doesn't.
 fn place_in(keys: &[DueKey], key: &DueKey) -> usize
     requires { AreSorted keys.now }
     ensures { result ≡ place_in key.now keys.now }

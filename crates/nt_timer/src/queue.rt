@@ -1,12 +1,15 @@
 //! The queue of timers and delays.
 ghost use Rattle.std.specs.Bool.{OnFalse};
 ghost use Rattle.std.specs.List.{list_any};
-ghost use Rattle.std.specs.Prelude.{◌≡◌, ◌==◌, ◌+◌, ◌-◌, ◌<◌, ◌≤◌, ◌^◌, ◌↔◌, IfOk, IsSome, MatchOption, IsTrue, None, Some, is_some, option_map, length};
-ghost use Rattle.nt_event.specs.declared.commands.TimerKey.TheVariants.{Delay as OfDelay, Timer as OfTimer};
+ghost use Rattle.std.specs.Prelude.{◌≡◌, ◌==◌, ◌+◌, ◌-◌, ◌<◌, ◌≤◌, ◌^◌, ◌↔◌, IfOk, IsSome};
+ghost use Rattle.std.specs.Prelude.{MatchOption, IsTrue, None, Some, is_some, option_map, length};
+ghost use Rattle.nt_event.specs.declared.commands.TimerKey.TheVariants.{Delay as OfDelay};
+ghost use Rattle.nt_event.specs.declared.commands.TimerKey.TheVariants.{Timer as OfTimer};
 ghost use Rattle.nt_event.specs.Timers.{is_due_key, is_set_timer, renewed, set_keys, setting_in};
 ghost use Rattle.nt_timer.specs.Keys.{key_of};
 ghost use Rattle.nt_timer.specs.Place.{HasNoPlace, IsPlace};
-ghost use Rattle.nt_timer.specs.Settings.{IsKey, due_at, due_entry, expired, new_timers, setting_after, setting_at, with_setting};
+ghost use Rattle.nt_timer.specs.Settings.{IsKey, due_at, due_entry, expired, new_timers};
+ghost use Rattle.nt_timer.specs.Settings.{setting_after, setting_at, with_setting};
 
 use crate::slots::{Slot, slot_of};
 use crate::wheel::Wheel;
@@ -32,12 +35,14 @@ pub struct Expired {
     pub again: Option<u64>,
 }
 
-/// The time, and when timers and delays are due. It has room for all of them from the start: no call but [`TimerQueue::new`]
-/// takes memory. What isn't due stands in a wheel of nine levels of 64 slots, so no call but [`TimerQueue::advance`] looks at
-/// keys other than its own and those that are due.
+/// The time, and when timers and delays are due. It has room for all of them from the start: no
+/// call but [`TimerQueue::new`] takes memory. What isn't due stands in a wheel of nine levels of 64
+/// slots, so no call but [`TimerQueue::advance`] looks at keys other than its own and those that
+/// are due.
 #[derive(Drop, Debug)]
 pub struct TimerQueue {
-    /// How many timers there are. Their keys come first in the wheel, and those of the threads' delays follow.
+    /// How many timers there are. Their keys come first in the wheel, and those of the threads'
+    /// delays follow.
     timers: usize,
     wheel: Wheel,
 }
@@ -50,9 +55,15 @@ impl Model for TimerQueue {
 
     ghost Value = { Timers };
 
-    ghost view = { λ a. record { now = a.wheel.now; timers = take a.timers a.wheel.settings; delays = drop a.timers a.wheel.settings } };
+    ghost view = { λ a. record {
+      now = a.wheel.now;
+      timers = take a.timers a.wheel.settings;
+      delays = drop a.timers a.wheel.settings;
+    } };
 
-    ghost invariant = { λ a. (a.timers < 2 ^ 32) × (a.timers ≤ length a.wheel.settings) × IsNumbered (take a.timers a.wheel.settings) × IsNumbered (drop a.timers a.wheel.settings) };
+    ghost invariant = { λ a.
+        (a.timers < 2 ^ 32) × (a.timers ≤ length a.wheel.settings) ×
+        IsNumbered (take a.timers a.wheel.settings) × IsNumbered (drop a.timers a.wheel.settings) };
 }
 
 impl TimerQueue {
@@ -82,13 +93,14 @@ impl TimerQueue {
         self.wheel.advance(units);
     }
 
-    /// Sets the timer, by the event `n`, to be due `due` units from now, whether it is set or not; with a `period` other than 0 it
-    /// is set anew at each expiry. KeSetTimerEx.
+    /// Sets the timer, by the event `n`, to be due `due` units from now, whether it is set or not;
+    /// with a `period` other than 0 it is set anew at each expiry. KeSetTimerEx.
     pub fn set(&mut self, t: TimerNo, due: u32, period: u32, n: u64) -> SetAnswer
         requires { t.0 < length self.old.timers }
         ensures was { result.was ≡ is_set_timer self.old t }
         ensures due_now { result.due_now ≡ (due == 0) }
-        ensures setting { self.new ≡ with_setting (OfTimer t) (due_at (self.old.now + due) n period) self.old }
+        ensures setting { self.new
+            ≡ with_setting (OfTimer t) (due_at (self.old.now + due) n period) self.old }
     {
         let was = self.is_set(t);
         let setting = Setting {
@@ -123,7 +135,8 @@ impl TimerQueue {
         self.timer(t).is_some()
     }
 
-    /// Sets the delay of the thread, by the event `n`, to be due at the time `due`, in place of the one before.
+    /// Sets the delay of the thread, by the event `n`, to be due at the time `due`, in place of the
+    /// one before.
     pub fn set_delay(&mut self, t: ThreadNo, due: u64, n: u64)
         requires { t.0 < length self.old.delays }
         ensures { self.new ≡ with_setting (OfDelay t) (due_at due n 0) self.old }
@@ -136,11 +149,12 @@ impl TimerQueue {
         self.put(TimerKey::Delay(t), Some(setting));
     }
 
-    /// The first due key, with the number of the event that set it: the least by due time and number of those whose due time is at
-    /// most now. None exactly where nothing is due.
+    /// The first due key, with the number of the event that set it: the least by due time and
+    /// number of those whose due time is at most now. None exactly where nothing is due.
     pub fn first_due(&self) -> Option<(TimerKey, u64)>
         ensures value { result ≡ due_entry self.entry.now }
-        ensures found { is_some result ≡ list_any (is_due_key self.entry.now.now) (set_keys self.entry.now) }
+        ensures found { is_some result
+            ≡ list_any (is_due_key self.entry.now.now) (set_keys self.entry.now) }
     {
         match self.wheel.first() {
             Some(first) => Some((key_of(self.timers, first.key), first.number)),
@@ -148,7 +162,8 @@ impl TimerQueue {
         }
     }
 
-    /// Lets the first due key expire, by the event `n`. A timer with a period is set anew to the time plus its period (profile).
+    /// Lets the first due key expire, by the event `n`. A timer with a period is set anew to the
+    /// time plus its period (profile).
     pub fn expire(&mut self, key: TimerKey, n: u64) -> Expired
         requires { option_map (λ x. x.0) (due_entry self.old) ≡ Some key }
         ensures from { due_entry self.old ≡ Some (key, result.from) }
@@ -172,7 +187,8 @@ impl TimerQueue {
         }
     }
 
-    /// The slot of the wheel in which the key stands; None exactly where the key isn't set or is due.
+    /// The slot of the wheel in which the key stands; None exactly where the key isn't set or is
+    /// due.
     pub fn place(&self, key: TimerKey) -> Option<Slot>
         ensures { MatchOption result (HasNoPlace self.entry.now key) (IsPlace self.entry.now key) }
     {

@@ -1,5 +1,6 @@
 //! Rings of nodes, linked both ways: a node leaves its ring and enters another without a walk.
-ghost use Rattle.std.specs.Prelude.{ℕ, ◌≡◌, ◌<◌, ◌≤◌, ◌^◌, IfOk, MatchOption, length, slice_index, slice_set};
+ghost use Rattle.std.specs.Prelude.{ℕ, ◌≡◌, ◌<◌, ◌≤◌, ◌^◌, IfOk, MatchOption, length, slice_index};
+ghost use Rattle.std.specs.Prelude.{slice_set};
 ghost use Rattle.nt_timer.specs.Rings.{IsAlone, IsOfRing};
 ghost use Rattle.nt_timer.specs.declared.rings.TheConstants.{HEADS};
 
@@ -9,8 +10,9 @@ use std::marker::Model;
 /// How many nodes are heads of rings: one for each slot.
 pub(crate) const HEADS: usize = 576;
 
-/// Nodes, each in one ring. The first [`HEADS`] nodes are heads, each of a ring of its own; any other node stands in the ring of a
-/// head or alone. Contracts see for each node the head of its ring, or the node itself where it stands alone.
+/// Nodes, each in one ring. The first [`HEADS`] nodes are heads, each of a ring of its own; any
+/// other node stands in the ring of a head or alone. Contracts see for each node the head of its
+/// ring, or the node itself where it stands alone.
 #[derive(Drop, Debug)]
 pub(crate) struct Rings {
     /// For each node, the next one in its ring.
@@ -63,7 +65,8 @@ impl Rings {
 
     /// Puts a node that stands alone at the end of the ring of the head.
     pub(crate) fn append(&mut self, head: usize, node: usize)
-        requires { (head < HEADS) × (HEADS ≤ node) × (node < length self.old) × (slice_index self.old node ≡ node) }
+        requires { (head < HEADS) × (HEADS ≤ node) × (node < length self.old) ×
+            (slice_index self.old node ≡ node) }
         ensures { self.new ≡ slice_set self.old node head }
     {
         let last = self.previous[head];
@@ -77,7 +80,9 @@ impl Rings {
     /// The first node in the ring of the head; None exactly where the head is alone.
     pub(crate) fn first(&self, head: usize) -> Option<usize>
         requires { (head < HEADS) × (head < length self.now) }
-        ensures { MatchOption result ((i : ℕ) → i < length self.entry.now → slice_index self.entry.now i ≡ head → i ≡ head) (λ k. IsOfRing self.entry.now head k) }
+        ensures { MatchOption result
+            ((i : ℕ) → i < length self.entry.now → slice_index self.entry.now i ≡ head → i ≡ head)
+            (λ k. IsOfRing self.entry.now head k) }
     {
         let first = self.next[head];
         if first == head { None } else { Some(first) }

@@ -1,4 +1,5 @@
-//! Where a due time that isn't reached stands: by the greatest digit of six bits in which it differs from the time.
+//! Where a due time that isn't reached stands: by the greatest digit of six bits in which it
+//! differs from the time.
 ghost use Rattle.std.specs.Prelude.{◌≡◌, ◌<◌};
 ghost use Rattle.nt_timer.specs.Place.{IsSlotOf};
 ghost use Rattle.nt_timer.specs.Slots.{slot_index};
@@ -9,7 +10,8 @@ const DIGITS: usize = 11;
 /// A slot of the wheel.
 #[derive(Clone, Copy, PartialEq, Eq, Debug)]
 pub struct Slot {
-    /// The level: the greatest place, from 0, at which the digits of six bits of the time and of the due time differ.
+    /// The level: the greatest place, from 0, at which the digits of six bits of the time and of
+    /// the due time differ.
     pub level: u8,
     /// The slot of the level: that digit of the due time.
     pub slot: u8,

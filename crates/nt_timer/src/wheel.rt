@@ -1,12 +1,15 @@
-//! A hierarchical timer wheel: keys that aren't due stand in levels of 64 slots, due keys in the order in which they expire.
-ghost use Rattle.std.specs.Prelude.{ℕ, ◌≡◌, ◌+◌, ◌<◌, ◌≤◌, ◌^◌, IfOk, MatchOption, None, Some, length, replicate, slice_index, slice_set};
+//! A hierarchical timer wheel: keys that aren't due stand in levels of 64 slots, due keys in the
+//! order in which they expire.
+ghost use Rattle.std.specs.Prelude.{ℕ, ◌≡◌, ◌+◌, ◌<◌, ◌≤◌, ◌^◌, IfOk, MatchOption, None, Some};
+ghost use Rattle.std.specs.Prelude.{length, replicate, slice_index, slice_set};
 ghost use Rattle.std.specs.Vec.{vec_capacity, vec_len};
 ghost use Rattle.nt_event.specs.Timers.{setting_in};
 ghost use Rattle.nt_event.specs.declared.inserts.Setting.{Setting};
 ghost use Rattle.nt_timer.specs.declared.rings.TheConstants.{HEADS};
 ghost use Rattle.nt_timer.specs.Due.{AreSorted};
 ghost use Rattle.nt_timer.specs.Slots.{slot_index};
-ghost use Rattle.nt_timer.specs.Wheel.{IsFirstKey, IsTurned, IsWheel, due_with, due_without, home_of};
+ghost use Rattle.nt_timer.specs.Wheel.{IsFirstKey, IsTurned, IsWheel, due_with, due_without};
+ghost use Rattle.nt_timer.specs.Wheel.{home_of};
 
 use crate::due::{DueKey, put_in, take_out};
 use crate::rings::{HEADS, Rings};
@@ -15,8 +18,9 @@ use nt_event::Setting;
 use std::alloc::{AllocError, Global};
 use std::marker::Model;
 
-/// The time, and for each key when it is due. A key that isn't due stands in the slot that the time and its due time give; one due
-/// at 2^54 or later, which the time never reaches, stands in none. Due keys stand in the order in which they expire.
+/// The time, and for each key when it is due. A key that isn't due stands in the slot that the time
+/// and its due time give; one due at 2^54 or later, which the time never reaches, stands in none.
+/// Due keys stand in the order in which they expire.
 #[derive(Drop, Debug)]
 pub(crate) struct Wheel {
     now: u64,
@@ -38,7 +42,10 @@ impl Model for Wheel {
 
     ghost view = { λ a. record { now = a.now; settings = a.settings.items } };
 
-    ghost invariant = { λ a. (a.now < 2 ^ 50) × (a.lowest ≤ HEADS) × (length a.settings.items < 2 ^ 34) × (length a.settings.items ≤ vec_capacity a.due) × IsWheel a.lowest a.now a.settings.items a.rings a.due.items };
+    ghost invariant = { λ a.
+        (a.now < 2 ^ 50) × (a.lowest ≤ HEADS) × (length a.settings.items < 2 ^ 34) ×
+        (length a.settings.items ≤ vec_capacity a.due) ×
+        IsWheel a.lowest a.now a.settings.items a.rings a.due.items };
 }
 
 impl Wheel {
@@ -81,7 +88,8 @@ impl Wheel {
     /// Writes when the key is due, or that it isn't set.
     pub(crate) fn put(&mut self, key: usize, setting: Option<Setting>)
         requires { key < length self.old.settings }
-        ensures { self.new ≡ record self.old { settings = slice_set self.old.settings key setting } }
+        ensures { self.new
+            ≡ record self.old { settings = slice_set self.old.settings key setting } }
     {
         let old = self.settings[key];
         lift(&mut self.rings, &mut self.due, self.now, key, old);
@@ -98,7 +106,8 @@ impl Wheel {
         }
     }
 
-    /// Lets the time advance by so many units. It looks at the slots from the lowest that may hold a key up to that of the new time.
+    /// Lets the time advance by so many units. It looks at the slots from the lowest that may hold
+    /// a key up to that of the new time.
     pub(crate) fn advance(&mut self, units: u32)
         requires { self.old.now + units < 2 ^ 50 }
         ensures { self.new ≡ record self.old { now = self.old.now + units } }
@@ -120,7 +129,10 @@ impl Wheel {
 
     /// The due key that expires first.
     pub(crate) fn first(&self) -> Option<DueKey>
-        ensures { MatchOption result ((k : ℕ) (s : Setting) → setting_in self.entry.now.settings k ≡ Some s → self.entry.now.now < s.due) (IsFirstKey self.entry.now.now self.entry.now.settings) }
+        ensures { MatchOption result
+            ((k : ℕ) (s : Setting) → setting_in self.entry.now.settings k ≡ Some s →
+            self.entry.now.now < s.due)
+            (IsFirstKey self.entry.now.now self.entry.now.settings) }
     {
         self.due.first().copied()
     }

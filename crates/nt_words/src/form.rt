@@ -105,7 +105,8 @@ pub(crate) fn command_named(word: &str) -> Option<Command>
     search(&COMMANDS, word)
 }
 
-/// The number of a value, where it is written in decimal without leading zeros and lies within the bounds.
+/// The number of a value, where it is written in decimal without leading zeros and lies within the
+/// bounds.
 fn number_within(least: u64, most: u32, value: &str) -> Option<u32>
     ensures { result ≡ number_within least most value.now }
 {
@@ -146,7 +147,8 @@ fn none_from(value: Option<&str>) -> Option<()>
 
 /// The form of a command with these values of its options.
 pub(crate) fn form_from(command: Command, turns: Option<&str>, seed: Option<&str>) -> Option<Form>
-    ensures { result ≡ form_from command (option_map (λ s. s.now) turns.entry) (option_map (λ s. s.now) seed.entry) }
+    ensures { result ≡ form_from command (option_map (λ s. s.now) turns.entry)
+        (option_map (λ s. s.now) seed.entry) }
 {
     match command {
         Command::Run => {

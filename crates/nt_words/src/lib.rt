@@ -1,8 +1,10 @@
-//! The words of the command line: which lists of words are a form of the program, and which form they are.
+//! The words of the command line: which lists of words are a form of the program, and which form
+//! they are.
 //!
-//! A form is one command word with that command's options, the options before or behind it, each at most once, as
-//! `--turns N` or `--turns=N`. [`form_of`] reads the words with `clap`. What a form is stands in `specs/Forms.antt`, in
-//! words that no parser shares: the pieces of a list of words, and what they have to be for each form.
+//! A form is one command word with that command's options, the options before or behind it, each at
+//! most once, as `--turns N` or `--turns=N`. [`form_of`] reads the words with `clap`. What a form
+//! is stands in `specs/Forms.antt`, in words that no parser shares: the pieces of a list of words,
+//! and what they have to be for each form.
 #![tactic(auto)]
 
 mod form;

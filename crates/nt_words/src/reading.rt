@@ -76,7 +76,8 @@ fn refusal(kind: ErrorKind) -> WordsRefusal
 /// The words as the parser takes them.
 fn parse<'a>(alloc: Global, words: &'a [String]) -> Result<ArgMatches<'a>, WordsRefusal>
     ensures taken { IfOk result (λ _. fault_of ntrun_app (map string_bytes words.now) ≡ []) }
-    ensures rows { IfOk result (λ m. rows_of (found_of m) ≡ matches_of ntrun_app (map string_bytes words.now)) }
+    ensures rows { IfOk result
+        (λ m. rows_of (found_of m) ≡ matches_of ntrun_app (map string_bytes words.now)) }
     ensures refused { OnNoForm result (fault_of ntrun_app (map string_bytes words.now) ≡ [] → ⊥) }
 {
     match parser(alloc)?.try_get_matches_from(words) {

@@ -1,4 +1,5 @@
-//! What is refused before the words are parsed: words with a hyphen that are no option, and options given twice.
+//! What is refused before the words are parsed: words with a hyphen that are no option, and options
+//! given twice.
 ghost use Rattle.std.specs.Prelude.{◌≡◌, map, string_bytes, eqb};
 ghost use Rattle.std.specs.List.{list_all, count_by};
 ghost use Rattle.nt_words.specs.Tidy.{has_hyphen, is_option_word, is_known, is_tidy, times_given};

@@ -1,5 +1,6 @@
 -- Replaying the schedule part of a report, behind its script, writes the report again.
-use Rattle.std.proofs.Common.{◌≡◌, ◌∙◌, ℕ, ◌+◌, ◌<◌, ◌≤◌, true, false, List, [], ◌∷◌, ◌++◌, length, codes, take, drop, map, reverse, Option, Some, None, Result, Ok, ap, arith, refl, subst, sym}
+use Rattle.std.proofs.Common.{◌≡◌, ◌∙◌, ℕ, ◌+◌, ◌<◌, ◌≤◌, true, false, List, [], ◌∷◌, ◌++◌, length, codes, take, drop, map, reverse, Option, Some, None, Result}
+use Rattle.std.proofs.Common.{Ok, ap, arith, refl, subst, sym}
 use Rattle.std.specs.Io.KnownBytes.{append_known}
 use Rattle.std.specs.List.{AllByRecursion, list_any}
 use Rattle.std.specs.Str.{bytes_eq}
@@ -86,7 +87,8 @@ part_of_rows word a b bytes e h none there =
     ∙ ap (drop (length (rows_text a))) (e ∙ flat_map-append row_text a b)
     ∙ drop-append_seam (rows_text a) (rows_text b)
 
-first_row : (input : Input) (s : Schedule) → AllRows (schedule_rows input.names s) → first_begins (tail_word tail.Schedule) (map line_of (schedule_rows input.names s)) ≡ true
+first_row : (input : Input) (s : Schedule) → AllRows (schedule_rows input.names s) →
+    first_begins (tail_word tail.Schedule) (map line_of (schedule_rows input.names s)) ≡ true
 first_row input s h = begins_row (tail_word tail.Schedule) (limit_row s.turns) h.0
 
 -- the schedule part of a report is the text of its history's schedule
@@ -115,7 +117,8 @@ both_again : (k : Tail) (input : Input) (rows : List Row) (t : Task) → IsSound
     two_parts k (behind (tail_word k) (text input ++ rows_text rows)) (text input ++ rows_text rows) ≡ Ok t
 both_again k input rows t sound clean there read =
     let first : first_begins (tail_word k) (lines (rows_text rows)) ≡ true = ap (first_begins (tail_word k)) (lines_again rows clean) ∙ there in
-    ap (λ (o : Option (ℕ × ℕ)). two_parts k o (text input ++ rows_text rows)) (found_behind (tail_word k) input rows (no_keyword input.version k) sound clean first)
+    ap (λ (o : Option (ℕ × ℕ)). two_parts k o (text input ++ rows_text rows))
+    (found_behind (tail_word k) input rows (no_keyword input.version k) sound clean first)
     ∙ read_parts k input (length (text input)) (1 + length (lines (text input))) (text input ++ rows_text rows) (text input) (rows_text rows) t
     (take-append_seam (text input) (rows_text rows)) (drop-append_seam (text input) (rows_text rows)) (reading_again input (sound_fits input sound)) read
 

@@ -1,5 +1,6 @@
 -- When each status comes, from what a call finds and how it is written.
-use Rattle.std.proofs.Common.{inl, inr, true, ◌≡◌, ◌≢◌, ◌∙◌, ℕ, ◌+◌, ◌<◌, ◌≤◌, List, ◌++◌, length, Option, Some, None, Result, Ok, IsSome, refl, sym, ap, subst, arith, append-nil}
+use Rattle.std.proofs.Common.{inl, inr, true, ◌≡◌, ◌≢◌, ◌∙◌, ℕ, ◌+◌, ◌<◌, ◌≤◌, List, ◌++◌, length, Option, Some, None, Result, Ok, IsSome, refl, sym, ap, subst}
+use Rattle.std.proofs.Common.{arith, append-nil}
 use Rattle.std.specs.Prelude.{is_some, false}
 use Rattle.std.proofs.lemmas.Bool.{false≢true}
 use Rattle.std.proofs.Math.Nat.{min-le_left}
@@ -18,7 +19,8 @@ use Rattle.nt_words.specs.Forms.{IsForm, WordsHaveOneForm}
 use Rattle.nt_words.specs.Refusals.{IsNoForm}
 use Rattle.ntrun.specs.declared.task.Task.{Task}
 use Rattle.ntrun.specs.declared.task.Task.TheVariants as task
-use Rattle.ntrun.specs.Outcome.{Supply, Store, Gave, IsFoundBy, IsFoundFrom, IsStarved, IsUnread, GoesWell, GoesWrong, IsGiven, IsFound, IsFoundIn, IsWell, IsWritten, IsAnswered, HasCause, refusal, refusal_of, refused_in, refused_turn}
+use Rattle.ntrun.specs.Outcome.{Supply, Store, Gave, IsFoundBy, IsFoundFrom, IsStarved, IsUnread, GoesWell, GoesWrong, IsGiven, IsFound, IsFoundIn, IsWell}
+use Rattle.ntrun.specs.Outcome.{IsWritten, IsAnswered, HasCause, refusal, refusal_of, refused_in, refused_turn}
 use Rattle.ntrun.specs.Tasks.{Bad, reads, task_of}
 
 -- the status is the one that was found, unless the sink failed
@@ -232,10 +234,12 @@ which one words so sn form bytes exit.Script text s f =
     moved f.0 form w.0 bytes exit.Script (one words f.0 form f.1 s.form) (gave_told w.0 bytes so sn w.1 s.left) (which_in f.0 w.0 exit.Script text w.1.few w.2)
 which one words so sn form bytes exit.Schedule text s f =
     let w = from_given one words so sn form bytes f.0 exit.Schedule text s f.1 f.2 in
-    moved f.0 form w.0 bytes exit.Schedule (one words f.0 form f.1 s.form) (gave_told w.0 bytes so sn w.1 s.left) (which_in f.0 w.0 exit.Schedule text w.1.few w.2)
+    moved f.0 form w.0 bytes exit.Schedule (one words f.0 form f.1 s.form) (gave_told w.0 bytes so sn w.1 s.left)
+    (which_in f.0 w.0 exit.Schedule text w.1.few w.2)
 which one words so sn form bytes exit.Illegal text s f =
     let w = from_given one words so sn form bytes f.0 exit.Illegal text s f.1 f.2 in
-    moved f.0 form w.0 bytes exit.Illegal (one words f.0 form f.1 s.form) (gave_told w.0 bytes so sn w.1 s.left) (which_in f.0 w.0 exit.Illegal text w.1.few w.2)
+    moved f.0 form w.0 bytes exit.Illegal (one words f.0 form f.1 s.form) (gave_told w.0 bytes so sn w.1 s.left)
+    (which_in f.0 w.0 exit.Illegal text w.1.few w.2)
 which one words so sn form bytes exit.Usage text s f = absurd (f.0 form s.form)
 which one words so sn form bytes exit.Read text s f = absurd (s.no_fault (read_by f.0 so sn text f.2))
 which one words so sn form bytes exit.Write text s f = absurd (from_given one words so sn form bytes f.0 exit.Write text s f.1 f.2).2.2

@@ -17,7 +17,8 @@ use Rattle.ntrun.specs.declared.status.Status.TheVariants as exit
 use Rattle.ntrun.specs.declared.task.Task.{Task}
 use Rattle.ntrun.specs.declared.task.Task.TheVariants as task
 use Rattle.ntrun.specs.Answer.{IsIllegalLine, IsMade, IsReported, IsTurnRefused}
-use Rattle.ntrun.specs.Outcome.{Supply, IsFound, IsFoundBy, IsFoundFrom, refusal, refusal_of, refused_turn, IsDone, IsFoundIn, IsIllegal, IsRefused, IsRunOf, IsWell}
+use Rattle.ntrun.specs.Outcome.{Supply, IsFound, IsFoundBy, IsFoundFrom, refusal, refusal_of, refused_turn, IsDone, IsFoundIn, IsIllegal, IsRefused, IsRunOf}
+use Rattle.ntrun.specs.Outcome.{IsWell}
 use Rattle.ntrun.specs.Tasks.{reads, input_of, task_of}
 
 -- a line is refused

@@ -33,7 +33,8 @@ use Rattle.ntrun.specs.declared.task.Tail.TheVariants as tail
 use Rattle.ntrun.specs.declared.task.Task.{Task}
 use Rattle.ntrun.specs.declared.task.Task.TheVariants as task
 use Rattle.ntrun.specs.Outcome.{IsRunOf}
-use Rattle.ntrun.specs.Tasks.{Bad, IsLimit, and_then, behind, input_of, last_line, limited, migrated, report_task, schedule_task, tail_task, tail_word, task_of, two_parts}
+use Rattle.ntrun.specs.Tasks.{Bad, IsLimit, and_then, behind, input_of, last_line, limited, migrated, report_task, schedule_task, tail_task, tail_word, task_of}
+use Rattle.ntrun.specs.Tasks.{two_parts}
 
 -- what holds of a task that was read
 abbrev pub IsPlainTask : Task → Type 0
@@ -104,10 +105,12 @@ limited_fits input turns w = go (nat_le input.script.cpus 8) (nat_le turns (turn
     go false false e k = rw (k, e) (omega arith, omega arith)
 
 pub task_plain : (f : Form) (bytes : List ℕ) (t : Task) → IsWithin f → task_of f bytes ≡ Ok t → IsPlainTask t
-task_plain (form.Run turns) bytes t w e = script_plain (λ input. task.Run input (limited input turns)) bytes t (λ input sound. (sound, limited_fits input turns w)) e
+task_plain (form.Run turns) bytes t w e =
+    script_plain (λ input. task.Run input (limited input turns)) bytes t (λ input sound. (sound, limited_fits input turns w)) e
 task_plain form.Replay bytes t w e = parts_plain tail.Schedule (behind (tail_word tail.Schedule) bytes) bytes t e
 task_plain form.Check bytes t w e = parts_plain tail.Report (behind (tail_word tail.Report) bytes) bytes t e
-task_plain (form.Live turns) bytes t w e = script_plain (λ input. task.Live input (limited input turns)) bytes t (λ input sound. (sound, limited_fits input turns w)) e
+task_plain (form.Live turns) bytes t w e =
+    script_plain (λ input. task.Live input (limited input turns)) bytes t (λ input sound. (sound, limited_fits input turns w)) e
 task_plain (form.Load seed turns) bytes t w e = cc
 task_plain form.Migrate bytes t w e = script_plain (λ input. task.Migrate (migrated input)) bytes t (λ input sound. migrated_sound input sound) e
 

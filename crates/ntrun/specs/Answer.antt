@@ -14,7 +14,8 @@ use Rattle.ntrun.specs.declared.answer.Text.TheVariants.{Line, Made}
 use Rattle.ntrun.specs.declared.status.Status.{Status}
 use Rattle.ntrun.specs.declared.status.Status.TheVariants as exit
 use Rattle.ntrun.specs.declared.task.Task.{Task}
-use Rattle.ntrun.specs.Outcome.{Gave, IsDone, IsFound, IsFoundBy, IsFoundFrom, IsFoundIn, Supply, illegal_line, memory_line, turn_line}
+use Rattle.ntrun.specs.Outcome.{Gave, IsDone, IsFound, IsFoundBy, IsFoundFrom, IsFoundIn, Supply, illegal_line}
+use Rattle.ntrun.specs.Outcome.{memory_line, turn_line}
 use Rattle.ntrun.specs.Tasks.{task_of}
 
 -- a text to be written

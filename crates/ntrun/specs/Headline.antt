@@ -1,7 +1,8 @@
 -- The headline: what the report that is written promises, and that replaying its schedule writes it again.
 use Rattle.std.specs.Io.KnownBytes.{append_known}
 use Rattle.std.specs.List.{Contains}
-use Rattle.std.specs.Prelude.{List, None, Ok, Option, Some, [], drop, false, if◌then◌else◌, is_some, length, nat_lt, not, reverse, true, ℕ, ◌&&◌, ◌++◌, ◌<◌, ◌∷◌, ◌≡◌, ◌≢◌, ◌≤◌, ◌↔◌, ◌⊎◌}
+use Rattle.std.specs.Prelude.{List, None, Ok, Option, Some, [], drop, false, if◌then◌else◌, is_some, length, nat_lt}
+use Rattle.std.specs.Prelude.{not, reverse, true, ℕ, ◌&&◌, ◌++◌, ◌<◌, ◌∷◌, ◌≡◌, ◌≢◌, ◌≤◌, ◌↔◌, ◌⊎◌}
 use Rattle.nt_close.specs.Close.{IsHeldElsewhere, is_stopped}
 use Rattle.nt_event.specs.declared.events.Event.{Event}
 use Rattle.nt_event.specs.declared.events.History.{History}
@@ -51,8 +52,8 @@ use Rattle.ntrun.specs.Tasks.{behind, input_of, limit_of, migrated, tail_word, t
 -- ---- the actual history
 
 -- what an event delivers was eligible just before it, and is an insert of its object that was pending then (a DPC's in
--- the queue of its processor, an APC's at the thread that runs there) and that no earlier event delivered; and a removal
--- that isn't refused answers yes exactly where there was an insert
+-- the queue of its processor, an APC's at the thread that runs there) and that no earlier event delivered; and a
+-- removal that isn't refused answers yes exactly where there was an insert
 pub record IsDue (s : Script) (e : Event) (past : List Event) : Type 0 where
   pub eligible : (r : Request) → request_of s e.what ≡ Some r → eligible s e.cpu r past ≡ true
   pub pending : NamesPending s e.cpu e.what past
@@ -67,10 +68,10 @@ pub record IsUncut (s : Script) (limit : ℕ) (past : List Event) (p : CpuNo) : 
   pub named : nat_lt p.0 s.cpus ≡ true
   pub uncut : is_cut limit (own_of s p past) ≡ false
 
--- nothing that may run is left: a processor that isn't cut rests or spins still, and no request is eligible there. Where
--- it rests, no DPC is pending and each thread is blocked or gone; where it spins on a lock, another processor holds that,
--- which is cut or spins still. Nothing waits behind a block; and a due key is left only where a processor is cut or spins
--- still.
+-- nothing that may run is left: a processor that isn't cut rests or spins still, and no request is eligible there.
+-- Where it rests, no DPC is pending and each thread is blocked or gone; where it spins on a lock, another processor
+-- holds that, which is cut or spins still. Nothing waits behind a block; and a due key is left only where a processor
+-- is cut or spins still.
 pub record NothingIsLeft (s : Script) (limit : ℕ) (past : List Event) : Type 0 where
   pub still : (p : CpuNo) → IsUncut s limit past p → (rests (own_of s p past) ≡ true) ⊎
       (spins_still (own_of s p past) ≡ true)
@@ -85,10 +86,10 @@ pub record NothingIsLeft (s : Script) (limit : ℕ) (past : List Event) : Type 0
   pub keys : ((p : CpuNo) → nat_lt p.0 s.cpus ≡ true → (is_cut limit (own_of s p past) ≡ false) ×
       (spins_still (own_of s p past) ≡ false)) → first_due (timers_at s past) ≡ None
 
--- the history of a task: the robin run, the run on threads, or the run of the schedule's turns. It is a settled run of the
--- written machine; each insert has exactly one fate, and the waiting ones are those that the report lists; a processor has a line `cut`
--- exactly where it is cut, and a line `spins` exactly where it isn't and spins still, with the lock of the script on which
--- it spins; and no other run of the script has this report.
+-- the history of a task: the robin run, the run on threads, or the run of the schedule's turns. It is a settled run of
+-- the written machine; each insert has exactly one fate, and the waiting ones are those that the report lists; a
+-- processor has a line `cut` exactly where it is cut, and a line `spins` exactly where it isn't and spins still, with
+-- the lock of the script on which it spins; and no other run of the script has this report.
 pub record IsActual (t : Task) (h : History) : Type 0 where
   pub is : IsRunOf t h
   pub turns : h.turns ≡ limit_of t
@@ -108,7 +109,8 @@ pub record IsActual (t : Task) (h : History) : Type 0 where
   pub locked : (p : ℕ) (x : Spun) → spin_left h p ≡ Some x → has_lock (input_of t).script x.lock ≡ true
   pub spun : (p : ℕ) (x : Spun) → p < (input_of t).script.cpus → spin_left h p ≡ Some x →
       some_frame (spins_lock x.lock) (input_of t).script (cpu p) (reverse h.events) ≡ true
-  pub one : (g : History) → IsRunOfInput (input_of t) g → report_text (input_of t) h ≡ report_text (input_of t) g → h ≡ g
+  pub one : (g : History) → IsRunOfInput (input_of t) g → report_text (input_of t) h ≡ report_text (input_of t) g →
+      h ≡ g
 
 -- ---- what is written
 
@@ -122,8 +124,8 @@ pub record IsWhole (f : Form) (so sn : Supply) (ko kn : Store) : Type 0 where
   pub actual : IsActual task history
   pub written : kn.held ≡ append_known ko.held (report_text (input_of task) history)
 
--- the bytes that the source gave are a script and behind it the report of a settled run, and exactly the line of a legal
--- history was added to the sink
+-- the bytes that the source gave are a script and behind it the report of a settled run, and exactly the line of a
+-- legal history was added to the sink
 pub record IsWholeCheck (so sn : Supply) (ko kn : Store) : Type 0 where
   pub bytes : List ℕ
   pub gave : Gave bytes so sn
@@ -179,8 +181,8 @@ abbrev pub replayed_bytes : Task → History → List ℕ
 replayed_bytes t h = text (input_of t) ++ schedule_part (report_text (input_of t) h)
 
 -- `run`, `live` or `replay` wrote a report; the script's text with the report's schedule part behind it, given to
--- `replay`, has status 0 and writes the same report, where it has not too many bytes, memory is found and neither source
--- nor sink fails
+-- `replay`, has status 0 and writes the same report, where it has not too many bytes, memory is found and neither
+-- source nor sink fails
 abbrev pub ReplayWritesTheSame : Type 0
 ReplayWritesTheSame = (words again : List (List ℕ)) (f : Form) (so sn ao an : Supply) (ko kn bo bn : Store)
     (status : Status) (w : IsWhole f so sn ko kn) → IsForm words f →
@@ -195,8 +197,8 @@ ReplayWritesTheSame = (words again : List (List ℕ)) (f : Form) (so sn ao an : 
 abbrev pub checked_bytes : Task → History → List ℕ
 checked_bytes t h = text (input_of t) ++ report_text (input_of t) h
 
--- `run`, `live` or `replay` wrote a report; the script's text with this report behind it, given to `check`, has status 0
--- and is called legal, where it has not too many bytes, memory is found and neither source nor sink fails
+-- `run`, `live` or `replay` wrote a report; the script's text with this report behind it, given to `check`, has status
+-- 0 and is called legal, where it has not too many bytes, memory is found and neither source nor sink fails
 abbrev pub CheckCallsItLegal : Type 0
 CheckCallsItLegal = (words again : List (List ℕ)) (f : Form) (so sn ao an : Supply) (ko kn bo bn : Store)
     (status : Status) (w : IsWhole f so sn ko kn) → IsForm words f →

@@ -1,5 +1,6 @@
 -- What a call of the program finds out, what it writes, and when each status comes.
-use Rattle.std.specs.Prelude.{◌≡◌, ◌≢◌, ℕ, ◌+◌, ◌<◌, ◌≤◌, ◌⊎◌, true, IsSome, List, [], ◌∷◌, ◌++◌, length, Option, Some, None, Result, Ok, Err, codes, decimal, reverse}
+use Rattle.std.specs.Prelude.{◌≡◌, ◌≢◌, ℕ, ◌+◌, ◌<◌, ◌≤◌, ◌⊎◌, true, IsSome, List, [], ◌∷◌, ◌++◌, length, Option, Some}
+use Rattle.std.specs.Prelude.{None, Result, Ok, Err, codes, decimal, reverse}
 use Rattle.std.specs.Io.KnownBytes.{append_known, prepend_known, IsAtEnd}
 use Rattle.nt_event.specs.declared.events.Event.{Event}
 use Rattle.nt_event.specs.declared.events.History.{History}
@@ -124,8 +125,8 @@ pub record IsReplayed (s : Script) (schedule : Schedule) (h : History) : Type 0 
   pub turns : h.turns ≡ schedule.turns
   pub run : replayed s schedule.turns schedule.list ≡ Ok (reverse h.events)
 
--- the history that the task asks for: the robin run, any settled run on threads, the run of the schedule's turns; a check
--- and a text that is migrated ask for none
+-- the history that the task asks for: the robin run, any settled run on threads, the run of the schedule's turns; a
+-- check and a text that is migrated ask for none
 abbrev pub IsRunOf : Task → History → Type 0
 IsRunOf (task.Run input turns) h = IsRobinRun input.script turns h
 IsRunOf (task.Live input turns) h = IsLiveRun input.script turns h

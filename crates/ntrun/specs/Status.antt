@@ -1,7 +1,8 @@
 -- The exit statuses.
 use Rattle.std.specs.Prelude.{ℕ}
 use Rattle.ntrun.specs.declared.status.Status.{Status}
-use Rattle.ntrun.specs.declared.status.Status.TheVariants.{Ok, Usage, Script, Schedule, Read, Write, Memory, TooLong, Illegal}
+use Rattle.ntrun.specs.declared.status.Status.TheVariants.{Ok, Usage, Script, Schedule, Read, Write, Memory, TooLong}
+use Rattle.ntrun.specs.declared.status.Status.TheVariants.{Illegal}
 
 abbrev pub status_number : Status → ℕ
 status_number Ok = 0

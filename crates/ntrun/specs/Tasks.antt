@@ -1,5 +1,6 @@
 -- What a form finds to do in the bytes of an input: what is read there, or the line that is refused.
-use Rattle.std.specs.Prelude.{◌+◌, ◌≤◌, ℕ, Bool, false, true, List, Ok, Err, Option, Some, None, Result, codes, drop, length, nat_le, take, if◌then◌else◌}
+use Rattle.std.specs.Prelude.{◌+◌, ◌≤◌, ℕ, Bool, false, true, List, Ok, Err, Option, Some, None, Result, codes, drop}
+use Rattle.std.specs.Prelude.{length, nat_le, take, if◌then◌else◌}
 use Rattle.nt_event.specs.declared.limits.TheConstants.{CPUS}
 use Rattle.nt_text.specs.declared.kind.ScriptKind.{ScriptKind}
 use Rattle.nt_text.specs.declared.kind.ScriptKind.TheVariants.{NoCpus, NoEnd}

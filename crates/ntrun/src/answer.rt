@@ -1,5 +1,6 @@
 //! What a call finds out, with the text that is written for it.
-ghost use Rattle.std.specs.Prelude.{ℕ, ◌≡◌, ◌≤◌, false, true, length, IfErr, IfOk, IsTrue, string_bytes};
+ghost use Rattle.std.specs.Prelude.{ℕ, ◌≡◌, ◌≤◌, false, true, length, IfErr, IfOk, IsTrue};
+ghost use Rattle.std.specs.Prelude.{string_bytes};
 ghost use Rattle.nt_core.specs.Refusals.{IsReplayRefused};
 ghost use Rattle.nt_event.specs.declared.events.History.{History as RunHistory};
 ghost use Rattle.nt_event.specs.Fitting.{events_fit};
@@ -8,8 +9,11 @@ ghost use Rattle.nt_line.specs.NameLists.{NameLists};
 ghost use Rattle.nt_print.specs.Summary.{summary_text};
 ghost use Rattle.nt_script.specs.Sound.{IsSound};
 ghost use Rattle.nt_words.specs.Forms.{IsTurns, IsWithin};
-ghost use Rattle.ntrun.specs.Answer.{AsksIn, IsAnswerTo, IsIllegalLine, IsMade, IsReported, IsTurnRefused, text_of};
-ghost use Rattle.ntrun.specs.Outcome.{illegal_line, kind_text, legal_line, script_line, memory_line, turn_line, IsDone, IsLoaded, IsRefused, IsReplayed, IsRobinRun, IsSummary};
+ghost use Rattle.ntrun.specs.Answer.{AsksIn, IsAnswerTo, IsIllegalLine, IsMade, IsReported};
+ghost use Rattle.ntrun.specs.Answer.{IsTurnRefused, text_of};
+ghost use Rattle.ntrun.specs.Outcome.{illegal_line, kind_text, legal_line, script_line};
+ghost use Rattle.ntrun.specs.Outcome.{memory_line, turn_line, IsDone, IsLoaded, IsRefused};
+ghost use Rattle.ntrun.specs.Outcome.{IsReplayed, IsRobinRun, IsSummary};
 ghost use Rattle.ntrun.specs.Tasks.{IsLimit, IsSoundTask, is_threaded, reads};
 
 use crate::status::Status;
@@ -176,7 +180,8 @@ fn schedule_run(
     requires sound { IsSound input.now }
     requires limit { IsLimit input.now schedule.now.turns }
     ensures ok { IfOk result (IsReplayed input.now.script schedule.now) }
-    ensures err { IfErr result (IsReplayRefused input.now.script schedule.now.turns schedule.now.list) }
+    ensures err { IfErr result
+        (IsReplayRefused input.now.script schedule.now.turns schedule.now.list) }
 {
     replay(alloc, &input.script, schedule.turns, &schedule.list)
 }
@@ -269,7 +274,11 @@ fn run_summary(alloc: Global, script: &Script, turns: u32) -> Result<Vec<u8>, Al
     requires fits { IsTrue (fits script.now) }
     requires cpus { script.now.cpus ≤ 8 }
     requires limit { IsTurns turns }
-    ensures { IfOk result (λ text. (h : RunHistory) × IsRobinRun script.now turns h × ((version : ℕ) (names : NameLists) → text.items ≡ summary_text (record { version = version; script = script.now; names = names }) h)) }
+    ensures { IfOk result (λ text.
+        (h : RunHistory) × IsRobinRun script.now turns h ×
+        ((version : ℕ) (names : NameLists) →
+        text.items
+        ≡ summary_text (record { version = version; script = script.now; names = names }) h)) }
 {
     let history = run(alloc, script, turns)?;
     let text = summary(alloc, script, &history)?;

@@ -6,7 +6,9 @@ ghost use Rattle.nt_script.specs.declared.reading.ScriptRefusal.{ScriptRefusal};
 ghost use Rattle.ntrun.specs.declared.task.Tail.{Tail};
 ghost use Rattle.ntrun.specs.declared.task.Task.{Task};
 ghost use Rattle.nt_words.specs.Forms.{IsTurns, IsWithin};
-ghost use Rattle.ntrun.specs.Tasks.{IsLimit, IsSoundTask, both_parts, last_line, limited, live_task, migrate_task, reads, report_task, run_task, schedule_task, tail_task, tail_word, two_parts, task_of};
+ghost use Rattle.ntrun.specs.Tasks.{IsLimit, IsSoundTask, both_parts, last_line, limited};
+ghost use Rattle.ntrun.specs.Tasks.{live_task, migrate_task, reads, report_task, run_task};
+ghost use Rattle.ntrun.specs.Tasks.{schedule_task, tail_task, tail_word, two_parts, task_of};
 
 use nt_history::History;
 use nt_log::{Schedule, read_schedule, turn_bound};
@@ -175,7 +177,8 @@ fn split_parts(alloc: Global, tail: Tail, bytes: &[u8], split: Split) -> Result<
 /// A script behind which nothing begins.
 fn without_tail(alloc: Global, bytes: &[u8]) -> ScriptRefusal
     requires { length bytes.now ≤ INPUT_LIMIT }
-    ensures { (t : Tail) (r : Result Task ScriptRefusal) → r ≡ Err result → GivesRead r (two_parts t None bytes.now) }
+    ensures { (t : Tail) (r : Result Task ScriptRefusal) → r ≡ Err result →
+        GivesRead r (two_parts t None bytes.now) }
 {
     match read(alloc, bytes) {
         Ok(_) => ScriptRefusal::Bad {
@@ -198,7 +201,8 @@ fn both_parts(alloc: Global, tail: Tail, bytes: &[u8]) -> Result<Task, ScriptRef
     }
 }
 
-/// What the form reads in the bytes, or the line that is refused: in a script, then in what stands behind it.
+/// What the form reads in the bytes, or the line that is refused: in a script, then in what stands
+/// behind it.
 pub(crate) fn task_of(alloc: Global, form: Form, bytes: &[u8]) -> Result<Task, ScriptRefusal>
     requires bytes { length bytes.now ≤ INPUT_LIMIT }
     requires limit { IsWithin form }

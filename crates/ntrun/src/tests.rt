@@ -1,5 +1,6 @@
-//! What no table of cases can make: faults of a source and a sink in memory, words that are no form, the greatest sizes, and the
-//! forms from the words in to the bytes out. The programs machine_table and texts_table have the worked rows of the parts.
+//! What no table of cases can make: faults of a source and a sink in memory, words that are no
+//! form, the greatest sizes, and the forms from the words in to the bytes out. The programs
+//! machine_table and texts_table have the worked rows of the parts.
 ghost use Rattle.std.specs.Prelude.{◌<◌};
 
 use crate::{Status, ntrun, plain};
@@ -14,7 +15,8 @@ use std::thread::Threads;
 mod live;
 mod locks;
 
-/// A thread raises the level, inserts a DPC object and lowers the level, and the DPC runs before the thread goes on.
+/// A thread raises the level, inserts a DPC object and lowers the level, and the DPC runs before
+/// the thread goes on.
 const RAISE_QUEUE_LOWER: &str =
     "cpus 1\ndpc d work\nthread main 0 body\nroutine work\nnote 7\nexit\nroutine body\nraise 2\nqueue d\nlower 0\nexit\n";
 
@@ -119,7 +121,8 @@ fn a_script_is_refused(rt: HostRuntime) -> Result<(), Fail> {
     Ok(())
 }
 
-/// Puts the lines of the round that begins with this event, and answers the insert for the next one.
+/// Puts the lines of the round that begins with this event, and answers the insert for the next
+/// one.
 fn put_round(wanted: &mut String, begin: u32, insert: u32) -> Result<u32, AllocError>
     requires { begin < 10000 }
 {
@@ -148,7 +151,8 @@ fn put_rounds(wanted: &mut String) -> Result<(), AllocError> {
     wanted.push_str("done\n")
 }
 
-/// After the switch and the thread's insert, the DPC begins, inserts itself and ends, until the processor has made 10,000 events.
+/// After the switch and the thread's insert, the DPC begins, inserts itself and ends, until the
+/// processor has made 10,000 events.
 #[test]
 fn ten_thousand_turns(rt: HostRuntime) -> Result<(), Fail> {
     let mut wanted = String::new(rt.alloc());
@@ -273,7 +277,8 @@ fn read_fails<R: AllocGlobal + Threads + Wait + Sync>(
     Ok(came_of(&found, Status::Read, b"read fault\n", form))
 }
 
-/// What comes of the form where this call of its sink fails: what the calls before it took stands in the sink, 16 bytes each.
+/// What comes of the form where this call of its sink fails: what the calls before it took stands
+/// in the sink, 16 bytes each.
 fn write_fails<R: AllocGlobal + Threads + Wait + Sync>(
     rt: &R,
     form: &Form<'_>,
@@ -477,7 +482,8 @@ fn put_lines(input: &mut String, lines: &[&str]) -> Result<(), AllocError> {
     Ok(())
 }
 
-/// Whether `replay` of that script with this schedule behind it answers this status and writes this text.
+/// Whether `replay` of that script with this schedule behind it answers this status and writes this
+/// text.
 fn replay_gives<R: AllocGlobal + Threads + Wait + Sync>(
     rt: &R,
     schedule: &str,
@@ -498,7 +504,8 @@ fn a_schedule_is_replayed(rt: HostRuntime) -> Result<(), Fail> {
     Ok(())
 }
 
-/// Whether the turns of this schedule make no settled run; the line tells the place of the turn and why it is refused.
+/// Whether the turns of this schedule make no settled run; the line tells the place of the turn and
+/// why it is refused.
 fn turns_are_no_run<R: AllocGlobal + Threads + Wait + Sync>(
     rt: &R,
     schedule: &str,
@@ -554,7 +561,8 @@ fn turns_are_refused(rt: HostRuntime) -> Result<(), Fail> {
     Ok(())
 }
 
-/// Whether a line of the script with this schedule behind it is refused so, numbered in the whole input.
+/// Whether a line of the script with this schedule behind it is refused so, numbered in the whole
+/// input.
 fn line_is_bad<R: AllocGlobal + Threads + Wait + Sync>(
     rt: &R,
     schedule: &str,
@@ -646,7 +654,8 @@ fn a_report_is_replayed(rt: HostRuntime) -> Result<(), Fail> {
     Ok(())
 }
 
-/// The report of the thread that raises its level and inserts a DPC: its events up to the lowered level, that event, and the others.
+/// The report of the thread that raises its level and inserts a DPC: its events up to the lowered
+/// level, that event, and the others.
 const RAISED: &str =
     "report\n0 p0 main 0 switch main\n1 p0 main 2 call 0 raise 2 -> done\n2 p0 main 2 call 0 queue d -> yes\n";
 
@@ -660,7 +669,8 @@ const RESTED: &str = "10 p0 - 0 rest\n";
 const TURNS: &str =
     "schedule 10000\nswitch 0 main\nnext 0\nnext 0\nnext 0\nnext 0\nnext 0\nnext 0\nnext 0\nnext 0\nnext 0\n";
 
-/// Whether `check` of that script with these lines behind it answers this status and writes this text.
+/// Whether `check` of that script with these lines behind it answers this status and writes this
+/// text.
 fn check_gives<R: AllocGlobal + Threads + Wait + Sync>(
     rt: &R,
     lines: &[&str],
@@ -707,7 +717,8 @@ fn reports_are_refused(rt: HostRuntime) -> Result<(), Fail> {
     Ok(())
 }
 
-/// Whether these words give this summary of a seed's load. The source, whose first call fails, is not called.
+/// Whether these words give this summary of a seed's load. The source, whose first call fails, is
+/// not called.
 fn load_gives<R: AllocGlobal + Threads + Wait + Sync>(
     rt: &R,
     words: &[&str],

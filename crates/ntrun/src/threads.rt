@@ -27,8 +27,8 @@ fn values_of(rises: &Rises) -> [u64; 16]
     rises.value
 }
 
-/// Whether each look of a history has a value for each class, as every look has. The definition of a run leaves it open,
-/// and a report and its schedule are read again only where it holds.
+/// Whether each look of a history has a value for each class, as every look has. The definition of
+/// a run leaves it open, and a report and its schedule are read again only where it holds.
 fn looks_are_whole(history: &History) -> bool
     ensures answer { result ≡ true }
     ensures looks { LooksAreWhole history.now.events }

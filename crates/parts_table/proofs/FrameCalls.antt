@@ -9,7 +9,8 @@ use Rattle.nt_event.specs.declared.commands.Command.TheVariants.{Acquire}
 use Rattle.nt_event.specs.Frame.{Frame}
 use Rattle.nt_event.specs.Frames.{Frames, innermost}
 use Rattle.nt_frame.specs.declared.calls.FrameCall.{FrameCall}
-use Rattle.nt_frame.specs.declared.calls.FrameCall.TheVariants.{Acquired, AdvancePlace, Begin, EndBase, Enter, Finish, Free, Gone, Leave, Lower, Normal, Raise, SetAgain}
+use Rattle.nt_frame.specs.declared.calls.FrameCall.TheVariants.{Acquired, AdvancePlace, Begin, EndBase, Enter, Finish, Free, Gone, Leave, Lower, Normal, Raise}
+use Rattle.nt_frame.specs.declared.calls.FrameCall.TheVariants.{SetAgain}
 use Rattle.nt_frame.specs.declared.calls.FrameCall.TheVariants.{SwitchAway, SwitchTo, Unlock}
 use Rattle.nt_frame.specs.Calls.{MayCall, MayCallAll, left_by}
 use Rattle.nt_frame.specs.Nesting.{next_name}

@@ -89,8 +89,8 @@ fn with_one(alloc: Global, kind: ApcKind) -> Result<ApcQueues, AllocError> {
     Ok(queues)
 }
 
-/// Writes whether an APC that is first is let through, a special and a normal one; whether one of each kind would be if none is
-/// queued; and whether a special one would be before the normal one.
+/// Writes whether an APC that is first is let through, a special and a normal one; whether one of
+/// each kind would be if none is queued; and whether a special one would be before the normal one.
 fn write_held(rt: HostRuntime, first: [bool; 2], alone: [bool; 3], before: bool) -> io::Result<()> {
     println!(rt;
         "{} {}, {} {} {}, {before}",

@@ -1,4 +1,5 @@
-//! The data of the machine: which small scripts fit, what a script says of its things, and the small questions about the data.
+//! The data of the machine: which small scripts fit, what a script says of its things, and the
+//! small questions about the data.
 use crate::writing::{write_number, write_yes};
 use nt_event::{
     ApcDecl, ApcKind, ApcNo, Body, Command, CpuNo, DpcDecl, DpcNo, Isr, Items, Level, LockNo, Mode,
@@ -38,7 +39,8 @@ fn isr(cpu: u8) -> Isr {
     }
 }
 
-/// Two processors with a thread on the second, an interrupt routine on each, a DPC object, its timer, a spin lock, and one routine of these commands.
+/// Two processors with a thread on the second, an interrupt routine on each, a DPC object, its
+/// timer, a spin lock, and one routine of these commands.
 fn script(alloc: Global, commands: Vec<Command>) -> Result<Script, AllocError> {
     let routine = Routine {
         commands: Items::from_vec(commands),

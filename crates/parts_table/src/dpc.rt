@@ -1,4 +1,5 @@
-//! DPC objects and one DPC queue: the worked examples, and the table of what an ordinary insert asks for.
+//! DPC objects and one DPC queue: the worked examples, and the table of what an ordinary insert
+//! asks for.
 ghost use Rattle.std.specs.Prelude.{◌≡◌, IfOk};
 ghost use Rattle.nt_event.specs.Numbers.{cpu};
 ghost use Rattle.nt_dpc.specs.Queues.{new_queue, with_idle};
@@ -52,7 +53,8 @@ fn ask(
     Ok(queue.insert(&mut object, by, 7).ask)
 }
 
-/// Writes what inserts of this importance by a processor ask for: neither deep nor idle, idle, deep, deep and idle.
+/// Writes what inserts of this importance by a processor ask for: neither deep nor idle, idle,
+/// deep, deep and idle.
 fn write_asks(rt: HostRuntime, importance: Importance, by: CpuNo) -> io::Result<()> {
     let neither = ask(rt.alloc(), importance, by, 1, false)?;
     let idle = ask(rt.alloc(), importance, by, 1, true)?;

@@ -99,7 +99,8 @@ fn write_questions(rt: HostRuntime, frames: &Frames) -> io::Result<()> {
     write_stand(rt, &StandView::new(CpuNo(0), frames, true))
 }
 
-/// Writes which lock the innermost routine acquired last of those that it holds, and on which it spins.
+/// Writes which lock the innermost routine acquired last of those that it holds, and on which it
+/// spins.
 fn write_locks(rt: HostRuntime, held: Option<LockNo>, spun: Option<LockNo>) -> io::Result<()> {
     println!(rt; "  holds {held:?}, spins on {spun:?}")
 }

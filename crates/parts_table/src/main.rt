@@ -1,9 +1,11 @@
-//! What the parts of the machine answer, one case a line of the input. What is written for a case is its line, and the answers of
-//! the part's calls, each in a line that begins with two spaces. What is wanted is in `stdout`: the values of the rules and of the
-//! calls' clauses, worked out by hand.
+//! What the parts of the machine answer, one case a line of the input. What is written for a case
+//! is its line, and the answers of the part's calls, each in a line that begins with two spaces.
+//! What is wanted is in `stdout`: the values of the rules and of the calls' clauses, worked out by
+//! hand.
 //!
-//! A line that begins with `== ` is a heading and is written again: it says what the cases below it are. A case is the name of a part
-//! and of a case of it, or, of the timer wheel, the name of a case alone.
+//! A line that begins with `== ` is a heading and is written again: it says what the cases below it
+//! are. A case is the name of a part and of a case of it, or, of the timer wheel, the name of a
+//! case alone.
 #![tactic(auto)]
 
 mod apcs;

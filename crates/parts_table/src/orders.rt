@@ -1,4 +1,5 @@
-//! Calls in an order that no run makes, but that their conditions allow. Orders that a condition refuses are in `must-fail`.
+//! Calls in an order that no run makes, but that their conditions allow. Orders that a condition
+//! refuses are in `must-fail`.
 mod apcs;
 mod dpcs;
 mod frames;

@@ -119,7 +119,8 @@ fn wait(mode: Mode, alertable: bool) -> WaitSpec {
     }
 }
 
-/// Writes what would end the wait: a release, the expiry of the delay 9, an alert of each mode, an APC of each kind.
+/// Writes what would end the wait: a release, the expiry of the delay 9, an alert of each mode, an
+/// APC of each kind.
 fn write_endings(rt: HostRuntime, thread: &ThreadState) -> io::Result<()> {
     println!(rt;
         "  ends by release {}, expiry {}, alerts {} {}, APCs {} {} {}",
@@ -133,7 +134,8 @@ fn write_endings(rt: HostRuntime, thread: &ThreadState) -> io::Result<()> {
     )
 }
 
-/// Writes what a wait would answer, and what it answers, of a thread to which something was done before.
+/// Writes what a wait would answer, and what it answers, of a thread to which something was done
+/// before.
 fn write_tests(
     rt: HostRuntime,
     name: &str,

@@ -1,5 +1,6 @@
-//! In which slots of the timer wheel keys are, and in which order they come due. A key is a timer or a thread's delay; it is in a slot
-//! by the greatest digit of six bits in which its due time differs from the time.
+//! In which slots of the timer wheel keys are, and in which order they come due. A key is a timer
+//! or a thread's delay; it is in a slot by the greatest digit of six bits in which its due time
+//! differs from the time.
 use crate::timers::{write_expiry, write_first, write_set};
 use crate::writing::write_yes;
 use nt_event::{ThreadNo, TimerKey, TimerNo};

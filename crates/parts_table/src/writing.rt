@@ -1,5 +1,5 @@
-//! Answers of several parts, each in a line of its own. A case asks, and one of these writes: a function that asks and formats
-//! many times over is expensive to prove.
+//! Answers of several parts, each in a line of its own. A case asks, and one of these writes: a
+//! function that asks and formats many times over is expensive to prove.
 use nt_event::Pick;
 use std::fmt::Debug;
 use std::io;

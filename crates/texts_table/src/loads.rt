@@ -1,5 +1,5 @@
-//! Cases of loads. A line is a seed. What is written is the seed, how many bytes the text of its script has, and their SHA-256 digest in
-//! hexadecimal.
+//! Cases of loads. A line is a seed. What is written is the seed, how many bytes the text of its
+//! script has, and their SHA-256 digest in hexadecimal.
 use nt_load::load_script;
 use nt_script::print;
 use sha2::{Digest, Sha256};

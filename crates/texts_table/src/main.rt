@@ -1,7 +1,9 @@
-//! What the layer of texts makes of a table: scripts, schedules and reports, verdicts on reports, command lines, and loads.
+//! What the layer of texts makes of a table: scripts, schedules and reports, verdicts on reports,
+//! command lines, and loads.
 //!
-//! A line of the input that begins with `== ` is a heading and is written again: it says what the cases below it are. Each other line
-//! is a case, for which one line is written. What is wanted is in `stdout`: it comes from outside this program.
+//! A line of the input that begins with `== ` is a heading and is written again: it says what the
+//! cases below it are. Each other line is a case, for which one line is written. What is wanted is
+//! in `stdout`: it comes from outside this program.
 #![tactic(auto)]
 
 mod loads;

@@ -1,11 +1,12 @@
-//! Cases of scripts and schedules: they are read and printed again. In a case `/` is the end of a line, `~` a tab, `^` byte 127, and
-//! a back quote byte 13.
+//! Cases of scripts and schedules: they are read and printed again. In a case `/` is the end of a
+//! line, `~` a tab, `^` byte 127, and a back quote byte 13.
 //!
-//! A line is a script, which has to be printed as the same bytes; or `?schedule N|SCRIPT|SCHEDULE`, the same of a schedule for that
-//! script, whose first line has the number N; or `?turns N|SCRIPT|LINE|REST`, the same of the schedule of the line `schedule 1`,
-//! N times LINE, and REST; or `?report N|SCRIPT|REPORT`, the same of a report; or `?summary|SCRIPT|REPORT`, the summary of the
-//! report's history; or `?find NAME|SCRIPT`, what the name names in the script; or `?split WORD|TEXT`, where the first line begins
-//! whose first field is the word.
+//! A line is a script, which has to be printed as the same bytes; or `?schedule N|SCRIPT|SCHEDULE`,
+//! the same of a schedule for that script, whose first line has the number N; or
+//! `?turns N|SCRIPT|LINE|REST`, the same of the schedule of the line `schedule 1`, N times LINE,
+//! and REST; or `?report N|SCRIPT|REPORT`, the same of a report; or `?summary|SCRIPT|REPORT`, the
+//! summary of the report's history; or `?find NAME|SCRIPT`, what the name names in the script; or
+//! `?split WORD|TEXT`, where the first line begins whose first field is the word.
 ghost use Rattle.std.specs.Prelude.{◌≡◌, true};
 ghost use Rattle.nt_log.specs.Schedules.{turns_fit};
 ghost use Rattle.nt_script.specs.Sound.{IsSound};

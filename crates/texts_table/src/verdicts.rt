@@ -1,9 +1,10 @@
-//! Cases of verdicts on reports. A line with `|` in it is a script and its report, in which `/` is the end of a line. Each line after
-//! it is one of that report's event lines with one field changed: it replaces the line of the same number. What is written is the
-//! verdict on the history of each report, as `ntrun check` gives it.
+//! Cases of verdicts on reports. A line with `|` in it is a script and its report, in which `/` is
+//! the end of a line. Each line after it is one of that report's event lines with one field
+//! changed: it replaces the line of the same number. What is written is the verdict on the history
+//! of each report, as `ntrun check` gives it.
 //!
-//! After the same events a turn gives one event at most, so an event that differs from it in another field than its turn's is
-//! illegal, and it is the first one, at its own number.
+//! After the same events a turn gives one event at most, so an event that differs from it in
+//! another field than its turn's is illegal, and it is the first one, at its own number.
 ghost use Rattle.std.specs.Prelude.{◌≤◌, length};
 ghost use Rattle.nt_script.specs.Sound.{IsSound};
 ghost use Rattle.nt_text.specs.declared.lines.TheConstants.{INPUT_LIMIT};

@@ -10,7 +10,8 @@ use Rattle.nt_event.specs.declared.numbers.ApcNo.{ApcNo}
 use Rattle.nt_event.specs.declared.scripts.ApcDecl.{ApcDecl}
 use Rattle.nt_event.specs.declared.scripts.Script.{Script}
 use Rattle.nt_event.specs.Routines.{owner_of}
-use Rattle.nt_event.specs.Script.{apc_fits, apc_has_its_routines, dpc_fits, fits, has_apc, has_routine, has_thread, isr_fits, isrs_differ, meets_limits, routine_fits, thread_fits, timer_fits, where_given}
+use Rattle.nt_event.specs.Script.{apc_fits, apc_has_its_routines, dpc_fits, fits, has_apc, has_routine, has_thread, isr_fits, isrs_differ, meets_limits}
+use Rattle.nt_event.specs.Script.{routine_fits, thread_fits, timer_fits, where_given}
 use Rattle.nt_event.specs.Numbers.{thread}
 use Rattle.nt_event.proofs.Options.{both}
 

@@ -24,7 +24,8 @@ use Rattle.nt_event.specs.Apcs.{is_of_apc, with_apc, without_apc}
 use Rattle.nt_event.specs.Regions.{stand_at}
 use Rattle.nt_event.specs.Routines.{is_kernel_kind, kind_of, owner_of}
 use Rattle.nt_event.specs.Threads.{ThreadFacts, ended, ends_by_apc}
-use Rattle.nt_event.specs.Waits.{alert_facts, alert_tested, apc_taken, expiry_facts, facts, frame_ended, insert_facts, is_of_thread, made_facts, named_facts, new_pick, release_facts, waited, waited_again}
+use Rattle.nt_event.specs.Waits.{alert_facts, alert_tested, apc_taken, expiry_facts, facts, frame_ended, insert_facts, is_of_thread, made_facts, named_facts}
+use Rattle.nt_event.specs.Waits.{new_pick, release_facts, waited, waited_again}
 use Rattle.nt_event.specs.Replies.{is_answer, kernel_apc, user_apc}
 use Rattle.nt_runs.proofs.Facts.{facts_made}
 use Rattle.nt_event.proofs.Elements.{contains_cases, contains_none, kept_contains}

@@ -15,7 +15,9 @@ impl<'s> States<'s> {
         requires given { MayMake self.old stand.now event.now.what }
         requires event { event.now ≡ acted_event stand.now self.old.lanes event.now.what }
         requires time { self.old.lanes.timers.now + 2 ^ 32 ≤ 2 ^ 50 }
-        ensures lanes { self.new ≡ record self.old { lanes = lanes_after self.old.script n stand.now event.now self.old.lanes } }
+        ensures lanes { self.new ≡ record self.old {
+          lanes = lanes_after self.old.script n stand.now event.now self.old.lanes;
+        } }
         ensures time { self.new.lanes.timers.now ≤ self.old.lanes.timers.now + (2 ^ 32 - 1) }
     {
         self.dpcs.leave(n, stand.cpu(), &event.what);

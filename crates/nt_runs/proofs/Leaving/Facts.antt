@@ -21,7 +21,8 @@ use Rattle.nt_event.specs.declared.scripts.Script.{Script}
 use Rattle.nt_event.specs.Apcs.{has_user, with_apc, without_apc}
 use Rattle.nt_event.specs.Routines.{is_kernel_kind, kind_of, owner_of}
 use Rattle.nt_event.specs.Threads.{ThreadFacts, ended, ends_by_alert, ends_by_apc, ends_by_expiry, ends_by_release, is_alerted, is_gone, set_alerted}
-use Rattle.nt_event.specs.Waits.{alert_facts, alert_taken, alert_tested, answered, apc_taken, expiry_facts, insert_facts, made_facts, named_facts, new_pick, release_facts, waited, waited_again}
+use Rattle.nt_event.specs.Waits.{alert_facts, alert_taken, alert_tested, answered, apc_taken, expiry_facts, insert_facts, made_facts, named_facts, new_pick}
+use Rattle.nt_event.specs.Waits.{release_facts, waited, waited_again}
 use Rattle.nt_event.specs.Replies.{alerted, is_answer, is_user, kernel_apc, satisfied, user_apc}
 
 -- what an event that the thread doesn't make leaves

@@ -3,9 +3,11 @@ use Rattle.std.proofs.Common.{ap, arith, subst, sym, ◌∙◌}
 use Rattle.std.proofs.lemmas.Bool.{eq-eqb, eqb-true, ltb-false, ltb-true}
 use Rattle.std.proofs.lemmas.Option.{slice_get-get_or}
 use Rattle.std.specs.Option.{option_map_or, option_or}
-use Rattle.std.specs.Prelude.{Bool, List, None, Option, Some, [], false, get_or, if◌then◌else◌, is_none, is_some, length, nat_lt, not, option_and_then, option_map, refl, slice_get, suc, true, unwrap_or, zero, ℕ, ◌&&◌, ◌+◌, ◌<◌, ◌==◌, ◌∷◌, ◌≡◌, ◌≤◌}
+use Rattle.std.specs.Prelude.{Bool, List, None, Option, Some, [], false, get_or, if◌then◌else◌, is_none, is_some, length, nat_lt, not, option_and_then}
+use Rattle.std.specs.Prelude.{option_map, refl, slice_get, suc, true, unwrap_or, zero, ℕ, ◌&&◌, ◌+◌, ◌<◌, ◌==◌, ◌∷◌, ◌≡◌, ◌≤◌}
 use Rattle.nt_event.specs.declared.commands.Command.{Command}
-use Rattle.nt_event.specs.declared.commands.Command.TheVariants.{Acquire, Alert, CancelTimer, Delay, InsertApc, Queue, Release, RemoveApc, SetTimer, StartWait, TestAlert, ToUser, Unqueue}
+use Rattle.nt_event.specs.declared.commands.Command.TheVariants.{Acquire, Alert, CancelTimer, Delay, InsertApc, Queue, Release, RemoveApc, SetTimer, StartWait}
+use Rattle.nt_event.specs.declared.commands.Command.TheVariants.{TestAlert, ToUser, Unqueue}
 use Rattle.nt_event.specs.declared.commands.Mode.{Mode}
 use Rattle.nt_event.specs.declared.commands.Regions.{Regions}
 use Rattle.nt_event.specs.declared.commands.Reply.{Reply}
@@ -20,9 +22,12 @@ use Rattle.nt_event.specs.declared.inserts.Insert.{Insert}
 use Rattle.nt_event.specs.declared.inserts.Part.TheVariants.{Ordinary as OrdinaryPart, Threaded as ThreadedPart}
 use Rattle.nt_event.specs.declared.inserts.Pick.{Pick}
 use Rattle.nt_event.specs.declared.jobs.Job.{Job}
-use Rattle.nt_event.specs.declared.jobs.Job.TheVariants.{Apcs as ApcsJob, Call as CallJob, Drain as DrainJob, Fire as FireJob, Free as FreeJob, Idle as IdleJob, Leave as LeaveJob, Pick as PickJob, Rewait as RewaitJob, Rundown as RundownJob, Switch as SwitchJob, Threaded as ThreadedJob, ToUser as ToUserJob, UserEnd as UserEndJob}
+use Rattle.nt_event.specs.declared.jobs.Job.TheVariants.{Apcs as ApcsJob, Call as CallJob, Drain as DrainJob, Fire as FireJob, Free as FreeJob, Idle as IdleJob}
+use Rattle.nt_event.specs.declared.jobs.Job.TheVariants.{Leave as LeaveJob, Pick as PickJob, Rewait as RewaitJob, Rundown as RundownJob, Switch as SwitchJob}
+use Rattle.nt_event.specs.declared.jobs.Job.TheVariants.{Threaded as ThreadedJob, ToUser as ToUserJob, UserEnd as UserEndJob}
 use Rattle.nt_event.specs.declared.jobs.Lane.{Lane}
-use Rattle.nt_event.specs.declared.jobs.Lane.TheVariants.{Lock as LockLane, Object as ObjectLane, Queue as QueueLane, Threads as ThreadsLane, Timers as TimersLane}
+use Rattle.nt_event.specs.declared.jobs.Lane.TheVariants.{Lock as LockLane, Object as ObjectLane, Queue as QueueLane, Threads as ThreadsLane}
+use Rattle.nt_event.specs.declared.jobs.Lane.TheVariants.{Timers as TimersLane}
 use Rattle.nt_event.specs.declared.jobs.Stand.{Stand}
 use Rattle.nt_event.specs.declared.numbers.CpuNo.{CpuNo}
 use Rattle.nt_event.specs.declared.numbers.DpcNo.{DpcNo}
@@ -32,9 +37,11 @@ use Rattle.nt_event.specs.declared.scripts.Script.{Script}
 use Rattle.nt_event.specs.declared.scripts.ThreadDecl.{ThreadDecl}
 use Rattle.nt_event.specs.Apcs.{deliverable, first_user, has_user, is_inserted, takes}
 use Rattle.nt_event.specs.Commands.{is_reached, reply}
-use Rattle.nt_event.specs.Jobs.{apcs_event, begin_apc, begin_dpc, begin_first, drain_event, expire_key, idle_event, job_event, may_take, ready, ready_from, rewait_reply, rundown_event, switch_event, threaded_event, touser_event, user_due}
+use Rattle.nt_event.specs.Jobs.{apcs_event, begin_apc, begin_dpc, begin_first, drain_event, expire_key, idle_event, job_event, may_take, ready, ready_from}
+use Rattle.nt_event.specs.Jobs.{rewait_reply, rundown_event, switch_event, threaded_event, touser_event, user_due}
 use Rattle.nt_event.specs.LaneStates.{OfLock, OfObject, OfQueue, OfThreads, OfTimers, content, threads_from}
-use Rattle.nt_event.specs.Lanes.{Lanes, begin_lanes, clean_lanes, command_lanes, expire_lanes, facts_at, facts_of, lane_if, lock_at, object_at, queue_at, what_lanes}
+use Rattle.nt_event.specs.Lanes.{Lanes, begin_lanes, clean_lanes, command_lanes, expire_lanes, facts_at, facts_of, lane_if, lock_at, object_at, queue_at}
+use Rattle.nt_event.specs.Lanes.{what_lanes}
 use Rattle.nt_event.specs.Objects.{ObjectState, is_queued}
 use Rattle.nt_event.specs.Queues.{QueueState, first_dpc}
 use Rattle.nt_event.specs.Routines.{cpu_of, owner_of}

@@ -1,9 +1,11 @@
 -- What an event asks for, touches and leaves is determined by the states of the lanes that it touches.
 use Rattle.std.proofs.Common.{ap, arith, ◌∙◌}
-use Rattle.std.specs.Prelude.{Bool, List, Option, Some, [], false, if◌then◌else◌, length, not, option_map, refl, true, ℕ, ◌&&◌, ◌++◌, ◌+◌, ◌<◌, ◌==◌, ◌||◌, ◌∷◌, ◌≡◌}
+use Rattle.std.specs.Prelude.{Bool, List, Option, Some, [], false, if◌then◌else◌, length, not, option_map, refl, true, ℕ, ◌&&◌, ◌++◌, ◌+◌, ◌<◌, ◌==◌, ◌||◌, ◌∷◌}
+use Rattle.std.specs.Prelude.{◌≡◌}
 use Rattle.nt_event.specs.declared.commands.ApcKind.TheVariants.{Normal as NormalApc}
 use Rattle.nt_event.specs.declared.commands.Command.{Command}
-use Rattle.nt_event.specs.declared.commands.Command.TheVariants.{Alert, Clock, Delay, InsertApc, Interrupt, LeaveCrit, LeaveGuard, Queue, Release, Unlock, Unqueue}
+use Rattle.nt_event.specs.declared.commands.Command.TheVariants.{Alert, Clock, Delay, InsertApc, Interrupt, LeaveCrit, LeaveGuard, Queue, Release, Unlock}
+use Rattle.nt_event.specs.declared.commands.Command.TheVariants.{Unqueue}
 use Rattle.nt_event.specs.declared.commands.Reply.{Reply}
 use Rattle.nt_event.specs.declared.commands.Reply.TheVariants.{Done, No, Refused, Yes}
 use Rattle.nt_event.specs.declared.commands.TimerKey.TheVariants.{Delay as OfDelay}
@@ -16,7 +18,8 @@ use Rattle.nt_event.specs.declared.frames.Body.TheVariants.{Apc as OnApc, Base a
 use Rattle.nt_event.specs.Frame.{Frame}
 use Rattle.nt_event.specs.declared.inserts.Insert.{Insert}
 use Rattle.nt_event.specs.declared.jobs.Lane.{Lane}
-use Rattle.nt_event.specs.declared.jobs.Lane.TheVariants.{Lock as LockLane, Object as ObjectLane, Queue as QueueLane, Threads as ThreadsLane, Timers as TimersLane}
+use Rattle.nt_event.specs.declared.jobs.Lane.TheVariants.{Lock as LockLane, Object as ObjectLane, Queue as QueueLane, Threads as ThreadsLane}
+use Rattle.nt_event.specs.declared.jobs.Lane.TheVariants.{Timers as TimersLane}
 use Rattle.nt_event.specs.declared.jobs.Stand.{Stand}
 use Rattle.nt_event.specs.declared.numbers.CpuNo.{CpuNo}
 use Rattle.nt_event.specs.declared.numbers.DpcNo.{DpcNo}
@@ -25,7 +28,8 @@ use Rattle.nt_event.specs.declared.scripts.Script.{Script}
 use Rattle.nt_event.specs.Apcs.{has_kernel}
 use Rattle.nt_event.specs.Frames.{Frames, due_of, frames_after, frames_in, own_after, running_after, thread_after, thread_if}
 use Rattle.nt_event.specs.LaneStates.{OfLock, OfObject, OfQueue, OfThreads, OfTimers, content}
-use Rattle.nt_event.specs.Lanes.{Lanes, command_lanes, end_lanes, facts_at, insert_lanes, lane_if, lanes_after, lock_at, object_at, queue_at, standing_lanes, what_lanes}
+use Rattle.nt_event.specs.Lanes.{Lanes, command_lanes, end_lanes, facts_at, insert_lanes, lane_if, lanes_after, lock_at, object_at, queue_at, standing_lanes}
+use Rattle.nt_event.specs.Lanes.{what_lanes}
 use Rattle.nt_event.specs.Objects.{ObjectState, object_after, queue_for, start_object}
 use Rattle.nt_event.specs.Own.{Own, fire_after, is_rest, own_after_event, took_after}
 use Rattle.nt_event.specs.Queues.{QueueState, idle_after, is_queue, new_insert, pending_after, queue_after, start_queue, without_dpc}

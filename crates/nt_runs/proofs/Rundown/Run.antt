@@ -3,7 +3,8 @@ use Rattle.std.proofs.Common.{ap, inl, inr, subst, sym, ◌∙◌}
 use Rattle.std.proofs.lemmas.Bool.{both_ways, eq-eqb, eqb-true, ltb-false, ltb-true}
 use Rattle.std.specs.List.{list_any}
 use Rattle.std.specs.Option.{option_or}
-use Rattle.std.specs.Prelude.{Bool, List, None, Option, Some, [], cond, false, find, get_or, if◌then◌else◌, length, nat_lt, not, option_map, refl, reverse, true, ℕ, ◌&&◌, ◌==◌, ◌||◌, ◌∷◌, ◌≡◌, ◌≤◌, ◌⊎◌}
+use Rattle.std.specs.Prelude.{Bool, List, None, Option, Some, [], cond, false, find, get_or, if◌then◌else◌, length, nat_lt, not, option_map, refl, reverse}
+use Rattle.std.specs.Prelude.{true, ℕ, ◌&&◌, ◌==◌, ◌||◌, ◌∷◌, ◌≡◌, ◌≤◌, ◌⊎◌}
 use Rattle.nt_event.specs.declared.commands.ApcKind.{ApcKind}
 use Rattle.nt_event.specs.declared.commands.ApcKind.TheVariants.{Normal as NormalApc, Special as SpecialApc, User as UserApc}
 use Rattle.nt_event.specs.declared.commands.Mode.TheVariants.{User as UserMode}
@@ -23,7 +24,8 @@ use Rattle.nt_event.specs.declared.numbers.RoutineNo.{RoutineNo}
 use Rattle.nt_event.specs.declared.numbers.ThreadNo.{ThreadNo}
 use Rattle.nt_event.specs.declared.scripts.Script.{Script}
 use Rattle.nt_event.specs.Apcs.{ApcQueues, deliverable, first_kernel, first_of_kind, first_user, has_kernel, is_of_kind, lets_through, same_kind}
-use Rattle.nt_event.specs.Frames.{at_name, due_of, end_on_thread, ended_on_thread, flushed, frames_of, innermost, is_base_body, is_normal_apc_body, is_user_apc_body, ended_base, own_frames, running, thread_after, thread_frames, thread_part, time}
+use Rattle.nt_event.specs.Frames.{at_name, due_of, end_on_thread, ended_on_thread, flushed, frames_of, innermost, is_base_body, is_normal_apc_body}
+use Rattle.nt_event.specs.Frames.{is_user_apc_body, ended_base, own_frames, running, thread_after, thread_frames, thread_part, time}
 use Rattle.nt_event.specs.Classes.{interrupt_classes}
 use Rattle.nt_event.specs.Jobs.{level_at}
 use Rattle.nt_event.specs.Lanes.{facts_at, facts_of, lanes_at}

@@ -8,7 +8,8 @@ use Rattle.nt_event.specs.declared.commands.ApcKind.TheVariants.{Normal as Norma
 use Rattle.nt_event.specs.declared.commands.Regions.{Regions}
 use Rattle.nt_event.specs.declared.events.Event.{Event}
 use Rattle.nt_event.specs.declared.frames.Body.{Body}
-use Rattle.nt_event.specs.declared.frames.Body.TheVariants.{Apc as OnApc, Base as OnBase, Dpc as OnDpc, Int as OnInt, Rundown as OnRundown, Threaded as OnThreaded}
+use Rattle.nt_event.specs.declared.frames.Body.TheVariants.{Apc as OnApc, Base as OnBase, Dpc as OnDpc, Int as OnInt, Rundown as OnRundown}
+use Rattle.nt_event.specs.declared.frames.Body.TheVariants.{Threaded as OnThreaded}
 use Rattle.nt_event.specs.Frame.{Frame}
 use Rattle.nt_event.specs.declared.inserts.Pick.{Pick}
 use Rattle.nt_event.specs.declared.jobs.Job.TheVariants.{Apcs as ApcsJob, Drain as DrainJob, Threaded as ThreadedJob}
@@ -18,7 +19,8 @@ use Rattle.nt_event.specs.declared.numbers.CpuNo.{CpuNo}
 use Rattle.nt_event.specs.declared.numbers.ThreadNo.{ThreadNo}
 use Rattle.nt_event.specs.declared.scripts.Script.{Script}
 use Rattle.nt_event.specs.Apcs.{ApcQueues, deliverable, first_kernel, has_kernel, lets_through}
-use Rattle.nt_event.specs.Frames.{frames_of, innermost, is_base_body, is_normal_apc_body, is_on_thread, is_user_apc_body, own_frames, running, thread_frames, thread_part}
+use Rattle.nt_event.specs.Frames.{frames_of, innermost, is_base_body, is_normal_apc_body, is_on_thread, is_user_apc_body, own_frames, running, thread_frames}
+use Rattle.nt_event.specs.Frames.{thread_part}
 use Rattle.nt_event.specs.Jobs.{fire_task, interrupt_task, is_due, level_at, may_apcs, may_drain, may_threaded, must_task}
 use Rattle.nt_event.specs.Lanes.{facts_at, facts_of, lanes_at}
 use Rattle.nt_runs.specs.Laws.{HasBase, level_of}

@@ -1,4 +1,5 @@
-//! `live`: its reports, its refusals, and that its processors turn in workers which wait for one another at the gate.
+//! `live`: its reports, its refusals, and that its processors turn in workers which wait for one
+//! another at the gate.
 
 use super::{
     Form, Found, IDLE_TARGET, RAISE_QUEUE_LOWER, RAISED_REPORT, SELF_QUEUING, World, failing_reads,
@@ -24,8 +25,8 @@ fn is_legal<R: AllocGlobal + Threads + Wait + Sync>(
     gives(rt, &["check"], input.as_slice(), Status::Ok, "legal\n")
 }
 
-/// Whether the words, which are the form `live`, write a report of the script that is called legal and replayed to the
-/// same bytes.
+/// Whether the words, which are the form `live`, write a report of the script that is called legal
+/// and replayed to the same bytes.
 fn is_reported<R: AllocGlobal + Threads + Wait + Sync>(
     rt: &R,
     words: &[&str],
@@ -61,7 +62,8 @@ fn live_refuses_as_run_does(rt: HostRuntime) -> Result<(), Fail> {
     Ok(())
 }
 
-/// Each call of the source and of the sink fails in turn. One processor makes the one run that there is.
+/// Each call of the source and of the sink fails in turn. One processor makes the one run that
+/// there is.
 #[test]
 fn each_call_of_a_live_run_fails(rt: HostRuntime) -> Result<(), Fail> {
     let form = Form {
@@ -115,7 +117,8 @@ fn look_for(flag: &AtomicU64, missed: &AtomicU64) {
     }
 }
 
-/// A gate at which two processors meet: each, with one event made, sets its flag and looks for the other one.
+/// A gate at which two processors meet: each, with one event made, sets its flag and looks for the
+/// other one.
 #[derive(Drop)]
 struct MeetingGate {
     first: AtomicU64,
@@ -174,7 +177,8 @@ fn live_with<G: Gate + Sync, R: AllocGlobal + Threads + Wait + Sync>(
     Ok((status, sink.bytes().to_vec(rt.alloc())?))
 }
 
-/// Neither processor passes the gate before the other one stands there: they turn in workers that run at once.
+/// Neither processor passes the gate before the other one stands there: they turn in workers that
+/// run at once.
 #[test]
 fn two_processors_meet_at_the_gate(rt: HostRuntime) -> Result<(), Fail> {
     let gate = MeetingGate {
@@ -195,8 +199,8 @@ fn place_of(report: &[u8], piece: &[u8]) -> Option<usize> {
     (0..report.len()).find(|place| report[*place..].starts_with(piece))
 }
 
-/// The report is that of the workers' history: processor 0, which the gate holds up, makes its second event behind the
-/// fifth one of processor 1. By the robin rule it comes before it.
+/// The report is that of the workers' history: processor 0, which the gate holds up, makes its
+/// second event behind the fifth one of processor 1. By the robin rule it comes before it.
 #[test]
 fn the_report_keeps_the_order_of_the_gate(rt: HostRuntime) -> Result<(), Fail> {
     let gate = OrderGate {

@@ -1,4 +1,5 @@
-//! The frames of a processor. A list of calls is allowed where each call's condition holds after the calls before it.
+//! The frames of a processor. A list of calls is allowed where each call's condition holds after
+//! the calls before it.
 ghost use Rattle.std.specs.Prelude.{◌≡◌};
 ghost use Rattle.nt_frame.specs.Changes.{no_frames};
 

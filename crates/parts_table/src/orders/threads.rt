@@ -118,7 +118,8 @@ fn waits_again(rt: HostRuntime, thread: &mut ThreadState) -> io::Result<()> {
     write(rt, "wait", &wait(thread, PLAIN))
 }
 
-/// A wait that doesn't block leaves what the thread does as it is: it stays blocked in the first wait.
+/// A wait that doesn't block leaves what the thread does as it is: it stays blocked in the first
+/// wait.
 fn over_at_once(rt: HostRuntime, thread: &mut ThreadState) -> io::Result<()> {
     resume(rt, thread)?;
     write(rt, "wait", &wait(thread, PLAIN))?;
@@ -173,8 +174,8 @@ fn leaves_twice(rt: HostRuntime, thread: &mut ThreadState) -> io::Result<()> {
     write(rt, "leaving", &thread.is_leaving())
 }
 
-/// Its doors are open still, and a wait blocks it: only the end of its base routine closes them, and only the caller knows that a
-/// thread is gone.
+/// Its doors are open still, and a wait blocks it: only the end of its base routine closes them,
+/// and only the caller knows that a thread is gone.
 fn gone_unleft(rt: HostRuntime, thread: &mut ThreadState) -> io::Result<()> {
     go(rt, thread)?;
     write(rt, "release", &thread.release())?;

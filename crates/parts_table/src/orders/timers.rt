@@ -79,7 +79,8 @@ fn advances_by_0(rt: HostRuntime, queue: &mut TimerQueue) -> io::Result<()>
     write(rt, "now", &queue.now())
 }
 
-/// No call cancels a delay. One that is due at 2^54 or later, which the time never reaches, takes its place.
+/// No call cancels a delay. One that is due at 2^54 or later, which the time never reaches, takes
+/// its place.
 fn taken_back(rt: HostRuntime, queue: &mut TimerQueue) -> io::Result<()>
     requires { queue.old ≡ new_timers 2 1 }
 {

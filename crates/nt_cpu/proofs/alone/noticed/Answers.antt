@@ -18,5 +18,8 @@ returns c =
       | in-Some+else-asked-cpu w ↦ let a = w.in-Some.asked in
           let e : (a.cpu.0 == c.args.cpu.0) ≡ false = let t = w.if-asked-cpu.false in grind (arith, nat_tests) in
           rw w.in-Some.is (record { value = λ k l. sym (noticed_else c.args.cpu c.args.what.now a c.args.n k c.in_default.not-Look e); class = tt })
-      | in_default-asked w ↦ record { value = λ k l. sym (noticed_unasked c.args.cpu c.args.what.now c.args.asked c.args.n k c.in_default.not-Look w.in_default-asked.not-Some); class = tt }
+      | in_default-asked w ↦ record {
+        value = λ k l. sym (noticed_unasked c.args.cpu c.args.what.now c.args.asked c.args.n k c.in_default.not-Look w.in_default-asked.not-Some);
+        class = tt;
+      }
     ]

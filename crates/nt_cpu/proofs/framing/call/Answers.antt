@@ -6,11 +6,13 @@ use Rattle.nt_cpu.proofs.framing.call.Goals as goal
 pub advance_place-requires-clause-frame : goal.advance_place-requires-clause-frame
 advance_place-requires-clause-frame c =
     some_changed
-    (effect_made c.args.due c.args.command.now c.args.reply.now) c.args.frames.now c.take_effect.new.frames c.requires.nested c.take_effect.ensures c.requires.frame
+    (effect_made c.args.due c.args.command.now c.args.reply.now) c.args.frames.now c.take_effect.new.frames c.requires.nested c.take_effect.ensures
+    c.requires.frame
 
 pub advance_place-requires-clause-place : goal.advance_place-requires-clause-place
 advance_place-requires-clause-place c =
-    place_changed c.args.due c.args.command.now c.args.reply.now c.args.frames.now c.take_effect.new.frames 4294967295 c.requires.nested c.take_effect.ensures c.requires.place
+    place_changed c.args.due c.args.command.now c.args.reply.now c.args.frames.now c.take_effect.new.frames 4294967295 c.requires.nested c.take_effect.ensures
+    c.requires.place
 
 pub returns-then-is_spin : goal.returns-then-is_spin
 returns-then-is_spin c =
@@ -20,7 +22,8 @@ returns-then-is_spin c =
 
 pub returns-then-stops : goal.returns-then-stops
 returns-then-stops c =
-    called_stopped c.args.due c.args.command.now c.args.reply.now c.args.frames.now c.take_effect.new.frames c.advance_place.new.self c.switch_away.new.self c.requires.nested
+    called_stopped c.args.due c.args.command.now c.args.reply.now c.args.frames.now c.take_effect.new.frames c.advance_place.new.self c.switch_away.new.self
+    c.requires.nested
     (sym c.is_spin.ensures ∙ c.if-is_spin.false) c.take_effect.ensures c.advance_place.ensures c.switch_away.ensures (sym c.stops.ensures ∙ c.if-stops.true)
 
 pub returns-else-stops : goal.returns-else-stops

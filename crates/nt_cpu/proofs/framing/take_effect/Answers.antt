@@ -10,12 +10,14 @@ returns-in-Some c =
 pub returns-then-is_done : goal.returns-then-is_done
 returns-then-is_done c =
     c.do_command.ensures
-    ∙ done_made c.args.due c.args.command.now c.args.reply.now c.args.frames.now (sym c.wait_of.ensures ∙ c.in-None.is) (sym c.is_done.ensures ∙ c.if-is_done.true)
+    ∙ done_made c.args.due c.args.command.now c.args.reply.now c.args.frames.now (sym c.wait_of.ensures ∙ c.in-None.is)
+    (sym c.is_done.ensures ∙ c.if-is_done.true)
 
 pub returns-then-is_spin : goal.returns-then-is_spin
 returns-then-is_spin c =
     c.spin_on.ensures
-    ∙ spin_made c.args.due c.args.command.now c.args.reply.now c.args.frames.now (sym c.wait_of.ensures ∙ c.in-None.is) (sym c.is_spin.ensures ∙ c.if-is_spin.true)
+    ∙ spin_made c.args.due c.args.command.now c.args.reply.now c.args.frames.now (sym c.wait_of.ensures ∙ c.in-None.is)
+    (sym c.is_spin.ensures ∙ c.if-is_spin.true)
 
 pub returns-else-is_spin : goal.returns-else-is_spin
 returns-else-is_spin c =

@@ -19,7 +19,8 @@ use Rattle.nt_lane.proofs.noting.note_both.Goals as goal
 
 pub leave_both-requires : goal.leave_both-requires
 leave_both-requires g c =
-    subst (λ (p : CpuNo). MayChangeBoth c.args.object.now.state c.args.queue.now.state p (change_of c.args.step.now.plan.now.event.what)) (sym (c.cpu.ensures ∙ c.requires.cpu))
+    subst (λ (p : CpuNo). MayChangeBoth c.args.object.now.state c.args.queue.now.state p (change_of c.args.step.now.plan.now.event.what))
+    (sym (c.cpu.ensures ∙ c.requires.cpu))
     c.requires.may.may
 
 pub note_step-requires-2-clause-step : goal.note_step-requires-2-clause-step

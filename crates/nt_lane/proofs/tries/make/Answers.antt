@@ -52,4 +52,5 @@ returns-clause-done g c =
     (omega (arith, c.draw_plan-number.ensures.step.below)) c.draw_plan-number.ensures.made c.note.ensures.learns c.note.ensures.left
     (told ∙ ap (λ (xs : List Lane). table 16 (λ k. told_over (told_in h) xs c.args.stand.now.cpu k)) c.as_slice.ensures)
     (own
-    ∙ ap (λ (xs : List Ask). table 16 (λ k. if list_any (is_ask c.args.stand.now.cpu k) xs then n + 1 else value_at c.told-value.result k)) c.as_slice-2.ensures)
+    ∙ ap (λ (xs : List Ask). table 16 (λ k. if list_any (is_ask c.args.stand.now.cpu k) xs then n + 1 else value_at c.told-value.result k))
+    c.as_slice-2.ensures)

@@ -23,7 +23,9 @@ returns-then-settled-clause-gathered g c =
     let w = pass_view c.has_no_more-settled.new.self.pass in
     let es = c.in_ok-events.events.items in
     let e = c.has_no_more-settled.ensures in
-    let did = worked s limit ws team.cpus.items v w team.list.items es c.args.board.script_fits c.requires.all c.in_ok-team.ensures.team e.looked c.in_ok-events.ensures in
+    let did =
+    worked s limit ws team.cpus.items v w team.list.items es c.args.board.script_fits c.requires.all c.in_ok-team.ensures.team e.looked
+    c.in_ok-events.ensures in
     let more : HaveNoMore limit v team.cpus.items = subst (λ n. HaveNoMore n v team.cpus.items) c.args.board.turns_is (e.more c.if-settled.true) in
     let still = settled s limit ws team.cpus.items v w team.list.items es c.args.board.script_fits c.requires.all c.in_ok-team.ensures.team e.looked
     c.in_ok-events.ensures more in

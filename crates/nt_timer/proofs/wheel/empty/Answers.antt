@@ -24,7 +24,8 @@ stand-requires-clause-room c =
 pub loop-node-smaller : goal.loop-node-smaller
 loop-node-smaller c =
     let t = c.requires.time in
-    (stepped c.loop-node.lowest c.stand.new.lowest c.args.past c.args.now c.args.slot c.in-Some.node c.in-Some-settings.setting c.args.settings.now c.loop-node.rings c.detach.new.self
+    (stepped c.loop-node.lowest c.stand.new.lowest c.args.past c.args.now c.args.slot c.in-Some.node c.in-Some-settings.setting c.args.settings.now
+    c.loop-node.rings c.detach.new.self
     c.stand.new.rings c.loop-node.due.items c.stand.new.due.items c.loop-node.invariant.turned t.0 t.1 t.2 c.in-Some.ensures c.in-Some-settings.is
     c.detach.ensures c.stand.ensures.homes c.stand.ensures.due c.stand.ensures.lowest.0 c.stand.ensures.lowest.1).1
 
@@ -32,7 +33,9 @@ pub loop-node-preserved : goal.loop-node-preserved
 loop-node-preserved c =
     let t = c.requires.time in
     record {
-      turned = (stepped c.loop-node.lowest c.stand.new.lowest c.args.past c.args.now c.args.slot c.in-Some.node c.in-Some-settings.setting c.args.settings.now c.loop-node.rings c.detach.new.self
+      turned =
+          (stepped c.loop-node.lowest c.stand.new.lowest c.args.past c.args.now c.args.slot c.in-Some.node c.in-Some-settings.setting c.args.settings.now
+          c.loop-node.rings c.detach.new.self
           c.stand.new.rings c.loop-node.due.items c.stand.new.due.items c.loop-node.invariant.turned t.0 t.1 t.2 c.in-Some.ensures c.in-Some-settings.is
           c.detach.ensures c.stand.ensures.homes c.stand.ensures.due c.stand.ensures.lowest.0 c.stand.ensures.lowest.1).0;
       small = let l = c.stand.ensures.lowest.0 in let n = c.loop-node.invariant.small in omega arith;

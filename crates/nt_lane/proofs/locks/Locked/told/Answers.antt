@@ -8,7 +8,8 @@ use Rattle.nt_lane.proofs.locks.Locked.told.Goals as goal
 
 pub raise-requires-clause-held : goal.raise-requires-clause-held
 raise-requires-clause-held g c =
-    (held_next (IsHeld (states_of g.N.Plan.script c.args.self.now)) c.args.lanes.now c.loop-lane.lane-index _ c.loop-lane-test.true c.loop-lane.invariant.held).0
+    (held_next (IsHeld (states_of g.N.Plan.script c.args.self.now)) c.args.lanes.now c.loop-lane.lane-index _ c.loop-lane-test.true
+    c.loop-lane.invariant.held).0
 
 pub loop-lane-preserved : goal.loop-lane-preserved
 loop-lane-preserved g c = record {

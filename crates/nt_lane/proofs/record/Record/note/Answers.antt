@@ -12,7 +12,8 @@ use Rattle.nt_mark.specs.Views.{entry, first_notes, note_of, reach, request_word
 use Rattle.nt_states.specs.LaneLists.{as_asks}
 use Rattle.nt_lane.specs.Records.{AreKnown, LaneRecord, told_rows, told_then}
 use Rattle.nt_lane.proofs.Rows.{all_within, known_then, length-raised_list, places_within, rows_then}
-use Rattle.nt_lane.proofs.Tying.{here, items_more, kept_told, known_more, known_told, learns_through, learns_told, list_told, noted_kept, numbers_more, own_told, reach_told}
+use Rattle.nt_lane.proofs.Tying.{here, items_more, kept_told, known_more, known_told, learns_through, learns_told, list_told, noted_kept, numbers_more}
+use Rattle.nt_lane.proofs.Tying.{own_told, reach_told}
 use Rattle.nt_mark.proofs.Noting.{IsAbove-le, IsAbove-push, kept_of}
 use Rattle.nt_lane.proofs.record.Record.note.Goals as goal
 

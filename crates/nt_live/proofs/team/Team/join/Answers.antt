@@ -26,7 +26,8 @@ returns-clause-joined g c met t next =
     let state = apart.state in
     let here : x.cpu ≡ cpu (length met) = sym (ap (λ (w : WorkerState). w.cpu.cpu) state) ∙ next in
     let team = team_joined s limit met old.cpus.items v old.list.items t x u apart.seated.work here in
-    let one = subst (λ (w : WorkerState). IsTeam s limit (met ++ w ∷ []) (old.cpus.items ++ x ∷ []) (both v u) (old.list.items ++ pairs_of u)) (sym state) team in
+    let one =
+    subst (λ (w : WorkerState). IsTeam s limit (met ++ w ∷ []) (old.cpus.items ++ x ∷ []) (both v u) (old.list.items ++ pairs_of u)) (sym state) team in
     let two = subst (λ (xs : List CpuState). IsTeam s limit (met ++ c.args.worker ∷ []) xs (both v u) (old.list.items ++ pairs_of u)) (sym cpus) one in
     let three = subst (λ (z : View). IsTeam s limit (met ++ c.args.worker ∷ []) c.push.new.self.items z (old.list.items ++ pairs_of u))
     (sym c.meet.ensures.both) two in

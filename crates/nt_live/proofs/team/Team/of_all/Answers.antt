@@ -28,6 +28,7 @@ loop-preserved g c =
       table = c.join.ensures.table;
       left = omega (arith, fewer, left);
       rest = left_then ws old c.remove-in-loop.new.self.items n x l i.rest e.value e.items;
-      team = subst (λ (xs : List WorkerState). IsTeam g.N.Plan.script g.N.Plan.turns xs c.join.new.self.cpus.items (pass_view c.join.new.self.pass) c.join.new.self.list.items)
+      team = subst (λ (xs : List WorkerState).
+          IsTeam g.N.Plan.script g.N.Plan.turns xs c.join.new.self.cpus.items (pass_view c.join.new.self.pass) c.join.new.self.list.items)
           (sym met) (c.in_ok-join.ensures.joined (take n ws) i.team next);
     }

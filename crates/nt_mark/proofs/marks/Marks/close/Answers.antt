@@ -10,7 +10,9 @@ returns c =
     let met = c.meet_all-pass.ensures.all in
     let taken = c.take_all-seat.ensures.all in
     let same = taken ∙ ap (λ (v : View). gathered v (keeper_views c.args.keepers.items)) met in
-    let e = closes _ _ _ c.args.pass c.args.others.items c.args.keepers.items _ _ _ c.close_with-closed.ensures.values.2 c.word-count.ensures same c.requires.parts c.requires.keepers in
+    let e =
+    closes _ _ _ c.args.pass c.args.others.items c.args.keepers.items _ _ _ c.close_with-closed.ensures.values.2 c.word-count.ensures same c.requires.parts
+    c.requires.keepers in
     record {
       count = e.count_is;
       each_once = e.each_once;

@@ -31,6 +31,7 @@ loop-number-preserved c =
       within = c.block_end-end.ensures.1;
       clear = subst (AreClear flags c.args.from) all (clear_on flags c.args.from a e (e - a) c.loop-number.invariant.clear
           (subst (AreClear (take (e - a) (drop a flags)) 0) many
-          (subst (λ (xs : List Bool). AreClear (take (e - a) (drop a xs)) 0 (length (take (e - a) (drop a xs)))) same (c.are_clear.ensures c.if-not-are_clear.false)))
+          (subst (λ (xs : List Bool). AreClear (take (e - a) (drop a xs)) 0 (length (take (e - a) (drop a xs)))) same
+          (c.are_clear.ensures c.if-not-are_clear.false)))
           (omega arith));
     }

@@ -41,5 +41,8 @@ returns-clause-some c =
     let bytes = c.self.inside.rest.now in
     let head = c.args.head.now in
     let is = strip_prefix_is Decides-eqb bytes head (Some c.in_ok-behind.behind) c.in_ok-behind.ensures.cases in
-    let some = c.in_ok-number.ensures.some in
-    ((some.0, omega arith), rw (← c.self.view_is) (number_first bytes head c.in_ok-number.rest.now c.in_ok-number.number c.requires some.0 (is ∙ ap (λ (l : List ℕ). head ++ l) some.1)))
+    let some = c.in_ok-number.ensures.some in (
+      (some.0, omega arith),
+      rw (← c.self.view_is)
+          (number_first bytes head c.in_ok-number.rest.now c.in_ok-number.number c.requires some.0 (is ∙ ap (λ (l : List ℕ). head ++ l) some.1)),
+    )

@@ -12,11 +12,13 @@ key_of-requires-clause-delay c = let e = c.in-Some.ensures in
 
 pub returns-in-Some-clause-value : goal.returns-in-Some-clause-value
 returns-in-Some-clause-value c =
-    rw (c.key_of.ensures, ← c.self.view_is) (sym (first_due_is c.self.inside.wheel.now c.self.inside.timers c.self.inside.wheel.settings c.in-Some.first c.in-Some.ensures))
+    rw (c.key_of.ensures, ← c.self.view_is)
+    (sym (first_due_is c.self.inside.wheel.now c.self.inside.timers c.self.inside.wheel.settings c.in-Some.first c.in-Some.ensures))
 
 pub returns-in-Some-clause-found : goal.returns-in-Some-clause-found
 returns-in-Some-clause-found c =
-    let e : due_entry c.args.self.now ≡ Some (key_of c.self.inside.timers c.in-Some.first.key, c.in-Some.first.number) = rw (← c.self.view_is) (first_due_is c.self.inside.wheel.now c.self.inside.timers c.self.inside.wheel.settings c.in-Some.first c.in-Some.ensures) in
+    let e : due_entry c.args.self.now ≡ Some (key_of c.self.inside.timers c.in-Some.first.key, c.in-Some.first.number) =
+    rw (← c.self.view_is) (first_due_is c.self.inside.wheel.now c.self.inside.timers c.self.inside.wheel.settings c.in-Some.first c.in-Some.ensures) in
     ap is_some (sym e) ∙ is_some-due_entry c.args.self.now
 
 pub returns-in-None-clause-value : goal.returns-in-None-clause-value
@@ -25,5 +27,6 @@ returns-in-None-clause-value c =
 
 pub returns-in-None-clause-found : goal.returns-in-None-clause-found
 returns-in-None-clause-found c =
-    let e : due_entry c.args.self.now ≡ None = rw (← c.self.view_is) (none_due_is c.self.inside.wheel.now c.self.inside.timers c.self.inside.wheel.settings c.in-None.ensures) in
+    let e : due_entry c.args.self.now ≡ None =
+    rw (← c.self.view_is) (none_due_is c.self.inside.wheel.now c.self.inside.timers c.self.inside.wheel.settings c.in-None.ensures) in
     ap is_some (sym e) ∙ is_some-due_entry c.args.self.now

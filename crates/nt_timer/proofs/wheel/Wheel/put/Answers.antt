@@ -11,7 +11,9 @@ stand-requires-clause-room c =
     let r = c.requires in let e = ap (λ (w : WheelFacts). length w.settings) c.self.view_is in omega arith in
     let at : setting_in c.self.inside.settings.items c.args.key ≡ c.index-old.result.now =
     sym (get_or_read c.self.inside.settings.items c.args.key c.index-old.result.now less c.index-old.ensures None) in
-    let few = put_room c.self.inside.lowest c.self.inside.now c.args.key c.index-old.result.now c.self.inside.settings.items c.self.inside.rings c.self.inside.due.items
+    let few =
+    put_room c.self.inside.lowest c.self.inside.now c.args.key c.index-old.result.now c.self.inside.settings.items c.self.inside.rings
+    c.self.inside.due.items
     c.lift.new.due.items c.self.invariant.4 at less c.lift.ensures.due in
     let room = c.lift.ensures.room in
     let whole = c.self.invariant.3 in
@@ -33,7 +35,8 @@ invariant_of-self c =
       (let b = i.1 in let q = c.stand.ensures.lowest.0 in omega arith),
       (let b = i.2 in omega arith),
       (let b = i.3 in let r = c.lift.ensures.room in let q = c.stand.ensures.room in omega arith),
-      put_some c.self.inside.lowest c.stand.new.lowest c.self.inside.now c.args.key c.index-old.result.now c.args.setting c.in-Some.setting c.self.inside.settings.items c.self.inside.rings c.lift.new.rings
+      put_some c.self.inside.lowest c.stand.new.lowest c.self.inside.now c.args.key c.index-old.result.now c.args.setting c.in-Some.setting
+          c.self.inside.settings.items c.self.inside.rings c.lift.new.rings
           c.stand.new.rings c.self.inside.due.items c.lift.new.due.items c.stand.new.due.items i.4 at less c.in-Some.is c.lift.ensures.homes c.lift.ensures.due
           c.stand.ensures.homes c.stand.ensures.due c.stand.ensures.lowest.0 c.stand.ensures.lowest.1,
     )
@@ -50,6 +53,7 @@ invariant_of-self-in_default c =
       i.1,
       (let b = i.2 in omega arith),
       (let b = i.3 in let r = c.lift.ensures.room in omega arith),
-      put_none c.self.inside.lowest c.self.inside.now c.args.key c.index-old.result.now c.args.setting c.self.inside.settings.items c.self.inside.rings c.lift.new.rings
+      put_none c.self.inside.lowest c.self.inside.now c.args.key c.index-old.result.now c.args.setting c.self.inside.settings.items c.self.inside.rings
+          c.lift.new.rings
           c.self.inside.due.items c.lift.new.due.items i.4 at less c.in_default.is c.lift.ensures.homes c.lift.ensures.due i.1,
     )
