@@ -1,5 +1,5 @@
 -- The turn that a choice of the robin rule stands for.
-use Rattle.std.specs.Prelude.{List, ℕ, ◌×◌}
+use Rattle.std.specs.Prelude.{List, ℕ}
 use Rattle.nt_event.specs.declared.events.Event.{Event}
 use Rattle.nt_event.specs.declared.events.Turn.{Turn}
 use Rattle.nt_event.specs.declared.events.Turn.TheVariants as turns

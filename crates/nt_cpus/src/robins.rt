@@ -15,7 +15,7 @@ ghost use Rattle.nt_cpus.specs.Steps.{chosen_turn, found_values, look_of, step_t
 
 use crate::processors::Processors;
 use nt_cpu::{Choice, Cpu};
-use nt_event::{CpuNo, Event, Rises, ThreadNo, Turn};
+use nt_event::{CpuNo, Event, Rises, Turn};
 use nt_floor::OpenFloor;
 
 /// The next ready thread is taken up where a thread may be and one is ready; else the next event is

@@ -1,13 +1,13 @@
 -- The names of the load are names, and all differ.
-use Rattle.std.proofs.Common.{Bool, List, None, [], append_assoc, false, ap, arith, length, lit<, lit≤, refl, rules, subst, suc, sym, true, zero, ℕ, ◌++◌, ◌+◌}
-use Rattle.std.proofs.Common.{◌<◌, ◌∙◌, ◌∷◌, ◌≡◌, ◌≤◌}
+use Rattle.std.proofs.Common.{Bool, List, None, [], append_assoc, false, arith, length, lit<, lit≤, refl, rules, subst, suc, sym, true, zero, ℕ, ◌++◌, ◌+◌, ◌<◌}
+use Rattle.std.proofs.Common.{◌∷◌, ◌≡◌, ◌≤◌}
 use Rattle.std.proofs.lemmas.Bool.{and_from, and_parts, le-leb, ne_eqb}
 use Rattle.std.proofs.lemmas.Fmt.{digits_decimal, length-decimal-le}
 use Rattle.std.proofs.lemmas.List.{append-nil}
 use Rattle.std.proofs.lemmas.Str.Parse.{IsNumeralModel, numerals_by_fold}
 use Rattle.std.specs.Char.{is_ascii_digit, is_ascii_lowercase}
 use Rattle.std.specs.List.{list_all, position_from}
-use Rattle.std.specs.Prelude.{codes, decimal, nat_le, ◌||◌, ◌*◌, ◌-◌, ◌==◌}
+use Rattle.std.specs.Prelude.{decimal, nat_le, not, ◌&&◌, ◌||◌, ◌*◌, ◌-◌, ◌==◌}
 use Rattle.std.specs.Str.{all_ascii_digits, bytes_eq}
 use Rattle.nt_event.specs.Lists.{table_from}
 use Rattle.nt_line.specs.NameLists.{AreNew, all_names}
@@ -75,114 +75,99 @@ pub new_letter : (before : List (List ℕ)) (letter n : ℕ) → is_name_byte le
     ((i : ℕ) → place (letter ∷ decimal i) before ≡ None) → AreNew before (spelled_names (letter ∷ []) n)
 new_letter before letter n e l free = new_from before letter 0 n e (omega arith) (λ i m. free (0 + i))
 
--- what stands before the names of each letter, in order
-abbrev pub before_k : List (List ℕ)
-before_k = [] ++ spelled_names (100 ∷ []) 32
+-- ---- runs of names, one after another
 
-abbrev pub before_t : List (List ℕ)
-before_t = before_k ++ spelled_names (107 ∷ []) 8
+-- names that all begin with one letter
+record Run : Type 0 where
+  pub letter : ℕ
+  pub names : List (List ℕ)
+  pub new : (before : List (List ℕ)) → ((rest : List ℕ) → place (letter ∷ rest) before ≡ None) → AreNew before names
+  pub beside : (before : List (List ℕ)) (head : ℕ) (rest : List ℕ) → (head == letter) ≡ false → place (head ∷ rest) before ≡ None →
+      place (head ∷ rest) (before ++ names) ≡ None
 
-abbrev pub before_s : List (List ℕ)
-before_s = before_t ++ spelled_names (116 ∷ []) 32
+-- the numbered names of a letter are a run
+abbrev numbered : (letter count : ℕ) → is_name_byte letter ≡ true → count ≤ 100 → Run
+numbered letter count e l = record {
+  letter = letter;
+  names = spelled_names (letter ∷ []) count;
+  new = λ before free. new_letter before letter count e l (λ i. free (decimal i));
+  beside = λ before head rest other free. place_beside before letter count head rest other free;
+}
 
-abbrev pub before_n : List (List ℕ)
-before_n = before_s ++ spelled_names (115 ∷ []) 32
+-- one name is a run
+abbrev one_name : (letter : ℕ) (more : List ℕ) → is_name (letter ∷ more) ≡ true → Run
+one_name letter more named = record {
+  letter = letter;
+  names = (letter ∷ more) ∷ [];
+  new = λ before free. (named, free more, tt);
+  beside = λ before head rest other free. in_neither (head ∷ rest) before ((letter ∷ more) ∷ []) free (nowhere head rest other);
+}
+  where
+    nowhere : (head : ℕ) (rest : List ℕ) → (head == letter) ≡ false → (at : ℕ) →
+        position_from (bytes_eq (head ∷ rest)) at ((letter ∷ more) ∷ []) ≡ None
+    nowhere head rest other at = let differ : bytes_eq (head ∷ rest) (letter ∷ more) ≡ false = rw other refl in rw differ refl
 
-abbrev pub before_u : List (List ℕ)
-before_u = before_n ++ spelled_names (110 ∷ []) 32
+-- the names of runs, run after run
+abbrev names_of : List Run → List (List ℕ)
+names_of [] = []
+names_of (run ∷ runs) = run.names ++ names_of runs
 
-abbrev pub before_idle : List (List ℕ)
-before_idle = before_u ++ spelled_names (117 ∷ []) 32
+-- no run has the letter
+abbrev have_other : ℕ → List Run → Bool
+have_other letter [] = true
+have_other letter (run ∷ runs) = not (run.letter == letter) && have_other letter runs
 
-abbrev pub before_b : List (List ℕ)
-before_b = before_idle ++ codes "idle" ∷ []
+-- no two runs have the same letter
+abbrev are_apart : List Run → Bool
+are_apart [] = true
+are_apart (run ∷ runs) = have_other run.letter runs && are_apart runs
 
--- a name that begins with a later letter stands in none of them
-free_k : (rest : List ℕ) → place (107 ∷ rest) before_k ≡ None
-free_k rest =
-    let after_d = place_beside [] 100 32 107 rest refl refl in
-    after_d
+-- no name before begins with the letter of a run
+abbrev AreFree : List (List ℕ) → List Run → Type 0
+AreFree before [] = Unit {0}
+AreFree before (run ∷ runs) = ((rest : List ℕ) → place (run.letter ∷ rest) before ≡ None) × AreFree before runs
 
-free_t : (rest : List ℕ) → place (116 ∷ rest) before_t ≡ None
-free_t rest =
-    let after_d = place_beside [] 100 32 116 rest refl refl in
-    let after_k = place_beside before_k 107 8 116 rest refl after_d in
-    after_k
+-- nor where a run of another letter comes after them
+still_free : (before : List (List ℕ)) (run : Run) (runs : List Run) → have_other run.letter runs ≡ true → AreFree before runs →
+    AreFree (before ++ run.names) runs
+still_free before run [] other free = tt
+still_free before run (next ∷ runs) other free =
+    let both = and_parts (not (next.letter == run.letter)) (have_other run.letter runs) other in
+    ((λ rest. run.beside before next.letter rest (not_so (next.letter == run.letter) both.0) (free.0 rest)), still_free before run runs both.1 free.1)
+  where
+    not_so : (b : Bool) → not b ≡ true → b ≡ false
+    not_so true e = absurd cc
+    not_so false e = refl
 
-free_s : (rest : List ℕ) → place (115 ∷ rest) before_s ≡ None
-free_s rest =
-    let after_d = place_beside [] 100 32 115 rest refl refl in
-    let after_k = place_beside before_k 107 8 115 rest refl after_d in
-    let after_t = place_beside before_t 116 32 115 rest refl after_k in
-    after_t
+-- runs of different letters are new names where their letters are free
+new_runs : (before : List (List ℕ)) (runs : List Run) → are_apart runs ≡ true → AreFree before runs → AreNew before (names_of runs)
+new_runs before [] apart free = tt
+new_runs before (run ∷ runs) apart free =
+    let both = and_parts (have_other run.letter runs) (are_apart runs) apart in
+    new_both before run.names (names_of runs) (run.new before free.0)
+    (new_runs (before ++ run.names) runs both.1 (still_free before run runs both.0 free.1))
 
-free_n : (rest : List ℕ) → place (110 ∷ rest) before_n ≡ None
-free_n rest =
-    let after_d = place_beside [] 100 32 110 rest refl refl in
-    let after_k = place_beside before_k 107 8 110 rest refl after_d in
-    let after_t = place_beside before_t 116 32 110 rest refl after_k in
-    let after_s = place_beside before_s 115 32 110 rest refl after_t in
-    after_s
+-- each letter is free at the start
+free_at_start : (runs : List Run) → AreFree [] runs
+free_at_start [] = tt
+free_at_start (run ∷ runs) = ((λ rest. refl), free_at_start runs)
 
-free_u : (rest : List ℕ) → place (117 ∷ rest) before_u ≡ None
-free_u rest =
-    let after_d = place_beside [] 100 32 117 rest refl refl in
-    let after_k = place_beside before_k 107 8 117 rest refl after_d in
-    let after_t = place_beside before_t 116 32 117 rest refl after_k in
-    let after_s = place_beside before_s 115 32 117 rest refl after_t in
-    let after_n = place_beside before_n 110 32 117 rest refl after_s in
-    after_n
-
-free_idle : (rest : List ℕ) → place (105 ∷ rest) before_idle ≡ None
-free_idle rest =
-    let after_d = place_beside [] 100 32 105 rest refl refl in
-    let after_k = place_beside before_k 107 8 105 rest refl after_d in
-    let after_t = place_beside before_t 116 32 105 rest refl after_k in
-    let after_s = place_beside before_s 115 32 105 rest refl after_t in
-    let after_n = place_beside before_n 110 32 105 rest refl after_s in
-    let after_u = place_beside before_u 117 32 105 rest refl after_n in
-    after_u
-
-free_b : (rest : List ℕ) → place (98 ∷ rest) before_b ≡ None
-free_b rest =
-    let after_d = place_beside [] 100 32 98 rest refl refl in
-    let after_k = place_beside before_k 107 8 98 rest refl after_d in
-    let after_t = place_beside before_t 116 32 98 rest refl after_k in
-    let after_s = place_beside before_s 115 32 98 rest refl after_t in
-    let after_n = place_beside before_n 110 32 98 rest refl after_s in
-    let after_u = place_beside before_u 117 32 98 rest refl after_n in
-    in_neither (98 ∷ rest) before_idle (codes "idle" ∷ []) after_u (λ at. refl)
-
-abbrev pub of_s : List (List ℕ)
-of_s = spelled_names (115 ∷ []) 32
-
-abbrev pub of_n : List (List ℕ)
-of_n = spelled_names (110 ∷ []) 32
-
-abbrev pub of_u : List (List ℕ)
-of_u = spelled_names (117 ∷ []) 32
+-- the runs of the load: d, k, t, s, n, u, idle and b
+abbrev load_runs : List Run
+load_runs =
+    numbered 100 32 refl (lit≤ tt)
+    ∷ numbered 107 8 refl (lit≤ tt)
+    ∷ numbered 116 32 refl (lit≤ tt)
+    ∷ numbered 115 32 refl (lit≤ tt)
+    ∷ numbered 110 32 refl (lit≤ tt)
+    ∷ numbered 117 32 refl (lit≤ tt)
+    ∷ one_name 105 (100 ∷ 108 ∷ 101 ∷ []) refl
+    ∷ numbered 98 32 refl (lit≤ tt)
+    ∷ []
 
 pub load_names_differ : AreNew [] (all_names load_names)
 unfolding load_names object_names thing_names
-load_names_differ =
-    new_both [] _ _ (new_letter [] 100 32 refl (lit≤ tt) (λ i. refl))
-    (new_both before_k _ _ (new_letter before_k 107 8 refl (lit≤ tt) (λ i. free_k (decimal i)))
-    (new_both before_t _ _ (new_letter before_t 116 32 refl (lit≤ tt) (λ i. free_t (decimal i)))
-    (new_both before_s _ _ apcs routines)))
+load_names_differ = subst (AreNew []) same (new_runs [] load_runs refl (free_at_start load_runs))
   where
-    two : before_s ++ (of_s ++ of_n) ≡ before_u
-    two = sym (append_assoc before_s of_s of_n)
-
-    three : before_s ++ ((of_s ++ of_n) ++ of_u) ≡ before_idle
-    three = sym (append_assoc before_s (of_s ++ of_n) of_u) ∙ ap (λ (zs : List (List ℕ)). zs ++ of_u) two
-
-    apcs : AreNew before_s ((of_s ++ of_n) ++ of_u)
-    apcs =
-        new_both before_s (of_s ++ of_n) of_u
-        (new_both before_s of_s of_n (new_letter before_s 115 32 refl (lit≤ tt) (λ i. free_s (decimal i)))
-        (new_letter before_n 110 32 refl (lit≤ tt) (λ i. free_n (decimal i))))
-        (subst (λ (zs : List (List ℕ)). AreNew zs of_u) (sym two) (new_letter before_u 117 32 refl (lit≤ tt) (λ i. free_u (decimal i))))
-
-    routines : AreNew (before_s ++ ((of_s ++ of_n) ++ of_u)) (codes "idle" ∷ spelled_names (98 ∷ []) 32)
-    routines = subst (λ (zs : List (List ℕ)). AreNew zs (codes "idle" ∷ spelled_names (98 ∷ []) 32)) (sym three)
-        (refl, free_idle (100 ∷ 108 ∷ 101 ∷ []), new_letter before_b 98 32 refl (lit≤ tt) (λ i. free_b (decimal i)))
+    same : names_of load_runs ≡ all_names load_names
+    same = simp (append_assoc, append-nil)

@@ -23,6 +23,7 @@ use Rattle.nt_event.specs.declared.scripts.ApcDecl.{ApcDecl}
 use Rattle.nt_event.specs.Script.{isrs_differ, command_count, isr_of as isr_routine}
 use Rattle.nt_line.specs.declared.keywords.Keyword.{Keyword}
 use Rattle.nt_line.specs.declared.keywords.Keyword.TheVariants as keyword
+use Rattle.nt_line.specs.declared.keywords.Place.TheVariants.{InIsrs, InTimers, InThreads, InApcs, InLocks, InRoutines, InRoutine}
 use Rattle.nt_script.specs.declared.walk.Walk.{Walk}
 use Rattle.nt_script.specs.declared.walk.Input.{Input}
 use Rattle.nt_line.specs.Places.{place}
@@ -45,7 +46,7 @@ use Rattle.nt_script.proofs.Pairs.{one_apart}
 use Rattle.nt_script.specs.Versions.{version_of, most_cpus}
 use Rattle.nt_script.proofs.Fit.{Fit, most_64}
 use Rattle.nt_script.proofs.Taken.{At, declared_ok, args_parts, step_ok}
-use Rattle.nt_script.proofs.Steps.{Good, put_cpus_ok}
+use Rattle.nt_script.proofs.Steps.{Good, empty, put_cpus_ok}
 use Rattle.nt_script.proofs.Acts.{ok, ok_is, apc_arity}
 use Rattle.nt_script.proofs.Whole.{went, step_named, ends, finished, first_low, version_range, good_start, few_none}
 
@@ -263,7 +264,6 @@ act_kept all few w keyword.Version args new at old len e good k0 =
 act_kept all few w keyword.Cpus args new at old len e good k0 =
     let b = bind_ok (read_number 4294967295 (first args)) (put_cpus w) new e in
     let n = b.value in
-    let l = good.later in
     subst (Kept all) (put_cpus_ok w n new b.then) (record {
       version = k0.version;
       cpus = λ h. cpus_range w n new b.then;
@@ -273,15 +273,16 @@ act_kept all few w keyword.Cpus args new at old len e good k0 =
       commands = record {
         count = k0.commands.count;
         most = k0.commands.most;
-        routines = none_all (λ (r : Routine). AllByRecursion (CommandFits all n) r.commands) w.script.routines (l.routines (omega (arith, at.1))).1;
-        body = none_all (CommandFits all n) w.body (l.closed (omega (arith, at.1))).0;
+        routines = none_all (λ (r : Routine). AllByRecursion (CommandFits all n) r.commands) w.script.routines
+            (empty w good InRoutines (omega (arith, at.1))).1;
+        body = none_all (CommandFits all n) w.body (empty w good InRoutine (omega (arith, at.1))).0;
       };
       things = record {
         apart = k0.things.apart;
-        isrs = none_all (IsrFits all n) w.script.isrs (l.isrs (omega (arith, at.1)));
+        isrs = none_all (IsrFits all n) w.script.isrs (empty w good InIsrs (omega (arith, at.1)));
         dpcs = k0.things.dpcs;
         timers = k0.things.timers;
-        threads = none_all (ThreadFits all n) w.script.threads (l.threads (omega (arith, at.1))).1;
+        threads = none_all (ThreadFits all n) w.script.threads (empty w good InThreads (omega (arith, at.1))).1;
         apcs = k0.things.apcs;
       };
     })
@@ -338,9 +339,9 @@ act_kept all few w (keyword.Dpc b) args new at old len e good k0 =
       cpus = λ h. k0.cpus (omega (arith, at.0));
       no_locks = k0.no_locks;
       depth = k0.depth;
-      names = fit_dpc w.names d.name k0.names (good.later.timers (omega (arith, at.1))).0 (good.later.threads (omega (arith, at.1))).0
-          (good.later.apcs (omega (arith, at.1))).0 (good.later.locks (omega (arith, at.1)))
-          (good.later.routines (omega (arith, at.1))).0 d.named d.none;
+      names = fit_dpc w.names d.name k0.names (empty w good InTimers (omega (arith, at.1))).0 (empty w good InThreads (omega (arith, at.1))).0
+          (empty w good InApcs (omega (arith, at.1))).0 (empty w good InLocks (omega (arith, at.1)))
+          (empty w good InRoutines (omega (arith, at.1))).0 d.named d.none;
       commands = k0.commands;
       things = record {
         apart = k0.things.apart;
@@ -362,8 +363,8 @@ act_kept all few w keyword.Timer args new at old len e good k0 =
       cpus = λ h. k0.cpus (omega (arith, at.0));
       no_locks = k0.no_locks;
       depth = k0.depth;
-      names = fit_timer w.names d.name k0.names (good.later.threads (omega (arith, at.1))).0 (good.later.apcs (omega (arith, at.1))).0
-          (good.later.locks (omega (arith, at.1))) (good.later.routines (omega (arith, at.1))).0 d.named d.none;
+      names = fit_timer w.names d.name k0.names (empty w good InThreads (omega (arith, at.1))).0 (empty w good InApcs (omega (arith, at.1))).0
+          (empty w good InLocks (omega (arith, at.1))) (empty w good InRoutines (omega (arith, at.1))).0 d.named d.none;
       commands = k0.commands;
       things = record {
         apart = k0.things.apart;
@@ -386,8 +387,8 @@ act_kept all few w keyword.Thread args new at old len e good k0 =
       cpus = λ h. k0.cpus (omega (arith, at.0));
       no_locks = k0.no_locks;
       depth = k0.depth;
-      names = fit_thread w.names d.name k0.names (good.later.apcs (omega (arith, at.1))).0 (good.later.locks (omega (arith, at.1)))
-          (good.later.routines (omega (arith, at.1))).0 d.named d.none;
+      names = fit_thread w.names d.name k0.names (empty w good InApcs (omega (arith, at.1))).0 (empty w good InLocks (omega (arith, at.1)))
+          (empty w good InRoutines (omega (arith, at.1))).0 d.named d.none;
       commands = k0.commands;
       things = record {
         apart = k0.things.apart;
@@ -409,7 +410,7 @@ act_kept all few w (keyword.Apc k) args new at old len e good k0 =
       cpus = λ h. k0.cpus (omega (arith, at.0));
       no_locks = k0.no_locks;
       depth = k0.depth;
-      names = fit_apc w.names d.name k0.names (good.later.locks (omega (arith, at.1))) (good.later.routines (omega (arith, at.1))).0 d.named d.none;
+      names = fit_apc w.names d.name k0.names (empty w good InLocks (omega (arith, at.1))) (empty w good InRoutines (omega (arith, at.1))).0 d.named d.none;
       commands = k0.commands;
       things = record {
         apart = k0.things.apart;
@@ -430,7 +431,7 @@ act_kept all few w keyword.Spinlock args new at old len e good k0 =
       cpus = λ h. k0.cpus (omega (arith, at.0));
       no_locks = λ h. absurd (omega (arith, h, old));
       depth = k0.depth;
-      names = fit_lock w.names b.value k0.names (good.later.routines (omega (arith, at.1))).0 f.0 f.1;
+      names = fit_lock w.names b.value k0.names (empty w good InRoutines (omega (arith, at.1))).0 f.0 f.1;
       commands = k0.commands;
       things = k0.things;
     })
@@ -549,7 +550,7 @@ reading_fits bytes input e =
     let f = finished s.last.place s.last s.number input s.finishes in
     let same : all ≡ s.last.names = names.names ∙ ap (λ (i : Input). i.names) g.made_is ∙ sym (ap (λ (i : Input). i.names) f.made_is) in
     let k : Kept s.last.names s.last = subst (λ (a : NameLists). Kept a s.last) same s.kept in
-    let closed = s.good.later.closed f.high in
+    let closed = empty s.last s.good InRoutine (omega (arith, f.high)) in
     subst Fit f.made_is (record {
       version = (k.version, s.good.version);
       cpus = ((k.cpus f.low).0, most_64 s.last.version s.last.script.cpus (k.cpus f.low).1);

@@ -1,5 +1,5 @@
 -- The rows of what was read so far.
-use Rattle.std.proofs.Common.{◌≡◌, ℕ, suc, ◌≤◌, Bool, List, [], ◌∷◌, ◌++◌, length, map, Option, refl, sym, ap, append_assoc, arith}
+use Rattle.std.proofs.Common.{◌≡◌, ℕ, zero, suc, ◌<◌, ◌≤◌, Bool, List, [], ◌∷◌, ◌++◌, length, get_or, map, Option, refl, sym, ◌∙◌, ap, append_assoc, arith}
 use Rattle.std.proofs.lemmas.List.{map-append, append-nil}
 use Rattle.nt_event.specs.declared.scripts.Routine.{Routine}
 use Rattle.nt_event.specs.declared.commands.Command.{Command}
@@ -19,21 +19,12 @@ heads_at Start version cpus depth threaded = []
 heads_at HasVersion version cpus depth threaded = version_rows version
 heads_at _ version cpus depth threaded = header_rows version cpus depth threaded
 
+-- after the line cpus the head is whole
 pub has_head : (p : Place) (v cpus : ℕ) (depth : Option ℕ) (threaded : Option Bool) → 2 ≤ order p → heads_at p v cpus depth threaded
     ≡ header_rows v cpus depth threaded
 has_head Start v c d t h = absurd (omega (arith, h))
 has_head HasVersion v c d t h = absurd (omega (arith, h))
-has_head HasCpus v c d t h = refl
-has_head HasDepth v c d t h = refl
-has_head HasThreaded v c d t h = refl
-has_head InIsrs v c d t h = refl
-has_head InDpcs v c d t h = refl
-has_head InTimers v c d t h = refl
-has_head InThreads v c d t h = refl
-has_head InApcs v c d t h = refl
-has_head InLocks v c d t h = refl
-has_head InRoutines v c d t h = refl
-has_head InRoutine v c d t h = refl
+has_head _ v c d t h = refl
 
 -- the rows of the routines, of which the last may be open
 abbrev pub open_rows : NameLists → List Command → List (List ℕ) → List Routine → List Row
@@ -41,10 +32,7 @@ open_rows all body (n ∷ ns) (r ∷ rs) = (begun_rows all n r.commands ++ exit_
 open_rows all body (n ∷ ns) [] = begun_rows all n body
 open_rows all body [] rs = []
 
--- ---- the parts, one behind the other
-
-abbrev pub joined : List Row → List Row → List Row → List Row → List Row → List Row → List Row → List Row → List Row
-joined h i d t s a k o = h ++ (i ++ (d ++ (t ++ (s ++ (a ++ (k ++ o))))))
+-- ---- the parts, one after another
 
 abbrev pub heads : Place → Walk → List Row
 heads p w = heads_at p w.version w.script.cpus w.script.depth w.script.threaded
@@ -70,40 +58,77 @@ locks w = map lock_row w.names.locks
 abbrev pub routines : NameLists → Walk → List Row
 routines all w = open_rows all w.body w.names.routines w.script.routines
 
+-- the rows that the lines at a place give: those of the head are not a part, and a routine's are in the part of all routines
+abbrev pub rows_at : NameLists → Walk → Place → List Row
+rows_at all w InIsrs = isrs all w
+rows_at all w InDpcs = dpcs all w
+rows_at all w InTimers = timers all w
+rows_at all w InThreads = threads all w
+rows_at all w InApcs = apcs all w
+rows_at all w InLocks = locks w
+rows_at all w InRoutines = routines all w
+rows_at all w _ = []
+
+-- the places of the parts, in order: one for each kind of declaration
+abbrev pub part_places : List Place
+part_places = InIsrs ∷ InDpcs ∷ InTimers ∷ InThreads ∷ InApcs ∷ InLocks ∷ InRoutines ∷ InRoutine ∷ []
+
+-- the rows of each part
+abbrev pub parts : NameLists → Walk → List (List Row)
+parts all w = map (rows_at all w) part_places
+
+abbrev pub joined : List (List Row) → List Row
+joined [] = []
+joined (rows ∷ more) = rows ++ joined more
+
 abbrev pub so_far : NameLists → Walk → List Row
-so_far all w =
-    joined (heads w.place w) (isrs all w) (dpcs all w) (timers all w) (threads all w) (apcs all w) (locks w) (routines all w)
+so_far all w = heads w.place w ++ joined (parts all w)
 
--- ---- a part grows, and the parts behind it are empty
+-- ---- a part grows, and the parts after it are empty
 
-pub grow_heads : (h h' i d t s a k o x : List Row) → h' ≡ h ++ x → i ≡ [] → d ≡ [] → t ≡ [] → s ≡ [] → a ≡ [] → k ≡ [] → o ≡ [] → joined h' i d t s a k o
-    ≡ joined h i d t s a k o ++ x
-grow_heads h h' i d t s a k o x eh ei ed et es ea ek eo = rw (eh, ei, ed, et, es, ea, ek, eo) (simp append-nil)
+-- no rows from the part with this number on
+abbrev pub NoRows : List (List Row) → ℕ → Type 0
+NoRows [] k = Unit {0}
+NoRows (rows ∷ more) zero = (rows ≡ []) × NoRows more zero
+NoRows (rows ∷ more) (suc k) = NoRows more k
 
-pub grow_isrs : (h h' i i' d t s a k o x : List Row) → h' ≡ h → i' ≡ i ++ x → d ≡ [] → t ≡ [] → s ≡ [] → a ≡ [] → k ≡ [] → o ≡ [] →
-    joined h' i' d t s a k o ≡ joined h i d t s a k o ++ x
-grow_isrs h h' i i' d t s a k o x eh ex ed et es ea ek eo = rw (eh, ex, ed, et, es, ea, ek, eo) (simp (append_assoc, append-nil))
+-- the parts with other rows in the one with this number
+abbrev pub replaced : List (List Row) → ℕ → List Row → List (List Row)
+replaced [] k new = []
+replaced (rows ∷ more) zero new = new ∷ more
+replaced (rows ∷ more) (suc k) new = rows ∷ replaced more k new
 
-pub grow_dpcs : (h h' i d d' t s a k o x : List Row) → h' ≡ h → d' ≡ d ++ x → t ≡ [] → s ≡ [] → a ≡ [] → k ≡ [] → o ≡ [] → joined h' i d' t s a k o
-    ≡ joined h i d t s a k o ++ x
-grow_dpcs h h' i d d' t s a k o x eh ex et es ea ek eo = rw (eh, ex, et, es, ea, ek, eo) (simp (append_assoc, append-nil))
+none_joined : (olds : List (List Row)) → NoRows olds zero → joined olds ≡ []
+none_joined [] none = refl
+none_joined (old ∷ olds) none = rw (none.0, none_joined olds none.1) refl
 
-pub grow_timers : (h h' i d t t' s a k o x : List Row) → h' ≡ h → t' ≡ t ++ x → s ≡ [] → a ≡ [] → k ≡ [] → o ≡ [] → joined h' i d t' s a k o
-    ≡ joined h i d t s a k o ++ x
-grow_timers h h' i d t t' s a k o x eh ex es ea ek eo = rw (eh, ex, es, ea, ek, eo) (simp (append_assoc, append-nil))
+-- the last part that has rows grows at the end of all
+grow_joined : (olds : List (List Row)) (k : ℕ) (x : List Row) → k < length olds → NoRows olds (suc k) →
+    joined (replaced olds k (get_or olds k [] ++ x)) ≡ joined olds ++ x
+grow_joined [] k x lt none = absurd (omega arith)
+grow_joined (old ∷ olds) zero x lt none = rw (none_joined olds none) (simp append-nil)
+grow_joined (old ∷ olds) (suc k) x lt none =
+    ap (λ (rows : List Row). old ++ rows) (grow_joined olds k x (omega arith) none) ∙ sym (append_assoc old (joined olds) x)
 
-pub grow_threads : (h h' i d t s s' a k o x : List Row) → h' ≡ h → s' ≡ s ++ x → a ≡ [] → k ≡ [] → o ≡ [] → joined h' i d t s' a k o
-    ≡ joined h i d t s a k o ++ x
-grow_threads h h' i d t s s' a k o x eh ex ea ek eo = rw (eh, ex, ea, ek, eo) (simp (append_assoc, append-nil))
+-- the head grows, before any part has rows
+pub grow_head : (all : NameLists) (w new : Walk) (x : List Row) → heads new.place new ≡ heads w.place w ++ x → parts all new ≡ parts all w →
+    NoRows (parts all w) 0 → so_far all new ≡ so_far all w ++ x
+grow_head all w new x head same none =
+    let nothing = none_joined (parts all w) none in
+    let old : so_far all w ≡ heads w.place w = ap (λ (rows : List Row). heads w.place w ++ rows) nothing ∙ append-nil (heads w.place w) in
+    let grown : so_far all new ≡ heads w.place w ++ x =
+    ap (λ (rows : List Row). heads new.place new ++ rows) (ap joined same ∙ nothing) ∙ append-nil (heads new.place new) ∙ head in
+    grown ∙ ap (λ (rows : List Row). rows ++ x) (sym old)
 
-pub grow_apcs : (h h' i d t s a a' k o x : List Row) → h' ≡ h → a' ≡ a ++ x → k ≡ [] → o ≡ [] → joined h' i d t s a' k o ≡ joined h i d t s a k o ++ x
-grow_apcs h h' i d t s a a' k o x eh ex ek eo = rw (eh, ex, ek, eo) (simp (append_assoc, append-nil))
-
-pub grow_locks : (h h' i d t s a k k' o x : List Row) → h' ≡ h → k' ≡ k ++ x → o ≡ [] → joined h' i d t s a k' o ≡ joined h i d t s a k o ++ x
-grow_locks h h' i d t s a k k' o x eh ex eo = rw (eh, ex, eo) (simp (append_assoc, append-nil))
-
-pub grow_routines : (h h' i d t s a k o o' x : List Row) → h' ≡ h → o' ≡ o ++ x → joined h' i d t s a k o' ≡ joined h i d t s a k o ++ x
-grow_routines h h' i d t s a k o o' x eh ex = rw (eh, ex) (simp (append_assoc))
+-- the part with this number grows, and no later one has rows
+pub grow_part : (k : ℕ) (all : NameLists) (w new : Walk) (rows x : List Row) → k < 8 → heads new.place new ≡ heads w.place w →
+    parts all new ≡ replaced (parts all w) k rows → rows ≡ get_or (parts all w) k [] ++ x → NoRows (parts all w) (suc k) →
+    so_far all new ≡ so_far all w ++ x
+grow_part k all w new rows x lt head same grown none =
+    let there : parts all new ≡ replaced (parts all w) k (get_or (parts all w) k [] ++ x) = same ∙ ap (replaced (parts all w) k) grown in
+    let more : joined (parts all new) ≡ joined (parts all w) ++ x = ap joined there ∙ grow_joined (parts all w) k x lt none in
+    ap (λ (h : List Row). h ++ joined (parts all new)) head ∙ ap (λ (rows : List Row). heads w.place w ++ rows) more
+    ∙ sym (append_assoc (heads w.place w) (joined (parts all w)) x)
 
 -- ---- one more
 

@@ -1,6 +1,6 @@
 -- What holds of what was read, and what a line adds to it.
-use Rattle.std.proofs.Common.{◌≡◌, ℕ, suc, ◌≤◌, Bool, true, false, cond, List, [], ◌∷◌, ◌++◌, length, Option, None, Ok, Err, refl, sym, ◌∙◌, append_assoc}
-use Rattle.std.proofs.Common.{arith}
+use Rattle.std.proofs.Common.{◌≡◌, ℕ, zero, suc, ◌<◌, ◌≤◌, Bool, true, false, cond, List, [], ◌∷◌, ◌++◌, length, get_or, map, Option, None, Ok, Err, refl, sym}
+use Rattle.std.proofs.Common.{◌∙◌, subst, append_assoc, arith}
 use Rattle.std.specs.Prelude.{◌==◌, nat_lt}
 use Rattle.std.proofs.lemmas.List.{append-nil, map-append, length-append}
 use Rattle.nt_text.specs.declared.kind.ScriptKind.TheVariants.{BadNumber, TooMany}
@@ -23,25 +23,72 @@ use Rattle.nt_script.specs.Reading.{put_cpus, with_version, with_cpus, with_dept
 use Rattle.nt_script.specs.Reading.{with_lock, with_routine, with_exit, with_command}
 use Rattle.nt_text.specs.Lines.{Row}
 use Rattle.nt_line.specs.Rows.{command_row, number_row, depth_rows, isr_row, dpc_row, timer_row, thread_row, apc_row, lock_row}
-use Rattle.nt_script.specs.Text.{version_rows, exit_row}
+use Rattle.nt_script.specs.Text.{version_rows, header_rows, exit_row}
 use Rattle.nt_script.specs.Versions.{most_cpus}
-use Rattle.nt_script.proofs.SoFar.{heads_at, has_head, heads, isrs, dpcs, timers, threads, apcs, locks, routines, so_far, grow_heads, grow_isrs, grow_dpcs}
-use Rattle.nt_script.proofs.SoFar.{grow_timers, grow_threads, grow_apcs, grow_locks, grow_routines, declared_more, none_declared, none_opened, routine_more}
-use Rattle.nt_script.proofs.SoFar.{command_more, exit_more}
+use Rattle.nt_script.proofs.SoFar.{heads_at, has_head, heads, isrs, dpcs, timers, threads, apcs, locks, routines, rows_at, part_places, parts, so_far, NoRows}
+use Rattle.nt_script.proofs.SoFar.{grow_head, grow_part, declared_more, none_declared, none_opened, routine_more, command_more, exit_more}
 
--- nothing stands there of the parts behind the place with this number
-pub record Later (k : ℕ) (w : Walk) : Type 0 where
-  pub depth : k ≤ 2 → w.script.depth ≡ None
-  pub threaded : k ≤ 3 → w.script.threaded ≡ None
-  pub isrs : k ≤ 4 → w.script.isrs ≡ []
-  pub dpcs : k ≤ 5 → (w.names.dpcs ≡ []) × (w.script.dpcs ≡ [])
-  pub timers : k ≤ 6 → (w.names.timers ≡ []) × (w.script.timers ≡ [])
-  pub threads : k ≤ 7 → (w.names.threads ≡ []) × (w.script.threads ≡ [])
-  pub apcs : k ≤ 8 → (w.names.apcs ≡ []) × (w.script.apcs ≡ [])
-  pub locks : k ≤ 9 → w.names.locks ≡ []
-  pub routines : k ≤ 10 → (w.names.routines ≡ []) × (w.script.routines ≡ [])
-  pub closed : k ≤ 11 → (w.body ≡ []) × (length w.names.routines ≡ length w.script.routines)
-  pub opened : k ≡ 12 → length w.names.routines ≡ suc (length w.script.routines)
+-- ---- what was not read yet
+
+-- nothing was read of what the lines at a place give; of a routine: all that began have ended
+abbrev pub IsEmpty : Walk → Place → Type 0
+IsEmpty w HasDepth = w.script.depth ≡ None
+IsEmpty w HasThreaded = w.script.threaded ≡ None
+IsEmpty w InIsrs = w.script.isrs ≡ []
+IsEmpty w InDpcs = (w.names.dpcs ≡ []) × (w.script.dpcs ≡ [])
+IsEmpty w InTimers = (w.names.timers ≡ []) × (w.script.timers ≡ [])
+IsEmpty w InThreads = (w.names.threads ≡ []) × (w.script.threads ≡ [])
+IsEmpty w InApcs = (w.names.apcs ≡ []) × (w.script.apcs ≡ [])
+IsEmpty w InLocks = w.names.locks ≡ []
+IsEmpty w InRoutines = (w.names.routines ≡ []) × (w.script.routines ≡ [])
+IsEmpty w InRoutine = (w.body ≡ []) × (length w.names.routines ≡ length w.script.routines)
+IsEmpty w _ = Unit {0}
+
+-- each place has the number that `order` says
+abbrev pub places : List Place
+places = Start ∷ HasVersion ∷ HasCpus ∷ HasDepth ∷ HasThreaded ∷ part_places
+
+place_there : (p : Place) → get_or places (order p) Start ≡ p
+place_there Start = refl
+place_there _ = refl
+
+-- nothing was read of those of the places from this number on. At a numeral it says the same of two walks that differ before alone
+abbrev pub AreEmpty : List Place → ℕ → Walk → Type 0
+AreEmpty [] k w = Unit {0}
+AreEmpty (p ∷ ps) zero w = IsEmpty w p × AreEmpty ps zero w
+AreEmpty (p ∷ ps) (suc k) w = AreEmpty ps k w
+
+-- so of those from a later one on
+empty_later : (ps : List Place) (k n : ℕ) (w : Walk) → k ≤ n → AreEmpty ps k w → AreEmpty ps n w
+empty_later [] k n w le all = tt
+empty_later (p ∷ ps) zero zero w le all = all
+empty_later (p ∷ ps) zero (suc n) w le all = empty_later ps zero n w (omega arith) all.1
+empty_later (p ∷ ps) (suc k) zero w le all = absurd (omega arith)
+empty_later (p ∷ ps) (suc k) (suc n) w le all = empty_later ps k n w (omega arith) all
+
+-- and of each of them
+empty_at : (ps : List Place) (k i : ℕ) (w : Walk) → k ≤ i → i < length ps → AreEmpty ps k w → IsEmpty w (get_or ps i Start)
+empty_at [] k i w le lt all = absurd (omega arith)
+empty_at (p ∷ ps) zero zero w le lt all = all.0
+empty_at (p ∷ ps) zero (suc i) w le lt all = empty_at ps zero i w (omega arith) (omega arith) all.1
+empty_at (p ∷ ps) (suc k) zero w le lt all = absurd (omega arith)
+empty_at (p ∷ ps) (suc k) (suc i) w le lt all = empty_at ps k i w (omega arith) (omega arith) all
+
+-- no place is after the last
+none_after : (ps : List Place) (k : ℕ) (w : Walk) → length ps ≤ k → AreEmpty ps k w
+none_after [] k w le = tt
+none_after (p ∷ ps) zero w le = absurd (omega arith)
+none_after (p ∷ ps) (suc k) w le = none_after ps k w (omega arith)
+
+-- where nothing was read at all
+pub all_empty : (ps : List Place) (k : ℕ) (w : Walk) → ((p : Place) → IsEmpty w p) → AreEmpty ps k w
+all_empty [] k w each = tt
+all_empty (p ∷ ps) zero w each = (each p, all_empty ps zero w each)
+all_empty (p ∷ ps) (suc k) w each = all_empty ps k w each
+
+-- nothing was read of what comes after the place with this number
+abbrev pub Later : ℕ → Walk → Type 0
+Later k w = AreEmpty places (suc k) w
 
 pub record Good (w : Walk) : Type 0 where
   pub version : w.version ≤ 2
@@ -51,6 +98,19 @@ pub record Good (w : Walk) : Type 0 where
   pub apcs : length w.names.apcs ≡ length w.script.apcs
   pub locks : length w.names.locks ≡ w.script.locks
   pub later : Later (order w.place) w
+  pub opened : order w.place ≡ 12 → length w.names.routines ≡ suc (length w.script.routines)
+
+-- nothing was read of a place that comes later
+pub empty : (w : Walk) → Good w → (p : Place) → order w.place < order p → IsEmpty w p
+empty w g p lt = subst (IsEmpty w) (place_there p) (empty_at places (suc (order w.place)) (order p) w lt (few p) g.later)
+  where
+    few : (p : Place) → order p < length places
+    few Start = omega arith
+    few _ = omega arith
+
+-- nothing was read after the place with this number
+later : (n : ℕ) (w : Walk) → Good w → order w.place ≤ n → Later n w
+later n w g le = empty_later places (suc (order w.place)) (suc n) w (omega arith) g.later
 
 -- behind the lines from this number to that
 abbrev pub Between : ℕ → ℕ → Place → Type 0
@@ -62,79 +122,40 @@ one_longer xs ys x y e = omega (arith, e, length-append xs (x ∷ []), length-ap
 one_more : {A : Type 0} (xs : List A) (x : A) (n : ℕ) → length xs ≡ n → length (xs ++ x ∷ []) ≡ suc n
 one_more xs x n e = omega (arith, e, length-append xs (x ∷ []))
 
-no_isrs : (all : NameLists) (w : Walk) → w.script.isrs ≡ [] → isrs all w ≡ []
-no_isrs all w e = rw e refl
+-- where nothing was read there are no rows: a line for each part
+no_rows : (all : NameLists) (w : Walk) (p : Place) → IsEmpty w p → rows_at all w p ≡ []
+no_rows all w InIsrs e = rw e refl
+no_rows all w InDpcs e = none_declared (dpc_row all) w.names.dpcs w.script.dpcs e.0
+no_rows all w InTimers e = none_declared (timer_row all) w.names.timers w.script.timers e.0
+no_rows all w InThreads e = none_declared (thread_row all) w.names.threads w.script.threads e.0
+no_rows all w InApcs e = none_declared (apc_row all) w.names.apcs w.script.apcs e.0
+no_rows all w InLocks e = rw e refl
+no_rows all w InRoutines e = none_opened all w.body w.names.routines w.script.routines e.0
+no_rows all w _ e = refl
 
-no_lock_rows : (w : Walk) → w.names.locks ≡ [] → locks w ≡ []
-no_lock_rows w e = rw e refl
+none_from : (all : NameLists) (w : Walk) (ps : List Place) (k : ℕ) → AreEmpty ps k w → NoRows (map (rows_at all w) ps) k
+none_from all w [] k empty = tt
+none_from all w (p ∷ ps) zero empty = (no_rows all w p empty.0, none_from all w ps zero empty.1)
+none_from all w (p ∷ ps) (suc k) empty = none_from all w ps k empty
 
--- no row stands there of the parts behind the place with this number
-record Nothing (k : ℕ) (all : NameLists) (w : Walk) : Type 0 where
-  pub no_isrs : k ≤ 4 → isrs all w ≡ []
-  pub no_dpcs : k ≤ 5 → dpcs all w ≡ []
-  pub no_timers : k ≤ 6 → timers all w ≡ []
-  pub no_threads : k ≤ 7 → threads all w ≡ []
-  pub no_apcs : k ≤ 8 → apcs all w ≡ []
-  pub no_locks : k ≤ 9 → locks w ≡ []
-  pub no_routines : k ≤ 10 → routines all w ≡ []
+-- no part has rows whose lines come after the place with this number; the parts begin at number 5
+nothing : (k : ℕ) (all : NameLists) (w : Walk) → AreEmpty part_places k w → NoRows (parts all w) k
+nothing k all w empty = none_from all w part_places k empty
 
-nothing : (all : NameLists) (w : Walk) → Good w → Nothing (order w.place) all w
-nothing all w g = record {
-  no_isrs = λ h. no_isrs all w (g.later.isrs h);
-  no_dpcs = λ h. none_declared (dpc_row all) w.names.dpcs w.script.dpcs (g.later.dpcs h).0;
-  no_timers = λ h. none_declared (timer_row all) w.names.timers w.script.timers (g.later.timers h).0;
-  no_threads = λ h. none_declared (thread_row all) w.names.threads w.script.threads (g.later.threads h).0;
-  no_apcs = λ h. none_declared (apc_row all) w.names.apcs w.script.apcs (g.later.apcs h).0;
-  no_locks = λ h. no_lock_rows w (g.later.locks h);
-  no_routines = λ h. none_opened all w.body w.names.routines w.script.routines (g.later.routines h).0;
-}
+-- the head stays where a part begins
+same_head : (w : Walk) → 2 ≤ order w.place → header_rows w.version w.script.cpus w.script.depth w.script.threaded ≡ heads w.place w
+same_head w low = sym (has_head w.place w.version w.script.cpus w.script.depth w.script.threaded low)
 
 -- ---- the head
 
 at_start : (p : Place) (v n : ℕ) (d : Option ℕ) (t : Option Bool) → order p ≤ 0 → heads_at p v n d t ≡ []
 at_start Start v n d t h = refl
-at_start HasVersion v n d t h = absurd (omega (arith, h))
-at_start HasCpus v n d t h = absurd (omega (arith, h))
-at_start HasDepth v n d t h = absurd (omega (arith, h))
-at_start HasThreaded v n d t h = absurd (omega (arith, h))
-at_start InIsrs v n d t h = absurd (omega (arith, h))
-at_start InDpcs v n d t h = absurd (omega (arith, h))
-at_start InTimers v n d t h = absurd (omega (arith, h))
-at_start InThreads v n d t h = absurd (omega (arith, h))
-at_start InApcs v n d t h = absurd (omega (arith, h))
-at_start InLocks v n d t h = absurd (omega (arith, h))
-at_start InRoutines v n d t h = absurd (omega (arith, h))
-at_start InRoutine v n d t h = absurd (omega (arith, h))
+at_start _ v n d t h = absurd (omega (arith, h))
 
 at_version : (p : Place) (v n : ℕ) (d : Option ℕ) (t : Option Bool) → 1 ≤ order p → order p ≤ 1 → heads_at p v n d t ≡ version_rows v
-at_version Start v n d t g h = absurd (omega (arith, g))
 at_version HasVersion v n d t g h = refl
-at_version HasCpus v n d t g h = absurd (omega (arith, h))
-at_version HasDepth v n d t g h = absurd (omega (arith, h))
-at_version HasThreaded v n d t g h = absurd (omega (arith, h))
-at_version InIsrs v n d t g h = absurd (omega (arith, h))
-at_version InDpcs v n d t g h = absurd (omega (arith, h))
-at_version InTimers v n d t g h = absurd (omega (arith, h))
-at_version InThreads v n d t g h = absurd (omega (arith, h))
-at_version InApcs v n d t g h = absurd (omega (arith, h))
-at_version InLocks v n d t g h = absurd (omega (arith, h))
-at_version InRoutines v n d t g h = absurd (omega (arith, h))
-at_version InRoutine v n d t g h = absurd (omega (arith, h))
-
-version_later : (w : Walk) → Between 0 0 w.place → Good w → Later 1 (with_version w)
-version_later w at g = record {
-  depth = λ h. g.later.depth (omega (arith, at.1));
-  threaded = λ h. g.later.threaded (omega (arith, at.1));
-  isrs = λ h. g.later.isrs (omega (arith, at.1));
-  dpcs = λ h. g.later.dpcs (omega (arith, at.1));
-  timers = λ h. g.later.timers (omega (arith, at.1));
-  threads = λ h. g.later.threads (omega (arith, at.1));
-  apcs = λ h. g.later.apcs (omega (arith, at.1));
-  locks = λ h. g.later.locks (omega (arith, at.1));
-  routines = λ h. g.later.routines (omega (arith, at.1));
-  closed = λ h. g.later.closed (omega (arith, at.1));
-  opened = λ h. absurd (omega (arith, h));
-}
+at_version Start v n d t g h = absurd (omega (arith, g))
+at_version _ v n d t g h = absurd (omega (arith, h))
 
 pub version_good : (w : Walk) → Between 0 0 w.place → Good w → Good (with_version w)
 version_good w at g = record {
@@ -144,7 +165,8 @@ version_good w at g = record {
   threads = g.threads;
   apcs = g.apcs;
   locks = g.locks;
-  later = version_later w at g;
+  later = later 1 w g (omega (arith, at.1));
+  opened = λ h. absurd (omega (arith, h));
 }
 
 one_version : (v : ℕ) → v ≡ 2 → version_rows v ≡ number_row keyword.Version 2 ∷ []
@@ -153,13 +175,9 @@ one_version v e = rw e refl
 pub version_taken : (all : NameLists) (w : Walk) → Between 0 0 w.place → w.version ≡ 2 → Good w → so_far all (with_version w) ≡ so_far all w
     ++ number_row keyword.Version 2 ∷ []
 version_taken all w at two g =
-    let no = nothing all w g in
     let none = at_start w.place w.version w.script.cpus w.script.depth w.script.threaded at.1 in
-    let head : heads HasVersion (with_version w) ≡ heads w.place w ++ number_row keyword.Version 2 ∷ [] = rw none (one_version w.version two) in
-    grow_heads (heads w.place w) (heads HasVersion (with_version w)) (isrs all w) (dpcs all w) (timers all w) (threads all w) (apcs all w) (locks w)
-    (routines all w) (number_row keyword.Version 2 ∷ []) head
-    (no.no_isrs (omega (arith, at.1))) (no.no_dpcs (omega (arith, at.1))) (no.no_timers (omega (arith, at.1))) (no.no_threads (omega (arith, at.1)))
-    (no.no_apcs (omega (arith, at.1))) (no.no_locks (omega (arith, at.1))) (no.no_routines (omega (arith, at.1)))
+    grow_head all w (with_version w) (number_row keyword.Version 2 ∷ []) (rw none (one_version w.version two)) refl
+    (nothing 0 all w (later 4 w g (omega (arith, at.1))))
 
 pub put_cpus_ok : (w : Walk) (n : ℕ) (new : Walk) → put_cpus w n ≡ Ok new → with_cpus w n ≡ new
 put_cpus_ok w n new e = go (n == 0) (nat_lt (most_cpus w.version) n) e
@@ -169,21 +187,6 @@ put_cpus_ok w n new e = go (n == 0) (nat_lt (most_cpus w.version) n) e
     go false true e = absurd cc
     go false false e = cc
 
-cpus_later : (w : Walk) (n : ℕ) → Between 1 1 w.place → Good w → Later 2 (with_cpus w n)
-cpus_later w n at g = record {
-  depth = λ h. g.later.depth (omega (arith, at.1));
-  threaded = λ h. g.later.threaded (omega (arith, at.1));
-  isrs = λ h. g.later.isrs (omega (arith, at.1));
-  dpcs = λ h. g.later.dpcs (omega (arith, at.1));
-  timers = λ h. g.later.timers (omega (arith, at.1));
-  threads = λ h. g.later.threads (omega (arith, at.1));
-  apcs = λ h. g.later.apcs (omega (arith, at.1));
-  locks = λ h. g.later.locks (omega (arith, at.1));
-  routines = λ h. g.later.routines (omega (arith, at.1));
-  closed = λ h. g.later.closed (omega (arith, at.1));
-  opened = λ h. absurd (omega (arith, h));
-}
-
 pub cpus_good : (w : Walk) (n : ℕ) → Between 1 1 w.place → Good w → Good (with_cpus w n)
 cpus_good w n at g = record {
   version = g.version;
@@ -192,35 +195,17 @@ cpus_good w n at g = record {
   threads = g.threads;
   apcs = g.apcs;
   locks = g.locks;
-  later = cpus_later w n at g;
+  later = later 2 w g (omega (arith, at.1));
+  opened = λ h. absurd (omega (arith, h));
 }
 
 pub cpus_taken : (all : NameLists) (w : Walk) (n : ℕ) → Between 1 1 w.place → Good w → so_far all (with_cpus w n) ≡ so_far all w
     ++ number_row keyword.Cpus n ∷ []
 cpus_taken all w n at g =
-    let no = nothing all w g in
     let before = at_version w.place w.version w.script.cpus w.script.depth w.script.threaded at.0 at.1 in
-    grow_heads (heads w.place w) (heads HasCpus (with_cpus w n)) (isrs all w) (dpcs all w) (timers all w) (threads all w) (apcs all w) (locks w)
-    (routines all w)
-    (number_row keyword.Cpus n ∷ [])
-    (rw (before, g.later.depth (omega (arith, at.1)), g.later.threaded (omega (arith, at.1))) refl)
-    (no.no_isrs (omega (arith, at.1))) (no.no_dpcs (omega (arith, at.1))) (no.no_timers (omega (arith, at.1))) (no.no_threads (omega (arith, at.1)))
-    (no.no_apcs (omega (arith, at.1))) (no.no_locks (omega (arith, at.1))) (no.no_routines (omega (arith, at.1)))
-
-depth_later : (w : Walk) (n : ℕ) → Between 2 2 w.place → Good w → Later 3 (with_depth w n)
-depth_later w n at g = record {
-  depth = λ h. absurd (omega (arith, h));
-  threaded = λ h. g.later.threaded (omega (arith, at.1));
-  isrs = λ h. g.later.isrs (omega (arith, at.1));
-  dpcs = λ h. g.later.dpcs (omega (arith, at.1));
-  timers = λ h. g.later.timers (omega (arith, at.1));
-  threads = λ h. g.later.threads (omega (arith, at.1));
-  apcs = λ h. g.later.apcs (omega (arith, at.1));
-  locks = λ h. g.later.locks (omega (arith, at.1));
-  routines = λ h. g.later.routines (omega (arith, at.1));
-  closed = λ h. g.later.closed (omega (arith, at.1));
-  opened = λ h. absurd (omega (arith, h));
-}
+    grow_head all w (with_cpus w n) (number_row keyword.Cpus n ∷ [])
+    (rw (before, empty w g HasDepth (omega (arith, at.1)), empty w g HasThreaded (omega (arith, at.1))) refl) refl
+    (nothing 0 all w (later 4 w g (omega (arith, at.1))))
 
 pub depth_good : (w : Walk) (n : ℕ) → Between 2 2 w.place → Good w → Good (with_depth w n)
 depth_good w n at g = record {
@@ -230,36 +215,18 @@ depth_good w n at g = record {
   threads = g.threads;
   apcs = g.apcs;
   locks = g.locks;
-  later = depth_later w n at g;
+  later = later 3 w g (omega (arith, at.1));
+  opened = λ h. absurd (omega (arith, h));
 }
 
 pub depth_taken : (all : NameLists) (w : Walk) (n : ℕ) → Between 2 2 w.place → Good w → so_far all (with_depth w n) ≡ so_far all w
     ++ number_row keyword.Depth n ∷ []
 depth_taken all w n at g =
-    let no = nothing all w g in
     let there = has_head w.place w.version w.script.cpus w.script.depth w.script.threaded at.0 in
-    grow_heads (heads w.place w) (heads HasDepth (with_depth w n)) (isrs all w) (dpcs all w) (timers all w) (threads all w) (apcs all w) (locks w)
-    (routines all w)
-    (number_row keyword.Depth n ∷ [])
-    (rw (there, g.later.depth (omega (arith, at.1)), g.later.threaded (omega (arith, at.1)))
-    (sym (append_assoc (version_rows w.version) (number_row keyword.Cpus w.script.cpus ∷ []) (number_row keyword.Depth n ∷ []))))
-    (no.no_isrs (omega (arith, at.1))) (no.no_dpcs (omega (arith, at.1))) (no.no_timers (omega (arith, at.1))) (no.no_threads (omega (arith, at.1)))
-    (no.no_apcs (omega (arith, at.1))) (no.no_locks (omega (arith, at.1))) (no.no_routines (omega (arith, at.1)))
-
-threaded_later : (w : Walk) (on : Bool) → Between 2 3 w.place → Good w → Later 4 (with_threaded w on)
-threaded_later w on at g = record {
-  depth = λ h. absurd (omega (arith, h));
-  threaded = λ h. absurd (omega (arith, h));
-  isrs = λ h. g.later.isrs (omega (arith, at.1));
-  dpcs = λ h. g.later.dpcs (omega (arith, at.1));
-  timers = λ h. g.later.timers (omega (arith, at.1));
-  threads = λ h. g.later.threads (omega (arith, at.1));
-  apcs = λ h. g.later.apcs (omega (arith, at.1));
-  locks = λ h. g.later.locks (omega (arith, at.1));
-  routines = λ h. g.later.routines (omega (arith, at.1));
-  closed = λ h. g.later.closed (omega (arith, at.1));
-  opened = λ h. absurd (omega (arith, h));
-}
+    grow_head all w (with_depth w n) (number_row keyword.Depth n ∷ [])
+    (rw (there, empty w g HasDepth (omega (arith, at.1)), empty w g HasThreaded (omega (arith, at.1)))
+    (sym (append_assoc (version_rows w.version) (number_row keyword.Cpus w.script.cpus ∷ []) (number_row keyword.Depth n ∷ [])))) refl
+    (nothing 0 all w (later 4 w g (omega (arith, at.1))))
 
 pub threaded_good : (w : Walk) (on : Bool) → Between 2 3 w.place → Good w → Good (with_threaded w on)
 threaded_good w on at g = record {
@@ -269,7 +236,8 @@ threaded_good w on at g = record {
   threads = g.threads;
   apcs = g.apcs;
   locks = g.locks;
-  later = threaded_later w on at g;
+  later = later 4 w g (omega (arith, at.1));
+  opened = λ h. absurd (omega (arith, h));
 }
 
 -- a last row of the head
@@ -279,32 +247,14 @@ last_head v h rows r = rw (append-nil rows) (sym (append_assoc v (h ∷ rows) (r
 pub threaded_taken : (all : NameLists) (w : Walk) (on : Bool) → Between 2 3 w.place → Good w → so_far all (with_threaded w on) ≡ so_far all w
     ++ (text_of keyword.Threaded ∷ on_off_text on ∷ []) ∷ []
 threaded_taken all w on at g =
-    let no = nothing all w g in
     let there = has_head w.place w.version w.script.cpus w.script.depth w.script.threaded at.0 in
     let row = text_of keyword.Threaded ∷ on_off_text on ∷ [] in
-    grow_heads (heads w.place w) (heads HasThreaded (with_threaded w on)) (isrs all w) (dpcs all w) (timers all w) (threads all w) (apcs all w) (locks w)
-    (routines all w) (row ∷ [])
-    (rw (there, g.later.threaded (omega (arith, at.1))) (last_head (version_rows w.version) (number_row keyword.Cpus w.script.cpus)
-    (depth_rows w.script.depth) row))
-    (no.no_isrs (omega (arith, at.1))) (no.no_dpcs (omega (arith, at.1))) (no.no_timers (omega (arith, at.1))) (no.no_threads (omega (arith, at.1)))
-    (no.no_apcs (omega (arith, at.1))) (no.no_locks (omega (arith, at.1))) (no.no_routines (omega (arith, at.1)))
+    grow_head all w (with_threaded w on) (row ∷ [])
+    (rw (there, empty w g HasThreaded (omega (arith, at.1)))
+    (last_head (version_rows w.version) (number_row keyword.Cpus w.script.cpus) (depth_rows w.script.depth) row)) refl
+    (nothing 0 all w (later 4 w g (omega (arith, at.1))))
 
 -- ---- the parts
-
-isr_later : (w : Walk) (x : Isr) → Between 2 5 w.place → Good w → Later 5 (with_isr w x)
-isr_later w x at g = record {
-  depth = λ h. absurd (omega (arith, h));
-  threaded = λ h. absurd (omega (arith, h));
-  isrs = λ h. absurd (omega (arith, h));
-  dpcs = λ h. g.later.dpcs (omega (arith, at.1));
-  timers = λ h. g.later.timers (omega (arith, at.1));
-  threads = λ h. g.later.threads (omega (arith, at.1));
-  apcs = λ h. g.later.apcs (omega (arith, at.1));
-  locks = λ h. g.later.locks (omega (arith, at.1));
-  routines = λ h. g.later.routines (omega (arith, at.1));
-  closed = λ h. g.later.closed (omega (arith, at.1));
-  opened = λ h. absurd (omega (arith, h));
-}
 
 pub isr_good : (w : Walk) (x : Isr) → Between 2 5 w.place → Good w → Good (with_isr w x)
 isr_good w x at g = record {
@@ -314,33 +264,14 @@ isr_good w x at g = record {
   threads = g.threads;
   apcs = g.apcs;
   locks = g.locks;
-  later = isr_later w x at g;
+  later = later 5 w g (omega (arith, at.1));
+  opened = λ h. absurd (omega (arith, h));
 }
 
 pub isr_taken : (all : NameLists) (w : Walk) (x : Isr) → Between 2 5 w.place → Good w → so_far all (with_isr w x) ≡ so_far all w ++ isr_row all x ∷ []
 isr_taken all w x at g =
-    let no = nothing all w g in
-    grow_isrs (heads w.place w) (heads InIsrs w) (isrs all w) (isrs all (with_isr w x)) (dpcs all w) (timers all w) (threads all w) (apcs all w) (locks w)
-    (routines all w) (isr_row all x ∷ []) (sym (has_head w.place w.version w.script.cpus w.script.depth w.script.threaded at.0))
-    (map-append (isr_row all) w.script.isrs (x ∷ []))
-    (no.no_dpcs (omega (arith, at.1))) (no.no_timers (omega (arith, at.1))) (no.no_threads (omega (arith, at.1))) (no.no_apcs (omega (arith, at.1)))
-    (no.no_locks (omega (arith, at.1)))
-    (no.no_routines (omega (arith, at.1)))
-
-dpc_later : (w : Walk) (name : List ℕ) (x : DpcDecl) → Between 2 6 w.place → Good w → Later 6 (with_dpc w name x)
-dpc_later w name x at g = record {
-  depth = λ h. absurd (omega (arith, h));
-  threaded = λ h. absurd (omega (arith, h));
-  isrs = λ h. absurd (omega (arith, h));
-  dpcs = λ h. absurd (omega (arith, h));
-  timers = λ h. g.later.timers (omega (arith, at.1));
-  threads = λ h. g.later.threads (omega (arith, at.1));
-  apcs = λ h. g.later.apcs (omega (arith, at.1));
-  locks = λ h. g.later.locks (omega (arith, at.1));
-  routines = λ h. g.later.routines (omega (arith, at.1));
-  closed = λ h. g.later.closed (omega (arith, at.1));
-  opened = λ h. absurd (omega (arith, h));
-}
+    grow_part 0 all w (with_isr w x) (isrs all (with_isr w x)) (isr_row all x ∷ []) (omega arith) (same_head w at.0) refl
+    (map-append (isr_row all) w.script.isrs (x ∷ [])) (nothing 1 all w (later 5 w g at.1))
 
 pub dpc_good : (w : Walk) (name : List ℕ) (x : DpcDecl) → Between 2 6 w.place → Good w → Good (with_dpc w name x)
 dpc_good w name x at g = record {
@@ -350,33 +281,15 @@ dpc_good w name x at g = record {
   threads = g.threads;
   apcs = g.apcs;
   locks = g.locks;
-  later = dpc_later w name x at g;
+  later = later 6 w g (omega (arith, at.1));
+  opened = λ h. absurd (omega (arith, h));
 }
 
 pub dpc_taken : (all : NameLists) (w : Walk) (name : List ℕ) (x : DpcDecl) → Between 2 6 w.place → Good w → so_far all (with_dpc w name x) ≡ so_far all w
     ++ dpc_row all name x ∷ []
 dpc_taken all w name x at g =
-    let no = nothing all w g in
-    grow_dpcs (heads w.place w) (heads InDpcs w) (isrs all w) (dpcs all w) (dpcs all (with_dpc w name x)) (timers all w) (threads all w) (apcs all w) (locks w)
-    (routines all w) (dpc_row all name x ∷ []) (sym (has_head w.place w.version w.script.cpus w.script.depth w.script.threaded at.0))
-    (declared_more (dpc_row all) w.names.dpcs w.script.dpcs name x g.dpcs)
-    (no.no_timers (omega (arith, at.1))) (no.no_threads (omega (arith, at.1))) (no.no_apcs (omega (arith, at.1))) (no.no_locks (omega (arith, at.1)))
-    (no.no_routines (omega (arith, at.1)))
-
-timer_later : (w : Walk) (name : List ℕ) (x : TimerDecl) → Between 2 7 w.place → Good w → Later 7 (with_timer w name x)
-timer_later w name x at g = record {
-  depth = λ h. absurd (omega (arith, h));
-  threaded = λ h. absurd (omega (arith, h));
-  isrs = λ h. absurd (omega (arith, h));
-  dpcs = λ h. absurd (omega (arith, h));
-  timers = λ h. absurd (omega (arith, h));
-  threads = λ h. g.later.threads (omega (arith, at.1));
-  apcs = λ h. g.later.apcs (omega (arith, at.1));
-  locks = λ h. g.later.locks (omega (arith, at.1));
-  routines = λ h. g.later.routines (omega (arith, at.1));
-  closed = λ h. g.later.closed (omega (arith, at.1));
-  opened = λ h. absurd (omega (arith, h));
-}
+    grow_part 1 all w (with_dpc w name x) (dpcs all (with_dpc w name x)) (dpc_row all name x ∷ []) (omega arith) (same_head w at.0) refl
+    (declared_more (dpc_row all) w.names.dpcs w.script.dpcs name x g.dpcs) (nothing 2 all w (later 6 w g at.1))
 
 pub timer_good : (w : Walk) (name : List ℕ) (x : TimerDecl) → Between 2 7 w.place → Good w → Good (with_timer w name x)
 timer_good w name x at g = record {
@@ -386,33 +299,15 @@ timer_good w name x at g = record {
   threads = g.threads;
   apcs = g.apcs;
   locks = g.locks;
-  later = timer_later w name x at g;
+  later = later 7 w g (omega (arith, at.1));
+  opened = λ h. absurd (omega (arith, h));
 }
 
 pub timer_taken : (all : NameLists) (w : Walk) (name : List ℕ) (x : TimerDecl) → Between 2 7 w.place → Good w → so_far all (with_timer w name x) ≡ so_far all w
     ++ timer_row all name x ∷ []
 timer_taken all w name x at g =
-    let no = nothing all w g in
-    grow_timers (heads w.place w) (heads InTimers w) (isrs all w) (dpcs all w) (timers all w) (timers all (with_timer w name x)) (threads all w) (apcs all w)
-    (locks w)
-    (routines all w) (timer_row all name x ∷ []) (sym (has_head w.place w.version w.script.cpus w.script.depth w.script.threaded at.0))
-    (declared_more (timer_row all) w.names.timers w.script.timers name x g.timers)
-    (no.no_threads (omega (arith, at.1))) (no.no_apcs (omega (arith, at.1))) (no.no_locks (omega (arith, at.1))) (no.no_routines (omega (arith, at.1)))
-
-thread_later : (w : Walk) (name : List ℕ) (x : ThreadDecl) → Between 2 8 w.place → Good w → Later 8 (with_thread w name x)
-thread_later w name x at g = record {
-  depth = λ h. absurd (omega (arith, h));
-  threaded = λ h. absurd (omega (arith, h));
-  isrs = λ h. absurd (omega (arith, h));
-  dpcs = λ h. absurd (omega (arith, h));
-  timers = λ h. absurd (omega (arith, h));
-  threads = λ h. absurd (omega (arith, h));
-  apcs = λ h. g.later.apcs (omega (arith, at.1));
-  locks = λ h. g.later.locks (omega (arith, at.1));
-  routines = λ h. g.later.routines (omega (arith, at.1));
-  closed = λ h. g.later.closed (omega (arith, at.1));
-  opened = λ h. absurd (omega (arith, h));
-}
+    grow_part 2 all w (with_timer w name x) (timers all (with_timer w name x)) (timer_row all name x ∷ []) (omega arith) (same_head w at.0) refl
+    (declared_more (timer_row all) w.names.timers w.script.timers name x g.timers) (nothing 3 all w (later 7 w g at.1))
 
 pub thread_good : (w : Walk) (name : List ℕ) (x : ThreadDecl) → Between 2 8 w.place → Good w → Good (with_thread w name x)
 thread_good w name x at g = record {
@@ -422,32 +317,15 @@ thread_good w name x at g = record {
   threads = one_longer w.names.threads w.script.threads name x g.threads;
   apcs = g.apcs;
   locks = g.locks;
-  later = thread_later w name x at g;
+  later = later 8 w g (omega (arith, at.1));
+  opened = λ h. absurd (omega (arith, h));
 }
 
 pub thread_taken : (all : NameLists) (w : Walk) (name : List ℕ) (x : ThreadDecl) → Between 2 8 w.place → Good w → so_far all (with_thread w name x)
     ≡ so_far all w ++ thread_row all name x ∷ []
 thread_taken all w name x at g =
-    let no = nothing all w g in
-    grow_threads (heads w.place w) (heads InThreads w) (isrs all w) (dpcs all w) (timers all w) (threads all w) (threads all (with_thread w name x))
-    (apcs all w) (locks w) (routines all w) (thread_row all name x ∷ []) (sym (has_head w.place w.version w.script.cpus w.script.depth w.script.threaded at.0))
-    (declared_more (thread_row all) w.names.threads w.script.threads name x g.threads)
-    (no.no_apcs (omega (arith, at.1))) (no.no_locks (omega (arith, at.1))) (no.no_routines (omega (arith, at.1)))
-
-apc_later : (w : Walk) (name : List ℕ) (x : ApcDecl) → Between 2 9 w.place → Good w → Later 9 (with_apc w name x)
-apc_later w name x at g = record {
-  depth = λ h. absurd (omega (arith, h));
-  threaded = λ h. absurd (omega (arith, h));
-  isrs = λ h. absurd (omega (arith, h));
-  dpcs = λ h. absurd (omega (arith, h));
-  timers = λ h. absurd (omega (arith, h));
-  threads = λ h. absurd (omega (arith, h));
-  apcs = λ h. absurd (omega (arith, h));
-  locks = λ h. g.later.locks (omega (arith, at.1));
-  routines = λ h. g.later.routines (omega (arith, at.1));
-  closed = λ h. g.later.closed (omega (arith, at.1));
-  opened = λ h. absurd (omega (arith, h));
-}
+    grow_part 3 all w (with_thread w name x) (threads all (with_thread w name x)) (thread_row all name x ∷ []) (omega arith) (same_head w at.0) refl
+    (declared_more (thread_row all) w.names.threads w.script.threads name x g.threads) (nothing 4 all w (later 8 w g at.1))
 
 pub apc_good : (w : Walk) (name : List ℕ) (x : ApcDecl) → Between 2 9 w.place → Good w → Good (with_apc w name x)
 apc_good w name x at g = record {
@@ -457,32 +335,15 @@ apc_good w name x at g = record {
   threads = g.threads;
   apcs = one_longer w.names.apcs w.script.apcs name x g.apcs;
   locks = g.locks;
-  later = apc_later w name x at g;
+  later = later 9 w g (omega (arith, at.1));
+  opened = λ h. absurd (omega (arith, h));
 }
 
 pub apc_taken : (all : NameLists) (w : Walk) (name : List ℕ) (x : ApcDecl) → Between 2 9 w.place → Good w → so_far all (with_apc w name x) ≡ so_far all w
     ++ apc_row all name x ∷ []
 apc_taken all w name x at g =
-    let no = nothing all w g in
-    grow_apcs (heads w.place w) (heads InApcs w) (isrs all w) (dpcs all w) (timers all w) (threads all w) (apcs all w) (apcs all (with_apc w name x)) (locks w)
-    (routines all w) (apc_row all name x ∷ []) (sym (has_head w.place w.version w.script.cpus w.script.depth w.script.threaded at.0))
-    (declared_more (apc_row all) w.names.apcs w.script.apcs name x g.apcs)
-    (no.no_locks (omega (arith, at.1))) (no.no_routines (omega (arith, at.1)))
-
-lock_later : (w : Walk) (name : List ℕ) → Between 2 10 w.place → Good w → Later 10 (with_lock w name)
-lock_later w name at g = record {
-  depth = λ h. absurd (omega (arith, h));
-  threaded = λ h. absurd (omega (arith, h));
-  isrs = λ h. absurd (omega (arith, h));
-  dpcs = λ h. absurd (omega (arith, h));
-  timers = λ h. absurd (omega (arith, h));
-  threads = λ h. absurd (omega (arith, h));
-  apcs = λ h. absurd (omega (arith, h));
-  locks = λ h. absurd (omega (arith, h));
-  routines = λ h. g.later.routines (omega (arith, at.1));
-  closed = λ h. g.later.closed (omega (arith, at.1));
-  opened = λ h. absurd (omega (arith, h));
-}
+    grow_part 4 all w (with_apc w name x) (apcs all (with_apc w name x)) (apc_row all name x ∷ []) (omega arith) (same_head w at.0) refl
+    (declared_more (apc_row all) w.names.apcs w.script.apcs name x g.apcs) (nothing 5 all w (later 9 w g at.1))
 
 pub lock_good : (w : Walk) (name : List ℕ) → Between 2 10 w.place → Good w → Good (with_lock w name)
 lock_good w name at g = record {
@@ -492,31 +353,15 @@ lock_good w name at g = record {
   threads = g.threads;
   apcs = g.apcs;
   locks = omega (arith, g.locks, length-append w.names.locks (name ∷ []));
-  later = lock_later w name at g;
+  later = later 10 w g (omega (arith, at.1));
+  opened = λ h. absurd (omega (arith, h));
 }
 
 pub lock_taken : (all : NameLists) (w : Walk) (name : List ℕ) → Between 2 10 w.place → Good w → so_far all (with_lock w name) ≡ so_far all w
     ++ lock_row name ∷ []
 lock_taken all w name at g =
-    let no = nothing all w g in
-    grow_locks (heads w.place w) (heads InLocks w) (isrs all w) (dpcs all w) (timers all w) (threads all w) (apcs all w) (locks w) (locks (with_lock w name))
-    (routines all w) (lock_row name ∷ []) (sym (has_head w.place w.version w.script.cpus w.script.depth w.script.threaded at.0))
-    (map-append lock_row w.names.locks (name ∷ [])) (no.no_routines (omega (arith, at.1)))
-
-routine_later : (w : Walk) (name : List ℕ) → Between 2 11 w.place → Good w → Later 12 (with_routine w name)
-routine_later w name at g = record {
-  depth = λ h. absurd (omega (arith, h));
-  threaded = λ h. absurd (omega (arith, h));
-  isrs = λ h. absurd (omega (arith, h));
-  dpcs = λ h. absurd (omega (arith, h));
-  timers = λ h. absurd (omega (arith, h));
-  threads = λ h. absurd (omega (arith, h));
-  apcs = λ h. absurd (omega (arith, h));
-  locks = λ h. absurd (omega (arith, h));
-  routines = λ h. absurd (omega (arith, h));
-  closed = λ h. absurd (omega (arith, h));
-  opened = λ h. one_more w.names.routines name (length w.script.routines) (g.later.closed (omega (arith, at.1))).1;
-}
+    grow_part 5 all w (with_lock w name) (locks (with_lock w name)) (lock_row name ∷ []) (omega arith) (same_head w at.0) refl
+    (map-append lock_row w.names.locks (name ∷ [])) (nothing 6 all w (later 10 w g at.1))
 
 pub routine_good : (w : Walk) (name : List ℕ) → Between 2 11 w.place → Good w → Good (with_routine w name)
 routine_good w name at g = record {
@@ -526,36 +371,21 @@ routine_good w name at g = record {
   threads = g.threads;
   apcs = g.apcs;
   locks = g.locks;
-  later = routine_later w name at g;
+  later = tt;
+  opened = λ h. one_more w.names.routines name (length w.script.routines) (empty w g InRoutine (omega (arith, at.1))).1;
 }
 
 pub routine_taken : (all : NameLists) (w : Walk) (name : List ℕ) → Between 2 11 w.place → Good w → so_far all (with_routine w name) ≡ so_far all w
     ++ (text_of keyword.Routine ∷ name ∷ []) ∷ []
 routine_taken all w name at g =
-    let l = g.later.closed (omega (arith, at.1)) in
-    grow_routines (heads w.place w) (heads InRoutine w) (isrs all w) (dpcs all w) (timers all w) (threads all w) (apcs all w) (locks w) (routines all w)
-    (routines all (with_routine w name)) ((text_of keyword.Routine ∷ name ∷ []) ∷ [])
-    (sym (has_head w.place w.version w.script.cpus w.script.depth w.script.threaded at.0))
-    (rw l.0 (routine_more all w.names.routines w.script.routines name l.1))
+    let closed = empty w g InRoutine (omega (arith, at.1)) in
+    grow_part 6 all w (with_routine w name) (routines all (with_routine w name)) ((text_of keyword.Routine ∷ name ∷ []) ∷ []) (omega arith)
+    (same_head w at.0) refl
+    (rw closed.0 (routine_more all w.names.routines w.script.routines name closed.1)) (refl, tt)
 
 -- in a routine
 inside : (w : Walk) → Between 12 12 w.place → Good w → length w.names.routines ≡ suc (length w.script.routines)
-inside w at g = g.later.opened (omega (arith, at.0, at.1))
-
-exit_later : (w : Walk) → Between 12 12 w.place → Good w → Later 11 (with_exit w)
-exit_later w at g = record {
-  depth = λ h. absurd (omega (arith, h));
-  threaded = λ h. absurd (omega (arith, h));
-  isrs = λ h. absurd (omega (arith, h));
-  dpcs = λ h. absurd (omega (arith, h));
-  timers = λ h. absurd (omega (arith, h));
-  threads = λ h. absurd (omega (arith, h));
-  apcs = λ h. absurd (omega (arith, h));
-  locks = λ h. absurd (omega (arith, h));
-  routines = λ h. absurd (omega (arith, h));
-  closed = λ h. (refl, inside w at g ∙ sym (one_more w.script.routines (record { commands = w.body }) (length w.script.routines) refl));
-  opened = λ h. absurd (omega (arith, h));
-}
+inside w at g = g.opened (omega (arith, at.0, at.1))
 
 pub exit_good : (w : Walk) → Between 12 12 w.place → Good w → Good (with_exit w)
 exit_good w at g = record {
@@ -565,15 +395,14 @@ exit_good w at g = record {
   threads = g.threads;
   apcs = g.apcs;
   locks = g.locks;
-  later = exit_later w at g;
+  later = ((refl, inside w at g ∙ sym (one_more w.script.routines (record { commands = w.body }) (length w.script.routines) refl)), tt);
+  opened = λ h. absurd (omega (arith, h));
 }
 
 pub exit_taken : (all : NameLists) (w : Walk) → Between 12 12 w.place → Good w → so_far all (with_exit w) ≡ so_far all w ++ exit_row ∷ []
 exit_taken all w at g =
-    let low : 2 ≤ order w.place = omega (arith, at.0) in
-    grow_routines (heads w.place w) (heads InRoutines w) (isrs all w) (dpcs all w) (timers all w) (threads all w) (apcs all w) (locks w) (routines all w)
-    (routines all (with_exit w)) (exit_row ∷ []) (sym (has_head w.place w.version w.script.cpus w.script.depth w.script.threaded low))
-    (exit_more all w.body w.names.routines w.script.routines (inside w at g))
+    grow_part 6 all w (with_exit w) (routines all (with_exit w)) (exit_row ∷ []) (omega arith) (same_head w (omega (arith, at.0))) refl
+    (exit_more all w.body w.names.routines w.script.routines (inside w at g)) (refl, tt)
 
 pub command_good : (w : Walk) (c : Command) → Between 12 12 w.place → Good w → Good (with_command w c)
 command_good w c at g = record {
@@ -583,23 +412,12 @@ command_good w c at g = record {
   threads = g.threads;
   apcs = g.apcs;
   locks = g.locks;
-  later = record {
-    depth = λ h. absurd (omega (arith, h, at.0));
-    threaded = λ h. absurd (omega (arith, h, at.0));
-    isrs = λ h. absurd (omega (arith, h, at.0));
-    dpcs = λ h. absurd (omega (arith, h, at.0));
-    timers = λ h. absurd (omega (arith, h, at.0));
-    threads = λ h. absurd (omega (arith, h, at.0));
-    apcs = λ h. absurd (omega (arith, h, at.0));
-    locks = λ h. absurd (omega (arith, h, at.0));
-    routines = λ h. absurd (omega (arith, h, at.0));
-    closed = λ h. absurd (omega (arith, h, at.0));
-    opened = λ h. inside w at g;
-  };
+  later = none_after places (suc (order w.place)) (with_command w c) (omega (arith, at.0));
+  opened = λ h. inside w at g;
 }
 
 pub command_taken : (all : NameLists) (w : Walk) (c : Command) → Between 12 12 w.place → Good w → so_far all (with_command w c) ≡ so_far all w
     ++ command_row all c ∷ []
 command_taken all w c at g =
-    grow_routines (heads w.place w) (heads w.place w) (isrs all w) (dpcs all w) (timers all w) (threads all w) (apcs all w) (locks w) (routines all w)
-    (routines all (with_command w c)) (command_row all c ∷ []) refl (command_more all w.body w.names.routines w.script.routines c (inside w at g))
+    grow_part 6 all w (with_command w c) (routines all (with_command w c)) (command_row all c ∷ []) (omega arith) refl refl
+    (command_more all w.body w.names.routines w.script.routines c (inside w at g)) (refl, tt)

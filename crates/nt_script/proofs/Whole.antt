@@ -40,10 +40,10 @@ use Rattle.nt_script.specs.Versions.{version_of}
 use Rattle.nt_script.specs.Text.{header_rows, input_rows, text, routine_rows}
 use Rattle.nt_line.proofs.Results.{bind_ok, ok_if_ok}
 use Rattle.nt_line.proofs.UsedNames.{AreFew, new_name_takes}
-use Rattle.nt_script.proofs.SoFar.{so_far, has_head, heads, isrs, dpcs, timers, threads, apcs, locks, routines, joined, all_ended}
+use Rattle.nt_script.proofs.SoFar.{so_far, has_head, routines, all_ended}
 use Rattle.nt_script.proofs.Taken.{At, declared_ok, step_ok}
-use Rattle.nt_script.proofs.Steps.{Good, put_cpus_ok, version_good, cpus_good, depth_good, threaded_good, isr_good, dpc_good, timer_good, thread_good, apc_good}
-use Rattle.nt_script.proofs.Steps.{lock_good, routine_good, exit_good, command_good}
+use Rattle.nt_script.proofs.Steps.{Good, IsEmpty, all_empty, empty, places, put_cpus_ok, version_good, cpus_good, depth_good, threaded_good, isr_good, dpc_good}
+use Rattle.nt_script.proofs.Steps.{timer_good, thread_good, apc_good, lock_good, routine_good, exit_good, command_good}
 use Rattle.nt_script.proofs.Acts.{ok, ok_is, step_taken}
 
 -- ---- the names, with no look at the names that are used
@@ -179,7 +179,7 @@ act_named all w keyword.Routine row new is at e good few =
     let o = ok_if_ok (nat_lt (length w.script.routines) 256) (with_routine w b.value) (TooMany what.Routines) new b.then in
     let f = (new_name_takes w.names).fits (first (rest row)) b.value b.is in
     let same = (new_name_takes w.names).shown (first (rest row)) b.value b.is in
-    let l = good.later.closed at.1 in
+    let closed = empty w good InRoutine (omega (arith, at.1)) in
     subst (Named w row) o.1 (record {
       version = refl;
       names = new_declared w.version kind.Routine w.names row keyword.Routine b.value is refl same f.0 f.1;
@@ -189,7 +189,7 @@ act_named all w keyword.Routine row new is at e good few =
         threads = few.threads;
         apcs = few.apcs;
         locks = few.locks;
-        routines = fits_more w.names.routines b.value (length w.script.routines) 256 l.1 o.0;
+        routines = fits_more w.names.routines b.value (length w.script.routines) 256 closed.1 o.0;
       };
       good = routine_good w b.value at good;
     })
@@ -315,16 +315,13 @@ finished InLocks w n input e = record { made_is = done_is (made w) input e; low 
 finished InRoutines w n input e = record { made_is = done_is (made w) input e; low = omega arith; high = omega arith }
 finished InRoutine w n input e = absurd cc
 
-joined_same : (h h' i d t s a k o o' : List Row) → h ≡ h' → o ≡ o' → joined h i d t s a k o ≡ joined h' i d t s a k o'
-joined_same h h' i d t s a k o o' eh eo = rw (eh, eo) refl
-
+-- the rows of a walk whose routines have all ended are those of its input
 closing : (all : NameLists) (w : Walk) → all ≡ w.names → 2 ≤ order w.place → length w.names.routines ≡ length w.script.routines → so_far all w
     ≡ input_rows (made w)
 closing all w ea low el =
     let head = has_head w.place w.version w.script.cpus w.script.depth w.script.threaded low in
-    let own : so_far w.names w ≡ input_rows (made w) = joined_same (heads w.place w) (header_rows w.version w.script.cpus w.script.depth w.script.threaded)
-    (isrs w.names w) (dpcs w.names w) (timers w.names w) (threads w.names w) (apcs w.names w) (locks w) (routines w.names w)
-    (routine_rows w.names w.names.routines w.script.routines) head (all_ended w.names w.names.routines w.script.routines w.body el) in
+    let ended = all_ended w.names w.names.routines w.script.routines w.body el in
+    let own : so_far w.names w ≡ input_rows (made w) = rw (head, append-nil (routines w.names w), ended) refl in
     subst (λ (names : NameLists). so_far names w ≡ input_rows (made w)) (sym ea) own
 
 -- before all lines
@@ -335,6 +332,17 @@ first_low v = go (nat_le 2 v)
     go true = omega arith
     go false = omega arith
 
+-- nothing was read of any place
+start_empty : (v : ℕ) (p : Place) → IsEmpty (start v) p
+start_empty v Start = tt
+start_empty v HasVersion = tt
+start_empty v HasCpus = tt
+start_empty v HasDepth = refl
+start_empty v HasThreaded = refl
+start_empty v InIsrs = refl
+start_empty v InLocks = refl
+start_empty v _ = (refl, refl)
+
 pub good_start : (v : ℕ) → v ≤ 2 → Good (start v)
 good_start v le = record {
   version = le;
@@ -343,19 +351,8 @@ good_start v le = record {
   threads = refl;
   apcs = refl;
   locks = refl;
-  later = record {
-    depth = λ h. refl;
-    threaded = λ h. refl;
-    isrs = λ h. refl;
-    dpcs = λ h. (refl, refl);
-    timers = λ h. (refl, refl);
-    threads = λ h. (refl, refl);
-    apcs = λ h. (refl, refl);
-    locks = λ h. refl;
-    routines = λ h. (refl, refl);
-    closed = λ h. (refl, refl);
-    opened = λ h. (let low = first_low v in absurd (omega (arith, h, low)));
-  };
+  later = all_empty places (suc (order (first_place v))) (start v) (start_empty v);
+  opened = λ h. (let low = first_low v in absurd (omega (arith, h, low)));
 }
 
 -- no row comes before the first line
@@ -389,5 +386,6 @@ reading_takes bytes input e =
     let g = finished names.last.place names.last names.number input names.finishes in
     let same : all ≡ r.last.names = names.names ∙ ap (λ (i : Input). i.names) g.made_is ∙ sym (ap (λ (i : Input). i.names) f.made_is) in
     let rows : so_far all r.last ≡ r.rows = r.rows_are ∙ ap (λ (before : List Row). before ++ r.rows) (none_yet all v two) in
-    let are : r.rows ≡ input_rows input = sym rows ∙ closing all r.last same f.low (r.good.later.closed f.high).1 ∙ ap input_rows f.made_is in
+    let closed = empty r.last r.good InRoutine (omega (arith, f.high)) in
+    let are : r.rows ≡ input_rows input = sym rows ∙ closing all r.last same f.low closed.1 ∙ ap input_rows f.made_is in
     lines_takes bytes r.rows r.lines_are ∙ ap rows_text are

@@ -8,13 +8,13 @@ use Rattle.nt_cpus.proofs.processors.Processors.follow.Goals as goal
 
 pub look-requires-clause-own : goal.look-requires-clause-own
 look-requires-clause-own g c past h =
-    c.requires.own past h ∙ ap (λ (t : Turn). Some t) (look_chosen c.args.self.now.script past c.args.chosen c.in-Look.is)
+    c.requires.own past h ∙ ap (λ (t : Turn). Some t) (look_chosen c.args.self.now.script past c.args.chosen _ c.in-Look.is)
 
 pub returns-in-Look-clause-event : goal.returns-in-Look-clause-event
 returns-in-Look-clause-event g c past h =
     let s : CpusState = c.args.self.now in
     let m = c.look.ensures.event past h in
-    (ap (λ (t : Turn). step s.script s.limit t past) (look_chosen s.script past c.args.chosen c.in-Look.is) ∙ m.0, m.1)
+    (ap (λ (t : Turn). step s.script s.limit t past) (look_chosen s.script past c.args.chosen _ c.in-Look.is) ∙ m.0, m.1)
 
 pub make-requires-clause-own : goal.make-requires-clause-own
 make-requires-clause-own g c past h =
