@@ -91,21 +91,20 @@ abbrev pub ask_when : Bool → CpuNo → ℕ → Option Asked
 ask_when true p c = Some (record { cpu = p; class = c })
 ask_when false p c = None
 
-abbrev pub region_ask : Stand → RegionCall → Option Asked
-region_ask st CritLeft = ask_when (st.regions.crit == 1) st.cpu apc_class
-region_ask st GuardLeft = ask_when (st.regions.guard == 1) st.cpu apc_class
-region_ask st CritEntered = None
-region_ask st GuardEntered = None
+abbrev pub region_ask : Stand → RegionCall → Reply → Option Asked
+region_ask st CritLeft y = if is_done y then ask_when (st.regions.crit == 1) st.cpu apc_class else None
+region_ask st GuardLeft y = if is_done y then ask_when (st.regions.guard == 1) st.cpu apc_class else None
+region_ask st CritEntered y = None
+region_ask st GuardEntered y = None
 
-abbrev pub plain_ask : PlainCall → Option Asked
-plain_ask (RequestAt q level) = Some (record { cpu = q; class = level })
-plain_ask (AdvanceTime units) = None
-plain_ask EnterUser = None
-plain_ask (WriteNote n) = None
+abbrev pub plain_ask : PlainCall → Reply → Option Asked
+plain_ask (RequestAt q level) y = ask_when (is_done y) q level
+plain_ask (AdvanceTime units) y = None
+plain_ask EnterUser y = None
+plain_ask (WriteNote n) y = None
 
 abbrev pub call_asks : Stand → Command → Reply → Option Asked
-call_asks st c y =
-    if is_done y then by_region_call (λ k. region_ask st k) (by_plain_call (λ k. plain_ask k) None c) c else None
+call_asks st c y = by_region_call (λ k. region_ask st k y) (by_plain_call (λ k. plain_ask k y) None c) c
 
 abbrev pub is_normal_end : Option Body → Bool
 is_normal_end (Some b) = is_normal_apc_body b

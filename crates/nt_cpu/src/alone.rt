@@ -99,7 +99,7 @@ impl<'s> Cpu<'s> {
             ≡ call_asks_of (stand_in self.now.cpu self.now.own) command.now reply.now }
         ensures class { IfSome result (λ a. a.class < 16) }
     {
-        if !matches!(reply, Reply::Done) {
+        if !reply.is_done() {
             return None;
         }
         match command {

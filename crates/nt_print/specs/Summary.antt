@@ -1,8 +1,6 @@
 -- The summary of a history: six counts, a line each.
 use Rattle.std.specs.Prelude.{ℕ, Bool, true, false, List, [], ◌∷◌, count_by, length, reverse, codes, decimal}
 use Rattle.nt_text.specs.Lines.{Row, rows_text}
-use Rattle.nt_event.specs.declared.commands.Reply.{Reply}
-use Rattle.nt_event.specs.declared.commands.Reply.TheVariants.{Blocked, Done, No, Refused, Spin, Status, Yes}
 use Rattle.nt_event.specs.declared.events.Event.{Event}
 use Rattle.nt_event.specs.declared.events.History.{History}
 use Rattle.nt_event.specs.declared.events.What.{What}
@@ -15,15 +13,6 @@ use Rattle.nt_event.specs.Replies.{is_refused}
 
 abbrev pub is_call : What → Bool
 is_call w = in_call (λ frame c reply. true) false w
-
-abbrev pub is_refused : Reply → Bool
-is_refused (Refused cause) = true
-is_refused Done = false
-is_refused Yes = false
-is_refused No = false
-is_refused (Status x) = false
-is_refused Blocked = false
-is_refused Spin = false
 
 abbrev pub is_refused_call : What → Bool
 is_refused_call w = in_call (λ frame c reply. is_refused reply) false w

@@ -36,61 +36,53 @@ record Counts (c : Frame → ℕ) : Type 0 where
   ended : (f : Frame) → c (ended_base f) ≡ 0
   resumed : (st : Option ℕ) (f : Frame) → c (resumed st f) ≡ c f
 
-crit_counts : Counts (λ f. f.crit)
-crit_counts = record {
-  anew = λ n b. refl;
-  called = λ due k y f. go (wait_begun due k) k y f;
+-- a command that was done raises each of the two counts of its frame by one at most
+done_raises : (k : Command) (f : Frame) → ((done_to k f).crit ≤ f.crit + 1) × ((done_to k f).guard ≤ f.guard + 1)
+done_raises EnterCrit f = (omega arith, omega arith)
+done_raises LeaveCrit f = (omega arith, omega arith)
+done_raises EnterGuard f = (omega arith, omega arith)
+done_raises LeaveGuard f = (omega arith, omega arith)
+done_raises k f = (omega arith, omega arith)
+
+-- so does a call
+call_raises : (due : Option ℕ) (k : Command) (y : Reply) (f : Frame) → ((called due k y f).crit ≤ f.crit + 1) × ((called due k y f).guard ≤ f.guard + 1)
+call_raises due k y f = go (wait_begun due k)
+  where
+    if_done : (b : Bool) → ((if b then done_to k f else f).crit ≤ f.crit + 1) × ((if b then done_to k f else f).guard ≤ f.guard + 1)
+    if_done true = done_raises k f
+    if_done false = (omega arith, omega arith)
+
+    go : (o : Option Again) → ((effect_by o k y f).crit ≤ f.crit + 1) × ((effect_by o k y f).guard ≤ f.guard + 1)
+    go (Some w) = (omega arith, omega arith)
+    go None = if_done (is_done y)
+
+-- one of the two counts of a frame: of the critical regions and of the guarded ones that it is in
+record Picks (pick : ℕ → ℕ → ℕ) : Type 0 where
+  none : pick 0 0 ≡ 0
+  raised : (crit guard new_crit new_guard : ℕ) → new_crit ≤ crit + 1 → new_guard ≤ guard + 1 → pick new_crit new_guard ≤ pick crit guard + 1
+
+picks_crit : Picks (λ crit guard. crit)
+picks_crit = record { none = refl; raised = λ crit guard new_crit new_guard at_crit at_guard. at_crit }
+
+picks_guard : Picks (λ crit guard. guard)
+picks_guard = record { none = refl; raised = λ crit guard new_crit new_guard at_crit at_guard. at_guard }
+
+-- each of the two is such a count
+counts : (pick : ℕ → ℕ → ℕ) → Picks pick → Counts (λ f. pick f.crit f.guard)
+counts pick picks = record {
+  anew = λ n b. picks.none;
+  called = λ due k y f. (let raises = call_raises due k y f in
+      picks.raised f.crit f.guard (called due k y f).crit (called due k y f).guard raises.0 raises.1);
   rewaited = λ y f. refl;
-  normal = λ f. refl;
+  normal = λ f. picks.none;
   freed = λ f. refl;
-  ended = λ f. refl;
+  ended = λ f. picks.none;
   resumed = λ st f. keeps st f;
 }
   where
-    keeps : (st : Option ℕ) (f : Frame) → (resumed st f).crit ≡ f.crit
+    keeps : (st : Option ℕ) (f : Frame) → pick (resumed st f).crit (resumed st f).guard ≡ pick f.crit f.guard
     keeps None f = refl
     keeps (Some x) f = refl
-
-    done : (k : Command) (f : Frame) → (done_to k f).crit ≤ f.crit + 1
-    done EnterCrit f = omega arith
-    done LeaveCrit f = omega arith
-    done k f = omega arith
-
-    if_done : (b : Bool) (k : Command) (f : Frame) → (if b then done_to k f else f).crit ≤ f.crit + 1
-    if_done true k f = done k f
-    if_done false k f = omega arith
-
-    go : (o : Option Again) (k : Command) (y : Reply) (f : Frame) → (effect_by o k y f).crit ≤ f.crit + 1
-    go (Some w) k y f = omega arith
-    go None k y f = if_done (is_done y) k f
-
-guard_counts : Counts (λ f. f.guard)
-guard_counts = record {
-  anew = λ n b. refl;
-  called = λ due k y f. go (wait_begun due k) k y f;
-  rewaited = λ y f. refl;
-  normal = λ f. refl;
-  freed = λ f. refl;
-  ended = λ f. refl;
-  resumed = λ st f. keeps st f;
-}
-  where
-    keeps : (st : Option ℕ) (f : Frame) → (resumed st f).guard ≡ f.guard
-    keeps None f = refl
-    keeps (Some x) f = refl
-
-    done : (k : Command) (f : Frame) → (done_to k f).guard ≤ f.guard + 1
-    done EnterGuard f = omega arith
-    done LeaveGuard f = omega arith
-    done k f = omega arith
-
-    if_done : (b : Bool) (k : Command) (f : Frame) → (if b then done_to k f else f).guard ≤ f.guard + 1
-    if_done true k f = done k f
-    if_done false k f = omega arith
-
-    go : (o : Option Again) (k : Command) (y : Reply) (f : Frame) → (effect_by o k y f).guard ≤ f.guard + 1
-    go (Some w) k y f = omega arith
-    go None k y f = if_done (is_done y) k f
 
 module _ (c : Frame → ℕ) (k : Counts c) where
   at_name_counts : (n : ℕ) (g : Frame → Frame) (fs : List Frame) → ((f : Frame) → c (g f) ≤ c f + 1) → sum_by c (at_name n g fs) ≤ sum_by c fs + 1
@@ -143,13 +135,13 @@ module _ (c : Frame → ℕ) (k : Counts c) where
       go false b h = h
 
 pub crit_called : (due : Option ℕ) (c : Command) (y : Reply) (f : Frame) → (called due c y f).crit ≤ f.crit + 1
-crit_called due c y f = crit_counts.called due c y f
+crit_called due c y f = (call_raises due c y f).0
 
 pub guard_called : (due : Option ℕ) (c : Command) (y : Reply) (f : Frame) → (called due c y f).guard ≤ f.guard + 1
-guard_called due c y f = guard_counts.called due c y f
+guard_called due c y f = (call_raises due c y f).1
 
 pub crit_made : (s : Script) (p : CpuNo) (t : ThreadNo) (past : List Event) → crit_of (thread_frames s p t past) ≤ made p past
-crit_made s p t past = made_counts (λ f. f.crit) crit_counts s p t past
+crit_made s p t past = made_counts (λ f. f.crit) (counts (λ crit guard. crit) picks_crit) s p t past
 
 pub guard_made : (s : Script) (p : CpuNo) (t : ThreadNo) (past : List Event) → guard_of (thread_frames s p t past) ≤ made p past
-guard_made s p t past = made_counts (λ f. f.guard) guard_counts s p t past
+guard_made s p t past = made_counts (λ f. f.guard) (counts (λ crit guard. guard) picks_guard) s p t past

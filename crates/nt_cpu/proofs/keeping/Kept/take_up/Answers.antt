@@ -2,6 +2,7 @@ use Rattle.std.proofs.Common.{ap, arith, sym, ◌∙◌}
 use Rattle.std.proofs.lemmas.Bool.Decides.{nat_tests}
 use Rattle.nt_event.specs.declared.events.What.{What}
 use Rattle.nt_event.specs.Lists.{table, value_at}
+use Rattle.nt_event.specs.Own.{fire_after}
 use Rattle.nt_event.specs.Regions.{sweep_after}
 use Rattle.nt_event.specs.Requests.{served_after, serves}
 use Rattle.nt_cpu.proofs.Served.{call_serves, call_serves_none, serves_below, serves_none, serves_try}
@@ -83,3 +84,14 @@ returns-else-is_spin-clause-sweep c =
 pub returns-after-class-ne-DISPATCH-clause-interrupts : goal.returns-after-class-ne-DISPATCH-clause-interrupts
 returns-after-class-ne-DISPATCH-clause-interrupts c h =
     serves_below c.args.self.now.served c.args.seen.now c.serve.new.served c.in-Clean.class (grind (arith, nat_tests)) c.serve.ensures
+
+pub returns-in-Begin-clause-sweep : goal.returns-in-Begin-clause-sweep
+returns-in-Begin-clause-sweep c =
+    let k = c.in-Begin in
+    c.begin.ensures.sweep k.from ∙ ap (λ (w : What). sweep_after w c.args.self.now.sweep) (sym k.is)
+
+pub returns-in-Expire-clause-fire : goal.returns-in-Expire-clause-fire
+returns-in-Expire-clause-fire c =
+    let k = c.in-Expire in
+    c.expired-self.ensures k.from c.args.self.now.fire
+    ∙ ap (λ (w : What). fire_after c.args.script.now w c.args.self.now.fire) (sym k.is)
