@@ -11,3 +11,10 @@ pub mod Whole
 pub mod Cuts
 pub mod Spinners
 pub mod Programs
+pub mod Widths
+pub mod FieldWidths
+pub mod CommandWidths
+pub mod EventWidths
+pub mod ReportSizes
+pub mod ScriptSizes
+pub mod Sizes

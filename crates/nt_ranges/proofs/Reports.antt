@@ -41,7 +41,7 @@ few_turns cpus turns most h = go (nat_le cpus 8) refl h
 pub few_cpus : (input : Input) → IsSound input → input.script.cpus ≤ 64
 few_cpus input sound = most_64 input.version input.script.cpus sound.cpus
 
-few_events : (input : Input) (h : History) → IsRunOf input h → length (reverse h.events) ≤ EVENTS
+pub few_events : (input : Input) (h : History) → IsRunOf input h → length (reverse h.events) ≤ EVENTS
 few_events input h r =
     let most = few_turns input.script.cpus h.turns (few_cpus input r.sound) r.limit.1 in
     let bound : length (reverse h.events) ≤ input.script.cpus * h.turns = run_bounded input.script h.turns (reverse h.events) r.run in
@@ -71,7 +71,7 @@ a_run_has_a_report input h r =
 
 -- ---- the schedule
 
-of_processor : (input : Input) (e : Event) → EventIsPlain input e → e.cpu.0 < input.script.cpus
+pub of_processor : (input : Input) (e : Event) → EventIsPlain input e → e.cpu.0 < input.script.cpus
 of_processor input e h =
     let s = input.script in
     let named = both (has_cpu s e.cpu && where_given (has_thread s) e.thread) (what_fits s e.what) h.0 in

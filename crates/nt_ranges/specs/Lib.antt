@@ -3,3 +3,4 @@ pub mod Statuses
 pub mod Plain
 pub mod Cuts
 pub mod Spinners
+pub mod Sizes

@@ -1,6 +1,6 @@
 //! What a run of a script makes is in the ranges of the texts: its history is one that a report may
-//! have, and its schedule one that a text may have. Each function's contract is a law; the
-//! functions do nothing.
+//! have, and its schedule one that a text may have. Behind the script's text neither is too long to
+//! be read. Each function's contract is a law; the functions do nothing.
 //!
 //! A run's definition leaves two things open that a text needs: a turn Look may carry a list of any
 //! length, and the numbers in commands are bounded only where a text was read. So the laws have as
@@ -12,6 +12,7 @@ ghost use Rattle.nt_ranges.specs.Looks.{AReplayLooksWhole, ARobinRunLooksWhole};
 ghost use Rattle.nt_ranges.specs.Plain.{AReplayIsOne, ARobinRunIsOne, ARunHasAReport};
 ghost use Rattle.nt_ranges.specs.Plain.{ItsScheduleIsPlain, ItsTurnsAreOfProcessors};
 ghost use Rattle.nt_ranges.specs.Plain.{OneReportOneHistory};
+ghost use Rattle.nt_ranges.specs.Sizes.{TextsFitTheInput};
 ghost use Rattle.nt_ranges.specs.Spinners.{SpinsLinesNameTheLocks, SpinsLinesNameTheSpinners};
 ghost use Rattle.nt_ranges.specs.Statuses.{StatusesAreThoseOfWaits};
 
@@ -69,4 +70,10 @@ pub fn robin_runs_and_replays_have_reports()
 /// history.
 pub fn one_report_one_history()
     ensures { OneReportOneHistory }
+{}
+
+/// Its texts fit the input: the script's text with the history's report behind it, or with its
+/// schedule behind it, has at most as many bytes as an input may have.
+pub fn its_texts_fit_the_input()
+    ensures { TextsFitTheInput }
 {}
