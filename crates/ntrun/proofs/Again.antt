@@ -28,6 +28,7 @@ use Rattle.nt_print.specs.Conditions.{IsPlain as HistoryIsPlain}
 use Rattle.nt_print.specs.Report.{report_rows, report_text}
 use Rattle.nt_ranges.proofs.Lists.{all_then}
 use Rattle.nt_ranges.proofs.Reports.{a_run_has_a_report, few_cpus, its_schedule_is_plain, its_turns_are_of_processors}
+use Rattle.nt_ranges.proofs.Sizes.{texts_fit_the_input}
 use Rattle.nt_report.proofs.AgainWhole.{report_is_read}
 use Rattle.nt_script.specs.declared.walk.Input.{Input}
 use Rattle.nt_script.specs.Reading.{reading}
@@ -38,6 +39,7 @@ use Rattle.nt_script.proofs.Behind.{behind as found_behind, rows_bytes, split_be
 use Rattle.nt_script.proofs.Both.{reading_again}
 use Rattle.nt_script.proofs.Cutting.{bytes_of}
 use Rattle.nt_script.proofs.Soundness.{sound_fits}
+use Rattle.nt_text.specs.declared.lines.TheConstants.{INPUT_LIMIT}
 use Rattle.nt_text.specs.Lines.{AllRows, IsRow, Row, first, line_of, lines, row_text, rows_text}
 use Rattle.nt_text.proofs.Rows.{fields_again, lines_again}
 use Rattle.nt_words.proofs.Answered.{form_within}
@@ -187,7 +189,7 @@ below_all : (cpus : ℕ) (list : List Turn) → cpus ≤ CPUS → AllByRecursion
 below_all cpus list few h = all_then (λ t. (cpu_at t).0 < cpus) (λ t. (cpu_at t).0 < CPUS) (λ t k. omega (arith, k, few)) list h
 
 pub written_again : WordsHaveOneForm → ReplayWritesTheSame
-written_again one words again f so sn ao an ko kn bo bn status w form_of given few a memory write =
+written_again one words again f so sn ao an ko kn bo bn status w form_of given a memory write =
     let t = w.task in
     let h = w.history in
     let input = input_of t in
@@ -202,6 +204,8 @@ written_again one words again f so sn ao an ko kn bo bn status w form_of given f
     let replays = replayed_again input.script h own.run settled in
     let bytes : replayed_bytes t h ≡ text input ++ schedule_text input (schedule_of h) =
     ap (λ (xs : List ℕ). text input ++ xs) (schedule_of_report input h sound (a_run_has_a_report input h own) sched) in
+    let few : length (replayed_bytes t h) ≤ INPUT_LIMIT =
+    subst (λ (xs : List ℕ). length xs ≤ INPUT_LIMIT) (sym bytes) (texts_fit_the_input input h own).schedule in
     let asked : task_of form.Replay (replayed_bytes t h) ≡ Ok (task.Replay input (schedule_of h)) =
     ap (task_of form.Replay) bytes ∙ task_again input (schedule_of h) sound sched below in
     let comes = (causes one again ao an bo bn status a).ok form.Replay (replayed_bytes t h) (task.Replay input (schedule_of h))
@@ -214,7 +218,7 @@ written_again one words again f so sn ao an ko kn bo bn status w form_of given f
 
 -- what was written, behind its script, is called legal
 pub called_legal : WordsHaveOneForm → CheckCallsItLegal
-called_legal one words again f so sn ao an ko kn bo bn status w form_of given few a memory write =
+called_legal one words again f so sn ao an ko kn bo bn status w form_of given a memory write =
     let t = w.task in
     let h = w.history in
     let input = input_of t in
@@ -222,6 +226,7 @@ called_legal one words again f so sn ao an ko kn bo bn status w form_of given fe
     let own = run_of_input t h plain w.actual.is in
     let settled : is_settled input.script h.turns (reverse h.events) ≡ true =
     subst (λ (n : ℕ). is_settled input.script n (reverse h.events) ≡ true) (sym w.actual.turns) w.actual.settled in
+    let few : length (checked_bytes t h) ≤ INPUT_LIMIT = (texts_fit_the_input input h own).report in
     let asked : task_of form.Check (checked_bytes t h) ≡ Ok (task.Check input h) = check_again input h (sound_task t plain) (a_run_has_a_report input h own) in
     let comes = (causes one again ao an bo bn status a).ok form.Check (checked_bytes t h) (task.Check input h)
     (record { given = given; few = few; task = asked }) in

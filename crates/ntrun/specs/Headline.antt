@@ -1,8 +1,8 @@
 -- The headline: what the report that is written promises, and that replaying its schedule writes it again.
 use Rattle.std.specs.Io.KnownBytes.{append_known}
 use Rattle.std.specs.List.{Contains}
-use Rattle.std.specs.Prelude.{List, None, Ok, Option, Some, [], drop, false, if◌then◌else◌, is_some, length, nat_lt}
-use Rattle.std.specs.Prelude.{not, reverse, true, ℕ, ◌&&◌, ◌++◌, ◌<◌, ◌∷◌, ◌≡◌, ◌≢◌, ◌≤◌, ◌↔◌, ◌⊎◌}
+use Rattle.std.specs.Prelude.{List, None, Ok, Option, Some, [], drop, false, if◌then◌else◌, is_some, nat_lt}
+use Rattle.std.specs.Prelude.{not, reverse, true, ℕ, ◌&&◌, ◌++◌, ◌<◌, ◌∷◌, ◌≡◌, ◌≢◌, ◌↔◌, ◌⊎◌}
 use Rattle.nt_close.specs.Close.{IsHeldElsewhere, is_stopped}
 use Rattle.nt_event.specs.declared.events.Event.{Event}
 use Rattle.nt_event.specs.declared.events.History.{History}
@@ -36,7 +36,6 @@ use Rattle.nt_runs.specs.SomeFrame.{some_frame, spins_lock}
 use Rattle.nt_script.specs.Reading.{reading}
 use Rattle.nt_script.specs.declared.walk.Input.{Input}
 use Rattle.nt_script.specs.Text.{text}
-use Rattle.nt_text.specs.declared.lines.TheConstants.{INPUT_LIMIT}
 use Rattle.nt_event.specs.Quiet.{IsQuiet}
 use Rattle.nt_words.specs.declared.form.Form.{Form}
 use Rattle.nt_words.specs.declared.form.Form.TheVariants as form
@@ -181,13 +180,11 @@ abbrev pub replayed_bytes : Task → History → List ℕ
 replayed_bytes t h = text (input_of t) ++ schedule_part (report_text (input_of t) h)
 
 -- `run`, `live` or `replay` wrote a report; the script's text with the report's schedule part behind it, given to
--- `replay`, has status 0 and writes the same report, where it has not too many bytes, memory is found and neither
--- source nor sink fails
+-- `replay`, has status 0 and writes the same report, where memory is found and neither source nor sink fails
 abbrev pub ReplayWritesTheSame : Type 0
 ReplayWritesTheSame = (words again : List (List ℕ)) (f : Form) (so sn ao an : Supply) (ko kn bo bn : Store)
     (status : Status) (w : IsWhole f so sn ko kn) → IsForm words f →
-    IsGiven again form.Replay (replayed_bytes w.task w.history) ao an →
-    length (replayed_bytes w.task w.history) ≤ INPUT_LIMIT → IsAnswered again ao an bo bn status →
+    IsGiven again form.Replay (replayed_bytes w.task w.history) ao an → IsAnswered again ao an bo bn status →
     status ≢ exit.Memory → status ≢ exit.Write →
     (status ≡ exit.Ok) × (bn.held ≡ append_known bo.held (report_text (input_of w.task) w.history))
 
@@ -198,11 +195,10 @@ abbrev pub checked_bytes : Task → History → List ℕ
 checked_bytes t h = text (input_of t) ++ report_text (input_of t) h
 
 -- `run`, `live` or `replay` wrote a report; the script's text with this report behind it, given to `check`, has status
--- 0 and is called legal, where it has not too many bytes, memory is found and neither source nor sink fails
+-- 0 and is called legal, where memory is found and neither source nor sink fails
 abbrev pub CheckCallsItLegal : Type 0
 CheckCallsItLegal = (words again : List (List ℕ)) (f : Form) (so sn ao an : Supply) (ko kn bo bn : Store)
     (status : Status) (w : IsWhole f so sn ko kn) → IsForm words f →
-    IsGiven again form.Check (checked_bytes w.task w.history) ao an →
-    length (checked_bytes w.task w.history) ≤ INPUT_LIMIT → IsAnswered again ao an bo bn status →
+    IsGiven again form.Check (checked_bytes w.task w.history) ao an → IsAnswered again ao an bo bn status →
     status ≢ exit.Memory → status ≢ exit.Write →
     (status ≡ exit.Ok) × (bn.held ≡ append_known bo.held legal_line)

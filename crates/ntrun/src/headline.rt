@@ -20,8 +20,8 @@ pub fn the_report_is_that_of_the_actual_history()
 
 /// Replaying the schedule of a report that `run`, `live` or `replay` wrote writes the same bytes:
 /// the script's text with the schedule part of the report behind it, given to `replay`, has status
-/// 0 and writes the report again, where these are not too many bytes, memory is found and neither
-/// the source nor the sink fails.
+/// 0 and writes the report again, where memory is found and neither the source nor the sink fails.
+/// These bytes are never too many to be read.
 pub fn replaying_its_schedule_writes_the_report_again()
     ensures { ReplayWritesTheSame }
 {
@@ -29,7 +29,8 @@ pub fn replaying_its_schedule_writes_the_report_again()
 }
 
 /// A report that `run`, `live` or `replay` wrote is called legal: the script's text with the report
-/// behind it, given to `check`, has status 0 and writes `legal`, under the same premises.
+/// behind it, given to `check`, has status 0 and writes `legal`, under the same premises. These
+/// bytes are never too many either.
 pub fn check_calls_the_report_legal()
     ensures { CheckCallsItLegal }
 {
