@@ -1,0 +1,11 @@
+pub mod Declared
+pub mod Lists
+pub mod Walking
+pub mod Stepping
+pub mod Agreeing
+pub mod Open
+pub mod Siting
+pub mod Expecting
+pub mod Ordering
+pub mod Arrays
+pub mod Loops
