@@ -1,0 +1,4 @@
+pub mod Audits
+pub mod Changes
+pub mod Queue
+pub mod Rule

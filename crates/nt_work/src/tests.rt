@@ -1,0 +1,88 @@
+//! Answers of a queue, and what is pending before a note.
+use crate::item::{Item, items};
+use crate::passes::WorkQueue;
+use crate::waiting::waiting_at;
+use nt_event::{Command, CpuNo, DpcNo, Event, Level, Reply, What};
+use nt_history::{Events, History};
+use std::alloc::{AllocError, Global};
+
+fn item(event: u64) -> Item {
+    Item {
+        event,
+        cpu: CpuNo(0),
+        word: 7,
+    }
+}
+
+/// Each answer is of the queue as it is at the call, and not of what the pass knew before.
+#[test]
+fn answers_are_fresh(rt: HostRuntime) -> Result<(), AllocError> {
+    let (queue, mut first) = WorkQueue::new(rt.alloc(), 1)?;
+    let mut second = queue.split(&mut first);
+    assert_eq!(rt; queue.put(&rt, &mut first, item(1)), Ok(()));
+    assert_eq!(rt; queue.put(&rt, &mut first, item(2)), Err(item(2)));
+    assert_eq!(rt; queue.take(&rt, &mut second), Some(item(1)));
+    assert_eq!(rt; queue.take(&rt, &mut second), None);
+    assert_eq!(rt; queue.put(&rt, &mut first, item(2)), Ok(()));
+    assert_eq!(rt; queue.take(&rt, &mut second), Some(item(2)));
+    queue.meet(&mut first, second);
+    Ok(())
+}
+
+/// A call by the routine that event 0 began.
+fn call(cpu: u8, command: Command, reply: Reply) -> Event {
+    Event {
+        cpu: CpuNo(cpu),
+        thread: None,
+        level: Level::PASSIVE,
+        what: What::Call {
+            frame: 0,
+            command,
+            reply,
+        },
+    }
+}
+
+fn note(cpu: u8, word: u32) -> Event {
+    call(cpu, Command::Note(word), Reply::Done)
+}
+
+fn history(alloc: Global, events: &[Event]) -> Result<History, AllocError> {
+    Ok(History::new(100, Events::of(alloc, events)?))
+}
+
+#[test]
+fn a_note_counts_what_is_pending_before_it(rt: HostRuntime) -> Result<(), AllocError> {
+    let queue = Command::Queue(DpcNo(3));
+    let events = [
+        note(1, 5),
+        call(0, queue, Reply::Yes),
+        note(0, 6),
+        call(0, queue, Reply::No),
+        call(0, Command::Unqueue(DpcNo(3)), Reply::Yes),
+        note(1, 7),
+    ];
+    let history = history(rt.alloc(), &events)?;
+    let items = items(rt.alloc(), &history)?;
+    let wanted = [
+        Item {
+            event: 0,
+            cpu: CpuNo(1),
+            word: 5,
+        },
+        Item {
+            event: 2,
+            cpu: CpuNo(0),
+            word: 6,
+        },
+        Item {
+            event: 5,
+            cpu: CpuNo(1),
+            word: 7,
+        },
+    ];
+    assert_eq!(rt; items.as_slice(), wanted.as_slice());
+    assert_eq!(rt; waiting_at(&history, 2), 1);
+    assert_eq!(rt; waiting_at(&history, 5), 0);
+    Ok(())
+}
