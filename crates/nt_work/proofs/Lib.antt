@@ -1,3 +1,4 @@
 pub mod Pending
+pub mod Reports
 pub mod Ruled
 pub mod Walks

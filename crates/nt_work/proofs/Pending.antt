@@ -12,7 +12,8 @@ use Rattle.nt_event.specs.declared.events.What.TheVariants.{Begin, Call, Fire, F
 use Rattle.nt_event.specs.declared.numbers.ApcNo.{ApcNo}
 use Rattle.nt_event.specs.declared.numbers.DpcNo.{DpcNo}
 use Rattle.nt_event.specs.Families.{AddApc, Family, ForApc, ForDpc, InsertDpc, RemoveDpc, TakeApc, by_apc_family, by_dpc_family, family}
-use Rattle.nt_event.specs.Fate.{ApcThing, BegunBy, DpcThing, Fate, FlushedBy, Inserted, RemovedBy, StillWaits, Thing, apc_inserted, apc_removed, fate_by, fate_of}
+use Rattle.nt_event.specs.Fate.{ApcThing, BegunBy, DpcThing, Fate, FlushedBy, Inserted, RemovedBy, StillWaits, Thing, apc_inserted, apc_removed, fate_by}
+use Rattle.nt_event.specs.Fate.{fate_of}
 use Rattle.nt_event.specs.Fate.{first_fate, inserted_by, inserted_thing, inserts, is_apc, still_waits, uses_up, waiting_inserts}
 use Rattle.nt_event.specs.Objects.{dpc_inserted, dpc_removed, is_dpc}
 use Rattle.nt_event.specs.Replies.{is_yes}
@@ -193,6 +194,7 @@ added Nothing n = refl
 pub pending_more : (e : Event) (past : List Event) → waiting_inserts (e ∷ past) ≡ after_change (change_in e.what) (length past) (waiting_inserts past)
 pending_more e past =
     filter-append (waits_in (e ∷ past)) (inserts past) (inserted_by (length past) (inserted_thing e.what))
-    ∙ ap (λ (xs : List Inserted). xs ++ filter (waits_in (e ∷ past)) (inserted_by (length past) (inserted_thing e.what))) (kept_on e past (inserts past) (inserts_below past))
+    ∙ ap (λ (xs : List Inserted). xs ++ filter (waits_in (e ∷ past)) (inserted_by (length past) (inserted_thing e.what)))
+    (kept_on e past (inserts past) (inserts_below past))
     ∙ ap (λ (xs : List Inserted). filter (kept_by (change_in e.what)) (waiting_inserts past) ++ xs)
     (new_waits e past (inserted_thing e.what) ∙ ap (inserted_by (length past)) (inserts_are e.what) ∙ added (change_in e.what) (length past))

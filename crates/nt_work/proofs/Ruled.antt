@@ -1,5 +1,6 @@
 -- Each step of a pass keeps the rule of the queue.
-use Rattle.std.proofs.Common.{◌≡◌, ◌≢◌, ◌⊎◌, ◌∙◌, ℕ, zero, suc, ◌+◌, ◌<◌, ◌≤◌, Bool, true, false, List, [], ◌∷◌, ◌++◌, length, map, set, refl, sym, ap, subst, inl, inr, ⊎_elim, arith}
+use Rattle.std.proofs.Common.{◌≡◌, ◌≢◌, ◌⊎◌, ◌∙◌, ℕ, zero, suc, ◌+◌, ◌<◌, ◌≤◌, Bool, true, false, List, [], ◌∷◌, ◌++◌, length, map, set, refl, sym, ap, subst}
+use Rattle.std.proofs.Common.{inl, inr, ⊎_elim, arith}
 use Rattle.std.proofs.Common.{append-nil, append_assoc, eq-eqb, ne_eqb, sum_by}
 use Rattle.std.specs.Prelude.{filter, ◌==◌, if◌then◌else◌}
 use Rattle.std.proofs.lemmas.List.{map-append}
@@ -15,7 +16,8 @@ use Rattle.nt_work.specs.declared.item.Item.{Item}
 use Rattle.nt_work.specs.declared.view.Hand.{Hand}
 use Rattle.nt_work.specs.declared.view.Move.{Move}
 use Rattle.nt_work.specs.declared.view.View.{View}
-use Rattle.nt_work.specs.Rule.{AreApart, EachHand, EachMove, HasNumber, IsHand, IsKept, IsOwned, IsSeated, Told, all_parts, fewer, fresh, hands, is_by, item_in, met_by}
+use Rattle.nt_work.specs.Rule.{AreApart, EachHand, EachMove, HasNumber, IsHand, IsKept, IsOwned, IsSeated, Told, all_parts, fewer, fresh, hands, is_by, item_in}
+use Rattle.nt_work.specs.Rule.{met_by}
 use Rattle.nt_work.specs.Rule.{nobody, of, whole, with_put, with_taken}
 
 -- ---- lists
@@ -116,10 +118,12 @@ of_none n [] h = refl
 of_none n (m ∷ ms) h = ap (λ (b : Bool). map item_in (if b then m ∷ filter (is_by n) ms else filter (is_by n) ms)) (ne_eqb m.by n h.0) ∙ of_none n ms h.1
 
 -- the others did what they did
-puts_on : (puts takes : List Move) (m : Move) (hs : List Hand) → EachHand (λ h. h.number ≢ m.by) hs → EachHand (IsHand puts takes) hs → EachHand (IsHand (puts ++ m ∷ []) takes) hs
+puts_on : (puts takes : List Move) (m : Move) (hs : List Hand) → EachHand (λ h. h.number ≢ m.by) hs → EachHand (IsHand puts takes) hs →
+    EachHand (IsHand (puts ++ m ∷ []) takes) hs
 puts_on puts takes m hs = both_hands (λ h n d. (of_other h.number puts m (λ e. n (sym e)) ∙ d.0, d.1)) hs
 
-takes_on : (puts takes : List Move) (m : Move) (hs : List Hand) → EachHand (λ h. h.number ≢ m.by) hs → EachHand (IsHand puts takes) hs → EachHand (IsHand puts (takes ++ m ∷ [])) hs
+takes_on : (puts takes : List Move) (m : Move) (hs : List Hand) → EachHand (λ h. h.number ≢ m.by) hs → EachHand (IsHand puts takes) hs →
+    EachHand (IsHand puts (takes ++ m ∷ [])) hs
 takes_on puts takes m hs = both_hands (λ h n d. (d.0, of_other h.number takes m (λ e. n (sym e)) ∙ d.1)) hs
 
 -- the hands of another place have other numbers
@@ -130,8 +134,9 @@ abbrev Seated : List Move → List Move → (ℕ → ℕ) → ℕ × View → Ty
 Seated puts takes seat y = IsSeated puts takes seat y.0 y.1
 
 -- who owned a move owns it still where one pass changed and kept its numbers
-owned_on : (seat : ℕ → ℕ) (views : List View) (k : ℕ) (v w : View) → get_elem? views k ≡ some v → 0 < w.parts → ((n : ℕ) → HasNumber n (hands v) → HasNumber n (hands w)) →
-    (m : Move) → IsOwned seat views m → IsOwned seat (set views k w) m
+owned_on : (seat : ℕ → ℕ) (views : List View) (k : ℕ) (v w : View) → get_elem? views k ≡ some v → 0 < w.parts →
+    ((n : ℕ) → HasNumber n (hands v) → HasNumber n (hands w)) → (m : Move) → IsOwned seat views m →
+    IsOwned seat (set views k w) m
 owned_on seat views k v w at live same m o =
     dite (ℕ_discrete (seat m.by) k)
     (λ e.
@@ -173,7 +178,10 @@ puts_kept n k v x some_part items views room h at =
     let mine' : IsSeated puts h.takes h.seat k w = record {
       seats = mine.seats;
       spares = mine.spares;
-      did = ((of_own m.by h.puts m refl ∙ ap (λ (l : List Item). l ++ x ∷ []) mine.did.0.0, mine.did.0.1), puts_on h.puts h.takes m v.met mine.apart.0 mine.did.1);
+      did = (
+        (of_own m.by h.puts m refl ∙ ap (λ (l : List Item). l ++ x ∷ []) mine.did.0.0, mine.did.0.1),
+        puts_on h.puts h.takes m v.met mine.apart.0 mine.did.1,
+      );
       apart = mine.apart;
     } in
     let new : IsOwned h.seat (set views k w) m = (
@@ -217,7 +225,10 @@ takes_kept k v some_part x items views h at =
     let mine' : IsSeated h.puts takes h.seat k w = record {
       seats = mine.seats;
       spares = mine.spares;
-      did = ((mine.did.0.0, of_own m.by h.takes m refl ∙ ap (λ (l : List Item). l ++ x ∷ []) mine.did.0.1), takes_on h.puts h.takes m v.met mine.apart.0 mine.did.1);
+      did = (
+        (mine.did.0.0, of_own m.by h.takes m refl ∙ ap (λ (l : List Item). l ++ x ∷ []) mine.did.0.1),
+        takes_on h.puts h.takes m v.met mine.apart.0 mine.did.1,
+      );
       apart = mine.apart;
     } in
     let new : IsOwned h.seat (set views k w) m = (
@@ -258,7 +269,9 @@ tells k v some_part items views h at =
     λ all m o.
     dite (ℕ_discrete (h.seat m.by) k)
     (λ e. subst (λ (u : View). HasNumber m.by (hands u)) (at_one views k o.0 v (subst (λ (j : ℕ). get_elem? views j ≡ some o.0) e o.1) at) o.3)
-    (λ n. let two = sum_two (λ (u : View). u.parts) views (h.seat m.by) k o.0 v o.1 at n in let p = h.parts in let live = o.2 in absurd (omega (arith, two, p, live, all))) in
+    (λ n.
+    let two = sum_two (λ (u : View). u.parts) views (h.seat m.by) k o.0 v o.1 at n in
+    let p = h.parts in let live = o.2 in absurd (omega (arith, two, p, live, all))) in
     record {
       puts = h.puts;
       takes = h.takes;
@@ -367,7 +380,8 @@ meets_kept k v from w some_part its_part items views h at two at' =
     let k_not : k ≢ from = λ e. two (sym e) in
     let left : EachHand (λ g. seat g.number ≡ k) (hands v) =
     each_hand (λ g (s : h.seat g.number ≡ k). joined_else h.seat from k g.number (λ e. k_not (sym s ∙ e)) ∙ s) (hands v) mine.seats in
-    let right : EachHand (λ g. seat g.number ≡ k) (hands w) = each_hand (λ g (s : h.seat g.number ≡ from). joined_from h.seat from k g.number s) (hands w) theirs.seats in
+    let right : EachHand (λ g. seat g.number ≡ k) (hands w) =
+    each_hand (λ g (s : h.seat g.number ≡ from). joined_from h.seat from k g.number s) (hands w) theirs.seats in
     let cross : EachHand (λ x. EachHand (λ y. y.number ≢ x.number) (hands w)) (hands v) =
     each_hand (λ x (s : h.seat x.number ≡ k). elsewhere h.seat x.number k from (hands w) s two theirs.seats) (hands v) mine.seats in
     let here : IsSeated h.puts h.takes seat k both = record {

@@ -1,5 +1,6 @@
 -- Walks over the events of a history, the oldest first.
-use Rattle.std.proofs.Common.{◌≡◌, ◌∙◌, ℕ, zero, suc, ◌+◌, ◌-◌, ◌<◌, ◌≤◌, Bool, true, false, List, [], ◌∷◌, ◌++◌, length, map, get_or, take, reverse, refl, sym, ap, arith}
+use Rattle.std.proofs.Common.{◌≡◌, ◌∙◌, ℕ, zero, suc, ◌+◌, ◌-◌, ◌<◌, ◌≤◌, Bool, true, false, List, [], ◌∷◌, ◌++◌, length, map, get_or, take, reverse, refl, sym}
+use Rattle.std.proofs.Common.{ap, arith}
 use Rattle.std.specs.Prelude.{filter, ◌&&◌, not, if◌then◌else◌}
 use Rattle.std.proofs.Math.Seq.{take-length}
 use Rattle.std.proofs.lemmas.List.{append-nil, get_or-map, length-append, length-reverse, length-take-le, reverse-append, take_more}
@@ -19,7 +20,8 @@ use Rattle.nt_work.proofs.Pending.{added, inserts_are, one_later, pending_more, 
 
 -- ---- the events up to one more
 
-pub past_more : (events : List Event) (k : ℕ) (e : Event) → k < length events → e ≡ get_or events k e → reverse (take (k + 1) events) ≡ e ∷ reverse (take k events)
+pub past_more : (events : List Event) (k : ℕ) (e : Event) → k < length events → e ≡ get_or events k e →
+    reverse (take (k + 1) events) ≡ e ∷ reverse (take k events)
 past_more events k e lt is =
     ap reverse (take_more events k e lt) ∙ reverse-append (take k events) (get_or events k e ∷ []) ∙ ap (λ (x : Event). x ∷ reverse (take k events)) (sym is)
 
@@ -85,7 +87,8 @@ fate_more events thing n k later lt =
 
 -- at first it waits
 pub fate_first : (events : List Event) (thing : Thing) (n : ℕ) → n < length events → still_waits (fate_of thing n (reverse (take (n + 1) events))) ≡ true
-fate_first events thing n lt = let many = past_length events (n + 1) (omega (arith, lt)) in waits_at_first thing n (reverse (take (n + 1) events)) (omega (arith, many))
+fate_first events thing n lt = let many = past_length events (n + 1) (omega (arith, lt)) in
+    waits_at_first thing n (reverse (take (n + 1) events)) (omega (arith, many))
 
 -- it is used up by this event, and stays so
 stays : (events : List Event) (thing : Thing) (n k d : ℕ) → n < k → k + d ≤ length events → still_waits (fate_of thing n (reverse (take k events))) ≡ false →
@@ -101,7 +104,8 @@ pub used_up : (events : List Event) (thing : Thing) (n k end : ℕ) → n < k �
 used_up events thing n k end later lt le used =
     let d : ℕ = end - (k + 1) in
     let whole : (k + 1) + d ≡ end = omega (arith, lt) in
-    let here = fate_more events thing n k later (omega (arith, lt, le)) ∙ ap (λ (b : Bool). still_waits (fate_of thing n (reverse (take k events))) && not b) used
+    let here =
+    fate_more events thing n k later (omega (arith, lt, le)) ∙ ap (λ (b : Bool). still_waits (fate_of thing n (reverse (take k events))) && not b) used
     ∙ no (still_waits (fate_of thing n (reverse (take k events)))) in
     ap (λ (m : ℕ). still_waits (fate_of thing n (reverse (take m events)))) (sym whole)
     ∙ stays events thing n (k + 1) d (omega (arith, later)) (omega (arith, whole, le)) here
@@ -116,14 +120,16 @@ waits_more events thing n k later lt so not_used =
     fate_more events thing n k later lt ∙ ap (λ (b : Bool). b && not (uses (change_at events k) thing n)) so ∙ ap (λ (b : Bool). not b) not_used
 
 -- the inserts of one event more
-inserts_more : (events : List Event) (k : ℕ) → k < length events → inserts (reverse (take (k + 1) events)) ≡ inserts (reverse (take k events)) ++ added_by (change_at events k) k
+inserts_more : (events : List Event) (k : ℕ) → k < length events →
+    inserts (reverse (take (k + 1) events)) ≡ inserts (reverse (take k events)) ++ added_by (change_at events k) k
 inserts_more events k lt =
     let e = element_at events k lt in
     let past : List Event = reverse (take k events) in
     ap inserts (past_more events k e.0 lt e.1)
     ∙ ap (λ (xs : List Inserted). inserts past ++ xs)
     (ap (inserted_by (length past)) (inserts_are e.0.what) ∙ added (change_in e.0.what) (length past)
-    ∙ ap (λ (c : Change). added_by c (length past)) (changed events k e.0 lt e.1) ∙ ap (added_by (change_at events k)) (past_length events k (omega (arith, lt))))
+    ∙ ap (λ (c : Change). added_by c (length past)) (changed events k e.0 lt e.1)
+    ∙ ap (added_by (change_at events k)) (past_length events k (omega (arith, lt))))
 
 -- how many of the first inserts still wait at the end of all these
 abbrev pub still : List Event → List Event → ℕ → ℕ
@@ -158,16 +164,19 @@ inserted_one xs x = mapped xs x ∙ ap (λ (ys : List Inserted). ys ++ inserted_
 pub nothing_done : (n : ℕ) (xs : List Inserted) → xs ≡ after_change Nothing n xs
 nothing_done n xs = sym (append-nil (filter (λ (x : Inserted). true) xs) ∙ kept_all xs)
 
-pick : (b : Bool) (x : Insert) (xs : List Insert) → map inserted_of (if b then x ∷ xs else xs) ≡ (if b then inserted_of x ∷ map inserted_of xs else map inserted_of xs)
+pick : (b : Bool) (x : Insert) (xs : List Insert) →
+    map inserted_of (if b then x ∷ xs else xs) ≡ (if b then inserted_of x ∷ map inserted_of xs else map inserted_of xs)
 pick true x xs = refl
 pick false x xs = refl
 
-filtered : (c : Change) (xs : List Insert) → map inserted_of (filter (stays_by c) xs) ≡ filter (λ (x : Inserted). not (uses c x.thing x.number)) (map inserted_of xs)
+filtered : (c : Change) (xs : List Insert) →
+    map inserted_of (filter (stays_by c) xs) ≡ filter (λ (x : Inserted). not (uses c x.thing x.number)) (map inserted_of xs)
 filtered c [] = refl
 filtered c (x ∷ xs) =
     pick (stays_by c x) x (filter (stays_by c) xs) ∙ ap (λ (ys : List Inserted). if stays_by c x then inserted_of x ∷ ys else ys) (filtered c xs)
 
-pub uses_only : (c : Change) (n : ℕ) (xs ys : List Insert) → added_by c n ≡ [] → ys ≡ filter (stays_by c) xs → map inserted_of ys ≡ after_change c n (map inserted_of xs)
+pub uses_only : (c : Change) (n : ℕ) (xs ys : List Insert) → added_by c n ≡ [] → ys ≡ filter (stays_by c) xs →
+    map inserted_of ys ≡ after_change c n (map inserted_of xs)
 uses_only c n xs ys none is =
     ap (map inserted_of) is ∙ filtered c xs ∙ sym (append-nil (filter (λ (x : Inserted). not (uses c x.thing x.number)) (map inserted_of xs)))
     ∙ ap (λ (zs : List Inserted). filter (λ (x : Inserted). not (uses c x.thing x.number)) (map inserted_of xs) ++ zs) (sym none)

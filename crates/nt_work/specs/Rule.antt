@@ -1,5 +1,7 @@
--- What a pass puts and takes, and the rule of the queue: there is one list of all puts, and a beginning of it is all takes.
-use Rattle.std.specs.Prelude.{Bool, List, [], filter, map, sum_by, ℕ, ◌+◌, ◌++◌, ◌-◌, ◌<◌, ◌==◌, ◌∷◌, ◌≡◌, ◌≢◌, ◌≤◌, ◌⊎◌}
+-- What a pass puts and takes, and the rule of the queue: there is one list of all puts, and a beginning of it is all
+-- takes.
+use Rattle.std.specs.Prelude.{Bool, List, [], filter, map, sum_by, ℕ, ◌+◌, ◌++◌, ◌-◌, ◌<◌, ◌==◌, ◌∷◌, ◌≡◌, ◌≢◌, ◌≤◌}
+use Rattle.std.specs.Prelude.{◌⊎◌}
 use mathlib.Core.Option.{some}
 use lib.ListN.{get_elem?}
 use Rattle.nt_work.specs.declared.item.Item.{Item}

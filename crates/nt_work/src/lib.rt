@@ -1,7 +1,8 @@
-//! The work items of a history, one for each `note`, how many inserts were pending when each was
-//! queued, and a bounded queue by which threads hand such items around.
+//! Work items on a pool: each `note` of a history queues an item, workers take the items from one
+//! bounded queue, and tell of each how many inserts were pending when it was queued.
 #![tactic(auto)]
 
+mod auditing;
 mod change;
 mod item;
 mod passes;
@@ -11,7 +12,9 @@ mod rule;
 mod tests;
 mod view;
 mod waiting;
+mod worker;
 
+pub use auditing::{WORKERS, audit};
 pub use item::{Audited, Item, items};
 pub use passes::{WorkPass, WorkQueue};
 pub use queue::ROOM;

@@ -64,8 +64,10 @@ impl WorkQueue {
     pub fn split(&self, pass: &mut WorkPass) -> WorkPass
         requires queue { IsOf self.now pass.old }
         requires parts { MaySplit (pass_view pass.old) }
-        ensures left { (IsOf self.now pass.new) × (pass_view pass.new ≡ fewer (pass_view pass.old)) }
-        ensures right { (IsOf self.now result) × (pass_view result ≡ fresh (pass_view pass.old)) }
+        ensures left { (IsOf self.now pass.new) ×
+            (pass_view pass.new ≡ fewer (pass_view pass.old)) }
+        ensures right { (IsOf self.now result) ×
+            (pass_view result ≡ fresh (pass_view pass.old)) }
     {
         let new = self.queue.another::<Parted>(&mut pass.pass);
         WorkPass { pass: new }

@@ -1,10 +1,14 @@
-//! Answers of a queue, and what is pending before a note.
-use crate::item::{Item, items};
+//! Answers of a queue, row by row, and two workers that meet.
+use crate::auditing::audit;
+use crate::item::{Audited, Item, items};
 use crate::passes::WorkQueue;
 use crate::waiting::waiting_at;
 use nt_event::{Command, CpuNo, DpcNo, Event, Level, Reply, What};
 use nt_history::{Events, History};
+use nt_outside::{Gate, OpenGate};
 use std::alloc::{AllocError, Global};
+use std::hint::spin_loop;
+use std::sync::atomic::{AtomicU64, Ordering};
 
 fn item(event: u64) -> Item {
     Item {
@@ -84,5 +88,71 @@ fn a_note_counts_what_is_pending_before_it(rt: HostRuntime) -> Result<(), AllocE
     assert_eq!(rt; items.as_slice(), wanted.as_slice());
     assert_eq!(rt; waiting_at(&history, 2), 1);
     assert_eq!(rt; waiting_at(&history, 5), 0);
+    for workers in 1..17 {
+        let audited = audit(&rt, rt.alloc(), &history, workers, 1, &OpenGate)?;
+        assert_eq!(rt; audited.len(), 3);
+        assert_eq!(rt;
+            audited[1],
+            Audited {
+                item: wanted[1],
+                waiting: 1
+            }
+        );
+        assert_eq!(rt;
+            audited[2],
+            Audited {
+                item: wanted[2],
+                waiting: 0
+            }
+        );
+    }
+    Ok(())
+}
+
+/// How often a flag is looked for at most.
+const LOOKS: u32 = 100_000_000;
+
+/// Workers 0 and 1 meet before their first items: each sets its flag, and looks for the other's.
+#[derive(Drop)]
+struct Meeting {
+    flags: [AtomicU64; 2],
+    missed: AtomicU64,
+}
+
+impl Meeting {
+    fn sees(&self, worker: usize) -> bool {
+        for _ in 0..LOOKS {
+            if worker < 2 && self.flags[worker].load(Ordering::SeqCst) == 1 {
+                return true;
+            }
+            spin_loop();
+        }
+        false
+    }
+}
+
+impl Gate for Meeting {
+    fn pass(&self, cpu: u8, own: u64) {
+        if own == 0 && cpu < 2 {
+            self.flags[cpu as usize].store(1, Ordering::SeqCst);
+            if !self.sees(1 - cpu as usize) {
+                self.missed.store(1, Ordering::SeqCst);
+            }
+        }
+    }
+}
+
+#[test]
+fn two_workers_do_items_at_the_same_time(rt: HostRuntime) -> Result<(), AllocError> {
+    let events = [note(0, 1), note(1, 2), note(0, 3), note(1, 4)];
+    let history = history(rt.alloc(), &events)?;
+    let gate = Meeting {
+        flags: [AtomicU64::new(0), AtomicU64::new(0)],
+        missed: AtomicU64::new(0),
+    };
+    let audited = audit(&rt, rt.alloc(), &history, 2, 64, &gate)?;
+    assert_eq!(rt; audited.len(), 4);
+    assert!(rt; gate.sees(0) && gate.sees(1));
+    assert_eq!(rt; gate.missed.load(Ordering::SeqCst), 0);
     Ok(())
 }

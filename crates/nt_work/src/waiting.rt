@@ -1,5 +1,6 @@
 //! How many inserts are pending before an event.
-ghost use Rattle.std.specs.Prelude.{◌≡◌, ◌+◌, ◌<◌, ◌≤◌, IfOk, OnOk, filter, length, map, reverse, take};
+ghost use Rattle.std.specs.Prelude.{◌≡◌, ◌+◌, ◌<◌, ◌≤◌, IfOk, OnOk, filter, length, map, reverse};
+ghost use Rattle.std.specs.Prelude.{take};
 ghost use Rattle.nt_event.specs.declared.limits.TheConstants.{EVENTS};
 ghost use Rattle.nt_event.specs.Fate.{fate_of, still_waits};
 ghost use Rattle.nt_work.specs.Audits.{lent, waiting, waitings, waits_in};

@@ -15,7 +15,9 @@ loop-place-preserved c =
     let lt : k < length events = omega (arith, c.loop-place-test.true, many, c.requires.number) in
     let more : ℕ = length (filter (waits_in all) (added_by (change_at events k) k)) in
     record {
-      counted = ap (λ (m : ℕ). c.loop-place.count + m) c.one_waits-count.ensures.waits ∙ ap (λ (m : ℕ). m + more) c.loop-place.invariant.counted ∙ still_more all events k lt;
+      counted =
+          ap (λ (m : ℕ). c.loop-place.count + m) c.one_waits-count.ensures.waits ∙ ap (λ (m : ℕ). m + more) c.loop-place.invariant.counted
+          ∙ still_more all events k lt;
       few = omega (arith, c.loop-place.invariant.few, c.one_waits-count.ensures.one);
       within = omega (arith, c.loop-place-test.true);
     }
