@@ -13,6 +13,8 @@ pub(crate) enum Task {
     Follow,
     /// Processors 0 and 1 meet at a gate, each with a lock that the other wants.
     Cross,
+    /// Processor 0 asks processor 1 for something when that one rests.
+    Wake,
     /// The processors run on threads.
     Live,
     /// The processors of the load of this seed run on threads.
@@ -55,6 +57,7 @@ fn task_of(word: &str) -> Option<Task> {
         "meet" => Some(Task::Meet),
         "follow" => Some(Task::Follow),
         "cross" => Some(Task::Cross),
+        "wake" => Some(Task::Wake),
         "live" => Some(Task::Live),
         "pieces" => Some(Task::Pieces),
         "first" => Some(Task::First),

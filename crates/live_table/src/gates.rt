@@ -1,6 +1,10 @@
 //! Gates that hold a thread up for another one.
-use crate::flags::{Flags, LOOKS};
+use crate::flags::{Flag, Flags, LOOKS};
 use nt_outside::Gate;
+
+/// How often processor 0 looks for a flag that nobody sets, so that processor 1 comes to rest
+/// meanwhile.
+const DELAY: u32 = 20_000_000;
 
 /// Processors 0 and 1 meet before their second events: each sets a flag there, and looks for the
 /// other's.
@@ -63,6 +67,28 @@ impl Gate for Following<'_> {
                 self.flags.second.set();
             }
             (1, 5) => self.flags.first.set(),
+            _ => {}
+        }
+    }
+}
+
+/// Processor 0 makes its second event when processor 1 rests: it looks there for the first flag,
+/// which processor 1 sets before its second event, and then for a flag that nobody sets. Processor
+/// 1 sets the second flag before its third event.
+#[derive(Drop)]
+pub(crate) struct Resting<'a> {
+    pub(crate) flags: &'a Flags,
+}
+
+impl Gate for Resting<'_> {
+    fn pass(&self, cpu: u8, own: u64) {
+        match (cpu, own) {
+            (0, 1) => {
+                self.flags.first.look_for(LOOKS);
+                Flag::new().look_for(DELAY);
+            }
+            (1, 1) => self.flags.first.set(),
+            (1, 2) => self.flags.second.set(),
             _ => {}
         }
     }

@@ -11,8 +11,8 @@
 //! first one works. `turn`: processor 0 takes up its first thread while a lane is held, by a gate
 //! that looks so many times for the end of that turn. `hold`: a second lane is held meanwhile.
 //! `next`: processor 0 makes its second event while a lane is held. `cross`: two processors wait at
-//! a gate for each other once each has a lock that the other wants. What is wanted stands in
-//! `stdout`.
+//! a gate for each other once each has a lock that the other wants. `wake`: one asks another for
+//! something when that one rests. What is wanted stands in `stdout`.
 #![tactic(auto)]
 
 mod beginning;

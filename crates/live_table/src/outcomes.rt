@@ -8,7 +8,7 @@ use crate::cases::{Case, Task};
 use crate::lanes::{held_beside, turned_beside};
 use crate::lock_scripts::script_of;
 use crate::pieces::{all_worked, first_worked};
-use crate::runs::{crossed, followed, lived, met};
+use crate::runs::{crossed, followed, lived, met, woken};
 use nt_event::Script;
 use nt_event::limits::EVENTS;
 use nt_load::load_script;
@@ -33,6 +33,7 @@ fn seen<R: Threads + Wait + Sync>(
         Task::Meet => met(rt, alloc, script, limit),
         Task::Follow => followed(rt, alloc, script, limit),
         Task::Cross => crossed(rt, alloc, script, limit),
+        Task::Wake => woken(rt, alloc, script, limit),
         Task::Live | Task::Load(_) => lived(rt, alloc, script, limit),
         Task::Pieces => all_worked(rt, alloc, script, limit),
         Task::First => first_worked(rt, alloc, script, limit),

@@ -4,7 +4,7 @@ ghost use Rattle.nt_event.specs.declared.limits.TheConstants.{EVENTS, TURNS};
 ghost use Rattle.nt_event.specs.Script.{fits};
 
 use crate::flags::Flags;
-use crate::gates::{Crossing, Following, Meeting};
+use crate::gates::{Crossing, Following, Meeting, Resting};
 use nt_check::{Verdict, check};
 use nt_core::{ScheduleRefusal, replay};
 use nt_event::{Command, CpuNo, Reply, Script, What};
@@ -78,6 +78,27 @@ pub(crate) fn followed<R: Threads + Wait + Sync>(
         "its second event is behind the other's fifth"
     } else {
         "its second event is before the other's fifth"
+    })
+}
+
+/// Processor 0 asks processor 1 for something when processor 1 rests, and has nothing more to do in
+/// that round.
+pub(crate) fn woken<R: Threads + Wait + Sync>(
+    rt: &R,
+    alloc: Global,
+    script: &Script,
+    limit: u32,
+) -> Result<&'static str, AllocError>
+    requires script { IsTrue (fits script.now) }
+    requires turns { (1 ≤ limit) × (limit ≤ TURNS) }
+    requires all { script.now.cpus * limit ≤ EVENTS }
+{
+    let flags = Flags::new();
+    let _history = live(rt, alloc, script, limit, &Resting { flags: &flags })?;
+    Ok(if flags.second.is_set() {
+        "it worked in a later round"
+    } else {
+        "it didn't work again"
     })
 }
 
