@@ -9,38 +9,39 @@ use Rattle.nt_event.specs.Numbers.{cpu}
 use Rattle.nt_event.specs.Robin.{is_settled}
 use Rattle.nt_event.specs.Step.{IsRun}
 use Rattle.nt_mark.specs.declared.view.View.{View}
-use Rattle.nt_live.specs.Gathered.{GoesByRobin, IsGathered}
+use Rattle.nt_lane.specs.declared.lanes.Piece.{Piece}
+use Rattle.nt_live.specs.Gathered.{GoesByRobin}
+use Rattle.nt_live.specs.LanePieces.{ArePieces, IsGatheredWith}
 use Rattle.nt_live.specs.Merging.{IsWorked}
 use Rattle.nt_live.specs.Teams.{IsTeam}
 use Rattle.nt_live.specs.Workers.{WorkerState}
 
-stays : (s : Script) (limit : ℕ) (h : List Event) → GoesByRobin s limit h h
+pub stays : (s : Script) (limit : ℕ) (h : List Event) → GoesByRobin s limit h h
 stays s limit [] = refl
 stays s limit (e ∷ past) = inl refl
 
-pub gathered_already : (s : Script) (limit : ℕ) (ws : List WorkerState) (h : List Event) → IsWorked s limit ws h → is_settled s limit h ≡ true →
-    IsGathered s limit ws h
-gathered_already s limit ws h w settled = record { run = w.run; settled = settled; worked = h; parts = w.parts; added = stays s limit h }
-
--- the same, of what is equal
+-- what is known of the script and limit, of those that are equal
 pub asked : (s t : Script) (limit n : ℕ) (es : List Event) → t ≡ s → n ≡ limit → IsRun s limit (reverse es) → IsRun t n (reverse es)
 asked s t limit n es a b r =
     subst (λ (z : Script). IsRun z n (reverse es)) (sym a) (subst (λ (k : ℕ). IsRun s k (reverse es)) (sym b) r)
 
-pub gathered_as : {A : Type 0} (events : A → List Event) (s t : Script) (limit n : ℕ) (ws : List WorkerState) (es : List Event) (r : Result A AllocError) →
-    t ≡ s → n ≡ limit → IsWorked s limit ws (reverse es) → IfOk r (λ x. IsRun t n (reverse (events x))) →
-    IfOk r (λ x. is_settled t n (reverse (events x)) ≡ true) → IfOk r (λ x. GoesByRobin t n (reverse es) (reverse (events x))) →
-    IfOk r (λ x. IsGathered s limit ws (reverse (events x)))
-gathered_as events s t limit n ws es (Err e) a b w run settled added = tt
-gathered_as events s t limit n ws es (Ok x) a b w run settled added =
-    let h = reverse (events x) in
-    record {
-      run = subst (λ (z : Script). IsRun z limit h) a (subst (λ (k : ℕ). IsRun t k h) b run);
-      settled = subst (λ (z : Script). is_settled z limit h ≡ true) a (subst (λ (k : ℕ). is_settled t k h ≡ true) b settled);
-      worked = reverse es;
-      parts = w.parts;
-      added = subst (λ (z : Script). GoesByRobin z limit (reverse es) h) a (subst (λ (k : ℕ). GoesByRobin t k (reverse es) h) b added);
-    }
+pub gathered_with : (s t : Script) (limit n : ℕ) (ws : List WorkerState) (es : List Event) (ps : List Piece) (h : List Event) → t ≡ s → n ≡ limit →
+    IsWorked s limit ws (reverse es) → ArePieces s (reverse es) ps → IsRun t n h → is_settled t n h ≡ true → GoesByRobin t n (reverse es) h →
+    IsGatheredWith s limit ws ps h
+gathered_with s t limit n ws es ps h a b w pieces run settled added = (
+  record {
+    run = subst (λ (z : Script). IsRun z limit h) a (subst (λ (k : ℕ). IsRun t k h) b run);
+    settled = subst (λ (z : Script). is_settled z limit h ≡ true) a (subst (λ (k : ℕ). is_settled t k h ≡ true) b settled);
+    worked = reverse es;
+    parts = w.parts;
+    added = subst (λ (z : Script). GoesByRobin z limit (reverse es) h) a (subst (λ (k : ℕ). GoesByRobin t k (reverse es) h) b added);
+  },
+  pieces,
+)
+
+pub asked_settled : (s t : Script) (limit n : ℕ) (h : List Event) → t ≡ s → n ≡ limit → is_settled s limit h ≡ true → is_settled t n h ≡ true
+asked_settled s t limit n h a b e =
+    subst (λ (z : Script). is_settled z n h ≡ true) (sym a) (subst (λ (k : ℕ). is_settled s k h ≡ true) (sym b) e)
 
 -- the processors of a team stand in their order
 pub team_order : (s : Script) (limit : ℕ) (met : List WorkerState) (cpus : List CpuState) (v : View) (list : List (ℕ × Event)) →

@@ -21,3 +21,7 @@ pub mod Looks
 pub mod Orders
 pub mod Gathers
 pub mod GoingOn
+pub mod Upward
+pub mod Touching
+pub mod Pieced
+pub mod PieceItems

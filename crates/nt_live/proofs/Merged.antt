@@ -1,10 +1,9 @@
 -- What closing the marks and the lanes says of one pass and one list of its events.
 use Rattle.std.proofs.Common.{ap, subst, sym, ◌∙◌}
 use Rattle.std.proofs.lemmas.List.{length-map}
-use Rattle.std.proofs.lemmas.List.Elements.{All-cons, All-head, All-nil}
-use Rattle.std.specs.declared.alloc.AllocError.{AllocError}
+use Rattle.std.proofs.lemmas.List.Elements.{All-cons, All-head, All-nil, All-tail}
 use Rattle.std.specs.List.Sorted.{IsStrictlyIncreasing}
-use Rattle.std.specs.Prelude.{All, Err, IfOk, List, Ok, Result, [], length, map, refl, ℕ, ◌++◌, ◌∷◌, ◌≡◌}
+use Rattle.std.specs.Prelude.{All, Contains, List, [], length, map, refl, ℕ, ◌++◌, ◌∷◌, ◌≡◌}
 use Rattle.atomic_table.specs.Seated.{TableId}
 use Rattle.nt_event.specs.declared.events.Event.{Event}
 use Rattle.nt_mark.specs.declared.seats.Keeper.{Keeper}
@@ -14,7 +13,7 @@ use Rattle.nt_event.specs.Lanes.{lane_count}
 use Rattle.nt_mark.specs.declared.view.View.{View}
 use Rattle.nt_mark.specs.declared.seats.Pass.{Pass}
 use Rattle.nt_mark.specs.Closing.{IsEachOnce, IsOfEntry, IsOfKeeper, WasAsked, passes, seat_views}
-use Rattle.nt_mark.specs.Names.{keeper_lane, keeper_lanes, keeper_notes, keeper_table, keeper_views, pass_view, pass_views}
+use Rattle.nt_mark.specs.Names.{keeper_lane, keeper_lanes, keeper_notes, keeper_table, keeper_view, keeper_views, pass_view, pass_views}
 use Rattle.nt_mark.specs.Views.{entry_numbers, note_numbers}
 use Rattle.nt_lane.specs.declared.lanes.Piece.{Piece}
 use Rattle.nt_lane.specs.Pieces.{ArePiecesOf}
@@ -53,7 +52,23 @@ abbrev pub Shows : Pass → List Keeper → ℕ → ℕ → List Pass → Type 0
 Shows p ks n lanes others = (n ≡ length (passes p others).entries) × (IsEachOnce n (entry_numbers (passes p others).entries)
     × (IsEachOnce lanes (keeper_lanes ks) × (All (λ k. IsStrictlyIncreasing (note_numbers (keeper_notes k))) ks
     × (All (λ k. All (IsOfEntry (passes p others).entries (keeper_lane k)) (keeper_notes k)) ks
-    × (All (λ (v : View). All (IsOfKeeper ks) v.prefixes) (seat_views p others ks) × All (WasAsked (passes p others)) (passes p others).looks)))))
+    × (All (λ (v : View). All (IsOfKeeper ks) v.prefixes) (seat_views p others ks) × (All (WasAsked (passes p others)) (passes p others).looks
+    × All (λ (v : View). All (Contains (passes p others).entries) v.known) (seat_views p others ks)))))))
+
+-- what holds of each keeper's view
+each_keeper : (P : View → Type 0) (ks : List Keeper) → All P (keeper_views ks) → All (λ k. P (keeper_view k)) ks
+each_keeper P [] a = All-nil (λ (k : Keeper). P (keeper_view k))
+each_keeper P (k ∷ ks) a =
+    All-cons (λ (x : Keeper). P (keeper_view x)) k ks (All-head P (keeper_view k) (keeper_views ks) a)
+    (each_keeper P ks (All-tail P (keeper_view k) (keeper_views ks) a))
+
+-- the lanes of lists are those of their keepers
+pub lanes_are : (table : TableId) (ps : List Piece) (ks : List Keeper) → ArePiecesOf table ps ks → map (λ (p : Piece). p.lane) ps ≡ keeper_lanes ks
+lanes_are table [] [] a = refl
+lanes_are table [] (k ∷ ks) a = absurd a
+lanes_are table (p ∷ ps) [] a = absurd a
+lanes_are table (p ∷ ps) (k ∷ ks) a =
+    ap (λ (n : ℕ). n ∷ map (λ (p : Piece). p.lane) ps) (sym a.0.lane) ∙ ap (λ (ns : List ℕ). keeper_lane k ∷ ns) (lanes_are table ps ks a.1)
 
 module _ (s : Script) (p : Pass) (list : List (ℕ × Event)) (ks : List Keeper) (n lanes : ℕ) (others : List Pass) (shows : Shows p ks n lanes others)
     (none : others ≡ []) (is : list ≡ pairs_of (pass_view p)) (all : lanes ≡ lane_count s) where
@@ -63,13 +78,11 @@ module _ (s : Script) (p : Pass) (list : List (ℕ × Event)) (ks : List Keeper)
   pub once_alone : IsEachOnce (length list) (numbers_of list)
   once_alone = let h = alone in once_in list (pass_view p) n is h.0 h.1.0
 
-  pub merged_alone : {A : Type 0} (items : A → List Event) (r : Result A AllocError) → IfOk r (λ es. ArePlaced list (items es)) →
-      IfOk r (λ es. IsMerged s (pass_view p) (items es))
-  merged_alone items (Err e) h = tt
-  merged_alone items (Ok es) h =
+  pub merged_alone : (table : TableId) (ps : List Piece) (es : List Event) → ArePiecesOf table ps ks → ArePlaced list es → IsMerged s (pass_view p) es ps
+  merged_alone table ps es lists h =
       let shut = alone in
       let z = each_once list (pass_view p) n is shut.0 shut.1.0 in
-      let long : n ≡ length (items es) = sym (h.count ∙ z.0) in
+      let long : n ≡ length es = sym (h.count ∙ z.0) in
       record {
         keepers = ks;
         closed = record {
@@ -78,7 +91,11 @@ module _ (s : Script) (p : Pass) (list : List (ℕ × Event)) (ks : List Keeper)
           rise = shut.1.1.1.0;
           notes = shut.1.1.1.1.0;
           prefixes = All-head (λ (v : View). All (IsOfKeeper ks) v.prefixes) (pass_view p) (pass_views [] ++ keeper_views ks) shut.1.1.1.1.1.0;
-          looks = shut.1.1.1.1.1.1;
+          looks = shut.1.1.1.1.1.1.0;
         };
-        placed = subst (λ (xs : List (ℕ × Event)). ArePlaced xs (items es)) is h;
+        placed = subst (λ (xs : List (ℕ × Event)). ArePlaced xs es) is h;
+        table = table;
+        lists = lists;
+        knows = each_keeper (λ (v : View). All (Contains (pass_view p).entries) v.known) ks
+            (All-tail (λ (v : View). All (Contains (pass_view p).entries) v.known) (pass_view p) (keeper_views ks) shut.1.1.1.1.1.1.1);
       }

@@ -2,7 +2,8 @@
 use Rattle.std.proofs.Common.{ap, arith, inl, inr, refl, subst, sym, ⊎_elim, ◌∙◌}
 use Rattle.std.proofs.lemmas.Bool.{ltb-false, ltb-true}
 use Rattle.std.proofs.lemmas.List.{append_assoc, length-append, map-append, reverse-append, reverse-reverse, take_all, take_more}
-use Rattle.std.specs.Prelude.{Bool, Contains, List, [], false, get_or, if◌then◌else◌, length, map, nat_lt, reverse, suc, take, true, zero, ℕ, ◌++◌, ◌+◌, ◌<◌}
+use Rattle.std.specs.Prelude.{All, Bool, Contains, List, [], false, get_or, if◌then◌else◌, length, map, nat_lt, reverse, suc, take, true, zero, ℕ, ◌++◌, ◌+◌}
+use Rattle.std.specs.Prelude.{◌<◌}
 use Rattle.std.specs.Prelude.{◌∷◌, ◌≡◌, ◌≤◌}
 use Rattle.nt_event.specs.declared.events.Event.{Event}
 use Rattle.nt_event.specs.declared.numbers.CpuNo.{CpuNo}
@@ -10,6 +11,7 @@ use Rattle.nt_event.specs.declared.scripts.Script.{Script}
 use Rattle.nt_event.specs.LaneStates.{Entry as PieceEntry, cpu_piece, entry_if}
 use Rattle.nt_event.specs.Numbers.{cpu, is_of}
 use Rattle.nt_event.specs.Jobs.{is_still}
+use Rattle.nt_event.specs.Lanes.{lane_count}
 use Rattle.nt_event.specs.Lists.{value_at}
 use Rattle.nt_event.specs.Own.{Own}
 use Rattle.nt_event.specs.Robin.{is_settled}
@@ -19,13 +21,18 @@ use Rattle.nt_compose.specs.Composition.{Placed, events}
 use Rattle.nt_compose.specs.Parts.{IsTail, Numbered, own_by, part}
 use Rattle.nt_cpu.specs.States.{CpuState}
 use Rattle.nt_mark.specs.declared.view.View.{View}
+use Rattle.nt_mark.specs.Closing.{IsEachOnce}
 use Rattle.nt_mark.specs.Views.{reach, request_word}
+use Rattle.nt_lane.specs.declared.lanes.Piece.{Piece}
 use Rattle.nt_live.proofs.Doneness.{all_done_settles}
 use Rattle.nt_live.proofs.InPart.{Here, in_part}
 use Rattle.nt_live.proofs.Joining.{looked_on}
+use Rattle.nt_live.proofs.Merged.{lanes_are}
+use Rattle.nt_live.proofs.PieceItems.{lists_are_pieces}
 use Rattle.nt_live.proofs.Wholes.{gathers}
 use Rattle.nt_live.specs.Gathered.{pair_of}
 use Rattle.nt_live.specs.Gathering.{AreTogether, IsDoneWith, IsWhole}
+use Rattle.nt_live.specs.LanePieces.{ArePieces, IsItsPiece}
 use Rattle.nt_live.specs.Merging.{ArePlaced, IsMerged, IsSettledBy, IsWorked}
 use Rattle.nt_live.specs.Teams.{AreOneEach, HasNoMore, HaveNoMore, IsTeam, HasLooked, pair_of_entry}
 use Rattle.nt_live.specs.Workers.{AreSteps, IsStep, WorkerState, all_drawn, drawn_of, pairs_of}
@@ -134,8 +141,9 @@ module _ (s : Script) (limit : ℕ) (v : View) (mine : CpuNo → List Numbered) 
 -- ---- the law
 
 module _ (s : Script) (limit : ℕ) (ws : List WorkerState) (cpus : List CpuState) (v w : View)
-    (list : List (ℕ × Event)) (es : List Event) (fit : fits s ≡ true) (one : AreOneEach s ws) (t : IsTeam s limit ws cpus v list) (l : HasLooked v w)
-    (m : IsMerged s w es) where
+    (list : List (ℕ × Event)) (es : List Event) (ps : List Piece) (fit : fits s ≡ true) (one : AreOneEach s ws) (t : IsTeam s limit ws cpus v list)
+    (l : HasLooked v w)
+    (m : IsMerged s w es ps) where
   together : AreTogether s limit w t.mine
   together = looked_on s limit v w t.mine l t.together
 
@@ -157,6 +165,13 @@ module _ (s : Script) (limit : ℕ) (ws : List WorkerState) (cpus : List CpuStat
         ap (λ (p : CpuNo). map pair_of (reverse (cpu_piece p (reverse es)))) x.at
         ∙ (ap (λ (xs : List Event). map pair_of (reverse (cpu_piece (cpu k) xs))) (sym same)
         ∙ (part_is s (cpu k) history (t.mine (cpu k)) (whole.parts (cpu k)) ∙ sym x.pairs));
+  }
+
+  pub pieces : ArePieces s (reverse es) ps
+  pieces = record {
+    once = subst (λ (ns : List ℕ). IsEachOnce (lane_count s) ns) (sym (lanes_are m.table ps m.keepers m.lists)) m.closed.lanes;
+    each = subst (λ (xs : List Event). All (IsItsPiece s xs) ps) same
+        (lists_are_pieces s limit w t.mine m.keepers (length es) history together m.closed whole m.table ps m.lists m.knows);
   }
 
   no_more : HaveNoMore limit v cpus → (p : CpuNo) → p.0 < s.cpus → IsDoneWith s limit v p (t.mine p)

@@ -4,6 +4,7 @@ pub mod Turning
 pub mod Prepared
 pub mod Gathering
 pub mod Gathered
+pub mod LanePieces
 pub mod Teams
 pub mod Merging
 pub mod Rounds

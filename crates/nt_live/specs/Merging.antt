@@ -1,5 +1,6 @@
 -- What closing shows of one list of all events.
 use Rattle.std.specs.Prelude.{All, Contains, List, get_or, length, map, true, ℕ, ◌≡◌}
+use Rattle.atomic_table.specs.Seated.{TableId}
 use Rattle.nt_event.specs.declared.events.Event.{Event}
 use Rattle.nt_event.specs.declared.scripts.Script.{Script}
 use Rattle.nt_event.specs.Robin.{is_settled}
@@ -7,8 +8,11 @@ use Rattle.nt_event.specs.Step.{IsRun}
 use Rattle.nt_cpu.specs.States.{CpuState}
 use Rattle.nt_mark.specs.declared.seats.Keeper.{Keeper}
 use Rattle.nt_mark.specs.declared.view.View.{View}
+use Rattle.nt_lane.specs.declared.lanes.Piece.{Piece}
+use Rattle.nt_lane.specs.Pieces.{ArePiecesOf}
 use Rattle.nt_live.specs.Gathered.{IsItsPart}
 use Rattle.nt_live.specs.Gathering.{IsClosed}
+use Rattle.nt_live.specs.LanePieces.{KnowsOnly}
 use Rattle.nt_live.specs.Teams.{HaveNoMore}
 use Rattle.nt_live.specs.Workers.{WorkerState, pairs_of}
 
@@ -20,11 +24,15 @@ pub record ArePlaced (list : List (ℕ × Event)) (es : List Event) : Type 0 whe
   pub count : length es ≡ length list
   pub each : (x : ℕ × Event) → Contains list x → (d : Event) → get_or es x.0 d ≡ x.1
 
--- the marks and lanes of the pass are closed, and these are its events in the order of their numbers
-pub record IsMerged (s : Script) (v : View) (es : List Event) : Type 0 where
+-- the marks and lanes of the pass are closed; these are its events in the order of their numbers, and the lists of the
+-- lanes, whose keepers know no entries but those of the pass
+pub record IsMerged (s : Script) (v : View) (es : List Event) (ps : List Piece) : Type 0 where
   pub keepers : List Keeper
   pub closed : IsClosed s v keepers (length es)
   pub placed : ArePlaced (pairs_of v) es
+  pub table : TableId
+  pub lists : ArePiecesOf table ps keepers
+  pub knows : All (KnowsOnly v) keepers
 
 -- a run, of which each worker's list is exactly its processor's part
 pub record IsWorked (s : Script) (limit : ℕ) (ws : List WorkerState) (h : List Event) : Type 0 where

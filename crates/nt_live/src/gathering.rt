@@ -1,7 +1,12 @@
 //! What the workers made together.
-ghost use Rattle.std.specs.Prelude.{◌≡◌, ◌<◌, IfOk, length, reverse};
+ghost use Rattle.std.specs.Prelude.{◌≡◌, ◌<◌, ◌≤◌, ◌*◌, IfOk, IsTrue, length, reverse, true};
+ghost use Rattle.nt_event.specs.declared.limits.TheConstants.{EVENTS, TURNS};
 ghost use Rattle.nt_event.specs.Lanes as spec;
-ghost use Rattle.nt_live.specs.Gathered.{IsGathered};
+ghost use Rattle.nt_event.specs.Robin.{is_settled};
+ghost use Rattle.nt_event.specs.Script.{fits};
+ghost use Rattle.nt_event.specs.Step.{IsRun};
+ghost use Rattle.nt_live.specs.Gathered.{GoesByRobin, IsGathered};
+ghost use Rattle.nt_live.specs.LanePieces.{IsGatheredWith};
 ghost use Rattle.nt_live.specs.Merging.{ArePlaced, IsMerged, numbers_of};
 ghost use Rattle.nt_live.specs.Teams.{AreOneEach};
 ghost use Rattle.nt_live.specs.Workers.{pairs_of};
@@ -13,9 +18,9 @@ use crate::finishing::finished;
 use crate::team::Team;
 use crate::worker::Worker;
 use nt_cpu::no_event;
-use nt_event::{Event, Plan};
+use nt_event::{Event, Plan, Script};
 use nt_history::{Events, History};
-use nt_lane::Lanes;
+use nt_lane::{Lanes, Piece, Pieces};
 use nt_mark::{Marks, Pass, Shared};
 use std::alloc::{AllocError, Global};
 
@@ -41,6 +46,13 @@ fn by_number(alloc: Global, list: &[(u64, Event)]) -> Result<Vec<Event>, AllocEr
     Ok(events)
 }
 
+/// The events of a pass in the order of their numbers, and the list of each lane.
+#[derive(Drop)]
+struct Closed {
+    events: Vec<Event>,
+    pieces: Vec<Piece>,
+}
+
 /// Closes the lanes and the marks, whose parts the pass holds all, and puts its events in the order
 /// of their numbers.
 fn merged<'s, N: Plan + Shared>(
@@ -49,36 +61,79 @@ fn merged<'s, N: Plan + Shared>(
     lanes: Lanes<'s, N>,
     pass: Pass,
     list: &[(u64, Event)],
-) -> Result<Vec<Event>, AllocError>
+) -> Result<Closed, AllocError>
     requires table { (table_of marks ≡ N.table) × (pass_table pass ≡ N.table) }
     requires lanes { lanes_of marks ≡ spec.lane_count N.script }
     requires parts { (pass_view pass).parts ≡ parts_of marks }
     requires list { list.now ≡ pairs_of (pass_view pass) }
-    ensures { IfOk result (λ es. IsMerged N.script (pass_view pass) es.items) }
+    ensures { IfOk result
+        (λ m. IsMerged N.script (pass_view pass) m.events.items m.pieces.items) }
 {
-    let pieces = lanes.close();
-    let _drawn = marks.close(pass, Vec::new(alloc), pieces.keepers);
-    by_number(alloc, list)
+    let Pieces { lists, keepers } = lanes.close();
+    let _drawn = marks.close(pass, Vec::new(alloc), keepers);
+    let events = by_number(alloc, list)?;
+    Ok(Closed {
+        events,
+        pieces: lists,
+    })
+}
+
+/// The history of these events, which are a run, where that is settled; else the turns that are
+/// left by the robin rule follow.
+fn ended(
+    alloc: Global,
+    script: &Script,
+    turns: u32,
+    settled: bool,
+    events: Vec<Event>,
+) -> Result<History, AllocError>
+    requires script { IsTrue (fits script.now) }
+    requires turns { (1 ≤ turns) × (turns ≤ TURNS) }
+    requires all { script.now.cpus * turns ≤ EVENTS }
+    requires run { IsRun script.now turns (reverse events.items) }
+    requires settled { settled ≡ true →
+        is_settled script.now turns (reverse events.items) ≡ true }
+    ensures turns { IfOk result (λ h. h.turns ≡ turns) }
+    ensures run { IfOk result (λ h. IsRun script.now turns (reverse h.events)) }
+    ensures settled { IfOk result (λ h. is_settled script.now turns (reverse h.events) ≡ true) }
+    ensures added { IfOk result
+        (λ h. GoesByRobin script.now turns (reverse events.items) (reverse h.events)) }
+{
+    if settled {
+        Ok(History::new(turns, Events::of(alloc, events.as_slice())?))
+    } else {
+        finished(alloc, script, turns, events)
+    }
+}
+
+/// What [`gather_all`] makes of all workers: their history, and the list of each lane, with the
+/// events that the workers made on it, each with its number, the oldest first.
+#[derive(Drop)]
+pub struct Gathered {
+    pub history: History,
+    pub pieces: Vec<Piece>,
 }
 
 /// Puts the events of all workers of a board together, each at its number, and makes the turns that
 /// are left by the robin rule: a settled run of N's script, where each processor makes at most N's
-/// turns.
+/// turns. With it come the lists of the lanes.
 ///
 /// The workers are those that were made with the board, in order, so that their passes together
 /// hold all parts of N's table. What they made is a run, of which each worker's list is its
-/// processor's part. Where some processor has more to do, the turns of that run are taken again in
-/// memory, and the robin rule goes on from there. AllocError comes where no memory was found; the
-/// board and the workers are gone then too.
-pub fn gather<'s, N: Plan + Shared>(
+/// processor's part and each lane's list the lane's piece. Where some processor has more to do, the
+/// turns of that run are taken again in memory, and the robin rule goes on from there: those turns
+/// are on no lane's list. AllocError comes where no memory was found; the board and the workers are
+/// gone then too.
+pub fn gather_all<'s, N: Plan + Shared>(
     alloc: Global,
     board: Board<'s, N>,
     workers: Vec<Worker<'s, N>>,
-) -> Result<History, AllocError>
+) -> Result<Gathered, AllocError>
     requires all { AreOneEach N.script workers.items }
-    ensures turns { IfOk result (λ h. h.turns ≡ N.turns) }
+    ensures turns { IfOk result (λ g. g.history.turns ≡ N.turns) }
     ensures gathered { IfOk result
-        (λ h. IsGathered N.script N.turns workers.entry.items (reverse h.events)) }
+        (λ g. IsGatheredWith N.script N.turns workers.entry.items g.pieces.items
+        (reverse g.history.events)) }
 {
     let Board {
         marks,
@@ -93,10 +148,22 @@ pub fn gather<'s, N: Plan + Shared>(
         pass,
         list,
     } = team;
-    let events = merged::<N>(alloc, marks, lanes, pass, list.as_slice())?;
-    if settled {
-        Ok(History::new(turns, Events::of(alloc, events.as_slice())?))
-    } else {
-        finished(alloc, script, turns, events)
-    }
+    let Closed { events, pieces } = merged::<N>(alloc, marks, lanes, pass, list.as_slice())?;
+    let history = ended(alloc, script, turns, settled, events)?;
+    Ok(Gathered { history, pieces })
+}
+
+/// The history of [`gather_all`] alone.
+pub fn gather<'s, N: Plan + Shared>(
+    alloc: Global,
+    board: Board<'s, N>,
+    workers: Vec<Worker<'s, N>>,
+) -> Result<History, AllocError>
+    requires all { AreOneEach N.script workers.items }
+    ensures turns { IfOk result (λ h. h.turns ≡ N.turns) }
+    ensures gathered { IfOk result
+        (λ h. IsGathered N.script N.turns workers.entry.items (reverse h.events)) }
+{
+    let Gathered { history, pieces: _ } = gather_all(alloc, board, workers)?;
+    Ok(history)
 }

@@ -11,7 +11,7 @@ mod team;
 mod worker;
 
 pub use board::{Board, Opened, prepare};
-pub use gathering::gather;
+pub use gathering::{Gathered, gather, gather_all};
 pub use laws::{
     all_done_settles, an_advance_keeps_the_work, closed_events_are_one_run, looks_keep_the_work,
 };

@@ -12,7 +12,3 @@ pub mod Waits
 pub mod Again
 pub mod AgainRun
 pub mod Steps
-pub mod Upward
-pub mod Touching
-pub mod Pieced
-pub mod PieceItems

@@ -7,4 +7,3 @@ pub mod Flags
 pub mod Waits
 pub mod Again
 pub mod Steps
-pub mod LanePieces

@@ -11,7 +11,7 @@ ghost use Rattle.nt_reader_laws.specs.Apcs.{ApcEventsAreCalls};
 ghost use Rattle.nt_reader_laws.specs.Commands.{RefusedCommandsTakeTheirPlace};
 ghost use Rattle.nt_reader_laws.specs.Flags.{FlagsAreSetAndKept};
 ghost use Rattle.nt_reader_laws.specs.Frames.{FramesAreCalls};
-ghost use Rattle.nt_reader_laws.specs.LanePieces.{LanesHavePieces, ListsArePieces};
+ghost use Rattle.nt_live.specs.LanePieces.{LanesHavePieces, ListsArePieces};
 ghost use Rattle.nt_reader_laws.specs.Replays.{ReplaysAreRefused};
 ghost use Rattle.nt_reader_laws.specs.Steps.{AdvancesAreSteps, LaneStepsAreSteps};
 ghost use Rattle.nt_reader_laws.specs.Steps.{LocalStepsAreSteps};

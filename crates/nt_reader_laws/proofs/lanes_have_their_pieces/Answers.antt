@@ -1,5 +1,5 @@
-use Rattle.nt_reader_laws.proofs.PieceItems.{lists_are_pieces}
-use Rattle.nt_reader_laws.proofs.Pieced.{lanes_have_pieces}
+use Rattle.nt_live.proofs.PieceItems.{lists_are_pieces}
+use Rattle.nt_live.proofs.Pieced.{lanes_have_pieces}
 use Rattle.nt_reader_laws.proofs.lanes_have_their_pieces.Goals as goal
 
 pub returns-clause-numbers : goal.returns-clause-numbers

@@ -8,22 +8,22 @@ close-drawn-requires-clause-table g c =
     let t = c.requires.table in (
       t.1 ∙ sym t.0,
       (λ k d l. absurd (let e = ap length c.new.ensures.items in omega (arith, l, e))),
-      keepers_at g.N.Shared.table (table_of c.args.marks) c.close-pieces.result.lists.items c.close-pieces.result.keepers.items (sym t.0)
-          c.close-pieces.ensures.each,
+      keepers_at g.N.Shared.table (table_of c.args.marks) c.close-lists.result.lists.items c.close-lists.result.keepers.items (sym t.0)
+          c.close-lists.ensures.each,
     )
 
 pub by_number-requires : goal.by_number-requires
 by_number-requires g c =
     let e = c.close-drawn.ensures in
     record {
-      once = once_alone g.N.Plan.script c.args.pass c.args.list.now c.close-pieces.result.keepers.items c.close-drawn.result.count (lanes_of c.args.marks)
-          c.new.result.items (e.count, (e.each_once, (e.lanes, (e.rise, (e.notes, (e.prefixes, e.looks)))))) c.new.ensures.items c.requires.list
+      once = once_alone g.N.Plan.script c.args.pass c.args.list.now c.close-lists.result.keepers.items c.close-drawn.result.count (lanes_of c.args.marks)
+          c.new.result.items (e.count, (e.each_once, (e.lanes, (e.rise, (e.notes, (e.prefixes, (e.looks, e.known))))))) c.new.ensures.items c.requires.list
           c.requires.lanes;
     }
 
 pub returns : goal.returns
 returns g c =
     let e = c.close-drawn.ensures in
-    merged_alone g.N.Plan.script c.args.pass c.args.list.now c.close-pieces.result.keepers.items c.close-drawn.result.count (lanes_of c.args.marks)
-    c.new.result.items (e.count, (e.each_once, (e.lanes, (e.rise, (e.notes, (e.prefixes, e.looks)))))) c.new.ensures.items c.requires.list c.requires.lanes
-    (λ es. es.items) c.by_number.result c.by_number.ensures
+    merged_alone g.N.Plan.script c.args.pass c.args.list.now c.close-lists.result.keepers.items c.close-drawn.result.count (lanes_of c.args.marks)
+    c.new.result.items (e.count, (e.each_once, (e.lanes, (e.rise, (e.notes, (e.prefixes, (e.looks, e.known))))))) c.new.ensures.items c.requires.list
+    c.requires.lanes g.N.Shared.table c.close-lists.result.lists.items c.in_ok-events.events.items c.close-lists.ensures.each c.in_ok-events.ensures

@@ -26,8 +26,8 @@ use Rattle.nt_lane.specs.Pieces.{ArePiecesOf, IsPieceOf}
 use Rattle.nt_lane.specs.Records.{IsKnownWith, item_numbers}
 use Rattle.nt_live.specs.Gathered.{pair_of}
 use Rattle.nt_live.specs.Gathering.{AreTogether, IsClosed, IsWhole}
-use Rattle.nt_reader_laws.specs.LanePieces.{IsItsPiece, KnowsOnly, ListsArePieces}
-use Rattle.nt_reader_laws.proofs.Pieced.{its_entry, its_numbers}
+use Rattle.nt_live.specs.LanePieces.{IsItsPiece, KnowsOnly, ListsArePieces}
+use Rattle.nt_live.proofs.Pieced.{its_entry, its_numbers}
 
 -- ---- lists of numbers with events
 

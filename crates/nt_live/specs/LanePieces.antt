@@ -5,19 +5,21 @@ use Rattle.nt_event.specs.declared.events.Event.{Event}
 use Rattle.nt_event.specs.declared.jobs.Lane.{Lane}
 use Rattle.nt_event.specs.declared.numbers.CpuNo.{CpuNo}
 use Rattle.nt_event.specs.declared.scripts.Script.{Script}
-use Rattle.nt_event.specs.Lanes.{lane_number}
+use Rattle.nt_event.specs.Lanes.{lane_count, lane_number}
 use Rattle.nt_event.specs.LaneStates.{lane_piece}
 use Rattle.nt_states.specs.LaneLists.{LaneFits}
 use Rattle.nt_compose.specs.Composition.{Placed, events}
 use Rattle.nt_compose.specs.Parts.{Numbered}
 use Rattle.nt_mark.specs.declared.seats.Keeper.{Keeper}
 use Rattle.nt_mark.specs.declared.view.View.{View}
+use Rattle.nt_mark.specs.Closing.{IsEachOnce}
 use Rattle.nt_mark.specs.Names.{keeper_lane, keeper_notes, keeper_view}
 use Rattle.nt_mark.specs.Views.{note_numbers}
 use Rattle.nt_lane.specs.declared.lanes.Piece.{Piece}
 use Rattle.nt_lane.specs.Pieces.{ArePiecesOf}
-use Rattle.nt_live.specs.Gathered.{pair_of}
+use Rattle.nt_live.specs.Gathered.{IsGathered, pair_of}
 use Rattle.nt_live.specs.Gathering.{AreTogether, IsClosed, IsWhole}
+use Rattle.nt_live.specs.Workers.{WorkerState}
 
 -- in the history that closed passes and lanes show, the list of each lane's keeper is the piece of its lane, the oldest
 -- event first
@@ -43,3 +45,15 @@ abbrev pub ListsArePieces : Type 0
 ListsArePieces = (s : Script) (limit : ℕ) (v : View) (mine : CpuNo → List Numbered) (ks : List Keeper) (n : ℕ)
     (h : List Placed) → AreTogether s limit v mine → IsClosed s v ks n → IsWhole s limit mine n h → (table : TableId)
     (ps : List Piece) → ArePiecesOf table ps ks → All (KnowsOnly v) ks → All (IsItsPiece s (events h)) ps
+
+-- ---- what is gathered
+
+-- there is one list for each lane of the script, and each is the piece of its lane in this history
+pub record ArePieces (s : Script) (past : List Event) (ps : List Piece) : Type 0 where
+  pub once : IsEachOnce (lane_count s) (map (λ (p : Piece). p.lane) ps)
+  pub each : All (IsItsPiece s past) ps
+
+-- a settled run of what the workers did and turns of the robin rule behind it, with the lists of the lanes in what the
+-- workers did
+abbrev pub IsGatheredWith : Script → ℕ → List WorkerState → List Piece → List Event → Type 0
+IsGatheredWith s limit ws ps h = (g : IsGathered s limit ws h) × ArePieces s g.worked ps

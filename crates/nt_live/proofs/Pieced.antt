@@ -28,14 +28,14 @@ use Rattle.nt_compose.specs.Composition.{Placed, events, state_then}
 use Rattle.nt_compose.specs.Parts.{IsTail, Numbered, own_by, part}
 use Rattle.nt_lane.specs.Seats.{AreFoundOn, IsFoundOn}
 use Rattle.nt_live.specs.Gathering.{AreTogether, IsClosed, IsWhole}
-use Rattle.nt_reader_laws.specs.LanePieces.{LanesHavePieces}
+use Rattle.nt_live.specs.LanePieces.{LanesHavePieces}
 use Rattle.nt_live.specs.Workers.{drawn_of}
 use Rattle.nt_live.proofs.InPart.{Here, in_part}
 use Rattle.nt_live.proofs.LaneKept.{among, one_lane}
 use Rattle.nt_live.proofs.Once.{number_below, the_one}
 use Rattle.nt_live.proofs.Picked.{entry_in, step_in}
-use Rattle.nt_reader_laws.proofs.Touching.{lanes_met, stepped_before}
-use Rattle.nt_reader_laws.proofs.Upward.{Ups, below, below_all, below_zero, none_between, ups, with_it}
+use Rattle.nt_live.proofs.Touching.{lanes_met, stepped_before}
+use Rattle.nt_live.proofs.Upward.{Ups, below, below_all, below_zero, none_between, ups, with_it}
 
 -- the number of a note is one of the list's
 noted_number : (ns : List Note) (m : Note) → Contains ns m → Contains (note_numbers ns) m.number
