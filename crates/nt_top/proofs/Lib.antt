@@ -1,0 +1,12 @@
+mod Again
+mod Asked
+mod Causes
+mod Done
+mod Found
+mod Headlines
+mod Loads
+mod Looks
+mod PlainTasks
+mod Splits
+mod Tasked
+mod Written

@@ -1,0 +1,13 @@
+use Rattle.nt_top.proofs.Asked.{answer_is_no_fault, answered}
+use Rattle.nt_top.proofs.Causes.{causes}
+use Rattle.nt_top.proofs.top.ntrun.Goals as goal
+
+pub write-requires : goal.write-requires
+write-requires g c = answer_is_no_fault _ _ _ _ c.answer_on_threads-answer.result c.ask-asked.ensures.asks c.answer_on_threads-answer.ensures
+
+pub returns-clause-answered : goal.returns-clause-answered
+returns-clause-answered g c =
+    answered _ _ _ _ _ _ c.answer_on_threads-answer.result _ c.ask-asked.ensures.asks c.answer_on_threads-answer.ensures c.write.ensures
+
+pub returns-clause-causes : goal.returns-clause-causes
+returns-clause-causes g c = causes c.words_have_one_form.ensures _ _ _ _ _ _ (returns-clause-answered g c)

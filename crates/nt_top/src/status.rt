@@ -1,0 +1,45 @@
+//! The exit statuses.
+ghost use Rattle.std.specs.Prelude.{◌≡◌};
+ghost use Rattle.nt_top.specs.Status.{status_number};
+
+/// How the program ends.
+#[derive(Clone, Copy, PartialEq, Eq, Debug)]
+pub enum Status {
+    /// The output was written.
+    Ok,
+    /// The words are no form of the command line.
+    Usage,
+    /// The script has no reading.
+    Script,
+    /// The schedule's turns make no settled run.
+    Schedule,
+    /// The source failed.
+    Read,
+    /// The sink failed.
+    Write,
+    /// There was not enough memory.
+    Memory,
+    /// The input has more than 33,554,432 bytes.
+    TooLong,
+    /// The history is no settled run.
+    Illegal,
+}
+
+impl Status {
+    /// The number that the process ends with, 0 to 8.
+    pub fn number(self) -> u8
+        ensures { result ≡ status_number self }
+    {
+        match self {
+            Status::Ok => 0,
+            Status::Usage => 1,
+            Status::Script => 2,
+            Status::Schedule => 3,
+            Status::Read => 4,
+            Status::Write => 5,
+            Status::Memory => 6,
+            Status::TooLong => 7,
+            Status::Illegal => 8,
+        }
+    }
+}

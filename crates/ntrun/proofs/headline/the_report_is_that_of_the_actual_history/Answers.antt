@@ -1,5 +1,0 @@
-use Rattle.ntrun.proofs.Headlines.{headline}
-use Rattle.ntrun.proofs.headline.the_report_is_that_of_the_actual_history.Goals as goal
-
-pub returns : goal.returns
-returns c = headline
