@@ -99,8 +99,8 @@ pub fn starved<K: Sink>(sink: &mut K) -> Status
     write(&no_memory(), sink)
 }
 
-/// The program for words of which none is `live`: `words` are those behind the program's name. It
-/// waits for nobody and returns.
+/// The program for words of which none is `live` or `audit`: `words` are those behind the program's
+/// name. It waits for nobody and returns.
 ///
 /// The forms are `run`, `replay`, `check`, `load` and `migrate`. In this order: `Usage` exactly
 /// where the words are no form, and then nothing is read. `load` reads nothing either: its status
@@ -141,9 +141,9 @@ pub fn plain<S: Source, K: Sink>(
 
 /// The program: `words` are those behind its name, and what it writes goes to the sink.
 ///
-/// The forms are those of [`plain`], which is called where none of the words is `live`, and `live`:
-/// its status comes as that of `run`, and with `Ok` the report of a settled run of the script is
-/// written, which the script's processors made on threads.
+/// The forms are those of [`plain`], which is called where none of the words is `live` or `audit`,
+/// and `live`: its status comes as that of `run`, and with `Ok` the report of a settled run of the
+/// script is written, which the script's processors made on threads.
 ///
 /// It may wait where [`is_live`](crate::is_live) holds of the words: each worker passes the gate
 /// before each of its turns, and takes the locks of the lanes that the turn touches. Then what is

@@ -4,17 +4,14 @@ use Rattle.std.proofs.lemmas.Bool.{or_cases, or_left, or_right}
 use Rattle.std.specs.List.{list_any}
 use Rattle.std.specs.Option.{ok_or}
 use Rattle.std.specs.Prelude.{◌++◌, ◌||◌, ◌⊎◌}
-use Rattle.std.specs.Str.{bytes_eq}
 use Rattle.clap.specs.Simple.{matches_of}
 use Rattle.clap.specs.Faults.{fault_of}
 use Rattle.nt_words.specs.declared.form.Form.{Form}
 use Rattle.nt_words.specs.declared.reading.WordsRefusal.TheVariants.{NoForm}
 use Rattle.nt_words.specs.declared.form.Form.TheVariants as form
 use Rattle.nt_words.specs.declared.reading.WordsRefusal.{WordsRefusal}
-use Rattle.nt_words.specs.Commands.{command_word}
-use Rattle.nt_words.specs.declared.form.Command.TheVariants as command
 use Rattle.nt_words.specs.Pieces.{Piece, apart, command_words, dashed, dashed_equals, joined, word, words_of}
-use Rattle.nt_words.specs.Forms.{HasOptions, HasTurns, IsForm, IsTurns, IsWithin, names_live}
+use Rattle.nt_words.specs.Forms.{HasOptions, HasTurns, IsForm, IsTurns, IsWithin, is_live_word, names_live}
 use Rattle.nt_words.specs.Tidy.{is_tidy}
 use Rattle.nt_words.specs.Chosen.{chosen}
 use Rattle.nt_words.specs.Parser.{ntrun_app}
@@ -33,8 +30,8 @@ turns_within n ps (inl given) = (given.1, given.2)
 turns_within n ps (inr missing) = rw (missing.1) (omega arith, omega arith)
 
 within : (f : Form) (ps : List Piece) → HasOptions f ps → IsWithin f
-within (form.Run turns) ps has = turns_within turns ps has.0
-within (form.Live turns) ps has = turns_within turns ps has.0
+within (form.Run turns) ps has = turns_within turns ps has.turns
+within (form.Live turns) ps has = turns_within turns ps has.turns
 within form.Replay ps has = tt
 within form.Check ps has = tt
 within form.Migrate ps has = tt
@@ -53,9 +50,6 @@ no_form_answered words None is = λ f form.
     cc
 
 -- ---- the form `live`
-
-abbrev is_live_word : List ℕ → Bool
-is_live_word w = bytes_eq w (command_word command.Live)
 
 or_more : (a b c : Bool) → (b ≡ true → c ≡ true) → (a || b) ≡ true → (a || c) ≡ true
 or_more a b c more h = go (or_cases a b h)

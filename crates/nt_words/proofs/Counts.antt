@@ -1,10 +1,10 @@
 -- What the words of pieces count, and what the pieces themselves count.
-use Rattle.std.proofs.Common.{◌≡◌, ◌∙◌, ◌≤◌, ℕ, cond, true, false, suc, refl, sym, ap, subst, arith, List, [], ◌∷◌, ◌++◌, length, length-append}
+use Rattle.std.proofs.Common.{◌≡◌, ◌∙◌, ◌≤◌, ℕ, Bool, cond, true, false, suc, refl, sym, ap, subst, arith, List, [], ◌∷◌, ◌++◌, length, length-append}
 use Rattle.std.specs.List.{list_all}
 use Rattle.std.proofs.lemmas.List.Sums.{sum_by-cons}
 use Rattle.nt_words.specs.declared.option_name.OptionName.{OptionName}
-use Rattle.nt_words.specs.declared.option_name.OptionName.TheVariants.{Turns, Seed}
-use Rattle.nt_words.specs.Pieces.{Piece, word, apart, joined, command_words, dashed, dashed_equals, value_for, values_of, words_of}
+use Rattle.nt_words.specs.declared.option_name.OptionName.TheVariants.{Goal, Seed, Turns, Workers}
+use Rattle.nt_words.specs.Pieces.{Piece, word, apart, joined, command_words, dashed, dashed_equals, same_option, value_for, values_of, words_of}
 use Rattle.nt_words.specs.Tidy.{has_hyphen, is_known, is_option_word, times_given}
 use Rattle.nt_words.proofs.Words.{no_option}
 
@@ -31,10 +31,11 @@ command_words-append (joined name value ∷ ps) qs = command_words-append ps qs
 
 value_for-append : (name given : OptionName) (value : List ℕ) (vs ws : List (List ℕ))
     → value_for name given value (vs ++ ws) ≡ value_for name given value vs ++ ws
-value_for-append Turns Turns value vs ws = refl
-value_for-append Turns Seed value vs ws = refl
-value_for-append Seed Turns value vs ws = refl
-value_for-append Seed Seed value vs ws = refl
+value_for-append name given value vs ws = go (same_option name given) refl
+  where
+    go : (b : Bool) → same_option name given ≡ b → value_for name given value (vs ++ ws) ≡ value_for name given value vs ++ ws
+    go true is = rw is refl
+    go false is = rw is refl
 
 pub values_of-append : (name : OptionName) (ps qs : List Piece) → values_of name (ps ++ qs) ≡ values_of name ps ++ values_of name qs
 values_of-append name [] qs = refl
@@ -60,6 +61,8 @@ no_command_before all ps qs w e once =
 has_value : (name : OptionName) (value : List ℕ) (vs : List (List ℕ)) → 1 ≤ length (value_for name name value vs)
 has_value Turns value vs = omega arith
 has_value Seed value vs = omega arith
+has_value Goal value vs = omega arith
+has_value Workers value vs = omega arith
 
 pub no_value_before : (name : OptionName) (all ps qs : List Piece) (p : Piece) (value : List ℕ) → all ≡ ps ++ p ∷ qs
     → values_of name (p ∷ qs) ≡ value_for name name value (values_of name qs) → AreOnce all → values_of name ps ≡ []
@@ -75,25 +78,70 @@ words_known [] plain = refl
 words_known (word w ∷ ps) plain = rw plain.0 (words_known ps plain.1)
 words_known (apart Turns value ∷ ps) plain = rw plain.0 (words_known ps plain.1)
 words_known (apart Seed value ∷ ps) plain = rw plain.0 (words_known ps plain.1)
+words_known (apart Goal value ∷ ps) plain = rw plain.0 (words_known ps plain.1)
+words_known (apart Workers value ∷ ps) plain = rw plain.0 (words_known ps plain.1)
 words_known (joined Turns value ∷ ps) plain = words_known ps plain.1
 words_known (joined Seed value ∷ ps) plain = words_known ps plain.1
+words_known (joined Goal value ∷ ps) plain = words_known ps plain.1
+words_known (joined Workers value ∷ ps) plain = words_known ps plain.1
+
+-- a word that is an option is this one where it has its name
+flag_counts : (name given : OptionName) → is_option_word name (dashed given) ≡ same_option name given
+flag_counts Turns Turns = refl
+flag_counts Turns Seed = refl
+flag_counts Turns Goal = refl
+flag_counts Turns Workers = refl
+flag_counts Seed Turns = refl
+flag_counts Seed Seed = refl
+flag_counts Seed Goal = refl
+flag_counts Seed Workers = refl
+flag_counts Goal Turns = refl
+flag_counts Goal Seed = refl
+flag_counts Goal Goal = refl
+flag_counts Goal Workers = refl
+flag_counts Workers Turns = refl
+flag_counts Workers Seed = refl
+flag_counts Workers Goal = refl
+flag_counts Workers Workers = refl
+
+joined_counts : (name given : OptionName) (value : List ℕ) → is_option_word name (dashed_equals given ++ value) ≡ same_option name given
+joined_counts Turns Turns value = refl
+joined_counts Turns Seed value = refl
+joined_counts Turns Goal value = refl
+joined_counts Turns Workers value = refl
+joined_counts Seed Turns value = refl
+joined_counts Seed Seed value = refl
+joined_counts Seed Goal value = refl
+joined_counts Seed Workers value = refl
+joined_counts Goal Turns value = refl
+joined_counts Goal Seed value = refl
+joined_counts Goal Goal value = refl
+joined_counts Goal Workers value = refl
+joined_counts Workers Turns value = refl
+joined_counts Workers Seed value = refl
+joined_counts Workers Goal value = refl
+joined_counts Workers Workers value = refl
 
 once_more : (name : OptionName) (w : List ℕ) (ws : List (List ℕ)) → is_option_word name w ≡ true → times_given name (w ∷ ws) ≡ suc (times_given name ws)
 once_more name w ws is = sum_by-cons (λ x. cond (is_option_word name x) 1 0) w ws ∙ rw is (omega arith)
 
-none_more : (name : OptionName) (w : List ℕ) (ws : List (List ℕ)) → has_hyphen w ≡ false → times_given name (w ∷ ws) ≡ times_given name ws
-none_more name w ws h = rw (no_option name w h) refl
+none_more : (name : OptionName) (w : List ℕ) (ws : List (List ℕ)) → is_option_word name w ≡ false → times_given name (w ∷ ws) ≡ times_given name ws
+none_more name w ws other = rw other refl
+
+-- one more option is counted where it is this one
+counted : (name given : OptionName) (w value : List ℕ) (ws vs : List (List ℕ)) → is_option_word name w ≡ same_option name given
+    → times_given name ws ≡ length vs → times_given name (w ∷ ws) ≡ length (value_for name given value vs)
+counted name given w value ws vs counts same = go (same_option name given) refl
+  where
+    go : (b : Bool) → same_option name given ≡ b → times_given name (w ∷ ws) ≡ length (value_for name given value vs)
+    go true is = once_more name w ws (counts ∙ is) ∙ rw is (ap suc same)
+    go false is = none_more name w ws (counts ∙ is) ∙ rw is same
 
 pub times_are : (name : OptionName) (ps : List Piece) → ArePlain ps → times_given name (words_of ps) ≡ length (values_of name ps)
 times_are name [] plain = refl
-times_are name (word w ∷ ps) plain = rw (no_option name w plain.0) (times_are name ps plain.1)
-times_are Turns (apart Turns value ∷ ps) plain =
-    once_more Turns (dashed Turns) (value ∷ words_of ps) refl ∙ ap suc (none_more Turns value (words_of ps) plain.0 ∙ times_are Turns ps plain.1)
-times_are Turns (apart Seed value ∷ ps) plain = rw (no_option Turns value plain.0) (times_are Turns ps plain.1)
-times_are Seed (apart Turns value ∷ ps) plain = rw (no_option Seed value plain.0) (times_are Seed ps plain.1)
-times_are Seed (apart Seed value ∷ ps) plain =
-    once_more Seed (dashed Seed) (value ∷ words_of ps) refl ∙ ap suc (none_more Seed value (words_of ps) plain.0 ∙ times_are Seed ps plain.1)
-times_are Turns (joined Turns value ∷ ps) plain = once_more Turns (dashed_equals Turns ++ value) (words_of ps) refl ∙ ap suc (times_are Turns ps plain.1)
-times_are Turns (joined Seed value ∷ ps) plain = times_are Turns ps plain.1
-times_are Seed (joined Turns value ∷ ps) plain = times_are Seed ps plain.1
-times_are Seed (joined Seed value ∷ ps) plain = once_more Seed (dashed_equals Seed ++ value) (words_of ps) refl ∙ ap suc (times_are Seed ps plain.1)
+times_are name (word w ∷ ps) plain = none_more name w (words_of ps) (no_option name w plain.0) ∙ times_are name ps plain.1
+times_are name (apart given value ∷ ps) plain =
+    counted name given (dashed given) value (value ∷ words_of ps) (values_of name ps) (flag_counts name given)
+    (none_more name value (words_of ps) (no_option name value plain.0) ∙ times_are name ps plain.1)
+times_are name (joined given value ∷ ps) plain =
+    counted name given (dashed_equals given ++ value) value (words_of ps) (values_of name ps) (joined_counts name given value) (times_are name ps plain.1)

@@ -47,7 +47,7 @@ no_defaults (a ∷ args) rows none =
     (ap (λ (rs : List Row). fold with_default rs args) (no_default rows a none.0) ∙ more.0, no_default_fault rows a args none.0 ∙ more.1)
 
 none_here : HasNone rules
-none_here = (refl, (refl, (refl, tt)))
+none_here = (refl, (refl, (refl, (refl, (refl, tt)))))
 
 -- ---- what a parse comes to
 

@@ -7,16 +7,16 @@ use Rattle.clap.specs.Simple.{App, Shape, built, on_top, new_app, with_rule, fil
 use Rattle.clap.specs.Faults.{is_simple_and_free, settle_fault, turn_fault, use_fault}
 use Rattle.clap.specs.declared.error.kind.ErrorKind.TheVariants.{UnknownArgument}
 use Rattle.nt_words.specs.declared.option_name.OptionName.{OptionName}
-use Rattle.nt_words.specs.declared.option_name.OptionName.TheVariants.{Turns, Seed}
+use Rattle.nt_words.specs.declared.option_name.OptionName.TheVariants.{Goal, Seed, Turns, Workers}
 use Rattle.nt_words.specs.Pieces.{dashed, dashed_equals, option_text}
 use Rattle.nt_words.specs.Tidy.{has_hyphen}
-use Rattle.nt_words.specs.Parser.{command_rule, turns_rule, seed_rule, ntrun_app}
+use Rattle.nt_words.specs.Parser.{command_rule, ntrun_app, option_rule}
 use Rattle.nt_words.proofs.Words.{not_dashes, not_long, not_short}
 
 abbrev pub app : App
-app = with_rule (with_rule (with_rule
+app = with_rule (with_rule (with_rule (with_rule (with_rule
     (on_top (λ s. record s { no_binary_name = true; disable_help_flag = true }) (new_app (codes "ntrun")))
-    command_rule) turns_rule) seed_rule
+    command_rule) (option_rule Turns)) (option_rule Seed)) (option_rule Goal)) (option_rule Workers)
 
 pub app_is : ntrun_app ≡ app
 unfolding ntrun_app
@@ -44,8 +44,7 @@ walk_at rows pending waiting position = record { held = held_at rows pending; wa
 
 -- the rule of an option as it is built
 abbrev pub rule_for : OptionName → Rule
-rule_for Turns = filled turns_rule
-rule_for Seed = filled seed_rule
+rule_for name = filled (option_rule name)
 
 -- a fault or none behind it
 pub or_none : (k : Kinds) → or_else k [] ≡ k
@@ -82,11 +81,15 @@ pub value_step : (name : OptionName) (rows : List Row) (position : ℕ) (w : Tex
 unfolding walked
 value_step Turns rows position w h = rw (not_dashes w h, not_long w h, not_short w h) refl
 value_step Seed rows position w h = rw (not_dashes w h, not_long w h, not_short w h) refl
+value_step Goal rows position w h = rw (not_dashes w h, not_long w h, not_short w h) refl
+value_step Workers rows position w h = rw (not_dashes w h, not_long w h, not_short w h) refl
 
 pub value_fault : (name : OptionName) (rows : List Row) (position : ℕ) (w : Text) → has_hyphen w ≡ false
     → turn_fault shape [] (walk_at rows (Some (option_text name, [])) (option (option_text name)) position) w ≡ []
 value_fault Turns rows position w h = rw (not_dashes w h, not_long w h, not_short w h) refl
 value_fault Seed rows position w h = rw (not_dashes w h, not_long w h, not_short w h) refl
+value_fault Goal rows position w h = rw (not_dashes w h, not_long w h, not_short w h) refl
+value_fault Workers rows position w h = rw (not_dashes w h, not_long w h, not_short w h) refl
 
 -- ---- an option
 
@@ -100,6 +103,12 @@ flag_step Turns rows pending positional position = refl
 flag_step Seed rows pending idle position = refl
 flag_step Seed rows pending (option id) position = refl
 flag_step Seed rows pending positional position = refl
+flag_step Goal rows pending idle position = refl
+flag_step Goal rows pending (option id) position = refl
+flag_step Goal rows pending positional position = refl
+flag_step Workers rows pending idle position = refl
+flag_step Workers rows pending (option id) position = refl
+flag_step Workers rows pending positional position = refl
 
 pub flag_fault : (name : OptionName) (rows : List Row) (pending : Option (Text × List Text)) (waiting : Waiting) (position : ℕ)
     → turn_fault shape [] (walk_at rows pending waiting position) (dashed name) ≡ settle_fault rules false (held_at rows pending)
@@ -109,6 +118,12 @@ flag_fault Turns rows pending positional position = or_none _
 flag_fault Seed rows pending idle position = or_none _
 flag_fault Seed rows pending (option id) position = or_none _
 flag_fault Seed rows pending positional position = or_none _
+flag_fault Goal rows pending idle position = or_none _
+flag_fault Goal rows pending (option id) position = or_none _
+flag_fault Goal rows pending positional position = or_none _
+flag_fault Workers rows pending idle position = or_none _
+flag_fault Workers rows pending (option id) position = or_none _
+flag_fault Workers rows pending positional position = or_none _
 
 pub given_step : (name : OptionName) (value : Text) (rows : List Row) (pending : Option (Text × List Text)) (waiting : Waiting) (position : ℕ)
     → walked rules [] (walk_at rows pending waiting position) (dashed_equals name ++ value)
@@ -120,6 +135,12 @@ given_step Turns value rows pending positional position = refl
 given_step Seed value rows pending idle position = refl
 given_step Seed value rows pending (option id) position = refl
 given_step Seed value rows pending positional position = refl
+given_step Goal value rows pending idle position = refl
+given_step Goal value rows pending (option id) position = refl
+given_step Goal value rows pending positional position = refl
+given_step Workers value rows pending idle position = refl
+given_step Workers value rows pending (option id) position = refl
+given_step Workers value rows pending positional position = refl
 
 pub given_fault : (name : OptionName) (value : Text) (rows : List Row) (pending : Option (Text × List Text)) (waiting : Waiting) (position : ℕ)
     → turn_fault shape [] (walk_at rows pending waiting position) (dashed_equals name ++ value)
@@ -130,3 +151,9 @@ given_fault Turns value rows pending positional position = or_none _
 given_fault Seed value rows pending idle position = or_none _
 given_fault Seed value rows pending (option id) position = or_none _
 given_fault Seed value rows pending positional position = or_none _
+given_fault Goal value rows pending idle position = or_none _
+given_fault Goal value rows pending (option id) position = or_none _
+given_fault Goal value rows pending positional position = or_none _
+given_fault Workers value rows pending idle position = or_none _
+given_fault Workers value rows pending (option id) position = or_none _
+given_fault Workers value rows pending positional position = or_none _

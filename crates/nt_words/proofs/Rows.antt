@@ -1,5 +1,5 @@
 -- The parser's rows of pieces.
-use Rattle.std.proofs.Common.{◌≡◌, ◌∙◌, ℕ, Bool, true, false, refl, ap, List, [], ◌∷◌, ◌++◌, Some, None, append-nil, codes}
+use Rattle.std.proofs.Common.{◌≡◌, ◌∙◌, ◌||◌, ℕ, Bool, true, false, refl, ap, List, [], ◌∷◌, ◌++◌, Some, None, append-nil, codes}
 use Rattle.std.specs.Prelude.{slice_get}
 use Rattle.std.specs.Str.{bytes_eq}
 use Rattle.clap.specs.Walk.{Row, at_row, first_of, has_row, more_values, with_values, without}
@@ -7,8 +7,8 @@ use Rattle.clap.specs.Takes.{is_given}
 use Rattle.clap.specs.declared.builder.value_parser.Reading.TheVariants as reading
 use Rattle.clap.specs.declared.parser.matches.ValueSource.TheVariants.{CommandLine}
 use Rattle.nt_words.specs.declared.option_name.OptionName.{OptionName}
-use Rattle.nt_words.specs.declared.option_name.OptionName.TheVariants.{Turns, Seed}
-use Rattle.nt_words.specs.Pieces.{Piece, word, apart, joined, command_words, option_text, values_of}
+use Rattle.nt_words.specs.declared.option_name.OptionName.TheVariants.{Goal, Seed, Turns, Workers}
+use Rattle.nt_words.specs.Pieces.{Piece, word, apart, joined, command_words, option_text, value_for, values_of}
 
 -- one use of an id, with one value
 abbrev pub row : List ℕ → List ℕ → Row
@@ -50,50 +50,67 @@ put_new id value rows none =
     ap (with_values id reading.AsWritten CommandLine (value ∷ [])) (at_missing id (λ r. []) [] rows none ∙ append-nil rows)
     ∙ at_missing id (more_values CommandLine (value ∷ [])) (row id value ∷ []) rows none
 
+-- no option has the id of the command
+command_apart : (name : OptionName) → bytes_eq (option_text name) (codes "command") ≡ false
+command_apart Turns = refl
+command_apart Seed = refl
+command_apart Goal = refl
+command_apart Workers = refl
+
+-- and the command has that of no option
+option_apart : (name : OptionName) → bytes_eq (codes "command") (option_text name) ≡ false
+option_apart Turns = refl
+option_apart Seed = refl
+option_apart Goal = refl
+option_apart Workers = refl
+
 pub no_command_row : (ps : List Piece) → command_words ps ≡ [] → has_row (codes "command") (rows_for ps) ≡ false
 no_command_row [] none = refl
 no_command_row (word w ∷ ps) none = cc
-no_command_row (apart Turns value ∷ ps) none = no_command_row ps none
-no_command_row (apart Seed value ∷ ps) none = no_command_row ps none
-no_command_row (joined Turns value ∷ ps) none = no_command_row ps none
-no_command_row (joined Seed value ∷ ps) none = no_command_row ps none
+no_command_row (apart name value ∷ ps) none = rw (command_apart name) (no_command_row ps none)
+no_command_row (joined name value ∷ ps) none = rw (command_apart name) (no_command_row ps none)
+
+-- one more option, of another name
+no_more : (name given : OptionName) (value : List ℕ) (ps : List Piece) → value_for name given value (values_of name ps) ≡ []
+    → (values_of name ps ≡ [] → has_row (option_text name) (rows_for ps) ≡ false)
+    → (bytes_eq (option_text given) (option_text name) || has_row (option_text name) (rows_for ps)) ≡ false
+no_more name given value ps none more = go (bytes_eq (option_text given) (option_text name)) refl
+  where
+    go : (b : Bool) → bytes_eq (option_text given) (option_text name) ≡ b
+        → (bytes_eq (option_text given) (option_text name) || has_row (option_text name) (rows_for ps)) ≡ false
+    go true is =
+        let bad : value ∷ values_of name ps ≡ [] = rw is at none in
+        cc
+    go false is = rw is (more (rw is at none))
 
 pub no_option_row : (name : OptionName) (ps : List Piece) → values_of name ps ≡ [] → has_row (option_text name) (rows_for ps) ≡ false
-no_option_row Turns [] none = refl
-no_option_row Turns (word w ∷ ps) none = no_option_row Turns ps none
-no_option_row Turns (apart Turns value ∷ ps) none = cc
-no_option_row Turns (apart Seed value ∷ ps) none = no_option_row Turns ps none
-no_option_row Turns (joined Turns value ∷ ps) none = cc
-no_option_row Turns (joined Seed value ∷ ps) none = no_option_row Turns ps none
-no_option_row Seed [] none = refl
-no_option_row Seed (word w ∷ ps) none = no_option_row Seed ps none
-no_option_row Seed (apart Turns value ∷ ps) none = no_option_row Seed ps none
-no_option_row Seed (apart Seed value ∷ ps) none = cc
-no_option_row Seed (joined Turns value ∷ ps) none = no_option_row Seed ps none
-no_option_row Seed (joined Seed value ∷ ps) none = cc
+no_option_row name [] none = refl
+no_option_row name (word w ∷ ps) none = rw (option_apart name) (no_option_row name ps none)
+no_option_row name (apart given value ∷ ps) none = no_more name given value ps none (no_option_row name ps)
+no_option_row name (joined given value ∷ ps) none = no_more name given value ps none (no_option_row name ps)
 
 -- the first values, as they are looked up
 pub first_command : (ps : List Piece) → first_of (codes "command") (rows_for ps) ≡ slice_get (command_words ps) 0
 first_command [] = refl
 first_command (word w ∷ ps) = refl
-first_command (apart Turns value ∷ ps) = first_command ps
-first_command (apart Seed value ∷ ps) = first_command ps
-first_command (joined Turns value ∷ ps) = first_command ps
-first_command (joined Seed value ∷ ps) = first_command ps
+first_command (apart name value ∷ ps) = rw (command_apart name) (first_command ps)
+first_command (joined name value ∷ ps) = rw (command_apart name) (first_command ps)
+
+-- the first value behind one more option
+first_more : (name given : OptionName) (value : List ℕ) (ps : List Piece) → first_of (option_text name) (rows_for ps) ≡ slice_get (values_of name ps) 0
+    → first_of (option_text name) (row (option_text given) value ∷ rows_for ps) ≡ slice_get (value_for name given value (values_of name ps)) 0
+first_more name given value ps more = go (bytes_eq (option_text given) (option_text name)) refl
+  where
+    go : (b : Bool) → bytes_eq (option_text given) (option_text name) ≡ b
+        → first_of (option_text name) (row (option_text given) value ∷ rows_for ps) ≡ slice_get (value_for name given value (values_of name ps)) 0
+    go true is = rw is refl
+    go false is = rw is more
 
 pub first_value_of : (name : OptionName) (ps : List Piece) → first_of (option_text name) (rows_for ps) ≡ slice_get (values_of name ps) 0
-first_value_of Turns [] = refl
-first_value_of Turns (word w ∷ ps) = first_value_of Turns ps
-first_value_of Turns (apart Turns value ∷ ps) = refl
-first_value_of Turns (apart Seed value ∷ ps) = first_value_of Turns ps
-first_value_of Turns (joined Turns value ∷ ps) = refl
-first_value_of Turns (joined Seed value ∷ ps) = first_value_of Turns ps
-first_value_of Seed [] = refl
-first_value_of Seed (word w ∷ ps) = first_value_of Seed ps
-first_value_of Seed (apart Turns value ∷ ps) = first_value_of Seed ps
-first_value_of Seed (apart Seed value ∷ ps) = refl
-first_value_of Seed (joined Turns value ∷ ps) = first_value_of Seed ps
-first_value_of Seed (joined Seed value ∷ ps) = refl
+first_value_of name [] = refl
+first_value_of name (word w ∷ ps) = rw (option_apart name) (first_value_of name ps)
+first_value_of name (apart given value ∷ ps) = first_more name given value ps (first_value_of name ps)
+first_value_of name (joined given value ∷ ps) = first_more name given value ps (first_value_of name ps)
 
 -- the list has an element
 abbrev pub has_some : List (List ℕ) → Bool
@@ -104,7 +121,5 @@ has_some (x ∷ xs) = true
 pub command_given : (ps : List Piece) → is_given (codes "command") (rows_for ps) ≡ has_some (command_words ps)
 command_given [] = refl
 command_given (word w ∷ ps) = refl
-command_given (apart Turns value ∷ ps) = command_given ps
-command_given (apart Seed value ∷ ps) = command_given ps
-command_given (joined Turns value ∷ ps) = command_given ps
-command_given (joined Seed value ∷ ps) = command_given ps
+command_given (apart name value ∷ ps) = rw (command_apart name) (command_given ps)
+command_given (joined name value ∷ ps) = rw (command_apart name) (command_given ps)

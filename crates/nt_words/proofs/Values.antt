@@ -1,7 +1,7 @@
 -- The values of options, and the form that they are.
 use Rattle.std.proofs.Common.{◌≡◌, ◌∙◌, ◌≤◌, ◌<◌, ◌^◌, ℕ, Bool, true, false, refl, ap}
 use Rattle.std.proofs.Common.{subst, arith, List, [], ◌∷◌, length, Option, Some, None, inl, inr, nat_le}
-use Rattle.std.specs.Prelude.{decimal, find, slice_get}
+use Rattle.std.specs.Prelude.{decimal, find, option_and_then, slice_get}
 use Rattle.std.proofs.lemmas.Slice.Eq.{bytes_eq-Decides}
 use Rattle.std.proofs.lemmas.Option.{option_and_then_some}
 use Rattle.nt_event.specs.declared.limits.TheConstants.{TURNS, USUAL_TURNS}
@@ -12,11 +12,12 @@ use Rattle.nt_words.specs.declared.form.Command.{Command}
 use Rattle.nt_words.specs.declared.form.Command.TheVariants as command
 use Rattle.nt_words.specs.declared.form.Form.{Form}
 use Rattle.nt_words.specs.declared.form.Form.TheVariants as form
-use Rattle.nt_words.specs.declared.option_name.OptionName.TheVariants.{Turns, Seed}
+use Rattle.nt_words.specs.declared.option_name.OptionName.{OptionName}
+use Rattle.nt_words.specs.declared.option_name.OptionName.TheVariants.{Goal, Seed, Turns, Workers}
 use Rattle.nt_words.specs.Pieces.{Piece, values_of}
 use Rattle.nt_words.specs.Commands.{command_named, command_word, is_built, names_built}
-use Rattle.nt_words.specs.Forms.{HasOptions, HasSeed, HasTurns, command_of}
-use Rattle.nt_words.specs.Chosen.{at_least, form_from, none_from, number_within, seed_from, turns_from}
+use Rattle.nt_words.specs.Forms.{HasNoOptions, HasOnlyTurns, HasOptions, HasSeed, HasTurns, command_of}
+use Rattle.nt_words.specs.Chosen.{at_least, form_from, no_options, none_from, number_within, only_turns, seed_from, turns_from}
 
 -- ---- command words
 
@@ -50,6 +51,9 @@ named_again command.Replay built = cc
 named_again command.Check built = cc
 named_again command.Load built = cc
 named_again command.Migrate built = cc
+named_again command.Verify built = cc
+named_again command.Shrink built = cc
+named_again command.Audit built = cc
 
 -- ---- numbers
 
@@ -121,42 +125,85 @@ pub record IsFormOf (c : Command) (pieces : List Piece) (f : Form) : Type 0 wher
   pub command : command_of f ≡ c
   pub options : HasOptions f pieces
 
-pub form_taken : (c : Command) (pieces : List Piece) (f : Form) → length (values_of Turns pieces) ≤ 1 → length (values_of Seed pieces) ≤ 1
-    → form_from c (slice_get (values_of Turns pieces) 0) (slice_get (values_of Seed pieces) 0) ≡ Some f → IsFormOf c pieces f
-form_taken command.Run pieces f turns_once seed_once e =
-    option_and_then_some _ _ f e (λ x none rest. option_and_then_some _ _ f rest (λ n turns is.
+-- each option is given once at most
+abbrev pub AreFew : List Piece → Type 0
+AreFew pieces = (name : OptionName) → length (values_of name pieces) ≤ 1
+
+-- the value that is given first for an option
+abbrev pub first_given : OptionName → List Piece → Option (List ℕ)
+first_given name pieces = slice_get (values_of name pieces) 0
+
+-- the form of a command with the options of these pieces
+abbrev pub form_given : Command → List Piece → Option Form
+form_given c pieces = form_from c (first_given Turns pieces) (first_given Seed pieces) (first_given Goal pieces) (first_given Workers pieces)
+
+only_taken : (pieces : List Piece) (n : ℕ) → AreFew pieces
+    → only_turns (first_given Turns pieces) (first_given Seed pieces) (first_given Goal pieces) (first_given Workers pieces) ≡ Some n → HasOnlyTurns n pieces
+only_taken pieces n few e =
+    option_and_then_some _ _ n e (λ x seed rest. option_and_then_some _ _ n rest (λ y goal rest. option_and_then_some _ _ n rest (λ z workers turns. record {
+      turns = turns_taken pieces n (few Turns) turns;
+      seed = none_taken _ x seed;
+      goal = none_taken _ y goal;
+      workers = none_taken _ z workers;
+    })))
+
+none_are_taken : (pieces : List Piece) (u : Unit {0})
+    → no_options (first_given Turns pieces) (first_given Seed pieces) (first_given Goal pieces) (first_given Workers pieces) ≡ Some u → HasNoOptions pieces
+none_are_taken pieces u e =
+    option_and_then_some _ _ u e (λ x turns rest. option_and_then_some _ _ u rest (λ y seed rest. option_and_then_some _ _ u rest (λ z goal workers. record {
+      turns = none_taken _ x turns;
+      seed = none_taken _ y seed;
+      goal = none_taken _ z goal;
+      workers = none_taken _ u workers;
+    })))
+
+-- the form is the only one without options of its command
+bare_taken : (c : Command) (pieces : List Piece) (g f : Form) → command_of g ≡ c → (HasNoOptions pieces → HasOptions g pieces) →
+    option_and_then (λ _. Some g) (no_options (first_given Turns pieces) (first_given Seed pieces) (first_given Goal pieces) (first_given Workers pieces))
+    ≡ Some f →
+    IsFormOf c pieces f
+bare_taken c pieces g f of has e =
+    option_and_then_some _ _ f e (λ u none is.
+    let same : g ≡ f = cc in
+    subst (IsFormOf c pieces) same (record { command = of; options = has (none_are_taken pieces u none) }))
+
+pub form_taken : (c : Command) (pieces : List Piece) (f : Form) → AreFew pieces → form_given c pieces ≡ Some f → IsFormOf c pieces f
+form_taken command.Run pieces f few e =
+    option_and_then_some _ _ f e (λ n only is.
     let same : form.Run n ≡ f = cc in
-    subst (IsFormOf command.Run pieces) same (record { command = refl; options = (turns_taken pieces n turns_once turns, none_taken _ x none) })))
-form_taken command.Live pieces f turns_once seed_once e =
-    option_and_then_some _ _ f e (λ x none rest. option_and_then_some _ _ f rest (λ n turns is.
+    subst (IsFormOf command.Run pieces) same (record { command = refl; options = only_taken pieces n few only }))
+form_taken command.Live pieces f few e =
+    option_and_then_some _ _ f e (λ n only is.
     let same : form.Live n ≡ f = cc in
-    subst (IsFormOf command.Live pieces) same (record { command = refl; options = (turns_taken pieces n turns_once turns, none_taken _ x none) })))
-form_taken command.Replay pieces f turns_once seed_once e =
-    option_and_then_some _ _ f e (λ x none rest. option_and_then_some _ _ f rest (λ y turns is.
-    let same : form.Replay ≡ f = cc in
-    subst (IsFormOf command.Replay pieces) same (record { command = refl; options = (none_taken _ y turns, none_taken _ x none) })))
-form_taken command.Check pieces f turns_once seed_once e =
-    option_and_then_some _ _ f e (λ x none rest. option_and_then_some _ _ f rest (λ y turns is.
-    let same : form.Check ≡ f = cc in
-    subst (IsFormOf command.Check pieces) same (record { command = refl; options = (none_taken _ y turns, none_taken _ x none) })))
-form_taken command.Load pieces f turns_once seed_once e =
-    option_and_then_some _ _ f e (λ s seed rest. option_and_then_some _ _ f rest (λ n turns is.
+    subst (IsFormOf command.Live pieces) same (record { command = refl; options = only_taken pieces n few only }))
+form_taken command.Replay pieces f few e = bare_taken command.Replay pieces form.Replay f refl (λ has. has) e
+form_taken command.Check pieces f few e = bare_taken command.Check pieces form.Check f refl (λ has. has) e
+form_taken command.Migrate pieces f few e = bare_taken command.Migrate pieces form.Migrate f refl (λ has. has) e
+form_taken command.Verify pieces f few e = cc
+form_taken command.Shrink pieces f few e = cc
+form_taken command.Audit pieces f few e = cc
+form_taken command.Load pieces f few e =
+    option_and_then_some _ _ f e (λ x goal rest. option_and_then_some _ _ f rest (λ y workers rest.
+    option_and_then_some _ _ f rest (λ s seed rest. option_and_then_some _ _ f rest (λ n turns is.
     let same : form.Load s n ≡ f = cc in
     subst (IsFormOf command.Load pieces) same (record {
       command = refl;
       options =
-          (turns_taken pieces n turns_once turns, seed_taken pieces s seed_once seed);
-    })))
-form_taken command.Migrate pieces f turns_once seed_once e =
-    option_and_then_some _ _ f e (λ x none rest. option_and_then_some _ _ f rest (λ y turns is.
-    let same : form.Migrate ≡ f = cc in
-    subst (IsFormOf command.Migrate pieces) same (record { command = refl; options = (none_taken _ y turns, none_taken _ x none) })))
+          (turns_taken pieces n (few Turns) turns, seed_taken pieces s (few Seed) seed, none_taken _ x goal, none_taken _ y workers);
+    })))))
 
-pub form_again : (f : Form) (pieces : List Piece) → HasOptions f pieces
-    → form_from (command_of f) (slice_get (values_of Turns pieces) 0) (slice_get (values_of Seed pieces) 0) ≡ Some f
-form_again (form.Run turns) pieces has = rw (has.1, turns_again pieces turns has.0) refl
-form_again (form.Live turns) pieces has = rw (has.1, turns_again pieces turns has.0) refl
-form_again form.Replay pieces has = rw (has.1, has.0) refl
-form_again form.Check pieces has = rw (has.1, has.0) refl
-form_again (form.Load seed turns) pieces has = rw (seed_again pieces seed has.1, turns_again pieces turns has.0) refl
-form_again form.Migrate pieces has = rw (has.1, has.0) refl
+only_again : (pieces : List Piece) (n : ℕ) → HasOnlyTurns n pieces
+    → only_turns (first_given Turns pieces) (first_given Seed pieces) (first_given Goal pieces) (first_given Workers pieces) ≡ Some n
+only_again pieces n has = rw (has.seed, has.goal, has.workers, turns_again pieces n has.turns) refl
+
+none_again : (pieces : List Piece) → HasNoOptions pieces
+    → no_options (first_given Turns pieces) (first_given Seed pieces) (first_given Goal pieces) (first_given Workers pieces) ≡ Some tt
+none_again pieces has = rw (has.turns, has.seed, has.goal, has.workers) refl
+
+pub form_again : (f : Form) (pieces : List Piece) → HasOptions f pieces → form_given (command_of f) pieces ≡ Some f
+form_again (form.Run turns) pieces has = rw (only_again pieces turns has) refl
+form_again (form.Live turns) pieces has = rw (only_again pieces turns has) refl
+form_again form.Replay pieces has = rw (none_again pieces has) refl
+form_again form.Check pieces has = rw (none_again pieces has) refl
+form_again (form.Load seed turns) pieces has = rw (has.2, has.3, seed_again pieces seed has.1, turns_again pieces turns has.0) refl
+form_again form.Migrate pieces has = rw (none_again pieces has) refl

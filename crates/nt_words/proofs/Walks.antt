@@ -8,7 +8,7 @@ use Rattle.clap.specs.Walk.{Row, Text, Walk, has_row, idle, option, settled, set
 use Rattle.clap.specs.Faults.{settle_fault, turn_fault, use_fault, walk_fault}
 use Rattle.clap.specs.declared.error.kind.ErrorKind.TheVariants.{InvalidValue, UnknownArgument}
 use Rattle.nt_words.specs.declared.option_name.OptionName.{OptionName}
-use Rattle.nt_words.specs.declared.option_name.OptionName.TheVariants.{Turns, Seed}
+use Rattle.nt_words.specs.declared.option_name.OptionName.TheVariants.{Goal, Seed, Turns, Workers}
 use Rattle.nt_words.specs.Pieces.{Piece, word, apart, joined, command_words, dashed, dashed_equals, option_text, values_of, words_of}
 use Rattle.nt_words.specs.Tidy.{has_hyphen, is_known}
 use Rattle.nt_words.proofs.Words.{Kind, no_flag, flag, given, kind_of_word}
@@ -36,6 +36,8 @@ next w x xs p =
 no_value : (name : OptionName) (rows : List Row) → settle_fault rules false (held_at rows (Some (option_text name, []))) ≡ InvalidValue ∷ []
 no_value Turns rows = refl
 no_value Seed rows = refl
+no_value Goal rows = refl
+no_value Workers rows = refl
 
 -- ---- words that pass are those of pieces
 
@@ -196,22 +198,30 @@ used_new : (name : OptionName) (ps : List Piece) (p : Piece) (rows : List Row) (
     → rows_for (p ∷ []) ≡ row (option_text name) value ∷ [] → used (rule_for name) (value ∷ []) rows ≡ rows_for (ps ++ p ∷ [])
 used_new Turns ps p rows value e none is = put_new (codes "turns") value rows none ∙ (ap₂ ◌++◌ e (sym is) ∙ sym (rows-append ps (p ∷ [])))
 used_new Seed ps p rows value e none is = put_new (codes "seed") value rows none ∙ (ap₂ ◌++◌ e (sym is) ∙ sym (rows-append ps (p ∷ [])))
+used_new Goal ps p rows value e none is = put_new (codes "goal") value rows none ∙ (ap₂ ◌++◌ e (sym is) ∙ sym (rows-append ps (p ∷ [])))
+used_new Workers ps p rows value e none is = put_new (codes "workers") value rows none ∙ (ap₂ ◌++◌ e (sym is) ∙ sym (rows-append ps (p ∷ [])))
 
 no_use_fault : (name : OptionName) (rows : List Row) (value : Text) → has_row (option_text name) rows ≡ false
     → use_fault false (rule_for name) (value ∷ []) rows ≡ []
 no_use_fault Turns rows value none = rw none refl
 no_use_fault Seed rows value none = rw none refl
+no_use_fault Goal rows value none = rw none refl
+no_use_fault Workers rows value none = rw none refl
 
 -- what is pending of an option is its use
 pending_rows : (name : OptionName) (rows : List Row) (value : Text)
     → settled_rows rules (Some (option_text name, value ∷ [])) rows ≡ used (rule_for name) (value ∷ []) rows
 pending_rows Turns rows value = refl
 pending_rows Seed rows value = refl
+pending_rows Goal rows value = refl
+pending_rows Workers rows value = refl
 
 pending_fault : (name : OptionName) (rows : List Row) (value : Text)
     → settle_fault rules false (held_at rows (Some (option_text name, value ∷ []))) ≡ use_fault false (rule_for name) (value ∷ []) rows
 pending_fault Turns rows value = refl
 pending_fault Seed rows value = refl
+pending_fault Goal rows value = refl
+pending_fault Workers rows value = refl
 
 apart_stands : (name : OptionName) (ps : List Piece) (rows : List Row) (value : Text) → rows ≡ rows_for ps → values_of name ps ≡ []
     → Stands (ps ++ apart name value ∷ []) rows (Some (option_text name, value ∷ []))

@@ -1,6 +1,7 @@
 -- The words of a form are taken as that form, and words that are taken as a form are one.
 use Rattle.std.proofs.Common.{◌≡◌, ◌∙◌, ◌≤◌, ◌<◌, ◌^◌, ℕ, Bool, true, false, refl, sym, ap}
 use Rattle.std.proofs.Common.{subst, arith, List, [], ◌∷◌, length, Option, Some, None, nat_le, inl, inr}
+use Rattle.std.proofs.lemmas.Bool.{and_parts}
 use Rattle.std.specs.Prelude.{decimal, slice_get, option_and_then}
 use Rattle.std.specs.List.{list_all}
 use Rattle.clap.specs.Simple.{App, matches_of}
@@ -12,10 +13,10 @@ use Rattle.nt_words.specs.declared.form.Command.TheVariants as command
 use Rattle.nt_words.specs.declared.form.Form.{Form}
 use Rattle.nt_words.specs.declared.form.Form.TheVariants as form
 use Rattle.nt_words.specs.declared.option_name.OptionName.{OptionName}
-use Rattle.nt_words.specs.declared.option_name.OptionName.TheVariants.{Turns, Seed}
-use Rattle.nt_words.specs.Pieces.{Piece, word, apart, joined, command_words, value_for, values_of, words_of}
+use Rattle.nt_words.specs.declared.option_name.OptionName.TheVariants.{Goal, Seed, Turns, Workers}
+use Rattle.nt_words.specs.Pieces.{Piece, word, apart, joined, command_words, same_option, value_for, values_of, words_of}
 use Rattle.nt_words.specs.Commands.{command_named, command_word, is_built}
-use Rattle.nt_words.specs.Forms.{HasOptions, HasSeed, HasTurns, IsForm, command_of}
+use Rattle.nt_words.specs.Forms.{HasNoOptions, HasOnlyTurns, HasOptions, HasSeed, HasTurns, IsForm, command_of}
 use Rattle.nt_words.specs.Tidy.{has_hyphen, is_known, is_tidy, times_given}
 use Rattle.nt_words.specs.Chosen.{chosen, form_from}
 use Rattle.nt_words.specs.Parser.{ntrun_app}
@@ -24,7 +25,7 @@ use Rattle.nt_words.proofs.Rows.{first_command, first_value_of, has_some, rows_f
 use Rattle.nt_words.proofs.Parser.{app, app_is}
 use Rattle.nt_words.proofs.Counts.{ArePlain, AreOnce, times_are, words_known}
 use Rattle.nt_words.proofs.Walks.{Ends, ends, reads}
-use Rattle.nt_words.proofs.Values.{form_again, form_taken, named_again, named_is}
+use Rattle.nt_words.proofs.Values.{form_again, form_given, form_taken, named_again, named_is}
 use Rattle.nt_words.proofs.Faults.{no_fault, passes, rows_are, start}
 
 -- ---- the pieces of a form are plain, and each stands once
@@ -36,6 +37,9 @@ command_plain command.Replay = refl
 command_plain command.Check = refl
 command_plain command.Migrate = refl
 command_plain command.Load = refl
+command_plain command.Verify = refl
+command_plain command.Shrink = refl
+command_plain command.Audit = refl
 
 -- none of these words has a hyphen
 abbrev AreBare : List (List ℕ) → Type 0
@@ -45,12 +49,17 @@ AreBare (w ∷ ws) = (has_hyphen w ≡ false) × AreBare ws
 rest_bare : (given : OptionName) (value : List ℕ) (vs : List (List ℕ)) → AreBare (value_for given given value vs) → (has_hyphen value ≡ false) × AreBare vs
 rest_bare Turns value vs bare = bare
 rest_bare Seed value vs bare = bare
+rest_bare Goal value vs bare = bare
+rest_bare Workers value vs bare = bare
 
 more_bare : (name given : OptionName) (value : List ℕ) (vs : List (List ℕ)) → AreBare (value_for name given value vs) → AreBare vs
-more_bare Turns Turns value vs bare = bare.1
-more_bare Turns Seed value vs bare = bare
-more_bare Seed Turns value vs bare = bare
-more_bare Seed Seed value vs bare = bare.1
+more_bare name given value vs bare = go (same_option name given) refl
+  where
+    go : (b : Bool) → same_option name given ≡ b → AreBare vs
+    go true is =
+        let all : AreBare (value ∷ vs) = rw is at bare in
+        all.1
+    go false is = rw is at bare
 
 -- the values that each option is given have no hyphen
 abbrev ValuesAreBare : List Piece → Type 0
@@ -86,19 +95,28 @@ seed_bare n ps given =
     let high : n ≤ GREATEST_SEED = given.2 in
     one_number _ n (omega arith) given.0
 
+only_bare : (n : ℕ) (ps : List Piece) → HasOnlyTurns n ps → (name : OptionName) → IsBareOnce (values_of name ps)
+only_bare n ps has Turns = turns_bare n ps has.turns
+only_bare n ps has Seed = none_given _ has.seed
+only_bare n ps has Goal = none_given _ has.goal
+only_bare n ps has Workers = none_given _ has.workers
+
+none_bare : (ps : List Piece) → HasNoOptions ps → (name : OptionName) → IsBareOnce (values_of name ps)
+none_bare ps has Turns = none_given _ has.turns
+none_bare ps has Seed = none_given _ has.seed
+none_bare ps has Goal = none_given _ has.goal
+none_bare ps has Workers = none_given _ has.workers
+
 options_bare : (f : Form) (ps : List Piece) → HasOptions f ps → (name : OptionName) → IsBareOnce (values_of name ps)
-options_bare (form.Run turns) ps has Turns = turns_bare turns ps has.0
-options_bare (form.Run turns) ps has Seed = none_given _ has.1
-options_bare (form.Live turns) ps has Turns = turns_bare turns ps has.0
-options_bare (form.Live turns) ps has Seed = none_given _ has.1
-options_bare form.Replay ps has Turns = none_given _ has.0
-options_bare form.Replay ps has Seed = none_given _ has.1
-options_bare form.Check ps has Turns = none_given _ has.0
-options_bare form.Check ps has Seed = none_given _ has.1
-options_bare form.Migrate ps has Turns = none_given _ has.0
-options_bare form.Migrate ps has Seed = none_given _ has.1
+options_bare (form.Run turns) ps has name = only_bare turns ps has name
+options_bare (form.Live turns) ps has name = only_bare turns ps has name
+options_bare form.Replay ps has name = none_bare ps has name
+options_bare form.Check ps has name = none_bare ps has name
+options_bare form.Migrate ps has name = none_bare ps has name
 options_bare (form.Load seed turns) ps has Turns = turns_bare turns ps has.0
 options_bare (form.Load seed turns) ps has Seed = seed_bare seed ps has.1
+options_bare (form.Load seed turns) ps has Goal = none_given _ has.2
+options_bare (form.Load seed turns) ps has Workers = none_given _ has.3
 
 -- ---- from the pieces to the parser's answer
 
@@ -107,10 +125,10 @@ ends_of : (ps : List Piece) → ArePlain ps → AreOnce ps → Ends ps start (wo
 ends_of ps plain once = ends ps ps [] false [] None refl refl (record { rows = refl; sound = refl }) plain once
 
 -- the form that the rows of pieces are
-chosen_of : (ps : List Piece) → chosen (rows_for ps) ≡ option_and_then (λ c. form_from c (slice_get (values_of Turns ps) 0) (slice_get (values_of Seed ps) 0))
-    (option_and_then command_named (slice_get (command_words ps) 0))
+chosen_of : (ps : List Piece) → chosen (rows_for ps) ≡ option_and_then (λ c. form_given c ps) (option_and_then command_named (slice_get (command_words ps) 0))
 chosen_of ps =
-    λ i. option_and_then (λ c. form_from c (first_value_of Turns ps i) (first_value_of Seed ps i)) (option_and_then command_named (first_command ps i))
+    λ i. option_and_then (λ c. form_from c (first_value_of Turns ps i) (first_value_of Seed ps i) (first_value_of Goal ps i) (first_value_of Workers ps i))
+    (option_and_then command_named (first_command ps i))
 
 -- what holds of words that are a form
 pub record IsTaken (words : List (List ℕ)) (f : Form) : Type 0 where
@@ -119,10 +137,10 @@ pub record IsTaken (words : List (List ℕ)) (f : Form) : Type 0 where
   pub form : chosen (matches_of ntrun_app words) ≡ Some f
 
 tidy_words : (ps : List Piece) → ArePlain ps → AreOnce ps → is_tidy (words_of ps) ≡ true
-tidy_words ps plain once =
-    let turns : nat_le (times_given Turns (words_of ps)) 1 ≡ true = rw (times_are Turns ps plain) (search (arith, once.option Turns)) in
-    let seed : nat_le (times_given Seed (words_of ps)) 1 ≡ true = rw (times_are Seed ps plain) (search (arith, once.option Seed)) in
-    rw (words_known ps plain, turns, seed) refl
+tidy_words ps plain once = rw (words_known ps plain, one Turns, one Seed, one Goal, one Workers) refl
+  where
+    one : (name : OptionName) → nat_le (times_given name (words_of ps)) 1 ≡ true
+    one name = rw (times_are name ps plain) (search (arith, once.option name))
 
 pub form_is_taken : (words : List (List ℕ)) (f : Form) → IsForm words f → IsTaken words f
 form_is_taken words f is =
@@ -143,51 +161,44 @@ form_is_taken words f is =
 
 -- ---- and back
 
-known_of_tidy : (words : List (List ℕ)) → is_tidy words ≡ true → list_all is_known words ≡ true
-known_of_tidy words e = go (list_all is_known words) refl
+-- what tidy words are
+record IsTidy (words : List (List ℕ)) : Type 0 where
+  pub known : list_all is_known words ≡ true
+  pub once : (name : OptionName) → nat_le (times_given name words) 1 ≡ true
+
+tidy_parts : (words : List (List ℕ)) → is_tidy words ≡ true → IsTidy words
+tidy_parts words e =
+    let all = and_parts _ _ e in
+    let turns = and_parts _ _ all.1 in
+    let seed = and_parts _ _ turns.1 in
+    let goal = and_parts _ _ seed.1 in
+    record { known = all.0; once = go turns.0 seed.0 goal.0 goal.1 }
   where
-    go : (b : Bool) → list_all is_known words ≡ b → list_all is_known words ≡ true
-    go true is = is
-    go false is =
-        let bad : false ≡ true = rw is at e in
-        cc
+    go : nat_le (times_given Turns words) 1 ≡ true → nat_le (times_given Seed words) 1 ≡ true → nat_le (times_given Goal words) 1 ≡ true
+        → nat_le (times_given Workers words) 1 ≡ true → (name : OptionName) → nat_le (times_given name words) 1 ≡ true
+    go turns seed goal workers Turns = turns
+    go turns seed goal workers Seed = seed
+    go turns seed goal workers Goal = goal
+    go turns seed goal workers Workers = workers
+
+known_of_tidy : (words : List (List ℕ)) → is_tidy words ≡ true → list_all is_known words ≡ true
+known_of_tidy words e = (tidy_parts words e).known
 
 times_of_tidy : (name : OptionName) (words : List (List ℕ)) → is_tidy words ≡ true → times_given name words ≤ 1
-times_of_tidy Turns words e = go (list_all is_known words) refl (nat_le (times_given Turns words) 1) refl
-  where
-    go : (a : Bool) → list_all is_known words ≡ a → (b : Bool) → nat_le (times_given Turns words) 1 ≡ b → times_given Turns words ≤ 1
-    go a known true is = search (arith, is)
-    go true known false is =
-        let bad : false ≡ true = rw (known, is) at e in
-        cc
-    go false known false is =
-        let bad : false ≡ true = rw known at e in
-        cc
-times_of_tidy Seed words e = go (list_all is_known words) refl (nat_le (times_given Turns words) 1) refl (nat_le (times_given Seed words) 1) refl
-  where
-    go : (a : Bool) → list_all is_known words ≡ a → (b : Bool) → nat_le (times_given Turns words) 1 ≡ b → (c : Bool) → nat_le (times_given Seed words) 1 ≡ c
-        → times_given Seed words ≤ 1
-    go a known b turns true is = search (arith, is)
-    go true known true turns false is =
-        let bad : false ≡ true = rw (known, turns, is) at e in
-        cc
-    go true known false turns false is =
-        let bad : false ≡ true = rw (known, turns) at e in
-        cc
-    go false known b turns false is =
-        let bad : false ≡ true = rw known at e in
-        cc
+times_of_tidy name words e =
+    let le = (tidy_parts words e).once name in
+    search (arith, le)
 
 -- the pieces with one command word, named
 named_form : (ps : List Piece) (f : Form) → AreOnce ps → chosen (rows_for ps) ≡ Some f → IsForm (words_of ps) f
 named_form ps f once e = go (command_words ps) refl once.command (sym (chosen_of ps) ∙ e)
   where
     found : (w : List ℕ) → command_words ps ≡ w ∷ [] → (o : Option Command) → command_named w ≡ o
-        → option_and_then (λ c. form_from c (slice_get (values_of Turns ps) 0) (slice_get (values_of Seed ps) 0)) o ≡ Some f → IsForm (words_of ps) f
+        → option_and_then (λ c. form_given c ps) o ≡ Some f → IsForm (words_of ps) f
     found w is None named e = cc
     found w is (Some c) named e =
         let n = named_is w c named in
-        let t = form_taken c ps f (once.option Turns) (once.option Seed) e in
+        let t = form_taken c ps f once.option e in
         record {
           pieces = ps;
           spelled = refl;
@@ -197,8 +208,7 @@ named_form ps f once e = go (command_words ps) refl once.command (sym (chosen_of
         }
 
     go : (ws : List (List ℕ)) → command_words ps ≡ ws → length ws ≤ 1
-        → option_and_then (λ c. form_from c (slice_get (values_of Turns ps) 0) (slice_get (values_of Seed ps) 0))
-        (option_and_then command_named (slice_get (command_words ps) 0)) ≡ Some f
+        → option_and_then (λ c. form_given c ps) (option_and_then command_named (slice_get (command_words ps) 0)) ≡ Some f
         → IsForm (words_of ps) f
     go [] is le e =
         let bad : None ≡ Some f = rw is at e in

@@ -1,18 +1,19 @@
 -- What words look like to the parser.
-use Rattle.std.proofs.Common.{◌≡◌, ◌==◌, ℕ, Bool, true, false, refl, sym, subst, List, [], ◌∷◌, ◌++◌, Some, None, eqb-true, drop, length, eqb}
+use Rattle.std.proofs.Common.{◌≡◌, ◌==◌, ◌||◌, ◌⊎◌, ℕ, Bool, true, false, refl, sym, subst, inl, inr, List, [], ◌∷◌, ◌++◌, Some, None, eqb-true, drop, length}
+use Rattle.std.proofs.Common.{eqb}
 use Rattle.std.specs.Prelude.{decimal, ◌<◌, ◌^◌}
 use Rattle.std.specs.List.{starts_with}
 use Rattle.std.specs.Str.{bytes_eq}
 use Rattle.std.proofs.lemmas.Slice.Eq.{bytes_eq-Decides, starts_is}
-use Rattle.std.proofs.lemmas.Bool.{ne_eqb}
+use Rattle.std.proofs.lemmas.Bool.{ne_eqb, or_cases}
 use Rattle.std.proofs.lemmas.Bool.Decides.{Decides-eqb}
 use Rattle.clap.specs.Lexer.{long_of, short_of}
 use Rattle.nt_text.specs.Fields.{number_of}
 use Rattle.nt_text.proofs.Decimals.{number_again}
 use Rattle.nt_words.specs.declared.option_name.OptionName.{OptionName}
-use Rattle.nt_words.specs.declared.option_name.OptionName.TheVariants.{Turns, Seed}
+use Rattle.nt_words.specs.declared.option_name.OptionName.TheVariants.{Goal, Seed, Turns, Workers}
 use Rattle.nt_words.specs.Pieces.{dashed, dashed_equals}
-use Rattle.nt_words.specs.Tidy.{has_hyphen, is_option_word, is_known}
+use Rattle.nt_words.specs.Tidy.{has_hyphen, is_known, is_option, is_option_word}
 
 -- ---- a word without a hyphen is no flag
 
@@ -35,8 +36,12 @@ flip b h = ne_eqb 45 b (λ e. let bad : (45 == 45) ≡ false = subst (λ (x : �
 pub no_option : (name : OptionName) (w : List ℕ) → has_hyphen w ≡ false → is_option_word name w ≡ false
 no_option Turns [] h = refl
 no_option Seed [] h = refl
+no_option Goal [] h = refl
+no_option Workers [] h = refl
 no_option Turns (b ∷ bs) h = rw (h, flip b h) refl
 no_option Seed (b ∷ bs) h = rw (h, flip b h) refl
+no_option Goal (b ∷ bs) h = rw (h, flip b h) refl
+no_option Workers (b ∷ bs) h = rw (h, flip b h) refl
 
 -- a number has no hyphen
 number_first : (v : List ℕ) (n : ℕ) → number_of v ≡ Some n → has_hyphen v ≡ false
@@ -69,10 +74,24 @@ option_kind name w e = go (bytes_eq w (dashed name)) refl
         let starts : starts_with eqb w (dashed_equals name) ≡ true = rw is at e in
         given name (drop (length (dashed_equals name)) w) ((starts_is Decides-eqb w (dashed_equals name) _ refl).0 starts)
 
-pub kind_of_word : (w : List ℕ) → is_known w ≡ true → Kind w
-kind_of_word w e = go (has_hyphen w) refl (is_option_word Turns w) refl
+one_of_options : (w : List ℕ) → is_option w ≡ true → Kind w
+one_of_options w e = turns (or_cases _ _ e)
   where
-    go : (b : Bool) → has_hyphen w ≡ b → (c : Bool) → is_option_word Turns w ≡ c → Kind w
-    go false h c t = no_flag h
-    go true h true t = option_kind Turns w t
-    go true h false t = option_kind Seed w (rw (h, t) at e)
+    goal : (is_option_word Goal w ≡ true) ⊎ (is_option_word Workers w ≡ true) → Kind w
+    goal (inl is) = option_kind Goal w is
+    goal (inr is) = option_kind Workers w is
+
+    seed : (is_option_word Seed w ≡ true) ⊎ ((is_option_word Goal w || is_option_word Workers w) ≡ true) → Kind w
+    seed (inl is) = option_kind Seed w is
+    seed (inr more) = goal (or_cases _ _ more)
+
+    turns : (is_option_word Turns w ≡ true) ⊎ ((is_option_word Seed w || (is_option_word Goal w || is_option_word Workers w)) ≡ true) → Kind w
+    turns (inl is) = option_kind Turns w is
+    turns (inr more) = seed (or_cases _ _ more)
+
+pub kind_of_word : (w : List ℕ) → is_known w ≡ true → Kind w
+kind_of_word w e = go (has_hyphen w) refl
+  where
+    go : (b : Bool) → has_hyphen w ≡ b → Kind w
+    go false h = no_flag h
+    go true h = one_of_options w (rw h at e)

@@ -31,21 +31,40 @@ abbrev pub none_from : Option (List ℕ) → Option (Unit {0})
 none_from (Some value) = None
 none_from None = Some tt
 
-abbrev pub form_from : Command → Option (List ℕ) → Option (List ℕ) → Option Form
-form_from command.Run turns seed =
-    option_and_then (λ _. option_and_then (λ n. Some (form.Run n)) (turns_from turns)) (none_from seed)
-form_from command.Live turns seed =
-    option_and_then (λ _. option_and_then (λ n. Some (form.Live n)) (turns_from turns)) (none_from seed)
-form_from command.Replay turns seed =
-    option_and_then (λ _. option_and_then (λ _. Some form.Replay) (none_from turns)) (none_from seed)
-form_from command.Check turns seed =
-    option_and_then (λ _. option_and_then (λ _. Some form.Check) (none_from turns)) (none_from seed)
-form_from command.Load turns seed =
-    option_and_then (λ s. option_and_then (λ n. Some (form.Load s n)) (turns_from turns)) (seed_from seed)
-form_from command.Migrate turns seed =
-    option_and_then (λ _. option_and_then (λ _. Some form.Migrate) (none_from turns)) (none_from seed)
+-- the turn limit of a command that has no other option
+abbrev pub only_turns : Option (List ℕ) → Option (List ℕ) → Option (List ℕ) → Option (List ℕ) → Option ℕ
+only_turns turns seed goal workers = option_and_then (λ _. option_and_then (λ _. option_and_then (λ _.
+    turns_from turns) (none_from workers)) (none_from goal)) (none_from seed)
+
+-- a command that has no option
+abbrev pub no_options : Option (List ℕ) → Option (List ℕ) → Option (List ℕ) → Option (List ℕ) → Option (Unit {0})
+no_options turns seed goal workers = option_and_then (λ _. option_and_then (λ _. option_and_then (λ _.
+    none_from workers) (none_from goal)) (none_from seed)) (none_from turns)
+
+abbrev pub load_from : Option (List ℕ) → Option (List ℕ) → Option (List ℕ) → Option (List ℕ) → Option Form
+load_from turns seed goal workers = option_and_then (λ _. option_and_then (λ _.
+    option_and_then (λ s. option_and_then (λ n. Some (form.Load s n)) (turns_from turns)) (seed_from seed))
+    (none_from workers)) (none_from goal)
+
+-- the form of a command; one that isn't built has none
+abbrev pub form_from : Command → Option (List ℕ) → Option (List ℕ) → Option (List ℕ) → Option (List ℕ) → Option Form
+form_from command.Run turns seed goal workers =
+    option_and_then (λ n. Some (form.Run n)) (only_turns turns seed goal workers)
+form_from command.Live turns seed goal workers =
+    option_and_then (λ n. Some (form.Live n)) (only_turns turns seed goal workers)
+form_from command.Replay turns seed goal workers =
+    option_and_then (λ _. Some form.Replay) (no_options turns seed goal workers)
+form_from command.Check turns seed goal workers =
+    option_and_then (λ _. Some form.Check) (no_options turns seed goal workers)
+form_from command.Load turns seed goal workers = load_from turns seed goal workers
+form_from command.Migrate turns seed goal workers =
+    option_and_then (λ _. Some form.Migrate) (no_options turns seed goal workers)
+form_from command.Verify turns seed goal workers = None
+form_from command.Shrink turns seed goal workers = None
+form_from command.Audit turns seed goal workers = None
 
 -- the form that a parser's rows are
 abbrev pub chosen : List Row → Option Form
-chosen rows = option_and_then (λ c. form_from c (first_of (codes "turns") rows) (first_of (codes "seed") rows))
+chosen rows = option_and_then (λ c. form_from c (first_of (codes "turns") rows) (first_of (codes "seed") rows)
+    (first_of (codes "goal") rows) (first_of (codes "workers") rows))
     (option_and_then command_named (first_of (codes "command") rows))

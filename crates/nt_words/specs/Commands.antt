@@ -1,5 +1,5 @@
 -- The commands of the program.
-use Rattle.std.specs.Prelude.{ℕ, Bool, true, ◌&&◌, List, Option, codes, find}
+use Rattle.std.specs.Prelude.{ℕ, Bool, false, true, ◌&&◌, List, Option, codes, find}
 use Rattle.std.specs.Str.{bytes_eq}
 use Rattle.nt_words.specs.declared.form.Command.{Command}
 use Rattle.nt_words.specs.declared.form.Command.TheVariants as command
@@ -12,6 +12,9 @@ command_word command.Replay = codes "replay"
 command_word command.Check = codes "check"
 command_word command.Load = codes "load"
 command_word command.Migrate = codes "migrate"
+command_word command.Verify = codes "verify"
+command_word command.Shrink = codes "shrink"
+command_word command.Audit = codes "audit"
 
 -- the program has the command
 abbrev pub is_built : Command → Bool
@@ -21,6 +24,9 @@ is_built command.Replay = true
 is_built command.Check = true
 is_built command.Load = true
 is_built command.Migrate = true
+is_built command.Verify = false
+is_built command.Shrink = false
+is_built command.Audit = false
 
 -- the word names the command, which is built
 abbrev pub names_built : List ℕ → Command → Bool

@@ -1,5 +1,5 @@
 -- The forms of the program: which lists of words are one.
-use Rattle.std.specs.Prelude.{◌≡◌, ◌≤◌, ◌⊎◌, ℕ, Bool, true, List, [], ◌∷◌, decimal}
+use Rattle.std.specs.Prelude.{◌≡◌, ◌≤◌, ◌⊎◌, ◌||◌, ℕ, Bool, true, List, [], ◌∷◌, decimal}
 use Rattle.std.specs.List.{list_any}
 use Rattle.std.specs.Str.{bytes_eq}
 use Rattle.nt_event.specs.declared.limits.TheConstants.{TURNS, USUAL_TURNS}
@@ -9,7 +9,7 @@ use Rattle.nt_words.specs.declared.form.Command.TheVariants as command
 use Rattle.nt_words.specs.declared.form.Form.{Form}
 use Rattle.nt_words.specs.declared.form.Form.TheVariants as form
 use Rattle.nt_words.specs.declared.option_name.OptionName.{OptionName}
-use Rattle.nt_words.specs.declared.option_name.OptionName.TheVariants.{Turns, Seed}
+use Rattle.nt_words.specs.declared.option_name.OptionName.TheVariants.{Goal, Seed, Turns, Workers}
 use Rattle.nt_words.specs.Pieces.{Piece, words_of, command_words, values_of}
 use Rattle.nt_words.specs.Commands.{command_word, is_built}
 
@@ -36,14 +36,29 @@ HasTurns turns pieces = Gives Turns 1 TURNS turns pieces ⊎ (IsMissing Turns pi
 abbrev pub HasSeed : ℕ → List Piece → Type 0
 HasSeed seed pieces = Gives Seed 0 GREATEST_SEED seed pieces
 
+-- the turn limit is the only option
+pub record HasOnlyTurns (limit : ℕ) (pieces : List Piece) : Type 0 where
+  pub turns : HasTurns limit pieces
+  pub seed : IsMissing Seed pieces
+  pub goal : IsMissing Goal pieces
+  pub workers : IsMissing Workers pieces
+
+-- no option is given
+pub record HasNoOptions (pieces : List Piece) : Type 0 where
+  pub turns : IsMissing Turns pieces
+  pub seed : IsMissing Seed pieces
+  pub goal : IsMissing Goal pieces
+  pub workers : IsMissing Workers pieces
+
 -- the options that are given are those of the form
 abbrev pub HasOptions : Form → List Piece → Type 0
-HasOptions (form.Run turns) pieces = HasTurns turns pieces × IsMissing Seed pieces
-HasOptions (form.Live turns) pieces = HasTurns turns pieces × IsMissing Seed pieces
-HasOptions form.Replay pieces = IsMissing Turns pieces × IsMissing Seed pieces
-HasOptions form.Check pieces = IsMissing Turns pieces × IsMissing Seed pieces
-HasOptions (form.Load seed turns) pieces = HasTurns turns pieces × HasSeed seed pieces
-HasOptions form.Migrate pieces = IsMissing Turns pieces × IsMissing Seed pieces
+HasOptions (form.Run turns) pieces = HasOnlyTurns turns pieces
+HasOptions (form.Live turns) pieces = HasOnlyTurns turns pieces
+HasOptions form.Replay pieces = HasNoOptions pieces
+HasOptions form.Check pieces = HasNoOptions pieces
+HasOptions (form.Load seed turns) pieces = HasTurns turns pieces × HasSeed seed pieces × IsMissing Goal pieces ×
+    IsMissing Workers pieces
+HasOptions form.Migrate pieces = HasNoOptions pieces
 
 -- the words are this form: its command word once, and its options, each once at most, in any order and spelling
 pub record IsForm (words : List (List ℕ)) (f : Form) : Type 0 where
@@ -65,9 +80,13 @@ IsWithin form.Check = Unit {0}
 IsWithin (form.Load seed turns) = (seed ≤ GREATEST_SEED) × IsTurns turns
 IsWithin form.Migrate = Unit {0}
 
--- one of the words is `live`
+-- the word is `live` or `audit`
+abbrev pub is_live_word : List ℕ → Bool
+is_live_word w = bytes_eq w (command_word command.Live) || bytes_eq w (command_word command.Audit)
+
+-- one of the words is `live` or `audit`
 abbrev pub names_live : List (List ℕ) → Bool
-names_live words = list_any (λ w. bytes_eq w (command_word command.Live)) words
+names_live words = list_any is_live_word words
 
 abbrev pub WordsHaveOneForm : Type 0
 WordsHaveOneForm = (words : List (List ℕ)) (f g : Form) → IsForm words f → IsForm words g → f ≡ g

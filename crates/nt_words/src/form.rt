@@ -1,7 +1,8 @@
 //! The commands of the program and their forms.
-ghost use Rattle.std.specs.Prelude.{◌≡◌, ◌≤◌, ◌<◌, ◌^◌, IfSome, option_map, find};
+ghost use Rattle.std.specs.Prelude.{◌≡◌, ◌≤◌, ◌<◌, ◌^◌, IfSome, option_and_then, option_map, find};
 ghost use Rattle.nt_words.specs.Commands.{command_word, is_built, names_built, command_named};
-ghost use Rattle.nt_words.specs.Chosen.{number_within, turns_from, seed_from, none_from, form_from};
+ghost use Rattle.nt_words.specs.Chosen.{number_within, turns_from, seed_from, none_from};
+ghost use Rattle.nt_words.specs.Chosen.{only_turns, no_options, load_from, form_from};
 ghost use Rattle.nt_event.specs.declared.limits.TheConstants.{TURNS};
 
 use nt_event::limits::{TURNS, USUAL_TURNS};
@@ -28,16 +29,25 @@ pub enum Command {
     Load,
     /// `migrate`: the script in the newest version of its text.
     Migrate,
+    /// `verify`: which commands of a script are refused in every run.
+    Verify,
+    /// `shrink`: a short schedule that still delivers a request.
+    Shrink,
+    /// `audit`: how many inserts were pending at each note of a script's run.
+    Audit,
 }
 
 /// Every command.
-pub const COMMANDS: [Command; 6] = [
+pub const COMMANDS: [Command; 9] = [
     Command::Run,
     Command::Live,
     Command::Replay,
     Command::Check,
     Command::Load,
     Command::Migrate,
+    Command::Verify,
+    Command::Shrink,
+    Command::Audit,
 ];
 
 /// What the words of a command line ask for. The turn limit is [`USUAL_TURNS`] where none is given.
@@ -69,6 +79,9 @@ impl Command {
             Command::Check => "check",
             Command::Load => "load",
             Command::Migrate => "migrate",
+            Command::Verify => "verify",
+            Command::Shrink => "shrink",
+            Command::Audit => "audit",
         }
     }
 
@@ -83,6 +96,9 @@ impl Command {
             Command::Check => true,
             Command::Load => true,
             Command::Migrate => true,
+            Command::Verify => false,
+            Command::Shrink => false,
+            Command::Audit => false,
         }
     }
 }
@@ -145,42 +161,91 @@ fn none_from(value: Option<&str>) -> Option<()>
     }
 }
 
-/// The form of a command with these values of its options.
-pub(crate) fn form_from(command: Command, turns: Option<&str>, seed: Option<&str>) -> Option<Form>
+/// The turn limit of a command that has no other option.
+fn only_turns(
+    turns: Option<&str>,
+    seed: Option<&str>,
+    goal: Option<&str>,
+    workers: Option<&str>,
+) -> Option<u32>
+    ensures { result ≡ only_turns (option_map (λ s. s.now) turns.entry)
+        (option_map (λ s. s.now) seed.entry) (option_map (λ s. s.now) goal.entry)
+        (option_map (λ s. s.now) workers.entry) }
+{
+    none_from(seed)?;
+    none_from(goal)?;
+    none_from(workers)?;
+    turns_from(turns)
+}
+
+/// Nothing, where no option is given to a command that has none.
+fn no_options(
+    turns: Option<&str>,
+    seed: Option<&str>,
+    goal: Option<&str>,
+    workers: Option<&str>,
+) -> Option<()>
+    ensures { result ≡ no_options (option_map (λ s. s.now) turns.entry)
+        (option_map (λ s. s.now) seed.entry) (option_map (λ s. s.now) goal.entry)
+        (option_map (λ s. s.now) workers.entry) }
+{
+    none_from(turns)?;
+    none_from(seed)?;
+    none_from(goal)?;
+    none_from(workers)
+}
+
+/// A load: its options are the seed and the turn limit.
+fn load_from(
+    turns: Option<&str>,
+    seed: Option<&str>,
+    goal: Option<&str>,
+    workers: Option<&str>,
+) -> Option<Form>
+    ensures { result ≡ load_from (option_map (λ s. s.now) turns.entry)
+        (option_map (λ s. s.now) seed.entry) (option_map (λ s. s.now) goal.entry)
+        (option_map (λ s. s.now) workers.entry) }
+{
+    none_from(goal)?;
+    none_from(workers)?;
+    Some(Form::Load {
+        seed: seed_from(seed)?,
+        turns: turns_from(turns)?,
+    })
+}
+
+/// The form of a command with these values of its options. One that isn't built has none.
+pub(crate) fn form_from(
+    command: Command,
+    turns: Option<&str>,
+    seed: Option<&str>,
+    goal: Option<&str>,
+    workers: Option<&str>,
+) -> Option<Form>
     ensures { result ≡ form_from command (option_map (λ s. s.now) turns.entry)
-        (option_map (λ s. s.now) seed.entry) }
+        (option_map (λ s. s.now) seed.entry) (option_map (λ s. s.now) goal.entry)
+        (option_map (λ s. s.now) workers.entry) }
 {
     match command {
-        Command::Run => {
-            none_from(seed)?;
-            Some(Form::Run {
-                turns: turns_from(turns)?,
-            })
-        }
-        Command::Live => {
-            none_from(seed)?;
-            Some(Form::Live {
-                turns: turns_from(turns)?,
-            })
-        }
+        Command::Run => Some(Form::Run {
+            turns: only_turns(turns, seed, goal, workers)?,
+        }),
+        Command::Live => Some(Form::Live {
+            turns: only_turns(turns, seed, goal, workers)?,
+        }),
         Command::Replay => {
-            none_from(seed)?;
-            none_from(turns)?;
+            no_options(turns, seed, goal, workers)?;
             Some(Form::Replay)
         }
         Command::Check => {
-            none_from(seed)?;
-            none_from(turns)?;
+            no_options(turns, seed, goal, workers)?;
             Some(Form::Check)
         }
-        Command::Load => Some(Form::Load {
-            seed: seed_from(seed)?,
-            turns: turns_from(turns)?,
-        }),
+        Command::Load => load_from(turns, seed, goal, workers),
         Command::Migrate => {
-            none_from(seed)?;
-            none_from(turns)?;
+            no_options(turns, seed, goal, workers)?;
             Some(Form::Migrate)
         }
+        Command::Verify | Command::Shrink | Command::Audit => None,
     }
 }

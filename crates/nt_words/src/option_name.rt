@@ -9,6 +9,10 @@ pub enum OptionName {
     Turns,
     /// `--seed`: the number that a load is made from, 0 to 4,294,967,295.
     Seed,
+    /// `--goal`: the name of the DPC or APC that a shortened schedule has to deliver.
+    Goal,
+    /// `--workers`: how many workers an audit has, 1 to 16.
+    Workers,
 }
 
 impl OptionName {
@@ -19,6 +23,8 @@ impl OptionName {
         match self {
             OptionName::Turns => "turns",
             OptionName::Seed => "seed",
+            OptionName::Goal => "goal",
+            OptionName::Workers => "workers",
         }
     }
 
@@ -29,6 +35,8 @@ impl OptionName {
         match self {
             OptionName::Turns => "--turns",
             OptionName::Seed => "--seed",
+            OptionName::Goal => "--goal",
+            OptionName::Workers => "--workers",
         }
     }
 
@@ -39,6 +47,8 @@ impl OptionName {
         match self {
             OptionName::Turns => "--turns=",
             OptionName::Seed => "--seed=",
+            OptionName::Goal => "--goal=",
+            OptionName::Workers => "--workers=",
         }
     }
 }

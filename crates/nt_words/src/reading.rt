@@ -1,12 +1,12 @@
 //! Words read as a form.
-ghost use Rattle.std.specs.Prelude.{◌≡◌, [], IfOk, map, string_bytes, option_map};
-ghost use Rattle.clap.specs.Walk.{rows_of};
+ghost use Rattle.std.specs.Prelude.{◌≡◌, [], IfOk, false, map, string_bytes, option_map};
+ghost use Rattle.clap.specs.Walk.{rows_of, rule_of};
 ghost use Rattle.clap.specs.Matches.{found_of};
 ghost use Rattle.clap.specs.Simple.{app_of, matches_of};
 ghost use Rattle.clap.specs.Faults.{fault_of};
-ghost use Rattle.nt_words.specs.Forms.{IsForm, IsWithin, names_live};
+ghost use Rattle.nt_words.specs.Forms.{IsForm, IsWithin, is_live_word, names_live};
 ghost use Rattle.nt_words.specs.Chosen.{chosen};
-ghost use Rattle.nt_words.specs.Parser.{ntrun_app};
+ghost use Rattle.nt_words.specs.Parser.{named_rule, ntrun_app};
 ghost use Rattle.nt_words.specs.Refusals.{IsNoForm, OnNoForm};
 
 use crate::form::{Command, Form, command_named, form_from};
@@ -39,13 +39,26 @@ impl From<AllocError> for WordsRefusal {
 /// The id of the command word among the matches.
 const COMMAND_ID: &str = "command";
 
-/// Whether one of the words is `live`. Takes no memory.
+/// Whether a word is `live` or `audit`: only these commands use threads.
+fn is_live_word(word: &str) -> bool
+    ensures { result ≡ is_live_word word.now }
+{
+    word == Command::Live.word() || word == Command::Audit.word()
+}
+
+/// Whether one of the words is `live` or `audit`. Takes no memory.
 pub fn is_live(words: &[String]) -> bool
     ensures { result ≡ names_live (map string_bytes words.now) }
 {
-    words
-        .iter()
-        .any(|word| word.as_str() == Command::Live.word())
+    words.iter().any(|word| is_live_word(word.as_str()))
+}
+
+/// The option of this name as the parser takes it.
+fn option<'a>(alloc: Global, name: &'a str) -> Arg<'a>
+    ensures rule { rule_of result ≡ named_rule name.entry.now }
+    ensures own { result.global ≡ false }
+{
+    Arg::new(alloc, name).long(name)
 }
 
 /// The parser of the words: one word and the options, with nothing of its own that answers.
@@ -53,14 +66,14 @@ fn parser<'a>(alloc: Global) -> Result<clap::Command<'a>, AllocError>
     ensures { IfOk result (λ c. app_of c ≡ ntrun_app) }
 {
     let command = Arg::new(alloc, COMMAND_ID).required(true);
-    let turns = Arg::new(alloc, "turns").long("turns");
-    let seed = Arg::new(alloc, "seed").long("seed");
     clap::Command::new(alloc, "ntrun")
         .no_binary_name(true)
         .disable_help_flag(true)
         .arg(command)?
-        .arg(turns)?
-        .arg(seed)
+        .arg(option(alloc, "turns"))?
+        .arg(option(alloc, "seed"))?
+        .arg(option(alloc, "goal"))?
+        .arg(option(alloc, "workers"))
 }
 
 /// A refusal of the parser.
@@ -95,6 +108,8 @@ fn form_in(matches: &ArgMatches<'_>) -> Option<Form>
         command,
         matches.get_str(OptionName::Turns.text()),
         matches.get_str(OptionName::Seed.text()),
+        matches.get_str(OptionName::Goal.text()),
+        matches.get_str(OptionName::Workers.text()),
     )
 }
 

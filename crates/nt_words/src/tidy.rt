@@ -2,7 +2,8 @@
 //! given twice.
 ghost use Rattle.std.specs.Prelude.{◌≡◌, map, string_bytes, eqb};
 ghost use Rattle.std.specs.List.{list_all, count_by};
-ghost use Rattle.nt_words.specs.Tidy.{has_hyphen, is_option_word, is_known, is_tidy, times_given};
+ghost use Rattle.nt_words.specs.Tidy.{has_hyphen, is_option_word, is_option, is_known, is_tidy};
+ghost use Rattle.nt_words.specs.Tidy.{times_given};
 
 use crate::option_name::OptionName;
 
@@ -23,13 +24,21 @@ fn is_option_word(name: OptionName, word: &[u8]) -> bool
     word == name.dashed().as_bytes() || word.starts_with(name.dashed_equals().as_bytes())
 }
 
+/// Whether a word is an option in one of its two spellings.
+fn is_option(word: &[u8]) -> bool
+    ensures { result ≡ is_option word.now }
+{
+    is_option_word(OptionName::Turns, word)
+        || is_option_word(OptionName::Seed, word)
+        || is_option_word(OptionName::Goal, word)
+        || is_option_word(OptionName::Workers, word)
+}
+
 /// Whether a word begins with no hyphen, or is an option in one of its two spellings.
 fn is_known(word: &[u8]) -> bool
     ensures { result ≡ is_known word.now }
 {
-    !has_hyphen(word)
-        || is_option_word(OptionName::Turns, word)
-        || is_option_word(OptionName::Seed, word)
+    !has_hyphen(word) || is_option(word)
 }
 
 /// Whether each word begins with no hyphen, or is an option in one of its two spellings.
@@ -56,4 +65,6 @@ pub(crate) fn is_tidy(words: &[String]) -> bool
     are_known(words)
         && times_given(OptionName::Turns, words) <= 1
         && times_given(OptionName::Seed, words) <= 1
+        && times_given(OptionName::Goal, words) <= 1
+        && times_given(OptionName::Workers, words) <= 1
 }

@@ -1,6 +1,7 @@
 //! Cases of command lines: which form a list of words is. A line is a list: one space is between
 //! two words, `~` is the empty word, and an empty line is no words. What is written is the form
-//! with its numbers, `no form`, or `no memory`, and then `, live` if one of the words is `live`.
+//! with its numbers, `no form`, or `no memory`, and then `, live` if one of the words is `live` or
+//! `audit`.
 use nt_words::{Form, WordsRefusal, form_of, is_live};
 use std::alloc::{AllocError, Global};
 use std::io;

@@ -48,8 +48,8 @@ fn live_writes_reports_of_runs(rt: HostRuntime) -> Result<(), Fail> {
     Ok(())
 }
 
-/// A driver in ordinary use: a thread asks and waits with a time limit, a device interrupts, and its
-/// DPC cancels the limit, queues an APC for the thread and releases it.
+/// A driver in ordinary use: a thread asks and waits with a time limit, a device interrupts, and
+/// its DPC cancels the limit, queues an APC for the thread and releases it.
 const DRIVER_IN_USE: &str =
     "cpus 2\nisr 0 5 isr5\ndpc d finish\ndpc late expired\ntimer limit late\nthread req 1 request\nthread dev 0 device\nspecial complete req completed\nroutine isr5\nqueue d\nexit\nroutine finish\napc complete\ncanceltimer limit\nrelease req\nexit\nroutine expired\nnote 99\nexit\nroutine request\nsettimer limit 100 0\nwait kernel plain\nnote 1\nexit\nroutine completed\nnote 2\nexit\nroutine device\ntarget d 1\ninterrupt 0 5\nclock 5\nexit\n";
 

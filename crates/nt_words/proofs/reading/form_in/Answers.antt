@@ -14,7 +14,7 @@ no_command : (rows : List Row) (w : List ℕ) → first_of (codes "command") row
 no_command rows w is none = rw is (rw none refl)
 
 a_command : (rows : List Row) (w : List ℕ) (c : Command) → first_of (codes "command") rows ≡ Some w → command_named w ≡ Some c
-    → chosen rows ≡ form_from c (first_of (codes "turns") rows) (first_of (codes "seed") rows)
+    → chosen rows ≡ form_from c (first_of (codes "turns") rows) (first_of (codes "seed") rows) (first_of (codes "goal") rows) (first_of (codes "workers") rows)
 a_command rows w c is named = rw is (rw named refl)
 
 pub returns-in_err-get_str : goal.returns-in_err-get_str
@@ -40,5 +40,7 @@ returns c =
     sym (first_value-rows f (codes "command")) ∙ (sym c.get_str.ensures ∙ ap (option_map (λ s. s.now)) c.in_ok-get_str.was) in
     let turns = c.get_str-2.ensures ∙ (first_value-rows f c.text.result.now ∙ ap (λ (id : List ℕ). first_of id (rows_of f)) c.text.ensures) in
     let seed = c.get_str-3.ensures ∙ (first_value-rows f c.text-2.result.now ∙ ap (λ (id : List ℕ). first_of id (rows_of f)) c.text-2.ensures) in
-    c.form_from.ensures ∙ ((λ i. form_from c.in_ok-command.command (turns i) (seed i))
+    let goal = c.get_str-4.ensures ∙ (first_value-rows f c.text-3.result.now ∙ ap (λ (id : List ℕ). first_of id (rows_of f)) c.text-3.ensures) in
+    let workers = c.get_str-5.ensures ∙ (first_value-rows f c.text-4.result.now ∙ ap (λ (id : List ℕ). first_of id (rows_of f)) c.text-4.ensures) in
+    c.form_from.ensures ∙ ((λ i. form_from c.in_ok-command.command (turns i) (seed i) (goal i) (workers i))
     ∙ sym (a_command (rows_of f) _ _ some (sym c.command_named.ensures ∙ c.in_ok-command.was)))
