@@ -39,6 +39,7 @@ by_source form.Replay so sn status text r h = h
 by_source form.Check so sn status text r h = h
 by_source (form.Load seed turns) so sn status text r h = cc
 by_source form.Migrate so sn status text r h = h
+by_source form.Verify so sn status text r h = h
 
 answer_found : (words : List (List ℕ)) (so sn : Supply) (r : Result Task Answer) (status : Status) (text : List ℕ) → Asks words so sn r →
     IsAnswerTo r status text → IsFound words so sn status text
@@ -77,3 +78,4 @@ asks_alone words so sn (Ok t) e h = go h.0 h.1 (threads_are_live h.0 h.2.bytes t
     go form.Check i k = k
     go (form.Load seed turns) i k = k
     go form.Migrate i k = k
+    go form.Verify i k = k

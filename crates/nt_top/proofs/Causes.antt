@@ -96,6 +96,7 @@ few_by form.Check so sn found text w other = few_from form.Check so sn found tex
 few_by (form.Live turns) so sn found text w other = few_from (form.Live turns) so sn found text w other
 few_by (form.Load seed turns) so sn found text w other = few_same so sn w.0
 few_by form.Migrate so sn found text w other = few_from form.Migrate so sn found text w other
+few_by form.Verify so sn found text w other = few_from form.Verify so sn found text w other
 
 few_starved : (words : List (List ℕ)) (so sn : Supply) → IsStarved words so sn → sn.taken ≤ so.taken + INPUT_LIMIT
 few_starved words so sn (inl e) = few_same so sn e
@@ -122,6 +123,7 @@ from_source form.Check so sn found text r w = w
 from_source (form.Live turns) so sn found text r w = w
 from_source (form.Load seed turns) so sn found text r w = cc
 from_source form.Migrate so sn found text r w = w
+from_source form.Verify so sn found text r w = w
 
 -- the source failed, or had too much
 read_by : (f : Form) (so sn : Supply) (text : List ℕ) → IsFoundBy f so sn exit.Read text → Rose so.faults sn.faults
@@ -131,6 +133,7 @@ read_by form.Check so sn text w = w.0
 read_by (form.Live turns) so sn text w = w.0
 read_by (form.Load seed turns) so sn text w = absurd w.1
 read_by form.Migrate so sn text w = w.0
+read_by form.Verify so sn text w = w.0
 
 many_by : (f : Form) (so sn : Supply) (text : List ℕ) → IsFoundBy f so sn exit.TooLong text → RoseBy (INPUT_LIMIT + 1) so.taken sn.taken
 many_by (form.Run turns) so sn text w = w.1
@@ -139,6 +142,7 @@ many_by form.Check so sn text w = w.1
 many_by (form.Live turns) so sn text w = w.1
 many_by (form.Load seed turns) so sn text w = absurd w.1
 many_by form.Migrate so sn text w = w.1
+many_by form.Verify so sn text w = w.1
 
 -- what is found in bytes, where the words are this form and nothing failed
 abbrev Which : Form → List ℕ → Status → Type 0
@@ -175,6 +179,7 @@ goes_well (task.Live input turns) text w = tt
 goes_well (task.Replay input schedule) text w = ap refused_in w.run.run
 goes_well (task.Check input history) text w = w.0
 goes_well (task.Migrate input) text w = tt
+goes_well (task.Verify input) text w = tt
 
 -- and then none of its turns is refused, and its history goes wrong nowhere
 well_refused : (t : Task) → GoesWell t → IsSome (refused_turn t) → ⊥
@@ -183,6 +188,7 @@ well_refused (task.Live input turns) w some = false≢true some
 well_refused (task.Replay input schedule) w some = is_none_not w some
 well_refused (task.Check input history) w some = false≢true some
 well_refused (task.Migrate input) w some = false≢true some
+well_refused (task.Verify input) w some = false≢true some
 
 wrong_refused : (t : Task) → GoesWrong t → IsSome (refused_turn t) → ⊥
 wrong_refused (task.Run input turns) w some = w.1
@@ -190,12 +196,14 @@ wrong_refused (task.Live input turns) w some = w.1
 wrong_refused (task.Replay input schedule) w some = w.1
 wrong_refused (task.Check input history) w some = false≢true some
 wrong_refused (task.Migrate input) w some = w.1
+wrong_refused (task.Verify input) w some = w.1
 
 well_wrong : (t : Task) → GoesWell t → GoesWrong t → ⊥
 well_wrong (task.Run input turns) w v = v.1
 well_wrong (task.Live input turns) w v = v.1
 well_wrong (task.Replay input schedule) w v = v.1
 well_wrong (task.Migrate input) w v = v.1
+well_wrong (task.Verify input) w v = v.1
 well_wrong (task.Check input history) w v =
     let one = one_verdict input.script history.turns history.events in
     go (one.1.1 verdict.Legal w ∙ sym (one.1.1 (verdict.IllegalAt v.0) v.1))

@@ -32,6 +32,7 @@ run_of (task.Replay input schedule) h r =
     record { turns = r.turns; run = i.run; settled = i.settled }
 run_of (task.Check input history) h r = absurd r
 run_of (task.Migrate input) h r = absurd r
+run_of (task.Verify input) h r = absurd r
 
 -- the events of a task's history name things of its script
 pub events_of : (t : Task) (h : History) → IsSoundTask t → IsRunOf t h → events_fit (input_of t).script h.events ≡ true

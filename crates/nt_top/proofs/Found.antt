@@ -58,6 +58,7 @@ well_of (task.Live input turns) h text r k = record { history = h; run = r; is =
 well_of (task.Replay input schedule) h text r k = record { history = h; run = r; is = k }
 well_of (task.Check input history) h text r k = absurd r
 well_of (task.Migrate input) h text r k = absurd r
+well_of (task.Verify input) h text r k = absurd r
 
 -- the history of a task is reported
 pub reported_done : (t : Task) (h : History) (status : Status) (text : List ℕ) → IsRunOf t h → IsReported (input_of t) h status text → IsDone t status text
@@ -138,3 +139,4 @@ found_by form.Check words so sn status text h w = found_as_form form.Check words
 found_by (form.Live turns) words so sn status text h w = found_as_form (form.Live turns) words so sn status text refl h w w
 found_by (form.Load seed turns) words so sn status text h w = found_as_load seed turns words so sn status text h w
 found_by form.Migrate words so sn status text h w = found_as_form form.Migrate words so sn status text refl h w w
+found_by form.Verify words so sn status text h w = found_as_form form.Verify words so sn status text refl h w w

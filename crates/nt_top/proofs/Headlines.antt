@@ -41,6 +41,9 @@ use Rattle.nt_top.specs.declared.status.Status.TheVariants as exit
 use Rattle.nt_top.specs.declared.task.Task.{Task}
 use Rattle.nt_top.specs.declared.task.Task.TheVariants as task
 use Rattle.nt_top.specs.Headline.{AllDue, HasWritten, Headline, IsActual, IsUncut, IsWhole, IsWholeCheck, IsWholeLoad, IsWholeMigrate, NothingIsLeft}
+use Rattle.nt_top.specs.Headline.{IsWholeVerify}
+use Rattle.nt_top.specs.Verified.{verify_text}
+use Rattle.nt_verify.specs.Laws.{CallsAreExpected, CleanScriptsRefuseNothing, OrderedScriptsSpinNowhere}
 use Rattle.nt_top.specs.Outcome.{Gave, IsFound, IsFoundBy, IsRunOf, IsWell, Store, Supply}
 use Rattle.nt_top.specs.Tasks.{Bad, and_then, input_of, limit_of, migrated, task_of}
 use Rattle.nt_top.proofs.Done.{run_of}
@@ -130,6 +133,7 @@ reported f so sn ko kn bytes text (task.Replay input schedule) within gave read 
     whole f so sn ko kn bytes text (task.Replay input schedule) w.history within gave read w.run w.is added
 reported f so sn ko kn bytes text (task.Check input history) within gave read w added n = absurd n
 reported f so sn ko kn bytes text (task.Migrate input) within gave read w added n = absurd n
+reported f so sn ko kn bytes text (task.Verify input) within gave read w added n = absurd n
 
 checked : (so sn : Supply) (ko kn : Store) (bytes text : List ℕ) (t : Task) → Gave bytes so sn → task_of form.Check bytes ≡ Ok t → IsWell t text →
     kn.held ≡ append_known ko.held text → IsCheck t → IsWholeCheck so sn ko kn
@@ -137,6 +141,7 @@ checked so sn ko kn bytes text (task.Run input turns) gave read w added n = absu
 checked so sn ko kn bytes text (task.Live input turns) gave read w added n = absurd n
 checked so sn ko kn bytes text (task.Replay input schedule) gave read w added n = absurd n
 checked so sn ko kn bytes text (task.Migrate input) gave read w added n = absurd n
+checked so sn ko kn bytes text (task.Verify input) gave read w added n = absurd n
 checked so sn ko kn bytes text (task.Check input history) gave read w added n = record {
   bytes = bytes;
   gave = gave;
@@ -174,22 +179,49 @@ migrate_written so sn ko kn bytes text t gave read w added = go (reading bytes) 
           written = subst (λ (x : List ℕ). kn.held ≡ append_known ko.held x) is added;
         }
 
-written_by : (f : Form) (so sn : Supply) (ko kn : Store) (text : List ℕ) → IsWithin f → IsFoundBy f so sn exit.Ok text →
-    kn.held ≡ append_known ko.held text → HasWritten f so sn ko kn
-written_by (form.Run turns) so sn ko kn text within w added =
-    reported (form.Run turns) so sn ko kn w.0 text w.2.0 within w.1 w.2.1 w.2.2 added (run_is_a_run turns w.0 w.2.0 w.2.1)
-written_by (form.Live turns) so sn ko kn text within w added =
-    reported (form.Live turns) so sn ko kn w.0 text w.2.0 within w.1 w.2.1 w.2.2 added (live_is_a_run turns w.0 w.2.0 w.2.1)
-written_by form.Replay so sn ko kn text within w added =
-    reported form.Replay so sn ko kn w.0 text w.2.0 within w.1 w.2.1 w.2.2 added (replay_is_a_run w.0 w.2.0 w.2.1)
-written_by form.Check so sn ko kn text within w added = checked so sn ko kn w.0 text w.2.0 w.1 w.2.1 w.2.2 added (check_is_one w.0 w.2.0 w.2.1)
-written_by (form.Load seed turns) so sn ko kn text within w added = load_written seed turns so sn ko kn text w added
-written_by form.Migrate so sn ko kn text within w added = migrate_written so sn ko kn w.0 text w.2.0 w.1 w.2.1 w.2.2 added
+-- what the laws over findings say of every script
+pub record OfFindings : Type 0 where
+  pub expected : CallsAreExpected
+  pub clean : CleanScriptsRefuseNothing
+  pub ordered : OrderedScriptsSpinNowhere
 
-pub headline : Headline
-headline words so sn ko kn a =
+verify_written : (so sn : Supply) (ko kn : Store) (bytes text : List ℕ) (t : Task) → OfFindings → Gave bytes so sn → task_of form.Verify bytes ≡ Ok t →
+    IsWell t text → kn.held ≡ append_known ko.held text → IsWholeVerify so sn ko kn
+verify_written so sn ko kn bytes text t laws gave read w added = go (reading bytes) refl read
+  where
+    go : (r : Result Input Bad) → reading bytes ≡ r → and_then r (λ input. Ok (task.Verify input)) ≡ Ok t → IsWholeVerify so sn ko kn
+    go (Err bad) e k = cc
+    go (Ok input) e k =
+        let same : task.Verify input ≡ t = cc in
+        let is : text ≡ verify_text input = subst (λ (u : Task). IsWell u text) (sym same) w in
+        record {
+          bytes = bytes;
+          gave = gave;
+          input = input;
+          read = e;
+          written = subst (λ (x : List ℕ). kn.held ≡ append_known ko.held x) is added;
+          expected = laws.expected;
+          clean = laws.clean;
+          ordered = laws.ordered;
+        }
+
+written_by : OfFindings → (f : Form) (so sn : Supply) (ko kn : Store) (text : List ℕ) → IsWithin f → IsFoundBy f so sn exit.Ok text →
+    kn.held ≡ append_known ko.held text → HasWritten f so sn ko kn
+written_by laws (form.Run turns) so sn ko kn text within w added =
+    reported (form.Run turns) so sn ko kn w.0 text w.2.0 within w.1 w.2.1 w.2.2 added (run_is_a_run turns w.0 w.2.0 w.2.1)
+written_by laws (form.Live turns) so sn ko kn text within w added =
+    reported (form.Live turns) so sn ko kn w.0 text w.2.0 within w.1 w.2.1 w.2.2 added (live_is_a_run turns w.0 w.2.0 w.2.1)
+written_by laws form.Replay so sn ko kn text within w added =
+    reported form.Replay so sn ko kn w.0 text w.2.0 within w.1 w.2.1 w.2.2 added (replay_is_a_run w.0 w.2.0 w.2.1)
+written_by laws form.Check so sn ko kn text within w added = checked so sn ko kn w.0 text w.2.0 w.1 w.2.1 w.2.2 added (check_is_one w.0 w.2.0 w.2.1)
+written_by laws (form.Load seed turns) so sn ko kn text within w added = load_written seed turns so sn ko kn text w added
+written_by laws form.Migrate so sn ko kn text within w added = migrate_written so sn ko kn w.0 text w.2.0 w.1 w.2.1 w.2.2 added
+written_by laws form.Verify so sn ko kn text within w added = verify_written so sn ko kn w.0 text w.2.0 laws w.1 w.2.1 w.2.2 added
+
+pub headline : OfFindings → Headline
+headline laws words so sn ko kn a =
     let found : IsFound words so sn exit.Ok a.text = subst (λ (s : Status). IsFound words so sn s a.text) (sym a.written.0) a.cause in (
       found.0,
       found.1,
-      written_by found.0 so sn ko kn a.text (form_within words (Ok found.0) found.1) found.2 a.written.1,
+      written_by laws found.0 so sn ko kn a.text (form_within words (Ok found.0) found.1) found.2 a.written.1,
     )

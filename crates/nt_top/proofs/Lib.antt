@@ -6,6 +6,7 @@ mod Found
 mod Headlines
 mod Loads
 mod Looks
+mod Named
 mod PlainTasks
 mod Splits
 mod Tasked

@@ -44,6 +44,7 @@ IsPlainTask (task.Live input turns) = IsSound input × IsLimit input turns
 IsPlainTask (task.Replay input schedule) = IsSound input × IsPlain input schedule
 IsPlainTask (task.Check input history) = IsSound input × HistoryIsPlain input history
 IsPlainTask (task.Migrate input) = IsSound input
+IsPlainTask (task.Verify input) = IsSound input
 
 pub sound_task : (t : Task) → IsPlainTask t → IsSound (input_of t)
 sound_task (task.Run input turns) p = p.0
@@ -51,6 +52,7 @@ sound_task (task.Live input turns) p = p.0
 sound_task (task.Replay input schedule) p = p.0
 sound_task (task.Check input history) p = p.0
 sound_task (task.Migrate input) p = p
+sound_task (task.Verify input) p = p
 
 -- a script alone, whatever task is made of it
 script_plain : (make : Input → Task) (bytes : List ℕ) (t : Task) → ((input : Input) → IsSound input → IsPlainTask (make input)) →
@@ -114,6 +116,7 @@ task_plain (form.Live turns) bytes t w e =
     script_plain (λ input. task.Live input (limited input turns)) bytes t (λ input sound. (sound, limited_fits input turns w)) e
 task_plain (form.Load seed turns) bytes t w e = cc
 task_plain form.Migrate bytes t w e = script_plain (λ input. task.Migrate (migrated input)) bytes t (λ input sound. migrated_sound input sound) e
+task_plain form.Verify bytes t w e = script_plain (λ input. task.Verify input) bytes t (λ input sound. sound) e
 
 -- ---- its history
 
@@ -142,3 +145,4 @@ run_of_input (task.Replay input schedule) h p r =
     (subst (λ (s : Schedule). IsPlain input s) (schedule_same h schedule r.turns i.turns_are) p.1)
 run_of_input (task.Check input history) h p r = absurd r
 run_of_input (task.Migrate input) h p r = absurd r
+run_of_input (task.Verify input) h p r = absurd r

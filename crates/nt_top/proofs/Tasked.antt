@@ -21,6 +21,7 @@ IsCheck (task.Live input turns) = ⊥
 IsCheck (task.Replay input schedule) = ⊥
 IsCheck (task.Check input history) = Unit {0}
 IsCheck (task.Migrate input) = ⊥
+IsCheck (task.Verify input) = ⊥
 
 -- the task is one of a run, whose history is reported
 abbrev pub IsRunTask : Task → Type 0
@@ -29,6 +30,7 @@ IsRunTask (task.Live input turns) = Unit {0}
 IsRunTask (task.Replay input schedule) = Unit {0}
 IsRunTask (task.Check input history) = ⊥
 IsRunTask (task.Migrate input) = ⊥
+IsRunTask (task.Verify input) = ⊥
 
 -- what holds of a task that a reader made of what it read
 made : {A : Type 0} (P : Task → Type 0) (make : A → Task) → ((x : A) → P (make x)) → (r : Result A Bad) (t : Task) → and_then r (λ x. Ok (make x)) ≡ Ok t →
@@ -89,6 +91,8 @@ threads_are_live form.Check bytes t e =
 threads_are_live (form.Load seed turns) bytes t e = cc
 threads_are_live form.Migrate bytes t e =
     made (λ u. is_threaded u ≡ false) (λ input. task.Migrate (migrated input)) (λ x. refl) (reading bytes) t e
+threads_are_live form.Verify bytes t e =
+    made (λ u. is_threaded u ≡ false) (λ input. task.Verify input) (λ x. refl) (reading bytes) t e
 
 -- and a form that has a task reads it from the source
 pub tasks_are_read : (f : Form) (bytes : List ℕ) (t : Task) → task_of f bytes ≡ Ok t → reads f ≡ true
@@ -98,3 +102,4 @@ tasks_are_read form.Replay bytes t e = refl
 tasks_are_read form.Check bytes t e = refl
 tasks_are_read (form.Load seed turns) bytes t e = cc
 tasks_are_read form.Migrate bytes t e = refl
+tasks_are_read form.Verify bytes t e = refl

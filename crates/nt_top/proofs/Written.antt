@@ -27,6 +27,7 @@ never_by form.Check old new text w = w.2.2
 never_by (form.Live turns) old new text w = w.2.2
 never_by (form.Load seed turns) old new text w = w.1
 never_by form.Migrate old new text w = w.2.2
+never_by form.Verify old new text w = w.2.2
 
 -- a fault of the sink is never found before the writing
 found_before : (words : List (List ℕ)) (old new : Supply) (status : Status) (text : List ℕ) → IsFound words old new status text → status ≡ exit.Write → ⊥

@@ -47,6 +47,8 @@ use Rattle.nt_top.specs.declared.task.Task.{Task}
 use Rattle.nt_top.specs.declared.task.Task.TheVariants as task
 use Rattle.nt_top.specs.Outcome.{Gave, IsAnswered, IsGiven, IsRobinRun, IsRunOf, Store, Supply, legal_line}
 use Rattle.nt_top.specs.Tasks.{behind, input_of, limit_of, migrated, tail_word, task_of}
+use Rattle.nt_top.specs.Verified.{verify_text}
+use Rattle.nt_verify.specs.Laws.{CallsAreExpected, CleanScriptsRefuseNothing, OrderedScriptsSpinNowhere}
 
 -- ---- the actual history
 
@@ -150,6 +152,19 @@ pub record IsWholeMigrate (so sn : Supply) (ko kn : Store) : Type 0 where
   pub read : reading bytes ≡ Ok input
   pub written : kn.held ≡ append_known ko.held (text (migrated input))
 
+-- the bytes that the source gave are a script, and exactly the lines of what is found in it were added to the sink. In
+-- every run of this script each call is refused exactly as is expected of its place; where nothing is found, no call is
+-- refused; and where the locks are ordered, no processor spins in a settled run in which none is cut.
+pub record IsWholeVerify (so sn : Supply) (ko kn : Store) : Type 0 where
+  pub bytes : List ℕ
+  pub gave : Gave bytes so sn
+  pub input : Input
+  pub read : reading bytes ≡ Ok input
+  pub written : kn.held ≡ append_known ko.held (verify_text input)
+  pub expected : CallsAreExpected
+  pub clean : CleanScriptsRefuseNothing
+  pub ordered : OrderedScriptsSpinNowhere
+
 -- what a form has written with status 0: `run`, `live` and `replay` the report of their history
 abbrev pub HasWritten : Form → Supply → Supply → Store → Store → Type 0
 HasWritten (form.Run turns) so sn ko kn = IsWhole (form.Run turns) so sn ko kn
@@ -158,9 +173,10 @@ HasWritten form.Replay so sn ko kn = IsWhole form.Replay so sn ko kn
 HasWritten form.Check so sn ko kn = IsWholeCheck so sn ko kn
 HasWritten (form.Load seed turns) so sn ko kn = IsWholeLoad seed turns so sn ko kn
 HasWritten form.Migrate so sn ko kn = IsWholeMigrate so sn ko kn
+HasWritten form.Verify so sn ko kn = IsWholeVerify so sn ko kn
 
 -- what was written with status 0 is the report of the actual history, that the history of a report is legal, the
--- summary of a load's run, or the script in the newest version
+-- summary of a load's run, the script in the newest version, or what is found in the script
 abbrev pub Headline : Type 0
 Headline = (words : List (List ℕ)) (so sn : Supply) (ko kn : Store) → IsAnswered words so sn ko kn exit.Ok →
     (f : Form) × IsForm words f × HasWritten f so sn ko kn

@@ -1,4 +1,5 @@
 pub mod Status
+pub mod Verified
 pub mod Tasks
 pub mod Outcome
 pub mod Answer

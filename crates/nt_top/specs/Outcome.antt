@@ -34,6 +34,7 @@ use Rattle.nt_top.specs.declared.status.Status.TheVariants as exit
 use Rattle.nt_top.specs.declared.task.Task.{Task}
 use Rattle.nt_top.specs.declared.task.Task.TheVariants as task
 use Rattle.nt_top.specs.Tasks.{Bad, input_of, reads, task_of}
+use Rattle.nt_top.specs.Verified.{verify_text}
 
 -- ---- the outside, as a call finds or leaves it
 
@@ -126,13 +127,14 @@ pub record IsReplayed (s : Script) (schedule : Schedule) (h : History) : Type 0 
   pub run : replayed s schedule.turns schedule.list ≡ Ok (reverse h.events)
 
 -- the history that the task asks for: the robin run, any settled run on threads, the run of the schedule's turns; a
--- check and a text that is migrated ask for none
+-- check and a script that is migrated or verified ask for none
 abbrev pub IsRunOf : Task → History → Type 0
 IsRunOf (task.Run input turns) h = IsRobinRun input.script turns h
 IsRunOf (task.Live input turns) h = IsLiveRun input.script turns h
 IsRunOf (task.Replay input schedule) h = IsReplayed input.script schedule h
 IsRunOf (task.Check input history) h = ⊥
 IsRunOf (task.Migrate input) h = ⊥
+IsRunOf (task.Verify input) h = ⊥
 
 abbrev pub refused_in : Result (List Event) Refused → Option Refused
 refused_in (Ok past) = None
@@ -145,6 +147,7 @@ refused_turn (task.Live input turns) = None
 refused_turn (task.Replay input schedule) = refused_in (replayed input.script schedule.turns schedule.list)
 refused_turn (task.Check input history) = None
 refused_turn (task.Migrate input) = None
+refused_turn (task.Verify input) = None
 
 -- the text is the report of the task's history
 pub record IsReport (t : Task) (text : List ℕ) : Type 0 where
@@ -163,14 +166,16 @@ IsIllegal (task.Run input turns) n = ⊥
 IsIllegal (task.Live input turns) n = ⊥
 IsIllegal (task.Replay input schedule) n = ⊥
 IsIllegal (task.Migrate input) n = ⊥
+IsIllegal (task.Verify input) n = ⊥
 
--- the task is done with this text: a report, the line of a legal history, or the text of the script
+-- the task is done with this text: a report, the line of a legal history, a script's text, or what is found in it
 abbrev pub IsWell : Task → List ℕ → Type 0
 IsWell (task.Run input turns) text = IsReport (task.Run input turns) text
 IsWell (task.Live input turns) text = IsReport (task.Live input turns) text
 IsWell (task.Replay input schedule) text = IsReport (task.Replay input schedule) text
 IsWell (task.Check input history) text = IsLegal input history × (text ≡ legal_line)
 IsWell (task.Migrate input) text = text ≡ script_text input
+IsWell (task.Verify input) text = text ≡ verify_text input
 
 -- what is answered to a task, and its text
 abbrev pub IsDone : Task → Status → List ℕ → Type 0
@@ -227,6 +232,7 @@ IsFoundBy form.Check old new status text = IsFoundFrom form.Check old new status
 IsFoundBy (form.Live turns) old new status text = IsFoundFrom (form.Live turns) old new status text
 IsFoundBy (form.Load seed turns) old new status text = (new ≡ old) × IsLoaded seed turns status text
 IsFoundBy form.Migrate old new status text = IsFoundFrom form.Migrate old new status text
+IsFoundBy form.Verify old new status text = IsFoundFrom form.Verify old new status text
 
 -- the words are a form that reads, and not too much was read
 pub record HasRead (given : List (List ℕ)) (old new : Supply) : Type 0 where
@@ -282,13 +288,14 @@ pub record IsAsked (words : List (List ℕ)) (f : Form) (bytes : List ℕ) (t : 
 abbrev pub GoesWrong : Task → Type 0
 GoesWrong t = (n : ℕ) × IsIllegal t n
 
--- a script is run or migrated; the turns of a schedule make a settled run; the history that is checked is one
+-- a script is run, migrated or verified; the turns of a schedule make a settled run; the history that is checked is one
 abbrev pub GoesWell : Task → Type 0
 GoesWell (task.Run input turns) = Unit {0}
 GoesWell (task.Live input turns) = Unit {0}
 GoesWell (task.Replay input schedule) = refused_turn (task.Replay input schedule) ≡ None
 GoesWell (task.Check input history) = IsLegal input history
 GoesWell (task.Migrate input) = Unit {0}
+GoesWell (task.Verify input) = Unit {0}
 
 -- nothing is read, and the status is 0, but for want of memory and a fault of the sink
 pub record IsUnread (status : Status) (old new : Supply) : Type 0 where

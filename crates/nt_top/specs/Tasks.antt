@@ -85,6 +85,10 @@ migrated input = record input { version = 2 }
 abbrev pub migrate_task : List ℕ → Result Task Bad
 migrate_task bytes = and_then (reading bytes) (λ input. Ok (task.Migrate (migrated input)))
 
+-- a script alone, to be verified
+abbrev pub verify_task : List ℕ → Result Task Bad
+verify_task bytes = and_then (reading bytes) (λ input. Ok (task.Verify input))
+
 -- the form reads the input; `load` makes its own
 abbrev pub reads : Form → Bool
 reads (form.Run turns) = true
@@ -93,6 +97,7 @@ reads form.Check = true
 reads (form.Live turns) = true
 reads (form.Load seed turns) = false
 reads form.Migrate = true
+reads form.Verify = true
 
 -- what a form reads in the bytes. One that reads nothing finds nothing there.
 abbrev pub task_of : Form → List ℕ → Result Task Bad
@@ -102,6 +107,7 @@ task_of form.Check bytes = both_parts tail.Report bytes
 task_of (form.Live turns) bytes = live_task turns bytes
 task_of (form.Load seed turns) bytes = Err (1, NoCpus)
 task_of form.Migrate bytes = migrate_task bytes
+task_of form.Verify bytes = verify_task bytes
 
 -- ---- what holds of a task
 
@@ -111,14 +117,16 @@ input_of (task.Live input turns) = input
 input_of (task.Replay input schedule) = input
 input_of (task.Check input history) = input
 input_of (task.Migrate input) = input
+input_of (task.Verify input) = input
 
--- the turn limit of its run; a text that is migrated has none
+-- the turn limit of its run; a script that is migrated or verified has none
 abbrev pub limit_of : Task → ℕ
 limit_of (task.Run input turns) = turns
 limit_of (task.Live input turns) = turns
 limit_of (task.Replay input schedule) = schedule.turns
 limit_of (task.Check input history) = history.turns
 limit_of (task.Migrate input) = 0
+limit_of (task.Verify input) = 0
 
 -- a turn limit of the input's script
 abbrev pub IsLimit : Input → ℕ → Type 0
@@ -130,6 +138,7 @@ HasLimit (task.Live input turns) = IsLimit input turns
 HasLimit (task.Replay input schedule) = IsLimit input schedule.turns
 HasLimit (task.Check input history) = IsLimit input history.turns
 HasLimit (task.Migrate input) = Unit {0}
+HasLimit (task.Verify input) = Unit {0}
 
 -- what is read is sound, and its limit is in its range
 pub record IsSoundTask (t : Task) : Type 0 where
@@ -143,6 +152,7 @@ is_threaded (task.Live input turns) = true
 is_threaded (task.Replay input schedule) = false
 is_threaded (task.Check input history) = false
 is_threaded (task.Migrate input) = false
+is_threaded (task.Verify input) = false
 
 -- the form asks for such a task
 abbrev pub asks_threads : Form → Bool
@@ -152,3 +162,4 @@ asks_threads form.Replay = false
 asks_threads form.Check = false
 asks_threads (form.Load seed turns) = false
 asks_threads form.Migrate = false
+asks_threads form.Verify = false

@@ -18,6 +18,7 @@ ghost use Rattle.nt_top.specs.Tasks.{IsLimit, IsSoundTask, is_threaded, reads};
 
 use crate::status::Status;
 use crate::task::{Task, task_of};
+use crate::verifying::verify_text;
 use nt_check::{Verdict, check};
 use nt_core::{ScheduleRefusal, replay, run};
 use nt_event::{ScheduleKind, Script};
@@ -254,6 +255,20 @@ fn migrated(alloc: Global, input: &Input) -> Answer
     }
 }
 
+/// What is answered to a script that is verified.
+fn verified(alloc: Global, input: &Input) -> Answer
+    requires { IsSound input.now }
+    ensures { IsDone (Task.Verify input.now) result.status (text_of result.text) }
+{
+    match verify_text(alloc, input) {
+        Ok(text) => Answer {
+            status: Status::Ok,
+            text: Text::Made(text),
+        },
+        Err(_) => no_memory(),
+    }
+}
+
 /// What is answered to a task that needs no threads.
 pub(crate) fn done(alloc: Global, task: &Task) -> Answer
     requires sound { IsSoundTask task.now }
@@ -266,6 +281,7 @@ pub(crate) fn done(alloc: Global, task: &Task) -> Answer
         Task::Replay { input, schedule } => replayed(alloc, input, schedule),
         Task::Check { input, history } => checked(alloc, input, history),
         Task::Migrate { input } => migrated(alloc, input),
+        Task::Verify { input } => verified(alloc, input),
     }
 }
 

@@ -1,6 +1,9 @@
 //! The headline, as laws over what the top call answers.
 ghost use Rattle.nt_top.specs.Headline.{CheckCallsItLegal, Headline, ReplayWritesTheSame};
 
+use nt_verify::{
+    calls_are_refused_as_expected, ordered_scripts_spin_nowhere, scripts_without_findings_are_clean,
+};
 use nt_words::words_have_one_form;
 
 /// What `run`, `live` or `replay` wrote with status 0 is the report of the actual history: of the
@@ -13,10 +16,16 @@ use nt_words::words_have_one_form;
 /// history. `check` wrote with status 0 that the history of the report that was read is legal, and
 /// it is a settled run of the script. `load` read nothing and wrote with status 0 the summary of
 /// the robin run of the seed's load. `migrate` wrote with status 0 the text of the script that was
-/// read, in version 2.
+/// read, in version 2. `verify` wrote with status 0 what is found in the script that was read: the
+/// places of which a refusal is expected, and whether its locks are acquired in rising order. In
+/// every run of every script each call is refused exactly as expected.
 pub fn the_report_is_that_of_the_actual_history()
     ensures { Headline }
-{}
+{
+    calls_are_refused_as_expected();
+    scripts_without_findings_are_clean();
+    ordered_scripts_spin_nowhere();
+}
 
 /// Replaying the schedule of a report that `run`, `live` or `replay` wrote writes the same bytes:
 /// the script's text with the schedule part of the report behind it, given to `replay`, has status

@@ -9,7 +9,9 @@
 //! writes `legal` if the report's history is a settled run of the script, else the number at which
 //! it goes wrong. `load --seed N` reads nothing: it makes a long script from the seed, runs it in
 //! the fixed order, and writes how many events, calls, refusals and deliveries there were.
-//! `migrate` reads a script and writes it in version 2.
+//! `migrate` reads a script and writes it in version 2. `verify` reads a script and writes which of
+//! its commands are refused wherever they are reached, and whether it acquires its locks in rising
+//! order.
 //!
 //! [`ntrun`] is the whole program over a source, a sink and a gate; [`plain`] is the same for words
 //! that need no threads. `nt_words` tells which form the words are. The bytes of the source are
@@ -17,7 +19,8 @@
 //! `check` a report (`nt_report`) behind it. `nt_core` makes the history that a task asks for, by
 //! the robin rule or by the schedule's turns, or `nt_live` on threads, and `nt_print` its text;
 //! `nt_check` tests the history of a report. The script of a load is that of `nt_load`, and
-//! `nt_print` sums up its history. What is found is written at once. `specs/Outcome.antt` says when
+//! `nt_print` sums up its history. What `verify` finds is that of `nt_verify`. What is found is
+//! written at once. `specs/Outcome.antt` says when
 //! each status comes and what is written, and `specs/Headline.antt` what that promises.
 #![tactic(auto)]
 
@@ -27,6 +30,7 @@ mod status;
 mod task;
 mod threads;
 mod top;
+mod verifying;
 
 pub use headline::{
     check_calls_the_report_legal, replaying_its_schedule_writes_the_report_again,

@@ -9,6 +9,7 @@ ghost use Rattle.nt_words.specs.Forms.{IsTurns, IsWithin};
 ghost use Rattle.nt_top.specs.Tasks.{IsLimit, IsSoundTask, both_parts, last_line, limited};
 ghost use Rattle.nt_top.specs.Tasks.{live_task, migrate_task, reads, report_task, run_task};
 ghost use Rattle.nt_top.specs.Tasks.{schedule_task, tail_task, tail_word, two_parts, task_of};
+ghost use Rattle.nt_top.specs.Tasks.{verify_task};
 
 use nt_history::History;
 use nt_log::{Schedule, read_schedule, turn_bound};
@@ -31,6 +32,8 @@ pub(crate) enum Task {
     Check { input: Input, history: History },
     /// The script is written in the newest version.
     Migrate { input: Input },
+    /// What is found in the script is written.
+    Verify { input: Input },
 }
 
 /// What stands behind a script.
@@ -111,6 +114,16 @@ fn to_migrate(alloc: Global, bytes: &[u8]) -> Result<Task, ScriptRefusal>
     Ok(Task::Migrate {
         input: migrate(input),
     })
+}
+
+/// A script alone, to be verified.
+fn to_verify(alloc: Global, bytes: &[u8]) -> Result<Task, ScriptRefusal>
+    requires bytes { length bytes.now ≤ INPUT_LIMIT }
+    ensures read { GivesRead result (verify_task bytes.now) }
+    ensures sound { IfOk result IsSoundTask }
+{
+    let input = read(alloc, bytes)?;
+    Ok(Task::Verify { input })
 }
 
 /// The schedule behind a script that was read.
@@ -217,5 +230,6 @@ pub(crate) fn task_of(alloc: Global, form: Form, bytes: &[u8]) -> Result<Task, S
         Form::Check => both_parts(alloc, Tail::Report, bytes),
         Form::Load { .. } => unreachable!(),
         Form::Migrate => to_migrate(alloc, bytes),
+        Form::Verify => to_verify(alloc, bytes),
     }
 }

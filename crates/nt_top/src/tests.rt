@@ -15,6 +15,7 @@ use std::thread::Threads;
 mod live;
 mod locks;
 mod sizes;
+mod verifying;
 
 /// A thread raises the level, inserts a DPC object and lowers the level, and the DPC runs before
 /// the thread goes on.

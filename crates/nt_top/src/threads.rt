@@ -99,9 +99,11 @@ fn done_on_threads<G: Gate + Sync, R: Threads + Wait + Sync>(
 {
     match task {
         Task::Live { input, turns } => lived(rt, alloc, input, *turns, gate),
-        Task::Run { .. } | Task::Replay { .. } | Task::Check { .. } | Task::Migrate { .. } => done(
-            alloc, task,
-        ),
+        Task::Run { .. }
+        | Task::Replay { .. }
+        | Task::Check { .. }
+        | Task::Migrate { .. }
+        | Task::Verify { .. } => done(alloc, task),
     }
 }
 

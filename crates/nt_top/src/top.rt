@@ -59,6 +59,7 @@ fn ask_by<S: Source>(alloc: Global, form: Form, source: &mut S) -> Result<Task, 
         Form::Check => ask_from(alloc, form, source),
         Form::Load { seed, turns } => Err(loaded(alloc, seed, turns)),
         Form::Migrate => ask_from(alloc, form, source),
+        Form::Verify => ask_from(alloc, form, source),
     }
 }
 
@@ -102,16 +103,16 @@ pub fn starved<K: Sink>(sink: &mut K) -> Status
 /// The program for words of which none is `live` or `audit`: `words` are those behind the program's
 /// name. It waits for nobody and returns.
 ///
-/// The forms are `run`, `replay`, `check`, `load` and `migrate`. In this order: `Usage` exactly
-/// where the words are no form, and then nothing is read. `load` reads nothing either: its status
-/// is `Ok` and its text the summary of the robin run of the seed's load. For the other forms `Read`
-/// comes only where the source's count of faults rose; `TooLong` exactly where more than 33,554,432
-/// bytes were taken; `Script` exactly where a line is refused, of the script or of what stands
-/// behind it; `Schedule`, of `replay` alone, exactly where the turns make no settled run;
+/// The forms are `run`, `replay`, `check`, `load`, `migrate` and `verify`. In this order: `Usage`
+/// exactly where the words are no form, and then nothing is read. `load` reads nothing either: its
+/// status is `Ok` and its text the summary of the robin run of the seed's load. For the other forms
+/// `Read` comes only where the source's count of faults rose; `TooLong` exactly where more than
+/// 33,554,432 bytes were taken; `Script` exactly where a line is refused, of the script or of what
+/// stands behind it; `Schedule`, of `replay` alone, exactly where the turns make no settled run;
 /// `Illegal`, of `check` alone, exactly where the history is no settled run, with the number at
 /// which it goes wrong; else `Ok`, with the report of the robin run for `run`, of the schedule's
-/// run for `replay`, the line `legal` for `check`, and the script in the newest version of its text
-/// for `migrate`.
+/// run for `replay`, the line `legal` for `check`, the script in the newest version of its text for
+/// `migrate`, and what is found in the script for `verify`.
 ///
 /// Want of memory, `Memory`, may come at any place. The text or line of the status is written whole
 /// by one `write_all`; where that fails, `Write`, and a front part of it stands.

@@ -35,6 +35,7 @@ within (form.Live turns) ps has = turns_within turns ps has.turns
 within form.Replay ps has = tt
 within form.Check ps has = tt
 within form.Migrate ps has = tt
+within form.Verify ps has = tt
 within (form.Load seed turns) ps has = (has.1.2, turns_within turns ps has.0)
 
 pub form_within : (words : List (List ℕ)) (r : Result Form WordsRefusal) → IfOk r (IsForm words) → IfOk r IsWithin

@@ -113,6 +113,7 @@ options_bare (form.Live turns) ps has name = only_bare turns ps has name
 options_bare form.Replay ps has name = none_bare ps has name
 options_bare form.Check ps has name = none_bare ps has name
 options_bare form.Migrate ps has name = none_bare ps has name
+options_bare form.Verify ps has name = none_bare ps has name
 options_bare (form.Load seed turns) ps has Turns = turns_bare turns ps has.0
 options_bare (form.Load seed turns) ps has Seed = seed_bare seed ps has.1
 options_bare (form.Load seed turns) ps has Goal = none_given _ has.2

@@ -59,7 +59,8 @@ form_from command.Check turns seed goal workers =
 form_from command.Load turns seed goal workers = load_from turns seed goal workers
 form_from command.Migrate turns seed goal workers =
     option_and_then (λ _. Some form.Migrate) (no_options turns seed goal workers)
-form_from command.Verify turns seed goal workers = None
+form_from command.Verify turns seed goal workers =
+    option_and_then (λ _. Some form.Verify) (no_options turns seed goal workers)
 form_from command.Shrink turns seed goal workers = None
 form_from command.Audit turns seed goal workers = None
 

@@ -24,7 +24,7 @@ is_built command.Replay = true
 is_built command.Check = true
 is_built command.Load = true
 is_built command.Migrate = true
-is_built command.Verify = false
+is_built command.Verify = true
 is_built command.Shrink = false
 is_built command.Audit = false
 

@@ -20,6 +20,7 @@ command_of form.Replay = command.Replay
 command_of form.Check = command.Check
 command_of (form.Load seed turns) = command.Load
 command_of form.Migrate = command.Migrate
+command_of form.Verify = command.Verify
 
 -- the option is given once, with this number in decimal, which lies within the bounds
 abbrev pub Gives : OptionName → ℕ → ℕ → ℕ → List Piece → Type 0
@@ -59,6 +60,7 @@ HasOptions form.Check pieces = HasNoOptions pieces
 HasOptions (form.Load seed turns) pieces = HasTurns turns pieces × HasSeed seed pieces × IsMissing Goal pieces ×
     IsMissing Workers pieces
 HasOptions form.Migrate pieces = HasNoOptions pieces
+HasOptions form.Verify pieces = HasNoOptions pieces
 
 -- the words are this form: its command word once, and its options, each once at most, in any order and spelling
 pub record IsForm (words : List (List ℕ)) (f : Form) : Type 0 where
@@ -79,6 +81,7 @@ IsWithin form.Replay = Unit {0}
 IsWithin form.Check = Unit {0}
 IsWithin (form.Load seed turns) = (seed ≤ GREATEST_SEED) × IsTurns turns
 IsWithin form.Migrate = Unit {0}
+IsWithin form.Verify = Unit {0}
 
 -- the word is `live` or `audit`
 abbrev pub is_live_word : List ℕ → Bool

@@ -9,7 +9,8 @@ use nt_event::limits::{TURNS, USUAL_TURNS};
 use nt_text::number;
 
 /// What is written where the words are no form: the forms that are built.
-pub const USAGE: &str = "usage: ntrun run|live|replay|check|load|migrate [--turns N] [--seed N]\n";
+pub const USAGE: &str =
+    "usage: ntrun run|live|replay|check|load|migrate|verify [--turns N] [--seed N]\n";
 
 /// The greatest seed of a load.
 pub const GREATEST_SEED: u32 = 4_294_967_295;
@@ -65,6 +66,8 @@ pub enum Form {
     Load { seed: u32, turns: u32 },
     /// `migrate`.
     Migrate,
+    /// `verify`.
+    Verify,
 }
 
 impl Command {
@@ -96,7 +99,7 @@ impl Command {
             Command::Check => true,
             Command::Load => true,
             Command::Migrate => true,
-            Command::Verify => false,
+            Command::Verify => true,
             Command::Shrink => false,
             Command::Audit => false,
         }
@@ -246,6 +249,10 @@ pub(crate) fn form_from(
             no_options(turns, seed, goal, workers)?;
             Some(Form::Migrate)
         }
-        Command::Verify | Command::Shrink | Command::Audit => None,
+        Command::Verify => {
+            no_options(turns, seed, goal, workers)?;
+            Some(Form::Verify)
+        }
+        Command::Shrink | Command::Audit => None,
     }
 }

@@ -29,6 +29,7 @@ fn put_form(rt: &HostRuntime, words: &[String]) -> io::Result<()> {
         Ok(Form::Check) => println!(rt; "check{live}"),
         Ok(Form::Load { seed, turns }) => println!(rt; "load {seed} {turns}{live}"),
         Ok(Form::Migrate) => println!(rt; "migrate{live}"),
+        Ok(Form::Verify) => println!(rt; "verify{live}"),
         Err(WordsRefusal::NoForm) => println!(rt; "no form{live}"),
         Err(WordsRefusal::NoMemory) => println!(rt; "no memory{live}"),
     }
