@@ -1,0 +1,6 @@
+pub mod Meeting
+pub mod Cutting
+pub mod Greatest
+pub mod Runs
+pub mod Shrunk
+pub mod Taking

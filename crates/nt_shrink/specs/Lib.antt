@@ -1,0 +1,6 @@
+pub mod Goals
+pub mod Traces
+pub mod Shorter
+pub mod Spare
+pub mod Refusals
+pub mod Laws

@@ -1,0 +1,107 @@
+//! The shrunk list.
+ghost use Rattle.std.specs.Prelude.{◌≡◌, ◌≤◌, ◌*◌, IfErr, IfOk, IsTrue, length, option_map};
+ghost use Rattle.nt_event.specs.Script.{fits};
+ghost use Rattle.nt_shrink.specs.Laws.{IsDelivery};
+ghost use Rattle.nt_shrink.specs.Refusals.{IsShrinkRefused};
+ghost use Rattle.nt_shrink.specs.Shorter.{without as list_without};
+ghost use Rattle.nt_shrink.specs.Spare.{IsShrunk, NoneSpare, greatest_spare};
+ghost use Rattle.nt_shrink.specs.Traces.{is_delivered as is_delivered_by, traced};
+
+use crate::goals::{Goal, delivers};
+use crate::leaving::copy_without;
+use crate::refusals::{ShrinkRefusal, TraceRefusal};
+use crate::tracing::trace;
+use nt_event::Script;
+use nt_event::limits::{EVENTS, TURNS};
+use nt_history::Turns;
+use std::alloc::{AllocError, Global};
+
+/// Turns of a list that is shrunk, at most.
+pub const MOST_TURNS: usize = 1_000;
+
+/// Whether the turns are taken and deliver the request. An error is want of memory.
+fn is_delivered(
+    alloc: Global,
+    script: &Script,
+    turns: u32,
+    list: &Turns,
+    goal: Goal,
+) -> Result<bool, AllocError>
+    requires script { IsTrue (fits script.now) }
+    requires turns { (1 ≤ turns) × (turns ≤ TURNS) }
+    requires all { script.now.cpus * turns ≤ EVENTS }
+    ensures { IfOk result (λ b. b ≡ is_delivered_by goal (traced script.now turns list.now)) }
+{
+    match trace(alloc, script, turns, list) {
+        Ok(history) => Ok(delivers(&history, goal)),
+        Err(TraceRefusal::Bad { .. }) => Ok(false),
+        Err(TraceRefusal::NoMemory) => Err(AllocError),
+    }
+}
+
+/// The list without its greatest spare place; None where none is spare. An error is want of memory.
+fn shortened(
+    alloc: Global,
+    script: &Script,
+    turns: u32,
+    list: &Turns,
+    goal: Goal,
+) -> Result<Option<Turns>, AllocError>
+    requires script { IsTrue (fits script.now) }
+    requires turns { (1 ≤ turns) × (turns ≤ TURNS) }
+    requires all { script.now.cpus * turns ≤ EVENTS }
+    requires few { length list.now ≤ MOST_TURNS }
+    ensures { IfOk result (λ shorter. shorter
+        ≡ option_map (λ at. list_without at list.now) (greatest_spare script.now turns goal list.now)) }
+{
+    let mut count = list.len() as u32;
+    while 0 < count {
+        let at = count - 1;
+        let shorter = copy_without(alloc, list, at)?;
+        if is_delivered(alloc, script, turns, &shorter, goal)? {
+            return Ok(Some(shorter));
+        }
+        count = at;
+    }
+    Ok(None)
+}
+
+/// A short list of turns that still delivers the request: the greatest spare place of the list is
+/// left out, again and again, until there is none. A place is spare where the other turns are taken
+/// and a routine of the object begins in their history.
+///
+/// The script fits, and `turns`, how many events each processor may make, is 1 to 20,000 and at
+/// most 160,000 in all processors together. TooMany comes where the list has more than 1,000 turns,
+/// else Bad where [`trace`] refuses a turn so, else NotDelivered where the history of the turns
+/// doesn't deliver the request; NoMemory may come at any place.
+///
+/// No single turn of the answer can be left out. Its history needn't be settled, so a replay of it
+/// may be refused as Unfinished.
+pub fn shrink(
+    alloc: Global,
+    script: &Script,
+    turns: u32,
+    list: &Turns,
+    goal: Goal,
+) -> Result<Turns, ShrinkRefusal>
+    requires script { IsTrue (fits script.now) }
+    requires turns { (1 ≤ turns) × (turns ≤ TURNS) }
+    requires all { script.now.cpus * turns ≤ EVENTS }
+    ensures ok { IfOk result (λ answer. IsShrunk script.now turns goal list.now answer) }
+    ensures delivers { IfOk result (λ answer. IsDelivery script.now turns goal answer) }
+    ensures none_spare { IfOk result (λ answer. NoneSpare script.now turns goal answer) }
+    ensures err { IfErr result (λ r. IsShrinkRefused script.now turns goal list.now r) }
+{
+    if MOST_TURNS < list.len() {
+        return Err(ShrinkRefusal::TooMany);
+    }
+    let history = trace(alloc, script, turns, list)?;
+    if !delivers(&history, goal) {
+        return Err(ShrinkRefusal::NotDelivered);
+    }
+    let mut short = copy_without(alloc, list, MOST_TURNS as u32)?;
+    while let Some(shorter) = shortened(alloc, script, turns, &short, goal)? {
+        short = shorter;
+    }
+    Ok(short)
+}
