@@ -28,7 +28,7 @@ pub put_here : (at : ℕ) (xs : List Turn) (t : Turn) → length xs ≡ at → w
 put_here at xs t h =
     let one : length (xs ++ t ∷ []) ≡ length xs + 1 = length-append xs (t ∷ []) in
     both at (xs ++ t ∷ []) xs (take-append-le at xs (t ∷ []) (omega (arith, h)) ∙ take_all _ xs (omega (arith, h)))
-        (drop_of_length-le (xs ++ t ∷ []) (omega (arith, h, one)))
+    (drop_of_length-le (xs ++ t ∷ []) (omega (arith, h, one)))
     ∙ sym (whole_before at xs (omega (arith, h)))
 
 -- after the place
@@ -85,7 +85,7 @@ step_after at n xs rest t w h =
 pub one_less : (at : ℕ) (xs : List Turn) → at < length xs → suc (length (without at xs)) ≡ length xs
 one_less at xs h =
     let a : length (without at xs) ≡ length (take at xs) + length (map (turn_without at) (drop (at + 1) xs)) =
-      length-append (take at xs) (map (turn_without at) (drop (at + 1) xs)) in
+    length-append (take at xs) (map (turn_without at) (drop (at + 1) xs)) in
     let b : length (take at xs) ≡ at = length-take-le at xs (omega (arith, h)) in
     let c : length (map (turn_without at) (drop (at + 1) xs)) ≡ length (drop (at + 1) xs) = length-map (drop (at + 1) xs) (turn_without at) in
     let d = length-drop (at + 1) xs in

@@ -19,7 +19,8 @@ abbrev pub IsDelivery : Script → ℕ → Goal → List Turn → Type 0
 IsDelivery s limit g list =
     (past : List Event) × (IsRun s limit past × (turns past ≡ list) × (delivers g past ≡ true))
 
--- the shrunk list is the list itself where no place is spare, and else that of the list without its greatest spare place
+-- the shrunk list is the list itself where no place is spare, and else that of the list without its greatest spare
+-- place
 abbrev pub ShrunkByTheGreatest : Type 0
 ShrunkByTheGreatest = (s : Script) (limit : ℕ) (g : Goal) (list : List Turn) →
     shrunk s limit g list ≡ left_out list (greatest_spare s limit g list) (shrunk s limit g)

@@ -1,5 +1,6 @@
 -- Turns that a list can spare, and the shrunk list.
-use Rattle.std.specs.Prelude.{Bool, List, None, Option, Some, false, if◌then◌else◌, length, suc, true, zero, ℕ, ◌<◌, ◌≡◌, ◌≤◌}
+use Rattle.std.specs.Prelude.{Bool, List, None, Option, Some, false, if◌then◌else◌, length, suc, true, zero, ℕ, ◌<◌}
+use Rattle.std.specs.Prelude.{◌≡◌, ◌≤◌}
 use Rattle.nt_event.specs.declared.events.Turn.{Turn}
 use Rattle.nt_event.specs.declared.scripts.Script.{Script}
 use Rattle.nt_shrink.specs.declared.goals.Goal.{Goal}
@@ -26,7 +27,8 @@ left_out list (Some at) more = more (without at list)
 -- leaves out the greatest spare place, again and again, at most n times
 abbrev pub shrunk_by : Script → ℕ → Goal → ℕ → List Turn → List Turn
 shrunk_by s limit g zero list = list
-shrunk_by s limit g (suc n) list = left_out list (greatest_spare s limit g list) (λ shorter. shrunk_by s limit g n shorter)
+shrunk_by s limit g (suc n) list =
+    left_out list (greatest_spare s limit g list) (λ shorter. shrunk_by s limit g n shorter)
 
 -- leaves out the greatest spare place, again and again, until there is none
 abbrev pub shrunk : Script → ℕ → Goal → List Turn → List Turn

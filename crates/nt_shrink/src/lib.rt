@@ -5,7 +5,6 @@
 //! still begins. What it answers can spare no single turn.
 #![tactic(auto)]
 
-
 mod goals;
 mod laws;
 mod leaving;
@@ -31,8 +30,11 @@ mod tests {
     use std::alloc::{AllocError, Global};
 
     const NEXT_0: Turn = Turn::Next(CpuNo(0));
+
     const NEXT_1: Turn = Turn::Next(CpuNo(1));
+
     const SWITCH: Turn = Turn::Switch(CpuNo(0), ThreadNo(0));
+
     const GOAL: Goal = Goal::Dpc(DpcNo(0));
 
     /// A script of a DPC and of a thread on processor 0, with the commands of their routines.
@@ -118,10 +120,12 @@ mod tests {
                 NEXT_1,
             ],
         )?;
-        assert!(rt; is_list(
-            &without(alloc, &turns, 1)?,
-            &[look(&[(2, 3)]), look(&[(2, 2), (4, 1)]), NEXT_1],
-        ));
+        assert!(rt;
+            is_list(
+                &without(alloc, &turns, 1)?,
+                &[look(&[(2, 3)]), look(&[(2, 2), (4, 1)]), NEXT_1],
+            )
+        );
         Ok(())
     }
 
@@ -171,14 +175,22 @@ mod tests {
         }
         let refused = shrink(alloc, &script, 10_000, &list(alloc, &[SWITCH])?, GOAL);
         assert!(rt; matches!(refused, Err(ShrinkRefusal::NotDelivered)));
-        let refused = shrink(alloc, &script, 10_000, &list(alloc, &[NEXT_1, NEXT_1])?, GOAL);
-        assert!(rt; matches!(
-            refused,
-            Err(ShrinkRefusal::Bad {
-                at: 1,
-                kind: ScheduleKind::NothingToDo,
-            })
-        ));
+        let refused = shrink(
+            alloc,
+            &script,
+            10_000,
+            &list(alloc, &[NEXT_1, NEXT_1])?,
+            GOAL,
+        );
+        assert!(rt;
+            matches!(
+                refused,
+                Err(ShrinkRefusal::Bad {
+                    at: 1,
+                    kind: ScheduleKind::NothingToDo,
+                })
+            )
+        );
         Ok(())
     }
 }

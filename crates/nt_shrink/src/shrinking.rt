@@ -52,7 +52,8 @@ fn shortened(
     requires all { script.now.cpus * turns ≤ EVENTS }
     requires few { length list.now ≤ MOST_TURNS }
     ensures { IfOk result (λ shorter. shorter
-        ≡ option_map (λ at. list_without at list.now) (greatest_spare script.now turns goal list.now)) }
+        ≡ option_map (λ at. list_without at list.now)
+        (greatest_spare script.now turns goal list.now)) }
 {
     let mut count = list.len() as u32;
     while 0 < count {
