@@ -120,6 +120,7 @@ mod tests {
                 NEXT_1,
             ],
         )?;
+        assert!(rt; turns.len() == 4);
         assert!(rt;
             is_list(
                 &without(alloc, &turns, 1)?,

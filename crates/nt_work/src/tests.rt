@@ -57,16 +57,16 @@ fn history(alloc: Global, events: &[Event]) -> Result<History, AllocError> {
 
 #[test]
 fn a_note_counts_what_is_pending_before_it(rt: HostRuntime) -> Result<(), AllocError> {
-    let queue = Command::Queue(DpcNo(3));
     let events = [
         note(1, 5),
-        call(0, queue, Reply::Yes),
+        call(0, Command::Queue(DpcNo(3)), Reply::Yes),
         note(0, 6),
-        call(0, queue, Reply::No),
+        call(0, Command::Queue(DpcNo(3)), Reply::No),
         call(0, Command::Unqueue(DpcNo(3)), Reply::Yes),
         note(1, 7),
     ];
     let history = history(rt.alloc(), &events)?;
+    assert!(rt; history.len() == 6);
     let items = items(rt.alloc(), &history)?;
     let wanted = [
         Item {
@@ -146,6 +146,7 @@ impl Gate for Meeting {
 fn two_workers_do_items_at_the_same_time(rt: HostRuntime) -> Result<(), AllocError> {
     let events = [note(0, 1), note(1, 2), note(0, 3), note(1, 4)];
     let history = history(rt.alloc(), &events)?;
+    assert!(rt; history.len() == 4);
     let gate = Meeting {
         flags: [AtomicU64::new(0), AtomicU64::new(0)],
         missed: AtomicU64::new(0),

@@ -19,7 +19,15 @@ const OPPOSITE: &str =
 fn refusals_are_found(rt: HostRuntime) -> Result<(), Fail> {
     let thread =
         "base main 1 level 2: 5 NotGreater\nbase main 2 level 2: 6 NotLess\nlocks ordered\n";
-    assert!(rt; gives(&rt, &["verify"], WRONG_LEVELS.as_bytes(), Status::Ok, thread)?);
+    assert!(rt;
+        gives(
+            &rt,
+            &["verify"],
+            WRONG_LEVELS.as_bytes(),
+            Status::Ok,
+            thread
+        )?
+    );
     let dpc = "dpc d 0 level 2: 7 BelowBase\nlocks ordered\n";
     assert!(rt; gives(&rt, &["verify"], BELOW_BASE.as_bytes(), Status::Ok, dpc)?);
     Ok(())
