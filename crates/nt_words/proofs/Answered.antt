@@ -11,7 +11,7 @@ use Rattle.nt_words.specs.declared.reading.WordsRefusal.TheVariants.{NoForm}
 use Rattle.nt_words.specs.declared.form.Form.TheVariants as form
 use Rattle.nt_words.specs.declared.reading.WordsRefusal.{WordsRefusal}
 use Rattle.nt_words.specs.Pieces.{Piece, apart, command_words, dashed, dashed_equals, joined, word, words_of}
-use Rattle.nt_words.specs.Forms.{HasOptions, HasTurns, IsForm, IsTurns, IsWithin, is_live_word, names_live}
+use Rattle.nt_words.specs.Forms.{HasOptions, HasTurns, HasWorkers, IsForm, IsTurns, IsWithin, IsWorkers, is_live_word, names_live}
 use Rattle.nt_words.specs.Tidy.{is_tidy}
 use Rattle.nt_words.specs.Chosen.{chosen}
 use Rattle.nt_words.specs.Parser.{ntrun_app}
@@ -29,6 +29,10 @@ turns_within : (n : ℕ) (ps : List Piece) → HasTurns n ps → IsTurns n
 turns_within n ps (inl given) = (given.1, given.2)
 turns_within n ps (inr missing) = rw (missing.1) (omega arith, omega arith)
 
+workers_within : (n : ℕ) (ps : List Piece) → HasWorkers n ps → IsWorkers n
+workers_within n ps (inl given) = (given.1, given.2)
+workers_within n ps (inr missing) = rw (missing.1) (omega arith, omega arith)
+
 within : (f : Form) (ps : List Piece) → HasOptions f ps → IsWithin f
 within (form.Run turns) ps has = turns_within turns ps has.turns
 within (form.Live turns) ps has = turns_within turns ps has.turns
@@ -36,6 +40,8 @@ within form.Replay ps has = tt
 within form.Check ps has = tt
 within form.Migrate ps has = tt
 within form.Verify ps has = tt
+within (form.Shrink goal) ps has = has.goal.1
+within (form.Audit turns workers) ps has = (turns_within turns ps has.turns, workers_within workers ps has.workers)
 within (form.Load seed turns) ps has = (has.1.2, turns_within turns ps has.0)
 
 pub form_within : (words : List (List ℕ)) (r : Result Form WordsRefusal) → IfOk r (IsForm words) → IfOk r IsWithin
@@ -50,7 +56,7 @@ no_form_answered words None is = λ f form.
     let bad : None ≡ Some f = is ∙ (form_is_taken words f form).form in
     cc
 
--- ---- the form `live`
+-- ---- the forms `live` and `audit`
 
 or_more : (a b c : Bool) → (b ≡ true → c ≡ true) → (a || b) ≡ true → (a || c) ≡ true
 or_more a b c more h = go (or_cases a b h)
@@ -69,7 +75,11 @@ words_name (apart name value ∷ ps) h =
 words_name (joined name value ∷ ps) h =
     or_right (is_live_word (dashed_equals name ++ value)) (list_any is_live_word (words_of ps)) (words_name ps h)
 
--- words that are the form `live` name it
+-- words that are the form `live` or `audit` name it
 pub live_is_named : (words : List (List ℕ)) (turns : ℕ) → IsForm words (form.Live turns) → names_live words ≡ true
 live_is_named words turns is =
+    ap names_live is.spelled ∙ words_name is.pieces (ap (list_any is_live_word) is.command)
+
+pub audit_is_named : (words : List (List ℕ)) (turns workers : ℕ) → IsForm words (form.Audit turns workers) → names_live words ≡ true
+audit_is_named words turns workers is =
     ap names_live is.spelled ∙ words_name is.pieces (ap (list_any is_live_word) is.command)

@@ -5,9 +5,9 @@ use Rattle.std.specs.Prelude.{decimal, find, option_and_then, slice_get}
 use Rattle.std.proofs.lemmas.Slice.Eq.{bytes_eq-Decides}
 use Rattle.std.proofs.lemmas.Option.{option_and_then_some}
 use Rattle.nt_event.specs.declared.limits.TheConstants.{TURNS, USUAL_TURNS}
-use Rattle.nt_text.specs.Fields.{number_up_to}
+use Rattle.nt_text.specs.Fields.{is_name, name_of, number_up_to}
 use Rattle.nt_text.proofs.Decimals.{number_up_to_takes, number_up_to_again}
-use Rattle.nt_words.specs.declared.form.TheConstants.{COMMANDS, GREATEST_SEED}
+use Rattle.nt_words.specs.declared.form.TheConstants.{COMMANDS, GREATEST_SEED, MOST_WORKERS, USUAL_WORKERS}
 use Rattle.nt_words.specs.declared.form.Command.{Command}
 use Rattle.nt_words.specs.declared.form.Command.TheVariants as command
 use Rattle.nt_words.specs.declared.form.Form.{Form}
@@ -16,8 +16,8 @@ use Rattle.nt_words.specs.declared.option_name.OptionName.{OptionName}
 use Rattle.nt_words.specs.declared.option_name.OptionName.TheVariants.{Goal, Seed, Turns, Workers}
 use Rattle.nt_words.specs.Pieces.{Piece, values_of}
 use Rattle.nt_words.specs.Commands.{command_named, command_word, is_built, names_built}
-use Rattle.nt_words.specs.Forms.{HasNoOptions, HasOnlyTurns, HasOptions, HasSeed, HasTurns, command_of}
-use Rattle.nt_words.specs.Chosen.{at_least, form_from, no_options, none_from, number_within, only_turns, seed_from, turns_from}
+use Rattle.nt_words.specs.Forms.{HasAudit, HasGoal, HasNoOptions, HasOnlyGoal, HasOnlyTurns, HasOptions, HasSeed, HasTurns, HasWorkers, command_of}
+use Rattle.nt_words.specs.Chosen.{at_least, form_from, goal_from, no_options, none_from, number_within, only_turns, seed_from, turns_from, workers_from}
 
 -- ---- command words
 
@@ -114,6 +114,50 @@ seed_taken pieces n once e = go (values_of Seed pieces) refl once e
 seed_again : (pieces : List Piece) (n : ℕ) → HasSeed n pieces → seed_from (slice_get (values_of Seed pieces) 0) ≡ Some n
 seed_again pieces n given = rw given.0 (within_again 0 GREATEST_SEED n (omega arith) given.1 given.2)
 
+-- a value that is given once, or is missing and this number is the usual one
+workers_taken : (pieces : List Piece) (n : ℕ) → length (values_of Workers pieces) ≤ 1 → workers_from (slice_get (values_of Workers pieces) 0) ≡ Some n
+    → HasWorkers n pieces
+workers_taken pieces n once e = go (values_of Workers pieces) refl once e
+  where
+    go : (vs : List (List ℕ)) → values_of Workers pieces ≡ vs → length vs ≤ 1 → workers_from (slice_get vs 0) ≡ Some n → HasWorkers n pieces
+    go [] is once e =
+        let usual : n ≡ USUAL_WORKERS = cc in
+        inr (is, usual)
+    go (v ∷ []) is once e =
+        let t = within_takes 1 MOST_WORKERS v n (omega arith) e in
+        inl (is ∙ ap (λ (x : List ℕ). x ∷ []) t.0, t.1, t.2)
+    go (v ∷ w ∷ ws) is once e = absurd (omega arith)
+
+workers_again : (pieces : List Piece) (n : ℕ) → HasWorkers n pieces → workers_from (slice_get (values_of Workers pieces) 0) ≡ Some n
+workers_again pieces n (inl given) = rw given.0 (within_again 1 MOST_WORKERS n (omega arith) given.1 given.2)
+workers_again pieces n (inr missing) = rw (missing.0, missing.1) refl
+
+name_taken : (v name : List ℕ) → name_of v ≡ Some name → (v ≡ name) × (is_name name ≡ true)
+name_taken v name e = go (is_name v) refl e
+  where
+    go : (b : Bool) → is_name v ≡ b → name_of v ≡ Some name → (v ≡ name) × (is_name name ≡ true)
+    go false is h =
+        let bad : None ≡ Some name = rw is at h in
+        cc
+    go true is h =
+        let here : Some v ≡ Some name = rw is at h in
+        let same : v ≡ name = cc in
+        (same, subst (λ (x : List ℕ). is_name x ≡ true) same is)
+
+goal_taken : (pieces : List Piece) (name : List ℕ) → length (values_of Goal pieces) ≤ 1 → goal_from (slice_get (values_of Goal pieces) 0) ≡ Some name
+    → HasGoal name pieces
+goal_taken pieces name once e = go (values_of Goal pieces) refl once e
+  where
+    go : (vs : List (List ℕ)) → values_of Goal pieces ≡ vs → length vs ≤ 1 → goal_from (slice_get vs 0) ≡ Some name → HasGoal name pieces
+    go [] is once e = cc
+    go (v ∷ []) is once e =
+        let t = name_taken v name e in
+        (is ∙ ap (λ (x : List ℕ). x ∷ []) t.0, t.1)
+    go (v ∷ w ∷ ws) is once e = absurd (omega arith)
+
+goal_again : (pieces : List Piece) (name : List ℕ) → HasGoal name pieces → goal_from (slice_get (values_of Goal pieces) 0) ≡ Some name
+goal_again pieces name given = rw given.0 (rw given.1 refl)
+
 none_taken : (vs : List (List ℕ)) (x : Unit {0}) → none_from (slice_get vs 0) ≡ Some x → vs ≡ []
 none_taken [] x e = refl
 none_taken (v ∷ vs) x e = cc
@@ -180,8 +224,32 @@ form_taken command.Replay pieces f few e = bare_taken command.Replay pieces form
 form_taken command.Check pieces f few e = bare_taken command.Check pieces form.Check f refl (λ has. has) e
 form_taken command.Migrate pieces f few e = bare_taken command.Migrate pieces form.Migrate f refl (λ has. has) e
 form_taken command.Verify pieces f few e = bare_taken command.Verify pieces form.Verify f refl (λ has. has) e
-form_taken command.Shrink pieces f few e = cc
-form_taken command.Audit pieces f few e = cc
+form_taken command.Shrink pieces f few e =
+    option_and_then_some _ _ f e (λ x turns rest. option_and_then_some _ _ f rest (λ y seed rest.
+    option_and_then_some _ _ f rest (λ z workers rest. option_and_then_some _ _ f rest (λ g goal is.
+    let same : form.Shrink g ≡ f = cc in
+    subst (IsFormOf command.Shrink pieces) same (record {
+      command = refl;
+      options = record {
+        turns = none_taken _ x turns;
+        seed = none_taken _ y seed;
+        goal = goal_taken pieces g (few Goal) goal;
+        workers = none_taken _ z workers;
+      };
+    })))))
+form_taken command.Audit pieces f few e =
+    option_and_then_some _ _ f e (λ x seed rest. option_and_then_some _ _ f rest (λ y goal rest.
+    option_and_then_some _ _ f rest (λ n turns rest. option_and_then_some _ _ f rest (λ k workers is.
+    let same : form.Audit n k ≡ f = cc in
+    subst (IsFormOf command.Audit pieces) same (record {
+      command = refl;
+      options = record {
+        turns = turns_taken pieces n (few Turns) turns;
+        seed = none_taken _ x seed;
+        goal = none_taken _ y goal;
+        workers = workers_taken pieces k (few Workers) workers;
+      };
+    })))))
 form_taken command.Load pieces f few e =
     option_and_then_some _ _ f e (λ x goal rest. option_and_then_some _ _ f rest (λ y workers rest.
     option_and_then_some _ _ f rest (λ s seed rest. option_and_then_some _ _ f rest (λ n turns is.
@@ -208,3 +276,6 @@ form_again form.Check pieces has = rw (none_again pieces has) refl
 form_again (form.Load seed turns) pieces has = rw (has.2, has.3, seed_again pieces seed has.1, turns_again pieces turns has.0) refl
 form_again form.Migrate pieces has = rw (none_again pieces has) refl
 form_again form.Verify pieces has = rw (none_again pieces has) refl
+form_again (form.Shrink goal) pieces has = rw (has.turns, has.seed, has.workers, goal_again pieces goal has.goal) refl
+form_again (form.Audit turns workers) pieces has =
+    rw (has.seed, has.goal, turns_again pieces turns has.turns, workers_again pieces workers has.workers) refl

@@ -2,12 +2,13 @@
 use Rattle.std.proofs.Common.{◌≡◌, ◌∙◌, ◌≤◌, ◌<◌, ◌^◌, ℕ, Bool, true, false, refl, sym, ap}
 use Rattle.std.proofs.Common.{subst, arith, List, [], ◌∷◌, length, Option, Some, None, nat_le, inl, inr}
 use Rattle.std.proofs.lemmas.Bool.{and_parts}
-use Rattle.std.specs.Prelude.{decimal, slice_get, option_and_then}
+use Rattle.std.specs.Prelude.{decimal, slice_get, option_and_then, ◌==◌}
 use Rattle.std.specs.List.{list_all}
 use Rattle.clap.specs.Simple.{App, matches_of}
 use Rattle.clap.specs.Faults.{fault_of}
 use Rattle.nt_event.specs.declared.limits.TheConstants.{TURNS}
-use Rattle.nt_words.specs.declared.form.TheConstants.{GREATEST_SEED}
+use Rattle.nt_text.specs.Fields.{is_name, is_name_byte}
+use Rattle.nt_words.specs.declared.form.TheConstants.{GREATEST_SEED, MOST_WORKERS}
 use Rattle.nt_words.specs.declared.form.Command.{Command}
 use Rattle.nt_words.specs.declared.form.Command.TheVariants as command
 use Rattle.nt_words.specs.declared.form.Form.{Form}
@@ -16,7 +17,7 @@ use Rattle.nt_words.specs.declared.option_name.OptionName.{OptionName}
 use Rattle.nt_words.specs.declared.option_name.OptionName.TheVariants.{Goal, Seed, Turns, Workers}
 use Rattle.nt_words.specs.Pieces.{Piece, word, apart, joined, command_words, same_option, value_for, values_of, words_of}
 use Rattle.nt_words.specs.Commands.{command_named, command_word, is_built}
-use Rattle.nt_words.specs.Forms.{HasNoOptions, HasOnlyTurns, HasOptions, HasSeed, HasTurns, IsForm, command_of}
+use Rattle.nt_words.specs.Forms.{HasGoal, HasNoOptions, HasOnlyTurns, HasOptions, HasSeed, HasTurns, HasWorkers, IsForm, command_of}
 use Rattle.nt_words.specs.Tidy.{has_hyphen, is_known, is_tidy, times_given}
 use Rattle.nt_words.specs.Chosen.{chosen, form_from}
 use Rattle.nt_words.specs.Parser.{ntrun_app}
@@ -95,6 +96,32 @@ seed_bare n ps given =
     let high : n ≤ GREATEST_SEED = given.2 in
     one_number _ n (omega arith) given.0
 
+workers_bare : (n : ℕ) (ps : List Piece) → HasWorkers n ps → IsBareOnce (values_of Workers ps)
+workers_bare n ps (inl given) =
+    let high : n ≤ MOST_WORKERS = given.2 in
+    one_number _ n (omega arith) given.0
+workers_bare n ps (inr missing) = none_given _ missing.0
+
+-- a name has no hyphen
+no_hyphen : (bs : List ℕ) → is_name (45 ∷ bs) ≡ true → ⊥
+no_hyphen bs named =
+    let parts = and_parts _ _ named in
+    let all : false ≡ true = parts.1 in
+    cc
+
+name_bare : (name : List ℕ) → is_name name ≡ true → has_hyphen name ≡ false
+name_bare [] e = refl
+name_bare (b ∷ bs) e = go (b == 45) refl
+  where
+    go : (hyphen : Bool) → (b == 45) ≡ hyphen → (b == 45) ≡ false
+    go false is = is
+    go true is =
+        let same : b ≡ 45 = search (arith, is) in
+        absurd (no_hyphen bs (subst (λ (x : ℕ). is_name (x ∷ bs) ≡ true) same e))
+
+goal_bare : (name : List ℕ) (ps : List Piece) → HasGoal name ps → IsBareOnce (values_of Goal ps)
+goal_bare name ps given = subst IsBareOnce (sym given.0) (record { bare = (name_bare name given.1, tt); once = omega arith })
+
 only_bare : (n : ℕ) (ps : List Piece) → HasOnlyTurns n ps → (name : OptionName) → IsBareOnce (values_of name ps)
 only_bare n ps has Turns = turns_bare n ps has.turns
 only_bare n ps has Seed = none_given _ has.seed
@@ -114,6 +141,14 @@ options_bare form.Replay ps has name = none_bare ps has name
 options_bare form.Check ps has name = none_bare ps has name
 options_bare form.Migrate ps has name = none_bare ps has name
 options_bare form.Verify ps has name = none_bare ps has name
+options_bare (form.Shrink goal) ps has Turns = none_given _ has.turns
+options_bare (form.Shrink goal) ps has Seed = none_given _ has.seed
+options_bare (form.Shrink goal) ps has Goal = goal_bare goal ps has.goal
+options_bare (form.Shrink goal) ps has Workers = none_given _ has.workers
+options_bare (form.Audit turns workers) ps has Turns = turns_bare turns ps has.turns
+options_bare (form.Audit turns workers) ps has Seed = none_given _ has.seed
+options_bare (form.Audit turns workers) ps has Goal = none_given _ has.goal
+options_bare (form.Audit turns workers) ps has Workers = workers_bare workers ps has.workers
 options_bare (form.Load seed turns) ps has Turns = turns_bare turns ps has.0
 options_bare (form.Load seed turns) ps has Seed = seed_bare seed ps has.1
 options_bare (form.Load seed turns) ps has Goal = none_given _ has.2

@@ -2,8 +2,8 @@
 use Rattle.std.specs.Prelude.{ℕ, nat_le, List, Option, Some, None, option_and_then, if◌then◌else◌, codes}
 use Rattle.clap.specs.Walk.{Row, first_of}
 use Rattle.nt_event.specs.declared.limits.TheConstants.{TURNS, USUAL_TURNS}
-use Rattle.nt_text.specs.Fields.{number_up_to}
-use Rattle.nt_words.specs.declared.form.TheConstants.{GREATEST_SEED}
+use Rattle.nt_text.specs.Fields.{name_of, number_up_to}
+use Rattle.nt_words.specs.declared.form.TheConstants.{GREATEST_SEED, MOST_WORKERS, USUAL_WORKERS}
 use Rattle.nt_words.specs.declared.form.Command.{Command}
 use Rattle.nt_words.specs.declared.form.Command.TheVariants as command
 use Rattle.nt_words.specs.declared.form.Form.{Form}
@@ -26,6 +26,14 @@ abbrev pub seed_from : Option (List ℕ) → Option ℕ
 seed_from (Some value) = number_within 0 GREATEST_SEED value
 seed_from None = None
 
+abbrev pub workers_from : Option (List ℕ) → Option ℕ
+workers_from (Some value) = number_within 1 MOST_WORKERS value
+workers_from None = Some USUAL_WORKERS
+
+abbrev pub goal_from : Option (List ℕ) → Option (List ℕ)
+goal_from (Some value) = name_of value
+goal_from None = None
+
 -- an option that the command doesn't have
 abbrev pub none_from : Option (List ℕ) → Option (Unit {0})
 none_from (Some value) = None
@@ -46,7 +54,17 @@ load_from turns seed goal workers = option_and_then (λ _. option_and_then (λ _
     option_and_then (λ s. option_and_then (λ n. Some (form.Load s n)) (turns_from turns)) (seed_from seed))
     (none_from workers)) (none_from goal)
 
--- the form of a command; one that isn't built has none
+abbrev pub shrink_from : Option (List ℕ) → Option (List ℕ) → Option (List ℕ) → Option (List ℕ) → Option Form
+shrink_from turns seed goal workers = option_and_then (λ _. option_and_then (λ _. option_and_then (λ _.
+    option_and_then (λ g. Some (form.Shrink g)) (goal_from goal))
+    (none_from workers)) (none_from seed)) (none_from turns)
+
+abbrev pub audit_from : Option (List ℕ) → Option (List ℕ) → Option (List ℕ) → Option (List ℕ) → Option Form
+audit_from turns seed goal workers = option_and_then (λ _. option_and_then (λ _.
+    option_and_then (λ n. option_and_then (λ k. Some (form.Audit n k)) (workers_from workers)) (turns_from turns))
+    (none_from goal)) (none_from seed)
+
+-- the form of a command
 abbrev pub form_from : Command → Option (List ℕ) → Option (List ℕ) → Option (List ℕ) → Option (List ℕ) → Option Form
 form_from command.Run turns seed goal workers =
     option_and_then (λ n. Some (form.Run n)) (only_turns turns seed goal workers)
@@ -61,8 +79,8 @@ form_from command.Migrate turns seed goal workers =
     option_and_then (λ _. Some form.Migrate) (no_options turns seed goal workers)
 form_from command.Verify turns seed goal workers =
     option_and_then (λ _. Some form.Verify) (no_options turns seed goal workers)
-form_from command.Shrink turns seed goal workers = None
-form_from command.Audit turns seed goal workers = None
+form_from command.Shrink turns seed goal workers = shrink_from turns seed goal workers
+form_from command.Audit turns seed goal workers = audit_from turns seed goal workers
 
 -- the form that a parser's rows are
 abbrev pub chosen : List Row → Option Form

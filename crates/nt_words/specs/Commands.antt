@@ -25,8 +25,8 @@ is_built command.Check = true
 is_built command.Load = true
 is_built command.Migrate = true
 is_built command.Verify = true
-is_built command.Shrink = false
-is_built command.Audit = false
+is_built command.Shrink = true
+is_built command.Audit = true
 
 -- the word names the command, which is built
 abbrev pub names_built : List ℕ → Command → Bool

@@ -1,19 +1,28 @@
 //! The commands of the program and their forms.
 ghost use Rattle.std.specs.Prelude.{◌≡◌, ◌≤◌, ◌<◌, ◌^◌, IfSome, option_and_then, option_map, find};
+ghost use Rattle.nt_words.specs.declared.form.TheConstants.{MOST_WORKERS};
 ghost use Rattle.nt_words.specs.Commands.{command_word, is_built, names_built, command_named};
 ghost use Rattle.nt_words.specs.Chosen.{number_within, turns_from, seed_from, none_from};
 ghost use Rattle.nt_words.specs.Chosen.{only_turns, no_options, load_from, form_from};
+ghost use Rattle.nt_words.specs.Chosen.{audit_from, goal_from, shrink_from, workers_from};
 ghost use Rattle.nt_event.specs.declared.limits.TheConstants.{TURNS};
 
+use crate::goal_name::GoalName;
 use nt_event::limits::{TURNS, USUAL_TURNS};
 use nt_text::number;
 
 /// What is written where the words are no form: the forms that are built.
-pub const USAGE: &str =
-    "usage: ntrun run|live|replay|check|load|migrate|verify [--turns N] [--seed N]\n";
+pub const USAGE: &str = "usage: ntrun run|live|replay|check|load|migrate|verify|shrink|audit \
+    [--turns N] [--seed N] [--goal NAME] [--workers N]\n";
 
 /// The greatest seed of a load.
 pub const GREATEST_SEED: u32 = 4_294_967_295;
+
+/// Workers of an audit, at most.
+pub const MOST_WORKERS: u8 = 16;
+
+/// Workers of an audit, where none are given.
+pub const USUAL_WORKERS: u8 = 4;
 
 /// A command of the program.
 #[derive(Clone, Copy, PartialEq, Eq, Debug)]
@@ -52,7 +61,7 @@ pub const COMMANDS: [Command; 9] = [
 ];
 
 /// What the words of a command line ask for. The turn limit is [`USUAL_TURNS`] where none is given.
-#[derive(Clone, Copy, PartialEq, Eq, Debug)]
+#[derive(Debug, Drop)]
 pub enum Form {
     /// `run`, with the turn limit of each processor.
     Run { turns: u32 },
@@ -68,6 +77,10 @@ pub enum Form {
     Migrate,
     /// `verify`.
     Verify,
+    /// `shrink`, with the name of the object that the schedule has to deliver.
+    Shrink { goal: GoalName },
+    /// `audit`, with the turn limit of each processor and the number of workers.
+    Audit { turns: u32, workers: u8 },
 }
 
 impl Command {
@@ -100,8 +113,8 @@ impl Command {
             Command::Load => true,
             Command::Migrate => true,
             Command::Verify => true,
-            Command::Shrink => false,
-            Command::Audit => false,
+            Command::Shrink => true,
+            Command::Audit => true,
         }
     }
 }
@@ -127,7 +140,8 @@ pub(crate) fn command_named(word: &str) -> Option<Command>
 /// The number of a value, where it is written in decimal without leading zeros and lies within the
 /// bounds.
 fn number_within(least: u64, most: u32, value: &str) -> Option<u32>
-    ensures { result ≡ number_within least most value.now }
+    ensures value { result ≡ number_within least most value.now }
+    ensures within { IfSome result (λ n. n ≤ most) }
 {
     let given = number(value.as_bytes(), most as u64)?;
     if least <= given {
@@ -152,6 +166,23 @@ fn seed_from(value: Option<&str>) -> Option<u32>
     ensures { result ≡ seed_from (option_map (λ s. s.now) value.entry) }
 {
     number_within(0, GREATEST_SEED, value?)
+}
+
+/// The number of workers by the value that is given for it, if any.
+fn workers_from(value: Option<&str>) -> Option<u8>
+    ensures { result ≡ workers_from (option_map (λ s. s.now) value.entry) }
+{
+    match value {
+        Some(text) => Some(number_within(1, u32::from(MOST_WORKERS), text)? as u8),
+        None => Some(USUAL_WORKERS),
+    }
+}
+
+/// The goal by the value that is given for it: one is needed.
+fn goal_from(value: Option<&str>) -> Option<GoalName>
+    ensures { result ≡ goal_from (option_map (λ s. s.now) value.entry) }
+{
+    GoalName::new(value?)
 }
 
 /// Nothing, where no value is given for an option that the command doesn't have.
@@ -217,7 +248,45 @@ fn load_from(
     })
 }
 
-/// The form of a command with these values of its options. One that isn't built has none.
+/// A schedule that is shrunk: its one option is the goal.
+fn shrink_from(
+    turns: Option<&str>,
+    seed: Option<&str>,
+    goal: Option<&str>,
+    workers: Option<&str>,
+) -> Option<Form>
+    ensures { result ≡ shrink_from (option_map (λ s. s.now) turns.entry)
+        (option_map (λ s. s.now) seed.entry) (option_map (λ s. s.now) goal.entry)
+        (option_map (λ s. s.now) workers.entry) }
+{
+    none_from(turns)?;
+    none_from(seed)?;
+    none_from(workers)?;
+    Some(Form::Shrink {
+        goal: goal_from(goal)?,
+    })
+}
+
+/// An audit: its options are the turn limit and the number of workers.
+fn audit_from(
+    turns: Option<&str>,
+    seed: Option<&str>,
+    goal: Option<&str>,
+    workers: Option<&str>,
+) -> Option<Form>
+    ensures { result ≡ audit_from (option_map (λ s. s.now) turns.entry)
+        (option_map (λ s. s.now) seed.entry) (option_map (λ s. s.now) goal.entry)
+        (option_map (λ s. s.now) workers.entry) }
+{
+    none_from(seed)?;
+    none_from(goal)?;
+    Some(Form::Audit {
+        turns: turns_from(turns)?,
+        workers: workers_from(workers)?,
+    })
+}
+
+/// The form of a command with these values of its options.
 pub(crate) fn form_from(
     command: Command,
     turns: Option<&str>,
@@ -253,6 +322,7 @@ pub(crate) fn form_from(
             no_options(turns, seed, goal, workers)?;
             Some(Form::Verify)
         }
-        Command::Shrink | Command::Audit => None,
+        Command::Shrink => shrink_from(turns, seed, goal, workers),
+        Command::Audit => audit_from(turns, seed, goal, workers),
     }
 }

@@ -8,12 +8,14 @@
 #![tactic(auto)]
 
 mod form;
+mod goal_name;
 mod laws;
 mod option_name;
 mod reading;
 mod tidy;
 
-pub use form::{Command, Form, GREATEST_SEED, USAGE};
+pub use form::{Command, Form, GREATEST_SEED, MOST_WORKERS, USAGE, USUAL_WORKERS};
+pub use goal_name::GoalName;
 pub use laws::{usage_names_what_is_built, words_have_one_form};
 pub use option_name::OptionName;
 pub use reading::{WordsRefusal, form_of, is_live};

@@ -30,6 +30,8 @@ fn put_form(rt: &HostRuntime, words: &[String]) -> io::Result<()> {
         Ok(Form::Load { seed, turns }) => println!(rt; "load {seed} {turns}{live}"),
         Ok(Form::Migrate) => println!(rt; "migrate{live}"),
         Ok(Form::Verify) => println!(rt; "verify{live}"),
+        Ok(Form::Shrink { goal }) => println!(rt; "shrink {}{live}", goal.as_str()),
+        Ok(Form::Audit { turns, workers }) => println!(rt; "audit {turns} {workers}{live}"),
         Err(WordsRefusal::NoForm) => println!(rt; "no form{live}"),
         Err(WordsRefusal::NoMemory) => println!(rt; "no memory{live}"),
     }
