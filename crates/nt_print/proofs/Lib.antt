@@ -6,7 +6,7 @@ mod Past
 mod WaitRows
 mod Spinning
 mod Tallied
-mod Turns
+pub mod Turns
 mod Whole
 pub mod OneEvent
 pub mod OneReport

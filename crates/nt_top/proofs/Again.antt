@@ -53,7 +53,8 @@ use Rattle.nt_top.specs.declared.task.Tail.TheVariants as tail
 use Rattle.nt_top.specs.declared.task.Task.{Task}
 use Rattle.nt_top.specs.declared.task.Task.TheVariants as task
 use Rattle.nt_top.specs.Headline.{CheckCallsItLegal, ReplayWritesTheSame, checked_bytes, part_from, replayed_bytes, schedule_part}
-use Rattle.nt_top.specs.Outcome.{Gave, IsAnswered, IsDone, IsFound, IsFoundFrom, IsFoundIn, IsGiven, IsReplayed, IsReport, IsWritten, Store, Supply, refused_in}
+use Rattle.nt_top.specs.Runs.{IsReplayed}
+use Rattle.nt_top.specs.Outcome.{Gave, IsAnswered, IsDone, IsFound, IsFoundFrom, IsFoundIn, IsGiven, IsReport, IsWritten, Store, Supply, refused_in}
 use Rattle.nt_top.specs.Tasks.{Bad, and_then, behind, input_of, reads, tail_task, tail_word, task_of, two_parts}
 use Rattle.nt_top.proofs.Causes.{causes, from_source, gave_told, same_task}
 use Rattle.nt_top.proofs.PlainTasks.{run_of_input, sound_task, task_plain}
@@ -107,6 +108,7 @@ no_keyword : (version : ℕ) (k : Tail) → keyword_of version (tail_word k) ≡
 unfolding word_of
 no_keyword version tail.Schedule = refl
 no_keyword version tail.Report = refl
+no_keyword version (tail.ToShrink goal) = refl
 
 read_parts : (k : Tail) (input : Input) (at line : ℕ) (bytes front rest : List ℕ) (t : Task) → take at bytes ≡ front → drop at bytes ≡ rest → reading front
     ≡ Ok input → tail_task k input line rest ≡ Ok t → two_parts k (Some (at, line)) bytes ≡ Ok t

@@ -2,7 +2,7 @@
 use Rattle.std.proofs.Common.{◌≡◌, ◌≢◌, ◌∙◌, ℕ, List, length, Result, Ok, Err, subst₂, sym}
 use Rattle.std.specs.Prelude.{IfOk, false, true}
 use Rattle.std.proofs.lemmas.Bool.{false≢true}
-use Rattle.nt_words.proofs.Answered.{live_is_named}
+use Rattle.nt_words.proofs.Answered.{audit_is_named, live_is_named}
 use Rattle.nt_words.specs.declared.form.Form.{Form}
 use Rattle.nt_words.specs.declared.form.Form.TheVariants as form
 use Rattle.nt_words.specs.Forms.{IsForm, names_live}
@@ -30,6 +30,9 @@ found_from f bytes so sn exit.Write text g h = absurd h.2
 found_from f bytes so sn exit.Memory text g h = (rw g.taken (few_taken so.taken (length bytes) g.few), h)
 found_from f bytes so sn exit.TooLong text g h = absurd h.2
 found_from f bytes so sn exit.Illegal text g h = (bytes, g, h)
+found_from f bytes so sn exit.NoGoal text g h = (bytes, g, h)
+found_from f bytes so sn exit.TooMany text g h = (bytes, g, h)
+found_from f bytes so sn exit.NotDelivered text g h = (bytes, g, h)
 
 -- a form that reads finds what it finds from the source
 by_source : (f : Form) (so sn : Supply) (status : Status) (text : List ℕ) → reads f ≡ true → IsFoundFrom f so sn status text → IsFoundBy f so sn status text
@@ -40,6 +43,8 @@ by_source form.Check so sn status text r h = h
 by_source (form.Load seed turns) so sn status text r h = cc
 by_source form.Migrate so sn status text r h = h
 by_source form.Verify so sn status text r h = h
+by_source (form.Shrink goal) so sn status text r h = h
+by_source (form.Audit turns workers) so sn status text r h = h
 
 answer_found : (words : List (List ℕ)) (so sn : Supply) (r : Result Task Answer) (status : Status) (text : List ℕ) → Asks words so sn r →
     IsAnswerTo r status text → IsFound words so sn status text
@@ -65,7 +70,7 @@ answered words so sn ko kn r a status h k w = record {
   written = w;
 }
 
--- words of which none is `live` ask for no threads
+-- words of which none is `live` or `audit` ask for no threads
 pub asks_alone : (words : List (List ℕ)) (so sn : Supply) (r : Result Task Answer) → names_live words ≡ false → Asks words so sn r →
     IfOk r (λ t. is_threaded t ≡ false)
 asks_alone words so sn (Err a) e h = tt
@@ -79,3 +84,5 @@ asks_alone words so sn (Ok t) e h = go h.0 h.1 (threads_are_live h.0 h.2.bytes t
     go (form.Load seed turns) i k = k
     go form.Migrate i k = k
     go form.Verify i k = k
+    go (form.Shrink goal) i k = k
+    go (form.Audit turns workers) i k = absurd (false≢true (sym e ∙ audit_is_named words turns workers i))

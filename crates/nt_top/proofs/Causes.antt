@@ -20,7 +20,8 @@ use Rattle.nt_words.specs.Refusals.{IsNoForm}
 use Rattle.nt_top.specs.declared.task.Task.{Task}
 use Rattle.nt_top.specs.declared.task.Task.TheVariants as task
 use Rattle.nt_top.specs.Outcome.{Supply, Store, Gave, IsFoundBy, IsFoundFrom, IsStarved, IsUnread, GoesWell, GoesWrong, IsGiven, IsFound, IsFoundIn, IsWell}
-use Rattle.nt_top.specs.Outcome.{IsWritten, IsAnswered, HasCause, refusal, refusal_of, refused_in, refused_turn}
+use Rattle.nt_top.specs.Outcome.{IsWritten, IsAnswered, HasCause, miss_in, missed, refusal, refusal_of, refused_in, refused_turn}
+use Rattle.nt_top.specs.Shrunk.{Found, bad_turn, delivered, found, no_goal, too_many, turn_in, undelivered}
 use Rattle.nt_top.specs.Tasks.{Bad, reads, task_of}
 
 -- the status is the one that was found, unless the sink failed
@@ -34,6 +35,9 @@ found_unless exit.Write found text old new w other = absurd (other refl)
 found_unless exit.Memory found text old new w other = w.0
 found_unless exit.TooLong found text old new w other = w.0
 found_unless exit.Illegal found text old new w other = w.0
+found_unless exit.NoGoal found text old new w other = w.0
+found_unless exit.TooMany found text old new w other = w.0
+found_unless exit.NotDelivered found text old new w other = w.0
 
 faulted : (status found : Status) (text : List ℕ) (old new : Store) → IsWritten found text old new status → status ≡ exit.Write → Rose old.faults new.faults
 faulted status found text old new w e = (subst (IsWritten found text old new) e w).0
@@ -72,6 +76,9 @@ usage_else words so sn exit.Write text none f other = absurd (none f.0 f.1)
 usage_else words so sn exit.Memory text none f other = absurd (other refl)
 usage_else words so sn exit.TooLong text none f other = absurd (none f.0 f.1)
 usage_else words so sn exit.Illegal text none f other = absurd (none f.0 f.1)
+usage_else words so sn exit.NoGoal text none f other = absurd (none f.0 f.1)
+usage_else words so sn exit.TooMany text none f other = absurd (none f.0 f.1)
+usage_else words so sn exit.NotDelivered text none f other = absurd (none f.0 f.1)
 
 few_from : (f : Form) (so sn : Supply) (found : Status) (text : List ℕ) → IsFoundFrom f so sn found text → found ≢ exit.TooLong →
     sn.taken ≤ so.taken + INPUT_LIMIT
@@ -84,6 +91,9 @@ few_from f so sn exit.Write text w other = absurd w.2.2
 few_from f so sn exit.Memory text w other = w.0
 few_from f so sn exit.TooLong text w other = absurd (other refl)
 few_from f so sn exit.Illegal text w other = let g = w.1 in rw g.taken (few_taken so.taken _ g.few)
+few_from f so sn exit.NoGoal text w other = let g = w.1 in rw g.taken (few_taken so.taken _ g.few)
+few_from f so sn exit.TooMany text w other = let g = w.1 in rw g.taken (few_taken so.taken _ g.few)
+few_from f so sn exit.NotDelivered text w other = let g = w.1 in rw g.taken (few_taken so.taken _ g.few)
 
 few_same : (so sn : Supply) → sn ≡ so → sn.taken ≤ so.taken + INPUT_LIMIT
 few_same so sn e = let same : sn.taken ≡ so.taken = ap (λ (s : Supply). s.taken) e in omega (arith, same)
@@ -97,6 +107,8 @@ few_by (form.Live turns) so sn found text w other = few_from (form.Live turns) s
 few_by (form.Load seed turns) so sn found text w other = few_same so sn w.0
 few_by form.Migrate so sn found text w other = few_from form.Migrate so sn found text w other
 few_by form.Verify so sn found text w other = few_from form.Verify so sn found text w other
+few_by (form.Shrink goal) so sn found text w other = few_from (form.Shrink goal) so sn found text w other
+few_by (form.Audit turns workers) so sn found text w other = few_from (form.Audit turns workers) so sn found text w other
 
 few_starved : (words : List (List ℕ)) (so sn : Supply) → IsStarved words so sn → sn.taken ≤ so.taken + INPUT_LIMIT
 few_starved words so sn (inl e) = few_same so sn e
@@ -113,6 +125,9 @@ few_else words so sn exit.Write text f other = few_by f.0 so sn exit.Write text 
 few_else words so sn exit.Memory text f other = few_starved words so sn f.0
 few_else words so sn exit.TooLong text f other = absurd (other refl)
 few_else words so sn exit.Illegal text f other = few_by f.0 so sn exit.Illegal text f.2 other
+few_else words so sn exit.NoGoal text f other = few_by f.0 so sn exit.NoGoal text f.2 other
+few_else words so sn exit.TooMany text f other = few_by f.0 so sn exit.TooMany text f.2 other
+few_else words so sn exit.NotDelivered text f other = few_by f.0 so sn exit.NotDelivered text f.2 other
 
 -- a form that reads finds from the source
 pub from_source : (f : Form) (so sn : Supply) (found : Status) (text : List ℕ) → reads f ≡ true → IsFoundBy f so sn found text →
@@ -124,6 +139,8 @@ from_source (form.Live turns) so sn found text r w = w
 from_source (form.Load seed turns) so sn found text r w = cc
 from_source form.Migrate so sn found text r w = w
 from_source form.Verify so sn found text r w = w
+from_source (form.Shrink goal) so sn found text r w = w
+from_source (form.Audit turns workers) so sn found text r w = w
 
 -- the source failed, or had too much
 read_by : (f : Form) (so sn : Supply) (text : List ℕ) → IsFoundBy f so sn exit.Read text → Rose so.faults sn.faults
@@ -134,6 +151,8 @@ read_by (form.Live turns) so sn text w = w.0
 read_by (form.Load seed turns) so sn text w = absurd w.1
 read_by form.Migrate so sn text w = w.0
 read_by form.Verify so sn text w = w.0
+read_by (form.Shrink goal) so sn text w = w.0
+read_by (form.Audit turns workers) so sn text w = w.0
 
 many_by : (f : Form) (so sn : Supply) (text : List ℕ) → IsFoundBy f so sn exit.TooLong text → RoseBy (INPUT_LIMIT + 1) so.taken sn.taken
 many_by (form.Run turns) so sn text w = w.1
@@ -143,6 +162,12 @@ many_by (form.Live turns) so sn text w = w.1
 many_by (form.Load seed turns) so sn text w = absurd w.1
 many_by form.Migrate so sn text w = w.1
 many_by form.Verify so sn text w = w.1
+many_by (form.Shrink goal) so sn text w = w.1
+many_by (form.Audit turns workers) so sn text w = w.1
+
+-- a schedule in the bytes isn't shrunk, by this status
+abbrev IsMissed : Form → List ℕ → Status → Type 0
+IsMissed form bytes wanted = (length bytes ≤ INPUT_LIMIT) × ((t : Task) × (task_of form bytes ≡ Ok t) × (missed t ≡ Some wanted))
 
 -- what is found in bytes, where the words are this form and nothing failed
 abbrev Which : Form → List ℕ → Status → Type 0
@@ -150,6 +175,9 @@ Which form bytes exit.Ok = (length bytes ≤ INPUT_LIMIT) × ((t : Task) × (tas
 Which form bytes exit.Script = (length bytes ≤ INPUT_LIMIT) × IsSome (refusal form bytes)
 Which form bytes exit.Schedule = (length bytes ≤ INPUT_LIMIT) × ((t : Task) × (task_of form bytes ≡ Ok t) × IsSome (refused_turn t))
 Which form bytes exit.Illegal = (length bytes ≤ INPUT_LIMIT) × ((t : Task) × (task_of form bytes ≡ Ok t) × GoesWrong t)
+Which form bytes exit.NoGoal = IsMissed form bytes exit.NoGoal
+Which form bytes exit.TooMany = IsMissed form bytes exit.TooMany
+Which form bytes exit.NotDelivered = IsMissed form bytes exit.NotDelivered
 Which form bytes exit.TooLong = INPUT_LIMIT < length bytes
 Which form bytes exit.Memory = Unit {0}
 Which form bytes _ = ⊥
@@ -180,6 +208,8 @@ goes_well (task.Replay input schedule) text w = ap refused_in w.run.run
 goes_well (task.Check input history) text w = w.0
 goes_well (task.Migrate input) text w = tt
 goes_well (task.Verify input) text w = tt
+goes_well (task.Shrink input schedule goal) text w = (w.goal, w.found)
+goes_well (task.Audit input turns workers) text w = tt
 
 -- and then none of its turns is refused, and its history goes wrong nowhere
 well_refused : (t : Task) → GoesWell t → IsSome (refused_turn t) → ⊥
@@ -189,6 +219,8 @@ well_refused (task.Replay input schedule) w some = is_none_not w some
 well_refused (task.Check input history) w some = false≢true some
 well_refused (task.Migrate input) w some = false≢true some
 well_refused (task.Verify input) w some = false≢true some
+well_refused (task.Shrink input schedule goal) w some = is_none_not (ap turn_in w.1) some
+well_refused (task.Audit input turns workers) w some = false≢true some
 
 wrong_refused : (t : Task) → GoesWrong t → IsSome (refused_turn t) → ⊥
 wrong_refused (task.Run input turns) w some = w.1
@@ -197,6 +229,8 @@ wrong_refused (task.Replay input schedule) w some = w.1
 wrong_refused (task.Check input history) w some = false≢true some
 wrong_refused (task.Migrate input) w some = w.1
 wrong_refused (task.Verify input) w some = w.1
+wrong_refused (task.Shrink input schedule goal) w some = w.1
+wrong_refused (task.Audit input turns workers) w some = w.1
 
 well_wrong : (t : Task) → GoesWell t → GoesWrong t → ⊥
 well_wrong (task.Run input turns) w v = v.1
@@ -204,12 +238,55 @@ well_wrong (task.Live input turns) w v = v.1
 well_wrong (task.Replay input schedule) w v = v.1
 well_wrong (task.Migrate input) w v = v.1
 well_wrong (task.Verify input) w v = v.1
+well_wrong (task.Shrink input schedule goal) w v = v.1
+well_wrong (task.Audit input turns workers) w v = v.1
 well_wrong (task.Check input history) w v =
     let one = one_verdict input.script history.turns history.events in
     go (one.1.1 verdict.Legal w ∙ sym (one.1.1 (verdict.IllegalAt v.0) v.1))
   where
     go : ◌≡◌ {A = Verdict} verdict.Legal (verdict.IllegalAt v.0) → ⊥
     go e = cc
+
+-- a schedule that isn't shrunk for another cause goes neither well nor wrong, and no turn of it is refused
+none_not : {A : Type 0} {o : Option A} (x : A) → o ≡ None → o ≡ Some x → ⊥
+none_not {A} {o} x e k = let bad : ◌≡◌ {A = Option A} None (Some x) = sym e ∙ k in cc
+
+well_missed : (t : Task) (m : Status) → GoesWell t → missed t ≡ Some m → ⊥
+well_missed (task.Run input turns) m w e = none_not m refl e
+well_missed (task.Live input turns) m w e = none_not m refl e
+well_missed (task.Replay input schedule) m w e = none_not m refl e
+well_missed (task.Check input history) m w e = none_not m refl e
+well_missed (task.Migrate input) m w e = none_not m refl e
+well_missed (task.Verify input) m w e = none_not m refl e
+well_missed (task.Shrink input schedule goal) m w e = none_not m (ap miss_in w.1) e
+well_missed (task.Audit input turns workers) m w e = none_not m refl e
+
+wrong_missed : (t : Task) (m : Status) → GoesWrong t → missed t ≡ Some m → ⊥
+wrong_missed (task.Run input turns) m w e = w.1
+wrong_missed (task.Live input turns) m w e = w.1
+wrong_missed (task.Replay input schedule) m w e = w.1
+wrong_missed (task.Check input history) m w e = none_not m refl e
+wrong_missed (task.Migrate input) m w e = w.1
+wrong_missed (task.Verify input) m w e = w.1
+wrong_missed (task.Shrink input schedule goal) m w e = w.1
+wrong_missed (task.Audit input turns workers) m w e = w.1
+
+no_turn_missed : (f : Found) (m : Status) → IsSome (turn_in f) → miss_in f ≡ Some m → ⊥
+no_turn_missed no_goal m some e = false≢true some
+no_turn_missed too_many m some e = false≢true some
+no_turn_missed (bad_turn r) m some e = none_not m refl e
+no_turn_missed undelivered m some e = false≢true some
+no_turn_missed (delivered g) m some e = false≢true some
+
+refused_missed : (t : Task) (m : Status) → IsSome (refused_turn t) → missed t ≡ Some m → ⊥
+refused_missed (task.Run input turns) m some e = false≢true some
+refused_missed (task.Live input turns) m some e = false≢true some
+refused_missed (task.Replay input schedule) m some e = none_not m refl e
+refused_missed (task.Check input history) m some e = false≢true some
+refused_missed (task.Migrate input) m some e = false≢true some
+refused_missed (task.Verify input) m some e = false≢true some
+refused_missed (task.Shrink input schedule goal) m some e = no_turn_missed (found input schedule goal) m some e
+refused_missed (task.Audit input turns workers) m some e = false≢true some
 
 which_in : (form : Form) (bytes : List ℕ) (found : Status) (text : List ℕ) → length bytes ≤ INPUT_LIMIT → IsFoundIn form bytes found text →
     Which form bytes found
@@ -222,6 +299,9 @@ which_in form bytes exit.Write text few f = absurd f.2
 which_in form bytes exit.Memory text few f = tt
 which_in form bytes exit.TooLong text few f = absurd f.2
 which_in form bytes exit.Illegal text few f = (few, (f.0, f.1, (f.2.0, f.2.1)))
+which_in form bytes exit.NoGoal text few f = (few, (f.0, f.1, f.2.0))
+which_in form bytes exit.TooMany text few f = (few, (f.0, f.1, f.2.0))
+which_in form bytes exit.NotDelivered text few f = (few, (f.0, f.1, f.2.0))
 
 -- the same of the form that was given and the bytes that were told
 moved : (f g : Form) (a b : List ℕ) (found : Status) → f ≡ g → a ≡ b → Which f a found → Which g b found
@@ -248,6 +328,18 @@ which one words so sn form bytes exit.Illegal text s f =
     let w = from_given one words so sn form bytes f.0 exit.Illegal text s f.1 f.2 in
     moved f.0 form w.0 bytes exit.Illegal (one words f.0 form f.1 s.form) (gave_told w.0 bytes so sn w.1 s.left)
     (which_in f.0 w.0 exit.Illegal text w.1.few w.2)
+which one words so sn form bytes exit.NoGoal text s f =
+    let w = from_given one words so sn form bytes f.0 exit.NoGoal text s f.1 f.2 in
+    moved f.0 form w.0 bytes exit.NoGoal (one words f.0 form f.1 s.form) (gave_told w.0 bytes so sn w.1 s.left)
+    (which_in f.0 w.0 exit.NoGoal text w.1.few w.2)
+which one words so sn form bytes exit.TooMany text s f =
+    let w = from_given one words so sn form bytes f.0 exit.TooMany text s f.1 f.2 in
+    moved f.0 form w.0 bytes exit.TooMany (one words f.0 form f.1 s.form) (gave_told w.0 bytes so sn w.1 s.left)
+    (which_in f.0 w.0 exit.TooMany text w.1.few w.2)
+which one words so sn form bytes exit.NotDelivered text s f =
+    let w = from_given one words so sn form bytes f.0 exit.NotDelivered text s f.1 f.2 in
+    moved f.0 form w.0 bytes exit.NotDelivered (one words f.0 form f.1 s.form) (gave_told w.0 bytes so sn w.1 s.left)
+    (which_in f.0 w.0 exit.NotDelivered text w.1.few w.2)
 which one words so sn form bytes exit.Usage text s f = absurd (f.0 form s.form)
 which one words so sn form bytes exit.Read text s f = absurd (s.no_fault (read_by f.0 so sn text f.2))
 which one words so sn form bytes exit.Write text s f = absurd (from_given one words so sn form bytes f.0 exit.Write text s f.1 f.2).2.2
@@ -265,6 +357,9 @@ which_long form bytes exit.Write w long other = absurd w
 which_long form bytes exit.Memory w long other = absurd (other refl)
 which_long form bytes exit.TooLong w long other = refl
 which_long form bytes exit.Illegal w long other = let few = w.0 in absurd (omega (arith, few, long))
+which_long form bytes exit.NoGoal w long other = let few = w.0 in absurd (omega (arith, few, long))
+which_long form bytes exit.TooMany w long other = let few = w.0 in absurd (omega (arith, few, long))
+which_long form bytes exit.NotDelivered w long other = let few = w.0 in absurd (omega (arith, few, long))
 
 which_refused : (form : Form) (bytes : List ℕ) (found : Status) → Which form bytes found → length bytes ≤ INPUT_LIMIT → IsSome (refusal form bytes) →
     found ≢ exit.Memory → found ≡ exit.Script
@@ -277,30 +372,71 @@ which_refused form bytes exit.Write w few bad other = absurd w
 which_refused form bytes exit.Memory w few bad other = absurd (other refl)
 which_refused form bytes exit.TooLong w few bad other = absurd (omega (arith, w, few))
 which_refused form bytes exit.Illegal w few bad other = absurd (is_none_not (not_refused form bytes w.1.0 w.1.1) bad)
+which_refused form bytes exit.NoGoal w few bad other = absurd (is_none_not (not_refused form bytes w.1.0 w.1.1) bad)
+which_refused form bytes exit.TooMany w few bad other = absurd (is_none_not (not_refused form bytes w.1.0 w.1.1) bad)
+which_refused form bytes exit.NotDelivered w few bad other = absurd (is_none_not (not_refused form bytes w.1.0 w.1.1) bad)
 
 -- where the bytes are a task, it tells the status
 record Tells (t : Task) (found : Status) : Type 0 where
   well : GoesWell t → found ≡ exit.Ok
   refused : IsSome (refused_turn t) → found ≡ exit.Schedule
   wrong : GoesWrong t → found ≡ exit.Illegal
+  missed : (m : Status) → missed t ≡ Some m → found ≡ m
+
+same_status : (m n : Status) (o : Option Status) → o ≡ Some m → o ≡ Some n → m ≡ n
+same_status m n o e k = go (sym e ∙ k)
+  where
+    go : ◌≡◌ {A = Option Status} (Some m) (Some n) → m ≡ n
+    go h = cc
+
+missed_now : (form : Form) (bytes : List ℕ) (t : Task) (m : Status) → IsMissed form bytes m → task_of form bytes ≡ Ok t → missed t ≡ Some m
+missed_now form bytes t m w e = subst (λ (u : Task). missed u ≡ Some m) (same_task form bytes w.1.0 t w.1.1 e) w.1.2
+
+tells_missed : (form : Form) (bytes : List ℕ) (t : Task) (m : Status) → IsMissed form bytes m → task_of form bytes ≡ Ok t → Tells t m
+tells_missed form bytes t m w e =
+    let now = missed_now form bytes t m w e in
+    record {
+      well = λ k. absurd (well_missed t m k now);
+      refused = λ some. absurd (refused_missed t m some now);
+      wrong = λ v. absurd (wrong_missed t m v now);
+      missed = λ n k. same_status m n (missed t) now k;
+    }
 
 which_tells : (form : Form) (bytes : List ℕ) (t : Task) (found : Status) → Which form bytes found → length bytes ≤ INPUT_LIMIT → task_of form bytes
     ≡ Ok t → found ≢ exit.Memory → Tells t found
 which_tells form bytes t exit.Ok w few e other =
     let well : GoesWell t = subst GoesWell (same_task form bytes w.1.0 t w.1.1 e) w.1.2 in
-    record { well = λ _. refl; refused = λ some. absurd (well_refused t well some); wrong = λ v. absurd (well_wrong t well v) }
+    record {
+      well = λ _. refl;
+      refused = λ some. absurd (well_refused t well some);
+      wrong = λ v. absurd (well_wrong t well v);
+      missed = λ m e. absurd (well_missed t m well e);
+    }
 which_tells form bytes t exit.Usage w few e other = absurd w
 which_tells form bytes t exit.Script w few e other = absurd (is_none_not (not_refused form bytes t e) w.1)
 which_tells form bytes t exit.Schedule w few e other =
     let some : IsSome (refused_turn t) = subst (λ (u : Task). IsSome (refused_turn u)) (same_task form bytes w.1.0 t w.1.1 e) w.1.2 in
-    record { well = λ k. absurd (well_refused t k some); refused = λ _. refl; wrong = λ v. absurd (wrong_refused t v some) }
+    record {
+      well = λ k. absurd (well_refused t k some);
+      refused = λ _. refl;
+      wrong = λ v. absurd (wrong_refused t v some);
+      missed = λ m e. absurd (refused_missed t m some e);
+    }
 which_tells form bytes t exit.Read w few e other = absurd w
 which_tells form bytes t exit.Write w few e other = absurd w
 which_tells form bytes t exit.Memory w few e other = absurd (other refl)
 which_tells form bytes t exit.TooLong w few e other = absurd (omega (arith, w, few))
 which_tells form bytes t exit.Illegal w few e other =
     let wrong : GoesWrong t = subst GoesWrong (same_task form bytes w.1.0 t w.1.1 e) w.1.2 in
-    record { well = λ k. absurd (well_wrong t k wrong); refused = λ some. absurd (wrong_refused t wrong some); wrong = λ _. refl }
+    record {
+      well = λ k. absurd (well_wrong t k wrong);
+      refused = λ some. absurd (wrong_refused t wrong some);
+      wrong = λ _. refl;
+      missed = λ m e. absurd (wrong_missed t m wrong e);
+    }
+which_tells form bytes t exit.NoGoal w few e other = tells_missed form bytes t exit.NoGoal w e
+which_tells form bytes t exit.TooMany w few e other = tells_missed form bytes t exit.TooMany w e
+which_tells form bytes t exit.NotDelivered w few e other = tells_missed form bytes t exit.NotDelivered w e
 
 ok_tells : (form : Form) (bytes : List ℕ) (t : Task) → task_of form bytes ≡ Ok t → Which form bytes exit.Ok → GoesWell t
 ok_tells form bytes t e w = subst GoesWell (same_task form bytes w.1.0 t w.1.1 e) w.1.2
@@ -334,6 +470,9 @@ load_found one words so sn seed turns exit.Read text h f = absurd (load_by one w
 load_found one words so sn seed turns exit.Write text h f = absurd (load_by one words so sn seed turns f.0 exit.Write text h f.1 f.2).1
 load_found one words so sn seed turns exit.TooLong text h f = absurd (load_by one words so sn seed turns f.0 exit.TooLong text h f.1 f.2).1
 load_found one words so sn seed turns exit.Illegal text h f = absurd (load_by one words so sn seed turns f.0 exit.Illegal text h f.1 f.2).1
+load_found one words so sn seed turns exit.NoGoal text h f = absurd (load_by one words so sn seed turns f.0 exit.NoGoal text h f.1 f.2).1
+load_found one words so sn seed turns exit.TooMany text h f = absurd (load_by one words so sn seed turns f.0 exit.TooMany text h f.1 f.2).1
+load_found one words so sn seed turns exit.NotDelivered text h f = absurd (load_by one words so sn seed turns f.0 exit.NotDelivered text h f.1 f.2).1
 
 load_cause : WordsHaveOneForm → (words : List (List ℕ)) (so sn : Supply) (ko kn : Store) (status : Status) (a : IsAnswered words so sn ko kn status)
     (seed turns : ℕ) → IsForm words (form.Load seed turns) → IsUnread status so sn
@@ -380,6 +519,24 @@ causes one words so sn ko kn status a =
             illegal_tells form bytes t s.task (which one words so sn form bytes exit.Illegal found.0 s.given found.1);
         always = λ wrong memory write. same write
             ∙ (which_tells form bytes t a.found (which_now form bytes s.given) s.few s.task (λ e. memory (same write ∙ e))).wrong wrong;
+      };
+      no_goal = λ form bytes t s. record {
+        only = λ e. let found = at exit.NoGoal (λ w. cc) e in
+            missed_now form bytes t exit.NoGoal (which one words so sn form bytes exit.NoGoal found.0 s.given found.1) s.task;
+        always = λ miss memory write. same write
+            ∙ (which_tells form bytes t a.found (which_now form bytes s.given) s.few s.task (λ e. memory (same write ∙ e))).missed exit.NoGoal miss;
+      };
+      many_turns = λ form bytes t s. record {
+        only = λ e. let found = at exit.TooMany (λ w. cc) e in
+            missed_now form bytes t exit.TooMany (which one words so sn form bytes exit.TooMany found.0 s.given found.1) s.task;
+        always = λ miss memory write. same write
+            ∙ (which_tells form bytes t a.found (which_now form bytes s.given) s.few s.task (λ e. memory (same write ∙ e))).missed exit.TooMany miss;
+      };
+      undelivered = λ form bytes t s. record {
+        only = λ e. let found = at exit.NotDelivered (λ w. cc) e in
+            missed_now form bytes t exit.NotDelivered (which one words so sn form bytes exit.NotDelivered found.0 s.given found.1) s.task;
+        always = λ miss memory write. same write
+            ∙ (which_tells form bytes t a.found (which_now form bytes s.given) s.few s.task (λ e. memory (same write ∙ e))).missed exit.NotDelivered miss;
       };
       ok = λ form bytes t s. record {
         only = λ e. let found = at exit.Ok (λ w. cc) e in

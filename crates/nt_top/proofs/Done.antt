@@ -33,6 +33,8 @@ run_of (task.Replay input schedule) h r =
 run_of (task.Check input history) h r = absurd r
 run_of (task.Migrate input) h r = absurd r
 run_of (task.Verify input) h r = absurd r
+run_of (task.Shrink input schedule goal) h r = absurd r
+run_of (task.Audit input turns workers) h r = absurd r
 
 -- the events of a task's history name things of its script
 pub events_of : (t : Task) (h : History) → IsSoundTask t → IsRunOf t h → events_fit (input_of t).script h.events ≡ true

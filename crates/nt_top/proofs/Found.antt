@@ -33,6 +33,9 @@ refused_in form bytes line kind exit.Write text r h = absurd h
 refused_in form bytes line kind exit.Memory text r h = h
 refused_in form bytes line kind exit.TooLong text r h = absurd h
 refused_in form bytes line kind exit.Illegal text r h = absurd h
+refused_in form bytes line kind exit.NoGoal text r h = absurd h
+refused_in form bytes line kind exit.TooMany text r h = absurd h
+refused_in form bytes line kind exit.NotDelivered text r h = absurd h
 
 -- the line that is refused
 pub bad_refused : (form : Form) (bytes : List ℕ) (line : ℕ) (kind : ScriptKind) → task_of form bytes ≡ Err (line, kind) → refusal form bytes
@@ -51,6 +54,9 @@ done_in form bytes t exit.Write text read h = absurd h
 done_in form bytes t exit.Memory text read h = h
 done_in form bytes t exit.TooLong text read h = absurd h
 done_in form bytes t exit.Illegal text read h = (t, read, h)
+done_in form bytes t exit.NoGoal text read h = (t, read, h)
+done_in form bytes t exit.TooMany text read h = (t, read, h)
+done_in form bytes t exit.NotDelivered text read h = (t, read, h)
 
 well_of : (t : Task) (h : History) (text : List ℕ) → IsRunOf t h → text ≡ report_text (input_of t) h → IsWell t text
 well_of (task.Run input turns) h text r k = record { history = h; run = r; is = k }
@@ -59,6 +65,8 @@ well_of (task.Replay input schedule) h text r k = record { history = h; run = r;
 well_of (task.Check input history) h text r k = absurd r
 well_of (task.Migrate input) h text r k = absurd r
 well_of (task.Verify input) h text r k = absurd r
+well_of (task.Shrink input schedule goal) h text r k = absurd r
+well_of (task.Audit input turns workers) h text r k = absurd r
 
 -- the history of a task is reported
 pub reported_done : (t : Task) (h : History) (status : Status) (text : List ℕ) → IsRunOf t h → IsReported (input_of t) h status text → IsDone t status text
@@ -71,6 +79,9 @@ reported_done t h exit.Write text r k = absurd k
 reported_done t h exit.Memory text r k = k
 reported_done t h exit.TooLong text r k = absurd k
 reported_done t h exit.Illegal text r k = absurd k
+reported_done t h exit.NoGoal text r k = absurd k
+reported_done t h exit.TooMany text r k = absurd k
+reported_done t h exit.NotDelivered text r k = absurd k
 
 -- a turn of a task is refused
 pub turn_done : (t : Task) (r : Refused) (status : Status) (text : List ℕ) → refused_turn t ≡ Some r → IsTurnRefused r status text → IsDone t status text
@@ -83,6 +94,9 @@ turn_done t r exit.Write text e k = absurd k
 turn_done t r exit.Memory text e k = k
 turn_done t r exit.TooLong text e k = absurd k
 turn_done t r exit.Illegal text e k = absurd k
+turn_done t r exit.NoGoal text e k = absurd k
+turn_done t r exit.TooMany text e k = absurd k
+turn_done t r exit.NotDelivered text e k = absurd k
 
 -- a history was made for the task, or its turns are refused
 pub made_done : (t : Task) (r : Result History ScheduleRefusal) (status : Status) (text : List ℕ) → IfOk r (IsRunOf t) →
@@ -104,6 +118,9 @@ illegal_done input h n exit.Write text v k = absurd k
 illegal_done input h n exit.Memory text v k = k
 illegal_done input h n exit.TooLong text v k = absurd k
 illegal_done input h n exit.Illegal text v k = (n, v, k)
+illegal_done input h n exit.NoGoal text v k = absurd k
+illegal_done input h n exit.TooMany text v k = absurd k
+illegal_done input h n exit.NotDelivered text v k = absurd k
 
 -- ---- what a form finds is what the words find
 
@@ -118,6 +135,9 @@ found_as_form f words so sn exit.Write text r h w v = (f, h, v)
 found_as_form f words so sn exit.Memory text r h w v = (inr (record { form = f; is = h; may = r; few = w.0 }), w.1)
 found_as_form f words so sn exit.TooLong text r h w v = (f, h, v)
 found_as_form f words so sn exit.Illegal text r h w v = (f, h, v)
+found_as_form f words so sn exit.NoGoal text r h w v = (f, h, v)
+found_as_form f words so sn exit.TooMany text r h w v = (f, h, v)
+found_as_form f words so sn exit.NotDelivered text r h w v = (f, h, v)
 
 found_as_load : (seed turns : ℕ) (words : List (List ℕ)) (so sn : Supply) (status : Status) (text : List ℕ) → IsForm words (form.Load seed turns) →
     IsFoundBy (form.Load seed turns) so sn status text → IsFound words so sn status text
@@ -130,6 +150,9 @@ found_as_load seed turns words so sn exit.Write text h w = absurd w.1
 found_as_load seed turns words so sn exit.Memory text h w = (inl w.0, w.1)
 found_as_load seed turns words so sn exit.TooLong text h w = absurd w.1
 found_as_load seed turns words so sn exit.Illegal text h w = absurd w.1
+found_as_load seed turns words so sn exit.NoGoal text h w = absurd w.1
+found_as_load seed turns words so sn exit.TooMany text h w = absurd w.1
+found_as_load seed turns words so sn exit.NotDelivered text h w = absurd w.1
 
 pub found_by : (f : Form) (words : List (List ℕ)) (so sn : Supply) (status : Status) (text : List ℕ) → IsForm words f → IsFoundBy f so sn status text →
     IsFound words so sn status text
@@ -140,3 +163,5 @@ found_by (form.Live turns) words so sn status text h w = found_as_form (form.Liv
 found_by (form.Load seed turns) words so sn status text h w = found_as_load seed turns words so sn status text h w
 found_by form.Migrate words so sn status text h w = found_as_form form.Migrate words so sn status text refl h w w
 found_by form.Verify words so sn status text h w = found_as_form form.Verify words so sn status text refl h w w
+found_by (form.Shrink goal) words so sn status text h w = found_as_form (form.Shrink goal) words so sn status text refl h w w
+found_by (form.Audit turns workers) words so sn status text h w = found_as_form (form.Audit turns workers) words so sn status text refl h w w

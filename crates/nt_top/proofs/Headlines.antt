@@ -41,13 +41,15 @@ use Rattle.nt_top.specs.declared.status.Status.TheVariants as exit
 use Rattle.nt_top.specs.declared.task.Task.{Task}
 use Rattle.nt_top.specs.declared.task.Task.TheVariants as task
 use Rattle.nt_top.specs.Headline.{AllDue, HasWritten, Headline, IsActual, IsUncut, IsWhole, IsWholeCheck, IsWholeLoad, IsWholeMigrate, NothingIsLeft}
-use Rattle.nt_top.specs.Headline.{IsWholeVerify}
+use Rattle.nt_top.specs.Headline.{IsWholeAudit, IsWholeShrink, IsWholeVerify}
+use Rattle.nt_top.specs.Audited.{IsAudited}
+use Rattle.nt_top.specs.Shrunk.{IsShrunkTo}
 use Rattle.nt_top.specs.Verified.{verify_text}
 use Rattle.nt_verify.specs.Laws.{CallsAreExpected, CleanScriptsRefuseNothing, OrderedScriptsSpinNowhere}
 use Rattle.nt_top.specs.Outcome.{Gave, IsFound, IsFoundBy, IsRunOf, IsWell, Store, Supply}
-use Rattle.nt_top.specs.Tasks.{Bad, and_then, input_of, limit_of, migrated, task_of}
+use Rattle.nt_top.specs.Tasks.{Bad, and_then, input_of, limit_of, limited, migrated, task_of}
 use Rattle.nt_top.proofs.Done.{run_of}
-use Rattle.nt_top.proofs.Tasked.{IsCheck, IsRunTask, check_is_one, live_is_a_run, replay_is_a_run, run_is_a_run}
+use Rattle.nt_top.proofs.Tasked.{IsCheck, IsRunTask, IsShrinkTask, check_is_one, live_is_a_run, replay_is_a_run, run_is_a_run, shrink_is_one}
 use Rattle.nt_top.proofs.PlainTasks.{IsPlainTask, run_of_input, sound_task, task_plain}
 
 all_due : (s : Script) (limit : ℕ) (past : List Event) → fits s ≡ true → IsRun s limit past → AllDue s past
@@ -134,6 +136,8 @@ reported f so sn ko kn bytes text (task.Replay input schedule) within gave read 
 reported f so sn ko kn bytes text (task.Check input history) within gave read w added n = absurd n
 reported f so sn ko kn bytes text (task.Migrate input) within gave read w added n = absurd n
 reported f so sn ko kn bytes text (task.Verify input) within gave read w added n = absurd n
+reported f so sn ko kn bytes text (task.Shrink input schedule goal) within gave read w added n = absurd n
+reported f so sn ko kn bytes text (task.Audit input turns workers) within gave read w added n = absurd n
 
 checked : (so sn : Supply) (ko kn : Store) (bytes text : List ℕ) (t : Task) → Gave bytes so sn → task_of form.Check bytes ≡ Ok t → IsWell t text →
     kn.held ≡ append_known ko.held text → IsCheck t → IsWholeCheck so sn ko kn
@@ -142,6 +146,8 @@ checked so sn ko kn bytes text (task.Live input turns) gave read w added n = abs
 checked so sn ko kn bytes text (task.Replay input schedule) gave read w added n = absurd n
 checked so sn ko kn bytes text (task.Migrate input) gave read w added n = absurd n
 checked so sn ko kn bytes text (task.Verify input) gave read w added n = absurd n
+checked so sn ko kn bytes text (task.Shrink input schedule goal) gave read w added n = absurd n
+checked so sn ko kn bytes text (task.Audit input turns workers) gave read w added n = absurd n
 checked so sn ko kn bytes text (task.Check input history) gave read w added n = record {
   bytes = bytes;
   gave = gave;
@@ -205,6 +211,38 @@ verify_written so sn ko kn bytes text t laws gave read w added = go (reading byt
           ordered = laws.ordered;
         }
 
+shrink_written : (name : List ℕ) (so sn : Supply) (ko kn : Store) (bytes text : List ℕ) (t : Task) → Gave bytes so sn →
+    task_of (form.Shrink name) bytes ≡ Ok t → IsWell t text → kn.held ≡ append_known ko.held text → IsShrinkTask name t → IsWholeShrink name so sn ko kn
+shrink_written name so sn ko kn bytes text (task.Run input turns) gave read w added n = absurd n
+shrink_written name so sn ko kn bytes text (task.Live input turns) gave read w added n = absurd n
+shrink_written name so sn ko kn bytes text (task.Replay input schedule) gave read w added n = absurd n
+shrink_written name so sn ko kn bytes text (task.Check input history) gave read w added n = absurd n
+shrink_written name so sn ko kn bytes text (task.Migrate input) gave read w added n = absurd n
+shrink_written name so sn ko kn bytes text (task.Verify input) gave read w added n = absurd n
+shrink_written name so sn ko kn bytes text (task.Audit input turns workers) gave read w added n = absurd n
+shrink_written name so sn ko kn bytes text (task.Shrink input schedule goal) gave read w added n = record {
+  bytes = bytes;
+  gave = gave;
+  input = input;
+  schedule = schedule;
+  read = subst (λ (x : List ℕ). task_of (form.Shrink name) bytes ≡ Ok (task.Shrink input schedule x)) (sym n) read;
+  text = text;
+  shrunk = subst (λ (x : List ℕ). IsShrunkTo input schedule x text) (sym n) w;
+  written = added;
+}
+
+audit_written : (turns workers : ℕ) (so sn : Supply) (ko kn : Store) (bytes text : List ℕ) (t : Task) → Gave bytes so sn →
+    task_of (form.Audit turns workers) bytes ≡ Ok t → IsWell t text → kn.held ≡ append_known ko.held text → IsWholeAudit turns so sn ko kn
+audit_written turns workers so sn ko kn bytes text t gave read w added = go (reading bytes) refl read
+  where
+    go : (r : Result Input Bad) → reading bytes ≡ r → and_then r (λ input. Ok (task.Audit input (limited input turns) workers)) ≡ Ok t →
+        IsWholeAudit turns so sn ko kn
+    go (Err bad) e k = cc
+    go (Ok input) e k =
+        let same : task.Audit input (limited input turns) workers ≡ t = cc in
+        let is : IsAudited input (limited input turns) text = subst (λ (u : Task). IsWell u text) (sym same) w in
+        record { bytes = bytes; gave = gave; input = input; read = e; text = text; audited = is; written = added }
+
 written_by : OfFindings → (f : Form) (so sn : Supply) (ko kn : Store) (text : List ℕ) → IsWithin f → IsFoundBy f so sn exit.Ok text →
     kn.held ≡ append_known ko.held text → HasWritten f so sn ko kn
 written_by laws (form.Run turns) so sn ko kn text within w added =
@@ -217,6 +255,10 @@ written_by laws form.Check so sn ko kn text within w added = checked so sn ko kn
 written_by laws (form.Load seed turns) so sn ko kn text within w added = load_written seed turns so sn ko kn text w added
 written_by laws form.Migrate so sn ko kn text within w added = migrate_written so sn ko kn w.0 text w.2.0 w.1 w.2.1 w.2.2 added
 written_by laws form.Verify so sn ko kn text within w added = verify_written so sn ko kn w.0 text w.2.0 laws w.1 w.2.1 w.2.2 added
+written_by laws (form.Shrink goal) so sn ko kn text within w added =
+    shrink_written goal so sn ko kn w.0 text w.2.0 w.1 w.2.1 w.2.2 added (shrink_is_one goal w.0 w.2.0 w.2.1)
+written_by laws (form.Audit turns workers) so sn ko kn text within w added =
+    audit_written turns workers so sn ko kn w.0 text w.2.0 w.1 w.2.1 w.2.2 added
 
 pub headline : OfFindings → Headline
 headline laws words so sn ko kn a =

@@ -8,6 +8,7 @@ mod Loads
 mod Looks
 mod Named
 mod PlainTasks
+mod Shrinks
 mod Splits
 mod Tasked
 mod Written

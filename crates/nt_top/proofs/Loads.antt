@@ -9,7 +9,8 @@ use Rattle.nt_load.specs.Load.{load_input, load_names, load_script}
 use Rattle.nt_print.specs.Summary.{summary_text}
 use Rattle.nt_script.specs.Sound.{IsSound}
 use Rattle.nt_script.specs.declared.walk.Input.{Input}
-use Rattle.nt_top.specs.Outcome.{IsRobinRun, IsSummary}
+use Rattle.nt_top.specs.Runs.{IsRobinRun}
+use Rattle.nt_top.specs.Outcome.{IsSummary}
 
 pub drawn_fits : (seed : ℕ) (script : Script) → script ≡ load_script seed → IsSound (load_input seed) → IsTrue (fits script)
 unfolding load_input

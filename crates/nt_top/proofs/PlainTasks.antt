@@ -33,7 +33,7 @@ use Rattle.nt_top.specs.declared.task.Tail.TheVariants as tail
 use Rattle.nt_top.specs.declared.task.Task.{Task}
 use Rattle.nt_top.specs.declared.task.Task.TheVariants as task
 use Rattle.nt_top.specs.Outcome.{IsRunOf}
-use Rattle.nt_top.specs.Tasks.{Bad, IsLimit, and_then, behind, input_of, last_line, limited, migrated, report_task, schedule_task, tail_task, tail_word}
+use Rattle.nt_top.specs.Tasks.{Bad, IsLimit, and_then, behind, input_of, last_line, limited, migrated, report_task, tail_task, tail_word}
 use Rattle.nt_top.specs.Tasks.{task_of}
 use Rattle.nt_top.specs.Tasks.{two_parts}
 
@@ -45,6 +45,8 @@ IsPlainTask (task.Replay input schedule) = IsSound input × IsPlain input schedu
 IsPlainTask (task.Check input history) = IsSound input × HistoryIsPlain input history
 IsPlainTask (task.Migrate input) = IsSound input
 IsPlainTask (task.Verify input) = IsSound input
+IsPlainTask (task.Shrink input schedule goal) = IsSound input × IsPlain input schedule
+IsPlainTask (task.Audit input turns workers) = IsSound input × IsLimit input turns
 
 pub sound_task : (t : Task) → IsPlainTask t → IsSound (input_of t)
 sound_task (task.Run input turns) p = p.0
@@ -53,6 +55,8 @@ sound_task (task.Replay input schedule) p = p.0
 sound_task (task.Check input history) p = p.0
 sound_task (task.Migrate input) p = p
 sound_task (task.Verify input) p = p
+sound_task (task.Shrink input schedule goal) p = p.0
+sound_task (task.Audit input turns workers) p = p.0
 
 -- a script alone, whatever task is made of it
 script_plain : (make : Input → Task) (bytes : List ℕ) (t : Task) → ((input : Input) → IsSound input → IsPlainTask (make input)) →
@@ -64,14 +68,17 @@ script_plain make bytes t each e = go (reading bytes) refl e
     go (Ok input) is h =
         let same : make input ≡ t = cc in subst IsPlainTask same (each input (reading_is_text bytes input is).sound)
 
-schedule_plain : (input : Input) (line : ℕ) (rest : List ℕ) (t : Task) → IsSound input → schedule_task input line rest ≡ Ok t → IsPlainTask t
-schedule_plain input line rest t sound e = go (schedule_reading CPUS input line rest) refl e
+-- a schedule behind a script, whatever task is made of it
+schedule_plain : (make : Schedule → Task) (input : Input) (line : ℕ) (rest : List ℕ) (t : Task) →
+    ((schedule : Schedule) → IsPlain input schedule → IsPlainTask (make schedule)) → IsSound input →
+    and_then (schedule_reading CPUS input line rest) (λ s. Ok (make s)) ≡ Ok t → IsPlainTask t
+schedule_plain make input line rest t each sound e = go (schedule_reading CPUS input line rest) refl e
   where
-    go : (r : Result Schedule Bad) → schedule_reading CPUS input line rest ≡ r → and_then r (λ s. Ok (task.Replay input s)) ≡ Ok t → IsPlainTask t
+    go : (r : Result Schedule Bad) → schedule_reading CPUS input line rest ≡ r → and_then r (λ s. Ok (make s)) ≡ Ok t → IsPlainTask t
     go (Err bad) is h = cc
     go (Ok schedule) is h =
-        let same : task.Replay input schedule ≡ t = cc in
-        subst IsPlainTask same (sound, (walk_takes CPUS line input (lines rest) schedule (omega arith) sound is).1)
+        let same : make schedule ≡ t = cc in
+        subst IsPlainTask same (each schedule (walk_takes CPUS line input (lines rest) schedule (omega arith) sound is).1)
 
 report_plain : (input : Input) (line : ℕ) (rest : List ℕ) (t : Task) → IsSound input → report_task input line rest ≡ Ok t → IsPlainTask t
 report_plain input line rest t sound e = go (report_reading input line rest) refl e
@@ -83,8 +90,10 @@ report_plain input line rest t sound e = go (report_reading input line rest) ref
         subst IsPlainTask same (sound, (reading_is_report input sound line rest history is).plain)
 
 tail_plain : (k : Tail) (input : Input) (line : ℕ) (rest : List ℕ) (t : Task) → IsSound input → tail_task k input line rest ≡ Ok t → IsPlainTask t
-tail_plain tail.Schedule input line rest t sound e = schedule_plain input line rest t sound e
+tail_plain tail.Schedule input line rest t sound e = schedule_plain (λ s. task.Replay input s) input line rest t (λ s plain. (sound, plain)) sound e
 tail_plain tail.Report input line rest t sound e = report_plain input line rest t sound e
+tail_plain (tail.ToShrink goal) input line rest t sound e =
+    schedule_plain (λ s. task.Shrink input s goal) input line rest t (λ s plain. (sound, plain)) sound e
 
 parts_plain : (k : Tail) (split : Option (ℕ × ℕ)) (bytes : List ℕ) (t : Task) → two_parts k split bytes ≡ Ok t → IsPlainTask t
 parts_plain k None bytes t e = go (reading bytes) e
@@ -117,6 +126,9 @@ task_plain (form.Live turns) bytes t w e =
 task_plain (form.Load seed turns) bytes t w e = cc
 task_plain form.Migrate bytes t w e = script_plain (λ input. task.Migrate (migrated input)) bytes t (λ input sound. migrated_sound input sound) e
 task_plain form.Verify bytes t w e = script_plain (λ input. task.Verify input) bytes t (λ input sound. sound) e
+task_plain (form.Shrink goal) bytes t w e = parts_plain (tail.ToShrink goal) (behind (tail_word (tail.ToShrink goal)) bytes) bytes t e
+task_plain (form.Audit turns workers) bytes t w e =
+    script_plain (λ input. task.Audit input (limited input turns) workers) bytes t (λ input sound. (sound, limited_fits input turns w.0)) e
 
 -- ---- its history
 
@@ -146,3 +158,5 @@ run_of_input (task.Replay input schedule) h p r =
 run_of_input (task.Check input history) h p r = absurd r
 run_of_input (task.Migrate input) h p r = absurd r
 run_of_input (task.Verify input) h p r = absurd r
+run_of_input (task.Shrink input schedule goal) h p r = absurd r
+run_of_input (task.Audit input turns workers) h p r = absurd r

@@ -22,6 +22,8 @@ IsCheck (task.Replay input schedule) = ⊥
 IsCheck (task.Check input history) = Unit {0}
 IsCheck (task.Migrate input) = ⊥
 IsCheck (task.Verify input) = ⊥
+IsCheck (task.Shrink input schedule goal) = ⊥
+IsCheck (task.Audit input turns workers) = ⊥
 
 -- the task is one of a run, whose history is reported
 abbrev pub IsRunTask : Task → Type 0
@@ -31,6 +33,19 @@ IsRunTask (task.Replay input schedule) = Unit {0}
 IsRunTask (task.Check input history) = ⊥
 IsRunTask (task.Migrate input) = ⊥
 IsRunTask (task.Verify input) = ⊥
+IsRunTask (task.Shrink input schedule goal) = ⊥
+IsRunTask (task.Audit input turns workers) = ⊥
+
+-- the task is to shrink a schedule for the goal of this name
+abbrev pub IsShrinkTask : List ℕ → Task → Type 0
+IsShrinkTask name (task.Run input turns) = ⊥
+IsShrinkTask name (task.Live input turns) = ⊥
+IsShrinkTask name (task.Replay input schedule) = ⊥
+IsShrinkTask name (task.Check input history) = ⊥
+IsShrinkTask name (task.Migrate input) = ⊥
+IsShrinkTask name (task.Verify input) = ⊥
+IsShrinkTask name (task.Shrink input schedule goal) = name ≡ goal
+IsShrinkTask name (task.Audit input turns workers) = ⊥
 
 -- what holds of a task that a reader made of what it read
 made : {A : Type 0} (P : Task → Type 0) (make : A → Task) → ((x : A) → P (make x)) → (r : Result A Bad) (t : Task) → and_then r (λ x. Ok (make x)) ≡ Ok t →
@@ -72,9 +87,15 @@ check_is_one bytes t e =
     parted IsCheck tail.Report (λ input line rest u h. made IsCheck (λ x. task.Check input x) (λ x. tt) (report_reading input line rest) u h)
     (behind (tail_word tail.Report) bytes) bytes t e
 
+pub shrink_is_one : (goal bytes : List ℕ) (t : Task) → task_of (form.Shrink goal) bytes ≡ Ok t → IsShrinkTask goal t
+shrink_is_one goal bytes t e =
+    parted (IsShrinkTask goal) (tail.ToShrink goal)
+    (λ input line rest u h. made (IsShrinkTask goal) (λ s. task.Shrink input s goal) (λ x. refl) (schedule_reading CPUS input line rest) u h)
+    (behind (tail_word (tail.ToShrink goal)) bytes) bytes t e
+
 -- ---- which forms ask for threads
 
--- a task that is done on threads is that of `live`
+-- a task that is done on threads is that of `live` or `audit`
 pub threads_are_live : (f : Form) (bytes : List ℕ) (t : Task) → task_of f bytes ≡ Ok t → is_threaded t ≡ asks_threads f
 threads_are_live (form.Run turns) bytes t e =
     made (λ u. is_threaded u ≡ false) (λ input. task.Run input (limited input turns)) (λ x. refl) (reading bytes) t e
@@ -93,6 +114,12 @@ threads_are_live form.Migrate bytes t e =
     made (λ u. is_threaded u ≡ false) (λ input. task.Migrate (migrated input)) (λ x. refl) (reading bytes) t e
 threads_are_live form.Verify bytes t e =
     made (λ u. is_threaded u ≡ false) (λ input. task.Verify input) (λ x. refl) (reading bytes) t e
+threads_are_live (form.Shrink goal) bytes t e =
+    parted (λ u. is_threaded u ≡ false) (tail.ToShrink goal)
+    (λ input line rest u h. made (λ v. is_threaded v ≡ false) (λ s. task.Shrink input s goal) (λ x. refl) (schedule_reading CPUS input line rest) u h)
+    (behind (tail_word (tail.ToShrink goal)) bytes) bytes t e
+threads_are_live (form.Audit turns workers) bytes t e =
+    made (λ u. is_threaded u ≡ true) (λ input. task.Audit input (limited input turns) workers) (λ x. refl) (reading bytes) t e
 
 -- and a form that has a task reads it from the source
 pub tasks_are_read : (f : Form) (bytes : List ℕ) (t : Task) → task_of f bytes ≡ Ok t → reads f ≡ true
@@ -103,3 +130,5 @@ tasks_are_read form.Check bytes t e = refl
 tasks_are_read (form.Load seed turns) bytes t e = cc
 tasks_are_read form.Migrate bytes t e = refl
 tasks_are_read form.Verify bytes t e = refl
+tasks_are_read (form.Shrink goal) bytes t e = refl
+tasks_are_read (form.Audit turns workers) bytes t e = refl

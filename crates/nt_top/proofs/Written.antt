@@ -19,6 +19,9 @@ written_whole exit.Write text old new other added = absurd (other refl)
 written_whole exit.Memory text old new other added = (refl, added)
 written_whole exit.TooLong text old new other added = (refl, added)
 written_whole exit.Illegal text old new other added = (refl, added)
+written_whole exit.NoGoal text old new other added = (refl, added)
+written_whole exit.TooMany text old new other added = (refl, added)
+written_whole exit.NotDelivered text old new other added = (refl, added)
 
 never_by : (f : Form) (old new : Supply) (text : List ℕ) → IsFoundBy f old new exit.Write text → ⊥
 never_by (form.Run turns) old new text w = w.2.2
@@ -28,6 +31,8 @@ never_by (form.Live turns) old new text w = w.2.2
 never_by (form.Load seed turns) old new text w = w.1
 never_by form.Migrate old new text w = w.2.2
 never_by form.Verify old new text w = w.2.2
+never_by (form.Shrink goal) old new text w = w.2.2
+never_by (form.Audit turns workers) old new text w = w.2.2
 
 -- a fault of the sink is never found before the writing
 found_before : (words : List (List ℕ)) (old new : Supply) (status : Status) (text : List ℕ) → IsFound words old new status text → status ≡ exit.Write → ⊥
@@ -40,6 +45,9 @@ found_before words old new exit.Write text found e = never_by found.0 old new te
 found_before words old new exit.Memory text found e = cc
 found_before words old new exit.TooLong text found e = cc
 found_before words old new exit.Illegal text found e = cc
+found_before words old new exit.NoGoal text found e = cc
+found_before words old new exit.TooMany text found e = cc
+found_before words old new exit.NotDelivered text found e = cc
 
 pub found_is_no_fault : (words : List (List ℕ)) (old new : Supply) (status : Status) (text : List ℕ) → IsFound words old new status text → status ≢ exit.Write
 found_is_no_fault words old new status text found = found_before words old new status text found

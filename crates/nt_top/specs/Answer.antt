@@ -5,6 +5,8 @@ use Rattle.nt_core.specs.Replays.{Refused}
 use Rattle.nt_core.specs.declared.refusals.ScheduleRefusal.{ScheduleRefusal}
 use Rattle.nt_core.specs.declared.refusals.ScheduleRefusal.TheVariants.{Bad, NoMemory}
 use Rattle.nt_print.specs.Report.{report_text}
+use Rattle.nt_log.specs.declared.schedules.Schedule.{Schedule}
+use Rattle.nt_log.specs.Schedules.{schedule_text}
 use Rattle.nt_script.specs.declared.walk.Input.{Input}
 use Rattle.nt_words.specs.declared.form.Form.{Form}
 use Rattle.nt_words.specs.Forms.{IsForm}
@@ -40,6 +42,12 @@ abbrev pub IsMade : Input → Result History ScheduleRefusal → Status → List
 IsMade input (Ok h) status text = IsReported input h status text
 IsMade input (Err (Bad at kind)) status text = IsTurnRefused (record { at = at; kind = kind }) status text
 IsMade input (Err NoMemory) status text = (status ≡ exit.Memory) × (text ≡ memory_line)
+
+-- the text is that of the schedule, or that of want of memory
+abbrev pub IsScheduled : Input → Schedule → Status → List ℕ → Type 0
+IsScheduled input schedule exit.Ok text = text ≡ schedule_text input schedule
+IsScheduled input schedule exit.Memory text = text ≡ memory_line
+IsScheduled input schedule _ text = ⊥
 
 -- the line of the number at which a history goes wrong, or that of want of memory
 abbrev pub IsIllegalLine : ℕ → Status → List ℕ → Type 0

@@ -27,6 +27,7 @@ use Rattle.nt_event.specs.Waits.{facts}
 use Rattle.nt_laws.specs.Fates.{NamesPending}
 use Rattle.nt_laws.specs.Objects.{HoldsOfEveryObject}
 use Rattle.nt_load.specs.Load.{load_input}
+use Rattle.nt_log.specs.declared.schedules.Schedule.{Schedule}
 use Rattle.nt_print.specs.declared.spins.Spun.{Spun}
 use Rattle.nt_print.specs.Summary.{summary_text}
 use Rattle.nt_print.specs.Report.{cut_of, cut_row, report_text, spin_left}
@@ -45,8 +46,11 @@ use Rattle.nt_top.specs.declared.status.Status.TheVariants as exit
 use Rattle.nt_top.specs.declared.task.Tail.TheVariants as tail
 use Rattle.nt_top.specs.declared.task.Task.{Task}
 use Rattle.nt_top.specs.declared.task.Task.TheVariants as task
-use Rattle.nt_top.specs.Outcome.{Gave, IsAnswered, IsGiven, IsRobinRun, IsRunOf, Store, Supply, legal_line}
-use Rattle.nt_top.specs.Tasks.{behind, input_of, limit_of, migrated, tail_word, task_of}
+use Rattle.nt_top.specs.Outcome.{Gave, IsAnswered, IsGiven, IsRunOf, Store, Supply, legal_line}
+use Rattle.nt_top.specs.Audited.{IsAudited}
+use Rattle.nt_top.specs.Runs.{IsRobinRun}
+use Rattle.nt_top.specs.Shrunk.{IsShrunkTo}
+use Rattle.nt_top.specs.Tasks.{behind, input_of, limit_of, limited, migrated, tail_word, task_of}
 use Rattle.nt_top.specs.Verified.{verify_text}
 use Rattle.nt_verify.specs.Laws.{CallsAreExpected, CleanScriptsRefuseNothing, OrderedScriptsSpinNowhere}
 
@@ -165,6 +169,29 @@ pub record IsWholeVerify (so sn : Supply) (ko kn : Store) : Type 0 where
   pub clean : CleanScriptsRefuseNothing
   pub ordered : OrderedScriptsSpinNowhere
 
+-- the bytes that the source gave are a script and behind it a schedule, and exactly the text of the shrunk schedule was
+-- added to the sink: its turns are those of a run that delivers the goal of this name, and none can be left out
+pub record IsWholeShrink (name : List ℕ) (so sn : Supply) (ko kn : Store) : Type 0 where
+  pub bytes : List ℕ
+  pub gave : Gave bytes so sn
+  pub input : Input
+  pub schedule : Schedule
+  pub read : task_of (form.Shrink name) bytes ≡ Ok (task.Shrink input schedule name)
+  pub text : List ℕ
+  pub shrunk : IsShrunkTo input schedule name text
+  pub written : kn.held ≡ append_known ko.held text
+
+-- the bytes that the source gave are a script, and exactly the audit of its robin run was added to the sink: each work
+-- item in the order of the events, with how many inserts were pending just before
+pub record IsWholeAudit (turns : ℕ) (so sn : Supply) (ko kn : Store) : Type 0 where
+  pub bytes : List ℕ
+  pub gave : Gave bytes so sn
+  pub input : Input
+  pub read : reading bytes ≡ Ok input
+  pub text : List ℕ
+  pub audited : IsAudited input (limited input turns) text
+  pub written : kn.held ≡ append_known ko.held text
+
 -- what a form has written with status 0: `run`, `live` and `replay` the report of their history
 abbrev pub HasWritten : Form → Supply → Supply → Store → Store → Type 0
 HasWritten (form.Run turns) so sn ko kn = IsWhole (form.Run turns) so sn ko kn
@@ -174,9 +201,12 @@ HasWritten form.Check so sn ko kn = IsWholeCheck so sn ko kn
 HasWritten (form.Load seed turns) so sn ko kn = IsWholeLoad seed turns so sn ko kn
 HasWritten form.Migrate so sn ko kn = IsWholeMigrate so sn ko kn
 HasWritten form.Verify so sn ko kn = IsWholeVerify so sn ko kn
+HasWritten (form.Shrink goal) so sn ko kn = IsWholeShrink goal so sn ko kn
+HasWritten (form.Audit turns workers) so sn ko kn = IsWholeAudit turns so sn ko kn
 
 -- what was written with status 0 is the report of the actual history, that the history of a report is legal, the
--- summary of a load's run, the script in the newest version, or what is found in the script
+-- summary of a load's run, the script in the newest version, what is found in the script, the shrunk schedule, or the
+-- audit of the robin run
 abbrev pub Headline : Type 0
 Headline = (words : List (List ℕ)) (so sn : Supply) (ko kn : Store) → IsAnswered words so sn ko kn exit.Ok →
     (f : Form) × IsForm words f × HasWritten f so sn ko kn

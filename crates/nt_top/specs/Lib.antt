@@ -1,5 +1,8 @@
 pub mod Status
 pub mod Verified
+pub mod Runs
+pub mod Audited
+pub mod Shrunk
 pub mod Tasks
 pub mod Outcome
 pub mod Answer

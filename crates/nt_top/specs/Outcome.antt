@@ -4,22 +4,17 @@ use Rattle.std.specs.Prelude.{None, Result, Ok, Err, codes, decimal, reverse}
 use Rattle.std.specs.Io.KnownBytes.{append_known, prepend_known, IsAtEnd}
 use Rattle.nt_event.specs.declared.events.Event.{Event}
 use Rattle.nt_event.specs.declared.events.History.{History}
-use Rattle.nt_event.specs.declared.scripts.Script.{Script}
 use Rattle.nt_event.specs.Numbered.{schedule_name, schedule_number}
-use Rattle.nt_event.specs.Robin.{IsRobin, is_settled}
-use Rattle.nt_event.specs.Step.{IsRun}
 use Rattle.nt_check.specs.declared.checking.Verdict.TheVariants as verdict
 use Rattle.nt_check.specs.Verdicts.{IsVerdict}
 use Rattle.nt_core.specs.Replays.{Refused, replayed}
 use Rattle.nt_script.specs.declared.walk.Input.{Input}
 use Rattle.nt_script.specs.Text.{text as script_text}
 use Rattle.nt_load.specs.Load.{load_input}
-use Rattle.nt_log.specs.declared.schedules.Schedule.{Schedule}
 use Rattle.nt_outside.specs.Bytes.{IsLonger, AddsFrontOf}
 use Rattle.nt_outside.specs.Counts.{counted, Rose, RoseBy}
 use Rattle.nt_print.specs.Report.{report_text}
 use Rattle.nt_print.specs.Summary.{summary_text}
-use Rattle.nt_ranges.specs.Looks.{LooksAreWhole}
 use Rattle.nt_text.specs.declared.kind.ScriptKind.{ScriptKind}
 use Rattle.nt_text.specs.declared.kind.ScriptKind.TheVariants.{TooMany}
 use Rattle.nt_text.specs.declared.lines.TheConstants.{INPUT_LIMIT}
@@ -34,7 +29,11 @@ use Rattle.nt_top.specs.declared.status.Status.TheVariants as exit
 use Rattle.nt_top.specs.declared.task.Task.{Task}
 use Rattle.nt_top.specs.declared.task.Task.TheVariants as task
 use Rattle.nt_top.specs.Tasks.{Bad, input_of, reads, task_of}
+use Rattle.nt_top.specs.Audited.{IsAudited}
+use Rattle.nt_top.specs.Runs.{IsLiveRun, IsReplayed, IsRobinRun}
+use Rattle.nt_top.specs.Shrunk.{Found, IsShrunkTo, bad_turn, delivered, found, no_goal, too_many, turn_in, undelivered}
 use Rattle.nt_top.specs.Verified.{verify_text}
+use Rattle.nt_shrink.specs.declared.goals.Goal.{Goal}
 
 -- ---- the outside, as a call finds or leaves it
 
@@ -90,6 +89,16 @@ abbrev pub turn_line : Refused → List ℕ
 turn_line r = codes "schedule turn "
     ++ (decimal r.at ++ (codes ": " ++ (decimal (schedule_number r.kind) ++ 32 ∷ (schedule_name r.kind ++ 10 ∷ []))))
 
+-- why a schedule isn't shrunk
+abbrev pub no_goal_line : List ℕ
+no_goal_line = codes "no goal\n"
+
+abbrev pub many_turns_line : List ℕ
+many_turns_line = codes "too many turns\n"
+
+abbrev pub undelivered_line : List ℕ
+undelivered_line = codes "not delivered\n"
+
 -- what is written of a history that is a settled run, and of one that goes wrong at this number
 abbrev pub legal_line : List ℕ
 legal_line = codes "legal\n"
@@ -107,27 +116,8 @@ refusal_of (Ok x) = None
 abbrev pub refusal : Form → List ℕ → Option Bad
 refusal form bytes = refusal_of (task_of form bytes)
 
--- the history is a settled run of the script with this limit, and each of its looks tells a value of each class
-pub record IsLiveRun (s : Script) (limit : ℕ) (h : History) : Type 0 where
-  pub turns : h.turns ≡ limit
-  pub run : IsRun s limit (reverse h.events)
-  pub settled : is_settled s limit (reverse h.events) ≡ true
-  pub looks : LooksAreWhole h.events
-
--- the history is the run of the script by the robin rule with this limit, to its end
-pub record IsRobinRun (s : Script) (limit : ℕ) (h : History) : Type 0 where
-  pub turns : h.turns ≡ limit
-  pub run : IsRun s limit (reverse h.events)
-  pub robin : IsRobin s limit (reverse h.events)
-  pub settled : is_settled s limit (reverse h.events) ≡ true
-
--- the history is what the turns of the schedule make
-pub record IsReplayed (s : Script) (schedule : Schedule) (h : History) : Type 0 where
-  pub turns : h.turns ≡ schedule.turns
-  pub run : replayed s schedule.turns schedule.list ≡ Ok (reverse h.events)
-
--- the history that the task asks for: the robin run, any settled run on threads, the run of the schedule's turns; a
--- check and a script that is migrated or verified ask for none
+-- the history whose report the task asks for: the robin run, any settled run on threads, the run of the schedule's
+-- turns; the other tasks ask for no report
 abbrev pub IsRunOf : Task → History → Type 0
 IsRunOf (task.Run input turns) h = IsRobinRun input.script turns h
 IsRunOf (task.Live input turns) h = IsLiveRun input.script turns h
@@ -135,12 +125,15 @@ IsRunOf (task.Replay input schedule) h = IsReplayed input.script schedule h
 IsRunOf (task.Check input history) h = ⊥
 IsRunOf (task.Migrate input) h = ⊥
 IsRunOf (task.Verify input) h = ⊥
+IsRunOf (task.Shrink input schedule goal) h = ⊥
+IsRunOf (task.Audit input turns workers) h = ⊥
 
 abbrev pub refused_in : Result (List Event) Refused → Option Refused
 refused_in (Ok past) = None
 refused_in (Err r) = Some r
 
--- the turn at which the task's turns make no settled run, and why; only a schedule has one
+-- the turn at which the task's turns make no settled run, or which is refused where they are to be shrunk, and why;
+-- only a schedule has one
 abbrev pub refused_turn : Task → Option Refused
 refused_turn (task.Run input turns) = None
 refused_turn (task.Live input turns) = None
@@ -148,6 +141,27 @@ refused_turn (task.Replay input schedule) = refused_in (replayed input.script sc
 refused_turn (task.Check input history) = None
 refused_turn (task.Migrate input) = None
 refused_turn (task.Verify input) = None
+refused_turn (task.Shrink input schedule goal) = turn_in (found input schedule goal)
+refused_turn (task.Audit input turns workers) = None
+
+-- the status of a schedule that isn't shrunk for another cause than a refused turn
+abbrev pub miss_in : Found → Option Status
+miss_in no_goal = Some exit.NoGoal
+miss_in too_many = Some exit.TooMany
+miss_in (bad_turn r) = None
+miss_in undelivered = Some exit.NotDelivered
+miss_in (delivered g) = None
+
+-- the same of a task; only one to be shrunk has it
+abbrev pub missed : Task → Option Status
+missed (task.Run input turns) = None
+missed (task.Live input turns) = None
+missed (task.Replay input schedule) = None
+missed (task.Check input history) = None
+missed (task.Migrate input) = None
+missed (task.Verify input) = None
+missed (task.Shrink input schedule goal) = miss_in (found input schedule goal)
+missed (task.Audit input turns workers) = None
 
 -- the text is the report of the task's history
 pub record IsReport (t : Task) (text : List ℕ) : Type 0 where
@@ -167,8 +181,11 @@ IsIllegal (task.Live input turns) n = ⊥
 IsIllegal (task.Replay input schedule) n = ⊥
 IsIllegal (task.Migrate input) n = ⊥
 IsIllegal (task.Verify input) n = ⊥
+IsIllegal (task.Shrink input schedule goal) n = ⊥
+IsIllegal (task.Audit input turns workers) n = ⊥
 
--- the task is done with this text: a report, the line of a legal history, a script's text, or what is found in it
+-- the task is done with this text: a report, the line of a legal history, a script's text, what is found in it, a
+-- shrunk schedule, or an audit
 abbrev pub IsWell : Task → List ℕ → Type 0
 IsWell (task.Run input turns) text = IsReport (task.Run input turns) text
 IsWell (task.Live input turns) text = IsReport (task.Live input turns) text
@@ -176,12 +193,17 @@ IsWell (task.Replay input schedule) text = IsReport (task.Replay input schedule)
 IsWell (task.Check input history) text = IsLegal input history × (text ≡ legal_line)
 IsWell (task.Migrate input) text = text ≡ script_text input
 IsWell (task.Verify input) text = text ≡ verify_text input
+IsWell (task.Shrink input schedule goal) text = IsShrunkTo input schedule goal text
+IsWell (task.Audit input turns workers) text = IsAudited input turns text
 
 -- what is answered to a task, and its text
 abbrev pub IsDone : Task → Status → List ℕ → Type 0
 IsDone t exit.Ok text = IsWell t text
 IsDone t exit.Schedule text = (r : Refused) × (refused_turn t ≡ Some r) × (text ≡ turn_line r)
 IsDone t exit.Illegal text = (n : ℕ) × IsIllegal t n × (text ≡ illegal_line n)
+IsDone t exit.NoGoal text = (missed t ≡ Some exit.NoGoal) × (text ≡ no_goal_line)
+IsDone t exit.TooMany text = (missed t ≡ Some exit.TooMany) × (text ≡ many_turns_line)
+IsDone t exit.NotDelivered text = (missed t ≡ Some exit.NotDelivered) × (text ≡ undelivered_line)
 IsDone t exit.Memory text = text ≡ memory_line
 IsDone t exit.Usage text = ⊥
 IsDone t exit.Script text = ⊥
@@ -233,6 +255,8 @@ IsFoundBy (form.Live turns) old new status text = IsFoundFrom (form.Live turns) 
 IsFoundBy (form.Load seed turns) old new status text = (new ≡ old) × IsLoaded seed turns status text
 IsFoundBy form.Migrate old new status text = IsFoundFrom form.Migrate old new status text
 IsFoundBy form.Verify old new status text = IsFoundFrom form.Verify old new status text
+IsFoundBy (form.Shrink goal) old new status text = IsFoundFrom (form.Shrink goal) old new status text
+IsFoundBy (form.Audit turns workers) old new status text = IsFoundFrom (form.Audit turns workers) old new status text
 
 -- the words are a form that reads, and not too much was read
 pub record HasRead (given : List (List ℕ)) (old new : Supply) : Type 0 where
@@ -288,7 +312,8 @@ pub record IsAsked (words : List (List ℕ)) (f : Form) (bytes : List ℕ) (t : 
 abbrev pub GoesWrong : Task → Type 0
 GoesWrong t = (n : ℕ) × IsIllegal t n
 
--- a script is run, migrated or verified; the turns of a schedule make a settled run; the history that is checked is one
+-- a script is run, migrated, verified or audited; the turns of a schedule make a settled run, or they deliver the goal
+-- where they are to be shrunk; the history that is checked is a settled run
 abbrev pub GoesWell : Task → Type 0
 GoesWell (task.Run input turns) = Unit {0}
 GoesWell (task.Live input turns) = Unit {0}
@@ -296,6 +321,8 @@ GoesWell (task.Replay input schedule) = refused_turn (task.Replay input schedule
 GoesWell (task.Check input history) = IsLegal input history
 GoesWell (task.Migrate input) = Unit {0}
 GoesWell (task.Verify input) = Unit {0}
+GoesWell (task.Shrink input schedule goal) = (g : Goal) × (found input schedule goal ≡ delivered g)
+GoesWell (task.Audit input turns workers) = Unit {0}
 
 -- nothing is read, and the status is 0, but for want of memory and a fault of the sink
 pub record IsUnread (status : Status) (old new : Supply) : Type 0 where
@@ -314,13 +341,20 @@ pub record HasCause (words : List (List ℕ)) (source_old source_new : Supply) (
       ComesExactly status exit.TooLong (INPUT_LIMIT < length bytes)
   pub script : (form : Form) (bytes : List ℕ) → IsGiven words form bytes source_old source_new →
       length bytes ≤ INPUT_LIMIT → ComesExactly status exit.Script (IsSome (refusal form bytes))
-  -- the turns of a schedule make no settled run
+  -- the turns of a schedule make no settled run, or one is refused where they are to be shrunk
   pub schedule : (form : Form) (bytes : List ℕ) (t : Task) → IsAsked words form bytes t source_old source_new →
       ComesExactly status exit.Schedule (IsSome (refused_turn t))
   -- the history that is checked is no settled run
   pub illegal : (form : Form) (bytes : List ℕ) (t : Task) → IsAsked words form bytes t source_old source_new →
       ComesExactly status exit.Illegal (GoesWrong t)
-  -- completeness: else the report or the script is written, or that the history is legal
+  -- no object has the goal's name; the schedule is too long to be shrunk; its turns don't deliver the goal
+  pub no_goal : (form : Form) (bytes : List ℕ) (t : Task) → IsAsked words form bytes t source_old source_new →
+      ComesExactly status exit.NoGoal (missed t ≡ Some exit.NoGoal)
+  pub many_turns : (form : Form) (bytes : List ℕ) (t : Task) → IsAsked words form bytes t source_old source_new →
+      ComesExactly status exit.TooMany (missed t ≡ Some exit.TooMany)
+  pub undelivered : (form : Form) (bytes : List ℕ) (t : Task) → IsAsked words form bytes t source_old source_new →
+      ComesExactly status exit.NotDelivered (missed t ≡ Some exit.NotDelivered)
+  -- completeness: else what is asked for is written
   pub ok : (form : Form) (bytes : List ℕ) (t : Task) → IsAsked words form bytes t source_old source_new →
       ComesExactly status exit.Ok (GoesWell t)
   -- completeness of a load, which reads nothing

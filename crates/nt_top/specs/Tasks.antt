@@ -13,6 +13,7 @@ use Rattle.nt_script.specs.Reading.{reading}
 use Rattle.nt_script.specs.Sound.{IsSound}
 use Rattle.nt_script.specs.Splitting.{split_from}
 use Rattle.nt_words.specs.declared.form.Form.{Form}
+use Rattle.nt_words.specs.Forms.{IsWorkers}
 use Rattle.nt_words.specs.declared.form.Form.TheVariants as form
 use Rattle.nt_top.specs.declared.task.Tail.{Tail}
 use Rattle.nt_top.specs.declared.task.Tail.TheVariants as tail
@@ -32,6 +33,7 @@ and_then (Err bad) more = Err bad
 abbrev pub tail_word : Tail → List ℕ
 tail_word tail.Schedule = codes "schedule"
 tail_word tail.Report = codes "report"
+tail_word (tail.ToShrink goal) = codes "schedule"
 
 -- where the first line with this first field begins: how many bytes stand before it, and its number
 abbrev pub behind : List ℕ → List ℕ → Option (ℕ × ℕ)
@@ -46,6 +48,11 @@ abbrev pub schedule_task : Input → ℕ → List ℕ → Result Task Bad
 schedule_task input line rest = and_then (schedule_reading CPUS input line rest)
     (λ schedule. Ok (task.Replay input schedule))
 
+-- a schedule behind this input that is to be shrunk for the goal of this name
+abbrev pub shrink_task : List ℕ → Input → ℕ → List ℕ → Result Task Bad
+shrink_task goal input line rest = and_then (schedule_reading CPUS input line rest)
+    (λ schedule. Ok (task.Shrink input schedule goal))
+
 -- a report behind this input
 abbrev pub report_task : Input → ℕ → List ℕ → Result Task Bad
 report_task input line rest = and_then (report_reading input line rest) (λ history. Ok (task.Check input history))
@@ -53,6 +60,7 @@ report_task input line rest = and_then (report_reading input line rest) (λ hist
 abbrev pub tail_task : Tail → Input → ℕ → List ℕ → Result Task Bad
 tail_task tail.Schedule input line rest = schedule_task input line rest
 tail_task tail.Report input line rest = report_task input line rest
+tail_task (tail.ToShrink goal) input line rest = shrink_task goal input line rest
 
 -- a script, and what begins so many bytes behind it, with the line of this number. The script is tested first. Where
 -- nothing begins, its first line is missing behind the last one.
@@ -89,6 +97,10 @@ migrate_task bytes = and_then (reading bytes) (λ input. Ok (task.Migrate (migra
 abbrev pub verify_task : List ℕ → Result Task Bad
 verify_task bytes = and_then (reading bytes) (λ input. Ok (task.Verify input))
 
+-- a script alone, to be run and audited by so many workers
+abbrev pub audit_task : ℕ → ℕ → List ℕ → Result Task Bad
+audit_task turns workers bytes = and_then (reading bytes) (λ input. Ok (task.Audit input (limited input turns) workers))
+
 -- the form reads the input; `load` makes its own
 abbrev pub reads : Form → Bool
 reads (form.Run turns) = true
@@ -98,6 +110,8 @@ reads (form.Live turns) = true
 reads (form.Load seed turns) = false
 reads form.Migrate = true
 reads form.Verify = true
+reads (form.Shrink goal) = true
+reads (form.Audit turns workers) = true
 
 -- what a form reads in the bytes. One that reads nothing finds nothing there.
 abbrev pub task_of : Form → List ℕ → Result Task Bad
@@ -108,6 +122,8 @@ task_of (form.Live turns) bytes = live_task turns bytes
 task_of (form.Load seed turns) bytes = Err (1, NoCpus)
 task_of form.Migrate bytes = migrate_task bytes
 task_of form.Verify bytes = verify_task bytes
+task_of (form.Shrink goal) bytes = both_parts (tail.ToShrink goal) bytes
+task_of (form.Audit turns workers) bytes = audit_task turns workers bytes
 
 -- ---- what holds of a task
 
@@ -118,6 +134,8 @@ input_of (task.Replay input schedule) = input
 input_of (task.Check input history) = input
 input_of (task.Migrate input) = input
 input_of (task.Verify input) = input
+input_of (task.Shrink input schedule goal) = input
+input_of (task.Audit input turns workers) = input
 
 -- the turn limit of its run; a script that is migrated or verified has none
 abbrev pub limit_of : Task → ℕ
@@ -127,6 +145,8 @@ limit_of (task.Replay input schedule) = schedule.turns
 limit_of (task.Check input history) = history.turns
 limit_of (task.Migrate input) = 0
 limit_of (task.Verify input) = 0
+limit_of (task.Shrink input schedule goal) = schedule.turns
+limit_of (task.Audit input turns workers) = turns
 
 -- a turn limit of the input's script
 abbrev pub IsLimit : Input → ℕ → Type 0
@@ -139,8 +159,10 @@ HasLimit (task.Replay input schedule) = IsLimit input schedule.turns
 HasLimit (task.Check input history) = IsLimit input history.turns
 HasLimit (task.Migrate input) = Unit {0}
 HasLimit (task.Verify input) = Unit {0}
+HasLimit (task.Shrink input schedule goal) = IsLimit input schedule.turns
+HasLimit (task.Audit input turns workers) = IsLimit input turns × IsWorkers workers
 
--- what is read is sound, and its limit is in its range
+-- what is read is sound, and its limit and its number of workers are in their ranges
 pub record IsSoundTask (t : Task) : Type 0 where
   pub sound : IsSound (input_of t)
   pub limit : HasLimit t
@@ -153,6 +175,8 @@ is_threaded (task.Replay input schedule) = false
 is_threaded (task.Check input history) = false
 is_threaded (task.Migrate input) = false
 is_threaded (task.Verify input) = false
+is_threaded (task.Shrink input schedule goal) = false
+is_threaded (task.Audit input turns workers) = true
 
 -- the form asks for such a task
 abbrev pub asks_threads : Form → Bool
@@ -163,3 +187,5 @@ asks_threads form.Check = false
 asks_threads (form.Load seed turns) = false
 asks_threads form.Migrate = false
 asks_threads form.Verify = false
+asks_threads (form.Shrink goal) = false
+asks_threads (form.Audit turns workers) = true

@@ -13,9 +13,11 @@ ghost use Rattle.nt_top.specs.Answer.{AsksIn, IsAnswerTo, IsIllegalLine, IsMade,
 ghost use Rattle.nt_top.specs.Answer.{IsTurnRefused, text_of};
 ghost use Rattle.nt_top.specs.Outcome.{illegal_line, kind_text, legal_line, script_line};
 ghost use Rattle.nt_top.specs.Outcome.{memory_line, turn_line, IsDone, IsLoaded, IsRefused};
-ghost use Rattle.nt_top.specs.Outcome.{IsReplayed, IsRobinRun, IsSummary};
+ghost use Rattle.nt_top.specs.Outcome.{IsSummary};
+ghost use Rattle.nt_top.specs.Runs.{IsReplayed, IsRobinRun};
 ghost use Rattle.nt_top.specs.Tasks.{IsLimit, IsSoundTask, is_threaded, reads};
 
+use crate::shrinking::shrunk;
 use crate::status::Status;
 use crate::task::{Task, task_of};
 use crate::verifying::verify_text;
@@ -56,6 +58,17 @@ impl Text {
             Text::Line(line) => line.as_bytes(),
             Text::Made(text) => text.as_slice(),
         }
+    }
+}
+
+/// A status with a line that never changes.
+pub(crate) fn line(status: Status, text: &'static str) -> Answer
+    ensures status { result.status ≡ status }
+    ensures text { text_of result.text ≡ text.now }
+{
+    Answer {
+        status,
+        text: Text::Line(text),
     }
 }
 
@@ -109,7 +122,7 @@ fn turn_line(alloc: Global, at: u32, kind: ScheduleKind) -> Result<String, Alloc
 }
 
 /// What is answered where a turn is refused.
-fn turn_refused(alloc: Global, at: u32, kind: ScheduleKind) -> Answer
+pub(crate) fn turn_refused(alloc: Global, at: u32, kind: ScheduleKind) -> Answer
     ensures { IsTurnRefused (record { at = at; kind = kind }) result.status (text_of result.text) }
 {
     match turn_line(alloc, at, kind) {
@@ -282,6 +295,12 @@ pub(crate) fn done(alloc: Global, task: &Task) -> Answer
         Task::Check { input, history } => checked(alloc, input, history),
         Task::Migrate { input } => migrated(alloc, input),
         Task::Verify { input } => verified(alloc, input),
+        Task::Shrink {
+            input,
+            schedule,
+            goal,
+        } => shrunk(alloc, input, schedule, goal),
+        Task::Audit { .. } => unreachable!(),
     }
 }
 

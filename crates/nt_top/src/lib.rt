@@ -11,7 +11,10 @@
 //! the fixed order, and writes how many events, calls, refusals and deliveries there were.
 //! `migrate` reads a script and writes it in version 2. `verify` reads a script and writes which of
 //! its commands are refused wherever they are reached, and whether it acquires its locks in rising
-//! order.
+//! order. `shrink --goal NAME` reads a script and after it a schedule, and writes a shorter
+//! schedule whose turns still deliver a DPC or an APC. `audit` runs the script in the fixed order,
+//! and writes for each `note` how many inserts were pending then, which workers on threads work
+//! out.
 //!
 //! [`ntrun`] is the whole program over a source, a sink and a gate; [`plain`] is the same for words
 //! that need no threads. `nt_words` tells which form the words are. The bytes of the source are
@@ -19,13 +22,16 @@
 //! `check` a report (`nt_report`) behind it. `nt_core` makes the history that a task asks for, by
 //! the robin rule or by the schedule's turns, or `nt_live` on threads, and `nt_print` its text;
 //! `nt_check` tests the history of a report. The script of a load is that of `nt_load`, and
-//! `nt_print` sums up its history. What `verify` finds is that of `nt_verify`. What is found is
-//! written at once. `specs/Outcome.antt` says when
-//! each status comes and what is written, and `specs/Headline.antt` what that promises.
+//! `nt_print` sums up its history. What `verify` finds is that of `nt_verify`, the shorter schedule
+//! that of `nt_shrink`, the audit that of `nt_work`. What is found is written at once.
+//! `specs/Outcome.antt` says when each status comes and what is written, and `specs/Headline.antt`
+//! what that promises.
 #![tactic(auto)]
 
 mod answer;
+mod auditing;
 mod headline;
+mod shrinking;
 mod status;
 mod task;
 mod threads;

@@ -11,7 +11,7 @@ pub enum Status {
     Usage,
     /// The script has no reading.
     Script,
-    /// The schedule's turns make no settled run.
+    /// The schedule's turns make no settled run, or one that is to be shrunk is refused a turn.
     Schedule,
     /// The source failed.
     Read,
@@ -23,10 +23,16 @@ pub enum Status {
     TooLong,
     /// The history is no settled run.
     Illegal,
+    /// No DPC or APC object has the name of the goal.
+    NoGoal,
+    /// The schedule's turns don't deliver the goal.
+    NotDelivered,
+    /// The schedule has too many turns to be shrunk.
+    TooMany,
 }
 
 impl Status {
-    /// The number that the process ends with, 0 to 8.
+    /// The number that the process ends with, 0 to 11.
     pub fn number(self) -> u8
         ensures { result ≡ status_number self }
     {
@@ -40,6 +46,9 @@ impl Status {
             Status::Memory => 6,
             Status::TooLong => 7,
             Status::Illegal => 8,
+            Status::NoGoal => 9,
+            Status::NotDelivered => 10,
+            Status::TooMany => 11,
         }
     }
 }

@@ -5,54 +5,86 @@ ghost use Rattle.nt_script.specs.Sound.{IsSound};
 ghost use Rattle.nt_script.specs.declared.reading.ScriptRefusal.{ScriptRefusal};
 ghost use Rattle.nt_top.specs.declared.task.Tail.{Tail};
 ghost use Rattle.nt_top.specs.declared.task.Task.{Task};
-ghost use Rattle.nt_words.specs.Forms.{IsTurns, IsWithin};
+ghost use Rattle.nt_words.specs.Forms.{IsTurns, IsWithin, IsWorkers};
 ghost use Rattle.nt_top.specs.Tasks.{IsLimit, IsSoundTask, both_parts, last_line, limited};
 ghost use Rattle.nt_top.specs.Tasks.{live_task, migrate_task, reads, report_task, run_task};
 ghost use Rattle.nt_top.specs.Tasks.{schedule_task, tail_task, tail_word, two_parts, task_of};
-ghost use Rattle.nt_top.specs.Tasks.{verify_task};
+ghost use Rattle.nt_top.specs.Tasks.{audit_task, shrink_task, verify_task};
 
 use nt_history::History;
 use nt_log::{Schedule, read_schedule, turn_bound};
 use nt_report::read_report;
 use nt_script::{Input, ScriptKind, ScriptRefusal, Split, migrate, read, split_at};
 use nt_text::{INPUT_LIMIT, Lines};
-use nt_words::Form;
+use nt_words::{Form, GoalName};
 use std::alloc::Global;
 
 /// What an input asks for, by the form of the words.
 #[derive(Drop)]
 pub(crate) enum Task {
     /// The script is run by the robin rule, each processor making at most so many events.
-    Run { input: Input, turns: u32 },
+    Run {
+        input: Input,
+        turns: u32,
+    },
     /// The script is run on threads, each processor making at most so many events.
-    Live { input: Input, turns: u32 },
+    Live {
+        input: Input,
+        turns: u32,
+    },
     /// The turns of the schedule are taken.
-    Replay { input: Input, schedule: Schedule },
+    Replay {
+        input: Input,
+        schedule: Schedule,
+    },
     /// The history is checked.
-    Check { input: Input, history: History },
+    Check {
+        input: Input,
+        history: History,
+    },
     /// The script is written in the newest version.
-    Migrate { input: Input },
+    Migrate {
+        input: Input,
+    },
     /// What is found in the script is written.
-    Verify { input: Input },
+    Verify {
+        input: Input,
+    },
+    /// A shorter schedule is written that still delivers the goal.
+    Shrink {
+        input: Input,
+        schedule: Schedule,
+        goal: GoalName,
+    },
+    /// The script is run by the robin rule, each processor making at most so many events, and the
+    /// audit of its history is written, which so many workers make.
+    Audit {
+        input: Input,
+        turns: u32,
+        workers: u8,
+    },
 }
 
 /// What stands behind a script.
-#[derive(Clone, Copy)]
+#[derive(Drop)]
 pub(crate) enum Tail {
     /// A schedule.
     Schedule,
     /// A report.
     Report,
+    /// A schedule that is to be shrunk for this goal.
+    ToShrink(GoalName),
 }
 
 impl Tail {
     /// The first field of its first line.
-    fn word(self) -> &'static str
-        ensures { result.now ≡ tail_word self }
+    fn word(&self) -> &'static str
+        ensures { result.now ≡ tail_word self.now }
     {
         match self {
             Tail::Schedule => "schedule",
             Tail::Report => "report",
+            Tail::ToShrink(_) => "schedule",
         }
     }
 }
@@ -126,6 +158,23 @@ fn to_verify(alloc: Global, bytes: &[u8]) -> Result<Task, ScriptRefusal>
     Ok(Task::Verify { input })
 }
 
+/// A script alone, to be run and audited.
+fn to_audit(alloc: Global, bytes: &[u8], turns: u32, workers: u8) -> Result<Task, ScriptRefusal>
+    requires bytes { length bytes.now ≤ INPUT_LIMIT }
+    requires limit { IsTurns turns }
+    requires workers { IsWorkers workers }
+    ensures read { GivesRead result (audit_task turns workers bytes.now) }
+    ensures sound { IfOk result IsSoundTask }
+{
+    let input = read(alloc, bytes)?;
+    let turns = limited(&input, turns);
+    Ok(Task::Audit {
+        input,
+        turns,
+        workers,
+    })
+}
+
 /// The schedule behind a script that was read.
 fn with_schedule(alloc: Global, input: Input, rest: &[u8], line: u32) -> Result<Task, ScriptRefusal>
     requires sound { IsSound input }
@@ -154,6 +203,30 @@ fn with_report(alloc: Global, input: Input, rest: &[u8], line: u32) -> Result<Ta
     }
 }
 
+/// The schedule behind a script that was read, which is to be shrunk for this goal.
+fn to_shrink(
+    alloc: Global,
+    goal: GoalName,
+    input: Input,
+    rest: &[u8],
+    line: u32,
+) -> Result<Task, ScriptRefusal>
+    requires sound { IsSound input }
+    requires bytes { length rest.now ≤ INPUT_LIMIT }
+    requires line { (1 ≤ line) × (line ≤ INPUT_LIMIT + 1) }
+    ensures read { GivesRead result (shrink_task goal input line rest.now) }
+    ensures sound { IfOk result IsSoundTask }
+{
+    match read_schedule(alloc, &input, rest, line) {
+        Ok(schedule) => Ok(Task::Shrink {
+            input,
+            schedule,
+            goal,
+        }),
+        Err(refusal) => Err(refusal),
+    }
+}
+
 /// What stands behind a script that was read.
 fn with_tail(
     alloc: Global,
@@ -171,6 +244,7 @@ fn with_tail(
     match tail {
         Tail::Schedule => with_schedule(alloc, input, rest, line),
         Tail::Report => with_report(alloc, input, rest, line),
+        Tail::ToShrink(goal) => to_shrink(alloc, goal, input, rest, line),
     }
 }
 
@@ -231,5 +305,7 @@ pub(crate) fn task_of(alloc: Global, form: Form, bytes: &[u8]) -> Result<Task, S
         Form::Load { .. } => unreachable!(),
         Form::Migrate => to_migrate(alloc, bytes),
         Form::Verify => to_verify(alloc, bytes),
+        Form::Shrink { goal } => both_parts(alloc, Tail::ToShrink(goal), bytes),
+        Form::Audit { turns, workers } => to_audit(alloc, bytes, turns, workers),
     }
 }

@@ -12,8 +12,10 @@ use std::sync::Wait;
 use std::test::Fail;
 use std::thread::Threads;
 
+mod auditing;
 mod live;
 mod locks;
+mod shrinking;
 mod sizes;
 mod verifying;
 

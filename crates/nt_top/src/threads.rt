@@ -1,15 +1,22 @@
-//! What is answered to a script that is run on threads. Only these calls and the top call may wait.
+//! What is answered to a script that is run or audited on threads. Only these calls, those of
+//! auditing.rt and the top call may wait.
 ghost use Rattle.std.specs.Prelude.{◌*◌, ◌≡◌, ◌≤◌, IfOk, length, true};
 ghost use Rattle.nt_event.specs.Classes.{class_count};
 ghost use Rattle.nt_event.specs.declared.limits.TheConstants.{EVENTS};
 ghost use Rattle.nt_ranges.specs.Looks.{LooksAreWhole};
 ghost use Rattle.nt_script.specs.Sound.{IsSound};
 ghost use Rattle.nt_top.specs.Answer.{IsAnswerTo, text_of};
-ghost use Rattle.nt_top.specs.Outcome.{IsDone, IsLiveRun};
+ghost use Rattle.nt_top.specs.Audited.{IsAudited};
+ghost use Rattle.nt_words.specs.Forms.{IsWorkers};
+ghost use Rattle.nt_top.specs.Outcome.{IsDone};
+ghost use Rattle.nt_top.specs.Runs.{IsLiveRun};
 ghost use Rattle.nt_top.specs.Tasks.{IsLimit, IsSoundTask};
 
-use crate::answer::{Answer, done, no_memory, reported};
+use crate::answer::{Answer, Text, done, no_memory, reported};
+use crate::auditing::audit_text;
+use crate::status::Status;
 use crate::task::Task;
+use nt_core::run;
 use nt_event::Rises;
 use nt_history::History;
 use nt_live::live;
@@ -87,6 +94,49 @@ fn lived<G: Gate + Sync, R: Threads + Wait + Sync>(
     }
 }
 
+/// The audit of the robin run of the script, as it is written.
+fn audit_run<G: Gate + Sync, R: Threads + Wait + Sync>(
+    rt: &R,
+    alloc: Global,
+    input: &Input,
+    turns: u32,
+    workers: u8,
+    gate: &G,
+) -> Result<Vec<u8>, AllocError>
+    requires sound { IsSound input.now }
+    requires limit { IsLimit input.now turns }
+    requires workers { IsWorkers workers }
+    ensures { IfOk result (λ text. IsAudited input.now turns text.items) }
+{
+    few_events(input, turns);
+    let history = run(alloc, &input.script, turns)?;
+    let text = audit_text(rt, alloc, &history, workers, gate)?;
+    Ok(text)
+}
+
+/// What is answered to a script that is audited.
+fn audited<G: Gate + Sync, R: Threads + Wait + Sync>(
+    rt: &R,
+    alloc: Global,
+    input: &Input,
+    turns: u32,
+    workers: u8,
+    gate: &G,
+) -> Answer
+    requires sound { IsSound input.now }
+    requires limit { IsLimit input.now turns }
+    requires workers { IsWorkers workers }
+    ensures { IsDone (Task.Audit input.now turns workers) result.status (text_of result.text) }
+{
+    match audit_run(rt, alloc, input, turns, workers, gate) {
+        Ok(text) => Answer {
+            status: Status::Ok,
+            text: Text::Made(text),
+        },
+        Err(_) => no_memory(),
+    }
+}
+
 /// What is answered to a task, by threads where it asks for them.
 fn done_on_threads<G: Gate + Sync, R: Threads + Wait + Sync>(
     rt: &R,
@@ -99,11 +149,17 @@ fn done_on_threads<G: Gate + Sync, R: Threads + Wait + Sync>(
 {
     match task {
         Task::Live { input, turns } => lived(rt, alloc, input, *turns, gate),
+        Task::Audit {
+            input,
+            turns,
+            workers,
+        } => audited(rt, alloc, input, *turns, *workers, gate),
         Task::Run { .. }
         | Task::Replay { .. }
         | Task::Check { .. }
         | Task::Migrate { .. }
-        | Task::Verify { .. } => done(alloc, task),
+        | Task::Verify { .. }
+        | Task::Shrink { .. } => done(alloc, task),
     }
 }
 

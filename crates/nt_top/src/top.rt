@@ -5,7 +5,7 @@ ghost use Rattle.nt_top.specs.Answer.{Asks, AsksBy, AsksFrom, text_of};
 ghost use Rattle.nt_top.specs.Outcome.{supply, store, memory_line, IsWritten, IsAnswered, HasCause};
 ghost use Rattle.nt_top.specs.Tasks.{IsSoundTask, reads};
 
-use crate::answer::{Answer, Text, answer_alone, ask_in, loaded, no_memory};
+use crate::answer::{Answer, answer_alone, ask_in, line, loaded, no_memory};
 use crate::status::Status;
 use crate::task::Task;
 use crate::threads::answer_on_threads;
@@ -15,17 +15,6 @@ use nt_words::{Form, USAGE, WordsRefusal, form_of, is_live, words_have_one_form}
 use std::alloc::Global;
 use std::sync::Wait;
 use std::thread::Threads;
-
-/// A status with a line that never changes.
-fn line(status: Status, text: &'static str) -> Answer
-    ensures status { result.status ≡ status }
-    ensures text { text_of result.text ≡ text.now }
-{
-    Answer {
-        status,
-        text: Text::Line(text),
-    }
-}
 
 /// What a form asks for from the source, or what is answered at once.
 fn ask_from<S: Source>(alloc: Global, form: Form, source: &mut S) -> Result<Task, Answer>
@@ -60,6 +49,8 @@ fn ask_by<S: Source>(alloc: Global, form: Form, source: &mut S) -> Result<Task, 
         Form::Load { seed, turns } => Err(loaded(alloc, seed, turns)),
         Form::Migrate => ask_from(alloc, form, source),
         Form::Verify => ask_from(alloc, form, source),
+        Form::Shrink { .. } => ask_from(alloc, form, source),
+        Form::Audit { .. } => ask_from(alloc, form, source),
     }
 }
 
@@ -103,16 +94,20 @@ pub fn starved<K: Sink>(sink: &mut K) -> Status
 /// The program for words of which none is `live` or `audit`: `words` are those behind the program's
 /// name. It waits for nobody and returns.
 ///
-/// The forms are `run`, `replay`, `check`, `load`, `migrate` and `verify`. In this order: `Usage`
-/// exactly where the words are no form, and then nothing is read. `load` reads nothing either: its
-/// status is `Ok` and its text the summary of the robin run of the seed's load. For the other forms
-/// `Read` comes only where the source's count of faults rose; `TooLong` exactly where more than
-/// 33,554,432 bytes were taken; `Script` exactly where a line is refused, of the script or of what
-/// stands behind it; `Schedule`, of `replay` alone, exactly where the turns make no settled run;
-/// `Illegal`, of `check` alone, exactly where the history is no settled run, with the number at
-/// which it goes wrong; else `Ok`, with the report of the robin run for `run`, of the schedule's
-/// run for `replay`, the line `legal` for `check`, the script in the newest version of its text for
-/// `migrate`, and what is found in the script for `verify`.
+/// The forms are `run`, `replay`, `check`, `load`, `migrate`, `verify` and `shrink`. In this order:
+/// `Usage` exactly where the words are no form, and then nothing is read. `load` reads nothing
+/// either: its status is `Ok` and its text the summary of the robin run of the seed's load. For the
+/// other forms `Read` comes only where the source's count of faults rose; `TooLong` exactly where
+/// more than 33,554,432 bytes were taken; `Script` exactly where a line is refused, of the script
+/// or of what stands behind it; `NoGoal`, of `shrink` alone, exactly where no DPC or APC object has
+/// the goal's name, `TooMany`, of `shrink` alone, exactly where the schedule has more than 1,000
+/// turns; `Schedule`, of `replay` exactly where the turns make no settled run, of `shrink` exactly
+/// where a turn is refused; `NotDelivered`, of `shrink` alone, exactly where the turns don't
+/// deliver the goal; `Illegal`, of `check` alone, exactly where the history is no settled run, with
+/// the number at which it goes wrong; else `Ok`, with the report of the robin run for `run`, of the
+/// schedule's run for `replay`, the line `legal` for `check`, the script in the newest version of
+/// its text for `migrate`, what is found in the script for `verify`, and the shrunk schedule for
+/// `shrink`.
 ///
 /// Want of memory, `Memory`, may come at any place. The text or line of the status is written whole
 /// by one `write_all`; where that fails, `Write`, and a front part of it stands.
@@ -143,12 +138,13 @@ pub fn plain<S: Source, K: Sink>(
 /// The program: `words` are those behind its name, and what it writes goes to the sink.
 ///
 /// The forms are those of [`plain`], which is called where none of the words is `live` or `audit`,
-/// and `live`: its status comes as that of `run`, and with `Ok` the report of a settled run of the
-/// script is written, which the script's processors made on threads.
+/// and `live` and `audit`: their status comes as that of `run`. With `Ok`, `live` writes the report
+/// of a settled run of the script, which the script's processors made on threads, and `audit` the
+/// audit of the robin run, which workers on threads worked out.
 ///
-/// It may wait where [`is_live`](crate::is_live) holds of the words: each worker passes the gate
-/// before each of its turns, and takes the locks of the lanes that the turn touches. Then what is
-/// said here holds if it returns.
+/// It may wait where [`is_live`](crate::is_live) holds of the words: each worker of `live` passes
+/// the gate before each of its turns, and takes the locks of the lanes that the turn touches; each
+/// worker of `audit` passes it before each item. Then what is said here holds if it returns.
 pub fn ntrun<S: Source, K: Sink, G: Gate + Sync, R: Threads + Wait + Sync>(
     rt: &R,
     alloc: Global,

@@ -3,8 +3,8 @@
 
 use super::{
     Form, Found, IDLE_TARGET, RAISE_QUEUE_LOWER, RAISED_REPORT, SELF_QUEUING, World, failing_reads,
-    failing_writes, gives, is_found, is_replayed, program, program_in, sink_of, sound_world,
-    source_of,
+    failing_writes, gives, is_found, is_replayed, program, program_in, put_words, sink_of,
+    sound_world, source_of,
 };
 use crate::{Status, is_live, ntrun};
 use nt_outside::Gate;
@@ -100,7 +100,7 @@ fn words_are_live(rt: HostRuntime) -> Result<(), Fail> {
 }
 
 /// Two processors, and on each a thread that makes four calls.
-const TWO_NOTERS: &str =
+pub(super) const TWO_NOTERS: &str =
     "cpus 2\nthread a 0 ra\nthread b 1 rb\nroutine ra\nnote 1\nnote 2\nnote 3\nnote 4\nexit\nroutine rb\nnote 5\nnote 6\nnote 7\nnote 8\nexit\n";
 
 /// The call of the second event of processor 0, and that of the fifth event of processor 1.
@@ -128,22 +128,35 @@ fn look_for(flag: &AtomicU64, missed: &AtomicU64) {
     }
 }
 
-/// A gate at which two processors meet: each, with one event made, sets its flag and looks for the
+/// A gate at which two workers meet: each, with so much done, sets its flag and looks for the
 /// other one.
 #[derive(Drop)]
-struct MeetingGate {
-    first: AtomicU64,
-    second: AtomicU64,
-    missed: AtomicU64,
+pub(super) struct MeetingGate {
+    own: u64,
+    pub(super) first: AtomicU64,
+    pub(super) second: AtomicU64,
+    pub(super) missed: AtomicU64,
+}
+
+impl MeetingGate {
+    /// A gate at which they meet with so much done.
+    pub(super) fn before(own: u64) -> MeetingGate {
+        MeetingGate {
+            own,
+            first: AtomicU64::new(0),
+            second: AtomicU64::new(0),
+            missed: AtomicU64::new(0),
+        }
+    }
 }
 
 impl Gate for MeetingGate {
     fn pass(&self, cpu: u8, own: u64) {
-        if cpu == 0 && own == 1 {
+        if cpu == 0 && own == self.own {
             self.first.store(1, Ordering::SeqCst);
             look_for(&self.second, &self.missed);
         }
-        if cpu == 1 && own == 1 {
+        if cpu == 1 && own == self.own {
             self.second.store(1, Ordering::SeqCst);
             look_for(&self.first, &self.missed);
         }
@@ -168,19 +181,21 @@ impl Gate for OrderGate {
     }
 }
 
-/// What the one word `live` answers and writes over the script with this gate.
-fn live_with<G: Gate + Sync, R: AllocGlobal + Threads + Wait + Sync>(
+/// What these words answer and write over the script with this gate.
+pub(super) fn program_with<G: Gate + Sync, R: AllocGlobal + Threads + Wait + Sync>(
     rt: &R,
+    words: &[&str],
     script: &str,
     gate: &G,
 ) -> Result<Found, AllocError> {
-    let words = [String::from_str(rt.alloc(), "live")?];
+    let mut given = Vec::new(rt.alloc());
+    put_words(&mut given, rt.alloc(), words)?;
     let mut source = source_of(rt.alloc(), script.as_bytes(), &[])?;
     let mut sink = sink_of(rt.alloc(), 1_000_000, &[])?;
     let status = ntrun(
         rt,
         rt.alloc(),
-        words.as_slice(),
+        given.as_slice(),
         &mut source,
         &mut sink,
         gate,
@@ -192,12 +207,8 @@ fn live_with<G: Gate + Sync, R: AllocGlobal + Threads + Wait + Sync>(
 /// run at once.
 #[test]
 fn two_processors_meet_at_the_gate(rt: HostRuntime) -> Result<(), Fail> {
-    let gate = MeetingGate {
-        first: AtomicU64::new(0),
-        second: AtomicU64::new(0),
-        missed: AtomicU64::new(0),
-    };
-    let found = live_with(&rt, TWO_NOTERS, &gate)?;
+    let gate = MeetingGate::before(1);
+    let found = program_with(&rt, &["live"], TWO_NOTERS, &gate)?;
     assert_eq!(rt; found.0, Status::Ok);
     assert_eq!(rt; gate.first.load(Ordering::SeqCst), 1);
     assert_eq!(rt; gate.second.load(Ordering::SeqCst), 1);
@@ -218,7 +229,7 @@ fn the_report_keeps_the_order_of_the_gate(rt: HostRuntime) -> Result<(), Fail> {
         behind: AtomicU64::new(0),
         missed: AtomicU64::new(0),
     };
-    let found = live_with(&rt, TWO_NOTERS, &gate)?;
+    let found = program_with(&rt, &["live"], TWO_NOTERS, &gate)?;
     assert_eq!(rt; found.0, Status::Ok);
     assert_eq!(rt; gate.missed.load(Ordering::SeqCst), 0);
     let second = place_of(found.1.as_slice(), SECOND);
