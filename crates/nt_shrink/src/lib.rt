@@ -11,6 +11,8 @@ mod leaving;
 mod refusals;
 mod shrinking;
 mod tracing;
+mod trying;
+mod twins;
 
 pub use goals::{Goal, delivers};
 pub use laws::{a_shrunk_list_delivers, shrunk_by_the_greatest_spare_place, traces_are_runs};
