@@ -4,3 +4,5 @@ pub mod Greatest
 pub mod Runs
 pub mod Shrunk
 pub mod Taking
+pub mod Trials
+pub mod Pairs

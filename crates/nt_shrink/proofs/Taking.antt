@@ -41,7 +41,7 @@ last_first : (es new : List Event) (e : Event) → new ≡ es ++ e ∷ [] → re
 last_first es new e h = ap reverse h ∙ reverse-append es (e ∷ [])
 
 -- what comes of the next turn
-step_there : (s : Script) (limit : ℕ) (c : CpusState) (t : Turn) (past : List Event) (r : Result Event ScheduleKind) → c.script ≡ s → c.limit ≡ limit →
+pub step_there : (s : Script) (limit : ℕ) (c : CpusState) (t : Turn) (past : List Event) (r : Result Event ScheduleKind) → c.script ≡ s → c.limit ≡ limit →
     step c.script c.limit t past ≡ r → step s limit t past ≡ r
 step_there s limit c t past r p q h =
     subst (λ (x : Script). step x limit t past ≡ r) p (subst (λ (n : ℕ). step c.script n t past ≡ r) q h)

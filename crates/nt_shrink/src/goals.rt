@@ -4,7 +4,7 @@ ghost use Rattle.std.specs.List.{list_any};
 ghost use Rattle.nt_history.specs.Briefs.{no_rises, what_of};
 ghost use Rattle.nt_shrink.specs.Goals.{begins, delivers as delivers_in};
 
-use nt_event::{ApcNo, Begun, DpcNo};
+use nt_event::{ApcNo, Begun, DpcNo, Event, What};
 use nt_history::{Brief, Did, History};
 
 /// The object whose routine is to begin.
@@ -37,6 +37,17 @@ impl Goal {
         ensures { result ≡ begins self (what_of no_rises brief.now.did) }
     {
         if let Did::Begin { begun, .. } = &brief.did {
+            self.is_begun(begun)
+        } else {
+            false
+        }
+    }
+
+    /// Whether the event begins a routine of the object.
+    pub(crate) fn is_begun_by(self, event: &Event) -> bool
+        ensures { result ≡ begins self event.now.what }
+    {
+        if let What::Begin { begun, .. } = &event.what {
             self.is_begun(begun)
         } else {
             false

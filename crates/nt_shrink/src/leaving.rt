@@ -31,7 +31,7 @@ fn lessen_values(rises: &mut Rises, at: u32)
 }
 
 /// Makes a later turn that without the turn at this place.
-fn lessen(turn: &mut Turn, at: u32)
+pub(crate) fn lessen(turn: &mut Turn, at: u32)
     ensures { turn.new ≡ turn_without at turn.old }
 {
     if let Turn::Look(_, rises) = turn {

@@ -11,6 +11,8 @@ mod leaving;
 mod refusals;
 mod shrinking;
 mod tracing;
+mod trying;
+mod twins;
 
 pub use goals::{Goal, delivers};
 pub use laws::{a_shrunk_list_delivers, shrunk_by_the_greatest_spare_place, traces_are_runs};
@@ -21,41 +23,35 @@ pub use tracing::trace;
 
 #[cfg(test)]
 mod tests {
-    use super::{Goal, ShrinkRefusal, shrink, without};
+    use super::{Goal, delivers, shrink, trace, without};
     use nt_event::{
-        Command, CpuNo, DpcDecl, DpcNo, Items, Level, Rises, Routine, RoutineNo, ScheduleKind,
-        Script, ThreadDecl, ThreadNo, Turn,
+        Command, CpuNo, DpcDecl, DpcNo, Items, Level, Routine, RoutineNo, Script, ThreadDecl,
+        ThreadNo, Turn,
     };
     use nt_history::{Turns, no_turn};
     use std::alloc::{AllocError, Global};
 
-    const NEXT_0: Turn = Turn::Next(CpuNo(0));
-
-    const NEXT_1: Turn = Turn::Next(CpuNo(1));
+    const NEXT: Turn = Turn::Next(CpuNo(0));
 
     const SWITCH: Turn = Turn::Switch(CpuNo(0), ThreadNo(0));
 
     const GOAL: Goal = Goal::Dpc(DpcNo(0));
 
-    /// A script of a DPC and of a thread on processor 0, with the commands of their routines.
-    fn script(
-        alloc: Global,
-        cpus: u8,
-        work: &[Command],
-        body: &[Command],
-    ) -> Result<Script, AllocError> {
-        let mut routines = Items::new(alloc);
-        for commands in [work, body] {
-            let mut routine = Routine {
-                commands: Items::new(alloc),
-            };
-            for command in commands {
-                routine.commands.push(*command)?;
-            }
-            routines.push(routine)?;
+    /// A routine of these commands.
+    fn routine(alloc: Global, commands: &[Command]) -> Result<Routine, AllocError> {
+        let mut made = Routine {
+            commands: Items::new(alloc),
+        };
+        for command in commands {
+            made.commands.push(*command)?;
         }
+        Ok(made)
+    }
+
+    /// A thread that raises its level, queues the DPC and lowers the level.
+    fn script(alloc: Global) -> Result<Script, AllocError> {
         let mut made = Script {
-            cpus,
+            cpus: 1,
             depth: None,
             threaded: None,
             isrs: Items::new(alloc),
@@ -63,9 +59,16 @@ mod tests {
             timers: Items::new(alloc),
             threads: Items::new(alloc),
             apcs: Items::new(alloc),
-            routines,
+            routines: Items::new(alloc),
             locks: 0,
         };
+        made.routines.push(routine(alloc, &[Command::Note(7)])?)?;
+        let body = [
+            Command::Raise(Level::DISPATCH),
+            Command::Queue(DpcNo(0)),
+            Command::Lower(Level::PASSIVE),
+        ];
+        made.routines.push(routine(alloc, &body)?)?;
         made.dpcs.push(DpcDecl {
             threaded: false,
             routine: RoutineNo(0),
@@ -97,101 +100,19 @@ mod tests {
         !walk.next(&mut turn)
     }
 
-    /// A look of processor 1, in which these classes rise.
-    fn look(rises: &[(usize, u64)]) -> Turn {
-        let mut value = [0; 16];
-        for (class, at) in rises {
-            if *class < 16 {
-                value[*class] = *at;
-            }
-        }
-        Turn::Look(CpuNo(1), Rises { value })
-    }
-
-    #[test]
-    fn later_looks_follow_the_numbers_of_events(rt: HostRuntime) -> Result<(), AllocError> {
-        let alloc = rt.alloc();
-        let turns = list(
-            alloc,
-            &[
-                look(&[(2, 3)]),
-                NEXT_0,
-                look(&[(2, 3), (3, 2), (4, 1)]),
-                NEXT_1,
-            ],
-        )?;
-        assert!(rt; turns.len() == 4);
-        assert!(rt;
-            is_list(
-                &without(alloc, &turns, 1)?,
-                &[look(&[(2, 3)]), look(&[(2, 2), (4, 1)]), NEXT_1],
-            )
-        );
-        Ok(())
-    }
-
     #[test]
     fn a_dpc_of_the_same_processor(rt: HostRuntime) -> Result<(), AllocError> {
         let alloc = rt.alloc();
-        let body = [
-            Command::Raise(Level::DISPATCH),
-            Command::Queue(DpcNo(0)),
-            Command::Lower(Level::PASSIVE),
-        ];
-        let script = script(alloc, 1, &[Command::Note(7)], &body)?;
+        let script = script(alloc)?;
         assert!(rt; script.fits() && script.cpus == 1);
-        let mut turns = list(alloc, &[SWITCH])?;
-        for _ in 0..10 {
-            turns.push(&NEXT_0)?;
-        }
-        match shrink(alloc, &script, 10_000, &turns, GOAL) {
-            Ok(short) => {
-                assert!(rt; is_list(&short, &[SWITCH, NEXT_0, NEXT_0, NEXT_0, NEXT_0]));
-            }
-            Err(_) => assert!(rt; false),
-        }
-        Ok(())
-    }
-
-    #[test]
-    fn a_dpc_of_another_processor(rt: HostRuntime) -> Result<(), AllocError> {
-        let alloc = rt.alloc();
-        let body = [
-            Command::SetTarget(DpcNo(0), Some(CpuNo(1))),
-            Command::Queue(DpcNo(0)),
-        ];
-        let script = script(alloc, 2, &[], &body)?;
-        assert!(rt; script.fits() && script.cpus == 2);
-        let first = [SWITCH, NEXT_1, NEXT_0, NEXT_0, look(&[(2, 4)])];
-        let mut turns = list(alloc, &first)?;
-        for turn in [NEXT_0, NEXT_1, NEXT_0, NEXT_1, NEXT_0, NEXT_1, NEXT_1] {
-            turns.push(&turn)?;
-        }
-        match shrink(alloc, &script, 10_000, &turns, GOAL) {
-            Ok(short) => {
-                let wanted = [SWITCH, NEXT_1, NEXT_0, NEXT_0, look(&[(2, 4)]), NEXT_1];
-                assert!(rt; is_list(&short, &wanted));
-            }
-            Err(_) => assert!(rt; false),
-        }
-        let refused = shrink(alloc, &script, 10_000, &list(alloc, &[SWITCH])?, GOAL);
-        assert!(rt; matches!(refused, Err(ShrinkRefusal::NotDelivered)));
-        let refused = shrink(
-            alloc,
-            &script,
-            10_000,
-            &list(alloc, &[NEXT_1, NEXT_1])?,
-            GOAL,
-        );
-        assert!(rt;
-            matches!(
-                refused,
-                Err(ShrinkRefusal::Bad {
-                    at: 1,
-                    kind: ScheduleKind::NothingToDo,
-                })
-            )
-        );
+        let turns = list(alloc, &[SWITCH, NEXT, NEXT, NEXT, NEXT, NEXT])?;
+        assert!(rt; turns.len() == 6);
+        let traced = trace(alloc, &script, 10_000, &turns);
+        assert!(rt; matches!(&traced, Ok(history) if delivers(history, GOAL)));
+        let shrunk = shrink(alloc, &script, 10_000, &turns, GOAL);
+        let wanted = [SWITCH, NEXT, NEXT, NEXT, NEXT];
+        assert!(rt; matches!(&shrunk, Ok(short) if is_list(short, &wanted)));
+        assert!(rt; is_list(&without(alloc, &turns, 5)?, &wanted));
         Ok(())
     }
 }

@@ -5,12 +5,13 @@ ghost use Rattle.nt_shrink.specs.Laws.{IsDelivery};
 ghost use Rattle.nt_shrink.specs.Refusals.{IsShrinkRefused};
 ghost use Rattle.nt_shrink.specs.Shorter.{without as list_without};
 ghost use Rattle.nt_shrink.specs.Spare.{IsShrunk, NoneSpare, greatest_spare};
-ghost use Rattle.nt_shrink.specs.Traces.{is_delivered as is_delivered_by, traced};
 
 use crate::goals::{Goal, delivers};
 use crate::leaving::copy_without;
-use crate::refusals::{ShrinkRefusal, TraceRefusal};
+use crate::refusals::ShrinkRefusal;
 use crate::tracing::trace;
+use crate::trying::is_spare;
+use crate::twins::Twins;
 use nt_event::Script;
 use nt_event::limits::{EVENTS, TURNS};
 use nt_history::Turns;
@@ -18,26 +19,6 @@ use std::alloc::{AllocError, Global};
 
 /// Turns of a list that is shrunk, at most.
 pub const MOST_TURNS: usize = 1_000;
-
-/// Whether the turns are taken and deliver the request. An error is want of memory.
-fn is_delivered(
-    alloc: Global,
-    script: &Script,
-    turns: u32,
-    list: &Turns,
-    goal: Goal,
-) -> Result<bool, AllocError>
-    requires script { IsTrue (fits script.now) }
-    requires turns { (1 ≤ turns) × (turns ≤ TURNS) }
-    requires all { script.now.cpus * turns ≤ EVENTS }
-    ensures { IfOk result (λ b. b ≡ is_delivered_by goal (traced script.now turns list.now)) }
-{
-    match trace(alloc, script, turns, list) {
-        Ok(history) => Ok(delivers(&history, goal)),
-        Err(TraceRefusal::Bad { .. }) => Ok(false),
-        Err(TraceRefusal::NoMemory) => Err(AllocError),
-    }
-}
 
 /// The list without its greatest spare place; None where none is spare. An error is want of memory.
 fn shortened(
@@ -55,11 +36,13 @@ fn shortened(
         ≡ option_map (λ at. list_without at list.now)
         (greatest_spare script.now turns goal list.now)) }
 {
+    let twins = Twins::of(alloc, list)?;
     let mut count = list.len() as u32;
     while 0 < count {
         let at = count - 1;
-        let shorter = copy_without(alloc, list, at)?;
-        if is_delivered(alloc, script, turns, &shorter, goal)? {
+        // A twin of the place after it isn't spare, since that one isn't.
+        if !twins.has(count as usize) && is_spare(alloc, script, turns, list, at, goal)? {
+            let shorter = copy_without(alloc, list, at)?;
             return Ok(Some(shorter));
         }
         count = at;
