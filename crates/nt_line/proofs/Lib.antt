@@ -5,4 +5,5 @@ pub mod UsedNames
 pub mod Spelled
 pub mod Found
 pub mod Letters
+pub mod Declaring
 pub mod Words

@@ -22,7 +22,7 @@ use Rattle.nt_line.specs.declared.keywords.Verb.TheVariants as verb
 use Rattle.nt_line.specs.declared.keywords.Keyword.{Keyword}
 use Rattle.nt_line.specs.declared.keywords.Keyword.TheVariants as keyword
 use Rattle.nt_line.specs.NameLists.{NameLists, show_dpc, show_timer, show_thread, show_apc, show_lock, show_routine}
-use Rattle.nt_line.specs.Keywords.{text_of, verb_arity}
+use Rattle.nt_line.specs.Keywords.{verb_arity}
 use Rattle.nt_line.specs.Results.{◌>>=◌}
 use Rattle.nt_line.specs.Fields.{dash, read_dpc, read_timer, read_thread, read_apc, read_lock, read_routine, read_timer_dpc, read_rundown}
 use Rattle.nt_line.specs.Commands.{read1, read2, read3, read4, command_of}

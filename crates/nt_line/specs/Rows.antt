@@ -1,5 +1,5 @@
 -- One line as a row of fields: of a command, or of what is declared.
-use Rattle.std.specs.Prelude.{ℕ, Bool, List, [], ◌∷◌, ◌++◌, map, Option, Some, None, decimal}
+use Rattle.std.specs.Prelude.{ℕ, Bool, List, [], ◌∷◌, ◌++◌, Option, Some, None, decimal}
 use Rattle.nt_text.specs.Lines.{Row}
 use Rattle.nt_event.specs.declared.numbers.CpuNo.{CpuNo}
 use Rattle.nt_event.specs.declared.numbers.RoutineNo.{RoutineNo}
@@ -7,7 +7,6 @@ use Rattle.nt_event.specs.declared.commands.ApcKind.{ApcKind}
 use Rattle.nt_event.specs.declared.commands.ApcKind.TheVariants.{Special, Normal, User}
 use Rattle.nt_event.specs.declared.commands.Command.{Command}
 use Rattle.nt_event.specs.declared.commands.Command.TheVariants as cmd
-use Rattle.nt_event.specs.declared.scripts.Routine.{Routine}
 use Rattle.nt_event.specs.declared.scripts.Isr.{Isr}
 use Rattle.nt_event.specs.declared.scripts.DpcDecl.{DpcDecl}
 use Rattle.nt_event.specs.declared.scripts.TimerDecl.{TimerDecl}

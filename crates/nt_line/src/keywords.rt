@@ -1,8 +1,10 @@
 //! The keywords that begin a line, how many fields follow each, and where each may stand.
-ghost use Rattle.std.specs.Prelude.{◌≡◌, filter, find};
+ghost use Rattle.std.specs.Prelude.{◌≡◌, ◌∷◌, [], ℕ, false, filter, find, IfSome, None};
+ghost use Rattle.std.specs.List.{list_any};
 ghost use Rattle.std.specs.Str.{bytes_eq};
 ghost use Rattle.nt_line.specs.declared.keywords.TheConstants.{KEYWORDS};
-ghost use Rattle.nt_line.specs.Letters.{begins_with};
+ghost use Rattle.nt_text.specs.Lines.{fields, first};
+ghost use Rattle.nt_line.specs.Letters.{begins_with, declares_with};
 ghost use Rattle.nt_line.specs.Keywords.{verb_text, verb_arity, verb_since, text_of, word_of};
 ghost use Rattle.nt_line.specs.Keywords.{keyword_of, arity, since, declaring, order, earliest};
 ghost use Rattle.nt_line.specs.Keywords.{latest, stands};
@@ -151,6 +153,7 @@ pub const KEYWORDS: [Keyword; 41] = [
 
 impl Verb {
     /// The keyword as it is written.
+    #[inline(always)]
     pub fn text(self) -> &'static [u8]
         ensures { result.now ≡ verb_text self }
     {
@@ -276,6 +279,7 @@ impl Place {
 
 impl Keyword {
     /// The keyword as it is written.
+    #[inline(always)]
     pub fn text(self) -> &'static [u8]
         ensures { result.now ≡ text_of self }
     {
@@ -408,82 +412,153 @@ impl Keyword {
     }
 }
 
-/// The keywords that begin with a letter, in the order of all.
-fn beginning_with(letter: u8) -> &'static [Keyword]
-    ensures { result.now ≡ filter (begins_with letter) KEYWORDS }
+/// The keyword, where the field is it.
+#[inline(always)]
+fn only(field: &[u8], a: Keyword) -> Option<Keyword>
+    ensures { result ≡ find (λ w. bytes_eq field.now (text_of w)) (a ∷ []) }
+{
+    if is_word(field, a.text()) {
+        Some(a)
+    } else {
+        None
+    }
+}
+
+/// The first of two keywords that the field is.
+#[inline(always)]
+fn of_two(field: &[u8], a: Keyword, b: Keyword) -> Option<Keyword>
+    ensures { result ≡ find (λ w. bytes_eq field.now (text_of w)) (a ∷ b ∷ []) }
+{
+    if is_word(field, a.text()) {
+        Some(a)
+    } else {
+        only(field, b)
+    }
+}
+
+/// The first of three keywords that the field is.
+#[inline(always)]
+fn of_three(field: &[u8], a: Keyword, b: Keyword, c: Keyword) -> Option<Keyword>
+    ensures { result ≡ find (λ w. bytes_eq field.now (text_of w)) (a ∷ b ∷ c ∷ []) }
+{
+    if is_word(field, a.text()) {
+        Some(a)
+    } else {
+        of_two(field, b, c)
+    }
+}
+
+/// The first of four keywords that the field is.
+#[inline(always)]
+fn of_four(field: &[u8], a: Keyword, b: Keyword, c: Keyword, d: Keyword) -> Option<Keyword>
+    ensures { result ≡ find (λ w. bytes_eq field.now (text_of w)) (a ∷ b ∷ c ∷ d ∷ []) }
+{
+    if is_word(field, a.text()) {
+        Some(a)
+    } else {
+        of_three(field, b, c, d)
+    }
+}
+
+/// The keyword that a field is, of those that begin with a `t`.
+#[inline(always)]
+fn beginning_with_t(field: &[u8]) -> Option<Keyword>
+    ensures { result
+        ≡ find (λ w. bytes_eq field.now (text_of w)) (filter (begins_with 116) KEYWORDS) }
+{
+    if is_word(field, Keyword::Threaded.text()) {
+        return Some(Keyword::Threaded);
+    }
+    if is_word(field, Keyword::Dpc { threaded: true }.text()) {
+        return Some(Keyword::Dpc { threaded: true });
+    }
+    if is_word(field, Keyword::Timer.text()) {
+        return Some(Keyword::Timer);
+    }
+    of_four(
+        field,
+        Keyword::Thread,
+        Keyword::Call(Verb::SetTarget),
+        Keyword::Call(Verb::TestAlert),
+        Keyword::Call(Verb::ToUser),
+    )
+}
+
+/// The keyword that a field is, of those that begin with a letter, in the order of all. The words
+/// are known where they are compared, so that each comparison is by its length and its letters.
+#[inline(always)]
+fn beginning_with(letter: u8, field: &[u8]) -> Option<Keyword>
+    ensures { result
+        ≡ find (λ w. bytes_eq field.now (text_of w)) (filter (begins_with letter) KEYWORDS) }
 {
     match letter {
-        b'a' => &[
+        b'a' => of_three(
+            field,
             Keyword::Call(Verb::InsertApc),
             Keyword::Call(Verb::Alert),
             Keyword::Call(Verb::Acquire),
-        ],
-        b'c' => &[
+        ),
+        b'c' => of_three(
+            field,
             Keyword::Cpus,
             Keyword::Call(Verb::CancelTimer),
             Keyword::Call(Verb::Clock),
-        ],
-        b'd' => &[
+        ),
+        b'd' => of_three(
+            field,
             Keyword::Depth,
             Keyword::Dpc { threaded: false },
             Keyword::Call(Verb::Delay),
-        ],
-        b'e' => &[
+        ),
+        b'e' => of_three(
+            field,
             Keyword::Exit,
             Keyword::Call(Verb::EnterCrit),
             Keyword::Call(Verb::EnterGuard),
-        ],
-        b'i' => &[
+        ),
+        b'i' => of_three(
+            field,
             Keyword::Isr,
             Keyword::Call(Verb::SetImportance),
             Keyword::Call(Verb::Interrupt),
-        ],
-        b'l' => &[
+        ),
+        b'l' => of_three(
+            field,
             Keyword::Call(Verb::Lower),
             Keyword::Call(Verb::LeaveCrit),
             Keyword::Call(Verb::LeaveGuard),
-        ],
-        b'n' => &[Keyword::Apc(ApcKind::Normal), Keyword::Call(Verb::Note)],
-        b'q' => &[Keyword::Call(Verb::Queue)],
-        b'r' => &[
+        ),
+        b'n' => of_two(
+            field,
+            Keyword::Apc(ApcKind::Normal),
+            Keyword::Call(Verb::Note),
+        ),
+        b'q' => only(field, Keyword::Call(Verb::Queue)),
+        b'r' => of_three(
+            field,
             Keyword::Routine,
             Keyword::Call(Verb::Raise),
             Keyword::Call(Verb::Release),
-        ],
-        b's' => &[
+        ),
+        b's' => of_three(
+            field,
             Keyword::Apc(ApcKind::Special),
             Keyword::Spinlock,
             Keyword::Call(Verb::SetTimer),
-        ],
-        b't' => &[
-            Keyword::Threaded,
-            Keyword::Dpc { threaded: true },
-            Keyword::Timer,
-            Keyword::Thread,
-            Keyword::Call(Verb::SetTarget),
-            Keyword::Call(Verb::TestAlert),
-            Keyword::Call(Verb::ToUser),
-        ],
-        b'u' => &[
+        ),
+        b't' => beginning_with_t(field),
+        b'u' => of_four(
+            field,
             Keyword::Apc(ApcKind::User),
             Keyword::Call(Verb::Unqueue),
             Keyword::Call(Verb::RemoveApc),
             Keyword::Call(Verb::Unlock),
-        ],
-        b'v' => &[Keyword::Version],
-        b'w' => &[Keyword::Call(Verb::StartWait)],
-        b'y' => &[Keyword::Call(Verb::Yield)],
-        _ => &[],
+        ),
+        b'v' => only(field, Keyword::Version),
+        b'w' => only(field, Keyword::Call(Verb::StartWait)),
+        b'y' => only(field, Keyword::Call(Verb::Yield)),
+        _ => None,
     }
-}
-
-fn search(keywords: &[Keyword], field: &[u8]) -> Option<Keyword>
-    ensures { result ≡ find (λ w. bytes_eq field.now (text_of w)) keywords.now }
-{
-    keywords
-        .iter()
-        .copied()
-        .find(|keyword| is_word(field, keyword.text()))
 }
 
 /// The keyword that a field is, of whatever version. Only those with its first letter are compared
@@ -493,7 +568,7 @@ fn word_of(field: &[u8]) -> Option<Keyword>
     ensures { result ≡ word_of field.now }
 {
     match field {
-        [letter, ..] => search(beginning_with(*letter), field),
+        [letter, ..] => beginning_with(*letter, field),
         [] => None,
     }
 }
@@ -506,5 +581,35 @@ pub fn keyword_of(version: u8, field: &[u8]) -> Option<Keyword>
     match word_of(field) {
         Some(keyword) if keyword.since() <= version => Some(keyword),
         _ => None,
+    }
+}
+
+/// Whether a keyword of a line that declares has this first letter and this third one.
+#[inline(always)]
+fn has_declaring_letters(first: u8, third: u8) -> bool
+    ensures { result ≡ list_any (declares_with first third) KEYWORDS }
+{
+    match first {
+        b'd' => third == b'c',
+        b'n' => third == b'r',
+        b'r' => third == b'u',
+        b's' => third == b'e' || third == b'i',
+        b't' => third == b'p' || third == b'm' || third == b'r',
+        b'u' => third == b'e',
+        _ => false,
+    }
+}
+
+/// Whether a line may declare a name, as two letters of its keyword tell: most lines of a script
+/// are commands, which need not be cut into fields for that. Where it is false, the line declares
+/// none in any version.
+#[inline(always)]
+pub fn may_declare(line: &[u8]) -> bool
+    ensures { result ≡ false → (version : ℕ) →
+        IfSome (keyword_of version (first (fields line.now))) (λ w. declaring w ≡ None) }
+{
+    match line {
+        [first, _, third, ..] => has_declaring_letters(*first, *third),
+        _ => false,
     }
 }

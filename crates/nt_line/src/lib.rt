@@ -17,6 +17,6 @@ mod names;
 mod printing;
 
 pub use commands::command;
-pub use keywords::{Keyword, Place, Verb, keyword_of};
+pub use keywords::{Keyword, Place, Verb, keyword_of, may_declare};
 pub use names::{Kind, Named, Names};
 pub use printing::{put_apc, put_command, put_dpc, put_isr, put_thread, put_timer};

@@ -1,9 +1,11 @@
 //! The commands of the load, drawn.
-ghost use Rattle.std.specs.Prelude.{◌≡◌, ℕ, ◌+◌, ◌<◌};
+ghost use Rattle.std.specs.Prelude.{◌≡◌, ℕ, ◌+◌, ◌<◌, ◌++◌, ◌∷◌, [], get_or};
+ghost use Rattle.std.specs.Vec.{vec_capacity, vec_len};
 ghost use Rattle.nt_event.specs.Numbers.{apc, cpu, dpc, timer};
 ghost use Rattle.nt_load.specs.Draws.{after, draw};
 ghost use Rattle.nt_load.specs.Commands.{command_of, draw_count, field_count, importance};
 ghost use Rattle.nt_load.specs.Commands.{importances, row_at, rows};
+ghost use Rattle.nt_load.specs.declared.commands.Row.TheVariants as row;
 
 use crate::draws::Draws;
 use nt_event::{ApcNo, Command, CpuNo, DpcNo, Importance, Level, TimerNo};
@@ -28,25 +30,32 @@ pub enum Row {
     ToUser,
 }
 
-/// The rows that a value below sixteen chooses; `queue` stands twice.
-static ROWS: [Row; 16] = [
-    Row::Raise,
-    Row::Lower,
-    Row::Queue,
-    Row::Queue,
-    Row::Unqueue,
-    Row::SetImportance,
-    Row::SetTarget,
-    Row::SetTimer,
-    Row::Clock,
-    Row::InsertSpecial,
-    Row::InsertNormal,
-    Row::InsertUser,
-    Row::EnterCrit,
-    Row::LeaveCrit,
-    Row::Interrupt,
-    Row::ToUser,
-];
+/// The row that a value below sixteen chooses; two choose `queue`.
+#[inline(always)]
+#[tactic(auto, unfolding(crate::specs::Commands::rows))]
+fn row_of(value: u32) -> Row
+    requires { value < 16 }
+    ensures { result ≡ get_or rows value row.ToUser }
+{
+    match value {
+        0 => Row::Raise,
+        1 => Row::Lower,
+        2 | 3 => Row::Queue,
+        4 => Row::Unqueue,
+        5 => Row::SetImportance,
+        6 => Row::SetTarget,
+        7 => Row::SetTimer,
+        8 => Row::Clock,
+        9 => Row::InsertSpecial,
+        10 => Row::InsertNormal,
+        11 => Row::InsertUser,
+        12 => Row::EnterCrit,
+        13 => Row::LeaveCrit,
+        14 => Row::Interrupt,
+        15 => Row::ToUser,
+        _ => unreachable!(),
+    }
+}
 
 /// The importances that a value below four chooses.
 static IMPORTANCES: [Importance; 4] = [
@@ -109,44 +118,60 @@ fn draw_apc(draws: &mut Draws, first: u16) -> ApcNo
 }
 
 /// Draws a row.
-#[tactic(auto, unfolding(crate::specs::Commands::rows))]
 fn draw_row(draws: &mut Draws) -> Row
     ensures value { result ≡ row_at draws.old.number }
     ensures moved { draws.new.number ≡ after 1 draws.old.number }
 {
-    ROWS[draws.draw(16) as usize]
+    row_of(draws.draw(16))
 }
 
-/// Draws the fields of a row from left to right. The row was drawn from the number `start`.
+/// Draws the fields of a row from left to right, and adds the command. The row was drawn from the
+/// number `start`. Each row writes its command where it is kept.
+#[inline(always)]
 #[tactic(auto, unfolding(crate::specs::Draws::after))]
-fn draw_fields(row: Row, draws: &mut Draws) -> Command
-    ensures value { (start : ℕ) → draws.old.number ≡ after 1 start → result ≡ command_of row start }
+fn add_fields(row: Row, draws: &mut Draws, out: &mut Vec<Command>)
+    requires { vec_len out.old < vec_capacity out.old }
+    ensures items { (start : ℕ) → draws.old.number ≡ after 1 start →
+        out.new.items ≡ out.old.items ++ command_of row start ∷ [] }
+    ensures len { vec_len out.new ≡ vec_len out.old + 1 }
+    ensures capacity { vec_capacity out.new ≡ vec_capacity out.old }
     ensures moved { draws.new.number ≡ after (field_count row) draws.old.number }
 {
     match row {
-        Row::Raise => Command::Raise(Level::DISPATCH),
-        Row::Lower => Command::Lower(Level::PASSIVE),
-        Row::Queue => Command::Queue(draw_dpc(draws)),
-        Row::Unqueue => Command::Unqueue(draw_dpc(draws)),
-        Row::SetImportance => Command::SetImportance(draw_dpc(draws), draw_importance(draws)),
-        Row::SetTarget => Command::SetTarget(draw_dpc(draws), Some(draw_cpu(draws))),
-        Row::SetTimer => Command::SetTimer(draw_timer(draws), draws.draw(16), 0),
-        Row::Clock => Command::Clock(1),
-        Row::InsertSpecial => Command::InsertApc(draw_apc(draws, 0)),
-        Row::InsertNormal => Command::InsertApc(draw_apc(draws, 32)),
-        Row::InsertUser => Command::InsertApc(draw_apc(draws, 64)),
-        Row::EnterCrit => Command::EnterCrit,
-        Row::LeaveCrit => Command::LeaveCrit,
-        Row::Interrupt => Command::Interrupt(draw_cpu(draws), device_level()),
-        Row::ToUser => Command::ToUser,
+        Row::Raise => out.push_reserved(Command::Raise(Level::DISPATCH)),
+        Row::Lower => out.push_reserved(Command::Lower(Level::PASSIVE)),
+        Row::Queue => out.push_reserved(Command::Queue(draw_dpc(draws))),
+        Row::Unqueue => out.push_reserved(Command::Unqueue(draw_dpc(draws))),
+        Row::SetImportance => out.push_reserved(Command::SetImportance(
+            draw_dpc(draws),
+            draw_importance(draws),
+        )),
+        Row::SetTarget => out.push_reserved(Command::SetTarget(
+            draw_dpc(draws),
+            Some(draw_cpu(draws)),
+        )),
+        Row::SetTimer => out.push_reserved(Command::SetTimer(draw_timer(draws), draws.draw(16), 0)),
+        Row::Clock => out.push_reserved(Command::Clock(1)),
+        Row::InsertSpecial => out.push_reserved(Command::InsertApc(draw_apc(draws, 0))),
+        Row::InsertNormal => out.push_reserved(Command::InsertApc(draw_apc(draws, 32))),
+        Row::InsertUser => out.push_reserved(Command::InsertApc(draw_apc(draws, 64))),
+        Row::EnterCrit => out.push_reserved(Command::EnterCrit),
+        Row::LeaveCrit => out.push_reserved(Command::LeaveCrit),
+        Row::Interrupt => out.push_reserved(Command::Interrupt(draw_cpu(draws), device_level())),
+        Row::ToUser => out.push_reserved(Command::ToUser),
     }
 }
 
-/// Draws a command: its row, then its fields from left to right.
-pub fn draw_command(draws: &mut Draws) -> Command
-    ensures value { result ≡ command_of (row_at draws.old.number) draws.old.number }
+/// Draws a command and adds it: its row, then its fields from left to right.
+#[inline(always)]
+pub fn add_command(draws: &mut Draws, out: &mut Vec<Command>)
+    requires { vec_len out.old < vec_capacity out.old }
+    ensures items { out.new.items
+        ≡ out.old.items ++ command_of (row_at draws.old.number) draws.old.number ∷ [] }
+    ensures len { vec_len out.new ≡ vec_len out.old + 1 }
+    ensures capacity { vec_capacity out.new ≡ vec_capacity out.old }
     ensures moved { draws.new.number ≡ after (draw_count draws.old.number) draws.old.number }
 {
     let row = draw_row(draws);
-    draw_fields(row, draws)
+    add_fields(row, draws, out)
 }

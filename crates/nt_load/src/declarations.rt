@@ -1,5 +1,5 @@
 //! What the load declares, the same for each seed.
-ghost use Rattle.std.specs.Prelude.{◌≡◌, ◌++◌, IfOk, OnOk};
+ghost use Rattle.std.specs.Prelude.{◌≡◌, ◌++◌, [], IfOk, OnOk};
 ghost use Rattle.nt_event.specs.Lists.{table};
 ghost use Rattle.nt_load.specs.Load.{all_apcs, apc_decl, busy_thread, idle_dpc, idle_isr};
 ghost use Rattle.nt_load.specs.Load.{normal_of, timer_of_dpc};
@@ -13,12 +13,19 @@ use std::alloc::{AllocError, Global};
 /// The routine without commands.
 pub(crate) const IDLE: RoutineNo = RoutineNo(0);
 
+/// An empty list with room for so many items, so that none of them moves when others are added.
+pub(crate) fn with_room<T>(alloc: Global, count: usize) -> Result<Items<T>, AllocError>
+    ensures { IfOk result (λ items. items ≡ []) }
+{
+    Ok(Items::from_vec(Vec::with_capacity(alloc, count)?))
+}
+
 /// An interrupt routine on each processor.
 pub(crate) fn isrs(alloc: Global) -> Result<Items<Isr>, AllocError>
     ensures { IfOk result (λ isrs. isrs ≡ table 4 idle_isr) }
 {
     let level = device_level();
-    let mut isrs = Items::new(alloc);
+    let mut isrs = with_room(alloc, 4)?;
     for p in 0..4u8 {
         isrs.push(Isr {
             cpu: CpuNo(p),
@@ -33,7 +40,7 @@ pub(crate) fn isrs(alloc: Global) -> Result<Items<Isr>, AllocError>
 pub(crate) fn dpcs(alloc: Global) -> Result<Items<DpcDecl>, AllocError>
     ensures { IfOk result (λ dpcs. dpcs ≡ table 32 idle_dpc) }
 {
-    let mut dpcs = Items::new(alloc);
+    let mut dpcs = with_room(alloc, 32)?;
     for i in 0..32u16 {
         dpcs.push(DpcDecl {
             threaded: i >= 24,
@@ -47,7 +54,7 @@ pub(crate) fn dpcs(alloc: Global) -> Result<Items<DpcDecl>, AllocError>
 pub(crate) fn timers(alloc: Global) -> Result<Items<TimerDecl>, AllocError>
     ensures { IfOk result (λ timers. timers ≡ table 8 timer_of_dpc) }
 {
-    let mut timers = Items::new(alloc);
+    let mut timers = with_room(alloc, 8)?;
     for i in 0..8u16 {
         timers.push(TimerDecl {
             dpc: Some(DpcNo(i)),
@@ -60,7 +67,7 @@ pub(crate) fn timers(alloc: Global) -> Result<Items<TimerDecl>, AllocError>
 pub(crate) fn threads(alloc: Global) -> Result<Items<ThreadDecl>, AllocError>
     ensures { IfOk result (λ threads. threads ≡ table 32 busy_thread) }
 {
-    let mut threads = Items::new(alloc);
+    let mut threads = with_room(alloc, 32)?;
     for i in 0..32u16 {
         threads.push(ThreadDecl {
             cpu: CpuNo((i % 4) as u8),
@@ -102,7 +109,7 @@ fn add_apcs(apcs: &mut Items<ApcDecl>, kind: ApcKind) -> Result<(), AllocError>
 pub(crate) fn apcs(alloc: Global) -> Result<Items<ApcDecl>, AllocError>
     ensures { IfOk result (λ apcs. apcs ≡ all_apcs) }
 {
-    let mut apcs = Items::new(alloc);
+    let mut apcs = with_room(alloc, 96)?;
     add_apcs(&mut apcs, ApcKind::Special)?;
     add_apcs(&mut apcs, ApcKind::Normal)?;
     add_apcs(&mut apcs, ApcKind::User)?;

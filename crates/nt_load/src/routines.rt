@@ -4,7 +4,8 @@ ghost use Rattle.nt_event.specs.Lists.{table};
 ghost use Rattle.nt_load.specs.Commands.{begin, commands};
 ghost use Rattle.nt_load.specs.Load.{busy_routine, idle_routine};
 
-use crate::commands::draw_command;
+use crate::commands::add_command;
+use crate::declarations::with_room;
 use crate::draws::Draws;
 use nt_event::{Items, Routine};
 use std::alloc::{AllocError, Global};
@@ -19,7 +20,7 @@ fn draw_routine(alloc: Global, draws: &mut Draws) -> Result<Routine, AllocError>
 {
     let mut drawn = Vec::with_capacity(alloc, COMMANDS as usize)?;
     for i in 0..COMMANDS {
-        drawn.push_reserved(draw_command(draws));
+        add_command(draws, &mut drawn);
     }
     Ok(Routine {
         commands: Items::from_vec(drawn),
@@ -31,7 +32,7 @@ pub(crate) fn draw_routines(alloc: Global, seed: u32) -> Result<Items<Routine>, 
     ensures { IfOk result (λ routines. routines ≡ idle_routine ∷ table 32 (busy_routine seed)) }
 {
     let mut draws = Draws::new(seed);
-    let mut routines = Items::new(alloc);
+    let mut routines = with_room(alloc, 33)?;
     routines.push(Routine {
         commands: Items::new(alloc),
     })?;

@@ -105,6 +105,7 @@ impl Tally {
     }
 
     /// Notes that the event of this number named an insert.
+    #[inline(always)]
     fn note_named(&mut self, events: &Briefs, number: usize, insert: Insert)
         requires number { number ≤ length events.now.briefs.now }
         ensures { self.new ≡ record self.old {
@@ -121,6 +122,7 @@ impl Tally {
     }
 
     /// Notes what a call with reply yes inserts or removes.
+    #[inline(always)]
     fn note_done(&mut self, number: usize, command: &Command)
         ensures { (events : List Event) (f p : ℕ) →
             self.new ≡ with_use events number p (what.Call f command.now Yes) self.old }
@@ -212,6 +214,7 @@ impl Tally {
     }
 
     /// Tallies a begin.
+    #[inline(always)]
     fn note_begin(&mut self, events: &Briefs, number: usize, begun: &Begun, from: u64)
         requires room { HasRoom self.old }
         requires number { number ≤ length events.now.briefs.now }

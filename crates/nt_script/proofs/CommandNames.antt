@@ -1,6 +1,6 @@
 -- A command that fits has the names that its line shows.
 use Rattle.std.proofs.Common.{◌≡◌, ℕ, ◌<◌, true, length, arith}
-use Rattle.std.specs.Prelude.{◌&&◌, nat_lt}
+use Rattle.std.specs.Prelude.{nat_lt}
 use Rattle.std.proofs.lemmas.Bool.{and_parts, ltb-true}
 use Rattle.nt_event.specs.declared.commands.Command.{Command}
 use Rattle.nt_event.specs.declared.commands.Command.TheVariants as cmd

@@ -5,7 +5,7 @@ use Rattle.nt_event.specs.declared.scripts.Routine.{Routine}
 use Rattle.nt_event.specs.declared.commands.Command.{Command}
 use Rattle.nt_line.specs.declared.keywords.Keyword.TheVariants as keyword
 use Rattle.nt_line.specs.declared.keywords.Place.{Place}
-use Rattle.nt_line.specs.declared.keywords.Place.TheVariants.{Start, HasVersion, HasCpus, HasDepth, HasThreaded, InIsrs, InDpcs, InTimers, InThreads, InApcs}
+use Rattle.nt_line.specs.declared.keywords.Place.TheVariants.{Start, HasVersion, InIsrs, InDpcs, InTimers, InThreads, InApcs}
 use Rattle.nt_line.specs.declared.keywords.Place.TheVariants.{InLocks, InRoutines, InRoutine}
 use Rattle.nt_script.specs.declared.walk.Walk.{Walk}
 use Rattle.nt_line.specs.NameLists.{NameLists}

@@ -37,7 +37,7 @@ use Rattle.nt_script.specs.Reading.{with_timer, with_thread, with_apc, with_lock
 use Rattle.nt_script.specs.Reading.{walk, reading}
 use Rattle.nt_text.specs.Lines.{Row}
 use Rattle.nt_script.specs.Versions.{version_of}
-use Rattle.nt_script.specs.Text.{header_rows, input_rows, text, routine_rows}
+use Rattle.nt_script.specs.Text.{input_rows, text}
 use Rattle.nt_line.proofs.Results.{bind_ok, ok_if_ok}
 use Rattle.nt_line.proofs.UsedNames.{AreFew, new_name_takes}
 use Rattle.nt_script.proofs.SoFar.{so_far, has_head, routines, all_ended}

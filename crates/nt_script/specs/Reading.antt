@@ -212,9 +212,13 @@ abbrev pub step : NameLists → Walk → List (List ℕ) → Result Walk ScriptK
 step all w row = keyword_at w.place (keyword_of w.version (first row)) >>= λ keyword. counted (length (rest row))
     (arity keyword) >>= λ _. act all w keyword (rest row)
 
+-- the fields of a line, or what is wrong with it
+abbrev pub row_step : NameLists → Walk → Result (List (List ℕ)) ScriptKind → Result Walk ScriptKind
+row_step all w row = row >>= step all w
+
 -- a line with its end, or without
 abbrev pub line_step : NameLists → Walk → List ℕ × Bool → Result Walk ScriptKind
-line_step all w line = row_of line >>= step all w
+line_step all w line = row_step all w (row_of line)
 
 -- ---- all lines
 

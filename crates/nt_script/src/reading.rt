@@ -11,7 +11,7 @@ ghost use Rattle.nt_script.specs.declared.walk.Input.{Input};
 
 use crate::versions::version_of;
 use crate::walk::{Input, Stop, Walk};
-use nt_line::{Names, keyword_of};
+use nt_line::{Names, keyword_of, may_declare};
 use nt_text::{Fields, Lines, ScriptKind, name};
 use std::alloc::{AllocError, Global};
 use thiserror::Error;
@@ -32,6 +32,9 @@ pub enum ScriptRefusal {
 fn note_name(alloc: Global, version: u8, names: &mut Names, line: &[u8]) -> Result<(), AllocError>
     ensures { OnOk result (names.new ≡ names_after version names.old (fields line.now)) }
 {
+    if !may_declare(line) {
+        return Ok(());
+    }
     let mut row = Fields::new(line);
     if let Some(keyword) = keyword_of(version, row.take()) {
         if let Some(kind) = keyword.declares() {
@@ -72,8 +75,8 @@ impl Walk {
     {
         let mut lines = Lines::new(bytes);
         let mut at: u32 = 1;
-        while let Some(line) = lines.next() {
-            match self.line(alloc, all, &line) {
+        while let Some(line) = lines.next_row() {
+            match self.line(alloc, all, line) {
                 Ok(()) => {}
                 Err(Stop::NoMemory) => return Err(ScriptRefusal::NoMemory),
                 Err(Stop::Bad(kind)) => return Err(ScriptRefusal::Bad { line: at, kind }),

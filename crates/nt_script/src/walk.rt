@@ -5,7 +5,7 @@ use nt_event::{
     ApcDecl, ApcKind, Command, DpcDecl, Items, Routine, Script, ThreadDecl, TimerDecl, limits,
 };
 use nt_line::{Keyword, Kind, Names, Place, Verb, command, declarations, fields, keyword_of};
-use nt_text::{Fields, Line, ScriptKind, What10};
+use nt_text::{Fields, Row, ScriptKind, What10};
 use std::alloc::{AllocError, Global};
 use std::mem;
 
@@ -69,7 +69,8 @@ impl From<ScriptKind> for Stop {
 }
 
 impl Walk {
-    ghost use Rattle.std.specs.Prelude.{◌≡◌, [], None, length, nat_lt};
+    ghost use Rattle.std.specs.Prelude.{◌≡◌, ◌∷◌, [], None, length, nat_lt};
+    ghost use Rattle.std.specs.Result.{result_map_both};
     ghost use Rattle.nt_text.specs.declared.kind.ScriptKind.TheVariants.{TooMany};
     ghost use Rattle.nt_text.specs.declared.kind.What10.TheVariants as what;
     ghost use Rattle.nt_event.specs.declared.limits.TheConstants.{APCS, COMMANDS, DPCS, THREADS};
@@ -79,7 +80,7 @@ impl Walk {
     ghost use Rattle.nt_line.specs.NameLists.{no_names, meaning};
     ghost use Rattle.nt_script.specs.Reading.{first_place, start, with_apc, with_command, with_dpc};
     ghost use Rattle.nt_script.specs.Reading.{with_thread, with_timer, keyword_at, step, act};
-    ghost use Rattle.nt_script.specs.Reading.{line_step, finish, input_of};
+    ghost use Rattle.nt_script.specs.Reading.{row_step, finish, input_of};
     ghost use Rattle.nt_script.specs.Gives.{Gives, GivesAll};
 
     /// The place before all lines.
@@ -163,28 +164,45 @@ impl Walk {
         }
     }
 
-    /// Takes a line. `all` are the names that the lines of the whole text declare.
-    pub fn line(&mut self, alloc: Global, all: &Names, line: &Line) -> Result<(), Stop>
-        ensures { Gives result self.new
-            (line_step all.now self.old (line.now.bytes.now, line.now.ended)) }
+    /// Takes a line, or what is wrong with it. `all` are the names that the lines of the whole text
+    /// declare.
+    #[inline(always)]
+    pub fn line(
+        &mut self,
+        alloc: Global,
+        all: &Names,
+        line: Result<Row, ScriptKind>,
+    ) -> Result<(), Stop>
+        ensures { Gives result self.new (row_step all.now self.old
+            (result_map_both (λ r. r.first.now ∷ r.rest) (λ e. e) line.entry)) }
     {
-        let mut row = line.fields()?;
-        self.step(alloc, all, &mut row)
+        match line {
+            Ok(Row { first, mut rest }) => self.step(alloc, all, first, &mut rest),
+            Err(kind) => Err(Stop::Bad(kind)),
+        }
     }
 
     /// Takes the fields of a line: its keyword, then how many fields there are, then each field.
-    fn step(&mut self, alloc: Global, all: &Names, row: &mut Fields) -> Result<(), Stop>
-        ensures { Gives result self.new (step all.now self.old row.old) }
+    #[inline(always)]
+    fn step(
+        &mut self,
+        alloc: Global,
+        all: &Names,
+        first: &[u8],
+        args: &mut Fields,
+    ) -> Result<(), Stop>
+        ensures { Gives result self.new (step all.now self.old (first.now ∷ args.old)) }
     {
-        let keyword = self.keyword(row.take())?;
-        let there = row.count();
-        if there < keyword.arity() {
+        let keyword = self.keyword(first)?;
+        let there = args.count();
+        let wanted = keyword.arity();
+        if there < wanted {
             return Err(Stop::Bad(ScriptKind::MissingField));
         }
-        if there > keyword.arity() {
+        if there > wanted {
             return Err(Stop::Bad(ScriptKind::ExtraField));
         }
-        self.act(alloc, all, keyword, row)
+        self.act(alloc, all, keyword, args)
     }
 
     /// The keyword of a line at this place.

@@ -1,5 +1,5 @@
 //! What stands in a field: numbers and names.
-ghost use Rattle.std.specs.Prelude.{◌≡◌, ◌≤◌, option_map, IfSome};
+ghost use Rattle.std.specs.Prelude.{◌≡◌, ◌≤◌, ◌∷◌, [], option_map, IfSome};
 ghost use Rattle.std.specs.List.{list_all};
 ghost use Rattle.std.specs.Str.{bytes_eq};
 ghost use Rattle.nt_text.specs.Fields.{digits_after, at_most, number_up_to, is_name_byte, is_name};
@@ -20,6 +20,19 @@ fn digits(field: &[u8], most: u64) -> Option<u64>
     if value <= most { Some(value) } else { None }
 }
 
+/// The number that one digit stands for, where the byte is a digit and it is at most `most`.
+#[inline(always)]
+fn one_digit(byte: u8, most: u64) -> Option<u64>
+    ensures value { result ≡ at_most most (digits_after 0 (byte ∷ [])) }
+    ensures within { IfSome result (λ n. n ≤ most) }
+{
+    if !byte.is_ascii_digit() {
+        return None;
+    }
+    let value = u64::from(byte - b'0');
+    if value <= most { Some(value) } else { None }
+}
+
 /// The decimal number of a field: digits without leading zeros, at most `most`. None exactly where
 /// it is no such number.
 pub fn number(field: &[u8], most: u64) -> Option<u64>
@@ -28,12 +41,14 @@ pub fn number(field: &[u8], most: u64) -> Option<u64>
 {
     match field {
         [] => None,
+        [digit] => one_digit(*digit, most),
         [b'0', _, ..] => None,
         _ => digits(field, most),
     }
 }
 
 /// Whether a field is a word, byte by byte: words are short.
+#[inline(always)]
 #[tactic(auto, using(crate::proofs::SameBytes::other_length, crate::proofs::SameBytes::other_byte, crate::proofs::SameBytes::same_bytes))]
 pub fn is_word(field: &[u8], word: &[u8]) -> bool
     ensures { result ≡ bytes_eq field.now word.now }

@@ -21,5 +21,5 @@ mod printing;
 
 pub use field::{is_word, name, number};
 pub use kind::{ScriptKind, What10};
-pub use lines::{Fields, INPUT_LIMIT, Line, Lines};
+pub use lines::{Fields, INPUT_LIMIT, Line, Lines, Row};
 pub use printing::{put_digits, put_field, put_number, put_processor};

@@ -1,12 +1,12 @@
 //! A text as lines, and a line as fields.
 ghost use Rattle.std.specs.Prelude.{◌≡◌, ◌≢◌, ◌<◌, ◌≤◌, ◌+◌, ◌++◌, ◌/◌, ◌%◌, ℕ, List, true};
 ghost use Rattle.std.specs.Prelude.{decimal, length, drop, option_map, slice_get, Some, None, ◌∷◌};
-ghost use Rattle.std.specs.Prelude.{[], IfNone, IfSome};
+ghost use Rattle.std.specs.Prelude.{[], IfNone, IfSome, Ok, nat_le, not, ◌&&◌};
 ghost use Rattle.std.specs.List.{position, list_all};
 ghost use Rattle.std.specs.Option.{option_map_or};
 ghost use Rattle.std.specs.Result.{result_map_both};
 ghost use Rattle.nt_text.specs.Lines.{is_byte, parts, fields, is_printable, row_of, first, needed};
-ghost use Rattle.nt_text.specs.Lines.{rest};
+ghost use Rattle.nt_text.specs.Lines.{rest, lines, is_field};
 
 use crate::kind::ScriptKind;
 use memchr::memchr;
@@ -134,6 +134,113 @@ impl<'a> Line<'a> {
         }
         Ok(Fields::new(self.bytes))
     }
+
+    /// The fields of the line, the first of them apart.
+    fn row(&self) -> Result<Row<'a>, ScriptKind>
+        ensures { result_map_both (λ r. r.first.now ∷ r.rest) (λ e. e) result
+            ≡ row_of (self.now.bytes.now, self.now.ended) }
+    {
+        match self.fields() {
+            Ok(_) => Ok(Row::new(self.bytes)),
+            Err(kind) => Err(kind),
+        }
+    }
+}
+
+/// The fields of a line, which has one at least: the first, and those behind it.
+#[derive(Drop)]
+pub struct Row<'a> {
+    /// The first field.
+    pub first: &'a [u8],
+    /// The fields behind it.
+    pub rest: Fields<'a>,
+}
+
+impl<'a> Row<'a> {
+    /// A field, and those of the bytes behind it where there are any.
+    #[inline(always)]
+    fn with_rest(field: &'a [u8], behind: Option<&'a [u8]>) -> Row<'a>
+        ensures { result.first.now ∷ result.rest
+            ≡ field.now ∷ option_map_or (λ r. fields r.now) behind.entry [] }
+    {
+        Row {
+            first: field,
+            rest: Fields { rest: behind },
+        }
+    }
+
+    /// The fields of a line.
+    fn new(line: &'a [u8]) -> Row<'a>
+        ensures { result.first.now ∷ result.rest ≡ fields line.now }
+    {
+        let (first, rest) = cut(b' ', line, place_of(b' ', line));
+        Row::with_rest(first, rest)
+    }
+}
+
+/// Where the first byte stands that is none of a field: a space, or one that isn't printable.
+#[inline(always)]
+fn field_end(bytes: &[u8]) -> Option<usize>
+    ensures { result ≡ position (λ b. not (nat_le 33 b && nat_le b 126)) bytes.now }
+{
+    bytes.iter().position(|b| !(33 <= *b && *b <= 126))
+}
+
+/// Where the first byte stands that isn't printable, as the end of a line.
+#[inline(always)]
+fn printable_end(bytes: &[u8]) -> Option<usize>
+    ensures { result ≡ position (λ b. not (is_printable b)) bytes.now }
+{
+    bytes.iter().position(|b| !(32 <= *b && *b <= 126))
+}
+
+/// The field that these bytes begin with, and what comes behind it.
+#[inline(always)]
+fn first_field(bytes: &[u8]) -> Option<(&[u8], &[u8])>
+    ensures { IfSome result
+        (λ p. (is_field p.0.now ≡ true) × (bytes.now ≡ p.0.now ++ p.1.now)) }
+{
+    let end = field_end(bytes)?;
+    Some((&bytes[..end], &bytes[end..]))
+}
+
+/// What comes behind a byte, where the bytes begin with it.
+#[inline(always)]
+fn behind(byte: u8, bytes: &[u8]) -> Option<&[u8]>
+    ensures { IfSome result (λ rest. bytes.now ≡ byte ∷ rest.now) }
+{
+    match bytes {
+        [first, rest @ ..] if *first == byte => Some(rest),
+        _ => None,
+    }
+}
+
+/// The printable bytes before the end of a line, and what comes after that end.
+#[inline(always)]
+fn printable_rest(bytes: &[u8]) -> Option<(&[u8], &[u8])>
+    ensures { IfSome result
+        (λ p. (list_all is_printable p.0.now ≡ true) × (bytes.now ≡ p.0.now ++ 10 ∷ p.1.now)) }
+{
+    let end = printable_end(bytes)?;
+    let rest = behind(b'\n', &bytes[end..])?;
+    Some((&bytes[..end], rest))
+}
+
+/// The fields of the first line and what comes after its end, where it is one of printable bytes
+/// that is ended. It looks at each byte once.
+#[inline(always)]
+fn printable_row(bytes: &[u8]) -> Option<(Row, &[u8])>
+    ensures row { IfSome result (λ p. option_map row_of (slice_get (lines bytes.now) 0)
+        ≡ Some (Ok (p.0.first.now ∷ p.0.rest))) }
+    ensures rest { IfSome result (λ p. lines p.1.now ≡ drop 1 (lines bytes.now)) }
+{
+    let (first, more) = first_field(bytes)?;
+    if let Some(more) = behind(b' ', more) {
+        let (line, rest) = printable_rest(more)?;
+        return Some((Row::with_rest(first, Some(line)), rest));
+    }
+    let rest = behind(b'\n', more)?;
+    Some((Row::with_rest(first, None), rest))
 }
 
 /// The lines of a text that are left, in order. Contracts see the list of them, each with whether
@@ -166,6 +273,7 @@ impl<'a> Lines<'a> {
     }
 
     /// Takes the first line that is left. None exactly where none is.
+    #[inline(always)]
     pub fn next(&mut self) -> Option<Line<'a>>
         ensures line { option_map (λ l. (l.bytes.now, l.ended)) result ≡ slice_get self.old 0 }
         ensures rest { self.new ≡ drop 1 self.old }
@@ -187,6 +295,38 @@ impl<'a> Lines<'a> {
                     ended: false,
                 })
             }
+        }
+    }
+
+    /// Takes the first line that is left, as its fields. None exactly where none is.
+    ///
+    /// NotAscii exactly where a byte outside 32 to 126 stands in it; else NoEnd exactly where its
+    /// end is missing.
+    #[inline(always)]
+    pub fn next_row(&mut self) -> Option<Result<Row<'a>, ScriptKind>>
+        ensures row { option_map (result_map_both (λ r. r.first.now ∷ r.rest) (λ e. e)) result
+            ≡ option_map row_of (slice_get self.old 0) }
+        ensures rest { self.new ≡ drop 1 self.old }
+    {
+        match printable_row(self.rest) {
+            Some((row, rest)) => {
+                self.rest = rest;
+                Some(Ok(row))
+            }
+            None => self.next_other_row(),
+        }
+    }
+
+    /// Takes the first line, whatever its bytes are.
+    #[inline(never)]
+    fn next_other_row(&mut self) -> Option<Result<Row<'a>, ScriptKind>>
+        ensures row { option_map (result_map_both (λ r. r.first.now ∷ r.rest) (λ e. e)) result
+            ≡ option_map row_of (slice_get self.old 0) }
+        ensures rest { self.new ≡ drop 1 self.old }
+    {
+        match self.next() {
+            Some(line) => Some(line.row()),
+            None => None,
         }
     }
 

@@ -79,8 +79,20 @@ fn put_any(out: &mut Vec<u8>, n: u64) -> Result<(), AllocError>
     out.extend_from_slice(&four_digits(n % 10_000))
 }
 
-/// Adds a number in decimal digits.
+/// Adds a number in decimal digits. Most have one digit, for which no register has to be kept.
 pub fn put_digits(out: &mut Vec<u8>, n: u64) -> Result<(), AllocError>
+    ensures { OnOk result (out.new.items ≡ out.old.items ++ decimal n) }
+{
+    if n < 10 {
+        out.push(b'0' + n as u8)?;
+        return Ok(());
+    }
+    put_more_digits(out, n)
+}
+
+/// Adds a number of any length in decimal digits.
+#[inline(never)]
+fn put_more_digits(out: &mut Vec<u8>, n: u64) -> Result<(), AllocError>
     ensures { OnOk result (out.new.items ≡ out.old.items ++ decimal n) }
 {
     // Where there is room, as there most often is, no memory is asked for, so that no register has

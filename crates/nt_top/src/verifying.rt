@@ -13,6 +13,7 @@ use nt_verify::{Finding, Site, ordered, verify};
 use std::alloc::{AllocError, Global};
 
 /// Adds a word and a name.
+#[inline(always)]
 fn put_named(out: &mut Vec<u8>, word: &[u8], name: &str) -> Result<(), AllocError>
     ensures { OnOk result (out.new.items ≡ out.old.items ++ (word.now ++ name.now)) }
 {

@@ -11,14 +11,13 @@ loop-i-init c = record {
   room = c.in_ok-drawn.ensures.capacity;
 }
 
-pub push_reserved-requires : goal.push_reserved-requires
-push_reserved-requires c = omega (arith, c.loop-i.invariant.len, c.loop-i.invariant.room, c.loop-i-test.true)
+pub add_command-requires : goal.add_command-requires
+add_command-requires c = omega (arith, c.loop-i.invariant.len, c.loop-i.invariant.room, c.loop-i-test.true)
 
 pub loop-i-preserved : goal.loop-i-preserved
 loop-i-preserved c = record {
-  drawn = table_grown _ _ _ _ _ c.push_reserved.ensures.items c.loop-i.invariant.drawn
-      (rw (c.draw_command.ensures.value, c.loop-i.invariant.moved) refl);
-  moved = begin_next _ _ _ _ c.loop-i.invariant.moved c.draw_command.ensures.moved;
-  len = omega (arith, c.push_reserved.ensures.len, c.loop-i.invariant.len);
-  room = omega (arith, c.push_reserved.ensures.capacity, c.loop-i.invariant.room);
+  drawn = table_grown _ _ _ _ _ c.add_command.ensures.items c.loop-i.invariant.drawn (rw c.loop-i.invariant.moved refl);
+  moved = begin_next _ _ _ _ c.loop-i.invariant.moved c.add_command.ensures.moved;
+  len = omega (arith, c.add_command.ensures.len, c.loop-i.invariant.len);
+  room = omega (arith, c.add_command.ensures.capacity, c.loop-i.invariant.room);
 }

@@ -7,7 +7,7 @@ use Rattle.nt_load.specs.Load.{idle_routine}
 
 pub loop-r-init : goal.loop-r-init
 loop-r-init c = (
-  one_and_none _ _ _ _ _ c.in_ok-push.ensures.ok c.new-routines.ensures
+  one_and_none _ _ _ _ _ c.in_ok-push.ensures.ok c.in_ok-routines.ensures
       (ap (λ (cs : List Command). record { commands = cs }) c.new.ensures),
   c.new-draws.ensures ∙ begin_none _,
 )

@@ -1,4 +1,4 @@
-use Rattle.std.proofs.Common.{◌++◌, ◌+◌, ◌/◌, ◌%◌, ◌∙◌, ◌∷◌, ◌<◌, ◌≡◌, List, [], ap, arith, inl, inr, sym, ℕ}
+use Rattle.std.proofs.Common.{◌++◌, ◌/◌, ◌%◌, ◌∙◌, ◌∷◌, ◌<◌, ◌≡◌, List, ap, arith, inl, inr, sym, ℕ}
 use Rattle.std.specs.Fmt.{decimal}
 use Rattle.std.proofs.lemmas.Fmt.{decimal_digit}
 use Rattle.itoa.proofs.Decimal.{decimal_two}

@@ -1,0 +1,6 @@
+use Rattle.std.proofs.Common.{rules}
+use Rattle.std.proofs.lemmas.Fmt.{decimal_digit}
+use Rattle.nt_text.proofs.printing.put_digits.Goals as goal
+
+pub returns-then-n-lt10 : goal.returns-then-n-lt10
+returns-then-n-lt10 c = search (rules, decimal_digit c.args.n c.if-n-lt10.true)
