@@ -18,10 +18,10 @@ use nt_words::words_have_one_form;
 /// the robin run of the seed's load. `migrate` wrote with status 0 the text of the script that was
 /// read, in version 2. `verify` wrote with status 0 what is found in the script that was read: the
 /// places of which a refusal is expected, and whether its locks are acquired in rising order. In
-/// every run of every script each call is refused exactly as expected. `shrink` wrote with status 0 the
-/// schedule that is left of the one that was read: its turns are those of a run that delivers the
-/// goal, and no single turn can be left out. `audit` wrote with status 0 the audit of the robin run
-/// of the script that was read: each note with how many inserts were pending just before it.
+/// every run of every script each call is refused exactly as expected. `shrink` wrote with status 0
+/// the schedule that is left of the one that was read: its turns are those of a run that delivers
+/// the goal, and no single turn can be left out. `audit` wrote with status 0 the audit of the robin
+/// run of the script that was read: each note with how many inserts were pending just before it.
 pub fn the_report_is_that_of_the_actual_history()
     ensures { Headline }
 {
