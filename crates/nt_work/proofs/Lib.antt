@@ -2,3 +2,4 @@ pub mod Pending
 pub mod Reports
 pub mod Ruled
 pub mod Walks
+pub mod Workers
