@@ -23,17 +23,18 @@ use std::thread::Threads;
 /// Workers at most.
 pub const WORKERS: u8 = 16;
 
-/// So many workers, each with a part of the pass.
+/// So many workers, each with a part of the pass. Each has room for its share of the items.
 fn team(
     alloc: Global,
     queue: &WorkQueue,
+    items: &[Item],
     counts: &[u32],
     pass: &mut WorkPass,
     workers: u8,
 ) -> Result<Vec<Worker>, AllocError>
     requires pass { (IsOf queue.now pass.old) × (pass_view pass.old ≡ whole) }
     requires workers { workers ≤ WORKERS }
-    ensures pass { IsOf queue.now pass.new }
+    ensures pass { OnOk result (IsOf queue.now pass.new) }
     ensures parts { OnOk result ((pass_view pass.new).parts + workers ≡ all_parts) }
     ensures none { OnOk result (((pass_view pass.new).hand.taken ≡ []) ×
         ((pass_view pass.new).met ≡ [])) }
@@ -42,8 +43,9 @@ fn team(
 {
     let mut team = Vec::with_capacity(alloc, usize::from(workers))?;
     for _ in 0..workers {
+        let share = items.len() / usize::from(workers);
         let part = queue.split(pass);
-        team.push_reserved(Worker::new(alloc, part));
+        team.push_reserved(Worker::new(alloc, part, share)?);
     }
     Ok(team)
 }
@@ -113,7 +115,7 @@ fn found<R: Wait>(
 {
     let mut told = vec![in alloc; 0u32; desk.counts.len()]?;
     let pass = met(desk, team, pass, told.as_mut_slice())?;
-    let mut last = Worker::new(alloc, pass);
+    let mut last = Worker::new(alloc, pass, 0)?;
     last.take_all(rt, desk, desk.workers)?;
     last.tell(told.as_mut_slice())?;
     Ok(told)
@@ -153,7 +155,7 @@ fn audited<G: Gate + Sync, R: Threads + Wait + Sync>(
     ensures { IfOk result (λ v. v.items ≡ map (reported counts.now) items.now) }
 {
     let (queue, mut pass) = WorkQueue::new(alloc, room)?;
-    let mut team = team(alloc, &queue, counts, &mut pass, workers)?;
+    let mut team = team(alloc, &queue, items, counts, &mut pass, workers)?;
     let desk = Desk {
         queue: &queue,
         items,

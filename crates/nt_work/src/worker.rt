@@ -42,16 +42,17 @@ pub(crate) fn reported(counts: &[u32], item: Item) -> Audited
 }
 
 impl Worker {
-    /// A worker with this pass, which has done nothing.
-    pub(crate) fn new(alloc: Global, pass: WorkPass) -> Worker
-        ensures pass { result.pass ≡ pass }
-        ensures done { result.done.items ≡ [] }
+    /// A worker with this pass, which has done nothing, with room for so many items that it does.
+    pub(crate) fn new(alloc: Global, pass: WorkPass, room: usize) -> Result<Worker, AllocError>
+        ensures pass { IfOk result (λ w. w.pass ≡ pass) }
+        ensures done { IfOk result (λ w. w.done.items ≡ []) }
     {
-        Worker {
+        let done = Vec::with_capacity(alloc, room)?;
+        Ok(Worker {
             pass,
-            done: Vec::new(alloc),
+            done,
             answer: Ok(()),
-        }
+        })
     }
 
     /// Takes an item and does it, behind the gate. False says that there is none.

@@ -27,5 +27,5 @@ returns g c =
     ap (λ (t : List ℕ). map (reported t) items)
     (written_back fresh.len by_all (take fresh.len (by_workers ++ drop (length by_workers) fresh.items)) (same ∙ sym last)
     (long ∙ start ∙ sym h.many ∙ sym last))
-    ∙ all_found c.args.desk.now.queue.now counts items c.args.desk.now.workers by_workers by_all c.in_ok-pass.pass c.new-last.result c.take_all.new.self
-    c.requires.workers h c.new-last.ensures.pass c.in_ok-take_all.ensures.works c.in_ok-take_all.ensures.none is
+    ∙ all_found c.args.desk.now.queue.now counts items c.args.desk.now.workers by_workers by_all c.in_ok-pass.pass c.in_ok-last.last c.take_all.new.self
+    c.requires.workers h c.in_ok-last.ensures.pass c.in_ok-take_all.ensures.works c.in_ok-take_all.ensures.none is
