@@ -1,5 +1,6 @@
 -- What workers put, take and tell.
-use Rattle.std.proofs.Common.{◌≡◌, ◌∙◌, ℕ, zero, suc, ◌+◌, ◌<◌, ◌≤◌, Bool, true, false, List, [], ◌∷◌, ◌++◌, length, map, get_or, set, take, drop, refl, sym, ap, subst}
+use Rattle.std.proofs.Common.{◌≡◌, ◌∙◌, ℕ, zero, suc, ◌+◌, ◌<◌, ◌≤◌, Bool, true, false, List, [], ◌∷◌, ◌++◌, length, map, get_or, set, take, drop, refl, sym}
+use Rattle.std.proofs.Common.{ap, subst}
 use Rattle.std.proofs.Common.{inl, inr, ⊎_elim, arith, append-nil, append_assoc, eq-eqb}
 use Rattle.std.specs.Prelude.{filter, ◌==◌, ◌%◌, if◌then◌else◌}
 use Rattle.std.proofs.lemmas.List.{get_or-set_other, get_or-set_same, get_or_past, length-set, map-append, take_all, take_more, drop_all}
@@ -40,7 +41,8 @@ works_through q c a b x y z f g = record {
 }
 
 -- it took nothing
-pub took_none : (q : WorkQueue) (c : List ℕ) (x y : Worker) → IsWorkerOf q c x → IsOf q y.pass → pass_view y.pass ≡ pass_view x.pass → y.done.items ≡ x.done.items →
+pub took_none : (q : WorkQueue) (c : List ℕ) (x y : Worker) → IsWorkerOf q c x → IsOf q y.pass → pass_view y.pass ≡ pass_view x.pass →
+    y.done.items ≡ x.done.items →
     Works q c [] x y
 took_none q c x y h of' same done = record {
   worker = record { of = of'; did = done ∙ h.did ∙ ap (λ (v : View). map (reported c) v.hand.taken) (sym same) };
@@ -97,7 +99,9 @@ own_more workers k xs i d lt =
 told_here : (c told : List ℕ) (e w : ℕ) → length told ≡ length c → w ≡ get_or c e 0 → get_or (set told e w) e 0 ≡ get_or c e 0
 told_here c told e w many is =
     ⊎_elim (λ lt. get_or-set_same told e w 0 lt ∙ is)
-    (λ (no : length told ≤ e). let long = length-set told e w in get_or_past (set told e w) e 0 (omega (arith, long, no)) ∙ sym (get_or_past c e 0 (omega (arith, many, no)))) (cases_lt e (length told))
+    (λ (no : length told ≤ e).
+    let long = length-set told e w in get_or_past (set told e w) e 0 (omega (arith, long, no)) ∙ sym (get_or_past c e 0 (omega (arith, many, no))))
+    (cases_lt e (length told))
 
 told_still : (c told : List ℕ) (e w j : ℕ) → length told ≡ length c → w ≡ get_or c e 0 → get_or told j 0 ≡ get_or c j 0 →
     get_or (set told e w) j 0 ≡ get_or c j 0
@@ -293,15 +297,17 @@ told_not first told told' done k d lt before far is =
 
 -- the last of the workers goes
 pub met_one : (q : WorkQueue) (c : List ℕ) (items : List Item) (workers : ℕ) (team rest : List Worker) (told told' : List ℕ) (p p' : WorkPass) (w : Worker) →
-    HasMet q c items workers (length team) told p → HaveWorked q c items workers team → team ≡ rest ++ w ∷ [] → IsOk w.answer → told' ≡ told_by told w.done.items →
-    IsOf q p' → pass_view p' ≡ met_by (pass_view p) (pass_view w.pass) → HasMet q c items workers (length rest) told' p'
+    HasMet q c items workers (length team) told p → HaveWorked q c items workers team → team ≡ rest ++ w ∷ [] → IsOk w.answer →
+    told' ≡ told_by told w.done.items → IsOf q p' → pass_view p' ≡ met_by (pass_view p) (pass_view w.pass) →
+    HasMet q c items workers (length rest) told' p'
 met_one q c items workers team rest told told' p p' w h each is ok now of' met =
     let long : length team ≡ length rest + 1 = ap (λ (ws : List Worker). length ws) is ∙ length_push rest w in
     let last : get_or team (length rest) w ≡ w = ap (λ (ws : List Worker). get_or ws (length rest) w) is ∙ get_or-append_seam rest w [] w in
     let worked : HasWorked q c (own_items workers (length rest) items) w =
     subst (λ (v : Worker). HasWorked q c (own_items workers (length rest) items) v) last (each (length rest) w (omega (arith, long))) in
     met_more q c items workers (length rest) told told' p p' w
-    (subst (λ (m : ℕ). HasMet q c items workers m told p) (long ∙ omega arith) h) (on_ok w.answer (HasPut q c (own_items workers (length rest) items) w) worked ok)
+    (subst (λ (m : ℕ). HasMet q c items workers m told p) (long ∙ omega arith) h)
+    (on_ok w.answer (HasPut q c (own_items workers (length rest) items) w) worked ok)
     now of' met
   where
     on_ok : (r : Result (Unit {0}) AllocError) (P : Type 0) → OnOk r P → IsOk r → P

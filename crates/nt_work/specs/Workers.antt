@@ -1,5 +1,6 @@
 -- What a worker puts, takes and tells, and what is gathered of all workers.
-use Rattle.std.specs.Prelude.{List, OnOk, [], filter, get_or, length, map, set, ℕ, ◌%◌, ◌+◌, ◌++◌, ◌<◌, ◌==◌, ◌∷◌, ◌≡◌, ◌≤◌, ◌⊎◌}
+use Rattle.std.specs.Prelude.{List, OnOk, [], filter, get_or, length, map, set, ℕ, ◌%◌, ◌+◌, ◌++◌, ◌<◌, ◌==◌, ◌∷◌, ◌≡◌}
+use Rattle.std.specs.Prelude.{◌≤◌, ◌⊎◌}
 use Rattle.nt_work.specs.declared.item.Audited.{Audited}
 use Rattle.nt_work.specs.declared.item.Item.{Item}
 use Rattle.nt_work.specs.declared.passes.WorkPass.{WorkPass}
@@ -65,7 +66,8 @@ SomePut puts [] = ⊥
 SomePut puts (h ∷ hs) = (h.put ≡ puts) ⊎ SomePut puts hs
 
 -- a pass has met all of so many workers but the first ones, so many of them, and what these took is told
-pub record HasMet (queue : WorkQueue) (counts : List ℕ) (items : List Item) (workers : ℕ) (first : ℕ) (told : List ℕ) (p : WorkPass) : Type 0 where
+pub record HasMet (queue : WorkQueue) (counts : List ℕ) (items : List Item) (workers : ℕ) (first : ℕ)
+    (told : List ℕ) (p : WorkPass) : Type 0 where
   pub of : IsOf queue p
   pub parts : (pass_view p).parts + first ≡ all_parts
   pub none : (pass_view p).hand.taken ≡ []

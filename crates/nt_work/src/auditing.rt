@@ -23,11 +23,11 @@ use std::thread::Threads;
 /// Workers at most.
 pub const WORKERS: u8 = 16;
 
-/// So many workers, each with a part of the pass. Each has room for its share of the items.
+/// So many workers, each with a part of the pass. Each has room for an equal share of as many items
+/// as there are events, so that it seldom takes memory while it works.
 fn team(
     alloc: Global,
     queue: &WorkQueue,
-    items: &[Item],
     counts: &[u32],
     pass: &mut WorkPass,
     workers: u8,
@@ -43,9 +43,9 @@ fn team(
 {
     let mut team = Vec::with_capacity(alloc, usize::from(workers))?;
     for _ in 0..workers {
-        let share = items.len() / usize::from(workers);
+        let room = counts.len() / usize::from(workers);
         let part = queue.split(pass);
-        team.push_reserved(Worker::new(alloc, part, share)?);
+        team.push_reserved(Worker::new(alloc, part, room)?);
     }
     Ok(team)
 }
@@ -155,7 +155,7 @@ fn audited<G: Gate + Sync, R: Threads + Wait + Sync>(
     ensures { IfOk result (λ v. v.items ≡ map (reported counts.now) items.now) }
 {
     let (queue, mut pass) = WorkQueue::new(alloc, room)?;
-    let mut team = team(alloc, &queue, items, counts, &mut pass, workers)?;
+    let mut team = team(alloc, &queue, counts, &mut pass, workers)?;
     let desk = Desk {
         queue: &queue,
         items,

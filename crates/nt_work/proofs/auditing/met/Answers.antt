@@ -16,5 +16,6 @@ loop-worker-preserved g c =
           met_one q counts items c.args.desk.now.workers c.loop-worker.team.items c.pop.new.self.items c.loop-worker.told c.tell.new.told c.loop-worker.pass
           c.meet.new.pass c.in-Some.worker before.met before.each c.in-Some.ensures.items c.in_ok-tell.ensures.worked c.in_ok-tell.ensures.told
           c.meet.ensures.queue (c.meet.ensures.met ∙ ap (λ (p : WorkPass). met_by (pass_view c.loop-worker.pass) (pass_view p)) c.into_pass.ensures);
-      each = rest_worked q counts items c.args.desk.now.workers c.loop-worker.team.items c.pop.new.self.items c.in-Some.worker before.each c.in-Some.ensures.items;
+      each =
+          rest_worked q counts items c.args.desk.now.workers c.loop-worker.team.items c.pop.new.self.items c.in-Some.worker before.each c.in-Some.ensures.items;
     }
